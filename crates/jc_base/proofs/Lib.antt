@@ -1,0 +1,2 @@
+pub mod DecoderLaws
+pub mod ModifiedLaws

@@ -1,0 +1,17 @@
+//! What every crate of the tool stands on: lists, errors, a reader of bytes, the values that the
+//! crates hand to each other, and the files and texts outside.
+#![tactic(auto)]
+
+mod fail;
+mod list;
+mod modified;
+mod reader;
+mod refusal;
+mod unread;
+
+pub use fail::{Fail, Memory};
+pub use list::{Bytes, List};
+pub use modified::is_modified;
+pub use reader::{Reader, Short};
+pub use refusal::{Refusal, RefusalKind};
+pub use unread::Unread;
