@@ -1,2 +1,3 @@
 pub mod DecoderLaws
+pub mod GrammarLaws
 pub mod ModifiedLaws

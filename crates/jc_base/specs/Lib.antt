@@ -1,3 +1,5 @@
 pub mod Reader
 pub mod Decoder
+pub mod Grammar
+pub mod Parsing
 pub mod Modified

@@ -3,6 +3,7 @@
 #![tactic(auto)]
 
 mod fail;
+mod item;
 mod list;
 mod modified;
 mod reader;
@@ -10,6 +11,7 @@ mod refusal;
 mod unread;
 
 pub use fail::{Fail, Memory};
+pub use item::{byte_item, not_a_class, piece_item, u16_item, u32_item};
 pub use list::{Bytes, List};
 pub use modified::is_modified;
 pub use reader::{Reader, Short};
