@@ -3,17 +3,33 @@
 #![tactic(auto)]
 
 mod fail;
+mod files;
+mod host_files;
+mod host_sink;
 mod item;
 mod list;
+mod memory_files;
+mod memory_sink;
 mod modified;
+mod planned;
 mod reader;
 mod refusal;
+mod sink;
 mod unread;
 
 pub use fail::{Fail, Memory};
+pub use files::{FileFault, Files, MOST_READ};
+pub use host_files::HostFiles;
+pub use host_sink::HostSink;
 pub use item::{byte_item, not_a_class, piece_item, u16_item, u32_item};
 pub use list::{Bytes, List};
+pub use memory_files::MemoryFiles;
+pub use memory_sink::MemorySink;
 pub use modified::is_modified;
 pub use reader::{Reader, Short};
 pub use refusal::{Refusal, RefusalKind};
+pub use sink::{Sink, SinkFault};
 pub use unread::Unread;
+
+#[cfg(test)]
+mod tests;

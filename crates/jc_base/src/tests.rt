@@ -1,0 +1,179 @@
+use super::*;
+use std::alloc::Global;
+use std::test::Fail;
+use std::{fs, io};
+
+#[test]
+fn lists_are_slices(rt: HostRuntime) -> Result<(), Fail> {
+    let alloc = rt.alloc();
+    let mut list = Bytes::new(alloc);
+    list.push(7)?;
+    assert!(rt; list == Bytes::copy_of(alloc, &[7])?);
+    assert_eq!(rt; list.iter().copied().max(), Some(7));
+    assert_eq!(rt; list.into_vec().as_slice(), [7].as_slice());
+    Ok(())
+}
+
+#[test]
+fn modified_utf8(rt: HostRuntime) {
+    for text in [
+        &b"abc"[..],
+        &[0xc0, 0x80],
+        &[0xc3, 0xa4],
+        &[0xed, 0xa0, 0x80],
+    ] {
+        assert!(rt; is_modified(text), "{text:?}");
+    }
+    for text in [
+        &[0u8][..],
+        &[0xff],
+        &[0xc0, 0x81],
+        &[0xc3],
+        &[0xe0, 0x80, 0x80],
+        &[0xf0, 0x90, 0x80, 0x80],
+    ] {
+        assert!(rt; !is_modified(text), "{text:?}");
+    }
+}
+
+#[test]
+fn numbers_are_big_endian(rt: HostRuntime) {
+    let bytes = [0x01, 0x02, 0x03, 0x04, 0x05, 0x06, 0x07, 0x08];
+    assert_eq!(rt; Reader::new(&bytes).u8(), Ok(0x01));
+    assert_eq!(rt; Reader::new(&bytes).u16(), Ok(0x0102));
+    assert_eq!(rt; Reader::new(&bytes).u32(), Ok(0x0102_0304));
+    assert_eq!(rt; Reader::new(&bytes).u64(), Ok(0x0102_0304_0506_0708));
+    let mut reader = Reader::new(&bytes);
+    assert_eq!(rt; reader.take(7), Ok(&bytes[..7]));
+    assert_eq!(rt; reader.u16(), Err(Short));
+    assert_eq!(rt; reader.place(), 7);
+}
+
+#[test]
+fn planned_calls_fail(rt: HostRuntime) -> Result<(), Fail> {
+    let alloc = rt.alloc();
+    let mut files = MemoryFiles::new(alloc, &[2, 3])?;
+    files.with("a", b"abcd")?;
+    let mut into = Vec::new(alloc);
+    assert_eq!(rt; files.read(alloc, "a", &mut into), Ok(()));
+    assert_eq!(rt; into.as_slice(), b"abcd".as_slice());
+    assert_eq!(rt; files.read(alloc, "a", &mut into), Err(FileFault::Failed));
+    assert_eq!(rt; files.write("a", b"wxyz"), Err(FileFault::Failed));
+    assert_eq!(rt; files.get("a").ok_or("no file")?, b"wx".as_slice());
+    assert_eq!(rt; files.write("b", b"z"), Ok(()));
+    assert_eq!(rt; files.get("b").ok_or("no file")?, b"z".as_slice());
+    assert_eq!(rt; files.read(alloc, "c", &mut into), Err(FileFault::Missing));
+
+    let mut sink = MemorySink::new(alloc, &[1])?;
+    assert_eq!(rt; sink.put(b"abcd"), Err(SinkFault::Failed));
+    assert_eq!(rt; sink.put(b"e"), Ok(()));
+    assert_eq!(rt; sink.bytes(), b"abe".as_slice());
+    Ok(())
+}
+
+// Files whose writes leave nothing of what was written: what lands is a meaning of each type's own.
+#[derive(Drop)]
+struct Forgetful {
+    inner: MemoryFiles,
+}
+
+impl Files for Forgetful {
+    ghost use Rattle.std.specs.Prelude.{[], Some};
+
+    ghost contents = { λ f. Some f.inner.files };
+
+    ghost landed = { λ path bytes. [] };
+
+    ghost read_faults = { λ f. f.inner.read_faults };
+
+    ghost write_faults = { λ f. f.inner.write_faults };
+
+    fn read(&mut self, alloc: Global, path: &str, into: &mut Vec<u8>) -> Result<(), FileFault> {
+        self.inner.read(alloc, path, into)
+    }
+
+    fn write(&mut self, path: &str, _bytes: &[u8]) -> Result<(), FileFault> {
+        self.inner.write(path, &[])
+    }
+}
+
+#[test]
+fn what_lands_is_what_the_type_says(rt: HostRuntime) -> Result<(), Fail> {
+    let alloc = rt.alloc();
+    let mut files = Forgetful {
+        inner: MemoryFiles::new(alloc, &[])?,
+    };
+    assert_eq!(rt; files.write("a", &[1]), Ok(()));
+    assert_eq!(rt; files.inner.get("a"), Some([].as_slice()));
+    Ok(())
+}
+
+// A file of zeros.
+fn make_zeros(rt: &HostRuntime, path: &str, len: u64) -> io::Result<()> {
+    let file = fs::create(rt, path)?;
+    file.set_len(len)
+}
+
+#[test]
+fn real_files(rt: HostRuntime) -> Result<(), Fail> {
+    let alloc = rt.alloc();
+    let mut files = HostFiles::new(&rt);
+    let mut into = Vec::new(alloc);
+    let _ = fs::remove_dir_all(&rt, "jc_base_files");
+    assert_eq!(rt;
+        files.read(alloc, "jc_base_files/a", &mut into),
+        Err(FileFault::Failed)
+    );
+    // The folders on the path are made.
+    assert_eq!(rt; files.write("jc_base_files/b/a", b"abc"), Ok(()));
+    assert_eq!(rt; files.write("jc_base_files/b/a", b"de"), Ok(()));
+    assert_eq!(rt; files.read(alloc, "jc_base_files/b/a", &mut into), Ok(()));
+    assert_eq!(rt; into.as_slice(), b"de".as_slice());
+    // A folder stands at the path.
+    assert_eq!(rt;
+        files.write("jc_base_files/b", b"abc"),
+        Err(FileFault::Failed)
+    );
+    assert_eq!(rt;
+        files.read(alloc, "jc_base_files/b", &mut into),
+        Err(FileFault::Failed)
+    );
+    assert_eq!(rt; into.as_slice(), b"de".as_slice());
+    // One byte more than is read.
+    make_zeros(&rt, "jc_base_files/large", 67_108_865)?;
+    assert_eq!(rt;
+        files.read(alloc, "jc_base_files/large", &mut into),
+        Err(FileFault::TooLarge)
+    );
+    make_zeros(&rt, "jc_base_files/largest", 67_108_864)?;
+    into.clear();
+    assert_eq!(rt;
+        files.read(alloc, "jc_base_files/largest", &mut into),
+        Ok(())
+    );
+    assert_eq!(rt; into.len(), 67_108_864);
+    fs::remove_dir_all(&rt, "jc_base_files")?;
+    Ok(())
+}
+
+#[test]
+fn real_texts(rt: HostRuntime) -> Result<(), Fail> {
+    let alloc = rt.alloc();
+    let _ = fs::remove_dir_all(&rt, "jc_base_texts");
+    fs::create_dir_all(&rt, "jc_base_texts")?;
+    let mut sink = HostSink::new(fs::create(&rt, "jc_base_texts/a")?);
+    assert_eq!(rt; sink.put(b"ab"), Ok(()));
+    assert_eq!(rt; sink.put(b""), Ok(()));
+    assert_eq!(rt; sink.put(b"cd"), Ok(()));
+    let mut into = Vec::new(alloc);
+    assert_eq!(rt;
+        HostFiles::new(&rt).read(alloc, "jc_base_texts/a", &mut into),
+        Ok(())
+    );
+    assert_eq!(rt; into.as_slice(), b"abcd".as_slice());
+    // A file that was opened for reading takes nothing.
+    let mut closed = HostSink::new(fs::open(&rt, "jc_base_texts/a")?);
+    assert_eq!(rt; closed.put(b"e"), Err(SinkFault::Failed));
+    fs::remove_dir_all(&rt, "jc_base_texts")?;
+    Ok(())
+}
