@@ -3,3 +3,6 @@ pub mod Decoder
 pub mod Grammar
 pub mod Parsing
 pub mod Modified
+pub mod InsnForm
+pub mod Insn
+pub mod Flow

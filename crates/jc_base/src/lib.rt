@@ -3,6 +3,8 @@
 #![tactic(auto)]
 
 mod fail;
+mod form;
+mod insn;
 mod item;
 mod list;
 mod modified;
@@ -11,6 +13,8 @@ mod refusal;
 mod unread;
 
 pub use fail::{Fail, Memory};
+pub use form::{Form, form_of};
+pub use insn::{Arm, Flow, Insn, inverse, is_test};
 pub use item::{byte_item, not_a_class, piece_item, u16_item, u32_item};
 pub use list::{Bytes, List};
 pub use modified::is_modified;
