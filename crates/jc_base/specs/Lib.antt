@@ -6,3 +6,6 @@ pub mod Modified
 pub mod Outside
 pub mod Planned
 pub mod InMemory
+pub mod InsnForm
+pub mod Insn
+pub mod Flow
