@@ -1,3 +1,4 @@
 pub mod DecoderLaws
 pub mod GrammarLaws
 pub mod ModifiedLaws
+pub mod DescriptorLaws

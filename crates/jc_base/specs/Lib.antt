@@ -3,3 +3,5 @@ pub mod Decoder
 pub mod Grammar
 pub mod Parsing
 pub mod Modified
+pub mod Descriptor
+pub mod DescriptorReading
