@@ -2,3 +2,4 @@ pub mod DecoderLaws
 pub mod GrammarLaws
 pub mod HeldLaws
 pub mod ModifiedLaws
+pub mod DescriptorLaws

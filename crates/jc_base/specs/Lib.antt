@@ -9,3 +9,5 @@ pub mod InMemory
 pub mod InsnForm
 pub mod Insn
 pub mod Flow
+pub mod Descriptor
+pub mod DescriptorReading

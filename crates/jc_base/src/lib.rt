@@ -2,6 +2,7 @@
 //! crates hand to each other, and the files and texts outside.
 #![tactic(auto)]
 
+mod descriptor;
 mod fail;
 mod files;
 mod host_files;
@@ -19,6 +20,10 @@ mod refusal;
 mod sink;
 mod unread;
 
+pub use descriptor::{
+    argument_slots, each_descriptor_has_one_type, is_field_descriptor, is_method_descriptor,
+    split_type,
+};
 pub use fail::{Fail, Memory};
 pub use files::{FileFault, Files, MOST_READ};
 pub use host_files::HostFiles;
