@@ -1,0 +1,7 @@
+pub mod Words
+pub mod Command
+pub mod Texts
+pub mod World
+pub mod Work
+pub mod Looks
+pub mod Outcome

@@ -1,0 +1,148 @@
+-- What the steps of a command give, told or not.
+use Rattle.std.specs.Prelude.{◌≡◌, ◌≢◌, ◌⊎◌, ◌≤◌, ⊤, ℕ, List, [], ◌∷◌, ◌++◌, length, map, Option, Some, None, Result, Ok, Err, Vec, Bor}
+use Rattle.std.specs.declared.alloc.Global.{Global}
+use Rattle.jc_base.specs.declared.fail.Fail.{Fail}
+use Rattle.jc_base.specs.declared.fail.Fail.TheVariants as fails
+use Rattle.jc_base.specs.Outside.{FileMap, WhereTold, Rose, most_read}
+use Rattle.jc_exec.specs.declared.hits.ClassHits.{ClassHits}
+use Rattle.jc_exec.specs.declared.refusal.ExecRefusal.{ExecRefusal}
+use Rattle.jc_exec.specs.declared.refusal.ExecRefusal.TheVariants.{LaterForm}
+use Rattle.jc_exec.specs.Plain.{IsPlain, IsFirstUnfit}
+use Rattle.jc_exec.specs.Writing.{exec_text}
+use Rattle.jc_top.specs.declared.status.Status.{Status}
+use Rattle.jc_top.specs.declared.status.Status.TheVariants as status
+use Rattle.jc_top.specs.declared.command.Command.{Command as Called}
+use Rattle.jc_top.specs.declared.command.Unclear.{Unclear}
+use Rattle.jc_top.specs.declared.command.Unclear.TheVariants as unclear
+use Rattle.jc_top.specs.declared.output.Write.{Write as Written}
+use Rattle.jc_top.specs.declared.stop.Stop.{Stop}
+use Rattle.jc_top.specs.declared.stop.Stop.TheVariants as stops
+use Rattle.jc_top.specs.Words.{Word}
+use Rattle.jc_top.specs.Command.{Command, inputs_of, Means, NoForm}
+use Rattle.jc_top.specs.Looks.{command_seen, write_seen}
+use Rattle.jc_top.specs.World.{World, Write, to_file, to_out, Landed, after, Broken, TextBroken, StopsIn, grown}
+use Rattle.jc_top.specs.Texts.{cannot_read, cannot_write, cannot_write_output, fault_text}
+use Rattle.jc_top.specs.Work.{Holds, CantRead, AreRead, StopsAt, Answers, refusing}
+
+-- ---- words
+
+abbrev pub CommandRead : List Word → Result Called Unclear → Type 0
+CommandRead words (Ok command) = Means words (command_seen command)
+CommandRead words (Err unclear.Usage) = NoForm words
+CommandRead words (Err unclear.Memory) = ⊤
+
+-- ---- reads
+
+-- the count of reads that failed rose, or what is told of the file says why
+abbrev pub ReadStops : Option FileMap → (FileMap → Type 0) → ℕ → ℕ → Type 0
+ReadStops contents Why old new = ((old ≤ new) × Rose old new) ⊎ ((new ≡ old) × (m : FileMap) × (contents ≡ Some m) × Why m)
+
+abbrev pub ReadOne : Option FileMap → List ℕ → ℕ → ℕ → Result (List ℕ) Stop → Type 0
+ReadOne contents path old new (Ok bytes) = (new ≡ old) × (length bytes ≤ most_read) × WhereTold contents (λ m. Holds m path bytes)
+ReadOne contents path old new (Err stops.Memory) = new ≡ old
+ReadOne contents path old new (Err (stops.Read p)) = (p.now ≡ path) × ReadStops contents (λ m. CantRead m path) old new
+ReadOne contents path old new (Err (stops.Write p)) = ⊥
+ReadOne contents path old new (Err stops.Output) = ⊥
+ReadOne contents path old new (Err (stops.Refused file fault)) = ⊥
+
+-- ---- what is made of what was read
+
+abbrev pub UnionGives : List ℕ → Result (Vec ℕ Global) (Fail ExecRefusal) → Type 0
+UnionGives bytes (Ok v) = (classes : List ClassHits) × IsPlain [] bytes classes × (v.items ≡ exec_text (record { sessions = []; classes = classes }))
+UnionGives bytes (Err fails.Memory) = ⊤
+UnionGives bytes (Err (fails.Said (LaterForm place))) = IsFirstUnfit [] bytes place
+
+abbrev pub AnswersWith : Command → List (List ℕ) → Result (Vec Written Global) Stop → Type 0
+AnswersWith command texts (Ok writes) = Answers command texts (record { writes = map write_seen writes.items; status = status.Done })
+AnswersWith command texts (Err stops.Memory) = ⊤
+AnswersWith command texts (Err (stops.Refused file fault)) = Answers command texts (refusing file.now fault)
+AnswersWith command texts (Err (stops.Read p)) = ⊥
+AnswersWith command texts (Err (stops.Write p)) = ⊥
+AnswersWith command texts (Err stops.Output) = ⊥
+
+-- the inputs that were read, and what is made of them
+abbrev pub Read : Option FileMap → Command → (List (List ℕ) → Type 0) → Type 0
+Read contents command P = WhereTold contents (λ m. (texts : List (List ℕ)) × AreRead m (inputs_of command) texts × P texts)
+
+abbrev pub Prepares : Option FileMap → Command → ℕ → ℕ → Result (Vec Written Global) Stop → Type 0
+Prepares contents command old new (Ok writes) = (new ≡ old) × Read contents command (λ texts. Answers command texts (record { writes = map write_seen writes.items; status = status.Done }))
+Prepares contents command old new (Err stops.Memory) = new ≡ old
+Prepares contents command old new (Err (stops.Read p)) = ReadStops contents (λ m. (front : List Word) × StopsAt m (inputs_of command) front p.now) old new
+Prepares contents command old new (Err (stops.Refused file fault)) = (new ≡ old) × Read contents command (λ texts. Answers command texts (refusing file.now fault))
+Prepares contents command old new (Err (stops.Write p)) = ⊥
+Prepares contents command old new (Err stops.Output) = ⊥
+
+-- ---- writes
+
+-- a count rose, or stands at its last value
+abbrev pub Rises : ℕ → ℕ → Type 0
+Rises old new = (old ≤ new) × Rose old new
+
+-- the write that failed is one of the file at the path
+abbrev pub IsFileWrite : List ℕ → Write → Type 0
+IsFileWrite path write = (bytes : List ℕ) × (write ≡ to_file path bytes)
+
+-- the write that failed is one of a text
+abbrev pub IsTextWrite : Write → Type 0
+IsTextWrite write = (text : List ℕ) × (write ≡ to_out text)
+
+abbrev pub WroteOne : Landed → World → World → (files files' outs outs' : ℕ) → Write → Result (Unit {0}) Stop → Type 0
+WroteOne landed old new files files' outs outs' write (Ok _) = (files' ≡ files) × (outs' ≡ outs) × (new ≡ after landed old (write ∷ []))
+WroteOne landed old new files files' outs outs' write (Err (stops.Write p)) = Rises files files' × (outs' ≡ outs) × Broken landed old write new × IsFileWrite p.now write
+WroteOne landed old new files files' outs outs' write (Err stops.Output) = (files' ≡ files) × Rises outs outs' × Broken landed old write new × IsTextWrite write
+WroteOne landed old new files files' outs outs' write (Err stops.Memory) = ⊥
+WroteOne landed old new files files' outs outs' write (Err (stops.Read p)) = ⊥
+WroteOne landed old new files files' outs outs' write (Err (stops.Refused file fault)) = ⊥
+
+abbrev pub WroteAll : Landed → World → World → (files files' outs outs' : ℕ) → List Write → Result (Unit {0}) Stop → Type 0
+WroteAll landed old new files files' outs outs' writes (Ok _) = (files' ≡ files) × (outs' ≡ outs) × (new ≡ after landed old writes)
+WroteAll landed old new files files' outs outs' writes (Err (stops.Write p)) = Rises files files' × (outs' ≡ outs) × StopsIn landed old writes (IsFileWrite p.now) new
+WroteAll landed old new files files' outs outs' writes (Err stops.Output) = (files' ≡ files) × Rises outs outs' × StopsIn landed old writes IsTextWrite new
+WroteAll landed old new files files' outs outs' writes (Err stops.Memory) = ⊥
+WroteAll landed old new files files' outs outs' writes (Err (stops.Read p)) = ⊥
+WroteAll landed old new files files' outs outs' writes (Err (stops.Refused file fault)) = ⊥
+
+-- ---- a command
+
+-- the faults of reads, of writes, and of the text on `out`
+pub record Faults : Type 0 where
+  pub reads : ℕ
+  pub writes : ℕ
+  pub outs : ℕ
+
+-- what a command without its last message gives
+abbrev pub Runs : Landed → Command → World → World → Faults → Faults → Result (Unit {0}) Stop → Type 0
+Runs landed command old new f f' (Ok _) = (f' ≡ f)
+    × Read old.contents command (λ texts. (writes : List Write) × Answers command texts (record { writes = writes; status = status.Done }) × (new ≡ after landed old writes))
+Runs landed command old new f f' (Err stops.Memory) = (f' ≡ f) × (new ≡ old)
+Runs landed command old new f f' (Err (stops.Read p)) = (f'.writes ≡ f.writes) × (f'.outs ≡ f.outs) × (new ≡ old)
+    × ReadStops old.contents (λ m. (front : List Word) × StopsAt m (inputs_of command) front p.now) f.reads f'.reads
+Runs landed command old new f f' (Err (stops.Refused file fault)) = (f' ≡ f) × (new ≡ old) × Read old.contents command (λ texts. Answers command texts (refusing file.now fault))
+Runs landed command old new f f' (Err (stops.Write p)) = (f'.reads ≡ f.reads) × Rises f.writes f'.writes × (f'.outs ≡ f.outs)
+    × Read old.contents command (λ texts. (writes : List Write) × Answers command texts (record { writes = writes; status = status.Done }) × StopsIn landed old writes (IsFileWrite p.now) new)
+Runs landed command old new f f' (Err stops.Output) = (f'.reads ≡ f.reads) × (f'.writes ≡ f.writes) × Rises f.outs f'.outs
+    × Read old.contents command (λ texts. (writes : List Write) × Answers command texts (record { writes = writes; status = status.Done }) × StopsIn landed old writes IsTextWrite new)
+
+-- ---- the last message
+
+-- the text was appended, or a part of it and the count of faults rose
+abbrev pub Says : List ℕ → (old new : Option (List ℕ)) → (f f' : ℕ) → Type 0
+Says text old new f f' = ((f' ≡ f) × (new ≡ grown old text)) ⊎ (Rises f f' × TextBroken text old new)
+
+abbrev pub message_of : Stop → List ℕ
+message_of stops.Memory = []
+message_of (stops.Read p) = cannot_read p.now
+message_of (stops.Write p) = cannot_write p.now
+message_of stops.Output = cannot_write_output
+message_of (stops.Refused file fault) = fault_text file.now fault
+
+abbrev pub status_of : Stop → Status
+status_of stops.Memory = status.Memory
+status_of (stops.Read p) = status.ReadFault
+status_of (stops.Write p) = status.WriteFault
+status_of stops.Output = status.WriteFault
+status_of (stops.Refused file fault) = status.Refused fault
+
+-- the message of the stop is said, unless memory is refused
+abbrev pub Reports : Stop → (old new : Option (List ℕ)) → (f f' : ℕ) → Status → Type 0
+Reports stop old new f f' s = ((s ≡ status.Memory) × (f' ≡ f) × (new ≡ old)) ⊎ ((s ≡ status_of stop) × (s ≢ status.Memory) × Says (message_of stop) old new f f')

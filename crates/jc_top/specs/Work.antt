@@ -1,0 +1,82 @@
+-- The work of a command: what it reads and writes, and how it ends, where the files are told.
+use Rattle.std.specs.Prelude.{◌≡◌, ◌⊎◌, ◌≤◌, ⊤, ℕ, List, [], ◌∷◌, ◌++◌, length, Option, Some, None}
+use Rattle.std.specs.FinMap.{get}
+use Rattle.jc_base.specs.Outside.{FileMap, IsLong, WhereTold, most_read}
+use Rattle.jc_exec.specs.declared.hits.ClassHits.{ClassHits}
+use Rattle.jc_exec.specs.declared.refusal.ExecRefusal.TheVariants.{LaterForm}
+use Rattle.jc_exec.specs.Plain.{IsPlain, IsFirstUnfit}
+use Rattle.jc_exec.specs.Writing.{exec_text}
+use Rattle.jc_top.specs.declared.status.Status.{Status}
+use Rattle.jc_top.specs.declared.status.Status.TheVariants as status
+use Rattle.jc_top.specs.declared.status.Fault.{Fault}
+use Rattle.jc_top.specs.declared.status.Fault.TheVariants as fault
+use Rattle.jc_top.specs.Words.{Word}
+use Rattle.jc_top.specs.Command.{Command, merge, inputs_of, Means, NoForm}
+use Rattle.jc_top.specs.Texts.{usage_text, cannot_read, fault_text}
+use Rattle.jc_top.specs.World.{World, Write, to_file, to_out, to_err, Landed, after}
+
+-- ---- reading
+
+-- the path holds these bytes, and they aren't too many
+pub record Holds (m : FileMap) (path bytes : List ℕ) : Type 0 where
+  pub there : get m path ≡ Some bytes
+  pub short : length bytes ≤ most_read
+
+-- the path is missing, or its file is too large
+abbrev pub CantRead : FileMap → List ℕ → Type 0
+CantRead m path = (get m path ≡ None) ⊎ IsLong (get m path)
+
+-- the paths hold these bytes, in order
+abbrev pub AreRead : FileMap → List Word → List (List ℕ) → Type 0
+AreRead m [] [] = ⊤
+AreRead m [] (t ∷ ts) = ⊥
+AreRead m (p ∷ ps) [] = ⊥
+AreRead m (p ∷ ps) (t ∷ ts) = Holds m p t × AreRead m ps ts
+
+-- the paths are read up to the first that can't be
+pub record StopsAt (m : FileMap) (paths : List Word) (front : List Word) (path : Word) : Type 0 where
+  pub behind : List Word
+  pub texts : List (List ℕ)
+  pub parts : paths ≡ front ++ path ∷ behind
+  pub read : AreRead m front texts
+  pub cant : CantRead m path
+
+-- ---- what a command makes of the bytes that it read
+
+pub record Answer : Type 0 where
+  pub writes : List Write
+  pub status : Status
+
+-- an input is refused: nothing is written but the message
+abbrev pub refusing : List ℕ → Fault → Answer
+refusing file f = record { writes = to_err (fault_text file f) ∷ []; status = status.Refused f }
+
+-- the rules, one for each answer
+pub data Answers : Command → List (List ℕ) → Answer → Type 0 where
+  merge_refused : {out input bytes : List ℕ} {place : ℕ} → IsFirstUnfit [] bytes place
+      → Answers (merge out input) (bytes ∷ []) (refusing input (fault.Exec 0 (LaterForm place)))
+  merged : {out input bytes : List ℕ} {classes : List ClassHits} → IsPlain [] bytes classes
+      → Answers (merge out input) (bytes ∷ []) (record { writes = to_file out (exec_text (record { sessions = []; classes = classes })) ∷ []; status = status.Done })
+
+-- ---- the work
+
+pub record Work : Type 0 where
+  pub reads : List Word
+  pub writes : List Write
+  pub status : Status
+
+pub data IsWork (words : List Word) (m : FileMap) : Work → Type 0 where
+  usage : NoForm words
+      → IsWork words m (record { reads = []; writes = to_err usage_text ∷ []; status = status.Usage })
+  unreadable : {command : Command} {front : List Word} {path : Word} → Means words command → StopsAt m (inputs_of command) front path
+      → IsWork words m (record { reads = front ++ path ∷ []; writes = to_err (cannot_read path) ∷ []; status = status.ReadFault })
+  answered : {command : Command} {texts : List (List ℕ)} {answer : Answer} → Means words command → AreRead m (inputs_of command) texts → Answers command texts answer
+      → IsWork words m (record { reads = inputs_of command; writes = answer.writes; status = answer.status })
+
+-- the work ends so
+abbrev pub WorkEnds : List Word → FileMap → Status → Type 0
+WorkEnds words m s = (work : Work) × IsWork words m work × (work.status ≡ s)
+
+-- where contents are told, the writes and the status are those of the work
+abbrev pub DoesWork : Landed → List Word → World → World → Status → Type 0
+DoesWork landed words old new s = WhereTold old.contents (λ m. (work : Work) × IsWork words m work × (s ≡ work.status) × (new ≡ after landed old work.writes))

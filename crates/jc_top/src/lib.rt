@@ -1,0 +1,16 @@
+//! The top call: all that the program `jcov` does, over files and texts that it is handed.
+#![tactic(auto)]
+
+mod command;
+mod input;
+mod merge;
+mod message;
+mod output;
+mod run;
+mod status;
+mod stop;
+mod words;
+
+pub use run::{each_command_has_one_work, run_tool};
+pub use status::{Fault, Status};
+

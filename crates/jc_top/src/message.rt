@@ -1,0 +1,82 @@
+//! The last message of a command that ended early.
+ghost use Rattle.std.specs.Prelude.{◌≡◌, string_bytes, IfOk};
+ghost use Rattle.jc_top.specs.Texts.{cannot_read, cannot_write, cannot_write_output, exec_refusal_text, fault_text, usage_text};
+ghost use Rattle.jc_top.specs.Outcome.{Says, Reports, message_of};
+
+use crate::stop::Stop;
+use crate::{Fault, Status};
+use jc_base::Sink;
+use jc_exec::ExecRefusal;
+use std::alloc::{AllocError, Global};
+
+/// What is printed where the words are of no stated form.
+pub const USAGE: &str =
+    "usage: jcov COMMAND OPTIONS FILE..\ncommands: instrument run merge report execinfo classinfo cover\n";
+
+/// Writes a last message. A failure changes nothing else.
+pub fn say<E: Sink>(err: &mut E, text: &str)
+    ensures { Says text.now (E.told err.old) (E.told err.new) (E.faults err.old) (E.faults err.new) }
+{
+    let _ = err.put(text.as_bytes());
+}
+
+fn cannot_read(alloc: Global, path: &str) -> Result<String, AllocError>
+    ensures { IfOk result (λ text. string_bytes text ≡ cannot_read path.now) }
+{
+    format!(in alloc; "cannot read {path}\n")
+}
+
+fn cannot_write(alloc: Global, path: &str) -> Result<String, AllocError>
+    ensures { IfOk result (λ text. string_bytes text ≡ cannot_write path.now) }
+{
+    format!(in alloc; "cannot write {path}\n")
+}
+
+fn exec_refusal_text(alloc: Global, file: &str, refusal: ExecRefusal) -> Result<String, AllocError>
+    ensures { IfOk result (λ text. string_bytes text ≡ exec_refusal_text file.now refusal) }
+{
+    match refusal {
+        ExecRefusal::LaterForm { place } => {
+            format!(in alloc; "{file}: input of a later form at {place}\n")
+        }
+    }
+}
+
+fn fault_text(alloc: Global, file: &str, fault: Fault) -> Result<String, AllocError>
+    ensures { IfOk result (λ text. string_bytes text ≡ fault_text file.now fault) }
+{
+    match fault {
+        Fault::Exec { refusal, .. } => exec_refusal_text(alloc, file, refusal),
+    }
+}
+
+fn message(alloc: Global, stop: &Stop<'_>) -> Result<String, AllocError>
+    ensures { IfOk result (λ text. string_bytes text ≡ message_of stop.now) }
+{
+    match stop {
+        Stop::Memory => Ok(String::new(alloc)),
+        Stop::Read(path) => cannot_read(alloc, path),
+        Stop::Write(path) => cannot_write(alloc, path),
+        Stop::Output => String::from_str(alloc, "cannot write output\n"),
+        Stop::Refused { file, fault } => fault_text(alloc, file, *fault),
+    }
+}
+
+/// Says why a command ended early, and answers with its status.
+pub fn report<E: Sink>(alloc: Global, err: &mut E, stop: &Stop<'_>) -> Status
+    ensures { Reports stop.now (E.told err.old) (E.told err.new) (E.faults err.old) (E.faults err.new) result }
+{
+    let status = match stop {
+        Stop::Memory => return Status::Memory,
+        Stop::Read(_) => Status::ReadFault,
+        Stop::Write(_) | Stop::Output => Status::WriteFault,
+        Stop::Refused { fault, .. } => Status::Refused(*fault),
+    };
+    match message(alloc, stop) {
+        Ok(text) => {
+            say(err, &text);
+            status
+        }
+        Err(_) => Status::Memory,
+    }
+}

@@ -1,0 +1,48 @@
+//! Making the writes of a command.
+ghost use Rattle.std.specs.Prelude.{◌≡◌, ℕ, List, map, Option};
+ghost use Rattle.jc_top.specs.Looks.{write_seen};
+ghost use Rattle.jc_top.specs.Outcome.{WroteOne, WroteAll};
+
+use crate::stop::Stop;
+use jc_base::{Files, Sink};
+
+/// What a command writes.
+#[derive(Drop)]
+pub enum Write<'a> {
+    /// The bytes, to the file at the path.
+    File { path: &'a str, bytes: Vec<u8> },
+    /// The text, on `out`.
+    Out { text: Vec<u8> },
+}
+
+/// Makes one write.
+fn write_one<'a, F: Files, O: Sink>(files: &mut F, out: &mut O, write: &Write<'a>) -> Result<(), Stop<'a>>
+    ensures gives { (err : Option (List ℕ)) → WroteOne F.landed
+        (record { contents = F.contents files.old; out = O.told out.old; err = err }) (record { contents = F.contents files.new; out = O.told out.new; err = err })
+        (F.write_faults files.old) (F.write_faults files.new) (O.faults out.old) (O.faults out.new) (write_seen write.now) result }
+    ensures read_faults { F.read_faults files.new ≡ F.read_faults files.old }
+{
+    match write {
+        Write::File { path, bytes } => match files.write(path, bytes) {
+            Ok(()) => Ok(()),
+            Err(_) => Err(Stop::Write(path)),
+        },
+        Write::Out { text } => match out.put(text) {
+            Ok(()) => Ok(()),
+            Err(_) => Err(Stop::Output),
+        },
+    }
+}
+
+/// Makes the writes in order, up to the first that fails.
+pub fn write_all<'a, F: Files, O: Sink>(files: &mut F, out: &mut O, writes: &[Write<'a>]) -> Result<(), Stop<'a>>
+    ensures gives { (err : Option (List ℕ)) → WroteAll F.landed
+        (record { contents = F.contents files.old; out = O.told out.old; err = err }) (record { contents = F.contents files.new; out = O.told out.new; err = err })
+        (F.write_faults files.old) (F.write_faults files.new) (O.faults out.old) (O.faults out.new) (map write_seen writes.now) result }
+    ensures read_faults { F.read_faults files.new ≡ F.read_faults files.old }
+{
+    'writing: for write in writes {
+        write_one(files, out, write)?;
+    }
+    Ok(())
+}

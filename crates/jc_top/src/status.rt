@@ -1,0 +1,27 @@
+//! How a run of the tool ends.
+
+use jc_exec::ExecRefusal;
+
+/// How a run of the tool ended. The exit statuses are 0 to 5 in the order of the variants.
+#[derive(Clone, Copy, Debug, PartialEq, Eq)]
+pub enum Status {
+    /// All was written.
+    Done,
+    /// An input is refused.
+    Refused(Fault),
+    /// The words are of no stated form.
+    Usage,
+    /// A file couldn't be read, is missing, or is too large.
+    ReadFault,
+    /// A file or a text couldn't be written.
+    WriteFault,
+    /// Memory was refused.
+    Memory,
+}
+
+/// What is wrong with an input.
+#[derive(Clone, Copy, Debug, PartialEq, Eq)]
+pub enum Fault {
+    /// The execution data of the input at this place in the list of inputs is refused.
+    Exec { path: u32, refusal: ExecRefusal },
+}

@@ -1,0 +1,57 @@
+//! The words of the command line, cut into uses of options and files by their looks alone.
+ghost use Rattle.std.specs.Prelude.{◌≡◌, IfOk, length};
+ghost use Rattle.std.specs.Option.{option_map};
+ghost use Rattle.jc_top.specs.Words.{words_of, is_value, is_option, scan};
+ghost use Rattle.jc_top.specs.Looks.{scan_of};
+
+use jc_base::Memory;
+use std::alloc::Global;
+
+/// An option and its value.
+#[derive(Clone, Copy)]
+pub struct Use<'a> {
+    pub option: &'a str,
+    pub value: &'a str,
+}
+
+/// The words behind a command's name.
+#[derive(Drop)]
+pub struct Scanned<'a> {
+    pub uses: Vec<Use<'a>>,
+    pub files: &'a [String],
+}
+
+/// Whether a word is neither empty nor begins with `-`.
+pub fn is_value(word: &str) -> bool
+    ensures { result ≡ is_value word.now }
+{
+    !matches!(word.as_bytes(), [] | [b'-', ..])
+}
+
+/// Whether a word begins with `--`.
+fn is_option(word: &str) -> bool
+    ensures { result ≡ is_option word.now }
+{
+    matches!(word.as_bytes(), [b'-', b'-', ..])
+}
+
+/// Cuts the words behind a command's name. There is no answer where the last option lacks its value.
+pub fn scan_words<'a>(alloc: Global, words: &'a [String]) -> Result<Option<Scanned<'a>>, Memory>
+    ensures { IfOk result (λ o. option_map scan_of o ≡ scan (words_of words.entry.now)) }
+{
+    let mut uses = Vec::new(alloc);
+    let mut files = words;
+    'scanning: while let Some((option, behind)) = files.split_first() {
+        let option = option.as_str();
+        if !is_option(option) {
+            break;
+        }
+        let Some((value, rest)) = behind.split_first() else {
+            return Ok(None);
+        };
+        let value = value.as_str();
+        uses.push(Use { option, value })?;
+        files = rest;
+    }
+    Ok(Some(Scanned { uses, files }))
+}
