@@ -1,12 +1,15 @@
 -- What a clause sees of words that were cut, and of a command.
-use Rattle.std.specs.Prelude.{List, [], ◌∷◌, map}
+use Rattle.std.specs.Prelude.{◌≡◌, ◌<◌, List, [], ◌∷◌, length, map, String, Some, None}
+use Rattle.std.specs.declared.alloc.Global.{Global}
 use Rattle.jc_top.specs.declared.words.Use.{Use as Used}
 use Rattle.jc_top.specs.declared.words.Scanned.{Scanned}
+use Rattle.jc_top.specs.declared.words.Front.{Front}
+use Rattle.jc_top.specs.declared.words.Front.TheVariants as fronts
 use Rattle.jc_top.specs.declared.command.Command.{Command as Called}
 use Rattle.jc_top.specs.declared.command.Command.TheVariants as commands
 use Rattle.jc_top.specs.declared.output.Write.{Write as Written}
 use Rattle.jc_top.specs.declared.output.Write.TheVariants as writes
-use Rattle.jc_top.specs.Words.{Use, Scan, words_of}
+use Rattle.jc_top.specs.Words.{Use, Scan, words_of, scan, with_use}
 use Rattle.jc_top.specs.Command.{Command, merge}
 use Rattle.jc_top.specs.World.{Write, to_file, to_out}
 
@@ -15,6 +18,12 @@ use_of u = record { option = u.option.now; value = u.value.now }
 
 abbrev pub scan_of : Scanned → Scan
 scan_of s = record { uses = map use_of s.uses.items; files = words_of s.files.now }
+
+-- what stands in front of the words decides how they are cut
+abbrev pub FrontIs : List (String Global) → Front → Type 0
+FrontIs words (fronts.Use found rest) = (scan (words_of words) ≡ with_use (use_of found) (scan (words_of rest.now))) × (length rest.now < length words)
+FrontIs words fronts.File = scan (words_of words) ≡ Some (record { uses = []; files = words_of words })
+FrontIs words fronts.Lacking = scan (words_of words) ≡ None
 
 abbrev pub command_seen : Called → Command
 command_seen (commands.Merge destfile input) = merge destfile.now input.now

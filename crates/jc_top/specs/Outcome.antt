@@ -1,8 +1,11 @@
 -- What the steps of a command give, told or not.
-use Rattle.std.specs.Prelude.{◌≡◌, ◌≢◌, ◌⊎◌, ◌≤◌, ⊤, ℕ, List, [], ◌∷◌, ◌++◌, length, map, Option, Some, None, Result, Ok, Err, Vec, Bor}
+use Rattle.std.specs.Prelude.{◌≡◌, ◌≢◌, ◌⊎◌, ◌≤◌, ⊤, ℕ, List, [], ◌∷◌, ◌++◌, length, map, Option, Some, None, Result, Ok, Err, Vec}
+use Rattle.std.specs.Borrow.{Bor}
 use Rattle.std.specs.declared.alloc.Global.{Global}
 use Rattle.jc_base.specs.declared.fail.Fail.{Fail}
 use Rattle.jc_base.specs.declared.fail.Fail.TheVariants as fails
+use Rattle.jc_base.specs.declared.files.FileFault.{FileFault}
+use Rattle.jc_base.specs.declared.files.FileFault.TheVariants as file_faults
 use Rattle.jc_base.specs.Outside.{FileMap, WhereTold, Rose, most_read}
 use Rattle.jc_exec.specs.declared.hits.ClassHits.{ClassHits}
 use Rattle.jc_exec.specs.declared.refusal.ExecRefusal.{ExecRefusal}
@@ -11,6 +14,7 @@ use Rattle.jc_exec.specs.Plain.{IsPlain, IsFirstUnfit}
 use Rattle.jc_exec.specs.Writing.{exec_text}
 use Rattle.jc_top.specs.declared.status.Status.{Status}
 use Rattle.jc_top.specs.declared.status.Status.TheVariants as status
+use Rattle.jc_top.specs.declared.status.Fault.TheVariants as faults
 use Rattle.jc_top.specs.declared.command.Command.{Command as Called}
 use Rattle.jc_top.specs.declared.command.Unclear.{Unclear}
 use Rattle.jc_top.specs.declared.command.Unclear.TheVariants as unclear
@@ -20,9 +24,9 @@ use Rattle.jc_top.specs.declared.stop.Stop.TheVariants as stops
 use Rattle.jc_top.specs.Words.{Word}
 use Rattle.jc_top.specs.Command.{Command, inputs_of, Means, NoForm}
 use Rattle.jc_top.specs.Looks.{command_seen, write_seen}
-use Rattle.jc_top.specs.World.{World, Write, to_file, to_out, Landed, after, Broken, TextBroken, StopsIn, grown}
+use Rattle.jc_top.specs.World.{World, Write, to_file, to_out, to_err, Landed, after, Broken, TextBroken, StopsIn, grown}
 use Rattle.jc_top.specs.Texts.{cannot_read, cannot_write, cannot_write_output, fault_text}
-use Rattle.jc_top.specs.Work.{Holds, CantRead, AreRead, StopsAt, Answers, refusing}
+use Rattle.jc_top.specs.Work.{Holds, CantRead, AreRead, StopsAt, Answers, refusing, Work, IsWork}
 
 -- ---- words
 
@@ -36,6 +40,13 @@ CommandRead words (Err unclear.Memory) = ⊤
 -- the count of reads that failed rose, or what is told of the file says why
 abbrev pub ReadStops : Option FileMap → (FileMap → Type 0) → ℕ → ℕ → Type 0
 ReadStops contents Why old new = ((old ≤ new) × Rose old new) ⊎ ((new ≡ old) × (m : FileMap) × (contents ≡ Some m) × Why m)
+
+-- how a read that failed stops a command
+abbrev pub read_stop : FileFault → Bor (List ℕ) → Stop
+read_stop file_faults.Memory path = stops.Memory
+read_stop file_faults.Failed path = stops.Read path
+read_stop file_faults.Missing path = stops.Read path
+read_stop file_faults.TooLarge path = stops.Read path
 
 abbrev pub ReadOne : Option FileMap → List ℕ → ℕ → ℕ → Result (List ℕ) Stop → Type 0
 ReadOne contents path old new (Ok bytes) = (new ≡ old) × (length bytes ≤ most_read) × WhereTold contents (λ m. Holds m path bytes)
@@ -51,6 +62,11 @@ abbrev pub UnionGives : List ℕ → Result (Vec ℕ Global) (Fail ExecRefusal) 
 UnionGives bytes (Ok v) = (classes : List ClassHits) × IsPlain [] bytes classes × (v.items ≡ exec_text (record { sessions = []; classes = classes }))
 UnionGives bytes (Err fails.Memory) = ⊤
 UnionGives bytes (Err (fails.Said (LaterForm place))) = IsFirstUnfit [] bytes place
+
+-- how execution data that isn't taken stops a command, as its first input
+abbrev pub exec_stop : Fail ExecRefusal → Bor (List ℕ) → Stop
+exec_stop fails.Memory input = stops.Memory
+exec_stop (fails.Said refusal) input = stops.Refused input (faults.Exec 0 refusal)
 
 abbrev pub AnswersWith : Command → List (List ℕ) → Result (Vec Written Global) Stop → Type 0
 AnswersWith command texts (Ok writes) = Answers command texts (record { writes = map write_seen writes.items; status = status.Done })
@@ -146,3 +162,24 @@ status_of (stops.Refused file fault) = status.Refused fault
 -- the message of the stop is said, unless memory is refused
 abbrev pub Reports : Stop → (old new : Option (List ℕ)) → (f f' : ℕ) → Status → Type 0
 Reports stop old new f f' s = ((s ≡ status.Memory) × (f' ≡ f) × (new ≡ old)) ⊎ ((s ≡ status_of stop) × (s ≢ status.Memory) × Says (message_of stop) old new f f')
+
+-- ---- a write that failed
+
+abbrev pub broken_text : Write → List ℕ
+broken_text (to_file path bytes) = cannot_write path
+broken_text (to_out text) = cannot_write_output
+broken_text (to_err text) = cannot_write_output
+
+-- the writes of the work were made up to one that failed, and `err` says so
+pub record BreaksOff (landed : Landed) (words : List Word) (m : FileMap) (old new : World) (e e' : ℕ) : Type 0 where
+  pub work : Work
+  pub is : IsWork words m work
+  pub done : List Write
+  pub failed : Write
+  pub behind : List Write
+  pub parts : work.writes ≡ done ++ failed ∷ behind
+  pub stands : World
+  pub broken : Broken landed (after landed old done) failed stands
+  pub contents : new.contents ≡ stands.contents
+  pub out : new.out ≡ stands.out
+  pub message : Says (broken_text failed) old.err new.err e e'

@@ -18,9 +18,12 @@ cannot_write path = codes "cannot write " ++ path ++ codes "\n"
 abbrev pub cannot_write_output : List ℕ
 cannot_write_output = codes "cannot write output\n"
 
+abbrev pub later_form_text : List ℕ → ℕ → List ℕ
+later_form_text file place = file ++ (codes ": input of a later form at " ++ (decimal place ++ codes "\n"))
+
 -- execution data that is refused
 abbrev pub exec_refusal_text : List ℕ → ExecRefusal → List ℕ
-exec_refusal_text file (LaterForm place) = file ++ (codes ": input of a later form at " ++ (decimal place ++ codes "\n"))
+exec_refusal_text file (LaterForm place) = later_form_text file place
 
 -- an input that is refused, by its path and what is wrong with it
 abbrev pub fault_text : List ℕ → Fault → List ℕ

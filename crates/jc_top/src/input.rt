@@ -1,10 +1,20 @@
 //! Reading the inputs of a command.
 ghost use Rattle.std.specs.Prelude.{◌≡◌};
-ghost use Rattle.jc_top.specs.Outcome.{ReadOne};
+ghost use Rattle.jc_top.specs.Outcome.{ReadOne, read_stop};
 
 use crate::stop::Stop;
 use jc_base::{Bytes, FileFault, Files};
 use std::alloc::Global;
+
+/// How a read that failed stops a command.
+fn read_stop<'a>(fault: FileFault, path: &'a str) -> Stop<'a>
+    ensures { result ≡ read_stop fault path.entry }
+{
+    match fault {
+        FileFault::Memory => Stop::Memory,
+        FileFault::Failed | FileFault::Missing | FileFault::TooLarge => Stop::Read(path),
+    }
+}
 
 /// The bytes of the file at a path.
 pub fn read_one<'a, F: Files>(alloc: Global, files: &mut F, path: &'a str) -> Result<Bytes, Stop<'a>>
@@ -15,7 +25,6 @@ pub fn read_one<'a, F: Files>(alloc: Global, files: &mut F, path: &'a str) -> Re
     let mut bytes = Vec::new(alloc);
     match files.read(alloc, path, &mut bytes) {
         Ok(()) => Ok(Bytes::from_vec(bytes)),
-        Err(FileFault::Memory) => Err(Stop::Memory),
-        Err(FileFault::Failed | FileFault::Missing | FileFault::TooLarge) => Err(Stop::Read(path)),
+        Err(fault) => Err(read_stop(fault, path)),
     }
 }

@@ -1,8 +1,8 @@
 //! The command `merge`.
-ghost use Rattle.std.specs.Prelude.{◌≡◌, ◌≤◌, [], ◌∷◌, length, OnOk};
+ghost use Rattle.std.specs.Prelude.{◌≡◌, ◌≤◌, [], ◌∷◌, length, IfOk, IfErr};
 ghost use Rattle.jc_base.specs.Outside.{most_read};
 ghost use Rattle.jc_top.specs.Command.{merge};
-ghost use Rattle.jc_top.specs.Outcome.{Prepares, AnswersWith, UnionGives};
+ghost use Rattle.jc_top.specs.Outcome.{Prepares, AnswersWith, UnionGives, exec_stop};
 
 use crate::Fault;
 use crate::input::read_one;
@@ -22,23 +22,39 @@ fn union_text(alloc: Global, bytes: &[u8]) -> Result<Vec<u8>, Fail<ExecRefusal>>
     Ok(store.write(alloc)?)
 }
 
+/// How execution data that isn't taken stops the command.
+fn refused<'a>(fail: Fail<ExecRefusal>, input: &'a str) -> Stop<'a>
+    ensures { result ≡ exec_stop fail input.entry }
+{
+    match fail {
+        Fail::Memory => Stop::Memory,
+        Fail::Said(refusal) => {
+            let fault = Fault::Exec { path: 0, refusal };
+            Stop::Refused { file: input, fault }
+        }
+    }
+}
+
+/// A list of one write.
+fn one_write<'a>(alloc: Global, write: Write<'a>) -> Result<Vec<Write<'a>>, Stop<'a>>
+    ensures ok { IfOk result (λ writes. writes.items ≡ write.entry ∷ []) }
+    ensures err { IfErr result (λ stop. stop ≡ Stop.Memory) }
+{
+    let mut writes = Vec::new(alloc);
+    match writes.push(write) {
+        Ok(()) => Ok(writes),
+        Err(_) => Err(Stop::Memory),
+    }
+}
+
 /// The one write of the command, of what it read.
 fn merged<'a>(alloc: Global, destfile: &'a str, input: &'a str, bytes: &[u8]) -> Result<Vec<Write<'a>>, Stop<'a>>
     requires { length bytes.now ≤ most_read }
     ensures { AnswersWith (merge destfile.entry.now input.entry.now) (bytes.now ∷ []) result }
 {
-    let bytes = match union_text(alloc, bytes) {
-        Ok(bytes) => bytes,
-        Err(Fail::Memory) => return Err(Stop::Memory),
-        Err(Fail::Said(refusal)) => {
-            let fault = Fault::Exec { path: 0, refusal };
-            return Err(Stop::Refused { file: input, fault });
-        }
-    };
-    let mut writes = Vec::new(alloc);
-    match writes.push(Write::File { path: destfile, bytes }) {
-        Ok(()) => Ok(writes),
-        Err(_) => Err(Stop::Memory),
+    match union_text(alloc, bytes) {
+        Ok(bytes) => one_write(alloc, Write::File { path: destfile, bytes }),
+        Err(fail) => Err(refused(fail, input)),
     }
 }
 

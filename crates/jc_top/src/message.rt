@@ -1,6 +1,6 @@
 //! The last message of a command that ended early.
 ghost use Rattle.std.specs.Prelude.{◌≡◌, string_bytes, IfOk};
-ghost use Rattle.jc_top.specs.Texts.{cannot_read, cannot_write, cannot_write_output, exec_refusal_text, fault_text, usage_text};
+ghost use Rattle.jc_top.specs.Texts.{cannot_read, cannot_write, cannot_write_output, later_form_text, exec_refusal_text, fault_text, usage_text};
 ghost use Rattle.jc_top.specs.Outcome.{Says, Reports, message_of};
 
 use crate::stop::Stop;
@@ -32,13 +32,17 @@ fn cannot_write(alloc: Global, path: &str) -> Result<String, AllocError>
     format!(in alloc; "cannot write {path}\n")
 }
 
+fn later_form_text(alloc: Global, file: &str, place: u32) -> Result<String, AllocError>
+    ensures { IfOk result (λ text. string_bytes text ≡ later_form_text file.now place) }
+{
+    format!(in alloc; "{file}: input of a later form at {place}\n")
+}
+
 fn exec_refusal_text(alloc: Global, file: &str, refusal: ExecRefusal) -> Result<String, AllocError>
     ensures { IfOk result (λ text. string_bytes text ≡ exec_refusal_text file.now refusal) }
 {
     match refusal {
-        ExecRefusal::LaterForm { place } => {
-            format!(in alloc; "{file}: input of a later form at {place}\n")
-        }
+        ExecRefusal::LaterForm { place } => later_form_text(alloc, file, place),
     }
 }
 

@@ -7,7 +7,7 @@ ghost use Rattle.jc_top.specs.Command.{NoForm};
 ghost use Rattle.jc_top.specs.Looks.{command_seen};
 ghost use Rattle.jc_top.specs.World.{World};
 ghost use Rattle.jc_top.specs.Work.{Work, IsWork, WorkEnds, DoesWork};
-ghost use Rattle.jc_top.specs.Outcome.{Prepares, Runs};
+ghost use Rattle.jc_top.specs.Outcome.{Prepares, Runs, BreaksOff};
 
 use crate::Status;
 use crate::command::{Command, Unclear, read_words};
@@ -74,6 +74,15 @@ pub fn run_tool<F: Files, O: Sink, E: Sink>(
 
     // WriteFault comes only where a write failed.
     ensures write_fault { result ≡ Status.WriteFault → Rose (F.write_faults files.old) (F.write_faults files.new) ⊎ Rose (O.faults out.old) (O.faults out.new) }
+
+    // Where it comes, the writes were made up to the one that failed.
+    ensures breaks_off { result ≡ Status.WriteFault → (m : FileMap) → F.contents files.old ≡ Some m
+        → BreaksOff F.landed (words_of words.now) m (record { contents = F.contents files.old; out = O.told out.old; err = E.told err.old })
+            (record { contents = F.contents files.new; out = O.told out.new; err = E.told err.new }) (E.faults err.old) (E.faults err.new) }
+
+    // Where no write failed and the command isn't done, nothing was written but the message.
+    ensures kept { result ≢ Status.Done → ¬ (Rose (F.write_faults files.old) (F.write_faults files.new)) → ¬ (Rose (O.faults out.old) (O.faults out.new))
+        → (F.contents files.new ≡ F.contents files.old) × (O.told out.new ≡ O.told out.old) }
 
     // Done comes only where nothing failed.
     ensures done { result ≡ Status.Done → (F.read_faults files.new ≡ F.read_faults files.old) × (F.write_faults files.new ≡ F.write_faults files.old)

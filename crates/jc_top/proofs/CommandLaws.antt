@@ -1,0 +1,178 @@
+-- The command that the words call, by their parts and by tests.
+use Rattle.std.proofs.Common.{◌≡◌, ◌≢◌, ◌⊎◌, inl, inr, ℕ, Bool, true, false, cond, not, ◌&&◌, List, [], ◌∷◌, ◌++◌, Option, None, Some, option_map, length, nat_eq, arith, codes, String, true≢false, refl, sym, ◌∙◌, ap, ap₂, subst, append_assoc}
+use Rattle.std.proofs.lemmas.List.{append-nil}
+use Rattle.std.specs.List.{flat_map}
+use Rattle.std.specs.Str.{bytes_eq}
+use Rattle.std.proofs.lemmas.Slice.Eq.{bytes_eq-Decides}
+use Rattle.jc_base.proofs.DecoderLaws.{chosen, guard_some, some_is}
+use Rattle.std.specs.declared.alloc.Global.{Global}
+use Rattle.jc_top.specs.Words.{Word, words_of, Use, use_words, Call, call_words, Scan, with_use, scan, is_value, is_option}
+use Rattle.jc_top.specs.Command.{Command, merge, merge_call, merge_one, IsCallOf, Means, NoForm, decide, decide_merge, decide_scan, command_of, destfile}
+
+-- ---- a scan spells the words
+
+abbrev spelled : Scan → List Word
+spelled s = flat_map use_words s.uses ++ s.files
+
+scan_spells : (words : List Word) (s : Scan) → scan words ≡ Some s → words ≡ spelled s
+unfolding scan
+scan_spells [] s e = let same = some_is (record { uses = []; files = [] }) s e in ap spelled same
+scan_spells (w ∷ []) s e = elim (chosen (is_option w) None (Some (record { uses = []; files = w ∷ [] })) (Some s) e) [
+  | inl h ↦ absurd (none h.1)
+  | inr h ↦ ap spelled (some_is (record { uses = []; files = w ∷ [] }) s h.1)
+]
+  where
+    none : None ≡ Some s → ⊥
+    none e = cc
+scan_spells (w ∷ v ∷ rest) s e = elim (chosen (is_option w) (with_use (record { option = w; value = v }) (scan rest)) (Some (record { uses = []; files = w ∷ v ∷ rest })) (Some s) e) [
+  | inl h ↦ used (scan rest) (λ t is. scan_spells rest t is) h.1
+  | inr h ↦ ap spelled (some_is (record { uses = []; files = w ∷ v ∷ rest }) s h.1)
+]
+  where
+    used : (o : Option Scan) → ((t : Scan) → o ≡ Some t → rest ≡ spelled t) → with_use (record { option = w; value = v }) o ≡ Some s → (w ∷ v ∷ rest) ≡ spelled s
+    used None spells e = absurd cc
+    used (Some t) spells e = ap (λ (l : List Word). w ∷ v ∷ l) (spells t refl) ∙ ap spelled (some_is (record { uses = record { option = w; value = v } ∷ t.uses; files = t.files }) s e)
+
+-- ---- merge
+
+values_differ : (a b : Word) → bytes_eq a b ≡ false → a ≢ b
+values_differ a b e same = true≢false (sym ((bytes_eq-Decides a b).1 same) ∙ e)
+
+no_match : (a b : Word) → a ≢ b → bytes_eq a b ≡ false
+no_match a b differ = by (bytes_eq a b) refl
+  where
+    by : (t : Bool) → bytes_eq a b ≡ t → bytes_eq a b ≡ false
+    by true e = absurd (differ ((bytes_eq-Decides a b).0 e))
+    by false e = e
+
+and_parts : (a b : Bool) → (a && b) ≡ true → (a ≡ true) × (b ≡ true)
+and_parts true b e = (refl, e)
+and_parts false b e = absurd cc
+
+not_true : (b : Bool) → not b ≡ true → b ≡ false
+not_true true e = absurd cc
+not_true false e = refl
+
+-- what a decision says of the call
+merge_decided : (uses : List Use) (files : List Word) (command : Command) → decide_merge uses files ≡ Some command → IsCallOf (record { command = codes "merge"; uses = uses; files = files }) command
+merge_decided [] files command e = absurd cc
+merge_decided (u ∷ []) [] command e = absurd cc
+merge_decided (u ∷ []) (input ∷ []) command e =
+    let test = guard_some (bytes_eq u.option destfile && (is_value u.value && (is_value input && not (bytes_eq u.value input)))) (Some (merge u.value input)) command e in
+    let name = and_parts (bytes_eq u.option destfile) _ test.0 in
+    let out = and_parts (is_value u.value) _ name.1 in
+    let path = and_parts (is_value input) _ out.1 in
+    let differ = values_differ u.value input (not_true (bytes_eq u.value input) path.1) in
+    let same : u.option ≡ destfile = (bytes_eq-Decides u.option destfile).0 name.0 in
+    subst (IsCallOf (record { command = codes "merge"; uses = u ∷ []; files = input ∷ [] })) (some_is (merge u.value input) command test.1)
+    (subst (λ (w : Word). IsCallOf (record { command = codes "merge"; uses = record { option = w; value = u.value } ∷ []; files = input ∷ [] }) (merge u.value input)) (sym same) (merge_one u.value input out.0 path.0 differ))
+merge_decided (u ∷ []) (input ∷ other ∷ files) command e = absurd cc
+merge_decided (u ∷ v ∷ uses) files command e = absurd cc
+
+pub decided : (words : List Word) (command : Command) → command_of words ≡ Some command → Means words command
+decided [] command e = absurd cc
+decided (name ∷ rest) command e = by (scan rest) refl e
+  where
+    by : (o : Option Scan) → scan rest ≡ o → decide_scan name o ≡ Some command → Means (name ∷ rest) command
+    by None is e = absurd cc
+    by (Some s) is e =
+        let test = guard_some (bytes_eq name (codes "merge")) (decide_merge s.uses s.files) command e in
+        let same : name ≡ codes "merge" = (bytes_eq-Decides name (codes "merge")).0 test.0 in
+        record { call = record { command = codes "merge"; uses = s.uses; files = s.files }; spelled = ap₂ (λ (n : Word) (l : List Word). n ∷ l) same (scan_spells rest s is); stated = merge_decided s.uses s.files command test.1 }
+
+plain_scan : (input : Word) → is_value input ≡ true → scan (input ∷ []) ≡ Some (record { uses = []; files = input ∷ [] })
+unfolding scan
+plain_scan [] plain = absurd cc
+plain_scan (a ∷ []) plain = refl
+plain_scan (a ∷ b ∷ more) plain = ap (λ (t : Bool). cond (t && nat_eq b 45) None (Some (record { uses = []; files = (a ∷ b ∷ more) ∷ [] }))) (not_true (nat_eq a 45) plain)
+
+merge_scan : (out input : Word) → is_value input ≡ true → scan (destfile ∷ out ∷ input ∷ []) ≡ Some (record { uses = record { option = destfile; value = out } ∷ []; files = input ∷ [] })
+unfolding scan
+merge_scan out input plain = ap (with_use (record { option = destfile; value = out })) (plain_scan input plain)
+
+found : (words : List Word) (call : Call) (command : Command) → words ≡ call_words call → IsCallOf call command → command_of words ≡ Some command
+found words call command spelled (merge_one out input some plain differ) =
+    ap command_of spelled ∙ ap (decide_scan (codes "merge")) (merge_scan out input plain) ∙ rw (some, plain, no_match out input differ) refl
+
+pub means_found : (words : List Word) (command : Command) → Means words command → command_of words ≡ Some command
+means_found words command means = found words means.call command means.spelled means.stated
+
+-- words call one command
+pub one_command : (words : List Word) (a b : Command) → Means words a → Means words b → a ≡ b
+one_command words a b p q = some_is a b (sym (means_found words a p) ∙ means_found words b q)
+
+pub no_command : (words : List Word) → command_of words ≡ None → NoForm words
+no_command words none command means = never (command_of words) none (means_found words command means)
+  where
+    never : (o : Option Command) → o ≡ None → o ≡ Some command → ⊥
+    never o e f = cc
+
+-- words call a command, or none
+pub command_or_none : (words : List Word) → ((command : Command) × Means words command) ⊎ NoForm words
+command_or_none words = by (command_of words) refl
+  where
+    by : (o : Option Command) → command_of words ≡ o → ((command : Command) × Means words command) ⊎ NoForm words
+    by (Some command) is = inl (command, decided words command is)
+    by None is = inr (no_command words is)
+
+-- ---- a scan, use by use
+
+-- uses in front of a scan
+abbrev pub behind : List Use → Option Scan → Option Scan
+behind front o = option_map {T = Scan} (λ s. record { uses = front ++ s.uses; files = s.files }) o
+
+behind_use : (front : List Use) (u : Use) (o : Option Scan) → behind front (with_use u o) ≡ behind (front ++ u ∷ []) o
+behind_use front u None = refl
+behind_use front u (Some s) = ap (λ (us : List Use). let o : Option Scan = Some (record { uses = us; files = s.files }) in o) (sym (append_assoc front (u ∷ []) s.uses))
+
+pub scan_lacks : (w : Word) → is_option w ≡ true → scan (w ∷ []) ≡ None
+unfolding scan
+scan_lacks w test = rw test refl
+
+pub scan_uses : (w v : Word) (rest : List Word) → is_option w ≡ true → scan (w ∷ v ∷ rest) ≡ with_use (record { option = w; value = v }) (scan rest)
+unfolding scan
+scan_uses w v rest test = rw test refl
+
+pub scan_files : (w : Word) (rest : List Word) → is_option w ≡ false → scan (w ∷ rest) ≡ Some (record { uses = []; files = w ∷ rest })
+unfolding scan
+scan_files w [] no_option = rw no_option refl
+scan_files w (v ∷ rest) no_option = rw no_option refl
+
+pub scan_start : (words : List Word) → scan words ≡ behind [] (scan words)
+scan_start words = by (scan words)
+  where
+    by : (o : Option Scan) → o ≡ behind [] o
+    by None = refl
+    by (Some s) = refl
+
+pub scan_on : (whole : Option Scan) (front : List Use) (u : Use) (mid rest : Option Scan) → whole ≡ behind front mid → mid ≡ with_use u rest → whole ≡ behind (front ++ u ∷ []) rest
+scan_on whole front u mid rest so_far is = so_far ∙ ap (behind front) is ∙ behind_use front u rest
+
+pub scan_ends : (whole : Option Scan) (front : List Use) (files : List Word) (mid : Option Scan) → whole ≡ behind front mid → mid ≡ Some (record { uses = []; files = files }) → Some (record { uses = front; files = files }) ≡ whole
+scan_ends whole front files mid so_far is = sym (so_far ∙ ap (behind front) is ∙ ap (λ (us : List Use). let o : Option Scan = Some (record { uses = us; files = files }) in o) (append-nil front))
+
+pub scan_stops : (whole : Option Scan) (front : List Use) (mid : Option Scan) → whole ≡ behind front mid → mid ≡ None → None ≡ whole
+scan_stops whole front mid so_far is = sym (so_far ∙ ap (behind front) is)
+
+pub no_words : (words : List (String Global)) → length words ≡ 0 → words_of words ≡ []
+no_words [] none = refl
+no_words (w ∷ words) none = absurd (omega (arith, none))
+
+pub scan_no_words : (words : List (String Global)) → length words ≡ 0 → scan (words_of words) ≡ Some (record { uses = []; files = words_of words })
+unfolding scan
+scan_no_words [] none = refl
+scan_no_words (w ∷ words) none = absurd (omega (arith, none))
+
+-- ---- the command of words that were cut
+
+pub no_name : (words : List (String Global)) → length words ≡ 0 → NoForm (words_of words)
+no_name words none = no_command (words_of words) (ap command_of (no_words words none))
+
+pub not_cut : (words : List Word) (name : Word) (rest : List Word) → words ≡ name ∷ rest → None ≡ scan rest → NoForm words
+not_cut words name rest parts none = no_command words (ap command_of parts ∙ ap (decide_scan name) (sym none))
+
+pub not_decided : (words : List Word) (name : Word) (rest : List Word) (s : Scan) → words ≡ name ∷ rest → Some s ≡ scan rest → None ≡ decide name s → NoForm words
+not_decided words name rest s parts cut none = no_command words (ap command_of parts ∙ ap (decide_scan name) (sym cut) ∙ sym none)
+
+pub is_decided : (words : List Word) (name : Word) (rest : List Word) (s : Scan) (command : Command) → words ≡ name ∷ rest → Some s ≡ scan rest → Some command ≡ decide name s → Means words command
+is_decided words name rest s command parts cut found = decided words command (ap command_of parts ∙ ap (decide_scan name) (sym cut) ∙ sym found)

@@ -1,0 +1,169 @@
+-- The work of words over told contents is one.
+use Rattle.std.proofs.Common.{◌≡◌, ◌≢◌, ◌⊎◌, inl, inr, ⊎_elim, ℕ, ◌<◌, ◌≤◌, List, [], ◌∷◌, ◌++◌, length, Option, None, Some, refl, sym, ◌∙◌, ap, ap₂, subst, arith}
+use Rattle.std.specs.FinMap.{get}
+use Rattle.jc_base.proofs.DecoderLaws.{some_is, some_none}
+use Rattle.jc_base.specs.Outside.{FileMap, IsLong, most_read}
+use Rattle.jc_exec.specs.declared.hits.ClassHits.{ClassHits}
+use Rattle.jc_exec.specs.declared.refusal.ExecRefusal.TheVariants.{LaterForm}
+use Rattle.jc_exec.specs.Plain.{IsPlain, IsFirstUnfit}
+use Rattle.jc_exec.specs.Writing.{exec_text}
+use Rattle.jc_exec.proofs.PlainLaws.{one_reading, one_place, plain_or_unfit_not_both}
+use Rattle.jc_top.specs.declared.status.Status.{Status}
+use Rattle.jc_top.specs.declared.status.Status.TheVariants as status
+use Rattle.jc_top.specs.declared.status.Fault.TheVariants as fault
+use Rattle.jc_top.specs.Words.{Word}
+use Rattle.jc_top.specs.Command.{Command, merge, inputs_of, Means, NoForm}
+use Rattle.jc_top.specs.Texts.{usage_text, cannot_read}
+use Rattle.jc_top.specs.World.{Write, to_file, to_err}
+use Rattle.jc_top.specs.Work.{Holds, CantRead, AreRead, StopsAt, Answer, Answers, merge_refused, merged, refusing, Work, IsWork, usage, unreadable, answered, WorkEnds}
+use Rattle.jc_top.proofs.CommandLaws.{one_command}
+
+-- ---- reading
+
+same_bytes : (m : FileMap) (path a b : List ℕ) → Holds m path a → Holds m path b → a ≡ b
+same_bytes m path a b p q = some_is a b (sym p.there ∙ q.there)
+
+pub same_texts : (m : FileMap) (paths : List Word) (ts us : List (List ℕ)) → AreRead m paths ts → AreRead m paths us → ts ≡ us
+same_texts m [] [] [] p q = refl
+same_texts m [] [] (u ∷ us) p q = absurd q
+same_texts m [] (t ∷ ts) us p q = absurd p
+same_texts m (path ∷ paths) [] us p q = absurd p
+same_texts m (path ∷ paths) (t ∷ ts) [] p q = absurd q
+same_texts m (path ∷ paths) (t ∷ ts) (u ∷ us) p q = ap₂ (λ (x : List ℕ) (xs : List (List ℕ)). x ∷ xs) (same_bytes m path t u p.0 q.0) (same_texts m paths ts us p.1 q.1)
+
+long_or_short : (file : Option (List ℕ)) (bytes : List ℕ) → file ≡ Some bytes → length bytes ≤ most_read → IsLong file → ⊥
+long_or_short None bytes is short long = absurd long
+long_or_short (Some found) bytes is short long = omega (arith, long, short, ap length (some_is found bytes is))
+
+-- a file that is read can be
+holds_can : (m : FileMap) (path bytes : List ℕ) → Holds m path bytes → CantRead m path → ⊥
+holds_can m path bytes holds (inl missing) = some_none (sym holds.there ∙ missing)
+holds_can m path bytes holds (inr long) = long_or_short (get m path) bytes holds.there holds.short long
+
+tail_of : {a b : Word} (xs ys : List Word) → (a ∷ xs) ≡ (b ∷ ys) → (a ≡ b) × (xs ≡ ys)
+tail_of xs ys e = (cc, cc)
+
+nil_cons : {a : Word} {xs : List Word} → [] ≡ (a ∷ xs) → ⊥
+nil_cons e = cc
+
+read_before : (m : FileMap) (front : List Word) (path : Word) (behind paths : List Word) (ts us : List (List ℕ)) → paths ≡ front ++ path ∷ behind → AreRead m front ts → AreRead m paths us → CantRead m path → ⊥
+read_before m [] path behind [] ts us parts p q cant = nil_cons parts
+read_before m [] path behind (x ∷ paths) ts [] parts p q cant = absurd q
+read_before m [] path behind (x ∷ paths) ts (u ∷ us) parts p q cant = holds_can m x u q.0 (subst (CantRead m) (sym (tail_of paths behind parts).0) cant)
+read_before m (y ∷ front) path behind [] ts us parts p q cant = nil_cons parts
+read_before m (y ∷ front) path behind (x ∷ paths) [] us parts p q cant = absurd p
+read_before m (y ∷ front) path behind (x ∷ paths) (t ∷ ts) [] parts p q cant = absurd q
+read_before m (y ∷ front) path behind (x ∷ paths) (t ∷ ts) (u ∷ us) parts p q cant = read_before m front path behind paths ts us (tail_of paths (front ++ path ∷ behind) parts).1 p.1 q.1 cant
+
+-- paths that are all read don't stop
+pub reads_or_stops : (m : FileMap) (paths front : List Word) (path : Word) (texts : List (List ℕ)) → StopsAt m paths front path → AreRead m paths texts → ⊥
+reads_or_stops m paths front path texts stop read = read_before m front path stop.behind paths stop.texts texts stop.parts stop.read read stop.cant
+
+record SameStop (front : List Word) (path : Word) (front' : List Word) (path' : Word) : Type 0 where
+  front_is : front ≡ front'
+  path_is : path ≡ path'
+
+stop_in_front : (m : FileMap) (path : Word) (front : List Word) (path' : Word) (behind behind' : List Word) (ts : List (List ℕ)) → (path ∷ behind) ≡ front ++ path' ∷ behind' → CantRead m path → AreRead m front ts → (front ≡ []) × (path ≡ path')
+stop_in_front m path [] path' behind behind' ts parts cant read = (refl, (tail_of behind behind' parts).0)
+stop_in_front m path (x ∷ front) path' behind behind' [] parts cant read = absurd read
+stop_in_front m path (x ∷ front) path' behind behind' (t ∷ ts) parts cant read = absurd (holds_can m x t read.0 (subst (CantRead m) (tail_of behind (front ++ path' ∷ behind') parts).0 cant))
+
+same_stop : (m : FileMap) (front front' : List Word) (path path' : Word) (behind behind' : List Word) (ts us : List (List ℕ)) → front ++ path ∷ behind ≡ front' ++ path' ∷ behind' → AreRead m front ts → AreRead m front' us → CantRead m path → CantRead m path' → SameStop front path front' path'
+same_stop m [] front' path path' behind behind' ts us parts p q cant cant' = let s = stop_in_front m path front' path' behind behind' us parts cant q in record { front_is = sym s.0; path_is = s.1 }
+same_stop m (x ∷ front) [] path path' behind behind' ts us parts p q cant cant' = let s = stop_in_front m path' (x ∷ front) path behind' behind ts (sym parts) cant' p in record { front_is = s.0; path_is = sym s.1 }
+same_stop m (x ∷ front) (y ∷ front') path path' behind behind' [] us parts p q cant cant' = absurd p
+same_stop m (x ∷ front) (y ∷ front') path path' behind behind' (t ∷ ts) [] parts p q cant cant' = absurd q
+same_stop m (x ∷ front) (y ∷ front') path path' behind behind' (t ∷ ts) (u ∷ us) parts p q cant cant' =
+    let tails = tail_of (front ++ path ∷ behind) (front' ++ path' ∷ behind') parts in
+    let s = same_stop m front front' path path' behind behind' ts us tails.1 p.1 q.1 cant cant' in
+    record { front_is = ap₂ (λ (z : Word) (zs : List Word). z ∷ zs) tails.0 s.front_is; path_is = s.path_is }
+
+one_stop : (m : FileMap) (paths front front' : List Word) (path path' : Word) → StopsAt m paths front path → StopsAt m paths front' path' → SameStop front path front' path'
+one_stop m paths front front' path path' a b = same_stop m front front' path path' a.behind b.behind a.texts b.texts (sym a.parts ∙ b.parts) a.read b.read a.cant b.cant
+
+-- ---- answers
+
+abbrev MergeAnswer : List ℕ → List ℕ → List ℕ → Answer → Type 0
+MergeAnswer out input bytes answer =
+    ((place : ℕ) × IsFirstUnfit [] bytes place × (answer ≡ refusing input (fault.Exec 0 (LaterForm place))))
+    ⊎ ((classes : List ClassHits) × IsPlain [] bytes classes × (answer ≡ record { writes = to_file out (exec_text (record { sessions = []; classes = classes })) ∷ []; status = status.Done }))
+
+-- an answer, by the command and the texts
+abbrev AnswerOf : Command → List (List ℕ) → Answer → Type 0
+AnswerOf (merge out input) [] answer = ⊥
+AnswerOf (merge out input) (bytes ∷ []) answer = MergeAnswer out input bytes answer
+AnswerOf (merge out input) (bytes ∷ other ∷ texts) answer = ⊥
+
+answer_of : (command : Command) (texts : List (List ℕ)) (answer : Answer) → Answers command texts answer → AnswerOf command texts answer
+answer_of command texts answer (merge_refused {place = place} unfit) = inl (place, unfit, refl)
+answer_of command texts answer (merged {classes = classes} plain) = inr (classes, plain, refl)
+
+one_merge : (out input bytes : List ℕ) (a b : Answer) → MergeAnswer out input bytes a → MergeAnswer out input bytes b → a ≡ b
+one_merge out input bytes a b (inl p) (inl q) = p.2 ∙ ap (λ (place : ℕ). refusing input (fault.Exec 0 (LaterForm place))) (one_place [] bytes p.0 q.0 p.1 q.1) ∙ sym q.2
+one_merge out input bytes a b (inl p) (inr q) = absurd (plain_or_unfit_not_both [] bytes q.0 p.0 q.1 p.1)
+one_merge out input bytes a b (inr p) (inl q) = absurd (plain_or_unfit_not_both [] bytes p.0 q.0 p.1 q.1)
+one_merge out input bytes a b (inr p) (inr q) =
+    p.2 ∙ ap (λ (classes : List ClassHits). let answer : Answer = record { writes = to_file out (exec_text (record { sessions = []; classes = classes })) ∷ []; status = status.Done } in answer) (one_reading [] bytes p.0 q.0 p.1 q.1) ∙ sym q.2
+
+one_answer_of : (command : Command) (texts : List (List ℕ)) (a b : Answer) → AnswerOf command texts a → AnswerOf command texts b → a ≡ b
+one_answer_of (merge out input) [] a b p q = absurd p
+one_answer_of (merge out input) (bytes ∷ []) a b p q = one_merge out input bytes a b p q
+one_answer_of (merge out input) (bytes ∷ other ∷ texts) a b p q = absurd p
+
+pub one_answer : (command : Command) (texts : List (List ℕ)) (a b : Answer) → Answers command texts a → Answers command texts b → a ≡ b
+one_answer command texts a b p q = one_answer_of command texts a b (answer_of command texts a p) (answer_of command texts b q)
+
+-- ---- one work
+
+abbrev usage_work : Work
+usage_work = record { reads = []; writes = to_err usage_text ∷ []; status = status.Usage }
+
+abbrev unreadable_work : List Word → Word → Work
+unreadable_work front path = record { reads = front ++ path ∷ []; writes = to_err (cannot_read path) ∷ []; status = status.ReadFault }
+
+abbrev answered_work : Command → Answer → Work
+answered_work command answer = record { reads = inputs_of command; writes = answer.writes; status = answer.status }
+
+-- a work, by what decided it
+data WorkOf (words : List Word) (m : FileMap) (work : Work) : Type 0 where
+  by_usage : NoForm words → work ≡ usage_work → WorkOf words m work
+  by_stop : (command : Command) (front : List Word) (path : Word) → Means words command → StopsAt m (inputs_of command) front path → work ≡ unreadable_work front path → WorkOf words m work
+  by_answer : (command : Command) (texts : List (List ℕ)) (answer : Answer) → Means words command → AreRead m (inputs_of command) texts → Answers command texts answer → work ≡ answered_work command answer → WorkOf words m work
+
+work_of : (words : List Word) (m : FileMap) (work : Work) → IsWork words m work → WorkOf words m work
+work_of words m work (usage none) = by_usage none refl
+work_of words m work (unreadable {command} {front} {path} means stop) = by_stop command front path means stop refl
+work_of words m work (answered {command} {texts} {answer} means read answers) = by_answer command texts answer means read answers refl
+
+module _ (words : List Word) (m : FileMap) where
+  same_stop_work : (c d : Command) (front front' : List Word) (path path' : Word) → c ≡ d → StopsAt m (inputs_of c) front path → StopsAt m (inputs_of d) front' path' → unreadable_work front path ≡ unreadable_work front' path'
+  same_stop_work c d front front' path path' same p q =
+      let s = one_stop m (inputs_of d) front front' path path' (subst (λ (k : Command). StopsAt m (inputs_of k) front path) same p) q in
+      ap₂ unreadable_work s.front_is s.path_is
+
+  same_answer_work : (c d : Command) (ts us : List (List ℕ)) (a b : Answer) → c ≡ d → AreRead m (inputs_of c) ts → AreRead m (inputs_of d) us → Answers c ts a → Answers d us b → answered_work c a ≡ answered_work d b
+  same_answer_work c d ts us a b same p q x y =
+      let texts : ts ≡ us = same_texts m (inputs_of d) ts us (subst (λ (k : Command). AreRead m (inputs_of k) ts) same p) q in
+      let x' = subst (λ (k : Command). Answers k us a) same (subst (λ (l : List (List ℕ)). Answers c l a) texts x) in
+      ap₂ answered_work same (one_answer d us a b x' y)
+
+  stop_or_answer : (c d : Command) (front : List Word) (path : Word) (us : List (List ℕ)) → c ≡ d → StopsAt m (inputs_of c) front path → AreRead m (inputs_of d) us → ⊥
+  stop_or_answer c d front path us same p q = reads_or_stops m (inputs_of d) front path us (subst (λ (k : Command). StopsAt m (inputs_of k) front path) same p) q
+
+  one_work_of : (v w : Work) → WorkOf words m v → WorkOf words m w → v ≡ w
+  one_work_of v w (by_usage p e) (by_usage q f) = e ∙ sym f
+  one_work_of v w (by_usage p e) (by_stop d front path means q f) = absurd (p d means)
+  one_work_of v w (by_usage p e) (by_answer d us b means q y f) = absurd (p d means)
+  one_work_of v w (by_stop c front path means p e) (by_usage q f) = absurd (q c means)
+  one_work_of v w (by_stop c front path means p e) (by_stop d front' path' means' q f) = e ∙ same_stop_work c d front front' path path' (one_command words c d means means') p q ∙ sym f
+  one_work_of v w (by_stop c front path means p e) (by_answer d us b means' q y f) = absurd (stop_or_answer c d front path us (one_command words c d means means') p q)
+  one_work_of v w (by_answer c ts a means p x e) (by_usage q f) = absurd (q c means)
+  one_work_of v w (by_answer c ts a means p x e) (by_stop d front path means' q f) = absurd (stop_or_answer d c front path ts (one_command words d c means' means) q p)
+  one_work_of v w (by_answer c ts a means p x e) (by_answer d us b means' q y f) = e ∙ same_answer_work c d ts us a b (one_command words c d means means') p q x y ∙ sym f
+
+  pub one_work : (v w : Work) → IsWork words m v → IsWork words m w → v ≡ w
+  one_work v w p q = one_work_of v w (work_of words m v p) (work_of words m w q)
+
+  -- the work ends in one way
+  pub one_ending : (s t : Status) → WorkEnds words m s → WorkEnds words m t → s ≡ t
+  one_ending s t p q = sym p.2 ∙ ap (λ (w : Work). w.status) (one_work p.0 q.0 p.1 q.1) ∙ q.2
