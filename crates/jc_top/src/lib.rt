@@ -14,3 +14,6 @@ mod words;
 pub use run::{each_command_has_one_work, run_tool};
 pub use status::{Fault, Status};
 
+
+#[cfg(test)]
+mod tests;

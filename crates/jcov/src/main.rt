@@ -1,0 +1,46 @@
+//! The program `jcov`: the words behind its name call a command of the top call, over the files and
+//! the two texts of the machine.
+#![tactic(auto)]
+
+use jc_base::{HostFiles, HostSink};
+use jc_top::{Status, run_tool};
+use std::alloc::AllocError;
+use std::process::ExitCode;
+use std::{env, rt};
+
+/// The words behind the program's name. Words that are no text are none at all.
+fn words(rt: &(impl rt::Env + AllocGlobal)) -> Result<Vec<String>, AllocError> {
+    let mut words = Vec::new(rt.alloc());
+    if let Ok(args) = env::args(rt) {
+        for word in args.skip(1) {
+            words.push(word)?;
+        }
+    }
+    Ok(words)
+}
+
+/// The exit status: 0 to 5, in the order of the variants.
+fn exit_status(status: Status) -> u8 {
+    match status {
+        Status::Done => 0,
+        Status::Refused(_) => 1,
+        Status::Usage => 2,
+        Status::ReadFault => 3,
+        Status::WriteFault => 4,
+        Status::Memory => 5,
+    }
+}
+
+fn main(rt: HostRuntime) -> ExitCode {
+    let status = match words(&rt) {
+        Ok(words) => run_tool(
+            rt.alloc(),
+            &words,
+            &mut HostFiles::new(&rt),
+            &mut HostSink::new(rt.stdout()),
+            &mut HostSink::new(rt.stderr()),
+        ),
+        Err(_) => Status::Memory,
+    };
+    ExitCode::from(exit_status(status))
+}
