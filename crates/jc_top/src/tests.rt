@@ -109,6 +109,7 @@ fn other_words_are_usage(rt: HostRuntime) -> Result<(), Fail> {
 }
 
 // A run whose calls of the files or messages fail, what it answers and says, and what `o` holds then.
+#[derive(Clone, Copy)]
 struct Row<'a> {
     input: &'a str,
     files_fail: &'a [u32],
