@@ -1,0 +1,30 @@
+-- What a store of execution data holds.
+use Rattle.std.specs.Prelude.{◌≡◌, ◌<◌, ◌≢◌, ◌^◌, ⊤, ℕ, List, [], ◌∷◌, length, map}
+use Rattle.jc_base.specs.Modified.{IsModified}
+use Rattle.jc_exec.specs.declared.hits.ClassHits.{ClassHits}
+use Rattle.jc_exec.specs.declared.session.Session.{Session}
+
+-- the sessions, and the records in the order in which their ids were first seen
+pub record Store : Type 0 where
+  pub sessions : List Session
+  pub classes : List ClassHits
+
+-- the record's numbers fit the format
+pub record IsSmall (c : ClassHits) : Type 0 where
+  pub id : c.id < 2 ^ 64
+  pub name : length c.name < 65536
+  pub bits : length c.bits < 65536
+
+-- no record has the id
+abbrev pub IsNew : ℕ → List ClassHits → Type 0
+IsNew id [] = ⊤
+IsNew id (c ∷ cs) = (id ≢ c.id) × IsNew id cs
+
+-- ---- the records as the store keeps them, each under its id
+
+abbrev pub classes_of : List (ℕ × ClassHits) → List ClassHits
+classes_of entries = map (λ e. e.1) entries
+
+abbrev pub Keyed : List (ℕ × ClassHits) → Type 0
+Keyed [] = ⊤
+Keyed (e ∷ es) = (e.0 ≡ e.1.id) × IsSmall e.1 × IsModified e.1.name × IsNew e.1.id (classes_of es) × Keyed es

@@ -1,0 +1,12 @@
+use jc_base::Bytes;
+
+/// A run of a program whose execution data was dumped.
+#[derive(Debug, Drop)]
+pub struct Session {
+    /// The name of the run, in modified UTF-8.
+    pub id: Bytes,
+    /// When the run began, in milliseconds since 1970.
+    pub start: i64,
+    /// When its data was dumped, in milliseconds since 1970.
+    pub dump: i64,
+}

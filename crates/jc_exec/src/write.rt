@@ -1,0 +1,117 @@
+//! Execution data as bytes.
+ghost use Rattle.std.specs.Prelude.{◌≡◌, ◌+◌, ◌*◌, ◌/◌, ◌<◌, ◌≤◌, ◌^◌, ◌++◌, ◌∷◌, [], ℕ, length, OnOk, IfOk, All};
+ghost use Rattle.std.specs.List.{list_any};
+ghost use Rattle.jc_exec.specs.Store.{IsSmall};
+ghost use Rattle.jc_exec.specs.Writing.{low_first, packed, id_text, size_text, shortest, count_text, class_text, exec_text};
+
+use crate::ClassHits;
+use crate::block::{CLASS, HEADER};
+use std::alloc::{AllocError, Global};
+
+/// The number whose bits these are, the lowest first.
+fn number_of(bits: &[bool]) -> u8
+    requires { length bits.now ≤ 8 }
+    ensures value { result ≡ low_first bits.now }
+    ensures bound { result < 2 ^ length bits.now }
+{
+    match bits {
+        [] => 0,
+        [first, rest @ ..] => u8::from(*first) + 2 * number_of(rest),
+    }
+}
+
+/// The byte that has the bits, the lowest first.
+fn byte_of(bits: &[bool]) -> u8
+    requires { length bits.now ≤ 8 }
+    ensures { result ≡ low_first bits.now }
+{
+    match bits {
+        [a, b, c, d, e, f, g, h] => {
+            let high = u8::from(*e) + 2 * (u8::from(*f) + 2 * (u8::from(*g) + 2 * u8::from(*h)));
+            u8::from(*a) + 2 * (u8::from(*b) + 2 * (u8::from(*c) + 2 * (u8::from(*d) + 2 * high)))
+        }
+        _ => number_of(bits),
+    }
+}
+
+/// Eight bits a byte, the last byte padded with 0.
+fn put_bits(out: &mut Vec<u8>, bits: &[bool]) -> Result<(), AllocError>
+    ensures { OnOk result (out.new.items ≡ out.old.items ++ packed bits.now) }
+{
+    let mut rest = bits;
+    'packing: while !rest.is_empty() {
+        let (eight, after) = rest.split_at(rest.len().min(8));
+        out.push(byte_of(eight))?;
+        rest = after;
+    }
+    Ok(())
+}
+
+#[tactic(auto, unfolding(crate::specs::Writing::id_text))]
+fn put_id(out: &mut Vec<u8>, id: u64) -> Result<(), AllocError>
+    ensures { OnOk result (out.new.items ≡ out.old.items ++ id_text id) }
+{
+    out.extend_from_slice(&id.to_be_bytes())
+}
+
+#[tactic(auto, unfolding(crate::specs::Writing::size_text))]
+fn put_size(out: &mut Vec<u8>, size: u16) -> Result<(), AllocError>
+    ensures { OnOk result (out.new.items ≡ out.old.items ++ size_text size) }
+{
+    out.extend_from_slice(&size.to_be_bytes())
+}
+
+/// A count in its shortest spelling.
+fn put_shortest(out: &mut Vec<u8>, count: u32) -> Result<(), AllocError>
+    ensures { OnOk result ((k : ℕ) → count < 128 ^ (k + 1) → out.new.items ≡ out.old.items ++ shortest k count) }
+{
+    if count < 0x80 {
+        out.push(count as u8)?;
+        return Ok(());
+    }
+    out.push((count % 0x80 + 0x80) as u8)?;
+    put_shortest(out, count / 0x80)
+}
+
+#[tactic(auto, unfolding(crate::specs::Writing::count_text))]
+fn put_count(out: &mut Vec<u8>, count: u32) -> Result<(), AllocError>
+    requires { count < 65536 }
+    ensures { OnOk result (out.new.items ≡ out.old.items ++ count_text count) }
+{
+    put_shortest(out, count)
+}
+
+/// The block of a record.
+fn put_class(out: &mut Vec<u8>, hits: &ClassHits) -> Result<(), AllocError>
+    requires { IsSmall hits.now }
+    ensures { OnOk result (out.new.items ≡ out.old.items ++ class_text hits.now) }
+{
+    out.push(CLASS)?;
+    put_id(out, hits.id)?;
+    put_size(out, hits.name.len() as u16)?;
+    out.extend_from_slice(&hits.name)?;
+    put_count(out, hits.bits.len() as u32)?;
+    put_bits(out, &hits.bits)?;
+    Ok(())
+}
+
+/// One header, and the records that have a hit.
+pub fn exec_data(alloc: Global, classes: &[ClassHits]) -> Result<Vec<u8>, AllocError>
+    requires { All IsSmall classes.now }
+    ensures { IfOk result (λ text. text.items ≡ exec_text (record { sessions = []; classes = classes.now })) }
+{
+    let mut out = Vec::from_slice(alloc, &HEADER)?;
+    'writing: for hits in classes {
+        if is_hit(&hits.bits) {
+            put_class(&mut out, hits)?;
+        }
+    }
+    Ok(out)
+}
+
+/// Whether a probe was hit.
+fn is_hit(bits: &[bool]) -> bool
+    ensures { result ≡ list_any (λ b. b) bits.now }
+{
+    bits.iter().any(|bit| *bit)
+}
