@@ -1,0 +1,23 @@
+//! Laws over the definitions of execution data. These functions have no code.
+ghost use Rattle.std.specs.Prelude.{◌≡◌, ℕ, [], List, Some};
+ghost use Rattle.jc_exec.specs.declared.hits.ClassHits.{ClassHits};
+ghost use Rattle.jc_exec.specs.Format.{Block, Blocks};
+ghost use Rattle.jc_exec.specs.Store.{Store};
+ghost use Rattle.jc_exec.specs.Plain.{HasOneReading};
+ghost use Rattle.jc_exec.specs.Union.{IsUnion, union_of};
+
+/// A text is a plain file over some records in one way at most, or the first block that doesn't
+/// fit stands at one offset; never both.
+pub fn one_reading_of_each_text()
+    ensures { (before : List ClassHits) (text : List ℕ) → HasOneReading before text }
+{}
+
+/// A list of blocks has one union at most.
+pub fn one_union_of_each_list()
+    ensures { (blocks : List Block) (s t : Store) → IsUnion blocks s → IsUnion blocks t → s ≡ t }
+{}
+
+/// Records that are merged one after the other make the union.
+pub fn union_record_by_record()
+    ensures { (blocks : List Block) (s : Store) → union_of (record { sessions = []; classes = [] }) blocks ≡ Some s → IsUnion blocks s }
+{}
