@@ -231,7 +231,7 @@ same_bits (x ∷ xs) (y ∷ ys) long same =
     let tail = same_bits xs ys (omega (arith, long)) (λ k lt. same (suc k) (omega (arith, lt))) in
     λ i. head i ∷ tail i
 
-abbrev HasRecord : List ClassHits → ℕ → Type 0
+abbrev pub HasRecord : List ClassHits → ℕ → Type 0
 HasRecord rs id = (r : ClassHits) × Contains rs r × (r.id ≡ id)
 
 same_record : (rs : List ClassHits) (c d : ClassHits) → c.id ≡ d.id → HasRecord rs c.id → IsMerged rs c → IsMerged rs d → c ≡ d
@@ -246,7 +246,7 @@ same_record rs c d id there a b =
     )) in
     λ i. record { id = id i; name = name i; bits = bits i }
 
-same_records : (rs cs ds : List ClassHits) → ids_of cs ≡ ids_of ds → AllByRecursion (HasRecord rs) (ids_of cs) → AllByRecursion (IsMerged rs) cs → AllByRecursion (IsMerged rs) ds → cs ≡ ds
+pub same_records : (rs cs ds : List ClassHits) → ids_of cs ≡ ids_of ds → AllByRecursion (HasRecord rs) (ids_of cs) → AllByRecursion (IsMerged rs) cs → AllByRecursion (IsMerged rs) ds → cs ≡ ds
 same_records rs [] [] ids there a b = refl
 same_records rs [] (d ∷ ds) ids there a b = absurd (omega (arith, ap length ids))
 same_records rs (c ∷ cs) [] ids there a b = absurd (omega (arith, ap length ids))

@@ -18,4 +18,6 @@ pub use session::Session;
 pub use store::ExecStore;
 
 #[cfg(test)]
+mod plain;
+#[cfg(test)]
 mod tests;
