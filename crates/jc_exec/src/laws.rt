@@ -12,6 +12,11 @@ pub fn one_reading_of_each_text()
     ensures { (before : List ClassHits) (text : List ℕ) → HasOneReading before text }
 {}
 
+/// A text is execution data of one list of blocks at most.
+pub fn one_list_of_each_text()
+    ensures { (text : List ℕ) (a b : List Block) → Blocks text a → Blocks text b → a ≡ b }
+{}
+
 /// A list of blocks has one union at most.
 pub fn one_union_of_each_list()
     ensures { (blocks : List Block) (s t : Store) → IsUnion blocks s → IsUnion blocks t → s ≡ t }

@@ -18,7 +18,7 @@ fn is_hit_in(records: &[ClassHits], id: u64, place: usize) -> bool
 {
     records
         .iter()
-        .any(|record| record.id == id && bit_at(&record.bits, place))
+        .any(|hits| hits.id == id && bit_at(&hits.bits, place))
 }
 
 /// The bit at the place, false behind the last.
@@ -76,22 +76,22 @@ fn put_head(out: &mut Vec<u8>, id: u64, size: u16) -> Result<(), AllocError>
     out.extend_from_slice(&size.to_be_bytes())
 }
 
-fn put_record(out: &mut Vec<u8>, record: &ClassHits) -> Result<(), AllocError>
-    requires { IsSmall record.now }
-    ensures { OnOk result (out.new.items ≡ out.old.items ++ class_text record.now) }
+fn put_record(out: &mut Vec<u8>, hits: &ClassHits) -> Result<(), AllocError>
+    requires { IsSmall hits.now }
+    ensures { OnOk result (out.new.items ≡ out.old.items ++ class_text hits.now) }
 {
-    put_head(out, record.id, record.name.len() as u16)?;
-    out.extend_from_slice(&record.name)?;
-    put_count(out, record.bits.len() as u32)?;
-    put_bits(out, &record.bits)
+    put_head(out, hits.id, hits.name.len() as u16)?;
+    out.extend_from_slice(&hits.name)?;
+    put_count(out, hits.bits.len() as u32)?;
+    put_bits(out, &hits.bits)
 }
 
 /// Whether the record can be written.
-fn is_small(record: &ClassHits) -> bool
-    ensures { IsTrue result → IsSmall record.now }
+fn is_small(hits: &ClassHits) -> bool
+    ensures { IsTrue result → IsSmall hits.now }
 {
-    let _id = record.id;
-    record.name.len() < 65536 && record.bits.len() < 65536
+    let _id = hits.id;
+    hits.name.len() < 65536 && hits.bits.len() < 65536
 }
 
 /// Whether some bit is set.
@@ -106,12 +106,12 @@ pub fn text(alloc: Global, records: &[ClassHits]) -> Result<Option<Vec<u8>>, All
     ensures { IfOk result (λ found. IfSome found (λ text. text.items ≡ exec_text (record { sessions = []; classes = records.now }))) }
 {
     let mut out = Vec::from_slice(alloc, &[0x01, 0xc0, 0xc0, 0x10, 0x07])?;
-    'writing: for record in records {
-        if !is_small(record) {
+    'writing: for hits in records {
+        if !is_small(hits) {
             return Ok(None);
         }
-        if is_hit(&record.bits) {
-            put_record(&mut out, record)?;
+        if is_hit(&hits.bits) {
+            put_record(&mut out, hits)?;
         }
     }
     Ok(Some(out))
@@ -121,7 +121,7 @@ pub fn text(alloc: Global, records: &[ClassHits]) -> Result<Option<Vec<u8>>, All
 fn has_id(records: &[ClassHits], id: u64) -> bool
     ensures { result ≡ list_any (λ r. nat_eq r.id id) records.now }
 {
-    records.iter().any(|record| record.id == id)
+    records.iter().any(|hits| hits.id == id)
 }
 
 /// The bits that some record of the id has, looked for one by one.
@@ -141,12 +141,12 @@ fn union_bits(
 }
 
 /// A record with the bits of all records of its id.
-fn merged(alloc: Global, records: &[ClassHits], record: &ClassHits) -> Result<ClassHits, AllocError>
-    ensures { IfOk result (λ c. c ≡ merged_record records.now record.now) }
+fn merged(alloc: Global, records: &[ClassHits], hits: &ClassHits) -> Result<ClassHits, AllocError>
+    ensures { IfOk result (λ c. c ≡ merged_record records.now hits.now) }
 {
-    let id = record.id;
-    let name = Bytes::copy_of(alloc, &record.name)?;
-    let bits = union_bits(alloc, records, id, record.bits.len())?;
+    let id = hits.id;
+    let name = Bytes::copy_of(alloc, &hits.name)?;
+    let bits = union_bits(alloc, records, id, hits.bits.len())?;
     Ok(ClassHits { id, name, bits })
 }
 
@@ -155,9 +155,9 @@ pub fn union(alloc: Global, records: &[ClassHits]) -> Result<Vec<ClassHits>, All
     ensures { IfOk result (λ v. (s : Store) → IsUnion (map class records.now) s → v.items ≡ s.classes) }
 {
     let mut out = Vec::new(alloc);
-    'merging: for (i, record) in records.iter().enumerate() {
-        if !has_id(&records[..i], record.id) {
-            out.push(merged(alloc, records, record)?)?;
+    'merging: for (i, hits) in records.iter().enumerate() {
+        if !has_id(&records[..i], hits.id) {
+            out.push(merged(alloc, records, hits)?)?;
         }
     }
     Ok(out)

@@ -4,4 +4,4 @@ use Rattle.jc_exec.proofs.plain.text.Given as goal
 
 -- the records so far
 abbrev pub invariant-writing : goal.invariant-writing
-invariant-writing l = l.out.items ≡ exec_text (record { sessions = []; classes = take l.record-index l.records })
+invariant-writing l = l.out.items ≡ exec_text (record { sessions = []; classes = take l.hits-index l.records })
