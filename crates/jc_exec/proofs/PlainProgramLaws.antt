@@ -12,7 +12,7 @@ use Rattle.jc_exec.specs.SlowUnion.{some_hit, all_hits, merged_record}
 use Rattle.jc_exec.specs.Store.{Store}
 use Rattle.jc_exec.specs.Union.{records_of, ids_of, first_seen, IsHitAt, SomeIsHitAt, IsMerged, IsUnion}
 use Rattle.jc_exec.specs.Writing.{low_first, pack}
-use Rattle.jc_exec.proofs.UnionLaws.{among, among_first_seen, all_push, all_map, same_records, seen_has_record, first_seen-append, or_false, HasRecord}
+use Rattle.jc_exec.proofs.UnionLaws.{among, among_first_seen, all_push, all_map, same_records, seen_has_record, first_seen-append, or_later, in_union, among_there, HasRecord}
 
 -- ---- bytes
 
@@ -103,10 +103,6 @@ some_hit_found (r ∷ rs) id k e = by (nat_eq r.id id && get_or r.bits k false) 
     by true is e rest = let both = and_true (nat_eq r.id id) (get_or r.bits k false) is in (r, (0, omega arith, refl), eqb-true r.id id both.0, both.1)
     by false is e rest = let some = rest e in (some.0, (suc some.1.0, omega (arith, some.1.1), some.1.2), some.2, some.3)
 
-or_later : (a b : Bool) → b ≡ true → (a || b) ≡ true
-or_later true b e = refl
-or_later false b e = e
-
 found_at : (rs : List ClassHits) (id k : ℕ) (r : ClassHits) (j : ℕ) → j < length rs → get_or rs j r ≡ r → r.id ≡ id → IsHitAt r k → some_hit rs id k ≡ true
 found_at [] id k r j lt is same hit = absurd (omega (arith, lt))
 found_at (x ∷ rs) id k r zero lt is same hit =
@@ -165,20 +161,6 @@ made_known rs out i r m lt is some = record {
   ids = m.ids ∙ sym (append-nil (first_seen (ids_of (take i rs)))) ∙ sym (ids_next rs i r lt is ∙ ap (λ (b : Bool). first_seen (ids_of (take i rs)) ++ cond b [] (r.id ∷ [])) some);
   all = m.all;
 }
-
--- a record of the id is in the union
-in_union : (rs cs : List ClassHits) (id : ℕ) → among id (ids_of cs) ≡ true → AllByRecursion (IsMerged rs) cs → (d : ClassHits) × IsMerged rs d × (d.id ≡ id)
-in_union rs [] id some a = absurd cc
-in_union rs (c ∷ cs) id some a = by (nat_eq c.id id) refl some (λ later. in_union rs cs id later a.1)
-  where
-    by : (b : Bool) → nat_eq c.id id ≡ b → (b || among id (ids_of cs)) ≡ true → (among id (ids_of cs) ≡ true → (d : ClassHits) × IsMerged rs d × (d.id ≡ id)) → (d : ClassHits) × IsMerged rs d × (d.id ≡ id)
-    by true is some rest = (c, a.0, eqb-true c.id id is)
-    by false is some rest = rest some
-
-among_there : (rs : List ClassHits) (r : ClassHits) (k : ℕ) → k < length rs → get_or rs k r ≡ r → among r.id (ids_of rs) ≡ true
-among_there [] r k lt is = absurd (omega (arith, lt))
-among_there (x ∷ rs) r zero lt is = rw (eq-eqb x.id r.id (ap (λ (y : ClassHits). y.id) is)) refl
-among_there (x ∷ rs) r (suc k) lt is = or_later (nat_eq x.id r.id) (among r.id (ids_of rs)) (among_there rs r k (omega (arith, lt)) is)
 
 came_merged : (rs : List ClassHits) (s : Store) → IsUnion (map class rs) s → (c : ClassHits) → Came rs c → IsMerged rs c
 came_merged rs s u c came =

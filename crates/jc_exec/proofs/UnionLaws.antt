@@ -274,3 +274,23 @@ one_union bs s t u v =
     let there : AllByRecursion (HasRecord rs) (ids_of s.classes) = subst (AllByRecursion (HasRecord rs)) (sym u.ids) (seen_has_record rs) in
     let classes : s.classes ≡ t.classes = same_records rs s.classes t.classes (u.ids ∙ sym v.ids) there u.merged v.merged in
     λ i. record { sessions = sessions i; classes = classes i }
+
+-- ---- ids that are there
+
+pub or_later : (a b : Bool) → b ≡ true → (a || b) ≡ true
+or_later true b e = refl
+or_later false b e = e
+
+-- a record of the id is in the union
+pub in_union : (rs cs : List ClassHits) (id : ℕ) → among id (ids_of cs) ≡ true → AllByRecursion (IsMerged rs) cs → (d : ClassHits) × IsMerged rs d × (d.id ≡ id)
+in_union rs [] id some a = absurd cc
+in_union rs (c ∷ cs) id some a = by (nat_eq c.id id) refl some (λ later. in_union rs cs id later a.1)
+  where
+    by : (b : Bool) → nat_eq c.id id ≡ b → (b || among id (ids_of cs)) ≡ true → (among id (ids_of cs) ≡ true → (d : ClassHits) × IsMerged rs d × (d.id ≡ id)) → (d : ClassHits) × IsMerged rs d × (d.id ≡ id)
+    by true is some rest = (c, a.0, eqb-true c.id id is)
+    by false is some rest = rest some
+
+pub among_there : (rs : List ClassHits) (r : ClassHits) (k : ℕ) → k < length rs → get_or rs k r ≡ r → among r.id (ids_of rs) ≡ true
+among_there [] r k lt is = absurd (omega (arith, lt))
+among_there (x ∷ rs) r zero lt is = rw (eq-eqb x.id r.id (ap (λ (y : ClassHits). y.id) is)) refl
+among_there (x ∷ rs) r (suc k) lt is = or_later (nat_eq x.id r.id) (among r.id (ids_of rs)) (among_there rs r k (omega (arith, lt)) is)

@@ -1,5 +1,5 @@
 //! Laws over the definitions of execution data. These functions have no code.
-ghost use Rattle.std.specs.Prelude.{◌≡◌, ℕ, [], List, Some};
+ghost use Rattle.std.specs.Prelude.{◌≡◌, ◌↔◌, ℕ, [], List, Some};
 ghost use Rattle.jc_exec.specs.declared.hits.ClassHits.{ClassHits};
 ghost use Rattle.jc_exec.specs.Format.{Block, Blocks};
 ghost use Rattle.jc_exec.specs.Store.{Store};
@@ -22,7 +22,9 @@ pub fn one_union_of_each_list()
     ensures { (blocks : List Block) (s t : Store) → IsUnion blocks s → IsUnion blocks t → s ≡ t }
 {}
 
-/// Records that are merged one after the other make the union.
-pub fn union_record_by_record()
-    ensures { (blocks : List Block) (s : Store) → union_of (record { sessions = []; classes = [] }) blocks ≡ Some s → IsUnion blocks s }
+/// Blocks put into an empty store one after the other, each record merged into the one of its id,
+/// make the union, exactly where there is one.
+pub fn union_block_by_block()
+    ensures { (blocks : List Block) (s : Store)
+        → (union_of (record { sessions = []; classes = [] }) blocks ≡ Some s) ↔ IsUnion blocks s }
 {}
