@@ -1,10 +1,12 @@
 //! Laws over the definitions of execution data. These functions have no code.
 ghost use Rattle.std.specs.Prelude.{◌≡◌, ◌↔◌, ℕ, [], List, Some};
 ghost use Rattle.jc_exec.specs.declared.hits.ClassHits.{ClassHits};
+ghost use Rattle.jc_exec.specs.declared.session.Session.{Session};
 ghost use Rattle.jc_exec.specs.Format.{Block, Blocks};
 ghost use Rattle.jc_exec.specs.Store.{Store};
 ghost use Rattle.jc_exec.specs.Plain.{HasOneReading};
 ghost use Rattle.jc_exec.specs.Union.{IsUnion, union_of};
+ghost use Rattle.jc_exec.specs.Writing.{by_dump, IsByDump};
 
 /// A text is a plain file over some records in one way at most, or the first block that doesn't
 /// fit stands at one offset; never both.
@@ -27,4 +29,9 @@ pub fn one_union_of_each_list()
 pub fn union_block_by_block()
     ensures { (blocks : List Block) (s : Store)
         → (union_of (record { sessions = []; classes = [] }) blocks ≡ Some s) ↔ IsUnion blocks s }
+{}
+
+/// Sessions are written by the time of their dump, and those of one time stay in their order.
+pub fn sessions_by_dump()
+    ensures { (sessions : List Session) → IsByDump sessions (by_dump sessions) }
 {}
