@@ -1,5 +1,5 @@
 -- The slow program that tests compare the store with.
-use Rattle.std.proofs.Common.{◌≡◌, ◌≢◌, ◌↔◌, ◌⊎◌, inl, inr, ℕ, zero, suc, ◌+◌, ◌*◌, ◌<◌, ◌≤◌, Bool, true, false, cond, ◌&&◌, ◌||◌, List, [], ◌∷◌, ◌++◌, length, map, take, drop, Contains, nat_eq, get_or, refl, sym, ◌∙◌, ap, subst, arith, add-zero, append_assoc, drop-cons}
+use Rattle.std.proofs.Common.{◌≡◌, ◌↔◌, ℕ, zero, suc, ◌+◌, ◌*◌, ◌<◌, ◌≤◌, Bool, true, false, cond, ◌&&◌, ◌||◌, List, [], ◌∷◌, ◌++◌, length, map, take, drop, Contains, nat_eq, get_or, refl, sym, ◌∙◌, ap, subst, arith, add-zero}
 use mir.Val.{bool_byte}
 use Rattle.std.specs.List.{AllByRecursion, list_any}
 use Rattle.std.proofs.lemmas.List.FromFn.{map-range_with_len_more, get_or-map-range_with_len, length-map-range_with_len}
@@ -7,7 +7,7 @@ use Rattle.std.proofs.lemmas.Bool.{eqb-true, eq-eqb}
 use Rattle.std.proofs.lemmas.List.{append-nil, map-append, get_or-take, get_or-drop, drop-drop, take_all}
 use Rattle.std.proofs.Math.Seq.{take-suc}
 use Rattle.jc_exec.specs.declared.hits.ClassHits.{ClassHits}
-use Rattle.jc_exec.specs.Format.{Block, class}
+use Rattle.jc_exec.specs.Format.{class}
 use Rattle.jc_exec.specs.SlowUnion.{some_hit, all_hits, merged_record}
 use Rattle.jc_exec.specs.Store.{Store}
 use Rattle.jc_exec.specs.Union.{records_of, ids_of, first_seen, IsHitAt, SomeIsHitAt, IsMerged, IsUnion}

@@ -1,4 +1,4 @@
-use Rattle.std.proofs.Common.{◌≡◌, ◌∙◌, ap}
+use Rattle.std.proofs.Common.{◌∙◌, ap}
 use mir.Val.{bool_byte}
 use Rattle.jc_exec.proofs.PlainProgramLaws.{low_of_eight}
 use Rattle.jc_exec.proofs.plain.byte_at.Goals as goal

@@ -1,5 +1,5 @@
-use Rattle.std.proofs.Common.{◌≡◌, ◌++◌, ◌∷◌, [], List, ℕ, sym, ◌∙◌, ap, append_assoc}
-use Rattle.jc_exec.specs.Writing.{pack, low_first}
+use Rattle.std.proofs.Common.{◌++◌, ◌∷◌, [], List, ℕ, sym, ◌∙◌, ap, append_assoc}
+use Rattle.jc_exec.specs.Writing.{pack}
 use Rattle.jc_exec.proofs.PlainProgramLaws.{pack_more}
 use Rattle.jc_exec.proofs.plain.put_bits.Goals as goal
 

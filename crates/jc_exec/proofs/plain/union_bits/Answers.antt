@@ -1,4 +1,4 @@
-use Rattle.std.proofs.Common.{◌≡◌, ◌++◌, ◌∷◌, [], sym, ◌∙◌}
+use Rattle.std.proofs.Common.{◌++◌, ◌∷◌, [], sym, ◌∙◌}
 use Rattle.jc_exec.proofs.PlainProgramLaws.{all_hits_none, all_hits_more}
 use Rattle.jc_exec.proofs.plain.union_bits.Goals as goal
 
