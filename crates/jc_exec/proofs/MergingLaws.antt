@@ -1,16 +1,16 @@
 -- Records that are merged one after the other make the union, and nothing but records that do not agree stops it.
-use Rattle.std.proofs.Common.{◌≡◌, ◌≢◌, ◌⊎◌, inl, inr, ℕ, zero, suc, ◌+◌, ◌<◌, Bool, true, false, not, cond, ◌&&◌, ◌||◌, List, [], ◌∷◌, ◌++◌, length, map, filter, Contains, Option, Some, None, option_map, option_and_then, nat_eq, get_or, bytes_eq, refl, sym, ◌∙◌, ap, subst, arith, append_assoc}
+use Rattle.std.proofs.Common.{◌≡◌, ◌≢◌, ◌⊎◌, inl, inr, ℕ, zero, suc, ◌<◌, Bool, true, false, not, cond, ◌&&◌, ◌||◌, List, [], ◌∷◌, ◌++◌, length, filter, Contains, Option, Some, None, option_map, option_and_then, nat_eq, get_or, bytes_eq, refl, sym, ◌∙◌, ap, subst, arith, append_assoc}
 use Rattle.std.specs.List.{AllByRecursion}
-use Rattle.std.proofs.lemmas.Bool.{eqb-true, eqb-false, eq-eqb, ne_eqb}
+use Rattle.std.proofs.lemmas.Bool.{eqb-true, eqb-false, eq-eqb}
 use Rattle.std.proofs.lemmas.List.{append-nil, map-append}
 use Rattle.std.proofs.lemmas.Slice.Eq.{bytes_eq-Decides}
-use Rattle.jc_base.proofs.DecoderLaws.{some_is, some_none}
+use Rattle.jc_base.proofs.DecoderLaws.{some_is}
 use Rattle.jc_exec.specs.declared.hits.ClassHits.{ClassHits}
 use Rattle.jc_exec.specs.declared.session.Session.{Session}
 use Rattle.jc_exec.specs.Format.{Block, header, session, class}
 use Rattle.jc_exec.specs.Store.{Store, IsNew}
 use Rattle.jc_exec.specs.Union.{sessions_of, records_of, ids_of, first_seen, Agrees, IsHitAt, IsMerged, IsUnion, either_bits, agree, with_record, with_block, union_of}
-use Rattle.jc_exec.proofs.UnionLaws.{sessions-append, records-append, contains_front, contains_last, contains_either, all_filter, among, first_seen-append, among_first_seen, new_is_not_among, or_false, merged_other, merged_first, all_merged_other, union_none, union_header, one_union}
+use Rattle.jc_exec.proofs.UnionLaws.{sessions-append, records-append, contains_front, contains_last, contains_either, all_filter, among, first_seen-append, among_first_seen, merged_other, merged_first, all_merged_other, union_none, union_header, one_union, in_union, among_there, HasRecord, seen_has_record}
 
 -- ---- two records of one id
 
@@ -197,3 +197,61 @@ union_blocks bs (b ∷ more) s t u e = by (with_block s b) refl e (λ s1 u1 e1. 
 
 pub merging_makes_union : (bs : List Block) (s : Store) → union_of (record { sessions = []; classes = [] }) bs ≡ Some s → IsUnion bs s
 merging_makes_union bs s e = union_blocks [] bs (record { sessions = []; classes = [] }) s union_none e
+
+-- ---- and where there is a union, merging makes it
+
+-- records of one id agree
+abbrev Consistent : List ClassHits → Type 0
+Consistent rs = (x y : ClassHits) → Contains rs x → Contains rs y → x.id ≡ y.id → Agrees x y
+
+union_consistent : (bs : List Block) (s : Store) → IsUnion bs s → Consistent (records_of bs)
+union_consistent bs s u = λ x y there_x there_y same.
+    let rs = records_of bs in
+    let some : among x.id (ids_of s.classes) ≡ true = ap (among x.id) u.ids ∙ among_first_seen (ids_of rs) x.id ∙ among_there rs x there_x.0 there_x.1 there_x.2 in
+    let d = in_union rs s.classes x.id some u.merged in
+    let a = d.1.agrees x there_x (sym d.2) in
+    let b = d.1.agrees y there_y (sym same ∙ sym d.2) in
+    record { name = a.name ∙ sym b.name; count = a.count ∙ sym b.count }
+
+-- the record agrees with each merged one of its id
+agrees_all : (rs cs : List ClassHits) (r : ClassHits) → Consistent (rs ++ r ∷ []) → AllByRecursion (IsMerged rs) cs → AllByRecursion (HasRecord rs) (ids_of cs) → AllByRecursion (λ c. c.id ≡ r.id → Agrees r c) cs
+agrees_all rs [] r same a there = tt
+agrees_all rs (c ∷ cs) r same a there = (
+  λ id.
+      let x = there.0 in
+      let of_x = a.0.agrees x.0 x.1 x.2 in
+      let of_r = same r x.0 (contains_last rs r) (contains_front rs (r ∷ []) x.0 x.1) (sym id ∙ sym x.2) in
+      record { name = of_r.name ∙ of_x.name; count = of_r.count ∙ of_x.count },
+  agrees_all rs cs r same a.1 there.1,
+)
+
+record_fits : (cs : List ClassHits) (r : ClassHits) → AllByRecursion (λ c. c.id ≡ r.id → Agrees r c) cs → (ds : List ClassHits) × (with_record cs r ≡ Some ds)
+record_fits [] r a = (r ∷ [], refl)
+record_fits (c ∷ cs) r a = by (nat_eq c.id r.id) refl (record_fits cs r a.1)
+  where
+    by : (b : Bool) → nat_eq c.id r.id ≡ b → (ds : List ClassHits) × (with_record cs r ≡ Some ds)
+        → (ds : List ClassHits) × (cond b (cond (agree c r) (Some (either_hits c r ∷ cs)) None) (option_map (λ (l : List ClassHits). c ∷ l) (with_record cs r)) ≡ Some ds)
+    by true is rest = (either_hits c r ∷ cs, rw (agrees_agree c r (a.0 (eqb-true c.id r.id is))) refl)
+    by false is (es, e) = (c ∷ es, rw e refl)
+
+front_consistent : (rs more : List ClassHits) → Consistent (rs ++ more) → Consistent rs
+front_consistent rs more same = λ x y there_x there_y id. same x y (contains_front rs more x there_x) (contains_front rs more y there_y) id
+
+merging_runs : (bs more : List Block) (s : Store) → IsUnion bs s → Consistent (records_of (bs ++ more)) → (t : Store) × (union_of s more ≡ Some t)
+merging_runs bs [] s u same = (s, refl)
+merging_runs bs (header ∷ more) s u same = merging_runs (bs ++ header ∷ []) more s (union_header bs s u) (subst (λ (l : List Block). Consistent (records_of l)) (sym (append_assoc bs (header ∷ []) more)) same)
+merging_runs bs (session x ∷ more) s u same =
+    merging_runs (bs ++ session x ∷ []) more (record { sessions = s.sessions ++ x ∷ []; classes = s.classes }) (union_session bs s x u) (subst (λ (l : List Block). Consistent (records_of l)) (sym (append_assoc bs (session x ∷ []) more)) same)
+merging_runs bs (class r ∷ more) s u same =
+    let rs = records_of bs in
+    let later : Consistent (records_of ((bs ++ class r ∷ []) ++ more)) = subst (λ (l : List Block). Consistent (records_of l)) (sym (append_assoc bs (class r ∷ []) more)) same in
+    let one : Consistent (rs ++ r ∷ []) = subst Consistent (records-append bs (class r ∷ [])) (front_consistent (records_of (bs ++ class r ∷ [])) (records_of more) (subst Consistent (records-append (bs ++ class r ∷ []) more) later)) in
+    let there : AllByRecursion (HasRecord rs) (ids_of s.classes) = subst (AllByRecursion (HasRecord rs)) (sym u.ids) (seen_has_record rs) in
+    let fits = record_fits s.classes r (agrees_all rs s.classes r one u.merged there) in
+    let rest = merging_runs (bs ++ class r ∷ []) more (record { sessions = s.sessions; classes = fits.0 }) (union_record bs s r fits.0 u fits.1) later in
+    (rest.0, rw fits.1 rest.1)
+
+pub union_is_merged : (bs : List Block) (s : Store) → IsUnion bs s → union_of (record { sessions = []; classes = [] }) bs ≡ Some s
+union_is_merged bs s u =
+    let run = merging_runs [] bs (record { sessions = []; classes = [] }) union_none (union_consistent bs s u) in
+    run.1 ∙ ap (λ (t : Store). Some t) (one_union bs run.0 s (merging_makes_union bs run.0 run.1) u)

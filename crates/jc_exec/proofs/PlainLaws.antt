@@ -1,6 +1,6 @@
 -- Plain files, read block by block; and that each text has at most one reading.
-use Rattle.std.proofs.Common.{◌≡◌, ◌≢◌, ◌⊎◌, inl, inr, ℕ, ◌+◌, ◌<◌, ◌≤◌, List, [], ◌∷◌, ◌++◌, length, map, Some, None, refl, sym, ◌∙◌, ap, subst, arith, append_assoc, length-append}
-use Rattle.std.proofs.lemmas.List.{append-nil, append_cancel_left, map-append}
+use Rattle.std.proofs.Common.{◌≡◌, ◌≢◌, ◌⊎◌, inl, inr, ℕ, ◌<◌, ◌≤◌, List, [], ◌∷◌, ◌++◌, length, map, Some, None, refl, sym, ◌∙◌, ap, subst, arith, append_assoc, length-append}
+use Rattle.std.proofs.lemmas.List.{append-nil, append_cancel_left}
 use Rattle.jc_base.specs.Modified.{IsModified}
 use Rattle.jc_base.specs.Reader.{Reading}
 use Rattle.jc_base.specs.Decoder.{SameEnd}
@@ -10,7 +10,7 @@ use Rattle.jc_base.proofs.DecoderLaws.{some_is, some_none}
 use Rattle.jc_exec.specs.declared.refusal.ExecRefusal.{ExecRefusal}
 use Rattle.jc_exec.specs.declared.refusal.ExecRefusal.TheVariants.{LaterForm}
 use Rattle.jc_exec.specs.declared.hits.ClassHits.{ClassHits}
-use Rattle.jc_exec.specs.Format.{Block, class, header_text, IsClassBlock, IsBlock, AreBlocks}
+use Rattle.jc_exec.specs.Format.{class, header_text, IsClassBlock, AreBlocks}
 use Rattle.jc_exec.specs.Reading.{class_at}
 use Rattle.jc_exec.specs.Store.{IsSmall, classes_of, Keyed, IsNew}
 use Rattle.jc_exec.specs.Plain.{AreNew, IsPlain, NoneFits, FitsUpTo, IsFirstUnfit, Refuses, HasOneReading}

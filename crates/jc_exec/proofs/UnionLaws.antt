@@ -1,5 +1,5 @@
 -- The union of a list of blocks, one block more at a time.
-use Rattle.std.proofs.Common.{◌≡◌, ◌≢◌, ◌⊎◌, inl, inr, ⊎_elim, ℕ, zero, suc, ◌+◌, ◌<◌, Bool, true, false, not, cond, ◌||◌, List, [], ◌∷◌, ◌++◌, length, map, filter, Contains, nat_eq, get_or, drop, refl, sym, ◌∙◌, ap, subst, arith, append_assoc}
+use Rattle.std.proofs.Common.{◌≡◌, ◌⊎◌, inl, inr, ⊎_elim, ℕ, zero, suc, ◌<◌, Bool, true, false, not, cond, ◌||◌, List, [], ◌∷◌, ◌++◌, length, map, filter, Contains, nat_eq, get_or, drop, refl, sym, ◌∙◌, ap, subst, arith, append_assoc}
 use Rattle.std.specs.List.{AllByRecursion, list_any}
 use Rattle.std.proofs.lemmas.Bool.{eqb-true, eqb-false, ne_eqb, eq-eqb}
 use Rattle.std.proofs.lemmas.List.{append-nil, map-append, length-append}
@@ -9,7 +9,7 @@ use Rattle.jc_exec.specs.declared.session.Session.{Session}
 use Rattle.jc_exec.specs.Format.{Block, header, session, class}
 use Rattle.jc_exec.specs.Store.{Store, IsNew}
 use Rattle.jc_exec.specs.Plain.{AreNew, plain_blocks, TakesPlain}
-use Rattle.jc_exec.specs.Union.{sessions_of, records_of, ids_of, first_seen, Agrees, IsHitAt, SomeIsHitAt, IsMerged, IsUnion, ReadsOn}
+use Rattle.jc_exec.specs.Union.{sessions_of, records_of, ids_of, first_seen, Agrees, IsHitAt, IsMerged, IsUnion, ReadsOn}
 
 -- ---- what the blocks hold
 
@@ -231,7 +231,7 @@ same_bits (x ∷ xs) (y ∷ ys) long same =
     let tail = same_bits xs ys (omega (arith, long)) (λ k lt. same (suc k) (omega (arith, lt))) in
     λ i. head i ∷ tail i
 
-abbrev HasRecord : List ClassHits → ℕ → Type 0
+abbrev pub HasRecord : List ClassHits → ℕ → Type 0
 HasRecord rs id = (r : ClassHits) × Contains rs r × (r.id ≡ id)
 
 same_record : (rs : List ClassHits) (c d : ClassHits) → c.id ≡ d.id → HasRecord rs c.id → IsMerged rs c → IsMerged rs d → c ≡ d
@@ -246,7 +246,7 @@ same_record rs c d id there a b =
     )) in
     λ i. record { id = id i; name = name i; bits = bits i }
 
-same_records : (rs cs ds : List ClassHits) → ids_of cs ≡ ids_of ds → AllByRecursion (HasRecord rs) (ids_of cs) → AllByRecursion (IsMerged rs) cs → AllByRecursion (IsMerged rs) ds → cs ≡ ds
+pub same_records : (rs cs ds : List ClassHits) → ids_of cs ≡ ids_of ds → AllByRecursion (HasRecord rs) (ids_of cs) → AllByRecursion (IsMerged rs) cs → AllByRecursion (IsMerged rs) ds → cs ≡ ds
 same_records rs [] [] ids there a b = refl
 same_records rs [] (d ∷ ds) ids there a b = absurd (omega (arith, ap length ids))
 same_records rs (c ∷ cs) [] ids there a b = absurd (omega (arith, ap length ids))
@@ -274,3 +274,23 @@ one_union bs s t u v =
     let there : AllByRecursion (HasRecord rs) (ids_of s.classes) = subst (AllByRecursion (HasRecord rs)) (sym u.ids) (seen_has_record rs) in
     let classes : s.classes ≡ t.classes = same_records rs s.classes t.classes (u.ids ∙ sym v.ids) there u.merged v.merged in
     λ i. record { sessions = sessions i; classes = classes i }
+
+-- ---- ids that are there
+
+pub or_later : (a b : Bool) → b ≡ true → (a || b) ≡ true
+or_later true b e = refl
+or_later false b e = e
+
+-- a record of the id is in the union
+pub in_union : (rs cs : List ClassHits) (id : ℕ) → among id (ids_of cs) ≡ true → AllByRecursion (IsMerged rs) cs → (d : ClassHits) × IsMerged rs d × (d.id ≡ id)
+in_union rs [] id some a = absurd cc
+in_union rs (c ∷ cs) id some a = by (nat_eq c.id id) refl some (λ later. in_union rs cs id later a.1)
+  where
+    by : (b : Bool) → nat_eq c.id id ≡ b → (b || among id (ids_of cs)) ≡ true → (among id (ids_of cs) ≡ true → (d : ClassHits) × IsMerged rs d × (d.id ≡ id)) → (d : ClassHits) × IsMerged rs d × (d.id ≡ id)
+    by true is some rest = (c, a.0, eqb-true c.id id is)
+    by false is some rest = rest some
+
+pub among_there : (rs : List ClassHits) (r : ClassHits) (k : ℕ) → k < length rs → get_or rs k r ≡ r → among r.id (ids_of rs) ≡ true
+among_there [] r k lt is = absurd (omega (arith, lt))
+among_there (x ∷ rs) r zero lt is = rw (eq-eqb x.id r.id (ap (λ (y : ClassHits). y.id) is)) refl
+among_there (x ∷ rs) r (suc k) lt is = or_later (nat_eq x.id r.id) (among r.id (ids_of rs)) (among_there rs r k (omega (arith, lt)) is)

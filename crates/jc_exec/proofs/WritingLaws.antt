@@ -1,5 +1,5 @@
 -- What is written is a plain file of the records that have a hit.
-use Rattle.std.proofs.Common.{◌≡◌, ◌⊎◌, inl, inr, ℕ, zero, suc, ◌+◌, ◌-◌, ◌*◌, ◌/◌, ◌%◌, ◌^◌, ◌<◌, ◌≤◌, ◌==◌, Bool, true, false, cond, List, [], ◌∷◌, ◌++◌, length, map, take, drop, filter, get_or, slice_index, nat_eq, refl, sym, ◌∙◌, ap, subst, arith}
+use Rattle.std.proofs.Common.{◌≡◌, inl, inr, ℕ, zero, suc, ◌+◌, ◌-◌, ◌*◌, ◌/◌, ◌%◌, ◌^◌, ◌<◌, ◌≤◌, ◌==◌, Bool, true, false, cond, List, [], ◌∷◌, ◌++◌, length, map, take, drop, filter, get_or, slice_index, refl, sym, ◌∙◌, ap, arith}
 use Rattle.std.specs.List.{AllByRecursion, range_with_len, flat_map}
 use Rattle.std.proofs.Math.Nat.{pow-suc, pow-succ', zero-div, div-div-eq-div-mul}
 use Rattle.std.proofs.lemmas.Bool.{cases_lt, le-ltb, lt-ltb}
@@ -8,7 +8,7 @@ use Rattle.byteorder.specs.Numbers.{length-bytes_high_first, big_number-reads_ba
 use Rattle.jc_base.specs.Decoder.{IsBig}
 use Rattle.jc_base.specs.Modified.{IsModified}
 use Rattle.jc_exec.specs.declared.hits.ClassHits.{ClassHits}
-use Rattle.jc_exec.specs.Format.{class, header_text, bit, unpack, IsPacked, IsCount, Spells, IsClassBlock}
+use Rattle.jc_exec.specs.Format.{bit, unpack, IsPacked, IsCount, IsClassBlock}
 use Rattle.jc_exec.specs.Store.{IsSmall, classes_of, Keyed, IsNew}
 use Rattle.jc_exec.specs.Plain.{AreNew, IsPlain}
 use Rattle.jc_exec.specs.Writing.{low_first, pack, packed, id_text, size_text, shortest, count_text, class_text, is_hit, exec_text}

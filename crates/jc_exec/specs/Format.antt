@@ -1,8 +1,9 @@
 -- The format of execution data, version 1007 of JaCoCo's documentation: a list of blocks, each of
 -- which begins with a byte that says its kind. Numbers are big-endian.
-use Rattle.std.specs.Prelude.{◌≡◌, ℕ, ◌+◌, ◌*◌, ◌/◌, ◌%◌, ◌^◌, ◌<◌, ◌≤◌, ◌==◌, Bool, List, [], ◌∷◌, ◌++◌, length, map, slice_index, ⊤}
+use Rattle.std.specs.Prelude.{◌≡◌, ℕ, ◌+◌, ◌*◌, ◌/◌, ◌%◌, ◌^◌, ◌<◌, ◌≤◌, ◌==◌, Bool, List, [], ◌∷◌, ◌++◌, length, map, slice_index, ℤ, ⊤}
 use Rattle.std.specs.List.{range_with_len}
-use Rattle.std.specs.Int.{w64, cast_unsigned}
+use Rattle.std.specs.Int.{w64, cast_signed}
+use Rattle.byteorder.specs.Endian.{big_number}
 use Rattle.jc_base.specs.Decoder.{IsBig}
 use Rattle.jc_base.specs.Modified.{IsModified}
 use Rattle.jc_exec.specs.declared.hits.ClassHits.{ClassHits}
@@ -22,6 +23,11 @@ header_text = 0x01 ∷ 0xc0 ∷ 0xc0 ∷ 0x10 ∷ 0x07 ∷ []
 
 -- ---- a session: its id, and the times of its start and of its dump
 
+-- a time: a signed number of eight bytes, in two's complement
+pub record IsTime (bytes : List ℕ) (t : ℤ) : Type 0 where
+  pub size : length bytes ≡ 8
+  pub value : cast_signed w64 (big_number 8 bytes) ≡ t
+
 pub record SessionParts : Type 0 where
   pub size : List ℕ
   pub id : List ℕ
@@ -35,8 +41,8 @@ pub record SpellsSession (p : SessionParts) (s : Session) : Type 0 where
   pub size : IsBig 2 p.size (length s.id)
   pub id : p.id ≡ s.id
   pub text : IsModified s.id
-  pub start : IsBig 8 p.start (cast_unsigned w64 s.start)
-  pub dump : IsBig 8 p.dump (cast_unsigned w64 s.dump)
+  pub start : IsTime p.start s.start
+  pub dump : IsTime p.dump s.dump
 
 abbrev pub IsSessionBlock : List ℕ → Session → Type 0
 IsSessionBlock text s = (p : SessionParts) × (text ≡ session_joined p) × SpellsSession p s

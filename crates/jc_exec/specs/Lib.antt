@@ -5,3 +5,4 @@ pub mod Plain
 pub mod Union
 pub mod Refusing
 pub mod Writing
+pub mod SlowUnion

@@ -1,5 +1,5 @@
 -- Reading a block from the front of the bytes that are left.
-use Rattle.std.specs.Prelude.{◌≡◌, ℕ, zero, suc, ◌+◌, ◌-◌, ◌*◌, ◌/◌, List, ◌++◌, length, take, Bool, Option, Some, None, nat_lt, ◌==◌, if◌then◌else◌}
+use Rattle.std.specs.Prelude.{ℕ, zero, suc, ◌+◌, ◌-◌, ◌*◌, ◌/◌, List, take, Bool, Option, Some, None, nat_lt, ◌==◌, if◌then◌else◌}
 use Rattle.jc_base.specs.Decoder.{◌>>=◌, first, byte_at, number_at}
 use Rattle.jc_exec.specs.declared.hits.ClassHits.{ClassHits}
 use Rattle.jc_exec.specs.Format.{unpack}

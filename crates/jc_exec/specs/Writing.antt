@@ -1,6 +1,6 @@
 -- The one text that is written for a store.
-use Rattle.std.specs.Prelude.{ℕ, zero, suc, ◌+◌, ◌*◌, ◌/◌, ◌%◌, ℤ, int_le, nat_lt, Bool, false, true, List, [], ◌∷◌, ◌++◌, length, take, drop, filter, if◌then◌else◌}
-use Rattle.std.specs.List.{flat_map, list_any}
+use Rattle.std.specs.Prelude.{⊤, ◌≡◌, ◌&&◌, ℕ, zero, suc, ◌+◌, ◌*◌, ◌/◌, ◌%◌, ℤ, int_le, nat_lt, Bool, true, List, [], ◌∷◌, ◌++◌, length, take, drop, filter, if◌then◌else◌}
+use Rattle.std.specs.List.{AllByRecursion, flat_map, list_any}
 use Rattle.std.specs.Int.{w64, cast_unsigned}
 use Rattle.byteorder.specs.Endian.{big_bytes}
 use Rattle.jc_exec.specs.declared.hits.ClassHits.{ClassHits}
@@ -56,6 +56,20 @@ placed s (t ∷ ts) = if int_le s.dump t.dump then s ∷ t ∷ ts else t ∷ pla
 abbrev pub by_dump : List Session → List Session
 by_dump [] = []
 by_dump (s ∷ ss) = placed s (by_dump ss)
+
+-- each is dumped no later than those behind it
+abbrev pub InOrder : List Session → Type 0
+InOrder [] = ⊤
+InOrder (s ∷ ss) = AllByRecursion (λ t. int_le s.dump t.dump ≡ true) ss × InOrder ss
+
+-- the session was dumped at the time
+abbrev pub is_dumped_at : ℤ → Session → Bool
+is_dumped_at time s = int_le s.dump time && int_le time s.dump
+
+-- the later list has the sessions by the time of their dump, and those of each time as they were
+pub record IsByDump (old new : List Session) : Type 0 where
+  pub sorted : InOrder new
+  pub stable : (time : ℤ) → filter (is_dumped_at time) new ≡ filter (is_dumped_at time) old
 
 -- a probe was hit
 abbrev pub is_hit : ClassHits → Bool

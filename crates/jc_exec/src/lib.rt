@@ -12,10 +12,14 @@ mod store;
 mod write;
 
 pub use hits::ClassHits;
-pub use laws::{one_reading_of_each_text, one_union_of_each_list, union_record_by_record};
+pub use laws::{
+    one_list_of_each_text, one_reading_of_each_text, one_union_of_each_list, union_block_by_block,
+};
 pub use refusal::ExecRefusal;
 pub use session::Session;
 pub use store::ExecStore;
 
+#[cfg(test)]
+mod plain;
 #[cfg(test)]
 mod tests;

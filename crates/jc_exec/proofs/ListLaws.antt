@@ -1,0 +1,92 @@
+-- A text is execution data of one list of blocks at most.
+use Rattle.std.proofs.Common.{◌≡◌, ℕ, List, [], ◌∷◌, ◌++◌, Option, Some, None, get_or, refl, sym, ◌∙◌, ap, subst, arith, append_assoc, if◌then◌else◌}
+use Rattle.std.specs.Prelude.{◌==◌}
+use Rattle.std.specs.Int.{w64, cast_signed}
+use Rattle.std.proofs.lemmas.List.{append_cancel_left}
+use Rattle.byteorder.specs.Endian.{big_number}
+use Rattle.jc_base.specs.Decoder.{◌>>=◌, byte_at, number_at}
+use Rattle.jc_base.proofs.DecoderLaws.{some_is, number_again, byte_again}
+use Rattle.jc_exec.specs.declared.session.Session.{Session}
+use Rattle.jc_exec.specs.declared.hits.ClassHits.{ClassHits}
+use Rattle.jc_exec.specs.Format.{Block, header, session, class, header_text, SessionParts, session_joined, SpellsSession, IsSessionBlock, IsBlock, AreBlocks, Blocks}
+use Rattle.jc_exec.specs.Reading.{text_at, class_at}
+use Rattle.jc_exec.proofs.BlockLaws.{text_again, class_again}
+
+-- ---- a session in front
+
+abbrev session_at : List ℕ → Option (Session × List ℕ)
+session_at left = do
+  kind ← byte_at left
+  if kind.0 == 0x10 then (do
+    id ← text_at kind.1
+    start ← number_at 8 id.1
+    dump ← number_at 8 start.1
+    Some (record { id = id.0; start = cast_signed w64 start.0; dump = cast_signed w64 dump.0 }, dump.1)) else None
+
+session_regrouped : (p : SessionParts) (rest : List ℕ) → session_joined p ++ rest ≡ 0x10 ∷ (p.size ++ (p.id ++ (p.start ++ (p.dump ++ rest))))
+session_regrouped p rest = simp append_assoc
+
+session_parts_again : (p : SessionParts) (s : Session) (rest : List ℕ) → SpellsSession p s → session_at (0x10 ∷ (p.size ++ (p.id ++ (p.start ++ (p.dump ++ rest))))) ≡ Some (s, rest)
+session_parts_again p s rest spells =
+    rw (
+      byte_again 0x10 (p.size ++ (p.id ++ (p.start ++ (p.dump ++ rest)))),
+      spells.id,
+      text_again p.size s.id (p.start ++ (p.dump ++ rest)) spells.size,
+      number_again 8 p.start (p.dump ++ rest) (big_number 8 p.start) (record { size = spells.start.size; value = refl }),
+      number_again 8 p.dump rest (big_number 8 p.dump) (record { size = spells.dump.size; value = refl }),
+    )
+    (λ i. Some (record { id = s.id; start = spells.start.value i; dump = spells.dump.value i }, rest))
+
+session_again : (text rest : List ℕ) (s : Session) → IsSessionBlock text s → session_at (text ++ rest) ≡ Some (s, rest)
+session_again text rest s block = ap (λ (l : List ℕ). session_at (l ++ rest)) block.1 ∙ ap session_at (session_regrouped block.0 rest) ∙ session_parts_again block.0 s rest block.2
+
+-- ---- a block in front
+
+-- the byte that says its kind
+abbrev kind_of : Block → ℕ
+kind_of header = 0x01
+kind_of (session s) = 0x10
+kind_of (class c) = 0x11
+
+kind_first : (b : Block) (text front rest : List ℕ) → IsBlock front b → text ≡ front ++ rest → get_or text 0 0 ≡ kind_of b
+kind_first header text front rest block parts = ap (λ (l : List ℕ). get_or l 0 0) (parts ∙ ap (λ (l : List ℕ). l ++ rest) block)
+kind_first (session s) text front rest block parts = ap (λ (l : List ℕ). get_or l 0 0) (parts ∙ ap (λ (l : List ℕ). l ++ rest) block.1)
+kind_first (class c) text front rest block parts = ap (λ (l : List ℕ). get_or l 0 0) (parts ∙ ap (λ (l : List ℕ). l ++ rest) block.1)
+
+pub one_front : (a b : Block) (text front rest other later : List ℕ) → IsBlock front a → IsBlock other b → text ≡ front ++ rest → text ≡ other ++ later → (a ≡ b) × (rest ≡ later)
+one_front a b text front rest other later x y p q = by a b x y (sym (kind_first a text front rest x p) ∙ kind_first b text other later y q)
+  where
+    by : (a b : Block) → IsBlock front a → IsBlock other b → kind_of a ≡ kind_of b → (a ≡ b) × (rest ≡ later)
+    by header header x y kinds = (refl, append_cancel_left header_text rest later (sym (p ∙ ap (λ (l : List ℕ). l ++ rest) x) ∙ q ∙ ap (λ (l : List ℕ). l ++ later) y))
+    by header (session s) x y kinds = absurd (omega (arith, kinds))
+    by header (class c) x y kinds = absurd (omega (arith, kinds))
+    by (session s) header x y kinds = absurd (omega (arith, kinds))
+    by (session s) (session t) x y kinds =
+        let same = some_is (s, rest) (t, later) (sym (session_again front rest s x) ∙ ap session_at (sym p ∙ q) ∙ session_again other later t y) in
+        (ap (λ (r : Session × List ℕ). session r.0) same, ap (λ (r : Session × List ℕ). r.1) same)
+    by (session s) (class c) x y kinds = absurd (omega (arith, kinds))
+    by (class c) header x y kinds = absurd (omega (arith, kinds))
+    by (class c) (session s) x y kinds = absurd (omega (arith, kinds))
+    by (class c) (class d) x y kinds =
+        let same = some_is (c, rest) (d, later) (sym (class_again front rest c x) ∙ ap class_at (sym p ∙ q) ∙ class_again other later d y) in
+        (ap (λ (r : ClassHits × List ℕ). class r.0) same, ap (λ (r : ClassHits × List ℕ). r.1) same)
+
+no_block : (b : Block) (text front rest : List ℕ) → IsBlock front b → text ≡ front ++ rest → text ≡ [] → ⊥
+no_block b text front rest block parts none = some b (sym (kind_first b text front rest block parts) ∙ ap (λ (l : List ℕ). get_or l 0 0) none)
+  where
+    some : (b : Block) → kind_of b ≡ 0 → ⊥
+    some header e = omega (arith, e)
+    some (session s) e = omega (arith, e)
+    some (class c) e = omega (arith, e)
+
+same_blocks : (text : List ℕ) (xs ys : List Block) → AreBlocks text xs → AreBlocks text ys → xs ≡ ys
+same_blocks text [] [] a b = refl
+same_blocks text (x ∷ xs) [] a b = absurd (no_block x text a.0 a.1 a.3 a.2 b)
+same_blocks text [] (y ∷ ys) a b = absurd (no_block y text b.0 b.1 b.3 b.2 a)
+same_blocks text (x ∷ xs) (y ∷ ys) a b =
+    let same = one_front x y text a.0 a.1 b.0 b.1 a.3 b.3 a.2 b.2 in
+    let rest = same_blocks a.1 xs ys a.4 (subst (λ (l : List ℕ). AreBlocks l ys) (sym same.1) b.4) in
+    λ i. same.0 i ∷ rest i
+
+pub one_list : (text : List ℕ) (xs ys : List Block) → Blocks text xs → Blocks text ys → xs ≡ ys
+one_list text xs ys a b = same_blocks text xs ys a.whole b.whole
