@@ -29,22 +29,22 @@ agrees_places : (n : ℕ) → Agrees (places n) (places_at n)
 agrees_places zero = agrees_nothing []
 agrees_places (suc zero) =
     agrees_followed (one IsNarrow) (λ e. nothing (Some e ∷ [])) (item narrow_at) (λ e left. Good (Some e ∷ []) left)
-      (agrees_item IsNarrow narrow_at narrow_takes narrow_again) (λ e. agrees_nothing (Some e ∷ []))
+    (agrees_item IsNarrow narrow_at narrow_takes narrow_again) (λ e. agrees_nothing (Some e ∷ []))
 agrees_places (suc (suc n)) =
     agrees_followed (one IsEntry) (λ e. by_size (is_wide e) (behind (Some e ∷ None ∷ []) (places n)) (behind (Some e ∷ []) (places (suc n))))
-      (item entry_at) (λ e left. if is_wide e then put_behind (Some e ∷ None ∷ []) (places_at n left) else put_behind (Some e ∷ []) (places_at (suc n) left))
-      (agrees_item IsEntry entry_at entry_takes entry_again)
-      (λ e. agrees_by_size (is_wide e) (behind (Some e ∷ None ∷ []) (places n)) (behind (Some e ∷ []) (places (suc n)))
-        (λ left. put_behind (Some e ∷ None ∷ []) (places_at n left)) (λ left. put_behind (Some e ∷ []) (places_at (suc n) left))
-        (agrees_behind (Some e ∷ None ∷ []) (places n) (places_at n) (agrees_places n))
-        (agrees_behind (Some e ∷ []) (places (suc n)) (places_at (suc n)) (agrees_places (suc n))))
+    (item entry_at) (λ e left. if is_wide e then put_behind (Some e ∷ None ∷ []) (places_at n left) else put_behind (Some e ∷ []) (places_at (suc n) left))
+    (agrees_item IsEntry entry_at entry_takes entry_again)
+    (λ e. agrees_by_size (is_wide e) (behind (Some e ∷ None ∷ []) (places n)) (behind (Some e ∷ []) (places (suc n)))
+    (λ left. put_behind (Some e ∷ None ∷ []) (places_at n left)) (λ left. put_behind (Some e ∷ []) (places_at (suc n) left))
+    (agrees_behind (Some e ∷ None ∷ []) (places n) (places_at n) (agrees_places n))
+    (agrees_behind (Some e ∷ []) (places (suc n)) (places_at (suc n)) (agrees_places (suc n))))
 
 pub pool_agrees : Agrees pool pool_at
 unfolding pool_at
 pool_agrees =
     agrees_followed (one IsCount) (λ n. behind (None ∷ []) (places (n - 1))) (item count_at) (λ n left. put_behind (None ∷ []) (places_at (n - 1) left))
-      (agrees_item IsCount count_at count_takes count_again)
-      (λ n. agrees_behind (None ∷ []) (places (n - 1)) (places_at (n - 1)) (agrees_places (n - 1)))
+    (agrees_item IsCount count_at count_takes count_again)
+    (λ n. agrees_behind (None ∷ []) (places (n - 1)) (places_at (n - 1)) (agrees_places (n - 1)))
 
 -- ---- what a reader returned and left
 

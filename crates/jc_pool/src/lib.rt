@@ -8,8 +8,10 @@ mod item;
 mod lookup;
 mod pool;
 mod put;
+mod text;
 mod write;
 
 pub use constant::ConstText;
 pub use lookup::{BadIndex, MemberText};
 pub use pool::Pool;
+pub use text::text_of;
