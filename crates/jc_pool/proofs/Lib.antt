@@ -3,3 +3,4 @@ pub mod EntryLaws
 pub mod PoolLaws
 pub mod WritingLaws
 pub mod TextLaws
+pub mod OneTextLaws
