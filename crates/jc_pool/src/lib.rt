@@ -1,0 +1,22 @@
+//! The constant pool of a class file (JVM Specification 4.4): read, looked up by place and written
+//! back, and the texts of its modified UTF-8.
+#![tactic(auto)]
+
+mod constant;
+mod entry;
+mod item;
+mod laws;
+mod lookup;
+mod pool;
+mod put;
+mod text;
+mod write;
+
+pub use constant::ConstText;
+pub use laws::{one_reading, one_text};
+pub use lookup::{BadIndex, MemberText};
+pub use pool::Pool;
+pub use text::text_of;
+
+#[cfg(test)]
+mod tests;
