@@ -40,7 +40,7 @@ pub classes_push : (text : List ℕ) (cs : List ClassHits) (more : List ℕ) (c 
 classes_push text [] more c a b = (more, [], ap (λ (l : List ℕ). l ++ more) a ∙ sym (append-nil more), b, refl)
 classes_push text (d ∷ cs) more c a b = (a.0, a.1 ++ more, ap (λ (l : List ℕ). l ++ more) a.2 ∙ append_assoc a.0 a.1 more, a.3, classes_push a.1 cs more c a.4 b)
 
-plain_push : (before : List ClassHits) (taken text : List ℕ) (cs : List ClassHits) (c : ClassHits) → IsPlain before taken cs → IsClassBlock text c → IsNew c.id (before ++ cs) → IsPlain before (taken ++ text) (cs ++ c ∷ [])
+pub plain_push : (before : List ClassHits) (taken text : List ℕ) (cs : List ClassHits) (c : ClassHits) → IsPlain before taken cs → IsClassBlock text c → IsNew c.id (before ++ cs) → IsPlain before (taken ++ text) (cs ++ c ∷ [])
 plain_push before taken text cs c p block new =
     let b = body_of before taken cs p in
     plain_of before (taken ++ text) (cs ++ c ∷ [])

@@ -1,8 +1,8 @@
 -- What was done is the work, and each status has its cause.
-use Rattle.std.proofs.Common.{◌≡◌, ◌≢◌, ◌⊎◌, inl, inr, ⊎_elim, ℕ, ◌≤◌, List, [], ◌∷◌, ◌++◌, Option, None, Some, Result, Ok, Err, Vec, map, refl, sym, ◌∙◌, ap, ap₂, subst}
+use Rattle.std.proofs.Common.{◌≡◌, ◌≢◌, ◌⊎◌, inl, inr, ⊎_elim, ℕ, List, Option, None, Some, Result, Ok, Err, Vec, map, refl, sym, ◌∙◌, ap, subst}
 use Rattle.std.specs.declared.alloc.Global.{Global}
-use Rattle.jc_base.proofs.DecoderLaws.{some_is, some_none}
-use Rattle.jc_base.specs.Outside.{FileMap, WhereTold, Rose}
+use Rattle.jc_base.proofs.DecoderLaws.{some_is}
+use Rattle.jc_base.specs.Outside.{FileMap, Rose}
 use Rattle.jc_top.specs.declared.status.Status.{Status}
 use Rattle.jc_top.specs.declared.status.Status.TheVariants as status
 use Rattle.jc_top.specs.declared.status.Fault.{Fault}
@@ -13,8 +13,8 @@ use Rattle.jc_top.specs.Words.{Word}
 use Rattle.jc_top.specs.Command.{Command, inputs_of, Means, NoForm}
 use Rattle.jc_top.specs.Texts.{usage_text, cannot_read, cannot_write, cannot_write_output, fault_text}
 use Rattle.jc_top.specs.Looks.{write_seen}
-use Rattle.jc_top.specs.World.{World, Write, to_err, Landed, after, grown, StopsIn}
-use Rattle.jc_top.specs.Work.{AreRead, StopsAt, Answers, refusing, Work, IsWork, usage, unreadable, answered, WorkEnds, DoesWork}
+use Rattle.jc_top.specs.World.{World, Write, Landed, after, grown, StopsIn}
+use Rattle.jc_top.specs.Work.{StopsAt, Answers, usage, unreadable, answered, WorkEnds, DoesWork}
 use Rattle.jc_top.specs.Outcome.{Rises, ReadStops, Read, Prepares, WroteAll, IsFileWrite, IsTextWrite, Faults, Runs, Says, Reports, message_of, status_of, broken_text, BreaksOff}
 use Rattle.jc_top.proofs.WorkLaws.{one_ending}
 
@@ -120,14 +120,14 @@ no_form_work landed words (Some m) out err err' e e' none says quiet = (_, usage
 usage_ends : (words : List Word) (m : FileMap) (s : Status) → NoForm words → WorkEnds words m s → s ≡ status.Usage
 usage_ends words m s none ends = one_ending words m s status.Usage ends (_, usage none, refl)
 
-pub usage_not_refused : (words : List Word) (m : FileMap) (fault : Fault) → NoForm words → WorkEnds words m (status.Refused fault) → ⊥
-usage_not_refused words m fault none ends = never (usage_ends words m (status.Refused fault) none ends)
+pub usage_not_refused : (words : List Word) (m : FileMap) (fault : Fault) → NoForm words → WorkEnds words m (status.Refused fault) → (status.Usage ≡ status.Refused fault) ⊎ (status.Usage ≡ status.Memory)
+usage_not_refused words m fault none ends = absurd (never (usage_ends words m (status.Refused fault) none ends))
   where
     never : status.Refused fault ≡ status.Usage → ⊥
     never e = cc
 
-pub usage_not_unreadable : (words : List Word) (m : FileMap) → NoForm words → WorkEnds words m status.ReadFault → ⊥
-usage_not_unreadable words m none ends = never (usage_ends words m status.ReadFault none ends)
+pub usage_not_unreadable : (words : List Word) (m : FileMap) → NoForm words → WorkEnds words m status.ReadFault → (status.Usage ≡ status.ReadFault) ⊎ (status.Usage ≡ status.Memory)
+usage_not_unreadable words m none ends = absurd (never (usage_ends words m status.ReadFault none ends))
   where
     never : status.ReadFault ≡ status.Usage → ⊥
     never e = cc
@@ -181,9 +181,6 @@ module _ (landed : Landed) (words : List Word) (command : Command) (means : Mean
   refused_ends m new stops.Output fault did is = absurd cc
   refused_ends m new (stops.Refused file g) fault did is = subst (WorkEnds words m) is (_, answered means did.2.1 did.2.2, refl)
 
-  not_memory : {P : Type 0} (s t : Status) → (s ≡ status.Memory) × P → s ≡ t → (t ≡ status.Memory → ⊥) → ⊥
-  not_memory s t memory is other = other (sym is ∙ memory.0)
-
   memory_refused : (fault : Fault) → status.Refused fault ≡ status.Memory → ⊥
   memory_refused fault e = cc
 
@@ -205,17 +202,14 @@ module _ (landed : Landed) (words : List Word) (command : Command) (means : Mean
   told_read stops.Output is = absurd cc
   told_read (stops.Refused file g) is = absurd cc
 
-  no_done : (s : Status) → (s ≡ status.Done → ⊥) → s ≡ status.Done → ⊥
-  no_done s never is = never is
-
-  pub refuses_done : (k : Option FileMap) (new : World) (fault : Fault) → Did k new (Ok tt) → (m : FileMap) → k ≡ Some m → WorkEnds words m (status.Refused fault) → ⊥
-  refuses_done k new fault did m told ends = never (done_is k m new (status.Refused fault) did told ends)
+  pub refuses_done : (k : Option FileMap) (new : World) (fault : Fault) → Did k new (Ok tt) → (m : FileMap) → k ≡ Some m → WorkEnds words m (status.Refused fault) → (status.Done ≡ status.Refused fault) ⊎ (status.Done ≡ status.Memory)
+  refuses_done k new fault did m told ends = absurd (never (done_is k m new (status.Refused fault) did told ends))
     where
       never : status.Refused fault ≡ status.Done → ⊥
       never e = cc
 
-  pub unreadable_done : (k : Option FileMap) (new : World) → Did k new (Ok tt) → (m : FileMap) → k ≡ Some m → WorkEnds words m status.ReadFault → ⊥
-  unreadable_done k new did m told ends = never (done_is k m new status.ReadFault did told ends)
+  pub unreadable_done : (k : Option FileMap) (new : World) → Did k new (Ok tt) → (m : FileMap) → k ≡ Some m → WorkEnds words m status.ReadFault → (status.Done ≡ status.ReadFault) ⊎ (status.Done ≡ status.Memory)
+  unreadable_done k new did m told ends = absurd (never (done_is k m new status.ReadFault did told ends))
     where
       never : status.ReadFault ≡ status.Done → ⊥
       never e = cc

@@ -1,5 +1,5 @@
 -- The work of words over told contents is one.
-use Rattle.std.proofs.Common.{◌≡◌, ◌≢◌, ◌⊎◌, inl, inr, ⊎_elim, ℕ, ◌<◌, ◌≤◌, List, [], ◌∷◌, ◌++◌, length, Option, None, Some, refl, sym, ◌∙◌, ap, ap₂, subst, arith}
+use Rattle.std.proofs.Common.{◌≡◌, ◌⊎◌, inl, inr, ⊎_elim, ℕ, ◌≤◌, List, [], ◌∷◌, ◌++◌, length, Option, None, Some, refl, sym, ◌∙◌, ap, ap₂, subst, arith}
 use Rattle.std.specs.FinMap.{get}
 use Rattle.jc_base.proofs.DecoderLaws.{some_is, some_none}
 use Rattle.jc_base.specs.Outside.{FileMap, IsLong, most_read}
@@ -8,15 +8,17 @@ use Rattle.jc_exec.specs.declared.refusal.ExecRefusal.TheVariants.{LaterForm}
 use Rattle.jc_exec.specs.Plain.{IsPlain, IsFirstUnfit}
 use Rattle.jc_exec.specs.Writing.{exec_text}
 use Rattle.jc_exec.proofs.PlainLaws.{one_reading, one_place, plain_or_unfit_not_both}
+use Rattle.jc_exec.proofs.DecidedLaws.{plain_or_unfit}
+use Rattle.std.proofs.lemmas.Bool.{cases_lt}
 use Rattle.jc_top.specs.declared.status.Status.{Status}
 use Rattle.jc_top.specs.declared.status.Status.TheVariants as status
 use Rattle.jc_top.specs.declared.status.Fault.TheVariants as fault
 use Rattle.jc_top.specs.Words.{Word}
 use Rattle.jc_top.specs.Command.{Command, merge, inputs_of, Means, NoForm}
 use Rattle.jc_top.specs.Texts.{usage_text, cannot_read}
-use Rattle.jc_top.specs.World.{Write, to_file, to_err}
+use Rattle.jc_top.specs.World.{to_file, to_err}
 use Rattle.jc_top.specs.Work.{Holds, CantRead, AreRead, StopsAt, Answer, Answers, merge_refused, merged, refusing, Work, IsWork, usage, unreadable, answered, WorkEnds}
-use Rattle.jc_top.proofs.CommandLaws.{one_command}
+use Rattle.jc_top.proofs.CommandLaws.{one_command, command_or_none}
 
 -- ---- reading
 
@@ -167,3 +169,39 @@ module _ (words : List Word) (m : FileMap) where
   -- the work ends in one way
   pub one_ending : (s t : Status) → WorkEnds words m s → WorkEnds words m t → s ≡ t
   one_ending s t p q = sym p.2 ∙ ap (λ (w : Work). w.status) (one_work p.0 q.0 p.1 q.1) ∙ q.2
+
+-- ---- there is a work
+
+can_or_cannot : (m : FileMap) (path : Word) → ((bytes : List ℕ) × Holds m path bytes) ⊎ CantRead m path
+can_or_cannot m path = by (get m path) refl
+  where
+    by : (o : Option (List ℕ)) → get m path ≡ o → ((bytes : List ℕ) × Holds m path bytes) ⊎ CantRead m path
+    by None is = inr (inl is)
+    by (Some bytes) is = elim (cases_lt most_read (length bytes)) [
+      | inl long ↦ inr (inr (subst IsLong (sym is) long))
+      | inr short ↦ inl (bytes, record { there = is; short = short })
+    ]
+
+reads_on : (m : FileMap) (paths : List Word) → ((texts : List (List ℕ)) × AreRead m paths texts) ⊎ ((front : List Word) × (path : Word) × StopsAt m paths front path)
+reads_on m [] = inl ([], tt)
+reads_on m (p ∷ paths) = by (can_or_cannot m p) (reads_on m paths)
+  where
+    by : ((bytes : List ℕ) × Holds m p bytes) ⊎ CantRead m p → ((texts : List (List ℕ)) × AreRead m paths texts) ⊎ ((front : List Word) × (path : Word) × StopsAt m paths front path)
+        → ((texts : List (List ℕ)) × AreRead m (p ∷ paths) texts) ⊎ ((front : List Word) × (path : Word) × StopsAt m (p ∷ paths) front path)
+    by (inr cant) rest = inr ([], p, record { behind = paths; texts = []; parts = refl; read = tt; cant = cant })
+    by (inl can) (inl read) = inl (can.0 ∷ read.0, (can.1, read.1))
+    by (inl can) (inr stop) = inr (p ∷ stop.0, stop.1, record { behind = stop.2.behind; texts = can.0 ∷ stop.2.texts; parts = ap (λ (l : List Word). p ∷ l) stop.2.parts; read = (can.1, stop.2.read); cant = stop.2.cant })
+
+some_answer : (command : Command) (texts : List (List ℕ)) (m : FileMap) → AreRead m (inputs_of command) texts → (answer : Answer) × Answers command texts answer
+some_answer (merge out input) [] m read = absurd read
+some_answer (merge out input) (bytes ∷ []) m read = ⊎_elim (λ plain. (_, merged plain.1)) (λ unfit. (_, merge_refused unfit.1)) (plain_or_unfit [] bytes)
+some_answer (merge out input) (bytes ∷ other ∷ texts) m read = absurd read.1
+
+pub some_work : (words : List Word) (m : FileMap) → (work : Work) × IsWork words m work
+some_work words m = by (command_or_none words)
+  where
+    by : ((command : Command) × Means words command) ⊎ NoForm words → (work : Work) × IsWork words m work
+    by (inr none) = (_, usage none)
+    by (inl called) =
+        ⊎_elim (λ read. let answer = some_answer called.0 read.0 m read.1 in (_, answered called.1 read.1 answer.1))
+        (λ stop. (_, unreadable called.1 stop.2)) (reads_on m (inputs_of called.0))

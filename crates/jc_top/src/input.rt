@@ -17,7 +17,11 @@ fn read_stop<'a>(fault: FileFault, path: &'a str) -> Stop<'a>
 }
 
 /// The bytes of the file at a path.
-pub fn read_one<'a, F: Files>(alloc: Global, files: &mut F, path: &'a str) -> Result<Bytes, Stop<'a>>
+pub fn read_one<'a, F: Files>(
+    alloc: Global,
+    files: &mut F,
+    path: &'a str,
+) -> Result<Bytes, Stop<'a>>
     ensures gives { ReadOne (F.contents files.old) path.entry.now (F.read_faults files.old) (F.read_faults files.new) result }
     ensures contents { F.contents files.new ≡ F.contents files.old }
     ensures write_faults { F.write_faults files.new ≡ F.write_faults files.old }

@@ -48,18 +48,34 @@ fn one_write<'a>(alloc: Global, write: Write<'a>) -> Result<Vec<Write<'a>>, Stop
 }
 
 /// The one write of the command, of what it read.
-fn merged<'a>(alloc: Global, destfile: &'a str, input: &'a str, bytes: &[u8]) -> Result<Vec<Write<'a>>, Stop<'a>>
+fn merged<'a>(
+    alloc: Global,
+    destfile: &'a str,
+    input: &'a str,
+    bytes: &[u8],
+) -> Result<Vec<Write<'a>>, Stop<'a>>
     requires { length bytes.now ≤ most_read }
     ensures { AnswersWith (merge destfile.entry.now input.entry.now) (bytes.now ∷ []) result }
 {
     match union_text(alloc, bytes) {
-        Ok(bytes) => one_write(alloc, Write::File { path: destfile, bytes }),
+        Ok(bytes) => one_write(
+            alloc,
+            Write::File {
+                path: destfile,
+                bytes,
+            },
+        ),
         Err(fail) => Err(refused(fail, input)),
     }
 }
 
 /// The writes of `merge --destfile OUT IN`.
-pub fn prepare_merge<'a, F: Files>(alloc: Global, files: &mut F, destfile: &'a str, input: &'a str) -> Result<Vec<Write<'a>>, Stop<'a>>
+pub fn prepare_merge<'a, F: Files>(
+    alloc: Global,
+    files: &mut F,
+    destfile: &'a str,
+    input: &'a str,
+) -> Result<Vec<Write<'a>>, Stop<'a>>
     ensures gives { Prepares (F.contents files.old) (merge destfile.entry.now input.entry.now) (F.read_faults files.old) (F.read_faults files.new) result }
     ensures contents { F.contents files.new ≡ F.contents files.old }
     ensures write_faults { F.write_faults files.new ≡ F.write_faults files.old }

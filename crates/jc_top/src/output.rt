@@ -16,7 +16,11 @@ pub enum Write<'a> {
 }
 
 /// Makes one write.
-fn write_one<'a, F: Files, O: Sink>(files: &mut F, out: &mut O, write: &Write<'a>) -> Result<(), Stop<'a>>
+fn write_one<'a, F: Files, O: Sink>(
+    files: &mut F,
+    out: &mut O,
+    write: &Write<'a>,
+) -> Result<(), Stop<'a>>
     ensures gives { (err : Option (List ℕ)) → WroteOne F.landed
         (record { contents = F.contents files.old; out = O.told out.old; err = err }) (record { contents = F.contents files.new; out = O.told out.new; err = err })
         (F.write_faults files.old) (F.write_faults files.new) (O.faults out.old) (O.faults out.new) (write_seen write.now) result }
@@ -35,7 +39,11 @@ fn write_one<'a, F: Files, O: Sink>(files: &mut F, out: &mut O, write: &Write<'a
 }
 
 /// Makes the writes in order, up to the first that fails.
-pub fn write_all<'a, F: Files, O: Sink>(files: &mut F, out: &mut O, writes: &[Write<'a>]) -> Result<(), Stop<'a>>
+pub fn write_all<'a, F: Files, O: Sink>(
+    files: &mut F,
+    out: &mut O,
+    writes: &[Write<'a>],
+) -> Result<(), Stop<'a>>
     ensures gives { (err : Option (List ℕ)) → WroteAll F.landed
         (record { contents = F.contents files.old; out = O.told out.old; err = err }) (record { contents = F.contents files.new; out = O.told out.new; err = err })
         (F.write_faults files.old) (F.write_faults files.new) (O.faults out.old) (O.faults out.new) (map write_seen writes.now) result }

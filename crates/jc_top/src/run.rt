@@ -19,7 +19,11 @@ use jc_base::{Files, Sink};
 use std::alloc::Global;
 
 /// What a command writes: it reads its inputs, and is told nothing else.
-fn prepare<'a, F: Files>(alloc: Global, files: &mut F, command: &Command<'a>) -> Result<Vec<Write<'a>>, Stop<'a>>
+fn prepare<'a, F: Files>(
+    alloc: Global,
+    files: &mut F,
+    command: &Command<'a>,
+) -> Result<Vec<Write<'a>>, Stop<'a>>
     ensures gives { Prepares (F.contents files.old) (command_seen command.now) (F.read_faults files.old) (F.read_faults files.new) result }
     ensures contents { F.contents files.new ≡ F.contents files.old }
     ensures write_faults { F.write_faults files.new ≡ F.write_faults files.old }
@@ -30,7 +34,12 @@ fn prepare<'a, F: Files>(alloc: Global, files: &mut F, command: &Command<'a>) ->
 }
 
 /// Reads the inputs of a command, and then makes its writes.
-fn run<'a, F: Files, O: Sink>(alloc: Global, files: &mut F, out: &mut O, command: &Command<'a>) -> Result<(), Stop<'a>>
+fn run<'a, F: Files, O: Sink>(
+    alloc: Global,
+    files: &mut F,
+    out: &mut O,
+    command: &Command<'a>,
+) -> Result<(), Stop<'a>>
     ensures { (err : Option (List ℕ)) → Runs F.landed (command_seen command.now)
         (record { contents = F.contents files.old; out = O.told out.old; err = err }) (record { contents = F.contents files.new; out = O.told out.new; err = err })
         (record { reads = F.read_faults files.old; writes = F.write_faults files.old; outs = O.faults out.old }) (record { reads = F.read_faults files.new; writes = F.write_faults files.new; outs = O.faults out.new }) result }
@@ -56,7 +65,7 @@ pub fn run_tool<F: Files, O: Sink, E: Sink>(
     ensures work { ¬ (Rose (F.read_faults files.old) (F.read_faults files.new)) → ¬ (Rose (F.write_faults files.old) (F.write_faults files.new))
         → ¬ (Rose (O.faults out.old) (O.faults out.new)) → ¬ (Rose (E.faults err.old) (E.faults err.new)) → result ≢ Status.Memory
         → DoesWork F.landed (words_of words.now) (record { contents = F.contents files.old; out = O.told out.old; err = E.told err.old })
-            (record { contents = F.contents files.new; out = O.told out.new; err = E.told err.new }) result }
+        (record { contents = F.contents files.new; out = O.told out.new; err = E.told err.new }) result }
 
     // Usage comes exactly where the words are of no stated form.
     ensures usage { result ≡ Status.Usage → NoForm (words_of words.now) }
@@ -78,7 +87,7 @@ pub fn run_tool<F: Files, O: Sink, E: Sink>(
     // Where it comes, the writes were made up to the one that failed.
     ensures breaks_off { result ≡ Status.WriteFault → (m : FileMap) → F.contents files.old ≡ Some m
         → BreaksOff F.landed (words_of words.now) m (record { contents = F.contents files.old; out = O.told out.old; err = E.told err.old })
-            (record { contents = F.contents files.new; out = O.told out.new; err = E.told err.new }) (E.faults err.old) (E.faults err.new) }
+        (record { contents = F.contents files.new; out = O.told out.new; err = E.told err.new }) (E.faults err.old) (E.faults err.new) }
 
     // Where no write failed and the command isn't done, nothing was written but the message.
     ensures kept { result ≢ Status.Done → ¬ (Rose (F.write_faults files.old) (F.write_faults files.new)) → ¬ (Rose (O.faults out.old) (O.faults out.new))

@@ -31,7 +31,14 @@ struct Ran {
 }
 
 // Runs the words over one file, with these calls of the files and of the messages failing.
-fn run(alloc: Global, all: &[&str], path: &str, bytes: &[u8], files_fail: &[u32], err_fails: &[u32]) -> Result<Ran, jc_base::Memory> {
+fn run(
+    alloc: Global,
+    all: &[&str],
+    path: &str,
+    bytes: &[u8],
+    files_fail: &[u32],
+    err_fails: &[u32],
+) -> Result<Ran, jc_base::Memory> {
     let mut files = MemoryFiles::new(alloc, files_fail)?;
     files.with(path, bytes)?;
     let mut out = MemorySink::new(alloc, &[])?;
@@ -72,11 +79,18 @@ fn other_files_are_refused(rt: HostRuntime) -> Result<(), Fail> {
     let alloc = rt.alloc();
     for (bytes, place, text) in [
         (&[][..], 0, "a.exec: input of a later form at 0\n"),
-        (&[0x01, 0xc0, 0xc0, 0x10, 0x07, 0x10][..], 5, "a.exec: input of a later form at 5\n"),
+        (
+            &[0x01, 0xc0, 0xc0, 0x10, 0x07, 0x10][..],
+            5,
+            "a.exec: input of a later form at 5\n",
+        ),
     ] {
         let ran = merged(alloc, bytes)?;
         let refusal = ExecRefusal::LaterForm { place };
-        assert_eq!(rt; ran.status, Status::Refused(Fault::Exec { path: 0, refusal }));
+        assert_eq!(rt;
+            ran.status,
+            Status::Refused(Fault::Exec { path: 0, refusal })
+        );
         assert_eq!(rt; ran.err.bytes(), text.as_bytes());
         assert!(rt; ran.files.get("o").is_none());
     }
@@ -124,14 +138,56 @@ fn each_failing_call(rt: HostRuntime) -> Result<(), Fail> {
     let alloc = rt.alloc();
     for row in [
         // The file is missing, or the read fails; and then the message fails too.
-        Row { input: "none", files_fail: &[], err_fails: &[], status: Status::ReadFault, said: "cannot read none\n", left: None },
-        Row { input: "a.exec", files_fail: &[1], err_fails: &[], status: Status::ReadFault, said: "cannot read a.exec\n", left: None },
-        Row { input: "none", files_fail: &[], err_fails: &[1], status: Status::ReadFault, said: "cannot r", left: None },
+        Row {
+            input: "none",
+            files_fail: &[],
+            err_fails: &[],
+            status: Status::ReadFault,
+            said: "cannot read none\n",
+            left: None,
+        },
+        Row {
+            input: "a.exec",
+            files_fail: &[1],
+            err_fails: &[],
+            status: Status::ReadFault,
+            said: "cannot read a.exec\n",
+            left: None,
+        },
+        Row {
+            input: "none",
+            files_fail: &[],
+            err_fails: &[1],
+            status: Status::ReadFault,
+            said: "cannot r",
+            left: None,
+        },
         // The write fails: a prefix of the bytes is left.
-        Row { input: "a.exec", files_fail: &[2], err_fails: &[], status: Status::WriteFault, said: "cannot write o\n", left: Some(&A[..9]) },
-        Row { input: "a.exec", files_fail: &[2], err_fails: &[1], status: Status::WriteFault, said: "cannot ", left: Some(&A[..9]) },
+        Row {
+            input: "a.exec",
+            files_fail: &[2],
+            err_fails: &[],
+            status: Status::WriteFault,
+            said: "cannot write o\n",
+            left: Some(&A[..9]),
+        },
+        Row {
+            input: "a.exec",
+            files_fail: &[2],
+            err_fails: &[1],
+            status: Status::WriteFault,
+            said: "cannot ",
+            left: Some(&A[..9]),
+        },
         // A later call fails, which isn't made.
-        Row { input: "a.exec", files_fail: &[3], err_fails: &[1], status: Status::Done, said: "", left: Some(&A) },
+        Row {
+            input: "a.exec",
+            files_fail: &[3],
+            err_fails: &[1],
+            status: Status::Done,
+            said: "",
+            left: Some(&A),
+        },
     ] {
         let all = ["merge", "--destfile", "o", row.input];
         let ran = run(alloc, &all, "a.exec", &A, row.files_fail, row.err_fails)?;
@@ -153,7 +209,10 @@ fn a_failed_message_changes_nothing(rt: HostRuntime) -> Result<(), Fail> {
     assert_eq!(rt; ran.status, Status::Usage);
     let ran = run(alloc, &MERGE, "a.exec", &A[..4], &[], &[1])?;
     let refusal = ExecRefusal::LaterForm { place: 0 };
-    assert_eq!(rt; ran.status, Status::Refused(Fault::Exec { path: 0, refusal }));
+    assert_eq!(rt;
+        ran.status,
+        Status::Refused(Fault::Exec { path: 0, refusal })
+    );
     Ok(())
 }
 

@@ -1,4 +1,4 @@
-use Rattle.std.proofs.Common.{◌≡◌, List, ap, sym, subst, map}
+use Rattle.std.proofs.Common.{List, subst, map}
 use Rattle.std.proofs.lemmas.Result.{err_from_is_err_and}
 use Rattle.jc_top.specs.declared.output.Write.{Write as Written}
 use Rattle.jc_top.specs.Looks.{command_seen, write_seen}
@@ -18,6 +18,6 @@ returns g c = λ err.
     let F = g.F.Files in
     let O = g.O.Sink in
     let wrote = subst (λ (ws : List Written). WroteAll F.landed (record { contents = F.contents c.prepare.new.files; out = O.told c.args.out.now; err = err }) (record { contents = F.contents c.write_all.new.files; out = O.told c.write_all.new.out; err = err })
-        (F.write_faults c.prepare.new.files) (F.write_faults c.write_all.new.files) (O.faults c.args.out.now) (O.faults c.write_all.new.out) (map write_seen ws) c.write_all.result) c.deref.ensures.value (c.write_all.ensures.gives err) in
+    (F.write_faults c.prepare.new.files) (F.write_faults c.write_all.new.files) (O.faults c.args.out.now) (O.faults c.write_all.new.out) (map write_seen ws) c.write_all.result) c.deref.ensures.value (c.write_all.ensures.gives err) in
     runs_on F.landed (command_seen c.args.command.now) (F.contents c.args.files.now) (F.contents c.prepare.new.files) c.in_ok-writes.ensures.contents (F.contents c.write_all.new.files) (O.told c.args.out.now) (O.told c.write_all.new.out) err
     _ _ _ _ _ _ _ _ c.in_ok-writes.writes c.write_all.result c.in_ok-writes.ensures.write_faults c.write_all.ensures.read_faults c.in_ok-writes.ensures.gives wrote

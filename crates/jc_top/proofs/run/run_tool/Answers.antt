@@ -1,7 +1,7 @@
-use Rattle.std.proofs.Common.{◌≡◌, Option, List, ℕ, refl, sym, ◌∙◌, ap, subst}
+use Rattle.std.proofs.Common.{refl, ap}
 use Rattle.jc_top.specs.Words.{words_of}
 use Rattle.jc_top.specs.Looks.{command_seen}
-use Rattle.jc_top.specs.Outcome.{CommandRead, Faults}
+use Rattle.jc_top.specs.Outcome.{Faults}
 use Rattle.jc_top.proofs.RunLaws.{no_form_work, usage_not_refused, usage_not_unreadable, done_work, refuses_done, unreadable_done, stop_work, refused, refuses, unreadable_comes, read_cause, write_cause, breaks_off, stop_keeps}
 use Rattle.jc_top.proofs.run.run_tool.Goals as goal
 
@@ -13,12 +13,12 @@ returns-in-Err-Usage-clause-work g c = λ reads writes outs errs other.
 pub returns-in-Err-Usage-clause-refuses : goal.returns-in-Err-Usage-clause-refuses
 returns-in-Err-Usage-clause-refuses g c = λ fault m told ends quiet.
     let none = rw c.in-Err-Usage.field-0-is at c.in-Err-Usage.ensures in
-    absurd (usage_not_refused (words_of c.args.words.now) m fault none ends)
+    usage_not_refused (words_of c.args.words.now) m fault none ends
 
 pub returns-in-Err-Usage-clause-unreadable : goal.returns-in-Err-Usage-clause-unreadable
 returns-in-Err-Usage-clause-unreadable g c = λ m told ends.
     let none = rw c.in-Err-Usage.field-0-is at c.in-Err-Usage.ensures in
-    absurd (usage_not_unreadable (words_of c.args.words.now) m none ends)
+    usage_not_unreadable (words_of c.args.words.now) m none ends
 
 pub returns-in-Ok-run-clause-work : goal.returns-in-Ok-run-clause-work
 returns-in-Ok-run-clause-work g c = λ reads writes outs errs other.
@@ -26,11 +26,11 @@ returns-in-Ok-run-clause-work g c = λ reads writes outs errs other.
 
 pub returns-in-Ok-run-clause-refuses : goal.returns-in-Ok-run-clause-refuses
 returns-in-Ok-run-clause-refuses g c = λ fault m told ends quiet.
-    absurd (refuses_done g.F.Files.landed (words_of c.args.words.now) (command_seen c.in-Ok.command) c.in-Ok.ensures (g.O.Sink.told c.args.out.now) (g.E.Sink.told c.args.err.now) _ _ (g.F.Files.contents c.args.files.now) _ fault (c.in-Ok-run.ensures (g.E.Sink.told c.args.err.now)) m told ends)
+    refuses_done g.F.Files.landed (words_of c.args.words.now) (command_seen c.in-Ok.command) c.in-Ok.ensures (g.O.Sink.told c.args.out.now) (g.E.Sink.told c.args.err.now) _ _ (g.F.Files.contents c.args.files.now) _ fault (c.in-Ok-run.ensures (g.E.Sink.told c.args.err.now)) m told ends
 
 pub returns-in-Ok-run-clause-unreadable : goal.returns-in-Ok-run-clause-unreadable
 returns-in-Ok-run-clause-unreadable g c = λ m told ends.
-    absurd (unreadable_done g.F.Files.landed (words_of c.args.words.now) (command_seen c.in-Ok.command) c.in-Ok.ensures (g.O.Sink.told c.args.out.now) (g.E.Sink.told c.args.err.now) _ _ (g.F.Files.contents c.args.files.now) _ (c.in-Ok-run.ensures (g.E.Sink.told c.args.err.now)) m told ends)
+    unreadable_done g.F.Files.landed (words_of c.args.words.now) (command_seen c.in-Ok.command) c.in-Ok.ensures (g.O.Sink.told c.args.out.now) (g.E.Sink.told c.args.err.now) _ _ (g.F.Files.contents c.args.files.now) _ (c.in-Ok-run.ensures (g.E.Sink.told c.args.err.now)) m told ends
 
 pub returns-in-Ok-run-clause-done : goal.returns-in-Ok-run-clause-done
 returns-in-Ok-run-clause-done g c = λ done.
