@@ -5,6 +5,7 @@ ghost use Rattle.jc_exec.specs.declared.session.Session.{Session};
 ghost use Rattle.jc_exec.specs.Format.{Block, Blocks};
 ghost use Rattle.jc_exec.specs.Store.{Store};
 ghost use Rattle.jc_exec.specs.Plain.{HasOneReading};
+ghost use Rattle.jc_exec.specs.Refusing.{HasOneAnswer};
 ghost use Rattle.jc_exec.specs.Union.{IsUnion, union_of};
 ghost use Rattle.jc_exec.specs.Writing.{by_dump, IsByDump};
 
@@ -29,6 +30,12 @@ pub fn one_union_of_each_list()
 pub fn union_block_by_block()
     ensures { (blocks : List Block) (s : Store)
         → (union_of (record { sessions = []; classes = [] }) blocks ≡ Some s) ↔ IsUnion blocks s }
+{}
+
+/// A text is refused over a store for one reason at most, and not where its blocks have a union
+/// with the store.
+pub fn one_answer_to_each_text()
+    ensures { (before : Store) (text : List ℕ) → HasOneAnswer before text }
 {}
 
 /// Sessions are written by the time of their dump, and those of one time stay in their order.
