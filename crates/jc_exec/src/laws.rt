@@ -9,8 +9,8 @@ ghost use Rattle.jc_exec.specs.Refusing.{HasOneAnswer};
 ghost use Rattle.jc_exec.specs.Union.{IsUnion, union_of};
 ghost use Rattle.jc_exec.specs.Writing.{by_dump, IsByDump};
 
-/// A text is a plain file over some records in one way at most, or the first block that doesn't
-/// fit stands at one offset; never both.
+/// Over some records each text is a plain file of one list of classes, or its first block that
+/// doesn't fit stands at one offset; never both.
 pub fn one_reading_of_each_text()
     ensures { (before : List ClassHits) (text : List ℕ) → HasOneReading before text }
 {}
