@@ -1,15 +1,15 @@
 -- A text is refused for one reason at most, and not where all of its blocks have a union with the store.
-use Rattle.std.proofs.Common.{◌≡◌, ◌≢◌, ℕ, zero, suc, ◌+◌, ◌<◌, ◌≤◌, List, [], ◌∷◌, ◌++◌, length, take, Contains, get_or, refl, sym, ◌∙◌, ap, subst, arith, append_assoc, length-append}
+use Rattle.std.proofs.Common.{◌≡◌, ℕ, zero, suc, ◌<◌, List, [], ◌∷◌, ◌++◌, length, take, Contains, get_or, refl, sym, ◌∙◌, ap, subst, arith, append_assoc, length-append}
 use Rattle.std.proofs.lemmas.List.{append-nil, take_at}
 use Rattle.byteorder.specs.Endian.{big_number}
 use Rattle.jc_exec.specs.declared.hits.ClassHits.{ClassHits}
 use Rattle.jc_exec.specs.Format.{Block, header, session, class, header_text, IsBlock, AreBlocks, Blocks, BeginsWithHeader}
 use Rattle.jc_exec.specs.Store.{Store, IsNew}
-use Rattle.jc_exec.specs.Union.{records_of, ids_of, Agrees, IsMerged, IsUnion}
-use Rattle.jc_exec.specs.Refusing.{Refused, bad_exec, other_version, conflict, blocks_of, MayFollow, HasOtherHeader, HasConflict, HasNoBlock, RefusedHere, FirstRefusal, HasOneAnswer}
+use Rattle.jc_exec.specs.Union.{records_of, IsUnion}
+use Rattle.jc_exec.specs.Refusing.{Refused, bad_exec, other_version, conflict, blocks_of, MayFollow, HasOtherHeader, HasConflict, RefusedHere, FirstRefusal, HasOneAnswer}
 use Rattle.jc_exec.proofs.ListLaws.{kind_of, kind_first, one_front, no_block}
-use Rattle.jc_exec.proofs.MergingLaws.{Consistent, union_consistent, Distinct, union_distinct}
-use Rattle.jc_exec.proofs.UnionLaws.{records-append, contains_front, contains_last, one_union, merged_of, HasRecord, seen_has_record}
+use Rattle.jc_exec.proofs.MergingLaws.{union_consistent, Distinct, union_distinct}
+use Rattle.jc_exec.proofs.UnionLaws.{records-append, contains_front, contains_last, one_union, merged_of}
 
 -- ---- a header of another version
 
