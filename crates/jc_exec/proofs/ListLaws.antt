@@ -43,12 +43,12 @@ session_again text rest s block = ap (λ (l : List ℕ). session_at (l ++ rest))
 -- ---- a block in front
 
 -- the byte that says its kind
-abbrev kind_of : Block → ℕ
+abbrev pub kind_of : Block → ℕ
 kind_of header = 0x01
 kind_of (session s) = 0x10
 kind_of (class c) = 0x11
 
-kind_first : (b : Block) (text front rest : List ℕ) → IsBlock front b → text ≡ front ++ rest → get_or text 0 0 ≡ kind_of b
+pub kind_first : (b : Block) (text front rest : List ℕ) → IsBlock front b → text ≡ front ++ rest → get_or text 0 0 ≡ kind_of b
 kind_first header text front rest block parts = ap (λ (l : List ℕ). get_or l 0 0) (parts ∙ ap (λ (l : List ℕ). l ++ rest) block)
 kind_first (session s) text front rest block parts = ap (λ (l : List ℕ). get_or l 0 0) (parts ∙ ap (λ (l : List ℕ). l ++ rest) block.1)
 kind_first (class c) text front rest block parts = ap (λ (l : List ℕ). get_or l 0 0) (parts ∙ ap (λ (l : List ℕ). l ++ rest) block.1)
@@ -71,7 +71,7 @@ one_front a b text front rest other later x y p q = by a b x y (sym (kind_first 
         let same = some_is (c, rest) (d, later) (sym (class_again front rest c x) ∙ ap class_at (sym p ∙ q) ∙ class_again other later d y) in
         (ap (λ (r : ClassHits × List ℕ). class r.0) same, ap (λ (r : ClassHits × List ℕ). r.1) same)
 
-no_block : (b : Block) (text front rest : List ℕ) → IsBlock front b → text ≡ front ++ rest → text ≡ [] → ⊥
+pub no_block : (b : Block) (text front rest : List ℕ) → IsBlock front b → text ≡ front ++ rest → text ≡ [] → ⊥
 no_block b text front rest block parts none = some b (sym (kind_first b text front rest block parts) ∙ ap (λ (l : List ℕ). get_or l 0 0) none)
   where
     some : (b : Block) → kind_of b ≡ 0 → ⊥

@@ -78,7 +78,7 @@ merged_same rs r c id a m =
 
 -- ---- records with one more
 
-abbrev Distinct : List ClassHits → Type 0
+abbrev pub Distinct : List ClassHits → Type 0
 Distinct [] = Unit {0}
 Distinct (c ∷ cs) = IsNew c.id cs × Distinct cs
 
@@ -201,10 +201,10 @@ merging_makes_union bs s e = union_blocks [] bs (record { sessions = []; classes
 -- ---- and where there is a union, merging makes it
 
 -- records of one id agree
-abbrev Consistent : List ClassHits → Type 0
+abbrev pub Consistent : List ClassHits → Type 0
 Consistent rs = (x y : ClassHits) → Contains rs x → Contains rs y → x.id ≡ y.id → Agrees x y
 
-union_consistent : (bs : List Block) (s : Store) → IsUnion bs s → Consistent (records_of bs)
+pub union_consistent : (bs : List Block) (s : Store) → IsUnion bs s → Consistent (records_of bs)
 union_consistent bs s u = λ x y there_x there_y same.
     let rs = records_of bs in
     let some : among x.id (ids_of s.classes) ≡ true = ap (among x.id) u.ids ∙ among_first_seen (ids_of rs) x.id ∙ among_there rs x there_x.0 there_x.1 there_x.2 in

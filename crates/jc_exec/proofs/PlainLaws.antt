@@ -13,7 +13,7 @@ use Rattle.jc_exec.specs.declared.hits.ClassHits.{ClassHits}
 use Rattle.jc_exec.specs.Format.{class, header_text, IsClassBlock, AreBlocks}
 use Rattle.jc_exec.specs.Reading.{class_at}
 use Rattle.jc_exec.specs.Store.{IsSmall, classes_of, Keyed, IsNew}
-use Rattle.jc_exec.specs.Plain.{AreNew, IsPlain, NoneFits, FitsUpTo, IsFirstUnfit, Refuses, HasOneReading}
+use Rattle.jc_exec.specs.Plain.{AreNew, IsPlain, NoneFits, FitsUpTo, IsFirstUnfit, Refuses}
 use Rattle.jc_exec.proofs.BlockLaws.{class_takes, class_again}
 use Rattle.jc_exec.proofs.StoreLaws.{new_append, new_parts, are_new_push, shown_push, keyed_push}
 
@@ -194,13 +194,6 @@ one_place before text m n (inr a) (inr b) =
     let t = behind before text n b in
     let rest : a.rest ≡ b.rest = same_rest before s.0 s.1 a.rest t.1 b.rest a.classes b.classes s.4 t.4 s.3 (append_cancel_left header_text s.0 t.0 (sym s.2 ∙ t.2) ∙ t.3) a.plain.new b.plain.new a.unfit b.unfit in
     omega (arith, a.offset, b.offset, ap length a.parts, length-append a.taken a.rest, ap length b.parts, length-append b.taken b.rest, ap length rest)
-
-pub has_one_reading : (before : List ClassHits) (text : List ℕ) → HasOneReading before text
-has_one_reading before text = record {
-  classes = one_reading before text;
-  place = one_place before text;
-  apart = plain_or_unfit_not_both before text;
-}
 
 -- ---- what a call answers
 

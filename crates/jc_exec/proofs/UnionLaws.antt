@@ -294,3 +294,14 @@ pub among_there : (rs : List ClassHits) (r : ClassHits) (k : ℕ) → k < length
 among_there [] r k lt is = absurd (omega (arith, lt))
 among_there (x ∷ rs) r zero lt is = rw (eq-eqb x.id r.id (ap (λ (y : ClassHits). y.id) is)) refl
 among_there (x ∷ rs) r (suc k) lt is = or_later (nat_eq x.id r.id) (among r.id (ids_of rs)) (among_there rs r k (omega (arith, lt)) is)
+
+merged_at : (rs cs : List ClassHits) (c : ClassHits) (k : ℕ) → k < length cs → get_or cs k c ≡ c → AllByRecursion (IsMerged rs) cs → AllByRecursion (HasRecord rs) (ids_of cs) → IsMerged rs c × HasRecord rs c.id
+merged_at rs [] c k lt is a b = absurd (omega (arith, lt))
+merged_at rs (d ∷ cs) c zero lt is a b = (subst (IsMerged rs) is a.0, subst (λ (x : ClassHits). HasRecord rs x.id) is b.0)
+merged_at rs (d ∷ cs) c (suc k) lt is a b = merged_at rs cs c k (omega (arith, lt)) is a.1 b.1
+
+-- what is known of a record of the union
+pub merged_of : (bs : List Block) (s : Store) (c : ClassHits) → IsUnion bs s → Contains s.classes c → IsMerged (records_of bs) c × HasRecord (records_of bs) c.id
+merged_of bs s c u there =
+    let rs = records_of bs in
+    merged_at rs s.classes c there.0 there.1 there.2 u.merged (subst (AllByRecursion (HasRecord rs)) (sym u.ids) (seen_has_record rs))

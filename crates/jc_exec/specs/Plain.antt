@@ -52,8 +52,9 @@ pub record TakesPlain (text : List ℕ) (old new : Store) : Type 0 where
   pub plain : IsPlain old.classes text classes
   pub added : new ≡ record { sessions = old.sessions; classes = old.classes ++ classes }
 
--- a text has at most one reading over these records: as one list of classes, or as unfit at one place
+-- a text has one reading over these records: as one list of classes, or as unfit at one place
 pub record HasOneReading (before : List ClassHits) (text : List ℕ) : Type 0 where
+  pub some : ((cs : List ClassHits) × IsPlain before text cs) ⊎ ((place : ℕ) × IsFirstUnfit before text place)
   pub classes : (cs ds : List ClassHits) → IsPlain before text cs → IsPlain before text ds → cs ≡ ds
   pub place : (m n : ℕ) → IsFirstUnfit before text m → IsFirstUnfit before text n → m ≡ n
   pub apart : (cs : List ClassHits) (m : ℕ) → IsPlain before text cs → IsFirstUnfit before text m → ⊥

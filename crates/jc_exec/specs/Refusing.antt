@@ -64,3 +64,8 @@ pub record FirstRefusal (before : Store) (text : List ℕ) (why : Refused) : Typ
   pub blocks : Blocks taken read
   pub union : IsUnion (blocks_of before ++ read) store
   pub refused : RefusedHere read store (length taken) rest why
+
+-- A text is refused for one reason at most, and not where all of its blocks have a union with the store.
+pub record HasOneAnswer (before : Store) (text : List ℕ) : Type 0 where
+  pub reason : (a b : Refused) → FirstRefusal before text a → FirstRefusal before text b → a ≡ b
+  pub apart : (read : List Block) (s : Store) (why : Refused) → Blocks text read → IsUnion (blocks_of before ++ read) s → FirstRefusal before text why → ⊥

@@ -4,12 +4,17 @@ ghost use Rattle.jc_exec.specs.declared.hits.ClassHits.{ClassHits};
 ghost use Rattle.jc_exec.specs.declared.session.Session.{Session};
 ghost use Rattle.jc_exec.specs.Format.{Block, Blocks};
 ghost use Rattle.jc_exec.specs.Store.{Store};
+<<<<<<< HEAD
 ghost use Rattle.jc_exec.specs.Plain.{HasOneReading, IsDecided};
+=======
+ghost use Rattle.jc_exec.specs.Plain.{HasOneReading};
+ghost use Rattle.jc_exec.specs.Refusing.{HasOneAnswer};
+>>>>>>> origin/exec
 ghost use Rattle.jc_exec.specs.Union.{IsUnion, union_of};
 ghost use Rattle.jc_exec.specs.Writing.{by_dump, IsByDump};
 
-/// A text is a plain file over some records in one way at most, or the first block that doesn't
-/// fit stands at one offset; never both.
+/// Over some records each text is a plain file of one list of classes, or its first block that
+/// doesn't fit stands at one offset; never both.
 pub fn one_reading_of_each_text()
     ensures { (before : List ClassHits) (text : List ℕ) → HasOneReading before text }
 {}
@@ -34,6 +39,12 @@ pub fn one_union_of_each_list()
 pub fn union_block_by_block()
     ensures { (blocks : List Block) (s : Store)
         → (union_of (record { sessions = []; classes = [] }) blocks ≡ Some s) ↔ IsUnion blocks s }
+{}
+
+/// A text is refused over a store for one reason at most, and not where its blocks have a union
+/// with the store.
+pub fn one_answer_to_each_text()
+    ensures { (before : Store) (text : List ℕ) → HasOneAnswer before text }
 {}
 
 /// Sessions are written by the time of their dump, and those of one time stay in their order.

@@ -15,12 +15,14 @@ pub use hits::ClassHits;
 pub use laws::{
     each_text_is_plain_or_unfit,
     one_list_of_each_text, one_reading_of_each_text, one_union_of_each_list, union_block_by_block,
+    one_answer_to_each_text, one_list_of_each_text, one_reading_of_each_text,
+    one_union_of_each_list, sessions_by_dump, union_block_by_block,
 };
 pub use refusal::ExecRefusal;
 pub use session::Session;
 pub use store::ExecStore;
 
 #[cfg(test)]
-mod plain;
+mod slow;
 #[cfg(test)]
 mod tests;

@@ -1,6 +1,6 @@
 use Rattle.std.proofs.Common.{◌≡◌, [], take}
 use Rattle.jc_exec.specs.Writing.{exec_text}
-use Rattle.jc_exec.proofs.plain.text.Given as goal
+use Rattle.jc_exec.proofs.slow.text.Given as goal
 
 -- the records so far
 abbrev pub invariant-writing : goal.invariant-writing

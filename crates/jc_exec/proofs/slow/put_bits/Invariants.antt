@@ -1,6 +1,6 @@
 use Rattle.std.proofs.Common.{◌≡◌, ◌++◌}
 use Rattle.jc_exec.specs.Writing.{pack}
-use Rattle.jc_exec.proofs.plain.put_bits.Given as goal
+use Rattle.jc_exec.proofs.slow.put_bits.Given as goal
 
 -- the bytes so far
 abbrev pub invariant-packing : goal.invariant-packing

@@ -1,7 +1,7 @@
 use Rattle.std.proofs.Common.{sym, ◌∙◌, arith}
-use Rattle.jc_exec.proofs.PlainProgramLaws.{made_new, made_known, made_union}
-use Rattle.jc_exec.proofs.plain.union.Goals as goal
-use Rattle.jc_exec.proofs.plain.union.Goals.{then-not-has_id+in_ok-merged+in_ok-push, else-not-has_id}
+use Rattle.jc_exec.proofs.SlowLaws.{made_new, made_known, made_union}
+use Rattle.jc_exec.proofs.slow.union.Goals as goal
+use Rattle.jc_exec.proofs.slow.union.Goals.{then-not-has_id+in_ok-merged+in_ok-push, else-not-has_id}
 
 pub merging-preserved : goal.merging-preserved
 merging-preserved c = elim c.if-not-has_id.branch [

@@ -1,5 +1,5 @@
-use Rattle.jc_exec.proofs.PlainProgramLaws.{Made}
-use Rattle.jc_exec.proofs.plain.union.Given as goal
+use Rattle.jc_exec.proofs.SlowLaws.{Made}
+use Rattle.jc_exec.proofs.slow.union.Given as goal
 
 -- the union of the records so far
 abbrev pub invariant-merging : goal.invariant-merging

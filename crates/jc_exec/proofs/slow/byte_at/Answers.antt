@@ -1,7 +1,7 @@
 use Rattle.std.proofs.Common.{◌∙◌, ap}
 use mir.Val.{bool_byte}
-use Rattle.jc_exec.proofs.PlainProgramLaws.{low_of_eight}
-use Rattle.jc_exec.proofs.plain.byte_at.Goals as goal
+use Rattle.jc_exec.proofs.SlowLaws.{low_of_eight}
+use Rattle.jc_exec.proofs.slow.byte_at.Goals as goal
 
 pub returns : goal.returns
 returns c =

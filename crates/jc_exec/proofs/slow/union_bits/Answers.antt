@@ -1,6 +1,6 @@
 use Rattle.std.proofs.Common.{◌++◌, ◌∷◌, [], sym, ◌∙◌}
-use Rattle.jc_exec.proofs.PlainProgramLaws.{all_hits_none, all_hits_more}
-use Rattle.jc_exec.proofs.plain.union_bits.Goals as goal
+use Rattle.jc_exec.proofs.SlowLaws.{all_hits_none, all_hits_more}
+use Rattle.jc_exec.proofs.slow.union_bits.Goals as goal
 
 pub looking-init : goal.looking-init
 looking-init c = c.new-bits.ensures.items ∙ all_hits_none c.args.records.now c.args.id

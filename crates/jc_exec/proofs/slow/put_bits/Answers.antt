@@ -1,7 +1,7 @@
 use Rattle.std.proofs.Common.{◌++◌, ◌∷◌, [], List, ℕ, sym, ◌∙◌, ap, append_assoc}
 use Rattle.jc_exec.specs.Writing.{pack}
-use Rattle.jc_exec.proofs.PlainProgramLaws.{pack_more}
-use Rattle.jc_exec.proofs.plain.put_bits.Goals as goal
+use Rattle.jc_exec.proofs.SlowLaws.{pack_more}
+use Rattle.jc_exec.proofs.slow.put_bits.Goals as goal
 
 pub packing-preserved : goal.packing-preserved
 packing-preserved c =

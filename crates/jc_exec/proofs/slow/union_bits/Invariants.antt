@@ -1,6 +1,6 @@
 use Rattle.std.proofs.Common.{◌≡◌}
 use Rattle.jc_exec.specs.SlowUnion.{all_hits}
-use Rattle.jc_exec.proofs.plain.union_bits.Given as goal
+use Rattle.jc_exec.proofs.slow.union_bits.Given as goal
 
 -- the bits so far
 abbrev pub invariant-looking : goal.invariant-looking
