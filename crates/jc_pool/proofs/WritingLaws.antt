@@ -1,6 +1,5 @@
 -- What is appended in parts.
-use Rattle.std.proofs.Common.{◌≡◌, ℕ, ℤ, suc, ◌+◌, ◌-◌, ◌<◌, ◌^◌, Bool, true, false, cond, List, [], ◌∷◌, ◌++◌, length, Option, Some, None, Result, Ok, Err, refl, sym, ◌∙◌, ap, subst, arith, append_assoc}
-use Rattle.std.specs.Int.{Width, w32, w64, cast_signed, cast_unsigned, bytes_high_first}
+use Rattle.std.proofs.Common.{◌≡◌, ℕ, suc, ◌-◌, ◌<◌, ◌^◌, Bool, List, [], ◌∷◌, ◌++◌, length, Option, Some, None, Result, Ok, Err, refl, sym, ◌∙◌, ap, subst, arith, append_assoc}
 use Rattle.std.proofs.lemmas.List.{append-nil}
 use Rattle.byteorder.specs.Endian.{big_bytes, big_number}
 use Rattle.byteorder.specs.Numbers.{big_number-reads_back, length-bytes_high_first}
@@ -9,11 +8,9 @@ use Rattle.std.specs.Result.{OnOk}
 use Rattle.jc_base.specs.Grammar.{Grammar}
 use Rattle.jc_base.specs.declared.fail.Memory.{Memory}
 use Rattle.jc_pool.specs.declared.entry.Entry.{Entry}
-use Rattle.jc_pool.specs.declared.entry.Entry.TheVariants as entry
-use Rattle.jc_pool.specs.Pool.{PoolValue, is_wide, IsSmall, IsFilled, IsPool}
-use Rattle.jc_pool.specs.EntryFormat.{IsEntry}
+use Rattle.jc_pool.specs.Pool.{PoolValue, IsFilled, IsPool}
 use Rattle.jc_pool.specs.PoolGrammar.{by_size, behind, places, pool}
-use Rattle.jc_pool.specs.Writing.{Appends, Grows, SpellsSlot, SpellsSlots, IsSmallSlot, AreSmall}
+use Rattle.jc_pool.specs.Writing.{Appends, Grows, SpellsSlot, SpellsSlots, AreSmall}
 
 -- the bytes of a number spell it
 pub big_spells : (n x : ℕ) → x < 256 ^ n → IsBig n (big_bytes n x) x
