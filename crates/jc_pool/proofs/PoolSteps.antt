@@ -101,9 +101,6 @@ pub record IsBegun (slots : List (Option Entry)) : Type 0 where
   pub parts : slots ≡ None ∷ tail
   pub fills : (rest : List (Option Entry)) → IsFilled rest → IsFilled (tail ++ rest)
 
-pub begun : IsBegun (None ∷ [])
-begun = record { tail = []; parts = refl; fills = λ rest filled. filled }
-
 more_begun : (slots : List (Option Entry)) (e : Entry) → IsSmall e → IsBegun slots → IsBegun (slots ++ slots_of e)
 more_begun slots e small b = record {
   tail = b.tail ++ slots_of e;

@@ -30,9 +30,6 @@ appends_both A B C joined old mid new p q = record {
 pub grows_both : (old mid new : List ℕ) → Grows old mid → Grows mid new → Grows old new
 grows_both old mid new p q = (p.0 ++ q.0, q.1 ∙ ap (λ (l : List ℕ). l ++ q.0) p.1 ∙ append_assoc old p.0 q.0)
 
-pub grows_none : (old new : List ℕ) → new ≡ old → Grows old new
-grows_none old new same = ([], same ∙ sym (append-nil old))
-
 -- ---- the places of a pool
 
 -- whatever spells the places that are left completes the text of all of them
@@ -40,13 +37,6 @@ pub record Writing (all rest : List (Option Entry)) (old now : List ℕ) : Type 
   pub completes : (tail : List ℕ) → SpellsSlots tail rest → Appends (λ text. SpellsSlots text all) old (now ++ tail)
   pub grows : Grows old now
   pub small : AreSmall rest
-
-pub writing_begun : (all : List (Option Entry)) (old : List ℕ) → AreSmall all → Writing all all old old
-writing_begun all old small = record {
-  completes = λ tail spells. record { text = tail; parts = refl; spells = spells };
-  grows = grows_none old old refl;
-  small = small;
-}
 
 pub writes_more : (all left rest : List (Option Entry)) (slot : Option Entry) (old now next : List ℕ) → left ≡ slot ∷ rest → Appends (λ text. SpellsSlot text slot) now next
     → Writing all left old now → Writing all rest old next
