@@ -1,7 +1,7 @@
 -- An entry that is read is spelled so, and what is spelled so is read.
-use Rattle.std.proofs.Common.{◌≡◌, ◌⊎◌, inl, inr, ⊎_elim, ℕ, ℤ, ◌+◌, ◌<◌, ◌≤◌, ◌==◌, ◌||◌, Bool, true, false, cond, List, [], ◌∷◌, ◌++◌, length, take, Option, Some, None, nat_eq, nat_lt, refl, sym, ◌∙◌, ap, subst, arith, append_assoc, if◌then◌else◌}
+use Rattle.std.proofs.Common.{◌≡◌, ◌⊎◌, inl, inr, ⊎_elim, ℕ, ℤ, ◌<◌, Bool, true, false, cond, List, ◌∷◌, ◌++◌, length, take, Option, Some, None, nat_eq, refl, sym, ◌∙◌, ap, subst, arith, append_assoc, if◌then◌else◌}
 use Rattle.std.specs.Int.{w32, w64, cast_signed}
-use Rattle.std.proofs.lemmas.Bool.{eqb-true, ltb-false, le-ltb}
+use Rattle.std.proofs.lemmas.Bool.{eqb-true}
 use Rattle.std.proofs.lemmas.Bool.Decides.{nat_tests}
 use Rattle.std.proofs.lemmas.List.{take_at}
 use Rattle.byteorder.specs.Endian.{big_number}
@@ -9,7 +9,7 @@ use Rattle.jc_base.specs.Decoder.{IsBig, ◌>>=◌, first, byte_at, number_at}
 use Rattle.jc_base.proofs.DecoderLaws.{bind_some, some_is, chosen, test_some, first_takes, first_again, number_takes, number_again, byte_takes, byte_again}
 use Rattle.jc_pool.specs.declared.entry.Entry.{Entry}
 use Rattle.jc_pool.specs.declared.entry.Entry.TheVariants as entry
-use Rattle.jc_pool.specs.Pool.{is_wide, width}
+use Rattle.jc_pool.specs.Pool.{is_wide}
 use Rattle.jc_pool.specs.EntryFormat.{IsSigned, IsUtf8, ArePlaces, IsHandle, IsInfo, tag_of, IsEntry}
 use Rattle.jc_pool.specs.EntryReading.{count_at, with_left, utf8_at, integer_at, float_at, long_at, double_at, of_place, place_at, of_places, places_at, handle_at, info_at, entry_at, narrow_only, narrow_at}
 

@@ -1,7 +1,7 @@
 -- A pool is read exactly where the grammar spells one, and fails exactly where the grammar fails.
 use Rattle.std.proofs.Common.{◌≡◌, ◌⊎◌, inl, inr, refl, ℕ, zero, suc, ◌-◌, Bool, true, false, List, [], ◌∷◌, ◌++◌, Option, Some, None, Result, Ok, Err, if◌then◌else◌, sym, ◌∙◌, ap, subst}
-use Rattle.jc_base.specs.Grammar.{Grammar, nothing, one, followed_by}
-use Rattle.jc_base.specs.Parsing.{Parsed, Good, Bad, ◌>>=◌, item, Parses, RefusedAt}
+use Rattle.jc_base.specs.Grammar.{Grammar, nothing, one}
+use Rattle.jc_base.specs.Parsing.{Parsed, Good, Bad, item, Parses}
 use Rattle.jc_base.specs.Reader.{Reading}
 use Rattle.jc_base.specs.declared.fail.Fail.{Fail}
 use Rattle.jc_base.specs.declared.fail.Fail.TheVariants as fails

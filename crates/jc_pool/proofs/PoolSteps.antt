@@ -1,11 +1,11 @@
 -- Filling the places of a pool, entry by entry.
-use Rattle.std.proofs.Common.{◌≡◌, ◌⊎◌, inl, inr, ℕ, zero, suc, ◌+◌, ◌-◌, ◌<◌, ◌≤◌, Bool, true, false, cond, List, [], ◌∷◌, ◌++◌, length, Option, Some, None, Result, Ok, Err, nat_lt, refl, sym, ◌∙◌, ap, subst, arith, append_assoc, if◌then◌else◌}
-use Rattle.std.proofs.lemmas.Bool.{le-ltb, lt-ltb}
+use Rattle.std.proofs.Common.{◌≡◌, ◌⊎◌, inl, inr, ℕ, zero, suc, ◌-◌, ◌<◌, ◌≤◌, Bool, true, false, List, [], ◌∷◌, ◌++◌, length, Option, Some, None, Err, nat_lt, refl, sym, ◌∙◌, ap, subst, arith, append_assoc, if◌then◌else◌}
+use Rattle.std.proofs.lemmas.Bool.{le-ltb}
 use Rattle.std.proofs.lemmas.List.{append-nil, length-append}
 use Rattle.jc_base.specs.Reader.{Reading}
 use Rattle.jc_base.specs.Decoder.{SameEnd}
 use Rattle.jc_base.specs.Decoder as decoder
-use Rattle.jc_base.specs.Parsing.{Parsed, Good, Bad, ◌>>=◌, parsed_or, item, Parses, RefusedAt}
+use Rattle.jc_base.specs.Parsing.{Parsed, Good, Bad, ◌>>=◌, parsed_or, item, Parses}
 use Rattle.jc_base.specs.declared.fail.Fail.{Fail}
 use Rattle.jc_base.specs.declared.fail.Fail.TheVariants as fails
 use Rattle.jc_base.specs.declared.refusal.Refusal.{Refusal}
@@ -100,9 +100,6 @@ pub record IsBegun (slots : List (Option Entry)) : Type 0 where
   pub tail : List (Option Entry)
   pub parts : slots ≡ None ∷ tail
   pub fills : (rest : List (Option Entry)) → IsFilled rest → IsFilled (tail ++ rest)
-
-pub begun : IsBegun (None ∷ [])
-begun = record { tail = []; parts = refl; fills = λ rest filled. filled }
 
 more_begun : (slots : List (Option Entry)) (e : Entry) → IsSmall e → IsBegun slots → IsBegun (slots ++ slots_of e)
 more_begun slots e small b = record {

@@ -1,5 +1,5 @@
 -- The units that modified UTF-8 spells, and the characters that the units spell.
-use Rattle.std.proofs.Common.{◌≡◌, ◌⊎◌, inl, inr, ⊎_elim, ℕ, ◌+◌, ◌-◌, ◌*◌, ◌/◌, ◌%◌, ◌<◌, ◌≤◌, ◌^◌, Bool, true, false, not, List, [], ◌∷◌, ◌++◌, length, map, Option, Some, None, is_some, Result, Ok, Err, is_err, IfOk, IsSomeAnd, refl, sym, ◌∙◌, ap, subst, arith, append_assoc}
+use Rattle.std.proofs.Common.{◌≡◌, ◌⊎◌, inl, inr, ℕ, ◌+◌, ◌-◌, ◌/◌, ◌%◌, ◌<◌, ◌≤◌, ◌^◌, true, false, not, List, [], ◌∷◌, ◌++◌, length, map, Option, Some, None, is_some, Result, Ok, Err, is_err, IfOk, IsSomeAnd, refl, sym, ◌∙◌, ap, subst, arith, append_assoc}
 use Rattle.std.specs.Char.{IsScalar}
 use Rattle.std.specs.Char.Escape.{encode_utf16}
 use Rattle.std.proofs.lemmas.List.{append-nil}
@@ -15,7 +15,7 @@ use Rattle.std.proofs.lemmas.Bool.Decides.{nat_tests}
 use Rattle.std.proofs.lemmas.Grind.{flat_map-append}
 use Rattle.jc_base.proofs.DecoderLaws.{some_is, some_none}
 use Rattle.jc_base.specs.Modified.{unit_bytes, IsModified, unit_at}
-use Rattle.jc_base.proofs.ModifiedLaws.{SameVerdict, same_start, next_unit, unit_again}
+use Rattle.jc_base.proofs.ModifiedLaws.{SameVerdict, next_unit, unit_again}
 use Rattle.jc_pool.specs.Text.{SpellsUnits, SpellsText, IsTextOf, AreUnitsOf}
 
 -- ---- units
@@ -24,9 +24,6 @@ pub record UnitsRead (whole units rest : List ℕ) : Type 0 where
   pub small : AllByRecursion (λ u. u < 2 ^ 16) units
   pub parts : whole ≡ flat_map unit_bytes units ++ rest
   pub verdict : SameVerdict whole rest
-
-pub none_read : (whole : List ℕ) → UnitsRead whole [] whole
-none_read whole = record { small = tt; parts = refl; verdict = same_start whole }
 
 all_push : {X : Type 0} (P : X → Type 0) (xs : List X) (y : X) → AllByRecursion P xs → P y → AllByRecursion P (xs ++ y ∷ [])
 all_push P [] y all last = (last, tt)

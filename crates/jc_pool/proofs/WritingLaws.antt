@@ -1,6 +1,5 @@
 -- What is appended in parts.
-use Rattle.std.proofs.Common.{◌≡◌, ℕ, ℤ, suc, ◌+◌, ◌-◌, ◌<◌, ◌^◌, Bool, true, false, cond, List, [], ◌∷◌, ◌++◌, length, Option, Some, None, Result, Ok, Err, refl, sym, ◌∙◌, ap, subst, arith, append_assoc}
-use Rattle.std.specs.Int.{Width, w32, w64, cast_signed, cast_unsigned, bytes_high_first}
+use Rattle.std.proofs.Common.{◌≡◌, ℕ, suc, ◌-◌, ◌<◌, ◌^◌, Bool, List, [], ◌∷◌, ◌++◌, length, Option, Some, None, Result, Ok, Err, refl, sym, ◌∙◌, ap, subst, arith, append_assoc}
 use Rattle.std.proofs.lemmas.List.{append-nil}
 use Rattle.byteorder.specs.Endian.{big_bytes, big_number}
 use Rattle.byteorder.specs.Numbers.{big_number-reads_back, length-bytes_high_first}
@@ -9,11 +8,9 @@ use Rattle.std.specs.Result.{OnOk}
 use Rattle.jc_base.specs.Grammar.{Grammar}
 use Rattle.jc_base.specs.declared.fail.Memory.{Memory}
 use Rattle.jc_pool.specs.declared.entry.Entry.{Entry}
-use Rattle.jc_pool.specs.declared.entry.Entry.TheVariants as entry
-use Rattle.jc_pool.specs.Pool.{PoolValue, is_wide, IsSmall, IsFilled, IsPool}
-use Rattle.jc_pool.specs.EntryFormat.{IsEntry}
+use Rattle.jc_pool.specs.Pool.{PoolValue, IsFilled, IsPool}
 use Rattle.jc_pool.specs.PoolGrammar.{by_size, behind, places, pool}
-use Rattle.jc_pool.specs.Writing.{Appends, Grows, SpellsSlot, SpellsSlots, IsSmallSlot, AreSmall}
+use Rattle.jc_pool.specs.Writing.{Appends, Grows, SpellsSlot, SpellsSlots, AreSmall}
 
 -- the bytes of a number spell it
 pub big_spells : (n x : ℕ) → x < 256 ^ n → IsBig n (big_bytes n x) x
@@ -33,9 +30,6 @@ appends_both A B C joined old mid new p q = record {
 pub grows_both : (old mid new : List ℕ) → Grows old mid → Grows mid new → Grows old new
 grows_both old mid new p q = (p.0 ++ q.0, q.1 ∙ ap (λ (l : List ℕ). l ++ q.0) p.1 ∙ append_assoc old p.0 q.0)
 
-pub grows_none : (old new : List ℕ) → new ≡ old → Grows old new
-grows_none old new same = ([], same ∙ sym (append-nil old))
-
 -- ---- the places of a pool
 
 -- whatever spells the places that are left completes the text of all of them
@@ -43,13 +37,6 @@ pub record Writing (all rest : List (Option Entry)) (old now : List ℕ) : Type 
   pub completes : (tail : List ℕ) → SpellsSlots tail rest → Appends (λ text. SpellsSlots text all) old (now ++ tail)
   pub grows : Grows old now
   pub small : AreSmall rest
-
-pub writing_begun : (all : List (Option Entry)) (old : List ℕ) → AreSmall all → Writing all all old old
-writing_begun all old small = record {
-  completes = λ tail spells. record { text = tail; parts = refl; spells = spells };
-  grows = grows_none old old refl;
-  small = small;
-}
 
 pub writes_more : (all left rest : List (Option Entry)) (slot : Option Entry) (old now next : List ℕ) → left ≡ slot ∷ rest → Appends (λ text. SpellsSlot text slot) now next
     → Writing all left old now → Writing all rest old next

@@ -1,5 +1,5 @@
 -- What the places of a constant pool name (JVM Specification 4.4).
-use Rattle.std.specs.Prelude.{ℕ, ℤ, List, [], slice_index_or, Option, Some, None}
+use Rattle.std.specs.Prelude.{ℕ, List, [], slice_index_or, Option, Some, None}
 use Rattle.jc_base.specs.Decoder.{◌>>=◌}
 use Rattle.jc_pool.specs.declared.entry.Entry.{Entry}
 use Rattle.jc_pool.specs.declared.entry.Entry.TheVariants as entry

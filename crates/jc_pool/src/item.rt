@@ -1,9 +1,9 @@
 //! Reading the items of a constant pool (JVM Specification 4.1, 4.4).
 ghost use Rattle.std.specs.Prelude.{◌≡◌, ◌+◌, ◌<◌, ◌≤◌, IfOk, IfSome, Some, None};
 ghost use Rattle.jc_base.specs.Decoder.{Gives, SameEnd};
-ghost use Rattle.jc_base.specs.Parsing.{Parses, item, RefusedAt};
+ghost use Rattle.jc_base.specs.Parsing.{Parses, item};
 ghost use Rattle.jc_pool.specs.Pool.{IsSmall, width};
-ghost use Rattle.jc_pool.specs.EntryReading.{count_at, with_left, utf8_at, integer_at, float_at, long_at, double_at, of_place, place_at, of_places, places_at, handle_at, info_at, entry_at, fitting_at};
+ghost use Rattle.jc_pool.specs.EntryReading.{count_at, utf8_at, integer_at, float_at, long_at, double_at, of_place, place_at, of_places, places_at, handle_at, info_at, entry_at, fitting_at};
 
 use crate::entry::Entry;
 use jc_base::{Bytes, Fail, Reader, Refusal, Unread, not_a_class};

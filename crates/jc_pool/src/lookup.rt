@@ -1,12 +1,12 @@
 //! What the places of a pool name.
-ghost use Rattle.std.specs.Prelude.{◌≡◌, ◌↔◌, [], Some, None, IfOk, IsErr, is_some, option_copied};
-ghost use Rattle.jc_pool.specs.Lookup.{entry_at, utf8_of, class_name_of, signature_of, member, ref_of, dynamic_of, ref_in, reference_of, member_of, where_named, const_in, const_of};
+ghost use Rattle.std.specs.Prelude.{◌≡◌, ◌↔◌, [], Some, None, IfOk, IsErr, is_some};
+ghost use Rattle.jc_pool.specs.Lookup.{utf8_of, class_name_of, signature_of, member, ref_of, dynamic_of, ref_in, reference_of, member_of, const_in, const_of};
 
 use crate::entry::Entry;
 use crate::{ConstText, Pool};
 
-/// The place has no entry of the kind that was asked for, or such an entry names one that isn't of
-/// the kind that it needs (JVM Specification 4.4).
+/// The place has no entry of the kind that was asked for, or the entry names one that isn't of the
+/// kind that it has to be (JVM Specification 4.4).
 #[derive(Clone, Copy, Debug, PartialEq, Eq)]
 pub struct BadIndex;
 
@@ -26,6 +26,10 @@ pub struct MemberText<'a> {
 impl Pool {
     /// The bytes of the Utf8 entry at a place (JVM Specification 4.4.7). They need not be modified
     /// UTF-8.
+    ///
+    /// # Errors
+    ///
+    /// `BadIndex` exactly where no Utf8 entry stands at the place.
     #[tactic(auto, unfolding(crate::specs::Lookup::utf8_of))]
     pub fn utf8_at(&self, place: u16) -> Result<&[u8], BadIndex>
         ensures text { IfOk result (λ text. utf8_of self.now place ≡ Some text.now) }
@@ -37,7 +41,12 @@ impl Pool {
         }
     }
 
-    /// The name of the Class entry at a place (JVM Specification 4.4.1), as the Utf8 entry has it
+    /// The name of the Class entry at a place: the bytes of the Utf8 entry that it names (JVM
+    /// Specification 4.4.1). They need not be modified UTF-8.
+    ///
+    /// # Errors
+    ///
+    /// `BadIndex` exactly where no Class entry stands at the place, or no Utf8 entry at the place
     /// that it names.
     #[tactic(auto, unfolding(crate::specs::Lookup::class_name_of))]
     pub fn class_at(&self, place: u16) -> Result<&[u8], BadIndex>
@@ -121,6 +130,12 @@ impl Pool {
 
     /// What the entry at a place names as a field, a method, or a dynamic constant or call (JVM
     /// Specification 4.4.2, 4.4.10).
+    ///
+    /// # Errors
+    ///
+    /// `BadIndex` exactly where the place has no entry of these five kinds, or a place that the
+    /// entry names has no Class entry with a name (for the three kinds of members), or no
+    /// NameAndType entry with a name and a descriptor.
     #[tactic(auto, unfolding(crate::specs::Lookup::member_of))]
     pub fn member_at(&self, place: u16) -> Result<MemberText<'_>, BadIndex>
         ensures texts { IfOk result (λ m. member_of self.now place ≡ Some (member m)) }
@@ -171,7 +186,15 @@ impl Pool {
         if named { Ok(constant) } else { Err(BadIndex) }
     }
 
-    /// The constant at a place (JVM Specification 4.4, table 4.4-C).
+    /// The constant at a place, of the kinds that an instruction can load (JVM Specification 4.4,
+    /// table 4.4-C).
+    ///
+    /// # Errors
+    ///
+    /// `BadIndex` exactly where the place has no entry of these kinds, or what the entry names is
+    /// not there: the text of a string, the name of a class, the descriptor of a method's type, the
+    /// name and the descriptor of a dynamic constant, or the member of a method handle, with all
+    /// that the member names.
     #[tactic(auto, unfolding(crate::specs::Lookup::const_of))]
     pub fn const_at(&self, place: u16) -> Result<ConstText, BadIndex>
         ensures kind { IfOk result (λ c. const_of self.now place ≡ Some c) }

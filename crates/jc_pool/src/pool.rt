@@ -1,8 +1,8 @@
 //! The constant pool.
 ghost use Rattle.std.specs.Prelude.{◌≡◌, ◌+◌, ◌-◌, ◌<◌, ◌≤◌, ◌++◌, ◌∷◌, [], ℕ, List, None, IfOk, OnOk};
 ghost use Rattle.jc_base.specs.Decoder.{SameEnd};
-ghost use Rattle.jc_base.specs.Parsing.{Parsed, Good, Bad, Parses, RefusedAt};
-ghost use Rattle.jc_pool.specs.Pool.{PoolValue, IsPool, IsSmall, slots_of, width};
+ghost use Rattle.jc_base.specs.Parsing.{Good, Bad, Parses};
+ghost use Rattle.jc_pool.specs.Pool.{PoolValue, IsPool, slots_of};
 ghost use Rattle.jc_pool.specs.PoolGrammar.{pool, ReadsBy};
 ghost use Rattle.jc_pool.specs.PoolReading.{put_behind, places_at, pool_at};
 

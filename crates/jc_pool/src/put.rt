@@ -1,5 +1,5 @@
 //! Numbers and bytes at the end of what is written.
-ghost use Rattle.std.specs.Prelude.{◌≡◌, ◌++◌, ◌∷◌, [], ℕ, List, OnOk, OnErr};
+ghost use Rattle.std.specs.Prelude.{◌≡◌, ◌++◌, ◌∷◌, [], OnOk, OnErr};
 ghost use Rattle.jc_base.specs.Decoder.{IsBig};
 ghost use Rattle.jc_pool.specs.Writing.{Appends};
 

@@ -56,33 +56,48 @@ fn every_tag_is_read_looked_up_and_written_back(rt: HostRuntime) -> Result<(), t
 }
 
 #[test]
-fn each_kind_is_looked_up(rt: HostRuntime) -> Result<(), test::Fail> {
-    let alloc = rt.alloc();
-    let Ok(pool) = Pool::read(alloc, &mut Reader::new(&EVERY_TAG)) else {
+fn texts_are_looked_up(rt: HostRuntime) -> Result<(), test::Fail> {
+    let Ok(pool) = Pool::read(rt.alloc(), &mut Reader::new(&EVERY_TAG)) else {
         return Err("refused")?;
     };
-    assert_eq!(rt; pool.utf8_at(1), Ok(b"A".as_slice()));
-    assert_eq!(rt; pool.utf8_at(2), Err(BadIndex));
-    assert_eq!(rt; pool.class_at(2), Ok(b"A".as_slice()));
+    let Ok(text) = pool.utf8_at(1) else {
+        return Err("no text")?;
+    };
+    assert_eq!(rt; text, b"A".as_slice());
+    let Ok(name) = pool.class_at(2) else {
+        return Err("no name")?;
+    };
+    assert_eq!(rt; name, b"A".as_slice());
+    assert!(rt; pool.utf8_at(2).is_err());
     for place in [0, 1, 8, 12, 19, 20, 21, 0xffff] {
-        assert_eq!(rt; pool.class_at(place), Err(BadIndex), "{place}");
+        assert!(rt; pool.class_at(place).is_err(), "{place}");
     }
-    for (place, tag, class) in [
-        (5, 9, &b"A"[..]),
-        (6, 10, b"A"),
-        (7, 11, b"A"),
-        (17, 17, b""),
-        (18, 18, b""),
-    ] {
+    Ok(())
+}
+
+#[test]
+fn members_are_looked_up(rt: HostRuntime) -> Result<(), test::Fail> {
+    let Ok(pool) = Pool::read(rt.alloc(), &mut Reader::new(&EVERY_TAG)) else {
+        return Err("refused")?;
+    };
+    for (place, tag, class) in [(5, 9, 1), (6, 10, 1), (7, 11, 1), (17, 17, 0), (18, 18, 0)] {
         let Ok(member) = pool.member_at(place) else {
             return Err("no member")?;
         };
         assert_eq!(rt; member.tag, tag);
-        assert_eq!(rt; member.class, class);
+        assert_eq!(rt; member.class, &b"A"[..class]);
         assert_eq!(rt; member.name, b"A".as_slice());
         assert_eq!(rt; member.desc, b"()V".as_slice());
     }
-    assert_eq!(rt; pool.member_at(4), Err(BadIndex));
+    assert!(rt; pool.member_at(4).is_err());
+    Ok(())
+}
+
+#[test]
+fn constants_are_looked_up(rt: HostRuntime) -> Result<(), test::Fail> {
+    let Ok(pool) = Pool::read(rt.alloc(), &mut Reader::new(&EVERY_TAG)) else {
+        return Err("refused")?;
+    };
     for (place, constant) in [
         (2, ConstText::Class),
         (8, ConstText::Text),

@@ -1,7 +1,6 @@
 //! Writing a constant pool (JVM Specification 4.1, 4.4).
-ghost use Rattle.std.specs.Prelude.{◌≡◌, ◌+◌, ◌<◌, ◌++◌, ◌∷◌, [], ℕ, List, length, OnOk, OnErr};
-ghost use Rattle.jc_base.specs.Decoder.{IsBig};
-ghost use Rattle.jc_pool.specs.Pool.{IsSmall, IsPool};
+ghost use Rattle.std.specs.Prelude.{◌≡◌, ◌+◌, ◌<◌, ◌++◌, ◌∷◌, [], length, OnOk, OnErr};
+ghost use Rattle.jc_pool.specs.Pool.{IsSmall};
 ghost use Rattle.jc_pool.specs.PoolGrammar.{pool as pool_text};
 ghost use Rattle.jc_pool.specs.EntryFormat.{ArePlaces, IsHandle, IsUtf8, IsInfo, IsEntry};
 ghost use Rattle.jc_pool.specs.Writing.{Appends, Grows, SpellsSlot, SpellsSlots, IsSmallSlot, AreSmall};
@@ -12,7 +11,6 @@ use crate::put::{put_bytes, put_u8, put_u16, put_u32, put_u64};
 use jc_base::Memory;
 
 /// Puts a size of two bytes at the end, and the text.
-
 fn put_utf8(into: &mut Vec<u8>, text: &[u8]) -> Result<(), Memory>
     requires { length text.now < 65536 }
     ensures ok { OnOk result (Appends (λ info. IsUtf8 info text.now) into.old.items into.new.items) }

@@ -1,4 +1,4 @@
-use Rattle.std.proofs.Common.{◌-◌, [], ◌∷◌, None, ap, sym, arith, ◌∙◌}
+use Rattle.std.proofs.Common.{◌-◌, [], ◌∷◌, None, arith}
 use Rattle.std.proofs.lemmas.Result.{err_from_is_err_and}
 use Rattle.jc_pool.specs.PoolReading.{put_behind, places_at}
 use Rattle.jc_pool.proofs.PoolSteps.{fills_more, refuses, is_read, is_pool}

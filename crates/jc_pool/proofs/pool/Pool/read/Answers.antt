@@ -1,6 +1,4 @@
-use Rattle.std.proofs.Common.{sym, ◌∙◌, ap, subst}
-use Rattle.jc_base.specs.Parsing.{Parses, Good, Bad}
-use Rattle.jc_pool.proofs.PoolLaws.{reads_by, pool_agrees, pool_read, pool_refused}
+use Rattle.jc_pool.proofs.PoolLaws.{reads_by, pool_read, pool_refused}
 use Rattle.jc_pool.proofs.pool.Pool.read.Goals as goal
 
 pub returns-clause-reads : goal.returns-clause-reads
