@@ -5,7 +5,7 @@ use Rattle.byteorder.specs.Endian.{big_number}
 use Rattle.jc_base.specs.Decoder.{◌>>=◌, first, byte_at, number_at}
 use Rattle.jc_pool.specs.declared.entry.Entry.{Entry}
 use Rattle.jc_pool.specs.declared.entry.Entry.TheVariants as entry
-use Rattle.jc_pool.specs.Pool.{is_wide}
+use Rattle.jc_pool.specs.Pool.{is_wide, width}
 
 -- a count above 0
 unfoldable pub count_at : List ℕ → Option (ℕ × List ℕ)
@@ -106,3 +106,9 @@ narrow_only read = if is_wide read.0 then None else Some read
 
 unfoldable pub narrow_at : List ℕ → Option (Entry × List ℕ)
 narrow_at left = entry_at left >>= narrow_only
+
+-- an entry that takes no more places than there are
+unfoldable pub fitting_at : ℕ → List ℕ → Option (Entry × List ℕ)
+fitting_at places left = do
+  e ← entry_at left
+  if nat_lt places (width e.0) then None else Some e

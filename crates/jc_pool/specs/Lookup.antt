@@ -5,6 +5,7 @@ use Rattle.jc_pool.specs.declared.entry.Entry.{Entry}
 use Rattle.jc_pool.specs.declared.entry.Entry.TheVariants as entry
 use Rattle.jc_pool.specs.declared.constant.ConstText.{ConstText}
 use Rattle.jc_pool.specs.declared.constant.ConstText.TheVariants as constant
+use Rattle.jc_pool.specs.declared.lookup.MemberText.{MemberText}
 use Rattle.jc_pool.specs.Pool.{PoolValue}
 
 -- the entry at a place
@@ -59,6 +60,10 @@ pub record Member : Type 0 where
   pub name : List ℕ
   pub desc : List ℕ
 
+-- the texts of a member
+abbrev pub member : MemberText → Member
+member m = record { tag = m.tag; class = m.class.now; name = m.name.now; desc = m.desc.now }
+
 -- a member of a class: the class has to be a Class entry, the rest a NameAndType entry (JVM Specification 4.4.2)
 unfoldable pub ref_of : PoolValue → ℕ → ℕ → ℕ → Option Member
 ref_of pool tag class name_and_type = do
@@ -72,13 +77,22 @@ dynamic_of pool tag name_and_type = do
   signature ← signature_of pool name_and_type
   Some (record { tag = tag; class = []; name = signature.name; desc = signature.desc })
 
+-- a field or a method of a class
+abbrev pub ref_in : PoolValue → Entry → Option Member
+ref_in pool (entry.Fieldref class name_and_type) = ref_of pool 9 class name_and_type
+ref_in pool (entry.Methodref class name_and_type) = ref_of pool 10 class name_and_type
+ref_in pool (entry.InterfaceMethodref class name_and_type) = ref_of pool 11 class name_and_type
+ref_in pool _ = None
+
+-- the field or the method at a place
+unfoldable pub reference_of : PoolValue → ℕ → Option Member
+reference_of pool place = entry_at pool place >>= ref_in pool
+
+-- a member, or a constant or a call that is linked at run time
 abbrev pub member_in : PoolValue → Entry → Option Member
-member_in pool (entry.Fieldref class name_and_type) = ref_of pool 9 class name_and_type
-member_in pool (entry.Methodref class name_and_type) = ref_of pool 10 class name_and_type
-member_in pool (entry.InterfaceMethodref class name_and_type) = ref_of pool 11 class name_and_type
 member_in pool (entry.Dynamic bootstrap name_and_type) = dynamic_of pool 17 name_and_type
 member_in pool (entry.InvokeDynamic bootstrap name_and_type) = dynamic_of pool 18 name_and_type
-member_in pool _ = None
+member_in pool e = ref_in pool e
 
 -- the member that the entry at a place names
 unfoldable pub member_of : PoolValue → ℕ → Option Member
@@ -91,13 +105,6 @@ abbrev pub where_named : {X : Type 0} → ConstText → Option X → Option Cons
 where_named c (Some named) = Some c
 where_named c None = None
 
--- a field or a method of a class
-abbrev pub ref_in : PoolValue → Entry → Option Member
-ref_in pool (entry.Fieldref class name_and_type) = ref_of pool 9 class name_and_type
-ref_in pool (entry.Methodref class name_and_type) = ref_of pool 10 class name_and_type
-ref_in pool (entry.InterfaceMethodref class name_and_type) = ref_of pool 11 class name_and_type
-ref_in pool _ = None
-
 -- the constant that an entry stands for: an entry that it names has to stand there (JVM Specification 4.4, table 4.4-C)
 abbrev pub const_in : PoolValue → Entry → Option ConstText
 const_in pool (entry.Integer value) = Some (constant.Int value)
@@ -106,7 +113,7 @@ const_in pool (entry.Long value) = Some (constant.Long value)
 const_in pool (entry.Double bits) = Some constant.Double
 const_in pool (entry.Class name) = where_named constant.Class (utf8_of pool name)
 const_in pool (entry.String text) = where_named constant.Text (utf8_of pool text)
-const_in pool (entry.MethodHandle kind reference) = where_named constant.Handle (entry_at pool reference >>= ref_in pool)
+const_in pool (entry.MethodHandle kind reference) = where_named constant.Handle (reference_of pool reference)
 const_in pool (entry.MethodType descriptor) = where_named constant.MethodKind (utf8_of pool descriptor)
 const_in pool (entry.Dynamic bootstrap name_and_type) = where_named constant.Computed (signature_of pool name_and_type)
 const_in pool _ = None

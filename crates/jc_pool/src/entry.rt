@@ -1,4 +1,6 @@
 //! The entries of a constant pool (JVM Specification 4.4).
+ghost use Rattle.std.specs.Prelude.{◌≡◌};
+
 use jc_base::Bytes;
 
 /// An entry of a constant pool. Numbers other than values are places in the pool.
@@ -38,4 +40,22 @@ pub enum Entry {
     Module { name: u16 },
     /// A package by its name (JVM Specification 4.4.12).
     Package { name: u16 },
+}
+
+impl Entry {
+    ghost use Rattle.jc_pool.specs.Pool.{is_wide, width};
+
+    /// Whether the entry is a long or a double.
+    pub fn is_wide(&self) -> bool
+        ensures { result ≡ is_wide self.now }
+    {
+        matches!(self, Entry::Long(_) | Entry::Double(_))
+    }
+
+    /// How many places the entry takes.
+    pub fn width(&self) -> usize
+        ensures { result ≡ width self.now }
+    {
+        if self.is_wide() { 2 } else { 1 }
+    }
 }

@@ -1,17 +1,19 @@
 //! Reading the items of a constant pool (JVM Specification 4.1, 4.4).
-ghost use Rattle.std.specs.Prelude.{◌≡◌, ◌≤◌, IfOk, IfSome, Some, None};
+ghost use Rattle.std.specs.Prelude.{◌≡◌, ◌+◌, ◌<◌, ◌≤◌, IfOk, IfSome, Some, None};
 ghost use Rattle.jc_base.specs.Decoder.{Gives, SameEnd};
-ghost use Rattle.jc_pool.specs.Pool.{IsSmall, is_wide};
-ghost use Rattle.jc_pool.specs.EntryReading.{count_at, with_left, utf8_at, integer_at, float_at, long_at, double_at, of_place, place_at, of_places, places_at, handle_at, info_at, entry_at, narrow_at};
+ghost use Rattle.jc_base.specs.Parsing.{Parses, item, RefusedAt};
+ghost use Rattle.jc_pool.specs.Pool.{IsSmall, width};
+ghost use Rattle.jc_pool.specs.EntryReading.{count_at, with_left, utf8_at, integer_at, float_at, long_at, double_at, of_place, place_at, of_places, places_at, handle_at, info_at, entry_at, fitting_at};
 
 use crate::entry::Entry;
-use jc_base::{Bytes, Reader, Unread};
+use jc_base::{Bytes, Fail, Reader, Refusal, Unread, not_a_class};
 use std::alloc::Global;
 
 /// The pool's count, which is above 0.
 #[tactic(auto, unfolding(crate::specs::EntryReading::count_at))]
-pub fn count(reader: &mut Reader<'_>) -> Result<u16, Unread>
+fn count(reader: &mut Reader<'_>) -> Result<u16, Unread>
     ensures gives { Gives (λ n. n) result reader.new.left (count_at reader.old.left) }
+    ensures some { IfOk result (λ n. 0 < n) }
     ensures end { SameEnd reader.old reader.new }
     ensures later { reader.old.place ≤ reader.new.place }
 {
@@ -183,7 +185,7 @@ fn info(alloc: Global, reader: &mut Reader<'_>, tag: u8) -> Result<Entry, Unread
 
 /// An entry, from its tag on.
 #[tactic(auto, unfolding(crate::specs::EntryReading::entry_at))]
-pub fn entry(alloc: Global, reader: &mut Reader<'_>) -> Result<Entry, Unread>
+fn entry(alloc: Global, reader: &mut Reader<'_>) -> Result<Entry, Unread>
     ensures gives { Gives (λ e. e) result reader.new.left (entry_at reader.old.left) }
     ensures small { IfOk result IsSmall }
     ensures end { SameEnd reader.old reader.new }
@@ -191,4 +193,56 @@ pub fn entry(alloc: Global, reader: &mut Reader<'_>) -> Result<Entry, Unread>
 {
     let tag = reader.u8()?;
     info(alloc, reader, tag)
+}
+
+/// An entry that takes no more than so many places.
+#[tactic(auto, unfolding(crate::specs::EntryReading::fitting_at))]
+fn fitting(alloc: Global, reader: &mut Reader<'_>, places: usize) -> Result<Entry, Unread>
+    ensures gives { Gives (λ e. e) result reader.new.left (fitting_at places reader.old.left) }
+    ensures small { IfOk result IsSmall }
+    ensures fits { IfOk result (λ e. width e ≤ places) }
+    ensures end { SameEnd reader.old reader.new }
+    ensures later { reader.old.place ≤ reader.new.place }
+{
+    let entry = entry(alloc, reader)?;
+    if places < entry.width() {
+        return Err(Unread::Unfit);
+    }
+    Ok(entry)
+}
+
+/// The pool's count. The item fails where fewer than two bytes are left, or they spell 0.
+pub fn count_item(reader: &mut Reader<'_>) -> Result<u16, Fail<Refusal>>
+    ensures gives { Parses (λ n. n) result reader.old reader.new (item count_at reader.old.left) }
+    ensures some { IfOk result (λ n. 0 < n) }
+    ensures end { SameEnd reader.old reader.new }
+    ensures later { reader.old.place ≤ reader.new.place }
+{
+    let place = reader.place();
+    match count(reader) {
+        Ok(count) => Ok(count),
+        Err(Unread::Memory) => Err(Fail::Memory),
+        Err(Unread::Unfit) => Err(Fail::Said(not_a_class(place))),
+    }
+}
+
+/// An entry. The item fails where none of the format stands here, or where it takes more than so
+/// many places.
+pub fn entry_item(
+    alloc: Global,
+    reader: &mut Reader<'_>,
+    places: usize,
+) -> Result<Entry, Fail<Refusal>>
+    ensures gives { Parses (λ e. e) result reader.old reader.new (item (fitting_at places) reader.old.left) }
+    ensures small { IfOk result IsSmall }
+    ensures fits { IfOk result (λ e. width e ≤ places) }
+    ensures end { SameEnd reader.old reader.new }
+    ensures later { reader.old.place ≤ reader.new.place }
+{
+    let place = reader.place();
+    match fitting(alloc, reader, places) {
+        Ok(entry) => Ok(entry),
+        Err(Unread::Memory) => Err(Fail::Memory),
+        Err(Unread::Unfit) => Err(Fail::Said(not_a_class(place))),
+    }
 }

@@ -1,8 +1,15 @@
 //! The constant pool.
-ghost use Rattle.std.specs.Prelude.{◌≡◌};
+ghost use Rattle.std.specs.Prelude.{◌≡◌, ◌+◌, ◌-◌, ◌<◌, ◌≤◌, ◌++◌, ◌∷◌, [], ℕ, List, None, IfOk, OnOk};
+ghost use Rattle.jc_base.specs.Decoder.{SameEnd};
+ghost use Rattle.jc_base.specs.Grammar.{Grammar};
+ghost use Rattle.jc_base.specs.Parsing.{Parsed, Good, Bad, Parses, RefusedAt};
+ghost use Rattle.jc_pool.specs.Pool.{PoolValue, IsPool, IsSmall, slots_of, width};
+ghost use Rattle.jc_pool.specs.PoolReading.{put_behind, places_at, pool_at};
 
 use crate::entry::Entry;
-use jc_base::List;
+use crate::item::{count_item, entry_item};
+use jc_base::{Fail, List, Memory, Reader, Refusal};
+use std::alloc::Global;
 use std::marker::Model;
 
 /// A constant pool (JVM Specification 4.4), which contracts see as the list of what stands at its
@@ -13,8 +20,6 @@ pub struct Pool {
 }
 
 impl Model for Pool {
-    ghost use Rattle.jc_pool.specs.Pool.{PoolValue, IsPool};
-
     ghost Value = { PoolValue };
 
     ghost view = { λ p. p.slots };
@@ -34,5 +39,64 @@ impl Pool {
             Some(Some(entry)) => Some(entry),
             _ => None,
         }
+    }
+}
+
+/// Puts an entry at the next place, and nothing at its second one.
+fn put(slots: &mut List<Option<Entry>>, entry: Entry) -> Result<(), Memory>
+    ensures { OnOk result (slots.new ≡ slots.old ++ slots_of entry) }
+{
+    let wide = entry.is_wide();
+    slots.push(Some(entry))?;
+    if wide {
+        slots.push(None)?;
+    }
+    Ok(())
+}
+
+/// Nothing at place 0, and the entries at the places from 1 on.
+fn filled(
+    alloc: Global,
+    reader: &mut Reader<'_>,
+    count: u16,
+) -> Result<List<Option<Entry>>, Fail<Refusal>>
+    requires { 0 < count }
+    ensures gives { Parses (λ slots. slots) result reader.old reader.new (put_behind (None ∷ []) (places_at (count - 1) reader.old.left)) }
+    ensures pool { IfOk result IsPool }
+    ensures end { SameEnd reader.old reader.new }
+    ensures later { reader.old.place ≤ reader.new.place }
+{
+    let count = usize::from(count);
+    let mut slots = List::from_vec(Vec::with_capacity(alloc, count)?);
+    slots.push(None)?;
+    'filling: while slots.len() < count {
+        let entry = entry_item(alloc, reader, count - slots.len())?;
+        put(&mut slots, entry)?;
+    }
+    Ok(slots)
+}
+
+impl Pool {
+    /// Reads a pool: its count, and entries at the places from 1 on that fill all places below the
+    /// count (JVM Specification 4.1, 4.4). On `Ok` the reader stands directly behind the pool.
+    /// After an error it stands at or behind the place where it stood.
+    ///
+    /// An entry is one item, from its tag on. What entries name is not looked at, and neither is
+    /// text.
+    ///
+    /// # Errors
+    ///
+    /// `Memory` where memory was refused. `NotAClass`, at the offset of the first item that fails,
+    /// where the bytes that are left begin with no pool: too few bytes, a count of 0, an unknown
+    /// tag, or a long or a double whose second place is not below the count.
+    #[tactic(auto, unfolding(crate::specs::PoolReading::pool_at))]
+    pub fn read(alloc: Global, reader: &mut Reader<'_>) -> Result<Pool, Fail<Refusal>>
+        ensures gives { Parses (λ pool. pool) result reader.old reader.new (pool_at reader.old.left) }
+        ensures end { SameEnd reader.old reader.new }
+        ensures later { reader.old.place ≤ reader.new.place }
+    {
+        let count = count_item(reader)?;
+        let slots = filled(alloc, reader, count)?;
+        Ok(Pool { slots })
     }
 }
