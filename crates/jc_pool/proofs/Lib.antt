@@ -1,1 +1,3 @@
 pub mod PoolSteps
+pub mod EntryLaws
+pub mod PoolLaws
