@@ -1,12 +1,16 @@
 -- A pool is read exactly where the grammar spells one, and fails exactly where the grammar fails.
-use Rattle.std.proofs.Common.{ℕ, zero, suc, ◌-◌, Bool, true, false, List, [], ◌∷◌, ◌++◌, Option, Some, None, if◌then◌else◌}
+use Rattle.std.proofs.Common.{◌≡◌, ℕ, zero, suc, ◌-◌, Bool, true, false, List, [], ◌∷◌, ◌++◌, Option, Some, None, Result, Ok, Err, if◌then◌else◌, sym, ◌∙◌, ap, subst}
 use Rattle.jc_base.specs.Grammar.{Grammar, nothing, one, followed_by}
-use Rattle.jc_base.specs.Parsing.{Parsed, Good, Bad, ◌>>=◌, item}
+use Rattle.jc_base.specs.Parsing.{Parsed, Good, Bad, ◌>>=◌, item, Parses, RefusedAt}
+use Rattle.jc_base.specs.Reader.{Reading}
+use Rattle.jc_base.specs.declared.fail.Fail.{Fail}
+use Rattle.jc_base.specs.declared.fail.Fail.TheVariants as fails
+use Rattle.jc_base.specs.declared.refusal.Refusal.{Refusal}
 use Rattle.jc_base.proofs.GrammarLaws.{Agrees, agrees_nothing, agrees_item, agrees_followed}
 use Rattle.jc_pool.specs.declared.entry.Entry.{Entry}
-use Rattle.jc_pool.specs.Pool.{is_wide}
+use Rattle.jc_pool.specs.Pool.{PoolValue, is_wide}
 use Rattle.jc_pool.specs.EntryFormat.{IsEntry}
-use Rattle.jc_pool.specs.PoolGrammar.{IsCount, IsNarrow, behind, by_size, places, pool}
+use Rattle.jc_pool.specs.PoolGrammar.{IsCount, IsNarrow, behind, by_size, places, pool, ReadsBy}
 use Rattle.jc_pool.specs.EntryReading.{count_at, entry_at, narrow_at}
 use Rattle.jc_pool.specs.PoolReading.{put_behind, places_at, pool_at}
 use Rattle.jc_pool.proofs.EntryLaws.{entry_takes, entry_again, narrow_takes, narrow_again, count_takes, count_again}
@@ -41,3 +45,21 @@ pool_agrees =
     agrees_followed (one IsCount) (λ n. behind (None ∷ []) (places (n - 1))) (item count_at) (λ n left. put_behind (None ∷ []) (places_at (n - 1) left))
       (agrees_item IsCount count_at count_takes count_again)
       (λ n. agrees_behind (None ∷ []) (places (n - 1)) (places_at (n - 1)) (agrees_places (n - 1)))
+
+-- ---- what a reader returned and left
+
+pub reads_by : (r : Result PoolValue (Fail Refusal)) (old new : Reading) → Parses (λ (value : PoolValue). value) r old new (pool_at old.left) → ReadsBy pool r old new
+reads_by (Ok value) old new read = pool_agrees.good old.left value new.left read
+reads_by (Err fails.Memory) old new read = tt
+reads_by (Err (fails.Said refusal)) old new read = (read.0, pool_agrees.bad old.left read.0 read.1, read.2)
+
+abbrev Reading_is : Result PoolValue (Fail Refusal) → Reading → Reading → Parsed PoolValue → Type 0
+Reading_is r old new parsed = Parses (λ (value : PoolValue). value) r old new parsed
+
+pub pool_read : (r : Result PoolValue (Fail Refusal)) (old new : Reading) (value : PoolValue) (text rest : List ℕ) → old.left ≡ text ++ rest → pool.Text text value
+    → Reading_is r old new (pool_at old.left) → Reading_is r old new (Good value rest)
+pool_read r old new value text rest parts spells read = subst (Reading_is r old new) (ap pool_at parts ∙ pool_agrees.again text rest value spells) read
+
+pub pool_refused : (r : Result PoolValue (Fail Refusal)) (old new : Reading) (left : List ℕ) → pool.Fails old.left left
+    → Reading_is r old new (pool_at old.left) → Reading_is r old new (Bad left)
+pool_refused r old new left bad read = subst (Reading_is r old new) (pool_agrees.fails old.left left bad) read

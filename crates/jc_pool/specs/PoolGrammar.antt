@@ -1,7 +1,12 @@
 -- The bytes that spell a constant pool (JVM Specification 4.1, 4.4).
-use Rattle.std.specs.Prelude.{◌≡◌, ℕ, zero, suc, ◌-◌, ◌<◌, Bool, true, false, List, [], ◌∷◌, ◌++◌, Option, Some, None}
+use Rattle.std.specs.Prelude.{◌≡◌, ℕ, zero, suc, ◌-◌, ◌<◌, Bool, true, false, List, [], ◌∷◌, ◌++◌, Option, Some, None, Result, Ok, Err}
 use Rattle.jc_base.specs.Decoder.{IsBig}
 use Rattle.jc_base.specs.Grammar.{Grammar, nothing, one, followed_by}
+use Rattle.jc_base.specs.Parsing.{RefusedAt}
+use Rattle.jc_base.specs.Reader.{Reading}
+use Rattle.jc_base.specs.declared.fail.Fail.{Fail}
+use Rattle.jc_base.specs.declared.fail.Fail.TheVariants as fails
+use Rattle.jc_base.specs.declared.refusal.Refusal.{Refusal}
 use Rattle.jc_pool.specs.declared.entry.Entry.{Entry}
 use Rattle.jc_pool.specs.Pool.{PoolValue, is_wide}
 use Rattle.jc_pool.specs.EntryFormat.{IsEntry}
@@ -34,3 +39,10 @@ places (suc (suc n)) = followed_by (one IsEntry) (λ e.
 -- the count, and the entries at the places from 1 on
 abbrev pub pool : Grammar PoolValue
 pool = followed_by (one IsCount) (λ n. behind (None ∷ []) (places (n - 1)))
+
+-- A reader took the text of the value that was returned, or refuses the bytes at the item at which
+-- the form fails, unless memory ran out.
+abbrev pub ReadsBy : {X : Type 0} → Grammar X → Result X (Fail Refusal) → Reading → Reading → Type 0
+ReadsBy g (Ok x) old new = (text : List ℕ) × (old.left ≡ text ++ new.left) × g.Text text x
+ReadsBy g (Err fails.Memory) old new = Unit {0}
+ReadsBy g (Err (fails.Said refusal)) old new = (left : List ℕ) × g.Fails old.left left × RefusedAt refusal old left

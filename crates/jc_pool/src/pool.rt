@@ -1,9 +1,9 @@
 //! The constant pool.
 ghost use Rattle.std.specs.Prelude.{◌≡◌, ◌+◌, ◌-◌, ◌<◌, ◌≤◌, ◌++◌, ◌∷◌, [], ℕ, List, None, IfOk, OnOk};
 ghost use Rattle.jc_base.specs.Decoder.{SameEnd};
-ghost use Rattle.jc_base.specs.Grammar.{Grammar};
 ghost use Rattle.jc_base.specs.Parsing.{Parsed, Good, Bad, Parses, RefusedAt};
 ghost use Rattle.jc_pool.specs.Pool.{PoolValue, IsPool, IsSmall, slots_of, width};
+ghost use Rattle.jc_pool.specs.PoolGrammar.{pool, ReadsBy};
 ghost use Rattle.jc_pool.specs.PoolReading.{put_behind, places_at, pool_at};
 
 use crate::entry::Entry;
@@ -76,27 +76,44 @@ fn filled(
     Ok(slots)
 }
 
+/// A pool, as the reading functions give it.
+#[tactic(auto, unfolding(crate::specs::PoolReading::pool_at))]
+fn parsed(alloc: Global, reader: &mut Reader<'_>) -> Result<Pool, Fail<Refusal>>
+    ensures parses { Parses (λ value. value) result reader.old reader.new (pool_at reader.old.left) }
+    ensures end { SameEnd reader.old reader.new }
+    ensures later { reader.old.place ≤ reader.new.place }
+{
+    let count = count_item(reader)?;
+    let slots = filled(alloc, reader, count)?;
+    Ok(Pool { slots })
+}
+
 impl Pool {
     /// Reads a pool: its count, and entries at the places from 1 on that fill all places below the
     /// count (JVM Specification 4.1, 4.4). On `Ok` the reader stands directly behind the pool.
     /// After an error it stands at or behind the place where it stood.
     ///
-    /// An entry is one item, from its tag on. What entries name is not looked at, and neither is
+    /// An entry is one item, from its tag on. What an entry names is not looked at, and neither is
     /// text.
     ///
     /// # Errors
     ///
     /// `Memory` where memory was refused. `NotAClass`, at the offset of the first item that fails,
-    /// where the bytes that are left begin with no pool: too few bytes, a count of 0, an unknown
-    /// tag, or a long or a double whose second place is not below the count.
-    #[tactic(auto, unfolding(crate::specs::PoolReading::pool_at))]
+    /// where no pool stands in front: too few bytes, a count of 0, an unknown tag, or a long or a
+    /// double whose second place is not below the count.
     pub fn read(alloc: Global, reader: &mut Reader<'_>) -> Result<Pool, Fail<Refusal>>
-        ensures gives { Parses (λ pool. pool) result reader.old reader.new (pool_at reader.old.left) }
+        // What was read is the text of the pool, or fails as a pool at the place of the refusal.
+        ensures reads { ReadsBy pool result reader.old reader.new }
+        // A pool in front is read, and bytes that fail as a pool are refused, unless memory runs out.
+        ensures taken { (value : PoolValue) (text rest : List ℕ) → reader.old.left ≡ text ++ rest → pool.Text text value
+            → Parses (λ found. found) result reader.old reader.new (Good value rest) }
+        ensures failing { (left : List ℕ) → pool.Fails reader.old.left left
+            → Parses (λ found. found) result reader.old reader.new (Bad left) }
+        // The reading functions give the same, so that a reader of a longer text can cite them.
+        ensures parses { Parses (λ value. value) result reader.old reader.new (pool_at reader.old.left) }
         ensures end { SameEnd reader.old reader.new }
         ensures later { reader.old.place ≤ reader.new.place }
     {
-        let count = count_item(reader)?;
-        let slots = filled(alloc, reader, count)?;
-        Ok(Pool { slots })
+        parsed(alloc, reader)
     }
 }
