@@ -1,0 +1,3 @@
+pub mod PoolSteps
+pub mod EntryLaws
+pub mod PoolLaws

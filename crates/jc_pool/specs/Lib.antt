@@ -1,0 +1,6 @@
+pub mod Pool
+pub mod EntryFormat
+pub mod PoolGrammar
+pub mod EntryReading
+pub mod PoolReading
+pub mod Lookup

@@ -1,0 +1,13 @@
+//! The constant pool of a class file (JVM Specification 4.4): read, looked up by place and written
+//! back, and the texts of its modified UTF-8.
+#![tactic(auto)]
+
+mod constant;
+mod entry;
+mod item;
+mod lookup;
+mod pool;
+
+pub use constant::ConstText;
+pub use lookup::{BadIndex, MemberText};
+pub use pool::Pool;

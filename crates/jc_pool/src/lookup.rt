@@ -1,0 +1,190 @@
+//! What the places of a pool name.
+ghost use Rattle.std.specs.Prelude.{◌≡◌, ◌↔◌, [], Some, None, IfOk, IsErr, is_some, option_copied};
+ghost use Rattle.jc_pool.specs.Lookup.{entry_at, utf8_of, class_name_of, signature_of, member, ref_of, dynamic_of, ref_in, reference_of, member_of, where_named, const_in, const_of};
+
+use crate::{ConstText, Pool};
+use crate::entry::Entry;
+
+/// The place has no entry of the kind that was asked for, or such an entry names one that isn't of
+/// the kind that it needs (JVM Specification 4.4).
+#[derive(Clone, Copy, Debug, PartialEq, Eq)]
+pub struct BadIndex;
+
+/// What an entry names as a field, a method or a dynamic constant or call.
+#[derive(Clone, Copy, Debug, PartialEq, Eq)]
+pub struct MemberText<'a> {
+    /// The entry's tag: 9 for a field, 10 and 11 for a method, 17 and 18 for a dynamic constant and call.
+    pub tag: u8,
+    /// The name of the class, which is empty for the two dynamic tags.
+    pub class: &'a [u8],
+    /// The name.
+    pub name: &'a [u8],
+    /// The descriptor.
+    pub desc: &'a [u8],
+}
+
+impl Pool {
+    /// The bytes of the Utf8 entry at a place (JVM Specification 4.4.7). They need not be modified
+    /// UTF-8.
+    #[tactic(auto, unfolding(crate::specs::Lookup::utf8_of))]
+    pub fn utf8_at(&self, place: u16) -> Result<&[u8], BadIndex>
+        ensures text { IfOk result (λ text. utf8_of self.now place ≡ Some text.now) }
+        ensures bad { IsErr result ↔ (utf8_of self.now place ≡ None) }
+    {
+        match self.entry(place) {
+            Some(Entry::Utf8(text)) => Ok(text.as_slice()),
+            _ => Err(BadIndex),
+        }
+    }
+
+    /// The name of the Class entry at a place (JVM Specification 4.4.1), as the Utf8 entry has it
+    /// that it names.
+    #[tactic(auto, unfolding(crate::specs::Lookup::class_name_of))]
+    pub fn class_at(&self, place: u16) -> Result<&[u8], BadIndex>
+        ensures name { IfOk result (λ name. class_name_of self.now place ≡ Some name.now) }
+        ensures bad { IsErr result ↔ (class_name_of self.now place ≡ None) }
+    {
+        match self.entry(place) {
+            Some(Entry::Class { name }) => self.utf8_at(*name),
+            _ => Err(BadIndex),
+        }
+    }
+
+    /// The name and the descriptor of the NameAndType entry at a place (JVM Specification 4.4.6).
+    #[tactic(auto, unfolding(crate::specs::Lookup::signature_of))]
+    fn signature(&self, place: u16) -> Result<(&[u8], &[u8]), BadIndex>
+        ensures texts { IfOk result (λ s. signature_of self.now place ≡ Some (record { name = s.0.now; desc = s.1.now })) }
+        ensures bad { IsErr result ↔ (signature_of self.now place ≡ None) }
+    {
+        match self.entry(place) {
+            Some(Entry::NameAndType { name, descriptor }) => {
+                let name = self.utf8_at(*name)?;
+                let desc = self.utf8_at(*descriptor)?;
+                Ok((name, desc))
+            }
+            _ => Err(BadIndex),
+        }
+    }
+
+    /// The texts of a member of a class, whose entry has this tag.
+    #[tactic(auto, unfolding(crate::specs::Lookup::ref_of))]
+    fn reference(
+        &self,
+        tag: u8,
+        class: u16,
+        name_and_type: u16,
+    ) -> Result<MemberText<'_>, BadIndex>
+        ensures texts { IfOk result (λ m. ref_of self.now tag class name_and_type ≡ Some (member m)) }
+        ensures bad { IsErr result ↔ (ref_of self.now tag class name_and_type ≡ None) }
+    {
+        let class = self.class_at(class)?;
+        let (name, desc) = self.signature(name_and_type)?;
+        Ok(MemberText {
+            tag,
+            class,
+            name,
+            desc,
+        })
+    }
+
+    /// The texts of a dynamic constant or call, whose entry has this tag.
+    #[tactic(auto, unfolding(crate::specs::Lookup::dynamic_of))]
+    fn dynamic(&self, tag: u8, name_and_type: u16) -> Result<MemberText<'_>, BadIndex>
+        ensures texts { IfOk result (λ m. dynamic_of self.now tag name_and_type ≡ Some (member m)) }
+        ensures bad { IsErr result ↔ (dynamic_of self.now tag name_and_type ≡ None) }
+    {
+        let (name, desc) = self.signature(name_and_type)?;
+        Ok(MemberText {
+            tag,
+            class: &[],
+            name,
+            desc,
+        })
+    }
+
+    /// The texts of a field or a method.
+    fn reference_in<'a>(&'a self, entry: &Entry) -> Result<MemberText<'a>, BadIndex>
+        ensures texts { IfOk result (λ m. ref_in self.now entry.now ≡ Some (member m)) }
+        ensures bad { IsErr result ↔ (ref_in self.now entry.now ≡ None) }
+    {
+        match entry {
+            Entry::Fieldref {
+                class,
+                name_and_type,
+            } => self.reference(9, *class, *name_and_type),
+            Entry::Methodref {
+                class,
+                name_and_type,
+            } => self.reference(10, *class, *name_and_type),
+            Entry::InterfaceMethodref {
+                class,
+                name_and_type,
+            } => self.reference(11, *class, *name_and_type),
+            _ => Err(BadIndex),
+        }
+    }
+
+    /// What the entry at a place names as a field, a method, or a dynamic constant or call (JVM
+    /// Specification 4.4.2, 4.4.10).
+    #[tactic(auto, unfolding(crate::specs::Lookup::member_of))]
+    pub fn member_at(&self, place: u16) -> Result<MemberText<'_>, BadIndex>
+        ensures texts { IfOk result (λ m. member_of self.now place ≡ Some (member m)) }
+        ensures bad { IsErr result ↔ (member_of self.now place ≡ None) }
+    {
+        match self.entry(place) {
+            Some(Entry::Dynamic { name_and_type, .. }) => self.dynamic(17, *name_and_type),
+            Some(Entry::InvokeDynamic { name_and_type, .. }) => self.dynamic(18, *name_and_type),
+            Some(entry) => self.reference_in(entry),
+            None => Err(BadIndex),
+        }
+    }
+
+    /// Whether a field or a method stands at a place, with all that it names.
+    #[tactic(auto, unfolding(crate::specs::Lookup::reference_of))]
+    fn has_reference(&self, place: u16) -> bool
+        ensures { result ≡ is_some (reference_of self.now place) }
+    {
+        match self.entry(place) {
+            Some(entry) => self.reference_in(entry).is_ok(),
+            None => false,
+        }
+    }
+
+    /// The constant that an entry stands for, if what it names stands there.
+    fn const_in(&self, entry: &Entry) -> Result<ConstText, BadIndex>
+        ensures kind { IfOk result (λ c. const_in self.now entry.now ≡ Some c) }
+        ensures bad { IsErr result ↔ (const_in self.now entry.now ≡ None) }
+    {
+        let (constant, named) = match entry {
+            Entry::Integer(value) => (ConstText::Int(*value), true),
+            Entry::Float(_) => (ConstText::Float, true),
+            Entry::Long(value) => (ConstText::Long(*value), true),
+            Entry::Double(_) => (ConstText::Double, true),
+            Entry::Class { name } => (ConstText::Class, self.utf8_at(*name).is_ok()),
+            Entry::String { text } => (ConstText::Text, self.utf8_at(*text).is_ok()),
+            Entry::MethodHandle { reference, .. } => {
+                (ConstText::Handle, self.has_reference(*reference))
+            }
+            Entry::MethodType { descriptor } => {
+                (ConstText::MethodKind, self.utf8_at(*descriptor).is_ok())
+            }
+            Entry::Dynamic { name_and_type, .. } => {
+                (ConstText::Computed, self.signature(*name_and_type).is_ok())
+            }
+            _ => return Err(BadIndex),
+        };
+        if named { Ok(constant) } else { Err(BadIndex) }
+    }
+
+    /// The constant at a place (JVM Specification 4.4, table 4.4-C).
+    #[tactic(auto, unfolding(crate::specs::Lookup::const_of))]
+    pub fn const_at(&self, place: u16) -> Result<ConstText, BadIndex>
+        ensures kind { IfOk result (λ c. const_of self.now place ≡ Some c) }
+        ensures bad { IsErr result ↔ (const_of self.now place ≡ None) }
+    {
+        match self.entry(place) {
+            Some(entry) => self.const_in(entry),
+            None => Err(BadIndex),
+        }
+    }
+}

@@ -1,0 +1,119 @@
+//! The constant pool.
+ghost use Rattle.std.specs.Prelude.{◌≡◌, ◌+◌, ◌-◌, ◌<◌, ◌≤◌, ◌++◌, ◌∷◌, [], ℕ, List, None, IfOk, OnOk};
+ghost use Rattle.jc_base.specs.Decoder.{SameEnd};
+ghost use Rattle.jc_base.specs.Parsing.{Parsed, Good, Bad, Parses, RefusedAt};
+ghost use Rattle.jc_pool.specs.Pool.{PoolValue, IsPool, IsSmall, slots_of, width};
+ghost use Rattle.jc_pool.specs.PoolGrammar.{pool, ReadsBy};
+ghost use Rattle.jc_pool.specs.PoolReading.{put_behind, places_at, pool_at};
+
+use crate::entry::Entry;
+use crate::item::{count_item, entry_item};
+use jc_base::{Fail, List, Memory, Reader, Refusal};
+use std::alloc::Global;
+use std::marker::Model;
+
+/// A constant pool (JVM Specification 4.4), which contracts see as the list of what stands at its
+/// places: nothing at place 0, and at the second place of a long or a double.
+#[derive(Debug, Drop)]
+pub struct Pool {
+    slots: List<Option<Entry>>,
+}
+
+impl Model for Pool {
+    ghost Value = { PoolValue };
+
+    ghost view = { λ p. p.slots };
+
+    ghost invariant = { λ p. IsPool p.slots };
+}
+
+impl Pool {
+    ghost use Rattle.std.specs.Prelude.{option_copied};
+    ghost use Rattle.jc_pool.specs.Lookup.{entry_at};
+
+    /// The entry at a place.
+    pub(crate) fn entry(&self, place: u16) -> Option<&Entry>
+        ensures { option_copied result ≡ entry_at self.now place }
+    {
+        match self.slots.as_slice().get(place as usize) {
+            Some(Some(entry)) => Some(entry),
+            _ => None,
+        }
+    }
+}
+
+/// Puts an entry at the next place, and nothing at its second one.
+fn put(slots: &mut List<Option<Entry>>, entry: Entry) -> Result<(), Memory>
+    ensures { OnOk result (slots.new ≡ slots.old ++ slots_of entry) }
+{
+    let wide = entry.is_wide();
+    slots.push(Some(entry))?;
+    if wide {
+        slots.push(None)?;
+    }
+    Ok(())
+}
+
+/// Nothing at place 0, and the entries at the places from 1 on.
+fn filled(
+    alloc: Global,
+    reader: &mut Reader<'_>,
+    count: u16,
+) -> Result<List<Option<Entry>>, Fail<Refusal>>
+    requires { 0 < count }
+    ensures gives { Parses (λ slots. slots) result reader.old reader.new (put_behind (None ∷ []) (places_at (count - 1) reader.old.left)) }
+    ensures pool { IfOk result IsPool }
+    ensures end { SameEnd reader.old reader.new }
+    ensures later { reader.old.place ≤ reader.new.place }
+{
+    let count = usize::from(count);
+    let mut slots = List::from_vec(Vec::with_capacity(alloc, count)?);
+    slots.push(None)?;
+    'filling: while slots.len() < count {
+        let entry = entry_item(alloc, reader, count - slots.len())?;
+        put(&mut slots, entry)?;
+    }
+    Ok(slots)
+}
+
+/// A pool, as the reading functions give it.
+#[tactic(auto, unfolding(crate::specs::PoolReading::pool_at))]
+fn parsed(alloc: Global, reader: &mut Reader<'_>) -> Result<Pool, Fail<Refusal>>
+    ensures parses { Parses (λ value. value) result reader.old reader.new (pool_at reader.old.left) }
+    ensures end { SameEnd reader.old reader.new }
+    ensures later { reader.old.place ≤ reader.new.place }
+{
+    let count = count_item(reader)?;
+    let slots = filled(alloc, reader, count)?;
+    Ok(Pool { slots })
+}
+
+impl Pool {
+    /// Reads a pool: its count, and entries at the places from 1 on that fill all places below the
+    /// count (JVM Specification 4.1, 4.4). On `Ok` the reader stands directly behind the pool.
+    /// After an error it stands at or behind the place where it stood.
+    ///
+    /// An entry is one item, from its tag on. What an entry names is not looked at, and neither is
+    /// text.
+    ///
+    /// # Errors
+    ///
+    /// `Memory` where memory was refused. `NotAClass`, at the offset of the first item that fails,
+    /// where no pool stands in front: too few bytes, a count of 0, an unknown tag, or a long or a
+    /// double whose second place is not below the count.
+    pub fn read(alloc: Global, reader: &mut Reader<'_>) -> Result<Pool, Fail<Refusal>>
+        // What was read is the text of the pool, or fails as a pool at the place of the refusal.
+        ensures reads { ReadsBy pool result reader.old reader.new }
+        // A pool in front is read, and bytes that fail as a pool are refused, unless memory runs out.
+        ensures taken { (value : PoolValue) (text rest : List ℕ) → reader.old.left ≡ text ++ rest → pool.Text text value
+            → Parses (λ found. found) result reader.old reader.new (Good value rest) }
+        ensures failing { (left : List ℕ) → pool.Fails reader.old.left left
+            → Parses (λ found. found) result reader.old reader.new (Bad left) }
+        // The reading functions give the same, so that a reader of a longer text can cite them.
+        ensures parses { Parses (λ value. value) result reader.old reader.new (pool_at reader.old.left) }
+        ensures end { SameEnd reader.old reader.new }
+        ensures later { reader.old.place ≤ reader.new.place }
+    {
+        parsed(alloc, reader)
+    }
+}
