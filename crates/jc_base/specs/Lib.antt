@@ -11,3 +11,4 @@ pub mod Insn
 pub mod Flow
 pub mod Descriptor
 pub mod DescriptorReading
+pub mod Deciding

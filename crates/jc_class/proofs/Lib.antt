@@ -1,1 +1,3 @@
 pub mod RemainderLaws
+pub mod NamingLaws
+pub mod ListReadingLaws

@@ -1,1 +1,5 @@
 pub mod ClassId
+pub mod ClassFormat
+pub mod ClassText
+pub mod ItemReading
+pub mod ClassReading

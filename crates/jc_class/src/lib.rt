@@ -1,6 +1,10 @@
 //! Class files (JVM Specification 4.1): read, written back, and their ids.
 #![tactic(auto)]
 
+mod class_file;
 mod id;
+mod item;
+mod read;
 
+pub use class_file::{Attribute, ClassFile, Member};
 pub use id::class_id;
