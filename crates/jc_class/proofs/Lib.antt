@@ -1,3 +1,4 @@
 pub mod RemainderLaws
 pub mod NamingLaws
 pub mod ListReadingLaws
+pub mod ClassLaws

@@ -39,12 +39,9 @@ infixl 10 ◌>>=◌
 abbrev pub ◌>>=◌ : {X Y : Type 0} → Grammar X → (X → Grammar Y) → Grammar Y
 g >>= f = followed_by g f
 
--- the four bytes in front of every class file
-abbrev pub magic_text : List ℕ
-magic_text = 0xca ∷ 0xfe ∷ 0xba ∷ 0xbe ∷ []
-
+-- the number in front of every class file
 abbrev pub magic : Grammar (Unit {0})
-magic = one (λ bytes _. bytes ≡ magic_text)
+magic = one (λ bytes _. IsBig 4 bytes 0xcafebabe)
 
 -- a number of n bytes
 abbrev pub number : ℕ → Grammar ℕ

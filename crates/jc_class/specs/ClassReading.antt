@@ -1,7 +1,10 @@
 -- Reading a class file, item by item.
-use Rattle.std.specs.Prelude.{ℕ, List, take, if◌then◌else◌}
+use Rattle.std.specs.Prelude.{◌≡◌, ◌≢◌, ◌⊎◌, ℕ, List, [], take, Result, Ok, Err}
 use Rattle.jc_base.specs.Decoder.{first, number_at}
-use Rattle.jc_base.specs.Parsing.{Parsed, Good, Bad, ◌>>=◌, item, times_at}
+use Rattle.jc_base.specs.Parsing.{Parsed, Good, Bad, ◌>>=◌, item, times_at, RefusedAt}
+use Rattle.jc_base.specs.declared.fail.Fail.{Fail}
+use Rattle.jc_base.specs.declared.fail.Fail.TheVariants as fails
+use Rattle.jc_base.specs.declared.refusal.Refusal.{Refusal}
 use Rattle.jc_pool.specs.Pool.{PoolValue}
 use Rattle.jc_pool.specs.PoolReading.{pool_at}
 use Rattle.jc_class.specs.declared.item.Named.{Named}
@@ -60,3 +63,13 @@ class_at left = do
   methods ← members_at pool.0 named.MethodDescriptor fields.1
   attributes ← attributes_at pool.0 methods.1
   Good (record { minor = minor.0; major = major.0; pool = pool.0; flags = flags.0; this_class = this_class.0; super_class = super_class.0; interfaces = interfaces.0; fields = fields.0; methods = methods.0; attributes = attributes.0 }) attributes.1
+
+-- a class file that was not whole, or bytes that are left behind one
+abbrev pub Stops : Parsed ClassFile → List ℕ → Type 0
+Stops parsed left = (parsed ≡ Bad left) ⊎ ((c : ClassFile) × (parsed ≡ Good c left) × (left ≢ []))
+
+-- what was returned of bytes that are to be one class file, unless memory ran out
+abbrev pub GivesWhole : Result ClassFile (Fail Refusal) → List ℕ → Parsed ClassFile → Type 0
+GivesWhole (Ok c) bytes parsed = parsed ≡ Good c []
+GivesWhole (Err fails.Memory) bytes parsed = Unit {0}
+GivesWhole (Err (fails.Said refusal)) bytes parsed = (left : List ℕ) × Stops parsed left × RefusedAt refusal (record { left = bytes; place = 0 }) left

@@ -8,3 +8,4 @@ mod read;
 
 pub use class_file::{Attribute, ClassFile, Member};
 pub use id::class_id;
+pub use read::read_class;

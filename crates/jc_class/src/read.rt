@@ -1,12 +1,14 @@
 //! Reading a class file.
-ghost use Rattle.std.specs.Prelude.{◌≡◌, ◌≤◌};
+ghost use Rattle.std.specs.Prelude.{◌≡◌, ◌≤◌, ℕ, length, IfOk, IfErr, MatchResult};
 ghost use Rattle.jc_base.specs.Decoder.{SameEnd, number_at};
 ghost use Rattle.jc_base.specs.Parsing.{Parses, item, times_at};
-ghost use Rattle.jc_class.specs.ClassReading.{named_at, attribute_at, attributes_at, member_at, members_at, interfaces_at, class_at};
+ghost use Rattle.jc_class.specs.ClassReading.{named_at, attribute_at, attributes_at, member_at, members_at, interfaces_at, class_at, GivesWhole};
+ghost use Rattle.jc_class.specs.ClassText.{ClassText, FirstBad, RefusedAs};
+ghost use Rattle.jc_class.specs.declared.class_file.ClassFile.{ClassFile};
 
 use crate::item::{Named, magic_item, place_item};
 use crate::{Attribute, ClassFile, Member};
-use jc_base::{Bytes, Fail, List, Reader, Refusal, piece_item, u16_item, u32_item};
+use jc_base::{Bytes, Fail, List, Reader, Refusal, not_a_class, piece_item, u16_item, u32_item};
 use jc_pool::Pool;
 use std::alloc::Global;
 
@@ -185,4 +187,46 @@ fn parsed(alloc: Global, reader: &mut Reader<'_>) -> Result<ClassFile, Fail<Refu
         methods,
         attributes,
     })
+}
+
+/// A class file and nothing behind it.
+fn whole(alloc: Global, bytes: &[u8]) -> Result<ClassFile, Fail<Refusal>>
+    requires { length bytes.now ≤ 67108864 }
+    ensures { GivesWhole result bytes.now (class_at bytes.now) }
+{
+    let mut reader = Reader::new(bytes);
+    let class = parsed(alloc, &mut reader)?;
+    let place = reader.place();
+    if (place as usize) < bytes.len() {
+        return Err(Fail::Said(not_a_class(place)));
+    }
+    Ok(class)
+}
+
+/// Reads a class file (JVM Specification 4.1, 4.4 to 4.7). All bytes have to be its items, in their
+/// order. Versions and access flags are taken as they come, and the bodies of attributes are not
+/// looked into.
+///
+/// Each number is an item of its own, and so are each entry of the pool, from its tag on, and the
+/// body of each attribute.
+///
+/// # Errors
+///
+/// `Memory` where memory was refused. `NotAClass`, with the offset of the first item that fails,
+/// exactly where the bytes are no class file: too few bytes, a first number other than cafebabe,
+/// an item of the pool that fails, `this_class` or an interface that is no Class entry or one whose
+/// name is no modified UTF-8, `super_class` neither 0 nor such an entry, the name of a field, a
+/// method or an attribute that is no Utf8 entry, a field or a method whose descriptor is no Utf8
+/// entry or not well formed (JVM Specification 4.3.2, 4.3.3), or bytes that are left at the end.
+pub fn read_class(alloc: Global, bytes: &[u8]) -> Result<ClassFile, Fail<Refusal>>
+    requires { length bytes.now ≤ 67108864 }
+    // What is read is the class file that the bytes spell, and other bytes are refused where they first fail.
+    ensures read { IfOk result (ClassText bytes.now) }
+    ensures refused { IfErr result (λ e. RefusedAs e (FirstBad bytes.now)) }
+    // The text of a class file is read, and bytes that fail are refused, unless memory runs out.
+    ensures taken { (c : ClassFile) → ClassText bytes.now c → MatchResult result (λ d. d ≡ c) (λ e. e ≡ Fail.Memory) }
+    ensures failing { (place : ℕ) → FirstBad bytes.now place
+        → MatchResult result (λ _. ⊥) (λ e. RefusedAs e (λ found. found ≡ place)) }
+{
+    whole(alloc, bytes)
 }
