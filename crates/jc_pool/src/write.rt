@@ -2,10 +2,11 @@
 ghost use Rattle.std.specs.Prelude.{◌≡◌, ◌+◌, ◌<◌, ◌++◌, ◌∷◌, [], ℕ, List, length, OnOk, OnErr};
 ghost use Rattle.jc_base.specs.Decoder.{IsBig};
 ghost use Rattle.jc_pool.specs.Pool.{IsSmall, IsPool};
-ghost use Rattle.jc_pool.specs.PoolGrammar.{pool};
+ghost use Rattle.jc_pool.specs.PoolGrammar.{pool as pool_text};
 ghost use Rattle.jc_pool.specs.EntryFormat.{ArePlaces, IsHandle, IsUtf8, IsInfo, IsEntry};
 ghost use Rattle.jc_pool.specs.Writing.{Appends, Grows, SpellsSlot, SpellsSlots, IsSmallSlot, AreSmall};
 
+use crate::Pool;
 use crate::entry::Entry;
 use crate::put::{put_bytes, put_u8, put_u16, put_u32, put_u64};
 use jc_base::Memory;
@@ -113,9 +114,38 @@ fn put_slots(into: &mut Vec<u8>, slots: &[Option<Entry>]) -> Result<(), Memory>
     ensures grows { Grows into.old.items into.new.items }
 {
     let mut rest = slots;
-    'writing: while let [slot, after @ ..] = rest {
+    'writing: while let Some((slot, after)) = rest.split_first() {
         put_slot(into, slot)?;
         rest = after;
     }
     Ok(())
+}
+
+/// Puts a pool at the end, or some of it where memory is refused.
+fn put_pool(into: &mut Vec<u8>, pool: &Pool) -> Result<(), Memory>
+    ensures ok { OnOk result (Appends (λ text. pool_text.Text text pool.now) into.old.items into.new.items) }
+    ensures grows { Grows into.old.items into.new.items }
+{
+    let slots = pool.slots();
+    put_u16(into, slots.len() as u16)?;
+    put_slots(into, slots)
+}
+
+impl Pool {
+    /// Writes the pool at the end (JVM Specification 4.1, 4.4).
+    ///
+    /// # Errors
+    ///
+    /// `Memory` where memory was refused. Then nothing has been written.
+    pub fn write(&self, into: &mut Vec<u8>) -> Result<(), Memory>
+        ensures ok { OnOk result (Appends (λ text. pool_text.Text text self.now) into.old.items into.new.items) }
+        ensures err { OnErr result (into.new.items ≡ into.old.items) }
+    {
+        let start = into.len();
+        let written = put_pool(into, self);
+        if written.is_err() {
+            into.truncate(start);
+        }
+        written
+    }
 }
