@@ -1,3 +1,4 @@
 pub mod PoolSteps
 pub mod EntryLaws
 pub mod PoolLaws
+pub mod WritingLaws

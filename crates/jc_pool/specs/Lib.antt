@@ -4,3 +4,4 @@ pub mod PoolGrammar
 pub mod EntryReading
 pub mod PoolReading
 pub mod Lookup
+pub mod Writing

@@ -43,6 +43,7 @@ pub enum Entry {
 }
 
 impl Entry {
+    ghost use Rattle.jc_pool.specs.EntryFormat.{tag_of};
     ghost use Rattle.jc_pool.specs.Pool.{is_wide, width};
 
     /// Whether the entry is a long or a double.
@@ -57,5 +58,30 @@ impl Entry {
         ensures { result ≡ width self.now }
     {
         if self.is_wide() { 2 } else { 1 }
+    }
+
+    /// The tag of the entry (JVM Specification 4.4, table 4.4-B).
+    pub fn tag(&self) -> u8
+        ensures { result ≡ tag_of self.now }
+    {
+        match self {
+            Entry::Utf8(_) => 1,
+            Entry::Integer(_) => 3,
+            Entry::Float(_) => 4,
+            Entry::Long(_) => 5,
+            Entry::Double(_) => 6,
+            Entry::Class { .. } => 7,
+            Entry::String { .. } => 8,
+            Entry::Fieldref { .. } => 9,
+            Entry::Methodref { .. } => 10,
+            Entry::InterfaceMethodref { .. } => 11,
+            Entry::NameAndType { .. } => 12,
+            Entry::MethodHandle { .. } => 15,
+            Entry::MethodType { .. } => 16,
+            Entry::Dynamic { .. } => 17,
+            Entry::InvokeDynamic { .. } => 18,
+            Entry::Module { .. } => 19,
+            Entry::Package { .. } => 20,
+        }
     }
 }

@@ -7,6 +7,8 @@ mod entry;
 mod item;
 mod lookup;
 mod pool;
+mod put;
+mod write;
 
 pub use constant::ConstText;
 pub use lookup::{BadIndex, MemberText};

@@ -40,6 +40,14 @@ impl Pool {
             _ => None,
         }
     }
+
+    /// What stands at each place.
+    pub(crate) fn slots(&self) -> &[Option<Entry>]
+        ensures slots { result.now ≡ self.now }
+        ensures pool { IsPool self.now }
+    {
+        self.slots.as_slice()
+    }
 }
 
 /// Puts an entry at the next place, and nothing at its second one.

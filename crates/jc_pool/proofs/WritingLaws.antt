@@ -1,0 +1,125 @@
+-- What is appended in parts.
+use Rattle.std.proofs.Common.{◌≡◌, ℕ, ℤ, suc, ◌+◌, ◌-◌, ◌<◌, ◌^◌, Bool, true, false, cond, List, [], ◌∷◌, ◌++◌, length, Option, Some, None, Result, Ok, Err, refl, sym, ◌∙◌, ap, subst, arith, append_assoc}
+use Rattle.std.specs.Int.{Width, w32, w64, cast_signed, cast_unsigned, bytes_high_first}
+use Rattle.std.proofs.lemmas.List.{append-nil}
+use Rattle.byteorder.specs.Endian.{big_bytes, big_number}
+use Rattle.byteorder.specs.Numbers.{big_number-reads_back, length-bytes_high_first}
+use Rattle.jc_base.specs.Decoder.{IsBig}
+use Rattle.std.specs.Result.{OnOk}
+use Rattle.jc_base.specs.Grammar.{Grammar}
+use Rattle.jc_base.specs.declared.fail.Memory.{Memory}
+use Rattle.jc_pool.specs.declared.entry.Entry.{Entry}
+use Rattle.jc_pool.specs.declared.entry.Entry.TheVariants as entry
+use Rattle.jc_pool.specs.Pool.{PoolValue, is_wide, IsSmall, IsFilled, IsPool}
+use Rattle.jc_pool.specs.EntryFormat.{IsEntry}
+use Rattle.jc_pool.specs.PoolGrammar.{by_size, behind, places, pool}
+use Rattle.jc_pool.specs.Writing.{Appends, Grows, SpellsSlot, SpellsSlots, IsSmallSlot, AreSmall}
+
+-- the bytes of a number spell it
+pub big_spells : (n x : ℕ) → x < 256 ^ n → IsBig n (big_bytes n x) x
+big_spells n x fits = record {
+  size = length-bytes_high_first n x;
+  value = ap (big_number n) (sym (append-nil (big_bytes n x))) ∙ big_number-reads_back n x [] fits;
+}
+
+-- two parts, one behind the other
+pub appends_both : (A B C : List ℕ → Type 0) → ((a b : List ℕ) → A a → B b → C (a ++ b)) → (old mid new : List ℕ) → Appends A old mid → Appends B mid new → Appends C old new
+appends_both A B C joined old mid new p q = record {
+  text = p.text ++ q.text;
+  parts = q.parts ∙ ap (λ (l : List ℕ). l ++ q.text) p.parts ∙ append_assoc old p.text q.text;
+  spells = joined p.text q.text p.spells q.spells;
+}
+
+pub grows_both : (old mid new : List ℕ) → Grows old mid → Grows mid new → Grows old new
+grows_both old mid new p q = (p.0 ++ q.0, q.1 ∙ ap (λ (l : List ℕ). l ++ q.0) p.1 ∙ append_assoc old p.0 q.0)
+
+pub grows_none : (old new : List ℕ) → new ≡ old → Grows old new
+grows_none old new same = ([], same ∙ sym (append-nil old))
+
+-- ---- the places of a pool
+
+-- whatever spells the places that are left completes the text of all of them
+pub record Writing (all rest : List (Option Entry)) (old now : List ℕ) : Type 0 where
+  pub completes : (tail : List ℕ) → SpellsSlots tail rest → Appends (λ text. SpellsSlots text all) old (now ++ tail)
+  pub grows : Grows old now
+  pub small : AreSmall rest
+
+pub writing_begun : (all : List (Option Entry)) (old : List ℕ) → AreSmall all → Writing all all old old
+writing_begun all old small = record {
+  completes = λ tail spells. record { text = tail; parts = refl; spells = spells };
+  grows = grows_none old old refl;
+  small = small;
+}
+
+pub writes_more : (all left rest : List (Option Entry)) (slot : Option Entry) (old now next : List ℕ) → left ≡ slot ∷ rest → Appends (λ text. SpellsSlot text slot) now next
+    → Writing all left old now → Writing all rest old next
+writes_more all left rest slot old now next is a w = more (subst (λ (l : List (Option Entry)). Writing all l old now) is w)
+  where
+    more : Writing all (slot ∷ rest) old now → Writing all rest old next
+    more w = record {
+      completes = λ tail spells.
+          let whole = w.completes (a.text ++ tail) (a.text, tail, refl, a.spells, spells) in
+          subst (Appends (λ text. SpellsSlots text all) old) (sym (append_assoc now a.text tail) ∙ ap (λ (l : List ℕ). l ++ tail) (sym a.parts)) whole;
+      grows = grows_both old now next w.grows (a.text, a.parts);
+      small = w.small.1;
+    }
+
+pub all_written : (all rest : List (Option Entry)) (old now : List ℕ) → length rest ≡ 0 → Writing all rest old now → Appends (λ text. SpellsSlots text all) old now
+all_written all [] old now none w = subst (Appends (λ text. SpellsSlots text all) old) (append-nil now) (w.completes [] refl)
+all_written all (slot ∷ rest) old now none w = absurd (omega (arith, none))
+
+-- ---- a pool
+
+filled_small : (slots : List (Option Entry)) → IsFilled slots → AreSmall slots
+filled_small [] filled = tt
+filled_small (None ∷ rest) filled = absurd filled
+filled_small (Some e ∷ []) filled = (filled.1, tt)
+filled_small (Some e ∷ None ∷ rest) filled = (filled.1, (tt, filled_small rest filled.2))
+filled_small (Some e ∷ Some f ∷ rest) filled = (filled.1, filled_small (Some f ∷ rest) filled.2)
+
+pub pool_small : (slots : PoolValue) → IsPool slots → AreSmall slots
+pool_small [] is = absurd is
+pool_small (None ∷ rest) is = (tt, filled_small rest is.1)
+pool_small (Some e ∷ rest) is = absurd is
+
+pub pool_short : (slots : PoolValue) → IsPool slots → (0 < length slots) × (length slots < 65536)
+pool_short [] is = absurd is
+pool_short (None ∷ rest) is = (omega arith, omega (arith, is.0))
+pool_short (Some e ∷ rest) is = absurd is
+
+behind_text : (front : List (Option Entry)) (g : Grammar (List (Option Entry))) (rest : List (Option Entry)) (text : List ℕ) → g.Text text rest → (behind front g).Text text (front ++ rest)
+behind_text front g rest text spells = (rest, text, [], sym (append-nil text), spells, (refl, refl))
+
+-- the texts of filled places are a text of the grammar's
+filled_text : (slots : List (Option Entry)) (text : List ℕ) → IsFilled slots → SpellsSlots text slots → (places (length slots)).Text text slots
+filled_text [] text filled spells = (spells, refl)
+filled_text (None ∷ rest) text filled spells = absurd filled
+filled_text (Some e ∷ []) text filled spells = (e, spells.0, spells.1, spells.2, (spells.3, filled.0), (spells.4, refl))
+filled_text (Some e ∷ None ∷ rest) text filled spells =
+    let back : spells.1 ≡ spells.4.1 = spells.4.2 ∙ ap (λ (l : List ℕ). l ++ spells.4.1) spells.4.3 in
+    (e, spells.0, spells.4.1, spells.2 ∙ ap (λ (l : List ℕ). spells.0 ++ l) back, spells.3,
+      subst (λ (wide : Bool). (by_size wide (behind (Some e ∷ None ∷ []) (places (length rest))) (behind (Some e ∷ []) (places (suc (length rest))))).Text spells.4.1 (Some e ∷ None ∷ rest))
+        (sym filled.0) (behind_text (Some e ∷ None ∷ []) (places (length rest)) rest spells.4.1 (filled_text rest spells.4.1 filled.2 spells.4.4)))
+filled_text (Some e ∷ Some f ∷ rest) text filled spells =
+    (e, spells.0, spells.1, spells.2, spells.3,
+      subst (λ (wide : Bool). (by_size wide (behind (Some e ∷ None ∷ []) (places (length rest))) (behind (Some e ∷ []) (places (suc (length rest))))).Text spells.1 (Some e ∷ Some f ∷ rest))
+        (sym filled.0) (behind_text (Some e ∷ []) (places (suc (length rest))) (Some f ∷ rest) spells.1 (filled_text (Some f ∷ rest) spells.1 filled.2 spells.4)))
+
+-- a count, and the texts of the places
+pool_text : (slots : PoolValue) (count text : List ℕ) → IsPool slots → IsBig 2 count (length slots) → SpellsSlots text slots → pool.Text (count ++ text) slots
+pool_text [] count text is big spells = absurd is
+pool_text (None ∷ rest) count text is big spells =
+    let back : text ≡ spells.1 = spells.2 ∙ ap (λ (l : List ℕ). l ++ spells.1) spells.3 in
+    let size : suc (length rest) - 1 ≡ length rest = omega arith in
+    (suc (length rest), count, text, refl, (big, omega arith),
+      subst (λ (n : ℕ). (behind (None ∷ []) (places n)).Text text (None ∷ rest)) (sym size)
+        (behind_text (None ∷ []) (places (length rest)) rest text (filled_text rest text is.1 (subst (λ (l : List ℕ). SpellsSlots l rest) (sym back) spells.4))))
+pool_text (Some e ∷ rest) count text is big spells = absurd is
+
+pub appends_pool : (r : Result (Unit {0}) Memory) (seen slots : PoolValue) (old mid new : List ℕ) → seen ≡ slots → IsPool slots → Appends (λ count. IsBig 2 count (length seen)) old mid
+    → OnOk r (Appends (λ text. SpellsSlots text seen) mid new) → OnOk r (Appends (λ text. pool.Text text slots) old new)
+appends_pool (Ok done) seen slots old mid new same is count places =
+    appends_both (λ count. IsBig 2 count (length slots)) (λ text. SpellsSlots text slots) (λ text. pool.Text text slots) (λ a b p q. pool_text slots a b is p q) old mid new
+      (subst (λ (l : PoolValue). Appends (λ count. IsBig 2 count (length l)) old mid) same count)
+      (subst (λ (l : PoolValue). Appends (λ text. SpellsSlots text l) mid new) same places)
+appends_pool (Err memory) seen slots old mid new same is count places = tt
