@@ -4,3 +4,4 @@ pub mod HeldLaws
 pub mod ModifiedLaws
 pub mod DescriptorLaws
 pub mod DecidingLaws
+pub mod AppendingLaws

@@ -12,3 +12,4 @@ pub mod Flow
 pub mod Descriptor
 pub mod DescriptorReading
 pub mod Deciding
+pub mod Appending

@@ -128,7 +128,7 @@ agrees_counted g read a = agrees_followed (number 2) (λ n. times n g) (item (nu
 
 -- ---- the parts
 
-agrees_attribute : (pool : PoolValue) → Agrees (attribute pool) (attribute_at pool)
+agrees_attribute : (pool : PoolValue) → Agrees (attribute (HasText pool)) (attribute_at pool)
 unfolding attribute_at
 agrees_attribute pool =
     agrees_followed _ _ _ _ (agrees_named pool named.Text) (λ name.
@@ -136,11 +136,11 @@ agrees_attribute pool =
         agrees_followed _ _ _ _ (agrees_piece size) (λ body.
           agrees_nothing (record { name = name; body = body }))))
 
-agrees_attributes : (pool : PoolValue) → Agrees (counted (attribute pool)) (attributes_at pool)
+agrees_attributes : (pool : PoolValue) → Agrees (counted (attribute (HasText pool))) (attributes_at pool)
 unfolding attributes_at
-agrees_attributes pool = agrees_counted (attribute pool) (attribute_at pool) (agrees_attribute pool)
+agrees_attributes pool = agrees_counted (attribute (HasText pool)) (attribute_at pool) (agrees_attribute pool)
 
-agrees_member : (pool : PoolValue) (what : Named) → Agrees (member pool (Names pool what)) (member_at pool what)
+agrees_member : (pool : PoolValue) (what : Named) → Agrees (member (HasText pool) (Names pool what)) (member_at pool what)
 unfolding member_at
 agrees_member pool what =
     agrees_followed _ _ _ _ (agrees_number 2) (λ flags.
@@ -149,9 +149,9 @@ agrees_member pool what =
           agrees_followed _ _ _ _ (agrees_attributes pool) (λ attributes.
             agrees_nothing (record { flags = flags; name = name; desc = desc; attributes = attributes })))))
 
-agrees_members : (pool : PoolValue) (what : Named) → Agrees (counted (member pool (Names pool what))) (members_at pool what)
+agrees_members : (pool : PoolValue) (what : Named) → Agrees (counted (member (HasText pool) (Names pool what))) (members_at pool what)
 unfolding members_at
-agrees_members pool what = agrees_counted (member pool (Names pool what)) (member_at pool what) (agrees_member pool what)
+agrees_members pool what = agrees_counted (member (HasText pool) (Names pool what)) (member_at pool what) (agrees_member pool what)
 
 agrees_interfaces : (pool : PoolValue) → Agrees (counted (number_where (HasClass pool))) (interfaces_at pool)
 unfolding interfaces_at

@@ -2,3 +2,4 @@ pub mod RemainderLaws
 pub mod NamingLaws
 pub mod ListReadingLaws
 pub mod ClassLaws
+pub mod WritingLaws

@@ -64,20 +64,20 @@ counted g = do
 -- ---- the parts (JVM Specification 4.7, 4.5, 4.6)
 
 -- a name, a length, and so many bytes
-abbrev pub attribute : PoolValue → Grammar Attribute
-attribute pool = do
-  name ← number_where (HasText pool)
+abbrev pub attribute : (ℕ → Type 0) → Grammar Attribute
+attribute HasName = do
+  name ← number_where HasName
   size ← number 4
   body ← piece size
   nothing (record { name = name; body = body })
 
--- a field or a method, whose descriptor is of its kind
-abbrev pub member : PoolValue → (ℕ → Type 0) → Grammar Member
-member pool HasDescriptor = do
+-- a field or a method
+abbrev pub member : (ℕ → Type 0) → (ℕ → Type 0) → Grammar Member
+member HasName HasDescriptor = do
   flags ← number 2
-  name ← number_where (HasText pool)
+  name ← number_where HasName
   desc ← number_where HasDescriptor
-  attributes ← counted (attribute pool)
+  attributes ← counted (attribute HasName)
   nothing (record { flags = flags; name = name; desc = desc; attributes = attributes })
 
 -- ---- the whole (JVM Specification 4.1)
@@ -92,7 +92,7 @@ class_file = do
   this_class ← number_where (HasClass pool)
   super_class ← number_where (HasSuper pool)
   interfaces ← counted (number_where (HasClass pool))
-  fields ← counted (member pool (HasFieldDescriptor pool))
-  methods ← counted (member pool (HasMethodDescriptor pool))
-  attributes ← counted (attribute pool)
+  fields ← counted (member (HasText pool) (HasFieldDescriptor pool))
+  methods ← counted (member (HasText pool) (HasMethodDescriptor pool))
+  attributes ← counted (attribute (HasText pool))
   nothing (record { minor = minor; major = major; pool = pool; flags = flags; this_class = this_class; super_class = super_class; interfaces = interfaces; fields = fields; methods = methods; attributes = attributes })

@@ -3,3 +3,4 @@ pub mod ClassFormat
 pub mod ClassText
 pub mod ItemReading
 pub mod ClassReading
+pub mod Writable

@@ -5,6 +5,7 @@ mod class_file;
 mod id;
 mod item;
 mod read;
+mod write;
 
 pub use class_file::{Attribute, ClassFile, Member};
 pub use id::class_id;
