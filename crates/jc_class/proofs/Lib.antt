@@ -3,3 +3,4 @@ pub mod NamingLaws
 pub mod ListReadingLaws
 pub mod ClassLaws
 pub mod WritingLaws
+pub mod NamedLaws

@@ -11,7 +11,7 @@ use jc_base::{
 use jc_pool::Pool;
 
 /// What stands in front of every class file.
-const MAGIC: u32 = 0xcafe_babe;
+pub const MAGIC: u32 = 0xcafe_babe;
 
 /// What a place in the pool has to name.
 #[derive(Clone, Copy, Debug, PartialEq, Eq)]

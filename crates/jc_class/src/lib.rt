@@ -10,3 +10,4 @@ mod write;
 pub use class_file::{Attribute, ClassFile, Member};
 pub use id::class_id;
 pub use read::read_class;
+pub use write::write_class;

@@ -4,8 +4,10 @@ ghost use Rattle.jc_base.specs.Appending.{Appends};
 ghost use Rattle.jc_base.specs.Grammar.{times};
 ghost use Rattle.jc_class.specs.ClassFormat.{number_where, counted, attribute as attribute_form, member as member_form};
 ghost use Rattle.jc_class.specs.Writable.{Anything, AreCounted, IsAttribute, IsMember, IsClassFile};
+ghost use Rattle.jc_class.specs.ClassText.{ClassText};
 ghost use Rattle.std.specs.List.{AllByRecursion};
 
+use crate::item::MAGIC;
 use crate::{Attribute, ClassFile, Member};
 use jc_base::{Memory, put_bytes, put_u16, put_u32};
 use std::alloc::Global;
@@ -88,4 +90,40 @@ fn put_interfaces(into: &mut Vec<u8>, interfaces: &[u16]) -> Result<(), Memory>
 {
     put_u16(into, interfaces.len() as u16)?;
     put_listed_interfaces(into, interfaces)
+}
+
+/// Puts a class file at the end.
+fn put_class(into: &mut Vec<u8>, class: &ClassFile) -> Result<(), Memory>
+    requires { IsClassFile class.now }
+    ensures { OnOk result (Appends (λ text. ClassText text class.now) into.old.items into.new.items) }
+{
+    put_u32(into, MAGIC)?;
+    put_u16(into, class.minor)?;
+    put_u16(into, class.major)?;
+    class.pool.write(into)?;
+    put_u16(into, class.flags)?;
+    put_u16(into, class.this_class)?;
+    put_u16(into, class.super_class)?;
+    put_interfaces(into, &class.interfaces)?;
+    put_members(into, &class.fields)?;
+    put_members(into, &class.methods)?;
+    put_attributes(into, &class.attributes)
+}
+
+/// Writes a class file (JVM Specification 4.1).
+///
+/// The class has to be one that can be written: each count fits into two bytes, the length of each
+/// attribute into four, and no item would fail where `read_class` reads it. `read_class` gives such
+/// a class. What was read is written back byte for byte.
+///
+/// # Errors
+///
+/// `Memory` where memory was refused.
+pub fn write_class(alloc: Global, class: &ClassFile) -> Result<Vec<u8>, Memory>
+    requires { IsClassFile class.now }
+    ensures { IfOk result (λ bytes. ClassText bytes.items class.now) }
+{
+    let mut bytes = Vec::new(alloc);
+    put_class(&mut bytes, class)?;
+    Ok(bytes)
 }
