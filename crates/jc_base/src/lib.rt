@@ -5,9 +5,9 @@
 mod descriptor;
 mod fail;
 mod files;
+mod form;
 mod host_files;
 mod host_sink;
-mod form;
 mod insn;
 mod item;
 mod list;
@@ -27,15 +27,15 @@ pub use descriptor::{
 };
 pub use fail::{Fail, Memory};
 pub use files::{FileFault, Files, MOST_READ};
+pub use form::{Form, form_of};
 pub use host_files::HostFiles;
 pub use host_sink::HostSink;
-pub use form::{Form, form_of};
 pub use insn::{Arm, Flow, Insn, inverse, is_test};
 pub use item::{byte_item, not_a_class, piece_item, u16_item, u32_item};
 pub use list::{Bytes, List};
 pub use memory_files::MemoryFiles;
 pub use memory_sink::MemorySink;
-pub use modified::is_modified;
+pub use modified::{first_unit, is_modified};
 pub use put::{put_bytes, put_u8, put_u16, put_u32, put_u64};
 pub use reader::{Reader, Short};
 pub use refusal::{Refusal, RefusalKind};

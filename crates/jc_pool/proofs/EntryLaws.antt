@@ -113,11 +113,11 @@ by_tag k tag Info x other e tagged spelled read = elim (chosen (nat_eq tag k) (S
 chosen_one : (tag a : ℕ) (e : Entry) → of_place tag a ≡ Some e → Chosen tag (λ bytes. IsBig 2 bytes a) e
 chosen_one tag a e read =
     ⊎_elim (λ c. c) (λ h. ⊎_elim (λ c. c) (λ h. ⊎_elim (λ c. c) (λ h. ⊎_elim (λ c. c) (λ h. ⊎_elim (λ c. c) (λ h. absurd (none h))
-      (by_tag 20 tag Big (entry.Package a) _ e refl (λ bytes big. big) h))
-      (by_tag 19 tag Big (entry.Module a) _ e refl (λ bytes big. big) h))
-      (by_tag 16 tag Big (entry.MethodType a) _ e refl (λ bytes big. big) h))
-      (by_tag 8 tag Big (entry.String a) _ e refl (λ bytes big. big) h))
-      (by_tag 7 tag Big (entry.Class a) _ e refl (λ bytes big. big) read)
+    (by_tag 20 tag Big (entry.Package a) _ e refl (λ bytes big. big) h))
+    (by_tag 19 tag Big (entry.Module a) _ e refl (λ bytes big. big) h))
+    (by_tag 16 tag Big (entry.MethodType a) _ e refl (λ bytes big. big) h))
+    (by_tag 8 tag Big (entry.String a) _ e refl (λ bytes big. big) h))
+    (by_tag 7 tag Big (entry.Class a) _ e refl (λ bytes big. big) read)
   where
     Big : List ℕ → Type 0
     Big = λ bytes. IsBig 2 bytes a
@@ -128,12 +128,12 @@ chosen_one tag a e read =
 chosen_two : (tag a b : ℕ) (e : Entry) → of_places tag a b ≡ Some e → Chosen tag (λ bytes. ArePlaces bytes a b) e
 chosen_two tag a b e read =
     ⊎_elim (λ c. c) (λ h. ⊎_elim (λ c. c) (λ h. ⊎_elim (λ c. c) (λ h. ⊎_elim (λ c. c) (λ h. ⊎_elim (λ c. c) (λ h. ⊎_elim (λ c. c) (λ h. absurd (none h))
-      (by_tag 18 tag Both (entry.InvokeDynamic a b) _ e refl (λ bytes both. both) h))
-      (by_tag 17 tag Both (entry.Dynamic a b) _ e refl (λ bytes both. both) h))
-      (by_tag 12 tag Both (entry.NameAndType a b) _ e refl (λ bytes both. both) h))
-      (by_tag 11 tag Both (entry.InterfaceMethodref a b) _ e refl (λ bytes both. both) h))
-      (by_tag 10 tag Both (entry.Methodref a b) _ e refl (λ bytes both. both) h))
-      (by_tag 9 tag Both (entry.Fieldref a b) _ e refl (λ bytes both. both) read)
+    (by_tag 18 tag Both (entry.InvokeDynamic a b) _ e refl (λ bytes both. both) h))
+    (by_tag 17 tag Both (entry.Dynamic a b) _ e refl (λ bytes both. both) h))
+    (by_tag 12 tag Both (entry.NameAndType a b) _ e refl (λ bytes both. both) h))
+    (by_tag 11 tag Both (entry.InterfaceMethodref a b) _ e refl (λ bytes both. both) h))
+    (by_tag 10 tag Both (entry.Methodref a b) _ e refl (λ bytes both. both) h))
+    (by_tag 9 tag Both (entry.Fieldref a b) _ e refl (λ bytes both. both) read)
   where
     Both : List ℕ → Type 0
     Both = λ bytes. ArePlaces bytes a b
@@ -180,13 +180,13 @@ found_info tag left e rest read =
     ⊎_elim (λ h. with_tag 6 tag left e rest h.0 (found_double left e rest h.1)) (λ h.
     ⊎_elim (λ h. with_tag 15 tag left e rest h.0 (found_handle left e rest h.1)) (λ h.
     ⊎_elim (λ h. found_one tag left e rest h.1) (λ h. found_two tag left e rest h.1)
-      (chosen _ _ _ _ h.1))
-      (chosen _ _ _ _ h.1))
-      (chosen _ _ _ _ h.1))
-      (chosen _ _ _ _ h.1))
-      (chosen _ _ _ _ h.1))
-      (chosen _ _ _ _ h.1))
-      (chosen _ _ _ _ read)
+    (chosen _ _ _ _ h.1))
+    (chosen _ _ _ _ h.1))
+    (chosen _ _ _ _ h.1))
+    (chosen _ _ _ _ h.1))
+    (chosen _ _ _ _ h.1))
+    (chosen _ _ _ _ h.1))
+    (chosen _ _ _ _ read)
 
 -- the front of the bytes spells the entry
 abbrev pub HasEntry : List ℕ → Entry → List ℕ → Type 0
@@ -290,7 +290,7 @@ narrow_takes left e rest read =
     let same = pair_is b.0.0 e b.0.1 rest n.1 in
     let t = entry_takes left b.0.0 b.0.1 b.1 in
     subst (λ (f : Entry). (front : List ℕ) × (left ≡ front ++ rest) × (IsEntry front f × (is_wide f ≡ false))) same.0
-      (t.0, t.1 ∙ ap (λ (l : List ℕ). t.0 ++ l) same.1, (t.2, n.0))
+    (t.0, t.1 ∙ ap (λ (l : List ℕ). t.0 ++ l) same.1, (t.2, n.0))
 
 pub narrow_again : (front rest : List ℕ) (e : Entry) → IsEntry front e × (is_wide e ≡ false) → narrow_at (front ++ rest) ≡ Some (e, rest)
 unfolding narrow_at
@@ -306,7 +306,7 @@ count_takes left n rest read =
     let same = pair_is b.0.0 n b.0.1 rest t.1 in
     let size = number_takes 2 left b.0.0 b.0.1 b.1 in
     subst (λ (k : ℕ). (front : List ℕ) × (left ≡ front ++ rest) × (IsBig 2 front k × (0 < k))) same.0
-      (size.0, size.1 ∙ ap (λ (l : List ℕ). size.0 ++ l) same.1, (size.2, some b.0.0 t.0))
+    (size.0, size.1 ∙ ap (λ (l : List ℕ). size.0 ++ l) same.1, (size.2, some b.0.0 t.0))
   where
     some : (k : ℕ) → nat_eq k 0 ≡ false → 0 < k
     some k e = grind (arith, nat_tests)

@@ -2,3 +2,5 @@ pub mod PoolSteps
 pub mod EntryLaws
 pub mod PoolLaws
 pub mod WritingLaws
+pub mod TextLaws
+pub mod OneTextLaws

@@ -113,8 +113,9 @@ more_begun slots e small b = record {
 
 pub begun_pool : (slots : List (Option Entry)) → length slots < 65536 → IsBegun slots → IsPool slots
 begun_pool slots few b = subst IsPool (sym b.parts) (
-    omega (arith, ap length b.parts, few),
-    subst IsFilled (append-nil b.tail) (b.fills [] tt))
+  omega (arith, ap length b.parts, few),
+  subst IsFilled (append-nil b.tail) (b.fills [] tt),
+)
 
 -- ---- the loop
 
@@ -148,9 +149,10 @@ pub refuses : (whole : Parsed (List (Option Entry))) (count : ℕ) (old : Readin
     → Filling whole count old slots now → Parses (λ (l : List (Option Entry)). l) (Err fail) old next whole
 refuses whole count old slots now next fails.Memory n left room read f = tt
 refuses whole count old slots now next (fails.Said refusal) n left room read f = (
-    read.0,
-    stops whole slots n now.left read.0 room read.1 (subst (λ (k : ℕ). put_behind slots (places_at k now.left) ≡ whole) (sym left) f.reads),
-    record { kind = read.2.kind; method = read.2.method; place = read.2.place ∙ f.end })
+  read.0,
+  stops whole slots n now.left read.0 room read.1 (subst (λ (k : ℕ). put_behind slots (places_at k now.left) ≡ whole) (sym left) f.reads),
+  record { kind = read.2.kind; method = read.2.method; place = read.2.place ∙ f.end },
+)
 
 -- all places are filled
 pub is_read : (whole : Parsed (List (Option Entry))) (count : ℕ) (old : Reading) (slots : List (Option Entry)) (now : Reading)

@@ -96,30 +96,45 @@ filled_text [] text filled spells = (spells, refl)
 filled_text (None ∷ rest) text filled spells = absurd filled
 filled_text (Some e ∷ []) text filled spells = (e, spells.0, spells.1, spells.2, (spells.3, filled.0), (spells.4, refl))
 filled_text (Some e ∷ None ∷ rest) text filled spells =
-    let back : spells.1 ≡ spells.4.1 = spells.4.2 ∙ ap (λ (l : List ℕ). l ++ spells.4.1) spells.4.3 in
-    (e, spells.0, spells.4.1, spells.2 ∙ ap (λ (l : List ℕ). spells.0 ++ l) back, spells.3,
+    let back : spells.1 ≡ spells.4.1 = spells.4.2 ∙ ap (λ (l : List ℕ). l ++ spells.4.1) spells.4.3 in (
+      e,
+      spells.0,
+      spells.4.1,
+      spells.2 ∙ ap (λ (l : List ℕ). spells.0 ++ l) back,
+      spells.3,
       subst (λ (wide : Bool). (by_size wide (behind (Some e ∷ None ∷ []) (places (length rest))) (behind (Some e ∷ []) (places (suc (length rest))))).Text spells.4.1 (Some e ∷ None ∷ rest))
-        (sym filled.0) (behind_text (Some e ∷ None ∷ []) (places (length rest)) rest spells.4.1 (filled_text rest spells.4.1 filled.2 spells.4.4)))
-filled_text (Some e ∷ Some f ∷ rest) text filled spells =
-    (e, spells.0, spells.1, spells.2, spells.3,
-      subst (λ (wide : Bool). (by_size wide (behind (Some e ∷ None ∷ []) (places (length rest))) (behind (Some e ∷ []) (places (suc (length rest))))).Text spells.1 (Some e ∷ Some f ∷ rest))
-        (sym filled.0) (behind_text (Some e ∷ []) (places (suc (length rest))) (Some f ∷ rest) spells.1 (filled_text (Some f ∷ rest) spells.1 filled.2 spells.4)))
+          (sym filled.0) (behind_text (Some e ∷ None ∷ []) (places (length rest)) rest spells.4.1 (filled_text rest spells.4.1 filled.2 spells.4.4)),
+    )
+filled_text (Some e ∷ Some f ∷ rest) text filled spells = (
+  e,
+  spells.0,
+  spells.1,
+  spells.2,
+  spells.3,
+  subst (λ (wide : Bool). (by_size wide (behind (Some e ∷ None ∷ []) (places (length rest))) (behind (Some e ∷ []) (places (suc (length rest))))).Text spells.1 (Some e ∷ Some f ∷ rest))
+      (sym filled.0) (behind_text (Some e ∷ []) (places (suc (length rest))) (Some f ∷ rest) spells.1 (filled_text (Some f ∷ rest) spells.1 filled.2 spells.4)),
+)
 
 -- a count, and the texts of the places
 pool_text : (slots : PoolValue) (count text : List ℕ) → IsPool slots → IsBig 2 count (length slots) → SpellsSlots text slots → pool.Text (count ++ text) slots
 pool_text [] count text is big spells = absurd is
 pool_text (None ∷ rest) count text is big spells =
     let back : text ≡ spells.1 = spells.2 ∙ ap (λ (l : List ℕ). l ++ spells.1) spells.3 in
-    let size : suc (length rest) - 1 ≡ length rest = omega arith in
-    (suc (length rest), count, text, refl, (big, omega arith),
+    let size : suc (length rest) - 1 ≡ length rest = omega arith in (
+      suc (length rest),
+      count,
+      text,
+      refl,
+      (big, omega arith),
       subst (λ (n : ℕ). (behind (None ∷ []) (places n)).Text text (None ∷ rest)) (sym size)
-        (behind_text (None ∷ []) (places (length rest)) rest text (filled_text rest text is.1 (subst (λ (l : List ℕ). SpellsSlots l rest) (sym back) spells.4))))
+          (behind_text (None ∷ []) (places (length rest)) rest text (filled_text rest text is.1 (subst (λ (l : List ℕ). SpellsSlots l rest) (sym back) spells.4))),
+    )
 pool_text (Some e ∷ rest) count text is big spells = absurd is
 
 pub appends_pool : (r : Result (Unit {0}) Memory) (seen slots : PoolValue) (old mid new : List ℕ) → seen ≡ slots → IsPool slots → Appends (λ count. IsBig 2 count (length seen)) old mid
     → OnOk r (Appends (λ text. SpellsSlots text seen) mid new) → OnOk r (Appends (λ text. pool.Text text slots) old new)
 appends_pool (Ok done) seen slots old mid new same is count places =
     appends_both (λ count. IsBig 2 count (length slots)) (λ text. SpellsSlots text slots) (λ text. pool.Text text slots) (λ a b p q. pool_text slots a b is p q) old mid new
-      (subst (λ (l : PoolValue). Appends (λ count. IsBig 2 count (length l)) old mid) same count)
-      (subst (λ (l : PoolValue). Appends (λ text. SpellsSlots text l) mid new) same places)
+    (subst (λ (l : PoolValue). Appends (λ count. IsBig 2 count (length l)) old mid) same count)
+    (subst (λ (l : PoolValue). Appends (λ text. SpellsSlots text l) mid new) same places)
 appends_pool (Err memory) seen slots old mid new same is count places = tt

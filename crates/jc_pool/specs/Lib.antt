@@ -5,3 +5,4 @@ pub mod EntryReading
 pub mod PoolReading
 pub mod Lookup
 pub mod Writing
+pub mod Text

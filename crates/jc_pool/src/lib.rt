@@ -5,11 +5,18 @@
 mod constant;
 mod entry;
 mod item;
+mod laws;
 mod lookup;
 mod pool;
 mod put;
+mod text;
 mod write;
 
 pub use constant::ConstText;
+pub use laws::{one_reading, one_text};
 pub use lookup::{BadIndex, MemberText};
 pub use pool::Pool;
+pub use text::text_of;
+
+#[cfg(test)]
+mod tests;

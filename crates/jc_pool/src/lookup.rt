@@ -2,8 +2,8 @@
 ghost use Rattle.std.specs.Prelude.{◌≡◌, ◌↔◌, [], Some, None, IfOk, IsErr, is_some, option_copied};
 ghost use Rattle.jc_pool.specs.Lookup.{entry_at, utf8_of, class_name_of, signature_of, member, ref_of, dynamic_of, ref_in, reference_of, member_of, where_named, const_in, const_of};
 
-use crate::{ConstText, Pool};
 use crate::entry::Entry;
+use crate::{ConstText, Pool};
 
 /// The place has no entry of the kind that was asked for, or such an entry names one that isn't of
 /// the kind that it needs (JVM Specification 4.4).
@@ -68,12 +68,7 @@ impl Pool {
 
     /// The texts of a member of a class, whose entry has this tag.
     #[tactic(auto, unfolding(crate::specs::Lookup::ref_of))]
-    fn reference(
-        &self,
-        tag: u8,
-        class: u16,
-        name_and_type: u16,
-    ) -> Result<MemberText<'_>, BadIndex>
+    fn reference(&self, tag: u8, class: u16, name_and_type: u16) -> Result<MemberText<'_>, BadIndex>
         ensures texts { IfOk result (λ m. ref_of self.now tag class name_and_type ≡ Some (member m)) }
         ensures bad { IsErr result ↔ (ref_of self.now tag class name_and_type ≡ None) }
     {
