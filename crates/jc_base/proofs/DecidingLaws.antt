@@ -3,7 +3,7 @@ use Rattle.std.proofs.Common.{◌≡◌, ◌≢◌, ◌⊎◌, inl, inr, ⊎_eli
 use Rattle.std.proofs.lemmas.Bool.{eqb-true, eqb-false, eq-eqb}
 use Rattle.std.proofs.lemmas.Bool.Decides.{nat_tests}
 use Rattle.std.specs.List.{AllByRecursion, flat_map, sum_by}
-use Rattle.jc_base.specs.Modified.{IsModified, after_unit, unit_bytes}
+use Rattle.jc_base.specs.Modified.{IsModified, unit_at, unit_bytes}
 use Rattle.jc_base.specs.Descriptor.{FieldType, IsFieldDescriptor, IsMethodDescriptor, IsReturnDescriptor, BeginsWithType, BeginsWithParameters, DescribesMethod, field_text, method_text, return_text, IsFieldType, IsReturnType, slots_of}
 use Rattle.jc_base.specs.DescriptorReading.{after_type}
 use Rattle.jc_base.specs.Deciding.{no_bytes, behind_unit, are_units, is_modified_text, ends_there, is_field_text, behind_type, after_types, is_void_text, closes, is_method_text}
@@ -72,22 +72,22 @@ some_bytes false false xs ys zs p q r = r
 some_unit : (u : ℕ) → 0 < length (unit_bytes u)
 some_unit u = some_bytes (nat_lt 0 u && nat_lt u 128) (nat_lt u 2048) (u ∷ []) ((192 + u / 64) ∷ (128 + u % 64) ∷ []) ((224 + u / 4096) ∷ (128 + u / 64 % 64) ∷ (128 + u % 64) ∷ []) (omega arith) (omega arith) (omega arith)
 
-unit_shorter : (bytes rest : List ℕ) → after_unit bytes ≡ Some rest → length rest < length bytes
-unit_shorter bytes rest read =
-    let u = unit_found bytes rest read in
-    omega (arith, ap length u.2, length-append (unit_bytes u.0) rest, some_unit u.0)
+unit_shorter : (bytes : List ℕ) (read : ℕ × List ℕ) → unit_at bytes ≡ Some read → length read.1 < length bytes
+unit_shorter bytes read is =
+    let u = unit_found bytes read is in
+    omega (arith, ap length u.1, length-append (unit_bytes read.0) read.1, some_unit read.0)
 
 units_decided : (n : ℕ) (bytes : List ℕ) → length bytes ≤ n → Decides (are_units n bytes) (IsModified bytes)
 unfolding are_units
 units_decided zero [] fits = record { to = λ h. nothing_is_modified [] refl; back = λ h. refl }
 units_decided zero (b ∷ bytes) fits = absurd (omega (arith, fits))
-units_decided (suc n) bytes fits = by (after_unit bytes) refl (λ rest shorter. units_decided n rest shorter)
+units_decided (suc n) bytes fits = by (unit_at bytes) refl (λ rest shorter. units_decided n rest shorter)
   where
-    by : (r : Option (List ℕ)) → after_unit bytes ≡ r → ((rest : List ℕ) → length rest ≤ n → Decides (are_units n rest) (IsModified rest)) → Decides (behind_unit (are_units n) bytes r) (IsModified bytes)
+    by : (r : Option (ℕ × List ℕ)) → unit_at bytes ≡ r → ((rest : List ℕ) → length rest ≤ n → Decides (are_units n rest) (IsModified rest)) → Decides (behind_unit (are_units n) bytes r) (IsModified bytes)
     by None none more = let d = no_bytes_decided bytes in record { to = λ h. nothing_is_modified bytes (d.to h); back = λ m. d.back (nothing_left bytes none m) }
-    by (Some rest) read more =
-        let same = next_unit bytes bytes rest (same_start bytes) (sym read) in
-        let d = more rest (omega (arith, unit_shorter bytes rest read, fits)) in
+    by (Some read) is more =
+        let same = next_unit bytes bytes read.1 read.0 (same_start bytes) (sym is) in
+        let d = more read.1 (omega (arith, unit_shorter bytes read is, fits)) in
         record { to = λ h. same.back (d.to h); back = λ m. d.back (same.to m) }
 
 pub modified_decided : (bytes : List ℕ) → Decides (is_modified_text bytes) (IsModified bytes)

@@ -1,6 +1,6 @@
 -- Tests that decide whether bytes are modified UTF-8, a field descriptor or a method descriptor.
 use Rattle.std.specs.Prelude.{ℕ, zero, suc, Bool, true, false, ◌&&◌, ◌||◌, ◌==◌, List, [], ◌∷◌, length, Option, Some, None}
-use Rattle.jc_base.specs.Modified.{after_unit}
+use Rattle.jc_base.specs.Modified.{unit_at}
 use Rattle.jc_base.specs.DescriptorReading.{after_type}
 
 abbrev pub no_bytes : List ℕ → Bool
@@ -10,14 +10,14 @@ no_bytes (b ∷ bytes) = false
 -- ---- modified UTF-8
 
 -- what stands behind the first unit decides, and with no unit there may be no byte
-abbrev pub behind_unit : (List ℕ → Bool) → List ℕ → Option (List ℕ) → Bool
+abbrev pub behind_unit : (List ℕ → Bool) → List ℕ → Option (ℕ × List ℕ) → Bool
 behind_unit test bytes None = no_bytes bytes
-behind_unit test bytes (Some rest) = test rest
+behind_unit test bytes (Some read) = test read.1
 
 -- at most so many units
 unfoldable pub are_units : ℕ → List ℕ → Bool
 are_units zero bytes = no_bytes bytes
-are_units (suc n) bytes = behind_unit (are_units n) bytes (after_unit bytes)
+are_units (suc n) bytes = behind_unit (are_units n) bytes (unit_at bytes)
 
 abbrev pub is_modified_text : List ℕ → Bool
 is_modified_text bytes = are_units (length bytes) bytes

@@ -4,3 +4,4 @@ pub mod ListReadingLaws
 pub mod ClassLaws
 pub mod WritingLaws
 pub mod NamedLaws
+pub mod OneClassLaws

@@ -49,10 +49,10 @@ one_number (suc n) (x ∷ a) (y ∷ b) p q size long is =
     let rest = one_number n a b p.1 q.1 (omega (arith, size)) (omega (arith, long)) d.1 in
     λ i. d.0 i ∷ rest i
 
-one_big : (n : ℕ) (a b : List ℕ) (x : ℕ) → AreBytes a → AreBytes b → IsBig n a x → IsBig n b x → a ≡ b
+pub one_big : (n : ℕ) (a b : List ℕ) (x : ℕ) → AreBytes a → AreBytes b → IsBig n a x → IsBig n b x → a ≡ b
 one_big n a b x p q big long = one_number n a b p q big.size long.size (big.value ∙ sym long.value)
 
-both_bytes : (a b : List ℕ) → AreBytes (a ++ b) → AreBytes a × AreBytes b
+pub both_bytes : (a b : List ℕ) → AreBytes (a ++ b) → AreBytes a × AreBytes b
 both_bytes [] b p = (tt, p)
 both_bytes (x ∷ a) b p = let r = both_bytes a b p.1 in ((p.0, r.0), r.1)
 
