@@ -5,3 +5,4 @@ pub mod ClassLaws
 pub mod WritingLaws
 pub mod NamedLaws
 pub mod OneClassLaws
+pub mod FirstBadLaws

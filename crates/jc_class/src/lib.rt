@@ -4,10 +4,12 @@
 mod class_file;
 mod id;
 mod item;
+mod laws;
 mod read;
 mod write;
 
 pub use class_file::{Attribute, ClassFile, Member};
 pub use id::class_id;
+pub use laws::{each_class_has_one_text, each_text_is_read_or_refused};
 pub use read::read_class;
 pub use write::write_class;

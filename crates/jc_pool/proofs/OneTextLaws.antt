@@ -18,7 +18,7 @@ use Rattle.jc_pool.specs.PoolGrammar.{by_size, behind, places, pool, AreBytes}
 
 -- ---- bytes
 
-byte_at : (bytes : List ℕ) → AreBytes bytes → (k : ℕ) → slice_index bytes k < 256
+pub byte_at : (bytes : List ℕ) → AreBytes bytes → (k : ℕ) → slice_index bytes k < 256
 byte_at [] are k = omega arith
 byte_at (x ∷ xs) are zero = are.0
 byte_at (x ∷ xs) are (suc k) = byte_at xs are.1 k
