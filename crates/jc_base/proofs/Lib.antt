@@ -3,3 +3,5 @@ pub mod GrammarLaws
 pub mod HeldLaws
 pub mod ModifiedLaws
 pub mod DescriptorLaws
+pub mod DecidingLaws
+pub mod AppendingLaws

@@ -11,3 +11,5 @@ pub mod Insn
 pub mod Flow
 pub mod Descriptor
 pub mod DescriptorReading
+pub mod Deciding
+pub mod Appending

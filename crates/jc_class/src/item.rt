@@ -1,0 +1,90 @@
+//! Reading single items of a class file.
+ghost use Rattle.std.specs.Prelude.{◌≡◌, ◌≤◌};
+ghost use Rattle.jc_base.specs.Decoder.{SameEnd};
+ghost use Rattle.jc_base.specs.Parsing.{Parses, item};
+ghost use Rattle.jc_class.specs.ItemReading.{has_class, names, number_if, magic_at};
+
+use jc_base::{
+    Fail, Reader, Refusal, is_field_descriptor, is_method_descriptor, is_modified, not_a_class,
+    u16_item, u32_item,
+};
+use jc_pool::Pool;
+
+/// What stands in front of every class file.
+pub const MAGIC: u32 = 0xcafe_babe;
+
+/// What a place in the pool has to name.
+#[derive(Clone, Copy, Debug, PartialEq, Eq)]
+pub enum Named {
+    /// A text.
+    Text,
+    /// A class by a name that is modified UTF-8.
+    Class,
+    /// A class, or nothing by place 0.
+    ClassOrNone,
+    /// The descriptor of a field.
+    FieldDescriptor,
+    /// The descriptor of a method.
+    MethodDescriptor,
+}
+
+/// Whether a class stands at the place, by a name that is modified UTF-8.
+#[tactic(auto, unfolding(crate::specs::ItemReading::has_class))]
+fn has_class(pool: &Pool, place: u16) -> bool
+    ensures { result ≡ has_class pool.now place }
+{
+    match pool.class_at(place) {
+        Ok(name) => is_modified(name),
+        Err(_) => false,
+    }
+}
+
+/// Whether the place names what it has to name.
+#[tactic(auto, unfolding(crate::specs::ItemReading::names))]
+fn names(pool: &Pool, what: Named, place: u16) -> bool
+    ensures { result ≡ names pool.now what place }
+{
+    match what {
+        Named::Text => pool.utf8_at(place).is_ok(),
+        Named::Class => has_class(pool, place),
+        Named::ClassOrNone => place == 0 || has_class(pool, place),
+        Named::FieldDescriptor => match pool.utf8_at(place) {
+            Ok(text) => is_field_descriptor(text),
+            Err(_) => false,
+        },
+        Named::MethodDescriptor => match pool.utf8_at(place) {
+            Ok(text) => is_method_descriptor(text),
+            Err(_) => false,
+        },
+    }
+}
+
+/// A place in the pool. The item fails where the place doesn't name what it has to name.
+#[tactic(auto, unfolding(crate::specs::ItemReading::number_if))]
+pub fn place_item(reader: &mut Reader<'_>, pool: &Pool, what: Named) -> Result<u16, Fail<Refusal>>
+    ensures gives { Parses (λ x. x) result reader.old reader.new (item (number_if (names pool.now what)) reader.old.left) }
+    ensures end { SameEnd reader.old reader.new }
+    ensures later { reader.old.place ≤ reader.new.place }
+{
+    let start = reader.place();
+    let place = u16_item(reader)?;
+    if !names(pool, what, place) {
+        return Err(Fail::Said(not_a_class(start)));
+    }
+    Ok(place)
+}
+
+/// The four bytes in front of every class file.
+#[tactic(auto, unfolding(crate::specs::ItemReading::magic_at))]
+pub fn magic_item(reader: &mut Reader<'_>) -> Result<(), Fail<Refusal>>
+    ensures gives { Parses (λ x. x) result reader.old reader.new (item magic_at reader.old.left) }
+    ensures end { SameEnd reader.old reader.new }
+    ensures later { reader.old.place ≤ reader.new.place }
+{
+    let start = reader.place();
+    let number = u32_item(reader)?;
+    if number != MAGIC {
+        return Err(Fail::Said(not_a_class(start)));
+    }
+    Ok(())
+}

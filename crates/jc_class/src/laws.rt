@@ -1,0 +1,20 @@
+//! Laws of the text of class files.
+ghost use Rattle.std.specs.Prelude.{◌≡◌, ◌⊎◌, ℕ, List};
+ghost use Rattle.jc_pool.specs.PoolGrammar.{AreBytes};
+ghost use Rattle.jc_class.specs.ClassText.{ClassText, FirstBad};
+ghost use Rattle.jc_class.specs.declared.class_file.ClassFile.{ClassFile};
+
+/// Bytes are the text of one class file, or they first fail in one place, and never both.
+pub fn each_text_is_read_or_refused()
+    ensures each { (bytes : List ℕ) → ((c : ClassFile) × ClassText bytes c) ⊎ ((place : ℕ) × FirstBad bytes place) }
+    ensures apart { (bytes : List ℕ) (c : ClassFile) (place : ℕ) → ClassText bytes c → FirstBad bytes place → ⊥ }
+    ensures one_class { (bytes : List ℕ) (c other : ClassFile) → ClassText bytes c → ClassText bytes other → c ≡ other }
+    ensures one_place { (bytes : List ℕ) (place other : ℕ) → FirstBad bytes place → FirstBad bytes other → place ≡ other }
+{
+}
+
+/// A class file has one text, so what was read is written back byte for byte.
+pub fn each_class_has_one_text()
+    ensures { (text other : List ℕ) (c : ClassFile) → AreBytes text → AreBytes other → ClassText text c → ClassText other c → text ≡ other }
+{
+}
