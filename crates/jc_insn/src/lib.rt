@@ -1,0 +1,18 @@
+//! Instructions of the Java virtual machine as bytes: decoding, sizes and encoding.
+#![tactic(auto)]
+
+mod decoding;
+mod item;
+mod operands;
+mod places;
+mod size;
+mod switch;
+mod write;
+
+#[cfg(test)]
+mod tests;
+
+pub use decoding::{Decoded, decode};
+pub use item::Item;
+pub use size::size_of;
+pub use write::encode;
