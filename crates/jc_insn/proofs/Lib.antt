@@ -1,1 +1,3 @@
 pub mod PiecesLaws
+pub mod FieldsLaws
+pub mod ItemsLaws

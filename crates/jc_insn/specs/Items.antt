@@ -55,6 +55,13 @@ ascending [] = true
 ascending (a ∷ []) = true
 ascending (a ∷ b ∷ arms) = int_lt a.key b.key && ascending (b ∷ arms)
 
+-- iload_0 to aload_3, four opcodes for each of iload to aload; and the stores likewise
+abbrev pub short_load : ℕ → Item
+short_load op = items.Insn (insns.Local (21 + (op - 26) / 4) ((op - 26) % 4))
+
+abbrev pub short_store : ℕ → Item
+short_store op = items.Insn (insns.Local (54 + (op - 59) / 4) ((op - 59) % 4))
+
 -- a number of n bytes, the high ones first
 abbrev pub number : ℕ → List ℕ → ℕ → Type 0
 number n bytes x = IsBig n bytes x
@@ -115,8 +122,8 @@ operands at forms.Constant2 op = do
 operands at forms.Local op = do
   slot ← byte
   nothing (items.Insn (insns.Local op slot))
-operands at forms.ShortLoad op = nothing (items.Insn (insns.Local (21 + (op - 26) / 4) ((op - 26) % 4)))
-operands at forms.ShortStore op = nothing (items.Insn (insns.Local (54 + (op - 59) / 4) ((op - 59) % 4)))
+operands at forms.ShortLoad op = nothing (short_load op)
+operands at forms.ShortStore op = nothing (short_store op)
 operands at forms.Inc op = do
   slot ← byte
   by ← byte

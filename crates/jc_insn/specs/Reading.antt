@@ -9,7 +9,7 @@ use Rattle.jc_base.specs.declared.insn.Insn.{Insn}
 use Rattle.jc_base.specs.declared.insn.Insn.TheVariants as insns
 use Rattle.jc_insn.specs.declared.item.Item.{Item}
 use Rattle.jc_insn.specs.declared.item.Item.TheVariants as items
-use Rattle.jc_insn.specs.Items.{target_of, padding, key_count, ascending, places_in, arms_in}
+use Rattle.jc_insn.specs.Items.{short_load, short_store, target_of, padding, key_count, ascending, places_in, arms_in}
 
 -- n bytes
 abbrev pub piece_at : ℕ → List ℕ → Option (List ℕ × List ℕ)
@@ -144,8 +144,8 @@ operands_at at forms.ConstantByte op left = constant_byte_at left
 operands_at at forms.ConstantShort op left = constant_short_at left
 operands_at at forms.Constant2 op left = constant2_at left
 operands_at at forms.Local op left = local_at op left
-operands_at at forms.ShortLoad op left = Some (items.Insn (insns.Local (21 + (op - 26) / 4) ((op - 26) % 4)), left)
-operands_at at forms.ShortStore op left = Some (items.Insn (insns.Local (54 + (op - 59) / 4) ((op - 59) % 4)), left)
+operands_at at forms.ShortLoad op left = Some (short_load op, left)
+operands_at at forms.ShortStore op left = Some (short_store op, left)
 operands_at at forms.Inc op left = inc_at left
 operands_at at forms.Jump op left = jump_at at op left
 operands_at at forms.WideJump op left = wide_jump_at at left

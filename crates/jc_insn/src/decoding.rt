@@ -1,5 +1,5 @@
 //! Instructions of a byte string.
-ghost use Rattle.std.specs.Prelude.{◌≡◌, ◌≤◌, ◌<◌, ◌⊎◌, List, ℕ, length, IfOk, IfErr, MatchResult, All};
+ghost use Rattle.std.specs.Prelude.{◌≡◌, ◌+◌, ◌≤◌, ◌<◌, ◌⊎◌, List, ℕ, length, IfOk, IfErr, MatchResult, All};
 ghost use Rattle.jc_base.specs.declared.insn.Insn.{Insn as Instruction};
 ghost use Rattle.jc_base.specs.declared.refusal.Refusal.{Refusal as Reason};
 ghost use Rattle.jc_insn.specs.Spells.{SpellsFrom, Spells, IsRefused};

@@ -1,6 +1,7 @@
 //! What stands at an offset of the code.
 ghost use Rattle.std.specs.Prelude.{◌≡◌, ◌≤◌, ◌+◌, length};
 ghost use Rattle.jc_base.specs.Decoder.{Gives, SameEnd};
+ghost use Rattle.jc_insn.specs.Items.{short_load, short_store};
 ghost use Rattle.jc_insn.specs.Reading.{operands_at, item_at};
 
 use crate::operands::{constant2, constant_byte, constant_short, dynamic, inc, interface, jump};
@@ -20,7 +21,9 @@ pub enum Item {
 }
 
 /// A load, whose local variable stands in the opcode.
-fn short_load(op: u8) -> Item {
+fn short_load(op: u8) -> Item
+    ensures { result ≡ short_load op }
+{
     let code = op.saturating_sub(26);
     Item::Insn(Insn::Local {
         op: 21 + code / 4,
@@ -29,7 +32,9 @@ fn short_load(op: u8) -> Item {
 }
 
 /// A store, whose local variable stands in the opcode.
-fn short_store(op: u8) -> Item {
+fn short_store(op: u8) -> Item
+    ensures { result ≡ short_store op }
+{
     let code = op.saturating_sub(59);
     Item::Insn(Insn::Local {
         op: 54 + code / 4,

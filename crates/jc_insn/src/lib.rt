@@ -3,6 +3,7 @@
 
 mod decoding;
 mod item;
+mod laws;
 mod operands;
 mod places;
 mod size;
@@ -14,5 +15,6 @@ mod tests;
 
 pub use decoding::{Decoded, decode};
 pub use item::Item;
+pub use laws::one_spelling;
 pub use size::size_of;
 pub use write::encode;

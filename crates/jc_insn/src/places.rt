@@ -6,17 +6,17 @@ ghost use Rattle.jc_insn.specs.Spells.{number_at};
 use jc_base::{Arm, Insn, List};
 use std::alloc::{AllocError, Global};
 
-/// For each offset below `length` the number of the instruction that begins there, or the number
+/// For each offset below `size` the number of the instruction that begins there, or the number
 /// of instructions where none does.
-pub fn numbers(alloc: Global, starts: &[u32], length: usize) -> Result<Vec<u32>, AllocError>
+pub fn numbers(alloc: Global, starts: &[u32], size: usize) -> Result<Vec<u32>, AllocError>
     requires some { 0 < length starts.now }
     requires few { length starts.now < 2 ^ 32 }
-    requires within { All (λ start. start < length) starts.now }
-    ensures length { IfOk result (λ numbers. length numbers.items ≡ length) }
-    ensures each { IfOk result (λ numbers. (offset : ℕ) → offset < length → slice_index numbers.items offset ≡ number_at starts.now offset) }
+    requires within { All (λ start. start < size) starts.now }
+    ensures length { IfOk result (λ numbers. length numbers.items ≡ size) }
+    ensures each { IfOk result (λ numbers. (offset : ℕ) → offset < size → slice_index numbers.items offset ≡ number_at starts.now offset) }
 {
     let mut number = starts.len() - 1;
-    let mut numbers = vec![in alloc; number as u32; length]?;
+    let mut numbers = vec![in alloc; number as u32; size]?;
     'numbering: while number > 0 {
         number -= 1;
         numbers[starts[number] as usize] = number as u32;
