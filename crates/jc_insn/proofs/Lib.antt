@@ -1,3 +1,4 @@
 pub mod PiecesLaws
 pub mod FieldsLaws
 pub mod ItemsLaws
+pub mod DecodingLaws

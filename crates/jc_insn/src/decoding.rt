@@ -1,9 +1,10 @@
 //! Instructions of a byte string.
 ghost use Rattle.std.specs.Prelude.{◌≡◌, ◌+◌, ◌≤◌, ◌<◌, ◌⊎◌, List, ℕ, length, IfOk, IfErr, MatchResult, All};
+ghost use Rattle.jc_base.specs.Decoder.{SameEnd};
 ghost use Rattle.jc_base.specs.declared.insn.Insn.{Insn as Instruction};
 ghost use Rattle.jc_base.specs.declared.refusal.Refusal.{Refusal as Reason};
 ghost use Rattle.jc_insn.specs.Spells.{SpellsFrom, Spells, IsRefused};
-ghost use Rattle.jc_insn.specs.Decoding.{Refuses};
+ghost use Rattle.jc_insn.specs.Decoding.{Refuses, GivesNext};
 
 use crate::Item;
 use crate::item::read_item;
@@ -40,7 +41,11 @@ fn refused(kind: RefusalKind, place: u32) -> Refusal
 }
 
 /// The instruction at the reader's offset.
-fn next_insn(alloc: Global, reader: &mut Reader<'_>) -> Result<Insn, Fail<Refusal>> {
+fn next_insn(alloc: Global, reader: &mut Reader<'_>) -> Result<Insn, Fail<Refusal>>
+    requires { reader.old.place + length reader.old.left ≤ 67108864 }
+    ensures gives { GivesNext result reader.old reader.new }
+    ensures end { SameEnd reader.old reader.new }
+{
     let place = reader.place();
     match read_item(alloc, reader) {
         Ok(Item::Insn(insn)) => Ok(insn),
