@@ -2,3 +2,5 @@ pub mod PiecesLaws
 pub mod FieldsLaws
 pub mod ItemsLaws
 pub mod DecodingLaws
+pub mod NumbersLaws
+pub mod CodeLaws

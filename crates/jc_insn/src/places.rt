@@ -47,6 +47,16 @@ fn numbered_places(
     Ok(List::from_vec(arms))
 }
 
+/// An arm of `lookupswitch` with a number in place of its offset.
+fn numbered_arm(numbers: &[u32], count: u32, arm: &Arm) -> Arm
+    ensures { result ≡ arm_with_place (λ offset. slice_index_or numbers.now offset count) arm.now }
+{
+    Arm {
+        key: arm.key,
+        to: number(numbers, count, arm.to),
+    }
+}
+
 /// The arms of `lookupswitch` with numbers in place of offsets.
 fn numbered_arms(
     alloc: Global,
@@ -56,14 +66,11 @@ fn numbered_arms(
 ) -> Result<List<Arm>, AllocError>
     ensures { IfOk result (λ list. list ≡ map (arm_with_place (λ offset. slice_index_or numbers.now offset count)) arms.now) }
 {
-    let arms: Vec<Arm> = arms
-        .iter()
-        .map(|arm| Arm {
-            key: arm.key,
-            to: number(numbers, count, arm.to),
-        })
-        .collect(alloc)?;
-    Ok(List::from_vec(arms))
+    let mut list = Vec::new(alloc);
+    'numbering: for arm in arms {
+        list.push(numbered_arm(numbers, count, arm))?;
+    }
+    Ok(List::from_vec(list))
 }
 
 /// The instruction with numbers in place of offsets.
