@@ -3,3 +3,4 @@ pub mod GrammarLaws
 pub mod HeldLaws
 pub mod ModifiedLaws
 pub mod DescriptorLaws
+pub mod InsnFormLaws

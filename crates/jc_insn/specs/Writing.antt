@@ -3,6 +3,9 @@ use Rattle.std.specs.Prelude.{◌≡◌, ◌⊎◌, ◌<◌, ◌≤◌, ⊤, ℕ
 use Rattle.std.specs.List.{flat_map, AllByRecursion}
 use Rattle.std.specs.Int.{w8, w16, w32, cast_unsigned}
 use Rattle.byteorder.specs.Endian.{big_bytes}
+use Rattle.jc_base.specs.declared.form.Form.{Form}
+use Rattle.jc_base.specs.declared.form.Form.TheVariants as forms
+use Rattle.jc_base.specs.InsnForm.{form_of}
 use Rattle.jc_base.specs.declared.insn.Insn.{Insn}
 use Rattle.jc_base.specs.declared.insn.Insn.TheVariants as insns
 use Rattle.jc_base.specs.declared.insn.Arm.{Arm}
@@ -18,40 +21,78 @@ short x = big_bytes 2 x
 unfoldable pub word : ℕ → List ℕ
 word x = big_bytes 4 x
 
+-- a signed number in one byte, and in two
+abbrev pub signed_byte : ℤ → ℕ
+signed_byte z = cast_unsigned w16 z % 256
+
+abbrev pub signed_short : ℤ → List ℕ
+signed_short z = short (cast_unsigned w16 z)
+
 -- how far the second offset lies behind the first, as a number of 32 bits
 abbrev pub difference : ℕ → ℕ → ℕ
 difference at to = (to + (2 ^ 32 - at)) % 2 ^ 32
 
+abbrev pub push_text : Form → ℕ → ℤ → List ℕ
+push_text forms.PushByte op value = op ∷ signed_byte value ∷ []
+push_text form op value = op ∷ signed_short value
+
+-- the opcode of a load or a store that has the local variable in it
+abbrev pub short_code : ℕ → ℕ → ℕ
+short_code op slot = if nat_lt op 54 then 26 + 4 * (op - 21) + slot else 59 + 4 * (op - 54) + slot
+
 -- a load or a store: with the local variable in the opcode, behind it in a byte, or behind `wide`
 abbrev pub local_text : ℕ → ℕ → List ℕ
 local_text op slot =
-    if nat_lt slot 4 then (if nat_lt op 54 then 26 + 4 * (op - 21) + slot else 59 + 4 * (op - 54) + slot) ∷ []
+    if nat_lt slot 4 then short_code op slot ∷ []
     else if nat_lt slot 256 then op ∷ slot ∷ []
     else 196 ∷ op ∷ short slot
 
 abbrev pub inc_text : ℕ → ℤ → List ℕ
 inc_text slot by =
-    if is_narrow_inc slot by then 132 ∷ slot ∷ cast_unsigned w8 by ∷ []
-    else 196 ∷ 132 ∷ short slot ++ short (cast_unsigned w16 by)
+    if is_narrow_inc slot by then 132 ∷ slot ∷ signed_byte by ∷ []
+    else 196 ∷ 132 ∷ short slot ++ signed_short by
 
--- a jump in two bytes; or goto_w, behind the inverse of a conditional jump that leads past it
-abbrev pub jump_text : ℕ → Bool → ℕ → ℕ → List ℕ
-jump_text at false op to = op ∷ short (difference at to)
-jump_text at true op to =
+abbrev pub constant_text : ℕ → List ℕ
+constant_text place = if nat_lt place 256 then 18 ∷ place ∷ [] else 19 ∷ short place
+
+-- goto_w, or a conditional jump that its inverse leads past a goto_w
+abbrev pub wide_jump_text : ℕ → ℕ → ℕ → List ℕ
+wide_jump_text at op to =
     if nat_eq op 167 then 200 ∷ word (difference at to)
-    else inverse_of op ∷ 0 ∷ 8 ∷ 200 ∷ word (difference (at + 3) to)
+    else inverse_of op ∷ short 8 ++ 200 ∷ word (difference (at + 3) to)
+
+-- a jump in two bytes, or in the wide layout
+abbrev pub jump_text : ℕ → Bool → ℕ → ℕ → List ℕ
+jump_text at wide op to = if wide then wide_jump_text at op to else op ∷ short (difference at to % 65536)
 
 abbrev pub arm_text : ℕ → Arm → List ℕ
 arm_text at arm = word (cast_unsigned w32 arm.key) ++ word (difference at arm.to)
+
+-- what pads a switch
+unfoldable pub pad_text : ℕ → List ℕ
+pad_text at = replicate (padding at) 0
+
+-- the last of the keys from low on, of which there are so many
+abbrev pub last_key : ℤ → ℕ → ℤ
+last_key low count = (low +ℤ pos count) -ℤ pos 1
+
+abbrev pub table_text : ℕ → ℤ → ℕ → List ℕ → List ℕ
+table_text at low default arms =
+    170 ∷ pad_text at ++ (word (difference at default) ++ (word (cast_unsigned w32 low)
+    ++ (word (cast_unsigned w32 (last_key low (length arms))) ++ flat_map (λ to. word (difference at to)) arms)))
+
+abbrev pub lookup_text : ℕ → ℕ → List Arm → List ℕ
+lookup_text at default arms =
+    171 ∷ pad_text at ++ (word (difference at default) ++ (word (length arms) ++ flat_map (arm_text at) arms))
 
 -- The shortest spelling of an instruction at this offset, where the places to which it leads are offsets.
 -- Bytes of any value are 0.
 unfoldable pub insn_text : ℕ → Bool → Insn → List ℕ
 insn_text at wide (insns.Simple op) = op ∷ []
-insn_text at wide (insns.Push op value) = if nat_eq op 16 then 16 ∷ cast_unsigned w8 value ∷ [] else op ∷ short (cast_unsigned w16 value)
+insn_text at wide (insns.Push op value) = push_text (form_of op) op value
 insn_text at wide (insns.Local op slot) = local_text op slot
 insn_text at wide (insns.Inc slot by) = inc_text slot by
-insn_text at wide (insns.Constant place) = if nat_lt place 256 then 18 ∷ place ∷ [] else 19 ∷ short place
+insn_text at wide (insns.Constant place) = constant_text place
 insn_text at wide (insns.Constant2 place) = 20 ∷ short place
 insn_text at wide (insns.Member op place) = op ∷ short place
 insn_text at wide (insns.Interface place count) = 185 ∷ short place ++ (count ∷ 0 ∷ [])
@@ -60,17 +101,14 @@ insn_text at wide (insns.OfClass op place) = op ∷ short place
 insn_text at wide (insns.NewArray elem) = 188 ∷ elem ∷ []
 insn_text at wide (insns.Multi place dims) = 197 ∷ short place ++ (dims ∷ [])
 insn_text at wide (insns.Jump op to) = jump_text at wide op to
-insn_text at wide (insns.Table low default arms) =
-    170 ∷ replicate (padding at) 0 ++ (word (difference at default) ++ (word (cast_unsigned w32 low)
-    ++ (word (cast_unsigned w32 ((low +ℤ pos (length arms)) -ℤ pos 1)) ++ flat_map (λ to. word (difference at to)) arms)))
-insn_text at wide (insns.Lookup default arms) =
-    171 ∷ replicate (padding at) 0 ++ (word (difference at default) ++ (word (length arms) ++ flat_map (arm_text at) arms))
+insn_text at wide (insns.Table low default arms) = table_text at low default arms
+insn_text at wide (insns.Lookup default arms) = lookup_text at default arms
 
--- the spellings of instructions from this offset on, one behind the other
-abbrev pub code_text : List ℕ → Bool → ℕ → List Insn → List ℕ
-code_text starts wide at [] = []
-code_text starts wide at (insn ∷ code) =
-    insn_text at wide (with_places (slice_index starts) insn) ++ code_text starts wide (at + size_of at wide insn) code
+-- The spellings of instructions, one behind the other, each at its offset. `places` gives the offset of a
+-- place in the code.
+abbrev pub code_text : (ℕ → ℕ) → Bool → List Insn → List ℕ → List ℕ
+code_text places wide (insn ∷ code) (at ∷ starts) = insn_text at wide (with_places places insn) ++ code_text places wide code starts
+code_text places wide code starts = []
 
 -- a jump from one offset to the other has room in two bytes of two's complement
 abbrev pub IsNear : ℕ → ℕ → Type 0

@@ -1,40 +1,190 @@
 //! Instructions as bytes.
-ghost use Rattle.std.specs.Prelude.{◌≡◌, ◌≤◌, ◌+◌, ◌<◌, ◌^◌, ◌++◌, ◌∷◌, [], ℕ, List, false, length, slice_index, replicate, OnOk, OnErr, All};
+ghost use Rattle.std.specs.Prelude.{◌≡◌, ◌≤◌, ◌+◌, ◌%◌, ◌<◌, ◌^◌, ◌++◌, ◌∷◌, ◌⊎◌, [], ℕ, List, false, length, slice_index, OnOk, OnErr, All, int_le, IsTrue};
 ghost use Rattle.std.specs.List.{flat_map};
-ghost use Rattle.jc_base.specs.Insn.{arm_count, IsWellFormed, with_places};
+ghost use Rattle.jc_base.specs.declared.form.Form.TheVariants as forms;
+ghost use Rattle.jc_base.specs.InsnForm.{form_of};
+ghost use Rattle.jc_base.specs.Flow.{targets_of};
+ghost use Rattle.jc_base.specs.Insn.{arm_count, IsWellFormed, with_places, arm_with_place};
 ghost use Rattle.jc_insn.specs.Spells.{Spells};
 ghost use Rattle.jc_insn.specs.Sizes.{StartAt};
-ghost use Rattle.jc_insn.specs.Writing.{short, word, difference, local_text, inc_text, jump_text, arm_text, insn_text, code_text, AllNear};
+ghost use Rattle.jc_insn.specs.Writing.{short, word, signed_byte, signed_short, difference, push_text, short_code, local_text, inc_text, constant_text, wide_jump_text, jump_text, arm_text, pad_text, last_key, table_text, lookup_text, insn_text, code_text, AllNear};
 
 use crate::size::{is_narrow_inc, padding};
-use jc_base::{Arm, Insn, Memory, inverse};
+use jc_base::{Arm, Form, Insn, Memory, form_of, inverse};
 use std::alloc::{AllocError, Global};
+
+const LDC: u8 = 18;
+
+const LDC_W: u8 = 19;
+
+const LDC2_W: u8 = 20;
+
+const IINC: u8 = 132;
+
+const GOTO: u8 = 167;
+
+const TABLESWITCH: u8 = 170;
+
+const LOOKUPSWITCH: u8 = 171;
+
+const INVOKEINTERFACE: u8 = 185;
+
+const INVOKEDYNAMIC: u8 = 186;
+
+const NEWARRAY: u8 = 188;
 
 const WIDE: u8 = 196;
 
-fn put_short(out: &mut Vec<u8>, number: u16) -> Result<(), AllocError> {
+const MULTIANEWARRAY: u8 = 197;
+
+const GOTO_W: u8 = 200;
+
+/// A number in two bytes.
+#[tactic(auto, unfolding(crate::specs::Writing::short))]
+fn put_short(out: &mut Vec<u8>, number: u16) -> Result<(), AllocError>
+    ensures { OnOk result (out.new.items ≡ out.old.items ++ short number) }
+{
     out.extend_from_slice(&number.to_be_bytes())
 }
 
-fn put_word(out: &mut Vec<u8>, number: u32) -> Result<(), AllocError> {
+/// A number in four bytes.
+#[tactic(auto, unfolding(crate::specs::Writing::word))]
+fn put_word(out: &mut Vec<u8>, number: u32) -> Result<(), AllocError>
+    ensures { OnOk result (out.new.items ≡ out.old.items ++ word number) }
+{
     out.extend_from_slice(&number.to_be_bytes())
 }
 
-fn put_local(out: &mut Vec<u8>, op: u8, slot: u16) -> Result<(), AllocError> {
+/// The low byte of a signed number.
+fn signed_byte(number: i16) -> u8
+    ensures { result ≡ signed_byte number }
+{
+    (number.cast_unsigned() % 256) as u8
+}
+
+/// How far the second offset lies behind the first.
+fn difference(at: u32, to: u32) -> u32
+    ensures { result ≡ difference at to }
+{
+    to.wrapping_sub(at)
+}
+
+/// An opcode and a number in two bytes.
+fn put_with_short(out: &mut Vec<u8>, op: u8, number: u16) -> Result<(), AllocError>
+    ensures { OnOk result (out.new.items ≡ out.old.items ++ op ∷ short number) }
+{
+    out.push(op)?;
+    put_short(out, number)?;
+    Ok(())
+}
+
+/// `bipush` or `sipush`.
+fn put_push(out: &mut Vec<u8>, form: Form, op: u8, value: i16) -> Result<(), AllocError>
+    ensures { OnOk result (out.new.items ≡ out.old.items ++ push_text form op value) }
+{
+    match form {
+        Form::PushByte => {
+            out.push(op)?;
+            out.push(signed_byte(value))?;
+        }
+        _ => put_with_short(out, op, value.cast_unsigned())?,
+    }
+    Ok(())
+}
+
+/// The opcode of a load or a store that has the local variable in it.
+fn short_code(op: u8, slot: u8) -> u8
+    requires op { ((21 ≤ op) × (op ≤ 25)) ⊎ ((54 ≤ op) × (op ≤ 58)) }
+    requires slot { slot < 4 }
+    ensures { result ≡ short_code op slot }
+{
+    if op < 54 {
+        26 + 4 * (op - 21) + slot
+    } else {
+        59 + 4 * (op - 54) + slot
+    }
+}
+
+/// A load or a store.
+fn put_local(out: &mut Vec<u8>, op: u8, slot: u16) -> Result<(), AllocError>
+    requires { ((21 ≤ op) × (op ≤ 25)) ⊎ ((54 ≤ op) × (op ≤ 58)) }
+    ensures { OnOk result (out.new.items ≡ out.old.items ++ local_text op slot) }
+{
     if slot < 4 {
-        let code = if op < 54 { 26 + 4 * (op - 21) } else { 59 + 4 * (op - 54) };
-        out.push(code + slot as u8)?;
+        out.push(short_code(op, slot as u8))?;
     } else if slot < 256 {
         out.push(op)?;
         out.push(slot as u8)?;
     } else {
         out.push(WIDE)?;
-        out.push(op)?;
-        put_short(out, slot)?;
+        put_with_short(out, op, slot)?;
     }
     Ok(())
 }
 
-pub fn encode(alloc: Global, code: &[Insn], starts: &[u32], wide: bool, into: &mut Vec<u8>) -> Result<(), Memory> {
+/// `iinc`.
+fn put_inc(out: &mut Vec<u8>, slot: u16, by: i16) -> Result<(), AllocError>
+    ensures { OnOk result (out.new.items ≡ out.old.items ++ inc_text slot by) }
+{
+    if is_narrow_inc(slot, by) {
+        out.push(IINC)?;
+        out.push(slot as u8)?;
+        out.push(signed_byte(by))?;
+    } else {
+        out.push(WIDE)?;
+        put_with_short(out, IINC, slot)?;
+        put_short(out, by.cast_unsigned())?;
+    }
+    Ok(())
+}
+
+/// `ldc` or `ldc_w`.
+fn put_constant(out: &mut Vec<u8>, place: u16) -> Result<(), AllocError>
+    ensures { OnOk result (out.new.items ≡ out.old.items ++ constant_text place) }
+{
+    if place < 256 {
+        out.push(LDC)?;
+        out.push(place as u8)?;
+    } else {
+        put_with_short(out, LDC_W, place)?;
+    }
+    Ok(())
+}
+
+/// `goto_w`.
+fn put_goto(out: &mut Vec<u8>, at: u32, to: u32) -> Result<(), AllocError>
+    ensures { OnOk result (out.new.items ≡ out.old.items ++ 200 ∷ word (difference at to)) }
+{
+    out.push(GOTO_W)?;
+    put_word(out, difference(at, to))?;
+    Ok(())
+}
+
+/// A jump of the wide layout.
+fn put_wide_jump(out: &mut Vec<u8>, at: u32, op: u8, to: u32) -> Result<(), AllocError>
+    requires form { form_of op ≡ forms.Jump }
+    requires at { at ≤ 2147483647 }
+    ensures { OnOk result (out.new.items ≡ out.old.items ++ wide_jump_text at op to) }
+{
+    if op == GOTO {
+        put_goto(out, at, to)?;
+    } else {
+        put_with_short(out, inverse(op), 8)?;
+        put_goto(out, at + 3, to)?;
+    }
+    Ok(())
+}
+
+/// A jump.
+fn put_jump(out: &mut Vec<u8>, at: u32, wide: bool, op: u8, to: u32) -> Result<(), AllocError>
+    requires form { form_of op ≡ forms.Jump }
+    requires at { at ≤ 2147483647 }
+    ensures { OnOk result (out.new.items ≡ out.old.items ++ jump_text at wide op to) }
+{
+    if wide {
+        put_wide_jump(out, at, op, to)?;
+    } else {
+        put_with_short(out, op, (difference(at, to) % 65536) as u16)?;
+    }
     Ok(())
 }
