@@ -4,3 +4,4 @@ pub mod ItemsLaws
 pub mod DecodingLaws
 pub mod NumbersLaws
 pub mod CodeLaws
+pub mod WritingLaws

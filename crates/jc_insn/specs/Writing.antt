@@ -74,7 +74,7 @@ pad_text at = replicate (padding at) 0
 
 -- the last of the keys from low on, of which there are so many
 abbrev pub last_key : ℤ → ℕ → ℤ
-last_key low count = (low +ℤ pos count) -ℤ pos 1
+last_key low count = low +ℤ pos (count - 1)
 
 abbrev pub table_text : ℕ → ℤ → ℕ → List ℕ → List ℕ
 table_text at low default arms =

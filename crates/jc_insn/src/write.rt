@@ -1,6 +1,7 @@
 //! Instructions as bytes.
-ghost use Rattle.std.specs.Prelude.{◌≡◌, ◌≤◌, ◌+◌, ◌%◌, ◌<◌, ◌^◌, ◌++◌, ◌∷◌, ◌⊎◌, [], ℕ, List, false, length, slice_index, OnOk, OnErr, All, int_le, IsTrue};
+ghost use Rattle.std.specs.Prelude.{◌≡◌, ◌≤◌, ◌+◌, ◌%◌, ◌<◌, ◌^◌, ◌++◌, ◌∷◌, ◌⊎◌, [], ℕ, List, false, length, slice_index, OnOk, OnErr, All, map, IsTrue, ℤ, pos, ◌+ℤ◌, ◌≤ℤ◌};
 ghost use Rattle.std.specs.List.{flat_map};
+ghost use Rattle.std.specs.Int.{w32, cast_unsigned};
 ghost use Rattle.jc_base.specs.declared.form.Form.TheVariants as forms;
 ghost use Rattle.jc_base.specs.InsnForm.{form_of};
 ghost use Rattle.jc_base.specs.Flow.{targets_of};
@@ -186,5 +187,117 @@ fn put_jump(out: &mut Vec<u8>, at: u32, wide: bool, op: u8, to: u32) -> Result<(
     } else {
         put_with_short(out, op, (difference(at, to) % 65536) as u16)?;
     }
+    Ok(())
+}
+
+/// What pads a switch.
+#[tactic(auto, unfolding(crate::specs::Writing::pad_text))]
+fn put_pad(out: &mut Vec<u8>, at: u32) -> Result<(), AllocError>
+    ensures { OnOk result (out.new.items ≡ out.old.items ++ pad_text at) }
+{
+    let pad = [0; 3];
+    out.extend_from_slice(&pad[..padding(at) as usize])?;
+    Ok(())
+}
+
+/// The arms of `tableswitch`.
+fn put_places(
+    out: &mut Vec<u8>,
+    at: u32,
+    starts: &[u32],
+    arms: &[u32],
+) -> Result<(), AllocError>
+    requires { All (λ to. to < length starts.now) arms.now }
+    ensures { OnOk result (out.new.items ≡ out.old.items ++ flat_map (λ to. word (difference at to)) (map (slice_index starts.now) arms.now)) }
+{
+    'writing: for to in arms {
+        put_word(out, difference(at, starts[*to as usize]))?;
+    }
+    Ok(())
+}
+
+/// An arm of `lookupswitch`.
+fn put_arm(out: &mut Vec<u8>, at: u32, starts: &[u32], arm: &Arm) -> Result<(), AllocError>
+    requires { arm.now.to < length starts.now }
+    ensures { OnOk result (out.new.items ≡ out.old.items ++ arm_text at (arm_with_place (slice_index starts.now) arm.now)) }
+{
+    put_word(out, arm.key.cast_unsigned())?;
+    put_word(out, difference(at, starts[arm.to as usize]))?;
+    Ok(())
+}
+
+/// The arms of `lookupswitch`.
+fn put_arms(
+    out: &mut Vec<u8>,
+    at: u32,
+    starts: &[u32],
+    arms: &[Arm],
+) -> Result<(), AllocError>
+    requires { All (λ arm. arm.to < length starts.now) arms.now }
+    ensures { OnOk result (out.new.items ≡ out.old.items ++ flat_map (arm_text at) (map (arm_with_place (slice_index starts.now)) arms.now)) }
+{
+    'writing: for arm in arms {
+        put_arm(out, at, starts, arm)?;
+    }
+    Ok(())
+}
+
+/// The last of the keys from `low` on, as a number of 32 bits.
+fn last_key(low: i32, count: u32) -> u32
+    requires some { 1 ≤ count }
+    requires few { count ≤ 67108864 }
+    requires fits { (low +ℤ pos count) ≤ℤ pos 2147483648 }
+    ensures { result ≡ cast_unsigned w32 (last_key low count) }
+{
+    (low + (count - 1) as i32).cast_unsigned()
+}
+
+/// `tableswitch`.
+fn put_table(
+    out: &mut Vec<u8>,
+    at: u32,
+    starts: &[u32],
+    low: i32,
+    default: u32,
+    arms: &[u32],
+) -> Result<(), AllocError>
+    requires some { 1 ≤ length arms.now }
+    requires few { length arms.now ≤ 67108864 }
+    requires fits { (low +ℤ pos (length arms.now)) ≤ℤ pos 2147483648 }
+    requires default { default < length starts.now }
+    requires places { All (λ to. to < length starts.now) arms.now }
+    ensures { OnOk result (out.new.items ≡ out.old.items ++ table_text at low (slice_index starts.now default) (map (slice_index starts.now) arms.now)) }
+{
+    out.push(TABLESWITCH)?;
+    put_pad(out, at)?;
+    put_word(out, difference(at, starts[default as usize]))?;
+    put_word(out, low.cast_unsigned())?;
+    put_word(out, last_key(low, arms.len() as u32))?;
+    put_places(out, at, starts, arms)?;
+    Ok(())
+}
+
+/// `lookupswitch`.
+fn put_lookup(
+    out: &mut Vec<u8>,
+    at: u32,
+    starts: &[u32],
+    default: u32,
+    arms: &[Arm],
+) -> Result<(), AllocError>
+    requires few { length arms.now ≤ 67108864 }
+    requires default { default < length starts.now }
+    requires places { All (λ arm. arm.to < length starts.now) arms.now }
+    ensures { OnOk result (out.new.items ≡ out.old.items ++ lookup_text at (slice_index starts.now default) (map (arm_with_place (slice_index starts.now)) arms.now)) }
+{
+    out.push(LOOKUPSWITCH)?;
+    put_pad(out, at)?;
+    put_word(out, difference(at, starts[default as usize]))?;
+    put_word(out, arms.len() as u32)?;
+    put_arms(out, at, starts, arms)?;
+    Ok(())
+}
+
+pub fn encode(alloc: Global, code: &[Insn], starts: &[u32], wide: bool, into: &mut Vec<u8>) -> Result<(), Memory> {
     Ok(())
 }
