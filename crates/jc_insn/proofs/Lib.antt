@@ -5,3 +5,4 @@ pub mod DecodingLaws
 pub mod NumbersLaws
 pub mod CodeLaws
 pub mod WritingLaws
+pub mod StartsLaws

@@ -6,7 +6,15 @@ use Rattle.std.proofs.lemmas.Bool.{cases_lt, ne_eqb}
 use Rattle.jc_base.specs.declared.form.Form.{Form}
 use Rattle.jc_base.specs.declared.form.Form.TheVariants as forms
 use Rattle.jc_base.specs.InsnForm.{form_of}
-use Rattle.jc_base.specs.Flow.{is_test}
+use Rattle.std.specs.Prelude.{ℤ}
+use Rattle.std.proofs.lemmas.List.{length-map, get_or-map}
+use Rattle.jc_base.specs.Flow.{is_test, targets_of}
+use Rattle.std.proofs.Math.Seq.{drop-cons}
+use Rattle.jc_base.specs.Insn.{IsWellFormed, with_places}
+use Rattle.jc_insn.specs.Writing.{insn_text, code_text}
+use Rattle.jc_base.specs.declared.insn.Insn.{Insn}
+use Rattle.jc_base.specs.declared.insn.Insn.TheVariants as insns
+use Rattle.jc_base.specs.declared.insn.Arm.{Arm}
 use Rattle.jc_base.proofs.InsnFormLaws.{jump_codes, local_codes}
 
 -- a jump that isn't goto is a conditional one
@@ -28,3 +36,38 @@ zeros (suc (suc (suc (suc n)))) few = absurd (omega (arith, few))
 -- six pieces that were put one behind the other
 pub six_pieces : (a b c d e f g : List ℕ) (x : ℕ) (p q r s t : List ℕ) → b ≡ a ++ x ∷ [] → c ≡ b ++ p → d ≡ c ++ q → e ≡ d ++ r → f ≡ e ++ s → g ≡ f ++ t → g ≡ a ++ x ∷ (p ++ (q ++ (r ++ (s ++ t))))
 six_pieces a b c d e f g x p q r s t ab bc cd de ef fg = rw (fg, ef, de, cd, bc, ab) (simp append_assoc)
+
+pub all_behind : {X : Type 0} (P : X → Type 0) (x : X) (xs : List X) → All P (x ∷ xs) → All P xs
+all_behind P x xs all k d below = all (suc k) d (omega (arith, below))
+
+-- where the arms of a switch lead
+pub table_places : (P : ℕ → Type 0) (insn : Insn) (low : ℤ) (default : ℕ) (arms seen : List ℕ) → insn ≡ insns.Table low default arms → seen ≡ arms → All P (targets_of insn) → All P seen
+table_places P insn low default arms seen is seen_is all =
+    subst (λ (l : List ℕ). All P l) (sym seen_is) (all_behind P default arms (subst (λ (i : Insn). All P (targets_of i)) is all))
+
+pub lookup_places : (P : ℕ → Type 0) (insn : Insn) (default : ℕ) (arms seen : List Arm) → insn ≡ insns.Lookup default arms → seen ≡ arms → All P (targets_of insn) → All (λ arm. P arm.to) seen
+lookup_places P insn default arms seen is seen_is all =
+    subst (λ (l : List Arm). All (λ arm. P arm.to) l) (sym seen_is) (λ k d below. each k d below)
+  where
+    each : (k : ℕ) (d : Arm) → k < length arms → P (get_or arms k d).to
+    each k d below =
+        let behind : All P (map (λ (a : Arm). a.to) arms) = all_behind P default (map (λ (a : Arm). a.to) arms) (subst (λ (i : Insn). All P (targets_of i)) is all) in
+        subst P (get_or-map (λ (a : Arm). a.to) arms k d d.to below) (behind k d.to (omega (arith, length-map arms (λ (a : Arm). a.to), below)))
+
+pub local_of : (insn : Insn) (op slot : ℕ) → insn ≡ insns.Local op slot → IsWellFormed insn → ((21 ≤ op) × (op ≤ 25)) ⊎ ((54 ≤ op) × (op ≤ 58))
+local_of insn op slot is well = local_codes op (subst IsWellFormed is well)
+
+-- one instruction more
+pub writes_on : (places : ℕ → ℕ) (wide : Bool) (code : List Insn) (starts : List ℕ) (number : ℕ) (insn : Insn) (old new whole : List ℕ) → number < length code → number < length starts → insn ≡ get_or code number insn → old ++ code_text places wide (drop number code) (drop number starts) ≡ whole → new ≡ old ++ insn_text (get_or starts number 0) wide (with_places places insn) → new ++ code_text places wide (drop (number + 1) code) (drop (number + 1) starts) ≡ whole
+writes_on places wide code starts number insn old new whole in_code in_starts insn_is so_far wrote =
+    let next : number + 1 ≡ suc number = omega arith in
+    let code_is : drop number code ≡ insn ∷ drop (suc number) code = drop-cons code number insn in_code ∙ ap (λ (i : Insn). i ∷ drop (suc number) code) (sym insn_is) in
+    let starts_is : drop number starts ≡ get_or starts number 0 ∷ drop (suc number) starts = drop-cons starts number 0 in_starts in
+    let front = insn_text (get_or starts number 0) wide (with_places places insn) in
+    let rest = code_text places wide (drop (suc number) code) (drop (suc number) starts) in
+    let unrolled : code_text places wide (drop number code) (drop number starts) ≡ front ++ rest = λ i. code_text places wide (code_is i) (starts_is i) in
+    ap (λ (k : ℕ). new ++ code_text places wide (drop k code) (drop k starts)) next
+    ∙ ap (λ (l : List ℕ). l ++ rest) wrote
+    ∙ append_assoc old front rest
+    ∙ ap (λ (l : List ℕ). old ++ l) (sym unrolled)
+    ∙ so_far

@@ -85,6 +85,15 @@ abbrev pub lookup_text : ℕ → ℕ → List Arm → List ℕ
 lookup_text at default arms =
     171 ∷ pad_text at ++ (word (difference at default) ++ (word (length arms) ++ flat_map (arm_text at) arms))
 
+abbrev pub interface_text : ℕ → ℕ → List ℕ
+interface_text place count = 185 ∷ short place ++ (count ∷ 0 ∷ [])
+
+abbrev pub dynamic_text : ℕ → List ℕ
+dynamic_text place = 186 ∷ short place ++ (0 ∷ 0 ∷ [])
+
+abbrev pub multi_text : ℕ → ℕ → List ℕ
+multi_text place dims = 197 ∷ short place ++ (dims ∷ [])
+
 -- The shortest spelling of an instruction at this offset, where the places to which it leads are offsets.
 -- Bytes of any value are 0.
 unfoldable pub insn_text : ℕ → Bool → Insn → List ℕ
@@ -95,11 +104,11 @@ insn_text at wide (insns.Inc slot by) = inc_text slot by
 insn_text at wide (insns.Constant place) = constant_text place
 insn_text at wide (insns.Constant2 place) = 20 ∷ short place
 insn_text at wide (insns.Member op place) = op ∷ short place
-insn_text at wide (insns.Interface place count) = 185 ∷ short place ++ (count ∷ 0 ∷ [])
-insn_text at wide (insns.Dynamic place) = 186 ∷ short place ++ (0 ∷ 0 ∷ [])
+insn_text at wide (insns.Interface place count) = interface_text place count
+insn_text at wide (insns.Dynamic place) = dynamic_text place
 insn_text at wide (insns.OfClass op place) = op ∷ short place
 insn_text at wide (insns.NewArray elem) = 188 ∷ elem ∷ []
-insn_text at wide (insns.Multi place dims) = 197 ∷ short place ++ (dims ∷ [])
+insn_text at wide (insns.Multi place dims) = multi_text place dims
 insn_text at wide (insns.Jump op to) = jump_text at wide op to
 insn_text at wide (insns.Table low default arms) = table_text at low default arms
 insn_text at wide (insns.Lookup default arms) = lookup_text at default arms

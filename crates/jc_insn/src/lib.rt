@@ -2,6 +2,7 @@
 #![tactic(auto)]
 
 mod decoding;
+mod encoding;
 mod item;
 mod laws;
 mod operands;
@@ -14,7 +15,7 @@ mod write;
 mod tests;
 
 pub use decoding::{Decoded, decode};
+pub use encoding::encode;
 pub use item::Item;
 pub use laws::one_spelling;
 pub use size::size_of;
-pub use write::encode;

@@ -1,24 +1,19 @@
-//! Instructions as bytes.
+//! The parts of an instruction as bytes.
 ghost use Rattle.std.specs.Prelude.{◌≡◌, ◌≤◌, ◌+◌, ◌%◌, ◌<◌, ◌^◌, ◌++◌, ◌∷◌, ◌⊎◌, [], ℕ, List, false, length, slice_index, OnOk, OnErr, All, map, IsTrue, ℤ, pos, ◌+ℤ◌, ◌≤ℤ◌};
 ghost use Rattle.std.specs.List.{flat_map};
 ghost use Rattle.std.specs.Int.{w32, cast_unsigned};
 ghost use Rattle.jc_base.specs.declared.form.Form.TheVariants as forms;
 ghost use Rattle.jc_base.specs.InsnForm.{form_of};
-ghost use Rattle.jc_base.specs.Flow.{targets_of};
-ghost use Rattle.jc_base.specs.Insn.{arm_count, IsWellFormed, with_places, arm_with_place};
-ghost use Rattle.jc_insn.specs.Spells.{Spells};
-ghost use Rattle.jc_insn.specs.Sizes.{StartAt};
-ghost use Rattle.jc_insn.specs.Writing.{short, word, signed_byte, signed_short, difference, push_text, short_code, local_text, inc_text, constant_text, wide_jump_text, jump_text, arm_text, pad_text, last_key, table_text, lookup_text, insn_text, code_text, AllNear};
+ghost use Rattle.jc_base.specs.Insn.{arm_with_place};
+ghost use Rattle.jc_insn.specs.Writing.{short, word, signed_byte, signed_short, difference, push_text, short_code, local_text, inc_text, constant_text, wide_jump_text, jump_text, arm_text, pad_text, last_key, table_text, lookup_text, interface_text, dynamic_text, multi_text};
 
 use crate::size::{is_narrow_inc, padding};
-use jc_base::{Arm, Form, Insn, Memory, form_of, inverse};
-use std::alloc::{AllocError, Global};
+use jc_base::{Arm, Form, inverse};
+use std::alloc::AllocError;
 
 const LDC: u8 = 18;
 
 const LDC_W: u8 = 19;
-
-const LDC2_W: u8 = 20;
 
 const IINC: u8 = 132;
 
@@ -71,7 +66,7 @@ fn difference(at: u32, to: u32) -> u32
 }
 
 /// An opcode and a number in two bytes.
-fn put_with_short(out: &mut Vec<u8>, op: u8, number: u16) -> Result<(), AllocError>
+pub fn put_with_short(out: &mut Vec<u8>, op: u8, number: u16) -> Result<(), AllocError>
     ensures { OnOk result (out.new.items ≡ out.old.items ++ op ∷ short number) }
 {
     out.push(op)?;
@@ -80,7 +75,7 @@ fn put_with_short(out: &mut Vec<u8>, op: u8, number: u16) -> Result<(), AllocErr
 }
 
 /// `bipush` or `sipush`.
-fn put_push(out: &mut Vec<u8>, form: Form, op: u8, value: i16) -> Result<(), AllocError>
+pub fn put_push(out: &mut Vec<u8>, form: Form, op: u8, value: i16) -> Result<(), AllocError>
     ensures { OnOk result (out.new.items ≡ out.old.items ++ push_text form op value) }
 {
     match form {
@@ -107,7 +102,7 @@ fn short_code(op: u8, slot: u8) -> u8
 }
 
 /// A load or a store.
-fn put_local(out: &mut Vec<u8>, op: u8, slot: u16) -> Result<(), AllocError>
+pub fn put_local(out: &mut Vec<u8>, op: u8, slot: u16) -> Result<(), AllocError>
     requires { ((21 ≤ op) × (op ≤ 25)) ⊎ ((54 ≤ op) × (op ≤ 58)) }
     ensures { OnOk result (out.new.items ≡ out.old.items ++ local_text op slot) }
 {
@@ -124,7 +119,7 @@ fn put_local(out: &mut Vec<u8>, op: u8, slot: u16) -> Result<(), AllocError>
 }
 
 /// `iinc`.
-fn put_inc(out: &mut Vec<u8>, slot: u16, by: i16) -> Result<(), AllocError>
+pub fn put_inc(out: &mut Vec<u8>, slot: u16, by: i16) -> Result<(), AllocError>
     ensures { OnOk result (out.new.items ≡ out.old.items ++ inc_text slot by) }
 {
     if is_narrow_inc(slot, by) {
@@ -140,7 +135,7 @@ fn put_inc(out: &mut Vec<u8>, slot: u16, by: i16) -> Result<(), AllocError>
 }
 
 /// `ldc` or `ldc_w`.
-fn put_constant(out: &mut Vec<u8>, place: u16) -> Result<(), AllocError>
+pub fn put_constant(out: &mut Vec<u8>, place: u16) -> Result<(), AllocError>
     ensures { OnOk result (out.new.items ≡ out.old.items ++ constant_text place) }
 {
     if place < 256 {
@@ -177,7 +172,7 @@ fn put_wide_jump(out: &mut Vec<u8>, at: u32, op: u8, to: u32) -> Result<(), Allo
 }
 
 /// A jump.
-fn put_jump(out: &mut Vec<u8>, at: u32, wide: bool, op: u8, to: u32) -> Result<(), AllocError>
+pub fn put_jump(out: &mut Vec<u8>, at: u32, wide: bool, op: u8, to: u32) -> Result<(), AllocError>
     requires form { form_of op ≡ forms.Jump }
     requires at { at ≤ 2147483647 }
     ensures { OnOk result (out.new.items ≡ out.old.items ++ jump_text at wide op to) }
@@ -253,7 +248,7 @@ fn last_key(low: i32, count: u32) -> u32
 }
 
 /// `tableswitch`.
-fn put_table(
+pub fn put_table(
     out: &mut Vec<u8>,
     at: u32,
     starts: &[u32],
@@ -278,7 +273,7 @@ fn put_table(
 }
 
 /// `lookupswitch`.
-fn put_lookup(
+pub fn put_lookup(
     out: &mut Vec<u8>,
     at: u32,
     starts: &[u32],
@@ -298,6 +293,40 @@ fn put_lookup(
     Ok(())
 }
 
-pub fn encode(alloc: Global, code: &[Insn], starts: &[u32], wide: bool, into: &mut Vec<u8>) -> Result<(), Memory> {
+/// `invokeinterface`.
+pub fn put_interface(out: &mut Vec<u8>, place: u16, count: u8) -> Result<(), AllocError>
+    ensures { OnOk result (out.new.items ≡ out.old.items ++ interface_text place count) }
+{
+    put_with_short(out, INVOKEINTERFACE, place)?;
+    out.push(count)?;
+    out.push(0)?;
+    Ok(())
+}
+
+/// `invokedynamic`.
+pub fn put_dynamic(out: &mut Vec<u8>, place: u16) -> Result<(), AllocError>
+    ensures { OnOk result (out.new.items ≡ out.old.items ++ dynamic_text place) }
+{
+    put_with_short(out, INVOKEDYNAMIC, place)?;
+    out.push(0)?;
+    out.push(0)?;
+    Ok(())
+}
+
+/// `newarray`.
+pub fn put_new_array(out: &mut Vec<u8>, elem: u8) -> Result<(), AllocError>
+    ensures { OnOk result (out.new.items ≡ out.old.items ++ 188 ∷ elem ∷ []) }
+{
+    out.push(NEWARRAY)?;
+    out.push(elem)?;
+    Ok(())
+}
+
+/// `multianewarray`.
+pub fn put_multi(out: &mut Vec<u8>, place: u16, dims: u8) -> Result<(), AllocError>
+    ensures { OnOk result (out.new.items ≡ out.old.items ++ multi_text place dims) }
+{
+    put_with_short(out, MULTIANEWARRAY, place)?;
+    out.push(dims)?;
     Ok(())
 }
