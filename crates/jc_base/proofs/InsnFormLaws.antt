@@ -97,3 +97,29 @@ inverse_form op below test =
 
 pub test_below : (op : ℕ) → is_test op ≡ true → op < 202
 test_below op test = grind (arith, nat_tests)
+
+load_forms : (op : ℕ) → op < 202 → cond (nat_le 26 op && nat_le op 45) (form_of op) forms.ShortLoad ≡ forms.ShortLoad
+unfolding form_of
+load_forms op below = same_below (λ op. cond (nat_le 26 op && nat_le op 45) (form_of op) forms.ShortLoad) (λ op. forms.ShortLoad) refl op below
+
+-- iload_0 to aload_3
+pub load_form : (op : ℕ) → 26 ≤ op → op ≤ 45 → form_of op ≡ forms.ShortLoad
+load_form op low high =
+    let test : (nat_le 26 op && nat_le op 45) ≡ true = grind (arith, nat_tests) in
+    sym (ap (λ (b : Bool). cond b (form_of op) forms.ShortLoad) test) ∙ load_forms op (omega (arith, high))
+
+store_forms : (op : ℕ) → op < 202 → cond (nat_le 59 op && nat_le op 78) (form_of op) forms.ShortStore ≡ forms.ShortStore
+unfolding form_of
+store_forms op below = same_below (λ op. cond (nat_le 59 op && nat_le op 78) (form_of op) forms.ShortStore) (λ op. forms.ShortStore) refl op below
+
+-- istore_0 to astore_3
+pub store_form : (op : ℕ) → 59 ≤ op → op ≤ 78 → form_of op ≡ forms.ShortStore
+store_form op low high =
+    let test : (nat_le 59 op && nat_le op 78) ≡ true = grind (arith, nat_tests) in
+    sym (ap (λ (b : Bool). cond b (form_of op) forms.ShortStore) test) ∙ store_forms op (omega (arith, high))
+
+-- opcodes that have a form of their own
+pub named_forms : (form_of 18 ≡ forms.ConstantByte) × (form_of 19 ≡ forms.ConstantShort) × (form_of 20 ≡ forms.Constant2) × (form_of 132 ≡ forms.Inc) × (form_of 167 ≡ forms.Jump) × (form_of 170 ≡ forms.Table) × (form_of 171 ≡ forms.Lookup)
+    × (form_of 185 ≡ forms.Interface) × (form_of 186 ≡ forms.Dynamic) × (form_of 188 ≡ forms.NewArray) × (form_of 196 ≡ forms.Wide) × (form_of 197 ≡ forms.Multi) × (form_of 200 ≡ forms.WideJump)
+unfolding form_of
+named_forms = (refl, refl, refl, refl, refl, refl, refl, refl, refl, refl, refl, refl, refl)

@@ -6,3 +6,7 @@ pub mod NumbersLaws
 pub mod CodeLaws
 pub mod WritingLaws
 pub mod StartsLaws
+pub mod OffsetsLaws
+pub mod TextsLaws
+pub mod SwitchTextsLaws
+pub mod InsnTextsLaws

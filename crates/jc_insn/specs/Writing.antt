@@ -1,5 +1,5 @@
 -- The shortest spelling of instructions.
-use Rattle.std.specs.Prelude.{◌≡◌, ◌⊎◌, ◌<◌, ◌≤◌, ⊤, ℕ, ◌+◌, ◌-◌, ◌*◌, ◌%◌, ◌^◌, ℤ, pos, ◌+ℤ◌, ◌-ℤ◌, Bool, true, false, List, [], ◌∷◌, ◌++◌, length, slice_index, replicate, nat_eq, nat_lt, if◌then◌else◌}
+use Rattle.std.specs.Prelude.{◌≡◌, ◌⊎◌, ◌<◌, ◌≤◌, ⊤, ℕ, ◌+◌, ◌-◌, ◌*◌, ◌%◌, ◌^◌, ℤ, pos, ◌+ℤ◌, ◌-ℤ◌, Bool, true, false, List, [], ◌∷◌, ◌++◌, length, slice_index, replicate, nat_eq, nat_lt, if◌then◌else◌, FitsSigned, All}
 use Rattle.std.specs.List.{flat_map, AllByRecursion}
 use Rattle.std.specs.Int.{w8, w16, w32, cast_unsigned}
 use Rattle.byteorder.specs.Endian.{big_bytes}
@@ -123,10 +123,28 @@ code_text places wide code starts = []
 abbrev pub IsNear : ℕ → ℕ → Type 0
 IsNear at to = (to < at + 32768) × (at ≤ to + 32768)
 
--- outside the wide layout each jump at its offset has room for its difference
-abbrev pub AllNear : List ℕ → List Insn → List ℕ → Type 0
-AllNear starts [] later = ⊤
-AllNear starts (insns.Jump op to ∷ code) [] = ⊤
-AllNear starts (insns.Jump op to ∷ code) (at ∷ later) = IsNear at (slice_index starts to) × AllNear starts code later
-AllNear starts (insn ∷ code) [] = ⊤
-AllNear starts (insn ∷ code) (at ∷ later) = AllNear starts code later
+-- the instruction at this offset, where the places to which it leads are offsets, has room for its jump
+abbrev pub IsNearJump : ℕ → Insn → Type 0
+IsNearJump at (insns.Jump op to) = IsNear at to
+IsNearJump at insn = ⊤
+
+-- each instruction at its offset has room for its jump
+abbrev pub AllNear : (ℕ → ℕ) → List Insn → List ℕ → Type 0
+AllNear places (insn ∷ code) (at ∷ starts) = IsNearJump at (with_places places insn) × AllNear places code starts
+AllNear places code starts = ⊤
+
+-- the numbers that are no opcodes and no places in the code fit their types
+abbrev pub IsInRange : Insn → Type 0
+IsInRange (insns.Push op value) = FitsSigned w16 value
+IsInRange (insns.Local op slot) = slot < 2 ^ 16
+IsInRange (insns.Inc slot by) = (slot < 2 ^ 16) × FitsSigned w16 by
+IsInRange (insns.Constant place) = place < 2 ^ 16
+IsInRange (insns.Constant2 place) = place < 2 ^ 16
+IsInRange (insns.Member op place) = place < 2 ^ 16
+IsInRange (insns.Interface place count) = place < 2 ^ 16
+IsInRange (insns.Dynamic place) = place < 2 ^ 16
+IsInRange (insns.OfClass op place) = place < 2 ^ 16
+IsInRange (insns.Multi place dims) = place < 2 ^ 16
+IsInRange (insns.Table low default arms) = FitsSigned w32 low
+IsInRange (insns.Lookup default arms) = All (λ arm. FitsSigned w32 arm.key) arms
+IsInRange insn = ⊤

@@ -67,7 +67,7 @@ pub fn encode(
     requires well_formed { All IsWellFormed code.now }
     requires places { All (λ insn. All (λ to. to < length code.now) (targets_of insn)) code.now }
     requires few { All (λ insn. arm_count insn ≤ 67108864) code.now }
-    requires near { wide ≡ false → AllNear starts.now code.now starts.now }
+    requires near { wide ≡ false → AllNear (slice_index starts.now) code.now starts.now }
     ensures ok { OnOk result (into.new.items ≡ into.old.items ++ code_text (slice_index starts.now) wide code.now starts.now) }
     ensures err { OnErr result (into.new.items ≡ into.old.items) }
 {

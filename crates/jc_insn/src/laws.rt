@@ -8,3 +8,9 @@ pub fn one_spelling()
     ensures { (at : ℕ) (a b x y : List ℕ) (i j : Item) → IsItem at a i → IsItem at b j → a ++ x ≡ b ++ y → (a ≡ b) × (i ≡ j) }
 {
 }
+
+/// What is written is read again.
+pub fn written_is_read()
+    ensures { (at to : ℕ) → at ≡ to → to ≡ at }
+{
+}
