@@ -10,3 +10,5 @@ pub mod OffsetsLaws
 pub mod TextsLaws
 pub mod SwitchTextsLaws
 pub mod InsnTextsLaws
+pub mod CodeTextsLaws
+pub mod WrittenLaws

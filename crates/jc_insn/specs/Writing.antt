@@ -119,6 +119,18 @@ abbrev pub code_text : (ℕ → ℕ) → Bool → List Insn → List ℕ → Lis
 code_text places wide (insn ∷ code) (at ∷ starts) = insn_text at wide (with_places places insn) ++ code_text places wide code starts
 code_text places wide code starts = []
 
+-- What the spelling of an instruction at this offset is read as: in the wide layout a conditional jump is two
+-- instructions, its inverse that leads past the second one, and goto. Places are offsets.
+abbrev pub spelled_as : ℕ → Bool → Insn → List Insn
+spelled_as at true (insns.Jump op to) =
+    if nat_eq op 167 then insns.Jump op to ∷ [] else insns.Jump (inverse_of op) (at + 8) ∷ insns.Jump 167 to ∷ []
+spelled_as at wide insn = insn ∷ []
+
+-- the same for instructions, each at its offset
+abbrev pub code_as : (ℕ → ℕ) → Bool → List Insn → List ℕ → List Insn
+code_as places wide (insn ∷ code) (at ∷ starts) = spelled_as at wide (with_places places insn) ++ code_as places wide code starts
+code_as places wide code starts = []
+
 -- a jump from one offset to the other has room in two bytes of two's complement
 abbrev pub IsNear : ℕ → ℕ → Type 0
 IsNear at to = (to < at + 32768) × (at ≤ to + 32768)
