@@ -4,7 +4,7 @@ ghost use Rattle.jc_base.specs.Flow.{targets_of};
 ghost use Rattle.jc_base.specs.Insn.{arm_count, IsWellFormed, with_places};
 ghost use Rattle.jc_insn.specs.Spells.{Spells};
 ghost use Rattle.jc_insn.specs.Sizes.{StartAt};
-ghost use Rattle.jc_insn.specs.Writing.{insn_text, code_text, AllNear};
+ghost use Rattle.jc_insn.specs.Writing.{insn_text, code_text, AllNear, IsInRange};
 
 use crate::write::{put_constant, put_dynamic, put_inc, put_interface, put_jump, put_local};
 use crate::write::{put_lookup, put_multi, put_new_array, put_push, put_table, put_with_short};
@@ -26,7 +26,8 @@ fn put_insn(
     requires well_formed { IsWellFormed insn.now }
     requires places { All (λ to. to < length starts.now) (targets_of insn.now) }
     requires few { arm_count insn.now ≤ 67108864 }
-    ensures { OnOk result (out.new.items ≡ out.old.items ++ insn_text at wide (with_places (slice_index starts.now) insn.now)) }
+    ensures range { OnOk result (IsInRange insn.now) }
+    ensures text { OnOk result (out.new.items ≡ out.old.items ++ insn_text at wide (with_places (slice_index starts.now) insn.now)) }
 {
     match insn {
         Insn::Simple(op) => out.push(*op)?,

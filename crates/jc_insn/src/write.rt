@@ -1,5 +1,5 @@
 //! The parts of an instruction as bytes.
-ghost use Rattle.std.specs.Prelude.{◌≡◌, ◌≤◌, ◌+◌, ◌%◌, ◌<◌, ◌^◌, ◌++◌, ◌∷◌, ◌⊎◌, [], ℕ, List, false, length, slice_index, OnOk, OnErr, All, map, IsTrue, ℤ, pos, ◌+ℤ◌, ◌≤ℤ◌};
+ghost use Rattle.std.specs.Prelude.{◌≡◌, ◌≤◌, ◌+◌, ◌%◌, ◌<◌, ◌^◌, ◌++◌, ◌∷◌, ◌⊎◌, [], ℕ, List, false, length, slice_index, OnOk, OnErr, All, map, IsTrue, ℤ, pos, ◌+ℤ◌, ◌≤ℤ◌, FitsSigned};
 ghost use Rattle.std.specs.List.{flat_map};
 ghost use Rattle.std.specs.Int.{w32, cast_unsigned};
 ghost use Rattle.jc_base.specs.declared.form.Form.TheVariants as forms;
@@ -214,7 +214,8 @@ fn put_places(
 /// An arm of `lookupswitch`.
 fn put_arm(out: &mut Vec<u8>, at: u32, starts: &[u32], arm: &Arm) -> Result<(), AllocError>
     requires { arm.now.to < length starts.now }
-    ensures { OnOk result (out.new.items ≡ out.old.items ++ arm_text at (arm_with_place (slice_index starts.now) arm.now)) }
+    ensures text { OnOk result (out.new.items ≡ out.old.items ++ arm_text at (arm_with_place (slice_index starts.now) arm.now)) }
+    ensures key { OnOk result (FitsSigned w32 arm.now.key) }
 {
     put_word(out, arm.key.cast_unsigned())?;
     put_word(out, difference(at, starts[arm.to as usize]))?;
@@ -229,7 +230,8 @@ fn put_arms(
     arms: &[Arm],
 ) -> Result<(), AllocError>
     requires { All (λ arm. arm.to < length starts.now) arms.now }
-    ensures { OnOk result (out.new.items ≡ out.old.items ++ flat_map (arm_text at) (map (arm_with_place (slice_index starts.now)) arms.now)) }
+    ensures text { OnOk result (out.new.items ≡ out.old.items ++ flat_map (arm_text at) (map (arm_with_place (slice_index starts.now)) arms.now)) }
+    ensures keys { OnOk result (All (λ arm. FitsSigned w32 arm.key) arms.now) }
 {
     'writing: for arm in arms {
         put_arm(out, at, starts, arm)?;
@@ -283,7 +285,8 @@ pub fn put_lookup(
     requires few { length arms.now ≤ 67108864 }
     requires default { default < length starts.now }
     requires places { All (λ arm. arm.to < length starts.now) arms.now }
-    ensures { OnOk result (out.new.items ≡ out.old.items ++ lookup_text at (slice_index starts.now default) (map (arm_with_place (slice_index starts.now)) arms.now)) }
+    ensures text { OnOk result (out.new.items ≡ out.old.items ++ lookup_text at (slice_index starts.now default) (map (arm_with_place (slice_index starts.now)) arms.now)) }
+    ensures keys { OnOk result (All (λ arm. FitsSigned w32 arm.key) arms.now) }
 {
     out.push(LOOKUPSWITCH)?;
     put_pad(out, at)?;

@@ -2,7 +2,7 @@ use Rattle.std.proofs.Common.{◌≡◌, ◌+◌, ◌<◌, ◌≤◌, length, ar
 use Rattle.std.specs.Prelude.{slice_index}
 use Rattle.jc_base.specs.declared.insn.Insn.{Insn}
 use Rattle.jc_base.specs.Flow.{targets_of}
-use Rattle.jc_insn.proofs.WritingLaws.{writes_on}
+use Rattle.jc_insn.proofs.WritingLaws.{puts_insn, all_put}
 use Rattle.jc_insn.proofs.StartsLaws.{count_starts, below_last}
 use Rattle.jc_insn.proofs.encoding.encode.Goals as goal
 
@@ -26,4 +26,4 @@ put_insn-requires-clause-places c = λ k d below.
 pub writing-preserved : goal.writing-preserved
 writing-preserved c =
     let long = count_starts c.args.wide 0 c.args.code.now c.args.starts.now c.requires.starts in
-    writes_on (slice_index c.args.starts.now) c.args.wide c.args.code.now c.args.starts.now c.writing.number c.index-code-number.result c.writing.text.items c.put_insn.new.out.items _ (omega arith) (omega (arith, long)) c.index-code-number.is c.writing.invariant c.in_ok-put_insn.ensures
+    puts_insn c.args.starts.now c.args.wide c.args.code.now c.writing.number c.index-code-number.result c.writing.text.items c.put_insn.new.out.items (omega arith) (omega (arith, long)) c.index-code-number.is c.writing.invariant c.in_ok-put_insn.ensures.text c.in_ok-put_insn.ensures.range
