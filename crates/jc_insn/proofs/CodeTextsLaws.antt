@@ -27,11 +27,11 @@ use Rattle.jc_insn.proofs.StartsLaws.{number_of_start, count_starts, first_start
 
 -- ---- sizes
 
-short_size : (x : ℕ) → length (short x) ≡ 2
+pub short_size : (x : ℕ) → length (short x) ≡ 2
 unfolding short
 short_size x = length-bytes_high_first 2 x
 
-word_size : (x : ℕ) → length (word x) ≡ 4
+pub word_size : (x : ℕ) → length (word x) ≡ 4
 unfolding word
 word_size x = length-bytes_high_first 4 x
 

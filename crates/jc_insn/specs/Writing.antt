@@ -12,6 +12,7 @@ use Rattle.jc_base.specs.declared.insn.Arm.{Arm}
 use Rattle.jc_base.specs.Flow.{inverse_of, targets_of}
 use Rattle.jc_base.specs.Insn.{with_places}
 use Rattle.jc_insn.specs.Items.{padding}
+use Rattle.jc_insn.specs.Spells.{SpellsFrom, Spells}
 use Rattle.jc_insn.specs.Sizes.{size_of, is_narrow_inc}
 
 -- a number of two bytes, and one of four
@@ -160,3 +161,11 @@ IsInRange (insns.Multi place dims) = place < 2 ^ 16
 IsInRange (insns.Table low default arms) = FitsSigned w32 low
 IsInRange (insns.Lookup default arms) = All (λ arm. FitsSigned w32 arm.key) arms
 IsInRange insn = ⊤
+
+-- the new bytes are the old ones and then bytes that spell the code
+abbrev pub AppendsSpelling : List ℕ → List ℕ → List Insn → List ℕ → Type 0
+AppendsSpelling old new code starts = (text : List ℕ) × (new ≡ old ++ text) × Spells text code starts
+
+-- the same for instructions whose places are offsets, wherever they begin
+abbrev pub AppendsInsns : List ℕ → List ℕ → List Insn → Type 0
+AppendsInsns old new code = (text starts : List ℕ) × (new ≡ old ++ text) × SpellsFrom 0 text code starts

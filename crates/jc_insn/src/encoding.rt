@@ -2,9 +2,8 @@
 ghost use Rattle.std.specs.Prelude.{◌≡◌, ◌≤◌, ◌<◌, ◌++◌, List, ℕ, false, length, slice_index, OnOk, OnErr, All};
 ghost use Rattle.jc_base.specs.Flow.{targets_of};
 ghost use Rattle.jc_base.specs.Insn.{arm_count, IsWellFormed, with_places};
-ghost use Rattle.jc_insn.specs.Spells.{Spells};
 ghost use Rattle.jc_insn.specs.Sizes.{StartAt};
-ghost use Rattle.jc_insn.specs.Writing.{insn_text, code_text, AllNear, IsInRange};
+ghost use Rattle.jc_insn.specs.Writing.{insn_text, code_text, code_as, AllNear, IsInRange, AppendsSpelling, AppendsInsns};
 
 use crate::write::{put_constant, put_dynamic, put_inc, put_interface, put_jump, put_local};
 use crate::write::{put_lookup, put_multi, put_new_array, put_push, put_table, put_with_short};
@@ -70,6 +69,10 @@ pub fn encode(
     requires few { All (λ insn. arm_count insn ≤ 67108864) code.now }
     requires near { wide ≡ false → AllNear (slice_index starts.now) code.now starts.now }
     ensures ok { OnOk result (into.new.items ≡ into.old.items ++ code_text (slice_index starts.now) wide code.now starts.now) }
+    // What is written spells the code,
+    ensures spelled { OnOk result (wide ≡ false → AppendsSpelling into.old.items into.new.items code.now starts.now) }
+    // and in both layouts the instructions of that layout.
+    ensures insns { OnOk result (AppendsInsns into.old.items into.new.items (code_as (slice_index starts.now) wide code.now starts.now)) }
     ensures err { OnErr result (into.new.items ≡ into.old.items) }
 {
     let mut text = Vec::new(alloc);

@@ -17,5 +17,5 @@ mod tests;
 pub use decoding::{Decoded, decode};
 pub use encoding::encode;
 pub use item::Item;
-pub use laws::one_spelling;
+pub use laws::{one_code, one_spelling};
 pub use size::size_of;
