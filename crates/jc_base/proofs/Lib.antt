@@ -5,3 +5,4 @@ pub mod ModifiedLaws
 pub mod DescriptorLaws
 pub mod DecidingLaws
 pub mod AppendingLaws
+pub mod InsnFormLaws

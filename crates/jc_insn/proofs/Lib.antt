@@ -1,0 +1,14 @@
+pub mod PiecesLaws
+pub mod FieldsLaws
+pub mod ItemsLaws
+pub mod DecodingLaws
+pub mod NumbersLaws
+pub mod CodeLaws
+pub mod WritingLaws
+pub mod StartsLaws
+pub mod OffsetsLaws
+pub mod TextsLaws
+pub mod SwitchTextsLaws
+pub mod InsnTextsLaws
+pub mod CodeTextsLaws
+pub mod WrittenLaws

@@ -1,0 +1,94 @@
+-- Offsets that are the sums of sizes.
+use Rattle.std.proofs.Common.{◌≡◌, ◌≢◌, ◌⊎◌, inl, inr, ℕ, zero, suc, ◌+◌, ◌-◌, ◌*◌, ◌%◌, ◌<◌, ◌≤◌, Bool, true, false, cond, ◌&&◌, List, [], ◌∷◌, ◌++◌, length, map, get_or, All, nat_eq, nat_lt, refl, sym, ◌∙◌, ap, subst, arith}
+use Rattle.std.specs.Prelude.{ℤ, slice_index}
+use Rattle.std.proofs.lemmas.Bool.{eq-eqb, ne_eqb}
+use Rattle.jc_base.specs.declared.form.Form.{Form}
+use Rattle.jc_base.specs.declared.form.Form.TheVariants as forms
+use Rattle.jc_base.specs.InsnForm.{form_of}
+use Rattle.jc_base.specs.declared.insn.Insn.{Insn}
+use Rattle.jc_base.specs.declared.insn.Insn.TheVariants as insns
+use Rattle.jc_insn.specs.Items.{padding}
+use Rattle.jc_insn.specs.Sizes.{push_size, local_size, is_narrow_inc, jump_size, size_of, StartAt}
+use Rattle.jc_insn.specs.Spells.{number_at}
+
+some_of : (b : Bool) (m n : ℕ) → 1 ≤ m → 1 ≤ n → 1 ≤ cond b m n
+some_of true m n p q = p
+some_of false m n p q = q
+
+push_some : (form : Form) → 1 ≤ push_size form
+push_some forms.PushByte = omega arith
+push_some form = omega arith
+
+-- an instruction takes a byte at least
+pub some_size : (at : ℕ) (wide : Bool) (insn : Insn) → 1 ≤ size_of at wide insn
+some_size at wide (insns.Simple op) = omega arith
+some_size at wide (insns.Push op value) = push_some (form_of op)
+some_size at wide (insns.Local op slot) = some_of (nat_lt slot 4) 1 _ (omega arith) (some_of (nat_lt slot 256) 2 4 (omega arith) (omega arith))
+some_size at wide (insns.Inc slot by) = some_of (is_narrow_inc slot by) 3 6 (omega arith) (omega arith)
+some_size at wide (insns.Constant place) = some_of (nat_lt place 256) 2 3 (omega arith) (omega arith)
+some_size at wide (insns.Constant2 place) = omega arith
+some_size at wide (insns.Member op place) = omega arith
+some_size at wide (insns.Interface place count) = omega arith
+some_size at wide (insns.Dynamic place) = omega arith
+some_size at wide (insns.OfClass op place) = omega arith
+some_size at wide (insns.NewArray elem) = omega arith
+some_size at wide (insns.Multi place dims) = omega arith
+some_size at wide (insns.Jump op to) = some_of wide _ 3 (some_of (nat_eq op 167) 5 8 (omega arith) (omega arith)) (omega arith)
+some_size at wide (insns.Table low default arms) = omega arith
+some_size at wide (insns.Lookup default arms) = omega arith
+
+pub count_starts : (wide : Bool) (at : ℕ) (code : List Insn) (starts : List ℕ) → StartAt wide at code starts → length starts ≡ length code + 1
+count_starts wide at [] starts s = ap length s
+count_starts wide at (insn ∷ code) starts (later, is, more) = let e = ap length is in let ih = count_starts wide (at + size_of at wide insn) code later more in omega (arith, e, ih)
+
+pub first_start : (wide : Bool) (at : ℕ) (code : List Insn) (starts : List ℕ) → StartAt wide at code starts → get_or starts 0 0 ≡ at
+first_start wide at [] starts s = ap (λ (l : List ℕ). get_or l 0 0) s
+first_start wide at (insn ∷ code) starts (later, is, more) = ap (λ (l : List ℕ). get_or l 0 0) is
+
+-- none of the offsets is below the first
+pub above_first : (wide : Bool) (at : ℕ) (code : List Insn) (starts : List ℕ) → StartAt wide at code starts → (k : ℕ) → k < length starts → at ≤ get_or starts k 0
+above_first wide at [] starts s zero below = let e = ap (λ (l : List ℕ). get_or l 0 0) s in omega (arith, e)
+above_first wide at [] starts s (suc k) below = let e = ap length s in absurd (omega (arith, e, below))
+above_first wide at (insn ∷ code) starts (later, is, more) zero below = let e = ap (λ (l : List ℕ). get_or l 0 0) is in omega (arith, e)
+above_first wide at (insn ∷ code) starts (later, is, more) (suc k) below =
+    let e = ap (λ (l : List ℕ). get_or l (suc k) 0) is in
+    let long = ap length is in
+    let ih = above_first wide (at + size_of at wide insn) code later more k (omega (arith, long, below)) in
+    omega (arith, e, ih)
+
+-- and none is above the last
+pub below_last : (wide : Bool) (at : ℕ) (code : List Insn) (starts : List ℕ) → StartAt wide at code starts → (k : ℕ) → k < length starts → get_or starts k 0 ≤ get_or starts (length code) 0
+below_last wide at [] starts s zero below = omega arith
+below_last wide at [] starts s (suc k) below = let e = ap length s in absurd (omega (arith, e, below))
+below_last wide at (insn ∷ code) starts (later, is, more) zero below =
+    let e = ap (λ (l : List ℕ). get_or l 0 0) is in
+    let end = ap (λ (l : List ℕ). get_or l (suc (length code)) 0) is in
+    let long = count_starts wide (at + size_of at wide insn) code later more in
+    let above = above_first wide (at + size_of at wide insn) code later more (length code) (omega (arith, long)) in
+    omega (arith, e, end, above)
+below_last wide at (insn ∷ code) starts (later, is, more) (suc k) below =
+    let e = ap (λ (l : List ℕ). get_or l (suc k) 0) is in
+    let end = ap (λ (l : List ℕ). get_or l (suc (length code)) 0) is in
+    let long = ap length is in
+    let ih = below_last wide (at + size_of at wide insn) code later more k (omega (arith, long, below)) in
+    omega (arith, e, end, ih)
+
+step_in : (at offset : ℕ) (later : List ℕ) → at ≢ offset → 1 ≤ length later → number_at (at ∷ later) offset ≡ 1 + number_at later offset
+step_in at offset [] other some = absurd (omega (arith, some))
+step_in at offset (next ∷ later) other some = rw (ne_eqb at offset other) refl
+
+-- the offset of an instruction has its number
+pub number_of_start : (wide : Bool) (at : ℕ) (code : List Insn) (starts : List ℕ) → StartAt wide at code starts → (k : ℕ) → k < length code → number_at starts (get_or starts k 0) ≡ k
+number_of_start wide at [] starts s k below = absurd (omega (arith, below))
+number_of_start wide at (insn ∷ code) starts (later, is, more) zero below =
+    ap (λ (l : List ℕ). number_at l (get_or l 0 0)) is ∙ first later (let long = count_starts wide (at + size_of at wide insn) code later more in omega (arith, long))
+  where
+    first : (l : List ℕ) → 1 ≤ length l → number_at (at ∷ l) at ≡ 0
+    first [] some = absurd (omega (arith, some))
+    first (x ∷ l) some = rw (eq-eqb at at refl) refl
+number_of_start wide at (insn ∷ code) starts (later, is, more) (suc k) below =
+    let long = count_starts wide (at + size_of at wide insn) code later more in
+    let above = above_first wide (at + size_of at wide insn) code later more k (omega (arith, long, below)) in
+    let some = some_size at wide insn in
+    let ih = number_of_start wide (at + size_of at wide insn) code later more k (omega (arith, below)) in
+    ap (λ (l : List ℕ). number_at l (get_or l (suc k) 0)) is ∙ step_in at (get_or later k 0) later (λ e. absurd (omega (arith, e, above, some))) (omega (arith, long)) ∙ omega (arith, ih)

@@ -1,0 +1,169 @@
+-- The shortest spelling of an instruction is a spelling.
+use Rattle.std.proofs.Common.{◌≡◌, ◌⊎◌, inl, inr, ℕ, zero, suc, ◌+◌, ◌-◌, ◌*◌, ◌/◌, ◌%◌, ◌^◌, ◌<◌, ◌≤◌, Bool, true, false, cond, ◌&&◌, List, [], ◌∷◌, ◌++◌, length, drop, All, nat_eq, nat_lt, nat_le, refl, sym, ◌∙◌, ap, subst, arith, w8, w16, w32, ℤ, pos, negsuc, length-append, append_assoc}
+use Rattle.std.specs.Int.Signed.{le_z_yes}
+use Rattle.std.specs.Prelude.{T, FitsSigned, int_le, ◌+ℤ◌, ◌-ℤ◌, ◌≤ℤ◌}
+use Rattle.std.specs.List.{flat_map}
+use Rattle.std.specs.Int.{cast_signed, cast_unsigned}
+use Rattle.std.proofs.lemmas.List.{append-nil, drop_at}
+use Rattle.std.proofs.lemmas.Bool.{cases_lt, lt-ltb, le-ltb}
+use Rattle.std.proofs.lemmas.Bool.Decides.{nat_tests}
+use Rattle.byteorder.specs.Endian.{big_number}
+use Rattle.jc_base.specs.Decoder.{IsBig}
+use Rattle.jc_base.proofs.DecoderLaws.{big_front}
+use Rattle.jc_base.specs.declared.form.Form.{Form}
+use Rattle.jc_base.specs.declared.form.Form.TheVariants as forms
+use Rattle.jc_base.specs.InsnForm.{form_of}
+use Rattle.jc_base.proofs.InsnFormLaws.{local_codes, load_form, store_form, named_forms}
+use Rattle.jc_base.specs.declared.insn.Insn.{Insn}
+use Rattle.jc_base.specs.declared.insn.Insn.TheVariants as insns
+use Rattle.jc_base.specs.declared.insn.Arm.{Arm}
+use Rattle.jc_base.specs.Insn.{IsWellFormed}
+use Rattle.jc_base.specs.Flow.{targets_of}
+use Rattle.jc_insn.specs.declared.item.Item.{Item}
+use Rattle.jc_insn.specs.declared.item.Item.TheVariants as items
+use Rattle.jc_insn.specs.Fields.{nothing, byte, piece, Then, only_if}
+use Rattle.jc_insn.specs.Items.{number, padding, key_count, target_of, in_pieces, place_in, places_in, arm_in, arms_in, ascending, short_load, short_store, table_operands, lookup_operands, wide_operands, operands, IsItem}
+use Rattle.jc_insn.specs.Sizes.{is_narrow_inc}
+use Rattle.jc_insn.specs.Writing.{short, word, signed_byte, signed_short, difference, push_text, short_code, local_text, inc_text, constant_text, wide_jump_text, jump_text, arm_text, pad_text, last_key, table_text, lookup_text, insn_text, IsNear, IsNearJump, IsInRange}
+use Rattle.jc_insn.proofs.OffsetsLaws.{big_short, big_word, signed_byte_back, signed_short_back, signed_word_back, word_target, short_target}
+
+-- ---- fields
+
+pub item_of : (at op : ℕ) (form : Form) (rest : List ℕ) (item : Item) → form_of op ≡ form → operands at form op rest item → IsItem at (op ∷ rest) item
+unfolding IsItem
+item_of at op form rest item is behind = record { value = op; front = op ∷ []; rest = rest; parts = refl; field = refl; behind = subst (λ (f : Form). operands at f op rest item) (sym is) behind }
+
+pub byte_then : {Y : Type 0} (G : ℕ → List ℕ → Y → Type 0) (x : ℕ) (rest : List ℕ) (y : Y) → G x rest y → Then byte G (x ∷ rest) y
+byte_then G x rest y g = record { value = x; front = x ∷ []; rest = rest; parts = refl; field = refl; behind = g }
+
+pub number_then : {Y : Type 0} (n : ℕ) (G : ℕ → List ℕ → Y → Type 0) (x : ℕ) (text rest : List ℕ) (y : Y) → IsBig n text x → G x rest y → Then (number n) G (text ++ rest) y
+number_then n G x text rest y big g = record { value = x; front = text; rest = rest; parts = refl; field = big; behind = g }
+
+pub piece_then : {Y : Type 0} (n : ℕ) (G : List ℕ → List ℕ → Y → Type 0) (text rest : List ℕ) (y : Y) → length text ≡ n → G text rest y → Then (piece n) G (text ++ rest) y
+piece_then n G text rest y size g = record { value = text; front = text; rest = rest; parts = refl; field = (size, refl); behind = g }
+
+pub one_byte : (f : ℕ → Item) (x : ℕ) (item : Item) → item ≡ f x → Then byte (λ v. nothing (f v)) (x ∷ []) item
+one_byte f x item is = byte_then (λ v. nothing (f v)) x [] item (refl, is)
+
+-- a number at the end
+pub one_number : (n : ℕ) (f : ℕ → Item) (x : ℕ) (text : List ℕ) (item : Item) → IsBig n text x → item ≡ f x → Then (number n) (λ v. nothing (f v)) text item
+one_number n f x text item big is = subst (λ (l : List ℕ). Then (number n) (λ v. nothing (f v)) l item) (append-nil text) (number_then n (λ v. nothing (f v)) x text [] item big (refl, is))
+
+pub one_piece : (n : ℕ) (f : List ℕ → Item) (text : List ℕ) (item : Item) → length text ≡ n → item ≡ f text → Then (piece n) (λ v. nothing (f v)) text item
+one_piece n f text item size is = subst (λ (l : List ℕ). Then (piece n) (λ v. nothing (f v)) l item) (append-nil text) (piece_then n (λ v. nothing (f v)) text [] item size (refl, is))
+
+-- ---- pieces of the same size
+
+pub all_first : {X : Type 0} (P : X → Type 0) (x : X) (xs : List X) → All P (x ∷ xs) → P x
+all_first P x xs all = all 0 x (omega arith)
+
+pub all_behind : {X : Type 0} (P : X → Type 0) (x : X) (xs : List X) → All P (x ∷ xs) → All P xs
+all_behind P x xs all k d below = all (suc k) d (omega (arith, below))
+
+pub length_pieces : {X : Type 0} (P : X → Type 0) (size : ℕ) (w : X → List ℕ) (xs : List X) → ((x : X) → P x → length (w x) ≡ size) → All P xs → length (flat_map w xs) ≡ size * length xs
+length_pieces P size w [] each all = omega arith
+length_pieces P size w (x ∷ xs) each all =
+    let front = each x (all_first P x xs all) in
+    let rest = length_pieces P size w xs each (all_behind P x xs all) in
+    let both = length-append (w x) (flat_map w xs) in
+    omega (arith, front, rest, both)
+
+pub pieces_back : {X : Type 0} (P : X → Type 0) (size : ℕ) (f : List ℕ → X) (w : X → List ℕ) (xs : List X) → ((x : X) → P x → length (w x) ≡ size) → ((x : X) (rest : List ℕ) → P x → f (w x ++ rest) ≡ x) → All P xs → in_pieces size f (length xs) (flat_map w xs) ≡ xs
+pieces_back P size f w [] each back all = refl
+pieces_back P size f w (x ∷ xs) each back all =
+    let fits = all_first P x xs all in
+    (λ i. back x (flat_map w xs) fits i ∷ in_pieces size f (length xs) (drop_at (w x) (flat_map w xs) size (each x fits) i))
+    ∙ ap (λ l. x ∷ l) (pieces_back P size f w xs each back (all_behind P x xs all))
+
+pub place_back : (at to : ℕ) (rest : List ℕ) → at < 4294967296 → to < 4294967296 → place_in at (word (difference at to) ++ rest) ≡ to
+place_back at to rest at_fits to_fits =
+    let small : difference at to < 4294967296 = omega arith in
+    let big = big_word (difference at to) small in
+    ap (λ (n : ℕ). target_of at (cast_signed w32 n)) (big_front 4 (word (difference at to)) rest big.size ∙ big.value) ∙ word_target at to at_fits to_fits
+
+-- ---- each form
+
+pub wide_form : form_of 196 ≡ forms.Wide
+wide_form = let rows = named_forms in rows.10
+
+inc_form : form_of 132 ≡ forms.Inc
+inc_form = let rows = named_forms in rows.3
+
+pub local_is : (at op slot : ℕ) → form_of op ≡ forms.Local → slot < 65536 → IsItem at (local_text op slot) (items.Insn (insns.Local op slot))
+unfolding operands wide_operands
+local_is at op slot is fits = by (cases_lt slot 4) (cases_lt slot 256)
+  where
+    load : slot < 4 → 21 ≤ op → op ≤ 25 → IsItem at ((26 + 4 * (op - 21) + slot) ∷ []) (items.Insn (insns.Local op slot))
+    load few low high =
+        let code = 26 + 4 * (op - 21) + slot in
+        let op_is : op ≡ 21 + (code - 26) / 4 = omega (arith, few, low, high) in
+        let slot_is : slot ≡ (code - 26) % 4 = omega (arith, few, low, high) in
+        item_of at code forms.ShortLoad [] (items.Insn (insns.Local op slot)) (load_form code (omega (arith, low)) (omega (arith, low, high, few))) (refl, λ i. items.Insn (insns.Local (op_is i) (slot_is i)))
+
+    store : slot < 4 → 54 ≤ op → op ≤ 58 → IsItem at ((59 + 4 * (op - 54) + slot) ∷ []) (items.Insn (insns.Local op slot))
+    store few low high =
+        let code = 59 + 4 * (op - 54) + slot in
+        let op_is : op ≡ 54 + (code - 59) / 4 = omega (arith, few, low, high) in
+        let slot_is : slot ≡ (code - 59) % 4 = omega (arith, few, low, high) in
+        item_of at code forms.ShortStore [] (items.Insn (insns.Local op slot)) (store_form code (omega (arith, low)) (omega (arith, low, high, few))) (refl, λ i. items.Insn (insns.Local (op_is i) (slot_is i)))
+
+    in_opcode : slot < 4 → ((21 ≤ op) × (op ≤ 25)) ⊎ ((54 ≤ op) × (op ≤ 58)) → IsItem at (short_code op slot ∷ []) (items.Insn (insns.Local op slot))
+    in_opcode few (inl (low, high)) = rw (lt-ltb op 54 (omega (arith, high))) (load few low high)
+    in_opcode few (inr (low, high)) = rw (le-ltb op 54 (omega (arith, low))) (store few low high)
+
+    by : (slot < 4) ⊎ (4 ≤ slot) → (slot < 256) ⊎ (256 ≤ slot) → IsItem at (local_text op slot) (items.Insn (insns.Local op slot))
+    by (inl few) b = rw (lt-ltb slot 4 few) (in_opcode few (local_codes op is))
+    by (inr more) (inl byte_fits) = rw (le-ltb slot 4 more, lt-ltb slot 256 byte_fits) (item_of at op forms.Local (slot ∷ []) (items.Insn (insns.Local op slot)) is (one_byte (λ v. items.Insn (insns.Local op v)) slot (items.Insn (insns.Local op slot)) refl))
+    by (inr more) (inr wide) = rw (le-ltb slot 4 more, le-ltb slot 256 wide)
+        (item_of at 196 forms.Wide (op ∷ short slot) (items.Insn (insns.Local op slot)) wide_form
+        (byte_then (λ code. wide_operands (form_of code) code) op (short slot) (items.Insn (insns.Local op slot))
+        (subst (λ (f : Form). wide_operands f op (short slot) (items.Insn (insns.Local op slot))) (sym is) (one_number 2 (λ v. items.Insn (insns.Local op v)) slot (short slot) (items.Insn (insns.Local op slot)) (big_short slot fits) refl))))
+
+pub test_true : (b : Bool) → T b → b ≡ true
+test_true true h = refl
+test_true false h = absurd h
+
+true_test : (b : Bool) → b ≡ true → T b
+true_test true e = tt
+true_test false e = absurd cc
+
+pub both_true : (a b : Bool) → (a && b) ≡ true → (a ≡ true) × (b ≡ true)
+both_true true b e = (refl, e)
+both_true false b e = absurd cc
+
+pub le_true : (a b : ℤ) → a ≤ℤ b → int_le a b ≡ true
+le_true a b h = test_true (int_le a b) h.le
+
+pub true_le : (a b : ℤ) → int_le a b ≡ true → a ≤ℤ b
+true_le a b e = le_z_yes (true_test (int_le a b) e)
+
+pub short_fits : (z : ℤ) → FitsSigned w16 z → cast_unsigned w16 z < 65536
+short_fits (pos n) fits = omega (arith, fits.sfits)
+short_fits (negsuc n) fits = omega arith
+
+pub word_fits : (z : ℤ) → FitsSigned w32 z → cast_unsigned w32 z < 4294967296
+word_fits (pos n) fits = omega (arith, fits.sfits)
+word_fits (negsuc n) fits = omega arith
+
+pub inc_is : (at slot : ℕ) (by : ℤ) → slot < 65536 → FitsSigned w16 by → IsItem at (inc_text slot by) (items.Insn (insns.Inc slot by))
+unfolding operands wide_operands
+inc_is at slot by slot_fits by_fits = cases (is_narrow_inc slot by) refl
+  where
+    narrow : is_narrow_inc slot by ≡ true → (negsuc 127 ≤ℤ by) × (by ≤ℤ pos 127)
+    narrow e =
+        let room = both_true (nat_lt slot 256) (int_le (negsuc 127) by && int_le by (pos 127)) e in
+        let ends = both_true (int_le (negsuc 127) by) (int_le by (pos 127)) room.1 in
+        (true_le (negsuc 127) by ends.0, true_le by (pos 127) ends.1)
+
+    cases : (b : Bool) → is_narrow_inc slot by ≡ b → IsItem at (inc_text slot by) (items.Insn (insns.Inc slot by))
+    cases true e = rw e
+        (let n = narrow e in
+        item_of at 132 forms.Inc (slot ∷ signed_byte by ∷ []) (items.Insn (insns.Inc slot by)) inc_form
+        (byte_then (λ s. Then byte (λ b. nothing (items.Insn (insns.Inc s (cast_signed w8 b))))) slot (signed_byte by ∷ []) (items.Insn (insns.Inc slot by))
+        (one_byte (λ b. items.Insn (insns.Inc slot (cast_signed w8 b))) (signed_byte by) (items.Insn (insns.Inc slot by)) (ap (λ (z : ℤ). items.Insn (insns.Inc slot z)) (sym (signed_byte_back by n.0 n.1))))))
+    cases false e = rw e
+        (item_of at 196 forms.Wide (132 ∷ short slot ++ signed_short by) (items.Insn (insns.Inc slot by)) wide_form
+        (byte_then (λ code. wide_operands (form_of code) code) 132 (short slot ++ signed_short by) (items.Insn (insns.Inc slot by))
+        (subst (λ (f : Form). wide_operands f 132 (short slot ++ signed_short by) (items.Insn (insns.Inc slot by))) (sym inc_form)
+        (number_then 2 (λ s. Then (number 2) (λ b. nothing (items.Insn (insns.Inc s (cast_signed w16 b))))) slot (short slot) (signed_short by) (items.Insn (insns.Inc slot by)) (big_short slot slot_fits)
+        (one_number 2 (λ b. items.Insn (insns.Inc slot (cast_signed w16 b))) (cast_unsigned w16 by) (signed_short by) (items.Insn (insns.Inc slot by)) (big_short (cast_unsigned w16 by) (short_fits by by_fits)) (ap (λ (z : ℤ). items.Insn (insns.Inc slot z)) (sym (signed_short_back by by_fits))))))))

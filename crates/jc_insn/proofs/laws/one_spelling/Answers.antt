@@ -1,0 +1,5 @@
+use Rattle.jc_insn.proofs.ItemsLaws.{same_item}
+use Rattle.jc_insn.proofs.laws.one_spelling.Goals as goal
+
+pub returns : goal.returns
+returns c = same_item

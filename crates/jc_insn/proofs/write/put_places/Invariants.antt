@@ -1,0 +1,9 @@
+use Rattle.std.proofs.Common.{◌≡◌, ◌++◌, map, take}
+use Rattle.std.specs.Prelude.{slice_index}
+use Rattle.std.specs.List.{flat_map}
+use Rattle.jc_insn.specs.Writing.{word, difference}
+use Rattle.jc_insn.proofs.write.put_places.Given as goal
+
+-- the arms so far
+abbrev pub invariant-writing : goal.invariant-writing
+invariant-writing l = l.out.items ≡ l.fn.out.items ++ flat_map (λ to. word (difference l.at to)) (map (slice_index l.starts) (take l.to-index l.arms))

@@ -1,0 +1,31 @@
+-- What a decoder of code answers.
+use Rattle.std.specs.Prelude.{◌≡◌, ℕ, List, Option, Some, None, Result, Ok, Err, ⊤}
+use Rattle.jc_base.specs.Reader.{Reading}
+use Rattle.jc_base.specs.declared.fail.Fail.{Fail}
+use Rattle.jc_base.specs.declared.fail.Fail.TheVariants as fails
+use Rattle.jc_base.specs.declared.refusal.Refusal.{Refusal}
+use Rattle.jc_base.specs.declared.refusal.RefusalKind.{RefusalKind}
+use Rattle.jc_base.specs.declared.refusal.RefusalKind.TheVariants as kinds
+use Rattle.jc_base.specs.declared.insn.Insn.{Insn}
+use Rattle.jc_insn.specs.declared.item.Item.{Item}
+use Rattle.jc_insn.specs.declared.item.Item.TheVariants as items
+use Rattle.jc_insn.specs.Reading.{item_at}
+use Rattle.jc_insn.specs.Spells.{IsRefused}
+
+-- memory may run out at any time; else the code is at fault
+abbrev pub Refuses : Fail Refusal → List ℕ → Type 0
+Refuses fails.Memory bytes = ⊤
+Refuses (fails.Said refusal) bytes = IsRefused bytes refusal
+
+-- the item that stands at an offset stops a decoder: jsr and its like, or no item at all
+abbrev pub Stops : RefusalKind → Option (Item × List ℕ) → Type 0
+Stops kinds.Subroutine read = (rest : List ℕ) × (read ≡ Some (items.Subroutine, rest))
+Stops kinds.BadCode read = read ≡ None
+Stops kind read = ⊥
+
+-- what a function returned and left is the next instruction, or what stops there
+abbrev pub GivesNext : Result Insn (Fail Refusal) → Reading → Reading → Type 0
+GivesNext (Ok insn) old new = item_at old.place old.left ≡ Some (items.Insn insn, new.left)
+GivesNext (Err fails.Memory) old new = ⊤
+GivesNext (Err (fails.Said refusal)) old new =
+    (refusal.method ≡ None) × (refusal.place ≡ old.place) × Stops refusal.kind (item_at old.place old.left)

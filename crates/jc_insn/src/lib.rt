@@ -1,0 +1,21 @@
+//! Instructions of the Java virtual machine as bytes: decoding, sizes and encoding.
+#![tactic(auto)]
+
+mod decoding;
+mod encoding;
+mod item;
+mod laws;
+mod operands;
+mod places;
+mod size;
+mod switch;
+mod write;
+
+#[cfg(test)]
+mod tests;
+
+pub use decoding::{Decoded, decode};
+pub use encoding::encode;
+pub use item::Item;
+pub use laws::{one_code, one_spelling};
+pub use size::size_of;

@@ -1,0 +1,335 @@
+//! The parts of an instruction as bytes.
+ghost use Rattle.std.specs.Prelude.{◌≡◌, ◌≤◌, ◌+◌, ◌%◌, ◌<◌, ◌^◌, ◌++◌, ◌∷◌, ◌⊎◌, [], ℕ, List, false, length, slice_index, OnOk, OnErr, All, map, IsTrue, ℤ, pos, ◌+ℤ◌, ◌≤ℤ◌, FitsSigned};
+ghost use Rattle.std.specs.List.{flat_map};
+ghost use Rattle.std.specs.Int.{w32, cast_unsigned};
+ghost use Rattle.jc_base.specs.declared.form.Form.TheVariants as forms;
+ghost use Rattle.jc_base.specs.InsnForm.{form_of};
+ghost use Rattle.jc_base.specs.Insn.{arm_with_place};
+ghost use Rattle.jc_insn.specs.Writing.{short, word, signed_byte, signed_short, difference, push_text, short_code, local_text, inc_text, constant_text, wide_jump_text, jump_text, arm_text, pad_text, last_key, table_text, lookup_text, interface_text, dynamic_text, multi_text};
+
+use crate::size::{is_narrow_inc, padding};
+use jc_base::{Arm, Form, inverse};
+use std::alloc::AllocError;
+
+const LDC: u8 = 18;
+
+const LDC_W: u8 = 19;
+
+const IINC: u8 = 132;
+
+const GOTO: u8 = 167;
+
+const TABLESWITCH: u8 = 170;
+
+const LOOKUPSWITCH: u8 = 171;
+
+const INVOKEINTERFACE: u8 = 185;
+
+const INVOKEDYNAMIC: u8 = 186;
+
+const NEWARRAY: u8 = 188;
+
+const WIDE: u8 = 196;
+
+const MULTIANEWARRAY: u8 = 197;
+
+const GOTO_W: u8 = 200;
+
+/// A number in two bytes.
+#[tactic(auto, unfolding(crate::specs::Writing::short))]
+fn put_short(out: &mut Vec<u8>, number: u16) -> Result<(), AllocError>
+    ensures { OnOk result (out.new.items ≡ out.old.items ++ short number) }
+{
+    out.extend_from_slice(&number.to_be_bytes())
+}
+
+/// A number in four bytes.
+#[tactic(auto, unfolding(crate::specs::Writing::word))]
+fn put_word(out: &mut Vec<u8>, number: u32) -> Result<(), AllocError>
+    ensures { OnOk result (out.new.items ≡ out.old.items ++ word number) }
+{
+    out.extend_from_slice(&number.to_be_bytes())
+}
+
+/// The low byte of a signed number.
+fn signed_byte(number: i16) -> u8
+    ensures { result ≡ signed_byte number }
+{
+    (number.cast_unsigned() % 256) as u8
+}
+
+/// How far the second offset lies behind the first.
+fn difference(at: u32, to: u32) -> u32
+    ensures { result ≡ difference at to }
+{
+    to.wrapping_sub(at)
+}
+
+/// An opcode and a number in two bytes.
+pub fn put_with_short(out: &mut Vec<u8>, op: u8, number: u16) -> Result<(), AllocError>
+    ensures { OnOk result (out.new.items ≡ out.old.items ++ op ∷ short number) }
+{
+    out.push(op)?;
+    put_short(out, number)?;
+    Ok(())
+}
+
+/// `bipush` or `sipush`.
+pub fn put_push(out: &mut Vec<u8>, form: Form, op: u8, value: i16) -> Result<(), AllocError>
+    ensures { OnOk result (out.new.items ≡ out.old.items ++ push_text form op value) }
+{
+    match form {
+        Form::PushByte => {
+            out.push(op)?;
+            out.push(signed_byte(value))?;
+        }
+        _ => put_with_short(out, op, value.cast_unsigned())?,
+    }
+    Ok(())
+}
+
+/// The opcode of a load or a store that has the local variable in it.
+fn short_code(op: u8, slot: u8) -> u8
+    requires op { ((21 ≤ op) × (op ≤ 25)) ⊎ ((54 ≤ op) × (op ≤ 58)) }
+    requires slot { slot < 4 }
+    ensures { result ≡ short_code op slot }
+{
+    if op < 54 {
+        26 + 4 * (op - 21) + slot
+    } else {
+        59 + 4 * (op - 54) + slot
+    }
+}
+
+/// A load or a store.
+pub fn put_local(out: &mut Vec<u8>, op: u8, slot: u16) -> Result<(), AllocError>
+    requires { ((21 ≤ op) × (op ≤ 25)) ⊎ ((54 ≤ op) × (op ≤ 58)) }
+    ensures { OnOk result (out.new.items ≡ out.old.items ++ local_text op slot) }
+{
+    if slot < 4 {
+        out.push(short_code(op, slot as u8))?;
+    } else if slot < 256 {
+        out.push(op)?;
+        out.push(slot as u8)?;
+    } else {
+        out.push(WIDE)?;
+        put_with_short(out, op, slot)?;
+    }
+    Ok(())
+}
+
+/// `iinc`.
+pub fn put_inc(out: &mut Vec<u8>, slot: u16, by: i16) -> Result<(), AllocError>
+    ensures { OnOk result (out.new.items ≡ out.old.items ++ inc_text slot by) }
+{
+    if is_narrow_inc(slot, by) {
+        out.push(IINC)?;
+        out.push(slot as u8)?;
+        out.push(signed_byte(by))?;
+    } else {
+        out.push(WIDE)?;
+        put_with_short(out, IINC, slot)?;
+        put_short(out, by.cast_unsigned())?;
+    }
+    Ok(())
+}
+
+/// `ldc` or `ldc_w`.
+pub fn put_constant(out: &mut Vec<u8>, place: u16) -> Result<(), AllocError>
+    ensures { OnOk result (out.new.items ≡ out.old.items ++ constant_text place) }
+{
+    if place < 256 {
+        out.push(LDC)?;
+        out.push(place as u8)?;
+    } else {
+        put_with_short(out, LDC_W, place)?;
+    }
+    Ok(())
+}
+
+/// `goto_w`.
+fn put_goto(out: &mut Vec<u8>, at: u32, to: u32) -> Result<(), AllocError>
+    ensures { OnOk result (out.new.items ≡ out.old.items ++ 200 ∷ word (difference at to)) }
+{
+    out.push(GOTO_W)?;
+    put_word(out, difference(at, to))?;
+    Ok(())
+}
+
+/// A jump of the wide layout.
+fn put_wide_jump(out: &mut Vec<u8>, at: u32, op: u8, to: u32) -> Result<(), AllocError>
+    requires form { form_of op ≡ forms.Jump }
+    requires at { at ≤ 2147483647 }
+    ensures { OnOk result (out.new.items ≡ out.old.items ++ wide_jump_text at op to) }
+{
+    if op == GOTO {
+        put_goto(out, at, to)?;
+    } else {
+        put_with_short(out, inverse(op), 8)?;
+        put_goto(out, at + 3, to)?;
+    }
+    Ok(())
+}
+
+/// A jump.
+pub fn put_jump(out: &mut Vec<u8>, at: u32, wide: bool, op: u8, to: u32) -> Result<(), AllocError>
+    requires form { form_of op ≡ forms.Jump }
+    requires at { at ≤ 2147483647 }
+    ensures { OnOk result (out.new.items ≡ out.old.items ++ jump_text at wide op to) }
+{
+    if wide {
+        put_wide_jump(out, at, op, to)?;
+    } else {
+        put_with_short(out, op, (difference(at, to) % 65536) as u16)?;
+    }
+    Ok(())
+}
+
+/// What pads a switch.
+#[tactic(auto, unfolding(crate::specs::Writing::pad_text))]
+fn put_pad(out: &mut Vec<u8>, at: u32) -> Result<(), AllocError>
+    ensures { OnOk result (out.new.items ≡ out.old.items ++ pad_text at) }
+{
+    let pad = [0; 3];
+    out.extend_from_slice(&pad[..padding(at) as usize])?;
+    Ok(())
+}
+
+/// The arms of `tableswitch`.
+fn put_places(
+    out: &mut Vec<u8>,
+    at: u32,
+    starts: &[u32],
+    arms: &[u32],
+) -> Result<(), AllocError>
+    requires { All (λ to. to < length starts.now) arms.now }
+    ensures { OnOk result (out.new.items ≡ out.old.items ++ flat_map (λ to. word (difference at to)) (map (slice_index starts.now) arms.now)) }
+{
+    'writing: for to in arms {
+        put_word(out, difference(at, starts[*to as usize]))?;
+    }
+    Ok(())
+}
+
+/// An arm of `lookupswitch`.
+fn put_arm(out: &mut Vec<u8>, at: u32, starts: &[u32], arm: &Arm) -> Result<(), AllocError>
+    requires { arm.now.to < length starts.now }
+    ensures text { OnOk result (out.new.items ≡ out.old.items ++ arm_text at (arm_with_place (slice_index starts.now) arm.now)) }
+    ensures key { OnOk result (FitsSigned w32 arm.now.key) }
+{
+    put_word(out, arm.key.cast_unsigned())?;
+    put_word(out, difference(at, starts[arm.to as usize]))?;
+    Ok(())
+}
+
+/// The arms of `lookupswitch`.
+fn put_arms(
+    out: &mut Vec<u8>,
+    at: u32,
+    starts: &[u32],
+    arms: &[Arm],
+) -> Result<(), AllocError>
+    requires { All (λ arm. arm.to < length starts.now) arms.now }
+    ensures text { OnOk result (out.new.items ≡ out.old.items ++ flat_map (arm_text at) (map (arm_with_place (slice_index starts.now)) arms.now)) }
+    ensures keys { OnOk result (All (λ arm. FitsSigned w32 arm.key) arms.now) }
+{
+    'writing: for arm in arms {
+        put_arm(out, at, starts, arm)?;
+    }
+    Ok(())
+}
+
+/// The last of the keys from `low` on, as a number of 32 bits.
+fn last_key(low: i32, count: u32) -> u32
+    requires some { 1 ≤ count }
+    requires few { count ≤ 67108864 }
+    requires fits { (low +ℤ pos count) ≤ℤ pos 2147483648 }
+    ensures { result ≡ cast_unsigned w32 (last_key low count) }
+{
+    (low + (count - 1) as i32).cast_unsigned()
+}
+
+/// `tableswitch`.
+pub fn put_table(
+    out: &mut Vec<u8>,
+    at: u32,
+    starts: &[u32],
+    low: i32,
+    default: u32,
+    arms: &[u32],
+) -> Result<(), AllocError>
+    requires some { 1 ≤ length arms.now }
+    requires few { length arms.now ≤ 67108864 }
+    requires fits { (low +ℤ pos (length arms.now)) ≤ℤ pos 2147483648 }
+    requires default { default < length starts.now }
+    requires places { All (λ to. to < length starts.now) arms.now }
+    ensures { OnOk result (out.new.items ≡ out.old.items ++ table_text at low (slice_index starts.now default) (map (slice_index starts.now) arms.now)) }
+{
+    out.push(TABLESWITCH)?;
+    put_pad(out, at)?;
+    put_word(out, difference(at, starts[default as usize]))?;
+    put_word(out, low.cast_unsigned())?;
+    put_word(out, last_key(low, arms.len() as u32))?;
+    put_places(out, at, starts, arms)?;
+    Ok(())
+}
+
+/// `lookupswitch`.
+pub fn put_lookup(
+    out: &mut Vec<u8>,
+    at: u32,
+    starts: &[u32],
+    default: u32,
+    arms: &[Arm],
+) -> Result<(), AllocError>
+    requires few { length arms.now ≤ 67108864 }
+    requires default { default < length starts.now }
+    requires places { All (λ arm. arm.to < length starts.now) arms.now }
+    ensures text { OnOk result (out.new.items ≡ out.old.items ++ lookup_text at (slice_index starts.now default) (map (arm_with_place (slice_index starts.now)) arms.now)) }
+    ensures keys { OnOk result (All (λ arm. FitsSigned w32 arm.key) arms.now) }
+{
+    out.push(LOOKUPSWITCH)?;
+    put_pad(out, at)?;
+    put_word(out, difference(at, starts[default as usize]))?;
+    put_word(out, arms.len() as u32)?;
+    put_arms(out, at, starts, arms)?;
+    Ok(())
+}
+
+/// `invokeinterface`.
+pub fn put_interface(out: &mut Vec<u8>, place: u16, count: u8) -> Result<(), AllocError>
+    ensures { OnOk result (out.new.items ≡ out.old.items ++ interface_text place count) }
+{
+    put_with_short(out, INVOKEINTERFACE, place)?;
+    out.push(count)?;
+    out.push(0)?;
+    Ok(())
+}
+
+/// `invokedynamic`.
+pub fn put_dynamic(out: &mut Vec<u8>, place: u16) -> Result<(), AllocError>
+    ensures { OnOk result (out.new.items ≡ out.old.items ++ dynamic_text place) }
+{
+    put_with_short(out, INVOKEDYNAMIC, place)?;
+    out.push(0)?;
+    out.push(0)?;
+    Ok(())
+}
+
+/// `newarray`.
+pub fn put_new_array(out: &mut Vec<u8>, elem: u8) -> Result<(), AllocError>
+    ensures { OnOk result (out.new.items ≡ out.old.items ++ 188 ∷ elem ∷ []) }
+{
+    out.push(NEWARRAY)?;
+    out.push(elem)?;
+    Ok(())
+}
+
+/// `multianewarray`.
+pub fn put_multi(out: &mut Vec<u8>, place: u16, dims: u8) -> Result<(), AllocError>
+    ensures { OnOk result (out.new.items ≡ out.old.items ++ multi_text place dims) }
+{
+    put_with_short(out, MULTIANEWARRAY, place)?;
+    out.push(dims)?;
+    Ok(())
+}
