@@ -58,7 +58,3 @@ pub record HasOneReading (before : List ClassHits) (text : List ℕ) : Type 0 wh
   pub classes : (cs ds : List ClassHits) → IsPlain before text cs → IsPlain before text ds → cs ≡ ds
   pub place : (m n : ℕ) → IsFirstUnfit before text m → IsFirstUnfit before text n → m ≡ n
   pub apart : (cs : List ClassHits) (m : ℕ) → IsPlain before text cs → IsFirstUnfit before text m → ⊥
-
--- a text is a plain file over these records, or there is a first place that doesn't fit
-abbrev pub IsDecided : List ClassHits → List ℕ → Type 0
-IsDecided before text = ((classes : List ClassHits) × IsPlain before text classes) ⊎ ((place : ℕ) × IsFirstUnfit before text place)

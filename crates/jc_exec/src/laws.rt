@@ -4,12 +4,8 @@ ghost use Rattle.jc_exec.specs.declared.hits.ClassHits.{ClassHits};
 ghost use Rattle.jc_exec.specs.declared.session.Session.{Session};
 ghost use Rattle.jc_exec.specs.Format.{Block, Blocks};
 ghost use Rattle.jc_exec.specs.Store.{Store};
-<<<<<<< HEAD
-ghost use Rattle.jc_exec.specs.Plain.{HasOneReading, IsDecided};
-=======
 ghost use Rattle.jc_exec.specs.Plain.{HasOneReading};
 ghost use Rattle.jc_exec.specs.Refusing.{HasOneAnswer};
->>>>>>> origin/exec
 ghost use Rattle.jc_exec.specs.Union.{IsUnion, union_of};
 ghost use Rattle.jc_exec.specs.Writing.{by_dump, IsByDump};
 
@@ -17,11 +13,6 @@ ghost use Rattle.jc_exec.specs.Writing.{by_dump, IsByDump};
 /// doesn't fit stands at one offset; never both.
 pub fn one_reading_of_each_text()
     ensures { (before : List ClassHits) (text : List ℕ) → HasOneReading before text }
-{}
-
-/// A text is a plain file over some records, or its first block that doesn't fit stands somewhere.
-pub fn each_text_is_plain_or_unfit()
-    ensures { (before : List ClassHits) (text : List ℕ) → IsDecided before text }
 {}
 
 /// A text is execution data of one list of blocks at most.

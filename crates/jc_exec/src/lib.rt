@@ -13,8 +13,6 @@ mod write;
 
 pub use hits::ClassHits;
 pub use laws::{
-    each_text_is_plain_or_unfit,
-    one_list_of_each_text, one_reading_of_each_text, one_union_of_each_list, union_block_by_block,
     one_answer_to_each_text, one_list_of_each_text, one_reading_of_each_text,
     one_union_of_each_list, sessions_by_dump, union_block_by_block,
 };
