@@ -1,13 +1,13 @@
 -- The tests decide what they are named for.
-use Rattle.std.proofs.Common.{◌≡◌, ◌≢◌, ◌⊎◌, inl, inr, ⊎_elim, ℕ, zero, suc, ◌-◌, ◌+◌, ◌/◌, ◌%◌, ◌<◌, ◌≤◌, Bool, true, false, cond, ◌&&◌, ◌||◌, List, [], ◌∷◌, ◌++◌, length, Option, Some, None, nat_eq, nat_lt, refl, sym, ◌∙◌, ap, subst, arith, append_assoc, length-append}
+use Rattle.std.proofs.Common.{◌≡◌, ◌⊎◌, inl, inr, ⊎_elim, ℕ, zero, suc, ◌+◌, ◌/◌, ◌%◌, ◌<◌, ◌≤◌, Bool, true, false, cond, ◌&&◌, ◌||◌, List, [], ◌∷◌, ◌++◌, length, Option, Some, None, nat_eq, nat_lt, refl, sym, ◌∙◌, ap, subst, arith, append_assoc, length-append}
 use Rattle.std.proofs.lemmas.Bool.{eqb-true, eqb-false, eq-eqb}
 use Rattle.std.proofs.lemmas.Bool.Decides.{nat_tests}
-use Rattle.std.specs.List.{AllByRecursion, flat_map, sum_by}
+use Rattle.std.specs.List.{flat_map, sum_by}
 use Rattle.jc_base.specs.Modified.{IsModified, unit_at, unit_bytes}
-use Rattle.jc_base.specs.Descriptor.{FieldType, IsFieldDescriptor, IsMethodDescriptor, IsReturnDescriptor, BeginsWithType, BeginsWithParameters, DescribesMethod, field_text, method_text, return_text, IsFieldType, IsReturnType, slots_of}
+use Rattle.jc_base.specs.Descriptor.{FieldType, IsFieldDescriptor, IsMethodDescriptor, IsReturnDescriptor, BeginsWithType, BeginsWithParameters, field_text, return_text, IsReturnType, slots_of}
 use Rattle.jc_base.specs.DescriptorReading.{after_type}
 use Rattle.jc_base.specs.Deciding.{no_bytes, behind_unit, are_units, is_modified_text, ends_there, is_field_text, behind_type, after_types, is_void_text, closes, is_method_text}
-use Rattle.jc_base.proofs.ModifiedLaws.{SameVerdict, same_start, next_unit, unit_found, nothing_left, nothing_is_modified}
+use Rattle.jc_base.proofs.ModifiedLaws.{same_start, next_unit, unit_found, nothing_left, nothing_is_modified}
 use Rattle.jc_base.proofs.DescriptorLaws.{type_takes, type_again, no_type, no_field, field_decided, rest_shorter, not_closed, not_returning, whole_method}
 
 -- the test holds exactly where the fact does
@@ -139,14 +139,16 @@ types_found (suc n) bytes fits = by (after_type bytes) refl (λ rest shorter. ty
     by None none more = (0, record { types = []; fit = tt; parts = refl; counted = refl; stops = no_type bytes none })
     by (Some rest) read more =
         let t = type_takes bytes rest read in
-        let p = (more rest (omega (arith, rest_shorter bytes rest (sym read), fits))).1 in
-        (sum_by slots_of (t.0 ∷ p.types), record {
-          types = t.0 ∷ p.types;
-          fit = (t.1.fits, p.fit);
-          parts = t.1.parts ∙ ap (λ (l : List ℕ). field_text t.0 ++ l) p.parts ∙ sym (append_assoc (field_text t.0) (flat_map field_text p.types) (after_types n rest));
-          counted = refl;
-          stops = p.stops;
-        })
+        let p = (more rest (omega (arith, rest_shorter bytes rest (sym read), fits))).1 in (
+          sum_by slots_of (t.0 ∷ p.types),
+          record {
+            types = t.0 ∷ p.types;
+            fit = (t.1.fits, p.fit);
+            parts = t.1.parts ∙ ap (λ (l : List ℕ). field_text t.0 ++ l) p.parts ∙ sym (append_assoc (field_text t.0) (flat_map field_text p.types) (after_types n rest));
+            counted = refl;
+            stops = p.stops;
+          },
+        )
 
 closes_decided : (bytes inside rest : List ℕ) (slots : ℕ) → bytes ≡ 40 ∷ inside → BeginsWithParameters inside slots rest → Decides (closes rest) (IsMethodDescriptor bytes)
 closes_decided bytes inside [] slots opens p = record { to = λ h. absurd cc; back = λ d. absurd (not_closed bytes inside [] slots opens p (λ last e. cons_nil e) d) }

@@ -1,5 +1,5 @@
 -- Reading units one after the other.
-use Rattle.std.proofs.Common.{◌≡◌, ◌⊎◌, inl, inr, ⊎_elim, ℕ, zero, suc, ◌-◌, ◌+◌, ◌*◌, ◌/◌, ◌%◌, ◌<◌, ◌≤◌, ◌^◌, Bool, true, false, cond, List, [], ◌∷◌, ◌++◌, length, Option, Some, None, IfSome, nat_eq, if◌then◌else◌, refl, sym, ◌∙◌, ap, subst, arith, length-append}
+use Rattle.std.proofs.Common.{◌≡◌, ◌⊎◌, inl, inr, ⊎_elim, ℕ, ◌-◌, ◌+◌, ◌*◌, ◌/◌, ◌%◌, ◌<◌, ◌≤◌, ◌^◌, Bool, true, false, cond, List, [], ◌∷◌, ◌++◌, length, Option, Some, None, IfSome, nat_eq, if◌then◌else◌, refl, sym, ◌∙◌, ap, subst, arith}
 use Rattle.std.proofs.lemmas.Bool.Decides.{nat_tests}
 use Rattle.std.proofs.lemmas.Bool.{cases_lt, eqb-true, eq-eqb}
 use Rattle.std.specs.List.{AllByRecursion, flat_map}
@@ -193,37 +193,3 @@ decides whole rest b so_far none is = (
     empty : (l : List ℕ) → length l ≡ 0 → l ≡ []
     empty [] e = refl
     empty (x ∷ l) e = absurd (omega (arith, e))
-
--- ---- bytes are modified UTF-8, or they are not
-
-spelled_longer : (unit : ℕ) → 0 < length (unit_bytes unit)
-spelled_longer unit = elim (cases_lt unit 2048) [
-  | inl below ↦ elim (cases_lt unit 128) [
-    | inl small ↦ elim (cases_lt 0 unit) [
-      | inl some ↦ rw (one_byte unit some small) (omega arith)
-      | inr none ↦ rw (two_bytes unit (inl (omega (arith, none))) below) (omega arith)
-    ]
-    | inr long ↦ rw (two_bytes unit (inr long) below) (omega arith)
-  ]
-  | inr long ↦ rw (three_bytes unit long) (omega arith)
-]
-
-modified_within : (n : ℕ) (bytes : List ℕ) → length bytes ≤ n → IsModified bytes ⊎ (IsModified bytes → ⊥)
-modified_within zero [] short = inl (nothing_is_modified [] refl)
-modified_within zero (b ∷ bytes) short = absurd (omega (arith, short))
-modified_within (suc n) bytes short = by (unit_at bytes) refl (λ rest few. modified_within n rest few)
-  where
-    by : (o : Option (ℕ × List ℕ)) → unit_at bytes ≡ o → ((rest : List ℕ) → length rest ≤ n → IsModified rest ⊎ (IsModified rest → ⊥)) → IsModified bytes ⊎ (IsModified bytes → ⊥)
-    by None none again = empty bytes none
-      where
-        empty : (bytes : List ℕ) → unit_at bytes ≡ None → IsModified bytes ⊎ (IsModified bytes → ⊥)
-        empty [] none = inl (nothing_is_modified [] refl)
-        empty (b ∷ bytes) none = inr (λ m. omega (arith, ap length (nothing_left (b ∷ bytes) none m)))
-    by (Some (unit, rest)) read again =
-        let found = unit_found bytes (unit, rest) read in
-        let shorter : length rest ≤ n = omega (arith, short, ap length found.1, length-append (unit_bytes unit) rest, spelled_longer unit) in
-        let step = unit_step bytes unit rest read in
-        ⊎_elim (λ m. inl (step.back m)) (λ never. inr (λ m. never (step.to m))) (again rest shorter)
-
-pub modified_or_not : (bytes : List ℕ) → IsModified bytes ⊎ (IsModified bytes → ⊥)
-modified_or_not bytes = modified_within (length bytes) bytes (omega arith)

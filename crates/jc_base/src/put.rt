@@ -3,8 +3,8 @@ ghost use Rattle.std.specs.Prelude.{◌≡◌, ◌++◌, ◌∷◌, [], ℕ, Lis
 ghost use Rattle.jc_base.specs.Decoder.{IsBig};
 ghost use Rattle.jc_base.specs.Appending.{Appends};
 
-use byteorder::{BigEndian, ByteOrder};
 use crate::Memory;
+use byteorder::{BigEndian, ByteOrder};
 
 /// Puts a byte at the end.
 pub fn put_u8(into: &mut Vec<u8>, byte: u8) -> Result<(), Memory>

@@ -1,11 +1,12 @@
 -- Each text is a plain file over the records before, or has a first block that doesn't fit.
-use Rattle.std.proofs.Common.{◌≡◌, ◌≢◌, ◌⊎◌, inl, inr, ⊎_elim, ℕ, zero, suc, ◌<◌, ◌≤◌, Bool, true, false, cond, List, [], ◌∷◌, ◌++◌, length, take, drop, Option, Some, None, bytes_eq, nat_eq, refl, sym, ◌∙◌, ap, subst, arith, append_assoc}
+use Rattle.std.proofs.Common.{◌≡◌, ◌≢◌, ◌⊎◌, inl, inr, ⊎_elim, ℕ, zero, suc, ◌<◌, ◌≤◌, Bool, true, false, List, [], ◌∷◌, ◌++◌, length, take, drop, Option, Some, None, bytes_eq, nat_eq, refl, sym, ◌∙◌, ap, subst, arith, append_assoc}
 use Rattle.std.proofs.lemmas.Bool.{eqb-true, eqb-false}
 use Rattle.std.proofs.lemmas.List.{append-nil, take_at, take-append-drop}
 use Rattle.std.proofs.lemmas.Slice.Eq.{bytes_eq-Decides}
-use Rattle.jc_base.specs.Modified.{IsModified, after_unit, is_one, is_two, is_three}
-use Rattle.jc_base.proofs.DecoderLaws.{some_is, some_none, chosen}
-use Rattle.jc_base.proofs.ModifiedLaws.{SameVerdict, same_start, next_unit, nothing_left, nothing_is_modified}
+use Rattle.jc_base.specs.Modified.{IsModified}
+use Rattle.jc_base.proofs.DecoderLaws.{some_is, some_none}
+use Rattle.jc_base.specs.Deciding.{is_modified_text}
+use Rattle.jc_base.proofs.DecidingLaws.{Decides, modified_decided}
 use Rattle.jc_exec.specs.declared.hits.ClassHits.{ClassHits}
 use Rattle.jc_exec.specs.Format.{header_text}
 use Rattle.jc_exec.specs.Reading.{class_at}
@@ -14,58 +15,20 @@ use Rattle.jc_exec.specs.Plain.{IsPlain, NoneFits, IsFirstUnfit, HasOneReading}
 use Rattle.jc_exec.proofs.BlockLaws.{class_takes, class_again}
 use Rattle.jc_exec.proofs.PlainLaws.{plain_of, plain_push, less_left, one_reading, one_place, plain_or_unfit_not_both}
 
--- ---- modified UTF-8
-
-shorter : (l r : List ℕ) → after_unit l ≡ Some r → length r < length l
-shorter [] r e = absurd cc
-shorter (a ∷ []) r e = elim (chosen (is_one a) (Some []) None (Some r) e) [
-  | inl h ↦ omega (arith, ap length (some_is [] r h.1))
-  | inr h ↦ absurd (some_none (sym h.1))
-]
-shorter (a ∷ b ∷ []) r e = elim (chosen (is_one a) (Some (b ∷ [])) (cond (is_two a b) (Some []) None) (Some r) e) [
-  | inl h ↦ omega (arith, ap length (some_is (b ∷ []) r h.1))
-  | inr h ↦ elim (chosen (is_two a b) (Some []) None (Some r) h.1) [
-    | inl k ↦ omega (arith, ap length (some_is [] r k.1))
-    | inr k ↦ absurd (some_none (sym k.1))
-  ]
-]
-shorter (a ∷ b ∷ c ∷ l) r e = elim (chosen (is_one a) (Some (b ∷ c ∷ l)) (cond (is_two a b) (Some (c ∷ l)) (cond (is_three a b c) (Some l) None)) (Some r) e) [
-  | inl h ↦ omega (arith, ap length (some_is (b ∷ c ∷ l) r h.1))
-  | inr h ↦ elim (chosen (is_two a b) (Some (c ∷ l)) (cond (is_three a b c) (Some l) None) (Some r) h.1) [
-    | inl k ↦ omega (arith, ap length (some_is (c ∷ l) r k.1))
-    | inr k ↦ elim (chosen (is_three a b c) (Some l) None (Some r) k.1) [
-      | inl t ↦ omega (arith, ap length (some_is l r t.1))
-      | inr t ↦ absurd (some_none (sym t.1))
-    ]
-  ]
-]
-
 abbrev Decided : Type 0 → Type 0
 Decided P = P ⊎ (P → ⊥)
 
-no_more_units : (whole rest : List ℕ) → SameVerdict whole rest → after_unit rest ≡ None → Decided (IsModified whole)
-no_more_units whole [] same none = inl (same.back (nothing_is_modified [] refl))
-no_more_units whole (x ∷ rest) same none = inr (λ m. not_nil (nothing_left (x ∷ rest) none (same.to m)))
-  where
-    not_nil : x ∷ rest ≡ [] → ⊥
-    not_nil e = cc
+-- ---- names, new ids, and the header
 
-units_decided : (fuel : ℕ) (whole rest : List ℕ) → SameVerdict whole rest → length rest ≤ fuel → Decided (IsModified whole)
-units_decided zero whole rest same short = no_more_units whole rest same (none rest short)
+by_test : {P : Type 0} (test : Bool) → Decides test P → Decided P
+by_test true decides = inl (decides.to refl)
+by_test false decides = inr (λ holds. true_false (decides.back holds))
   where
-    none : (l : List ℕ) → length l ≤ 0 → after_unit l ≡ None
-    none [] short = refl
-    none (x ∷ l) short = absurd (omega (arith, short))
-units_decided (suc fuel) whole rest same short = by (after_unit rest) refl (λ r next lt. units_decided fuel whole r next lt)
-  where
-    by : (o : Option (List ℕ)) → after_unit rest ≡ o → ((r : List ℕ) → SameVerdict whole r → length r ≤ fuel → Decided (IsModified whole)) → Decided (IsModified whole)
-    by (Some r) is next = next r (next_unit whole rest r same (sym is)) (omega (arith, shorter rest r is, short))
-    by None is next = no_more_units whole rest same is
+    true_false : false ≡ true → ⊥
+    true_false e = cc
 
-modified_decided : (bytes : List ℕ) → Decided (IsModified bytes)
-modified_decided bytes = units_decided (length bytes) bytes bytes (same_start bytes) (omega arith)
-
--- ---- new ids, and the header
+modified_or_not : (bytes : List ℕ) → Decided (IsModified bytes)
+modified_or_not bytes = by_test (is_modified_text bytes) (modified_decided bytes)
 
 new_decided : (id : ℕ) (cs : List ClassHits) → Decided (IsNew id cs)
 new_decided id [] = inl tt
@@ -111,7 +74,7 @@ decided_from (suc fuel) before text taken (x ∷ body) cs parts plain short =
     by : (o : Option (ClassHits × List ℕ)) → class_at (x ∷ body) ≡ o
         → ((more rest : List ℕ) (ds : List ClassHits) → text ≡ more ++ rest → IsPlain before more ds → length rest ≤ fuel → PlainOrUnfit before text) → PlainOrUnfit before text
     by None is next = unfit_here before text taken (x ∷ body) cs parts plain (not_nil x body) (λ c front rest split block new. some_none (sym (class_again front rest c block) ∙ ap class_at (sym split) ∙ is))
-    by (Some (c, rest)) is next = elim (modified_decided c.name) [
+    by (Some (c, rest)) is next = elim (modified_or_not c.name) [
       | inl text_is ↦ elim (new_decided c.id (before ++ cs)) [
         | inl new ↦
             let t = class_takes (x ∷ body) (c, rest) is in

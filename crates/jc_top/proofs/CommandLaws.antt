@@ -1,5 +1,5 @@
 -- The command that the words call, by their parts and by tests.
-use Rattle.std.proofs.Common.{◌≡◌, ◌≢◌, ◌⊎◌, inl, inr, Bool, true, false, cond, not, ◌&&◌, List, [], ◌∷◌, ◌++◌, Option, None, Some, option_map, length, nat_eq, arith, codes, String, true≢false, refl, sym, ◌∙◌, ap, ap₂, subst, append_assoc}
+use Rattle.std.proofs.Common.{◌≡◌, ◌≢◌, ◌⊎◌, inl, inr, ℕ, Bool, true, false, cond, not, ◌&&◌, List, [], ◌∷◌, ◌++◌, Option, None, Some, option_map, length, nat_eq, arith, codes, String, true≢false, refl, sym, ◌∙◌, ap, ap₂, subst, append_assoc}
 use Rattle.std.proofs.lemmas.List.{append-nil}
 use Rattle.std.specs.List.{flat_map}
 use Rattle.std.specs.Str.{bytes_eq}
@@ -7,7 +7,7 @@ use Rattle.std.proofs.lemmas.Slice.Eq.{bytes_eq-Decides}
 use Rattle.jc_base.proofs.DecoderLaws.{chosen, guard_some, some_is}
 use Rattle.std.specs.declared.alloc.Global.{Global}
 use Rattle.jc_top.specs.Words.{Word, words_of, Use, use_words, Call, call_words, Scan, with_use, scan, is_value, is_option}
-use Rattle.jc_top.specs.Command.{Command, merge, merge_one, IsCallOf, Means, NoForm, decide, decide_merge, decide_scan, command_of, destfile}
+use Rattle.jc_top.specs.Command.{Command, merge, merge_call, merge_one, IsCallOf, Means, NoForm, decide, decide_merge, decide_scan, command_of, destfile}
 
 -- ---- a scan spells the words
 

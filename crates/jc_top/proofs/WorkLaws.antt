@@ -1,5 +1,5 @@
 -- The work of words over told contents is one.
-use Rattle.std.proofs.Common.{◌≡◌, ◌⊎◌, inl, inr, ⊎_elim, ℕ, ◌≤◌, List, [], ◌∷◌, ◌++◌, length, Option, None, Some, refl, sym, ◌∙◌, ap, ap₂, subst, arith}
+use Rattle.std.proofs.Common.{◌≡◌, ◌≢◌, ◌⊎◌, inl, inr, ⊎_elim, ℕ, ◌<◌, ◌≤◌, List, [], ◌∷◌, ◌++◌, length, Option, None, Some, refl, sym, ◌∙◌, ap, ap₂, subst, arith}
 use Rattle.std.specs.FinMap.{get}
 use Rattle.jc_base.proofs.DecoderLaws.{some_is, some_none}
 use Rattle.jc_base.specs.Outside.{FileMap, IsLong, most_read}
@@ -8,7 +8,7 @@ use Rattle.jc_exec.specs.declared.refusal.ExecRefusal.TheVariants.{LaterForm}
 use Rattle.jc_exec.specs.Plain.{IsPlain, IsFirstUnfit}
 use Rattle.jc_exec.specs.Writing.{exec_text}
 use Rattle.jc_exec.proofs.PlainLaws.{one_reading, one_place, plain_or_unfit_not_both}
-use Rattle.jc_exec.proofs.DecidedLaws.{plain_or_unfit}
+use Rattle.jc_exec.proofs.DecisionLaws.{plain_or_unfit}
 use Rattle.std.proofs.lemmas.Bool.{cases_lt}
 use Rattle.jc_top.specs.declared.status.Status.{Status}
 use Rattle.jc_top.specs.declared.status.Status.TheVariants as status
@@ -16,7 +16,7 @@ use Rattle.jc_top.specs.declared.status.Fault.TheVariants as fault
 use Rattle.jc_top.specs.Words.{Word}
 use Rattle.jc_top.specs.Command.{Command, merge, inputs_of, Means, NoForm}
 use Rattle.jc_top.specs.Texts.{usage_text, cannot_read}
-use Rattle.jc_top.specs.World.{to_file, to_err}
+use Rattle.jc_top.specs.World.{Write, to_file, to_err}
 use Rattle.jc_top.specs.Work.{Holds, CantRead, AreRead, StopsAt, Answer, Answers, merge_refused, merged, refusing, Work, IsWork, usage, unreadable, answered, WorkEnds}
 use Rattle.jc_top.proofs.CommandLaws.{one_command, command_or_none}
 

@@ -1,5 +1,5 @@
 -- The commands, and the words that each is called by.
-use Rattle.std.specs.Prelude.{◌≡◌, ◌≢◌, not, ◌&&◌, IsTrue, List, [], ◌∷◌, codes, Option, Some, None, if◌then◌else◌}
+use Rattle.std.specs.Prelude.{◌≡◌, ◌≢◌, ℕ, Bool, not, ◌&&◌, IsTrue, List, [], ◌∷◌, codes, Option, Some, None, if◌then◌else◌}
 use Rattle.std.specs.Str.{bytes_eq}
 use Rattle.jc_top.specs.Words.{Word, Use, Call, Scan, call_words, is_value, scan}
 

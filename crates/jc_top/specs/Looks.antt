@@ -1,5 +1,5 @@
 -- What a clause sees of words that were cut, and of a command.
-use Rattle.std.specs.Prelude.{◌≡◌, ◌<◌, List, [], length, map, String, Some, None}
+use Rattle.std.specs.Prelude.{◌≡◌, ◌<◌, List, [], ◌∷◌, length, map, String, Some, None}
 use Rattle.std.specs.declared.alloc.Global.{Global}
 use Rattle.jc_top.specs.declared.words.Use.{Use as Used}
 use Rattle.jc_top.specs.declared.words.Scanned.{Scanned}

@@ -1,5 +1,5 @@
 -- The work of a command: what it reads and writes, and how it ends, where the files are told.
-use Rattle.std.specs.Prelude.{◌≡◌, ◌⊎◌, ◌≤◌, ⊤, ℕ, List, [], ◌∷◌, ◌++◌, length, Some, None}
+use Rattle.std.specs.Prelude.{◌≡◌, ◌⊎◌, ◌≤◌, ⊤, ℕ, List, [], ◌∷◌, ◌++◌, length, Option, Some, None}
 use Rattle.std.specs.FinMap.{get}
 use Rattle.jc_base.specs.Outside.{FileMap, IsLong, WhereTold, most_read}
 use Rattle.jc_exec.specs.declared.hits.ClassHits.{ClassHits}
@@ -13,7 +13,7 @@ use Rattle.jc_top.specs.declared.status.Fault.TheVariants as fault
 use Rattle.jc_top.specs.Words.{Word}
 use Rattle.jc_top.specs.Command.{Command, merge, inputs_of, Means, NoForm}
 use Rattle.jc_top.specs.Texts.{usage_text, cannot_read, fault_text}
-use Rattle.jc_top.specs.World.{World, Write, to_file, to_err, Landed, after}
+use Rattle.jc_top.specs.World.{World, Write, to_file, to_out, to_err, Landed, after}
 
 -- ---- reading
 

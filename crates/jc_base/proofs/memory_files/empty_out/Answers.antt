@@ -1,4 +1,4 @@
-use Rattle.std.proofs.Common.{rules, sym, ◌∙◌, ap}
+use Rattle.std.proofs.Common.{rules, ◌∙◌, ap}
 use Rattle.jc_base.specs.InMemory.{held}
 use Rattle.jc_base.proofs.HeldLaws.{held_emptied, held_lacks}
 use Rattle.jc_base.proofs.memory_files.empty_out.Goals as goal

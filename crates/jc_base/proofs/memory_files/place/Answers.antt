@@ -1,4 +1,4 @@
-use Rattle.std.proofs.Common.{sym, ◌∙◌, ap, ap₂, string_bytes}
+use Rattle.std.proofs.Common.{◌∙◌, ap₂, string_bytes}
 use Rattle.std.specs.FinMap.{insert}
 use Rattle.jc_base.specs.InMemory.{held}
 use Rattle.jc_base.proofs.HeldLaws.{held_updated}

@@ -1,4 +1,4 @@
-use Rattle.std.proofs.Common.{option_map, string_bytes, sym, ◌∙◌, ap}
+use Rattle.std.proofs.Common.{◌≡◌, Some, option_map, string_bytes, sym, ◌∙◌, ap, subst}
 use Rattle.jc_top.specs.Words.{Word, words_of}
 use Rattle.jc_top.specs.Command.{decide}
 use Rattle.jc_top.specs.Looks.{scan_of}

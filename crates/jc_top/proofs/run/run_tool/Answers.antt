@@ -1,7 +1,7 @@
-use Rattle.std.proofs.Common.{refl, ap}
+use Rattle.std.proofs.Common.{◌≡◌, Option, List, ℕ, refl, sym, ◌∙◌, ap, subst}
 use Rattle.jc_top.specs.Words.{words_of}
 use Rattle.jc_top.specs.Looks.{command_seen}
-use Rattle.jc_top.specs.Outcome.{Faults}
+use Rattle.jc_top.specs.Outcome.{CommandRead, Faults}
 use Rattle.jc_top.proofs.RunLaws.{no_form_work, usage_not_refused, usage_not_unreadable, done_work, refuses_done, unreadable_done, stop_work, refused, refuses, unreadable_comes, read_cause, write_cause, breaks_off, stop_keeps}
 use Rattle.jc_top.proofs.run.run_tool.Goals as goal
 

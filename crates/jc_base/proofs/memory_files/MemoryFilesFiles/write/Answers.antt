@@ -1,5 +1,5 @@
 use Rattle.std.proofs.Common.{refl, subst}
-use Rattle.jc_base.specs.Outside.{FileMap, LeavesPart}
+use Rattle.jc_base.specs.Outside.{LeavesPart}
 use Rattle.jc_base.specs.InMemory.{MemoryState, held}
 use Rattle.jc_base.proofs.HeldLaws.{write_failed}
 use Rattle.jc_base.proofs.memory_files.MemoryFilesFiles.write.Goals as goal
