@@ -1,11 +1,11 @@
 -- A class file is read exactly where the form spells one, and fails exactly where the form fails.
-use Rattle.std.proofs.Common.{◌≡◌, ◌⊎◌, inl, inr, ⊎_elim, ℕ, Bool, true, false, cond, ◌||◌, nat_eq, List, [], ◌∷◌, ◌++◌, length, take, Option, Some, None, is_some, Result, Ok, Err, IfOk, IfErr, MatchResult, refl, sym, ◌∙◌, ap, subst, arith}
-use Rattle.std.proofs.lemmas.Bool.{eqb-true, eqb-false, eq-eqb}
+use Rattle.std.proofs.Common.{◌≡◌, ◌⊎◌, inl, inr, ⊎_elim, ℕ, Bool, true, false, cond, ◌||◌, nat_eq, List, [], ◌++◌, length, take, Option, Some, None, is_some, Result, Ok, Err, IfOk, IfErr, MatchResult, refl, sym, ◌∙◌, ap, subst, arith}
+use Rattle.std.proofs.lemmas.Bool.{eqb-true, eqb-false}
 use Rattle.std.proofs.lemmas.List.{take_at, append-nil}
 use Rattle.jc_base.specs.Decoder.{IsBig, first, number_at}
 use Rattle.jc_base.specs.Deciding.{is_modified_text, is_field_text, is_method_text}
-use Rattle.jc_base.specs.Grammar.{Grammar, nothing, one, followed_by, times, WholeFails}
-use Rattle.jc_base.specs.Parsing.{Parsed, Good, Bad, ◌>>=◌, item, times_at}
+use Rattle.jc_base.specs.Grammar.{Grammar, times, WholeFails}
+use Rattle.jc_base.specs.Parsing.{Parsed, Good, ◌>>=◌, item, times_at}
 use Rattle.jc_base.proofs.DecoderLaws.{bind_some, guard_some, some_is, number_takes, number_again, first_takes, first_again}
 use Rattle.jc_base.proofs.DecidingLaws.{Decides, modified_decided, field_text_decided, method_text_decided}
 use Rattle.jc_base.proofs.GrammarLaws.{Agrees, agrees_nothing, agrees_item, agrees_followed, agrees_times, good_is, good_bad, never_both, one_failure}
@@ -15,11 +15,7 @@ use Rattle.jc_base.specs.declared.refusal.Refusal.{Refusal}
 use Rattle.jc_base.specs.declared.refusal.RefusalKind.TheVariants as kinds
 use Rattle.jc_pool.specs.Lookup.{utf8_of, class_name_of}
 use Rattle.jc_pool.specs.Pool.{PoolValue}
-use Rattle.jc_pool.specs.PoolGrammar as pools
-use Rattle.jc_pool.specs.PoolReading.{pool_at}
 use Rattle.jc_pool.proofs.PoolLaws.{pool_agrees}
-use Rattle.jc_class.specs.declared.class_file.Attribute.{Attribute}
-use Rattle.jc_class.specs.declared.class_file.Member.{Member}
 use Rattle.jc_class.specs.declared.class_file.ClassFile.{ClassFile}
 use Rattle.jc_class.specs.declared.item.Named.{Named}
 use Rattle.jc_class.specs.declared.item.Named.TheVariants as named
@@ -132,9 +128,9 @@ agrees_attribute : (pool : PoolValue) → Agrees (attribute (HasText pool)) (att
 unfolding attribute_at
 agrees_attribute pool =
     agrees_followed _ _ _ _ (agrees_named pool named.Text) (λ name.
-      agrees_followed _ _ _ _ (agrees_number 4) (λ size.
-        agrees_followed _ _ _ _ (agrees_piece size) (λ body.
-          agrees_nothing (record { name = name; body = body }))))
+    agrees_followed _ _ _ _ (agrees_number 4) (λ size.
+    agrees_followed _ _ _ _ (agrees_piece size) (λ body.
+    agrees_nothing (record { name = name; body = body }))))
 
 agrees_attributes : (pool : PoolValue) → Agrees (counted (attribute (HasText pool))) (attributes_at pool)
 unfolding attributes_at
@@ -144,10 +140,10 @@ agrees_member : (pool : PoolValue) (what : Named) → Agrees (member (HasText po
 unfolding member_at
 agrees_member pool what =
     agrees_followed _ _ _ _ (agrees_number 2) (λ flags.
-      agrees_followed _ _ _ _ (agrees_named pool named.Text) (λ name.
-        agrees_followed _ _ _ _ (agrees_named pool what) (λ desc.
-          agrees_followed _ _ _ _ (agrees_attributes pool) (λ attributes.
-            agrees_nothing (record { flags = flags; name = name; desc = desc; attributes = attributes })))))
+    agrees_followed _ _ _ _ (agrees_named pool named.Text) (λ name.
+    agrees_followed _ _ _ _ (agrees_named pool what) (λ desc.
+    agrees_followed _ _ _ _ (agrees_attributes pool) (λ attributes.
+    agrees_nothing (record { flags = flags; name = name; desc = desc; attributes = attributes })))))
 
 agrees_members : (pool : PoolValue) (what : Named) → Agrees (counted (member (HasText pool) (Names pool what))) (members_at pool what)
 unfolding members_at
@@ -158,20 +154,20 @@ unfolding interfaces_at
 agrees_interfaces pool = agrees_counted (number_where (HasClass pool)) (named_at pool named.Class) (agrees_named pool named.Class)
 
 pub class_agrees : Agrees class_file class_at
-unfolding class_at
+unfolding class_at class_file
 class_agrees =
     agrees_followed _ _ _ _ agrees_magic (λ _.
-      agrees_followed _ _ _ _ (agrees_number 2) (λ minor.
-        agrees_followed _ _ _ _ (agrees_number 2) (λ major.
-          agrees_followed _ _ _ _ pool_agrees (λ pool.
-            agrees_followed _ _ _ _ (agrees_number 2) (λ flags.
-              agrees_followed _ _ _ _ (agrees_named pool named.Class) (λ this_class.
-                agrees_followed _ _ _ _ (agrees_named pool named.ClassOrNone) (λ super_class.
-                  agrees_followed _ _ _ _ (agrees_interfaces pool) (λ interfaces.
-                    agrees_followed _ _ _ _ (agrees_members pool named.FieldDescriptor) (λ fields.
-                      agrees_followed _ _ _ _ (agrees_members pool named.MethodDescriptor) (λ methods.
-                        agrees_followed _ _ _ _ (agrees_attributes pool) (λ attributes.
-                          agrees_nothing (record { minor = minor; major = major; pool = pool; flags = flags; this_class = this_class; super_class = super_class; interfaces = interfaces; fields = fields; methods = methods; attributes = attributes }))))))))))))
+    agrees_followed _ _ _ _ (agrees_number 2) (λ minor.
+    agrees_followed _ _ _ _ (agrees_number 2) (λ major.
+    agrees_followed _ _ _ _ pool_agrees (λ pool.
+    agrees_followed _ _ _ _ (agrees_number 2) (λ flags.
+    agrees_followed _ _ _ _ (agrees_named pool named.Class) (λ this_class.
+    agrees_followed _ _ _ _ (agrees_named pool named.ClassOrNone) (λ super_class.
+    agrees_followed _ _ _ _ (agrees_interfaces pool) (λ interfaces.
+    agrees_followed _ _ _ _ (agrees_members pool named.FieldDescriptor) (λ fields.
+    agrees_followed _ _ _ _ (agrees_members pool named.MethodDescriptor) (λ methods.
+    agrees_followed _ _ _ _ (agrees_attributes pool) (λ attributes.
+    agrees_nothing (record { minor = minor; major = major; pool = pool; flags = flags; this_class = this_class; super_class = super_class; interfaces = interfaces; fields = fields; methods = methods; attributes = attributes }))))))))))))
 
 -- ---- whole files
 

@@ -1,5 +1,5 @@
 -- What is left at a failing item is no longer than all the bytes.
-use Rattle.std.proofs.Common.{◌≡◌, ◌⊎◌, inl, inr, ℕ, zero, suc, ◌-◌, ◌+◌, ◌≤◌, Bool, true, false, List, [], ◌∷◌, ◌++◌, length, Option, Some, None, refl, sym, ◌∙◌, ap, arith, length-append}
+use Rattle.std.proofs.Common.{◌≡◌, ◌⊎◌, inl, inr, ℕ, zero, suc, ◌-◌, ◌≤◌, Bool, true, false, List, [], ◌∷◌, ◌++◌, length, Option, Some, None, ap, arith, length-append}
 use Rattle.jc_base.specs.Grammar.{Grammar, nothing, one, followed_by, times, WholeFails}
 use Rattle.jc_base.proofs.GrammarLaws.{whole_or_fails, never_both, one_value, one_failure}
 use Rattle.jc_pool.specs.declared.entry.Entry.{Entry}
@@ -7,7 +7,7 @@ use Rattle.jc_pool.specs.Pool.{is_wide}
 use Rattle.jc_pool.specs.EntryFormat.{IsEntry}
 use Rattle.jc_pool.specs.PoolGrammar.{IsCount, IsNarrow, behind, by_size, places, pool}
 use Rattle.jc_class.specs.declared.class_file.ClassFile.{ClassFile}
-use Rattle.jc_class.specs.ClassFormat.{magic, number, number_where, piece, counted, attribute, member, class_file}
+use Rattle.jc_class.specs.ClassFormat.{number, counted, attribute, member, class_file}
 use Rattle.jc_class.specs.ClassReading.{class_at}
 use Rattle.jc_class.specs.ClassText.{ClassText, FirstBad}
 use Rattle.jc_class.proofs.ClassLaws.{class_agrees}
@@ -32,7 +32,7 @@ inside_times : {X : Type 0} (n : ℕ) (g : Grammar X) → FailsInside g → Fail
 inside_times zero g first = inside_nothing []
 inside_times {X} (suc n) g first =
     inside_followed g (λ x. followed_by (times n g) (λ xs. nothing (x ∷ xs))) first
-      (λ x. inside_followed (times n g) (λ xs. nothing (x ∷ xs)) (inside_times n g first) (λ xs. inside_nothing (x ∷ xs)))
+    (λ x. inside_followed (times n g) (λ xs. nothing (x ∷ xs)) (inside_times n g first) (λ xs. inside_nothing (x ∷ xs)))
 
 inside_counted : {X : Type 0} (g : Grammar X) → FailsInside g → FailsInside (counted g)
 inside_counted g first = inside_followed (number 2) (λ n. times n g) (inside_one _) (λ n. inside_times n g first)
@@ -51,8 +51,8 @@ inside_places zero = inside_nothing []
 inside_places (suc zero) = inside_followed (one IsNarrow) (λ e. nothing (Some e ∷ [])) (inside_one IsNarrow) (λ e. inside_nothing (Some e ∷ []))
 inside_places (suc (suc n)) =
     inside_followed (one IsEntry) (λ e. by_size (is_wide e) (behind (Some e ∷ None ∷ []) (places n)) (behind (Some e ∷ []) (places (suc n)))) (inside_one IsEntry)
-      (λ e. inside_by_size (is_wide e) (behind (Some e ∷ None ∷ []) (places n)) (behind (Some e ∷ []) (places (suc n)))
-        (inside_behind (Some e ∷ None ∷ []) (places n) (inside_places n)) (inside_behind (Some e ∷ []) (places (suc n)) (inside_places (suc n))))
+    (λ e. inside_by_size (is_wide e) (behind (Some e ∷ None ∷ []) (places n)) (behind (Some e ∷ []) (places (suc n)))
+    (inside_behind (Some e ∷ None ∷ []) (places n) (inside_places n)) (inside_behind (Some e ∷ []) (places (suc n)) (inside_places (suc n))))
 
 inside_pool : FailsInside pool
 inside_pool = inside_followed (one IsCount) (λ n. behind (None ∷ []) (places (n - 1))) (inside_one IsCount) (λ n. inside_behind (None ∷ []) (places (n - 1)) (inside_places (n - 1)))
@@ -62,32 +62,33 @@ inside_pool = inside_followed (one IsCount) (λ n. behind (None ∷ []) (places 
 inside_attribute : (HasName : ℕ → Type 0) → FailsInside (attribute HasName)
 inside_attribute HasName =
     inside_followed _ _ (inside_one _) (λ name.
-      inside_followed _ _ (inside_one _) (λ size.
-        inside_followed _ _ (inside_one _) (λ body.
-          inside_nothing (record { name = name; body = body }))))
+    inside_followed _ _ (inside_one _) (λ size.
+    inside_followed _ _ (inside_one _) (λ body.
+    inside_nothing (record { name = name; body = body }))))
 
 inside_member : (HasName HasDescriptor : ℕ → Type 0) → FailsInside (member HasName HasDescriptor)
 inside_member HasName HasDescriptor =
     inside_followed _ _ (inside_one _) (λ flags.
-      inside_followed _ _ (inside_one _) (λ name.
-        inside_followed _ _ (inside_one _) (λ desc.
-          inside_followed _ _ (inside_counted (attribute HasName) (inside_attribute HasName)) (λ attributes.
-            inside_nothing (record { flags = flags; name = name; desc = desc; attributes = attributes })))))
+    inside_followed _ _ (inside_one _) (λ name.
+    inside_followed _ _ (inside_one _) (λ desc.
+    inside_followed _ _ (inside_counted (attribute HasName) (inside_attribute HasName)) (λ attributes.
+    inside_nothing (record { flags = flags; name = name; desc = desc; attributes = attributes })))))
 
 inside_class : FailsInside class_file
+unfolding class_file
 inside_class =
     inside_followed _ _ (inside_one _) (λ _.
-      inside_followed _ _ (inside_one _) (λ minor.
-        inside_followed _ _ (inside_one _) (λ major.
-          inside_followed _ _ inside_pool (λ pool.
-            inside_followed _ _ (inside_one _) (λ flags.
-              inside_followed _ _ (inside_one _) (λ this_class.
-                inside_followed _ _ (inside_one _) (λ super_class.
-                  inside_followed _ _ (inside_counted _ (inside_one _)) (λ interfaces.
-                    inside_followed _ _ (inside_counted _ (inside_member _ _)) (λ fields.
-                      inside_followed _ _ (inside_counted _ (inside_member _ _)) (λ methods.
-                        inside_followed _ _ (inside_counted _ (inside_attribute _)) (λ attributes.
-                          inside_nothing (record { minor = minor; major = major; pool = pool; flags = flags; this_class = this_class; super_class = super_class; interfaces = interfaces; fields = fields; methods = methods; attributes = attributes }))))))))))))
+    inside_followed _ _ (inside_one _) (λ minor.
+    inside_followed _ _ (inside_one _) (λ major.
+    inside_followed _ _ inside_pool (λ pool.
+    inside_followed _ _ (inside_one _) (λ flags.
+    inside_followed _ _ (inside_one _) (λ this_class.
+    inside_followed _ _ (inside_one _) (λ super_class.
+    inside_followed _ _ (inside_counted _ (inside_one _)) (λ interfaces.
+    inside_followed _ _ (inside_counted _ (inside_member _ _)) (λ fields.
+    inside_followed _ _ (inside_counted _ (inside_member _ _)) (λ methods.
+    inside_followed _ _ (inside_counted _ (inside_attribute _)) (λ attributes.
+    inside_nothing (record { minor = minor; major = major; pool = pool; flags = flags; this_class = this_class; super_class = super_class; interfaces = interfaces; fields = fields; methods = methods; attributes = attributes }))))))))))))
 
 inside_whole : (bytes left : List ℕ) → WholeFails class_file bytes left → length left ≤ length bytes
 inside_whole bytes left (inl stop) = inside_class.inside bytes left stop

@@ -6,3 +6,4 @@ pub mod WritingLaws
 pub mod NamedLaws
 pub mod OneClassLaws
 pub mod FirstBadLaws
+pub mod WholeLaws

@@ -1,9 +1,9 @@
 -- Reading so many items one behind the other, in a loop.
-use Rattle.std.proofs.Common.{◌≡◌, ℕ, zero, suc, ◌+◌, ◌-◌, ◌<◌, ◌≤◌, List, [], ◌∷◌, ◌++◌, length, Result, Ok, Err, refl, sym, ◌∙◌, ap, arith, append_assoc}
+use Rattle.std.proofs.Common.{◌≡◌, ℕ, suc, ◌+◌, ◌-◌, ◌<◌, ◌≤◌, List, [], ◌∷◌, ◌++◌, Err, refl, sym, ◌∙◌, ap, arith, append_assoc}
 use Rattle.std.proofs.lemmas.List.{append-nil}
 use Rattle.jc_base.specs.Reader.{Reading}
 use Rattle.jc_base.specs.Decoder.{SameEnd}
-use Rattle.jc_base.specs.Parsing.{Parsed, Good, Bad, ◌>>=◌, times_at, Parses, RefusedAt}
+use Rattle.jc_base.specs.Parsing.{Parsed, Good, Bad, ◌>>=◌, times_at, Parses}
 use Rattle.jc_base.specs.declared.fail.Fail.{Fail}
 use Rattle.jc_base.specs.declared.fail.Fail.TheVariants as fails
 use Rattle.jc_base.specs.declared.refusal.Refusal.{Refusal}

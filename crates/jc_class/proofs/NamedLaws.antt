@@ -1,5 +1,5 @@
 -- What is written names what it has to name.
-use Rattle.std.proofs.Common.{◌≡◌, ℕ, zero, suc, List, [], ◌∷◌, ◌++◌, length, refl, sym, ◌∙◌, ap, subst, append_assoc}
+use Rattle.std.proofs.Common.{◌≡◌, ℕ, zero, suc, List, [], ◌∷◌, ◌++◌, refl, sym, ◌∙◌, ap, subst, append_assoc}
 use Rattle.std.proofs.lemmas.List.{append-nil}
 use Rattle.jc_base.specs.Decoder.{IsBig}
 use Rattle.jc_pool.specs.PoolGrammar as pools
@@ -7,11 +7,11 @@ use Rattle.jc_class.specs.declared.class_file.ClassFile.{ClassFile}
 use Rattle.jc_class.specs.ClassText.{ClassText}
 use Rattle.std.specs.List.{AllByRecursion}
 use Rattle.jc_base.specs.Appending.{Appends}
-use Rattle.jc_base.specs.Grammar.{Grammar, nothing, followed_by, times}
+use Rattle.jc_base.specs.Grammar.{Grammar, times}
 use Rattle.jc_base.proofs.AppendingLaws.{Appended}
 use Rattle.jc_class.specs.declared.class_file.Attribute.{Attribute}
 use Rattle.jc_class.specs.declared.class_file.Member.{Member}
-use Rattle.jc_class.specs.ClassFormat.{number, number_where, counted, attribute, member, HasText, HasClass, HasFieldDescriptor, HasMethodDescriptor}
+use Rattle.jc_class.specs.ClassFormat.{number_where, counted, attribute, member, class_file, HasText, HasClass, HasFieldDescriptor, HasMethodDescriptor}
 use Rattle.jc_class.specs.Writable.{Anything, AreCounted, IsAttribute, IsMember, IsClassFile}
 
 -- ---- each part can be written, whatever it names
@@ -53,14 +53,36 @@ member_named HasName HasDescriptor text m is t =
     let name = t.5 in
     let desc = name.5 in
     let attributes = desc.5 in
-    let whole = attributes.5.1 in
-    (t.0, t.1, t.2, t.3, t.4,
-      (name.0, name.1, name.2, name.3, (name.4.0, subst HasName (ap (λ (k : Member). k.name) whole) is.name),
-        (desc.0, desc.1, desc.2, desc.3, (desc.4.0, subst HasDescriptor (ap (λ (k : Member). k.desc) whole) is.desc),
-          (attributes.0, attributes.1, attributes.2, attributes.3,
+    let whole = attributes.5.1 in (
+      t.0,
+      t.1,
+      t.2,
+      t.3,
+      t.4,
+      (
+        name.0,
+        name.1,
+        name.2,
+        name.3,
+        (name.4.0, subst HasName (ap (λ (k : Member). k.name) whole) is.name),
+        (
+          desc.0,
+          desc.1,
+          desc.2,
+          desc.3,
+          (desc.4.0, subst HasDescriptor (ap (λ (k : Member). k.desc) whole) is.desc),
+          (
+            attributes.0,
+            attributes.1,
+            attributes.2,
+            attributes.3,
             counted_named (attribute Anything) (attribute HasName) (IsAttribute HasName) (attribute_named HasName) attributes.1 attributes.0
-              (subst (AllByRecursion (IsAttribute HasName)) (ap (λ (k : Member). k.attributes) whole) is.attributes.each) attributes.4,
-            attributes.5))))
+                (subst (AllByRecursion (IsAttribute HasName)) (ap (λ (k : Member). k.attributes) whole) is.attributes.each) attributes.4,
+            attributes.5,
+          ),
+        ),
+      ),
+    )
 
 pub interfaces_named : (Fact : ℕ → Type 0) (text : List ℕ) (xs : List ℕ) → AreCounted Fact xs → (counted (number_where Anything)).Text text xs → (counted (number_where Fact)).Text text xs
 interfaces_named Fact text xs is t = counted_named (number_where Anything) (number_where Fact) Fact (interface_named Fact) text xs is.each t
@@ -92,6 +114,7 @@ module _ (c : ClassFile) (is : IsClassFile c) where
       → Appended (counted (member Anything Anything)) c.methods s9 s10
       → Appended (counted (attribute Anything)) c.attributes s10 new
       → Appends (λ text. ClassText text c) old new
+  unfolding class_file
   class_put old s1 s2 s3 s4 s5 s6 s7 s8 s9 s10 new magic minor major pool flags this_class super_class interfaces fields methods attributes =
       let t10 = attributes.text ++ [] in
       let t9 = methods.text ++ t10 in
@@ -116,16 +139,82 @@ module _ (c : ClassFile) (is : IsClassFile c) where
       record {
         text = magic.text ++ t1;
         parts = joined old s1 new magic.text t1 magic.parts p1;
-        spells = (tt, magic.text, t1, refl, magic.spells,
-          (c.minor, minor.text, t2, refl, minor.spells,
-          (c.major, major.text, t3, refl, major.spells,
-          (c.pool, pool.text, t4, refl, pool.spells,
-          (c.flags, flags.text, t5, refl, flags.spells,
-          (c.this_class, this_class.text, t6, refl, (this_class.spells, is.this_class),
-          (c.super_class, super_class.text, t7, refl, (super_class.spells, is.super_class),
-          (c.interfaces, interfaces.text, t8, refl, interfaces_named (HasClass c.pool) interfaces.text c.interfaces is.interfaces interfaces.spells,
-          (c.fields, fields.text, t9, refl, members_named (HasText c.pool) (HasFieldDescriptor c.pool) fields.text c.fields is.fields fields.spells,
-          (c.methods, methods.text, t10, refl, members_named (HasText c.pool) (HasMethodDescriptor c.pool) methods.text c.methods is.methods methods.spells,
-          (c.attributes, attributes.text, [], refl, attributes_named (HasText c.pool) attributes.text c.attributes is.attributes attributes.spells,
-          (refl, refl))))))))))));
+        spells = (
+          tt,
+          magic.text,
+          t1,
+          refl,
+          magic.spells,
+          (
+            c.minor,
+            minor.text,
+            t2,
+            refl,
+            minor.spells,
+            (
+              c.major,
+              major.text,
+              t3,
+              refl,
+              major.spells,
+              (
+                c.pool,
+                pool.text,
+                t4,
+                refl,
+                pool.spells,
+                (
+                  c.flags,
+                  flags.text,
+                  t5,
+                  refl,
+                  flags.spells,
+                  (
+                    c.this_class,
+                    this_class.text,
+                    t6,
+                    refl,
+                    (this_class.spells, is.this_class),
+                    (
+                      c.super_class,
+                      super_class.text,
+                      t7,
+                      refl,
+                      (super_class.spells, is.super_class),
+                      (
+                        c.interfaces,
+                        interfaces.text,
+                        t8,
+                        refl,
+                        interfaces_named (HasClass c.pool) interfaces.text c.interfaces is.interfaces interfaces.spells,
+                        (
+                          c.fields,
+                          fields.text,
+                          t9,
+                          refl,
+                          members_named (HasText c.pool) (HasFieldDescriptor c.pool) fields.text c.fields is.fields fields.spells,
+                          (
+                            c.methods,
+                            methods.text,
+                            t10,
+                            refl,
+                            members_named (HasText c.pool) (HasMethodDescriptor c.pool) methods.text c.methods is.methods methods.spells,
+                            (
+                              c.attributes,
+                              attributes.text,
+                              [],
+                              refl,
+                              attributes_named (HasText c.pool) attributes.text c.attributes is.attributes attributes.spells,
+                              (refl, refl),
+                            ),
+                          ),
+                        ),
+                      ),
+                    ),
+                  ),
+                ),
+              ),
+            ),
+          ),
+        );
       }

@@ -1,15 +1,15 @@
 -- What the writing of a class file appends.
-use Rattle.std.proofs.Common.{◌≡◌, ℕ, ◌+◌, ◌<◌, ◌≤◌, List, [], ◌∷◌, ◌++◌, length, drop, get_or, refl, sym, ◌∙◌, ap, subst, arith, append_assoc}
+use Rattle.std.proofs.Common.{◌≡◌, ℕ, ◌+◌, ◌<◌, List, [], ◌++◌, length, drop, get_or, refl, sym, ◌∙◌, ap, subst, append_assoc}
 use Rattle.std.proofs.lemmas.List.{append-nil}
 use Rattle.std.specs.List.{AllByRecursion}
 use Rattle.jc_base.specs.Appending.{Appends}
 use Rattle.jc_base.specs.Decoder.{IsBig}
-use Rattle.jc_base.specs.Grammar.{Grammar, nothing, followed_by, times}
+use Rattle.jc_base.specs.Grammar.{Grammar, times}
 use Rattle.jc_base.proofs.AppendingLaws.{Appended, Writing, drop_is, writing_begun, writes_next}
 use Rattle.jc_class.specs.declared.class_file.Attribute.{Attribute}
 use Rattle.jc_class.specs.declared.class_file.Member.{Member}
-use Rattle.jc_class.specs.ClassFormat.{number, number_where, piece, counted, attribute, member}
-use Rattle.jc_class.specs.Writable.{Anything, AreCounted, IsAttribute, IsMember, IsClassFile}
+use Rattle.jc_class.specs.ClassFormat.{number_where, counted, attribute, member}
+use Rattle.jc_class.specs.Writable.{Anything}
 
 -- one text behind another
 joined : (old mid new front rest : List ℕ) → mid ≡ old ++ front → new ≡ mid ++ rest → new ≡ old ++ (front ++ rest)
@@ -34,19 +34,49 @@ pub attribute_put : (a : Attribute) (size : ℕ) (old mid last new : List ℕ) �
 attribute_put a size old mid last new is name count body = record {
   text = name.text ++ (count.text ++ (a.body ++ []));
   parts = joined old mid new name.text (count.text ++ (a.body ++ [])) name.parts (joined mid last new count.text (a.body ++ []) count.parts (ended last new a.body body));
-  spells = (a.name, name.text, count.text ++ (a.body ++ []), refl, (name.spells, tt),
-    (length a.body, count.text, a.body ++ [], refl, subst (IsBig 4 count.text) is count.spells,
-      (a.body, a.body, [], refl, (refl, refl), (refl, refl))));
+  spells = (
+    a.name,
+    name.text,
+    count.text ++ (a.body ++ []),
+    refl,
+    (name.spells, tt),
+    (
+      length a.body,
+      count.text,
+      a.body ++ [],
+      refl,
+      subst (IsBig 4 count.text) is count.spells,
+      (a.body, a.body, [], refl, (refl, refl), (refl, refl)),
+    ),
+  );
 }
 
 pub member_put : (m : Member) (old a b c new : List ℕ) → Appends (λ text. IsBig 2 text m.flags) old a → Appends (λ text. IsBig 2 text m.name) a b → Appends (λ text. IsBig 2 text m.desc) b c → Appended (counted (attribute Anything)) m.attributes c new → Appended (member Anything Anything) m old new
 member_put m old a b c new flags name desc attributes = record {
   text = flags.text ++ (name.text ++ (desc.text ++ (attributes.text ++ [])));
   parts = joined old a new flags.text _ flags.parts (joined a b new name.text _ name.parts (joined b c new desc.text _ desc.parts (ended c new attributes.text attributes.parts)));
-  spells = (m.flags, flags.text, name.text ++ (desc.text ++ (attributes.text ++ [])), refl, flags.spells,
-    (m.name, name.text, desc.text ++ (attributes.text ++ []), refl, (name.spells, tt),
-      (m.desc, desc.text, attributes.text ++ [], refl, (desc.spells, tt),
-        (m.attributes, attributes.text, [], refl, attributes.spells, (refl, refl)))));
+  spells = (
+    m.flags,
+    flags.text,
+    name.text ++ (desc.text ++ (attributes.text ++ [])),
+    refl,
+    flags.spells,
+    (
+      m.name,
+      name.text,
+      desc.text ++ (attributes.text ++ []),
+      refl,
+      (name.spells, tt),
+      (
+        m.desc,
+        desc.text,
+        attributes.text ++ [],
+        refl,
+        (desc.spells, tt),
+        (m.attributes, attributes.text, [], refl, attributes.spells, (refl, refl)),
+      ),
+    ),
+  );
 }
 
 -- ---- loops

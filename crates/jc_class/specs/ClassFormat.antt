@@ -1,5 +1,5 @@
 -- The form of a class file, item by item (JVM Specification 4.1, 4.5 to 4.7).
-use Rattle.std.specs.Prelude.{◌≡◌, ◌⊎◌, ℕ, Some, List, [], ◌∷◌, length}
+use Rattle.std.specs.Prelude.{◌≡◌, ◌⊎◌, ℕ, Some, List, length}
 use Rattle.jc_base.specs.Decoder.{IsBig}
 use Rattle.jc_base.specs.Descriptor.{IsFieldDescriptor, IsMethodDescriptor}
 use Rattle.jc_base.specs.Grammar.{Grammar, nothing, one, followed_by, times}
@@ -82,7 +82,7 @@ member HasName HasDescriptor = do
 
 -- ---- the whole (JVM Specification 4.1)
 
-abbrev pub class_file : Grammar ClassFile
+unfoldable pub class_file : Grammar ClassFile
 class_file = do
   _ ← magic
   minor ← number 2

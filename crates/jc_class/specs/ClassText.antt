@@ -1,5 +1,5 @@
 -- Which bytes are the text of a class file, and where other bytes first fail to be one.
-use Rattle.std.specs.Prelude.{◌≡◌, ◌+◌, ℕ, None, List, length, Result, Ok, Err}
+use Rattle.std.specs.Prelude.{◌≡◌, ◌+◌, ℕ, None, List, length}
 use Rattle.jc_base.specs.Grammar.{WholeFails}
 use Rattle.jc_base.specs.declared.fail.Fail.{Fail}
 use Rattle.jc_base.specs.declared.fail.Fail.TheVariants as fails

@@ -81,10 +81,10 @@ pub fn magic_item(reader: &mut Reader<'_>) -> Result<(), Fail<Refusal>>
     ensures end { SameEnd reader.old reader.new }
     ensures later { reader.old.place ≤ reader.new.place }
 {
-    let start = reader.place();
+    let front = reader.place();
     let number = u32_item(reader)?;
     if number != MAGIC {
-        return Err(Fail::Said(not_a_class(start)));
+        return Err(Fail::Said(not_a_class(front)));
     }
     Ok(())
 }

@@ -10,11 +10,9 @@ pub fn each_text_is_read_or_refused()
     ensures apart { (bytes : List ℕ) (c : ClassFile) (place : ℕ) → ClassText bytes c → FirstBad bytes place → ⊥ }
     ensures one_class { (bytes : List ℕ) (c other : ClassFile) → ClassText bytes c → ClassText bytes other → c ≡ other }
     ensures one_place { (bytes : List ℕ) (place other : ℕ) → FirstBad bytes place → FirstBad bytes other → place ≡ other }
-{
-}
+{}
 
 /// A class file has one text, so what was read is written back byte for byte.
 pub fn each_class_has_one_text()
     ensures { (text other : List ℕ) (c : ClassFile) → AreBytes text → AreBytes other → ClassText text c → ClassText other c → text ≡ other }
-{
-}
+{}

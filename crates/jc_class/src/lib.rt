@@ -13,3 +13,6 @@ pub use id::class_id;
 pub use laws::{each_class_has_one_text, each_text_is_read_or_refused};
 pub use read::read_class;
 pub use write::write_class;
+
+#[cfg(test)]
+mod tests;

@@ -4,6 +4,7 @@ ghost use Rattle.jc_base.specs.Decoder.{SameEnd, number_at};
 ghost use Rattle.jc_base.specs.Parsing.{Parses, item, times_at};
 ghost use Rattle.jc_class.specs.ClassReading.{named_at, attribute_at, attributes_at, member_at, members_at, interfaces_at, class_at, GivesWhole};
 ghost use Rattle.jc_class.specs.ClassText.{ClassText, FirstBad, RefusedAs};
+ghost use Rattle.jc_class.specs.Writable.{IsClassFile};
 ghost use Rattle.jc_class.specs.declared.class_file.ClassFile.{ClassFile};
 
 use crate::item::{Named, magic_item, place_item};
@@ -223,6 +224,8 @@ pub fn read_class(alloc: Global, bytes: &[u8]) -> Result<ClassFile, Fail<Refusal
     // What is read is the class file that the bytes spell, and other bytes are refused where they first fail.
     ensures read { IfOk result (ClassText bytes.now) }
     ensures refused { IfErr result (λ e. RefusedAs e (FirstBad bytes.now)) }
+    // What is read can be written.
+    ensures whole { IfOk result IsClassFile }
     // The text of a class file is read, and bytes that fail are refused, unless memory runs out.
     ensures taken { (c : ClassFile) → ClassText bytes.now c → MatchResult result (λ d. d ≡ c) (λ e. e ≡ Fail.Memory) }
     ensures failing { (place : ℕ) → FirstBad bytes.now place

@@ -4,6 +4,7 @@ ghost use Rattle.jc_base.specs.Appending.{Appends};
 ghost use Rattle.jc_base.specs.Grammar.{times};
 ghost use Rattle.jc_class.specs.ClassFormat.{number_where, counted, attribute as attribute_form, member as member_form};
 ghost use Rattle.jc_class.specs.Writable.{Anything, AreCounted, IsAttribute, IsMember, IsClassFile};
+ghost use Rattle.jc_pool.specs.PoolGrammar.{AreBytes};
 ghost use Rattle.jc_class.specs.ClassText.{ClassText};
 ghost use Rattle.std.specs.List.{AllByRecursion};
 
@@ -95,7 +96,8 @@ fn put_interfaces(into: &mut Vec<u8>, interfaces: &[u16]) -> Result<(), Memory>
 /// Puts a class file at the end.
 fn put_class(into: &mut Vec<u8>, class: &ClassFile) -> Result<(), Memory>
     requires { IsClassFile class.now }
-    ensures { OnOk result (Appends (λ text. ClassText text class.now) into.old.items into.new.items) }
+    ensures text { OnOk result (Appends (λ text. ClassText text class.now) into.old.items into.new.items) }
+    ensures bytes { OnOk result (AreBytes into.new.items) }
 {
     put_u32(into, MAGIC)?;
     put_u16(into, class.minor)?;
@@ -121,7 +123,9 @@ fn put_class(into: &mut Vec<u8>, class: &ClassFile) -> Result<(), Memory>
 /// `Memory` where memory was refused.
 pub fn write_class(alloc: Global, class: &ClassFile) -> Result<Vec<u8>, Memory>
     requires { IsClassFile class.now }
-    ensures { IfOk result (λ bytes. ClassText bytes.items class.now) }
+    ensures text { IfOk result (λ bytes. ClassText bytes.items class.now) }
+    // Bytes that are the text of the class are written back.
+    ensures back { (text : List ℕ) → AreBytes text → ClassText text class.now → IfOk result (λ bytes. bytes.items ≡ text) }
 {
     let mut bytes = Vec::new(alloc);
     put_class(&mut bytes, class)?;

@@ -12,3 +12,5 @@ pub mod SwitchTextsLaws
 pub mod InsnTextsLaws
 pub mod CodeTextsLaws
 pub mod WrittenLaws
+pub mod FactsLaws
+pub mod AmongLaws

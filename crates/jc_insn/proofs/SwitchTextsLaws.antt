@@ -141,7 +141,8 @@ lookup_is at default arms at_fits default_fits few up fit =
     item_of at 171 forms.Lookup (pad_text at ++ (word (difference at default) ++ (word (length arms) ++ text))) item (let rows = named_forms in rows.6)
     (piece_then (padding at) _ (pad_text at) (word (difference at default) ++ (word (length arms) ++ text)) item (pad_length at)
     (number_then 4 _ (difference at default) (word (difference at default)) (word (length arms) ++ text) item (big_word (difference at default) (small_difference at default))
-    (number_then 4 _ (length arms) (word (length arms)) text item (big_word (length arms) (omega (arith, few)))
-    (lt-ltb (length arms) 2147483648 few,
-    subst (λ (l : List ℕ). Then (piece (8 * length arms)) (λ words. only_if (ascending (arms_in at words)) (nothing (items.Insn (insns.Lookup (target_of at (cast_signed w32 (difference at default))) (arms_in at words))))) l item) (append-nil text)
-    (piece_then (8 * length arms) (λ words. only_if (ascending (arms_in at words)) (nothing (items.Insn (insns.Lookup (target_of at (cast_signed w32 (difference at default))) (arms_in at words))))) text [] item (arms_length at arms fit) (test, (refl, same)))))))
+    (number_then 4 _ (length arms) (word (length arms)) text item (big_word (length arms) (omega (arith, few))) (
+      lt-ltb (length arms) 2147483648 few,
+      subst (λ (l : List ℕ). Then (piece (8 * length arms)) (λ words. only_if (ascending (arms_in at words)) (nothing (items.Insn (insns.Lookup (target_of at (cast_signed w32 (difference at default))) (arms_in at words))))) l item) (append-nil text)
+          (piece_then (8 * length arms) (λ words. only_if (ascending (arms_in at words)) (nothing (items.Insn (insns.Lookup (target_of at (cast_signed w32 (difference at default))) (arms_in at words))))) text [] item (arms_length at arms fit) (test, (refl, same))),
+    ))))

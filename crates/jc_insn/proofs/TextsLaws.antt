@@ -123,7 +123,7 @@ pub test_true : (b : Bool) → T b → b ≡ true
 test_true true h = refl
 test_true false h = absurd h
 
-true_test : (b : Bool) → b ≡ true → T b
+pub true_test : (b : Bool) → b ≡ true → T b
 true_test true e = tt
 true_test false e = absurd cc
 

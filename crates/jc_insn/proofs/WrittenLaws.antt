@@ -60,10 +60,15 @@ near_code places at (insn ∷ code) (start ∷ starts) (later, is, more) fit nea
     let raw = with_places places insn in
     let text = insn_text start false raw in
     let size : at + size_of at false insn ≡ at + length text = ap (λ (n : ℕ). at + n) (sym (text_size start false raw ∙ same_size places start false insn ∙ ap (λ (s : ℕ). size_of s false insn) first_is)) in
-    let more_starts : StartAt false (at + length text) code starts = subst (λ (p : ℕ). StartAt false p code starts) size (subst (λ (l : List ℕ). StartAt false (at + size_of at false insn) code l) (sym later_is) more) in
-    (text, code_text places false code starts, starts, refl, ap (λ (p : ℕ). p ∷ starts) first_is,
-    subst (λ (p : ℕ). IsItem p text (items.Insn raw)) first_is (near_text_is start raw fit.0 near.0),
-    near_code places (at + length text) code starts more_starts fit.1 near.1)
+    let more_starts : StartAt false (at + length text) code starts = subst (λ (p : ℕ). StartAt false p code starts) size (subst (λ (l : List ℕ). StartAt false (at + size_of at false insn) code l) (sym later_is) more) in (
+      text,
+      code_text places false code starts,
+      starts,
+      refl,
+      ap (λ (p : ℕ). p ∷ starts) first_is,
+      subst (λ (p : ℕ). IsItem p text (items.Insn raw)) first_is (near_text_is start raw fit.0 near.0),
+      near_code places (at + length text) code starts more_starts fit.1 near.1,
+    )
 
 small_starts : (wide : Bool) (code : List Insn) (starts : List ℕ) → StartAt wide 0 code starts → get_or starts (length code) 0 ≤ 2147483647 → (k : ℕ) → get_or starts k 0 < 4294967296
 small_starts wide code starts s end k = by (cases_lt k (length starts))

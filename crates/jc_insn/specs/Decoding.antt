@@ -1,5 +1,5 @@
 -- What a decoder of code answers.
-use Rattle.std.specs.Prelude.{◌≡◌, ℕ, List, Option, Some, None, Result, Ok, Err, ⊤}
+use Rattle.std.specs.Prelude.{◌≡◌, ℕ, List, Option, Some, None, Result, Ok, Err, ⊤, ◌≤◌, All}
 use Rattle.jc_base.specs.Reader.{Reading}
 use Rattle.jc_base.specs.declared.fail.Fail.{Fail}
 use Rattle.jc_base.specs.declared.fail.Fail.TheVariants as fails
@@ -7,6 +7,8 @@ use Rattle.jc_base.specs.declared.refusal.Refusal.{Refusal}
 use Rattle.jc_base.specs.declared.refusal.RefusalKind.{RefusalKind}
 use Rattle.jc_base.specs.declared.refusal.RefusalKind.TheVariants as kinds
 use Rattle.jc_base.specs.declared.insn.Insn.{Insn}
+use Rattle.jc_base.specs.Insn.{IsWellFormed, arm_count}
+use Rattle.jc_base.specs.Flow.{targets_of}
 use Rattle.jc_insn.specs.declared.item.Item.{Item}
 use Rattle.jc_insn.specs.declared.item.Item.TheVariants as items
 use Rattle.jc_insn.specs.Reading.{item_at}
@@ -16,6 +18,12 @@ use Rattle.jc_insn.specs.Spells.{IsRefused}
 abbrev pub Refuses : Fail Refusal → List ℕ → Type 0
 Refuses fails.Memory bytes = ⊤
 Refuses (fails.Said refusal) bytes = IsRefused bytes refusal
+
+-- what a decoder gives is well formed, among so many instructions. A place is one of them or their number
+pub record IsInsnAmong (count : ℕ) (insn : Insn) : Type 0 where
+  pub well_formed : IsWellFormed insn
+  pub few : arm_count insn ≤ 67108864
+  pub places : All (λ to. to ≤ count) (targets_of insn)
 
 -- the item that stands at an offset stops a decoder: jsr and its like, or no item at all
 abbrev pub Stops : RefusalKind → Option (Item × List ℕ) → Type 0

@@ -86,7 +86,7 @@ lookup_operands at = do
   only_if (nat_lt pairs 2147483648) (do
     arms ← piece (8 * pairs)
     only_if (ascending (arms_in at arms))
-      (nothing (items.Insn (insns.Lookup (target_of at (cast_signed w32 default)) (arms_in at arms)))))
+        (nothing (items.Insn (insns.Lookup (target_of at (cast_signed w32 default)) (arms_in at arms)))))
 
 -- what stands behind `wide` and an opcode of this form: operands of two bytes
 unfoldable pub wide_operands : Form → ℕ → List ℕ → Item → Type 0

@@ -4,7 +4,7 @@ ghost use Rattle.jc_base.specs.Decoder.{SameEnd};
 ghost use Rattle.jc_base.specs.declared.insn.Insn.{Insn as Instruction};
 ghost use Rattle.jc_base.specs.declared.refusal.Refusal.{Refusal as Reason};
 ghost use Rattle.jc_insn.specs.Spells.{SpellsFrom, Spells, IsRefused};
-ghost use Rattle.jc_insn.specs.Decoding.{Refuses, GivesNext};
+ghost use Rattle.jc_insn.specs.Decoding.{Refuses, GivesNext, IsInsnAmong};
 
 use crate::Item;
 use crate::item::read_item;
@@ -89,6 +89,7 @@ fn read_all(alloc: Global, bytes: &[u8]) -> Result<Spelled, Fail<Refusal>>
 pub fn decode(alloc: Global, code: &[u8]) -> Result<Decoded, Fail<Refusal>>
     requires { length code.now ≤ 67108864 }
     ensures spelled { IfOk result (λ d. Spells code.now d.code d.starts) }
+    ensures insns { IfOk result (λ d. All (IsInsnAmong (length d.code)) d.code) }
     ensures refused { IfErr result (λ e. Refuses e code.now) }
     // What is spelled is read so, unless memory runs out.
     ensures only { (list : List Instruction) (starts : List ℕ) → Spells code.now list starts

@@ -5,8 +5,10 @@ ghost use Rattle.jc_base.specs.Insn.{arm_count, IsWellFormed, with_places};
 ghost use Rattle.jc_insn.specs.Sizes.{StartAt};
 ghost use Rattle.jc_insn.specs.Writing.{insn_text, code_text, code_as, AllNear, IsInRange, AppendsSpelling, AppendsInsns};
 
-use crate::write::{put_constant, put_dynamic, put_inc, put_interface, put_jump, put_local};
-use crate::write::{put_lookup, put_multi, put_new_array, put_push, put_table, put_with_short};
+use crate::write::{
+    put_constant, put_dynamic, put_inc, put_interface, put_jump, put_local, put_lookup, put_multi,
+    put_new_array, put_push, put_table, put_with_short,
+};
 use jc_base::{Insn, Memory, form_of};
 use std::alloc::{AllocError, Global};
 

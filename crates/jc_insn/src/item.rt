@@ -4,9 +4,10 @@ ghost use Rattle.jc_base.specs.Decoder.{Gives, SameEnd};
 ghost use Rattle.jc_insn.specs.Items.{short_load, short_store};
 ghost use Rattle.jc_insn.specs.Reading.{operands_at, item_at};
 
-use crate::operands::{constant2, constant_byte, constant_short, dynamic, inc, interface, jump};
-use crate::operands::{local, member, multi, new_array, of_class, push_byte, push_short, wide};
-use crate::operands::{wide_jump};
+use crate::operands::{
+    constant_byte, constant_short, constant2, dynamic, inc, interface, jump, local, member, multi,
+    new_array, of_class, push_byte, push_short, wide, wide_jump,
+};
 use crate::switch::{lookup, table};
 use jc_base::{Form, Insn, Reader, Unread, form_of};
 use std::alloc::Global;

@@ -9,10 +9,9 @@ mod operands;
 mod places;
 mod size;
 mod switch;
-mod write;
-
 #[cfg(test)]
 mod tests;
+mod write;
 
 pub use decoding::{Decoded, decode};
 pub use encoding::encode;

@@ -74,12 +74,7 @@ fn numbered_arms(
 }
 
 /// The instruction with numbers in place of offsets.
-fn numbered(
-    alloc: Global,
-    numbers: &[u32],
-    count: u32,
-    insn: Insn,
-) -> Result<Insn, AllocError>
+fn numbered(alloc: Global, numbers: &[u32], count: u32, insn: Insn) -> Result<Insn, AllocError>
     ensures { IfOk result (λ same. same ≡ with_places (λ offset. slice_index_or numbers.now offset count) insn) }
 {
     match insn {

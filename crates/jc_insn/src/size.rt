@@ -1,6 +1,6 @@
 //! How many bytes an instruction takes.
 ghost use Rattle.std.specs.Prelude.{◌≡◌, ◌≤◌, false, nat_lt, if◌then◌else◌};
-ghost use Rattle.jc_base.specs.Insn.{arm_count, IsWellFormed};
+ghost use Rattle.jc_base.specs.Insn.{arm_count};
 ghost use Rattle.jc_insn.specs.Items.{padding};
 ghost use Rattle.jc_insn.specs.Sizes.{push_size, local_size, is_narrow_inc, jump_size, size_of, IsLeast};
 
@@ -49,22 +49,14 @@ pub fn is_narrow_inc(slot: u16, by: i16) -> bool
 fn inc_size(slot: u16, by: i16) -> u32
     ensures { result ≡ (if is_narrow_inc slot by then 3 else 6) }
 {
-    if is_narrow_inc(slot, by) {
-        3
-    } else {
-        6
-    }
+    if is_narrow_inc(slot, by) { 3 } else { 6 }
 }
 
 /// The length of `ldc` or `ldc_w`.
 fn constant_size(place: u16) -> u32
     ensures { result ≡ (if nat_lt place 256 then 2 else 3) }
 {
-    if place < 256 {
-        2
-    } else {
-        3
-    }
+    if place < 256 { 2 } else { 3 }
 }
 
 /// The length of a jump.
@@ -80,14 +72,10 @@ fn jump_size(wide: bool, op: u8) -> u32
     }
 }
 
-/// The length of the shortest spelling of an instruction at the offset `at` of the code
-/// (JVM Specification 6.5), which for a switch depends on `at`.
-///
-/// A jump takes three bytes. In the wide layout, where `wide` is true, `goto` takes the five of
-/// `goto_w`, and a conditional jump the eight of its inverse over a `goto_w`.
-pub fn size_of(insn: &Insn, at: u32, wide: bool) -> u32
+/// The length of an instruction by its form.
+fn by_form(insn: &Insn, at: u32, wide: bool) -> u32
     requires { arm_count insn.now ≤ 67108864 }
-    ensures size { result ≡ size_of at wide insn.now }
+    ensures { result ≡ size_of at wide insn.now }
 {
     match insn {
         Insn::Simple(_) => 1,
@@ -103,4 +91,18 @@ pub fn size_of(insn: &Insn, at: u32, wide: bool) -> u32
         Insn::Table { arms, .. } => 13 + padding(at) + 4 * arms.len() as u32,
         Insn::Lookup { arms, .. } => 9 + padding(at) + 8 * arms.len() as u32,
     }
+}
+
+/// The length of the shortest spelling of an instruction at the offset `at` of the code
+/// (JVM Specification 6.5), which for a switch depends on `at`.
+///
+/// A jump takes three bytes. In the wide layout, where `wide` is true, `goto` takes the five of
+/// `goto_w`, and a conditional jump the eight of its inverse over a `goto_w`.
+pub fn size_of(insn: &Insn, at: u32, wide: bool) -> u32
+    requires { arm_count insn.now ≤ 67108864 }
+    ensures size { result ≡ size_of at wide insn.now }
+    // No spelling is shorter.
+    ensures least { wide ≡ false → IsLeast at insn.now result }
+{
+    by_form(insn, at, wide)
 }

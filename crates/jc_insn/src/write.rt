@@ -196,12 +196,7 @@ fn put_pad(out: &mut Vec<u8>, at: u32) -> Result<(), AllocError>
 }
 
 /// The arms of `tableswitch`.
-fn put_places(
-    out: &mut Vec<u8>,
-    at: u32,
-    starts: &[u32],
-    arms: &[u32],
-) -> Result<(), AllocError>
+fn put_places(out: &mut Vec<u8>, at: u32, starts: &[u32], arms: &[u32]) -> Result<(), AllocError>
     requires { All (λ to. to < length starts.now) arms.now }
     ensures { OnOk result (out.new.items ≡ out.old.items ++ flat_map (λ to. word (difference at to)) (map (slice_index starts.now) arms.now)) }
 {
@@ -223,12 +218,7 @@ fn put_arm(out: &mut Vec<u8>, at: u32, starts: &[u32], arm: &Arm) -> Result<(), 
 }
 
 /// The arms of `lookupswitch`.
-fn put_arms(
-    out: &mut Vec<u8>,
-    at: u32,
-    starts: &[u32],
-    arms: &[Arm],
-) -> Result<(), AllocError>
+fn put_arms(out: &mut Vec<u8>, at: u32, starts: &[u32], arms: &[Arm]) -> Result<(), AllocError>
     requires { All (λ arm. arm.to < length starts.now) arms.now }
     ensures text { OnOk result (out.new.items ≡ out.old.items ++ flat_map (arm_text at) (map (arm_with_place (slice_index starts.now)) arms.now)) }
     ensures keys { OnOk result (All (λ arm. FitsSigned w32 arm.key) arms.now) }

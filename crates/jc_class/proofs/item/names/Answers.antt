@@ -1,7 +1,5 @@
-use Rattle.std.proofs.Common.{◌∙◌, ap, sym, ℕ}
 use Rattle.jc_pool.specs.Lookup.{utf8_of}
 use Rattle.jc_class.specs.ItemReading.{names}
-use Rattle.jc_class.specs.declared.item.Named.{Named}
 use Rattle.jc_class.proofs.NamingLaws.{field_there, method_there}
 use Rattle.jc_class.proofs.item.names.Goals as goal
 

@@ -1,5 +1,5 @@
 use Rattle.jc_class.specs.declared.item.Named.TheVariants as named
-use Rattle.jc_class.specs.ClassReading.{named_at, attribute_at, member_at}
+use Rattle.jc_class.specs.ClassReading.{named_at}
 use Rattle.jc_class.proofs.ListReadingLaws.{Listing}
 use Rattle.jc_class.proofs.read.listed_interfaces.Given as goal
 

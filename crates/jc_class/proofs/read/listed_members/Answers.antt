@@ -1,7 +1,5 @@
 use Rattle.std.proofs.lemmas.Result.{err_from_is_err_and}
-use Rattle.std.proofs.Common.{arith}
-use Rattle.jc_class.specs.declared.item.Named.TheVariants as named
-use Rattle.jc_class.specs.ClassReading.{named_at, attribute_at, member_at}
+use Rattle.jc_class.specs.ClassReading.{member_at}
 use Rattle.jc_class.proofs.ListReadingLaws.{none_yet, one_more, refused, all_read}
 use Rattle.jc_class.proofs.read.listed_members.Goals as goal
 

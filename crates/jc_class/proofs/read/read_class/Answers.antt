@@ -1,4 +1,6 @@
+use Rattle.std.proofs.Common.{arith}
 use Rattle.jc_class.proofs.ClassLaws.{reads, refuses, takes, fails_there}
+use Rattle.jc_class.proofs.WholeLaws.{are_bytes, wholes}
 use Rattle.jc_class.proofs.read.read_class.Goals as goal
 
 pub returns : goal.returns
@@ -6,4 +8,11 @@ returns c =
     let r = c.whole.result in
     let bytes = c.args.bytes.now in
     let gives = c.whole.ensures in
-    record { read = reads r bytes gives; refused = refuses r bytes gives; taken = takes r bytes gives; failing = fails_there r bytes gives }
+    let read = reads r bytes gives in
+    record {
+      read = read;
+      refused = refuses r bytes gives;
+      whole = wholes r bytes (are_bytes bytes (λ i. omega (arith, c.type_inv.bytes i))) read;
+      taken = takes r bytes gives;
+      failing = fails_there r bytes gives;
+    }

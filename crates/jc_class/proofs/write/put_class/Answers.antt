@@ -1,4 +1,4 @@
-use Rattle.std.proofs.Common.{ℕ, List, subst, sym}
+use Rattle.std.proofs.Common.{ℕ, List, subst, arith}
 use Rattle.std.proofs.lemmas.Result.{on_ok_weaker}
 use Rattle.jc_base.specs.Appending.{Appends}
 use Rattle.jc_base.proofs.AppendingLaws.{Appended}
@@ -6,8 +6,9 @@ use Rattle.jc_pool.specs.PoolGrammar as pools
 use Rattle.jc_class.specs.declared.class_file.Attribute.{Attribute}
 use Rattle.jc_class.specs.declared.class_file.Member.{Member}
 use Rattle.jc_class.specs.ClassFormat.{number_where, counted, attribute, member, HasText, HasFieldDescriptor, HasMethodDescriptor}
-use Rattle.jc_class.specs.Writable.{Anything, AreCounted, IsAttribute, IsMember}
+use Rattle.jc_class.specs.Writable.{Anything}
 use Rattle.jc_class.proofs.NamedLaws.{any_members, any_attributes, class_put}
+use Rattle.jc_class.proofs.WholeLaws.{items_are_bytes}
 use Rattle.jc_class.proofs.write.put_class.Goals as goal
 
 pub put_members-requires : goal.put_members-requires
@@ -25,8 +26,8 @@ put_attributes-requires c =
     let pool = c.args.class.now.pool in
     rw c.deref-4.ensures (any_attributes (HasText pool) c.args.class.now.attributes c.requires.attributes)
 
-pub returns : goal.returns
-returns c =
+pub returns-clause-text : goal.returns-clause-text
+returns-clause-text c =
     let s7 = c.put_u16-5.new.into.items in
     let s8 = c.put_interfaces.new.into.items in
     let s9 = c.put_members.new.into.items in
@@ -37,7 +38,10 @@ returns c =
     let fields = subst (λ (l : List Member). Appended (counted (member Anything Anything)) l s8 s9) c.deref-2.ensures c.in_ok-put_members.ensures in
     let methods = subst (λ (l : List Member). Appended (counted (member Anything Anything)) l s9 s10) c.deref-3.ensures c.in_ok-put_members-2.ensures in
     on_ok_weaker c.put_attributes.result
-      (λ attributes. class_put c.args.class.now c.requires c.args.into.now.items c.put_u32.new.into.items c.put_u16.new.into.items c.put_u16-2.new.into.items c.write.new.into.items c.put_u16-3.new.into.items c.put_u16-4.new.into.items s7 s8 s9 s10 new
-        c.in_ok-put_u32.ensures.ok c.in_ok-put_u16.ensures.ok c.in_ok-put_u16-2.ensures.ok pool c.in_ok-put_u16-3.ensures.ok c.in_ok-put_u16-4.ensures.ok c.in_ok-put_u16-5.ensures.ok
-        interfaces fields methods (subst (λ (l : List Attribute). Appended (counted (attribute Anything)) l s10 new) c.deref-4.ensures attributes))
-      c.put_attributes.ensures
+    (λ attributes. class_put c.args.class.now c.requires c.args.into.now.items c.put_u32.new.into.items c.put_u16.new.into.items c.put_u16-2.new.into.items c.write.new.into.items c.put_u16-3.new.into.items c.put_u16-4.new.into.items s7 s8 s9 s10 new
+    c.in_ok-put_u32.ensures.ok c.in_ok-put_u16.ensures.ok c.in_ok-put_u16-2.ensures.ok pool c.in_ok-put_u16-3.ensures.ok c.in_ok-put_u16-4.ensures.ok c.in_ok-put_u16-5.ensures.ok
+    interfaces fields methods (subst (λ (l : List Attribute). Appended (counted (attribute Anything)) l s10 new) c.deref-4.ensures attributes))
+    c.put_attributes.ensures
+
+pub returns-clause-bytes : goal.returns-clause-bytes
+returns-clause-bytes c = on_ok_weaker c.put_attributes.result (λ _. items_are_bytes c.put_attributes.new.into.items (λ i d within. omega (arith, c.type_inv.into i d within))) c.put_attributes.ensures

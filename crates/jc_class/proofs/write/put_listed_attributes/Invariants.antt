@@ -1,5 +1,5 @@
-use Rattle.jc_class.specs.ClassFormat.{attribute, member}
-use Rattle.jc_class.specs.Writable.{Anything, IsAttribute, IsMember}
+use Rattle.jc_class.specs.ClassFormat.{attribute}
+use Rattle.jc_class.specs.Writable.{Anything, IsAttribute}
 use Rattle.jc_class.proofs.WritingLaws.{Puts}
 use Rattle.jc_class.proofs.write.put_listed_attributes.Given as goal
 

@@ -14,7 +14,7 @@ writing-preserved c =
     let at = c.writing.interface-index in
     let x = get_or all at 0 in
     writes_next (number_where Anything) all c.args.into.now.items at x c.writing.into.items c.put_u16.new.into.items (drop_at all at 0 c.writing-test.true)
-      (interface_put x c.writing.into.items c.put_u16.new.into.items c.in_ok-put_u16.ensures.ok) c.writing.invariant
+    (interface_put x c.writing.into.items c.put_u16.new.into.items c.in_ok-put_u16.ensures.ok) c.writing.invariant
 
 pub returns : goal.returns
 returns c = all_written (number_where Anything) c.args.interfaces.now c.args.into.now.items c.writing.interface-index c.writing.into.items c.writing-test.false c.writing.invariant

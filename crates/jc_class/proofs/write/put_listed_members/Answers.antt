@@ -1,7 +1,6 @@
-use Rattle.std.proofs.Common.{arith}
 use Rattle.jc_base.proofs.AppendingLaws.{all_written}
-use Rattle.jc_class.specs.ClassFormat.{attribute, member}
-use Rattle.jc_class.specs.Writable.{Anything, IsAttribute, IsMember}
+use Rattle.jc_class.specs.ClassFormat.{member}
+use Rattle.jc_class.specs.Writable.{Anything, IsMember}
 use Rattle.jc_class.proofs.WritingLaws.{puts_begun, next_fits, puts_more}
 use Rattle.jc_class.proofs.write.put_listed_members.Goals as goal
 

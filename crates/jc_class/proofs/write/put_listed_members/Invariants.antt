@@ -1,5 +1,5 @@
-use Rattle.jc_class.specs.ClassFormat.{attribute, member}
-use Rattle.jc_class.specs.Writable.{Anything, IsAttribute, IsMember}
+use Rattle.jc_class.specs.ClassFormat.{member}
+use Rattle.jc_class.specs.Writable.{Anything, IsMember}
 use Rattle.jc_class.proofs.WritingLaws.{Puts}
 use Rattle.jc_class.proofs.write.put_listed_members.Given as goal
 

@@ -3,6 +3,7 @@ use Rattle.std.proofs.lemmas.Result.{err_from_is_err_and}
 use Rattle.jc_base.specs.Insn.{with_places}
 use Rattle.jc_insn.specs.Spells.{Spells, SpellsFrom, number_at}
 use Rattle.jc_insn.proofs.CodeLaws.{spells, one_list, spelled_or_memory, not_spelled, refused_or_memory}
+use Rattle.jc_insn.proofs.AmongLaws.{all_among}
 use Rattle.jc_insn.proofs.decoding.decode.Goals as goal
 use Rattle.jc_insn.proofs.decoding.decode.Goals.{After-drop-numbers-2}
 
@@ -30,6 +31,9 @@ spelled c =
 
 pub returns-clause-spelled : goal.returns-clause-spelled
 returns-clause-spelled c = spelled c
+
+pub returns-clause-insns : goal.returns-clause-insns
+returns-clause-insns c = all_among c.args.code.now c.in_ok-code.code c.from_vec.result c.requires (spelled c)
 
 pub returns-clause-only : goal.returns-clause-only
 returns-clause-only c = λ list starts s. one_list c.args.code.now c.in_ok-code.code list c.from_vec.result starts (spelled c) s

@@ -33,9 +33,10 @@ writing-preserved c =
 
 wrote : (c : After-drop-text-2) → (c.extend_from_slice.new.self.items ≡ c.args.into.now.items ++ code_text (slice_index c.args.starts.now) c.args.wide c.args.code.now c.args.starts.now) × IsLaidOut c.args.wide c.args.code.now c.args.starts.now
 wrote c =
-    let put = all_put c.args.starts.now c.args.wide c.args.code.now c.writing.number c.writing.text.items (omega (arith, c.writing-test.false)) c.writing.invariant in
-    (c.in_ok-extend_from_slice.ensures.items ∙ ap (λ (l : List ℕ). c.args.into.now.items ++ l) (c.deref.ensures.value ∙ put.0),
-    record { starts_at = c.requires.starts; end = c.requires.end; well_formed = c.requires.well_formed; in_range = put.1; places = c.requires.places })
+    let put = all_put c.args.starts.now c.args.wide c.args.code.now c.writing.number c.writing.text.items (omega (arith, c.writing-test.false)) c.writing.invariant in (
+      c.in_ok-extend_from_slice.ensures.items ∙ ap (λ (l : List ℕ). c.args.into.now.items ++ l) (c.deref.ensures.value ∙ put.0),
+      record { starts_at = c.requires.starts; end = c.requires.end; well_formed = c.requires.well_formed; in_range = put.1; places = c.requires.places },
+    )
 
 pub returns-clause-spelled : goal.returns-clause-spelled
 returns-clause-spelled c = let w = wrote c in appends_spelling c.args.wide c.args.code.now c.args.starts.now c.args.into.now.items c.extend_from_slice.new.self.items w.1 c.requires.near w.0
