@@ -17,7 +17,7 @@ use Rattle.jc_pool.specs.PoolGrammar.{by_size, behind, places, pool, AreBytes}
 
 -- ---- bytes
 
-byte_at : (bytes : List ℕ) → AreBytes bytes → (k : ℕ) → slice_index bytes k < 256
+pub byte_at : (bytes : List ℕ) → AreBytes bytes → (k : ℕ) → slice_index bytes k < 256
 byte_at [] are k = omega arith
 byte_at (x ∷ xs) are zero = are.0
 byte_at (x ∷ xs) are (suc k) = byte_at xs are.1 k
@@ -48,10 +48,10 @@ one_number (suc n) (x ∷ a) (y ∷ b) p q size long is =
     let rest = one_number n a b p.1 q.1 (omega (arith, size)) (omega (arith, long)) d.1 in
     λ i. d.0 i ∷ rest i
 
-one_big : (n : ℕ) (a b : List ℕ) (x : ℕ) → AreBytes a → AreBytes b → IsBig n a x → IsBig n b x → a ≡ b
+pub one_big : (n : ℕ) (a b : List ℕ) (x : ℕ) → AreBytes a → AreBytes b → IsBig n a x → IsBig n b x → a ≡ b
 one_big n a b x p q big long = one_number n a b p q big.size long.size (big.value ∙ sym long.value)
 
-both_bytes : (a b : List ℕ) → AreBytes (a ++ b) → AreBytes a × AreBytes b
+pub both_bytes : (a b : List ℕ) → AreBytes (a ++ b) → AreBytes a × AreBytes b
 both_bytes [] b p = (tt, p)
 both_bytes (x ∷ a) b p = let r = both_bytes a b p.1 in ((p.0, r.0), r.1)
 
