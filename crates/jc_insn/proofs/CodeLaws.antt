@@ -1,5 +1,5 @@
 -- Code has one reading: one list of instructions, or one first fault.
-use Rattle.std.proofs.Common.{◌≡◌, ◌≢◌, ◌⊎◌, inl, inr, ℕ, zero, suc, ◌+◌, ◌-◌, ◌<◌, ◌≤◌, Bool, true, false, cond, List, [], ◌∷◌, ◌++◌, length, map, get_or, Option, None, Result, Ok, Err, MatchResult, IfErr, IfOk, All, nat_eq, refl, sym, ◌∙◌, ap, subst, arith, length-append}
+use Rattle.std.proofs.Common.{◌≡◌, ◌⊎◌, inl, inr, ℕ, suc, ◌+◌, ◌-◌, ◌<◌, ◌≤◌, List, [], ◌∷◌, ◌++◌, length, map, get_or, All, refl, sym, ◌∙◌, ap, subst, arith, length-append}
 use Rattle.std.proofs.lemmas.Bool.{cases_lt, ne_eqb}
 use Rattle.std.proofs.lemmas.List.{append_cancel_left, get_or_default, get_or_past}
 use Rattle.std.proofs.lemmas.List.Elements.{All-get_or}
@@ -13,16 +13,10 @@ use Rattle.jc_base.specs.Insn.{with_places}
 use Rattle.jc_insn.specs.declared.item.Item.{Item}
 use Rattle.jc_insn.specs.declared.item.Item.TheVariants as items
 use Rattle.jc_insn.specs.Items.{IsItem}
-use Rattle.jc_insn.specs.Spells.{SpellsFrom, Spells, number_at, IsSubroutine, IsMalformed, IsFault, FaultBehind, IsRefused}
+use Rattle.jc_insn.specs.Spells.{SpellsFrom, Spells, insn_number, IsFault, FaultBehind, IsRefused}
 use Rattle.jc_insn.specs.Decoding.{Refuses}
-use Rattle.jc_insn.proofs.ItemsLaws.{same_item}
+use Rattle.jc_insn.proofs.ItemsLaws.{insn_is, not_subroutine, same_item}
 use Rattle.jc_insn.proofs.DecodingLaws.{some_bytes}
-
-insn_is : (a b : Insn) → items.Insn a ≡ items.Insn b → a ≡ b
-insn_is a b e = cc
-
-not_subroutine : (a : Insn) → items.Insn a ≡ items.Subroutine → ⊥
-not_subroutine a e = cc
 
 -- an item isn't in front of no bytes
 no_bytes : (at : ℕ) (bytes text rest : List ℕ) (item : Item) → bytes ≡ [] → bytes ≡ text ++ rest → IsItem at text item → ⊥
@@ -97,7 +91,7 @@ same_fault at bytes (insn ∷ code) (insn' ∷ code') kind kind' place place' (t
 
 -- ---- numbers in place of offsets
 
-none_at : (starts : List ℕ) (offset count : ℕ) → ((k : ℕ) → k < length starts → get_or starts k 0 < offset) → length starts ≡ count + 1 → number_at starts offset ≡ count
+none_at : (starts : List ℕ) (offset count : ℕ) → ((k : ℕ) → k < length starts → get_or starts k 0 < offset) → length starts ≡ count + 1 → insn_number starts offset ≡ count
 none_at [] offset count below long = absurd (omega (arith, long))
 none_at (end ∷ []) offset count below long = omega (arith, long)
 none_at (start ∷ next ∷ starts) offset count below long =
@@ -106,16 +100,16 @@ none_at (start ∷ next ∷ starts) offset count below long =
     rw (ne_eqb start offset (λ e. omega (arith, first, e))) (omega (arith, more, long))
 
 -- a table over the offsets has the numbers, and its default beyond them
-pub numbers_are : (starts numbers : List ℕ) (size count : ℕ) → length numbers ≡ size → ((offset : ℕ) → offset < size → get_or numbers offset 0 ≡ number_at starts offset) → All (λ start. start < size) starts → length starts ≡ count + 1 → (λ (offset : ℕ). get_or numbers offset count) ≡ number_at starts
+pub numbers_are : (starts numbers : List ℕ) (size count : ℕ) → length numbers ≡ size → ((offset : ℕ) → offset < size → get_or numbers offset 0 ≡ insn_number starts offset) → All (λ start. start < size) starts → length starts ≡ count + 1 → (λ (offset : ℕ). get_or numbers offset count) ≡ insn_number starts
 numbers_are starts numbers size count long each within starts_long i offset = each_is offset (cases_lt offset size) i
   where
-    each_is : (offset : ℕ) → (offset < size) ⊎ (size ≤ offset) → get_or numbers offset count ≡ number_at starts offset
+    each_is : (offset : ℕ) → (offset < size) ⊎ (size ≤ offset) → get_or numbers offset count ≡ insn_number starts offset
     each_is offset (inl below) = get_or_default numbers offset count 0 (omega (arith, long, below)) ∙ each offset below
     each_is offset (inr past) =
         get_or_past numbers offset count (omega (arith, long, past))
         ∙ sym (none_at starts offset count (λ k lt. let w = All-get_or (λ start. start < size) starts k 0 lt within in omega (arith, w, past)) starts_long)
 
-pub spells : (bytes : List ℕ) (text code : List Insn) (starts numbers : List ℕ) (size count : ℕ) → SpellsFrom 0 bytes text starts → length numbers ≡ size → ((offset : ℕ) → offset < size → get_or numbers offset 0 ≡ number_at starts offset) → All (λ start. start < size) starts → length starts ≡ count + 1 → code ≡ map (with_places (λ offset. get_or numbers offset count)) text → Spells bytes code starts
+pub spells : (bytes : List ℕ) (text code : List Insn) (starts numbers : List ℕ) (size count : ℕ) → SpellsFrom 0 bytes text starts → length numbers ≡ size → ((offset : ℕ) → offset < size → get_or numbers offset 0 ≡ insn_number starts offset) → All (λ start. start < size) starts → length starts ≡ count + 1 → code ≡ map (with_places (λ offset. get_or numbers offset count)) text → Spells bytes code starts
 spells bytes text code starts numbers size count s long each within starts_long code_is = record {
   spelled = text;
   text = s;
@@ -125,7 +119,7 @@ spells bytes text code starts numbers size count s long each within starts_long 
 pub one_list : (bytes : List ℕ) (code code' : List Insn) (starts starts' : List ℕ) → Spells bytes code starts → Spells bytes code' starts' → (code ≡ code') × (starts ≡ starts')
 one_list bytes code code' starts starts' s t =
     let same = same_code 0 bytes s.spelled t.spelled starts starts' s.text t.text in
-    (s.places ∙ (λ i. map (with_places (number_at (same.1 i))) (same.0 i)) ∙ sym t.places, same.1)
+    (s.places ∙ (λ i. map (with_places (insn_number (same.1 i))) (same.0 i)) ∙ sym t.places, same.1)
 
 pub spelled_or_memory : (bytes : List ℕ) (code : List Insn) (starts : List ℕ) (e : Fail Refusal) → Spells bytes code starts → Refuses e bytes → e ≡ fails.Memory
 spelled_or_memory bytes code starts fails.Memory s why = refl

@@ -1,55 +1,25 @@
 -- What is written of code is read again.
-use Rattle.std.proofs.Common.{◌≡◌, ◌≢◌, ◌⊎◌, inl, inr, ℕ, zero, suc, ◌+◌, ◌-◌, ◌*◌, ◌%◌, ◌^◌, ◌<◌, ◌≤◌, Bool, true, false, cond, List, [], ◌∷◌, ◌++◌, length, map, get_or, replicate, All, nat_eq, nat_lt, refl, sym, ◌∙◌, ap, subst, arith, w8, w16, w32, ℤ, pos, negsuc, length-append, append_assoc}
-use Rattle.std.specs.Prelude.{FitsSigned, ◌≤ℤ◌, ◌<ℤ◌, ◌+ℤ◌, slice_index}
+use Rattle.std.proofs.Common.{◌≡◌, ℕ, ◌+◌, ◌-◌, ◌*◌, ◌%◌, ◌<◌, ◌≤◌, Bool, true, false, cond, List, [], ◌∷◌, ◌++◌, length, map, get_or, All, nat_eq, nat_lt, refl, sym, ap, subst, arith, w16, w32, ℤ, pos, length-append}
+use Rattle.std.specs.Prelude.{FitsSigned, ◌≤ℤ◌, ◌+ℤ◌}
 use Rattle.std.specs.List.{flat_map}
-use Rattle.std.specs.Int.{cast_signed, cast_unsigned}
-use Rattle.std.proofs.lemmas.List.{length-map, get_or-map}
-use Rattle.std.proofs.lemmas.List.Elements.{All-map, All-nil}
-use Rattle.std.proofs.lemmas.Bool.{cases_lt, lt-ltb, le-ltb}
-use Rattle.byteorder.specs.Numbers.{length-bytes_high_first}
+use Rattle.std.specs.Int.{cast_unsigned}
+use Rattle.std.proofs.lemmas.List.{length-map}
+use Rattle.std.proofs.lemmas.List.Elements.{All-map, All-nil, All-cons, All-tail}
 use Rattle.jc_base.specs.declared.form.Form.{Form}
 use Rattle.jc_base.specs.declared.form.Form.TheVariants as forms
 use Rattle.jc_base.specs.InsnForm.{form_of}
-use Rattle.jc_base.proofs.InsnFormLaws.{named_forms, inverse_form, test_below}
 use Rattle.jc_base.specs.declared.insn.Insn.{Insn}
 use Rattle.jc_base.specs.declared.insn.Insn.TheVariants as insns
 use Rattle.jc_base.specs.declared.insn.Arm.{Arm}
 use Rattle.jc_base.specs.Insn.{IsWellFormed, IsAscending, with_places, arm_with_place}
-use Rattle.jc_base.specs.Flow.{targets_of, inverse_of, is_test}
-use Rattle.jc_insn.specs.declared.item.Item.{Item}
-use Rattle.jc_insn.specs.declared.item.Item.TheVariants as items
-use Rattle.jc_insn.specs.Items.{padding, IsItem}
-use Rattle.jc_insn.specs.Spells.{SpellsFrom, Spells, number_at}
-use Rattle.jc_insn.specs.Sizes.{size_of, push_size, is_narrow_inc, StartAt}
-use Rattle.jc_insn.specs.Writing.{short, word, signed_byte, signed_short, difference, push_text, local_text, inc_text, constant_text, pad_text, arm_text, last_key, table_text, lookup_text, jump_text, wide_jump_text, insn_text, code_text, spelled_as, code_as, IsNearJump, AllNear, IsInRange}
-use Rattle.jc_insn.proofs.InsnTextsLaws.{Fits, near_text_is, text_is}
-use Rattle.jc_insn.proofs.StartsLaws.{number_of_start, count_starts, first_start}
+use Rattle.jc_base.specs.Flow.{targets_of, inverse_of}
+use Rattle.jc_insn.specs.Items.{padding}
+use Rattle.jc_insn.specs.Sizes.{size_of, push_size, is_narrow_inc}
+use Rattle.jc_insn.specs.Writing.{short, word, signed_byte, signed_short, difference, push_text, local_text, inc_text, constant_text, pad_text, arm_text, last_key, table_text, lookup_text, jump_text, insn_text, IsInRange}
+use Rattle.jc_insn.proofs.OffsetsLaws.{short_size, word_size}
+use Rattle.jc_insn.proofs.SwitchTextsLaws.{pad_length, places_length, arms_length}
 
 -- ---- sizes
-
-pub short_size : (x : ℕ) → length (short x) ≡ 2
-unfolding short
-short_size x = length-bytes_high_first 2 x
-
-pub word_size : (x : ℕ) → length (word x) ≡ 4
-unfolding word
-word_size x = length-bytes_high_first 4 x
-
-pad_size : (at : ℕ) → length (pad_text at) ≡ padding at
-unfolding pad_text
-pad_size at = zeros (padding at)
-  where
-    zeros : (n : ℕ) → length (let l : List ℕ = replicate n 0 in l) ≡ n
-    zeros zero = refl
-    zeros (suc n) = let e = zeros n in omega (arith, e)
-
-all_size : {X : Type 0} (size : ℕ) (w : X → List ℕ) (xs : List X) → ((x : X) → length (w x) ≡ size) → length (flat_map w xs) ≡ size * length xs
-all_size size w [] each = omega arith
-all_size size w (x ∷ xs) each =
-    let front = each x in
-    let rest = all_size size w xs each in
-    let both = length-append (w x) (flat_map w xs) in
-    omega (arith, front, rest, both)
 
 push_text_size : (form : Form) (op : ℕ) (value : ℤ) → length (push_text form op value) ≡ push_size form
 push_text_size forms.PushByte op value = refl
@@ -99,11 +69,11 @@ table_text_size at low default arms =
     let high_word = word (cast_unsigned w32 (last_key low (length arms))) in
     let low_word = word (cast_unsigned w32 low) in
     let default_word = word (difference at default) in
-    let p = pad_size at in
+    let p = pad_length at in
     let d = word_size (difference at default) in
     let l = word_size (cast_unsigned w32 low) in
     let h = word_size (cast_unsigned w32 (last_key low (length arms))) in
-    let a = all_size 4 (λ (to : ℕ). word (difference at to)) arms (λ to. word_size (difference at to)) in
+    let a = places_length at arms in
     let e1 = length-append (pad_text at) (default_word ++ (low_word ++ (high_word ++ places))) in
     let e2 = length-append default_word (low_word ++ (high_word ++ places)) in
     let e3 = length-append low_word (high_word ++ places) in
@@ -114,11 +84,10 @@ lookup_text_size : (at : ℕ) (default : ℕ) (arms : List Arm) → length (look
 lookup_text_size at default arms =
     let places = flat_map (arm_text at) arms in
     let default_word = word (difference at default) in
-    let p = pad_size at in
+    let p = pad_length at in
     let d = word_size (difference at default) in
     let n = word_size (length arms) in
-    let arm_size : (arm : Arm) → length (arm_text at arm) ≡ 8 = λ arm. (let k = word_size (cast_unsigned w32 arm.key) in let t = word_size (difference at arm.to) in let both = length-append (word (cast_unsigned w32 arm.key)) (word (difference at arm.to)) in omega (arith, k, t, both)) in
-    let a = all_size 8 (arm_text at) arms arm_size in
+    let a = arms_length at arms in
     let e1 = length-append (pad_text at) (default_word ++ (word (length arms) ++ places)) in
     let e2 = length-append default_word (word (length arms) ++ places) in
     let e3 = length-append (word (length arms)) places in
@@ -174,39 +143,32 @@ pub in_range_with : (f : ℕ → ℕ) (insn : Insn) → IsInRange insn → IsInR
 in_range_with f (insns.Lookup default arms) fits = All-map (λ arm. FitsSigned w32 arm.key) (arm_with_place f) arms fits
 in_range_with f insn fits = fits
 
-all_first : {X : Type 0} (P : X → Type 0) (x : X) (xs : List X) → P x → All P xs → All P (x ∷ xs)
-all_first P x xs p all zero d below = p
-all_first P x xs p all (suc k) d below = all k d (omega (arith, below))
-
 all_of : {X : Type 0} (P : X → Type 0) (xs : List X) → ((x : X) → P x) → All P xs
 all_of P xs each k d below = each (get_or xs k d)
 
 pub targets_fit : (f : ℕ → ℕ) (n : ℕ) (insn : Insn) → ((k : ℕ) → f k < n) → All (λ to. to < n) (targets_of (with_places f insn))
-targets_fit f n (insns.Jump op to) fits = all_first (λ t. t < n) (f to) [] (fits to) (All-nil (λ t. t < n))
-targets_fit f n (insns.Table low default arms) fits = all_first (λ t. t < n) (f default) (map f arms) (fits default) (All-map (λ t. t < n) f arms (all_of (λ k. f k < n) arms fits))
+targets_fit f n (insns.Jump op to) fits = All-cons (λ t. t < n) (f to) [] (fits to) (All-nil (λ t. t < n))
+targets_fit f n (insns.Table low default arms) fits = All-cons (λ t. t < n) (f default) (map f arms) (fits default) (All-map (λ t. t < n) f arms (all_of (λ k. f k < n) arms fits))
 targets_fit f n (insns.Lookup default arms) fits =
-    all_first (λ t. t < n) (f default) (map (λ (a : Arm). a.to) (map (arm_with_place f) arms)) (fits default)
+    All-cons (λ t. t < n) (f default) (map (λ (a : Arm). a.to) (map (arm_with_place f) arms)) (fits default)
     (All-map (λ t. t < n) (λ (a : Arm). a.to) (map (arm_with_place f) arms) (All-map (λ (a : Arm). a.to < n) (arm_with_place f) arms (all_of (λ a. f a.to < n) arms (λ a. fits a.to))))
 targets_fit f n insn fits = All-nil (λ t. t < n)
 
-pub all_second : {X : Type 0} (P : X → Type 0) (x : X) (xs : List X) → All P (x ∷ xs) → All P xs
-all_second P x xs all k d below = all (suc k) d (omega (arith, below))
-
 map_back : (f g : ℕ → ℕ) (xs : List ℕ) → All (λ x. g (f x) ≡ x) xs → map g (map f xs) ≡ xs
 map_back f g [] all = refl
-map_back f g (x ∷ xs) all = λ i. all 0 x (omega arith) i ∷ map_back f g xs (all_second (λ x. g (f x) ≡ x) x xs all) i
+map_back f g (x ∷ xs) all = λ i. all 0 x (omega arith) i ∷ map_back f g xs (All-tail (λ x. g (f x) ≡ x) x xs all) i
 
 arms_back : (f g : ℕ → ℕ) (xs : List Arm) → All (λ x. g (f x) ≡ x) (map (λ (a : Arm). a.to) xs) → map (arm_with_place g) (map (arm_with_place f) xs) ≡ xs
 arms_back f g [] all = refl
-arms_back f g (x ∷ xs) all = λ i. record { key = x.key; to = all 0 x.to (omega arith) i } ∷ arms_back f g xs (all_second (λ x. g (f x) ≡ x) x.to (map (λ (a : Arm). a.to) xs) all) i
+arms_back f g (x ∷ xs) all = λ i. record { key = x.key; to = all 0 x.to (omega arith) i } ∷ arms_back f g xs (All-tail (λ x. g (f x) ≡ x) x.to (map (λ (a : Arm). a.to) xs) all) i
 
 -- places that are replaced and replaced back
 places_back : (f g : ℕ → ℕ) (insn : Insn) → All (λ to. g (f to) ≡ to) (targets_of insn) → with_places g (with_places f insn) ≡ insn
 places_back f g (insns.Jump op to) all = ap (insns.Jump op) (all 0 to (omega arith))
-places_back f g (insns.Table low default arms) all = λ i. insns.Table low (all 0 default (omega arith) i) (map_back f g arms (all_second (λ x. g (f x) ≡ x) default arms all) i)
-places_back f g (insns.Lookup default arms) all = λ i. insns.Lookup (all 0 default (omega arith) i) (arms_back f g arms (all_second (λ x. g (f x) ≡ x) default (map (λ (a : Arm). a.to) arms) all) i)
+places_back f g (insns.Table low default arms) all = λ i. insns.Table low (all 0 default (omega arith) i) (map_back f g arms (All-tail (λ x. g (f x) ≡ x) default arms all) i)
+places_back f g (insns.Lookup default arms) all = λ i. insns.Lookup (all 0 default (omega arith) i) (arms_back f g arms (All-tail (λ x. g (f x) ≡ x) default (map (λ (a : Arm). a.to) arms) all) i)
 places_back f g insn all = refl
 
 pub code_back : (f g : ℕ → ℕ) (code : List Insn) → All (λ insn. All (λ to. g (f to) ≡ to) (targets_of insn)) code → map (with_places g) (map (with_places f) code) ≡ code
 code_back f g [] all = refl
-code_back f g (insn ∷ code) all = λ i. places_back f g insn (all 0 insn (omega arith)) i ∷ code_back f g code (all_second (λ insn. All (λ to. g (f to) ≡ to) (targets_of insn)) insn code all) i
+code_back f g (insn ∷ code) all = λ i. places_back f g insn (all 0 insn (omega arith)) i ∷ code_back f g code (All-tail (λ insn. All (λ to. g (f to) ≡ to) (targets_of insn)) insn code all) i

@@ -1,20 +1,19 @@
 -- Instructions that are read one after the other.
-use Rattle.std.proofs.Common.{◌≡◌, ◌≢◌, ◌⊎◌, inl, inr, Result, Ok, Err, ℕ, zero, suc, ◌+◌, ◌-◌, ◌<◌, ◌≤◌, List, [], ◌∷◌, ◌++◌, length, Option, Some, None, All, refl, sym, ◌∙◌, ap, subst, arith, append_assoc, length-append}
+use Rattle.std.proofs.Common.{◌≡◌, Ok, Err, ℕ, ◌+◌, ◌<◌, ◌≤◌, List, [], ◌∷◌, ◌++◌, length, Some, All, refl, sym, ◌∙◌, ap, subst, arith, append_assoc, length-append}
 use Rattle.std.proofs.lemmas.List.{append-nil}
-use Rattle.std.proofs.lemmas.List.Elements.{All-append, All-nil}
+use Rattle.std.proofs.lemmas.List.Elements.{All-push, All-nil}
 use Rattle.jc_base.specs.Reader.{Reading}
 use Rattle.jc_base.specs.Decoder.{SameEnd}
-use Rattle.jc_base.proofs.DecoderLaws.{some_is, some_none}
+use Rattle.jc_base.proofs.DecoderLaws.{some_none}
 use Rattle.jc_base.specs.declared.refusal.Refusal.{Refusal}
 use Rattle.jc_base.specs.declared.refusal.RefusalKind.{RefusalKind}
 use Rattle.jc_base.specs.declared.refusal.RefusalKind.TheVariants as kinds
 use Rattle.jc_base.specs.declared.insn.Insn.{Insn}
 use Rattle.jc_insn.specs.declared.item.Item.{Item}
 use Rattle.jc_insn.specs.declared.item.Item.TheVariants as items
-use Rattle.jc_insn.specs.Fields.{byte, Then}
-use Rattle.jc_insn.specs.Items.{IsItem, operands}
+use Rattle.jc_insn.specs.Items.{IsItem}
 use Rattle.jc_insn.specs.Reading.{item_at}
-use Rattle.jc_insn.specs.Spells.{SpellsFrom, IsSubroutine, IsMalformed, IsFault, FaultBehind, IsRefused}
+use Rattle.jc_insn.specs.Spells.{SpellsFrom, IsFault, FaultBehind}
 use Rattle.jc_base.specs.declared.fail.Fail.{Fail}
 use Rattle.jc_base.specs.declared.fail.Fail.TheVariants as fails
 use Rattle.jc_insn.specs.Decoding.{Stops, Refuses, GivesNext}
@@ -70,10 +69,6 @@ less_left reader after insn read end =
     let e = ap length t.parts ∙ length-append t.text after.left in
     omega (arith, e, t.some)
 
-all_one : {X : Type 0} (P : X → Type 0) (x : X) → P x → All P (x ∷ [])
-all_one P x p zero d below = p
-all_one P x p (suc k) d below = absurd (omega (arith, below))
-
 one_more : {X : Type 0} (xs ys more : List X) (x : X) → ys ≡ xs ++ x ∷ [] → xs ++ x ∷ more ≡ ys ++ more
 one_more xs ys more x e = sym (append_assoc xs (x ∷ []) more) ∙ ap (λ l. l ++ more) (sym e)
 
@@ -89,7 +84,7 @@ goes_on bytes reader after code code' starts starts' insn start so_far read end 
       spelled = λ more later s. spelled t more later s;
       fault = λ more kind place f. fault t more kind place f;
       whole = omega (arith, end, so_far.whole);
-      within = subst (All (λ start. start < length bytes + 1)) (sym starts_is) (All-append (λ start. start < length bytes + 1) starts (start ∷ []) so_far.within (all_one (λ s. s < length bytes + 1) start (omega (arith, start_is, so_far.whole))));
+      within = subst (All (λ start. start < length bytes + 1)) (sym starts_is) (All-push (λ start. start < length bytes + 1) starts start so_far.within (omega (arith, start_is, so_far.whole)));
       count = omega (arith, more_code, more_starts, so_far.count);
       few = omega (arith, more_code, so_far.few, t.place, t.some);
     }

@@ -1,10 +1,10 @@
 -- What is known of an instruction that is spelled: it is well formed, and its spelling isn't too short.
-use Rattle.std.proofs.Common.{◌≡◌, ◌≢◌, ◌⊎◌, inl, inr, ℕ, zero, suc, ◌+◌, ◌-◌, ◌*◌, ◌/◌, ◌%◌, ◌^◌, ◌<◌, ◌≤◌, Bool, true, false, cond, ◌&&◌, List, [], ◌∷◌, ◌++◌, length, drop, map, get_or, All, nat_eq, nat_lt, nat_le, refl, sym, ◌∙◌, ap, subst, arith, w8, w16, w32, ℤ, pos, negsuc, length-append}
-use Rattle.std.specs.Prelude.{T, int_le, int_lt, unsigned_abs, ◌+ℤ◌, ◌-ℤ◌, ◌≤ℤ◌, ◌<ℤ◌}
-use Rattle.std.specs.Int.{cast_signed, cast_unsigned}
+use Rattle.std.proofs.Common.{◌≡◌, inl, inr, ℕ, zero, suc, ◌+◌, ◌-◌, ◌*◌, ◌/◌, ◌%◌, ◌<◌, ◌≤◌, Bool, true, false, cond, ◌&&◌, List, [], ◌∷◌, ◌++◌, length, drop, All, nat_lt, nat_le, refl, sym, ◌∙◌, ap, subst, arith, w8, w16, w32, ℤ, pos, negsuc, length-append}
+use Rattle.std.specs.Prelude.{int_lt, unsigned_abs, ◌+ℤ◌, ◌-ℤ◌, ◌≤ℤ◌}
+use Rattle.std.specs.Int.{cast_signed}
 use Rattle.std.specs.Int.Signed.{lt_z_yes}
 use Rattle.std.proofs.lemmas.Int.{ints}
-use Rattle.std.proofs.lemmas.Bool.{cases_lt, lt-ltb, le-ltb, ltb-true, ltb-false}
+use Rattle.std.proofs.lemmas.Bool.{lt-ltb, ltb-true, ltb-false}
 use Rattle.std.proofs.lemmas.Bool.Decides.{nat_tests}
 use Rattle.jc_base.specs.declared.form.Form.{Form}
 use Rattle.jc_base.specs.declared.form.Form.TheVariants as forms
@@ -14,13 +14,12 @@ use Rattle.jc_base.specs.declared.insn.Insn.{Insn}
 use Rattle.jc_base.specs.declared.insn.Insn.TheVariants as insns
 use Rattle.jc_base.specs.declared.insn.Arm.{Arm}
 use Rattle.jc_base.specs.Insn.{IsWellFormed, IsAscending, arm_count}
-use Rattle.jc_insn.specs.declared.item.Item.{Item}
 use Rattle.jc_insn.specs.declared.item.Item.TheVariants as items
 use Rattle.jc_insn.specs.Fields.{nothing, byte, piece, Then, only_if}
 use Rattle.jc_insn.specs.Items.{number, padding, key_count, target_of, in_pieces, place_in, places_in, arm_in, arms_in, ascending, table_operands, lookup_operands, wide_operands, operands, IsItem}
-use Rattle.jc_base.specs.Insn.{with_places}
 use Rattle.jc_insn.specs.Sizes.{size_of, push_size, local_size, is_narrow_inc, IsLeast}
 use Rattle.jc_insn.proofs.CodeTextsLaws.{same_size}
+use Rattle.jc_insn.proofs.ItemsLaws.{insn_is, not_subroutine}
 use Rattle.jc_insn.proofs.TextsLaws.{true_test, both_true, le_true, true_le}
 
 -- what is known of an instruction behind whose opcode these bytes stand
@@ -28,9 +27,6 @@ pub record Facts (at : ℕ) (rest : List ℕ) (insn : Insn) : Type 0 where
   pub well_formed : IsWellFormed insn
   pub least : All (λ b. b < 256) rest → size_of at false insn ≤ suc (length rest)
   pub few : arm_count insn ≤ length rest
-
-insn_is : (a b : Insn) → items.Insn a ≡ items.Insn b → a ≡ b
-insn_is a b e = cc
 
 -- the item is this instruction
 as_insn : (at : ℕ) (rest : List ℕ) (insn known : Insn) → items.Insn insn ≡ items.Insn known → Facts at rest known → Facts at rest insn
@@ -141,10 +137,7 @@ wide_facts at forms.Inc op rest insn is t =
     let more = after_number 2 (λ b. nothing (items.Insn (insns.Inc t.value (cast_signed w16 b)))) t.rest (items.Insn insn) t.behind in
     let most = cond_most (is_narrow_inc t.value (cast_signed w16 t.behind.value)) 3 6 6 (omega arith) (omega arith) in
     subst (λ (i : Insn). (IsWellFormed i) × (size_of at false i ≤ 2 + length rest) × (arm_count i ≡ 0)) (sym (insn_is insn (insns.Inc t.value (cast_signed w16 t.behind.value)) t.behind.behind.1)) (tt, omega (arith, size, more, most), refl)
-wide_facts at forms.Subroutine op rest insn is t = absurd (let e = t.1.1 in no e)
-  where
-    no : items.Insn insn ≡ items.Subroutine → ⊥
-    no e = cc
+wide_facts at forms.Subroutine op rest insn is t = absurd (not_subroutine insn t.1.1)
 wide_facts at form op rest insn is t = absurd t
 
 table_facts : (at : ℕ) (rest : List ℕ) (insn : Insn) → table_operands at rest (items.Insn insn) → Facts at rest insn
@@ -218,10 +211,7 @@ facts at forms.Inc op rest insn is t =
     (λ small. let a = ap length first in let b = ap length second in rw (narrow t.value t.behind.value (small_byte rest t.rest t.value first small)) (omega (arith, a, b)))
 facts at forms.Jump op rest insn is t = of_number at 2 (λ v. insns.Jump op (target_of at (cast_signed w16 v))) rest insn t (λ v. is) (λ v. refl) (λ v. omega arith)
 facts at forms.WideJump op rest insn is t = of_number at 4 (λ v. insns.Jump 167 (target_of at (cast_signed w32 v))) rest insn t (λ v. let rows = named_forms in rows.4) (λ v. refl) (λ v. omega arith)
-facts at forms.Subroutine op rest insn is t = absurd (let e = t.1 in no e)
-  where
-    no : items.Insn insn ≡ items.Subroutine → ⊥
-    no e = cc
+facts at forms.Subroutine op rest insn is t = absurd (not_subroutine insn t.1)
 facts at forms.Table op rest insn is t = table_facts at rest insn t
 facts at forms.Lookup op rest insn is t = lookup_facts at rest insn t
 facts at forms.Member op rest insn is t = of_number at 2 (λ v. insns.Member op v) rest insn t (λ v. is) (λ v. refl) (λ v. omega arith)

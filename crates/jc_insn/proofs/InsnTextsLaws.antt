@@ -1,5 +1,6 @@
 -- What is written of an instruction is its spelling, of its size.
-use Rattle.std.proofs.Common.{◌≡◌, ◌⊎◌, inl, inr, ℕ, zero, suc, ◌+◌, ◌-◌, ◌*◌, ◌/◌, ◌%◌, ◌^◌, ◌<◌, ◌≤◌, Bool, true, false, cond, ◌&&◌, List, [], ◌∷◌, ◌++◌, length, All, nat_eq, nat_lt, nat_le, refl, sym, ◌∙◌, ap, subst, arith, w8, w16, w32, ℤ, pos, negsuc, length-append, map, get_or}
+use Rattle.std.proofs.Common.{◌≡◌, ◌⊎◌, inl, inr, ℕ, ◌%◌, ◌<◌, ◌≤◌, Bool, true, false, ◌&&◌, List, [], ◌∷◌, ◌++◌, All, nat_le, refl, sym, ap, subst, arith, w8, w16, w32, ℤ, pos, negsuc, map}
+use Rattle.std.proofs.lemmas.List.Elements.{All-head, All-tail}
 use Rattle.std.specs.Prelude.{FitsSigned, ◌≤ℤ◌}
 use Rattle.std.specs.Int.{cast_signed, cast_unsigned}
 use Rattle.std.proofs.lemmas.Bool.{cases_lt, lt-ltb, le-ltb}
@@ -18,9 +19,9 @@ use Rattle.jc_insn.specs.declared.item.Item.{Item}
 use Rattle.jc_insn.specs.declared.item.Item.TheVariants as items
 use Rattle.jc_insn.specs.Fields.{nothing, byte, piece, Then, only_if}
 use Rattle.jc_insn.specs.Items.{number, target_of, operands, IsItem}
-use Rattle.jc_insn.specs.Writing.{short, word, signed_byte, signed_short, difference, push_text, constant_text, jump_text, insn_text, IsNear, IsNearJump, IsInRange}
-use Rattle.jc_insn.proofs.OffsetsLaws.{big_short, big_word, signed_byte_back, signed_short_back, short_target, word_target}
-use Rattle.jc_insn.proofs.TextsLaws.{item_of, byte_then, number_then, piece_then, one_byte, one_number, one_piece, short_fits, local_is, inc_is, all_first, all_behind}
+use Rattle.jc_insn.specs.Writing.{short, signed_byte, difference, push_text, constant_text, jump_text, insn_text, IsNear, IsNearJump, IsInRange}
+use Rattle.jc_insn.proofs.OffsetsLaws.{big_short, signed_byte_back, signed_short_back, short_target}
+use Rattle.jc_insn.proofs.TextsLaws.{item_of, byte_then, number_then, one_byte, one_number, one_piece, short_fits, local_is, inc_is}
 use Rattle.jc_insn.proofs.SwitchTextsLaws.{ArmFits, table_is, lookup_is}
 
 short_item : (at op : ℕ) (form : Form) (f : ℕ → Item) (x : ℕ) (item : Item) → form_of op ≡ form → x < 65536 → item ≡ f x → ((text : List ℕ) → Then (number 2) (λ v. nothing (f v)) text item → operands at form op text item) → IsItem at (op ∷ short x) item
@@ -95,10 +96,10 @@ text_is at wide (insns.Multi place dims) fits jump =
     (byte_then (λ d. only_if (nat_le 1 d) (nothing (items.Insn (insns.Multi place d)))) dims [] item (dims_test dims fits.well_formed, (refl, refl))))
 text_is at wide (insns.Jump op to) fits jump = jump op to refl
 text_is at wide (insns.Table low default arms) fits jump =
-    table_is at default low arms fits.at_fits (all_first (λ to. to < 4294967296) default arms fits.places) fits.in_range fits.well_formed.0 fits.well_formed.1 (all_behind (λ to. to < 4294967296) default arms fits.places)
+    table_is at default low arms fits.at_fits (All-head (λ to. to < 4294967296) default arms fits.places) fits.in_range fits.well_formed.0 fits.well_formed.1 (All-tail (λ to. to < 4294967296) default arms fits.places)
 text_is at wide (insns.Lookup default arms) fits jump =
     let tos = map (λ (a : Arm). a.to) arms in
-    lookup_is at default arms fits.at_fits (all_first (λ to. to < 4294967296) default tos fits.places) fits.well_formed.0 fits.well_formed.1 (arms_fit arms fits.in_range (all_behind (λ to. to < 4294967296) default tos fits.places))
+    lookup_is at default arms fits.at_fits (All-head (λ to. to < 4294967296) default tos fits.places) fits.well_formed.0 fits.well_formed.1 (arms_fit arms fits.in_range (All-tail (λ to. to < 4294967296) default tos fits.places))
 
 -- a jump in two bytes
 pub near_text_is : (at : ℕ) (insn : Insn) → Fits at insn → IsNearJump at insn → IsItem at (insn_text at false insn) (items.Insn insn)
@@ -108,5 +109,5 @@ near_text_is at insn fits near = text_is at false insn fits (λ op to is. subst 
     jump : (op to : ℕ) → Fits at (insns.Jump op to) → IsNear at to → IsItem at (jump_text at false op to) (items.Insn (insns.Jump op to))
     jump op to f near =
         let x = difference at to % 65536 in
-        let to_fits = all_first (λ t. t < 4294967296) to [] f.places in
+        let to_fits = All-head (λ t. t < 4294967296) to [] f.places in
         short_item at op forms.Jump (λ v. items.Insn (insns.Jump op (target_of at (cast_signed w16 v)))) x (items.Insn (insns.Jump op to)) f.well_formed (omega arith) (ap (λ (t : ℕ). items.Insn (insns.Jump op t)) (sym (short_target at to f.at_fits to_fits near))) (λ text o. o)

@@ -1,5 +1,5 @@
 -- An item that is read is spelled so, and what is spelled so is read.
-use Rattle.std.proofs.Common.{◌≡◌, ℕ, ◌+◌, ◌-◌, ◌*◌, ◌/◌, ◌%◌, Bool, true, ◌&&◌, List, [], ◌∷◌, ◌++◌, Option, Some, None, nat_eq, nat_lt, nat_le, refl, sym, ◌∙◌, ap}
+use Rattle.std.proofs.Common.{◌≡◌, ℕ, ◌*◌, ◌&&◌, List, ◌++◌, Some, nat_eq, nat_lt, nat_le, sym, ◌∙◌, ap}
 use Rattle.std.specs.Prelude.{int_le}
 use Rattle.std.proofs.lemmas.List.{append_cancel_right}
 use Rattle.std.specs.Int.{w8, w16, w32, cast_signed}
@@ -12,7 +12,7 @@ use Rattle.jc_base.specs.declared.insn.Insn.TheVariants as insns
 use Rattle.jc_base.proofs.DecoderLaws.{some_is}
 use Rattle.jc_insn.specs.declared.item.Item.{Item}
 use Rattle.jc_insn.specs.declared.item.Item.TheVariants as items
-use Rattle.jc_insn.specs.Fields.{nothing, byte, piece, Then, only_if}
+use Rattle.jc_insn.specs.Fields.{nothing, byte, piece, Then}
 use Rattle.jc_insn.specs.Items.{number, padding, key_count, target_of, places_in, arms_in, ascending, short_load, short_store, table_operands, lookup_operands, wide_operands, operands, IsItem}
 use Rattle.jc_insn.specs.Reading.{piece_at, push_byte_at, push_short_at, constant_byte_at, constant_short_at, constant2_at, local_at, inc_at, jump_at, wide_jump_at, table_at, lookup_at, member_at, interface_at, dynamic_at, of_class_at, new_array_at, multi_at, wide_local_at, wide_inc_at, wide_operands_at, wide_at, operands_at, item_at}
 use Rattle.jc_insn.proofs.FieldsLaws.{IsReadBy, reads_nothing, reads_byte, reads_number, reads_piece, reads_then, reads_if, reads_none}
@@ -82,6 +82,12 @@ reads_operands at forms.Unknown op = reads_none
 pub reads_item : (at : ℕ) → IsReadBy (IsItem at) (item_at at)
 unfolding IsItem item_at
 reads_item at = reads_then byte _ byte_at _ reads_byte (λ op. reads_operands at (form_of op) op)
+
+pub insn_is : (a b : Insn) → items.Insn a ≡ items.Insn b → a ≡ b
+insn_is a b e = cc
+
+pub not_subroutine : (a : Insn) → items.Insn a ≡ items.Subroutine → ⊥
+not_subroutine a e = cc
 
 -- two items at the front of the same bytes are one
 pub same_item : (at : ℕ) (a b x y : List ℕ) (i j : Item) → IsItem at a i → IsItem at b j → a ++ x ≡ b ++ y → (a ≡ b) × (i ≡ j)

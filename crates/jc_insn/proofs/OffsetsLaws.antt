@@ -1,15 +1,23 @@
 -- Signed numbers and differences of offsets, written and read again.
-use Rattle.std.proofs.Common.{◌≡◌, ◌⊎◌, inl, inr, ℕ, zero, suc, ◌+◌, ◌-◌, ◌*◌, ◌/◌, ◌%◌, ◌^◌, ◌<◌, ◌≤◌, Bool, true, false, cond, List, [], ◌∷◌, ◌++◌, length, nat_lt, refl, sym, ◌∙◌, ap, subst, arith, w8, w16, w32, ℤ, pos, negsuc}
-use Rattle.std.specs.Prelude.{◌≤ℤ◌, ◌<ℤ◌, FitsSigned}
+use Rattle.std.proofs.Common.{◌≡◌, ◌⊎◌, inl, inr, ℕ, suc, ◌+◌, ◌-◌, ◌%◌, ◌<◌, ◌≤◌, [], length, sym, ◌∙◌, ap, arith, w8, w16, w32, ℤ, pos, negsuc}
+use Rattle.std.specs.Prelude.{◌≤ℤ◌, FitsSigned}
 use Rattle.std.specs.Int.{cast_signed, cast_unsigned}
 use Rattle.std.proofs.lemmas.Int.{ints, to_z-of_z, of_z-to_z, to_z_pos}
-use Rattle.std.proofs.lemmas.Bool.{cases_lt, lt-ltb, le-ltb}
+use Rattle.std.proofs.lemmas.Bool.{cases_lt, le-ltb}
 use Rattle.std.proofs.lemmas.List.{append-nil}
 use Rattle.byteorder.specs.Endian.{big_number, big_bytes}
 use Rattle.byteorder.specs.Numbers.{big_number-reads_back, length-bytes_high_first}
 use Rattle.jc_base.specs.Decoder.{IsBig}
 use Rattle.jc_insn.specs.Items.{target_of}
 use Rattle.jc_insn.specs.Writing.{short, word, signed_byte, difference, IsNear}
+
+pub short_size : (x : ℕ) → length (short x) ≡ 2
+unfolding short
+short_size x = length-bytes_high_first 2 x
+
+pub word_size : (x : ℕ) → length (word x) ≡ 4
+unfolding word
+word_size x = length-bytes_high_first 4 x
 
 pub big_short : (x : ℕ) → x < 65536 → IsBig 2 (short x) x
 unfolding short

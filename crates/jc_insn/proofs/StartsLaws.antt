@@ -1,15 +1,13 @@
 -- Offsets that are the sums of sizes.
-use Rattle.std.proofs.Common.{◌≡◌, ◌≢◌, ◌⊎◌, inl, inr, ℕ, zero, suc, ◌+◌, ◌-◌, ◌*◌, ◌%◌, ◌<◌, ◌≤◌, Bool, true, false, cond, ◌&&◌, List, [], ◌∷◌, ◌++◌, length, map, get_or, All, nat_eq, nat_lt, refl, sym, ◌∙◌, ap, subst, arith}
-use Rattle.std.specs.Prelude.{ℤ, slice_index}
+use Rattle.std.proofs.Common.{◌≡◌, ◌≢◌, ℕ, zero, suc, ◌+◌, ◌<◌, ◌≤◌, Bool, true, false, cond, List, [], ◌∷◌, length, get_or, nat_eq, nat_lt, refl, ◌∙◌, ap, arith}
 use Rattle.std.proofs.lemmas.Bool.{eq-eqb, ne_eqb}
 use Rattle.jc_base.specs.declared.form.Form.{Form}
 use Rattle.jc_base.specs.declared.form.Form.TheVariants as forms
 use Rattle.jc_base.specs.InsnForm.{form_of}
 use Rattle.jc_base.specs.declared.insn.Insn.{Insn}
 use Rattle.jc_base.specs.declared.insn.Insn.TheVariants as insns
-use Rattle.jc_insn.specs.Items.{padding}
-use Rattle.jc_insn.specs.Sizes.{push_size, local_size, is_narrow_inc, jump_size, size_of, StartAt}
-use Rattle.jc_insn.specs.Spells.{number_at}
+use Rattle.jc_insn.specs.Sizes.{push_size, is_narrow_inc, size_of, StartAt}
+use Rattle.jc_insn.specs.Spells.{insn_number}
 
 some_of : (b : Bool) (m n : ℕ) → 1 ≤ m → 1 ≤ n → 1 ≤ cond b m n
 some_of true m n p q = p
@@ -73,17 +71,17 @@ below_last wide at (insn ∷ code) starts (later, is, more) (suc k) below =
     let ih = below_last wide (at + size_of at wide insn) code later more k (omega (arith, long, below)) in
     omega (arith, e, end, ih)
 
-step_in : (at offset : ℕ) (later : List ℕ) → at ≢ offset → 1 ≤ length later → number_at (at ∷ later) offset ≡ 1 + number_at later offset
+step_in : (at offset : ℕ) (later : List ℕ) → at ≢ offset → 1 ≤ length later → insn_number (at ∷ later) offset ≡ 1 + insn_number later offset
 step_in at offset [] other some = absurd (omega (arith, some))
 step_in at offset (next ∷ later) other some = rw (ne_eqb at offset other) refl
 
 -- the offset of an instruction has its number
-pub number_of_start : (wide : Bool) (at : ℕ) (code : List Insn) (starts : List ℕ) → StartAt wide at code starts → (k : ℕ) → k < length code → number_at starts (get_or starts k 0) ≡ k
+pub number_of_start : (wide : Bool) (at : ℕ) (code : List Insn) (starts : List ℕ) → StartAt wide at code starts → (k : ℕ) → k < length code → insn_number starts (get_or starts k 0) ≡ k
 number_of_start wide at [] starts s k below = absurd (omega (arith, below))
 number_of_start wide at (insn ∷ code) starts (later, is, more) zero below =
-    ap (λ (l : List ℕ). number_at l (get_or l 0 0)) is ∙ first later (let long = count_starts wide (at + size_of at wide insn) code later more in omega (arith, long))
+    ap (λ (l : List ℕ). insn_number l (get_or l 0 0)) is ∙ first later (let long = count_starts wide (at + size_of at wide insn) code later more in omega (arith, long))
   where
-    first : (l : List ℕ) → 1 ≤ length l → number_at (at ∷ l) at ≡ 0
+    first : (l : List ℕ) → 1 ≤ length l → insn_number (at ∷ l) at ≡ 0
     first [] some = absurd (omega (arith, some))
     first (x ∷ l) some = rw (eq-eqb at at refl) refl
 number_of_start wide at (insn ∷ code) starts (later, is, more) (suc k) below =
@@ -91,4 +89,4 @@ number_of_start wide at (insn ∷ code) starts (later, is, more) (suc k) below =
     let above = above_first wide (at + size_of at wide insn) code later more k (omega (arith, long, below)) in
     let some = some_size at wide insn in
     let ih = number_of_start wide (at + size_of at wide insn) code later more k (omega (arith, below)) in
-    ap (λ (l : List ℕ). number_at l (get_or l (suc k) 0)) is ∙ step_in at (get_or later k 0) later (λ e. absurd (omega (arith, e, above, some))) (omega (arith, long)) ∙ omega (arith, ih)
+    ap (λ (l : List ℕ). insn_number l (get_or l (suc k) 0)) is ∙ step_in at (get_or later k 0) later (λ e. absurd (omega (arith, e, above, some))) (omega (arith, long)) ∙ omega (arith, ih)

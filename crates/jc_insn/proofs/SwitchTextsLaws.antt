@@ -1,58 +1,46 @@
 -- The shortest spelling of a switch is a spelling.
-use Rattle.std.proofs.Common.{◌≡◌, ◌⊎◌, inl, inr, ℕ, zero, suc, ◌+◌, ◌-◌, ◌*◌, ◌/◌, ◌%◌, ◌^◌, ◌<◌, ◌≤◌, Bool, true, false, cond, ◌&&◌, List, [], ◌∷◌, ◌++◌, length, drop, replicate, All, nat_eq, nat_lt, nat_le, refl, sym, ◌∙◌, ap, subst, arith, rules, w8, w16, w32, ℤ, pos, negsuc, length-append, append_assoc}
-use Rattle.std.specs.Prelude.{T, FitsSigned, int_le, int_lt, unsigned_abs, ◌+ℤ◌, ◌-ℤ◌, ◌≤ℤ◌, ◌<ℤ◌}
+use Rattle.std.proofs.Common.{◌≡◌, ℕ, ◌+◌, ◌-◌, ◌*◌, ◌/◌, ◌<◌, ◌≤◌, true, List, [], ◌∷◌, ◌++◌, length, drop, All, refl, sym, ◌∙◌, ap, subst, arith, rules, w32, ℤ, pos, length-append, append_assoc}
+use Rattle.std.specs.Prelude.{FitsSigned, int_le, int_lt, unsigned_abs, ◌+ℤ◌, ◌-ℤ◌, ◌≤ℤ◌}
 use Rattle.std.specs.List.{flat_map}
 use Rattle.std.specs.Int.{cast_signed, cast_unsigned}
 use Rattle.std.proofs.lemmas.Int.{ints}
-use Rattle.std.proofs.lemmas.List.{append-nil, drop_at}
-use Rattle.std.proofs.lemmas.Bool.{cases_lt, lt-ltb, le-ltb}
+use Rattle.std.proofs.lemmas.List.{append-nil, drop_at, length-replicate}
+use Rattle.std.proofs.lemmas.Bool.{lt-ltb}
 use Rattle.byteorder.specs.Endian.{big_number}
-use Rattle.jc_base.specs.Decoder.{IsBig}
 use Rattle.jc_base.proofs.DecoderLaws.{big_front}
-use Rattle.jc_base.specs.declared.form.Form.{Form}
 use Rattle.jc_base.specs.declared.form.Form.TheVariants as forms
-use Rattle.jc_base.specs.InsnForm.{form_of}
 use Rattle.jc_base.proofs.InsnFormLaws.{named_forms}
-use Rattle.jc_base.specs.declared.insn.Insn.{Insn}
 use Rattle.jc_base.specs.declared.insn.Insn.TheVariants as insns
 use Rattle.jc_base.specs.declared.insn.Arm.{Arm}
 use Rattle.jc_base.specs.Insn.{IsAscending}
-use Rattle.jc_insn.specs.declared.item.Item.{Item}
 use Rattle.jc_insn.specs.declared.item.Item.TheVariants as items
-use Rattle.jc_insn.specs.Fields.{nothing, byte, piece, Then, only_if}
-use Rattle.jc_insn.specs.Items.{number, padding, key_count, target_of, in_pieces, place_in, places_in, arm_in, arms_in, ascending, table_operands, lookup_operands, operands, IsItem}
-use Rattle.jc_insn.specs.Writing.{short, word, difference, arm_text, pad_text, last_key, table_text, lookup_text}
-use Rattle.jc_insn.proofs.OffsetsLaws.{big_word, signed_word_back, word_target}
+use Rattle.jc_insn.specs.Fields.{nothing, piece, Then, only_if}
+use Rattle.jc_insn.specs.Items.{padding, key_count, target_of, in_pieces, place_in, places_in, arm_in, arms_in, ascending, table_operands, lookup_operands, operands, IsItem}
+use Rattle.jc_insn.specs.Writing.{word, difference, arm_text, pad_text, last_key, table_text, lookup_text}
+use Rattle.jc_insn.proofs.OffsetsLaws.{big_word, signed_word_back, word_target, word_size}
 use Rattle.jc_insn.proofs.TextsLaws.{item_of, number_then, piece_then, one_piece, length_pieces, pieces_back, place_back, test_true, le_true, word_fits}
 
-length_replicate : (n : ℕ) → length (let l : List ℕ = replicate n 0 in l) ≡ n
-length_replicate zero = refl
-length_replicate (suc n) = let e = length_replicate n in omega (arith, e)
-
-pad_length : (at : ℕ) → length (pad_text at) ≡ padding at
+pub pad_length : (at : ℕ) → length (pad_text at) ≡ padding at
 unfolding pad_text
-pad_length at = length_replicate (padding at)
+pad_length at = length-replicate (padding at) 0
 
 small_difference : (at to : ℕ) → difference at to < 4294967296
 small_difference at to = omega arith
 
-word_size : (x : ℕ) → x < 4294967296 → length (word x) ≡ 4
-word_size x fits = let big = big_word x fits in big.size
-
 -- ---- tableswitch
 
-abbrev places_text : ℕ → List ℕ → List ℕ
+abbrev pub places_text : ℕ → List ℕ → List ℕ
 places_text at arms = flat_map (λ to. word (difference at to)) arms
 
-places_length : (at : ℕ) (arms : List ℕ) → All (λ to. to < 4294967296) arms → length (places_text at arms) ≡ 4 * length arms
-places_length at arms fit = length_pieces (λ to. to < 4294967296) 4 (λ (to : ℕ). word (difference at to)) arms (λ to fits. word_size (difference at to) (small_difference at to)) fit
+pub places_length : (at : ℕ) (arms : List ℕ) → length (places_text at arms) ≡ 4 * length arms
+places_length at arms = length_pieces 4 (λ (to : ℕ). word (difference at to)) arms (λ to. word_size (difference at to))
 
 places_back : (at : ℕ) (arms : List ℕ) → at < 4294967296 → All (λ to. to < 4294967296) arms → places_in at (places_text at arms) ≡ arms
 unfolding places_in
 places_back at arms at_fits fit =
-    let count : length (places_text at arms) / 4 ≡ length arms = let e = places_length at arms fit in omega (arith, e) in
+    let count : length (places_text at arms) / 4 ≡ length arms = let e = places_length at arms in omega (arith, e) in
     ap (λ (n : ℕ). in_pieces 4 (place_in at) n (places_text at arms)) count
-    ∙ pieces_back (λ to. to < 4294967296) 4 (place_in at) (λ (to : ℕ). word (difference at to)) arms (λ to fits. word_size (difference at to) (small_difference at to)) (λ to rest fits. place_back at to rest at_fits fits) fit
+    ∙ pieces_back (λ to. to < 4294967296) 4 (place_in at) (λ (to : ℕ). word (difference at to)) arms (λ to. word_size (difference at to)) (λ to rest fits. place_back at to rest at_fits fits) fit
 
 last_above : (low : ℤ) (count : ℕ) → low ≤ℤ last_key low count
 last_above low count = omega (arith, ints)
@@ -78,7 +66,7 @@ table_is at default low arms at_fits default_fits low_fits some high fit =
     let high_is : cast_signed w32 (cast_unsigned w32 last) ≡ last = signed_word_back last high_fits in
     let test : int_le (cast_signed w32 (cast_unsigned w32 low)) (cast_signed w32 (cast_unsigned w32 last)) ≡ true = (λ i. int_le (low_is i) (high_is i)) ∙ le_true low last (last_above low (length arms)) in
     let size : length (places_text at arms) ≡ 4 * key_count (cast_signed w32 (cast_unsigned w32 low)) (cast_signed w32 (cast_unsigned w32 last)) =
-    places_length at arms fit ∙ ap (λ (n : ℕ). 4 * n) (sym ((λ i. key_count (low_is i) (high_is i)) ∙ keys_between low (length arms) some)) in
+    places_length at arms ∙ ap (λ (n : ℕ). 4 * n) (sym ((λ i. key_count (low_is i) (high_is i)) ∙ keys_between low (length arms) some)) in
     let same : item ≡ items.Insn (insns.Table (cast_signed w32 (cast_unsigned w32 low)) (target_of at (cast_signed w32 (difference at default))) (places_in at (places_text at arms))) =
     (λ i. items.Insn (insns.Table (sym low_is i) (sym (word_target at default at_fits default_fits) i) (sym (places_back at arms at_fits fit) i))) in
     item_of at 170 forms.Table (pad_text at ++ (word (difference at default) ++ (low_word ++ (high_word ++ places_text at arms)))) item (let rows = named_forms in rows.5)
@@ -90,10 +78,10 @@ table_is at default low arms at_fits default_fits low_fits some high fit =
 
 -- ---- lookupswitch
 
-arm_size : (at : ℕ) (arm : Arm) → FitsSigned w32 arm.key → length (arm_text at arm) ≡ 8
-arm_size at arm fits =
-    let key = word_size (cast_unsigned w32 arm.key) (word_fits arm.key fits) in
-    let to = word_size (difference at arm.to) (small_difference at arm.to) in
+arm_size : (at : ℕ) (arm : Arm) → length (arm_text at arm) ≡ 8
+arm_size at arm =
+    let key = word_size (cast_unsigned w32 arm.key) in
+    let to = word_size (difference at arm.to) in
     let all = length-append (word (cast_unsigned w32 arm.key)) (word (difference at arm.to)) in
     omega (arith, key, to, all)
 
@@ -114,15 +102,15 @@ arm_back at arm rest at_fits fits =
     ap (λ (l : List ℕ). place_in at (drop 4 l)) whole ∙ ap (place_in at) (drop_at key_word (to_word ++ rest) 4 big.size) ∙ place_back at arm.to rest at_fits fits.to in
     λ i. record { key = key_is i; to = to_is i }
 
-arms_length : (at : ℕ) (arms : List Arm) → All ArmFits arms → length (flat_map (arm_text at) arms) ≡ 8 * length arms
-arms_length at arms fit = length_pieces ArmFits 8 (arm_text at) arms (λ arm fits. arm_size at arm fits.key) fit
+pub arms_length : (at : ℕ) (arms : List Arm) → length (flat_map (arm_text at) arms) ≡ 8 * length arms
+arms_length at arms = length_pieces 8 (arm_text at) arms (arm_size at)
 
 arms_back : (at : ℕ) (arms : List Arm) → at < 4294967296 → All ArmFits arms → arms_in at (flat_map (arm_text at) arms) ≡ arms
 unfolding arms_in
 arms_back at arms at_fits fit =
-    let count : length (flat_map (arm_text at) arms) / 8 ≡ length arms = let e = arms_length at arms fit in omega (arith, e) in
+    let count : length (flat_map (arm_text at) arms) / 8 ≡ length arms = let e = arms_length at arms in omega (arith, e) in
     ap (λ (n : ℕ). in_pieces 8 (arm_in at) n (flat_map (arm_text at) arms)) count
-    ∙ pieces_back ArmFits 8 (arm_in at) (arm_text at) arms (λ arm fits. arm_size at arm fits.key) (λ arm rest fits. arm_back at arm rest at_fits fits) fit
+    ∙ pieces_back ArmFits 8 (arm_in at) (arm_text at) arms (arm_size at) (λ arm rest fits. arm_back at arm rest at_fits fits) fit
 
 ascends : (arms : List Arm) → IsAscending arms → ascending arms ≡ true
 ascends [] up = refl
@@ -144,5 +132,5 @@ lookup_is at default arms at_fits default_fits few up fit =
     (number_then 4 _ (length arms) (word (length arms)) text item (big_word (length arms) (omega (arith, few))) (
       lt-ltb (length arms) 2147483648 few,
       subst (λ (l : List ℕ). Then (piece (8 * length arms)) (λ words. only_if (ascending (arms_in at words)) (nothing (items.Insn (insns.Lookup (target_of at (cast_signed w32 (difference at default))) (arms_in at words))))) l item) (append-nil text)
-          (piece_then (8 * length arms) (λ words. only_if (ascending (arms_in at words)) (nothing (items.Insn (insns.Lookup (target_of at (cast_signed w32 (difference at default))) (arms_in at words))))) text [] item (arms_length at arms fit) (test, (refl, same))),
+          (piece_then (8 * length arms) (λ words. only_if (ascending (arms_in at words)) (nothing (items.Insn (insns.Lookup (target_of at (cast_signed w32 (difference at default))) (arms_in at words))))) text [] item (arms_length at arms) (test, (refl, same))),
     ))))

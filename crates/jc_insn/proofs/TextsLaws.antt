@@ -1,31 +1,26 @@
 -- The shortest spelling of an instruction is a spelling.
-use Rattle.std.proofs.Common.{◌≡◌, ◌⊎◌, inl, inr, ℕ, zero, suc, ◌+◌, ◌-◌, ◌*◌, ◌/◌, ◌%◌, ◌^◌, ◌<◌, ◌≤◌, Bool, true, false, cond, ◌&&◌, List, [], ◌∷◌, ◌++◌, length, drop, All, nat_eq, nat_lt, nat_le, refl, sym, ◌∙◌, ap, subst, arith, w8, w16, w32, ℤ, pos, negsuc, length-append, append_assoc}
+use Rattle.std.proofs.Common.{◌≡◌, ◌⊎◌, inl, inr, ℕ, ◌+◌, ◌-◌, ◌*◌, ◌/◌, ◌%◌, ◌<◌, ◌≤◌, Bool, true, false, ◌&&◌, List, [], ◌∷◌, ◌++◌, length, All, nat_lt, refl, sym, ◌∙◌, ap, subst, arith, w8, w16, w32, ℤ, pos, negsuc, length-append}
+use Rattle.std.proofs.lemmas.List.Elements.{All-head, All-tail}
 use Rattle.std.specs.Int.Signed.{le_z_yes}
-use Rattle.std.specs.Prelude.{T, FitsSigned, int_le, ◌+ℤ◌, ◌-ℤ◌, ◌≤ℤ◌}
+use Rattle.std.specs.Prelude.{T, FitsSigned, int_le, ◌≤ℤ◌}
 use Rattle.std.specs.List.{flat_map}
 use Rattle.std.specs.Int.{cast_signed, cast_unsigned}
 use Rattle.std.proofs.lemmas.List.{append-nil, drop_at}
 use Rattle.std.proofs.lemmas.Bool.{cases_lt, lt-ltb, le-ltb}
-use Rattle.std.proofs.lemmas.Bool.Decides.{nat_tests}
-use Rattle.byteorder.specs.Endian.{big_number}
 use Rattle.jc_base.specs.Decoder.{IsBig}
 use Rattle.jc_base.proofs.DecoderLaws.{big_front}
 use Rattle.jc_base.specs.declared.form.Form.{Form}
 use Rattle.jc_base.specs.declared.form.Form.TheVariants as forms
 use Rattle.jc_base.specs.InsnForm.{form_of}
 use Rattle.jc_base.proofs.InsnFormLaws.{local_codes, load_form, store_form, named_forms}
-use Rattle.jc_base.specs.declared.insn.Insn.{Insn}
 use Rattle.jc_base.specs.declared.insn.Insn.TheVariants as insns
-use Rattle.jc_base.specs.declared.insn.Arm.{Arm}
-use Rattle.jc_base.specs.Insn.{IsWellFormed}
-use Rattle.jc_base.specs.Flow.{targets_of}
 use Rattle.jc_insn.specs.declared.item.Item.{Item}
 use Rattle.jc_insn.specs.declared.item.Item.TheVariants as items
-use Rattle.jc_insn.specs.Fields.{nothing, byte, piece, Then, only_if}
-use Rattle.jc_insn.specs.Items.{number, padding, key_count, target_of, in_pieces, place_in, places_in, arm_in, arms_in, ascending, short_load, short_store, table_operands, lookup_operands, wide_operands, operands, IsItem}
+use Rattle.jc_insn.specs.Fields.{nothing, byte, piece, Then}
+use Rattle.jc_insn.specs.Items.{number, target_of, in_pieces, place_in, wide_operands, operands, IsItem}
 use Rattle.jc_insn.specs.Sizes.{is_narrow_inc}
-use Rattle.jc_insn.specs.Writing.{short, word, signed_byte, signed_short, difference, push_text, short_code, local_text, inc_text, constant_text, wide_jump_text, jump_text, arm_text, pad_text, last_key, table_text, lookup_text, insn_text, IsNear, IsNearJump, IsInRange}
-use Rattle.jc_insn.proofs.OffsetsLaws.{big_short, big_word, signed_byte_back, signed_short_back, signed_word_back, word_target, short_target}
+use Rattle.jc_insn.specs.Writing.{short, word, signed_byte, signed_short, difference, short_code, local_text, inc_text}
+use Rattle.jc_insn.proofs.OffsetsLaws.{big_short, big_word, signed_byte_back, signed_short_back, word_target}
 
 -- ---- fields
 
@@ -54,26 +49,19 @@ one_piece n f text item size is = subst (λ (l : List ℕ). Then (piece n) (λ v
 
 -- ---- pieces of the same size
 
-pub all_first : {X : Type 0} (P : X → Type 0) (x : X) (xs : List X) → All P (x ∷ xs) → P x
-all_first P x xs all = all 0 x (omega arith)
-
-pub all_behind : {X : Type 0} (P : X → Type 0) (x : X) (xs : List X) → All P (x ∷ xs) → All P xs
-all_behind P x xs all k d below = all (suc k) d (omega (arith, below))
-
-pub length_pieces : {X : Type 0} (P : X → Type 0) (size : ℕ) (w : X → List ℕ) (xs : List X) → ((x : X) → P x → length (w x) ≡ size) → All P xs → length (flat_map w xs) ≡ size * length xs
-length_pieces P size w [] each all = omega arith
-length_pieces P size w (x ∷ xs) each all =
-    let front = each x (all_first P x xs all) in
-    let rest = length_pieces P size w xs each (all_behind P x xs all) in
+pub length_pieces : {X : Type 0} (size : ℕ) (w : X → List ℕ) (xs : List X) → ((x : X) → length (w x) ≡ size) → length (flat_map w xs) ≡ size * length xs
+length_pieces size w [] each = omega arith
+length_pieces size w (x ∷ xs) each =
+    let front = each x in
+    let rest = length_pieces size w xs each in
     let both = length-append (w x) (flat_map w xs) in
     omega (arith, front, rest, both)
 
-pub pieces_back : {X : Type 0} (P : X → Type 0) (size : ℕ) (f : List ℕ → X) (w : X → List ℕ) (xs : List X) → ((x : X) → P x → length (w x) ≡ size) → ((x : X) (rest : List ℕ) → P x → f (w x ++ rest) ≡ x) → All P xs → in_pieces size f (length xs) (flat_map w xs) ≡ xs
+pub pieces_back : {X : Type 0} (P : X → Type 0) (size : ℕ) (f : List ℕ → X) (w : X → List ℕ) (xs : List X) → ((x : X) → length (w x) ≡ size) → ((x : X) (rest : List ℕ) → P x → f (w x ++ rest) ≡ x) → All P xs → in_pieces size f (length xs) (flat_map w xs) ≡ xs
 pieces_back P size f w [] each back all = refl
 pieces_back P size f w (x ∷ xs) each back all =
-    let fits = all_first P x xs all in
-    (λ i. back x (flat_map w xs) fits i ∷ in_pieces size f (length xs) (drop_at (w x) (flat_map w xs) size (each x fits) i))
-    ∙ ap (λ l. x ∷ l) (pieces_back P size f w xs each back (all_behind P x xs all))
+    (λ i. back x (flat_map w xs) (All-head P x xs all) i ∷ in_pieces size f (length xs) (drop_at (w x) (flat_map w xs) size (each x) i))
+    ∙ ap (λ l. x ∷ l) (pieces_back P size f w xs each back (All-tail P x xs all))
 
 pub place_back : (at to : ℕ) (rest : List ℕ) → at < 4294967296 → to < 4294967296 → place_in at (word (difference at to) ++ rest) ≡ to
 place_back at to rest at_fits to_fits =

@@ -1,9 +1,8 @@
 -- Instructions that are written.
-use Rattle.std.proofs.Common.{◌≡◌, ◌≢◌, ◌⊎◌, inl, inr, ℕ, zero, suc, ◌+◌, ◌-◌, ◌*◌, ◌/◌, ◌%◌, ◌^◌, ◌<◌, ◌≤◌, Bool, true, false, cond, ◌||◌, List, [], ◌∷◌, ◌++◌, length, map, take, drop, get_or, replicate, All, w32, add-one, nat_eq, nat_lt, refl, sym, ◌∙◌, ap, subst, arith, length-append, append_assoc}
+use Rattle.std.proofs.Common.{◌≡◌, ◌⊎◌, ℕ, zero, suc, ◌+◌, ◌<◌, ◌≤◌, Bool, true, false, ◌||◌, List, [], ◌∷◌, ◌++◌, length, map, take, drop, get_or, replicate, All, w32, add-one, nat_eq, refl, sym, ◌∙◌, ap, subst, arith, append_assoc}
 use Rattle.std.specs.Prelude.{slice_index}
 use Rattle.std.specs.List.{flat_map}
-use Rattle.std.proofs.lemmas.Bool.{cases_lt, ne_eqb}
-use Rattle.jc_base.specs.declared.form.Form.{Form}
+use Rattle.std.proofs.lemmas.Bool.{ne_eqb}
 use Rattle.jc_base.specs.declared.form.Form.TheVariants as forms
 use Rattle.jc_base.specs.InsnForm.{form_of}
 use Rattle.std.specs.Prelude.{ℤ, FitsSigned}
@@ -12,7 +11,7 @@ use Rattle.std.proofs.lemmas.Grind.{flat_map-append}
 use Rattle.std.proofs.Math.ListN.{drop_of_length-le}
 use Rattle.jc_base.specs.Flow.{is_test, targets_of}
 use Rattle.std.proofs.Math.Seq.{drop-cons, take-suc}
-use Rattle.std.proofs.lemmas.List.Elements.{All-append}
+use Rattle.std.proofs.lemmas.List.Elements.{All-tail, All-more}
 use Rattle.jc_base.specs.Insn.{IsWellFormed, with_places, arm_with_place}
 use Rattle.jc_insn.specs.Writing.{insn_text, code_text, arm_text, IsInRange}
 use Rattle.jc_base.specs.declared.insn.Insn.{Insn}
@@ -40,13 +39,10 @@ zeros (suc (suc (suc (suc n)))) few = absurd (omega (arith, few))
 pub six_pieces : (a b c d e f g : List ℕ) (x : ℕ) (p q r s t : List ℕ) → b ≡ a ++ x ∷ [] → c ≡ b ++ p → d ≡ c ++ q → e ≡ d ++ r → f ≡ e ++ s → g ≡ f ++ t → g ≡ a ++ x ∷ (p ++ (q ++ (r ++ (s ++ t))))
 six_pieces a b c d e f g x p q r s t ab bc cd de ef fg = rw (fg, ef, de, cd, bc, ab) (simp append_assoc)
 
-pub all_behind : {X : Type 0} (P : X → Type 0) (x : X) (xs : List X) → All P (x ∷ xs) → All P xs
-all_behind P x xs all k d below = all (suc k) d (omega (arith, below))
-
 -- where the arms of a switch lead
 pub table_places : (P : ℕ → Type 0) (insn : Insn) (low : ℤ) (default : ℕ) (arms seen : List ℕ) → insn ≡ insns.Table low default arms → seen ≡ arms → All P (targets_of insn) → All P seen
 table_places P insn low default arms seen is seen_is all =
-    subst (λ (l : List ℕ). All P l) (sym seen_is) (all_behind P default arms (subst (λ (i : Insn). All P (targets_of i)) is all))
+    subst (λ (l : List ℕ). All P l) (sym seen_is) (All-tail P default arms (subst (λ (i : Insn). All P (targets_of i)) is all))
 
 pub lookup_places : (P : ℕ → Type 0) (insn : Insn) (default : ℕ) (arms seen : List Arm) → insn ≡ insns.Lookup default arms → seen ≡ arms → All P (targets_of insn) → All (λ arm. P arm.to) seen
 lookup_places P insn default arms seen is seen_is all =
@@ -54,7 +50,7 @@ lookup_places P insn default arms seen is seen_is all =
   where
     each : (k : ℕ) (d : Arm) → k < length arms → P (get_or arms k d).to
     each k d below =
-        let behind : All P (map (λ (a : Arm). a.to) arms) = all_behind P default (map (λ (a : Arm). a.to) arms) (subst (λ (i : Insn). All P (targets_of i)) is all) in
+        let behind : All P (map (λ (a : Arm). a.to) arms) = All-tail P default (map (λ (a : Arm). a.to) arms) (subst (λ (i : Insn). All P (targets_of i)) is all) in
         subst P (get_or-map (λ (a : Arm). a.to) arms k d d.to below) (behind k d.to (omega (arith, length-map arms (λ (a : Arm). a.to), below)))
 
 pub local_of : (insn : Insn) (op slot : ℕ) → insn ≡ insns.Local op slot → IsWellFormed insn → ((21 ≤ op) × (op ≤ 25)) ⊎ ((54 ≤ op) × (op ≤ 58))
@@ -80,13 +76,6 @@ pub record ArmsPut (at : ℕ) (starts : List ℕ) (arms : List Arm) (count : ℕ
   pub text : new ≡ old ++ flat_map (arm_text at) (map (arm_with_place (slice_index starts)) (take count arms))
   pub keys : All (λ arm. FitsSigned w32 arm.key) (take count arms)
 
-all_one : {X : Type 0} (P : X → Type 0) (x : X) → P x → All P (x ∷ [])
-all_one P x p zero d below = p
-all_one P x p (suc k) d below = absurd (omega (arith, below))
-
-pub all_more : {X : Type 0} (P : X → Type 0) (xs : List X) (n : ℕ) (d : X) → n < length xs → All P (take n xs) → P (get_or xs n d) → All P (take (n + 1) xs)
-all_more P xs n d below all p = rw (add-one, take-suc xs n d below) (All-append P (take n xs) (get_or xs n d ∷ []) all (all_one P (get_or xs n d) p))
-
 -- what was put and what is left are the whole code, and the fields of what was put have room
 pub record CodePut (starts : List ℕ) (wide : Bool) (code : List Insn) (number : ℕ) (text : List ℕ) : Type 0 where
   pub whole : text ++ code_text (slice_index starts) wide (drop number code) (drop number starts) ≡ code_text (slice_index starts) wide code starts
@@ -95,7 +84,7 @@ pub record CodePut (starts : List ℕ) (wide : Bool) (code : List Insn) (number 
 pub puts_insn : (starts : List ℕ) (wide : Bool) (code : List Insn) (number : ℕ) (insn : Insn) (old new : List ℕ) → number < length code → number < length starts → insn ≡ get_or code number insn → CodePut starts wide code number old → new ≡ old ++ insn_text (get_or starts number 0) wide (with_places (slice_index starts) insn) → IsInRange insn → CodePut starts wide code (number + 1) new
 puts_insn starts wide code number insn old new in_code in_starts insn_is so_far wrote range = record {
   whole = writes_on (slice_index starts) wide code starts number insn old new (code_text (slice_index starts) wide code starts) in_code in_starts insn_is so_far.whole wrote;
-  ranges = all_more IsInRange code number insn in_code so_far.ranges (subst IsInRange insn_is range);
+  ranges = All-more IsInRange code number insn in_code so_far.ranges (subst IsInRange insn_is range);
 }
 
 code_at_end : (places : ℕ → ℕ) (wide : Bool) (code : List Insn) (starts : List ℕ) (number : ℕ) → length code ≤ number → code_text places wide (drop number code) starts ≡ []
@@ -120,5 +109,5 @@ puts_arm at starts arms count d old mid new below so_far wrote key =
     ∙ ap (λ (l : List ℕ). before ++ l) (append-nil (arm_text at (g arm))) in
     record {
       text = wrote ∙ ap (λ (l : List ℕ). l ++ arm_text at (g arm)) so_far.text ∙ append_assoc old before (arm_text at (g arm)) ∙ ap (λ (l : List ℕ). old ++ l) (sym texts);
-      keys = all_more (λ (a : Arm). FitsSigned w32 a.key) arms count d below so_far.keys key;
+      keys = All-more (λ (a : Arm). FitsSigned w32 a.key) arms count d below so_far.keys key;
     }

@@ -1,10 +1,10 @@
 -- What is written of code is a spelling of it.
-use Rattle.std.proofs.Common.{◌≡◌, ◌≢◌, ◌⊎◌, inl, inr, ℕ, zero, suc, ◌+◌, ◌-◌, ◌*◌, ◌%◌, ◌^◌, ◌<◌, ◌≤◌, Bool, true, false, cond, List, [], ◌∷◌, ◌++◌, length, map, get_or, All, nat_eq, nat_lt, refl, sym, ◌∙◌, ap, subst, arith, w8, w16, w32, ℤ, pos, negsuc, length-append, append_assoc}
+use Rattle.std.proofs.Common.{◌≡◌, ◌⊎◌, inl, inr, ℕ, ◌+◌, ◌<◌, ◌≤◌, Bool, true, false, cond, List, [], ◌∷◌, ◌++◌, length, map, get_or, All, nat_eq, refl, sym, ◌∙◌, ap, subst, arith, w16, w32, append_assoc}
+use Rattle.std.proofs.lemmas.List.Elements.{All-tail}
 use Rattle.std.specs.Prelude.{slice_index}
-use Rattle.std.specs.Int.{cast_signed, cast_unsigned}
-use Rattle.std.proofs.lemmas.List.{append-nil, get_or_past, get_or_default}
+use Rattle.std.specs.Int.{cast_signed}
+use Rattle.std.proofs.lemmas.List.{get_or_past, get_or_default}
 use Rattle.std.proofs.lemmas.Bool.{cases_lt, eqb-true, eqb-false}
-use Rattle.jc_base.specs.declared.form.Form.{Form}
 use Rattle.jc_base.specs.declared.form.Form.TheVariants as forms
 use Rattle.jc_base.specs.InsnForm.{form_of}
 use Rattle.jc_base.proofs.InsnFormLaws.{named_forms, inverse_form, test_below}
@@ -12,18 +12,17 @@ use Rattle.jc_base.specs.declared.insn.Insn.{Insn}
 use Rattle.jc_base.specs.declared.insn.Insn.TheVariants as insns
 use Rattle.jc_base.specs.Insn.{IsWellFormed, with_places}
 use Rattle.jc_base.specs.Flow.{targets_of, inverse_of, is_test}
-use Rattle.jc_insn.specs.declared.item.Item.{Item}
 use Rattle.jc_insn.specs.declared.item.Item.TheVariants as items
 use Rattle.jc_insn.specs.Items.{IsItem, target_of, operands}
-use Rattle.jc_insn.specs.Spells.{SpellsFrom, Spells, number_at}
+use Rattle.jc_insn.specs.Spells.{SpellsFrom, Spells, insn_number}
 use Rattle.jc_insn.specs.Sizes.{size_of, StartAt}
-use Rattle.jc_insn.specs.Writing.{short, word, difference, insn_text, code_text, spelled_as, code_as, IsNearJump, AllNear, IsInRange, AppendsSpelling, AppendsInsns}
+use Rattle.jc_insn.specs.Writing.{short, word, difference, insn_text, code_text, spelled_as, code_as, AllNear, IsInRange, AppendsSpelling, AppendsInsns}
 use Rattle.jc_insn.proofs.WritingLaws.{jump_tests}
-use Rattle.jc_insn.proofs.OffsetsLaws.{big_short, big_word, word_target}
+use Rattle.jc_insn.proofs.OffsetsLaws.{short_size, word_size, big_short, big_word, word_target}
 use Rattle.jc_insn.proofs.TextsLaws.{item_of, one_number}
 use Rattle.jc_insn.proofs.InsnTextsLaws.{Fits, near_text_is, text_is}
-use Rattle.jc_insn.proofs.StartsLaws.{number_of_start, count_starts, below_last}
-use Rattle.jc_insn.proofs.CodeTextsLaws.{short_size, word_size, text_size, same_size, well_formed_with, in_range_with, targets_fit, code_back, all_second}
+use Rattle.jc_insn.proofs.StartsLaws.{number_of_start, below_last}
+use Rattle.jc_insn.proofs.CodeTextsLaws.{text_size, same_size, well_formed_with, in_range_with, targets_fit, code_back}
 
 -- the code that `encode` takes: all that it asks of the instructions and their offsets
 pub record IsLaidOut (wide : Bool) (code : List Insn) (starts : List ℕ) : Type 0 where
@@ -48,7 +47,7 @@ each_fits places (insn ∷ code) (at ∷ starts) small starts_fit well fit = (
     in_range = in_range_with places insn (fit 0 insn (omega arith));
     places = targets_fit places 4294967296 insn small;
   },
-  each_fits places code starts small (all_second (λ s. s < 4294967296) at starts starts_fit) (all_second IsWellFormed insn code well) (all_second IsInRange insn code fit),
+  each_fits places code starts small (All-tail (λ s. s < 4294967296) at starts starts_fit) (All-tail IsWellFormed insn code well) (All-tail IsInRange insn code fit),
 )
 
 near_code : (places : ℕ → ℕ) (at : ℕ) (code : List Insn) (starts : List ℕ) → StartAt false at code starts → EachFits places code starts → AllNear places code starts → SpellsFrom at (code_text places false code starts) (map (with_places places) code) starts
@@ -80,14 +79,14 @@ small_starts wide code starts s end k = by (cases_lt k (length starts))
 all_small : (wide : Bool) (code : List Insn) (starts : List ℕ) → StartAt wide 0 code starts → get_or starts (length code) 0 ≤ 2147483647 → All (λ s. s < 4294967296) starts
 all_small wide code starts s end k d below = rw (get_or_default starts k d 0 below) (small_starts wide code starts s end k)
 
-numbers_back : (wide : Bool) (code : List Insn) (starts : List ℕ) → StartAt wide 0 code starts → All (λ insn. All (λ to. to < length code) (targets_of insn)) code → All (λ insn. All (λ to. number_at starts (slice_index starts to) ≡ to) (targets_of insn)) code
+numbers_back : (wide : Bool) (code : List Insn) (starts : List ℕ) → StartAt wide 0 code starts → All (λ insn. All (λ to. to < length code) (targets_of insn)) code → All (λ insn. All (λ to. insn_number starts (slice_index starts to) ≡ to) (targets_of insn)) code
 numbers_back wide code starts s places k d below = λ j e inside. number_of_start wide 0 code starts s (get_or (targets_of (get_or code k d)) j e) (places k d below j e inside)
 
 pub spells_code : (code : List Insn) (starts : List ℕ) → IsLaidOut false code starts → AllNear (slice_index starts) code starts → Spells (code_text (slice_index starts) false code starts) code starts
 spells_code code starts out near = record {
   spelled = map (with_places (slice_index starts)) code;
   text = near_code (slice_index starts) 0 code starts out.starts_at (each_fits (slice_index starts) code starts (small_starts false code starts out.starts_at out.end) (all_small false code starts out.starts_at out.end) out.well_formed out.in_range) near;
-  places = sym (code_back (slice_index starts) (number_at starts) code (numbers_back false code starts out.starts_at out.places));
+  places = sym (code_back (slice_index starts) (insn_number starts) code (numbers_back false code starts out.starts_at out.places));
 }
 
 -- ---- the wide layout
@@ -152,7 +151,7 @@ wide_code places at (insn ∷ code) (start ∷ starts) (later, is, more) fit sma
     let text = insn_text start true raw in
     let size : at + size_of at true insn ≡ start + length text = (λ i. sym first_is i + sym (text_size start true raw ∙ same_size places start true insn ∙ ap (λ (s : ℕ). size_of s true insn) first_is) i) in
     let more_starts : StartAt true (start + length text) code starts = subst (λ (p : ℕ). StartAt true p code starts) size (subst (λ (l : List ℕ). StartAt true (at + size_of at true insn) code l) (sym later_is) more) in
-    let behind = wide_code places (start + length text) code starts more_starts fit.1 (all_second (λ s. s ≤ 2147483647) start starts small) in
+    let behind = wide_code places (start + length text) code starts more_starts fit.1 (All-tail (λ s. s ≤ 2147483647) start starts small) in
     subst (λ (p : ℕ). Spelled p (text ++ code_text places true code starts) (spelled_as start true raw ++ code_as places true code starts)) first_is
     (wide_insn start raw (code_text places true code starts) (code_as places true code starts) fit.0 (small 0 start (omega arith)) behind)
 

@@ -1,7 +1,5 @@
 -- The spelling of code (JVM Specification 4.7.3 and 4.9.1).
-use Rattle.std.specs.Prelude.{◌≡◌, ◌≢◌, ℕ, ◌+◌, List, [], ◌∷◌, ◌++◌, length, map, nat_eq, if◌then◌else◌, Option, None, ⊤}
-use Rattle.jc_base.specs.declared.fail.Fail.{Fail}
-use Rattle.jc_base.specs.declared.fail.Fail.TheVariants as fails
+use Rattle.std.specs.Prelude.{◌≡◌, ◌≢◌, ℕ, ◌+◌, List, [], ◌∷◌, ◌++◌, length, map, nat_eq, if◌then◌else◌, None}
 use Rattle.jc_base.specs.declared.refusal.Refusal.{Refusal}
 use Rattle.jc_base.specs.declared.refusal.RefusalKind.{RefusalKind}
 use Rattle.jc_base.specs.declared.refusal.RefusalKind.TheVariants as kinds
@@ -20,10 +18,10 @@ SpellsFrom at bytes (insn ∷ code) starts =
     × SpellsFrom (at + length text) rest code later
 
 -- The number of the instruction that begins at this offset. Where none does, it is the number of instructions.
-abbrev pub number_at : List ℕ → ℕ → ℕ
-number_at [] offset = 0
-number_at (end ∷ []) offset = 0
-number_at (start ∷ next ∷ starts) offset = if nat_eq start offset then 0 else 1 + number_at (next ∷ starts) offset
+abbrev pub insn_number : List ℕ → ℕ → ℕ
+insn_number [] offset = 0
+insn_number (end ∷ []) offset = 0
+insn_number (start ∷ next ∷ starts) offset = if nat_eq start offset then 0 else 1 + insn_number (next ∷ starts) offset
 
 -- The bytes spell the instructions, which begin at these offsets, behind which stands the length of the code.
 -- A jump names the instruction that begins at the offset to which it leads. Where none begins there, it
@@ -31,9 +29,9 @@ number_at (start ∷ next ∷ starts) offset = if nat_eq start offset then 0 els
 pub record Spells (bytes : List ℕ) (code : List Insn) (starts : List ℕ) : Type 0 where
   pub spelled : List Insn
   pub text : SpellsFrom 0 bytes spelled starts
-  pub places : code ≡ map (with_places (number_at starts)) spelled
+  pub places : code ≡ map (with_places (insn_number starts)) spelled
 
--- the bytes at this offset begin with jsr, jsr_w or ret, also behind `wide`
+-- the bytes at this offset begin with jsr, jsr_w, ret or wide ret
 abbrev pub IsSubroutine : ℕ → List ℕ → Type 0
 IsSubroutine at bytes = (text rest : List ℕ) × (bytes ≡ text ++ rest) × IsItem at text items.Subroutine
 

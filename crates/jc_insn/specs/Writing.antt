@@ -1,7 +1,7 @@
 -- The shortest spelling of instructions.
-use Rattle.std.specs.Prelude.{◌≡◌, ◌⊎◌, ◌<◌, ◌≤◌, ⊤, ℕ, ◌+◌, ◌-◌, ◌*◌, ◌%◌, ◌^◌, ℤ, pos, ◌+ℤ◌, ◌-ℤ◌, Bool, true, false, List, [], ◌∷◌, ◌++◌, length, slice_index, replicate, nat_eq, nat_lt, if◌then◌else◌, FitsSigned, All}
-use Rattle.std.specs.List.{flat_map, AllByRecursion}
-use Rattle.std.specs.Int.{w8, w16, w32, cast_unsigned}
+use Rattle.std.specs.Prelude.{◌≡◌, ◌<◌, ◌≤◌, ⊤, ℕ, ◌+◌, ◌-◌, ◌*◌, ◌%◌, ◌^◌, ℤ, pos, ◌+ℤ◌, Bool, true, List, [], ◌∷◌, ◌++◌, length, replicate, nat_eq, nat_lt, if◌then◌else◌, FitsSigned, All}
+use Rattle.std.specs.List.{flat_map}
+use Rattle.std.specs.Int.{w16, w32, cast_unsigned}
 use Rattle.byteorder.specs.Endian.{big_bytes}
 use Rattle.jc_base.specs.declared.form.Form.{Form}
 use Rattle.jc_base.specs.declared.form.Form.TheVariants as forms
@@ -9,11 +9,11 @@ use Rattle.jc_base.specs.InsnForm.{form_of}
 use Rattle.jc_base.specs.declared.insn.Insn.{Insn}
 use Rattle.jc_base.specs.declared.insn.Insn.TheVariants as insns
 use Rattle.jc_base.specs.declared.insn.Arm.{Arm}
-use Rattle.jc_base.specs.Flow.{inverse_of, targets_of}
+use Rattle.jc_base.specs.Flow.{inverse_of}
 use Rattle.jc_base.specs.Insn.{with_places}
 use Rattle.jc_insn.specs.Items.{padding}
 use Rattle.jc_insn.specs.Spells.{SpellsFrom, Spells}
-use Rattle.jc_insn.specs.Sizes.{size_of, is_narrow_inc}
+use Rattle.jc_insn.specs.Sizes.{is_narrow_inc}
 
 -- a number of two bytes, and one of four
 unfoldable pub short : ℕ → List ℕ

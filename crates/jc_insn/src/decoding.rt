@@ -4,10 +4,9 @@ ghost use Rattle.jc_base.specs.Decoder.{SameEnd};
 ghost use Rattle.jc_base.specs.declared.insn.Insn.{Insn as Instruction};
 ghost use Rattle.jc_base.specs.declared.refusal.Refusal.{Refusal as Reason};
 ghost use Rattle.jc_insn.specs.Spells.{SpellsFrom, Spells, IsRefused};
-ghost use Rattle.jc_insn.specs.Decoding.{Refuses, GivesNext, IsInsnAmong};
+ghost use Rattle.jc_insn.specs.Decoding.{Refuses, GivesNext, IsInsnAmong, AreStarts};
 
-use crate::Item;
-use crate::item::read_item;
+use crate::item::{Item, read_item};
 use crate::places::{all_numbered, numbers};
 use jc_base::{Fail, Insn, List, Reader, Refusal, RefusalKind, Unread};
 use std::alloc::Global;
@@ -81,8 +80,8 @@ fn read_all(alloc: Global, bytes: &[u8]) -> Result<Spelled, Fail<Refusal>>
 /// `Constant`, and `goto_w` as `Jump` with the opcode of `goto`. What pads a switch, the last byte
 /// of `invokeinterface` and the last two of `invokedynamic` may have any value.
 ///
-/// Refused are `jsr`, `jsr_w` and `ret`, also behind `wide`, as `Subroutine`, and as `BadCode` an
-/// unknown opcode, operands cut off, `wide` before an opcode that it doesn't widen, a
+/// Refused are `jsr`, `jsr_w`, `ret` and `wide ret` as `Subroutine`, and as `BadCode` an unknown
+/// opcode, operands cut off, `wide` before an opcode that it doesn't widen, a
 /// `tableswitch` whose low key is above its high one, a `lookupswitch` with a negative number of
 /// pairs or keys that don't ascend, a `newarray` code outside 4 to 11, and a `multianewarray`
 /// without dimensions. The first in the order of the code is named, by its offset.
@@ -90,6 +89,7 @@ pub fn decode(alloc: Global, code: &[u8]) -> Result<Decoded, Fail<Refusal>>
     requires { length code.now ≤ 67108864 }
     ensures spelled { IfOk result (λ d. Spells code.now d.code d.starts) }
     ensures insns { IfOk result (λ d. All (IsInsnAmong (length d.code)) d.code) }
+    ensures starts { IfOk result (λ d. AreStarts (length d.code) (length code.now) d.starts) }
     ensures refused { IfErr result (λ e. Refuses e code.now) }
     // What is spelled is read so, unless memory runs out.
     ensures only { (list : List Instruction) (starts : List ℕ) → Spells code.now list starts

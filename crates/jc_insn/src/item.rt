@@ -17,7 +17,7 @@ use std::alloc::Global;
 pub enum Item {
     /// An instruction. The places to which it leads are offsets.
     Insn(Insn),
-    /// `jsr`, `jsr_w` or `ret`, also behind `wide`.
+    /// `jsr`, `jsr_w`, `ret` or `wide ret`.
     Subroutine,
 }
 

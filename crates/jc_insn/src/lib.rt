@@ -15,6 +15,5 @@ mod write;
 
 pub use decoding::{Decoded, decode};
 pub use encoding::encode;
-pub use item::Item;
 pub use laws::{one_code, one_spelling};
 pub use size::size_of;

@@ -1,7 +1,7 @@
 //! Offsets of instructions, and their numbers.
 ghost use Rattle.std.specs.Prelude.{◌≡◌, ◌+◌, ◌<◌, ◌≤◌, ◌^◌, ℕ, length, map, slice_index, slice_index_or, IfOk, All};
 ghost use Rattle.jc_base.specs.Insn.{with_places, arm_with_place};
-ghost use Rattle.jc_insn.specs.Spells.{number_at};
+ghost use Rattle.jc_insn.specs.Spells.{insn_number};
 
 use jc_base::{Arm, Insn, List};
 use std::alloc::{AllocError, Global};
@@ -13,7 +13,7 @@ pub fn numbers(alloc: Global, starts: &[u32], size: usize) -> Result<Vec<u32>, A
     requires few { length starts.now < 2 ^ 32 }
     requires within { All (λ start. start < size) starts.now }
     ensures length { IfOk result (λ numbers. length numbers.items ≡ size) }
-    ensures each { IfOk result (λ numbers. (offset : ℕ) → offset < size → slice_index numbers.items offset ≡ number_at starts.now offset) }
+    ensures each { IfOk result (λ numbers. (offset : ℕ) → offset < size → slice_index numbers.items offset ≡ insn_number starts.now offset) }
 {
     let mut number = starts.len() - 1;
     let mut numbers = vec![in alloc; number as u32; size]?;

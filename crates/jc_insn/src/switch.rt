@@ -4,8 +4,9 @@ ghost use Rattle.jc_base.specs.Decoder.{Gives, SameEnd, first};
 ghost use Rattle.jc_insn.specs.Items.{padding, key_count, ascending, place_in, places_in, arm_in, arms_in};
 ghost use Rattle.jc_insn.specs.Reading.{piece_at, table_at, lookup_at};
 
-use crate::Item;
+use crate::item::Item;
 use crate::operands::target;
+use crate::size::padding;
 use byteorder::{BigEndian, ByteOrder};
 use jc_base::{Arm, Insn, List, Reader, Unread};
 use std::alloc::{AllocError, Global};
@@ -104,7 +105,7 @@ pub fn table(alloc: Global, reader: &mut Reader<'_>, at: u32) -> Result<Item, Un
     ensures gives { Gives (λ item. item) result reader.new.left (table_at at reader.old.left) }
     ensures end { SameEnd reader.old reader.new }
 {
-    let _pad = reader.take(3 - at % 4)?;
+    let _pad = reader.take(padding(at))?;
     let default = reader.u32()?.cast_signed();
     let low = reader.u32()?.cast_signed();
     let high = reader.u32()?.cast_signed();
@@ -126,7 +127,7 @@ pub fn lookup(alloc: Global, reader: &mut Reader<'_>, at: u32) -> Result<Item, U
     ensures gives { Gives (λ item. item) result reader.new.left (lookup_at at reader.old.left) }
     ensures end { SameEnd reader.old reader.new }
 {
-    let _pad = reader.take(3 - at % 4)?;
+    let _pad = reader.take(padding(at))?;
     let default = reader.u32()?.cast_signed();
     let pairs = reader.u32()?;
     if pairs > 0x7fff_ffff {

@@ -1,9 +1,9 @@
-use Rattle.std.proofs.Common.{rules, ◌≡◌, ◌∙◌, ◌+◌, sym, arith, List, ℕ, length, subst, MatchResult, All, map, ◌<◌, get_or, ap}
+use Rattle.std.proofs.Common.{rules, ◌≡◌, ◌∙◌, ◌+◌, sym, arith, List, ℕ, length, subst, map, ◌<◌, get_or, ap}
 use Rattle.std.proofs.lemmas.Result.{err_from_is_err_and}
 use Rattle.jc_base.specs.Insn.{with_places}
-use Rattle.jc_insn.specs.Spells.{Spells, SpellsFrom, number_at}
+use Rattle.jc_insn.specs.Spells.{Spells, insn_number}
 use Rattle.jc_insn.proofs.CodeLaws.{spells, one_list, spelled_or_memory, not_spelled, refused_or_memory}
-use Rattle.jc_insn.proofs.AmongLaws.{all_among}
+use Rattle.jc_insn.proofs.AmongLaws.{all_among, are_starts}
 use Rattle.jc_insn.proofs.decoding.decode.Goals as goal
 use Rattle.jc_insn.proofs.decoding.decode.Goals.{After-drop-numbers-2}
 
@@ -22,8 +22,8 @@ spelled c =
     let t = c.in_ok-text.field-0 in
     let size = length c.args.code.now + 1 in
     let length_is : c.len.result ≡ length t.code.items = search rules in
-    let each : (offset : ℕ) → offset < size → get_or c.in_ok-numbers.numbers.items offset 0 ≡ number_at t.starts.items offset =
-    subst (λ (l : List ℕ). (offset : ℕ) → offset < size → get_or c.in_ok-numbers.numbers.items offset 0 ≡ number_at l offset) c.deref.ensures.value c.in_ok-numbers.ensures.each in
+    let each : (offset : ℕ) → offset < size → get_or c.in_ok-numbers.numbers.items offset 0 ≡ insn_number t.starts.items offset =
+    subst (λ (l : List ℕ). (offset : ℕ) → offset < size → get_or c.in_ok-numbers.numbers.items offset 0 ≡ insn_number l offset) c.deref.ensures.value c.in_ok-numbers.ensures.each in
     let numbered : c.in_ok-code.code ≡ map (with_places (λ offset. get_or c.in_ok-numbers.numbers.items offset c.len.result)) t.code.items =
     c.in_ok-code.ensures ∙ ap (λ (l : List ℕ). map (with_places (λ offset. get_or l offset c.len.result)) t.code.items) c.deref-2.ensures.value in
     subst (λ (l : List ℕ). Spells c.args.code.now c.in_ok-code.code l) (sym c.from_vec.ensures)
@@ -34,6 +34,9 @@ returns-clause-spelled c = spelled c
 
 pub returns-clause-insns : goal.returns-clause-insns
 returns-clause-insns c = all_among c.args.code.now c.in_ok-code.code c.from_vec.result c.requires (spelled c)
+
+pub returns-clause-starts : goal.returns-clause-starts
+returns-clause-starts c = are_starts c.args.code.now c.in_ok-code.code c.from_vec.result (spelled c)
 
 pub returns-clause-only : goal.returns-clause-only
 returns-clause-only c = λ list starts s. one_list c.args.code.now c.in_ok-code.code list c.from_vec.result starts (spelled c) s

@@ -1,4 +1,4 @@
-use Rattle.std.proofs.Common.{◌≡◌, ◌∙◌, sym, arith, subst, ℕ, ◌<◌}
+use Rattle.std.proofs.Common.{arith}
 use Rattle.std.proofs.lemmas.Result.{err_from_is_err_and}
 use Rattle.jc_insn.proofs.DecodingLaws.{less_left, goes_on, finishes, refuses}
 use Rattle.jc_insn.proofs.decoding.read_all.Goals as goal

@@ -1,4 +1,4 @@
-use Rattle.std.proofs.Common.{◌≡◌, ◌+◌, ◌<◌, ◌≤◌, length, arith, List, ℕ, get_or, All, subst, sym, ap, ◌∙◌, ◌++◌}
+use Rattle.std.proofs.Common.{◌≡◌, ◌<◌, length, arith, List, ℕ, All, subst, sym, ap, ◌∙◌, ◌++◌}
 use Rattle.std.specs.Prelude.{slice_index}
 use Rattle.jc_base.specs.declared.insn.Insn.{Insn}
 use Rattle.jc_base.specs.Flow.{targets_of}

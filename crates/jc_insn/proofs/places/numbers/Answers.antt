@@ -1,6 +1,6 @@
-use Rattle.std.proofs.Common.{arith, refl, rules, ◌<◌, ◌-◌, ◌+◌, ◌≡◌, length}
+use Rattle.std.proofs.Common.{arith, refl, rules, ◌<◌, ◌-◌, length}
 use Rattle.std.proofs.lemmas.List.Elements.{All-get_or}
-use Rattle.jc_insn.proofs.NumbersLaws.{begins, goes_on, is_done}
+use Rattle.jc_insn.proofs.NumbersLaws.{begins, goes_on}
 use Rattle.jc_insn.proofs.places.numbers.Goals as goal
 
 pub numbering-init : goal.numbering-init

@@ -1,4 +1,3 @@
-use Rattle.std.proofs.Common.{◌≡◌, length}
 use Rattle.jc_insn.proofs.NumbersLaws.{Numbered}
 use Rattle.jc_insn.proofs.places.numbers.Given as goal
 

@@ -1,4 +1,4 @@
-use Rattle.std.proofs.Common.{◌≡◌, ◌∙◌, ap, Bool}
+use Rattle.std.proofs.Common.{◌∙◌, ap, Bool}
 use Rattle.jc_insn.specs.Sizes.{size_of}
 use Rattle.jc_insn.proofs.FactsLaws.{is_least}
 use Rattle.jc_insn.proofs.size.size_of.Goals as goal

@@ -1,4 +1,4 @@
-use Rattle.std.proofs.Common.{◌≡◌, ◌∙◌, ap, ℕ, refl, arith}
+use Rattle.std.proofs.Common.{◌∙◌, ap, ℕ, refl, arith}
 use Rattle.jc_insn.specs.Items.{arms_in, arm_in, in_pieces}
 use Rattle.jc_insn.proofs.PiecesLaws.{pushes_piece}
 use Rattle.jc_insn.proofs.switch.arms.Goals as goal
