@@ -1,13 +1,13 @@
 -- The command that the words call, by their parts and by tests.
-use Rattle.std.proofs.Common.{◌≡◌, ◌≢◌, ◌⊎◌, inl, inr, ℕ, Bool, true, false, cond, not, ◌&&◌, List, [], ◌∷◌, ◌++◌, Option, None, Some, option_map, length, nat_eq, arith, codes, String, true≢false, refl, sym, ◌∙◌, ap, ap₂, subst, append_assoc}
-use Rattle.std.proofs.lemmas.List.{append-nil}
-use Rattle.std.specs.List.{flat_map}
+use Rattle.std.proofs.Common.{◌≡◌, ◌≢◌, ◌⊎◌, inl, inr, ◌≤◌, ◌<◌, ◌^◌, Bool, true, false, cond, not, ◌&&◌, List, [], ◌∷◌, ◌++◌, Option, None, Some, option_map, length, nat_eq, arith, codes, String, string_bytes, IsTrue, true≢false, refl, sym, ◌∙◌, ap, ap₂, subst, append_assoc}
+use Rattle.std.proofs.lemmas.List.{append-nil, length-map}
+use Rattle.std.specs.List.{flat_map, list_all, AllByRecursion}
 use Rattle.std.specs.Str.{bytes_eq}
 use Rattle.std.proofs.lemmas.Slice.Eq.{bytes_eq-Decides}
 use Rattle.jc_base.proofs.DecoderLaws.{chosen, guard_some, some_is}
 use Rattle.std.specs.declared.alloc.Global.{Global}
-use Rattle.jc_top.specs.Words.{Word, words_of, Use, use_words, Call, call_words, Scan, with_use, scan, is_value, is_option}
-use Rattle.jc_top.specs.Command.{Command, merge, merge_call, merge_one, IsCallOf, Means, NoForm, decide, decide_merge, decide_scan, command_of, destfile}
+use Rattle.jc_top.specs.Words.{Word, words_of, Use, use_words, Call, call_words, Scan, with_use, scan, is_value, is_option, is_relative, are_distinct, components, is_component}
+use Rattle.jc_top.specs.Command.{Command, merge, class_info, class_info_call, merge_one, class_info_some, IsCallOf, inputs_of, Means, NoForm, decide, decide_merge, decide_class_info, decide_scan, command_of, destfile}
 
 -- ---- a scan spells the words
 
@@ -69,16 +69,44 @@ merge_decided (u ∷ []) (input ∷ []) command e =
 merge_decided (u ∷ []) (input ∷ other ∷ files) command e = absurd cc
 merge_decided (u ∷ v ∷ uses) files command e = absurd cc
 
+all_by_recursion : (p : Word → Bool) (ws : List Word) → list_all p ws ≡ true → AllByRecursion (λ w. IsTrue (p w)) ws
+all_by_recursion p [] all = tt
+all_by_recursion p (w ∷ ws) all = let parts = and_parts (p w) (list_all p ws) all in (parts.0, all_by_recursion p ws parts.1)
+
+list_all_of : (p : Word → Bool) (ws : List Word) → AllByRecursion (λ w. IsTrue (p w)) ws → list_all p ws ≡ true
+list_all_of p [] all = refl
+list_all_of p (w ∷ ws) all = rw (all.0, list_all_of p ws all.1) refl
+
+cons_not_nil : {w : Word} {ws : List Word} → (w ∷ ws) ≢ []
+cons_not_nil e = cc
+
+class_info_decided : (uses : List Use) (files : List Word) (command : Command) → decide_class_info uses files ≡ Some command → IsCallOf (record { command = codes "classinfo"; uses = uses; files = files }) command
+class_info_decided [] [] command e = absurd cc
+class_info_decided [] (path ∷ paths) command e =
+    let test = guard_some (list_all is_relative (path ∷ paths) && are_distinct (path ∷ paths)) (Some (class_info (path ∷ paths))) command e in
+    let parts = and_parts (list_all is_relative (path ∷ paths)) (are_distinct (path ∷ paths)) test.0 in
+    subst (IsCallOf (class_info_call (path ∷ paths))) (some_is (class_info (path ∷ paths)) command test.1)
+    (class_info_some (path ∷ paths) cons_not_nil (all_by_recursion is_relative (path ∷ paths) parts.0) parts.1)
+class_info_decided (u ∷ uses) files command e = absurd cc
+
+-- a decision by the command's name
+named : (words : List Word) (name rest_name : Word) (rest : List Word) (s : Scan) (command : Command) → bytes_eq name rest_name ≡ true → words ≡ name ∷ rest → scan rest ≡ Some s → IsCallOf (record { command = rest_name; uses = s.uses; files = s.files }) command → Means words command
+named words name rest_name rest s command test parts is stated =
+    let same : name ≡ rest_name = (bytes_eq-Decides name rest_name).0 test in
+    record { call = record { command = rest_name; uses = s.uses; files = s.files }; spelled = parts ∙ ap₂ (λ (n : Word) (l : List Word). n ∷ l) same (scan_spells rest s is); stated = stated }
+
 pub decided : (words : List Word) (command : Command) → command_of words ≡ Some command → Means words command
 decided [] command e = absurd cc
 decided (name ∷ rest) command e = by (scan rest) refl e
   where
     by : (o : Option Scan) → scan rest ≡ o → decide_scan name o ≡ Some command → Means (name ∷ rest) command
     by None is e = absurd cc
-    by (Some s) is e =
-        let test = guard_some (bytes_eq name (codes "merge")) (decide_merge s.uses s.files) command e in
-        let same : name ≡ codes "merge" = (bytes_eq-Decides name (codes "merge")).0 test.0 in
-        record { call = record { command = codes "merge"; uses = s.uses; files = s.files }; spelled = ap₂ (λ (n : Word) (l : List Word). n ∷ l) same (scan_spells rest s is); stated = merge_decided s.uses s.files command test.1 }
+    by (Some s) is e = elim (chosen (bytes_eq name (codes "merge")) (decide_merge s.uses s.files) (cond (bytes_eq name (codes "classinfo")) (decide_class_info s.uses s.files) None) (Some command) e) [
+      | inl merges ↦ named (name ∷ rest) name (codes "merge") rest s command merges.0 refl is (merge_decided s.uses s.files command merges.1)
+      | inr other ↦
+          let test = guard_some (bytes_eq name (codes "classinfo")) (decide_class_info s.uses s.files) command other.1 in
+          named (name ∷ rest) name (codes "classinfo") rest s command test.0 refl is (class_info_decided s.uses s.files command test.1)
+    ]
 
 plain_scan : (input : Word) → is_value input ≡ true → scan (input ∷ []) ≡ Some (record { uses = []; files = input ∷ [] })
 unfolding scan
@@ -90,9 +118,24 @@ merge_scan : (out input : Word) → is_value input ≡ true → scan (destfile �
 unfolding scan
 merge_scan out input plain = ap (with_use (record { option = destfile; value = out })) (plain_scan input plain)
 
+value_no_option : (word : Word) → is_value word ≡ true → is_option word ≡ false
+value_no_option [] plain = absurd cc
+value_no_option (a ∷ []) plain = refl
+value_no_option (a ∷ b ∷ rest) plain = rw (not_true (nat_eq a 45) plain) refl
+
+pub scan_files : (w : Word) (rest : List Word) → is_option w ≡ false → scan (w ∷ rest) ≡ Some (record { uses = []; files = w ∷ rest })
+unfolding scan
+scan_files w [] no_option = rw no_option refl
+scan_files w (v ∷ rest) no_option = rw no_option refl
+
 found : (words : List Word) (call : Call) (command : Command) → words ≡ call_words call → IsCallOf call command → command_of words ≡ Some command
 found words call command spelled (merge_one out input some plain differ) =
     ap command_of spelled ∙ ap (decide_scan (codes "merge")) (merge_scan out input plain) ∙ rw (some, plain, no_match out input differ) refl
+found words call command spelled (class_info_some [] some relative distinct) = absurd (some refl)
+found words call command spelled (class_info_some (path ∷ paths) some relative distinct) =
+    let value = (and_parts (is_value path) (list_all is_component (components path)) relative.0).0 in
+    let cut : scan (path ∷ paths) ≡ Some (record { uses = []; files = path ∷ paths }) = scan_files path paths (value_no_option path value) in
+    ap command_of spelled ∙ ap (decide_scan (codes "classinfo")) cut ∙ rw (list_all_of is_relative (path ∷ paths) relative, distinct) refl
 
 pub means_found : (words : List Word) (command : Command) → Means words command → command_of words ≡ Some command
 means_found words command means = found words means.call command means.spelled means.stated
@@ -133,11 +176,6 @@ pub scan_uses : (w v : Word) (rest : List Word) → is_option w ≡ true → sca
 unfolding scan
 scan_uses w v rest test = rw test refl
 
-pub scan_files : (w : Word) (rest : List Word) → is_option w ≡ false → scan (w ∷ rest) ≡ Some (record { uses = []; files = w ∷ rest })
-unfolding scan
-scan_files w [] no_option = rw no_option refl
-scan_files w (v ∷ rest) no_option = rw no_option refl
-
 pub scan_start : (words : List Word) → scan words ≡ behind [] (scan words)
 scan_start words = by (scan words)
   where
@@ -176,3 +214,11 @@ not_decided words name rest s parts cut none = no_command words (ap command_of p
 
 pub is_decided : (words : List Word) (name : Word) (rest : List Word) (s : Scan) (command : Command) → words ≡ name ∷ rest → Some s ≡ scan rest → Some command ≡ decide name s → Means words command
 is_decided words name rest s command parts cut found = decided words command (ap command_of parts ∙ ap (decide_scan name) (sym cut) ∙ sym found)
+
+-- a command has fewer inputs than words
+few_of : (words : List Word) (call : Call) (command : Command) → words ≡ call_words call → IsCallOf call command → length (inputs_of command) ≤ length words
+few_of words call command spelled (merge_one out input some plain differ) = omega (arith, ap length spelled)
+few_of words call command spelled (class_info_some paths some relative distinct) = omega (arith, ap length spelled)
+
+pub few_inputs : (words : List (String Global)) (command : Command) → Means (words_of words) command → length words < 2 ^ 32 → length (inputs_of command) < 2 ^ 32
+few_inputs words command means bound = let few = few_of (words_of words) means.call command means.spelled means.stated in omega (arith, few, bound, length-map words string_bytes)

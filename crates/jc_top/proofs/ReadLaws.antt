@@ -1,23 +1,19 @@
 -- Reads that stop a command, and what a command makes of what it read.
-use Rattle.std.proofs.Common.{◌≡◌, ◌≢◌, inl, inr, ℕ, ◌≤◌, List, [], ◌∷◌, ◌++◌, Option, None, Some, Result, Ok, Err, IfOk, IfErr, Vec, Bor, map, refl, sym, ◌∙◌, ap, subst}
+use Rattle.std.proofs.Common.{◌≡◌, inl, inr, ℕ, List, [], ◌∷◌, Option, None, Some, Result, Ok, Err, IfOk, IfErr, Vec, Bor, map, refl, sym, ◌∙◌, ap, subst}
 use Rattle.std.specs.declared.alloc.Global.{Global}
 use Rattle.jc_base.specs.declared.fail.Fail.{Fail}
 use Rattle.jc_base.specs.declared.fail.Fail.TheVariants as fails
 use Rattle.jc_base.specs.declared.files.FileFault.{FileFault}
 use Rattle.jc_base.specs.declared.files.FileFault.TheVariants as faults
-use Rattle.jc_base.specs.Outside.{FileMap, ReadGives, ReadCause, Rose, WhereTold, most_read}
-use Rattle.jc_exec.specs.declared.hits.ClassHits.{ClassHits}
+use Rattle.jc_base.specs.Outside.{FileMap, ReadGives, ReadCause, WhereTold}
 use Rattle.jc_exec.specs.declared.refusal.ExecRefusal.{ExecRefusal}
 use Rattle.jc_exec.specs.declared.refusal.ExecRefusal.TheVariants.{LaterForm}
-use Rattle.jc_exec.specs.Plain.{IsPlain, IsFirstUnfit}
-use Rattle.jc_exec.specs.Writing.{exec_text}
 use Rattle.jc_top.specs.declared.output.Write.{Write as Written}
 use Rattle.jc_top.specs.declared.output.Write.TheVariants as written
 use Rattle.jc_top.specs.declared.stop.Stop.{Stop}
 use Rattle.jc_top.specs.declared.stop.Stop.TheVariants as stops
 use Rattle.jc_top.specs.declared.status.Status.TheVariants as status
-use Rattle.jc_top.specs.declared.status.Fault.TheVariants as fault
-use Rattle.jc_top.specs.Command.{Command, merge}
+use Rattle.jc_top.specs.Command.{merge}
 use Rattle.jc_top.specs.Looks.{write_seen}
 use Rattle.jc_top.specs.World.{Write, to_file}
 use Rattle.jc_top.specs.Work.{Holds, CantRead, AreRead, Answers, merge_refused, merged, refusing}

@@ -1,8 +1,8 @@
 -- What was done is the work, and each status has its cause.
-use Rattle.std.proofs.Common.{◌≡◌, ◌≢◌, ◌⊎◌, inl, inr, ⊎_elim, ℕ, ◌≤◌, List, [], ◌∷◌, ◌++◌, Option, None, Some, Result, Ok, Err, Vec, map, refl, sym, ◌∙◌, ap, ap₂, subst}
+use Rattle.std.proofs.Common.{◌≡◌, ◌≢◌, ◌⊎◌, inl, inr, ⊎_elim, ℕ, List, Option, None, Some, Result, Ok, Err, Vec, map, refl, sym, ◌∙◌, ap, subst}
 use Rattle.std.specs.declared.alloc.Global.{Global}
-use Rattle.jc_base.proofs.DecoderLaws.{some_is, some_none}
-use Rattle.jc_base.specs.Outside.{FileMap, WhereTold, Rose}
+use Rattle.jc_base.proofs.DecoderLaws.{some_is}
+use Rattle.jc_base.specs.Outside.{FileMap, Rose}
 use Rattle.jc_top.specs.declared.status.Status.{Status}
 use Rattle.jc_top.specs.declared.status.Status.TheVariants as status
 use Rattle.jc_top.specs.declared.status.Fault.{Fault}
@@ -13,8 +13,8 @@ use Rattle.jc_top.specs.Words.{Word}
 use Rattle.jc_top.specs.Command.{Command, inputs_of, Means, NoForm}
 use Rattle.jc_top.specs.Texts.{usage_text, cannot_read, cannot_write, cannot_write_output, fault_text}
 use Rattle.jc_top.specs.Looks.{write_seen}
-use Rattle.jc_top.specs.World.{World, Write, to_err, Landed, after, grown, StopsIn}
-use Rattle.jc_top.specs.Work.{AreRead, StopsAt, Answers, refusing, Work, IsWork, usage, unreadable, answered, WorkEnds, DoesWork}
+use Rattle.jc_top.specs.World.{World, Write, Landed, after, grown, StopsIn}
+use Rattle.jc_top.specs.Work.{StopsAt, Answers, usage, unreadable, answered, WorkEnds, DoesWork}
 use Rattle.jc_top.specs.Outcome.{Rises, ReadStops, Read, Prepares, WroteAll, IsFileWrite, IsTextWrite, Faults, Runs, Says, Reports, message_of, status_of, broken_text, BreaksOff}
 use Rattle.jc_top.proofs.WorkLaws.{one_ending}
 

@@ -1,5 +1,5 @@
 -- The work of words over told contents is one.
-use Rattle.std.proofs.Common.{◌≡◌, ◌≢◌, ◌⊎◌, inl, inr, ⊎_elim, ℕ, ◌<◌, ◌≤◌, List, [], ◌∷◌, ◌++◌, length, Option, None, Some, refl, sym, ◌∙◌, ap, ap₂, subst, arith}
+use Rattle.std.proofs.Common.{◌≡◌, ◌⊎◌, inl, inr, ⊎_elim, ℕ, ◌≤◌, List, [], ◌∷◌, ◌++◌, length, map, Option, None, Some, refl, sym, ◌∙◌, ap, ap₂, subst, arith}
 use Rattle.std.specs.FinMap.{get}
 use Rattle.jc_base.proofs.DecoderLaws.{some_is, some_none}
 use Rattle.jc_base.specs.Outside.{FileMap, IsLong, most_read}
@@ -14,10 +14,13 @@ use Rattle.jc_top.specs.declared.status.Status.{Status}
 use Rattle.jc_top.specs.declared.status.Status.TheVariants as status
 use Rattle.jc_top.specs.declared.status.Fault.TheVariants as fault
 use Rattle.jc_top.specs.Words.{Word}
-use Rattle.jc_top.specs.Command.{Command, merge, inputs_of, Means, NoForm}
+use Rattle.jc_top.specs.Command.{Command, merge, class_info, inputs_of, Means, NoForm}
 use Rattle.jc_top.specs.Texts.{usage_text, cannot_read}
-use Rattle.jc_top.specs.World.{Write, to_file, to_err}
-use Rattle.jc_top.specs.Work.{Holds, CantRead, AreRead, StopsAt, Answer, Answers, merge_refused, merged, refusing, Work, IsWork, usage, unreadable, answered, WorkEnds}
+use Rattle.jc_top.specs.World.{to_file, to_out, to_err}
+use Rattle.jc_top.specs.Work.{Holds, CantRead, AreRead, StopsAt, Answer, Answers, merge_refused, merged, listed, class_refused, refusing, Work, IsWork, usage, unreadable, answered, WorkEnds}
+use Rattle.jc_base.specs.declared.refusal.Refusal.{Refusal}
+use Rattle.jc_top.specs.ClassInfo.{AreListed, RefusedAt}
+use Rattle.jc_top.proofs.ListingLaws.{one_list, listed_or_refused, one_refusal, some_list}
 use Rattle.jc_top.proofs.CommandLaws.{one_command, command_or_none}
 
 -- ---- reading
@@ -90,15 +93,26 @@ MergeAnswer out input bytes answer =
     ((place : ℕ) × IsFirstUnfit [] bytes place × (answer ≡ refusing input (fault.Exec 0 (LaterForm place))))
     ⊎ ((classes : List ClassHits) × IsPlain [] bytes classes × (answer ≡ record { writes = to_file out (exec_text (record { sessions = []; classes = classes })) ∷ []; status = status.Done }))
 
+abbrev listed_answer : List (List ℕ) → Answer
+listed_answer lines = record { writes = map to_out lines; status = status.Done }
+
+abbrev ListAnswer : List Word → List (List ℕ) → Answer → Type 0
+ListAnswer paths texts answer =
+    ((lines : List (List ℕ)) × AreListed texts lines × (answer ≡ listed_answer lines))
+    ⊎ ((place : ℕ) × (path : Word) × (why : Refusal) × RefusedAt 0 paths texts place path why × (answer ≡ refusing path (fault.Class place why)))
+
 -- an answer, by the command and the texts
 abbrev AnswerOf : Command → List (List ℕ) → Answer → Type 0
 AnswerOf (merge out input) [] answer = ⊥
 AnswerOf (merge out input) (bytes ∷ []) answer = MergeAnswer out input bytes answer
 AnswerOf (merge out input) (bytes ∷ other ∷ texts) answer = ⊥
+AnswerOf (class_info paths) texts answer = ListAnswer paths texts answer
 
 answer_of : (command : Command) (texts : List (List ℕ)) (answer : Answer) → Answers command texts answer → AnswerOf command texts answer
 answer_of command texts answer (merge_refused {place = place} unfit) = inl (place, unfit, refl)
 answer_of command texts answer (merged {classes = classes} plain) = inr (classes, plain, refl)
+answer_of command texts answer (listed lines are) = inl (lines, are, refl)
+answer_of command texts answer (class_refused place path why is) = inr (place, path, why, is, refl)
 
 one_merge : (out input bytes : List ℕ) (a b : Answer) → MergeAnswer out input bytes a → MergeAnswer out input bytes b → a ≡ b
 one_merge out input bytes a b (inl p) (inl q) = p.2 ∙ ap (λ (place : ℕ). refusing input (fault.Exec 0 (LaterForm place))) (one_place [] bytes p.0 q.0 p.1 q.1) ∙ sym q.2
@@ -107,10 +121,19 @@ one_merge out input bytes a b (inr p) (inl q) = absurd (plain_or_unfit_not_both 
 one_merge out input bytes a b (inr p) (inr q) =
     p.2 ∙ ap (λ (classes : List ClassHits). let answer : Answer = record { writes = to_file out (exec_text (record { sessions = []; classes = classes })) ∷ []; status = status.Done } in answer) (one_reading [] bytes p.0 q.0 p.1 q.1) ∙ sym q.2
 
+one_listing_answer : (paths : List Word) (texts : List (List ℕ)) (a b : Answer) → ListAnswer paths texts a → ListAnswer paths texts b → a ≡ b
+one_listing_answer paths texts a b (inl p) (inl q) = p.2 ∙ ap listed_answer (one_list texts p.0 q.0 p.1 q.1) ∙ sym q.2
+one_listing_answer paths texts a b (inl p) (inr q) = absurd (listed_or_refused 0 paths texts p.0 q.0 q.1 q.2 p.1 q.3)
+one_listing_answer paths texts a b (inr p) (inl q) = absurd (listed_or_refused 0 paths texts q.0 p.0 p.1 p.2 q.1 p.3)
+one_listing_answer paths texts a b (inr p) (inr q) =
+    let same = one_refusal 0 paths texts p.0 q.0 p.1 q.1 p.2 q.2 p.3 q.3 in
+    p.4 ∙ (λ i. refusing (same.path_is i) (fault.Class (same.place_is i) (same.why_is i))) ∙ sym q.4
+
 one_answer_of : (command : Command) (texts : List (List ℕ)) (a b : Answer) → AnswerOf command texts a → AnswerOf command texts b → a ≡ b
 one_answer_of (merge out input) [] a b p q = absurd p
 one_answer_of (merge out input) (bytes ∷ []) a b p q = one_merge out input bytes a b p q
 one_answer_of (merge out input) (bytes ∷ other ∷ texts) a b p q = absurd p
+one_answer_of (class_info paths) texts a b p q = one_listing_answer paths texts a b p q
 
 pub one_answer : (command : Command) (texts : List (List ℕ)) (a b : Answer) → Answers command texts a → Answers command texts b → a ≡ b
 one_answer command texts a b p q = one_answer_of command texts a b (answer_of command texts a p) (answer_of command texts b q)
@@ -192,10 +215,17 @@ reads_on m (p ∷ paths) = by (can_or_cannot m p) (reads_on m paths)
     by (inl can) (inl read) = inl (can.0 ∷ read.0, (can.1, read.1))
     by (inl can) (inr stop) = inr (p ∷ stop.0, stop.1, record { behind = stop.2.behind; texts = can.0 ∷ stop.2.texts; parts = ap (λ (l : List Word). p ∷ l) stop.2.parts; read = (can.1, stop.2.read); cant = stop.2.cant })
 
+as_many : (m : FileMap) (paths : List Word) (texts : List (List ℕ)) → AreRead m paths texts → length paths ≡ length texts
+as_many m [] [] read = refl
+as_many m [] (t ∷ ts) read = absurd read
+as_many m (p ∷ ps) [] read = absurd read
+as_many m (p ∷ ps) (t ∷ ts) read = let rest = as_many m ps ts read.1 in omega (arith, rest)
+
 some_answer : (command : Command) (texts : List (List ℕ)) (m : FileMap) → AreRead m (inputs_of command) texts → (answer : Answer) × Answers command texts answer
 some_answer (merge out input) [] m read = absurd read
 some_answer (merge out input) (bytes ∷ []) m read = ⊎_elim (λ plain. (_, merged plain.1)) (λ unfit. (_, merge_refused unfit.1)) (plain_or_unfit [] bytes)
 some_answer (merge out input) (bytes ∷ other ∷ texts) m read = absurd read.1
+some_answer (class_info paths) texts m read = ⊎_elim (λ lines. (_, listed lines.0 lines.1)) (λ refused. (_, class_refused refused.0 refused.1 refused.2 refused.3)) (some_list 0 paths texts (as_many m paths texts read))
 
 pub some_work : (words : List Word) (m : FileMap) → (work : Work) × IsWork words m work
 some_work words m = by (command_or_none words)

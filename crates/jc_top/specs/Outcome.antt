@@ -1,5 +1,5 @@
 -- What the steps of a command give, told or not.
-use Rattle.std.specs.Prelude.{◌≡◌, ◌≢◌, ◌⊎◌, ◌≤◌, ⊤, ℕ, List, [], ◌∷◌, ◌++◌, length, map, Option, Some, None, Result, Ok, Err, Vec}
+use Rattle.std.specs.Prelude.{◌≡◌, ◌≢◌, ◌⊎◌, ◌≤◌, ⊤, ℕ, List, [], ◌∷◌, ◌++◌, length, map, Option, Some, Result, Ok, Err, Vec}
 use Rattle.std.specs.Borrow.{Bor}
 use Rattle.std.specs.declared.alloc.Global.{Global}
 use Rattle.jc_base.specs.declared.fail.Fail.{Fail}
@@ -22,6 +22,8 @@ use Rattle.jc_top.specs.declared.output.Write.{Write as Written}
 use Rattle.jc_top.specs.declared.stop.Stop.{Stop}
 use Rattle.jc_top.specs.declared.stop.Stop.TheVariants as stops
 use Rattle.jc_top.specs.Words.{Word}
+use Rattle.jc_base.specs.declared.refusal.Refusal.{Refusal}
+use Rattle.jc_top.specs.ClassInfo.{Lists, prints, refuses}
 use Rattle.jc_top.specs.Command.{Command, inputs_of, Means, NoForm}
 use Rattle.jc_top.specs.Looks.{command_seen, write_seen}
 use Rattle.jc_top.specs.World.{World, Write, to_file, to_out, to_err, Landed, after, Broken, TextBroken, StopsIn, grown}
@@ -56,6 +58,15 @@ ReadOne contents path old new (Err (stops.Write p)) = ⊥
 ReadOne contents path old new (Err stops.Output) = ⊥
 ReadOne contents path old new (Err (stops.Refused file fault)) = ⊥
 
+-- the paths were read, or the first that couldn't be stops
+abbrev pub ReadAll : Option FileMap → List Word → ℕ → ℕ → Result (Vec (List ℕ) Global) Stop → Type 0
+ReadAll contents paths old new (Ok texts) = (new ≡ old) × WhereTold contents (λ m. AreRead m paths texts.items)
+ReadAll contents paths old new (Err stops.Memory) = new ≡ old
+ReadAll contents paths old new (Err (stops.Read p)) = ReadStops contents (λ m. (front : List Word) × StopsAt m paths front p.now) old new
+ReadAll contents paths old new (Err (stops.Write p)) = ⊥
+ReadAll contents paths old new (Err stops.Output) = ⊥
+ReadAll contents paths old new (Err (stops.Refused file fault)) = ⊥
+
 -- ---- what is made of what was read
 
 abbrev pub UnionGives : List ℕ → Result (Vec ℕ Global) (Fail ExecRefusal) → Type 0
@@ -67,6 +78,17 @@ UnionGives bytes (Err (fails.Said (LaterForm place))) = IsFirstUnfit [] bytes pl
 abbrev pub exec_stop : Fail ExecRefusal → Bor (List ℕ) → Stop
 exec_stop fails.Memory input = stops.Memory
 exec_stop (fails.Said refusal) input = stops.Refused input (faults.Exec 0 refusal)
+
+-- what a class file is listed as
+abbrev pub ListsAs : List ℕ → Result (Vec ℕ Global) (Fail Refusal) → Type 0
+ListsAs bytes (Ok v) = Lists bytes (prints v.items)
+ListsAs bytes (Err fails.Memory) = ⊤
+ListsAs bytes (Err (fails.Said why)) = Lists bytes (refuses why)
+
+-- how a class file that is refused stops a command
+abbrev pub class_stop : Fail Refusal → ℕ → Bor (List ℕ) → Stop
+class_stop fails.Memory path file = stops.Memory
+class_stop (fails.Said why) path file = stops.Refused file (faults.Class path why)
 
 abbrev pub AnswersWith : Command → List (List ℕ) → Result (Vec Written Global) Stop → Type 0
 AnswersWith command texts (Ok writes) = Answers command texts (record { writes = map write_seen writes.items; status = status.Done })

@@ -1,6 +1,7 @@
 -- The words of the command line: the command's name, uses of its options, and files.
-use Rattle.std.specs.Prelude.{◌≡◌, ℕ, Bool, true, false, not, List, [], ◌∷◌, ◌++◌, map, string_bytes, Option, Some, None, if◌then◌else◌, String, nat_eq, ◌&&◌, option_map}
-use Rattle.std.specs.List.{flat_map}
+use Rattle.std.specs.Prelude.{ℕ, Bool, true, false, not, List, [], ◌∷◌, ◌++◌, map, string_bytes, Option, Some, None, if◌then◌else◌, String, nat_eq, ◌&&◌, option_map}
+use Rattle.std.specs.List.{flat_map, list_all, list_any}
+use Rattle.std.specs.Str.{bytes_eq}
 use Rattle.std.specs.declared.alloc.Global.{Global}
 
 abbrev pub Word : Type 0
@@ -19,6 +20,35 @@ abbrev pub is_option : Word → Bool
 is_option [] = false
 is_option (a ∷ []) = false
 is_option (a ∷ b ∷ rest) = nat_eq a 45 && nat_eq b 45
+
+-- ---- paths
+
+-- the parts of a path, with a `/` between each and the next
+abbrev pub with_first : ℕ → List Word → List Word
+with_first b [] = (b ∷ []) ∷ []
+with_first b (part ∷ parts) = (b ∷ part) ∷ parts
+
+abbrev pub components : Word → List Word
+components [] = [] ∷ []
+components (b ∷ bytes) = if nat_eq b 47 then [] ∷ components bytes else with_first b (components bytes)
+
+-- neither empty nor `.` nor `..`
+abbrev pub is_component : Word → Bool
+is_component [] = false
+is_component (a ∷ []) = not (nat_eq a 46)
+is_component (a ∷ b ∷ []) = not (nat_eq a 46 && nat_eq b 46)
+is_component (a ∷ b ∷ c ∷ rest) = true
+
+-- a value whose parts are names: it begins with no `/`, and leads to no other folder
+abbrev pub is_relative : Word → Bool
+is_relative word = is_value word && list_all is_component (components word)
+
+-- no two of the words are equal
+abbrev pub are_distinct : List Word → Bool
+are_distinct [] = true
+are_distinct (w ∷ words) = not (list_any (bytes_eq w) words) && are_distinct words
+
+-- ---- options
 
 -- an option and its value, which are two words
 pub record Use : Type 0 where

@@ -1,5 +1,5 @@
 -- The work of a command: what it reads and writes, and how it ends, where the files are told.
-use Rattle.std.specs.Prelude.{◌≡◌, ◌⊎◌, ◌≤◌, ⊤, ℕ, List, [], ◌∷◌, ◌++◌, length, Option, Some, None}
+use Rattle.std.specs.Prelude.{◌≡◌, ◌⊎◌, ◌≤◌, ⊤, ℕ, List, [], ◌∷◌, ◌++◌, length, map, Some, None}
 use Rattle.std.specs.FinMap.{get}
 use Rattle.jc_base.specs.Outside.{FileMap, IsLong, WhereTold, most_read}
 use Rattle.jc_exec.specs.declared.hits.ClassHits.{ClassHits}
@@ -11,7 +11,9 @@ use Rattle.jc_top.specs.declared.status.Status.TheVariants as status
 use Rattle.jc_top.specs.declared.status.Fault.{Fault}
 use Rattle.jc_top.specs.declared.status.Fault.TheVariants as fault
 use Rattle.jc_top.specs.Words.{Word}
-use Rattle.jc_top.specs.Command.{Command, merge, inputs_of, Means, NoForm}
+use Rattle.jc_base.specs.declared.refusal.Refusal.{Refusal}
+use Rattle.jc_top.specs.ClassInfo.{AreListed, RefusedAt}
+use Rattle.jc_top.specs.Command.{Command, merge, class_info, inputs_of, Means, NoForm}
 use Rattle.jc_top.specs.Texts.{usage_text, cannot_read, fault_text}
 use Rattle.jc_top.specs.World.{World, Write, to_file, to_out, to_err, Landed, after}
 
@@ -57,6 +59,10 @@ pub data Answers : Command → List (List ℕ) → Answer → Type 0 where
       → Answers (merge out input) (bytes ∷ []) (refusing input (fault.Exec 0 (LaterForm place)))
   merged : {out input bytes : List ℕ} {classes : List ClassHits} → IsPlain [] bytes classes
       → Answers (merge out input) (bytes ∷ []) (record { writes = to_file out (exec_text (record { sessions = []; classes = classes })) ∷ []; status = status.Done })
+  listed : {paths : List Word} {texts : List (List ℕ)} (lines : List (List ℕ)) → AreListed texts lines
+      → Answers (class_info paths) texts (record { writes = map to_out lines; status = status.Done })
+  class_refused : {paths : List Word} {texts : List (List ℕ)} (place : ℕ) (path : Word) (why : Refusal) → RefusedAt 0 paths texts place path why
+      → Answers (class_info paths) texts (refusing path (fault.Class place why))
 
 -- ---- the work
 

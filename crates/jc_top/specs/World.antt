@@ -1,5 +1,5 @@
 -- What is told of the files and of the texts on `out` and `err`, and what writes make of it.
-use Rattle.std.specs.Prelude.{◌≡◌, ◌≢◌, ℕ, List, [], ◌∷◌, ◌++◌, Option, None, Some, option_map, Result, Err, ⊤}
+use Rattle.std.specs.Prelude.{◌≡◌, ℕ, List, [], ◌∷◌, ◌++◌, Option, None, Some, option_map}
 use Rattle.std.specs.FinMap.{insert}
 use Rattle.jc_base.specs.Outside.{FileMap, Rose, Begins, LeavesPart}
 

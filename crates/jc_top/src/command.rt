@@ -1,11 +1,12 @@
 //! The commands, and the words that each is called by.
-ghost use Rattle.std.specs.Prelude.{◌≡◌, ℕ, List, map, Option, Ok, Err, Some, None};
+ghost use Rattle.std.specs.Prelude.{◌≡◌, ◌<◌, ◌^◌, ℕ, List, length, map, Option, Ok, Err, Some, None, IfOk};
 ghost use Rattle.std.specs.Option.{option_map};
 ghost use Rattle.jc_top.specs.Words.{Word, words_of};
-ghost use Rattle.jc_top.specs.Command.{decide, decide_merge};
+ghost use Rattle.jc_top.specs.Command.{inputs_of, decide, decide_merge, decide_class_info};
 ghost use Rattle.jc_top.specs.Looks.{scan_of, command_seen};
 ghost use Rattle.jc_top.specs.Outcome.{CommandRead};
 
+use crate::paths::{are_distinct, are_relative};
 use crate::words::{Scanned, is_value, scan_words};
 use jc_base::Memory;
 use std::alloc::Global;
@@ -15,6 +16,8 @@ use std::alloc::Global;
 pub enum Command<'a> {
     /// Writes the union of the execution data in the input.
     Merge { destfile: &'a str, input: &'a str },
+    /// Prints the name, the id and the version of each class.
+    ClassInfo { paths: &'a [String] },
 }
 
 /// Why the words call no command.
@@ -60,27 +63,49 @@ fn merge_of<'a>(words: &Scanned<'a>) -> Option<Command<'a>>
     }
 }
 
-/// The command of this name, where the words behind the name are of a form of it.
-fn decide<'a>(name: &str, words: &Scanned<'a>) -> Option<Command<'a>>
-    ensures { option_map command_seen result ≡ decide name.now (scan_of words.now) }
+/// `classinfo FILE..`, where the files are different relative paths.
+fn class_info_of<'a>(alloc: Global, words: &Scanned<'a>) -> Result<Option<Command<'a>>, Memory>
+    ensures { IfOk result (λ o. option_map command_seen o ≡ decide_class_info (scan_of words.now).uses (scan_of words.now).files) }
 {
-    match name {
-        "merge" => merge_of(words),
-        _ => None,
+    if !words.uses.is_empty() || words.files.is_empty() {
+        return Ok(None);
+    }
+    let relative = are_relative(words.files);
+    let distinct = are_distinct(alloc, words.files)?;
+    if relative & distinct {
+        Ok(Some(Command::ClassInfo { paths: words.files }))
+    } else {
+        Ok(None)
     }
 }
 
-/// The command that the words call. Usage comes exactly where they are of no stated form.
-pub fn read_words<'a>(alloc: Global, words: &'a [String]) -> Result<Command<'a>, Unclear>
-    ensures { CommandRead (words_of words.entry.now) result }
+/// The command of this name, where the words behind the name are of a form of it.
+fn decide<'a>(alloc: Global, name: &str, words: &Scanned<'a>) -> Result<Option<Command<'a>>, Memory>
+    ensures { IfOk result (λ o. option_map command_seen o ≡ decide name.now (scan_of words.now)) }
 {
+    match name {
+        "merge" => Ok(merge_of(words)),
+        "classinfo" => class_info_of(alloc, words),
+        _ => Ok(None),
+    }
+}
+
+/// The command that the words call. Usage comes exactly where they are of no stated form. More than
+/// 4,294,967,295 words count as want of memory.
+pub fn read_words<'a>(alloc: Global, words: &'a [String]) -> Result<Command<'a>, Unclear>
+    ensures read { CommandRead (words_of words.entry.now) result }
+    ensures few { IfOk result (λ command. length (inputs_of (command_seen command)) < 2 ^ 32) }
+{
+    if words.len() > u32::MAX as usize {
+        return Err(Unclear::Memory);
+    }
     let Some((name, rest)) = words.split_first() else {
         return Err(Unclear::Usage);
     };
     let Some(scanned) = scan_words(alloc, rest)? else {
         return Err(Unclear::Usage);
     };
-    match decide(name.as_str(), &scanned) {
+    match decide(alloc, name.as_str(), &scanned)? {
         Some(command) => Ok(command),
         None => Err(Unclear::Usage),
     }

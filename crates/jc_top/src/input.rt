@@ -1,9 +1,11 @@
 //! Reading the inputs of a command.
-ghost use Rattle.std.specs.Prelude.{◌≡◌};
-ghost use Rattle.jc_top.specs.Outcome.{ReadOne, read_stop};
+ghost use Rattle.std.specs.Prelude.{◌≡◌, ◌≤◌, ◌++◌, ◌∷◌, [], All, length, IfOk, OnOk};
+ghost use Rattle.jc_base.specs.Outside.{most_read};
+ghost use Rattle.jc_top.specs.Words.{words_of};
+ghost use Rattle.jc_top.specs.Outcome.{ReadOne, ReadAll, read_stop};
 
 use crate::stop::Stop;
-use jc_base::{Bytes, FileFault, Files};
+use jc_base::{Bytes, FileFault, Files, Memory};
 use std::alloc::Global;
 
 /// How a read that failed stops a command.
@@ -31,4 +33,32 @@ pub fn read_one<'a, F: Files>(
         Ok(()) => Ok(Bytes::from_vec(bytes)),
         Err(fault) => Err(read_stop(fault, path)),
     }
+}
+
+/// Puts a text last.
+fn keep(texts: &mut Vec<Bytes>, text: Bytes) -> Result<(), Memory>
+    ensures { OnOk result (texts.new.items ≡ texts.old.items ++ text ∷ []) }
+{
+    texts.push(text)?;
+    Ok(())
+}
+
+/// The bytes of the files at the paths, in order.
+pub fn read_all<'a, F: Files>(
+    alloc: Global,
+    files: &mut F,
+    paths: &'a [String],
+) -> Result<Vec<Bytes>, Stop<'a>>
+    ensures gives { ReadAll (F.contents files.old) (words_of paths.entry.now) (F.read_faults files.old) (F.read_faults files.new) result }
+    ensures each { IfOk result (λ texts. length texts.items ≡ length paths.entry.now) }
+    ensures short { IfOk result (λ texts. All (λ t. length t ≤ most_read) texts.items) }
+    ensures contents { F.contents files.new ≡ F.contents files.old }
+    ensures write_faults { F.write_faults files.new ≡ F.write_faults files.old }
+{
+    let mut texts = Vec::new(alloc);
+    'reading: for path in paths {
+        let text = read_one(alloc, files, path.as_str())?;
+        keep(&mut texts, text)?;
+    }
+    Ok(texts)
 }

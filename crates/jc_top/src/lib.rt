@@ -1,11 +1,13 @@
 //! The top call: all that the program `jcov` does, over files and texts that it is handed.
 #![tactic(auto)]
 
+mod class_info;
 mod command;
 mod input;
 mod merge;
 mod message;
 mod output;
+mod paths;
 mod run;
 mod status;
 mod stop;

@@ -1,11 +1,11 @@
 //! The last message of a command that ended early.
 ghost use Rattle.std.specs.Prelude.{◌≡◌, string_bytes, IfOk};
-ghost use Rattle.jc_top.specs.Texts.{cannot_read, cannot_write, cannot_write_output, later_form_text, exec_refusal_text, fault_text, usage_text};
+ghost use Rattle.jc_top.specs.Texts.{cannot_read, cannot_write, cannot_write_output, later_form_text, exec_refusal_text, kind_text, placed_text, in_method_text, class_refusal_text, fault_text, usage_text};
 ghost use Rattle.jc_top.specs.Outcome.{Says, Reports, message_of};
 
 use crate::stop::Stop;
 use crate::{Fault, Status};
-use jc_base::Sink;
+use jc_base::{Refusal, RefusalKind, Sink};
 use jc_exec::ExecRefusal;
 use std::alloc::{AllocError, Global};
 
@@ -46,11 +46,62 @@ fn exec_refusal_text(alloc: Global, file: &str, refusal: ExecRefusal) -> Result<
     }
 }
 
+fn kind_text(kind: RefusalKind) -> &'static str
+    ensures { result.now ≡ kind_text kind }
+{
+    match kind {
+        RefusalKind::NotAClass => "NotAClass",
+        RefusalKind::Version => "Version",
+        RefusalKind::AlreadyInstrumented => "AlreadyInstrumented",
+        RefusalKind::InterfaceBody => "InterfaceBody",
+        RefusalKind::Subroutine => "Subroutine",
+        RefusalKind::BadCode => "BadCode",
+        RefusalKind::FrameMissing => "FrameMissing",
+        RefusalKind::FrameClash => "FrameClash",
+        RefusalKind::StraddlingLocal => "StraddlingLocal",
+        RefusalKind::TooManyProbes => "TooManyProbes",
+        RefusalKind::PoolFull => "PoolFull",
+        RefusalKind::MembersFull => "MembersFull",
+        RefusalKind::LocalsFull => "LocalsFull",
+        RefusalKind::StackFull => "StackFull",
+        RefusalKind::CodeTooLarge => "CodeTooLarge",
+    }
+}
+
+fn placed_text(alloc: Global, file: &str, kind: &str, place: u32) -> Result<String, AllocError>
+    ensures { IfOk result (λ text. string_bytes text ≡ placed_text file.now kind.now place) }
+{
+    format!(in alloc; "{file}: {kind} at {place}\n")
+}
+
+fn in_method_text(
+    alloc: Global,
+    file: &str,
+    kind: &str,
+    method: u16,
+    place: u32,
+) -> Result<String, AllocError>
+    ensures { IfOk result (λ text. string_bytes text ≡ in_method_text file.now kind.now method place) }
+{
+    format!(in alloc; "{file}: {kind} in method {method} at {place}\n")
+}
+
+fn class_refusal_text(alloc: Global, file: &str, refusal: Refusal) -> Result<String, AllocError>
+    ensures { IfOk result (λ text. string_bytes text ≡ class_refusal_text file.now refusal) }
+{
+    let kind = kind_text(refusal.kind);
+    match refusal.method {
+        None => placed_text(alloc, file, kind, refusal.place),
+        Some(method) => in_method_text(alloc, file, kind, method, refusal.place),
+    }
+}
+
 fn fault_text(alloc: Global, file: &str, fault: Fault) -> Result<String, AllocError>
     ensures { IfOk result (λ text. string_bytes text ≡ fault_text file.now fault) }
 {
     match fault {
         Fault::Exec { refusal, .. } => exec_refusal_text(alloc, file, refusal),
+        Fault::Class { refusal, .. } => class_refusal_text(alloc, file, refusal),
     }
 }
 

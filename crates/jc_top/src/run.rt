@@ -3,13 +3,14 @@ ghost use Rattle.std.specs.Prelude.{◌≡◌, ◌≢◌, ◌⊎◌, ◌≤◌, 
 ghost use Rattle.jc_base.specs.Outside.{FileMap, Rose};
 ghost use Rattle.jc_top.specs.declared.status.Fault.{Fault};
 ghost use Rattle.jc_top.specs.Words.{Word, words_of};
-ghost use Rattle.jc_top.specs.Command.{NoForm};
+ghost use Rattle.jc_top.specs.Command.{inputs_of, NoForm};
 ghost use Rattle.jc_top.specs.Looks.{command_seen};
 ghost use Rattle.jc_top.specs.World.{World};
 ghost use Rattle.jc_top.specs.Work.{Work, IsWork, WorkEnds, DoesWork};
 ghost use Rattle.jc_top.specs.Outcome.{Prepares, Runs, BreaksOff};
 
 use crate::Status;
+use crate::class_info::prepare_class_info;
 use crate::command::{Command, Unclear, read_words};
 use crate::merge::prepare_merge;
 use crate::message::{USAGE, report, say};
@@ -24,12 +25,14 @@ fn prepare<'a, F: Files>(
     files: &mut F,
     command: &Command<'a>,
 ) -> Result<Vec<Write<'a>>, Stop<'a>>
+    requires { length (inputs_of (command_seen command.now)) < 2 ^ 32 }
     ensures gives { Prepares (F.contents files.old) (command_seen command.now) (F.read_faults files.old) (F.read_faults files.new) result }
     ensures contents { F.contents files.new ≡ F.contents files.old }
     ensures write_faults { F.write_faults files.new ≡ F.write_faults files.old }
 {
     match command {
         Command::Merge { destfile, input } => prepare_merge(alloc, files, destfile, input),
+        Command::ClassInfo { paths } => prepare_class_info(alloc, files, paths),
     }
 }
 
@@ -40,6 +43,7 @@ fn run<'a, F: Files, O: Sink>(
     out: &mut O,
     command: &Command<'a>,
 ) -> Result<(), Stop<'a>>
+    requires { length (inputs_of (command_seen command.now)) < 2 ^ 32 }
     ensures { (err : Option (List ℕ)) → Runs F.landed (command_seen command.now)
         (record { contents = F.contents files.old; out = O.told out.old; err = err }) (record { contents = F.contents files.new; out = O.told out.new; err = err })
         (record { reads = F.read_faults files.old; writes = F.write_faults files.old; outs = O.faults out.old }) (record { reads = F.read_faults files.new; writes = F.write_faults files.new; outs = O.faults out.new }) result }
@@ -50,7 +54,7 @@ fn run<'a, F: Files, O: Sink>(
 
 /// Runs the command that the words behind the program's name call.
 ///
-/// The words are `merge --destfile OUT IN`. A command first reads its inputs, then refuses what
+/// The words are `merge --destfile OUT IN` or `classinfo FILE..`. A command first reads its inputs, then refuses what
 /// is wrong with them, and then writes. The first failure ends it and decides the status; its
 /// message goes to `err`, and a failure of that last message changes nothing. Want of memory
 /// prints nothing.

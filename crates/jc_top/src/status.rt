@@ -1,5 +1,6 @@
 //! How a run of the tool ends.
 
+use jc_base::Refusal;
 use jc_exec::ExecRefusal;
 
 /// How a run of the tool ended. The exit statuses are 0 to 5 in the order of the variants.
@@ -24,4 +25,6 @@ pub enum Status {
 pub enum Fault {
     /// The execution data of the input at this place in the list of inputs is refused.
     Exec { path: u32, refusal: ExecRefusal },
+    /// The class file at this place in the list of inputs is refused.
+    Class { path: u32, refusal: Refusal },
 }

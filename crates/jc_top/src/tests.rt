@@ -1,5 +1,5 @@
 use super::*;
-use jc_base::{MemoryFiles, MemorySink};
+use jc_base::{MemoryFiles, MemorySink, Refusal, RefusalKind, not_a_class};
 use jc_exec::ExecRefusal;
 use std::alloc::{AllocError, Global};
 use std::test::Fail;
@@ -11,6 +11,17 @@ const A: [u8; 19] = [
 
 const USAGE: &str =
     "usage: jcov COMMAND OPTIONS FILE..\ncommands: instrument run merge report execinfo classinfo cover\n";
+
+/// `interface A {}`, compiled for version 52.
+#[rattlefmt::skip]
+const INTERFACE: [u8; 83] = [
+    0xca, 0xfe, 0xba, 0xbe, 0x00, 0x00, 0x00, 0x34, 0x00, 0x07, 0x07, 0x00, 0x02, 0x01, 0x00, 0x01,
+    0x41, 0x07, 0x00, 0x04, 0x01, 0x00, 0x10, 0x6a, 0x61, 0x76, 0x61, 0x2f, 0x6c, 0x61, 0x6e, 0x67,
+    0x2f, 0x4f, 0x62, 0x6a, 0x65, 0x63, 0x74, 0x01, 0x00, 0x0a, 0x53, 0x6f, 0x75, 0x72, 0x63, 0x65,
+    0x46, 0x69, 0x6c, 0x65, 0x01, 0x00, 0x06, 0x41, 0x2e, 0x6a, 0x61, 0x76, 0x61, 0x06, 0x00, 0x00,
+    0x01, 0x00, 0x03, 0x00, 0x00, 0x00, 0x00, 0x00, 0x00, 0x00, 0x01, 0x00, 0x05, 0x00, 0x00, 0x00,
+    0x02, 0x00, 0x06,
+];
 
 const MERGE: [&str; 4] = ["merge", "--destfile", "o", "a.exec"];
 
@@ -27,6 +38,7 @@ fn words(alloc: Global, all: &[&str]) -> Result<Vec<String>, AllocError> {
 struct Ran {
     status: Status,
     files: MemoryFiles,
+    out: MemorySink,
     err: MemorySink,
 }
 
@@ -45,7 +57,12 @@ fn run(
     let mut err = MemorySink::new(alloc, err_fails)?;
     let words = words(alloc, all)?;
     let status = run_tool(alloc, &words, &mut files, &mut out, &mut err);
-    Ok(Ran { status, files, err })
+    Ok(Ran {
+        status,
+        files,
+        out,
+        err,
+    })
 }
 
 // The execution data that a merge of these bytes writes.
@@ -114,6 +131,14 @@ fn other_words_are_usage(rt: HostRuntime) -> Result<(), Fail> {
         &["merge", "--destfile", "o", ""],
         &["merge", "--csv", "o", "a.exec"],
         &["report", "--csv", "o", "a.exec"],
+        &["classinfo"],
+        &["classinfo", "--name", "A", "A.class"],
+        &["classinfo", "A.class", "A.class"],
+        &["classinfo", "/A.class"],
+        &["classinfo", "./A.class"],
+        &["classinfo", "a/../A.class"],
+        &["classinfo", "a//A.class"],
+        &["classinfo", "a/"],
     ] {
         let ran = run(alloc, all, "a.exec", &A, &[], &[])?;
         assert_eq!(rt; ran.status, Status::Usage, "{all:?}");
@@ -239,5 +264,85 @@ fn a_large_file(rt: HostRuntime) -> Result<(), Fail> {
     let ran = run(alloc, &MERGE, "a.exec", &zeros, &[], &[])?;
     assert_eq!(rt; ran.status, Status::ReadFault);
     assert_eq!(rt; ran.err.bytes(), b"cannot read a.exec\n".as_slice());
+    Ok(())
+}
+
+#[test]
+fn classes_are_listed(rt: HostRuntime) -> Result<(), Fail> {
+    let alloc = rt.alloc();
+    let mut newest = INTERFACE;
+    newest[7] = 61;
+    let mut files = MemoryFiles::new(alloc, &[])?;
+    files.with("a/A.class", &INTERFACE)?;
+    files.with("A.class", &newest)?;
+    let mut out = MemorySink::new(alloc, &[])?;
+    let mut err = MemorySink::new(alloc, &[])?;
+    let words = words(alloc, &["classinfo", "a/A.class", "A.class"])?;
+    let status = run_tool(alloc, &words, &mut files, &mut out, &mut err);
+    assert_eq!(rt; status, Status::Done);
+    let text = "class A id 27270f85a4077bc4 version 52\nclass A id 27270f85a4077bc4 version 61\n";
+    assert!(rt;
+        out.bytes()
+            .starts_with(b"class A id 27270f85a4077bc4 version 52\nclass A id ")
+    );
+    assert!(rt; out.bytes().ends_with(b" version 61\n"));
+    assert_eq!(rt; out.bytes().len(), text.len());
+    assert_eq!(rt; err.bytes(), [].as_slice());
+    Ok(())
+}
+
+#[test]
+fn other_classes_are_refused(rt: HostRuntime) -> Result<(), Fail> {
+    let alloc = rt.alloc();
+    let version = |major| Refusal {
+        kind: RefusalKind::Version,
+        method: None,
+        place: major,
+    };
+    let mut early = INTERFACE;
+    early[7] = 49;
+    let mut late = INTERFACE;
+    late[7] = 62;
+    for (bytes, refusal, text) in [
+        (
+            &[0xca, 0xfe, 0xba][..],
+            not_a_class(0),
+            "A.class: NotAClass at 0\n",
+        ),
+        (
+            b"PK\x03\x04".as_slice(),
+            not_a_class(0),
+            "A.class: NotAClass at 0\n",
+        ),
+        (late.as_slice(), version(62), "A.class: Version at 62\n"),
+        (early.as_slice(), version(49), "A.class: Version at 49\n"),
+    ] {
+        let ran = run(alloc, &["classinfo", "A.class"], "A.class", bytes, &[], &[])?;
+        let fault = Fault::Class { path: 0, refusal };
+        assert_eq!(rt; ran.status, Status::Refused(fault));
+        assert_eq!(rt; ran.err.bytes(), text.as_bytes());
+        assert_eq!(rt; ran.out.bytes(), [].as_slice());
+    }
+    Ok(())
+}
+
+#[test]
+fn the_first_class_that_is_refused(rt: HostRuntime) -> Result<(), Fail> {
+    let alloc = rt.alloc();
+    let mut files = MemoryFiles::new(alloc, &[])?;
+    files.with("A.class", &INTERFACE)?;
+    files.with("B.class", b"PK")?;
+    files.with("C.class", b"")?;
+    let mut out = MemorySink::new(alloc, &[])?;
+    let mut err = MemorySink::new(alloc, &[])?;
+    let words = words(alloc, &["classinfo", "A.class", "B.class", "C.class"])?;
+    let status = run_tool(alloc, &words, &mut files, &mut out, &mut err);
+    let fault = Fault::Class {
+        path: 1,
+        refusal: not_a_class(0),
+    };
+    assert_eq!(rt; status, Status::Refused(fault));
+    assert_eq!(rt; err.bytes(), b"B.class: NotAClass at 0\n".as_slice());
+    assert_eq!(rt; out.bytes(), [].as_slice());
     Ok(())
 }

@@ -1,24 +1,29 @@
-use Rattle.std.proofs.Common.{◌≡◌, Some, option_map, string_bytes, sym, ◌∙◌, ap, subst}
+use Rattle.std.proofs.Common.{option_map, string_bytes, arith, sym, ◌∙◌, ap}
 use Rattle.jc_top.specs.Words.{Word, words_of}
 use Rattle.jc_top.specs.Command.{decide}
-use Rattle.jc_top.specs.Looks.{scan_of}
-use Rattle.jc_top.proofs.CommandLaws.{no_name, not_cut, not_decided, is_decided}
+use Rattle.jc_top.specs.Looks.{scan_of, command_seen}
+use Rattle.jc_top.proofs.CommandLaws.{no_name, not_cut, not_decided, is_decided, few_inputs}
 use Rattle.jc_top.proofs.command.read_words.Goals as goal
 
 pub returns-in_default : goal.returns-in_default
-returns-in_default c = no_name c.args.words.now c.in_default.ensures.cases
+returns-in_default c = record { read = no_name c.args.words.now c.in_default.ensures.cases; few = tt }
 
 pub returns-in_default-2 : goal.returns-in_default-2
-returns-in_default-2 c =
-    not_cut (words_of c.args.words.now) (string_bytes c.in-Some.name.now) (words_of c.in-Some.rest.now) (ap words_of c.in-Some.ensures.cases.0)
-    (ap (option_map scan_of) (sym c.in_default-2.is) ∙ c.in_ok-scanned.ensures)
+returns-in_default-2 c = record {
+  read = not_cut (words_of c.args.words.now) (string_bytes c.in-Some.name.now) (words_of c.in-Some.rest.now) (ap words_of c.in-Some.ensures.cases.0)
+      (ap (option_map scan_of) (sym c.in_default-2.is) ∙ c.in_ok-scanned.ensures);
+  few = tt;
+}
 
-pub returns-in-Some-decide : goal.returns-in-Some-decide
-returns-in-Some-decide c =
-    is_decided (words_of c.args.words.now) (string_bytes c.in-Some.name.now) (words_of c.in-Some.rest.now) (scan_of c.in-Some-2.scanned) _ (ap words_of c.in-Some.ensures.cases.0)
-    (ap (option_map scan_of) (sym c.in-Some-2.is) ∙ c.in_ok-scanned.ensures) (c.in-Some-decide.ensures ∙ ap (λ (name : Word). decide name (scan_of c.in-Some-2.scanned)) c.as_str.ensures.value)
+pub returns-in-Some-3 : goal.returns-in-Some-3
+returns-in-Some-3 c =
+    let means = is_decided (words_of c.args.words.now) (string_bytes c.in-Some.name.now) (words_of c.in-Some.rest.now) (scan_of c.in-Some-2.scanned) (command_seen c.in-Some-3.command) (ap words_of c.in-Some.ensures.cases.0)
+    (ap (option_map scan_of) (sym c.in-Some-2.is) ∙ c.in_ok-scanned.ensures) (ap (option_map command_seen) (sym c.in-Some-3.is) ∙ c.in_ok-command.ensures ∙ ap (λ (name : Word). decide name (scan_of c.in-Some-2.scanned)) c.as_str.ensures.value) in
+    record { read = means; few = few_inputs c.args.words.now (command_seen c.in-Some-3.command) means (omega (arith, c.if-words.false)) }
 
 pub returns : goal.returns
-returns c =
-    not_decided (words_of c.args.words.now) (string_bytes c.in-Some.name.now) (words_of c.in-Some.rest.now) (scan_of c.in-Some-2.scanned) (ap words_of c.in-Some.ensures.cases.0)
-    (ap (option_map scan_of) (sym c.in-Some-2.is) ∙ c.in_ok-scanned.ensures) (c.in-None.ensures ∙ ap (λ (name : Word). decide name (scan_of c.in-Some-2.scanned)) c.as_str.ensures.value)
+returns c = record {
+  read = not_decided (words_of c.args.words.now) (string_bytes c.in-Some.name.now) (words_of c.in-Some.rest.now) (scan_of c.in-Some-2.scanned) (ap words_of c.in-Some.ensures.cases.0)
+      (ap (option_map scan_of) (sym c.in-Some-2.is) ∙ c.in_ok-scanned.ensures) (ap (option_map command_seen) (sym c.in-None.is) ∙ c.in_ok-command.ensures ∙ ap (λ (name : Word). decide name (scan_of c.in-Some-2.scanned)) c.as_str.ensures.value);
+  few = tt;
+}

@@ -1,4 +1,3 @@
-use Rattle.std.proofs.Common.{Err}
 use Rattle.jc_top.proofs.ReadLaws.{read_stops}
 use Rattle.jc_top.proofs.input.read_one.Goals as goal
 

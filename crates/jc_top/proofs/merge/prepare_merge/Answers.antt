@@ -1,5 +1,5 @@
 use Rattle.std.proofs.lemmas.Result.{err_from_is_err_and}
-use Rattle.jc_top.proofs.ReadLaws.{merge_stops, merge_prepares}
+use Rattle.jc_top.proofs.ReadLaws.{merge_stops}
 use Rattle.jc_top.proofs.merge.prepare_merge.Goals as goal
 
 pub returns-in_err-bytes-clause-gives : goal.returns-in_err-bytes-clause-gives

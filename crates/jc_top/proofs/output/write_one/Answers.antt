@@ -1,8 +1,6 @@
-use Rattle.std.proofs.Common.{◌≡◌, List, ℕ, Option, Err, ap, sym, subst}
-use Rattle.jc_base.specs.Outside.{WriteLeaves, PutLeaves}
-use Rattle.jc_top.specs.World.{Write, to_file}
-use Rattle.jc_top.specs.Looks.{write_seen}
-use Rattle.jc_top.proofs.WriteLaws.{broke_file, broke_text}
+use Rattle.std.proofs.Common.{List, ℕ, Err, subst}
+use Rattle.jc_base.specs.Outside.{WriteLeaves}
+use Rattle.jc_top.proofs.WriteLaws.{broke_file}
 use Rattle.jc_top.proofs.output.write_one.Goals as goal
 
 pub returns-in-Err-clause-gives : goal.returns-in-Err-clause-gives

@@ -1,4 +1,4 @@
-use Rattle.std.proofs.Common.{◌≡◌, List, map, length}
+use Rattle.std.proofs.Common.{◌≡◌, map, length}
 use Rattle.jc_top.specs.Words.{scan, words_of}
 use Rattle.jc_top.specs.Looks.{use_of}
 use Rattle.jc_top.proofs.CommandLaws.{behind}

@@ -1,0 +1,19 @@
+use Rattle.std.proofs.Common.{List, ℕ, sym, ◌∙◌, subst}
+use Rattle.std.proofs.lemmas.Result.{err_from_is_err_and}
+use Rattle.jc_top.specs.ClassInfo.{prints, Lists, known, unknown}
+use Rattle.jc_top.proofs.ListingLaws.{refused_listing}
+use Rattle.jc_top.proofs.class_info.listing.Goals as goal
+
+pub returns-in_err-class : goal.returns-in_err-class
+returns-in_err-class c =
+    let p = err_from_is_err_and c.from_residual.result c.from_residual.ensures.1 in
+    rw (p.1, p.2) (refused_listing c.args.bytes.now c.in_err-class.field-0.0 c.in_err-class.ensures.refused)
+
+pub returns-then-not-is_known_version : goal.returns-then-not-is_known_version
+returns-then-not-is_known_version c =
+    rw c.from.ensures (unknown c.in_ok-class.class c.in_ok-class.ensures.read (sym c.is_known_version.ensures ∙ c.if-not-is_known_version.true))
+
+pub returns : goal.returns
+returns c =
+    subst (λ (line : List ℕ). Lists c.args.bytes.now (prints line)) (sym c.in_ok-class_line.ensures)
+    (known c.in_ok-class.class c.in_ok-class.ensures.read (sym c.is_known_version.ensures ∙ c.if-not-is_known_version.false))

@@ -1,0 +1,69 @@
+//! Paths among the words.
+ghost use Rattle.std.specs.Prelude.{◌≡◌, ◌++◌, ◌∷◌, [], Bool, IfOk, map, not};
+ghost use Rattle.std.specs.List.{list_all, list_any};
+ghost use Rattle.std.specs.Str.{bytes_eq};
+ghost use Rattle.jc_top.specs.Words.{components, is_component, is_relative, are_distinct, words_of};
+
+use crate::words::is_value;
+use indexmap::IndexSet;
+use jc_base::Memory;
+use std::alloc::Global;
+
+/// Whether the bytes are neither empty nor `.` nor `..`.
+fn is_component(bytes: &[u8]) -> bool
+    ensures { result ≡ is_component bytes.now }
+{
+    match bytes {
+        [] => false,
+        [a] => *a != b'.',
+        [a, b] => !(*a == b'.' && *b == b'.'),
+        _ => true,
+    }
+}
+
+/// Whether each part between slashes is a name.
+fn are_components(bytes: &[u8]) -> bool
+    ensures { result ≡ list_all is_component (components bytes.now) }
+{
+    let mut rest = bytes;
+    'parts: while let Some(end) = rest.iter().position(|b| *b == b'/') {
+        if !is_component(&rest[..end]) {
+            return false;
+        }
+        rest = &rest[end + 1..];
+    }
+    is_component(rest)
+}
+
+/// Whether a word is a path that begins with no `/` and leads to no other folder.
+fn is_relative(word: &str) -> bool
+    ensures { result ≡ is_relative word.now }
+{
+    is_value(word) && are_components(word.as_bytes())
+}
+
+/// Whether each word is such a path.
+pub fn are_relative(words: &[String]) -> bool
+    ensures { result ≡ list_all is_relative (words_of words.now) }
+{
+    'testing: for word in words {
+        if !is_relative(word.as_str()) {
+            return false;
+        }
+    }
+    true
+}
+
+/// Whether no two of the words are equal.
+pub fn are_distinct(alloc: Global, words: &[String]) -> Result<bool, Memory>
+    ensures { IfOk result (λ distinct. distinct ≡ are_distinct (words_of words.now)) }
+{
+    let mut seen = IndexSet::new(alloc);
+    'seeing: for word in words {
+        let (_, is_new) = seen.insert_full(word.as_str())?;
+        if !is_new {
+            return Ok(false);
+        }
+    }
+    Ok(true)
+}
