@@ -4,7 +4,7 @@
 #
 # A library loaded in front of the C library's `malloc` and `realloc` refuses the Nth call, for
 # N from 1 on, until a run has fewer than N calls. Each run has to end with status 5, nothing on
-# `out` and `err` and no file written, or as the run does in which nothing is refused.
+# `out` and `err` and all files as before, or as the run does in which nothing is refused.
 set -e
 . "$(dirname "$0")/jcov-path.sh"
 folder=$(mktemp -d)
@@ -52,24 +52,28 @@ void *realloc(void *old, size_t size) {
 
 __attribute__((destructor)) static void report(void) {
     if (refused > 0 && calls >= refused) {
-        int file = open("reached", O_CREAT | O_WRONLY, 0600);
+        int file = open(getenv("REFUSED_MARK"), O_CREAT | O_WRONLY, 0600);
         if (file >= 0) close(file);
     }
 }
 C
 cc -O2 -shared -fPIC -o refuse.so refuse.c -ldl
 
-# What stands after a run: its status, both texts, and the file `o`.
+# A run in the folder `run`, which has the inputs: its status, both texts, and all files afterwards.
+mkdir run
 run() {
-    rm -f o reached
+    rm -rf run/o run/d reached
     status=0
-    REFUSED_CALL=$1 LD_PRELOAD=$folder/refuse.so "$jcov" $words >out 2>err || status=$?
-    shown="status $status, out $(cksum < out), err $(cksum < err), o $(if [ -e o ]; then cksum < o; else echo none; fi)"
+    (cd run && REFUSED_CALL=$1 REFUSED_MARK=$folder/reached LD_PRELOAD=$folder/refuse.so exec "$jcov" $words >../out 2>../err) || status=$?
+    files=$(cd run && find . -type f | sort | xargs cksum)
+    shown="status $status, out $(cksum < out), err $(cksum < err), files $files"
 }
 
 # One list of words: each allocation refused in turn.
 try_words() {
     words=$1
+    rm -rf run/o run/d
+    before=$(cd run && find . -type f | sort | xargs cksum)
     run 0
     usual=$shown
     usual_status=$status
@@ -80,7 +84,7 @@ try_words() {
         [ -e reached ] || break
         if [ "$shown" = "$usual" ]; then
             same=$((same + 1))
-        elif [ "$status" -eq 5 ] && [ ! -s out ] && [ ! -s err ] && [ ! -e o ]; then
+        elif [ "$status" -eq 5 ] && [ ! -s out ] && [ ! -s err ] && [ "$files" = "$before" ]; then
             memory=$((memory + 1))
         else
             other=$((other + 1))
@@ -92,19 +96,34 @@ try_words() {
     [ "$other" -eq 0 ] || failed=1
 }
 
-python3 - <<'PY'
+(cd run && python3 - <<'PY'
 header = bytes.fromhex("01c0c01007")
 record = bytes.fromhex("11000000000000000100014103") + b"\x05"
 open("a.exec", "wb").write(header + record)
 many = b"".join(b"\x11" + k.to_bytes(8, "big") + bytes.fromhex("0001418201") + b"\xff" * 16 + b"\x03" for k in range(300))
 open("many.exec", "wb").write(header + many)
 open("bad.exec", "wb").write(header + b"\x10")
+
+# An interface of version 52 or 62 without members, over java/lang/Object.
+def made(name, major):
+    utf8 = lambda text: b"\x01" + len(text).to_bytes(2, "big") + text
+    pool = utf8(name) + bytes.fromhex("070001") + utf8(b"java/lang/Object") + bytes.fromhex("070003")
+    return bytes.fromhex("cafebabe0000") + major.to_bytes(2, "big") + b"\x00\x05" + pool + bytes.fromhex("0600000200040000000000000000")
+
+open("A.class", "wb").write(made(b"A", 52))
+open("B.class", "wb").write(made(b"B", 52))
+open("C.class", "wb").write(made(b"C", 62))
 PY
+)
 
 failed=0
 try_words "merge --destfile o a.exec"
+try_words "merge --destfile d/e/o a.exec"
 try_words "merge --destfile o many.exec"
 try_words "merge --destfile o bad.exec"
 try_words "merge --destfile o none"
 try_words "merge"
+try_words "classinfo A.class B.class"
+try_words "classinfo A.class C.class"
+try_words "classinfo A.class a.exec"
 exit "$failed"
