@@ -1,8 +1,6 @@
 -- What is appended in parts.
-use Rattle.std.proofs.Common.{◌≡◌, ℕ, suc, ◌-◌, ◌<◌, ◌^◌, Bool, List, [], ◌∷◌, ◌++◌, length, Option, Some, None, Result, Ok, Err, refl, sym, ◌∙◌, ap, subst, arith, append_assoc}
+use Rattle.std.proofs.Common.{◌≡◌, ℕ, suc, ◌-◌, ◌<◌, Bool, List, [], ◌∷◌, ◌++◌, length, Option, Some, None, Result, Ok, Err, refl, sym, ◌∙◌, ap, subst, arith, append_assoc}
 use Rattle.std.proofs.lemmas.List.{append-nil}
-use Rattle.byteorder.specs.Endian.{big_bytes, big_number}
-use Rattle.byteorder.specs.Numbers.{big_number-reads_back, length-bytes_high_first}
 use Rattle.jc_base.specs.Decoder.{IsBig}
 use Rattle.std.specs.Result.{OnOk}
 use Rattle.jc_base.specs.Grammar.{Grammar}
@@ -10,14 +8,8 @@ use Rattle.jc_base.specs.declared.fail.Memory.{Memory}
 use Rattle.jc_pool.specs.declared.entry.Entry.{Entry}
 use Rattle.jc_pool.specs.Pool.{PoolValue, IsFilled, IsPool}
 use Rattle.jc_pool.specs.PoolGrammar.{by_size, behind, places, pool}
-use Rattle.jc_pool.specs.Writing.{Appends, Grows, SpellsSlot, SpellsSlots, AreSmall}
-
--- the bytes of a number spell it
-pub big_spells : (n x : ℕ) → x < 256 ^ n → IsBig n (big_bytes n x) x
-big_spells n x fits = record {
-  size = length-bytes_high_first n x;
-  value = ap (big_number n) (sym (append-nil (big_bytes n x))) ∙ big_number-reads_back n x [] fits;
-}
+use Rattle.jc_base.specs.Appending.{Appends}
+use Rattle.jc_pool.specs.Writing.{Grows, SpellsSlot, SpellsSlots, AreSmall}
 
 -- two parts, one behind the other
 pub appends_both : (A B C : List ℕ → Type 0) → ((a b : List ℕ) → A a → B b → C (a ++ b)) → (old mid new : List ℕ) → Appends A old mid → Appends B mid new → Appends C old new

@@ -4,12 +4,6 @@ use Rattle.jc_pool.specs.declared.entry.Entry.{Entry}
 use Rattle.jc_pool.specs.Pool.{IsSmall}
 use Rattle.jc_pool.specs.EntryFormat.{IsEntry}
 
--- new is old with such a text at its end
-pub record Appends (Spells : List ℕ → Type 0) (old new : List ℕ) : Type 0 where
-  pub text : List ℕ
-  pub parts : new ≡ old ++ text
-  pub spells : Spells text
-
 -- new is old with something at its end
 abbrev pub Grows : List ℕ → List ℕ → Type 0
 Grows old new = (more : List ℕ) × (new ≡ old ++ more)

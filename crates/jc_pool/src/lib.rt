@@ -8,7 +8,6 @@ mod item;
 mod laws;
 mod lookup;
 mod pool;
-mod put;
 mod text;
 mod write;
 

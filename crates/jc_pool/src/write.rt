@@ -3,12 +3,12 @@ ghost use Rattle.std.specs.Prelude.{◌≡◌, ◌+◌, ◌<◌, ◌++◌, ◌�
 ghost use Rattle.jc_pool.specs.Pool.{IsSmall};
 ghost use Rattle.jc_pool.specs.PoolGrammar.{pool as pool_text};
 ghost use Rattle.jc_pool.specs.EntryFormat.{ArePlaces, IsHandle, IsUtf8, IsInfo, IsEntry};
-ghost use Rattle.jc_pool.specs.Writing.{Appends, Grows, SpellsSlot, SpellsSlots, IsSmallSlot, AreSmall};
+ghost use Rattle.jc_base.specs.Appending.{Appends};
+ghost use Rattle.jc_pool.specs.Writing.{Grows, SpellsSlot, SpellsSlots, IsSmallSlot, AreSmall};
 
 use crate::Pool;
 use crate::entry::Entry;
-use crate::put::{put_bytes, put_u8, put_u16, put_u32, put_u64};
-use jc_base::Memory;
+use jc_base::{Memory, put_bytes, put_u8, put_u16, put_u32, put_u64};
 
 /// Puts a size of two bytes at the end, and the text.
 fn put_utf8(into: &mut Vec<u8>, text: &[u8]) -> Result<(), Memory>

@@ -33,7 +33,7 @@ returns-clause-text c =
     let s9 = c.put_members.new.into.items in
     let s10 = c.put_members-2.new.into.items in
     let new = c.put_attributes.new.into.items in
-    let pool : Appends (λ text. pools.pool.Text text c.args.class.now.pool) c.put_u16-2.new.into.items c.write.new.into.items = record { text = c.in_ok-write.ensures.ok.text; parts = c.in_ok-write.ensures.ok.parts; spells = c.in_ok-write.ensures.ok.spells } in
+    let pool : Appends (λ text. pools.pool.Text text c.args.class.now.pool) c.put_u16-2.new.into.items c.write.new.into.items = c.in_ok-write.ensures.ok in
     let interfaces = subst (λ (l : List ℕ). Appended (counted (number_where Anything)) l s7 s8) c.deref.ensures c.in_ok-put_interfaces.ensures in
     let fields = subst (λ (l : List Member). Appended (counted (member Anything Anything)) l s8 s9) c.deref-2.ensures c.in_ok-put_members.ensures in
     let methods = subst (λ (l : List Member). Appended (counted (member Anything Anything)) l s9 s10) c.deref-3.ensures c.in_ok-put_members-2.ensures in
