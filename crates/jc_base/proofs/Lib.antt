@@ -6,3 +6,5 @@ pub mod DescriptorLaws
 pub mod DecidingLaws
 pub mod AppendingLaws
 pub mod InsnFormLaws
+pub mod NameLaws
+pub mod EachLaws

@@ -12,4 +12,7 @@ pub mod Flow
 pub mod Descriptor
 pub mod DescriptorReading
 pub mod Deciding
+pub mod Names
+pub mod InsnUse
+pub mod WellMade
 pub mod Appending

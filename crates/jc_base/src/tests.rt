@@ -50,6 +50,39 @@ fn numbers_are_big_endian(rt: HostRuntime) {
 }
 
 #[test]
+fn names_are_numbered(rt: HostRuntime) -> Result<(), Fail> {
+    let alloc = rt.alloc();
+    let mut names = Names::new(alloc)?;
+    for (name, number) in [("A", 0), ("b/C", 1), ("A", 0), ("", 2), ("b/C", 1)] {
+        assert_eq!(rt; names.number(alloc, name.as_bytes()), Ok(number), "{name}");
+    }
+    assert_eq!(rt; names.len(), 3);
+    assert_eq!(rt; names.text(1), b"b/C".as_slice());
+    Ok(())
+}
+
+#[test]
+fn uses_of_instructions(rt: HostRuntime) {
+    let iload = Insn::Local { op: 21, slot: 3 };
+    let lload = Insn::Local { op: 22, slot: 3 };
+    let dstore = Insn::Local {
+        op: 57,
+        slot: 65_535,
+    };
+    let iinc = Insn::Inc { slot: 3, by: 1 };
+    for (insn, most) in [(&iload, 3), (&lload, 4), (&iinc, 3)] {
+        assert!(rt; !insn.locals_within(most), "{insn:?}");
+        assert!(rt; insn.locals_within(most + 1), "{insn:?}");
+    }
+    assert!(rt; !dstore.locals_within(65_535));
+    assert!(rt; Insn::Simple(177).locals_within(0));
+    assert_eq!(rt; Insn::Dynamic { place: 7 }.pool_place(), Some(7));
+    assert_eq!(rt; iload.pool_place(), None);
+    let goto = Insn::Jump { op: 167, to: 4 };
+    assert!(rt; goto.leads_within(5) && !goto.leads_within(4));
+}
+
+#[test]
 fn planned_calls_fail(rt: HostRuntime) -> Result<(), Fail> {
     let alloc = rt.alloc();
     let mut files = MemoryFiles::new(alloc, &[2, 3])?;

@@ -69,7 +69,7 @@ names_decided pool named.MethodDescriptor place = passes_decided is_method_text 
 
 -- ---- items
 
-agrees_number : (n : ℕ) → Agrees (number n) (item (number_at n))
+pub agrees_number : (n : ℕ) → Agrees (number n) (item (number_at n))
 agrees_number n = agrees_item (IsBig n) (number_at n) (number_takes n) (number_again n)
 
 module _ (test : ℕ → Bool) (Fact : ℕ → Type 0) (d : (n : ℕ) → Decides (test n) (Fact n)) where
@@ -116,10 +116,10 @@ piece_takes n bytes x left e =
 piece_again : (n : ℕ) (front rest : List ℕ) (x : List ℕ) → ((length front ≡ n) × (front ≡ x)) → first n (take n) (front ++ rest) ≡ Some (x, rest)
 piece_again n front rest x is = first_again n (take n) front rest x is.0 (take_at front rest n is.0 ∙ is.1)
 
-agrees_piece : (n : ℕ) → Agrees (piece n) (item (first n (take n)))
+pub agrees_piece : (n : ℕ) → Agrees (piece n) (item (first n (take n)))
 agrees_piece n = agrees_item (λ bytes body. (length bytes ≡ n) × (bytes ≡ body)) (first n (take n)) (piece_takes n) (piece_again n)
 
-agrees_counted : {X : Type 0} (g : Grammar X) (read : List ℕ → Parsed X) → Agrees g read → Agrees (counted g) (λ left. item (number_at 2) left >>= λ n. times_at n.0 read n.1)
+pub agrees_counted : {X : Type 0} (g : Grammar X) (read : List ℕ → Parsed X) → Agrees g read → Agrees (counted g) (λ left. item (number_at 2) left >>= λ n. times_at n.0 read n.1)
 agrees_counted g read a = agrees_followed (number 2) (λ n. times n g) (item (number_at 2)) (λ n left. times_at n read left) (agrees_number 2) (λ n. agrees_times n g read a)
 
 -- ---- the parts
@@ -132,7 +132,7 @@ agrees_attribute pool =
     agrees_followed _ _ _ _ (agrees_piece size) (λ body.
     agrees_nothing (record { name = name; body = body }))))
 
-agrees_attributes : (pool : PoolValue) → Agrees (counted (attribute (HasText pool))) (attributes_at pool)
+pub agrees_attributes : (pool : PoolValue) → Agrees (counted (attribute (HasText pool))) (attributes_at pool)
 unfolding attributes_at
 agrees_attributes pool = agrees_counted (attribute (HasText pool)) (attribute_at pool) (agrees_attribute pool)
 

@@ -11,7 +11,7 @@ mod write;
 pub use class_file::{Attribute, ClassFile, Member};
 pub use id::class_id;
 pub use laws::{each_class_has_one_text, each_text_is_read_or_refused};
-pub use read::read_class;
+pub use read::{read_attributes, read_class};
 pub use write::write_class;
 
 #[cfg(test)]

@@ -84,9 +84,15 @@ fn listed_attributes(
     Ok(list)
 }
 
-/// The attributes of the class, a field or a method.
+/// A count and so many attributes (JVM Specification 4.7), as they stand in a class, a field, a method
+/// and a Code attribute. The names have to be Utf8 entries of the pool.
+///
+/// # Errors
+///
+/// `Memory` where memory was refused. `NotAClass`, with the offset of the item, at the first item
+/// that fails.
 #[tactic(auto, unfolding(crate::specs::ClassReading::attributes_at))]
-fn attributes(
+pub fn read_attributes(
     alloc: Global,
     reader: &mut Reader<'_>,
     pool: &Pool,
@@ -114,7 +120,7 @@ fn member(
     let flags = u16_item(reader)?;
     let name = place_item(reader, pool, Named::Text)?;
     let desc = place_item(reader, pool, descriptor)?;
-    let attributes = attributes(alloc, reader, pool)?;
+    let attributes = read_attributes(alloc, reader, pool)?;
     Ok(Member {
         flags,
         name,
@@ -175,7 +181,7 @@ fn parsed(alloc: Global, reader: &mut Reader<'_>) -> Result<ClassFile, Fail<Refu
     let interfaces = interfaces(alloc, reader, &pool)?;
     let fields = members(alloc, reader, &pool, Named::FieldDescriptor)?;
     let methods = members(alloc, reader, &pool, Named::MethodDescriptor)?;
-    let attributes = attributes(alloc, reader, &pool)?;
+    let attributes = read_attributes(alloc, reader, &pool)?;
     Ok(ClassFile {
         minor,
         major,

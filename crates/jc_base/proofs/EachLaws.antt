@@ -1,0 +1,13 @@
+-- A fact of each item of a list, item by item and by index.
+use Rattle.std.proofs.Common.{suc, List, [], ◌∷◌, map, All, arith}
+use Rattle.std.proofs.lemmas.List.Elements.{All-cons, All-nil}
+use Rattle.std.specs.List.{AllByRecursion}
+
+module _ {X Y : Type 0} (P : Y → Type 0) (f : X → Y) where
+  pub each_of_all : (xs : List X) → All (λ x. P (f x)) xs → AllByRecursion P (map f xs)
+  each_of_all [] h = tt
+  each_of_all (x ∷ xs) h = (h 0 x (omega arith), each_of_all xs (λ k d below. h (suc k) d (omega (arith, below))))
+
+  pub all_of_each : (xs : List X) → AllByRecursion P (map f xs) → All (λ x. P (f x)) xs
+  all_of_each [] h = All-nil (λ x. P (f x))
+  all_of_each (x ∷ xs) h = All-cons (λ x. P (f x)) x xs h.0 (all_of_each xs h.1)

@@ -1,0 +1,119 @@
+-- A well made body: what every call that takes a body relies on (JVM Specification 4.7.3, 4.9).
+use Rattle.std.specs.Prelude.{◌≡◌, ◌≢◌, ⊤, ℕ, ◌+◌, ◌*◌, ◌<◌, ◌≤◌, ◌/◌, ◌%◌, List, [], ◌∷◌, ◌++◌, length, Some, All, Contains, slice_get}
+use Rattle.std.specs.List.{sum_by}
+use Rattle.jc_base.specs.Descriptor.{MethodType, DescribesMethod, parameter_slots}
+use Rattle.jc_base.specs.Flow.{FallsThrough}
+use Rattle.jc_base.specs.Insn.{IsWellFormed, arm_count}
+use Rattle.jc_base.specs.InsnUse.{pool_place, Suits, IsClass, LocalsWithin, LeadsWithin}
+use Rattle.jc_base.specs.declared.insn.Insn.{Insn}
+use Rattle.jc_base.specs.declared.insn.Insn.TheVariants as insns
+use Rattle.jc_base.specs.declared.kind.Kind.{Kind}
+use Rattle.jc_base.specs.declared.kind.Kind.TheVariants as kinds
+use Rattle.jc_base.specs.declared.kind.State.{State}
+use Rattle.jc_base.specs.declared.body.Handler.{Handler}
+use Rattle.jc_base.specs.declared.body.LineAt.{LineAt}
+use Rattle.jc_base.specs.declared.body.VarAt.{VarAt}
+use Rattle.jc_base.specs.declared.body.FrameAt.{FrameAt}
+use Rattle.jc_base.specs.declared.body.Use.{Use}
+use Rattle.jc_base.specs.declared.body.What.{What}
+use Rattle.jc_base.specs.declared.body.Body.{Body}
+
+-- ---- the code
+
+-- how many instructions and arms of switches there are
+abbrev pub insns_and_arms : List Insn → ℕ
+insns_and_arms code = sum_by (λ insn. 1 + arm_count insn) code
+
+pub record IsCode (code : List Insn) : Type 0 where
+  pub some : 1 ≤ length code
+  pub few : insns_and_arms code ≤ 65535
+  -- each has an opcode of its variant, and operands that the opcode allows
+  pub well_formed : All IsWellFormed code
+  -- each jump and each arm leads to an instruction
+  pub places : All (LeadsWithin (length code)) code
+  -- control doesn't fall off the end
+  pub ends : (before : List Insn) (last : Insn) → code ≡ before ++ last ∷ [] → FallsThrough last → ⊥
+
+-- ---- the tables, among so many instructions
+
+-- an exception row guards an instruction or more
+pub record IsHandler (count : ℕ) (h : Handler) : Type 0 where
+  pub some : h.start < h.end
+  pub end : h.end ≤ count
+  pub target : h.target < count
+
+abbrev pub IsLine : ℕ → LineAt → Type 0
+IsLine count l = l.at < count
+
+pub record IsVar (count max_locals : ℕ) (v : VarAt) : Type 0 where
+  pub start : v.start < count
+  pub ordered : v.start ≤ v.end
+  pub end : v.end ≤ count
+  pub slot : v.slot < max_locals
+
+-- ---- frames
+
+-- an object without a constructor's call was made by a `new`
+abbrev pub IsKind : List Insn → Kind → Type 0
+IsKind code (kinds.Uninit at) = (place : ℕ) × (slice_get code at ≡ Some (insns.OfClass 187 place))
+IsKind code kind = ⊤
+
+-- how many stack slots a value takes (JVM Specification 2.6.2)
+abbrev pub kind_slots : Kind → ℕ
+kind_slots kinds.Long = 2
+kind_slots kinds.Double = 2
+kind_slots kind = 1
+
+pub record IsState (code : List Insn) (max_locals max_stack : ℕ) (state : State) : Type 0 where
+  pub locals : length state.locals ≡ max_locals
+  pub stack : sum_by kind_slots state.stack ≤ max_stack
+  pub local_kinds : All (IsKind code) state.locals
+  pub stack_kinds : All (IsKind code) state.stack
+
+-- the frames stand at instructions, in rising order from one on
+abbrev pub AreFramesFrom : ℕ → List Insn → ℕ → ℕ → List FrameAt → Type 0
+AreFramesFrom first code max_locals max_stack [] = ⊤
+AreFramesFrom first code max_locals max_stack (f ∷ frames) =
+    (first ≤ f.at) × (f.at < length code) × IsState code max_locals max_stack f.state × AreFramesFrom (f.at + 1) code max_locals max_stack frames
+
+-- ---- what is used
+
+-- one entry is for this place, and the fact holds of what stands there
+pub record HasUse (uses : List Use) (place : ℕ) (Fact : What → Type 0) : Type 0 where
+  pub use_of : Use
+  pub listed : Contains uses use_of
+  pub place_is : use_of.place ≡ place
+  pub fact : Fact use_of.what
+  pub single : (other : Use) → Contains uses other → other.place ≡ place → other ≡ use_of
+
+pub record AreUses (code : List Insn) (handlers : List Handler) (uses : List Use) : Type 0 where
+  pub by_insns : All (λ insn. (place : ℕ) → pool_place insn ≡ Some place → HasUse uses place (Suits insn)) code
+  pub by_handlers : All (λ h. h.class ≢ 0 → HasUse uses h.class IsClass) handlers
+
+-- ---- arguments
+
+-- the flag of a method without `this` (JVM Specification 4.6, ACC_STATIC)
+abbrev pub IsStatic : ℕ → Type 0
+IsStatic flags = (flags / 8) % 2 ≡ 1
+
+-- so many local variables take the arguments, `this` included
+pub record TakeSlots (flags : ℕ) (desc : List ℕ) (slots : ℕ) : Type 0 where
+  pub type : MethodType
+  pub described : DescribesMethod desc type
+  pub static_slots : IsStatic flags → slots ≡ parameter_slots type
+  pub other_slots : (IsStatic flags → ⊥) → slots ≡ 1 + parameter_slots type
+
+-- ---- the whole
+
+pub record IsWellMade (b : Body) : Type 0 where
+  pub code : IsCode b.code
+  pub handlers : All (IsHandler (length b.code)) b.handlers
+  pub lines : All (IsLine (length b.code)) b.lines
+  pub vars : All (IsVar (length b.code) b.max_locals) b.vars
+  pub kind_vars : All (IsVar (length b.code) b.max_locals) b.kind_vars
+  pub locals : All (LocalsWithin b.max_locals) b.code
+  pub arguments : TakeSlots b.flags b.desc b.arg_slots
+  pub arguments_fit : b.arg_slots ≤ b.max_locals
+  pub uses : AreUses b.code b.handlers b.uses
+  pub frames : AreFramesFrom 0 b.code b.max_locals b.max_stack b.frames
+  pub bound : length b.code * (b.max_locals + b.max_stack) ≤ 33554432
