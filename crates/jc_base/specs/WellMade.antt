@@ -1,5 +1,6 @@
 -- A well made body: what every call that takes a body relies on (JVM Specification 4.7.3, 4.9).
-use Rattle.std.specs.Prelude.{◌≡◌, ◌≢◌, ⊤, ℕ, ◌+◌, ◌*◌, ◌<◌, ◌≤◌, ◌/◌, ◌%◌, List, [], ◌∷◌, ◌++◌, length, Some, All, Contains, slice_get}
+use Rattle.std.specs.Prelude.{◌≡◌, ◌≢◌, ⊤, ℕ, ◌+◌, ◌*◌, ◌<◌, ◌≤◌, List, [], ◌∷◌, ◌++◌, length, Some, All, Contains, slice_get}
+use Rattle.std.specs.Int.Bits.{bit_and}
 use Rattle.std.specs.List.{sum_by}
 use Rattle.jc_base.specs.Descriptor.{MethodType, DescribesMethod, parameter_slots}
 use Rattle.jc_base.specs.Flow.{FallsThrough}
@@ -94,7 +95,7 @@ pub record AreUses (code : List Insn) (handlers : List Handler) (uses : List Use
 
 -- the flag of a method without `this` (JVM Specification 4.6, ACC_STATIC)
 abbrev pub IsStatic : ℕ → Type 0
-IsStatic flags = (flags / 8) % 2 ≡ 1
+IsStatic flags = bit_and flags 0x0008 ≢ 0
 
 -- so many local variables take the arguments, `this` included
 pub record TakeSlots (flags : ℕ) (desc : List ℕ) (slots : ℕ) : Type 0 where
