@@ -1,0 +1,157 @@
+-- The body of a method, or why it has none (JVM Specification 4.7.3).
+use Rattle.std.specs.Prelude.{◌≡◌, ◌+◌, ◌<◌, ◌≤◌, ℕ, Bool, ◌&&◌, ◌||◌, not, List, [], ◌∷◌, ◌++◌, length, map, filter, Option, Some, None, nat_lt, nat_eq, slice_get}
+use Rattle.std.specs.List.{flat_map}
+use Rattle.jc_base.specs.declared.body.Body.{Body}
+use Rattle.jc_base.specs.declared.body.Handler.{Handler}
+use Rattle.jc_base.specs.declared.body.LineAt.{LineAt}
+use Rattle.jc_base.specs.declared.body.VarAt.{VarAt}
+use Rattle.jc_base.specs.declared.body.Use.{Use}
+use Rattle.jc_base.specs.declared.body.What.{What}
+use Rattle.jc_base.specs.declared.insn.Insn.{Insn}
+use Rattle.jc_base.specs.declared.refusal.Refusal.{Refusal}
+use Rattle.jc_base.specs.declared.refusal.RefusalKind.{RefusalKind}
+use Rattle.jc_base.specs.declared.refusal.RefusalKind.TheVariants as kinds
+use Rattle.jc_base.specs.InsnUse.{pool_place}
+use Rattle.jc_base.specs.WellMade.{TakeSlots}
+use Rattle.jc_pool.specs.Lookup.{utf8_of, class_name_of}
+use Rattle.jc_pool.specs.Pool.{PoolValue}
+use Rattle.jc_class.specs.declared.class_file.ClassFile.{ClassFile}
+use Rattle.jc_class.specs.declared.class_file.Member.{Member}
+use Rattle.jc_insn.specs.Spells.{insn_number}
+use Rattle.jc_body.specs.declared.items.Row.{Row}
+use Rattle.jc_body.specs.declared.items.LineEntry.{LineEntry}
+use Rattle.jc_body.specs.declared.items.VarEntry.{VarEntry}
+use Rattle.jc_body.specs.declared.items.Tables.{Tables}
+use Rattle.jc_body.specs.Attributes.{AreTables}
+use Rattle.jc_body.specs.declared.coded.Coded.{Coded}
+use Rattle.jc_body.specs.Coded.{IsCoded, HasNoCode}
+use Rattle.jc_body.specs.Faults.{HasSubroutine, faults}
+use Rattle.jc_body.specs.First.{IsNowhere, IsLeast, IsFirst, AreNowhere}
+use Rattle.jc_body.specs.Standing.{what_at}
+
+-- ---- offsets as instruction numbers
+
+-- the number of the instruction that begins at an offset, or the number of instructions where none does
+abbrev pub Numbering : Type 0
+Numbering = ℕ → ℕ
+
+-- the row, by instruction numbers
+abbrev pub handler_of : Numbering → Row → Handler
+handler_of number row = record { start = number row.start; end = number row.end; target = number row.target; class = row.class }
+
+abbrev pub line_of : Numbering → LineEntry → LineAt
+line_of number entry = record { at = number entry.start; line = entry.line }
+
+abbrev pub var_of : Numbering → VarEntry → VarAt
+var_of number entry = record {
+  start = number entry.start;
+  end = number (entry.start + entry.length);
+  name = entry.name;
+  desc = entry.desc;
+  slot = entry.slot;
+}
+
+-- one of so many instructions begins at the offset
+abbrev pub is_start : Numbering → ℕ → ℕ → Bool
+is_start number count offset = nat_lt (number offset) count
+
+-- an entry whose place isn't an instruction is dropped
+abbrev pub keeps_line : Numbering → ℕ → LineEntry → Bool
+keeps_line number count entry = is_start number count entry.start
+
+-- an entry whose places aren't instructions, but for an end that is the code's length, or whose local
+-- variable there isn't, is dropped
+abbrev pub keeps_var : Numbering → ℕ → ℕ → ℕ → VarEntry → Bool
+keeps_var number count size max_locals entry =
+    is_start number count entry.start
+    && ((is_start number count (entry.start + entry.length) || nat_eq (entry.start + entry.length) size) && nat_lt entry.slot max_locals)
+
+abbrev pub lines_of : Numbering → ℕ → List LineEntry → List LineAt
+lines_of number count entries = map (line_of number) (filter (keeps_line number count) entries)
+
+abbrev pub vars_of : Numbering → ℕ → ℕ → ℕ → List VarEntry → List VarAt
+vars_of number count size max_locals entries = map (var_of number) (filter (keeps_var number count size max_locals) entries)
+
+-- ---- what is used
+
+abbrev pub some_of : Option ℕ → List ℕ
+some_of None = []
+some_of (Some place) = place ∷ []
+
+-- the places in the pool that instructions name, in their order
+abbrev pub insn_places : List Insn → List ℕ
+insn_places insns = flat_map (λ insn. some_of (pool_place insn)) insns
+
+-- the places of the classes of rows, in their order
+abbrev pub row_places : List Row → List ℕ
+row_places rows = filter (λ place. not (nat_eq place 0)) (map (λ row. row.class) rows)
+
+-- each place as often as it is used, the instructions first
+abbrev pub places_used : List Insn → List Row → List ℕ
+places_used insns rows = insn_places insns ++ row_places rows
+
+-- each number once, where it is first seen
+abbrev pub first_seen : List ℕ → List ℕ
+first_seen [] = []
+first_seen (x ∷ xs) = x ∷ filter (λ y. not (nat_eq x y)) (first_seen xs)
+
+abbrev pub use_of : ℕ → Option What → List Use
+use_of place None = []
+use_of place (Some what) = record { place = place; what = what } ∷ []
+
+-- what stands at each of the places
+abbrev pub uses_of : PoolValue → List ℕ → List Use
+uses_of pool places = flat_map (λ place. use_of place (what_at pool place)) places
+
+-- ---- the body
+
+pub record IsBody (c : ClassFile) (number : ℕ) (method : Member) (body : Body) : Type 0 where
+  pub coded : Coded
+  pub is : IsCoded c.pool method coded
+  pub no_subroutine : IsNowhere (HasSubroutine c.pool method)
+  pub no_fault : AreNowhere (faults c.major c.pool method)
+  pub number_is : body.method ≡ number
+  pub owner : class_name_of c.pool c.this_class ≡ Some body.owner
+  pub name : utf8_of c.pool method.name ≡ Some body.name
+  pub desc : utf8_of c.pool method.desc ≡ Some body.desc
+  pub flags : body.flags ≡ method.flags
+  pub arg_slots : TakeSlots method.flags body.desc body.arg_slots
+  pub max_stack : body.max_stack ≡ coded.items.max_stack
+  pub max_locals : body.max_locals ≡ coded.items.max_locals
+  pub code : body.code ≡ coded.insns
+  pub handlers : body.handlers ≡ map (handler_of (insn_number coded.starts)) coded.items.rows
+  pub tables : Tables
+  pub are_tables : AreTables c.pool coded.items.attributes tables
+  pub lines : body.lines ≡ lines_of (insn_number coded.starts) (length coded.insns) tables.lines
+  pub vars : body.vars ≡ vars_of (insn_number coded.starts) (length coded.insns) (length coded.items.code) coded.items.max_locals tables.vars
+  pub kind_vars : body.kind_vars ≡ vars_of (insn_number coded.starts) (length coded.insns) (length coded.items.code) coded.items.max_locals tables.kind_vars
+  -- the stack map table isn't read
+  pub frames : body.frames ≡ []
+  pub uses : body.uses ≡ uses_of c.pool (first_seen (places_used coded.insns coded.items.rows))
+
+-- the body of the method with this number
+pub record BodyOf (c : ClassFile) (number : ℕ) (body : Body) : Type 0 where
+  pub method : Member
+  pub at : slice_get c.methods number ≡ Some method
+  pub is : IsBody c number method body
+
+-- the method with this number is abstract or native, and has no code
+pub record Bodiless (c : ClassFile) (number : ℕ) : Type 0 where
+  pub method : Member
+  pub at : slice_get c.methods number ≡ Some method
+  pub none : HasNoCode c.pool method
+
+-- ---- the reason of a refusal
+
+-- a subroutine instruction, or else the first fault in their order
+abbrev pub IsReason : ℕ → PoolValue → Member → RefusalKind → ℕ → Type 0
+IsReason major pool method kinds.Subroutine place = IsLeast (HasSubroutine pool method) place
+IsReason major pool method kinds.BadCode place = IsNowhere (HasSubroutine pool method) × IsFirst (faults major pool method) place
+IsReason major pool method kind place = ⊥
+
+-- why the method with this number has no body
+pub record FaultOf (c : ClassFile) (number : ℕ) (refusal : Refusal) : Type 0 where
+  pub method : Member
+  pub at : slice_get c.methods number ≡ Some method
+  pub method_is : refusal.method ≡ Some number
+  pub reason : IsReason c.major c.pool method refusal.kind refusal.place

@@ -1,0 +1,11 @@
+pub mod CodeForm
+pub mod CodeReading
+pub mod Attributes
+pub mod Standing
+pub mod FoundView
+pub mod First
+pub mod Coded
+pub mod Faults
+pub mod Numbering
+pub mod Seen
+pub mod BodyOf

@@ -1,0 +1,13 @@
+//! A method's code as it was read.
+use crate::items::CodeItems;
+use jc_base::{Insn, List};
+
+/// What a Code attribute holds, its instructions, and where they begin.
+#[derive(Debug, Drop)]
+pub struct Coded {
+    pub items: CodeItems,
+    /// The instructions. A jump that leads to no instruction names the number of instructions.
+    pub insns: List<Insn>,
+    /// The offset of each instruction, and then the length of the code.
+    pub starts: List<u32>,
+}

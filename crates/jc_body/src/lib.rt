@@ -1,0 +1,15 @@
+//! The bodies of methods (JVM Specification 4.7.3, 4.9), with instruction numbers in place of offsets.
+#![tactic(auto)]
+
+mod attributes;
+mod checks;
+mod coded;
+mod form;
+mod items;
+mod laws;
+mod places;
+mod standing;
+mod tables;
+mod uses;
+
+pub use laws::each_method_has_one_answer;

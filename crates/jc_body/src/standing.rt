@@ -1,0 +1,169 @@
+//! What stands at the places in the pool that a body uses (JVM Specification 4.4, 4.9.1).
+ghost use Rattle.std.specs.Prelude.{◌≡◌, ◌↔◌, ℕ, List, Option as Maybe, None, Some, IfOk, IsTrue, option_map, option_and_then};
+ghost use Rattle.jc_base.specs.declared.body.What.{What as Thing};
+ghost use Rattle.jc_base.specs.InsnUse.{Suits};
+ghost use Rattle.jc_pool.specs.Lookup.{member, member_of, class_name_of, const_of};
+ghost use Rattle.jc_body.specs.Standing.{Found, found_at, what_of, what_at, FoundSuits, HasRightEntry};
+
+use jc_base::{Bytes, Insn, Memory, What, is_field_descriptor, is_method_descriptor};
+use jc_pool::{ConstText, MemberText, Pool};
+use std::alloc::Global;
+
+/// What stands at a place.
+#[derive(Clone, Copy, Debug, PartialEq, Eq)]
+pub enum Standing<'a> {
+    /// A field, a method, or a constant or a call that is linked at run time.
+    Member(MemberText<'a>),
+    /// A class, by its name.
+    Class(&'a [u8]),
+    /// Another constant.
+    Constant(ConstText),
+}
+
+/// What stands at a place, if all that its entry names stands there too.
+#[tactic(auto, unfolding(crate::specs::Standing::found_at))]
+fn standing_at(pool: &Pool, place: u16) -> Option<Standing<'_>>
+    ensures { option_map found result ≡ found_at pool.now place }
+{
+    if let Ok(member) = pool.member_at(place) {
+        return Some(Standing::Member(member));
+    }
+    if let Ok(name) = pool.class_at(place) {
+        return Some(Standing::Class(name));
+    }
+    match pool.const_at(place) {
+        Ok(constant) => Some(Standing::Constant(constant)),
+        Err(_) => None,
+    }
+}
+
+/// What a member is to a body.
+fn what_of_member(alloc: Global, m: &MemberText<'_>) -> Result<What, Memory>
+    ensures { IfOk result (λ what. what ≡ what_of_member (member m.now)) }
+{
+    let class = Bytes::copy_of(alloc, m.class)?;
+    let name = Bytes::copy_of(alloc, m.name)?;
+    let desc = Bytes::copy_of(alloc, m.desc)?;
+    Ok(match m.tag {
+        9 => What::Field { class, name, desc },
+        17 => What::Computed { desc },
+        18 => What::Call { name, desc },
+        _ => What::Method { class, name, desc },
+    })
+}
+
+/// What a constant is to a body. Classes and computed constants are told by more than this.
+fn what_of_constant(constant: ConstText) -> Option<What>
+    ensures { result ≡ what_of_constant constant }
+{
+    match constant {
+        ConstText::Int(value) => Some(What::Int(value)),
+        ConstText::Long(value) => Some(What::Long(value)),
+        ConstText::Float => Some(What::Float),
+        ConstText::Double => Some(What::Double),
+        ConstText::Text => Some(What::Text),
+        ConstText::Handle => Some(What::Handle),
+        ConstText::MethodKind => Some(What::MethodKind),
+        ConstText::Class | ConstText::Computed => None,
+    }
+}
+
+/// What a body uses at a place.
+///
+/// # Errors
+///
+/// `Memory` where memory was refused.
+pub fn what_at(alloc: Global, pool: &Pool, place: u16) -> Result<Option<What>, Memory>
+    ensures { IfOk result (λ what. what ≡ what_at pool.now place) }
+{
+    match standing_at(pool, place) {
+        None => Ok(None),
+        Some(Standing::Member(member)) => Ok(Some(what_of_member(alloc, &member)?)),
+        Some(Standing::Class(name)) => Ok(Some(What::Class(Bytes::copy_of(alloc, name)?))),
+        Some(Standing::Constant(constant)) => Ok(what_of_constant(constant)),
+    }
+}
+
+/// Whether values of the type take two slots (JVM Specification 2.6.1).
+fn is_of_two_slots(desc: &[u8]) -> bool
+    ensures { IsTrue result ↔ IsOfTwoSlots desc.now }
+{
+    matches!(desc, [b'J' | b'D'])
+}
+
+/// Whether what stands there is a constant that `ldc` loads.
+fn is_one_slot_constant(standing: &Standing<'_>) -> bool
+    ensures { IsTrue result ↔ Meets IsOneSlotConstant (what_of (found standing.now)) }
+{
+    match standing {
+        Standing::Member(m) => {
+            let computed = m.tag == 17 && !is_of_two_slots(m.desc);
+            computed && is_field_descriptor(m.desc)
+        }
+        Standing::Class(_) => true,
+        Standing::Constant(constant) => matches!(
+            constant,
+            ConstText::Int(_) | ConstText::Float | ConstText::Text | ConstText::Handle | ConstText::MethodKind
+        ),
+    }
+}
+
+/// Whether what stands there is a constant that `ldc2_w` loads.
+fn is_two_slot_constant(standing: &Standing<'_>) -> bool
+    ensures { IsTrue result ↔ Meets IsTwoSlotConstant (what_of (found standing.now)) }
+{
+    match standing {
+        Standing::Member(m) => m.tag == 17 && is_of_two_slots(m.desc),
+        Standing::Class(_) => false,
+        Standing::Constant(constant) => matches!(constant, ConstText::Long(_) | ConstText::Double),
+    }
+}
+
+/// Whether a member is what an instruction of this opcode, from `getstatic` to `invokestatic`, needs.
+fn is_member_for(major: u16, op: u8, m: &MemberText<'_>) -> bool
+    ensures { IsTrue result ↔ (IsMemberFor op (what_of_member (member m.now)) × (m.now.tag ≡ 11 → (52 ≤ major) × (183 ≤ op))) }
+{
+    match m.tag {
+        9 => op <= 181 && is_field_descriptor(m.desc),
+        10 => op > 181 && is_method_descriptor(m.desc),
+        11 => op > 182 && (major >= 52 && is_method_descriptor(m.desc)),
+        _ => false,
+    }
+}
+
+/// Whether what stands there is of the kind that the instruction needs (JVM Specification 4.9.1).
+fn suits(major: u16, insn: &Insn, standing: &Standing<'_>) -> bool
+    ensures { IsTrue result ↔ FoundSuits major insn.now (found standing.now) }
+{
+    match insn {
+        Insn::Constant { .. } => is_one_slot_constant(standing),
+        Insn::Constant2 { .. } => is_two_slot_constant(standing),
+        Insn::Member { op, .. } => match standing {
+            Standing::Member(m) => is_member_for(major, *op, m),
+            _ => false,
+        },
+        Insn::Interface { .. } => match standing {
+            Standing::Member(m) => m.tag == 11 && is_method_descriptor(m.desc),
+            _ => false,
+        },
+        Insn::Dynamic { .. } => match standing {
+            Standing::Member(m) => m.tag == 18 && is_method_descriptor(m.desc),
+            _ => false,
+        },
+        Insn::OfClass { .. } | Insn::Multi { .. } => matches!(standing, Standing::Class(_)),
+        _ => false,
+    }
+}
+
+/// Whether the instruction names no place in the pool, or one with an entry of the kind that it needs.
+pub fn has_right_entry(major: u16, pool: &Pool, insn: &Insn) -> bool
+    ensures { IsTrue result ↔ HasRightEntry major pool.now insn.now }
+{
+    match insn.pool_place() {
+        None => true,
+        Some(place) => match standing_at(pool, place) {
+            None => false,
+            Some(standing) => suits(major, insn, &standing),
+        },
+    }
+}
