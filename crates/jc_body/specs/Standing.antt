@@ -61,17 +61,18 @@ what_at pool place = option_and_then what_of (found_at pool place)
 
 -- invokestatic and invokespecial are on the methods of interfaces only from version 52 on
 abbrev pub TagSuits : ℕ → Insn → Found → Type 0
-TagSuits major (insns.Member op place) (of_member m) = (m.tag ≡ 11 → (52 ≤ major) × (183 ≤ op))
+TagSuits major (insns.Member op place) (of_member m) = m.tag ≡ 11 → ((52 ≤ major) × (183 ≤ op))
 TagSuits major (insns.Interface place count) (of_member m) = m.tag ≡ 11
 TagSuits major _ _ = ⊤
 
-abbrev pub WhatSuits : Insn → Option What → Type 0
-WhatSuits insn None = ⊥
-WhatSuits insn (Some what) = Suits insn what
+-- a body uses something there, and this holds of it
+abbrev pub Meets : (What → Type 0) → Option What → Type 0
+Meets Fact None = ⊥
+Meets Fact (Some what) = Fact what
 
 -- what stands there is of the kind that the instruction needs (JVM Specification 4.9.1)
 pub record FoundSuits (major : ℕ) (insn : Insn) (found : Found) : Type 0 where
-  pub kind : WhatSuits insn (what_of found)
+  pub kind : Meets (Suits insn) (what_of found)
   pub tag : TagSuits major insn found
 
 abbrev pub EntrySuits : ℕ → Insn → Option Found → Type 0

@@ -1,8 +1,9 @@
 //! Rows and entries by instruction numbers, in place of offsets.
-ghost use Rattle.std.specs.Prelude.{◌≡◌, ◌↔◌, ℕ, length, map, filter, slice_index_or, IfOk, IsTrue};
+ghost use Rattle.std.specs.Prelude.{◌≡◌, ◌↔◌, map, slice_index_or, IfOk, IsTrue};
 ghost use Rattle.jc_body.specs.First.{FirstItem};
-ghost use Rattle.jc_body.specs.Faults.{IsClassOrNone, IsRowAmong};
-ghost use Rattle.jc_body.specs.BodyOf.{handler_of, line_of, var_of, keeps_line, keeps_var, lines_of, vars_of};
+ghost use Rattle.jc_body.specs.Faults.{IsClassOrNone, IsRow};
+ghost use Rattle.jc_body.specs.Numbering.{numbering};
+ghost use Rattle.jc_body.specs.BodyOf.{is_start, handler_of, var_of, keeps_var, lines_of, vars_of};
 
 use crate::items::{LineEntry, Row, VarEntry};
 use jc_base::{Handler, LineAt, List, Memory, VarAt};

@@ -1,9 +1,9 @@
 //! What stands at the places in the pool that a body uses (JVM Specification 4.4, 4.9.1).
-ghost use Rattle.std.specs.Prelude.{◌≡◌, ◌↔◌, ℕ, List, Option as Maybe, None, Some, IfOk, IsTrue, option_map, option_and_then};
-ghost use Rattle.jc_base.specs.declared.body.What.{What as Thing};
-ghost use Rattle.jc_base.specs.InsnUse.{Suits};
-ghost use Rattle.jc_pool.specs.Lookup.{member, member_of, class_name_of, const_of};
-ghost use Rattle.jc_body.specs.Standing.{Found, found_at, what_of, what_at, FoundSuits, HasRightEntry};
+ghost use Rattle.std.specs.Prelude.{◌≡◌, ◌↔◌, ◌≤◌, IfOk, IsTrue, option_map};
+ghost use Rattle.jc_base.specs.InsnUse.{IsOfTwoSlots, IsOneSlotConstant, IsTwoSlotConstant, IsMemberFor};
+ghost use Rattle.jc_pool.specs.Lookup.{member};
+ghost use Rattle.jc_body.specs.Standing.{found_at, what_of_member, what_of_constant, what_of, what_at, Meets, FoundSuits, HasRightEntry};
+ghost use Rattle.jc_body.specs.FoundView.{found};
 
 use jc_base::{Bytes, Insn, Memory, What, is_field_descriptor, is_method_descriptor};
 use jc_pool::{ConstText, MemberText, Pool};
@@ -103,7 +103,11 @@ fn is_one_slot_constant(standing: &Standing<'_>) -> bool
         Standing::Class(_) => true,
         Standing::Constant(constant) => matches!(
             constant,
-            ConstText::Int(_) | ConstText::Float | ConstText::Text | ConstText::Handle | ConstText::MethodKind
+            ConstText::Int(_)
+                | ConstText::Float
+                | ConstText::Text
+                | ConstText::Handle
+                | ConstText::MethodKind
         ),
     }
 }
@@ -121,7 +125,7 @@ fn is_two_slot_constant(standing: &Standing<'_>) -> bool
 
 /// Whether a member is what an instruction of this opcode, from `getstatic` to `invokestatic`, needs.
 fn is_member_for(major: u16, op: u8, m: &MemberText<'_>) -> bool
-    ensures { IsTrue result ↔ (IsMemberFor op (what_of_member (member m.now)) × (m.now.tag ≡ 11 → (52 ≤ major) × (183 ≤ op))) }
+    ensures { IsTrue result ↔ (IsMemberFor op (what_of_member (member m.now)) × (m.now.tag ≡ 11 → ((52 ≤ major) × (183 ≤ op)))) }
 {
     match m.tag {
         9 => op <= 181 && is_field_descriptor(m.desc),

@@ -1,5 +1,5 @@
 //! Reading the line and variable tables of a Code attribute (JVM Specification 4.7.12 to 4.7.14).
-ghost use Rattle.std.specs.Prelude.{◌≡◌, ◌≤◌, ℕ, List, length, map, IfOk, MatchOption};
+ghost use Rattle.std.specs.Prelude.{◌≤◌, List, length, map, IfOk, MatchOption, All};
 ghost use Rattle.jc_base.specs.Decoder.{SameEnd};
 ghost use Rattle.jc_base.specs.Parsing.{Parses, times_at};
 ghost use Rattle.jc_body.specs.CodeReading.{line_at, lines_at, var_at, vars_at};

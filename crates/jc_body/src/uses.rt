@@ -1,6 +1,7 @@
 //! What stands at the places in the pool that a body uses.
-ghost use Rattle.std.specs.Prelude.{◌≡◌, IfOk};
-ghost use Rattle.jc_body.specs.BodyOf.{places_used, first_seen, uses_of};
+ghost use Rattle.std.specs.Prelude.{◌≡◌, IfOk, OnOk};
+ghost use Rattle.jc_body.specs.BodyOf.{insn_places, row_places, places_used, first_seen, uses_of};
+ghost use Rattle.jc_body.specs.Seen.{seen_behind};
 
 use crate::items::Row;
 use crate::standing::what_at;
