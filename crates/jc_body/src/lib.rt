@@ -3,7 +3,9 @@
 
 mod attributes;
 mod checks;
+mod code;
 mod coded;
+mod faults;
 mod form;
 mod items;
 mod laws;
