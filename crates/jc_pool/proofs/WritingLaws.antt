@@ -1,12 +1,12 @@
 -- What is appended in parts.
-use Rattle.std.proofs.Common.{◌≡◌, ℕ, suc, ◌+◌, ◌-◌, ◌<◌, ◌≤◌, Bool, List, [], ◌∷◌, ◌++◌, length, drop, Option, Some, None, Result, Ok, Err, refl, sym, ◌∙◌, ap, subst, arith, append_assoc}
+use Rattle.std.proofs.Common.{◌≡◌, ℕ, zero, suc, ◌+◌, ◌-◌, ◌<◌, ◌≤◌, Bool, List, [], ◌∷◌, ◌++◌, length, drop, Option, Some, None, IfSome, option_copied, Bor, Result, Ok, Err, refl, sym, ◌∙◌, ap, subst, arith, append_assoc}
 use Rattle.std.proofs.lemmas.List.{append-nil, drop_all, drop_more}
 use Rattle.jc_base.specs.Decoder.{IsBig}
 use Rattle.std.specs.Result.{OnOk}
 use Rattle.jc_base.specs.Grammar.{Grammar}
 use Rattle.jc_base.specs.declared.fail.Memory.{Memory}
 use Rattle.jc_pool.specs.declared.entry.Entry.{Entry}
-use Rattle.jc_pool.specs.Pool.{PoolValue, IsFilled, IsPool}
+use Rattle.jc_pool.specs.Pool.{PoolValue, IsSmall, IsFilled, IsPool}
 use Rattle.jc_pool.specs.Lookup.{entry_at}
 use Rattle.jc_pool.specs.PoolGrammar.{by_size, behind, places, pool}
 use Rattle.jc_base.specs.Appending.{Appends}
@@ -123,3 +123,13 @@ appends_pool (Ok done) seen slots n old mid new same size is count places =
     (subst (λ (k : ℕ). Appends (λ count. IsBig 2 count k) old mid) (size ∙ ap length same) count)
     (subst (λ (l : PoolValue). Appends (λ text. SpellsSlots text l) mid new) same places)
 appends_pool (Err memory) seen slots n old mid new same size is count places = tt
+
+-- an entry that stands in a pool is small
+pub entry_small : (slots : List (Option Entry)) → AreSmall slots → (place : ℕ) (e : Entry) → entry_at slots place ≡ Some e → IsSmall e
+entry_small [] small place e is = absurd cc
+entry_small (slot ∷ rest) small zero e is = subst IsSmallSlot is small.0
+entry_small (slot ∷ rest) small (suc place) e is = entry_small rest small.1 place e is
+
+pub found_small : (slots : PoolValue) → IsPool slots → (place : ℕ) (found : Option (Bor Entry)) → option_copied found ≡ entry_at slots place → IfSome found (λ e. IsSmall e.now)
+found_small slots is place None at = tt
+found_small slots is place (Some e) at = entry_small slots (pool_small slots is) place e.now (sym at)

@@ -2,7 +2,7 @@
 ghost use Rattle.std.specs.Prelude.{◌≡◌, ◌↔◌, ◌+◌, ◌-◌, ◌<◌, ◌≤◌, ◌++◌, ◌∷◌, [], ℕ, List, Some, None, Contains, IfOk, IfSome, IsSome};
 ghost use Rattle.jc_base.specs.Decoder.{SameEnd};
 ghost use Rattle.jc_base.specs.Parsing.{Good, Bad, Parses};
-ghost use Rattle.jc_pool.specs.Pool.{PoolValue, IsPool};
+ghost use Rattle.jc_pool.specs.Pool.{PoolValue, IsPool, IsSmall};
 ghost use Rattle.jc_pool.specs.PoolGrammar.{pool, ReadsBy};
 ghost use Rattle.jc_pool.specs.PoolReading.{put_behind, places_at, pool_at};
 ghost use Rattle.jc_pool.specs.Slots.{IsFirstPlace};
@@ -35,7 +35,8 @@ impl Pool {
 
     /// The entry at a place.
     pub(crate) fn entry(&self, place: u16) -> Option<&Entry>
-        ensures { option_copied result ≡ entry_at self.now place }
+        ensures entry { option_copied result ≡ entry_at self.now place }
+        ensures small { IfSome result (λ entry. IsSmall entry.now) }
     {
         self.slots.entry(usize::from(place))
     }
