@@ -1,9 +1,9 @@
 //! The first fault of a method's code (JVM Specification 4.9).
-ghost use Rattle.std.specs.Prelude.{◌≡◌, ◌↔◌, ◌≤◌, ℕ, List, Some, length, map, IsTrue};
+ghost use Rattle.std.specs.Prelude.{◌↔◌, ◌≤◌, length, map, IsTrue};
 ghost use Rattle.jc_base.specs.WellMade.{TakeSlots};
 ghost use Rattle.jc_base.specs.Descriptor.{IsMethodDescriptor};
+ghost use Rattle.jc_class.specs.ClassFormat.{HasMethodDescriptor};
 ghost use Rattle.jc_insn.specs.Decoding.{AreStarts};
-ghost use Rattle.jc_pool.specs.Lookup.{utf8_of};
 ghost use Rattle.jc_body.specs.First.{FirstFault};
 ghost use Rattle.jc_body.specs.Faults.{insn_faults, row_faults, TooWide};
 ghost use Rattle.jc_body.specs.Numbering.{Numbers};
@@ -11,6 +11,7 @@ ghost use Rattle.jc_body.specs.Numbering.{Numbers};
 use crate::checks::{first_astray, first_local_outside, first_wrong_entry};
 use crate::coded::Coded;
 use crate::places::{Offsets, first_bad_row};
+use crate::texts::text_at;
 use jc_base::argument_slots;
 use jc_class::Member;
 use jc_pool::Pool;
@@ -56,15 +57,15 @@ pub fn insn_fault(major: u16, pool: &Pool, coded: &Coded) -> Option<u32>
 pub fn row_fault(
     pool: &Pool,
     method: &Member,
-    slots: u32,
     coded: &Coded,
     offsets: &Offsets<'_>,
 ) -> Option<u32>
-    requires slots { (desc : List ℕ) × (utf8_of pool.now method.now.desc ≡ Some desc) × TakeSlots method.now.flags desc slots }
+    requires desc { HasMethodDescriptor pool.now method.now.desc }
     requires offsets { Numbers coded.now offsets.now }
     requires few { length coded.now.items.rows ≤ 65535 }
     ensures { FirstFault (map (λ F. F coded.now) (row_faults pool.now method.now)) result }
 {
+    let slots = slots_of_arguments(method.flags, text_at(pool, method.desc));
     if slots > u32::from(coded.items.max_locals) {
         return Some(0);
     }

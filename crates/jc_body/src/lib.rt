@@ -10,8 +10,11 @@ mod form;
 mod items;
 mod laws;
 mod places;
+mod reading;
 mod standing;
 mod tables;
+mod texts;
 mod uses;
 
 pub use laws::each_method_has_one_answer;
+pub use reading::read_body;
