@@ -1,12 +1,16 @@
 -- The first item of a list of which something holds.
-use Rattle.std.proofs.Common.{◌≡◌, ◌⊎◌, inl, inr, ℕ, zero, suc, ◌+◌, ◌<◌, Bool, true, false, List, [], ◌∷◌, length, Option, Some, None, refl, sym, ◌∙◌, ap, subst, arith}
+use Rattle.std.proofs.Common.{◌≡◌, ◌⊎◌, inl, inr, ℕ, zero, suc, ◌+◌, ◌-◌, ◌<◌, ◌≤◌, Bool, true, false, List, [], ◌∷◌, length, Option, Some, None, refl, sym, ◌∙◌, ap, subst, arith}
 use Rattle.std.specs.List.{slice_get, slice_index_or, AllWithin, HoldsAt, FoldsTo}
 use Rattle.std.specs.Option.{MatchOption}
 use Rattle.std.specs.Fn.{Called, Mut}
 use Rattle.std.specs.Iterator.{YieldsThen}
 use Rattle.std.proofs.lemmas.Iterator.{YieldsList, IsFirst-from_position}
-use Rattle.std.proofs.lemmas.Option.{slice_get-get_or, slice_get_within, get_or_from_slice_get}
+use Rattle.std.proofs.lemmas.Option.{slice_get_within, slice_get_read, get_or_from_slice_get}
+use Rattle.jc_base.specs.declared.insn.Insn.{Insn}
+use Rattle.jc_base.specs.Flow.{FallsThrough}
+use Rattle.jc_base.specs.InsnUse.{LeadsWithin, LocalsWithin}
 use Rattle.jc_body.specs.First.{NoneBefore, NoItem, IsFirstItem, FirstItem}
+use Rattle.jc_body.specs.Faults.{IsAstray}
 
 -- ---- what `position` finds
 
@@ -65,3 +69,43 @@ first_or_none {X} Fact decide (y ∷ ys) = by (decide 0 y) (first_or_none (λ nu
         behind : (before : ℕ) (x : X) → before < suc number → slice_get (y ∷ ys) before ≡ Some x → Fact before x → ⊥
         behind zero x less at fact = other (subst (Fact 0) (same_item at) fact)
         behind (suc before) x less at fact = first.first before x (omega (arith, less)) at fact
+
+-- ---- the first instruction that goes astray
+
+last_stands : {X : Type 0} (xs : List X) (x : X) → 1 ≤ length xs → x ≡ slice_index_or xs (length xs - 1) x → slice_get xs (length xs - 1) ≡ Some x
+last_stands xs x some is = slice_get_read xs (length xs) (length xs - 1) x refl (omega (arith, some)) is
+
+-- none in front of the last is astray but by where it leads
+none_astray : (xs : List Insn) (end : ℕ) → end < length xs → NoneBefore (λ number insn. LeadsWithin (length xs) insn → ⊥) xs end → NoneBefore (IsAstray (length xs)) xs end
+none_astray xs end inside none = λ number insn before at astray. by number insn before at astray
+  where
+    by : (number : ℕ) (insn : Insn) → number < end → slice_get xs number ≡ Some insn → IsAstray (length xs) number insn → ⊥
+    by number insn before at (inl nowhere) = none number insn before at nowhere
+    by number insn before at (inr (last, falls)) = omega (arith, last, before, inside)
+
+pub astray_by_leading : (xs : List Insn) (number : ℕ) → IsFirstItem (λ number insn. LeadsWithin (length xs) insn → ⊥) xs number → IsFirstItem (IsAstray (length xs)) xs number
+astray_by_leading xs number found = record {
+  item = found.item;
+  stands = found.stands;
+  fact = inl found.fact;
+  first = none_astray xs number (slice_get_within xs number found.item found.stands) found.first;
+}
+
+pub astray_by_falling : (xs : List Insn) (last : Insn) → NoItem (λ number insn. LeadsWithin (length xs) insn → ⊥) xs → 1 ≤ length xs → last ≡ slice_index_or xs (length xs - 1) last → FallsThrough last
+    → IsFirstItem (IsAstray (length xs)) xs (length xs - 1)
+astray_by_falling xs last none some is falls = record {
+  item = last;
+  stands = last_stands xs last some is;
+  fact = inr ((omega (arith, some)), falls);
+  first = none_astray xs (length xs - 1) (omega (arith, some)) (λ number insn before at. none number insn at);
+}
+
+pub not_astray : (xs : List Insn) (last : Insn) → NoItem (λ number insn. LeadsWithin (length xs) insn → ⊥) xs → 1 ≤ length xs → last ≡ slice_index_or xs (length xs - 1) last → (FallsThrough last → ⊥)
+    → NoItem (IsAstray (length xs)) xs
+not_astray xs last none some is stops = λ number insn at astray. by number insn at astray
+  where
+    by : (number : ℕ) (insn : Insn) → slice_get xs number ≡ Some insn → IsAstray (length xs) number insn → ⊥
+    by number insn at (inl nowhere) = none number insn at nowhere
+    by number insn at (inr (end, falls)) =
+        let place : length xs - 1 ≡ number = omega (arith, end) in
+        stops (subst FallsThrough (same_item (sym (last_stands xs last some is) ∙ ap (slice_get xs) place ∙ at)) falls)
