@@ -1,3 +1,10 @@
 pub mod FirstLaws
 pub mod PlacesLaws
 pub mod UsesLaws
+pub mod OrderLaws
+pub mod CodedLaws
+pub mod FaultLaws
+pub mod ArgumentLaws
+pub mod AnswerLaws
+pub mod DecideLaws
+pub mod EachMethodLaws

@@ -1,0 +1,80 @@
+-- The least place of each fault, and that it can be decided whether there is one.
+use Rattle.std.proofs.Common.{◌≡◌, ◌≢◌, ◌⊎◌, inl, inr, ℕ, zero, suc, ◌+◌, ◌*◌, ◌<◌, ◌≤◌, List, [], ◌∷◌, length, Option, Some, None, slice_get, slice_index_or, slice_index, get_or, refl, sym, ◌∙◌, ap, subst, arith}
+use Rattle.std.proofs.lemmas.Bool.{cases_lt, cases_order}
+use Rattle.std.proofs.lemmas.Option.{slice_get_within, slice_get-get_or, get_or_from_slice_get}
+use Rattle.jc_base.specs.declared.insn.Insn.{Insn}
+use Rattle.jc_base.specs.WellMade.{TakeSlots}
+use Rattle.jc_pool.specs.Lookup.{utf8_of}
+use Rattle.jc_pool.specs.Pool.{PoolValue}
+use Rattle.jc_class.specs.declared.class_file.Member.{Member}
+use Rattle.jc_insn.specs.Decoding.{AreStarts}
+use Rattle.jc_insn.specs.Spells.{insn_number}
+use Rattle.jc_body.specs.declared.items.Row.{Row}
+use Rattle.jc_body.specs.declared.coded.Coded.{Coded}
+use Rattle.jc_body.specs.Faults.{InsnAt, IsRow, BadRow, ArgumentsOutside, TooWide, MalformedTable}
+use Rattle.jc_body.specs.First.{Fault, IsNowhere, IsLeast, NoneBefore, IsFirstItem, NoItem, FirstItem}
+use Rattle.jc_body.proofs.OrderLaws.{IsDecided, at_zero}
+
+-- ---- instructions
+
+-- offsets of instructions rise
+rises : (count size : ℕ) (starts : List ℕ) → AreStarts count size starts → (i steps : ℕ) → i + steps < count → get_or starts i 0 < get_or starts (i + suc steps) 0
+rises count size starts are i zero inside = subst (λ (k : ℕ). get_or starts i 0 < get_or starts k 0) (omega arith) (are.rising i (omega (arith, inside)))
+rises count size starts are i (suc steps) inside =
+    let before = rises count size starts are i steps (omega (arith, inside)) in
+    let next = subst (λ (k : ℕ). get_or starts (i + suc steps) 0 < get_or starts k 0) (let e : (i + suc steps) + 1 ≡ i + suc (suc steps) = omega arith in e) (are.rising (i + suc steps) (omega (arith, inside))) in
+    omega (arith, before, next)
+
+pub rising : (count size : ℕ) (starts : List ℕ) → AreStarts count size starts → (i j : ℕ) → i < j → j ≤ count → get_or starts i 0 < get_or starts j 0
+rising count size starts are i j less inside =
+    let steps : (i + suc (j - suc i)) ≡ j = omega (arith, less) in
+    subst (λ (k : ℕ). get_or starts i 0 < get_or starts k 0) steps (rises count size starts are i (j - suc i) (omega (arith, less, inside)))
+
+module _ (coded : Coded) (are : AreStarts (length coded.insns) (length coded.items.code) coded.starts) (Fact : ℕ → Insn → Type 0) where
+  start_at : (number : ℕ) → number < length coded.insns → slice_get coded.starts number ≡ Some (get_or coded.starts number 0)
+  start_at number inside = slice_get-get_or coded.starts number 0 (omega (arith, inside, are.one_more))
+
+  pub insn_least : (number : ℕ) → IsFirstItem Fact coded.insns number → IsLeast (InsnAt Fact coded) (get_or coded.starts number 0)
+  insn_least number found =
+      let inside = slice_get_within coded.insns number found.item found.stands in
+      record {
+        there = record { number = number; insn = found.item; stands = found.stands; start = start_at number inside; fault = found.fact };
+        first = λ before less other. by before less other (cases_lt other.number number);
+      }
+    where
+      by : (before : ℕ) → before < get_or coded.starts number 0 → (other : InsnAt Fact coded before) → (other.number < number) ⊎ (number ≤ other.number) → ⊥
+      by before less other (inl smaller) = found.first other.number other.insn smaller other.stands other.fault
+      by before less other (inr larger) =
+          let inside = slice_get_within coded.insns other.number other.insn other.stands in
+          let is : get_or coded.starts other.number 0 ≡ before = get_or_from_slice_get coded.starts other.number before 0 other.start in
+          at_least before less other inside is (cases_lt number other.number)
+        where
+          at_least : (before : ℕ) → before < get_or coded.starts number 0 → (other : InsnAt Fact coded before) → other.number < length coded.insns → get_or coded.starts other.number 0 ≡ before → (number < other.number) ⊎ (other.number ≤ number) → ⊥
+          at_least before less other inside is (inl more) = let up = rising (length coded.insns) (length coded.items.code) coded.starts are number other.number more (omega (arith, inside)) in omega (arith, up, is, less)
+          at_least before less other inside is (inr same) = let equal : other.number ≡ number = omega (arith, larger, same) in let there = subst (λ (k : ℕ). get_or coded.starts k 0 ≡ before) equal is in omega (arith, there, less)
+
+  pub insn_nowhere : NoItem Fact coded.insns → IsNowhere (InsnAt Fact coded)
+  insn_nowhere none place other = none other.number other.insn other.stands other.fault
+
+  pub insn_decided : (found : Option ℕ) → FirstItem Fact coded.insns found → IsDecided (InsnAt Fact coded)
+  insn_decided None none = inr (insn_nowhere none)
+  insn_decided (Some number) first = inl (get_or coded.starts number 0, insn_least number first)
+
+-- ---- rows
+
+module _ (pool : PoolValue) (coded : Coded) where
+  abbrev pub IsBad : ℕ → Row → Type 0
+  IsBad place row = IsRow pool (insn_number coded.starts) (length coded.insns) (length coded.items.code) row → ⊥
+
+  pub row_least : (number : ℕ) → IsFirstItem IsBad coded.items.rows number → IsLeast (BadRow pool coded) number
+  row_least number found = record {
+    there = record { row = found.item; stands = found.stands; fault = found.fact };
+    first = λ before less other. found.first before other.row less other.stands other.fault;
+  }
+
+  pub row_nowhere : NoItem IsBad coded.items.rows → IsNowhere (BadRow pool coded)
+  row_nowhere none place other = none place other.row other.stands other.fault
+
+  pub row_decided : (found : Option ℕ) → FirstItem IsBad coded.items.rows found → IsDecided (BadRow pool coded)
+  row_decided None none = inr (row_nowhere none)
+  row_decided (Some number) first = inl (number, row_least number first)
