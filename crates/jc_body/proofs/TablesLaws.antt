@@ -1,0 +1,74 @@
+-- The entries of several tables, one table behind the other.
+use Rattle.std.proofs.Common.{◌≡◌, ◌<◌, ◌⊎◌, inl, inr, ⊎_elim, ℕ, ◌+◌, List, [], ◌∷◌, ◌++◌, length, drop, All, codes, refl, sym, ◌∙◌, ap, subst, append_assoc}
+use Rattle.std.proofs.lemmas.List.{append-nil}
+use Rattle.jc_base.specs.Grammar.{Grammar}
+use Rattle.jc_base.specs.Parsing.{Parsed}
+use Rattle.jc_base.proofs.GrammarLaws.{Agrees, one_value}
+use Rattle.jc_pool.specs.Pool.{PoolValue}
+use Rattle.jc_class.specs.declared.class_file.Attribute.{Attribute}
+use Rattle.jc_body.specs.declared.items.Tables.{Tables}
+use Rattle.jc_body.specs.CodeForm.{line_table, var_table}
+use Rattle.jc_body.specs.CodeReading.{lines_at, vars_at}
+use Rattle.jc_body.specs.Attributes.{is_text, has_name, bodies_of, AreEntries, AreTables}
+use Rattle.jc_body.proofs.FormLaws.{lines_agree, vars_agree, whole_or_none}
+
+-- ---- one list of entries, or none
+
+module _ {X : Type 0} (table : Grammar (List X)) (read : List ℕ → Parsed (List X)) (a : Agrees table read) where
+  pub one_list : (bodies : List (List ℕ)) (xs ys : List X) → AreEntries table bodies xs → AreEntries table bodies ys → xs ≡ ys
+  one_list [] xs ys p q = p ∙ sym q
+  one_list (body ∷ bodies) xs ys p q =
+      let front : p.0 ≡ q.0 = one_value table read a body p.0 q.0 p.3 q.3 in
+      let rest : p.1 ≡ q.1 = one_list bodies p.1 q.1 p.4 q.4 in
+      p.2 ∙ (λ i. front i ++ rest i) ∙ sym q.2
+
+  pub list_or_none : (bodies : List (List ℕ)) → ((xs : List X) × AreEntries table bodies xs) ⊎ ((xs : List X) → AreEntries table bodies xs → ⊥)
+  list_or_none [] = inl ([], refl)
+  list_or_none (body ∷ bodies) = ⊎_elim
+      (λ front. ⊎_elim (λ rest. inl (front.0 ++ rest.0, (front.0, rest.0, refl, front.1, rest.1))) (λ none. inr (λ xs are. none are.1 are.4)) (list_or_none bodies))
+      (λ none. inr (λ xs are. none are.0 are.3))
+      (whole_or_none table read a body)
+
+-- ---- all tables
+
+pub one_tables : (pool : PoolValue) (attributes : List Attribute) (s t : Tables) → AreTables pool attributes s → AreTables pool attributes t → s ≡ t
+one_tables pool attributes s t p q =
+    let lines = one_list line_table lines_at lines_agree _ s.lines t.lines p.lines q.lines in
+    let vars = one_list var_table vars_at vars_agree _ s.vars t.vars p.vars q.vars in
+    let kind_vars = one_list var_table vars_at vars_agree _ s.kind_vars t.kind_vars p.kind_vars q.kind_vars in
+    λ i. record { lines = lines i; vars = vars i; kind_vars = kind_vars i }
+
+pub tables_or_none : (pool : PoolValue) (attributes : List Attribute) → ((tables : Tables) × AreTables pool attributes tables) ⊎ ((tables : Tables) → AreTables pool attributes tables → ⊥)
+tables_or_none pool attributes = ⊎_elim
+    (λ lines. ⊎_elim
+      (λ vars. ⊎_elim
+        (λ kind_vars. inl (record { lines = lines.0; vars = vars.0; kind_vars = kind_vars.0 }, record { lines = lines.1; vars = vars.1; kind_vars = kind_vars.1 }))
+        (λ none. inr (λ tables are. none tables.kind_vars are.kind_vars))
+        (list_or_none var_table vars_at vars_agree (bodies_of pool (codes "LocalVariableTypeTable") attributes)))
+      (λ none. inr (λ tables are. none tables.vars are.vars))
+      (list_or_none var_table vars_at vars_agree (bodies_of pool (codes "LocalVariableTable") attributes)))
+    (λ none. inr (λ tables are. none tables.lines are.lines))
+    (list_or_none line_table lines_at lines_agree (bodies_of pool (codes "LineNumberTable") attributes))
+
+-- ---- joined in a loop
+
+module _ {X : Type 0} (table : Grammar (List X)) (bodies : List (List ℕ)) where
+  -- the entries so far stand in front of those of the bodies that are left
+  pub record Joining (xs : List X) (left : List (List ℕ)) : Type 0 where
+    pub whole : (ys : List X) → AreEntries table left ys → AreEntries table bodies (xs ++ ys)
+    pub some : (zs : List X) → AreEntries table bodies zs → (ys : List X) × AreEntries table left ys
+
+  pub none_joined : Joining [] bodies
+  none_joined = record { whole = λ ys are. are; some = λ zs are. (zs, are) }
+
+  pub one_joined : (xs front : List X) (body : List ℕ) (left : List (List ℕ)) → table.Text body front → Joining xs (body ∷ left) → Joining (xs ++ front) left
+  one_joined xs front body left text j = record {
+    whole = λ ys are. subst (AreEntries table bodies) (sym (append_assoc xs front ys)) (j.whole (front ++ ys) (front, ys, refl, text, are));
+    some = λ zs are. let rest = (j.some zs are).1 in (rest.1, rest.4);
+  }
+
+  pub all_joined : (xs : List X) → Joining xs [] → AreEntries table bodies xs
+  all_joined xs j = subst (AreEntries table bodies) (append-nil xs) (j.whole [] refl)
+
+  pub none_spelled : (xs : List X) (body : List ℕ) (left : List (List ℕ)) → ((front : List X) → table.Text body front → ⊥) → Joining xs (body ∷ left) → (zs : List X) → AreEntries table bodies zs → ⊥
+  none_spelled xs body left none j zs are = let rest = (j.some zs are).1 in none rest.0 rest.3
