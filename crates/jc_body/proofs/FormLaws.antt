@@ -1,5 +1,5 @@
 -- A Code attribute is read exactly where the form spells one.
-use Rattle.std.proofs.Common.{◌≡◌, ◌≤◌, ◌⊎◌, inl, inr, ⊎_elim, ℕ, List, [], ◌++◌, length, Err, refl, sym, ◌∙◌, ap, subst, arith}
+use Rattle.std.proofs.Common.{◌≡◌, ◌≤◌, ◌⊎◌, inl, inr, ⊎_elim, ℕ, ◌<◌, List, [], ◌++◌, length, Bool, true, false, Err, refl, sym, ◌∙◌, ap, subst, arith}
 use Rattle.std.proofs.lemmas.List.{append-nil, nil_from_length}
 use Rattle.std.proofs.Math.Decide.{dec_le}
 use Rattle.jc_base.specs.Decoder.{SameEnd}
@@ -110,6 +110,19 @@ fits_or_not n = by (dec_le 1 n) (dec_le n 65535)
     by (yes some) (yes few) = inl (some, few)
     by (yes some) (no many) = inr (λ fits. many fits.1)
     by (no none) few = inr (λ fits. none fits.0)
+
+-- the two tests, as the code makes them
+pub fitting : (test : Bool) (size n : ℕ) → size ≡ n → 1 ≤ size → test ≡ leb size 65535 → test ≡ true → Fitting n
+fitting test size n same some is true' = (omega (arith, some, same), omega (arith, leb-true size 65535 (sym is ∙ true'), same))
+
+pub some_code : (test : Bool) (size : ℕ) → size < 1 → test ≡ leb 1 size → test ≡ true → ⊥
+some_code test size none is true' = omega (arith, none, leb-true 1 size (sym is ∙ true'))
+
+pub long_code : (test : Bool) (size n : ℕ) → size ≡ n → test ≡ leb size 65535 → test ≡ false → Fitting n → ⊥
+long_code test size n same is false' fit = absurd cc
+  where
+    within : test ≡ true
+    within = is ∙ le-leb size 65535 (omega (arith, same, fit.1))
 
 pub sized : (pool : PoolValue) (bytes : List ℕ) (items : CodeItems) → (code_form pool).Text bytes items → Fitting (length items.code) → IsCodeText pool bytes items
 sized pool bytes items text fits = record { text = text; some = fits.0; few = fits.1 }

@@ -1,8 +1,11 @@
 -- The entries of several tables, one table behind the other.
-use Rattle.std.proofs.Common.{◌≡◌, ◌<◌, ◌⊎◌, inl, inr, ⊎_elim, ℕ, ◌+◌, List, [], ◌∷◌, ◌++◌, length, drop, All, codes, refl, sym, ◌∙◌, ap, subst, append_assoc}
-use Rattle.std.proofs.lemmas.List.{append-nil}
+use Rattle.std.proofs.Common.{◌≡◌, ◌<◌, ◌≤◌, ◌⊎◌, inl, inr, ⊎_elim, ℕ, ◌+◌, List, [], ◌∷◌, ◌++◌, length, drop, map, filter, get_or, Bor, All, codes, refl, sym, ◌∙◌, ap, subst, append_assoc}
+use Rattle.std.proofs.lemmas.List.{append-nil, drop_all, length-map}
+use Rattle.std.proofs.lemmas.List.Elements.{All-map, All-filter}
+use Rattle.std.proofs.Math.ListN.{get_or-map}
 use Rattle.jc_base.specs.Grammar.{Grammar}
 use Rattle.jc_base.specs.Parsing.{Parsed}
+use Rattle.jc_base.proofs.AppendingLaws.{drop_at}
 use Rattle.jc_base.proofs.GrammarLaws.{Agrees, one_value}
 use Rattle.jc_pool.specs.Pool.{PoolValue}
 use Rattle.jc_class.specs.declared.class_file.Attribute.{Attribute}
@@ -72,3 +75,30 @@ module _ {X : Type 0} (table : Grammar (List X)) (bodies : List (List ℕ)) wher
 
   pub none_spelled : (xs : List X) (body : List ℕ) (left : List (List ℕ)) → ((front : List X) → table.Text body front → ⊥) → Joining xs (body ∷ left) → (zs : List X) → AreEntries table bodies zs → ⊥
   none_spelled xs body left none j zs are = let rest = (j.some zs are).1 in none rest.0 rest.3
+
+-- the bodies as the loop has them, each behind a reference
+module _ {X : Type 0} (table : Grammar (List X)) (bodies : List (Bor (List ℕ))) where
+  abbrev texts : List (Bor (List ℕ)) → List (List ℕ)
+  texts l = map (λ body. body.now) l
+
+  pub table_joined : (xs front next : List X) (i : ℕ) (default : Bor (List ℕ)) → i < length bodies → table.Text (get_or bodies i default).now front → next ≡ xs ++ front
+      → Joining table (texts bodies) xs (texts (drop i bodies)) → Joining table (texts bodies) next (texts (drop (i + 1) bodies))
+  table_joined xs front next i default room text is j =
+      rw is
+      (one_joined table (texts bodies) xs front (get_or bodies i default).now (texts (drop (i + 1) bodies)) text
+      (subst (Joining table (texts bodies) xs) (ap texts (drop_at bodies i default room)) j))
+
+  pub tables_joined : (xs : List X) (i : ℕ) → length bodies ≤ i → Joining table (texts bodies) xs (texts (drop i bodies)) → AreEntries table (texts bodies) xs
+  tables_joined xs i full j = all_joined table (texts bodies) xs (subst (Joining table (texts bodies) xs) (ap texts (drop_all i bodies full)) j)
+
+-- ---- the bodies of the attributes of a name
+
+-- what holds of each attribute's body holds of each of these
+module _ (P : List ℕ → Type 0) (pool : PoolValue) (name : List ℕ) (attributes : List Attribute) (all : All (λ a. P a.body) attributes) where
+  each_named : All P (bodies_of pool name attributes)
+  each_named = All-map P (λ a. a.body) (filter (has_name pool name) attributes) (All-filter (has_name pool name) (λ a. P a.body) attributes all)
+
+  pub each_body : (bodies : List (Bor (List ℕ))) → map (λ body. body.now) bodies ≡ bodies_of pool name attributes → All (λ body. P body.now) bodies
+  each_body bodies is k default within =
+      let each = subst (All P) (sym is) each_named in
+      subst P (get_or-map (λ body. body.now) bodies k default) (each k default.now (rw (length-map (λ body. body.now) bodies) within))

@@ -1,7 +1,7 @@
 use Rattle.std.proofs.Common.{◌≡◌, ◌≤◌, length, true, false, refl, sym, ◌∙◌, arith}
 use Rattle.jc_body.specs.CodeForm.{code_form}
 use Rattle.jc_body.specs.CodeReading.{code_at}
-use Rattle.jc_body.proofs.FormLaws.{Fitting, code_agrees, read_whole, read_part, read_refused, sized, unsized}
+use Rattle.jc_body.proofs.FormLaws.{Fitting, code_agrees, read_whole, read_part, read_refused, fitting, some_code, long_code, sized, unsized}
 use Rattle.jc_body.proofs.form.read_code.Goals as goal
 use Rattle.jc_body.proofs.form.read_code.Goals.{then-size-ge1, else-size-ge1, then-whole+then-fits, else-whole, else-whole-via-then-whole+else-fits, else-whole-via-else-whole}
 
@@ -17,8 +17,12 @@ returns-after-whole c =
     let items = c.in-Ok.items in
     let whole = read_whole (code_form pool) (code_at pool) (code_agrees pool) bytes c.new-reader.result c.code_items.new.reader items c.new-reader.ensures c.in-Ok.ensures.end c.in-Ok.ensures.gives in
     let part = read_part (code_form pool) (code_at pool) (code_agrees pool) bytes c.new-reader.result c.code_items.new.reader items c.new-reader.ensures c.in-Ok.ensures.end c.in-Ok.ensures.gives in
-    let fits : c.if-size-ge1.fits ≡ true → Fitting (length items.code) = λ e. elim c.if-size-ge1.branch [ then-size-ge1 w ↦ let a = w.fits-is in let b = w.if-size-ge1 in ? | else-size-ge1 w ↦ ? ] in
-    let unfit : c.if-size-ge1.fits ≡ false → Fitting (length items.code) → ⊥ = ? in
+    let fits : c.if-size-ge1.fits ≡ true → Fitting (length items.code) =
+        λ e. elim c.if-size-ge1.branch [ then-size-ge1 w ↦ fitting c.if-size-ge1.fits c.len-size.result (length items.code) c.len-size.ensures w.if-size-ge1.true w.fits-is e | else-size-ge1 w ↦ absurd (some_code c.if-size-ge1.fits c.len-size.result w.if-size-ge1.false w.fits-is e) ]
+    in
+    let unfit : c.if-size-ge1.fits ≡ false → Fitting (length items.code) → ⊥ =
+        λ e. elim c.if-size-ge1.branch [ then-size-ge1 w ↦ long_code c.if-size-ge1.fits c.len-size.result (length items.code) c.len-size.ensures w.fits-is e | else-size-ge1 w ↦ λ fit. omega (arith, w.if-size-ge1.false, c.len-size.ensures, fit.0) ]
+    in
     elim c.if-whole.branch [
       then-whole+then-fits w ↦ rw w.result-is (sized pool bytes items (whole (sym c.place.ensures ∙ w.if-whole.true)) (fits w.if-fits.true))
     | else-whole w ↦ rw w.result-is (elim w.else-whole.branch [
