@@ -1,6 +1,7 @@
 -- A Code attribute is read exactly where the form spells one.
-use Rattle.std.proofs.Common.{◌≡◌, ◌≤◌, ◌⊎◌, inl, inr, ⊎_elim, ℕ, ◌<◌, List, [], ◌++◌, length, Bool, true, false, Err, refl, sym, ◌∙◌, ap, subst, arith}
+use Rattle.std.proofs.Common.{◌≡◌, ◌≤◌, ◌⊎◌, inl, inr, ⊎_elim, ℕ, ◌<◌, List, [], ◌++◌, length, Bool, true, false, leb, Err, sym, ◌∙◌, ap, subst, arith}
 use Rattle.std.proofs.lemmas.List.{append-nil, nil_from_length}
+use Rattle.std.proofs.lemmas.Bool.{leb-true, le-leb}
 use Rattle.std.proofs.Math.Decide.{dec_le}
 use Rattle.jc_base.specs.Decoder.{SameEnd}
 use Rattle.jc_base.specs.Grammar.{Grammar}
@@ -96,10 +97,8 @@ module _ {X : Type 0} (g : Grammar X) (read : List ℕ → Parsed X) (a : Agrees
   pub read_refused : (bytes : List ℕ) (old new : Reading) (refusal : Refusal) → Begins bytes old → Parses (λ (x : X). x) (Err (fails.Said refusal)) old new (read old.left) → (y : X) → g.Text bytes y → ⊥
   read_refused bytes old new refusal begins is y text = never_both g read a bytes y is.0 text (inl (a.bad bytes is.0 (ap read (sym begins.left) ∙ is.1)))
 
-pub one_code_text : (pool : PoolValue) (bytes : List ℕ) (x y : CodeItems) → IsCodeText pool bytes x → IsCodeText pool bytes y → x ≡ y
-one_code_text pool bytes x y p q = one_value (code_form pool) (code_at pool) (code_agrees pool) bytes x y p.text q.text
+-- ---- the size of the code
 
--- the size of the code decides
 abbrev pub Fitting : ℕ → Type 0
 Fitting n = (1 ≤ n) × (n ≤ 65535)
 
@@ -119,10 +118,10 @@ pub some_code : (test : Bool) (size : ℕ) → size < 1 → test ≡ leb 1 size 
 some_code test size none is true' = omega (arith, none, leb-true 1 size (sym is ∙ true'))
 
 pub long_code : (test : Bool) (size n : ℕ) → size ≡ n → test ≡ leb size 65535 → test ≡ false → Fitting n → ⊥
-long_code test size n same is false' fit = absurd cc
+long_code test size n same is false' fit = never (sym false' ∙ is ∙ le-leb size 65535 (omega (arith, same, fit.1)))
   where
-    within : test ≡ true
-    within = is ∙ le-leb size 65535 (omega (arith, same, fit.1))
+    never : false ≡ true → ⊥
+    never e = cc
 
 pub sized : (pool : PoolValue) (bytes : List ℕ) (items : CodeItems) → (code_form pool).Text bytes items → Fitting (length items.code) → IsCodeText pool bytes items
 sized pool bytes items text fits = record { text = text; some = fits.0; few = fits.1 }
@@ -131,6 +130,11 @@ pub unsized : (pool : PoolValue) (bytes : List ℕ) (items : CodeItems) → (cod
 unsized pool bytes items text not found is =
     let same = one_value (code_form pool) (code_at pool) (code_agrees pool) bytes found items is.text text in
     not (subst (λ (i : CodeItems). Fitting (length i.code)) same (is.some, is.few))
+
+-- ---- one reading of a Code attribute, or none
+
+pub one_code_text : (pool : PoolValue) (bytes : List ℕ) (x y : CodeItems) → IsCodeText pool bytes x → IsCodeText pool bytes y → x ≡ y
+one_code_text pool bytes x y p q = one_value (code_form pool) (code_at pool) (code_agrees pool) bytes x y p.text q.text
 
 pub code_text_or_none : (pool : PoolValue) (bytes : List ℕ) → ((items : CodeItems) × IsCodeText pool bytes items) ⊎ ((items : CodeItems) → IsCodeText pool bytes items → ⊥)
 code_text_or_none pool bytes = ⊎_elim

@@ -44,12 +44,12 @@ one_tables pool attributes s t p q =
 pub tables_or_none : (pool : PoolValue) (attributes : List Attribute) → ((tables : Tables) × AreTables pool attributes tables) ⊎ ((tables : Tables) → AreTables pool attributes tables → ⊥)
 tables_or_none pool attributes = ⊎_elim
     (λ lines. ⊎_elim
-      (λ vars. ⊎_elim
-        (λ kind_vars. inl (record { lines = lines.0; vars = vars.0; kind_vars = kind_vars.0 }, record { lines = lines.1; vars = vars.1; kind_vars = kind_vars.1 }))
-        (λ none. inr (λ tables are. none tables.kind_vars are.kind_vars))
-        (list_or_none var_table vars_at vars_agree (bodies_of pool (codes "LocalVariableTypeTable") attributes)))
-      (λ none. inr (λ tables are. none tables.vars are.vars))
-      (list_or_none var_table vars_at vars_agree (bodies_of pool (codes "LocalVariableTable") attributes)))
+    (λ vars. ⊎_elim
+    (λ kind_vars. inl (record { lines = lines.0; vars = vars.0; kind_vars = kind_vars.0 }, record { lines = lines.1; vars = vars.1; kind_vars = kind_vars.1 }))
+    (λ none. inr (λ tables are. none tables.kind_vars are.kind_vars))
+    (list_or_none var_table vars_at vars_agree (bodies_of pool (codes "LocalVariableTypeTable") attributes)))
+    (λ none. inr (λ tables are. none tables.vars are.vars))
+    (list_or_none var_table vars_at vars_agree (bodies_of pool (codes "LocalVariableTable") attributes)))
     (λ none. inr (λ tables are. none tables.lines are.lines))
     (list_or_none line_table lines_at lines_agree (bodies_of pool (codes "LineNumberTable") attributes))
 
@@ -77,10 +77,10 @@ module _ {X : Type 0} (table : Grammar (List X)) (bodies : List (List ℕ)) wher
   none_spelled xs body left none j zs are = let rest = (j.some zs are).1 in none rest.0 rest.3
 
 -- the bodies as the loop has them, each behind a reference
-module _ {X : Type 0} (table : Grammar (List X)) (bodies : List (Bor (List ℕ))) where
-  abbrev texts : List (Bor (List ℕ)) → List (List ℕ)
-  texts l = map (λ body. body.now) l
+abbrev pub texts : List (Bor (List ℕ)) → List (List ℕ)
+texts bodies = map (λ body. body.now) bodies
 
+module _ {X : Type 0} (table : Grammar (List X)) (bodies : List (Bor (List ℕ))) where
   pub table_joined : (xs front next : List X) (i : ℕ) (default : Bor (List ℕ)) → i < length bodies → table.Text (get_or bodies i default).now front → next ≡ xs ++ front
       → Joining table (texts bodies) xs (texts (drop i bodies)) → Joining table (texts bodies) next (texts (drop (i + 1) bodies))
   table_joined xs front next i default room text is j =
@@ -98,7 +98,7 @@ module _ (P : List ℕ → Type 0) (pool : PoolValue) (name : List ℕ) (attribu
   each_named : All P (bodies_of pool name attributes)
   each_named = All-map P (λ a. a.body) (filter (has_name pool name) attributes) (All-filter (has_name pool name) (λ a. P a.body) attributes all)
 
-  pub each_body : (bodies : List (Bor (List ℕ))) → map (λ body. body.now) bodies ≡ bodies_of pool name attributes → All (λ body. P body.now) bodies
+  pub each_body : (bodies : List (Bor (List ℕ))) → texts bodies ≡ bodies_of pool name attributes → All (λ body. P body.now) bodies
   each_body bodies is k default within =
       let each = subst (All P) (sym is) each_named in
-      subst P (get_or-map (λ body. body.now) bodies k default) (each k default.now (rw (length-map (λ body. body.now) bodies) within))
+      subst P (get_or-map (λ body. body.now) bodies k default) (each k default.now (rw (length-map bodies (λ body. body.now)) within))

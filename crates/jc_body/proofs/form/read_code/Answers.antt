@@ -1,4 +1,4 @@
-use Rattle.std.proofs.Common.{◌≡◌, ◌≤◌, length, true, false, refl, sym, ◌∙◌, arith}
+use Rattle.std.proofs.Common.{◌≡◌, length, true, false, sym, ◌∙◌, arith}
 use Rattle.jc_body.specs.CodeForm.{code_form}
 use Rattle.jc_body.specs.CodeReading.{code_at}
 use Rattle.jc_body.proofs.FormLaws.{Fitting, code_agrees, read_whole, read_part, read_refused, fitting, some_code, long_code, sized, unsized}
@@ -18,15 +18,21 @@ returns-after-whole c =
     let whole = read_whole (code_form pool) (code_at pool) (code_agrees pool) bytes c.new-reader.result c.code_items.new.reader items c.new-reader.ensures c.in-Ok.ensures.end c.in-Ok.ensures.gives in
     let part = read_part (code_form pool) (code_at pool) (code_agrees pool) bytes c.new-reader.result c.code_items.new.reader items c.new-reader.ensures c.in-Ok.ensures.end c.in-Ok.ensures.gives in
     let fits : c.if-size-ge1.fits ≡ true → Fitting (length items.code) =
-        λ e. elim c.if-size-ge1.branch [ then-size-ge1 w ↦ fitting c.if-size-ge1.fits c.len-size.result (length items.code) c.len-size.ensures w.if-size-ge1.true w.fits-is e | else-size-ge1 w ↦ absurd (some_code c.if-size-ge1.fits c.len-size.result w.if-size-ge1.false w.fits-is e) ]
+    λ e. elim c.if-size-ge1.branch [
+      | then-size-ge1 w ↦ fitting c.if-size-ge1.fits c.len-size.result (length items.code) c.len-size.ensures w.if-size-ge1.true w.fits-is e
+      | else-size-ge1 w ↦ absurd (some_code c.if-size-ge1.fits c.len-size.result w.if-size-ge1.false w.fits-is e)
+    ]
     in
     let unfit : c.if-size-ge1.fits ≡ false → Fitting (length items.code) → ⊥ =
-        λ e. elim c.if-size-ge1.branch [ then-size-ge1 w ↦ long_code c.if-size-ge1.fits c.len-size.result (length items.code) c.len-size.ensures w.fits-is e | else-size-ge1 w ↦ λ fit. omega (arith, w.if-size-ge1.false, c.len-size.ensures, fit.0) ]
+    λ e. elim c.if-size-ge1.branch [
+      | then-size-ge1 w ↦ long_code c.if-size-ge1.fits c.len-size.result (length items.code) c.len-size.ensures w.fits-is e
+      | else-size-ge1 w ↦ λ fit. omega (arith, w.if-size-ge1.false, c.len-size.ensures, fit.0)
+    ]
     in
     elim c.if-whole.branch [
-      then-whole+then-fits w ↦ rw w.result-is (sized pool bytes items (whole (sym c.place.ensures ∙ w.if-whole.true)) (fits w.if-fits.true))
-    | else-whole w ↦ rw w.result-is (elim w.else-whole.branch [
-        else-whole-via-then-whole+else-fits v ↦ unsized pool bytes items (whole (sym c.place.ensures ∙ v.if-whole.true)) (unfit v.if-fits.false)
-      | else-whole-via-else-whole v ↦ λ found is. part (λ same. v.if-whole.false (c.place.ensures ∙ same)) found is.text
+      | then-whole+then-fits w ↦ rw w.result-is (sized pool bytes items (whole (sym c.place.ensures ∙ w.if-whole.true)) (fits w.if-fits.true))
+      | else-whole w ↦ rw w.result-is (elim w.else-whole.branch [
+        | else-whole-via-then-whole+else-fits v ↦ unsized pool bytes items (whole (sym c.place.ensures ∙ v.if-whole.true)) (unfit v.if-fits.false)
+        | else-whole-via-else-whole v ↦ λ found is. part (λ same. v.if-whole.false (c.place.ensures ∙ same)) found is.text
       ])
     ]

@@ -15,6 +15,6 @@ returns-after-whole c =
     let whole = read_whole var_table vars_at vars_agree c.args.bytes.now c.new-reader.result c.vars.new.reader c.in-Ok.entries c.new-reader.ensures c.in-Ok.ensures.end c.in-Ok.ensures.gives in
     let part = read_part var_table vars_at vars_agree c.args.bytes.now c.new-reader.result c.vars.new.reader c.in-Ok.entries c.new-reader.ensures c.in-Ok.ensures.end c.in-Ok.ensures.gives in
     elim c.if-whole.branch [
-      then-whole w ↦ rw w.result-is (whole (sym c.place.ensures ∙ w.if-whole.true))
-    | else-whole w ↦ rw w.result-is (part (λ same. w.if-whole.false (c.place.ensures ∙ same)))
+      | then-whole w ↦ rw w.result-is (whole (sym c.place.ensures ∙ w.if-whole.true))
+      | else-whole w ↦ rw w.result-is (part (λ same. w.if-whole.false (c.place.ensures ∙ same)))
     ]
