@@ -9,6 +9,7 @@ use Rattle.jc_base.specs.Parsing.{Parsed, Good, Parses}
 use Rattle.jc_base.specs.Reader.{Reading}
 use Rattle.jc_base.specs.declared.fail.Fail.TheVariants as fails
 use Rattle.jc_base.specs.declared.refusal.Refusal.{Refusal}
+use Rattle.jc_base.proofs.DecidingLaws.{Decides}
 use Rattle.jc_base.proofs.GrammarLaws.{Agrees, agrees_nothing, agrees_followed, good_is, one_value, whole_or_fails, never_both}
 use Rattle.jc_pool.specs.Pool.{PoolValue}
 use Rattle.jc_class.specs.ClassFormat.{counted}
@@ -110,15 +111,21 @@ fits_or_not n = by (dec_le 1 n) (dec_le n 65535)
     by (yes some) (no many) = inr (λ fits. many fits.1)
     by (no none) few = inr (λ fits. none fits.0)
 
--- the two tests, as the code makes them
-pub fitting : (test : Bool) (size n : ℕ) → size ≡ n → 1 ≤ size → test ≡ leb size 65535 → test ≡ true → Fitting n
-fitting test size n same some is true' = (omega (arith, some, same), omega (arith, leb-true size 65535 (sym is ∙ true'), same))
+-- the two tests of the size, one behind the other
+pub some_code : (test : Bool) (size n : ℕ) → size ≡ n → 1 ≤ size → test ≡ leb size 65535 → Decides test (Fitting n)
+some_code test size n same some is = record {
+  to = λ h. (omega (arith, some, same), omega (arith, leb-true size 65535 (sym is ∙ h), same));
+  back = λ fits. is ∙ le-leb size 65535 (omega (arith, same, fits.1));
+}
 
-pub some_code : (test : Bool) (size : ℕ) → size < 1 → test ≡ leb 1 size → test ≡ true → ⊥
-some_code test size none is true' = omega (arith, none, leb-true 1 size (sym is ∙ true'))
+pub no_code : (test : Bool) (size n : ℕ) → size ≡ n → size < 1 → test ≡ leb 1 size → Decides test (Fitting n)
+no_code test size n same none is = record {
+  to = λ h. absurd (omega (arith, none, leb-true 1 size (sym is ∙ h)));
+  back = λ fits. absurd (omega (arith, none, same, fits.0));
+}
 
-pub long_code : (test : Bool) (size n : ℕ) → size ≡ n → test ≡ leb size 65535 → test ≡ false → Fitting n → ⊥
-long_code test size n same is false' fit = never (sym false' ∙ is ∙ le-leb size 65535 (omega (arith, same, fit.1)))
+pub unfit : (test : Bool) (n : ℕ) → Decides test (Fitting n) → test ≡ false → Fitting n → ⊥
+unfit test n d not fits = never (sym not ∙ d.back fits)
   where
     never : false ≡ true → ⊥
     never e = cc

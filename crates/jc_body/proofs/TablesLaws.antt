@@ -12,7 +12,7 @@ use Rattle.jc_class.specs.declared.class_file.Attribute.{Attribute}
 use Rattle.jc_body.specs.declared.items.Tables.{Tables}
 use Rattle.jc_body.specs.CodeForm.{line_table, var_table}
 use Rattle.jc_body.specs.CodeReading.{lines_at, vars_at}
-use Rattle.jc_body.specs.Attributes.{is_text, has_name, bodies_of, AreEntries, AreTables}
+use Rattle.jc_body.specs.Attributes.{has_name, bodies_of, AreEntries, AreTables}
 use Rattle.jc_body.proofs.FormLaws.{lines_agree, vars_agree, whole_or_none}
 
 -- ---- one list of entries, or none
@@ -61,9 +61,6 @@ module _ {X : Type 0} (table : Grammar (List X)) (bodies : List (List ℕ)) wher
     pub whole : (ys : List X) → AreEntries table left ys → AreEntries table bodies (xs ++ ys)
     pub some : (zs : List X) → AreEntries table bodies zs → (ys : List X) × AreEntries table left ys
 
-  pub none_joined : Joining [] bodies
-  none_joined = record { whole = λ ys are. are; some = λ zs are. (zs, are) }
-
   pub one_joined : (xs front : List X) (body : List ℕ) (left : List (List ℕ)) → table.Text body front → Joining xs (body ∷ left) → Joining (xs ++ front) left
   one_joined xs front body left text j = record {
     whole = λ ys are. subst (AreEntries table bodies) (sym (append_assoc xs front ys)) (j.whole (front ++ ys) (front, ys, refl, text, are));
@@ -87,6 +84,12 @@ module _ {X : Type 0} (table : Grammar (List X)) (bodies : List (Bor (List ℕ))
       rw is
       (one_joined table (texts bodies) xs front (get_or bodies i default).now (texts (drop (i + 1) bodies)) text
       (subst (Joining table (texts bodies) xs) (ap texts (drop_at bodies i default room)) j))
+
+  pub table_missing : (xs : List X) (i : ℕ) (default : Bor (List ℕ)) → i < length bodies → ((front : List X) → table.Text (get_or bodies i default).now front → ⊥)
+      → Joining table (texts bodies) xs (texts (drop i bodies)) → (zs : List X) → AreEntries table (texts bodies) zs → ⊥
+  table_missing xs i default room none j =
+      none_spelled table (texts bodies) xs (get_or bodies i default).now (texts (drop (i + 1) bodies)) none
+      (subst (Joining table (texts bodies) xs) (ap texts (drop_at bodies i default room)) j)
 
   pub tables_joined : (xs : List X) (i : ℕ) → length bodies ≤ i → Joining table (texts bodies) xs (texts (drop i bodies)) → AreEntries table (texts bodies) xs
   tables_joined xs i full j = all_joined table (texts bodies) xs (subst (Joining table (texts bodies) xs) (ap texts (drop_all i bodies full)) j)

@@ -1,7 +1,8 @@
-use Rattle.std.proofs.Common.{◌≡◌, length, true, false, sym, ◌∙◌, arith}
+use Rattle.std.proofs.Common.{length, sym, ◌∙◌}
+use Rattle.jc_base.proofs.DecidingLaws.{Decides}
 use Rattle.jc_body.specs.CodeForm.{code_form}
 use Rattle.jc_body.specs.CodeReading.{code_at}
-use Rattle.jc_body.proofs.FormLaws.{Fitting, code_agrees, read_whole, read_part, read_refused, fitting, some_code, long_code, sized, unsized}
+use Rattle.jc_body.proofs.FormLaws.{Fitting, code_agrees, read_whole, read_part, read_refused, some_code, no_code, unfit, sized, unsized}
 use Rattle.jc_body.proofs.form.read_code.Goals as goal
 use Rattle.jc_body.proofs.form.read_code.Goals.{then-size-ge1, else-size-ge1, then-whole+then-fits, else-whole, else-whole-via-then-whole+else-fits, else-whole-via-else-whole}
 
@@ -17,22 +18,14 @@ returns-after-whole c =
     let items = c.in-Ok.items in
     let whole = read_whole (code_form pool) (code_at pool) (code_agrees pool) bytes c.new-reader.result c.code_items.new.reader items c.new-reader.ensures c.in-Ok.ensures.end c.in-Ok.ensures.gives in
     let part = read_part (code_form pool) (code_at pool) (code_agrees pool) bytes c.new-reader.result c.code_items.new.reader items c.new-reader.ensures c.in-Ok.ensures.end c.in-Ok.ensures.gives in
-    let fits : c.if-size-ge1.fits ≡ true → Fitting (length items.code) =
-    λ e. elim c.if-size-ge1.branch [
-      | then-size-ge1 w ↦ fitting c.if-size-ge1.fits c.len-size.result (length items.code) c.len-size.ensures w.if-size-ge1.true w.fits-is e
-      | else-size-ge1 w ↦ absurd (some_code c.if-size-ge1.fits c.len-size.result w.if-size-ge1.false w.fits-is e)
-    ]
-    in
-    let unfit : c.if-size-ge1.fits ≡ false → Fitting (length items.code) → ⊥ =
-    λ e. elim c.if-size-ge1.branch [
-      | then-size-ge1 w ↦ long_code c.if-size-ge1.fits c.len-size.result (length items.code) c.len-size.ensures w.fits-is e
-      | else-size-ge1 w ↦ λ fit. omega (arith, w.if-size-ge1.false, c.len-size.ensures, fit.0)
-    ]
-    in
+    let fits : Decides c.if-size-ge1.fits (Fitting (length items.code)) = elim c.if-size-ge1.branch [
+      | then-size-ge1 w ↦ some_code c.if-size-ge1.fits c.len-size.result (length items.code) c.len-size.ensures w.if-size-ge1.true w.fits-is
+      | else-size-ge1 w ↦ no_code c.if-size-ge1.fits c.len-size.result (length items.code) c.len-size.ensures w.if-size-ge1.false w.fits-is
+    ] in
     elim c.if-whole.branch [
-      | then-whole+then-fits w ↦ rw w.result-is (sized pool bytes items (whole (sym c.place.ensures ∙ w.if-whole.true)) (fits w.if-fits.true))
+      | then-whole+then-fits w ↦ rw w.result-is (sized pool bytes items (whole (sym c.place.ensures ∙ w.if-whole.true)) (fits.to w.if-fits.true))
       | else-whole w ↦ rw w.result-is (elim w.else-whole.branch [
-        | else-whole-via-then-whole+else-fits v ↦ unsized pool bytes items (whole (sym c.place.ensures ∙ v.if-whole.true)) (unfit v.if-fits.false)
+        | else-whole-via-then-whole+else-fits v ↦ unsized pool bytes items (whole (sym c.place.ensures ∙ v.if-whole.true)) (unfit c.if-size-ge1.fits (length items.code) fits v.if-fits.false)
         | else-whole-via-else-whole v ↦ λ found is. part (λ same. v.if-whole.false (c.place.ensures ∙ same)) found is.text
       ])
     ]
