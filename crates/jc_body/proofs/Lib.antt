@@ -8,3 +8,5 @@ pub mod ArgumentLaws
 pub mod AnswerLaws
 pub mod DecideLaws
 pub mod EachMethodLaws
+pub mod FormLaws
+pub mod TablesLaws
