@@ -1,5 +1,5 @@
 -- The first item of a list of which something holds.
-use Rattle.std.proofs.Common.{◌≡◌, ◌⊎◌, inl, inr, ℕ, zero, suc, ◌+◌, ◌-◌, ◌<◌, ◌≤◌, Bool, true, false, List, [], ◌∷◌, length, Option, Some, None, refl, sym, ◌∙◌, ap, subst, arith}
+use Rattle.std.proofs.Common.{◌≡◌, ◌⊎◌, inl, inr, ℕ, zero, suc, ◌-◌, ◌<◌, ◌≤◌, Bool, true, false, List, [], ◌∷◌, length, Option, Some, None, refl, sym, ◌∙◌, ap, subst, arith}
 use Rattle.std.specs.List.{slice_get, slice_index_or, AllWithin, HoldsAt, FoldsTo}
 use Rattle.std.specs.Option.{MatchOption}
 use Rattle.std.specs.Fn.{Called, Mut}
@@ -8,7 +8,7 @@ use Rattle.std.proofs.lemmas.Iterator.{YieldsList, IsFirst-from_position}
 use Rattle.std.proofs.lemmas.Option.{slice_get_within, slice_get_read, get_or_from_slice_get}
 use Rattle.jc_base.specs.declared.insn.Insn.{Insn}
 use Rattle.jc_base.specs.Flow.{FallsThrough}
-use Rattle.jc_base.specs.InsnUse.{LeadsWithin, LocalsWithin}
+use Rattle.jc_base.specs.InsnUse.{LeadsWithin}
 use Rattle.jc_body.specs.First.{NoneBefore, NoItem, IsFirstItem, FirstItem}
 use Rattle.jc_body.specs.Faults.{IsAstray}
 
@@ -57,6 +57,7 @@ first_or_none {X} Fact decide (y ∷ ys) = by (decide 0 y) (first_or_none (λ nu
   where
     here : NoneBefore Fact (y ∷ ys) 0
     here = λ number x before at fact. omega (arith, before)
+
     by : Fact 0 y ⊎ (Fact 0 y → ⊥) → (found : Option ℕ) × FirstItem (λ number x. Fact (suc number) x) ys found → (found : Option ℕ) × FirstItem Fact (y ∷ ys) found
     by (inl fact) later = (Some 0, record { item = y; stands = refl; fact = fact; first = here })
     by (inr other) (None, none) = (None, λ number x at fact. behind number x at fact)

@@ -10,3 +10,4 @@ pub mod DecideLaws
 pub mod EachMethodLaws
 pub mod FormLaws
 pub mod TablesLaws
+pub mod StandingLaws

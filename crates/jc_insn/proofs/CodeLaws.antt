@@ -128,7 +128,7 @@ spelled_or_memory bytes code starts (fails.Said refusal) s why = absurd (never_b
 pub not_spelled : (bytes : List ℕ) (code : List Insn) (starts : List ℕ) (refusal : Refusal) → Spells bytes code starts → IsRefused bytes refusal → ⊥
 not_spelled bytes code starts refusal s why = never_both 0 bytes s.spelled why.before starts refusal.kind refusal.place s.text why.fault
 
-same_refusal : (bytes : List ℕ) (a b : Refusal) → IsRefused bytes a → IsRefused bytes b → a ≡ b
+pub same_refusal : (bytes : List ℕ) (a b : Refusal) → IsRefused bytes a → IsRefused bytes b → a ≡ b
 same_refusal bytes a b p q =
     let same = same_fault 0 bytes p.before q.before a.kind b.kind a.place b.place p.fault q.fault in
     λ i. record { kind = same.0 i; method = (p.method ∙ sym q.method) i; place = same.1 i }

@@ -15,6 +15,6 @@ mod write;
 
 pub use decoding::{Decoded, decode};
 pub use encoding::encode;
-pub use laws::{one_code, one_spelling};
+pub use laws::{each_code_is_spelled_or_refused, one_code, one_spelling};
 pub use places::numbers as insn_numbers;
 pub use size::size_of;
