@@ -14,3 +14,4 @@ pub mod CodeTextsLaws
 pub mod WrittenLaws
 pub mod FactsLaws
 pub mod AmongLaws
+pub mod ArmsLaws
