@@ -40,7 +40,7 @@ number_below (start ∷ next ∷ starts) offset some = by (nat_eq start offset) 
     by true below = omega arith
     by false below = omega (arith, below)
 
-same_arms : (f : ℕ → ℕ) (insn : Insn) → arm_count (with_places f insn) ≡ arm_count insn
+pub same_arms : (f : ℕ → ℕ) (insn : Insn) → arm_count (with_places f insn) ≡ arm_count insn
 same_arms f (insns.Table low default arms) = length-map arms f
 same_arms f (insns.Lookup default arms) = length-map arms (arm_with_place f)
 same_arms f insn = refl

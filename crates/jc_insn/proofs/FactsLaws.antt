@@ -248,7 +248,7 @@ facts at forms.Unknown op rest insn is t = absurd t
 pub record TextFacts (at : ℕ) (text : List ℕ) (insn : Insn) : Type 0 where
   pub well_formed : IsWellFormed insn
   pub least : All (λ b. b < 256) text → size_of at false insn ≤ length text
-  pub few : arm_count insn ≤ length text
+  pub few : 1 + arm_count insn ≤ length text
 
 pub text_facts : (at : ℕ) (text : List ℕ) (insn : Insn) → IsItem at text (items.Insn insn) → TextFacts at text insn
 unfolding IsItem

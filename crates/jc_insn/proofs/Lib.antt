@@ -15,3 +15,4 @@ pub mod WrittenLaws
 pub mod FactsLaws
 pub mod AmongLaws
 pub mod EachCodeLaws
+pub mod ArmsLaws
