@@ -21,7 +21,6 @@ use Rattle.jc_insn.specs.Decoding.{AreStarts}
 use Rattle.jc_insn.specs.Spells.{Spells, IsRefused, IsFault, FaultBehind, insn_number}
 use Rattle.jc_insn.proofs.AmongLaws.{are_starts}
 use Rattle.jc_insn.proofs.CodeLaws.{same_fault}
-use Rattle.jc_insn.proofs.EachCodeLaws.{each_code}
 use Rattle.jc_body.specs.declared.coded.Coded.{Coded}
 use Rattle.jc_body.specs.declared.items.CodeItems.{CodeItems}
 use Rattle.jc_body.specs.declared.items.Tables.{Tables}
@@ -36,8 +35,8 @@ use Rattle.jc_body.proofs.OrderLaws.{IsDecided, AreDecided, each_decided, at_zer
 use Rattle.jc_body.proofs.CodedLaws.{one_items, is_single, is_of_form, goes_on, first_of_code, nowheres_of_code}
 use Rattle.jc_body.proofs.FaultLaws.{insn_decided, row_decided, IsBad}
 use Rattle.jc_body.proofs.ArgumentLaws.{zero_or_not, each_take, outside_decided}
-use Rattle.jc_body.proofs.FirstLaws.{first_or_none, astray_or_not}
-use Rattle.jc_body.proofs.StandingLaws.{right_entry_or_not, locals_or_not}
+use Rattle.jc_body.proofs.FirstLaws.{first_or_none}
+use Rattle.jc_body.proofs.StandingLaws.{right_entry_or_not, locals_or_not, astray_or_not}
 use Rattle.jc_body.proofs.PlacesLaws.{row_or_not}
 use Rattle.jc_body.proofs.FormLaws.{code_text_or_none}
 use Rattle.jc_body.proofs.TablesLaws.{tables_or_none}

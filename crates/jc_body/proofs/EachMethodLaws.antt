@@ -14,7 +14,7 @@ use Rattle.jc_class.specs.declared.class_file.ClassFile.{ClassFile}
 use Rattle.jc_class.specs.declared.class_file.Member.{Member}
 use Rattle.jc_insn.specs.Spells.{Spells, IsRefused, insn_number}
 use Rattle.jc_insn.proofs.AmongLaws.{are_starts}
-use Rattle.jc_insn.proofs.EachCodeLaws.{each_code}
+use Rattle.jc_insn.proofs.EachCodeLaws.{spelled_or_refused}
 use Rattle.jc_body.specs.declared.coded.Coded.{Coded}
 use Rattle.jc_body.specs.declared.items.CodeItems.{CodeItems}
 use Rattle.jc_body.specs.declared.items.Tables.{Tables}
@@ -104,7 +104,7 @@ module _ (c : ClassFile) (number : ℕ) (method : Member) (at : slice_get c.meth
       by (inr none) = by_tables none (tables_or_none c.pool coded.items.attributes)
 
   with_items : (items : CodeItems) → HasItems c.pool method items → Answer c number
-  with_items items has = by (each_code items.code)
+  with_items items has = by (spelled_or_refused items.code)
     where
       by : ((code : List _) × (starts : List ℕ) × Spells items.code code starts) ⊎ ((r : Refusal) × IsRefused items.code r) → Answer c number
       by (inl s) = with_code (record { items = items; insns = s.0; starts = s.1 }) (record { items = has; spelled = s.2 })
