@@ -52,7 +52,7 @@ none_of_all pool method none (F ∷ Fs) = (none_of_code pool method none F, none
 
 pub no_faults : (major : ℕ) (pool : PoolValue) (method : Member) → HasNoCode pool method → AreNowhere (faults major pool method)
 no_faults major pool method none =
-    (no_code pool method none, not_malformed pool method none, not_stopped pool method none kinds.BadCode, none_of_all pool method none (insn_faults major pool ++ (row_faults pool method ++ table_faults pool)))
+    (no_code pool method none, (not_malformed pool method none, (not_stopped pool method none kinds.BadCode, none_of_all pool method none (insn_faults major pool ++ (row_faults pool method ++ table_faults pool)))))
 
 -- ---- one method
 

@@ -49,7 +49,7 @@ pub each_take : (flags : ℕ) (desc : List ℕ) → IsMethodDescriptor desc → 
 each_take flags desc is = by (static_or_not flags)
   where
     by : IsStatic flags ⊎ (IsStatic flags → ⊥) → (slots : ℕ) × TakeSlots flags desc slots
-    by (inl yes) = (parameter_slots is.0, static_take flags desc is.0 is.1 yes)
+    by (inl static) = (parameter_slots is.0, static_take flags desc is.0 is.1 static)
     by (inr not) = (1 + parameter_slots is.0, other_take flags desc is.0 is.1 not)
 
 -- ---- arguments that need too many

@@ -68,13 +68,13 @@ module _ (major : ℕ) (pool : PoolValue) (method : Member) (coded : Coded) (are
   pub all_decided : AreDecided (map (λ F. F coded) (insn_faults major pool ++ (row_faults pool method ++ table_faults pool)))
   all_decided =
       (by_insn (λ number insn. HasRightEntry major pool insn → ⊥) (λ number insn. not_or (right_entry_or_not major pool insn)),
-      by_insn (IsAstray (length coded.insns)) (λ number insn. astray_or_not (length coded.insns) number insn),
-      by_insn (λ number insn. LocalsWithin coded.items.max_locals insn → ⊥) (λ number insn. not_or (locals_or_not coded.items.max_locals insn)),
-      by_arguments,
-      by_row,
-      by_tables (tables_or_none pool coded.items.attributes),
-      by_size (cases_lt 33554432 (length coded.insns * (coded.items.max_locals + coded.items.max_stack))),
-      tt)
+      (by_insn (IsAstray (length coded.insns)) (λ number insn. astray_or_not (length coded.insns) number insn),
+      (by_insn (λ number insn. LocalsWithin coded.items.max_locals insn → ⊥) (λ number insn. not_or (locals_or_not coded.items.max_locals insn)),
+      (by_arguments,
+      (by_row,
+      (by_tables (tables_or_none pool coded.items.attributes),
+      (by_size (cases_lt 33554432 (length coded.insns * (coded.items.max_locals + coded.items.max_stack))),
+      tt)))))))
 
 -- ---- code that stops being instructions
 
@@ -133,5 +133,5 @@ module _ (major : ℕ) (pool : PoolValue) (method : Member) where
   pub coded_without : (coded : Coded) → IsCoded pool method coded → AreNowhere (map (λ F. F coded) (insn_faults major pool ++ (row_faults pool method ++ table_faults pool))) → IsNowhere (HasSubroutine pool method) × AreNowhere (faults major pool method)
   coded_without coded is none =
       (goes_on pool method coded is kinds.Subroutine,
-      (is_single pool method is.items.bytes is.items.code, is_of_form pool method coded.items is.items, goes_on pool method coded is kinds.BadCode,
-          nowheres_of_code pool method coded is (insn_faults major pool ++ (row_faults pool method ++ table_faults pool)) none))
+      (is_single pool method is.items.bytes is.items.code, (is_of_form pool method coded.items is.items, (goes_on pool method coded is kinds.BadCode,
+          nowheres_of_code pool method coded is (insn_faults major pool ++ (row_faults pool method ++ table_faults pool)) none))))

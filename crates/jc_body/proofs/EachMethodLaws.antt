@@ -93,11 +93,11 @@ module _ (c : ClassFile) (number : ℕ) (method : Member) (at : slice_get c.meth
       }))
 
   with_code : (coded : Coded) → IsCoded c.pool method coded → Answer c number
-  with_code coded is_coded = by (each_decided _ (all_decided c.major c.pool method coded (are_starts coded.items.code coded.insns coded.starts is_coded.spelled) is.desc.0 is.desc.1 is.desc.2))
+  with_code coded is_coded = by (each_decided (map (λ F. F coded) (insn_faults c.major c.pool ++ (row_faults c.pool method ++ table_faults c.pool))) (all_decided c.major c.pool method coded (are_starts coded.items.code coded.insns coded.starts is_coded.spelled) is.desc.0 is.desc.1 is.desc.2))
     where
       by_tables : AreNowhere (map (λ F. F coded) (insn_faults c.major c.pool ++ (row_faults c.pool method ++ table_faults c.pool))) → ((tables : Tables) × AreTables c.pool coded.items.attributes tables) ⊎ ((tables : Tables) → AreTables c.pool coded.items.attributes tables → ⊥) → Answer c number
       by_tables none (inl t) = let without = coded_without c.major c.pool method coded is_coded none in made coded is_coded without.0 without.1 t.0 t.1
-      by_tables none (inr bad) = absurd (none.5 0 (record { at = refl; fault = bad }))
+      by_tables none (inr bad) = absurd (none.1.1.1.1.1.0 0 (record { at = refl; fault = bad }))
 
       by : ((place : ℕ) × IsFirst (map (λ F. F coded) (insn_faults c.major c.pool ++ (row_faults c.pool method ++ table_faults c.pool))) place) ⊎ AreNowhere (map (λ F. F coded) (insn_faults c.major c.pool ++ (row_faults c.pool method ++ table_faults c.pool))) → Answer c number
       by (inl first) = refused kinds.BadCode first.0 (coded_reason c.major c.pool method coded is_coded first.0 first.1)

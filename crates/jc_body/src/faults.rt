@@ -42,14 +42,16 @@ pub fn insn_fault(major: u16, pool: &Pool, coded: &Coded) -> Option<u32>
     requires few { length coded.now.insns ≤ 65535 }
     ensures { FirstFault (map (λ F. F coded.now) (insn_faults major pool.now)) result }
 {
-    let wrong = first_wrong_entry(major, pool, &coded.insns);
-    let astray = first_astray(&coded.insns);
-    let outside = first_local_outside(coded.items.max_locals, &coded.insns);
-    let number = match (wrong, astray, outside) {
-        (Some(number), _, _) | (None, Some(number), _) | (None, None, Some(number)) => number,
-        (None, None, None) => return None,
-    };
-    Some(coded.starts[number])
+    if let Some(number) = first_wrong_entry(major, pool, &coded.insns) {
+        return Some(coded.starts[number]);
+    }
+    if let Some(number) = first_astray(&coded.insns) {
+        return Some(coded.starts[number]);
+    }
+    match first_local_outside(coded.items.max_locals, &coded.insns) {
+        Some(number) => Some(coded.starts[number]),
+        None => None,
+    }
 }
 
 /// Whether the arguments need more local variables than there are at 0, or the number of the first row of the
