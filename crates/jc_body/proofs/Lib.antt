@@ -11,3 +11,5 @@ pub mod EachMethodLaws
 pub mod FormLaws
 pub mod TablesLaws
 pub mod StandingLaws
+pub mod NumberLaws
+pub mod WellMadeLaws

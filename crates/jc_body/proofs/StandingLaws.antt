@@ -197,7 +197,7 @@ suits_what major pool insn place is right = what_found major insn (found_at pool
 pub locals_or_not : (count : ℕ) (insn : Insn) → LocalsWithin count insn ⊎ (LocalsWithin count insn → ⊥)
 locals_or_not count insn = all_or_not (λ slot. slot < count) (λ slot. below_or_not slot count) (locals_of insn)
 
-leads_or_not : (count : ℕ) (insn : Insn) → Decided (LeadsWithin count insn)
+pub leads_or_not : (count : ℕ) (insn : Insn) → Decided (LeadsWithin count insn)
 leads_or_not count insn = all_or_not (λ to. to < count) (λ to. below_or_not to count) (targets_of insn)
 
 goes_on_or_not : (flow : Flow) → Decided (flow ≡ flows.GoesOn)

@@ -1,0 +1,218 @@
+-- A body that was read is well made.
+use Rattle.std.proofs.Common.{◌≡◌, ◌≢◌, ◌⊎◌, inl, inr, ℕ, ◌+◌, ◌*◌, ◌<◌, ◌≤◌, List, [], ◌∷◌, ◌++◌, length, map, All, Contains, get_or, Option, Some, None, slice_get, refl, sym, ◌∙◌, ap, subst, arith, length-append}
+use Rattle.std.specs.Option.{option_and_then}
+use Rattle.std.proofs.lemmas.Bool.{cases_lt}
+use Rattle.std.proofs.lemmas.Option.{none-some, slice_get-get_or, slice_get_within}
+use Rattle.std.proofs.lemmas.List.Elements.{All-map, Contains-get_or}
+use Rattle.jc_base.specs.Decoder.{◌>>=◌}
+use Rattle.jc_base.specs.Flow.{FallsThrough}
+use Rattle.jc_base.specs.InsnUse.{pool_place, Suits, IsClass, LocalsWithin, LeadsWithin}
+use Rattle.jc_base.specs.WellMade.{IsCode, HasUse, AreUses, IsWellMade}
+use Rattle.jc_base.specs.declared.body.Body.{Body}
+use Rattle.jc_base.specs.declared.body.Handler.{Handler}
+use Rattle.jc_base.specs.declared.body.What.TheVariants as whats
+use Rattle.jc_base.specs.declared.insn.Insn.{Insn}
+use Rattle.jc_pool.specs.declared.entry.Entry.{Entry}
+use Rattle.jc_pool.specs.declared.entry.Entry.TheVariants as entry
+use Rattle.jc_pool.specs.Lookup.{entry_at, utf8_of, class_in, class_name_of, member_in, member_of, const_of}
+use Rattle.jc_pool.specs.Pool.{PoolValue}
+use Rattle.jc_class.specs.declared.class_file.ClassFile.{ClassFile}
+use Rattle.jc_class.specs.declared.class_file.Member.{Member}
+use Rattle.jc_insn.specs.Decoding.{AreStarts}
+use Rattle.jc_insn.specs.Spells.{insn_number}
+use Rattle.jc_insn.proofs.AmongLaws.{all_among, are_starts}
+use Rattle.jc_insn.proofs.ArmsLaws.{code_size}
+use Rattle.jc_body.specs.declared.coded.Coded.{Coded}
+use Rattle.jc_body.specs.declared.items.Row.{Row}
+use Rattle.jc_body.specs.declared.items.Tables.{Tables}
+use Rattle.jc_body.specs.BodyOf.{handler_of, lines_of, vars_of, places_used, first_seen, uses_of, HasParts, IsBody}
+use Rattle.jc_body.specs.Coded.{IsCoded}
+use Rattle.jc_body.specs.Faults.{OfCode, InsnAt, IsAstray, IsRow, IsClassOrNone, ArgumentsOutside, TooWide, faults}
+use Rattle.jc_body.specs.First.{IsNowhere, AreNowhere, NoItem}
+use Rattle.jc_body.specs.Standing.{what_of, what_at, found_in, found_at, HasRightEntry}
+use Rattle.jc_body.proofs.ArgumentLaws.{arguments_fit}
+use Rattle.jc_body.proofs.NumberLaws.{number_of_end, numbers_rise, numbers_stay, some_insn}
+use Rattle.jc_body.proofs.PlacesLaws.{row_or_not, rows_handled, lines_kept, vars_kept}
+use Rattle.jc_body.proofs.StandingLaws.{right_entry_or_not, suits_what, locals_or_not, leads_or_not}
+use Rattle.jc_body.proofs.UsesLaws.{has_use, insn_place_used, row_place_used}
+
+-- ---- no fault is anywhere
+
+-- the faults that aren't there
+record IsFree (c : ClassFile) (method : Member) (coded : Coded) : Type 0 where
+  entries : NoItem (λ number insn. HasRightEntry c.major c.pool insn → ⊥) coded.insns
+  jumps : NoItem (IsAstray (length coded.insns)) coded.insns
+  locals : NoItem (λ number insn. LocalsWithin coded.items.max_locals insn → ⊥) coded.insns
+  arguments : IsNowhere (ArgumentsOutside c.pool method coded)
+  rows : NoItem (λ place row. IsRow c.pool (insn_number coded.starts) (length coded.insns) (length coded.items.code) row → ⊥) coded.items.rows
+  wide : IsNowhere (TooWide coded)
+
+-- where an instruction's fault is nowhere, no instruction has it
+no_insn : (pool : PoolValue) (method : Member) (coded : Coded) (Fact : Coded → ℕ → Insn → Type 0) → IsCoded pool method coded → AreStarts (length coded.insns) (length coded.items.code) coded.starts → IsNowhere (OfCode pool method (λ d. InsnAt (Fact d) d)) → NoItem (Fact coded) coded.insns
+no_insn pool method coded Fact is starts none number insn stands fault =
+    let inside = slice_get_within coded.insns number insn stands in
+    none (get_or coded.starts number 0) (record {
+      coded = coded;
+      is = is;
+      fault = record { number = number; insn = insn; stands = stands; start = slice_get-get_or coded.starts number 0 (omega (arith, inside, starts.one_more)); fault = fault };
+    })
+
+free_of_faults : (c : ClassFile) (method : Member) (coded : Coded) → IsCoded c.pool method coded → AreStarts (length coded.insns) (length coded.items.code) coded.starts → AreNowhere (faults c.major c.pool method) → IsFree c method coded
+free_of_faults c method coded is starts (single, (form, (stop, (entry, (jump, (local, (arguments, (row, (table, (wide, end)))))))))) = record {
+  entries = no_insn c.pool method coded (λ d number insn. HasRightEntry c.major c.pool insn → ⊥) is starts entry;
+  jumps = no_insn c.pool method coded (λ d. IsAstray (length d.insns)) is starts jump;
+  locals = no_insn c.pool method coded (λ d number insn. LocalsWithin d.items.max_locals insn → ⊥) is starts local;
+  arguments = λ place fault. arguments place (record { coded = coded; is = is; fault = fault });
+  rows = λ place r stands fault. row place (record { coded = coded; is = is; fault = record { row = r; stands = stands; fault = fault } });
+  wide = λ place fault. wide place (record { coded = coded; is = is; fault = fault });
+}
+
+-- what can be decided holds of each item if no item is without it
+all_of : {X : Type 0} (P : X → Type 0) (xs : List X) → ((x : X) → P x ⊎ (P x → ⊥)) → NoItem (λ number x. P x → ⊥) xs → All P xs
+all_of {X} P xs decide none k d lt = by (decide (get_or xs k d))
+  where
+    by : P (get_or xs k d) ⊎ (P (get_or xs k d) → ⊥) → P (get_or xs k d)
+    by (inl is) = is
+    by (inr never) = absurd (none k (get_or xs k d) (slice_get-get_or xs k d lt) never)
+
+-- ---- the code
+
+last_of : {X : Type 0} (before : List X) (last : X) → slice_get (before ++ last ∷ []) (length before) ≡ Some last
+last_of [] last = refl
+last_of (x ∷ before) last = last_of before last
+
+is_code : (c : ClassFile) (method : Member) (coded : Coded) → IsCoded c.pool method coded → AreStarts (length coded.insns) (length coded.items.code) coded.starts → IsFree c method coded → IsCode coded.insns
+is_code c method coded is starts free =
+    let few = is.items.text.few in
+    let size = code_size coded.items.code coded.insns coded.starts is.spelled in
+    let among = all_among coded.items.code coded.insns coded.starts (omega (arith, few)) is.spelled in
+    record {
+      some = some_insn (length coded.insns) (length coded.items.code) coded.starts starts is.items.text.some;
+      few = omega (arith, few, size);
+      well_formed = λ k d lt. (among k d lt).well_formed;
+      places = all_of (LeadsWithin (length coded.insns)) coded.insns (leads_or_not (length coded.insns)) (λ number insn stands never. free.jumps number insn stands (inl never));
+      ends = ends;
+    }
+  where
+    ends : (before : List Insn) (last : Insn) → coded.insns ≡ before ++ last ∷ [] → FallsThrough last → ⊥
+    ends before last parts falls =
+        let long = ap length parts ∙ length-append before (last ∷ []) in
+        free.jumps (length before) last (ap (λ (l : List Insn). slice_get l (length before)) parts ∙ last_of before last) (inr (omega (arith, long), falls))
+
+-- ---- what is used
+
+-- a class's entry is no member
+not_member : (pool : PoolValue) (e : Entry) (name : List ℕ) → (class_in e >>= λ n. utf8_of pool n) ≡ Some name → member_in pool e ≡ None
+not_member pool (entry.Class n) name is = refl
+not_member pool e name is = absurd (none-some name is)
+
+class_no_member : (pool : PoolValue) (place : ℕ) (name : List ℕ) → class_name_of pool place ≡ Some name → member_of pool place ≡ None
+unfolding class_name_of member_of
+class_no_member pool place name is = by (entry_at pool place) is
+  where
+    by : (o : Option Entry) → (o >>= λ e. class_in e >>= λ n. utf8_of pool n) ≡ Some name → (o >>= member_in pool) ≡ None
+    by None is = refl
+    by (Some e) is = not_member pool e name is
+
+class_stands : (pool : PoolValue) (place : ℕ) (name : List ℕ) → class_name_of pool place ≡ Some name → what_at pool place ≡ Some (whats.Class name)
+unfolding found_at
+class_stands pool place name is = λ i. option_and_then what_of (found_in (class_no_member pool place name is i) (is i) (const_of pool place))
+
+row_use : (pool : PoolValue) (insns : List Insn) (rows : List Row) (row : Row) → Contains rows row → IsClassOrNone pool row.class → row.class ≢ 0 → HasUse (uses_of pool (first_seen (places_used insns rows))) row.class IsClass
+row_use pool insns rows row listed (inl none) some = absurd (some none)
+row_use pool insns rows row listed (inr (name, is)) some = has_use pool (places_used insns rows) row.class (whats.Class name) IsClass (row_place_used insns rows row listed some) (class_stands pool row.class name is) tt
+
+insn_use : (major : ℕ) (pool : PoolValue) (insns : List Insn) (rows : List Row) (insn : Insn) → Contains insns insn → HasRightEntry major pool insn → (place : ℕ) → pool_place insn ≡ Some place → HasUse (uses_of pool (first_seen (places_used insns rows))) place (Suits insn)
+insn_use major pool insns rows insn listed right place names =
+    let what = suits_what major pool insn place names right in
+    has_use pool (places_used insns rows) place what.0 (Suits insn) (insn_place_used insns rows insn place listed names) what.1 what.2
+
+are_uses : (c : ClassFile) (method : Member) (coded : Coded) → IsFree c method coded → AreUses coded.insns (map (handler_of (insn_number coded.starts)) coded.items.rows) (uses_of c.pool (first_seen (places_used coded.insns coded.items.rows)))
+are_uses c method coded free = record {
+  by_insns = λ k d lt. insn_use c.major c.pool coded.insns coded.items.rows (get_or coded.insns k d) (Contains-get_or coded.insns k d lt) (right k d lt);
+  by_handlers = All-map (λ (h : Handler). h.class ≢ 0 → HasUse (uses_of c.pool (first_seen (places_used coded.insns coded.items.rows))) h.class IsClass) (handler_of (insn_number coded.starts)) coded.items.rows
+      (λ k d lt. row_use c.pool coded.insns coded.items.rows (get_or coded.items.rows k d) (Contains-get_or coded.items.rows k d lt) (rows k d lt).class);
+}
+  where
+    right : All (HasRightEntry c.major c.pool) coded.insns
+    right = all_of (HasRightEntry c.major c.pool) coded.insns (right_entry_or_not c.major c.pool) free.entries
+
+    rows : All (IsRow c.pool (insn_number coded.starts) (length coded.insns) (length coded.items.code)) coded.items.rows
+    rows = all_of (IsRow c.pool (insn_number coded.starts) (length coded.insns) (length coded.items.code)) coded.items.rows (row_or_not c.pool (insn_number coded.starts) (length coded.insns) (length coded.items.code)) free.rows
+
+-- ---- the size
+
+bound : (coded : Coded) → IsNowhere (TooWide coded) → length coded.insns * (coded.items.max_locals + coded.items.max_stack) ≤ 33554432
+bound coded none = by (cases_lt 33554432 (length coded.insns * (coded.items.max_locals + coded.items.max_stack)))
+  where
+    by : (33554432 < length coded.insns * (coded.items.max_locals + coded.items.max_stack)) ⊎ (length coded.insns * (coded.items.max_locals + coded.items.max_stack) ≤ 33554432) → length coded.insns * (coded.items.max_locals + coded.items.max_stack) ≤ 33554432
+    by (inl wide) = absurd (none 0 (record { at = refl; fault = wide }))
+    by (inr fits) = fits
+
+-- ---- the whole
+
+-- the body, by what was read of the method
+abbrev made : Member → Coded → Tables → PoolValue → Body → Body
+made method coded tables pool b = record {
+  method = b.method;
+  owner = b.owner;
+  name = b.name;
+  desc = b.desc;
+  flags = method.flags;
+  arg_slots = b.arg_slots;
+  max_stack = coded.items.max_stack;
+  max_locals = coded.items.max_locals;
+  code = coded.insns;
+  handlers = map (handler_of (insn_number coded.starts)) coded.items.rows;
+  lines = lines_of (insn_number coded.starts) (length coded.insns) tables.lines;
+  vars = vars_of (insn_number coded.starts) (length coded.insns) (length coded.items.code) coded.items.max_locals tables.vars;
+  kind_vars = vars_of (insn_number coded.starts) (length coded.insns) (length coded.items.code) coded.items.max_locals tables.kind_vars;
+  frames = [];
+  uses = uses_of pool (first_seen (places_used coded.insns coded.items.rows));
+}
+
+is_made : (c : ClassFile) (number : ℕ) (method : Member) (coded : Coded) (tables : Tables) (b : Body) → HasParts c number method coded tables b → b ≡ made method coded tables c.pool b
+is_made c number method coded tables b p = λ i. record {
+  method = b.method;
+  owner = b.owner;
+  name = b.name;
+  desc = b.desc;
+  flags = p.flags i;
+  arg_slots = b.arg_slots;
+  max_stack = p.max_stack i;
+  max_locals = p.max_locals i;
+  code = p.code i;
+  handlers = p.handlers i;
+  lines = p.lines i;
+  vars = p.vars i;
+  kind_vars = p.kind_vars i;
+  frames = p.frames i;
+  uses = p.uses i;
+}
+
+made_well : (c : ClassFile) (number : ℕ) (method : Member) (coded : Coded) (tables : Tables) (b : Body) → IsCoded c.pool method coded → AreStarts (length coded.insns) (length coded.items.code) coded.starts → IsFree c method coded → HasParts c number method coded tables b → IsWellMade (made method coded tables c.pool b)
+made_well c number method coded tables b is starts free p =
+    let count = length coded.insns in
+    let size = length coded.items.code in
+    let number_is = insn_number coded.starts in
+    let past = number_of_end count size coded.starts starts in
+    let stay = numbers_stay count size coded.starts starts in
+    record {
+      code = is_code c method coded is starts free;
+      handlers = rows_handled c.pool number_is count size coded.items.rows past (numbers_rise count size coded.starts starts) free.rows;
+      lines = lines_kept number_is count tables.lines;
+      vars = vars_kept number_is count size coded.items.max_locals tables.vars past stay;
+      kind_vars = vars_kept number_is count size coded.items.max_locals tables.kind_vars past stay;
+      locals = all_of (LocalsWithin coded.items.max_locals) coded.insns (locals_or_not coded.items.max_locals) free.locals;
+      arguments = p.arg_slots;
+      arguments_fit = arguments_fit c.pool method coded b.desc b.arg_slots p.desc p.arg_slots free.arguments;
+      uses = are_uses c method coded free;
+      frames = tt;
+      bound = bound coded free.wide;
+    }
+
+pub well_made : (c : ClassFile) (number : ℕ) (method : Member) (b : Body) → IsBody c number method b → IsWellMade b
+well_made c number method b is =
+    let starts = are_starts is.coded.items.code is.coded.insns is.coded.starts is.is.spelled in
+    let free = free_of_faults c method is.coded is.is starts is.no_fault in
+    subst IsWellMade (sym (is_made c number method is.coded is.tables b is.parts)) (made_well c number method is.coded is.tables b is.is starts free is.parts)
