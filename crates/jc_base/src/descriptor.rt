@@ -187,6 +187,7 @@ pub fn argument_slots(bytes: &[u8]) -> Option<u32>
     requires { length bytes.now ≤ 65535 }
     ensures well_formed { IsSome result ↔ IsMethodDescriptor bytes.now }
     ensures slots { (type : MethodType) → DescribesMethod bytes.now type → IfSome result (λ slots. slots ≡ parameter_slots type) }
+    ensures bound { IfSome result (λ slots. slots ≤ 2 * length bytes.now) }
 {
     match slots_of_parameters(bytes) {
         Some(slots) => Some(slots as u32),

@@ -105,11 +105,8 @@ uses_of pool places = flat_map (λ place. use_of place (what_at pool place)) pla
 
 -- ---- the body
 
-pub record IsBody (c : ClassFile) (number : ℕ) (method : Member) (body : Body) : Type 0 where
-  pub coded : Coded
-  pub is : IsCoded c.pool method coded
-  pub no_subroutine : IsNowhere (HasSubroutine c.pool method)
-  pub no_fault : AreNowhere (faults c.major c.pool method)
+-- the parts of a body, from what was read of the method
+pub record HasParts (c : ClassFile) (number : ℕ) (method : Member) (coded : Coded) (tables : Tables) (body : Body) : Type 0 where
   pub number_is : body.method ≡ number
   pub owner : class_name_of c.pool c.this_class ≡ Some body.owner
   pub name : utf8_of c.pool method.name ≡ Some body.name
@@ -120,14 +117,22 @@ pub record IsBody (c : ClassFile) (number : ℕ) (method : Member) (body : Body)
   pub max_locals : body.max_locals ≡ coded.items.max_locals
   pub code : body.code ≡ coded.insns
   pub handlers : body.handlers ≡ map (handler_of (insn_number coded.starts)) coded.items.rows
-  pub tables : Tables
-  pub are_tables : AreTables c.pool coded.items.attributes tables
   pub lines : body.lines ≡ lines_of (insn_number coded.starts) (length coded.insns) tables.lines
   pub vars : body.vars ≡ vars_of (insn_number coded.starts) (length coded.insns) (length coded.items.code) coded.items.max_locals tables.vars
   pub kind_vars : body.kind_vars ≡ vars_of (insn_number coded.starts) (length coded.insns) (length coded.items.code) coded.items.max_locals tables.kind_vars
   -- the stack map table isn't read
   pub frames : body.frames ≡ []
   pub uses : body.uses ≡ uses_of c.pool (first_seen (places_used coded.insns coded.items.rows))
+
+-- the method has code without a fault, and the body is made of it
+pub record IsBody (c : ClassFile) (number : ℕ) (method : Member) (body : Body) : Type 0 where
+  pub coded : Coded
+  pub is : IsCoded c.pool method coded
+  pub no_subroutine : IsNowhere (HasSubroutine c.pool method)
+  pub no_fault : AreNowhere (faults c.major c.pool method)
+  pub tables : Tables
+  pub are_tables : AreTables c.pool coded.items.attributes tables
+  pub parts : HasParts c number method coded tables body
 
 -- the body of the method with this number
 pub record BodyOf (c : ClassFile) (number : ℕ) (body : Body) : Type 0 where

@@ -134,10 +134,14 @@ pub record TooWide (coded : Coded) (place : ℕ) : Type 0 where
 abbrev pub insn_faults : ℕ → PoolValue → List (Coded → Fault)
 insn_faults major pool = WrongPoolEntry major pool ∷ JumpNowhere ∷ LocalOutside ∷ []
 
--- The faults of what stands beside the instructions, in the order in which they are looked for. That of the
--- stack map table will stand behind that of the other tables.
-abbrev pub table_faults : PoolValue → Member → List (Coded → Fault)
-table_faults pool method = ArgumentsOutside pool method ∷ BadRow pool ∷ MalformedTable pool ∷ TooWide ∷ []
+-- the faults of the arguments and of the exception table, in the order in which they are looked for
+abbrev pub row_faults : PoolValue → Member → List (Coded → Fault)
+row_faults pool method = ArgumentsOutside pool method ∷ BadRow pool ∷ []
+
+-- The faults of the other tables and of the size, in the order in which they are looked for. That of the
+-- stack map table will stand between the two.
+abbrev pub table_faults : PoolValue → List (Coded → Fault)
+table_faults pool = MalformedTable pool ∷ TooWide ∷ []
 
 -- the faults of a method's code, in the order in which they are looked for
 abbrev pub faults : ℕ → PoolValue → Member → List Fault
@@ -145,4 +149,4 @@ faults major pool method =
     NoSingleCode pool method
     ∷ MalformedCode pool method
     ∷ MalformedInsn pool method
-    ∷ map (OfCode pool method) (insn_faults major pool ++ table_faults pool method)
+    ∷ map (OfCode pool method) (insn_faults major pool ++ (row_faults pool method ++ table_faults pool))

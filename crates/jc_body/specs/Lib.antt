@@ -9,3 +9,4 @@ pub mod Faults
 pub mod Numbering
 pub mod Seen
 pub mod BodyOf
+pub mod Answers

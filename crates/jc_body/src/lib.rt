@@ -3,13 +3,18 @@
 
 mod attributes;
 mod checks;
+mod code;
 mod coded;
+mod faults;
 mod form;
 mod items;
 mod laws;
 mod places;
+mod reading;
 mod standing;
 mod tables;
+mod texts;
 mod uses;
 
 pub use laws::each_method_has_one_answer;
+pub use reading::read_body;

@@ -129,9 +129,9 @@ fn is_member_for(major: u16, op: u8, m: &MemberText<'_>) -> bool
 {
     match m.tag {
         9 => op <= 181 && is_field_descriptor(m.desc),
-        10 => op > 181 && is_method_descriptor(m.desc),
         11 => op > 182 && (major >= 52 && is_method_descriptor(m.desc)),
-        _ => false,
+        17 | 18 => false,
+        _ => op > 181 && is_method_descriptor(m.desc),
     }
 }
 

@@ -4,3 +4,5 @@ pub mod PoolLaws
 pub mod WritingLaws
 pub mod TextLaws
 pub mod OneTextLaws
+pub mod EqualLaws
+pub mod SlotsLaws

@@ -14,7 +14,7 @@ use Rattle.jc_pool.specs.Pool.{is_wide, width, slots_of, IsSmall, IsFilled, IsPo
 use Rattle.jc_pool.specs.EntryReading.{entry_at, narrow_only, narrow_at, fitting_at}
 use Rattle.jc_pool.specs.PoolReading.{put_behind, places_at}
 
-two_cases : (b : Bool) → (b ≡ true) ⊎ (b ≡ false)
+pub two_cases : (b : Bool) → (b ≡ true) ⊎ (b ≡ false)
 two_cases true = inl refl
 two_cases false = inr refl
 

@@ -1,15 +1,16 @@
 -- What is appended in parts.
-use Rattle.std.proofs.Common.{◌≡◌, ℕ, suc, ◌-◌, ◌<◌, Bool, List, [], ◌∷◌, ◌++◌, length, Option, Some, None, Result, Ok, Err, refl, sym, ◌∙◌, ap, subst, arith, append_assoc}
-use Rattle.std.proofs.lemmas.List.{append-nil}
+use Rattle.std.proofs.Common.{◌≡◌, ℕ, zero, suc, ◌+◌, ◌-◌, ◌<◌, ◌≤◌, Bool, List, [], ◌∷◌, ◌++◌, length, drop, Option, Some, None, IfSome, option_copied, Bor, Result, Ok, Err, refl, sym, ◌∙◌, ap, subst, arith, append_assoc}
+use Rattle.std.proofs.lemmas.List.{append-nil, drop_all, drop_more}
 use Rattle.jc_base.specs.Decoder.{IsBig}
 use Rattle.std.specs.Result.{OnOk}
 use Rattle.jc_base.specs.Grammar.{Grammar}
 use Rattle.jc_base.specs.declared.fail.Memory.{Memory}
 use Rattle.jc_pool.specs.declared.entry.Entry.{Entry}
-use Rattle.jc_pool.specs.Pool.{PoolValue, IsFilled, IsPool}
+use Rattle.jc_pool.specs.Pool.{PoolValue, IsSmall, IsFilled, IsPool}
+use Rattle.jc_pool.specs.Lookup.{entry_at}
 use Rattle.jc_pool.specs.PoolGrammar.{by_size, behind, places, pool}
 use Rattle.jc_base.specs.Appending.{Appends}
-use Rattle.jc_pool.specs.Writing.{Grows, SpellsSlot, SpellsSlots, AreSmall}
+use Rattle.jc_pool.specs.Writing.{Grows, SpellsSlot, SpellsSlots, IsSmallSlot, AreSmall}
 
 -- two parts, one behind the other
 pub appends_both : (A B C : List ℕ → Type 0) → ((a b : List ℕ) → A a → B b → C (a ++ b)) → (old mid new : List ℕ) → Appends A old mid → Appends B mid new → Appends C old new
@@ -30,11 +31,17 @@ pub record Writing (all rest : List (Option Entry)) (old now : List ℕ) : Type 
   pub grows : Grows old now
   pub small : AreSmall rest
 
-pub writes_more : (all left rest : List (Option Entry)) (slot : Option Entry) (old now next : List ℕ) → left ≡ slot ∷ rest → Appends (λ text. SpellsSlot text slot) now next
-    → Writing all left old now → Writing all rest old next
-writes_more all left rest slot old now next is a w = more (subst (λ (l : List (Option Entry)). Writing all l old now) is w)
+next_slot : (all : PoolValue) (k : ℕ) (slot : Option Entry) → k < length all → slot ≡ entry_at all k → drop k all ≡ slot ∷ drop (k + 1) all
+next_slot all k slot lt is = drop_more all k None lt ∙ ap (λ (s : Option Entry). s ∷ drop (k + 1) all) (sym is)
+
+pub next_small : (all : PoolValue) (k : ℕ) (slot : Option Entry) (old now : List ℕ) → k < length all → slot ≡ entry_at all k → Writing all (drop k all) old now → IsSmallSlot slot
+next_small all k slot old now lt is w = (subst AreSmall (next_slot all k slot lt is) w.small).0
+
+pub writes_more : (all : PoolValue) (k : ℕ) (slot : Option Entry) (old now next : List ℕ) → k < length all → slot ≡ entry_at all k → Appends (λ text. SpellsSlot text slot) now next
+    → Writing all (drop k all) old now → Writing all (drop (k + 1) all) old next
+writes_more all k slot old now next lt is a w = more (subst (λ (l : PoolValue). Writing all l old now) (next_slot all k slot lt is) w)
   where
-    more : Writing all (slot ∷ rest) old now → Writing all rest old next
+    more : Writing all (slot ∷ drop (k + 1) all) old now → Writing all (drop (k + 1) all) old next
     more w = record {
       completes = λ tail spells.
           let whole = w.completes (a.text ++ tail) (a.text, tail, refl, a.spells, spells) in
@@ -43,9 +50,8 @@ writes_more all left rest slot old now next is a w = more (subst (λ (l : List (
       small = w.small.1;
     }
 
-pub all_written : (all rest : List (Option Entry)) (old now : List ℕ) → length rest ≡ 0 → Writing all rest old now → Appends (λ text. SpellsSlots text all) old now
-all_written all [] old now none w = subst (Appends (λ text. SpellsSlots text all) old) (append-nil now) (w.completes [] refl)
-all_written all (slot ∷ rest) old now none w = absurd (omega (arith, none))
+pub all_written : (all : PoolValue) (k : ℕ) (old now : List ℕ) → length all ≤ k → Writing all (drop k all) old now → Appends (λ text. SpellsSlots text all) old now
+all_written all k old now end w = subst (Appends (λ text. SpellsSlots text all) old) (append-nil now) (w.completes [] (subst (SpellsSlots []) (sym (drop_all k all end)) refl))
 
 -- ---- a pool
 
@@ -110,10 +116,20 @@ pool_text (None ∷ rest) count text is big spells =
     )
 pool_text (Some e ∷ rest) count text is big spells = absurd is
 
-pub appends_pool : (r : Result (Unit {0}) Memory) (seen slots : PoolValue) (old mid new : List ℕ) → seen ≡ slots → IsPool slots → Appends (λ count. IsBig 2 count (length seen)) old mid
+pub appends_pool : (r : Result (Unit {0}) Memory) (seen slots : PoolValue) (n : ℕ) (old mid new : List ℕ) → seen ≡ slots → n ≡ length seen → IsPool slots → Appends (λ count. IsBig 2 count n) old mid
     → OnOk r (Appends (λ text. SpellsSlots text seen) mid new) → OnOk r (Appends (λ text. pool.Text text slots) old new)
-appends_pool (Ok done) seen slots old mid new same is count places =
+appends_pool (Ok done) seen slots n old mid new same size is count places =
     appends_both (λ count. IsBig 2 count (length slots)) (λ text. SpellsSlots text slots) (λ text. pool.Text text slots) (λ a b p q. pool_text slots a b is p q) old mid new
-    (subst (λ (l : PoolValue). Appends (λ count. IsBig 2 count (length l)) old mid) same count)
+    (subst (λ (k : ℕ). Appends (λ count. IsBig 2 count k) old mid) (size ∙ ap length same) count)
     (subst (λ (l : PoolValue). Appends (λ text. SpellsSlots text l) mid new) same places)
-appends_pool (Err memory) seen slots old mid new same is count places = tt
+appends_pool (Err memory) seen slots n old mid new same size is count places = tt
+
+-- an entry that stands in a pool is small
+pub entry_small : (slots : List (Option Entry)) → AreSmall slots → (place : ℕ) (e : Entry) → entry_at slots place ≡ Some e → IsSmall e
+entry_small [] small place e is = absurd cc
+entry_small (slot ∷ rest) small zero e is = subst IsSmallSlot is small.0
+entry_small (slot ∷ rest) small (suc place) e is = entry_small rest small.1 place e is
+
+pub found_small : (slots : PoolValue) → IsPool slots → (place : ℕ) (found : Option (Bor Entry)) → option_copied found ≡ entry_at slots place → IfSome found (λ e. IsSmall e.now)
+found_small slots is place None at = tt
+found_small slots is place (Some e) at = entry_small slots (pool_small slots is) place e.now (sym at)

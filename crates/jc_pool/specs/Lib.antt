@@ -6,3 +6,4 @@ pub mod PoolReading
 pub mod Lookup
 pub mod Writing
 pub mod Text
+pub mod Slots

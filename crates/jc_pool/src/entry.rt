@@ -4,7 +4,7 @@ ghost use Rattle.std.specs.Prelude.{◌≡◌};
 use jc_base::Bytes;
 
 /// An entry of a constant pool. Numbers other than values are places in the pool.
-#[derive(Debug, Drop)]
+#[derive(Debug, PartialEq, Eq, Hash, Drop)]
 pub enum Entry {
     /// Text, in modified UTF-8 where it is used as text (JVM Specification 4.4.7).
     Utf8(Bytes),

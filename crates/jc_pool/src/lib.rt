@@ -8,6 +8,7 @@ mod item;
 mod laws;
 mod lookup;
 mod pool;
+mod slots;
 mod text;
 mod write;
 

@@ -1,5 +1,5 @@
 //! What the places of a pool name.
-ghost use Rattle.std.specs.Prelude.{◌≡◌, ◌↔◌, [], Some, None, IfOk, IsErr, is_some};
+ghost use Rattle.std.specs.Prelude.{◌≡◌, ◌↔◌, ◌<◌, [], Some, None, length, IfOk, IsErr, is_some};
 ghost use Rattle.jc_pool.specs.Lookup.{utf8_of, class_name_of, signature_of, member, ref_of, dynamic_of, ref_in, reference_of, member_of, const_in, const_of};
 
 use crate::entry::Entry;
@@ -33,6 +33,7 @@ impl Pool {
     #[tactic(auto, unfolding(crate::specs::Lookup::utf8_of))]
     pub fn utf8_at(&self, place: u16) -> Result<&[u8], BadIndex>
         ensures text { IfOk result (λ text. utf8_of self.now place ≡ Some text.now) }
+        ensures size { IfOk result (λ text. length text.now < 65536) }
         ensures bad { IsErr result ↔ (utf8_of self.now place ≡ None) }
     {
         match self.entry(place) {

@@ -1,14 +1,16 @@
 //! The constant pool.
-ghost use Rattle.std.specs.Prelude.{◌≡◌, ◌+◌, ◌-◌, ◌<◌, ◌≤◌, ◌++◌, ◌∷◌, [], ℕ, List, None, IfOk, OnOk};
+ghost use Rattle.std.specs.Prelude.{◌≡◌, ◌↔◌, ◌+◌, ◌-◌, ◌<◌, ◌≤◌, ◌++◌, ◌∷◌, [], ℕ, List, Some, None, Contains, IfOk, IfSome, IsSome};
 ghost use Rattle.jc_base.specs.Decoder.{SameEnd};
 ghost use Rattle.jc_base.specs.Parsing.{Good, Bad, Parses};
-ghost use Rattle.jc_pool.specs.Pool.{PoolValue, IsPool, slots_of};
+ghost use Rattle.jc_pool.specs.Pool.{PoolValue, IsPool, IsSmall};
 ghost use Rattle.jc_pool.specs.PoolGrammar.{pool, ReadsBy};
 ghost use Rattle.jc_pool.specs.PoolReading.{put_behind, places_at, pool_at};
+ghost use Rattle.jc_pool.specs.Slots.{IsFirstPlace};
 
 use crate::entry::Entry;
 use crate::item::{count_item, entry_item};
-use jc_base::{Fail, List, Memory, Reader, Refusal};
+use crate::slots::Slots;
+use jc_base::{Fail, Reader, Refusal};
 use std::alloc::Global;
 use std::marker::Model;
 
@@ -16,7 +18,7 @@ use std::marker::Model;
 /// places: nothing at place 0, and at the second place of a long or a double.
 #[derive(Debug, Drop)]
 pub struct Pool {
-    slots: List<Option<Entry>>,
+    slots: Slots,
 }
 
 impl Model for Pool {
@@ -33,41 +35,31 @@ impl Pool {
 
     /// The entry at a place.
     pub(crate) fn entry(&self, place: u16) -> Option<&Entry>
-        ensures { option_copied result ≡ entry_at self.now place }
+        ensures entry { option_copied result ≡ entry_at self.now place }
+        ensures small { IfSome result (λ entry. IsSmall entry.now) }
     {
-        match self.slots.as_slice().get(place as usize) {
-            Some(Some(entry)) => Some(entry),
-            _ => None,
-        }
+        self.slots.entry(usize::from(place))
+    }
+
+    /// The first place at which an entry equal to this one stands.
+    pub(crate) fn place_of(&self, entry: &Entry) -> Option<u16>
+        ensures first { IfSome result (IsFirstPlace self.now entry.now) }
+        ensures found { IsSome result ↔ Contains self.now (Some entry.now) }
+    {
+        self.slots.place_of(entry)
     }
 
     /// What stands at each place.
-    pub(crate) fn slots(&self) -> &[Option<Entry>]
+    pub(crate) fn slots(&self) -> &Slots
         ensures slots { result.now ≡ self.now }
         ensures pool { IsPool self.now }
     {
-        self.slots.as_slice()
+        &self.slots
     }
-}
-
-/// Puts an entry at the next place, and nothing at its second one.
-fn put(slots: &mut List<Option<Entry>>, entry: Entry) -> Result<(), Memory>
-    ensures { OnOk result (slots.new ≡ slots.old ++ slots_of entry) }
-{
-    let wide = entry.is_wide();
-    slots.push(Some(entry))?;
-    if wide {
-        slots.push(None)?;
-    }
-    Ok(())
 }
 
 /// Nothing at place 0, and the entries at the places from 1 on.
-fn filled(
-    alloc: Global,
-    reader: &mut Reader<'_>,
-    count: u16,
-) -> Result<List<Option<Entry>>, Fail<Refusal>>
+fn filled(alloc: Global, reader: &mut Reader<'_>, count: u16) -> Result<Slots, Fail<Refusal>>
     requires { 0 < count }
     ensures gives { Parses (λ slots. slots) result reader.old reader.new (put_behind (None ∷ []) (places_at (count - 1) reader.old.left)) }
     ensures pool { IfOk result IsPool }
@@ -75,11 +67,10 @@ fn filled(
     ensures later { reader.old.place ≤ reader.new.place }
 {
     let count = usize::from(count);
-    let mut slots = List::from_vec(Vec::with_capacity(alloc, count)?);
-    slots.push(None)?;
+    let mut slots = Slots::new(alloc, count)?;
     'filling: while slots.len() < count {
         let entry = entry_item(alloc, reader, count - slots.len())?;
-        put(&mut slots, entry)?;
+        slots.put(entry)?;
     }
     Ok(slots)
 }

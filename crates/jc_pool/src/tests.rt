@@ -1,7 +1,8 @@
 ghost use Rattle.std.specs.Prelude.{◌≤◌, length};
 
 use super::*;
-use jc_base::{Fail, Reader, RefusalKind};
+use crate::entry::Entry;
+use jc_base::{Bytes, Fail, Reader, RefusalKind};
 use std::alloc::Global;
 use std::test;
 
@@ -27,6 +28,16 @@ const EVERY_TAG: [u8; 90] = [
     0x13, 0x00, 0x01, // 19: Module A
     0x14, 0x00, 0x01, // 20: Package A
     0x2a,
+];
+
+/// A pool that has some entries twice.
+const EQUAL_ENTRIES: [u8; 31] = [
+    0x00, 0x08, // the count: places 1 to 7
+    0x01, 0x00, 0x01, 0x41, // 1: Utf8 A
+    0x05, 0, 0, 0, 0, 0, 0, 0, 0x07, // 2: Long 7, and its second place
+    0x01, 0x00, 0x01, 0x41, // 4: Utf8 A
+    0x05, 0, 0, 0, 0, 0, 0, 0, 0x07, // 5: Long 7, and its second place
+    0x07, 0x00, 0x04, // 7: Class A
 ];
 
 /// The kind and the place of the refusal of a pool.
@@ -114,6 +125,26 @@ fn constants_are_looked_up(rt: HostRuntime) -> Result<(), test::Fail> {
     for place in [1, 4, 5, 12, 18, 19] {
         assert_eq!(rt; pool.const_at(place), Err(BadIndex), "{place}");
     }
+    Ok(())
+}
+
+#[test]
+fn equal_entries_keep_their_places(rt: HostRuntime) -> Result<(), test::Fail> {
+    let alloc = rt.alloc();
+    let Ok(pool) = Pool::read(alloc, &mut Reader::new(&EQUAL_ENTRIES)) else {
+        return Err("refused")?;
+    };
+    let name = Entry::Utf8(Bytes::copy_of(alloc, b"A")?);
+    assert_eq!(rt; pool.place_of(&name), Some(1));
+    assert_eq!(rt; pool.place_of(&Entry::Long(7)), Some(2));
+    assert_eq!(rt; pool.place_of(&Entry::Class { name: 4 }), Some(7));
+    assert_eq!(rt; pool.place_of(&Entry::Class { name: 1 }), None);
+    assert!(rt; pool.utf8_at(4).is_ok());
+    assert_eq!(rt; pool.const_at(5), Ok(ConstText::Long(7)));
+    assert_eq!(rt; pool.const_at(6), Err(BadIndex));
+    let mut written = Vec::new(alloc);
+    assert_eq!(rt; pool.write(&mut written), Ok(()));
+    assert_eq!(rt; &written[..], &EQUAL_ENTRIES[..]);
     Ok(())
 }
 

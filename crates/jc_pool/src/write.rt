@@ -1,5 +1,5 @@
 //! Writing a constant pool (JVM Specification 4.1, 4.4).
-ghost use Rattle.std.specs.Prelude.{◌≡◌, ◌+◌, ◌<◌, ◌++◌, ◌∷◌, [], length, OnOk, OnErr};
+ghost use Rattle.std.specs.Prelude.{◌≡◌, ◌+◌, ◌<◌, ◌++◌, ◌∷◌, [], length, option_copied, OnOk, OnErr};
 ghost use Rattle.jc_pool.specs.Pool.{IsSmall};
 ghost use Rattle.jc_pool.specs.PoolGrammar.{pool as pool_text};
 ghost use Rattle.jc_pool.specs.EntryFormat.{ArePlaces, IsHandle, IsUtf8, IsInfo, IsEntry};
@@ -8,6 +8,7 @@ ghost use Rattle.jc_pool.specs.Writing.{Grows, SpellsSlot, SpellsSlots, IsSmallS
 
 use crate::Pool;
 use crate::entry::Entry;
+use crate::slots::Slots;
 use jc_base::{Memory, put_bytes, put_u8, put_u16, put_u32, put_u64};
 
 /// Puts a size of two bytes at the end, and the text.
@@ -94,9 +95,9 @@ fn put_entry(into: &mut Vec<u8>, entry: &Entry) -> Result<(), Memory>
 }
 
 /// Puts what stands at a place at the end.
-fn put_slot(into: &mut Vec<u8>, slot: &Option<Entry>) -> Result<(), Memory>
-    requires { IsSmallSlot slot.now }
-    ensures ok { OnOk result (Appends (λ text. SpellsSlot text slot.now) into.old.items into.new.items) }
+fn put_slot(into: &mut Vec<u8>, slot: Option<&Entry>) -> Result<(), Memory>
+    requires { IsSmallSlot (option_copied slot) }
+    ensures ok { OnOk result (Appends (λ text. SpellsSlot text (option_copied slot.entry)) into.old.items into.new.items) }
     ensures grows { Grows into.old.items into.new.items }
 {
     match slot {
@@ -105,16 +106,14 @@ fn put_slot(into: &mut Vec<u8>, slot: &Option<Entry>) -> Result<(), Memory>
     }
 }
 
-/// Puts what stands at these places at the end.
-fn put_slots(into: &mut Vec<u8>, slots: &[Option<Entry>]) -> Result<(), Memory>
+/// Puts what stands at each place at the end.
+fn put_slots(into: &mut Vec<u8>, slots: &Slots) -> Result<(), Memory>
     requires { AreSmall slots.now }
     ensures ok { OnOk result (Appends (λ text. SpellsSlots text slots.now) into.old.items into.new.items) }
     ensures grows { Grows into.old.items into.new.items }
 {
-    let mut rest = slots;
-    'writing: while let Some((slot, after)) = rest.split_first() {
-        put_slot(into, slot)?;
-        rest = after;
+    'writing: for place in 0..slots.len() {
+        put_slot(into, slots.entry(place))?;
     }
     Ok(())
 }

@@ -11,7 +11,7 @@ returns-in_err-entry-clause-gives c =
 
 pub filling-preserved : goal.filling-preserved
 filling-preserved c =
-    rw c.in_ok-put.ensures (fills_more (put_behind (None ∷ []) (places_at (c.args.count - 1) c.args.reader.now.left)) c.args.count c.args.reader.now c.filling.slots c.filling.reader c.entry_item.new.reader c.in_ok-entry.entry (c.from-count.result - c.len-in-filling.result) (omega arith) (omega arith) c.in_ok-entry.ensures.small c.in_ok-entry.ensures.fits c.in_ok-entry.ensures.gives c.in_ok-entry.ensures.end c.in_ok-entry.ensures.later c.filling.invariant)
+    rw c.in_ok-put.ensures.ok (fills_more (put_behind (None ∷ []) (places_at (c.args.count - 1) c.args.reader.now.left)) c.args.count c.args.reader.now c.filling.slots c.filling.reader c.entry_item.new.reader c.in_ok-entry.entry (c.from-count.result - c.len-in-filling.result) (omega arith) (omega arith) c.in_ok-entry.ensures.small c.in_ok-entry.ensures.fits c.in_ok-entry.ensures.gives c.in_ok-entry.ensures.end c.in_ok-entry.ensures.later c.filling.invariant)
 
 pub returns-clause-gives : goal.returns-clause-gives
 returns-clause-gives c = is_read (put_behind (None ∷ []) (places_at (c.args.count - 1) c.args.reader.now.left)) c.args.count c.args.reader.now c.filling.slots c.filling.reader (omega arith) c.filling.invariant

@@ -1,0 +1,162 @@
+//! Reading the body of a method.
+ghost use Rattle.std.specs.Prelude.{◌≡◌, ◌⊎◌, ◌<◌, ◌≤◌, Some, None, length, IfOk, IfErr, IfSome, MatchOption, MatchResult, All};
+ghost use Rattle.jc_base.specs.WellMade.{IsWellMade};
+ghost use Rattle.jc_base.specs.declared.body.Body.{Body as BodyValue};
+ghost use Rattle.jc_base.specs.declared.refusal.Refusal.{Refusal as Reason};
+ghost use Rattle.jc_class.specs.ClassFormat.{HasText, HasClass, HasMethodDescriptor};
+ghost use Rattle.jc_class.specs.Writable.{IsClassFile};
+ghost use Rattle.jc_body.specs.First.{IsNowhere};
+ghost use Rattle.jc_body.specs.Faults.{ArgumentsOutside};
+ghost use Rattle.jc_body.specs.Coded.{IsCoded};
+ghost use Rattle.jc_body.specs.Numbering.{Numbers};
+ghost use Rattle.jc_body.specs.Answers.{IsRefusal, Said};
+ghost use Rattle.jc_body.specs.BodyOf.{HasParts, IsBody, BodyOf, Bodiless, FaultOf};
+
+use crate::code::{bad_code, read_coded};
+use crate::coded::Coded;
+use crate::faults::{insn_fault, is_too_wide, row_fault, slots_of_arguments};
+use crate::items::Tables;
+use crate::places::{Offsets, handlers_of, lines_of, vars_of};
+use crate::tables::read_tables;
+use crate::texts::{class_name_at, text_at};
+use crate::uses::read_uses;
+use jc_base::{Body, Bytes, Fail, List, Memory, Names, Refusal};
+use jc_class::{ClassFile, Member};
+use jc_insn::insn_numbers;
+use std::alloc::Global;
+
+/// The body that is made of what was read of a method, in which no fault was found.
+fn assembled(
+    alloc: Global,
+    class: &ClassFile,
+    number: u16,
+    method: &Member,
+    coded: Coded,
+    offsets: &Offsets<'_>,
+    tables: &Tables,
+) -> Result<Body, Memory>
+    requires class { HasClass class.now.pool class.now.this_class }
+    requires name { HasText class.now.pool method.now.name }
+    requires desc { HasMethodDescriptor class.now.pool method.now.desc }
+    requires arguments { IsNowhere (ArgumentsOutside class.now.pool method.now coded) }
+    requires offsets { Numbers coded offsets.now }
+    ensures { IfOk result (HasParts class.now number method.now coded tables.now) }
+{
+    let pool = &class.pool;
+    let max_locals = coded.items.max_locals;
+    let desc = text_at(pool, method.desc);
+    Ok(Body {
+        method: number,
+        owner: Bytes::copy_of(alloc, class_name_at(pool, class.this_class))?,
+        name: Bytes::copy_of(alloc, text_at(pool, method.name))?,
+        desc: Bytes::copy_of(alloc, desc)?,
+        flags: method.flags,
+        arg_slots: slots_of_arguments(method.flags, desc) as u16,
+        max_stack: coded.items.max_stack,
+        max_locals,
+        handlers: handlers_of(alloc, offsets, &coded.items.rows)?,
+        lines: lines_of(alloc, offsets, &tables.lines)?,
+        vars: vars_of(alloc, offsets, max_locals, &tables.vars)?,
+        kind_vars: vars_of(alloc, offsets, max_locals, &tables.kind_vars)?,
+        frames: List::new(alloc),
+        uses: read_uses(alloc, pool, &coded.insns, &coded.items.rows)?,
+        code: coded.insns,
+    })
+}
+
+/// The body of a method with this code.
+fn body_of(
+    alloc: Global,
+    class: &ClassFile,
+    number: u16,
+    method: &Member,
+    coded: Coded,
+) -> Result<Body, Fail<Refusal>>
+    requires class { HasClass class.now.pool class.now.this_class }
+    requires name { HasText class.now.pool method.now.name }
+    requires desc { HasMethodDescriptor class.now.pool method.now.desc }
+    requires coded { IsCoded class.now.pool method.now coded }
+    ensures body { IfOk result (IsBody class.now number method.now) }
+    ensures refused { IfErr result (λ e. Said e (IsRefusal class.now.major class.now.pool method.now number)) }
+{
+    let pool = &class.pool;
+    let numbers = insn_numbers(alloc, &coded.starts, coded.items.code.len() + 1)?;
+    let offsets = Offsets {
+        numbers: &numbers,
+        count: coded.insns.len() as u32,
+        size: coded.items.code.len() as u32,
+    };
+    if let Some(place) = insn_fault(class.major, pool, &coded) {
+        return Err(Fail::Said(bad_code(number, place)));
+    }
+    if let Some(place) = row_fault(pool, method, &coded, &offsets) {
+        return Err(Fail::Said(bad_code(number, place)));
+    }
+    let Some(tables) = read_tables(alloc, pool, &coded.items.attributes)? else {
+        return Err(Fail::Said(bad_code(number, 0)));
+    };
+    if is_too_wide(&coded) {
+        return Err(Fail::Said(bad_code(number, 0)));
+    }
+    Ok(assembled(alloc, class, number, method, coded, &offsets, &tables)?)
+}
+
+/// The body of a method by its number in the class file, from 0 (JVM Specification 4.7.3): its
+/// instructions, its exception rows and the entries of its line and variable tables by instruction
+/// numbers, and what stands at each place in the pool that it uses. There is none exactly where the
+/// method is abstract or native and has no Code attribute.
+///
+/// The entries of several attributes of one name stand one behind the other. An entry that names no
+/// instruction is left out, but for a variable's end that is the code's length; and so is a variable whose
+/// slot is at or past `max_locals`. Stack map tables aren't read, and `frames` is empty. The list of
+/// names is as it was.
+///
+/// # Errors
+///
+/// `Memory` where memory was refused. A refusal names the method. It is `Subroutine`, at the offset
+/// of the instruction, where `jsr`, `jsr_w`, `ret` or `wide ret` stands behind well formed instructions
+/// alone. Else it is `BadCode` for the first of these faults that the method has:
+///
+/// - not exactly one Code attribute in a method that is neither abstract nor native, or one in a method that
+///   is; then a Code attribute that isn't of its form, or whose code has no byte or more than 65,535
+///   (JVM Specification 4.7.3); at 0;
+/// - an instruction that isn't well formed (6.5), at its offset;
+/// - an instruction that names an entry of the pool that isn't of the kind that it needs, or whose
+///   descriptor isn't well formed (4.9.1), at its offset;
+/// - a jump or an arm that leads to no instruction, or a last instruction after which control falls off
+///   the end (4.9.1, 4.9.2), at the offset of the instruction;
+/// - an instruction that uses a local variable that there isn't, the second one of a long or a double
+///   included (4.9.1), at its offset;
+/// - arguments that need more local variables than there are (4.7.3), at 0;
+/// - an exception row whose start isn't before its end, whose places aren't instructions, but for an end
+///   that is the code's length, or whose class is no Class entry (4.7.3), at the row's number;
+/// - a line or variable table that isn't of its form (4.7.12 to 4.7.14), at 0;
+/// - more than 33,554,432 instructions times slots, which is the tool's own bound, at 0.
+pub fn read_body(
+    alloc: Global,
+    class: &ClassFile,
+    method: u32,
+    names: &mut Names,
+) -> Result<Option<Body>, Fail<Refusal>>
+    requires exists { method < length class.now.methods }
+    requires class { IsClassFile class.now }
+    requires sizes { All (λ m. All (λ a. length a.body ≤ 67108864) m.attributes) class.now.methods }
+    // What is answered is so.
+    ensures body { IfOk result (λ found. MatchOption found (Bodiless class.now method) (BodyOf class.now method)) }
+    ensures refused { IfErr result (λ e. Said e (FaultOf class.now method)) }
+    // What is so is answered, unless memory runs out.
+    ensures some { (b : BodyValue) → BodyOf class.now method b → MatchResult result (λ found. found ≡ Some b) (λ e. e ≡ Fail.Memory) }
+    ensures none { Bodiless class.now method → MatchResult result (λ found. found ≡ None) (λ e. e ≡ Fail.Memory) }
+    ensures fault { (r : Reason) → FaultOf class.now method r
+        → MatchResult result (λ _. ⊥) (λ e. (e ≡ Fail.Memory) ⊎ (e ≡ Fail.Said r)) }
+    ensures well_made { IfOk result (λ found. IfSome found IsWellMade) }
+    ensures names { names.new ≡ names.old }
+{
+    let _ = names;
+    let member = &class.methods[method as usize];
+    let number = method as u16;
+    match read_coded(alloc, &class.pool, number, member)? {
+        None => Ok(None),
+        Some(coded) => Ok(Some(body_of(alloc, class, number, member, coded)?)),
+    }
+}
