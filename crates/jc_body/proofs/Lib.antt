@@ -2,14 +2,14 @@ pub mod FirstLaws
 pub mod PlacesLaws
 pub mod UsesLaws
 pub mod OrderLaws
+pub mod FormLaws
+pub mod TablesLaws
+pub mod StandingLaws
 pub mod CodedLaws
 pub mod FaultLaws
 pub mod ArgumentLaws
 pub mod AnswerLaws
 pub mod DecideLaws
 pub mod EachMethodLaws
-pub mod FormLaws
-pub mod TablesLaws
-pub mod StandingLaws
 pub mod NumberLaws
 pub mod WellMadeLaws
