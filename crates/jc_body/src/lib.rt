@@ -18,3 +18,6 @@ mod uses;
 
 pub use laws::each_method_has_one_answer;
 pub use reading::read_body;
+
+#[cfg(test)]
+mod tests;
