@@ -35,6 +35,7 @@ one_take flags desc a b p q = by (static_or_not flags)
   where
     same : parameter_slots p.type ≡ parameter_slots q.type
     same = ap parameter_slots (one_method desc p.type q.type p.described q.described)
+
     by : IsStatic flags ⊎ (IsStatic flags → ⊥) → a ≡ b
     by (inl is) = p.static_slots is ∙ same ∙ sym (q.static_slots is)
     by (inr not) = p.other_slots not ∙ ap (λ (n : ℕ). 1 + n) same ∙ sym (q.other_slots not)

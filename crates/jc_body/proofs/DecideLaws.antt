@@ -66,15 +66,28 @@ module _ (major : ℕ) (pool : PoolValue) (method : Member) (coded : Coded) (are
   by_size (inr few) = inr (λ place o. omega (arith, few, o.fault))
 
   pub all_decided : AreDecided (map (λ F. F coded) (insn_faults major pool ++ (row_faults pool method ++ table_faults pool)))
-  all_decided =
-      (by_insn (λ number insn. HasRightEntry major pool insn → ⊥) (λ number insn. not_or (right_entry_or_not major pool insn)),
-      (by_insn (IsAstray (length coded.insns)) (λ number insn. astray_or_not (length coded.insns) number insn),
-      (by_insn (λ number insn. LocalsWithin coded.items.max_locals insn → ⊥) (λ number insn. not_or (locals_or_not coded.items.max_locals insn)),
-      (by_arguments,
-      (by_row,
-      (by_tables (tables_or_none pool coded.items.attributes),
-      (by_size (cases_lt 33554432 (length coded.insns * (coded.items.max_locals + coded.items.max_stack))),
-      tt)))))))
+  all_decided = (
+    by_insn (λ number insn. HasRightEntry major pool insn → ⊥) (λ number insn. not_or (right_entry_or_not major pool insn)),
+    (
+      by_insn (IsAstray (length coded.insns)) (λ number insn. astray_or_not (length coded.insns) number insn),
+      (
+        by_insn (λ number insn. LocalsWithin coded.items.max_locals insn → ⊥) (λ number insn. not_or (locals_or_not coded.items.max_locals insn)),
+        (
+          by_arguments,
+          (
+            by_row,
+            (
+              by_tables (tables_or_none pool coded.items.attributes),
+              (
+                by_size (cases_lt 33554432 (length coded.insns * (coded.items.max_locals + coded.items.max_stack))),
+                tt,
+              ),
+            ),
+          ),
+        ),
+      ),
+    ),
+  )
 
 -- ---- code that stops being instructions
 
@@ -104,7 +117,7 @@ module _ (major : ℕ) (pool : PoolValue) (method : Member) (items : CodeItems) 
       let bad = subst (λ (k : RefusalKind). IsStopped k pool method place) is stop in
       let none : IsNowhere (HasSubroutine pool method) = λ other there. not_both (same_stop kinds.Subroutine kinds.BadCode other place there bad).0 in
       subst (λ (k : RefusalKind). IsReason major pool method k place) (sym is)
-          (none, inr (is_single pool method has.bytes has.code, inr (is_of_form pool method items has, inl (least_stop kinds.BadCode place bad))))
+      (none, inr (is_single pool method has.bytes has.code, inr (is_of_form pool method items has, inl (least_stop kinds.BadCode place bad))))
     where
       not_both : (let k : RefusalKind = kinds.Subroutine in k) ≡ kinds.BadCode → ⊥
       not_both e = cc
@@ -125,13 +138,31 @@ module _ (major : ℕ) (pool : PoolValue) (method : Member) where
       ((λ place s. is_of_form pool method s.items s.has 0 fault), inr (is_single pool method bytes code, inl (at_zero (MalformedCode pool method) fault)))
 
   pub coded_reason : (coded : Coded) → IsCoded pool method coded → (place : ℕ) → IsFirst (map (λ F. F coded) (insn_faults major pool ++ (row_faults pool method ++ table_faults pool))) place → IsReason major pool method kinds.BadCode place
-  coded_reason coded is place first =
-      (goes_on pool method coded is kinds.Subroutine,
-      inr (is_single pool method is.items.bytes is.items.code, inr (is_of_form pool method coded.items is.items, inr (goes_on pool method coded is kinds.BadCode,
-          first_of_code pool method coded is (insn_faults major pool ++ (row_faults pool method ++ table_faults pool)) place first))))
+  coded_reason coded is place first = (
+    goes_on pool method coded is kinds.Subroutine,
+    inr (
+      is_single pool method is.items.bytes is.items.code,
+      inr (
+        is_of_form pool method coded.items is.items,
+        inr (
+          goes_on pool method coded is kinds.BadCode,
+          first_of_code pool method coded is (insn_faults major pool ++ (row_faults pool method ++ table_faults pool)) place first,
+        ),
+      ),
+    ),
+  )
 
   pub coded_without : (coded : Coded) → IsCoded pool method coded → AreNowhere (map (λ F. F coded) (insn_faults major pool ++ (row_faults pool method ++ table_faults pool))) → IsNowhere (HasSubroutine pool method) × AreNowhere (faults major pool method)
-  coded_without coded is none =
-      (goes_on pool method coded is kinds.Subroutine,
-      (is_single pool method is.items.bytes is.items.code, (is_of_form pool method coded.items is.items, (goes_on pool method coded is kinds.BadCode,
-          nowheres_of_code pool method coded is (insn_faults major pool ++ (row_faults pool method ++ table_faults pool)) none))))
+  coded_without coded is none = (
+    goes_on pool method coded is kinds.Subroutine,
+    (
+      is_single pool method is.items.bytes is.items.code,
+      (
+        is_of_form pool method coded.items is.items,
+        (
+          goes_on pool method coded is kinds.BadCode,
+          nowheres_of_code pool method coded is (insn_faults major pool ++ (row_faults pool method ++ table_faults pool)) none,
+        ),
+      ),
+    ),
+  )

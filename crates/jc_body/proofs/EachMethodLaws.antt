@@ -62,35 +62,38 @@ module _ (c : ClassFile) (number : ℕ) (method : Member) (at : slice_get c.meth
         frames = [];
         uses = uses_of c.pool (first_seen (places_used coded.insns coded.items.rows));
       } in
-      inr (inl (body, record {
-        method = method;
-        at = at;
-        is = record {
-          coded = coded;
-          is = is_coded;
-          no_subroutine = no_subroutine;
-          no_fault = no_fault;
-          tables = tables;
-          are_tables = are_tables;
-          parts = record {
-            number_is = refl;
-            owner = owner.1;
-            name = is.name.1;
-            desc = is.desc.1;
-            flags = refl;
-            arg_slots = slots.1;
-            max_stack = refl;
-            max_locals = refl;
-            code = refl;
-            handlers = refl;
-            lines = refl;
-            vars = refl;
-            kind_vars = refl;
-            frames = refl;
-            uses = refl;
+      inr (inl (
+        body,
+        record {
+          method = method;
+          at = at;
+          is = record {
+            coded = coded;
+            is = is_coded;
+            no_subroutine = no_subroutine;
+            no_fault = no_fault;
+            tables = tables;
+            are_tables = are_tables;
+            parts = record {
+              number_is = refl;
+              owner = owner.1;
+              name = is.name.1;
+              desc = is.desc.1;
+              flags = refl;
+              arg_slots = slots.1;
+              max_stack = refl;
+              max_locals = refl;
+              code = refl;
+              handlers = refl;
+              lines = refl;
+              vars = refl;
+              kind_vars = refl;
+              frames = refl;
+              uses = refl;
+            };
           };
-        };
-      }))
+        },
+      ))
 
   with_code : (coded : Coded) → IsCoded c.pool method coded → Answer c number
   with_code coded is_coded = by (each_decided (map (λ F. F coded) (insn_faults c.major c.pool ++ (row_faults c.pool method ++ table_faults c.pool))) (all_decided c.major c.pool method coded (are_starts coded.items.code coded.insns coded.starts is_coded.spelled) is.desc.0 is.desc.1 is.desc.2))
@@ -123,7 +126,6 @@ module _ (c : ClassFile) (number : ℕ) (method : Member) (at : slice_get c.meth
   pub each_method : Answer c number
   each_method = by (zero_or_not (bit_and method.flags 0x0500)) (code_bodies c.pool method) refl
     where
-
       not_two : (bytes a b : List ℕ) (more : List (List ℕ)) → a ∷ (b ∷ more) ≡ bytes ∷ [] → ⊥
       not_two bytes a b more e = cc
 

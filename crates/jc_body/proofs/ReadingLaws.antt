@@ -63,7 +63,7 @@ module _ (major : ℕ) (pool : PoolValue) (method : Member) (number : ℕ) (code
   pub nothing_wrong : (found : Option Tables) (tables : Tables) → AreNowhere Front → found ≡ Some tables → Read found → (TooWide coded 0 → ⊥) → IsNowhere (HasSubroutine pool method) × AreNowhere (faults major pool method)
   nothing_wrong found tables before there read narrow =
       coded_without major pool method coded is
-          (nowhere_both Front Back before ((λ place o. o.fault tables (read_well found tables there read)), ((λ place o. narrow (record { at = refl; fault = o.fault })), tt)))
+      (nowhere_both Front Back before ((λ place o. o.fault tables (read_well found tables there read)), ((λ place o. narrow (record { at = refl; fault = o.fault })), tt)))
 
   pub tables_are : (found : Option Tables) (tables : Tables) → found ≡ Some tables → Read found → AreTables pool coded.items.attributes tables
   tables_are = read_well
