@@ -69,6 +69,12 @@ module _ (coded : Coded) (are : AreStarts (length coded.insns) (length coded.ite
       let there = subst (λ (l : List Insn). IsFirstItem Fact l number) xs_are here in
       subst (λ (l : List ℕ). IsLeast (InsnAt Fact coded) (get_or l number 0)) (sym starts_are) (insn_least number there)
 
+  pub found_inside : (xs : List Insn) (starts : List ℕ) (found : Option ℕ) (number : ℕ) → xs ≡ coded.insns → starts ≡ coded.starts → found ≡ Some number → FirstItem Fact xs found → number < length starts
+  found_inside xs starts found number xs_are starts_are is first =
+      let there = subst (λ (l : List Insn). IsFirstItem Fact l number) xs_are (subst (λ (o : Option ℕ). FirstItem Fact xs o) is first) in
+      let inside = slice_get_within coded.insns number there.item there.stands in
+      subst (λ (l : List ℕ). number < length l) (sym starts_are) (omega (arith, inside, are.one_more))
+
   pub none_found : (xs : List Insn) (found : Option ℕ) → xs ≡ coded.insns → found ≡ None → FirstItem Fact xs found → IsNowhere (InsnAt Fact coded)
   none_found xs found xs_are is first =
       insn_nowhere (subst (λ (l : List Insn). NoItem Fact l) xs_are (subst (λ (o : Option ℕ). FirstItem Fact xs o) is first))

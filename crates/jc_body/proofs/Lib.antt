@@ -13,3 +13,6 @@ pub mod DecideLaws
 pub mod EachMethodLaws
 pub mod NumberLaws
 pub mod WellMadeLaws
+pub mod SizeLaws
+pub mod ReadingLaws
+pub mod PartsLaws

@@ -1,5 +1,5 @@
 -- The entries of several tables, one table behind the other.
-use Rattle.std.proofs.Common.{◌≡◌, ◌<◌, ◌≤◌, ◌⊎◌, inl, inr, ⊎_elim, ℕ, ◌+◌, List, [], ◌∷◌, ◌++◌, length, drop, map, filter, get_or, Bor, All, codes, refl, sym, ◌∙◌, ap, subst, append_assoc}
+use Rattle.std.proofs.Common.{◌≡◌, ◌<◌, ◌≤◌, ◌⊎◌, inl, inr, ⊎_elim, ℕ, ◌+◌, List, [], ◌∷◌, ◌++◌, length, drop, map, filter, get_or, Bor, All, codes, refl, sym, ◌∙◌, ap, subst, append_assoc, arith}
 use Rattle.std.proofs.lemmas.List.{append-nil, drop_all, length-map}
 use Rattle.std.proofs.lemmas.List.Elements.{All-map, All-filter}
 use Rattle.std.proofs.Math.ListN.{get_or-map}
@@ -105,3 +105,6 @@ module _ (P : List ℕ → Type 0) (pool : PoolValue) (name : List ℕ) (attribu
   each_body bodies is k default within =
       let each = subst (All P) (sym is) each_named in
       subst P (get_or-map (λ body. body.now) bodies k default) (each k default.now (rw (length-map bodies (λ body. body.now)) within))
+
+  pub each_text : (text : List ℕ) → bodies_of pool name attributes ≡ text ∷ [] → P text
+  each_text text is = subst (All P) is each_named 0 text (omega arith)

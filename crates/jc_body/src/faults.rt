@@ -1,5 +1,5 @@
 //! The first fault of a method's code (JVM Specification 4.9).
-ghost use Rattle.std.specs.Prelude.{◌↔◌, ◌≤◌, length, map, IsTrue};
+ghost use Rattle.std.specs.Prelude.{◌↔◌, ◌≤◌, ◌++◌, length, map, IsTrue};
 ghost use Rattle.jc_base.specs.WellMade.{TakeSlots};
 ghost use Rattle.jc_base.specs.Descriptor.{IsMethodDescriptor};
 ghost use Rattle.jc_class.specs.ClassFormat.{HasMethodDescriptor};
@@ -37,7 +37,7 @@ pub fn slots_of_arguments(flags: u16, desc: &[u8]) -> u32
 }
 
 /// The offset of the first instruction with a fault.
-pub fn insn_fault(major: u16, pool: &Pool, coded: &Coded) -> Option<u32>
+fn insn_fault(major: u16, pool: &Pool, coded: &Coded) -> Option<u32>
     requires starts { AreStarts (length coded.now.insns) (length coded.now.items.code) coded.now.starts }
     requires few { length coded.now.insns ≤ 65535 }
     ensures { FirstFault (map (λ F. F coded.now) (insn_faults major pool.now)) result }
@@ -56,7 +56,7 @@ pub fn insn_fault(major: u16, pool: &Pool, coded: &Coded) -> Option<u32>
 
 /// Whether the arguments need more local variables than there are at 0, or the number of the first row of the
 /// exception table with a fault.
-pub fn row_fault(
+fn row_fault(
     pool: &Pool,
     method: &Member,
     coded: &Coded,
@@ -64,7 +64,7 @@ pub fn row_fault(
 ) -> Option<u32>
     requires desc { HasMethodDescriptor pool.now method.now.desc }
     requires offsets { Numbers coded.now offsets.now }
-    requires few { length coded.now.items.rows ≤ 65535 }
+    requires few { length coded.now.items.rows ≤ 67108864 }
     ensures { FirstFault (map (λ F. F coded.now) (row_faults pool.now method.now)) result }
 {
     let slots = slots_of_arguments(method.flags, text_at(pool, method.desc));
@@ -74,6 +74,27 @@ pub fn row_fault(
     match first_bad_row(pool, offsets, &coded.items.rows) {
         Some(row) => Some(row as u32),
         None => None,
+    }
+}
+
+/// The place of the first fault of the instructions, or else of the arguments and the exception table.
+pub fn first_fault(
+    major: u16,
+    pool: &Pool,
+    method: &Member,
+    coded: &Coded,
+    offsets: &Offsets<'_>,
+) -> Option<u32>
+    requires desc { HasMethodDescriptor pool.now method.now.desc }
+    requires starts { AreStarts (length coded.now.insns) (length coded.now.items.code) coded.now.starts }
+    requires offsets { Numbers coded.now offsets.now }
+    requires few { length coded.now.insns ≤ 65535 }
+    requires rows { length coded.now.items.rows ≤ 67108864 }
+    ensures { FirstFault (map (λ F. F coded.now) (insn_faults major pool.now ++ row_faults pool.now method.now)) result }
+{
+    match insn_fault(major, pool, coded) {
+        Some(place) => Some(place),
+        None => row_fault(pool, method, coded, offsets),
     }
 }
 

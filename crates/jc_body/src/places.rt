@@ -1,12 +1,15 @@
 //! Rows and entries by instruction numbers, in place of offsets.
-ghost use Rattle.std.specs.Prelude.{◌≡◌, ◌↔◌, map, slice_index_or, IfOk, IsTrue};
+ghost use Rattle.std.specs.Prelude.{◌≡◌, ◌↔◌, ◌<◌, ◌≤◌, ◌+◌, length, map, slice_index_or, IfOk, IsTrue, All};
 ghost use Rattle.jc_body.specs.First.{FirstItem};
 ghost use Rattle.jc_body.specs.Faults.{IsClassOrNone, IsRow};
-ghost use Rattle.jc_body.specs.Numbering.{numbering};
+ghost use Rattle.jc_insn.specs.Decoding.{AreStarts};
+ghost use Rattle.jc_body.specs.Numbering.{numbering, IsTable, Numbers};
 ghost use Rattle.jc_body.specs.BodyOf.{is_start, handler_of, var_of, keeps_var, lines_of, vars_of};
 
+use crate::coded::Coded;
 use crate::items::{LineEntry, Row, VarEntry};
 use jc_base::{Handler, LineAt, List, Memory, VarAt};
+use jc_insn::insn_numbers;
 use jc_pool::Pool;
 use std::alloc::Global;
 
@@ -20,6 +23,35 @@ pub struct Offsets<'a> {
     pub count: u32,
     /// The length of the code.
     pub size: u32,
+}
+
+/// The numbers of the instructions at the offsets of a method's code.
+pub fn numbers_of(alloc: Global, coded: &Coded) -> Result<Vec<u32>, Memory>
+    requires starts { AreStarts (length coded.now.insns) (length coded.now.items.code) coded.now.starts }
+    requires within { All (λ start. start < length coded.now.items.code + 1) coded.now.starts }
+    requires few { length coded.now.insns ≤ 65535 }
+    requires short { length coded.now.items.code ≤ 65535 }
+    ensures { IfOk result (λ numbers. IsTable coded.now numbers.items) }
+{
+    Ok(insn_numbers(
+        alloc,
+        &coded.starts,
+        coded.items.code.len() + 1,
+    )?)
+}
+
+/// The table of these numbers.
+pub fn offsets_of<'a>(numbers: &'a [u32], coded: &Coded) -> Offsets<'a>
+    requires table { IsTable coded.now numbers.now }
+    requires few { length coded.now.insns ≤ 65535 }
+    requires short { length coded.now.items.code ≤ 65535 }
+    ensures { Numbers coded.now result }
+{
+    Offsets {
+        numbers,
+        count: coded.insns.len() as u32,
+        size: coded.items.code.len() as u32,
+    }
 }
 
 /// The number of the instruction that begins at the offset.

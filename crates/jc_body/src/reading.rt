@@ -1,28 +1,27 @@
 //! Reading the body of a method.
-ghost use Rattle.std.specs.Prelude.{◌≡◌, ◌⊎◌, ◌<◌, ◌≤◌, Some, None, length, IfOk, IfErr, IfSome, MatchOption, MatchResult, All};
+ghost use Rattle.std.specs.Prelude.{◌≡◌, ◌⊎◌, ◌<◌, ◌≤◌, ◌++◌, Some, None, length, map, IfOk, IfErr, IfSome, MatchOption, MatchResult, All};
 ghost use Rattle.jc_base.specs.WellMade.{IsWellMade};
 ghost use Rattle.jc_base.specs.declared.body.Body.{Body as BodyValue};
 ghost use Rattle.jc_base.specs.declared.refusal.Refusal.{Refusal as Reason};
 ghost use Rattle.jc_class.specs.ClassFormat.{HasText, HasClass, HasMethodDescriptor};
 ghost use Rattle.jc_class.specs.Writable.{IsClassFile};
-ghost use Rattle.jc_body.specs.First.{IsNowhere};
-ghost use Rattle.jc_body.specs.Faults.{ArgumentsOutside};
-ghost use Rattle.jc_body.specs.Coded.{IsCoded};
+ghost use Rattle.jc_body.specs.First.{IsNowhere, AreNowhere};
+ghost use Rattle.jc_body.specs.Faults.{ArgumentsOutside, insn_faults, row_faults};
+ghost use Rattle.jc_body.specs.Coded.{HasNoCode, IsCoded};
 ghost use Rattle.jc_body.specs.Numbering.{Numbers};
 ghost use Rattle.jc_body.specs.Answers.{IsRefusal, Said};
 ghost use Rattle.jc_body.specs.BodyOf.{HasParts, IsBody, BodyOf, Bodiless, FaultOf};
 
 use crate::code::{bad_code, read_coded};
 use crate::coded::Coded;
-use crate::faults::{insn_fault, is_too_wide, row_fault, slots_of_arguments};
+use crate::faults::{first_fault, is_too_wide, slots_of_arguments};
 use crate::items::Tables;
-use crate::places::{Offsets, handlers_of, lines_of, vars_of};
+use crate::places::{Offsets, handlers_of, lines_of, numbers_of, offsets_of, vars_of};
 use crate::tables::read_tables;
 use crate::texts::{class_name_at, text_at};
 use crate::uses::read_uses;
 use jc_base::{Body, Bytes, Fail, List, Memory, Names, Refusal};
 use jc_class::{ClassFile, Member};
-use jc_insn::insn_numbers;
 use std::alloc::Global;
 
 /// The body that is made of what was read of a method, in which no fault was found.
@@ -64,6 +63,36 @@ fn assembled(
     })
 }
 
+/// The body of a method with this code, in whose instructions, arguments and exception table no fault was
+/// found.
+fn with_tables(
+    alloc: Global,
+    class: &ClassFile,
+    number: u16,
+    method: &Member,
+    coded: Coded,
+    offsets: &Offsets<'_>,
+) -> Result<Body, Fail<Refusal>>
+    requires class { HasClass class.now.pool class.now.this_class }
+    requires name { HasText class.now.pool method.now.name }
+    requires desc { HasMethodDescriptor class.now.pool method.now.desc }
+    requires coded { IsCoded class.now.pool method.now coded }
+    requires sizes { All (λ a. length a.body ≤ 67108864) coded.items.attributes }
+    requires few { length coded.insns ≤ 65535 }
+    requires offsets { Numbers coded offsets.now }
+    requires before { AreNowhere (map (λ F. F coded) (insn_faults class.now.major class.now.pool ++ row_faults class.now.pool method.now)) }
+    ensures body { IfOk result (IsBody class.now number method.now) }
+    ensures refused { IfErr result (λ e. Said e (IsRefusal class.now.major class.now.pool method.now number)) }
+{
+    let Some(tables) = read_tables(alloc, &class.pool, &coded.items.attributes)? else {
+        return Err(Fail::Said(bad_code(number, 0)));
+    };
+    if is_too_wide(&coded) {
+        return Err(Fail::Said(bad_code(number, 0)));
+    }
+    Ok(assembled(alloc, class, number, method, coded, offsets, &tables)?)
+}
+
 /// The body of a method with this code.
 fn body_of(
     alloc: Global,
@@ -75,30 +104,37 @@ fn body_of(
     requires class { HasClass class.now.pool class.now.this_class }
     requires name { HasText class.now.pool method.now.name }
     requires desc { HasMethodDescriptor class.now.pool method.now.desc }
+    requires sizes { All (λ a. length a.body ≤ 67108864) method.now.attributes }
     requires coded { IsCoded class.now.pool method.now coded }
     ensures body { IfOk result (IsBody class.now number method.now) }
     ensures refused { IfErr result (λ e. Said e (IsRefusal class.now.major class.now.pool method.now number)) }
 {
-    let pool = &class.pool;
-    let numbers = insn_numbers(alloc, &coded.starts, coded.items.code.len() + 1)?;
-    let offsets = Offsets {
-        numbers: &numbers,
-        count: coded.insns.len() as u32,
-        size: coded.items.code.len() as u32,
-    };
-    if let Some(place) = insn_fault(class.major, pool, &coded) {
-        return Err(Fail::Said(bad_code(number, place)));
+    let numbers = numbers_of(alloc, &coded)?;
+    let offsets = offsets_of(&numbers, &coded);
+    match first_fault(class.major, &class.pool, method, &coded, &offsets) {
+        Some(place) => Err(Fail::Said(bad_code(number, place))),
+        None => with_tables(alloc, class, number, method, coded, &offsets),
     }
-    if let Some(place) = row_fault(pool, method, &coded, &offsets) {
-        return Err(Fail::Said(bad_code(number, place)));
+}
+
+/// What a method has: no code, a body or a refusal.
+fn answer(
+    alloc: Global,
+    class: &ClassFile,
+    number: u16,
+    method: &Member,
+) -> Result<Option<Body>, Fail<Refusal>>
+    requires class { HasClass class.now.pool class.now.this_class }
+    requires name { HasText class.now.pool method.now.name }
+    requires desc { HasMethodDescriptor class.now.pool method.now.desc }
+    requires sizes { All (λ a. length a.body ≤ 67108864) method.now.attributes }
+    ensures answer { IfOk result (λ found. MatchOption found (HasNoCode class.now.pool method.now) (IsBody class.now number method.now)) }
+    ensures refused { IfErr result (λ e. Said e (IsRefusal class.now.major class.now.pool method.now number)) }
+{
+    match read_coded(alloc, &class.pool, number, method)? {
+        None => Ok(None),
+        Some(coded) => Ok(Some(body_of(alloc, class, number, method, coded)?)),
     }
-    let Some(tables) = read_tables(alloc, pool, &coded.items.attributes)? else {
-        return Err(Fail::Said(bad_code(number, 0)));
-    };
-    if is_too_wide(&coded) {
-        return Err(Fail::Said(bad_code(number, 0)));
-    }
-    Ok(assembled(alloc, class, number, method, coded, &offsets, &tables)?)
 }
 
 /// The body of a method by its number in the class file, from 0 (JVM Specification 4.7.3): its
@@ -153,10 +189,5 @@ pub fn read_body(
     ensures names { names.new ≡ names.old }
 {
     let _ = names;
-    let member = &class.methods[method as usize];
-    let number = method as u16;
-    match read_coded(alloc, &class.pool, number, member)? {
-        None => Ok(None),
-        Some(coded) => Ok(Some(body_of(alloc, class, number, member, coded)?)),
-    }
+    answer(alloc, class, method as u16, &class.methods[method as usize])
 }

@@ -1,0 +1,45 @@
+use Rattle.std.proofs.Common.{◌≡◌, ℕ, ◌≤◌, List, ◌∷◌, [], length, Some, codes, rules, sym, subst, arith, All}
+use Rattle.jc_pool.specs.Pool.{PoolValue}
+use Rattle.jc_class.specs.declared.class_file.Attribute.{Attribute}
+use Rattle.jc_class.specs.declared.class_file.Member.{Member}
+use Rattle.jc_body.specs.declared.coded.Coded.{Coded}
+use Rattle.jc_body.specs.Coded.{IsCoded}
+use Rattle.jc_body.proofs.ReadingLaws.{front_refusal}
+use Rattle.jc_body.proofs.SizeLaws.{AreShort, items_short, starts_of, insns_short, code_short, starts_within}
+use Rattle.jc_body.proofs.TablesLaws.{each_text}
+use Rattle.jc_body.proofs.reading.body_of.Goals as goal
+
+-- what the Code attribute holds is as short as the attribute
+short : (pool : PoolValue) (method : Member) (coded : Coded) → All (λ a. length a.body ≤ 67108864) method.attributes → IsCoded pool method coded → AreShort pool 67108864 coded.items
+short pool method coded sizes is = items_short pool 67108864 is.items.bytes coded.items (each_text (λ body. length body ≤ 67108864) pool (codes "Code") method.attributes sizes is.items.bytes is.items.code.single) is.items.text.text
+
+pub numbers_of-requires-clause-starts : goal.numbers_of-requires-clause-starts
+numbers_of-requires-clause-starts c = starts_of c.args.class.now.pool c.args.method.now c.args.coded c.requires.coded
+
+pub numbers_of-requires-clause-within : goal.numbers_of-requires-clause-within
+numbers_of-requires-clause-within c = starts_within c.args.class.now.pool c.args.method.now c.args.coded c.requires.coded
+
+pub numbers_of-requires-clause-few : goal.numbers_of-requires-clause-few
+numbers_of-requires-clause-few c = insns_short c.args.class.now.pool c.args.method.now c.args.coded c.requires.coded
+
+pub offsets_of-offsets-requires-clause-few : goal.offsets_of-offsets-requires-clause-few
+offsets_of-offsets-requires-clause-few c = insns_short c.args.class.now.pool c.args.method.now c.args.coded c.requires.coded
+
+pub first_fault-requires-clause-starts : goal.first_fault-requires-clause-starts
+first_fault-requires-clause-starts c = starts_of c.args.class.now.pool c.args.method.now c.args.coded c.requires.coded
+
+pub first_fault-requires-clause-few : goal.first_fault-requires-clause-few
+first_fault-requires-clause-few c = insns_short c.args.class.now.pool c.args.method.now c.args.coded c.requires.coded
+
+pub first_fault-requires-clause-rows : goal.first_fault-requires-clause-rows
+first_fault-requires-clause-rows c = (short c.args.class.now.pool c.args.method.now c.args.coded c.requires.sizes c.requires.coded).rows
+
+pub with_tables-requires-clause-sizes : goal.with_tables-requires-clause-sizes
+with_tables-requires-clause-sizes c = (short c.args.class.now.pool c.args.method.now c.args.coded c.requires.sizes c.requires.coded).attributes
+
+pub with_tables-requires-clause-few : goal.with_tables-requires-clause-few
+with_tables-requires-clause-few c = insns_short c.args.class.now.pool c.args.method.now c.args.coded c.requires.coded
+
+pub returns-in-Some-clause-refused : goal.returns-in-Some-clause-refused
+returns-in-Some-clause-refused c =
+    front_refusal c.args.class.now.major c.args.class.now.pool c.args.method.now c.args.number c.args.coded c.requires.coded c.bad_code.result c.first_fault.result c.in-Some.place (search rules) c.bad_code.ensures c.first_fault.ensures
