@@ -1,17 +1,16 @@
 -- The local variables that the arguments of a method take.
-use Rattle.std.proofs.Common.{◌≡◌, ◌≢◌, ◌⊎◌, inl, inr, ℕ, ◌+◌, ◌<◌, ◌≤◌, List, [], ◌∷◌, Option, Some, None, refl, sym, ◌∙◌, ap, subst, arith}
+use Rattle.std.proofs.Common.{◌≡◌, ◌⊎◌, inl, inr, ℕ, ◌+◌, ◌<◌, ◌≤◌, List, Some, refl, sym, ◌∙◌, ap, subst, arith}
 use Rattle.std.specs.Int.Bits.{bit_and}
-use Rattle.std.proofs.lemmas.Bool.{cases_lt, cases_order}
+use Rattle.std.proofs.lemmas.Bool.{cases_lt}
 use Rattle.jc_base.specs.Descriptor.{MethodType, DescribesMethod, IsMethodDescriptor, parameter_slots}
 use Rattle.jc_base.specs.WellMade.{IsStatic, TakeSlots}
 use Rattle.jc_base.proofs.DescriptorLaws.{one_method}
 use Rattle.jc_pool.specs.Lookup.{utf8_of}
 use Rattle.jc_pool.specs.Pool.{PoolValue}
-use Rattle.jc_class.specs.ClassFormat.{HasMethodDescriptor}
 use Rattle.jc_class.specs.declared.class_file.Member.{Member}
 use Rattle.jc_body.specs.declared.coded.Coded.{Coded}
 use Rattle.jc_body.specs.Faults.{ArgumentsOutside}
-use Rattle.jc_body.specs.First.{Fault, IsNowhere, IsLeast}
+use Rattle.jc_body.specs.First.{IsNowhere, IsLeast}
 use Rattle.jc_body.proofs.OrderLaws.{IsDecided, at_zero}
 
 -- a number is 0 or isn't

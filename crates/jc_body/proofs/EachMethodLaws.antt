@@ -1,13 +1,11 @@
 -- Each method of a class file has an answer.
-use Rattle.std.proofs.Common.{◌≡◌, ◌≢◌, ◌⊎◌, inl, inr, ℕ, zero, suc, ◌<◌, List, [], ◌∷◌, ◌++◌, length, map, Option, Some, None, slice_get, refl, sym, ◌∙◌, subst, arith}
+use Rattle.std.proofs.Common.{◌≡◌, ◌⊎◌, inl, inr, ℕ, zero, suc, ◌<◌, List, [], ◌∷◌, ◌++◌, length, map, Some, slice_get, refl, sym, ◌∙◌, arith}
 use Rattle.std.specs.List.{AllByRecursion}
 use Rattle.std.specs.Int.Bits.{bit_and}
 use Rattle.jc_base.specs.declared.body.Body.{Body}
 use Rattle.jc_base.specs.declared.refusal.Refusal.{Refusal}
 use Rattle.jc_base.specs.declared.refusal.RefusalKind.{RefusalKind}
 use Rattle.jc_base.specs.declared.refusal.RefusalKind.TheVariants as kinds
-use Rattle.jc_base.specs.Descriptor.{IsMethodDescriptor}
-use Rattle.jc_pool.specs.Lookup.{utf8_of}
 use Rattle.jc_class.specs.ClassFormat.{HasText, HasClass, HasMethodDescriptor}
 use Rattle.jc_class.specs.Writable.{IsClassFile, IsMember}
 use Rattle.jc_class.specs.declared.class_file.ClassFile.{ClassFile}
@@ -20,8 +18,8 @@ use Rattle.jc_body.specs.declared.items.CodeItems.{CodeItems}
 use Rattle.jc_body.specs.declared.items.Tables.{Tables}
 use Rattle.jc_body.specs.Attributes.{AreTables}
 use Rattle.jc_body.specs.CodeForm.{IsCodeText}
-use Rattle.jc_body.specs.Coded.{IsBodiless, HasNoCode, HasCode, HasItems, IsCoded, code_bodies}
-use Rattle.jc_body.specs.Faults.{NoSingleCode, HasSubroutine, MalformedTable, faults, insn_faults, row_faults, table_faults}
+use Rattle.jc_body.specs.Coded.{HasCode, HasItems, IsCoded, code_bodies}
+use Rattle.jc_body.specs.Faults.{NoSingleCode, HasSubroutine, faults, insn_faults, row_faults, table_faults}
 use Rattle.jc_body.specs.First.{IsNowhere, IsFirst, AreNowhere}
 use Rattle.jc_body.specs.BodyOf.{BodyOf, Bodiless, IsReason, FaultOf, handler_of, lines_of, vars_of, uses_of, first_seen, places_used}
 use Rattle.jc_body.proofs.OrderLaws.{each_decided}

@@ -1,4 +1,4 @@
-use Rattle.std.proofs.Common.{◌≡◌, ◌⊎◌, inl, inr, ℕ, ◌<◌, ◌*◌, List, length, Option, Some, None, Fits, w64, rules, refl, subst, arith}
+use Rattle.std.proofs.Common.{◌≡◌, inl, inr, List, length, rules, refl, subst, arith}
 use Rattle.jc_base.specs.declared.insn.Insn.{Insn}
 use Rattle.jc_base.specs.InsnUse.{LocalsWithin}
 use Rattle.jc_body.specs.First.{FirstItem}

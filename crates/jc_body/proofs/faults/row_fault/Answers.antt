@@ -1,4 +1,4 @@
-use Rattle.std.proofs.Common.{◌≡◌, ◌⊎◌, inl, inr, ℕ, ◌<◌, ◌≤◌, List, length, Option, Some, None, rules, refl, subst, arith}
+use Rattle.std.proofs.Common.{inl, inr, rules}
 use Rattle.jc_body.proofs.ArgumentLaws.{outside_nowhere}
 use Rattle.jc_body.proofs.FaultLaws.{row_found, row_first, row_none}
 use Rattle.jc_body.proofs.faults.row_fault.Goals as goal
