@@ -58,7 +58,7 @@ fn run<'a, F: Files, O: Sink>(
 /// The words are `merge --destfile OUT IN` or `classinfo FILE..`. A command first reads its inputs, then refuses what
 /// is wrong with them, and then writes. The first failure ends it and decides the status; its
 /// message goes to `err`, and a failure of that last message changes nothing. Want of memory
-/// prints nothing.
+/// prints no message.
 pub fn run_tool<F: Files, O: Sink, E: Sink>(
     alloc: Global,
     words: &[String],
