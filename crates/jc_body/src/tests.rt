@@ -359,7 +359,7 @@ fn whole_bodies(rt: HostRuntime) -> Result<(), Failed> {
     let body = read(alloc, &bytes, 1)?.ok_or("no body")?;
     assert_eq!(rt; format!(in alloc; "{body:?}")?.as_str(), WHOLE.want);
     for printed in PRINTED.iter() {
-        let body = read(alloc, &TALE, printed.method)?.ok_or("no body")?;
+        let body = read(alloc, TALE, printed.method)?.ok_or("no body")?;
         let code = body.code.as_slice();
         let rows = body.handlers.as_slice();
         let lines = body.lines.as_slice();
