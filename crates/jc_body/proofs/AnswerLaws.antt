@@ -1,5 +1,5 @@
 -- A method has one answer: no code, a body, or a reason for which it has none.
-use Rattle.std.proofs.Common.{◌≡◌, ◌⊎◌, inl, inr, ℕ, ◌<◌, List, [], ◌∷◌, ◌++◌, map, Option, Some, None, slice_get, refl, sym, ◌∙◌, ap, subst}
+use Rattle.std.proofs.Common.{◌≡◌, ℕ, List, [], ◌∷◌, ◌++◌, map, Some, refl, sym, ◌∙◌, subst}
 use Rattle.jc_base.specs.declared.body.Body.{Body}
 use Rattle.jc_base.specs.declared.refusal.Refusal.{Refusal}
 use Rattle.jc_base.specs.declared.refusal.RefusalKind.{RefusalKind}
@@ -10,9 +10,9 @@ use Rattle.jc_class.specs.declared.class_file.ClassFile.{ClassFile}
 use Rattle.jc_class.specs.declared.class_file.Member.{Member}
 use Rattle.jc_body.specs.declared.coded.Coded.{Coded}
 use Rattle.jc_body.specs.declared.items.Tables.{Tables}
-use Rattle.jc_body.specs.Coded.{HasNoCode, IsCoded}
+use Rattle.jc_body.specs.Coded.{HasNoCode}
 use Rattle.jc_body.specs.Attributes.{AreTables}
-use Rattle.jc_body.specs.Faults.{HasSubroutine, MalformedInsn, OfCode, faults, insn_faults, row_faults, table_faults}
+use Rattle.jc_body.specs.Faults.{HasSubroutine, OfCode, faults, insn_faults, row_faults, table_faults}
 use Rattle.jc_body.specs.First.{Fault, IsNowhere, IsLeast, IsFirst, AreNowhere}
 use Rattle.jc_body.specs.BodyOf.{HasParts, IsBody, BodyOf, Bodiless, IsReason, FaultOf}
 use Rattle.jc_body.proofs.OrderLaws.{least_once, first_once, first_or_nowhere}

@@ -1,17 +1,16 @@
 -- The local variables that the arguments of a method take.
-use Rattle.std.proofs.Common.{◌≡◌, ◌≢◌, ◌⊎◌, inl, inr, ℕ, ◌+◌, ◌<◌, ◌≤◌, List, [], ◌∷◌, Option, Some, None, refl, sym, ◌∙◌, ap, subst, arith}
+use Rattle.std.proofs.Common.{◌≡◌, ◌⊎◌, inl, inr, ℕ, ◌+◌, ◌<◌, ◌≤◌, List, Some, refl, sym, ◌∙◌, ap, subst, arith}
 use Rattle.std.specs.Int.Bits.{bit_and}
-use Rattle.std.proofs.lemmas.Bool.{cases_lt, cases_order}
+use Rattle.std.proofs.lemmas.Bool.{cases_lt}
 use Rattle.jc_base.specs.Descriptor.{MethodType, DescribesMethod, IsMethodDescriptor, parameter_slots}
 use Rattle.jc_base.specs.WellMade.{IsStatic, TakeSlots}
 use Rattle.jc_base.proofs.DescriptorLaws.{one_method}
 use Rattle.jc_pool.specs.Lookup.{utf8_of}
 use Rattle.jc_pool.specs.Pool.{PoolValue}
-use Rattle.jc_class.specs.ClassFormat.{HasMethodDescriptor}
 use Rattle.jc_class.specs.declared.class_file.Member.{Member}
 use Rattle.jc_body.specs.declared.coded.Coded.{Coded}
 use Rattle.jc_body.specs.Faults.{ArgumentsOutside}
-use Rattle.jc_body.specs.First.{Fault, IsNowhere, IsLeast}
+use Rattle.jc_body.specs.First.{IsNowhere, IsLeast}
 use Rattle.jc_body.proofs.OrderLaws.{IsDecided, at_zero}
 
 -- a number is 0 or isn't
@@ -35,6 +34,7 @@ one_take flags desc a b p q = by (static_or_not flags)
   where
     same : parameter_slots p.type ≡ parameter_slots q.type
     same = ap parameter_slots (one_method desc p.type q.type p.described q.described)
+
     by : IsStatic flags ⊎ (IsStatic flags → ⊥) → a ≡ b
     by (inl is) = p.static_slots is ∙ same ∙ sym (q.static_slots is)
     by (inr not) = p.other_slots not ∙ ap (λ (n : ℕ). 1 + n) same ∙ sym (q.other_slots not)

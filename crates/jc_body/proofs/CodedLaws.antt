@@ -1,10 +1,9 @@
 -- A method has one code, and what stands in the way of it.
-use Rattle.std.proofs.Common.{◌≡◌, ◌⊎◌, inl, inr, ℕ, ◌<◌, List, [], ◌∷◌, None, map, refl, sym, ◌∙◌, ap, subst}
-use Rattle.jc_base.specs.declared.refusal.Refusal.{Refusal}
+use Rattle.std.proofs.Common.{◌≡◌, ◌⊎◌, inl, inr, ℕ, List, [], ◌∷◌, map, sym, ◌∙◌, subst}
 use Rattle.jc_base.specs.declared.refusal.RefusalKind.{RefusalKind}
 use Rattle.jc_pool.specs.Pool.{PoolValue}
 use Rattle.jc_class.specs.declared.class_file.Member.{Member}
-use Rattle.jc_insn.specs.Spells.{Spells, IsRefused}
+use Rattle.jc_insn.specs.Spells.{Spells}
 use Rattle.jc_insn.proofs.CodeLaws.{one_list, never_both}
 use Rattle.jc_body.specs.declared.items.CodeItems.{CodeItems}
 use Rattle.jc_body.specs.declared.coded.Coded.{Coded}

@@ -1,44 +1,34 @@
 -- Each method has an answer.
-use Rattle.std.proofs.Common.{◌≡◌, ◌≢◌, ◌⊎◌, inl, inr, ℕ, zero, suc, ◌+◌, ◌*◌, ◌<◌, ◌≤◌, List, [], ◌∷◌, ◌++◌, length, map, Option, Some, None, slice_get, refl, sym, ◌∙◌, ap, subst, arith}
-use Rattle.std.specs.List.{AllByRecursion}
-use Rattle.std.specs.Int.Bits.{bit_and}
+use Rattle.std.proofs.Common.{◌≡◌, ◌⊎◌, inl, inr, ℕ, ◌+◌, ◌*◌, ◌<◌, ◌≤◌, List, [], ◌∷◌, ◌++◌, length, map, Some, refl, sym, subst, arith}
 use Rattle.std.proofs.lemmas.Bool.{cases_lt}
-use Rattle.jc_base.specs.declared.body.Body.{Body}
 use Rattle.jc_base.specs.declared.insn.Insn.{Insn}
 use Rattle.jc_base.specs.declared.refusal.Refusal.{Refusal}
 use Rattle.jc_base.specs.declared.refusal.RefusalKind.{RefusalKind}
 use Rattle.jc_base.specs.declared.refusal.RefusalKind.TheVariants as kinds
 use Rattle.jc_base.specs.Descriptor.{IsMethodDescriptor}
 use Rattle.jc_base.specs.InsnUse.{LocalsWithin}
-use Rattle.jc_base.specs.WellMade.{TakeSlots}
-use Rattle.jc_pool.specs.Lookup.{utf8_of, class_name_of}
+use Rattle.jc_pool.specs.Lookup.{utf8_of}
 use Rattle.jc_pool.specs.Pool.{PoolValue}
-use Rattle.jc_class.specs.ClassFormat.{HasText, HasClass, HasMethodDescriptor}
-use Rattle.jc_class.specs.Writable.{IsClassFile, IsMember}
-use Rattle.jc_class.specs.declared.class_file.ClassFile.{ClassFile}
 use Rattle.jc_class.specs.declared.class_file.Member.{Member}
 use Rattle.jc_insn.specs.Decoding.{AreStarts}
-use Rattle.jc_insn.specs.Spells.{Spells, IsRefused, IsFault, FaultBehind, insn_number}
-use Rattle.jc_insn.proofs.AmongLaws.{are_starts}
+use Rattle.jc_insn.specs.Spells.{IsRefused, IsFault, FaultBehind, insn_number}
 use Rattle.jc_insn.proofs.CodeLaws.{same_fault}
 use Rattle.jc_body.specs.declared.coded.Coded.{Coded}
 use Rattle.jc_body.specs.declared.items.CodeItems.{CodeItems}
 use Rattle.jc_body.specs.declared.items.Tables.{Tables}
 use Rattle.jc_body.specs.Attributes.{AreTables}
-use Rattle.jc_body.specs.CodeForm.{IsCodeText}
-use Rattle.jc_body.specs.Coded.{IsBodiless, HasNoCode, HasCode, HasItems, IsCoded, code_bodies}
+use Rattle.jc_body.specs.Coded.{HasCode, HasItems, IsCoded}
 use Rattle.jc_body.specs.Faults.{NoSingleCode, MalformedCode, IsStopped, HasSubroutine, InsnAt, IsAstray, IsRow, MalformedTable, TooWide, OfCode, faults, insn_faults, row_faults, table_faults}
-use Rattle.jc_body.specs.First.{Fault, IsNowhere, IsLeast, IsFirst, AreNowhere}
+use Rattle.jc_body.specs.First.{IsNowhere, IsLeast, IsFirst, AreNowhere}
 use Rattle.jc_body.specs.Standing.{HasRightEntry}
-use Rattle.jc_body.specs.BodyOf.{HasParts, IsBody, BodyOf, Bodiless, IsReason, FaultOf, handler_of, lines_of, vars_of, uses_of, first_seen, places_used}
-use Rattle.jc_body.proofs.OrderLaws.{IsDecided, AreDecided, each_decided, at_zero}
+use Rattle.jc_body.specs.BodyOf.{IsReason}
+use Rattle.jc_body.proofs.OrderLaws.{IsDecided, AreDecided, at_zero}
 use Rattle.jc_body.proofs.CodedLaws.{one_items, is_single, is_of_form, goes_on, first_of_code, nowheres_of_code}
 use Rattle.jc_body.proofs.FaultLaws.{insn_decided, row_decided, IsBad}
-use Rattle.jc_body.proofs.ArgumentLaws.{zero_or_not, each_take, outside_decided}
+use Rattle.jc_body.proofs.ArgumentLaws.{each_take, outside_decided}
 use Rattle.jc_body.proofs.FirstLaws.{first_or_none}
 use Rattle.jc_body.proofs.StandingLaws.{right_entry_or_not, locals_or_not, astray_or_not}
 use Rattle.jc_body.proofs.PlacesLaws.{row_or_not}
-use Rattle.jc_body.proofs.FormLaws.{code_text_or_none}
 use Rattle.jc_body.proofs.TablesLaws.{tables_or_none}
 
 not_or : {P : Type 0} → P ⊎ (P → ⊥) → (P → ⊥) ⊎ ((P → ⊥) → ⊥)
@@ -66,15 +56,28 @@ module _ (major : ℕ) (pool : PoolValue) (method : Member) (coded : Coded) (are
   by_size (inr few) = inr (λ place o. omega (arith, few, o.fault))
 
   pub all_decided : AreDecided (map (λ F. F coded) (insn_faults major pool ++ (row_faults pool method ++ table_faults pool)))
-  all_decided =
-      (by_insn (λ number insn. HasRightEntry major pool insn → ⊥) (λ number insn. not_or (right_entry_or_not major pool insn)),
-      (by_insn (IsAstray (length coded.insns)) (λ number insn. astray_or_not (length coded.insns) number insn),
-      (by_insn (λ number insn. LocalsWithin coded.items.max_locals insn → ⊥) (λ number insn. not_or (locals_or_not coded.items.max_locals insn)),
-      (by_arguments,
-      (by_row,
-      (by_tables (tables_or_none pool coded.items.attributes),
-      (by_size (cases_lt 33554432 (length coded.insns * (coded.items.max_locals + coded.items.max_stack))),
-      tt)))))))
+  all_decided = (
+    by_insn (λ number insn. HasRightEntry major pool insn → ⊥) (λ number insn. not_or (right_entry_or_not major pool insn)),
+    (
+      by_insn (IsAstray (length coded.insns)) (λ number insn. astray_or_not (length coded.insns) number insn),
+      (
+        by_insn (λ number insn. LocalsWithin coded.items.max_locals insn → ⊥) (λ number insn. not_or (locals_or_not coded.items.max_locals insn)),
+        (
+          by_arguments,
+          (
+            by_row,
+            (
+              by_tables (tables_or_none pool coded.items.attributes),
+              (
+                by_size (cases_lt 33554432 (length coded.insns * (coded.items.max_locals + coded.items.max_stack))),
+                tt,
+              ),
+            ),
+          ),
+        ),
+      ),
+    ),
+  )
 
 -- ---- code that stops being instructions
 
@@ -104,7 +107,7 @@ module _ (major : ℕ) (pool : PoolValue) (method : Member) (items : CodeItems) 
       let bad = subst (λ (k : RefusalKind). IsStopped k pool method place) is stop in
       let none : IsNowhere (HasSubroutine pool method) = λ other there. not_both (same_stop kinds.Subroutine kinds.BadCode other place there bad).0 in
       subst (λ (k : RefusalKind). IsReason major pool method k place) (sym is)
-          (none, inr (is_single pool method has.bytes has.code, inr (is_of_form pool method items has, inl (least_stop kinds.BadCode place bad))))
+      (none, inr (is_single pool method has.bytes has.code, inr (is_of_form pool method items has, inl (least_stop kinds.BadCode place bad))))
     where
       not_both : (let k : RefusalKind = kinds.Subroutine in k) ≡ kinds.BadCode → ⊥
       not_both e = cc
@@ -125,13 +128,31 @@ module _ (major : ℕ) (pool : PoolValue) (method : Member) where
       ((λ place s. is_of_form pool method s.items s.has 0 fault), inr (is_single pool method bytes code, inl (at_zero (MalformedCode pool method) fault)))
 
   pub coded_reason : (coded : Coded) → IsCoded pool method coded → (place : ℕ) → IsFirst (map (λ F. F coded) (insn_faults major pool ++ (row_faults pool method ++ table_faults pool))) place → IsReason major pool method kinds.BadCode place
-  coded_reason coded is place first =
-      (goes_on pool method coded is kinds.Subroutine,
-      inr (is_single pool method is.items.bytes is.items.code, inr (is_of_form pool method coded.items is.items, inr (goes_on pool method coded is kinds.BadCode,
-          first_of_code pool method coded is (insn_faults major pool ++ (row_faults pool method ++ table_faults pool)) place first))))
+  coded_reason coded is place first = (
+    goes_on pool method coded is kinds.Subroutine,
+    inr (
+      is_single pool method is.items.bytes is.items.code,
+      inr (
+        is_of_form pool method coded.items is.items,
+        inr (
+          goes_on pool method coded is kinds.BadCode,
+          first_of_code pool method coded is (insn_faults major pool ++ (row_faults pool method ++ table_faults pool)) place first,
+        ),
+      ),
+    ),
+  )
 
   pub coded_without : (coded : Coded) → IsCoded pool method coded → AreNowhere (map (λ F. F coded) (insn_faults major pool ++ (row_faults pool method ++ table_faults pool))) → IsNowhere (HasSubroutine pool method) × AreNowhere (faults major pool method)
-  coded_without coded is none =
-      (goes_on pool method coded is kinds.Subroutine,
-      (is_single pool method is.items.bytes is.items.code, (is_of_form pool method coded.items is.items, (goes_on pool method coded is kinds.BadCode,
-          nowheres_of_code pool method coded is (insn_faults major pool ++ (row_faults pool method ++ table_faults pool)) none))))
+  coded_without coded is none = (
+    goes_on pool method coded is kinds.Subroutine,
+    (
+      is_single pool method is.items.bytes is.items.code,
+      (
+        is_of_form pool method coded.items is.items,
+        (
+          goes_on pool method coded is kinds.BadCode,
+          nowheres_of_code pool method coded is (insn_faults major pool ++ (row_faults pool method ++ table_faults pool)) none,
+        ),
+      ),
+    ),
+  )

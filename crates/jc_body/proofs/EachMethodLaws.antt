@@ -1,13 +1,11 @@
 -- Each method of a class file has an answer.
-use Rattle.std.proofs.Common.{◌≡◌, ◌≢◌, ◌⊎◌, inl, inr, ℕ, zero, suc, ◌<◌, List, [], ◌∷◌, ◌++◌, length, map, Option, Some, None, slice_get, refl, sym, ◌∙◌, subst, arith}
+use Rattle.std.proofs.Common.{◌≡◌, ◌⊎◌, inl, inr, ℕ, zero, suc, ◌<◌, List, [], ◌∷◌, ◌++◌, length, map, Some, slice_get, refl, sym, ◌∙◌, arith}
 use Rattle.std.specs.List.{AllByRecursion}
 use Rattle.std.specs.Int.Bits.{bit_and}
 use Rattle.jc_base.specs.declared.body.Body.{Body}
 use Rattle.jc_base.specs.declared.refusal.Refusal.{Refusal}
 use Rattle.jc_base.specs.declared.refusal.RefusalKind.{RefusalKind}
 use Rattle.jc_base.specs.declared.refusal.RefusalKind.TheVariants as kinds
-use Rattle.jc_base.specs.Descriptor.{IsMethodDescriptor}
-use Rattle.jc_pool.specs.Lookup.{utf8_of}
 use Rattle.jc_class.specs.ClassFormat.{HasText, HasClass, HasMethodDescriptor}
 use Rattle.jc_class.specs.Writable.{IsClassFile, IsMember}
 use Rattle.jc_class.specs.declared.class_file.ClassFile.{ClassFile}
@@ -20,8 +18,8 @@ use Rattle.jc_body.specs.declared.items.CodeItems.{CodeItems}
 use Rattle.jc_body.specs.declared.items.Tables.{Tables}
 use Rattle.jc_body.specs.Attributes.{AreTables}
 use Rattle.jc_body.specs.CodeForm.{IsCodeText}
-use Rattle.jc_body.specs.Coded.{IsBodiless, HasNoCode, HasCode, HasItems, IsCoded, code_bodies}
-use Rattle.jc_body.specs.Faults.{NoSingleCode, HasSubroutine, MalformedTable, faults, insn_faults, row_faults, table_faults}
+use Rattle.jc_body.specs.Coded.{HasCode, HasItems, IsCoded, code_bodies}
+use Rattle.jc_body.specs.Faults.{NoSingleCode, HasSubroutine, faults, insn_faults, row_faults, table_faults}
 use Rattle.jc_body.specs.First.{IsNowhere, IsFirst, AreNowhere}
 use Rattle.jc_body.specs.BodyOf.{BodyOf, Bodiless, IsReason, FaultOf, handler_of, lines_of, vars_of, uses_of, first_seen, places_used}
 use Rattle.jc_body.proofs.OrderLaws.{each_decided}
@@ -62,35 +60,38 @@ module _ (c : ClassFile) (number : ℕ) (method : Member) (at : slice_get c.meth
         frames = [];
         uses = uses_of c.pool (first_seen (places_used coded.insns coded.items.rows));
       } in
-      inr (inl (body, record {
-        method = method;
-        at = at;
-        is = record {
-          coded = coded;
-          is = is_coded;
-          no_subroutine = no_subroutine;
-          no_fault = no_fault;
-          tables = tables;
-          are_tables = are_tables;
-          parts = record {
-            number_is = refl;
-            owner = owner.1;
-            name = is.name.1;
-            desc = is.desc.1;
-            flags = refl;
-            arg_slots = slots.1;
-            max_stack = refl;
-            max_locals = refl;
-            code = refl;
-            handlers = refl;
-            lines = refl;
-            vars = refl;
-            kind_vars = refl;
-            frames = refl;
-            uses = refl;
+      inr (inl (
+        body,
+        record {
+          method = method;
+          at = at;
+          is = record {
+            coded = coded;
+            is = is_coded;
+            no_subroutine = no_subroutine;
+            no_fault = no_fault;
+            tables = tables;
+            are_tables = are_tables;
+            parts = record {
+              number_is = refl;
+              owner = owner.1;
+              name = is.name.1;
+              desc = is.desc.1;
+              flags = refl;
+              arg_slots = slots.1;
+              max_stack = refl;
+              max_locals = refl;
+              code = refl;
+              handlers = refl;
+              lines = refl;
+              vars = refl;
+              kind_vars = refl;
+              frames = refl;
+              uses = refl;
+            };
           };
-        };
-      }))
+        },
+      ))
 
   with_code : (coded : Coded) → IsCoded c.pool method coded → Answer c number
   with_code coded is_coded = by (each_decided (map (λ F. F coded) (insn_faults c.major c.pool ++ (row_faults c.pool method ++ table_faults c.pool))) (all_decided c.major c.pool method coded (are_starts coded.items.code coded.insns coded.starts is_coded.spelled) is.desc.0 is.desc.1 is.desc.2))
@@ -123,7 +124,6 @@ module _ (c : ClassFile) (number : ℕ) (method : Member) (at : slice_get c.meth
   pub each_method : Answer c number
   each_method = by (zero_or_not (bit_and method.flags 0x0500)) (code_bodies c.pool method) refl
     where
-
       not_two : (bytes a b : List ℕ) (more : List (List ℕ)) → a ∷ (b ∷ more) ≡ bytes ∷ [] → ⊥
       not_two bytes a b more e = cc
 

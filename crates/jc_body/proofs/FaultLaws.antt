@@ -1,21 +1,18 @@
 -- The least place of each fault, and that it can be decided whether there is one.
-use Rattle.std.proofs.Common.{◌≡◌, ◌≢◌, ◌⊎◌, inl, inr, ℕ, zero, suc, ◌+◌, ◌-◌, ◌*◌, ◌<◌, ◌≤◌, List, [], ◌∷◌, length, Option, Some, None, slice_get, slice_index_or, slice_index, get_or, refl, sym, ◌∙◌, ap, subst, arith}
-use Rattle.std.proofs.lemmas.Bool.{cases_lt, cases_order}
+use Rattle.std.proofs.Common.{◌≡◌, ◌⊎◌, inl, inr, ℕ, zero, suc, ◌+◌, ◌-◌, ◌<◌, ◌≤◌, List, length, Option, Some, None, slice_get, get_or, sym, subst, arith}
+use Rattle.std.proofs.lemmas.Bool.{cases_lt}
 use Rattle.std.proofs.lemmas.Option.{slice_get_within, slice_get-get_or, get_or_from_slice_get}
 use Rattle.jc_base.specs.declared.insn.Insn.{Insn}
-use Rattle.jc_base.specs.WellMade.{TakeSlots}
-use Rattle.jc_pool.specs.Lookup.{utf8_of}
 use Rattle.jc_pool.specs.Pool.{PoolValue}
-use Rattle.jc_class.specs.declared.class_file.Member.{Member}
 use Rattle.jc_insn.specs.Decoding.{AreStarts}
 use Rattle.jc_insn.specs.Spells.{insn_number}
 use Rattle.jc_body.specs.declared.items.Row.{Row}
 use Rattle.jc_body.specs.declared.coded.Coded.{Coded}
-use Rattle.jc_body.specs.Faults.{InsnAt, IsRow, BadRow, ArgumentsOutside, TooWide, MalformedTable}
-use Rattle.jc_body.specs.First.{Fault, IsNowhere, IsLeast, NoneBefore, IsFirstItem, NoItem, FirstItem}
+use Rattle.jc_body.specs.Faults.{InsnAt, IsRow, BadRow}
+use Rattle.jc_body.specs.First.{IsNowhere, IsLeast, IsFirstItem, NoItem, FirstItem}
 use Rattle.jc_body.specs.declared.places.Offsets.{Offsets}
 use Rattle.jc_body.specs.Numbering.{numbering, Numbers}
-use Rattle.jc_body.proofs.OrderLaws.{IsDecided, at_zero}
+use Rattle.jc_body.proofs.OrderLaws.{IsDecided}
 
 -- ---- instructions
 

@@ -16,7 +16,8 @@ use Rattle.jc_class.specs.ClassFormat.{counted}
 use Rattle.jc_class.proofs.ClassLaws.{agrees_number, agrees_piece, agrees_counted, agrees_attributes}
 use Rattle.jc_body.specs.declared.items.CodeItems.{CodeItems}
 use Rattle.jc_body.specs.CodeForm.{row, code_form, line_entry, line_table, var_entry, var_table, IsCodeText}
-use Rattle.jc_body.specs.CodeReading.{row_at, rows_at, code_at, line_at, lines_at, var_at, vars_at}
+use Rattle.jc_body.specs.CodeReading.{counted_at, row_at, code_at, line_at, var_at}
+use Rattle.jc_body.specs.ItemsAgree.{row_agrees, line_agrees, var_agrees}
 
 -- the reader stands in front of the bytes
 abbrev pub Begins : List ℕ → Reading → Type 0
@@ -24,18 +25,9 @@ Begins bytes old = record { left : old.left ≡ bytes; place : old.place ≡ 0 }
 
 -- ---- each form and what reads it
 
-row_agrees : Agrees row row_at
-unfolding row_at
-row_agrees =
-    agrees_followed _ _ _ _ (agrees_number 2) (λ start.
-    agrees_followed _ _ _ _ (agrees_number 2) (λ end.
-    agrees_followed _ _ _ _ (agrees_number 2) (λ target.
-    agrees_followed _ _ _ _ (agrees_number 2) (λ class.
-    agrees_nothing (record { start = start; end = end; target = target; class = class })))))
-
-rows_agree : Agrees (counted row) rows_at
-unfolding rows_at
-rows_agree = agrees_counted row row_at row_agrees
+pub counted_agree : {X : Type 0} (g : Grammar X) (read : List ℕ → Parsed X) → Agrees g read → Agrees (counted g) (counted_at read)
+unfolding counted_at
+counted_agree g read a = agrees_counted g read a
 
 pub code_agrees : (pool : PoolValue) → Agrees (code_form pool) (code_at pool)
 unfolding code_form code_at
@@ -44,34 +36,17 @@ code_agrees pool =
     agrees_followed _ _ _ _ (agrees_number 2) (λ max_locals.
     agrees_followed _ _ _ _ (agrees_number 4) (λ size.
     agrees_followed _ _ _ _ (agrees_piece size) (λ code.
-    agrees_followed _ _ _ _ rows_agree (λ rows.
+    agrees_followed _ _ _ _ (counted_agree row row_at row_agrees) (λ rows.
     agrees_followed _ _ _ _ (agrees_attributes pool) (λ attributes.
     agrees_nothing (record { max_stack = max_stack; max_locals = max_locals; code = code; rows = rows; attributes = attributes })))))))
 
-line_agrees : Agrees line_entry line_at
-unfolding line_at
-line_agrees =
-    agrees_followed _ _ _ _ (agrees_number 2) (λ start.
-    agrees_followed _ _ _ _ (agrees_number 2) (λ line.
-    agrees_nothing (record { start = start; line = line })))
+pub lines_agree : Agrees line_table (counted_at line_at)
+unfolding line_table
+lines_agree = counted_agree line_entry line_at line_agrees
 
-pub lines_agree : Agrees line_table lines_at
-unfolding line_table lines_at
-lines_agree = agrees_counted line_entry line_at line_agrees
-
-var_agrees : Agrees var_entry var_at
-unfolding var_at
-var_agrees =
-    agrees_followed _ _ _ _ (agrees_number 2) (λ start.
-    agrees_followed _ _ _ _ (agrees_number 2) (λ length.
-    agrees_followed _ _ _ _ (agrees_number 2) (λ name.
-    agrees_followed _ _ _ _ (agrees_number 2) (λ desc.
-    agrees_followed _ _ _ _ (agrees_number 2) (λ slot.
-    agrees_nothing (record { start = start; length = length; name = name; desc = desc; slot = slot }))))))
-
-pub vars_agree : Agrees var_table vars_at
-unfolding var_table vars_at
-vars_agree = agrees_counted var_entry var_at var_agrees
+pub vars_agree : Agrees var_table (counted_at var_at)
+unfolding var_table
+vars_agree = counted_agree var_entry var_at var_agrees
 
 -- ---- whole texts
 

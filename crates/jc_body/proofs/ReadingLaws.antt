@@ -1,18 +1,16 @@
 -- What the steps of reading a body find, put together.
-use Rattle.std.proofs.Common.{◌≡◌, ◌⊎◌, inl, inr, ℕ, ◌+◌, ◌<◌, ◌≤◌, List, [], ◌∷◌, ◌++◌, length, map, Option, Some, None, MatchOption, MatchResult, Result, Ok, Err, IfOk, IfErr, IfSome, slice_get, slice_index_or, get_or, refl, sym, ◌∙◌, ap, subst, arith, All}
+use Rattle.std.proofs.Common.{◌≡◌, ◌⊎◌, inl, inr, ℕ, ◌<◌, List, ◌++◌, length, map, Option, Some, None, MatchOption, MatchResult, Result, Ok, Err, IfOk, IfErr, IfSome, slice_get, get_or, refl, sym, ◌∙◌, ap, subst}
 use Rattle.std.proofs.lemmas.Option.{slice_get-get_or}
 use Rattle.jc_base.specs.declared.body.Body.{Body}
 use Rattle.jc_base.specs.declared.fail.Fail.{Fail}
 use Rattle.jc_base.specs.declared.fail.Fail.TheVariants as fails
 use Rattle.jc_base.specs.declared.refusal.Refusal.{Refusal}
-use Rattle.jc_base.specs.declared.refusal.RefusalKind.{RefusalKind}
 use Rattle.jc_base.specs.declared.refusal.RefusalKind.TheVariants as kinds
 use Rattle.jc_base.specs.WellMade.{IsWellMade}
 use Rattle.jc_pool.specs.Pool.{PoolValue}
 use Rattle.jc_class.specs.declared.class_file.ClassFile.{ClassFile}
 use Rattle.jc_class.specs.declared.class_file.Member.{Member}
-use Rattle.jc_insn.specs.Spells.{insn_number, IsRefused}
-use Rattle.jc_insn.specs.Decoding.{AreStarts}
+use Rattle.jc_insn.specs.Spells.{IsRefused}
 use Rattle.jc_body.specs.declared.coded.Coded.{Coded}
 use Rattle.jc_body.specs.declared.items.Tables.{Tables}
 use Rattle.jc_body.specs.declared.items.CodeItems.{CodeItems}
@@ -20,8 +18,8 @@ use Rattle.jc_body.specs.Answers.{IsRefusal, Said}
 use Rattle.jc_body.specs.Attributes.{AreTables}
 use Rattle.jc_body.specs.Coded.{HasNoCode, HasItems, IsCoded}
 use Rattle.jc_body.specs.Faults.{HasSubroutine, MalformedTable, TooWide, faults, insn_faults, row_faults, table_faults}
-use Rattle.jc_body.specs.First.{Fault, IsNowhere, IsLeast, IsFirst, AreNowhere, FirstFault}
-use Rattle.jc_body.specs.BodyOf.{IsBody, BodyOf, Bodiless, IsReason, FaultOf}
+use Rattle.jc_body.specs.First.{Fault, IsNowhere, IsFirst, AreNowhere, FirstFault}
+use Rattle.jc_body.specs.BodyOf.{IsBody, BodyOf, Bodiless, FaultOf}
 use Rattle.jc_body.proofs.OrderLaws.{first_in_front, first_behind, nowhere_both, at_zero}
 use Rattle.jc_body.proofs.AnswerLaws.{bodiless_or_body, bodiless_or_fault, body_or_fault, one_body, one_fault}
 use Rattle.jc_body.proofs.DecideLaws.{coded_reason, coded_without, refused_reason}
@@ -63,7 +61,7 @@ module _ (major : ℕ) (pool : PoolValue) (method : Member) (number : ℕ) (code
   pub nothing_wrong : (found : Option Tables) (tables : Tables) → AreNowhere Front → found ≡ Some tables → Read found → (TooWide coded 0 → ⊥) → IsNowhere (HasSubroutine pool method) × AreNowhere (faults major pool method)
   nothing_wrong found tables before there read narrow =
       coded_without major pool method coded is
-          (nowhere_both Front Back before ((λ place o. o.fault tables (read_well found tables there read)), ((λ place o. narrow (record { at = refl; fault = o.fault })), tt)))
+      (nowhere_both Front Back before ((λ place o. o.fault tables (read_well found tables there read)), ((λ place o. narrow (record { at = refl; fault = o.fault })), tt)))
 
   pub tables_are : (found : Option Tables) (tables : Tables) → found ≡ Some tables → Read found → AreTables pool coded.items.attributes tables
   tables_are = read_well

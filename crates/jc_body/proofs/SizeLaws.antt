@@ -1,16 +1,14 @@
 -- What a Code attribute holds is not longer than its bytes.
-use Rattle.std.proofs.Common.{◌≡◌, ◌⊎◌, inl, inr, ℕ, zero, suc, ◌+◌, ◌<◌, ◌≤◌, List, [], ◌∷◌, ◌++◌, length, All, get_or, sym, ◌∙◌, ap, subst, arith}
+use Rattle.std.proofs.Common.{◌≡◌, ◌⊎◌, inl, inr, ℕ, zero, suc, ◌+◌, ◌<◌, ◌≤◌, List, ◌∷◌, ◌++◌, length, All, get_or, sym, ◌∙◌, ap, subst, arith}
 use Rattle.std.proofs.lemmas.Bool.{cases_lt}
 use Rattle.std.proofs.lemmas.List.{length-append, get_or_default}
 use Rattle.std.proofs.lemmas.List.Elements.{All-cons, All-nil}
-use Rattle.jc_base.specs.Decoder.{IsBig}
-use Rattle.jc_base.specs.Grammar.{Grammar, ThenText, times}
+use Rattle.jc_base.specs.Grammar.{times}
 use Rattle.jc_pool.specs.Pool.{PoolValue}
-use Rattle.jc_class.specs.ClassFormat.{HasText, number, piece, counted, attribute}
+use Rattle.jc_class.specs.ClassFormat.{HasText, counted, attribute}
 use Rattle.jc_class.specs.declared.class_file.Attribute.{Attribute}
 use Rattle.jc_class.specs.declared.class_file.Member.{Member}
 use Rattle.jc_insn.specs.Decoding.{AreStarts}
-use Rattle.jc_insn.specs.Spells.{Spells}
 use Rattle.jc_insn.proofs.AmongLaws.{are_starts}
 use Rattle.jc_body.specs.declared.items.CodeItems.{CodeItems}
 use Rattle.jc_body.specs.declared.items.Row.{Row}

@@ -13,7 +13,6 @@ use Rattle.jc_base.specs.Descriptor.{IsFieldDescriptor, IsMethodDescriptor}
 use Rattle.jc_base.specs.Flow.{FallsThrough, flow_of, targets_of}
 use Rattle.jc_base.specs.InsnUse.{pool_place, IsField, IsMethod, IsCall, IsClass, IsOfTwoSlots, IsOneSlotConstant, IsTwoSlotConstant, IsMemberFor, Suits, LocalsWithin, LeadsWithin, locals_of}
 use Rattle.jc_base.proofs.DecidingLaws.{Decides, field_text_decided, method_text_decided}
-use Rattle.jc_pool.specs.Lookup.{Member}
 use Rattle.jc_pool.specs.Pool.{PoolValue}
 use Rattle.jc_body.specs.Standing.{Found, of_member, found_at, what_of, what_at, TagSuits, Meets, FoundSuits, EntrySuits, PlaceSuits, HasRightEntry}
 use Rattle.jc_body.specs.Faults.{IsAstray}

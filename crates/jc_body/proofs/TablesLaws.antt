@@ -11,7 +11,7 @@ use Rattle.jc_pool.specs.Pool.{PoolValue}
 use Rattle.jc_class.specs.declared.class_file.Attribute.{Attribute}
 use Rattle.jc_body.specs.declared.items.Tables.{Tables}
 use Rattle.jc_body.specs.CodeForm.{line_table, var_table}
-use Rattle.jc_body.specs.CodeReading.{lines_at, vars_at}
+use Rattle.jc_body.specs.CodeReading.{counted_at, line_at, var_at}
 use Rattle.jc_body.specs.Attributes.{has_name, bodies_of, AreEntries, AreTables}
 use Rattle.jc_body.proofs.FormLaws.{lines_agree, vars_agree, whole_or_none}
 
@@ -36,9 +36,9 @@ module _ {X : Type 0} (table : Grammar (List X)) (read : List ℕ → Parsed (Li
 
 pub one_tables : (pool : PoolValue) (attributes : List Attribute) (s t : Tables) → AreTables pool attributes s → AreTables pool attributes t → s ≡ t
 one_tables pool attributes s t p q =
-    let lines = one_list line_table lines_at lines_agree _ s.lines t.lines p.lines q.lines in
-    let vars = one_list var_table vars_at vars_agree _ s.vars t.vars p.vars q.vars in
-    let kind_vars = one_list var_table vars_at vars_agree _ s.kind_vars t.kind_vars p.kind_vars q.kind_vars in
+    let lines = one_list line_table (counted_at line_at) lines_agree _ s.lines t.lines p.lines q.lines in
+    let vars = one_list var_table (counted_at var_at) vars_agree _ s.vars t.vars p.vars q.vars in
+    let kind_vars = one_list var_table (counted_at var_at) vars_agree _ s.kind_vars t.kind_vars p.kind_vars q.kind_vars in
     λ i. record { lines = lines i; vars = vars i; kind_vars = kind_vars i }
 
 pub tables_or_none : (pool : PoolValue) (attributes : List Attribute) → ((tables : Tables) × AreTables pool attributes tables) ⊎ ((tables : Tables) → AreTables pool attributes tables → ⊥)
@@ -47,11 +47,11 @@ tables_or_none pool attributes = ⊎_elim
     (λ vars. ⊎_elim
     (λ kind_vars. inl (record { lines = lines.0; vars = vars.0; kind_vars = kind_vars.0 }, record { lines = lines.1; vars = vars.1; kind_vars = kind_vars.1 }))
     (λ none. inr (λ tables are. none tables.kind_vars are.kind_vars))
-    (list_or_none var_table vars_at vars_agree (bodies_of pool (codes "LocalVariableTypeTable") attributes)))
+    (list_or_none var_table (counted_at var_at) vars_agree (bodies_of pool (codes "LocalVariableTypeTable") attributes)))
     (λ none. inr (λ tables are. none tables.vars are.vars))
-    (list_or_none var_table vars_at vars_agree (bodies_of pool (codes "LocalVariableTable") attributes)))
+    (list_or_none var_table (counted_at var_at) vars_agree (bodies_of pool (codes "LocalVariableTable") attributes)))
     (λ none. inr (λ tables are. none tables.lines are.lines))
-    (list_or_none line_table lines_at lines_agree (bodies_of pool (codes "LineNumberTable") attributes))
+    (list_or_none line_table (counted_at line_at) lines_agree (bodies_of pool (codes "LineNumberTable") attributes))
 
 -- ---- joined in a loop
 

@@ -9,6 +9,12 @@ use Rattle.jc_body.specs.declared.items.Row.{Row}
 use Rattle.jc_body.specs.declared.items.LineEntry.{LineEntry}
 use Rattle.jc_body.specs.declared.items.VarEntry.{VarEntry}
 
+-- a count, and so many items
+unfoldable pub counted_at : {X : Type 0} → (List ℕ → Parsed X) → List ℕ → Parsed (List X)
+counted_at read left = do
+  count ← item (number_at 2) left
+  times_at count.0 read count.1
+
 unfoldable pub row_at : List ℕ → Parsed Row
 row_at left = do
   start ← item (number_at 2) left
@@ -17,11 +23,6 @@ row_at left = do
   class ← item (number_at 2) target.1
   Good (record { start = start.0; end = end.0; target = target.0; class = class.0 }) class.1
 
-unfoldable pub rows_at : List ℕ → Parsed (List Row)
-rows_at left = do
-  count ← item (number_at 2) left
-  times_at count.0 row_at count.1
-
 -- what stands behind the name and the length of a Code attribute
 unfoldable pub code_at : PoolValue → List ℕ → Parsed CodeItems
 code_at pool left = do
@@ -29,7 +30,7 @@ code_at pool left = do
   max_locals ← item (number_at 2) max_stack.1
   size ← item (number_at 4) max_locals.1
   code ← item (first size.0 (take size.0)) size.1
-  rows ← rows_at code.1
+  rows ← counted_at row_at code.1
   attributes ← attributes_at pool rows.1
   Good (record { max_stack = max_stack.0; max_locals = max_locals.0; code = code.0; rows = rows.0; attributes = attributes.0 }) attributes.1
 
@@ -39,11 +40,6 @@ line_at left = do
   line ← item (number_at 2) start.1
   Good (record { start = start.0; line = line.0 }) line.1
 
-unfoldable pub lines_at : List ℕ → Parsed (List LineEntry)
-lines_at left = do
-  count ← item (number_at 2) left
-  times_at count.0 line_at count.1
-
 unfoldable pub var_at : List ℕ → Parsed VarEntry
 var_at left = do
   start ← item (number_at 2) left
@@ -52,8 +48,3 @@ var_at left = do
   desc ← item (number_at 2) name.1
   slot ← item (number_at 2) desc.1
   Good (record { start = start.0; length = length.0; name = name.0; desc = desc.0; slot = slot.0 }) slot.1
-
-unfoldable pub vars_at : List ℕ → Parsed (List VarEntry)
-vars_at left = do
-  count ← item (number_at 2) left
-  times_at count.0 var_at count.1

@@ -1,5 +1,6 @@
 pub mod CodeForm
 pub mod CodeReading
+pub mod ItemsAgree
 pub mod Attributes
 pub mod Standing
 pub mod FoundView

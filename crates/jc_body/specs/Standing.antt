@@ -1,5 +1,5 @@
 -- What stands at a place in the pool that an instruction or an exception row uses (JVM Specification 4.4, 4.9.1).
-use Rattle.std.specs.Prelude.{◌≡◌, ◌⊎◌, ⊤, ℕ, ◌≤◌, List, Option, Some, None, option_and_then, nat_eq, if◌then◌else◌}
+use Rattle.std.specs.Prelude.{◌≡◌, ⊤, ℕ, ◌≤◌, List, Option, Some, None, option_and_then, nat_eq, if◌then◌else◌}
 use Rattle.jc_base.specs.declared.insn.Insn.{Insn}
 use Rattle.jc_base.specs.declared.insn.Insn.TheVariants as insns
 use Rattle.jc_base.specs.declared.body.What.{What}

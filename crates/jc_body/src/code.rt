@@ -29,11 +29,7 @@ pub enum Presence<'a> {
 }
 
 /// Which Code attributes a method has.
-fn code_presence<'a>(
-    alloc: Global,
-    pool: &Pool,
-    method: &'a Member,
-) -> Result<Presence<'a>, Memory>
+fn code_presence<'a>(alloc: Global, pool: &Pool, method: &'a Member) -> Result<Presence<'a>, Memory>
     ensures { IfOk result (IsPresence pool.now method.now) }
 {
     let bodies = bodies_of(alloc, pool, b"Code", &method.attributes)?;

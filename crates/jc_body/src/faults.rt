@@ -56,12 +56,7 @@ fn insn_fault(major: u16, pool: &Pool, coded: &Coded) -> Option<u32>
 
 /// Whether the arguments need more local variables than there are at 0, or the number of the first row of the
 /// exception table with a fault.
-fn row_fault(
-    pool: &Pool,
-    method: &Member,
-    coded: &Coded,
-    offsets: &Offsets<'_>,
-) -> Option<u32>
+fn row_fault(pool: &Pool, method: &Member, coded: &Coded, offsets: &Offsets<'_>) -> Option<u32>
     requires desc { HasMethodDescriptor pool.now method.now.desc }
     requires offsets { Numbers coded.now offsets.now }
     requires few { length coded.now.items.rows ≤ 67108864 }

@@ -1,63 +1,39 @@
 //! Reading a Code attribute (JVM Specification 4.7.3).
 ghost use Rattle.std.specs.Prelude.{◌≡◌, ◌≤◌, length, IfOk, MatchOption};
 ghost use Rattle.jc_base.specs.Decoder.{SameEnd};
-ghost use Rattle.jc_base.specs.Parsing.{Parses, times_at};
-ghost use Rattle.jc_body.specs.CodeReading.{row_at, rows_at, code_at};
-ghost use Rattle.jc_body.specs.CodeForm.{IsCodeText};
+ghost use Rattle.jc_base.specs.Parsing.{Parses};
+ghost use Rattle.jc_body.specs.CodeReading.{row_at, code_at};
+ghost use Rattle.jc_body.specs.CodeForm.{row, IsCodeText};
+ghost use Rattle.jc_body.specs.ItemsAgree.{row_agrees};
 ghost use Rattle.jc_body.specs.declared.items.CodeItems.{CodeItems as Items};
 
 use crate::items::{CodeItems, Row};
-use jc_base::{Bytes, Fail, List, Memory, Reader, Refusal, piece_item, u16_item, u32_item};
+use crate::table_item::{TableItem, counted};
+use jc_base::{Bytes, Fail, Memory, Reader, Refusal, piece_item, u16_item, u32_item};
 use jc_class::read_attributes;
 use jc_pool::Pool;
 use std::alloc::Global;
 
-/// A row of the exception table.
-#[tactic(auto, unfolding(crate::specs::CodeReading::row_at))]
-fn row(reader: &mut Reader<'_>) -> Result<Row, Fail<Refusal>>
-    ensures gives { Parses (λ x. x) result reader.old reader.new (row_at reader.old.left) }
-    ensures end { SameEnd reader.old reader.new }
-    ensures later { reader.old.place ≤ reader.new.place }
-{
-    let start = u16_item(reader)?;
-    let end = u16_item(reader)?;
-    let target = u16_item(reader)?;
-    let class = u16_item(reader)?;
-    Ok(Row {
-        start,
-        end,
-        target,
-        class,
-    })
-}
+impl TableItem for Row {
+    ghost form = { row };
 
-/// So many rows.
-fn listed_rows(
-    alloc: Global,
-    reader: &mut Reader<'_>,
-    count: u16,
-) -> Result<List<Row>, Fail<Refusal>>
-    ensures gives { Parses (λ x. x) result reader.old reader.new (times_at count row_at reader.old.left) }
-    ensures end { SameEnd reader.old reader.new }
-    ensures later { reader.old.place ≤ reader.new.place }
-{
-    let mut list = List::from_vec(Vec::with_capacity(alloc, usize::from(count))?);
-    'reading: for _place in 0..count {
-        let item = row(reader)?;
-        list.push(item)?;
+    ghost read_at = { row_at };
+
+    ghost agrees = { row_agrees };
+
+    #[tactic(auto, unfolding(crate::specs::CodeReading::row_at))]
+    fn read(reader: &mut Reader<'_>) -> Result<Row, Fail<Refusal>> {
+        let start = u16_item(reader)?;
+        let end = u16_item(reader)?;
+        let target = u16_item(reader)?;
+        let class = u16_item(reader)?;
+        Ok(Row {
+            start,
+            end,
+            target,
+            class,
+        })
     }
-    Ok(list)
-}
-
-/// The rows of the exception table.
-#[tactic(auto, unfolding(crate::specs::CodeReading::rows_at))]
-fn rows(alloc: Global, reader: &mut Reader<'_>) -> Result<List<Row>, Fail<Refusal>>
-    ensures gives { Parses (λ x. x) result reader.old reader.new (rows_at reader.old.left) }
-    ensures end { SameEnd reader.old reader.new }
-    ensures later { reader.old.place ≤ reader.new.place }
-{
-    let count = u16_item(reader)?;
-    listed_rows(alloc, reader, count)
 }
 
 /// What stands behind the name and the length of a Code attribute.
@@ -76,7 +52,7 @@ fn code_items(
     let size = u32_item(reader)?;
     let piece = piece_item(reader, size)?;
     let code = Bytes::copy_of(alloc, piece)?;
-    let rows = rows(alloc, reader)?;
+    let rows = counted(alloc, reader)?;
     let attributes = read_attributes(alloc, reader, pool)?;
     Ok(CodeItems {
         max_stack,

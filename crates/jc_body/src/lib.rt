@@ -12,6 +12,7 @@ mod laws;
 mod places;
 mod reading;
 mod standing;
+mod table_item;
 mod tables;
 mod texts;
 mod uses;

@@ -33,11 +33,7 @@ pub fn numbers_of(alloc: Global, coded: &Coded) -> Result<Vec<u32>, Memory>
     requires short { length coded.now.items.code ≤ 65535 }
     ensures { IfOk result (λ numbers. IsTable coded.now numbers.items) }
 {
-    Ok(insn_numbers(
-        alloc,
-        &coded.starts,
-        coded.items.code.len() + 1,
-    )?)
+    Ok(insn_numbers(alloc, &coded.starts, coded.items.code.len() + 1)?)
 }
 
 /// The table of these numbers.

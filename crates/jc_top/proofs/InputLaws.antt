@@ -6,7 +6,7 @@ use Rattle.jc_top.specs.declared.stop.Stop.{Stop}
 use Rattle.jc_top.specs.declared.stop.Stop.TheVariants as stops
 use Rattle.jc_top.specs.Words.{Word, words_of}
 use Rattle.jc_top.specs.Work.{Holds, CantRead, AreRead, StopsAt}
-use Rattle.jc_top.specs.Outcome.{ReadStops, ReadOne, ReadAll}
+use Rattle.jc_top.specs.Outcome.{FrontIsRead, ReadStops, ReadOne, ReadAll}
 use Rattle.jc_top.proofs.WriteLaws.{map_take_more, map_parts}
 
 pub read_more : (m : FileMap) (ps : List Word) (p : Word) (ts : List (List ℕ)) (t : List ℕ) → AreRead m ps ts → Holds m p t → AreRead m (ps ++ p ∷ []) (ts ++ t ∷ [])
@@ -20,6 +20,15 @@ module _ (words : List (String Global)) (i : ℕ) (w : String Global) (within : 
       → WhereTold contents (λ m. AreRead m (words_of (take (i + 1) words)) (ts ++ t ∷ []))
   told_more None ts t read holds = tt
   told_more (Some m) ts t read holds = subst (λ (ps : List Word). AreRead m ps (ts ++ t ∷ [])) (sym (map_take_more string_bytes words i w within is)) (read_more m (words_of (take i words)) (string_bytes w) ts t read holds)
+
+  front_is_read : (contents : Option FileMap) (ts : List (List ℕ)) (path : Word) → WhereTold contents (λ m. AreRead m (words_of (take i words)) ts) → path ≡ string_bytes w → FrontIsRead contents (words_of words) path
+  front_is_read contents ts path read same = record {
+    front = words_of (take i words);
+    behind = words_of (drop (i + 1) words);
+    texts = ts;
+    parts = map_parts string_bytes words i w within is ∙ ap (λ (p : Word). words_of (take i words) ++ p ∷ words_of (drop (i + 1) words)) (sym same);
+    read = read;
+  }
 
   stops_here : (contents : Option FileMap) (ts : List (List ℕ)) (path : Word) (old new : ℕ) → WhereTold contents (λ m. AreRead m (words_of (take i words)) ts) → path ≡ string_bytes w → ReadStops contents (λ m. CantRead m (string_bytes w)) old new
       → ReadStops contents (λ m. (front : List Word) × StopsAt m (words_of words) front path) old new
@@ -50,8 +59,10 @@ module _ (words : List (String Global)) (i : ℕ) (w : String Global) (within : 
   pub read_stops_all : (contents : Option FileMap) (ts : List (List ℕ)) (path : Word) (old mid new : ℕ) (stop : Stop) → WhereTold contents (λ m. AreRead m (words_of (take i words)) ts) → mid ≡ old → path ≡ string_bytes w
       → ReadOne contents path mid new (Err stop) → ReadAll contents (words_of words) old new (Err stop)
   read_stops_all contents ts path old mid new stops.Memory read same named one = one ∙ same
-  read_stops_all contents ts path old mid new (stops.Read p) read same named one =
-      stops_here contents ts p.now old new read (one.0 ∙ named) (subst (λ (n : ℕ). ReadStops contents (λ m. CantRead m (string_bytes w)) n new) same (subst (λ (q : Word). ReadStops contents (λ m. CantRead m q) mid new) named one.1))
+  read_stops_all contents ts path old mid new (stops.Read p) read same named one = (
+    stops_here contents ts p.now old new read (one.0 ∙ named) (subst (λ (n : ℕ). ReadStops contents (λ m. CantRead m (string_bytes w)) n new) same (subst (λ (q : Word). ReadStops contents (λ m. CantRead m q) mid new) named one.1)),
+    front_is_read contents ts p.now read (one.0 ∙ named),
+  )
   read_stops_all contents ts path old mid new (stops.Write p) read same named one = absurd one
   read_stops_all contents ts path old mid new stops.Output read same named one = absurd one
   read_stops_all contents ts path old mid new (stops.Refused file fault) read same named one = absurd one

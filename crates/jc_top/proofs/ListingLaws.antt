@@ -1,5 +1,5 @@
 -- What is made of class files is one list of lines, or one refusal.
-use Rattle.std.proofs.Common.{◌≡◌, ◌⊎◌, inl, inr, ⊎_elim, ℕ, zero, suc, ◌+◌, ◌<◌, ◌≤◌, Bool, true, false, List, [], ◌∷◌, ◌++◌, length, take, get_or, map, Option, Some, None, Result, Ok, Err, Vec, Bor, true≢false, refl, sym, ◌∙◌, ap, ap₂, subst, arith, String, string_bytes}
+use Rattle.std.proofs.Common.{◌≡◌, ◌⊎◌, inl, inr, ⊎_elim, ℕ, zero, suc, ◌+◌, ◌<◌, ◌≤◌, Bool, true, false, List, [], ◌∷◌, ◌++◌, length, take, get_or, map, Option, Result, Ok, Err, Vec, Bor, true≢false, refl, sym, ◌∙◌, ap, ap₂, subst, arith, String, string_bytes}
 use Rattle.std.specs.declared.alloc.Global.{Global}
 use Rattle.jc_base.specs.declared.fail.Fail.{Fail}
 use Rattle.jc_base.specs.declared.fail.Fail.TheVariants as fails
@@ -178,14 +178,10 @@ class_info_stops contents paths old new (stops.Write p) all = absurd all
 class_info_stops contents paths old new stops.Output all = absurd all
 class_info_stops contents paths old new (stops.Refused file f) all = absurd all
 
-told_all : (contents : Option FileMap) (paths : List Word) (ts : List (List ℕ)) (P : List (List ℕ) → Type 0) → WhereTold contents (λ m. AreRead m paths ts) → P ts → WhereTold contents (λ m. (texts : List (List ℕ)) × AreRead m paths texts × P texts)
-told_all None paths ts P read p = tt
-told_all (Some m) paths ts P read p = (ts, read, p)
-
 pub class_info_prepares : (contents : Option FileMap) (paths : List Word) (ts : List (List ℕ)) (old new : ℕ) (r : Result (Vec Written Global) Stop) → new ≡ old → WhereTold contents (λ m. AreRead m paths ts) → AnswersWith (class_info paths) ts r → Prepares contents (class_info paths) old new r
-class_info_prepares contents paths ts old new (Ok writes) same read answer = (same, told_all contents paths ts (λ texts. Answers (class_info paths) texts (record { writes = map write_seen writes.items; status = status.Done })) read answer)
+class_info_prepares contents paths ts old new (Ok writes) same read answer = (same, (ts, read, answer))
 class_info_prepares contents paths ts old new (Err stops.Memory) same read answer = same
 class_info_prepares contents paths ts old new (Err (stops.Read p)) same read answer = absurd answer
 class_info_prepares contents paths ts old new (Err (stops.Write p)) same read answer = absurd answer
 class_info_prepares contents paths ts old new (Err stops.Output) same read answer = absurd answer
-class_info_prepares contents paths ts old new (Err (stops.Refused file f)) same read answer = (same, told_all contents paths ts (λ texts. Answers (class_info paths) texts (refusing file.now f)) read answer)
+class_info_prepares contents paths ts old new (Err (stops.Refused file f)) same read answer = (same, (ts, read, answer))

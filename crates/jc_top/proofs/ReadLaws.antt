@@ -16,8 +16,8 @@ use Rattle.jc_top.specs.declared.status.Status.TheVariants as status
 use Rattle.jc_top.specs.Command.{merge}
 use Rattle.jc_top.specs.Looks.{write_seen}
 use Rattle.jc_top.specs.World.{Write, to_file}
-use Rattle.jc_top.specs.Work.{Holds, CantRead, AreRead, Answers, merge_refused, merged, refusing}
-use Rattle.jc_top.specs.Outcome.{ReadStops, ReadOne, read_stop, exec_stop, UnionGives, AnswersWith, Prepares}
+use Rattle.jc_top.specs.Work.{Holds, CantRead, AreRead, Answers, merge_refused, merged}
+use Rattle.jc_top.specs.Outcome.{FrontIsRead, ReadStops, ReadOne, read_stop, exec_stop, UnionGives, AnswersWith, Prepares}
 
 pub read_stops : (contents : Option FileMap) (path : Bor (List ℕ)) (had has : List ℕ) (old new : ℕ) (f : FileFault) → ReadGives contents path.now had has (Err f) → ReadCause contents old new (Err f) → ReadOne contents path.now old new (Err (read_stop f path))
 read_stops contents path had has old new faults.Failed gives cause = (refl, inl cause)
@@ -44,22 +44,29 @@ pub merge_stops : (contents : Option FileMap) (destfile input : List ℕ) (old n
 merge_stops contents destfile input old new stops.Memory one = one
 merge_stops contents destfile input old new (stops.Read p) one = at_first one.0 one.1
   where
+    none_read : (contents : Option FileMap) → WhereTold contents (λ m. AreRead m [] [])
+    none_read None = tt
+    none_read (Some m) = tt
+
+    at_front : p.now ≡ input → FrontIsRead contents (input ∷ []) p.now
+    at_front same = record { front = []; behind = []; texts = []; parts = ap (λ (w : List ℕ). w ∷ []) (sym same); read = none_read contents }
+
     at_first : p.now ≡ input → ReadStops contents (λ m. CantRead m input) old new → Prepares contents (merge destfile input) old new (Err (stops.Read p))
-    at_first same (inl rose) = inl rose
-    at_first same (inr told) = inr (told.0, told.1, told.2, ([], record { behind = []; texts = []; parts = ap (λ (w : List ℕ). w ∷ []) (sym same); read = tt; cant = subst (CantRead told.1) (sym same) told.3 }))
+    at_first same (inl rose) = (inl rose, at_front same)
+    at_first same (inr told) = (inr (told.0, told.1, told.2, ([], record { behind = []; texts = []; parts = ap (λ (w : List ℕ). w ∷ []) (sym same); read = tt; cant = subst (CantRead told.1) (sym same) told.3 })), at_front same)
 merge_stops contents destfile input old new (stops.Write p) one = absurd one
 merge_stops contents destfile input old new stops.Output one = absurd one
 merge_stops contents destfile input old new (stops.Refused file f) one = absurd one
 
-told_one : (contents : Option FileMap) (path bytes : List ℕ) (P : List (List ℕ) → Type 0) → WhereTold contents (λ m. Holds m path bytes) → P (bytes ∷ []) → WhereTold contents (λ m. (texts : List (List ℕ)) × AreRead m (path ∷ []) texts × P texts)
-told_one None path bytes P holds p = tt
-told_one (Some m) path bytes P holds p = (bytes ∷ [], (holds, tt), p)
+told_one : (contents : Option FileMap) (path bytes : List ℕ) → WhereTold contents (λ m. Holds m path bytes) → WhereTold contents (λ m. AreRead m (path ∷ []) (bytes ∷ []))
+told_one None path bytes holds = tt
+told_one (Some m) path bytes holds = (holds, tt)
 
 -- one input was read, and the answer is made of it
 pub merge_prepares : (contents : Option FileMap) (destfile input bytes : List ℕ) (old new : ℕ) (r : Result (Vec Written Global) Stop) → ReadOne contents input old new (Ok bytes) → AnswersWith (merge destfile input) (bytes ∷ []) r → Prepares contents (merge destfile input) old new r
-merge_prepares contents destfile input bytes old new (Ok writes) one answer = (one.0, told_one contents input bytes (λ texts. Answers (merge destfile input) texts (record { writes = map write_seen writes.items; status = status.Done })) one.2 answer)
+merge_prepares contents destfile input bytes old new (Ok writes) one answer = (one.0, (bytes ∷ [], told_one contents input bytes one.2, answer))
 merge_prepares contents destfile input bytes old new (Err stops.Memory) one answer = one.0
 merge_prepares contents destfile input bytes old new (Err (stops.Read p)) one answer = absurd answer
 merge_prepares contents destfile input bytes old new (Err (stops.Write p)) one answer = absurd answer
 merge_prepares contents destfile input bytes old new (Err stops.Output) one answer = absurd answer
-merge_prepares contents destfile input bytes old new (Err (stops.Refused file f)) one answer = (one.0, told_one contents input bytes (λ texts. Answers (merge destfile input) texts (refusing file.now f)) one.2 answer)
+merge_prepares contents destfile input bytes old new (Err (stops.Refused file f)) one answer = (one.0, (bytes ∷ [], told_one contents input bytes one.2, answer))

@@ -14,8 +14,8 @@ use Rattle.jc_top.specs.Command.{Command, inputs_of, Means, NoForm}
 use Rattle.jc_top.specs.Texts.{usage_text, cannot_read, cannot_write, cannot_write_output, fault_text}
 use Rattle.jc_top.specs.Looks.{write_seen}
 use Rattle.jc_top.specs.World.{World, Write, Landed, after, grown, StopsIn}
-use Rattle.jc_top.specs.Work.{StopsAt, Answers, usage, unreadable, answered, WorkEnds, DoesWork}
-use Rattle.jc_top.specs.Outcome.{Rises, ReadStops, Read, Prepares, WroteAll, IsFileWrite, IsTextWrite, Faults, Runs, Says, Reports, message_of, status_of, broken_text, BreaksOff}
+use Rattle.jc_top.specs.Work.{CantRead, StopsAt, Answers, usage, unreadable, answered, WorkEnds, DoesWork}
+use Rattle.jc_top.specs.Outcome.{Rises, ReadStops, Read, Prepares, WroteAll, IsFileWrite, IsTextWrite, Faults, Runs, Says, Reports, message_of, status_of, broken_text, BreaksOff, SaysNothing, SaysUnread, SaysRefused, RisesFor, SaysUnwritten}
 use Rattle.jc_top.proofs.WorkLaws.{one_ending}
 
 -- ---- a command without its last message
@@ -36,8 +36,7 @@ abbrev Writing : Command → (List Write → Type 0) → List (List ℕ) → Typ
 Writing command P texts = (writes : List Write) × Answers command texts (record { writes = writes; status = status.Done }) × P writes
 
 read_map : (contents : Option FileMap) (command : Command) (P Q : List (List ℕ) → Type 0) → ((texts : List (List ℕ)) → P texts → Q texts) → Read contents command P → Read contents command Q
-read_map None command P Q f read = tt
-read_map (Some m) command P Q f read = (read.0, read.1, f read.0 read.2)
+read_map contents command P Q f read = (read.0, read.1, f read.0 read.2)
 
 prepared_writing : (contents : Option FileMap) (command : Command) (writes : List Written) (P : List Write → Type 0) → P (map write_seen writes) → Read contents command (Prepared command writes) → Read contents command (Writing command P)
 prepared_writing contents command writes P made = read_map contents command (Prepared command writes) (Writing command P) (λ texts answers. (map write_seen writes, answers, made))
@@ -92,7 +91,7 @@ module _ (landed : Landed) (words : List Word) (command : Command) (means : Mean
   -- the work ends as the command stopped, unless a read failed
   stop_ends : (stop : Stop) → Ran (Err stop) → (stop ≡ stops.Memory → ⊥) → (Rose f.reads f'.reads × (told_status stop ≡ status.ReadFault)) ⊎ WorkEnds words m (told_status stop)
   stop_ends stops.Memory ran other = absurd (other refl)
-  stop_ends (stops.Read p) ran other = by ran.3
+  stop_ends (stops.Read p) ran other = by ran.3.0
     where
       by : ReadStops (Some m) (λ n. (front : List Word) × StopsAt n (inputs_of command) front p.now) f.reads f'.reads → (Rose f.reads f'.reads × (status.ReadFault ≡ status.ReadFault)) ⊎ WorkEnds words m status.ReadFault
       by (inl rose) = inl (rose.1, refl)
@@ -132,6 +131,32 @@ usage_not_unreadable words m none ends = absurd (never (usage_ends words m statu
     never : status.ReadFault ≡ status.Usage → ⊥
     never e = cc
 
+never_done : (stop : Stop) → status_of stop ≡ status.Done → ⊥
+never_done stops.Memory is = cc
+never_done (stops.Read p) is = cc
+never_done (stops.Write p) is = cc
+never_done stops.Output is = cc
+never_done (stops.Refused file g) is = cc
+
+never_usage : (stop : Stop) → status_of stop ≡ status.Usage → ⊥
+never_usage stops.Memory is = cc
+never_usage (stops.Read p) is = cc
+never_usage (stops.Write p) is = cc
+never_usage stops.Output is = cc
+never_usage (stops.Refused file g) is = cc
+
+memory_usage : status.Usage ≡ status.Memory → ⊥
+memory_usage e = cc
+
+pub report_silent : (err err' : Option (List ℕ)) (e e' : ℕ) (stop : Stop) (s : Status) → Reports stop err err' e e' s → (s ≡ status.Done) ⊎ (s ≡ status.Memory) → SaysNothing err err' e e'
+report_silent err err' e e' stop s (inl memory) is = (memory.1, memory.2)
+report_silent err err' e e' stop s (inr says) (inl is) = absurd (never_done stop (sym says.0 ∙ is))
+report_silent err err' e e' stop s (inr says) (inr is) = absurd (says.1 is)
+
+pub report_no_usage : (err err' : Option (List ℕ)) (e e' : ℕ) (stop : Stop) (s : Status) → Reports stop err err' e e' s → s ≡ status.Usage → ⊥
+report_no_usage err err' e e' stop s (inl memory) is = memory_usage (sym is ∙ memory.0)
+report_no_usage err err' e e' stop s (inr says) is = never_usage stop (sym says.0 ∙ is)
+
 module _ (landed : Landed) (words : List Word) (command : Command) (means : Means words command) (out err : Option (List ℕ)) (f f' : Faults) where
   abbrev Did : (k : Option FileMap) → World → Result (Unit {0}) Stop → Type 0
   Did k new r = Runs landed command (world k out err) new f f' r
@@ -150,7 +175,7 @@ module _ (landed : Landed) (words : List Word) (command : Command) (means : Mean
   -- a command that stops without a rise was stopped by what is told, and did nothing but say so
   said_work : (m : FileMap) (k' : Option FileMap) (out' err' : Option (List ℕ)) (e e' : ℕ) (stop : Stop) → Did (Some m) (world k' out' err) (Err stop) → Quiet f f' e e' → (stop ≡ stops.Memory → ⊥) → Says (message_of stop) err err' e e' → DoesWork landed words (world (Some m) out err) (world k' out' err') (status_of stop)
   said_work m k' out' err' e e' stops.Memory did quiet other says = absurd (other refl)
-  said_work m k' out' err' e e' (stops.Read p) did quiet other says = by did.3
+  said_work m k' out' err' e e' (stops.Read p) did quiet other says = by did.3.0
     where
       new_is : world k' out' err' ≡ world (Some m) out (grown err (cannot_read p.now))
       new_is = λ i. world (did.2 i).contents (did.2 i).out (said (cannot_read p.now) err err' e e' says quiet.3 i)
@@ -232,7 +257,7 @@ module _ (landed : Landed) (words : List Word) (command : Command) (means : Mean
   read_stop_cause k new (stops.Write p) did is = absurd cc
   read_stop_cause k new stops.Output did is = absurd cc
   read_stop_cause k new (stops.Refused file g) did is = absurd cc
-  read_stop_cause k new (stops.Read p) did is = by did.3
+  read_stop_cause k new (stops.Read p) did is = by did.3.0
     where
       by : ReadStops k (λ n. (front : List Word) × StopsAt n (inputs_of command) front p.now) f.reads f'.reads → Rose f.reads f'.reads ⊎ ((m : FileMap) × (k ≡ Some m) × WorkEnds words m status.ReadFault)
       by (inl rose) = inl rose.1
@@ -303,3 +328,63 @@ module _ (landed : Landed) (words : List Word) (command : Command) (means : Mean
   breaks_off k k' out' err' e e' stop s did (inr says) is m told =
       subst (λ (t : Option FileMap). BreaksOff landed words m (world t out err) (world k' out' err') e e') (sym told)
       (stop_breaks_off m k' out' err' e e' stop (subst (λ (t : Option FileMap). Did t (world k' out' err) (Err stop)) told did) (sym says.0 ∙ is) says.2)
+
+  -- ---- the last message
+
+  stop_says_unread : (k : Option FileMap) (new : World) (err' : Option (List ℕ)) (e e' : ℕ) (stop : Stop) → Did k new (Err stop) → status_of stop ≡ status.ReadFault → Says (message_of stop) err err' e e' → SaysUnread words k f.reads f'.reads err err' e e'
+  stop_says_unread k new err' e e' stops.Memory did is says = absurd cc
+  stop_says_unread k new err' e e' (stops.Write p) did is says = absurd cc
+  stop_says_unread k new err' e e' stops.Output did is says = absurd cc
+  stop_says_unread k new err' e e' (stops.Refused file g) did is says = absurd cc
+  stop_says_unread k new err' e e' (stops.Read p) did is says = record { command = command; means = means; path = p.now; front = did.3.1; cause = cause did.3.0; message = says }
+    where
+      cause : ReadStops k (λ n. (front : List Word) × StopsAt n (inputs_of command) front p.now) f.reads f'.reads → ReadStops k (λ n. CantRead n p.now) f.reads f'.reads
+      cause (inl rose) = inl rose
+      cause (inr told) = inr (told.0, told.1, told.2, told.3.1.cant)
+
+  pub says_unread : (k : Option FileMap) (new : World) (err' : Option (List ℕ)) (e e' : ℕ) (stop : Stop) (s : Status) → Did k new (Err stop) → Reports stop err err' e e' s → s ≡ status.ReadFault → SaysUnread words k f.reads f'.reads err err' e e'
+  says_unread k new err' e e' stop s did (inl memory) is = absurd (memory_read (sym is ∙ memory.0))
+  says_unread k new err' e e' stop s did (inr says) is = stop_says_unread k new err' e e' stop did (sym says.0 ∙ is) says.2
+
+  stop_says_refused : (k : Option FileMap) (new : World) (err' : Option (List ℕ)) (e e' : ℕ) (stop : Stop) (fault : Fault) → Did k new (Err stop) → status_of stop ≡ status.Refused fault → Says (message_of stop) err err' e e' → SaysRefused words k fault err err' e e'
+  stop_says_refused k new err' e e' stops.Memory fault did is says = absurd cc
+  stop_says_refused k new err' e e' (stops.Read p) fault did is says = absurd cc
+  stop_says_refused k new err' e e' (stops.Write p) fault did is says = absurd cc
+  stop_says_refused k new err' e e' stops.Output fault did is says = absurd cc
+  stop_says_refused k new err' e e' (stops.Refused file g) fault did is says =
+      subst (λ (h : Fault). SaysRefused words k h err err' e e') (same is) (record { command = command; means = means; file = file.now; read = did.2; message = says })
+    where
+      same : status.Refused g ≡ status.Refused fault → g ≡ fault
+      same e = cc
+
+  pub says_refused : (k : Option FileMap) (new : World) (err' : Option (List ℕ)) (e e' : ℕ) (stop : Stop) (s : Status) → Did k new (Err stop) → Reports stop err err' e e' s → (fault : Fault) → s ≡ status.Refused fault → SaysRefused words k fault err err' e e'
+  says_refused k new err' e e' stop s did (inl memory) fault is = absurd (memory_refused fault (sym is ∙ memory.0))
+  says_refused k new err' e e' stop s did (inr says) fault is = stop_says_refused k new err' e e' stop fault did (sym says.0 ∙ is) says.2
+
+  unwritten : (k : Option FileMap) (new : World) (err' : Option (List ℕ)) (e e' : ℕ) (Failed : Write → Type 0) (text : List ℕ) → ((w : Write) → Failed w → broken_text w ≡ text) → ((w : Write) → Failed w → RisesFor w f.writes f'.writes f.outs f'.outs)
+      → Read k command (Writing command (λ ws. StopsIn landed (world k out err) ws Failed new)) → Says text err err' e e' → SaysUnwritten words k f.writes f'.writes f.outs f'.outs err err' e e'
+  unwritten k new err' e e' Failed text names rises read says =
+      let stop = read.2.2 in
+      record {
+        command = command;
+        means = means;
+        done = stop.done;
+        failed = stop.failed;
+        behind = stop.behind;
+        read = (read.0, read.1, subst (λ (ws : List Write). Answers command read.0 (record { writes = ws; status = status.Done })) stop.parts read.2.1);
+        cause = rises stop.failed stop.which;
+        message = subst (λ (t : List ℕ). Says t err err' e e') (sym (names stop.failed stop.which)) says;
+      }
+
+  stop_says_unwritten : (k : Option FileMap) (new : World) (err' : Option (List ℕ)) (e e' : ℕ) (stop : Stop) → Did k new (Err stop) → status_of stop ≡ status.WriteFault → Says (message_of stop) err err' e e' → SaysUnwritten words k f.writes f'.writes f.outs f'.outs err err' e e'
+  stop_says_unwritten k new err' e e' stops.Memory did is says = absurd cc
+  stop_says_unwritten k new err' e e' (stops.Read p) did is says = absurd cc
+  stop_says_unwritten k new err' e e' (stops.Refused file g) did is says = absurd cc
+  stop_says_unwritten k new err' e e' (stops.Write p) did is says =
+      unwritten k new err' e e' (IsFileWrite p.now) (cannot_write p.now) (λ w which. ap broken_text which.1) (λ w which. subst (λ (v : Write). RisesFor v f.writes f'.writes f.outs f'.outs) (sym which.1) did.1) did.3 says
+  stop_says_unwritten k new err' e e' stops.Output did is says =
+      unwritten k new err' e e' IsTextWrite cannot_write_output (λ w which. ap broken_text which.1) (λ w which. subst (λ (v : Write). RisesFor v f.writes f'.writes f.outs f'.outs) (sym which.1) did.2) did.3 says
+
+  pub says_unwritten : (k : Option FileMap) (new : World) (err' : Option (List ℕ)) (e e' : ℕ) (stop : Stop) (s : Status) → Did k new (Err stop) → Reports stop err err' e e' s → s ≡ status.WriteFault → SaysUnwritten words k f.writes f'.writes f.outs f'.outs err err' e e'
+  says_unwritten k new err' e e' stop s did (inl memory) is = absurd (memory_write (sym is ∙ memory.0))
+  says_unwritten k new err' e e' stop s did (inr says) is = stop_says_unwritten k new err' e e' stop did (sym says.0 ∙ is) says.2

@@ -14,6 +14,7 @@ use Rattle.jc_exec.specs.Plain.{IsPlain, IsFirstUnfit}
 use Rattle.jc_exec.specs.Writing.{exec_text}
 use Rattle.jc_top.specs.declared.status.Status.{Status}
 use Rattle.jc_top.specs.declared.status.Status.TheVariants as status
+use Rattle.jc_top.specs.declared.status.Fault.{Fault}
 use Rattle.jc_top.specs.declared.status.Fault.TheVariants as faults
 use Rattle.jc_top.specs.declared.command.Command.{Command as Called}
 use Rattle.jc_top.specs.declared.command.Unclear.{Unclear}
@@ -58,11 +59,23 @@ ReadOne contents path old new (Err (stops.Write p)) = ⊥
 ReadOne contents path old new (Err stops.Output) = ⊥
 ReadOne contents path old new (Err (stops.Refused file fault)) = ⊥
 
+-- the path is one of these, and those in front of it hold what was read of them, where that is told
+pub record FrontIsRead (contents : Option FileMap) (paths : List Word) (path : Word) : Type 0 where
+  pub front : List Word
+  pub behind : List Word
+  pub texts : List (List ℕ)
+  pub parts : paths ≡ front ++ path ∷ behind
+  pub read : WhereTold contents (λ m. AreRead m front texts)
+
+-- one of the paths couldn't be read, and those in front of it were
+abbrev pub ReadsStop : Option FileMap → List Word → Word → ℕ → ℕ → Type 0
+ReadsStop contents paths path old new = ReadStops contents (λ m. (front : List Word) × StopsAt m paths front path) old new × FrontIsRead contents paths path
+
 -- the paths were read, or the first that couldn't be stops
 abbrev pub ReadAll : Option FileMap → List Word → ℕ → ℕ → Result (Vec (List ℕ) Global) Stop → Type 0
 ReadAll contents paths old new (Ok texts) = (new ≡ old) × WhereTold contents (λ m. AreRead m paths texts.items)
 ReadAll contents paths old new (Err stops.Memory) = new ≡ old
-ReadAll contents paths old new (Err (stops.Read p)) = ReadStops contents (λ m. (front : List Word) × StopsAt m paths front p.now) old new
+ReadAll contents paths old new (Err (stops.Read p)) = ReadsStop contents paths p.now old new
 ReadAll contents paths old new (Err (stops.Write p)) = ⊥
 ReadAll contents paths old new (Err stops.Output) = ⊥
 ReadAll contents paths old new (Err (stops.Refused file fault)) = ⊥
@@ -98,14 +111,14 @@ AnswersWith command texts (Err (stops.Read p)) = ⊥
 AnswersWith command texts (Err (stops.Write p)) = ⊥
 AnswersWith command texts (Err stops.Output) = ⊥
 
--- the inputs that were read, and what is made of them
+-- what was read of the inputs, which is what they hold where that is told, and what is made of it
 abbrev pub Read : Option FileMap → Command → (List (List ℕ) → Type 0) → Type 0
-Read contents command P = WhereTold contents (λ m. (texts : List (List ℕ)) × AreRead m (inputs_of command) texts × P texts)
+Read contents command P = (texts : List (List ℕ)) × WhereTold contents (λ m. AreRead m (inputs_of command) texts) × P texts
 
 abbrev pub Prepares : Option FileMap → Command → ℕ → ℕ → Result (Vec Written Global) Stop → Type 0
 Prepares contents command old new (Ok writes) = (new ≡ old) × Read contents command (λ texts. Answers command texts (record { writes = map write_seen writes.items; status = status.Done }))
 Prepares contents command old new (Err stops.Memory) = new ≡ old
-Prepares contents command old new (Err (stops.Read p)) = ReadStops contents (λ m. (front : List Word) × StopsAt m (inputs_of command) front p.now) old new
+Prepares contents command old new (Err (stops.Read p)) = ReadsStop contents (inputs_of command) p.now old new
 Prepares contents command old new (Err (stops.Refused file fault)) = (new ≡ old) × Read contents command (λ texts. Answers command texts (refusing file.now fault))
 Prepares contents command old new (Err (stops.Write p)) = ⊥
 Prepares contents command old new (Err stops.Output) = ⊥
@@ -154,7 +167,7 @@ Runs landed command old new f f' (Ok _) = (f' ≡ f)
     × Read old.contents command (λ texts. (writes : List Write) × Answers command texts (record { writes = writes; status = status.Done }) × (new ≡ after landed old writes))
 Runs landed command old new f f' (Err stops.Memory) = (f' ≡ f) × (new ≡ old)
 Runs landed command old new f f' (Err (stops.Read p)) = (f'.writes ≡ f.writes) × (f'.outs ≡ f.outs) × (new ≡ old)
-    × ReadStops old.contents (λ m. (front : List Word) × StopsAt m (inputs_of command) front p.now) f.reads f'.reads
+    × ReadsStop old.contents (inputs_of command) p.now f.reads f'.reads
 Runs landed command old new f f' (Err (stops.Refused file fault)) = (f' ≡ f) × (new ≡ old) × Read old.contents command (λ texts. Answers command texts (refusing file.now fault))
 Runs landed command old new f f' (Err (stops.Write p)) = (f'.reads ≡ f.reads) × Rises f.writes f'.writes × (f'.outs ≡ f.outs)
     × Read old.contents command (λ texts. (writes : List Write) × Answers command texts (record { writes = writes; status = status.Done }) × StopsIn landed old writes (IsFileWrite p.now) new)
@@ -205,3 +218,43 @@ pub record BreaksOff (landed : Landed) (words : List Word) (m : FileMap) (old ne
   pub contents : new.contents ≡ stands.contents
   pub out : new.out ≡ stands.out
   pub message : Says (broken_text failed) old.err new.err e e'
+
+-- ---- what `err` holds at the end: the message of the cause, or a part of it where its own count of faults rose
+
+-- no message
+abbrev pub SaysNothing : (old new : Option (List ℕ)) → (e e' : ℕ) → Type 0
+SaysNothing old new e e' = (e' ≡ e) × (new ≡ old)
+
+-- an input can't be read, and the message names it: the count rose, or what is told says why
+pub record SaysUnread (words : List Word) (contents : Option FileMap) (reads reads' : ℕ) (old new : Option (List ℕ)) (e e' : ℕ) : Type 0 where
+  pub command : Command
+  pub means : Means words command
+  pub path : Word
+  pub front : FrontIsRead contents (inputs_of command) path
+  pub cause : ReadStops contents (λ m. CantRead m path) reads reads'
+  pub message : Says (cannot_read path) old new e e'
+
+-- an input is refused, and the message names it: the command answers so to what was read
+pub record SaysRefused (words : List Word) (contents : Option FileMap) (fault : Fault) (old new : Option (List ℕ)) (e e' : ℕ) : Type 0 where
+  pub command : Command
+  pub means : Means words command
+  pub file : Word
+  pub read : Read contents command (λ texts. Answers command texts (refusing file fault))
+  pub message : Says (fault_text file fault) old new e e'
+
+-- the count rose of what the write goes to, which is a file or the text on `out`
+abbrev pub RisesFor : Write → (files files' outs outs' : ℕ) → Type 0
+RisesFor (to_file path bytes) files files' outs outs' = Rises files files'
+RisesFor (to_out text) files files' outs outs' = Rises outs outs'
+RisesFor (to_err text) files files' outs outs' = ⊥
+
+-- a write of the command failed, and the message names it: the command answers with the writes to what was read
+pub record SaysUnwritten (words : List Word) (contents : Option FileMap) (files files' outs outs' : ℕ) (old new : Option (List ℕ)) (e e' : ℕ) : Type 0 where
+  pub command : Command
+  pub means : Means words command
+  pub done : List Write
+  pub failed : Write
+  pub behind : List Write
+  pub read : Read contents command (λ texts. Answers command texts (record { writes = done ++ failed ∷ behind; status = status.Done }))
+  pub cause : RisesFor failed files files' outs outs'
+  pub message : Says (broken_text failed) old new e e'

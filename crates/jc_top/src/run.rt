@@ -7,7 +7,8 @@ ghost use Rattle.jc_top.specs.Command.{inputs_of, NoForm};
 ghost use Rattle.jc_top.specs.Looks.{command_seen};
 ghost use Rattle.jc_top.specs.World.{World};
 ghost use Rattle.jc_top.specs.Work.{Work, IsWork, WorkEnds, DoesWork};
-ghost use Rattle.jc_top.specs.Outcome.{Prepares, Runs, BreaksOff};
+ghost use Rattle.jc_top.specs.Texts.{usage_text};
+ghost use Rattle.jc_top.specs.Outcome.{Prepares, Runs, BreaksOff, Says, SaysNothing, SaysUnread, SaysRefused, SaysUnwritten};
 
 use crate::Status;
 use crate::class_info::prepare_class_info;
@@ -57,7 +58,7 @@ fn run<'a, F: Files, O: Sink>(
 /// The words are `merge --destfile OUT IN` or `classinfo FILE..`. A command first reads its inputs, then refuses what
 /// is wrong with them, and then writes. The first failure ends it and decides the status; its
 /// message goes to `err`, and a failure of that last message changes nothing. Want of memory
-/// prints nothing.
+/// prints no message.
 pub fn run_tool<F: Files, O: Sink, E: Sink>(
     alloc: Global,
     words: &[String],
@@ -100,6 +101,15 @@ pub fn run_tool<F: Files, O: Sink, E: Sink>(
     // Done comes only where nothing failed.
     ensures done { result ≡ Status.Done → (F.read_faults files.new ≡ F.read_faults files.old) × (F.write_faults files.new ≡ F.write_faults files.old)
         × (O.faults out.new ≡ O.faults out.old) × (E.faults err.new ≡ E.faults err.old) }
+
+    // Done and Memory print no message.
+    ensures silent { (result ≡ Status.Done) ⊎ (result ≡ Status.Memory) → SaysNothing (E.told err.old) (E.told err.new) (E.faults err.old) (E.faults err.new) }
+
+    // Every other status prints the message of its cause, or a prefix of it where the count of `err` rose.
+    ensures says_usage { result ≡ Status.Usage → Says usage_text (E.told err.old) (E.told err.new) (E.faults err.old) (E.faults err.new) }
+    ensures says_unread { result ≡ Status.ReadFault → SaysUnread (words_of words.now) (F.contents files.old) (F.read_faults files.old) (F.read_faults files.new) (E.told err.old) (E.told err.new) (E.faults err.old) (E.faults err.new) }
+    ensures says_refused { (fault : Fault) → result ≡ Status.Refused fault → SaysRefused (words_of words.now) (F.contents files.old) fault (E.told err.old) (E.told err.new) (E.faults err.old) (E.faults err.new) }
+    ensures says_unwritten { result ≡ Status.WriteFault → SaysUnwritten (words_of words.now) (F.contents files.old) (F.write_faults files.old) (F.write_faults files.new) (O.faults out.old) (O.faults out.new) (E.told err.old) (E.told err.new) (E.faults err.old) (E.faults err.new) }
 {
     let command = match read_words(alloc, words) {
         Ok(command) => command,

@@ -1,4 +1,4 @@
-use Rattle.std.proofs.Common.{◌≡◌, ℕ, rules}
+use Rattle.std.proofs.Common.{rules}
 use Rattle.std.proofs.lemmas.Result.{err_from_is_err_and}
 use Rattle.jc_body.proofs.ReadingLaws.{stopped_refusal}
 use Rattle.jc_body.proofs.code.read_coded.Goals as goal

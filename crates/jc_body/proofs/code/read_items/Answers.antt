@@ -1,5 +1,4 @@
 use Rattle.std.proofs.Common.{◌≡◌, ◌≤◌, ℕ, List, [], ◌∷◌, length, codes, rules, sym, subst, arith}
-use Rattle.jc_body.specs.declared.code.Presence.{Presence}
 use Rattle.jc_body.specs.declared.code.Presence.TheVariants as presences
 use Rattle.jc_body.specs.Answers.{IsPresence}
 use Rattle.jc_body.proofs.TablesLaws.{each_body}

@@ -1,6 +1,5 @@
-use Rattle.std.proofs.Common.{◌≡◌, ◌∙◌, ℕ, ◌<◌, ◌≤◌, List, Some, rules, refl, sym, ap, subst, arith}
+use Rattle.std.proofs.Common.{◌∙◌, ℕ, ◌<◌, List, Some, rules, refl, sym, ap, subst, arith}
 use Rattle.jc_base.specs.WellMade.{TakeSlots}
-use Rattle.jc_body.specs.BodyOf.{uses_of, first_seen, places_used}
 use Rattle.jc_body.proofs.ArgumentLaws.{arguments_fit}
 use Rattle.jc_body.proofs.PartsLaws.{handlers_by, lines_by, vars_by}
 use Rattle.jc_body.proofs.reading.assembled.Goals as goal

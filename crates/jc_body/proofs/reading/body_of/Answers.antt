@@ -1,11 +1,10 @@
-use Rattle.std.proofs.Common.{◌≡◌, ℕ, ◌≤◌, List, ◌∷◌, [], length, Some, codes, rules, sym, subst, arith, All}
+use Rattle.std.proofs.Common.{◌≤◌, length, codes, rules, All}
 use Rattle.jc_pool.specs.Pool.{PoolValue}
-use Rattle.jc_class.specs.declared.class_file.Attribute.{Attribute}
 use Rattle.jc_class.specs.declared.class_file.Member.{Member}
 use Rattle.jc_body.specs.declared.coded.Coded.{Coded}
 use Rattle.jc_body.specs.Coded.{IsCoded}
 use Rattle.jc_body.proofs.ReadingLaws.{front_refusal}
-use Rattle.jc_body.proofs.SizeLaws.{AreShort, items_short, starts_of, insns_short, code_short, starts_within}
+use Rattle.jc_body.proofs.SizeLaws.{AreShort, items_short, starts_of, insns_short, starts_within}
 use Rattle.jc_body.proofs.TablesLaws.{each_text}
 use Rattle.jc_body.proofs.reading.body_of.Goals as goal
 

@@ -2,7 +2,7 @@ use Rattle.std.proofs.Common.{refl, ap}
 use Rattle.jc_top.specs.Words.{words_of}
 use Rattle.jc_top.specs.Looks.{command_seen}
 use Rattle.jc_top.specs.Outcome.{Faults}
-use Rattle.jc_top.proofs.RunLaws.{no_form_work, usage_not_refused, usage_not_unreadable, done_work, refuses_done, unreadable_done, stop_work, refused, refuses, unreadable_comes, read_cause, write_cause, breaks_off, stop_keeps}
+use Rattle.jc_top.proofs.RunLaws.{no_form_work, usage_not_refused, usage_not_unreadable, done_work, refuses_done, unreadable_done, stop_work, refused, refuses, unreadable_comes, read_cause, write_cause, breaks_off, stop_keeps, report_silent, report_no_usage, says_unread, says_refused, says_unwritten}
 use Rattle.jc_top.proofs.run.run_tool.Goals as goal
 
 pub returns-in-Err-Usage-clause-work : goal.returns-in-Err-Usage-clause-work
@@ -76,3 +76,26 @@ pub returns-in-Err-clause-kept : goal.returns-in-Err-clause-kept
 returns-in-Err-clause-kept g c = λ other writes outs.
     stop_keeps g.F.Files.landed (words_of c.args.words.now) (command_seen c.in-Ok.command) c.in-Ok.ensures.read (g.O.Sink.told c.args.out.now) (g.E.Sink.told c.args.err.now) _ _ (g.F.Files.contents c.args.files.now) (g.F.Files.contents c.run.new.files) (g.O.Sink.told c.run.new.out) c.in-Err.stop
     (c.in-Err.ensures (g.E.Sink.told c.args.err.now)) writes outs
+
+pub returns-in-Err-clause-silent : goal.returns-in-Err-clause-silent
+returns-in-Err-clause-silent g c = λ is.
+    report_silent (g.E.Sink.told c.args.err.now) (g.E.Sink.told c.report.new.err) _ _ c.in-Err.stop c.report.result c.report.ensures is
+
+pub returns-in-Err-clause-says_usage : goal.returns-in-Err-clause-says_usage
+returns-in-Err-clause-says_usage g c = λ is.
+    absurd (report_no_usage (g.E.Sink.told c.args.err.now) (g.E.Sink.told c.report.new.err) _ _ c.in-Err.stop c.report.result c.report.ensures is)
+
+pub returns-in-Err-clause-says_unread : goal.returns-in-Err-clause-says_unread
+returns-in-Err-clause-says_unread g c = λ is.
+    says_unread g.F.Files.landed (words_of c.args.words.now) (command_seen c.in-Ok.command) c.in-Ok.ensures.read (g.O.Sink.told c.args.out.now) (g.E.Sink.told c.args.err.now) _ _ (g.F.Files.contents c.args.files.now) _ (g.E.Sink.told c.report.new.err) _ _ c.in-Err.stop c.report.result
+    (c.in-Err.ensures (g.E.Sink.told c.args.err.now)) c.report.ensures is
+
+pub returns-in-Err-clause-says_refused : goal.returns-in-Err-clause-says_refused
+returns-in-Err-clause-says_refused g c = λ fault is.
+    says_refused g.F.Files.landed (words_of c.args.words.now) (command_seen c.in-Ok.command) c.in-Ok.ensures.read (g.O.Sink.told c.args.out.now) (g.E.Sink.told c.args.err.now) _ _ (g.F.Files.contents c.args.files.now) _ (g.E.Sink.told c.report.new.err) _ _ c.in-Err.stop c.report.result
+    (c.in-Err.ensures (g.E.Sink.told c.args.err.now)) c.report.ensures fault is
+
+pub returns-in-Err-clause-says_unwritten : goal.returns-in-Err-clause-says_unwritten
+returns-in-Err-clause-says_unwritten g c = λ is.
+    says_unwritten g.F.Files.landed (words_of c.args.words.now) (command_seen c.in-Ok.command) c.in-Ok.ensures.read (g.O.Sink.told c.args.out.now) (g.E.Sink.told c.args.err.now) _ _ (g.F.Files.contents c.args.files.now) _ (g.E.Sink.told c.report.new.err) _ _ c.in-Err.stop c.report.result
+    (c.in-Err.ensures (g.E.Sink.told c.args.err.now)) c.report.ensures is

@@ -1,6 +1,0 @@
-use Rattle.jc_class.proofs.ListReadingLaws.{Listing}
-use Rattle.jc_body.specs.CodeReading.{line_at}
-use Rattle.jc_body.proofs.tables.listed_lines.Given as goal
-
-abbrev pub invariant-reading : goal.invariant-reading
-invariant-reading l = Listing l.count line_at l.fn.reader l.list l.reader l._place
