@@ -52,7 +52,7 @@
 ///     }
 /// }
 /// ```
-pub static TALE: &[u8] =
+static TALE: &[u8] =
     b"\xca\xfe\xba\xbe\0\0\04\0}\x0a\0\x02\0\x03\x07\0\x04\x0c\0\x05\0\x06\x01\0\x10java/lang/Object\
     \x01\0\x06<init>\x01\0\x03()V\x05\0\0\0\0\0\0\0\x02\x05\0\0\0\0\0\0\x9c@\x06@\0\0\0\0\0\0\0\x0a\
     \0\x0e\0\x0f\x07\0\x10\x0c\0\x11\0\x12\x01\0\x11java/lang/Integer\x01\0\x08parseInt\x01\0\x15(Lj\
@@ -103,40 +103,29 @@ pub static TALE: &[u8] =
     \0\0\x16\0\x02\0\0\0\x13\0^\0X\0\0\0\0\0\x13\0a\0N\0\x01\0\x03\0h\0\0\0\x02\0i\0j\0\0\0\x0c\0\
     \x01\0k\0\x03\0r\0s\0v\0w\0\0\0\x0a\0\x01\0x\0z\0|\0\x19";
 
-/// What `javap -c -l -v -p` prints of a method, by instruction numbers.
-pub struct Printed {
-    pub method: u32,
-    pub code: &'static str,
-    pub rows: &'static str,
-    pub lines: &'static str,
-    pub vars: &'static str,
-    pub kind_vars: &'static str,
+/// The numbers of the methods `pick`, `parsed` and `first`, and what `javap -c -l -v -p` prints of them
+/// by instruction numbers: the instructions, exception rows, lines, variables and their signatures.
+static PRINTED: [(u32, &str); 3] = [
+    (
+        1,
+        "[Local { op: 22, slot: 1 }, Local { op: 55, slot: 3 }, Local { op: 21, slot: 0 }, Table { low: -1, default: 15, arms: List { items: [4, 9, 15, 11] } }, Local { op: 22, slot: 3 }, Constant2 { place: 7 }, Simple(97), Local { op: 55, slot: 3 }, Jump { op: 167, to: 15 }, Local { op: 22, slot: 3 }, Simple(173), Local { op: 22, slot: 3 }, Constant2 { place: 9 }, Simple(105), Local { op: 55, slot: 3 }, Local { op: 21, slot: 0 }, Lookup { default: 30, arms: List { items: [Arm { key: -70000, to: 17 }, Arm { key: 9, to: 26 }] } }, Local { op: 22, slot: 3 }, Simple(138), Local { op: 57, slot: 5 }, Local { op: 24, slot: 5 }, Constant2 { place: 11 }, Simple(111), Simple(143), Local { op: 55, slot: 3 }, Jump { op: 167, to: 30 }, Local { op: 22, slot: 3 }, Simple(10), Simple(101), Local { op: 55, slot: 3 }, Local { op: 22, slot: 3 }, Simple(173)] [] [LineAt { at: 0, line: 6 }, LineAt { at: 2, line: 7 }, LineAt { at: 4, line: 9 }, LineAt { at: 8, line: 10 }, LineAt { at: 9, line: 12 }, LineAt { at: 11, line: 14 }, LineAt { at: 15, line: 16 }, LineAt { at: 17, line: 18 }, LineAt { at: 20, line: 19 }, LineAt { at: 25, line: 20 }, LineAt { at: 26, line: 22 }, LineAt { at: 30, line: 24 }] [VarAt { start: 20, end: 26, name: 73, desc: 74, slot: 5 }, VarAt { start: 0, end: 32, name: 75, desc: 76, slot: 0 }, VarAt { start: 0, end: 32, name: 77, desc: 78, slot: 1 }, VarAt { start: 2, end: 32, name: 79, desc: 78, slot: 3 }] []",
+    ),
+    (
+        2,
+        "[Local { op: 25, slot: 1 }, Member { op: 184, place: 13 }, Local { op: 54, slot: 4 }, Local { op: 24, slot: 2 }, Local { op: 21, slot: 4 }, Simple(135), Simple(99), Local { op: 57, slot: 2 }, Simple(14), Local { op: 57, slot: 2 }, Jump { op: 167, to: 29 }, Local { op: 58, slot: 4 }, Local { op: 25, slot: 4 }, Member { op: 182, place: 21 }, Member { op: 182, place: 25 }, Simple(133), Local { op: 55, slot: 5 }, Local { op: 22, slot: 5 }, Simple(138), Local { op: 57, slot: 7 }, Simple(14), Local { op: 57, slot: 2 }, Local { op: 24, slot: 7 }, Simple(175), Local { op: 58, slot: 9 }, Simple(14), Local { op: 57, slot: 2 }, Local { op: 25, slot: 9 }, Simple(191), Local { op: 24, slot: 2 }, Simple(175)] [Handler { start: 0, end: 8, target: 11, class: 19 }, Handler { start: 0, end: 8, target: 24, class: 0 }, Handler { start: 11, end: 20, target: 24, class: 0 }, Handler { start: 24, end: 25, target: 24, class: 0 }] [LineAt { at: 0, line: 29 }, LineAt { at: 3, line: 30 }, LineAt { at: 8, line: 35 }, LineAt { at: 10, line: 36 }, LineAt { at: 11, line: 31 }, LineAt { at: 12, line: 32 }, LineAt { at: 17, line: 33 }, LineAt { at: 20, line: 35 }, LineAt { at: 22, line: 33 }, LineAt { at: 24, line: 35 }, LineAt { at: 27, line: 36 }, LineAt { at: 29, line: 37 }] [VarAt { start: 3, end: 8, name: 83, desc: 76, slot: 4 }, VarAt { start: 17, end: 24, name: 84, desc: 78, slot: 5 }, VarAt { start: 12, end: 24, name: 85, desc: 86, slot: 4 }, VarAt { start: 0, end: 31, name: 69, desc: 70, slot: 0 }, VarAt { start: 0, end: 31, name: 87, desc: 88, slot: 1 }, VarAt { start: 0, end: 31, name: 89, desc: 74, slot: 2 }] []",
+    ),
+    (
+        3,
+        "[Local { op: 25, slot: 0 }, Interface { place: 31, count: 1 }, Local { op: 58, slot: 3 }, Local { op: 25, slot: 3 }, Interface { place: 37, count: 1 }, Jump { op: 153, to: 21 }, Local { op: 25, slot: 3 }, Interface { place: 43, count: 1 }, OfClass { op: 192, place: 26 }, Local { op: 58, slot: 4 }, Local { op: 25, slot: 4 }, Member { op: 182, place: 25 }, Simple(133), Local { op: 22, slot: 1 }, Simple(148), Jump { op: 154, to: 20 }, Local { op: 25, slot: 4 }, Local { op: 22, slot: 1 }, Dynamic { place: 47 }, Simple(176), Jump { op: 167, to: 3 }, Simple(1), Simple(176)] [] [LineAt { at: 0, line: 41 }, LineAt { at: 10, line: 42 }, LineAt { at: 16, line: 43 }, LineAt { at: 20, line: 45 }, LineAt { at: 21, line: 46 }] [VarAt { start: 10, end: 20, name: 94, desc: 88, slot: 4 }, VarAt { start: 0, end: 23, name: 95, desc: 96, slot: 0 }, VarAt { start: 0, end: 23, name: 97, desc: 78, slot: 1 }] [VarAt { start: 0, end: 23, name: 95, desc: 99, slot: 0 }]",
+    ),
+];
+
+/// The class.
+pub fn tale_class() -> &'static [u8] {
+    TALE
 }
 
-/// `pick`, `parsed` and `first`.
-pub static PRINTED: [Printed; 3] = [
-    Printed {
-        method: 1,
-        code: "[Local { op: 22, slot: 1 }, Local { op: 55, slot: 3 }, Local { op: 21, slot: 0 }, Table { low: -1, default: 15, arms: List { items: [4, 9, 15, 11] } }, Local { op: 22, slot: 3 }, Constant2 { place: 7 }, Simple(97), Local { op: 55, slot: 3 }, Jump { op: 167, to: 15 }, Local { op: 22, slot: 3 }, Simple(173), Local { op: 22, slot: 3 }, Constant2 { place: 9 }, Simple(105), Local { op: 55, slot: 3 }, Local { op: 21, slot: 0 }, Lookup { default: 30, arms: List { items: [Arm { key: -70000, to: 17 }, Arm { key: 9, to: 26 }] } }, Local { op: 22, slot: 3 }, Simple(138), Local { op: 57, slot: 5 }, Local { op: 24, slot: 5 }, Constant2 { place: 11 }, Simple(111), Simple(143), Local { op: 55, slot: 3 }, Jump { op: 167, to: 30 }, Local { op: 22, slot: 3 }, Simple(10), Simple(101), Local { op: 55, slot: 3 }, Local { op: 22, slot: 3 }, Simple(173)]",
-        rows: "[]",
-        lines: "[LineAt { at: 0, line: 6 }, LineAt { at: 2, line: 7 }, LineAt { at: 4, line: 9 }, LineAt { at: 8, line: 10 }, LineAt { at: 9, line: 12 }, LineAt { at: 11, line: 14 }, LineAt { at: 15, line: 16 }, LineAt { at: 17, line: 18 }, LineAt { at: 20, line: 19 }, LineAt { at: 25, line: 20 }, LineAt { at: 26, line: 22 }, LineAt { at: 30, line: 24 }]",
-        vars: "[VarAt { start: 20, end: 26, name: 73, desc: 74, slot: 5 }, VarAt { start: 0, end: 32, name: 75, desc: 76, slot: 0 }, VarAt { start: 0, end: 32, name: 77, desc: 78, slot: 1 }, VarAt { start: 2, end: 32, name: 79, desc: 78, slot: 3 }]",
-        kind_vars: "[]",
-    },
-    Printed {
-        method: 2,
-        code: "[Local { op: 25, slot: 1 }, Member { op: 184, place: 13 }, Local { op: 54, slot: 4 }, Local { op: 24, slot: 2 }, Local { op: 21, slot: 4 }, Simple(135), Simple(99), Local { op: 57, slot: 2 }, Simple(14), Local { op: 57, slot: 2 }, Jump { op: 167, to: 29 }, Local { op: 58, slot: 4 }, Local { op: 25, slot: 4 }, Member { op: 182, place: 21 }, Member { op: 182, place: 25 }, Simple(133), Local { op: 55, slot: 5 }, Local { op: 22, slot: 5 }, Simple(138), Local { op: 57, slot: 7 }, Simple(14), Local { op: 57, slot: 2 }, Local { op: 24, slot: 7 }, Simple(175), Local { op: 58, slot: 9 }, Simple(14), Local { op: 57, slot: 2 }, Local { op: 25, slot: 9 }, Simple(191), Local { op: 24, slot: 2 }, Simple(175)]",
-        rows: "[Handler { start: 0, end: 8, target: 11, class: 19 }, Handler { start: 0, end: 8, target: 24, class: 0 }, Handler { start: 11, end: 20, target: 24, class: 0 }, Handler { start: 24, end: 25, target: 24, class: 0 }]",
-        lines: "[LineAt { at: 0, line: 29 }, LineAt { at: 3, line: 30 }, LineAt { at: 8, line: 35 }, LineAt { at: 10, line: 36 }, LineAt { at: 11, line: 31 }, LineAt { at: 12, line: 32 }, LineAt { at: 17, line: 33 }, LineAt { at: 20, line: 35 }, LineAt { at: 22, line: 33 }, LineAt { at: 24, line: 35 }, LineAt { at: 27, line: 36 }, LineAt { at: 29, line: 37 }]",
-        vars: "[VarAt { start: 3, end: 8, name: 83, desc: 76, slot: 4 }, VarAt { start: 17, end: 24, name: 84, desc: 78, slot: 5 }, VarAt { start: 12, end: 24, name: 85, desc: 86, slot: 4 }, VarAt { start: 0, end: 31, name: 69, desc: 70, slot: 0 }, VarAt { start: 0, end: 31, name: 87, desc: 88, slot: 1 }, VarAt { start: 0, end: 31, name: 89, desc: 74, slot: 2 }]",
-        kind_vars: "[]",
-    },
-    Printed {
-        method: 3,
-        code: "[Local { op: 25, slot: 0 }, Interface { place: 31, count: 1 }, Local { op: 58, slot: 3 }, Local { op: 25, slot: 3 }, Interface { place: 37, count: 1 }, Jump { op: 153, to: 21 }, Local { op: 25, slot: 3 }, Interface { place: 43, count: 1 }, OfClass { op: 192, place: 26 }, Local { op: 58, slot: 4 }, Local { op: 25, slot: 4 }, Member { op: 182, place: 25 }, Simple(133), Local { op: 22, slot: 1 }, Simple(148), Jump { op: 154, to: 20 }, Local { op: 25, slot: 4 }, Local { op: 22, slot: 1 }, Dynamic { place: 47 }, Simple(176), Jump { op: 167, to: 3 }, Simple(1), Simple(176)]",
-        rows: "[]",
-        lines: "[LineAt { at: 0, line: 41 }, LineAt { at: 10, line: 42 }, LineAt { at: 16, line: 43 }, LineAt { at: 20, line: 45 }, LineAt { at: 21, line: 46 }]",
-        vars: "[VarAt { start: 10, end: 20, name: 94, desc: 88, slot: 4 }, VarAt { start: 0, end: 23, name: 95, desc: 96, slot: 0 }, VarAt { start: 0, end: 23, name: 97, desc: 78, slot: 1 }]",
-        kind_vars: "[VarAt { start: 0, end: 23, name: 95, desc: 99, slot: 0 }]",
-    },
-];
+/// What is printed of its methods.
+pub fn methods() -> &'static [(u32, &'static str)] {
+    &PRINTED
+}
