@@ -8,3 +8,4 @@ pub mod AppendingLaws
 pub mod InsnFormLaws
 pub mod NameLaws
 pub mod EachLaws
+pub mod UsedLaws

@@ -2,8 +2,9 @@
 use Rattle.std.specs.Prelude.{◌≡◌, ℕ, ◌+◌, List, length, drop, slice_index, Option, Some, None, Result, Ok, Err, nat_lt, if◌then◌else◌}
 use Rattle.byteorder.specs.Endian.{big_number}
 use Rattle.jc_base.specs.Reader.{Reading}
-use Rattle.jc_base.specs.declared.unread.Unread.{Unread}
-use Rattle.jc_base.specs.declared.unread.Unread.TheVariants as unread
+use Rattle.jc_base.specs.declared.fail.Fail.{Fail}
+use Rattle.jc_base.specs.declared.fail.Fail.TheVariants as fails
+use Rattle.jc_base.specs.declared.fail.Unfit.{Unfit}
 
 -- the bytes spell the number in n bytes, the high ones first (JVM Specification 4)
 pub record IsBig (n : ℕ) (bytes : List ℕ) (x : ℕ) : Type 0 where
@@ -16,10 +17,10 @@ abbrev pub ◌>>=◌ : {A B : Type 0} → Option A → (A → Option B) → Opti
 None >>= f = None
 
 -- what a function returned and left is what reading gives, unless memory ran out
-abbrev pub Gives : {X Y : Type 0} → (X → Y) → Result X Unread → List ℕ → Option (Y × List ℕ) → Type 0
+abbrev pub Gives : {X Y : Type 0} → (X → Y) → Result X (Fail Unfit) → List ℕ → Option (Y × List ℕ) → Type 0
 Gives view (Ok x) left read = read ≡ Some (view x, left)
-Gives view (Err unread.Memory) left read = Unit {0}
-Gives view (Err unread.Unfit) left read = read ≡ None
+Gives view (Err fails.Memory) left read = Unit {0}
+Gives view (Err (fails.Said why)) left read = read ≡ None
 
 -- the end of the bytes stays where it is
 abbrev pub SameEnd : Reading → Reading → Type 0

@@ -16,3 +16,4 @@ pub mod Names
 pub mod InsnUse
 pub mod WellMade
 pub mod Appending
+pub mod ShortText

@@ -1,10 +1,11 @@
 -- A well made body: what every call that takes a body relies on (JVM Specification 4.7.3, 4.9).
-use Rattle.std.specs.Prelude.{◌≡◌, ◌≢◌, ⊤, ℕ, ◌+◌, ◌*◌, ◌<◌, ◌≤◌, List, [], ◌∷◌, ◌++◌, length, Some, All, Contains, slice_get}
+use Rattle.std.specs.Prelude.{◌≡◌, ◌≢◌, ⊤, ℕ, ◌+◌, ◌*◌, ◌<◌, ◌≤◌, List, [], ◌∷◌, ◌++◌, length, Option, None, Some, All, slice_get, nat_eq, if◌then◌else◌}
 use Rattle.std.specs.Int.Bits.{bit_and}
 use Rattle.std.specs.List.{sum_by}
 use Rattle.jc_base.specs.Descriptor.{MethodType, DescribesMethod, parameter_slots}
 use Rattle.jc_base.specs.Flow.{FallsThrough}
 use Rattle.jc_base.specs.Insn.{IsWellFormed, arm_count}
+use Rattle.jc_base.specs.ShortText.{IsShort}
 use Rattle.jc_base.specs.InsnUse.{pool_place, Suits, IsClass, LocalsWithin, LeadsWithin}
 use Rattle.jc_base.specs.declared.insn.Insn.{Insn}
 use Rattle.jc_base.specs.declared.insn.Insn.TheVariants as insns
@@ -17,6 +18,7 @@ use Rattle.jc_base.specs.declared.body.VarAt.{VarAt}
 use Rattle.jc_base.specs.declared.body.FrameAt.{FrameAt}
 use Rattle.jc_base.specs.declared.body.Use.{Use}
 use Rattle.jc_base.specs.declared.body.What.{What}
+use Rattle.jc_base.specs.declared.body.What.TheVariants as whats
 use Rattle.jc_base.specs.declared.body.Body.{Body}
 
 -- ---- the code
@@ -65,8 +67,19 @@ kind_slots kinds.Long = 2
 kind_slots kinds.Double = 2
 kind_slots kind = 1
 
+-- the first of the local variables is one that may not be read
+abbrev pub BeginsWithTop : List Kind → Type 0
+BeginsWithTop [] = ⊥
+BeginsWithTop (k ∷ ks) = k ≡ kinds.Top
+
+-- behind each long and each double stands Top, for its second local variable (JVM Specification 4.10.1.4)
+abbrev pub ArePaired : List Kind → Type 0
+ArePaired [] = ⊤
+ArePaired (k ∷ ks) = (kind_slots k ≡ 2 → BeginsWithTop ks) × ArePaired ks
+
 pub record IsState (code : List Insn) (max_locals max_stack : ℕ) (state : State) : Type 0 where
   pub locals : length state.locals ≡ max_locals
+  pub pairs : ArePaired state.locals
   pub stack : sum_by kind_slots state.stack ≤ max_stack
   pub local_kinds : All (IsKind code) state.locals
   pub stack_kinds : All (IsKind code) state.stack
@@ -79,17 +92,36 @@ AreFramesFrom first code max_locals max_stack (f ∷ frames) =
 
 -- ---- what is used
 
--- one entry is for this place, and the fact holds of what stands there
+-- what stands at a place, by the entry that is for it
+abbrev pub what_used : List Use → ℕ → Option What
+what_used [] place = None
+what_used (u ∷ uses) place = if nat_eq u.place place then Some u.what else what_used uses place
+
+-- no two entries are for one place: the places rise, from one on
+abbrev pub AreRisingFrom : ℕ → List Use → Type 0
+AreRisingFrom first [] = ⊤
+AreRisingFrom first (u ∷ uses) = (first ≤ u.place) × AreRisingFrom (u.place + 1) uses
+
+-- there is an entry for the place, and the fact holds of what stands there
 pub record HasUse (uses : List Use) (place : ℕ) (Fact : What → Type 0) : Type 0 where
-  pub use_of : Use
-  pub listed : Contains uses use_of
-  pub place_is : use_of.place ≡ place
-  pub fact : Fact use_of.what
-  pub single : (other : Use) → Contains uses other → other.place ≡ place → other ≡ use_of
+  pub what : What
+  pub used : what_used uses place ≡ Some what
+  pub fact : Fact what
+
+-- each text fits into a Utf8 entry (JVM Specification 4.4.7)
+abbrev pub HasShortTexts : What → Type 0
+HasShortTexts (whats.Field class name desc) = IsShort class × IsShort name × IsShort desc
+HasShortTexts (whats.Method class name desc) = IsShort class × IsShort name × IsShort desc
+HasShortTexts (whats.Call name desc) = IsShort name × IsShort desc
+HasShortTexts (whats.Class name) = IsShort name
+HasShortTexts (whats.Computed desc) = IsShort desc
+HasShortTexts what = ⊤
 
 pub record AreUses (code : List Insn) (handlers : List Handler) (uses : List Use) : Type 0 where
+  pub rising : AreRisingFrom 0 uses
   pub by_insns : All (λ insn. (place : ℕ) → pool_place insn ≡ Some place → HasUse uses place (Suits insn)) code
   pub by_handlers : All (λ h. h.class ≢ 0 → HasUse uses h.class IsClass) handlers
+  pub short : All (λ u. HasShortTexts u.what) uses
 
 -- ---- arguments
 
@@ -104,9 +136,27 @@ pub record TakeSlots (flags : ℕ) (desc : List ℕ) (slots : ℕ) : Type 0 wher
   pub static_slots : IsStatic flags → slots ≡ parameter_slots type
   pub other_slots : (IsStatic flags → ⊥) → slots ≡ 1 + parameter_slots type
 
+-- ---- sizes
+
+-- fewer items than a number of four bytes tells apart
+abbrev pub IsCounted : {X : Type 0} → List X → Type 0
+IsCounted xs = length xs < 4294967296
+
+pub record HasSizes (b : Body) : Type 0 where
+  pub owner : IsShort b.owner
+  pub name : IsShort b.name
+  pub desc : IsShort b.desc
+  pub handlers : IsCounted b.handlers
+  pub lines : IsCounted b.lines
+  pub vars : IsCounted b.vars
+  pub kind_vars : IsCounted b.kind_vars
+  pub frames : IsCounted b.frames
+  pub uses : IsCounted b.uses
+
 -- ---- the whole
 
-pub record IsWellMade (b : Body) : Type 0 where
+-- a well made body, whatever the number of its instructions times its slots is
+pub record IsWellMadeOfAnySize (b : Body) : Type 0 where
   pub code : IsCode b.code
   pub handlers : All (IsHandler (length b.code)) b.handlers
   pub lines : All (IsLine (length b.code)) b.lines
@@ -117,4 +167,15 @@ pub record IsWellMade (b : Body) : Type 0 where
   pub arguments_fit : b.arg_slots ≤ b.max_locals
   pub uses : AreUses b.code b.handlers b.uses
   pub frames : AreFramesFrom 0 b.code b.max_locals b.max_stack b.frames
-  pub bound : length b.code * (b.max_locals + b.max_stack) ≤ 33554432
+  pub sizes : HasSizes b
+
+-- the most instructions times slots of the local variables and of the stack; this bound is the tool's own
+abbrev pub most_slots : ℕ
+most_slots = 33554432
+
+abbrev pub IsBounded : Body → Type 0
+IsBounded b = length b.code * (b.max_locals + b.max_stack) ≤ most_slots
+
+pub record IsWellMade (b : Body) : Type 0 where
+  pub of_any_size : IsWellMadeOfAnySize b
+  pub bound : IsBounded b

@@ -127,7 +127,7 @@ pub struct Body {
     pub kind_vars: List<VarAt>,
     /// The stack map frames, in their order.
     pub frames: List<FrameAt>,
-    /// What stands at each place in the pool that an instruction or an exception row uses, in
-    /// first-seen order, the instructions first.
+    /// What stands at each place in the pool that an instruction or an exception row uses: one
+    /// entry a place, in rising order of the place.
     pub uses: List<Use>,
 }

@@ -1,6 +1,7 @@
 //! Want of memory, and the error of a call that can also refuse.
 ghost use Rattle.std.specs.Prelude.{◌≡◌};
 
+use crate::Short;
 use std::alloc::{AllocError, AllocFailed};
 
 /// Memory was refused.
@@ -58,5 +59,21 @@ impl<T: Drop, E> From<AllocFailed<T>> for Fail<E> {
 
     fn from(_: AllocFailed<T>) -> Self {
         Fail::Memory
+    }
+}
+
+/// No item of the form that is looked for stands in front of the bytes that are left.
+#[derive(Clone, Copy, Debug, PartialEq, Eq)]
+pub struct Unfit;
+
+impl From<Short> for Fail<Unfit> {
+    ghost use Rattle.std.specs.Prelude.{◌≡◌};
+    ghost use Rattle.jc_base.specs.declared.fail.Fail.TheVariants as fails;
+    ghost use Rattle.jc_base.specs.declared.fail.Unfit.{Unfit};
+
+    ghost from_gives = { λ _ e. (why : Unfit) × (e ≡ fails.Said why) };
+
+    fn from(_: Short) -> Self {
+        Fail::Said(Unfit)
     }
 }

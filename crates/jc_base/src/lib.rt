@@ -23,14 +23,14 @@ mod put;
 mod reader;
 mod refusal;
 mod sink;
-mod unread;
+mod used;
 
 pub use body::{Body, FrameAt, Handler, LineAt, Use, VarAt, What};
 pub use descriptor::{
     argument_slots, each_descriptor_has_one_type, is_field_descriptor, is_method_descriptor,
     split_type,
 };
-pub use fail::{Fail, Memory};
+pub use fail::{Fail, Memory, Unfit};
 pub use files::{FileFault, Files, MOST_READ};
 pub use form::{Form, form_of};
 pub use host_files::HostFiles;
@@ -47,7 +47,7 @@ pub use put::{put_bytes, put_u8, put_u16, put_u32, put_u64};
 pub use reader::{Reader, Short};
 pub use refusal::{Refusal, RefusalKind};
 pub use sink::{Sink, SinkFault};
-pub use unread::Unread;
+pub use used::what_used;
 
 #[cfg(test)]
 mod tests;

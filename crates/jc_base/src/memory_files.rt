@@ -90,6 +90,10 @@ impl Model for MemoryFiles {
 impl MemoryFiles {
     /// No files. The calls of `Files` with these numbers, counted from 1 over all calls on the
     /// value, are to fail.
+    ///
+    /// # Errors
+    ///
+    /// `Memory` where memory was refused.
     pub fn new(alloc: Global, failing: &[u32]) -> Result<MemoryFiles, Memory>
         ensures { IfOk result (λ m. m ≡ record { files = empty; calls = record { failing = failing.now; made = 0 }; read_faults = 0; write_faults = 0 }) }
     {
@@ -103,11 +107,15 @@ impl MemoryFiles {
     }
 
     /// Places a file. This is no call of `Files`, and isn't counted.
-    pub fn with(&mut self, path: &str, bytes: &[u8]) -> Result<(), Memory>
+    ///
+    /// # Errors
+    ///
+    /// `Memory` where memory was refused. Then nothing has changed.
+    pub fn with(&mut self, alloc: Global, path: &str, bytes: &[u8]) -> Result<(), Memory>
         ensures ok { OnOk result (self.new ≡ record self.old { files = insert self.old.files path.now bytes.now }) }
         ensures err { OnErr result (self.new ≡ self.old) }
     {
-        place(self.alloc, &mut self.files, path, bytes)?;
+        place(alloc, &mut self.files, path, bytes)?;
         Ok(())
     }
 

@@ -1,8 +1,6 @@
 //! Names with numbers.
-ghost use Rattle.std.specs.Prelude.{◌≡◌, ◌≤◌, ◌<◌, ℕ, List, [], Some, slice_get, length, map, IfOk, OnOk, OnErr};
-ghost use Rattle.std.specs.List.{IsDistinct};
-ghost use Rattle.std.specs.Str.{bytes_eq};
-ghost use Rattle.jc_base.specs.Names.{with_name};
+ghost use Rattle.std.specs.Prelude.{◌≡◌, ◌<◌, ℕ, List, [], Some, slice_get, length, map, IfOk, OnOk, OnErr};
+ghost use Rattle.jc_base.specs.Names.{with_name, AreNames};
 
 use crate::Memory;
 use indexmap::IndexSet;
@@ -23,7 +21,7 @@ impl Model for Names {
 
     ghost view = { λ a. map (λ v. v.items) a.set.keys };
 
-    ghost invariant = { λ a. length a.set.keys ≤ 4294967295 };
+    ghost invariant = { λ a. AreNames (map (λ v. v.items) a.set.keys) };
 }
 
 impl Names {
@@ -50,7 +48,8 @@ impl Names {
         ensures place { IfOk result (λ number. slice_get self.new number ≡ Some name.now) }
         ensures names { OnOk result (self.new ≡ with_name self.old name.now) }
         ensures kept { OnErr result (self.new ≡ self.old) }
-        ensures few { length self.new ≤ 4294967295 }
+        ensures names_before { AreNames self.old }
+        ensures names_after { AreNames self.new }
     {
         if let Some(number) = self.set.get_index_of(name) {
             return Ok(number as u32);
@@ -66,7 +65,7 @@ impl Names {
     /// How many names there are. No two are equal.
     pub fn len(&self) -> u32
         ensures count { result ≡ length self.now }
-        ensures distinct { IsDistinct bytes_eq self.now }
+        ensures names { AreNames self.now }
     {
         self.set.len() as u32
     }
@@ -74,7 +73,8 @@ impl Names {
     /// The name with this number.
     pub fn text(&self, number: u32) -> &[u8]
         requires { number < length self.now }
-        ensures { slice_get self.now number ≡ Some result.now }
+        ensures text { slice_get self.now number ≡ Some result.now }
+        ensures names { AreNames self.now }
     {
         self.set.as_slice()[number as usize].as_slice()
     }

@@ -86,7 +86,7 @@ fn uses_of_instructions(rt: HostRuntime) {
 fn planned_calls_fail(rt: HostRuntime) -> Result<(), Fail> {
     let alloc = rt.alloc();
     let mut files = MemoryFiles::new(alloc, &[2, 3])?;
-    files.with("a", b"abcd")?;
+    files.with(alloc, "a", b"abcd")?;
     let mut into = Vec::new(alloc);
     assert_eq!(rt; files.read(alloc, "a", &mut into), Ok(()));
     assert_eq!(rt; into.as_slice(), b"abcd".as_slice());

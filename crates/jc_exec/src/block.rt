@@ -6,7 +6,7 @@ ghost use Rattle.jc_exec.specs.Store.{IsSmall};
 ghost use Rattle.jc_exec.specs.Reading.{text_at, count_in, count_at, bits_at, class_at};
 
 use crate::ClassHits;
-use jc_base::{Bytes, List, Reader, Unread};
+use jc_base::{Bytes, Fail, List, Reader, Unfit};
 use std::alloc::{AllocError, Global};
 
 pub const HEADER: [u8; 5] = [0x01, 0xc0, 0xc0, 0x10, 0x07];
@@ -27,7 +27,7 @@ pub fn header(reader: &mut Reader<'_>) -> bool
 
 /// A length of two bytes, and as many bytes of modified UTF-8.
 #[tactic(auto, unfolding(crate::specs::Reading::text_at))]
-fn text(alloc: Global, reader: &mut Reader<'_>) -> Result<Bytes, Unread>
+fn text(alloc: Global, reader: &mut Reader<'_>) -> Result<Bytes, Fail<Unfit>>
     ensures gives { Gives (λ name. name) result reader.new.left (text_at reader.old.left) }
     ensures small { IfOk result (λ name. length name < 65536) }
     ensures end { SameEnd reader.old reader.new }
@@ -38,14 +38,14 @@ fn text(alloc: Global, reader: &mut Reader<'_>) -> Result<Bytes, Unread>
 }
 
 /// A number that is spelled in at most so many bytes, seven bits in each.
-fn count_in(reader: &mut Reader<'_>, most: u32) -> Result<u64, Unread>
+fn count_in(reader: &mut Reader<'_>, most: u32) -> Result<u64, Fail<Unfit>>
     requires { most ≤ 5 }
     ensures gives { Gives (λ n. n) result reader.new.left (count_in most reader.old.left) }
     ensures end { SameEnd reader.old reader.new }
     ensures bound { IfOk result (λ n. n < 128 ^ most) }
 {
     if most == 0 {
-        return Err(Unread::Unfit);
+        return Err(Fail::Said(Unfit));
     }
     let byte = reader.u8()?;
     if byte < 0x80 {
@@ -57,14 +57,14 @@ fn count_in(reader: &mut Reader<'_>, most: u32) -> Result<u64, Unread>
 
 /// The count of a record's probes.
 #[tactic(auto, unfolding(crate::specs::Reading::count_at))]
-fn count(reader: &mut Reader<'_>) -> Result<u32, Unread>
+fn count(reader: &mut Reader<'_>) -> Result<u32, Fail<Unfit>>
     ensures gives { Gives (λ n. n) result reader.new.left (count_at reader.old.left) }
     ensures end { SameEnd reader.old reader.new }
     ensures small { IfOk result (λ n. n < 65536) }
 {
     let count = count_in(reader, 5)?;
     if count > 0xffff {
-        return Err(Unread::Unfit);
+        return Err(Fail::Said(Unfit));
     }
     Ok(count as u32)
 }
@@ -103,7 +103,7 @@ fn first_bits(alloc: Global, bytes: &[u8], count: u32) -> Result<List<bool>, All
 
 /// As many bits as the count says.
 #[tactic(auto, unfolding(crate::specs::Reading::bits_at))]
-fn bits(alloc: Global, reader: &mut Reader<'_>, count: u32) -> Result<List<bool>, Unread>
+fn bits(alloc: Global, reader: &mut Reader<'_>, count: u32) -> Result<List<bool>, Fail<Unfit>>
     requires { count < 65536 }
     ensures gives { Gives (λ bits. bits) result reader.new.left (bits_at count reader.old.left) }
     ensures length { IfOk result (λ bits. length bits ≡ count) }
@@ -115,13 +115,13 @@ fn bits(alloc: Global, reader: &mut Reader<'_>, count: u32) -> Result<List<bool>
 
 /// The record of a class.
 #[tactic(auto, unfolding(crate::specs::Reading::class_at))]
-pub fn class(alloc: Global, reader: &mut Reader<'_>) -> Result<ClassHits, Unread>
+pub fn class(alloc: Global, reader: &mut Reader<'_>) -> Result<ClassHits, Fail<Unfit>>
     ensures gives { Gives (λ hits. hits) result reader.new.left (class_at reader.old.left) }
     ensures small { IfOk result IsSmall }
     ensures end { SameEnd reader.old reader.new }
 {
     if reader.u8()? != CLASS {
-        return Err(Unread::Unfit);
+        return Err(Fail::Said(Unfit));
     }
     let id = reader.u64()?;
     let name = text(alloc, reader)?;

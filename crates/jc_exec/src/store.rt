@@ -11,7 +11,7 @@ use crate::block::{class, header};
 use crate::write::exec_data;
 use crate::{ClassHits, ExecRefusal};
 use indexmap::IndexMap;
-use jc_base::{Fail, Memory, Reader, Unread, is_modified};
+use jc_base::{Fail, Memory, Reader, Unfit, is_modified};
 use std::alloc::{AllocError, Global};
 use std::marker::Model;
 
@@ -153,8 +153,8 @@ fn read_plain(alloc: Global, known: &Records, bytes: &[u8]) -> Result<Records, F
         let place = reader.place();
         let hits = match class(alloc, &mut reader) {
             Ok(hits) => hits,
-            Err(Unread::Memory) => return Err(Fail::Memory),
-            Err(Unread::Unfit) => return Err(Fail::Said(ExecRefusal::LaterForm { place })),
+            Err(Fail::Memory) => return Err(Fail::Memory),
+            Err(Fail::Said(Unfit)) => return Err(Fail::Said(ExecRefusal::LaterForm { place })),
         };
         if !fits(known, &fresh, &hits) {
             return Err(Fail::Said(ExecRefusal::LaterForm { place }));

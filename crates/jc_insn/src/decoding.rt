@@ -8,7 +8,7 @@ ghost use Rattle.jc_insn.specs.Decoding.{Refuses, GivesNext, IsInsnAmong, AreSta
 
 use crate::item::{Item, read_item};
 use crate::places::{all_numbered, numbers};
-use jc_base::{Fail, Insn, List, Reader, Refusal, RefusalKind, Unread};
+use jc_base::{Fail, Insn, List, Reader, Refusal, RefusalKind, Unfit};
 use std::alloc::Global;
 
 /// Instructions, and where they begin.
@@ -49,8 +49,8 @@ fn next_insn(alloc: Global, reader: &mut Reader<'_>) -> Result<Insn, Fail<Refusa
     match read_item(alloc, reader) {
         Ok(Item::Insn(insn)) => Ok(insn),
         Ok(Item::Subroutine) => Err(Fail::Said(refused(RefusalKind::Subroutine, place))),
-        Err(Unread::Memory) => Err(Fail::Memory),
-        Err(Unread::Unfit) => Err(Fail::Said(refused(RefusalKind::BadCode, place))),
+        Err(Fail::Memory) => Err(Fail::Memory),
+        Err(Fail::Said(Unfit)) => Err(Fail::Said(refused(RefusalKind::BadCode, place))),
     }
 }
 

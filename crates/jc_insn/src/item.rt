@@ -9,7 +9,7 @@ use crate::operands::{
     new_array, of_class, push_byte, push_short, wide, wide_jump,
 };
 use crate::switch::{lookup, table};
-use jc_base::{Form, Insn, Reader, Unread, form_of};
+use jc_base::{Fail, Form, Insn, Reader, Unfit, form_of};
 use std::alloc::Global;
 
 /// What stands at an offset of the code.
@@ -51,7 +51,7 @@ fn operands(
     at: u32,
     form: Form,
     op: u8,
-) -> Result<Item, Unread>
+) -> Result<Item, Fail<Unfit>>
     requires { reader.old.place + length reader.old.left ≤ 67108864 }
     ensures gives { Gives (λ item. item) result reader.new.left (operands_at at form op reader.old.left) }
     ensures end { SameEnd reader.old reader.new }
@@ -79,13 +79,13 @@ fn operands(
         Form::NewArray => new_array(reader),
         Form::Multi => multi(reader),
         Form::Wide => wide(reader),
-        Form::Unknown => Err(Unread::Unfit),
+        Form::Unknown => Err(Fail::Said(Unfit)),
     }
 }
 
 /// What stands at the reader's offset.
 #[tactic(auto, unfolding(crate::specs::Reading::item_at))]
-pub fn read_item(alloc: Global, reader: &mut Reader<'_>) -> Result<Item, Unread>
+pub fn read_item(alloc: Global, reader: &mut Reader<'_>) -> Result<Item, Fail<Unfit>>
     requires { reader.old.place + length reader.old.left ≤ 67108864 }
     ensures gives { Gives (λ item. item) result reader.new.left (item_at reader.old.place reader.old.left) }
     ensures end { SameEnd reader.old reader.new }

@@ -5,7 +5,7 @@ ghost use Rattle.jc_insn.specs.Items.{target_of};
 ghost use Rattle.jc_insn.specs.Reading.{push_byte_at, push_short_at, constant_byte_at, constant_short_at, constant2_at, local_at, inc_at, jump_at, wide_jump_at, member_at, interface_at, dynamic_at, of_class_at, new_array_at, multi_at, wide_local_at, wide_inc_at, wide_operands_at, wide_at};
 
 use crate::item::Item;
-use jc_base::{Form, Insn, Reader, Unread, form_of};
+use jc_base::{Fail, Form, Insn, Reader, Unfit, form_of};
 
 const GOTO: u8 = 167;
 
@@ -20,7 +20,7 @@ pub fn target(at: u32, difference: i32) -> u32
 
 /// `bipush`.
 #[tactic(auto, unfolding(crate::specs::Reading::push_byte_at))]
-pub fn push_byte(reader: &mut Reader<'_>, op: u8) -> Result<Item, Unread>
+pub fn push_byte(reader: &mut Reader<'_>, op: u8) -> Result<Item, Fail<Unfit>>
     ensures gives { Gives (λ item. item) result reader.new.left (push_byte_at op reader.old.left) }
     ensures end { SameEnd reader.old reader.new }
 {
@@ -33,7 +33,7 @@ pub fn push_byte(reader: &mut Reader<'_>, op: u8) -> Result<Item, Unread>
 
 /// `sipush`.
 #[tactic(auto, unfolding(crate::specs::Reading::push_short_at))]
-pub fn push_short(reader: &mut Reader<'_>, op: u8) -> Result<Item, Unread>
+pub fn push_short(reader: &mut Reader<'_>, op: u8) -> Result<Item, Fail<Unfit>>
     ensures gives { Gives (λ item. item) result reader.new.left (push_short_at op reader.old.left) }
     ensures end { SameEnd reader.old reader.new }
 {
@@ -46,7 +46,7 @@ pub fn push_short(reader: &mut Reader<'_>, op: u8) -> Result<Item, Unread>
 
 /// `ldc`.
 #[tactic(auto, unfolding(crate::specs::Reading::constant_byte_at))]
-pub fn constant_byte(reader: &mut Reader<'_>) -> Result<Item, Unread>
+pub fn constant_byte(reader: &mut Reader<'_>) -> Result<Item, Fail<Unfit>>
     ensures gives { Gives (λ item. item) result reader.new.left (constant_byte_at reader.old.left) }
     ensures end { SameEnd reader.old reader.new }
 {
@@ -58,7 +58,7 @@ pub fn constant_byte(reader: &mut Reader<'_>) -> Result<Item, Unread>
 
 /// `ldc_w`.
 #[tactic(auto, unfolding(crate::specs::Reading::constant_short_at))]
-pub fn constant_short(reader: &mut Reader<'_>) -> Result<Item, Unread>
+pub fn constant_short(reader: &mut Reader<'_>) -> Result<Item, Fail<Unfit>>
     ensures gives { Gives (λ item. item) result reader.new.left (constant_short_at reader.old.left) }
     ensures end { SameEnd reader.old reader.new }
 {
@@ -68,7 +68,7 @@ pub fn constant_short(reader: &mut Reader<'_>) -> Result<Item, Unread>
 
 /// `ldc2_w`.
 #[tactic(auto, unfolding(crate::specs::Reading::constant2_at))]
-pub fn constant2(reader: &mut Reader<'_>) -> Result<Item, Unread>
+pub fn constant2(reader: &mut Reader<'_>) -> Result<Item, Fail<Unfit>>
     ensures gives { Gives (λ item. item) result reader.new.left (constant2_at reader.old.left) }
     ensures end { SameEnd reader.old reader.new }
 {
@@ -78,7 +78,7 @@ pub fn constant2(reader: &mut Reader<'_>) -> Result<Item, Unread>
 
 /// A load or a store of a local variable.
 #[tactic(auto, unfolding(crate::specs::Reading::local_at))]
-pub fn local(reader: &mut Reader<'_>, op: u8) -> Result<Item, Unread>
+pub fn local(reader: &mut Reader<'_>, op: u8) -> Result<Item, Fail<Unfit>>
     ensures gives { Gives (λ item. item) result reader.new.left (local_at op reader.old.left) }
     ensures end { SameEnd reader.old reader.new }
 {
@@ -91,7 +91,7 @@ pub fn local(reader: &mut Reader<'_>, op: u8) -> Result<Item, Unread>
 
 /// `iinc`.
 #[tactic(auto, unfolding(crate::specs::Reading::inc_at))]
-pub fn inc(reader: &mut Reader<'_>) -> Result<Item, Unread>
+pub fn inc(reader: &mut Reader<'_>) -> Result<Item, Fail<Unfit>>
     ensures gives { Gives (λ item. item) result reader.new.left (inc_at reader.old.left) }
     ensures end { SameEnd reader.old reader.new }
 {
@@ -105,7 +105,7 @@ pub fn inc(reader: &mut Reader<'_>) -> Result<Item, Unread>
 
 /// A conditional jump or `goto`.
 #[tactic(auto, unfolding(crate::specs::Reading::jump_at))]
-pub fn jump(reader: &mut Reader<'_>, at: u32, op: u8) -> Result<Item, Unread>
+pub fn jump(reader: &mut Reader<'_>, at: u32, op: u8) -> Result<Item, Fail<Unfit>>
     ensures gives { Gives (λ item. item) result reader.new.left (jump_at at op reader.old.left) }
     ensures end { SameEnd reader.old reader.new }
 {
@@ -118,7 +118,7 @@ pub fn jump(reader: &mut Reader<'_>, at: u32, op: u8) -> Result<Item, Unread>
 
 /// `goto_w`.
 #[tactic(auto, unfolding(crate::specs::Reading::wide_jump_at))]
-pub fn wide_jump(reader: &mut Reader<'_>, at: u32) -> Result<Item, Unread>
+pub fn wide_jump(reader: &mut Reader<'_>, at: u32) -> Result<Item, Fail<Unfit>>
     ensures gives { Gives (λ item. item) result reader.new.left (wide_jump_at at reader.old.left) }
     ensures end { SameEnd reader.old reader.new }
 {
@@ -131,7 +131,7 @@ pub fn wide_jump(reader: &mut Reader<'_>, at: u32) -> Result<Item, Unread>
 
 /// A field, or a call of a method that isn't one of an interface.
 #[tactic(auto, unfolding(crate::specs::Reading::member_at))]
-pub fn member(reader: &mut Reader<'_>, op: u8) -> Result<Item, Unread>
+pub fn member(reader: &mut Reader<'_>, op: u8) -> Result<Item, Fail<Unfit>>
     ensures gives { Gives (λ item. item) result reader.new.left (member_at op reader.old.left) }
     ensures end { SameEnd reader.old reader.new }
 {
@@ -141,7 +141,7 @@ pub fn member(reader: &mut Reader<'_>, op: u8) -> Result<Item, Unread>
 
 /// `invokeinterface`.
 #[tactic(auto, unfolding(crate::specs::Reading::interface_at))]
-pub fn interface(reader: &mut Reader<'_>) -> Result<Item, Unread>
+pub fn interface(reader: &mut Reader<'_>) -> Result<Item, Fail<Unfit>>
     ensures gives { Gives (λ item. item) result reader.new.left (interface_at reader.old.left) }
     ensures end { SameEnd reader.old reader.new }
 {
@@ -153,7 +153,7 @@ pub fn interface(reader: &mut Reader<'_>) -> Result<Item, Unread>
 
 /// `invokedynamic`.
 #[tactic(auto, unfolding(crate::specs::Reading::dynamic_at))]
-pub fn dynamic(reader: &mut Reader<'_>) -> Result<Item, Unread>
+pub fn dynamic(reader: &mut Reader<'_>) -> Result<Item, Fail<Unfit>>
     ensures gives { Gives (λ item. item) result reader.new.left (dynamic_at reader.old.left) }
     ensures end { SameEnd reader.old reader.new }
 {
@@ -164,7 +164,7 @@ pub fn dynamic(reader: &mut Reader<'_>) -> Result<Item, Unread>
 
 /// `new`, `anewarray`, `checkcast` or `instanceof`.
 #[tactic(auto, unfolding(crate::specs::Reading::of_class_at))]
-pub fn of_class(reader: &mut Reader<'_>, op: u8) -> Result<Item, Unread>
+pub fn of_class(reader: &mut Reader<'_>, op: u8) -> Result<Item, Fail<Unfit>>
     ensures gives { Gives (λ item. item) result reader.new.left (of_class_at op reader.old.left) }
     ensures end { SameEnd reader.old reader.new }
 {
@@ -174,7 +174,7 @@ pub fn of_class(reader: &mut Reader<'_>, op: u8) -> Result<Item, Unread>
 
 /// `newarray`.
 #[tactic(auto, unfolding(crate::specs::Reading::new_array_at))]
-pub fn new_array(reader: &mut Reader<'_>) -> Result<Item, Unread>
+pub fn new_array(reader: &mut Reader<'_>) -> Result<Item, Fail<Unfit>>
     ensures gives { Gives (λ item. item) result reader.new.left (new_array_at reader.old.left) }
     ensures end { SameEnd reader.old reader.new }
 {
@@ -182,13 +182,13 @@ pub fn new_array(reader: &mut Reader<'_>) -> Result<Item, Unread>
     if elem >= 4 && elem <= 11 {
         Ok(Item::Insn(Insn::NewArray { elem }))
     } else {
-        Err(Unread::Unfit)
+        Err(Fail::Said(Unfit))
     }
 }
 
 /// `multianewarray`.
 #[tactic(auto, unfolding(crate::specs::Reading::multi_at))]
-pub fn multi(reader: &mut Reader<'_>) -> Result<Item, Unread>
+pub fn multi(reader: &mut Reader<'_>) -> Result<Item, Fail<Unfit>>
     ensures gives { Gives (λ item. item) result reader.new.left (multi_at reader.old.left) }
     ensures end { SameEnd reader.old reader.new }
 {
@@ -197,13 +197,13 @@ pub fn multi(reader: &mut Reader<'_>) -> Result<Item, Unread>
     if dims >= 1 {
         Ok(Item::Insn(Insn::Multi { place, dims }))
     } else {
-        Err(Unread::Unfit)
+        Err(Fail::Said(Unfit))
     }
 }
 
 /// A load or a store of a local variable, behind `wide`.
 #[tactic(auto, unfolding(crate::specs::Reading::wide_local_at))]
-fn wide_local(reader: &mut Reader<'_>, op: u8) -> Result<Item, Unread>
+fn wide_local(reader: &mut Reader<'_>, op: u8) -> Result<Item, Fail<Unfit>>
     ensures gives { Gives (λ item. item) result reader.new.left (wide_local_at op reader.old.left) }
     ensures end { SameEnd reader.old reader.new }
 {
@@ -213,7 +213,7 @@ fn wide_local(reader: &mut Reader<'_>, op: u8) -> Result<Item, Unread>
 
 /// `iinc`, behind `wide`.
 #[tactic(auto, unfolding(crate::specs::Reading::wide_inc_at))]
-fn wide_inc(reader: &mut Reader<'_>) -> Result<Item, Unread>
+fn wide_inc(reader: &mut Reader<'_>) -> Result<Item, Fail<Unfit>>
     ensures gives { Gives (λ item. item) result reader.new.left (wide_inc_at reader.old.left) }
     ensures end { SameEnd reader.old reader.new }
 {
@@ -227,7 +227,7 @@ fn wide_inc(reader: &mut Reader<'_>) -> Result<Item, Unread>
 
 /// What stands behind `wide` and an opcode of this form.
 #[tactic(auto, unfolding(crate::specs::Reading::wide_operands_at))]
-fn wide_operands(reader: &mut Reader<'_>, form: Form, op: u8) -> Result<Item, Unread>
+fn wide_operands(reader: &mut Reader<'_>, form: Form, op: u8) -> Result<Item, Fail<Unfit>>
     ensures gives { Gives (λ item. item) result reader.new.left (wide_operands_at form op reader.old.left) }
     ensures end { SameEnd reader.old reader.new }
 {
@@ -238,16 +238,16 @@ fn wide_operands(reader: &mut Reader<'_>, form: Form, op: u8) -> Result<Item, Un
             if op == RET {
                 Ok(Item::Subroutine)
             } else {
-                Err(Unread::Unfit)
+                Err(Fail::Said(Unfit))
             }
         }
-        _ => Err(Unread::Unfit),
+        _ => Err(Fail::Said(Unfit)),
     }
 }
 
 /// What stands behind `wide`.
 #[tactic(auto, unfolding(crate::specs::Reading::wide_at))]
-pub fn wide(reader: &mut Reader<'_>) -> Result<Item, Unread>
+pub fn wide(reader: &mut Reader<'_>) -> Result<Item, Fail<Unfit>>
     ensures gives { Gives (λ item. item) result reader.new.left (wide_at reader.old.left) }
     ensures end { SameEnd reader.old reader.new }
 {

@@ -8,14 +8,14 @@ use crate::item::Item;
 use crate::operands::target;
 use crate::size::padding;
 use byteorder::{BigEndian, ByteOrder};
-use jc_base::{Arm, Insn, List, Reader, Unread};
+use jc_base::{Arm, Fail, Insn, List, Reader, Unfit};
 use std::alloc::{AllocError, Global};
 
 /// The most bytes that code has.
 const MOST: u64 = 67_108_864;
 
 /// The next `count` pieces of `size` bytes each.
-fn pieces<'a>(reader: &mut Reader<'a>, size: u32, count: u64) -> Result<&'a [u8], Unread>
+fn pieces<'a>(reader: &mut Reader<'a>, size: u32, count: u64) -> Result<&'a [u8], Fail<Unfit>>
     requires small { reader.old.place + length reader.old.left ≤ 67108864 }
     requires some { 0 < size }
     requires few { size ≤ 8 }
@@ -23,7 +23,7 @@ fn pieces<'a>(reader: &mut Reader<'a>, size: u32, count: u64) -> Result<&'a [u8]
     ensures end { SameEnd reader.old reader.new }
 {
     if count > MOST {
-        return Err(Unread::Unfit);
+        return Err(Fail::Said(Unfit));
     }
     Ok(reader.take(size * count as u32)?)
 }
@@ -100,7 +100,7 @@ fn key_count(low: i32, high: i32) -> u64
 
 /// `tableswitch` at this offset.
 #[tactic(auto, unfolding(crate::specs::Reading::table_at))]
-pub fn table(alloc: Global, reader: &mut Reader<'_>, at: u32) -> Result<Item, Unread>
+pub fn table(alloc: Global, reader: &mut Reader<'_>, at: u32) -> Result<Item, Fail<Unfit>>
     requires { reader.old.place + length reader.old.left ≤ 67108864 }
     ensures gives { Gives (λ item. item) result reader.new.left (table_at at reader.old.left) }
     ensures end { SameEnd reader.old reader.new }
@@ -110,7 +110,7 @@ pub fn table(alloc: Global, reader: &mut Reader<'_>, at: u32) -> Result<Item, Un
     let low = reader.u32()?.cast_signed();
     let high = reader.u32()?.cast_signed();
     if !are_keys(low, high) {
-        return Err(Unread::Unfit);
+        return Err(Fail::Said(Unfit));
     }
     let words = pieces(reader, 4, key_count(low, high))?;
     Ok(Item::Insn(Insn::Table {
@@ -122,7 +122,7 @@ pub fn table(alloc: Global, reader: &mut Reader<'_>, at: u32) -> Result<Item, Un
 
 /// `lookupswitch` at this offset.
 #[tactic(auto, unfolding(crate::specs::Reading::lookup_at))]
-pub fn lookup(alloc: Global, reader: &mut Reader<'_>, at: u32) -> Result<Item, Unread>
+pub fn lookup(alloc: Global, reader: &mut Reader<'_>, at: u32) -> Result<Item, Fail<Unfit>>
     requires { reader.old.place + length reader.old.left ≤ 67108864 }
     ensures gives { Gives (λ item. item) result reader.new.left (lookup_at at reader.old.left) }
     ensures end { SameEnd reader.old reader.new }
@@ -131,12 +131,12 @@ pub fn lookup(alloc: Global, reader: &mut Reader<'_>, at: u32) -> Result<Item, U
     let default = reader.u32()?.cast_signed();
     let pairs = reader.u32()?;
     if pairs > 0x7fff_ffff {
-        return Err(Unread::Unfit);
+        return Err(Fail::Said(Unfit));
     }
     let words = pieces(reader, 8, u64::from(pairs))?;
     let arms = arms(alloc, at, words)?;
     if !is_ascending(&arms) {
-        return Err(Unread::Unfit);
+        return Err(Fail::Said(Unfit));
     }
     Ok(Item::Insn(Insn::Lookup {
         default: target(at, default),

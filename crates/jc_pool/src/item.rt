@@ -6,12 +6,12 @@ ghost use Rattle.jc_pool.specs.Pool.{IsSmall, width};
 ghost use Rattle.jc_pool.specs.EntryReading.{count_at, utf8_at, integer_at, float_at, long_at, double_at, of_place, place_at, of_places, places_at, handle_at, info_at, entry_at, fitting_at};
 
 use crate::entry::Entry;
-use jc_base::{Bytes, Fail, Reader, Refusal, Unread, not_a_class};
+use jc_base::{Bytes, Fail, Reader, Refusal, Unfit, not_a_class};
 use std::alloc::Global;
 
 /// The pool's count, which is above 0.
 #[tactic(auto, unfolding(crate::specs::EntryReading::count_at))]
-fn count(reader: &mut Reader<'_>) -> Result<u16, Unread>
+fn count(reader: &mut Reader<'_>) -> Result<u16, Fail<Unfit>>
     ensures gives { Gives (λ n. n) result reader.new.left (count_at reader.old.left) }
     ensures some { IfOk result (λ n. 0 < n) }
     ensures end { SameEnd reader.old reader.new }
@@ -19,14 +19,14 @@ fn count(reader: &mut Reader<'_>) -> Result<u16, Unread>
 {
     let count = reader.u16()?;
     if count == 0 {
-        return Err(Unread::Unfit);
+        return Err(Fail::Said(Unfit));
     }
     Ok(count)
 }
 
 /// A size of two bytes, and as many bytes of text.
 #[tactic(auto, unfolding(crate::specs::EntryReading::utf8_at))]
-fn utf8(alloc: Global, reader: &mut Reader<'_>) -> Result<Entry, Unread>
+fn utf8(alloc: Global, reader: &mut Reader<'_>) -> Result<Entry, Fail<Unfit>>
     ensures gives { Gives (λ e. e) result reader.new.left (utf8_at reader.old.left) }
     ensures small { IfOk result IsSmall }
     ensures end { SameEnd reader.old reader.new }
@@ -38,7 +38,7 @@ fn utf8(alloc: Global, reader: &mut Reader<'_>) -> Result<Entry, Unread>
 }
 
 #[tactic(auto, unfolding(crate::specs::EntryReading::integer_at))]
-fn integer(reader: &mut Reader<'_>) -> Result<Entry, Unread>
+fn integer(reader: &mut Reader<'_>) -> Result<Entry, Fail<Unfit>>
     ensures gives { Gives (λ e. e) result reader.new.left (integer_at reader.old.left) }
     ensures small { IfOk result IsSmall }
     ensures end { SameEnd reader.old reader.new }
@@ -49,7 +49,7 @@ fn integer(reader: &mut Reader<'_>) -> Result<Entry, Unread>
 }
 
 #[tactic(auto, unfolding(crate::specs::EntryReading::float_at))]
-fn float(reader: &mut Reader<'_>) -> Result<Entry, Unread>
+fn float(reader: &mut Reader<'_>) -> Result<Entry, Fail<Unfit>>
     ensures gives { Gives (λ e. e) result reader.new.left (float_at reader.old.left) }
     ensures small { IfOk result IsSmall }
     ensures end { SameEnd reader.old reader.new }
@@ -59,7 +59,7 @@ fn float(reader: &mut Reader<'_>) -> Result<Entry, Unread>
 }
 
 #[tactic(auto, unfolding(crate::specs::EntryReading::long_at))]
-fn long(reader: &mut Reader<'_>) -> Result<Entry, Unread>
+fn long(reader: &mut Reader<'_>) -> Result<Entry, Fail<Unfit>>
     ensures gives { Gives (λ e. e) result reader.new.left (long_at reader.old.left) }
     ensures small { IfOk result IsSmall }
     ensures end { SameEnd reader.old reader.new }
@@ -70,7 +70,7 @@ fn long(reader: &mut Reader<'_>) -> Result<Entry, Unread>
 }
 
 #[tactic(auto, unfolding(crate::specs::EntryReading::double_at))]
-fn double(reader: &mut Reader<'_>) -> Result<Entry, Unread>
+fn double(reader: &mut Reader<'_>) -> Result<Entry, Fail<Unfit>>
     ensures gives { Gives (λ e. e) result reader.new.left (double_at reader.old.left) }
     ensures small { IfOk result IsSmall }
     ensures end { SameEnd reader.old reader.new }
@@ -95,14 +95,14 @@ fn of_place(tag: u8, place: u16) -> Option<Entry>
 }
 
 #[tactic(auto, unfolding(crate::specs::EntryReading::place_at))]
-fn naming_one(reader: &mut Reader<'_>, tag: u8) -> Result<Entry, Unread>
+fn naming_one(reader: &mut Reader<'_>, tag: u8) -> Result<Entry, Fail<Unfit>>
     ensures gives { Gives (λ e. e) result reader.new.left (place_at tag reader.old.left) }
     ensures small { IfOk result IsSmall }
     ensures end { SameEnd reader.old reader.new }
     ensures later { reader.old.place ≤ reader.new.place }
 {
     let place = reader.u16()?;
-    of_place(tag, place).ok_or(Unread::Unfit)
+    of_place(tag, place).ok_or(Fail::Said(Unfit))
 }
 
 /// The entry of this tag that names two places.
@@ -140,7 +140,7 @@ fn of_places(tag: u8, first: u16, second: u16) -> Option<Entry>
 }
 
 #[tactic(auto, unfolding(crate::specs::EntryReading::places_at))]
-fn naming_two(reader: &mut Reader<'_>, tag: u8) -> Result<Entry, Unread>
+fn naming_two(reader: &mut Reader<'_>, tag: u8) -> Result<Entry, Fail<Unfit>>
     ensures gives { Gives (λ e. e) result reader.new.left (places_at tag reader.old.left) }
     ensures small { IfOk result IsSmall }
     ensures end { SameEnd reader.old reader.new }
@@ -148,11 +148,11 @@ fn naming_two(reader: &mut Reader<'_>, tag: u8) -> Result<Entry, Unread>
 {
     let first = reader.u16()?;
     let second = reader.u16()?;
-    of_places(tag, first, second).ok_or(Unread::Unfit)
+    of_places(tag, first, second).ok_or(Fail::Said(Unfit))
 }
 
 #[tactic(auto, unfolding(crate::specs::EntryReading::handle_at))]
-fn handle(reader: &mut Reader<'_>) -> Result<Entry, Unread>
+fn handle(reader: &mut Reader<'_>) -> Result<Entry, Fail<Unfit>>
     ensures gives { Gives (λ e. e) result reader.new.left (handle_at reader.old.left) }
     ensures small { IfOk result IsSmall }
     ensures end { SameEnd reader.old reader.new }
@@ -165,7 +165,7 @@ fn handle(reader: &mut Reader<'_>) -> Result<Entry, Unread>
 
 /// What stands behind the tag of an entry.
 #[tactic(auto, unfolding(crate::specs::EntryReading::info_at))]
-fn info(alloc: Global, reader: &mut Reader<'_>, tag: u8) -> Result<Entry, Unread>
+fn info(alloc: Global, reader: &mut Reader<'_>, tag: u8) -> Result<Entry, Fail<Unfit>>
     ensures gives { Gives (λ e. e) result reader.new.left (info_at tag reader.old.left) }
     ensures small { IfOk result IsSmall }
     ensures end { SameEnd reader.old reader.new }
@@ -185,7 +185,7 @@ fn info(alloc: Global, reader: &mut Reader<'_>, tag: u8) -> Result<Entry, Unread
 
 /// An entry, from its tag on.
 #[tactic(auto, unfolding(crate::specs::EntryReading::entry_at))]
-fn entry(alloc: Global, reader: &mut Reader<'_>) -> Result<Entry, Unread>
+fn entry(alloc: Global, reader: &mut Reader<'_>) -> Result<Entry, Fail<Unfit>>
     ensures gives { Gives (λ e. e) result reader.new.left (entry_at reader.old.left) }
     ensures small { IfOk result IsSmall }
     ensures end { SameEnd reader.old reader.new }
@@ -197,7 +197,7 @@ fn entry(alloc: Global, reader: &mut Reader<'_>) -> Result<Entry, Unread>
 
 /// An entry that takes no more than so many places.
 #[tactic(auto, unfolding(crate::specs::EntryReading::fitting_at))]
-fn fitting(alloc: Global, reader: &mut Reader<'_>, places: usize) -> Result<Entry, Unread>
+fn fitting(alloc: Global, reader: &mut Reader<'_>, places: usize) -> Result<Entry, Fail<Unfit>>
     ensures gives { Gives (λ e. e) result reader.new.left (fitting_at places reader.old.left) }
     ensures small { IfOk result IsSmall }
     ensures fits { IfOk result (λ e. width e ≤ places) }
@@ -206,7 +206,7 @@ fn fitting(alloc: Global, reader: &mut Reader<'_>, places: usize) -> Result<Entr
 {
     let entry = entry(alloc, reader)?;
     if places < entry.width() {
-        return Err(Unread::Unfit);
+        return Err(Fail::Said(Unfit));
     }
     Ok(entry)
 }
@@ -221,8 +221,8 @@ pub fn count_item(reader: &mut Reader<'_>) -> Result<u16, Fail<Refusal>>
     let place = reader.place();
     match count(reader) {
         Ok(count) => Ok(count),
-        Err(Unread::Memory) => Err(Fail::Memory),
-        Err(Unread::Unfit) => Err(Fail::Said(not_a_class(place))),
+        Err(Fail::Memory) => Err(Fail::Memory),
+        Err(Fail::Said(Unfit)) => Err(Fail::Said(not_a_class(place))),
     }
 }
 
@@ -242,7 +242,7 @@ pub fn entry_item(
     let place = reader.place();
     match fitting(alloc, reader, places) {
         Ok(entry) => Ok(entry),
-        Err(Unread::Memory) => Err(Fail::Memory),
-        Err(Unread::Unfit) => Err(Fail::Said(not_a_class(place))),
+        Err(Fail::Memory) => Err(Fail::Memory),
+        Err(Fail::Said(Unfit)) => Err(Fail::Said(not_a_class(place))),
     }
 }

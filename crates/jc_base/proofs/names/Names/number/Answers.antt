@@ -1,6 +1,7 @@
-use Rattle.std.proofs.Common.{◌∙◌, ap, ap₂, map, sym}
+use Rattle.std.proofs.Common.{◌∙◌, ap, ap₂, map, sym, rules}
+use Rattle.std.proofs.lemmas.List.{length-map}
 use Rattle.jc_base.specs.Names.{with_name}
-use Rattle.jc_base.proofs.NameLaws.{found_text, kept_names, stored_text, added_names}
+use Rattle.jc_base.proofs.NameLaws.{found_text, kept_names, stored_text, added_names, distinct_names}
 use Rattle.jc_base.proofs.names.Names.number.Goals as goal
 
 pub returns-in-Some-clause-place : goal.returns-in-Some-clause-place
@@ -21,3 +22,12 @@ returns-clause-names c =
     ap (λ ks. map (λ v. v.items) ks) c.in_ok-stored.ensures.keys
     ∙ added_names (λ v. v.items) c.in_ok-text.text c.self.inside.set.keys
     ∙ ap₂ with_name c.self.view_is c.in_ok-text.ensures.items
+
+pub invariant_of-self-2 : goal.invariant_of-self-2
+invariant_of-self-2 c = record {
+  distinct = distinct_names (λ v. v.items) c.insert_full.new.self.keys c.in_ok-stored.ensures.unique;
+  few = rw (length-map c.insert_full.new.self.keys (λ v. v.items)) (search rules);
+}
+
+pub returns-clause-names_after : goal.returns-clause-names_after
+returns-clause-names_after c = invariant_of-self-2 c

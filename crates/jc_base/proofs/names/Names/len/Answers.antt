@@ -1,8 +1,0 @@
-use Rattle.std.proofs.Common.{subst}
-use Rattle.std.specs.List.{IsDistinct}
-use Rattle.std.specs.Str.{bytes_eq}
-use Rattle.jc_base.proofs.NameLaws.{distinct_names}
-use Rattle.jc_base.proofs.names.Names.len.Goals as goal
-
-pub returns-clause-distinct : goal.returns-clause-distinct
-returns-clause-distinct c = subst (IsDistinct bytes_eq) c.self.view_is (distinct_names (λ v. v.items) c.self.inside.set.keys c.len.ensures.unique)
