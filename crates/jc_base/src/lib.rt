@@ -2,8 +2,10 @@
 //! crates hand to each other, and the files and texts outside.
 #![tactic(auto)]
 
+mod analysed;
 mod body;
 mod descriptor;
+mod emitted;
 mod fail;
 mod files;
 mod form;
@@ -18,18 +20,22 @@ mod memory_files;
 mod memory_sink;
 mod modified;
 mod names;
+mod plan;
 mod planned;
 mod put;
 mod reader;
 mod refusal;
 mod sink;
+mod try_clone;
 mod unread;
 
+pub use analysed::Analysed;
 pub use body::{Body, FrameAt, Handler, LineAt, Use, VarAt, What};
 pub use descriptor::{
     argument_slots, each_descriptor_has_one_type, is_field_descriptor, is_method_descriptor,
     split_type,
 };
+pub use emitted::Emitted;
 pub use fail::{Fail, Memory};
 pub use files::{FileFault, Files, MOST_READ};
 pub use form::{Form, form_of};
@@ -43,10 +49,12 @@ pub use memory_files::MemoryFiles;
 pub use memory_sink::MemorySink;
 pub use modified::{first_unit, is_modified};
 pub use names::Names;
+pub use plan::{Edge, Plan};
 pub use put::{put_bytes, put_u8, put_u16, put_u32, put_u64};
 pub use reader::{Reader, Short};
 pub use refusal::{Refusal, RefusalKind};
 pub use sink::{Sink, SinkFault};
+pub use try_clone::{TryClone, clone_each};
 pub use unread::Unread;
 
 #[cfg(test)]
