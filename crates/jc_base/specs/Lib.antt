@@ -16,3 +16,8 @@ pub mod Names
 pub mod InsnUse
 pub mod WellMade
 pub mod Appending
+pub mod Held
+pub mod DescriptorTypes
+pub mod EntryState
+pub mod Least
+pub mod PlainLists

@@ -5,6 +5,7 @@
 mod analysed;
 mod body;
 mod descriptor;
+mod descriptor_types;
 mod emitted;
 mod fail;
 mod files;
@@ -34,6 +35,10 @@ pub use body::{Body, FrameAt, Handler, LineAt, Use, VarAt, What};
 pub use descriptor::{
     argument_slots, each_descriptor_has_one_type, is_field_descriptor, is_method_descriptor,
     split_type,
+};
+pub use descriptor_types::{
+    a_descriptor_is_read_as_its_type, a_method_begins_with_all_its_locals,
+    more_names_change_nothing,
 };
 pub use emitted::Emitted;
 pub use fail::{Fail, Memory};
