@@ -20,4 +20,6 @@ pub mod Held
 pub mod DescriptorTypes
 pub mod EntryState
 pub mod Least
+pub mod FirstSeen
 pub mod PlainLists
+pub mod Slots

@@ -26,7 +26,10 @@ mod planned;
 mod put;
 mod reader;
 mod refusal;
+mod same;
 mod sink;
+mod slots;
+mod targets;
 mod try_clone;
 mod unread;
 
@@ -59,6 +62,8 @@ pub use put::{put_bytes, put_u8, put_u16, put_u32, put_u64};
 pub use reader::{Reader, Short};
 pub use refusal::{Refusal, RefusalKind};
 pub use sink::{Sink, SinkFault};
+pub use slots::{a_replaced_slot_is_a_mapped_one, mapped_locals_are_within};
+pub use targets::first_seen;
 pub use try_clone::{TryClone, clone_each};
 pub use unread::Unread;
 

@@ -176,3 +176,80 @@ impl TryClone for Body {
         })
     }
 }
+
+#[cfg(test)]
+mod tests {
+    use super::*;
+    use crate::{Bytes, Kind};
+    use std::alloc::AllocError;
+    use std::test::Fail;
+
+    fn switch(alloc: Global) -> Result<Insn, AllocError> {
+        Ok(Insn::Table {
+            low: -1,
+            default: 0,
+            arms: List::from_vec([0, 0].to_vec(alloc)?),
+        })
+    }
+
+    fn frame(alloc: Global) -> Result<FrameAt, AllocError> {
+        let locals = [Kind::Long, Kind::Top].to_vec(alloc)?;
+        Ok(FrameAt {
+            at: 0,
+            state: State {
+                locals: List::from_vec(locals),
+                stack: List::new(alloc),
+            },
+        })
+    }
+
+    fn class_used(alloc: Global) -> Result<Use, AllocError> {
+        Ok(Use {
+            place: 3,
+            what: What::Class(Bytes::copy_of(alloc, b"A")?),
+        })
+    }
+
+    fn body(alloc: Global) -> Result<Body, AllocError> {
+        let code = Vec::from_array(alloc, [switch(alloc)?])?;
+        let frames = Vec::from_array(alloc, [frame(alloc)?])?;
+        let uses = Vec::from_array(alloc, [class_used(alloc)?])?;
+        Ok(Body {
+            method: 1,
+            owner: List::new(alloc),
+            name: List::new(alloc),
+            desc: List::new(alloc),
+            flags: 8,
+            arg_slots: 2,
+            max_stack: 1,
+            max_locals: 2,
+            code: List::from_vec(code),
+            handlers: List::new(alloc),
+            lines: List::new(alloc),
+            vars: List::new(alloc),
+            kind_vars: List::new(alloc),
+            frames: List::from_vec(frames),
+            uses: List::from_vec(uses),
+        })
+    }
+
+    #[test]
+    fn copies_of_bodies(rt: HostRuntime) -> Result<(), Fail> {
+        let body = body(rt.alloc())?;
+        let copy = body.try_clone(rt.alloc())?;
+        assert!(rt; copy == body);
+        Ok(())
+    }
+
+    #[test]
+    fn copies_of_plans(rt: HostRuntime) -> Result<(), Fail> {
+        let plan = Plan {
+            lead: List::from_vec([None, Some(7)].to_vec(rt.alloc())?),
+            out: List::new(rt.alloc()),
+            next: 9,
+        };
+        let copy = plan.try_clone(rt.alloc())?;
+        assert!(rt; copy == plan);
+        Ok(())
+    }
+}
