@@ -23,3 +23,5 @@ pub mod Least
 pub mod FirstSeen
 pub mod PlainLists
 pub mod Slots
+pub mod Texts
+pub mod ValueTypes

@@ -32,6 +32,7 @@ mod slots;
 mod targets;
 mod try_clone;
 mod unread;
+mod value_type;
 
 pub use analysed::Analysed;
 pub use body::{Body, FrameAt, Handler, LineAt, Use, VarAt, What};
@@ -66,6 +67,7 @@ pub use slots::{a_replaced_slot_is_a_mapped_one, mapped_locals_are_within};
 pub use targets::first_seen;
 pub use try_clone::{TryClone, clone_each};
 pub use unread::Unread;
+pub use value_type::{MethodTypes, ValueType, field_type, method_types};
 
 #[cfg(test)]
 mod tests;
