@@ -6,6 +6,7 @@ pub mod Modified
 pub mod Outside
 pub mod Planned
 pub mod InMemory
+pub mod Opcode
 pub mod InsnForm
 pub mod Insn
 pub mod Flow
@@ -16,4 +17,5 @@ pub mod Names
 pub mod InsnUse
 pub mod WellMade
 pub mod Appending
+pub mod Starts
 pub mod ShortText

@@ -18,11 +18,13 @@ mod memory_files;
 mod memory_sink;
 mod modified;
 mod names;
+pub mod opcode;
 mod planned;
 mod put;
 mod reader;
 mod refusal;
 mod sink;
+mod starts;
 mod used;
 
 pub use body::{Body, FrameAt, Handler, LineAt, Use, VarAt, What};
@@ -47,6 +49,7 @@ pub use put::{put_bytes, put_u8, put_u16, put_u32, put_u64};
 pub use reader::{Reader, Short};
 pub use refusal::{Refusal, RefusalKind};
 pub use sink::{Sink, SinkFault};
+pub use starts::insn_numbers;
 pub use used::what_used;
 
 #[cfg(test)]
