@@ -36,6 +36,11 @@ targets_of (insns.Table low default arms) = default ∷ arms
 targets_of (insns.Lookup default arms) = default ∷ map (λ a. a.to) arms
 targets_of _ = []
 
+-- where a jump leads
+abbrev pub jump_target : Insn → ℕ
+jump_target (insns.Jump op to) = to
+jump_target _ = 0
+
 -- the opcode of a conditional jump: ifeq to if_acmpne, ifnull and ifnonnull
 abbrev pub is_test : ℕ → Bool
 is_test op = (nat_le opcode.ifeq op && nat_le op opcode.if_acmpne) || (nat_eq op opcode.ifnull || nat_eq op opcode.ifnonnull)

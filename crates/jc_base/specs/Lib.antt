@@ -10,6 +10,7 @@ pub mod Opcode
 pub mod InsnForm
 pub mod Insn
 pub mod Flow
+pub mod Widened
 pub mod Descriptor
 pub mod DescriptorReading
 pub mod Deciding

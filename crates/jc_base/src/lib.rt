@@ -26,6 +26,7 @@ mod refusal;
 mod sink;
 mod starts;
 mod used;
+mod widened;
 
 pub use body::{Body, FrameAt, Handler, LineAt, Use, VarAt, What};
 pub use descriptor::{
@@ -51,6 +52,7 @@ pub use refusal::{Refusal, RefusalKind};
 pub use sink::{Sink, SinkFault};
 pub use starts::insn_numbers;
 pub use used::what_used;
+pub use widened::the_wide_form_has_each_image;
 
 #[cfg(test)]
 mod tests;
