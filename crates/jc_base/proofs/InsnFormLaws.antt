@@ -12,7 +12,7 @@ use Rattle.jc_base.specs.Flow.{is_test, inverse_of}
 -- no opcode stands beyond jsr_w
 pub unknown_beyond : (op : ℕ) → 202 ≤ op → form_of op ≡ forms.Unknown
 unfolding form_of
-unknown_beyond op far = rw (le-ltb op 16 (omega (arith, far)), le-ltb op 17 (omega (arith, far)), le-ltb op 18 (omega (arith, far)), le-ltb op 19 (omega (arith, far)), le-ltb op 20 (omega (arith, far)), le-ltb op 21 (omega (arith, far)), le-ltb op 26 (omega (arith, far)), le-ltb op 46 (omega (arith, far)), le-ltb op 54 (omega (arith, far)), le-ltb op 59 (omega (arith, far)), le-ltb op 79 (omega (arith, far)), le-ltb op 132 (omega (arith, far)), le-ltb op 133 (omega (arith, far)), le-ltb op 153 (omega (arith, far)), le-ltb op 168 (omega (arith, far)), le-ltb op 170 (omega (arith, far)), le-ltb op 171 (omega (arith, far)), le-ltb op 172 (omega (arith, far)), le-ltb op 178 (omega (arith, far)), le-ltb op 185 (omega (arith, far)), le-ltb op 186 (omega (arith, far)), le-ltb op 187 (omega (arith, far)), le-ltb op 188 (omega (arith, far)), le-ltb op 189 (omega (arith, far)), le-ltb op 190 (omega (arith, far)), le-ltb op 192 (omega (arith, far)), le-ltb op 194 (omega (arith, far)), le-ltb op 196 (omega (arith, far)), le-ltb op 197 (omega (arith, far)), le-ltb op 198 (omega (arith, far)), le-ltb op 200 (omega (arith, far)), le-ltb op 201 (omega (arith, far)), le-ltb op 202 (omega (arith, far))) refl
+unknown_beyond op far = grind (arith, nat_tests)
 
 -- what two tables say of the opcodes
 same_below : {X : Type 0} (f g : ℕ → X) → map f (range_with_len 0 202) ≡ map g (range_with_len 0 202) → (op : ℕ) → op < 202 → f op ≡ g op
@@ -44,7 +44,7 @@ unfolding form_of
 jump_tests op below = same_below (λ op. is_jump (form_of op)) (λ op. nat_eq op 167 || is_test op) refl op below
 
 inverse_tests : (op : ℕ) → op < 202 → cond (is_test op) (is_jump (form_of (inverse_of op)) && not (nat_eq (inverse_of op) 167)) true ≡ true
-unfolding form_of
+unfolding form_of inverse_of
 inverse_tests op below = same_below (λ op. cond (is_test op) (is_jump (form_of (inverse_of op)) && not (nat_eq (inverse_of op) 167)) true) (λ op. true) refl op below
 
 short_load_forms : (op : ℕ) → op < 202 → cond (is_short_load (form_of op)) (form_of (21 + (op - 26) / 4)) forms.Local ≡ forms.Local

@@ -4,6 +4,7 @@ use Rattle.std.specs.Prelude.{◌≡◌, ◌⊎◌, ⊤, ℕ, ◌+◌, ◌<◌, 
 use Rattle.std.specs.List.{AllByRecursion}
 use Rattle.jc_base.specs.Descriptor.{IsFieldDescriptor, IsMethodDescriptor}
 use Rattle.jc_base.specs.Flow.{targets_of}
+use Rattle.jc_base.specs.Opcode as opcode
 use Rattle.jc_base.specs.declared.insn.Insn.{Insn}
 use Rattle.jc_base.specs.declared.insn.Insn.TheVariants as insns
 use Rattle.jc_base.specs.declared.body.What.{What}
@@ -65,7 +66,7 @@ IsTwoSlotConstant _ = ⊥
 
 -- getstatic to putfield are on fields, invokevirtual to invokestatic on methods
 abbrev pub IsMemberFor : ℕ → What → Type 0
-IsMemberFor op what = ((op ≤ 181) × IsField what) ⊎ ((181 < op) × IsMethod what)
+IsMemberFor op what = ((op ≤ opcode.putfield) × IsField what) ⊎ ((opcode.putfield < op) × IsMethod what)
 
 -- what stands at the instruction's place is of the kind that it needs (JVM Specification 4.9.1)
 abbrev pub Suits : Insn → What → Type 0
@@ -82,7 +83,7 @@ Suits _ what = ⊥
 
 -- lload, dload, lstore and dstore, whose values take two local variables (JVM Specification 2.6.1)
 abbrev pub is_of_two_slots : ℕ → Bool
-is_of_two_slots op = nat_eq op 22 || nat_eq op 24 || nat_eq op 55 || nat_eq op 57
+is_of_two_slots op = nat_eq op opcode.lload || nat_eq op opcode.dload || nat_eq op opcode.lstore || nat_eq op opcode.dstore
 
 -- the local variables that the instruction reads or writes
 abbrev pub locals_of : Insn → List ℕ

@@ -6,9 +6,11 @@ pub mod Modified
 pub mod Outside
 pub mod Planned
 pub mod InMemory
+pub mod Opcode
 pub mod InsnForm
 pub mod Insn
 pub mod Flow
+pub mod Widened
 pub mod Descriptor
 pub mod DescriptorReading
 pub mod Deciding
@@ -25,3 +27,4 @@ pub mod PlainLists
 pub mod Slots
 pub mod Texts
 pub mod ValueTypes
+pub mod Starts

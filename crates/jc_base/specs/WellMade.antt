@@ -7,6 +7,7 @@ use Rattle.jc_base.specs.Flow.{FallsThrough}
 use Rattle.jc_base.specs.Insn.{IsWellFormed, arm_count}
 use Rattle.jc_base.specs.Texts.{IsShortText}
 use Rattle.jc_base.specs.InsnUse.{pool_place, Suits, IsClass, LocalsWithin, LeadsWithin}
+use Rattle.jc_base.specs.Opcode as opcode
 use Rattle.jc_base.specs.declared.insn.Insn.{Insn}
 use Rattle.jc_base.specs.declared.insn.Insn.TheVariants as insns
 use Rattle.jc_base.specs.declared.kind.Kind.{Kind}
@@ -58,7 +59,7 @@ pub record IsVar (count max_locals : ℕ) (v : VarAt) : Type 0 where
 
 -- an object without a constructor's call was made by a `new`
 abbrev pub IsKind : List Insn → Kind → Type 0
-IsKind code (kinds.Uninit at) = (place : ℕ) × (slice_get code at ≡ Some (insns.OfClass 187 place))
+IsKind code (kinds.Uninit at) = (place : ℕ) × (slice_get code at ≡ Some (insns.OfClass opcode.new place))
 IsKind code kind = ⊤
 
 -- how many stack slots a value takes (JVM Specification 2.6.2)

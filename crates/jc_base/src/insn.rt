@@ -2,7 +2,7 @@
 ghost use Rattle.std.specs.Prelude.{◌≡◌, ◌↔◌, IsTrue};
 ghost use Rattle.jc_base.specs.Flow.{flow_of, flow_of_simple, flow_of_jump, FallsThrough, is_test, inverse_of};
 
-use crate::List;
+use crate::{List, opcode};
 
 /// An instruction (JVM Specification 6.5), whatever way it is spelled.
 ///
@@ -128,21 +128,13 @@ impl Insn {
     }
 }
 
-const GOTO: u8 = 167;
-
-const ATHROW: u8 = 191;
-
-const IFNULL: u8 = 198;
-
-const IFNONNULL: u8 = 199;
-
 /// What an instruction without operands does to the flow of control.
 fn flow_of_simple(op: u8) -> Flow
     ensures { result ≡ flow_of_simple op }
 {
     match op {
-        172..=177 => Flow::Returns,
-        ATHROW => Flow::Throws,
+        opcode::IRETURN..=opcode::RETURN => Flow::Returns,
+        opcode::ATHROW => Flow::Throws,
         _ => Flow::GoesOn,
     }
 }
@@ -151,25 +143,47 @@ fn flow_of_simple(op: u8) -> Flow
 fn flow_of_jump(op: u8) -> Flow
     ensures { result ≡ flow_of_jump op }
 {
-    if op == GOTO { Flow::Jumps } else { Flow::Tests }
+    if op == opcode::GOTO {
+        Flow::Jumps
+    } else {
+        Flow::Tests
+    }
 }
 
 /// Whether an opcode is that of a conditional jump.
 pub fn is_test(op: u8) -> bool
     ensures { result ≡ is_test op }
 {
-    (op >= 153 && op <= 166) || (op == IFNULL || op == IFNONNULL)
+    (op >= opcode::IFEQ && op <= opcode::IF_ACMPNE)
+        || (op == opcode::IFNULL || op == opcode::IFNONNULL)
 }
 
 /// The opcode of the conditional jump that jumps exactly where this one doesn't.
+#[tactic(auto, unfolding(crate::specs::Flow::inverse_of))]
 pub fn inverse(op: u8) -> u8
     requires { IsTrue (is_test op) }
     ensures inverse { result ≡ inverse_of op }
     ensures test { IsTrue (is_test result) }
+    // The inverse of the inverse is the opcode.
+    ensures back { inverse_of result ≡ op }
 {
     match op {
-        IFNULL => IFNONNULL,
-        IFNONNULL => IFNULL,
-        _ => { if op % 2 == 1 { op + 1 } else { op - 1 } }
+        opcode::IFEQ => opcode::IFNE,
+        opcode::IFNE => opcode::IFEQ,
+        opcode::IFLT => opcode::IFGE,
+        opcode::IFGE => opcode::IFLT,
+        opcode::IFGT => opcode::IFLE,
+        opcode::IFLE => opcode::IFGT,
+        opcode::IF_ICMPEQ => opcode::IF_ICMPNE,
+        opcode::IF_ICMPNE => opcode::IF_ICMPEQ,
+        opcode::IF_ICMPLT => opcode::IF_ICMPGE,
+        opcode::IF_ICMPGE => opcode::IF_ICMPLT,
+        opcode::IF_ICMPGT => opcode::IF_ICMPLE,
+        opcode::IF_ICMPLE => opcode::IF_ICMPGT,
+        opcode::IF_ACMPEQ => opcode::IF_ACMPNE,
+        opcode::IF_ACMPNE => opcode::IF_ACMPEQ,
+        opcode::IFNULL => opcode::IFNONNULL,
+        opcode::IFNONNULL => opcode::IFNULL,
+        _ => op,
     }
 }

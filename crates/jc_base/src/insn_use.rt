@@ -2,21 +2,13 @@
 ghost use Rattle.std.specs.Prelude.{◌≡◌, ◌↔◌, ◌<◌, IsTrue, All};
 ghost use Rattle.jc_base.specs.InsnUse.{pool_place, is_of_two_slots, LocalsWithin, LeadsWithin};
 
-use crate::{Arm, Insn};
-
-const LLOAD: u8 = 22;
-
-const DLOAD: u8 = 24;
-
-const LSTORE: u8 = 55;
-
-const DSTORE: u8 = 57;
+use crate::{Arm, Insn, opcode};
 
 /// Whether the value that a load or a store moves takes two local variables.
 fn is_of_two_slots(op: u8) -> bool
     ensures { result ≡ is_of_two_slots op }
 {
-    op == LLOAD || (op == DLOAD || (op == LSTORE || op == DSTORE))
+    op == opcode::LLOAD || (op == opcode::DLOAD || (op == opcode::LSTORE || op == opcode::DSTORE))
 }
 
 impl Insn {

@@ -21,6 +21,7 @@ mod memory_files;
 mod memory_sink;
 mod modified;
 mod names;
+pub mod opcode;
 mod plan;
 mod planned;
 mod put;
@@ -29,10 +30,12 @@ mod refusal;
 mod same;
 mod sink;
 mod slots;
+mod starts;
 mod targets;
 mod try_clone;
 mod used;
 mod value_type;
+mod widened;
 
 pub use analysed::Analysed;
 pub use body::{Body, FrameAt, Handler, LineAt, Use, VarAt, What};
@@ -64,10 +67,12 @@ pub use reader::{Reader, Short};
 pub use refusal::{Refusal, RefusalKind};
 pub use sink::{Sink, SinkFault};
 pub use slots::{a_replaced_slot_is_a_mapped_one, mapped_locals_are_within};
+pub use starts::insn_numbers;
 pub use targets::first_seen;
 pub use try_clone::{TryClone, clone_each};
 pub use used::what_used;
 pub use value_type::{MethodTypes, ValueType, field_type, method_types};
+pub use widened::the_wide_form_has_each_image;
 
 #[cfg(test)]
 mod tests;

@@ -4,8 +4,8 @@ use Rattle.std.proofs.lemmas.Bool.{cases_lt}
 use Rattle.std.proofs.lemmas.Option.{slice_get_within, slice_get-get_or, get_or_from_slice_get}
 use Rattle.jc_base.specs.declared.insn.Insn.{Insn}
 use Rattle.jc_pool.specs.Pool.{PoolValue}
-use Rattle.jc_insn.specs.Decoding.{AreStarts}
-use Rattle.jc_insn.specs.Spells.{insn_number}
+use Rattle.jc_base.specs.Starts.{AreStarts, insn_number}
+use Rattle.jc_base.proofs.StartsLaws.{rising}
 use Rattle.jc_body.specs.declared.items.Row.{Row}
 use Rattle.jc_body.specs.declared.coded.Coded.{Coded}
 use Rattle.jc_body.specs.Faults.{InsnAt, IsRow, BadRow}
@@ -15,19 +15,6 @@ use Rattle.jc_body.specs.Numbering.{numbering, Numbers}
 use Rattle.jc_body.proofs.OrderLaws.{IsDecided}
 
 -- ---- instructions
-
--- offsets of instructions rise
-rises : (count size : ℕ) (starts : List ℕ) → AreStarts count size starts → (i steps : ℕ) → i + steps < count → get_or starts i 0 < get_or starts (i + suc steps) 0
-rises count size starts are i zero inside = subst (λ (k : ℕ). get_or starts i 0 < get_or starts k 0) (omega arith) (are.rising i (omega (arith, inside)))
-rises count size starts are i (suc steps) inside =
-    let before = rises count size starts are i steps (omega (arith, inside)) in
-    let next = subst (λ (k : ℕ). get_or starts (i + suc steps) 0 < get_or starts k 0) (let e : (i + suc steps) + 1 ≡ i + suc (suc steps) = omega arith in e) (are.rising (i + suc steps) (omega (arith, inside))) in
-    omega (arith, before, next)
-
-pub rising : (count size : ℕ) (starts : List ℕ) → AreStarts count size starts → (i j : ℕ) → i < j → j ≤ count → get_or starts i 0 < get_or starts j 0
-rising count size starts are i j less inside =
-    let steps : (i + suc (j - suc i)) ≡ j = omega (arith, less) in
-    subst (λ (k : ℕ). get_or starts i 0 < get_or starts k 0) steps (rises count size starts are i (j - suc i) (omega (arith, less, inside)))
 
 module _ (coded : Coded) (are : AreStarts (length coded.insns) (length coded.items.code) coded.starts) (Fact : ℕ → Insn → Type 0) where
   start_at : (number : ℕ) → number < length coded.insns → slice_get coded.starts number ≡ Some (get_or coded.starts number 0)

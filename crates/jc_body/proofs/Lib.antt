@@ -11,7 +11,6 @@ pub mod ArgumentLaws
 pub mod AnswerLaws
 pub mod DecideLaws
 pub mod EachMethodLaws
-pub mod NumberLaws
 pub mod WellMadeLaws
 pub mod SizeLaws
 pub mod ReadingLaws

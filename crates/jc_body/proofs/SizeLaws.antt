@@ -8,14 +8,14 @@ use Rattle.jc_pool.specs.Pool.{PoolValue}
 use Rattle.jc_class.specs.ClassFormat.{HasText, counted, attribute}
 use Rattle.jc_class.specs.declared.class_file.Attribute.{Attribute}
 use Rattle.jc_class.specs.declared.class_file.Member.{Member}
-use Rattle.jc_insn.specs.Decoding.{AreStarts}
+use Rattle.jc_base.specs.Starts.{AreStarts}
 use Rattle.jc_insn.proofs.AmongLaws.{are_starts}
 use Rattle.jc_body.specs.declared.items.CodeItems.{CodeItems}
 use Rattle.jc_body.specs.declared.items.Row.{Row}
 use Rattle.jc_body.specs.declared.coded.Coded.{Coded}
 use Rattle.jc_body.specs.CodeForm.{row, code_form}
 use Rattle.jc_body.specs.Coded.{IsCoded}
-use Rattle.jc_body.proofs.FaultLaws.{rising}
+use Rattle.jc_base.proofs.StartsLaws.{rising}
 
 in_two : (bytes front rest : List ℕ) → bytes ≡ front ++ rest → (length front ≤ length bytes) × (length rest ≤ length bytes)
 in_two bytes front rest parts =

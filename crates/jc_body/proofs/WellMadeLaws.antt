@@ -19,8 +19,7 @@ use Rattle.jc_pool.specs.Lookup.{entry_at, utf8_of, class_in, class_name_of, mem
 use Rattle.jc_pool.specs.Pool.{PoolValue}
 use Rattle.jc_class.specs.declared.class_file.ClassFile.{ClassFile}
 use Rattle.jc_class.specs.declared.class_file.Member.{Member}
-use Rattle.jc_insn.specs.Decoding.{AreStarts}
-use Rattle.jc_insn.specs.Spells.{insn_number}
+use Rattle.jc_base.specs.Starts.{AreStarts, insn_number}
 use Rattle.jc_insn.proofs.AmongLaws.{all_among, are_starts}
 use Rattle.jc_insn.proofs.ArmsLaws.{code_size}
 use Rattle.jc_body.specs.declared.coded.Coded.{Coded}
@@ -32,7 +31,7 @@ use Rattle.jc_body.specs.Faults.{OfCode, InsnAt, IsAstray, IsRow, IsClassOrNone,
 use Rattle.jc_body.specs.First.{IsNowhere, AreNowhere, NoItem}
 use Rattle.jc_body.specs.Standing.{what_of, what_at, found_in, found_at, HasRightEntry}
 use Rattle.jc_body.proofs.ArgumentLaws.{arguments_fit}
-use Rattle.jc_body.proofs.NumberLaws.{number_of_end, numbers_rise, numbers_stay, some_insn}
+use Rattle.jc_base.proofs.StartsLaws.{number_of_end, numbers_rise, numbers_stay, some_insn}
 use Rattle.jc_body.proofs.PlacesLaws.{row_or_not, rows_handled, lines_kept, vars_kept}
 use Rattle.jc_body.proofs.StandingLaws.{right_entry_or_not, suits_what, locals_or_not, leads_or_not}
 use Rattle.jc_body.proofs.UsesLaws.{has_use, insn_place_used, row_place_used}

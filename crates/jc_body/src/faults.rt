@@ -3,7 +3,7 @@ ghost use Rattle.std.specs.Prelude.{◌↔◌, ◌≤◌, ◌++◌, length, map,
 ghost use Rattle.jc_base.specs.WellMade.{TakeSlots};
 ghost use Rattle.jc_base.specs.Descriptor.{IsMethodDescriptor};
 ghost use Rattle.jc_class.specs.ClassFormat.{HasMethodDescriptor};
-ghost use Rattle.jc_insn.specs.Decoding.{AreStarts};
+ghost use Rattle.jc_base.specs.Starts.{AreStarts};
 ghost use Rattle.jc_body.specs.First.{FirstFault};
 ghost use Rattle.jc_body.specs.Faults.{insn_faults, row_faults, TooWide};
 ghost use Rattle.jc_body.specs.Numbering.{Numbers};

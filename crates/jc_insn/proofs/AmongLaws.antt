@@ -6,8 +6,9 @@ use Rattle.jc_base.specs.declared.insn.Insn.{Insn}
 use Rattle.jc_base.specs.declared.insn.Insn.TheVariants as insns
 use Rattle.jc_base.specs.Insn.{IsWellFormed, arm_count, with_places, arm_with_place}
 use Rattle.jc_base.specs.Flow.{targets_of}
-use Rattle.jc_insn.specs.Spells.{SpellsFrom, Spells, insn_number}
-use Rattle.jc_insn.specs.Decoding.{IsInsnAmong, AreStarts}
+use Rattle.jc_base.specs.Starts.{AreStarts, insn_number}
+use Rattle.jc_insn.specs.Spells.{SpellsFrom, Spells}
+use Rattle.jc_insn.specs.Decoding.{IsInsnAmong}
 use Rattle.jc_insn.specs.declared.item.Item.TheVariants as items
 use Rattle.jc_insn.proofs.DecodingLaws.{some_bytes}
 use Rattle.jc_insn.proofs.FactsLaws.{text_facts}

@@ -4,9 +4,10 @@ use Rattle.std.proofs.lemmas.List.Sums.{sum_by-cons}
 use Rattle.jc_base.specs.declared.insn.Insn.{Insn}
 use Rattle.jc_base.specs.Insn.{arm_count, with_places}
 use Rattle.jc_base.specs.WellMade.{insns_and_arms}
+use Rattle.jc_base.specs.Starts.{insn_number}
 use Rattle.jc_insn.specs.declared.item.Item.TheVariants as items
 use Rattle.jc_insn.specs.Items.{IsItem}
-use Rattle.jc_insn.specs.Spells.{SpellsFrom, Spells, insn_number}
+use Rattle.jc_insn.specs.Spells.{SpellsFrom, Spells}
 use Rattle.jc_insn.proofs.FactsLaws.{text_facts}
 use Rattle.jc_insn.proofs.AmongLaws.{same_arms}
 

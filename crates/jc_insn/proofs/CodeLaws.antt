@@ -10,13 +10,15 @@ use Rattle.jc_base.specs.declared.refusal.RefusalKind.{RefusalKind}
 use Rattle.jc_base.specs.declared.refusal.RefusalKind.TheVariants as kinds
 use Rattle.jc_base.specs.declared.insn.Insn.{Insn}
 use Rattle.jc_base.specs.Insn.{with_places}
+use Rattle.jc_base.specs.Starts.{insn_number}
 use Rattle.jc_insn.specs.declared.item.Item.{Item}
 use Rattle.jc_insn.specs.declared.item.Item.TheVariants as items
 use Rattle.jc_insn.specs.Items.{IsItem}
-use Rattle.jc_insn.specs.Spells.{SpellsFrom, Spells, insn_number, IsFault, FaultBehind, IsRefused}
+use Rattle.jc_insn.specs.Spells.{SpellsFrom, Spells, IsFault, FaultBehind, IsRefused}
 use Rattle.jc_insn.specs.Decoding.{Refuses}
 use Rattle.jc_insn.proofs.ItemsLaws.{insn_is, not_subroutine, same_item}
 use Rattle.jc_insn.proofs.DecodingLaws.{some_bytes}
+use Rattle.jc_base.proofs.StartsLaws.{numbers_are}
 
 -- an item isn't in front of no bytes
 no_bytes : (at : ℕ) (bytes text rest : List ℕ) (item : Item) → bytes ≡ [] → bytes ≡ text ++ rest → IsItem at text item → ⊥
@@ -90,24 +92,6 @@ same_fault at bytes (insn ∷ code) (insn' ∷ code') kind kind' place place' (t
     same_fault (at + length text) rest code code' kind kind' place place' more moved
 
 -- ---- numbers in place of offsets
-
-none_at : (starts : List ℕ) (offset count : ℕ) → ((k : ℕ) → k < length starts → get_or starts k 0 < offset) → length starts ≡ count + 1 → insn_number starts offset ≡ count
-none_at [] offset count below long = absurd (omega (arith, long))
-none_at (end ∷ []) offset count below long = omega (arith, long)
-none_at (start ∷ next ∷ starts) offset count below long =
-    let first : start < offset = below 0 (omega arith) in
-    let more = none_at (next ∷ starts) offset (count - 1) (λ k lt. below (suc k) (omega (arith, lt))) (omega (arith, long)) in
-    rw (ne_eqb start offset (λ e. omega (arith, first, e))) (omega (arith, more, long))
-
--- a table over the offsets has the numbers, and its default beyond them
-pub numbers_are : (starts numbers : List ℕ) (size count : ℕ) → length numbers ≡ size → ((offset : ℕ) → offset < size → get_or numbers offset 0 ≡ insn_number starts offset) → All (λ start. start < size) starts → length starts ≡ count + 1 → (λ (offset : ℕ). get_or numbers offset count) ≡ insn_number starts
-numbers_are starts numbers size count long each within starts_long i offset = each_is offset (cases_lt offset size) i
-  where
-    each_is : (offset : ℕ) → (offset < size) ⊎ (size ≤ offset) → get_or numbers offset count ≡ insn_number starts offset
-    each_is offset (inl below) = get_or_default numbers offset count 0 (omega (arith, long, below)) ∙ each offset below
-    each_is offset (inr past) =
-        get_or_past numbers offset count (omega (arith, long, past))
-        ∙ sym (none_at starts offset count (λ k lt. let w = All-get_or (λ start. start < size) starts k 0 lt within in omega (arith, w, past)) starts_long)
 
 pub spells : (bytes : List ℕ) (text code : List Insn) (starts numbers : List ℕ) (size count : ℕ) → SpellsFrom 0 bytes text starts → length numbers ≡ size → ((offset : ℕ) → offset < size → get_or numbers offset 0 ≡ insn_number starts offset) → All (λ start. start < size) starts → length starts ≡ count + 1 → code ≡ map (with_places (λ offset. get_or numbers offset count)) text → Spells bytes code starts
 spells bytes text code starts numbers size count s long each within starts_long code_is = record {

@@ -6,11 +6,12 @@ use Rattle.jc_base.specs.declared.refusal.RefusalKind.{RefusalKind}
 use Rattle.jc_base.specs.declared.refusal.RefusalKind.TheVariants as kinds
 use Rattle.jc_base.specs.declared.insn.Insn.{Insn}
 use Rattle.jc_base.specs.Insn.{with_places}
+use Rattle.jc_base.specs.Starts.{insn_number}
 use Rattle.jc_insn.specs.declared.item.Item.{Item}
 use Rattle.jc_insn.specs.declared.item.Item.TheVariants as items
 use Rattle.jc_insn.specs.Items.{IsItem}
 use Rattle.jc_insn.specs.Reading.{item_at}
-use Rattle.jc_insn.specs.Spells.{SpellsFrom, Spells, insn_number, FaultBehind, IsRefused}
+use Rattle.jc_insn.specs.Spells.{SpellsFrom, Spells, FaultBehind, IsRefused}
 use Rattle.jc_insn.proofs.ItemsLaws.{reads_item}
 use Rattle.jc_insn.proofs.DecodingLaws.{some_bytes}
 

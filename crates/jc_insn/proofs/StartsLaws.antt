@@ -7,7 +7,7 @@ use Rattle.jc_base.specs.InsnForm.{form_of}
 use Rattle.jc_base.specs.declared.insn.Insn.{Insn}
 use Rattle.jc_base.specs.declared.insn.Insn.TheVariants as insns
 use Rattle.jc_insn.specs.Sizes.{push_size, is_narrow_inc, size_of, StartAt}
-use Rattle.jc_insn.specs.Spells.{insn_number}
+use Rattle.jc_base.specs.Starts.{insn_number}
 
 some_of : (b : Bool) (m n : ℕ) → 1 ≤ m → 1 ≤ n → 1 ≤ cond b m n
 some_of true m n p q = p

@@ -12,9 +12,10 @@ use Rattle.jc_base.specs.declared.insn.Insn.{Insn}
 use Rattle.jc_base.specs.declared.insn.Insn.TheVariants as insns
 use Rattle.jc_base.specs.Insn.{IsWellFormed, with_places}
 use Rattle.jc_base.specs.Flow.{targets_of, inverse_of, is_test}
+use Rattle.jc_base.specs.Starts.{insn_number}
 use Rattle.jc_insn.specs.declared.item.Item.TheVariants as items
 use Rattle.jc_insn.specs.Items.{IsItem, target_of, operands}
-use Rattle.jc_insn.specs.Spells.{SpellsFrom, Spells, insn_number}
+use Rattle.jc_insn.specs.Spells.{SpellsFrom, Spells}
 use Rattle.jc_insn.specs.Sizes.{size_of, StartAt}
 use Rattle.jc_insn.specs.Writing.{short, word, difference, insn_text, code_text, spelled_as, code_as, AllNear, IsInRange, AppendsSpelling, AppendsInsns}
 use Rattle.jc_insn.proofs.WritingLaws.{jump_tests}

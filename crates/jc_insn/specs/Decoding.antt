@@ -1,5 +1,5 @@
 -- What a decoder of code answers.
-use Rattle.std.specs.Prelude.{◌≡◌, ℕ, List, Option, Some, None, Result, Ok, Err, ⊤, ◌≤◌, All, ◌+◌, ◌<◌, length, slice_index}
+use Rattle.std.specs.Prelude.{◌≡◌, ℕ, List, Option, Some, None, Result, Ok, Err, ⊤, ◌≤◌, All}
 use Rattle.jc_base.specs.Reader.{Reading}
 use Rattle.jc_base.specs.declared.fail.Fail.{Fail}
 use Rattle.jc_base.specs.declared.fail.Fail.TheVariants as fails
@@ -18,13 +18,6 @@ use Rattle.jc_insn.specs.Spells.{IsRefused}
 abbrev pub Refuses : Fail Refusal → List ℕ → Type 0
 Refuses fails.Memory bytes = ⊤
 Refuses (fails.Said refusal) bytes = IsRefused bytes refusal
-
--- the offsets of so many instructions rise from 0, and end with the size of the code
-pub record AreStarts (count size : ℕ) (starts : List ℕ) : Type 0 where
-  pub one_more : length starts ≡ count + 1
-  pub first : slice_index starts 0 ≡ 0
-  pub rising : (k : ℕ) → k < count → slice_index starts k < slice_index starts (k + 1)
-  pub end : slice_index starts count ≡ size
 
 -- what a decoder gives is well formed, among so many instructions. A place is one of them or their number
 pub record IsInsnAmong (count : ℕ) (insn : Insn) : Type 0 where

@@ -4,6 +4,7 @@ use Rattle.std.specs.Int.{w8, w16, w32, cast_signed, cast_unsigned}
 use Rattle.byteorder.specs.Endian.{big_number}
 use Rattle.jc_base.specs.declared.form.Form.{Form}
 use Rattle.jc_base.specs.declared.form.Form.TheVariants as forms
+use Rattle.jc_base.specs.Opcode as opcode
 use Rattle.jc_base.specs.InsnForm.{form_of}
 use Rattle.jc_base.specs.Decoder.{IsBig}
 use Rattle.jc_base.specs.declared.insn.Insn.TheVariants as insns
@@ -56,10 +57,10 @@ ascending (a ∷ b ∷ arms) = int_lt a.key b.key && ascending (b ∷ arms)
 
 -- iload_0 to aload_3, four opcodes for each of iload to aload; and the stores likewise
 abbrev pub short_load : ℕ → Item
-short_load op = items.Insn (insns.Local (21 + (op - 26) / 4) ((op - 26) % 4))
+short_load op = items.Insn (insns.Local (opcode.iload + (op - opcode.iload_0) / 4) ((op - opcode.iload_0) % 4))
 
 abbrev pub short_store : ℕ → Item
-short_store op = items.Insn (insns.Local (54 + (op - 59) / 4) ((op - 59) % 4))
+short_store op = items.Insn (insns.Local (opcode.istore + (op - opcode.istore_0) / 4) ((op - opcode.istore_0) % 4))
 
 -- a number of n bytes, the high ones first
 abbrev pub number : ℕ → List ℕ → ℕ → Type 0
@@ -96,7 +97,7 @@ wide_operands forms.Inc op = do
   slot ← number 2
   by ← number 2
   nothing (items.Insn (insns.Inc slot (cast_signed w16 by)))
-wide_operands forms.Subroutine op = only_if (nat_eq op 169) (nothing items.Subroutine)
+wide_operands forms.Subroutine op = only_if (nat_eq op opcode.ret) (nothing items.Subroutine)
 wide_operands form op = λ bytes item. ⊥
 
 -- What stands behind an opcode of this form, and what it is together with the opcode. The operands of jsr,
@@ -132,7 +133,7 @@ operands at forms.Jump op = do
   nothing (items.Insn (insns.Jump op (target_of at (cast_signed w16 difference))))
 operands at forms.WideJump op = do
   difference ← number 4
-  nothing (items.Insn (insns.Jump 167 (target_of at (cast_signed w32 difference))))
+  nothing (items.Insn (insns.Jump opcode.goto (target_of at (cast_signed w32 difference))))
 operands at forms.Subroutine op = nothing items.Subroutine
 operands at forms.Table op = table_operands at
 operands at forms.Lookup op = lookup_operands at

@@ -3,6 +3,7 @@ use Rattle.std.specs.Prelude.{ℕ, ◌*◌, ◌&&◌, List, take, Option, Some, 
 use Rattle.std.specs.Int.{w8, w16, w32, cast_signed}
 use Rattle.jc_base.specs.declared.form.Form.{Form}
 use Rattle.jc_base.specs.declared.form.Form.TheVariants as forms
+use Rattle.jc_base.specs.Opcode as opcode
 use Rattle.jc_base.specs.InsnForm.{form_of}
 use Rattle.jc_base.specs.Decoder.{◌>>=◌, first, byte_at, number_at}
 use Rattle.jc_base.specs.declared.insn.Insn.TheVariants as insns
@@ -58,7 +59,7 @@ jump_at at op left = do
 unfoldable pub wide_jump_at : ℕ → List ℕ → Option (Item × List ℕ)
 wide_jump_at at left = do
   difference ← number_at 4 left
-  Some (items.Insn (insns.Jump 167 (target_of at (cast_signed w32 difference.0))), difference.1)
+  Some (items.Insn (insns.Jump opcode.goto (target_of at (cast_signed w32 difference.0))), difference.1)
 
 unfoldable pub table_at : ℕ → List ℕ → Option (Item × List ℕ)
 table_at at left = do
@@ -127,7 +128,7 @@ wide_inc_at left = do
 unfoldable pub wide_operands_at : Form → ℕ → List ℕ → Option (Item × List ℕ)
 wide_operands_at forms.Local op left = wide_local_at op left
 wide_operands_at forms.Inc op left = wide_inc_at left
-wide_operands_at forms.Subroutine op left = if nat_eq op 169 then Some (items.Subroutine, left) else None
+wide_operands_at forms.Subroutine op left = if nat_eq op opcode.ret then Some (items.Subroutine, left) else None
 wide_operands_at form op left = None
 
 unfoldable pub wide_at : List ℕ → Option (Item × List ℕ)

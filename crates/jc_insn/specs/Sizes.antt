@@ -2,6 +2,7 @@
 use Rattle.std.specs.Prelude.{◌≡◌, ◌≤◌, ◌<◌, ℕ, ◌+◌, ◌*◌, ℤ, pos, negsuc, Bool, ◌&&◌, List, [], ◌∷◌, length, nat_eq, nat_lt, int_le, if◌then◌else◌, All}
 use Rattle.jc_base.specs.declared.form.Form.{Form}
 use Rattle.jc_base.specs.declared.form.Form.TheVariants as forms
+use Rattle.jc_base.specs.Opcode as opcode
 use Rattle.jc_base.specs.InsnForm.{form_of}
 use Rattle.jc_base.specs.declared.insn.Insn.{Insn}
 use Rattle.jc_base.specs.declared.insn.Insn.TheVariants as insns
@@ -21,7 +22,7 @@ abbrev pub is_narrow_inc : ℕ → ℤ → Bool
 is_narrow_inc slot by = nat_lt slot 256 && (int_le (negsuc 127) by && int_le by (pos 127))
 
 abbrev pub jump_size : Bool → ℕ → ℕ
-jump_size wide op = if wide then (if nat_eq op 167 then 5 else 8) else 3
+jump_size wide op = if wide then (if nat_eq op opcode.goto then 5 else 8) else 3
 
 -- The length of the shortest spelling of an instruction at this offset. In the wide layout goto is goto_w,
 -- and a conditional jump is its inverse over a goto_w.

@@ -1,10 +1,11 @@
 -- The spelling of code (JVM Specification 4.7.3 and 4.9.1).
-use Rattle.std.specs.Prelude.{◌≡◌, ◌≢◌, ℕ, ◌+◌, List, [], ◌∷◌, ◌++◌, length, map, nat_eq, if◌then◌else◌, None}
+use Rattle.std.specs.Prelude.{◌≡◌, ◌≢◌, ℕ, ◌+◌, List, [], ◌∷◌, ◌++◌, length, map, None}
 use Rattle.jc_base.specs.declared.refusal.Refusal.{Refusal}
 use Rattle.jc_base.specs.declared.refusal.RefusalKind.{RefusalKind}
 use Rattle.jc_base.specs.declared.refusal.RefusalKind.TheVariants as kinds
 use Rattle.jc_base.specs.declared.insn.Insn.{Insn}
 use Rattle.jc_base.specs.Insn.{with_places}
+use Rattle.jc_base.specs.Starts.{insn_number}
 use Rattle.jc_insn.specs.declared.item.Item.{Item}
 use Rattle.jc_insn.specs.declared.item.Item.TheVariants as items
 use Rattle.jc_insn.specs.Items.{IsItem}
@@ -16,12 +17,6 @@ SpellsFrom at bytes [] starts = (bytes ≡ []) × (starts ≡ at ∷ [])
 SpellsFrom at bytes (insn ∷ code) starts =
     (text rest later : List ℕ) × (bytes ≡ text ++ rest) × (starts ≡ at ∷ later) × IsItem at text (items.Insn insn)
     × SpellsFrom (at + length text) rest code later
-
--- The number of the instruction that begins at this offset. Where none does, it is the number of instructions.
-abbrev pub insn_number : List ℕ → ℕ → ℕ
-insn_number [] offset = 0
-insn_number (end ∷ []) offset = 0
-insn_number (start ∷ next ∷ starts) offset = if nat_eq start offset then 0 else 1 + insn_number (next ∷ starts) offset
 
 -- The bytes spell the instructions, which begin at these offsets, behind which stands the length of the code.
 -- A jump names the instruction that begins at the offset to which it leads. Where none begins there, it

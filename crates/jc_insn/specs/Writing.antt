@@ -5,6 +5,7 @@ use Rattle.std.specs.Int.{w16, w32, cast_unsigned}
 use Rattle.byteorder.specs.Endian.{big_bytes}
 use Rattle.jc_base.specs.declared.form.Form.{Form}
 use Rattle.jc_base.specs.declared.form.Form.TheVariants as forms
+use Rattle.jc_base.specs.Opcode as opcode
 use Rattle.jc_base.specs.InsnForm.{form_of}
 use Rattle.jc_base.specs.declared.insn.Insn.{Insn}
 use Rattle.jc_base.specs.declared.insn.Insn.TheVariants as insns
@@ -39,28 +40,28 @@ push_text form op value = op ∷ signed_short value
 
 -- the opcode of a load or a store that has the local variable in it
 abbrev pub short_code : ℕ → ℕ → ℕ
-short_code op slot = if nat_lt op 54 then 26 + 4 * (op - 21) + slot else 59 + 4 * (op - 54) + slot
+short_code op slot = if nat_lt op opcode.istore then opcode.iload_0 + 4 * (op - opcode.iload) + slot else opcode.istore_0 + 4 * (op - opcode.istore) + slot
 
 -- a load or a store: with the local variable in the opcode, behind it in a byte, or behind `wide`
 abbrev pub local_text : ℕ → ℕ → List ℕ
 local_text op slot =
     if nat_lt slot 4 then short_code op slot ∷ []
     else if nat_lt slot 256 then op ∷ slot ∷ []
-    else 196 ∷ op ∷ short slot
+    else opcode.wide ∷ op ∷ short slot
 
 abbrev pub inc_text : ℕ → ℤ → List ℕ
 inc_text slot by =
-    if is_narrow_inc slot by then 132 ∷ slot ∷ signed_byte by ∷ []
-    else 196 ∷ 132 ∷ short slot ++ signed_short by
+    if is_narrow_inc slot by then opcode.iinc ∷ slot ∷ signed_byte by ∷ []
+    else opcode.wide ∷ opcode.iinc ∷ short slot ++ signed_short by
 
 abbrev pub constant_text : ℕ → List ℕ
-constant_text place = if nat_lt place 256 then 18 ∷ place ∷ [] else 19 ∷ short place
+constant_text place = if nat_lt place 256 then opcode.ldc ∷ place ∷ [] else opcode.ldc_w ∷ short place
 
 -- goto_w, or a conditional jump that its inverse leads past a goto_w
 abbrev pub wide_jump_text : ℕ → ℕ → ℕ → List ℕ
 wide_jump_text at op to =
-    if nat_eq op 167 then 200 ∷ word (difference at to)
-    else inverse_of op ∷ short 8 ++ 200 ∷ word (difference (at + 3) to)
+    if nat_eq op opcode.goto then opcode.goto_w ∷ word (difference at to)
+    else inverse_of op ∷ short 8 ++ opcode.goto_w ∷ word (difference (at + 3) to)
 
 -- a jump in two bytes, or in the wide layout
 abbrev pub jump_text : ℕ → Bool → ℕ → ℕ → List ℕ
@@ -79,21 +80,21 @@ last_key low count = low +ℤ pos (count - 1)
 
 abbrev pub table_text : ℕ → ℤ → ℕ → List ℕ → List ℕ
 table_text at low default arms =
-    170 ∷ pad_text at ++ (word (difference at default) ++ (word (cast_unsigned w32 low)
+    opcode.tableswitch ∷ pad_text at ++ (word (difference at default) ++ (word (cast_unsigned w32 low)
     ++ (word (cast_unsigned w32 (last_key low (length arms))) ++ flat_map (λ to. word (difference at to)) arms)))
 
 abbrev pub lookup_text : ℕ → ℕ → List Arm → List ℕ
 lookup_text at default arms =
-    171 ∷ pad_text at ++ (word (difference at default) ++ (word (length arms) ++ flat_map (arm_text at) arms))
+    opcode.lookupswitch ∷ pad_text at ++ (word (difference at default) ++ (word (length arms) ++ flat_map (arm_text at) arms))
 
 abbrev pub interface_text : ℕ → ℕ → List ℕ
-interface_text place count = 185 ∷ short place ++ (count ∷ 0 ∷ [])
+interface_text place count = opcode.invokeinterface ∷ short place ++ (count ∷ 0 ∷ [])
 
 abbrev pub dynamic_text : ℕ → List ℕ
-dynamic_text place = 186 ∷ short place ++ (0 ∷ 0 ∷ [])
+dynamic_text place = opcode.invokedynamic ∷ short place ++ (0 ∷ 0 ∷ [])
 
 abbrev pub multi_text : ℕ → ℕ → List ℕ
-multi_text place dims = 197 ∷ short place ++ (dims ∷ [])
+multi_text place dims = opcode.multianewarray ∷ short place ++ (dims ∷ [])
 
 -- The shortest spelling of an instruction at this offset, where the places to which it leads are offsets.
 -- Bytes of any value are 0.
@@ -103,12 +104,12 @@ insn_text at wide (insns.Push op value) = push_text (form_of op) op value
 insn_text at wide (insns.Local op slot) = local_text op slot
 insn_text at wide (insns.Inc slot by) = inc_text slot by
 insn_text at wide (insns.Constant place) = constant_text place
-insn_text at wide (insns.Constant2 place) = 20 ∷ short place
+insn_text at wide (insns.Constant2 place) = opcode.ldc2_w ∷ short place
 insn_text at wide (insns.Member op place) = op ∷ short place
 insn_text at wide (insns.Interface place count) = interface_text place count
 insn_text at wide (insns.Dynamic place) = dynamic_text place
 insn_text at wide (insns.OfClass op place) = op ∷ short place
-insn_text at wide (insns.NewArray elem) = 188 ∷ elem ∷ []
+insn_text at wide (insns.NewArray elem) = opcode.newarray ∷ elem ∷ []
 insn_text at wide (insns.Multi place dims) = multi_text place dims
 insn_text at wide (insns.Jump op to) = jump_text at wide op to
 insn_text at wide (insns.Table low default arms) = table_text at low default arms
@@ -124,7 +125,7 @@ code_text places wide code starts = []
 -- instructions, its inverse that leads past the second one, and goto. Places are offsets.
 abbrev pub spelled_as : ℕ → Bool → Insn → List Insn
 spelled_as at true (insns.Jump op to) =
-    if nat_eq op 167 then insns.Jump op to ∷ [] else insns.Jump (inverse_of op) (at + 8) ∷ insns.Jump 167 to ∷ []
+    if nat_eq op opcode.goto then insns.Jump op to ∷ [] else insns.Jump (inverse_of op) (at + 8) ∷ insns.Jump opcode.goto to ∷ []
 spelled_as at wide insn = insn ∷ []
 
 -- the same for instructions, each at its offset

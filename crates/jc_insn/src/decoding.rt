@@ -3,12 +3,13 @@ ghost use Rattle.std.specs.Prelude.{◌≡◌, ◌+◌, ◌≤◌, ◌<◌, ◌�
 ghost use Rattle.jc_base.specs.Decoder.{SameEnd};
 ghost use Rattle.jc_base.specs.declared.insn.Insn.{Insn as Instruction};
 ghost use Rattle.jc_base.specs.declared.refusal.Refusal.{Refusal as Reason};
+ghost use Rattle.jc_base.specs.Starts.{AreStarts};
 ghost use Rattle.jc_insn.specs.Spells.{SpellsFrom, Spells, IsRefused};
-ghost use Rattle.jc_insn.specs.Decoding.{Refuses, GivesNext, IsInsnAmong, AreStarts};
+ghost use Rattle.jc_insn.specs.Decoding.{Refuses, GivesNext, IsInsnAmong};
 
 use crate::item::{Item, read_item};
-use crate::places::{all_numbered, numbers};
-use jc_base::{Fail, Insn, List, Reader, Refusal, RefusalKind, Unfit};
+use crate::places::all_numbered;
+use jc_base::{Fail, Insn, List, Reader, Refusal, RefusalKind, Unfit, insn_numbers};
 use std::alloc::Global;
 
 /// Instructions, and where they begin.
@@ -99,7 +100,7 @@ pub fn decode(alloc: Global, code: &[u8]) -> Result<Decoded, Fail<Refusal>>
         → MatchResult result (λ d. ⊥) (λ e. (e ≡ Fail.Memory) ⊎ (e ≡ Fail.Said r)) }
 {
     let Spelled { code: text, starts } = read_all(alloc, code)?;
-    let numbers = numbers(alloc, &starts, code.len() + 1)?;
+    let numbers = insn_numbers(alloc, &starts, code.len() + 1)?;
     let code = all_numbered(alloc, &numbers, text.len() as u32, text)?;
     Ok(Decoded {
         code,

@@ -9,10 +9,8 @@ use crate::write::{
     put_constant, put_dynamic, put_inc, put_interface, put_jump, put_local, put_lookup, put_multi,
     put_new_array, put_push, put_table, put_with_short,
 };
-use jc_base::{Insn, Memory, form_of};
+use jc_base::{Insn, Memory, form_of, opcode};
 use std::alloc::{AllocError, Global};
-
-const LDC2_W: u8 = 20;
 
 /// An instruction that begins at the offset `at`.
 #[tactic(auto, unfolding(crate::specs::Writing::insn_text))]
@@ -36,7 +34,7 @@ fn put_insn(
         Insn::Local { op, slot } => put_local(out, *op, *slot)?,
         Insn::Inc { slot, by } => put_inc(out, *slot, *by)?,
         Insn::Constant { place } => put_constant(out, *place)?,
-        Insn::Constant2 { place } => put_with_short(out, LDC2_W, *place)?,
+        Insn::Constant2 { place } => put_with_short(out, opcode::LDC2_W, *place)?,
         Insn::Member { op, place } => put_with_short(out, *op, *place)?,
         Insn::Interface { place, count } => put_interface(out, *place, *count)?,
         Insn::Dynamic { place } => put_dynamic(out, *place)?,

@@ -9,7 +9,7 @@ use crate::operands::{
     new_array, of_class, push_byte, push_short, wide, wide_jump,
 };
 use crate::switch::{lookup, table};
-use jc_base::{Fail, Form, Insn, Reader, Unfit, form_of};
+use jc_base::{Fail, Form, Insn, Reader, Unfit, form_of, opcode};
 use std::alloc::Global;
 
 /// What stands at an offset of the code.
@@ -25,9 +25,9 @@ pub enum Item {
 fn short_load(op: u8) -> Item
     ensures { result ≡ short_load op }
 {
-    let code = op.saturating_sub(26);
+    let code = op.saturating_sub(opcode::ILOAD_0);
     Item::Insn(Insn::Local {
-        op: 21 + code / 4,
+        op: opcode::ILOAD + code / 4,
         slot: u16::from(code % 4),
     })
 }
@@ -36,9 +36,9 @@ fn short_load(op: u8) -> Item
 fn short_store(op: u8) -> Item
     ensures { result ≡ short_store op }
 {
-    let code = op.saturating_sub(59);
+    let code = op.saturating_sub(opcode::ISTORE_0);
     Item::Insn(Insn::Local {
-        op: 54 + code / 4,
+        op: opcode::ISTORE + code / 4,
         slot: u16::from(code % 4),
     })
 }

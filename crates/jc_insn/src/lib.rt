@@ -16,5 +16,4 @@ mod write;
 pub use decoding::{Decoded, decode};
 pub use encoding::encode;
 pub use laws::{each_code_is_spelled_or_refused, one_code, one_spelling};
-pub use places::numbers as insn_numbers;
 pub use size::size_of;

@@ -5,11 +5,7 @@ ghost use Rattle.jc_insn.specs.Items.{target_of};
 ghost use Rattle.jc_insn.specs.Reading.{push_byte_at, push_short_at, constant_byte_at, constant_short_at, constant2_at, local_at, inc_at, jump_at, wide_jump_at, member_at, interface_at, dynamic_at, of_class_at, new_array_at, multi_at, wide_local_at, wide_inc_at, wide_operands_at, wide_at};
 
 use crate::item::Item;
-use jc_base::{Fail, Form, Insn, Reader, Unfit, form_of};
-
-const GOTO: u8 = 167;
-
-const RET: u8 = 169;
+use jc_base::{Fail, Form, Insn, Reader, Unfit, form_of, opcode};
 
 /// The offset that lies so far from this one.
 pub fn target(at: u32, difference: i32) -> u32
@@ -124,7 +120,7 @@ pub fn wide_jump(reader: &mut Reader<'_>, at: u32) -> Result<Item, Fail<Unfit>>
 {
     let difference = reader.u32()?;
     Ok(Item::Insn(Insn::Jump {
-        op: GOTO,
+        op: opcode::GOTO,
         to: target(at, difference.cast_signed()),
     }))
 }
@@ -235,7 +231,7 @@ fn wide_operands(reader: &mut Reader<'_>, form: Form, op: u8) -> Result<Item, Fa
         Form::Local => wide_local(reader, op),
         Form::Inc => wide_inc(reader),
         Form::Subroutine => {
-            if op == RET {
+            if op == opcode::RET {
                 Ok(Item::Subroutine)
             } else {
                 Err(Fail::Said(Unfit))

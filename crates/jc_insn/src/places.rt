@@ -1,28 +1,9 @@
-//! Offsets of instructions, and their numbers.
-ghost use Rattle.std.specs.Prelude.{◌≡◌, ◌+◌, ◌<◌, ◌≤◌, ◌^◌, ℕ, length, map, slice_index, slice_index_or, IfOk, All};
+//! Numbers of instructions in place of their offsets.
+ghost use Rattle.std.specs.Prelude.{◌≡◌, map, slice_index_or, IfOk};
 ghost use Rattle.jc_base.specs.Insn.{with_places, arm_with_place};
-ghost use Rattle.jc_insn.specs.Spells.{insn_number};
 
 use jc_base::{Arm, Insn, List};
 use std::alloc::{AllocError, Global};
-
-/// For each offset below `size` the number of the instruction that begins there, or the number
-/// of instructions where none does.
-pub fn numbers(alloc: Global, starts: &[u32], size: usize) -> Result<Vec<u32>, AllocError>
-    requires some { 0 < length starts.now }
-    requires few { length starts.now < 2 ^ 32 }
-    requires within { All (λ start. start < size) starts.now }
-    ensures length { IfOk result (λ numbers. length numbers.items ≡ size) }
-    ensures each { IfOk result (λ numbers. (offset : ℕ) → offset < size → slice_index numbers.items offset ≡ insn_number starts.now offset) }
-{
-    let mut number = starts.len() - 1;
-    let mut numbers = vec![in alloc; number as u32; size]?;
-    'numbering: while number > 0 {
-        number -= 1;
-        numbers[starts[number] as usize] = number as u32;
-    }
-    Ok(numbers)
-}
 
 /// The number at an offset, or the number of instructions where there is none.
 fn number(numbers: &[u32], count: u32, offset: u32) -> u32

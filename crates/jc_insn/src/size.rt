@@ -4,9 +4,7 @@ ghost use Rattle.jc_base.specs.Insn.{arm_count};
 ghost use Rattle.jc_insn.specs.Items.{padding};
 ghost use Rattle.jc_insn.specs.Sizes.{push_size, local_size, is_narrow_inc, jump_size, size_of, IsLeast};
 
-use jc_base::{Form, Insn, form_of};
-
-const GOTO: u8 = 167;
+use jc_base::{Form, Insn, form_of, opcode};
 
 /// How many bytes stand between the opcode of a switch at this offset and its operands.
 pub fn padding(at: u32) -> u32
@@ -65,7 +63,7 @@ fn jump_size(wide: bool, op: u8) -> u32
 {
     if !wide {
         3
-    } else if op == GOTO {
+    } else if op == opcode::GOTO {
         5
     } else {
         8

@@ -8,32 +8,8 @@ ghost use Rattle.jc_base.specs.Insn.{arm_with_place};
 ghost use Rattle.jc_insn.specs.Writing.{short, word, signed_byte, signed_short, difference, push_text, short_code, local_text, inc_text, constant_text, wide_jump_text, jump_text, arm_text, pad_text, last_key, table_text, lookup_text, interface_text, dynamic_text, multi_text};
 
 use crate::size::{is_narrow_inc, padding};
-use jc_base::{Arm, Form, inverse};
+use jc_base::{Arm, Form, inverse, opcode};
 use std::alloc::AllocError;
-
-const LDC: u8 = 18;
-
-const LDC_W: u8 = 19;
-
-const IINC: u8 = 132;
-
-const GOTO: u8 = 167;
-
-const TABLESWITCH: u8 = 170;
-
-const LOOKUPSWITCH: u8 = 171;
-
-const INVOKEINTERFACE: u8 = 185;
-
-const INVOKEDYNAMIC: u8 = 186;
-
-const NEWARRAY: u8 = 188;
-
-const WIDE: u8 = 196;
-
-const MULTIANEWARRAY: u8 = 197;
-
-const GOTO_W: u8 = 200;
 
 /// A number in two bytes.
 #[tactic(auto, unfolding(crate::specs::Writing::short))]
@@ -94,10 +70,10 @@ fn short_code(op: u8, slot: u8) -> u8
     requires slot { slot < 4 }
     ensures { result ≡ short_code op slot }
 {
-    if op < 54 {
-        26 + 4 * (op - 21) + slot
+    if op < opcode::ISTORE {
+        opcode::ILOAD_0 + 4 * (op - opcode::ILOAD) + slot
     } else {
-        59 + 4 * (op - 54) + slot
+        opcode::ISTORE_0 + 4 * (op - opcode::ISTORE) + slot
     }
 }
 
@@ -112,7 +88,7 @@ pub fn put_local(out: &mut Vec<u8>, op: u8, slot: u16) -> Result<(), AllocError>
         out.push(op)?;
         out.push(slot as u8)?;
     } else {
-        out.push(WIDE)?;
+        out.push(opcode::WIDE)?;
         put_with_short(out, op, slot)?;
     }
     Ok(())
@@ -123,12 +99,12 @@ pub fn put_inc(out: &mut Vec<u8>, slot: u16, by: i16) -> Result<(), AllocError>
     ensures { OnOk result (out.new.items ≡ out.old.items ++ inc_text slot by) }
 {
     if is_narrow_inc(slot, by) {
-        out.push(IINC)?;
+        out.push(opcode::IINC)?;
         out.push(slot as u8)?;
         out.push(signed_byte(by))?;
     } else {
-        out.push(WIDE)?;
-        put_with_short(out, IINC, slot)?;
+        out.push(opcode::WIDE)?;
+        put_with_short(out, opcode::IINC, slot)?;
         put_short(out, by.cast_unsigned())?;
     }
     Ok(())
@@ -139,10 +115,10 @@ pub fn put_constant(out: &mut Vec<u8>, place: u16) -> Result<(), AllocError>
     ensures { OnOk result (out.new.items ≡ out.old.items ++ constant_text place) }
 {
     if place < 256 {
-        out.push(LDC)?;
+        out.push(opcode::LDC)?;
         out.push(place as u8)?;
     } else {
-        put_with_short(out, LDC_W, place)?;
+        put_with_short(out, opcode::LDC_W, place)?;
     }
     Ok(())
 }
@@ -151,7 +127,7 @@ pub fn put_constant(out: &mut Vec<u8>, place: u16) -> Result<(), AllocError>
 fn put_goto(out: &mut Vec<u8>, at: u32, to: u32) -> Result<(), AllocError>
     ensures { OnOk result (out.new.items ≡ out.old.items ++ 200 ∷ word (difference at to)) }
 {
-    out.push(GOTO_W)?;
+    out.push(opcode::GOTO_W)?;
     put_word(out, difference(at, to))?;
     Ok(())
 }
@@ -162,7 +138,7 @@ fn put_wide_jump(out: &mut Vec<u8>, at: u32, op: u8, to: u32) -> Result<(), Allo
     requires at { at ≤ 2147483647 }
     ensures { OnOk result (out.new.items ≡ out.old.items ++ wide_jump_text at op to) }
 {
-    if op == GOTO {
+    if op == opcode::GOTO {
         put_goto(out, at, to)?;
     } else {
         put_with_short(out, inverse(op), 8)?;
@@ -255,7 +231,7 @@ pub fn put_table(
     requires places { All (λ to. to < length starts.now) arms.now }
     ensures { OnOk result (out.new.items ≡ out.old.items ++ table_text at low (slice_index starts.now default) (map (slice_index starts.now) arms.now)) }
 {
-    out.push(TABLESWITCH)?;
+    out.push(opcode::TABLESWITCH)?;
     put_pad(out, at)?;
     put_word(out, difference(at, starts[default as usize]))?;
     put_word(out, low.cast_unsigned())?;
@@ -278,7 +254,7 @@ pub fn put_lookup(
     ensures text { OnOk result (out.new.items ≡ out.old.items ++ lookup_text at (slice_index starts.now default) (map (arm_with_place (slice_index starts.now)) arms.now)) }
     ensures keys { OnOk result (All (λ arm. FitsSigned w32 arm.key) arms.now) }
 {
-    out.push(LOOKUPSWITCH)?;
+    out.push(opcode::LOOKUPSWITCH)?;
     put_pad(out, at)?;
     put_word(out, difference(at, starts[default as usize]))?;
     put_word(out, arms.len() as u32)?;
@@ -290,7 +266,7 @@ pub fn put_lookup(
 pub fn put_interface(out: &mut Vec<u8>, place: u16, count: u8) -> Result<(), AllocError>
     ensures { OnOk result (out.new.items ≡ out.old.items ++ interface_text place count) }
 {
-    put_with_short(out, INVOKEINTERFACE, place)?;
+    put_with_short(out, opcode::INVOKEINTERFACE, place)?;
     out.push(count)?;
     out.push(0)?;
     Ok(())
@@ -300,7 +276,7 @@ pub fn put_interface(out: &mut Vec<u8>, place: u16, count: u8) -> Result<(), All
 pub fn put_dynamic(out: &mut Vec<u8>, place: u16) -> Result<(), AllocError>
     ensures { OnOk result (out.new.items ≡ out.old.items ++ dynamic_text place) }
 {
-    put_with_short(out, INVOKEDYNAMIC, place)?;
+    put_with_short(out, opcode::INVOKEDYNAMIC, place)?;
     out.push(0)?;
     out.push(0)?;
     Ok(())
@@ -310,7 +286,7 @@ pub fn put_dynamic(out: &mut Vec<u8>, place: u16) -> Result<(), AllocError>
 pub fn put_new_array(out: &mut Vec<u8>, elem: u8) -> Result<(), AllocError>
     ensures { OnOk result (out.new.items ≡ out.old.items ++ 188 ∷ elem ∷ []) }
 {
-    out.push(NEWARRAY)?;
+    out.push(opcode::NEWARRAY)?;
     out.push(elem)?;
     Ok(())
 }
@@ -319,7 +295,7 @@ pub fn put_new_array(out: &mut Vec<u8>, elem: u8) -> Result<(), AllocError>
 pub fn put_multi(out: &mut Vec<u8>, place: u16, dims: u8) -> Result<(), AllocError>
     ensures { OnOk result (out.new.items ≡ out.old.items ++ multi_text place dims) }
 {
-    put_with_short(out, MULTIANEWARRAY, place)?;
+    put_with_short(out, opcode::MULTIANEWARRAY, place)?;
     out.push(dims)?;
     Ok(())
 }

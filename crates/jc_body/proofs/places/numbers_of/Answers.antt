@@ -1,6 +1,6 @@
 use Rattle.std.proofs.Common.{◌≡◌, ℕ, ◌+◌, ◌<◌, List, length, get_or, rules, subst}
-use Rattle.jc_insn.specs.Spells.{insn_number}
-use Rattle.jc_insn.proofs.CodeLaws.{numbers_are}
+use Rattle.jc_base.specs.Starts.{insn_number}
+use Rattle.jc_base.proofs.StartsLaws.{numbers_are}
 use Rattle.jc_body.proofs.places.numbers_of.Goals as goal
 
 pub returns : goal.returns

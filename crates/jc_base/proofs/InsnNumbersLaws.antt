@@ -3,7 +3,7 @@ use Rattle.std.proofs.Common.{◌≡◌, ◌≢◌, ◌⊎◌, inl, inr, ℕ, su
 use Rattle.std.proofs.lemmas.Bool.{eq-eqb, ne_eqb, cases_eq}
 use Rattle.std.proofs.lemmas.List.{get_or-set_same, get_or-set_other, length-set, get_or-replicate}
 use Rattle.std.proofs.Math.Seq.{drop-cons}
-use Rattle.jc_insn.specs.Spells.{insn_number}
+use Rattle.jc_base.specs.Starts.{insn_number}
 
 -- from `number` on the offsets of the instructions have their numbers
 pub record Numbered (starts : List ℕ) (size number : ℕ) (numbers : List ℕ) : Type 0 where

@@ -1,5 +1,5 @@
-use Rattle.jc_insn.proofs.NumbersLaws.{Numbered}
-use Rattle.jc_insn.proofs.places.numbers.Given as goal
+use Rattle.jc_base.proofs.InsnNumbersLaws.{Numbered}
+use Rattle.jc_base.proofs.starts.insn_numbers.Given as goal
 
 -- the offsets of the instructions from `number` on have their numbers
 abbrev pub invariant-numbering : goal.invariant-numbering

@@ -1,9 +1,22 @@
--- The numbers of instructions rise with the offsets at which they begin.
-use Rattle.std.proofs.Common.{◌≡◌, ◌⊎◌, inl, inr, ℕ, zero, suc, ◌+◌, ◌-◌, ◌<◌, ◌≤◌, Bool, true, false, cond, List, [], ◌∷◌, length, get_or, nat_eq, refl, sym, ◌∙◌, ap, arith}
+-- The offsets at which instructions begin rise, and the numbers of the instructions with them.
+use Rattle.std.proofs.Common.{◌≡◌, ◌⊎◌, inl, inr, ℕ, zero, suc, ◌+◌, ◌-◌, ◌<◌, ◌≤◌, Bool, true, false, cond, List, [], ◌∷◌, length, get_or, nat_eq, refl, sym, ◌∙◌, ap, subst, arith, All}
 use Rattle.std.proofs.lemmas.Bool.{eqb-true, eq-eqb, ne_eqb, cases_lt, cases_eq}
-use Rattle.jc_insn.specs.Spells.{insn_number}
-use Rattle.jc_insn.specs.Decoding.{AreStarts}
-use Rattle.jc_body.proofs.FaultLaws.{rising}
+use Rattle.std.proofs.lemmas.List.{get_or_default, get_or_past}
+use Rattle.std.proofs.lemmas.List.Elements.{All-get_or}
+use Rattle.jc_base.specs.Starts.{insn_number, AreStarts}
+
+-- offsets of instructions rise
+rises : (count size : ℕ) (starts : List ℕ) → AreStarts count size starts → (i steps : ℕ) → i + steps < count → get_or starts i 0 < get_or starts (i + suc steps) 0
+rises count size starts are i zero inside = subst (λ (k : ℕ). get_or starts i 0 < get_or starts k 0) (omega arith) (are.rising i (omega (arith, inside)))
+rises count size starts are i (suc steps) inside =
+    let before = rises count size starts are i steps (omega (arith, inside)) in
+    let next = subst (λ (k : ℕ). get_or starts (i + suc steps) 0 < get_or starts k 0) (let e : (i + suc steps) + 1 ≡ i + suc (suc steps) = omega arith in e) (are.rising (i + suc steps) (omega (arith, inside))) in
+    omega (arith, before, next)
+
+pub rising : (count size : ℕ) (starts : List ℕ) → AreStarts count size starts → (i j : ℕ) → i < j → j ≤ count → get_or starts i 0 < get_or starts j 0
+rising count size starts are i j less inside =
+    let steps : (i + suc (j - suc i)) ≡ j = omega (arith, less) in
+    subst (λ (k : ℕ). get_or starts i 0 < get_or starts k 0) steps (rises count size starts are i (j - suc i) (omega (arith, less, inside)))
 
 -- the numbers of the list rise, as far as the last
 abbrev Rises : List ℕ → ℕ → Type 0
@@ -60,3 +73,23 @@ numbers_stay count size starts s offset offset' le inside inside' = by (cases_eq
 pub some_insn : (count size : ℕ) (starts : List ℕ) → AreStarts count size starts → 1 ≤ size → 1 ≤ count
 some_insn zero size starts s some = let first = s.first in let end = s.end in absurd (omega (arith, first, end, some))
 some_insn (suc count) size starts s some = omega arith
+
+-- ---- a table over the offsets
+
+none_at : (starts : List ℕ) (offset count : ℕ) → ((k : ℕ) → k < length starts → get_or starts k 0 < offset) → length starts ≡ count + 1 → insn_number starts offset ≡ count
+none_at [] offset count below long = absurd (omega (arith, long))
+none_at (end ∷ []) offset count below long = omega (arith, long)
+none_at (start ∷ next ∷ starts) offset count below long =
+    let first : start < offset = below 0 (omega arith) in
+    let more = none_at (next ∷ starts) offset (count - 1) (λ k lt. below (suc k) (omega (arith, lt))) (omega (arith, long)) in
+    rw (ne_eqb start offset (λ e. omega (arith, first, e))) (omega (arith, more, long))
+
+-- a table over the offsets has the numbers, and its default beyond them
+pub numbers_are : (starts numbers : List ℕ) (size count : ℕ) → length numbers ≡ size → ((offset : ℕ) → offset < size → get_or numbers offset 0 ≡ insn_number starts offset) → All (λ start. start < size) starts → length starts ≡ count + 1 → (λ (offset : ℕ). get_or numbers offset count) ≡ insn_number starts
+numbers_are starts numbers size count long each within starts_long i offset = each_is offset (cases_lt offset size) i
+  where
+    each_is : (offset : ℕ) → (offset < size) ⊎ (size ≤ offset) → get_or numbers offset count ≡ insn_number starts offset
+    each_is offset (inl below) = get_or_default numbers offset count 0 (omega (arith, long, below)) ∙ each offset below
+    each_is offset (inr past) =
+        get_or_past numbers offset count (omega (arith, long, past))
+        ∙ sym (none_at starts offset count (λ k lt. let w = All-get_or (λ start. start < size) starts k 0 lt within in omega (arith, w, past)) starts_long)

@@ -1,7 +1,7 @@
 use Rattle.std.proofs.Common.{arith, refl, rules, ◌<◌, ◌-◌, length}
 use Rattle.std.proofs.lemmas.List.Elements.{All-get_or}
-use Rattle.jc_insn.proofs.NumbersLaws.{begins, goes_on}
-use Rattle.jc_insn.proofs.places.numbers.Goals as goal
+use Rattle.jc_base.proofs.InsnNumbersLaws.{begins, goes_on}
+use Rattle.jc_base.proofs.starts.insn_numbers.Goals as goal
 
 pub numbering-init : goal.numbering-init
 numbering-init c = begins c.args.starts.now c.args.size (length c.args.starts.now - 1) c.in_ok-numbers.numbers.items (omega (arith, c.requires.some)) (c.in_ok-numbers.ensures.items_if_clones_equal (λ y same. same)) (search rules)
