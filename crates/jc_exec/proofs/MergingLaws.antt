@@ -9,12 +9,12 @@ use Rattle.jc_exec.specs.declared.hits.ClassHits.{ClassHits}
 use Rattle.jc_exec.specs.declared.session.Session.{Session}
 use Rattle.jc_exec.specs.Format.{Block, header, session, class}
 use Rattle.jc_exec.specs.Store.{Store, IsNew}
-use Rattle.jc_exec.specs.Union.{sessions_of, records_of, ids_of, first_seen, Agrees, IsHitAt, IsMerged, IsUnion, either_bits, agree, with_record, with_block, union_of}
+use Rattle.jc_exec.specs.Union.{sessions_of, records_of, ids_of, first_seen, Agrees, IsHitAt, IsMerged, IsUnion, either_bits, agree, either_hits, with_record, with_block, union_of}
 use Rattle.jc_exec.proofs.UnionLaws.{sessions-append, records-append, contains_front, contains_last, contains_either, all_filter, among, first_seen-append, among_first_seen, merged_other, merged_first, all_merged_other, union_none, union_header, one_union, in_union, among_there, HasRecord, seen_has_record}
 
 -- ---- two records of one id
 
-length_either : (xs ys : List Bool) → length xs ≡ length ys → length (either_bits xs ys) ≡ length xs
+pub length_either : (xs ys : List Bool) → length xs ≡ length ys → length (either_bits xs ys) ≡ length xs
 length_either [] [] e = refl
 length_either [] (y ∷ ys) e = absurd (omega (arith, e))
 length_either (x ∷ xs) [] e = refl
@@ -42,16 +42,13 @@ and_true : (a b : Bool) → (a && b) ≡ true → (a ≡ true) × (b ≡ true)
 and_true true b e = (refl, e)
 and_true false b e = absurd cc
 
-agree_agrees : (c r : ClassHits) → agree c r ≡ true → Agrees r c
+pub agree_agrees : (c r : ClassHits) → agree c r ≡ true → Agrees r c
 agree_agrees c r e =
     let both = and_true (bytes_eq c.name r.name) (nat_eq (length c.bits) (length r.bits)) e in
     record { name = sym ((bytes_eq-Decides c.name r.name).0 both.0); count = sym (eqb-true (length c.bits) (length r.bits) both.1) }
 
-agrees_agree : (c r : ClassHits) → Agrees r c → agree c r ≡ true
+pub agrees_agree : (c r : ClassHits) → Agrees r c → agree c r ≡ true
 agrees_agree c r a = rw ((bytes_eq-Decides c.name r.name).1 (sym a.name), eq-eqb (length c.bits) (length r.bits) (sym a.count)) refl
-
-abbrev either_hits : ClassHits → ClassHits → ClassHits
-either_hits c r = record { id = c.id; name = c.name; bits = either_bits c.bits r.bits }
 
 -- a record of the same id is merged in
 merged_same : (rs : List ClassHits) (r c : ClassHits) → c.id ≡ r.id → Agrees r c → IsMerged rs c → IsMerged (rs ++ r ∷ []) (either_hits c r)
@@ -187,7 +184,7 @@ union_block bs (class r) s t u e = by (with_record s.classes r) refl e
     by (Some ds) is e = subst (IsUnion (bs ++ class r ∷ [])) (some_is (record { sessions = s.sessions; classes = ds }) t e) (union_record bs s r ds u is)
     by None is e = absurd cc
 
-union_blocks : (bs more : List Block) (s t : Store) → IsUnion bs s → union_of s more ≡ Some t → IsUnion (bs ++ more) t
+pub union_blocks : (bs more : List Block) (s t : Store) → IsUnion bs s → union_of s more ≡ Some t → IsUnion (bs ++ more) t
 union_blocks bs [] s t u e = subst (λ (l : List Block). IsUnion l t) (sym (append-nil bs)) (subst (IsUnion bs) (some_is s t e) u)
 union_blocks bs (b ∷ more) s t u e = by (with_block s b) refl e (λ s1 u1 e1. union_blocks (bs ++ b ∷ []) more s1 t u1 e1)
   where

@@ -47,76 +47,10 @@ plain_push before taken text cs c p block new =
     (record { body = b.body ++ text; parts = ap (λ (l : List ℕ). l ++ text) b.parts ∙ append_assoc header_text b.body text; classes = classes_push b.body cs text c b.classes block })
     (are_new_push before cs c p.new new)
 
--- ---- reading on
-
--- the bytes that were taken are a plain file
-pub record Progress (before : List ClassHits) (bytes : List ℕ) (reader : Reading) (fresh : List (ℕ × ClassHits)) : Type 0 where
-  pub taken : List ℕ
-  pub parts : bytes ≡ taken ++ reader.left
-  pub offset : reader.place ≡ length taken
-  pub plain : IsPlain before taken (classes_of fresh)
-  pub keyed : Keyed fresh
-
-pub begins : (before : List ClassHits) (bytes : List ℕ) (old new : Reading) (fresh : List (ℕ × ClassHits)) → old.left ≡ bytes → old.place ≡ 0 → old.left ≡ header_text ++ new.left → SameEnd old new → fresh ≡ [] → Progress before bytes new fresh
-begins before bytes old new fresh whole start found same none =
-    subst (Progress before bytes new) (sym none) (record {
-      taken = header_text;
-      parts = sym whole ∙ found;
-      offset = omega (arith, same, start, ap length found, length-append header_text new.left);
-      plain = plain_of before header_text [] (record { body = []; parts = refl; classes = refl }) tt;
-      keyed = tt;
-    })
-
-pub goes_on : (before : List ClassHits) (bytes : List ℕ) (old new : Reading) (fresh later : List (ℕ × ClassHits)) (c : ClassHits) → Progress before bytes old fresh → class_at old.left ≡ Some (c, new.left) → IsSmall c → SameEnd old new
-    → IsModified c.name → IsNew c.id before → IsNew c.id (classes_of fresh) → later ≡ fresh ++ (c.id, c) ∷ [] → Progress before bytes new later
-goes_on before bytes old new fresh later c p read small same modified known other is =
-    let t = class_takes old.left (c, new.left) read in
-    subst (Progress before bytes new) (sym is) (record {
-      taken = p.taken ++ t.text;
-      parts = p.parts ∙ ap (λ (l : List ℕ). p.taken ++ l) t.parts ∙ sym (append_assoc p.taken t.text new.left);
-      offset = omega (arith, p.offset, same, ap length t.parts, length-append t.text new.left, length-append p.taken t.text);
-      plain = subst (IsPlain before (p.taken ++ t.text)) (sym (shown_push fresh (c.id, c))) (plain_push before p.taken t.text (classes_of fresh) c p.plain (t.block modified) (new_append c.id before (classes_of fresh) known other));
-      keyed = keyed_push fresh (c.id, c) refl small modified other p.keyed;
-    })
-
 pub less_left : (left : List ℕ) (read : ClassHits × List ℕ) → class_at left ≡ Some read → length read.1 < length left
 less_left left read e =
     let t = class_takes left read e in
     omega (arith, ap length t.parts, length-append t.text read.1, t.long)
-
-not_nil : (left : List ℕ) → 0 < length left → left ≢ []
-not_nil left long e = omega (arith, long, ap length e)
-
-stops : (before : List ClassHits) (bytes : List ℕ) (at : Reading) (fresh : List (ℕ × ClassHits)) → Progress before bytes at fresh → at.place < length bytes → NoneFits (before ++ classes_of fresh) at.left → FitsUpTo before bytes at.place
-stops before bytes at fresh p more unfit = record {
-  taken = p.taken;
-  rest = at.left;
-  classes = classes_of fresh;
-  parts = p.parts;
-  offset = p.offset;
-  plain = p.plain;
-  goes_on = not_nil at.left (omega (arith, more, p.offset, ap length p.parts, length-append p.taken at.left));
-  unfit = unfit;
-}
-
-pub stops_unfit : (before : List ClassHits) (bytes : List ℕ) (at : Reading) (fresh : List (ℕ × ClassHits)) → Progress before bytes at fresh → at.place < length bytes → class_at at.left ≡ None → FitsUpTo before bytes at.place
-stops_unfit before bytes at fresh p more none = stops before bytes at fresh p more (λ c front rest parts block new. some_none (sym (class_again front rest c block) ∙ ap class_at (sym parts) ∙ none))
-
-pub stops_known : (before : List ClassHits) (bytes : List ℕ) (at : Reading) (fresh : List (ℕ × ClassHits)) (read : ClassHits × List ℕ) → Progress before bytes at fresh → at.place < length bytes → class_at at.left ≡ Some read
-    → (IsModified read.0.name → IsNew read.0.id before → IsNew read.0.id (classes_of fresh) → ⊥) → FitsUpTo before bytes at.place
-stops_known before bytes at fresh read p more found known = stops before bytes at fresh p more (λ c front rest parts block new.
-    let same : (c, rest) ≡ read = some_is (c, rest) read (sym (class_again front rest c block) ∙ ap class_at (sym parts) ∙ found) in
-    let text : IsModified read.0.name = subst (λ (r : ClassHits × List ℕ). IsModified r.0.name) same block.2.text in
-    let fits : IsNew read.0.id (before ++ classes_of fresh) = subst (λ (r : ClassHits × List ℕ). IsNew r.0.id (before ++ classes_of fresh)) same new in
-    let both = new_parts read.0.id before (classes_of fresh) fits in
-    known text both.0 both.1)
-
-pub is_whole : (before : List ClassHits) (bytes : List ℕ) (at : Reading) (fresh : List (ℕ × ClassHits)) → Progress before bytes at fresh → length bytes ≤ at.place → IsPlain before bytes (classes_of fresh)
-is_whole before bytes at fresh p end = subst (λ (l : List ℕ). IsPlain before l (classes_of fresh)) (sym (p.parts ∙ nothing at.left (omega (arith, end, p.offset, ap length p.parts, length-append p.taken at.left)))) p.plain
-  where
-    nothing : (left : List ℕ) → length left ≡ 0 → p.taken ++ left ≡ p.taken
-    nothing [] e = append-nil p.taken
-    nothing (x ∷ left) e = absurd (omega (arith, e))
 
 -- ---- each text has at most one reading
 
@@ -194,15 +128,3 @@ one_place before text m n (inr a) (inr b) =
     let t = behind before text n b in
     let rest : a.rest ≡ b.rest = same_rest before s.0 s.1 a.rest t.1 b.rest a.classes b.classes s.4 t.4 s.3 (append_cancel_left header_text s.0 t.0 (sym s.2 ∙ t.2) ∙ t.3) a.plain.new b.plain.new a.unfit b.unfit in
     omega (arith, a.offset, b.offset, ap length a.parts, length-append a.taken a.rest, ap length b.parts, length-append b.taken b.rest, ap length rest)
-
--- ---- what a call answers
-
--- a plain file is refused for want of memory alone
-pub only_memory : (e : Fail ExecRefusal) (before : List ClassHits) (text : List ℕ) (cs : List ClassHits) → IsPlain before text cs → Refuses e before text → e ≡ fails.Memory
-only_memory fails.Memory before text cs plain why = refl
-only_memory (fails.Said (LaterForm place)) before text cs plain why = absurd (plain_or_unfit_not_both before text cs place plain why)
-
--- any other file is refused at its place
-pub only_there : (e : Fail ExecRefusal) (before : List ClassHits) (text : List ℕ) (place : ℕ) → IsFirstUnfit before text place → Refuses e before text → (e ≡ fails.Memory) ⊎ (e ≡ fails.Said (LaterForm place))
-only_there fails.Memory before text place unfit why = inl refl
-only_there (fails.Said (LaterForm other)) before text place unfit why = inr (ap (λ (p : ℕ). fails.Said (LaterForm p)) (one_place before text other place why unfit))

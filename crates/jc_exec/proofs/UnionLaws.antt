@@ -7,9 +7,8 @@ use Rattle.std.proofs.lemmas.List.Elements.{filter-append}
 use Rattle.jc_exec.specs.declared.hits.ClassHits.{ClassHits}
 use Rattle.jc_exec.specs.declared.session.Session.{Session}
 use Rattle.jc_exec.specs.Format.{Block, header, session, class}
-use Rattle.jc_exec.specs.Store.{Store, IsNew}
-use Rattle.jc_exec.specs.Plain.{AreNew, plain_blocks, TakesPlain}
-use Rattle.jc_exec.specs.Union.{sessions_of, records_of, ids_of, first_seen, Agrees, IsHitAt, IsMerged, IsUnion, ReadsOn}
+use Rattle.jc_exec.specs.Store.{Store, IsNew, AreNew}
+use Rattle.jc_exec.specs.Union.{sessions_of, records_of, ids_of, first_seen, Agrees, IsHitAt, IsMerged, IsUnion}
 
 -- ---- what the blocks hold
 
@@ -203,16 +202,6 @@ union_classes bs s (c ∷ cs) u new =
     subst (λ (l : List Block). IsUnion l (record { sessions = s.sessions; classes = s.classes ++ c ∷ cs })) (append_assoc bs (class c ∷ []) (map class cs))
     (subst (λ (l : List ClassHits). IsUnion ((bs ++ class c ∷ []) ++ map class cs) (record { sessions = s.sessions; classes = l })) (append_assoc s.classes (c ∷ []) cs)
     (union_classes (bs ++ class c ∷ []) (record { sessions = s.sessions; classes = s.classes ++ c ∷ [] }) cs (union_class bs s c u new.0) new.1))
-
--- what a plain file adds
-pub reads_on : (text : List ℕ) (old new : Store) → TakesPlain text old new → ReadsOn text old new
-reads_on text old new t = λ blocks u. (
-  plain_blocks t.classes,
-  t.plain.blocks,
-  subst (IsUnion (blocks ++ plain_blocks t.classes)) (sym t.added)
-      (subst (λ (l : List Block). IsUnion l (record { sessions = old.sessions; classes = old.classes ++ t.classes })) (append_assoc blocks (header ∷ []) (map class t.classes))
-      (union_classes (blocks ++ header ∷ []) old t.classes (union_header blocks old u) t.plain.new)),
-)
 
 -- ---- one union of each list
 

@@ -4,5 +4,8 @@ pub mod Store
 pub mod Plain
 pub mod Union
 pub mod Refusing
+pub mod Answers
+pub mod Front
+pub mod Adding
 pub mod Writing
 pub mod SlowUnion

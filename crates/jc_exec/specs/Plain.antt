@@ -1,17 +1,9 @@
 -- Plain files: execution data of one header and then records of classes that are all new.
 use Rattle.std.specs.Prelude.{◌≡◌, ◌≢◌, ◌⊎◌, ⊤, ℕ, List, [], ◌∷◌, ◌++◌, length, map}
-use Rattle.jc_base.specs.declared.fail.Fail.{Fail}
-use Rattle.jc_base.specs.declared.fail.Fail.TheVariants as fails
 use Rattle.jc_exec.specs.declared.hits.ClassHits.{ClassHits}
-use Rattle.jc_exec.specs.declared.refusal.ExecRefusal.{ExecRefusal}
-use Rattle.jc_exec.specs.declared.refusal.ExecRefusal.TheVariants.{LaterForm}
 use Rattle.jc_exec.specs.Format.{Block, header, class, header_text, IsClassBlock, Blocks}
-use Rattle.jc_exec.specs.Store.{Store, IsNew}
-
--- the ids of the later records differ from each other and from those before
-abbrev pub AreNew : List ClassHits → List ClassHits → Type 0
-AreNew before [] = ⊤
-AreNew before (c ∷ cs) = IsNew c.id before × AreNew (before ++ c ∷ []) cs
+use Rattle.jc_exec.specs.Store.{IsNew}
+pub use Rattle.jc_exec.specs.Store.{AreNew}
 
 -- the blocks of a plain file with these records
 abbrev pub plain_blocks : List ClassHits → List Block
@@ -40,17 +32,6 @@ pub record FitsUpTo (before : List ClassHits) (text : List ℕ) (place : ℕ) : 
 -- the first block that doesn't fit stands at the offset: at 0 what is no header, then what is no new class
 abbrev pub IsFirstUnfit : List ClassHits → List ℕ → ℕ → Type 0
 IsFirstUnfit before text place = ((place ≡ 0) × ((rest : List ℕ) → text ≢ header_text ++ rest)) ⊎ FitsUpTo before text place
-
--- why the text was not taken; want of memory may come at any time
-abbrev pub Refuses : Fail ExecRefusal → List ClassHits → List ℕ → Type 0
-Refuses fails.Memory before text = ⊤
-Refuses (fails.Said (LaterForm place)) before text = IsFirstUnfit before text place
-
--- the records of a plain file were put behind the others
-pub record TakesPlain (text : List ℕ) (old new : Store) : Type 0 where
-  pub classes : List ClassHits
-  pub plain : IsPlain old.classes text classes
-  pub added : new ≡ record { sessions = old.sessions; classes = old.classes ++ classes }
 
 -- a text has one reading over these records: as one list of classes, or as unfit at one place
 pub record HasOneReading (before : List ClassHits) (text : List ℕ) : Type 0 where

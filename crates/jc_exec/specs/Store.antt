@@ -1,5 +1,6 @@
 -- What a store of execution data holds.
-use Rattle.std.specs.Prelude.{◌≡◌, ◌<◌, ◌≢◌, ◌^◌, ⊤, ℕ, List, [], ◌∷◌, length, map}
+use Rattle.std.specs.Prelude.{◌≡◌, ◌<◌, ◌≢◌, ◌^◌, ⊤, ℕ, List, [], ◌∷◌, ◌++◌, length, map, FitsSigned}
+use Rattle.std.specs.Int.{w64}
 use Rattle.jc_base.specs.Modified.{IsModified}
 use Rattle.jc_exec.specs.declared.hits.ClassHits.{ClassHits}
 use Rattle.jc_exec.specs.declared.session.Session.{Session}
@@ -15,10 +16,22 @@ pub record IsSmall (c : ClassHits) : Type 0 where
   pub name : length c.name < 65536
   pub bits : length c.bits < 65536
 
+-- the session's id and times fit the format
+pub record IsWritable (s : Session) : Type 0 where
+  pub size : length s.id < 65536
+  pub text : IsModified s.id
+  pub start : FitsSigned w64 s.start
+  pub dump : FitsSigned w64 s.dump
+
 -- no record has the id
 abbrev pub IsNew : ℕ → List ClassHits → Type 0
 IsNew id [] = ⊤
 IsNew id (c ∷ cs) = (id ≢ c.id) × IsNew id cs
+
+-- the ids of the later records differ from each other and from those before
+abbrev pub AreNew : List ClassHits → List ClassHits → Type 0
+AreNew before [] = ⊤
+AreNew before (c ∷ cs) = IsNew c.id before × AreNew (before ++ c ∷ []) cs
 
 -- ---- the records as the store keeps them, each under its id
 

@@ -6,6 +6,7 @@
 mod block;
 mod hits;
 mod laws;
+mod merge;
 mod refusal;
 mod session;
 mod store;
