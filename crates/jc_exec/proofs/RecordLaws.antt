@@ -1,5 +1,5 @@
 -- Records under their ids, with one more merged in.
-use Rattle.std.proofs.Common.{◌≡◌, ℕ, zero, suc, ◌<◌, Bool, true, false, cond, List, [], ◌∷◌, Contains, Option, Some, None, is_some, nat_eq, refl, sym, ◌∙◌, ap, subst, arith}
+use Rattle.std.proofs.Common.{◌≡◌, ℕ, zero, suc, ◌<◌, Bool, true, false, cond, List, [], ◌∷◌, Contains, Option, Some, None, is_some, Result, Ok, Err, IfErr, OnOk, nat_eq, refl, sym, ◌∙◌, ap, subst, arith}
 use Rattle.std.proofs.lemmas.Bool.{eqb-true, eqb-false, ne_eqb, eq-eqb}
 use Rattle.std.specs.Map.{lookup, set_value}
 use Rattle.indexmap.specs.IndexMap.{insert_entry, insert_all}
@@ -9,7 +9,7 @@ use Rattle.jc_base.specs.Modified.{IsModified}
 use Rattle.jc_base.proofs.DecoderLaws.{some_is}
 use Rattle.jc_exec.specs.declared.hits.ClassHits.{ClassHits}
 use Rattle.jc_exec.specs.declared.refusal.ExecRefusal.{ExecRefusal}
-use Rattle.jc_exec.specs.Adding.{Entries, over, Merges, RefusesMerging, GivesMerged}
+use Rattle.jc_exec.specs.Adding.{Entries, over, Merges, RefusesMerging, GivesMerged, MergesInto}
 use Rattle.jc_exec.specs.Answers.{IsConflict, RefusesRecord}
 use Rattle.jc_exec.specs.Store.{IsSmall, classes_of, Keyed, IsNew}
 use Rattle.jc_exec.specs.Union.{Agrees, agree, either_hits, with_record}
@@ -238,3 +238,13 @@ refuses_known es fs c r e known fresh none there why =
 pub refuses_gathered : (es fs : Entries) (c r : ClassHits) (e : Fail ExecRefusal) → Keyed es → Keyed fs → lookup (nat_eq r.id) fs ≡ Some c → RefusesMerging c r e → RefusesRecord e (over es fs) r
 refuses_gathered es fs c r e known fresh there why =
     refuses_record (insert_all nat_eq es fs) c r e (found r.id (insert_all nat_eq es fs) c (keyed_over es fs known fresh) (lookup_gathered r.id es fs c fresh there)) why
+
+pub gathered_ok : (result : Result (Unit {0}) (Fail ExecRefusal)) (es fs later : Entries) (c v r : ClassHits) → Keyed es → Keyed fs → IsSmall r → IsModified r.name → lookup (nat_eq r.id) fs ≡ Some c → MergesInto result c v r
+    → later ≡ set_value (nat_eq r.id) fs v → OnOk result (Merges es fs later r)
+gathered_ok (Ok done) es fs later c v r known fresh small text there merges is = merges_gathered es fs r known fresh small text c v later there merges is
+gathered_ok (Err e) es fs later c v r known fresh small text there merges is = tt
+
+pub gathered_err : (result : Result (Unit {0}) (Fail ExecRefusal)) (es fs : Entries) (c v r : ClassHits) → Keyed es → Keyed fs → lookup (nat_eq r.id) fs ≡ Some c → MergesInto result c v r
+    → IfErr result (λ e. RefusesRecord e (over es fs) r)
+gathered_err (Ok done) es fs c v r known fresh there merges = tt
+gathered_err (Err e) es fs c v r known fresh there merges = refuses_gathered es fs c r e known fresh there merges.1

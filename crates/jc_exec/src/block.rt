@@ -1,8 +1,8 @@
 //! One block of execution data.
-ghost use Rattle.std.specs.Prelude.{◌≡◌, ◌*◌, ◌^◌, ◌<◌, ◌≤◌, ◌∷◌, [], length, slice_index, IfOk, FitsSigned};
+ghost use Rattle.std.specs.Prelude.{◌≡◌, ◌*◌, ◌^◌, ◌<◌, ◌≤◌, ◌∷◌, [], ◌++◌, length, slice_index, IfOk, FitsSigned};
 ghost use Rattle.std.specs.Int.{w64};
 ghost use Rattle.jc_base.specs.Decoder.{Gives, SameEnd};
-ghost use Rattle.jc_exec.specs.Format.{unpack};
+ghost use Rattle.jc_exec.specs.Format.{header_text, unpack};
 ghost use Rattle.jc_exec.specs.Store.{IsSmall};
 ghost use Rattle.jc_exec.specs.Reading.{text_at, count_in, count_at, bits_at, class_at, session_at, version_at};
 ghost use Rattle.jc_exec.specs.Front.{ReadsFront, IsUnread};
@@ -162,13 +162,15 @@ fn session_parts(alloc: Global, reader: &mut Reader<'_>) -> Result<Session, Unre
 #[tactic(auto, unfolding(crate::specs::Reading::version_at))]
 fn version(reader: &mut Reader<'_>) -> Result<u16, Unread>
     ensures gives { Gives (λ version. version) result reader.new.left (version_at reader.old.left) }
+    ensures known { IfOk result (λ version. version ≡ 0x1007 → reader.old.left ≡ header_text ++ reader.new.left) }
     ensures end { SameEnd reader.old reader.new }
 {
     let magic = reader.take(3)?;
     if magic != MAGIC.as_slice() {
         return Err(Unread::Unfit);
     }
-    Ok(reader.u16()?)
+    let version = reader.take(2)?;
+    Ok(0x100 * u16::from(version[0]) + u16::from(version[1]))
 }
 
 /// No block that may stand at the place is in front.
@@ -194,11 +196,14 @@ fn header(reader: &mut Reader<'_>) -> Result<Front, Fail<ExecRefusal>>
     ensures { ReadsFront result reader.old reader.new }
 {
     let place = reader.place();
-    match version(reader) {
-        Ok(VERSION) => Ok(Front::Header),
-        Ok(found) => Err(Fail::Said(ExecRefusal::OtherVersion { found })),
-        Err(_) => Err(bad(place)),
+    let found = match version(reader) {
+        Ok(found) => found,
+        Err(unread) => return Err(unfit(unread, place)),
+    };
+    if found != VERSION {
+        return Err(Fail::Said(ExecRefusal::OtherVersion { found }));
     }
+    Ok(Front::Header)
 }
 
 /// A session behind other blocks, where its first byte is in front.
