@@ -59,3 +59,10 @@ agree_apart c r apart a = differ (sym apart ∙ agrees_agree c r (record { name 
   where
     differ : false ≡ true → ⊥
     differ e = cc
+
+pub apart_agree : (c r : ClassHits) → (Agrees c r → ⊥) → agree c r ≡ false
+apart_agree c r differ = by (agree c r) refl
+  where
+    by : (b : Bool) → agree c r ≡ b → b ≡ false
+    by true is = absurd (let a = agree_agrees c r is in differ (record { name = sym a.name; count = sym a.count }))
+    by false is = refl

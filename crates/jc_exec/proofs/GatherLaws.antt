@@ -1,5 +1,5 @@
 -- The blocks of a text, gathered one after the other.
-use Rattle.std.proofs.Common.{◌≡◌, ◌≢◌, ℕ, ◌+◌, ◌<◌, ◌≤◌, List, [], ◌∷◌, ◌++◌, length, map, Option, Some, None, option_and_then, Result, Ok, Err, refl, sym, ◌∙◌, ap, subst, arith, append_assoc, length-append}
+use Rattle.std.proofs.Common.{◌≡◌, ◌≢◌, ℕ, ◌+◌, ◌<◌, ◌≤◌, List, [], ◌∷◌, ◌++◌, length, map, Option, Some, None, option_map, option_and_then, is_ok, if◌then◌else◌, Result, Ok, Err, refl, sym, ◌∙◌, ap, subst, arith, append_assoc, length-append}
 use Rattle.std.specs.List.{AllByRecursion}
 use Rattle.std.proofs.lemmas.List.{append-nil}
 use Rattle.jc_base.specs.declared.fail.Fail.{Fail}
@@ -11,17 +11,18 @@ use Rattle.jc_exec.specs.declared.hits.ClassHits.{ClassHits}
 use Rattle.jc_exec.specs.declared.session.Session.{Session}
 use Rattle.jc_exec.specs.declared.block.Front.{Front}
 use Rattle.jc_exec.specs.declared.refusal.ExecRefusal.{ExecRefusal}
-use Rattle.jc_exec.specs.Adding.{Entries, over, Gathers, Keeps, RefusesBlock, RefusesAll, store_of, store_with}
-use Rattle.jc_exec.specs.Answers.{why_of, Refuses, RefusesRecord}
+use Rattle.jc_exec.specs.Adding.{Entries, over, Gathers, Puts, Keeps, RefusesBlock, RefusesAll, store_of, store_with}
+use Rattle.jc_exec.specs.Answers.{why_of, Refuses, SaysOnly, RefusesRecord}
 use Rattle.jc_exec.specs.Format.{Block, header, session, class, IsBlock, AreBlocks, Blocks, BeginsWithHeader}
 use Rattle.jc_exec.specs.Front.{MayStandAt, Took, IsUnfit, ReadsFront, block_of}
 use Rattle.jc_exec.specs.Refusing.{Refused, bad_exec, other_version, conflict, MayFollow, RefusedHere, FirstRefusal, blocks_of}
 use Rattle.jc_exec.specs.Store.{Store, IsWritable, classes_of, Keyed, IsNew, AreNew}
-use Rattle.jc_exec.specs.Union.{sessions_of, records_of, ids_of, first_seen, IsUnion, with_block, union_of}
-use Rattle.jc_exec.proofs.ListLaws.{no_block}
+use Rattle.jc_exec.specs.Union.{sessions_of, records_of, ids_of, first_seen, IsUnion, ReadsOn, with_block, union_of}
+use Rattle.jc_exec.proofs.ListLaws.{no_block, one_list}
 use Rattle.jc_exec.proofs.MergingLaws.{union_blocks}
+use Rattle.jc_exec.proofs.RefusingLaws.{has_one_answer}
 use Rattle.jc_exec.proofs.StoreLaws.{new_append}
-use Rattle.jc_exec.proofs.UnionLaws.{all_push, union_classes}
+use Rattle.jc_exec.proofs.UnionLaws.{union_classes, one_union}
 
 -- ---- a store is the union of its own blocks
 
@@ -201,3 +202,45 @@ module _ (known : Entries) (bytes : List ℕ) (old : Reading) (more : List Sessi
   stops_unkept new header e t why = memory e why
   stops_unkept new (session s) e t why = memory e why
   stops_unkept new (class c) e t why = conflicts new c e t why
+
+-- ---- a file, and a record, over a store
+
+pub gathered_reads : (text : List ℕ) (ss more : List Session) (known fresh : Entries) → Gathers known text more fresh → ReadsOn text (store_of ss known) (store_with ss known more fresh)
+gathered_reads text ss more known fresh g = λ blocks u. (g.read, g.blocks, union_blocks blocks g.read (store_of ss known) (store_with ss known more fresh) u (g.union ss))
+
+pub gathered_writable : (ss more : List Session) → AllByRecursion IsWritable ss → AllByRecursion IsWritable more → AllByRecursion IsWritable (ss ++ more)
+gathered_writable [] more a b = b
+gathered_writable (s ∷ ss) more a b = (a.0, gathered_writable ss more a.1 b)
+
+-- the blocks have no other union with the store
+pub gathered_only : (text : List ℕ) (ss more : List Session) (known fresh : Entries) → Keyed known → Gathers known text more fresh → (read : List Block) (s : Store) → Blocks text read → IsUnion (blocks_of (store_of ss known) ++ read) s → store_with ss known more fresh ≡ s
+gathered_only text ss more known fresh keyed g read s blocks u =
+    let before = blocks_of (store_of ss known) in
+    let own : IsUnion (before ++ g.read) (store_with ss known more fresh) = union_blocks before g.read (store_of ss known) (store_with ss known more fresh) (own_union ss known keyed) (g.union ss) in
+    one_union (before ++ read) (store_with ss known more fresh) s (subst (λ (l : List Block). IsUnion (before ++ l) (store_with ss known more fresh)) (one_list text g.read read g.blocks blocks) own) u
+
+pub gathered_not_refused : (text : List ℕ) (ss more : List Session) (known fresh : Entries) → Keyed known → Gathers known text more fresh → (why : Refused) → FirstRefusal (store_of ss known) text why → ⊥
+gathered_not_refused text ss more known fresh keyed g why refused =
+    let before = blocks_of (store_of ss known) in
+    (has_one_answer (store_of ss known) text).apart g.read (store_with ss known more fresh) why g.blocks
+    (union_blocks before g.read (store_of ss known) (store_with ss known more fresh) (own_union ss known keyed) (g.union ss)) refused
+
+-- a text whose blocks have a union is refused for want of memory alone
+pub refused_not_taken : (e : Fail ExecRefusal) (before : Store) (text : List ℕ) → Refuses e before text → (read : List Block) (s : Store) → Blocks text read → IsUnion (blocks_of before ++ read) s → e ≡ fails.Memory
+refused_not_taken fails.Memory before text why read s blocks u = refl
+refused_not_taken (fails.Said refusal) before text why read s blocks u = absurd ((has_one_answer before text).apart read s (why_of refusal) blocks u why)
+
+-- any other is refused for its one reason
+pub refused_for : (e : Fail ExecRefusal) (before : Store) (text : List ℕ) → Refuses e before text → (why : Refused) → FirstRefusal before text why → SaysOnly why e
+refused_for fails.Memory before text refuses why first = tt
+refused_for (fails.Said refusal) before text refuses why first = (has_one_answer before text).reason (why_of refusal) why refuses first
+
+pub put_adds : (ss : List Session) (es later : Entries) (r : ClassHits) → Puts es later r → (blocks : List Block) → IsUnion blocks (store_of ss es) → IsUnion (blocks ++ class r ∷ []) (store_of ss later)
+put_adds ss es later r p blocks u =
+    let one : union_of (store_of ss es) (class r ∷ []) ≡ Some (store_of ss later) = rw p.merged refl in
+    union_blocks blocks (class r ∷ []) (store_of ss es) (store_of ss later) u one
+
+-- what was put behind a list that had room for it
+pub put_behind : {X E : Type 0} (r : Result (Unit {0}) E) (done : Unit {0}) (new old more : List X) → new ≡ (if is_ok r then old ++ more else old) → r ≡ Ok done → new ≡ old ++ more
+put_behind (Ok u) done new old more is ok = is
+put_behind (Err e) done new old more is ok = absurd cc

@@ -1,19 +1,22 @@
 -- Records under their ids, with one more merged in.
-use Rattle.std.proofs.Common.{◌≡◌, ℕ, zero, suc, ◌<◌, Bool, true, false, cond, List, [], ◌∷◌, Contains, Option, Some, None, is_some, Result, Ok, Err, IfErr, OnOk, nat_eq, refl, sym, ◌∙◌, ap, subst, arith}
+use Rattle.std.proofs.Common.{◌≡◌, ℕ, zero, suc, ◌<◌, Bool, true, false, cond, List, [], ◌∷◌, Contains, Option, Some, None, is_some, Result, Ok, Err, IfErr, OnOk, OnErr, IfSome, IsSomeAnd, IsErrAnd, length, get_or, nat_eq, refl, sym, ◌∙◌, ap, subst, arith}
 use Rattle.std.proofs.lemmas.Bool.{eqb-true, eqb-false, ne_eqb, eq-eqb}
+use denote.Bor.{Bor}
+use Rattle.std.specs.Option.{option_copied}
+use Rattle.std.proofs.lemmas.Map.Steps.{set_value_same}
 use Rattle.std.specs.Map.{lookup, set_value}
 use Rattle.indexmap.specs.IndexMap.{insert_entry, insert_all}
 use Rattle.jc_base.specs.declared.fail.Fail.{Fail}
 use Rattle.jc_base.specs.declared.fail.Fail.TheVariants as fails
 use Rattle.jc_base.specs.Modified.{IsModified}
-use Rattle.jc_base.proofs.DecoderLaws.{some_is}
+use Rattle.jc_base.proofs.DecoderLaws.{some_is, some_none}
 use Rattle.jc_exec.specs.declared.hits.ClassHits.{ClassHits}
 use Rattle.jc_exec.specs.declared.refusal.ExecRefusal.{ExecRefusal}
-use Rattle.jc_exec.specs.Adding.{Entries, over, Merges, RefusesMerging, GivesMerged, MergesInto}
-use Rattle.jc_exec.specs.Answers.{IsConflict, RefusesRecord}
+use Rattle.jc_exec.specs.Adding.{Entries, over, Merges, Puts, RefusesMerging, GivesMerged, MergesInto}
+use Rattle.jc_exec.specs.Answers.{IsConflict, RefusesRecord, SaysOnly, conflict_of}
 use Rattle.jc_exec.specs.Store.{IsSmall, classes_of, Keyed, IsNew}
 use Rattle.jc_exec.specs.Union.{Agrees, agree, either_hits, with_record}
-use Rattle.jc_exec.proofs.EitherLaws.{small_either, agree_apart}
+use Rattle.jc_exec.proofs.EitherLaws.{small_either, agree_apart, apart_agree}
 
 -- ---- looking up
 
@@ -248,3 +251,84 @@ pub gathered_err : (result : Result (Unit {0}) (Fail ExecRefusal)) (es fs : Entr
     → IfErr result (λ e. RefusesRecord e (over es fs) r)
 gathered_err (Ok done) es fs c v r known fresh there merges = tt
 gathered_err (Err e) es fs c v r known fresh there merges = refuses_gathered es fs c r e known fresh there merges.1
+
+-- ---- the records of a store with one more
+
+puts : (es later : Entries) (v r : ClassHits) → Keyed es → v.id ≡ r.id → IsSmall v → IsModified v.name → with_record (classes_of es) r ≡ Some (classes_of (insert_entry nat_eq es r.id v)) → later ≡ insert_entry nat_eq es r.id v → Puts es later r
+puts es later v r keyed id small text one is = subst (λ (l : Entries). Puts es l r) (sym is) (record { merged = one; keyed = keyed_insert r.id v es keyed id small text })
+
+pub puts_new : (es later : Entries) (r : ClassHits) → Keyed es → IsSmall r → IsModified r.name → lookup (nat_eq r.id) es ≡ None → later ≡ insert_entry nat_eq es r.id r → Puts es later r
+puts_new es later r keyed small text none is = puts es later r r keyed refl small text (record_new es r keyed none) is
+
+pub puts_known : (result : Result (Unit {0}) (Fail ExecRefusal)) (es later : Entries) (c v r : ClassHits) → Keyed es → lookup (nat_eq r.id) es ≡ Some c → MergesInto result c v r → later ≡ set_value (nat_eq r.id) es v → OnOk result (Puts es later r)
+puts_known (Ok done) es later c v r keyed there merges is =
+    let f = found r.id es c keyed there in
+    puts es later (either_hits c r) r keyed f.id (small_either c r f.small merges.0) f.text (record_known es r c keyed there merges.0)
+    (is ∙ set_is_insert r.id v es c there ∙ ap (insert_entry nat_eq es r.id) merges.1)
+puts_known (Err e) es later c v r keyed there merges is = tt
+
+pub known_refused : (result : Result (Unit {0}) (Fail ExecRefusal)) (es : Entries) (c v r : ClassHits) → Keyed es → lookup (nat_eq r.id) es ≡ Some c → MergesInto result c v r → IfErr result (λ e. RefusesRecord e (classes_of es) r)
+known_refused (Ok done) es c v r keyed there merges = tt
+known_refused (Err e) es c v r keyed there merges = refuses_record es c r e (found r.id es c keyed there) merges.1
+
+pub known_unchanged : (result : Result (Unit {0}) (Fail ExecRefusal)) (es later : Entries) (c v r : ClassHits) → lookup (nat_eq r.id) es ≡ Some c → MergesInto result c v r → later ≡ set_value (nat_eq r.id) es v → OnErr result (later ≡ es)
+known_unchanged (Ok done) es later c v r there merges is = tt
+known_unchanged (Err e) es later c v r there merges is = is ∙ set_value_same (nat_eq r.id) es v (there ∙ ap (λ (x : ClassHits). Some x) (sym merges.0))
+
+-- ---- the only record of its id
+
+new_and_at : (id : ℕ) (es : Entries) (c : ClassHits) (k : ℕ) → IsNew id (classes_of es) → k < length (classes_of es) → get_or (classes_of es) k c ≡ c → id ≡ c.id → ⊥
+new_and_at id [] c k new lt is same = omega (arith, lt)
+new_and_at id (e ∷ es) c zero new lt is same = new.0 (same ∙ sym (ap (λ (x : ClassHits). x.id) is))
+new_and_at id (e ∷ es) c (suc k) new lt is same = new_and_at id es c k new.1 (omega (arith, lt)) is same
+
+at_is_found : (es : Entries) (c : ClassHits) (k : ℕ) → Keyed es → k < length (classes_of es) → get_or (classes_of es) k c ≡ c → lookup (nat_eq c.id) es ≡ Some c
+at_is_found [] c k keyed lt is = absurd (omega (arith, lt))
+at_is_found (e ∷ es) c zero keyed lt is = let same : nat_eq c.id e.0 ≡ true = eq-eqb c.id e.0 (sym (ap (λ (x : ClassHits). x.id) is) ∙ sym keyed.0) in rw same (ap (λ (x : ClassHits). Some x) is)
+at_is_found (e ∷ es) c (suc k) keyed lt is =
+    let below : k < length (classes_of es) = omega (arith, lt) in
+    let apart : nat_eq c.id e.0 ≡ false = ne_eqb c.id e.0 (λ same. new_and_at e.1.id es c k keyed.3 below is (sym keyed.0 ∙ sym same)) in
+    rw apart (at_is_found es c k keyed.4 below is)
+
+pub there_is_found : (id : ℕ) (es : Entries) (c : ClassHits) → Keyed es → Contains (classes_of es) c → c.id ≡ id → lookup (nat_eq id) es ≡ Some c
+there_is_found id es c keyed there same = ap (λ (n : ℕ). lookup (nat_eq n) es) (sym same) ∙ at_is_found es c there.0 keyed there.1 there.2
+
+-- what a look-up answers
+pub got : (r : Option (Bor ClassHits)) (id : ℕ) (es : Entries) → Keyed es → option_copied r ≡ lookup (nat_eq id) es → IfSome r (λ c. Contains (classes_of es) c.now × (c.now.id ≡ id))
+got None id es keyed is = tt
+got (Some c) id es keyed is = let f = found id es c.now keyed (sym is) in (f.there, f.id)
+
+pub got_only : (r : Option (Bor ClassHits)) (id : ℕ) (es : Entries) → Keyed es → option_copied r ≡ lookup (nat_eq id) es → (c : ClassHits) → Contains (classes_of es) c → c.id ≡ id → IsSomeAnd r (λ d. d.now ≡ c)
+got_only None id es keyed is c there same = some_none (sym (there_is_found id es c keyed there same) ∙ sym is)
+got_only (Some d) id es keyed is c there same = some_is d.now c (is ∙ there_is_found id es c keyed there same)
+
+refused_record : (es : Entries) (r c : ClassHits) → Keyed es → lookup (nat_eq r.id) es ≡ Some c → agree c r ≡ false → with_record (classes_of es) r ≡ None
+refused_record [] r c keyed is apart = absurd cc
+refused_record (e ∷ es) r c keyed is apart = by (nat_eq r.id e.0) refl is (λ later. refused_record es r c keyed.4 later apart)
+  where
+    by : (b : Bool) → nat_eq r.id e.0 ≡ b → cond b (Some e.1) (lookup (nat_eq r.id) es) ≡ Some c → (lookup (nat_eq r.id) es ≡ Some c → with_record (classes_of es) r ≡ None) → with_record (classes_of (e ∷ es)) r ≡ None
+    by true same is rest =
+        let here : e.1 ≡ c = some_is e.1 c is in
+        let id : nat_eq e.1.id r.id ≡ true = eq-eqb e.1.id r.id (sym keyed.0 ∙ sym (eqb-true r.id e.0 same)) in
+        let differ : agree e.1 r ≡ false = ap (λ (x : ClassHits). agree x r) here ∙ apart in
+        rw (id, differ) refl
+    by false same is rest =
+        let other : nat_eq e.1.id r.id ≡ false = ne_eqb e.1.id r.id (λ id. eqb-false r.id e.0 same (sym id ∙ sym keyed.0)) in
+        rw (other, rest is) refl
+
+-- a record that does not agree with the one of its id is not put
+pub not_put : (es later : Entries) (c r : ClassHits) → Keyed es → IsConflict (classes_of es) c r → Puts es later r → ⊥
+not_put es later c r keyed conflict puts = some_none (sym puts.merged ∙ refused_record es r c keyed (there_is_found r.id es c keyed conflict.holds conflict.same_id) (apart_agree c r conflict.differs))
+
+-- what is said of a record that does not agree with the one of its id
+pub says_conflict : (es : Entries) (c r : ClassHits) (e : Fail ExecRefusal) → Keyed es → IsConflict (classes_of es) c r → RefusesRecord e (classes_of es) r → SaysOnly (conflict_of c r) e
+says_conflict es c r fails.Memory keyed conflict why = tt
+says_conflict es c r (fails.Said refusal) keyed conflict why =
+    let one = there_is_found r.id es why.0 keyed why.1.holds why.1.same_id in
+    let other = there_is_found r.id es c keyed conflict.holds conflict.same_id in
+    why.2 ∙ ap (λ (x : ClassHits). conflict_of x r) (some_is why.0 c (sym one ∙ other))
+
+pub put_refuses : (result : Result (Unit {0}) (Fail ExecRefusal)) (es later : Entries) (r : ClassHits) → Keyed es → OnOk result (Puts es later r) → IfErr result (λ e. RefusesRecord e (classes_of es) r)
+    → (c : ClassHits) → IsConflict (classes_of es) c r → IsErrAnd result (SaysOnly (conflict_of c r))
+put_refuses (Ok done) es later r keyed puts refused c conflict = not_put es later c r keyed conflict puts
+put_refuses (Err e) es later r keyed puts refused c conflict = says_conflict es c r e keyed conflict refused

@@ -27,6 +27,11 @@ pub record Merges (known old new : Entries) (hits : ClassHits) : Type 0 where
   pub merged : with_record (over known old) hits ≡ Some (over known new)
   pub keyed : Keyed new
 
+-- a record more was merged into the records of a store
+pub record Puts (old new : Entries) (hits : ClassHits) : Type 0 where
+  pub merged : with_record (classes_of old) hits ≡ Some (classes_of new)
+  pub keyed : Keyed new
+
 -- ---- one record
 
 -- why two records are not merged; want of memory may come at any time

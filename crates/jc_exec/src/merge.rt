@@ -1,10 +1,10 @@
 //! Records of one id, merged.
-ghost use Rattle.std.specs.Prelude.{◌≡◌, nat_eq, length, IfOk, IfErr, OnOk, MatchResult};
+ghost use Rattle.std.specs.Prelude.{◌≡◌, ◌≤◌, nat_eq, length, IfOk, IfErr, OnOk, OnErr, MatchResult};
 ghost use Rattle.indexmap.specs.IndexMap.{insert_entry};
 ghost use Rattle.jc_base.specs.Modified.{IsModified};
-ghost use Rattle.jc_exec.specs.Adding.{Merges, over, MergesInto, GivesMerged, RefusesMerging};
+ghost use Rattle.jc_exec.specs.Adding.{Merges, Puts, over, MergesInto, GivesMerged, RefusesMerging};
 ghost use Rattle.jc_exec.specs.Answers.{why_of, conflict_of, RefusesRecord};
-ghost use Rattle.jc_exec.specs.Store.{IsSmall, Keyed};
+ghost use Rattle.jc_exec.specs.Store.{IsSmall, Keyed, classes_of};
 ghost use Rattle.jc_exec.specs.Union.{agree, either_bits, either_hits};
 
 use crate::store::Records;
@@ -60,7 +60,7 @@ fn join(alloc: Global, there: &mut ClassHits, hits: &ClassHits)
 }
 
 /// Merges a record into the one of its id that is there, if they agree.
-pub fn merge_into(
+fn merge_into(
     alloc: Global,
     there: &mut ClassHits,
     hits: &ClassHits,
@@ -77,7 +77,7 @@ pub fn merge_into(
 }
 
 /// A copy of a record.
-pub fn copy_of(alloc: Global, hits: &ClassHits) -> Result<ClassHits, AllocError>
+fn copy_of(alloc: Global, hits: &ClassHits) -> Result<ClassHits, AllocError>
     ensures { IfOk result (λ copy. copy ≡ hits.now) }
 {
     Ok(ClassHits {
@@ -135,5 +135,29 @@ pub fn gather(
         None => keep(fresh, hits)?,
         Some(there) => keep(fresh, merged(alloc, there, hits)?)?,
     }
+    Ok(())
+}
+
+/// Puts a record with the others: merged into the one of its id, else last. After an error the
+/// others are as before.
+pub fn put(
+    alloc: Global,
+    records: &mut Records,
+    hits: &ClassHits,
+) -> Result<(), Fail<ExecRefusal>>
+    requires keyed { Keyed records.old.entries }
+    requires few { length hits.now.bits ≤ 65535 }
+    requires short { length hits.now.name ≤ 65535 }
+    requires text { IsModified hits.now.name }
+    ensures puts { OnOk result (Puts records.old.entries records.new.entries hits.now) }
+    ensures refused { IfErr result (λ e. RefusesRecord e (classes_of records.old.entries) hits.now) }
+    ensures unchanged { OnErr result (records.new.entries ≡ records.old.entries) }
+{
+    let id = hits.id;
+    if let Some(there) = records.get_mut(&id) {
+        return merge_into(alloc, there, hits);
+    }
+    let copy = copy_of(alloc, hits)?;
+    records.insert(id, copy)?;
     Ok(())
 }

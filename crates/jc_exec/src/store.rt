@@ -13,7 +13,7 @@ ghost use Rattle.jc_exec.specs.Union.{IsUnion, ReadsOn};
 ghost use Rattle.jc_exec.specs.Writing.{exec_text};
 
 use crate::block::{Front, next_block};
-use crate::merge::{copy_of, gather, merge_into};
+use crate::merge::{gather, put};
 use crate::write::exec_data;
 use crate::{ClassHits, ExecRefusal, Session};
 use indexmap::IndexMap;
@@ -111,12 +111,7 @@ impl ExecStore {
             → IsErrAnd result (SaysOnly (conflict_of there hits.now)) }
         ensures unchanged { OnErr result (self.new ≡ self.old) }
     {
-        if let Some(there) = self.records.get_mut(&hits.id) {
-            return merge_into(alloc, there, hits);
-        }
-        let copy = copy_of(alloc, hits)?;
-        self.records.insert(hits.id, copy)?;
-        Ok(())
+        put(alloc, &mut self.records, hits)
     }
 
     /// The record of a class id, if there is one.
