@@ -1,5 +1,5 @@
 -- Each text is a plain file over the records before, or has a first block that doesn't fit.
-use Rattle.std.proofs.Common.{◌≡◌, ◌≢◌, ◌⊎◌, inl, inr, ⊎_elim, ℕ, zero, suc, ◌<◌, ◌≤◌, Bool, true, false, List, [], ◌∷◌, ◌++◌, length, take, drop, Option, Some, None, bytes_eq, nat_eq, refl, sym, ◌∙◌, ap, subst, arith, append_assoc}
+use Rattle.std.proofs.Common.{◌≡◌, ◌≢◌, ◌⊎◌, inl, inr, ⊎_elim, ℕ, zero, suc, ◌≤◌, Bool, true, false, List, [], ◌∷◌, ◌++◌, length, take, drop, Option, Some, None, bytes_eq, nat_eq, refl, sym, ◌∙◌, ap, subst, arith, append_assoc}
 use Rattle.std.proofs.lemmas.Bool.{eqb-true, eqb-false}
 use Rattle.std.proofs.lemmas.List.{append-nil, take_at, take-append-drop}
 use Rattle.std.proofs.lemmas.Slice.Eq.{bytes_eq-Decides}
@@ -11,11 +11,11 @@ use Rattle.jc_exec.specs.declared.hits.ClassHits.{ClassHits}
 use Rattle.jc_exec.specs.Format.{header_text}
 use Rattle.jc_exec.specs.Reading.{class_at}
 use Rattle.jc_exec.specs.Store.{IsNew}
-use Rattle.jc_exec.specs.Plain.{IsPlain, NoneFits, IsFirstUnfit, HasOneReading}
+use Rattle.jc_exec.specs.Plain.{IsPlain, NoneFits, IsFirstUnfit}
 use Rattle.jc_exec.proofs.BlockLaws.{class_takes, class_again}
-use Rattle.jc_exec.proofs.PlainLaws.{plain_of, plain_push, less_left, one_reading, one_place, plain_or_unfit_not_both}
+use Rattle.jc_exec.proofs.PlainLaws.{plain_of, plain_push, less_left}
 
-abbrev Decided : Type 0 → Type 0
+abbrev pub Decided : Type 0 → Type 0
 Decided P = P ⊎ (P → ⊥)
 
 -- ---- names, new ids, and the header
@@ -27,7 +27,7 @@ by_test false decides = inr (λ holds. true_false (decides.back holds))
     true_false : false ≡ true → ⊥
     true_false e = cc
 
-modified_or_not : (bytes : List ℕ) → Decided (IsModified bytes)
+pub modified_or_not : (bytes : List ℕ) → Decided (IsModified bytes)
 modified_or_not bytes = by_test (is_modified_text bytes) (modified_decided bytes)
 
 new_decided : (id : ℕ) (cs : List ClassHits) → Decided (IsNew id cs)
@@ -38,7 +38,7 @@ new_decided id (c ∷ cs) = by (nat_eq id c.id) refl (new_decided id cs)
     by true is rest = inr (λ new. new.0 (eqb-true id c.id is))
     by false is rest = ⊎_elim (λ new. inl (eqb-false id c.id is, new)) (λ known. inr (λ new. known new.1)) rest
 
-header_decided : (text : List ℕ) → ((rest : List ℕ) × (text ≡ header_text ++ rest)) ⊎ ((rest : List ℕ) → text ≢ header_text ++ rest)
+pub header_decided : (text : List ℕ) → ((rest : List ℕ) × (text ≡ header_text ++ rest)) ⊎ ((rest : List ℕ) → text ≢ header_text ++ rest)
 header_decided text = by (bytes_eq (take 5 text) header_text) refl
   where
     by : (b : Bool) → bytes_eq (take 5 text) header_text ≡ b → ((rest : List ℕ) × (text ≡ header_text ++ rest)) ⊎ ((rest : List ℕ) → text ≢ header_text ++ rest)
@@ -89,11 +89,3 @@ plain_or_unfit before text = elim (header_decided text) [
   | inl h ↦ decided_from (length h.0) before text header_text h.0 [] h.1 (plain_of before header_text [] (record { body = []; parts = refl; classes = refl }) tt) (omega arith)
   | inr none ↦ inr (0, inl (refl, none))
 ]
-
-pub has_one_reading : (before : List ClassHits) (text : List ℕ) → HasOneReading before text
-has_one_reading before text = record {
-  some = plain_or_unfit before text;
-  classes = one_reading before text;
-  place = one_place before text;
-  apart = plain_or_unfit_not_both before text;
-}

@@ -1,11 +1,11 @@
 //! The union of execution data.
-ghost use Rattle.std.specs.Prelude.{◌≡◌, ◌≤◌, ◌⊎◌, ℕ, [], ◌∷◌, ◌++◌, length, filter, List, false, IsTrue, IfOk, IfErr, IsErrAnd, OnOk, OnErr};
+ghost use Rattle.std.specs.Prelude.{◌≡◌, ◌≤◌, ◌⊎◌, ℕ, [], ◌∷◌, ◌++◌, length, List, false, IsTrue, IfOk, IfErr, IsErrAnd, OnOk, OnErr};
 ghost use Rattle.jc_exec.specs.declared.hits.ClassHits.{ClassHits};
 ghost use Rattle.jc_base.specs.Modified.{IsModified};
 ghost use Rattle.jc_exec.specs.Store.{Store, IsSmall, Keyed, IsNew, classes_of};
 ghost use Rattle.jc_exec.specs.Plain.{IsPlain, IsFirstUnfit, TakesPlain, Refuses};
 ghost use Rattle.jc_exec.specs.Union.{IsUnion, ReadsOn};
-ghost use Rattle.jc_exec.specs.Writing.{exec_text, is_hit};
+ghost use Rattle.jc_exec.specs.Writing.{exec_text};
 
 use crate::block::{class, header};
 use crate::write::exec_data;
@@ -90,11 +90,8 @@ impl ExecStore {
     /// `Memory`, where memory is refused.
     pub fn write(&self, alloc: Global) -> Result<Vec<u8>, Memory>
         ensures text { IfOk result (λ text. text.items ≡ exec_text self.now) }
-
-        // A store of nothing takes it, and has these records then.
-        ensures again { IfOk result (λ text. IsPlain [] text.items (filter is_hit self.now.classes)) }
     {
-        Ok(exec_data(alloc, self.records.values().as_slice())?)
+        exec_data(alloc, &[], self.records.values().as_slice())
     }
 }
 
