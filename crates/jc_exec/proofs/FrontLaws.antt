@@ -24,91 +24,8 @@ use Rattle.jc_exec.specs.Front.{MayStandAt, Took, IsUnfit, ReadsFront, IsUnread}
 use Rattle.jc_exec.specs.Reading.{text_at, class_at, session_at, version_at}
 use Rattle.jc_exec.specs.Refusing.{bad_exec, other_version, HasOtherHeader}
 use Rattle.jc_exec.proofs.BlockLaws.{text_takes, text_again, class_takes, class_again}
-use Rattle.jc_exec.proofs.ListLaws.{kind_of, kind_first}
-
--- ---- sessions
-
-session_regrouped : (p : SessionParts) (rest : List ℕ) → session_joined p ++ rest ≡ 0x10 ∷ (p.size ++ (p.id ++ (p.start ++ (p.dump ++ rest))))
-session_regrouped p rest = simp append_assoc
-
-session_parts_again : (p : SessionParts) (s : Session) (rest : List ℕ) → SpellsSession p s → session_at (0x10 ∷ (p.size ++ (p.id ++ (p.start ++ (p.dump ++ rest))))) ≡ Some (s, rest)
-unfolding session_at
-session_parts_again p s rest spells =
-    rw (
-      byte_again 0x10 (p.size ++ (p.id ++ (p.start ++ (p.dump ++ rest)))),
-      spells.id,
-      text_again p.size s.id (p.start ++ (p.dump ++ rest)) spells.size,
-      number_again 8 p.start (p.dump ++ rest) (big_number 8 p.start) (record { size = spells.start.size; value = refl }),
-      number_again 8 p.dump rest (big_number 8 p.dump) (record { size = spells.dump.size; value = refl }),
-    )
-    (λ i. Some (record { id = s.id; start = spells.start.value i; dump = spells.dump.value i }, rest))
-
--- a session in front is read
-pub session_again : (text rest : List ℕ) (s : Session) → IsSessionBlock text s → session_at (text ++ rest) ≡ Some (s, rest)
-session_again text rest s block = ap (λ (l : List ℕ). session_at (l ++ rest)) block.1 ∙ ap session_at (session_regrouped block.0 rest) ∙ session_parts_again block.0 s rest block.2
-
--- a session but for its id, which may be no modified UTF-8, stood in front
-pub record TookSession (left : List ℕ) (s : Session) (rest : List ℕ) : Type 0 where
-  pub text : List ℕ
-  pub parts : left ≡ text ++ rest
-  pub block : IsModified s.id → IsSessionBlock text s
-
-session_joins : (left a b c d rest : List ℕ) (p : SessionParts) → left ≡ 0x10 ∷ a → a ≡ p.size ++ (p.id ++ c) → c ≡ p.start ++ d → d ≡ p.dump ++ rest → left ≡ session_joined p ++ rest
-session_joins left a b c d rest p tag id start dump = rw (tag, id, start, dump) (simp append_assoc)
-
--- what is read as a session is one
-pub session_takes : (left : List ℕ) (read : Session × List ℕ) → session_at left ≡ Some read → TookSession left read.0 read.1
-unfolding session_at
-session_takes left read e =
-    let kind = bind_some (byte_at left) _ read e in
-    let tag = guard_some (kind.0.0 == 0x10) _ read kind.2 in
-    let id = bind_some (text_at kind.0.1) _ read tag.1 in
-    let start = bind_some (number_at 8 id.0.1) _ read id.2 in
-    let dump = bind_some (number_at 8 start.0.1) _ read start.2 in
-    let kind_is = byte_takes left kind.0.0 kind.0.1 kind.1 in
-    let id_is = text_takes kind.0.1 id.0.0 id.0.1 id.1 in
-    let start_is = number_takes 8 id.0.1 start.0.0 start.0.1 start.1 in
-    let dump_is = number_takes 8 start.0.1 dump.0.0 dump.0.1 dump.1 in
-    let p : SessionParts = record { size = id_is.0; id = id.0.0; start = start_is.0; dump = dump_is.0 } in
-    subst (λ (r : Session × List ℕ). TookSession left r.0 r.1) (some_is _ read dump.2)
-    (record {
-      text = session_joined p;
-      parts = session_joins left kind.0.1 [] id.0.1 start.0.1 dump.0.1 p (kind_is ∙ ap (λ (b : ℕ). b ∷ kind.0.1) (eqb-true kind.0.0 0x10 tag.0)) id_is.1 start_is.1 dump_is.1;
-      block = λ text. (p, refl, record {
-        size = id_is.2;
-        id = refl;
-        text = text;
-        start = record { size = start_is.2.size; value = ap (cast_signed w64) start_is.2.value };
-        dump = record { size = dump_is.2.size; value = ap (cast_signed w64) dump_is.2.value };
-      });
-    })
-
--- ---- headers
-
-pub version_takes : (left : List ℕ) (found : ℕ) (rest : List ℕ) → version_at left ≡ Some (found, rest) → (version : List ℕ) × (left ≡ 0x01 ∷ 0xc0 ∷ 0xc0 ∷ version ++ rest) × IsBig 2 version found
-unfolding version_at
-version_takes left found rest e =
-    let magic = bind_some (first 3 (take 3) left) _ (found, rest) e in
-    let same = guard_some (bytes_eq magic.0.0 (0x01 ∷ 0xc0 ∷ 0xc0 ∷ [])) (number_at 2 magic.0.1) (found, rest) magic.2 in
-    let t = first_takes 3 (take 3) left magic.0.0 magic.0.1 magic.1 in
-    let n = number_takes 2 magic.0.1 found rest same.1 in
-    let text : t.text ≡ 0x01 ∷ 0xc0 ∷ 0xc0 ∷ [] = sym (take_at t.text magic.0.1 3 t.size) ∙ sym (ap (take 3) t.parts) ∙ t.value ∙ (bytes_eq-Decides magic.0.0 (0x01 ∷ 0xc0 ∷ 0xc0 ∷ [])).0 same.0 in
-    (n.0, t.parts ∙ (λ i. text i ++ n.1 i), n.2)
-
-pub version_again : (left version more : List ℕ) (found : ℕ) → left ≡ 0x01 ∷ 0xc0 ∷ 0xc0 ∷ version ++ more → IsBig 2 version found → version_at left ≡ Some (found, more)
-unfolding version_at
-version_again left version more found parts big =
-    ap version_at parts ∙ rw (first_again 3 (take 3) (0x01 ∷ 0xc0 ∷ 0xc0 ∷ []) (version ++ more) (0x01 ∷ 0xc0 ∷ 0xc0 ∷ []) refl refl) (number_again 2 version more found big)
-
--- two bytes that spell the version are these
-version_bytes : (version : List ℕ) → length version ≡ 2 → get_or version 0 0 < 256 → get_or version 1 0 < 256 → 256 * get_or version 0 0 + get_or version 1 0 ≡ 0x1007 → version ≡ 0x10 ∷ 0x07 ∷ []
-version_bytes [] size a b value = absurd (omega (arith, size))
-version_bytes (x ∷ []) size a b value = absurd (omega (arith, size))
-version_bytes (x ∷ y ∷ []) size a b value =
-    let p : x ≡ 0x10 = omega (arith, a, b, value) in
-    let q : y ≡ 0x07 = omega (arith, a, b, value) in
-    λ i. p i ∷ q i ∷ []
-version_bytes (x ∷ y ∷ z ∷ version) size a b value = absurd (omega (arith, size))
+use Rattle.jc_exec.proofs.ListLaws.{kind_of, kind_first, session_takes, session_again}
+use Rattle.jc_exec.proofs.HeaderLaws.{version_again}
 
 -- ---- what was taken
 
@@ -220,21 +137,3 @@ is_no_text b bytes name decides same is text = differ (sym is ∙ decides.1 (sub
   where
     differ : false ≡ true → ⊥
     differ e = cc
-
--- ---- a header of this version
-
-pub same_bytes : (b : Bool) (xs ys zs : List ℕ) → b ≡ not (bytes_eq xs ys) → b ≡ false → ys ≡ zs → xs ≡ zs
-same_bytes b xs ys zs test apart is = (bytes_eq-Decides xs ys).0 (by (bytes_eq xs ys) (sym test ∙ apart)) ∙ is
-  where
-    by : (a : Bool) → not a ≡ false → a ≡ true
-    by true e = refl
-    by false e = absurd cc
-
-pub header_read : (left behind magic version rest : List ℕ) → magic ≡ take 3 left → behind ≡ drop 3 left → version ≡ take 2 behind → rest ≡ drop 2 behind → 2 ≤ length behind → magic ≡ 0x01 ∷ 0xc0 ∷ 0xc0 ∷ []
-    → get_or version 0 0 < 256 → get_or version 1 0 < 256 → 256 * get_or version 0 0 + get_or version 1 0 ≡ 0x1007 → left ≡ header_text ++ rest
-header_read left behind magic version rest m b v r enough is high low value =
-    let size : length version ≡ 2 = ap length v ∙ omega (arith, length-take 2 behind, enough) in
-    let number : version ≡ 0x10 ∷ 0x07 ∷ [] = version_bytes version size high low value in
-    let front : take 3 left ≡ 0x01 ∷ 0xc0 ∷ 0xc0 ∷ [] = sym m ∙ is in
-    let back : drop 3 left ≡ 0x10 ∷ 0x07 ∷ rest = sym b ∙ sym (take-append-drop 2 behind) ∙ ap (λ (l : List ℕ). l ++ drop 2 behind) (sym v ∙ number) ∙ ap (λ (l : List ℕ). 0x10 ∷ 0x07 ∷ l) (sym r) in
-    sym (take-append-drop 3 left) ∙ (λ i. front i ++ back i)

@@ -16,52 +16,16 @@ use Rattle.jc_exec.specs.Answers.{why_of, Refuses, SaysOnly, RefusesRecord}
 use Rattle.jc_exec.specs.Format.{Block, header, session, class, IsBlock, AreBlocks, Blocks, BeginsWithHeader}
 use Rattle.jc_exec.specs.Front.{MayStandAt, Took, IsUnfit, ReadsFront, block_of}
 use Rattle.jc_exec.specs.Refusing.{Refused, bad_exec, other_version, conflict, MayFollow, RefusedHere, FirstRefusal, blocks_of}
-use Rattle.jc_exec.specs.Store.{Store, IsWritable, classes_of, Keyed, IsNew, AreNew}
-use Rattle.jc_exec.specs.Union.{sessions_of, records_of, ids_of, first_seen, IsUnion, ReadsOn, with_block, union_of}
-use Rattle.jc_exec.proofs.ListLaws.{no_block, one_list}
+use Rattle.jc_exec.specs.Store.{Store, IsWritable, classes_of, Keyed}
+use Rattle.jc_exec.specs.Union.{IsUnion, ReadsOn, with_block, union_of}
+use Rattle.jc_exec.proofs.ListLaws.{no_block, one_list, blocks_push}
 use Rattle.jc_exec.proofs.MergingLaws.{union_blocks}
-use Rattle.jc_exec.proofs.RefusingLaws.{has_one_answer}
-use Rattle.jc_exec.proofs.StoreLaws.{new_append}
-use Rattle.jc_exec.proofs.UnionLaws.{union_classes, one_union}
-
--- ---- a store is the union of its own blocks
-
-own_sessions : (ss : List Session) → sessions_of (map session ss) ≡ ss
-own_sessions [] = refl
-own_sessions (s ∷ ss) = ap (λ (l : List Session). s ∷ l) (own_sessions ss)
-
-no_records : (ss : List Session) → records_of (map session ss) ≡ []
-no_records [] = refl
-no_records (s ∷ ss) = no_records ss
-
-sessions_union : (ss : List Session) → IsUnion (map session ss) (record { sessions = ss; classes = [] })
-sessions_union ss = record {
-  sessions = sym (own_sessions ss);
-  ids = ap (λ (l : List ClassHits). first_seen (ids_of l)) (sym (no_records ss));
-  merged = tt;
-}
-
--- ids that differ from one another and from those before
-all_new : (before : List ClassHits) (e : ℕ × ClassHits) (es : Entries) → IsNew e.1.id (classes_of es) → AllByRecursion (λ c. IsNew c.id before) (classes_of es) → AllByRecursion (λ c. IsNew c.id (before ++ e.1 ∷ [])) (classes_of es)
-all_new before e [] new a = tt
-all_new before e (f ∷ es) new a = (new_append f.1.id before (e.1 ∷ []) a.0 (λ same. new.0 (sym same), tt), all_new before e es new.1 a.1)
-
-are_new : (before : List ClassHits) (es : Entries) → Keyed es → AllByRecursion (λ c. IsNew c.id before) (classes_of es) → AreNew before (classes_of es)
-are_new before [] keyed a = tt
-are_new before (e ∷ es) keyed a = (a.0, are_new (before ++ e.1 ∷ []) es keyed.4 (all_new before e es keyed.3 a.1))
-
-all_new_to_none : (cs : List ClassHits) → AllByRecursion (λ c. IsNew c.id []) cs
-all_new_to_none [] = tt
-all_new_to_none (c ∷ cs) = (tt, all_new_to_none cs)
-
-pub own_union : (ss : List Session) (es : Entries) → Keyed es → IsUnion (blocks_of (store_of ss es)) (store_of ss es)
-own_union ss es keyed = union_classes (map session ss) (record { sessions = ss; classes = [] }) (classes_of es) (sessions_union ss) (are_new [] es keyed (all_new_to_none (classes_of es)))
+use Rattle.jc_exec.proofs.RefusingLaws.{one_reason, not_both}
+use Rattle.jc_exec.proofs.StoreLaws.{keyed_apart}
+use Rattle.jc_exec.proofs.StoringLaws.{own_union, union_append}
+use Rattle.jc_exec.proofs.UnionLaws.{one_union}
 
 -- ---- a block more
-
-pub blocks_push : (text more : List ℕ) (bs : List Block) (b : Block) → AreBlocks text bs → IsBlock more b → AreBlocks (text ++ more) (bs ++ b ∷ [])
-blocks_push text more [] b a block = (more, [], ap (λ (l : List ℕ). l ++ more) a ∙ sym (append-nil more), block, refl)
-blocks_push text more (x ∷ bs) b a block = (a.0, a.1 ++ more, ap (λ (l : List ℕ). l ++ more) a.2 ∙ append_assoc a.0 a.1 more, a.3, blocks_push a.1 more bs b a.4 block)
 
 pub may_follow : (taken : List ℕ) (read : List Block) (b : Block) → Blocks taken read → MayStandAt (length taken) b → MayFollow read b
 may_follow taken [] b blocks stands = subst (λ (x : Block). BeginsWithHeader (x ∷ [])) (sym (stands (ap length blocks.whole))) tt
@@ -80,12 +44,10 @@ may_stand taken [] (class c) blocks follows = absurd follows
 may_stand taken (x ∷ read) b blocks follows = λ first. absurd (no_block x taken blocks.whole.0 blocks.whole.1 blocks.whole.3 blocks.whole.2 (nothing taken first))
 
 union_push : (s at t : Store) (read : List Block) (b : Block) → union_of s read ≡ Some at → with_block at b ≡ Some t → union_of s (read ++ b ∷ []) ≡ Some t
-union_push s at t [] b is step = ap (λ (o : Option Store). option_and_then (λ (x : Store). Some x) o) (ap (λ (x : Store). with_block x b) (some_is s at is) ∙ step)
-union_push s at t (x ∷ read) b is step = by (with_block s x) is (λ r e. union_push r at t read b e step)
-  where
-    by : (o : Option Store) → option_and_then (λ (r : Store). union_of r read) o ≡ Some at → ((r : Store) → union_of r read ≡ Some at → union_of r (read ++ b ∷ []) ≡ Some t) → option_and_then (λ (r : Store). union_of r (read ++ b ∷ [])) o ≡ Some t
-    by (Some r) is next = next r is
-    by None is next = absurd cc
+union_push s at t read b is step =
+    union_append s read (b ∷ [])
+    ∙ ap (λ (o : Option Store). option_and_then (λ (u : Store). union_of u (b ∷ [])) o) is
+    ∙ ap (λ (o : Option Store). option_and_then (λ (u : Store). Some u) o) step
 
 -- ---- what was gathered so far
 
@@ -123,7 +85,7 @@ goes_on known bytes old new before after b p t k =
         read = g.read ++ b ∷ [];
         blocks = record {
           begins = may_follow p.taken g.read b g.blocks (subst (λ (n : ℕ). MayStandAt n b) p.offset t.follows);
-          whole = blocks_push p.taken t.front g.read b g.blocks.whole t.block;
+          whole = blocks_push p.taken g.read t.front b g.blocks.whole t.block;
         };
         union = λ sessions. union_push (store_of sessions known) (store_with sessions known before.sessions.items before.records.entries) (store_with sessions known after.sessions.items after.records.entries) g.read b (g.union sessions) (k.union sessions);
         writable = k.writable g.writable;
@@ -155,7 +117,7 @@ module _ (known : Entries) (bytes : List ℕ) (old : Reading) (more : List Sessi
     store = store_with sessions known more fresh;
     parts = p.parts;
     blocks = p.gathers.blocks;
-    union = union_blocks (blocks_of (store_of sessions known)) p.gathers.read (store_of sessions known) (store_with sessions known more fresh) (own_union sessions known keyed) (p.gathers.union sessions);
+    union = union_blocks (blocks_of (store_of sessions known)) p.gathers.read (store_of sessions known) (store_with sessions known more fresh) (own_union (store_of sessions known) (keyed_apart known keyed)) (p.gathers.union sessions);
     refused = here;
   }
 
@@ -183,16 +145,25 @@ module _ (known : Entries) (bytes : List ℕ) (old : Reading) (more : List Sessi
   conflicts new c fails.Memory t why = tt
   conflicts new c (fails.Said refusal) t (there, found, says) =
       subst (FirstRefusal (store_of sessions known) bytes) (sym says)
-      (refused_here _ (there, c, record {
-        front = t.front;
-        more = new.left;
-        parts = t.parts;
-        block = t.block;
-        follows = may_follow p.taken p.gathers.read (class c) p.gathers.blocks (subst (λ (n : ℕ). MayStandAt n (class c)) p.offset t.follows);
-        holds = found.holds;
-        same_id = found.same_id;
-        differs = found.differs;
-      }, refl, refl, refl, refl, refl))
+      (refused_here _ (
+        there,
+        c,
+        record {
+          front = t.front;
+          more = new.left;
+          parts = t.parts;
+          block = t.block;
+          follows = may_follow p.taken p.gathers.read (class c) p.gathers.blocks (subst (λ (n : ℕ). MayStandAt n (class c)) p.offset t.follows);
+          holds = found.holds;
+          same_id = found.same_id;
+          differs = found.differs;
+        },
+        refl,
+        refl,
+        refl,
+        refl,
+        refl,
+      ))
 
   memory : (e : Fail ExecRefusal) → e ≡ fails.Memory → Refuses e (store_of sessions known) bytes
   memory e is = subst (λ (f : Fail ExecRefusal). Refuses f (store_of sessions known) bytes) (sym is) tt
@@ -216,24 +187,24 @@ gathered_writable (s ∷ ss) more a b = (a.0, gathered_writable ss more a.1 b)
 pub gathered_only : (text : List ℕ) (ss more : List Session) (known fresh : Entries) → Keyed known → Gathers known text more fresh → (read : List Block) (s : Store) → Blocks text read → IsUnion (blocks_of (store_of ss known) ++ read) s → store_with ss known more fresh ≡ s
 gathered_only text ss more known fresh keyed g read s blocks u =
     let before = blocks_of (store_of ss known) in
-    let own : IsUnion (before ++ g.read) (store_with ss known more fresh) = union_blocks before g.read (store_of ss known) (store_with ss known more fresh) (own_union ss known keyed) (g.union ss) in
+    let own : IsUnion (before ++ g.read) (store_with ss known more fresh) = union_blocks before g.read (store_of ss known) (store_with ss known more fresh) (own_union (store_of ss known) (keyed_apart known keyed)) (g.union ss) in
     one_union (before ++ read) (store_with ss known more fresh) s (subst (λ (l : List Block). IsUnion (before ++ l) (store_with ss known more fresh)) (one_list text g.read read g.blocks blocks) own) u
 
 pub gathered_not_refused : (text : List ℕ) (ss more : List Session) (known fresh : Entries) → Keyed known → Gathers known text more fresh → (why : Refused) → FirstRefusal (store_of ss known) text why → ⊥
 gathered_not_refused text ss more known fresh keyed g why refused =
     let before = blocks_of (store_of ss known) in
-    (has_one_answer (store_of ss known) text).apart g.read (store_with ss known more fresh) why g.blocks
-    (union_blocks before g.read (store_of ss known) (store_with ss known more fresh) (own_union ss known keyed) (g.union ss)) refused
+    not_both (store_of ss known) text why
+    (g.read, store_with ss known more fresh, g.blocks, union_blocks before g.read (store_of ss known) (store_with ss known more fresh) (own_union (store_of ss known) (keyed_apart known keyed)) (g.union ss)) refused
 
 -- a text whose blocks have a union is refused for want of memory alone
 pub refused_not_taken : (e : Fail ExecRefusal) (before : Store) (text : List ℕ) → Refuses e before text → (read : List Block) (s : Store) → Blocks text read → IsUnion (blocks_of before ++ read) s → e ≡ fails.Memory
 refused_not_taken fails.Memory before text why read s blocks u = refl
-refused_not_taken (fails.Said refusal) before text why read s blocks u = absurd ((has_one_answer before text).apart read s (why_of refusal) blocks u why)
+refused_not_taken (fails.Said refusal) before text why read s blocks u = absurd (not_both before text (why_of refusal) (read, s, blocks, u) why)
 
 -- any other is refused for its one reason
 pub refused_for : (e : Fail ExecRefusal) (before : Store) (text : List ℕ) → Refuses e before text → (why : Refused) → FirstRefusal before text why → SaysOnly why e
 refused_for fails.Memory before text refuses why first = tt
-refused_for (fails.Said refusal) before text refuses why first = (has_one_answer before text).reason (why_of refusal) why refuses first
+refused_for (fails.Said refusal) before text refuses why first = one_reason before text (why_of refusal) why refuses first
 
 pub put_adds : (ss : List Session) (es later : Entries) (r : ClassHits) → Puts es later r → (blocks : List Block) → IsUnion blocks (store_of ss es) → IsUnion (blocks ++ class r ∷ []) (store_of ss later)
 put_adds ss es later r p blocks u =

@@ -7,7 +7,7 @@ use Rattle.std.proofs.lemmas.List.Elements.{filter-append}
 use Rattle.jc_exec.specs.declared.hits.ClassHits.{ClassHits}
 use Rattle.jc_exec.specs.declared.session.Session.{Session}
 use Rattle.jc_exec.specs.Format.{Block, header, session, class}
-use Rattle.jc_exec.specs.Store.{Store, IsNew, AreNew}
+use Rattle.jc_exec.specs.Store.{Store, IsNew}
 use Rattle.jc_exec.specs.Union.{sessions_of, records_of, ids_of, first_seen, Agrees, IsHitAt, IsMerged, IsUnion}
 
 -- ---- what the blocks hold
@@ -192,16 +192,6 @@ union_class bs s c u new =
           ∙ sym (ap (λ (l : List ClassHits). first_seen (ids_of l)) records ∙ ap first_seen (map-append (λ (d : ClassHits). d.id) rs (c ∷ [])));
       merged = subst (λ (l : List ClassHits). AllByRecursion (IsMerged l) (s.classes ++ c ∷ [])) (sym records) merged;
     }
-
-pub union_classes : (bs : List Block) (s : Store) (cs : List ClassHits) → IsUnion bs s → AreNew s.classes cs → IsUnion (bs ++ map class cs) (record { sessions = s.sessions; classes = s.classes ++ cs })
-union_classes bs s [] u new = both (sym (append-nil bs)) (sym (append-nil s.classes)) u
-  where
-    both : {more : List Block} {cs : List ClassHits} → bs ≡ more → s.classes ≡ cs → IsUnion bs s → IsUnion more (record { sessions = s.sessions; classes = cs })
-    both {cs = cs} p q u = subst (λ (l : List Block). IsUnion l (record { sessions = s.sessions; classes = cs })) p (subst (λ (l : List ClassHits). IsUnion bs (record { sessions = s.sessions; classes = l })) q u)
-union_classes bs s (c ∷ cs) u new =
-    subst (λ (l : List Block). IsUnion l (record { sessions = s.sessions; classes = s.classes ++ c ∷ cs })) (append_assoc bs (class c ∷ []) (map class cs))
-    (subst (λ (l : List ClassHits). IsUnion ((bs ++ class c ∷ []) ++ map class cs) (record { sessions = s.sessions; classes = l })) (append_assoc s.classes (c ∷ []) cs)
-    (union_classes (bs ++ class c ∷ []) (record { sessions = s.sessions; classes = s.classes ++ c ∷ [] }) cs (union_class bs s c u new.0) new.1))
 
 -- ---- one union of each list
 

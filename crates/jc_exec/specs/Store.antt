@@ -1,5 +1,5 @@
 -- What a store of execution data holds.
-use Rattle.std.specs.Prelude.{◌≡◌, ◌<◌, ◌≢◌, ◌^◌, ⊤, ℕ, List, [], ◌∷◌, ◌++◌, length, map, FitsSigned}
+use Rattle.std.specs.Prelude.{◌≡◌, ◌<◌, ◌≢◌, ◌^◌, ⊤, ℕ, List, [], ◌∷◌, length, map, FitsSigned}
 use Rattle.std.specs.Int.{w64}
 use Rattle.jc_base.specs.Modified.{IsModified}
 use Rattle.jc_exec.specs.declared.hits.ClassHits.{ClassHits}
@@ -27,11 +27,6 @@ pub record IsWritable (s : Session) : Type 0 where
 abbrev pub IsNew : ℕ → List ClassHits → Type 0
 IsNew id [] = ⊤
 IsNew id (c ∷ cs) = (id ≢ c.id) × IsNew id cs
-
--- the ids of the later records differ from each other and from those before
-abbrev pub AreNew : List ClassHits → List ClassHits → Type 0
-AreNew before [] = ⊤
-AreNew before (c ∷ cs) = IsNew c.id before × AreNew (before ++ c ∷ []) cs
 
 -- ---- the records as the store keeps them, each under its id
 

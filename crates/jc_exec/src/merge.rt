@@ -31,11 +31,7 @@ fn agrees(there: &ClassHits, hits: &ClassHits) -> bool
 }
 
 /// The refusal of a record over the one that is there.
-fn conflict(
-    alloc: Global,
-    there: &ClassHits,
-    hits: &ClassHits,
-) -> Result<ExecRefusal, AllocError>
+fn conflict(alloc: Global, there: &ClassHits, hits: &ClassHits) -> Result<ExecRefusal, AllocError>
     requires there { IsSmall there.now }
     requires hits { IsSmall hits.now }
     ensures { IfOk result (λ refusal. why_of refusal ≡ conflict_of there.now hits.now) }
@@ -140,11 +136,7 @@ pub fn gather(
 
 /// Puts a record with the others: merged into the one of its id, else last. After an error the
 /// others are as before.
-pub fn put(
-    alloc: Global,
-    records: &mut Records,
-    hits: &ClassHits,
-) -> Result<(), Fail<ExecRefusal>>
+pub fn put(alloc: Global, records: &mut Records, hits: &ClassHits) -> Result<(), Fail<ExecRefusal>>
     requires keyed { Keyed records.old.entries }
     requires few { length hits.now.bits ≤ 65535 }
     requires short { length hits.now.name ≤ 65535 }

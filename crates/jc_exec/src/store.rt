@@ -147,7 +147,7 @@ impl ExecStore {
     pub fn write(&self, alloc: Global) -> Result<Vec<u8>, Memory>
         ensures text { IfOk result (λ text. text.items ≡ exec_text self.now) }
     {
-        Ok(exec_data(alloc, self.records.values().as_slice())?)
+        exec_data(alloc, &self.sessions, self.records.values().as_slice())
     }
 }
 

@@ -1,5 +1,6 @@
 use Rattle.std.proofs.Common.{ℕ}
-use Rattle.jc_exec.proofs.FrontLaws.{version_takes, not_read, no_version, took_header}
+use Rattle.jc_exec.proofs.FrontLaws.{not_read, no_version}
+use Rattle.jc_exec.proofs.HeaderLaws.{version_takes}
 use Rattle.jc_exec.proofs.block.header.Goals as goal
 
 pub returns-in-Err : goal.returns-in-Err

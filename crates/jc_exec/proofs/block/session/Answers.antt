@@ -15,6 +15,7 @@ returns-then-not-is_modified c =
 
 pub returns : goal.returns
 returns c =
-    let text = is_text c.is_modified.result c.deref.result.now c.in-Ok.session.id c.is_modified.ensures c.deref.ensures c.if-not-is_modified.false in
-    (took_session c.args.reader.now c.session_parts.new.reader c.in-Ok.session c.in-Ok.ensures.gives text c.requires.behind c.in-Ok.ensures.end,
-    record { size = c.in-Ok.ensures.small; text = text; start = c.in-Ok.ensures.start; dump = c.in-Ok.ensures.dump })
+    let text = is_text c.is_modified.result c.deref.result.now c.in-Ok.session.id c.is_modified.ensures c.deref.ensures c.if-not-is_modified.false in (
+      took_session c.args.reader.now c.session_parts.new.reader c.in-Ok.session c.in-Ok.ensures.gives text c.requires.behind c.in-Ok.ensures.end,
+      record { size = c.in-Ok.ensures.small; text = text; start = c.in-Ok.ensures.start; dump = c.in-Ok.ensures.dump },
+    )

@@ -1,5 +1,5 @@
 use Rattle.std.proofs.Common.{◌<◌, get_or, arith}
-use Rattle.jc_exec.proofs.FrontLaws.{same_bytes, header_read}
+use Rattle.jc_exec.proofs.HeaderLaws.{same_bytes, header_read}
 use Rattle.jc_exec.proofs.block.version.Goals as goal
 
 pub returns-clause-known : goal.returns-clause-known
