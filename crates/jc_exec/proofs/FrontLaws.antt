@@ -8,8 +8,7 @@ use Rattle.std.proofs.lemmas.Slice.Eq.{bytes_eq-Decides}
 use Rattle.byteorder.specs.Endian.{big_number}
 use Rattle.jc_base.specs.declared.fail.Fail.{Fail}
 use Rattle.jc_base.specs.declared.fail.Fail.TheVariants as fails
-use Rattle.jc_base.specs.declared.unread.Unread.{Unread}
-use Rattle.jc_base.specs.declared.unread.Unread.TheVariants as unread
+use Rattle.jc_base.specs.declared.fail.Unfit.{Unfit}
 use Rattle.jc_base.specs.Decoder.{IsBig, Gives, SameEnd, ◌>>=◌, first, byte_at, number_at}
 use Rattle.jc_base.specs.Modified.{IsModified}
 use Rattle.jc_base.specs.Reader.{Reading}
@@ -118,10 +117,10 @@ no_kind at place here a b c = unfit at place (get_or at.left 0 0) here refl by (
 
 -- ---- an item that was not read
 
-pub not_read : {X Y : Type 0} (view : X → Y) (why : Unread) (left : List ℕ) (read : Option (Y × List ℕ)) (place : ℕ) (e : Fail ExecRefusal) (old new : Reading)
+pub not_read : {X Y : Type 0} (view : X → Y) (why : Fail Unfit) (left : List ℕ) (read : Option (Y × List ℕ)) (place : ℕ) (e : Fail ExecRefusal) (old new : Reading)
     → Gives view (Err why) left read → IsUnread why place e → (read ≡ None → IsUnfit old (bad_exec place)) → ReadsFront (Err e) old new
-not_read view unread.Memory left read place e old new gives is none = subst (λ (f : Fail ExecRefusal). ReadsFront (Err f) old new) (sym is) tt
-not_read view unread.Unfit left read place e old new gives is none = subst (λ (f : Fail ExecRefusal). ReadsFront (Err f) old new) (sym is) (none gives)
+not_read view fails.Memory left read place e old new gives is none = subst (λ (f : Fail ExecRefusal). ReadsFront (Err f) old new) (sym is) tt
+not_read view (fails.Said why) left read place e old new gives is none = subst (λ (f : Fail ExecRefusal). ReadsFront (Err f) old new) (sym is) (none gives)
 
 -- what is refused at the place
 pub bad_here : (place : ℕ) (e : Fail ExecRefusal) (old new : Reading) → e ≡ fails.Said (BadExec place) → IsUnfit old (bad_exec place) → ReadsFront (Err e) old new
