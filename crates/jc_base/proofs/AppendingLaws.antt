@@ -15,6 +15,14 @@ big_spells n x fits = record {
   value = ap (big_number n) (sym (append-nil (big_bytes n x))) ∙ big_number-reads_back n x [] fits;
 }
 
+-- one text behind another
+pub joined : (old mid new front rest : List ℕ) → mid ≡ old ++ front → new ≡ mid ++ rest → new ≡ old ++ (front ++ rest)
+joined old mid new front rest p q = q ∙ ap (λ (l : List ℕ). l ++ rest) p ∙ append_assoc old front rest
+
+-- the last text
+pub ended : (old new last : List ℕ) → new ≡ old ++ last → new ≡ old ++ (last ++ [])
+ended old new last p = p ∙ ap (λ (l : List ℕ). old ++ l) (sym (append-nil last))
+
 -- ---- by a grammar
 
 module _ {X : Type 0} where
@@ -28,7 +36,7 @@ module _ {X : Type 0} where
 pub appends_followed : {X Y : Type 0} (g : Grammar X) (f : X → Grammar Y) (x : X) (y : Y) (old mid new : List ℕ) → Appended g x old mid → Appended (f x) y mid new → Appended (followed_by g f) y old new
 appends_followed g f x y old mid new p q = record {
   text = p.text ++ q.text;
-  parts = q.parts ∙ ap (λ (l : List ℕ). l ++ q.text) p.parts ∙ append_assoc old p.text q.text;
+  parts = joined old mid new p.text q.text p.parts q.parts;
   spells = (x, p.text, q.text, refl, p.spells, q.spells);
 }
 

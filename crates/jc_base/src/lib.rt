@@ -4,6 +4,7 @@
 
 mod analysed;
 mod body;
+mod counted_items;
 mod descriptor;
 mod descriptor_types;
 mod emitted;
@@ -39,6 +40,7 @@ mod widened;
 
 pub use analysed::Analysed;
 pub use body::{Body, FrameAt, Handler, LineAt, Use, VarAt, What};
+pub use counted_items::{ItemReader, counted};
 pub use descriptor::{
     argument_slots, each_descriptor_has_one_type, is_field_descriptor, is_method_descriptor,
     split_type,

@@ -1,10 +1,12 @@
 //! Writing a class file.
 ghost use Rattle.std.specs.Prelude.{◌≡◌, ◌≤◌, ℕ, List, length, OnOk, IfOk};
 ghost use Rattle.jc_base.specs.Appending.{Appends};
+ghost use Rattle.jc_base.specs.ByteLists.{AreBytes};
+ghost use Rattle.jc_base.specs.Counted.{counted};
 ghost use Rattle.jc_base.specs.Grammar.{times};
-ghost use Rattle.jc_class.specs.ClassFormat.{number_where, counted, attribute as attribute_form, member as member_form};
+ghost use Rattle.jc_base.specs.ItemForms.{number_where};
+ghost use Rattle.jc_class.specs.ClassFormat.{attribute as attribute_form, member as member_form};
 ghost use Rattle.jc_class.specs.Writable.{Anything, AreCounted, IsAttribute, IsMember, IsClassFile};
-ghost use Rattle.jc_pool.specs.PoolGrammar.{AreBytes};
 ghost use Rattle.jc_class.specs.ClassText.{ClassText};
 ghost use Rattle.std.specs.List.{AllByRecursion};
 
