@@ -82,6 +82,7 @@ pub fn read_class(alloc: Global, bytes: &[u8]) -> Result<ClassFile, Fail<Refusal
     ensures refused { IfErr result (λ e. RefusedAs e (FirstBad bytes.now)) }
     // What is read can be written, and no attribute is longer than a class file may be.
     ensures whole { IfOk result IsClassFile }
+    ensures within { IfOk result (AttributesWithin (length bytes.now)) }
     ensures sizes { IfOk result (AttributesWithin 67108864) }
     // The text of a class file is read, and bytes that fail are refused, unless memory runs out.
     ensures taken { (c : ClassFile) → ClassText bytes.now c → MatchResult result (λ d. d ≡ c) (λ e. e ≡ Fail.Memory) }
