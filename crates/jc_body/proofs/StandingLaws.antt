@@ -1,5 +1,5 @@
 -- Whether an instruction names the right entry, leads where it may and uses local variables that there are, is decided.
-use Rattle.std.proofs.Common.{◌≡◌, ◌⊎◌, inl, inr, ⊎_elim, ℕ, ◌+◌, ◌<◌, ◌≤◌, Bool, true, false, List, [], ◌∷◌, Option, Some, None, option_and_then, nat_eq, nat_le, refl, sym, ◌∙◌, ap, subst, arith}
+use Rattle.std.proofs.Common.{◌≡◌, ◌⊎◌, inl, inr, ⊎_elim, ℕ, ◌+◌, ◌<◌, ◌≤◌, Bool, true, false, List, [], ◌∷◌, Option, Some, None, IsSomeAnd, IsTrue, ◌↔◌, option_and_then, nat_eq, nat_le, refl, sym, ◌∙◌, ap, subst, arith}
 use Rattle.std.proofs.lemmas.Bool.{eqb-true, eqb-false, leb-true, leb-false}
 use Rattle.std.specs.List.{AllByRecursion}
 use Rattle.jc_base.specs.declared.insn.Insn.{Insn}
@@ -13,8 +13,10 @@ use Rattle.jc_base.specs.Descriptor.{IsFieldDescriptor, IsMethodDescriptor}
 use Rattle.jc_base.specs.Flow.{FallsThrough, flow_of, targets_of}
 use Rattle.jc_base.specs.InsnUse.{pool_place, IsField, IsMethod, IsCall, IsClass, IsOfTwoSlots, IsOneSlotConstant, IsTwoSlotConstant, IsMemberFor, Suits, LocalsWithin, LeadsWithin, locals_of}
 use Rattle.jc_base.proofs.DecidingLaws.{Decides, field_text_decided, method_text_decided}
+use Rattle.jc_pool.specs.Lookup.{Member, member_of, class_name_of, const_of}
 use Rattle.jc_pool.specs.Pool.{PoolValue}
-use Rattle.jc_body.specs.Standing.{Found, of_member, found_at, what_of, what_at, TagSuits, Meets, FoundSuits, EntrySuits, PlaceSuits, HasRightEntry}
+use Rattle.jc_pool.specs.declared.constant.ConstText.{ConstText}
+use Rattle.jc_body.specs.Standing.{Found, of_member, found_in, found_at, StandsAt, what_of, what_at, TagSuits, Meets, FoundSuits, EntrySuits, PlaceSuits, HasRightEntry}
 use Rattle.jc_body.specs.Faults.{IsAstray}
 
 -- ---- facts that hold or don't
@@ -77,6 +79,22 @@ all_or_not Fact decide [] = inl tt
 all_or_not Fact decide (x ∷ xs) = both_or_not (Fact x) (AllByRecursion Fact xs) (decide x) (all_or_not Fact decide xs)
 
 -- ---- what stands in the pool
+
+-- the member that stands at a place is the one that its entry names
+member_there : (pool : PoolValue) (place : ℕ) (m : Member) → StandsAt pool place (of_member m) → member_of pool place ≡ Some m
+unfolding found_at
+member_there pool place m is = by (member_of pool place) (class_name_of pool place) (const_of pool place) is
+  where
+    by : (there : Option Member) (class : Option (List ℕ)) (constant : Option ConstText) → found_in there class constant ≡ Some (of_member m) → there ≡ Some m
+    by (Some other) class constant is = let same : other ≡ m = cc in ap Some same
+    by None (Some name) constant is = absurd cc
+    by None None (Some c) is = absurd cc
+    by None None None is = absurd cc
+
+-- what the pool answers of the member at a place holds of the member that stands there
+pub of_member_there : (pool : PoolValue) (place : ℕ) (m : Member) (Fact : Member → Type 0) (answer : Bool) → IsTrue answer ↔ IsSomeAnd (member_of pool place) Fact
+    → StandsAt pool place (of_member m) → IsTrue answer ↔ Fact m
+of_member_there pool place m Fact answer a is = subst (λ (there : Option Member). IsTrue answer ↔ IsSomeAnd there Fact) (member_there pool place m is) a
 
 field_text_or_not : (desc : List ℕ) → Decided (IsFieldDescriptor desc)
 field_text_or_not desc = by_test (is_field_text desc) (IsFieldDescriptor desc) (field_text_decided desc)

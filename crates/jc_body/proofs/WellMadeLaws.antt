@@ -15,7 +15,7 @@ use Rattle.jc_base.specs.declared.body.What.TheVariants as whats
 use Rattle.jc_base.specs.declared.insn.Insn.{Insn}
 use Rattle.jc_pool.specs.declared.entry.Entry.{Entry}
 use Rattle.jc_pool.specs.declared.entry.Entry.TheVariants as entry
-use Rattle.jc_pool.specs.Lookup.{entry_at, utf8_of, class_in, class_name_of, member_in, member_of, const_of}
+use Rattle.jc_pool.specs.Lookup.{entry_of, utf8_of, class_in, class_name_of, member_in, member_of, const_of}
 use Rattle.jc_pool.specs.Pool.{PoolValue}
 use Rattle.jc_class.specs.declared.class_file.ClassFile.{ClassFile}
 use Rattle.jc_class.specs.declared.class_file.Member.{Member}
@@ -106,7 +106,7 @@ not_member pool e name is = absurd (none-some name is)
 
 class_no_member : (pool : PoolValue) (place : ℕ) (name : List ℕ) → class_name_of pool place ≡ Some name → member_of pool place ≡ None
 unfolding class_name_of member_of
-class_no_member pool place name is = by (entry_at pool place) is
+class_no_member pool place name is = by (entry_of pool place) is
   where
     by : (o : Option Entry) → (o >>= λ e. class_in e >>= λ n. utf8_of pool n) ≡ Some name → (o >>= member_in pool) ≡ None
     by None is = refl

@@ -28,6 +28,10 @@ found_in None None None = None
 unfoldable pub found_at : PoolValue → ℕ → Option Found
 found_at pool place = found_in (member_of pool place) (class_name_of pool place) (const_of pool place)
 
+-- this stands there
+abbrev pub StandsAt : PoolValue → ℕ → Found → Type 0
+StandsAt pool place found = found_at pool place ≡ Some found
+
 -- A field, a method, or a constant or a call that is linked at run time, by the tag of its entry (JVM
 -- Specification 4.4.2, 4.4.10).
 abbrev pub what_of_member : Member → What

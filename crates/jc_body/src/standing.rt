@@ -1,12 +1,13 @@
 //! What stands at the places in the pool that a body uses (JVM Specification 4.4, 4.9.1).
-ghost use Rattle.std.specs.Prelude.{◌≡◌, ◌↔◌, ◌≤◌, IfOk, IsTrue, option_map, IfSome};
+ghost use Rattle.std.specs.Prelude.{◌≡◌, ◌↔◌, ◌≤◌, IfOk, IfSome, IsTrue, Some, option_map};
+ghost use Rattle.jc_base.specs.Descriptor.{IsFieldDescriptor, IsMethodDescriptor};
 ghost use Rattle.jc_base.specs.WellMade.{HasShortTexts};
 ghost use Rattle.jc_base.specs.InsnUse.{IsOfTwoSlots, IsOneSlotConstant, IsTwoSlotConstant, IsMemberFor};
-ghost use Rattle.jc_pool.specs.Lookup.{member};
-ghost use Rattle.jc_body.specs.Standing.{found_at, what_of_member, what_of_constant, what_of, what_at, Meets, FoundSuits, HasRightEntry};
+ghost use Rattle.jc_pool.specs.Lookup.{member, member_of};
+ghost use Rattle.jc_body.specs.Standing.{of_member, found_at, what_of_member, what_of_constant, what_of, what_at, StandsAt, Meets, FoundSuits, HasRightEntry};
 ghost use Rattle.jc_body.specs.FoundView.{found};
 
-use jc_base::{Bytes, Insn, Memory, What, is_field_descriptor, is_method_descriptor};
+use jc_base::{Bytes, Insn, Memory, What};
 use jc_pool::{ConstText, MemberText, Pool};
 use std::alloc::Global;
 
@@ -93,14 +94,31 @@ fn is_of_two_slots(desc: &[u8]) -> bool
     matches!(desc, [b'J' | b'D'])
 }
 
-/// Whether what stands there is a constant that `ldc` loads.
-fn is_one_slot_constant(standing: &Standing<'_>) -> bool
+/// Whether the member that stands at the place has the descriptor of a field.
+fn has_field_descriptor(pool: &Pool, place: u16, m: &MemberText<'_>) -> bool
+    requires { StandsAt pool.now place (of_member (member m.now)) }
+    ensures { IsTrue result ↔ IsFieldDescriptor m.now.desc.now }
+{
+    pool.has_field_descriptor(place)
+}
+
+/// Whether the member that stands at the place has the descriptor of a method.
+fn has_method_descriptor(pool: &Pool, place: u16, m: &MemberText<'_>) -> bool
+    requires { StandsAt pool.now place (of_member (member m.now)) }
+    ensures { IsTrue result ↔ IsMethodDescriptor m.now.desc.now }
+{
+    pool.has_method_descriptor(place)
+}
+
+/// Whether what stands at the place is a constant that `ldc` loads.
+fn is_one_slot_constant(pool: &Pool, place: u16, standing: &Standing<'_>) -> bool
+    requires { StandsAt pool.now place (found standing.now) }
     ensures { IsTrue result ↔ Meets IsOneSlotConstant (what_of (found standing.now)) }
 {
     match standing {
         Standing::Member(m) => {
             let computed = m.tag == 17 && !is_of_two_slots(m.desc);
-            computed && is_field_descriptor(m.desc)
+            computed && has_field_descriptor(pool, place, m)
         }
         Standing::Class(_) => true,
         Standing::Constant(constant) => matches!(
@@ -125,35 +143,39 @@ fn is_two_slot_constant(standing: &Standing<'_>) -> bool
     }
 }
 
-/// Whether a member is what an instruction of this opcode, from `getstatic` to `invokestatic`, needs.
-fn is_member_for(major: u16, op: u8, m: &MemberText<'_>) -> bool
+/// Whether the member that stands at the place is what an instruction of this opcode, from
+/// `getstatic` to `invokestatic`, needs.
+fn is_member_for(major: u16, op: u8, pool: &Pool, place: u16, m: &MemberText<'_>) -> bool
+    requires { StandsAt pool.now place (of_member (member m.now)) }
     ensures { IsTrue result ↔ (IsMemberFor op (what_of_member (member m.now)) × (m.now.tag ≡ 11 → ((52 ≤ major) × (183 ≤ op)))) }
 {
     match m.tag {
-        9 => op <= 181 && is_field_descriptor(m.desc),
-        11 => op > 182 && (major >= 52 && is_method_descriptor(m.desc)),
+        9 => op <= 181 && has_field_descriptor(pool, place, m),
+        11 => op > 182 && (major >= 52 && has_method_descriptor(pool, place, m)),
         17 | 18 => false,
-        _ => op > 181 && is_method_descriptor(m.desc),
+        _ => op > 181 && has_method_descriptor(pool, place, m),
     }
 }
 
-/// Whether what stands there is of the kind that the instruction needs (JVM Specification 4.9.1).
-fn suits(major: u16, insn: &Insn, standing: &Standing<'_>) -> bool
+/// Whether what stands at the place is of the kind that the instruction needs (JVM Specification
+/// 4.9.1).
+fn suits(major: u16, insn: &Insn, pool: &Pool, place: u16, standing: &Standing<'_>) -> bool
+    requires { StandsAt pool.now place (found standing.now) }
     ensures { IsTrue result ↔ FoundSuits major insn.now (found standing.now) }
 {
     match insn {
-        Insn::Constant { .. } => is_one_slot_constant(standing),
+        Insn::Constant { .. } => is_one_slot_constant(pool, place, standing),
         Insn::Constant2 { .. } => is_two_slot_constant(standing),
         Insn::Member { op, .. } => match standing {
-            Standing::Member(m) => is_member_for(major, *op, m),
+            Standing::Member(m) => is_member_for(major, *op, pool, place, m),
             _ => false,
         },
         Insn::Interface { .. } => match standing {
-            Standing::Member(m) => m.tag == 11 && is_method_descriptor(m.desc),
+            Standing::Member(m) => m.tag == 11 && has_method_descriptor(pool, place, m),
             _ => false,
         },
         Insn::Dynamic { .. } => match standing {
-            Standing::Member(m) => m.tag == 18 && is_method_descriptor(m.desc),
+            Standing::Member(m) => m.tag == 18 && has_method_descriptor(pool, place, m),
             _ => false,
         },
         Insn::OfClass { .. } | Insn::Multi { .. } => matches!(standing, Standing::Class(_)),
@@ -169,7 +191,7 @@ pub fn has_right_entry(major: u16, pool: &Pool, insn: &Insn) -> bool
         None => true,
         Some(place) => match standing_at(pool, place) {
             None => false,
-            Some(standing) => suits(major, insn, &standing),
+            Some(standing) => suits(major, insn, pool, place, &standing),
         },
     }
 }

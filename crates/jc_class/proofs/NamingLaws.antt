@@ -1,23 +1,26 @@
--- What a place names, by the tests of the code and by the form of a class file.
-use Rattle.std.proofs.Common.{◌≡◌, ℕ, Bool, true, List, Option, Some, sym, ◌∙◌, ap}
+-- What a place names, by the answers of the pool and by the form of a class file.
+use Rattle.std.proofs.Common.{◌≡◌, Bool, true, false, List, ℕ, Option, None, Some, IsSomeAnd, IsTrue, ◌↔◌, refl}
 use Rattle.jc_base.specs.Modified.{IsModified}
 use Rattle.jc_base.specs.Descriptor.{IsFieldDescriptor, IsMethodDescriptor}
 use Rattle.jc_base.specs.Deciding.{is_modified_text, is_field_text, is_method_text}
 use Rattle.jc_base.proofs.DecidingLaws.{Decides, one_test, modified_decided, field_text_decided, method_text_decided}
 use Rattle.jc_class.specs.ItemReading.{passes}
 
--- what a call answered of a text that stands there
-abbrev Answers : Bool → Type 0 → Type 0
-Answers answer Fact = (answer ≡ true → Fact) × (Fact → answer ≡ true)
+-- the pool answered whether the fact holds of the text that stands there
+abbrev Answers : Bool → Option (List ℕ) → (List ℕ → Type 0) → Type 0
+Answers answer there Fact = IsTrue answer ↔ IsSomeAnd there Fact
 
-passes_there : (test : List ℕ → Bool) (there : Option (List ℕ)) (text : List ℕ) (Fact : Type 0) (answer : Bool) → Answers answer Fact → Decides (test text) Fact → there ≡ Some text → answer ≡ passes test there
-passes_there test there text Fact answer a d is = one_test answer (test text) Fact (record { to = a.0; back = a.1 }) d ∙ ap (passes test) (sym is)
+answers_test : (test : List ℕ → Bool) (Fact : List ℕ → Type 0) → ((text : List ℕ) → Decides (test text) (Fact text))
+    → (there : Option (List ℕ)) (answer : Bool) → Answers answer there Fact → answer ≡ passes test there
+answers_test test Fact d None true a = absurd (a.0 refl)
+answers_test test Fact d None false a = refl
+answers_test test Fact d (Some text) answer a = one_test answer (test text) (Fact text) (record { to = a.0; back = a.1 }) (d text)
 
-pub modified_there : (there : Option (List ℕ)) (text : List ℕ) (answer : Bool) → Answers answer (IsModified text) → there ≡ Some text → answer ≡ passes is_modified_text there
-modified_there there text answer a = passes_there is_modified_text there text (IsModified text) answer a (modified_decided text)
+pub modified_there : (there : Option (List ℕ)) (answer : Bool) → Answers answer there IsModified → answer ≡ passes is_modified_text there
+modified_there = answers_test is_modified_text IsModified modified_decided
 
-pub field_there : (there : Option (List ℕ)) (text : List ℕ) (answer : Bool) → Answers answer (IsFieldDescriptor text) → there ≡ Some text → answer ≡ passes is_field_text there
-field_there there text answer a = passes_there is_field_text there text (IsFieldDescriptor text) answer a (field_text_decided text)
+pub field_there : (there : Option (List ℕ)) (answer : Bool) → Answers answer there IsFieldDescriptor → answer ≡ passes is_field_text there
+field_there = answers_test is_field_text IsFieldDescriptor field_text_decided
 
-pub method_there : (there : Option (List ℕ)) (text : List ℕ) (answer : Bool) → Answers answer (IsMethodDescriptor text) → there ≡ Some text → answer ≡ passes is_method_text there
-method_there there text answer a = passes_there is_method_text there text (IsMethodDescriptor text) answer a (method_text_decided text)
+pub method_there : (there : Option (List ℕ)) (answer : Bool) → Answers answer there IsMethodDescriptor → answer ≡ passes is_method_text there
+method_there = answers_test is_method_text IsMethodDescriptor method_text_decided

@@ -4,10 +4,7 @@ ghost use Rattle.jc_base.specs.Decoder.{SameEnd};
 ghost use Rattle.jc_base.specs.Parsing.{Parses, item};
 ghost use Rattle.jc_class.specs.ItemReading.{has_class, names, number_if, magic_at};
 
-use jc_base::{
-    Fail, Reader, Refusal, is_field_descriptor, is_method_descriptor, is_modified, not_a_class,
-    u16_item, u32_item,
-};
+use jc_base::{Fail, Reader, Refusal, not_a_class, u16_item, u32_item};
 use jc_pool::Pool;
 
 /// What stands in front of every class file.
@@ -29,17 +26,14 @@ pub enum Named {
 }
 
 /// Whether a class stands at the place, by a name that is modified UTF-8.
-#[tactic(auto, unfolding(crate::specs::ItemReading::has_class))]
 fn has_class(pool: &Pool, place: u16) -> bool
     ensures { result ≡ has_class pool.now place }
 {
-    match pool.class_at(place) {
-        Ok(name) => is_modified(name),
-        Err(_) => false,
-    }
+    pool.is_class_name_modified(place)
 }
 
-/// Whether the place names what it has to name.
+/// Whether the place names what it has to name. The pool knows what its texts are, so that this
+/// looks at no text.
 #[tactic(auto, unfolding(crate::specs::ItemReading::names))]
 fn names(pool: &Pool, what: Named, place: u16) -> bool
     ensures { result ≡ names pool.now what place }
@@ -48,14 +42,8 @@ fn names(pool: &Pool, what: Named, place: u16) -> bool
         Named::Text => pool.utf8_at(place).is_ok(),
         Named::Class => has_class(pool, place),
         Named::ClassOrNone => place == 0 || has_class(pool, place),
-        Named::FieldDescriptor => match pool.utf8_at(place) {
-            Ok(text) => is_field_descriptor(text),
-            Err(_) => false,
-        },
-        Named::MethodDescriptor => match pool.utf8_at(place) {
-            Ok(text) => is_method_descriptor(text),
-            Err(_) => false,
-        },
+        Named::FieldDescriptor => pool.is_field_descriptor_at(place),
+        Named::MethodDescriptor => pool.is_method_descriptor_at(place),
     }
 }
 

@@ -96,7 +96,7 @@ fn put_interfaces(into: &mut Vec<u8>, interfaces: &[u16]) -> Result<(), Memory>
 }
 
 /// Puts a class file at the end.
-fn put_class(into: &mut Vec<u8>, class: &ClassFile) -> Result<(), Memory>
+fn put_class(alloc: Global, into: &mut Vec<u8>, class: &ClassFile) -> Result<(), Memory>
     requires { IsClassFile class.now }
     ensures text { OnOk result (Appends (λ text. ClassText text class.now) into.old.items into.new.items) }
     ensures bytes { OnOk result (AreBytes into.new.items) }
@@ -104,7 +104,7 @@ fn put_class(into: &mut Vec<u8>, class: &ClassFile) -> Result<(), Memory>
     put_u32(into, MAGIC)?;
     put_u16(into, class.minor)?;
     put_u16(into, class.major)?;
-    class.pool.write(into)?;
+    class.pool.write(alloc, into)?;
     put_u16(into, class.flags)?;
     put_u16(into, class.this_class)?;
     put_u16(into, class.super_class)?;
@@ -130,6 +130,6 @@ pub fn write_class(alloc: Global, class: &ClassFile) -> Result<Vec<u8>, Memory>
     ensures back { (text : List ℕ) → AreBytes text → ClassText text class.now → IfOk result (λ bytes. bytes.items ≡ text) }
 {
     let mut bytes = Vec::new(alloc);
-    put_class(&mut bytes, class)?;
+    put_class(alloc, &mut bytes, class)?;
     Ok(bytes)
 }

@@ -11,7 +11,7 @@ use Rattle.jc_pool.specs.declared.entry.Entry.{Entry}
 use Rattle.jc_pool.specs.declared.entry.Entry.TheVariants as entry
 use Rattle.jc_pool.specs.Pool.{is_wide}
 use Rattle.jc_pool.specs.EntryFormat.{IsSigned, IsUtf8, ArePlaces, IsHandle, IsInfo, tag_of, IsEntry}
-use Rattle.jc_pool.specs.EntryReading.{count_at, with_left, utf8_at, integer_at, float_at, long_at, double_at, of_place, place_at, of_places, places_at, handle_at, info_at, entry_at, narrow_only, narrow_at}
+use Rattle.jc_pool.specs.EntryReading.{count_at, with_left, utf8_at, integer_at, float_at, long_at, double_at, of_place, naming_one_at, of_places, naming_two_at, handle_at, info_at, entry_at, narrow_only, narrow_at}
 
 abbrev pub and_left : {A : Type 0} → A → List ℕ → Option (A × List ℕ)
 and_left x left = Some (x, left)
@@ -141,8 +141,8 @@ chosen_two tag a b e read =
     none : None ≡ Some e → ⊥
     none h = cc
 
-found_one : (tag : ℕ) (left : List ℕ) (e : Entry) (rest : List ℕ) → place_at tag left ≡ Some (e, rest) → Found tag left e rest
-unfolding place_at
+found_one : (tag : ℕ) (left : List ℕ) (e : Entry) (rest : List ℕ) → naming_one_at tag left ≡ Some (e, rest) → Found tag left e rest
+unfolding naming_one_at
 found_one tag left e rest read =
     let b = bind_some (number_at 2 left) (λ a. with_left a.1 (of_place tag a.0)) (e, rest) read in
     let t = number_takes 2 left b.0.0 b.0.1 b.1 in
@@ -150,8 +150,8 @@ found_one tag left e rest read =
     let c = chosen_one tag b.0.0 e w.0 in
     record { info = t.0; parts = t.1 ∙ ap (λ (l : List ℕ). t.0 ++ l) w.1; tag_is = c.tag_is; spells = c.spelled t.0 t.2 }
 
-found_two : (tag : ℕ) (left : List ℕ) (e : Entry) (rest : List ℕ) → places_at tag left ≡ Some (e, rest) → Found tag left e rest
-unfolding places_at
+found_two : (tag : ℕ) (left : List ℕ) (e : Entry) (rest : List ℕ) → naming_two_at tag left ≡ Some (e, rest) → Found tag left e rest
+unfolding naming_two_at
 found_two tag left e rest read =
     let a = bind_some (number_at 2 left) _ (e, rest) read in
     let b = bind_some (number_at 2 a.0.1) (λ b. with_left b.1 (of_places tag a.0.0 b.0)) (e, rest) a.2 in
@@ -239,16 +239,16 @@ again_handle info rest kind reference is =
     ∙ ap (λ (r : Option (ℕ × List ℕ)). r >>= λ k. number_at 2 k.1 >>= λ reference. and_left (entry.MethodHandle k.0 reference.0) reference.1) (byte_again kind (is.back ++ rest))
     ∙ again_number 2 (λ x. entry.MethodHandle kind x) is.back rest reference is.right
 
-again_one : (tag a : ℕ) (e : Entry) (info rest : List ℕ) → of_place tag a ≡ Some e → IsBig 2 info a → place_at tag (info ++ rest) ≡ Some (e, rest)
-unfolding place_at
+again_one : (tag a : ℕ) (e : Entry) (info rest : List ℕ) → of_place tag a ≡ Some e → IsBig 2 info a → naming_one_at tag (info ++ rest) ≡ Some (e, rest)
+unfolding naming_one_at
 again_one tag a e info rest is big =
     ap (λ (r : Option (ℕ × List ℕ)). r >>= λ a. with_left a.1 (of_place tag a.0)) (number_again 2 info rest a big)
     ∙ ap (with_left rest) is
 
-again_two : (tag a b : ℕ) (e : Entry) (info rest : List ℕ) → of_places tag a b ≡ Some e → ArePlaces info a b → places_at tag (info ++ rest) ≡ Some (e, rest)
-unfolding places_at
+again_two : (tag a b : ℕ) (e : Entry) (info rest : List ℕ) → of_places tag a b ≡ Some e → ArePlaces info a b → naming_two_at tag (info ++ rest) ≡ Some (e, rest)
+unfolding naming_two_at
 again_two tag a b e info rest is two =
-    ap (places_at tag) (ap (λ (l : List ℕ). l ++ rest) two.parts ∙ append_assoc two.front two.back rest)
+    ap (naming_two_at tag) (ap (λ (l : List ℕ). l ++ rest) two.parts ∙ append_assoc two.front two.back rest)
     ∙ ap (λ (r : Option (ℕ × List ℕ)). r >>= λ a. number_at 2 a.1 >>= λ b. with_left b.1 (of_places tag a.0 b.0)) (number_again 2 two.front (two.back ++ rest) a two.left)
     ∙ ap (λ (r : Option (ℕ × List ℕ)). r >>= λ b. with_left b.1 (of_places tag a b.0)) (number_again 2 two.back rest b two.right)
     ∙ ap (with_left rest) is

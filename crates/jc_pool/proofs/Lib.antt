@@ -4,5 +4,4 @@ pub mod PoolLaws
 pub mod WritingLaws
 pub mod TextLaws
 pub mod OneTextLaws
-pub mod EqualLaws
-pub mod SlotsLaws
+pub mod ClassNameLaws

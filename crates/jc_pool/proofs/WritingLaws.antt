@@ -1,16 +1,15 @@
 -- What is appended in parts.
-use Rattle.std.proofs.Common.{◌≡◌, ℕ, zero, suc, ◌+◌, ◌-◌, ◌<◌, ◌≤◌, Bool, List, [], ◌∷◌, ◌++◌, length, drop, Option, Some, None, IfSome, option_copied, Bor, Result, Ok, Err, refl, sym, ◌∙◌, ap, subst, arith, append_assoc}
-use Rattle.std.proofs.lemmas.List.{append-nil, drop_all, drop_more}
+use Rattle.std.proofs.Common.{◌≡◌, ℕ, zero, suc, ◌+◌, ◌-◌, ◌<◌, ◌≤◌, Bool, List, [], ◌∷◌, ◌++◌, length, drop, get_or, Option, Some, None, IfSome, option_copied, Bor, refl, sym, ◌∙◌, ap, subst, arith, append_assoc}
+use Rattle.std.proofs.lemmas.List.{append-nil, drop_all}
+use Rattle.jc_base.proofs.AppendingLaws.{drop_is}
 use Rattle.jc_base.specs.Decoder.{IsBig}
-use Rattle.std.specs.Result.{OnOk}
 use Rattle.jc_base.specs.Grammar.{Grammar}
-use Rattle.jc_base.specs.declared.fail.Memory.{Memory}
 use Rattle.jc_pool.specs.declared.entry.Entry.{Entry}
 use Rattle.jc_pool.specs.Pool.{PoolValue, IsSmall, IsFilled, IsPool}
-use Rattle.jc_pool.specs.Lookup.{entry_at}
+use Rattle.jc_pool.specs.Lookup.{entry_of}
 use Rattle.jc_pool.specs.PoolGrammar.{by_size, behind, places, pool}
 use Rattle.jc_base.specs.Appending.{Appends}
-use Rattle.jc_pool.specs.Writing.{Grows, SpellsSlot, SpellsSlots, IsSmallSlot, AreSmall}
+use Rattle.jc_pool.specs.Writing.{SpellsSlot, SpellsSlots, IsSmallSlot, AreSmall}
 
 -- two parts, one behind the other
 pub appends_both : (A B C : List ℕ → Type 0) → ((a b : List ℕ) → A a → B b → C (a ++ b)) → (old mid new : List ℕ) → Appends A old mid → Appends B mid new → Appends C old new
@@ -20,33 +19,28 @@ appends_both A B C joined old mid new p q = record {
   spells = joined p.text q.text p.spells q.spells;
 }
 
-pub grows_both : (old mid new : List ℕ) → Grows old mid → Grows mid new → Grows old new
-grows_both old mid new p q = (p.0 ++ q.0, q.1 ∙ ap (λ (l : List ℕ). l ++ q.0) p.1 ∙ append_assoc old p.0 q.0)
-
 -- ---- the places of a pool
 
 -- whatever spells the places that are left completes the text of all of them
 pub record Writing (all rest : List (Option Entry)) (old now : List ℕ) : Type 0 where
   pub completes : (tail : List ℕ) → SpellsSlots tail rest → Appends (λ text. SpellsSlots text all) old (now ++ tail)
-  pub grows : Grows old now
   pub small : AreSmall rest
 
-next_slot : (all : PoolValue) (k : ℕ) (slot : Option Entry) → k < length all → slot ≡ entry_at all k → drop k all ≡ slot ∷ drop (k + 1) all
-next_slot all k slot lt is = drop_more all k None lt ∙ ap (λ (s : Option Entry). s ∷ drop (k + 1) all) (sym is)
+pub writing_begun : (all : PoolValue) (old : List ℕ) → AreSmall all → Writing all all old old
+writing_begun all old small = record { completes = λ tail spells. record { text = tail; parts = refl; spells = spells }; small = small }
 
-pub next_small : (all : PoolValue) (k : ℕ) (slot : Option Entry) (old now : List ℕ) → k < length all → slot ≡ entry_at all k → Writing all (drop k all) old now → IsSmallSlot slot
-next_small all k slot old now lt is w = (subst AreSmall (next_slot all k slot lt is) w.small).0
+pub next_small : (all : PoolValue) (k : ℕ) (slot : Option Entry) (old now : List ℕ) → k < length all → slot ≡ get_or all k slot → Writing all (drop k all) old now → IsSmallSlot slot
+next_small all k slot old now lt is w = (subst AreSmall (drop_is all k slot lt is) w.small).0
 
-pub writes_more : (all : PoolValue) (k : ℕ) (slot : Option Entry) (old now next : List ℕ) → k < length all → slot ≡ entry_at all k → Appends (λ text. SpellsSlot text slot) now next
+pub writes_more : (all : PoolValue) (k : ℕ) (slot : Option Entry) (old now next : List ℕ) → k < length all → slot ≡ get_or all k slot → Appends (λ text. SpellsSlot text slot) now next
     → Writing all (drop k all) old now → Writing all (drop (k + 1) all) old next
-writes_more all k slot old now next lt is a w = more (subst (λ (l : PoolValue). Writing all l old now) (next_slot all k slot lt is) w)
+writes_more all k slot old now next lt is a w = more (subst (λ (l : PoolValue). Writing all l old now) (drop_is all k slot lt is) w)
   where
     more : Writing all (slot ∷ drop (k + 1) all) old now → Writing all (drop (k + 1) all) old next
     more w = record {
       completes = λ tail spells.
           let whole = w.completes (a.text ++ tail) (a.text, tail, refl, a.spells, spells) in
           subst (Appends (λ text. SpellsSlots text all) old) (sym (append_assoc now a.text tail) ∙ ap (λ (l : List ℕ). l ++ tail) (sym a.parts)) whole;
-      grows = grows_both old now next w.grows (a.text, a.parts);
       small = w.small.1;
     }
 
@@ -116,20 +110,21 @@ pool_text (None ∷ rest) count text is big spells =
     )
 pool_text (Some e ∷ rest) count text is big spells = absurd is
 
-pub appends_pool : (r : Result (Unit {0}) Memory) (seen slots : PoolValue) (n : ℕ) (old mid new : List ℕ) → seen ≡ slots → n ≡ length seen → IsPool slots → Appends (λ count. IsBig 2 count n) old mid
-    → OnOk r (Appends (λ text. SpellsSlots text seen) mid new) → OnOk r (Appends (λ text. pool.Text text slots) old new)
-appends_pool (Ok done) seen slots n old mid new same size is count places =
+pub pool_written : (seen slots : PoolValue) (n : ℕ) (old mid new : List ℕ) → old ≡ [] → seen ≡ slots → n ≡ length slots → IsPool slots
+    → Appends (λ count. IsBig 2 count n) old mid → Appends (λ text. SpellsSlots text seen) mid new → pool.Text new slots
+pool_written seen slots n old mid new none same size is count places =
+    let whole : Appends (λ text. pool.Text text slots) old new =
     appends_both (λ count. IsBig 2 count (length slots)) (λ text. SpellsSlots text slots) (λ text. pool.Text text slots) (λ a b p q. pool_text slots a b is p q) old mid new
-    (subst (λ (k : ℕ). Appends (λ count. IsBig 2 count k) old mid) (size ∙ ap length same) count)
-    (subst (λ (l : PoolValue). Appends (λ text. SpellsSlots text l) mid new) same places)
-appends_pool (Err memory) seen slots n old mid new same size is count places = tt
+    (subst (λ (k : ℕ). Appends (λ count. IsBig 2 count k) old mid) size count)
+    (subst (λ (l : PoolValue). Appends (λ text. SpellsSlots text l) mid new) same places) in
+    subst (λ (l : List ℕ). pool.Text l slots) (sym (whole.parts ∙ ap (λ (l : List ℕ). l ++ whole.text) none)) whole.spells
 
 -- an entry that stands in a pool is small
-pub entry_small : (slots : List (Option Entry)) → AreSmall slots → (place : ℕ) (e : Entry) → entry_at slots place ≡ Some e → IsSmall e
+pub entry_small : (slots : List (Option Entry)) → AreSmall slots → (place : ℕ) (e : Entry) → entry_of slots place ≡ Some e → IsSmall e
 entry_small [] small place e is = absurd cc
 entry_small (slot ∷ rest) small zero e is = subst IsSmallSlot is small.0
 entry_small (slot ∷ rest) small (suc place) e is = entry_small rest small.1 place e is
 
-pub found_small : (slots : PoolValue) → IsPool slots → (place : ℕ) (found : Option (Bor Entry)) → option_copied found ≡ entry_at slots place → IfSome found (λ e. IsSmall e.now)
+pub found_small : (slots : PoolValue) → IsPool slots → (place : ℕ) (found : Option (Bor Entry)) → option_copied found ≡ entry_of slots place → IfSome found (λ e. IsSmall e.now)
 found_small slots is place None at = tt
 found_small slots is place (Some e) at = entry_small slots (pool_small slots is) place e.now (sym at)

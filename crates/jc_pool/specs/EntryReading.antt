@@ -54,8 +54,8 @@ of_place tag a =
     else if tag == 20 then Some (entry.Package a)
     else None
 
-unfoldable pub place_at : ℕ → List ℕ → Option (Entry × List ℕ)
-place_at tag left = do
+unfoldable pub naming_one_at : ℕ → List ℕ → Option (Entry × List ℕ)
+naming_one_at tag left = do
   a ← number_at 2 left
   with_left a.1 (of_place tag a.0)
 
@@ -70,8 +70,8 @@ of_places tag a b =
     else if tag == 18 then Some (entry.InvokeDynamic a b)
     else None
 
-unfoldable pub places_at : ℕ → List ℕ → Option (Entry × List ℕ)
-places_at tag left = do
+unfoldable pub naming_two_at : ℕ → List ℕ → Option (Entry × List ℕ)
+naming_two_at tag left = do
   a ← number_at 2 left
   b ← number_at 2 a.1
   with_left b.1 (of_places tag a.0 b.0)
@@ -91,8 +91,8 @@ info_at tag left =
     else if tag == 5 then long_at left
     else if tag == 6 then double_at left
     else if tag == 15 then handle_at left
-    else if tag == 7 || tag == 8 || tag == 16 || tag == 19 || tag == 20 then place_at tag left
-    else places_at tag left
+    else if tag == 7 || tag == 8 || tag == 16 || tag == 19 || tag == 20 then naming_one_at tag left
+    else naming_two_at tag left
 
 unfoldable pub entry_at : List ℕ → Option (Entry × List ℕ)
 entry_at left = do

@@ -1,3 +1,4 @@
+pub mod TextForms
 pub mod Pool
 pub mod EntryFormat
 pub mod PoolGrammar
@@ -6,4 +7,3 @@ pub mod PoolReading
 pub mod Lookup
 pub mod Writing
 pub mod Text
-pub mod Slots

@@ -1,16 +1,18 @@
 -- What the places of a constant pool name (JVM Specification 4.4).
-use Rattle.std.specs.Prelude.{ℕ, List, [], slice_index_or, Option, Some, None}
+use Rattle.std.specs.Prelude.{◌≡◌, ◌≢◌, ℕ, ◌<◌, List, [], slice_index_or, Option, Some, None}
 use Rattle.jc_base.specs.Decoder.{◌>>=◌}
+use Rattle.jc_base.specs.ShortText.{IsShort}
 use Rattle.jc_pool.specs.declared.entry.Entry.{Entry}
 use Rattle.jc_pool.specs.declared.entry.Entry.TheVariants as entry
 use Rattle.jc_pool.specs.declared.constant.ConstText.{ConstText}
 use Rattle.jc_pool.specs.declared.constant.ConstText.TheVariants as constant
+use Rattle.jc_pool.specs.declared.lookup.JudgedMember.{JudgedMember}
 use Rattle.jc_pool.specs.declared.lookup.MemberText.{MemberText}
 use Rattle.jc_pool.specs.Pool.{PoolValue}
 
 -- the entry at a place
-abbrev pub entry_at : PoolValue → ℕ → Option Entry
-entry_at pool place = slice_index_or pool place None
+abbrev pub entry_of : PoolValue → ℕ → Option Entry
+entry_of pool place = slice_index_or pool place None
 
 -- ---- text
 
@@ -20,7 +22,7 @@ utf8_in _ = None
 
 -- the bytes of a Utf8 entry (JVM Specification 4.4.7)
 unfoldable pub utf8_of : PoolValue → ℕ → Option (List ℕ)
-utf8_of pool place = entry_at pool place >>= utf8_in
+utf8_of pool place = entry_of pool place >>= utf8_in
 
 abbrev pub class_in : Entry → Option ℕ
 class_in (entry.Class name) = Some name
@@ -29,9 +31,14 @@ class_in _ = None
 -- the name of a Class entry, which has to be a Utf8 entry (JVM Specification 4.4.1)
 unfoldable pub class_name_of : PoolValue → ℕ → Option (List ℕ)
 class_name_of pool place = do
-  e ← entry_at pool place
+  e ← entry_of pool place
   name ← class_in e
   utf8_of pool name
+
+-- the first place of a Class entry of this name
+pub record IsFirstClass (pool : PoolValue) (name : List ℕ) (place : ℕ) : Type 0 where
+  pub stands : class_name_of pool place ≡ Some name
+  pub before : (earlier : ℕ) → earlier < place → class_name_of pool earlier ≢ Some name
 
 -- ---- members
 
@@ -47,7 +54,7 @@ signature_in _ = None
 -- the texts of a NameAndType entry, which have to be Utf8 entries (JVM Specification 4.4.6)
 unfoldable pub signature_of : PoolValue → ℕ → Option Signature
 signature_of pool place = do
-  e ← entry_at pool place
+  e ← entry_of pool place
   parts ← signature_in e
   name ← utf8_of pool parts.0
   desc ← utf8_of pool parts.1
@@ -63,6 +70,15 @@ pub record Member : Type 0 where
 -- the texts of a member
 abbrev pub member : MemberText → Member
 member m = record { tag = m.tag; class = m.class.now; name = m.name.now; desc = m.desc.now }
+
+abbrev pub judged_member : JudgedMember → Member
+judged_member m = record { tag = m.tag; class = m.class.now; name = m.name.now; desc = m.desc.now }
+
+-- each text fits into a Utf8 entry
+pub record HasShortTexts (m : Member) : Type 0 where
+  pub class : IsShort m.class
+  pub name : IsShort m.name
+  pub desc : IsShort m.desc
 
 -- a member of a class: the class has to be a Class entry, the rest a NameAndType entry (JVM Specification 4.4.2)
 unfoldable pub ref_of : PoolValue → ℕ → ℕ → ℕ → Option Member
@@ -86,7 +102,7 @@ ref_in pool _ = None
 
 -- the field or the method at a place
 unfoldable pub reference_of : PoolValue → ℕ → Option Member
-reference_of pool place = entry_at pool place >>= ref_in pool
+reference_of pool place = entry_of pool place >>= ref_in pool
 
 -- a member, or a constant or a call that is linked at run time
 abbrev pub member_in : PoolValue → Entry → Option Member
@@ -96,7 +112,7 @@ member_in pool e = ref_in pool e
 
 -- the member that the entry at a place names
 unfoldable pub member_of : PoolValue → ℕ → Option Member
-member_of pool place = entry_at pool place >>= member_in pool
+member_of pool place = entry_of pool place >>= member_in pool
 
 -- ---- constants
 
@@ -120,4 +136,4 @@ const_in pool _ = None
 
 -- the constant at a place
 unfoldable pub const_of : PoolValue → ℕ → Option ConstText
-const_of pool place = entry_at pool place >>= const_in pool
+const_of pool place = entry_of pool place >>= const_in pool

@@ -16,5 +16,9 @@ places_at (suc zero) left = item narrow_at left >>= λ e. Good (Some e.0 ∷ [])
 places_at (suc (suc n)) left = item entry_at left >>= λ e.
     if is_wide e.0 then put_behind (Some e.0 ∷ None ∷ []) (places_at n e.1) else put_behind (Some e.0 ∷ []) (places_at (suc n) e.1)
 
+-- nothing at place 0, and the entries at the places below the count
+abbrev pub filled_at : ℕ → List ℕ → Parsed PoolValue
+filled_at count left = put_behind (None ∷ []) (places_at (count - 1) left)
+
 unfoldable pub pool_at : List ℕ → Parsed PoolValue
-pool_at left = item count_at left >>= λ n. put_behind (None ∷ []) (places_at (n.0 - 1) n.1)
+pool_at left = item count_at left >>= λ n. filled_at n.0 n.1

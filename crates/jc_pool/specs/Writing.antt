@@ -4,10 +4,6 @@ use Rattle.jc_pool.specs.declared.entry.Entry.{Entry}
 use Rattle.jc_pool.specs.Pool.{IsSmall}
 use Rattle.jc_pool.specs.EntryFormat.{IsEntry}
 
--- new is old with something at its end
-abbrev pub Grows : List ℕ → List ℕ → Type 0
-Grows old new = (more : List ℕ) × (new ≡ old ++ more)
-
 -- the text of what stands at a place
 abbrev pub SpellsSlot : List ℕ → Option Entry → Type 0
 SpellsSlot text None = text ≡ []

@@ -1,13 +1,13 @@
 //! The entries of a constant pool (JVM Specification 4.4).
 ghost use Rattle.std.specs.Prelude.{◌≡◌};
 
-use jc_base::Bytes;
+use crate::judged_text::JudgedText;
 
 /// An entry of a constant pool. Numbers other than values are places in the pool.
-#[derive(Debug, PartialEq, Eq, Hash, Drop)]
+#[derive(Debug, Drop)]
 pub enum Entry {
     /// Text, in modified UTF-8 where it is used as text (JVM Specification 4.4.7).
-    Utf8(Bytes),
+    Utf8(JudgedText),
     /// An int (JVM Specification 4.4.4).
     Integer(i32),
     /// The bits of a float (JVM Specification 4.4.4).

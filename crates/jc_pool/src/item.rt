@@ -3,10 +3,11 @@ ghost use Rattle.std.specs.Prelude.{◌≡◌, ◌+◌, ◌<◌, ◌≤◌, IfOk
 ghost use Rattle.jc_base.specs.Decoder.{Gives, SameEnd};
 ghost use Rattle.jc_base.specs.Parsing.{Parses, item};
 ghost use Rattle.jc_pool.specs.Pool.{IsSmall, width};
-ghost use Rattle.jc_pool.specs.EntryReading.{count_at, utf8_at, integer_at, float_at, long_at, double_at, of_place, place_at, of_places, places_at, handle_at, info_at, entry_at, fitting_at};
+ghost use Rattle.jc_pool.specs.EntryReading.{count_at, utf8_at, integer_at, float_at, long_at, double_at, of_place, naming_one_at, of_places, naming_two_at, handle_at, info_at, entry_at, fitting_at};
 
 use crate::entry::Entry;
-use jc_base::{Bytes, Fail, Reader, Refusal, Unfit, not_a_class};
+use crate::judged_text::JudgedText;
+use jc_base::{Fail, Reader, Refusal, Unfit, not_a_class};
 use std::alloc::Global;
 
 /// The pool's count, which is above 0.
@@ -34,7 +35,7 @@ fn utf8(alloc: Global, reader: &mut Reader<'_>) -> Result<Entry, Fail<Unfit>>
 {
     let size = reader.u16()?;
     let piece = reader.take(u32::from(size))?;
-    Ok(Entry::Utf8(Bytes::copy_of(alloc, piece)?))
+    Ok(Entry::Utf8(JudgedText::of(alloc, piece)?))
 }
 
 #[tactic(auto, unfolding(crate::specs::EntryReading::integer_at))]
@@ -94,9 +95,9 @@ fn of_place(tag: u8, place: u16) -> Option<Entry>
     }
 }
 
-#[tactic(auto, unfolding(crate::specs::EntryReading::place_at))]
+#[tactic(auto, unfolding(crate::specs::EntryReading::naming_one_at))]
 fn naming_one(reader: &mut Reader<'_>, tag: u8) -> Result<Entry, Fail<Unfit>>
-    ensures gives { Gives (λ e. e) result reader.new.left (place_at tag reader.old.left) }
+    ensures gives { Gives (λ e. e) result reader.new.left (naming_one_at tag reader.old.left) }
     ensures small { IfOk result IsSmall }
     ensures end { SameEnd reader.old reader.new }
     ensures later { reader.old.place ≤ reader.new.place }
@@ -139,9 +140,9 @@ fn of_places(tag: u8, first: u16, second: u16) -> Option<Entry>
     }
 }
 
-#[tactic(auto, unfolding(crate::specs::EntryReading::places_at))]
+#[tactic(auto, unfolding(crate::specs::EntryReading::naming_two_at))]
 fn naming_two(reader: &mut Reader<'_>, tag: u8) -> Result<Entry, Fail<Unfit>>
-    ensures gives { Gives (λ e. e) result reader.new.left (places_at tag reader.old.left) }
+    ensures gives { Gives (λ e. e) result reader.new.left (naming_two_at tag reader.old.left) }
     ensures small { IfOk result IsSmall }
     ensures end { SameEnd reader.old reader.new }
     ensures later { reader.old.place ≤ reader.new.place }

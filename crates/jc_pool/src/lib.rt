@@ -5,10 +5,10 @@
 mod constant;
 mod entry;
 mod item;
+mod judged_text;
 mod laws;
 mod lookup;
 mod pool;
-mod slots;
 mod text;
 mod write;
 

@@ -1,8 +1,12 @@
 //! What the places of a pool name.
-ghost use Rattle.std.specs.Prelude.{◌≡◌, ◌↔◌, ◌<◌, [], Some, None, length, IfOk, IsErr, is_some};
-ghost use Rattle.jc_pool.specs.Lookup.{utf8_of, class_name_of, signature_of, member, ref_of, dynamic_of, ref_in, reference_of, member_of, const_in, const_of};
+ghost use Rattle.std.specs.Prelude.{◌≡◌, ◌≢◌, ◌↔◌, [], ℕ, Some, None, IfOk, IfSome, IfNone, IsErr, IsSomeAnd, IsTrue, is_some};
+ghost use Rattle.jc_base.specs.Descriptor.{IsFieldDescriptor, IsMethodDescriptor};
+ghost use Rattle.jc_base.specs.Modified.{IsModified};
+ghost use Rattle.jc_base.specs.ShortText.{IsShort};
+ghost use Rattle.jc_pool.specs.Lookup.{utf8_of, class_name_of, IsFirstClass, signature_of, member, judged_member, HasShortTexts, ref_of, dynamic_of, ref_in, reference_of, member_of, const_in, const_of};
 
 use crate::entry::Entry;
+use crate::judged_text::JudgedText;
 use crate::{ConstText, Pool};
 
 /// The place has no entry of the kind that was asked for, or the entry names one that isn't of the
@@ -23,22 +27,77 @@ pub struct MemberText<'a> {
     pub desc: &'a [u8],
 }
 
+/// What an entry names as a field, a method or a dynamic constant or call, with the forms that its
+/// descriptor has.
+#[derive(Clone, Copy)]
+struct JudgedMember<'a> {
+    tag: u8,
+    class: &'a [u8],
+    name: &'a [u8],
+    desc: &'a JudgedText,
+}
+
 impl Pool {
+    /// The text of the Utf8 entry at a place.
+    #[tactic(auto, unfolding(crate::specs::Lookup::utf8_of))]
+    fn text_at(&self, place: u16) -> Result<&JudgedText, BadIndex>
+        ensures text { IfOk result (λ text. utf8_of self.now place ≡ Some text.now) }
+        ensures size { IfOk result (λ text. IsShort text.now) }
+        ensures bad { IsErr result ↔ (utf8_of self.now place ≡ None) }
+    {
+        match self.entry(place) {
+            Some(Entry::Utf8(text)) => Ok(text),
+            _ => Err(BadIndex),
+        }
+    }
+
     /// The bytes of the Utf8 entry at a place (JVM Specification 4.4.7). They need not be modified
     /// UTF-8.
     ///
     /// # Errors
     ///
     /// `BadIndex` exactly where no Utf8 entry stands at the place.
-    #[tactic(auto, unfolding(crate::specs::Lookup::utf8_of))]
     pub fn utf8_at(&self, place: u16) -> Result<&[u8], BadIndex>
         ensures text { IfOk result (λ text. utf8_of self.now place ≡ Some text.now) }
-        ensures size { IfOk result (λ text. length text.now < 65536) }
+        ensures size { IfOk result (λ text. IsShort text.now) }
         ensures bad { IsErr result ↔ (utf8_of self.now place ≡ None) }
     {
-        match self.entry(place) {
-            Some(Entry::Utf8(text)) => Ok(text.as_slice()),
-            _ => Err(BadIndex),
+        match self.text_at(place) {
+            Ok(text) => Ok(text.as_slice()),
+            Err(bad) => Err(bad),
+        }
+    }
+
+    /// Whether a Utf8 entry stands at a place whose text is modified UTF-8 (JVM Specification
+    /// 4.4.7). This looks at no byte of the text.
+    pub fn is_modified_at(&self, place: u16) -> bool
+        ensures { IsTrue result ↔ IsSomeAnd (utf8_of self.now place) IsModified }
+    {
+        match self.text_at(place) {
+            Ok(text) => text.is_modified(),
+            Err(_) => false,
+        }
+    }
+
+    /// Whether a Utf8 entry stands at a place whose text is the descriptor of a field (JVM
+    /// Specification 4.3.2). This looks at no byte of the text.
+    pub fn is_field_descriptor_at(&self, place: u16) -> bool
+        ensures { IsTrue result ↔ IsSomeAnd (utf8_of self.now place) IsFieldDescriptor }
+    {
+        match self.text_at(place) {
+            Ok(text) => text.is_field_descriptor(),
+            Err(_) => false,
+        }
+    }
+
+    /// Whether a Utf8 entry stands at a place whose text is the descriptor of a method (JVM
+    /// Specification 4.3.3). This looks at no byte of the text.
+    pub fn is_method_descriptor_at(&self, place: u16) -> bool
+        ensures { IsTrue result ↔ IsSomeAnd (utf8_of self.now place) IsMethodDescriptor }
+    {
+        match self.text_at(place) {
+            Ok(text) => text.is_method_descriptor(),
+            Err(_) => false,
         }
     }
 
@@ -52,6 +111,7 @@ impl Pool {
     #[tactic(auto, unfolding(crate::specs::Lookup::class_name_of))]
     pub fn class_at(&self, place: u16) -> Result<&[u8], BadIndex>
         ensures name { IfOk result (λ name. class_name_of self.now place ≡ Some name.now) }
+        ensures size { IfOk result (λ name. IsShort name.now) }
         ensures bad { IsErr result ↔ (class_name_of self.now place ≡ None) }
     {
         match self.entry(place) {
@@ -60,16 +120,54 @@ impl Pool {
         }
     }
 
+    /// Whether a Class entry stands at a place whose name is modified UTF-8 (JVM Specification
+    /// 4.4.1, 4.4.7). This looks at no byte of the name.
+    #[tactic(auto, unfolding(crate::specs::Lookup::class_name_of))]
+    pub fn is_class_name_modified(&self, place: u16) -> bool
+        ensures { IsTrue result ↔ IsSomeAnd (class_name_of self.now place) IsModified }
+    {
+        match self.entry(place) {
+            Some(Entry::Class { name }) => self.is_modified_at(*name),
+            _ => false,
+        }
+    }
+
+    /// Whether a Class entry of this name stands at a place.
+    fn is_class_named(&self, place: u16, name: &[u8]) -> bool
+        ensures { IsTrue result ↔ (class_name_of self.now place ≡ Some name.now) }
+    {
+        match self.class_at(place) {
+            Ok(found) => found == name,
+            Err(_) => false,
+        }
+    }
+
+    /// The first place of a Class entry of this name (JVM Specification 4.4.1), exactly where there
+    /// is one.
+    pub fn find_class(&self, name: &[u8]) -> Option<u16>
+        ensures first { IfSome result (IsFirstClass self.now name.now) }
+        ensures none { IfNone result ((place : ℕ) → class_name_of self.now place ≢ Some name.now) }
+    {
+        'finding: for place in 0..self.count() {
+            if self.is_class_named(place, name) {
+                return Some(place);
+            }
+        }
+        None
+    }
+
     /// The name and the descriptor of the NameAndType entry at a place (JVM Specification 4.4.6).
     #[tactic(auto, unfolding(crate::specs::Lookup::signature_of))]
-    fn signature(&self, place: u16) -> Result<(&[u8], &[u8]), BadIndex>
+    fn signature(&self, place: u16) -> Result<(&[u8], &JudgedText), BadIndex>
         ensures texts { IfOk result (λ s. signature_of self.now place ≡ Some (record { name = s.0.now; desc = s.1.now })) }
+        ensures name { IfOk result (λ s. IsShort s.0.now) }
+        ensures desc { IfOk result (λ s. IsShort s.1.now) }
         ensures bad { IsErr result ↔ (signature_of self.now place ≡ None) }
     {
         match self.entry(place) {
             Some(Entry::NameAndType { name, descriptor }) => {
                 let name = self.utf8_at(*name)?;
-                let desc = self.utf8_at(*descriptor)?;
+                let desc = self.text_at(*descriptor)?;
                 Ok((name, desc))
             }
             _ => Err(BadIndex),
@@ -78,13 +176,19 @@ impl Pool {
 
     /// The texts of a member of a class, whose entry has this tag.
     #[tactic(auto, unfolding(crate::specs::Lookup::ref_of))]
-    fn reference(&self, tag: u8, class: u16, name_and_type: u16) -> Result<MemberText<'_>, BadIndex>
-        ensures texts { IfOk result (λ m. ref_of self.now tag class name_and_type ≡ Some (member m)) }
+    fn reference(
+        &self,
+        tag: u8,
+        class: u16,
+        name_and_type: u16,
+    ) -> Result<JudgedMember<'_>, BadIndex>
+        ensures texts { IfOk result (λ m. ref_of self.now tag class name_and_type ≡ Some (judged_member m)) }
+        ensures sizes { IfOk result (λ m. HasShortTexts (judged_member m)) }
         ensures bad { IsErr result ↔ (ref_of self.now tag class name_and_type ≡ None) }
     {
         let class = self.class_at(class)?;
         let (name, desc) = self.signature(name_and_type)?;
-        Ok(MemberText {
+        Ok(JudgedMember {
             tag,
             class,
             name,
@@ -94,12 +198,13 @@ impl Pool {
 
     /// The texts of a dynamic constant or call, whose entry has this tag.
     #[tactic(auto, unfolding(crate::specs::Lookup::dynamic_of))]
-    fn dynamic(&self, tag: u8, name_and_type: u16) -> Result<MemberText<'_>, BadIndex>
-        ensures texts { IfOk result (λ m. dynamic_of self.now tag name_and_type ≡ Some (member m)) }
+    fn dynamic(&self, tag: u8, name_and_type: u16) -> Result<JudgedMember<'_>, BadIndex>
+        ensures texts { IfOk result (λ m. dynamic_of self.now tag name_and_type ≡ Some (judged_member m)) }
+        ensures sizes { IfOk result (λ m. HasShortTexts (judged_member m)) }
         ensures bad { IsErr result ↔ (dynamic_of self.now tag name_and_type ≡ None) }
     {
         let (name, desc) = self.signature(name_and_type)?;
-        Ok(MemberText {
+        Ok(JudgedMember {
             tag,
             class: &[],
             name,
@@ -108,8 +213,9 @@ impl Pool {
     }
 
     /// The texts of a field or a method.
-    fn reference_in<'a>(&'a self, entry: &Entry) -> Result<MemberText<'a>, BadIndex>
-        ensures texts { IfOk result (λ m. ref_in self.now entry.now ≡ Some (member m)) }
+    fn reference_in<'a>(&'a self, entry: &Entry) -> Result<JudgedMember<'a>, BadIndex>
+        ensures texts { IfOk result (λ m. ref_in self.now entry.now ≡ Some (judged_member m)) }
+        ensures sizes { IfOk result (λ m. HasShortTexts (judged_member m)) }
         ensures bad { IsErr result ↔ (ref_in self.now entry.now ≡ None) }
     {
         match entry {
@@ -129,6 +235,21 @@ impl Pool {
         }
     }
 
+    /// What the entry at a place names as a field, a method, or a dynamic constant or call.
+    #[tactic(auto, unfolding(crate::specs::Lookup::member_of))]
+    fn judged_member(&self, place: u16) -> Result<JudgedMember<'_>, BadIndex>
+        ensures texts { IfOk result (λ m. member_of self.now place ≡ Some (judged_member m)) }
+        ensures sizes { IfOk result (λ m. HasShortTexts (judged_member m)) }
+        ensures bad { IsErr result ↔ (member_of self.now place ≡ None) }
+    {
+        match self.entry(place) {
+            Some(Entry::Dynamic { name_and_type, .. }) => self.dynamic(17, *name_and_type),
+            Some(Entry::InvokeDynamic { name_and_type, .. }) => self.dynamic(18, *name_and_type),
+            Some(entry) => self.reference_in(entry),
+            None => Err(BadIndex),
+        }
+    }
+
     /// What the entry at a place names as a field, a method, or a dynamic constant or call (JVM
     /// Specification 4.4.2, 4.4.10).
     ///
@@ -137,16 +258,41 @@ impl Pool {
     /// `BadIndex` exactly where the place has no entry of these five kinds, or a place that the
     /// entry names has no Class entry with a name (for the three kinds of members), or no
     /// NameAndType entry with a name and a descriptor.
-    #[tactic(auto, unfolding(crate::specs::Lookup::member_of))]
     pub fn member_at(&self, place: u16) -> Result<MemberText<'_>, BadIndex>
         ensures texts { IfOk result (λ m. member_of self.now place ≡ Some (member m)) }
+        ensures sizes { IfOk result (λ m. HasShortTexts (member m)) }
         ensures bad { IsErr result ↔ (member_of self.now place ≡ None) }
     {
-        match self.entry(place) {
-            Some(Entry::Dynamic { name_and_type, .. }) => self.dynamic(17, *name_and_type),
-            Some(Entry::InvokeDynamic { name_and_type, .. }) => self.dynamic(18, *name_and_type),
-            Some(entry) => self.reference_in(entry),
-            None => Err(BadIndex),
+        match self.judged_member(place) {
+            Ok(m) => Ok(MemberText {
+                tag: m.tag,
+                class: m.class,
+                name: m.name,
+                desc: m.desc.as_slice(),
+            }),
+            Err(bad) => Err(bad),
+        }
+    }
+
+    /// Whether what `member_at` finds at a place has the descriptor of a field (JVM Specification
+    /// 4.3.2). This looks at no byte of the descriptor.
+    pub fn has_field_descriptor(&self, place: u16) -> bool
+        ensures { IsTrue result ↔ IsSomeAnd (member_of self.now place) (λ m. IsFieldDescriptor m.desc) }
+    {
+        match self.judged_member(place) {
+            Ok(m) => m.desc.is_field_descriptor(),
+            Err(_) => false,
+        }
+    }
+
+    /// Whether what `member_at` finds at a place has the descriptor of a method (JVM Specification
+    /// 4.3.3). This looks at no byte of the descriptor.
+    pub fn has_method_descriptor(&self, place: u16) -> bool
+        ensures { IsTrue result ↔ IsSomeAnd (member_of self.now place) (λ m. IsMethodDescriptor m.desc) }
+    {
+        match self.judged_member(place) {
+            Ok(m) => m.desc.is_method_descriptor(),
+            Err(_) => false,
         }
     }
 

@@ -1,16 +1,14 @@
 //! The constant pool.
-ghost use Rattle.std.specs.Prelude.{◌≡◌, ◌↔◌, ◌+◌, ◌-◌, ◌<◌, ◌≤◌, ◌++◌, ◌∷◌, [], ℕ, List, Some, None, Contains, IfOk, IfSome, IsSome};
+ghost use Rattle.std.specs.Prelude.{◌≡◌, ◌<◌, ◌≤◌, ◌++◌, ℕ, List, length, IfOk, IfSome, OnOk};
 ghost use Rattle.jc_base.specs.Decoder.{SameEnd};
 ghost use Rattle.jc_base.specs.Parsing.{Good, Bad, Parses};
-ghost use Rattle.jc_pool.specs.Pool.{PoolValue, IsPool, IsSmall};
+ghost use Rattle.jc_pool.specs.Pool.{PoolValue, IsPool, IsSmall, slots_of};
 ghost use Rattle.jc_pool.specs.PoolGrammar.{pool, ReadsBy};
-ghost use Rattle.jc_pool.specs.PoolReading.{put_behind, places_at, pool_at};
-ghost use Rattle.jc_pool.specs.Slots.{IsFirstPlace};
+ghost use Rattle.jc_pool.specs.PoolReading.{filled_at, pool_at};
 
 use crate::entry::Entry;
 use crate::item::{count_item, entry_item};
-use crate::slots::Slots;
-use jc_base::{Fail, Reader, Refusal};
+use jc_base::{Fail, Memory, Reader, Refusal};
 use std::alloc::Global;
 use std::marker::Model;
 
@@ -18,39 +16,39 @@ use std::marker::Model;
 /// places: nothing at place 0, and at the second place of a long or a double.
 #[derive(Debug, Drop)]
 pub struct Pool {
-    slots: Slots,
+    slots: Vec<Option<Entry>>,
 }
 
 impl Model for Pool {
     ghost Value = { PoolValue };
 
-    ghost view = { λ p. p.slots };
+    ghost view = { λ p. p.slots.items };
 
-    ghost invariant = { λ p. IsPool p.slots };
+    ghost invariant = { λ p. IsPool p.slots.items };
 }
 
 impl Pool {
     ghost use Rattle.std.specs.Prelude.{option_copied};
-    ghost use Rattle.jc_pool.specs.Lookup.{entry_at};
+    ghost use Rattle.jc_pool.specs.Lookup.{entry_of};
+
+    /// The count of the pool (JVM Specification 4.1): the number of its places, place 0 included.
+    #[tactic(auto, using(crate::proofs::WritingLaws::pool_short))]
+    pub fn count(&self) -> u16
+        ensures { result ≡ length self.now }
+    {
+        self.slots.len() as u16
+    }
 
     /// The entry at a place.
     pub(crate) fn entry(&self, place: u16) -> Option<&Entry>
-        ensures entry { option_copied result ≡ entry_at self.now place }
+        ensures entry { option_copied result ≡ entry_of self.now place }
         ensures small { IfSome result (λ entry. IsSmall entry.now) }
     {
-        self.slots.entry(usize::from(place))
-    }
-
-    /// The first place at which an entry equal to this one stands.
-    pub(crate) fn place_of(&self, entry: &Entry) -> Option<u16>
-        ensures first { IfSome result (IsFirstPlace self.now entry.now) }
-        ensures found { IsSome result ↔ Contains self.now (Some entry.now) }
-    {
-        self.slots.place_of(entry)
+        self.slots.get(usize::from(place))?.as_ref()
     }
 
     /// What stands at each place.
-    pub(crate) fn slots(&self) -> &Slots
+    pub(crate) fn slots(&self) -> &[Option<Entry>]
         ensures slots { result.now ≡ self.now }
         ensures pool { IsPool self.now }
     {
@@ -58,19 +56,36 @@ impl Pool {
     }
 }
 
+/// Puts an entry at the next place, and nothing at its second one.
+fn put(slots: &mut Vec<Option<Entry>>, entry: Entry) -> Result<(), Memory>
+    ensures { OnOk result (slots.new.items ≡ slots.old.items ++ slots_of entry) }
+{
+    let wide = entry.is_wide();
+    slots.push(Some(entry))?;
+    if wide {
+        slots.push(None)?;
+    }
+    Ok(())
+}
+
 /// Nothing at place 0, and the entries at the places from 1 on.
-fn filled(alloc: Global, reader: &mut Reader<'_>, count: u16) -> Result<Slots, Fail<Refusal>>
+fn filled(
+    alloc: Global,
+    reader: &mut Reader<'_>,
+    count: u16,
+) -> Result<Vec<Option<Entry>>, Fail<Refusal>>
     requires { 0 < count }
-    ensures gives { Parses (λ slots. slots) result reader.old reader.new (put_behind (None ∷ []) (places_at (count - 1) reader.old.left)) }
-    ensures pool { IfOk result IsPool }
+    ensures gives { Parses (λ slots. slots.items) result reader.old reader.new (filled_at count reader.old.left) }
+    ensures pool { IfOk result (λ slots. IsPool slots.items) }
     ensures end { SameEnd reader.old reader.new }
     ensures later { reader.old.place ≤ reader.new.place }
 {
     let count = usize::from(count);
-    let mut slots = Slots::new(alloc, count)?;
+    let mut slots = Vec::with_capacity(alloc, count)?;
+    slots.push(None)?;
     'filling: while slots.len() < count {
         let entry = entry_item(alloc, reader, count - slots.len())?;
-        slots.put(entry)?;
+        put(&mut slots, entry)?;
     }
     Ok(slots)
 }
@@ -92,8 +107,8 @@ impl Pool {
     /// count (JVM Specification 4.1, 4.4). On `Ok` the reader stands directly behind the pool.
     /// After an error it stands at or behind the place where it stood.
     ///
-    /// An entry is one item, from its tag on. What an entry names is not looked at, and neither is
-    /// text.
+    /// An entry is one item, from its tag on. What an entry names is not looked at, and no text has
+    /// to be of a form.
     ///
     /// # Errors
     ///

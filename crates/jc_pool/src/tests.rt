@@ -1,8 +1,7 @@
 ghost use Rattle.std.specs.Prelude.{◌≤◌, length};
 
 use super::*;
-use crate::entry::Entry;
-use jc_base::{Bytes, Fail, Reader, RefusalKind};
+use jc_base::{Fail, Reader, RefusalKind};
 use std::alloc::Global;
 use std::test;
 
@@ -31,13 +30,31 @@ const EVERY_TAG: [u8; 90] = [
 ];
 
 /// A pool that has some entries twice.
-const EQUAL_ENTRIES: [u8; 31] = [
-    0x00, 0x08, // the count: places 1 to 7
+const EQUAL_ENTRIES: [u8; 34] = [
+    0x00, 0x09, // the count: places 1 to 8
     0x01, 0x00, 0x01, 0x41, // 1: Utf8 A
     0x05, 0, 0, 0, 0, 0, 0, 0, 0x07, // 2: Long 7, and its second place
     0x01, 0x00, 0x01, 0x41, // 4: Utf8 A
     0x05, 0, 0, 0, 0, 0, 0, 0, 0x07, // 5: Long 7, and its second place
     0x07, 0x00, 0x04, // 7: Class A
+    0x07, 0x00, 0x01, // 8: Class A
+];
+
+/// A pool of texts of several forms, and of entries that name them.
+const TEXTS: [u8; 52] = [
+    0x00, 0x0c, // the count: places 1 to 11
+    0x01, 0x00, 0x01, 0x41, // 1: Utf8 A
+    0x01, 0x00, 0x01, 0x49, // 2: Utf8 I
+    0x01, 0x00, 0x03, 0x28, 0x29, 0x56, // 3: Utf8 ()V
+    0x01, 0x00, 0x01, 0xff, // 4: Utf8, no modified UTF-8
+    0x07, 0x00, 0x01, // 5: Class A
+    0x07, 0x00, 0x04, // 6: Class by the text at 4
+    0x0c, 0x00, 0x01, 0x00, 0x02, // 7: NameAndType A I
+    0x0c, 0x00, 0x01, 0x00, 0x03, // 8: NameAndType A ()V
+    0x09, 0x00, 0x05, 0x00, 0x07, // 9: Fieldref
+    0x12, 0x00, 0x00, 0x00, 0x08, // 10: InvokeDynamic
+    0x0a, 0x00, 0x01, 0x00, 0x08, // 11: Methodref of no class
+    0x2a,
 ];
 
 /// The kind and the place of the refusal of a pool.
@@ -60,7 +77,7 @@ fn every_tag_is_read_looked_up_and_written_back(rt: HostRuntime) -> Result<(), t
     assert_eq!(rt; reader.take(2), Err(jc_base::Short));
     assert_eq!(rt; reader.u8(), Ok(0x2a));
     let mut written = [0x77].to_vec(alloc)?;
-    assert_eq!(rt; pool.write(&mut written), Ok(()));
+    assert_eq!(rt; pool.write(alloc, &mut written), Ok(()));
     assert_eq!(rt; written.len(), EVERY_TAG.len());
     assert_eq!(rt; &written[1..], &EVERY_TAG[..89]);
     Ok(())
@@ -134,17 +151,50 @@ fn equal_entries_keep_their_places(rt: HostRuntime) -> Result<(), test::Fail> {
     let Ok(pool) = Pool::read(alloc, &mut Reader::new(&EQUAL_ENTRIES)) else {
         return Err("refused")?;
     };
-    let name = Entry::Utf8(Bytes::copy_of(alloc, b"A")?);
-    assert_eq!(rt; pool.place_of(&name), Some(1));
-    assert_eq!(rt; pool.place_of(&Entry::Long(7)), Some(2));
-    assert_eq!(rt; pool.place_of(&Entry::Class { name: 4 }), Some(7));
-    assert_eq!(rt; pool.place_of(&Entry::Class { name: 1 }), None);
+    assert_eq!(rt; pool.count(), 9);
+    assert_eq!(rt; pool.find_class(b"A"), Some(7));
+    assert_eq!(rt; pool.find_class(b"B"), None);
     assert!(rt; pool.utf8_at(4).is_ok());
     assert_eq!(rt; pool.const_at(5), Ok(ConstText::Long(7)));
     assert_eq!(rt; pool.const_at(6), Err(BadIndex));
     let mut written = Vec::new(alloc);
-    assert_eq!(rt; pool.write(&mut written), Ok(()));
+    assert_eq!(rt; pool.write(alloc, &mut written), Ok(()));
     assert_eq!(rt; &written[..], &EQUAL_ENTRIES[..]);
+    Ok(())
+}
+
+#[test]
+fn forms_of_texts_are_told(rt: HostRuntime) -> Result<(), test::Fail> {
+    let Ok(pool) = Pool::read(rt.alloc(), &mut Reader::new(&TEXTS)) else {
+        return Err("refused")?;
+    };
+    for (place, texts, members) in [
+        (0, [false; 4], [false; 2]),
+        (1, [true, false, false, false], [false; 2]),
+        (2, [true, true, false, false], [false; 2]),
+        (3, [true, false, true, false], [false; 2]),
+        (4, [false; 4], [false; 2]),
+        (5, [false, false, false, true], [false; 2]),
+        (6, [false; 4], [false; 2]),
+        (8, [false; 4], [false; 2]),
+        (9, [false; 4], [true, false]),
+        (10, [false; 4], [false, true]),
+        (11, [false; 4], [false; 2]),
+        (12, [false; 4], [false; 2]),
+    ] {
+        let of_text = [
+            pool.is_modified_at(place),
+            pool.is_field_descriptor_at(place),
+            pool.is_method_descriptor_at(place),
+            pool.is_class_name_modified(place),
+        ];
+        assert_eq!(rt; of_text, texts, "{place}");
+        let of_member = [
+            pool.has_field_descriptor(place),
+            pool.has_method_descriptor(place),
+        ];
+        assert_eq!(rt; of_member, members, "{place}");
+    }
     Ok(())
 }
 

@@ -1,21 +1,20 @@
 //! Writing a constant pool (JVM Specification 4.1, 4.4).
-ghost use Rattle.std.specs.Prelude.{◌≡◌, ◌+◌, ◌<◌, ◌++◌, ◌∷◌, [], length, option_copied, OnOk, OnErr};
+ghost use Rattle.std.specs.Prelude.{◌≡◌, ◌<◌, length, IfOk, OnOk, OnErr};
 ghost use Rattle.jc_pool.specs.Pool.{IsSmall};
 ghost use Rattle.jc_pool.specs.PoolGrammar.{pool as pool_text};
 ghost use Rattle.jc_pool.specs.EntryFormat.{ArePlaces, IsHandle, IsUtf8, IsInfo, IsEntry};
 ghost use Rattle.jc_base.specs.Appending.{Appends};
-ghost use Rattle.jc_pool.specs.Writing.{Grows, SpellsSlot, SpellsSlots, IsSmallSlot, AreSmall};
+ghost use Rattle.jc_pool.specs.Writing.{SpellsSlot, SpellsSlots, IsSmallSlot, AreSmall};
 
 use crate::Pool;
 use crate::entry::Entry;
-use crate::slots::Slots;
 use jc_base::{Memory, put_bytes, put_u8, put_u16, put_u32, put_u64};
+use std::alloc::Global;
 
 /// Puts a size of two bytes at the end, and the text.
 fn put_utf8(into: &mut Vec<u8>, text: &[u8]) -> Result<(), Memory>
     requires { length text.now < 65536 }
-    ensures ok { OnOk result (Appends (λ info. IsUtf8 info text.now) into.old.items into.new.items) }
-    ensures grows { Grows into.old.items into.new.items }
+    ensures { OnOk result (Appends (λ info. IsUtf8 info text.now) into.old.items into.new.items) }
 {
     put_u16(into, text.len() as u16)?;
     put_bytes(into, text)
@@ -23,8 +22,7 @@ fn put_utf8(into: &mut Vec<u8>, text: &[u8]) -> Result<(), Memory>
 
 /// Puts two places at the end.
 fn put_places(into: &mut Vec<u8>, first: u16, second: u16) -> Result<(), Memory>
-    ensures ok { OnOk result (Appends (λ info. ArePlaces info first second) into.old.items into.new.items) }
-    ensures grows { Grows into.old.items into.new.items }
+    ensures { OnOk result (Appends (λ info. ArePlaces info first second) into.old.items into.new.items) }
 {
     put_u16(into, first)?;
     put_u16(into, second)
@@ -32,8 +30,7 @@ fn put_places(into: &mut Vec<u8>, first: u16, second: u16) -> Result<(), Memory>
 
 /// Puts the kind of a method handle and the place of its member at the end.
 fn put_handle(into: &mut Vec<u8>, kind: u8, reference: u16) -> Result<(), Memory>
-    ensures ok { OnOk result (Appends (λ info. IsHandle info kind reference) into.old.items into.new.items) }
-    ensures grows { Grows into.old.items into.new.items }
+    ensures { OnOk result (Appends (λ info. IsHandle info kind reference) into.old.items into.new.items) }
 {
     put_u8(into, kind)?;
     put_u16(into, reference)
@@ -42,11 +39,10 @@ fn put_handle(into: &mut Vec<u8>, kind: u8, reference: u16) -> Result<(), Memory
 /// Puts what stands behind the tag of an entry at the end.
 fn put_info(into: &mut Vec<u8>, entry: &Entry) -> Result<(), Memory>
     requires { IsSmall entry.now }
-    ensures ok { OnOk result (Appends (λ info. IsInfo info entry.now) into.old.items into.new.items) }
-    ensures grows { Grows into.old.items into.new.items }
+    ensures { OnOk result (Appends (λ info. IsInfo info entry.now) into.old.items into.new.items) }
 {
     match entry {
-        Entry::Utf8(text) => put_utf8(into, text),
+        Entry::Utf8(text) => put_utf8(into, text.as_slice()),
         Entry::Integer(value) => put_u32(into, value.cast_unsigned()),
         Entry::Float(bits) => put_u32(into, *bits),
         Entry::Long(value) => put_u64(into, value.cast_unsigned()),
@@ -87,18 +83,16 @@ fn put_info(into: &mut Vec<u8>, entry: &Entry) -> Result<(), Memory>
 /// Puts an entry at the end.
 fn put_entry(into: &mut Vec<u8>, entry: &Entry) -> Result<(), Memory>
     requires { IsSmall entry.now }
-    ensures ok { OnOk result (Appends (λ text. IsEntry text entry.now) into.old.items into.new.items) }
-    ensures grows { Grows into.old.items into.new.items }
+    ensures { OnOk result (Appends (λ text. IsEntry text entry.now) into.old.items into.new.items) }
 {
     put_u8(into, entry.tag())?;
     put_info(into, entry)
 }
 
 /// Puts what stands at a place at the end.
-fn put_slot(into: &mut Vec<u8>, slot: Option<&Entry>) -> Result<(), Memory>
-    requires { IsSmallSlot (option_copied slot) }
-    ensures ok { OnOk result (Appends (λ text. SpellsSlot text (option_copied slot.entry)) into.old.items into.new.items) }
-    ensures grows { Grows into.old.items into.new.items }
+fn put_slot(into: &mut Vec<u8>, slot: &Option<Entry>) -> Result<(), Memory>
+    requires { IsSmallSlot slot.now }
+    ensures { OnOk result (Appends (λ text. SpellsSlot text slot.now) into.old.items into.new.items) }
 {
     match slot {
         Some(entry) => put_entry(into, entry),
@@ -107,25 +101,24 @@ fn put_slot(into: &mut Vec<u8>, slot: Option<&Entry>) -> Result<(), Memory>
 }
 
 /// Puts what stands at each place at the end.
-fn put_slots(into: &mut Vec<u8>, slots: &Slots) -> Result<(), Memory>
+fn put_slots(into: &mut Vec<u8>, slots: &[Option<Entry>]) -> Result<(), Memory>
     requires { AreSmall slots.now }
-    ensures ok { OnOk result (Appends (λ text. SpellsSlots text slots.now) into.old.items into.new.items) }
-    ensures grows { Grows into.old.items into.new.items }
+    ensures { OnOk result (Appends (λ text. SpellsSlots text slots.now) into.old.items into.new.items) }
 {
-    'writing: for place in 0..slots.len() {
-        put_slot(into, slots.entry(place))?;
+    'writing: for slot in slots {
+        put_slot(into, slot)?;
     }
     Ok(())
 }
 
-/// Puts a pool at the end, or some of it where memory is refused.
-fn put_pool(into: &mut Vec<u8>, pool: &Pool) -> Result<(), Memory>
-    ensures ok { OnOk result (Appends (λ text. pool_text.Text text pool.now) into.old.items into.new.items) }
-    ensures grows { Grows into.old.items into.new.items }
+/// The text of a pool: its count, and its entries.
+fn text_in_bytes(alloc: Global, pool: &Pool) -> Result<Vec<u8>, Memory>
+    ensures { IfOk result (λ text. pool_text.Text text.items pool.now) }
 {
-    let slots = pool.slots();
-    put_u16(into, slots.len() as u16)?;
-    put_slots(into, slots)
+    let mut text = Vec::new(alloc);
+    put_u16(&mut text, pool.count())?;
+    put_slots(&mut text, pool.slots())?;
+    Ok(text)
 }
 
 impl Pool {
@@ -134,15 +127,11 @@ impl Pool {
     /// # Errors
     ///
     /// `Memory` where memory was refused. Then nothing has been written.
-    pub fn write(&self, into: &mut Vec<u8>) -> Result<(), Memory>
+    pub fn write(&self, alloc: Global, into: &mut Vec<u8>) -> Result<(), Memory>
         ensures ok { OnOk result (Appends (λ text. pool_text.Text text self.now) into.old.items into.new.items) }
         ensures err { OnErr result (into.new.items ≡ into.old.items) }
     {
-        let start = into.len();
-        let written = put_pool(into, self);
-        if written.is_err() {
-            into.truncate(start);
-        }
-        written
+        let text = text_in_bytes(alloc, self)?;
+        put_bytes(into, &text)
     }
 }

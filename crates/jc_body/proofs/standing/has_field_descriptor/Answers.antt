@@ -1,0 +1,9 @@
+use Rattle.jc_base.specs.Descriptor.{IsFieldDescriptor}
+use Rattle.jc_pool.specs.Lookup.{Member, member}
+use Rattle.jc_body.proofs.StandingLaws.{of_member_there}
+use Rattle.jc_body.proofs.standing.has_field_descriptor.Goals as goal
+
+pub returns : goal.returns
+returns c =
+    let Fact : Member → Type 0 = λ m. IsFieldDescriptor m.desc in
+    of_member_there c.args.pool.now c.args.place (member c.args.m.now) Fact c.has_field_descriptor.result c.has_field_descriptor.ensures c.requires
