@@ -1,8 +1,16 @@
 -- Sizes of the parts of a body that was read.
-use Rattle.std.specs.Prelude.{All}
+use Rattle.std.specs.Prelude.{⊤, All}
 use Rattle.jc_base.specs.Texts.{IsShortText}
 use Rattle.jc_base.specs.WellMade.{HasSizes, HasShortTexts}
 use Rattle.jc_base.specs.declared.body.Body.{Body}
+use Rattle.jc_pool.specs.Lookup as members
+use Rattle.jc_body.specs.Standing.{Found, of_member, of_class, of_constant}
+
+-- the texts of what stands at a place fit into entries of the pool
+abbrev pub IsOfShortTexts : Found → Type 0
+IsOfShortTexts (of_member m) = members.HasShortTexts m
+IsOfShortTexts (of_class name) = IsShortText name
+IsOfShortTexts (of_constant c) = ⊤
 
 -- its texts fit into entries of the pool
 pub record HasShortParts (b : Body) : Type 0 where

@@ -6,6 +6,8 @@ ghost use Rattle.jc_base.specs.InsnUse.{IsOfTwoSlots, IsOneSlotConstant, IsTwoSl
 ghost use Rattle.jc_pool.specs.Lookup.{member, member_of};
 ghost use Rattle.jc_body.specs.Standing.{of_member, found_at, what_of_member, what_of_constant, what_of, what_at, StandsAt, Meets, FoundSuits, HasRightEntry};
 ghost use Rattle.jc_body.specs.FoundView.{found};
+ghost use Rattle.jc_body.specs.Sizes.{IsOfShortTexts};
+ghost use Rattle.jc_pool.specs.Lookup as MemberTexts;
 
 use jc_base::{Bytes, Insn, Memory, What};
 use jc_pool::{ConstText, MemberText, Pool};
@@ -25,7 +27,8 @@ pub enum Standing<'a> {
 /// What stands at a place, if all that its entry names stands there too.
 #[tactic(auto, unfolding(crate::specs::Standing::found_at))]
 fn standing_at(pool: &Pool, place: u16) -> Option<Standing<'_>>
-    ensures { option_map found result ≡ found_at pool.now place }
+    ensures stands { option_map found result ≡ found_at pool.now place }
+    ensures short { IfSome result (λ standing. IsOfShortTexts (found standing)) }
 {
     if let Ok(member) = pool.member_at(place) {
         return Some(Standing::Member(member));
@@ -41,7 +44,9 @@ fn standing_at(pool: &Pool, place: u16) -> Option<Standing<'_>>
 
 /// What a member is to a body.
 fn what_of_member(alloc: Global, m: &MemberText<'_>) -> Result<What, Memory>
-    ensures { IfOk result (λ what. what ≡ what_of_member (member m.now)) }
+    requires { MemberTexts.HasShortTexts (member m.now) }
+    ensures what { IfOk result (λ what. what ≡ what_of_member (member m.now)) }
+    ensures short { IfOk result HasShortTexts }
 {
     let class = Bytes::copy_of(alloc, m.class)?;
     let name = Bytes::copy_of(alloc, m.name)?;
@@ -56,7 +61,8 @@ fn what_of_member(alloc: Global, m: &MemberText<'_>) -> Result<What, Memory>
 
 /// What a constant is to a body. Classes and computed constants are told by more than this.
 fn what_of_constant(constant: ConstText) -> Option<What>
-    ensures { result ≡ what_of_constant constant }
+    ensures what { result ≡ what_of_constant constant }
+    ensures short { IfSome result HasShortTexts }
 {
     match constant {
         ConstText::Int(value) => Some(What::Int(value)),

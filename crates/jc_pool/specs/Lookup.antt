@@ -1,7 +1,7 @@
 -- What the places of a constant pool name (JVM Specification 4.4).
 use Rattle.std.specs.Prelude.{◌≡◌, ◌≢◌, ℕ, ◌<◌, List, [], slice_index_or, Option, Some, None}
 use Rattle.jc_base.specs.Decoder.{◌>>=◌}
-use Rattle.jc_base.specs.ShortText.{IsShort}
+use Rattle.jc_base.specs.Texts.{IsShortText}
 use Rattle.jc_pool.specs.declared.entry.Entry.{Entry}
 use Rattle.jc_pool.specs.declared.entry.Entry.TheVariants as entry
 use Rattle.jc_pool.specs.declared.constant.ConstText.{ConstText}
@@ -76,9 +76,9 @@ judged_member m = record { tag = m.tag; class = m.class.now; name = m.name.now; 
 
 -- each text fits into a Utf8 entry
 pub record HasShortTexts (m : Member) : Type 0 where
-  pub class : IsShort m.class
-  pub name : IsShort m.name
-  pub desc : IsShort m.desc
+  pub class : IsShortText m.class
+  pub name : IsShortText m.name
+  pub desc : IsShortText m.desc
 
 -- a member of a class: the class has to be a Class entry, the rest a NameAndType entry (JVM Specification 4.4.2)
 unfoldable pub ref_of : PoolValue → ℕ → ℕ → ℕ → Option Member

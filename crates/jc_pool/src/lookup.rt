@@ -2,7 +2,7 @@
 ghost use Rattle.std.specs.Prelude.{◌≡◌, ◌≢◌, ◌↔◌, [], ℕ, Some, None, IfOk, IfSome, IfNone, IsErr, IsSomeAnd, IsTrue, is_some};
 ghost use Rattle.jc_base.specs.Descriptor.{IsFieldDescriptor, IsMethodDescriptor};
 ghost use Rattle.jc_base.specs.Modified.{IsModified};
-ghost use Rattle.jc_base.specs.ShortText.{IsShort};
+ghost use Rattle.jc_base.specs.Texts.{IsShortText};
 ghost use Rattle.jc_pool.specs.Lookup.{utf8_of, class_name_of, IsFirstClass, signature_of, member, judged_member, HasShortTexts, ref_of, dynamic_of, ref_in, reference_of, member_of, const_in, const_of};
 
 use crate::entry::Entry;
@@ -42,7 +42,7 @@ impl Pool {
     #[tactic(auto, unfolding(crate::specs::Lookup::utf8_of))]
     fn text_at(&self, place: u16) -> Result<&JudgedText, BadIndex>
         ensures text { IfOk result (λ text. utf8_of self.now place ≡ Some text.now) }
-        ensures size { IfOk result (λ text. IsShort text.now) }
+        ensures size { IfOk result (λ text. IsShortText text.now) }
         ensures bad { IsErr result ↔ (utf8_of self.now place ≡ None) }
     {
         match self.entry(place) {
@@ -59,7 +59,7 @@ impl Pool {
     /// `BadIndex` exactly where no Utf8 entry stands at the place.
     pub fn utf8_at(&self, place: u16) -> Result<&[u8], BadIndex>
         ensures text { IfOk result (λ text. utf8_of self.now place ≡ Some text.now) }
-        ensures size { IfOk result (λ text. IsShort text.now) }
+        ensures size { IfOk result (λ text. IsShortText text.now) }
         ensures bad { IsErr result ↔ (utf8_of self.now place ≡ None) }
     {
         match self.text_at(place) {
@@ -111,7 +111,7 @@ impl Pool {
     #[tactic(auto, unfolding(crate::specs::Lookup::class_name_of))]
     pub fn class_at(&self, place: u16) -> Result<&[u8], BadIndex>
         ensures name { IfOk result (λ name. class_name_of self.now place ≡ Some name.now) }
-        ensures size { IfOk result (λ name. IsShort name.now) }
+        ensures size { IfOk result (λ name. IsShortText name.now) }
         ensures bad { IsErr result ↔ (class_name_of self.now place ≡ None) }
     {
         match self.entry(place) {
@@ -160,8 +160,8 @@ impl Pool {
     #[tactic(auto, unfolding(crate::specs::Lookup::signature_of))]
     fn signature(&self, place: u16) -> Result<(&[u8], &JudgedText), BadIndex>
         ensures texts { IfOk result (λ s. signature_of self.now place ≡ Some (record { name = s.0.now; desc = s.1.now })) }
-        ensures name { IfOk result (λ s. IsShort s.0.now) }
-        ensures desc { IfOk result (λ s. IsShort s.1.now) }
+        ensures name { IfOk result (λ s. IsShortText s.0.now) }
+        ensures desc { IfOk result (λ s. IsShortText s.1.now) }
         ensures bad { IsErr result ↔ (signature_of self.now place ≡ None) }
     {
         match self.entry(place) {
