@@ -12,12 +12,13 @@ use Rattle.jc_base.proofs.GrammarLaws.{agrees_item, agrees_followed, agrees_time
 pub agrees_number : (n : ℕ) → Agrees (number n) (item (number_at n))
 agrees_number n = agrees_item (IsBig n) (number_at n) (number_takes n) (number_again n)
 
-piece_takes : (n : ℕ) (bytes : List ℕ) (x left : List ℕ) → first n (take n) bytes ≡ Some (x, left) → (front : List ℕ) × (bytes ≡ front ++ left) × ((length front ≡ n) × (front ≡ x))
+piece_takes : (n : ℕ) (bytes x left : List ℕ) → first n (take n) bytes ≡ Some (x, left)
+    → (front : List ℕ) × (bytes ≡ front ++ left) × ((length front ≡ n) × (front ≡ x))
 piece_takes n bytes x left e =
     let t = first_takes n (take n) bytes x left e in
     (t.text, t.parts, (t.size, sym (take_at t.text left n t.size) ∙ ap (take n) (sym t.parts) ∙ t.value))
 
-piece_again : (n : ℕ) (front rest : List ℕ) (x : List ℕ) → ((length front ≡ n) × (front ≡ x)) → first n (take n) (front ++ rest) ≡ Some (x, rest)
+piece_again : (n : ℕ) (front rest x : List ℕ) → ((length front ≡ n) × (front ≡ x)) → first n (take n) (front ++ rest) ≡ Some (x, rest)
 piece_again n front rest x is = first_again n (take n) front rest x is.0 (take_at front rest n is.0 ∙ is.1)
 
 pub agrees_piece : (n : ℕ) → Agrees (piece n) (item (first n (take n)))
@@ -25,7 +26,9 @@ agrees_piece n = agrees_item (λ bytes body. (length bytes ≡ n) × (bytes ≡ 
 
 pub agrees_counted : {X : Type 0} (g : Grammar X) (read : List ℕ → Parsed X) → Agrees g read → Agrees (counted g) (counted_at read)
 unfolding counted_at
-agrees_counted g read a = agrees_followed (number 2) (λ n. times n g) (item (number_at 2)) (λ n left. times_at n read left) (agrees_number 2) (λ n. agrees_times n g read a)
+agrees_counted g read a =
+    agrees_followed (number 2) (λ n. times n g) (item (number_at 2)) (λ n left. times_at n read left)
+    (agrees_number 2) (λ n. agrees_times n g read a)
 
 -- ---- how many items there are
 

@@ -1,5 +1,6 @@
 -- A form that has one text in bytes for each value, part by part.
-use Rattle.std.proofs.Common.{◌≡◌, inl, inr, ℕ, zero, suc, ◌+◌, ◌*◌, ◌<◌, ◌≤◌, ◌^◌, List, [], ◌∷◌, ◌++◌, length, get_or, slice_index, refl, sym, ◌∙◌, ap, subst, arith}
+use Rattle.std.proofs.Common.{◌≡◌, inl, inr, ℕ, zero, suc, ◌+◌, ◌*◌, ◌<◌, ◌≤◌, ◌^◌, List, [], ◌∷◌, ◌++◌, length, get_or, slice_index, refl}
+use Rattle.std.proofs.Common.{sym, ◌∙◌, ap, subst, arith}
 use Rattle.std.proofs.lemmas.Bool.{cases_lt}
 use Rattle.std.proofs.Math.Nat.{mul-le-mul_right}
 use Rattle.byteorder.specs.Endian.{big_number, big_from}
@@ -51,7 +52,8 @@ digits p x y r s low below is = elim (cases_lt x y) [
     rest e = omega (arith, is, ap (λ (z : ℕ). z * p) e)
 
 -- bytes of one length that are one number are the same bytes
-pub same_bytes : (n : ℕ) (a b : List ℕ) → AreBytes a → AreBytes b → length a ≡ n → length b ≡ n → big_number n a ≡ big_number n b → a ≡ b
+pub same_bytes : (n : ℕ) (a b : List ℕ) → AreBytes a → AreBytes b → length a ≡ n → length b ≡ n
+    → big_number n a ≡ big_number n b → a ≡ b
 same_bytes zero [] [] p q size long is = refl
 same_bytes zero (x ∷ a) b p q size long is = absurd (omega (arith, size))
 same_bytes zero [] (y ∷ b) p q size long is = absurd (omega (arith, long))

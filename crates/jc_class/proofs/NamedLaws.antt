@@ -8,9 +8,9 @@ use Rattle.jc_pool.specs.PoolGrammar as pools
 use Rattle.jc_class.specs.declared.class_file.ClassFile.{ClassFile}
 use Rattle.jc_class.specs.ClassText.{ClassText}
 use Rattle.std.specs.List.{AllByRecursion}
-use Rattle.jc_base.specs.Appending.{Appends}
+use Rattle.jc_base.specs.Appending.{Appends, Appended}
 use Rattle.jc_base.specs.Grammar.{Grammar, times}
-use Rattle.jc_base.proofs.AppendingLaws.{Appended, joined}
+use Rattle.jc_base.proofs.AppendingLaws.{joined}
 use Rattle.jc_class.specs.declared.class_file.Attribute.{Attribute}
 use Rattle.jc_class.specs.declared.class_file.Member.{Member}
 use Rattle.jc_class.specs.ClassFormat.{attribute, member, class_file, HasText, HasClass, HasFieldDescriptor, HasMethodDescriptor}

@@ -1,5 +1,6 @@
 -- Each part of a class file is read exactly where its form spells one.
-use Rattle.std.proofs.Common.{◌≡◌, ◌⊎◌, inl, inr, ⊎_elim, ℕ, Bool, true, false, cond, ◌||◌, nat_eq, List, ◌++◌, Option, Some, None, is_some, refl, sym, ◌∙◌, ap, subst}
+use Rattle.std.proofs.Common.{◌≡◌, ◌⊎◌, inl, inr, ⊎_elim, ℕ, Bool, true, false, cond, ◌||◌, nat_eq, List, ◌++◌}
+use Rattle.std.proofs.Common.{Option, Some, None, is_some, refl, sym, ◌∙◌, ap, subst}
 use Rattle.std.proofs.lemmas.Bool.{eqb-true, eqb-false}
 use Rattle.jc_base.specs.Counted.{counted}
 use Rattle.jc_base.specs.Decoder.{IsBig, number_at}
@@ -21,12 +22,16 @@ use Rattle.jc_class.specs.ClassReading.{named_at, attribute_at, attributes_at, m
 
 -- ---- what a place names
 
-passes_decided : (test : List ℕ → Bool) (Fact : List ℕ → Type 0) → ((text : List ℕ) → Decides (test text) (Fact text)) → (there : Option (List ℕ)) → Decides (passes test there) ((text : List ℕ) × (there ≡ Some text) × Fact text)
+passes_decided : (test : List ℕ → Bool) (Fact : List ℕ → Type 0) → ((text : List ℕ) → Decides (test text) (Fact text))
+    → (there : Option (List ℕ)) → Decides (passes test there) ((text : List ℕ) × (there ≡ Some text) × Fact text)
 passes_decided test Fact d None = record { to = λ h. absurd cc; back = λ t. absurd (none_some t.1) }
   where
     none_some : {x : List ℕ} → None ≡ Some x → ⊥
     none_some e = cc
-passes_decided test Fact d (Some text) = record { to = λ h. (text, refl, (d text).to h); back = λ t. (d text).back (subst Fact (sym (some_is text t.0 t.1)) t.2) }
+passes_decided test Fact d (Some text) = record {
+  to = λ h. (text, refl, (d text).to h);
+  back = λ t. (d text).back (subst Fact (sym (some_is text t.0 t.1)) t.2);
+}
 
 text_decided : (there : Option (List ℕ)) → Decides (is_some there) ((text : List ℕ) × (there ≡ Some text))
 text_decided None = record { to = λ h. absurd cc; back = λ t. absurd (none_some t.1) }
@@ -65,7 +70,8 @@ names_decided pool named.MethodDescriptor place = passes_decided is_method_text 
 -- ---- items
 
 module _ (test : ℕ → Bool) (Fact : ℕ → Type 0) (d : (n : ℕ) → Decides (test n) (Fact n)) where
-  if_takes : (bytes : List ℕ) (x : ℕ) (left : List ℕ) → number_if test bytes ≡ Some (x, left) → (front : List ℕ) × (bytes ≡ front ++ left) × (IsBig 2 front x × Fact x)
+  if_takes : (bytes : List ℕ) (x : ℕ) (left : List ℕ) → number_if test bytes ≡ Some (x, left)
+      → (front : List ℕ) × (bytes ≡ front ++ left) × (IsBig 2 front x × Fact x)
   unfolding number_if
   if_takes bytes x left e =
       let read = bind_some (number_at 2 bytes) (λ n. cond (test n.0) (Some n) None) (x, left) e in

@@ -1,5 +1,6 @@
 -- No attribute that was read is longer than the bytes.
-use Rattle.std.proofs.Common.{◌≡◌, ◌≤◌, ℕ, zero, suc, List, [], ◌∷◌, ◌++◌, length, Result, Ok, Err, IfOk, All, sym, ◌∙◌, ap, subst, arith, length-append}
+use Rattle.std.proofs.Common.{◌≡◌, ◌≤◌, ℕ, zero, suc, List, [], ◌∷◌, ◌++◌, length, Result, Ok, Err, IfOk, All}
+use Rattle.std.proofs.Common.{sym, ◌∙◌, ap, subst, arith, length-append}
 use Rattle.std.proofs.lemmas.List.Elements.{All-cons, All-nil}
 use Rattle.jc_base.specs.Counted.{counted}
 use Rattle.jc_base.specs.Grammar.{Grammar, times}
@@ -13,9 +14,17 @@ use Rattle.jc_class.specs.ClassText.{ClassText}
 use Rattle.jc_class.specs.Sizes.{BodiesWithin, AttributesWithin}
 
 module _ (most : ℕ) where
+  abbrev Short : Attribute → Type 0
+  Short a = length a.body ≤ most
+
+  abbrev AreShort : Member → Type 0
+  AreShort m = BodiesWithin most m.attributes
+
   -- both parts of a text that isn't longer
   parts_within : (bytes front rest : List ℕ) → bytes ≡ front ++ rest → length bytes ≤ most → (length front ≤ most) × (length rest ≤ most)
-  parts_within bytes front rest parts short = (omega (arith, ap length parts, length-append front rest, short), omega (arith, ap length parts, length-append front rest, short))
+  parts_within bytes front rest parts short =
+      let both = ap length parts ∙ length-append front rest in
+      (omega (arith, both, short), omega (arith, both, short))
 
   module _ {X : Type 0} (g : Grammar X) (Fact : X → Type 0) (holds : (text : List ℕ) (x : X) → length text ≤ most → g.Text text x → Fact x) where
     times_within : (n : ℕ) (text : List ℕ) (xs : List X) → length text ≤ most → (times n g).Text text xs → All Fact xs
@@ -29,7 +38,8 @@ module _ (most : ℕ) where
     counted_within : (text : List ℕ) (xs : List X) → length text ≤ most → (counted g).Text text xs → All Fact xs
     counted_within text xs short t = times_within t.0 t.2 xs (parts_within text t.1 t.2 t.3 short).1 t.5
 
-  attribute_within : (HasName : ℕ → Type 0) (text : List ℕ) (a : Attribute) → length text ≤ most → (attribute HasName).Text text a → length a.body ≤ most
+  attribute_within : (HasName : ℕ → Type 0) (text : List ℕ) (a : Attribute) → length text ≤ most → (attribute HasName).Text text a
+      → length a.body ≤ most
   attribute_within HasName text a short t =
       let name = parts_within text t.1 t.2 t.3 short in
       let size = t.5 in
@@ -39,7 +49,8 @@ module _ (most : ℕ) where
       let is : a.body ≡ body.1 = ap (λ (k : Attribute). k.body) body.5.1 ∙ sym body.4.1 in
       omega (arith, ap length is, own.0)
 
-  member_within : (HasName HasDescriptor : ℕ → Type 0) (text : List ℕ) (m : Member) → length text ≤ most → (member HasName HasDescriptor).Text text m → BodiesWithin most m.attributes
+  member_within : (HasName HasDescriptor : ℕ → Type 0) (text : List ℕ) (m : Member) → length text ≤ most
+      → (member HasName HasDescriptor).Text text m → BodiesWithin most m.attributes
   member_within HasName HasDescriptor text m short t =
       let name = t.5 in
       let desc = name.5 in
@@ -49,7 +60,7 @@ module _ (most : ℕ) where
       let s2 = parts_within name.2 desc.1 desc.2 desc.3 s1.1 in
       let s3 = parts_within desc.2 attributes.1 attributes.2 attributes.3 s2.1 in
       subst (BodiesWithin most) (sym (ap (λ (k : Member). k.attributes) attributes.5.1))
-      (counted_within (attribute HasName) (λ a. length a.body ≤ most) (attribute_within HasName) attributes.1 attributes.0 s3.0 attributes.4)
+      (counted_within (attribute HasName) Short (attribute_within HasName) attributes.1 attributes.0 s3.0 attributes.4)
 
   class_within : (text : List ℕ) (c : ClassFile) → length text ≤ most → ClassText text c → AttributesWithin most c
   unfolding class_file
@@ -77,11 +88,12 @@ module _ (most : ℕ) where
       let s10 = parts_within methods.2 attributes.1 attributes.2 attributes.3 s9.1 in
       let p = pool.0 in
       subst (AttributesWithin most) (sym attributes.5.1) (record {
-        class = counted_within (attribute (HasText p)) (λ a. length a.body ≤ most) (attribute_within (HasText p)) attributes.1 attributes.0 s10.0 attributes.4;
-        fields = counted_within (member (HasText p) (HasFieldDescriptor p)) (λ m. BodiesWithin most m.attributes) (member_within (HasText p) (HasFieldDescriptor p)) fields.1 fields.0 s8.0 fields.4;
-        methods = counted_within (member (HasText p) (HasMethodDescriptor p)) (λ m. BodiesWithin most m.attributes) (member_within (HasText p) (HasMethodDescriptor p)) methods.1 methods.0 s9.0 methods.4;
+        class = counted_within (attribute (HasText p)) Short (attribute_within (HasText p)) attributes.1 attributes.0 s10.0 attributes.4;
+        fields = counted_within (member (HasText p) (HasFieldDescriptor p)) AreShort (member_within (HasText p) (HasFieldDescriptor p)) fields.1 fields.0 s8.0 fields.4;
+        methods = counted_within (member (HasText p) (HasMethodDescriptor p)) AreShort (member_within (HasText p) (HasMethodDescriptor p)) methods.1 methods.0 s9.0 methods.4;
       })
 
-  pub all_within : (r : Result ClassFile (Fail Refusal)) (bytes : List ℕ) → length bytes ≤ most → IfOk r (ClassText bytes) → IfOk r (AttributesWithin most)
+  pub all_within : (r : Result ClassFile (Fail Refusal)) (bytes : List ℕ) → length bytes ≤ most
+      → IfOk r (ClassText bytes) → IfOk r (AttributesWithin most)
   all_within (Ok c) bytes short text = class_within bytes c short text
   all_within (Err e) bytes short text = tt

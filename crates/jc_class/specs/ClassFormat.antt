@@ -75,4 +75,15 @@ class_file = do
   fields ← counted (member (HasText pool) (HasFieldDescriptor pool))
   methods ← counted (member (HasText pool) (HasMethodDescriptor pool))
   attributes ← counted (attribute (HasText pool))
-  nothing (record { minor = minor; major = major; pool = pool; flags = flags; this_class = this_class; super_class = super_class; interfaces = interfaces; fields = fields; methods = methods; attributes = attributes })
+  nothing (record {
+    minor = minor;
+    major = major;
+    pool = pool;
+    flags = flags;
+    this_class = this_class;
+    super_class = super_class;
+    interfaces = interfaces;
+    fields = fields;
+    methods = methods;
+    attributes = attributes;
+  })

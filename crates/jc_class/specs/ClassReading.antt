@@ -51,7 +51,18 @@ class_at left = do
   fields ← counted_at (member_at pool.0 named.FieldDescriptor) interfaces.1
   methods ← counted_at (member_at pool.0 named.MethodDescriptor) fields.1
   attributes ← attributes_at pool.0 methods.1
-  Good (record { minor = minor.0; major = major.0; pool = pool.0; flags = flags.0; this_class = this_class.0; super_class = super_class.0; interfaces = interfaces.0; fields = fields.0; methods = methods.0; attributes = attributes.0 }) attributes.1
+  Good (record {
+    minor = minor.0;
+    major = major.0;
+    pool = pool.0;
+    flags = flags.0;
+    this_class = this_class.0;
+    super_class = super_class.0;
+    interfaces = interfaces.0;
+    fields = fields.0;
+    methods = methods.0;
+    attributes = attributes.0;
+  }) attributes.1
 
 -- a class file that was not whole, or bytes that are left behind one
 abbrev pub Stops : Parsed ClassFile → List ℕ → Type 0

@@ -80,7 +80,7 @@ pub fn read_class(alloc: Global, bytes: &[u8]) -> Result<ClassFile, Fail<Refusal
     // What is read is the class file that the bytes spell, and other bytes are refused where they first fail.
     ensures read { IfOk result (ClassText bytes.now) }
     ensures refused { IfErr result (λ e. RefusedAs e (FirstBad bytes.now)) }
-    // What is read can be written, and no attribute is longer than a class file may be.
+    // What is read can be written, and no attribute is longer than the bytes, which are at most 67,108,864.
     ensures whole { IfOk result IsClassFile }
     ensures within { IfOk result (AttributesWithin (length bytes.now)) }
     ensures sizes { IfOk result (AttributesWithin 67108864) }

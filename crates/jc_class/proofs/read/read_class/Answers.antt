@@ -1,4 +1,4 @@
-use Rattle.std.proofs.Common.{arith, length}
+use Rattle.std.proofs.Common.{length, arith}
 use Rattle.jc_class.proofs.ClassLaws.{reads, refuses, takes, fails_there}
 use Rattle.jc_base.proofs.OneTextLaws.{are_bytes}
 use Rattle.jc_class.proofs.SizesLaws.{all_within}

@@ -1,7 +1,6 @@
 use Rattle.std.proofs.Common.{ℕ, List, subst, arith}
 use Rattle.std.proofs.lemmas.Result.{on_ok_weaker}
-use Rattle.jc_base.specs.Appending.{Appends}
-use Rattle.jc_base.proofs.AppendingLaws.{Appended}
+use Rattle.jc_base.specs.Appending.{Appends, Appended}
 use Rattle.jc_pool.specs.PoolGrammar as pools
 use Rattle.jc_class.specs.declared.class_file.Attribute.{Attribute}
 use Rattle.jc_class.specs.declared.class_file.Member.{Member}
