@@ -4,7 +4,7 @@ use Rattle.std.proofs.lemmas.List.{append-nil, drop_all}
 use Rattle.std.proofs.Math.Seq.{drop-cons}
 use Rattle.byteorder.specs.Endian.{big_bytes, big_number}
 use Rattle.byteorder.specs.Numbers.{big_number-reads_back, length-bytes_high_first}
-use Rattle.jc_base.specs.Appending.{Appends}
+use Rattle.jc_base.specs.Appending.{Appends, Appended}
 use Rattle.jc_base.specs.Decoder.{IsBig}
 use Rattle.jc_base.specs.Grammar.{Grammar, nothing, followed_by, times}
 
@@ -15,20 +15,24 @@ big_spells n x fits = record {
   value = ap (big_number n) (sym (append-nil (big_bytes n x))) ∙ big_number-reads_back n x [] fits;
 }
 
+-- one text behind another
+pub joined : (old mid new front rest : List ℕ) → mid ≡ old ++ front → new ≡ mid ++ rest → new ≡ old ++ (front ++ rest)
+joined old mid new front rest p q = q ∙ ap (λ (l : List ℕ). l ++ rest) p ∙ append_assoc old front rest
+
+-- the last text
+pub ended : (old new last : List ℕ) → new ≡ old ++ last → new ≡ old ++ (last ++ [])
+ended old new last p = p ∙ ap (λ (l : List ℕ). old ++ l) (sym (append-nil last))
+
 -- ---- by a grammar
 
-module _ {X : Type 0} where
-  abbrev pub Appended : Grammar X → X → List ℕ → List ℕ → Type 0
-  Appended g x old new = Appends (λ text. g.Text text x) old new
-
-  pub appends_nothing : (x : X) (old : List ℕ) → Appended (nothing x) x old old
-  appends_nothing x old = record { text = []; parts = sym (append-nil old); spells = (refl, refl) }
+pub appends_nothing : {X : Type 0} (x : X) (old : List ℕ) → Appended (nothing x) x old old
+appends_nothing x old = record { text = []; parts = sym (append-nil old); spells = (refl, refl) }
 
 -- one form behind another
 pub appends_followed : {X Y : Type 0} (g : Grammar X) (f : X → Grammar Y) (x : X) (y : Y) (old mid new : List ℕ) → Appended g x old mid → Appended (f x) y mid new → Appended (followed_by g f) y old new
 appends_followed g f x y old mid new p q = record {
   text = p.text ++ q.text;
-  parts = q.parts ∙ ap (λ (l : List ℕ). l ++ q.text) p.parts ∙ append_assoc old p.text q.text;
+  parts = joined old mid new p.text q.text p.parts q.parts;
   spells = (x, p.text, q.text, refl, p.spells, q.spells);
 }
 

@@ -1,5 +1,5 @@
 -- A fact of each item of a list, item by item and by index.
-use Rattle.std.proofs.Common.{suc, List, [], ◌∷◌, map, All, arith}
+use Rattle.std.proofs.Common.{suc, List, [], ◌∷◌, ◌++◌, map, All, arith}
 use Rattle.std.proofs.lemmas.List.Elements.{All-cons, All-nil}
 use Rattle.std.specs.List.{AllByRecursion}
 
@@ -11,3 +11,7 @@ module _ {X Y : Type 0} (P : Y → Type 0) (f : X → Y) where
   pub all_of_each : (xs : List X) → AllByRecursion P (map f xs) → All (λ x. P (f x)) xs
   all_of_each [] h = All-nil (λ x. P (f x))
   all_of_each (x ∷ xs) h = All-cons (λ x. P (f x)) x xs h.0 (all_of_each xs h.1)
+
+pub all_push : {X : Type 0} (P : X → Type 0) (xs : List X) (y : X) → AllByRecursion P xs → P y → AllByRecursion P (xs ++ y ∷ [])
+all_push P [] y all last = (last, tt)
+all_push P (x ∷ xs) y all last = (all.0, all_push P xs y all.1 last)

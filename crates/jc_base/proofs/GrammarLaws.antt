@@ -1,15 +1,8 @@
 -- A reading function that agrees with a grammar, part by part.
 use Rattle.std.proofs.Common.{◌≡◌, ◌≢◌, ◌⊎◌, inl, inr, ⊎_elim, ℕ, zero, suc, List, [], ◌∷◌, ◌++◌, Option, Some, None, refl, sym, ◌∙◌, ap, subst, append_assoc}
 use Rattle.std.proofs.lemmas.List.{append-nil}
-use Rattle.jc_base.specs.Grammar.{Grammar, nothing, one, followed_by, ThenText, ThenFails, times, WholeFails}
+use Rattle.jc_base.specs.Grammar.{Grammar, nothing, one, followed_by, ThenText, ThenFails, times, WholeFails, Agrees}
 use Rattle.jc_base.specs.Parsing.{Parsed, Good, Bad, ◌>>=◌, parsed_or, item, times_at}
-
--- the function reads exactly what the grammar spells, and stops exactly where it fails
-pub record Agrees {X : Type 0} (g : Grammar X) (read : List ℕ → Parsed X) : Type 0 where
-  pub good : (bytes : List ℕ) (x : X) (left : List ℕ) → read bytes ≡ Good x left → (front : List ℕ) × (bytes ≡ front ++ left) × g.Text front x
-  pub again : (front rest : List ℕ) (x : X) → g.Text front x → read (front ++ rest) ≡ Good x rest
-  pub bad : (bytes left : List ℕ) → read bytes ≡ Bad left → g.Fails bytes left
-  pub fails : (bytes left : List ℕ) → g.Fails bytes left → read bytes ≡ Bad left
 
 pub good_is : {X : Type 0} (x y : X) (left more : List ℕ) → Good x left ≡ Good y more → (x ≡ y) × (left ≡ more)
 good_is x y left more e = (cc, cc)

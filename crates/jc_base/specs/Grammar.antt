@@ -1,5 +1,6 @@
 -- Grammars of bytes, item by item: which bytes spell a value, and at which item other bytes fail.
 use Rattle.std.specs.Prelude.{◌≡◌, ◌≢◌, ◌⊎◌, ℕ, zero, suc, List, [], ◌∷◌, ◌++◌}
+use Rattle.jc_base.specs.Parsing.{Parsed, Good, Bad}
 
 pub record Grammar (X : Type 0) : Type 1 where
   -- the bytes spell the value, and nothing stands behind its spelling
@@ -38,3 +39,10 @@ times (suc n) g = followed_by g (λ x. followed_by (times n g) (λ xs. nothing (
 -- the bytes fail at an item of the form, or are left behind a whole spelling
 abbrev pub WholeFails : {X : Type 0} → Grammar X → List ℕ → List ℕ → Type 0
 WholeFails {X} g bytes left = g.Fails bytes left ⊎ ((x : X) × (front : List ℕ) × (bytes ≡ front ++ left) × g.Text front x × (left ≢ []))
+
+-- the function reads exactly what the grammar spells, and stops exactly where it fails
+pub record Agrees {X : Type 0} (g : Grammar X) (read : List ℕ → Parsed X) : Type 0 where
+  pub good : (bytes : List ℕ) (x : X) (left : List ℕ) → read bytes ≡ Good x left → (front : List ℕ) × (bytes ≡ front ++ left) × g.Text front x
+  pub again : (front rest : List ℕ) (x : X) → g.Text front x → read (front ++ rest) ≡ Good x rest
+  pub bad : (bytes left : List ℕ) → read bytes ≡ Bad left → g.Fails bytes left
+  pub fails : (bytes left : List ℕ) → g.Fails bytes left → read bytes ≡ Bad left

@@ -2,6 +2,9 @@ pub mod Reader
 pub mod Decoder
 pub mod Grammar
 pub mod Parsing
+pub mod ItemForms
+pub mod Counted
+pub mod ByteLists
 pub mod Modified
 pub mod Outside
 pub mod Planned

@@ -3,6 +3,7 @@
 #![tactic(auto)]
 
 mod body;
+mod counted_items;
 mod descriptor;
 mod fail;
 mod files;
@@ -26,6 +27,7 @@ mod sink;
 mod unread;
 
 pub use body::{Body, FrameAt, Handler, LineAt, Use, VarAt, What};
+pub use counted_items::{ItemReader, counted};
 pub use descriptor::{
     argument_slots, each_descriptor_has_one_type, is_field_descriptor, is_method_descriptor,
     split_type,

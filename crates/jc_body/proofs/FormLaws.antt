@@ -4,30 +4,27 @@ use Rattle.std.proofs.lemmas.List.{append-nil, nil_from_length}
 use Rattle.std.proofs.lemmas.Bool.{leb-true, le-leb}
 use Rattle.std.proofs.Math.Decide.{dec_le}
 use Rattle.jc_base.specs.Decoder.{SameEnd}
-use Rattle.jc_base.specs.Grammar.{Grammar}
+use Rattle.jc_base.specs.Counted.{counted_at}
+use Rattle.jc_base.specs.Grammar.{Grammar, Agrees}
 use Rattle.jc_base.specs.Parsing.{Parsed, Good, Parses}
 use Rattle.jc_base.specs.Reader.{Reading}
 use Rattle.jc_base.specs.declared.fail.Fail.TheVariants as fails
 use Rattle.jc_base.specs.declared.refusal.Refusal.{Refusal}
 use Rattle.jc_base.proofs.DecidingLaws.{Decides}
-use Rattle.jc_base.proofs.GrammarLaws.{Agrees, agrees_nothing, agrees_followed, good_is, one_value, whole_or_fails, never_both}
+use Rattle.jc_base.proofs.CountedLaws.{agrees_number, agrees_piece, agrees_counted}
+use Rattle.jc_base.proofs.GrammarLaws.{agrees_nothing, agrees_followed, good_is, one_value, whole_or_fails, never_both}
 use Rattle.jc_pool.specs.Pool.{PoolValue}
-use Rattle.jc_class.specs.ClassFormat.{counted}
-use Rattle.jc_class.proofs.ClassLaws.{agrees_number, agrees_piece, agrees_counted, agrees_attributes}
+use Rattle.jc_class.proofs.PartLaws.{agrees_attributes}
 use Rattle.jc_body.specs.declared.items.CodeItems.{CodeItems}
 use Rattle.jc_body.specs.CodeForm.{row, code_form, line_entry, line_table, var_entry, var_table, IsCodeText}
-use Rattle.jc_body.specs.CodeReading.{counted_at, row_at, code_at, line_at, var_at}
-use Rattle.jc_body.specs.ItemsAgree.{row_agrees, line_agrees, var_agrees}
+use Rattle.jc_body.specs.CodeReading.{row_at, code_at, line_at, var_at}
+use Rattle.jc_body.proofs.ItemLaws.{row_agrees, line_agrees, var_agrees}
 
 -- the reader stands in front of the bytes
 abbrev pub Begins : List ℕ → Reading → Type 0
 Begins bytes old = record { left : old.left ≡ bytes; place : old.place ≡ 0 }
 
 -- ---- each form and what reads it
-
-pub counted_agree : {X : Type 0} (g : Grammar X) (read : List ℕ → Parsed X) → Agrees g read → Agrees (counted g) (counted_at read)
-unfolding counted_at
-counted_agree g read a = agrees_counted g read a
 
 pub code_agrees : (pool : PoolValue) → Agrees (code_form pool) (code_at pool)
 unfolding code_form code_at
@@ -36,17 +33,17 @@ code_agrees pool =
     agrees_followed _ _ _ _ (agrees_number 2) (λ max_locals.
     agrees_followed _ _ _ _ (agrees_number 4) (λ size.
     agrees_followed _ _ _ _ (agrees_piece size) (λ code.
-    agrees_followed _ _ _ _ (counted_agree row row_at row_agrees) (λ rows.
+    agrees_followed _ _ _ _ (agrees_counted row row_at row_agrees) (λ rows.
     agrees_followed _ _ _ _ (agrees_attributes pool) (λ attributes.
     agrees_nothing (record { max_stack = max_stack; max_locals = max_locals; code = code; rows = rows; attributes = attributes })))))))
 
 pub lines_agree : Agrees line_table (counted_at line_at)
 unfolding line_table
-lines_agree = counted_agree line_entry line_at line_agrees
+lines_agree = agrees_counted line_entry line_at line_agrees
 
 pub vars_agree : Agrees var_table (counted_at var_at)
 unfolding var_table
-vars_agree = counted_agree var_entry var_at var_agrees
+vars_agree = agrees_counted var_entry var_at var_agrees
 
 -- ---- whole texts
 

@@ -2,6 +2,7 @@ pub mod FirstLaws
 pub mod PlacesLaws
 pub mod UsesLaws
 pub mod OrderLaws
+pub mod ItemLaws
 pub mod FormLaws
 pub mod TablesLaws
 pub mod StandingLaws

@@ -5,7 +5,8 @@ use Rattle.std.proofs.lemmas.List.{length-append, get_or_default}
 use Rattle.std.proofs.lemmas.List.Elements.{All-cons, All-nil}
 use Rattle.jc_base.specs.Grammar.{times}
 use Rattle.jc_pool.specs.Pool.{PoolValue}
-use Rattle.jc_class.specs.ClassFormat.{HasText, counted, attribute}
+use Rattle.jc_base.specs.Counted.{counted}
+use Rattle.jc_class.specs.ClassFormat.{HasText, attribute}
 use Rattle.jc_class.specs.declared.class_file.Attribute.{Attribute}
 use Rattle.jc_class.specs.declared.class_file.Member.{Member}
 use Rattle.jc_insn.specs.Decoding.{AreStarts}

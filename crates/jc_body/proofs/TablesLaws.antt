@@ -3,15 +3,16 @@ use Rattle.std.proofs.Common.{◌≡◌, ◌<◌, ◌≤◌, ◌⊎◌, inl, inr
 use Rattle.std.proofs.lemmas.List.{append-nil, drop_all, length-map}
 use Rattle.std.proofs.lemmas.List.Elements.{All-map, All-filter}
 use Rattle.std.proofs.Math.ListN.{get_or-map}
-use Rattle.jc_base.specs.Grammar.{Grammar}
+use Rattle.jc_base.specs.Counted.{counted_at}
+use Rattle.jc_base.specs.Grammar.{Grammar, Agrees}
 use Rattle.jc_base.specs.Parsing.{Parsed}
 use Rattle.jc_base.proofs.AppendingLaws.{drop_at}
-use Rattle.jc_base.proofs.GrammarLaws.{Agrees, one_value}
+use Rattle.jc_base.proofs.GrammarLaws.{one_value}
 use Rattle.jc_pool.specs.Pool.{PoolValue}
 use Rattle.jc_class.specs.declared.class_file.Attribute.{Attribute}
 use Rattle.jc_body.specs.declared.items.Tables.{Tables}
 use Rattle.jc_body.specs.CodeForm.{line_table, var_table}
-use Rattle.jc_body.specs.CodeReading.{counted_at, line_at, var_at}
+use Rattle.jc_body.specs.CodeReading.{line_at, var_at}
 use Rattle.jc_body.specs.Attributes.{has_name, bodies_of, AreEntries, AreTables}
 use Rattle.jc_body.proofs.FormLaws.{lines_agree, vars_agree, whole_or_none}
 

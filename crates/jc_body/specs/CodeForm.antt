@@ -1,8 +1,10 @@
 -- The forms of a Code attribute and of the tables in it (JVM Specification 4.7.3, 4.7.12 to 4.7.14).
 use Rattle.std.specs.Prelude.{ℕ, ◌≤◌, List, length}
+use Rattle.jc_base.specs.Counted.{counted}
 use Rattle.jc_base.specs.Grammar.{Grammar, nothing}
+use Rattle.jc_base.specs.ItemForms.{◌>>=◌, number, piece}
 use Rattle.jc_pool.specs.Pool.{PoolValue}
-use Rattle.jc_class.specs.ClassFormat.{◌>>=◌, number, piece, counted, attribute, HasText}
+use Rattle.jc_class.specs.ClassFormat.{attribute, HasText}
 use Rattle.jc_body.specs.declared.items.CodeItems.{CodeItems}
 use Rattle.jc_body.specs.declared.items.Row.{Row}
 use Rattle.jc_body.specs.declared.items.LineEntry.{LineEntry}

@@ -1,19 +1,14 @@
 -- Reading a Code attribute and the tables in it, item by item.
 use Rattle.std.specs.Prelude.{ℕ, List, take}
+use Rattle.jc_base.specs.Counted.{counted_at}
 use Rattle.jc_base.specs.Decoder.{first, number_at}
-use Rattle.jc_base.specs.Parsing.{Parsed, Good, ◌>>=◌, item, times_at}
+use Rattle.jc_base.specs.Parsing.{Parsed, Good, ◌>>=◌, item}
 use Rattle.jc_pool.specs.Pool.{PoolValue}
 use Rattle.jc_class.specs.ClassReading.{attributes_at}
 use Rattle.jc_body.specs.declared.items.CodeItems.{CodeItems}
 use Rattle.jc_body.specs.declared.items.Row.{Row}
 use Rattle.jc_body.specs.declared.items.LineEntry.{LineEntry}
 use Rattle.jc_body.specs.declared.items.VarEntry.{VarEntry}
-
--- a count, and so many items
-unfoldable pub counted_at : {X : Type 0} → (List ℕ → Parsed X) → List ℕ → Parsed (List X)
-counted_at read left = do
-  count ← item (number_at 2) left
-  times_at count.0 read count.1
 
 unfoldable pub row_at : List ℕ → Parsed Row
 row_at left = do

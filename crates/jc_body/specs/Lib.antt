@@ -1,6 +1,5 @@
 pub mod CodeForm
 pub mod CodeReading
-pub mod ItemsAgree
 pub mod Attributes
 pub mod Standing
 pub mod FoundView

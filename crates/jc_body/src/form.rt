@@ -3,26 +3,28 @@ ghost use Rattle.std.specs.Prelude.{◌≡◌, ◌≤◌, length, IfOk, MatchOpt
 ghost use Rattle.jc_base.specs.Decoder.{SameEnd};
 ghost use Rattle.jc_base.specs.Parsing.{Parses};
 ghost use Rattle.jc_body.specs.CodeReading.{row_at, code_at};
-ghost use Rattle.jc_body.specs.CodeForm.{row, IsCodeText};
-ghost use Rattle.jc_body.specs.ItemsAgree.{row_agrees};
+ghost use Rattle.jc_body.specs.CodeForm.{IsCodeText};
 ghost use Rattle.jc_body.specs.declared.items.CodeItems.{CodeItems as Items};
 
 use crate::items::{CodeItems, Row};
-use crate::table_item::{TableItem, counted};
-use jc_base::{Bytes, Fail, Memory, Reader, Refusal, piece_item, u16_item, u32_item};
+use jc_base::{
+    Bytes, Fail, ItemReader, Memory, Reader, Refusal, counted, piece_item, u16_item, u32_item,
+};
 use jc_class::read_attributes;
 use jc_pool::Pool;
 use std::alloc::Global;
 
-impl TableItem for Row {
-    ghost form = { row };
+/// The rows of an exception table.
+#[derive(Drop)]
+struct Rows;
 
-    ghost read_at = { row_at };
+impl ItemReader for Rows {
+    type Item = Row;
 
-    ghost agrees = { row_agrees };
+    ghost read_at = { λ _. row_at };
 
     #[tactic(auto, unfolding(crate::specs::CodeReading::row_at))]
-    fn read(reader: &mut Reader<'_>) -> Result<Row, Fail<Refusal>> {
+    fn read_item(&self, _alloc: Global, reader: &mut Reader<'_>) -> Result<Row, Fail<Refusal>> {
         let start = u16_item(reader)?;
         let end = u16_item(reader)?;
         let target = u16_item(reader)?;
@@ -52,7 +54,7 @@ fn code_items(
     let size = u32_item(reader)?;
     let piece = piece_item(reader, size)?;
     let code = Bytes::copy_of(alloc, piece)?;
-    let rows = counted(alloc, reader)?;
+    let rows = counted(alloc, reader, &Rows)?;
     let attributes = read_attributes(alloc, reader, pool)?;
     Ok(CodeItems {
         max_stack,

@@ -3,26 +3,35 @@ ghost use Rattle.std.specs.Prelude.{◌≤◌, length, IfOk, MatchOption, All};
 ghost use Rattle.jc_body.specs.CodeReading.{line_at, var_at};
 ghost use Rattle.jc_body.specs.CodeForm.{line_entry, var_entry};
 ghost use Rattle.jc_body.specs.Attributes.{AreTables};
-ghost use Rattle.jc_body.specs.ItemsAgree.{line_agrees, var_agrees};
 ghost use Rattle.jc_body.specs.declared.items.Tables.{Tables as AllTables};
 
 use crate::attributes::bodies_of;
 use crate::items::{LineEntry, Tables, VarEntry};
 use crate::table_item::{TableItem, joined_tables};
-use jc_base::{Fail, Memory, Reader, Refusal, u16_item};
+use jc_base::{Fail, ItemReader, Memory, Reader, Refusal, u16_item};
 use jc_class::Attribute;
 use jc_pool::Pool;
 use std::alloc::Global;
 
 impl TableItem for LineEntry {
     ghost form = { line_entry };
+}
 
-    ghost read_at = { line_at };
+/// The entries of a line table.
+#[derive(Drop)]
+struct LineEntries;
 
-    ghost agrees = { line_agrees };
+impl ItemReader for LineEntries {
+    type Item = LineEntry;
+
+    ghost read_at = { λ _. line_at };
 
     #[tactic(auto, unfolding(crate::specs::CodeReading::line_at))]
-    fn read(reader: &mut Reader<'_>) -> Result<LineEntry, Fail<Refusal>> {
+    fn read_item(
+        &self,
+        _alloc: Global,
+        reader: &mut Reader<'_>,
+    ) -> Result<LineEntry, Fail<Refusal>> {
         let start = u16_item(reader)?;
         let line = u16_item(reader)?;
         Ok(LineEntry { start, line })
@@ -31,13 +40,23 @@ impl TableItem for LineEntry {
 
 impl TableItem for VarEntry {
     ghost form = { var_entry };
+}
 
-    ghost read_at = { var_at };
+/// The entries of a variable table.
+#[derive(Drop)]
+struct VarEntries;
 
-    ghost agrees = { var_agrees };
+impl ItemReader for VarEntries {
+    type Item = VarEntry;
+
+    ghost read_at = { λ _. var_at };
 
     #[tactic(auto, unfolding(crate::specs::CodeReading::var_at))]
-    fn read(reader: &mut Reader<'_>) -> Result<VarEntry, Fail<Refusal>> {
+    fn read_item(
+        &self,
+        _alloc: Global,
+        reader: &mut Reader<'_>,
+    ) -> Result<VarEntry, Fail<Refusal>> {
         let start = u16_item(reader)?;
         let length = u16_item(reader)?;
         let name = u16_item(reader)?;
@@ -71,9 +90,9 @@ pub fn read_tables(
     let line_bodies = bodies_of(alloc, pool, b"LineNumberTable", attributes)?;
     let var_bodies = bodies_of(alloc, pool, b"LocalVariableTable", attributes)?;
     let kind_bodies = bodies_of(alloc, pool, b"LocalVariableTypeTable", attributes)?;
-    let lines = joined_tables(alloc, &line_bodies)?;
-    let vars = joined_tables(alloc, &var_bodies)?;
-    let kind_vars = joined_tables(alloc, &kind_bodies)?;
+    let lines = joined_tables(alloc, &LineEntries, &line_bodies)?;
+    let vars = joined_tables(alloc, &VarEntries, &var_bodies)?;
+    let kind_vars = joined_tables(alloc, &VarEntries, &kind_bodies)?;
     match (lines, vars, kind_vars) {
         (Some(lines), Some(vars), Some(kind_vars)) => Ok(Some(Tables {
             lines,

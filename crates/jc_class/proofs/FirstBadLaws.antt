@@ -1,5 +1,7 @@
 -- What is left at a failing item is no longer than all the bytes.
 use Rattle.std.proofs.Common.{◌≡◌, ◌⊎◌, inl, inr, ℕ, zero, suc, ◌-◌, ◌≤◌, Bool, true, false, List, [], ◌∷◌, ◌++◌, length, Option, Some, None, ap, arith, length-append}
+use Rattle.jc_base.specs.Counted.{counted}
+use Rattle.jc_base.specs.ItemForms.{number}
 use Rattle.jc_base.specs.Grammar.{Grammar, nothing, one, followed_by, times, WholeFails}
 use Rattle.jc_base.proofs.GrammarLaws.{whole_or_fails, never_both, one_value, one_failure}
 use Rattle.jc_pool.specs.declared.entry.Entry.{Entry}
@@ -7,7 +9,7 @@ use Rattle.jc_pool.specs.Pool.{is_wide}
 use Rattle.jc_pool.specs.EntryFormat.{IsEntry}
 use Rattle.jc_pool.specs.PoolGrammar.{IsCount, IsNarrow, behind, by_size, places, pool}
 use Rattle.jc_class.specs.declared.class_file.ClassFile.{ClassFile}
-use Rattle.jc_class.specs.ClassFormat.{number, counted, attribute, member, class_file}
+use Rattle.jc_class.specs.ClassFormat.{attribute, member, class_file}
 use Rattle.jc_class.specs.ClassReading.{class_at}
 use Rattle.jc_class.specs.ClassText.{ClassText, FirstBad}
 use Rattle.jc_class.proofs.ClassLaws.{class_agrees}

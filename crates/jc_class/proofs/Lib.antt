@@ -1,9 +1,10 @@
 pub mod RemainderLaws
 pub mod NamingLaws
-pub mod ListReadingLaws
+pub mod PartLaws
 pub mod ClassLaws
 pub mod WritingLaws
 pub mod NamedLaws
 pub mod OneClassLaws
 pub mod FirstBadLaws
 pub mod WholeLaws
+pub mod SizesLaws

@@ -1,17 +1,19 @@
 -- What is written names what it has to name.
-use Rattle.std.proofs.Common.{◌≡◌, ℕ, zero, suc, List, [], ◌∷◌, ◌++◌, refl, sym, ◌∙◌, ap, subst, append_assoc}
+use Rattle.std.proofs.Common.{◌≡◌, ℕ, zero, suc, List, [], ◌∷◌, ◌++◌, refl, sym, ◌∙◌, ap, subst}
 use Rattle.std.proofs.lemmas.List.{append-nil}
+use Rattle.jc_base.specs.Counted.{counted}
 use Rattle.jc_base.specs.Decoder.{IsBig}
+use Rattle.jc_base.specs.ItemForms.{number_where}
 use Rattle.jc_pool.specs.PoolGrammar as pools
 use Rattle.jc_class.specs.declared.class_file.ClassFile.{ClassFile}
 use Rattle.jc_class.specs.ClassText.{ClassText}
 use Rattle.std.specs.List.{AllByRecursion}
-use Rattle.jc_base.specs.Appending.{Appends}
+use Rattle.jc_base.specs.Appending.{Appends, Appended}
 use Rattle.jc_base.specs.Grammar.{Grammar, times}
-use Rattle.jc_base.proofs.AppendingLaws.{Appended}
+use Rattle.jc_base.proofs.AppendingLaws.{joined}
 use Rattle.jc_class.specs.declared.class_file.Attribute.{Attribute}
 use Rattle.jc_class.specs.declared.class_file.Member.{Member}
-use Rattle.jc_class.specs.ClassFormat.{number_where, counted, attribute, member, class_file, HasText, HasClass, HasFieldDescriptor, HasMethodDescriptor}
+use Rattle.jc_class.specs.ClassFormat.{attribute, member, class_file, HasText, HasClass, HasFieldDescriptor, HasMethodDescriptor}
 use Rattle.jc_class.specs.Writable.{Anything, AreCounted, IsAttribute, IsMember, IsClassFile}
 
 -- ---- each part can be written, whatever it names
@@ -95,10 +97,6 @@ members_named HasName HasDescriptor text xs is t =
     counted_named (member Anything Anything) (member HasName HasDescriptor) (IsMember HasName HasDescriptor) (member_named HasName HasDescriptor) text xs is.each t
 
 -- ---- a whole class file
-
--- one text behind another
-joined : (old mid new front rest : List ℕ) → mid ≡ old ++ front → new ≡ mid ++ rest → new ≡ old ++ (front ++ rest)
-joined old mid new front rest p q = q ∙ ap (λ (l : List ℕ). l ++ rest) p ∙ append_assoc old front rest
 
 module _ (c : ClassFile) (is : IsClassFile c) where
   pub class_put : (old s1 s2 s3 s4 s5 s6 s7 s8 s9 s10 new : List ℕ)

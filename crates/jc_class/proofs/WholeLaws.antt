@@ -1,34 +1,22 @@
 -- What was read can be written.
-use Rattle.std.proofs.Common.{◌≡◌, ℕ, zero, suc, ◌<◌, ◌^◌, List, [], ◌∷◌, ◌++◌, length, get_or, Result, Ok, Err, IfOk, sym, ◌∙◌, ap, subst, arith}
+use Rattle.std.proofs.Common.{◌≡◌, ℕ, zero, suc, ◌<◌, ◌^◌, List, [], ◌++◌, length, Result, Ok, Err, IfOk, sym, ◌∙◌, ap, subst, arith}
 use Rattle.std.specs.List.{AllByRecursion}
-use Rattle.byteorder.specs.Numbers.{big_from-lt}
 use Rattle.jc_base.specs.Appending.{Appends}
-use Rattle.jc_base.specs.Decoder.{IsBig}
+use Rattle.jc_base.specs.ByteLists.{AreBytes}
+use Rattle.jc_base.specs.Counted.{counted}
 use Rattle.jc_base.specs.Grammar.{Grammar, times}
+use Rattle.jc_base.specs.ItemForms.{number_where}
+use Rattle.jc_base.proofs.CountedLaws.{times_length}
+use Rattle.jc_base.proofs.OneTextLaws.{both_bytes, big_below}
 use Rattle.jc_base.specs.declared.fail.Fail.{Fail}
 use Rattle.jc_base.specs.declared.refusal.Refusal.{Refusal}
-use Rattle.jc_pool.specs.PoolGrammar.{AreBytes}
-use Rattle.jc_pool.proofs.OneTextLaws.{byte_at, both_bytes}
 use Rattle.jc_class.specs.declared.class_file.Attribute.{Attribute}
 use Rattle.jc_class.specs.declared.class_file.Member.{Member}
 use Rattle.jc_class.specs.declared.class_file.ClassFile.{ClassFile}
-use Rattle.jc_class.specs.ClassFormat.{number_where, counted, attribute, member, class_file, HasText, HasClass, HasFieldDescriptor, HasMethodDescriptor}
+use Rattle.jc_class.specs.ClassFormat.{attribute, member, class_file, HasText, HasClass, HasFieldDescriptor, HasMethodDescriptor}
 use Rattle.jc_class.specs.ClassText.{ClassText}
 use Rattle.jc_class.specs.Writable.{AreCounted, IsAttribute, IsMember, IsClassFile}
-use Rattle.jc_class.proofs.OneClassLaws.{one_class, times_length}
-
--- the items of a list below 256 are bytes
-pub are_bytes : (bytes : List ℕ) → ((i : ℕ) → get_or bytes i 0 < 256) → AreBytes bytes
-are_bytes [] fit = tt
-are_bytes (b ∷ bytes) fit = (fit 0, are_bytes bytes (λ i. fit (suc i)))
-
--- the items of a vector are bytes
-pub items_are_bytes : (items : List ℕ) → ((i d : ℕ) → i < length items → get_or items i d < 256) → AreBytes items
-items_are_bytes [] fit = tt
-items_are_bytes (b ∷ items) fit = (fit 0 0 (omega arith), items_are_bytes items (λ i d within. fit (suc i) d (omega (arith, within))))
-
-big_below : (n x : ℕ) (text : List ℕ) → AreBytes text → IsBig n text x → x < 256 ^ n
-big_below n x text are big = subst (λ (y : ℕ). y < 256 ^ n) big.value (big_from-lt 0 n text (byte_at text are))
+use Rattle.jc_class.proofs.OneClassLaws.{one_class}
 
 -- the bytes of two parts
 module _ {X : Type 0} (g : Grammar X) (Fact : X → Type 0) (holds : (text : List ℕ) (x : X) → AreBytes text → g.Text text x → Fact x) where

@@ -1,23 +1,16 @@
 -- What the writing of a class file appends.
-use Rattle.std.proofs.Common.{◌≡◌, ℕ, ◌+◌, ◌<◌, List, [], ◌++◌, length, drop, get_or, refl, sym, ◌∙◌, ap, subst, append_assoc}
-use Rattle.std.proofs.lemmas.List.{append-nil}
+use Rattle.std.proofs.Common.{◌≡◌, ℕ, ◌+◌, ◌<◌, List, [], ◌++◌, length, drop, get_or, refl, subst}
 use Rattle.std.specs.List.{AllByRecursion}
-use Rattle.jc_base.specs.Appending.{Appends}
+use Rattle.jc_base.specs.Appending.{Appends, Appended}
+use Rattle.jc_base.specs.Counted.{counted}
 use Rattle.jc_base.specs.Decoder.{IsBig}
+use Rattle.jc_base.specs.ItemForms.{number_where}
 use Rattle.jc_base.specs.Grammar.{Grammar, times}
-use Rattle.jc_base.proofs.AppendingLaws.{Appended, Writing, drop_is, writing_begun, writes_next}
+use Rattle.jc_base.proofs.AppendingLaws.{joined, ended, Writing, drop_is, writing_begun, writes_next}
 use Rattle.jc_class.specs.declared.class_file.Attribute.{Attribute}
 use Rattle.jc_class.specs.declared.class_file.Member.{Member}
-use Rattle.jc_class.specs.ClassFormat.{number_where, counted, attribute, member}
+use Rattle.jc_class.specs.ClassFormat.{attribute, member}
 use Rattle.jc_class.specs.Writable.{Anything}
-
--- one text behind another
-joined : (old mid new front rest : List ℕ) → mid ≡ old ++ front → new ≡ mid ++ rest → new ≡ old ++ (front ++ rest)
-joined old mid new front rest p q = q ∙ ap (λ (l : List ℕ). l ++ rest) p ∙ append_assoc old front rest
-
--- the last text
-ended : (old new last : List ℕ) → new ≡ old ++ last → new ≡ old ++ (last ++ [])
-ended old new last p = p ∙ ap (λ (l : List ℕ). old ++ l) (sym (append-nil last))
 
 pub interface_put : (n : ℕ) (old new : List ℕ) → Appends (λ text. IsBig 2 text n) old new → Appended (number_where Anything) n old new
 interface_put n old new a = record { text = a.text; parts = a.parts; spells = (a.spells, tt) }

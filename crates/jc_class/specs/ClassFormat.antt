@@ -1,8 +1,10 @@
 -- The form of a class file, item by item (JVM Specification 4.1, 4.5 to 4.7).
-use Rattle.std.specs.Prelude.{◌≡◌, ◌⊎◌, ℕ, Some, List, length}
+use Rattle.std.specs.Prelude.{◌≡◌, ◌⊎◌, ℕ, Some, List}
+use Rattle.jc_base.specs.Counted.{counted}
 use Rattle.jc_base.specs.Decoder.{IsBig}
 use Rattle.jc_base.specs.Descriptor.{IsFieldDescriptor, IsMethodDescriptor}
-use Rattle.jc_base.specs.Grammar.{Grammar, nothing, one, followed_by, times}
+use Rattle.jc_base.specs.Grammar.{Grammar, nothing, one}
+use Rattle.jc_base.specs.ItemForms.{◌>>=◌, number, number_where, piece}
 use Rattle.jc_base.specs.Modified.{IsModified}
 use Rattle.jc_pool.specs.Lookup.{utf8_of, class_name_of}
 use Rattle.jc_pool.specs.Pool.{PoolValue}
@@ -35,31 +37,9 @@ HasMethodDescriptor pool place = (text : List ℕ) × (utf8_of pool place ≡ So
 
 -- ---- items
 
-infixl 10 ◌>>=◌
-abbrev pub ◌>>=◌ : {X Y : Type 0} → Grammar X → (X → Grammar Y) → Grammar Y
-g >>= f = followed_by g f
-
 -- the number in front of every class file
 abbrev pub magic : Grammar (Unit {0})
 magic = one (λ bytes _. IsBig 4 bytes 0xcafebabe)
-
--- a number of n bytes
-abbrev pub number : ℕ → Grammar ℕ
-number n = one (IsBig n)
-
--- a number of two bytes of which something holds
-abbrev pub number_where : (ℕ → Type 0) → Grammar ℕ
-number_where Fact = one (λ bytes n. IsBig 2 bytes n × Fact n)
-
--- n bytes of any kind
-abbrev pub piece : ℕ → Grammar (List ℕ)
-piece n = one (λ bytes body. (length bytes ≡ n) × (bytes ≡ body))
-
--- a count of two bytes, and so many parts
-abbrev pub counted : {X : Type 0} → Grammar X → Grammar (List X)
-counted g = do
-  count ← number 2
-  times count g
 
 -- ---- the parts (JVM Specification 4.7, 4.5, 4.6)
 
@@ -95,4 +75,15 @@ class_file = do
   fields ← counted (member (HasText pool) (HasFieldDescriptor pool))
   methods ← counted (member (HasText pool) (HasMethodDescriptor pool))
   attributes ← counted (attribute (HasText pool))
-  nothing (record { minor = minor; major = major; pool = pool; flags = flags; this_class = this_class; super_class = super_class; interfaces = interfaces; fields = fields; methods = methods; attributes = attributes })
+  nothing (record {
+    minor = minor;
+    major = major;
+    pool = pool;
+    flags = flags;
+    this_class = this_class;
+    super_class = super_class;
+    interfaces = interfaces;
+    fields = fields;
+    methods = methods;
+    attributes = attributes;
+  })

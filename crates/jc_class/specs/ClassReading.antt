@@ -1,7 +1,8 @@
 -- Reading a class file, item by item.
 use Rattle.std.specs.Prelude.{◌≡◌, ◌≢◌, ◌⊎◌, ℕ, List, [], take, Result, Ok, Err}
+use Rattle.jc_base.specs.Counted.{counted_at}
 use Rattle.jc_base.specs.Decoder.{first, number_at}
-use Rattle.jc_base.specs.Parsing.{Parsed, Good, Bad, ◌>>=◌, item, times_at, RefusedAt}
+use Rattle.jc_base.specs.Parsing.{Parsed, Good, Bad, ◌>>=◌, item, RefusedAt}
 use Rattle.jc_base.specs.declared.fail.Fail.{Fail}
 use Rattle.jc_base.specs.declared.fail.Fail.TheVariants as fails
 use Rattle.jc_base.specs.declared.refusal.Refusal.{Refusal}
@@ -25,10 +26,8 @@ attribute_at pool left = do
   body ← item (first size.0 (take size.0)) size.1
   Good (record { name = name.0; body = body.0 }) body.1
 
-unfoldable pub attributes_at : PoolValue → List ℕ → Parsed (List Attribute)
-attributes_at pool left = do
-  count ← item (number_at 2) left
-  times_at count.0 (attribute_at pool) count.1
+abbrev pub attributes_at : PoolValue → List ℕ → Parsed (List Attribute)
+attributes_at pool left = counted_at (attribute_at pool) left
 
 unfoldable pub member_at : PoolValue → Named → List ℕ → Parsed Member
 member_at pool what left = do
@@ -37,16 +36,6 @@ member_at pool what left = do
   desc ← named_at pool what name.1
   attributes ← attributes_at pool desc.1
   Good (record { flags = flags.0; name = name.0; desc = desc.0; attributes = attributes.0 }) attributes.1
-
-unfoldable pub members_at : PoolValue → Named → List ℕ → Parsed (List Member)
-members_at pool what left = do
-  count ← item (number_at 2) left
-  times_at count.0 (member_at pool what) count.1
-
-unfoldable pub interfaces_at : PoolValue → List ℕ → Parsed (List ℕ)
-interfaces_at pool left = do
-  count ← item (number_at 2) left
-  times_at count.0 (named_at pool named.Class) count.1
 
 -- a whole class file, and what stands behind it
 unfoldable pub class_at : List ℕ → Parsed ClassFile
@@ -58,11 +47,22 @@ class_at left = do
   flags ← item (number_at 2) pool.1
   this_class ← named_at pool.0 named.Class flags.1
   super_class ← named_at pool.0 named.ClassOrNone this_class.1
-  interfaces ← interfaces_at pool.0 super_class.1
-  fields ← members_at pool.0 named.FieldDescriptor interfaces.1
-  methods ← members_at pool.0 named.MethodDescriptor fields.1
+  interfaces ← counted_at (named_at pool.0 named.Class) super_class.1
+  fields ← counted_at (member_at pool.0 named.FieldDescriptor) interfaces.1
+  methods ← counted_at (member_at pool.0 named.MethodDescriptor) fields.1
   attributes ← attributes_at pool.0 methods.1
-  Good (record { minor = minor.0; major = major.0; pool = pool.0; flags = flags.0; this_class = this_class.0; super_class = super_class.0; interfaces = interfaces.0; fields = fields.0; methods = methods.0; attributes = attributes.0 }) attributes.1
+  Good (record {
+    minor = minor.0;
+    major = major.0;
+    pool = pool.0;
+    flags = flags.0;
+    this_class = this_class.0;
+    super_class = super_class.0;
+    interfaces = interfaces.0;
+    fields = fields.0;
+    methods = methods.0;
+    attributes = attributes.0;
+  }) attributes.1
 
 -- a class file that was not whole, or bytes that are left behind one
 abbrev pub Stops : Parsed ClassFile → List ℕ → Type 0

@@ -4,3 +4,4 @@ pub mod ClassText
 pub mod ItemReading
 pub mod ClassReading
 pub mod Writable
+pub mod Sizes

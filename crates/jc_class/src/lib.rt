@@ -5,13 +5,15 @@ mod class_file;
 mod id;
 mod item;
 mod laws;
+mod parts;
 mod read;
 mod write;
 
 pub use class_file::{Attribute, ClassFile, Member};
 pub use id::class_id;
 pub use laws::{each_class_has_one_text, each_text_is_read_or_refused};
-pub use read::{read_attributes, read_class};
+pub use parts::read_attributes;
+pub use read::read_class;
 pub use write::write_class;
 
 #[cfg(test)]

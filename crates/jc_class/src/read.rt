@@ -1,169 +1,19 @@
 //! Reading a class file.
 ghost use Rattle.std.specs.Prelude.{◌≡◌, ◌≤◌, ℕ, length, IfOk, IfErr, MatchResult};
-ghost use Rattle.jc_base.specs.Decoder.{SameEnd, number_at};
-ghost use Rattle.jc_base.specs.Parsing.{Parses, item, times_at};
-ghost use Rattle.jc_class.specs.ClassReading.{named_at, attribute_at, attributes_at, member_at, members_at, interfaces_at, class_at, GivesWhole};
+ghost use Rattle.jc_base.specs.Decoder.{SameEnd};
+ghost use Rattle.jc_base.specs.Parsing.{Parses};
+ghost use Rattle.jc_class.specs.ClassReading.{class_at, GivesWhole};
 ghost use Rattle.jc_class.specs.ClassText.{ClassText, FirstBad, RefusedAs};
 ghost use Rattle.jc_class.specs.Writable.{IsClassFile};
+ghost use Rattle.jc_class.specs.Sizes.{AttributesWithin};
 ghost use Rattle.jc_class.specs.declared.class_file.ClassFile.{ClassFile};
 
+use crate::ClassFile;
 use crate::item::{Named, magic_item, place_item};
-use crate::{Attribute, ClassFile, Member};
-use jc_base::{Bytes, Fail, List, Reader, Refusal, not_a_class, piece_item, u16_item, u32_item};
+use crate::parts::{read_attributes, read_interfaces, read_members};
+use jc_base::{Fail, Reader, Refusal, not_a_class, u16_item};
 use jc_pool::Pool;
 use std::alloc::Global;
-
-/// The places of so many interfaces.
-fn listed_interfaces(
-    alloc: Global,
-    reader: &mut Reader<'_>,
-    pool: &Pool,
-    count: u16,
-) -> Result<List<u16>, Fail<Refusal>>
-    ensures gives { Parses (λ x. x) result reader.old reader.new (times_at count (named_at pool.now Named.Class) reader.old.left) }
-    ensures end { SameEnd reader.old reader.new }
-    ensures later { reader.old.place ≤ reader.new.place }
-{
-    let mut list = List::from_vec(Vec::with_capacity(alloc, usize::from(count))?);
-    'reading: for _place in 0..count {
-        let item = place_item(reader, pool, Named::Class)?;
-        list.push(item)?;
-    }
-    Ok(list)
-}
-
-/// The interfaces (JVM Specification 4.1).
-#[tactic(auto, unfolding(crate::specs::ClassReading::interfaces_at))]
-fn interfaces(
-    alloc: Global,
-    reader: &mut Reader<'_>,
-    pool: &Pool,
-) -> Result<List<u16>, Fail<Refusal>>
-    ensures gives { Parses (λ x. x) result reader.old reader.new (interfaces_at pool.now reader.old.left) }
-    ensures end { SameEnd reader.old reader.new }
-    ensures later { reader.old.place ≤ reader.new.place }
-{
-    let count = u16_item(reader)?;
-    listed_interfaces(alloc, reader, pool, count)
-}
-
-/// An attribute (JVM Specification 4.7).
-#[tactic(auto, unfolding(crate::specs::ClassReading::attribute_at))]
-fn attribute(
-    alloc: Global,
-    reader: &mut Reader<'_>,
-    pool: &Pool,
-) -> Result<Attribute, Fail<Refusal>>
-    ensures gives { Parses (λ x. x) result reader.old reader.new (attribute_at pool.now reader.old.left) }
-    ensures end { SameEnd reader.old reader.new }
-    ensures later { reader.old.place ≤ reader.new.place }
-{
-    let name = place_item(reader, pool, Named::Text)?;
-    let size = u32_item(reader)?;
-    let piece = piece_item(reader, size)?;
-    let body = Bytes::copy_of(alloc, piece)?;
-    Ok(Attribute { name, body })
-}
-
-/// So many attributes.
-fn listed_attributes(
-    alloc: Global,
-    reader: &mut Reader<'_>,
-    pool: &Pool,
-    count: u16,
-) -> Result<List<Attribute>, Fail<Refusal>>
-    ensures gives { Parses (λ x. x) result reader.old reader.new (times_at count (attribute_at pool.now) reader.old.left) }
-    ensures end { SameEnd reader.old reader.new }
-    ensures later { reader.old.place ≤ reader.new.place }
-{
-    let mut list = List::from_vec(Vec::with_capacity(alloc, usize::from(count))?);
-    'reading: for _place in 0..count {
-        let item = attribute(alloc, reader, pool)?;
-        list.push(item)?;
-    }
-    Ok(list)
-}
-
-/// A count and so many attributes (JVM Specification 4.7), as they stand in a class, a field, a method
-/// and a Code attribute. The names have to be Utf8 entries of the pool.
-///
-/// # Errors
-///
-/// `Memory` where memory was refused. `NotAClass`, with the offset of the item, at the first item
-/// that fails.
-#[tactic(auto, unfolding(crate::specs::ClassReading::attributes_at))]
-pub fn read_attributes(
-    alloc: Global,
-    reader: &mut Reader<'_>,
-    pool: &Pool,
-) -> Result<List<Attribute>, Fail<Refusal>>
-    ensures gives { Parses (λ x. x) result reader.old reader.new (attributes_at pool.now reader.old.left) }
-    ensures end { SameEnd reader.old reader.new }
-    ensures later { reader.old.place ≤ reader.new.place }
-{
-    let count = u16_item(reader)?;
-    listed_attributes(alloc, reader, pool, count)
-}
-
-/// A field or a method (JVM Specification 4.5, 4.6), whose descriptor is of this kind.
-#[tactic(auto, unfolding(crate::specs::ClassReading::member_at))]
-fn member(
-    alloc: Global,
-    reader: &mut Reader<'_>,
-    pool: &Pool,
-    descriptor: Named,
-) -> Result<Member, Fail<Refusal>>
-    ensures gives { Parses (λ x. x) result reader.old reader.new (member_at pool.now descriptor reader.old.left) }
-    ensures end { SameEnd reader.old reader.new }
-    ensures later { reader.old.place ≤ reader.new.place }
-{
-    let flags = u16_item(reader)?;
-    let name = place_item(reader, pool, Named::Text)?;
-    let desc = place_item(reader, pool, descriptor)?;
-    let attributes = read_attributes(alloc, reader, pool)?;
-    Ok(Member {
-        flags,
-        name,
-        desc,
-        attributes,
-    })
-}
-
-/// So many fields or methods.
-fn listed_members(
-    alloc: Global,
-    reader: &mut Reader<'_>,
-    pool: &Pool,
-    descriptor: Named,
-    count: u16,
-) -> Result<List<Member>, Fail<Refusal>>
-    ensures gives { Parses (λ x. x) result reader.old reader.new (times_at count (member_at pool.now descriptor) reader.old.left) }
-    ensures end { SameEnd reader.old reader.new }
-    ensures later { reader.old.place ≤ reader.new.place }
-{
-    let mut list = List::from_vec(Vec::with_capacity(alloc, usize::from(count))?);
-    'reading: for _place in 0..count {
-        let item = member(alloc, reader, pool, descriptor)?;
-        list.push(item)?;
-    }
-    Ok(list)
-}
-
-/// The fields or the methods.
-#[tactic(auto, unfolding(crate::specs::ClassReading::members_at))]
-fn members(
-    alloc: Global,
-    reader: &mut Reader<'_>,
-    pool: &Pool,
-    descriptor: Named,
-) -> Result<List<Member>, Fail<Refusal>>
-    ensures gives { Parses (λ x. x) result reader.old reader.new (members_at pool.now descriptor reader.old.left) }
-    ensures end { SameEnd reader.old reader.new }
-    ensures later { reader.old.place ≤ reader.new.place }
-{
-    let count = u16_item(reader)?;
-    listed_members(alloc, reader, pool, descriptor, count)
-}
 
 /// A class file (JVM Specification 4.1), from its first item to its last.
 #[tactic(auto, unfolding(crate::specs::ClassReading::class_at))]
@@ -178,9 +28,9 @@ fn parsed(alloc: Global, reader: &mut Reader<'_>) -> Result<ClassFile, Fail<Refu
     let flags = u16_item(reader)?;
     let this_class = place_item(reader, &pool, Named::Class)?;
     let super_class = place_item(reader, &pool, Named::ClassOrNone)?;
-    let interfaces = interfaces(alloc, reader, &pool)?;
-    let fields = members(alloc, reader, &pool, Named::FieldDescriptor)?;
-    let methods = members(alloc, reader, &pool, Named::MethodDescriptor)?;
+    let interfaces = read_interfaces(alloc, reader, &pool)?;
+    let fields = read_members(alloc, reader, &pool, Named::FieldDescriptor)?;
+    let methods = read_members(alloc, reader, &pool, Named::MethodDescriptor)?;
     let attributes = read_attributes(alloc, reader, &pool)?;
     Ok(ClassFile {
         minor,
@@ -230,8 +80,10 @@ pub fn read_class(alloc: Global, bytes: &[u8]) -> Result<ClassFile, Fail<Refusal
     // What is read is the class file that the bytes spell, and other bytes are refused where they first fail.
     ensures read { IfOk result (ClassText bytes.now) }
     ensures refused { IfErr result (λ e. RefusedAs e (FirstBad bytes.now)) }
-    // What is read can be written.
+    // What is read can be written, and no attribute is longer than the bytes, which are at most 67,108,864.
     ensures whole { IfOk result IsClassFile }
+    ensures within { IfOk result (AttributesWithin (length bytes.now)) }
+    ensures sizes { IfOk result (AttributesWithin 67108864) }
     // The text of a class file is read, and bytes that fail are refused, unless memory runs out.
     ensures taken { (c : ClassFile) → ClassText bytes.now c → MatchResult result (λ d. d ≡ c) (λ e. e ≡ Fail.Memory) }
     ensures failing { (place : ℕ) → FirstBad bytes.now place

@@ -1,10 +1,12 @@
 //! Writing a class file.
 ghost use Rattle.std.specs.Prelude.{◌≡◌, ◌≤◌, ℕ, List, length, OnOk, IfOk};
-ghost use Rattle.jc_base.specs.Appending.{Appends};
+ghost use Rattle.jc_base.specs.Appending.{Appends, Appended};
+ghost use Rattle.jc_base.specs.ByteLists.{AreBytes};
+ghost use Rattle.jc_base.specs.Counted.{counted};
 ghost use Rattle.jc_base.specs.Grammar.{times};
-ghost use Rattle.jc_class.specs.ClassFormat.{number_where, counted, attribute as attribute_form, member as member_form};
+ghost use Rattle.jc_base.specs.ItemForms.{number_where};
+ghost use Rattle.jc_class.specs.ClassFormat.{attribute as attribute_form, member as member_form};
 ghost use Rattle.jc_class.specs.Writable.{Anything, AreCounted, IsAttribute, IsMember, IsClassFile};
-ghost use Rattle.jc_pool.specs.PoolGrammar.{AreBytes};
 ghost use Rattle.jc_class.specs.ClassText.{ClassText};
 ghost use Rattle.std.specs.List.{AllByRecursion};
 
@@ -16,7 +18,7 @@ use std::alloc::Global;
 /// Puts an attribute at the end (JVM Specification 4.7).
 fn put_attribute(into: &mut Vec<u8>, attribute: &Attribute) -> Result<(), Memory>
     requires { IsAttribute Anything attribute.now }
-    ensures { OnOk result (Appends (λ text. (attribute_form Anything).Text text attribute.now) into.old.items into.new.items) }
+    ensures { OnOk result (Appended (attribute_form Anything) attribute.now into.old.items into.new.items) }
 {
     put_u16(into, attribute.name)?;
     put_u32(into, attribute.body.len() as u32)?;
@@ -26,7 +28,7 @@ fn put_attribute(into: &mut Vec<u8>, attribute: &Attribute) -> Result<(), Memory
 /// Puts attributes at the end, one behind the other.
 fn put_listed_attributes(into: &mut Vec<u8>, attributes: &[Attribute]) -> Result<(), Memory>
     requires { AllByRecursion (IsAttribute Anything) attributes.now }
-    ensures { OnOk result (Appends (λ text. (times (length attributes.now) (attribute_form Anything)).Text text attributes.now) into.old.items into.new.items) }
+    ensures { OnOk result (Appended (times (length attributes.now) (attribute_form Anything)) attributes.now into.old.items into.new.items) }
 {
     'writing: for attribute in attributes {
         put_attribute(into, attribute)?;
@@ -37,7 +39,7 @@ fn put_listed_attributes(into: &mut Vec<u8>, attributes: &[Attribute]) -> Result
 /// Puts the count of attributes at the end, and the attributes.
 fn put_attributes(into: &mut Vec<u8>, attributes: &[Attribute]) -> Result<(), Memory>
     requires { AreCounted (IsAttribute Anything) attributes.now }
-    ensures { OnOk result (Appends (λ text. (counted (attribute_form Anything)).Text text attributes.now) into.old.items into.new.items) }
+    ensures { OnOk result (Appended (counted (attribute_form Anything)) attributes.now into.old.items into.new.items) }
 {
     put_u16(into, attributes.len() as u16)?;
     put_listed_attributes(into, attributes)
@@ -46,7 +48,7 @@ fn put_attributes(into: &mut Vec<u8>, attributes: &[Attribute]) -> Result<(), Me
 /// Puts a field or a method at the end (JVM Specification 4.5, 4.6).
 fn put_member(into: &mut Vec<u8>, member: &Member) -> Result<(), Memory>
     requires { IsMember Anything Anything member.now }
-    ensures { OnOk result (Appends (λ text. (member_form Anything Anything).Text text member.now) into.old.items into.new.items) }
+    ensures { OnOk result (Appended (member_form Anything Anything) member.now into.old.items into.new.items) }
 {
     put_u16(into, member.flags)?;
     put_u16(into, member.name)?;
@@ -57,7 +59,7 @@ fn put_member(into: &mut Vec<u8>, member: &Member) -> Result<(), Memory>
 /// Puts fields or methods at the end, one behind the other.
 fn put_listed_members(into: &mut Vec<u8>, members: &[Member]) -> Result<(), Memory>
     requires { AllByRecursion (IsMember Anything Anything) members.now }
-    ensures { OnOk result (Appends (λ text. (times (length members.now) (member_form Anything Anything)).Text text members.now) into.old.items into.new.items) }
+    ensures { OnOk result (Appended (times (length members.now) (member_form Anything Anything)) members.now into.old.items into.new.items) }
 {
     'writing: for member in members {
         put_member(into, member)?;
@@ -68,7 +70,7 @@ fn put_listed_members(into: &mut Vec<u8>, members: &[Member]) -> Result<(), Memo
 /// Puts the count of fields or methods at the end, and those.
 fn put_members(into: &mut Vec<u8>, members: &[Member]) -> Result<(), Memory>
     requires { AreCounted (IsMember Anything Anything) members.now }
-    ensures { OnOk result (Appends (λ text. (counted (member_form Anything Anything)).Text text members.now) into.old.items into.new.items) }
+    ensures { OnOk result (Appended (counted (member_form Anything Anything)) members.now into.old.items into.new.items) }
 {
     put_u16(into, members.len() as u16)?;
     put_listed_members(into, members)
@@ -76,7 +78,7 @@ fn put_members(into: &mut Vec<u8>, members: &[Member]) -> Result<(), Memory>
 
 /// Puts the places of interfaces at the end, one behind the other.
 fn put_listed_interfaces(into: &mut Vec<u8>, interfaces: &[u16]) -> Result<(), Memory>
-    ensures { OnOk result (Appends (λ text. (times (length interfaces.now) (number_where Anything)).Text text interfaces.now) into.old.items into.new.items) }
+    ensures { OnOk result (Appended (times (length interfaces.now) (number_where Anything)) interfaces.now into.old.items into.new.items) }
 {
     'writing: for interface in interfaces {
         put_u16(into, *interface)?;
@@ -87,7 +89,7 @@ fn put_listed_interfaces(into: &mut Vec<u8>, interfaces: &[u16]) -> Result<(), M
 /// Puts the count of interfaces at the end, and their places.
 fn put_interfaces(into: &mut Vec<u8>, interfaces: &[u16]) -> Result<(), Memory>
     requires { length interfaces.now ≤ 65535 }
-    ensures { OnOk result (Appends (λ text. (counted (number_where Anything)).Text text interfaces.now) into.old.items into.new.items) }
+    ensures { OnOk result (Appended (counted (number_where Anything)) interfaces.now into.old.items into.new.items) }
 {
     put_u16(into, interfaces.len() as u16)?;
     put_listed_interfaces(into, interfaces)

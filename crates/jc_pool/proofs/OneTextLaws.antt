@@ -1,59 +1,19 @@
 -- A pool has one text in bytes.
-use Rattle.std.proofs.Common.{◌≡◌, inl, inr, ℕ, ℤ, zero, suc, ◌+◌, ◌-◌, ◌*◌, ◌<◌, ◌≤◌, ◌^◌, Bool, true, false, List, [], ◌∷◌, ◌++◌, length, slice_index, Option, Some, None, refl, sym, ◌∙◌, ap, subst, arith}
+use Rattle.std.proofs.Common.{◌≡◌, ℕ, ℤ, zero, suc, ◌-◌, ◌<◌, ◌^◌, Bool, true, false, List, [], ◌∷◌, ◌++◌, length, Option, Some, None, sym, ◌∙◌, ap, subst, arith}
 use Rattle.std.specs.Int.{w32, w64, cast_unsigned}
-use Rattle.std.proofs.lemmas.Bool.{cases_lt}
 use Rattle.std.proofs.lemmas.Int.{of_z-to_z}
-use Rattle.std.proofs.Math.Nat.{mul-le-mul_right}
-use Rattle.byteorder.specs.Endian.{big_number, big_from}
-use Rattle.byteorder.specs.Numbers.{big_from-cons, big_from-lt}
-use Rattle.std.proofs.lemmas.List.{append-nil}
+use Rattle.std.proofs.lemmas.List.{append_cancel_left}
+use Rattle.byteorder.specs.Endian.{big_number}
+use Rattle.byteorder.specs.Numbers.{big_from-lt}
+use Rattle.jc_base.specs.ByteLists.{AreBytes}
 use Rattle.jc_base.specs.Decoder.{IsBig}
-use Rattle.jc_base.specs.Grammar.{Grammar}
+use Rattle.jc_base.specs.Grammar.{Grammar, nothing, one}
+use Rattle.jc_base.proofs.OneTextLaws.{OneText, byte_at, both_bytes, same_bytes, one_big, one_nothing, one_followed}
 use Rattle.jc_pool.specs.declared.entry.Entry.{Entry}
 use Rattle.jc_pool.specs.declared.entry.Entry.TheVariants as entry
 use Rattle.jc_pool.specs.Pool.{PoolValue, is_wide}
 use Rattle.jc_pool.specs.EntryFormat.{IsSigned, IsUtf8, ArePlaces, IsHandle, IsInfo, tag_of, IsEntry}
-use Rattle.jc_pool.specs.PoolGrammar.{by_size, behind, places, pool, AreBytes}
-
--- ---- bytes
-
-pub byte_at : (bytes : List ℕ) → AreBytes bytes → (k : ℕ) → slice_index bytes k < 256
-byte_at [] are k = omega arith
-byte_at (x ∷ xs) are zero = are.0
-byte_at (x ∷ xs) are (suc k) = byte_at xs are.1 k
-
--- a number above another, and what is below a place
-digits : (p x y r s : ℕ) → r < p → s < p → x * p + r ≡ y * p + s → (x ≡ y) × (r ≡ s)
-digits p x y r s low below is = elim (cases_lt x y) [
-  | inl less ↦ let top : (x + 1) * p ≤ y * p = mul-le-mul_right p (omega (arith, less)) in absurd (grind (arith, top, is, low))
-  | inr more ↦ elim (cases_lt y x) [
-    | inl less ↦ let top : (y + 1) * p ≤ x * p = mul-le-mul_right p (omega (arith, less)) in absurd (grind (arith, top, is, below))
-    | inr same ↦ let e : x ≡ y = omega (arith, more, same) in (e, rest e)
-  ]
-]
-  where
-    rest : x ≡ y → r ≡ s
-    rest e = omega (arith, is, ap (λ (z : ℕ). z * p) e)
-
-one_number : (n : ℕ) (a b : List ℕ) → AreBytes a → AreBytes b → length a ≡ n → length b ≡ n → big_number n a ≡ big_number n b → a ≡ b
-one_number zero [] [] p q size long is = refl
-one_number zero (x ∷ a) b p q size long is = absurd (omega (arith, size))
-one_number zero [] (y ∷ b) p q size long is = absurd (omega (arith, long))
-one_number (suc n) [] b p q size long is = absurd (omega (arith, size))
-one_number (suc n) (x ∷ a) [] p q size long is = absurd (omega (arith, long))
-one_number (suc n) (x ∷ a) (y ∷ b) p q size long is =
-    let parts : x * 256 ^ n + big_from 0 n a ≡ y * 256 ^ n + big_from 0 n b =
-    ap (λ (r : ℕ). x * 256 ^ n + r) (sym (big_from-cons 0 n x a)) ∙ is ∙ ap (λ (r : ℕ). y * 256 ^ n + r) (big_from-cons 0 n y b) in
-    let d = digits (256 ^ n) x y (big_from 0 n a) (big_from 0 n b) (big_from-lt 0 n a (byte_at a p.1)) (big_from-lt 0 n b (byte_at b q.1)) parts in
-    let rest = one_number n a b p.1 q.1 (omega (arith, size)) (omega (arith, long)) d.1 in
-    λ i. d.0 i ∷ rest i
-
-pub one_big : (n : ℕ) (a b : List ℕ) (x : ℕ) → AreBytes a → AreBytes b → IsBig n a x → IsBig n b x → a ≡ b
-one_big n a b x p q big long = one_number n a b p q big.size long.size (big.value ∙ sym long.value)
-
-pub both_bytes : (a b : List ℕ) → AreBytes (a ++ b) → AreBytes a × AreBytes b
-both_bytes [] b p = (tt, p)
-both_bytes (x ∷ a) b p = let r = both_bytes a b p.1 in ((p.0, r.0), r.1)
+use Rattle.jc_pool.specs.PoolGrammar.{IsNarrow, by_size, behind, places, pool}
 
 -- ---- an entry
 
@@ -61,13 +21,13 @@ one_int : (a b : List ℕ) (value : ℤ) → AreBytes a → AreBytes b → IsSig
 one_int a b value p q x y =
     let low : big_number 4 a < 2 ^ 32 = omega (arith, big_from-lt 0 4 a (byte_at a p)) in
     let high : big_number 4 b < 2 ^ 32 = omega (arith, big_from-lt 0 4 b (byte_at b q)) in
-    one_number 4 a b p q x.size y.size (sym (of_z-to_z w32 (big_number 4 a) low) ∙ ap (cast_unsigned w32) (x.value_is ∙ sym y.value_is) ∙ of_z-to_z w32 (big_number 4 b) high)
+    same_bytes 4 a b p q x.size y.size (sym (of_z-to_z w32 (big_number 4 a) low) ∙ ap (cast_unsigned w32) (x.value_is ∙ sym y.value_is) ∙ of_z-to_z w32 (big_number 4 b) high)
 
 one_long : (a b : List ℕ) (value : ℤ) → AreBytes a → AreBytes b → IsSigned w64 8 a value → IsSigned w64 8 b value → a ≡ b
 one_long a b value p q x y =
     let low : big_number 8 a < 2 ^ 64 = omega (arith, big_from-lt 0 8 a (byte_at a p)) in
     let high : big_number 8 b < 2 ^ 64 = omega (arith, big_from-lt 0 8 b (byte_at b q)) in
-    one_number 8 a b p q x.size y.size (sym (of_z-to_z w64 (big_number 8 a) low) ∙ ap (cast_unsigned w64) (x.value_is ∙ sym y.value_is) ∙ of_z-to_z w64 (big_number 8 b) high)
+    same_bytes 8 a b p q x.size y.size (sym (of_z-to_z w64 (big_number 8 a) low) ∙ ap (cast_unsigned w64) (x.value_is ∙ sym y.value_is) ∙ of_z-to_z w64 (big_number 8 b) high)
 
 one_utf8 : (a b text : List ℕ) → AreBytes a → AreBytes b → IsUtf8 a text → IsUtf8 b text → a ≡ b
 one_utf8 a b text p q x y =
@@ -113,62 +73,43 @@ one_entry e a b p q x y =
 
 -- ---- the places, and the pool
 
--- the form has one text in bytes for each value
-abbrev OneText : Grammar (List (Option Entry)) → Type 0
-OneText g = (ys : List (Option Entry)) (a b : List ℕ) → AreBytes a → AreBytes b → g.Text a ys → g.Text b ys → a ≡ b
-
--- the places behind those in front
-tail_is : (front xs ys : List (Option Entry)) → front ++ xs ≡ front ++ ys → xs ≡ ys
-tail_is [] xs ys e = e
-tail_is (f ∷ front) xs ys e = tail_is front xs ys (tail_of e)
-  where
-    tail_of : f ∷ (front ++ xs) ≡ f ∷ (front ++ ys) → front ++ xs ≡ front ++ ys
-    tail_of e = cc
-
-nothing_more : (a front rest : List ℕ) → a ≡ front ++ rest → rest ≡ [] → a ≡ front
-nothing_more a front rest parts none = parts ∙ ap (λ (l : List ℕ). front ++ l) none ∙ append-nil front
-
 one_behind : (front : List (Option Entry)) (g : Grammar (List (Option Entry))) → OneText g → OneText (behind front g)
-one_behind front g one ys a b p q x y =
-    let left = nothing_more a x.1 x.2 x.3 x.5.0 in
-    let right = nothing_more b y.1 y.2 y.3 y.5.0 in
-    let same : x.0 ≡ y.0 = tail_is front x.0 y.0 (sym x.5.1 ∙ y.5.1) in
-    left ∙ one x.0 x.1 y.1 (subst AreBytes left p) (subst AreBytes right q) x.4 (subst (λ l. g.Text y.1 l) (sym same) y.4) ∙ sym right
+one_behind front g first =
+    one_followed g (λ rest. nothing (front ++ rest)) first (λ rest. one_nothing (front ++ rest)) (λ xs zs a b ys t u. append_cancel_left front xs zs (sym t.1 ∙ u.1))
 
 one_by_size : (wide : Bool) (g h : Grammar (List (Option Entry))) → OneText g → OneText h → OneText (by_size wide g h)
-one_by_size true g h one other = one
-one_by_size false g h one other = other
+one_by_size true g h first other = first
+one_by_size false g h first other = other
 
 -- the entry in front of places that were spelled behind it
-head_is : (wide : Bool) (e f : Entry) (m n : ℕ) (ys : List (Option Entry)) (a : List ℕ) → ((by_size wide (behind (Some e ∷ None ∷ []) (places m)) (behind (Some e ∷ []) (places n))).Text a ys) → (rest : List (Option Entry)) × (ys ≡ Some e ∷ rest)
-head_is true e f m n ys a text = (None ∷ text.0, text.5.1)
-head_is false e f m n ys a text = (text.0, text.5.1)
+head_is : (wide : Bool) (e : Entry) (m n : ℕ) (ys : List (Option Entry)) (a : List ℕ) → ((by_size wide (behind (Some e ∷ None ∷ []) (places m)) (behind (Some e ∷ []) (places n))).Text a ys) → (rest : List (Option Entry)) × (ys ≡ Some e ∷ rest)
+head_is true e m n ys a text = (None ∷ text.0, text.5.1)
+head_is false e m n ys a text = (text.0, text.5.1)
 
-same_entry : (e f : Entry) (xs ys zs : List (Option Entry)) → zs ≡ Some e ∷ xs → zs ≡ Some f ∷ ys → f ≡ e
-same_entry e f xs ys zs p q = of_some (sym q ∙ p)
+same_entry : (e f : Entry) (xs ys zs : List (Option Entry)) → zs ≡ Some e ∷ xs → zs ≡ Some f ∷ ys → e ≡ f
+same_entry e f xs ys zs p q = of_some (sym p ∙ q)
   where
-    of_some : Some f ∷ ys ≡ Some e ∷ xs → f ≡ e
+    of_some : Some e ∷ xs ≡ Some f ∷ ys → e ≡ f
     of_some e = cc
 
+one_whole : OneText (one IsEntry)
+one_whole = record { same = λ a b e p q x y. one_entry e a b p q x y }
+
+one_narrow : OneText (one IsNarrow)
+one_narrow = record { same = λ a b e p q x y. one_entry e a b p q x.0 y.0 }
+
 one_places : (n : ℕ) → OneText (places n)
-one_places zero ys a b p q x y = x.0 ∙ sym y.0
-one_places (suc zero) ys a b p q x y =
-    let left = nothing_more a x.1 x.2 x.3 x.5.0 in
-    let right = nothing_more b y.1 y.2 y.3 y.5.0 in
-    let same = same_entry x.0 y.0 [] [] ys x.5.1 y.5.1 in
-    left ∙ one_entry x.0 x.1 y.1 (subst AreBytes left p) (subst AreBytes right q) x.4.0 (subst (IsEntry y.1) same y.4.0) ∙ sym right
-one_places (suc (suc n)) ys a b p q x y =
-    let first = head_is (is_wide x.0) x.0 x.0 n (suc n) ys x.2 x.5 in
-    let second = head_is (is_wide y.0) y.0 y.0 n (suc n) ys y.2 y.5 in
-    let same = same_entry x.0 y.0 first.0 second.0 ys first.1 second.1 in
-    let left = both_bytes x.1 x.2 (subst AreBytes x.3 p) in
-    let right = both_bytes y.1 y.2 (subst AreBytes y.3 q) in
-    let fronts = one_entry x.0 x.1 y.1 left.0 right.0 x.4 (subst (IsEntry y.1) same y.4) in
-    let form : Entry → Grammar (List (Option Entry)) = λ e. by_size (is_wide e) (behind (Some e ∷ None ∷ []) (places n)) (behind (Some e ∷ []) (places (suc n))) in
-    let backs = one_by_size (is_wide x.0) (behind (Some x.0 ∷ None ∷ []) (places n)) (behind (Some x.0 ∷ []) (places (suc n)))
-    (one_behind (Some x.0 ∷ None ∷ []) (places n) (one_places n)) (one_behind (Some x.0 ∷ []) (places (suc n)) (one_places (suc n)))
-    ys x.2 y.2 left.1 right.1 x.5 (subst (λ e. (form e).Text y.2 ys) same y.5) in
-    x.3 ∙ (λ i. fronts i ++ backs i) ∙ sym y.3
+one_places zero = one_nothing []
+one_places (suc zero) =
+    one_followed (one IsNarrow) (λ e. nothing (Some e ∷ [])) one_narrow (λ e. one_nothing (Some e ∷ [])) (λ e f a b ys t u. same_entry e f [] [] ys t.1 u.1)
+one_places (suc (suc n)) =
+    one_followed (one IsEntry) (λ e. by_size (is_wide e) (behind (Some e ∷ None ∷ []) (places n)) (behind (Some e ∷ []) (places (suc n)))) one_whole
+    (λ e. one_by_size (is_wide e) (behind (Some e ∷ None ∷ []) (places n)) (behind (Some e ∷ []) (places (suc n)))
+    (one_behind (Some e ∷ None ∷ []) (places n) (one_places n)) (one_behind (Some e ∷ []) (places (suc n)) (one_places (suc n))))
+    (λ e f a b ys t u.
+    let first = head_is (is_wide e) e n (suc n) ys a t in
+    let second = head_is (is_wide f) f n (suc n) ys b u in
+    same_entry e f first.0 second.0 ys first.1 second.1)
 
 -- how many places were spelled
 abbrev Long : ℕ → Type 0
@@ -189,12 +130,14 @@ pool_long value a x =
     let rest = places_long (x.0 - 1) x.5.0 x.5.1 x.5.4 in
     omega (arith, ap length x.5.5.1, rest, x.4.1)
 
-pub one_text : (a b : List ℕ) (value : PoolValue) → AreBytes a → AreBytes b → pool.Text a value → pool.Text b value → a ≡ b
-one_text a b value p q x y =
-    let same : y.0 ≡ x.0 = sym (pool_long value b y) ∙ pool_long value a x in
-    let left = both_bytes x.1 x.2 (subst AreBytes x.3 p) in
-    let right = both_bytes y.1 y.2 (subst AreBytes y.3 q) in
-    let fronts = one_big 2 x.1 y.1 x.0 left.0 right.0 x.4.0 (subst (IsBig 2 y.1) same y.4.0) in
-    let backs = one_behind (None ∷ []) (places (x.0 - 1)) (one_places (x.0 - 1)) value x.2 y.2 left.1 right.1 x.5
-    (subst (λ (n : ℕ). (behind (None ∷ []) (places (n - 1))).Text y.2 value) same y.5) in
-    x.3 ∙ (λ i. fronts i ++ backs i) ∙ sym y.3
+pub one_text : OneText pool
+one_text = record {
+  same = λ a b value p q x y.
+      let same : y.0 ≡ x.0 = sym (pool_long value b y) ∙ pool_long value a x in
+      let left = both_bytes x.1 x.2 (subst AreBytes x.3 p) in
+      let right = both_bytes y.1 y.2 (subst AreBytes y.3 q) in
+      let fronts = one_big 2 x.1 y.1 x.0 left.0 right.0 x.4.0 (subst (IsBig 2 y.1) same y.4.0) in
+      let backs = (one_behind (None ∷ []) (places (x.0 - 1)) (one_places (x.0 - 1))).same x.2 y.2 value left.1 right.1 x.5
+      (subst (λ (n : ℕ). (behind (None ∷ []) (places (n - 1))).Text y.2 value) same y.5) in
+      x.3 ∙ (λ i. fronts i ++ backs i) ∙ sym y.3;
+}

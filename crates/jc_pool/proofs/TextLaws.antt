@@ -15,6 +15,7 @@ use Rattle.std.proofs.lemmas.Bool.Decides.{nat_tests}
 use Rattle.std.proofs.lemmas.Grind.{flat_map-append}
 use Rattle.jc_base.proofs.DecoderLaws.{some_is, some_none}
 use Rattle.jc_base.specs.Modified.{unit_bytes, IsModified, unit_at}
+use Rattle.jc_base.proofs.EachLaws.{all_push}
 use Rattle.jc_base.proofs.ModifiedLaws.{SameVerdict, next_unit, unit_again}
 use Rattle.jc_pool.specs.Text.{SpellsUnits, SpellsText, IsTextOf, AreUnitsOf}
 
@@ -24,10 +25,6 @@ pub record UnitsRead (whole units rest : List ℕ) : Type 0 where
   pub small : AllByRecursion (λ u. u < 2 ^ 16) units
   pub parts : whole ≡ flat_map unit_bytes units ++ rest
   pub verdict : SameVerdict whole rest
-
-all_push : {X : Type 0} (P : X → Type 0) (xs : List X) (y : X) → AllByRecursion P xs → P y → AllByRecursion P (xs ++ y ∷ [])
-all_push P [] y all last = (last, tt)
-all_push P (x ∷ xs) y all last = (all.0, all_push P xs y all.1 last)
 
 pub one_more : (whole units more rest after : List ℕ) (unit : ℕ) → more ≡ units ++ unit ∷ [] → unit < 2 ^ 16 → rest ≡ unit_bytes unit ++ after → UnitsRead whole units rest → UnitsRead whole more after
 one_more whole units more rest after unit pushed fits front r = record {

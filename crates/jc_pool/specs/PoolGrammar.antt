@@ -1,6 +1,5 @@
 -- The bytes that spell a constant pool (JVM Specification 4.1, 4.4).
 use Rattle.std.specs.Prelude.{◌≡◌, ℕ, zero, suc, ◌-◌, ◌<◌, Bool, true, false, List, [], ◌∷◌, ◌++◌, Option, Some, None, Result, Ok, Err}
-use Rattle.std.specs.List.{AllByRecursion}
 use Rattle.jc_base.specs.Decoder.{IsBig}
 use Rattle.jc_base.specs.Grammar.{Grammar, nothing, one, followed_by}
 use Rattle.jc_base.specs.Parsing.{RefusedAt}
@@ -47,7 +46,3 @@ abbrev pub ReadsBy : {X : Type 0} → Grammar X → Result X (Fail Refusal) → 
 ReadsBy g (Ok x) old new = (text : List ℕ) × (old.left ≡ text ++ new.left) × g.Text text x
 ReadsBy g (Err fails.Memory) old new = Unit {0}
 ReadsBy g (Err (fails.Said refusal)) old new = (left : List ℕ) × g.Fails old.left left × RefusedAt refusal old left
-
--- each is a byte
-abbrev pub AreBytes : List ℕ → Type 0
-AreBytes bytes = AllByRecursion (λ b. b < 256) bytes

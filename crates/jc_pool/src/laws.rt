@@ -1,7 +1,8 @@
 //! Laws of the grammar of constant pools.
 ghost use Rattle.std.specs.Prelude.{◌≡◌, ◌⊎◌, ◌++◌, ℕ, List};
 ghost use Rattle.jc_pool.specs.Pool.{PoolValue};
-ghost use Rattle.jc_pool.specs.PoolGrammar.{pool, AreBytes};
+ghost use Rattle.jc_base.specs.ByteLists.{AreBytes};
+ghost use Rattle.jc_pool.specs.PoolGrammar.{pool};
 
 /// Bytes begin with a pool or fail as one, and never both, and they begin with one pool alone.
 pub fn one_reading()

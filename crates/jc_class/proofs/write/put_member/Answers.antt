@@ -1,8 +1,9 @@
 use Rattle.std.proofs.Common.{List, subst}
 use Rattle.std.proofs.lemmas.Result.{on_ok_weaker}
-use Rattle.jc_base.proofs.AppendingLaws.{Appended}
+use Rattle.jc_base.specs.Appending.{Appended}
 use Rattle.jc_class.specs.declared.class_file.Attribute.{Attribute}
-use Rattle.jc_class.specs.ClassFormat.{counted, attribute}
+use Rattle.jc_base.specs.Counted.{counted}
+use Rattle.jc_class.specs.ClassFormat.{attribute}
 use Rattle.jc_class.specs.Writable.{Anything}
 use Rattle.jc_class.proofs.WritingLaws.{member_put}
 use Rattle.jc_class.proofs.write.put_member.Goals as goal

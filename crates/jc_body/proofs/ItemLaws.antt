@@ -1,6 +1,7 @@
--- The form of each item of a table, and what reads it.
-use Rattle.jc_base.proofs.GrammarLaws.{Agrees, agrees_nothing, agrees_followed}
-use Rattle.jc_class.proofs.ClassLaws.{agrees_number}
+-- Each item of a table is read exactly where its form spells one.
+use Rattle.jc_base.specs.Grammar.{Agrees}
+use Rattle.jc_base.proofs.CountedLaws.{agrees_number}
+use Rattle.jc_base.proofs.GrammarLaws.{agrees_nothing, agrees_followed}
 use Rattle.jc_body.specs.CodeForm.{row, line_entry, var_entry}
 use Rattle.jc_body.specs.CodeReading.{row_at, line_at, var_at}
 

@@ -1,5 +1,6 @@
 -- Reading so many items one behind the other, in a loop.
-use Rattle.std.proofs.Common.{◌≡◌, ℕ, suc, ◌+◌, ◌-◌, ◌<◌, ◌≤◌, List, [], ◌∷◌, ◌++◌, Err, refl, sym, ◌∙◌, ap, arith, append_assoc}
+use Rattle.std.proofs.Common.{◌≡◌, ℕ, suc, ◌+◌, ◌-◌, ◌<◌, ◌≤◌, List, [], ◌∷◌, ◌++◌, Err, refl, sym, ◌∙◌, ap, arith}
+use Rattle.std.proofs.Common.{append_assoc}
 use Rattle.std.proofs.lemmas.List.{append-nil}
 use Rattle.jc_base.specs.Reader.{Reading}
 use Rattle.jc_base.specs.Decoder.{SameEnd}
@@ -44,7 +45,8 @@ module _ {X : Type 0} (count : ℕ) (read : List ℕ → Parsed X) where
   abbrev behind : ℕ → Parsed X → Parsed (List X)
   behind n parsed = parsed >>= λ x. times_at n read x.1 >>= λ rest. Good (x.0 ∷ rest.0) rest.1
 
-  pub one_more : (old now next : Reading) (xs : List X) (x : X) (i : ℕ) → i < count → read now.left ≡ Good x next.left → SameEnd now next → now.place ≤ next.place
+  pub one_more : (old now next : Reading) (xs : List X) (x : X) (i : ℕ) → i < count
+      → read now.left ≡ Good x next.left → SameEnd now next → now.place ≤ next.place
       → Listing old xs now i → Listing old (xs ++ x ∷ []) next (i + 1)
   one_more old now next xs x i room is end later l = record {
     reads =
@@ -56,17 +58,23 @@ module _ {X : Type 0} (count : ℕ) (read : List ℕ → Parsed X) where
     later = omega (arith, later, l.later);
   }
 
-  pub refused : (old now next : Reading) (xs : List X) (i : ℕ) (fail : Fail Refusal) → i < count → Parses (λ (x : X). x) (Err fail) now next (read now.left)
+  pub refused : (old now next : Reading) (xs : List X) (i : ℕ) (fail : Fail Refusal) → i < count
+      → Parses (λ (x : X). x) (Err fail) now next (read now.left)
       → Listing old xs now i → Parses (λ (l : List X). l) (Err fail) old next (times_at count read old.left)
   refused old now next xs i fails.Memory room is l = tt
   refused old now next xs i (fails.Said refusal) room is l = (
     is.0,
-    sym l.reads ∙ ap (λ (n : ℕ). in_front xs (times_at n read now.left)) (one_less i room) ∙ ap (λ (p : Parsed X). in_front xs (behind (count - (i + 1)) p)) is.1,
+    sym l.reads
+        ∙ ap (λ (n : ℕ). in_front xs (times_at n read now.left)) (one_less i room)
+        ∙ ap (λ (p : Parsed X). in_front xs (behind (count - (i + 1)) p)) is.1,
     record { kind = is.2.kind; method = is.2.method; place = is.2.place ∙ l.end },
   )
 
   pub all_read : (old now : Reading) (xs : List X) (i : ℕ) → count ≤ i → Listing old xs now i → times_at count read old.left ≡ Good xs now.left
-  all_read old now xs i full l = sym l.reads ∙ ap (λ (n : ℕ). in_front xs (times_at n read now.left)) none ∙ ap (λ (rest : List X). Good rest now.left) (append-nil xs)
+  all_read old now xs i full l =
+      sym l.reads
+      ∙ ap (λ (n : ℕ). in_front xs (times_at n read now.left)) none
+      ∙ ap (λ (rest : List X). Good rest now.left) (append-nil xs)
     where
       none : count - i ≡ 0
       none = omega (arith, full)
