@@ -4,6 +4,7 @@ use Rattle.std.specs.Int.Bits.{bit_and}
 use Rattle.std.specs.List.{sum_by}
 use Rattle.jc_base.specs.Descriptor.{MethodType, DescribesMethod, parameter_slots}
 use Rattle.jc_base.specs.Flow.{FallsThrough}
+use Rattle.jc_base.specs.Opcode as opcode
 use Rattle.jc_base.specs.Insn.{IsWellFormed, arm_count}
 use Rattle.jc_base.specs.ShortText.{IsShort}
 use Rattle.jc_base.specs.InsnUse.{pool_place, Suits, IsClass, LocalsWithin, LeadsWithin}
@@ -58,7 +59,7 @@ pub record IsVar (count max_locals : ℕ) (v : VarAt) : Type 0 where
 
 -- an object without a constructor's call was made by a `new`
 abbrev pub IsKind : List Insn → Kind → Type 0
-IsKind code (kinds.Uninit at) = (place : ℕ) × (slice_get code at ≡ Some (insns.OfClass 187 place))
+IsKind code (kinds.Uninit at) = (place : ℕ) × (slice_get code at ≡ Some (insns.OfClass opcode.new place))
 IsKind code kind = ⊤
 
 -- how many stack slots a value takes (JVM Specification 2.6.2)
