@@ -370,7 +370,7 @@ slots_of_first Boolean rest = refl
 slots_of_first (Object name) rest = refl
 slots_of_first (Array component) rest = refl
 
-All_push : (types : List FieldType) (type : FieldType) → AllByRecursion IsFieldType types → IsFieldType type → AllByRecursion IsFieldType (types ++ type ∷ [])
+pub All_push : (types : List FieldType) (type : FieldType) → AllByRecursion IsFieldType types → IsFieldType type → AllByRecursion IsFieldType (types ++ type ∷ [])
 All_push [] type all one = (one, tt)
 All_push (t ∷ types) type all one = (all.0, All_push types type all.1 one)
 
@@ -413,7 +413,7 @@ module _ (rest rest' : List ℕ) (stops : (type : FieldType) (more : List ℕ) �
 pub no_type_closes : (rest : List ℕ) (type : FieldType) (more : List ℕ) → BeginsWithType (41 ∷ rest) type more → ⊥
 no_type_closes rest = no_type (41 ∷ rest) (close_first rest)
 
-one_return : (r r' : Option FieldType) → IsReturnType r → IsReturnType r' → return_text r ≡ return_text r' → r ≡ r'
+pub one_return : (r r' : Option FieldType) → IsReturnType r → IsReturnType r' → return_text r ≡ return_text r' → r ≡ r'
 one_return None None fits fits' e = refl
 one_return None (Some t) fits fits' e = absurd (no_type (86 ∷ []) (void_first []) t [] (record { fits = fits'; parts = e ∙ sym (append-nil (field_text t)) }))
 one_return (Some t) None fits fits' e = absurd (no_type (86 ∷ []) (void_first []) t [] (record { fits = fits; parts = sym e ∙ sym (append-nil (field_text t)) }))

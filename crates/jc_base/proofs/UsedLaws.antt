@@ -91,3 +91,7 @@ stands_not uses place middle u rising halves inside at other = sym (none_used us
             let later = no_later 0 uses rising middle j d behind within in
             let reaches = ap (λ (v : Use). v.place) (is d) in
             omega (arith, later, reaches, above_middle, same)
+
+-- nothing is known of a place below the first
+pub none_below : (first : ℕ) (uses : List Use) → AreRisingFrom first uses → (place : ℕ) → place < first → what_used uses place ≡ None
+none_below first uses rising place less = none_used uses place (λ j d inside same. let behind = above first uses rising j d inside in omega (arith, behind, less, same))

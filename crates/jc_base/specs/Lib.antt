@@ -18,5 +18,13 @@ pub mod Names
 pub mod InsnUse
 pub mod WellMade
 pub mod Appending
+pub mod Held
+pub mod DescriptorTypes
+pub mod EntryState
+pub mod Least
+pub mod FirstSeen
+pub mod PlainLists
+pub mod Slots
+pub mod Texts
+pub mod ValueTypes
 pub mod Starts
-pub mod ShortText

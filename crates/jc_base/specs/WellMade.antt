@@ -4,10 +4,10 @@ use Rattle.std.specs.Int.Bits.{bit_and}
 use Rattle.std.specs.List.{sum_by}
 use Rattle.jc_base.specs.Descriptor.{MethodType, DescribesMethod, parameter_slots}
 use Rattle.jc_base.specs.Flow.{FallsThrough}
-use Rattle.jc_base.specs.Opcode as opcode
 use Rattle.jc_base.specs.Insn.{IsWellFormed, arm_count}
-use Rattle.jc_base.specs.ShortText.{IsShort}
+use Rattle.jc_base.specs.Texts.{IsShortText}
 use Rattle.jc_base.specs.InsnUse.{pool_place, Suits, IsClass, LocalsWithin, LeadsWithin}
+use Rattle.jc_base.specs.Opcode as opcode
 use Rattle.jc_base.specs.declared.insn.Insn.{Insn}
 use Rattle.jc_base.specs.declared.insn.Insn.TheVariants as insns
 use Rattle.jc_base.specs.declared.kind.Kind.{Kind}
@@ -111,11 +111,11 @@ pub record HasUse (uses : List Use) (place : ℕ) (Fact : What → Type 0) : Typ
 
 -- each text fits into a Utf8 entry (JVM Specification 4.4.7)
 abbrev pub HasShortTexts : What → Type 0
-HasShortTexts (whats.Field class name desc) = IsShort class × IsShort name × IsShort desc
-HasShortTexts (whats.Method class name desc) = IsShort class × IsShort name × IsShort desc
-HasShortTexts (whats.Call name desc) = IsShort name × IsShort desc
-HasShortTexts (whats.Class name) = IsShort name
-HasShortTexts (whats.Computed desc) = IsShort desc
+HasShortTexts (whats.Field class name desc) = IsShortText class × IsShortText name × IsShortText desc
+HasShortTexts (whats.Method class name desc) = IsShortText class × IsShortText name × IsShortText desc
+HasShortTexts (whats.Call name desc) = IsShortText name × IsShortText desc
+HasShortTexts (whats.Class name) = IsShortText name
+HasShortTexts (whats.Computed desc) = IsShortText desc
 HasShortTexts what = ⊤
 
 pub record AreUses (code : List Insn) (handlers : List Handler) (uses : List Use) : Type 0 where
@@ -144,9 +144,9 @@ abbrev pub IsCounted : {X : Type 0} → List X → Type 0
 IsCounted xs = length xs < 4294967296
 
 pub record HasSizes (b : Body) : Type 0 where
-  pub owner : IsShort b.owner
-  pub name : IsShort b.name
-  pub desc : IsShort b.desc
+  pub owner : IsShortText b.owner
+  pub name : IsShortText b.name
+  pub desc : IsShortText b.desc
   pub handlers : IsCounted b.handlers
   pub lines : IsCounted b.lines
   pub vars : IsCounted b.vars

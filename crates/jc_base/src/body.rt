@@ -97,7 +97,7 @@ pub enum What {
 }
 
 /// The body of a method (JVM Specification 4.7.3). Places in the code are instruction numbers.
-#[derive(Debug, Drop)]
+#[derive(Debug, Drop, PartialEq, Eq)]
 pub struct Body {
     /// The number of the method in its class, from 0.
     pub method: u16,

@@ -2,6 +2,7 @@
 ghost use Rattle.std.specs.Prelude.{◌≡◌, ◌≤◌, ◌+◌, ◌*◌, ◌↔◌, ℕ, IsTrue, IsSome, IfSome, IfNone, MatchOption, length, List, [], ◌∷◌, true};
 ghost use Rattle.std.specs.Option.{option_map};
 ghost use Rattle.jc_base.specs.Descriptor.{FieldType, MethodType, field_text, BeginsWithType, BeginsWithParameters, IsReturnDescriptor, IsFieldDescriptor, IsMethodDescriptor, DescribesField, DescribesMethod, parameter_slots};
+ghost use Rattle.jc_base.specs.Texts.{IsShortText};
 ghost use Rattle.jc_base.specs.DescriptorReading.{after_name, after_brackets, is_base, after_element, after_type, slots_by};
 
 /// What stands behind the `;` of a class name.
@@ -110,7 +111,7 @@ pub fn is_field_descriptor(bytes: &[u8]) -> bool
 }
 
 /// Whether the bytes are `V`.
-fn is_void(bytes: &[u8]) -> bool
+pub(crate) fn is_void(bytes: &[u8]) -> bool
     ensures { IsTrue result ↔ (bytes.now ≡ 86 ∷ []) }
 {
     match bytes {
@@ -160,7 +161,7 @@ fn slots_of_parameters(bytes: &[u8]) -> Option<usize>
 }
 
 /// What stands behind the letter at the front.
-fn behind(letter: u8, bytes: &[u8]) -> Option<&[u8]>
+pub(crate) fn behind(letter: u8, bytes: &[u8]) -> Option<&[u8]>
     ensures found { IfSome result (λ rest. bytes.now ≡ letter ∷ rest.now) }
     ensures none { IfNone result ((rest : List ℕ) → bytes.now ≡ letter ∷ rest → ⊥) }
 {
@@ -184,7 +185,7 @@ pub fn is_method_descriptor(bytes: &[u8]) -> bool
 /// A long or a double takes two, every other value one (JVM Specification 2.6.1). `this` isn't
 /// counted. There is no answer exactly where the bytes are no method descriptor.
 pub fn argument_slots(bytes: &[u8]) -> Option<u32>
-    requires { length bytes.now ≤ 65535 }
+    requires { IsShortText bytes.now }
     ensures well_formed { IsSome result ↔ IsMethodDescriptor bytes.now }
     ensures slots { (type : MethodType) → DescribesMethod bytes.now type → IfSome result (λ slots. slots ≡ parameter_slots type) }
     ensures bound { IfSome result (λ slots. slots ≤ 2 * length bytes.now) }

@@ -7,7 +7,7 @@ use crate::{List, opcode};
 /// An instruction (JVM Specification 6.5), whatever way it is spelled.
 ///
 /// Places in the code are instruction numbers, and places in the constant pool are pool indexes.
-#[derive(Debug, Drop)]
+#[derive(Debug, Drop, PartialEq, Eq)]
 pub enum Insn {
     /// An instruction without operands.
     Simple(u8),

@@ -2,8 +2,11 @@
 //! crates hand to each other, and the files and texts outside.
 #![tactic(auto)]
 
+mod analysed;
 mod body;
 mod descriptor;
+mod descriptor_types;
+mod emitted;
 mod fail;
 mod files;
 mod form;
@@ -19,20 +22,32 @@ mod memory_sink;
 mod modified;
 mod names;
 pub mod opcode;
+mod plan;
 mod planned;
 mod put;
 mod reader;
 mod refusal;
+mod same;
 mod sink;
+mod slots;
 mod starts;
+mod targets;
+mod try_clone;
 mod used;
+mod value_type;
 mod widened;
 
+pub use analysed::Analysed;
 pub use body::{Body, FrameAt, Handler, LineAt, Use, VarAt, What};
 pub use descriptor::{
     argument_slots, each_descriptor_has_one_type, is_field_descriptor, is_method_descriptor,
     split_type,
 };
+pub use descriptor_types::{
+    a_descriptor_is_read_as_its_type, a_method_begins_with_all_its_locals,
+    more_names_change_nothing,
+};
+pub use emitted::Emitted;
 pub use fail::{Fail, Memory, Unfit};
 pub use files::{FileFault, Files, MOST_READ};
 pub use form::{Form, form_of};
@@ -46,12 +61,17 @@ pub use memory_files::MemoryFiles;
 pub use memory_sink::MemorySink;
 pub use modified::{first_unit, is_modified};
 pub use names::Names;
+pub use plan::{Edge, Plan};
 pub use put::{put_bytes, put_u8, put_u16, put_u32, put_u64};
 pub use reader::{Reader, Short};
 pub use refusal::{Refusal, RefusalKind};
 pub use sink::{Sink, SinkFault};
+pub use slots::{a_replaced_slot_is_a_mapped_one, mapped_locals_are_within};
 pub use starts::insn_numbers;
+pub use targets::first_seen;
+pub use try_clone::{TryClone, clone_each};
 pub use used::what_used;
+pub use value_type::{MethodTypes, ValueType, field_type, method_types};
 pub use widened::the_wide_form_has_each_image;
 
 #[cfg(test)]

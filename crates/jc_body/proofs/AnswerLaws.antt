@@ -14,11 +14,12 @@ use Rattle.jc_body.specs.Coded.{HasNoCode}
 use Rattle.jc_body.specs.Attributes.{AreTables}
 use Rattle.jc_body.specs.Faults.{HasSubroutine, OfCode, faults, insn_faults, row_faults, table_faults}
 use Rattle.jc_body.specs.First.{Fault, IsNowhere, IsLeast, IsFirst, AreNowhere}
-use Rattle.jc_body.specs.BodyOf.{HasParts, IsBody, BodyOf, Bodiless, IsReason, FaultOf}
+use Rattle.jc_body.specs.BodyOf.{places_used, HasParts, IsBody, BodyOf, Bodiless, IsReason, FaultOf}
 use Rattle.jc_body.proofs.OrderLaws.{least_once, first_once, first_or_nowhere}
 use Rattle.jc_body.proofs.CodedLaws.{one_coded, no_items, no_code, not_malformed, not_stopped, none_of_code}
 use Rattle.jc_body.proofs.TablesLaws.{one_tables}
 use Rattle.jc_body.proofs.ArgumentLaws.{one_take}
+use Rattle.jc_body.proofs.UsesLaws.{one_uses}
 
 -- ---- reasons
 
@@ -104,7 +105,7 @@ one_parts c number method coded tables a b p q =
     let vars = p.vars ∙ sym q.vars in
     let kind_vars = p.kind_vars ∙ sym q.kind_vars in
     let frames = p.frames ∙ sym q.frames in
-    let uses = p.uses ∙ sym q.uses in
+    let uses = one_uses c.pool (places_used coded.insns coded.items.rows) a.uses b.uses p.uses q.uses in
     λ i. record {
       method = numbers i;
       owner = owner i;

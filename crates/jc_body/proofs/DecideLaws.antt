@@ -1,6 +1,7 @@
 -- Each method has an answer.
 use Rattle.std.proofs.Common.{◌≡◌, ◌⊎◌, inl, inr, ℕ, ◌+◌, ◌*◌, ◌<◌, ◌≤◌, List, [], ◌∷◌, ◌++◌, length, map, Some, refl, sym, subst, arith}
 use Rattle.std.proofs.lemmas.Bool.{cases_lt}
+use Rattle.jc_base.specs.WellMade.{most_slots}
 use Rattle.jc_base.specs.declared.insn.Insn.{Insn}
 use Rattle.jc_base.specs.declared.refusal.Refusal.{Refusal}
 use Rattle.jc_base.specs.declared.refusal.RefusalKind.{RefusalKind}
@@ -51,7 +52,7 @@ module _ (major : ℕ) (pool : PoolValue) (method : Member) (coded : Coded) (are
   by_tables (inl t) = inr (λ place o. o.fault t.0 t.1)
   by_tables (inr none) = inl (0, at_zero (MalformedTable pool coded) (record { at = refl; fault = none }))
 
-  by_size : (33554432 < length coded.insns * (coded.items.max_locals + coded.items.max_stack)) ⊎ (length coded.insns * (coded.items.max_locals + coded.items.max_stack) ≤ 33554432) → IsDecided (TooWide coded)
+  by_size : (most_slots < length coded.insns * (coded.items.max_locals + coded.items.max_stack)) ⊎ (length coded.insns * (coded.items.max_locals + coded.items.max_stack) ≤ most_slots) → IsDecided (TooWide coded)
   by_size (inl more) = inl (0, at_zero (TooWide coded) (record { at = refl; fault = more }))
   by_size (inr few) = inr (λ place o. omega (arith, few, o.fault))
 
@@ -69,7 +70,7 @@ module _ (major : ℕ) (pool : PoolValue) (method : Member) (coded : Coded) (are
             (
               by_tables (tables_or_none pool coded.items.attributes),
               (
-                by_size (cases_lt 33554432 (length coded.insns * (coded.items.max_locals + coded.items.max_stack))),
+                by_size (cases_lt most_slots (length coded.insns * (coded.items.max_locals + coded.items.max_stack))),
                 tt,
               ),
             ),

@@ -22,12 +22,13 @@ use Rattle.jc_body.specs.CodeForm.{IsCodeText}
 use Rattle.jc_body.specs.Coded.{HasCode, HasItems, IsCoded, code_bodies}
 use Rattle.jc_body.specs.Faults.{NoSingleCode, HasSubroutine, faults, insn_faults, row_faults, table_faults}
 use Rattle.jc_body.specs.First.{IsNowhere, IsFirst, AreNowhere}
-use Rattle.jc_body.specs.BodyOf.{BodyOf, Bodiless, IsReason, FaultOf, handler_of, lines_of, vars_of, uses_of, first_seen, places_used}
+use Rattle.jc_body.specs.BodyOf.{BodyOf, Bodiless, IsReason, FaultOf, handler_of, lines_of, vars_of, places_used}
 use Rattle.jc_body.proofs.OrderLaws.{each_decided}
 use Rattle.jc_body.proofs.ArgumentLaws.{zero_or_not, each_take}
 use Rattle.jc_body.proofs.DecideLaws.{all_decided, refused_reason, unsingle_reason, malformed_reason, coded_reason, coded_without}
 use Rattle.jc_body.proofs.FormLaws.{code_text_or_none}
 use Rattle.jc_body.proofs.TablesLaws.{tables_or_none}
+use Rattle.jc_body.proofs.UsesLaws.{some_uses}
 
 at_number : {X : Type 0} (P : X → Type 0) (xs : List X) (number : ℕ) → number < length xs → AllByRecursion P xs → (x : X) × (slice_get xs number ≡ Some x) × P x
 at_number P [] number less each = absurd (omega (arith, less))
@@ -43,6 +44,7 @@ module _ (c : ClassFile) (number : ℕ) (method : Member) (at : slice_get c.meth
 
   made : (coded : Coded) → IsCoded c.pool method coded → IsNowhere (HasSubroutine c.pool method) → AreNowhere (faults c.major c.pool method) → (tables : Tables) → AreTables c.pool coded.items.attributes tables → Answer c number
   made coded is_coded no_subroutine no_fault tables are_tables =
+      let uses = some_uses c.pool (places_used coded.insns coded.items.rows) in
       let slots = each_take method.flags is.desc.0 is.desc.2 in
       let body : Body = record {
         method = number;
@@ -59,7 +61,7 @@ module _ (c : ClassFile) (number : ℕ) (method : Member) (at : slice_get c.meth
         vars = vars_of (insn_number coded.starts) (length coded.insns) (length coded.items.code) coded.items.max_locals tables.vars;
         kind_vars = vars_of (insn_number coded.starts) (length coded.insns) (length coded.items.code) coded.items.max_locals tables.kind_vars;
         frames = [];
-        uses = uses_of c.pool (first_seen (places_used coded.insns coded.items.rows));
+        uses = uses.0;
       } in
       inr (inl (
         body,
@@ -88,7 +90,7 @@ module _ (c : ClassFile) (number : ℕ) (method : Member) (at : slice_get c.meth
               vars = refl;
               kind_vars = refl;
               frames = refl;
-              uses = refl;
+              uses = uses.1;
             };
           };
         },

@@ -20,6 +20,7 @@ use Rattle.jc_body.specs.Coded.{HasNoCode, HasItems, IsCoded}
 use Rattle.jc_body.specs.Faults.{HasSubroutine, MalformedTable, TooWide, faults, insn_faults, row_faults, table_faults}
 use Rattle.jc_body.specs.First.{Fault, IsNowhere, IsFirst, AreNowhere, FirstFault}
 use Rattle.jc_body.specs.BodyOf.{IsBody, BodyOf, Bodiless, FaultOf}
+use Rattle.jc_body.specs.Sizes.{HasSmallParts}
 use Rattle.jc_body.proofs.OrderLaws.{first_in_front, first_behind, nowhere_both, at_zero}
 use Rattle.jc_body.proofs.AnswerLaws.{bodiless_or_body, bodiless_or_fault, body_or_fault, one_body, one_fault}
 use Rattle.jc_body.proofs.DecideLaws.{coded_reason, coded_without, refused_reason}
@@ -112,10 +113,10 @@ module _ (c : ClassFile) (number : ℕ) where
   fault_answer (Err fails.Memory) said s fault = inl refl
   fault_answer (Err (fails.Said r)) said s fault = inr (ap fails.Said (one_fault c number r s said fault))
 
-  pub made_well : (r : Result (Option Body) (Fail Refusal)) → IsAnswer r → IfOk r (λ found. IfSome found IsWellMade)
-  made_well (Ok None) is = tt
-  made_well (Ok (Some b)) is = well_made c number is.method b is.is
-  made_well (Err e) said = tt
+  pub made_well : (r : Result (Option Body) (Fail Refusal)) → IsAnswer r → IfOk r (λ found. IfSome found HasSmallParts) → IfOk r (λ found. IfSome found IsWellMade)
+  made_well (Ok None) is small = tt
+  made_well (Ok (Some b)) is small = well_made c number is.method b is.is small.sizes small.uses
+  made_well (Err e) said small = tt
 
 -- a method that was found by its number
 pub found_at : (methods seen : List Member) (number : ℕ) (method : Member) → seen ≡ methods → number < length methods → method ≡ get_or seen number method → slice_get methods number ≡ Some method

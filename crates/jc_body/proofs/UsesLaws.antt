@@ -1,128 +1,48 @@
--- Places in first-seen order, and what stands at them.
-use Rattle.std.proofs.Common.{◌≡◌, ⊎_elim, ℕ, zero, suc, ◌+◌, ◌<◌, Bool, true, false, not, cond, ◌&&◌, ◌||◌, List, [], ◌∷◌, ◌++◌, length, map, filter, take, Contains, nat_eq, get_or, Option, Some, None, refl, sym, ◌∙◌, ap, subst, arith, append_assoc}
-use Rattle.std.specs.List.{list_any, flat_map}
+-- What stands at the places that are used, one entry a place, in rising order.
+use Rattle.std.proofs.Common.{◌≡◌, ⊎_elim, ◌⊎◌, inl, inr, ℕ, zero, suc, ◌+◌, ◌<◌, ◌≤◌, Bool, true, false, not, cond, ◌||◌, List, [], ◌∷◌, ◌++◌, length, map, filter, take, Contains, All, IfSome, nat_eq, nat_lt, get_or, Option, Some, None, Result, Ok, Err, IfOk, refl, sym, ◌∙◌, ap, subst, arith, append_assoc}
+use Rattle.std.specs.List.{list_any, flat_map, dedup, AllPairs}
+use Rattle.std.specs.List.Sorted.{IsSorted, IsPermutation}
+use Rattle.std.specs.Ordering.{nat_cmp}
 use Rattle.std.specs.Cmp.{nat_eq_equiv}
-use Rattle.std.proofs.lemmas.Bool.{eqb-true, eq-eqb, ne_eqb}
-use Rattle.std.proofs.lemmas.Option.{same_Some}
+use Rattle.std.proofs.Math.Dec.{eqb}
+use Rattle.std.proofs.lemmas.Bool.{cases_order, eqb-true, eq-eqb, ne_eqb, lt-ltb, le-ltb}
+use Rattle.std.proofs.lemmas.Option.{none-some, same_Some}
 use Rattle.std.proofs.lemmas.Grind.{flat_map-append}
 use Rattle.std.proofs.lemmas.List.{append-nil, map_more, take_more}
-use Rattle.std.proofs.lemmas.List.Elements.{filter-append, filter_agree, Contains-append_left, Contains-append_right, Contains-append_cases}
+use Rattle.std.proofs.lemmas.List.Elements.{All-push, filter-append, Contains-append_left, Contains-append_right}
+use Rattle.std.proofs.lemmas.List.Kept.{Contains-dedup_nat, Contains-from_dedup, AllPairs-from_increasing}
+use Rattle.std.proofs.lemmas.List.Sorted.{list_any-IsPermutation}
+use Rattle.std.proofs.lemmas.Map.Keys.{IsStrictlyIncreasing-dedup}
 use Rattle.std.proofs.lemmas.Map.Views.{Contains-from_any, list_any-from_Contains}
+use Rattle.jc_base.specs.declared.fail.Memory.{Memory}
 use Rattle.jc_base.specs.declared.insn.Insn.{Insn}
 use Rattle.jc_base.specs.declared.body.Use.{Use}
 use Rattle.jc_base.specs.declared.body.What.{What}
 use Rattle.jc_base.specs.InsnUse.{pool_place}
-use Rattle.jc_base.specs.WellMade.{HasUse}
+use Rattle.jc_base.specs.WellMade.{HasUse, HasShortTexts, AreRisingFrom, what_used}
+use Rattle.jc_base.proofs.UsedLaws.{none_below}
 use Rattle.jc_pool.specs.Pool.{PoolValue}
 use Rattle.jc_body.specs.declared.items.Row.{Row}
-use Rattle.jc_body.specs.BodyOf.{some_of, insn_places, row_places, places_used, first_seen, use_of, uses_of}
-use Rattle.jc_body.specs.Seen.{seen_behind}
+use Rattle.jc_body.specs.BodyOf.{some_of, insn_places, row_places, places_used, used_at, AreUsesOf}
+use Rattle.jc_body.specs.Used.{use_of, uses_of}
 use Rattle.jc_body.specs.Standing.{what_at}
-
--- ---- numbers put into a list of those that are seen
-
-seen-append : (seen xs ys : List ℕ) → seen_behind seen (xs ++ ys) ≡ seen_behind (seen_behind seen xs) ys
-seen-append seen [] ys = refl
-seen-append seen (x ∷ xs) ys = by (list_any (nat_eq x) seen) (seen-append seen xs ys) (seen-append (seen ++ x ∷ []) xs ys)
-  where
-    by : (b : Bool) → seen_behind seen (xs ++ ys) ≡ seen_behind (seen_behind seen xs) ys
-        → seen_behind (seen ++ x ∷ []) (xs ++ ys) ≡ seen_behind (seen_behind (seen ++ x ∷ []) xs) ys
-        → cond b (seen_behind seen (xs ++ ys)) (seen_behind (seen ++ x ∷ []) (xs ++ ys)) ≡ seen_behind (cond b (seen_behind seen xs) (seen_behind (seen ++ x ∷ []) xs)) ys
-    by true old new = old
-    by false old new = new
-
--- the number isn't among those that are seen
-abbrev unseen : List ℕ → ℕ → Bool
-unseen seen y = not (list_any (nat_eq y) seen)
-
--- a number that fails the test is left out anyway
-left_out : (p : ℕ → Bool) (x : ℕ) → p x ≡ false → (l : List ℕ) → filter p (filter (λ y. not (nat_eq x y)) l) ≡ filter p l
-left_out p x out [] = refl
-left_out p x out (z ∷ zs) = by (nat_eq x z) refl (left_out p x out zs)
-  where
-    by : (b : Bool) → nat_eq x z ≡ b → filter p (filter (λ y. not (nat_eq x y)) zs) ≡ filter p zs
-        → filter p (cond (not b) (z ∷ filter (λ y. not (nat_eq x y)) zs) (filter (λ y. not (nat_eq x y)) zs)) ≡ cond (p z) (z ∷ filter p zs) (filter p zs)
-    by true is rest = let other : p z ≡ false = sym (ap p (eqb-true x z is)) ∙ out in rw other rest
-    by false is rest = ap (λ (l : List ℕ). cond (p z) (z ∷ l) l) rest
-
-filter_twice : (p q : ℕ → Bool) (l : List ℕ) → filter p (filter q l) ≡ filter (λ y. q y && p y) l
-filter_twice p q [] = refl
-filter_twice p q (z ∷ zs) = by (q z) (filter_twice p q zs)
-  where
-    by : (b : Bool) → filter p (filter q zs) ≡ filter (λ y. q y && p y) zs
-        → filter p (cond b (z ∷ filter q zs) (filter q zs)) ≡ cond (b && p z) (z ∷ filter (λ y. q y && p y) zs) (filter (λ y. q y && p y) zs)
-    by true rest = ap (λ (l : List ℕ). cond (p z) (z ∷ l) l) rest
-    by false rest = rest
-
-any_push : (test : ℕ → Bool) (xs : List ℕ) (x : ℕ) → list_any test (xs ++ x ∷ []) ≡ (list_any test xs || test x)
-any_push test [] x = by (test x)
-  where
-    by : (b : Bool) → (b || false) ≡ b
-    by true = refl
-    by false = refl
-any_push test (y ∷ ys) x = by (test y) (any_push test ys x)
-  where
-    by : (b : Bool) → list_any test (ys ++ x ∷ []) ≡ (list_any test ys || test x) → (b || list_any test (ys ++ x ∷ [])) ≡ ((b || list_any test ys) || test x)
-    by true rest = refl
-    by false rest = rest
-
--- a number more that is seen
-more_unseen : (seen : List ℕ) (x : ℕ) (l : List ℕ) → filter (unseen (seen ++ x ∷ [])) l ≡ filter (unseen seen) (filter (λ y. not (nat_eq x y)) l)
-more_unseen seen x l = filter_agree (unseen (seen ++ x ∷ [])) (λ y. not (nat_eq x y) && unseen seen y) each l ∙ sym (filter_twice (unseen seen) (λ y. not (nat_eq x y)) l)
-  where
-    swapped : (a b : Bool) → not (a || b) ≡ (not b && not a)
-    swapped true true = refl
-    swapped true false = refl
-    swapped false true = refl
-    swapped false false = refl
-
-    each : (y : ℕ) → unseen (seen ++ x ∷ []) y ≡ (not (nat_eq x y) && unseen seen y)
-    each y = ap not (any_push (nat_eq y) seen x) ∙ swapped (list_any (nat_eq y) seen) (nat_eq y x) ∙ ap (λ (b : Bool). not b && unseen seen y) (nat_eq_equiv.symm y x)
-
--- those that are put behind are the numbers that weren't seen yet, in first-seen order
-seen_first : (seen xs : List ℕ) → seen_behind seen xs ≡ seen ++ filter (unseen seen) (first_seen xs)
-seen_first seen [] = sym (append-nil seen)
-seen_first seen (x ∷ xs) = by (list_any (nat_eq x) seen) refl (seen_first seen xs) (seen_first (seen ++ x ∷ []) xs)
-  where
-    by : (b : Bool) → list_any (nat_eq x) seen ≡ b → seen_behind seen xs ≡ seen ++ filter (unseen seen) (first_seen xs)
-        → seen_behind (seen ++ x ∷ []) xs ≡ (seen ++ x ∷ []) ++ filter (unseen (seen ++ x ∷ [])) (first_seen xs)
-        → cond b (seen_behind seen xs) (seen_behind (seen ++ x ∷ []) xs) ≡ seen ++ cond (not b) (x ∷ filter (unseen seen) (filter (λ y. not (nat_eq x y)) (first_seen xs))) (filter (unseen seen) (filter (λ y. not (nat_eq x y)) (first_seen xs)))
-    by true is old new = old ∙ ap (λ (l : List ℕ). seen ++ l) (sym (left_out (unseen seen) x (ap not is) (first_seen xs)))
-    by false is old new = new ∙ append_assoc seen (x ∷ []) (filter (unseen (seen ++ x ∷ [])) (first_seen xs)) ∙ ap (λ (l : List ℕ). seen ++ x ∷ l) (more_unseen seen x (first_seen xs))
-
-keep_all : (l : List ℕ) → filter (unseen []) l ≡ l
-keep_all [] = refl
-keep_all (x ∷ xs) = ap (λ (l : List ℕ). x ∷ l) (keep_all xs)
-
--- where none was seen before
-seen_anew : (xs : List ℕ) → seen_behind [] xs ≡ first_seen xs
-seen_anew xs = seen_first [] xs ∙ keep_all (first_seen xs)
 
 -- ---- the places of one instruction or row more
 
--- some are put behind those that are
-puts_more : (seen places more now new : List ℕ) → now ≡ seen_behind seen places → new ≡ seen_behind now more → new ≡ seen_behind seen (places ++ more)
-puts_more seen places more now new before put = put ∙ ap (λ (l : List ℕ). seen_behind l more) before ∙ sym (seen-append seen places more)
-
-insn_more : (insns : List Insn) (i : ℕ) (insn : Insn) → i < length insns → insn ≡ get_or insns i insn → insn_places (take (i + 1) insns) ≡ insn_places (take i insns) ++ some_of (pool_place insn)
+pub insn_more : (insns : List Insn) (i : ℕ) (insn : Insn) → i < length insns → insn ≡ get_or insns i insn → insn_places (take (i + 1) insns) ≡ insn_places (take i insns) ++ some_of (pool_place insn)
 insn_more insns i insn lt is =
     ap insn_places (take_more insns i insn lt ∙ ap (λ (x : Insn). take i insns ++ x ∷ []) (sym is))
     ∙ flat_map-append (λ (x : Insn). some_of (pool_place x)) (take i insns) (insn ∷ [])
     ∙ ap (λ (l : List ℕ). insn_places (take i insns) ++ l) (append-nil (some_of (pool_place insn)))
 
-pub puts_insn : (insns : List Insn) (i : ℕ) (insn : Insn) (seen now new : List ℕ) → i < length insns → insn ≡ get_or insns i insn → now ≡ seen_behind seen (insn_places (take i insns))
-    → new ≡ seen_behind now (some_of (pool_place insn)) → new ≡ seen_behind seen (insn_places (take (i + 1) insns))
-puts_insn insns i insn seen now new lt is before put = puts_more seen (insn_places (take i insns)) (some_of (pool_place insn)) now new before put ∙ ap (seen_behind seen) (sym (insn_more insns i insn lt is))
-
 -- the place of a row, if it has one
-abbrev class_place : ℕ → List ℕ
+abbrev pub class_place : ℕ → List ℕ
 class_place class = cond (not (nat_eq class 0)) (class ∷ []) []
 
-pub puts_row : (rows : List Row) (i : ℕ) (row : Row) (seen now new : List ℕ) → i < length rows → now ≡ seen_behind seen (row_places (take i rows))
-    → new ≡ seen_behind now (class_place (get_or rows i row).class) → new ≡ seen_behind seen (row_places (take (i + 1) rows))
-puts_row rows i row seen now new lt before put =
-    puts_more seen (row_places (take i rows)) (class_place (get_or rows i row).class) now new before put
-    ∙ ap (seen_behind seen) (sym (ap (filter (λ place. not (nat_eq place 0))) (map_more (λ (r : Row). r.class) rows i row lt) ∙ filter-append (λ place. not (nat_eq place 0)) (map (λ (r : Row). r.class) (take i rows)) ((get_or rows i row).class ∷ [])))
+pub row_more : (rows : List Row) (i : ℕ) (row : Row) → i < length rows → row_places (take (i + 1) rows) ≡ row_places (take i rows) ++ class_place (get_or rows i row).class
+row_more rows i row lt =
+    ap (filter (λ place. not (nat_eq place 0))) (map_more (λ (r : Row). r.class) rows i row lt)
+    ∙ filter-append (λ place. not (nat_eq place 0)) (map (λ (r : Row). r.class) (take i rows)) ((get_or rows i row).class ∷ [])
 
 pub class_kept : (class : ℕ) → (class ≡ 0 → ⊥) → class_place class ≡ class ∷ []
 class_kept class some = ap (λ (b : Bool). cond (not b) (class ∷ []) []) (ne_eqb class 0 some)
@@ -130,39 +50,224 @@ class_kept class some = ap (λ (b : Bool). cond (not b) (class ∷ []) []) (ne_e
 pub class_left_out : (class : ℕ) → class ≡ 0 → class_place class ≡ []
 class_left_out class none = ap (λ (b : Bool). cond (not b) (class ∷ []) []) (eq-eqb class 0 none)
 
--- all that are used, in first-seen order
-pub puts_all : (insns : List Insn) (rows : List Row) (empty by_insns by_rows : List ℕ) → empty ≡ [] → by_insns ≡ seen_behind empty (insn_places insns) → by_rows ≡ seen_behind by_insns (row_places rows)
-    → by_rows ≡ first_seen (places_used insns rows)
-puts_all insns rows empty by_insns by_rows none insn_put row_put =
-    puts_more [] (insn_places insns) (row_places rows) by_insns by_rows (insn_put ∙ ap (λ (l : List ℕ). seen_behind l (insn_places insns)) none) row_put
-    ∙ seen_anew (places_used insns rows)
+-- more places behind those that were put
+pub puts_more : (first places more now new : List ℕ) → now ≡ first ++ places → new ≡ now ++ more → new ≡ first ++ (places ++ more)
+puts_more first places more now new before put = put ∙ ap (λ (l : List ℕ). l ++ more) before ∙ append_assoc first places more
 
--- ---- the same numbers are seen
+-- ---- rising places
 
-either_way : (a b c : Bool) → (a ≡ false → b ≡ c) → (a || b) ≡ (a || c)
-either_way true b c f = refl
-either_way false b c f = f refl
+abbrev pub AreRisingPlaces : ℕ → List ℕ → Type 0
+AreRisingPlaces first [] = Unit {0}
+AreRisingPlaces first (p ∷ ps) = (first ≤ p) × AreRisingPlaces (p + 1) ps
 
-any_of_others : (x y : ℕ) → nat_eq y x ≡ false → (xs : List ℕ) → list_any (nat_eq y) (filter (λ z. not (nat_eq x z)) xs) ≡ list_any (nat_eq y) xs
-any_of_others x y apart [] = refl
-any_of_others x y apart (z ∷ zs) = by (nat_eq x z) refl (any_of_others x y apart zs)
+from_pairs : (first : ℕ) (ps : List ℕ) → ((j : ℕ) (d : ℕ) → j < length ps → first ≤ get_or ps j d) → AllPairs (λ x y. x < y) ps → AreRisingPlaces first ps
+from_pairs first [] all pairs = tt
+from_pairs first (p ∷ ps) all pairs =
+    (all 0 p (omega arith), from_pairs (p + 1) ps (λ j d inside. let less = pairs 0 (suc j) d (omega arith) (omega (arith, inside)) in omega (arith, less)) (λ i j d order inside. pairs (suc i) (suc j) d (omega (arith, order)) (omega (arith, inside))))
+
+rising_places : (places : List ℕ) → IsSorted nat_cmp places → AreRisingPlaces 0 (dedup eqb places)
+rising_places places sorted = from_pairs 0 (dedup eqb places) (λ j d inside. omega arith) (AllPairs-from_increasing (dedup eqb places) (IsStrictlyIncreasing-dedup places sorted))
+
+lower : (first next : ℕ) (us : List Use) → first ≤ next → AreRisingFrom next us → AreRisingFrom first us
+lower first next [] less rising = tt
+lower first next (u ∷ us) less rising = (omega (arith, less, rising.0), rising.1)
+
+rising_uses : (pool : PoolValue) (first : ℕ) (ps : List ℕ) → AreRisingPlaces first ps → AreRisingFrom first (uses_of pool ps)
+rising_uses pool first [] rising = tt
+rising_uses pool first (p ∷ ps) rising = by (what_at pool p) (rising_uses pool (p + 1) ps rising.1)
   where
-    by : (b : Bool) → nat_eq x z ≡ b → list_any (nat_eq y) (filter (λ z. not (nat_eq x z)) zs) ≡ list_any (nat_eq y) zs
-        → list_any (nat_eq y) (cond (not b) (z ∷ filter (λ z. not (nat_eq x z)) zs) (filter (λ z. not (nat_eq x z)) zs)) ≡ (nat_eq y z || list_any (nat_eq y) zs)
-    by true is rest = let other : nat_eq y z ≡ false = sym (ap (nat_eq y) (eqb-true x z is)) ∙ apart in rw other rest
-    by false is rest = ap (λ (b : Bool). nat_eq y z || b) rest
+    by : (o : Option What) → AreRisingFrom (p + 1) (uses_of pool ps) → AreRisingFrom first (use_of p o ++ uses_of pool ps)
+    by None rest = lower first (p + 1) (uses_of pool ps) (omega (arith, rising.0)) rest
+    by (Some what) rest = (rising.0, rest)
 
-any_first_seen : (xs : List ℕ) (y : ℕ) → list_any (nat_eq y) (first_seen xs) ≡ list_any (nat_eq y) xs
-any_first_seen [] y = refl
-any_first_seen (x ∷ xs) y = either_way (nat_eq y x) (list_any (nat_eq y) (filter (λ z. not (nat_eq x z)) (first_seen xs))) (list_any (nat_eq y) xs) (λ apart. any_of_others x y apart (first_seen xs) ∙ any_first_seen xs y)
+-- ---- what is listed
 
-seen_place : (places : List ℕ) (place : ℕ) → Contains places place → Contains (first_seen places) place
-seen_place places place c = Contains-from_any eqb-true place (first_seen places) (any_first_seen places place ∙ list_any-from_Contains nat_eq_equiv place places c)
+used_of : (pool : PoolValue) (ps : List ℕ) (place : ℕ) → what_used (uses_of pool ps) place ≡ used_at pool ps place
+used_of pool [] place = refl
+used_of pool (p ∷ ps) place = by (nat_eq place p) refl (what_at pool p) refl (used_of pool ps place)
+  where
+    none_there : (b : Bool) (o : Option What) → o ≡ None → cond b o None ≡ None
+    none_there true o is = is
+    none_there false o is = refl
 
--- ---- items of lists made of lists
+    by : (b : Bool) → nat_eq place p ≡ b → (o : Option What) → what_at pool p ≡ o → what_used (uses_of pool ps) place ≡ used_at pool ps place
+        → what_used (use_of p o ++ uses_of pool ps) place ≡ cond (b || list_any (nat_eq place) ps) (what_at pool place) None
+    by true same (Some what) is rest = rw (eq-eqb p place (sym (eqb-true place p same))) (sym (ap (what_at pool) (eqb-true place p same) ∙ is))
+    by true same None is rest =
+        let none = ap (what_at pool) (eqb-true place p same) ∙ is in
+        rest ∙ none_there (list_any (nat_eq place) ps) (what_at pool place) none ∙ sym none
+    by false apart (Some what) is rest = rw (nat_eq_equiv.symm p place ∙ apart) rest
+    by false apart None is rest = rest
 
-contains_none : {A : Type 0} (a : A) → Contains [] a → ⊥
-contains_none a c = omega (arith, c.1)
+same_any : (place : ℕ) (xs ys : List ℕ) → (Contains xs place → Contains ys place) → (Contains ys place → Contains xs place) → list_any (nat_eq place) xs ≡ list_any (nat_eq place) ys
+same_any place xs ys to back = by (list_any (nat_eq place) xs) (list_any (nat_eq place) ys) refl refl
+  where
+    by : (a b : Bool) → list_any (nat_eq place) xs ≡ a → list_any (nat_eq place) ys ≡ b → a ≡ b
+    by true true p q = refl
+    by false false p q = refl
+    by true false p q = sym (list_any-from_Contains nat_eq_equiv place ys (to (Contains-from_any eqb-true place xs p))) ∙ q
+    by false true p q = sym p ∙ list_any-from_Contains nat_eq_equiv place xs (back (Contains-from_any eqb-true place ys q))
+
+-- one place more is listed
+pub lists_more : (pool : PoolValue) (places : List ℕ) (i : ℕ) (uses new : List Use) (o : Option What) → i < length places → o ≡ what_at pool (get_or places i 0) → uses ≡ uses_of pool (take i places)
+    → new ≡ uses ++ use_of (get_or places i 0) o → new ≡ uses_of pool (take (i + 1) places)
+lists_more pool places i uses new o lt stands before put =
+    put
+    ∙ (λ k. before k ++ use_of (get_or places i 0) (stands k))
+    ∙ ap (λ (l : List Use). uses_of pool (take i places) ++ l) (sym (append-nil (use_of (get_or places i 0) (what_at pool (get_or places i 0)))))
+    ∙ sym (flat_map-append (λ p. use_of p (what_at pool p)) (take i places) (get_or places i 0 ∷ []))
+    ∙ ap (uses_of pool) (sym (take_more places i 0 lt))
+
+pub short_more : (place : ℕ) (uses new : List Use) (o : Option What) → All (λ u. HasShortTexts u.what) uses → IfSome o HasShortTexts → new ≡ uses ++ use_of place o → All (λ u. HasShortTexts u.what) new
+short_more place uses new None short is put = subst (All (λ (u : Use). HasShortTexts u.what)) (sym (put ∙ append-nil uses)) short
+short_more place uses new (Some what) short is put = subst (All (λ (u : Use). HasShortTexts u.what)) (sym put) (All-push (λ (u : Use). HasShortTexts u.what) uses (record { place = place; what = what }) short is)
+
+-- places in order, each once, are used as they were before
+pub listed : (pool : PoolValue) (places sorted single : List ℕ) (uses : List Use) → IsPermutation places sorted → IsSorted nat_cmp sorted → single ≡ dedup eqb sorted → uses ≡ uses_of pool single → AreUsesOf pool places uses
+listed pool places sorted single uses permuted in_order is list = record {
+  rising = subst (AreRisingFrom 0) (sym (list ∙ ap (uses_of pool) is)) (rising_uses pool 0 (dedup eqb sorted) (rising_places sorted in_order));
+  each = λ place.
+      ap (λ (us : List Use). what_used us place) (list ∙ ap (uses_of pool) is)
+      ∙ used_of pool (dedup eqb sorted) place
+      ∙ ap (λ (b : Bool). cond b (what_at pool place) None) (same_any place (dedup eqb sorted) sorted (Contains-from_dedup eqb sorted place) (Contains-dedup_nat sorted place) ∙ sym (list_any-IsPermutation (nat_eq place) places sorted permuted));
+}
+
+-- what is listed of the places of instructions and rows, in order and each once
+pub listed_ok : (pool : PoolValue) (insns : List Insn) (rows : List Row) (none by_insns by_rows sorted single : List ℕ) (r : Result (List Use) Memory) → none ≡ [] → by_insns ≡ none ++ insn_places insns → by_rows ≡ by_insns ++ row_places rows
+    → IsPermutation by_rows sorted → IsSorted nat_cmp sorted → single ≡ dedup eqb sorted → IfOk r (λ uses. uses ≡ uses_of pool single) → IfOk r (AreUsesOf pool (places_used insns rows))
+listed_ok pool insns rows none by_insns by_rows sorted single (Err e) empty first then permuted in_order is list = tt
+listed_ok pool insns rows none by_insns by_rows sorted single (Ok uses) empty first then permuted in_order is list =
+    let all = then ∙ ap (λ (l : List ℕ). l ++ row_places rows) (first ∙ ap (λ (l : List ℕ). l ++ insn_places insns) empty) in
+    listed pool (places_used insns rows) sorted single uses (subst (λ (l : List ℕ). IsPermutation l sorted) all permuted) in_order is list
+
+-- ---- there is one such list
+
+heads : (first : ℕ) (u v : Use) (us vs : List Use) → AreRisingFrom first (u ∷ us) → AreRisingFrom first (v ∷ vs) → ((place : ℕ) → what_used (u ∷ us) place ≡ what_used (v ∷ vs) place) → u.place < v.place → ⊥
+heads first u v us vs p q same less = none-some u.what (sym (none_below v.place (v ∷ vs) (omega arith, q.1) u.place less) ∙ sym (same u.place) ∙ (rw (eq-eqb u.place u.place refl) refl))
+
+pub same_uses : (first : ℕ) (us vs : List Use) → AreRisingFrom first us → AreRisingFrom first vs → ((place : ℕ) → what_used us place ≡ what_used vs place) → us ≡ vs
+same_uses first [] [] p q same = refl
+same_uses first [] (v ∷ vs) p q same = absurd (none-some v.what (same v.place ∙ (rw (eq-eqb v.place v.place refl) refl)))
+same_uses first (u ∷ us) [] p q same = absurd (none-some u.what (sym (same u.place) ∙ (rw (eq-eqb u.place u.place refl) refl)))
+same_uses first (u ∷ us) (v ∷ vs) p q same = by (same_uses (u.place + 1) us vs p.1) (cases_order u.place v.place)
+  where
+    by : (AreRisingFrom (u.place + 1) vs → ((place : ℕ) → what_used us place ≡ what_used vs place) → us ≡ vs) → (u.place ≡ v.place) ⊎ ((u.place < v.place) ⊎ (v.place < u.place)) → u ∷ us ≡ v ∷ vs
+    by again (inl at) = λ i. (record { place = at i; what = whats i }) ∷ rest i
+      where
+        whats : u.what ≡ v.what
+        whats = same_Some u.what v.what (sym (the u us) ∙ same u.place ∙ ap (what_used (v ∷ vs)) at ∙ the v vs)
+          where
+            the : (w : Use) (ws : List Use) → what_used (w ∷ ws) w.place ≡ Some w.what
+            the w ws = rw (eq-eqb w.place w.place refl) refl
+
+        behind : (place : ℕ) → what_used us place ≡ what_used vs place
+        behind place = of (nat_eq u.place place) refl
+          where
+            of : (b : Bool) → nat_eq u.place place ≡ b → what_used us place ≡ what_used vs place
+            of true here =
+                let is = eqb-true u.place place here in
+                none_below (u.place + 1) us p.1 place (omega (arith, is)) ∙ sym (none_below (v.place + 1) vs q.1 place (omega (arith, is, at)))
+            of false there =
+                let also : nat_eq v.place place ≡ false = sym (ap (λ n. nat_eq n place) at) ∙ there in
+                sym (ap (λ (b : Bool). cond b (Some u.what) (what_used us place)) there) ∙ same place ∙ ap (λ (b : Bool). cond b (Some v.what) (what_used vs place)) also
+
+        rest : us ≡ vs
+        rest = again (subst (λ n. AreRisingFrom (n + 1) vs) (sym at) q.1) behind
+    by again (inr (inl less)) = absurd (heads first u v us vs p q same less)
+    by again (inr (inr more)) = absurd (heads first v u vs us q p (λ place. sym (same place)) more)
+
+pub one_uses : (pool : PoolValue) (places : List ℕ) (us vs : List Use) → AreUsesOf pool places us → AreUsesOf pool places vs → us ≡ vs
+one_uses pool places us vs p q = same_uses 0 us vs p.rising q.rising (λ place. p.each place ∙ sym (q.each place))
+
+-- an entry at its place among others
+abbrev put : Use → List Use → List Use
+put u [] = u ∷ []
+put u (v ∷ vs) = cond (nat_lt u.place v.place) (u ∷ v ∷ vs) (v ∷ put u vs)
+
+never_both : true ≡ false → ⊥
+never_both e = cc
+
+put_rising : (first : ℕ) (u : Use) (us : List Use) → AreRisingFrom first us → first ≤ u.place → what_used us u.place ≡ None → AreRisingFrom first (put u us)
+put_rising first u [] rising least none = (least, tt)
+put_rising first u (v ∷ vs) rising least none = by (put_rising (v.place + 1) u vs rising.1) (cases_order u.place v.place)
+  where
+    behind : (v.place + 1 ≤ u.place → what_used vs u.place ≡ None → AreRisingFrom (v.place + 1) (put u vs)) → v.place < u.place → AreRisingFrom first (v ∷ put u vs)
+    behind again more =
+        let other : what_used vs u.place ≡ None = sym (ap (λ (b : Bool). cond b (Some v.what) (what_used vs u.place)) (ne_eqb v.place u.place (λ same. omega (arith, more, same)))) ∙ none in
+        (rising.0, again (omega (arith, more)) other)
+
+    by : (v.place + 1 ≤ u.place → what_used vs u.place ≡ None → AreRisingFrom (v.place + 1) (put u vs)) → (u.place ≡ v.place) ⊎ ((u.place < v.place) ⊎ (v.place < u.place)) → AreRisingFrom first (put u (v ∷ vs))
+    by again (inl same) = absurd (none-some v.what (sym none ∙ ap (λ (b : Bool). cond b (Some v.what) (what_used vs u.place)) (eq-eqb v.place u.place (sym same))))
+    by again (inr (inl less)) = rw (lt-ltb u.place v.place less) (least, (omega (arith, less), rising.1))
+    by again (inr (inr more)) = rw (le-ltb u.place v.place (omega (arith, more))) (behind again more)
+
+put_used : (u : Use) (us : List Use) (place : ℕ) → what_used us u.place ≡ None → what_used (put u us) place ≡ cond (nat_eq u.place place) (Some u.what) (what_used us place)
+put_used u [] place none = refl
+put_used u (v ∷ vs) place none = by (put_used u vs place) (nat_lt u.place v.place)
+  where
+    apart : nat_eq v.place u.place ≡ false
+    apart = of (nat_eq v.place u.place) refl
+      where
+        of : (b : Bool) → nat_eq v.place u.place ≡ b → b ≡ false
+        of false e = refl
+        of true e = absurd (none-some v.what (sym none ∙ ap (λ (b : Bool). cond b (Some v.what) (what_used vs u.place)) e))
+
+    other : what_used vs u.place ≡ None
+    other = sym (ap (λ (b : Bool). cond b (Some v.what) (what_used vs u.place)) apart) ∙ none
+
+    swapped : (a b : Bool) → nat_eq v.place place ≡ a → nat_eq u.place place ≡ b → cond a (Some v.what) (cond b (Some u.what) (what_used vs place)) ≡ cond b (Some u.what) (cond a (Some v.what) (what_used vs place))
+    swapped true false p q = refl
+    swapped false b p q = refl
+    swapped true true p q = absurd (never_both (sym (eq-eqb v.place u.place (eqb-true v.place place p ∙ sym (eqb-true u.place place q))) ∙ apart))
+
+    by : (what_used vs u.place ≡ None → what_used (put u vs) place ≡ cond (nat_eq u.place place) (Some u.what) (what_used vs place))
+        → (b : Bool) → what_used (cond b (u ∷ v ∷ vs) (v ∷ put u vs)) place ≡ cond (nat_eq u.place place) (Some u.what) (what_used (v ∷ vs) place)
+    by again true = refl
+    by again false = ap (cond (nat_eq v.place place) (Some v.what)) (again other) ∙ swapped (nat_eq v.place place) (nat_eq u.place place) refl refl
+
+-- one place more is used
+place_more : (pool : PoolValue) (p : ℕ) (ps : List ℕ) (place : ℕ) → used_at pool (p ∷ ps) place ≡ cond (nat_eq p place) (what_at pool p) (used_at pool ps place)
+place_more pool p ps place = by (nat_eq place p) refl
+  where
+    by : (b : Bool) → nat_eq place p ≡ b → cond (b || list_any (nat_eq place) ps) (what_at pool place) None ≡ cond (nat_eq p place) (what_at pool p) (used_at pool ps place)
+    by true same = ap (what_at pool) (eqb-true place p same) ∙ sym (ap (λ (b : Bool). cond b (what_at pool p) (used_at pool ps place)) (nat_eq_equiv.symm p place ∙ same))
+    by false apart = sym (ap (λ (b : Bool). cond b (what_at pool p) (used_at pool ps place)) (nat_eq_equiv.symm p place ∙ apart))
+
+pub some_uses : (pool : PoolValue) (places : List ℕ) → (uses : List Use) × AreUsesOf pool places uses
+some_uses pool [] = ([], record { rising = tt; each = λ place. refl })
+some_uses pool (p ∷ ps) = with (some_uses pool ps).0 (some_uses pool ps).1
+  where
+    with : (us : List Use) → AreUsesOf pool ps us → (uses : List Use) × AreUsesOf pool (p ∷ ps) uses
+    with us are = by (what_used us p) refl (what_at pool p) refl
+      where
+        stays : used_at pool ps p ≡ what_at pool p → (place : ℕ) → what_used us place ≡ used_at pool (p ∷ ps) place
+        stays there place = are.each place ∙ of (nat_eq p place) refl ∙ sym (place_more pool p ps place)
+          where
+            of : (b : Bool) → nat_eq p place ≡ b → used_at pool ps place ≡ cond b (what_at pool p) (used_at pool ps place)
+            of false apart = refl
+            of true same = ap (used_at pool ps) (sym (eqb-true p place same)) ∙ there
+
+        known : (what : What) (b : Bool) (o : Option What) → cond b o None ≡ Some what → cond b o None ≡ o
+        known what true o is = refl
+        known what false o is = absurd (none-some what is)
+
+        by : (o : Option What) → what_used us p ≡ o → (there : Option What) → what_at pool p ≡ there → (uses : List Use) × AreUsesOf pool (p ∷ ps) uses
+        by (Some what) used there is = (us, record { rising = are.rising; each = stays (known what (list_any (nat_eq p) ps) (what_at pool p) (sym (are.each p) ∙ used)) })
+        by None used None is = (us, record { rising = are.rising; each = stays (sym (are.each p) ∙ used ∙ sym is) })
+        by None used (Some what) is =
+            let u : Use = record { place = p; what = what } in (
+              put u us,
+              record {
+                rising = put_rising 0 u us are.rising (omega arith) used;
+                each = λ place.
+                    put_used u us place used
+                    ∙ ap (cond (nat_eq p place) (Some what)) (are.each place)
+                    ∙ ap (λ (o : Option What). cond (nat_eq p place) o (used_at pool ps place)) (sym is)
+                    ∙ sym (place_more pool p ps place);
+              },
+            )
+
+-- ---- what an instruction or a row uses
 
 contains_flat : {X A : Type 0} (f : X → List A) (xs : List X) (x : X) (a : A) → Contains xs x → Contains (f x) a → Contains (flat_map f xs) a
 contains_flat f xs x a c inside = at f xs x a inside c.0 c.1 c.2
@@ -171,11 +276,6 @@ contains_flat f xs x a c inside = at f xs x a inside c.0 c.1 c.2
     at f [] x a inside k lt is = absurd (omega (arith, lt))
     at f (y ∷ ys) x a inside zero lt is = Contains-append_left (f y) (flat_map f ys) a (subst (λ z. Contains (f z) a) (sym is) inside)
     at f (y ∷ ys) x a inside (suc k) lt is = Contains-append_right (f y) (flat_map f ys) a (at f ys x a inside k (omega (arith, lt)) is)
-
--- what holds of the items of each list holds of all
-of_flat : {X A : Type 0} (f : X → List A) (P : A → Type 0) → ((x : X) (a : A) → Contains (f x) a → P a) → (xs : List X) (a : A) → Contains (flat_map f xs) a → P a
-of_flat f P each [] a c = absurd (contains_none a c)
-of_flat f P each (x ∷ xs) a c = ⊎_elim (λ inside. each x a inside) (λ later. of_flat f P each xs a later) (Contains-append_cases (f x) (flat_map f xs) a c)
 
 contains_map : {X Y : Type 0} (f : X → Y) (xs : List X) (x : X) → Contains xs x → Contains (map f xs) (f x)
 contains_map f xs x c = at f xs x c.0 c.1 c.2
@@ -197,33 +297,12 @@ contains_filter p xs x pass c = at xs c.0 c.1 c.2
         by true c = (suc c.0, omega (arith, c.1), c.2)
         by false c = c
 
--- ---- what stands at the places
-
--- each use is of what stands at its place
-use_stands : (pool : PoolValue) (place : ℕ) (o : Option What) → what_at pool place ≡ o → (u : Use) → Contains (use_of place o) u → what_at pool u.place ≡ Some u.what
-use_stands pool place None is u c = absurd (contains_none u c)
-use_stands pool place (Some what) is u c = subst (λ (v : Use). what_at pool v.place ≡ Some v.what) (single c.0 c.1 c.2) is
-  where
-    single : (k : ℕ) → k < length (use_of place (Some what)) → get_or (use_of place (Some what)) k u ≡ u → ◌≡◌ {A = Use} (record { place = place; what = what }) u
-    single zero lt same = same
-    single (suc k) lt same = absurd (omega (arith, lt))
-
-uses_stand : (pool : PoolValue) (places : List ℕ) (u : Use) → Contains (uses_of pool places) u → what_at pool u.place ≡ Some u.what
-uses_stand pool places u c = of_flat (λ place. use_of place (what_at pool place)) (λ v. what_at pool v.place ≡ Some v.what) (λ place v inside. use_stands pool place (what_at pool place) refl v inside) places u c
-
-pub has_use : (pool : PoolValue) (places : List ℕ) (place : ℕ) (what : What) (Fact : What → Type 0) → Contains places place → what_at pool place ≡ Some what → Fact what → HasUse (uses_of pool (first_seen places)) place Fact
-has_use pool places place what Fact c is fact = record {
-  use_of = record { place = place; what = what };
-  listed = contains_flat (λ p. use_of p (what_at pool p)) (first_seen places) place (record { place = place; what = what }) (seen_place places place c)
-      (subst (λ (o : Option What). Contains (use_of place o) (record { place = place; what = what })) (sym is) (0, omega arith, refl));
-  place_is = refl;
+pub has_use : (pool : PoolValue) (places : List ℕ) (uses : List Use) (place : ℕ) (what : What) (Fact : What → Type 0) → AreUsesOf pool places uses → Contains places place → what_at pool place ≡ Some what → Fact what → HasUse uses place Fact
+has_use pool places uses place what Fact are c is fact = record {
+  what = what;
+  used = are.each place ∙ ap (λ (b : Bool). cond b (what_at pool place) None) (list_any-from_Contains nat_eq_equiv place places c) ∙ is;
   fact = fact;
-  single = λ other listed at.
-      let same : other.what ≡ what = same_Some other.what what (sym (uses_stand pool (first_seen places) other listed) ∙ ap (what_at pool) at ∙ is) in
-      λ i. record { place = at i; what = same i };
 }
-
--- ---- which places are used
 
 pub insn_place_used : (insns : List Insn) (rows : List Row) (insn : Insn) (place : ℕ) → Contains insns insn → pool_place insn ≡ Some place → Contains (places_used insns rows) place
 insn_place_used insns rows insn place c is = Contains-append_left (insn_places insns) (row_places rows) place

@@ -7,9 +7,10 @@ use Rattle.std.proofs.lemmas.List.Elements.{All-map, Contains-get_or}
 use Rattle.jc_base.specs.Decoder.{◌>>=◌}
 use Rattle.jc_base.specs.Flow.{FallsThrough}
 use Rattle.jc_base.specs.InsnUse.{pool_place, Suits, IsClass, LocalsWithin, LeadsWithin}
-use Rattle.jc_base.specs.WellMade.{IsCode, HasUse, AreUses, IsWellMade}
+use Rattle.jc_base.specs.WellMade.{IsCode, HasUse, HasShortTexts, AreUses, HasSizes, IsWellMadeOfAnySize, most_slots, IsBounded, IsWellMade}
 use Rattle.jc_base.specs.declared.body.Body.{Body}
 use Rattle.jc_base.specs.declared.body.Handler.{Handler}
+use Rattle.jc_base.specs.declared.body.Use.{Use}
 use Rattle.jc_base.specs.declared.body.What.TheVariants as whats
 use Rattle.jc_base.specs.declared.insn.Insn.{Insn}
 use Rattle.jc_pool.specs.declared.entry.Entry.{Entry}
@@ -24,9 +25,9 @@ use Rattle.jc_insn.proofs.InsnCountLaws.{code_size}
 use Rattle.jc_body.specs.declared.coded.Coded.{Coded}
 use Rattle.jc_body.specs.declared.items.Row.{Row}
 use Rattle.jc_body.specs.declared.items.Tables.{Tables}
-use Rattle.jc_body.specs.BodyOf.{handler_of, lines_of, vars_of, places_used, first_seen, uses_of, HasParts, IsBody}
+use Rattle.jc_body.specs.BodyOf.{handler_of, lines_of, vars_of, places_used, AreUsesOf, HasParts, IsBody, IsBodyOfAnySize}
 use Rattle.jc_body.specs.Coded.{IsCoded}
-use Rattle.jc_body.specs.Faults.{OfCode, InsnAt, IsAstray, IsRow, IsClassOrNone, ArgumentsOutside, TooWide, faults}
+use Rattle.jc_body.specs.Faults.{OfCode, InsnAt, IsAstray, IsRow, IsClassOrNone, ArgumentsOutside, TooWide, faults, faults_of_any_size}
 use Rattle.jc_body.specs.First.{IsNowhere, AreNowhere, NoItem}
 use Rattle.jc_body.specs.Standing.{what_of, what_at, found_in, found_at, HasRightEntry}
 use Rattle.jc_body.proofs.ArgumentLaws.{arguments_fit}
@@ -44,7 +45,6 @@ record IsFree (c : ClassFile) (method : Member) (coded : Coded) : Type 0 where
   locals : NoItem (λ number insn. LocalsWithin coded.items.max_locals insn → ⊥) coded.insns
   arguments : IsNowhere (ArgumentsOutside c.pool method coded)
   rows : NoItem (λ place row. IsRow c.pool (insn_number coded.starts) (length coded.insns) (length coded.items.code) row → ⊥) coded.items.rows
-  wide : IsNowhere (TooWide coded)
 
 -- where an instruction's fault is nowhere, no instruction has it
 no_insn : (pool : PoolValue) (method : Member) (coded : Coded) (Fact : Coded → ℕ → Insn → Type 0) → IsCoded pool method coded → AreStarts (length coded.insns) (length coded.items.code) coded.starts → IsNowhere (OfCode pool method (λ d. InsnAt (Fact d) d)) → NoItem (Fact coded) coded.insns
@@ -56,14 +56,13 @@ no_insn pool method coded Fact is starts none number insn stands fault =
       fault = record { number = number; insn = insn; stands = stands; start = slice_get-get_or coded.starts number 0 (omega (arith, inside, starts.one_more)); fault = fault };
     })
 
-free_of_faults : (c : ClassFile) (method : Member) (coded : Coded) → IsCoded c.pool method coded → AreStarts (length coded.insns) (length coded.items.code) coded.starts → AreNowhere (faults c.major c.pool method) → IsFree c method coded
-free_of_faults c method coded is starts (single, (form, (stop, (entry, (jump, (local, (arguments, (row, (table, (wide, end)))))))))) = record {
+free_of_faults : (c : ClassFile) (method : Member) (coded : Coded) → IsCoded c.pool method coded → AreStarts (length coded.insns) (length coded.items.code) coded.starts → AreNowhere (faults_of_any_size c.major c.pool method) → IsFree c method coded
+free_of_faults c method coded is starts (single, (form, (stop, (entry, (jump, (local, (arguments, (row, (table, end))))))))) = record {
   entries = no_insn c.pool method coded (λ d number insn. HasRightEntry c.major c.pool insn → ⊥) is starts entry;
   jumps = no_insn c.pool method coded (λ d. IsAstray (length d.insns)) is starts jump;
   locals = no_insn c.pool method coded (λ d number insn. LocalsWithin d.items.max_locals insn → ⊥) is starts local;
   arguments = λ place fault. arguments place (record { coded = coded; is = is; fault = fault });
   rows = λ place r stands fault. row place (record { coded = coded; is = is; fault = record { row = r; stands = stands; fault = fault } });
-  wide = λ place fault. wide place (record { coded = coded; is = is; fault = fault });
 }
 
 -- what can be decided holds of each item if no item is without it
@@ -117,42 +116,46 @@ class_stands : (pool : PoolValue) (place : ℕ) (name : List ℕ) → class_name
 unfolding found_at
 class_stands pool place name is = λ i. option_and_then what_of (found_in (class_no_member pool place name is i) (is i) (const_of pool place))
 
-row_use : (pool : PoolValue) (insns : List Insn) (rows : List Row) (row : Row) → Contains rows row → IsClassOrNone pool row.class → row.class ≢ 0 → HasUse (uses_of pool (first_seen (places_used insns rows))) row.class IsClass
-row_use pool insns rows row listed (inl none) some = absurd (some none)
-row_use pool insns rows row listed (inr (name, is)) some = has_use pool (places_used insns rows) row.class (whats.Class name) IsClass (row_place_used insns rows row listed some) (class_stands pool row.class name is) tt
+module _ (c : ClassFile) (coded : Coded) (uses : List Use) (are : AreUsesOf c.pool (places_used coded.insns coded.items.rows) uses) where
+  row_use : (row : Row) → Contains coded.items.rows row → IsClassOrNone c.pool row.class → row.class ≢ 0 → HasUse uses row.class IsClass
+  row_use row listed (inl none) some = absurd (some none)
+  row_use row listed (inr (name, is)) some =
+      has_use c.pool (places_used coded.insns coded.items.rows) uses row.class (whats.Class name) IsClass are (row_place_used coded.insns coded.items.rows row listed some) (class_stands c.pool row.class name is) tt
 
-insn_use : (major : ℕ) (pool : PoolValue) (insns : List Insn) (rows : List Row) (insn : Insn) → Contains insns insn → HasRightEntry major pool insn → (place : ℕ) → pool_place insn ≡ Some place → HasUse (uses_of pool (first_seen (places_used insns rows))) place (Suits insn)
-insn_use major pool insns rows insn listed right place names =
-    let what = suits_what major pool insn place names right in
-    has_use pool (places_used insns rows) place what.0 (Suits insn) (insn_place_used insns rows insn place listed names) what.1 what.2
+  insn_use : (insn : Insn) → Contains coded.insns insn → HasRightEntry c.major c.pool insn → (place : ℕ) → pool_place insn ≡ Some place → HasUse uses place (Suits insn)
+  insn_use insn listed right place names =
+      let what = suits_what c.major c.pool insn place names right in
+      has_use c.pool (places_used coded.insns coded.items.rows) uses place what.0 (Suits insn) are (insn_place_used coded.insns coded.items.rows insn place listed names) what.1 what.2
 
-are_uses : (c : ClassFile) (method : Member) (coded : Coded) → IsFree c method coded → AreUses coded.insns (map (handler_of (insn_number coded.starts)) coded.items.rows) (uses_of c.pool (first_seen (places_used coded.insns coded.items.rows)))
-are_uses c method coded free = record {
-  by_insns = λ k d lt. insn_use c.major c.pool coded.insns coded.items.rows (get_or coded.insns k d) (Contains-get_or coded.insns k d lt) (right k d lt);
-  by_handlers = All-map (λ (h : Handler). h.class ≢ 0 → HasUse (uses_of c.pool (first_seen (places_used coded.insns coded.items.rows))) h.class IsClass) (handler_of (insn_number coded.starts)) coded.items.rows
-      (λ k d lt. row_use c.pool coded.insns coded.items.rows (get_or coded.items.rows k d) (Contains-get_or coded.items.rows k d lt) (rows k d lt).class);
-}
-  where
-    right : All (HasRightEntry c.major c.pool) coded.insns
-    right = all_of (HasRightEntry c.major c.pool) coded.insns (right_entry_or_not c.major c.pool) free.entries
+  are_uses : (method : Member) → IsFree c method coded → All (λ u. HasShortTexts u.what) uses → AreUses coded.insns (map (handler_of (insn_number coded.starts)) coded.items.rows) uses
+  are_uses method free short = record {
+    rising = are.rising;
+    by_insns = λ k d lt. insn_use (get_or coded.insns k d) (Contains-get_or coded.insns k d lt) (right k d lt);
+    by_handlers = All-map (λ (h : Handler). h.class ≢ 0 → HasUse uses h.class IsClass) (handler_of (insn_number coded.starts)) coded.items.rows
+        (λ k d lt. row_use (get_or coded.items.rows k d) (Contains-get_or coded.items.rows k d lt) (rows k d lt).class);
+    short = short;
+  }
+    where
+      right : All (HasRightEntry c.major c.pool) coded.insns
+      right = all_of (HasRightEntry c.major c.pool) coded.insns (right_entry_or_not c.major c.pool) free.entries
 
-    rows : All (IsRow c.pool (insn_number coded.starts) (length coded.insns) (length coded.items.code)) coded.items.rows
-    rows = all_of (IsRow c.pool (insn_number coded.starts) (length coded.insns) (length coded.items.code)) coded.items.rows (row_or_not c.pool (insn_number coded.starts) (length coded.insns) (length coded.items.code)) free.rows
+      rows : All (IsRow c.pool (insn_number coded.starts) (length coded.insns) (length coded.items.code)) coded.items.rows
+      rows = all_of (IsRow c.pool (insn_number coded.starts) (length coded.insns) (length coded.items.code)) coded.items.rows (row_or_not c.pool (insn_number coded.starts) (length coded.insns) (length coded.items.code)) free.rows
 
 -- ---- the size
 
-bound : (coded : Coded) → IsNowhere (TooWide coded) → length coded.insns * (coded.items.max_locals + coded.items.max_stack) ≤ 33554432
-bound coded none = by (cases_lt 33554432 (length coded.insns * (coded.items.max_locals + coded.items.max_stack)))
+bound : (coded : Coded) → IsNowhere (TooWide coded) → length coded.insns * (coded.items.max_locals + coded.items.max_stack) ≤ most_slots
+bound coded none = by (cases_lt most_slots (length coded.insns * (coded.items.max_locals + coded.items.max_stack)))
   where
-    by : (33554432 < length coded.insns * (coded.items.max_locals + coded.items.max_stack)) ⊎ (length coded.insns * (coded.items.max_locals + coded.items.max_stack) ≤ 33554432) → length coded.insns * (coded.items.max_locals + coded.items.max_stack) ≤ 33554432
+    by : (most_slots < length coded.insns * (coded.items.max_locals + coded.items.max_stack)) ⊎ (length coded.insns * (coded.items.max_locals + coded.items.max_stack) ≤ most_slots) → length coded.insns * (coded.items.max_locals + coded.items.max_stack) ≤ most_slots
     by (inl wide) = absurd (none 0 (record { at = refl; fault = wide }))
     by (inr fits) = fits
 
 -- ---- the whole
 
 -- the body, by what was read of the method
-abbrev made : Member → Coded → Tables → PoolValue → Body → Body
-made method coded tables pool b = record {
+abbrev made : Member → Coded → Tables → Body → Body
+made method coded tables b = record {
   method = b.method;
   owner = b.owner;
   name = b.name;
@@ -167,10 +170,10 @@ made method coded tables pool b = record {
   vars = vars_of (insn_number coded.starts) (length coded.insns) (length coded.items.code) coded.items.max_locals tables.vars;
   kind_vars = vars_of (insn_number coded.starts) (length coded.insns) (length coded.items.code) coded.items.max_locals tables.kind_vars;
   frames = [];
-  uses = uses_of pool (first_seen (places_used coded.insns coded.items.rows));
+  uses = b.uses;
 }
 
-is_made : (c : ClassFile) (number : ℕ) (method : Member) (coded : Coded) (tables : Tables) (b : Body) → HasParts c number method coded tables b → b ≡ made method coded tables c.pool b
+is_made : (c : ClassFile) (number : ℕ) (method : Member) (coded : Coded) (tables : Tables) (b : Body) → HasParts c number method coded tables b → b ≡ made method coded tables b
 is_made c number method coded tables b p = λ i. record {
   method = b.method;
   owner = b.owner;
@@ -186,11 +189,12 @@ is_made c number method coded tables b p = λ i. record {
   vars = p.vars i;
   kind_vars = p.kind_vars i;
   frames = p.frames i;
-  uses = p.uses i;
+  uses = b.uses;
 }
 
-made_well : (c : ClassFile) (number : ℕ) (method : Member) (coded : Coded) (tables : Tables) (b : Body) → IsCoded c.pool method coded → AreStarts (length coded.insns) (length coded.items.code) coded.starts → IsFree c method coded → HasParts c number method coded tables b → IsWellMade (made method coded tables c.pool b)
-made_well c number method coded tables b is starts free p =
+made_well : (c : ClassFile) (number : ℕ) (method : Member) (coded : Coded) (tables : Tables) (b : Body) → IsCoded c.pool method coded → AreStarts (length coded.insns) (length coded.items.code) coded.starts → IsFree c method coded
+    → HasParts c number method coded tables b → HasSizes b → All (λ u. HasShortTexts u.what) b.uses → IsWellMadeOfAnySize (made method coded tables b)
+made_well c number method coded tables b is starts free p sizes short =
     let count = length coded.insns in
     let size = length coded.items.code in
     let number_is = insn_number coded.starts in
@@ -205,13 +209,41 @@ made_well c number method coded tables b is starts free p =
       locals = all_of (LocalsWithin coded.items.max_locals) coded.insns (locals_or_not coded.items.max_locals) free.locals;
       arguments = p.arg_slots;
       arguments_fit = arguments_fit c.pool method coded b.desc b.arg_slots p.desc p.arg_slots free.arguments;
-      uses = are_uses c method coded free;
+      uses = are_uses c coded b.uses p.uses method free short;
       frames = tt;
-      bound = bound coded free.wide;
+      sizes = subst HasSizes (is_made c number method coded tables b p) sizes;
     }
 
-pub well_made : (c : ClassFile) (number : ℕ) (method : Member) (b : Body) → IsBody c number method b → IsWellMade b
-well_made c number method b is =
+pub well_made_of_any_size : (c : ClassFile) (number : ℕ) (method : Member) (b : Body) → IsBodyOfAnySize c number method b → HasSizes b → All (λ u. HasShortTexts u.what) b.uses → IsWellMadeOfAnySize b
+well_made_of_any_size c number method b is sizes short =
     let starts = are_starts is.coded.items.code is.coded.insns is.coded.starts is.is.spelled in
     let free = free_of_faults c method is.coded is.is starts is.no_fault in
-    subst IsWellMade (sym (is_made c number method is.coded is.tables b is.parts)) (made_well c number method is.coded is.tables b is.is starts free is.parts)
+    subst IsWellMadeOfAnySize (sym (is_made c number method is.coded is.tables b is.parts)) (made_well c number method is.coded is.tables b is.is starts free is.parts sizes short)
+
+-- a body is one whatever its size is
+pub any_size : (c : ClassFile) (number : ℕ) (method : Member) (b : Body) → IsBody c number method b → IsBodyOfAnySize c number method b
+any_size c number method b is = record {
+  coded = is.coded;
+  is = is.is;
+  no_subroutine = is.no_subroutine;
+  no_fault = all_but_last is.no_fault;
+  tables = is.tables;
+  are_tables = is.are_tables;
+  parts = is.parts;
+}
+  where
+    all_but_last : AreNowhere (faults c.major c.pool method) → AreNowhere (faults_of_any_size c.major c.pool method)
+    all_but_last (single, (form, (stop, (entry, (jump, (local, (arguments, (row, (table, (wide, end)))))))))) = (single, (form, (stop, (entry, (jump, (local, (arguments, (row, (table, end)))))))))
+
+is_bounded : (c : ClassFile) (number : ℕ) (method : Member) (b : Body) → IsBody c number method b → IsBounded b
+is_bounded c number method b is = subst IsBounded (sym (is_made c number method is.coded is.tables b is.parts)) (of_code is.no_fault)
+  where
+    of_code : AreNowhere (faults c.major c.pool method) → length is.coded.insns * (is.coded.items.max_locals + is.coded.items.max_stack) ≤ most_slots
+    of_code (single, (form, (stop, (entry, (jump, (local, (arguments, (row, (table, (wide, end)))))))))) =
+        bound is.coded (λ place fault. wide place (record { coded = is.coded; is = is.is; fault = fault }))
+
+pub well_made : (c : ClassFile) (number : ℕ) (method : Member) (b : Body) → IsBody c number method b → HasSizes b → All (λ u. HasShortTexts u.what) b.uses → IsWellMade b
+well_made c number method b is sizes short = record {
+  of_any_size = well_made_of_any_size c number method b (any_size c number method b is) sizes short;
+  bound = is_bounded c number method b is;
+}

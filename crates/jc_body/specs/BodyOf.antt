@@ -1,6 +1,6 @@
 -- The body of a method, or why it has none (JVM Specification 4.7.3).
-use Rattle.std.specs.Prelude.{◌≡◌, ◌+◌, ℕ, Bool, ◌&&◌, ◌||◌, not, List, [], ◌∷◌, ◌++◌, length, map, filter, Option, Some, None, nat_lt, nat_eq, slice_get}
-use Rattle.std.specs.List.{flat_map}
+use Rattle.std.specs.Prelude.{◌≡◌, ◌+◌, ℕ, Bool, ◌&&◌, ◌||◌, not, List, [], ◌∷◌, ◌++◌, length, map, filter, Option, Some, None, nat_lt, nat_eq, slice_get, if◌then◌else◌}
+use Rattle.std.specs.List.{flat_map, list_any}
 use Rattle.jc_base.specs.declared.body.Body.{Body}
 use Rattle.jc_base.specs.declared.body.Handler.{Handler}
 use Rattle.jc_base.specs.declared.body.LineAt.{LineAt}
@@ -12,7 +12,7 @@ use Rattle.jc_base.specs.declared.refusal.Refusal.{Refusal}
 use Rattle.jc_base.specs.declared.refusal.RefusalKind.{RefusalKind}
 use Rattle.jc_base.specs.declared.refusal.RefusalKind.TheVariants as kinds
 use Rattle.jc_base.specs.InsnUse.{pool_place}
-use Rattle.jc_base.specs.WellMade.{TakeSlots}
+use Rattle.jc_base.specs.WellMade.{TakeSlots, AreRisingFrom, what_used}
 use Rattle.jc_pool.specs.Lookup.{utf8_of, class_name_of}
 use Rattle.jc_pool.specs.Pool.{PoolValue}
 use Rattle.jc_class.specs.declared.class_file.ClassFile.{ClassFile}
@@ -25,8 +25,8 @@ use Rattle.jc_body.specs.declared.items.Tables.{Tables}
 use Rattle.jc_body.specs.Attributes.{AreTables}
 use Rattle.jc_body.specs.declared.coded.Coded.{Coded}
 use Rattle.jc_body.specs.Coded.{IsCoded, HasNoCode}
-use Rattle.jc_body.specs.Faults.{HasSubroutine, faults}
-use Rattle.jc_body.specs.First.{IsNowhere, IsLeast, IsFirst, AreNowhere}
+use Rattle.jc_body.specs.Faults.{HasSubroutine, faults, faults_of_any_size}
+use Rattle.jc_body.specs.First.{Fault, IsNowhere, IsLeast, IsFirst, AreNowhere}
 use Rattle.jc_body.specs.Standing.{what_at}
 
 -- ---- offsets as instruction numbers
@@ -90,18 +90,14 @@ row_places rows = filter (λ place. not (nat_eq place 0)) (map (λ row. row.clas
 abbrev pub places_used : List Insn → List Row → List ℕ
 places_used insns rows = insn_places insns ++ row_places rows
 
--- each number once, where it is first seen
-abbrev pub first_seen : List ℕ → List ℕ
-first_seen [] = []
-first_seen (x ∷ xs) = x ∷ filter (λ y. not (nat_eq x y)) (first_seen xs)
+-- what is used at a place: what stands there, if an instruction or a row uses it
+abbrev pub used_at : PoolValue → List ℕ → ℕ → Option What
+used_at pool places place = if list_any (nat_eq place) places then what_at pool place else None
 
-abbrev pub use_of : ℕ → Option What → List Use
-use_of place None = []
-use_of place (Some what) = record { place = place; what = what } ∷ []
-
--- what stands at each of the places
-abbrev pub uses_of : PoolValue → List ℕ → List Use
-uses_of pool places = flat_map (λ place. use_of place (what_at pool place)) places
+-- one entry for each place that is used, in rising order, with what stands there
+pub record AreUsesOf (pool : PoolValue) (places : List ℕ) (uses : List Use) : Type 0 where
+  pub rising : AreRisingFrom 0 uses
+  pub each : (place : ℕ) → what_used uses place ≡ used_at pool places place
 
 -- ---- the body
 
@@ -122,23 +118,37 @@ pub record HasParts (c : ClassFile) (number : ℕ) (method : Member) (coded : Co
   pub kind_vars : body.kind_vars ≡ vars_of (insn_number coded.starts) (length coded.insns) (length coded.items.code) coded.items.max_locals tables.kind_vars
   -- the stack map table isn't read
   pub frames : body.frames ≡ []
-  pub uses : body.uses ≡ uses_of c.pool (first_seen (places_used coded.insns coded.items.rows))
+  pub uses : AreUsesOf c.pool (places_used coded.insns coded.items.rows) body.uses
 
--- the method has code without a fault, and the body is made of it
-pub record IsBody (c : ClassFile) (number : ℕ) (method : Member) (body : Body) : Type 0 where
+-- the method has code without any of the faults, and the body is made of it
+pub record HasBody (Faults : List Fault) (c : ClassFile) (number : ℕ) (method : Member) (body : Body) : Type 0 where
   pub coded : Coded
   pub is : IsCoded c.pool method coded
   pub no_subroutine : IsNowhere (HasSubroutine c.pool method)
-  pub no_fault : AreNowhere (faults c.major c.pool method)
+  pub no_fault : AreNowhere Faults
   pub tables : Tables
   pub are_tables : AreTables c.pool coded.items.attributes tables
   pub parts : HasParts c number method coded tables body
+
+-- the method has code without a fault, and the body is made of it
+abbrev pub IsBody : ClassFile → ℕ → Member → Body → Type 0
+IsBody c number method body = HasBody (faults c.major c.pool method) c number method body
+
+-- the same, whatever the number of its instructions times its slots is
+abbrev pub IsBodyOfAnySize : ClassFile → ℕ → Member → Body → Type 0
+IsBodyOfAnySize c number method body = HasBody (faults_of_any_size c.major c.pool method) c number method body
 
 -- the body of the method with this number
 pub record BodyOf (c : ClassFile) (number : ℕ) (body : Body) : Type 0 where
   pub method : Member
   pub at : slice_get c.methods number ≡ Some method
   pub is : IsBody c number method body
+
+-- the same, whatever the number of its instructions times its slots is
+pub record BodyOfAnySize (c : ClassFile) (number : ℕ) (body : Body) : Type 0 where
+  pub method : Member
+  pub at : slice_get c.methods number ≡ Some method
+  pub is : IsBodyOfAnySize c number method body
 
 -- the method with this number is abstract or native, and has no code
 pub record Bodiless (c : ClassFile) (number : ℕ) : Type 0 where

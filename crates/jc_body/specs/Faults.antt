@@ -5,7 +5,7 @@ use Rattle.jc_base.specs.declared.refusal.RefusalKind.{RefusalKind}
 use Rattle.jc_base.specs.declared.refusal.RefusalKind.TheVariants as kinds
 use Rattle.jc_base.specs.Flow.{FallsThrough}
 use Rattle.jc_base.specs.InsnUse.{LocalsWithin, LeadsWithin}
-use Rattle.jc_base.specs.WellMade.{TakeSlots}
+use Rattle.jc_base.specs.WellMade.{TakeSlots, most_slots}
 use Rattle.jc_pool.specs.Lookup.{utf8_of, class_name_of}
 use Rattle.jc_pool.specs.Pool.{PoolValue}
 use Rattle.jc_class.specs.declared.class_file.Member.{Member}
@@ -124,10 +124,10 @@ pub record MalformedTable (pool : PoolValue) (coded : Coded) (place : ℕ) : Typ
   pub at : place ≡ 0
   pub fault : (tables : Tables) → AreTables pool coded.items.attributes tables → ⊥
 
--- instructions times slots are more than 33,554,432. This bound is the tool's own
+-- instructions times slots are more than the bound, which is the tool's own
 pub record TooWide (coded : Coded) (place : ℕ) : Type 0 where
   pub at : place ≡ 0
-  pub fault : 33554432 < length coded.insns * (coded.items.max_locals + coded.items.max_stack)
+  pub fault : most_slots < length coded.insns * (coded.items.max_locals + coded.items.max_stack)
 
 -- ---- their order
 
@@ -139,15 +139,18 @@ insn_faults major pool = WrongPoolEntry major pool ∷ JumpNowhere ∷ LocalOuts
 abbrev pub row_faults : PoolValue → Member → List (Coded → Fault)
 row_faults pool method = ArgumentsOutside pool method ∷ BadRow pool ∷ []
 
--- The faults of the other tables and of the size, in the order in which they are looked for. That of the
--- stack map table will stand between the two.
+-- The fault of the line and variable tables, and then that of the size. That of the stack map table will
+-- stand between the two.
 abbrev pub table_faults : PoolValue → List (Coded → Fault)
 table_faults pool = MalformedTable pool ∷ TooWide ∷ []
 
--- the faults of a method's code, in the order in which they are looked for
+-- the faults of a method, with those of what was read, in the order in which they are looked for
+abbrev pub faults_with : PoolValue → Member → List (Coded → Fault) → List Fault
+faults_with pool method of_code = NoSingleCode pool method ∷ MalformedCode pool method ∷ MalformedInsn pool method ∷ map (OfCode pool method) of_code
+
 abbrev pub faults : ℕ → PoolValue → Member → List Fault
-faults major pool method =
-    NoSingleCode pool method
-    ∷ MalformedCode pool method
-    ∷ MalformedInsn pool method
-    ∷ map (OfCode pool method) (insn_faults major pool ++ (row_faults pool method ++ table_faults pool))
+faults major pool method = faults_with pool method (insn_faults major pool ++ (row_faults pool method ++ table_faults pool))
+
+-- all of them but that of the size
+abbrev pub faults_of_any_size : ℕ → PoolValue → Member → List Fault
+faults_of_any_size major pool method = faults_with pool method (insn_faults major pool ++ (row_faults pool method ++ MalformedTable pool ∷ []))

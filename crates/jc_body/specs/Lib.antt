@@ -8,6 +8,7 @@ pub mod First
 pub mod Coded
 pub mod Faults
 pub mod Numbering
-pub mod Seen
+pub mod Used
+pub mod Sizes
 pub mod BodyOf
 pub mod Answers

@@ -1,6 +1,6 @@
 //! Reading the body of a method.
-ghost use Rattle.std.specs.Prelude.{◌≡◌, ◌⊎◌, ◌<◌, ◌≤◌, ◌++◌, Some, None, length, map, IfOk, IfErr, IfSome, MatchOption, MatchResult, All};
-ghost use Rattle.jc_base.specs.WellMade.{IsWellMade};
+ghost use Rattle.std.specs.Prelude.{◌≡◌, ◌⊎◌, ◌<◌, ◌≤◌, ◌++◌, Some, None, length, map, IfOk, IfErr, IfSome, MatchOption, MatchResult, All, IsTrue};
+ghost use Rattle.jc_base.specs.WellMade.{IsCounted, IsWellMade};
 ghost use Rattle.jc_base.specs.declared.body.Body.{Body as BodyValue};
 ghost use Rattle.jc_base.specs.declared.refusal.Refusal.{Refusal as Reason};
 ghost use Rattle.jc_class.specs.ClassFormat.{HasText, HasClass, HasMethodDescriptor};
@@ -11,6 +11,7 @@ ghost use Rattle.jc_body.specs.Coded.{HasNoCode, IsCoded};
 ghost use Rattle.jc_body.specs.Numbering.{Numbers};
 ghost use Rattle.jc_body.specs.Answers.{IsRefusal, Said};
 ghost use Rattle.jc_body.specs.BodyOf.{HasParts, IsBody, BodyOf, Bodiless, FaultOf};
+ghost use Rattle.jc_body.specs.Sizes.{HasShortParts, HasSmallParts};
 
 use crate::code::{bad_code, read_coded};
 use crate::coded::Coded;
@@ -39,7 +40,8 @@ fn assembled(
     requires desc { HasMethodDescriptor class.now.pool method.now.desc }
     requires arguments { IsNowhere (ArgumentsOutside class.now.pool method.now coded) }
     requires offsets { Numbers coded offsets.now }
-    ensures { IfOk result (HasParts class.now number method.now coded tables.now) }
+    ensures parts { IfOk result (HasParts class.now number method.now coded tables.now) }
+    ensures texts { IfOk result HasShortParts }
 {
     let pool = &class.pool;
     let max_locals = coded.items.max_locals;
@@ -63,6 +65,32 @@ fn assembled(
     })
 }
 
+/// Whether there are fewer items than a number of four bytes tells apart.
+fn is_counted<T>(list: &List<T>) -> bool
+    ensures { IsTrue result → IsCounted list.now }
+{
+    list.len() < 4_294_967_296
+}
+
+/// The body, where each of its lists has fewer items than a number of four bytes tells apart. Tables of more
+/// items count as want of memory.
+fn with_counted_lists(body: Body) -> Result<Body, Memory>
+    requires texts { HasShortParts body }
+    ensures same { IfOk result (λ same. same ≡ body) }
+    ensures sizes { IfOk result HasSmallParts }
+{
+    let rows = is_counted(&body.handlers);
+    let lines = is_counted(&body.lines);
+    let vars = is_counted(&body.vars) & is_counted(&body.kind_vars);
+    let frames = is_counted(&body.frames);
+    let uses = is_counted(&body.uses);
+    if rows & lines & vars & frames & uses {
+        Ok(body)
+    } else {
+        Err(Memory)
+    }
+}
+
 /// The body of a method with this code, in whose instructions, arguments and exception table no fault was
 /// found.
 fn with_tables(
@@ -82,6 +110,7 @@ fn with_tables(
     requires offsets { Numbers coded offsets.now }
     requires before { AreNowhere (map (λ F. F coded) (insn_faults class.now.major class.now.pool ++ row_faults class.now.pool method.now)) }
     ensures body { IfOk result (IsBody class.now number method.now) }
+    ensures sizes { IfOk result HasSmallParts }
     ensures refused { IfErr result (λ e. Said e (IsRefusal class.now.major class.now.pool method.now number)) }
 {
     let Some(tables) = read_tables(alloc, &class.pool, &coded.items.attributes)? else {
@@ -90,7 +119,8 @@ fn with_tables(
     if is_too_wide(&coded) {
         return Err(Fail::Said(bad_code(number, 0)));
     }
-    Ok(assembled(alloc, class, number, method, coded, offsets, &tables)?)
+    let body = assembled(alloc, class, number, method, coded, offsets, &tables)?;
+    Ok(with_counted_lists(body)?)
 }
 
 /// The body of a method with this code.
@@ -107,6 +137,7 @@ fn body_of(
     requires sizes { All (λ a. length a.body ≤ 67108864) method.now.attributes }
     requires coded { IsCoded class.now.pool method.now coded }
     ensures body { IfOk result (IsBody class.now number method.now) }
+    ensures sizes { IfOk result HasSmallParts }
     ensures refused { IfErr result (λ e. Said e (IsRefusal class.now.major class.now.pool method.now number)) }
 {
     let numbers = numbers_of(alloc, &coded)?;
@@ -129,6 +160,7 @@ fn answer(
     requires desc { HasMethodDescriptor class.now.pool method.now.desc }
     requires sizes { All (λ a. length a.body ≤ 67108864) method.now.attributes }
     ensures answer { IfOk result (λ found. MatchOption found (HasNoCode class.now.pool method.now) (IsBody class.now number method.now)) }
+    ensures sizes { IfOk result (λ found. IfSome found HasSmallParts) }
     ensures refused { IfErr result (λ e. Said e (IsRefusal class.now.major class.now.pool method.now number)) }
 {
     match read_coded(alloc, &class.pool, number, method)? {

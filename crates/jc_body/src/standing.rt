@@ -1,5 +1,6 @@
 //! What stands at the places in the pool that a body uses (JVM Specification 4.4, 4.9.1).
-ghost use Rattle.std.specs.Prelude.{◌≡◌, ◌↔◌, ◌≤◌, IfOk, IsTrue, option_map};
+ghost use Rattle.std.specs.Prelude.{◌≡◌, ◌↔◌, ◌≤◌, IfOk, IsTrue, option_map, IfSome};
+ghost use Rattle.jc_base.specs.WellMade.{HasShortTexts};
 ghost use Rattle.jc_base.specs.InsnUse.{IsOfTwoSlots, IsOneSlotConstant, IsTwoSlotConstant, IsMemberFor};
 ghost use Rattle.jc_pool.specs.Lookup.{member};
 ghost use Rattle.jc_body.specs.Standing.{found_at, what_of_member, what_of_constant, what_of, what_at, Meets, FoundSuits, HasRightEntry};
@@ -74,7 +75,8 @@ fn what_of_constant(constant: ConstText) -> Option<What>
 ///
 /// `Memory` where memory was refused.
 pub fn what_at(alloc: Global, pool: &Pool, place: u16) -> Result<Option<What>, Memory>
-    ensures { IfOk result (λ what. what ≡ what_at pool.now place) }
+    ensures what { IfOk result (λ what. what ≡ what_at pool.now place) }
+    ensures short { IfOk result (λ what. IfSome what HasShortTexts) }
 {
     match standing_at(pool, place) {
         None => Ok(None),

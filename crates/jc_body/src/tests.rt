@@ -2,20 +2,23 @@
 ghost use Rattle.std.specs.Prelude.{◌↔◌, ◌≤◌, length, IsTrue, All};
 
 use super::*;
-use jc_base::{Body, Fail, Memory, Names, Refusal, put_bytes, put_u8, put_u16, put_u32};
+use jc_base::{
+    Body, Fail, Handler, LineAt, Memory, Names, Refusal, RefusalKind, Use, VarAt, What, put_bytes,
+    put_u8, put_u16, put_u32,
+};
 use jc_class::{Attribute, ClassFile, read_class};
 use std::alloc::Global;
 use std::process::Abort;
 use std::test::Fail as Failed;
 use tale::{methods, tale_class};
-use wanted::{codes, heads, other_tables, row_tables, sizes};
+use wanted::{codes, heads, orders, other_tables, row_tables, sizes};
 
 mod tale;
 mod wanted;
 
 /// The items of each class that is written here, from its pool to its first method, which is abstract.
-static HEAD: [u8; 193] = [
-    0x00, 0x1a, // the count: places 1 to 25
+static HEAD: [u8; 207] = [
+    0x00, 0x1d, // the count: places 1 to 28
     0x01, 0x00, 0x01, 0x41, // 1: Utf8 A
     0x07, 0x00, 0x01, // 2: Class A
     0x01, 0x00, 0x01, 0x6d, // 3: Utf8 m
@@ -43,6 +46,9 @@ static HEAD: [u8; 193] = [
     0x01, 0x00, 0x05, 0x28, 0x4a, 0x44, 0x29, 0x56, // 23: Utf8 (JD)V
     0x0a, 0x00, 0x02, 0x00, 0x0b, // 24: Methodref A m I
     0x03, 0xff, 0xff, 0xff, 0xfe, // 25: Integer -2
+    0x01, 0x00, 0x01, 0x4a, // 26: Utf8 J
+    0x0c, 0x00, 0x03, 0x00, 0x1a, // 27: NameAndType m J
+    0x11, 0x00, 0x00, 0x00, 0x1b, // 28: Dynamic m J
     0x04, 0x21, 0x00, 0x02, 0x00, 0x00, 0x00, 0x00, 0x00, 0x00, // class A, and no fields
     0x00, 0x02, // two methods
     0x04, 0x01, 0x00, 0x03, 0x00, 0x04, 0x00, 0x00, // m ()V
@@ -169,36 +175,41 @@ fn read(alloc: Global, bytes: &[u8], method: u32) -> Result<Option<Body>, Fail<R
     read_body(alloc, &class, method, &mut names)
 }
 
-/// What is answered of a method, as text: the exception rows, lines and variables of a body, or the
-/// refusal, if it names the second method.
-fn answer_of(alloc: Global, case: &Case<'_>) -> Result<String, Failed> {
+/// What is answered of a method.
+#[derive(Clone, Copy, Debug, PartialEq, Eq)]
+pub enum Answer {
+    HasBody,
+    Bodiless,
+    /// A refusal of the second method, at this place.
+    BadCode(u32),
+    Subroutine(u32),
+    /// Another error.
+    Other,
+}
+
+/// What a refusal says, if it names the second method.
+fn refused(refusal: Refusal) -> Answer {
+    match (refusal.kind, refusal.method) {
+        (RefusalKind::BadCode, Some(1)) => Answer::BadCode(refusal.place),
+        (RefusalKind::Subroutine, Some(1)) => Answer::Subroutine(refusal.place),
+        _ => Answer::Other,
+    }
+}
+
+/// What is answered of a method.
+fn answer_of(alloc: Global, case: &Case<'_>) -> Result<Answer, Memory> {
     let bytes = class_of(alloc, case)?;
-    let text = match read(alloc, &bytes, 1) {
-        Ok(None) => format!(in alloc; "None")?,
-        Ok(Some(body)) => {
-            let rows = body.handlers.as_slice();
-            let lines = body.lines.as_slice();
-            let vars = body.vars.as_slice();
-            let kind_vars = body.kind_vars.as_slice();
-            format!(in alloc; "Body {rows:?} {lines:?} {vars:?} {kind_vars:?}")?
-        }
-        Err(
-            Fail::Said(
-                Refusal {
-                    kind,
-                    method: Some(1),
-                    place,
-                },
-            ),
-        ) => format!(in alloc; "{kind:?} {place}")?,
-        Err(_) => format!(in alloc; "another error")?,
-    };
-    Ok(text)
+    Ok(match read(alloc, &bytes, 1) {
+        Ok(None) => Answer::Bodiless,
+        Ok(Some(_)) => Answer::HasBody,
+        Err(Fail::Said(refusal)) => refused(refusal),
+        Err(Fail::Memory) => Answer::Other,
+    })
 }
 
 /// Asserts what is answered of a method.
-fn expect(rt: &impl Abort, alloc: Global, case: &Case<'_>, want: &str) -> Result<(), Failed> {
-    let text = answer_of(alloc, case)?;
+fn expect(rt: &impl Abort, alloc: Global, case: &Case<'_>, want: Answer) -> Result<(), Failed> {
+    let answer = answer_of(alloc, case)?;
     let Case {
         code,
         rows,
@@ -206,7 +217,7 @@ fn expect(rt: &impl Abort, alloc: Global, case: &Case<'_>, want: &str) -> Result
         ..
     } = case;
     assert_eq!(rt;
-        text.as_str(),
+        answer,
         want,
         "code {code:?} rows {rows:?} tables {tables:?}"
     );
@@ -214,26 +225,47 @@ fn expect(rt: &impl Abort, alloc: Global, case: &Case<'_>, want: &str) -> Result
 }
 
 #[test]
-fn answers_of_methods(rt: HostRuntime) -> Result<(), Failed> {
+fn answers_by_code(rt: HostRuntime) -> Result<(), Failed> {
     let alloc = rt.alloc();
     for (code, want) in codes() {
-        expect(&rt, alloc, &plain(code), want)?;
+        expect(&rt, alloc, &plain(code), *want)?;
     }
+    Ok(())
+}
+
+#[test]
+fn answers_by_tables(rt: HostRuntime) -> Result<(), Failed> {
+    let alloc = rt.alloc();
     // Three instructions at 0, 3 and 4.
     for (rows, want) in row_tables() {
         let case = Case {
             rows,
             ..plain(b"\x11\0\x07\x57\xb1")
         };
-        expect(&rt, alloc, &case, want)?;
+        expect(&rt, alloc, &case, *want)?;
     }
     for (tables, want) in other_tables() {
         let case = Case {
             tables,
             ..plain(b"\x11\0\x07\x57\xb1")
         };
-        expect(&rt, alloc, &case, want)?;
+        expect(&rt, alloc, &case, *want)?;
     }
+    for (desc, rows, tables, want) in orders() {
+        let case = Case {
+            desc: *desc,
+            rows,
+            tables,
+            ..plain(b"\x11\0\x07\x57\xb1")
+        };
+        expect(&rt, alloc, &case, *want)?;
+    }
+    Ok(())
+}
+
+#[test]
+fn answers_by_heads(rt: HostRuntime) -> Result<(), Failed> {
+    let alloc = rt.alloc();
     for (major, flags, desc, codes, locals, code, want) in heads() {
         let case = Case {
             major: *major,
@@ -243,7 +275,7 @@ fn answers_of_methods(rt: HostRuntime) -> Result<(), Failed> {
             locals: *locals,
             ..plain(code)
         };
-        expect(&rt, alloc, &case, want)?;
+        expect(&rt, alloc, &case, *want)?;
     }
     for (stack, locals, nops, want) in sizes() {
         let case = Case {
@@ -252,45 +284,162 @@ fn answers_of_methods(rt: HostRuntime) -> Result<(), Failed> {
             nops: *nops,
             ..plain(b"\xb1")
         };
-        expect(&rt, alloc, &case, want)?;
+        expect(&rt, alloc, &case, *want)?;
     }
     Ok(())
 }
 
-/// A method whose first and ninth instruction name the same field, and whose first and last exception
-/// row the same class.
-fn whole_class(alloc: Global) -> Result<Vec<u8>, Memory> {
-    let code =
-        b"\xb2\0\x0c\x57\x14\0\x10\x58\xb8\0\x0d\x1e\x88\x99\xff\xf3\xb2\0\x0c\x57\x84\x04\xff\xb1\x57\xb1";
-    let rows = b"\0\x03\0\0\0\x18\0\x18\0\x02\0\x08\0\x0b\0\x18\0\0\0\x10\0\x1a\0\x18\0\x02";
-    let tables =
-        b"\0\x04\0\x06\0\0\0\x0a\0\x02\0\0\0\x07\0\x10\0\x09\0\x07\0\0\0\x0c\0\x01\0\x14\0\x03\0\x03\0\x09\0\x04\0\x08\0\0\0\x0c\0\x01\0\0\0\x1a\0\x03\0\x01\0\0\0\x06\0\0\0\x06\0\x01\0\x18\0\x08";
-    let case = Case {
-        desc: 23,
-        stack: 6,
-        locals: 5,
-        rows,
-        tables,
-        ..plain(code)
-    };
-    class_of(alloc, &case)
-}
-
-/// Its body, as text.
-static WHOLE: &str =
-    "Some(Body { method: 1, owner: List { items: [65] }, name: List { items: [109] }, desc: List { items: [40, 74, 68, 41, 86] }, flags: 9, arg_slots: 4, max_stack: 6, max_locals: 5, code: List { items: [Member { op: 178, place: 12 }, Simple(87), Constant2 { place: 16 }, Simple(88), Member { op: 184, place: 13 }, Local { op: 22, slot: 0 }, Simple(136), Jump { op: 153, to: 0 }, Member { op: 178, place: 12 }, Simple(87), Inc { slot: 4, by: -1 }, Simple(177), Simple(87), Simple(177)] }, handlers: List { items: [Handler { start: 0, end: 12, target: 12, class: 2 }, Handler { start: 4, end: 5, target: 12, class: 0 }, Handler { start: 8, end: 14, target: 12, class: 2 }] }, lines: List { items: [LineAt { at: 0, line: 7 }, LineAt { at: 8, line: 9 }, LineAt { at: 12, line: 8 }] }, vars: List { items: [VarAt { start: 10, end: 11, name: 3, desc: 9, slot: 4 }] }, kind_vars: List { items: [VarAt { start: 0, end: 14, name: 3, desc: 1, slot: 0 }] }, frames: List { items: [] }, uses: List { items: [Use { place: 12, what: Field { class: List { items: [65] }, name: List { items: [109] }, desc: List { items: [73] } } }, Use { place: 16, what: Long(7) }, Use { place: 13, what: Method { class: List { items: [65] }, name: List { items: [109] }, desc: List { items: [40, 41, 86] } } }, Use { place: 2, what: Class(List { items: [65] }) }] } })";
-
-/// What its body is.
-fn whole_body() -> &'static str {
-    WHOLE
-}
-
-/// A body as text.
-fn whole_text(alloc: Global, bytes: &[u8], method: u32) -> Result<String, Failed> {
-    match read(alloc, bytes, method) {
-        Ok(body) => Ok(format!(in alloc; "{body:?}")?),
-        Err(_) => Ok(format!(in alloc; "an error")?),
+/// The body of a method.
+fn body_of(alloc: Global, case: &Case<'_>) -> Result<Body, Failed> {
+    let bytes = class_of(alloc, case)?;
+    match read(alloc, &bytes, 1) {
+        Ok(Some(body)) => Ok(body),
+        _ => Err("no body")?,
     }
+}
+
+const fn variable(start: u32, end: u32, name: u16, desc: u16, slot: u16) -> VarAt {
+    VarAt {
+        start,
+        end,
+        name,
+        desc,
+        slot,
+    }
+}
+
+#[test]
+fn rows_and_lines(rt: HostRuntime) -> Result<(), Failed> {
+    let alloc = rt.alloc();
+    let code = plain(b"\x11\0\x07\x57\xb1");
+    let rows = Case {
+        rows: b"\0\x02\0\0\0\x05\0\x04\0\x02\0\x03\0\x04\0\x03\0\0",
+        ..code
+    };
+    let want = [
+        Handler {
+            start: 0,
+            end: 3,
+            target: 2,
+            class: 2,
+        },
+        Handler {
+            start: 1,
+            end: 2,
+            target: 1,
+            class: 0,
+        },
+    ];
+    assert_eq!(rt; body_of(alloc, &rows)?.handlers.as_slice(), want.as_slice());
+    // Two LineNumberTables, then lines at 1, at the code's length and at 3.
+    let joined = Case {
+        tables: b"\0\x02\0\x06\0\0\0\x0a\0\x02\0\0\0\x0a\0\x04\0\x0c\0\x06\0\0\0\x06\0\x01\0\x03\0\x0b",
+        ..code
+    };
+    let want = [
+        LineAt { at: 0, line: 10 },
+        LineAt { at: 2, line: 12 },
+        LineAt { at: 1, line: 11 },
+    ];
+    assert_eq!(rt; body_of(alloc, &joined)?.lines.as_slice(), want.as_slice());
+    let dropped = Case {
+        tables: b"\0\x01\0\x06\0\0\0\x0e\0\x03\0\x01\0\x07\0\x05\0\x08\0\x03\0\x09",
+        ..code
+    };
+    assert_eq!(rt;
+        body_of(alloc, &dropped)?.lines.as_slice(),
+        [LineAt { at: 1, line: 9 }].as_slice()
+    );
+    Ok(())
+}
+
+/// Variables from 0 to 5, also in local variable 2, from 1 to 5, from 0 to 2 and to 6, and from 3
+/// to 4; and a signature from 3 to 5, also in local variable 2.
+#[test]
+fn variables(rt: HostRuntime) -> Result<(), Failed> {
+    let alloc = rt.alloc();
+    let case = Case {
+        tables: b"\0\x02\0\x07\0\0\0\x3e\0\x06\0\0\0\x05\0\x03\0\x09\0\x01\0\0\0\x05\0\x03\0\x09\0\x02\0\x01\0\x04\0\x03\0\x09\0\x01\0\0\0\x02\0\x03\0\x09\0\x01\0\0\0\x06\0\x03\0\x09\0\x01\0\x03\0\x01\0\x03\0\x09\0\0\0\x08\0\0\0\x16\0\x02\0\x03\0\x02\0\x01\0\x03\0\x02\0\x03\0\x02\0\x01\0\x03\0\x01",
+        ..plain(b"\x11\0\x07\x57\xb1")
+    };
+    let body = body_of(alloc, &case)?;
+    let vars = [variable(0, 3, 3, 9, 1), variable(1, 2, 3, 9, 0)];
+    assert_eq!(rt; body.vars.as_slice(), vars.as_slice());
+    assert_eq!(rt;
+        body.kind_vars.as_slice(),
+        [variable(1, 3, 1, 3, 1)].as_slice()
+    );
+    Ok(())
+}
+
+/// A text that is ASCII.
+fn text(bytes: &[u8]) -> &str {
+    std::str::from_utf8(bytes).unwrap_or("?")
+}
+
+/// What stands at a place, in words.
+fn words_of(alloc: Global, entry: &Use) -> Result<String, Failed> {
+    let place = entry.place;
+    Ok(match &entry.what {
+        What::Field { class, name, desc } => {
+            format!(in alloc;
+                "{place} field {} {} {}",
+                text(class),
+                text(name),
+                text(desc)
+            )?
+        }
+        What::Method { class, name, desc } => {
+            format!(in alloc;
+                "{place} method {} {} {}",
+                text(class),
+                text(name),
+                text(desc)
+            )?
+        }
+        What::Call { name, desc } => {
+            format!(in alloc; "{place} call {} {}", text(name), text(desc))?
+        }
+        What::Class(name) => format!(in alloc; "{place} class {}", text(name))?,
+        What::Int(value) => format!(in alloc; "{place} int {value}")?,
+        What::Long(value) => format!(in alloc; "{place} long {value}")?,
+        What::Float => format!(in alloc; "{place} float")?,
+        What::Double => format!(in alloc; "{place} double")?,
+        What::Text => format!(in alloc; "{place} text")?,
+        What::Handle => format!(in alloc; "{place} handle")?,
+        What::MethodKind => format!(in alloc; "{place} method type")?,
+        What::Computed { desc } => format!(in alloc; "{place} computed {}", text(desc))?,
+    })
+}
+
+/// The long, the field twice, a method of an interface, a call, the int, the text, a dynamic constant and
+/// the class of a row.
+#[test]
+fn places_that_are_used(rt: HostRuntime) -> Result<(), Failed> {
+    let alloc = rt.alloc();
+    let case = Case {
+        rows: b"\0\x01\0\0\0\x03\0\0\0\x02",
+        ..plain(
+            b"\x14\0\x10\xb2\0\x0c\xb2\0\x0c\xb9\0\x0e\x01\0\xba\0\x16\0\0\x12\x19\x12\x0f\x12\x15\xb8\0\x0d\xb1",
+        )
+    };
+    let body = body_of(alloc, &case)?;
+    let want = [
+        "2 class A",
+        "12 field A m I",
+        "13 method A m ()V",
+        "14 method A m ()V",
+        "15 text",
+        "16 long 7",
+        "21 computed I",
+        "22 call m ()V",
+        "25 int -2",
+    ];
+    assert_eq!(rt; body.uses.len(), want.len());
+    for (entry, words) in body.uses.iter().zip(want.iter()) {
+        assert_eq!(rt; words_of(alloc, entry)?.as_str(), *words);
+    }
+    Ok(())
 }
 
 /// What `javap` prints of a body, as text.
@@ -309,11 +458,8 @@ fn printed_text(alloc: Global, bytes: &[u8], method: u32) -> Result<String, Fail
 }
 
 #[test]
-fn whole_bodies(rt: HostRuntime) -> Result<(), Failed> {
+fn compiled_methods(rt: HostRuntime) -> Result<(), Failed> {
     let alloc = rt.alloc();
-    let bytes = whole_class(alloc)?;
-    let text = whole_text(alloc, &bytes, 1)?;
-    assert_eq!(rt; text.as_str(), whole_body());
     for (method, want) in methods() {
         let text = printed_text(alloc, tale_class(), *method)?;
         assert_eq!(rt; text.as_str(), *want, "method {method}");

@@ -17,7 +17,8 @@ pub fn text_at(pool: &Pool, place: u16) -> &[u8]
 /// The name of the class at a place that has one.
 pub fn class_name_at(pool: &Pool, place: u16) -> &[u8]
     requires { HasClass pool.now place }
-    ensures { class_name_of pool.now place ≡ Some result.now }
+    ensures text { class_name_of pool.now place ≡ Some result.now }
+    ensures size { length result.now ≤ 65535 }
 {
     pool.class_at(place).unwrap_or(&[])
 }

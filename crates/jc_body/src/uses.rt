@@ -1,34 +1,34 @@
 //! What stands at the places in the pool that a body uses.
-ghost use Rattle.std.specs.Prelude.{◌≡◌, IfOk, OnOk};
-ghost use Rattle.jc_body.specs.BodyOf.{insn_places, row_places, places_used, first_seen, uses_of};
-ghost use Rattle.jc_body.specs.Seen.{seen_behind};
+ghost use Rattle.std.specs.Prelude.{◌≡◌, ◌++◌, IfOk, OnOk, All};
+ghost use Rattle.jc_base.specs.WellMade.{HasShortTexts};
+ghost use Rattle.jc_body.specs.BodyOf.{insn_places, row_places, places_used, AreUsesOf};
+ghost use Rattle.jc_body.specs.Used.{uses_of};
 
 use crate::items::Row;
 use crate::standing::what_at;
-use indexmap::IndexSet;
 use jc_base::{Insn, List, Memory, Use};
 use jc_pool::Pool;
-use std::alloc::{AllocError, AllocFailed, Global};
+use std::alloc::Global;
 
-/// Puts the places that instructions name into the set.
-fn insert_insns(places: &mut IndexSet<u16>, insns: &[Insn]) -> Result<(), Memory>
-    ensures { OnOk result (places.new.keys ≡ seen_behind places.old.keys (insn_places insns.now)) }
+/// Puts the places that instructions name at the end.
+fn put_insn_places(places: &mut Vec<u16>, insns: &[Insn]) -> Result<(), Memory>
+    ensures { OnOk result (places.new.items ≡ places.old.items ++ insn_places insns.now) }
 {
-    'inserting: for insn in insns {
+    'putting: for insn in insns {
         if let Some(place) = insn.pool_place() {
-            places.insert(place)?;
+            places.push(place)?;
         }
     }
     Ok(())
 }
 
-/// Puts the places of the classes of rows into the set.
-fn insert_rows(places: &mut IndexSet<u16>, rows: &[Row]) -> Result<(), Memory>
-    ensures { OnOk result (places.new.keys ≡ seen_behind places.old.keys (row_places rows.now)) }
+/// Puts the places of the classes of rows at the end.
+fn put_row_places(places: &mut Vec<u16>, rows: &[Row]) -> Result<(), Memory>
+    ensures { OnOk result (places.new.items ≡ places.old.items ++ row_places rows.now) }
 {
-    'inserting: for row in rows {
+    'putting: for row in rows {
         if row.class != 0 {
-            places.insert(row.class)?;
+            places.push(row.class)?;
         }
     }
     Ok(())
@@ -36,7 +36,8 @@ fn insert_rows(places: &mut IndexSet<u16>, rows: &[Row]) -> Result<(), Memory>
 
 /// What stands at each of the places.
 fn listed_uses(alloc: Global, pool: &Pool, places: &[u16]) -> Result<List<Use>, Memory>
-    ensures { IfOk result (λ uses. uses ≡ uses_of pool.now places.now) }
+    ensures uses { IfOk result (λ uses. uses ≡ uses_of pool.now places.now) }
+    ensures short { IfOk result (λ uses. All (λ u. HasShortTexts u.what) uses) }
 {
     let mut uses = Vec::new(alloc);
     'listing: for place in places {
@@ -50,8 +51,7 @@ fn listed_uses(alloc: Global, pool: &Pool, places: &[u16]) -> Result<List<Use>, 
     Ok(List::from_vec(uses))
 }
 
-/// What stands at each place that an instruction or a row uses, in first-seen order, the instructions
-/// first.
+/// What stands at each place that an instruction or a row uses: one entry a place, in rising order.
 ///
 /// # Errors
 ///
@@ -62,10 +62,13 @@ pub fn read_uses(
     insns: &[Insn],
     rows: &[Row],
 ) -> Result<List<Use>, Memory>
-    ensures { IfOk result (λ uses. uses ≡ uses_of pool.now (first_seen (places_used insns.now rows.now))) }
+    ensures uses { IfOk result (AreUsesOf pool.now (places_used insns.now rows.now)) }
+    ensures short { IfOk result (λ uses. All (λ u. HasShortTexts u.what) uses) }
 {
-    let mut places = IndexSet::new(alloc);
-    insert_insns(&mut places, insns)?;
-    insert_rows(&mut places, rows)?;
-    listed_uses(alloc, pool, places.as_slice())
+    let mut places = Vec::new(alloc);
+    put_insn_places(&mut places, insns)?;
+    put_row_places(&mut places, rows)?;
+    places.sort()?;
+    places.dedup();
+    listed_uses(alloc, pool, &places)
 }

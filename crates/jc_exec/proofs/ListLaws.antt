@@ -1,32 +1,25 @@
 -- A text is execution data of one list of blocks at most.
-use Rattle.std.proofs.Common.{◌≡◌, ℕ, List, [], ◌∷◌, ◌++◌, Option, Some, None, get_or, refl, sym, ◌∙◌, ap, subst, arith, append_assoc, if◌then◌else◌}
-use Rattle.std.specs.Prelude.{◌==◌}
+use Rattle.std.proofs.Common.{◌≡◌, ℕ, List, [], ◌∷◌, ◌++◌, Some, nat_eq, get_or, refl, sym, ◌∙◌, ap, subst, arith, append_assoc}
 use Rattle.std.specs.Int.{w64, cast_signed}
-use Rattle.std.proofs.lemmas.List.{append_cancel_left}
+use Rattle.std.proofs.lemmas.Bool.{eqb-true}
+use Rattle.std.proofs.lemmas.List.{append-nil, append_cancel_left}
 use Rattle.byteorder.specs.Endian.{big_number}
-use Rattle.jc_base.specs.Decoder.{◌>>=◌, byte_at, number_at}
-use Rattle.jc_base.proofs.DecoderLaws.{some_is, number_again, byte_again}
+use Rattle.jc_base.specs.Decoder.{byte_at, number_at}
+use Rattle.jc_base.specs.Modified.{IsModified}
+use Rattle.jc_base.proofs.DecoderLaws.{bind_some, guard_some, some_is, number_takes, number_again, byte_takes, byte_again}
 use Rattle.jc_exec.specs.declared.session.Session.{Session}
 use Rattle.jc_exec.specs.declared.hits.ClassHits.{ClassHits}
 use Rattle.jc_exec.specs.Format.{Block, header, session, class, header_text, SessionParts, session_joined, SpellsSession, IsSessionBlock, IsBlock, AreBlocks, Blocks}
-use Rattle.jc_exec.specs.Reading.{text_at, class_at}
-use Rattle.jc_exec.proofs.BlockLaws.{text_again, class_again}
+use Rattle.jc_exec.specs.Reading.{text_at, class_at, session_at}
+use Rattle.jc_exec.proofs.BlockLaws.{text_takes, text_again, class_again}
 
 -- ---- a session in front
-
-abbrev session_at : List ℕ → Option (Session × List ℕ)
-session_at left = do
-  kind ← byte_at left
-  if kind.0 == 0x10 then (do
-    id ← text_at kind.1
-    start ← number_at 8 id.1
-    dump ← number_at 8 start.1
-    Some (record { id = id.0; start = cast_signed w64 start.0; dump = cast_signed w64 dump.0 }, dump.1)) else None
 
 session_regrouped : (p : SessionParts) (rest : List ℕ) → session_joined p ++ rest ≡ 0x10 ∷ (p.size ++ (p.id ++ (p.start ++ (p.dump ++ rest))))
 session_regrouped p rest = simp append_assoc
 
 session_parts_again : (p : SessionParts) (s : Session) (rest : List ℕ) → SpellsSession p s → session_at (0x10 ∷ (p.size ++ (p.id ++ (p.start ++ (p.dump ++ rest))))) ≡ Some (s, rest)
+unfolding session_at
 session_parts_again p s rest spells =
     rw (
       byte_again 0x10 (p.size ++ (p.id ++ (p.start ++ (p.dump ++ rest)))),
@@ -37,8 +30,44 @@ session_parts_again p s rest spells =
     )
     (λ i. Some (record { id = s.id; start = spells.start.value i; dump = spells.dump.value i }, rest))
 
-session_again : (text rest : List ℕ) (s : Session) → IsSessionBlock text s → session_at (text ++ rest) ≡ Some (s, rest)
+pub session_again : (text rest : List ℕ) (s : Session) → IsSessionBlock text s → session_at (text ++ rest) ≡ Some (s, rest)
 session_again text rest s block = ap (λ (l : List ℕ). session_at (l ++ rest)) block.1 ∙ ap session_at (session_regrouped block.0 rest) ∙ session_parts_again block.0 s rest block.2
+
+-- a session block but for its id, which may be no modified UTF-8, stood in front
+pub record TookSession (left : List ℕ) (s : Session) (rest : List ℕ) : Type 0 where
+  pub text : List ℕ
+  pub parts : left ≡ text ++ rest
+  pub block : IsModified s.id → IsSessionBlock text s
+
+took_session : (left a b c rest : List ℕ) (p : SessionParts) (s : Session) → left ≡ 0x10 ∷ a → a ≡ p.size ++ (p.id ++ b) → b ≡ p.start ++ c
+    → c ≡ p.dump ++ rest → (IsModified s.id → SpellsSession p s) → TookSession left s rest
+took_session left a b c rest p s tag id start dump spells = record { text = session_joined p; parts = rw (tag, id, start, dump) (simp append_assoc); block = λ text. (p, refl, spells text) }
+
+-- what is read as a session block is one
+pub session_takes : (left : List ℕ) (read : Session × List ℕ) → session_at left ≡ Some read → TookSession left read.0 read.1
+unfolding session_at
+session_takes left read e =
+    let kind = bind_some (byte_at left) _ read e in
+    let tag = guard_some (nat_eq kind.0.0 0x10) _ read kind.2 in
+    let id = bind_some (text_at kind.0.1) _ read tag.1 in
+    let start = bind_some (number_at 8 id.0.1) _ read id.2 in
+    let dump = bind_some (number_at 8 start.0.1) _ read start.2 in
+    let kind_is = byte_takes left kind.0.0 kind.0.1 kind.1 in
+    let id_is = text_takes kind.0.1 id.0.0 id.0.1 id.1 in
+    let start_is = number_takes 8 id.0.1 start.0.0 start.0.1 start.1 in
+    let dump_is = number_takes 8 start.0.1 dump.0.0 dump.0.1 dump.1 in
+    subst (λ (r : Session × List ℕ). TookSession left r.0 r.1) (some_is _ read dump.2)
+    (took_session left kind.0.1 id.0.1 start.0.1 dump.0.1
+    (record { size = id_is.0; id = id.0.0; start = start_is.0; dump = dump_is.0 })
+    (record { id = id.0.0; start = cast_signed w64 start.0.0; dump = cast_signed w64 dump.0.0 })
+    (kind_is ∙ ap (λ (b : ℕ). b ∷ kind.0.1) (eqb-true kind.0.0 0x10 tag.0)) id_is.1 start_is.1 dump_is.1
+    (λ text. record {
+      size = id_is.2;
+      id = refl;
+      text = text;
+      start = record { size = start_is.2.size; value = ap (cast_signed w64) start_is.2.value };
+      dump = record { size = dump_is.2.size; value = ap (cast_signed w64) dump_is.2.value };
+    }))
 
 -- ---- a block in front
 
@@ -78,6 +107,15 @@ no_block b text front rest block parts none = some b (sym (kind_first b text fro
     some header e = omega (arith, e)
     some (session s) e = omega (arith, e)
     some (class c) e = omega (arith, e)
+
+-- ---- a block more
+
+pub blocks_push : (text : List ℕ) (bs : List Block) (front : List ℕ) (b : Block) → AreBlocks text bs → IsBlock front b
+    → AreBlocks (text ++ front) (bs ++ b ∷ [])
+blocks_push text [] front b none block = (front, [], ap (λ (l : List ℕ). l ++ front) none ∙ sym (append-nil front), block, refl)
+blocks_push text (x ∷ bs) front b a block = (a.0, a.1 ++ front, ap (λ (l : List ℕ). l ++ front) a.2 ∙ append_assoc a.0 a.1 front, a.3, blocks_push a.1 bs front b a.4 block)
+
+-- ---- one list
 
 same_blocks : (text : List ℕ) (xs ys : List Block) → AreBlocks text xs → AreBlocks text ys → xs ≡ ys
 same_blocks text [] [] a b = refl

@@ -9,12 +9,13 @@ use Rattle.jc_exec.specs.declared.hits.ClassHits.{ClassHits}
 use Rattle.jc_exec.specs.declared.session.Session.{Session}
 use Rattle.jc_exec.specs.Format.{Block, header, session, class}
 use Rattle.jc_exec.specs.Store.{Store, IsNew}
-use Rattle.jc_exec.specs.Union.{sessions_of, records_of, ids_of, first_seen, Agrees, IsHitAt, IsMerged, IsUnion, either_bits, agree, with_record, with_block, union_of}
+use Rattle.jc_exec.specs.Union.{sessions_of, records_of, ids_of, first_seen, Agrees, IsHitAt, IsMerged, IsUnion, either_bits, agree, either_hits, with_record, with_block, union_of}
+use Rattle.jc_exec.specs.Refusing.{OneOfEachId}
 use Rattle.jc_exec.proofs.UnionLaws.{sessions-append, records-append, contains_front, contains_last, contains_either, all_filter, among, first_seen-append, among_first_seen, merged_other, merged_first, all_merged_other, union_none, union_header, one_union, in_union, among_there, HasRecord, seen_has_record}
 
 -- ---- two records of one id
 
-length_either : (xs ys : List Bool) → length xs ≡ length ys → length (either_bits xs ys) ≡ length xs
+pub length_either : (xs ys : List Bool) → length xs ≡ length ys → length (either_bits xs ys) ≡ length xs
 length_either [] [] e = refl
 length_either [] (y ∷ ys) e = absurd (omega (arith, e))
 length_either (x ∷ xs) [] e = refl
@@ -42,16 +43,13 @@ and_true : (a b : Bool) → (a && b) ≡ true → (a ≡ true) × (b ≡ true)
 and_true true b e = (refl, e)
 and_true false b e = absurd cc
 
-agree_agrees : (c r : ClassHits) → agree c r ≡ true → Agrees r c
+pub agree_agrees : (c r : ClassHits) → agree c r ≡ true → Agrees r c
 agree_agrees c r e =
     let both = and_true (bytes_eq c.name r.name) (nat_eq (length c.bits) (length r.bits)) e in
     record { name = sym ((bytes_eq-Decides c.name r.name).0 both.0); count = sym (eqb-true (length c.bits) (length r.bits) both.1) }
 
-agrees_agree : (c r : ClassHits) → Agrees r c → agree c r ≡ true
+pub agrees_agree : (c r : ClassHits) → Agrees r c → agree c r ≡ true
 agrees_agree c r a = rw ((bytes_eq-Decides c.name r.name).1 (sym a.name), eq-eqb (length c.bits) (length r.bits) (sym a.count)) refl
-
-abbrev either_hits : ClassHits → ClassHits → ClassHits
-either_hits c r = record { id = c.id; name = c.name; bits = either_bits c.bits r.bits }
 
 -- a record of the same id is merged in
 merged_same : (rs : List ClassHits) (r c : ClassHits) → c.id ≡ r.id → Agrees r c → IsMerged rs c → IsMerged (rs ++ r ∷ []) (either_hits c r)
@@ -78,10 +76,6 @@ merged_same rs r c id a m =
 
 -- ---- records with one more
 
-abbrev pub Distinct : List ClassHits → Type 0
-Distinct [] = Unit {0}
-Distinct (c ∷ cs) = IsNew c.id cs × Distinct cs
-
 -- what comes of a step over the first record
 first_step : (c r : ClassHits) (cs ds : List ClassHits) → with_record (c ∷ cs) r ≡ Some ds
     → ((c.id ≡ r.id) × Agrees r c × (ds ≡ either_hits c r ∷ cs)) ⊎ ((nat_eq c.id r.id ≡ false) × (es : List ClassHits) × (with_record cs r ≡ Some es) × (ds ≡ c ∷ es))
@@ -106,7 +100,7 @@ ids_with (c ∷ cs) ds r e = elim (first_step c r cs ds e) [
       ∙ ap (λ (b : Bool). (c.id ∷ ids_of cs) ++ cond (b || among r.id (ids_of cs)) [] (r.id ∷ [])) (sym other.0)
 ]
 
-merged_with : (rs cs ds : List ClassHits) (r : ClassHits) → Distinct cs → AllByRecursion (IsMerged rs) cs → (among r.id (ids_of cs) ≡ false → among r.id (ids_of rs) ≡ false) → with_record cs r ≡ Some ds → AllByRecursion (IsMerged (rs ++ r ∷ [])) ds
+merged_with : (rs cs ds : List ClassHits) (r : ClassHits) → OneOfEachId cs → AllByRecursion (IsMerged rs) cs → (among r.id (ids_of cs) ≡ false → among r.id (ids_of rs) ≡ false) → with_record cs r ≡ Some ds → AllByRecursion (IsMerged (rs ++ r ∷ [])) ds
 merged_with rs [] ds r apart a none e = subst (AllByRecursion (IsMerged (rs ++ r ∷ []))) (some_is (r ∷ []) ds e) (merged_first rs r (none refl), tt)
 merged_with rs (c ∷ cs) ds r apart a none e = elim (first_step c r cs ds e) [
   | inl same ↦ subst (AllByRecursion (IsMerged (rs ++ r ∷ []))) (sym same.2) (merged_same rs r c same.0 same.1 a.0, all_merged_other rs cs r (subst (λ (id : ℕ). IsNew id cs) same.0 apart.0) a.1)
@@ -141,7 +135,7 @@ first_seen_apart : (xs : List ℕ) → Apart (first_seen xs)
 first_seen_apart [] = tt
 first_seen_apart (x ∷ xs) = (filter_others x (first_seen xs), filter_apart (λ y. not (nat_eq x y)) (first_seen xs) (first_seen_apart xs))
 
-apart_distinct : (cs : List ClassHits) → Apart (ids_of cs) → Distinct cs
+apart_distinct : (cs : List ClassHits) → Apart (ids_of cs) → OneOfEachId cs
 apart_distinct [] a = tt
 apart_distinct (c ∷ cs) a = (new cs a.0, apart_distinct cs a.1)
   where
@@ -149,12 +143,12 @@ apart_distinct (c ∷ cs) a = (new cs a.0, apart_distinct cs a.1)
     new [] a = tt
     new (d ∷ ds) a = (a.0, new ds a.1)
 
-pub union_distinct : (bs : List Block) (s : Store) → IsUnion bs s → Distinct s.classes
+pub union_distinct : (bs : List Block) (s : Store) → IsUnion bs s → OneOfEachId s.classes
 union_distinct bs s u = apart_distinct s.classes (subst Apart (sym u.ids) (first_seen_apart (ids_of (records_of bs))))
 
 -- ---- one block more
 
-union_session : (bs : List Block) (s : Store) (t : Session) → IsUnion bs s → IsUnion (bs ++ session t ∷ []) (record { sessions = s.sessions ++ t ∷ []; classes = s.classes })
+pub union_session : (bs : List Block) (s : Store) (t : Session) → IsUnion bs s → IsUnion (bs ++ session t ∷ []) (record { sessions = s.sessions ++ t ∷ []; classes = s.classes })
 union_session bs s t u =
     let records : records_of (bs ++ session t ∷ []) ≡ records_of bs = records-append bs (session t ∷ []) ∙ append-nil (records_of bs) in
     record {
@@ -178,7 +172,7 @@ union_record bs s r ds u e =
       merged = subst (λ (l : List ClassHits). AllByRecursion (IsMerged l) ds) (sym records) (merged_with rs s.classes ds r (union_distinct bs s u) u.merged (λ none. sym there ∙ none) e);
     }
 
-union_block : (bs : List Block) (b : Block) (s t : Store) → IsUnion bs s → with_block s b ≡ Some t → IsUnion (bs ++ b ∷ []) t
+pub union_block : (bs : List Block) (b : Block) (s t : Store) → IsUnion bs s → with_block s b ≡ Some t → IsUnion (bs ++ b ∷ []) t
 union_block bs header s t u e = subst (IsUnion (bs ++ header ∷ [])) (some_is s t e) (union_header bs s u)
 union_block bs (session x) s t u e = subst (IsUnion (bs ++ session x ∷ [])) (some_is (record { sessions = s.sessions ++ x ∷ []; classes = s.classes }) t e) (union_session bs s x u)
 union_block bs (class r) s t u e = by (with_record s.classes r) refl e
@@ -187,7 +181,7 @@ union_block bs (class r) s t u e = by (with_record s.classes r) refl e
     by (Some ds) is e = subst (IsUnion (bs ++ class r ∷ [])) (some_is (record { sessions = s.sessions; classes = ds }) t e) (union_record bs s r ds u is)
     by None is e = absurd cc
 
-union_blocks : (bs more : List Block) (s t : Store) → IsUnion bs s → union_of s more ≡ Some t → IsUnion (bs ++ more) t
+pub union_blocks : (bs more : List Block) (s t : Store) → IsUnion bs s → union_of s more ≡ Some t → IsUnion (bs ++ more) t
 union_blocks bs [] s t u e = subst (λ (l : List Block). IsUnion l t) (sym (append-nil bs)) (subst (IsUnion bs) (some_is s t e) u)
 union_blocks bs (b ∷ more) s t u e = by (with_block s b) refl e (λ s1 u1 e1. union_blocks (bs ++ b ∷ []) more s1 t u1 e1)
   where

@@ -6,9 +6,9 @@ use Rattle.jc_exec.specs.declared.hits.ClassHits.{ClassHits}
 use Rattle.jc_exec.specs.Format.{Block, header, session, class, header_text, IsBlock, AreBlocks, Blocks, BeginsWithHeader}
 use Rattle.jc_exec.specs.Store.{Store, IsNew}
 use Rattle.jc_exec.specs.Union.{records_of, IsUnion}
-use Rattle.jc_exec.specs.Refusing.{Refused, bad_exec, other_version, conflict, blocks_of, MayFollow, HasOtherHeader, HasConflict, RefusedHere, FirstRefusal, HasOneAnswer}
+use Rattle.jc_exec.specs.Refusing.{Refused, bad_exec, other_version, conflict, blocks_of, MayFollow, HasOtherHeader, HasConflict, RefusedHere, FirstRefusal, OneOfEachId, IsTaken}
 use Rattle.jc_exec.proofs.ListLaws.{kind_of, kind_first, one_front, no_block}
-use Rattle.jc_exec.proofs.MergingLaws.{union_consistent, Distinct, union_distinct}
+use Rattle.jc_exec.proofs.MergingLaws.{union_consistent, union_distinct}
 use Rattle.jc_exec.proofs.UnionLaws.{records-append, contains_front, contains_last, one_union, merged_of}
 
 -- ---- a header of another version
@@ -157,7 +157,7 @@ new_and_there id [] d k new lt is same = omega (arith, lt)
 new_and_there id (c ∷ cs) d zero new lt is same = new.0 (same ∙ sym (ap (λ (x : ClassHits). x.id) is))
 new_and_there id (c ∷ cs) d (suc k) new lt is same = new_and_there id cs d k new.1 (omega (arith, lt)) is same
 
-one_of_id : (cs : List ClassHits) (c d : ClassHits) (j k : ℕ) → Distinct cs → j < length cs → get_or cs j c ≡ c → k < length cs → get_or cs k d ≡ d → c.id ≡ d.id → c ≡ d
+one_of_id : (cs : List ClassHits) (c d : ClassHits) (j k : ℕ) → OneOfEachId cs → j < length cs → get_or cs j c ≡ c → k < length cs → get_or cs k d ≡ d → c.id ≡ d.id → c ≡ d
 one_of_id [] c d j k apart lt is below at same = absurd (omega (arith, lt))
 one_of_id (x ∷ cs) c d zero zero apart lt is below at same = sym is ∙ at
 one_of_id (x ∷ cs) c d zero (suc k) apart lt is below at same = absurd (new_and_there x.id cs d k apart.0 (omega (arith, below)) at (ap (λ (y : ClassHits). y.id) is ∙ same))
@@ -170,7 +170,7 @@ same_hits text read s a b c d x y = of (one_front (class c) (class d) text x.fro
     of : class c ≡ class d → c ≡ d
     of e = cc
 
-one_reason_here : (read : List Block) (s : Store) (place : ℕ) (rest : List ℕ) (a b : Refused) → Distinct s.classes → RefusedHere read s place rest a → RefusedHere read s place rest b → a ≡ b
+one_reason_here : (read : List Block) (s : Store) (place : ℕ) (rest : List ℕ) (a b : Refused) → OneOfEachId s.classes → RefusedHere read s place rest a → RefusedHere read s place rest b → a ≡ b
 one_reason_here read s place rest (bad_exec p) (bad_exec q) apart x y = ap bad_exec (x.0 ∙ sym y.0)
 one_reason_here read s place rest (bad_exec p) (other_version found) apart x y = absurd (x.1.known found y)
 one_reason_here read s place rest (bad_exec p) (conflict id first second m n) apart x (there, hits, h, i1, i2, i3, i4, i5) = absurd (x.1.none (class hits) h.front h.more h.parts h.block h.follows)
@@ -190,7 +190,7 @@ one_reason_here read s place rest (conflict id first second m n) (conflict id' f
     let e5 : n ≡ n' = x.7 ∙ ap (λ (c : ClassHits). length c.bits) hits ∙ sym y.7 in
     λ i. conflict (e1 i) (e2 i) (e3 i) (e4 i) (e5 i)
 
-one_reason : (before : Store) (text : List ℕ) (a b : Refused) → FirstRefusal before text a → FirstRefusal before text b → a ≡ b
+pub one_reason : (before : Store) (text : List ℕ) (a b : Refused) → FirstRefusal before text a → FirstRefusal before text b → a ≡ b
 one_reason before text a b x y =
     let same = same_cut (blocks_of before) [] text x.rest y.rest x.read y.read (cut_of before text a x) (cut_of before text b y) in
     let store : x.store ≡ y.store = one_union (blocks_of before ++ y.read) x.store y.store (subst (λ (l : List Block). IsUnion (blocks_of before ++ l) x.store) same.0 x.union) y.union in
@@ -198,10 +198,7 @@ one_reason before text a b x y =
     let first : RefusedHere y.read y.store (length y.taken) y.rest a = subst (λ (l : List Block). RefusedHere l y.store (length y.taken) y.rest a) same.0 (subst (λ (s : Store). RefusedHere x.read s (length y.taken) y.rest a) store (subst (λ (n : ℕ). RefusedHere x.read x.store n y.rest a) place (subst (λ (l : List ℕ). RefusedHere x.read x.store (length x.taken) l a) same.1 x.refused))) in
     one_reason_here y.read y.store (length y.taken) y.rest a b (union_distinct (blocks_of before ++ y.read) y.store y.union) first y.refused
 
-not_both : (before : Store) (text : List ℕ) (read : List Block) (s : Store) (why : Refused) → Blocks text read → IsUnion (blocks_of before ++ read) s → FirstRefusal before text why → ⊥
-not_both before text read s why blocks u x =
+pub not_both : (before : Store) (text : List ℕ) (why : Refused) → IsTaken before text → FirstRefusal before text why → ⊥
+not_both before text why (read, s, blocks, u) x =
     let same = same_cut (blocks_of before) [] text x.rest [] x.read read (cut_of before text why x) (cut_of_all before text read s blocks u) in
     nothing_is_refused x.read x.store (length x.taken) why (subst (λ (l : List ℕ). RefusedHere x.read x.store (length x.taken) l why) same.1 x.refused)
-
-pub has_one_answer : (before : Store) (text : List ℕ) → HasOneAnswer before text
-has_one_answer before text = record { reason = one_reason before text; apart = not_both before text }

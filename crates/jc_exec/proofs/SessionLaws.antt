@@ -1,11 +1,18 @@
 -- Sessions by the time of their dump.
-use Rattle.std.proofs.Common.{◌≡◌, Bool, true, false, cond, ◌&&◌, ℤ, pos, negsuc, List, [], ◌∷◌, filter, refl, sym, ◌∙◌, ap, arith}
-use Rattle.std.specs.Prelude.{int_le}
+use Rattle.std.proofs.Common.{◌≡◌, ℕ, suc, ◌<◌, ◌≤◌, Bool, true, false, not, cond, ◌&&◌, ℤ, pos, negsuc, List, [], ◌∷◌, length, map, filter, drop, get_or, All, Bor, refl, sym, ◌∙◌, ap, subst, arith}
+use Rattle.std.specs.Prelude.{int_le, int_lt}
 use Rattle.std.specs.List.{AllByRecursion}
+use Rattle.std.specs.List.Sorted.{IsSortedByKey, IsStableByKey}
+use Rattle.std.specs.Ordering.{is_lt, int_cmp}
+use Rattle.std.specs.declared.cmp.Ordering.TheVariants.{Less, Equal, Greater}
 use Rattle.std.proofs.lemmas.Bool.Decides.{nat_tests}
+use Rattle.std.proofs.lemmas.Cmp.{int_cmp_total}
+use Rattle.std.proofs.lemmas.List.{map-id}
+use Rattle.std.proofs.lemmas.List.Sorted.{ranks_by, sorted_far}
+use Rattle.jc_base.proofs.EachLaws.{all_of_each, each_of_all}
 use Rattle.jc_exec.specs.declared.session.Session.{Session}
 use Rattle.jc_exec.specs.Writing.{placed, by_dump, InOrder, is_dumped_at, IsByDump}
-use Rattle.jc_exec.proofs.UnionLaws.{all_map}
+use Rattle.jc_exec.proofs.UnionLaws.{all_map, all_filter}
 
 -- ---- the order of times
 
@@ -84,3 +91,136 @@ sessions_by_dump (s ∷ ss) =
       sorted = placed_in_order s (by_dump ss) rest.sorted;
       stable = λ time. placed_stable time s (by_dump ss) ∙ ap (λ (l : List Session). cond (is_dumped_at time s) (s ∷ l) l) (rest.stable time);
     }
+
+pub all_by_dump : (P : Session → Type 0) (ss : List Session) → AllByRecursion P ss → AllByRecursion P (by_dump ss)
+all_by_dump P [] all = tt
+all_by_dump P (s ∷ ss) all = all_placed P s (by_dump ss) all.0 (all_by_dump P ss all.1)
+
+-- ---- one list is in this order
+
+le_self : (a : ℤ) → int_le a a ≡ true
+le_self (pos a) = grind (arith, nat_tests)
+le_self (negsuc a) = grind (arith, nat_tests)
+
+at_own_time : (s : Session) → is_dumped_at s.dump s ≡ true
+at_own_time s = rw (le_self s.dump) refl
+
+-- what is first of the sessions of one time is one of the sessions
+first_at : (P : Session → Type 0) (time : ℤ) (ss rest : List Session) (s : Session) → filter (is_dumped_at time) ss ≡ s ∷ rest → AllByRecursion P ss → P s
+first_at P time ss rest s is all = (subst (AllByRecursion P) is (all_filter P (is_dumped_at time) ss all)).0
+
+first_of_time : (time : ℤ) (s : Session) (ss : List Session) → is_dumped_at time s ≡ true
+    → filter (is_dumped_at time) (s ∷ ss) ≡ s ∷ filter (is_dumped_at time) ss
+first_of_time time s ss is = rw is refl
+
+some_none : (s : Session) (ss : List Session) → s ∷ ss ≡ [] → ⊥
+some_none s ss e = cc
+
+-- sessions of each time in the same order
+abbrev SameTimes : List Session → List Session → Type 0
+SameTimes xs ys = (time : ℤ) → filter (is_dumped_at time) xs ≡ filter (is_dumped_at time) ys
+
+-- the first of one list is dumped no later than the first of the other
+no_later : (x : Session) (xs : List Session) (y : Session) (ys : List Session) → InOrder (y ∷ ys) → SameTimes (x ∷ xs) (y ∷ ys) → int_le y.dump x.dump ≡ true
+no_later x xs y ys order same =
+    first_at (λ u. int_le y.dump u.dump ≡ true) x.dump (y ∷ ys) (filter (is_dumped_at x.dump) xs) x (sym (same x.dump) ∙ first_of_time x.dump x xs (at_own_time x)) (le_self y.dump, order.0)
+
+later_same : (x : Session) (xs ys : List Session) → SameTimes (x ∷ xs) (x ∷ ys) → SameTimes xs ys
+later_same x xs ys same time = by (is_dumped_at time x) (same time)
+  where
+    by : (b : Bool)
+        → cond b (x ∷ filter (is_dumped_at time) xs) (filter (is_dumped_at time) xs) ≡ cond b (x ∷ filter (is_dumped_at time) ys) (filter (is_dumped_at time) ys)
+        → filter (is_dumped_at time) xs ≡ filter (is_dumped_at time) ys
+    by true e = ap (λ (l : List Session). drop 1 l) e
+    by false e = e
+
+same_order : (xs ys : List Session) → InOrder xs → InOrder ys → SameTimes xs ys → xs ≡ ys
+same_order [] [] a b same = refl
+same_order (x ∷ xs) [] a b same = absurd (some_none x (filter (is_dumped_at x.dump) xs) (sym (first_of_time x.dump x xs (at_own_time x)) ∙ same x.dump))
+same_order [] (y ∷ ys) a b same = absurd (some_none y (filter (is_dumped_at y.dump) ys) (sym (first_of_time y.dump y ys (at_own_time y)) ∙ sym (same y.dump)))
+same_order (x ∷ xs) (y ∷ ys) a b same =
+    let before : int_le y.dump x.dump ≡ true = no_later x xs y ys b same in
+    let behind : int_le x.dump y.dump ≡ true = no_later y ys x xs a (λ time. sym (same time)) in
+    let at : is_dumped_at x.dump y ≡ true = rw (before, behind) refl in
+    let head : x ≡ y = ap (λ (l : List Session). get_or l 0 x) (sym (first_of_time x.dump x xs (at_own_time x)) ∙ same x.dump ∙ first_of_time x.dump y ys at) in
+    let tail : xs ≡ ys = same_order xs ys a.1 b.1 (later_same x xs ys (subst (λ (z : Session). SameTimes (x ∷ xs) (z ∷ ys)) (sym head) same)) in
+    λ i. head i ∷ tail i
+
+pub only_by_dump : (old new : List Session) → IsByDump old new → new ≡ by_dump old
+only_by_dump old new is =
+    let own = sessions_by_dump old in
+    same_order new (by_dump old) is.sorted own.sorted (λ time. is.stable time ∙ sym (own.stable time))
+
+-- ---- what a stable sort by the time of the dump gives
+
+not_lt : (a b : ℤ) → not (is_lt (int_cmp a b)) ≡ int_le b a
+not_lt a b = by (int_lt a b) (int_lt b a) ∙ of_numbers a b
+  where
+    by : (p q : Bool) → not (is_lt (cond p Less (cond q Greater Equal))) ≡ not p
+    by true q = refl
+    by false true = refl
+    by false false = refl
+
+    of_numbers : (a b : ℤ) → not (int_lt a b) ≡ int_le b a
+    of_numbers (pos a) (pos b) = grind (arith, nat_tests)
+    of_numbers (pos a) (negsuc b) = refl
+    of_numbers (negsuc a) (pos b) = refl
+    of_numbers (negsuc a) (negsuc b) = grind (arith, nat_tests)
+
+abbrev dump_of : Bor Session → ℤ
+dump_of s = s.now.dump
+
+abbrev sessions_at : List (Bor Session) → List Session
+sessions_at ss = map (λ s. s.now) ss
+
+filter_at : (p : Session → Bool) (q : Bor Session → Bool) → ((s : Bor Session) → q s ≡ p s.now) → (ss : List (Bor Session))
+    → filter p (sessions_at ss) ≡ sessions_at (filter q ss)
+filter_at p q same [] = refl
+filter_at p q same (s ∷ ss) = by (p s.now) (q s) (same s) (filter_at p q same ss)
+  where
+    by : (a b : Bool) → b ≡ a → filter p (sessions_at ss) ≡ sessions_at (filter q ss)
+        → cond a (s.now ∷ filter p (sessions_at ss)) (filter p (sessions_at ss)) ≡ sessions_at (cond b (s ∷ filter q ss) (filter q ss))
+    by true true is rest = ap (λ (l : List Session). s.now ∷ l) rest
+    by true false is rest = absurd cc
+    by false true is rest = absurd cc
+    by false false is rest = rest
+
+all_at : (P : Session → Type 0) (ss : List (Bor Session)) → ((k : ℕ) (d : Bor Session) → k < length ss → P (get_or ss k d).now)
+    → AllByRecursion P (sessions_at ss)
+all_at P [] all = tt
+all_at P (s ∷ ss) all = (all 0 s (omega arith), all_at P ss (λ k d lt. all (suc k) d (omega (arith, lt))))
+
+in_order : (ss : List (Bor Session))
+    → ((i j : ℕ) (d : Bor Session) → i ≤ j → j < length ss → int_le (dump_of (get_or ss i d)) (dump_of (get_or ss j d)) ≡ true)
+    → InOrder (sessions_at ss)
+in_order [] up = tt
+in_order (s ∷ ss) up = (
+  all_at (λ t. int_le s.now.dump t.dump ≡ true) ss (λ k d lt. up 0 (suc k) d (omega arith) (omega (arith, lt))),
+  in_order ss (λ i j d le lt. up (suc i) (suc j) d (omega (arith, le)) (omega (arith, lt))),
+)
+
+-- what says how a time compares with the dump of a session
+abbrev at_time : ℤ → Bor Session
+at_time time = record { ref_ptr = (0, 0); now = record { id = []; start = pos 0; dump = time } }
+
+abbrev ties_with : ℤ → Bor Session → Bool
+ties_with time s = not (is_lt (int_cmp time (dump_of s))) && not (is_lt (int_cmp (dump_of s) time))
+
+ties_at : (time : ℤ) (s : Bor Session) → ties_with time s ≡ is_dumped_at time s.now
+ties_at time s = λ i. not_lt time (dump_of s) i && not_lt (dump_of s) time i
+
+pub sorted_by_dump : (old new : List (Bor Session)) → IsSortedByKey dump_of int_cmp new → IsStableByKey dump_of int_cmp old new
+    → sessions_at new ≡ by_dump (sessions_at old)
+sorted_by_dump old new sorted stable = only_by_dump (sessions_at old) (sessions_at new) (record {
+  sorted = in_order new (λ i j d le lt. sym (not_lt (dump_of (get_or new j d)) (dump_of (get_or new i d))) ∙ ap not (sorted_far (λ x y. is_lt (int_cmp (dump_of x) (dump_of y))) (ranks_by int_cmp_total dump_of) new sorted i j d le lt));
+  stable = λ time.
+      filter_at (is_dumped_at time) (ties_with time) (ties_at time) new
+      ∙ ap sessions_at (stable (at_time time))
+      ∙ sym (filter_at (is_dumped_at time) (ties_with time) (ties_at time) old);
+})
+
+-- ---- what holds of all sessions holds of those that are written
+
+pub all_in_order : (P : Session → Type 0) (ss : List Session) (order : List (Bor Session)) → sessions_at order ≡ by_dump ss → All P ss
+    → All (λ s. P s.now) order
+all_in_order P ss order is all = all_of_each P (λ s. s.now) order (subst (AllByRecursion P) (sym is) (all_by_dump P ss (subst (AllByRecursion P) (map-id ss) (each_of_all P (λ s. s) ss all))))

@@ -8,8 +8,7 @@ use Rattle.jc_exec.specs.declared.hits.ClassHits.{ClassHits}
 use Rattle.jc_exec.specs.declared.session.Session.{Session}
 use Rattle.jc_exec.specs.Format.{Block, header, session, class}
 use Rattle.jc_exec.specs.Store.{Store, IsNew}
-use Rattle.jc_exec.specs.Plain.{AreNew, plain_blocks, TakesPlain}
-use Rattle.jc_exec.specs.Union.{sessions_of, records_of, ids_of, first_seen, Agrees, IsHitAt, IsMerged, IsUnion, ReadsOn}
+use Rattle.jc_exec.specs.Union.{sessions_of, records_of, ids_of, first_seen, Agrees, IsHitAt, IsMerged, IsUnion}
 
 -- ---- what the blocks hold
 
@@ -193,26 +192,6 @@ union_class bs s c u new =
           ∙ sym (ap (λ (l : List ClassHits). first_seen (ids_of l)) records ∙ ap first_seen (map-append (λ (d : ClassHits). d.id) rs (c ∷ [])));
       merged = subst (λ (l : List ClassHits). AllByRecursion (IsMerged l) (s.classes ++ c ∷ [])) (sym records) merged;
     }
-
-pub union_classes : (bs : List Block) (s : Store) (cs : List ClassHits) → IsUnion bs s → AreNew s.classes cs → IsUnion (bs ++ map class cs) (record { sessions = s.sessions; classes = s.classes ++ cs })
-union_classes bs s [] u new = both (sym (append-nil bs)) (sym (append-nil s.classes)) u
-  where
-    both : {more : List Block} {cs : List ClassHits} → bs ≡ more → s.classes ≡ cs → IsUnion bs s → IsUnion more (record { sessions = s.sessions; classes = cs })
-    both {cs = cs} p q u = subst (λ (l : List Block). IsUnion l (record { sessions = s.sessions; classes = cs })) p (subst (λ (l : List ClassHits). IsUnion bs (record { sessions = s.sessions; classes = l })) q u)
-union_classes bs s (c ∷ cs) u new =
-    subst (λ (l : List Block). IsUnion l (record { sessions = s.sessions; classes = s.classes ++ c ∷ cs })) (append_assoc bs (class c ∷ []) (map class cs))
-    (subst (λ (l : List ClassHits). IsUnion ((bs ++ class c ∷ []) ++ map class cs) (record { sessions = s.sessions; classes = l })) (append_assoc s.classes (c ∷ []) cs)
-    (union_classes (bs ++ class c ∷ []) (record { sessions = s.sessions; classes = s.classes ++ c ∷ [] }) cs (union_class bs s c u new.0) new.1))
-
--- what a plain file adds
-pub reads_on : (text : List ℕ) (old new : Store) → TakesPlain text old new → ReadsOn text old new
-reads_on text old new t = λ blocks u. (
-  plain_blocks t.classes,
-  t.plain.blocks,
-  subst (IsUnion (blocks ++ plain_blocks t.classes)) (sym t.added)
-      (subst (λ (l : List Block). IsUnion l (record { sessions = old.sessions; classes = old.classes ++ t.classes })) (append_assoc blocks (header ∷ []) (map class t.classes))
-      (union_classes (blocks ++ header ∷ []) old t.classes (union_header blocks old u) t.plain.new)),
-)
 
 -- ---- one union of each list
 

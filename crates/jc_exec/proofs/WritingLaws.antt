@@ -1,5 +1,8 @@
--- What is written is a plain file of the records that have a hit.
-use Rattle.std.proofs.Common.{◌≡◌, inl, inr, ℕ, zero, suc, ◌+◌, ◌-◌, ◌*◌, ◌/◌, ◌%◌, ◌^◌, ◌<◌, ◌≤◌, ◌==◌, Bool, true, false, cond, List, [], ◌∷◌, ◌++◌, length, map, take, drop, filter, get_or, slice_index, refl, sym, ◌∙◌, ap, arith}
+-- What is written is execution data of the sessions by the time of their dump and the records that have a hit.
+use Rattle.std.proofs.Common.{◌≡◌, inl, inr, ℕ, zero, suc, ◌+◌, ◌-◌, ◌*◌, ◌/◌, ◌%◌, ◌^◌, ◌<◌, ◌≤◌, ◌==◌, Bool, true, false, cond, List, [], ◌∷◌, ◌++◌, length, map, take, drop, filter, get_or, slice_index, ℤ, FitsSigned, w64, refl, sym, ◌∙◌, ap, arith, append_assoc}
+use Rattle.std.specs.Int.{cast_signed, cast_unsigned}
+use Rattle.std.proofs.Math.Facts.{Fits-of_z}
+use Rattle.std.proofs.lemmas.Int.{to_z-of_z}
 use Rattle.std.specs.List.{AllByRecursion, range_with_len, flat_map}
 use Rattle.std.proofs.Math.Nat.{pow-suc, pow-succ', zero-div, div-div-eq-div-mul}
 use Rattle.std.proofs.lemmas.Bool.{cases_lt, le-ltb, lt-ltb}
@@ -8,12 +11,15 @@ use Rattle.byteorder.specs.Numbers.{length-bytes_high_first, big_number-reads_ba
 use Rattle.jc_base.specs.Decoder.{IsBig}
 use Rattle.jc_base.specs.Modified.{IsModified}
 use Rattle.jc_exec.specs.declared.hits.ClassHits.{ClassHits}
-use Rattle.jc_exec.specs.Format.{bit, unpack, IsPacked, IsCount, IsClassBlock}
-use Rattle.jc_exec.specs.Store.{IsSmall, classes_of, Keyed, IsNew}
-use Rattle.jc_exec.specs.Plain.{AreNew, IsPlain}
-use Rattle.jc_exec.specs.Writing.{low_first, pack, packed, id_text, size_text, shortest, count_text, class_text, is_hit, exec_text}
-use Rattle.jc_exec.proofs.StoreLaws.{new_append}
-use Rattle.jc_exec.proofs.PlainLaws.{AreClasses, plain_of}
+use Rattle.jc_exec.specs.declared.session.Session.{Session}
+use Rattle.jc_exec.specs.Format.{Block, header, session, class, header_text, bit, unpack, IsPacked, IsCount, IsTime, IsSessionBlock, IsClassBlock, AreBlocks, Blocks}
+use Rattle.jc_exec.specs.Store.{Store, IsSmall, IsWritable}
+use Rattle.jc_exec.specs.Union.{IsUnion}
+use Rattle.jc_exec.specs.Refusing.{blocks_of, OneOfEachId}
+use Rattle.jc_exec.specs.Writing.{low_first, pack, packed, id_text, size_text, shortest, count_text, time_text, class_text, session_text, by_dump, is_hit, exec_text, IsWritableClass, FitsFormat, written}
+use Rattle.jc_exec.proofs.UnionLaws.{all_filter}
+use Rattle.jc_exec.proofs.SessionLaws.{all_by_dump}
+use Rattle.jc_exec.proofs.StoringLaws.{own_union, one_filter}
 
 -- ---- numbers
 
@@ -113,39 +119,47 @@ class_text_is_block c small text =
       record { id = id_is_big c.id small.id; size = size_is_big (length c.name) small.name; name = refl; text = text; count = count.0; few = count.1; small = omega (arith, small.bits); bits = packed_is_packed c.bits },
     )
 
-abbrev hit_classes : List (ℕ × ClassHits) → List ClassHits
-hit_classes es = filter is_hit (classes_of es)
+-- ---- sessions
 
-blocks_written : (es : List (ℕ × ClassHits)) → Keyed es → AreClasses (flat_map class_text (hit_classes es)) (hit_classes es)
-blocks_written [] keyed = refl
-blocks_written (e ∷ es) keyed = by (is_hit e.1) (blocks_written es keyed.4)
-  where
-    by : (b : Bool) → AreClasses (flat_map class_text (hit_classes es)) (hit_classes es) → AreClasses (flat_map class_text (cond b (e.1 ∷ hit_classes es) (hit_classes es))) (cond b (e.1 ∷ hit_classes es) (hit_classes es))
-    by true rest = (class_text e.1, flat_map class_text (hit_classes es), refl, class_text_is_block e.1 keyed.1 keyed.2, rest)
-    by false rest = rest
+time_is_time : (t : ℤ) → FitsSigned w64 t → IsTime (time_text t) t
+time_is_time t fits =
+    let big = id_is_big (cast_unsigned w64 t) (Fits-of_z fits).fits in
+    record { size = big.size; value = ap (cast_signed w64) big.value ∙ to_z-of_z w64 t fits }
 
-abbrev NewTo : List ClassHits → List ClassHits → Type 0
-NewTo before cs = AllByRecursion (λ c. IsNew c.id before) cs
+pub session_text_is_block : (s : Session) → IsWritable s → IsSessionBlock (session_text s) s
+session_text_is_block s w = (
+  record { size = size_text (length s.id); id = s.id; start = time_text s.start; dump = time_text s.dump },
+  refl,
+  record { size = size_is_big (length s.id) w.size; id = refl; text = w.text; start = time_is_time s.start w.start; dump = time_is_time s.dump w.dump },
+)
 
-new_to_push : (before : List ClassHits) (d : ClassHits) (cs : List ClassHits) → NewTo before cs → IsNew d.id cs → NewTo (before ++ d ∷ []) cs
-new_to_push before d [] a new = tt
-new_to_push before d (c ∷ cs) a new = (new_append c.id before (d ∷ []) a.0 (λ e. new.0 (sym e), tt), new_to_push before d cs a.1 new.1)
+-- ---- the whole text
 
-hits_are_new : (before : List ClassHits) (es : List (ℕ × ClassHits)) → Keyed es → NewTo before (classes_of es) → AreNew before (hit_classes es)
-hits_are_new before [] keyed a = tt
-hits_are_new before (e ∷ es) keyed a = by (is_hit e.1) (hits_are_new before es keyed.4 a.1) (hits_are_new (before ++ e.1 ∷ []) es keyed.4 (new_to_push before e.1 (classes_of es) a.1 keyed.3))
-  where
-    by : (b : Bool) → AreNew before (hit_classes es) → AreNew (before ++ e.1 ∷ []) (hit_classes es) → AreNew before (cond b (e.1 ∷ hit_classes es) (hit_classes es))
-    by true without with_it = (a.0, with_it)
-    by false without with_it = without
+classes_are_blocks : (cs : List ClassHits) → AllByRecursion IsWritableClass cs → AreBlocks (flat_map class_text cs) (map class cs)
+classes_are_blocks [] all = refl
+classes_are_blocks (c ∷ cs) all = (class_text c, flat_map class_text cs, refl, class_text_is_block c all.0.0 all.0.1, classes_are_blocks cs all.1)
 
-new_to_none : (cs : List ClassHits) → NewTo [] cs
-new_to_none [] = tt
-new_to_none (c ∷ cs) = (tt, new_to_none cs)
+sessions_are_blocks : (ss : List Session) (text : List ℕ) (bs : List Block) → AllByRecursion IsWritable ss → AreBlocks text bs
+    → AreBlocks (flat_map session_text ss ++ text) (map session ss ++ bs)
+sessions_are_blocks [] text bs all rest = rest
+sessions_are_blocks (s ∷ ss) text bs all rest =
+    (session_text s, flat_map session_text ss ++ text, append_assoc (session_text s) (flat_map session_text ss) text, session_text_is_block s all.0, sessions_are_blocks ss text bs all.1 rest)
 
--- what is written for a store of records alone is read again
-pub written_is_plain : (es : List (ℕ × ClassHits)) → Keyed es → IsPlain [] (exec_text (record { sessions = []; classes = classes_of es })) (filter is_hit (classes_of es))
-written_is_plain es keyed =
-    plain_of [] (exec_text (record { sessions = []; classes = classes_of es })) (hit_classes es)
-    (record { body = flat_map class_text (hit_classes es); parts = refl; classes = blocks_written es keyed })
-    (hits_are_new [] es keyed (new_to_none (classes_of es)))
+pub written_blocks : (store : Store) → FitsFormat store → Blocks (exec_text store) (header ∷ blocks_of (written store))
+written_blocks store fits = record {
+  begins = tt;
+  whole = (
+    header_text,
+    flat_map session_text (by_dump store.sessions) ++ flat_map class_text (filter is_hit store.classes),
+    refl,
+    refl,
+    sessions_are_blocks (by_dump store.sessions) (flat_map class_text (filter is_hit store.classes)) (map class (filter is_hit store.classes))
+        (all_by_dump IsWritable store.sessions fits.sessions)
+        (classes_are_blocks (filter is_hit store.classes) (all_filter IsWritableClass is_hit store.classes fits.classes)),
+  );
+}
+
+pub written_union : (store : Store) → OneOfEachId store.classes → IsUnion (header ∷ blocks_of (written store)) (written store)
+written_union store one =
+    let own = own_union (written store) (one_filter is_hit store.classes one) in
+    record { sessions = own.sessions; ids = own.ids; merged = own.merged }

@@ -1,8 +1,10 @@
 pub mod Format
 pub mod Reading
 pub mod Store
-pub mod Plain
 pub mod Union
 pub mod Refusing
+pub mod Answers
+pub mod Front
+pub mod Adding
 pub mod Writing
 pub mod SlowUnion

@@ -1,7 +1,9 @@
 -- Reading a block from the front of the bytes that are left.
-use Rattle.std.specs.Prelude.{ℕ, zero, suc, ◌+◌, ◌-◌, ◌*◌, ◌/◌, List, take, Bool, Option, Some, None, nat_lt, ◌==◌, if◌then◌else◌}
+use Rattle.std.specs.Prelude.{ℕ, zero, suc, ◌+◌, ◌-◌, ◌*◌, ◌/◌, List, [], ◌∷◌, take, Bool, Option, Some, None, nat_lt, bytes_eq, ◌==◌, if◌then◌else◌}
+use Rattle.std.specs.Int.{w64, cast_signed}
 use Rattle.jc_base.specs.Decoder.{◌>>=◌, first, byte_at, number_at}
 use Rattle.jc_exec.specs.declared.hits.ClassHits.{ClassHits}
+use Rattle.jc_exec.specs.declared.session.Session.{Session}
 use Rattle.jc_exec.specs.Format.{unpack}
 
 -- a length of two bytes, and as many bytes
@@ -40,3 +42,18 @@ class_at left = do
     count ← count_at name.1
     bits ← bits_at count.0 count.1
     Some (record { id = id.0; name = name.0; bits = bits.0 }, bits.1)) else None
+
+-- the version of a header
+unfoldable pub version_at : List ℕ → Option (ℕ × List ℕ)
+version_at left = do
+  magic ← first 3 (take 3) left
+  if bytes_eq magic.0 (0x01 ∷ 0xc0 ∷ 0xc0 ∷ []) then number_at 2 magic.1 else None
+
+unfoldable pub session_at : List ℕ → Option (Session × List ℕ)
+session_at left = do
+  kind ← byte_at left
+  if kind.0 == 0x10 then (do
+    id ← text_at kind.1
+    start ← number_at 8 id.1
+    dump ← number_at 8 start.1
+    Some (record { id = id.0; start = cast_signed w64 start.0; dump = cast_signed w64 dump.0 }, dump.1)) else None

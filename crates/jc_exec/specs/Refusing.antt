@@ -1,9 +1,9 @@
 -- Which block of execution data is refused first, and why.
-use Rattle.std.specs.Prelude.{◌≡◌, ◌≢◌, ℕ, List, [], ◌∷◌, ◌++◌, length, map, Contains}
+use Rattle.std.specs.Prelude.{⊤, ◌≡◌, ◌≢◌, ℕ, List, [], ◌∷◌, ◌++◌, length, map, Contains}
 use Rattle.jc_base.specs.Decoder.{IsBig}
 use Rattle.jc_exec.specs.declared.hits.ClassHits.{ClassHits}
 use Rattle.jc_exec.specs.Format.{Block, session, class, IsBlock, IsClassBlock, Blocks, BeginsWithHeader}
-use Rattle.jc_exec.specs.Store.{Store}
+use Rattle.jc_exec.specs.Store.{Store, IsNew}
 use Rattle.jc_exec.specs.Union.{Agrees, IsUnion}
 
 -- why a block is refused: it is none, or a header of another version, or it names a class whose id is
@@ -65,7 +65,15 @@ pub record FirstRefusal (before : Store) (text : List ℕ) (why : Refused) : Typ
   pub union : IsUnion (blocks_of before ++ read) store
   pub refused : RefusedHere read store (length taken) rest why
 
--- A text is refused for one reason at most, and not where all of its blocks have a union with the store.
-pub record HasOneAnswer (before : Store) (text : List ℕ) : Type 0 where
-  pub reason : (a b : Refused) → FirstRefusal before text a → FirstRefusal before text b → a ≡ b
-  pub apart : (read : List Block) (s : Store) (why : Refused) → Blocks text read → IsUnion (blocks_of before ++ read) s → FirstRefusal before text why → ⊥
+-- the text is execution data, and its blocks have a union with the store before
+abbrev pub IsTaken : Store → List ℕ → Type 0
+IsTaken before text = (read : List Block) × (s : Store) × Blocks text read × IsUnion (blocks_of before ++ read) s
+
+-- a block of the text is the first that is not taken over the store before
+abbrev pub IsRefused : Store → List ℕ → Type 0
+IsRefused before text = (why : Refused) × FirstRefusal before text why
+
+-- no two records have one id
+abbrev pub OneOfEachId : List ClassHits → Type 0
+OneOfEachId [] = ⊤
+OneOfEachId (c ∷ cs) = IsNew c.id cs × OneOfEachId cs

@@ -1,5 +1,6 @@
 -- What a store of execution data holds.
-use Rattle.std.specs.Prelude.{◌≡◌, ◌<◌, ◌≢◌, ◌^◌, ⊤, ℕ, List, [], ◌∷◌, length, map}
+use Rattle.std.specs.Prelude.{◌≡◌, ◌<◌, ◌≢◌, ◌^◌, ⊤, ℕ, List, [], ◌∷◌, length, map, FitsSigned}
+use Rattle.std.specs.Int.{w64}
 use Rattle.jc_base.specs.Modified.{IsModified}
 use Rattle.jc_exec.specs.declared.hits.ClassHits.{ClassHits}
 use Rattle.jc_exec.specs.declared.session.Session.{Session}
@@ -14,6 +15,13 @@ pub record IsSmall (c : ClassHits) : Type 0 where
   pub id : c.id < 2 ^ 64
   pub name : length c.name < 65536
   pub bits : length c.bits < 65536
+
+-- the session's id and times fit the format
+pub record IsWritable (s : Session) : Type 0 where
+  pub size : length s.id < 65536
+  pub text : IsModified s.id
+  pub start : FitsSigned w64 s.start
+  pub dump : FitsSigned w64 s.dump
 
 -- no record has the id
 abbrev pub IsNew : ℕ → List ClassHits → Type 0

@@ -69,11 +69,15 @@ either_bits (x ∷ xs) (y ∷ ys) = (x || y) ∷ either_bits xs ys
 abbrev pub agree : ClassHits → ClassHits → Bool
 agree c d = bytes_eq c.name d.name && nat_eq (length c.bits) (length d.bits)
 
+-- a record with the bits of another of its id
+abbrev pub either_hits : ClassHits → ClassHits → ClassHits
+either_hits c r = record c { bits = either_bits c.bits r.bits }
+
 -- the records with one more: merged into the one of its id, or put last
 abbrev pub with_record : List ClassHits → ClassHits → Option (List ClassHits)
 with_record [] r = Some (r ∷ [])
 with_record (c ∷ cs) r =
-    if nat_eq c.id r.id then (if agree c r then Some (record c { bits = either_bits c.bits r.bits } ∷ cs) else None)
+    if nat_eq c.id r.id then (if agree c r then Some (either_hits c r ∷ cs) else None)
     else option_map (λ ds. c ∷ ds) (with_record cs r)
 
 abbrev pub with_block : Store → Block → Option Store

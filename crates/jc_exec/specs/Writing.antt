@@ -3,10 +3,11 @@ use Rattle.std.specs.Prelude.{⊤, ◌≡◌, ◌&&◌, ℕ, zero, suc, ◌+◌,
 use Rattle.std.specs.List.{AllByRecursion, flat_map, list_any}
 use Rattle.std.specs.Int.{w64, cast_unsigned}
 use Rattle.byteorder.specs.Endian.{big_bytes}
+use Rattle.jc_base.specs.Modified.{IsModified}
 use Rattle.jc_exec.specs.declared.hits.ClassHits.{ClassHits}
 use Rattle.jc_exec.specs.declared.session.Session.{Session}
 use Rattle.jc_exec.specs.Format.{header_text}
-use Rattle.jc_exec.specs.Store.{Store}
+use Rattle.jc_exec.specs.Store.{Store, IsSmall, IsWritable}
 
 -- the number whose bits these are, the lowest first
 abbrev pub low_first : List Bool → ℕ
@@ -78,3 +79,18 @@ is_hit c = list_any (λ b. b) c.bits
 -- one header, the sessions by the time of their dump, and the records that have a hit
 abbrev pub exec_text : Store → List ℕ
 exec_text store = header_text ++ (flat_map session_text (by_dump store.sessions) ++ flat_map class_text (filter is_hit store.classes))
+
+-- ---- what is written is read
+
+-- the record's numbers and its name fit the format
+abbrev pub IsWritableClass : ClassHits → Type 0
+IsWritableClass c = IsSmall c × IsModified c.name
+
+-- what the store holds fits the format
+pub record FitsFormat (store : Store) : Type 0 where
+  pub sessions : AllByRecursion IsWritable store.sessions
+  pub classes : AllByRecursion IsWritableClass store.classes
+
+-- the sessions by the time of their dump, and the records that have a hit
+abbrev pub written : Store → Store
+written store = record { sessions = by_dump store.sessions; classes = filter is_hit store.classes }

@@ -1,28 +1,38 @@
 //! One block of execution data.
-ghost use Rattle.std.specs.Prelude.{◌≡◌, ◌+◌, ◌*◌, ◌/◌, ◌^◌, ◌<◌, ◌≤◌, ◌∷◌, [], ◌++◌, ◌≢◌, List, ℕ, false, length, IsTrue, IfOk};
+ghost use Rattle.std.specs.Prelude.{◌≡◌, ◌*◌, ◌^◌, ◌<◌, ◌≤◌, ◌∷◌, [], ◌++◌, length, slice_index, IfOk, FitsSigned};
+ghost use Rattle.std.specs.Int.{w64};
 ghost use Rattle.jc_base.specs.Decoder.{Gives, SameEnd};
 ghost use Rattle.jc_exec.specs.Format.{header_text, unpack};
 ghost use Rattle.jc_exec.specs.Store.{IsSmall};
-ghost use Rattle.jc_exec.specs.Reading.{text_at, count_in, count_at, bits_at, class_at};
+ghost use Rattle.jc_exec.specs.Reading.{text_at, count_in, count_at, bits_at, class_at, session_at, version_at};
+ghost use Rattle.jc_exec.specs.Front.{ReadsFront, IsUnread};
 
-use crate::ClassHits;
-use jc_base::{Bytes, Fail, List, Reader, Unfit};
+use crate::{ClassHits, ExecRefusal, Session};
+use jc_base::{Bytes, Fail, List, Reader, Unfit, is_modified};
 use std::alloc::{AllocError, Global};
 
 pub const HEADER: [u8; 5] = [0x01, 0xc0, 0xc0, 0x10, 0x07];
 
+/// The byte that begins a header.
+const HEADER_KIND: u8 = 0x01;
+
+/// The byte that begins a session.
+pub const SESSION: u8 = 0x10;
+
+/// The byte that begins a class.
 pub const CLASS: u8 = 0x11;
 
-/// Reads past a header of version 1007.
-pub fn header(reader: &mut Reader<'_>) -> bool
-    ensures found { IsTrue result → reader.old.left ≡ header_text ++ reader.new.left }
-    ensures none { result ≡ false → (rest : List ℕ) → reader.old.left ≢ header_text ++ rest }
-    ensures end { SameEnd reader.old reader.new }
-{
-    match reader.take(5) {
-        Ok(front) => front == HEADER.as_slice(),
-        Err(_) => false,
-    }
+/// What stands in a header in front of the version.
+const MAGIC: [u8; 3] = [0x01, 0xc0, 0xc0];
+
+const VERSION: u16 = 0x1007;
+
+/// A block of execution data.
+#[derive(Drop)]
+pub enum Front {
+    Header,
+    Session(Session),
+    Class(ClassHits),
 }
 
 /// A length of two bytes, and as many bytes of modified UTF-8.
@@ -115,7 +125,7 @@ fn bits(alloc: Global, reader: &mut Reader<'_>, count: u32) -> Result<List<bool>
 
 /// The record of a class.
 #[tactic(auto, unfolding(crate::specs::Reading::class_at))]
-pub fn class(alloc: Global, reader: &mut Reader<'_>) -> Result<ClassHits, Fail<Unfit>>
+fn class_parts(alloc: Global, reader: &mut Reader<'_>) -> Result<ClassHits, Fail<Unfit>>
     ensures gives { Gives (λ hits. hits) result reader.new.left (class_at reader.old.left) }
     ensures small { IfOk result IsSmall }
     ensures end { SameEnd reader.old reader.new }
@@ -128,4 +138,130 @@ pub fn class(alloc: Global, reader: &mut Reader<'_>) -> Result<ClassHits, Fail<U
     let count = count(reader)?;
     let bits = bits(alloc, reader, count)?;
     Ok(ClassHits { id, name, bits })
+}
+
+/// The session of a run.
+#[tactic(auto, unfolding(crate::specs::Reading::session_at))]
+fn session_parts(alloc: Global, reader: &mut Reader<'_>) -> Result<Session, Fail<Unfit>>
+    ensures gives { Gives (λ session. session) result reader.new.left (session_at reader.old.left) }
+    ensures small { IfOk result (λ session. length session.id < 65536) }
+    ensures start { IfOk result (λ session. FitsSigned w64 session.start) }
+    ensures dump { IfOk result (λ session. FitsSigned w64 session.dump) }
+    ensures end { SameEnd reader.old reader.new }
+{
+    if reader.u8()? != SESSION {
+        return Err(Fail::Said(Unfit));
+    }
+    let id = text(alloc, reader)?;
+    let start = reader.u64()?.cast_signed();
+    let dump = reader.u64()?.cast_signed();
+    Ok(Session { id, start, dump })
+}
+
+/// The version of a header.
+#[tactic(auto, unfolding(crate::specs::Reading::version_at))]
+fn version(reader: &mut Reader<'_>) -> Result<u16, Fail<Unfit>>
+    ensures gives { Gives (λ version. version) result reader.new.left (version_at reader.old.left) }
+    ensures known { IfOk result (λ version. version ≡ 0x1007 → reader.old.left ≡ header_text ++ reader.new.left) }
+    ensures end { SameEnd reader.old reader.new }
+{
+    let magic = reader.take(3)?;
+    if magic != MAGIC.as_slice() {
+        return Err(Fail::Said(Unfit));
+    }
+    let version = reader.take(2)?;
+    Ok(0x100 * u16::from(version[0]) + u16::from(version[1]))
+}
+
+/// No block that may stand at the place is in front.
+fn bad(place: u32) -> Fail<ExecRefusal>
+    ensures { result ≡ Fail.Said (ExecRefusal.BadExec place) }
+{
+    Fail::Said(ExecRefusal::BadExec { place })
+}
+
+/// What comes of a block that was not read.
+fn unfit(unread: Fail<Unfit>, place: u32) -> Fail<ExecRefusal>
+    ensures { IsUnread unread place result }
+{
+    match unread {
+        Fail::Memory => Fail::Memory,
+        Fail::Said(Unfit) => bad(place),
+    }
+}
+
+/// A header, where its first byte is in front.
+fn header(reader: &mut Reader<'_>) -> Result<Front, Fail<ExecRefusal>>
+    requires { slice_index reader.old.left 0 ≡ 0x01 }
+    ensures { ReadsFront result reader.old reader.new }
+{
+    let place = reader.place();
+    let found = match version(reader) {
+        Ok(found) => found,
+        Err(unread) => return Err(unfit(unread, place)),
+    };
+    if found != VERSION {
+        return Err(Fail::Said(ExecRefusal::OtherVersion { found }));
+    }
+    Ok(Front::Header)
+}
+
+/// A session behind other blocks, where its first byte is in front.
+fn session(alloc: Global, reader: &mut Reader<'_>) -> Result<Front, Fail<ExecRefusal>>
+    requires kind { slice_index reader.old.left 0 ≡ 0x10 }
+    requires behind { 0 < reader.old.place }
+    ensures { ReadsFront result reader.old reader.new }
+{
+    let place = reader.place();
+    let session = match session_parts(alloc, reader) {
+        Ok(session) => session,
+        Err(unread) => return Err(unfit(unread, place)),
+    };
+    if !is_modified(&session.id) {
+        return Err(bad(place));
+    }
+    Ok(Front::Session(session))
+}
+
+/// A class behind other blocks, where its first byte is in front.
+fn class(alloc: Global, reader: &mut Reader<'_>) -> Result<Front, Fail<ExecRefusal>>
+    requires kind { slice_index reader.old.left 0 ≡ 0x11 }
+    requires behind { 0 < reader.old.place }
+    ensures { ReadsFront result reader.old reader.new }
+{
+    let place = reader.place();
+    let hits = match class_parts(alloc, reader) {
+        Ok(hits) => hits,
+        Err(unread) => return Err(unfit(unread, place)),
+    };
+    if !is_modified(&hits.name) {
+        return Err(bad(place));
+    }
+    Ok(Front::Class(hits))
+}
+
+/// The block that begins with this byte. The first block of all is a header.
+pub fn next_block(
+    alloc: Global,
+    reader: &mut Reader<'_>,
+    kind: u8,
+) -> Result<Front, Fail<ExecRefusal>>
+    requires some { 0 < length reader.old.left }
+    requires kind { kind ≡ slice_index reader.old.left 0 }
+    ensures { ReadsFront result reader.old reader.new }
+{
+    let place = reader.place();
+    if kind == HEADER_KIND {
+        return header(reader);
+    }
+    if place == 0 {
+        return Err(bad(place));
+    }
+    if kind == SESSION {
+        return session(alloc, reader);
+    }
+    if kind == CLASS {
+        return class(alloc, reader);
+    }
+    Err(bad(place))
 }

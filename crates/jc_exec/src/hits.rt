@@ -1,7 +1,7 @@
 use jc_base::{Bytes, List};
 
 /// The probes of a class, and which of them were hit.
-#[derive(Debug, Drop)]
+#[derive(Debug, Drop, PartialEq, Eq)]
 pub struct ClassHits {
     /// The class id, a checksum of the class file.
     pub id: u64,

@@ -1,19 +1,11 @@
 //! Laws over the definitions of execution data. These functions have no code.
-ghost use Rattle.std.specs.Prelude.{◌≡◌, ◌↔◌, ℕ, [], List, Some};
-ghost use Rattle.jc_exec.specs.declared.hits.ClassHits.{ClassHits};
+ghost use Rattle.std.specs.Prelude.{◌≡◌, ◌↔◌, ◌⊎◌, ℕ, [], ◌∷◌, List, Some};
 ghost use Rattle.jc_exec.specs.declared.session.Session.{Session};
-ghost use Rattle.jc_exec.specs.Format.{Block, Blocks};
+ghost use Rattle.jc_exec.specs.Format.{Block, header, Blocks};
 ghost use Rattle.jc_exec.specs.Store.{Store};
-ghost use Rattle.jc_exec.specs.Plain.{HasOneReading};
-ghost use Rattle.jc_exec.specs.Refusing.{HasOneAnswer};
+ghost use Rattle.jc_exec.specs.Refusing.{Refused, blocks_of, FirstRefusal, IsTaken, IsRefused, OneOfEachId};
 ghost use Rattle.jc_exec.specs.Union.{IsUnion, union_of};
-ghost use Rattle.jc_exec.specs.Writing.{by_dump, IsByDump};
-
-/// Over some records each text is a plain file of one list of classes, or its first block that
-/// doesn't fit stands at one offset; never both.
-pub fn one_reading_of_each_text()
-    ensures { (before : List ClassHits) (text : List ℕ) → HasOneReading before text }
-{}
+ghost use Rattle.jc_exec.specs.Writing.{by_dump, IsByDump, FitsFormat, written, exec_text};
 
 /// A text is execution data of one list of blocks at most.
 pub fn one_list_of_each_text()
@@ -32,13 +24,26 @@ pub fn union_block_by_block()
         → (union_of (record { sessions = []; classes = [] }) blocks ≡ Some s) ↔ IsUnion blocks s }
 {}
 
-/// A text is refused over a store for one reason at most, and not where its blocks have a union
-/// with the store.
+/// Over a store with one record of each id, each text is execution data whose blocks have a union
+/// with the store, or a block of it is the first that is not taken. No text is both, over any
+/// store, and it is refused for one reason at most.
 pub fn one_answer_to_each_text()
-    ensures { (before : Store) (text : List ℕ) → HasOneAnswer before text }
+    ensures each { (before : Store) (text : List ℕ) → OneOfEachId before.classes → IsTaken before text ⊎ IsRefused before text }
+    ensures apart { (before : Store) (text : List ℕ) (why : Refused) → IsTaken before text → FirstRefusal before text why → ⊥ }
+    ensures one_reason { (before : Store) (text : List ℕ) (a b : Refused) → FirstRefusal before text a
+        → FirstRefusal before text b → a ≡ b }
 {}
 
-/// Sessions are written by the time of their dump, and those of one time stay in their order.
+/// Sessions are written by the time of their dump, those of one time in their order; and no other
+/// list is in this order.
 pub fn sessions_by_dump()
-    ensures { (sessions : List Session) → IsByDump sessions (by_dump sessions) }
+    ensures order { (sessions : List Session) → IsByDump sessions (by_dump sessions) }
+    ensures only { (sessions ordered : List Session) → IsByDump sessions ordered → ordered ≡ by_dump sessions }
+{}
+
+/// What is written for a store is execution data: a header, the sessions by the time of their dump,
+/// and the records that have a hit. Its union is the store of these.
+pub fn what_is_written_is_read()
+    ensures blocks { (store : Store) → FitsFormat store → Blocks (exec_text store) (header ∷ blocks_of (written store)) }
+    ensures union { (store : Store) → OneOfEachId store.classes → IsUnion (header ∷ blocks_of (written store)) (written store) }
 {}

@@ -6,6 +6,7 @@
 mod block;
 mod hits;
 mod laws;
+mod merge;
 mod refusal;
 mod session;
 mod store;
@@ -13,8 +14,8 @@ mod write;
 
 pub use hits::ClassHits;
 pub use laws::{
-    one_answer_to_each_text, one_list_of_each_text, one_reading_of_each_text,
-    one_union_of_each_list, sessions_by_dump, union_block_by_block,
+    one_answer_to_each_text, one_list_of_each_text, one_union_of_each_list, sessions_by_dump,
+    union_block_by_block, what_is_written_is_read,
 };
 pub use refusal::ExecRefusal;
 pub use session::Session;

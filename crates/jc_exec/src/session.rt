@@ -1,7 +1,7 @@
 use jc_base::Bytes;
 
 /// A run of a program whose execution data was dumped.
-#[derive(Debug, Drop)]
+#[derive(Debug, Drop, PartialEq, Eq)]
 pub struct Session {
     /// The name of the run, in modified UTF-8.
     pub id: Bytes,

@@ -1,43 +1,48 @@
 //! The union of execution data.
-ghost use Rattle.std.specs.Prelude.{◌≡◌, ◌≤◌, ◌⊎◌, ℕ, [], ◌∷◌, ◌++◌, length, filter, List, false, IsTrue, IfOk, IfErr, IsErrAnd, OnOk, OnErr};
-ghost use Rattle.jc_exec.specs.declared.hits.ClassHits.{ClassHits};
+ghost use Rattle.std.specs.Prelude.{◌≡◌, ◌≤◌, ◌++◌, [], ◌∷◌, length, List, Contains, IfOk, IfErr, IfSome, IsSomeAnd, IsErrAnd, OnOk, OnErr, MatchResult};
 ghost use Rattle.jc_base.specs.Modified.{IsModified};
-ghost use Rattle.jc_exec.specs.Store.{Store, IsSmall, Keyed, IsNew, classes_of};
-ghost use Rattle.jc_exec.specs.Plain.{IsPlain, IsFirstUnfit, TakesPlain, Refuses};
+ghost use Rattle.jc_exec.specs.declared.hits.ClassHits.{ClassHits};
+ghost use Rattle.jc_exec.specs.declared.session.Session.{Session};
+ghost use Rattle.jc_exec.specs.Adding.{Gathers, RefusesAll, Keeps, RefusesBlock};
+ghost use Rattle.jc_exec.specs.Answers.{Refuses, SaysOnly, IsConflict, conflict_of, RefusesRecord};
+ghost use Rattle.jc_exec.specs.Format.{Block, class, Blocks};
+ghost use Rattle.jc_exec.specs.Front.{Fits, block_of};
+ghost use Rattle.jc_exec.specs.Refusing.{Refused, blocks_of, FirstRefusal};
+ghost use Rattle.jc_exec.specs.Store.{Store, IsWritable, Keyed};
 ghost use Rattle.jc_exec.specs.Union.{IsUnion, ReadsOn};
-ghost use Rattle.jc_exec.specs.Writing.{exec_text, is_hit};
+ghost use Rattle.jc_exec.specs.Writing.{exec_text};
 
-use crate::block::{class, header};
+use crate::block::{Front, next_block};
+use crate::merge::{gather, put};
 use crate::write::exec_data;
-use crate::{ClassHits, ExecRefusal};
+use crate::{ClassHits, ExecRefusal, Session};
 use indexmap::IndexMap;
-use jc_base::{Fail, Memory, Reader, Unfit, is_modified};
+use jc_base::{Fail, Memory, Reader};
 use std::alloc::{AllocError, Global};
 use std::marker::Model;
 
 /// Records by class id, in the order in which the ids were first seen.
-type Records = IndexMap<u64, ClassHits>;
+pub type Records = IndexMap<u64, ClassHits>;
 
 /// The union of execution data.
 ///
-/// It is seen as the sessions and the records of classes, one for each class id, in the order in
-/// which the ids were first seen.
+/// It is seen as the sessions in the order in which they were read, and the records of classes, one
+/// for each class id, in the order in which the ids were first seen.
 #[derive(Drop)]
 pub struct ExecStore {
+    sessions: Vec<Session>,
     records: IndexMap<u64, ClassHits>,
 }
 
 impl Model for ExecStore {
-    ghost use Rattle.std.specs.Prelude.{[]};
-    ghost use Rattle.jc_exec.specs.Store.{Store};
+    ghost use Rattle.std.specs.List.{AllByRecursion};
+    ghost use Rattle.jc_exec.specs.Store.{Store, classes_of, IsWritable, Keyed};
 
     ghost Value = { Store };
 
-    ghost use Rattle.jc_exec.specs.Store.{classes_of, Keyed};
+    ghost view = { λ a. record { sessions = a.sessions.items; classes = classes_of a.records.entries } };
 
-    ghost view = { λ a. record { sessions = []; classes = classes_of a.records.entries } };
-
-    ghost invariant = { λ a. Keyed a.records.entries };
+    ghost invariant = { λ a. AllByRecursion IsWritable a.sessions.items × Keyed a.records.entries };
 }
 
 impl ExecStore {
@@ -51,35 +56,86 @@ impl ExecStore {
         ensures union { IfOk result (λ store. IsUnion [] store) }
     {
         Ok(ExecStore {
+            sessions: Vec::new(alloc),
             records: IndexMap::new(alloc),
         })
     }
 
-    /// Adds the records of a plain file: one header of version 1007, and then class blocks whose
-    /// ids differ from each other and from those in the store, with names in modified UTF-8
-    /// (JVM Specification 4.4.7) and at most 65,535 probes. After an error the store is as before.
+    /// Adds a file of execution data: blocks of which the first is a header of version 1007, and each
+    /// later one such a header, a session or a class. A file of no bytes adds nothing. The sessions
+    /// are put behind the others, and the bits of records of one id are joined. After an error the
+    /// store is as before.
     ///
     /// # Errors
     ///
-    /// `LaterForm`, exactly where the bytes are no plain file, with the offset of the first block
-    /// that doesn't fit: 0 where no header of this version stands in front, an empty file among
-    /// them. `Memory`, where memory is refused.
+    /// The first block that can't be taken decides. `BadExec`, with the offset of the block's first
+    /// byte, where no block that may stand there is whole with its text in modified UTF-8 (JVM
+    /// Specification 4.4.7) and at most 65,535 probes in a count of at most five bytes. `OtherVersion`,
+    /// where a whole header has another version. `Conflict`, where the class id is there with another
+    /// name or another number of probes. `Memory`, where memory is refused.
     pub fn read(&mut self, alloc: Global, bytes: &[u8]) -> Result<(), Fail<ExecRefusal>>
         requires { length bytes.now ≤ 67108864 }
 
         // A union of some blocks becomes the union of those and the blocks read.
         ensures union { OnOk result (ReadsOn bytes.now self.old self.new) }
-        ensures plain { OnOk result (TakesPlain bytes.now self.old self.new) }
-        ensures later_form { IfErr result (λ e. Refuses e self.old.classes bytes.now) }
-        ensures plain_is_taken { (classes : List ClassHits) → IsPlain self.old.classes bytes.now classes
-            → IfErr result (λ e. e ≡ Fail.Memory) }
-        ensures unfit_is_refused { (place : ℕ) → IsFirstUnfit self.old.classes bytes.now place
-            → IsErrAnd result (λ e. (e ≡ Fail.Memory) ⊎ (e ≡ Fail.Said (ExecRefusal.LaterForm place))) }
+        ensures refused { IfErr result (λ e. Refuses e self.old bytes.now) }
+
+        // Where the blocks have a union with the store, and where one is refused.
+        ensures taken { (read : List Block) (s : Store) → Blocks bytes.now read → IsUnion (blocks_of self.old ++ read) s
+            → MatchResult result (λ _. self.new ≡ s) (λ e. e ≡ Fail.Memory) }
+        ensures refuses { (why : Refused) → FirstRefusal self.old bytes.now why → IsErrAnd result (SaysOnly why) }
         ensures unchanged { OnErr result (self.new ≡ self.old) }
     {
-        let mut fresh = read_plain(alloc, &self.records, bytes)?;
-        self.records.append(&mut fresh)?;
+        let mut added = read_blocks(alloc, &self.records, bytes)?;
+        self.sessions.reserve(added.sessions.len())?;
+        self.records.append(&mut added.records)?;
+        self.sessions.append(&mut added.sessions).unwrap();
         Ok(())
+    }
+
+    /// Adds a record, as a file of its block alone would. After an error the store is as before.
+    ///
+    /// # Errors
+    ///
+    /// `Conflict`, exactly where the class id is there with another name or another number of probes:
+    /// those that are there first, then those of the record. `Memory`, where memory is refused.
+    pub fn add(&mut self, alloc: Global, hits: &ClassHits) -> Result<(), Fail<ExecRefusal>>
+        requires few { length hits.now.bits ≤ 65535 }
+        requires short { length hits.now.name ≤ 65535 }
+        requires text { IsModified hits.now.name }
+
+        // A union of some blocks becomes the union of those and the record.
+        ensures union { OnOk result ((blocks : List Block) → IsUnion blocks self.old → IsUnion (blocks ++ class hits.now ∷ []) self.new) }
+        ensures refused { IfErr result (λ e. RefusesRecord e self.old.classes hits.now) }
+        ensures refuses { (there : ClassHits) → IsConflict self.old.classes there hits.now
+            → IsErrAnd result (SaysOnly (conflict_of there hits.now)) }
+        ensures unchanged { OnErr result (self.new ≡ self.old) }
+    {
+        put(alloc, &mut self.records, hits)
+    }
+
+    /// The record of a class id, if there is one.
+    pub fn get(&self, id: u64) -> Option<&ClassHits>
+        ensures found { IfSome result (λ c. Contains self.now.classes c.now × (c.now.id ≡ id)) }
+
+        // The record is the only one of its id.
+        ensures only { (c : ClassHits) → Contains self.now.classes c → c.id ≡ id → IsSomeAnd result (λ d. d.now ≡ c) }
+    {
+        self.records.get(&id)
+    }
+
+    /// The sessions, in the order in which they were read.
+    pub fn sessions(&self) -> &[Session]
+        ensures { result.now ≡ self.now.sessions }
+    {
+        &self.sessions
+    }
+
+    /// The records, in the order in which their ids were first seen.
+    pub fn classes(&self) -> &[ClassHits]
+        ensures { result.now ≡ self.now.classes }
+    {
+        self.records.values().as_slice()
     }
 
     /// The store as execution data: one header, the sessions by the time of their dump, and then
@@ -90,76 +146,55 @@ impl ExecStore {
     /// `Memory`, where memory is refused.
     pub fn write(&self, alloc: Global) -> Result<Vec<u8>, Memory>
         ensures text { IfOk result (λ text. text.items ≡ exec_text self.now) }
-
-        // A store of nothing takes it, and has these records then.
-        ensures again { IfOk result (λ text. IsPlain [] text.items (filter is_hit self.now.classes)) }
     {
-        Ok(exec_data(alloc, self.records.values().as_slice())?)
+        exec_data(alloc, &self.sessions, self.records.values().as_slice())
     }
 }
 
-/// Whether a record has the id.
-fn has(records: &Records, id: u64) -> bool
-    requires { Keyed records.now.entries }
-    ensures known { IsTrue result → ¬ (IsNew id (classes_of records.now.entries)) }
-    ensures new { result ≡ false → IsNew id (classes_of records.now.entries) }
-{
-    records.contains_key(&id)
+/// What a file adds to a store.
+#[derive(Drop)]
+struct Added {
+    sessions: Vec<Session>,
+    records: Records,
 }
 
-/// Whether one of the records has the id.
-fn is_known(known: &Records, fresh: &Records, id: u64) -> bool
+/// Puts a block with what was gathered.
+fn keep(
+    alloc: Global,
+    known: &Records,
+    added: &mut Added,
+    block: Front,
+) -> Result<(), Fail<ExecRefusal>>
     requires known { Keyed known.now.entries }
-    requires fresh { Keyed fresh.now.entries }
-    ensures known { IsTrue result → IsNew id (classes_of known.now.entries) → IsNew id (classes_of fresh.now.entries) → ⊥ }
-    ensures new { result ≡ false → IsNew id (classes_of known.now.entries) × IsNew id (classes_of fresh.now.entries) }
+    requires keyed { Keyed added.old.records.entries }
+    requires block { Fits block }
+    ensures keeps { OnOk result (Keeps known.now.entries added.old added.new (block_of block)) }
+    ensures refused { IfErr result (λ e. RefusesBlock e known.now.entries added.old.records.entries (block_of block)) }
 {
-    has(known, id) || has(fresh, id)
-}
-
-/// Whether a record may stand behind the others.
-fn fits(known: &Records, fresh: &Records, hits: &ClassHits) -> bool
-    requires known { Keyed known.now.entries }
-    requires fresh { Keyed fresh.now.entries }
-    ensures fits { IsTrue result → IsModified hits.now.name × IsNew hits.now.id (classes_of known.now.entries) × IsNew hits.now.id (classes_of fresh.now.entries) }
-    ensures unfit { result ≡ false → IsModified hits.now.name → IsNew hits.now.id (classes_of known.now.entries) → IsNew hits.now.id (classes_of fresh.now.entries) → ⊥ }
-{
-    is_modified(&hits.name) && !is_known(known, fresh, hits.id)
-}
-
-/// Puts a new record last.
-fn keep(fresh: &mut Records, hits: ClassHits) -> Result<(), AllocError>
-    requires keyed { Keyed fresh.old.entries }
-    requires new { IsNew hits.id (classes_of fresh.old.entries) }
-    ensures { OnOk result (fresh.new.entries ≡ fresh.old.entries ++ (hits.id, hits) ∷ []) }
-{
-    fresh.insert(hits.id, hits)?;
+    match block {
+        Front::Header => {}
+        Front::Session(session) => added.sessions.push(session)?,
+        Front::Class(hits) => gather(alloc, known, &mut added.records, hits)?,
+    }
     Ok(())
 }
 
-/// The records of a plain file, none of them known.
-fn read_plain(alloc: Global, known: &Records, bytes: &[u8]) -> Result<Records, Fail<ExecRefusal>>
+/// The blocks of a file over some records.
+fn read_blocks(alloc: Global, known: &Records, bytes: &[u8]) -> Result<Added, Fail<ExecRefusal>>
     requires short { length bytes.now ≤ 67108864 }
     requires keyed { Keyed known.now.entries }
-    ensures plain { IfOk result (λ fresh. Keyed fresh.entries × IsPlain (classes_of known.now.entries) bytes.now (classes_of fresh.entries)) }
-    ensures refused { IfErr result (λ e. Refuses e (classes_of known.now.entries) bytes.now) }
+    ensures gathers { IfOk result (λ added. Gathers known.now.entries bytes.now added.sessions.items added.records.entries) }
+    ensures refused { IfErr result (RefusesAll known.now.entries bytes.now) }
 {
     let mut reader = Reader::new(bytes);
-    if !header(&mut reader) {
-        return Err(Fail::Said(ExecRefusal::LaterForm { place: 0 }));
-    }
-    let mut fresh = IndexMap::new(alloc);
+    let mut added = Added {
+        sessions: Vec::new(alloc),
+        records: IndexMap::new(alloc),
+    };
     'reading: while (reader.place() as usize) < bytes.len() {
-        let place = reader.place();
-        let hits = match class(alloc, &mut reader) {
-            Ok(hits) => hits,
-            Err(Fail::Memory) => return Err(Fail::Memory),
-            Err(Fail::Said(Unfit)) => return Err(Fail::Said(ExecRefusal::LaterForm { place })),
-        };
-        if !fits(known, &fresh, &hits) {
-            return Err(Fail::Said(ExecRefusal::LaterForm { place }));
-        }
-        keep(&mut fresh, hits)?;
+        let kind = bytes[reader.place() as usize];
+        let block = next_block(alloc, &mut reader, kind)?;
+        keep(alloc, known, &mut added, block)?;
     }
-    Ok(fresh)
+    Ok(added)
 }

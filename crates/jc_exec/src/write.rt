@@ -1,11 +1,13 @@
 //! Execution data as bytes.
-ghost use Rattle.std.specs.Prelude.{◌≡◌, ◌+◌, ◌*◌, ◌/◌, ◌<◌, ◌≤◌, ◌^◌, ◌++◌, ◌∷◌, [], ℕ, length, OnOk, IfOk, All};
-ghost use Rattle.std.specs.List.{list_any};
+ghost use Rattle.std.specs.Prelude.{◌≡◌, ◌+◌, ◌*◌, ◌/◌, ◌<◌, ◌≤◌, ◌^◌, ◌++◌, ◌∷◌, [], ℕ, length, map, filter, OnOk, IfOk, All};
+ghost use Rattle.std.specs.List.{list_any, flat_map};
 ghost use Rattle.jc_exec.specs.Store.{IsSmall};
-ghost use Rattle.jc_exec.specs.Writing.{low_first, packed, id_text, size_text, shortest, count_text, class_text, exec_text};
+ghost use Rattle.jc_exec.specs.Writing.{low_first, packed, id_text, size_text, shortest, count_text, time_text};
+ghost use Rattle.jc_exec.specs.Writing.{class_text, session_text, by_dump, is_hit, exec_text};
 
-use crate::ClassHits;
-use crate::block::{CLASS, HEADER};
+use crate::block::{CLASS, HEADER, SESSION};
+use crate::{ClassHits, Session};
+use jc_base::Memory;
 use std::alloc::{AllocError, Global};
 
 /// The number whose bits these are, the lowest first.
@@ -81,6 +83,26 @@ fn put_count(out: &mut Vec<u8>, count: u32) -> Result<(), AllocError>
     put_shortest(out, count)
 }
 
+/// A time in milliseconds, in two's complement.
+fn put_time(out: &mut Vec<u8>, time: i64) -> Result<(), AllocError>
+    ensures { OnOk result (out.new.items ≡ out.old.items ++ time_text time) }
+{
+    put_id(out, time.cast_unsigned())
+}
+
+/// The block of a session.
+fn put_session(out: &mut Vec<u8>, session: &Session) -> Result<(), AllocError>
+    requires { length session.now.id < 65536 }
+    ensures { OnOk result (out.new.items ≡ out.old.items ++ session_text session.now) }
+{
+    out.push(SESSION)?;
+    put_size(out, session.id.len() as u16)?;
+    out.extend_from_slice(&session.id)?;
+    put_time(out, session.start)?;
+    put_time(out, session.dump)?;
+    Ok(())
+}
+
 /// The block of a record.
 fn put_class(out: &mut Vec<u8>, hits: &ClassHits) -> Result<(), AllocError>
     requires { IsSmall hits.now }
@@ -95,22 +117,58 @@ fn put_class(out: &mut Vec<u8>, hits: &ClassHits) -> Result<(), AllocError>
     Ok(())
 }
 
-/// One header, and the records that have a hit.
-pub fn exec_data(alloc: Global, classes: &[ClassHits]) -> Result<Vec<u8>, AllocError>
-    requires { All IsSmall classes.now }
-    ensures { IfOk result (λ text. text.items ≡ exec_text (record { sessions = []; classes = classes.now })) }
+/// The sessions by the time of their dump; those of one time stay in their order.
+fn in_order<'a>(alloc: Global, sessions: &'a [Session]) -> Result<Vec<&'a Session>, AllocError>
+    ensures { IfOk result (λ order. map (λ s. s.now) order.items ≡ by_dump sessions.now) }
 {
-    let mut out = Vec::from_slice(alloc, &HEADER)?;
+    let mut order: Vec<&Session> = sessions.iter().collect(alloc)?;
+    order.sort_by_key(|session| session.dump)?;
+    Ok(order)
+}
+
+/// The blocks of the sessions.
+fn put_sessions(out: &mut Vec<u8>, sessions: &[&Session]) -> Result<(), AllocError>
+    requires { All (λ s. length s.now.id < 65536) sessions.now }
+    ensures { OnOk result (out.new.items ≡ out.old.items ++ flat_map session_text (map (λ s. s.now) sessions.now)) }
+{
+    'writing: for session in sessions {
+        put_session(out, session)?;
+    }
+    Ok(())
+}
+
+/// The blocks of the records that have a hit.
+fn put_classes(out: &mut Vec<u8>, classes: &[ClassHits]) -> Result<(), AllocError>
+    requires { All IsSmall classes.now }
+    ensures { OnOk result (out.new.items ≡ out.old.items ++ flat_map class_text (filter is_hit classes.now)) }
+{
     'writing: for hits in classes {
-        if is_hit(&hits.bits) {
-            put_class(&mut out, hits)?;
+        if has_hit(&hits.bits) {
+            put_class(out, hits)?;
         }
     }
+    Ok(())
+}
+
+/// One header, the sessions by the time of their dump, and the records that have a hit.
+pub fn exec_data(
+    alloc: Global,
+    sessions: &[Session],
+    classes: &[ClassHits],
+) -> Result<Vec<u8>, Memory>
+    requires sessions { All (λ s. length s.id < 65536) sessions.now }
+    requires classes { All IsSmall classes.now }
+    ensures { IfOk result (λ text. text.items ≡ exec_text (record { sessions = sessions.now; classes = classes.now })) }
+{
+    let mut out = Vec::from_slice(alloc, &HEADER)?;
+    let order = in_order(alloc, sessions)?;
+    put_sessions(&mut out, &order)?;
+    put_classes(&mut out, classes)?;
     Ok(out)
 }
 
 /// Whether a probe was hit.
-fn is_hit(bits: &[bool]) -> bool
+fn has_hit(bits: &[bool]) -> bool
     ensures { result ≡ list_any (λ b. b) bits.now }
 {
     bits.iter().any(|bit| *bit)

@@ -10,15 +10,15 @@ overflow_cast-result c =
     let small : c.args.coded.items.max_locals < 65536 = search rules in
     omega (arith, few, small)
 
-pub returns : goal.returns
-returns c =
+pub returns-clause-parts : goal.returns-clause-parts
+returns-clause-parts c =
     let coded = c.args.coded in
     let offsets = c.args.offsets.now in
     let numbers = c.requires.offsets in
     let max_locals = coded.items.max_locals in
     record {
       number_is = refl;
-      owner = c.class_name_at.ensures ∙ ap Some (sym c.in_ok-copy_of.ensures);
+      owner = c.class_name_at.ensures.text ∙ ap Some (sym c.in_ok-copy_of.ensures);
       name = c.text_at.ensures.text ∙ ap Some (sym c.in_ok-copy_of-2.ensures);
       desc = c.text_at-desc.ensures.text ∙ ap Some (sym c.in_ok-copy_of-3.ensures);
       flags = refl;

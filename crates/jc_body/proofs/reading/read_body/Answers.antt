@@ -28,3 +28,4 @@ returns-clause-well_made c =
     (answered c.args.class.now c.args.method c.index-deref-method.result
     (found_at c.args.class.now.methods c.deref.result.now c.args.method c.index-deref-method.result c.deref.ensures c.requires.exists c.index-deref-method.is)
     c.answer.result c.answer.ensures.answer c.answer.ensures.refused)
+    c.answer.ensures.sizes

@@ -1,4 +1,5 @@
-use Rattle.std.proofs.Common.{rules}
+use Rattle.std.proofs.Common.{rules, subst, sym}
+use Rattle.jc_body.specs.BodyOf.{HasParts}
 use Rattle.jc_body.proofs.ReadingLaws.{table_refusal, size_refusal, nothing_wrong, tables_are}
 use Rattle.jc_body.proofs.reading.with_tables.Goals as goal
 
@@ -20,5 +21,5 @@ returns-clause-body c =
       no_fault = none.1;
       tables = c.in-Some.tables;
       are_tables = tables_are c.args.class.now.major c.args.class.now.pool c.args.method.now c.args.number c.args.coded c.requires.coded c.in_ok-tables.field-0 c.in-Some.tables (search rules) (search rules);
-      parts = c.in_ok-assembled.ensures;
+      parts = subst (HasParts c.args.class.now c.args.number c.args.method.now c.args.coded c.in-Some.tables) (sym c.in_ok-with_counted_lists.ensures.same) c.in_ok-body.ensures.parts;
     }

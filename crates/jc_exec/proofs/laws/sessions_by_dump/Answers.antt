@@ -1,5 +1,5 @@
-use Rattle.jc_exec.proofs.SessionLaws as laws
+use Rattle.jc_exec.proofs.SessionLaws as sessions
 use Rattle.jc_exec.proofs.laws.sessions_by_dump.Goals as goal
 
 pub returns : goal.returns
-returns c = laws.sessions_by_dump
+returns c = record { order = sessions.sessions_by_dump; only = sessions.only_by_dump }

@@ -1,0 +1,255 @@
+//! Copies that take memory.
+ghost use Rattle.std.specs.Prelude.{◌≡◌, IfOk};
+
+use crate::{Body, FrameAt, Insn, List, Memory, Plan, State, Use, What};
+use std::alloc::Global;
+
+/// A value of which a copy can be made where there is memory for it.
+pub trait TryClone {
+    /// A value that is equal to this one.
+    ///
+    /// # Errors
+    ///
+    /// `Memory` where memory was refused.
+    fn try_clone(&self, alloc: Global) -> Result<Self, Memory>
+        ensures { IfOk result (λ copy. copy ≡ self.now) };
+}
+
+impl<T: Copy> TryClone for List<T> {
+    fn try_clone(&self, alloc: Global) -> Result<Self, Memory> {
+        Ok(List::from_vec(Vec::from_slice(alloc, self.as_slice())?))
+    }
+}
+
+/// A list of copies of the values.
+///
+/// # Errors
+///
+/// `Memory` where memory was refused.
+pub fn clone_each<T: TryClone + Drop>(alloc: Global, items: &[T]) -> Result<List<T>, Memory>
+    ensures { IfOk result (λ copies. copies ≡ items.now) }
+{
+    let mut copies = List::new(alloc);
+    for item in items {
+        copies.push(item.try_clone(alloc)?)?;
+    }
+    Ok(copies)
+}
+
+impl TryClone for Insn {
+    fn try_clone(&self, alloc: Global) -> Result<Self, Memory> {
+        Ok(match self {
+            Insn::Simple(op) => Insn::Simple(*op),
+            Insn::Push { op, value } => Insn::Push {
+                op: *op,
+                value: *value,
+            },
+            Insn::Local { op, slot } => Insn::Local {
+                op: *op,
+                slot: *slot,
+            },
+            Insn::Inc { slot, by } => Insn::Inc {
+                slot: *slot,
+                by: *by,
+            },
+            Insn::Constant { place } => Insn::Constant { place: *place },
+            Insn::Constant2 { place } => Insn::Constant2 { place: *place },
+            Insn::Member { op, place } => Insn::Member {
+                op: *op,
+                place: *place,
+            },
+            Insn::Interface { place, count } => Insn::Interface {
+                place: *place,
+                count: *count,
+            },
+            Insn::Dynamic { place } => Insn::Dynamic { place: *place },
+            Insn::OfClass { op, place } => Insn::OfClass {
+                op: *op,
+                place: *place,
+            },
+            Insn::NewArray { elem } => Insn::NewArray { elem: *elem },
+            Insn::Multi { place, dims } => Insn::Multi {
+                place: *place,
+                dims: *dims,
+            },
+            Insn::Jump { op, to } => Insn::Jump { op: *op, to: *to },
+            Insn::Table { low, default, arms } => Insn::Table {
+                low: *low,
+                default: *default,
+                arms: arms.try_clone(alloc)?,
+            },
+            Insn::Lookup { default, arms } => Insn::Lookup {
+                default: *default,
+                arms: arms.try_clone(alloc)?,
+            },
+        })
+    }
+}
+
+impl TryClone for State {
+    fn try_clone(&self, alloc: Global) -> Result<Self, Memory> {
+        Ok(State {
+            locals: self.locals.try_clone(alloc)?,
+            stack: self.stack.try_clone(alloc)?,
+        })
+    }
+}
+
+impl TryClone for FrameAt {
+    fn try_clone(&self, alloc: Global) -> Result<Self, Memory> {
+        Ok(FrameAt {
+            at: self.at,
+            state: self.state.try_clone(alloc)?,
+        })
+    }
+}
+
+impl TryClone for What {
+    fn try_clone(&self, alloc: Global) -> Result<Self, Memory> {
+        Ok(match self {
+            What::Field { class, name, desc } => What::Field {
+                class: class.try_clone(alloc)?,
+                name: name.try_clone(alloc)?,
+                desc: desc.try_clone(alloc)?,
+            },
+            What::Method { class, name, desc } => What::Method {
+                class: class.try_clone(alloc)?,
+                name: name.try_clone(alloc)?,
+                desc: desc.try_clone(alloc)?,
+            },
+            What::Call { name, desc } => What::Call {
+                name: name.try_clone(alloc)?,
+                desc: desc.try_clone(alloc)?,
+            },
+            What::Class(name) => What::Class(name.try_clone(alloc)?),
+            What::Int(value) => What::Int(*value),
+            What::Long(value) => What::Long(*value),
+            What::Float => What::Float,
+            What::Double => What::Double,
+            What::Text => What::Text,
+            What::Handle => What::Handle,
+            What::MethodKind => What::MethodKind,
+            What::Computed { desc } => What::Computed {
+                desc: desc.try_clone(alloc)?,
+            },
+        })
+    }
+}
+
+impl TryClone for Use {
+    fn try_clone(&self, alloc: Global) -> Result<Self, Memory> {
+        Ok(Use {
+            place: self.place,
+            what: self.what.try_clone(alloc)?,
+        })
+    }
+}
+
+impl TryClone for Plan {
+    fn try_clone(&self, alloc: Global) -> Result<Self, Memory> {
+        Ok(Plan {
+            lead: self.lead.try_clone(alloc)?,
+            out: clone_each(alloc, &self.out)?,
+            next: self.next,
+        })
+    }
+}
+
+impl TryClone for Body {
+    fn try_clone(&self, alloc: Global) -> Result<Self, Memory> {
+        Ok(Body {
+            method: self.method,
+            owner: self.owner.try_clone(alloc)?,
+            name: self.name.try_clone(alloc)?,
+            desc: self.desc.try_clone(alloc)?,
+            flags: self.flags,
+            arg_slots: self.arg_slots,
+            max_stack: self.max_stack,
+            max_locals: self.max_locals,
+            code: clone_each(alloc, &self.code)?,
+            handlers: self.handlers.try_clone(alloc)?,
+            lines: self.lines.try_clone(alloc)?,
+            vars: self.vars.try_clone(alloc)?,
+            kind_vars: self.kind_vars.try_clone(alloc)?,
+            frames: clone_each(alloc, &self.frames)?,
+            uses: clone_each(alloc, &self.uses)?,
+        })
+    }
+}
+
+#[cfg(test)]
+mod tests {
+    use super::*;
+    use crate::{Bytes, Kind};
+    use std::alloc::AllocError;
+    use std::test::Fail;
+
+    fn switch(alloc: Global) -> Result<Insn, AllocError> {
+        Ok(Insn::Table {
+            low: -1,
+            default: 0,
+            arms: List::from_vec([0, 0].to_vec(alloc)?),
+        })
+    }
+
+    fn frame(alloc: Global) -> Result<FrameAt, AllocError> {
+        let locals = [Kind::Long, Kind::Top].to_vec(alloc)?;
+        Ok(FrameAt {
+            at: 0,
+            state: State {
+                locals: List::from_vec(locals),
+                stack: List::new(alloc),
+            },
+        })
+    }
+
+    fn class_used(alloc: Global) -> Result<Use, AllocError> {
+        Ok(Use {
+            place: 3,
+            what: What::Class(Bytes::copy_of(alloc, b"A")?),
+        })
+    }
+
+    fn body(alloc: Global) -> Result<Body, AllocError> {
+        let code = Vec::from_array(alloc, [switch(alloc)?])?;
+        let frames = Vec::from_array(alloc, [frame(alloc)?])?;
+        let uses = Vec::from_array(alloc, [class_used(alloc)?])?;
+        Ok(Body {
+            method: 1,
+            owner: List::new(alloc),
+            name: List::new(alloc),
+            desc: List::new(alloc),
+            flags: 8,
+            arg_slots: 2,
+            max_stack: 1,
+            max_locals: 2,
+            code: List::from_vec(code),
+            handlers: List::new(alloc),
+            lines: List::new(alloc),
+            vars: List::new(alloc),
+            kind_vars: List::new(alloc),
+            frames: List::from_vec(frames),
+            uses: List::from_vec(uses),
+        })
+    }
+
+    #[test]
+    fn copies_of_bodies(rt: HostRuntime) -> Result<(), Fail> {
+        let body = body(rt.alloc())?;
+        let copy = body.try_clone(rt.alloc())?;
+        assert!(rt; copy == body);
+        Ok(())
+    }
+
+    #[test]
+    fn copies_of_plans(rt: HostRuntime) -> Result<(), Fail> {
+        let plan = Plan {
+            lead: List::from_vec([None, Some(7)].to_vec(rt.alloc())?),
+            out: List::new(rt.alloc()),
+            next: 9,
+        };
+        let copy = plan.try_clone(rt.alloc())?;
+        assert!(rt; copy == plan);
+        Ok(())
+    }
+}

@@ -1,0 +1,203 @@
+//! The types that descriptors say, as values.
+ghost use Rattle.std.specs.Prelude.{◌≡◌, Option, IfOk, OnOk, OnErr, length};
+ghost use Rattle.jc_base.specs.Descriptor.{FieldType, MethodType, IsFieldDescriptor, DescribesField, IsMethodDescriptor, DescribesMethod, IsReturnDescriptor, IsReturnType, return_text};
+ghost use Rattle.jc_base.specs.DescriptorTypes.{base_type};
+ghost use Rattle.jc_base.specs.Held.{held, width, Grows, IsNumbered};
+ghost use Rattle.jc_base.specs.ValueTypes.{type_of, held_by, Says, AllSay, SaysReturn, BeginsWithValues};
+
+use crate::descriptor::{behind, is_void};
+use crate::{Kind, List, Memory, Names, split_type};
+use std::alloc::Global;
+
+/// The type of a field, of a parameter or of a result (JVM Specification 4.3.2).
+#[derive(Clone, Copy, Debug, PartialEq, Eq)]
+pub enum ValueType<'a> {
+    /// `B`, a signed byte.
+    Byte,
+    /// `C`, a character.
+    Char,
+    /// `D`, a double.
+    Double,
+    /// `F`, a float.
+    Float,
+    /// `I`, an int.
+    Int,
+    /// `J`, a long.
+    Long,
+    /// `S`, a signed short.
+    Short,
+    /// `Z`, a boolean.
+    Boolean,
+    /// An object of the class of this name.
+    Object(&'a [u8]),
+    /// An array, by its descriptor.
+    Array(&'a [u8]),
+}
+
+/// The types of the parameters and of the result of a method (JVM Specification 4.3.3).
+#[derive(Debug, Drop)]
+pub struct MethodTypes<'a> {
+    /// The types of the parameters, in their order.
+    pub parameters: List<ValueType<'a>>,
+    /// The type of the result, or nothing for `void`.
+    pub returns: Option<ValueType<'a>>,
+}
+
+impl<'a> ValueType<'a> {
+    /// How many local variables a value of the type takes (JVM Specification 2.6.1).
+    pub fn slots(self) -> u16
+        ensures { result ≡ width (held_by self.entry) }
+    {
+        match self {
+            ValueType::Long | ValueType::Double => 2,
+            _ => 1,
+        }
+    }
+
+    /// The verification type of a value of the type (JVM Specification 4.10.1.2): boolean, byte, char and
+    /// short as int, and an array as an object whose class has the array's descriptor as its name.
+    ///
+    /// # Errors
+    ///
+    /// `Memory` where memory was refused, or where the class is new and the list has 4,294,967,295 names.
+    /// Then the list is as it was.
+    pub fn kind(self, alloc: Global, names: &mut Names) -> Result<Kind, Memory>
+        ensures kind { IfOk result (λ kind. held names.new kind ≡ held_by self.entry) }
+        ensures numbered { IfOk result (λ kind. IsNumbered (length names.new) kind) }
+        ensures names { OnOk result (Grows names.old names.new) }
+        ensures kept { OnErr result (names.new ≡ names.old) }
+    {
+        Ok(match self {
+            ValueType::Byte | ValueType::Char | ValueType::Int => Kind::Int,
+            ValueType::Short | ValueType::Boolean => Kind::Int,
+            ValueType::Float => Kind::Float,
+            ValueType::Double => Kind::Double,
+            ValueType::Long => Kind::Long,
+            ValueType::Object(name) => Kind::Object(names.number(alloc, name)?),
+            ValueType::Array(desc) => Kind::Object(names.number(alloc, desc)?),
+        })
+    }
+}
+
+/// The type with this letter, or boolean for another letter.
+fn base_type<'a>(letter: u8) -> ValueType<'a>
+    ensures { Says result (base_type letter) }
+{
+    match letter {
+        b'B' => ValueType::Byte,
+        b'C' => ValueType::Char,
+        b'D' => ValueType::Double,
+        b'F' => ValueType::Float,
+        b'I' => ValueType::Int,
+        b'J' => ValueType::Long,
+        b'S' => ValueType::Short,
+        _ => ValueType::Boolean,
+    }
+}
+
+/// The type that a field descriptor says (JVM Specification 4.3.2).
+pub fn field_type(desc: &[u8]) -> ValueType<'_>
+    requires { IsFieldDescriptor desc.now }
+    ensures { (type : FieldType) → DescribesField desc.now type → Says result type }
+{
+    if let Some(name) = behind(b'L', desc) {
+        return ValueType::Object(&name[..name.len() - 1]);
+    }
+    if let Some(_component) = behind(b'[', desc) {
+        return ValueType::Array(desc);
+    }
+    base_type(desc[0])
+}
+
+/// The types at the front, and what stands behind those.
+fn types_in_front(alloc: Global, bytes: &[u8]) -> Result<(List<ValueType<'_>>, &[u8]), Memory>
+    ensures { IfOk result (λ parts. BeginsWithValues bytes.now parts.0 parts.1.now) }
+{
+    let mut types = List::new(alloc);
+    let mut rest = bytes;
+    'parameters: while let Some((text, after)) = split_type(rest) {
+        types.push(field_type(text))?;
+        rest = after;
+    }
+    Ok((types, rest))
+}
+
+/// The type that the descriptor of a result says, or nothing for `V`.
+fn return_type(desc: &[u8]) -> Option<ValueType<'_>>
+    requires { IsReturnDescriptor desc.now }
+    ensures { (type : Option FieldType) → IsReturnType type → desc.now ≡ return_text type → SaysReturn result type }
+{
+    if is_void(desc) {
+        return None;
+    }
+    Some(field_type(desc))
+}
+
+/// The types that a method descriptor says (JVM Specification 4.3.3).
+///
+/// # Errors
+///
+/// `Memory` where memory was refused.
+pub fn method_types(alloc: Global, desc: &[u8]) -> Result<MethodTypes<'_>, Memory>
+    requires { IsMethodDescriptor desc.now }
+    ensures parameters { (type : MethodType) → DescribesMethod desc.now type → IfOk result (λ types. AllSay types.parameters type.parameters) }
+    ensures returns { (type : MethodType) → DescribesMethod desc.now type → IfOk result (λ types. SaysReturn types.returns type.returns) }
+{
+    let (parameters, rest) = types_in_front(alloc, &desc[1..])?;
+    Ok(MethodTypes {
+        parameters,
+        returns: return_type(&rest[1..]),
+    })
+}
+
+#[cfg(test)]
+mod tests {
+    use super::*;
+    use crate::{is_field_descriptor, is_method_descriptor};
+    use std::test::Fail;
+
+    #[test]
+    fn types_of_methods(rt: HostRuntime) -> Result<(), Fail> {
+        let alloc = rt.alloc();
+        let mut names = Names::new(alloc)?;
+        let desc = b"(IDLjava/lang/Thread;[[Z)Ljava/lang/Object;";
+        assert!(rt; is_method_descriptor(desc));
+        let types = method_types(alloc, desc)?;
+        let mut kinds = List::new(alloc);
+        for parameter in &types.parameters {
+            kinds.push(parameter.kind(alloc, &mut names)?)?;
+        }
+        let wanted = [Kind::Int, Kind::Double, Kind::Object(0), Kind::Object(1)];
+        assert_eq!(rt; kinds.as_slice(), wanted.as_slice());
+        assert_eq!(rt; names.len(), 2);
+        assert_eq!(rt; names.text(1), b"[[Z".as_slice());
+        assert!(rt; types.returns == Some(ValueType::Object(b"java/lang/Object")));
+        assert!(rt; is_method_descriptor(b"(Z)V"));
+        assert!(rt; method_types(alloc, b"(Z)V")?.returns.is_none());
+        Ok(())
+    }
+
+    #[test]
+    fn types_of_fields(rt: HostRuntime) -> Result<(), Fail> {
+        let mut names = Names::new(rt.alloc())?;
+        for (desc, kind, slots) in [
+            ("B", Kind::Int, 1),
+            ("C", Kind::Int, 1),
+            ("D", Kind::Double, 2),
+            ("F", Kind::Float, 1),
+            ("I", Kind::Int, 1),
+            ("J", Kind::Long, 2),
+            ("La/B;", Kind::Object(0), 1),
+            ("S", Kind::Int, 1),
+            ("Z", Kind::Int, 1),
+            ("[J", Kind::Object(1), 1),
+        ] {
+            assert!(rt; is_field_descriptor(desc.as_bytes()), "{desc}");
+            let value = field_type(desc.as_bytes());
+            assert_eq!(rt; value.kind(rt.alloc(), &mut names)?, kind, "{desc}");
+            assert_eq!(rt; value.slots(), slots, "{desc}");
+        }
+        assert_eq!(rt; names.len(), 2);
+        Ok(())
+    }
+}

@@ -1,0 +1,224 @@
+-- Over a store with one record of each id, each text has a union or a block that is refused first.
+use Rattle.std.proofs.Common.{◌≡◌, ◌≢◌, ◌⊎◌, inl, inr, ℕ, zero, suc, ◌<◌, ◌≤◌, Bool, true, false, cond, List, [], ◌∷◌, ◌++◌, length, take, Contains, Option, Some, None, option_map, bytes_eq, nat_eq, refl, sym, ◌∙◌, ap, subst, arith, append_assoc, length-append}
+use Rattle.std.proofs.lemmas.Bool.{eqb-true, eqb-false}
+use Rattle.std.proofs.lemmas.List.{append-nil, take_at}
+use Rattle.std.proofs.lemmas.Slice.Eq.{bytes_eq-Decides}
+use Rattle.jc_base.specs.Modified.{IsModified}
+use Rattle.jc_base.specs.Decoder.{IsBig, first, number_at}
+use Rattle.jc_base.proofs.DecoderLaws.{bind_some, guard_some, some_is, some_none, first_takes, first_again, number_takes, number_again}
+use Rattle.jc_exec.specs.declared.hits.ClassHits.{ClassHits}
+use Rattle.jc_exec.specs.declared.session.Session.{Session}
+use Rattle.jc_exec.specs.Format.{Block, header, session, class, header_text, IsSessionBlock, IsClassBlock, IsBlock, AreBlocks, Blocks}
+use Rattle.jc_exec.specs.Reading.{class_at, session_at, version_at}
+use Rattle.jc_exec.specs.Store.{Store}
+use Rattle.jc_exec.specs.Union.{Agrees, IsUnion, agree, either_bits, with_record, with_block}
+use Rattle.jc_exec.specs.Refusing.{Refused, bad_exec, other_version, conflict, blocks_of, MayFollow, HasOtherHeader, RefusedHere, IsTaken, IsRefused, OneOfEachId}
+use Rattle.jc_exec.proofs.DecisionLaws.{Decided, modified_or_not, header_decided}
+use Rattle.jc_exec.proofs.BlockLaws.{class_takes, class_again}
+use Rattle.jc_exec.proofs.ListLaws.{session_takes, session_again, one_front, no_block, blocks_push}
+use Rattle.jc_exec.proofs.HeaderLaws.{version_takes, version_again}
+use Rattle.jc_exec.proofs.MergingLaws.{agrees_agree, union_block}
+use Rattle.jc_exec.proofs.StoringLaws.{own_union}
+
+-- ---- a header of another version
+
+other_header_decided : (text : List ℕ) → ((found : ℕ) × HasOtherHeader text found) ⊎ ((found : ℕ) → HasOtherHeader text found → ⊥)
+other_header_decided text = by (version_at text) refl
+  where
+    by : (o : Option (ℕ × List ℕ)) → version_at text ≡ o → ((found : ℕ) × HasOtherHeader text found) ⊎ ((found : ℕ) → HasOtherHeader text found → ⊥)
+    by None none = inr (λ found h. some_none (sym (version_again text h.version h.more found h.parts h.value) ∙ none))
+    by (Some (v, more)) is = version (nat_eq v 0x1007) refl
+      where
+        version : (b : Bool) → nat_eq v 0x1007 ≡ b → ((found : ℕ) × HasOtherHeader text found) ⊎ ((found : ℕ) → HasOtherHeader text found → ⊥)
+        version true own = inr (λ found h. h.other (ap (λ (r : ℕ × List ℕ). r.0) (some_is (found, h.more) (v, more) (sym (version_again text h.version h.more found h.parts h.value) ∙ is)) ∙ eqb-true v 0x1007 own))
+        version false other = let t = version_takes text v more is in inl (v, record { version = t.0; more = more; parts = t.1; value = t.2; other = eqb-false v 0x1007 other })
+
+-- ---- the block in front
+
+-- some block stands in front
+record HasBlock (text : List ℕ) : Type 0 where
+  pub block : Block
+  pub front : List ℕ
+  pub more : List ℕ
+  pub parts : text ≡ front ++ more
+  pub is : IsBlock front block
+
+-- no session, and no class, stands in front
+abbrev NoSession : List ℕ → Type 0
+NoSession text = (s : Session) (front more : List ℕ) → text ≡ front ++ more → IsSessionBlock front s → ⊥
+
+abbrev NoClass : List ℕ → Type 0
+NoClass text = (c : ClassHits) (front more : List ℕ) → text ≡ front ++ more → IsClassBlock front c → ⊥
+
+abbrev NoBlock : List ℕ → Type 0
+NoBlock text = (b : Block) (front more : List ℕ) → text ≡ front ++ more → IsBlock front b → ⊥
+
+session_decided : (text : List ℕ) → HasBlock text ⊎ NoSession text
+session_decided text = by (session_at text) refl
+  where
+    by : (o : Option (Session × List ℕ)) → session_at text ≡ o → HasBlock text ⊎ NoSession text
+    by None none = inr (λ s front more parts block. some_none (sym (session_again front more s block) ∙ ap session_at (sym parts) ∙ none))
+    by (Some (s, more)) is = elim (modified_or_not s.id) [
+      | inl valid ↦ (let t = session_takes text (s, more) is in inl (record { block = session s; front = t.text; more = more; parts = t.parts; is = t.block valid }))
+      | inr other ↦ inr (λ x front rest parts block.
+          let same : (x, rest) ≡ (s, more) = some_is (x, rest) (s, more) (sym (session_again front rest x block) ∙ ap session_at (sym parts) ∙ is) in
+          other (subst (λ (r : Session × List ℕ). IsModified r.0.id) same block.2.text))
+    ]
+
+class_decided : (text : List ℕ) → HasBlock text ⊎ NoClass text
+class_decided text = by (class_at text) refl
+  where
+    by : (o : Option (ClassHits × List ℕ)) → class_at text ≡ o → HasBlock text ⊎ NoClass text
+    by None none = inr (λ c front more parts block. some_none (sym (class_again front more c block) ∙ ap class_at (sym parts) ∙ none))
+    by (Some (c, more)) is = elim (modified_or_not c.name) [
+      | inl valid ↦ (let t = class_takes text (c, more) is in inl (record { block = class c; front = t.text; more = more; parts = t.parts; is = t.block valid }))
+      | inr other ↦ inr (λ x front rest parts block.
+          let same : (x, rest) ≡ (c, more) = some_is (x, rest) (c, more) (sym (class_again front rest x block) ∙ ap class_at (sym parts) ∙ is) in
+          other (subst (λ (r : ClassHits × List ℕ). IsModified r.0.name) same block.2.text))
+    ]
+
+none_of : (text : List ℕ) → ((more : List ℕ) → text ≢ header_text ++ more) → NoSession text → NoClass text → NoBlock text
+none_of text no_header no_session no_class header front more parts block = no_header more (parts ∙ ap (λ (l : List ℕ). l ++ more) block)
+none_of text no_header no_session no_class (session s) front more parts block = no_session s front more parts block
+none_of text no_header no_session no_class (class c) front more parts block = no_class c front more parts block
+
+block_decided : (text : List ℕ) → HasBlock text ⊎ NoBlock text
+block_decided text = elim (header_decided text) [
+  | inl h ↦ inl (record { block = header; front = header_text; more = h.0; parts = h.1; is = refl })
+  | inr no_header ↦ elim (session_decided text) [
+    | inl s ↦ inl s
+    | inr no_session ↦ elim (class_decided text) [
+      | inl c ↦ inl c
+      | inr no_class ↦ inr (none_of text no_header no_session no_class)
+    ]
+  ]
+]
+
+follows_decided : (read : List Block) (b : Block) → Decided (MayFollow read b)
+follows_decided [] header = inl tt
+follows_decided [] (session s) = inr (λ h. h)
+follows_decided [] (class c) = inr (λ h. h)
+follows_decided (header ∷ read) b = inl tt
+follows_decided (session s ∷ read) b = inr (λ h. h)
+follows_decided (class c ∷ read) b = inr (λ h. h)
+
+shorter : (b : Block) (text front more : List ℕ) → IsBlock front b → text ≡ front ++ more → length more < length text
+shorter b text front more block parts = by front block parts
+  where
+    by : (front : List ℕ) → IsBlock front b → text ≡ front ++ more → length more < length text
+    by [] block parts = absurd (no_block b [] [] [] block refl refl)
+    by (x ∷ front) block parts = omega (arith, ap length parts, length-append (x ∷ front) more)
+
+-- ---- a record that is not merged
+
+-- a record of the id is there, and doesn't agree
+abbrev Clashes : List ClassHits → ClassHits → Type 0
+Clashes cs r = (c : ClassHits) × Contains cs c × (c.id ≡ r.id) × (Agrees c r → ⊥)
+
+clashes : (cs : List ClassHits) (r : ClassHits) → with_record cs r ≡ None → Clashes cs r
+clashes [] r none = absurd (some_none none)
+clashes (c ∷ cs) r none = by (nat_eq c.id r.id) (agree c r) (with_record cs r) refl refl none (λ later. clashes cs r later) refl
+  where
+    by : (a b : Bool) (rest : Option (List ClassHits)) → nat_eq c.id r.id ≡ a → agree c r ≡ b
+        → cond a (cond b (Some (record { id = c.id; name = c.name; bits = either_bits c.bits r.bits } ∷ cs)) None) (option_map (λ (l : List ClassHits). c ∷ l) rest) ≡ None
+        → (with_record cs r ≡ None → Clashes cs r) → with_record cs r ≡ rest → Clashes (c ∷ cs) r
+    by true true rest id agrees none later is = absurd (some_none none)
+    by true false rest id agrees none later is = (c, (0, omega arith, refl), eqb-true c.id r.id id, λ a. differ (sym agrees ∙ agrees_agree c r (record { name = sym a.name; count = sym a.count })))
+      where
+        differ : false ≡ true → ⊥
+        differ e = cc
+    by false b (Some es) id agrees none later is = absurd (some_none none)
+    by false b None id agrees none later is = let d = later is in (d.0, (suc d.1.0, omega (arith, d.1.1), d.1.2), d.2, d.3)
+
+-- ---- block by block
+
+-- these blocks stand in front and have a union with the store before
+record Reached (before : Store) (text taken rest : List ℕ) (read : List Block) (store : Store) : Type 0 where
+  pub parts : text ≡ taken ++ rest
+  pub blocks : Blocks taken read
+  pub union : IsUnion (blocks_of before ++ read) store
+
+abbrev Answered : Store → List ℕ → Type 0
+Answered before text = IsTaken before text ⊎ IsRefused before text
+
+refused_here : (before : Store) (text taken rest : List ℕ) (read : List Block) (store : Store) → Reached before text taken rest read store
+    → (why : Refused) → RefusedHere read store (length taken) rest why → Answered before text
+refused_here before text taken rest read store r why here = inr (why, record { read = read; taken = taken; rest = rest; store = store; parts = r.parts; blocks = r.blocks; union = r.union; refused = here })
+
+-- no block that may follow stands in front
+unfit_here : (before : Store) (text taken rest : List ℕ) (read : List Block) (store : Store) → Reached before text taken rest read store → rest ≢ []
+    → ((b : Block) (front more : List ℕ) → rest ≡ front ++ more → IsBlock front b → MayFollow read b → ⊥) → Answered before text
+unfit_here before text taken rest read store r some none = elim (other_header_decided rest) [
+  | inl h ↦ refused_here before text taken rest read store r (other_version h.0) h.1
+  | inr known ↦ refused_here before text taken rest read store r (bad_exec (length taken)) (refl, record { some = some; none = none; known = known })
+]
+
+-- one block more is reached, or the text has its answer
+record Next (before : Store) (text rest : List ℕ) : Type 0 where
+  pub taken : List ℕ
+  pub later : List ℕ
+  pub read : List Block
+  pub store : Store
+  pub reached : Reached before text taken later read store
+  pub less : length later < length rest
+
+next_block : (before : Store) (text taken rest : List ℕ) (read : List Block) (store t : Store) → Reached before text taken rest read store
+    → (h : HasBlock rest) → MayFollow read h.block → with_block store h.block ≡ Some t → Next before text rest
+next_block before text taken rest read store t r h follows merged = record {
+  taken = taken ++ h.front;
+  later = h.more;
+  read = read ++ h.block ∷ [];
+  store = t;
+  reached = record {
+    parts = r.parts ∙ ap (λ (l : List ℕ). taken ++ l) h.parts ∙ sym (append_assoc taken h.front h.more);
+    blocks = record { begins = follows; whole = blocks_push taken read h.front h.block r.blocks.whole h.is };
+    union = subst (λ (l : List Block). IsUnion l t) (append_assoc (blocks_of before) read (h.block ∷ [])) (union_block (blocks_of before ++ read) h.block store t r.union merged);
+  };
+  less = shorter h.block rest h.front h.more h.is h.parts;
+}
+
+record_none : (o : Option (List ClassHits)) (store : Store) → option_map (λ (cs : List ClassHits). record store { classes = cs }) o ≡ None → o ≡ None
+record_none None store e = refl
+record_none (Some cs) store e = absurd (some_none e)
+
+-- a block that may follow is refused for a conflict alone
+conflict_here : (before : Store) (text taken rest : List ℕ) (read : List Block) (store : Store) → Reached before text taken rest read store
+    → (b : Block) (front more : List ℕ) → rest ≡ front ++ more → IsBlock front b → MayFollow read b → with_block store b ≡ None → Answered before text
+conflict_here before text taken rest read store r header front more parts block follows none = absurd (some_none none)
+conflict_here before text taken rest read store r (session s) front more parts block follows none = absurd (some_none none)
+conflict_here before text taken rest read store r (class c) front more parts block follows none =
+    let d = clashes store.classes c (record_none (with_record store.classes c) store none) in
+    refused_here before text taken rest read store r (conflict c.id d.0.name c.name (length d.0.bits) (length c.bits))
+    (d.0, c, record { front = front; more = more; parts = parts; block = block; follows = follows; holds = d.1; same_id = d.2; differs = d.3 }, refl, refl, refl, refl, refl)
+
+step : (before : Store) (text taken rest : List ℕ) (read : List Block) (store : Store) → Reached before text taken rest read store → rest ≢ []
+    → Answered before text ⊎ Next before text rest
+step before text taken rest read store r some = elim (block_decided rest) [
+  | inr none ↦ inl (unfit_here before text taken rest read store r some (λ b front more parts block follows. none b front more parts block))
+  | inl h ↦ elim (follows_decided read h.block) [
+    | inr other ↦ inl (unfit_here before text taken rest read store r some (λ b front more parts block follows.
+        other (subst (MayFollow read) (one_front b h.block rest front more h.front h.more block h.is parts h.parts).0 follows)))
+    | inl follows ↦ by h follows (with_block store h.block) refl
+  ]
+]
+  where
+    by : (h : HasBlock rest) → MayFollow read h.block → (o : Option Store) → with_block store h.block ≡ o → Answered before text ⊎ Next before text rest
+    by h follows (Some t) merged = inr (next_block before text taken rest read store t r h follows merged)
+    by h follows None none = inl (conflict_here before text taken rest read store r h.block h.front h.more h.parts h.is follows none)
+
+not_nil : (x : ℕ) (l : List ℕ) → x ∷ l ≢ []
+not_nil x l = λ e. cc
+
+answered_from : (fuel : ℕ) (before : Store) (text taken rest : List ℕ) (read : List Block) (store : Store) → Reached before text taken rest read store
+    → length rest ≤ fuel → Answered before text
+answered_from fuel before text taken [] read store r short = inl (read, store, subst (λ (l : List ℕ). Blocks l read) (sym (r.parts ∙ append-nil taken)) r.blocks, r.union)
+answered_from zero before text taken (x ∷ rest) read store r short = absurd (omega (arith, short))
+answered_from (suc fuel) before text taken (x ∷ rest) read store r short = elim (step before text taken (x ∷ rest) read store r (not_nil x rest)) [
+  | inl answered ↦ answered
+  | inr n ↦ answered_from fuel before text n.taken n.later n.read n.store n.reached (omega (arith, short, n.less))
+]
+
+pub answered : (before : Store) (text : List ℕ) → OneOfEachId before.classes → IsTaken before text ⊎ IsRefused before text
+answered before text one = answered_from (length text) before text [] text [] before
+    (record { parts = refl; blocks = record { begins = tt; whole = refl }; union = subst (λ (l : List Block). IsUnion l before) (sym (append-nil (blocks_of before))) (own_union before one) })
+    (omega arith)
