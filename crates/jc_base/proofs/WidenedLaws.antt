@@ -24,7 +24,8 @@ pub first_place : (code : List Insn) → wide_place code 0 ≡ 0
 first_place [] = refl
 first_place (x ∷ code) = refl
 
-pub next_place : (code : List Insn) (place : ℕ) (insn : Insn) → slice_get code place ≡ Some insn → wide_place code (place + 1) ≡ wide_place code place + widths_by (flow_of insn)
+pub next_place : (code : List Insn) (place : ℕ) (insn : Insn) → slice_get code place ≡ Some insn
+    → wide_place code (place + 1) ≡ wide_place code place + widths_by (flow_of insn)
 next_place [] place insn is = absurd cc
 next_place (x ∷ code) zero insn is =
     let same : x ≡ insn = cc in
@@ -56,13 +57,15 @@ image_at : (places : ℕ → ℕ) (here : ℕ) (code : List Insn) (place : ℕ) 
 image_at places here [] place insn j is below = absurd cc
 image_at places here (x ∷ code) zero insn j is below =
     let same : x ≡ insn = cc in
-    subst (λ (i : Insn). j < widths_by (flow_of i) → slice_get (widened_from places here (x ∷ code)) (0 + j) ≡ slice_get (widened_by places (here + 0) i (flow_of i)) j) same first below
+    subst (λ (i : Insn). j < widths_by (flow_of i) → slice_get (widened_from places here (x ∷ code)) (0 + j)
+    ≡ slice_get (widened_by places (here + 0) i (flow_of i)) j) same first below
   where
     first : j < widths_by (flow_of x) → slice_get (widened_from places here (x ∷ code)) (0 + j) ≡ slice_get (widened_by places (here + 0) x (flow_of x)) j
     first lt =
         let e : here ≡ here + 0 = omega arith in
         ap (slice_get (widened_from places here (x ∷ code))) (zero-add j)
-        ∙ in_front (widened_by places here x (flow_of x)) (widened_from places (here + widths_by (flow_of x)) code) j (omega (arith, length_by places here x (flow_of x), lt))
+        ∙ in_front (widened_by places here x (flow_of x)) (widened_from places (here + widths_by (flow_of x)) code) j
+        (omega (arith, length_by places here x (flow_of x), lt))
         ∙ ap (λ (h : ℕ). slice_get (widened_by places h x (flow_of x)) j) e
 image_at places here (x ∷ code) (suc place) insn j is below =
     let w = widths_by (flow_of x) in
@@ -79,7 +82,8 @@ one_at_least : (flow : Flow) → 0 < widths_by flow
 one_at_least flows.Tests = omega arith
 one_at_least flow = omega arith
 
-first_same : (places : ℕ → ℕ) (here : ℕ) (insn : Insn) (flow : Flow) → flow ≢ flows.Tests → slice_get (widened_by places here insn flow) 0 ≡ Some (with_places places insn)
+first_same : (places : ℕ → ℕ) (here : ℕ) (insn : Insn) (flow : Flow) → flow ≢ flows.Tests
+    → slice_get (widened_by places here insn flow) 0 ≡ Some (with_places places insn)
 first_same places here insn flows.Tests other = absurd (other refl)
 first_same places here insn flow other = refl
 
@@ -88,7 +92,8 @@ unfolding widened
 has_image code place insn is =
     let here = wide_place code place in
     let zero_on : here ≡ here + 0 = omega arith in
-    let first = ap (slice_get (widened_from (wide_place code) 0 code)) zero_on ∙ image_at (wide_place code) 0 code place insn 0 is (one_at_least (flow_of insn)) in
+    let first = ap (slice_get (widened_from (wide_place code) 0 code)) zero_on
+    ∙ image_at (wide_place code) 0 code place insn 0 is (one_at_least (flow_of insn)) in
     record {
       same = λ other. first ∙ first_same (wide_place code) (0 + here) insn (flow_of insn) other;
       inverse = λ test.
@@ -97,5 +102,6 @@ has_image code place insn is =
           ∙ ap (λ (h : ℕ). Some (inverted (h + 2) insn)) (zero-add here);
       jump = λ test.
           let two = ap widths_by test in
-          image_at (wide_place code) 0 code place insn 1 is (omega (arith, two)) ∙ ap (λ (f : Flow). slice_get (widened_by (wide_place code) (0 + here) insn f) 1) test;
+          image_at (wide_place code) 0 code place insn 1 is (omega (arith, two))
+          ∙ ap (λ (f : Flow). slice_get (widened_by (wide_place code) (0 + here) insn f) 1) test;
     }

@@ -1,6 +1,6 @@
 //! Offsets of instructions, and their numbers.
-ghost use Rattle.std.specs.Prelude.{◌≡◌, ◌<◌, ◌^◌, ℕ, length, slice_index, IfOk, All};
-ghost use Rattle.jc_base.specs.Starts.{insn_number};
+ghost use Rattle.std.specs.Prelude.{◌≡◌, ◌<◌, ◌^◌, length, IfOk, All};
+ghost use Rattle.jc_base.specs.Starts.{HasNumbers};
 
 use std::alloc::{AllocError, Global};
 
@@ -11,7 +11,7 @@ pub fn insn_numbers(alloc: Global, starts: &[u32], size: usize) -> Result<Vec<u3
     requires few { length starts.now < 2 ^ 32 }
     requires within { All (λ start. start < size) starts.now }
     ensures length { IfOk result (λ numbers. length numbers.items ≡ size) }
-    ensures each { IfOk result (λ numbers. (offset : ℕ) → offset < size → slice_index numbers.items offset ≡ insn_number starts.now offset) }
+    ensures each { IfOk result (λ numbers. HasNumbers starts.now size numbers.items) }
 {
     let mut number = starts.len() - 1;
     let mut numbers = vec![in alloc; number as u32; size]?;

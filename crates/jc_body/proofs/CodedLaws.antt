@@ -4,7 +4,7 @@ use Rattle.jc_base.specs.declared.refusal.RefusalKind.{RefusalKind}
 use Rattle.jc_pool.specs.Pool.{PoolValue}
 use Rattle.jc_class.specs.declared.class_file.Member.{Member}
 use Rattle.jc_insn.specs.Spells.{Spells}
-use Rattle.jc_insn.proofs.CodeLaws.{one_list, never_both}
+use Rattle.jc_insn.proofs.OneReadingLaws.{one_list, never_both}
 use Rattle.jc_body.specs.declared.items.CodeItems.{CodeItems}
 use Rattle.jc_body.specs.declared.coded.Coded.{Coded}
 use Rattle.jc_body.specs.CodeForm.{IsCodeText}

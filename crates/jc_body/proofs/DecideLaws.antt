@@ -13,7 +13,7 @@ use Rattle.jc_pool.specs.Pool.{PoolValue}
 use Rattle.jc_class.specs.declared.class_file.Member.{Member}
 use Rattle.jc_base.specs.Starts.{AreStarts, insn_number}
 use Rattle.jc_insn.specs.Spells.{IsRefused, IsFault, FaultBehind}
-use Rattle.jc_insn.proofs.CodeLaws.{same_fault}
+use Rattle.jc_insn.proofs.OneReadingLaws.{same_fault}
 use Rattle.jc_body.specs.declared.coded.Coded.{Coded}
 use Rattle.jc_body.specs.declared.items.CodeItems.{CodeItems}
 use Rattle.jc_body.specs.declared.items.Tables.{Tables}

@@ -12,8 +12,8 @@ use Rattle.jc_class.specs.declared.class_file.ClassFile.{ClassFile}
 use Rattle.jc_class.specs.declared.class_file.Member.{Member}
 use Rattle.jc_base.specs.Starts.{insn_number}
 use Rattle.jc_insn.specs.Spells.{Spells, IsRefused}
-use Rattle.jc_insn.proofs.AmongLaws.{are_starts}
-use Rattle.jc_insn.proofs.EachCodeLaws.{spelled_or_refused}
+use Rattle.jc_insn.proofs.DecodedInsnLaws.{are_starts}
+use Rattle.jc_insn.proofs.SpelledOrRefusedLaws.{spelled_or_refused}
 use Rattle.jc_body.specs.declared.coded.Coded.{Coded}
 use Rattle.jc_body.specs.declared.items.CodeItems.{CodeItems}
 use Rattle.jc_body.specs.declared.items.Tables.{Tables}

@@ -10,7 +10,7 @@ use Rattle.jc_class.specs.ClassFormat.{HasText, attribute}
 use Rattle.jc_class.specs.declared.class_file.Attribute.{Attribute}
 use Rattle.jc_class.specs.declared.class_file.Member.{Member}
 use Rattle.jc_base.specs.Starts.{AreStarts}
-use Rattle.jc_insn.proofs.AmongLaws.{are_starts}
+use Rattle.jc_insn.proofs.DecodedInsnLaws.{are_starts}
 use Rattle.jc_body.specs.declared.items.CodeItems.{CodeItems}
 use Rattle.jc_body.specs.declared.items.Row.{Row}
 use Rattle.jc_body.specs.declared.coded.Coded.{Coded}

@@ -20,8 +20,8 @@ use Rattle.jc_pool.specs.Pool.{PoolValue}
 use Rattle.jc_class.specs.declared.class_file.ClassFile.{ClassFile}
 use Rattle.jc_class.specs.declared.class_file.Member.{Member}
 use Rattle.jc_base.specs.Starts.{AreStarts, insn_number}
-use Rattle.jc_insn.proofs.AmongLaws.{all_among, are_starts}
-use Rattle.jc_insn.proofs.ArmsLaws.{code_size}
+use Rattle.jc_insn.proofs.DecodedInsnLaws.{all_among, are_starts}
+use Rattle.jc_insn.proofs.InsnCountLaws.{code_size}
 use Rattle.jc_body.specs.declared.coded.Coded.{Coded}
 use Rattle.jc_body.specs.declared.items.Row.{Row}
 use Rattle.jc_body.specs.declared.items.Tables.{Tables}

@@ -5,14 +5,17 @@ use Rattle.jc_base.specs.declared.insn.Arm.{Arm}
 use Rattle.jc_insn.specs.Items.{in_pieces, ascending}
 
 -- one piece more
-in_pieces_more : {X : Type 0} (size : ℕ) (f : List ℕ → X) (n : ℕ) (bytes : List ℕ) → in_pieces size f (suc n) bytes ≡ in_pieces size f n bytes ++ f (drop (size * n) bytes) ∷ []
+in_pieces_more : {X : Type 0} (size : ℕ) (f : List ℕ → X) (n : ℕ) (bytes : List ℕ)
+    → in_pieces size f (suc n) bytes ≡ in_pieces size f n bytes ++ f (drop (size * n) bytes) ∷ []
 in_pieces_more size f zero bytes = ap (λ (k : ℕ). f (drop k bytes) ∷ []) (let e : 0 ≡ size * 0 = omega arith in e)
 in_pieces_more size f (suc n) bytes =
-    let place : drop (size * n) (drop size bytes) ≡ drop (size * suc n) bytes = drop-drop (size * n) size bytes ∙ ap (λ (k : ℕ). drop k bytes) (let e : size + size * n ≡ size * suc n = omega arith in e) in
+    let place : drop (size * n) (drop size bytes) ≡ drop (size * suc n) bytes = drop-drop (size * n) size bytes
+    ∙ ap (λ (k : ℕ). drop k bytes) (let e : size + size * n ≡ size * suc n = omega arith in e) in
     ap (λ l. f bytes ∷ l) (in_pieces_more size f n (drop size bytes) ∙ ap (λ (l : List ℕ). in_pieces size f n (drop size bytes) ++ f l ∷ []) place)
 
 -- the item of one piece more is pushed
-pub pushes_piece : {X : Type 0} (size : ℕ) (f : List ℕ → X) (n : ℕ) (bytes piece : List ℕ) (old new : List X) (x : X) → old ≡ in_pieces size f n bytes → piece ≡ take (length bytes - size * n) (drop (size * n) bytes) → x ≡ f piece → new ≡ old ++ x ∷ [] → new ≡ in_pieces size f (n + 1) bytes
+pub pushes_piece : {X : Type 0} (size : ℕ) (f : List ℕ → X) (n : ℕ) (bytes piece : List ℕ) (old new : List X) (x : X) → old ≡ in_pieces size f n bytes
+    → piece ≡ take (length bytes - size * n) (drop (size * n) bytes) → x ≡ f piece → new ≡ old ++ x ∷ [] → new ≡ in_pieces size f (n + 1) bytes
 pushes_piece size f n bytes piece old new x before is item pushed =
     let whole : piece ≡ drop (size * n) bytes = is ∙ take_all (length bytes - size * n) (drop (size * n) bytes) (omega (arith, length-drop (size * n) bytes)) in
     pushed

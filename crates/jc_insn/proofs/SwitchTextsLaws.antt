@@ -17,8 +17,8 @@ use Rattle.jc_insn.specs.declared.item.Item.TheVariants as items
 use Rattle.jc_insn.specs.Fields.{nothing, piece, Then, only_if}
 use Rattle.jc_insn.specs.Items.{padding, key_count, target_of, in_pieces, place_in, places_in, arm_in, arms_in, ascending, table_operands, lookup_operands, operands, IsItem}
 use Rattle.jc_insn.specs.Writing.{word, difference, arm_text, pad_text, last_key, table_text, lookup_text}
-use Rattle.jc_insn.proofs.OffsetsLaws.{big_word, signed_word_back, word_target, word_size}
-use Rattle.jc_insn.proofs.TextsLaws.{item_of, number_then, piece_then, one_piece, length_pieces, pieces_back, place_back, test_true, le_true, word_fits}
+use Rattle.jc_insn.proofs.NumberTextsLaws.{big_word, signed_word_back, word_target, word_size}
+use Rattle.jc_insn.proofs.FieldTextsLaws.{item_of, number_then, piece_then, one_piece, length_pieces, pieces_back, place_back, test_true, le_true, word_fits}
 
 pub pad_length : (at : ℕ) → length (pad_text at) ≡ padding at
 unfolding pad_text
@@ -40,7 +40,8 @@ unfolding places_in
 places_back at arms at_fits fit =
     let count : length (places_text at arms) / 4 ≡ length arms = let e = places_length at arms in omega (arith, e) in
     ap (λ (n : ℕ). in_pieces 4 (place_in at) n (places_text at arms)) count
-    ∙ pieces_back (λ to. to < 4294967296) 4 (place_in at) (λ (to : ℕ). word (difference at to)) arms (λ to. word_size (difference at to)) (λ to rest fits. place_back at to rest at_fits fits) fit
+    ∙ pieces_back (λ to. to < 4294967296) 4 (place_in at) (λ (to : ℕ). word (difference at to)) arms (λ to. word_size (difference at to))
+    (λ to rest fits. place_back at to rest at_fits fits) fit
 
 last_above : (low : ℤ) (count : ℕ) → low ≤ℤ last_key low count
 last_above low count = omega (arith, ints)
@@ -54,7 +55,9 @@ keys_between low count some = by ((last_key low count) -ℤ low) (let e : ((last
 last_fits : (low : ℤ) (count : ℕ) → 1 ≤ count → FitsSigned w32 low → (low +ℤ pos count) ≤ℤ pos 2147483648 → FitsSigned w32 (last_key low count)
 last_fits low count some fits high = search (rules, ints)
 
-pub table_is : (at default : ℕ) (low : ℤ) (arms : List ℕ) → at < 4294967296 → default < 4294967296 → FitsSigned w32 low → 1 ≤ length arms → (low +ℤ pos (length arms)) ≤ℤ pos 2147483648 → All (λ to. to < 4294967296) arms → IsItem at (table_text at low default arms) (items.Insn (insns.Table low default arms))
+pub table_is : (at default : ℕ) (low : ℤ) (arms : List ℕ) → at < 4294967296 → default < 4294967296 → FitsSigned w32 low → 1 ≤ length arms
+    → (low +ℤ pos (length arms)) ≤ℤ pos 2147483648 → All (λ to. to < 4294967296) arms
+    → IsItem at (table_text at low default arms) (items.Insn (insns.Table low default arms))
 unfolding operands table_operands
 table_is at default low arms at_fits default_fits low_fits some high fit =
     let last = last_key low (length arms) in
@@ -64,17 +67,25 @@ table_is at default low arms at_fits default_fits low_fits some high fit =
     let high_word = word (cast_unsigned w32 last) in
     let low_is : cast_signed w32 (cast_unsigned w32 low) ≡ low = signed_word_back low low_fits in
     let high_is : cast_signed w32 (cast_unsigned w32 last) ≡ last = signed_word_back last high_fits in
-    let test : int_le (cast_signed w32 (cast_unsigned w32 low)) (cast_signed w32 (cast_unsigned w32 last)) ≡ true = (λ i. int_le (low_is i) (high_is i)) ∙ le_true low last (last_above low (length arms)) in
+    let test : int_le (cast_signed w32 (cast_unsigned w32 low)) (cast_signed w32 (cast_unsigned w32 last)) ≡ true = (λ i. int_le (low_is i) (high_is i))
+    ∙ le_true low last (last_above low (length arms)) in
     let size : length (places_text at arms) ≡ 4 * key_count (cast_signed w32 (cast_unsigned w32 low)) (cast_signed w32 (cast_unsigned w32 last)) =
     places_length at arms ∙ ap (λ (n : ℕ). 4 * n) (sym ((λ i. key_count (low_is i) (high_is i)) ∙ keys_between low (length arms) some)) in
-    let same : item ≡ items.Insn (insns.Table (cast_signed w32 (cast_unsigned w32 low)) (target_of at (cast_signed w32 (difference at default))) (places_in at (places_text at arms))) =
+    let same : item ≡ items.Insn (insns.Table (cast_signed w32 (cast_unsigned w32 low)) (target_of at (cast_signed w32 (difference at default)))
+    (places_in at (places_text at arms))) =
     (λ i. items.Insn (insns.Table (sym low_is i) (sym (word_target at default at_fits default_fits) i) (sym (places_back at arms at_fits fit) i))) in
-    item_of at 170 forms.Table (pad_text at ++ (word (difference at default) ++ (low_word ++ (high_word ++ places_text at arms)))) item (let rows = named_forms in rows.5)
+    item_of at 170 forms.Table (pad_text at ++ (word (difference at default) ++ (low_word ++ (high_word ++ places_text at arms)))) item
+    (let rows = named_forms in rows.5)
     (piece_then (padding at) _ (pad_text at) (word (difference at default) ++ (low_word ++ (high_word ++ places_text at arms))) item (pad_length at)
-    (number_then 4 _ (difference at default) (word (difference at default)) (low_word ++ (high_word ++ places_text at arms)) item (big_word (difference at default) (small_difference at default))
+    (number_then 4 _ (difference at default) (word (difference at default)) (low_word ++ (high_word ++ places_text at arms)) item
+    (big_word (difference at default) (small_difference at default))
     (number_then 4 _ (cast_unsigned w32 low) low_word (high_word ++ places_text at arms) item (big_word (cast_unsigned w32 low) (word_fits low low_fits))
-    (number_then 4 _ (cast_unsigned w32 last) high_word (places_text at arms) item (big_word (cast_unsigned w32 last) (word_fits last high_fits))
-    (test, one_piece (4 * key_count (cast_signed w32 (cast_unsigned w32 low)) (cast_signed w32 (cast_unsigned w32 last))) (λ words. items.Insn (insns.Table (cast_signed w32 (cast_unsigned w32 low)) (target_of at (cast_signed w32 (difference at default))) (places_in at words))) (places_text at arms) item size same)))))
+    (number_then 4 _ (cast_unsigned w32 last) high_word (places_text at arms) item (big_word (cast_unsigned w32 last) (word_fits last high_fits)) (
+      test,
+      one_piece (4 * key_count (cast_signed w32 (cast_unsigned w32 low)) (cast_signed w32 (cast_unsigned w32 last)))
+          (λ words. items.Insn (insns.Table (cast_signed w32 (cast_unsigned w32 low)) (target_of at (cast_signed w32 (difference at default)))
+          (places_in at words))) (places_text at arms) item size same,
+    )))))
 
 -- ---- lookupswitch
 
@@ -97,9 +108,11 @@ arm_back at arm rest at_fits fits =
     let big = big_word (cast_unsigned w32 arm.key) (word_fits arm.key fits.key) in
     let whole : arm_text at arm ++ rest ≡ key_word ++ (to_word ++ rest) = append_assoc key_word to_word rest in
     let key_is : cast_signed w32 (big_number 4 (arm_text at arm ++ rest)) ≡ arm.key =
-    ap (λ (l : List ℕ). cast_signed w32 (big_number 4 l)) whole ∙ ap (cast_signed w32) (big_front 4 key_word (to_word ++ rest) big.size ∙ big.value) ∙ signed_word_back arm.key fits.key in
+    ap (λ (l : List ℕ). cast_signed w32 (big_number 4 l)) whole ∙ ap (cast_signed w32) (big_front 4 key_word (to_word ++ rest) big.size ∙ big.value)
+    ∙ signed_word_back arm.key fits.key in
     let to_is : place_in at (drop 4 (arm_text at arm ++ rest)) ≡ arm.to =
-    ap (λ (l : List ℕ). place_in at (drop 4 l)) whole ∙ ap (place_in at) (drop_at key_word (to_word ++ rest) 4 big.size) ∙ place_back at arm.to rest at_fits fits.to in
+    ap (λ (l : List ℕ). place_in at (drop 4 l)) whole ∙ ap (place_in at) (drop_at key_word (to_word ++ rest) 4 big.size)
+    ∙ place_back at arm.to rest at_fits fits.to in
     λ i. record { key = key_is i; to = to_is i }
 
 pub arms_length : (at : ℕ) (arms : List Arm) → length (flat_map (arm_text at) arms) ≡ 8 * length arms
@@ -117,7 +130,8 @@ ascends [] up = refl
 ascends (a ∷ []) up = refl
 ascends (a ∷ b ∷ arms) up = rw (test_true (int_lt a.key b.key) up.0.lt) (ascends (b ∷ arms) up.1)
 
-pub lookup_is : (at default : ℕ) (arms : List Arm) → at < 4294967296 → default < 4294967296 → length arms < 2147483648 → IsAscending arms → All ArmFits arms → IsItem at (lookup_text at default arms) (items.Insn (insns.Lookup default arms))
+pub lookup_is : (at default : ℕ) (arms : List Arm) → at < 4294967296 → default < 4294967296 → length arms < 2147483648 → IsAscending arms
+    → All ArmFits arms → IsItem at (lookup_text at default arms) (items.Insn (insns.Lookup default arms))
 unfolding operands lookup_operands
 lookup_is at default arms at_fits default_fits few up fit =
     let item = items.Insn (insns.Lookup default arms) in
@@ -128,9 +142,13 @@ lookup_is at default arms at_fits default_fits few up fit =
     (λ i. items.Insn (insns.Lookup (sym (word_target at default at_fits default_fits) i) (sym back i))) in
     item_of at 171 forms.Lookup (pad_text at ++ (word (difference at default) ++ (word (length arms) ++ text))) item (let rows = named_forms in rows.6)
     (piece_then (padding at) _ (pad_text at) (word (difference at default) ++ (word (length arms) ++ text)) item (pad_length at)
-    (number_then 4 _ (difference at default) (word (difference at default)) (word (length arms) ++ text) item (big_word (difference at default) (small_difference at default))
+    (number_then 4 _ (difference at default) (word (difference at default)) (word (length arms) ++ text) item
+    (big_word (difference at default) (small_difference at default))
     (number_then 4 _ (length arms) (word (length arms)) text item (big_word (length arms) (omega (arith, few))) (
       lt-ltb (length arms) 2147483648 few,
-      subst (λ (l : List ℕ). Then (piece (8 * length arms)) (λ words. only_if (ascending (arms_in at words)) (nothing (items.Insn (insns.Lookup (target_of at (cast_signed w32 (difference at default))) (arms_in at words))))) l item) (append-nil text)
-          (piece_then (8 * length arms) (λ words. only_if (ascending (arms_in at words)) (nothing (items.Insn (insns.Lookup (target_of at (cast_signed w32 (difference at default))) (arms_in at words))))) text [] item (arms_length at arms) (test, (refl, same))),
+      subst (λ (l : List ℕ). Then (piece (8 * length arms)) (λ words. only_if (ascending (arms_in at words))
+          (nothing (items.Insn (insns.Lookup (target_of at (cast_signed w32 (difference at default))) (arms_in at words))))) l item) (append-nil text)
+          (piece_then (8 * length arms) (λ words. only_if (ascending (arms_in at words))
+          (nothing (items.Insn (insns.Lookup (target_of at (cast_signed w32 (difference at default))) (arms_in at words))))) text [] item
+          (arms_length at arms) (test, (refl, same))),
     ))))

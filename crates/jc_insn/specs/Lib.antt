@@ -5,3 +5,4 @@ pub mod Reading
 pub mod Decoding
 pub mod Sizes
 pub mod Writing
+pub mod Layouts

@@ -78,7 +78,11 @@ lookup_at at left = do
   pairs ← number_at 4 default.1
   if nat_lt pairs.0 2147483648 then (do
     arms ← piece_at (8 * pairs.0) pairs.1
-    if ascending (arms_in at arms.0) then Some (items.Insn (insns.Lookup (target_of at (cast_signed w32 default.0)) (arms_in at arms.0)), arms.1) else None) else None
+    if ascending (arms_in at arms.0) then Some (
+      items.Insn (insns.Lookup (target_of at (cast_signed w32 default.0))
+          (arms_in at arms.0)),
+      arms.1,
+    ) else None) else None
 
 unfoldable pub member_at : ℕ → List ℕ → Option (Item × List ℕ)
 member_at op left = do

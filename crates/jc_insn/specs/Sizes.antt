@@ -1,5 +1,5 @@
 -- How many bytes instructions take.
-use Rattle.std.specs.Prelude.{◌≡◌, ◌≤◌, ◌<◌, ℕ, ◌+◌, ◌*◌, ℤ, pos, negsuc, Bool, ◌&&◌, List, [], ◌∷◌, length, nat_eq, nat_lt, int_le, if◌then◌else◌, All}
+use Rattle.std.specs.Prelude.{◌≡◌, ◌≤◌, ◌<◌, ⊤, ℕ, ◌+◌, ◌*◌, ℤ, pos, negsuc, Bool, ◌&&◌, List, [], ◌∷◌, length, nat_eq, nat_lt, int_le, if◌then◌else◌, All}
 use Rattle.jc_base.specs.declared.form.Form.{Form}
 use Rattle.jc_base.specs.declared.form.Form.TheVariants as forms
 use Rattle.jc_base.specs.Opcode as opcode
@@ -42,6 +42,11 @@ size_of at wide (insns.Multi place dims) = 4
 size_of at wide (insns.Jump op to) = jump_size wide op
 size_of at wide (insns.Table low default arms) = 13 + padding at + 4 * length arms
 size_of at wide (insns.Lookup default arms) = 9 + padding at + 8 * length arms
+
+-- a conditional jump or goto
+abbrev pub IsJump : Insn → Type 0
+IsJump (insns.Jump op to) = ⊤
+IsJump insn = ⊥
 
 -- no bytes that spell the instruction at this offset, wherever it leads, are fewer
 abbrev pub IsLeast : ℕ → Insn → ℕ → Type 0

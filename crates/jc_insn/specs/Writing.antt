@@ -1,5 +1,5 @@
 -- The shortest spelling of instructions.
-use Rattle.std.specs.Prelude.{◌≡◌, ◌<◌, ◌≤◌, ⊤, ℕ, ◌+◌, ◌-◌, ◌*◌, ◌%◌, ◌^◌, ℤ, pos, ◌+ℤ◌, Bool, true, List, [], ◌∷◌, ◌++◌, length, replicate, nat_eq, nat_lt, if◌then◌else◌, FitsSigned, All}
+use Rattle.std.specs.Prelude.{◌<◌, ◌≤◌, ⊤, ℕ, ◌+◌, ◌-◌, ◌*◌, ◌%◌, ◌^◌, ℤ, pos, ◌+ℤ◌, Bool, List, [], ◌∷◌, ◌++◌, length, replicate, nat_eq, nat_lt, if◌then◌else◌, FitsSigned, All}
 use Rattle.std.specs.List.{flat_map}
 use Rattle.std.specs.Int.{w16, w32, cast_unsigned}
 use Rattle.byteorder.specs.Endian.{big_bytes}
@@ -13,7 +13,6 @@ use Rattle.jc_base.specs.declared.insn.Arm.{Arm}
 use Rattle.jc_base.specs.Flow.{inverse_of}
 use Rattle.jc_base.specs.Insn.{with_places}
 use Rattle.jc_insn.specs.Items.{padding}
-use Rattle.jc_insn.specs.Spells.{SpellsFrom, Spells}
 use Rattle.jc_insn.specs.Sizes.{is_narrow_inc}
 
 -- a number of two bytes, and one of four
@@ -121,18 +120,6 @@ abbrev pub code_text : (ℕ → ℕ) → Bool → List Insn → List ℕ → Lis
 code_text places wide (insn ∷ code) (at ∷ starts) = insn_text at wide (with_places places insn) ++ code_text places wide code starts
 code_text places wide code starts = []
 
--- What the spelling of an instruction at this offset is read as: in the wide layout a conditional jump is two
--- instructions, its inverse that leads past the second one, and goto. Places are offsets.
-abbrev pub spelled_as : ℕ → Bool → Insn → List Insn
-spelled_as at true (insns.Jump op to) =
-    if nat_eq op opcode.goto then insns.Jump op to ∷ [] else insns.Jump (inverse_of op) (at + 8) ∷ insns.Jump opcode.goto to ∷ []
-spelled_as at wide insn = insn ∷ []
-
--- the same for instructions, each at its offset
-abbrev pub code_as : (ℕ → ℕ) → Bool → List Insn → List ℕ → List Insn
-code_as places wide (insn ∷ code) (at ∷ starts) = spelled_as at wide (with_places places insn) ++ code_as places wide code starts
-code_as places wide code starts = []
-
 -- a jump from one offset to the other has room in two bytes of two's complement
 abbrev pub IsNear : ℕ → ℕ → Type 0
 IsNear at to = (to < at + 32768) × (at ≤ to + 32768)
@@ -162,11 +149,3 @@ IsInRange (insns.Multi place dims) = place < 2 ^ 16
 IsInRange (insns.Table low default arms) = FitsSigned w32 low
 IsInRange (insns.Lookup default arms) = All (λ arm. FitsSigned w32 arm.key) arms
 IsInRange insn = ⊤
-
--- the new bytes are the old ones and then bytes that spell the code
-abbrev pub AppendsSpelling : List ℕ → List ℕ → List Insn → List ℕ → Type 0
-AppendsSpelling old new code starts = (text : List ℕ) × (new ≡ old ++ text) × Spells text code starts
-
--- the same for instructions whose places are offsets, wherever they begin
-abbrev pub AppendsInsns : List ℕ → List ℕ → List Insn → Type 0
-AppendsInsns old new code = (text starts : List ℕ) × (new ≡ old ++ text) × SpellsFrom 0 text code starts

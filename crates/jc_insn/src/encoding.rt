@@ -3,7 +3,8 @@ ghost use Rattle.std.specs.Prelude.{◌≡◌, ◌≤◌, ◌<◌, ◌++◌, Lis
 ghost use Rattle.jc_base.specs.Flow.{targets_of};
 ghost use Rattle.jc_base.specs.Insn.{arm_count, IsWellFormed, with_places};
 ghost use Rattle.jc_insn.specs.Sizes.{StartAt};
-ghost use Rattle.jc_insn.specs.Writing.{insn_text, code_text, code_as, AllNear, IsInRange, AppendsSpelling, AppendsInsns};
+ghost use Rattle.jc_insn.specs.Writing.{insn_text, code_text, AllNear, IsInRange};
+ghost use Rattle.jc_insn.specs.Layouts.{AppendsSpelling};
 
 use crate::write::{
     put_constant, put_dynamic, put_inc, put_interface, put_jump, put_local, put_lookup, put_multi,
@@ -26,7 +27,8 @@ fn put_insn(
     requires places { All (λ to. to < length starts.now) (targets_of insn.now) }
     requires few { arm_count insn.now ≤ 67108864 }
     ensures range { OnOk result (IsInRange insn.now) }
-    ensures text { OnOk result (out.new.items ≡ out.old.items ++ insn_text at wide (with_places (slice_index starts.now) insn.now)) }
+    ensures text { OnOk result (out.new.items
+        ≡ out.old.items ++ insn_text at wide (with_places (slice_index starts.now) insn.now)) }
 {
     match insn {
         Insn::Simple(op) => out.push(*op)?,
@@ -69,10 +71,8 @@ pub fn encode(
     requires few { All (λ insn. arm_count insn ≤ 67108864) code.now }
     requires near { wide ≡ false → AllNear (slice_index starts.now) code.now starts.now }
     ensures ok { OnOk result (into.new.items ≡ into.old.items ++ code_text (slice_index starts.now) wide code.now starts.now) }
-    // What is written spells the code,
-    ensures spelled { OnOk result (wide ≡ false → AppendsSpelling into.old.items into.new.items code.now starts.now) }
-    // and in both layouts the instructions of that layout.
-    ensures insns { OnOk result (AppendsInsns into.old.items into.new.items (code_as (slice_index starts.now) wide code.now starts.now)) }
+    // What is written spells the code, and in the wide layout its wide form.
+    ensures spelled { OnOk result (AppendsSpelling wide into.old.items into.new.items code.now starts.now) }
     ensures err { OnErr result (into.new.items ≡ into.old.items) }
 {
     let mut text = Vec::new(alloc);

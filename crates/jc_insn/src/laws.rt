@@ -1,24 +1,36 @@
 //! Laws of the spelling of code.
-ghost use Rattle.std.specs.Prelude.{◌≡◌, ◌⊎◌, ◌++◌, ℕ, List};
+ghost use Rattle.std.specs.Prelude.{◌≡◌, ◌⊎◌, ◌++◌, ◌+◌, ◌≤◌, ℕ, List, length, slice_index};
 ghost use Rattle.jc_insn.specs.declared.item.Item.{Item};
 ghost use Rattle.jc_base.specs.declared.insn.Insn.{Insn};
 ghost use Rattle.jc_base.specs.declared.refusal.Refusal.{Refusal};
+ghost use Rattle.jc_base.specs.Widened.{wide_place};
+ghost use Rattle.jc_insn.specs.Layouts.{wide_starts};
 ghost use Rattle.jc_insn.specs.Items.{IsItem};
 ghost use Rattle.jc_insn.specs.Spells.{Spells, IsRefused};
 
 /// No spelling of an item begins another, so what was written is read again, whatever follows it.
 pub fn one_spelling()
-    ensures { (at : ℕ) (a b x y : List ℕ) (i j : Item) → IsItem at a i → IsItem at b j → a ++ x ≡ b ++ y → (a ≡ b) × (i ≡ j) }
+    ensures { (at : ℕ) (a b x y : List ℕ) (i j : Item) → IsItem at a i → IsItem at b j
+        → a ++ x ≡ b ++ y → (a ≡ b) × (i ≡ j) }
 {}
 
 /// Bytes spell one list of instructions, which begin at one list of offsets.
 pub fn one_code()
-    ensures { (bytes : List ℕ) (code other : List Insn) (starts others : List ℕ) → Spells bytes code starts → Spells bytes other others → (code ≡ other) × (starts ≡ others) }
+    ensures { (bytes : List ℕ) (code other : List Insn) (starts others : List ℕ) → Spells bytes code starts
+        → Spells bytes other others → (code ≡ other) × (starts ≡ others) }
+{}
+
+/// What stands in the wide layout for an instruction begins where the instruction does.
+pub fn each_image_begins_where_its_instruction_does()
+    ensures { (code : List Insn) (starts : List ℕ) (place : ℕ) → length starts ≡ length code + 1 → place ≤ length code
+        → slice_index (wide_starts code starts) (wide_place code place) ≡ slice_index starts place }
 {}
 
 /// Bytes spell instructions or are refused, never both, and for one reason.
 pub fn each_code_is_spelled_or_refused()
-    ensures each { (bytes : List ℕ) → ((code : List Insn) × (starts : List ℕ) × Spells bytes code starts) ⊎ ((r : Refusal) × IsRefused bytes r) }
-    ensures apart { (bytes : List ℕ) (code : List Insn) (starts : List ℕ) (r : Refusal) → Spells bytes code starts → IsRefused bytes r → ⊥ }
+    ensures each { (bytes : List ℕ) → ((code : List Insn) × (starts : List ℕ) × Spells bytes code starts)
+        ⊎ ((r : Refusal) × IsRefused bytes r) }
+    ensures apart { (bytes : List ℕ) (code : List Insn) (starts : List ℕ) (r : Refusal) → Spells bytes code starts
+        → IsRefused bytes r → ⊥ }
     ensures one_fault { (bytes : List ℕ) (r s : Refusal) → IsRefused bytes r → IsRefused bytes s → r ≡ s }
 {}

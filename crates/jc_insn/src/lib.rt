@@ -15,5 +15,8 @@ mod write;
 
 pub use decoding::{Decoded, decode};
 pub use encoding::encode;
-pub use laws::{each_code_is_spelled_or_refused, one_code, one_spelling};
+pub use laws::{
+    each_code_is_spelled_or_refused, each_image_begins_where_its_instruction_does, one_code,
+    one_spelling,
+};
 pub use size::size_of;

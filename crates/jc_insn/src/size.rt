@@ -1,8 +1,8 @@
 //! How many bytes an instruction takes.
-ghost use Rattle.std.specs.Prelude.{◌≡◌, ◌≤◌, false, nat_lt, if◌then◌else◌};
+ghost use Rattle.std.specs.Prelude.{◌≡◌, ◌≤◌, true, nat_lt, if◌then◌else◌};
 ghost use Rattle.jc_base.specs.Insn.{arm_count};
 ghost use Rattle.jc_insn.specs.Items.{padding};
-ghost use Rattle.jc_insn.specs.Sizes.{push_size, local_size, is_narrow_inc, jump_size, size_of, IsLeast};
+ghost use Rattle.jc_insn.specs.Sizes.{push_size, local_size, is_narrow_inc, jump_size, size_of, IsJump, IsLeast};
 
 use jc_base::{Form, Insn, form_of, opcode};
 
@@ -99,8 +99,8 @@ fn by_form(insn: &Insn, at: u32, wide: bool) -> u32
 pub fn size_of(insn: &Insn, at: u32, wide: bool) -> u32
     requires { arm_count insn.now ≤ 67108864 }
     ensures size { result ≡ size_of at wide insn.now }
-    // No spelling is shorter.
-    ensures least { wide ≡ false → IsLeast at insn.now result }
+    // No spelling is shorter, but for jumps of the wide layout.
+    ensures least { (wide ≡ true → IsJump insn.now → ⊥) → IsLeast at insn.now result }
 {
     by_form(insn, at, wide)
 }

@@ -1,6 +1,6 @@
 //! Code whose instructions are known from the JVM Specification.
-use crate::{Decoded, decode, encode};
-use jc_base::{Fail, Insn, Refusal};
+use crate::{Decoded, decode, encode, size_of};
+use jc_base::{Arm, Fail, Insn, List, Refusal, opcode};
 use std::alloc::Global;
 use std::test::Fail as Failed;
 
@@ -13,7 +13,19 @@ fn answer(alloc: Global, code: &[u8]) -> Result<Decoded, Fail<Refusal>> {
 }
 
 /// Bytes, and what they are decoded to.
-static ROWS: [(&[u8], &str); 33] = [
+static ROWS: [(&[u8], &str); 36] = [
+    (
+        b"\x1d",
+        "Ok(Decoded { code: List { items: [Local { op: 21, slot: 3 }] }, starts: List { items: [0, 1] } })",
+    ),
+    (
+        b"\x15\xff",
+        "Ok(Decoded { code: List { items: [Local { op: 21, slot: 255 }] }, starts: List { items: [0, 2] } })",
+    ),
+    (
+        b"\xc4\x15\x01\x00",
+        "Ok(Decoded { code: List { items: [Local { op: 21, slot: 256 }] }, starts: List { items: [0, 4] } })",
+    ),
     (
         b"\x1a\x9c\x00\x06\x1a\x74\xac\x1a\xac",
         "Ok(Decoded { code: List { items: [Local { op: 21, slot: 0 }, Jump { op: 156, to: 5 }, Local { op: 21, slot: 0 }, Simple(116), Simple(172), Local { op: 21, slot: 0 }, Simple(172)] }, starts: List { items: [0, 1, 4, 5, 6, 7, 8, 9] } })",
@@ -185,6 +197,147 @@ fn decodes_each_opcode(rt: HostRuntime) -> Result<(), Failed> {
             assert!(rt; refusal.is_err() || *length == 1);
         }
     }
+    Ok(())
+}
+
+/// Instructions, whether the layout is wide, and how many bytes each takes at any offset.
+const SIZES: [(Insn, bool, u32); 24] = [
+    (Insn::Simple(opcode::RETURN), false, 1),
+    (
+        Insn::Push {
+            op: opcode::BIPUSH,
+            value: -128,
+        },
+        false,
+        2,
+    ),
+    (
+        Insn::Push {
+            op: opcode::SIPUSH,
+            value: 128,
+        },
+        false,
+        3,
+    ),
+    (
+        Insn::Local {
+            op: opcode::ILOAD,
+            slot: 3,
+        },
+        false,
+        1,
+    ),
+    (
+        Insn::Local {
+            op: opcode::ASTORE,
+            slot: 4,
+        },
+        false,
+        2,
+    ),
+    (
+        Insn::Local {
+            op: opcode::DLOAD,
+            slot: 255,
+        },
+        true,
+        2,
+    ),
+    (
+        Insn::Local {
+            op: opcode::DLOAD,
+            slot: 256,
+        },
+        true,
+        4,
+    ),
+    (Insn::Inc { slot: 255, by: 127 }, false, 3),
+    (Insn::Inc { slot: 256, by: 1 }, false, 6),
+    (Insn::Inc { slot: 1, by: -129 }, true, 6),
+    (Insn::Constant { place: 255 }, false, 2),
+    (Insn::Constant { place: 256 }, true, 3),
+    (Insn::Constant2 { place: 1 }, false, 3),
+    (
+        Insn::Member {
+            op: opcode::GETFIELD,
+            place: 1,
+        },
+        false,
+        3,
+    ),
+    (Insn::Interface { place: 1, count: 1 }, false, 5),
+    (Insn::Dynamic { place: 1 }, false, 5),
+    (
+        Insn::OfClass {
+            op: opcode::NEW,
+            place: 1,
+        },
+        false,
+        3,
+    ),
+    (Insn::NewArray { elem: 10 }, false, 2),
+    (Insn::Multi { place: 1, dims: 2 }, false, 4),
+    (
+        Insn::Jump {
+            op: opcode::IFEQ,
+            to: 0,
+        },
+        false,
+        3,
+    ),
+    (
+        Insn::Jump {
+            op: opcode::GOTO,
+            to: 0,
+        },
+        false,
+        3,
+    ),
+    (
+        Insn::Jump {
+            op: opcode::IFEQ,
+            to: 0,
+        },
+        true,
+        8,
+    ),
+    (
+        Insn::Jump {
+            op: opcode::GOTO,
+            to: 0,
+        },
+        true,
+        5,
+    ),
+    (Insn::Simple(opcode::ATHROW), true, 1),
+];
+
+/// How many bytes an instruction without arms takes.
+fn size_without_arms(insn: &Insn, wide: bool) -> Option<u32> {
+    match insn {
+        Insn::Table { .. } | Insn::Lookup { .. } => None,
+        other => Some(size_of(other, 1, wide)),
+    }
+}
+
+#[test]
+fn sizes_of_each_form(rt: HostRuntime) -> Result<(), Failed> {
+    let rows = SIZES;
+    for (insn, wide, size) in rows.iter() {
+        assert_eq!(rt; size_without_arms(insn, *wide), Some(*size));
+    }
+    let table = Insn::Table {
+        low: 0,
+        default: 0,
+        arms: List::from_vec(vec![in rt.alloc(); 0, 0]?),
+    };
+    assert_eq!(rt; size_of(&table, 0, false), 24);
+    assert_eq!(rt; size_of(&table, 3, true), 21);
+    let lookup = Insn::Lookup {
+        default: 0,
+        arms: List::from_vec(vec![in rt.alloc(); Arm { key: 7, to: 0 }]?),
+    };
+    assert_eq!(rt; size_of(&lookup, 1, false), 19);
     Ok(())
 }
 

@@ -174,7 +174,8 @@ fn put_pad(out: &mut Vec<u8>, at: u32) -> Result<(), AllocError>
 /// The arms of `tableswitch`.
 fn put_places(out: &mut Vec<u8>, at: u32, starts: &[u32], arms: &[u32]) -> Result<(), AllocError>
     requires { All (λ to. to < length starts.now) arms.now }
-    ensures { OnOk result (out.new.items ≡ out.old.items ++ flat_map (λ to. word (difference at to)) (map (slice_index starts.now) arms.now)) }
+    ensures { OnOk result (out.new.items
+        ≡ out.old.items ++ flat_map (λ to. word (difference at to)) (map (slice_index starts.now) arms.now)) }
 {
     'writing: for to in arms {
         put_word(out, difference(at, starts[*to as usize]))?;
@@ -196,7 +197,8 @@ fn put_arm(out: &mut Vec<u8>, at: u32, starts: &[u32], arm: &Arm) -> Result<(), 
 /// The arms of `lookupswitch`.
 fn put_arms(out: &mut Vec<u8>, at: u32, starts: &[u32], arms: &[Arm]) -> Result<(), AllocError>
     requires { All (λ arm. arm.to < length starts.now) arms.now }
-    ensures text { OnOk result (out.new.items ≡ out.old.items ++ flat_map (arm_text at) (map (arm_with_place (slice_index starts.now)) arms.now)) }
+    ensures text { OnOk result (out.new.items
+        ≡ out.old.items ++ flat_map (arm_text at) (map (arm_with_place (slice_index starts.now)) arms.now)) }
     ensures keys { OnOk result (All (λ arm. FitsSigned w32 arm.key) arms.now) }
 {
     'writing: for arm in arms {
@@ -229,7 +231,8 @@ pub fn put_table(
     requires fits { (low +ℤ pos (length arms.now)) ≤ℤ pos 2147483648 }
     requires default { default < length starts.now }
     requires places { All (λ to. to < length starts.now) arms.now }
-    ensures { OnOk result (out.new.items ≡ out.old.items ++ table_text at low (slice_index starts.now default) (map (slice_index starts.now) arms.now)) }
+    ensures { OnOk result (out.new.items
+        ≡ out.old.items ++ table_text at low (slice_index starts.now default) (map (slice_index starts.now) arms.now)) }
 {
     out.push(opcode::TABLESWITCH)?;
     put_pad(out, at)?;
@@ -251,7 +254,8 @@ pub fn put_lookup(
     requires few { length arms.now ≤ 67108864 }
     requires default { default < length starts.now }
     requires places { All (λ arm. arm.to < length starts.now) arms.now }
-    ensures text { OnOk result (out.new.items ≡ out.old.items ++ lookup_text at (slice_index starts.now default) (map (arm_with_place (slice_index starts.now)) arms.now)) }
+    ensures text { OnOk result (out.new.items
+        ≡ out.old.items ++ lookup_text at (slice_index starts.now default) (map (arm_with_place (slice_index starts.now)) arms.now)) }
     ensures keys { OnOk result (All (λ arm. FitsSigned w32 arm.key) arms.now) }
 {
     out.push(opcode::LOOKUPSWITCH)?;

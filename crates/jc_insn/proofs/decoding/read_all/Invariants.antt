@@ -1,5 +1,5 @@
 use Rattle.std.proofs.Common.{length}
-use Rattle.jc_insn.proofs.DecodingLaws.{Progress}
+use Rattle.jc_insn.proofs.CodeReadingLaws.{Progress}
 use Rattle.jc_insn.proofs.decoding.read_all.Given as goal
 
 -- the instructions so far

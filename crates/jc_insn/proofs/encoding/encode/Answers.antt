@@ -2,10 +2,11 @@ use Rattle.std.proofs.Common.{◌≡◌, ◌<◌, length, arith, List, ℕ, All,
 use Rattle.std.specs.Prelude.{slice_index}
 use Rattle.jc_base.specs.declared.insn.Insn.{Insn}
 use Rattle.jc_base.specs.Flow.{targets_of}
-use Rattle.jc_insn.proofs.WritingLaws.{puts_insn, all_put}
-use Rattle.jc_insn.proofs.StartsLaws.{count_starts, below_last}
+use Rattle.jc_insn.proofs.InsnWritingLaws.{puts_insn, all_put}
+use Rattle.jc_insn.proofs.SizeSumsLaws.{count_starts, below_last}
 use Rattle.jc_insn.specs.Writing.{code_text}
-use Rattle.jc_insn.proofs.WrittenLaws.{IsLaidOut, appends_spelling, appends_insns}
+use Rattle.jc_insn.proofs.LaidOutLaws.{IsLaidOut}
+use Rattle.jc_insn.proofs.SpellingLaws.{appends_spelling}
 use Rattle.jc_insn.proofs.encoding.encode.Goals as goal
 use Rattle.jc_insn.proofs.encoding.encode.Goals.{After-drop-text-2}
 
@@ -22,24 +23,26 @@ pub put_insn-requires-clause-places : goal.put_insn-requires-clause-places
 put_insn-requires-clause-places c = λ k d below.
     let long = count_starts c.args.wide 0 c.args.code.now c.args.starts.now c.requires.starts in
     let all : All (λ to. to < length c.args.code.now) (targets_of c.index-code-number.result) =
-    subst (λ (i : Insn). All (λ to. to < length c.args.code.now) (targets_of i)) (sym c.index-code-number.is) (c.requires.places c.writing.number c.index-code-number.result c.writing-test.true) in
+    subst (λ (i : Insn). All (λ to. to < length c.args.code.now) (targets_of i)) (sym c.index-code-number.is)
+    (c.requires.places c.writing.number c.index-code-number.result c.writing-test.true) in
     let inside = all k d below in
     omega (arith, inside, long)
 
 pub writing-preserved : goal.writing-preserved
 writing-preserved c =
     let long = count_starts c.args.wide 0 c.args.code.now c.args.starts.now c.requires.starts in
-    puts_insn c.args.starts.now c.args.wide c.args.code.now c.writing.number c.index-code-number.result c.writing.text.items c.put_insn.new.out.items (omega arith) (omega (arith, long)) c.index-code-number.is c.writing.invariant c.in_ok-put_insn.ensures.text c.in_ok-put_insn.ensures.range
+    puts_insn c.args.starts.now c.args.wide c.args.code.now c.writing.number c.index-code-number.result c.writing.text.items c.put_insn.new.out.items
+    (omega arith) (omega (arith, long)) c.index-code-number.is c.writing.invariant c.in_ok-put_insn.ensures.text c.in_ok-put_insn.ensures.range
 
-wrote : (c : After-drop-text-2) → (c.extend_from_slice.new.self.items ≡ c.args.into.now.items ++ code_text (slice_index c.args.starts.now) c.args.wide c.args.code.now c.args.starts.now) × IsLaidOut c.args.wide c.args.code.now c.args.starts.now
+wrote : (c : After-drop-text-2) → (c.extend_from_slice.new.self.items ≡ c.args.into.now.items
+    ++ code_text (slice_index c.args.starts.now) c.args.wide c.args.code.now c.args.starts.now) × IsLaidOut c.args.wide c.args.code.now c.args.starts.now
 wrote c =
-    let put = all_put c.args.starts.now c.args.wide c.args.code.now c.writing.number c.writing.text.items (omega (arith, c.writing-test.false)) c.writing.invariant in (
+    let put = all_put c.args.starts.now c.args.wide c.args.code.now c.writing.number c.writing.text.items
+    (omega (arith, c.writing-test.false)) c.writing.invariant in (
       c.in_ok-extend_from_slice.ensures.items ∙ ap (λ (l : List ℕ). c.args.into.now.items ++ l) (c.deref.ensures.value ∙ put.0),
       record { starts_at = c.requires.starts; end = c.requires.end; well_formed = c.requires.well_formed; in_range = put.1; places = c.requires.places },
     )
 
 pub returns-clause-spelled : goal.returns-clause-spelled
-returns-clause-spelled c = let w = wrote c in appends_spelling c.args.wide c.args.code.now c.args.starts.now c.args.into.now.items c.extend_from_slice.new.self.items w.1 c.requires.near w.0
-
-pub returns-clause-insns : goal.returns-clause-insns
-returns-clause-insns c = let w = wrote c in appends_insns c.args.wide c.args.code.now c.args.starts.now c.args.into.now.items c.extend_from_slice.new.self.items w.1 c.requires.near w.0
+returns-clause-spelled c = let w = wrote c in appends_spelling c.args.wide c.args.code.now c.args.starts.now c.args.into.now.items
+    c.extend_from_slice.new.self.items w.1 c.requires.near w.0

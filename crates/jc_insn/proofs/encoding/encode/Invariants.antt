@@ -1,4 +1,4 @@
-use Rattle.jc_insn.proofs.WritingLaws.{CodePut}
+use Rattle.jc_insn.proofs.InsnWritingLaws.{CodePut}
 use Rattle.jc_insn.proofs.encoding.encode.Given as goal
 
 -- the instructions so far

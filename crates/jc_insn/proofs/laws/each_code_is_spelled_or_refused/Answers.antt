@@ -1,5 +1,5 @@
-use Rattle.jc_insn.proofs.CodeLaws.{not_spelled, same_refusal}
-use Rattle.jc_insn.proofs.EachCodeLaws.{spelled_or_refused}
+use Rattle.jc_insn.proofs.OneReadingLaws.{not_spelled, same_refusal}
+use Rattle.jc_insn.proofs.SpelledOrRefusedLaws.{spelled_or_refused}
 use Rattle.jc_insn.proofs.laws.each_code_is_spelled_or_refused.Goals as goal
 
 pub returns-clause-each : goal.returns-clause-each

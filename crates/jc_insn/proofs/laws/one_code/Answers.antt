@@ -1,4 +1,4 @@
-use Rattle.jc_insn.proofs.CodeLaws.{one_list}
+use Rattle.jc_insn.proofs.OneReadingLaws.{one_list}
 use Rattle.jc_insn.proofs.laws.one_code.Goals as goal
 
 pub returns : goal.returns

@@ -4,8 +4,10 @@ use Rattle.jc_insn.proofs.PiecesLaws.{pushes_piece}
 use Rattle.jc_insn.proofs.switch.arms.Goals as goal
 
 pub reading-preserved : goal.reading-preserved
-reading-preserved c = pushes_piece 8 (arm_in c.args.at) c.reading.index c.args.words.now _ c.reading.arms.items c.push.new.self.items c.arm.result c.reading.invariant refl c.arm.ensures c.in_ok-push.ensures.items
+reading-preserved c = pushes_piece 8 (arm_in c.args.at) c.reading.index c.args.words.now _ c.reading.arms.items c.push.new.self.items c.arm.result
+    c.reading.invariant refl c.arm.ensures c.in_ok-push.ensures.items
 
 pub returns : goal.returns
 unfolding arms_in
-returns c = c.from_vec.ensures ∙ c.reading.invariant ∙ ap (λ (k : ℕ). in_pieces 8 (arm_in c.args.at) k c.args.words.now) (omega (arith, c.reading-test.false, c.reading.auto.index-end))
+returns c = c.from_vec.ensures ∙ c.reading.invariant ∙ ap (λ (k : ℕ). in_pieces 8 (arm_in c.args.at) k c.args.words.now)
+    (omega (arith, c.reading-test.false, c.reading.auto.index-end))

@@ -1,4 +1,4 @@
-use Rattle.jc_insn.proofs.WritingLaws.{ArmsPut}
+use Rattle.jc_insn.proofs.InsnWritingLaws.{ArmsPut}
 use Rattle.jc_insn.proofs.write.put_arms.Given as goal
 
 -- the arms so far

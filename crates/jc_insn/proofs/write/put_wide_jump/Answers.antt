@@ -1,4 +1,4 @@
-use Rattle.jc_insn.proofs.WritingLaws.{jump_tests}
+use Rattle.jc_insn.proofs.InsnWritingLaws.{jump_tests}
 use Rattle.jc_insn.proofs.write.put_wide_jump.Goals as goal
 
 pub inverse-requires : goal.inverse-requires

@@ -17,10 +17,10 @@ use Rattle.jc_base.specs.Insn.{IsWellFormed, IsAscending, arm_count}
 use Rattle.jc_insn.specs.declared.item.Item.TheVariants as items
 use Rattle.jc_insn.specs.Fields.{nothing, byte, piece, Then, only_if}
 use Rattle.jc_insn.specs.Items.{number, padding, key_count, target_of, in_pieces, place_in, places_in, arm_in, arms_in, ascending, table_operands, lookup_operands, wide_operands, operands, IsItem}
-use Rattle.jc_insn.specs.Sizes.{size_of, push_size, local_size, is_narrow_inc, IsLeast}
-use Rattle.jc_insn.proofs.CodeTextsLaws.{same_size}
-use Rattle.jc_insn.proofs.ItemsLaws.{insn_is, not_subroutine}
-use Rattle.jc_insn.proofs.TextsLaws.{true_test, both_true, le_true, true_le}
+use Rattle.jc_insn.specs.Sizes.{size_of, push_size, local_size, is_narrow_inc, IsLeast, IsJump}
+use Rattle.jc_insn.proofs.TextSizesLaws.{same_size}
+use Rattle.jc_insn.proofs.ItemReadingLaws.{insn_is, not_subroutine}
+use Rattle.jc_insn.proofs.FieldTextsLaws.{true_test, both_true, le_true, true_le}
 
 -- what is known of an instruction behind whose opcode these bytes stand
 pub record Facts (at : ℕ) (rest : List ℕ) (insn : Insn) : Type 0 where
@@ -41,7 +41,8 @@ after_number n G bytes y t = let e = ap length t.parts in let both = length-appe
 after_byte : {Y : Type 0} (G : ℕ → List ℕ → Y → Type 0) (bytes : List ℕ) (y : Y) (t : Then byte G bytes y) → bytes ≡ t.value ∷ t.rest
 after_byte G bytes y t = t.parts ∙ ap (λ (l : List ℕ). l ++ t.rest) t.field
 
-after_piece : {Y : Type 0} (n : ℕ) (G : List ℕ → List ℕ → Y → Type 0) (bytes : List ℕ) (y : Y) (t : Then (piece n) G bytes y) → (length bytes ≡ n + length t.rest) × (length t.value ≡ n)
+after_piece : {Y : Type 0} (n : ℕ) (G : List ℕ → List ℕ → Y → Type 0) (bytes : List ℕ) (y : Y) (t : Then (piece n) G bytes y)
+    → (length bytes ≡ n + length t.rest) × (length t.value ≡ n)
 after_piece n G bytes y t =
     let e = ap length t.parts in
     let both = length-append t.front t.rest in
@@ -112,31 +113,38 @@ keys_end low high up fits = by (high -ℤ low) refl
 -- ---- by forms
 
 -- an instruction whose size never is above `most`, with no arms, where so many bytes stand behind the opcode
-plain : (at : ℕ) (rest : List ℕ) (insn known : Insn) → items.Insn insn ≡ items.Insn known → IsWellFormed known → arm_count known ≡ 0 → (All (λ b. b < 256) rest → size_of at false known ≤ suc (length rest)) → Facts at rest insn
+plain : (at : ℕ) (rest : List ℕ) (insn known : Insn) → items.Insn insn ≡ items.Insn known → IsWellFormed known → arm_count known ≡ 0
+    → (All (λ b. b < 256) rest → size_of at false known ≤ suc (length rest)) → Facts at rest insn
 plain at rest insn known e well none least = as_insn at rest insn known e (record { well_formed = well; least = least; few = omega (arith, none) })
 
-of_number : (at n : ℕ) (f : ℕ → Insn) (rest : List ℕ) (insn : Insn) → Then (number n) (λ v. nothing (items.Insn (f v))) rest (items.Insn insn) → ((x : ℕ) → IsWellFormed (f x)) → ((x : ℕ) → arm_count (f x) ≡ 0) → ((x : ℕ) → size_of at false (f x) ≤ suc n) → Facts at rest insn
+of_number : (at n : ℕ) (f : ℕ → Insn) (rest : List ℕ) (insn : Insn) → Then (number n) (λ v. nothing (items.Insn (f v))) rest (items.Insn insn)
+    → ((x : ℕ) → IsWellFormed (f x)) → ((x : ℕ) → arm_count (f x) ≡ 0) → ((x : ℕ) → size_of at false (f x) ≤ suc n) → Facts at rest insn
 of_number at n f rest insn t well none most =
     let size = after_number n (λ v. nothing (items.Insn (f v))) rest (items.Insn insn) t in
     let h = most t.value in
     plain at rest insn (f t.value) t.behind.1 (well t.value) (none t.value) (λ small. omega (arith, size, h))
 
-of_byte : (at : ℕ) (f : ℕ → Insn) (rest : List ℕ) (insn : Insn) → Then byte (λ v. nothing (items.Insn (f v))) rest (items.Insn insn) → ((x : ℕ) → IsWellFormed (f x)) → ((x : ℕ) → arm_count (f x) ≡ 0) → ((x : ℕ) → x < 256 → size_of at false (f x) ≤ 2) → Facts at rest insn
+of_byte : (at : ℕ) (f : ℕ → Insn) (rest : List ℕ) (insn : Insn) → Then byte (λ v. nothing (items.Insn (f v))) rest (items.Insn insn)
+    → ((x : ℕ) → IsWellFormed (f x)) → ((x : ℕ) → arm_count (f x) ≡ 0) → ((x : ℕ) → x < 256 → size_of at false (f x) ≤ 2) → Facts at rest insn
 of_byte at f rest insn t well none most =
     let is = after_byte (λ v. nothing (items.Insn (f v))) rest (items.Insn insn) t in
-    plain at rest insn (f t.value) t.behind.1 (well t.value) (none t.value) (λ small. let h = most t.value (small_byte rest t.rest t.value is small) in let e = ap length is in omega (arith, h, e))
+    plain at rest insn (f t.value) t.behind.1 (well t.value) (none t.value)
+    (λ small. let h = most t.value (small_byte rest t.rest t.value is small) in let e = ap length is in omega (arith, h, e))
 
-wide_facts : (at : ℕ) (form : Form) (op : ℕ) (rest : List ℕ) (insn : Insn) → form_of op ≡ form → wide_operands form op rest (items.Insn insn) → (IsWellFormed insn) × (size_of at false insn ≤ 2 + length rest) × (arm_count insn ≡ 0)
+wide_facts : (at : ℕ) (form : Form) (op : ℕ) (rest : List ℕ) (insn : Insn) → form_of op ≡ form → wide_operands form op rest (items.Insn insn)
+    → (IsWellFormed insn) × (size_of at false insn ≤ 2 + length rest) × (arm_count insn ≡ 0)
 unfolding wide_operands
 wide_facts at forms.Local op rest insn is t =
     let size = after_number 2 (λ v. nothing (items.Insn (insns.Local op v))) rest (items.Insn insn) t in
     let most = local_most t.value in
-    subst (λ (i : Insn). (IsWellFormed i) × (size_of at false i ≤ 2 + length rest) × (arm_count i ≡ 0)) (sym (insn_is insn (insns.Local op t.value) t.behind.1)) (is, omega (arith, size, most), refl)
+    subst (λ (i : Insn). (IsWellFormed i) × (size_of at false i ≤ 2 + length rest) × (arm_count i ≡ 0))
+    (sym (insn_is insn (insns.Local op t.value) t.behind.1)) (is, omega (arith, size, most), refl)
 wide_facts at forms.Inc op rest insn is t =
     let size = after_number 2 (λ s. Then (number 2) (λ b. nothing (items.Insn (insns.Inc s (cast_signed w16 b))))) rest (items.Insn insn) t in
     let more = after_number 2 (λ b. nothing (items.Insn (insns.Inc t.value (cast_signed w16 b)))) t.rest (items.Insn insn) t.behind in
     let most = cond_most (is_narrow_inc t.value (cast_signed w16 t.behind.value)) 3 6 6 (omega arith) (omega arith) in
-    subst (λ (i : Insn). (IsWellFormed i) × (size_of at false i ≤ 2 + length rest) × (arm_count i ≡ 0)) (sym (insn_is insn (insns.Inc t.value (cast_signed w16 t.behind.value)) t.behind.behind.1)) (tt, omega (arith, size, more, most), refl)
+    subst (λ (i : Insn). (IsWellFormed i) × (size_of at false i ≤ 2 + length rest) × (arm_count i ≡ 0))
+    (sym (insn_is insn (insns.Inc t.value (cast_signed w16 t.behind.value)) t.behind.behind.1)) (tt, omega (arith, size, more, most), refl)
 wide_facts at forms.Subroutine op rest insn is t = absurd (not_subroutine insn t.1.1)
 wide_facts at form op rest insn is t = absurd t
 
@@ -156,7 +164,8 @@ table_facts at rest insn t =
     let arms = places_in at tested.1.value in
     let arms_count : length arms ≡ count = length_in_pieces 4 (place_in at) (length tested.1.value / 4) tested.1.value ∙ omega (arith, words.1) in
     let up : l ≤ℤ h = true_le l h tested.0 in
-    let fits : (l +ℤ pos (length arms)) ≤ℤ pos 2147483648 = subst (λ (n : ℕ). (l +ℤ pos n) ≤ℤ pos 2147483648) (sym arms_count) (keys_end l h up (signed_word_range t.behind.behind.behind.value)) in
+    let fits : (l +ℤ pos (length arms)) ≤ℤ pos 2147483648 = subst (λ (n : ℕ). (l +ℤ pos n) ≤ℤ pos 2147483648) (sym arms_count)
+    (keys_end l h up (signed_word_range t.behind.behind.behind.value)) in
     as_insn at rest insn (insns.Table l (target_of at (cast_signed w32 t.behind.value)) arms) tested.1.behind.1
     (record {
       well_formed = (omega (arith, arms_count), fits);
@@ -190,27 +199,35 @@ unfolding operands
 facts at forms.Simple op rest insn is t = plain at rest insn (insns.Simple op) t.1 is refl (λ small. omega arith)
 facts at forms.PushByte op rest insn is t =
     let two : push_size (form_of op) ≡ 2 = ap push_size is in
-    of_byte at (λ v. insns.Push op (cast_signed w8 v)) rest insn t (λ v. inl (is, (signed_range v).0, (signed_range v).1)) (λ v. refl) (λ v small. omega (arith, two))
+    of_byte at (λ v. insns.Push op (cast_signed w8 v)) rest insn t (λ v. inl (is, (signed_range v).0, (signed_range v).1)) (λ v. refl)
+    (λ v small. omega (arith, two))
 facts at forms.PushShort op rest insn is t =
     let three : push_size (form_of op) ≡ 3 = ap push_size is in
     of_number at 2 (λ v. insns.Push op (cast_signed w16 v)) rest insn t (λ v. inr is) (λ v. refl) (λ v. omega (arith, three))
-facts at forms.ConstantByte op rest insn is t = of_byte at (λ v. insns.Constant v) rest insn t (λ v. tt) (λ v. refl) (λ v small. rw (lt-ltb v 256 small) (omega arith))
-facts at forms.ConstantShort op rest insn is t = of_number at 2 (λ v. insns.Constant v) rest insn t (λ v. tt) (λ v. refl) (λ v. cond_most (nat_lt v 256) 2 3 3 (omega arith) (omega arith))
+facts at forms.ConstantByte op rest insn is t = of_byte at (λ v. insns.Constant v) rest insn t (λ v. tt) (λ v. refl)
+    (λ v small. rw (lt-ltb v 256 small) (omega arith))
+facts at forms.ConstantShort op rest insn is t = of_number at 2 (λ v. insns.Constant v) rest insn t (λ v. tt) (λ v. refl)
+    (λ v. cond_most (nat_lt v 256) 2 3 3 (omega arith) (omega arith))
 facts at forms.Constant2 op rest insn is t = of_number at 2 (λ v. insns.Constant2 v) rest insn t (λ v. tt) (λ v. refl) (λ v. omega arith)
 facts at forms.Local op rest insn is t = of_byte at (λ v. insns.Local op v) rest insn t (λ v. is) (λ v. refl) (λ v small. local_in_byte v small)
 facts at forms.ShortLoad op rest insn is t =
     let few : (op - 26) % 4 < 4 = omega arith in
-    plain at rest insn (insns.Local (21 + (op - 26) / 4) ((op - 26) % 4)) t.1 (short_load_form op is) refl (λ small. rw (lt-ltb ((op - 26) % 4) 4 few) (omega arith))
+    plain at rest insn (insns.Local (21 + (op - 26) / 4) ((op - 26) % 4)) t.1 (short_load_form op is) refl
+    (λ small. rw (lt-ltb ((op - 26) % 4) 4 few) (omega arith))
 facts at forms.ShortStore op rest insn is t =
     let few : (op - 59) % 4 < 4 = omega arith in
-    plain at rest insn (insns.Local (54 + (op - 59) / 4) ((op - 59) % 4)) t.1 (short_store_form op is) refl (λ small. rw (lt-ltb ((op - 59) % 4) 4 few) (omega arith))
+    plain at rest insn (insns.Local (54 + (op - 59) / 4) ((op - 59) % 4)) t.1 (short_store_form op is) refl
+    (λ small. rw (lt-ltb ((op - 59) % 4) 4 few) (omega arith))
 facts at forms.Inc op rest insn is t =
     let first = after_byte (λ s. Then byte (λ b. nothing (items.Insn (insns.Inc s (cast_signed w8 b))))) rest (items.Insn insn) t in
     let second = after_byte (λ b. nothing (items.Insn (insns.Inc t.value (cast_signed w8 b)))) t.rest (items.Insn insn) t.behind in
     plain at rest insn (insns.Inc t.value (cast_signed w8 t.behind.value)) t.behind.behind.1 tt refl
-    (λ small. let a = ap length first in let b = ap length second in rw (narrow t.value t.behind.value (small_byte rest t.rest t.value first small)) (omega (arith, a, b)))
-facts at forms.Jump op rest insn is t = of_number at 2 (λ v. insns.Jump op (target_of at (cast_signed w16 v))) rest insn t (λ v. is) (λ v. refl) (λ v. omega arith)
-facts at forms.WideJump op rest insn is t = of_number at 4 (λ v. insns.Jump 167 (target_of at (cast_signed w32 v))) rest insn t (λ v. let rows = named_forms in rows.4) (λ v. refl) (λ v. omega arith)
+    (λ small. let a = ap length first in let b = ap length second in rw (narrow t.value t.behind.value (small_byte rest t.rest t.value first small))
+    (omega (arith, a, b)))
+facts at forms.Jump op rest insn is t = of_number at 2 (λ v. insns.Jump op (target_of at (cast_signed w16 v))) rest insn t (λ v. is) (λ v. refl)
+    (λ v. omega arith)
+facts at forms.WideJump op rest insn is t = of_number at 4 (λ v. insns.Jump 167 (target_of at (cast_signed w32 v))) rest insn t
+    (λ v. let rows = named_forms in rows.4) (λ v. refl) (λ v. omega arith)
 facts at forms.Subroutine op rest insn is t = absurd (not_subroutine insn t.1)
 facts at forms.Table op rest insn is t = table_facts at rest insn t
 facts at forms.Lookup op rest insn is t = lookup_facts at rest insn t
@@ -218,7 +235,8 @@ facts at forms.Member op rest insn is t = of_number at 2 (λ v. insns.Member op 
 facts at forms.Interface op rest insn is t =
     let place = after_number 2 (λ p. Then byte (λ c. Then byte (λ any. nothing (items.Insn (insns.Interface p c))))) rest (items.Insn insn) t in
     let count = ap length (after_byte (λ c. Then byte (λ any. nothing (items.Insn (insns.Interface t.value c)))) t.rest (items.Insn insn) t.behind) in
-    let zero_byte = ap length (after_byte (λ any. nothing (items.Insn (insns.Interface t.value t.behind.value))) t.behind.rest (items.Insn insn) t.behind.behind) in
+    let zero_byte = ap length (after_byte (λ any. nothing (items.Insn (insns.Interface t.value t.behind.value))) t.behind.rest
+    (items.Insn insn) t.behind.behind) in
     plain at rest insn (insns.Interface t.value t.behind.value) t.behind.behind.behind.1 tt refl (λ small. omega (arith, place, count, zero_byte))
 facts at forms.Dynamic op rest insn is t =
     let place = after_number 2 (λ p. Then (piece 2) (λ any. nothing (items.Insn (insns.Dynamic p)))) rest (items.Insn insn) t in
@@ -234,7 +252,8 @@ facts at forms.NewArray op rest insn is t =
 facts at forms.Multi op rest insn is t =
     let place = after_number 2 (λ p. Then byte (λ d. only_if (nat_le 1 d) (nothing (items.Insn (insns.Multi p d))))) rest (items.Insn insn) t in
     let dims = ap length (after_byte (λ d. only_if (nat_le 1 d) (nothing (items.Insn (insns.Multi t.value d)))) t.rest (items.Insn insn) t.behind) in
-    plain at rest insn (insns.Multi t.value t.behind.value) t.behind.behind.1.1 (some t.behind.value t.behind.behind.0) refl (λ small. omega (arith, place, dims))
+    plain at rest insn (insns.Multi t.value t.behind.value) t.behind.behind.1.1 (some t.behind.value t.behind.behind.0) refl
+    (λ small. omega (arith, place, dims))
   where
     some : (dims : ℕ) → nat_le 1 dims ≡ true → 1 ≤ dims
     some dims test = grind (arith, nat_tests)
@@ -269,3 +288,9 @@ is_least at insn size is = λ places spelled text same small item.
     let h = f.least small in
     let e : size_of at false spelled ≡ size = sym (same_size places at false spelled) ∙ ap (size_of at false) same ∙ sym is in
     omega (arith, h, e)
+
+-- only jumps take another number of bytes in the wide layout
+pub layout_size : (at : ℕ) (wide : Bool) (insn : Insn) → (wide ≡ true → IsJump insn → ⊥) → size_of at wide insn ≡ size_of at false insn
+layout_size at false insn other = refl
+layout_size at true (insns.Jump op to) other = absurd (other refl tt)
+layout_size at true insn other = refl

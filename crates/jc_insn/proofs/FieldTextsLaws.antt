@@ -20,21 +20,31 @@ use Rattle.jc_insn.specs.Fields.{nothing, byte, piece, Then}
 use Rattle.jc_insn.specs.Items.{number, target_of, in_pieces, place_in, wide_operands, operands, IsItem}
 use Rattle.jc_insn.specs.Sizes.{is_narrow_inc}
 use Rattle.jc_insn.specs.Writing.{short, word, signed_byte, signed_short, difference, short_code, local_text, inc_text}
-use Rattle.jc_insn.proofs.OffsetsLaws.{big_short, big_word, signed_byte_back, signed_short_back, word_target}
+use Rattle.jc_insn.proofs.NumberTextsLaws.{big_short, big_word, signed_byte_back, signed_short_back, word_target}
 
 -- ---- fields
 
 pub item_of : (at op : ℕ) (form : Form) (rest : List ℕ) (item : Item) → form_of op ≡ form → operands at form op rest item → IsItem at (op ∷ rest) item
 unfolding IsItem
-item_of at op form rest item is behind = record { value = op; front = op ∷ []; rest = rest; parts = refl; field = refl; behind = subst (λ (f : Form). operands at f op rest item) (sym is) behind }
+item_of at op form rest item is behind = record {
+  value = op;
+  front = op ∷ [];
+  rest = rest;
+  parts = refl;
+  field = refl;
+  behind = subst
+      (λ (f : Form). operands at f op rest item) (sym is) behind;
+}
 
 pub byte_then : {Y : Type 0} (G : ℕ → List ℕ → Y → Type 0) (x : ℕ) (rest : List ℕ) (y : Y) → G x rest y → Then byte G (x ∷ rest) y
 byte_then G x rest y g = record { value = x; front = x ∷ []; rest = rest; parts = refl; field = refl; behind = g }
 
-pub number_then : {Y : Type 0} (n : ℕ) (G : ℕ → List ℕ → Y → Type 0) (x : ℕ) (text rest : List ℕ) (y : Y) → IsBig n text x → G x rest y → Then (number n) G (text ++ rest) y
+pub number_then : {Y : Type 0} (n : ℕ) (G : ℕ → List ℕ → Y → Type 0) (x : ℕ) (text rest : List ℕ) (y : Y) → IsBig n text x → G x rest y
+    → Then (number n) G (text ++ rest) y
 number_then n G x text rest y big g = record { value = x; front = text; rest = rest; parts = refl; field = big; behind = g }
 
-pub piece_then : {Y : Type 0} (n : ℕ) (G : List ℕ → List ℕ → Y → Type 0) (text rest : List ℕ) (y : Y) → length text ≡ n → G text rest y → Then (piece n) G (text ++ rest) y
+pub piece_then : {Y : Type 0} (n : ℕ) (G : List ℕ → List ℕ → Y → Type 0) (text rest : List ℕ) (y : Y) → length text ≡ n → G text rest y
+    → Then (piece n) G (text ++ rest) y
 piece_then n G text rest y size g = record { value = text; front = text; rest = rest; parts = refl; field = (size, refl); behind = g }
 
 pub one_byte : (f : ℕ → Item) (x : ℕ) (item : Item) → item ≡ f x → Then byte (λ v. nothing (f v)) (x ∷ []) item
@@ -42,10 +52,12 @@ one_byte f x item is = byte_then (λ v. nothing (f v)) x [] item (refl, is)
 
 -- a number at the end
 pub one_number : (n : ℕ) (f : ℕ → Item) (x : ℕ) (text : List ℕ) (item : Item) → IsBig n text x → item ≡ f x → Then (number n) (λ v. nothing (f v)) text item
-one_number n f x text item big is = subst (λ (l : List ℕ). Then (number n) (λ v. nothing (f v)) l item) (append-nil text) (number_then n (λ v. nothing (f v)) x text [] item big (refl, is))
+one_number n f x text item big is = subst (λ (l : List ℕ). Then (number n) (λ v. nothing (f v)) l item) (append-nil text)
+    (number_then n (λ v. nothing (f v)) x text [] item big (refl, is))
 
 pub one_piece : (n : ℕ) (f : List ℕ → Item) (text : List ℕ) (item : Item) → length text ≡ n → item ≡ f text → Then (piece n) (λ v. nothing (f v)) text item
-one_piece n f text item size is = subst (λ (l : List ℕ). Then (piece n) (λ v. nothing (f v)) l item) (append-nil text) (piece_then n (λ v. nothing (f v)) text [] item size (refl, is))
+one_piece n f text item size is = subst (λ (l : List ℕ). Then (piece n) (λ v. nothing (f v)) l item) (append-nil text)
+    (piece_then n (λ v. nothing (f v)) text [] item size (refl, is))
 
 -- ---- pieces of the same size
 
@@ -57,7 +69,8 @@ length_pieces size w (x ∷ xs) each =
     let both = length-append (w x) (flat_map w xs) in
     omega (arith, front, rest, both)
 
-pub pieces_back : {X : Type 0} (P : X → Type 0) (size : ℕ) (f : List ℕ → X) (w : X → List ℕ) (xs : List X) → ((x : X) → length (w x) ≡ size) → ((x : X) (rest : List ℕ) → P x → f (w x ++ rest) ≡ x) → All P xs → in_pieces size f (length xs) (flat_map w xs) ≡ xs
+pub pieces_back : {X : Type 0} (P : X → Type 0) (size : ℕ) (f : List ℕ → X) (w : X → List ℕ) (xs : List X) → ((x : X) → length (w x) ≡ size)
+    → ((x : X) (rest : List ℕ) → P x → f (w x ++ rest) ≡ x) → All P xs → in_pieces size f (length xs) (flat_map w xs) ≡ xs
 pieces_back P size f w [] each back all = refl
 pieces_back P size f w (x ∷ xs) each back all =
     (λ i. back x (flat_map w xs) (All-head P x xs all) i ∷ in_pieces size f (length xs) (drop_at (w x) (flat_map w xs) size (each x) i))
@@ -86,14 +99,16 @@ local_is at op slot is fits = by (cases_lt slot 4) (cases_lt slot 256)
         let code = 26 + 4 * (op - 21) + slot in
         let op_is : op ≡ 21 + (code - 26) / 4 = omega (arith, few, low, high) in
         let slot_is : slot ≡ (code - 26) % 4 = omega (arith, few, low, high) in
-        item_of at code forms.ShortLoad [] (items.Insn (insns.Local op slot)) (load_form code (omega (arith, low)) (omega (arith, low, high, few))) (refl, λ i. items.Insn (insns.Local (op_is i) (slot_is i)))
+        item_of at code forms.ShortLoad [] (items.Insn (insns.Local op slot)) (load_form code (omega (arith, low)) (omega (arith, low, high, few)))
+        (refl, λ i. items.Insn (insns.Local (op_is i) (slot_is i)))
 
     store : slot < 4 → 54 ≤ op → op ≤ 58 → IsItem at ((59 + 4 * (op - 54) + slot) ∷ []) (items.Insn (insns.Local op slot))
     store few low high =
         let code = 59 + 4 * (op - 54) + slot in
         let op_is : op ≡ 54 + (code - 59) / 4 = omega (arith, few, low, high) in
         let slot_is : slot ≡ (code - 59) % 4 = omega (arith, few, low, high) in
-        item_of at code forms.ShortStore [] (items.Insn (insns.Local op slot)) (store_form code (omega (arith, low)) (omega (arith, low, high, few))) (refl, λ i. items.Insn (insns.Local (op_is i) (slot_is i)))
+        item_of at code forms.ShortStore [] (items.Insn (insns.Local op slot)) (store_form code (omega (arith, low)) (omega (arith, low, high, few)))
+        (refl, λ i. items.Insn (insns.Local (op_is i) (slot_is i)))
 
     in_opcode : slot < 4 → ((21 ≤ op) × (op ≤ 25)) ⊎ ((54 ≤ op) × (op ≤ 58)) → IsItem at (short_code op slot ∷ []) (items.Insn (insns.Local op slot))
     in_opcode few (inl (low, high)) = rw (lt-ltb op 54 (omega (arith, high))) (load few low high)
@@ -101,11 +116,14 @@ local_is at op slot is fits = by (cases_lt slot 4) (cases_lt slot 256)
 
     by : (slot < 4) ⊎ (4 ≤ slot) → (slot < 256) ⊎ (256 ≤ slot) → IsItem at (local_text op slot) (items.Insn (insns.Local op slot))
     by (inl few) b = rw (lt-ltb slot 4 few) (in_opcode few (local_codes op is))
-    by (inr more) (inl byte_fits) = rw (le-ltb slot 4 more, lt-ltb slot 256 byte_fits) (item_of at op forms.Local (slot ∷ []) (items.Insn (insns.Local op slot)) is (one_byte (λ v. items.Insn (insns.Local op v)) slot (items.Insn (insns.Local op slot)) refl))
+    by (inr more) (inl byte_fits) = rw (le-ltb slot 4 more, lt-ltb slot 256 byte_fits)
+        (item_of at op forms.Local (slot ∷ []) (items.Insn (insns.Local op slot)) is
+        (one_byte (λ v. items.Insn (insns.Local op v)) slot (items.Insn (insns.Local op slot)) refl))
     by (inr more) (inr wide) = rw (le-ltb slot 4 more, le-ltb slot 256 wide)
         (item_of at 196 forms.Wide (op ∷ short slot) (items.Insn (insns.Local op slot)) wide_form
         (byte_then (λ code. wide_operands (form_of code) code) op (short slot) (items.Insn (insns.Local op slot))
-        (subst (λ (f : Form). wide_operands f op (short slot) (items.Insn (insns.Local op slot))) (sym is) (one_number 2 (λ v. items.Insn (insns.Local op v)) slot (short slot) (items.Insn (insns.Local op slot)) (big_short slot fits) refl))))
+        (subst (λ (f : Form). wide_operands f op (short slot) (items.Insn (insns.Local op slot))) (sym is)
+        (one_number 2 (λ v. items.Insn (insns.Local op v)) slot (short slot) (items.Insn (insns.Local op slot)) (big_short slot fits) refl))))
 
 pub test_true : (b : Bool) → T b → b ≡ true
 test_true true h = refl
@@ -148,10 +166,14 @@ inc_is at slot by slot_fits by_fits = cases (is_narrow_inc slot by) refl
         (let n = narrow e in
         item_of at 132 forms.Inc (slot ∷ signed_byte by ∷ []) (items.Insn (insns.Inc slot by)) inc_form
         (byte_then (λ s. Then byte (λ b. nothing (items.Insn (insns.Inc s (cast_signed w8 b))))) slot (signed_byte by ∷ []) (items.Insn (insns.Inc slot by))
-        (one_byte (λ b. items.Insn (insns.Inc slot (cast_signed w8 b))) (signed_byte by) (items.Insn (insns.Inc slot by)) (ap (λ (z : ℤ). items.Insn (insns.Inc slot z)) (sym (signed_byte_back by n.0 n.1))))))
+        (one_byte (λ b. items.Insn (insns.Inc slot (cast_signed w8 b))) (signed_byte by) (items.Insn (insns.Inc slot by))
+        (ap (λ (z : ℤ). items.Insn (insns.Inc slot z)) (sym (signed_byte_back by n.0 n.1))))))
     cases false e = rw e
         (item_of at 196 forms.Wide (132 ∷ short slot ++ signed_short by) (items.Insn (insns.Inc slot by)) wide_form
         (byte_then (λ code. wide_operands (form_of code) code) 132 (short slot ++ signed_short by) (items.Insn (insns.Inc slot by))
         (subst (λ (f : Form). wide_operands f 132 (short slot ++ signed_short by) (items.Insn (insns.Inc slot by))) (sym inc_form)
-        (number_then 2 (λ s. Then (number 2) (λ b. nothing (items.Insn (insns.Inc s (cast_signed w16 b))))) slot (short slot) (signed_short by) (items.Insn (insns.Inc slot by)) (big_short slot slot_fits)
-        (one_number 2 (λ b. items.Insn (insns.Inc slot (cast_signed w16 b))) (cast_unsigned w16 by) (signed_short by) (items.Insn (insns.Inc slot by)) (big_short (cast_unsigned w16 by) (short_fits by by_fits)) (ap (λ (z : ℤ). items.Insn (insns.Inc slot z)) (sym (signed_short_back by by_fits))))))))
+        (number_then 2 (λ s. Then (number 2) (λ b. nothing (items.Insn (insns.Inc s (cast_signed w16 b))))) slot (short slot) (signed_short by)
+        (items.Insn (insns.Inc slot by)) (big_short slot slot_fits)
+        (one_number 2 (λ b. items.Insn (insns.Inc slot (cast_signed w16 b))) (cast_unsigned w16 by) (signed_short by) (items.Insn (insns.Inc slot by))
+        (big_short (cast_unsigned w16 by) (short_fits by by_fits))
+        (ap (λ (z : ℤ). items.Insn (insns.Inc slot z)) (sym (signed_short_back by by_fits))))))))

@@ -1,9 +1,9 @@
--- What is written of code is read again.
+-- How many bytes are written of an instruction.
 use Rattle.std.proofs.Common.{◌≡◌, ℕ, ◌+◌, ◌-◌, ◌*◌, ◌%◌, ◌<◌, ◌≤◌, Bool, true, false, cond, List, [], ◌∷◌, ◌++◌, length, map, get_or, All, nat_eq, nat_lt, refl, sym, ap, subst, arith, w16, w32, ℤ, pos, length-append}
 use Rattle.std.specs.Prelude.{FitsSigned, ◌≤ℤ◌, ◌+ℤ◌}
 use Rattle.std.specs.List.{flat_map}
 use Rattle.std.specs.Int.{cast_unsigned}
-use Rattle.std.proofs.lemmas.List.{length-map}
+use Rattle.std.proofs.lemmas.List.{length-map, map-id}
 use Rattle.std.proofs.lemmas.List.Elements.{All-map, All-nil, All-cons, All-tail}
 use Rattle.jc_base.specs.declared.form.Form.{Form}
 use Rattle.jc_base.specs.declared.form.Form.TheVariants as forms
@@ -16,10 +16,8 @@ use Rattle.jc_base.specs.Flow.{targets_of, inverse_of}
 use Rattle.jc_insn.specs.Items.{padding}
 use Rattle.jc_insn.specs.Sizes.{size_of, push_size, is_narrow_inc}
 use Rattle.jc_insn.specs.Writing.{short, word, signed_byte, signed_short, difference, push_text, local_text, inc_text, constant_text, pad_text, arm_text, last_key, table_text, lookup_text, jump_text, insn_text, IsInRange}
-use Rattle.jc_insn.proofs.OffsetsLaws.{short_size, word_size}
+use Rattle.jc_insn.proofs.NumberTextsLaws.{short_size, word_size}
 use Rattle.jc_insn.proofs.SwitchTextsLaws.{pad_length, places_length, arms_length}
-
--- ---- sizes
 
 push_text_size : (form : Form) (op : ℕ) (value : ℤ) → length (push_text form op value) ≡ push_size form
 push_text_size forms.PushByte op value = refl
@@ -28,7 +26,8 @@ push_text_size form op value = let e = short_size (cast_unsigned w16 value) in o
 local_text_size : (op slot : ℕ) → length (local_text op slot) ≡ cond (nat_lt slot 4) 1 (cond (nat_lt slot 256) 2 4)
 local_text_size op slot = by (nat_lt slot 4) (nat_lt slot 256)
   where
-    by : (a b : Bool) → length (cond a (cond (nat_lt op 54) (26 + 4 * (op - 21) + slot) (59 + 4 * (op - 54) + slot) ∷ []) (cond b (op ∷ slot ∷ []) (196 ∷ op ∷ short slot))) ≡ cond a 1 (cond b 2 4)
+    by : (a b : Bool) → length (cond a (cond (nat_lt op 54) (26 + 4 * (op - 21) + slot) (59 + 4 * (op - 54) + slot) ∷ [])
+        (cond b (op ∷ slot ∷ []) (196 ∷ op ∷ short slot))) ≡ cond a 1 (cond b 2 4)
     by true b = refl
     by false true = refl
     by false false = let e = short_size slot in omega (arith, e)
@@ -124,51 +123,3 @@ pub same_size : (f : ℕ → ℕ) (at : ℕ) (wide : Bool) (insn : Insn) → siz
 same_size f at wide (insns.Table low default arms) = ap (λ (n : ℕ). 13 + padding at + 4 * n) (length-map arms f)
 same_size f at wide (insns.Lookup default arms) = ap (λ (n : ℕ). 9 + padding at + 8 * n) (length-map arms (arm_with_place f))
 same_size f at wide insn = refl
-
--- ---- places
-
-ascending_map : (f : ℕ → ℕ) (arms : List Arm) → IsAscending arms → IsAscending (map (arm_with_place f) arms)
-ascending_map f [] up = tt
-ascending_map f (a ∷ []) up = tt
-ascending_map f (a ∷ b ∷ arms) up = (up.0, ascending_map f (b ∷ arms) up.1)
-
-pub well_formed_with : (f : ℕ → ℕ) (insn : Insn) → IsWellFormed insn → IsWellFormed (with_places f insn)
-well_formed_with f (insns.Table low default arms) well =
-    (subst (λ (n : ℕ). 1 ≤ n) (sym (length-map arms f)) well.0, subst (λ (n : ℕ). (low +ℤ pos n) ≤ℤ pos 2147483648) (sym (length-map arms f)) well.1)
-well_formed_with f (insns.Lookup default arms) well =
-    (subst (λ (n : ℕ). n < 2147483648) (sym (length-map arms (arm_with_place f))) well.0, ascending_map f arms well.1)
-well_formed_with f insn well = well
-
-pub in_range_with : (f : ℕ → ℕ) (insn : Insn) → IsInRange insn → IsInRange (with_places f insn)
-in_range_with f (insns.Lookup default arms) fits = All-map (λ arm. FitsSigned w32 arm.key) (arm_with_place f) arms fits
-in_range_with f insn fits = fits
-
-all_of : {X : Type 0} (P : X → Type 0) (xs : List X) → ((x : X) → P x) → All P xs
-all_of P xs each k d below = each (get_or xs k d)
-
-pub targets_fit : (f : ℕ → ℕ) (n : ℕ) (insn : Insn) → ((k : ℕ) → f k < n) → All (λ to. to < n) (targets_of (with_places f insn))
-targets_fit f n (insns.Jump op to) fits = All-cons (λ t. t < n) (f to) [] (fits to) (All-nil (λ t. t < n))
-targets_fit f n (insns.Table low default arms) fits = All-cons (λ t. t < n) (f default) (map f arms) (fits default) (All-map (λ t. t < n) f arms (all_of (λ k. f k < n) arms fits))
-targets_fit f n (insns.Lookup default arms) fits =
-    All-cons (λ t. t < n) (f default) (map (λ (a : Arm). a.to) (map (arm_with_place f) arms)) (fits default)
-    (All-map (λ t. t < n) (λ (a : Arm). a.to) (map (arm_with_place f) arms) (All-map (λ (a : Arm). a.to < n) (arm_with_place f) arms (all_of (λ a. f a.to < n) arms (λ a. fits a.to))))
-targets_fit f n insn fits = All-nil (λ t. t < n)
-
-map_back : (f g : ℕ → ℕ) (xs : List ℕ) → All (λ x. g (f x) ≡ x) xs → map g (map f xs) ≡ xs
-map_back f g [] all = refl
-map_back f g (x ∷ xs) all = λ i. all 0 x (omega arith) i ∷ map_back f g xs (All-tail (λ x. g (f x) ≡ x) x xs all) i
-
-arms_back : (f g : ℕ → ℕ) (xs : List Arm) → All (λ x. g (f x) ≡ x) (map (λ (a : Arm). a.to) xs) → map (arm_with_place g) (map (arm_with_place f) xs) ≡ xs
-arms_back f g [] all = refl
-arms_back f g (x ∷ xs) all = λ i. record { key = x.key; to = all 0 x.to (omega arith) i } ∷ arms_back f g xs (All-tail (λ x. g (f x) ≡ x) x.to (map (λ (a : Arm). a.to) xs) all) i
-
--- places that are replaced and replaced back
-places_back : (f g : ℕ → ℕ) (insn : Insn) → All (λ to. g (f to) ≡ to) (targets_of insn) → with_places g (with_places f insn) ≡ insn
-places_back f g (insns.Jump op to) all = ap (insns.Jump op) (all 0 to (omega arith))
-places_back f g (insns.Table low default arms) all = λ i. insns.Table low (all 0 default (omega arith) i) (map_back f g arms (All-tail (λ x. g (f x) ≡ x) default arms all) i)
-places_back f g (insns.Lookup default arms) all = λ i. insns.Lookup (all 0 default (omega arith) i) (arms_back f g arms (All-tail (λ x. g (f x) ≡ x) default (map (λ (a : Arm). a.to) arms) all) i)
-places_back f g insn all = refl
-
-pub code_back : (f g : ℕ → ℕ) (code : List Insn) → All (λ insn. All (λ to. g (f to) ≡ to) (targets_of insn)) code → map (with_places g) (map (with_places f) code) ≡ code
-code_back f g [] all = refl
-code_back f g (insn ∷ code) all = λ i. places_back f g insn (all 0 insn (omega arith)) i ∷ code_back f g code (All-tail (λ insn. All (λ to. g (f to) ≡ to) (targets_of insn)) insn code all) i

@@ -37,14 +37,16 @@ some_size at wide (insns.Lookup default arms) = omega arith
 
 pub count_starts : (wide : Bool) (at : ℕ) (code : List Insn) (starts : List ℕ) → StartAt wide at code starts → length starts ≡ length code + 1
 count_starts wide at [] starts s = ap length s
-count_starts wide at (insn ∷ code) starts (later, is, more) = let e = ap length is in let ih = count_starts wide (at + size_of at wide insn) code later more in omega (arith, e, ih)
+count_starts wide at (insn ∷ code) starts (later, is, more) = let e = ap length is in let ih = count_starts wide
+    (at + size_of at wide insn) code later more in omega (arith, e, ih)
 
 pub first_start : (wide : Bool) (at : ℕ) (code : List Insn) (starts : List ℕ) → StartAt wide at code starts → get_or starts 0 0 ≡ at
 first_start wide at [] starts s = ap (λ (l : List ℕ). get_or l 0 0) s
 first_start wide at (insn ∷ code) starts (later, is, more) = ap (λ (l : List ℕ). get_or l 0 0) is
 
 -- none of the offsets is below the first
-pub above_first : (wide : Bool) (at : ℕ) (code : List Insn) (starts : List ℕ) → StartAt wide at code starts → (k : ℕ) → k < length starts → at ≤ get_or starts k 0
+pub above_first : (wide : Bool) (at : ℕ) (code : List Insn) (starts : List ℕ) → StartAt wide at code starts → (k : ℕ) → k < length starts
+    → at ≤ get_or starts k 0
 above_first wide at [] starts s zero below = let e = ap (λ (l : List ℕ). get_or l 0 0) s in omega (arith, e)
 above_first wide at [] starts s (suc k) below = let e = ap length s in absurd (omega (arith, e, below))
 above_first wide at (insn ∷ code) starts (later, is, more) zero below = let e = ap (λ (l : List ℕ). get_or l 0 0) is in omega (arith, e)
@@ -55,7 +57,8 @@ above_first wide at (insn ∷ code) starts (later, is, more) (suc k) below =
     omega (arith, e, ih)
 
 -- and none is above the last
-pub below_last : (wide : Bool) (at : ℕ) (code : List Insn) (starts : List ℕ) → StartAt wide at code starts → (k : ℕ) → k < length starts → get_or starts k 0 ≤ get_or starts (length code) 0
+pub below_last : (wide : Bool) (at : ℕ) (code : List Insn) (starts : List ℕ) → StartAt wide at code starts → (k : ℕ) → k < length starts
+    → get_or starts k 0 ≤ get_or starts (length code) 0
 below_last wide at [] starts s zero below = omega arith
 below_last wide at [] starts s (suc k) below = let e = ap length s in absurd (omega (arith, e, below))
 below_last wide at (insn ∷ code) starts (later, is, more) zero below =
@@ -71,22 +74,25 @@ below_last wide at (insn ∷ code) starts (later, is, more) (suc k) below =
     let ih = below_last wide (at + size_of at wide insn) code later more k (omega (arith, long, below)) in
     omega (arith, e, end, ih)
 
-step_in : (at offset : ℕ) (later : List ℕ) → at ≢ offset → 1 ≤ length later → insn_number (at ∷ later) offset ≡ 1 + insn_number later offset
+pub step_in : (at offset : ℕ) (later : List ℕ) → at ≢ offset → 1 ≤ length later → insn_number (at ∷ later) offset ≡ 1 + insn_number later offset
 step_in at offset [] other some = absurd (omega (arith, some))
 step_in at offset (next ∷ later) other some = rw (ne_eqb at offset other) refl
 
+pub first_number : (at : ℕ) (later : List ℕ) → 1 ≤ length later → insn_number (at ∷ later) at ≡ 0
+first_number at [] some = absurd (omega (arith, some))
+first_number at (x ∷ later) some = rw (eq-eqb at at refl) refl
+
 -- the offset of an instruction has its number
-pub number_of_start : (wide : Bool) (at : ℕ) (code : List Insn) (starts : List ℕ) → StartAt wide at code starts → (k : ℕ) → k < length code → insn_number starts (get_or starts k 0) ≡ k
+pub number_of_start : (wide : Bool) (at : ℕ) (code : List Insn) (starts : List ℕ) → StartAt wide at code starts → (k : ℕ) → k < length code
+    → insn_number starts (get_or starts k 0) ≡ k
 number_of_start wide at [] starts s k below = absurd (omega (arith, below))
 number_of_start wide at (insn ∷ code) starts (later, is, more) zero below =
-    ap (λ (l : List ℕ). insn_number l (get_or l 0 0)) is ∙ first later (let long = count_starts wide (at + size_of at wide insn) code later more in omega (arith, long))
-  where
-    first : (l : List ℕ) → 1 ≤ length l → insn_number (at ∷ l) at ≡ 0
-    first [] some = absurd (omega (arith, some))
-    first (x ∷ l) some = rw (eq-eqb at at refl) refl
+    ap (λ (l : List ℕ). insn_number l (get_or l 0 0)) is ∙ first_number at later
+    (let long = count_starts wide (at + size_of at wide insn) code later more in omega (arith, long))
 number_of_start wide at (insn ∷ code) starts (later, is, more) (suc k) below =
     let long = count_starts wide (at + size_of at wide insn) code later more in
     let above = above_first wide (at + size_of at wide insn) code later more k (omega (arith, long, below)) in
     let some = some_size at wide insn in
     let ih = number_of_start wide (at + size_of at wide insn) code later more k (omega (arith, below)) in
-    ap (λ (l : List ℕ). insn_number l (get_or l (suc k) 0)) is ∙ step_in at (get_or later k 0) later (λ e. absurd (omega (arith, e, above, some))) (omega (arith, long)) ∙ omega (arith, ih)
+    ap (λ (l : List ℕ). insn_number l (get_or l (suc k) 0)) is ∙ step_in at (get_or later k 0) later (λ e. absurd (omega (arith, e, above, some)))
+    (omega (arith, long)) ∙ omega (arith, ih)

@@ -70,7 +70,8 @@ short_target at to at_fits to_fits near = by (cases_lt to at)
         ∙ omega (arith, forward, to_fits)
     by (inl backward) =
         let back : difference at to % 65536 ≡ 65536 - (at - to) = omega (arith, backward, near, at_fits, to_fits) in
-        let negative : cast_signed w16 (65536 - (at - to)) ≡ negsuc (at - to - 1) = rw (le-ltb (65536 - (at - to)) 32768 (omega (arith, backward, near))) (ap negsuc (let e : 65536 - suc (65536 - (at - to)) ≡ at - to - 1 = omega (arith, backward, near) in e)) in
+        let negative : cast_signed w16 (65536 - (at - to)) ≡ negsuc (at - to - 1) = rw (le-ltb (65536 - (at - to)) 32768 (omega (arith, backward, near)))
+        (ap negsuc (let e : 65536 - suc (65536 - (at - to)) ≡ at - to - 1 = omega (arith, backward, near) in e)) in
         ap (λ (x : ℕ). target_of at (cast_signed w16 x)) back
         ∙ ap (target_of at) negative
         ∙ omega (arith, backward, at_fits, to_fits, near)

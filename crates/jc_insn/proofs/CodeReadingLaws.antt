@@ -17,7 +17,7 @@ use Rattle.jc_insn.specs.Spells.{SpellsFrom, IsFault, FaultBehind}
 use Rattle.jc_base.specs.declared.fail.Fail.{Fail}
 use Rattle.jc_base.specs.declared.fail.Fail.TheVariants as fails
 use Rattle.jc_insn.specs.Decoding.{Stops, Refuses, GivesNext}
-use Rattle.jc_insn.proofs.ItemsLaws.{reads_item}
+use Rattle.jc_insn.proofs.ItemReadingLaws.{reads_item}
 
 -- an item has an opcode
 pub some_bytes : (at : ℕ) (text : List ℕ) (item : Item) → IsItem at text item → 1 ≤ length text
@@ -27,13 +27,15 @@ some_bytes at text item is = let e = ap length is.parts ∙ length-append is.fro
 -- what is left completes what was read: the instructions so far and the rest spell the whole
 pub record Progress (bytes : List ℕ) (reader : Reading) (code : List Insn) (starts : List ℕ) : Type 0 where
   pub spelled : (more : List Insn) (later : List ℕ) → SpellsFrom reader.place reader.left more later → SpellsFrom 0 bytes (code ++ more) (starts ++ later)
-  pub fault : (more : List Insn) (kind : RefusalKind) (place : ℕ) → FaultBehind reader.place reader.left more kind place → FaultBehind 0 bytes (code ++ more) kind place
+  pub fault : (more : List Insn) (kind : RefusalKind) (place : ℕ) → FaultBehind reader.place reader.left more kind place
+      → FaultBehind 0 bytes (code ++ more) kind place
   pub whole : reader.place + length reader.left ≡ length bytes
   pub within : All (λ start. start < length bytes + 1) starts
   pub count : length starts ≡ length code
   pub few : length code ≤ reader.place
 
-pub begins : (bytes : List ℕ) (reader : Reading) (code : List Insn) (starts : List ℕ) → reader.left ≡ bytes → reader.place ≡ 0 → code ≡ [] → starts ≡ [] → Progress bytes reader code starts
+pub begins : (bytes : List ℕ) (reader : Reading) (code : List Insn) (starts : List ℕ) → reader.left ≡ bytes → reader.place ≡ 0 → code ≡ [] → starts ≡ []
+    → Progress bytes reader code starts
 begins bytes reader code starts left place no_code no_starts = record {
   spelled = λ more later s. begin_spelled more later s;
   fault = λ more kind at f. begin_fault more kind at f;
@@ -46,7 +48,8 @@ begins bytes reader code starts left place no_code no_starts = record {
     begin_spelled : (more : List Insn) (later : List ℕ) → SpellsFrom reader.place reader.left more later → SpellsFrom 0 bytes (code ++ more) (starts ++ later)
     begin_spelled more later s = rw (no_code, no_starts) (rw (left, place) at s)
 
-    begin_fault : (more : List Insn) (kind : RefusalKind) (at : ℕ) → FaultBehind reader.place reader.left more kind at → FaultBehind 0 bytes (code ++ more) kind at
+    begin_fault : (more : List Insn) (kind : RefusalKind) (at : ℕ) → FaultBehind reader.place reader.left more kind at
+        → FaultBehind 0 bytes (code ++ more) kind at
     begin_fault more kind at f = rw no_code (rw (left, place) at f)
 
 -- the item that was read, and the offset behind it
@@ -73,7 +76,8 @@ one_more : {X : Type 0} (xs ys more : List X) (x : X) → ys ≡ xs ++ x ∷ [] 
 one_more xs ys more x e = sym (append_assoc xs (x ∷ []) more) ∙ ap (λ l. l ++ more) (sym e)
 
 pub goes_on : (bytes : List ℕ) (reader after : Reading) (code code' : List Insn) (starts starts' : List ℕ) (insn : Insn) (start : ℕ)
-    → Progress bytes reader code starts → GivesNext (Ok insn) reader after → SameEnd reader after → code' ≡ code ++ insn ∷ [] → start ≡ reader.place → starts' ≡ starts ++ start ∷ []
+    → Progress bytes reader code starts → GivesNext (Ok insn) reader after → SameEnd reader after → code' ≡ code ++ insn ∷ [] → start ≡ reader.place
+    → starts' ≡ starts ++ start ∷ []
     → Progress bytes after code' starts'
 goes_on bytes reader after code code' starts starts' insn start so_far read end code_is start_is starts_is =
     let t = taken reader after (items.Insn insn) read end in
@@ -84,27 +88,41 @@ goes_on bytes reader after code code' starts starts' insn start so_far read end 
       spelled = λ more later s. spelled t more later s;
       fault = λ more kind place f. fault t more kind place f;
       whole = omega (arith, end, so_far.whole);
-      within = subst (All (λ start. start < length bytes + 1)) (sym starts_is) (All-push (λ start. start < length bytes + 1) starts start so_far.within (omega (arith, start_is, so_far.whole)));
+      within = subst (All (λ start. start < length bytes + 1)) (sym starts_is)
+          (All-push (λ start. start < length bytes + 1) starts start so_far.within (omega (arith, start_is, so_far.whole)));
       count = omega (arith, more_code, more_starts, so_far.count);
       few = omega (arith, more_code, so_far.few, t.place, t.some);
     }
   where
-    spelled : Taken reader after (items.Insn insn) → (more : List Insn) (later : List ℕ) → SpellsFrom after.place after.left more later → SpellsFrom 0 bytes (code' ++ more) (starts' ++ later)
+    spelled : Taken reader after (items.Insn insn) → (more : List Insn) (later : List ℕ) → SpellsFrom after.place after.left more later
+        → SpellsFrom 0 bytes (code' ++ more) (starts' ++ later)
     spelled t more later s =
-        let whole = so_far.spelled (insn ∷ more) (start ∷ later) (t.text, after.left, later, t.parts, ap (λ (p : ℕ). p ∷ later) start_is, t.is, subst (λ (p : ℕ). SpellsFrom p after.left more later) t.place s) in
+        let whole = so_far.spelled (insn ∷ more) (start ∷ later) (
+          t.text,
+          after.left,
+          later,
+          t.parts,
+          ap (λ (p : ℕ). p ∷ later) start_is,
+          t.is,
+          subst
+              (λ (p : ℕ). SpellsFrom p after.left more later) t.place s,
+        ) in
         subst (λ (l : List ℕ). SpellsFrom 0 bytes (code' ++ more) l) (one_more starts starts' later start starts_is)
         (subst (λ (l : List Insn). SpellsFrom 0 bytes l (starts ++ start ∷ later)) (one_more code code' more insn code_is) whole)
 
-    fault : Taken reader after (items.Insn insn) → (more : List Insn) (kind : RefusalKind) (place : ℕ) → FaultBehind after.place after.left more kind place → FaultBehind 0 bytes (code' ++ more) kind place
+    fault : Taken reader after (items.Insn insn) → (more : List Insn) (kind : RefusalKind) (place : ℕ)
+        → FaultBehind after.place after.left more kind place → FaultBehind 0 bytes (code' ++ more) kind place
     fault t more kind place f =
         subst (λ (l : List Insn). FaultBehind 0 bytes l kind place) (one_more code code' more insn code_is)
         (so_far.fault (insn ∷ more) kind place (t.text, after.left, t.parts, t.is, subst (λ (p : ℕ). FaultBehind p after.left more kind place) t.place f))
 
 -- at the end of the bytes the instructions are whole
-pub finishes : (bytes : List ℕ) (reader : Reading) (code : List Insn) (starts starts' : List ℕ) (start : ℕ) → Progress bytes reader code starts → length bytes ≤ reader.place → start ≡ reader.place → starts' ≡ starts ++ start ∷ [] → SpellsFrom 0 bytes code starts'
+pub finishes : (bytes : List ℕ) (reader : Reading) (code : List Insn) (starts starts' : List ℕ) (start : ℕ) → Progress bytes reader code starts
+    → length bytes ≤ reader.place → start ≡ reader.place → starts' ≡ starts ++ start ∷ [] → SpellsFrom 0 bytes code starts'
 finishes bytes reader code starts starts' start so_far end start_is starts_is =
     let none : length reader.left ≡ 0 = omega (arith, so_far.whole, end) in
-    rw starts_is (subst (λ (l : List Insn). SpellsFrom 0 bytes l (starts ++ start ∷ [])) (append-nil code) (so_far.spelled [] (start ∷ []) (empty reader.left none, ap (λ (p : ℕ). p ∷ []) start_is)))
+    rw starts_is (subst (λ (l : List Insn). SpellsFrom 0 bytes l (starts ++ start ∷ [])) (append-nil code)
+    (so_far.spelled [] (start ∷ []) (empty reader.left none, ap (λ (p : ℕ). p ∷ []) start_is)))
   where
     empty : (l : List ℕ) → length l ≡ 0 → l ≡ []
     empty [] e = refl
@@ -119,7 +137,8 @@ stops reader kinds.BadCode some none = record {
 }
 stops reader kind some stop = absurd stop
 
-pub refuses : (bytes : List ℕ) (reader after : Reading) (code : List Insn) (starts : List ℕ) (e : Fail Refusal) → Progress bytes reader code starts → reader.place < length bytes → GivesNext (Err e) reader after → Refuses e bytes
+pub refuses : (bytes : List ℕ) (reader after : Reading) (code : List Insn) (starts : List ℕ) (e : Fail Refusal) → Progress bytes reader code starts
+    → reader.place < length bytes → GivesNext (Err e) reader after → Refuses e bytes
 refuses bytes reader after code starts fails.Memory so_far below stop = tt
 refuses bytes reader after code starts (fails.Said refusal) so_far below (method, place, stop) = record {
   method = method;

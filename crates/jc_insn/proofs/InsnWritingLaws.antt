@@ -36,31 +36,40 @@ zeros (suc (suc (suc zero))) few = refl
 zeros (suc (suc (suc (suc n)))) few = absurd (omega (arith, few))
 
 -- six pieces that were put one behind the other
-pub six_pieces : (a b c d e f g : List ℕ) (x : ℕ) (p q r s t : List ℕ) → b ≡ a ++ x ∷ [] → c ≡ b ++ p → d ≡ c ++ q → e ≡ d ++ r → f ≡ e ++ s → g ≡ f ++ t → g ≡ a ++ x ∷ (p ++ (q ++ (r ++ (s ++ t))))
+pub six_pieces : (a b c d e f g : List ℕ) (x : ℕ) (p q r s t : List ℕ) → b ≡ a ++ x ∷ [] → c ≡ b ++ p → d ≡ c ++ q → e ≡ d ++ r → f ≡ e ++ s → g ≡ f ++ t
+    → g ≡ a ++ x ∷ (p ++ (q ++ (r ++ (s ++ t))))
 six_pieces a b c d e f g x p q r s t ab bc cd de ef fg = rw (fg, ef, de, cd, bc, ab) (simp append_assoc)
 
 -- where the arms of a switch lead
-pub table_places : (P : ℕ → Type 0) (insn : Insn) (low : ℤ) (default : ℕ) (arms seen : List ℕ) → insn ≡ insns.Table low default arms → seen ≡ arms → All P (targets_of insn) → All P seen
+pub table_places : (P : ℕ → Type 0) (insn : Insn) (low : ℤ) (default : ℕ) (arms seen : List ℕ) → insn ≡ insns.Table low default arms → seen ≡ arms
+    → All P (targets_of insn) → All P seen
 table_places P insn low default arms seen is seen_is all =
     subst (λ (l : List ℕ). All P l) (sym seen_is) (All-tail P default arms (subst (λ (i : Insn). All P (targets_of i)) is all))
 
-pub lookup_places : (P : ℕ → Type 0) (insn : Insn) (default : ℕ) (arms seen : List Arm) → insn ≡ insns.Lookup default arms → seen ≡ arms → All P (targets_of insn) → All (λ arm. P arm.to) seen
+pub lookup_places : (P : ℕ → Type 0) (insn : Insn) (default : ℕ) (arms seen : List Arm) → insn ≡ insns.Lookup default arms → seen ≡ arms
+    → All P (targets_of insn) → All (λ arm. P arm.to) seen
 lookup_places P insn default arms seen is seen_is all =
     subst (λ (l : List Arm). All (λ arm. P arm.to) l) (sym seen_is) (λ k d below. each k d below)
   where
     each : (k : ℕ) (d : Arm) → k < length arms → P (get_or arms k d).to
     each k d below =
-        let behind : All P (map (λ (a : Arm). a.to) arms) = All-tail P default (map (λ (a : Arm). a.to) arms) (subst (λ (i : Insn). All P (targets_of i)) is all) in
+        let behind : All P (map (λ (a : Arm). a.to) arms) = All-tail P default (map (λ (a : Arm). a.to) arms)
+        (subst (λ (i : Insn). All P (targets_of i)) is all) in
         subst P (get_or-map (λ (a : Arm). a.to) arms k d d.to below) (behind k d.to (omega (arith, length-map arms (λ (a : Arm). a.to), below)))
 
 pub local_of : (insn : Insn) (op slot : ℕ) → insn ≡ insns.Local op slot → IsWellFormed insn → ((21 ≤ op) × (op ≤ 25)) ⊎ ((54 ≤ op) × (op ≤ 58))
 local_of insn op slot is well = local_codes op (subst IsWellFormed is well)
 
 -- one instruction more
-pub writes_on : (places : ℕ → ℕ) (wide : Bool) (code : List Insn) (starts : List ℕ) (number : ℕ) (insn : Insn) (old new whole : List ℕ) → number < length code → number < length starts → insn ≡ get_or code number insn → old ++ code_text places wide (drop number code) (drop number starts) ≡ whole → new ≡ old ++ insn_text (get_or starts number 0) wide (with_places places insn) → new ++ code_text places wide (drop (number + 1) code) (drop (number + 1) starts) ≡ whole
+pub writes_on : (places : ℕ → ℕ) (wide : Bool) (code : List Insn) (starts : List ℕ) (number : ℕ) (insn : Insn) (old new whole : List ℕ)
+    → number < length code → number < length starts → insn ≡ get_or code number insn
+    → old ++ code_text places wide (drop number code) (drop number starts) ≡ whole
+    → new ≡ old ++ insn_text (get_or starts number 0) wide (with_places places insn)
+    → new ++ code_text places wide (drop (number + 1) code) (drop (number + 1) starts) ≡ whole
 writes_on places wide code starts number insn old new whole in_code in_starts insn_is so_far wrote =
     let next : number + 1 ≡ suc number = omega arith in
-    let code_is : drop number code ≡ insn ∷ drop (suc number) code = drop-cons code number insn in_code ∙ ap (λ (i : Insn). i ∷ drop (suc number) code) (sym insn_is) in
+    let code_is : drop number code ≡ insn ∷ drop (suc number) code = drop-cons code number insn in_code
+    ∙ ap (λ (i : Insn). i ∷ drop (suc number) code) (sym insn_is) in
     let starts_is : drop number starts ≡ get_or starts number 0 ∷ drop (suc number) starts = drop-cons starts number 0 in_starts in
     let front = insn_text (get_or starts number 0) wide (with_places places insn) in
     let rest = code_text places wide (drop (suc number) code) (drop (suc number) starts) in
@@ -81,22 +90,30 @@ pub record CodePut (starts : List ℕ) (wide : Bool) (code : List Insn) (number 
   pub whole : text ++ code_text (slice_index starts) wide (drop number code) (drop number starts) ≡ code_text (slice_index starts) wide code starts
   pub ranges : All IsInRange (take number code)
 
-pub puts_insn : (starts : List ℕ) (wide : Bool) (code : List Insn) (number : ℕ) (insn : Insn) (old new : List ℕ) → number < length code → number < length starts → insn ≡ get_or code number insn → CodePut starts wide code number old → new ≡ old ++ insn_text (get_or starts number 0) wide (with_places (slice_index starts) insn) → IsInRange insn → CodePut starts wide code (number + 1) new
+pub puts_insn : (starts : List ℕ) (wide : Bool) (code : List Insn) (number : ℕ) (insn : Insn) (old new : List ℕ) → number < length code
+    → number < length starts → insn ≡ get_or code number insn → CodePut starts wide code number old
+    → new ≡ old ++ insn_text (get_or starts number 0) wide (with_places (slice_index starts) insn) → IsInRange insn
+    → CodePut starts wide code (number + 1) new
 puts_insn starts wide code number insn old new in_code in_starts insn_is so_far wrote range = record {
-  whole = writes_on (slice_index starts) wide code starts number insn old new (code_text (slice_index starts) wide code starts) in_code in_starts insn_is so_far.whole wrote;
+  whole = writes_on (slice_index starts) wide code starts number insn old new
+      (code_text (slice_index starts) wide code starts) in_code in_starts insn_is so_far.whole wrote;
   ranges = All-more IsInRange code number insn in_code so_far.ranges (subst IsInRange insn_is range);
 }
 
-code_at_end : (places : ℕ → ℕ) (wide : Bool) (code : List Insn) (starts : List ℕ) (number : ℕ) → length code ≤ number → code_text places wide (drop number code) starts ≡ []
+code_at_end : (places : ℕ → ℕ) (wide : Bool) (code : List Insn) (starts : List ℕ) (number : ℕ) → length code ≤ number
+    → code_text places wide (drop number code) starts ≡ []
 code_at_end places wide code starts number end = ap (λ (l : List Insn). code_text places wide l starts) (drop_of_length-le code end)
 
-pub all_put : (starts : List ℕ) (wide : Bool) (code : List Insn) (number : ℕ) (text : List ℕ) → length code ≤ number → CodePut starts wide code number text → (text ≡ code_text (slice_index starts) wide code starts) × All IsInRange code
+pub all_put : (starts : List ℕ) (wide : Bool) (code : List Insn) (number : ℕ) (text : List ℕ) → length code ≤ number
+    → CodePut starts wide code number text → (text ≡ code_text (slice_index starts) wide code starts) × All IsInRange code
 all_put starts wide code number text end so_far = (
   sym (append-nil text) ∙ ap (λ (l : List ℕ). text ++ l) (sym (code_at_end (slice_index starts) wide code (drop number starts) number end)) ∙ so_far.whole,
   subst (λ (l : List Insn). All IsInRange l) (take_all number code end) so_far.ranges,
 )
 
-pub puts_arm : (at : ℕ) (starts : List ℕ) (arms : List Arm) (count : ℕ) (d : Arm) (old mid new : List ℕ) → count < length arms → ArmsPut at starts arms count old mid → new ≡ mid ++ arm_text at (arm_with_place (slice_index starts) (get_or arms count d)) → FitsSigned w32 (get_or arms count d).key → ArmsPut at starts arms (count + 1) old new
+pub puts_arm : (at : ℕ) (starts : List ℕ) (arms : List Arm) (count : ℕ) (d : Arm) (old mid new : List ℕ) → count < length arms
+    → ArmsPut at starts arms count old mid → new ≡ mid ++ arm_text at (arm_with_place (slice_index starts) (get_or arms count d))
+    → FitsSigned w32 (get_or arms count d).key → ArmsPut at starts arms (count + 1) old new
 puts_arm at starts arms count d old mid new below so_far wrote key =
     let g = arm_with_place (slice_index starts) in
     let arm = get_or arms count d in
@@ -108,6 +125,7 @@ puts_arm at starts arms count d old mid new below so_far wrote key =
     ∙ flat_map-append (arm_text at) (map g (take count arms)) (g arm ∷ [])
     ∙ ap (λ (l : List ℕ). before ++ l) (append-nil (arm_text at (g arm))) in
     record {
-      text = wrote ∙ ap (λ (l : List ℕ). l ++ arm_text at (g arm)) so_far.text ∙ append_assoc old before (arm_text at (g arm)) ∙ ap (λ (l : List ℕ). old ++ l) (sym texts);
+      text = wrote ∙ ap (λ (l : List ℕ). l ++ arm_text at (g arm)) so_far.text ∙ append_assoc old before (arm_text at (g arm))
+          ∙ ap (λ (l : List ℕ). old ++ l) (sym texts);
       keys = All-more (λ (a : Arm). FitsSigned w32 a.key) arms count d below so_far.keys key;
     }

@@ -32,21 +32,28 @@ reads_number n = record { takes = number_takes n; again = number_again n }
 
 pub reads_piece : (n : ℕ) → IsReadBy (piece n) (piece_at n)
 reads_piece n = record {
-  takes = λ left x rest e. let t = first_takes n (take n) left x rest e in (t.text, t.parts, (t.size, sym (take_at t.text rest n t.size) ∙ sym (ap (take n) t.parts) ∙ t.value));
+  takes = λ left x rest e. let t = first_takes n (take n) left x rest e in
+      (t.text, t.parts, (t.size, sym (take_at t.text rest n t.size) ∙ sym (ap (take n) t.parts) ∙ t.value));
   again = λ text rest x is. first_again n (take n) text rest x is.0 (take_at text rest n is.0 ∙ is.1);
 }
 
 -- a form behind a field
-pub reads_then : {X Y : Type 0} (F : List ℕ → X → Type 0) (G : X → List ℕ → Y → Type 0) (read : List ℕ → Option (X × List ℕ)) (next : X → List ℕ → Option (Y × List ℕ))
+pub reads_then : {X Y : Type 0} (F : List ℕ → X → Type 0) (G : X → List ℕ → Y → Type 0) (read : List ℕ → Option (X × List ℕ))
+    (next : X → List ℕ → Option (Y × List ℕ))
     → IsReadBy F read → ((x : X) → IsReadBy (G x) (next x)) → IsReadBy (Then F G) (λ left. read left >>= λ p. next p.0 p.1)
 reads_then {X} {Y} F G read next a b = record { takes = takes; again = again }
   where
-    takes : (left : List ℕ) (y : Y) (rest : List ℕ) → (read left >>= λ p. next p.0 p.1) ≡ Some (y, rest) → (text : List ℕ) × (left ≡ text ++ rest) × Then F G text y
+    takes : (left : List ℕ) (y : Y) (rest : List ℕ) → (read left >>= λ p. next p.0 p.1) ≡ Some (y, rest)
+        → (text : List ℕ) × (left ≡ text ++ rest) × Then F G text y
     takes left y rest e =
         let s = bind_some (read left) (λ p. next p.0 p.1) (y, rest) e in
         let front = a.takes left s.0.0 s.0.1 s.1 in
-        let more = (b s.0.0).takes s.0.1 y rest s.2 in
-        (front.0 ++ more.0, front.1 ∙ ap (λ (l : List ℕ). front.0 ++ l) more.1 ∙ sym (append_assoc front.0 more.0 rest), record { value = s.0.0; front = front.0; rest = more.0; parts = refl; field = front.2; behind = more.2 })
+        let more = (b s.0.0).takes s.0.1 y rest s.2 in (
+          front.0 ++ more.0,
+          front.1 ∙ ap (λ (l : List ℕ). front.0 ++ l) more.1
+              ∙ sym (append_assoc front.0 more.0 rest),
+          record { value = s.0.0; front = front.0; rest = more.0; parts = refl; field = front.2; behind = more.2 },
+        )
 
     again : (text rest : List ℕ) (y : Y) → Then F G text y → (read (text ++ rest) >>= λ p. next p.0 p.1) ≡ Some (y, rest)
     again text rest y t =
@@ -55,7 +62,8 @@ reads_then {X} {Y} F G read next a b = record { takes = takes; again = again }
         ∙ (b t.value).again t.rest rest y t.behind
 
 -- a form that stands only where a test passes
-pub reads_if : {X : Type 0} (test : Bool) (F : List ℕ → X → Type 0) (read : List ℕ → Option (X × List ℕ)) → IsReadBy F read → IsReadBy (only_if test F) (λ left. cond test (read left) None)
+pub reads_if : {X : Type 0} (test : Bool) (F : List ℕ → X → Type 0) (read : List ℕ → Option (X × List ℕ)) → IsReadBy F read
+    → IsReadBy (only_if test F) (λ left. cond test (read left) None)
 reads_if {X} test F read a = record {
   takes = λ left x rest e. let g = guard_some test (read left) (x, rest) e in let t = a.takes left x rest g.1 in (t.0, t.1, (g.0, t.2));
   again = λ text rest x is. ap (λ (b : Bool). cond b (read (text ++ rest)) None) is.0 ∙ a.again text rest x is.1;

@@ -15,7 +15,7 @@ use Rattle.jc_insn.specs.declared.item.Item.TheVariants as items
 use Rattle.jc_insn.specs.Fields.{nothing, byte, piece, Then}
 use Rattle.jc_insn.specs.Items.{number, padding, key_count, target_of, places_in, arms_in, ascending, short_load, short_store, table_operands, lookup_operands, wide_operands, operands, IsItem}
 use Rattle.jc_insn.specs.Reading.{piece_at, push_byte_at, push_short_at, constant_byte_at, constant_short_at, constant2_at, local_at, inc_at, jump_at, wide_jump_at, table_at, lookup_at, member_at, interface_at, dynamic_at, of_class_at, new_array_at, multi_at, wide_local_at, wide_inc_at, wide_operands_at, wide_at, operands_at, item_at}
-use Rattle.jc_insn.proofs.FieldsLaws.{IsReadBy, reads_nothing, reads_byte, reads_number, reads_piece, reads_then, reads_if, reads_none}
+use Rattle.jc_insn.proofs.FieldReadingLaws.{IsReadBy, reads_nothing, reads_byte, reads_number, reads_piece, reads_then, reads_if, reads_none}
 
 -- a field, and the item that it makes
 one_number : (n : ℕ) (f : ℕ → Item) → IsReadBy (Then (number n) (λ x. nothing (f x))) (λ left. number_at n left >>= λ p. Some (f p.0, p.1))
@@ -32,7 +32,9 @@ reads_table at =
     reads_then (number 4) _ (number_at 4) _ (reads_number 4) (λ low.
     reads_then (number 4) _ (number_at 4) _ (reads_number 4) (λ high.
     reads_if (int_le (cast_signed w32 low) (cast_signed w32 high)) _ _
-    (reads_then (piece (4 * key_count (cast_signed w32 low) (cast_signed w32 high))) _ (piece_at (4 * key_count (cast_signed w32 low) (cast_signed w32 high))) _ (reads_piece (4 * key_count (cast_signed w32 low) (cast_signed w32 high))) (λ arms.
+    (reads_then (piece (4 * key_count (cast_signed w32 low) (cast_signed w32 high))) _
+    (piece_at (4 * key_count (cast_signed w32 low) (cast_signed w32 high))) _
+    (reads_piece (4 * key_count (cast_signed w32 low) (cast_signed w32 high))) (λ arms.
     reads_nothing (items.Insn (insns.Table (cast_signed w32 low) (target_of at (cast_signed w32 default)) (places_in at arms)))))))))
 
 reads_lookup : (at : ℕ) → IsReadBy (lookup_operands at) (lookup_at at)
@@ -49,12 +51,14 @@ reads_lookup at =
 reads_wide_operands : (form : Form) (op : ℕ) → IsReadBy (wide_operands form op) (wide_operands_at form op)
 unfolding wide_operands wide_operands_at wide_local_at wide_inc_at
 reads_wide_operands forms.Local op = one_number 2 (λ slot. items.Insn (insns.Local op slot))
-reads_wide_operands forms.Inc op = reads_then (number 2) _ (number_at 2) _ (reads_number 2) (λ slot. one_number 2 (λ by. items.Insn (insns.Inc slot (cast_signed w16 by))))
+reads_wide_operands forms.Inc op = reads_then (number 2) _ (number_at 2) _ (reads_number 2)
+    (λ slot. one_number 2 (λ by. items.Insn (insns.Inc slot (cast_signed w16 by))))
 reads_wide_operands forms.Subroutine op = reads_if (nat_eq op 169) _ _ (reads_nothing items.Subroutine)
 reads_wide_operands form op = reads_none
 
 reads_operands : (at : ℕ) (form : Form) (op : ℕ) → IsReadBy (operands at form op) (operands_at at form op)
-unfolding operands operands_at push_byte_at push_short_at constant_byte_at constant_short_at constant2_at local_at inc_at jump_at wide_jump_at member_at interface_at dynamic_at of_class_at new_array_at multi_at wide_at
+unfolding operands operands_at push_byte_at push_short_at constant_byte_at constant_short_at constant2_at local_at inc_at jump_at wide_jump_at
+    member_at interface_at dynamic_at of_class_at new_array_at multi_at wide_at
 reads_operands at forms.Simple op = reads_nothing (items.Insn (insns.Simple op))
 reads_operands at forms.PushByte op = one_byte (λ value. items.Insn (insns.Push op (cast_signed w8 value)))
 reads_operands at forms.PushShort op = one_number 2 (λ value. items.Insn (insns.Push op (cast_signed w16 value)))
@@ -71,11 +75,15 @@ reads_operands at forms.Subroutine op = reads_nothing items.Subroutine
 reads_operands at forms.Table op = reads_table at
 reads_operands at forms.Lookup op = reads_lookup at
 reads_operands at forms.Member op = one_number 2 (λ place. items.Insn (insns.Member op place))
-reads_operands at forms.Interface op = reads_then (number 2) _ (number_at 2) _ (reads_number 2) (λ place. reads_then byte _ byte_at _ reads_byte (λ count. one_byte (λ any. items.Insn (insns.Interface place count))))
-reads_operands at forms.Dynamic op = reads_then (number 2) _ (number_at 2) _ (reads_number 2) (λ place. reads_then (piece 2) _ (piece_at 2) _ (reads_piece 2) (λ any. reads_nothing (items.Insn (insns.Dynamic place))))
+reads_operands at forms.Interface op = reads_then (number 2) _ (number_at 2) _ (reads_number 2)
+    (λ place. reads_then byte _ byte_at _ reads_byte (λ count. one_byte (λ any. items.Insn (insns.Interface place count))))
+reads_operands at forms.Dynamic op = reads_then (number 2) _ (number_at 2) _ (reads_number 2)
+    (λ place. reads_then (piece 2) _ (piece_at 2) _ (reads_piece 2) (λ any. reads_nothing (items.Insn (insns.Dynamic place))))
 reads_operands at forms.OfClass op = one_number 2 (λ place. items.Insn (insns.OfClass op place))
-reads_operands at forms.NewArray op = reads_then byte _ byte_at _ reads_byte (λ elem. reads_if (nat_le 4 elem && nat_le elem 11) _ _ (reads_nothing (items.Insn (insns.NewArray elem))))
-reads_operands at forms.Multi op = reads_then (number 2) _ (number_at 2) _ (reads_number 2) (λ place. reads_then byte _ byte_at _ reads_byte (λ dims. reads_if (nat_le 1 dims) _ _ (reads_nothing (items.Insn (insns.Multi place dims)))))
+reads_operands at forms.NewArray op = reads_then byte _ byte_at _ reads_byte
+    (λ elem. reads_if (nat_le 4 elem && nat_le elem 11) _ _ (reads_nothing (items.Insn (insns.NewArray elem))))
+reads_operands at forms.Multi op = reads_then (number 2) _ (number_at 2) _ (reads_number 2)
+    (λ place. reads_then byte _ byte_at _ reads_byte (λ dims. reads_if (nat_le 1 dims) _ _ (reads_nothing (items.Insn (insns.Multi place dims)))))
 reads_operands at forms.Wide op = reads_then byte _ byte_at _ reads_byte (λ code. reads_wide_operands (form_of code) code)
 reads_operands at forms.Unknown op = reads_none
 
