@@ -13,7 +13,8 @@ use Rattle.jc_body.specs.declared.items.Tables.{Tables}
 use Rattle.jc_body.specs.Coded.{HasNoCode}
 use Rattle.jc_body.specs.Attributes.{AreTables}
 use Rattle.jc_body.specs.Faults.{HasSubroutine, OfCode, faults, insn_faults, row_faults, table_faults}
-use Rattle.jc_body.specs.First.{Fault, IsNowhere, IsLeast, IsFirst, AreNowhere}
+use Rattle.jc_base.specs.Least.{IsNowhere, IsLeast}
+use Rattle.jc_body.specs.First.{Fault, IsFirst, AreNowhere}
 use Rattle.jc_body.specs.BodyOf.{places_used, HasParts, IsBody, BodyOf, Bodiless, IsReason, FaultOf}
 use Rattle.jc_body.proofs.OrderLaws.{least_once, first_once, first_or_nowhere}
 use Rattle.jc_body.proofs.CodedLaws.{one_coded, no_items, no_code, not_malformed, not_stopped, none_of_code}

@@ -10,7 +10,7 @@ use Rattle.jc_pool.specs.Pool.{PoolValue}
 use Rattle.jc_class.specs.declared.class_file.Member.{Member}
 use Rattle.jc_body.specs.declared.coded.Coded.{Coded}
 use Rattle.jc_body.specs.Faults.{ArgumentsOutside}
-use Rattle.jc_body.specs.First.{IsNowhere, IsLeast}
+use Rattle.jc_base.specs.Least.{IsNowhere, IsLeast}
 use Rattle.jc_body.proofs.OrderLaws.{IsDecided, at_zero}
 
 -- a number is 0 or isn't

@@ -10,7 +10,8 @@ use Rattle.jc_body.specs.declared.coded.Coded.{Coded}
 use Rattle.jc_body.specs.CodeForm.{IsCodeText}
 use Rattle.jc_body.specs.Coded.{IsBodiless, HasNoCode, HasCode, HasItems, IsCoded, code_bodies}
 use Rattle.jc_body.specs.Faults.{NoSingleCode, MalformedCode, IsStopped, OfCode}
-use Rattle.jc_body.specs.First.{Fault, IsNowhere, IsLeast, IsFirst, AreNowhere}
+use Rattle.jc_base.specs.Least.{IsNowhere, IsLeast}
+use Rattle.jc_body.specs.First.{Fault, IsFirst, AreNowhere}
 use Rattle.jc_body.proofs.FormLaws.{one_code_text}
 
 one_of : {x y : List ℕ} (l : List (List ℕ)) → l ≡ x ∷ [] → l ≡ y ∷ [] → x ≡ y

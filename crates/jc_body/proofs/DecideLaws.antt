@@ -20,7 +20,8 @@ use Rattle.jc_body.specs.declared.items.Tables.{Tables}
 use Rattle.jc_body.specs.Attributes.{AreTables}
 use Rattle.jc_body.specs.Coded.{HasCode, HasItems, IsCoded}
 use Rattle.jc_body.specs.Faults.{NoSingleCode, MalformedCode, IsStopped, HasSubroutine, InsnAt, IsAstray, IsRow, MalformedTable, TooWide, OfCode, faults, insn_faults, row_faults, table_faults}
-use Rattle.jc_body.specs.First.{IsNowhere, IsLeast, IsFirst, AreNowhere}
+use Rattle.jc_base.specs.Least.{IsNowhere, IsLeast}
+use Rattle.jc_body.specs.First.{IsFirst, AreNowhere}
 use Rattle.jc_body.specs.Standing.{HasRightEntry}
 use Rattle.jc_body.specs.BodyOf.{IsReason}
 use Rattle.jc_body.proofs.OrderLaws.{IsDecided, AreDecided, at_zero}

@@ -21,7 +21,8 @@ use Rattle.jc_body.specs.Attributes.{AreTables}
 use Rattle.jc_body.specs.CodeForm.{IsCodeText}
 use Rattle.jc_body.specs.Coded.{HasCode, HasItems, IsCoded, code_bodies}
 use Rattle.jc_body.specs.Faults.{NoSingleCode, HasSubroutine, faults, insn_faults, row_faults, table_faults}
-use Rattle.jc_body.specs.First.{IsNowhere, IsFirst, AreNowhere}
+use Rattle.jc_base.specs.Least.{IsNowhere}
+use Rattle.jc_body.specs.First.{IsFirst, AreNowhere}
 use Rattle.jc_body.specs.BodyOf.{BodyOf, Bodiless, IsReason, FaultOf, handler_of, lines_of, vars_of, places_used}
 use Rattle.jc_body.proofs.OrderLaws.{each_decided}
 use Rattle.jc_body.proofs.ArgumentLaws.{zero_or_not, each_take}

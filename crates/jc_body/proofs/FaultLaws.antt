@@ -9,7 +9,8 @@ use Rattle.jc_base.proofs.StartsLaws.{rising}
 use Rattle.jc_body.specs.declared.items.Row.{Row}
 use Rattle.jc_body.specs.declared.coded.Coded.{Coded}
 use Rattle.jc_body.specs.Faults.{InsnAt, IsRow, BadRow}
-use Rattle.jc_body.specs.First.{IsNowhere, IsLeast, IsFirstItem, NoItem, FirstItem}
+use Rattle.jc_base.specs.Least.{IsNowhere, IsLeast}
+use Rattle.jc_body.specs.First.{IsFirstItem, NoItem, FirstItem}
 use Rattle.jc_body.specs.declared.places.Offsets.{Offsets}
 use Rattle.jc_body.specs.Numbering.{numbering, Numbers}
 use Rattle.jc_body.proofs.OrderLaws.{IsDecided}

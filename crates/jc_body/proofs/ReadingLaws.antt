@@ -18,7 +18,8 @@ use Rattle.jc_body.specs.Answers.{IsRefusal, Said}
 use Rattle.jc_body.specs.Attributes.{AreTables}
 use Rattle.jc_body.specs.Coded.{HasNoCode, HasItems, IsCoded}
 use Rattle.jc_body.specs.Faults.{HasSubroutine, MalformedTable, TooWide, faults, insn_faults, row_faults, table_faults}
-use Rattle.jc_body.specs.First.{Fault, IsNowhere, IsFirst, AreNowhere, FirstFault}
+use Rattle.jc_base.specs.Least.{IsNowhere}
+use Rattle.jc_body.specs.First.{Fault, IsFirst, AreNowhere, FirstFault}
 use Rattle.jc_body.specs.BodyOf.{IsBody, BodyOf, Bodiless, FaultOf}
 use Rattle.jc_body.specs.Sizes.{HasSmallParts}
 use Rattle.jc_body.proofs.OrderLaws.{first_in_front, first_behind, nowhere_both, at_zero}

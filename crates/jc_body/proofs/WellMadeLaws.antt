@@ -28,7 +28,8 @@ use Rattle.jc_body.specs.declared.items.Tables.{Tables}
 use Rattle.jc_body.specs.BodyOf.{handler_of, lines_of, vars_of, places_used, AreUsesOf, HasParts, IsBody, IsBodyOfAnySize}
 use Rattle.jc_body.specs.Coded.{IsCoded}
 use Rattle.jc_body.specs.Faults.{OfCode, InsnAt, IsAstray, IsRow, IsClassOrNone, ArgumentsOutside, TooWide, faults, faults_of_any_size}
-use Rattle.jc_body.specs.First.{IsNowhere, AreNowhere, NoItem}
+use Rattle.jc_base.specs.Least.{IsNowhere}
+use Rattle.jc_body.specs.First.{AreNowhere, NoItem}
 use Rattle.jc_body.specs.Standing.{what_of, what_at, found_in, found_at, HasRightEntry}
 use Rattle.jc_body.proofs.ArgumentLaws.{arguments_fit}
 use Rattle.jc_base.proofs.StartsLaws.{number_of_end, numbers_rise, numbers_stay, some_insn}

@@ -26,7 +26,8 @@ use Rattle.jc_body.specs.Attributes.{AreTables}
 use Rattle.jc_body.specs.declared.coded.Coded.{Coded}
 use Rattle.jc_body.specs.Coded.{IsCoded, HasNoCode}
 use Rattle.jc_body.specs.Faults.{HasSubroutine, faults, faults_of_any_size}
-use Rattle.jc_body.specs.First.{Fault, IsNowhere, IsLeast, IsFirst, AreNowhere}
+use Rattle.jc_base.specs.Least.{IsNowhere, IsLeast}
+use Rattle.jc_body.specs.First.{Fault, IsFirst, AreNowhere}
 use Rattle.jc_body.specs.Standing.{what_at}
 
 -- ---- offsets as instruction numbers

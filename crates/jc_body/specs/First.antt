@@ -1,18 +1,10 @@
 -- The first of several faults, each with its place.
 use Rattle.std.specs.Prelude.{◌≡◌, ◌⊎◌, ◌<◌, ⊤, ℕ, List, [], ◌∷◌, Option, Some, None, slice_get}
+use Rattle.jc_base.specs.Least.{IsNowhere, IsLeast}
 
 -- a fault: at which places it is
 abbrev pub Fault : Type 1
 Fault = ℕ → Type 0
-
--- the fault is at no place
-abbrev pub IsNowhere : Fault → Type 0
-IsNowhere F = (place : ℕ) → F place → ⊥
-
--- the fault is there, and at no place before it
-pub record IsLeast (F : Fault) (place : ℕ) : Type 0 where
-  pub there : F place
-  pub first : (before : ℕ) → before < place → F before → ⊥
 
 -- the first fault of the list that is anywhere, at its least place
 abbrev pub IsFirst : List Fault → ℕ → Type 0
