@@ -1,12 +1,11 @@
 //! Methods whose answers are known from the JVM Specification.
-ghost use Rattle.std.specs.Prelude.{◌↔◌, ◌≤◌, length, IsTrue, All};
 
 use super::*;
 use jc_base::{
     Body, Fail, Handler, LineAt, Memory, Names, Refusal, RefusalKind, Use, VarAt, What, put_bytes,
     put_u8, put_u16, put_u32,
 };
-use jc_class::{Attribute, ClassFile, read_class};
+use jc_class::read_class;
 use std::alloc::Global;
 use std::process::Abort;
 use std::test::Fail as Failed;
@@ -148,27 +147,13 @@ fn class_of(alloc: Global, case: &Case<'_>) -> Result<Vec<u8>, Memory> {
     Ok(class)
 }
 
-/// Whether each attribute is of a size that is read.
-fn are_small(attributes: &[Attribute]) -> bool
-    ensures { IsTrue result ↔ All (λ a. length a.body ≤ 67108864) attributes.now }
-{
-    attributes.iter().all(|a| a.body.len() <= 67_108_864)
-}
-
-/// Whether each attribute of a method is of a size that is read.
-fn has_small_methods(class: &ClassFile) -> bool
-    ensures { IsTrue result ↔ All (λ m. All (λ a. length a.body ≤ 67108864) m.attributes) class.now.methods }
-{
-    class.methods.iter().all(|m| are_small(&m.attributes))
-}
-
 /// The body of a method of the class that the bytes are.
 fn read(alloc: Global, bytes: &[u8], method: u32) -> Result<Option<Body>, Fail<Refusal>> {
     if bytes.len() > 1_000_000 {
         return Err(Fail::Memory);
     }
     let class = read_class(alloc, bytes)?;
-    if method as usize >= class.methods.len() || !has_small_methods(&class) {
+    if method as usize >= class.methods.len() {
         return Err(Fail::Memory);
     }
     let mut names = Names::new(alloc)?;
