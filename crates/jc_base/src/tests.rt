@@ -210,3 +210,38 @@ fn real_texts(rt: HostRuntime) -> Result<(), Fail> {
     fs::remove_dir_all(&rt, "jc_base_texts")?;
     Ok(())
 }
+
+// A writer that takes at most so many bytes of a piece.
+#[derive(Drop)]
+struct Slow {
+    taken: Vec<u8>,
+    most: usize,
+}
+
+impl io::Write for Slow {
+    fn write(&mut self, piece: &[u8]) -> io::Result<usize> {
+        let count = piece.len().min(self.most);
+        self.taken.extend_from_slice(&piece[..count])?;
+        Ok(count)
+    }
+
+    fn flush(&mut self) -> io::Result<()> {
+        Ok(())
+    }
+}
+
+#[test]
+fn slow_writers(rt: HostRuntime) -> Result<(), Fail> {
+    let mut slow = Slow {
+        taken: Vec::new(rt.alloc()),
+        most: 2,
+    };
+    assert!(rt; HostSink::new(&mut slow).put(b"abcde").is_ok());
+    assert!(rt; slow.taken.as_slice() == b"abcde");
+    // A writer that takes nothing of a piece that isn't empty.
+    slow.most = 0;
+    assert!(rt; HostSink::new(&mut slow).put(b"").is_ok());
+    assert!(rt; HostSink::new(&mut slow).put(b"f").is_err());
+    assert!(rt; slow.taken.as_slice() == b"abcde");
+    Ok(())
+}
