@@ -1,8 +1,8 @@
--- What was done is the work, and each status has its cause.
-use Rattle.std.proofs.Common.{◌≡◌, ◌≢◌, ◌⊎◌, inl, inr, ⊎_elim, ℕ, List, Option, None, Some, Result, Ok, Err, Vec, map, refl, sym, ◌∙◌, ap, subst}
+-- A command's steps give the cause of its status, and the cause gives the rest of what the top call promises.
+use Rattle.std.proofs.Common.{◌≡◌, ◌≢◌, ◌⊎◌, inl, inr, ⊎_elim, ℕ, List, ◌++◌, ◌∷◌, Option, None, Some, Result, Ok, Err, Vec, map, refl, sym, ◌∙◌, ap, subst}
 use Rattle.std.specs.declared.alloc.Global.{Global}
 use Rattle.jc_base.proofs.DecoderLaws.{some_is}
-use Rattle.jc_base.specs.Outside.{FileMap, Rose}
+use Rattle.jc_base.specs.Outside.{FileMap, WhereTold, Rose}
 use Rattle.jc_top.specs.declared.status.Status.{Status}
 use Rattle.jc_top.specs.declared.status.Status.TheVariants as status
 use Rattle.jc_top.specs.declared.status.Fault.{Fault}
@@ -13,378 +13,306 @@ use Rattle.jc_top.specs.Words.{Word}
 use Rattle.jc_top.specs.Command.{Command, inputs_of, Means, NoForm}
 use Rattle.jc_top.specs.Texts.{usage_text, cannot_read, cannot_write, cannot_write_output, fault_text}
 use Rattle.jc_top.specs.Looks.{write_seen}
-use Rattle.jc_top.specs.World.{World, Write, Landed, after, grown, StopsIn}
-use Rattle.jc_top.specs.Work.{CantRead, StopsAt, Answers, usage, unreadable, answered, WorkEnds, DoesWork}
-use Rattle.jc_top.specs.Outcome.{Rises, ReadStops, Read, Prepares, WroteAll, IsFileWrite, IsTextWrite, Faults, Runs, Says, Reports, message_of, status_of, broken_text, BreaksOff, SaysNothing, SaysUnread, SaysRefused, RisesFor, SaysUnwritten}
+use Rattle.jc_top.specs.World.{World, world, Counts, counts, NoneRose, Write, to_file, to_out, to_err, Landed, after, grown, StopsIn}
+use Rattle.jc_top.specs.Work.{StopsAt, Answer, Answers, refusing, IsWork, usage, unreadable, answered, WorkEnds, DoesWork}
+use Rattle.jc_top.specs.Outcome.{Rises, ReadStops, ReadsStop, Read, Prepares, WroteAll, IsFileWrite, IsTextWrite, Writing, Runs, Says, Reports, message_of, status_of}
+use Rattle.jc_top.specs.Outcome.{Kept, FailsFor, BreaksOff, ToldEnds, IsUnread, broken_text, IsUnwritten, Cause, IsOrMemory, Ends}
 use Rattle.jc_top.proofs.WorkLaws.{one_ending}
 
 -- ---- a command without its last message
 
-abbrev faults : ℕ → ℕ → ℕ → Faults
-faults reads writes outs = record { reads = reads; writes = writes; outs = outs }
-
-same_faults : {a a' b b' c c' : ℕ} → a ≡ a' → b ≡ b' → c ≡ c' → faults a b c ≡ faults a' b' c'
-same_faults p q r = λ i. record { reads = p i; writes = q i; outs = r i }
-
-abbrev world : Option FileMap → Option (List ℕ) → Option (List ℕ) → World
-world contents out err = record { contents = contents; out = out; err = err }
+same_counts : {a a' b b' c c' : ℕ} (d : ℕ) → a ≡ a' → b ≡ b' → c ≡ c' → counts a b c d ≡ counts a' b' c' d
+same_counts d p q r = λ i. counts (p i) (q i) (r i) d
 
 abbrev Prepared : Command → List Written → List (List ℕ) → Type 0
 Prepared command writes texts = Answers command texts (record { writes = map write_seen writes; status = status.Done })
 
-abbrev Writing : Command → (List Write → Type 0) → List (List ℕ) → Type 0
-Writing command P texts = (writes : List Write) × Answers command texts (record { writes = writes; status = status.Done }) × P writes
-
-read_map : (contents : Option FileMap) (command : Command) (P Q : List (List ℕ) → Type 0) → ((texts : List (List ℕ)) → P texts → Q texts) → Read contents command P → Read contents command Q
-read_map contents command P Q f read = (read.0, read.1, f read.0 read.2)
-
-prepared_writing : (contents : Option FileMap) (command : Command) (writes : List Written) (P : List Write → Type 0) → P (map write_seen writes) → Read contents command (Prepared command writes) → Read contents command (Writing command P)
-prepared_writing contents command writes P made = read_map contents command (Prepared command writes) (Writing command P) (λ texts answers. (map write_seen writes, answers, made))
+prepared_writing : (contents : Option FileMap) (command : Command) (writes : List Written) (P : List Write → Type 0) → P (map write_seen writes) → Read contents command (Prepared command writes) → Writing contents command P
+prepared_writing contents command writes P made read = (read.0, read.1, (map write_seen writes, read.2, made))
 
 module _ (landed : Landed) (command : Command) (k0 k1 : Option FileMap) (same_k : k1 ≡ k0) where
   -- the command was prepared, and its writes were made
-  pub runs_on : (k2 : Option FileMap) (o0 o2 err : Option (List ℕ)) (r0 r1 r2 w0 w1 w2 n0 n2 : ℕ) (writes : Vec Written Global) (r : Result (Unit {0}) Stop)
+  pub runs_on : (k2 : Option FileMap) (o0 o2 err : Option (List ℕ)) (r0 r1 r2 w0 w1 w2 n0 n2 e : ℕ) (writes : Vec Written Global) (r : Result (Unit {0}) Stop)
       → w1 ≡ w0 → r2 ≡ r1 → Prepares k0 command r0 r1 (Ok writes) → WroteAll landed (world k1 o0 err) (world k2 o2 err) w1 w2 n0 n2 (map write_seen writes.items) r
-      → Runs landed command (world k0 o0 err) (world k2 o2 err) (faults r0 w0 n0) (faults r2 w2 n2) r
-  runs_on k2 o0 o2 err r0 r1 r2 w0 w1 w2 n0 n2 writes (Ok u) same_w same_r ready wrote =
+      → Runs landed command (world k0 o0 err) (world k2 o2 err) (counts r0 w0 n0 e) (counts r2 w2 n2 e) r
+  runs_on k2 o0 o2 err r0 r1 r2 w0 w1 w2 n0 n2 e writes (Ok u) same_w same_r ready wrote =
       let moved = wrote.2 ∙ ap (λ (k : Option FileMap). after landed (world k o0 err) (map write_seen writes.items)) same_k in
-      (same_faults (same_r ∙ ready.0) (wrote.0 ∙ same_w) wrote.1, prepared_writing k0 command writes.items (λ ws. world k2 o2 err ≡ after landed (world k0 o0 err) ws) moved ready.1)
-  runs_on k2 o0 o2 err r0 r1 r2 w0 w1 w2 n0 n2 writes (Err (stops.Write p)) same_w same_r ready wrote =
+      (same_counts e (same_r ∙ ready.0) (wrote.0 ∙ same_w) wrote.1, prepared_writing k0 command writes.items (λ ws. world k2 o2 err ≡ after landed (world k0 o0 err) ws) moved ready.1)
+  runs_on k2 o0 o2 err r0 r1 r2 w0 w1 w2 n0 n2 e writes (Err (stops.Write p)) same_w same_r ready wrote =
       let stopped = subst (λ (k : Option FileMap). StopsIn landed (world k o0 err) (map write_seen writes.items) (IsFileWrite p.now) (world k2 o2 err)) same_k wrote.2 in
-      (same_r ∙ ready.0, subst (λ (n : ℕ). Rises n w2) same_w wrote.0, wrote.1, prepared_writing k0 command writes.items (λ ws. StopsIn landed (world k0 o0 err) ws (IsFileWrite p.now) (world k2 o2 err)) stopped ready.1)
-  runs_on k2 o0 o2 err r0 r1 r2 w0 w1 w2 n0 n2 writes (Err stops.Output) same_w same_r ready wrote =
+      (same_counts e (same_r ∙ ready.0) refl wrote.1, subst (λ (n : ℕ). Rises n w2) same_w wrote.0, prepared_writing k0 command writes.items (λ ws. StopsIn landed (world k0 o0 err) ws (IsFileWrite p.now) (world k2 o2 err)) stopped ready.1)
+  runs_on k2 o0 o2 err r0 r1 r2 w0 w1 w2 n0 n2 e writes (Err stops.Output) same_w same_r ready wrote =
       let stopped = subst (λ (k : Option FileMap). StopsIn landed (world k o0 err) (map write_seen writes.items) IsTextWrite (world k2 o2 err)) same_k wrote.2 in
-      (same_r ∙ ready.0, wrote.0 ∙ same_w, wrote.1, prepared_writing k0 command writes.items (λ ws. StopsIn landed (world k0 o0 err) ws IsTextWrite (world k2 o2 err)) stopped ready.1)
-  runs_on k2 o0 o2 err r0 r1 r2 w0 w1 w2 n0 n2 writes (Err stops.Memory) same_w same_r ready wrote = absurd wrote
-  runs_on k2 o0 o2 err r0 r1 r2 w0 w1 w2 n0 n2 writes (Err (stops.Read p)) same_w same_r ready wrote = absurd wrote
-  runs_on k2 o0 o2 err r0 r1 r2 w0 w1 w2 n0 n2 writes (Err (stops.Refused file fault)) same_w same_r ready wrote = absurd wrote
+      (same_counts e (same_r ∙ ready.0) (wrote.0 ∙ same_w) refl, wrote.1, prepared_writing k0 command writes.items (λ ws. StopsIn landed (world k0 o0 err) ws IsTextWrite (world k2 o2 err)) stopped ready.1)
+  runs_on k2 o0 o2 err r0 r1 r2 w0 w1 w2 n0 n2 e writes (Err stops.Memory) same_w same_r ready wrote = absurd wrote
+  runs_on k2 o0 o2 err r0 r1 r2 w0 w1 w2 n0 n2 e writes (Err (stops.Read p)) same_w same_r ready wrote = absurd wrote
+  runs_on k2 o0 o2 err r0 r1 r2 w0 w1 w2 n0 n2 e writes (Err (stops.Refused file fault)) same_w same_r ready wrote = absurd wrote
 
   -- the command was stopped before its writes
-  pub run_stops : (o err : Option (List ℕ)) (r0 r1 w0 w1 n : ℕ) (stop : Stop) → w1 ≡ w0 → Prepares k0 command r0 r1 (Err stop)
-      → Runs landed command (world k0 o err) (world k1 o err) (faults r0 w0 n) (faults r1 w1 n) (Err stop)
-  run_stops o err r0 r1 w0 w1 n stops.Memory same_w stopped = (same_faults stopped same_w refl, ap (λ (k : Option FileMap). world k o err) same_k)
-  run_stops o err r0 r1 w0 w1 n (stops.Read p) same_w stopped = (same_w, refl, ap (λ (k : Option FileMap). world k o err) same_k, stopped)
-  run_stops o err r0 r1 w0 w1 n (stops.Refused file fault) same_w stopped = (same_faults stopped.0 same_w refl, ap (λ (k : Option FileMap). world k o err) same_k, stopped.1)
-  run_stops o err r0 r1 w0 w1 n (stops.Write p) same_w stopped = absurd stopped
-  run_stops o err r0 r1 w0 w1 n stops.Output same_w stopped = absurd stopped
+  pub run_stops : (o err : Option (List ℕ)) (r0 r1 w0 w1 n e : ℕ) (stop : Stop) → w1 ≡ w0 → Prepares k0 command r0 r1 (Err stop)
+      → Runs landed command (world k0 o err) (world k1 o err) (counts r0 w0 n e) (counts r1 w1 n e) (Err stop)
+  run_stops o err r0 r1 w0 w1 n e stops.Memory same_w stopped = (same_counts e stopped same_w refl, ap (λ (k : Option FileMap). world k o err) same_k)
+  run_stops o err r0 r1 w0 w1 n e (stops.Read p) same_w stopped = (same_counts e refl same_w refl, ap (λ (k : Option FileMap). world k o err) same_k, stopped)
+  run_stops o err r0 r1 w0 w1 n e (stops.Refused file fault) same_w stopped = (same_counts e stopped.0 same_w refl, ap (λ (k : Option FileMap). world k o err) same_k, stopped.1)
+  run_stops o err r0 r1 w0 w1 n e (stops.Write p) same_w stopped = absurd stopped
+  run_stops o err r0 r1 w0 w1 n e stops.Output same_w stopped = absurd stopped
 
--- ---- how the work ends
+-- ---- where contents are told
 
--- what the work ends with, where a command stops so
-abbrev told_status : Stop → Status
-told_status stops.Memory = status.Memory
-told_status (stops.Read p) = status.ReadFault
-told_status (stops.Refused file fault) = status.Refused fault
-told_status (stops.Write p) = status.Done
-told_status stops.Output = status.Done
+told_map : (k : Option FileMap) (P Q : FileMap → Type 0) → ((m : FileMap) → P m → Q m) → WhereTold k P → WhereTold k Q
+told_map None P Q f told = tt
+told_map (Some m) P Q f told = f m told
 
-module _ (landed : Landed) (words : List Word) (command : Command) (means : Means words command) (m : FileMap) (out err : Option (List ℕ)) (new : World) (f f' : Faults) where
-  abbrev Ran : Result (Unit {0}) Stop → Type 0
-  Ran r = Runs landed command (world (Some m) out err) new f f' r
+told_at : (k : Option FileMap) (m : FileMap) (P : FileMap → Type 0) → k ≡ Some m → WhereTold k P → P m
+told_at None m P is told = absurd cc
+told_at (Some n) m P is told = subst P (some_is n m is) told
 
-  writing_ends : (P : List Write → Type 0) → Read (Some m) command (Writing command P) → WorkEnds words m status.Done
-  writing_ends P read = (_, answered means read.1 read.2.1, refl)
+-- what a command answers to what was read is its work
+answer_is_work : (words : List Word) (command : Command) (k : Option FileMap) (answer : Answer) → Means words command → Read k command (λ texts. Answers command texts answer)
+    → WhereTold k (λ m. IsWork words m (record { reads = inputs_of command; writes = answer.writes; status = answer.status }))
+answer_is_work words command None answer means read = tt
+answer_is_work words command (Some m) answer means read = answered means read.1 read.2
 
-  done_ends : Ran (Ok tt) → WorkEnds words m status.Done
-  done_ends ran = writing_ends (λ ws. new ≡ after landed (world (Some m) out err) ws) ran.1
+answer_ends : (words : List Word) (command : Command) (k : Option FileMap) (answer : Answer) → Means words command → Read k command (λ texts. Answers command texts answer) → WhereTold k (λ m. WorkEnds words m answer.status)
+answer_ends words command None answer means read = tt
+answer_ends words command (Some m) answer means read = (_, answered means read.1 read.2, refl)
 
-  -- the work ends as the command stopped, unless a read failed
-  stop_ends : (stop : Stop) → Ran (Err stop) → (stop ≡ stops.Memory → ⊥) → (Rose f.reads f'.reads × (told_status stop ≡ status.ReadFault)) ⊎ WorkEnds words m (told_status stop)
-  stop_ends stops.Memory ran other = absurd (other refl)
-  stop_ends (stops.Read p) ran other = by ran.3.0
-    where
-      by : ReadStops (Some m) (λ n. (front : List Word) × StopsAt n (inputs_of command) front p.now) f.reads f'.reads → (Rose f.reads f'.reads × (status.ReadFault ≡ status.ReadFault)) ⊎ WorkEnds words m status.ReadFault
-      by (inl rose) = inl (rose.1, refl)
-      by (inr told) =
-          let is : told.1 ≡ m = sym (some_is m told.1 told.2) in
-          inr (_, unreadable means (subst (λ (n : FileMap). StopsAt n (inputs_of command) told.3.0 p.now) is told.3.1), refl)
-  stop_ends (stops.Refused file fault) ran other = inr (_, answered means ran.2.1 ran.2.2, refl)
-  stop_ends (stops.Write p) ran other = inr (writing_ends (λ ws. StopsIn landed (world (Some m) out err) ws (IsFileWrite p.now) new) ran.3)
-  stop_ends stops.Output ran other = inr (writing_ends (λ ws. StopsIn landed (world (Some m) out err) ws IsTextWrite new) ran.3)
+unread_ends : (words : List Word) (command : Command) (k : Option FileMap) (path : Word) (r r' : ℕ) → Means words command → ReadsStop k (inputs_of command) path r r' → Rises r r' ⊎ ToldEnds words k status.ReadFault
+unread_ends words command k path r r' means stop = by stop.0
+  where
+    by : ReadStops k (λ m. (front : List Word) × StopsAt m (inputs_of command) front path) r r' → Rises r r' ⊎ ToldEnds words k status.ReadFault
+    by (inl rose) = inl rose
+    by (inr told) = inr (told.1, told.2, (_, unreadable means told.3.1, refl))
 
--- ---- the clauses of the top call
+-- ---- the cause of a status
 
--- none of the counts rose
-abbrev Quiet : Faults → Faults → ℕ → ℕ → Type 0
-Quiet f f' e e' = (Rose f.reads f'.reads → ⊥) × (Rose f.writes f'.writes → ⊥) × (Rose f.outs f'.outs → ⊥) × (Rose e e' → ⊥)
+pub done_cause : (landed : Landed) (words : List Word) (command : Command) → Means words command → (k k' : Option FileMap) (o o' err : Option (List ℕ)) (f f' : Counts)
+    → Runs landed command (world k o err) (world k' o' err) f f' (Ok tt) → Cause landed words (world k o err) (world k' o' err) f f' status.Done
+done_cause landed words command means k k' o o' err f f' ran = record { command = command; means = means; writes = ran.1; silent = refl; counts = ran.0 }
+
+module _ (landed : Landed) (words : List Word) (command : Command) (means : Means words command) (k k' : Option FileMap) (o o' err err' : Option (List ℕ)) (r r' w w' n n' e e' : ℕ) where
+  abbrev Ran : Stop → Type 0
+  Ran stop = Runs landed command (world k o err) (world k' o' err) (counts r w n e) (counts r' w' n' e) (Err stop)
+
+  -- what is said of the old and the new
+  abbrev Of : (World → World → Counts → Counts → Type 0) → Type 0
+  Of P = P (world k o err) (world k' o' err') (counts r w n e) (counts r' w' n' e')
+
+  kept : world k' o' err ≡ world k o err → w' ≡ w → n' ≡ n → Of Kept
+  kept same writes outs = record { contents = ap (λ (v : World). v.contents) same; out = ap (λ (v : World). v.out) same; writes = writes; outs = outs }
+
+  abbrev Broke : (Write → Type 0) → Type 0
+  Broke Failed = Writing k command (λ ws. StopsIn landed (world k o err) ws Failed (world k' o' err))
+
+  abbrev Fails : (Write → Type 0) → Type 0
+  Fails Failed = (v : Write) → Failed v → FailsFor v (counts r w n e) (counts r' w' n' e')
+
+  broken_read : (Failed : Write → Type 0) (broke : Broke Failed) → Read k command (λ texts. Answers command texts (record { writes = broke.2.2.done ++ broke.2.2.failed ∷ broke.2.2.behind; status = status.Done }))
+  broken_read Failed broke = (broke.0, broke.1, subst (λ (ws : List Write). Answers command broke.0 (record { writes = ws; status = status.Done })) broke.2.2.parts broke.2.1)
+
+  abbrev broken_off : (Failed : Write → Type 0) → Fails Failed → r' ≡ r → Broke Failed → Of (BreaksOff landed words)
+  broken_off Failed fails reads broke =
+      record {
+        command = command;
+        means = means;
+        done = broke.2.2.done;
+        failed = broke.2.2.failed;
+        behind = broke.2.2.behind;
+        read = broken_read Failed broke;
+        work = answer_is_work words command k (record { writes = broke.2.2.done ++ broke.2.2.failed ∷ broke.2.2.behind; status = status.Done }) means (broken_read Failed broke);
+        fails = fails broke.2.2.failed broke.2.2.which;
+        reads = reads;
+        stands = world k' o' err;
+        broken = broke.2.2.broken;
+        contents = refl;
+        out = refl;
+      }
+
+  unwritten : (Failed : Write → Type 0) (text : List ℕ) → Fails Failed → ((v : Write) → Failed v → broken_text v ≡ text) → r' ≡ r → Broke Failed → Says text err err' e e' → Of (IsUnwritten landed words)
+  unwritten Failed text fails names reads broke says =
+      record { breaks_off = broken_off Failed fails reads broke; message = subst (λ (t : List ℕ). Says t err err' e e') (sym (names broke.2.2.failed broke.2.2.which)) says }
+
+  file_fails : (path : List ℕ) → Rises w w' → n' ≡ n → Fails (IsFileWrite path)
+  file_fails path rises outs v is = subst (λ (u : Write). FailsFor u (counts r w n e) (counts r' w' n' e')) (sym is.1) (rises, outs)
+
+  text_fails : Rises n n' → w' ≡ w → Fails IsTextWrite
+  text_fails rises writes v is = subst (λ (u : Write). FailsFor u (counts r w n e) (counts r' w' n' e')) (sym is.1) (rises, writes)
+
+  -- a command that was stopped wrote nothing, or its writes broke off
+  stands : (stop : Stop) → Ran stop → Of Kept ⊎ Of (BreaksOff landed words)
+  stands stops.Memory ran = inl (kept ran.1 (ap (λ (c : Counts). c.writes) ran.0) (ap (λ (c : Counts). c.outs) ran.0))
+  stands (stops.Read p) ran = inl (kept ran.1 (ap (λ (c : Counts). c.writes) ran.0) (ap (λ (c : Counts). c.outs) ran.0))
+  stands (stops.Refused file fault) ran = inl (kept ran.1 (ap (λ (c : Counts). c.writes) ran.0) (ap (λ (c : Counts). c.outs) ran.0))
+  stands (stops.Write p) ran = inr (broken_off (IsFileWrite p.now) (file_fails p.now ran.1 (ap (λ (c : Counts). c.outs) ran.0)) (ap (λ (c : Counts). c.reads) ran.0) ran.2)
+  stands stops.Output ran = inr (broken_off IsTextWrite (text_fails ran.1 (ap (λ (c : Counts). c.writes) ran.0)) (ap (λ (c : Counts). c.reads) ran.0) ran.2)
+
+  said_cause : (stop : Stop) → Ran stop → (stop ≡ stops.Memory → ⊥) → Says (message_of stop) err err' e e' → Of (λ v v' c c'. Cause landed words v v' c c' (status_of stop))
+  said_cause stops.Memory ran other says = absurd (other refl)
+  said_cause (stops.Read p) ran other says =
+      record {
+        command = command;
+        means = means;
+        path = p.now;
+        stop = ran.2;
+        cause = unread_ends words command k p.now r r' means ran.2;
+        kept = kept ran.1 (ap (λ (c : Counts). c.writes) ran.0) (ap (λ (c : Counts). c.outs) ran.0);
+        message = says;
+      }
+  said_cause (stops.Refused file fault) ran other says =
+      record {
+        command = command;
+        means = means;
+        file = file.now;
+        read = ran.2;
+        work = answer_ends words command k (refusing file.now fault) means ran.2;
+        kept = kept ran.1 (ap (λ (c : Counts). c.writes) ran.0) (ap (λ (c : Counts). c.outs) ran.0);
+        reads = ap (λ (c : Counts). c.reads) ran.0;
+        message = says;
+      }
+  said_cause (stops.Write p) ran other says =
+      unwritten (IsFileWrite p.now) (cannot_write p.now) (file_fails p.now ran.1 (ap (λ (c : Counts). c.outs) ran.0)) (λ v is. ap broken_text is.1) (ap (λ (c : Counts). c.reads) ran.0) ran.2 says
+  said_cause stops.Output ran other says =
+      unwritten IsTextWrite cannot_write_output (text_fails ran.1 (ap (λ (c : Counts). c.writes) ran.0)) (λ v is. ap broken_text is.1) (ap (λ (c : Counts). c.reads) ran.0) ran.2 says
+
+  pub stop_cause : (stop : Stop) (s : Status) → Ran stop → Reports stop err err' e e' s → Of (λ v v' c c'. Cause landed words v v' c c' s)
+  stop_cause stop s ran (inl memory) = subst (λ (t : Status). Of (λ v v' c c'. Cause landed words v v' c c' t)) (sym memory.0) (record { stands = stands stop ran; silent = memory.2; errs = memory.1 })
+  stop_cause stop s ran (inr says) =
+      let other : stop ≡ stops.Memory → ⊥ = λ is. says.1 (says.0 ∙ ap status_of is) in
+      subst (λ (t : Status). Of (λ v v' c c'. Cause landed words v v' c c' t)) (sym says.0) (said_cause stop ran other says.2)
+
+-- ---- what a cause gives
+
+-- what the work ends with, where a run ends so
+abbrev work_end : Status → Status
+work_end status.Done = status.Done
+work_end (status.Refused fault) = status.Refused fault
+work_end status.Usage = status.Usage
+work_end status.ReadFault = status.ReadFault
+work_end status.WriteFault = status.Done
+work_end status.Memory = status.Memory
 
 said : (text : List ℕ) (err err' : Option (List ℕ)) (e e' : ℕ) → Says text err err' e e' → (Rose e e' → ⊥) → err' ≡ grown err text
 said text err err' e e' (inl says) quiet = says.1
 said text err err' e e' (inr rose) quiet = absurd (quiet rose.0.1)
 
-pub no_form_work : (landed : Landed) (words : List Word) (k : Option FileMap) (out err err' : Option (List ℕ)) (e e' : ℕ) → NoForm words → Says usage_text err err' e e' → (Rose e e' → ⊥) → DoesWork landed words (world k out err) (world k out err') status.Usage
-no_form_work landed words None out err err' e e' none says quiet = tt
-no_form_work landed words (Some m) out err err' e e' none says quiet = (_, usage none, refl, ap (λ (t : Option (List ℕ)). world (Some m) out t) (said usage_text err err' e e' says quiet))
+never_fails : (v : Write) (f f' : Counts) → FailsFor v f f' → NoneRose f f' → ⊥
+never_fails (to_file path bytes) f f' fails quiet = quiet.writes fails.0.1
+never_fails (to_out text) f f' fails quiet = quiet.outs fails.0.1
+never_fails (to_err text) f f' fails quiet = fails
 
-usage_ends : (words : List Word) (m : FileMap) (s : Status) → NoForm words → WorkEnds words m s → s ≡ status.Usage
-usage_ends words m s none ends = one_ending words m s status.Usage ends (_, usage none, refl)
+module _ (landed : Landed) (words : List Word) (old new : World) (f f' : Counts) where
+  -- nothing was written but the message
+  only_said : (text : List ℕ) → Kept old new f f' → Says text old.err new.err f.errs f'.errs → NoneRose f f' → new ≡ world old.contents old.out (grown old.err text)
+  only_said text kept says quiet = λ i. world (kept.contents i) (kept.out i) (said text old.err new.err f.errs f'.errs says quiet.errs i)
 
-pub usage_not_refused : (words : List Word) (m : FileMap) (fault : Fault) → NoForm words → WorkEnds words m (status.Refused fault) → (status.Usage ≡ status.Refused fault) ⊎ (status.Usage ≡ status.Memory)
-usage_not_refused words m fault none ends = absurd (never (usage_ends words m (status.Refused fault) none ends))
-  where
-    never : status.Refused fault ≡ status.Usage → ⊥
-    never e = cc
-
-pub usage_not_unreadable : (words : List Word) (m : FileMap) → NoForm words → WorkEnds words m status.ReadFault → (status.Usage ≡ status.ReadFault) ⊎ (status.Usage ≡ status.Memory)
-usage_not_unreadable words m none ends = absurd (never (usage_ends words m status.ReadFault none ends))
-  where
-    never : status.ReadFault ≡ status.Usage → ⊥
-    never e = cc
-
-never_done : (stop : Stop) → status_of stop ≡ status.Done → ⊥
-never_done stops.Memory is = cc
-never_done (stops.Read p) is = cc
-never_done (stops.Write p) is = cc
-never_done stops.Output is = cc
-never_done (stops.Refused file g) is = cc
-
-never_usage : (stop : Stop) → status_of stop ≡ status.Usage → ⊥
-never_usage stops.Memory is = cc
-never_usage (stops.Read p) is = cc
-never_usage (stops.Write p) is = cc
-never_usage stops.Output is = cc
-never_usage (stops.Refused file g) is = cc
-
-memory_usage : status.Usage ≡ status.Memory → ⊥
-memory_usage e = cc
-
-pub report_silent : (err err' : Option (List ℕ)) (e e' : ℕ) (stop : Stop) (s : Status) → Reports stop err err' e e' s → (s ≡ status.Done) ⊎ (s ≡ status.Memory) → SaysNothing err err' e e'
-report_silent err err' e e' stop s (inl memory) is = (memory.1, memory.2)
-report_silent err err' e e' stop s (inr says) (inl is) = absurd (never_done stop (sym says.0 ∙ is))
-report_silent err err' e e' stop s (inr says) (inr is) = absurd (says.1 is)
-
-pub report_no_usage : (err err' : Option (List ℕ)) (e e' : ℕ) (stop : Stop) (s : Status) → Reports stop err err' e e' s → s ≡ status.Usage → ⊥
-report_no_usage err err' e e' stop s (inl memory) is = memory_usage (sym is ∙ memory.0)
-report_no_usage err err' e e' stop s (inr says) is = never_usage stop (sym says.0 ∙ is)
-
-module _ (landed : Landed) (words : List Word) (command : Command) (means : Means words command) (out err : Option (List ℕ)) (f f' : Faults) where
-  abbrev Did : (k : Option FileMap) → World → Result (Unit {0}) Stop → Type 0
-  Did k new r = Runs landed command (world k out err) new f f' r
-
-  pub done_work : (k : Option FileMap) (new : World) → Did k new (Ok tt) → DoesWork landed words (world k out err) new status.Done
-  done_work None new did = tt
-  done_work (Some m) new did = (_, answered means did.1.1 did.1.2.1, refl, did.1.2.2)
-
-  pub done_is : (k : Option FileMap) (m : FileMap) (new : World) (s : Status) → Did k new (Ok tt) → k ≡ Some m → WorkEnds words m s → s ≡ status.Done
-  done_is k m new s did is ends = one_ending words m s status.Done ends (done_ends landed words command means m out err new f f' (subst (λ (t : Option FileMap). Did t new (Ok tt)) is did))
-
-  stop_is : (k : Option FileMap) (m : FileMap) (new : World) (stop : Stop) (s : Status) → Did k new (Err stop) → k ≡ Some m → (stop ≡ stops.Memory → ⊥) → WorkEnds words m s → (Rose f.reads f'.reads × (told_status stop ≡ status.ReadFault)) ⊎ (s ≡ told_status stop)
-  stop_is k m new stop s did is other ends =
-      ⊎_elim (λ rose. inl rose) (λ told. inr (one_ending words m s (told_status stop) ends told)) (stop_ends landed words command means m out err new f f' stop (subst (λ (t : Option FileMap). Did t new (Err stop)) is did) other)
-
-  -- a command that stops without a rise was stopped by what is told, and did nothing but say so
-  said_work : (m : FileMap) (k' : Option FileMap) (out' err' : Option (List ℕ)) (e e' : ℕ) (stop : Stop) → Did (Some m) (world k' out' err) (Err stop) → Quiet f f' e e' → (stop ≡ stops.Memory → ⊥) → Says (message_of stop) err err' e e' → DoesWork landed words (world (Some m) out err) (world k' out' err') (status_of stop)
-  said_work m k' out' err' e e' stops.Memory did quiet other says = absurd (other refl)
-  said_work m k' out' err' e e' (stops.Read p) did quiet other says = by did.3.0
+  -- the work ends so, or a read failed, or memory was refused
+  cause_ends : (s : Status) → Cause landed words old new f f' s → WhereTold old.contents (λ m. WorkEnds words m (work_end s)) ⊎ ((Rose f.reads f'.reads × (s ≡ status.ReadFault)) ⊎ (s ≡ status.Memory))
+  cause_ends status.Done cause = inl (answer_ends words cause.command old.contents (record { writes = cause.writes.2.0; status = status.Done }) cause.means (cause.writes.0, cause.writes.1, cause.writes.2.1))
+  cause_ends (status.Refused fault) cause = inl cause.work
+  cause_ends status.Usage cause = inl (told_map old.contents (λ m. Unit {0}) (λ m. WorkEnds words m status.Usage) (λ m u. (_, usage cause.no_form, refl)) (anything old.contents))
     where
-      new_is : world k' out' err' ≡ world (Some m) out (grown err (cannot_read p.now))
-      new_is = λ i. world (did.2 i).contents (did.2 i).out (said (cannot_read p.now) err err' e e' says quiet.3 i)
+      anything : (k : Option FileMap) → WhereTold k (λ m. Unit {0})
+      anything None = tt
+      anything (Some m) = tt
+  cause_ends status.ReadFault cause = by cause.cause
+    where
+      by : Rises f.reads f'.reads ⊎ ToldEnds words old.contents status.ReadFault → WhereTold old.contents (λ m. WorkEnds words m status.ReadFault) ⊎ ((Rose f.reads f'.reads × (status.ReadFault ≡ status.ReadFault)) ⊎ (status.ReadFault ≡ status.Memory))
+      by (inl rose) = inr (inl (rose.1, refl))
+      by (inr told) = inl (subst (λ (k : Option FileMap). WhereTold k (λ m. WorkEnds words m status.ReadFault)) (sym told.1) told.2)
+  cause_ends status.WriteFault cause = inl (told_map old.contents _ (λ m. WorkEnds words m status.Done) (λ m is. (_, is, refl)) cause.breaks_off.work)
+  cause_ends status.Memory cause = inr (inr refl)
 
-      by : ReadStops (Some m) (λ n. (front : List Word) × StopsAt n (inputs_of command) front p.now) f.reads f'.reads → DoesWork landed words (world (Some m) out err) (world k' out' err') status.ReadFault
-      by (inl rose) = absurd (quiet.0 rose.1)
+  -- where the work ends so, the run does, unless a read failed or memory was refused
+  comes : (s wanted : Status) → Cause landed words old new f f' s → ToldEnds words old.contents wanted → (wanted ≡ work_end s) ⊎ ((Rose f.reads f'.reads × (s ≡ status.ReadFault)) ⊎ (s ≡ status.Memory))
+  comes s wanted cause told =
+      ⊎_elim (λ ends. inl (one_ending words told.0 wanted (work_end s) told.2 (told_at old.contents told.0 (λ m. WorkEnds words m (work_end s)) told.1 ends))) (λ rest. inr rest) (cause_ends s cause)
+
+  refused_comes : (s : Status) (fault : Fault) → status.Refused fault ≡ work_end s → IsOrMemory (status.Refused fault) s
+  refused_comes status.Done fault is = absurd cc
+  refused_comes (status.Refused g) fault is = inl (sym is)
+  refused_comes status.Usage fault is = absurd cc
+  refused_comes status.ReadFault fault is = absurd cc
+  refused_comes status.WriteFault fault is = absurd cc
+  refused_comes status.Memory fault is = inr refl
+
+  read_fault_comes : (s : Status) → status.ReadFault ≡ work_end s → IsOrMemory status.ReadFault s
+  read_fault_comes status.Done is = absurd cc
+  read_fault_comes (status.Refused g) is = absurd cc
+  read_fault_comes status.Usage is = absurd cc
+  read_fault_comes status.ReadFault is = inl refl
+  read_fault_comes status.WriteFault is = absurd cc
+  read_fault_comes status.Memory is = inr refl
+
+  refuses : (s : Status) → Cause landed words old new f f' s → (fault : Fault) → ToldEnds words old.contents (status.Refused fault) → (Rose f.reads f'.reads → ⊥) → IsOrMemory (status.Refused fault) s
+  refuses s cause fault told quiet =
+      ⊎_elim (λ is. refused_comes s fault is) (λ rest. ⊎_elim (λ rose. absurd (quiet rose.0)) (λ memory. inr memory) rest) (comes s (status.Refused fault) cause told)
+
+  unread : (s : Status) → Cause landed words old new f f' s → ToldEnds words old.contents status.ReadFault → IsOrMemory status.ReadFault s
+  unread s cause told = ⊎_elim (λ is. read_fault_comes s is) (λ rest. ⊎_elim (λ rose. inl rose.1) (λ memory. inr memory) rest) (comes s status.ReadFault cause told)
+
+  no_form : (s : Status) → Cause landed words old new f f' s → NoForm words → IsOrMemory status.Usage s
+  no_form status.Done cause none = absurd (none cause.command cause.means)
+  no_form (status.Refused fault) cause none = absurd (none cause.command cause.means)
+  no_form status.Usage cause none = inl refl
+  no_form status.ReadFault cause none = absurd (none cause.command cause.means)
+  no_form status.WriteFault cause none = absurd (none cause.breaks_off.command cause.breaks_off.means)
+  no_form status.Memory cause none = inr refl
+
+module _ (landed : Landed) (words : List Word) (new : World) (f f' : Counts) (out err : Option (List ℕ)) where
+  unread_work : (m : FileMap) → IsUnread words (world (Some m) out err) new f f' → NoneRose f f' → DoesWork landed words (world (Some m) out err) new status.ReadFault
+  unread_work m cause quiet = by cause.stop.0
+    where
+      by : ReadStops (Some m) (λ n. (front : List Word) × StopsAt n (inputs_of cause.command) front cause.path) f.reads f'.reads → DoesWork landed words (world (Some m) out err) new status.ReadFault
+      by (inl rose) = absurd (quiet.reads rose.1)
       by (inr told) =
           let is : told.1 ≡ m = sym (some_is m told.1 told.2) in
-          (_, unreadable means (subst (λ (n : FileMap). StopsAt n (inputs_of command) told.3.0 p.now) is told.3.1), refl, new_is)
-  said_work m k' out' err' e e' (stops.Refused file fault) did quiet other says =
-      (_, answered means did.2.1 did.2.2, refl, λ i. world (did.1 i).contents (did.1 i).out (said (fault_text file.now fault) err err' e e' says quiet.3 i))
-  said_work m k' out' err' e e' (stops.Write p) did quiet other says = absurd (quiet.1 did.1.1)
-  said_work m k' out' err' e e' stops.Output did quiet other says = absurd (quiet.2 did.2.1)
+          (_, unreadable cause.means (subst (λ (n : FileMap). StopsAt n (inputs_of cause.command) told.3.0 cause.path) is told.3.1), refl, only_said landed words (world (Some m) out err) new f f' (cannot_read cause.path) cause.kept cause.message quiet)
 
-  pub stop_work : (k k' : Option FileMap) (out' err' : Option (List ℕ)) (e e' : ℕ) (stop : Stop) (s : Status) → Did k (world k' out' err) (Err stop) → Reports stop err err' e e' s → Quiet f f' e e' → s ≢ status.Memory → DoesWork landed words (world k out err) (world k' out' err') s
-  stop_work None k' out' err' e e' stop s did reports quiet kept = tt
-  stop_work (Some m) k' out' err' e e' stop s did (inl memory) quiet kept = absurd (kept memory.0)
-  stop_work (Some m) k' out' err' e e' stop s did (inr says) quiet kept =
-      let other : stop ≡ stops.Memory → ⊥ = λ is. kept (says.0 ∙ ap status_of is) in
-      subst (DoesWork landed words (world (Some m) out err) (world k' out' err')) (sym says.0) (said_work m k' out' err' e e' stop did quiet other says.2)
+  does_work : (k : Option FileMap) (s : Status) → Cause landed words (world k out err) new f f' s → NoneRose f f' → s ≢ status.Memory → DoesWork landed words (world k out err) new s
+  does_work None s cause quiet other = tt
+  does_work (Some m) status.Done cause quiet other = (_, answered cause.means cause.writes.1 cause.writes.2.1, refl, cause.writes.2.2)
+  does_work (Some m) (status.Refused fault) cause quiet other =
+      (_, answered cause.means cause.read.1 cause.read.2, refl, only_said landed words (world (Some m) out err) new f f' (fault_text cause.file fault) cause.kept cause.message quiet)
+  does_work (Some m) status.Usage cause quiet other = (_, usage cause.no_form, refl, only_said landed words (world (Some m) out err) new f f' usage_text cause.kept cause.message quiet)
+  does_work (Some m) status.ReadFault cause quiet other = unread_work m cause quiet
+  does_work (Some m) status.WriteFault cause quiet other = absurd (never_fails cause.breaks_off.failed f f' cause.breaks_off.fails quiet)
+  does_work (Some m) status.Memory cause quiet other = absurd (other refl)
 
-  -- ---- the causes of the statuses
+-- ---- the promises of the top call
 
-  refused_ends : (m : FileMap) (new : World) (stop : Stop) (fault : Fault) → Did (Some m) new (Err stop) → status_of stop ≡ status.Refused fault → WorkEnds words m (status.Refused fault)
-  refused_ends m new stops.Memory fault did is = absurd cc
-  refused_ends m new (stops.Read p) fault did is = absurd cc
-  refused_ends m new (stops.Write p) fault did is = absurd cc
-  refused_ends m new stops.Output fault did is = absurd cc
-  refused_ends m new (stops.Refused file g) fault did is = subst (WorkEnds words m) is (_, answered means did.2.1 did.2.2, refl)
+-- the cause of the status gives all of them
+pub cause_gives : (landed : Landed) (words : List Word) (old new : World) (f f' : Counts) (s : Status) → Cause landed words old new f f' s → Ends landed words old new f f' s
+cause_gives landed words old new f f' s cause =
+    record {
+      cause = cause;
+      work = λ quiet other. does_work landed words new f f' old.out old.err old.contents s cause quiet other;
+      no_form = λ none. no_form landed words old new f f' s cause none;
+      refuses = λ fault told quiet. refuses landed words old new f f' s cause fault told quiet;
+      unreadable = λ told. unread landed words old new f f' s cause told;
+    }
 
-  memory_refused : (fault : Fault) → status.Refused fault ≡ status.Memory → ⊥
-  memory_refused fault e = cc
+-- the command was run to its end
+pub done_ends : (landed : Landed) (words : List Word) (command : Command) → Means words command → (k k' : Option FileMap) (o o' err : Option (List ℕ)) (f f' : Counts)
+    → Runs landed command (world k o err) (world k' o' err) f f' (Ok tt) → Ends landed words (world k o err) (world k' o' err) f f' status.Done
+done_ends landed words command means k k' o o' err f f' ran = cause_gives landed words (world k o err) (world k' o' err) f f' status.Done (done_cause landed words command means k k' o o' err f f' ran)
 
-  pub refused : (k : Option FileMap) (new : World) (err' : Option (List ℕ)) (e e' : ℕ) (stop : Stop) (s : Status) → Did k new (Err stop) → Reports stop err err' e e' s → (fault : Fault) → s ≡ status.Refused fault → (m : FileMap) → k ≡ Some m → WorkEnds words m (status.Refused fault)
-  refused k new err' e e' stop s did (inl memory) fault is m told = absurd (memory_refused fault (sym is ∙ memory.0))
-  refused k new err' e e' stop s did (inr says) fault is m told = refused_ends m new stop fault (subst (λ (t : Option FileMap). Did t new (Err stop)) told did) (sym says.0 ∙ is)
+-- the command was stopped, and its message was said
+pub stop_ends : (landed : Landed) (words : List Word) (command : Command) → Means words command → (k k' : Option FileMap) (o o' err err' : Option (List ℕ)) (r r' w w' n n' e e' : ℕ) (stop : Stop) (s : Status)
+    → Runs landed command (world k o err) (world k' o' err) (counts r w n e) (counts r' w' n' e) (Err stop) → Reports stop err err' e e' s
+    → Ends landed words (world k o err) (world k' o' err') (counts r w n e) (counts r' w' n' e') s
+stop_ends landed words command means k k' o o' err err' r r' w w' n n' e e' stop s ran reports =
+    cause_gives landed words (world k o err) (world k' o' err') (counts r w n e) (counts r' w' n' e') s (stop_cause landed words command means k k' o o' err err' r r' w w' n n' e e' stop s ran reports)
 
-  told_refused : (stop : Stop) (fault : Fault) → status.Refused fault ≡ told_status stop → status_of stop ≡ status.Refused fault
-  told_refused stops.Memory fault is = absurd cc
-  told_refused (stops.Read p) fault is = absurd cc
-  told_refused (stops.Write p) fault is = absurd cc
-  told_refused stops.Output fault is = absurd cc
-  told_refused (stops.Refused file g) fault is = sym is
+abbrev same_kept : (contents : Option FileMap) (out err err' : Option (List ℕ)) (r w n e e' : ℕ) → Kept (world contents out err) (world contents out err') (counts r w n e) (counts r w n e')
+same_kept contents out err err' r w n e e' = record { contents = refl; out = refl; writes = refl; outs = refl }
 
-  told_read : (stop : Stop) → told_status stop ≡ status.ReadFault → status_of stop ≡ status.ReadFault
-  told_read stops.Memory is = absurd cc
-  told_read (stops.Read p) is = refl
-  told_read (stops.Write p) is = absurd cc
-  told_read stops.Output is = absurd cc
-  told_read (stops.Refused file g) is = absurd cc
+-- the words are of no stated form, and the usage text was said
+pub usage_ends : (landed : Landed) (words : List Word) (k : Option FileMap) (o err err' : Option (List ℕ)) (r w n e e' : ℕ) → NoForm words → Says usage_text err err' e e'
+    → Ends landed words (world k o err) (world k o err') (counts r w n e) (counts r w n e') status.Usage
+usage_ends landed words k o err err' r w n e e' none says =
+    cause_gives landed words (world k o err) (world k o err') (counts r w n e) (counts r w n e') status.Usage (record { no_form = none; kept = same_kept k o err err' r w n e e'; reads = refl; message = says })
 
-  pub refuses_done : (k : Option FileMap) (new : World) (fault : Fault) → Did k new (Ok tt) → (m : FileMap) → k ≡ Some m → WorkEnds words m (status.Refused fault) → (status.Done ≡ status.Refused fault) ⊎ (status.Done ≡ status.Memory)
-  refuses_done k new fault did m told ends = absurd (never (done_is k m new (status.Refused fault) did told ends))
-    where
-      never : status.Refused fault ≡ status.Done → ⊥
-      never e = cc
-
-  pub unreadable_done : (k : Option FileMap) (new : World) → Did k new (Ok tt) → (m : FileMap) → k ≡ Some m → WorkEnds words m status.ReadFault → (status.Done ≡ status.ReadFault) ⊎ (status.Done ≡ status.Memory)
-  unreadable_done k new did m told ends = absurd (never (done_is k m new status.ReadFault did told ends))
-    where
-      never : status.ReadFault ≡ status.Done → ⊥
-      never e = cc
-
-  kept : (stop : Stop) (s : Status) → s ≡ status_of stop → s ≢ status.Memory → stop ≡ stops.Memory → ⊥
-  kept stop s is other memory = other (is ∙ ap status_of memory)
-
-  pub refuses : (k : Option FileMap) (new : World) (err' : Option (List ℕ)) (e e' : ℕ) (stop : Stop) (s : Status) → Did k new (Err stop) → Reports stop err err' e e' s → (fault : Fault) (m : FileMap) → k ≡ Some m → WorkEnds words m (status.Refused fault) → (Rose f.reads f'.reads → ⊥) → (s ≡ status.Refused fault) ⊎ (s ≡ status.Memory)
-  refuses k new err' e e' stop s did (inl memory) fault m told ends quiet = inr memory.0
-  refuses k new err' e e' stop s did (inr says) fault m told ends quiet =
-      inl (⊎_elim (λ rose. absurd (quiet rose.0)) (λ is. says.0 ∙ told_refused stop fault is) (stop_is k m new stop (status.Refused fault) did told (kept stop s says.0 says.1) ends))
-
-  pub unreadable_comes : (k : Option FileMap) (new : World) (err' : Option (List ℕ)) (e e' : ℕ) (stop : Stop) (s : Status) → Did k new (Err stop) → Reports stop err err' e e' s → (m : FileMap) → k ≡ Some m → WorkEnds words m status.ReadFault → (s ≡ status.ReadFault) ⊎ (s ≡ status.Memory)
-  unreadable_comes k new err' e e' stop s did (inl memory) m told ends = inr memory.0
-  unreadable_comes k new err' e e' stop s did (inr says) m told ends =
-      inl (says.0 ∙ told_read stop (⊎_elim (λ rose. rose.1) (λ is. sym is) (stop_is k m new stop status.ReadFault did told (kept stop s says.0 says.1) ends)))
-
-  read_stop_cause : (k : Option FileMap) (new : World) (stop : Stop) → Did k new (Err stop) → status_of stop ≡ status.ReadFault → Rose f.reads f'.reads ⊎ ((m : FileMap) × (k ≡ Some m) × WorkEnds words m status.ReadFault)
-  read_stop_cause k new stops.Memory did is = absurd cc
-  read_stop_cause k new (stops.Write p) did is = absurd cc
-  read_stop_cause k new stops.Output did is = absurd cc
-  read_stop_cause k new (stops.Refused file g) did is = absurd cc
-  read_stop_cause k new (stops.Read p) did is = by did.3.0
-    where
-      by : ReadStops k (λ n. (front : List Word) × StopsAt n (inputs_of command) front p.now) f.reads f'.reads → Rose f.reads f'.reads ⊎ ((m : FileMap) × (k ≡ Some m) × WorkEnds words m status.ReadFault)
-      by (inl rose) = inl rose.1
-      by (inr told) = inr (told.1, told.2, (_, unreadable means told.3.1, refl))
-
-  memory_read : status.ReadFault ≡ status.Memory → ⊥
-  memory_read e = cc
-
-  memory_write : status.WriteFault ≡ status.Memory → ⊥
-  memory_write e = cc
-
-  pub read_cause : (k : Option FileMap) (new : World) (err' : Option (List ℕ)) (e e' : ℕ) (stop : Stop) (s : Status) → Did k new (Err stop) → Reports stop err err' e e' s → s ≡ status.ReadFault → Rose f.reads f'.reads ⊎ ((m : FileMap) × (k ≡ Some m) × WorkEnds words m status.ReadFault)
-  read_cause k new err' e e' stop s did (inl memory) is = absurd (memory_read (sym is ∙ memory.0))
-  read_cause k new err' e e' stop s did (inr says) is = read_stop_cause k new stop did (sym says.0 ∙ is)
-
-  write_stop_cause : (k : Option FileMap) (new : World) (stop : Stop) → Did k new (Err stop) → status_of stop ≡ status.WriteFault → Rose f.writes f'.writes ⊎ Rose f.outs f'.outs
-  write_stop_cause k new stops.Memory did is = absurd cc
-  write_stop_cause k new (stops.Read p) did is = absurd cc
-  write_stop_cause k new (stops.Write p) did is = inl did.1.1
-  write_stop_cause k new stops.Output did is = inr did.2.1
-  write_stop_cause k new (stops.Refused file g) did is = absurd cc
-
-  pub write_cause : (k : Option FileMap) (new : World) (err' : Option (List ℕ)) (e e' : ℕ) (stop : Stop) (s : Status) → Did k new (Err stop) → Reports stop err err' e e' s → s ≡ status.WriteFault → Rose f.writes f'.writes ⊎ Rose f.outs f'.outs
-  write_cause k new err' e e' stop s did (inl memory) is = absurd (memory_write (sym is ∙ memory.0))
-  write_cause k new err' e e' stop s did (inr says) is = write_stop_cause k new stop did (sym says.0 ∙ is)
-
-  -- ---- what stands
-
-  done_or_kept : (k : Option FileMap) (new : World) (stop : Stop) → Did k new (Err stop) → (Rose f.writes f'.writes → ⊥) → (Rose f.outs f'.outs → ⊥) → new ≡ world k out err
-  done_or_kept k new stops.Memory did writes outs = did.1
-  done_or_kept k new (stops.Read p) did writes outs = did.2
-  done_or_kept k new (stops.Refused file g) did writes outs = did.1
-  done_or_kept k new (stops.Write p) did writes outs = absurd (writes did.1.1)
-  done_or_kept k new stops.Output did writes outs = absurd (outs did.2.1)
-
-  pub stop_keeps : (k k' : Option FileMap) (out' : Option (List ℕ)) (stop : Stop) → Did k (world k' out' err) (Err stop) → (Rose f.writes f'.writes → ⊥) → (Rose f.outs f'.outs → ⊥) → (k' ≡ k) × (out' ≡ out)
-  stop_keeps k k' out' stop did writes outs =
-      let same = done_or_kept k (world k' out' err) stop did writes outs in
-      (ap (λ (w : World). w.contents) same, ap (λ (w : World). w.out) same)
-
-  broken_off : (m : FileMap) (k' : Option FileMap) (out' err' : Option (List ℕ)) (e e' : ℕ) (Failed : Write → Type 0) (text : List ℕ) → ((w : Write) → Failed w → broken_text w ≡ text)
-      → Read (Some m) command (Writing command (λ ws. StopsIn landed (world (Some m) out err) ws Failed (world k' out' err))) → Says text err err' e e' → BreaksOff landed words m (world (Some m) out err) (world k' out' err') e e'
-  broken_off m k' out' err' e e' Failed text names read says =
-      let stop = read.2.2 in
-      record {
-        work = _;
-        is = answered means read.1 read.2.1;
-        done = stop.done;
-        failed = stop.failed;
-        behind = stop.behind;
-        parts = stop.parts;
-        stands = world k' out' err;
-        broken = stop.broken;
-        contents = refl;
-        out = refl;
-        message = subst (λ (t : List ℕ). Says t err err' e e') (sym (names stop.failed stop.which)) says;
-      }
-
-  stop_breaks_off : (m : FileMap) (k' : Option FileMap) (out' err' : Option (List ℕ)) (e e' : ℕ) (stop : Stop) → Did (Some m) (world k' out' err) (Err stop) → status_of stop ≡ status.WriteFault → Says (message_of stop) err err' e e' → BreaksOff landed words m (world (Some m) out err) (world k' out' err') e e'
-  stop_breaks_off m k' out' err' e e' stops.Memory did is says = absurd cc
-  stop_breaks_off m k' out' err' e e' (stops.Read p) did is says = absurd cc
-  stop_breaks_off m k' out' err' e e' (stops.Refused file g) did is says = absurd cc
-  stop_breaks_off m k' out' err' e e' (stops.Write p) did is says = broken_off m k' out' err' e e' (IsFileWrite p.now) (cannot_write p.now) (λ w which. ap broken_text which.1) did.3 says
-  stop_breaks_off m k' out' err' e e' stops.Output did is says = broken_off m k' out' err' e e' IsTextWrite cannot_write_output (λ w which. ap broken_text which.1) did.3 says
-
-  pub breaks_off : (k k' : Option FileMap) (out' err' : Option (List ℕ)) (e e' : ℕ) (stop : Stop) (s : Status) → Did k (world k' out' err) (Err stop) → Reports stop err err' e e' s → s ≡ status.WriteFault → (m : FileMap) → k ≡ Some m → BreaksOff landed words m (world k out err) (world k' out' err') e e'
-  breaks_off k k' out' err' e e' stop s did (inl memory) is m told = absurd (memory_write (sym is ∙ memory.0))
-  breaks_off k k' out' err' e e' stop s did (inr says) is m told =
-      subst (λ (t : Option FileMap). BreaksOff landed words m (world t out err) (world k' out' err') e e') (sym told)
-      (stop_breaks_off m k' out' err' e e' stop (subst (λ (t : Option FileMap). Did t (world k' out' err) (Err stop)) told did) (sym says.0 ∙ is) says.2)
-
-  -- ---- the last message
-
-  stop_says_unread : (k : Option FileMap) (new : World) (err' : Option (List ℕ)) (e e' : ℕ) (stop : Stop) → Did k new (Err stop) → status_of stop ≡ status.ReadFault → Says (message_of stop) err err' e e' → SaysUnread words k f.reads f'.reads err err' e e'
-  stop_says_unread k new err' e e' stops.Memory did is says = absurd cc
-  stop_says_unread k new err' e e' (stops.Write p) did is says = absurd cc
-  stop_says_unread k new err' e e' stops.Output did is says = absurd cc
-  stop_says_unread k new err' e e' (stops.Refused file g) did is says = absurd cc
-  stop_says_unread k new err' e e' (stops.Read p) did is says = record { command = command; means = means; path = p.now; front = did.3.1; cause = cause did.3.0; message = says }
-    where
-      cause : ReadStops k (λ n. (front : List Word) × StopsAt n (inputs_of command) front p.now) f.reads f'.reads → ReadStops k (λ n. CantRead n p.now) f.reads f'.reads
-      cause (inl rose) = inl rose
-      cause (inr told) = inr (told.0, told.1, told.2, told.3.1.cant)
-
-  pub says_unread : (k : Option FileMap) (new : World) (err' : Option (List ℕ)) (e e' : ℕ) (stop : Stop) (s : Status) → Did k new (Err stop) → Reports stop err err' e e' s → s ≡ status.ReadFault → SaysUnread words k f.reads f'.reads err err' e e'
-  says_unread k new err' e e' stop s did (inl memory) is = absurd (memory_read (sym is ∙ memory.0))
-  says_unread k new err' e e' stop s did (inr says) is = stop_says_unread k new err' e e' stop did (sym says.0 ∙ is) says.2
-
-  stop_says_refused : (k : Option FileMap) (new : World) (err' : Option (List ℕ)) (e e' : ℕ) (stop : Stop) (fault : Fault) → Did k new (Err stop) → status_of stop ≡ status.Refused fault → Says (message_of stop) err err' e e' → SaysRefused words k fault err err' e e'
-  stop_says_refused k new err' e e' stops.Memory fault did is says = absurd cc
-  stop_says_refused k new err' e e' (stops.Read p) fault did is says = absurd cc
-  stop_says_refused k new err' e e' (stops.Write p) fault did is says = absurd cc
-  stop_says_refused k new err' e e' stops.Output fault did is says = absurd cc
-  stop_says_refused k new err' e e' (stops.Refused file g) fault did is says =
-      subst (λ (h : Fault). SaysRefused words k h err err' e e') (same is) (record { command = command; means = means; file = file.now; read = did.2; message = says })
-    where
-      same : status.Refused g ≡ status.Refused fault → g ≡ fault
-      same e = cc
-
-  pub says_refused : (k : Option FileMap) (new : World) (err' : Option (List ℕ)) (e e' : ℕ) (stop : Stop) (s : Status) → Did k new (Err stop) → Reports stop err err' e e' s → (fault : Fault) → s ≡ status.Refused fault → SaysRefused words k fault err err' e e'
-  says_refused k new err' e e' stop s did (inl memory) fault is = absurd (memory_refused fault (sym is ∙ memory.0))
-  says_refused k new err' e e' stop s did (inr says) fault is = stop_says_refused k new err' e e' stop fault did (sym says.0 ∙ is) says.2
-
-  unwritten : (k : Option FileMap) (new : World) (err' : Option (List ℕ)) (e e' : ℕ) (Failed : Write → Type 0) (text : List ℕ) → ((w : Write) → Failed w → broken_text w ≡ text) → ((w : Write) → Failed w → RisesFor w f.writes f'.writes f.outs f'.outs)
-      → Read k command (Writing command (λ ws. StopsIn landed (world k out err) ws Failed new)) → Says text err err' e e' → SaysUnwritten words k f.writes f'.writes f.outs f'.outs err err' e e'
-  unwritten k new err' e e' Failed text names rises read says =
-      let stop = read.2.2 in
-      record {
-        command = command;
-        means = means;
-        done = stop.done;
-        failed = stop.failed;
-        behind = stop.behind;
-        read = (read.0, read.1, subst (λ (ws : List Write). Answers command read.0 (record { writes = ws; status = status.Done })) stop.parts read.2.1);
-        cause = rises stop.failed stop.which;
-        message = subst (λ (t : List ℕ). Says t err err' e e') (sym (names stop.failed stop.which)) says;
-      }
-
-  stop_says_unwritten : (k : Option FileMap) (new : World) (err' : Option (List ℕ)) (e e' : ℕ) (stop : Stop) → Did k new (Err stop) → status_of stop ≡ status.WriteFault → Says (message_of stop) err err' e e' → SaysUnwritten words k f.writes f'.writes f.outs f'.outs err err' e e'
-  stop_says_unwritten k new err' e e' stops.Memory did is says = absurd cc
-  stop_says_unwritten k new err' e e' (stops.Read p) did is says = absurd cc
-  stop_says_unwritten k new err' e e' (stops.Refused file g) did is says = absurd cc
-  stop_says_unwritten k new err' e e' (stops.Write p) did is says =
-      unwritten k new err' e e' (IsFileWrite p.now) (cannot_write p.now) (λ w which. ap broken_text which.1) (λ w which. subst (λ (v : Write). RisesFor v f.writes f'.writes f.outs f'.outs) (sym which.1) did.1) did.3 says
-  stop_says_unwritten k new err' e e' stops.Output did is says =
-      unwritten k new err' e e' IsTextWrite cannot_write_output (λ w which. ap broken_text which.1) (λ w which. subst (λ (v : Write). RisesFor v f.writes f'.writes f.outs f'.outs) (sym which.1) did.2) did.3 says
-
-  pub says_unwritten : (k : Option FileMap) (new : World) (err' : Option (List ℕ)) (e e' : ℕ) (stop : Stop) (s : Status) → Did k new (Err stop) → Reports stop err err' e e' s → s ≡ status.WriteFault → SaysUnwritten words k f.writes f'.writes f.outs f'.outs err err' e e'
-  says_unwritten k new err' e e' stop s did (inl memory) is = absurd (memory_write (sym is ∙ memory.0))
-  says_unwritten k new err' e e' stop s did (inr says) is = stop_says_unwritten k new err' e e' stop did (sym says.0 ∙ is) says.2
+-- memory was refused before anything was read
+pub memory_ends : (landed : Landed) (words : List Word) (k : Option FileMap) (o err : Option (List ℕ)) (r w n e : ℕ) → Ends landed words (world k o err) (world k o err) (counts r w n e) (counts r w n e) status.Memory
+memory_ends landed words k o err r w n e =
+    cause_gives landed words (world k o err) (world k o err) (counts r w n e) (counts r w n e) status.Memory (record { stands = inl (same_kept k o err err r w n e e); silent = refl; errs = refl })

@@ -27,9 +27,9 @@ use Rattle.jc_base.specs.declared.refusal.Refusal.{Refusal}
 use Rattle.jc_top.specs.ClassInfo.{Lists, prints, refuses}
 use Rattle.jc_top.specs.Command.{Command, inputs_of, Means, NoForm}
 use Rattle.jc_top.specs.Looks.{command_seen, write_seen}
-use Rattle.jc_top.specs.World.{World, Write, to_file, to_out, to_err, Landed, after, Broken, TextBroken, StopsIn, grown}
-use Rattle.jc_top.specs.Texts.{cannot_read, cannot_write, cannot_write_output, fault_text}
-use Rattle.jc_top.specs.Work.{Holds, CantRead, AreRead, StopsAt, Answers, refusing, Work, IsWork}
+use Rattle.jc_top.specs.World.{World, Counts, NoneRose, Write, to_file, to_out, to_err, Landed, after, Broken, TextBroken, StopsIn, grown}
+use Rattle.jc_top.specs.Texts.{cannot_read, cannot_write, cannot_write_output, fault_text, usage_text}
+use Rattle.jc_top.specs.Work.{Holds, CantRead, AreRead, StopsAt, Answers, refusing, IsWork, WorkEnds, DoesWork}
 
 -- ---- words
 
@@ -155,24 +155,20 @@ WroteAll landed old new files files' outs outs' writes (Err (stops.Refused file 
 
 -- ---- a command
 
--- the faults of reads, of writes, and of the text on `out`
-pub record Faults : Type 0 where
-  pub reads : ℕ
-  pub writes : ℕ
-  pub outs : ℕ
+-- the command's answer to what was read is to make writes, of which more is known
+abbrev pub Writing : Option FileMap → Command → (List Write → Type 0) → Type 0
+Writing contents command P = Read contents command (λ texts. (writes : List Write) × Answers command texts (record { writes = writes; status = status.Done }) × P writes)
 
 -- what a command without its last message gives
-abbrev pub Runs : Landed → Command → World → World → Faults → Faults → Result (Unit {0}) Stop → Type 0
-Runs landed command old new f f' (Ok _) = (f' ≡ f)
-    × Read old.contents command (λ texts. (writes : List Write) × Answers command texts (record { writes = writes; status = status.Done }) × (new ≡ after landed old writes))
+abbrev pub Runs : Landed → Command → World → World → Counts → Counts → Result (Unit {0}) Stop → Type 0
+Runs landed command old new f f' (Ok _) = (f' ≡ f) × Writing old.contents command (λ writes. new ≡ after landed old writes)
 Runs landed command old new f f' (Err stops.Memory) = (f' ≡ f) × (new ≡ old)
-Runs landed command old new f f' (Err (stops.Read p)) = (f'.writes ≡ f.writes) × (f'.outs ≡ f.outs) × (new ≡ old)
-    × ReadsStop old.contents (inputs_of command) p.now f.reads f'.reads
+Runs landed command old new f f' (Err (stops.Read p)) = (f' ≡ record f { reads = f'.reads }) × (new ≡ old) × ReadsStop old.contents (inputs_of command) p.now f.reads f'.reads
 Runs landed command old new f f' (Err (stops.Refused file fault)) = (f' ≡ f) × (new ≡ old) × Read old.contents command (λ texts. Answers command texts (refusing file.now fault))
-Runs landed command old new f f' (Err (stops.Write p)) = (f'.reads ≡ f.reads) × Rises f.writes f'.writes × (f'.outs ≡ f.outs)
-    × Read old.contents command (λ texts. (writes : List Write) × Answers command texts (record { writes = writes; status = status.Done }) × StopsIn landed old writes (IsFileWrite p.now) new)
-Runs landed command old new f f' (Err stops.Output) = (f'.reads ≡ f.reads) × (f'.writes ≡ f.writes) × Rises f.outs f'.outs
-    × Read old.contents command (λ texts. (writes : List Write) × Answers command texts (record { writes = writes; status = status.Done }) × StopsIn landed old writes IsTextWrite new)
+Runs landed command old new f f' (Err (stops.Write p)) = (f' ≡ record f { writes = f'.writes }) × Rises f.writes f'.writes
+    × Writing old.contents command (λ writes. StopsIn landed old writes (IsFileWrite p.now) new)
+Runs landed command old new f f' (Err stops.Output) = (f' ≡ record f { outs = f'.outs }) × Rises f.outs f'.outs
+    × Writing old.contents command (λ writes. StopsIn landed old writes IsTextWrite new)
 
 -- ---- the last message
 
@@ -198,63 +194,121 @@ status_of (stops.Refused file fault) = status.Refused fault
 abbrev pub Reports : Stop → (old new : Option (List ℕ)) → (f f' : ℕ) → Status → Type 0
 Reports stop old new f f' s = ((s ≡ status.Memory) × (f' ≡ f) × (new ≡ old)) ⊎ ((s ≡ status_of stop) × (s ≢ status.Memory) × Says (message_of stop) old new f f')
 
--- ---- a write that failed
+-- ---- what stands at the end
+
+-- no write was made and none failed: the files and the text on `out` stay
+pub record Kept (old new : World) (f f' : Counts) : Type 0 where
+  pub contents : new.contents ≡ old.contents
+  pub out : new.out ≡ old.out
+  pub writes : f'.writes ≡ f.writes
+  pub outs : f'.outs ≡ f.outs
+
+-- the count rose of what the write goes to, which is a file or the text on `out`, and the other stays
+abbrev pub FailsFor : Write → Counts → Counts → Type 0
+FailsFor (to_file path bytes) f f' = Rises f.writes f'.writes × (f'.outs ≡ f.outs)
+FailsFor (to_out text) f f' = Rises f.outs f'.outs × (f'.writes ≡ f.writes)
+FailsFor (to_err text) f f' = ⊥
+
+-- a write of the command failed: those in front of it were made, and it was made in part
+pub record BreaksOff (landed : Landed) (words : List Word) (old new : World) (f f' : Counts) : Type 0 where
+  pub command : Command
+  pub means : Means words command
+  pub done : List Write
+  pub failed : Write
+  pub behind : List Write
+  -- The command's answer to what was read is to make these writes, and where contents are told they are those of the work.
+  pub read : Read old.contents command (λ texts. Answers command texts (record { writes = done ++ failed ∷ behind; status = status.Done }))
+  pub work : WhereTold old.contents (λ m. IsWork words m (record { reads = inputs_of command; writes = done ++ failed ∷ behind; status = status.Done }))
+  -- The count of what the write goes to rose, and no read failed.
+  pub fails : FailsFor failed f f'
+  pub reads : f'.reads ≡ f.reads
+  -- What stands of the files and of the text on `out`.
+  pub stands : World
+  pub broken : Broken landed (after landed old done) failed stands
+  pub contents : new.contents ≡ stands.contents
+  pub out : new.out ≡ stands.out
+
+-- where contents are told, the work ends so
+abbrev pub ToldEnds : List Word → Option FileMap → Status → Type 0
+ToldEnds words contents s = (m : FileMap) × (contents ≡ Some m) × WorkEnds words m s
+
+-- ---- each status: when it comes, what stands then, and what `err` holds
+
+-- Done: no count moved, the writes of the command were made, and nothing is said
+pub record IsDone (landed : Landed) (words : List Word) (old new : World) (f f' : Counts) : Type 0 where
+  pub command : Command
+  pub means : Means words command
+  pub writes : Writing old.contents command (λ writes. new ≡ after landed old writes)
+  pub silent : new.err ≡ old.err
+  pub counts : f' ≡ f
+
+-- Refused: no count but that of `err` moved, the command's answer to what was read is to refuse an input, which is named
+pub record IsRefused (words : List Word) (old new : World) (f f' : Counts) (fault : Fault) : Type 0 where
+  pub command : Command
+  pub means : Means words command
+  pub file : Word
+  pub read : Read old.contents command (λ texts. Answers command texts (refusing file fault))
+  pub work : WhereTold old.contents (λ m. WorkEnds words m (status.Refused fault))
+  pub kept : Kept old new f f'
+  pub reads : f'.reads ≡ f.reads
+  pub message : Says (fault_text file fault) old.err new.err f.errs f'.errs
+
+-- Usage: no count but that of `err` moved, and the words are of no stated form
+pub record IsUsage (words : List Word) (old new : World) (f f' : Counts) : Type 0 where
+  pub no_form : NoForm words
+  pub kept : Kept old new f f'
+  pub reads : f'.reads ≡ f.reads
+  pub message : Says usage_text old.err new.err f.errs f'.errs
+
+-- ReadFault: an input can't be read, which is named, and those in front of it were
+pub record IsUnread (words : List Word) (old new : World) (f f' : Counts) : Type 0 where
+  pub command : Command
+  pub means : Means words command
+  pub path : Word
+  pub stop : ReadsStop old.contents (inputs_of command) path f.reads f'.reads
+  -- The count of reads that failed rose, or the work ends so.
+  pub cause : Rises f.reads f'.reads ⊎ ToldEnds words old.contents status.ReadFault
+  pub kept : Kept old new f f'
+  pub message : Says (cannot_read path) old.err new.err f.errs f'.errs
 
 abbrev pub broken_text : Write → List ℕ
 broken_text (to_file path bytes) = cannot_write path
 broken_text (to_out text) = cannot_write_output
 broken_text (to_err text) = cannot_write_output
 
--- the writes of the work were made up to one that failed, and `err` says so
-pub record BreaksOff (landed : Landed) (words : List Word) (m : FileMap) (old new : World) (e e' : ℕ) : Type 0 where
-  pub work : Work
-  pub is : IsWork words m work
-  pub done : List Write
-  pub failed : Write
-  pub behind : List Write
-  pub parts : work.writes ≡ done ++ failed ∷ behind
-  pub stands : World
-  pub broken : Broken landed (after landed old done) failed stands
-  pub contents : new.contents ≡ stands.contents
-  pub out : new.out ≡ stands.out
-  pub message : Says (broken_text failed) old.err new.err e e'
+-- WriteFault: a write of the command failed, and the message names where it goes
+pub record IsUnwritten (landed : Landed) (words : List Word) (old new : World) (f f' : Counts) : Type 0 where
+  pub breaks_off : BreaksOff landed words old new f f'
+  pub message : Says (broken_text breaks_off.failed) old.err new.err f.errs f'.errs
 
--- ---- what `err` holds at the end: the message of the cause, or a part of it where its own count of faults rose
+-- Memory: nothing was written, or the writes broke off, and nothing is said
+pub record IsOutOfMemory (landed : Landed) (words : List Word) (old new : World) (f f' : Counts) : Type 0 where
+  pub stands : Kept old new f f' ⊎ BreaksOff landed words old new f f'
+  pub silent : new.err ≡ old.err
+  pub errs : f'.errs ≡ f.errs
 
--- no message
-abbrev pub SaysNothing : (old new : Option (List ℕ)) → (e e' : ℕ) → Type 0
-SaysNothing old new e e' = (e' ≡ e) × (new ≡ old)
+abbrev pub Cause : Landed → List Word → World → World → Counts → Counts → Status → Type 0
+Cause landed words old new f f' status.Done = IsDone landed words old new f f'
+Cause landed words old new f f' (status.Refused fault) = IsRefused words old new f f' fault
+Cause landed words old new f f' status.Usage = IsUsage words old new f f'
+Cause landed words old new f f' status.ReadFault = IsUnread words old new f f'
+Cause landed words old new f f' status.WriteFault = IsUnwritten landed words old new f f'
+Cause landed words old new f f' status.Memory = IsOutOfMemory landed words old new f f'
 
--- an input can't be read, and the message names it: the count rose, or what is told says why
-pub record SaysUnread (words : List Word) (contents : Option FileMap) (reads reads' : ℕ) (old new : Option (List ℕ)) (e e' : ℕ) : Type 0 where
-  pub command : Command
-  pub means : Means words command
-  pub path : Word
-  pub front : FrontIsRead contents (inputs_of command) path
-  pub cause : ReadStops contents (λ m. CantRead m path) reads reads'
-  pub message : Says (cannot_read path) old new e e'
+-- ---- the end of a run
 
--- an input is refused, and the message names it: the command answers so to what was read
-pub record SaysRefused (words : List Word) (contents : Option FileMap) (fault : Fault) (old new : Option (List ℕ)) (e e' : ℕ) : Type 0 where
-  pub command : Command
-  pub means : Means words command
-  pub file : Word
-  pub read : Read contents command (λ texts. Answers command texts (refusing file fault))
-  pub message : Says (fault_text file fault) old new e e'
+-- this status, or want of memory
+abbrev pub IsOrMemory : Status → Status → Type 0
+IsOrMemory wanted s = (s ≡ wanted) ⊎ (s ≡ status.Memory)
 
--- the count rose of what the write goes to, which is a file or the text on `out`
-abbrev pub RisesFor : Write → (files files' outs outs' : ℕ) → Type 0
-RisesFor (to_file path bytes) files files' outs outs' = Rises files files'
-RisesFor (to_out text) files files' outs outs' = Rises outs outs'
-RisesFor (to_err text) files files' outs outs' = ⊥
-
--- a write of the command failed, and the message names it: the command answers with the writes to what was read
-pub record SaysUnwritten (words : List Word) (contents : Option FileMap) (files files' outs outs' : ℕ) (old new : Option (List ℕ)) (e e' : ℕ) : Type 0 where
-  pub command : Command
-  pub means : Means words command
-  pub done : List Write
-  pub failed : Write
-  pub behind : List Write
-  pub read : Read contents command (λ texts. Answers command texts (record { writes = done ++ failed ∷ behind; status = status.Done }))
-  pub cause : RisesFor failed files files' outs outs'
-  pub message : Says (broken_text failed) old new e e'
+pub record Ends (landed : Landed) (words : List Word) (old new : World) (f f' : Counts) (s : Status) : Type 0 where
+  -- Each status comes by its cause alone, which says too what stands.
+  pub cause : Cause landed words old new f f' s
+  -- Where contents are told, no count rose and no memory was refused, the writes and the status are those of the work.
+  pub work : NoneRose f f' → s ≢ status.Memory → DoesWork landed words old new s
+  -- Usage comes where the words are of no stated form.
+  pub no_form : NoForm words → IsOrMemory status.Usage s
+  -- Refused comes where the work ends so, and no read failed.
+  pub refuses : (fault : Fault) → ToldEnds words old.contents (status.Refused fault) → ¬ (Rose f.reads f'.reads) → IsOrMemory (status.Refused fault) s
+  -- ReadFault comes where the work ends so.
+  pub unreadable : ToldEnds words old.contents status.ReadFault → IsOrMemory status.ReadFault s

@@ -8,12 +8,18 @@ pub record World : Type 0 where
   pub out : Option (List ℕ)
   pub err : Option (List ℕ)
 
--- how often the files and the texts have failed
+abbrev pub world : Option FileMap → (out err : Option (List ℕ)) → World
+world contents out err = record { contents = contents; out = out; err = err }
+
+-- how often reads and writes of the files, and texts on `out` and `err`, have failed
 pub record Counts : Type 0 where
   pub reads : ℕ
   pub writes : ℕ
   pub outs : ℕ
   pub errs : ℕ
+
+abbrev pub counts : (reads writes outs errs : ℕ) → Counts
+counts reads writes outs errs = record { reads = reads; writes = writes; outs = outs; errs = errs }
 
 pub record NoneRose (old new : Counts) : Type 0 where
   pub reads : ¬ (Rose old.reads new.reads)

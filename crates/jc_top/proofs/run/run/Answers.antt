@@ -7,17 +7,17 @@ use Rattle.jc_top.proofs.RunLaws.{runs_on, run_stops}
 use Rattle.jc_top.proofs.run.run.Goals as goal
 
 pub returns-in_err-writes : goal.returns-in_err-writes
-returns-in_err-writes g c = λ err.
+returns-in_err-writes g c = λ err errs.
     let F = g.F.Files in
     let p = err_from_is_err_and c.from_residual.result c.from_residual.ensures.1 in
     rw (p.1, p.2) (run_stops F.landed (command_seen c.args.command.now) (F.contents c.args.files.now) (F.contents c.prepare.new.files) c.in_err-writes.ensures.contents
-    (g.O.Sink.told c.args.out.now) err _ _ _ _ (g.O.Sink.faults c.args.out.now) c.in_err-writes.field-0.0 c.in_err-writes.ensures.write_faults c.in_err-writes.ensures.gives)
+    (g.O.Sink.told c.args.out.now) err _ _ _ _ (g.O.Sink.faults c.args.out.now) errs c.in_err-writes.field-0.0 c.in_err-writes.ensures.write_faults c.in_err-writes.ensures.gives)
 
 pub returns : goal.returns
-returns g c = λ err.
+returns g c = λ err errs.
     let F = g.F.Files in
     let O = g.O.Sink in
     let wrote = subst (λ (ws : List Written). WroteAll F.landed (record { contents = F.contents c.prepare.new.files; out = O.told c.args.out.now; err = err }) (record { contents = F.contents c.write_all.new.files; out = O.told c.write_all.new.out; err = err })
     (F.write_faults c.prepare.new.files) (F.write_faults c.write_all.new.files) (O.faults c.args.out.now) (O.faults c.write_all.new.out) (map write_seen ws) c.write_all.result) c.deref.ensures.value (c.write_all.ensures.gives err) in
     runs_on F.landed (command_seen c.args.command.now) (F.contents c.args.files.now) (F.contents c.prepare.new.files) c.in_ok-writes.ensures.contents (F.contents c.write_all.new.files) (O.told c.args.out.now) (O.told c.write_all.new.out) err
-    _ _ _ _ _ _ _ _ c.in_ok-writes.writes c.write_all.result c.in_ok-writes.ensures.write_faults c.write_all.ensures.read_faults c.in_ok-writes.ensures.gives wrote
+    _ _ _ _ _ _ _ _ errs c.in_ok-writes.writes c.write_all.result c.in_ok-writes.ensures.write_faults c.write_all.ensures.read_faults c.in_ok-writes.ensures.gives wrote
