@@ -7,7 +7,8 @@ use Rattle.std.proofs.lemmas.Slice.Eq.{bytes_eq-Decides}
 use Rattle.jc_base.proofs.DecoderLaws.{chosen, guard_some, some_is}
 use Rattle.std.specs.declared.alloc.Global.{Global}
 use Rattle.jc_top.specs.Words.{Word, words_of, Use, use_words, Call, call_words, Scan, with_use, scan, is_value, is_option, is_relative, are_distinct, components, is_component}
-use Rattle.jc_top.specs.Command.{Command, merge, class_info, class_info_call, merge_one, class_info_some, IsCallOf, inputs_of, Means, NoForm, decide, decide_merge, decide_class_info, decide_scan, command_of, destfile}
+use Rattle.jc_top.specs.Command.{Command, merge, exec_info, class_info, exec_info_call, class_info_call, AreFiles, merge_some, exec_info_some, class_info_some, IsCallOf, inputs_of, Means, NoForm}
+use Rattle.jc_top.specs.Command.{are_files, decide, decide_merge, decide_exec_info, decide_class_info, decide_scan, command_of, destfile}
 
 -- ---- a scan spells the words
 
@@ -33,17 +34,7 @@ scan_spells (w ∷ v ∷ rest) s e = elim (chosen (is_option w) (with_use (recor
     used None spells e = absurd cc
     used (Some t) spells e = ap (λ (l : List Word). w ∷ v ∷ l) (spells t refl) ∙ ap spelled (some_is (record { uses = record { option = w; value = v } ∷ t.uses; files = t.files }) s e)
 
--- ---- merge
-
-values_differ : (a b : Word) → bytes_eq a b ≡ false → a ≢ b
-values_differ a b e same = true≢false (sym ((bytes_eq-Decides a b).1 same) ∙ e)
-
-no_match : (a b : Word) → a ≢ b → bytes_eq a b ≡ false
-no_match a b differ = by (bytes_eq a b) refl
-  where
-    by : (t : Bool) → bytes_eq a b ≡ t → bytes_eq a b ≡ false
-    by true e = absurd (differ ((bytes_eq-Decides a b).0 e))
-    by false e = e
+-- ---- what a decision says of the call
 
 and_parts : (a b : Bool) → (a && b) ≡ true → (a ≡ true) × (b ≡ true)
 and_parts true b e = (refl, e)
@@ -53,22 +44,6 @@ not_true : (b : Bool) → not b ≡ true → b ≡ false
 not_true true e = absurd cc
 not_true false e = refl
 
--- what a decision says of the call
-merge_decided : (uses : List Use) (files : List Word) (command : Command) → decide_merge uses files ≡ Some command → IsCallOf (record { command = codes "merge"; uses = uses; files = files }) command
-merge_decided [] files command e = absurd cc
-merge_decided (u ∷ []) [] command e = absurd cc
-merge_decided (u ∷ []) (input ∷ []) command e =
-    let test = guard_some (bytes_eq u.option destfile && (is_value u.value && (is_value input && not (bytes_eq u.value input)))) (Some (merge u.value input)) command e in
-    let name = and_parts (bytes_eq u.option destfile) _ test.0 in
-    let out = and_parts (is_value u.value) _ name.1 in
-    let path = and_parts (is_value input) _ out.1 in
-    let differ = values_differ u.value input (not_true (bytes_eq u.value input) path.1) in
-    let same : u.option ≡ destfile = (bytes_eq-Decides u.option destfile).0 name.0 in
-    subst (IsCallOf (record { command = codes "merge"; uses = u ∷ []; files = input ∷ [] })) (some_is (merge u.value input) command test.1)
-    (subst (λ (w : Word). IsCallOf (record { command = codes "merge"; uses = record { option = w; value = u.value } ∷ []; files = input ∷ [] }) (merge u.value input)) (sym same) (merge_one u.value input out.0 path.0 differ))
-merge_decided (u ∷ []) (input ∷ other ∷ files) command e = absurd cc
-merge_decided (u ∷ v ∷ uses) files command e = absurd cc
-
 all_by_recursion : (p : Word → Bool) (ws : List Word) → list_all p ws ≡ true → AllByRecursion (λ w. IsTrue (p w)) ws
 all_by_recursion p [] all = tt
 all_by_recursion p (w ∷ ws) all = let parts = and_parts (p w) (list_all p ws) all in (parts.0, all_by_recursion p ws parts.1)
@@ -77,16 +52,39 @@ list_all_of : (p : Word → Bool) (ws : List Word) → AllByRecursion (λ w. IsT
 list_all_of p [] all = refl
 list_all_of p (w ∷ ws) all = rw (all.0, list_all_of p ws all.1) refl
 
+files_are : (test : Word → Bool) (ws : List Word) → are_files test ws ≡ true → AreFiles test ws
+files_are test ws e = let parts = and_parts (list_all test ws) (are_distinct ws) e in record { each = all_by_recursion test ws parts.0; distinct = parts.1 }
+
+files_pass : (test : Word → Bool) (ws : List Word) → AreFiles test ws → are_files test ws ≡ true
+files_pass test ws files = rw (list_all_of test ws files.each, files.distinct) refl
+
 cons_not_nil : {w : Word} {ws : List Word} → (w ∷ ws) ≢ []
 cons_not_nil e = cc
+
+merge_decided : (uses : List Use) (files : List Word) (command : Command) → decide_merge uses files ≡ Some command → IsCallOf (record { command = codes "merge"; uses = uses; files = files }) command
+merge_decided [] files command e = absurd cc
+merge_decided (u ∷ []) [] command e = absurd cc
+merge_decided (u ∷ []) (input ∷ inputs) command e =
+    let test = guard_some (bytes_eq u.option destfile && are_files is_value (u.value ∷ input ∷ inputs)) (Some (merge u.value (input ∷ inputs))) command e in
+    let parts = and_parts (bytes_eq u.option destfile) (are_files is_value (u.value ∷ input ∷ inputs)) test.0 in
+    let same : u.option ≡ destfile = (bytes_eq-Decides u.option destfile).0 parts.0 in
+    subst (IsCallOf (record { command = codes "merge"; uses = u ∷ []; files = input ∷ inputs })) (some_is (merge u.value (input ∷ inputs)) command test.1)
+    (subst (λ (w : Word). IsCallOf (record { command = codes "merge"; uses = record { option = w; value = u.value } ∷ []; files = input ∷ inputs }) (merge u.value (input ∷ inputs))) (sym same)
+    (merge_some u.value (input ∷ inputs) cons_not_nil (files_are is_value (u.value ∷ input ∷ inputs) parts.1)))
+merge_decided (u ∷ v ∷ uses) files command e = absurd cc
+
+exec_info_decided : (uses : List Use) (files : List Word) (command : Command) → decide_exec_info uses files ≡ Some command → IsCallOf (record { command = codes "execinfo"; uses = uses; files = files }) command
+exec_info_decided [] [] command e = absurd cc
+exec_info_decided [] (path ∷ paths) command e =
+    let test = guard_some (are_files is_value (path ∷ paths)) (Some (exec_info (path ∷ paths))) command e in
+    subst (IsCallOf (exec_info_call (path ∷ paths))) (some_is (exec_info (path ∷ paths)) command test.1) (exec_info_some (path ∷ paths) cons_not_nil (files_are is_value (path ∷ paths) test.0))
+exec_info_decided (u ∷ uses) files command e = absurd cc
 
 class_info_decided : (uses : List Use) (files : List Word) (command : Command) → decide_class_info uses files ≡ Some command → IsCallOf (record { command = codes "classinfo"; uses = uses; files = files }) command
 class_info_decided [] [] command e = absurd cc
 class_info_decided [] (path ∷ paths) command e =
-    let test = guard_some (list_all is_relative (path ∷ paths) && are_distinct (path ∷ paths)) (Some (class_info (path ∷ paths))) command e in
-    let parts = and_parts (list_all is_relative (path ∷ paths)) (are_distinct (path ∷ paths)) test.0 in
-    subst (IsCallOf (class_info_call (path ∷ paths))) (some_is (class_info (path ∷ paths)) command test.1)
-    (class_info_some (path ∷ paths) cons_not_nil (all_by_recursion is_relative (path ∷ paths) parts.0) parts.1)
+    let test = guard_some (are_files is_relative (path ∷ paths)) (Some (class_info (path ∷ paths))) command e in
+    subst (IsCallOf (class_info_call (path ∷ paths))) (some_is (class_info (path ∷ paths)) command test.1) (class_info_some (path ∷ paths) cons_not_nil (files_are is_relative (path ∷ paths) test.0))
 class_info_decided (u ∷ uses) files command e = absurd cc
 
 -- a decision by the command's name
@@ -101,22 +99,15 @@ decided (name ∷ rest) command e = by (scan rest) refl e
   where
     by : (o : Option Scan) → scan rest ≡ o → decide_scan name o ≡ Some command → Means (name ∷ rest) command
     by None is e = absurd cc
-    by (Some s) is e = elim (chosen (bytes_eq name (codes "merge")) (decide_merge s.uses s.files) (cond (bytes_eq name (codes "classinfo")) (decide_class_info s.uses s.files) None) (Some command) e) [
+    by (Some s) is e = elim (chosen (bytes_eq name (codes "merge")) (decide_merge s.uses s.files) (cond (bytes_eq name (codes "execinfo")) (decide_exec_info s.uses s.files) (cond (bytes_eq name (codes "classinfo")) (decide_class_info s.uses s.files) None)) (Some command) e) [
       | inl merges ↦ named (name ∷ rest) name (codes "merge") rest s command merges.0 refl is (merge_decided s.uses s.files command merges.1)
-      | inr other ↦
-          let test = guard_some (bytes_eq name (codes "classinfo")) (decide_class_info s.uses s.files) command other.1 in
-          named (name ∷ rest) name (codes "classinfo") rest s command test.0 refl is (class_info_decided s.uses s.files command test.1)
+      | inr other ↦ elim (chosen (bytes_eq name (codes "execinfo")) (decide_exec_info s.uses s.files) (cond (bytes_eq name (codes "classinfo")) (decide_class_info s.uses s.files) None) (Some command) other.1) [
+        | inl infos ↦ named (name ∷ rest) name (codes "execinfo") rest s command infos.0 refl is (exec_info_decided s.uses s.files command infos.1)
+        | inr last ↦
+            let test = guard_some (bytes_eq name (codes "classinfo")) (decide_class_info s.uses s.files) command last.1 in
+            named (name ∷ rest) name (codes "classinfo") rest s command test.0 refl is (class_info_decided s.uses s.files command test.1)
+      ]
     ]
-
-plain_scan : (input : Word) → is_value input ≡ true → scan (input ∷ []) ≡ Some (record { uses = []; files = input ∷ [] })
-unfolding scan
-plain_scan [] plain = absurd cc
-plain_scan (a ∷ []) plain = refl
-plain_scan (a ∷ b ∷ more) plain = ap (λ (t : Bool). cond (t && nat_eq b 45) None (Some (record { uses = []; files = (a ∷ b ∷ more) ∷ [] }))) (not_true (nat_eq a 45) plain)
-
-merge_scan : (out input : Word) → is_value input ≡ true → scan (destfile ∷ out ∷ input ∷ []) ≡ Some (record { uses = record { option = destfile; value = out } ∷ []; files = input ∷ [] })
-unfolding scan
-merge_scan out input plain = ap (with_use (record { option = destfile; value = out })) (plain_scan input plain)
 
 value_no_option : (word : Word) → is_value word ≡ true → is_option word ≡ false
 value_no_option [] plain = absurd cc
@@ -128,14 +119,27 @@ unfolding scan
 scan_files w [] no_option = rw no_option refl
 scan_files w (v ∷ rest) no_option = rw no_option refl
 
+merge_scan : (out input : Word) (inputs : List Word) → is_value input ≡ true → scan (destfile ∷ out ∷ input ∷ inputs) ≡ Some (record { uses = record { option = destfile; value = out } ∷ []; files = input ∷ inputs })
+unfolding scan
+merge_scan out input inputs plain = ap (with_use (record { option = destfile; value = out })) (scan_files input inputs (value_no_option input plain))
+
+chosen_some : (test : Bool) (command : Command) → test ≡ true → cond test (Some command) None ≡ Some command
+chosen_some test command is = rw is refl
+
 found : (words : List Word) (call : Call) (command : Command) → words ≡ call_words call → IsCallOf call command → command_of words ≡ Some command
-found words call command spelled (merge_one out input some plain differ) =
-    ap command_of spelled ∙ ap (decide_scan (codes "merge")) (merge_scan out input plain) ∙ rw (some, plain, no_match out input differ) refl
-found words call command spelled (class_info_some [] some relative distinct) = absurd (some refl)
-found words call command spelled (class_info_some (path ∷ paths) some relative distinct) =
-    let value = (and_parts (is_value path) (list_all is_component (components path)) relative.0).0 in
-    let cut : scan (path ∷ paths) ≡ Some (record { uses = []; files = path ∷ paths }) = scan_files path paths (value_no_option path value) in
-    ap command_of spelled ∙ ap (decide_scan (codes "classinfo")) cut ∙ rw (list_all_of is_relative (path ∷ paths) relative, distinct) refl
+found words call command spelled (merge_some out [] some files) = absurd (some refl)
+found words call command spelled (merge_some out (input ∷ inputs) some files) =
+    ap command_of spelled ∙ ap (decide_scan (codes "merge")) (merge_scan out input inputs files.each.1.0)
+    ∙ chosen_some (are_files is_value (out ∷ input ∷ inputs)) (merge out (input ∷ inputs)) (files_pass is_value (out ∷ input ∷ inputs) files)
+found words call command spelled (exec_info_some [] some files) = absurd (some refl)
+found words call command spelled (exec_info_some (path ∷ paths) some files) =
+    ap command_of spelled ∙ ap (decide_scan (codes "execinfo")) (scan_files path paths (value_no_option path files.each.0))
+    ∙ chosen_some (are_files is_value (path ∷ paths)) (exec_info (path ∷ paths)) (files_pass is_value (path ∷ paths) files)
+found words call command spelled (class_info_some [] some files) = absurd (some refl)
+found words call command spelled (class_info_some (path ∷ paths) some files) =
+    let value = (and_parts (is_value path) (list_all is_component (components path)) files.each.0).0 in
+    ap command_of spelled ∙ ap (decide_scan (codes "classinfo")) (scan_files path paths (value_no_option path value))
+    ∙ chosen_some (are_files is_relative (path ∷ paths)) (class_info (path ∷ paths)) (files_pass is_relative (path ∷ paths) files)
 
 pub means_found : (words : List Word) (command : Command) → Means words command → command_of words ≡ Some command
 means_found words command means = found words means.call command means.spelled means.stated
@@ -217,8 +221,9 @@ is_decided words name rest s command parts cut found = decided words command (ap
 
 -- a command has fewer inputs than words
 few_of : (words : List Word) (call : Call) (command : Command) → words ≡ call_words call → IsCallOf call command → length (inputs_of command) ≤ length words
-few_of words call command spelled (merge_one out input some plain differ) = omega (arith, ap length spelled)
-few_of words call command spelled (class_info_some paths some relative distinct) = omega (arith, ap length spelled)
+few_of words call command spelled (merge_some out inputs some files) = omega (arith, ap length spelled)
+few_of words call command spelled (exec_info_some paths some files) = omega (arith, ap length spelled)
+few_of words call command spelled (class_info_some paths some files) = omega (arith, ap length spelled)
 
 pub few_inputs : (words : List (String Global)) (command : Command) → Means (words_of words) command → length words < 2 ^ 32 → length (inputs_of command) < 2 ^ 32
 few_inputs words command means bound = let few = few_of (words_of words) means.call command means.spelled means.stated in omega (arith, few, bound, length-map words string_bytes)

@@ -4,5 +4,8 @@ pub mod ReadLaws
 pub mod WriteLaws
 pub mod InputLaws
 pub mod ListingLaws
+pub mod ExecDataLaws
+pub mod MergeLaws
+pub mod InfoLaws
 pub mod WorkLaws
 pub mod RunLaws

@@ -14,14 +14,13 @@ use Rattle.jc_top.specs.declared.output.Write.{Write as Written}
 use Rattle.jc_top.specs.declared.output.Write.TheVariants as written
 use Rattle.jc_top.specs.declared.status.Status.TheVariants as status
 use Rattle.jc_top.specs.declared.status.Fault.TheVariants as fault
-use Rattle.jc_base.specs.Outside.{FileMap, WhereTold}
 use Rattle.jc_top.specs.declared.stop.Stop.{Stop}
 use Rattle.jc_top.specs.declared.stop.Stop.TheVariants as stops
 use Rattle.jc_top.specs.Command.{class_info}
 use Rattle.jc_top.specs.Looks.{write_seen}
 use Rattle.jc_top.specs.World.{Write, to_out}
-use Rattle.jc_top.specs.Work.{AreRead, Answers, listed, class_refused, refusing}
-use Rattle.jc_top.specs.Outcome.{ReadAll, ListsAs, class_stop, AnswersWith, Prepares}
+use Rattle.jc_top.specs.Work.{Answers, listed, class_refused, refusing}
+use Rattle.jc_top.specs.Outcome.{ListsAs, class_stop, AnswersWith}
 
 -- a listing, by what decided it
 data ListingOf (bytes : List ℕ) (l : Listing) : Type 0 where
@@ -168,20 +167,3 @@ pub listing_done : (words : List Word) (texts : List (List ℕ)) (writes : Vec W
 listing_done words texts writes i so_far all =
     subst (λ (ws : List Write). Answers (class_info words) texts (record { writes = ws; status = status.Done })) (sym so_far.writes_are)
     (listed so_far.lines (subst (λ (ts : List (List ℕ)). AreListed ts so_far.lines) (take_all i texts all) so_far.listed))
-
--- ---- the command
-
-pub class_info_stops : (contents : Option FileMap) (paths : List Word) (old new : ℕ) (stop : Stop) → ReadAll contents paths old new (Err stop) → Prepares contents (class_info paths) old new (Err stop)
-class_info_stops contents paths old new stops.Memory all = all
-class_info_stops contents paths old new (stops.Read p) all = all
-class_info_stops contents paths old new (stops.Write p) all = absurd all
-class_info_stops contents paths old new stops.Output all = absurd all
-class_info_stops contents paths old new (stops.Refused file f) all = absurd all
-
-pub class_info_prepares : (contents : Option FileMap) (paths : List Word) (ts : List (List ℕ)) (old new : ℕ) (r : Result (Vec Written Global) Stop) → new ≡ old → WhereTold contents (λ m. AreRead m paths ts) → AnswersWith (class_info paths) ts r → Prepares contents (class_info paths) old new r
-class_info_prepares contents paths ts old new (Ok writes) same read answer = (same, (ts, read, answer))
-class_info_prepares contents paths ts old new (Err stops.Memory) same read answer = same
-class_info_prepares contents paths ts old new (Err (stops.Read p)) same read answer = absurd answer
-class_info_prepares contents paths ts old new (Err (stops.Write p)) same read answer = absurd answer
-class_info_prepares contents paths ts old new (Err stops.Output) same read answer = absurd answer
-class_info_prepares contents paths ts old new (Err (stops.Refused file f)) same read answer = (same, (ts, read, answer))

@@ -156,14 +156,25 @@ seen_once words i w seen more k within is so_far key new grows =
       distinct = ap are_distinct (words_more words i w within is) ∙ distinct_on (words_of (take i words)) (string_bytes w) so_far.distinct other;
     }
 
-pub relative_on : (words : List (String Global)) (i : ℕ) (w : String Global) → i < length words → w ≡ get_or words i w → list_all is_relative (words_of (take i words)) ≡ true → is_relative (string_bytes w) ≡ true → list_all is_relative (words_of (take (i + 1) words)) ≡ true
-relative_on words i w within is so_far relative =
-    ap (list_all is_relative) (words_more words i w within is) ∙ list_all-append is_relative (words_of (take i words)) (string_bytes w ∷ []) ∙ rw (so_far, relative) refl
+pub all_on : (p : Word → Bool) (words : List (String Global)) (i : ℕ) (w : String Global) → i < length words → w ≡ get_or words i w → list_all p (words_of (take i words)) ≡ true → p (string_bytes w) ≡ true → list_all p (words_of (take (i + 1) words)) ≡ true
+all_on p words i w within is so_far passes =
+    ap (list_all p) (words_more words i w within is) ∙ list_all-append p (words_of (take i words)) (string_bytes w ∷ []) ∙ rw (so_far, passes) refl
 
-pub relative_stop : (words : List (String Global)) (i : ℕ) (w : String Global) → i < length words → w ≡ get_or words i w → is_relative (string_bytes w) ≡ false → false ≡ list_all is_relative (words_of words)
-relative_stop words i w within is other =
-    sym (ap (list_all is_relative) (map_parts string_bytes words i w within is) ∙ list_all-append is_relative (words_of (take i words)) (string_bytes w ∷ words_of (drop (i + 1) words)) ∙ rw other (and_false (list_all is_relative (words_of (take i words)))))
+pub all_stop : (p : Word → Bool) (words : List (String Global)) (i : ℕ) (w : String Global) → i < length words → w ≡ get_or words i w → p (string_bytes w) ≡ false → false ≡ list_all p (words_of words)
+all_stop p words i w within is other =
+    sym (ap (list_all p) (map_parts string_bytes words i w within is) ∙ list_all-append p (words_of (take i words)) (string_bytes w ∷ words_of (drop (i + 1) words)) ∙ rw other (and_false (list_all p (words_of (take i words)))))
   where
     and_false : (b : Bool) → (b && false) ≡ false
     and_false true = refl
     and_false false = refl
+
+pub any_stop : (p : Word → Bool) (words : List (String Global)) (i : ℕ) (w : String Global) → i < length words → w ≡ get_or words i w → p (string_bytes w) ≡ true → true ≡ list_any p (words_of words)
+any_stop p words i w within is passes = sym (ap (list_any p) (map_parts string_bytes words i w within is) ∙ later (words_of (take i words)))
+  where
+    or_true : (b : Bool) → (b || true) ≡ true
+    or_true true = refl
+    or_true false = refl
+
+    later : (front : List Word) → list_any p (front ++ string_bytes w ∷ words_of (drop (i + 1) words)) ≡ true
+    later [] = rw passes refl
+    later (x ∷ front) = ap (λ (t : Bool). p x || t) (later front) ∙ or_true (p x)

@@ -3,23 +3,24 @@ use Rattle.std.proofs.Common.{◌≡◌, ◌⊎◌, inl, inr, ⊎_elim, ℕ, ◌
 use Rattle.std.specs.FinMap.{get}
 use Rattle.jc_base.proofs.DecoderLaws.{some_is, some_none}
 use Rattle.jc_base.specs.Outside.{FileMap, IsLong, most_read}
-use Rattle.jc_exec.specs.declared.hits.ClassHits.{ClassHits}
-use Rattle.jc_exec.specs.declared.refusal.ExecRefusal.TheVariants.{LaterForm}
-use Rattle.jc_exec.specs.Plain.{IsPlain, IsFirstUnfit}
+use Rattle.jc_exec.specs.declared.refusal.ExecRefusal.{ExecRefusal}
+use Rattle.jc_exec.specs.Store.{Store}
 use Rattle.jc_exec.specs.Writing.{exec_text}
-use Rattle.jc_exec.proofs.PlainLaws.{one_reading, one_place, plain_or_unfit_not_both}
-use Rattle.jc_exec.proofs.DecisionLaws.{plain_or_unfit}
 use Rattle.std.proofs.lemmas.Bool.{cases_lt}
 use Rattle.jc_top.specs.declared.status.Status.{Status}
 use Rattle.jc_top.specs.declared.status.Status.TheVariants as status
 use Rattle.jc_top.specs.declared.status.Fault.TheVariants as fault
 use Rattle.jc_top.specs.Words.{Word}
-use Rattle.jc_top.specs.Command.{Command, merge, class_info, inputs_of, Means, NoForm}
+use Rattle.jc_top.specs.Command.{Command, merge, exec_info, class_info, inputs_of, Means, NoForm}
 use Rattle.jc_top.specs.Texts.{usage_text, cannot_read}
 use Rattle.jc_top.specs.World.{to_file, to_out, to_err}
-use Rattle.jc_top.specs.Work.{Holds, CantRead, AreRead, StopsAt, Answer, Answers, merge_refused, merged, listed, class_refused, refusing, Work, IsWork, usage, unreadable, answered, WorkEnds}
+use Rattle.jc_top.specs.Work.{Holds, CantRead, AreRead, StopsAt, Answer, Answers, merged, merge_refused, informed, exec_info_refused, listed, class_refused, refusing, Work, IsWork, usage, unreadable, answered, WorkEnds}
 use Rattle.jc_base.specs.declared.refusal.Refusal.{Refusal}
 use Rattle.jc_top.specs.ClassInfo.{AreListed, RefusedAt}
+use Rattle.jc_top.specs.ExecData.{IsUnionOf, IsFirstRefused, IsFirstRefusedAlone}
+use Rattle.jc_top.specs.ExecInfo.{AreInfo}
+use Rattle.jc_top.proofs.ExecDataLaws.{one_union_of, union_or_refused, one_refused, some_union_or_refused, data_or_refused, one_refused_alone, some_data_or_refused}
+use Rattle.jc_top.proofs.InfoLaws.{one_info, info_is_data, data_has_info}
 use Rattle.jc_top.proofs.ListingLaws.{one_list, listed_or_refused, one_refusal, some_list}
 use Rattle.jc_top.proofs.CommandLaws.{one_command, command_or_none}
 
@@ -88,13 +89,21 @@ one_stop m paths front front' path path' a b = same_stop m front front' path pat
 
 -- ---- answers
 
-abbrev MergeAnswer : List ℕ → List ℕ → List ℕ → Answer → Type 0
-MergeAnswer out input bytes answer =
-    ((place : ℕ) × IsFirstUnfit [] bytes place × (answer ≡ refusing input (fault.Exec 0 (LaterForm place))))
-    ⊎ ((classes : List ClassHits) × IsPlain [] bytes classes × (answer ≡ record { writes = to_file out (exec_text (record { sessions = []; classes = classes })) ∷ []; status = status.Done }))
-
 abbrev listed_answer : List (List ℕ) → Answer
 listed_answer lines = record { writes = map to_out lines; status = status.Done }
+
+abbrev merged_answer : Word → Store → Answer
+merged_answer out store = record { writes = to_file out (exec_text store) ∷ []; status = status.Done }
+
+abbrev MergeAnswer : Word → List Word → List (List ℕ) → Answer → Type 0
+MergeAnswer out inputs texts answer =
+    ((store : Store) × IsUnionOf texts store × (answer ≡ merged_answer out store))
+    ⊎ ((place : ℕ) × (path : Word) × (refusal : ExecRefusal) × IsFirstRefused inputs texts place path refusal × (answer ≡ refusing path (fault.Exec place refusal)))
+
+abbrev InfoAnswer : List Word → List (List ℕ) → Answer → Type 0
+InfoAnswer paths texts answer =
+    ((lines : List (List ℕ)) × AreInfo paths texts lines × (answer ≡ listed_answer lines))
+    ⊎ ((place : ℕ) × (path : Word) × (refusal : ExecRefusal) × IsFirstRefusedAlone paths texts place path refusal × (answer ≡ refusing path (fault.Exec place refusal)))
 
 abbrev ListAnswer : List Word → List (List ℕ) → Answer → Type 0
 ListAnswer paths texts answer =
@@ -103,23 +112,33 @@ ListAnswer paths texts answer =
 
 -- an answer, by the command and the texts
 abbrev AnswerOf : Command → List (List ℕ) → Answer → Type 0
-AnswerOf (merge out input) [] answer = ⊥
-AnswerOf (merge out input) (bytes ∷ []) answer = MergeAnswer out input bytes answer
-AnswerOf (merge out input) (bytes ∷ other ∷ texts) answer = ⊥
+AnswerOf (merge out inputs) texts answer = MergeAnswer out inputs texts answer
+AnswerOf (exec_info paths) texts answer = InfoAnswer paths texts answer
 AnswerOf (class_info paths) texts answer = ListAnswer paths texts answer
 
 answer_of : (command : Command) (texts : List (List ℕ)) (answer : Answer) → Answers command texts answer → AnswerOf command texts answer
-answer_of command texts answer (merge_refused {place = place} unfit) = inl (place, unfit, refl)
-answer_of command texts answer (merged {classes = classes} plain) = inr (classes, plain, refl)
+answer_of command texts answer (merged store union) = inl (store, union, refl)
+answer_of command texts answer (merge_refused place path refusal is) = inr (place, path, refusal, is, refl)
+answer_of command texts answer (informed lines info) = inl (lines, info, refl)
+answer_of command texts answer (exec_info_refused place path refusal is) = inr (place, path, refusal, is, refl)
 answer_of command texts answer (listed lines are) = inl (lines, are, refl)
 answer_of command texts answer (class_refused place path why is) = inr (place, path, why, is, refl)
 
-one_merge : (out input bytes : List ℕ) (a b : Answer) → MergeAnswer out input bytes a → MergeAnswer out input bytes b → a ≡ b
-one_merge out input bytes a b (inl p) (inl q) = p.2 ∙ ap (λ (place : ℕ). refusing input (fault.Exec 0 (LaterForm place))) (one_place [] bytes p.0 q.0 p.1 q.1) ∙ sym q.2
-one_merge out input bytes a b (inl p) (inr q) = absurd (plain_or_unfit_not_both [] bytes q.0 p.0 q.1 p.1)
-one_merge out input bytes a b (inr p) (inl q) = absurd (plain_or_unfit_not_both [] bytes p.0 q.0 p.1 q.1)
-one_merge out input bytes a b (inr p) (inr q) =
-    p.2 ∙ ap (λ (classes : List ClassHits). let answer : Answer = record { writes = to_file out (exec_text (record { sessions = []; classes = classes })) ∷ []; status = status.Done } in answer) (one_reading [] bytes p.0 q.0 p.1 q.1) ∙ sym q.2
+one_merge : (out : Word) (inputs : List Word) (texts : List (List ℕ)) (a b : Answer) → MergeAnswer out inputs texts a → MergeAnswer out inputs texts b → a ≡ b
+one_merge out inputs texts a b (inl p) (inl q) = p.2 ∙ ap (merged_answer out) (one_union_of texts p.0 q.0 p.1 q.1) ∙ sym q.2
+one_merge out inputs texts a b (inl p) (inr q) = absurd (union_or_refused inputs texts p.0 q.0 q.1 q.2 p.1 q.3)
+one_merge out inputs texts a b (inr p) (inl q) = absurd (union_or_refused inputs texts q.0 p.0 p.1 p.2 q.1 p.3)
+one_merge out inputs texts a b (inr p) (inr q) =
+    let same = one_refused inputs texts p.0 q.0 p.1 q.1 p.2 q.2 p.3 q.3 in
+    p.4 ∙ (λ i. refusing (same.path_is i) (fault.Exec (same.place_is i) (same.refusal_is i))) ∙ sym q.4
+
+one_info_answer : (paths : List Word) (texts : List (List ℕ)) (a b : Answer) → InfoAnswer paths texts a → InfoAnswer paths texts b → a ≡ b
+one_info_answer paths texts a b (inl p) (inl q) = p.2 ∙ ap listed_answer (one_info paths texts p.0 q.0 p.1 q.1) ∙ sym q.2
+one_info_answer paths texts a b (inl p) (inr q) = absurd (data_or_refused paths texts q.0 q.1 q.2 (info_is_data paths texts p.0 p.1) q.3)
+one_info_answer paths texts a b (inr p) (inl q) = absurd (data_or_refused paths texts p.0 p.1 p.2 (info_is_data paths texts q.0 q.1) p.3)
+one_info_answer paths texts a b (inr p) (inr q) =
+    let same = one_refused_alone paths texts p.0 q.0 p.1 q.1 p.2 q.2 p.3 q.3 in
+    p.4 ∙ (λ i. refusing (same.path_is i) (fault.Exec (same.place_is i) (same.refusal_is i))) ∙ sym q.4
 
 one_listing_answer : (paths : List Word) (texts : List (List ℕ)) (a b : Answer) → ListAnswer paths texts a → ListAnswer paths texts b → a ≡ b
 one_listing_answer paths texts a b (inl p) (inl q) = p.2 ∙ ap listed_answer (one_list texts p.0 q.0 p.1 q.1) ∙ sym q.2
@@ -130,9 +149,8 @@ one_listing_answer paths texts a b (inr p) (inr q) =
     p.4 ∙ (λ i. refusing (same.path_is i) (fault.Class (same.place_is i) (same.why_is i))) ∙ sym q.4
 
 one_answer_of : (command : Command) (texts : List (List ℕ)) (a b : Answer) → AnswerOf command texts a → AnswerOf command texts b → a ≡ b
-one_answer_of (merge out input) [] a b p q = absurd p
-one_answer_of (merge out input) (bytes ∷ []) a b p q = one_merge out input bytes a b p q
-one_answer_of (merge out input) (bytes ∷ other ∷ texts) a b p q = absurd p
+one_answer_of (merge out inputs) texts a b p q = one_merge out inputs texts a b p q
+one_answer_of (exec_info paths) texts a b p q = one_info_answer paths texts a b p q
 one_answer_of (class_info paths) texts a b p q = one_listing_answer paths texts a b p q
 
 pub one_answer : (command : Command) (texts : List (List ℕ)) (a b : Answer) → Answers command texts a → Answers command texts b → a ≡ b
@@ -222,9 +240,9 @@ as_many m (p ∷ ps) [] read = absurd read
 as_many m (p ∷ ps) (t ∷ ts) read = let rest = as_many m ps ts read.1 in omega (arith, rest)
 
 some_answer : (command : Command) (texts : List (List ℕ)) (m : FileMap) → AreRead m (inputs_of command) texts → (answer : Answer) × Answers command texts answer
-some_answer (merge out input) [] m read = absurd read
-some_answer (merge out input) (bytes ∷ []) m read = ⊎_elim (λ plain. (_, merged plain.1)) (λ unfit. (_, merge_refused unfit.1)) (plain_or_unfit [] bytes)
-some_answer (merge out input) (bytes ∷ other ∷ texts) m read = absurd read.1
+some_answer (merge out inputs) texts m read = ⊎_elim (λ union. (_, merged union.0 union.1)) (λ refused. (_, merge_refused refused.0 refused.1 refused.2 refused.3)) (some_union_or_refused inputs texts)
+some_answer (exec_info paths) texts m read =
+    ⊎_elim (λ holds. let info = data_has_info paths texts (as_many m paths texts read) holds in (_, informed info.0 info.1)) (λ refused. (_, exec_info_refused refused.0 refused.1 refused.2 refused.3)) (some_data_or_refused paths texts)
 some_answer (class_info paths) texts m read = ⊎_elim (λ lines. (_, listed lines.0 lines.1)) (λ refused. (_, class_refused refused.0 refused.1 refused.2 refused.3)) (some_list 0 paths texts (as_many m paths texts read))
 
 pub some_work : (words : List Word) (m : FileMap) → (work : Work) × IsWork words m work

@@ -1,6 +1,8 @@
 pub mod Words
 pub mod Command
 pub mod Texts
+pub mod ExecData
+pub mod ExecInfo
 pub mod ClassInfo
 pub mod World
 pub mod Work

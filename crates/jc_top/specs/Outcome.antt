@@ -7,11 +7,7 @@ use Rattle.jc_base.specs.declared.fail.Fail.TheVariants as fails
 use Rattle.jc_base.specs.declared.files.FileFault.{FileFault}
 use Rattle.jc_base.specs.declared.files.FileFault.TheVariants as file_faults
 use Rattle.jc_base.specs.Outside.{FileMap, WhereTold, Rose, most_read}
-use Rattle.jc_exec.specs.declared.hits.ClassHits.{ClassHits}
 use Rattle.jc_exec.specs.declared.refusal.ExecRefusal.{ExecRefusal}
-use Rattle.jc_exec.specs.declared.refusal.ExecRefusal.TheVariants.{LaterForm}
-use Rattle.jc_exec.specs.Plain.{IsPlain, IsFirstUnfit}
-use Rattle.jc_exec.specs.Writing.{exec_text}
 use Rattle.jc_top.specs.declared.status.Status.{Status}
 use Rattle.jc_top.specs.declared.status.Status.TheVariants as status
 use Rattle.jc_top.specs.declared.status.Fault.{Fault}
@@ -82,15 +78,10 @@ ReadAll contents paths old new (Err (stops.Refused file fault)) = ⊥
 
 -- ---- what is made of what was read
 
-abbrev pub UnionGives : List ℕ → Result (Vec ℕ Global) (Fail ExecRefusal) → Type 0
-UnionGives bytes (Ok v) = (classes : List ClassHits) × IsPlain [] bytes classes × (v.items ≡ exec_text (record { sessions = []; classes = classes }))
-UnionGives bytes (Err fails.Memory) = ⊤
-UnionGives bytes (Err (fails.Said (LaterForm place))) = IsFirstUnfit [] bytes place
-
--- how execution data that isn't taken stops a command, as its first input
-abbrev pub exec_stop : Fail ExecRefusal → Bor (List ℕ) → Stop
-exec_stop fails.Memory input = stops.Memory
-exec_stop (fails.Said refusal) input = stops.Refused input (faults.Exec 0 refusal)
+-- how execution data that isn't taken stops a command
+abbrev pub exec_stop : Fail ExecRefusal → ℕ → Bor (List ℕ) → Stop
+exec_stop fails.Memory place input = stops.Memory
+exec_stop (fails.Said refusal) place input = stops.Refused input (faults.Exec place refusal)
 
 -- what a class file is listed as
 abbrev pub ListsAs : List ℕ → Result (Vec ℕ Global) (Fail Refusal) → Type 0

@@ -2,9 +2,8 @@
 use Rattle.std.specs.Prelude.{◌≡◌, ◌⊎◌, ◌≤◌, ⊤, ℕ, List, [], ◌∷◌, ◌++◌, length, map, Some, None}
 use Rattle.std.specs.FinMap.{get}
 use Rattle.jc_base.specs.Outside.{FileMap, IsLong, WhereTold, most_read}
-use Rattle.jc_exec.specs.declared.hits.ClassHits.{ClassHits}
-use Rattle.jc_exec.specs.declared.refusal.ExecRefusal.TheVariants.{LaterForm}
-use Rattle.jc_exec.specs.Plain.{IsPlain, IsFirstUnfit}
+use Rattle.jc_exec.specs.declared.refusal.ExecRefusal.{ExecRefusal}
+use Rattle.jc_exec.specs.Store.{Store}
 use Rattle.jc_exec.specs.Writing.{exec_text}
 use Rattle.jc_top.specs.declared.status.Status.{Status}
 use Rattle.jc_top.specs.declared.status.Status.TheVariants as status
@@ -13,7 +12,9 @@ use Rattle.jc_top.specs.declared.status.Fault.TheVariants as fault
 use Rattle.jc_top.specs.Words.{Word}
 use Rattle.jc_base.specs.declared.refusal.Refusal.{Refusal}
 use Rattle.jc_top.specs.ClassInfo.{AreListed, RefusedAt}
-use Rattle.jc_top.specs.Command.{Command, merge, class_info, inputs_of, Means, NoForm}
+use Rattle.jc_top.specs.ExecData.{IsUnionOf, IsFirstRefused, IsFirstRefusedAlone}
+use Rattle.jc_top.specs.ExecInfo.{AreInfo}
+use Rattle.jc_top.specs.Command.{Command, merge, exec_info, class_info, inputs_of, Means, NoForm}
 use Rattle.jc_top.specs.Texts.{usage_text, cannot_read, fault_text}
 use Rattle.jc_top.specs.World.{World, Write, to_file, to_out, to_err, Landed, after}
 
@@ -55,10 +56,16 @@ refusing file f = record { writes = to_err (fault_text file f) ∷ []; status = 
 
 -- the rules, one for each answer
 pub data Answers : Command → List (List ℕ) → Answer → Type 0 where
-  merge_refused : {out input bytes : List ℕ} {place : ℕ} → IsFirstUnfit [] bytes place
-      → Answers (merge out input) (bytes ∷ []) (refusing input (fault.Exec 0 (LaterForm place)))
-  merged : {out input bytes : List ℕ} {classes : List ClassHits} → IsPlain [] bytes classes
-      → Answers (merge out input) (bytes ∷ []) (record { writes = to_file out (exec_text (record { sessions = []; classes = classes })) ∷ []; status = status.Done })
+  merged : {out : Word} {inputs : List Word} {texts : List (List ℕ)} (store : Store) → IsUnionOf texts store
+      → Answers (merge out inputs) texts (record { writes = to_file out (exec_text store) ∷ []; status = status.Done })
+  merge_refused : {out : Word} {inputs : List Word} {texts : List (List ℕ)} (place : ℕ) (path : Word) (refusal : ExecRefusal)
+      → IsFirstRefused inputs texts place path refusal
+      → Answers (merge out inputs) texts (refusing path (fault.Exec place refusal))
+  informed : {paths : List Word} {texts : List (List ℕ)} (lines : List (List ℕ)) → AreInfo paths texts lines
+      → Answers (exec_info paths) texts (record { writes = map to_out lines; status = status.Done })
+  exec_info_refused : {paths : List Word} {texts : List (List ℕ)} (place : ℕ) (path : Word) (refusal : ExecRefusal)
+      → IsFirstRefusedAlone paths texts place path refusal
+      → Answers (exec_info paths) texts (refusing path (fault.Exec place refusal))
   listed : {paths : List Word} {texts : List (List ℕ)} (lines : List (List ℕ)) → AreListed texts lines
       → Answers (class_info paths) texts (record { writes = map to_out lines; status = status.Done })
   class_refused : {paths : List Word} {texts : List (List ℕ)} (place : ℕ) (path : Word) (why : Refusal) → RefusedAt 0 paths texts place path why
@@ -76,7 +83,8 @@ pub data IsWork (words : List Word) (m : FileMap) : Work → Type 0 where
       → IsWork words m (record { reads = []; writes = to_err usage_text ∷ []; status = status.Usage })
   unreadable : {command : Command} {front : List Word} {path : Word} → Means words command → StopsAt m (inputs_of command) front path
       → IsWork words m (record { reads = front ++ path ∷ []; writes = to_err (cannot_read path) ∷ []; status = status.ReadFault })
-  answered : {command : Command} {texts : List (List ℕ)} {answer : Answer} → Means words command → AreRead m (inputs_of command) texts → Answers command texts answer
+  answered : {command : Command} {texts : List (List ℕ)} {answer : Answer} → Means words command → AreRead m (inputs_of command) texts
+      → Answers command texts answer
       → IsWork words m (record { reads = inputs_of command; writes = answer.writes; status = answer.status })
 
 -- the work ends so
@@ -85,4 +93,5 @@ WorkEnds words m s = (work : Work) × IsWork words m work × (work.status ≡ s)
 
 -- where contents are told, the writes and the status are those of the work
 abbrev pub DoesWork : Landed → List Word → World → World → Status → Type 0
-DoesWork landed words old new s = WhereTold old.contents (λ m. (work : Work) × IsWork words m work × (s ≡ work.status) × (new ≡ after landed old work.writes))
+DoesWork landed words old new s =
+    WhereTold old.contents (λ m. (work : Work) × IsWork words m work × (s ≡ work.status) × (new ≡ after landed old work.writes))

@@ -1,5 +1,5 @@
 //! The command `classinfo`.
-ghost use Rattle.std.specs.Prelude.{◌≡◌, ◌≤◌, ◌<◌, ◌^◌, ◌++◌, ◌∷◌, [], ℕ, List, All, length, map, IfOk, OnOk, string_bytes};
+ghost use Rattle.std.specs.Prelude.{◌≡◌, ◌≤◌, ◌<◌, ◌^◌, ℕ, List, All, length, map, IfOk, string_bytes};
 ghost use Rattle.jc_base.specs.Outside.{most_read};
 ghost use Rattle.jc_class.specs.declared.class_file.ClassFile.{ClassFile};
 ghost use Rattle.jc_class.specs.ClassText.{ClassText};
@@ -11,9 +11,9 @@ ghost use Rattle.jc_top.specs.Outcome.{Prepares, AnswersWith, ListsAs, class_sto
 
 use crate::Fault;
 use crate::input::read_all;
-use crate::output::Write;
+use crate::output::{Write, keep};
 use crate::stop::Stop;
-use jc_base::{Bytes, Fail, Files, Memory, Refusal, RefusalKind};
+use jc_base::{Bytes, Fail, Files, Refusal, RefusalKind};
 use jc_class::{ClassFile, class_id, read_class};
 use std::alloc::{AllocError, Global};
 
@@ -79,14 +79,6 @@ fn refused<'a>(fail: Fail<Refusal>, path: u32, file: &'a str) -> Stop<'a>
             Stop::Refused { file, fault }
         }
     }
-}
-
-/// Puts a line last.
-fn keep<'a>(writes: &mut Vec<Write<'a>>, text: Vec<u8>) -> Result<(), Memory>
-    ensures { OnOk result (writes.new.items ≡ writes.old.items ++ Write.Out text ∷ []) }
-{
-    writes.push(Write::Out { text })?;
-    Ok(())
 }
 
 /// The lines of the class files, in order.

@@ -2,11 +2,11 @@
 ghost use Rattle.std.specs.Prelude.{◌≡◌, ◌<◌, ◌^◌, ℕ, List, length, map, Option, Ok, Err, Some, None, IfOk};
 ghost use Rattle.std.specs.Option.{option_map};
 ghost use Rattle.jc_top.specs.Words.{Word, words_of};
-ghost use Rattle.jc_top.specs.Command.{inputs_of, decide, decide_merge, decide_class_info};
+ghost use Rattle.jc_top.specs.Command.{inputs_of, decide, decide_merge, decide_exec_info, decide_class_info};
 ghost use Rattle.jc_top.specs.Looks.{scan_of, command_seen};
 ghost use Rattle.jc_top.specs.Outcome.{CommandRead};
 
-use crate::paths::{are_distinct, are_relative};
+use crate::paths::{are_distinct, are_relative, are_values, is_among};
 use crate::words::{Scanned, is_value, scan_words};
 use jc_base::Memory;
 use std::alloc::Global;
@@ -14,10 +14,19 @@ use std::alloc::Global;
 /// A command that the words call.
 #[derive(Clone, Copy)]
 pub enum Command<'a> {
-    /// Writes the union of the execution data in the input.
-    Merge { destfile: &'a str, input: &'a str },
+    /// Writes the union of the execution data in the inputs.
+    Merge {
+        destfile: &'a str,
+        inputs: &'a [String],
+    },
+    /// Prints the sessions and the records of each file of execution data.
+    ExecInfo {
+        paths: &'a [String],
+    },
     /// Prints the name, the id and the version of each class.
-    ClassInfo { paths: &'a [String] },
+    ClassInfo {
+        paths: &'a [String],
+    },
 }
 
 /// Why the words call no command.
@@ -40,26 +49,43 @@ impl From<Memory> for Unclear {
     }
 }
 
-/// `merge --destfile OUT IN`, where OUT and IN are two paths.
-fn merge_of<'a>(words: &Scanned<'a>) -> Option<Command<'a>>
-    ensures { option_map command_seen result ≡ decide_merge (scan_of words.now).uses (scan_of words.now).files }
+/// `merge --destfile OUT IN..`, where no two of OUT and the INs are equal.
+fn merge_of<'a>(alloc: Global, words: &Scanned<'a>) -> Result<Option<Command<'a>>, Memory>
+    ensures { IfOk result (λ o. option_map command_seen o ≡ decide_merge (scan_of words.now).uses (scan_of words.now).files) }
 {
     let [destfile] = words.uses.as_slice() else {
-        return None;
+        return Ok(None);
     };
-    let [input] = words.files else {
-        return None;
-    };
-    let input = input.as_str();
+    if words.files.is_empty() {
+        return Ok(None);
+    }
     let named = destfile.option == "--destfile";
-    let values = is_value(destfile.value) & is_value(input);
-    if named & values & (destfile.value != input) {
-        Some(Command::Merge {
+    let values = is_value(destfile.value) & are_values(words.files);
+    let other = !is_among(destfile.value, words.files);
+    let distinct = are_distinct(alloc, words.files)?;
+    if named & (values & (other & distinct)) {
+        Ok(Some(Command::Merge {
             destfile: destfile.value,
-            input,
-        })
+            inputs: words.files,
+        }))
     } else {
-        None
+        Ok(None)
+    }
+}
+
+/// `execinfo IN..`, where no two of the INs are equal.
+fn exec_info_of<'a>(alloc: Global, words: &Scanned<'a>) -> Result<Option<Command<'a>>, Memory>
+    ensures { IfOk result (λ o. option_map command_seen o ≡ decide_exec_info (scan_of words.now).uses (scan_of words.now).files) }
+{
+    if !words.uses.is_empty() || words.files.is_empty() {
+        return Ok(None);
+    }
+    let values = are_values(words.files);
+    let distinct = are_distinct(alloc, words.files)?;
+    if values & distinct {
+        Ok(Some(Command::ExecInfo { paths: words.files }))
+    } else {
+        Ok(None)
     }
 }
 
@@ -84,7 +110,8 @@ fn decide<'a>(alloc: Global, name: &str, words: &Scanned<'a>) -> Result<Option<C
     ensures { IfOk result (λ o. option_map command_seen o ≡ decide name.now (scan_of words.now)) }
 {
     match name {
-        "merge" => Ok(merge_of(words)),
+        "merge" => merge_of(alloc, words),
+        "execinfo" => exec_info_of(alloc, words),
         "classinfo" => class_info_of(alloc, words),
         _ => Ok(None),
     }

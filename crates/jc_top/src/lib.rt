@@ -3,6 +3,7 @@
 
 mod class_info;
 mod command;
+mod exec_info;
 mod input;
 mod merge;
 mod message;

@@ -1,38 +1,34 @@
 //! The command `merge`.
-ghost use Rattle.std.specs.Prelude.{◌≡◌, ◌≤◌, [], ◌∷◌, length, IfOk, IfErr};
+ghost use Rattle.std.specs.Prelude.{◌≡◌, ◌≤◌, ◌<◌, ◌^◌, [], ◌∷◌, All, length, Err, IfOk, IfErr};
 ghost use Rattle.jc_base.specs.Outside.{most_read};
 ghost use Rattle.jc_top.specs.Command.{merge};
-ghost use Rattle.jc_top.specs.Outcome.{Prepares, AnswersWith, UnionGives, exec_stop};
+ghost use Rattle.jc_top.specs.ExecData.{IsUnionOf};
+ghost use Rattle.jc_top.specs.Words.{Word, words_of};
+ghost use Rattle.jc_top.specs.Outcome.{Prepares, AnswersWith};
 
-use crate::Fault;
-use crate::input::read_one;
+use crate::input::read_all;
 use crate::output::Write;
-use crate::stop::Stop;
-use jc_base::{Fail, Files};
-use jc_exec::{ExecRefusal, ExecStore};
+use crate::stop::{Stop, exec_stop};
+use jc_base::{Bytes, Files};
+use jc_exec::ExecStore;
 use std::alloc::Global;
 
-/// The execution data of one plain file, as it is written.
-fn union_text(alloc: Global, bytes: &[u8]) -> Result<Vec<u8>, Fail<ExecRefusal>>
-    requires { length bytes.now ≤ most_read }
-    ensures { UnionGives bytes.now result }
+/// The union of the execution data in the texts of the inputs, in order.
+fn union_of<'a>(alloc: Global, inputs: &'a [String], texts: &[Bytes]) -> Result<ExecStore, Stop<'a>>
+    requires few { length inputs.now < 2 ^ 32 }
+    requires each { length texts.now ≡ length inputs.now }
+    requires short { All (λ t. length t ≤ most_read) texts.now }
+    ensures union { IfOk result (λ store. IsUnionOf texts.now store) }
+    ensures refused { (out : Word) → IfErr result (λ stop. AnswersWith (merge out (words_of inputs.entry.now)) texts.now (Err stop)) }
 {
     let mut store = ExecStore::new(alloc)?;
-    store.read(alloc, bytes)?;
-    Ok(store.write(alloc)?)
-}
-
-/// How execution data that isn't taken stops the command.
-fn refused<'a>(fail: Fail<ExecRefusal>, input: &'a str) -> Stop<'a>
-    ensures { result ≡ exec_stop fail input.entry }
-{
-    match fail {
-        Fail::Memory => Stop::Memory,
-        Fail::Said(refusal) => {
-            let fault = Fault::Exec { path: 0, refusal };
-            Stop::Refused { file: input, fault }
+    'merging: for place in 0..texts.len() {
+        match store.read(alloc, &texts[place]) {
+            Ok(()) => {}
+            Err(fail) => return Err(exec_stop(fail, place as u32, inputs[place].as_str())),
         }
     }
+    Ok(store)
 }
 
 /// A list of one write.
@@ -51,35 +47,37 @@ fn one_write<'a>(alloc: Global, write: Write<'a>) -> Result<Vec<Write<'a>>, Stop
 fn merged<'a>(
     alloc: Global,
     destfile: &'a str,
-    input: &'a str,
-    bytes: &[u8],
+    inputs: &'a [String],
+    texts: &[Bytes],
 ) -> Result<Vec<Write<'a>>, Stop<'a>>
-    requires { length bytes.now ≤ most_read }
-    ensures { AnswersWith (merge destfile.entry.now input.entry.now) (bytes.now ∷ []) result }
+    requires few { length inputs.now < 2 ^ 32 }
+    requires each { length texts.now ≡ length inputs.now }
+    requires short { All (λ t. length t ≤ most_read) texts.now }
+    ensures { AnswersWith (merge destfile.entry.now (words_of inputs.entry.now)) texts.now result }
 {
-    match union_text(alloc, bytes) {
-        Ok(bytes) => one_write(
-            alloc,
-            Write::File {
-                path: destfile,
-                bytes,
-            },
-        ),
-        Err(fail) => Err(refused(fail, input)),
-    }
+    let store = union_of(alloc, inputs, texts)?;
+    let bytes = store.write(alloc)?;
+    one_write(
+        alloc,
+        Write::File {
+            path: destfile,
+            bytes,
+        },
+    )
 }
 
-/// The writes of `merge --destfile OUT IN`.
+/// The writes of `merge --destfile OUT IN..`.
 pub fn prepare_merge<'a, F: Files>(
     alloc: Global,
     files: &mut F,
     destfile: &'a str,
-    input: &'a str,
+    inputs: &'a [String],
 ) -> Result<Vec<Write<'a>>, Stop<'a>>
-    ensures gives { Prepares (F.contents files.old) (merge destfile.entry.now input.entry.now) (F.read_faults files.old) (F.read_faults files.new) result }
+    requires { length inputs.now < 2 ^ 32 }
+    ensures gives { Prepares (F.contents files.old) (merge destfile.entry.now (words_of inputs.entry.now)) (F.read_faults files.old) (F.read_faults files.new) result }
     ensures contents { F.contents files.new ≡ F.contents files.old }
     ensures write_faults { F.write_faults files.new ≡ F.write_faults files.old }
 {
-    let bytes = read_one(alloc, files, input)?;
-    merged(alloc, destfile, input, &bytes)
+    let texts = read_all(alloc, files, inputs)?;
+    merged(alloc, destfile, inputs, &texts)
 }

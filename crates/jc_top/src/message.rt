@@ -1,7 +1,8 @@
 //! The last message of a command that ended early.
 ghost use Rattle.std.specs.Prelude.{◌≡◌, string_bytes, IfOk};
-ghost use Rattle.jc_top.specs.Texts.{cannot_read, cannot_write, cannot_write_output, later_form_text, exec_refusal_text, kind_text, placed_text, in_method_text, class_refusal_text, fault_text, usage_text};
-ghost use Rattle.jc_top.specs.Outcome.{Says, Reports, message_of};
+ghost use Rattle.jc_top.specs.Texts.{bad_exec_text, version_start, version_line, other_version_text, conflict_start, first_count_text, second_count_text, conflict_text, exec_refusal_text};
+ghost use Rattle.jc_top.specs.Texts.{cannot_read, cannot_write, cannot_write_output, kind_text, placed_text, in_method_text, class_refusal_text, fault_text, usage_text};
+ghost use Rattle.jc_top.specs.Outcome.{Says, Reports, message_of, status_of};
 
 use crate::stop::Stop;
 use crate::{Fault, Status};
@@ -14,10 +15,17 @@ pub const USAGE: &str =
     "usage: jcov COMMAND OPTIONS FILE..\ncommands: instrument run merge report execinfo classinfo cover\n";
 
 /// Writes a last message. A failure changes nothing else.
+fn put_message<E: Sink>(err: &mut E, text: &[u8])
+    ensures { Says text.now (E.told err.old) (E.told err.new) (E.faults err.old) (E.faults err.new) }
+{
+    let _ = err.put(text);
+}
+
+/// Writes a last message that is a text. A failure changes nothing else.
 pub fn say<E: Sink>(err: &mut E, text: &str)
     ensures { Says text.now (E.told err.old) (E.told err.new) (E.faults err.old) (E.faults err.new) }
 {
-    let _ = err.put(text.as_bytes());
+    put_message(err, text.as_bytes());
 }
 
 fn cannot_read(alloc: Global, path: &str) -> Result<String, AllocError>
@@ -32,17 +40,90 @@ fn cannot_write(alloc: Global, path: &str) -> Result<String, AllocError>
     format!(in alloc; "cannot write {path}\n")
 }
 
-fn later_form_text(alloc: Global, file: &str, place: u32) -> Result<String, AllocError>
-    ensures { IfOk result (λ text. string_bytes text ≡ later_form_text file.now place) }
+fn bad_exec_text(alloc: Global, file: &str, place: u32) -> Result<String, AllocError>
+    ensures { IfOk result (λ text. string_bytes text ≡ bad_exec_text file.now place) }
 {
-    format!(in alloc; "{file}: input of a later form at {place}\n")
+    format!(in alloc; "{file}: bad execution data at {place}\n")
 }
 
-fn exec_refusal_text(alloc: Global, file: &str, refusal: ExecRefusal) -> Result<String, AllocError>
-    ensures { IfOk result (λ text. string_bytes text ≡ exec_refusal_text file.now refusal) }
+fn version_start(alloc: Global, file: &str) -> Result<String, AllocError>
+    ensures { IfOk result (λ text. string_bytes text ≡ version_start file.now) }
+{
+    format!(in alloc; "{file}: execution data version ")
+}
+
+fn version_line(alloc: Global, version: u16) -> Result<String, AllocError>
+    ensures { IfOk result (λ text. string_bytes text ≡ version_line version) }
+{
+    format!(in alloc; "{version:04x}\n")
+}
+
+fn other_version_text(alloc: Global, file: &str, found: u16) -> Result<Vec<u8>, AllocError>
+    ensures { IfOk result (λ text. text.items ≡ other_version_text file.now found) }
+{
+    let version = version_line(alloc, found)?;
+    let mut text = version_start(alloc, file)?.into_bytes();
+    text.extend_from_slice(version.as_bytes())?;
+    Ok(text)
+}
+
+fn conflict_start(alloc: Global, file: &str, id: u64) -> Result<String, AllocError>
+    ensures { IfOk result (λ text. string_bytes text ≡ conflict_start file.now id) }
+{
+    format!(in alloc; "{file}: class {id:016x}: ")
+}
+
+fn first_count_text(alloc: Global, count: u32) -> Result<String, AllocError>
+    ensures { IfOk result (λ text. string_bytes text ≡ first_count_text count) }
+{
+    format!(in alloc; " with {count} probes, ")
+}
+
+fn second_count_text(alloc: Global, count: u32) -> Result<String, AllocError>
+    ensures { IfOk result (λ text. string_bytes text ≡ second_count_text count) }
+{
+    format!(in alloc; " with {count} probes\n")
+}
+
+/// Two records of one class id that do not agree: each has a name and a number of probes.
+fn conflict_text(
+    alloc: Global,
+    file: &str,
+    id: u64,
+    first: &[u8],
+    second: &[u8],
+    first_count: u32,
+    second_count: u32,
+) -> Result<Vec<u8>, AllocError>
+    ensures { IfOk result (λ text. text.items ≡ conflict_text file.now id first.now second.now first_count second_count) }
+{
+    let behind_first = first_count_text(alloc, first_count)?;
+    let behind_second = second_count_text(alloc, second_count)?;
+    let mut text = conflict_start(alloc, file, id)?.into_bytes();
+    text.extend_from_slice(first)?;
+    text.extend_from_slice(behind_first.as_bytes())?;
+    text.extend_from_slice(second)?;
+    text.extend_from_slice(behind_second.as_bytes())?;
+    Ok(text)
+}
+
+fn exec_refusal_text(
+    alloc: Global,
+    file: &str,
+    refusal: &ExecRefusal,
+) -> Result<Vec<u8>, AllocError>
+    ensures { IfOk result (λ text. text.items ≡ exec_refusal_text file.now refusal.now) }
 {
     match refusal {
-        ExecRefusal::LaterForm { place } => later_form_text(alloc, file, place),
+        ExecRefusal::BadExec { place } => Ok(bad_exec_text(alloc, file, *place)?.into_bytes()),
+        ExecRefusal::OtherVersion { found } => other_version_text(alloc, file, *found),
+        ExecRefusal::Conflict {
+            id,
+            first,
+            second,
+            first_count,
+            second_count,
+        } => conflict_text(alloc, file, *id, first, second, *first_count, *second_count),
     }
 }
 
@@ -96,41 +177,50 @@ fn class_refusal_text(alloc: Global, file: &str, refusal: Refusal) -> Result<Str
     }
 }
 
-fn fault_text(alloc: Global, file: &str, fault: Fault) -> Result<String, AllocError>
-    ensures { IfOk result (λ text. string_bytes text ≡ fault_text file.now fault) }
+fn fault_text(alloc: Global, file: &str, fault: &Fault) -> Result<Vec<u8>, AllocError>
+    ensures { IfOk result (λ text. text.items ≡ fault_text file.now fault.now) }
 {
     match fault {
         Fault::Exec { refusal, .. } => exec_refusal_text(alloc, file, refusal),
-        Fault::Class { refusal, .. } => class_refusal_text(alloc, file, refusal),
+        Fault::Class { refusal, .. } => Ok(class_refusal_text(alloc, file, *refusal)?.into_bytes()),
     }
 }
 
-fn message(alloc: Global, stop: &Stop<'_>) -> Result<String, AllocError>
-    ensures { IfOk result (λ text. string_bytes text ≡ message_of stop.now) }
+fn message(alloc: Global, stop: &Stop<'_>) -> Result<Vec<u8>, AllocError>
+    ensures { IfOk result (λ text. text.items ≡ message_of stop.now) }
 {
     match stop {
-        Stop::Memory => Ok(String::new(alloc)),
-        Stop::Read(path) => cannot_read(alloc, path),
-        Stop::Write(path) => cannot_write(alloc, path),
-        Stop::Output => String::from_str(alloc, "cannot write output\n"),
-        Stop::Refused { file, fault } => fault_text(alloc, file, *fault),
+        Stop::Memory => Ok(Vec::new(alloc)),
+        Stop::Read(path) => Ok(cannot_read(alloc, path)?.into_bytes()),
+        Stop::Write(path) => Ok(cannot_write(alloc, path)?.into_bytes()),
+        Stop::Output => Vec::from_slice(alloc, b"cannot write output\n"),
+        Stop::Refused { file, fault } => fault_text(alloc, file, fault),
+    }
+}
+
+/// The status of a command that ended early.
+fn status_of(stop: Stop<'_>) -> Status
+    ensures { result ≡ status_of stop.entry }
+{
+    match stop {
+        Stop::Memory => Status::Memory,
+        Stop::Read(_) => Status::ReadFault,
+        Stop::Write(_) | Stop::Output => Status::WriteFault,
+        Stop::Refused { fault, .. } => Status::Refused(fault),
     }
 }
 
 /// Says why a command ended early, and answers with its status.
-pub fn report<E: Sink>(alloc: Global, err: &mut E, stop: &Stop<'_>) -> Status
-    ensures { Reports stop.now (E.told err.old) (E.told err.new) (E.faults err.old) (E.faults err.new) result }
+pub fn report<E: Sink>(alloc: Global, err: &mut E, stop: Stop<'_>) -> Status
+    ensures { Reports stop.entry (E.told err.old) (E.told err.new) (E.faults err.old) (E.faults err.new) result }
 {
-    let status = match stop {
-        Stop::Memory => return Status::Memory,
-        Stop::Read(_) => Status::ReadFault,
-        Stop::Write(_) | Stop::Output => Status::WriteFault,
-        Stop::Refused { fault, .. } => Status::Refused(*fault),
-    };
-    match message(alloc, stop) {
+    if matches!(stop, Stop::Memory) {
+        return Status::Memory;
+    }
+    match message(alloc, &stop) {
         Ok(text) => {
-            say(err, &text);
-            status
+            put_message(err, &text);
+            status_of(stop)
         }
         Err(_) => Status::Memory,
     }

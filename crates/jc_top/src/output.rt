@@ -1,10 +1,10 @@
 //! Making the writes of a command.
-ghost use Rattle.std.specs.Prelude.{◌≡◌, ℕ, List, map, Option};
+ghost use Rattle.std.specs.Prelude.{◌≡◌, ◌++◌, ◌∷◌, [], ℕ, List, map, Option, OnOk};
 ghost use Rattle.jc_top.specs.Looks.{write_seen};
 ghost use Rattle.jc_top.specs.Outcome.{WroteOne, WroteAll};
 
 use crate::stop::Stop;
-use jc_base::{Files, Sink};
+use jc_base::{Files, Memory, Sink};
 
 /// What a command writes.
 #[derive(Drop)]
@@ -13,6 +13,14 @@ pub enum Write<'a> {
     File { path: &'a str, bytes: Vec<u8> },
     /// The text, on `out`.
     Out { text: Vec<u8> },
+}
+
+/// Puts a line last.
+pub fn keep<'a>(writes: &mut Vec<Write<'a>>, text: Vec<u8>) -> Result<(), Memory>
+    ensures { OnOk result (writes.new.items ≡ writes.old.items ++ Write.Out text ∷ []) }
+{
+    writes.push(Write::Out { text })?;
+    Ok(())
 }
 
 /// Makes one write.

@@ -2,7 +2,7 @@
 ghost use Rattle.std.specs.Prelude.{◌≡◌, ◌++◌, ◌∷◌, [], Bool, IfOk, map, not};
 ghost use Rattle.std.specs.List.{list_all, list_any};
 ghost use Rattle.std.specs.Str.{bytes_eq};
-ghost use Rattle.jc_top.specs.Words.{components, is_component, is_relative, are_distinct, words_of};
+ghost use Rattle.jc_top.specs.Words.{components, is_component, is_value, is_relative, are_distinct, words_of};
 
 use crate::words::is_value;
 use indexmap::IndexSet;
@@ -52,6 +52,30 @@ pub fn are_relative(words: &[String]) -> bool
         }
     }
     true
+}
+
+/// Whether each word is neither empty nor begins with `-`.
+pub fn are_values(words: &[String]) -> bool
+    ensures { result ≡ list_all is_value (words_of words.now) }
+{
+    'testing: for word in words {
+        if !is_value(word.as_str()) {
+            return false;
+        }
+    }
+    true
+}
+
+/// Whether a word is one of the others.
+pub fn is_among(word: &str, others: &[String]) -> bool
+    ensures { result ≡ list_any (bytes_eq word.now) (words_of others.now) }
+{
+    'seeking: for other in others {
+        if word == other.as_str() {
+            return true;
+        }
+    }
+    false
 }
 
 /// Whether no two of the words are equal.

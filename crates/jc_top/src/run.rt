@@ -11,6 +11,7 @@ ghost use Rattle.jc_top.specs.Outcome.{Prepares, Runs, Ends};
 use crate::Status;
 use crate::class_info::prepare_class_info;
 use crate::command::{Command, Unclear, read_words};
+use crate::exec_info::prepare_exec_info;
 use crate::merge::prepare_merge;
 use crate::message::{USAGE, report, say};
 use crate::output::{Write, write_all};
@@ -30,7 +31,8 @@ fn prepare<'a, F: Files>(
     ensures write_faults { F.write_faults files.new ≡ F.write_faults files.old }
 {
     match command {
-        Command::Merge { destfile, input } => prepare_merge(alloc, files, destfile, input),
+        Command::Merge { destfile, inputs } => prepare_merge(alloc, files, destfile, inputs),
+        Command::ExecInfo { paths } => prepare_exec_info(alloc, files, paths),
         Command::ClassInfo { paths } => prepare_class_info(alloc, files, paths),
     }
 }
@@ -54,8 +56,8 @@ fn run<'a, F: Files, O: Sink>(
 
 /// Runs the command that the words behind the program's name call.
 ///
-/// The words are `merge --destfile OUT IN` or `classinfo FILE..`. A command first reads its inputs, then refuses what
-/// is wrong with them, and then writes. The first failure ends it and decides the status; its
+/// The words are `merge --destfile OUT IN..`, `execinfo IN..` or `classinfo FILE..`. A command first reads its inputs,
+/// then refuses what is wrong with them, and then writes. The first failure ends it and decides the status; its
 /// message goes to `err`, and a failure of that last message changes nothing. Want of memory
 /// prints no message.
 ///
@@ -94,7 +96,7 @@ pub fn run_tool<F: Files, O: Sink, E: Sink>(
     };
     match run(alloc, files, out, &command) {
         Ok(()) => Status::Done,
-        Err(stop) => report(alloc, err, &stop),
+        Err(stop) => report(alloc, err, stop),
     }
 }
 

@@ -4,7 +4,7 @@ use jc_base::Refusal;
 use jc_exec::ExecRefusal;
 
 /// How a run of the tool ended. The exit statuses are 0 to 5 in the order of the variants.
-#[derive(Clone, Copy, Debug, PartialEq, Eq)]
+#[derive(Debug, Drop, PartialEq, Eq)]
 pub enum Status {
     /// All was written.
     Done,
@@ -21,7 +21,7 @@ pub enum Status {
 }
 
 /// What is wrong with an input.
-#[derive(Clone, Copy, Debug, PartialEq, Eq)]
+#[derive(Debug, Drop, PartialEq, Eq)]
 pub enum Fault {
     /// The execution data of the input at this place in the list of inputs is refused.
     Exec { path: u32, refusal: ExecRefusal },

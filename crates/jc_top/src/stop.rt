@@ -1,11 +1,13 @@
 //! Why a command ended early.
 ghost use Rattle.std.specs.Prelude.{◌≡◌};
+ghost use Rattle.jc_top.specs.Outcome.{exec_stop};
 
 use crate::Fault;
-use jc_base::Memory;
+use jc_base::{Fail, Memory};
+use jc_exec::ExecRefusal;
 
 /// Why a command ended early.
-#[derive(Clone, Copy)]
+#[derive(Drop)]
 pub enum Stop<'a> {
     /// Memory was refused.
     Memory,
@@ -27,5 +29,18 @@ impl<'a> From<Memory> for Stop<'a> {
 
     fn from(_: Memory) -> Self {
         Stop::Memory
+    }
+}
+
+/// How execution data that isn't taken stops a command.
+pub fn exec_stop<'a>(fail: Fail<ExecRefusal>, path: u32, input: &'a str) -> Stop<'a>
+    ensures { result ≡ exec_stop fail path input.entry }
+{
+    match fail {
+        Fail::Memory => Stop::Memory,
+        Fail::Said(refusal) => {
+            let fault = Fault::Exec { path, refusal };
+            Stop::Refused { file: input, fault }
+        }
     }
 }

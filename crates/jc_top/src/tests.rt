@@ -4,6 +4,8 @@ use jc_exec::ExecRefusal;
 use std::alloc::{AllocError, Global};
 use std::test::Fail;
 
+mod exec;
+
 // One record of a class named A, with probes 0 and 2 of 3 hit.
 const A: [u8; 19] = [
     0x01, 0xc0, 0xc0, 0x10, 0x07, 0x11, 0, 0, 0, 0, 0, 0, 0, 1, 0, 1, 0x41, 0x03, 0x05,
@@ -95,15 +97,15 @@ fn plain_files_are_merged(rt: HostRuntime) -> Result<(), Fail> {
 fn other_files_are_refused(rt: HostRuntime) -> Result<(), Fail> {
     let alloc = rt.alloc();
     for (bytes, place, text) in [
-        (&[][..], 0, "a.exec: input of a later form at 0\n"),
+        (&[0x10][..], 0, "a.exec: bad execution data at 0\n"),
         (
-            &[0x01, 0xc0, 0xc0, 0x10, 0x07, 0x10][..],
+            &[0x01, 0xc0, 0xc0, 0x10, 0x07, 0x10],
             5,
-            "a.exec: input of a later form at 5\n",
+            "a.exec: bad execution data at 5\n",
         ),
     ] {
         let ran = merged(alloc, bytes)?;
-        let refusal = ExecRefusal::LaterForm { place };
+        let refusal = ExecRefusal::BadExec { place };
         assert_eq!(rt;
             ran.status,
             Status::Refused(Fault::Exec { path: 0, refusal })
@@ -126,7 +128,10 @@ fn other_words_are_usage(rt: HostRuntime) -> Result<(), Fail> {
         &["merge", "--destfile=o", "a.exec"],
         &["merge", "a.exec", "--destfile", "o"],
         &["merge", "--destfile", "o", "--", "a.exec"],
-        &["merge", "--destfile", "o", "a.exec", "b.exec"],
+        &["merge", "--destfile", "o", "a.exec", "a.exec"],
+        &["execinfo"],
+        &["execinfo", "a.exec", "a.exec"],
+        &["execinfo", "--destfile", "o", "a.exec"],
         &["merge", "--destfile", "-o", "a.exec"],
         &["merge", "--destfile", "o", ""],
         &["merge", "--csv", "o", "a.exec"],
@@ -148,7 +153,7 @@ fn other_words_are_usage(rt: HostRuntime) -> Result<(), Fail> {
 }
 
 // A run whose calls of the files or messages fail, what it answers and says, and what `o` holds then.
-#[derive(Clone, Copy)]
+#[derive(Drop)]
 struct Row<'a> {
     input: &'a str,
     files_fail: &'a [u32],
@@ -233,7 +238,7 @@ fn a_failed_message_changes_nothing(rt: HostRuntime) -> Result<(), Fail> {
     let ran = run(alloc, &["merge"], "a.exec", &A, &[], &[1])?;
     assert_eq!(rt; ran.status, Status::Usage);
     let ran = run(alloc, &MERGE, "a.exec", &A[..4], &[], &[1])?;
-    let refusal = ExecRefusal::LaterForm { place: 0 };
+    let refusal = ExecRefusal::BadExec { place: 0 };
     assert_eq!(rt;
         ran.status,
         Status::Refused(Fault::Exec { path: 0, refusal })

@@ -1,8 +1,12 @@
-use Rattle.jc_top.proofs.ReadLaws.{merge_refuses, merge_writes}
+use Rattle.std.proofs.lemmas.Result.{err_from_is_err_and}
+use Rattle.jc_top.specs.Words.{words_of}
+use Rattle.jc_top.proofs.MergeLaws.{merge_writes}
 use Rattle.jc_top.proofs.merge.merged.Goals as goal
 
-pub returns-in-Ok : goal.returns-in-Ok
-returns-in-Ok c = merge_writes c.args.destfile c.args.input.now c.args.bytes.now c.in-Ok.bytes c.one_write.result c.in-Ok.ensures c.one_write.ensures.ok c.one_write.ensures.err
+pub returns-in_err-store : goal.returns-in_err-store
+returns-in_err-store c =
+    let p = err_from_is_err_and c.from_residual.result c.from_residual.ensures.1 in
+    rw (p.1, p.2) (c.in_err-store.ensures.refused c.args.destfile.now)
 
-pub returns-in-Err : goal.returns-in-Err
-returns-in-Err c = rw c.refused.ensures (merge_refuses c.args.destfile.now c.args.bytes.now c.args.input c.in-Err.fail c.in-Err.ensures)
+pub returns : goal.returns
+returns c = merge_writes c.args.destfile (words_of c.args.inputs.now) c.args.texts.now c.in_ok-store.store c.in_ok-bytes.bytes c.one_write.result c.in_ok-store.ensures.union c.in_ok-bytes.ensures.text c.one_write.ensures.ok c.one_write.ensures.err

@@ -1,8 +1,17 @@
+use Rattle.std.proofs.Common.{ℕ, List, subst}
 use Rattle.std.proofs.lemmas.Result.{err_from_is_err_and}
-use Rattle.jc_top.proofs.ReadLaws.{merge_stops}
+use Rattle.jc_top.specs.Command.{merge}
+use Rattle.jc_top.specs.Words.{words_of}
+use Rattle.jc_top.specs.Outcome.{AnswersWith}
+use Rattle.jc_top.proofs.ReadLaws.{command_stops, command_prepares}
 use Rattle.jc_top.proofs.merge.prepare_merge.Goals as goal
 
-pub returns-in_err-bytes-clause-gives : goal.returns-in_err-bytes-clause-gives
-returns-in_err-bytes-clause-gives g c =
+pub returns-in_err-texts-clause-gives : goal.returns-in_err-texts-clause-gives
+returns-in_err-texts-clause-gives g c =
     let p = err_from_is_err_and c.from_residual.result c.from_residual.ensures.1 in
-    rw (p.1, p.2) (merge_stops (g.F.Files.contents c.args.files.now) c.args.destfile.now c.args.input.now (g.F.Files.read_faults c.args.files.now) (g.F.Files.read_faults c.read_one.new.files) c.in_err-bytes.field-0.0 c.in_err-bytes.ensures.gives)
+    rw (p.1, p.2) (command_stops (g.F.Files.contents c.args.files.now) (merge c.args.destfile.now (words_of c.args.inputs.now)) (g.F.Files.read_faults c.args.files.now) (g.F.Files.read_faults c.read_all.new.files) c.in_err-texts.field-0.0 c.in_err-texts.ensures.gives)
+
+pub returns-clause-gives : goal.returns-clause-gives
+returns-clause-gives g c =
+    command_prepares (g.F.Files.contents c.args.files.now) (merge c.args.destfile.now (words_of c.args.inputs.now)) c.in_ok-texts.texts.items (g.F.Files.read_faults c.args.files.now) (g.F.Files.read_faults c.read_all.new.files) c.merged.result c.in_ok-texts.ensures.gives.0 c.in_ok-texts.ensures.gives.1
+    (subst (λ (ts : List (List ℕ)). AnswersWith (merge c.args.destfile.now (words_of c.args.inputs.now)) ts c.merged.result) c.deref.ensures.value c.merged.ensures)

@@ -2,15 +2,15 @@ use Rattle.std.proofs.Common.{sym, ◌∙◌, ap}
 use Rattle.std.proofs.lemmas.List.{take_all}
 use Rattle.std.specs.List.{list_all}
 use Rattle.jc_top.specs.Words.{is_relative, words_of}
-use Rattle.jc_top.proofs.PathLaws.{relative_on, relative_stop}
+use Rattle.jc_top.proofs.PathLaws.{all_on, all_stop}
 use Rattle.jc_top.proofs.paths.are_relative.Goals as goal
 
 pub testing-preserved : goal.testing-preserved
-testing-preserved c = relative_on c.args.words.now c.testing.word-index c.word-item.result c.testing-test.true c.word-item.is c.testing.invariant
+testing-preserved c = all_on is_relative c.args.words.now c.testing.word-index c.word-item.result c.testing-test.true c.word-item.is c.testing.invariant
     (ap is_relative (sym c.as_str.ensures.value) ∙ sym c.is_relative.ensures ∙ c.if-not-is_relative.false)
 
 pub returns-then-not-is_relative : goal.returns-then-not-is_relative
-returns-then-not-is_relative c = relative_stop c.args.words.now c.testing.word-index c.word-item.result c.testing-test.true c.word-item.is
+returns-then-not-is_relative c = all_stop is_relative c.args.words.now c.testing.word-index c.word-item.result c.testing-test.true c.word-item.is
     (ap is_relative (sym c.as_str.ensures.value) ∙ sym c.is_relative.ensures ∙ c.if-not-is_relative.true)
 
 pub returns : goal.returns
