@@ -237,11 +237,11 @@ fn slow_writers(rt: HostRuntime) -> Result<(), Fail> {
         most: 2,
     };
     assert!(rt; HostSink::new(&mut slow).put(b"abcde").is_ok());
-    assert!(rt; slow.taken.as_slice() == b"abcde");
+    assert!(rt; slow.taken.as_slice() == b"abcde".as_slice());
     // A writer that takes nothing of a piece that isn't empty.
     slow.most = 0;
     assert!(rt; HostSink::new(&mut slow).put(b"").is_ok());
     assert!(rt; HostSink::new(&mut slow).put(b"f").is_err());
-    assert!(rt; slow.taken.as_slice() == b"abcde");
+    assert!(rt; slow.taken.as_slice() == b"abcde".as_slice());
     Ok(())
 }

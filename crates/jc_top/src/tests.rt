@@ -1,7 +1,9 @@
+//! The commands over files and texts in memory.
+
 use super::*;
-use jc_base::{MemoryFiles, MemorySink, Refusal, RefusalKind, not_a_class};
-use jc_exec::ExecRefusal;
+use jc_base::{Memory, MemoryFiles, MemorySink};
 use std::alloc::{AllocError, Global};
+use std::process::Abort;
 use std::test::Fail;
 
 mod exec;
@@ -9,6 +11,15 @@ mod exec;
 // One record of a class named A, with probes 0 and 2 of 3 hit.
 const A: [u8; 19] = [
     0x01, 0xc0, 0xc0, 0x10, 0x07, 0x11, 0, 0, 0, 0, 0, 0, 0, 1, 0, 1, 0x41, 0x03, 0x05,
+];
+
+// The same record with no probe hit, and with its count in two bytes.
+const NO_HIT: [u8; 19] = [
+    0x01, 0xc0, 0xc0, 0x10, 0x07, 0x11, 0, 0, 0, 0, 0, 0, 0, 1, 0, 1, 0x41, 0x03, 0x00,
+];
+
+const LONG_COUNT: [u8; 20] = [
+    0x01, 0xc0, 0xc0, 0x10, 0x07, 0x11, 0, 0, 0, 0, 0, 0, 0, 1, 0, 1, 0x41, 0x83, 0x00, 0x05,
 ];
 
 const USAGE: &str =
@@ -27,6 +38,106 @@ const INTERFACE: [u8; 83] = [
 
 const MERGE: [&str; 4] = ["merge", "--destfile", "o", "a.exec"];
 
+const THREE: [&str; 4] = ["classinfo", "A.class", "B.class", "C.class"];
+
+// A file that is there before the run.
+#[derive(Clone, Copy)]
+struct File<'a> {
+    path: &'a str,
+    bytes: &'a [u8],
+}
+
+// The record at `a.exec`.
+const RECORD: [File<'static>; 1] = [File {
+    path: "a.exec",
+    bytes: &A,
+}];
+
+// The interface at three paths.
+const CLASSES: [File<'static>; 3] = [
+    File {
+        path: "A.class",
+        bytes: &INTERFACE,
+    },
+    File {
+        path: "B.class",
+        bytes: &INTERFACE,
+    },
+    File {
+        path: "C.class",
+        bytes: &INTERFACE,
+    },
+];
+
+// What a run leaves: the exit status, the place of the input that is refused, the texts, and what `o` holds.
+#[derive(Clone, Copy)]
+struct Left<'a> {
+    status: u8,
+    refused: Option<u32>,
+    out: &'a str,
+    err: &'a str,
+    written: Option<&'a [u8]>,
+}
+
+// A run: its words, the files, and the calls of the files and the texts that fail.
+#[derive(Clone, Copy)]
+struct Row<'a> {
+    words: &'a [&'a str],
+    files: &'a [File<'a>],
+    files_fail: &'a [u32],
+    out_fails: &'a [u32],
+    err_fails: &'a [u32],
+    left: Left<'a>,
+}
+
+// The record is merged.
+const MERGED: Row<'static> = Row {
+    words: &MERGE,
+    files: &RECORD,
+    files_fail: &[],
+    out_fails: &[],
+    err_fails: &[],
+    left: Left {
+        status: 0,
+        refused: None,
+        out: "",
+        err: "",
+        written: Some(&A),
+    },
+};
+
+// Three classes are listed.
+const LISTED: Row<'static> = Row {
+    words: &THREE,
+    files: &CLASSES,
+    left: Left {
+        out: "class A id 27270f85a4077bc4 version 52\n\
+              class A id 27270f85a4077bc4 version 52\n\
+              class A id 27270f85a4077bc4 version 52\n",
+        ..NOTHING
+    },
+    ..MERGED
+};
+
+// Nothing is written or said.
+const NOTHING: Left<'static> = Left {
+    status: 0,
+    refused: None,
+    out: "",
+    err: "",
+    written: None,
+};
+
+const UNREAD: Left<'static> = Left {
+    status: 3,
+    ..NOTHING
+};
+
+const UNWRITTEN: Left<'static> = Left {
+    status: 4,
+    ..NOTHING
+};
+
 fn words(alloc: Global, all: &[&str]) -> Result<Vec<String>, AllocError> {
     let mut words = Vec::new(alloc);
     for word in all {
@@ -35,7 +146,15 @@ fn words(alloc: Global, all: &[&str]) -> Result<Vec<String>, AllocError> {
     Ok(words)
 }
 
-// What a run over files in memory left.
+fn files(alloc: Global, all: &[File<'_>], fail: &[u32]) -> Result<MemoryFiles, Memory> {
+    let mut files = MemoryFiles::new(alloc, fail)?;
+    for file in all {
+        files.with(alloc, file.path, file.bytes)?;
+    }
+    Ok(files)
+}
+
+// The status of a run, and what it left.
 #[derive(Drop)]
 struct Ran {
     status: Status,
@@ -44,20 +163,11 @@ struct Ran {
     err: MemorySink,
 }
 
-// Runs the words over one file, with these calls of the files and of the messages failing.
-fn run(
-    alloc: Global,
-    all: &[&str],
-    path: &str,
-    bytes: &[u8],
-    files_fail: &[u32],
-    err_fails: &[u32],
-) -> Result<Ran, jc_base::Memory> {
-    let mut files = MemoryFiles::new(alloc, files_fail)?;
-    files.with(path, bytes)?;
-    let mut out = MemorySink::new(alloc, &[])?;
-    let mut err = MemorySink::new(alloc, err_fails)?;
-    let words = words(alloc, all)?;
+fn run(alloc: Global, row: &Row<'_>) -> Result<Ran, Memory> {
+    let words = words(alloc, row.words)?;
+    let mut files = files(alloc, row.files, row.files_fail)?;
+    let mut out = MemorySink::new(alloc, row.out_fails)?;
+    let mut err = MemorySink::new(alloc, row.err_fails)?;
     let status = run_tool(alloc, &words, &mut files, &mut out, &mut err);
     Ok(Ran {
         status,
@@ -67,287 +177,441 @@ fn run(
     })
 }
 
-// The execution data that a merge of these bytes writes.
-fn merged(alloc: Global, bytes: &[u8]) -> Result<Ran, jc_base::Memory> {
-    run(alloc, &MERGE, "a.exec", bytes, &[], &[])
+// Each file but `o` is as it was.
+fn stay(files: &MemoryFiles, all: &[File<'_>]) -> bool {
+    all.iter().all(|file| file.path == "o" || files.get(file.path) == Some(file.bytes))
+}
+
+// The exit status.
+fn number(status: &Status) -> u8 {
+    match status {
+        Status::Done => 0,
+        Status::Refused(_) => 1,
+        Status::Usage => 2,
+        Status::ReadFault => 3,
+        Status::WriteFault => 4,
+        Status::Memory => 5,
+    }
+}
+
+// The place of the input that is refused.
+fn refused(status: &Status) -> Option<u32> {
+    match status {
+        Status::Refused(Fault::Exec { path, .. } | Fault::Class { path, .. }) => Some(*path),
+        _ => None,
+    }
+}
+
+// What differs from what a run should leave.
+fn difference(ran: &Ran, row: &Row<'_>) -> Option<&'static str> {
+    if number(&ran.status) != row.left.status {
+        return Some("status");
+    }
+    if refused(&ran.status) != row.left.refused {
+        return Some("input");
+    }
+    if ran.out.bytes() != row.left.out.as_bytes() {
+        return Some("out");
+    }
+    if ran.err.bytes() != row.left.err.as_bytes() {
+        return Some("err");
+    }
+    if ran.files.get("o") != row.left.written {
+        return Some("o");
+    }
+    if stay(&ran.files, row.files) {
+        None
+    } else {
+        Some("files")
+    }
+}
+
+fn check(rt: &impl Abort, alloc: Global, row: &Row<'_>) -> Result<(), Memory> {
+    let ran = run(alloc, row)?;
+    if let Some(what) = difference(&ran, row) {
+        panic!(rt; "{:?}: {what}, with {}", row.words, number(&ran.status));
+    }
+    Ok(())
+}
+
+// A run of these words over these files, in which no call fails.
+fn check_files(
+    rt: &impl Abort,
+    alloc: Global,
+    words: &[&str],
+    files: &[File<'_>],
+    left: Left<'_>,
+) -> Result<(), Memory> {
+    let row = Row {
+        words,
+        files,
+        files_fail: &[],
+        out_fails: &[],
+        err_fails: &[],
+        left,
+    };
+    check(rt, alloc, &row)
+}
+
+// A merge of these bytes leaves this.
+fn check_merge(rt: &impl Abort, alloc: Global, bytes: &[u8], left: Left<'_>) -> Result<(), Memory> {
+    let file = File {
+        path: "a.exec",
+        bytes,
+    };
+    check_files(rt, alloc, &MERGE, &[file], left)
+}
+
+// Only these bytes are written.
+const fn written(bytes: &[u8]) -> Left<'_> {
+    Left {
+        written: Some(bytes),
+        ..NOTHING
+    }
 }
 
 #[test]
 fn plain_files_are_merged(rt: HostRuntime) -> Result<(), Fail> {
     let alloc = rt.alloc();
-    let mut no_hit = A;
-    no_hit[18] = 0;
-    let mut long_count = Vec::from_slice(alloc, &A[..17])?;
-    long_count.extend_from_slice(&[0x83, 0x00, 0x05])?;
-    for (bytes, want) in [
-        (A.as_slice(), A.as_slice()),
-        (no_hit.as_slice(), &A[..5]),
-        (long_count.as_slice(), A.as_slice()),
-    ] {
-        let ran = merged(alloc, bytes)?;
-        assert_eq!(rt; ran.status, Status::Done);
-        assert_eq!(rt; ran.files.get("o").ok_or("no file")?, want);
-        assert_eq!(rt; ran.files.get("a.exec").ok_or("no file")?, bytes);
-        assert_eq!(rt; ran.err.bytes(), [].as_slice());
-    }
-    Ok(())
-}
-
-#[test]
-fn other_files_are_refused(rt: HostRuntime) -> Result<(), Fail> {
-    let alloc = rt.alloc();
-    for (bytes, place, text) in [
-        (&[0x10][..], 0, "a.exec: bad execution data at 0\n"),
-        (
-            &[0x01, 0xc0, 0xc0, 0x10, 0x07, 0x10],
-            5,
-            "a.exec: bad execution data at 5\n",
-        ),
-    ] {
-        let ran = merged(alloc, bytes)?;
-        let refusal = ExecRefusal::BadExec { place };
-        assert_eq!(rt;
-            ran.status,
-            Status::Refused(Fault::Exec { path: 0, refusal })
-        );
-        assert_eq!(rt; ran.err.bytes(), text.as_bytes());
-        assert!(rt; ran.files.get("o").is_none());
-    }
-    Ok(())
-}
-
-#[test]
-fn other_words_are_usage(rt: HostRuntime) -> Result<(), Fail> {
-    let alloc = rt.alloc();
-    for all in [
-        &[][..],
-        &["merge"],
-        &["merge", "--destfile", "a.exec", "a.exec"],
-        &["merge", "--destfile", "o"],
-        &["merge", "--destfile"],
-        &["merge", "--destfile=o", "a.exec"],
-        &["merge", "a.exec", "--destfile", "o"],
-        &["merge", "--destfile", "o", "--", "a.exec"],
-        &["merge", "--destfile", "o", "a.exec", "a.exec"],
-        &["execinfo"],
-        &["execinfo", "a.exec", "a.exec"],
-        &["execinfo", "--destfile", "o", "a.exec"],
-        &["merge", "--destfile", "-o", "a.exec"],
-        &["merge", "--destfile", "o", ""],
-        &["merge", "--csv", "o", "a.exec"],
-        &["report", "--csv", "o", "a.exec"],
-        &["classinfo"],
-        &["classinfo", "--name", "A", "A.class"],
-        &["classinfo", "A.class", "A.class"],
-        &["classinfo", "/A.class"],
-        &["classinfo", "./A.class"],
-        &["classinfo", "a/../A.class"],
-        &["classinfo", "a//A.class"],
-        &["classinfo", "a/"],
-    ] {
-        let ran = run(alloc, all, "a.exec", &A, &[], &[])?;
-        assert_eq!(rt; ran.status, Status::Usage, "{all:?}");
-        assert_eq!(rt; ran.err.bytes(), USAGE.as_bytes());
-    }
-    Ok(())
-}
-
-// A run whose calls of the files or messages fail, what it answers and says, and what `o` holds then.
-#[derive(Drop)]
-struct Row<'a> {
-    input: &'a str,
-    files_fail: &'a [u32],
-    err_fails: &'a [u32],
-    status: Status,
-    said: &'a str,
-    left: Option<&'a [u8]>,
-}
-
-#[test]
-fn each_failing_call(rt: HostRuntime) -> Result<(), Fail> {
-    let alloc = rt.alloc();
-    for row in [
-        // The file is missing, or the read fails; and then the message fails too.
-        Row {
-            input: "none",
-            files_fail: &[],
-            err_fails: &[],
-            status: Status::ReadFault,
-            said: "cannot read none\n",
-            left: None,
-        },
-        Row {
-            input: "a.exec",
-            files_fail: &[1],
-            err_fails: &[],
-            status: Status::ReadFault,
-            said: "cannot read a.exec\n",
-            left: None,
-        },
-        Row {
-            input: "none",
-            files_fail: &[],
-            err_fails: &[1],
-            status: Status::ReadFault,
-            said: "cannot r",
-            left: None,
-        },
-        // The write fails: a prefix of the bytes is left.
-        Row {
-            input: "a.exec",
-            files_fail: &[2],
-            err_fails: &[],
-            status: Status::WriteFault,
-            said: "cannot write o\n",
-            left: Some(&A[..9]),
-        },
-        Row {
-            input: "a.exec",
-            files_fail: &[2],
-            err_fails: &[1],
-            status: Status::WriteFault,
-            said: "cannot ",
-            left: Some(&A[..9]),
-        },
-        // A later call fails, which isn't made.
-        Row {
-            input: "a.exec",
-            files_fail: &[3],
-            err_fails: &[1],
-            status: Status::Done,
-            said: "",
-            left: Some(&A),
-        },
-    ] {
-        let all = ["merge", "--destfile", "o", row.input];
-        let ran = run(alloc, &all, "a.exec", &A, row.files_fail, row.err_fails)?;
-        assert_eq!(rt; ran.status, row.status);
-        assert_eq!(rt; ran.err.bytes(), row.said.as_bytes());
-        assert_eq!(rt; ran.files.get("a.exec").ok_or("no file")?, A.as_slice());
-        match row.left {
-            Some(bytes) => assert_eq!(rt; ran.files.get("o").ok_or("no file")?, bytes),
-            None => assert!(rt; ran.files.get("o").is_none()),
-        }
-    }
-    Ok(())
-}
-
-#[test]
-fn a_failed_message_changes_nothing(rt: HostRuntime) -> Result<(), Fail> {
-    let alloc = rt.alloc();
-    let ran = run(alloc, &["merge"], "a.exec", &A, &[], &[1])?;
-    assert_eq!(rt; ran.status, Status::Usage);
-    let ran = run(alloc, &MERGE, "a.exec", &A[..4], &[], &[1])?;
-    let refusal = ExecRefusal::BadExec { place: 0 };
-    assert_eq!(rt;
-        ran.status,
-        Status::Refused(Fault::Exec { path: 0, refusal })
-    );
-    Ok(())
-}
-
-#[test]
-fn a_failed_write_over_a_file(rt: HostRuntime) -> Result<(), Fail> {
-    let alloc = rt.alloc();
-    let mut files = MemoryFiles::new(alloc, &[2])?;
-    files.with("a.exec", &A)?;
-    files.with("o", b"older")?;
-    let mut out = MemorySink::new(alloc, &[])?;
-    let mut err = MemorySink::new(alloc, &[])?;
-    let words = words(alloc, &MERGE)?;
-    let status = run_tool(alloc, &words, &mut files, &mut out, &mut err);
-    assert_eq!(rt; status, Status::WriteFault);
-    assert_eq!(rt; files.get("o").ok_or("no file")?, &A[..9]);
-    assert_eq!(rt; files.get("a.exec").ok_or("no file")?, A.as_slice());
+    check_merge(&rt, alloc, &A, written(&A))?;
+    check_merge(&rt, alloc, &NO_HIT, written(&A[..5]))?;
+    check_merge(&rt, alloc, &LONG_COUNT, written(&A))?;
     Ok(())
 }
 
 #[test]
 fn a_large_file(rt: HostRuntime) -> Result<(), Fail> {
-    let alloc = rt.alloc();
-    let zeros = vec![in alloc; 0u8; 67_108_865]?;
-    let ran = run(alloc, &MERGE, "a.exec", &zeros, &[], &[])?;
-    assert_eq!(rt; ran.status, Status::ReadFault);
+    let zeros = vec![in rt.alloc(); 0u8; 67_108_865]?;
+    let file = File {
+        path: "a.exec",
+        bytes: &zeros,
+    };
+    let row = Row {
+        files: &[file],
+        ..MERGED
+    };
+    let ran = run(rt.alloc(), &row)?;
+    assert_eq!(rt; number(&ran.status), 3);
     assert_eq!(rt; ran.err.bytes(), b"cannot read a.exec\n".as_slice());
     Ok(())
 }
 
+const REJECTED: Left<'static> = Left {
+    status: 2,
+    err: USAGE,
+    ..NOTHING
+};
+
+const OTHER_WORDS: [&[&str]; 23] = [
+    &[],
+    &["merge"],
+    &["merge", "--destfile", "a.exec", "a.exec"],
+    &["merge", "--destfile", "o"],
+    &["merge", "--destfile"],
+    &["merge", "--destfile=o", "a.exec"],
+    &["merge", "a.exec", "--destfile", "o"],
+    &["merge", "--destfile", "o", "--", "a.exec"],
+    &["merge", "--destfile", "o", "a.exec", "a.exec"],
+    &["merge", "--destfile", "o", "a.exec", "o"],
+    &["execinfo", "a.exec", "a.exec"],
+    &["merge", "--destfile", "-o", "a.exec"],
+    &["merge", "--destfile", "o", ""],
+    &["merge", "--csv", "o", "a.exec"],
+    &["report", "--csv", "o", "a.exec"],
+    &["classinfo"],
+    &["classinfo", "--name", "A", "A.class"],
+    &["classinfo", "A.class", "A.class"],
+    &["classinfo", "/A.class"],
+    &["classinfo", "./A.class"],
+    &["classinfo", "a/../A.class"],
+    &["classinfo", "a//A.class"],
+    &["classinfo", "a/"],
+];
+
+#[test]
+fn other_words_are_usage(rt: HostRuntime) -> Result<(), Fail> {
+    for words in OTHER_WORDS {
+        check_files(&rt, rt.alloc(), words, &RECORD, REJECTED)?;
+    }
+    Ok(())
+}
+
+const FAILING_MERGES: [Row<'static>; 8] = [
+    // The file is missing, or the read fails; and then the message fails too.
+    Row {
+        words: &["merge", "--destfile", "o", "none"],
+        left: Left {
+            err: "cannot read none\n",
+            ..UNREAD
+        },
+        ..MERGED
+    },
+    Row {
+        files_fail: &[1],
+        left: Left {
+            err: "cannot read a.exec\n",
+            ..UNREAD
+        },
+        ..MERGED
+    },
+    Row {
+        files_fail: &[1],
+        err_fails: &[1],
+        left: Left {
+            err: "cannot re",
+            ..UNREAD
+        },
+        ..MERGED
+    },
+    // The write fails: a prefix of the bytes is left, also over a file.
+    Row {
+        files_fail: &[2],
+        left: Left {
+            err: "cannot write o\n",
+            written: Some(&[0x01, 0xc0, 0xc0, 0x10, 0x07, 0x11, 0, 0, 0]),
+            ..UNWRITTEN
+        },
+        ..MERGED
+    },
+    Row {
+        files: &[
+            File {
+                path: "a.exec",
+                bytes: &A,
+            },
+            File {
+                path: "o",
+                bytes: b"older",
+            },
+        ],
+        files_fail: &[2],
+        err_fails: &[1],
+        left: Left {
+            err: "cannot ",
+            written: Some(&[0x01, 0xc0, 0xc0, 0x10, 0x07, 0x11, 0, 0, 0]),
+            ..UNWRITTEN
+        },
+        ..MERGED
+    },
+    // A later call fails, which isn't made.
+    Row {
+        files_fail: &[3],
+        out_fails: &[1],
+        err_fails: &[1],
+        ..MERGED
+    },
+    // The message fails, which changes nothing else.
+    Row {
+        words: &["merge"],
+        err_fails: &[1],
+        left: Left {
+            status: 2,
+            err: "usage: jcov COMMAND OPTIONS FILE..\ncommands: inst",
+            ..NOTHING
+        },
+        ..MERGED
+    },
+    Row {
+        files: &[File {
+            path: "a.exec",
+            bytes: &[0x01, 0xc0, 0xc0, 0x10],
+        }],
+        err_fails: &[1],
+        left: Left {
+            status: 1,
+            refused: Some(0),
+            err: "a.exec: bad exec",
+            ..NOTHING
+        },
+        ..MERGED
+    },
+];
+
+#[test]
+fn each_failing_call_of_one_input(rt: HostRuntime) -> Result<(), Fail> {
+    for row in &FAILING_MERGES {
+        check(&rt, rt.alloc(), row)?;
+    }
+    Ok(())
+}
+
+const FAILING_LISTS: [Row<'static>; 7] = [
+    // A read fails: the message names the file of that call.
+    Row {
+        files_fail: &[1],
+        left: Left {
+            err: "cannot read A.class\n",
+            ..UNREAD
+        },
+        ..LISTED
+    },
+    Row {
+        files_fail: &[2],
+        left: Left {
+            err: "cannot read B.class\n",
+            ..UNREAD
+        },
+        ..LISTED
+    },
+    Row {
+        files_fail: &[3],
+        err_fails: &[1],
+        left: Left {
+            err: "cannot rea",
+            ..UNREAD
+        },
+        ..LISTED
+    },
+    // A text fails: the lines in front of it stand, and half of it.
+    Row {
+        out_fails: &[1],
+        left: Left {
+            out: "class A id 27270f85",
+            err: "cannot write output\n",
+            ..UNWRITTEN
+        },
+        ..LISTED
+    },
+    Row {
+        out_fails: &[2],
+        left: Left {
+            out: "class A id 27270f85a4077bc4 version 52\nclass A id 27270f85",
+            err: "cannot write output\n",
+            ..UNWRITTEN
+        },
+        ..LISTED
+    },
+    Row {
+        out_fails: &[3],
+        err_fails: &[1],
+        left: Left {
+            out: "class A id 27270f85a4077bc4 version 52\n\
+                  class A id 27270f85a4077bc4 version 52\nclass A id 27270f85",
+            err: "cannot wri",
+            ..UNWRITTEN
+        },
+        ..LISTED
+    },
+    // A later call fails, which isn't made.
+    Row {
+        files_fail: &[4],
+        out_fails: &[4],
+        err_fails: &[1],
+        ..LISTED
+    },
+];
+
+#[test]
+fn each_failing_call_of_several_inputs(rt: HostRuntime) -> Result<(), Fail> {
+    for row in &FAILING_LISTS {
+        check(&rt, rt.alloc(), row)?;
+    }
+    Ok(())
+}
+
+const BAD: File<'static> = File {
+    path: "B.class",
+    bytes: b"PK",
+};
+
+const FIRST_REFUSALS: [Row<'static>; 2] = [
+    Row {
+        files: &[
+            File {
+                path: "A.class",
+                bytes: &INTERFACE,
+            },
+            BAD,
+            File {
+                path: "C.class",
+                bytes: b"",
+            },
+        ],
+        left: Left {
+            status: 1,
+            refused: Some(1),
+            err: "B.class: NotAClass at 0\n",
+            ..NOTHING
+        },
+        ..LISTED
+    },
+    // A file that is missing comes first, also behind one that is refused.
+    Row {
+        words: &["classinfo", "B.class", "none"],
+        files: &[BAD],
+        left: Left {
+            err: "cannot read none\n",
+            ..UNREAD
+        },
+        ..LISTED
+    },
+];
+
+#[test]
+fn the_first_class_that_is_refused(rt: HostRuntime) -> Result<(), Fail> {
+    for row in &FIRST_REFUSALS {
+        check(&rt, rt.alloc(), row)?;
+    }
+    Ok(())
+}
+
+// Listing one class of these bytes is refused.
+fn check_class(rt: &impl Abort, alloc: Global, bytes: &[u8], err: &str) -> Result<(), Memory> {
+    let file = File {
+        path: "A.class",
+        bytes,
+    };
+    let left = Left {
+        status: 1,
+        refused: Some(0),
+        err,
+        ..NOTHING
+    };
+    check_files(rt, alloc, &["classinfo", "A.class"], &[file], left)
+}
+
+// The interface, compiled for another version.
+fn with_version(version: u8) -> [u8; 83] {
+    let mut bytes = INTERFACE;
+    bytes[7] = version;
+    bytes
+}
+
+const TWO_LINES: Left<'static> = Left {
+    out: "class A id 27270f85a4077bc4 version 52\nclass A id 77d70f8ec26a70a2 version 61\n",
+    ..NOTHING
+};
+
 #[test]
 fn classes_are_listed(rt: HostRuntime) -> Result<(), Fail> {
-    let alloc = rt.alloc();
-    let mut newest = INTERFACE;
-    newest[7] = 61;
-    let mut files = MemoryFiles::new(alloc, &[])?;
-    files.with("a/A.class", &INTERFACE)?;
-    files.with("A.class", &newest)?;
-    let mut out = MemorySink::new(alloc, &[])?;
-    let mut err = MemorySink::new(alloc, &[])?;
-    let words = words(alloc, &["classinfo", "a/A.class", "A.class"])?;
-    let status = run_tool(alloc, &words, &mut files, &mut out, &mut err);
-    assert_eq!(rt; status, Status::Done);
-    let text = "class A id 27270f85a4077bc4 version 52\nclass A id 27270f85a4077bc4 version 61\n";
-    assert!(rt;
-        out.bytes()
-            .starts_with(b"class A id 27270f85a4077bc4 version 52\nclass A id ")
-    );
-    assert!(rt; out.bytes().ends_with(b" version 61\n"));
-    assert_eq!(rt; out.bytes().len(), text.len());
-    assert_eq!(rt; err.bytes(), [].as_slice());
+    let older = with_version(52);
+    let newer = with_version(61);
+    let files = [
+        File {
+            path: "a/A.class",
+            bytes: &older,
+        },
+        File {
+            path: "A.class",
+            bytes: &newer,
+        },
+    ];
+    let words = ["classinfo", "a/A.class", "A.class"];
+    check_files(&rt, rt.alloc(), &words, &files, TWO_LINES)?;
     Ok(())
 }
 
 #[test]
 fn other_classes_are_refused(rt: HostRuntime) -> Result<(), Fail> {
-    let alloc = rt.alloc();
-    let version = |major| Refusal {
-        kind: RefusalKind::Version,
-        method: None,
-        place: major,
-    };
-    let mut early = INTERFACE;
-    early[7] = 49;
-    let mut late = INTERFACE;
-    late[7] = 62;
-    for (bytes, refusal, text) in [
-        (
-            &[0xca, 0xfe, 0xba][..],
-            not_a_class(0),
-            "A.class: NotAClass at 0\n",
-        ),
-        (
-            b"PK\x03\x04".as_slice(),
-            not_a_class(0),
-            "A.class: NotAClass at 0\n",
-        ),
-        (late.as_slice(), version(62), "A.class: Version at 62\n"),
-        (early.as_slice(), version(49), "A.class: Version at 49\n"),
+    for (version, err) in [
+        (49, "A.class: Version at 49\n"),
+        (62, "A.class: Version at 62\n"),
     ] {
-        let ran = run(alloc, &["classinfo", "A.class"], "A.class", bytes, &[], &[])?;
-        let fault = Fault::Class { path: 0, refusal };
-        assert_eq!(rt; ran.status, Status::Refused(fault));
-        assert_eq!(rt; ran.err.bytes(), text.as_bytes());
-        assert_eq!(rt; ran.out.bytes(), [].as_slice());
+        check_class(&rt, rt.alloc(), &with_version(version), err)?;
     }
-    Ok(())
-}
-
-#[test]
-fn the_first_class_that_is_refused(rt: HostRuntime) -> Result<(), Fail> {
-    let alloc = rt.alloc();
-    let mut files = MemoryFiles::new(alloc, &[])?;
-    files.with("A.class", &INTERFACE)?;
-    files.with("B.class", b"PK")?;
-    files.with("C.class", b"")?;
-    let mut out = MemorySink::new(alloc, &[])?;
-    let mut err = MemorySink::new(alloc, &[])?;
-    let words = words(alloc, &["classinfo", "A.class", "B.class", "C.class"])?;
-    let status = run_tool(alloc, &words, &mut files, &mut out, &mut err);
-    let fault = Fault::Class {
-        path: 1,
-        refusal: not_a_class(0),
-    };
-    assert_eq!(rt; status, Status::Refused(fault));
-    assert_eq!(rt; err.bytes(), b"B.class: NotAClass at 0\n".as_slice());
-    assert_eq!(rt; out.bytes(), [].as_slice());
+    for bytes in [&[0xca, 0xfe, 0xba][..], b"PK\x03\x04"] {
+        let err = "A.class: NotAClass at 0\n";
+        check_class(&rt, rt.alloc(), bytes, err)?;
+    }
     Ok(())
 }

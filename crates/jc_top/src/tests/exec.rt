@@ -44,14 +44,14 @@ fn files(alloc: Global) -> Result<MemoryFiles, Memory> {
     let mut both = Vec::from_slice(alloc, &A)?;
     both.extend_from_slice(&B)?;
     let mut files = MemoryFiles::new(alloc, &[])?;
-    files.with("a.exec", &A)?;
-    files.with("b.exec", &B)?;
-    files.with("c.exec", &C)?;
-    files.with("both.exec", &both)?;
-    files.with("cut.exec", &A[..7])?;
-    files.with("none.exec", &[])?;
-    files.with("old.exec", &[0x01, 0xc0, 0xc0, 0x10, 0x06])?;
-    files.with("s.exec", &SESSIONS)?;
+    files.with(alloc, "a.exec", &A)?;
+    files.with(alloc, "b.exec", &B)?;
+    files.with(alloc, "c.exec", &C)?;
+    files.with(alloc, "both.exec", &both)?;
+    files.with(alloc, "cut.exec", &A[..7])?;
+    files.with(alloc, "none.exec", &[])?;
+    files.with(alloc, "old.exec", &[0x01, 0xc0, 0xc0, 0x10, 0x06])?;
+    files.with(alloc, "s.exec", &SESSIONS)?;
     Ok(files)
 }
 
