@@ -16,8 +16,8 @@ mod tale;
 mod wanted;
 
 /// The items of each class that is written here, from its pool to its first method, which is abstract.
-static HEAD: [u8; 207] = [
-    0x00, 0x1d, // the count: places 1 to 28
+static HEAD: [u8; 228] = [
+    0x00, 0x22, // the count: places 1 to 33
     0x01, 0x00, 0x01, 0x41, // 1: Utf8 A
     0x07, 0x00, 0x01, // 2: Class A
     0x01, 0x00, 0x01, 0x6d, // 3: Utf8 m
@@ -48,6 +48,10 @@ static HEAD: [u8; 207] = [
     0x01, 0x00, 0x01, 0x4a, // 26: Utf8 J
     0x0c, 0x00, 0x03, 0x00, 0x1a, // 27: NameAndType m J
     0x11, 0x00, 0x00, 0x00, 0x1b, // 28: Dynamic m J
+    0x04, 0x3f, 0x80, 0x00, 0x00, // 29: Float 1
+    0x06, 0x3f, 0xf0, 0x00, 0x00, 0x00, 0x00, 0x00, 0x00, // 30: Double 1, and its second place
+    0x10, 0x00, 0x04, // 32: MethodType ()V
+    0x0f, 0x06, 0x00, 0x0d, // 33: MethodHandle of A m ()V
     0x04, 0x21, 0x00, 0x02, 0x00, 0x00, 0x00, 0x00, 0x00, 0x00, // class A, and no fields
     0x00, 0x02, // two methods
     0x04, 0x01, 0x00, 0x03, 0x00, 0x04, 0x00, 0x00, // m ()V
@@ -397,15 +401,14 @@ fn words_of(alloc: Global, entry: &Use) -> Result<String, Failed> {
     })
 }
 
-/// The long, the field twice, a method of an interface, a call, the int, the text, a dynamic constant and
-/// the class of a row.
+/// Each kind of entry, the field twice, and the class of a row.
 #[test]
 fn places_that_are_used(rt: HostRuntime) -> Result<(), Failed> {
     let alloc = rt.alloc();
     let case = Case {
         rows: b"\0\x01\0\0\0\x03\0\0\0\x02",
         ..plain(
-            b"\x14\0\x10\xb2\0\x0c\xb2\0\x0c\xb9\0\x0e\x01\0\xba\0\x16\0\0\x12\x19\x12\x0f\x12\x15\xb8\0\x0d\xb1",
+            b"\x14\0\x10\xb2\0\x0c\xb2\0\x0c\xb9\0\x0e\x01\0\xba\0\x16\0\0\x12\x19\x12\x0f\x12\x15\xb8\0\x0d\x12\x1d\x14\0\x1e\x12\x20\x12\x21\xb1",
         )
     };
     let body = body_of(alloc, &case)?;
@@ -419,6 +422,10 @@ fn places_that_are_used(rt: HostRuntime) -> Result<(), Failed> {
         "21 computed I",
         "22 call m ()V",
         "25 int -2",
+        "29 float",
+        "30 double",
+        "32 method type",
+        "33 handle",
     ];
     assert_eq!(rt; body.uses.len(), want.len());
     for (entry, words) in body.uses.iter().zip(want.iter()) {

@@ -16,7 +16,7 @@ static CODES: [(&[u8], Answer); 37] = [
     (b"\x14\0\x19\xb1", BadCode(0)), // `ldc2_w` of an Integer
     (b"\x14\0\x11\xb1", BadCode(0)), // of the second place of a Long
     (b"\x14\0\x10\xb1", HasBody), // of a Long
-    (b"\x12\x1d\xb1", BadCode(0)), // `ldc` of a place outside the pool
+    (b"\x12\x22\xb1", BadCode(0)), // `ldc` of a place outside the pool
     (b"\x12\x15\xb1", HasBody), // `ldc` of a Dynamic of the type `I`
     (b"\x14\0\x15\xb1", BadCode(0)), // `ldc2_w` of one
     (b"\x12\x1c\xb1", BadCode(0)), // `ldc` of a Dynamic of the type `J`
