@@ -1,21 +1,16 @@
 -- What is printed of execution data, file after file.
-use Rattle.std.proofs.Common.{◌≡◌, ◌⊎◌, ℕ, ◌+◌, ◌<◌, ◌≤◌, List, [], ◌∷◌, ◌++◌, length, take, get_or, map, Result, Ok, Err, Vec, Bor, String, string_bytes, refl, sym, ◌∙◌, ap, subst, arith, append_assoc}
+use Rattle.std.proofs.Common.{◌≡◌, ℕ, ◌+◌, ◌<◌, ◌≤◌, List, [], ◌∷◌, ◌++◌, length, take, get_or, map, Ok, Err, Vec, Bor, String, string_bytes, refl, sym, ◌∙◌, ap, subst, arith, append_assoc}
 use Rattle.std.proofs.lemmas.List.{append-nil, take_more, take_all, map-append}
 use Rattle.std.specs.List.{AllByRecursion}
 use Rattle.std.specs.declared.alloc.Global.{Global}
 use Rattle.jc_base.specs.declared.fail.Fail.{Fail}
 use Rattle.jc_base.specs.declared.fail.Fail.TheVariants as fails
-use Rattle.jc_exec.specs.declared.hits.ClassHits.{ClassHits}
 use Rattle.jc_exec.specs.declared.refusal.ExecRefusal.{ExecRefusal}
-use Rattle.jc_exec.specs.declared.session.Session.{Session}
 use Rattle.jc_exec.specs.Answers.{Refuses}
 use Rattle.jc_exec.specs.Store.{Store}
 use Rattle.jc_exec.specs.Union.{ReadsOn}
 use Rattle.jc_top.specs.declared.output.Write.{Write as Written}
-use Rattle.jc_top.specs.declared.output.Write.TheVariants as written
 use Rattle.jc_top.specs.declared.status.Status.TheVariants as status
-use Rattle.jc_top.specs.declared.stop.Stop.{Stop}
-use Rattle.jc_top.specs.declared.stop.Stop.TheVariants as stops
 use Rattle.jc_top.specs.Command.{exec_info}
 use Rattle.jc_top.specs.ExecData.{IsUnionOf, IsInput, no_data}
 use Rattle.jc_top.specs.ExecInfo.{file_lines, AreInfo}

@@ -1,5 +1,5 @@
 -- What is made of class files is one list of lines, or one refusal.
-use Rattle.std.proofs.Common.{◌≡◌, ◌⊎◌, inl, inr, ⊎_elim, ℕ, zero, suc, ◌+◌, ◌<◌, ◌≤◌, Bool, true, false, List, [], ◌∷◌, ◌++◌, length, take, get_or, map, Option, Result, Ok, Err, Vec, Bor, true≢false, refl, sym, ◌∙◌, ap, ap₂, subst, arith, String, string_bytes}
+use Rattle.std.proofs.Common.{◌≡◌, ◌⊎◌, inl, inr, ⊎_elim, ℕ, zero, suc, ◌+◌, ◌<◌, ◌≤◌, Bool, true, false, List, [], ◌∷◌, ◌++◌, length, take, get_or, map, Ok, Err, Vec, Bor, true≢false, refl, sym, ◌∙◌, ap, ap₂, subst, arith, String, string_bytes}
 use Rattle.std.specs.declared.alloc.Global.{Global}
 use Rattle.jc_base.specs.declared.fail.Fail.{Fail}
 use Rattle.jc_base.specs.declared.fail.Fail.TheVariants as fails
@@ -14,8 +14,6 @@ use Rattle.jc_top.specs.declared.output.Write.{Write as Written}
 use Rattle.jc_top.specs.declared.output.Write.TheVariants as written
 use Rattle.jc_top.specs.declared.status.Status.TheVariants as status
 use Rattle.jc_top.specs.declared.status.Fault.TheVariants as fault
-use Rattle.jc_top.specs.declared.stop.Stop.{Stop}
-use Rattle.jc_top.specs.declared.stop.Stop.TheVariants as stops
 use Rattle.jc_top.specs.Command.{class_info}
 use Rattle.jc_top.specs.Looks.{write_seen}
 use Rattle.jc_top.specs.World.{Write, to_out}

@@ -8,7 +8,7 @@ use Rattle.std.proofs.lemmas.Slice.Eq.{bytes_eq-Decides}
 use Rattle.std.proofs.lemmas.List.{map-append}
 use Rattle.std.proofs.lemmas.List.Folds.{list_all-append}
 use Rattle.std.specs.declared.alloc.Global.{Global}
-use Rattle.jc_top.specs.Words.{Word, words_of, with_first, components, is_component, is_relative, are_distinct}
+use Rattle.jc_top.specs.Words.{Word, words_of, with_first, components, is_component, are_distinct}
 use Rattle.jc_top.proofs.WriteLaws.{map_take_more, map_parts}
 
 -- ---- parts of a path

@@ -279,20 +279,15 @@ fn plain_files_are_merged(rt: HostRuntime) -> Result<(), Fail> {
     Ok(())
 }
 
+const TOO_LARGE: Left<'static> = Left {
+    err: "cannot read a.exec\n",
+    ..UNREAD
+};
+
 #[test]
 fn a_large_file(rt: HostRuntime) -> Result<(), Fail> {
     let zeros = vec![in rt.alloc(); 0u8; 67_108_865]?;
-    let file = File {
-        path: "a.exec",
-        bytes: &zeros,
-    };
-    let row = Row {
-        files: &[file],
-        ..MERGED
-    };
-    let ran = run(rt.alloc(), &row)?;
-    assert_eq!(rt; number(&ran.status), 3);
-    assert_eq!(rt; ran.err.bytes(), b"cannot read a.exec\n".as_slice());
+    check_merge(&rt, rt.alloc(), &zeros, TOO_LARGE)?;
     Ok(())
 }
 
