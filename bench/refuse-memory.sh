@@ -103,6 +103,11 @@ open("a.exec", "wb").write(header + record)
 many = b"".join(b"\x11" + k.to_bytes(8, "big") + bytes.fromhex("0001418201") + b"\xff" * 16 + b"\x03" for k in range(300))
 open("many.exec", "wb").write(header + many)
 open("bad.exec", "wb").write(header + b"\x10")
+other = bytes.fromhex("11000000000000000100014203") + b"\x05"
+open("other.exec", "wb").write(header + other)
+session = lambda name, start, dump: b"\x10\x00\x01" + name + start.to_bytes(8, "big") + dump.to_bytes(8, "big")
+dumps = header + session(b"a", 1, 200) + record + header + session(b"b", 2, 100) + record
+open("dumps.exec", "wb").write(dumps)
 
 # An interface of version 52 or 62 without members, over java/lang/Object.
 def made(name, major):
@@ -121,8 +126,12 @@ try_words "merge --destfile o a.exec"
 try_words "merge --destfile d/e/o a.exec"
 try_words "merge --destfile o many.exec"
 try_words "merge --destfile o bad.exec"
+try_words "merge --destfile o dumps.exec a.exec"
+try_words "merge --destfile o a.exec other.exec"
 try_words "merge --destfile o none"
 try_words "merge"
+try_words "execinfo dumps.exec many.exec"
+try_words "execinfo a.exec bad.exec"
 try_words "classinfo A.class B.class"
 try_words "classinfo A.class C.class"
 try_words "classinfo A.class a.exec"
