@@ -145,7 +145,7 @@ fn after_parameters(bytes: &[u8]) -> (usize, &[u8])
 }
 
 /// The local variables of the parameters, where the bytes are a method descriptor.
-fn slots_of_parameters(bytes: &[u8]) -> Option<usize>
+pub(crate) fn slots_of_parameters(bytes: &[u8]) -> Option<usize>
     ensures cases { MatchOption result (IsMethodDescriptor bytes.now → ⊥)
         (λ slots. (type : MethodType) × DescribesMethod bytes.now type × (slots ≡ parameter_slots type)) }
     ensures bound { IfSome result (λ slots. slots ≤ 2 * length bytes.now) }

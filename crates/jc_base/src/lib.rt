@@ -8,6 +8,7 @@ mod counted_items;
 mod descriptor;
 mod descriptor_types;
 mod emitted;
+mod entry;
 mod fail;
 mod files;
 mod form;
@@ -50,6 +51,7 @@ pub use descriptor_types::{
     more_names_change_nothing,
 };
 pub use emitted::Emitted;
+pub use entry::entry_state;
 pub use fail::{Fail, Memory, Unfit};
 pub use files::{FileFault, Files, MOST_READ};
 pub use form::{Form, form_of};

@@ -1,8 +1,9 @@
 //! The types that descriptors say, as values.
-ghost use Rattle.std.specs.Prelude.{◌≡◌, Option, IfOk, OnOk, OnErr, length};
+ghost use Rattle.std.specs.Prelude.{◌≡◌, Option, IfOk, OnOk, OnErr, [], ◌∷◌, length};
 ghost use Rattle.jc_base.specs.Descriptor.{FieldType, MethodType, IsFieldDescriptor, DescribesField, IsMethodDescriptor, DescribesMethod, IsReturnDescriptor, IsReturnType, return_text};
 ghost use Rattle.jc_base.specs.DescriptorTypes.{base_type};
-ghost use Rattle.jc_base.specs.Held.{held, width, Grows, IsNumbered};
+ghost use Rattle.jc_base.specs.Held.{held, width, class_names, Grows, IsNumbered};
+ghost use Rattle.jc_base.specs.Names.{met};
 ghost use Rattle.jc_base.specs.ValueTypes.{type_of, held_by, Says, AllSay, SaysReturn, BeginsWithValues};
 
 use crate::descriptor::{behind, is_void};
@@ -65,6 +66,7 @@ impl<'a> ValueType<'a> {
         ensures kind { IfOk result (λ kind. held names.new kind ≡ held_by self.entry) }
         ensures numbered { IfOk result (λ kind. IsNumbered (length names.new) kind) }
         ensures names { OnOk result (Grows names.old names.new) }
+        ensures met { OnOk result (names.new ≡ met names.old (class_names (held_by self.entry ∷ []))) }
         ensures kept { OnErr result (names.new ≡ names.old) }
     {
         Ok(match self {
