@@ -4,7 +4,7 @@ use Rattle.std.proofs.lemmas.List.{append-nil, drop_all}
 use Rattle.std.proofs.Math.Seq.{drop-cons}
 use Rattle.byteorder.specs.Endian.{big_bytes, big_number}
 use Rattle.byteorder.specs.Numbers.{big_number-reads_back, length-bytes_high_first}
-use Rattle.jc_base.specs.Appending.{Appends, Appended}
+use Rattle.jc_base.specs.Appending.{Appended}
 use Rattle.jc_base.specs.Decoder.{IsBig}
 use Rattle.jc_base.specs.Grammar.{Grammar, nothing, followed_by, times}
 

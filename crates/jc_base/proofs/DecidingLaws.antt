@@ -1,6 +1,6 @@
 -- The tests decide what they are named for.
-use Rattle.std.proofs.Common.{◌≡◌, ◌⊎◌, inl, inr, ⊎_elim, ℕ, zero, suc, ◌+◌, ◌/◌, ◌%◌, ◌<◌, ◌≤◌, Bool, true, false, cond, ◌&&◌, ◌||◌, List, [], ◌∷◌, ◌++◌, length, Option, Some, None, nat_eq, nat_lt, refl, sym, ◌∙◌, ap, subst, arith, append_assoc, length-append}
-use Rattle.std.proofs.lemmas.Bool.{eqb-true, eqb-false, eq-eqb}
+use Rattle.std.proofs.Common.{◌≡◌, ⊎_elim, ℕ, zero, suc, ◌+◌, ◌/◌, ◌%◌, ◌<◌, ◌≤◌, Bool, true, false, cond, ◌&&◌, ◌||◌, List, [], ◌∷◌, ◌++◌, length, Option, Some, None, nat_eq, nat_lt, refl, sym, ◌∙◌, ap, subst, arith, append_assoc, length-append}
+use Rattle.std.proofs.lemmas.Bool.{true≢false, true_from_ne_false, and_parts, and_from, or_cases, or_left, or_right, eqb-true, eqb-false, eq-eqb}
 use Rattle.std.proofs.lemmas.Bool.Decides.{nat_tests}
 use Rattle.std.specs.List.{flat_map, sum_by}
 use Rattle.jc_base.specs.Modified.{IsModified, unit_at, unit_bytes}
@@ -24,31 +24,6 @@ one_test false false Fact p q = refl
 no_bytes_decided : (bytes : List ℕ) → Decides (no_bytes bytes) (bytes ≡ [])
 no_bytes_decided [] = record { to = λ h. refl; back = λ h. refl }
 no_bytes_decided (b ∷ bytes) = record { to = λ h. absurd cc; back = λ h. absurd cc }
-
-and_parts : (a b : Bool) → (a && b) ≡ true → (a ≡ true) × (b ≡ true)
-and_parts true b h = (refl, h)
-and_parts false b h = absurd cc
-
-and_both : (a b : Bool) → a ≡ true → b ≡ true → (a && b) ≡ true
-and_both a b p q = rw (p, q) refl
-
-or_cases : (a b : Bool) → (a || b) ≡ true → (a ≡ true) ⊎ (b ≡ true)
-or_cases true b h = inl refl
-or_cases false b h = inr h
-
-or_left : (a b : Bool) → a ≡ true → (a || b) ≡ true
-or_left a b p = rw p refl
-
-or_right : (a b : Bool) → b ≡ true → (a || b) ≡ true
-or_right true b p = refl
-or_right false b p = p
-
-or_not : (a : Bool) → (a ≡ false → ⊥) → a ≡ true
-or_not true h = refl
-or_not false h = absurd (h refl)
-
-true_false : true ≡ false → ⊥
-true_false e = cc
 
 cons_nil : {x : ℕ} {xs : List ℕ} → [] ≡ x ∷ xs → ⊥
 cons_nil e = cc
@@ -112,7 +87,7 @@ void_decided (b ∷ rest) =
     let d = no_bytes_decided rest in
     record {
       to = λ h. let t = and_parts (nat_eq b 86) (no_bytes rest) h in λ i. eqb-true b 86 t.0 i ∷ d.to t.1 i;
-      back = λ e. and_both (nat_eq b 86) (no_bytes rest) (eq-eqb b 86 (head_is b 86 rest [] e)) (d.back (tail_is b 86 rest [] e));
+      back = λ e. and_from (nat_eq b 86) (no_bytes rest) (eq-eqb b 86 (head_is b 86 rest [] e)) (d.back (tail_is b 86 rest [] e));
     }
 
 return_decided : (bytes : List ℕ) → Decides (is_void_text bytes || is_field_text bytes) (IsReturnDescriptor bytes)
@@ -161,7 +136,7 @@ closes_decided bytes inside (b ∷ last) slots opens p = by (nat_eq b 41) refl
         let r = return_decided last in
         record {
           to = λ h. let m = whole_method bytes inside last slots opens (subst (BeginsWithParameters inside slots) closed p) (r.to h) in (m.0, m.1);
-          back = λ d. or_not (is_void_text last || is_field_text last) (λ none. not_returning bytes inside (b ∷ last) last slots opens p closed (λ ret. true_false (sym (r.back ret) ∙ none)) d);
+          back = λ d. true_from_ne_false (is_void_text last || is_field_text last) (λ none. not_returning bytes inside (b ∷ last) last slots opens p closed (λ ret. true≢false (sym (r.back ret) ∙ none)) d);
         }
 
 pub method_text_decided : (bytes : List ℕ) → Decides (is_method_text bytes) (IsMethodDescriptor bytes)

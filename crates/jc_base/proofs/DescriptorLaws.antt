@@ -1,9 +1,9 @@
 -- Reading a descriptor from its front agrees with the grammar of descriptors.
-use Rattle.std.proofs.Common.{◌≡◌, ◌≢◌, ◌⊎◌, inl, inr, ℕ, ◌-◌, ◌+◌, ◌*◌, ◌<◌, ◌≤◌, Bool, true, false, cond, if◌then◌else◌, ◌==◌, ◌||◌, List, [], ◌∷◌, ◌++◌, length, Option, Some, None, nat_lt, nat_eq, refl, sym, ◌∙◌, ap, subst, arith, append_assoc, length-append, take}
+use Rattle.std.proofs.Common.{◌≡◌, ◌≢◌, inl, inr, ℕ, ◌-◌, ◌+◌, ◌*◌, ◌<◌, ◌≤◌, Bool, true, false, cond, if◌then◌else◌, ◌==◌, ◌||◌, List, [], ◌∷◌, ◌++◌, length, Option, Some, None, nat_lt, nat_eq, refl, sym, ◌∙◌, ap, subst, arith, append_assoc, length-append, take}
 use Rattle.std.proofs.lemmas.List.{append_cancel_right, append-nil, take_at, flat_map_more}
 use Rattle.std.proofs.lemmas.List.Sums.{sum_by_push}
 use Rattle.std.proofs.lemmas.Bool.Decides.{nat_tests}
-use Rattle.std.proofs.lemmas.Bool.{eqb-true, eq-eqb, ltb-false, le-ltb}
+use Rattle.std.proofs.lemmas.Bool.{cases_Bool, or_cases, eqb-true, eq-eqb, ltb-false, le-ltb}
 use Rattle.std.specs.List.{AllByRecursion, flat_map, sum_by}
 use Rattle.jc_base.proofs.DecoderLaws.{chosen, some_is, some_none, test_some}
 use Rattle.jc_base.specs.Descriptor.{IsNameByte, IsUnqualifiedName, IsClassName, FieldType, Byte, Char, Double, Float, Int, Long, Short, Boolean, Object, Array, field_text, dimensions, IsNamed, IsFieldType, BeginsWithType, BeginsWithParameters, IsFieldDescriptor, IsReturnDescriptor, IsReturnType, return_text, DescribesField, slots_of, MethodType, DescribesMethod, IsMethodDescriptor, parameter_slots}
@@ -121,14 +121,6 @@ record Element (bytes rest : List ℕ) : Type 0 where
   flat : dimensions type ≡ 0
   parts : bytes ≡ field_text type ++ rest
 
-either : (b : Bool) → (b ≡ true) ⊎ (b ≡ false)
-either true = inl refl
-either false = inr refl
-
-or_cases : (a b : Bool) → (a || b) ≡ true → (a ≡ true) ⊎ (b ≡ true)
-or_cases true b e = inl refl
-or_cases false b e = inr e
-
 letter : (b : ℕ) (type : FieldType) (n : ℕ) (rest : List ℕ) → field_text type ≡ n ∷ [] → IsNamed type → dimensions type ≡ 0 → nat_eq b n ≡ true → Element (b ∷ rest) rest
 letter b type n rest text named flat e = record { type = type; named = named; flat = flat; parts = ap (λ (k : ℕ). k ∷ rest) (eqb-true b n e) ∙ ap (λ (l : List ℕ). l ++ rest) (sym text) }
 
@@ -196,7 +188,7 @@ array_type b more rest is t = record { type = Array t.type; named = t.named; dee
 typed : (bytes rest : List ℕ) → after_element (after_brackets bytes) ≡ Some rest → Typed bytes rest
 unfolding after_brackets
 typed [] rest e = absurd (some_none (sym e))
-typed (b ∷ more) rest e = elim (either (nat_eq b 91)) [
+typed (b ∷ more) rest e = elim (cases_Bool (nat_eq b 91)) [
   | inl h ↦ array_type b more rest h (typed more rest (sym (ap (λ (t : Bool). after_element (cond t (after_brackets more) (b ∷ more))) h) ∙ e))
   | inr h ↦ flat_type b more rest h (element_takes (b ∷ more) rest (sym (ap (λ (t : Bool). after_element (cond t (after_brackets more) (b ∷ more))) h) ∙ e))
 ]

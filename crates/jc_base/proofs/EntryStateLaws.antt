@@ -9,7 +9,7 @@ use Rattle.std.specs.List.{AllByRecursion}
 use Rattle.jc_base.specs.Descriptor.{MethodType, DescribesMethod, IsMethodDescriptor, parameter_slots}
 use Rattle.jc_base.specs.EntryState.{spread_one, spread, in_locals, in_slots, held_of, is_static, this_of, arguments, IsMade, IsKindOf, Holds}
 use Rattle.jc_base.specs.DescriptorTypes.{method_type_in}
-use Rattle.jc_base.specs.Held.{Held, top, int, float, double, long, object, Names, held, class_name, class_names, IsNumbered}
+use Rattle.jc_base.specs.Held.{Held, top, Names, held, class_name, class_names, IsNumbered}
 use Rattle.jc_base.specs.Names.{met}
 use Rattle.jc_base.specs.ValueTypes.{held_by, AllSay}
 use Rattle.jc_base.specs.WellMade.{kind_slots, BeginsWithTop, ArePaired, IsKind, IsState, IsStatic, TakeSlots}

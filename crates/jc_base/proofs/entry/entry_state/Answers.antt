@@ -1,4 +1,4 @@
-use Rattle.std.proofs.Common.{[], map, refl, sym, ap, subst, arith}
+use Rattle.std.proofs.Common.{map, refl, sym, ap, subst, arith}
 use Rattle.std.specs.List.{AllByRecursion}
 use Rattle.jc_base.specs.Held.{held, IsNumbered}
 use Rattle.jc_base.proofs.EntryStateLaws.{begun, begins_state}
