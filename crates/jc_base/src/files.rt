@@ -14,7 +14,7 @@ pub enum FileFault {
     Failed,
     /// There is no file at the path.
     Missing,
-    /// The file has more than 67,108,864 bytes.
+    /// The file has more bytes than `MOST_READ`.
     TooLarge,
     /// Memory was refused.
     Memory,

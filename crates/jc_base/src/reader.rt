@@ -2,6 +2,7 @@
 ghost use Rattle.std.specs.Prelude.{◌≡◌, ◌+◌, ◌<◌, ◌≤◌, ◌^◌, length, take, drop, slice_index, IfOk, OnOk, OnErr, IsErr, ◌↔◌};
 ghost use Rattle.byteorder.specs.Endian.{big_number};
 ghost use Rattle.jc_base.specs.Reader.{Reads};
+ghost use Rattle.jc_base.specs.Outside.{most_read};
 
 use byteorder::{BigEndian, ByteOrder};
 use std::marker::Model;
@@ -22,19 +23,20 @@ pub struct Reader<'a> {
 
 impl<'a> Model for Reader<'a> {
     ghost use Rattle.std.specs.Prelude.{◌≤◌, length, drop};
+    ghost use Rattle.jc_base.specs.Outside.{most_read};
     ghost use Rattle.jc_base.specs.Reader.{Reading};
 
     ghost Value = { Reading };
 
     ghost view = { λ r. record { left = drop r.place r.bytes.now; place = r.place } };
 
-    ghost invariant = { λ r. (r.place ≤ length r.bytes.now) × (length r.bytes.now ≤ 67108864) };
+    ghost invariant = { λ r. (r.place ≤ length r.bytes.now) × (length r.bytes.now ≤ most_read) };
 }
 
 impl<'a> Reader<'a> {
     /// A reader that stands at the first byte.
     pub fn new(bytes: &'a [u8]) -> Reader<'a>
-        requires { length bytes.now ≤ 67108864 }
+        requires { length bytes.now ≤ most_read }
         ensures left { result.left ≡ bytes.now }
         ensures place { result.place ≡ 0 }
     {
