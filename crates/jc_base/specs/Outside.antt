@@ -33,10 +33,6 @@ abbrev pub WhereTold : Option FileMap → (FileMap → Type 0) → Type 0
 WhereTold None P = ⊤
 WhereTold (Some m) P = P m
 
--- n items were appended
-abbrev pub Appended : List ℕ → List ℕ → ℕ → Type 0
-Appended old new n = (bytes : List ℕ) × (new ≡ old ++ bytes) × (length bytes ≡ n)
-
 -- ---- reading
 
 -- what a read appends to what was there

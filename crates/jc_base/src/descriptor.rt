@@ -89,7 +89,8 @@ fn slots_by(bytes: &[u8]) -> usize
 ///
 /// There is one where the bytes begin with a field descriptor (JVM Specification 4.3.2).
 pub fn split_type(bytes: &[u8]) -> Option<(&[u8], &[u8])>
-    ensures found { IfSome result (λ parts. (type : FieldType) × BeginsWithType bytes.now type parts.1.now × (parts.0.now ≡ field_text type)) }
+    ensures found { IfSome result (λ parts. (type : FieldType)
+        × BeginsWithType bytes.now type parts.1.now × (parts.0.now ≡ field_text type)) }
     ensures none { IfNone result ((type : FieldType) (rest : List ℕ) → BeginsWithType bytes.now type rest → ⊥) }
 {
     let rest = after_type(bytes)?;

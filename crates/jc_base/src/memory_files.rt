@@ -84,7 +84,12 @@ impl Model for MemoryFiles {
 
     ghost coded = { state_code };
 
-    ghost view = { λ m. record { files = held m.files; calls = record { failing = m.calls.failing; made = m.calls.made }; read_faults = m.read_faults; write_faults = m.write_faults } };
+    ghost view = { λ m. record {
+      files = held m.files;
+      calls = record { failing = m.calls.failing; made = m.calls.made };
+      read_faults = m.read_faults;
+      write_faults = m.write_faults;
+    } };
 }
 
 impl MemoryFiles {
@@ -95,7 +100,12 @@ impl MemoryFiles {
     ///
     /// `Memory` where memory was refused.
     pub fn new(alloc: Global, failing: &[u32]) -> Result<MemoryFiles, Memory>
-        ensures { IfOk result (λ m. m ≡ record { files = empty; calls = record { failing = failing.now; made = 0 }; read_faults = 0; write_faults = 0 }) }
+        ensures { IfOk result (λ m. m ≡ record {
+          files = empty;
+          calls = record { failing = failing.now; made = 0 };
+          read_faults = 0;
+          write_faults = 0;
+        }) }
     {
         Ok(MemoryFiles {
             alloc,

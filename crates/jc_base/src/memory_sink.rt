@@ -22,7 +22,11 @@ impl Model for MemorySink {
 
     ghost Value = { SinkState };
 
-    ghost view = { λ s. record { text = s.bytes.items; calls = record { failing = s.calls.failing; made = s.calls.made }; faults = s.faults } };
+    ghost view = { λ s. record {
+      text = s.bytes.items;
+      calls = record { failing = s.calls.failing; made = s.calls.made };
+      faults = s.faults;
+    } };
 }
 
 impl MemorySink {

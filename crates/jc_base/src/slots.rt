@@ -45,7 +45,8 @@ impl Kind {
 /// An instruction whose local variable is replaced by what a map gives is the instruction that the map makes
 /// of it.
 pub fn a_replaced_slot_is_a_mapped_one()
-    ensures named { (f : ℕ → ℕ) (insn : Insn) (slot : ℕ) → slot_of insn ≡ Some slot → with_slots (λ _. f slot) insn ≡ with_slots f insn }
+    ensures named { (f : ℕ → ℕ) (insn : Insn) (slot : ℕ) → slot_of insn ≡ Some slot
+        → with_slots (λ _. f slot) insn ≡ with_slots f insn }
     ensures none { (f : ℕ → ℕ) (insn : Insn) → slot_of insn ≡ None → with_slots f insn ≡ insn }
 {}
 

@@ -142,8 +142,10 @@ fn return_type(desc: &[u8]) -> Option<ValueType<'_>>
 /// `Memory` where memory was refused.
 pub fn method_types(alloc: Global, desc: &[u8]) -> Result<MethodTypes<'_>, Memory>
     requires { IsMethodDescriptor desc.now }
-    ensures parameters { (type : MethodType) → DescribesMethod desc.now type → IfOk result (λ types. AllSay types.parameters type.parameters) }
-    ensures returns { (type : MethodType) → DescribesMethod desc.now type → IfOk result (λ types. SaysReturn types.returns type.returns) }
+    ensures parameters { (type : MethodType) → DescribesMethod desc.now type
+        → IfOk result (λ types. AllSay types.parameters type.parameters) }
+    ensures returns { (type : MethodType) → DescribesMethod desc.now type
+        → IfOk result (λ types. SaysReturn types.returns type.returns) }
 {
     let (parameters, rest) = types_in_front(alloc, &desc[1..])?;
     Ok(MethodTypes {
