@@ -156,3 +156,83 @@ pub fn entry_state(
         stack: List::new(alloc),
     })
 }
+
+#[cfg(test)]
+mod tests {
+    use super::*;
+    use crate::is_method_descriptor;
+    use std::process::Abort;
+    use std::test::Fail as Failed;
+
+    /// A method of the class `A`, and the local variables that it begins with.
+    #[derive(Clone, Copy)]
+    struct Row {
+        name: &'static [u8],
+        desc: &'static [u8],
+        flags: u16,
+        locals: &'static [Kind],
+    }
+
+    const CONSTRUCTOR: Row = Row {
+        name: b"<init>",
+        desc: b"(IJLb/C;[D)V",
+        flags: 0,
+        locals: &[
+            Kind::UninitThis,
+            Kind::Int,
+            Kind::Long,
+            Kind::Top,
+            Kind::Object(0),
+            Kind::Object(1),
+            Kind::Top,
+        ],
+    };
+
+    const OF_OBJECTS: Row = Row {
+        name: b"f",
+        desc: b"([DZ)D",
+        flags: 0x0001,
+        locals: &[Kind::Object(2), Kind::Object(1), Kind::Int],
+    };
+
+    const OF_CLASSES: Row = Row {
+        name: b"f",
+        desc: b"(DF)V",
+        flags: 0x0009,
+        locals: &[Kind::Double, Kind::Top, Kind::Float, Kind::Top, Kind::Top],
+    };
+
+    /// Asserts which local variables a method begins with.
+    fn expect(rt: &impl Abort, alloc: Global, row: &Row, names: &mut Names) -> Result<(), Failed> {
+        assert!(rt; is_method_descriptor(row.desc));
+        let most = row.locals.len() as u16;
+        let state = entry_state(alloc, b"A", row.name, row.desc, row.flags, most, names)?;
+        assert!(rt; state.locals.as_slice() == row.locals);
+        assert!(rt; state.stack.len() == 0);
+        Ok(())
+    }
+
+    #[test]
+    fn states_at_the_beginning(rt: HostRuntime) -> Result<(), Failed> {
+        let alloc = rt.alloc();
+        let mut names = Names::new(alloc)?;
+        expect(&rt, alloc, &CONSTRUCTOR, &mut names)?;
+        expect(&rt, alloc, &OF_OBJECTS, &mut names)?;
+        expect(&rt, alloc, &OF_CLASSES, &mut names)?;
+        Ok(())
+    }
+
+    #[test]
+    fn too_few_local_variables(rt: HostRuntime) -> Result<(), Failed> {
+        let mut names = Names::new(rt.alloc())?;
+        assert!(rt; is_method_descriptor(b"(I)I"));
+        let state = entry_state(rt.alloc(), b"A", b"f", b"(I)I", 0x0008, 0, &mut names);
+        let refusal = Refusal {
+            kind: RefusalKind::BadCode,
+            method: None,
+            place: 0,
+        };
+        assert!(rt; state == Err(Fail::Said(refusal)));
+        Ok(())
+    }
+}
