@@ -82,25 +82,46 @@ fn uses_of_instructions(rt: HostRuntime) {
     assert!(rt; goto.leads_within(5) && !goto.leads_within(4));
 }
 
-#[test]
-fn planned_calls_fail(rt: HostRuntime) -> Result<(), Fail> {
-    let alloc = rt.alloc();
-    let mut files = MemoryFiles::new(alloc, &[2, 3])?;
+/// Files that hold `abcd` at `a`, of which calls with these numbers fail.
+fn planned(alloc: Global, failing: &[u32]) -> Result<MemoryFiles, Memory> {
+    let mut files = MemoryFiles::new(alloc, failing)?;
     files.with(alloc, "a", b"abcd")?;
-    let mut into = Vec::new(alloc);
-    assert_eq!(rt; files.read(alloc, "a", &mut into), Ok(()));
-    assert_eq!(rt; into.as_slice(), b"abcd".as_slice());
-    assert_eq!(rt; files.read(alloc, "a", &mut into), Err(FileFault::Failed));
-    assert_eq!(rt; files.write("a", b"wxyz"), Err(FileFault::Failed));
-    assert_eq!(rt; files.get("a").ok_or("no file")?, b"wx".as_slice());
-    assert_eq!(rt; files.write("b", b"z"), Ok(()));
-    assert_eq!(rt; files.get("b").ok_or("no file")?, b"z".as_slice());
-    assert_eq!(rt; files.read(alloc, "c", &mut into), Err(FileFault::Missing));
+    Ok(files)
+}
 
-    let mut sink = MemorySink::new(alloc, &[1])?;
-    assert_eq!(rt; sink.put(b"abcd"), Err(SinkFault::Failed));
-    assert_eq!(rt; sink.put(b"e"), Ok(()));
-    assert_eq!(rt; sink.bytes(), b"abe".as_slice());
+#[test]
+fn planned_reads_fail(rt: HostRuntime) -> Result<(), Fail> {
+    let alloc = rt.alloc();
+    let mut files = planned(alloc, &[2])?;
+    let mut into = Vec::new(alloc);
+    assert!(rt; files.read(alloc, "a", &mut into).is_ok());
+    assert!(rt; into.as_slice() == b"abcd".as_slice());
+    assert!(rt; files.read(alloc, "a", &mut into) == Err(FileFault::Failed));
+    assert!(rt; files.read(alloc, "c", &mut into) == Err(FileFault::Missing));
+    Ok(())
+}
+
+// Reads and writes are counted together.
+#[test]
+fn planned_writes_fail(rt: HostRuntime) -> Result<(), Fail> {
+    let alloc = rt.alloc();
+    let mut files = planned(alloc, &[2, 3])?;
+    let mut into = Vec::new(alloc);
+    assert!(rt; files.read(alloc, "a", &mut into).is_ok());
+    assert!(rt; files.read(alloc, "a", &mut into) == Err(FileFault::Failed));
+    assert!(rt; files.write("a", b"wxyz") == Err(FileFault::Failed));
+    assert!(rt; files.write("b", b"z").is_ok());
+    assert!(rt; files.get("a") == Some(b"wx".as_slice()));
+    assert!(rt; files.get("b") == Some(b"z".as_slice()));
+    Ok(())
+}
+
+#[test]
+fn planned_puts_fail(rt: HostRuntime) -> Result<(), Fail> {
+    let mut sink = MemorySink::new(rt.alloc(), &[1])?;
+    assert!(rt; sink.put(b"abcd") == Err(SinkFault::Failed));
+    assert!(rt; sink.put(b"e").is_ok());
+    assert!(rt; sink.bytes() == b"abe".as_slice());
     Ok(())
 }
 
@@ -173,18 +194,18 @@ fn real_files(rt: HostRuntime) -> Result<(), Fail> {
     );
     assert_eq!(rt; into.as_slice(), b"de".as_slice());
     // One byte more than is read.
-    make_zeros(&rt, "jc_base_files/large", 67_108_865)?;
+    make_zeros(&rt, "jc_base_files/large", MOST_READ as u64 + 1)?;
     assert_eq!(rt;
         files.read(alloc, "jc_base_files/large", &mut into),
         Err(FileFault::TooLarge)
     );
-    make_zeros(&rt, "jc_base_files/largest", 67_108_864)?;
+    make_zeros(&rt, "jc_base_files/largest", MOST_READ as u64)?;
     into.clear();
     assert_eq!(rt;
         files.read(alloc, "jc_base_files/largest", &mut into),
         Ok(())
     );
-    assert_eq!(rt; into.len(), 67_108_864);
+    assert_eq!(rt; into.len(), MOST_READ);
     fs::remove_dir_all(&rt, "jc_base_files")?;
     Ok(())
 }
