@@ -205,7 +205,7 @@ mod tests {
     /// Asserts which local variables a method begins with.
     fn expect(rt: &impl Abort, alloc: Global, row: &Row, names: &mut Names) -> Result<(), Failed> {
         assert!(rt; is_method_descriptor(row.desc));
-        let most = row.locals.len() as u16;
+        let most = u16::try_from(row.locals.len())?;
         let state = entry_state(alloc, b"A", row.name, row.desc, row.flags, most, names)?;
         assert!(rt; state.locals.as_slice() == row.locals);
         assert!(rt; state.stack.len() == 0);

@@ -160,48 +160,56 @@ mod tests {
     use crate::{is_field_descriptor, is_method_descriptor};
     use std::test::Fail;
 
+    const DESC: &[u8] = b"(IDLjava/lang/Thread;[[Z)Ljava/lang/Object;";
+
+    const PARAMETERS: [ValueType<'static>; 4] = [
+        ValueType::Int,
+        ValueType::Double,
+        ValueType::Object(b"java/lang/Thread"),
+        ValueType::Array(b"[[Z"),
+    ];
+
     #[test]
     fn types_of_methods(rt: HostRuntime) -> Result<(), Fail> {
-        let alloc = rt.alloc();
-        let mut names = Names::new(alloc)?;
-        let desc = b"(IDLjava/lang/Thread;[[Z)Ljava/lang/Object;";
-        assert!(rt; is_method_descriptor(desc));
-        let types = method_types(alloc, desc)?;
-        let mut kinds = List::new(alloc);
-        for parameter in &types.parameters {
-            kinds.push(parameter.kind(alloc, &mut names)?)?;
-        }
-        let wanted = [Kind::Int, Kind::Double, Kind::Object(0), Kind::Object(1)];
-        assert_eq!(rt; kinds.as_slice(), wanted.as_slice());
-        assert_eq!(rt; names.len(), 2);
-        assert_eq!(rt; names.text(1), b"[[Z".as_slice());
+        assert!(rt; is_method_descriptor(DESC));
+        let types = method_types(rt.alloc(), DESC)?;
+        assert!(rt; types.parameters.as_slice() == PARAMETERS.as_slice());
         assert!(rt; types.returns == Some(ValueType::Object(b"java/lang/Object")));
-        assert!(rt; is_method_descriptor(b"(Z)V"));
-        assert!(rt; method_types(alloc, b"(Z)V")?.returns.is_none());
         Ok(())
     }
 
     #[test]
+    fn a_method_without_a_result(rt: HostRuntime) -> Result<(), Fail> {
+        assert!(rt; is_method_descriptor(b"(Z)V"));
+        assert!(rt; method_types(rt.alloc(), b"(Z)V")?.returns.is_none());
+        Ok(())
+    }
+
+    /// Descriptors of fields, with the kinds of values and the slots that those take.
+    const FIELDS: [(&str, Kind, u16); 10] = [
+        ("B", Kind::Int, 1),
+        ("C", Kind::Int, 1),
+        ("D", Kind::Double, 2),
+        ("F", Kind::Float, 1),
+        ("I", Kind::Int, 1),
+        ("J", Kind::Long, 2),
+        ("La/B;", Kind::Object(0), 1),
+        ("S", Kind::Int, 1),
+        ("Z", Kind::Int, 1),
+        ("[[Z", Kind::Object(1), 1),
+    ];
+
+    #[test]
     fn types_of_fields(rt: HostRuntime) -> Result<(), Fail> {
         let mut names = Names::new(rt.alloc())?;
-        for (desc, kind, slots) in [
-            ("B", Kind::Int, 1),
-            ("C", Kind::Int, 1),
-            ("D", Kind::Double, 2),
-            ("F", Kind::Float, 1),
-            ("I", Kind::Int, 1),
-            ("J", Kind::Long, 2),
-            ("La/B;", Kind::Object(0), 1),
-            ("S", Kind::Int, 1),
-            ("Z", Kind::Int, 1),
-            ("[J", Kind::Object(1), 1),
-        ] {
+        for (desc, kind, slots) in FIELDS {
             assert!(rt; is_field_descriptor(desc.as_bytes()), "{desc}");
             let value = field_type(desc.as_bytes());
-            assert_eq!(rt; value.kind(rt.alloc(), &mut names)?, kind, "{desc}");
-            assert_eq!(rt; value.slots(), slots, "{desc}");
+            assert!(rt; value.kind(rt.alloc(), &mut names)? == kind, "{desc}");
+            assert!(rt; value.slots() == slots, "{desc}");
         }
-        assert_eq!(rt; names.len(), 2);
+        assert!(rt; names.len() == 2);
+        assert!(rt; names.text(1) == b"[[Z".as_slice());
         Ok(())
     }
 }
