@@ -1,0 +1,13 @@
+pub mod PlacesLaws
+pub mod CountLaws
+pub mod FlowLaws
+pub mod ListedLaws
+pub mod LinesLaws
+pub mod IdsLaws
+pub mod NumberingLaws
+pub mod OutLaws
+pub mod ExactLaws
+pub mod MarkLaws
+pub mod CountingLaws
+pub mod PlanningLaws
+pub mod PlanLaws

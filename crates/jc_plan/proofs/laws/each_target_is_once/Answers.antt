@@ -1,0 +1,5 @@
+use Rattle.jc_base.proofs.FirstSeenLaws.{first_seen_distinct}
+use Rattle.jc_plan.proofs.laws.each_target_is_once.Goals as goal
+
+pub returns : goal.returns
+returns c = first_seen_distinct

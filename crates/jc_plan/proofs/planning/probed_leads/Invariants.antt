@@ -1,0 +1,13 @@
+use Rattle.std.proofs.Common.{◌≡◌, map}
+use Rattle.jc_base.specs.PlainLists.{numbers_from}
+use Rattle.jc_plan.specs.declared.branch.Way.TheVariants.{Falls}
+use Rattle.jc_plan.specs.Entries.{is_fallen_into}
+use Rattle.jc_plan.specs.Probed.{is_probed_way}
+use Rattle.jc_plan.proofs.planning.probed_leads.Given as goal
+
+-- the instructions so far are marked, and whether the next one is fallen into is known
+abbrev pub invariant-marking : goal.invariant-marking
+invariant-marking l = record {
+  marked : l.marks.items ≡ map (λ i. is_probed_way l.body (Falls i)) (numbers_from 0 l.at);
+  fallen : l.fallen_into ≡ is_fallen_into l.body.code l.at;
+}

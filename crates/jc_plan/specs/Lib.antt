@@ -1,0 +1,5 @@
+pub mod Edges
+pub mod Entries
+pub mod Probed
+pub mod Plan
+pub mod Marks
