@@ -3,3 +3,4 @@ pub mod Entries
 pub mod Probed
 pub mod Plan
 pub mod Marks
+pub mod Rows
