@@ -1,6 +1,6 @@
 -- Over a store with one record of each id, each text has a union or a block that is refused first.
 use Rattle.std.proofs.Common.{◌≡◌, ◌≢◌, ◌⊎◌, inl, inr, ℕ, zero, suc, ◌<◌, ◌≤◌, Bool, true, false, cond, List, [], ◌∷◌, ◌++◌, length, take, Contains, Option, Some, None, option_map, bytes_eq, nat_eq, refl, sym, ◌∙◌, ap, subst, arith, append_assoc, length-append}
-use Rattle.std.proofs.lemmas.Bool.{eqb-true, eqb-false}
+use Rattle.std.proofs.lemmas.Bool.{eqb-true, false≢true}
 use Rattle.std.proofs.lemmas.List.{append-nil, take_at}
 use Rattle.std.proofs.lemmas.Slice.Eq.{bytes_eq-Decides}
 use Rattle.jc_base.specs.Modified.{IsModified}
@@ -13,86 +13,12 @@ use Rattle.jc_exec.specs.Reading.{class_at, session_at, version_at}
 use Rattle.jc_exec.specs.Store.{Store}
 use Rattle.jc_exec.specs.Union.{Agrees, IsUnion, agree, either_bits, with_record, with_block}
 use Rattle.jc_exec.specs.Refusing.{Refused, bad_exec, other_version, conflict, blocks_of, MayFollow, HasOtherHeader, RefusedHere, IsTaken, IsRefused, OneOfEachId}
-use Rattle.jc_exec.proofs.DecisionLaws.{Decided, modified_or_not, header_decided}
-use Rattle.jc_exec.proofs.BlockLaws.{class_takes, class_again}
-use Rattle.jc_exec.proofs.ListLaws.{session_takes, session_again, one_front, no_block, blocks_push}
-use Rattle.jc_exec.proofs.HeaderLaws.{version_takes, version_again}
+use Rattle.jc_exec.proofs.BlockInFrontLaws.{Decided, HasBlock, other_header_decided, block_decided, shorter}
+use Rattle.jc_exec.proofs.ListLaws.{one_front, blocks_push}
 use Rattle.jc_exec.proofs.MergingLaws.{agrees_agree, union_block}
 use Rattle.jc_exec.proofs.StoringLaws.{own_union}
 
--- ---- a header of another version
-
-other_header_decided : (text : List ℕ) → ((found : ℕ) × HasOtherHeader text found) ⊎ ((found : ℕ) → HasOtherHeader text found → ⊥)
-other_header_decided text = by (version_at text) refl
-  where
-    by : (o : Option (ℕ × List ℕ)) → version_at text ≡ o → ((found : ℕ) × HasOtherHeader text found) ⊎ ((found : ℕ) → HasOtherHeader text found → ⊥)
-    by None none = inr (λ found h. some_none (sym (version_again text h.version h.more found h.parts h.value) ∙ none))
-    by (Some (v, more)) is = version (nat_eq v 0x1007) refl
-      where
-        version : (b : Bool) → nat_eq v 0x1007 ≡ b → ((found : ℕ) × HasOtherHeader text found) ⊎ ((found : ℕ) → HasOtherHeader text found → ⊥)
-        version true own = inr (λ found h. h.other (ap (λ (r : ℕ × List ℕ). r.0) (some_is (found, h.more) (v, more) (sym (version_again text h.version h.more found h.parts h.value) ∙ is)) ∙ eqb-true v 0x1007 own))
-        version false other = let t = version_takes text v more is in inl (v, record { version = t.0; more = more; parts = t.1; value = t.2; other = eqb-false v 0x1007 other })
-
--- ---- the block in front
-
--- some block stands in front
-record HasBlock (text : List ℕ) : Type 0 where
-  pub block : Block
-  pub front : List ℕ
-  pub more : List ℕ
-  pub parts : text ≡ front ++ more
-  pub is : IsBlock front block
-
--- no session, and no class, stands in front
-abbrev NoSession : List ℕ → Type 0
-NoSession text = (s : Session) (front more : List ℕ) → text ≡ front ++ more → IsSessionBlock front s → ⊥
-
-abbrev NoClass : List ℕ → Type 0
-NoClass text = (c : ClassHits) (front more : List ℕ) → text ≡ front ++ more → IsClassBlock front c → ⊥
-
-abbrev NoBlock : List ℕ → Type 0
-NoBlock text = (b : Block) (front more : List ℕ) → text ≡ front ++ more → IsBlock front b → ⊥
-
-session_decided : (text : List ℕ) → HasBlock text ⊎ NoSession text
-session_decided text = by (session_at text) refl
-  where
-    by : (o : Option (Session × List ℕ)) → session_at text ≡ o → HasBlock text ⊎ NoSession text
-    by None none = inr (λ s front more parts block. some_none (sym (session_again front more s block) ∙ ap session_at (sym parts) ∙ none))
-    by (Some (s, more)) is = elim (modified_or_not s.id) [
-      | inl valid ↦ (let t = session_takes text (s, more) is in inl (record { block = session s; front = t.text; more = more; parts = t.parts; is = t.block valid }))
-      | inr other ↦ inr (λ x front rest parts block.
-          let same : (x, rest) ≡ (s, more) = some_is (x, rest) (s, more) (sym (session_again front rest x block) ∙ ap session_at (sym parts) ∙ is) in
-          other (subst (λ (r : Session × List ℕ). IsModified r.0.id) same block.2.text))
-    ]
-
-class_decided : (text : List ℕ) → HasBlock text ⊎ NoClass text
-class_decided text = by (class_at text) refl
-  where
-    by : (o : Option (ClassHits × List ℕ)) → class_at text ≡ o → HasBlock text ⊎ NoClass text
-    by None none = inr (λ c front more parts block. some_none (sym (class_again front more c block) ∙ ap class_at (sym parts) ∙ none))
-    by (Some (c, more)) is = elim (modified_or_not c.name) [
-      | inl valid ↦ (let t = class_takes text (c, more) is in inl (record { block = class c; front = t.text; more = more; parts = t.parts; is = t.block valid }))
-      | inr other ↦ inr (λ x front rest parts block.
-          let same : (x, rest) ≡ (c, more) = some_is (x, rest) (c, more) (sym (class_again front rest x block) ∙ ap class_at (sym parts) ∙ is) in
-          other (subst (λ (r : ClassHits × List ℕ). IsModified r.0.name) same block.2.text))
-    ]
-
-none_of : (text : List ℕ) → ((more : List ℕ) → text ≢ header_text ++ more) → NoSession text → NoClass text → NoBlock text
-none_of text no_header no_session no_class header front more parts block = no_header more (parts ∙ ap (λ (l : List ℕ). l ++ more) block)
-none_of text no_header no_session no_class (session s) front more parts block = no_session s front more parts block
-none_of text no_header no_session no_class (class c) front more parts block = no_class c front more parts block
-
-block_decided : (text : List ℕ) → HasBlock text ⊎ NoBlock text
-block_decided text = elim (header_decided text) [
-  | inl h ↦ inl (record { block = header; front = header_text; more = h.0; parts = h.1; is = refl })
-  | inr no_header ↦ elim (session_decided text) [
-    | inl s ↦ inl s
-    | inr no_session ↦ elim (class_decided text) [
-      | inl c ↦ inl c
-      | inr no_class ↦ inr (none_of text no_header no_session no_class)
-    ]
-  ]
-]
+-- ---- a block that may follow
 
 follows_decided : (read : List Block) (b : Block) → Decided (MayFollow read b)
 follows_decided [] header = inl tt
@@ -101,13 +27,6 @@ follows_decided [] (class c) = inr (λ h. h)
 follows_decided (header ∷ read) b = inl tt
 follows_decided (session s ∷ read) b = inr (λ h. h)
 follows_decided (class c ∷ read) b = inr (λ h. h)
-
-shorter : (b : Block) (text front more : List ℕ) → IsBlock front b → text ≡ front ++ more → length more < length text
-shorter b text front more block parts = by front block parts
-  where
-    by : (front : List ℕ) → IsBlock front b → text ≡ front ++ more → length more < length text
-    by [] block parts = absurd (no_block b [] [] [] block refl refl)
-    by (x ∷ front) block parts = omega (arith, ap length parts, length-append (x ∷ front) more)
 
 -- ---- a record that is not merged
 
@@ -123,10 +42,7 @@ clashes (c ∷ cs) r none = by (nat_eq c.id r.id) (agree c r) (with_record cs r)
         → cond a (cond b (Some (record { id = c.id; name = c.name; bits = either_bits c.bits r.bits } ∷ cs)) None) (option_map (λ (l : List ClassHits). c ∷ l) rest) ≡ None
         → (with_record cs r ≡ None → Clashes cs r) → with_record cs r ≡ rest → Clashes (c ∷ cs) r
     by true true rest id agrees none later is = absurd (some_none none)
-    by true false rest id agrees none later is = (c, (0, omega arith, refl), eqb-true c.id r.id id, λ a. differ (sym agrees ∙ agrees_agree c r (record { name = sym a.name; count = sym a.count })))
-      where
-        differ : false ≡ true → ⊥
-        differ e = cc
+    by true false rest id agrees none later is = (c, (0, omega arith, refl), eqb-true c.id r.id id, λ a. false≢true (sym agrees ∙ agrees_agree c r (record { name = sym a.name; count = sym a.count })))
     by false b (Some es) id agrees none later is = absurd (some_none none)
     by false b None id agrees none later is = let d = later is in (d.0, (suc d.1.0, omega (arith, d.1.1), d.1.2), d.2, d.3)
 

@@ -1,7 +1,7 @@
 -- The bits of two records of one id.
 use Rattle.std.proofs.Common.{◌≡◌, ℕ, zero, suc, ◌+◌, ◌<◌, Bool, true, false, ◌&&◌, ◌||◌, List, [], ◌∷◌, length, take, get_or, nat_eq, bytes_eq, refl, sym, ◌∙◌, ap, arith}
 use Rattle.std.proofs.Math.ListN.{set}
-use Rattle.std.proofs.lemmas.Bool.{eqb-true, eq-eqb}
+use Rattle.std.proofs.lemmas.Bool.{eqb-true, eq-eqb, false≢true}
 use Rattle.std.proofs.lemmas.Slice.Eq.{bytes_eq-Decides}
 use Rattle.jc_exec.specs.declared.hits.ClassHits.{ClassHits}
 use Rattle.jc_exec.specs.Store.{IsSmall}
@@ -55,10 +55,7 @@ pub agree_count : (c r : ClassHits) → agree c r ≡ true → length c.bits ≡
 agree_count c r agrees = sym (agree_agrees c r agrees).count
 
 pub agree_apart : (c r : ClassHits) → agree c r ≡ false → Agrees c r → ⊥
-agree_apart c r apart a = differ (sym apart ∙ agrees_agree c r (record { name = sym a.name; count = sym a.count }))
-  where
-    differ : false ≡ true → ⊥
-    differ e = cc
+agree_apart c r apart a = false≢true (sym apart ∙ agrees_agree c r (record { name = sym a.name; count = sym a.count }))
 
 pub apart_agree : (c r : ClassHits) → (Agrees c r → ⊥) → agree c r ≡ false
 apart_agree c r differ = by (agree c r) refl

@@ -2,7 +2,7 @@
 use Rattle.std.proofs.Common.{◌≡◌, ℕ, zero, suc, ◌+◌, ◌*◌, ◌<◌, ◌≤◌, List, [], ◌∷◌, ◌++◌, ◌==◌, ◌↔◌, Bool, true, false, not, length, take, drop, get_or, bytes_eq, Option, Some, None, Result, Ok, Err, refl, sym, ◌∙◌, ap, subst, arith, append_assoc, inl, inr}
 use Rattle.std.specs.Prelude.{IsTrue}
 use Rattle.std.specs.Int.{w64, cast_signed}
-use Rattle.std.proofs.lemmas.Bool.{eqb-true}
+use Rattle.std.proofs.lemmas.Bool.{eqb-true, false≢true}
 use Rattle.std.proofs.lemmas.List.{take_at, take-append-drop, length-take}
 use Rattle.std.proofs.lemmas.Slice.Eq.{bytes_eq-Decides}
 use Rattle.byteorder.specs.Endian.{big_number}
@@ -31,8 +31,8 @@ use Rattle.jc_exec.proofs.HeaderLaws.{version_again}
 pub took_header : (old new : Reading) → old.left ≡ header_text ++ new.left → SameEnd old new → Took old new header
 took_header old new parts end = record { front = header_text; parts = parts; block = refl; follows = λ first. refl; end = end }
 
-behind : (place : ℕ) (b : Block) → 0 < place → MayStandAt place b
-behind place b later = λ first. absurd (omega (arith, later, first))
+behind : (offset : ℕ) (b : Block) → 0 < offset → MayStandAt offset b
+behind offset b later = λ first. absurd (omega (arith, later, first))
 
 pub took_session : (old new : Reading) (s : Session) → session_at old.left ≡ Some (s, new.left) → IsModified s.id → 0 < old.place → SameEnd old new → Took old new (session s)
 took_session old new s read text later end =
@@ -47,17 +47,17 @@ took_class old new c read text later end =
 -- ---- what is unfit
 
 -- each block in front has this kind, and none of them may stand there
-unfit : (at : Reading) (place kind : ℕ) → place ≡ at.place → get_or at.left 0 0 ≡ kind
+unfit : (at : Reading) (offset kind : ℕ) → offset ≡ at.place → get_or at.left 0 0 ≡ kind
     → ((b : Block) (front more : List ℕ) → at.left ≡ front ++ more → IsBlock front b → MayStandAt at.place b → kind_of b ≡ kind → ⊥)
-    → ((found : ℕ) → HasOtherHeader at.left found → kind ≡ 1 → ⊥) → IsUnfit at (bad_exec place)
-unfit at place kind here first none other = (
+    → ((found : ℕ) → HasOtherHeader at.left found → kind ≡ 1 → ⊥) → IsUnfit at (bad_exec offset)
+unfit at offset kind here first none other = (
   here,
   λ b front more parts block follows. none b front more parts block follows (sym (kind_first b at.left front more block parts) ∙ first),
   λ found h. other found h (sym first ∙ ap (λ (l : List ℕ). get_or l 0 0) h.parts),
 )
 
-pub no_version : (at : Reading) (place : ℕ) → place ≡ at.place → get_or at.left 0 0 ≡ 1 → version_at at.left ≡ None → IsUnfit at (bad_exec place)
-no_version at place here kind none = unfit at place 1 here kind by (λ found h is. some_none (sym (version_again at.left h.version h.more found h.parts h.value) ∙ none))
+pub no_version : (at : Reading) (offset : ℕ) → offset ≡ at.place → get_or at.left 0 0 ≡ 1 → version_at at.left ≡ None → IsUnfit at (bad_exec offset)
+no_version at offset here kind none = unfit at offset 1 here kind by (λ found h is. some_none (sym (version_again at.left h.version h.more found h.parts h.value) ∙ none))
   where
     by : (b : Block) (front more : List ℕ) → at.left ≡ front ++ more → IsBlock front b → MayStandAt at.place b → kind_of b ≡ 1 → ⊥
     by header front more parts block follows is =
@@ -65,50 +65,50 @@ no_version at place here kind none = unfit at place 1 here kind by (λ found h i
     by (session s) front more parts block follows is = omega (arith, is)
     by (class c) front more parts block follows is = omega (arith, is)
 
-pub unfit_session : (at : Reading) (place : ℕ) → place ≡ at.place → get_or at.left 0 0 ≡ 0x10 → ((s : Session) (front more : List ℕ) → at.left ≡ front ++ more → IsSessionBlock front s → ⊥) → IsUnfit at (bad_exec place)
-unfit_session at place here kind none = unfit at place 0x10 here kind by (λ found h is. omega (arith, is))
+pub unfit_session : (at : Reading) (offset : ℕ) → offset ≡ at.place → get_or at.left 0 0 ≡ 0x10 → ((s : Session) (front more : List ℕ) → at.left ≡ front ++ more → IsSessionBlock front s → ⊥) → IsUnfit at (bad_exec offset)
+unfit_session at offset here kind none = unfit at offset 0x10 here kind by (λ found h is. omega (arith, is))
   where
     by : (b : Block) (front more : List ℕ) → at.left ≡ front ++ more → IsBlock front b → MayStandAt at.place b → kind_of b ≡ 0x10 → ⊥
     by header front more parts block follows is = omega (arith, is)
     by (session s) front more parts block follows is = none s front more parts block
     by (class c) front more parts block follows is = omega (arith, is)
 
-pub no_session : (at : Reading) (place : ℕ) → place ≡ at.place → get_or at.left 0 0 ≡ 0x10 → session_at at.left ≡ None → IsUnfit at (bad_exec place)
-no_session at place here kind none = unfit_session at place here kind (λ s front more parts block. some_none (sym (session_again front more s block) ∙ sym (ap session_at parts) ∙ none))
+pub no_session : (at : Reading) (offset : ℕ) → offset ≡ at.place → get_or at.left 0 0 ≡ 0x10 → session_at at.left ≡ None → IsUnfit at (bad_exec offset)
+no_session at offset here kind none = unfit_session at offset here kind (λ s front more parts block. some_none (sym (session_again front more s block) ∙ sym (ap session_at parts) ∙ none))
 
 -- the id of the session is no modified UTF-8
-pub no_id : (at : Reading) (place : ℕ) (read : Session × List ℕ) → place ≡ at.place → get_or at.left 0 0 ≡ 0x10 → session_at at.left ≡ Some read → (IsModified read.0.id → ⊥) → IsUnfit at (bad_exec place)
-no_id at place read here kind found apart = unfit_session at place here kind (λ s front more parts block.
+pub no_id : (at : Reading) (offset : ℕ) (read : Session × List ℕ) → offset ≡ at.place → get_or at.left 0 0 ≡ 0x10 → session_at at.left ≡ Some read → (IsModified read.0.id → ⊥) → IsUnfit at (bad_exec offset)
+no_id at offset read here kind found apart = unfit_session at offset here kind (λ s front more parts block.
     let same = some_is (s, more) read (sym (session_again front more s block) ∙ sym (ap session_at parts) ∙ found) in
     apart (subst (λ (r : Session × List ℕ). IsModified r.0.id) same block.2.text))
 
-unfit_class : (at : Reading) (place : ℕ) → place ≡ at.place → get_or at.left 0 0 ≡ 0x11 → ((c : ClassHits) (front more : List ℕ) → at.left ≡ front ++ more → IsClassBlock front c → ⊥) → IsUnfit at (bad_exec place)
-unfit_class at place here kind none = unfit at place 0x11 here kind by (λ found h is. omega (arith, is))
+unfit_class : (at : Reading) (offset : ℕ) → offset ≡ at.place → get_or at.left 0 0 ≡ 0x11 → ((c : ClassHits) (front more : List ℕ) → at.left ≡ front ++ more → IsClassBlock front c → ⊥) → IsUnfit at (bad_exec offset)
+unfit_class at offset here kind none = unfit at offset 0x11 here kind by (λ found h is. omega (arith, is))
   where
     by : (b : Block) (front more : List ℕ) → at.left ≡ front ++ more → IsBlock front b → MayStandAt at.place b → kind_of b ≡ 0x11 → ⊥
     by header front more parts block follows is = omega (arith, is)
     by (session s) front more parts block follows is = omega (arith, is)
     by (class c) front more parts block follows is = none c front more parts block
 
-pub no_class : (at : Reading) (place : ℕ) → place ≡ at.place → get_or at.left 0 0 ≡ 0x11 → class_at at.left ≡ None → IsUnfit at (bad_exec place)
-no_class at place here kind none = unfit_class at place here kind (λ c front more parts block. some_none (sym (class_again front more c block) ∙ sym (ap class_at parts) ∙ none))
+pub no_class : (at : Reading) (offset : ℕ) → offset ≡ at.place → get_or at.left 0 0 ≡ 0x11 → class_at at.left ≡ None → IsUnfit at (bad_exec offset)
+no_class at offset here kind none = unfit_class at offset here kind (λ c front more parts block. some_none (sym (class_again front more c block) ∙ sym (ap class_at parts) ∙ none))
 
 -- the name of the class is no modified UTF-8
-pub no_name : (at : Reading) (place : ℕ) (read : ClassHits × List ℕ) → place ≡ at.place → get_or at.left 0 0 ≡ 0x11 → class_at at.left ≡ Some read → (IsModified read.0.name → ⊥) → IsUnfit at (bad_exec place)
-no_name at place read here kind found apart = unfit_class at place here kind (λ c front more parts block.
+pub no_name : (at : Reading) (offset : ℕ) (read : ClassHits × List ℕ) → offset ≡ at.place → get_or at.left 0 0 ≡ 0x11 → class_at at.left ≡ Some read → (IsModified read.0.name → ⊥) → IsUnfit at (bad_exec offset)
+no_name at offset read here kind found apart = unfit_class at offset here kind (λ c front more parts block.
     let same = some_is (c, more) read (sym (class_again front more c block) ∙ sym (ap class_at parts) ∙ found) in
     apart (subst (λ (r : ClassHits × List ℕ). IsModified r.0.name) same block.2.text))
 
 -- the first block of all is no header
-pub no_first : (at : Reading) (place : ℕ) → place ≡ at.place → place ≡ 0 → (get_or at.left 0 0 ≡ 1 → ⊥) → IsUnfit at (bad_exec place)
-no_first at place here start apart = unfit at place (get_or at.left 0 0) here refl by (λ found h is. apart is)
+pub no_first : (at : Reading) (offset : ℕ) → offset ≡ at.place → offset ≡ 0 → (get_or at.left 0 0 ≡ 1 → ⊥) → IsUnfit at (bad_exec offset)
+no_first at offset here start apart = unfit at offset (get_or at.left 0 0) here refl by (λ found h is. apart is)
   where
     by : (b : Block) (front more : List ℕ) → at.left ≡ front ++ more → IsBlock front b → MayStandAt at.place b → kind_of b ≡ get_or at.left 0 0 → ⊥
     by b front more parts block follows is = apart (sym is ∙ ap kind_of (follows (sym here ∙ start)))
 
 -- the byte in front is no block's
-pub no_kind : (at : Reading) (place : ℕ) → place ≡ at.place → (get_or at.left 0 0 ≡ 1 → ⊥) → (get_or at.left 0 0 ≡ 0x10 → ⊥) → (get_or at.left 0 0 ≡ 0x11 → ⊥) → IsUnfit at (bad_exec place)
-no_kind at place here a b c = unfit at place (get_or at.left 0 0) here refl by (λ found h is. a is)
+pub no_kind : (at : Reading) (offset : ℕ) → offset ≡ at.place → (get_or at.left 0 0 ≡ 1 → ⊥) → (get_or at.left 0 0 ≡ 0x10 → ⊥) → (get_or at.left 0 0 ≡ 0x11 → ⊥) → IsUnfit at (bad_exec offset)
+no_kind at offset here a b c = unfit at offset (get_or at.left 0 0) here refl by (λ found h is. a is)
   where
     by : (x : Block) (front more : List ℕ) → at.left ≡ front ++ more → IsBlock front x → MayStandAt at.place x → kind_of x ≡ get_or at.left 0 0 → ⊥
     by header front more parts block follows is = a (sym is)
@@ -117,14 +117,14 @@ no_kind at place here a b c = unfit at place (get_or at.left 0 0) here refl by (
 
 -- ---- an item that was not read
 
-pub not_read : {X Y : Type 0} (view : X → Y) (why : Fail Unfit) (left : List ℕ) (read : Option (Y × List ℕ)) (place : ℕ) (e : Fail ExecRefusal) (old new : Reading)
-    → Gives view (Err why) left read → IsUnread why place e → (read ≡ None → IsUnfit old (bad_exec place)) → ReadsFront (Err e) old new
-not_read view fails.Memory left read place e old new gives is none = subst (λ (f : Fail ExecRefusal). ReadsFront (Err f) old new) (sym is) tt
-not_read view (fails.Said why) left read place e old new gives is none = subst (λ (f : Fail ExecRefusal). ReadsFront (Err f) old new) (sym is) (none gives)
+pub not_read : {X Y : Type 0} (view : X → Y) (why : Fail Unfit) (left : List ℕ) (read : Option (Y × List ℕ)) (offset : ℕ) (e : Fail ExecRefusal) (old new : Reading)
+    → Gives view (Err why) left read → IsUnread why offset e → (read ≡ None → IsUnfit old (bad_exec offset)) → ReadsFront (Err e) old new
+not_read view fails.Memory left read offset e old new gives is none = subst (λ (f : Fail ExecRefusal). ReadsFront (Err f) old new) (sym is) tt
+not_read view (fails.Said why) left read offset e old new gives is none = subst (λ (f : Fail ExecRefusal). ReadsFront (Err f) old new) (sym is) (none gives)
 
--- what is refused at the place
-pub bad_here : (place : ℕ) (e : Fail ExecRefusal) (old new : Reading) → e ≡ fails.Said (BadExec place) → IsUnfit old (bad_exec place) → ReadsFront (Err e) old new
-bad_here place e old new is why = subst (λ (f : Fail ExecRefusal). ReadsFront (Err f) old new) (sym is) why
+-- what is refused at the offset
+pub bad_here : (offset : ℕ) (e : Fail ExecRefusal) (old new : Reading) → e ≡ fails.Said (BadExec offset) → IsUnfit old (bad_exec offset) → ReadsFront (Err e) old new
+bad_here offset e old new is why = subst (λ (f : Fail ExecRefusal). ReadsFront (Err f) old new) (sym is) why
 
 -- ---- texts that were tested
 
@@ -132,7 +132,4 @@ pub is_text : (b : Bool) (bytes name : List ℕ) → IsTrue b ↔ IsModified byt
 is_text b bytes name decides same is = subst IsModified same (decides.0 is)
 
 pub is_no_text : (b : Bool) (bytes name : List ℕ) → IsTrue b ↔ IsModified bytes → bytes ≡ name → b ≡ false → IsModified name → ⊥
-is_no_text b bytes name decides same is text = differ (sym is ∙ decides.1 (subst IsModified (sym same) text))
-  where
-    differ : false ≡ true → ⊥
-    differ e = cc
+is_no_text b bytes name decides same is text = false≢true (sym is ∙ decides.1 (subst IsModified (sym same) text))

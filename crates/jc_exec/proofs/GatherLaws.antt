@@ -1,7 +1,7 @@
 -- The blocks of a text, gathered one after the other.
 use Rattle.std.proofs.Common.{◌≡◌, ◌≢◌, ℕ, ◌+◌, ◌<◌, ◌≤◌, List, [], ◌∷◌, ◌++◌, length, map, Option, Some, None, option_map, option_and_then, is_ok, if◌then◌else◌, Result, Ok, Err, refl, sym, ◌∙◌, ap, subst, arith, append_assoc, length-append}
 use Rattle.std.specs.List.{AllByRecursion}
-use Rattle.std.proofs.lemmas.List.{append-nil}
+use Rattle.std.proofs.lemmas.List.{append-nil, nil_from_length}
 use Rattle.jc_base.specs.declared.fail.Fail.{Fail}
 use Rattle.jc_base.specs.declared.fail.Fail.TheVariants as fails
 use Rattle.jc_base.specs.Reader.{Reading}
@@ -33,15 +33,11 @@ may_follow taken (header ∷ read) b blocks stands = tt
 may_follow taken (session s ∷ read) b blocks stands = absurd blocks.begins
 may_follow taken (class c ∷ read) b blocks stands = absurd blocks.begins
 
-nothing : (l : List ℕ) → length l ≡ 0 → l ≡ []
-nothing [] e = refl
-nothing (x ∷ l) e = absurd (omega (arith, e))
-
 pub may_stand : (taken : List ℕ) (read : List Block) (b : Block) → Blocks taken read → MayFollow read b → MayStandAt (length taken) b
 may_stand taken [] header blocks follows = λ first. refl
 may_stand taken [] (session s) blocks follows = absurd follows
 may_stand taken [] (class c) blocks follows = absurd follows
-may_stand taken (x ∷ read) b blocks follows = λ first. absurd (no_block x taken blocks.whole.0 blocks.whole.1 blocks.whole.3 blocks.whole.2 (nothing taken first))
+may_stand taken (x ∷ read) b blocks follows = λ first. absurd (no_block x taken blocks.whole.0 blocks.whole.1 blocks.whole.3 blocks.whole.2 (nil_from_length taken first))
 
 union_push : (s at t : Store) (read : List Block) (b : Block) → union_of s read ≡ Some at → with_block at b ≡ Some t → union_of s (read ++ b ∷ []) ≡ Some t
 union_push s at t read b is step =
@@ -56,22 +52,6 @@ pub record Progress (known : Entries) (bytes : List ℕ) (reader : Reading) (mor
   pub parts : bytes ≡ taken ++ reader.left
   pub offset : reader.place ≡ length taken
   pub gathers : Gathers known taken more fresh
-
-pub begins : (known : Entries) (bytes : List ℕ) (reader : Reading) (more : List Session) (fresh : Entries) → reader.left ≡ bytes → reader.place ≡ 0 → more ≡ [] → fresh ≡ [] → Progress known bytes reader more fresh
-begins known bytes reader more fresh whole start none empty =
-    subst (λ (m : List Session). Progress known bytes reader m fresh) (sym none)
-    (subst (λ (f : Entries). Progress known bytes reader [] f) (sym empty) (record {
-      taken = [];
-      parts = sym whole;
-      offset = start;
-      gathers = record {
-        read = [];
-        blocks = record { begins = tt; whole = refl };
-        union = λ sessions. ap (λ (l : List Session). Some (store_of l known)) (sym (append-nil sessions));
-        writable = tt;
-        keyed = tt;
-      };
-    }))
 
 pub goes_on : (known : Entries) (bytes : List ℕ) (old new : Reading) (before after : Added) (b : Block) → Progress known bytes old before.sessions.items before.records.entries → Took old new b → Keeps known before after b
     → Progress known bytes new after.sessions.items after.records.entries
@@ -93,19 +73,6 @@ goes_on known bytes old new before after b p t k =
       };
     }
 
--- a block is not empty
-pub less_left : (old new : Reading) (b : Block) → Took old new b → length new.left < length old.left
-less_left old new b t = by t.front t.block t.parts
-  where
-    by : (front : List ℕ) → IsBlock front b → old.left ≡ front ++ new.left → length new.left < length old.left
-    by [] block parts = absurd (no_block b [] [] [] block refl refl)
-    by (x ∷ front) block parts = omega (arith, ap length parts, length-append (x ∷ front) new.left)
-
-pub is_whole : (known : Entries) (bytes : List ℕ) (reader : Reading) (more : List Session) (fresh : Entries) → Progress known bytes reader more fresh → length bytes ≤ reader.place → Gathers known bytes more fresh
-is_whole known bytes reader more fresh p end =
-    let none : reader.left ≡ [] = nothing reader.left (omega (arith, end, p.offset, ap length p.parts, length-append p.taken reader.left)) in
-    subst (λ (l : List ℕ). Gathers known l more fresh) (sym (p.parts ∙ ap (λ (l : List ℕ). p.taken ++ l) none ∙ append-nil p.taken)) p.gathers
-
 -- ---- what stops the reading
 
 module _ (known : Entries) (bytes : List ℕ) (old : Reading) (more : List Session) (fresh : Entries) (keyed : Keyed known) (p : Progress known bytes old more fresh) (sessions : List Session) where
@@ -122,7 +89,7 @@ module _ (known : Entries) (bytes : List ℕ) (old : Reading) (more : List Sessi
   }
 
   unfit_here : (why : Refused) → old.left ≢ [] → IsUnfit old why → RefusedHere p.gathers.read (store_with sessions known more fresh) (length p.taken) old.left why
-  unfit_here (bad_exec place) some unfit = (
+  unfit_here (bad_exec offset) some unfit = (
     unfit.0 ∙ p.offset,
     record {
       some = some;

@@ -1,5 +1,6 @@
 -- The version of a header.
 use Rattle.std.proofs.Common.{◌≡◌, ℕ, ◌+◌, ◌*◌, ◌<◌, ◌≤◌, Bool, true, false, not, List, [], ◌∷◌, ◌++◌, length, take, drop, get_or, bytes_eq, Some, refl, sym, ◌∙◌, ap, arith}
+use Rattle.std.proofs.lemmas.Bool.{not-false}
 use Rattle.std.proofs.lemmas.List.{take_at, take-append-drop, length-take}
 use Rattle.std.proofs.lemmas.Slice.Eq.{bytes_eq-Decides}
 use Rattle.jc_base.specs.Decoder.{IsBig, first, number_at}
@@ -35,11 +36,7 @@ version_bytes (x ∷ y ∷ z ∷ version) size a b value = absurd (omega (arith,
 -- ---- a header of this version
 
 pub same_bytes : (b : Bool) (xs ys zs : List ℕ) → b ≡ not (bytes_eq xs ys) → b ≡ false → ys ≡ zs → xs ≡ zs
-same_bytes b xs ys zs test apart is = (bytes_eq-Decides xs ys).0 (by (bytes_eq xs ys) (sym test ∙ apart)) ∙ is
-  where
-    by : (a : Bool) → not a ≡ false → a ≡ true
-    by true e = refl
-    by false e = absurd cc
+same_bytes b xs ys zs test apart is = (bytes_eq-Decides xs ys).0 (not-false (bytes_eq xs ys) (sym test ∙ apart)) ∙ is
 
 pub header_read : (left behind magic version rest : List ℕ) → magic ≡ take 3 left → behind ≡ drop 3 left → version ≡ take 2 behind → rest ≡ drop 2 behind → 2 ≤ length behind → magic ≡ 0x01 ∷ 0xc0 ∷ 0xc0 ∷ []
     → get_or version 0 0 < 256 → get_or version 1 0 < 256 → 256 * get_or version 0 0 + get_or version 1 0 ≡ 0x1007 → left ≡ header_text ++ rest

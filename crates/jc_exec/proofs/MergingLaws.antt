@@ -1,8 +1,9 @@
 -- Records that are merged one after the other make the union, and nothing but records that do not agree stops it.
 use Rattle.std.proofs.Common.{◌≡◌, ◌≢◌, ◌⊎◌, inl, inr, ℕ, zero, suc, ◌<◌, Bool, true, false, not, cond, ◌&&◌, ◌||◌, List, [], ◌∷◌, ◌++◌, length, filter, Contains, Option, Some, None, option_map, option_and_then, nat_eq, get_or, bytes_eq, refl, sym, ◌∙◌, ap, subst, arith, append_assoc}
 use Rattle.std.specs.List.{AllByRecursion}
-use Rattle.std.proofs.lemmas.Bool.{eqb-true, eqb-false, eq-eqb}
+use Rattle.std.proofs.lemmas.Bool.{eqb-true, eqb-false, eq-eqb, and_parts, or_cases, or_left, or_right}
 use Rattle.std.proofs.lemmas.List.{append-nil, map-append}
+use Rattle.std.proofs.lemmas.List.Elements.{Contains-append_left, Contains-push, Contains-push_cases}
 use Rattle.std.proofs.lemmas.Slice.Eq.{bytes_eq-Decides}
 use Rattle.jc_base.proofs.DecoderLaws.{some_is}
 use Rattle.jc_exec.specs.declared.hits.ClassHits.{ClassHits}
@@ -11,7 +12,7 @@ use Rattle.jc_exec.specs.Format.{Block, header, session, class}
 use Rattle.jc_exec.specs.Store.{Store, IsNew}
 use Rattle.jc_exec.specs.Union.{sessions_of, records_of, ids_of, first_seen, Agrees, IsHitAt, IsMerged, IsUnion, either_bits, agree, either_hits, with_record, with_block, union_of}
 use Rattle.jc_exec.specs.Refusing.{OneOfEachId}
-use Rattle.jc_exec.proofs.UnionLaws.{sessions-append, records-append, contains_front, contains_last, contains_either, all_filter, among, first_seen-append, among_first_seen, merged_other, merged_first, all_merged_other, union_none, union_header, one_union, in_union, among_there, HasRecord, seen_has_record}
+use Rattle.jc_exec.proofs.UnionLaws.{sessions-append, records-append, all_filter, among, first_seen-append, among_first_seen, merged_other, merged_first, all_merged_other, union_none, union_header, one_union, in_union, among_there, HasRecord, seen_has_record}
 
 -- ---- two records of one id
 
@@ -28,24 +29,9 @@ get_either (x ∷ xs) [] k e = absurd (omega (arith, e))
 get_either (x ∷ xs) (y ∷ ys) zero e = refl
 get_either (x ∷ xs) (y ∷ ys) (suc k) e = get_either xs ys k (omega (arith, e))
 
-or_true : (a b : Bool) → (a || b) ≡ true → (a ≡ true) ⊎ (b ≡ true)
-or_true true b e = inl refl
-or_true false b e = inr e
-
-or_left : (a b : Bool) → a ≡ true → (a || b) ≡ true
-or_left a b e = rw e refl
-
-or_right : (a b : Bool) → b ≡ true → (a || b) ≡ true
-or_right true b e = refl
-or_right false b e = e
-
-and_true : (a b : Bool) → (a && b) ≡ true → (a ≡ true) × (b ≡ true)
-and_true true b e = (refl, e)
-and_true false b e = absurd cc
-
 pub agree_agrees : (c r : ClassHits) → agree c r ≡ true → Agrees r c
 agree_agrees c r e =
-    let both = and_true (bytes_eq c.name r.name) (nat_eq (length c.bits) (length r.bits)) e in
+    let both = and_parts (bytes_eq c.name r.name) (nat_eq (length c.bits) (length r.bits)) e in
     record { name = sym ((bytes_eq-Decides c.name r.name).0 both.0); count = sym (eqb-true (length c.bits) (length r.bits) both.1) }
 
 pub agrees_agree : (c r : ClassHits) → Agrees r c → agree c r ≡ true
@@ -56,18 +42,18 @@ merged_same : (rs : List ClassHits) (r c : ClassHits) → c.id ≡ r.id → Agre
 merged_same rs r c id a m =
     let long = length_either c.bits r.bits (sym a.count) in
     record {
-      agrees = λ x there same. elim (contains_either rs r x there) [
+      agrees = λ x there same. elim (Contains-push_cases rs r x there) [
         | inl before ↦ (let b = m.agrees x before same in record { name = b.name; count = b.count ∙ sym long })
         | inr last ↦ subst (λ (y : ClassHits). Agrees y (either_hits c r)) last (record { name = a.name; count = a.count ∙ sym long })
       ];
       hits = λ k lt.
           let is = get_either c.bits r.bits k (sym a.count) in
           let below : k < length c.bits = omega (arith, lt, long) in (
-            λ hit. elim (or_true (get_or c.bits k false) (get_or r.bits k false) (sym is ∙ hit)) [
-              | inl first ↦ (let some = (m.hits k below).0 first in (some.0, contains_front rs (r ∷ []) some.0 some.1, some.2, some.3))
-              | inr second ↦ (r, contains_last rs r, sym id, second)
+            λ hit. elim (or_cases (get_or c.bits k false) (get_or r.bits k false) (sym is ∙ hit)) [
+              | inl first ↦ (let some = (m.hits k below).0 first in (some.0, Contains-append_left rs (r ∷ []) some.0 some.1, some.2, some.3))
+              | inr second ↦ (r, Contains-push rs r, sym id, second)
             ],
-            λ some. elim (contains_either rs r some.0 some.1) [
+            λ some. elim (Contains-push_cases rs r some.0 some.1) [
               | inl before ↦ is ∙ or_left (get_or c.bits k false) (get_or r.bits k false) ((m.hits k below).1 (some.0, before, some.2, some.3))
               | inr last ↦ is ∙ or_right (get_or c.bits k false) (get_or r.bits k false) (subst (λ (y : ClassHits). IsHitAt y k) (sym last) some.3)
             ],
@@ -214,7 +200,7 @@ agrees_all rs (c ∷ cs) r same a there = (
   λ id.
       let x = there.0 in
       let of_x = a.0.agrees x.0 x.1 x.2 in
-      let of_r = same r x.0 (contains_last rs r) (contains_front rs (r ∷ []) x.0 x.1) (sym id ∙ sym x.2) in
+      let of_r = same r x.0 (Contains-push rs r) (Contains-append_left rs (r ∷ []) x.0 x.1) (sym id ∙ sym x.2) in
       record { name = of_r.name ∙ of_x.name; count = of_r.count ∙ of_x.count },
   agrees_all rs cs r same a.1 there.1,
 )
@@ -229,7 +215,7 @@ record_fits (c ∷ cs) r a = by (nat_eq c.id r.id) refl (record_fits cs r a.1)
     by false is (es, e) = (c ∷ es, rw e refl)
 
 front_consistent : (rs more : List ClassHits) → Consistent (rs ++ more) → Consistent rs
-front_consistent rs more same = λ x y there_x there_y id. same x y (contains_front rs more x there_x) (contains_front rs more y there_y) id
+front_consistent rs more same = λ x y there_x there_y id. same x y (Contains-append_left rs more x there_x) (Contains-append_left rs more y there_y) id
 
 merging_runs : (bs more : List Block) (s : Store) → IsUnion bs s → Consistent (records_of (bs ++ more)) → (t : Store) × (union_of s more ≡ Some t)
 merging_runs bs [] s u same = (s, refl)

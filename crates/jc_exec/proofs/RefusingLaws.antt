@@ -1,6 +1,7 @@
 -- A text is refused for one reason at most, and not where all of its blocks have a union with the store.
 use Rattle.std.proofs.Common.{◌≡◌, ℕ, zero, suc, ◌<◌, List, [], ◌∷◌, ◌++◌, length, take, Contains, get_or, refl, sym, ◌∙◌, ap, subst, arith, append_assoc, length-append}
 use Rattle.std.proofs.lemmas.List.{append-nil, take_at}
+use Rattle.std.proofs.lemmas.List.Elements.{Contains-append_left, Contains-push}
 use Rattle.byteorder.specs.Endian.{big_number}
 use Rattle.jc_exec.specs.declared.hits.ClassHits.{ClassHits}
 use Rattle.jc_exec.specs.Format.{Block, header, session, class, header_text, IsBlock, AreBlocks, Blocks, BeginsWithHeader}
@@ -9,7 +10,7 @@ use Rattle.jc_exec.specs.Union.{records_of, IsUnion}
 use Rattle.jc_exec.specs.Refusing.{Refused, bad_exec, other_version, conflict, blocks_of, MayFollow, HasOtherHeader, HasConflict, RefusedHere, FirstRefusal, OneOfEachId, IsTaken}
 use Rattle.jc_exec.proofs.ListLaws.{kind_of, kind_first, one_front, no_block}
 use Rattle.jc_exec.proofs.MergingLaws.{union_consistent, union_distinct}
-use Rattle.jc_exec.proofs.UnionLaws.{records-append, contains_front, contains_last, one_union, merged_of}
+use Rattle.jc_exec.proofs.UnionLaws.{records-append, one_union, merged_of}
 
 -- ---- a header of another version
 
@@ -40,13 +41,13 @@ Stops base read rest = (b : Block) (front more : List ℕ) (later : List Block) 
 contains_more : (base read later : List Block) (r : ClassHits) → Contains (records_of (base ++ read)) r → Contains (records_of (base ++ (read ++ later))) r
 contains_more base read later r there =
     subst (λ (l : List ClassHits). Contains l r) (sym (records-append (base ++ read) later) ∙ ap records_of (append_assoc base read later))
-    (contains_front (records_of (base ++ read)) (records_of later) r there)
+    (Contains-append_left (records_of (base ++ read)) (records_of later) r there)
 
 contains_block : (base read later : List Block) (r : ClassHits) → Contains (records_of (base ++ (read ++ class r ∷ later))) r
 contains_block base read later r =
     let all : (records_of (base ++ read) ++ r ∷ []) ++ records_of later ≡ records_of (base ++ (read ++ class r ∷ later)) =
     append_assoc (records_of (base ++ read)) (r ∷ []) (records_of later) ∙ sym (records-append (base ++ read) (class r ∷ later)) ∙ ap records_of (append_assoc base read (class r ∷ later)) in
-    subst (λ (l : List ClassHits). Contains l r) all (contains_front (records_of (base ++ read) ++ r ∷ []) (records_of later) r (contains_last (records_of (base ++ read)) r))
+    subst (λ (l : List ClassHits). Contains l r) all (Contains-append_left (records_of (base ++ read) ++ r ∷ []) (records_of later) r (Contains-push (records_of (base ++ read)) r))
 
 no_conflict : (base read later : List Block) (s t : Store) (text : List ℕ) (there hits : ClassHits) → IsUnion (base ++ read) s → IsUnion (base ++ (read ++ class hits ∷ later)) t → HasConflict read s text there hits → ⊥
 no_conflict base read later s t text there hits u v h =
@@ -57,15 +58,15 @@ no_conflict base read later s t text there hits u v h =
     let of_hits = union_consistent (base ++ (read ++ class hits ∷ later)) t v r.0 hits (contains_more base read (class hits ∷ later) r.0 r.1) (contains_block base read later hits) (r.2 ∙ h.same_id) in
     h.differs (record { name = sym of_there.name ∙ of_hits.name; count = sym of_there.count ∙ of_hits.count })
 
-stops : (base read : List Block) (s : Store) (place : ℕ) (rest : List ℕ) (why : Refused) → IsUnion (base ++ read) s → RefusedHere read s place rest why → Stops base read rest
-stops base read s place rest (bad_exec p) u h b front more later t parts block follows v = h.1.none b front more parts block follows
-stops base read s place rest (other_version found) u h b front more later t parts block follows v = by b block (sym (kind_first b rest front more block parts) ∙ other_header_kind rest found h)
+stops : (base read : List Block) (s : Store) (offset : ℕ) (rest : List ℕ) (why : Refused) → IsUnion (base ++ read) s → RefusedHere read s offset rest why → Stops base read rest
+stops base read s offset rest (bad_exec p) u h b front more later t parts block follows v = h.1.none b front more parts block follows
+stops base read s offset rest (other_version found) u h b front more later t parts block follows v = by b block (sym (kind_first b rest front more block parts) ∙ other_header_kind rest found h)
   where
     by : (b : Block) → IsBlock front b → kind_of b ≡ 1 → ⊥
     by header block kind = no_other_header rest more found (parts ∙ ap (λ (l : List ℕ). l ++ more) block) h
     by (session x) block kind = omega (arith, kind)
     by (class c) block kind = omega (arith, kind)
-stops base read s place rest (conflict id first second m n) u (there, hits, h, i1, i2, i3, i4, i5) b front more later t parts block follows v =
+stops base read s offset rest (conflict id first second m n) u (there, hits, h, i1, i2, i3, i4, i5) b front more later t parts block follows v =
     let same = one_front (class hits) b rest h.front h.more front more h.block block h.parts parts in
     no_conflict base read later s t rest there hits u (subst (λ (x : Block). IsUnion (base ++ (read ++ x ∷ later)) t) (sym same.0) v) h
 
@@ -147,10 +148,10 @@ cut_of_all before text read s blocks u = record {
 
 -- ---- one reason
 
-nothing_is_refused : (read : List Block) (s : Store) (place : ℕ) (why : Refused) → RefusedHere read s place [] why → ⊥
-nothing_is_refused read s place (bad_exec p) h = h.1.some refl
-nothing_is_refused read s place (other_version found) h = omega (arith, other_header_kind [] found h)
-nothing_is_refused read s place (conflict id first second m n) (there, hits, h, i1, i2, i3, i4, i5) = no_block (class hits) [] h.front h.more h.block h.parts refl
+nothing_is_refused : (read : List Block) (s : Store) (offset : ℕ) (why : Refused) → RefusedHere read s offset [] why → ⊥
+nothing_is_refused read s offset (bad_exec p) h = h.1.some refl
+nothing_is_refused read s offset (other_version found) h = omega (arith, other_header_kind [] found h)
+nothing_is_refused read s offset (conflict id first second m n) (there, hits, h, i1, i2, i3, i4, i5) = no_block (class hits) [] h.front h.more h.block h.parts refl
 
 new_and_there : (id : ℕ) (cs : List ClassHits) (d : ClassHits) (k : ℕ) → IsNew id cs → k < length cs → get_or cs k d ≡ d → id ≡ d.id → ⊥
 new_and_there id [] d k new lt is same = omega (arith, lt)
@@ -170,16 +171,16 @@ same_hits text read s a b c d x y = of (one_front (class c) (class d) text x.fro
     of : class c ≡ class d → c ≡ d
     of e = cc
 
-one_reason_here : (read : List Block) (s : Store) (place : ℕ) (rest : List ℕ) (a b : Refused) → OneOfEachId s.classes → RefusedHere read s place rest a → RefusedHere read s place rest b → a ≡ b
-one_reason_here read s place rest (bad_exec p) (bad_exec q) apart x y = ap bad_exec (x.0 ∙ sym y.0)
-one_reason_here read s place rest (bad_exec p) (other_version found) apart x y = absurd (x.1.known found y)
-one_reason_here read s place rest (bad_exec p) (conflict id first second m n) apart x (there, hits, h, i1, i2, i3, i4, i5) = absurd (x.1.none (class hits) h.front h.more h.parts h.block h.follows)
-one_reason_here read s place rest (other_version found) (bad_exec q) apart x y = absurd (y.1.known found x)
-one_reason_here read s place rest (other_version found) (other_version other) apart x y = ap other_version (same_version rest found other x y)
-one_reason_here read s place rest (other_version found) (conflict id first second m n) apart x (there, hits, h, i1, i2, i3, i4, i5) = absurd (omega (arith, sym (other_header_kind rest found x) ∙ kind_first (class hits) rest h.front h.more h.block h.parts))
-one_reason_here read s place rest (conflict id first second m n) (bad_exec q) apart (there, hits, h, i1, i2, i3, i4, i5) y = absurd (y.1.none (class hits) h.front h.more h.parts h.block h.follows)
-one_reason_here read s place rest (conflict id first second m n) (other_version found) apart (there, hits, h, i1, i2, i3, i4, i5) y = absurd (omega (arith, sym (other_header_kind rest found y) ∙ kind_first (class hits) rest h.front h.more h.block h.parts))
-one_reason_here read s place rest (conflict id first second m n) (conflict id' first' second' m' n') apart x y =
+one_reason_here : (read : List Block) (s : Store) (offset : ℕ) (rest : List ℕ) (a b : Refused) → OneOfEachId s.classes → RefusedHere read s offset rest a → RefusedHere read s offset rest b → a ≡ b
+one_reason_here read s offset rest (bad_exec p) (bad_exec q) apart x y = ap bad_exec (x.0 ∙ sym y.0)
+one_reason_here read s offset rest (bad_exec p) (other_version found) apart x y = absurd (x.1.known found y)
+one_reason_here read s offset rest (bad_exec p) (conflict id first second m n) apart x (there, hits, h, i1, i2, i3, i4, i5) = absurd (x.1.none (class hits) h.front h.more h.parts h.block h.follows)
+one_reason_here read s offset rest (other_version found) (bad_exec q) apart x y = absurd (y.1.known found x)
+one_reason_here read s offset rest (other_version found) (other_version other) apart x y = ap other_version (same_version rest found other x y)
+one_reason_here read s offset rest (other_version found) (conflict id first second m n) apart x (there, hits, h, i1, i2, i3, i4, i5) = absurd (omega (arith, sym (other_header_kind rest found x) ∙ kind_first (class hits) rest h.front h.more h.block h.parts))
+one_reason_here read s offset rest (conflict id first second m n) (bad_exec q) apart (there, hits, h, i1, i2, i3, i4, i5) y = absurd (y.1.none (class hits) h.front h.more h.parts h.block h.follows)
+one_reason_here read s offset rest (conflict id first second m n) (other_version found) apart (there, hits, h, i1, i2, i3, i4, i5) y = absurd (omega (arith, sym (other_header_kind rest found y) ∙ kind_first (class hits) rest h.front h.more h.block h.parts))
+one_reason_here read s offset rest (conflict id first second m n) (conflict id' first' second' m' n') apart x y =
     let hits : x.1 ≡ y.1 = same_hits rest read s x.0 y.0 x.1 y.1 x.2 y.2 in
     let ids : x.0.id ≡ y.0.id = x.2.same_id ∙ ap (λ (c : ClassHits). c.id) hits ∙ sym y.2.same_id in
     let there : x.0 ≡ y.0 = one_of_id s.classes x.0 y.0 x.2.holds.0 y.2.holds.0 apart x.2.holds.1 x.2.holds.2 y.2.holds.1 y.2.holds.2 ids in
@@ -194,8 +195,8 @@ pub one_reason : (before : Store) (text : List ℕ) (a b : Refused) → FirstRef
 one_reason before text a b x y =
     let same = same_cut (blocks_of before) [] text x.rest y.rest x.read y.read (cut_of before text a x) (cut_of before text b y) in
     let store : x.store ≡ y.store = one_union (blocks_of before ++ y.read) x.store y.store (subst (λ (l : List Block). IsUnion (blocks_of before ++ l) x.store) same.0 x.union) y.union in
-    let place : length x.taken ≡ length y.taken = omega (arith, ap length x.parts, length-append x.taken x.rest, ap length y.parts, length-append y.taken y.rest, ap length same.1) in
-    let first : RefusedHere y.read y.store (length y.taken) y.rest a = subst (λ (l : List Block). RefusedHere l y.store (length y.taken) y.rest a) same.0 (subst (λ (s : Store). RefusedHere x.read s (length y.taken) y.rest a) store (subst (λ (n : ℕ). RefusedHere x.read x.store n y.rest a) place (subst (λ (l : List ℕ). RefusedHere x.read x.store (length x.taken) l a) same.1 x.refused))) in
+    let offset : length x.taken ≡ length y.taken = omega (arith, ap length x.parts, length-append x.taken x.rest, ap length y.parts, length-append y.taken y.rest, ap length same.1) in
+    let first : RefusedHere y.read y.store (length y.taken) y.rest a = subst (λ (l : List Block). RefusedHere l y.store (length y.taken) y.rest a) same.0 (subst (λ (s : Store). RefusedHere x.read s (length y.taken) y.rest a) store (subst (λ (n : ℕ). RefusedHere x.read x.store n y.rest a) offset (subst (λ (l : List ℕ). RefusedHere x.read x.store (length x.taken) l a) same.1 x.refused))) in
     one_reason_here y.read y.store (length y.taken) y.rest a b (union_distinct (blocks_of before ++ y.read) y.store y.union) first y.refused
 
 pub not_both : (before : Store) (text : List ℕ) (why : Refused) → IsTaken before text → FirstRefusal before text why → ⊥

@@ -5,6 +5,7 @@ use Rattle.std.specs.List.{AllByRecursion}
 use Rattle.std.specs.List.Sorted.{IsSortedByKey, IsStableByKey}
 use Rattle.std.specs.Ordering.{is_lt, int_cmp}
 use Rattle.std.specs.declared.cmp.Ordering.TheVariants.{Less, Equal, Greater}
+use Rattle.std.proofs.lemmas.Bool.{and_parts, false≢true}
 use Rattle.std.proofs.lemmas.Bool.Decides.{nat_tests}
 use Rattle.std.proofs.lemmas.Cmp.{int_cmp_total}
 use Rattle.std.proofs.lemmas.List.{map-id}
@@ -12,7 +13,7 @@ use Rattle.std.proofs.lemmas.List.Sorted.{ranks_by, sorted_far}
 use Rattle.jc_base.proofs.EachLaws.{all_of_each, each_of_all}
 use Rattle.jc_exec.specs.declared.session.Session.{Session}
 use Rattle.jc_exec.specs.Writing.{placed, by_dump, InOrder, is_dumped_at, IsByDump}
-use Rattle.jc_exec.proofs.UnionLaws.{all_map, all_filter}
+use Rattle.jc_exec.proofs.UnionLaws.{all_weaker, all_filter}
 
 -- ---- the order of times
 
@@ -30,15 +31,11 @@ le_other (pos a) (negsuc b) p = refl
 le_other (negsuc a) (pos b) p = absurd cc
 le_other (negsuc a) (negsuc b) p = grind (arith, nat_tests)
 
-and_true : (a b : Bool) → (a && b) ≡ true → (a ≡ true) × (b ≡ true)
-and_true true b e = (refl, e)
-and_true false b e = absurd cc
-
 -- two sessions of one time
 same_time : (time : ℤ) (s t : Session) → is_dumped_at time s ≡ true → is_dumped_at time t ≡ true → int_le s.dump t.dump ≡ true
 same_time time s t a b =
-    let x = and_true (int_le s.dump time) (int_le time s.dump) a in
-    let y = and_true (int_le t.dump time) (int_le time t.dump) b in
+    let x = and_parts (int_le s.dump time) (int_le time s.dump) a in
+    let y = and_parts (int_le t.dump time) (int_le time t.dump) b in
     le_trans s.dump time t.dump x.0 y.1
 
 -- ---- a session more
@@ -56,7 +53,7 @@ placed_in_order s [] o = (tt, tt)
 placed_in_order s (t ∷ ts) o = by (int_le s.dump t.dump) refl (placed_in_order s ts o.1)
   where
     by : (b : Bool) → int_le s.dump t.dump ≡ b → InOrder (placed s ts) → InOrder (cond b (s ∷ t ∷ ts) (t ∷ placed s ts))
-    by true is rest = ((is, all_map (λ u. int_le t.dump u.dump ≡ true) (λ u. int_le s.dump u.dump ≡ true) ts (λ u le. le_trans s.dump t.dump u.dump is le) o.0), o)
+    by true is rest = ((is, all_weaker (λ u. int_le t.dump u.dump ≡ true) (λ u. int_le s.dump u.dump ≡ true) ts (λ u le. le_trans s.dump t.dump u.dump is le) o.0), o)
     by false is rest = (all_placed (λ u. int_le t.dump u.dump ≡ true) s ts (le_other s.dump t.dump is) o.0, rest)
 
 placed_stable : (time : ℤ) (s : Session) (ts : List Session) → filter (is_dumped_at time) (placed s ts) ≡ filter (is_dumped_at time) (s ∷ ts)
@@ -68,10 +65,7 @@ placed_stable time s (t ∷ ts) = by (int_le s.dump t.dump) refl (placed_stable 
 
     swapped : (a b : Bool) → is_dumped_at time s ≡ a → is_dumped_at time t ≡ b → int_le s.dump t.dump ≡ false → (rest : List Session)
         → cond b (t ∷ cond a (s ∷ rest) rest) (cond a (s ∷ rest) rest) ≡ cond a (s ∷ cond b (t ∷ rest) rest) (cond b (t ∷ rest) rest)
-    swapped true true x y apart rest = absurd (differ (sym apart ∙ same_time time s t x y))
-      where
-        differ : false ≡ true → ⊥
-        differ e = cc
+    swapped true true x y apart rest = absurd (false≢true (sym apart ∙ same_time time s t x y))
     swapped true false x y apart rest = refl
     swapped false true x y apart rest = refl
     swapped false false x y apart rest = refl

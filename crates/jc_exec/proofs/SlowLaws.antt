@@ -3,16 +3,17 @@ use Rattle.std.proofs.Common.{◌≡◌, ◌↔◌, ℕ, zero, suc, ◌+◌, ◌
 use mir.Val.{bool_byte}
 use Rattle.std.specs.List.{AllByRecursion, list_any}
 use Rattle.std.proofs.lemmas.List.FromFn.{map-range_with_len_more, get_or-map-range_with_len, length-map-range_with_len}
-use Rattle.std.proofs.lemmas.Bool.{eqb-true, eq-eqb}
+use Rattle.std.proofs.lemmas.Bool.{eqb-true, eq-eqb, and_parts, or_right}
 use Rattle.std.proofs.lemmas.List.{append-nil, map-append, get_or-take, get_or-drop, drop-drop, take_all}
 use Rattle.std.proofs.Math.Seq.{take-suc}
+use Rattle.jc_base.proofs.EachLaws.{all_push}
 use Rattle.jc_exec.specs.declared.hits.ClassHits.{ClassHits}
 use Rattle.jc_exec.specs.Format.{class}
 use Rattle.jc_exec.specs.SlowUnion.{some_hit, all_hits, merged_record}
 use Rattle.jc_exec.specs.Store.{Store}
 use Rattle.jc_exec.specs.Union.{records_of, ids_of, first_seen, IsHitAt, SomeIsHitAt, IsMerged, IsUnion}
 use Rattle.jc_exec.specs.Writing.{low_first, pack}
-use Rattle.jc_exec.proofs.UnionLaws.{among, among_first_seen, all_push, all_map, same_records, seen_has_record, first_seen-append, or_later, in_union, among_there, HasRecord}
+use Rattle.jc_exec.proofs.UnionLaws.{among, among_first_seen, all_weaker, same_records, seen_has_record, first_seen-append, in_union, among_there, HasRecord}
 
 -- ---- bytes
 
@@ -68,10 +69,10 @@ pub pack_more : (n : ℕ) (bits : List Bool) → pack (n + 1) bits ≡ pack n bi
 pack_more zero bits = refl
 pack_more (suc n) bits =
     let one : suc n + 1 ≡ suc (n + 1) = omega arith in
-    let place : 8 + 8 * n ≡ 8 * suc n = omega arith in
+    let more : 8 + 8 * n ≡ 8 * suc n = omega arith in
     ap (λ (k : ℕ). pack k bits) one
     ∙ ap (λ (l : List ℕ). low_first (take 8 bits) ∷ l) (pack_more n (drop 8 bits))
-    ∙ ap (λ (l : List Bool). (low_first (take 8 bits) ∷ pack n (drop 8 bits)) ++ low_first (take 8 l) ∷ []) (drop-drop (8 * n) 8 bits ∙ ap (λ (k : ℕ). drop k bits) place)
+    ∙ ap (λ (l : List Bool). (low_first (take 8 bits) ∷ pack n (drop 8 bits)) ++ low_first (take 8 l) ∷ []) (drop-drop (8 * n) 8 bits ∙ ap (λ (k : ℕ). drop k bits) more)
 
 -- ---- bits of all records of an id
 
@@ -91,16 +92,12 @@ get_all_hits : (rs : List ClassHits) (id n k : ℕ) → k < n → get_or (all_hi
 unfolding all_hits
 get_all_hits rs id n k lt = get_or-map-range_with_len (some_hit rs id) 0 n k k false lt (omega arith)
 
-and_true : (a b : Bool) → (a && b) ≡ true → (a ≡ true) × (b ≡ true)
-and_true true b e = (refl, e)
-and_true false b e = absurd cc
-
 some_hit_found : (rs : List ClassHits) (id k : ℕ) → some_hit rs id k ≡ true → SomeIsHitAt rs id k
 some_hit_found [] id k e = absurd cc
 some_hit_found (r ∷ rs) id k e = by (nat_eq r.id id && get_or r.bits k false) refl e (λ later. some_hit_found rs id k later)
   where
     by : (b : Bool) → (nat_eq r.id id && get_or r.bits k false) ≡ b → (b || some_hit rs id k) ≡ true → (some_hit rs id k ≡ true → SomeIsHitAt rs id k) → SomeIsHitAt (r ∷ rs) id k
-    by true is e rest = let both = and_true (nat_eq r.id id) (get_or r.bits k false) is in (r, (0, omega arith, refl), eqb-true r.id id both.0, both.1)
+    by true is e rest = let both = and_parts (nat_eq r.id id) (get_or r.bits k false) is in (r, (0, omega arith, refl), eqb-true r.id id both.0, both.1)
     by false is e rest = let some = rest e in (some.0, (suc some.1.0, omega (arith, some.1.1), some.1.2), some.2, some.3)
 
 found_at : (rs : List ClassHits) (id k : ℕ) (r : ClassHits) (j : ℕ) → j < length rs → get_or rs j r ≡ r → r.id ≡ id → IsHitAt r k → some_hit rs id k ≡ true
@@ -109,7 +106,7 @@ found_at (x ∷ rs) id k r zero lt is same hit =
     let here : nat_eq x.id id ≡ true = eq-eqb x.id id (ap (λ (y : ClassHits). y.id) is ∙ same) in
     let on : get_or x.bits k false ≡ true = ap (λ (y : ClassHits). get_or y.bits k false) is ∙ hit in
     rw (here, on) refl
-found_at (x ∷ rs) id k r (suc j) lt is same hit = or_later (nat_eq x.id id && get_or x.bits k false) (some_hit rs id k) (found_at rs id k r j (omega (arith, lt)) is same hit)
+found_at (x ∷ rs) id k r (suc j) lt is same hit = or_right (nat_eq x.id id && get_or x.bits k false) (some_hit rs id k) (found_at rs id k r j (omega (arith, lt)) is same hit)
 
 -- the merged record has the bits of all
 merged_hits : (rs : List ClassHits) (r : ClassHits) (k : ℕ) → k < length (merged_record rs r).bits → IsHitAt (merged_record rs r) k ↔ SomeIsHitAt rs r.id k
@@ -181,4 +178,4 @@ made_union rs out i m whole s u =
     let merged : AllByRecursion (IsMerged rs) s.classes = subst (λ (l : List ClassHits). AllByRecursion (IsMerged l) s.classes) (records_of_classes rs) u.merged in
     let ids : ids_of s.classes ≡ first_seen (ids_of rs) = u.ids ∙ ap (λ (l : List ClassHits). first_seen (ids_of l)) (records_of_classes rs) in
     let own : ids_of out ≡ first_seen (ids_of rs) = m.ids ∙ ap (λ (l : List ClassHits). first_seen (ids_of l)) (take_all i rs whole) in
-    same_records rs out s.classes (own ∙ sym ids) (subst (AllByRecursion (HasRecord rs)) (sym own) (seen_has_record rs)) (all_map (Came rs) (IsMerged rs) out (came_merged rs s u) m.all) merged
+    same_records rs out s.classes (own ∙ sym ids) (subst (AllByRecursion (HasRecord rs)) (sym own) (seen_has_record rs)) (all_weaker (Came rs) (IsMerged rs) out (came_merged rs s u) m.all) merged

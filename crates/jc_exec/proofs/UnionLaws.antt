@@ -1,9 +1,10 @@
 -- The union of a list of blocks, one block more at a time.
 use Rattle.std.proofs.Common.{◌≡◌, ◌⊎◌, inl, inr, ⊎_elim, ℕ, zero, suc, ◌<◌, Bool, true, false, not, cond, ◌||◌, List, [], ◌∷◌, ◌++◌, length, map, filter, Contains, nat_eq, get_or, drop, refl, sym, ◌∙◌, ap, subst, arith, append_assoc}
 use Rattle.std.specs.List.{AllByRecursion, list_any}
-use Rattle.std.proofs.lemmas.Bool.{eqb-true, eqb-false, ne_eqb, eq-eqb}
+use Rattle.std.proofs.lemmas.Bool.{eqb-true, eqb-false, ne_eqb, eq-eqb, or_parts, or_right}
 use Rattle.std.proofs.lemmas.List.{append-nil, map-append, length-append}
-use Rattle.std.proofs.lemmas.List.Elements.{filter-append}
+use Rattle.std.proofs.lemmas.List.Elements.{filter-append, All-from_recursion, recursion_from_All, All-weaker, All-filter, Contains-append_left, Contains-push, Contains-push_cases}
+use Rattle.jc_base.proofs.EachLaws.{all_push}
 use Rattle.jc_exec.specs.declared.hits.ClassHits.{ClassHits}
 use Rattle.jc_exec.specs.declared.session.Session.{Session}
 use Rattle.jc_exec.specs.Format.{Block, header, session, class}
@@ -26,43 +27,11 @@ records-append (class c ∷ bs) more = ap (λ (l : List ClassHits). c ∷ l) (re
 
 -- ---- elements of a list
 
-pub contains_front : {X : Type 0} (xs ys : List X) (x : X) → Contains xs x → Contains (xs ++ ys) x
-contains_front xs ys x c = (c.0, omega (arith, c.1, length-append xs ys), at xs ys x c.0 c.1 ∙ c.2)
-  where
-    at : {X : Type 0} (xs ys : List X) (x : X) (k : ℕ) → k < length xs → get_or (xs ++ ys) k x ≡ get_or xs k x
-    at [] ys x k lt = absurd (omega (arith, lt))
-    at (z ∷ xs) ys x zero lt = refl
-    at (z ∷ xs) ys x (suc k) lt = at xs ys x k (omega (arith, lt))
-
-pub contains_last : {X : Type 0} (xs : List X) (x : X) → Contains (xs ++ x ∷ []) x
-contains_last [] x = (0, omega arith, refl)
-contains_last (y ∷ xs) x = let c = contains_last xs x in (suc c.0, omega (arith, c.1), c.2)
-
-last_or_before : {X : Type 0} {y x : X} (xs : List X) (k : ℕ) → k < length (xs ++ y ∷ []) → get_or (xs ++ y ∷ []) k x ≡ x → Contains xs x ⊎ (y ≡ x)
-last_or_before [] zero lt is = inr is
-last_or_before [] (suc k) lt is = absurd (omega (arith, lt))
-last_or_before (z ∷ xs) zero lt is = inl (0, omega arith, is)
-last_or_before (z ∷ xs) (suc k) lt is = ⊎_elim (λ c. inl (suc c.0, omega (arith, c.1), c.2)) (λ e. inr e) (last_or_before xs k (omega (arith, lt)) is)
-
--- an element of a list with one more is in the list, or is the last
-pub contains_either : {X : Type 0} (xs : List X) (y x : X) → Contains (xs ++ y ∷ []) x → Contains xs x ⊎ (y ≡ x)
-contains_either xs y x c = last_or_before xs c.0 c.1 c.2
-
-pub all_push : {X : Type 0} (P : X → Type 0) (xs : List X) (y : X) → AllByRecursion P xs → P y → AllByRecursion P (xs ++ y ∷ [])
-all_push P [] y a p = (p, tt)
-all_push P (x ∷ xs) y a p = (a.0, all_push P xs y a.1 p)
-
-pub all_map : {X : Type 0} (P Q : X → Type 0) (xs : List X) → ((x : X) → P x → Q x) → AllByRecursion P xs → AllByRecursion Q xs
-all_map P Q [] f a = tt
-all_map P Q (x ∷ xs) f a = (f x a.0, all_map P Q xs f a.1)
+pub all_weaker : {X : Type 0} (P Q : X → Type 0) (xs : List X) → ((x : X) → P x → Q x) → AllByRecursion P xs → AllByRecursion Q xs
+all_weaker P Q xs to all = recursion_from_All Q xs (All-weaker P Q to xs (All-from_recursion P xs all))
 
 pub all_filter : {X : Type 0} (P : X → Type 0) (p : X → Bool) (xs : List X) → AllByRecursion P xs → AllByRecursion P (filter p xs)
-all_filter P p [] a = tt
-all_filter P p (x ∷ xs) a = by (p x) (all_filter P p xs a.1)
-  where
-    by : (b : Bool) → AllByRecursion P (filter p xs) → AllByRecursion P (cond b (x ∷ filter p xs) (filter p xs))
-    by true rest = (a.0, rest)
-    by false rest = rest
+all_filter P p xs all = recursion_from_All P (filter p xs) (All-filter p P xs (All-from_recursion P xs all))
 
 -- ---- numbers where they are first seen
 
@@ -107,14 +76,10 @@ pub new_is_not_among : (id : ℕ) (cs : List ClassHits) → IsNew id cs → amon
 new_is_not_among id [] new = refl
 new_is_not_among id (c ∷ cs) new = let apart : nat_eq c.id id ≡ false = ne_eqb c.id id (λ e. new.0 (sym e)) in rw apart (new_is_not_among id cs new.1)
 
-pub or_false : (a b : Bool) → (a || b) ≡ false → (a ≡ false) × (b ≡ false)
-or_false true b e = absurd cc
-or_false false b e = (refl, e)
-
 not_among_at : (id : ℕ) (cs : List ClassHits) (c : ClassHits) → among id (ids_of cs) ≡ false → (k : ℕ) → k < length cs → get_or cs k c ≡ c → c.id ≡ id → ⊥
 not_among_at id [] c none k lt is same = omega (arith, lt)
-not_among_at id (d ∷ cs) c none zero lt is same = eqb-false d.id id (or_false (nat_eq d.id id) (among id (ids_of cs)) none).0 (ap (λ (x : ClassHits). x.id) is ∙ same)
-not_among_at id (d ∷ cs) c none (suc k) lt is same = not_among_at id cs c (or_false (nat_eq d.id id) (among id (ids_of cs)) none).1 k (omega (arith, lt)) is same
+not_among_at id (d ∷ cs) c none zero lt is same = eqb-false d.id id (or_parts (nat_eq d.id id) (among id (ids_of cs)) none).0 (ap (λ (x : ClassHits). x.id) is ∙ same)
+not_among_at id (d ∷ cs) c none (suc k) lt is same = not_among_at id cs c (or_parts (nat_eq d.id id) (among id (ids_of cs)) none).1 k (omega (arith, lt)) is same
 
 pub not_among : (id : ℕ) (cs : List ClassHits) → among id (ids_of cs) ≡ false → (c : ClassHits) → Contains cs c → c.id ≡ id → ⊥
 not_among id cs none c there same = not_among_at id cs c none there.0 there.1 there.2 same
@@ -128,13 +93,13 @@ new_to_records bs s id u new = sym (among_first_seen (ids_of (records_of bs)) id
 -- a merged record of another id stays
 pub merged_other : (rs : List ClassHits) (r c : ClassHits) → (c.id ≡ r.id → ⊥) → IsMerged rs c → IsMerged (rs ++ r ∷ []) c
 merged_other rs r c apart m = record {
-  agrees = λ x there same. elim (contains_either rs r x there) [
+  agrees = λ x there same. elim (Contains-push_cases rs r x there) [
     | inl before ↦ m.agrees x before same
     | inr last ↦ absurd (apart (sym (ap (λ (y : ClassHits). y.id) last ∙ same)))
   ];
   hits = λ k lt. (
-    λ hit. let some = (m.hits k lt).0 hit in (some.0, contains_front rs (r ∷ []) some.0 some.1, some.2, some.3),
-    λ some. elim (contains_either rs r some.0 some.1) [
+    λ hit. let some = (m.hits k lt).0 hit in (some.0, Contains-append_left rs (r ∷ []) some.0 some.1, some.2, some.3),
+    λ some. elim (Contains-push_cases rs r some.0 some.1) [
       | inl before ↦ (m.hits k lt).1 (some.0, before, some.2, some.3)
       | inr last ↦ absurd (apart (sym (ap (λ (y : ClassHits). y.id) last ∙ some.2)))
     ],
@@ -144,13 +109,13 @@ merged_other rs r c apart m = record {
 -- the first record of an id is merged by itself
 pub merged_first : (rs : List ClassHits) (r : ClassHits) → among r.id (ids_of rs) ≡ false → IsMerged (rs ++ r ∷ []) r
 merged_first rs r none = record {
-  agrees = λ x there same. elim (contains_either rs r x there) [
+  agrees = λ x there same. elim (Contains-push_cases rs r x there) [
     | inl before ↦ absurd (not_among r.id rs none x before same)
     | inr last ↦ subst (λ (y : ClassHits). Agrees y r) last (record { name = refl; count = refl })
   ];
   hits = λ k lt. (
-    λ hit. (r, contains_last rs r, refl, hit),
-    λ some. elim (contains_either rs r some.0 some.1) [
+    λ hit. (r, Contains-push rs r, refl, hit),
+    λ some. elim (Contains-push_cases rs r some.0 some.1) [
       | inl before ↦ absurd (not_among r.id rs none some.0 before some.2)
       | inr last ↦ subst (λ (y : ClassHits). IsHitAt y k) (sym last) some.3
     ],
@@ -243,7 +208,7 @@ pub seen_has_record : (rs : List ClassHits) → AllByRecursion (HasRecord rs) (f
 seen_has_record [] = tt
 seen_has_record (r ∷ rs) = (
   (r, (0, omega arith, refl), refl),
-  all_filter (HasRecord (r ∷ rs)) (λ y. not (nat_eq r.id y)) (first_seen (ids_of rs)) (all_map (HasRecord rs) (HasRecord (r ∷ rs)) (first_seen (ids_of rs)) (has_weaker rs r) (seen_has_record rs)),
+  all_filter (HasRecord (r ∷ rs)) (λ y. not (nat_eq r.id y)) (first_seen (ids_of rs)) (all_weaker (HasRecord rs) (HasRecord (r ∷ rs)) (first_seen (ids_of rs)) (has_weaker rs r) (seen_has_record rs)),
 )
 
 pub one_union : (bs : List Block) (s t : Store) → IsUnion bs s → IsUnion bs t → s ≡ t
@@ -255,10 +220,6 @@ one_union bs s t u v =
     λ i. record { sessions = sessions i; classes = classes i }
 
 -- ---- ids that are there
-
-pub or_later : (a b : Bool) → b ≡ true → (a || b) ≡ true
-or_later true b e = refl
-or_later false b e = e
 
 -- a record of the id is in the union
 pub in_union : (rs cs : List ClassHits) (id : ℕ) → among id (ids_of cs) ≡ true → AllByRecursion (IsMerged rs) cs → (d : ClassHits) × IsMerged rs d × (d.id ≡ id)
@@ -272,7 +233,7 @@ in_union rs (c ∷ cs) id some a = by (nat_eq c.id id) refl some (λ later. in_u
 pub among_there : (rs : List ClassHits) (r : ClassHits) (k : ℕ) → k < length rs → get_or rs k r ≡ r → among r.id (ids_of rs) ≡ true
 among_there [] r k lt is = absurd (omega (arith, lt))
 among_there (x ∷ rs) r zero lt is = rw (eq-eqb x.id r.id (ap (λ (y : ClassHits). y.id) is)) refl
-among_there (x ∷ rs) r (suc k) lt is = or_later (nat_eq x.id r.id) (among r.id (ids_of rs)) (among_there rs r k (omega (arith, lt)) is)
+among_there (x ∷ rs) r (suc k) lt is = or_right (nat_eq x.id r.id) (among r.id (ids_of rs)) (among_there rs r k (omega (arith, lt)) is)
 
 merged_at : (rs cs : List ClassHits) (c : ClassHits) (k : ℕ) → k < length cs → get_or cs k c ≡ c → AllByRecursion (IsMerged rs) cs → AllByRecursion (HasRecord rs) (ids_of cs) → IsMerged rs c × HasRecord rs c.id
 merged_at rs [] c k lt is a b = absurd (omega (arith, lt))

@@ -72,16 +72,16 @@ length_pack (suc n) bits = ap suc (length_pack n (drop 8 bits))
 bit_behind : (b : ℕ) (bytes : List ℕ) (k j : ℕ) → k ≡ 8 + j → bit (b ∷ bytes) k ≡ bit bytes j
 bit_behind b bytes k j e =
     let byte : k / 8 ≡ suc (j / 8) = omega (arith, e) in
-    let place : k % 8 ≡ j % 8 = omega (arith, e) in
+    let same : k % 8 ≡ j % 8 = omega (arith, e) in
     ap (λ (m : ℕ). (slice_index (b ∷ bytes) m / 2 ^ (k % 8)) % 2 == 1) byte
-    ∙ ap (λ (m : ℕ). (slice_index bytes (j / 8) / 2 ^ m) % 2 == 1) place
+    ∙ ap (λ (m : ℕ). (slice_index bytes (j / 8) / 2 ^ m) % 2 == 1) same
 
 bit_first : (b : ℕ) (bytes : List ℕ) (k : ℕ) → k < 8 → bit (b ∷ bytes) k ≡ ((b / 2 ^ k) % 2 == 1)
 bit_first b bytes k lt =
     let byte : k / 8 ≡ 0 = omega (arith, lt) in
-    let place : k % 8 ≡ k = omega (arith, lt) in
+    let same : k % 8 ≡ k = omega (arith, lt) in
     ap (λ (m : ℕ). (slice_index (b ∷ bytes) m / 2 ^ (k % 8)) % 2 == 1) byte
-    ∙ ap (λ (m : ℕ). (b / 2 ^ m) % 2 == 1) place
+    ∙ ap (λ (m : ℕ). (b / 2 ^ m) % 2 == 1) same
 
 bit_packed : (n : ℕ) (bits : List Bool) (k : ℕ) → k < 8 * n → bit (pack n bits) k ≡ get_or bits k false
 bit_packed zero bits k lt = absurd (omega (arith, lt))

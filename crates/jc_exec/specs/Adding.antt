@@ -67,7 +67,9 @@ pub record Gathers (known : Entries) (text : List ℕ) (more : List Session) (fr
 
 -- a block more was put with what was gathered: the union goes on with it
 pub record Keeps (known : Entries) (old new : Added) (b : Block) : Type 0 where
-  pub union : (sessions : List Session) → with_block (store_with sessions known old.sessions.items old.records.entries) b ≡ Some (store_with sessions known new.sessions.items new.records.entries)
+  pub union : (sessions : List Session)
+      → with_block (store_with sessions known old.sessions.items old.records.entries) b
+      ≡ Some (store_with sessions known new.sessions.items new.records.entries)
   pub writable : AllByRecursion IsWritable old.sessions.items → AllByRecursion IsWritable new.sessions.items
   pub keyed : Keyed new.records.entries
 

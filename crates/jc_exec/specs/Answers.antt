@@ -11,7 +11,7 @@ use Rattle.jc_exec.specs.Union.{Agrees}
 
 -- the reason that a refusal says
 abbrev pub why_of : ExecRefusal → Refused
-why_of (BadExec place) = bad_exec place
+why_of (BadExec offset) = bad_exec offset
 why_of (OtherVersion found) = other_version found
 why_of (Conflict id first second first_count second_count) = conflict id first second first_count second_count
 
@@ -40,4 +40,5 @@ conflict_of there hits = conflict hits.id there.name hits.name (length there.bit
 -- why the record is not added to these; want of memory may come at any time
 abbrev pub RefusesRecord : Fail ExecRefusal → List ClassHits → ClassHits → Type 0
 RefusesRecord fails.Memory classes hits = ⊤
-RefusesRecord (fails.Said refusal) classes hits = (there : ClassHits) × IsConflict classes there hits × (why_of refusal ≡ conflict_of there hits)
+RefusesRecord (fails.Said refusal) classes hits =
+    (there : ClassHits) × IsConflict classes there hits × (why_of refusal ≡ conflict_of there hits)

@@ -28,7 +28,7 @@ Fits (Class c) = IsSmall c × IsModified c.name
 
 -- the first block of all is a header
 abbrev pub MayStandAt : ℕ → Block → Type 0
-MayStandAt place b = place ≡ 0 → b ≡ header
+MayStandAt offset b = offset ≡ 0 → b ≡ header
 
 -- the block was read from the front
 pub record Took (old new : Reading) (b : Block) : Type 0 where
@@ -40,8 +40,8 @@ pub record Took (old new : Reading) (b : Block) : Type 0 where
 
 -- what is left is refused for this reason, whatever was read before
 abbrev pub IsUnfit : Reading → Refused → Type 0
-IsUnfit at (bad_exec place) =
-    (place ≡ at.place)
+IsUnfit at (bad_exec offset) =
+    (offset ≡ at.place)
     × ((b : Block) (front more : List ℕ) → at.left ≡ front ++ more → IsBlock front b → MayStandAt at.place b → ⊥)
     × ((found : ℕ) → HasOtherHeader at.left found → ⊥)
 IsUnfit at (other_version found) = HasOtherHeader at.left found
@@ -56,5 +56,5 @@ ReadsFront (Err (fails.Said refusal)) old new = IsUnfit old (why_of refusal)
 -- ---- items that were not read
 
 abbrev pub IsUnread : Fail Unfit → ℕ → Fail ExecRefusal → Type 0
-IsUnread fails.Memory place e = e ≡ fails.Memory
-IsUnread (fails.Said why) place e = e ≡ fails.Said (BadExec place)
+IsUnread fails.Memory offset e = e ≡ fails.Memory
+IsUnread (fails.Said why) offset e = e ≡ fails.Said (BadExec offset)

@@ -9,7 +9,7 @@ use Rattle.jc_exec.specs.Union.{Agrees, IsUnion}
 -- why a block is refused: it is none, or a header of another version, or it names a class whose id is
 -- there with another name or another number of probes (those that are there first, then those of the block)
 pub data Refused : Type 0 where
-  bad_exec : (place : ℕ) → Refused
+  bad_exec : (offset : ℕ) → Refused
   other_version : (found : ℕ) → Refused
   conflict : (id : ℕ) (first second : List ℕ) (first_count second_count : ℕ) → Refused
 
@@ -48,10 +48,11 @@ pub record HasNoBlock (read : List Block) (text : List ℕ) : Type 0 where
 
 -- what stands behind these blocks, at the offset, is refused over the store that they make
 abbrev pub RefusedHere : List Block → Store → ℕ → List ℕ → Refused → Type 0
-RefusedHere read store place text (bad_exec p) = (p ≡ place) × HasNoBlock read text
-RefusedHere read store place text (other_version found) = HasOtherHeader text found
-RefusedHere read store place text (conflict id first second m n) =
-    (there hits : ClassHits) × HasConflict read store text there hits × (id ≡ hits.id) × (first ≡ there.name) × (second ≡ hits.name) × (m ≡ length there.bits) × (n ≡ length hits.bits)
+RefusedHere read store offset text (bad_exec p) = (p ≡ offset) × HasNoBlock read text
+RefusedHere read store offset text (other_version found) = HasOtherHeader text found
+RefusedHere read store offset text (conflict id first second m n) =
+    (there hits : ClassHits) × HasConflict read store text there hits × (id ≡ hits.id)
+    × (first ≡ there.name) × (second ≡ hits.name) × (m ≡ length there.bits) × (n ≡ length hits.bits)
 
 -- The refusal of the first block of the text that is not taken over the store before: the blocks in front
 -- of it have a union with that store, and it is refused there.

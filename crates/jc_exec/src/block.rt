@@ -173,20 +173,20 @@ fn version(reader: &mut Reader<'_>) -> Result<u16, Fail<Unfit>>
     Ok(0x100 * u16::from(version[0]) + u16::from(version[1]))
 }
 
-/// No block that may stand at the place is in front.
-fn bad(place: u32) -> Fail<ExecRefusal>
-    ensures { result ≡ Fail.Said (ExecRefusal.BadExec place) }
+/// No block that may stand at the offset is in front.
+fn bad(offset: u32) -> Fail<ExecRefusal>
+    ensures { result ≡ Fail.Said (ExecRefusal.BadExec offset) }
 {
-    Fail::Said(ExecRefusal::BadExec { place })
+    Fail::Said(ExecRefusal::BadExec { place: offset })
 }
 
 /// What comes of a block that was not read.
-fn unfit(unread: Fail<Unfit>, place: u32) -> Fail<ExecRefusal>
-    ensures { IsUnread unread place result }
+fn unfit(unread: Fail<Unfit>, offset: u32) -> Fail<ExecRefusal>
+    ensures { IsUnread unread offset result }
 {
     match unread {
         Fail::Memory => Fail::Memory,
-        Fail::Said(Unfit) => bad(place),
+        Fail::Said(Unfit) => bad(offset),
     }
 }
 
@@ -195,10 +195,10 @@ fn header(reader: &mut Reader<'_>) -> Result<Front, Fail<ExecRefusal>>
     requires { slice_index reader.old.left 0 ≡ 0x01 }
     ensures { ReadsFront result reader.old reader.new }
 {
-    let place = reader.place();
+    let offset = reader.place();
     let found = match version(reader) {
         Ok(found) => found,
-        Err(unread) => return Err(unfit(unread, place)),
+        Err(unread) => return Err(unfit(unread, offset)),
     };
     if found != VERSION {
         return Err(Fail::Said(ExecRefusal::OtherVersion { found }));
@@ -212,13 +212,13 @@ fn session(alloc: Global, reader: &mut Reader<'_>) -> Result<Front, Fail<ExecRef
     requires behind { 0 < reader.old.place }
     ensures { ReadsFront result reader.old reader.new }
 {
-    let place = reader.place();
+    let offset = reader.place();
     let session = match session_parts(alloc, reader) {
         Ok(session) => session,
-        Err(unread) => return Err(unfit(unread, place)),
+        Err(unread) => return Err(unfit(unread, offset)),
     };
     if !is_modified(&session.id) {
-        return Err(bad(place));
+        return Err(bad(offset));
     }
     Ok(Front::Session(session))
 }
@@ -229,13 +229,13 @@ fn class(alloc: Global, reader: &mut Reader<'_>) -> Result<Front, Fail<ExecRefus
     requires behind { 0 < reader.old.place }
     ensures { ReadsFront result reader.old reader.new }
 {
-    let place = reader.place();
+    let offset = reader.place();
     let hits = match class_parts(alloc, reader) {
         Ok(hits) => hits,
-        Err(unread) => return Err(unfit(unread, place)),
+        Err(unread) => return Err(unfit(unread, offset)),
     };
     if !is_modified(&hits.name) {
-        return Err(bad(place));
+        return Err(bad(offset));
     }
     Ok(Front::Class(hits))
 }
@@ -250,12 +250,12 @@ pub fn next_block(
     requires kind { kind ≡ slice_index reader.old.left 0 }
     ensures { ReadsFront result reader.old reader.new }
 {
-    let place = reader.place();
+    let offset = reader.place();
     if kind == HEADER_KIND {
         return header(reader);
     }
-    if place == 0 {
-        return Err(bad(place));
+    if offset == 0 {
+        return Err(bad(offset));
     }
     if kind == SESSION {
         return session(alloc, reader);
@@ -263,5 +263,5 @@ pub fn next_block(
     if kind == CLASS {
         return class(alloc, reader);
     }
-    Err(bad(place))
+    Err(bad(offset))
 }

@@ -1,5 +1,6 @@
 //! The union of execution data.
-ghost use Rattle.std.specs.Prelude.{◌≡◌, ◌≤◌, ◌++◌, [], ◌∷◌, length, List, Contains, IfOk, IfErr, IfSome, IsSomeAnd, IsErrAnd, OnOk, OnErr, MatchResult};
+ghost use Rattle.std.specs.Prelude.{◌≡◌, ◌≤◌, ◌++◌, [], ◌∷◌, length, List, Contains, IfOk, IfErr, IfSome, IsSomeAnd};
+ghost use Rattle.std.specs.Prelude.{IsErrAnd, OnOk, OnErr, MatchResult};
 ghost use Rattle.jc_base.specs.Modified.{IsModified};
 ghost use Rattle.jc_exec.specs.declared.hits.ClassHits.{ClassHits};
 ghost use Rattle.jc_exec.specs.declared.session.Session.{Session};
@@ -105,7 +106,8 @@ impl ExecStore {
         requires text { IsModified hits.now.name }
 
         // A union of some blocks becomes the union of those and the record.
-        ensures union { OnOk result ((blocks : List Block) → IsUnion blocks self.old → IsUnion (blocks ++ class hits.now ∷ []) self.new) }
+        ensures union { OnOk result ((blocks : List Block) → IsUnion blocks self.old
+            → IsUnion (blocks ++ class hits.now ∷ []) self.new) }
         ensures refused { IfErr result (λ e. RefusesRecord e self.old.classes hits.now) }
         ensures refuses { (there : ClassHits) → IsConflict self.old.classes there hits.now
             → IsErrAnd result (SaysOnly (conflict_of there hits.now)) }

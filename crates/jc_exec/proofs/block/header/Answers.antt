@@ -5,8 +5,8 @@ use Rattle.jc_exec.proofs.block.header.Goals as goal
 
 pub returns-in-Err : goal.returns-in-Err
 returns-in-Err c =
-    not_read {X = ℕ} (λ v. v) c.in-Err.unread _ _ c.place-place.result c.unfit.result c.args.reader.now c.version.new.reader c.in-Err.ensures.gives c.unfit.ensures
-    (no_version c.args.reader.now c.place-place.result c.place-place.ensures c.requires)
+    not_read {X = ℕ} (λ v. v) c.in-Err.unread _ _ c.place-offset.result c.unfit.result c.args.reader.now c.version.new.reader c.in-Err.ensures.gives c.unfit.ensures
+    (no_version c.args.reader.now c.place-offset.result c.place-offset.ensures c.requires)
 
 pub returns-then-found-ne-VERSION : goal.returns-then-found-ne-VERSION
 returns-then-found-ne-VERSION c =
