@@ -1,6 +1,7 @@
 //! A slow program for small inputs, straight from the definitions: the union of records, looked
 //! for bit by bit, and the text of records, byte by byte. Tests compare the store with it.
-ghost use Rattle.std.specs.Prelude.{◌≡◌, ◌<◌, ◌^◌, ◌++◌, [], ◌∷◌, length, map, take, drop, false, nat_eq, slice_index_or, IsTrue, IfOk, IfSome, OnOk};
+ghost use Rattle.std.specs.Prelude.{◌≡◌, ◌<◌, ◌^◌, ◌++◌, [], ◌∷◌, length, map, take, drop, false, nat_eq};
+ghost use Rattle.std.specs.Prelude.{slice_index_or, IsTrue, IfOk, IfSome, OnOk};
 ghost use Rattle.std.specs.List.{list_any};
 ghost use Rattle.jc_exec.specs.Format.{class};
 ghost use Rattle.jc_exec.specs.SlowUnion.{some_hit, all_hits, merged_record};
@@ -13,30 +14,30 @@ use jc_base::{Bytes, List};
 use std::alloc::{AllocError, Global};
 
 /// Whether some record of the id has the probe hit.
-fn is_hit_in(records: &[ClassHits], id: u64, place: usize) -> bool
-    ensures { result ≡ some_hit records.now id place }
+fn is_hit_in(records: &[ClassHits], id: u64, index: usize) -> bool
+    ensures { result ≡ some_hit records.now id index }
 {
     records
         .iter()
-        .any(|hits| hits.id == id && bit_at(&hits.bits, place))
+        .any(|hits| hits.id == id && bit_at(&hits.bits, index))
 }
 
-/// The bit at the place, false behind the last.
-fn bit_at(bits: &[bool], place: usize) -> bool
-    ensures { result ≡ slice_index_or bits.now place false }
+/// The bit of this index, false behind the last.
+fn bit_at(bits: &[bool], index: usize) -> bool
+    ensures { result ≡ slice_index_or bits.now index false }
 {
-    place < bits.len() && bits[place]
+    index < bits.len() && bits[index]
 }
 
-/// The byte of the eight bits from the place on.
-fn byte_at(bits: &[bool], place: usize) -> u8
-    requires { place < 2 ^ 32 }
-    ensures { result ≡ low_first (take 8 (drop place bits.now)) }
+/// The byte of the eight bits from this index on.
+fn byte_at(bits: &[bool], index: usize) -> u8
+    requires { index < 2 ^ 32 }
+    ensures { result ≡ low_first (take 8 (drop index bits.now)) }
 {
-    let low = u8::from(bit_at(bits, place)) + 2 * u8::from(bit_at(bits, place + 1));
-    let mid = u8::from(bit_at(bits, place + 2)) + 2 * u8::from(bit_at(bits, place + 3));
-    let high = u8::from(bit_at(bits, place + 4)) + 2 * u8::from(bit_at(bits, place + 5));
-    let top = u8::from(bit_at(bits, place + 6)) + 2 * u8::from(bit_at(bits, place + 7));
+    let low = u8::from(bit_at(bits, index)) + 2 * u8::from(bit_at(bits, index + 1));
+    let mid = u8::from(bit_at(bits, index + 2)) + 2 * u8::from(bit_at(bits, index + 3));
+    let high = u8::from(bit_at(bits, index + 4)) + 2 * u8::from(bit_at(bits, index + 5));
+    let top = u8::from(bit_at(bits, index + 6)) + 2 * u8::from(bit_at(bits, index + 7));
     low + 4 * mid + 16 * high + 64 * top
 }
 
@@ -134,8 +135,8 @@ fn union_bits(
     ensures { IfOk result (λ bits. bits ≡ all_hits records.now id count) }
 {
     let mut bits = Vec::new(alloc);
-    'looking: for place in 0..count {
-        bits.push(is_hit_in(records, id, place))?;
+    'looking: for index in 0..count {
+        bits.push(is_hit_in(records, id, index))?;
     }
     Ok(List::from_vec(bits))
 }

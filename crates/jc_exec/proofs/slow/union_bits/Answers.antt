@@ -9,4 +9,4 @@ pub looking-preserved : goal.looking-preserved
 looking-preserved c =
     c.in_ok-push.ensures.items
     ∙ (λ j. c.looking.invariant j ++ c.is_hit_in.ensures j ∷ [])
-    ∙ sym (all_hits_more c.args.records.now c.args.id c.looking.place)
+    ∙ sym (all_hits_more c.args.records.now c.args.id c.looking.index)

@@ -4,4 +4,4 @@ use Rattle.jc_exec.proofs.slow.union_bits.Given as goal
 
 -- the bits so far
 abbrev pub invariant-looking : goal.invariant-looking
-invariant-looking l = l.bits.items ≡ all_hits l.fn.records l.id l.place
+invariant-looking l = l.bits.items ≡ all_hits l.fn.records l.id l.index
