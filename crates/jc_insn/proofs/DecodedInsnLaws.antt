@@ -2,6 +2,7 @@
 use Rattle.std.proofs.Common.{◌≡◌, ℕ, suc, ◌+◌, ◌<◌, ◌≤◌, List, [], ◌∷◌, length, get_or, All, cond, nat_eq, Bool, true, false, refl, sym, ◌∙◌, ap, subst, arith, length-append, zero}
 use Rattle.std.proofs.lemmas.List.{length-map}
 use Rattle.std.proofs.lemmas.List.Elements.{All-map, All-nil, All-cons}
+use Rattle.jc_base.specs.Outside.{most_read}
 use Rattle.jc_base.specs.declared.insn.Insn.{Insn}
 use Rattle.jc_base.specs.declared.insn.Insn.TheVariants as insns
 use Rattle.jc_base.specs.Insn.{IsWellFormed, arm_count, with_places, arm_with_place}
@@ -51,16 +52,16 @@ same_arms f insn = refl
 at_most : (n : ℕ) (xs : List ℕ) → All (λ x. x < n + 1) xs → All (λ x. x ≤ n) xs
 at_most n xs all k d below = let h = all k d below in omega (arith, h)
 
-among : (count : ℕ) (starts : List ℕ) (insn : Insn) → length starts ≡ count + 1 → IsSpelledIn 67108864 insn
+among : (count : ℕ) (starts : List ℕ) (insn : Insn) → length starts ≡ count + 1 → IsSpelledIn most_read insn
     → IsInsnAmong count (with_places (insn_number starts) insn)
 among count starts insn long is = record {
   well_formed = well_formed_with (insn_number starts) insn is.well_formed;
-  few = subst (λ (n : ℕ). n ≤ 67108864) (sym (same_arms (insn_number starts) insn)) is.few;
+  few = subst (λ (n : ℕ). n ≤ most_read) (sym (same_arms (insn_number starts) insn)) is.few;
   places = at_most count (targets_of (with_places (insn_number starts) insn))
       (targets_fit (insn_number starts) (count + 1) insn (λ k. let h = number_below starts k (omega (arith, long)) in omega (arith, h, long)));
 }
 
-pub all_among : (bytes : List ℕ) (code : List Insn) (starts : List ℕ) → length bytes ≤ 67108864 → Spells bytes code starts
+pub all_among : (bytes : List ℕ) (code : List Insn) (starts : List ℕ) → length bytes ≤ most_read → Spells bytes code starts
     → All (IsInsnAmong (length code)) code
 all_among bytes code starts few s =
     let count : length code ≡ length s.spelled = ap length s.places ∙ length-map s.spelled (with_places (insn_number starts)) in
@@ -68,7 +69,7 @@ all_among bytes code starts few s =
     subst (All (IsInsnAmong (length code))) (sym s.places)
     (All-map (IsInsnAmong (length code)) (with_places (insn_number starts)) s.spelled
     (λ k d below. among (length code) starts (get_or s.spelled k d) (omega (arith, count, long))
-    (each_spelled 67108864 0 bytes s.spelled starts s.text few k d below)))
+    (each_spelled most_read 0 bytes s.spelled starts s.text few k d below)))
 
 -- ---- where the instructions begin
 

@@ -29,7 +29,7 @@ spelled_size at bytes (insn ∷ code) starts (text, rest, later, parts, starts_i
     let both = length-append text rest in
     omega (arith, all, first, behind, long, both)
 
--- places in place of offsets change no count
+-- numbers in place of offsets change no count
 with_places_count : (f : ℕ → ℕ) (code : List Insn) → insns_and_arms (map (with_places f) code) ≡ insns_and_arms code
 with_places_count f [] = refl
 with_places_count f (insn ∷ code) =

@@ -3,6 +3,7 @@ use Rattle.std.proofs.Common.{◌≡◌, ◌⊎◌, ℕ, zero, suc, ◌+◌, ◌
 use Rattle.std.specs.Prelude.{slice_index}
 use Rattle.std.specs.List.{flat_map}
 use Rattle.std.proofs.lemmas.Bool.{ne_eqb}
+use Rattle.jc_base.specs.Opcode as opcode
 use Rattle.jc_base.specs.declared.form.Form.TheVariants as forms
 use Rattle.jc_base.specs.InsnForm.{form_of}
 use Rattle.std.specs.Prelude.{ℤ, FitsSigned}
@@ -20,8 +21,8 @@ use Rattle.jc_base.specs.declared.insn.Arm.{Arm}
 use Rattle.jc_base.proofs.InsnFormLaws.{jump_codes, local_codes}
 
 -- a jump that isn't goto is a conditional one
-pub jump_tests : (op : ℕ) → form_of op ≡ forms.Jump → (op ≡ 167 → ⊥) → is_test op ≡ true
-jump_tests op is other = by (nat_eq op 167) (is_test op) (ne_eqb op 167 other) (jump_codes op is)
+pub jump_tests : (op : ℕ) → form_of op ≡ forms.Jump → (op ≡ opcode.goto → ⊥) → is_test op ≡ true
+jump_tests op is other = by (nat_eq op opcode.goto) (is_test op) (ne_eqb op opcode.goto other) (jump_codes op is)
   where
     by : (a b : Bool) → a ≡ false → (a || b) ≡ true → b ≡ true
     by false b differs e = e
@@ -57,7 +58,7 @@ lookup_places P insn default arms seen is seen_is all =
         (subst (λ (i : Insn). All P (targets_of i)) is all) in
         subst P (get_or-map (λ (a : Arm). a.to) arms k d d.to below) (behind k d.to (omega (arith, length-map arms (λ (a : Arm). a.to), below)))
 
-pub local_of : (insn : Insn) (op slot : ℕ) → insn ≡ insns.Local op slot → IsWellFormed insn → ((21 ≤ op) × (op ≤ 25)) ⊎ ((54 ≤ op) × (op ≤ 58))
+pub local_of : (insn : Insn) (op slot : ℕ) → insn ≡ insns.Local op slot → IsWellFormed insn → ((opcode.iload ≤ op) × (op ≤ opcode.aload)) ⊎ ((opcode.istore ≤ op) × (op ≤ opcode.astore))
 local_of insn op slot is well = local_codes op (subst IsWellFormed is well)
 
 -- one instruction more

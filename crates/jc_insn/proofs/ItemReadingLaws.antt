@@ -3,6 +3,7 @@ use Rattle.std.proofs.Common.{◌≡◌, ℕ, ◌*◌, ◌&&◌, List, ◌++◌,
 use Rattle.std.specs.Prelude.{int_le}
 use Rattle.std.proofs.lemmas.List.{append_cancel_right}
 use Rattle.std.specs.Int.{w8, w16, w32, cast_signed}
+use Rattle.jc_base.specs.Opcode as opcode
 use Rattle.jc_base.specs.Decoder.{◌>>=◌, byte_at, number_at}
 use Rattle.jc_base.specs.declared.form.Form.{Form}
 use Rattle.jc_base.specs.declared.form.Form.TheVariants as forms
@@ -13,7 +14,7 @@ use Rattle.jc_base.proofs.DecoderLaws.{some_is}
 use Rattle.jc_insn.specs.declared.item.Item.{Item}
 use Rattle.jc_insn.specs.declared.item.Item.TheVariants as items
 use Rattle.jc_insn.specs.Fields.{nothing, byte, piece, Then}
-use Rattle.jc_insn.specs.Items.{number, padding, key_count, target_of, places_in, arms_in, ascending, short_load, short_store, table_operands, lookup_operands, wide_operands, operands, IsItem}
+use Rattle.jc_insn.specs.Items.{number, padding, key_count, target_of, offsets_in, arms_in, ascending, short_load, short_store, table_operands, lookup_operands, wide_operands, operands, IsItem}
 use Rattle.jc_insn.specs.Reading.{piece_at, push_byte_at, push_short_at, constant_byte_at, constant_short_at, constant2_at, local_at, inc_at, jump_at, wide_jump_at, table_at, lookup_at, member_at, interface_at, dynamic_at, of_class_at, new_array_at, multi_at, wide_local_at, wide_inc_at, wide_operands_at, wide_at, operands_at, item_at}
 use Rattle.jc_insn.proofs.FieldReadingLaws.{IsReadBy, reads_nothing, reads_byte, reads_number, reads_piece, reads_then, reads_if, reads_none}
 
@@ -35,7 +36,7 @@ reads_table at =
     (reads_then (piece (4 * key_count (cast_signed w32 low) (cast_signed w32 high))) _
     (piece_at (4 * key_count (cast_signed w32 low) (cast_signed w32 high))) _
     (reads_piece (4 * key_count (cast_signed w32 low) (cast_signed w32 high))) (λ arms.
-    reads_nothing (items.Insn (insns.Table (cast_signed w32 low) (target_of at (cast_signed w32 default)) (places_in at arms)))))))))
+    reads_nothing (items.Insn (insns.Table (cast_signed w32 low) (target_of at (cast_signed w32 default)) (offsets_in at arms)))))))))
 
 reads_lookup : (at : ℕ) → IsReadBy (lookup_operands at) (lookup_at at)
 unfolding lookup_operands lookup_at
@@ -53,7 +54,7 @@ unfolding wide_operands wide_operands_at wide_local_at wide_inc_at
 reads_wide_operands forms.Local op = one_number 2 (λ slot. items.Insn (insns.Local op slot))
 reads_wide_operands forms.Inc op = reads_then (number 2) _ (number_at 2) _ (reads_number 2)
     (λ slot. one_number 2 (λ by. items.Insn (insns.Inc slot (cast_signed w16 by))))
-reads_wide_operands forms.Subroutine op = reads_if (nat_eq op 169) _ _ (reads_nothing items.Subroutine)
+reads_wide_operands forms.Subroutine op = reads_if (nat_eq op opcode.ret) _ _ (reads_nothing items.Subroutine)
 reads_wide_operands form op = reads_none
 
 reads_operands : (at : ℕ) (form : Form) (op : ℕ) → IsReadBy (operands at form op) (operands_at at form op)
@@ -70,7 +71,7 @@ reads_operands at forms.ShortLoad op = reads_nothing (short_load op)
 reads_operands at forms.ShortStore op = reads_nothing (short_store op)
 reads_operands at forms.Inc op = reads_then byte _ byte_at _ reads_byte (λ slot. one_byte (λ by. items.Insn (insns.Inc slot (cast_signed w8 by))))
 reads_operands at forms.Jump op = one_number 2 (λ difference. items.Insn (insns.Jump op (target_of at (cast_signed w16 difference))))
-reads_operands at forms.WideJump op = one_number 4 (λ difference. items.Insn (insns.Jump 167 (target_of at (cast_signed w32 difference))))
+reads_operands at forms.WideJump op = one_number 4 (λ difference. items.Insn (insns.Jump opcode.goto (target_of at (cast_signed w32 difference))))
 reads_operands at forms.Subroutine op = reads_nothing items.Subroutine
 reads_operands at forms.Table op = reads_table at
 reads_operands at forms.Lookup op = reads_lookup at

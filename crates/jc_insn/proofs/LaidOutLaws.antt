@@ -9,7 +9,7 @@ use Rattle.jc_base.specs.Insn.{IsWellFormed, with_places}
 use Rattle.jc_base.specs.Flow.{targets_of}
 use Rattle.jc_insn.specs.Sizes.{StartAt}
 use Rattle.jc_insn.specs.Writing.{IsInRange}
-use Rattle.jc_insn.proofs.InsnTextsLaws.{Fits}
+use Rattle.jc_insn.proofs.ShortestSpellingLaws.{Fits}
 use Rattle.jc_insn.proofs.SizeSumsLaws.{below_last}
 use Rattle.jc_insn.proofs.PlacesLaws.{well_formed_with, in_range_with, targets_fit}
 

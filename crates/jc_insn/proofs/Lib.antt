@@ -5,10 +5,10 @@ pub mod CodeReadingLaws
 pub mod OneReadingLaws
 pub mod InsnWritingLaws
 pub mod SizeSumsLaws
-pub mod NumberTextsLaws
-pub mod FieldTextsLaws
-pub mod SwitchTextsLaws
-pub mod InsnTextsLaws
+pub mod ReadBackLaws
+pub mod OperandsSpelledLaws
+pub mod SwitchesSpelledLaws
+pub mod ShortestSpellingLaws
 pub mod TextSizesLaws
 pub mod PlacesLaws
 pub mod LaidOutLaws

@@ -72,16 +72,16 @@ no_fault_at_end at bytes kinds.Subroutine none (text, rest, parts, is) = no_byte
 no_fault_at_end at bytes kinds.BadCode none fault = fault.some none
 no_fault_at_end at bytes kind none fault = absurd fault
 
-pub never_both : (at : ℕ) (bytes : List ℕ) (code code' : List Insn) (starts : List ℕ) (kind : RefusalKind) (place : ℕ) → SpellsFrom at bytes code starts
-    → FaultBehind at bytes code' kind place → ⊥
-never_both at bytes [] [] starts kind place s f = no_fault_at_end at bytes kind s.0 f.1
-never_both at bytes [] (insn ∷ code') starts kind place s (text, rest, parts, is, more) = no_bytes at bytes text rest (items.Insn insn) s.0 parts is
-never_both at bytes (insn ∷ code) [] starts kind place (text, rest, later, parts, starts_is, is, more) f = no_fault at bytes text rest insn kind parts is f.1
-never_both at bytes (insn ∷ code) (insn' ∷ code') starts kind place (text, rest, later, parts, starts_is, is, more) (text', rest', parts', is', more') =
+pub never_both : (at : ℕ) (bytes : List ℕ) (code code' : List Insn) (starts : List ℕ) (kind : RefusalKind) (offset : ℕ) → SpellsFrom at bytes code starts
+    → FaultBehind at bytes code' kind offset → ⊥
+never_both at bytes [] [] starts kind offset s f = no_fault_at_end at bytes kind s.0 f.1
+never_both at bytes [] (insn ∷ code') starts kind offset s (text, rest, parts, is, more) = no_bytes at bytes text rest (items.Insn insn) s.0 parts is
+never_both at bytes (insn ∷ code) [] starts kind offset (text, rest, later, parts, starts_is, is, more) f = no_fault at bytes text rest insn kind parts is f.1
+never_both at bytes (insn ∷ code) (insn' ∷ code') starts kind offset (text, rest, later, parts, starts_is, is, more) (text', rest', parts', is', more') =
     let same = same_front at bytes text text' rest rest' (items.Insn insn) (items.Insn insn') parts parts' is is' in
-    let moved : FaultBehind (at + length text) rest code' kind place = subst (λ (t : List ℕ). FaultBehind (at + length t) rest code' kind place)
-    (sym same.text_is) (subst (λ (r : List ℕ). FaultBehind (at + length text') r code' kind place) (sym same.rest_is) more') in
-    never_both (at + length text) rest code code' later kind place more moved
+    let moved : FaultBehind (at + length text) rest code' kind offset = subst (λ (t : List ℕ). FaultBehind (at + length t) rest code' kind offset)
+    (sym same.text_is) (subst (λ (r : List ℕ). FaultBehind (at + length text') r code' kind offset) (sym same.rest_is) more') in
+    never_both (at + length text) rest code code' later kind offset more moved
 
 same_kind : (at : ℕ) (bytes : List ℕ) (kind kind' : RefusalKind) → IsFault at bytes kind → IsFault at bytes kind' → kind ≡ kind'
 same_kind at bytes kinds.Subroutine kinds.Subroutine f g = refl
@@ -92,16 +92,16 @@ same_kind at bytes kinds.Subroutine kind' f g = absurd g
 same_kind at bytes kinds.BadCode kind' f g = absurd g
 same_kind at bytes kind kind' f g = absurd f
 
-pub same_fault : (at : ℕ) (bytes : List ℕ) (code code' : List Insn) (kind kind' : RefusalKind) (place place' : ℕ) → FaultBehind at bytes code kind place
-    → FaultBehind at bytes code' kind' place' → (kind ≡ kind') × (place ≡ place')
-same_fault at bytes [] [] kind kind' place place' f g = (same_kind at bytes kind kind' f.1 g.1, f.0 ∙ sym g.0)
-same_fault at bytes [] (insn ∷ code') kind kind' place place' f (text, rest, parts, is, more) = absurd (no_fault at bytes text rest insn kind parts is f.1)
-same_fault at bytes (insn ∷ code) [] kind kind' place place' (text, rest, parts, is, more) g = absurd (no_fault at bytes text rest insn kind' parts is g.1)
-same_fault at bytes (insn ∷ code) (insn' ∷ code') kind kind' place place' (text, rest, parts, is, more) (text', rest', parts', is', more') =
+pub same_fault : (at : ℕ) (bytes : List ℕ) (code code' : List Insn) (kind kind' : RefusalKind) (offset offset' : ℕ) → FaultBehind at bytes code kind offset
+    → FaultBehind at bytes code' kind' offset' → (kind ≡ kind') × (offset ≡ offset')
+same_fault at bytes [] [] kind kind' offset offset' f g = (same_kind at bytes kind kind' f.1 g.1, f.0 ∙ sym g.0)
+same_fault at bytes [] (insn ∷ code') kind kind' offset offset' f (text, rest, parts, is, more) = absurd (no_fault at bytes text rest insn kind parts is f.1)
+same_fault at bytes (insn ∷ code) [] kind kind' offset offset' (text, rest, parts, is, more) g = absurd (no_fault at bytes text rest insn kind' parts is g.1)
+same_fault at bytes (insn ∷ code) (insn' ∷ code') kind kind' offset offset' (text, rest, parts, is, more) (text', rest', parts', is', more') =
     let same = same_front at bytes text text' rest rest' (items.Insn insn) (items.Insn insn') parts parts' is is' in
-    let moved : FaultBehind (at + length text) rest code' kind' place' = subst (λ (t : List ℕ). FaultBehind (at + length t) rest code' kind' place')
-    (sym same.text_is) (subst (λ (r : List ℕ). FaultBehind (at + length text') r code' kind' place') (sym same.rest_is) more') in
-    same_fault (at + length text) rest code code' kind kind' place place' more moved
+    let moved : FaultBehind (at + length text) rest code' kind' offset' = subst (λ (t : List ℕ). FaultBehind (at + length t) rest code' kind' offset')
+    (sym same.text_is) (subst (λ (r : List ℕ). FaultBehind (at + length text') r code' kind' offset') (sym same.rest_is) more') in
+    same_fault (at + length text) rest code code' kind kind' offset offset' more moved
 
 -- ---- numbers in place of offsets
 

@@ -16,8 +16,8 @@ use Rattle.jc_base.specs.Flow.{targets_of, inverse_of}
 use Rattle.jc_insn.specs.Items.{padding}
 use Rattle.jc_insn.specs.Sizes.{size_of, push_size, is_narrow_inc}
 use Rattle.jc_insn.specs.Writing.{short, word, signed_byte, signed_short, difference, push_text, local_text, inc_text, constant_text, pad_text, arm_text, last_key, table_text, lookup_text, jump_text, insn_text, IsInRange}
-use Rattle.jc_insn.proofs.NumberTextsLaws.{short_size, word_size}
-use Rattle.jc_insn.proofs.SwitchTextsLaws.{pad_length, places_length, arms_length}
+use Rattle.jc_insn.proofs.ReadBackLaws.{short_size, word_size}
+use Rattle.jc_insn.proofs.SwitchesSpelledLaws.{pad_length, offsets_length, arms_length}
 
 ascending_map : (f : ℕ → ℕ) (arms : List Arm) → IsAscending arms → IsAscending (map (arm_with_place f) arms)
 ascending_map f [] up = tt

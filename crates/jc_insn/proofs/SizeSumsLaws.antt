@@ -1,6 +1,7 @@
 -- Offsets that are the sums of sizes.
 use Rattle.std.proofs.Common.{◌≡◌, ◌≢◌, ℕ, zero, suc, ◌+◌, ◌<◌, ◌≤◌, Bool, true, false, cond, List, [], ◌∷◌, length, get_or, nat_eq, nat_lt, refl, ◌∙◌, ap, arith}
 use Rattle.std.proofs.lemmas.Bool.{eq-eqb, ne_eqb}
+use Rattle.jc_base.specs.Opcode as opcode
 use Rattle.jc_base.specs.declared.form.Form.{Form}
 use Rattle.jc_base.specs.declared.form.Form.TheVariants as forms
 use Rattle.jc_base.specs.InsnForm.{form_of}
@@ -31,7 +32,7 @@ some_size at wide (insns.Dynamic place) = omega arith
 some_size at wide (insns.OfClass op place) = omega arith
 some_size at wide (insns.NewArray elem) = omega arith
 some_size at wide (insns.Multi place dims) = omega arith
-some_size at wide (insns.Jump op to) = some_of wide _ 3 (some_of (nat_eq op 167) 5 8 (omega arith) (omega arith)) (omega arith)
+some_size at wide (insns.Jump op to) = some_of wide _ 3 (some_of (nat_eq op opcode.goto) 5 8 (omega arith) (omega arith)) (omega arith)
 some_size at wide (insns.Table low default arms) = omega arith
 some_size at wide (insns.Lookup default arms) = omega arith
 

@@ -4,8 +4,9 @@ use Rattle.std.specs.Prelude.{int_lt, unsigned_abs, ◌+ℤ◌, ◌-ℤ◌, ◌�
 use Rattle.std.specs.Int.{cast_signed}
 use Rattle.std.specs.Int.Signed.{lt_z_yes}
 use Rattle.std.proofs.lemmas.Int.{ints}
-use Rattle.std.proofs.lemmas.Bool.{lt-ltb, ltb-true, ltb-false}
+use Rattle.std.proofs.lemmas.Bool.{and_parts, lt-ltb, ltb-true, ltb-false}
 use Rattle.std.proofs.lemmas.Bool.Decides.{nat_tests}
+use Rattle.jc_base.specs.Opcode as opcode
 use Rattle.jc_base.specs.declared.form.Form.{Form}
 use Rattle.jc_base.specs.declared.form.Form.TheVariants as forms
 use Rattle.jc_base.specs.InsnForm.{form_of}
@@ -16,11 +17,11 @@ use Rattle.jc_base.specs.declared.insn.Arm.{Arm}
 use Rattle.jc_base.specs.Insn.{IsWellFormed, IsAscending, arm_count}
 use Rattle.jc_insn.specs.declared.item.Item.TheVariants as items
 use Rattle.jc_insn.specs.Fields.{nothing, byte, piece, Then, only_if}
-use Rattle.jc_insn.specs.Items.{number, padding, key_count, target_of, in_pieces, place_in, places_in, arm_in, arms_in, ascending, table_operands, lookup_operands, wide_operands, operands, IsItem}
+use Rattle.jc_insn.specs.Items.{number, padding, key_count, target_of, in_pieces, offset_in, offsets_in, arm_in, arms_in, ascending, table_operands, lookup_operands, wide_operands, operands, IsItem}
 use Rattle.jc_insn.specs.Sizes.{size_of, push_size, local_size, is_narrow_inc, IsLeast, IsJump}
 use Rattle.jc_insn.proofs.TextSizesLaws.{same_size}
 use Rattle.jc_insn.proofs.ItemReadingLaws.{insn_is, not_subroutine}
-use Rattle.jc_insn.proofs.FieldTextsLaws.{true_test, both_true, le_true, true_le}
+use Rattle.jc_insn.proofs.OperandsSpelledLaws.{true_test, le_true, true_le}
 
 -- what is known of an instruction behind whose opcode these bytes stand
 pub record Facts (at : ℕ) (rest : List ℕ) (insn : Insn) : Type 0 where
@@ -100,7 +101,7 @@ ascending_is : (arms : List Arm) → ascending arms ≡ true → IsAscending arm
 ascending_is [] e = tt
 ascending_is (a ∷ []) e = tt
 ascending_is (a ∷ b ∷ arms) e =
-    let both = both_true (int_lt a.key b.key) (ascending (b ∷ arms)) e in
+    let both = and_parts (int_lt a.key b.key) (ascending (b ∷ arms)) e in
     (lt_z_yes (true_test (int_lt a.key b.key) both.0), ascending_is (b ∷ arms) both.1)
 
 keys_end : (low high : ℤ) → low ≤ℤ high → high ≤ℤ pos 2147483647 → (low +ℤ pos (key_count low high)) ≤ℤ pos 2147483648
@@ -149,7 +150,7 @@ wide_facts at forms.Subroutine op rest insn is t = absurd (not_subroutine insn t
 wide_facts at form op rest insn is t = absurd t
 
 table_facts : (at : ℕ) (rest : List ℕ) (insn : Insn) → table_operands at rest (items.Insn insn) → Facts at rest insn
-unfolding table_operands places_in
+unfolding table_operands offsets_in
 table_facts at rest insn t =
     let pad = after_piece (padding at) _ rest (items.Insn insn) t in
     let default = after_number 4 _ t.rest (items.Insn insn) t.behind in
@@ -161,8 +162,8 @@ table_facts at rest insn t =
     let tested = t.behind.behind.behind.behind in
     let words = after_piece (4 * count) _ t.behind.behind.behind.rest (items.Insn insn) tested.1 in
     let end = no_bytes tested.1.rest tested.1.behind.0 in
-    let arms = places_in at tested.1.value in
-    let arms_count : length arms ≡ count = length_in_pieces 4 (place_in at) (length tested.1.value / 4) tested.1.value ∙ omega (arith, words.1) in
+    let arms = offsets_in at tested.1.value in
+    let arms_count : length arms ≡ count = length_in_pieces 4 (offset_in at) (length tested.1.value / 4) tested.1.value ∙ omega (arith, words.1) in
     let up : l ≤ℤ h = true_le l h tested.0 in
     let fits : (l +ℤ pos (length arms)) ≤ℤ pos 2147483648 = subst (λ (n : ℕ). (l +ℤ pos n) ≤ℤ pos 2147483648) (sym arms_count)
     (keys_end l h up (signed_word_range t.behind.behind.behind.value)) in
@@ -211,13 +212,13 @@ facts at forms.ConstantShort op rest insn is t = of_number at 2 (λ v. insns.Con
 facts at forms.Constant2 op rest insn is t = of_number at 2 (λ v. insns.Constant2 v) rest insn t (λ v. tt) (λ v. refl) (λ v. omega arith)
 facts at forms.Local op rest insn is t = of_byte at (λ v. insns.Local op v) rest insn t (λ v. is) (λ v. refl) (λ v small. local_in_byte v small)
 facts at forms.ShortLoad op rest insn is t =
-    let few : (op - 26) % 4 < 4 = omega arith in
-    plain at rest insn (insns.Local (21 + (op - 26) / 4) ((op - 26) % 4)) t.1 (short_load_form op is) refl
-    (λ small. rw (lt-ltb ((op - 26) % 4) 4 few) (omega arith))
+    let few : (op - opcode.iload_0) % 4 < 4 = omega arith in
+    plain at rest insn (insns.Local (opcode.iload + (op - opcode.iload_0) / 4) ((op - opcode.iload_0) % 4)) t.1 (short_load_form op is) refl
+    (λ small. rw (lt-ltb ((op - opcode.iload_0) % 4) 4 few) (omega arith))
 facts at forms.ShortStore op rest insn is t =
-    let few : (op - 59) % 4 < 4 = omega arith in
-    plain at rest insn (insns.Local (54 + (op - 59) / 4) ((op - 59) % 4)) t.1 (short_store_form op is) refl
-    (λ small. rw (lt-ltb ((op - 59) % 4) 4 few) (omega arith))
+    let few : (op - opcode.istore_0) % 4 < 4 = omega arith in
+    plain at rest insn (insns.Local (opcode.istore + (op - opcode.istore_0) / 4) ((op - opcode.istore_0) % 4)) t.1 (short_store_form op is) refl
+    (λ small. rw (lt-ltb ((op - opcode.istore_0) % 4) 4 few) (omega arith))
 facts at forms.Inc op rest insn is t =
     let first = after_byte (λ s. Then byte (λ b. nothing (items.Insn (insns.Inc s (cast_signed w8 b))))) rest (items.Insn insn) t in
     let second = after_byte (λ b. nothing (items.Insn (insns.Inc t.value (cast_signed w8 b)))) t.rest (items.Insn insn) t.behind in
@@ -226,7 +227,7 @@ facts at forms.Inc op rest insn is t =
     (omega (arith, a, b)))
 facts at forms.Jump op rest insn is t = of_number at 2 (λ v. insns.Jump op (target_of at (cast_signed w16 v))) rest insn t (λ v. is) (λ v. refl)
     (λ v. omega arith)
-facts at forms.WideJump op rest insn is t = of_number at 4 (λ v. insns.Jump 167 (target_of at (cast_signed w32 v))) rest insn t
+facts at forms.WideJump op rest insn is t = of_number at 4 (λ v. insns.Jump opcode.goto (target_of at (cast_signed w32 v))) rest insn t
     (λ v. let rows = named_forms in rows.4) (λ v. refl) (λ v. omega arith)
 facts at forms.Subroutine op rest insn is t = absurd (not_subroutine insn t.1)
 facts at forms.Table op rest insn is t = table_facts at rest insn t

@@ -11,7 +11,7 @@ use Rattle.jc_insn.specs.Spells.{SpellsFrom, Spells}
 use Rattle.jc_insn.specs.Sizes.{size_of, StartAt}
 use Rattle.jc_insn.specs.Layouts.{AppendsSpelling}
 use Rattle.jc_insn.specs.Writing.{insn_text, code_text, AllNear}
-use Rattle.jc_insn.proofs.InsnTextsLaws.{near_text_is}
+use Rattle.jc_insn.proofs.ShortestSpellingLaws.{near_text_is}
 use Rattle.jc_insn.proofs.SizeSumsLaws.{number_of_start}
 use Rattle.jc_insn.proofs.TextSizesLaws.{text_size, same_size}
 use Rattle.jc_insn.proofs.PlacesLaws.{code_back}

@@ -5,6 +5,7 @@ use Rattle.std.specs.Int.{cast_signed}
 use Rattle.std.proofs.lemmas.List.{map-append, get_or_default}
 use Rattle.std.proofs.lemmas.List.Elements.{All-tail}
 use Rattle.std.proofs.lemmas.Bool.{eq-eqb, eqb-true, eqb-false}
+use Rattle.jc_base.specs.Opcode as opcode
 use Rattle.jc_base.specs.declared.form.Form.TheVariants as forms
 use Rattle.jc_base.specs.InsnForm.{form_of}
 use Rattle.jc_base.proofs.InsnFormLaws.{named_forms, inverse_form, test_below}
@@ -24,9 +25,9 @@ use Rattle.jc_insn.specs.Sizes.{size_of, StartAt}
 use Rattle.jc_insn.specs.Layouts.{wide_starts_by, wide_starts}
 use Rattle.jc_insn.specs.Writing.{short, word, difference, insn_text, code_text}
 use Rattle.jc_insn.proofs.InsnWritingLaws.{jump_tests}
-use Rattle.jc_insn.proofs.NumberTextsLaws.{short_size, word_size, big_short, big_word, word_target}
-use Rattle.jc_insn.proofs.FieldTextsLaws.{item_of, one_number}
-use Rattle.jc_insn.proofs.InsnTextsLaws.{Fits, text_is}
+use Rattle.jc_insn.proofs.ReadBackLaws.{short_size, word_size, big_short, big_word, word_target}
+use Rattle.jc_insn.proofs.OperandsSpelledLaws.{item_of, one_number}
+use Rattle.jc_insn.proofs.ShortestSpellingLaws.{Fits, text_is}
 use Rattle.jc_insn.proofs.SizeSumsLaws.{some_size, first_start, above_first, count_starts, step_in, first_number}
 use Rattle.jc_insn.proofs.TextSizesLaws.{text_size, same_size}
 use Rattle.jc_insn.proofs.PlacesLaws.{places_both}
@@ -45,7 +46,7 @@ simple_is_no_test op e = not_simple (is_return op) (nat_eq op 191) e
 -- a conditional jump takes eight bytes
 test_size : (at : ℕ) (insn : Insn) → flow_of insn ≡ flows.Tests → size_of at true insn ≡ 8
 test_size at (insns.Simple op) e = absurd (simple_is_no_test op e)
-test_size at (insns.Jump op to) e = by (nat_eq op 167) e
+test_size at (insns.Jump op to) e = by (nat_eq op opcode.goto) e
   where
     by : (b : Bool) → cond b flows.Jumps flows.Tests ≡ flows.Tests → ◌≡◌ {A = ℕ} (cond b 5 8) 8
     by true e = absurd cc
@@ -144,7 +145,7 @@ wide_start (insn ∷ code) (start ∷ starts) long (suc k) le = by (flow_of insn
 -- What is read back of an instruction at this offset: a conditional jump is two instructions, its inverse that leads
 -- past the second one, and goto. Places are offsets.
 abbrev spelled_as : ℕ → Insn → List Insn
-spelled_as at (insns.Jump op to) = cond (nat_eq op 167) (insns.Jump op to ∷ []) (insns.Jump (inverse_of op) (at + 8) ∷ insns.Jump 167 to ∷ [])
+spelled_as at (insns.Jump op to) = cond (nat_eq op opcode.goto) (insns.Jump op to ∷ []) (insns.Jump (inverse_of op) (at + 8) ∷ insns.Jump opcode.goto to ∷ [])
 spelled_as at insn = insn ∷ []
 
 abbrev code_as : (ℕ → ℕ) → List Insn → List ℕ → List Insn
@@ -155,13 +156,13 @@ one_more : (at : ℕ) (text rest : List ℕ) (insn : Insn) (code : List Insn) (s
     → SpellsFrom (at + length text) rest code starts → SpellsFrom at (text ++ rest) (insn ∷ code) (at ∷ starts)
 one_more at text rest insn code starts is s = (text, rest, starts, refl, refl, is, s)
 
-goto_is : (at to : ℕ) → at < 4294967296 → to < 4294967296 → IsItem at (200 ∷ word (difference at to)) (items.Insn (insns.Jump 167 to))
+goto_is : (at to : ℕ) → at < 4294967296 → to < 4294967296 → IsItem at (opcode.goto_w ∷ word (difference at to)) (items.Insn (insns.Jump opcode.goto to))
 unfolding operands
 goto_is at to at_fits to_fits =
-    let item = items.Insn (insns.Jump 167 to) in
-    item_of at 200 forms.WideJump (word (difference at to)) item (let rows = named_forms in rows.12)
-    (one_number 4 (λ v. items.Insn (insns.Jump 167 (target_of at (cast_signed w32 v)))) (difference at to) (word (difference at to)) item
-    (big_word (difference at to) (omega arith)) (ap (λ (t : ℕ). items.Insn (insns.Jump 167 t)) (sym (word_target at to at_fits to_fits))))
+    let item = items.Insn (insns.Jump opcode.goto to) in
+    item_of at opcode.goto_w forms.WideJump (word (difference at to)) item (let rows = named_forms in rows.12)
+    (one_number 4 (λ v. items.Insn (insns.Jump opcode.goto (target_of at (cast_signed w32 v)))) (difference at to) (word (difference at to)) item
+    (big_word (difference at to) (omega arith)) (ap (λ (t : ℕ). items.Insn (insns.Jump opcode.goto t)) (sym (word_target at to at_fits to_fits))))
 
 inverse_is : (at op : ℕ) → at ≤ 2147483647 → is_test op ≡ true → IsItem at (inverse_of op ∷ short 8) (items.Insn (insns.Jump (inverse_of op) (at + 8)))
 unfolding operands
@@ -173,39 +174,39 @@ inverse_is at op small test =
     (one_number 2 (λ v. items.Insn (insns.Jump (inverse_of op) (target_of at (cast_signed w16 v)))) 8 (short 8) item (big_short 8 (omega arith))
     (ap (λ (t : ℕ). items.Insn (insns.Jump (inverse_of op) t)) (sym there)))
 
-wide_jump : (at op to : ℕ) (rest : List ℕ) (code : List Insn) (starts : List ℕ) (b : Bool) → nat_eq op 167 ≡ b → at ≤ 2147483647 → form_of op ≡ forms.Jump
+wide_jump : (at op to : ℕ) (rest : List ℕ) (code : List Insn) (starts : List ℕ) (b : Bool) → nat_eq op opcode.goto ≡ b → at ≤ 2147483647 → form_of op ≡ forms.Jump
     → to < 4294967296 → SpellsFrom (at + cond b 5 8) rest code starts
-    → SpellsFrom at (cond b (200 ∷ word (difference at to)) (inverse_of op ∷ short 8 ++ 200 ∷ word (difference (at + 3) to)) ++ rest)
-    (cond b (insns.Jump op to ∷ []) (insns.Jump (inverse_of op) (at + 8) ∷ insns.Jump 167 to ∷ []) ++ code)
+    → SpellsFrom at (cond b (opcode.goto_w ∷ word (difference at to)) (inverse_of op ∷ short 8 ++ opcode.goto_w ∷ word (difference (at + 3) to)) ++ rest)
+    (cond b (insns.Jump op to ∷ []) (insns.Jump (inverse_of op) (at + 8) ∷ insns.Jump opcode.goto to ∷ []) ++ code)
     (wide_starts_by at (cond b flows.Jumps flows.Tests) ++ starts)
 wide_jump at op to rest code starts true is small form to_fits more =
     let size = word_size (difference at to) in
-    let goto : op ≡ 167 = eqb-true op 167 is in
-    one_more at (200 ∷ word (difference at to)) rest (insns.Jump op to) code starts
-    (subst (λ (o : ℕ). IsItem at (200 ∷ word (difference at to)) (items.Insn (insns.Jump o to))) (sym goto) (goto_is at to (omega (arith, small)) to_fits))
+    let goto : op ≡ opcode.goto = eqb-true op opcode.goto is in
+    one_more at (opcode.goto_w ∷ word (difference at to)) rest (insns.Jump op to) code starts
+    (subst (λ (o : ℕ). IsItem at (opcode.goto_w ∷ word (difference at to)) (items.Insn (insns.Jump o to))) (sym goto) (goto_is at to (omega (arith, small)) to_fits))
     (subst (λ (p : ℕ). SpellsFrom p rest code starts) (omega (arith, size)) more)
 wide_jump at op to rest code starts false is small form to_fits more =
-    let test = jump_tests op form (eqb-false op 167 is) in
+    let test = jump_tests op form (eqb-false op opcode.goto is) in
     let first = inverse_of op ∷ short 8 in
-    let second = 200 ∷ word (difference (at + 3) to) in
+    let second = opcode.goto_w ∷ word (difference (at + 3) to) in
     let first_size : length first ≡ 3 = let e = short_size 8 in omega (arith, e) in
     let second_size : length second ≡ 5 = let e = word_size (difference (at + 3) to) in omega (arith, e) in
     let there : at + 3 ≡ at + length first = omega (arith, first_size) in
-    let behind : SpellsFrom (at + 3) (second ++ rest) (insns.Jump 167 to ∷ code) ((at + 3) ∷ starts) =
-    one_more (at + 3) second rest (insns.Jump 167 to) code starts
+    let behind : SpellsFrom (at + 3) (second ++ rest) (insns.Jump opcode.goto to ∷ code) ((at + 3) ∷ starts) =
+    one_more (at + 3) second rest (insns.Jump opcode.goto to) code starts
     (goto_is (at + 3) to (omega (arith, small)) to_fits)
     (subst (λ (p : ℕ). SpellsFrom p rest code starts) (omega (arith, second_size)) more) in
-    let all = insns.Jump (inverse_of op) (at + 8) ∷ insns.Jump 167 to ∷ code in
+    let all = insns.Jump (inverse_of op) (at + 8) ∷ insns.Jump opcode.goto to ∷ code in
     subst (λ (l : List ℕ). SpellsFrom at l all (at ∷ (at + 3) ∷ starts)) (sym (append_assoc first second rest))
-    (one_more at first (second ++ rest) (insns.Jump (inverse_of op) (at + 8)) (insns.Jump 167 to ∷ code) ((at + 3) ∷ starts) (inverse_is at op small test)
-    (subst (λ (p : ℕ). SpellsFrom p (second ++ rest) (insns.Jump 167 to ∷ code) ((at + 3) ∷ starts)) there behind))
+    (one_more at first (second ++ rest) (insns.Jump (inverse_of op) (at + 8)) (insns.Jump opcode.goto to ∷ code) ((at + 3) ∷ starts) (inverse_is at op small test)
+    (subst (λ (p : ℕ). SpellsFrom p (second ++ rest) (insns.Jump opcode.goto to ∷ code) ((at + 3) ∷ starts)) there behind))
 
 wide_insn : (at : ℕ) (raw : Insn) (rest : List ℕ) (code : List Insn) (starts : List ℕ) → Fits at raw → at ≤ 2147483647
     → SpellsFrom (at + length (insn_text at true raw)) rest code starts
     → SpellsFrom at (insn_text at true raw ++ rest) (spelled_as at raw ++ code) (wide_starts_by at (flow_of raw) ++ starts)
 unfolding insn_text
 wide_insn at (insns.Jump op to) rest code starts fits small more =
-    wide_jump at op to rest code starts (nat_eq op 167) refl small fits.well_formed (fits.places 0 to (omega arith))
+    wide_jump at op to rest code starts (nat_eq op opcode.goto) refl small fits.well_formed (fits.places 0 to (omega arith))
     (subst (λ (n : ℕ). SpellsFrom (at + n) rest code starts) (text_size at true (insns.Jump op to)) more)
 wide_insn at (insns.Simple op) rest code starts fits small more =
     subst (λ (l : List ℕ). SpellsFrom at (op ∷ [] ++ rest) (insns.Simple op ∷ code) (l ++ starts))
@@ -243,13 +244,13 @@ module _ (numbers offsets places : ℕ → ℕ) where
 
   image_as : (here at : ℕ) (insn : Insn) → Leads insn → (flow_of insn ≡ flows.Tests → numbers (at + 8) ≡ here + 2)
       → map (with_places numbers) (spelled_as at (with_places offsets insn)) ≡ widened_by places here insn (flow_of insn)
-  image_as here at (insns.Jump op to) leads next = by (nat_eq op 167) next
+  image_as here at (insns.Jump op to) leads next = by (nat_eq op opcode.goto) next
     where
       by : (b : Bool) → (cond b flows.Jumps flows.Tests ≡ flows.Tests → numbers (at + 8) ≡ here + 2)
-          → map (with_places numbers) (cond b (insns.Jump op (offsets to) ∷ []) (insns.Jump (inverse_of op) (at + 8) ∷ insns.Jump 167 (offsets to) ∷ []))
+          → map (with_places numbers) (cond b (insns.Jump op (offsets to) ∷ []) (insns.Jump (inverse_of op) (at + 8) ∷ insns.Jump opcode.goto (offsets to) ∷ []))
           ≡ widened_by places here (insns.Jump op to) (cond b flows.Jumps flows.Tests)
       by true next = λ i. insns.Jump op (leads 0 to (omega arith) i) ∷ []
-      by false next = λ i. insns.Jump (inverse_of op) (next refl i) ∷ insns.Jump 167 (leads 0 to (omega arith) i) ∷ []
+      by false next = λ i. insns.Jump (inverse_of op) (next refl i) ∷ insns.Jump opcode.goto (leads 0 to (omega arith) i) ∷ []
   image_as here at (insns.Simple op) leads next = sym (one_image places here (insns.Simple op) (flow_of_simple op) (simple_is_no_test op))
   image_as here at (insns.Table low default arms) leads next = ap (λ (i : Insn). i ∷ [])
       (places_both offsets numbers places (insns.Table low default arms) leads)

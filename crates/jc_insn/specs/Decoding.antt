@@ -1,5 +1,6 @@
 -- What a decoder of code answers.
 use Rattle.std.specs.Prelude.{◌≡◌, ℕ, List, Option, Some, None, Result, Ok, Err, ⊤, ◌≤◌, All}
+use Rattle.jc_base.specs.Outside.{most_read}
 use Rattle.jc_base.specs.Reader.{Reading}
 use Rattle.jc_base.specs.declared.fail.Fail.{Fail}
 use Rattle.jc_base.specs.declared.fail.Fail.TheVariants as fails
@@ -22,7 +23,7 @@ Refuses (fails.Said refusal) bytes = IsRefused bytes refusal
 -- what a decoder gives is well formed, among so many instructions. A place is one of them or their number
 pub record IsInsnAmong (count : ℕ) (insn : Insn) : Type 0 where
   pub well_formed : IsWellFormed insn
-  pub few : arm_count insn ≤ 67108864
+  pub few : arm_count insn ≤ most_read
   pub places : All (λ to. to ≤ count) (targets_of insn)
 
 -- the item that stands at an offset stops a decoder: jsr and its like, or no item at all

@@ -29,17 +29,17 @@ abbrev pub in_pieces : {X : Type 0} → ℕ → (List ℕ → X) → ℕ → Lis
 in_pieces size f zero bytes = []
 in_pieces size f (suc n) bytes = f bytes ∷ in_pieces size f n (drop size bytes)
 
--- the place of an arm of tableswitch, in four bytes
-abbrev pub place_in : ℕ → List ℕ → ℕ
-place_in at bytes = target_of at (cast_signed w32 (big_number 4 bytes))
+-- the offset to which an arm of tableswitch leads, in four bytes
+abbrev pub offset_in : ℕ → List ℕ → ℕ
+offset_in at bytes = target_of at (cast_signed w32 (big_number 4 bytes))
 
 -- the arms of tableswitch
-unfoldable pub places_in : ℕ → List ℕ → List ℕ
-places_in at bytes = in_pieces 4 (place_in at) (length bytes / 4) bytes
+unfoldable pub offsets_in : ℕ → List ℕ → List ℕ
+offsets_in at bytes = in_pieces 4 (offset_in at) (length bytes / 4) bytes
 
--- an arm of lookupswitch: the key in four bytes, and the place in four
+-- an arm of lookupswitch: the key in four bytes, and the offset to which it leads in four
 abbrev pub arm_in : ℕ → List ℕ → Arm
-arm_in at bytes = record { key = cast_signed w32 (big_number 4 bytes); to = place_in at (drop 4 bytes) }
+arm_in at bytes = record { key = cast_signed w32 (big_number 4 bytes); to = offset_in at (drop 4 bytes) }
 
 -- the arms of lookupswitch
 unfoldable pub arms_in : ℕ → List ℕ → List Arm
@@ -75,7 +75,7 @@ table_operands at = do
   high ← number 4
   only_if (int_le (cast_signed w32 low) (cast_signed w32 high)) (do
     arms ← piece (4 * key_count (cast_signed w32 low) (cast_signed w32 high))
-    nothing (items.Insn (insns.Table (cast_signed w32 low) (target_of at (cast_signed w32 default)) (places_in at arms))))
+    nothing (items.Insn (insns.Table (cast_signed w32 low) (target_of at (cast_signed w32 default)) (offsets_in at arms))))
 
 -- what stands behind the opcode of lookupswitch at this offset. The number of pairs isn't negative
 unfoldable pub lookup_operands : ℕ → List ℕ → Item → Type 0

@@ -9,7 +9,7 @@ use Rattle.jc_base.specs.Decoder.{◌>>=◌, first, byte_at, number_at}
 use Rattle.jc_base.specs.declared.insn.Insn.TheVariants as insns
 use Rattle.jc_insn.specs.declared.item.Item.{Item}
 use Rattle.jc_insn.specs.declared.item.Item.TheVariants as items
-use Rattle.jc_insn.specs.Items.{short_load, short_store, target_of, padding, key_count, ascending, places_in, arms_in}
+use Rattle.jc_insn.specs.Items.{short_load, short_store, target_of, padding, key_count, ascending, offsets_in, arms_in}
 
 -- n bytes
 abbrev pub piece_at : ℕ → List ℕ → Option (List ℕ × List ℕ)
@@ -69,7 +69,7 @@ table_at at left = do
   high ← number_at 4 low.1
   if int_le (cast_signed w32 low.0) (cast_signed w32 high.0) then (do
     arms ← piece_at (4 * key_count (cast_signed w32 low.0) (cast_signed w32 high.0)) high.1
-    Some (items.Insn (insns.Table (cast_signed w32 low.0) (target_of at (cast_signed w32 default.0)) (places_in at arms.0)), arms.1)) else None
+    Some (items.Insn (insns.Table (cast_signed w32 low.0) (target_of at (cast_signed w32 default.0)) (offsets_in at arms.0)), arms.1)) else None
 
 unfoldable pub lookup_at : ℕ → List ℕ → Option (Item × List ℕ)
 lookup_at at left = do

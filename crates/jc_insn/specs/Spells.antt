@@ -41,11 +41,11 @@ IsFault at bytes kinds.Subroutine = IsSubroutine at bytes
 IsFault at bytes kinds.BadCode = IsMalformed at bytes
 IsFault at bytes kind = ⊥
 
--- from this offset on these instructions are well formed, and behind them stands the fault at its place
+-- from this offset on these instructions are well formed, and behind them stands the fault at its offset
 abbrev pub FaultBehind : ℕ → List ℕ → List Insn → RefusalKind → ℕ → Type 0
-FaultBehind at bytes [] kind place = (place ≡ at) × IsFault at bytes kind
-FaultBehind at bytes (insn ∷ code) kind place =
-    (text rest : List ℕ) × (bytes ≡ text ++ rest) × IsItem at text (items.Insn insn) × FaultBehind (at + length text) rest code kind place
+FaultBehind at bytes [] kind offset = (offset ≡ at) × IsFault at bytes kind
+FaultBehind at bytes (insn ∷ code) kind offset =
+    (text rest : List ℕ) × (bytes ≡ text ++ rest) × IsItem at text (items.Insn insn) × FaultBehind (at + length text) rest code kind offset
 
 -- the first fault of the code: it stands behind well formed instructions alone
 pub record IsRefused (bytes : List ℕ) (refusal : Refusal) : Type 0 where

@@ -39,7 +39,9 @@ push_text form op value = op ∷ signed_short value
 
 -- the opcode of a load or a store that has the local variable in it
 abbrev pub short_code : ℕ → ℕ → ℕ
-short_code op slot = if nat_lt op opcode.istore then opcode.iload_0 + 4 * (op - opcode.iload) + slot else opcode.istore_0 + 4 * (op - opcode.istore) + slot
+short_code op slot =
+    if nat_lt op opcode.istore then opcode.iload_0 + 4 * (op - opcode.iload) + slot
+    else opcode.istore_0 + 4 * (op - opcode.istore) + slot
 
 -- a load or a store: with the local variable in the opcode, behind it in a byte, or behind `wide`
 abbrev pub local_text : ℕ → ℕ → List ℕ

@@ -1,5 +1,6 @@
 //! Instructions of a byte string.
 ghost use Rattle.std.specs.Prelude.{◌≡◌, ◌+◌, ◌≤◌, ◌<◌, ◌⊎◌, List, ℕ, length, IfOk, IfErr, MatchResult, All};
+ghost use Rattle.jc_base.specs.Outside.{most_read};
 ghost use Rattle.jc_base.specs.Decoder.{SameEnd};
 ghost use Rattle.jc_base.specs.declared.insn.Insn.{Insn as Instruction};
 ghost use Rattle.jc_base.specs.declared.refusal.Refusal.{Refusal as Reason};
@@ -30,34 +31,34 @@ struct Spelled {
 }
 
 /// The refusal of code for this reason at this offset.
-fn refused(kind: RefusalKind, place: u32) -> Refusal
-    ensures { result ≡ record { kind = kind; method = None; place = place } }
+fn refused(kind: RefusalKind, offset: u32) -> Refusal
+    ensures { result ≡ record { kind = kind; method = None; place = offset } }
 {
     Refusal {
         kind,
         method: None,
-        place,
+        place: offset,
     }
 }
 
 /// The instruction at the reader's offset.
 fn next_insn(alloc: Global, reader: &mut Reader<'_>) -> Result<Insn, Fail<Refusal>>
-    requires { reader.old.place + length reader.old.left ≤ 67108864 }
+    requires { reader.old.place + length reader.old.left ≤ most_read }
     ensures gives { GivesNext result reader.old reader.new }
     ensures end { SameEnd reader.old reader.new }
 {
-    let place = reader.place();
+    let offset = reader.place();
     match read_item(alloc, reader) {
         Ok(Item::Insn(insn)) => Ok(insn),
-        Ok(Item::Subroutine) => Err(Fail::Said(refused(RefusalKind::Subroutine, place))),
+        Ok(Item::Subroutine) => Err(Fail::Said(refused(RefusalKind::Subroutine, offset))),
         Err(Fail::Memory) => Err(Fail::Memory),
-        Err(Fail::Said(Unfit)) => Err(Fail::Said(refused(RefusalKind::BadCode, place))),
+        Err(Fail::Said(Unfit)) => Err(Fail::Said(refused(RefusalKind::BadCode, offset))),
     }
 }
 
 /// The instructions that the bytes spell, whose places are offsets.
 fn read_all(alloc: Global, bytes: &[u8]) -> Result<Spelled, Fail<Refusal>>
-    requires { length bytes.now ≤ 67108864 }
+    requires { length bytes.now ≤ most_read }
     ensures ok { IfOk result (λ s. SpellsFrom 0 bytes.now s.code.items s.starts.items) }
     ensures within { IfOk result (λ s. All (λ start. start < length bytes.now + 1) s.starts.items) }
     ensures count { IfOk result (λ s. length s.starts.items ≡ length s.code.items + 1) }
@@ -87,7 +88,7 @@ fn read_all(alloc: Global, bytes: &[u8]) -> Result<Spelled, Fail<Refusal>>
 /// pairs or keys that don't ascend, a `newarray` code outside 4 to 11, and a `multianewarray`
 /// without dimensions. The first in the order of the code is named, by its offset.
 pub fn decode(alloc: Global, code: &[u8]) -> Result<Decoded, Fail<Refusal>>
-    requires { length code.now ≤ 67108864 }
+    requires { length code.now ≤ most_read }
     ensures spelled { IfOk result (λ d. Spells code.now d.code d.starts) }
     ensures insns { IfOk result (λ d. All (IsInsnAmong (length d.code)) d.code) }
     ensures starts { IfOk result (λ d. AreStarts (length d.code) (length code.now) d.starts) }

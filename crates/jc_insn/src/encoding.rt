@@ -1,5 +1,6 @@
 //! Instructions as bytes.
 ghost use Rattle.std.specs.Prelude.{◌≡◌, ◌≤◌, ◌<◌, ◌++◌, List, ℕ, false, length, slice_index, OnOk, OnErr, All};
+ghost use Rattle.jc_base.specs.Outside.{most_read};
 ghost use Rattle.jc_base.specs.Flow.{targets_of};
 ghost use Rattle.jc_base.specs.Insn.{arm_count, IsWellFormed, with_places};
 ghost use Rattle.jc_insn.specs.Sizes.{StartAt};
@@ -25,7 +26,7 @@ fn put_insn(
     requires at { at ≤ 2147483647 }
     requires well_formed { IsWellFormed insn.now }
     requires places { All (λ to. to < length starts.now) (targets_of insn.now) }
-    requires few { arm_count insn.now ≤ 67108864 }
+    requires few { arm_count insn.now ≤ most_read }
     ensures range { OnOk result (IsInRange insn.now) }
     ensures text { OnOk result (out.new.items
         ≡ out.old.items ++ insn_text at wide (with_places (slice_index starts.now) insn.now)) }
@@ -68,7 +69,7 @@ pub fn encode(
     requires end { slice_index starts.now (length code.now) ≤ 2147483647 }
     requires well_formed { All IsWellFormed code.now }
     requires places { All (λ insn. All (λ to. to < length code.now) (targets_of insn)) code.now }
-    requires few { All (λ insn. arm_count insn ≤ 67108864) code.now }
+    requires few { All (λ insn. arm_count insn ≤ most_read) code.now }
     requires near { wide ≡ false → AllNear (slice_index starts.now) code.now starts.now }
     ensures ok { OnOk result (into.new.items ≡ into.old.items ++ code_text (slice_index starts.now) wide code.now starts.now) }
     // What is written spells the code, and in the wide layout its wide form.

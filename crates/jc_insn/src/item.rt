@@ -1,5 +1,6 @@
 //! What stands at an offset of the code.
 ghost use Rattle.std.specs.Prelude.{◌≡◌, ◌≤◌, ◌+◌, length};
+ghost use Rattle.jc_base.specs.Outside.{most_read};
 ghost use Rattle.jc_base.specs.Decoder.{Gives, SameEnd};
 ghost use Rattle.jc_insn.specs.Items.{short_load, short_store};
 ghost use Rattle.jc_insn.specs.Reading.{operands_at, item_at};
@@ -52,7 +53,7 @@ fn operands(
     form: Form,
     op: u8,
 ) -> Result<Item, Fail<Unfit>>
-    requires { reader.old.place + length reader.old.left ≤ 67108864 }
+    requires { reader.old.place + length reader.old.left ≤ most_read }
     ensures gives { Gives (λ item. item) result reader.new.left (operands_at at form op reader.old.left) }
     ensures end { SameEnd reader.old reader.new }
 {
@@ -86,7 +87,7 @@ fn operands(
 /// What stands at the reader's offset.
 #[tactic(auto, unfolding(crate::specs::Reading::item_at))]
 pub fn read_item(alloc: Global, reader: &mut Reader<'_>) -> Result<Item, Fail<Unfit>>
-    requires { reader.old.place + length reader.old.left ≤ 67108864 }
+    requires { reader.old.place + length reader.old.left ≤ most_read }
     ensures gives { Gives (λ item. item) result reader.new.left (item_at reader.old.place reader.old.left) }
     ensures end { SameEnd reader.old reader.new }
 {

@@ -2,7 +2,10 @@
 ghost use Rattle.std.specs.Prelude.{◌≡◌, ℤ};
 ghost use Rattle.jc_base.specs.Decoder.{Gives, SameEnd};
 ghost use Rattle.jc_insn.specs.Items.{target_of};
-ghost use Rattle.jc_insn.specs.Reading.{push_byte_at, push_short_at, constant_byte_at, constant_short_at, constant2_at, local_at, inc_at, jump_at, wide_jump_at, member_at, interface_at, dynamic_at, of_class_at, new_array_at, multi_at, wide_local_at, wide_inc_at, wide_operands_at, wide_at};
+ghost use Rattle.jc_insn.specs.Reading.{push_byte_at, push_short_at, constant_byte_at, constant_short_at, constant2_at};
+ghost use Rattle.jc_insn.specs.Reading.{local_at, inc_at, jump_at, wide_jump_at, member_at, interface_at, dynamic_at};
+ghost use Rattle.jc_insn.specs.Reading.{of_class_at, new_array_at, multi_at, wide_local_at, wide_inc_at};
+ghost use Rattle.jc_insn.specs.Reading.{wide_operands_at, wide_at};
 
 use crate::item::Item;
 use jc_base::{Fail, Form, Insn, Reader, Unfit, form_of, opcode};

@@ -13,7 +13,7 @@ fn number(numbers: &[u32], count: u32, offset: u32) -> u32
 }
 
 /// The arms of `tableswitch` with numbers in place of offsets.
-fn numbered_places(
+fn numbered_offsets(
     alloc: Global,
     numbers: &[u32],
     count: u32,
@@ -66,7 +66,7 @@ fn numbered(alloc: Global, numbers: &[u32], count: u32, insn: Insn) -> Result<In
         Insn::Table { low, default, arms } => Ok(Insn::Table {
             low,
             default: number(numbers, count, default),
-            arms: numbered_places(alloc, numbers, count, &arms)?,
+            arms: numbered_offsets(alloc, numbers, count, &arms)?,
         }),
         Insn::Lookup { default, arms } => Ok(Insn::Lookup {
             default: number(numbers, count, default),

@@ -1,5 +1,6 @@
 //! How many bytes an instruction takes.
 ghost use Rattle.std.specs.Prelude.{◌≡◌, ◌≤◌, true, nat_lt, if◌then◌else◌};
+ghost use Rattle.jc_base.specs.Outside.{most_read};
 ghost use Rattle.jc_base.specs.Insn.{arm_count};
 ghost use Rattle.jc_insn.specs.Items.{padding};
 ghost use Rattle.jc_insn.specs.Sizes.{push_size, local_size, is_narrow_inc, jump_size, size_of, IsJump, IsLeast};
@@ -72,7 +73,7 @@ fn jump_size(wide: bool, op: u8) -> u32
 
 /// The length of an instruction by its form.
 fn by_form(insn: &Insn, at: u32, wide: bool) -> u32
-    requires { arm_count insn.now ≤ 67108864 }
+    requires { arm_count insn.now ≤ most_read }
     ensures { result ≡ size_of at wide insn.now }
 {
     match insn {
@@ -97,7 +98,7 @@ fn by_form(insn: &Insn, at: u32, wide: bool) -> u32
 /// A jump takes three bytes. In the wide layout, where `wide` is true, `goto` takes the five of
 /// `goto_w`, and a conditional jump the eight of its inverse over a `goto_w`.
 pub fn size_of(insn: &Insn, at: u32, wide: bool) -> u32
-    requires { arm_count insn.now ≤ 67108864 }
+    requires { arm_count insn.now ≤ most_read }
     ensures size { result ≡ size_of at wide insn.now }
     // No spelling is shorter, but for jumps of the wide layout.
     ensures least { (wide ≡ true → IsJump insn.now → ⊥) → IsLeast at insn.now result }

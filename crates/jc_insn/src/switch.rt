@@ -1,48 +1,46 @@
 //! The operands of switches.
 ghost use Rattle.std.specs.Prelude.{◌≡◌, ◌+◌, ◌*◌, ◌/◌, ◌<◌, ◌≤◌, length, take, int_le, IfOk};
+ghost use Rattle.jc_base.specs.Outside.{most_read};
 ghost use Rattle.jc_base.specs.Decoder.{Gives, SameEnd, first};
-ghost use Rattle.jc_insn.specs.Items.{padding, key_count, ascending, place_in, places_in, arm_in, arms_in};
+ghost use Rattle.jc_insn.specs.Items.{padding, key_count, ascending, offset_in, offsets_in, arm_in, arms_in};
 ghost use Rattle.jc_insn.specs.Reading.{piece_at, table_at, lookup_at};
 
 use crate::item::Item;
 use crate::operands::target;
 use crate::size::padding;
 use byteorder::{BigEndian, ByteOrder};
-use jc_base::{Arm, Fail, Insn, List, Reader, Unfit};
+use jc_base::{Arm, Fail, Insn, List, MOST_READ, Reader, Unfit};
 use std::alloc::{AllocError, Global};
-
-/// The most bytes that code has.
-const MOST: u64 = 67_108_864;
 
 /// The next `count` pieces of `size` bytes each.
 fn pieces<'a>(reader: &mut Reader<'a>, size: u32, count: u64) -> Result<&'a [u8], Fail<Unfit>>
-    requires small { reader.old.place + length reader.old.left ≤ 67108864 }
+    requires small { reader.old.place + length reader.old.left ≤ most_read }
     requires some { 0 < size }
     requires few { size ≤ 8 }
     ensures gives { Gives (λ words. words.now) result reader.new.left (piece_at (size * count) reader.old.left) }
     ensures end { SameEnd reader.old reader.new }
 {
-    if count > MOST {
+    if count > MOST_READ as u64 {
         return Err(Fail::Said(Unfit));
     }
     Ok(reader.take(size * count as u32)?)
 }
 
-/// The place of an arm of `tableswitch`.
-fn place(at: u32, bytes: &[u8]) -> u32
+/// The offset to which an arm of `tableswitch` leads.
+fn offset(at: u32, bytes: &[u8]) -> u32
     requires { 4 ≤ length bytes.now }
-    ensures { result ≡ place_in at bytes.now }
+    ensures { result ≡ offset_in at bytes.now }
 {
     target(at, BigEndian::read_u32(bytes).cast_signed())
 }
 
 /// The arms of `tableswitch`, of four bytes each.
-fn places(alloc: Global, at: u32, words: &[u8]) -> Result<List<u32>, AllocError>
-    ensures { IfOk result (λ arms. arms ≡ places_in at words.now) }
+fn offsets(alloc: Global, at: u32, words: &[u8]) -> Result<List<u32>, AllocError>
+    ensures { IfOk result (λ arms. arms ≡ offsets_in at words.now) }
 {
     let mut arms = Vec::new(alloc);
     'reading: for index in 0..words.len() / 4 {
-        arms.push(place(at, &words[4 * index..]))?;
+        arms.push(offset(at, &words[4 * index..]))?;
     }
     Ok(List::from_vec(arms))
 }
@@ -55,7 +53,7 @@ fn arm(at: u32, bytes: &[u8]) -> Arm
     let (key, to) = bytes.split_at(4);
     Arm {
         key: BigEndian::read_u32(key).cast_signed(),
-        to: place(at, to),
+        to: offset(at, to),
     }
 }
 
@@ -101,7 +99,7 @@ fn key_count(low: i32, high: i32) -> u64
 /// `tableswitch` at this offset.
 #[tactic(auto, unfolding(crate::specs::Reading::table_at))]
 pub fn table(alloc: Global, reader: &mut Reader<'_>, at: u32) -> Result<Item, Fail<Unfit>>
-    requires { reader.old.place + length reader.old.left ≤ 67108864 }
+    requires { reader.old.place + length reader.old.left ≤ most_read }
     ensures gives { Gives (λ item. item) result reader.new.left (table_at at reader.old.left) }
     ensures end { SameEnd reader.old reader.new }
 {
@@ -116,14 +114,14 @@ pub fn table(alloc: Global, reader: &mut Reader<'_>, at: u32) -> Result<Item, Fa
     Ok(Item::Insn(Insn::Table {
         low,
         default: target(at, default),
-        arms: places(alloc, at, words)?,
+        arms: offsets(alloc, at, words)?,
     }))
 }
 
 /// `lookupswitch` at this offset.
 #[tactic(auto, unfolding(crate::specs::Reading::lookup_at))]
 pub fn lookup(alloc: Global, reader: &mut Reader<'_>, at: u32) -> Result<Item, Fail<Unfit>>
-    requires { reader.old.place + length reader.old.left ≤ 67108864 }
+    requires { reader.old.place + length reader.old.left ≤ most_read }
     ensures gives { Gives (λ item. item) result reader.new.left (lookup_at at reader.old.left) }
     ensures end { SameEnd reader.old reader.new }
 {

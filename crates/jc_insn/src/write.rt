@@ -1,11 +1,17 @@
 //! The parts of an instruction as bytes.
-ghost use Rattle.std.specs.Prelude.{◌≡◌, ◌≤◌, ◌+◌, ◌%◌, ◌<◌, ◌^◌, ◌++◌, ◌∷◌, ◌⊎◌, [], ℕ, List, false, length, slice_index, OnOk, OnErr, All, map, IsTrue, ℤ, pos, ◌+ℤ◌, ◌≤ℤ◌, FitsSigned};
+ghost use Rattle.std.specs.Prelude.{◌≡◌, ◌≤◌, ◌+◌, ◌%◌, ◌<◌, ◌^◌, ◌++◌, ◌∷◌, ◌⊎◌, [], ℕ, List, false, length};
+ghost use Rattle.std.specs.Prelude.{slice_index, OnOk, OnErr, All, map, IsTrue, ℤ, pos, ◌+ℤ◌, ◌≤ℤ◌, FitsSigned};
 ghost use Rattle.std.specs.List.{flat_map};
 ghost use Rattle.std.specs.Int.{w32, cast_unsigned};
+ghost use Rattle.jc_base.specs.Outside.{most_read};
 ghost use Rattle.jc_base.specs.declared.form.Form.TheVariants as forms;
+ghost use Rattle.jc_base.specs.Opcode.{iload, aload, istore, astore, goto_w, newarray};
 ghost use Rattle.jc_base.specs.InsnForm.{form_of};
 ghost use Rattle.jc_base.specs.Insn.{arm_with_place};
-ghost use Rattle.jc_insn.specs.Writing.{short, word, signed_byte, signed_short, difference, push_text, short_code, local_text, inc_text, constant_text, wide_jump_text, jump_text, arm_text, pad_text, last_key, table_text, lookup_text, interface_text, dynamic_text, multi_text};
+ghost use Rattle.jc_insn.specs.Writing.{short, word, signed_byte, signed_short, difference, push_text, short_code};
+ghost use Rattle.jc_insn.specs.Writing.{local_text, inc_text, constant_text, wide_jump_text, jump_text, arm_text};
+ghost use Rattle.jc_insn.specs.Writing.{pad_text, last_key, table_text, lookup_text, interface_text, dynamic_text};
+ghost use Rattle.jc_insn.specs.Writing.{multi_text};
 
 use crate::size::{is_narrow_inc, padding};
 use jc_base::{Arm, Form, inverse, opcode};
@@ -66,7 +72,7 @@ pub fn put_push(out: &mut Vec<u8>, form: Form, op: u8, value: i16) -> Result<(),
 
 /// The opcode of a load or a store that has the local variable in it.
 fn short_code(op: u8, slot: u8) -> u8
-    requires op { ((21 ≤ op) × (op ≤ 25)) ⊎ ((54 ≤ op) × (op ≤ 58)) }
+    requires op { ((iload ≤ op) × (op ≤ aload)) ⊎ ((istore ≤ op) × (op ≤ astore)) }
     requires slot { slot < 4 }
     ensures { result ≡ short_code op slot }
 {
@@ -79,7 +85,7 @@ fn short_code(op: u8, slot: u8) -> u8
 
 /// A load or a store.
 pub fn put_local(out: &mut Vec<u8>, op: u8, slot: u16) -> Result<(), AllocError>
-    requires { ((21 ≤ op) × (op ≤ 25)) ⊎ ((54 ≤ op) × (op ≤ 58)) }
+    requires { ((iload ≤ op) × (op ≤ aload)) ⊎ ((istore ≤ op) × (op ≤ astore)) }
     ensures { OnOk result (out.new.items ≡ out.old.items ++ local_text op slot) }
 {
     if slot < 4 {
@@ -125,7 +131,7 @@ pub fn put_constant(out: &mut Vec<u8>, place: u16) -> Result<(), AllocError>
 
 /// `goto_w`.
 fn put_goto(out: &mut Vec<u8>, at: u32, to: u32) -> Result<(), AllocError>
-    ensures { OnOk result (out.new.items ≡ out.old.items ++ 200 ∷ word (difference at to)) }
+    ensures { OnOk result (out.new.items ≡ out.old.items ++ goto_w ∷ word (difference at to)) }
 {
     out.push(opcode::GOTO_W)?;
     put_word(out, difference(at, to))?;
@@ -172,7 +178,7 @@ fn put_pad(out: &mut Vec<u8>, at: u32) -> Result<(), AllocError>
 }
 
 /// The arms of `tableswitch`.
-fn put_places(out: &mut Vec<u8>, at: u32, starts: &[u32], arms: &[u32]) -> Result<(), AllocError>
+fn put_offsets(out: &mut Vec<u8>, at: u32, starts: &[u32], arms: &[u32]) -> Result<(), AllocError>
     requires { All (λ to. to < length starts.now) arms.now }
     ensures { OnOk result (out.new.items
         ≡ out.old.items ++ flat_map (λ to. word (difference at to)) (map (slice_index starts.now) arms.now)) }
@@ -210,7 +216,7 @@ fn put_arms(out: &mut Vec<u8>, at: u32, starts: &[u32], arms: &[Arm]) -> Result<
 /// The last of the keys from `low` on, as a number of 32 bits.
 fn last_key(low: i32, count: u32) -> u32
     requires some { 1 ≤ count }
-    requires few { count ≤ 67108864 }
+    requires few { count ≤ most_read }
     requires fits { (low +ℤ pos count) ≤ℤ pos 2147483648 }
     ensures { result ≡ cast_unsigned w32 (last_key low count) }
 {
@@ -227,7 +233,7 @@ pub fn put_table(
     arms: &[u32],
 ) -> Result<(), AllocError>
     requires some { 1 ≤ length arms.now }
-    requires few { length arms.now ≤ 67108864 }
+    requires few { length arms.now ≤ most_read }
     requires fits { (low +ℤ pos (length arms.now)) ≤ℤ pos 2147483648 }
     requires default { default < length starts.now }
     requires places { All (λ to. to < length starts.now) arms.now }
@@ -239,7 +245,7 @@ pub fn put_table(
     put_word(out, difference(at, starts[default as usize]))?;
     put_word(out, low.cast_unsigned())?;
     put_word(out, last_key(low, arms.len() as u32))?;
-    put_places(out, at, starts, arms)?;
+    put_offsets(out, at, starts, arms)?;
     Ok(())
 }
 
@@ -251,7 +257,7 @@ pub fn put_lookup(
     default: u32,
     arms: &[Arm],
 ) -> Result<(), AllocError>
-    requires few { length arms.now ≤ 67108864 }
+    requires few { length arms.now ≤ most_read }
     requires default { default < length starts.now }
     requires places { All (λ arm. arm.to < length starts.now) arms.now }
     ensures text { OnOk result (out.new.items
@@ -288,7 +294,7 @@ pub fn put_dynamic(out: &mut Vec<u8>, place: u16) -> Result<(), AllocError>
 
 /// `newarray`.
 pub fn put_new_array(out: &mut Vec<u8>, elem: u8) -> Result<(), AllocError>
-    ensures { OnOk result (out.new.items ≡ out.old.items ++ 188 ∷ elem ∷ []) }
+    ensures { OnOk result (out.new.items ≡ out.old.items ++ newarray ∷ elem ∷ []) }
 {
     out.push(opcode::NEWARRAY)?;
     out.push(elem)?;

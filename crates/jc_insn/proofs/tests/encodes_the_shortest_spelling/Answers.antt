@@ -1,4 +1,5 @@
 use Rattle.std.proofs.Common.{ℕ, zero, suc, ◌<◌, List, [], ◌∷◌, get_or, refl, arith}
+use Rattle.jc_base.specs.Opcode as opcode
 use Rattle.jc_base.specs.declared.insn.Insn.{Insn}
 use Rattle.jc_base.specs.declared.insn.Insn.TheVariants as insns
 use Rattle.jc_base.specs.InsnForm.{form_of}
@@ -6,7 +7,7 @@ use Rattle.jc_base.specs.Insn.{IsWellFormed}
 use Rattle.jc_insn.proofs.tests.encodes_the_shortest_spelling.Goals as goal
 
 abbrev code : List Insn
-code = insns.Local 21 4 ∷ insns.Local 21 256 ∷ insns.Constant 255 ∷ insns.Constant 256 ∷ insns.Jump 153 0 ∷ []
+code = insns.Local opcode.iload 4 ∷ insns.Local opcode.iload 256 ∷ insns.Constant 255 ∷ insns.Constant 256 ∷ insns.Jump opcode.ifeq 0 ∷ []
 
 well_formed : (k : ℕ) (d : Insn) → k < 5 → IsWellFormed (get_or code k d)
 unfolding form_of

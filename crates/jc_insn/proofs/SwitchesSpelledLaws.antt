@@ -7,6 +7,7 @@ use Rattle.std.proofs.lemmas.Int.{ints}
 use Rattle.std.proofs.lemmas.List.{append-nil, drop_at, length-replicate}
 use Rattle.std.proofs.lemmas.Bool.{lt-ltb}
 use Rattle.byteorder.specs.Endian.{big_number}
+use Rattle.jc_base.specs.Opcode as opcode
 use Rattle.jc_base.proofs.DecoderLaws.{big_front}
 use Rattle.jc_base.specs.declared.form.Form.TheVariants as forms
 use Rattle.jc_base.proofs.InsnFormLaws.{named_forms}
@@ -15,10 +16,10 @@ use Rattle.jc_base.specs.declared.insn.Arm.{Arm}
 use Rattle.jc_base.specs.Insn.{IsAscending}
 use Rattle.jc_insn.specs.declared.item.Item.TheVariants as items
 use Rattle.jc_insn.specs.Fields.{nothing, piece, Then, only_if}
-use Rattle.jc_insn.specs.Items.{padding, key_count, target_of, in_pieces, place_in, places_in, arm_in, arms_in, ascending, table_operands, lookup_operands, operands, IsItem}
+use Rattle.jc_insn.specs.Items.{padding, key_count, target_of, in_pieces, offset_in, offsets_in, arm_in, arms_in, ascending, table_operands, lookup_operands, operands, IsItem}
 use Rattle.jc_insn.specs.Writing.{word, difference, arm_text, pad_text, last_key, table_text, lookup_text}
-use Rattle.jc_insn.proofs.NumberTextsLaws.{big_word, signed_word_back, word_target, word_size}
-use Rattle.jc_insn.proofs.FieldTextsLaws.{item_of, number_then, piece_then, one_piece, length_pieces, pieces_back, place_back, test_true, le_true, word_fits}
+use Rattle.jc_insn.proofs.ReadBackLaws.{big_word, signed_word_back, word_target, word_size}
+use Rattle.jc_insn.proofs.OperandsSpelledLaws.{item_of, number_then, piece_then, one_piece, length_pieces, pieces_back, offset_back, test_true, le_true, word_fits}
 
 pub pad_length : (at : ℕ) → length (pad_text at) ≡ padding at
 unfolding pad_text
@@ -29,19 +30,19 @@ small_difference at to = omega arith
 
 -- ---- tableswitch
 
-abbrev pub places_text : ℕ → List ℕ → List ℕ
-places_text at arms = flat_map (λ to. word (difference at to)) arms
+abbrev pub offsets_text : ℕ → List ℕ → List ℕ
+offsets_text at arms = flat_map (λ to. word (difference at to)) arms
 
-pub places_length : (at : ℕ) (arms : List ℕ) → length (places_text at arms) ≡ 4 * length arms
-places_length at arms = length_pieces 4 (λ (to : ℕ). word (difference at to)) arms (λ to. word_size (difference at to))
+pub offsets_length : (at : ℕ) (arms : List ℕ) → length (offsets_text at arms) ≡ 4 * length arms
+offsets_length at arms = length_pieces 4 (λ (to : ℕ). word (difference at to)) arms (λ to. word_size (difference at to))
 
-places_back : (at : ℕ) (arms : List ℕ) → at < 4294967296 → All (λ to. to < 4294967296) arms → places_in at (places_text at arms) ≡ arms
-unfolding places_in
-places_back at arms at_fits fit =
-    let count : length (places_text at arms) / 4 ≡ length arms = let e = places_length at arms in omega (arith, e) in
-    ap (λ (n : ℕ). in_pieces 4 (place_in at) n (places_text at arms)) count
-    ∙ pieces_back (λ to. to < 4294967296) 4 (place_in at) (λ (to : ℕ). word (difference at to)) arms (λ to. word_size (difference at to))
-    (λ to rest fits. place_back at to rest at_fits fits) fit
+offsets_back : (at : ℕ) (arms : List ℕ) → at < 4294967296 → All (λ to. to < 4294967296) arms → offsets_in at (offsets_text at arms) ≡ arms
+unfolding offsets_in
+offsets_back at arms at_fits fit =
+    let count : length (offsets_text at arms) / 4 ≡ length arms = let e = offsets_length at arms in omega (arith, e) in
+    ap (λ (n : ℕ). in_pieces 4 (offset_in at) n (offsets_text at arms)) count
+    ∙ pieces_back (λ to. to < 4294967296) 4 (offset_in at) (λ (to : ℕ). word (difference at to)) arms (λ to. word_size (difference at to))
+    (λ to rest fits. offset_back at to rest at_fits fits) fit
 
 last_above : (low : ℤ) (count : ℕ) → low ≤ℤ last_key low count
 last_above low count = omega (arith, ints)
@@ -69,22 +70,22 @@ table_is at default low arms at_fits default_fits low_fits some high fit =
     let high_is : cast_signed w32 (cast_unsigned w32 last) ≡ last = signed_word_back last high_fits in
     let test : int_le (cast_signed w32 (cast_unsigned w32 low)) (cast_signed w32 (cast_unsigned w32 last)) ≡ true = (λ i. int_le (low_is i) (high_is i))
     ∙ le_true low last (last_above low (length arms)) in
-    let size : length (places_text at arms) ≡ 4 * key_count (cast_signed w32 (cast_unsigned w32 low)) (cast_signed w32 (cast_unsigned w32 last)) =
-    places_length at arms ∙ ap (λ (n : ℕ). 4 * n) (sym ((λ i. key_count (low_is i) (high_is i)) ∙ keys_between low (length arms) some)) in
+    let size : length (offsets_text at arms) ≡ 4 * key_count (cast_signed w32 (cast_unsigned w32 low)) (cast_signed w32 (cast_unsigned w32 last)) =
+    offsets_length at arms ∙ ap (λ (n : ℕ). 4 * n) (sym ((λ i. key_count (low_is i) (high_is i)) ∙ keys_between low (length arms) some)) in
     let same : item ≡ items.Insn (insns.Table (cast_signed w32 (cast_unsigned w32 low)) (target_of at (cast_signed w32 (difference at default)))
-    (places_in at (places_text at arms))) =
-    (λ i. items.Insn (insns.Table (sym low_is i) (sym (word_target at default at_fits default_fits) i) (sym (places_back at arms at_fits fit) i))) in
-    item_of at 170 forms.Table (pad_text at ++ (word (difference at default) ++ (low_word ++ (high_word ++ places_text at arms)))) item
+    (offsets_in at (offsets_text at arms))) =
+    (λ i. items.Insn (insns.Table (sym low_is i) (sym (word_target at default at_fits default_fits) i) (sym (offsets_back at arms at_fits fit) i))) in
+    item_of at opcode.tableswitch forms.Table (pad_text at ++ (word (difference at default) ++ (low_word ++ (high_word ++ offsets_text at arms)))) item
     (let rows = named_forms in rows.5)
-    (piece_then (padding at) _ (pad_text at) (word (difference at default) ++ (low_word ++ (high_word ++ places_text at arms))) item (pad_length at)
-    (number_then 4 _ (difference at default) (word (difference at default)) (low_word ++ (high_word ++ places_text at arms)) item
+    (piece_then (padding at) _ (pad_text at) (word (difference at default) ++ (low_word ++ (high_word ++ offsets_text at arms))) item (pad_length at)
+    (number_then 4 _ (difference at default) (word (difference at default)) (low_word ++ (high_word ++ offsets_text at arms)) item
     (big_word (difference at default) (small_difference at default))
-    (number_then 4 _ (cast_unsigned w32 low) low_word (high_word ++ places_text at arms) item (big_word (cast_unsigned w32 low) (word_fits low low_fits))
-    (number_then 4 _ (cast_unsigned w32 last) high_word (places_text at arms) item (big_word (cast_unsigned w32 last) (word_fits last high_fits)) (
+    (number_then 4 _ (cast_unsigned w32 low) low_word (high_word ++ offsets_text at arms) item (big_word (cast_unsigned w32 low) (word_fits low low_fits))
+    (number_then 4 _ (cast_unsigned w32 last) high_word (offsets_text at arms) item (big_word (cast_unsigned w32 last) (word_fits last high_fits)) (
       test,
       one_piece (4 * key_count (cast_signed w32 (cast_unsigned w32 low)) (cast_signed w32 (cast_unsigned w32 last)))
           (λ words. items.Insn (insns.Table (cast_signed w32 (cast_unsigned w32 low)) (target_of at (cast_signed w32 (difference at default)))
-          (places_in at words))) (places_text at arms) item size same,
+          (offsets_in at words))) (offsets_text at arms) item size same,
     )))))
 
 -- ---- lookupswitch
@@ -110,9 +111,9 @@ arm_back at arm rest at_fits fits =
     let key_is : cast_signed w32 (big_number 4 (arm_text at arm ++ rest)) ≡ arm.key =
     ap (λ (l : List ℕ). cast_signed w32 (big_number 4 l)) whole ∙ ap (cast_signed w32) (big_front 4 key_word (to_word ++ rest) big.size ∙ big.value)
     ∙ signed_word_back arm.key fits.key in
-    let to_is : place_in at (drop 4 (arm_text at arm ++ rest)) ≡ arm.to =
-    ap (λ (l : List ℕ). place_in at (drop 4 l)) whole ∙ ap (place_in at) (drop_at key_word (to_word ++ rest) 4 big.size)
-    ∙ place_back at arm.to rest at_fits fits.to in
+    let to_is : offset_in at (drop 4 (arm_text at arm ++ rest)) ≡ arm.to =
+    ap (λ (l : List ℕ). offset_in at (drop 4 l)) whole ∙ ap (offset_in at) (drop_at key_word (to_word ++ rest) 4 big.size)
+    ∙ offset_back at arm.to rest at_fits fits.to in
     λ i. record { key = key_is i; to = to_is i }
 
 pub arms_length : (at : ℕ) (arms : List Arm) → length (flat_map (arm_text at) arms) ≡ 8 * length arms
@@ -140,7 +141,7 @@ lookup_is at default arms at_fits default_fits few up fit =
     let test : ascending (arms_in at text) ≡ true = ap ascending back ∙ ascends arms up in
     let same : item ≡ items.Insn (insns.Lookup (target_of at (cast_signed w32 (difference at default))) (arms_in at text)) =
     (λ i. items.Insn (insns.Lookup (sym (word_target at default at_fits default_fits) i) (sym back i))) in
-    item_of at 171 forms.Lookup (pad_text at ++ (word (difference at default) ++ (word (length arms) ++ text))) item (let rows = named_forms in rows.6)
+    item_of at opcode.lookupswitch forms.Lookup (pad_text at ++ (word (difference at default) ++ (word (length arms) ++ text))) item (let rows = named_forms in rows.6)
     (piece_then (padding at) _ (pad_text at) (word (difference at default) ++ (word (length arms) ++ text)) item (pad_length at)
     (number_then 4 _ (difference at default) (word (difference at default)) (word (length arms) ++ text) item
     (big_word (difference at default) (small_difference at default))

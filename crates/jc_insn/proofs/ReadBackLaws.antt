@@ -4,10 +4,9 @@ use Rattle.std.specs.Prelude.{◌≤ℤ◌, FitsSigned}
 use Rattle.std.specs.Int.{cast_signed, cast_unsigned}
 use Rattle.std.proofs.lemmas.Int.{ints, to_z-of_z, of_z-to_z, to_z_pos}
 use Rattle.std.proofs.lemmas.Bool.{cases_lt, le-ltb}
-use Rattle.std.proofs.lemmas.List.{append-nil}
-use Rattle.byteorder.specs.Endian.{big_number, big_bytes}
-use Rattle.byteorder.specs.Numbers.{big_number-reads_back, length-bytes_high_first}
+use Rattle.byteorder.specs.Numbers.{length-bytes_high_first}
 use Rattle.jc_base.specs.Decoder.{IsBig}
+use Rattle.jc_base.proofs.AppendingLaws.{big_spells}
 use Rattle.jc_insn.specs.Items.{target_of}
 use Rattle.jc_insn.specs.Writing.{short, word, signed_byte, difference, IsNear}
 
@@ -21,17 +20,11 @@ word_size x = length-bytes_high_first 4 x
 
 pub big_short : (x : ℕ) → x < 65536 → IsBig 2 (short x) x
 unfolding short
-big_short x fits = record {
-  size = length-bytes_high_first 2 x;
-  value = sym (ap (big_number 2) (append-nil (big_bytes 2 x))) ∙ big_number-reads_back 2 x [] fits;
-}
+big_short x fits = big_spells 2 x fits
 
 pub big_word : (x : ℕ) → x < 4294967296 → IsBig 4 (word x) x
 unfolding word
-big_word x fits = record {
-  size = length-bytes_high_first 4 x;
-  value = sym (ap (big_number 4) (append-nil (big_bytes 4 x))) ∙ big_number-reads_back 4 x [] fits;
-}
+big_word x fits = big_spells 4 x fits
 
 pub signed_byte_back : (z : ℤ) → negsuc 127 ≤ℤ z → z ≤ℤ pos 127 → cast_signed w8 (signed_byte z) ≡ z
 signed_byte_back (pos n) low high =

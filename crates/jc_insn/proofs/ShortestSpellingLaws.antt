@@ -6,6 +6,7 @@ use Rattle.std.specs.Int.{cast_signed, cast_unsigned}
 use Rattle.std.proofs.lemmas.Bool.{cases_lt, lt-ltb, le-ltb}
 use Rattle.std.proofs.lemmas.Bool.Decides.{nat_tests}
 use Rattle.std.proofs.lemmas.List.{get_or-map, length-map}
+use Rattle.jc_base.specs.Opcode as opcode
 use Rattle.jc_base.specs.declared.form.Form.{Form}
 use Rattle.jc_base.specs.declared.form.Form.TheVariants as forms
 use Rattle.jc_base.specs.InsnForm.{form_of}
@@ -20,9 +21,9 @@ use Rattle.jc_insn.specs.declared.item.Item.TheVariants as items
 use Rattle.jc_insn.specs.Fields.{nothing, byte, piece, Then, only_if}
 use Rattle.jc_insn.specs.Items.{number, target_of, operands, IsItem}
 use Rattle.jc_insn.specs.Writing.{short, signed_byte, difference, push_text, constant_text, jump_text, insn_text, IsNear, IsNearJump, IsInRange}
-use Rattle.jc_insn.proofs.NumberTextsLaws.{big_short, signed_byte_back, signed_short_back, short_target}
-use Rattle.jc_insn.proofs.FieldTextsLaws.{item_of, byte_then, number_then, one_byte, one_number, one_piece, short_fits, local_is, inc_is}
-use Rattle.jc_insn.proofs.SwitchTextsLaws.{ArmFits, table_is, lookup_is}
+use Rattle.jc_insn.proofs.ReadBackLaws.{big_short, signed_byte_back, signed_short_back, short_target}
+use Rattle.jc_insn.proofs.OperandsSpelledLaws.{item_of, byte_then, number_then, one_byte, one_number, one_piece, short_fits, local_is, inc_is}
+use Rattle.jc_insn.proofs.SwitchesSpelledLaws.{ArmFits, table_is, lookup_is}
 
 short_item : (at op : ℕ) (form : Form) (f : ℕ → Item) (x : ℕ) (item : Item) → form_of op ≡ form → x < 65536 → item ≡ f x
     → ((text : List ℕ) → Then (number 2) (λ v. nothing (f v)) text item → operands at form op text item) → IsItem at (op ∷ short x) item
@@ -54,9 +55,9 @@ unfolding operands
 constant_is at place fits = by (cases_lt place 256)
   where
     by : (place < 256) ⊎ (256 ≤ place) → IsItem at (constant_text place) (items.Insn (insns.Constant place))
-    by (inl few) = rw (lt-ltb place 256 few) (item_of at 18 forms.ConstantByte (place ∷ []) (items.Insn (insns.Constant place))
+    by (inl few) = rw (lt-ltb place 256 few) (item_of at opcode.ldc forms.ConstantByte (place ∷ []) (items.Insn (insns.Constant place))
         (let rows = named_forms in rows.0) (one_byte (λ v. items.Insn (insns.Constant v)) place (items.Insn (insns.Constant place)) refl))
-    by (inr more) = rw (le-ltb place 256 more) (short_item at 19 forms.ConstantShort (λ v. items.Insn (insns.Constant v)) place
+    by (inr more) = rw (le-ltb place 256 more) (short_item at opcode.ldc_w forms.ConstantShort (λ v. items.Insn (insns.Constant v)) place
         (items.Insn (insns.Constant place)) (let rows = named_forms in rows.1) fits refl (λ text o. o))
 
 arms_fit : (arms : List Arm) → All (λ arm. FitsSigned w32 arm.key) arms → All (λ to. to < 4294967296) (map (λ (a : Arm). a.to) arms) → All ArmFits arms
@@ -81,31 +82,31 @@ text_is at wide (insns.Push op value) fits jump = push_is at op value fits.well_
 text_is at wide (insns.Local op slot) fits jump = local_is at op slot fits.well_formed fits.in_range
 text_is at wide (insns.Inc slot by) fits jump = inc_is at slot by fits.in_range.0 fits.in_range.1
 text_is at wide (insns.Constant place) fits jump = constant_is at place fits.in_range
-text_is at wide (insns.Constant2 place) fits jump = short_item at 20 forms.Constant2 (λ v. items.Insn (insns.Constant2 v)) place
+text_is at wide (insns.Constant2 place) fits jump = short_item at opcode.ldc2_w forms.Constant2 (λ v. items.Insn (insns.Constant2 v)) place
     (items.Insn (insns.Constant2 place)) (let rows = named_forms in rows.2) fits.in_range refl (λ text o. o)
 text_is at wide (insns.Member op place) fits jump = short_item at op forms.Member (λ v. items.Insn (insns.Member op v)) place
     (items.Insn (insns.Member op place)) fits.well_formed fits.in_range refl (λ text o. o)
 text_is at wide (insns.Interface place count) fits jump =
     let item = items.Insn (insns.Interface place count) in
-    item_of at 185 forms.Interface (short place ++ (count ∷ 0 ∷ [])) item (let rows = named_forms in rows.7)
+    item_of at opcode.invokeinterface forms.Interface (short place ++ (count ∷ 0 ∷ [])) item (let rows = named_forms in rows.7)
     (number_then 2 (λ p. Then byte (λ c. Then byte (λ any. nothing (items.Insn (insns.Interface p c))))) place (short place) (count ∷ 0 ∷ []) item
     (big_short place fits.in_range)
     (byte_then (λ c. Then byte (λ any. nothing (items.Insn (insns.Interface place c)))) count (0 ∷ []) item (one_byte (λ any. item) 0 item refl)))
 text_is at wide (insns.Dynamic place) fits jump =
     let item = items.Insn (insns.Dynamic place) in
-    item_of at 186 forms.Dynamic (short place ++ (0 ∷ 0 ∷ [])) item (let rows = named_forms in rows.8)
+    item_of at opcode.invokedynamic forms.Dynamic (short place ++ (0 ∷ 0 ∷ [])) item (let rows = named_forms in rows.8)
     (number_then 2 (λ p. Then (piece 2) (λ any. nothing (items.Insn (insns.Dynamic p)))) place (short place) (0 ∷ 0 ∷ []) item (big_short place fits.in_range)
     (one_piece 2 (λ any. item) (0 ∷ 0 ∷ []) item refl refl))
 text_is at wide (insns.OfClass op place) fits jump = short_item at op forms.OfClass (λ v. items.Insn (insns.OfClass op v)) place
     (items.Insn (insns.OfClass op place)) fits.well_formed fits.in_range refl (λ text o. o)
 text_is at wide (insns.NewArray elem) fits jump =
     let item = items.Insn (insns.NewArray elem) in
-    item_of at 188 forms.NewArray (elem ∷ []) item (let rows = named_forms in rows.9)
+    item_of at opcode.newarray forms.NewArray (elem ∷ []) item (let rows = named_forms in rows.9)
     (byte_then (λ e. only_if (nat_le 4 e && nat_le e 11) (nothing (items.Insn (insns.NewArray e)))) elem [] item
     (elem_test elem fits.well_formed.0 fits.well_formed.1, (refl, refl)))
 text_is at wide (insns.Multi place dims) fits jump =
     let item = items.Insn (insns.Multi place dims) in
-    item_of at 197 forms.Multi (short place ++ (dims ∷ [])) item (let rows = named_forms in rows.11)
+    item_of at opcode.multianewarray forms.Multi (short place ++ (dims ∷ [])) item (let rows = named_forms in rows.11)
     (number_then 2 (λ p. Then byte (λ d. only_if (nat_le 1 d) (nothing (items.Insn (insns.Multi p d))))) place (short place) (dims ∷ []) item
     (big_short place fits.in_range)
     (byte_then (λ d. only_if (nat_le 1 d) (nothing (items.Insn (insns.Multi place d)))) dims [] item (dims_test dims fits.well_formed, (refl, refl))))

@@ -2,7 +2,7 @@ use Rattle.std.proofs.Common.{◌≡◌, ◌++◌, map, take}
 use Rattle.std.specs.Prelude.{slice_index}
 use Rattle.std.specs.List.{flat_map}
 use Rattle.jc_insn.specs.Writing.{word, difference}
-use Rattle.jc_insn.proofs.write.put_places.Given as goal
+use Rattle.jc_insn.proofs.write.put_offsets.Given as goal
 
 -- the arms so far
 abbrev pub invariant-writing : goal.invariant-writing

@@ -1,4 +1,4 @@
--- The shortest spelling of an instruction is a spelling.
+-- What is written of operands is a spelling of them: fields, pieces of one size, local variables.
 use Rattle.std.proofs.Common.{◌≡◌, ◌⊎◌, inl, inr, ℕ, ◌+◌, ◌-◌, ◌*◌, ◌/◌, ◌%◌, ◌<◌, ◌≤◌, Bool, true, false, ◌&&◌, List, [], ◌∷◌, ◌++◌, length, All, nat_lt, refl, sym, ◌∙◌, ap, subst, arith, w8, w16, w32, ℤ, pos, negsuc, length-append}
 use Rattle.std.proofs.lemmas.List.Elements.{All-head, All-tail}
 use Rattle.std.specs.Int.Signed.{le_z_yes}
@@ -6,7 +6,8 @@ use Rattle.std.specs.Prelude.{T, FitsSigned, int_le, ◌≤ℤ◌}
 use Rattle.std.specs.List.{flat_map}
 use Rattle.std.specs.Int.{cast_signed, cast_unsigned}
 use Rattle.std.proofs.lemmas.List.{append-nil, drop_at}
-use Rattle.std.proofs.lemmas.Bool.{cases_lt, lt-ltb, le-ltb}
+use Rattle.std.proofs.lemmas.Bool.{and_parts, cases_lt, lt-ltb, le-ltb}
+use Rattle.jc_base.specs.Opcode as opcode
 use Rattle.jc_base.specs.Decoder.{IsBig}
 use Rattle.jc_base.proofs.DecoderLaws.{big_front}
 use Rattle.jc_base.specs.declared.form.Form.{Form}
@@ -17,10 +18,10 @@ use Rattle.jc_base.specs.declared.insn.Insn.TheVariants as insns
 use Rattle.jc_insn.specs.declared.item.Item.{Item}
 use Rattle.jc_insn.specs.declared.item.Item.TheVariants as items
 use Rattle.jc_insn.specs.Fields.{nothing, byte, piece, Then}
-use Rattle.jc_insn.specs.Items.{number, target_of, in_pieces, place_in, wide_operands, operands, IsItem}
+use Rattle.jc_insn.specs.Items.{number, target_of, in_pieces, offset_in, wide_operands, operands, IsItem}
 use Rattle.jc_insn.specs.Sizes.{is_narrow_inc}
 use Rattle.jc_insn.specs.Writing.{short, word, signed_byte, signed_short, difference, short_code, local_text, inc_text}
-use Rattle.jc_insn.proofs.NumberTextsLaws.{big_short, big_word, signed_byte_back, signed_short_back, word_target}
+use Rattle.jc_insn.proofs.ReadBackLaws.{big_short, big_word, signed_byte_back, signed_short_back, word_target}
 
 -- ---- fields
 
@@ -76,43 +77,43 @@ pieces_back P size f w (x ∷ xs) each back all =
     (λ i. back x (flat_map w xs) (All-head P x xs all) i ∷ in_pieces size f (length xs) (drop_at (w x) (flat_map w xs) size (each x) i))
     ∙ ap (λ l. x ∷ l) (pieces_back P size f w xs each back (All-tail P x xs all))
 
-pub place_back : (at to : ℕ) (rest : List ℕ) → at < 4294967296 → to < 4294967296 → place_in at (word (difference at to) ++ rest) ≡ to
-place_back at to rest at_fits to_fits =
+pub offset_back : (at to : ℕ) (rest : List ℕ) → at < 4294967296 → to < 4294967296 → offset_in at (word (difference at to) ++ rest) ≡ to
+offset_back at to rest at_fits to_fits =
     let small : difference at to < 4294967296 = omega arith in
     let big = big_word (difference at to) small in
     ap (λ (n : ℕ). target_of at (cast_signed w32 n)) (big_front 4 (word (difference at to)) rest big.size ∙ big.value) ∙ word_target at to at_fits to_fits
 
 -- ---- each form
 
-pub wide_form : form_of 196 ≡ forms.Wide
+pub wide_form : form_of opcode.wide ≡ forms.Wide
 wide_form = let rows = named_forms in rows.10
 
-inc_form : form_of 132 ≡ forms.Inc
+inc_form : form_of opcode.iinc ≡ forms.Inc
 inc_form = let rows = named_forms in rows.3
 
 pub local_is : (at op slot : ℕ) → form_of op ≡ forms.Local → slot < 65536 → IsItem at (local_text op slot) (items.Insn (insns.Local op slot))
 unfolding operands wide_operands
 local_is at op slot is fits = by (cases_lt slot 4) (cases_lt slot 256)
   where
-    load : slot < 4 → 21 ≤ op → op ≤ 25 → IsItem at ((26 + 4 * (op - 21) + slot) ∷ []) (items.Insn (insns.Local op slot))
+    load : slot < 4 → opcode.iload ≤ op → op ≤ opcode.aload → IsItem at ((opcode.iload_0 + 4 * (op - opcode.iload) + slot) ∷ []) (items.Insn (insns.Local op slot))
     load few low high =
-        let code = 26 + 4 * (op - 21) + slot in
-        let op_is : op ≡ 21 + (code - 26) / 4 = omega (arith, few, low, high) in
-        let slot_is : slot ≡ (code - 26) % 4 = omega (arith, few, low, high) in
+        let code = opcode.iload_0 + 4 * (op - opcode.iload) + slot in
+        let op_is : op ≡ opcode.iload + (code - opcode.iload_0) / 4 = omega (arith, few, low, high) in
+        let slot_is : slot ≡ (code - opcode.iload_0) % 4 = omega (arith, few, low, high) in
         item_of at code forms.ShortLoad [] (items.Insn (insns.Local op slot)) (load_form code (omega (arith, low)) (omega (arith, low, high, few)))
         (refl, λ i. items.Insn (insns.Local (op_is i) (slot_is i)))
 
-    store : slot < 4 → 54 ≤ op → op ≤ 58 → IsItem at ((59 + 4 * (op - 54) + slot) ∷ []) (items.Insn (insns.Local op slot))
+    store : slot < 4 → opcode.istore ≤ op → op ≤ opcode.astore → IsItem at ((opcode.istore_0 + 4 * (op - opcode.istore) + slot) ∷ []) (items.Insn (insns.Local op slot))
     store few low high =
-        let code = 59 + 4 * (op - 54) + slot in
-        let op_is : op ≡ 54 + (code - 59) / 4 = omega (arith, few, low, high) in
-        let slot_is : slot ≡ (code - 59) % 4 = omega (arith, few, low, high) in
+        let code = opcode.istore_0 + 4 * (op - opcode.istore) + slot in
+        let op_is : op ≡ opcode.istore + (code - opcode.istore_0) / 4 = omega (arith, few, low, high) in
+        let slot_is : slot ≡ (code - opcode.istore_0) % 4 = omega (arith, few, low, high) in
         item_of at code forms.ShortStore [] (items.Insn (insns.Local op slot)) (store_form code (omega (arith, low)) (omega (arith, low, high, few)))
         (refl, λ i. items.Insn (insns.Local (op_is i) (slot_is i)))
 
-    in_opcode : slot < 4 → ((21 ≤ op) × (op ≤ 25)) ⊎ ((54 ≤ op) × (op ≤ 58)) → IsItem at (short_code op slot ∷ []) (items.Insn (insns.Local op slot))
-    in_opcode few (inl (low, high)) = rw (lt-ltb op 54 (omega (arith, high))) (load few low high)
-    in_opcode few (inr (low, high)) = rw (le-ltb op 54 (omega (arith, low))) (store few low high)
+    in_opcode : slot < 4 → ((opcode.iload ≤ op) × (op ≤ opcode.aload)) ⊎ ((opcode.istore ≤ op) × (op ≤ opcode.astore)) → IsItem at (short_code op slot ∷ []) (items.Insn (insns.Local op slot))
+    in_opcode few (inl (low, high)) = rw (lt-ltb op opcode.istore (omega (arith, high))) (load few low high)
+    in_opcode few (inr (low, high)) = rw (le-ltb op opcode.istore (omega (arith, low))) (store few low high)
 
     by : (slot < 4) ⊎ (4 ≤ slot) → (slot < 256) ⊎ (256 ≤ slot) → IsItem at (local_text op slot) (items.Insn (insns.Local op slot))
     by (inl few) b = rw (lt-ltb slot 4 few) (in_opcode few (local_codes op is))
@@ -120,7 +121,7 @@ local_is at op slot is fits = by (cases_lt slot 4) (cases_lt slot 256)
         (item_of at op forms.Local (slot ∷ []) (items.Insn (insns.Local op slot)) is
         (one_byte (λ v. items.Insn (insns.Local op v)) slot (items.Insn (insns.Local op slot)) refl))
     by (inr more) (inr wide) = rw (le-ltb slot 4 more, le-ltb slot 256 wide)
-        (item_of at 196 forms.Wide (op ∷ short slot) (items.Insn (insns.Local op slot)) wide_form
+        (item_of at opcode.wide forms.Wide (op ∷ short slot) (items.Insn (insns.Local op slot)) wide_form
         (byte_then (λ code. wide_operands (form_of code) code) op (short slot) (items.Insn (insns.Local op slot))
         (subst (λ (f : Form). wide_operands f op (short slot) (items.Insn (insns.Local op slot))) (sym is)
         (one_number 2 (λ v. items.Insn (insns.Local op v)) slot (short slot) (items.Insn (insns.Local op slot)) (big_short slot fits) refl))))
@@ -132,10 +133,6 @@ test_true false h = absurd h
 pub true_test : (b : Bool) → b ≡ true → T b
 true_test true e = tt
 true_test false e = absurd cc
-
-pub both_true : (a b : Bool) → (a && b) ≡ true → (a ≡ true) × (b ≡ true)
-both_true true b e = (refl, e)
-both_true false b e = absurd cc
 
 pub le_true : (a b : ℤ) → a ≤ℤ b → int_le a b ≡ true
 le_true a b h = test_true (int_le a b) h.le
@@ -157,21 +154,21 @@ inc_is at slot by slot_fits by_fits = cases (is_narrow_inc slot by) refl
   where
     narrow : is_narrow_inc slot by ≡ true → (negsuc 127 ≤ℤ by) × (by ≤ℤ pos 127)
     narrow e =
-        let room = both_true (nat_lt slot 256) (int_le (negsuc 127) by && int_le by (pos 127)) e in
-        let ends = both_true (int_le (negsuc 127) by) (int_le by (pos 127)) room.1 in
+        let room = and_parts (nat_lt slot 256) (int_le (negsuc 127) by && int_le by (pos 127)) e in
+        let ends = and_parts (int_le (negsuc 127) by) (int_le by (pos 127)) room.1 in
         (true_le (negsuc 127) by ends.0, true_le by (pos 127) ends.1)
 
     cases : (b : Bool) → is_narrow_inc slot by ≡ b → IsItem at (inc_text slot by) (items.Insn (insns.Inc slot by))
     cases true e = rw e
         (let n = narrow e in
-        item_of at 132 forms.Inc (slot ∷ signed_byte by ∷ []) (items.Insn (insns.Inc slot by)) inc_form
+        item_of at opcode.iinc forms.Inc (slot ∷ signed_byte by ∷ []) (items.Insn (insns.Inc slot by)) inc_form
         (byte_then (λ s. Then byte (λ b. nothing (items.Insn (insns.Inc s (cast_signed w8 b))))) slot (signed_byte by ∷ []) (items.Insn (insns.Inc slot by))
         (one_byte (λ b. items.Insn (insns.Inc slot (cast_signed w8 b))) (signed_byte by) (items.Insn (insns.Inc slot by))
         (ap (λ (z : ℤ). items.Insn (insns.Inc slot z)) (sym (signed_byte_back by n.0 n.1))))))
     cases false e = rw e
-        (item_of at 196 forms.Wide (132 ∷ short slot ++ signed_short by) (items.Insn (insns.Inc slot by)) wide_form
-        (byte_then (λ code. wide_operands (form_of code) code) 132 (short slot ++ signed_short by) (items.Insn (insns.Inc slot by))
-        (subst (λ (f : Form). wide_operands f 132 (short slot ++ signed_short by) (items.Insn (insns.Inc slot by))) (sym inc_form)
+        (item_of at opcode.wide forms.Wide (opcode.iinc ∷ short slot ++ signed_short by) (items.Insn (insns.Inc slot by)) wide_form
+        (byte_then (λ code. wide_operands (form_of code) code) opcode.iinc (short slot ++ signed_short by) (items.Insn (insns.Inc slot by))
+        (subst (λ (f : Form). wide_operands f opcode.iinc (short slot ++ signed_short by) (items.Insn (insns.Inc slot by))) (sym inc_form)
         (number_then 2 (λ s. Then (number 2) (λ b. nothing (items.Insn (insns.Inc s (cast_signed w16 b))))) slot (short slot) (signed_short by)
         (items.Insn (insns.Inc slot by)) (big_short slot slot_fits)
         (one_number 2 (λ b. items.Insn (insns.Inc slot (cast_signed w16 b))) (cast_unsigned w16 by) (signed_short by) (items.Insn (insns.Inc slot by))
