@@ -87,13 +87,13 @@ takes (Ok d) bytes gives c text = (good_is d c [] [] (sym gives ∙ whole_good b
 takes (Err fails.Memory) bytes gives c text = refl
 takes (Err (fails.Said refusal)) bytes gives c text = absurd (good_stops c (class_at bytes) gives.0 (whole_good bytes c text) gives.1)
 
--- bytes that are refused are left in one place
+-- bytes that are refused are left at one offset
 one_stop : (bytes left more : List ℕ) → Stops (class_at bytes) left → WholeFails class_file bytes more → left ≡ more
 one_stop bytes left more stops fails = one_failure class_file class_at class_agrees bytes left more (whole_fails bytes left stops) fails
 
-pub fails_there : (r : Result ClassFile (Fail Refusal)) (bytes : List ℕ) → GivesWhole r bytes (class_at bytes) → (place : ℕ) → FirstBad bytes place → MatchResult r (λ _. ⊥) (λ e. RefusedAs e (λ found. found ≡ place))
-fails_there (Ok c) bytes gives place bad = never_both class_file class_at class_agrees bytes c bad.0 (whole_text bytes c gives) bad.1
-fails_there (Err fails.Memory) bytes gives place bad = tt
-fails_there (Err (fails.Said refusal)) bytes gives place bad =
+pub fails_there : (r : Result ClassFile (Fail Refusal)) (bytes : List ℕ) → GivesWhole r bytes (class_at bytes) → (offset : ℕ) → FirstBad bytes offset → MatchResult r (λ _. ⊥) (λ e. RefusedAs e (λ found. found ≡ offset))
+fails_there (Ok c) bytes gives offset bad = never_both class_file class_at class_agrees bytes c bad.0 (whole_text bytes c gives) bad.1
+fails_there (Err fails.Memory) bytes gives offset bad = tt
+fails_there (Err (fails.Said refusal)) bytes gives offset bad =
     let same : length gives.0 ≡ length bad.0 = ap length (one_stop bytes gives.0 bad.0 gives.1 bad.1) in
     (refusal_is refusal gives.2.kind gives.2.method, omega (arith, gives.2.place, bad.2, same))

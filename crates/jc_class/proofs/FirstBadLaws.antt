@@ -98,19 +98,19 @@ inside_whole bytes left (inr more) = omega (arith, ap length more.2, length-appe
 
 -- ---- laws
 
-pub each_text : (bytes : List ℕ) → ((c : ClassFile) × ClassText bytes c) ⊎ ((place : ℕ) × FirstBad bytes place)
+pub each_text : (bytes : List ℕ) → ((c : ClassFile) × ClassText bytes c) ⊎ ((offset : ℕ) × FirstBad bytes offset)
 each_text bytes = by (whole_or_fails class_file class_at class_agrees bytes)
   where
-    by : ((c : ClassFile) × ClassText bytes c) ⊎ ((left : List ℕ) × WholeFails class_file bytes left) → ((c : ClassFile) × ClassText bytes c) ⊎ ((place : ℕ) × FirstBad bytes place)
+    by : ((c : ClassFile) × ClassText bytes c) ⊎ ((left : List ℕ) × WholeFails class_file bytes left) → ((c : ClassFile) × ClassText bytes c) ⊎ ((offset : ℕ) × FirstBad bytes offset)
     by (inl text) = inl text
     by (inr bad) = let within = inside_whole bytes bad.0 bad.1 in inr (length bytes - length bad.0, (bad.0, bad.1, omega (arith, within)))
 
-pub apart : (bytes : List ℕ) (c : ClassFile) (place : ℕ) → ClassText bytes c → FirstBad bytes place → ⊥
-apart bytes c place text bad = never_both class_file class_at class_agrees bytes c bad.0 text bad.1
+pub apart : (bytes : List ℕ) (c : ClassFile) (offset : ℕ) → ClassText bytes c → FirstBad bytes offset → ⊥
+apart bytes c offset text bad = never_both class_file class_at class_agrees bytes c bad.0 text bad.1
 
 pub one_class_of : (bytes : List ℕ) (c other : ClassFile) → ClassText bytes c → ClassText bytes other → c ≡ other
 one_class_of bytes c other text more = one_value class_file class_at class_agrees bytes c other text more
 
-pub one_place : (bytes : List ℕ) (place other : ℕ) → FirstBad bytes place → FirstBad bytes other → place ≡ other
-one_place bytes place other bad more =
+pub one_place : (bytes : List ℕ) (offset other : ℕ) → FirstBad bytes offset → FirstBad bytes other → offset ≡ other
+one_place bytes offset other bad more =
     omega (arith, bad.2, more.2, ap length (one_failure class_file class_at class_agrees bytes bad.0 more.0 bad.1 more.1))

@@ -1,6 +1,7 @@
 -- What is written names what it has to name.
 use Rattle.std.proofs.Common.{◌≡◌, ℕ, zero, suc, List, [], ◌∷◌, ◌++◌, refl, sym, ◌∙◌, ap, subst}
 use Rattle.std.proofs.lemmas.List.{append-nil}
+use Rattle.std.proofs.lemmas.List.Elements.{All-from_recursion, recursion_from_All, All-weaker}
 use Rattle.jc_base.specs.Counted.{counted}
 use Rattle.jc_base.specs.Decoder.{IsBig}
 use Rattle.jc_base.specs.ItemForms.{number_where}
@@ -18,12 +19,8 @@ use Rattle.jc_class.specs.Writable.{Anything, AreCounted, IsAttribute, IsMember,
 
 -- ---- each part can be written, whatever it names
 
-All_weaker : {X : Type 0} (P Q : X → Type 0) → ((x : X) → P x → Q x) → (xs : List X) → AllByRecursion P xs → AllByRecursion Q xs
-All_weaker P Q to [] all = tt
-All_weaker P Q to (x ∷ xs) all = (to x all.0, All_weaker P Q to xs all.1)
-
 counted_weaker : {X : Type 0} (P Q : X → Type 0) → ((x : X) → P x → Q x) → (xs : List X) → AreCounted P xs → AreCounted Q xs
-counted_weaker P Q to xs c = record { few = c.few; each = All_weaker P Q to xs c.each }
+counted_weaker P Q to xs c = record { few = c.few; each = recursion_from_All Q xs (All-weaker P Q to xs (All-from_recursion P xs c.each)) }
 
 pub any_attributes : (HasName : ℕ → Type 0) (xs : List Attribute) → AreCounted (IsAttribute HasName) xs → AreCounted (IsAttribute Anything) xs
 any_attributes HasName = counted_weaker (IsAttribute HasName) (IsAttribute Anything) (λ a is. record { name = tt; size = is.size })

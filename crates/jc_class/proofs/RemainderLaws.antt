@@ -97,11 +97,11 @@ pub table_step : (table : List ℕ) (remainder byte : ℕ) → byte < 256 → ta
 unfolding after_byte
 table_step table remainder byte fits is =
     let x = bit_xor remainder byte in
-    let place : bit_and x 255 ≡ x % 256 = and_mask x 8 in
+    let masked : bit_and x 255 ≡ x % 256 = and_mask x 8 in
     let low : x % 256 < 256 = omega arith in
     let read : get_or table (x % 256) 0 ≡ after_bits 8 (x % 256) = ap (λ (l : List ℕ). get_or l (x % 256) 0) is ∙ get_or-map-range_with_len (after_bits 8) 0 256 (x % 256) (x % 256) 0 low (omega arith) in
     let high : x / 256 ≡ remainder / 256 = xor_shr remainder byte 8 ∙ ap (bit_xor (remainder / 256)) (none fits) ∙ xor_zero_r (remainder / 256) in
-    (λ i. bit_xor (get_or table (place i) 0) (remainder / 256))
+    (λ i. bit_xor (get_or table (masked i) 0) (remainder / 256))
     ∙ (λ i. bit_xor (read i) (sym high i))
     ∙ xor_comm (after_bits 8 (x % 256)) (x / 256)
     ∙ sym (bits_split 8 (x / 256) (x % 256) low)

@@ -25,7 +25,9 @@ remainder_of bytes = fold after_byte 0 bytes
 
 -- the bytes as they count: those of a class file of version 53 (bytes 6 and 7 are 00 35) as those of one of version 52
 abbrev pub counted : List ℕ → List ℕ
-counted bytes = if nat_le 8 (length bytes) && (slice_index bytes 6 == 0 && slice_index bytes 7 == 0x35) then slice_set bytes 7 0x34 else bytes
+counted bytes =
+    if nat_le 8 (length bytes) && (slice_index bytes 6 == 0 && slice_index bytes 7 == 0x35) then slice_set bytes 7 0x34
+    else bytes
 
 abbrev pub class_id : List ℕ → ℕ
 class_id bytes = remainder_of (counted bytes)

@@ -72,4 +72,5 @@ Stops parsed left = (parsed ≡ Bad left) ⊎ ((c : ClassFile) × (parsed ≡ Go
 abbrev pub GivesWhole : Result ClassFile (Fail Refusal) → List ℕ → Parsed ClassFile → Type 0
 GivesWhole (Ok c) bytes parsed = parsed ≡ Good c []
 GivesWhole (Err fails.Memory) bytes parsed = Unit {0}
-GivesWhole (Err (fails.Said refusal)) bytes parsed = (left : List ℕ) × Stops parsed left × RefusedAt refusal (record { left = bytes; place = 0 }) left
+GivesWhole (Err (fails.Said refusal)) bytes parsed =
+    (left : List ℕ) × Stops parsed left × RefusedAt refusal (record { left = bytes; place = 0 }) left

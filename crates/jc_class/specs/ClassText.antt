@@ -14,14 +14,14 @@ ClassText bytes c = class_file.Text bytes c
 
 -- the offset of the first item that fails, or of the first byte that is left behind a whole class file
 abbrev pub FirstBad : List ℕ → ℕ → Type 0
-FirstBad bytes place = (left : List ℕ) × WholeFails class_file bytes left × (place + length left ≡ length bytes)
+FirstBad bytes offset = (left : List ℕ) × WholeFails class_file bytes left × (offset + length left ≡ length bytes)
 
 -- ---- answers
 
 abbrev pub not_a_class : ℕ → Refusal
-not_a_class place = record { kind = kinds.NotAClass; method = None; place = place }
+not_a_class offset = record { kind = kinds.NotAClass; method = None; place = offset }
 
--- the error is want of memory, or the refusal of bytes that are no class file, at this place
+-- the error is want of memory, or the refusal of bytes that are no class file, at this offset
 abbrev pub RefusedAs : Fail Refusal → (ℕ → Type 0) → Type 0
-RefusedAs fails.Memory Place = Unit {0}
-RefusedAs (fails.Said refusal) Place = (refusal ≡ not_a_class refusal.place) × Place refusal.place
+RefusedAs fails.Memory Offset = Unit {0}
+RefusedAs (fails.Said refusal) Offset = (refusal ≡ not_a_class refusal.place) × Offset refusal.place

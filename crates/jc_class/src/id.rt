@@ -47,8 +47,8 @@ fn after_bytes(table: &[u64; 256], start: u64, bytes: &[u8]) -> u64
 {
     let mut remainder = start;
     for byte in bytes {
-        let place = (remainder ^ u64::from(*byte)) & 0xff;
-        remainder = table[place as usize] ^ (remainder >> 8);
+        let index = (remainder ^ u64::from(*byte)) & 0xff;
+        remainder = table[index as usize] ^ (remainder >> 8);
     }
     remainder
 }

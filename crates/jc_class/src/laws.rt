@@ -4,12 +4,12 @@ ghost use Rattle.jc_base.specs.ByteLists.{AreBytes};
 ghost use Rattle.jc_class.specs.ClassText.{ClassText, FirstBad};
 ghost use Rattle.jc_class.specs.declared.class_file.ClassFile.{ClassFile};
 
-/// Bytes are the text of one class file, or they first fail in one place, and never both.
+/// Bytes are the text of one class file, or they first fail at one offset, and never both.
 pub fn each_text_is_read_or_refused()
-    ensures each { (bytes : List ℕ) → ((c : ClassFile) × ClassText bytes c) ⊎ ((place : ℕ) × FirstBad bytes place) }
-    ensures apart { (bytes : List ℕ) (c : ClassFile) (place : ℕ) → ClassText bytes c → FirstBad bytes place → ⊥ }
+    ensures each { (bytes : List ℕ) → ((c : ClassFile) × ClassText bytes c) ⊎ ((offset : ℕ) × FirstBad bytes offset) }
+    ensures apart { (bytes : List ℕ) (c : ClassFile) (offset : ℕ) → ClassText bytes c → FirstBad bytes offset → ⊥ }
     ensures one_class { (bytes : List ℕ) (c other : ClassFile) → ClassText bytes c → ClassText bytes other → c ≡ other }
-    ensures one_place { (bytes : List ℕ) (place other : ℕ) → FirstBad bytes place → FirstBad bytes other → place ≡ other }
+    ensures one_place { (bytes : List ℕ) (offset other : ℕ) → FirstBad bytes offset → FirstBad bytes other → offset ≡ other }
 {}
 
 /// A class file has one text, so what was read is written back byte for byte.

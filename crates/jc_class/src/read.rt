@@ -1,5 +1,6 @@
 //! Reading a class file.
 ghost use Rattle.std.specs.Prelude.{◌≡◌, ◌≤◌, ℕ, length, IfOk, IfErr, MatchResult};
+ghost use Rattle.jc_base.specs.Outside.{most_read};
 ghost use Rattle.jc_base.specs.Decoder.{SameEnd};
 ghost use Rattle.jc_base.specs.Parsing.{Parses};
 ghost use Rattle.jc_class.specs.ClassReading.{class_at, GivesWhole};
@@ -48,14 +49,14 @@ fn parsed(alloc: Global, reader: &mut Reader<'_>) -> Result<ClassFile, Fail<Refu
 
 /// A class file and nothing behind it.
 fn whole(alloc: Global, bytes: &[u8]) -> Result<ClassFile, Fail<Refusal>>
-    requires { length bytes.now ≤ 67108864 }
+    requires { length bytes.now ≤ most_read }
     ensures { GivesWhole result bytes.now (class_at bytes.now) }
 {
     let mut reader = Reader::new(bytes);
     let class = parsed(alloc, &mut reader)?;
-    let place = reader.place();
-    if (place as usize) < bytes.len() {
-        return Err(Fail::Said(not_a_class(place)));
+    let end = reader.place();
+    if (end as usize) < bytes.len() {
+        return Err(Fail::Said(not_a_class(end)));
     }
     Ok(class)
 }
@@ -76,18 +77,18 @@ fn whole(alloc: Global, bytes: &[u8]) -> Result<ClassFile, Fail<Refusal>>
 /// method or an attribute that is no Utf8 entry, a field or a method whose descriptor is no Utf8
 /// entry or not well formed (JVM Specification 4.3.2, 4.3.3), or bytes that are left at the end.
 pub fn read_class(alloc: Global, bytes: &[u8]) -> Result<ClassFile, Fail<Refusal>>
-    requires { length bytes.now ≤ 67108864 }
+    requires { length bytes.now ≤ most_read }
     // What is read is the class file that the bytes spell, and other bytes are refused where they first fail.
     ensures read { IfOk result (ClassText bytes.now) }
     ensures refused { IfErr result (λ e. RefusedAs e (FirstBad bytes.now)) }
     // What is read can be written, and no attribute is longer than the bytes, which are at most 67,108,864.
     ensures whole { IfOk result IsClassFile }
     ensures within { IfOk result (AttributesWithin (length bytes.now)) }
-    ensures sizes { IfOk result (AttributesWithin 67108864) }
+    ensures sizes { IfOk result (AttributesWithin most_read) }
     // The text of a class file is read, and bytes that fail are refused, unless memory runs out.
     ensures taken { (c : ClassFile) → ClassText bytes.now c → MatchResult result (λ d. d ≡ c) (λ e. e ≡ Fail.Memory) }
-    ensures failing { (place : ℕ) → FirstBad bytes.now place
-        → MatchResult result (λ _. ⊥) (λ e. RefusedAs e (λ found. found ≡ place)) }
+    ensures failing { (offset : ℕ) → FirstBad bytes.now offset
+        → MatchResult result (λ _. ⊥) (λ e. RefusedAs e (λ found. found ≡ offset)) }
 {
     whole(alloc, bytes)
 }

@@ -107,7 +107,7 @@ fn written_back(rt: HostRuntime) -> Result<(), TestFail> {
 
 #[test]
 fn the_first_item_that_fails(rt: HostRuntime) {
-    for (at, byte, place) in [
+    for (at, byte, offset) in [
         (3, 0xbf, 0), // the first number
         (9, 0, 8), // a pool count of 0
         (10, 2, 10), // an unknown tag
@@ -128,7 +128,7 @@ fn the_first_item_that_fails(rt: HostRuntime) {
             *old = byte;
         }
         let refusal = read_class(rt.alloc(), &bytes).err();
-        assert_eq!(rt; refusal, Some(Fail::Said(not_a_class(place))), "byte {at}");
+        assert_eq!(rt; refusal, Some(Fail::Said(not_a_class(offset))), "byte {at}");
     }
 }
 
@@ -136,7 +136,7 @@ fn the_first_item_that_fails(rt: HostRuntime) {
 fn whole_files(rt: HostRuntime) {
     let mut longer = [0; 75];
     longer[..74].copy_from_slice(&SMALL);
-    for (bytes, place) in [
+    for (bytes, offset) in [
         (&longer[..], 74),
         (&SMALL[..73], 72),
         (&SMALL[..3], 0),
@@ -144,6 +144,6 @@ fn whole_files(rt: HostRuntime) {
         (b"PK\x03\x04".as_slice(), 0),
     ] {
         let refusal = read_class(rt.alloc(), bytes).err();
-        assert_eq!(rt; refusal, Some(Fail::Said(not_a_class(place))));
+        assert_eq!(rt; refusal, Some(Fail::Said(not_a_class(offset))));
     }
 }

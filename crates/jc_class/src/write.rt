@@ -28,7 +28,8 @@ fn put_attribute(into: &mut Vec<u8>, attribute: &Attribute) -> Result<(), Memory
 /// Puts attributes at the end, one behind the other.
 fn put_listed_attributes(into: &mut Vec<u8>, attributes: &[Attribute]) -> Result<(), Memory>
     requires { AllByRecursion (IsAttribute Anything) attributes.now }
-    ensures { OnOk result (Appended (times (length attributes.now) (attribute_form Anything)) attributes.now into.old.items into.new.items) }
+    ensures { OnOk result (Appended (times (length attributes.now) (attribute_form Anything))
+        attributes.now into.old.items into.new.items) }
 {
     'writing: for attribute in attributes {
         put_attribute(into, attribute)?;
@@ -59,7 +60,8 @@ fn put_member(into: &mut Vec<u8>, member: &Member) -> Result<(), Memory>
 /// Puts fields or methods at the end, one behind the other.
 fn put_listed_members(into: &mut Vec<u8>, members: &[Member]) -> Result<(), Memory>
     requires { AllByRecursion (IsMember Anything Anything) members.now }
-    ensures { OnOk result (Appended (times (length members.now) (member_form Anything Anything)) members.now into.old.items into.new.items) }
+    ensures { OnOk result (Appended (times (length members.now) (member_form Anything Anything))
+        members.now into.old.items into.new.items) }
 {
     'writing: for member in members {
         put_member(into, member)?;

@@ -1,5 +1,6 @@
 use Rattle.std.proofs.Common.{length, arith}
 use Rattle.jc_class.proofs.ClassLaws.{reads, refuses, takes, fails_there}
+use Rattle.jc_base.specs.Outside.{most_read}
 use Rattle.jc_base.proofs.OneTextLaws.{are_bytes}
 use Rattle.jc_class.proofs.SizesLaws.{all_within}
 use Rattle.jc_class.proofs.WholeLaws.{wholes}
@@ -16,7 +17,7 @@ returns c =
       refused = refuses r bytes gives;
       whole = wholes r bytes (are_bytes bytes (λ i. omega (arith, c.type_inv.bytes i))) read;
       within = all_within (length bytes) r bytes (omega arith) read;
-      sizes = all_within 67108864 r bytes c.requires read;
+      sizes = all_within most_read r bytes c.requires read;
       taken = takes r bytes gives;
       failing = fails_there r bytes gives;
     }
