@@ -1,5 +1,6 @@
 -- The command that the words call, by their parts and by tests.
 use Rattle.std.proofs.Common.{◌≡◌, ◌≢◌, ◌⊎◌, inl, inr, ◌≤◌, ◌<◌, ◌^◌, Bool, true, false, cond, not, ◌&&◌, List, [], ◌∷◌, ◌++◌, Option, None, Some, option_map, length, nat_eq, arith, codes, String, string_bytes, IsTrue, refl, sym, ◌∙◌, ap, ap₂, subst, append_assoc}
+use Rattle.std.proofs.lemmas.Bool.{and_parts, not-true}
 use Rattle.std.proofs.lemmas.List.{append-nil, length-map}
 use Rattle.std.specs.List.{flat_map, list_all, AllByRecursion}
 use Rattle.std.specs.Str.{bytes_eq}
@@ -35,14 +36,6 @@ scan_spells (w ∷ v ∷ rest) s e = elim (chosen (is_option w) (with_use (recor
     used (Some t) spells e = ap (λ (l : List Word). w ∷ v ∷ l) (spells t refl) ∙ ap spelled (some_is (record { uses = record { option = w; value = v } ∷ t.uses; files = t.files }) s e)
 
 -- ---- what a decision says of the call
-
-and_parts : (a b : Bool) → (a && b) ≡ true → (a ≡ true) × (b ≡ true)
-and_parts true b e = (refl, e)
-and_parts false b e = absurd cc
-
-not_true : (b : Bool) → not b ≡ true → b ≡ false
-not_true true e = absurd cc
-not_true false e = refl
 
 all_by_recursion : (p : Word → Bool) (ws : List Word) → list_all p ws ≡ true → AllByRecursion (λ w. IsTrue (p w)) ws
 all_by_recursion p [] all = tt
@@ -112,7 +105,7 @@ decided (name ∷ rest) command e = by (scan rest) refl e
 value_no_option : (word : Word) → is_value word ≡ true → is_option word ≡ false
 value_no_option [] plain = absurd cc
 value_no_option (a ∷ []) plain = refl
-value_no_option (a ∷ b ∷ rest) plain = rw (not_true (nat_eq a 45) plain) refl
+value_no_option (a ∷ b ∷ rest) plain = rw (not-true (nat_eq a 45) plain) refl
 
 pub scan_files : (w : Word) (rest : List Word) → is_option w ≡ false → scan (w ∷ rest) ≡ Some (record { uses = []; files = w ∷ rest })
 unfolding scan

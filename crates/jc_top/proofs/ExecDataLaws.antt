@@ -14,7 +14,7 @@ use Rattle.jc_exec.proofs.AnsweringLaws.{answered}
 use Rattle.jc_exec.proofs.ListLaws.{one_list}
 use Rattle.jc_exec.proofs.MergingLaws.{merging_makes_union, union_distinct, union_is_merged}
 use Rattle.jc_exec.proofs.RefusingLaws.{one_reason, not_both}
-use Rattle.jc_exec.proofs.StoringLaws.{own_union, union_over}
+use Rattle.jc_exec.proofs.StoringLaws.{own_union, union_append, union_over}
 use Rattle.jc_exec.proofs.UnionLaws.{one_union, union_none}
 use Rattle.jc_top.specs.ExecData.{BlocksOfAll, IsUnionOf, no_data, IsInput, IsFirstRefused, IsFirstRefusedAlone}
 use Rattle.jc_top.specs.Words.{Word}
@@ -56,18 +56,9 @@ split (t ∷ front) behind read (f, rest, parts, is, later) =
 
 -- ---- unions of blocks in front
 
-union_of-append : (s : Store) (bs more : List Block) → union_of s (bs ++ more) ≡ option_and_then (λ t. union_of t more) (union_of s bs)
-union_of-append s [] more = refl
-union_of-append s (b ∷ bs) more = by (with_block s b) (λ t. union_of-append t bs more)
-  where
-    by : (o : Option Store) → ((t : Store) → union_of t (bs ++ more) ≡ option_and_then (λ x. union_of x more) (union_of t bs))
-        → option_and_then (λ t. union_of t (bs ++ more)) o ≡ option_and_then (λ t. union_of t more) (option_and_then (λ t. union_of t bs) o)
-    by None rest = refl
-    by (Some t) rest = rest t
-
 -- the blocks in front of others have a union where all have
 union_front : (bs more : List Block) (t : Store) → IsUnion (bs ++ more) t → (s : Store) × IsUnion bs s
-union_front bs more t u = by (union_of no_data bs) refl (sym (union_of-append no_data bs more) ∙ union_is_merged (bs ++ more) t u)
+union_front bs more t u = by (union_of no_data bs) refl (sym (union_append no_data bs more) ∙ union_is_merged (bs ++ more) t u)
   where
     by : (o : Option Store) → union_of no_data bs ≡ o → option_and_then (λ x. union_of x more) o ≡ Some t → (s : Store) × IsUnion bs s
     by None is e = absurd cc
@@ -122,7 +113,7 @@ refusal_of (bad_exec place) = (BadExec place, refl)
 refusal_of (other_version found) = (OtherVersion found, refl)
 refusal_of (conflict id first second m n) = (Conflict id first second m n, refl)
 
--- a list by the element at a place, and the front of a list by an element of it
+-- a list by the element at a index, and the front of a list by an element of it
 parts_at : {X : Type 0} (xs : List X) (p : ℕ) (d : X) → p < length xs → (rest : List X) × (xs ≡ take p xs ++ get_or xs p d ∷ rest)
 parts_at [] p d within = absurd (omega (arith, within))
 parts_at (x ∷ xs) zero d within = (xs, refl)
@@ -135,8 +126,8 @@ front_at (x ∷ xs) zero (suc q) d before within = (take q xs, refl)
 front_at (x ∷ xs) (suc p) (suc q) d before within =
     let r = front_at xs p q d (omega (arith, before)) (omega (arith, within)) in (r.0, ap (λ l. x ∷ l) r.1)
 
-pub record SameRefusal (place : ℕ) (path : Word) (refusal : ExecRefusal) (place' : ℕ) (path' : Word) (refusal' : ExecRefusal) : Type 0 where
-  pub place_is : place ≡ place'
+pub record SameRefusal (index : ℕ) (path : Word) (refusal : ExecRefusal) (index' : ℕ) (path' : Word) (refusal' : ExecRefusal) : Type 0 where
+  pub index_is : index ≡ index'
   pub path_is : path ≡ path'
   pub refusal_is : refusal ≡ refusal'
 
@@ -173,7 +164,7 @@ module _ (paths : List Word) (texts : List (List ℕ)) where
         let refused : FirstRefusal y.store y.text (why_of r) = subst (λ (t : List ℕ). FirstRefusal y.store t (why_of r)) text
         (subst (λ (z : Store). FirstRefusal z x.text (why_of r)) store x.refused) in
         record {
-          place_is = same;
+          index_is = same;
           path_is = same_path p q a b x.text y.text same x.input y.input;
           refusal_is = why_is r s (one_reason y.store y.text (why_of r) (why_of s) refused y.refused);
         }
@@ -187,7 +178,7 @@ taken_or_refused bs before text u = answered before text (union_distinct bs befo
 -- the union of the first texts, or the first that is refused
 abbrev UnionOrRefused : List Word → List (List ℕ) → List (List ℕ) → Type 0
 UnionOrRefused paths texts front =
-    ((s : Store) × IsUnionOf front s) ⊎ ((place : ℕ) × (path : Word) × (refusal : ExecRefusal) × IsFirstRefused paths texts place path refusal)
+    ((s : Store) × IsUnionOf front s) ⊎ ((index : ℕ) × (path : Word) × (refusal : ExecRefusal) × IsFirstRefused paths texts index path refusal)
 
 one_text_more : (paths : List Word) (texts : List (List ℕ)) (n : ℕ) → n < length texts → UnionOrRefused paths texts (take n texts)
     → UnionOrRefused paths texts (take (n + 1) texts)
@@ -269,7 +260,7 @@ module _ (paths : List Word) (texts : List (List ℕ)) where
         let text : x.text ≡ y.text = same_text paths texts p q a b x.text y.text same x.input y.input in
         let refused : FirstRefusal no_data y.text (why_of r) = subst (λ (t : List ℕ). FirstRefusal no_data t (why_of r)) text x.refused in
         record {
-          place_is = same;
+          index_is = same;
           path_is = same_path paths texts p q a b x.text y.text same x.input y.input;
           refusal_is = why_is r s (one_reason no_data y.text (why_of r) (why_of s) refused y.refused);
         }
@@ -277,7 +268,7 @@ module _ (paths : List Word) (texts : List (List ℕ)) where
 
 abbrev DataOrRefused : List Word → List (List ℕ) → List (List ℕ) → Type 0
 DataOrRefused paths texts front =
-    AllByRecursion IsData front ⊎ ((place : ℕ) × (path : Word) × (refusal : ExecRefusal) × IsFirstRefusedAlone paths texts place path refusal)
+    AllByRecursion IsData front ⊎ ((index : ℕ) × (path : Word) × (refusal : ExecRefusal) × IsFirstRefusedAlone paths texts index path refusal)
 
 data_or_refusal : (text : List ℕ) → IsData text ⊎ IsRefused no_data text
 data_or_refusal text = by (taken_or_refused [] no_data text union_none)

@@ -82,34 +82,34 @@ one_list (t ∷ ts) [] ms p q = absurd p
 one_list (t ∷ ts) (l ∷ ls) [] p q = absurd q
 one_list (t ∷ ts) (l ∷ ls) (m ∷ ms) p q = ap₂ (λ (x : List ℕ) (xs : List (List ℕ)). x ∷ xs) (line_is l m (one_listing t (prints l) (prints m) p.0 q.0)) (one_list ts ls ms p.1 q.1)
 
-pub listed_or_refused : (k : ℕ) (ps : List Word) (ts ls : List (List ℕ)) (place : ℕ) (path : Word) (why : Refusal) → AreListed ts ls → RefusedAt k ps ts place path why → ⊥
-listed_or_refused k [] ts ls place path why p q = absurd q
-listed_or_refused k (x ∷ ps) [] ls place path why p q = absurd q
-listed_or_refused k (x ∷ ps) (t ∷ ts) [] place path why p q = absurd p
-listed_or_refused k (x ∷ ps) (t ∷ ts) (l ∷ ls) place path why p (inl here) = line_or_refusal (one_listing t (prints l) (refuses why) p.0 here.0)
-listed_or_refused k (x ∷ ps) (t ∷ ts) (l ∷ ls) place path why p (inr later) = listed_or_refused (k + 1) ps ts ls place path why p.1 later.2
+pub listed_or_refused : (k : ℕ) (ps : List Word) (ts ls : List (List ℕ)) (index : ℕ) (path : Word) (why : Refusal) → AreListed ts ls → RefusedAt k ps ts index path why → ⊥
+listed_or_refused k [] ts ls index path why p q = absurd q
+listed_or_refused k (x ∷ ps) [] ls index path why p q = absurd q
+listed_or_refused k (x ∷ ps) (t ∷ ts) [] index path why p q = absurd p
+listed_or_refused k (x ∷ ps) (t ∷ ts) (l ∷ ls) index path why p (inl here) = line_or_refusal (one_listing t (prints l) (refuses why) p.0 here.0)
+listed_or_refused k (x ∷ ps) (t ∷ ts) (l ∷ ls) index path why p (inr later) = listed_or_refused (k + 1) ps ts ls index path why p.1 later.2
 
-pub record SameRefusal (place : ℕ) (path : Word) (why : Refusal) (place' : ℕ) (path' : Word) (why' : Refusal) : Type 0 where
-  pub place_is : place ≡ place'
+pub record SameRefusal (index : ℕ) (path : Word) (why : Refusal) (index' : ℕ) (path' : Word) (why' : Refusal) : Type 0 where
+  pub index_is : index ≡ index'
   pub path_is : path ≡ path'
   pub why_is : why ≡ why'
 
-pub one_refusal : (k : ℕ) (ps : List Word) (ts : List (List ℕ)) (place place' : ℕ) (path path' : Word) (why why' : Refusal) → RefusedAt k ps ts place path why → RefusedAt k ps ts place' path' why' → SameRefusal place path why place' path' why'
-one_refusal k [] ts place place' path path' why why' p q = absurd p
-one_refusal k (x ∷ ps) [] place place' path path' why why' p q = absurd p
-one_refusal k (x ∷ ps) (t ∷ ts) place place' path path' why why' (inl p) (inl q) = record { place_is = p.1 ∙ sym q.1; path_is = p.2 ∙ sym q.2; why_is = refusal_is why why' (one_listing t (refuses why) (refuses why') p.0 q.0) }
-one_refusal k (x ∷ ps) (t ∷ ts) place place' path path' why why' (inl p) (inr q) = line_or_refusal (one_listing t (prints q.0) (refuses why) q.1 p.0)
-one_refusal k (x ∷ ps) (t ∷ ts) place place' path path' why why' (inr p) (inl q) = line_or_refusal (one_listing t (prints p.0) (refuses why') p.1 q.0)
-one_refusal k (x ∷ ps) (t ∷ ts) place place' path path' why why' (inr p) (inr q) = one_refusal (k + 1) ps ts place place' path path' why why' p.2 q.2
+pub one_refusal : (k : ℕ) (ps : List Word) (ts : List (List ℕ)) (index index' : ℕ) (path path' : Word) (why why' : Refusal) → RefusedAt k ps ts index path why → RefusedAt k ps ts index' path' why' → SameRefusal index path why index' path' why'
+one_refusal k [] ts index index' path path' why why' p q = absurd p
+one_refusal k (x ∷ ps) [] index index' path path' why why' p q = absurd p
+one_refusal k (x ∷ ps) (t ∷ ts) index index' path path' why why' (inl p) (inl q) = record { index_is = p.1 ∙ sym q.1; path_is = p.2 ∙ sym q.2; why_is = refusal_is why why' (one_listing t (refuses why) (refuses why') p.0 q.0) }
+one_refusal k (x ∷ ps) (t ∷ ts) index index' path path' why why' (inl p) (inr q) = line_or_refusal (one_listing t (prints q.0) (refuses why) q.1 p.0)
+one_refusal k (x ∷ ps) (t ∷ ts) index index' path path' why why' (inr p) (inl q) = line_or_refusal (one_listing t (prints p.0) (refuses why') p.1 q.0)
+one_refusal k (x ∷ ps) (t ∷ ts) index index' path path' why why' (inr p) (inr q) = one_refusal (k + 1) ps ts index index' path path' why why' p.2 q.2
 
-pub some_list : (k : ℕ) (ps : List Word) (ts : List (List ℕ)) → length ps ≡ length ts → ((ls : List (List ℕ)) × AreListed ts ls) ⊎ ((place : ℕ) × (path : Word) × (why : Refusal) × RefusedAt k ps ts place path why)
+pub some_list : (k : ℕ) (ps : List Word) (ts : List (List ℕ)) → length ps ≡ length ts → ((ls : List (List ℕ)) × AreListed ts ls) ⊎ ((index : ℕ) × (path : Word) × (why : Refusal) × RefusedAt k ps ts index path why)
 some_list k [] [] same = inl ([], tt)
 some_list k [] (t ∷ ts) same = absurd (omega (arith, same))
 some_list k (p ∷ ps) [] same = absurd (omega (arith, same))
 some_list k (p ∷ ps) (t ∷ ts) same = by (some_listing t).0 (some_listing t).1 (some_list (k + 1) ps ts (omega (arith, same)))
   where
-    by : (l : Listing) → Lists t l → ((ls : List (List ℕ)) × AreListed ts ls) ⊎ ((place : ℕ) × (path : Word) × (why : Refusal) × RefusedAt (k + 1) ps ts place path why)
-        → ((ls : List (List ℕ)) × AreListed (t ∷ ts) ls) ⊎ ((place : ℕ) × (path : Word) × (why : Refusal) × RefusedAt k (p ∷ ps) (t ∷ ts) place path why)
+    by : (l : Listing) → Lists t l → ((ls : List (List ℕ)) × AreListed ts ls) ⊎ ((index : ℕ) × (path : Word) × (why : Refusal) × RefusedAt (k + 1) ps ts index path why)
+        → ((ls : List (List ℕ)) × AreListed (t ∷ ts) ls) ⊎ ((index : ℕ) × (path : Word) × (why : Refusal) × RefusedAt k (p ∷ ps) (t ∷ ts) index path why)
     by (refuses why) is rest = inr (k, p, why, inl (is, refl, refl))
     by (prints l) is (inl rest) = inl (l ∷ rest.0, (is, rest.1))
     by (prints l) is (inr rest) = inr (rest.0, rest.1, rest.2, inr (l, is, rest.3))
@@ -130,8 +130,8 @@ refused_here k (x ∷ ps) (u ∷ ts) ls zero p t why same within are text path i
 refused_here k (x ∷ ps) (u ∷ ts) [] (suc i) p t why same within are text path is = absurd are
 refused_here k (x ∷ ps) (u ∷ ts) (l ∷ ls) (suc i) p t why same within are text path is =
     let next = refused_here (k + 1) ps ts ls i p t why (omega (arith, same)) (omega (arith, within)) are.1 text path is in
-    let place : k + 1 + i ≡ k + suc i = omega arith in
-    inr (l, are.0, subst (λ (n : ℕ). RefusedAt (k + 1) ps ts n p why) place next)
+    let index : k + 1 + i ≡ k + suc i = omega arith in
+    inr (l, are.0, subst (λ (n : ℕ). RefusedAt (k + 1) ps ts n p why) index next)
 
 -- ---- the writes of the lines
 

@@ -35,7 +35,7 @@ merge_on texts i t old new within is so_far reads =
 pub merge_end : (texts : List (List ℕ)) (i : ℕ) (store : Store) → length texts ≤ i → IsUnionOf (take i texts) store → IsUnionOf texts store
 merge_end texts i store all u = subst (λ (l : List (List ℕ)). IsUnionOf l store) (take_all i texts all) u
 
--- the input at a place of the loop
+-- the input at a index of the loop
 pub input_at : (words : List (String Global)) (texts : List (List ℕ)) (i : ℕ) (w : String Global) (t : List ℕ) (file : Bor (List ℕ))
     → length texts ≡ length words → i < length texts → t ≡ get_or texts i t → w ≡ get_or words i w → file.now ≡ string_bytes w
     → IsInput (words_of words) texts i file.now t

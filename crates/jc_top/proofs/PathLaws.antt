@@ -2,6 +2,7 @@
 use Rattle.std.proofs.Common.{◌≡◌, ℕ, zero, suc, ◌+◌, ◌<◌, ◌≤◌, Bool, true, false, not, ◌&&◌, ◌||◌, List, [], ◌∷◌, ◌++◌, length, take, drop, get_or, map, Some, None, Bor, position, nat_eq, String, string_bytes, refl, sym, ◌∙◌, ap, ap₂, arith}
 use Rattle.std.specs.List.{list_all, list_any, position_or_len}
 use Rattle.std.specs.Str.{bytes_eq}
+use Rattle.std.proofs.lemmas.Bool.{and_right, or_right}
 use Rattle.std.proofs.lemmas.List.Quantifiers.{position-Some}
 use Rattle.std.proofs.lemmas.List.Sums.{fails_before_first}
 use Rattle.std.proofs.lemmas.Slice.Eq.{bytes_eq-Decides}
@@ -110,27 +111,11 @@ not_distinct (y ∷ xs) behind x found = by (bytes_eq x y) refl found (not_disti
   where
     any_found : (zs : List Word) → bytes_eq x y ≡ true → list_any (bytes_eq y) (zs ++ x ∷ behind) ≡ true
     any_found [] same = rw (turned y x, same) refl
-    any_found (z ∷ zs) same = rw (any_found zs same) (or_true (bytes_eq y z))
-      where
-        or_true : (b : Bool) → (b || true) ≡ true
-        or_true true = refl
-        or_true false = refl
-
-    and_false : (b : Bool) → (b && false) ≡ false
-    and_false true = refl
-    and_false false = refl
+    any_found (z ∷ zs) same = rw (any_found zs same) (or_right (bytes_eq y z) true refl)
 
     by : (b : Bool) → bytes_eq x y ≡ b → (b || list_any (bytes_eq x) xs) ≡ true → (list_any (bytes_eq x) xs ≡ true → are_distinct (xs ++ x ∷ behind) ≡ false) → are_distinct (y ∷ (xs ++ x ∷ behind)) ≡ false
     by true same h rest = rw (any_found xs same) refl
-    by false other h rest = rw (rest h) (and_false (not (list_any (bytes_eq y) (xs ++ x ∷ behind))))
-
-pub is_found : (b : Bool) → not b ≡ false → b ≡ true
-is_found true e = refl
-is_found false e = absurd cc
-
-pub is_new : (b : Bool) → not b ≡ true → b ≡ false
-is_new true e = absurd cc
-is_new false e = refl
+    by false other h rest = rw (rest h) (and_right (not (list_any (bytes_eq y) (xs ++ x ∷ behind))) false refl)
 
 -- ---- the words of a list
 
@@ -162,19 +147,11 @@ all_on p words i w within is so_far passes =
 
 pub all_stop : (p : Word → Bool) (words : List (String Global)) (i : ℕ) (w : String Global) → i < length words → w ≡ get_or words i w → p (string_bytes w) ≡ false → false ≡ list_all p (words_of words)
 all_stop p words i w within is other =
-    sym (ap (list_all p) (map_parts string_bytes words i w within is) ∙ list_all-append p (words_of (take i words)) (string_bytes w ∷ words_of (drop (i + 1) words)) ∙ rw other (and_false (list_all p (words_of (take i words)))))
-  where
-    and_false : (b : Bool) → (b && false) ≡ false
-    and_false true = refl
-    and_false false = refl
+    sym (ap (list_all p) (map_parts string_bytes words i w within is) ∙ list_all-append p (words_of (take i words)) (string_bytes w ∷ words_of (drop (i + 1) words)) ∙ rw other (and_right (list_all p (words_of (take i words))) false refl))
 
 pub any_stop : (p : Word → Bool) (words : List (String Global)) (i : ℕ) (w : String Global) → i < length words → w ≡ get_or words i w → p (string_bytes w) ≡ true → true ≡ list_any p (words_of words)
 any_stop p words i w within is passes = sym (ap (list_any p) (map_parts string_bytes words i w within is) ∙ later (words_of (take i words)))
   where
-    or_true : (b : Bool) → (b || true) ≡ true
-    or_true true = refl
-    or_true false = refl
-
     later : (front : List Word) → list_any p (front ++ string_bytes w ∷ words_of (drop (i + 1) words)) ≡ true
     later [] = rw passes refl
-    later (x ∷ front) = ap (λ (t : Bool). p x || t) (later front) ∙ or_true (p x)
+    later (x ∷ front) = ap (λ (t : Bool). p x || t) (later front) ∙ or_right (p x) true refl

@@ -98,17 +98,17 @@ merged_answer out store = record { writes = to_file out (exec_text store) ∷ []
 abbrev MergeAnswer : Word → List Word → List (List ℕ) → Answer → Type 0
 MergeAnswer out inputs texts answer =
     ((store : Store) × IsUnionOf texts store × (answer ≡ merged_answer out store))
-    ⊎ ((place : ℕ) × (path : Word) × (refusal : ExecRefusal) × IsFirstRefused inputs texts place path refusal × (answer ≡ refusing path (fault.Exec place refusal)))
+    ⊎ ((index : ℕ) × (path : Word) × (refusal : ExecRefusal) × IsFirstRefused inputs texts index path refusal × (answer ≡ refusing path (fault.Exec index refusal)))
 
 abbrev InfoAnswer : List Word → List (List ℕ) → Answer → Type 0
 InfoAnswer paths texts answer =
     ((lines : List (List ℕ)) × AreInfo paths texts lines × (answer ≡ listed_answer lines))
-    ⊎ ((place : ℕ) × (path : Word) × (refusal : ExecRefusal) × IsFirstRefusedAlone paths texts place path refusal × (answer ≡ refusing path (fault.Exec place refusal)))
+    ⊎ ((index : ℕ) × (path : Word) × (refusal : ExecRefusal) × IsFirstRefusedAlone paths texts index path refusal × (answer ≡ refusing path (fault.Exec index refusal)))
 
 abbrev ListAnswer : List Word → List (List ℕ) → Answer → Type 0
 ListAnswer paths texts answer =
     ((lines : List (List ℕ)) × AreListed texts lines × (answer ≡ listed_answer lines))
-    ⊎ ((place : ℕ) × (path : Word) × (why : Refusal) × RefusedAt 0 paths texts place path why × (answer ≡ refusing path (fault.Class place why)))
+    ⊎ ((index : ℕ) × (path : Word) × (why : Refusal) × RefusedAt 0 paths texts index path why × (answer ≡ refusing path (fault.Class index why)))
 
 -- an answer, by the command and the texts
 abbrev AnswerOf : Command → List (List ℕ) → Answer → Type 0
@@ -118,11 +118,11 @@ AnswerOf (class_info paths) texts answer = ListAnswer paths texts answer
 
 answer_of : (command : Command) (texts : List (List ℕ)) (answer : Answer) → Answers command texts answer → AnswerOf command texts answer
 answer_of command texts answer (merged store union) = inl (store, union, refl)
-answer_of command texts answer (merge_refused place path refusal is) = inr (place, path, refusal, is, refl)
+answer_of command texts answer (merge_refused index path refusal is) = inr (index, path, refusal, is, refl)
 answer_of command texts answer (informed lines info) = inl (lines, info, refl)
-answer_of command texts answer (exec_info_refused place path refusal is) = inr (place, path, refusal, is, refl)
+answer_of command texts answer (exec_info_refused index path refusal is) = inr (index, path, refusal, is, refl)
 answer_of command texts answer (listed lines are) = inl (lines, are, refl)
-answer_of command texts answer (class_refused place path why is) = inr (place, path, why, is, refl)
+answer_of command texts answer (class_refused index path why is) = inr (index, path, why, is, refl)
 
 one_merge : (out : Word) (inputs : List Word) (texts : List (List ℕ)) (a b : Answer) → MergeAnswer out inputs texts a → MergeAnswer out inputs texts b → a ≡ b
 one_merge out inputs texts a b (inl p) (inl q) = p.2 ∙ ap (merged_answer out) (one_union_of texts p.0 q.0 p.1 q.1) ∙ sym q.2
@@ -130,7 +130,7 @@ one_merge out inputs texts a b (inl p) (inr q) = absurd (union_or_refused inputs
 one_merge out inputs texts a b (inr p) (inl q) = absurd (union_or_refused inputs texts q.0 p.0 p.1 p.2 q.1 p.3)
 one_merge out inputs texts a b (inr p) (inr q) =
     let same = one_refused inputs texts p.0 q.0 p.1 q.1 p.2 q.2 p.3 q.3 in
-    p.4 ∙ (λ i. refusing (same.path_is i) (fault.Exec (same.place_is i) (same.refusal_is i))) ∙ sym q.4
+    p.4 ∙ (λ i. refusing (same.path_is i) (fault.Exec (same.index_is i) (same.refusal_is i))) ∙ sym q.4
 
 one_info_answer : (paths : List Word) (texts : List (List ℕ)) (a b : Answer) → InfoAnswer paths texts a → InfoAnswer paths texts b → a ≡ b
 one_info_answer paths texts a b (inl p) (inl q) = p.2 ∙ ap listed_answer (one_info paths texts p.0 q.0 p.1 q.1) ∙ sym q.2
@@ -138,7 +138,7 @@ one_info_answer paths texts a b (inl p) (inr q) = absurd (data_or_refused paths 
 one_info_answer paths texts a b (inr p) (inl q) = absurd (data_or_refused paths texts p.0 p.1 p.2 (info_is_data paths texts q.0 q.1) p.3)
 one_info_answer paths texts a b (inr p) (inr q) =
     let same = one_refused_alone paths texts p.0 q.0 p.1 q.1 p.2 q.2 p.3 q.3 in
-    p.4 ∙ (λ i. refusing (same.path_is i) (fault.Exec (same.place_is i) (same.refusal_is i))) ∙ sym q.4
+    p.4 ∙ (λ i. refusing (same.path_is i) (fault.Exec (same.index_is i) (same.refusal_is i))) ∙ sym q.4
 
 one_listing_answer : (paths : List Word) (texts : List (List ℕ)) (a b : Answer) → ListAnswer paths texts a → ListAnswer paths texts b → a ≡ b
 one_listing_answer paths texts a b (inl p) (inl q) = p.2 ∙ ap listed_answer (one_list texts p.0 q.0 p.1 q.1) ∙ sym q.2
@@ -146,7 +146,7 @@ one_listing_answer paths texts a b (inl p) (inr q) = absurd (listed_or_refused 0
 one_listing_answer paths texts a b (inr p) (inl q) = absurd (listed_or_refused 0 paths texts q.0 p.0 p.1 p.2 q.1 p.3)
 one_listing_answer paths texts a b (inr p) (inr q) =
     let same = one_refusal 0 paths texts p.0 q.0 p.1 q.1 p.2 q.2 p.3 q.3 in
-    p.4 ∙ (λ i. refusing (same.path_is i) (fault.Class (same.place_is i) (same.why_is i))) ∙ sym q.4
+    p.4 ∙ (λ i. refusing (same.path_is i) (fault.Class (same.index_is i) (same.why_is i))) ∙ sym q.4
 
 one_answer_of : (command : Command) (texts : List (List ℕ)) (a b : Answer) → AnswerOf command texts a → AnswerOf command texts b → a ≡ b
 one_answer_of (merge out inputs) texts a b p q = one_merge out inputs texts a b p q

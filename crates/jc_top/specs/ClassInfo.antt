@@ -47,9 +47,9 @@ AreListed [] (l ∷ ls) = ⊥
 AreListed (t ∷ ts) [] = ⊥
 AreListed (t ∷ ts) (l ∷ ls) = Lists t (prints l) × AreListed ts ls
 
--- The first file that is refused, by its place counted from k and by its path: each file before it has its line.
+-- The first file that is refused, by its index counted from k and by its path: each file before it has its line.
 abbrev pub RefusedAt : ℕ → List Word → List (List ℕ) → ℕ → Word → Refusal → Type 0
-RefusedAt k [] texts place path why = ⊥
-RefusedAt k (p ∷ ps) [] place path why = ⊥
-RefusedAt k (p ∷ ps) (t ∷ ts) place path why =
-    (Lists t (refuses why) × (place ≡ k) × (path ≡ p)) ⊎ ((l : List ℕ) × Lists t (prints l) × RefusedAt (k + 1) ps ts place path why)
+RefusedAt k [] texts index path why = ⊥
+RefusedAt k (p ∷ ps) [] index path why = ⊥
+RefusedAt k (p ∷ ps) (t ∷ ts) index path why =
+    (Lists t (refuses why) × (index ≡ k) × (path ≡ p)) ⊎ ((l : List ℕ) × Lists t (prints l) × RefusedAt (k + 1) ps ts index path why)

@@ -23,23 +23,23 @@ pub record IsUnionOf (texts : List (List ℕ)) (store : Store) : Type 0 where
 abbrev pub no_data : Store
 no_data = record { sessions = []; classes = [] }
 
--- the input at the place, by its path and its text
-pub record IsInput (paths : List Word) (texts : List (List ℕ)) (place : ℕ) (path : Word) (text : List ℕ) : Type 0 where
-  pub within : place < length texts
-  pub path_is : path ≡ slice_index_or paths place []
-  pub text_is : text ≡ slice_index_or texts place []
+-- the input of this index, by its path and its text
+pub record IsInput (paths : List Word) (texts : List (List ℕ)) (index : ℕ) (path : Word) (text : List ℕ) : Type 0 where
+  pub within : index < length texts
+  pub path_is : path ≡ slice_index_or paths index []
+  pub text_is : text ≡ slice_index_or texts index []
 
 -- The input is the first that is refused over the union of those before it.
-pub record IsFirstRefused (paths : List Word) (texts : List (List ℕ)) (place : ℕ) (path : Word) (refusal : ExecRefusal) : Type 0 where
+pub record IsFirstRefused (paths : List Word) (texts : List (List ℕ)) (index : ℕ) (path : Word) (refusal : ExecRefusal) : Type 0 where
   pub text : List ℕ
-  pub input : IsInput paths texts place path text
+  pub input : IsInput paths texts index path text
   pub store : Store
-  pub before : IsUnionOf (take place texts) store
+  pub before : IsUnionOf (take index texts) store
   pub refused : FirstRefusal store text (why_of refusal)
 
 -- The input is the first that is refused over no data: each before it is execution data by itself.
-pub record IsFirstRefusedAlone (paths : List Word) (texts : List (List ℕ)) (place : ℕ) (path : Word) (refusal : ExecRefusal) : Type 0 where
+pub record IsFirstRefusedAlone (paths : List Word) (texts : List (List ℕ)) (index : ℕ) (path : Word) (refusal : ExecRefusal) : Type 0 where
   pub text : List ℕ
-  pub input : IsInput paths texts place path text
-  pub before : AllByRecursion (λ t. (store : Store) × IsUnionOf (t ∷ []) store) (take place texts)
+  pub input : IsInput paths texts index path text
+  pub before : AllByRecursion (λ t. (store : Store) × IsUnionOf (t ∷ []) store) (take index texts)
   pub refused : FirstRefusal no_data text (why_of refusal)

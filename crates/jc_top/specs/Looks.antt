@@ -21,7 +21,8 @@ scan_of s = record { uses = map use_of s.uses.items; files = words_of s.files.no
 
 -- what stands in front of the words decides how they are cut
 abbrev pub FrontIs : List (String Global) → Front → Type 0
-FrontIs words (fronts.Use found rest) = (scan (words_of words) ≡ with_use (use_of found) (scan (words_of rest.now))) × (length rest.now < length words)
+FrontIs words (fronts.Use found rest) =
+    (scan (words_of words) ≡ with_use (use_of found) (scan (words_of rest.now))) × (length rest.now < length words)
 FrontIs words fronts.File = scan (words_of words) ≡ Some (record { uses = []; files = words_of words })
 FrontIs words fronts.Lacking = scan (words_of words) ≡ None
 

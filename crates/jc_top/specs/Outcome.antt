@@ -13,8 +13,7 @@ use Rattle.jc_top.specs.declared.status.Status.TheVariants as status
 use Rattle.jc_top.specs.declared.status.Fault.{Fault}
 use Rattle.jc_top.specs.declared.status.Fault.TheVariants as faults
 use Rattle.jc_top.specs.declared.command.Command.{Command as Called}
-use Rattle.jc_top.specs.declared.command.Unclear.{Unclear}
-use Rattle.jc_top.specs.declared.command.Unclear.TheVariants as unclear
+use Rattle.jc_top.specs.declared.command.Usage.{Usage}
 use Rattle.jc_top.specs.declared.output.Write.{Write as Written}
 use Rattle.jc_top.specs.declared.stop.Stop.{Stop}
 use Rattle.jc_top.specs.declared.stop.Stop.TheVariants as stops
@@ -29,10 +28,10 @@ use Rattle.jc_top.specs.Work.{Holds, CantRead, AreRead, StopsAt, Answers, refusi
 
 -- ---- words
 
-abbrev pub CommandRead : List Word → Result Called Unclear → Type 0
+abbrev pub CommandRead : List Word → Result Called (Fail Usage) → Type 0
 CommandRead words (Ok command) = Means words (command_seen command)
-CommandRead words (Err unclear.Usage) = NoForm words
-CommandRead words (Err unclear.Memory) = ⊤
+CommandRead words (Err (fails.Said usage)) = NoForm words
+CommandRead words (Err fails.Memory) = ⊤
 
 -- ---- reads
 
@@ -65,7 +64,9 @@ pub record FrontIsRead (contents : Option FileMap) (paths : List Word) (path : W
 
 -- one of the paths couldn't be read, and those in front of it were
 abbrev pub ReadsStop : Option FileMap → List Word → Word → ℕ → ℕ → Type 0
-ReadsStop contents paths path old new = ReadStops contents (λ m. (front : List Word) × StopsAt m paths front path) old new × FrontIsRead contents paths path
+ReadsStop contents paths path old new =
+    ReadStops contents (λ m. (front : List Word) × StopsAt m paths front path) old new
+    × FrontIsRead contents paths path
 
 -- the paths were read, or the first that couldn't be stops
 abbrev pub ReadAll : Option FileMap → List Word → ℕ → ℕ → Result (Vec (List ℕ) Global) Stop → Type 0
@@ -80,8 +81,8 @@ ReadAll contents paths old new (Err (stops.Refused file fault)) = ⊥
 
 -- how execution data that isn't taken stops a command
 abbrev pub exec_stop : Fail ExecRefusal → ℕ → Bor (List ℕ) → Stop
-exec_stop fails.Memory place input = stops.Memory
-exec_stop (fails.Said refusal) place input = stops.Refused input (faults.Exec place refusal)
+exec_stop fails.Memory index input = stops.Memory
+exec_stop (fails.Said refusal) index input = stops.Refused input (faults.Exec index refusal)
 
 -- what a class file is listed as
 abbrev pub ListsAs : List ℕ → Result (Vec ℕ Global) (Fail Refusal) → Type 0
@@ -107,10 +108,14 @@ abbrev pub Read : Option FileMap → Command → (List (List ℕ) → Type 0) �
 Read contents command P = (texts : List (List ℕ)) × WhereTold contents (λ m. AreRead m (inputs_of command) texts) × P texts
 
 abbrev pub Prepares : Option FileMap → Command → ℕ → ℕ → Result (Vec Written Global) Stop → Type 0
-Prepares contents command old new (Ok writes) = (new ≡ old) × Read contents command (λ texts. Answers command texts (record { writes = map write_seen writes.items; status = status.Done }))
+Prepares contents command old new (Ok writes) =
+    (new ≡ old)
+    × Read contents command (λ texts. Answers command texts (record { writes = map write_seen writes.items; status = status.Done }))
 Prepares contents command old new (Err stops.Memory) = new ≡ old
 Prepares contents command old new (Err (stops.Read p)) = ReadsStop contents (inputs_of command) p.now old new
-Prepares contents command old new (Err (stops.Refused file fault)) = (new ≡ old) × Read contents command (λ texts. Answers command texts (refusing file.now fault))
+Prepares contents command old new (Err (stops.Refused file fault)) =
+    (new ≡ old)
+    × Read contents command (λ texts. Answers command texts (refusing file.now fault))
 Prepares contents command old new (Err (stops.Write p)) = ⊥
 Prepares contents command old new (Err stops.Output) = ⊥
 
@@ -130,16 +135,30 @@ IsTextWrite write = (text : List ℕ) × (write ≡ to_out text)
 
 abbrev pub WroteOne : Landed → World → World → (files files' outs outs' : ℕ) → Write → Result (Unit {0}) Stop → Type 0
 WroteOne landed old new files files' outs outs' write (Ok _) = (files' ≡ files) × (outs' ≡ outs) × (new ≡ after landed old (write ∷ []))
-WroteOne landed old new files files' outs outs' write (Err (stops.Write p)) = Rises files files' × (outs' ≡ outs) × Broken landed old write new × IsFileWrite p.now write
-WroteOne landed old new files files' outs outs' write (Err stops.Output) = (files' ≡ files) × Rises outs outs' × Broken landed old write new × IsTextWrite write
+WroteOne landed old new files files' outs outs' write (Err (stops.Write p)) =
+    Rises files files'
+    × (outs' ≡ outs)
+    × Broken landed old write new
+    × IsFileWrite p.now write
+WroteOne landed old new files files' outs outs' write (Err stops.Output) =
+    (files' ≡ files)
+    × Rises outs outs'
+    × Broken landed old write new
+    × IsTextWrite write
 WroteOne landed old new files files' outs outs' write (Err stops.Memory) = ⊥
 WroteOne landed old new files files' outs outs' write (Err (stops.Read p)) = ⊥
 WroteOne landed old new files files' outs outs' write (Err (stops.Refused file fault)) = ⊥
 
 abbrev pub WroteAll : Landed → World → World → (files files' outs outs' : ℕ) → List Write → Result (Unit {0}) Stop → Type 0
 WroteAll landed old new files files' outs outs' writes (Ok _) = (files' ≡ files) × (outs' ≡ outs) × (new ≡ after landed old writes)
-WroteAll landed old new files files' outs outs' writes (Err (stops.Write p)) = Rises files files' × (outs' ≡ outs) × StopsIn landed old writes (IsFileWrite p.now) new
-WroteAll landed old new files files' outs outs' writes (Err stops.Output) = (files' ≡ files) × Rises outs outs' × StopsIn landed old writes IsTextWrite new
+WroteAll landed old new files files' outs outs' writes (Err (stops.Write p)) =
+    Rises files files'
+    × (outs' ≡ outs)
+    × StopsIn landed old writes (IsFileWrite p.now) new
+WroteAll landed old new files files' outs outs' writes (Err stops.Output) =
+    (files' ≡ files)
+    × Rises outs outs'
+    × StopsIn landed old writes IsTextWrite new
 WroteAll landed old new files files' outs outs' writes (Err stops.Memory) = ⊥
 WroteAll landed old new files files' outs outs' writes (Err (stops.Read p)) = ⊥
 WroteAll landed old new files files' outs outs' writes (Err (stops.Refused file fault)) = ⊥
@@ -148,14 +167,21 @@ WroteAll landed old new files files' outs outs' writes (Err (stops.Refused file 
 
 -- the command's answer to what was read is to make writes, of which more is known
 abbrev pub Writing : Option FileMap → Command → (List Write → Type 0) → Type 0
-Writing contents command P = Read contents command (λ texts. (writes : List Write) × Answers command texts (record { writes = writes; status = status.Done }) × P writes)
+Writing contents command P = Read contents command (λ texts.
+    (writes : List Write) × Answers command texts (record { writes = writes; status = status.Done }) × P writes)
 
 -- what a command without its last message gives
 abbrev pub Runs : Landed → Command → World → World → Counts → Counts → Result (Unit {0}) Stop → Type 0
 Runs landed command old new f f' (Ok _) = (f' ≡ f) × Writing old.contents command (λ writes. new ≡ after landed old writes)
 Runs landed command old new f f' (Err stops.Memory) = (f' ≡ f) × (new ≡ old)
-Runs landed command old new f f' (Err (stops.Read p)) = (f' ≡ record f { reads = f'.reads }) × (new ≡ old) × ReadsStop old.contents (inputs_of command) p.now f.reads f'.reads
-Runs landed command old new f f' (Err (stops.Refused file fault)) = (f' ≡ f) × (new ≡ old) × Read old.contents command (λ texts. Answers command texts (refusing file.now fault))
+Runs landed command old new f f' (Err (stops.Read p)) =
+    (f' ≡ record f { reads = f'.reads })
+    × (new ≡ old)
+    × ReadsStop old.contents (inputs_of command) p.now f.reads f'.reads
+Runs landed command old new f f' (Err (stops.Refused file fault)) =
+    (f' ≡ f)
+    × (new ≡ old)
+    × Read old.contents command (λ texts. Answers command texts (refusing file.now fault))
 Runs landed command old new f f' (Err (stops.Write p)) = (f' ≡ record f { writes = f'.writes }) × Rises f.writes f'.writes
     × Writing old.contents command (λ writes. StopsIn landed old writes (IsFileWrite p.now) new)
 Runs landed command old new f f' (Err stops.Output) = (f' ≡ record f { outs = f'.outs }) × Rises f.outs f'.outs
@@ -183,7 +209,9 @@ status_of (stops.Refused file fault) = status.Refused fault
 
 -- the message of the stop is said, unless memory is refused
 abbrev pub Reports : Stop → (old new : Option (List ℕ)) → (f f' : ℕ) → Status → Type 0
-Reports stop old new f f' s = ((s ≡ status.Memory) × (f' ≡ f) × (new ≡ old)) ⊎ ((s ≡ status_of stop) × (s ≢ status.Memory) × Says (message_of stop) old new f f')
+Reports stop old new f f' s =
+    ((s ≡ status.Memory) × (f' ≡ f) × (new ≡ old))
+    ⊎ ((s ≡ status_of stop) × (s ≢ status.Memory) × Says (message_of stop) old new f f')
 
 -- ---- what stands at the end
 
@@ -209,7 +237,8 @@ pub record BreaksOff (landed : Landed) (words : List Word) (old new : World) (f 
   pub behind : List Write
   -- The command's answer to what was read is to make these writes, and where contents are told they are those of the work.
   pub read : Read old.contents command (λ texts. Answers command texts (record { writes = done ++ failed ∷ behind; status = status.Done }))
-  pub work : WhereTold old.contents (λ m. IsWork words m (record { reads = inputs_of command; writes = done ++ failed ∷ behind; status = status.Done }))
+  pub work : WhereTold old.contents (λ m.
+      IsWork words m (record { reads = inputs_of command; writes = done ++ failed ∷ behind; status = status.Done }))
   -- The count of what the write goes to rose, and no read failed.
   pub fails : FailsFor failed f f'
   pub reads : f'.reads ≡ f.reads
@@ -300,6 +329,7 @@ pub record Ends (landed : Landed) (words : List Word) (old new : World) (f f' : 
   -- Usage comes where the words are of no stated form.
   pub no_form : NoForm words → IsOrMemory status.Usage s
   -- Refused comes where the work ends so, and no read failed.
-  pub refuses : (fault : Fault) → ToldEnds words old.contents (status.Refused fault) → ¬ (Rose f.reads f'.reads) → IsOrMemory (status.Refused fault) s
+  pub refuses : (fault : Fault) → ToldEnds words old.contents (status.Refused fault) → ¬ (Rose f.reads f'.reads)
+      → IsOrMemory (status.Refused fault) s
   -- ReadFault comes where the work ends so.
   pub unreadable : ToldEnds words old.contents status.ReadFault → IsOrMemory status.ReadFault s

@@ -80,4 +80,6 @@ with_use u s = option_map {T = Scan} (λ s. record { uses = u ∷ s.uses; files 
 unfoldable pub scan : List Word → Option Scan
 scan [] = Some (record { uses = []; files = [] })
 scan (w ∷ []) = if is_option w then None else Some (record { uses = []; files = w ∷ [] })
-scan (w ∷ v ∷ rest) = if is_option w then with_use (record { option = w; value = v }) (scan rest) else Some (record { uses = []; files = w ∷ v ∷ rest })
+scan (w ∷ v ∷ rest) =
+    if is_option w then with_use (record { option = w; value = v }) (scan rest)
+    else Some (record { uses = []; files = w ∷ v ∷ rest })

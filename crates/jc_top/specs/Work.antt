@@ -58,18 +58,19 @@ refusing file f = record { writes = to_err (fault_text file f) ∷ []; status = 
 pub data Answers : Command → List (List ℕ) → Answer → Type 0 where
   merged : {out : Word} {inputs : List Word} {texts : List (List ℕ)} (store : Store) → IsUnionOf texts store
       → Answers (merge out inputs) texts (record { writes = to_file out (exec_text store) ∷ []; status = status.Done })
-  merge_refused : {out : Word} {inputs : List Word} {texts : List (List ℕ)} (place : ℕ) (path : Word) (refusal : ExecRefusal)
-      → IsFirstRefused inputs texts place path refusal
-      → Answers (merge out inputs) texts (refusing path (fault.Exec place refusal))
+  merge_refused : {out : Word} {inputs : List Word} {texts : List (List ℕ)} (index : ℕ) (path : Word) (refusal : ExecRefusal)
+      → IsFirstRefused inputs texts index path refusal
+      → Answers (merge out inputs) texts (refusing path (fault.Exec index refusal))
   informed : {paths : List Word} {texts : List (List ℕ)} (lines : List (List ℕ)) → AreInfo paths texts lines
       → Answers (exec_info paths) texts (record { writes = map to_out lines; status = status.Done })
-  exec_info_refused : {paths : List Word} {texts : List (List ℕ)} (place : ℕ) (path : Word) (refusal : ExecRefusal)
-      → IsFirstRefusedAlone paths texts place path refusal
-      → Answers (exec_info paths) texts (refusing path (fault.Exec place refusal))
+  exec_info_refused : {paths : List Word} {texts : List (List ℕ)} (index : ℕ) (path : Word) (refusal : ExecRefusal)
+      → IsFirstRefusedAlone paths texts index path refusal
+      → Answers (exec_info paths) texts (refusing path (fault.Exec index refusal))
   listed : {paths : List Word} {texts : List (List ℕ)} (lines : List (List ℕ)) → AreListed texts lines
       → Answers (class_info paths) texts (record { writes = map to_out lines; status = status.Done })
-  class_refused : {paths : List Word} {texts : List (List ℕ)} (place : ℕ) (path : Word) (why : Refusal) → RefusedAt 0 paths texts place path why
-      → Answers (class_info paths) texts (refusing path (fault.Class place why))
+  class_refused : {paths : List Word} {texts : List (List ℕ)} (index : ℕ) (path : Word) (why : Refusal)
+      → RefusedAt 0 paths texts index path why
+      → Answers (class_info paths) texts (refusing path (fault.Class index why))
 
 -- ---- the work
 

@@ -42,7 +42,8 @@ abbrev pub Landed : Type 0
 Landed = List ℕ → List ℕ → List ℕ
 
 abbrev pub after_write : Landed → World → Write → World
-after_write landed w (to_file path bytes) = record { contents = option_map (λ (m : FileMap). insert m path (landed path bytes)) w.contents; out = w.out; err = w.err }
+after_write landed w (to_file path bytes) =
+    world (option_map (λ (m : FileMap). insert m path (landed path bytes)) w.contents) w.out w.err
 after_write landed w (to_out text) = record { contents = w.contents; out = grown w.out text; err = w.err }
 after_write landed w (to_err text) = record { contents = w.contents; out = w.out; err = grown w.err text }
 

@@ -93,10 +93,10 @@ fn listings<'a>(
     ensures { AnswersWith (class_info (words_of paths.entry.now)) texts.now result }
 {
     let mut writes = Vec::new(alloc);
-    'listing: for place in 0..texts.len() {
-        match listing(alloc, &texts[place]) {
+    'listing: for index in 0..texts.len() {
+        match listing(alloc, &texts[index]) {
             Ok(text) => keep(&mut writes, text)?,
-            Err(fail) => return Err(refused(fail, place as u32, paths[place].as_str())),
+            Err(fail) => return Err(refused(fail, index as u32, paths[index].as_str())),
         }
     }
     Ok(writes)
@@ -109,7 +109,8 @@ pub fn prepare_class_info<'a, F: Files>(
     paths: &'a [String],
 ) -> Result<Vec<Write<'a>>, Stop<'a>>
     requires { length paths.now < 2 ^ 32 }
-    ensures gives { Prepares (F.contents files.old) (class_info (words_of paths.entry.now)) (F.read_faults files.old) (F.read_faults files.new) result }
+    ensures gives { Prepares (F.contents files.old) (class_info (words_of paths.entry.now))
+        (F.read_faults files.old) (F.read_faults files.new) result }
     ensures contents { F.contents files.new ≡ F.contents files.old }
     ensures write_faults { F.write_faults files.new ≡ F.write_faults files.old }
 {

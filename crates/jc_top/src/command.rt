@@ -8,7 +8,7 @@ ghost use Rattle.jc_top.specs.Outcome.{CommandRead};
 
 use crate::paths::{are_distinct, are_relative, are_values, is_among};
 use crate::words::{Scanned, is_value, scan_words};
-use jc_base::Memory;
+use jc_base::{Fail, Memory};
 use std::alloc::Global;
 
 /// A command that the words call.
@@ -29,25 +29,9 @@ pub enum Command<'a> {
     },
 }
 
-/// Why the words call no command.
+/// The words are of no stated form.
 #[derive(Clone, Copy, Debug, PartialEq, Eq)]
-pub enum Unclear {
-    /// They are of no stated form.
-    Usage,
-    /// Memory was refused.
-    Memory,
-}
-
-impl From<Memory> for Unclear {
-    ghost use Rattle.std.specs.Prelude.{◌≡◌};
-    ghost use Rattle.jc_top.specs.declared.command.Unclear.TheVariants as unclear;
-
-    ghost from_gives = { λ _ e. e ≡ unclear.Memory };
-
-    fn from(_: Memory) -> Self {
-        Unclear::Memory
-    }
-}
+pub struct Usage;
 
 /// `merge --destfile OUT IN..`, where no two of OUT and the INs are equal.
 fn merge_of<'a>(alloc: Global, words: &Scanned<'a>) -> Result<Option<Command<'a>>, Memory>
@@ -119,21 +103,21 @@ fn decide<'a>(alloc: Global, name: &str, words: &Scanned<'a>) -> Result<Option<C
 
 /// The command that the words call. Usage comes exactly where they are of no stated form. More than
 /// 4,294,967,295 words count as want of memory.
-pub fn read_words<'a>(alloc: Global, words: &'a [String]) -> Result<Command<'a>, Unclear>
+pub fn read_words<'a>(alloc: Global, words: &'a [String]) -> Result<Command<'a>, Fail<Usage>>
     ensures read { CommandRead (words_of words.entry.now) result }
     ensures few { IfOk result (λ command. length (inputs_of (command_seen command)) < 2 ^ 32) }
 {
     if words.len() > u32::MAX as usize {
-        return Err(Unclear::Memory);
+        return Err(Fail::Memory);
     }
     let Some((name, rest)) = words.split_first() else {
-        return Err(Unclear::Usage);
+        return Err(Fail::Said(Usage));
     };
     let Some(scanned) = scan_words(alloc, rest)? else {
-        return Err(Unclear::Usage);
+        return Err(Fail::Said(Usage));
     };
     match decide(alloc, name.as_str(), &scanned)? {
         Some(command) => Ok(command),
-        None => Err(Unclear::Usage),
+        None => Err(Fail::Said(Usage)),
     }
 }

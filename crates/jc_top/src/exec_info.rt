@@ -1,5 +1,6 @@
 //! The command `execinfo`.
-ghost use Rattle.std.specs.Prelude.{◌≡◌, ◌≤◌, ◌<◌, ◌^◌, ◌++◌, ◌∷◌, [], All, count_by, length, map, IfOk, IfErr, OnOk, string_bytes};
+ghost use Rattle.std.specs.Prelude.{◌≡◌, ◌≤◌, ◌<◌, ◌^◌, ◌++◌, ◌∷◌, []};
+ghost use Rattle.std.specs.Prelude.{All, count_by, length, map, IfOk, IfErr, OnOk, string_bytes};
 ghost use Rattle.jc_base.specs.Outside.{most_read};
 ghost use Rattle.jc_exec.specs.Answers.{Refuses};
 ghost use Rattle.jc_top.specs.Command.{exec_info};
@@ -142,11 +143,11 @@ fn informed<'a>(
     ensures { AnswersWith (exec_info (words_of paths.entry.now)) texts.now result }
 {
     let mut writes = Vec::new(alloc);
-    'informing: for place in 0..texts.len() {
-        let path = paths[place].as_str();
-        match data_of(alloc, &texts[place]) {
+    'informing: for index in 0..texts.len() {
+        let path = paths[index].as_str();
+        match data_of(alloc, &texts[index]) {
             Ok(store) => put_file(alloc, &mut writes, path, &store)?,
-            Err(fail) => return Err(exec_stop(fail, place as u32, path)),
+            Err(fail) => return Err(exec_stop(fail, index as u32, path)),
         }
     }
     Ok(writes)
@@ -159,7 +160,8 @@ pub fn prepare_exec_info<'a, F: Files>(
     paths: &'a [String],
 ) -> Result<Vec<Write<'a>>, Stop<'a>>
     requires { length paths.now < 2 ^ 32 }
-    ensures gives { Prepares (F.contents files.old) (exec_info (words_of paths.entry.now)) (F.read_faults files.old) (F.read_faults files.new) result }
+    ensures gives { Prepares (F.contents files.old) (exec_info (words_of paths.entry.now))
+        (F.read_faults files.old) (F.read_faults files.new) result }
     ensures contents { F.contents files.new ≡ F.contents files.old }
     ensures write_faults { F.write_faults files.new ≡ F.write_faults files.old }
 {

@@ -22,10 +22,10 @@ fn union_of<'a>(alloc: Global, inputs: &'a [String], texts: &[Bytes]) -> Result<
     ensures refused { (out : Word) → IfErr result (λ stop. AnswersWith (merge out (words_of inputs.entry.now)) texts.now (Err stop)) }
 {
     let mut store = ExecStore::new(alloc)?;
-    'merging: for place in 0..texts.len() {
-        match store.read(alloc, &texts[place]) {
+    'merging: for index in 0..texts.len() {
+        match store.read(alloc, &texts[index]) {
             Ok(()) => {}
-            Err(fail) => return Err(exec_stop(fail, place as u32, inputs[place].as_str())),
+            Err(fail) => return Err(exec_stop(fail, index as u32, inputs[index].as_str())),
         }
     }
     Ok(store)
@@ -74,7 +74,8 @@ pub fn prepare_merge<'a, F: Files>(
     inputs: &'a [String],
 ) -> Result<Vec<Write<'a>>, Stop<'a>>
     requires { length inputs.now < 2 ^ 32 }
-    ensures gives { Prepares (F.contents files.old) (merge destfile.entry.now (words_of inputs.entry.now)) (F.read_faults files.old) (F.read_faults files.new) result }
+    ensures gives { Prepares (F.contents files.old) (merge destfile.entry.now (words_of inputs.entry.now))
+        (F.read_faults files.old) (F.read_faults files.new) result }
     ensures contents { F.contents files.new ≡ F.contents files.old }
     ensures write_faults { F.write_faults files.new ≡ F.write_faults files.old }
 {

@@ -1,7 +1,9 @@
 //! The last message of a command that ended early.
 ghost use Rattle.std.specs.Prelude.{◌≡◌, string_bytes, IfOk};
-ghost use Rattle.jc_top.specs.Texts.{bad_exec_text, version_start, version_line, other_version_text, conflict_start, first_count_text, second_count_text, conflict_text, exec_refusal_text};
-ghost use Rattle.jc_top.specs.Texts.{cannot_read, cannot_write, cannot_write_output, kind_text, placed_text, in_method_text, class_refusal_text, fault_text, usage_text};
+ghost use Rattle.jc_top.specs.Texts.{cannot_read, cannot_write, cannot_write_output, usage_text};
+ghost use Rattle.jc_top.specs.Texts.{bad_exec_text, version_start, version_line, other_version_text};
+ghost use Rattle.jc_top.specs.Texts.{conflict_start, first_count_text, second_count_text, conflict_text, exec_refusal_text};
+ghost use Rattle.jc_top.specs.Texts.{kind_text, placed_text, in_method_text, class_refusal_text, fault_text};
 ghost use Rattle.jc_top.specs.Outcome.{Says, Reports, message_of, status_of};
 
 use crate::stop::Stop;

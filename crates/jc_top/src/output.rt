@@ -1,6 +1,7 @@
 //! Making the writes of a command.
 ghost use Rattle.std.specs.Prelude.{◌≡◌, ◌++◌, ◌∷◌, [], ℕ, List, map, Option, OnOk};
 ghost use Rattle.jc_top.specs.Looks.{write_seen};
+ghost use Rattle.jc_top.specs.World.{world};
 ghost use Rattle.jc_top.specs.Outcome.{WroteOne, WroteAll};
 
 use crate::stop::Stop;
@@ -30,7 +31,7 @@ fn write_one<'a, F: Files, O: Sink>(
     write: &Write<'a>,
 ) -> Result<(), Stop<'a>>
     ensures gives { (err : Option (List ℕ)) → WroteOne F.landed
-        (record { contents = F.contents files.old; out = O.told out.old; err = err }) (record { contents = F.contents files.new; out = O.told out.new; err = err })
+        (world (F.contents files.old) (O.told out.old) err) (world (F.contents files.new) (O.told out.new) err)
         (F.write_faults files.old) (F.write_faults files.new) (O.faults out.old) (O.faults out.new) (write_seen write.now) result }
     ensures read_faults { F.read_faults files.new ≡ F.read_faults files.old }
 {
@@ -53,7 +54,7 @@ pub fn write_all<'a, F: Files, O: Sink>(
     writes: &[Write<'a>],
 ) -> Result<(), Stop<'a>>
     ensures gives { (err : Option (List ℕ)) → WroteAll F.landed
-        (record { contents = F.contents files.old; out = O.told out.old; err = err }) (record { contents = F.contents files.new; out = O.told out.new; err = err })
+        (world (F.contents files.old) (O.told out.old) err) (world (F.contents files.new) (O.told out.new) err)
         (F.write_faults files.old) (F.write_faults files.new) (O.faults out.old) (O.faults out.new) (map write_seen writes.now) result }
     ensures read_faults { F.read_faults files.new ≡ F.read_faults files.old }
 {

@@ -10,13 +10,13 @@ ghost use Rattle.jc_top.specs.Outcome.{Prepares, Runs, Ends};
 
 use crate::Status;
 use crate::class_info::prepare_class_info;
-use crate::command::{Command, Unclear, read_words};
+use crate::command::{Command, Usage, read_words};
 use crate::exec_info::prepare_exec_info;
 use crate::merge::prepare_merge;
 use crate::message::{USAGE, report, say};
 use crate::output::{Write, write_all};
 use crate::stop::Stop;
-use jc_base::{Files, Sink};
+use jc_base::{Fail, Files, Sink};
 use std::alloc::Global;
 
 /// What a command writes: it reads its inputs, and is told nothing else.
@@ -88,8 +88,8 @@ pub fn run_tool<F: Files, O: Sink, E: Sink>(
 {
     let command = match read_words(alloc, words) {
         Ok(command) => command,
-        Err(Unclear::Memory) => return Status::Memory,
-        Err(Unclear::Usage) => {
+        Err(Fail::Memory) => return Status::Memory,
+        Err(Fail::Said(Usage)) => {
             say(err, USAGE);
             return Status::Usage;
         }

@@ -23,8 +23,8 @@ pub enum Status {
 /// What is wrong with an input.
 #[derive(Debug, Drop, PartialEq, Eq)]
 pub enum Fault {
-    /// The execution data of the input at this place in the list of inputs is refused.
+    /// The execution data of the input at this index in the list of inputs is refused.
     Exec { path: u32, refusal: ExecRefusal },
-    /// The class file at this place in the list of inputs is refused.
+    /// The class file at this index in the list of inputs is refused.
     Class { path: u32, refusal: Refusal },
 }

@@ -1,20 +1,14 @@
 //! The commands over execution data.
-use crate::{Fault, Status, run_tool};
-use jc_base::{Memory, MemoryFiles, MemorySink};
-use std::alloc::Global;
+use super::rows::{A, MERGED, NOTHING};
+use super::{File, Left, Row, check};
 use std::test::Fail;
 
-// One record, of id 1 and of the class A, with probes 0 and 2 of 3 hit.
-const A: [u8; 19] = [
-    0x01, 0xc0, 0xc0, 0x10, 0x07, 0x11, 0, 0, 0, 0, 0, 0, 0, 1, 0, 1, 0x41, 0x03, 0x05,
-];
-
-// The same, with probe 1 hit.
+// The record of `A` with probe 1 hit, and not 0 and 2.
 const B: [u8; 19] = [
     0x01, 0xc0, 0xc0, 0x10, 0x07, 0x11, 0, 0, 0, 0, 0, 0, 0, 1, 0, 1, 0x41, 0x03, 0x02,
 ];
 
-// The same id, of the class B.
+// A record of the same id, of the class B.
 const C: [u8; 19] = [
     0x01, 0xc0, 0xc0, 0x10, 0x07, 0x11, 0, 0, 0, 0, 0, 0, 0, 1, 0, 1, 0x42, 0x03, 0x02,
 ];
@@ -22,6 +16,13 @@ const C: [u8; 19] = [
 // All probes of A hit.
 const ALL: [u8; 19] = [
     0x01, 0xc0, 0xc0, 0x10, 0x07, 0x11, 0, 0, 0, 0, 0, 0, 0, 1, 0, 1, 0x41, 0x03, 0x07,
+];
+
+// The first two records in one file.
+#[rattlefmt::skip]
+const BOTH: [u8; 38] = [
+    0x01, 0xc0, 0xc0, 0x10, 0x07, 0x11, 0, 0, 0, 0, 0, 0, 0, 1, 0, 1, 0x41, 0x03, 0x05,
+    0x01, 0xc0, 0xc0, 0x10, 0x07, 0x11, 0, 0, 0, 0, 0, 0, 0, 1, 0, 1, 0x41, 0x03, 0x02,
 ];
 
 // The session `a` from 1 to 200, and then `b` from 2 to 100.
@@ -40,117 +41,156 @@ const BY_DUMP: [u8; 45] = [
     0x10, 0, 1, 0x61, 0, 0, 0, 0, 0, 0, 0, 1, 0, 0, 0, 0, 0, 0, 0, 200,
 ];
 
-fn files(alloc: Global) -> Result<MemoryFiles, Memory> {
-    let mut both = Vec::from_slice(alloc, &A)?;
-    both.extend_from_slice(&B)?;
-    let mut files = MemoryFiles::new(alloc, &[])?;
-    files.with(alloc, "a.exec", &A)?;
-    files.with(alloc, "b.exec", &B)?;
-    files.with(alloc, "c.exec", &C)?;
-    files.with(alloc, "both.exec", &both)?;
-    files.with(alloc, "cut.exec", &A[..7])?;
-    files.with(alloc, "none.exec", &[])?;
-    files.with(alloc, "old.exec", &[0x01, 0xc0, 0xc0, 0x10, 0x06])?;
-    files.with(alloc, "s.exec", &SESSIONS)?;
-    Ok(files)
-}
+const FILES: [File<'static>; 8] = [
+    File {
+        path: "a.exec",
+        bytes: &A,
+    },
+    File {
+        path: "b.exec",
+        bytes: &B,
+    },
+    File {
+        path: "c.exec",
+        bytes: &C,
+    },
+    File {
+        path: "both.exec",
+        bytes: &BOTH,
+    },
+    File {
+        path: "cut.exec",
+        bytes: &[0x01, 0xc0, 0xc0, 0x10, 0x07, 0x11, 0],
+    },
+    File {
+        path: "none.exec",
+        bytes: &[],
+    },
+    File {
+        path: "old.exec",
+        bytes: &[0x01, 0xc0, 0xc0, 0x10, 0x06],
+    },
+    File {
+        path: "s.exec",
+        bytes: &SESSIONS,
+    },
+];
 
-// What a run left.
-#[derive(Drop)]
-struct Ran {
-    status: Status,
-    files: MemoryFiles,
-    out: MemorySink,
-    err: MemorySink,
-}
+const DONE: Row<'static> = Row {
+    files: &FILES,
+    left: NOTHING,
+    ..MERGED
+};
 
-fn run(alloc: Global, all: &[&str]) -> Result<Ran, Memory> {
-    let mut words = Vec::new(alloc);
-    for word in all {
-        words.push(String::from_str(alloc, *word)?)?;
-    }
-    let mut files = files(alloc)?;
-    let mut out = MemorySink::new(alloc, &[])?;
-    let mut err = MemorySink::new(alloc, &[])?;
-    let status = run_tool(alloc, &words, &mut files, &mut out, &mut err);
-    Ok(Ran {
-        status,
-        files,
-        out,
-        err,
-    })
-}
+const MERGES: [Row<'static>; 4] = [
+    Row {
+        words: &["merge", "--destfile", "o", "a.exec", "b.exec"],
+        left: Left {
+            written: Some(&ALL),
+            ..NOTHING
+        },
+        ..DONE
+    },
+    Row {
+        words: &["merge", "--destfile", "o", "both.exec"],
+        left: Left {
+            written: Some(&ALL),
+            ..NOTHING
+        },
+        ..DONE
+    },
+    Row {
+        words: &["merge", "--destfile", "o", "none.exec"],
+        left: Left {
+            written: Some(&[0x01, 0xc0, 0xc0, 0x10, 0x07]),
+            ..NOTHING
+        },
+        ..DONE
+    },
+    Row {
+        words: &["merge", "--destfile", "o", "s.exec"],
+        left: Left {
+            written: Some(&BY_DUMP),
+            ..NOTHING
+        },
+        ..DONE
+    },
+];
 
 #[test]
 fn data_is_merged(rt: HostRuntime) -> Result<(), Fail> {
-    let alloc = rt.alloc();
-    for (inputs, want) in [
-        (&["a.exec", "b.exec"][..], ALL.as_slice()),
-        (&["both.exec"], ALL.as_slice()),
-        (&["none.exec"], &A[..5]),
-        (&["s.exec"], BY_DUMP.as_slice()),
-    ] {
-        let mut all = vec![in alloc; "merge", "--destfile", "o"]?;
-        all.extend_from_slice(inputs)?;
-        let ran = run(alloc, &all)?;
-        assert_eq!(rt; ran.status, Status::Done);
-        assert_eq!(rt; ran.files.get("o").ok_or("no file")?, want);
-        assert_eq!(rt; ran.err.bytes(), [].as_slice());
+    for row in &MERGES {
+        check(&rt, rt.alloc(), row)?;
     }
     Ok(())
 }
+
+const LISTS: [Row<'static>; 2] = [
+    Row {
+        words: &["execinfo", "s.exec", "a.exec"],
+        left: Left {
+            out: "file s.exec\nsession a start 1 dump 200\nsession b start 2 dump 100\n\
+                  file a.exec\nclass 0000000000000001 A 2 of 3\n",
+            ..NOTHING
+        },
+        ..DONE
+    },
+    Row {
+        words: &["execinfo", "a.exec", "c.exec"],
+        left: Left {
+            out: "file a.exec\nclass 0000000000000001 A 2 of 3\n\
+                  file c.exec\nclass 0000000000000001 B 1 of 3\n",
+            ..NOTHING
+        },
+        ..DONE
+    },
+];
 
 #[test]
 fn data_is_printed(rt: HostRuntime) -> Result<(), Fail> {
-    let alloc = rt.alloc();
-    for (inputs, text) in [
-        (
-            &["s.exec", "a.exec"][..],
-            "file s.exec\nsession a start 1 dump 200\nsession b start 2 dump 100\nfile a.exec\nclass 0000000000000001 A 2 of 3\n",
-        ),
-        (
-            &["a.exec", "c.exec"],
-            "file a.exec\nclass 0000000000000001 A 2 of 3\nfile c.exec\nclass 0000000000000001 B 1 of 3\n",
-        ),
-    ] {
-        let mut all = vec![in alloc; "execinfo"]?;
-        all.extend_from_slice(inputs)?;
-        let ran = run(alloc, &all)?;
-        assert_eq!(rt; ran.status, Status::Done);
-        assert_eq!(rt; ran.out.bytes(), text.as_bytes());
+    for row in &LISTS {
+        check(&rt, rt.alloc(), row)?;
     }
     Ok(())
 }
 
+const REFUSALS: [Row<'static>; 3] = [
+    Row {
+        words: &["merge", "--destfile", "o", "a.exec", "c.exec"],
+        left: Left {
+            status: 1,
+            refused: Some(1),
+            err: "c.exec: class 0000000000000001: A with 3 probes, B with 3 probes\n",
+            ..NOTHING
+        },
+        ..DONE
+    },
+    Row {
+        words: &["merge", "--destfile", "o", "cut.exec"],
+        left: Left {
+            status: 1,
+            refused: Some(0),
+            err: "cut.exec: bad execution data at 5\n",
+            ..NOTHING
+        },
+        ..DONE
+    },
+    Row {
+        words: &["execinfo", "a.exec", "old.exec", "cut.exec"],
+        left: Left {
+            status: 1,
+            refused: Some(1),
+            err: "old.exec: execution data version 1006\n",
+            ..NOTHING
+        },
+        ..DONE
+    },
+];
+
 #[test]
 fn data_is_refused(rt: HostRuntime) -> Result<(), Fail> {
-    let alloc = rt.alloc();
-    for (all, path, text) in [
-        (
-            &["merge", "--destfile", "o", "a.exec", "c.exec"][..],
-            1,
-            "c.exec: class 0000000000000001: A with 3 probes, B with 3 probes\n",
-        ),
-        (
-            &["merge", "--destfile", "o", "cut.exec"],
-            0,
-            "cut.exec: bad execution data at 5\n",
-        ),
-        (
-            &["execinfo", "a.exec", "old.exec", "cut.exec"],
-            1,
-            "old.exec: execution data version 1006\n",
-        ),
-    ] {
-        let ran = run(alloc, all)?;
-        let place = match ran.status {
-            Status::Refused(Fault::Exec { path, .. }) => Some(path),
-            _ => None,
-        };
-        assert_eq!(rt; place, Some(path));
-        assert!(rt; ran.files.get("o").is_none());
-        assert_eq!(rt; ran.out.bytes(), [].as_slice());
-        assert_eq!(rt; ran.err.bytes(), text.as_bytes());
+    for row in &REFUSALS {
+        check(&rt, rt.alloc(), row)?;
     }
     Ok(())
 }

@@ -4,4 +4,4 @@ use Rattle.jc_top.proofs.class_info.listings.Given as goal
 
 -- the files so far have their lines
 abbrev pub invariant-listing : goal.invariant-listing
-invariant-listing l = LinesOf (take l.place l.texts) l.writes.items
+invariant-listing l = LinesOf (take l.index l.texts) l.writes.items

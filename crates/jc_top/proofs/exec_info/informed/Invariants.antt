@@ -5,4 +5,4 @@ use Rattle.jc_top.proofs.exec_info.informed.Given as goal
 
 -- the files so far have their lines
 abbrev pub invariant-informing : goal.invariant-informing
-invariant-informing l = InfoOf (words_of (take l.place l.paths)) (take l.place l.texts) l.writes.items
+invariant-informing l = InfoOf (words_of (take l.index l.paths)) (take l.index l.texts) l.writes.items

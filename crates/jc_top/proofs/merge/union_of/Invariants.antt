@@ -4,4 +4,4 @@ use Rattle.jc_top.proofs.merge.union_of.Given as goal
 
 -- the store is the union of the texts so far
 abbrev pub invariant-merging : goal.invariant-merging
-invariant-merging l = IsUnionOf (take l.place l.texts) l.store
+invariant-merging l = IsUnionOf (take l.index l.texts) l.store

@@ -6,9 +6,9 @@ use Rattle.jc_top.proofs.run.run_tool.Goals as goal
 pub returns-in-Err-Memory : goal.returns-in-Err-Memory
 returns-in-Err-Memory g c = memory_ends g.F.Files.landed (words_of c.args.words.now) _ _ _ _ _ _ _
 
-pub returns-in-Err-Usage : goal.returns-in-Err-Usage
-returns-in-Err-Usage g c =
-    let none = rw c.in-Err-Usage.field-0-is at c.in-Err-Usage.ensures.read in
+pub returns-in-Err-Said : goal.returns-in-Err-Said
+returns-in-Err-Said g c =
+    let none = rw c.in-Err-Said.field-0-is at c.in-Err-Said.ensures.read in
     usage_ends g.F.Files.landed (words_of c.args.words.now) _ _ _ _ _ _ _ _ _ none c.say.ensures
 
 pub returns-in-Ok-run : goal.returns-in-Ok-run
