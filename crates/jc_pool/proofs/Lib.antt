@@ -5,3 +5,10 @@ pub mod WritingLaws
 pub mod TextLaws
 pub mod OneTextLaws
 pub mod ClassNameLaws
+mod FirstsLaws
+mod GrownLaws
+mod NotedLaws
+mod ClassPlaceLaws
+pub mod AddingLaws
+pub mod AddedLaws
+mod IndexLaws

@@ -5,5 +5,7 @@ pub mod PoolGrammar
 pub mod EntryReading
 pub mod PoolReading
 pub mod Lookup
+pub mod Adding
+pub mod Index
 pub mod Writing
 pub mod Text

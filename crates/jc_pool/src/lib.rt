@@ -2,8 +2,10 @@
 //! back, and the texts of its modified UTF-8.
 #![tactic(auto)]
 
+mod add;
 mod constant;
 mod entry;
+mod index;
 mod item;
 mod judged_text;
 mod laws;
@@ -12,8 +14,9 @@ mod pool;
 mod text;
 mod write;
 
+pub use add::PoolFull;
 pub use constant::ConstText;
-pub use laws::{one_reading, one_text};
+pub use laws::{added_entries, one_reading, one_text};
 pub use lookup::{BadIndex, MemberText};
 pub use pool::Pool;
 pub use text::text_of;

@@ -6,7 +6,10 @@ ghost use Rattle.jc_pool.specs.Pool.{PoolValue, IsPool, IsSmall, slots_of};
 ghost use Rattle.jc_pool.specs.PoolGrammar.{pool, ReadsBy};
 ghost use Rattle.jc_pool.specs.PoolReading.{filled_at, pool_at};
 
+use crate::PoolFull;
+use crate::add::{add_class, add_text, index_of};
 use crate::entry::Entry;
+use crate::index::Index;
 use crate::item::{count_item, entry_item};
 use jc_base::{Fail, Memory, Reader, Refusal};
 use std::alloc::Global;
@@ -17,14 +20,21 @@ use std::marker::Model;
 #[derive(Debug, Drop)]
 pub struct Pool {
     slots: Vec<Option<Entry>>,
+    /// Where equal entries stand, from the first call on that adds an entry.
+    index: Option<Index>,
 }
 
 impl Model for Pool {
+    ghost use Rattle.std.specs.Prelude.{IfSome};
+    ghost use Rattle.jc_pool.specs.Pool.{PoolValue, IsPool};
+
     ghost Value = { PoolValue };
 
     ghost view = { λ p. p.slots.items };
 
-    ghost invariant = { λ p. IsPool p.slots.items };
+    ghost use Rattle.jc_pool.specs.Index.{IsIndexOf};
+
+    ghost invariant = { λ p. IsPool p.slots.items × IfSome p.index (IsIndexOf p.slots.items) };
 }
 
 impl Pool {
@@ -99,7 +109,7 @@ fn parsed(alloc: Global, reader: &mut Reader<'_>) -> Result<Pool, Fail<Refusal>>
 {
     let count = count_item(reader)?;
     let slots = filled(alloc, reader, count)?;
-    Ok(Pool { slots })
+    Ok(Pool { slots, index: None })
 }
 
 impl Pool {
@@ -129,5 +139,54 @@ impl Pool {
         ensures later { reader.old.place ≤ reader.new.place }
     {
         parsed(alloc, reader)
+    }
+}
+
+impl Pool {
+    ghost use Rattle.std.specs.Prelude.{OnErr, OnOk};
+    ghost use Rattle.jc_base.specs.Texts.{IsShortText};
+    ghost use Rattle.jc_pool.specs.Adding.{HasUtf8, HasClass, RefusesFull, Extends};
+
+    /// The first place of a Utf8 entry with this text (JVM Specification 4.4.7). Where there is none,
+    /// one is put behind the others. Every entry keeps its place.
+    ///
+    /// # Errors
+    ///
+    /// `Memory` where memory was refused. `PoolFull` exactly where no such entry stands and the pool's
+    /// count would become `count`, which is above 65,535. Then nothing has changed.
+    pub fn add_utf8(&mut self, alloc: Global, text: &[u8]) -> Result<u16, Fail<PoolFull>>
+        requires { IsShortText text.now }
+        ensures ok { IfOk result (HasUtf8 self.old text.now self.new) }
+        ensures fits { OnOk result (length self.new ≤ 65535) }
+        ensures full { RefusesFull (HasUtf8 self.old text.now) result }
+        ensures err { OnErr result (self.new ≡ self.old) }
+        ensures extends { Extends self.old self.new }
+    {
+        let mut index = index_of(alloc, self.index.take(), &self.slots)?;
+        let added = add_text(alloc, &mut self.slots, &mut index, text);
+        self.index = Some(index);
+        added
+    }
+
+    /// The first place of a Class entry of this name (JVM Specification 4.4.1), whatever the place of
+    /// the name. Where there is none, the name is put behind the others, unless it is there, and then
+    /// a Class entry. Every entry keeps its place.
+    ///
+    /// # Errors
+    ///
+    /// `Memory` where memory was refused. `PoolFull` exactly where no such entry stands and the pool's
+    /// count would become `count`, which is above 65,535. Then nothing has changed.
+    pub fn add_class(&mut self, alloc: Global, name: &[u8]) -> Result<u16, Fail<PoolFull>>
+        requires { IsShortText name.now }
+        ensures ok { IfOk result (HasClass self.old name.now self.new) }
+        ensures fits { OnOk result (length self.new ≤ 65535) }
+        ensures full { RefusesFull (HasClass self.old name.now) result }
+        ensures err { OnErr result (self.new ≡ self.old) }
+        ensures extends { Extends self.old self.new }
+    {
+        let mut index = index_of(alloc, self.index.take(), &self.slots)?;
+        let added = add_class(alloc, &mut self.slots, &mut index, name);
+        self.index = Some(index);
+        added
     }
 }

@@ -2,7 +2,7 @@ ghost use Rattle.std.specs.Prelude.{◌≤◌, length};
 
 use super::*;
 use jc_base::{Fail, Reader, RefusalKind};
-use std::alloc::Global;
+use std::alloc::{AllocError, Global};
 use std::test;
 
 /// A pool that has each tag (JVM Specification 4.4, table 4.4-A). A byte follows it.
@@ -56,6 +56,9 @@ const TEXTS: [u8; 52] = [
     0x0a, 0x00, 0x01, 0x00, 0x08, // 11: Methodref of no class
     0x2a,
 ];
+
+/// A pool whose Class entry names a place behind its end.
+const NAMES_BEHIND_THE_END: [u8; 5] = [0x00, 0x02, 0x07, 0x00, 0x02];
 
 /// The kind and the place of the refusal of a pool.
 fn refusal(alloc: Global, bytes: &[u8]) -> Option<(RefusalKind, u32)>
@@ -250,5 +253,71 @@ fn surrogate_pairs_are_joined(rt: HostRuntime) -> Result<(), test::Fail> {
         };
         assert_eq!(rt; found.as_deref(), text, "{modified:?}");
     }
+    Ok(())
+}
+
+#[test]
+fn an_entry_equal_by_content_is_found(rt: HostRuntime) -> Result<(), test::Fail> {
+    let alloc = rt.alloc();
+    let Ok(mut pool) = Pool::read(alloc, &mut Reader::new(&EQUAL_ENTRIES)) else {
+        return Err("refused")?;
+    };
+    assert_eq!(rt; pool.add_utf8(alloc, b"A"), Ok(1));
+    assert_eq!(rt; pool.add_class(alloc, b"A"), Ok(7));
+    assert_eq!(rt; pool.count(), 9);
+    assert_eq!(rt; pool.add_class(alloc, b"B"), Ok(10));
+    assert_eq!(rt; pool.add_class(alloc, b"B"), Ok(10));
+    assert_eq!(rt; pool.add_utf8(alloc, b"B"), Ok(9));
+    assert_eq!(rt; pool.add_utf8(alloc, b"C"), Ok(11));
+    assert_eq!(rt; pool.add_class(alloc, b"C"), Ok(12));
+    assert_eq!(rt; pool.count(), 13);
+    assert!(rt; pool.class_at(10).is_ok_and(|name| name == b"B".as_slice()));
+    assert!(rt; pool.utf8_at(11).is_ok_and(|text| text == b"C".as_slice()));
+    Ok(())
+}
+
+#[test]
+fn a_class_whose_name_was_missing_is_found(rt: HostRuntime) -> Result<(), test::Fail> {
+    let alloc = rt.alloc();
+    let Ok(mut pool) = Pool::read(alloc, &mut Reader::new(&NAMES_BEHIND_THE_END)) else {
+        return Err("refused")?;
+    };
+    assert_eq!(rt; pool.add_class(alloc, b"A"), Ok(3));
+    assert_eq!(rt; pool.add_class(alloc, b"A"), Ok(1));
+    assert_eq!(rt; pool.count(), 4);
+    Ok(())
+}
+
+/// A pool of count 65,535: Utf8 A, Class A, and longs, each of which takes two places.
+fn full_pool(alloc: Global) -> Result<Vec<u8>, AllocError> {
+    let mut bytes = [0xff, 0xff, 0x01, 0x00, 0x01, 0x41, 0x07, 0x00, 0x01].to_vec(alloc)?;
+    for _ in 0..32_766 {
+        bytes.extend_from_slice(&[0x05, 0, 0, 0, 0, 0, 0, 0, 0x07])?;
+    }
+    Ok(bytes)
+}
+
+#[test]
+fn a_full_pool_takes_no_new_entry(rt: HostRuntime) -> Result<(), test::Fail> {
+    let alloc = rt.alloc();
+    let bytes = full_pool(alloc)?;
+    if bytes.len() > 1_000_000 {
+        return Err("too long")?;
+    }
+    let Ok(mut pool) = Pool::read(alloc, &mut Reader::new(&bytes)) else {
+        return Err("refused")?;
+    };
+    assert_eq!(rt; pool.count(), 65_535);
+    assert_eq!(rt;
+        pool.add_utf8(alloc, b"new"),
+        Err(Fail::Said(PoolFull { count: 65_536 }))
+    );
+    assert_eq!(rt; pool.add_utf8(alloc, b"A"), Ok(1));
+    assert_eq!(rt; pool.add_class(alloc, b"A"), Ok(2));
+    assert_eq!(rt;
+        pool.add_class(alloc, b"new"),
+        Err(Fail::Said(PoolFull { count: 65_537 }))
+    );
+    assert_eq!(rt; pool.count(), 65_535);
     Ok(())
 }

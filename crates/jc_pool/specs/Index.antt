@@ -1,0 +1,106 @@
+-- What an index says of a pool: where equal entries stand first.
+use Rattle.std.specs.Prelude.{◌≡◌, ◌≢◌, ◌⊎◌, ℕ, ◌<◌, Bool, List, length, slice_index_or, Option, Some, None, Result, Err, is_some, if◌then◌else◌}
+use Rattle.std.specs.Map.{lookup}
+use Rattle.std.specs.Str.{bytes_eq}
+use Rattle.jc_base.specs.Decoder.{◌>>=◌}
+use Rattle.jc_base.specs.declared.fail.Fail.{Fail}
+use Rattle.jc_base.specs.declared.fail.Fail.TheVariants as fails
+use Rattle.jc_pool.specs.declared.add.PoolFull.{PoolFull}
+use Rattle.jc_pool.specs.declared.entry.Entry.{Entry}
+use Rattle.jc_pool.specs.declared.entry.Entry.TheVariants as entry
+use Rattle.jc_pool.specs.declared.index.Key.{Key}
+use Rattle.jc_pool.specs.declared.index.Key.TheVariants as key
+use Rattle.jc_pool.specs.declared.index.Index.{Index}
+use Rattle.jc_pool.specs.contracts.index.KeyPartialEq.TheImpl as equal
+use Rattle.jc_pool.specs.Pool.{PoolValue}
+use Rattle.jc_pool.specs.Lookup.{entry_of, utf8_in, utf8_of}
+use Rattle.jc_pool.specs.Adding.{IsFirst}
+
+-- ---- first places
+
+-- below this place, this is found first there, or not at all
+abbrev pub IsFirstBelow : {X : Type 0} → ℕ → (ℕ → Option X) → X → Option ℕ → Type 0
+IsFirstBelow end found what (Some place) = (place < end) × IsFirst found what place
+IsFirstBelow end found what None = (place : ℕ) → place < end → found place ≢ Some what
+
+-- the table has the first place below this one of all that is found there
+abbrev pub AreFirsts : {X : Type 0} → ℕ → (ℕ → Option X) → (X → Option ℕ) → Type 0
+AreFirsts {X} end found table = (what : X) → IsFirstBelow end found what (table what)
+
+-- this has its first place in the table, which stays; or it is put into the table with this place
+abbrev pub Notes : {X : Type 0} → (X → Option ℕ) → (X → Option ℕ) → X → ℕ → ℕ → Type 0
+Notes {X} old new what place first =
+    ((old what ≡ Some first) × ((other : X) → new other ≡ old other))
+    ⊎ ((old what ≡ None) × (first ≡ place) × ((other : X) → ((other ≢ what) × (new other ≡ old other)) ⊎ ((other ≡ what) × (new other ≡ Some place))))
+
+-- ---- texts
+
+-- the place that the entries of a map have for a text, where this is the text of a key
+abbrev pub text_place : {X : Type 0} → List (X × ℕ) → (X → List ℕ) → List ℕ → Option ℕ
+text_place entries text_of text = lookup (λ x. bytes_eq text (text_of x)) entries
+
+-- the place that stands for a place: the one in the table, and behind its end the place itself
+abbrev pub standing_for : List ℕ → ℕ → ℕ
+standing_for firsts place = slice_index_or firsts place place
+
+-- the first place of its text stands for each place of a Utf8 entry, and every other place for itself
+pub record AreStandins (found : ℕ → Option (List ℕ)) (end : ℕ) (firsts : List ℕ) : Type 0 where
+  pub texts : (place : ℕ) (text : List ℕ) → place < end → found place ≡ Some text → IsFirst found text (standing_for firsts place)
+  pub others : (place : ℕ) → found place ≡ None → standing_for firsts place ≡ place
+
+-- ---- keys
+
+abbrev pub same_key : Key → Key → Bool
+same_key = equal.ghosts.eq
+
+-- the place that the entries of a map have for a key
+abbrev pub key_place : List (Key × ℕ) → Key → Option ℕ
+key_place entries k = lookup (same_key k) entries
+
+-- the place that they have for a class whose name has this first place
+abbrev pub class_place : List (Key × ℕ) → Option ℕ → Option ℕ
+class_place entries (Some name) = key_place entries (key.Class name)
+class_place entries None = None
+
+-- the key of an entry that names others
+abbrev pub key_in : List ℕ → Entry → Option Key
+key_in firsts (entry.Class name) = Some (key.Class (standing_for firsts name))
+key_in firsts _ = None
+
+-- the key of the entry at a place
+unfoldable pub key_at : List ℕ → PoolValue → ℕ → Option Key
+key_at firsts pool place = entry_of pool place >>= key_in firsts
+
+-- ---- the index
+
+pub record IsIndexOf (pool : PoolValue) (index : Index) : Type 0 where
+  pub texts : AreFirsts (length pool) (utf8_of pool) (text_place index.texts.entries (λ x. x.items))
+  pub standins : AreStandins (utf8_of pool) (length pool) index.firsts.items
+  pub keys : AreFirsts (length pool) (key_at index.firsts.items pool) (key_place index.keys.entries)
+
+-- the text of what stands at a place
+abbrev pub text_in : Option Entry → Option (List ℕ)
+text_in slot = slot >>= utf8_in
+
+-- the key of what stands at a place
+abbrev pub slot_key : List ℕ → Option Entry → Option Key
+slot_key firsts slot = slot >>= key_in firsts
+
+-- the first place of a text is noted; where there is no text, it is the place itself
+abbrev pub NotesText : (List ℕ → Option ℕ) → (List ℕ → Option ℕ) → Option (List ℕ) → ℕ → ℕ → Type 0
+NotesText old new None place first = (first ≡ place) × ((text : List ℕ) → new text ≡ old text)
+NotesText old new (Some text) place first = Notes old new text place first
+
+-- the place of an entry is noted, where it names others
+abbrev pub NotesEntry : (Key → Option ℕ) → (Key → Option ℕ) → Option Key → ℕ → Type 0
+NotesEntry old new None place = (k : Key) → new k ≡ old k
+NotesEntry old new (Some k) place = (first : ℕ) × Notes old new k place first
+
+-- how many places a class lacks, whose name has this place
+abbrev pub missing : Option ℕ → ℕ
+missing named = if is_some named then 1 else 2
+
+-- a refusal names this count, which is above the limit (JVM Specification 4.1)
+abbrev pub CountsTo : {X : Type 0} → Result X (Fail PoolFull) → ℕ → Type 0
+CountsTo (Err (fails.Said full)) count = (full.count ≡ count) × (65535 < count)
+CountsTo _ count = Unit {0}

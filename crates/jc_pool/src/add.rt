@@ -1,0 +1,203 @@
+//! Adding entries to what stands at the places of a pool.
+ghost use Rattle.std.specs.Prelude.{◌≡◌, ◌+◌, ◌<◌, ◌≤◌, None, Some, IfOk, IfSome, OnOk, OnErr, length, option_copied, vec_capacity, vec_len};
+ghost use Rattle.indexmap.specs.IndexMap.{spare};
+ghost use Rattle.jc_base.specs.Texts.{IsShortText};
+ghost use Rattle.jc_pool.specs.declared.entry.Entry.TheVariants as entry;
+ghost use Rattle.jc_pool.specs.Adding.{IsNowhere, IsPut, HasUtf8, HasClass, RefusesFull};
+ghost use Rattle.jc_pool.specs.Index.{IsFirstBelow, IsIndexOf, CountsTo, missing};
+ghost use Rattle.jc_pool.specs.Lookup.{utf8_in, utf8_of, class_name_of};
+ghost use Rattle.jc_pool.specs.Pool.{IsPool};
+
+use crate::entry::Entry;
+use crate::index::{Index, note_entry, note_text};
+use crate::judged_text::JudgedText;
+use jc_base::{Fail, Memory};
+use std::alloc::Global;
+
+/// The largest count of a pool (JVM Specification 4.1).
+const MOST_PLACES: usize = 65_535;
+
+/// The pool would have too many places (JVM Specification 4.1).
+#[derive(Clone, Copy, Debug, PartialEq, Eq)]
+pub struct PoolFull {
+    /// The count that the pool would have.
+    pub count: u32,
+}
+
+/// The index that was made before, or a new one.
+pub fn index_of(
+    alloc: Global,
+    index: Option<Index>,
+    slots: &[Option<Entry>],
+) -> Result<Index, Memory>
+    requires pool { IsPool slots.now }
+    requires index { IfSome index (IsIndexOf slots.now) }
+    ensures { IfOk result (IsIndexOf slots.now) }
+{
+    match index {
+        Some(index) => Ok(index),
+        None => Index::of(alloc, slots),
+    }
+}
+
+/// Takes room for so many places that are missing.
+fn take_room(slots: &mut Vec<Option<Entry>>, missing: usize) -> Result<(), Fail<PoolFull>>
+    requires pool { length slots.old.items ≤ 65535 }
+    requires few { missing ≤ 2 }
+    ensures room { OnOk result (vec_len slots.new + missing ≤ vec_capacity slots.new) }
+    ensures fits { OnOk result (length slots.old.items + missing ≤ 65535) }
+    ensures full { CountsTo result (length slots.old.items + missing) }
+    ensures kept { slots.new.items ≡ slots.old.items }
+{
+    let count = slots.len() + missing;
+    if count > MOST_PLACES {
+        return Err(Fail::Said(PoolFull {
+            count: count as u32,
+        }));
+    }
+    slots.reserve(missing)?;
+    Ok(())
+}
+
+/// Puts a Utf8 entry behind the others, for which there is room.
+fn put_text(
+    alloc: Global,
+    slots: &mut Vec<Option<Entry>>,
+    index: &mut Index,
+    text: &[u8],
+) -> Result<u16, Memory>
+    requires room { vec_len slots.old < vec_capacity slots.old }
+    requires few { length slots.old.items < 65535 }
+    requires new { IsNowhere (utf8_of slots.old.items) text.now }
+    requires index { IsIndexOf slots.old.items index.old }
+    ensures put { IfOk result (IsPut slots.old.items slots.new.items (entry.Utf8 text.now)) }
+    ensures index { IsIndexOf slots.new.items index.new }
+    ensures kept { OnErr result (slots.new.items ≡ slots.old.items) }
+    ensures keys { index.new.keys ≡ index.old.keys }
+    ensures capacity { vec_capacity slots.new ≡ vec_capacity slots.old }
+{
+    let entry = JudgedText::of(alloc, text)?;
+    let place = slots.len() as u16;
+    note_text(alloc, &mut index.texts, text, place)?;
+    slots.push_reserved(Some(Entry::Utf8(entry)));
+    Ok(place)
+}
+
+/// Puts an entry that takes one place and has no text behind the others, for which there is room.
+fn put_entry(slots: &mut Vec<Option<Entry>>, index: &mut Index, entry: Entry) -> u16
+    requires room { vec_len slots.old < vec_capacity slots.old }
+    requires space { 0 < spare index.old.keys }
+    requires few { length slots.old.items < 65535 }
+    requires other { utf8_in entry ≡ None }
+    requires index { IsIndexOf slots.old.items index.old }
+    ensures put { IsPut slots.old.items slots.new.items entry result }
+    ensures index { IsIndexOf slots.new.items index.new }
+{
+    let place = slots.len() as u16;
+    note_entry(&mut index.keys, &index.firsts, &entry, place);
+    slots.push_reserved(Some(entry));
+    place
+}
+
+/// The first place of a text, which is put behind the others where it is new.
+pub fn add_text(
+    alloc: Global,
+    slots: &mut Vec<Option<Entry>>,
+    index: &mut Index,
+    text: &[u8],
+) -> Result<u16, Fail<PoolFull>>
+    requires pool { IsPool slots.old.items }
+    requires short { IsShortText text.now }
+    requires index { IsIndexOf slots.old.items index.old }
+    ensures ok { IfOk result (HasUtf8 slots.old.items text.now slots.new.items) }
+    ensures pool { IsPool slots.new.items }
+    ensures full { RefusesFull (HasUtf8 slots.old.items text.now) result }
+    ensures err { OnErr result (slots.new.items ≡ slots.old.items) }
+    ensures index { IsIndexOf slots.new.items index.new }
+{
+    if let Some(place) = index.text_place(text) {
+        return Ok(place);
+    }
+    take_room(slots, 1)?;
+    Ok(put_text(alloc, slots, index, text)?)
+}
+
+/// How many places a class lacks, whose name has this place.
+fn missing(named: Option<u16>) -> usize
+    ensures { result ≡ missing named }
+{
+    if named.is_some() { 1 } else { 2 }
+}
+
+/// The place of a name, which is put behind the others where it has none. There is room for it.
+fn put_name(
+    alloc: Global,
+    slots: &mut Vec<Option<Entry>>,
+    index: &mut Index,
+    named: Option<u16>,
+    name: &[u8],
+) -> Result<u16, Memory>
+    requires named { IsFirstBelow (length slots.old.items) (utf8_of slots.old.items) name.now named }
+    requires room { vec_len slots.old + missing named ≤ vec_capacity slots.old }
+    requires few { length slots.old.items + missing named ≤ 65535 }
+    requires index { IsIndexOf slots.old.items index.old }
+    ensures has { IfOk result (HasUtf8 slots.old.items name.now slots.new.items) }
+    ensures room { OnOk result (vec_len slots.new < vec_capacity slots.new) }
+    ensures few { OnOk result (length slots.new.items < 65535) }
+    ensures kept { OnErr result (slots.new.items ≡ slots.old.items) }
+    ensures keys { index.new.keys ≡ index.old.keys }
+    ensures index { IsIndexOf slots.new.items index.new }
+{
+    match named {
+        Some(at) => Ok(at),
+        None => put_text(alloc, slots, index, name),
+    }
+}
+
+/// Puts a Class entry of a name behind the others, and before it the name, where it has no place.
+fn put_class(
+    alloc: Global,
+    slots: &mut Vec<Option<Entry>>,
+    index: &mut Index,
+    named: Option<u16>,
+    name: &[u8],
+) -> Result<u16, Fail<PoolFull>>
+    requires pool { IsPool slots.old.items }
+    requires short { IsShortText name.now }
+    requires named { IsFirstBelow (length slots.old.items) (utf8_of slots.old.items) name.now named }
+    requires new { IsNowhere (class_name_of slots.old.items) name.now }
+    requires index { IsIndexOf slots.old.items index.old }
+    ensures ok { IfOk result (HasClass slots.old.items name.now slots.new.items) }
+    ensures pool { IsPool slots.new.items }
+    ensures full { RefusesFull (HasClass slots.old.items name.now) result }
+    ensures err { OnErr result (slots.new.items ≡ slots.old.items) }
+    ensures index { IsIndexOf slots.new.items index.new }
+{
+    take_room(slots, missing(named))?;
+    index.keys.reserve(1)?;
+    let at = put_name(alloc, slots, index, named, name)?;
+    Ok(put_entry(slots, index, Entry::Class { name: at }))
+}
+
+/// The first place of a class, which is put behind the others where it is new.
+pub fn add_class(
+    alloc: Global,
+    slots: &mut Vec<Option<Entry>>,
+    index: &mut Index,
+    name: &[u8],
+) -> Result<u16, Fail<PoolFull>>
+    requires pool { IsPool slots.old.items }
+    requires short { IsShortText name.now }
+    requires index { IsIndexOf slots.old.items index.old }
+    ensures ok { IfOk result (HasClass slots.old.items name.now slots.new.items) }
+    ensures pool { IsPool slots.new.items }
+    ensures full { RefusesFull (HasClass slots.old.items name.now) result }
+    ensures err { OnErr result (slots.new.items ≡ slots.old.items) }
+    ensures index { IsIndexOf slots.new.items index.new }
+{
+    let named = index.text_place(name);
+    if let Some(place) = index.class_place(named) {
+        return Ok(place);
+    }
+    put_class(alloc, slots, index, named, name)
+}

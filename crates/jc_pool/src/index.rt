@@ -1,0 +1,192 @@
+//! Where equal entries stand, by their hash.
+ghost use Rattle.std.specs.Prelude.{◌≡◌, ◌<◌, ◌≤◌, ℕ, IfOk, OnOk, OnErr, length};
+ghost use Rattle.indexmap.specs.IndexMap.{spare};
+ghost use Rattle.jc_pool.specs.Index.{AreFirsts, Notes, text_place, key_place, key_in, key_at, class_place, standing_for, AreStandins, IsIndexOf, text_in, slot_key, NotesText, NotesEntry};
+ghost use Rattle.jc_pool.specs.Lookup.{utf8_of};
+
+use crate::entry::Entry;
+use indexmap::IndexMap;
+use jc_base::Memory;
+use std::alloc::Global;
+
+/// An entry that names others, each by the first place at which an equal one stands. Two such
+/// entries are equal by content exactly where their keys are equal.
+#[derive(Clone, Copy, Debug, PartialEq, Eq, Hash)]
+pub enum Key {
+    /// A class by its name.
+    Class { name: u16 },
+}
+
+/// Texts that differ, each with the first place at which it stands.
+pub type Texts = IndexMap<Vec<u8>, u16>;
+
+/// Keys that differ, each with the first place of an entry that has it.
+pub type Keys = IndexMap<Key, u16>;
+
+/// Where equal entries stand in a pool.
+#[derive(Debug, Drop)]
+pub struct Index {
+    /// For each place that the pool had when the index was made, the first place of the same text;
+    /// where no Utf8 entry stands, the place itself.
+    pub firsts: Vec<u16>,
+    /// The first place of each text.
+    pub texts: Texts,
+    /// The first place of each key.
+    pub keys: Keys,
+}
+
+/// The place in the table, and behind its end the place itself.
+fn standing_for(firsts: &[u16], place: u16) -> u16
+    ensures { result ≡ standing_for firsts.now place }
+{
+    match firsts.get(usize::from(place)) {
+        Some(first) => *first,
+        None => place,
+    }
+}
+
+/// The key of an entry that names others.
+fn key_of(firsts: &[u16], entry: &Entry) -> Option<Key>
+    ensures { result ≡ key_in firsts.now entry.now }
+{
+    match entry {
+        Entry::Class { name } => Some(Key::Class {
+            name: standing_for(firsts, *name),
+        }),
+        _ => None,
+    }
+}
+
+/// The first place of a text, which is this one where the text is new.
+pub fn note_text(alloc: Global, texts: &mut Texts, text: &[u8], place: u16) -> Result<u16, Memory>
+    ensures ok { IfOk result (Notes (text_place texts.old.entries (λ x. x.items)) (text_place texts.new.entries (λ x. x.items)) text.now place) }
+    ensures err { OnErr result (texts.new.entries ≡ texts.old.entries) }
+{
+    if let Some(first) = texts.get(text) {
+        return Ok(*first);
+    }
+    let stored = Vec::from_slice(alloc, text)?;
+    texts.insert(stored, place)?;
+    Ok(place)
+}
+
+/// The first place of the text of an entry, which is this one where the text is new; where there is
+/// no text, this place.
+fn note_slot_text(
+    alloc: Global,
+    texts: &mut Texts,
+    slot: &Option<Entry>,
+    place: u16,
+) -> Result<u16, Memory>
+    ensures { IfOk result (NotesText (text_place texts.old.entries (λ x. x.items)) (text_place texts.new.entries (λ x. x.items)) (text_in slot.now) place) }
+{
+    match slot {
+        Some(Entry::Utf8(text)) => note_text(alloc, texts, text.as_slice(), place),
+        _ => Ok(place),
+    }
+}
+
+/// The first places of all texts, and for each place the one that stands for it.
+fn texts_of(alloc: Global, slots: &[Option<Entry>]) -> Result<(Vec<u16>, Texts), Memory>
+    requires { length slots.now ≤ 65535 }
+    ensures texts { IfOk result (λ r. AreFirsts (length slots.now) (utf8_of slots.now) (text_place r.1.entries (λ x. x.items))) }
+    ensures firsts { IfOk result (λ r. AreStandins (utf8_of slots.now) (length slots.now) r.0.items) }
+{
+    let mut firsts = Vec::with_capacity(alloc, slots.len())?;
+    let mut texts = IndexMap::new(alloc);
+    'reading: for slot in slots {
+        let place = firsts.len() as u16;
+        let first = note_slot_text(alloc, &mut texts, slot, place)?;
+        firsts.push(first)?;
+    }
+    Ok((firsts, texts))
+}
+
+/// Notes the place of a key that is new, for which there is room.
+fn note_key(keys: &mut Keys, key: Key, place: u16)
+    requires { 0 < spare keys.old }
+    ensures { (first : ℕ) × Notes (key_place keys.old.entries) (key_place keys.new.entries) key place first }
+{
+    if keys.get(&key).is_none() {
+        let _stored = keys.insert(key, place);
+    }
+}
+
+/// Notes the place of an entry that names others, for which there is room.
+pub fn note_entry(keys: &mut Keys, firsts: &[u16], entry: &Entry, place: u16)
+    requires { 0 < spare keys.old }
+    ensures { NotesEntry (key_place keys.old.entries) (key_place keys.new.entries) (key_in firsts.now entry.now) place }
+{
+    if let Some(key) = key_of(firsts, entry) {
+        note_key(keys, key, place);
+    }
+}
+
+/// Notes the place of an entry that names others.
+fn note_slot(
+    keys: &mut Keys,
+    firsts: &[u16],
+    slot: &Option<Entry>,
+    place: u16,
+) -> Result<(), Memory>
+    ensures { OnOk result (NotesEntry (key_place keys.old.entries) (key_place keys.new.entries) (slot_key firsts.now slot.now) place) }
+{
+    if let Some(entry) = slot {
+        keys.reserve(1)?;
+        note_entry(keys, firsts, entry, place);
+    }
+    Ok(())
+}
+
+/// The first places of all keys.
+fn keys_of(alloc: Global, slots: &[Option<Entry>], firsts: &[u16]) -> Result<Keys, Memory>
+    requires { length slots.now ≤ 65535 }
+    ensures { IfOk result (λ keys. AreFirsts (length slots.now) (key_at firsts.now slots.now) (key_place keys.entries)) }
+{
+    let mut keys = IndexMap::new(alloc);
+    let mut place = 0;
+    'reading: for slot in slots {
+        note_slot(&mut keys, firsts, slot, place)?;
+        place += 1;
+    }
+    Ok(keys)
+}
+
+impl Index {
+    /// The index of a pool.
+    ///
+    /// # Errors
+    ///
+    /// `Memory` where memory was refused.
+    pub fn of(alloc: Global, slots: &[Option<Entry>]) -> Result<Index, Memory>
+        requires { length slots.now ≤ 65535 }
+        ensures { IfOk result (IsIndexOf slots.now) }
+    {
+        let (firsts, texts) = texts_of(alloc, slots)?;
+        let keys = keys_of(alloc, slots, &firsts)?;
+        Ok(Index {
+            firsts,
+            texts,
+            keys,
+        })
+    }
+}
+
+impl Index {
+    ghost use Rattle.std.specs.Prelude.{IsSome};
+
+    /// The first place of a text.
+    pub fn text_place(&self, text: &[u8]) -> Option<u16>
+        ensures { result ≡ text_place self.now.texts.entries (λ x. x.items) text.now }
+    {
+        self.texts.get(text).copied()
+    }
+
+    /// The first place of a class, by the first place of its name.
+    pub fn class_place(&self, named: Option<u16>) -> Option<u16>
+        ensures { result ≡ class_place self.now.keys.entries named }
+    {
+        let key = Key::Class { name: named? };
+        self.keys.get(&key).copied()
+    }
+}
