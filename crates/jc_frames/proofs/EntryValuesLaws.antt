@@ -1,0 +1,97 @@
+-- The values of a state's local variables, from the last one and from the first one on.
+use Rattle.std.proofs.Common.{◌≡◌, ℕ, ◌+◌, ◌-◌, ◌<◌, ◌≤◌, Bool, true, false, List, [], ◌∷◌, ◌++◌, length, map, take, drop, get_or, refl, sym, ◌∙◌, ap, append_assoc}
+use Rattle.std.proofs.lemmas.List.{map-append}
+use Rattle.jc_base.specs.declared.kind.Kind.{Kind}
+use Rattle.jc_base.specs.declared.kind.Kind.TheVariants as kinds
+use Rattle.jc_pool.specs.Pool.{PoolValue}
+use Rattle.jc_frames.specs.declared.method.Value.{Value}
+use Rattle.jc_frames.specs.declared.method.Value.TheVariants as values
+use Rattle.jc_frames.specs.Running.{held_value, held_values}
+use Rattle.jc_frames.proofs.RunningLaws.{drop_one, take_last}
+use Rattle.jc_base.specs.Held.{Names, held, Held, top, int, float, double, long, null, uninit_this, object, uninit, is_pair}
+use Rattle.jc_frames.specs.Frames.{without_last_top, trimmed, values_from}
+
+-- `top` at the end goes
+pub trim_top : (xs : List Held) → trimmed (xs ++ top ∷ []) ≡ trimmed xs
+trim_top [] = refl
+trim_top (x ∷ xs) = ap (without_last_top x) (trim_top xs)
+
+-- any other value at the end stays
+pub trim_other : (xs : List Held) (h : Held) → (h ≡ top → ⊥) → trimmed (xs ++ h ∷ []) ≡ xs ++ h ∷ []
+trim_other [] top other = absurd (other refl)
+trim_other [] int other = refl
+trim_other [] float other = refl
+trim_other [] double other = refl
+trim_other [] long other = refl
+trim_other [] null other = refl
+trim_other [] uninit_this other = refl
+trim_other [] (object name) other = refl
+trim_other [] (uninit at) other = refl
+trim_other (x ∷ xs) h other = ap (without_last_top x) (trim_other xs h other) ∙ kept x xs
+  where
+    kept : (x : Held) (xs : List Held) → without_last_top x (xs ++ h ∷ []) ≡ x ∷ (xs ++ h ∷ [])
+    kept top [] = refl
+    kept top (y ∷ ys) = refl
+    kept int ys = refl
+    kept float ys = refl
+    kept double ys = refl
+    kept long ys = refl
+    kept null ys = refl
+    kept uninit_this ys = refl
+    kept (object name) ys = refl
+    kept (uninit at) ys = refl
+
+-- ---- from the last local variable on
+
+held_top : (names : Names) (k : Kind) → held names k ≡ top → k ≡ kinds.Top
+held_top names kinds.Top e = refl
+held_top names kinds.Int e = absurd cc
+held_top names kinds.Float e = absurd cc
+held_top names kinds.Double e = absurd cc
+held_top names kinds.Long e = absurd cc
+held_top names kinds.Null e = absurd cc
+held_top names kinds.UninitThis e = absurd cc
+held_top names (kinds.Object n) e = absurd cc
+held_top names (kinds.Uninit at) e = absurd cc
+
+seen_last : (names : Names) (xs : List Kind) (end : ℕ) → 0 < end → end ≤ length xs
+    → map (held names) (take end xs) ≡ map (held names) (take (end - 1) xs) ++ held names (get_or xs (end - 1) kinds.Top) ∷ []
+seen_last names xs end some within =
+    ap (map (held names)) (take_last xs end kinds.Top some within) ∙ map-append (held names) (take (end - 1) xs) (get_or xs (end - 1) kinds.Top ∷ [])
+
+pub shorter : (names : Names) (xs : List Kind) (end : ℕ) → 0 < end → end ≤ length xs → get_or xs (end - 1) kinds.Top ≡ kinds.Top
+    → trimmed (map (held names) (take end xs)) ≡ trimmed (map (held names) (take (end - 1) xs))
+shorter names xs end some within is =
+    ap trimmed (seen_last names xs end some within)
+    ∙ ap (λ (h : Held). trimmed (map (held names) (take (end - 1) xs) ++ h ∷ [])) (ap (held names) is)
+    ∙ trim_top (map (held names) (take (end - 1) xs))
+
+pub ended : (names : Names) (xs : List Kind) (end : ℕ) → 0 < end → end ≤ length xs → (get_or xs (end - 1) kinds.Top ≡ kinds.Top → ⊥)
+    → trimmed (map (held names) (take end xs)) ≡ map (held names) (take end xs)
+ended names xs end some within other =
+    ap trimmed (seen_last names xs end some within)
+    ∙ trim_other (map (held names) (take (end - 1) xs)) (held names (get_or xs (end - 1) kinds.Top)) (λ e. other (held_top names (get_or xs (end - 1) kinds.Top) e))
+    ∙ sym (seen_last names xs end some within)
+
+-- ---- from the first local variable on
+
+-- the values so far, and those that are in the rest
+abbrev pub listed_with : PoolValue → Names → List Value → Bool → List Kind → List Held
+listed_with pool names vs skips rest = held_values pool names vs ++ values_from skips (map (held names) rest)
+
+-- the second local variable of a value
+pub skipped : (pool : PoolValue) (names : Names) (vs : List Value) (xs : List Kind) (i : ℕ) → i < length xs
+    → listed_with pool names vs true (drop i xs) ≡ listed_with pool names vs false (drop (i + 1) xs)
+skipped pool names vs xs i lt = ap (listed_with pool names vs true) (drop_one xs i kinds.Top lt)
+
+pub listed_one : (pool : PoolValue) (names : Names) (vs more : List Value) (xs : List Kind) (i : ℕ) (wide : Bool) → i < length xs
+    → more ≡ vs ++ values.Of (get_or xs i kinds.Top) ∷ [] → wide ≡ is_pair (held names (get_or xs i kinds.Top))
+    → listed_with pool names vs false (drop i xs) ≡ listed_with pool names more wide (drop (i + 1) xs)
+listed_one pool names vs more xs i wide lt is pair =
+    let k = get_or xs i kinds.Top in
+    let rest = map (held names) (drop (i + 1) xs) in
+    ap (listed_with pool names vs false) (drop_one xs i kinds.Top lt)
+    ∙ sym (append_assoc (held_values pool names vs) (held names k ∷ []) (values_from (is_pair (held names k)) rest))
+    ∙ ap (λ (l : List Held). l ++ values_from (is_pair (held names k)) rest)
+    (sym (ap (held_values pool names) is ∙ map-append (held_value pool names) vs (values.Of k ∷ [])))
+    ∙ ap (λ (b : Bool). held_values pool names more ++ values_from b rest) (sym pair)

@@ -1,0 +1,16 @@
+pub mod FormLaws
+pub mod ReadingLaws
+pub mod FrameLaws
+pub mod TableLaws
+pub mod ValuesLaws
+pub mod FullLaws
+pub mod WellMadeLaws
+pub mod MethodLaws
+pub mod EntryValuesLaws
+pub mod RunningLaws
+pub mod WalkLaws
+pub mod StepLaws
+pub mod FaultLaws
+pub mod BuildingLaws
+pub mod ReadLaws
+pub mod MetLaws

@@ -1,0 +1,110 @@
+-- The walk that builds states, and the answers of the call that reads a table.
+use Rattle.std.proofs.Common.{◌≡◌, ℕ, zero, suc, List, [], ◌∷◌, ◌++◌, length, map, All, Result, Ok, Err, IfOk, IfErr, refl, sym, ◌∙◌, ap, subst, arith}
+use Rattle.std.proofs.lemmas.List.{map-append}
+use Rattle.std.specs.List.{AllByRecursion}
+use Rattle.jc_base.specs.declared.body.FrameAt.{FrameAt}
+use Rattle.jc_base.specs.declared.fail.Fail.{Fail}
+use Rattle.jc_base.specs.declared.fail.Fail.TheVariants as fails
+use Rattle.jc_base.specs.declared.kind.Kind.{Kind}
+use Rattle.jc_base.specs.declared.kind.Kind.TheVariants as kinds
+use Rattle.jc_base.specs.declared.kind.State.{State}
+use Rattle.jc_base.specs.declared.refusal.Refusal.{Refusal}
+use Rattle.jc_base.specs.Held.{Names, Seen, SeenAt, held, seen, seen_at, Grows, IsNumbered, IsNumberedState, AreNumberedFrames}
+use Rattle.jc_base.specs.WellMade.{IsKind, AreFramesFrom}
+use Rattle.jc_base.proofs.SeenLaws.{seen_stays}
+use Rattle.jc_frames.specs.declared.running.Frame.{Frame}
+use Rattle.jc_frames.specs.declared.running.Running.{Running}
+use Rattle.jc_frames.specs.Answers.{bad_frame, IsFrameRefusal, FailsAt}
+use Rattle.jc_frames.specs.Frames.{Ground, Before, is_new}
+use Rattle.jc_frames.specs.Running.{found_as}
+use Rattle.jc_frames.specs.Table.{StandsFor, TableFault, stands_for, at_fault, outcome_of}
+use Rattle.jc_frames.specs.WellMade.{AreOffsets, HasNew}
+use Rattle.jc_frames.proofs.BuildingLaws.{kinds_numbered, by_recursion}
+use Rattle.jc_frames.proofs.TableLaws.{table_good, table_bad, table_again, table_fails, stands_fault}
+use Rattle.jc_frames.proofs.WalkLaws.{Walking}
+use Rattle.jc_frames.proofs.WellMadeLaws.{frames_well_made}
+
+-- ---- lists of names that grow
+
+pub entry_stays : (old mid : Names) (entry : State) → Grows old mid → IsNumberedState (length old) entry → seen mid entry ≡ seen old entry
+entry_stays old mid entry g n = ap (λ (l : Names). seen l entry) g.1 ∙ seen_stays old g.0 entry n
+
+pub each_of : {X : Type 0} (P : X → Type 0) (xs : List X) → AllByRecursion P xs → All P xs
+each_of P [] all k d lt = absurd (omega (arith, lt))
+each_of P (x ∷ xs) all zero d lt = all.0
+each_of P (x ∷ xs) all (suc k) d lt = each_of P xs all.1 k d (omega (arith, lt))
+
+kinds_more : (a b : Names) (ks : List Kind) → Grows a b → AllByRecursion (IsNumbered (length a)) ks → AllByRecursion (IsNumbered (length b)) ks
+kinds_more a b ks g all = by_recursion (IsNumbered (length b)) ks (kinds_numbered a b ks g (each_of (IsNumbered (length a)) ks all))
+
+frames_more : (a b : Names) (frames : List FrameAt) → Grows a b → AreNumberedFrames (length a) frames → AreNumberedFrames (length b) frames
+frames_more a b [] g all = tt
+frames_more a b (f ∷ frames) g all =
+    (record { locals = kinds_more a b f.state.locals g all.0.locals; stack = kinds_more a b f.state.stack g all.0.stack }, frames_more a b frames g all.1)
+
+pub frames_pushed : (a b : Names) (frames new : List FrameAt) (f : FrameAt) → new ≡ frames ++ f ∷ [] → Grows a b → AreNumberedFrames (length a) frames
+    → IsNumberedState (length b) f.state → AreNumberedFrames (length b) new
+frames_pushed a b frames new f is g all last = subst (AreNumberedFrames (length b)) (sym is) (at_end frames (frames_more a b frames g all))
+  where
+    at_end : (xs : List FrameAt) → AreNumberedFrames (length b) xs → AreNumberedFrames (length b) (xs ++ f ∷ [])
+    at_end [] h = (last, tt)
+    at_end (x ∷ xs) h = (h.0, at_end xs h.1)
+
+-- ---- one frame more
+
+pub built_more : (m g : Ground) (later : Names) (entry : Seen) (table : List ℕ) (count this : ℕ) (frames new : List FrameAt) (built : FrameAt) (running : Running) (frame : Frame) (b : Before) (rest : List ℕ)
+    → m ≡ g → new ≡ frames ++ built ∷ [] → seen_at later built ≡ (found_as m later running frame).frame
+    → Walking g entry table count this (map (seen_at later) frames ++ (found_as g later running frame).frame ∷ []) b rest
+    → Walking g entry table count this (map (seen_at later) new) b rest
+built_more m g later entry table count this frames new built running frame b rest is pushed same w =
+    let At : List SeenAt → Type 0 = λ done. Walking g entry table count this done b rest in
+    subst At (sym (ap (map (seen_at later)) pushed ∙ map-append (seen_at later) frames (built ∷ [])
+    ∙ ap (λ (x : SeenAt). map (seen_at later) frames ++ x ∷ []) (same ∙ ap (λ (x : Ground). (found_as x later running frame).frame) is))) w
+
+-- ---- the answers
+
+pub refusal_at : (old mid : Names) (entry : State) (g : Ground) (table : List ℕ) (place : ℕ) (refusal : Refusal) → Grows old mid → IsNumberedState (length old) entry
+    → refusal ≡ bad_frame place → outcome_of g (seen mid entry) table ≡ at_fault place → FailsAt (outcome_of g (seen old entry) table) (fails.Said refusal)
+refusal_at old mid entry g table place refusal grows n is e = (place, is, ap (λ (s : Seen). outcome_of g s table) (sym (entry_stays old mid entry grows n)) ∙ e)
+
+module _ {X : Type 0} (g : Ground) (entry : Seen) (table : List ℕ) where
+  pub refuses : (r : Result X (Fail Refusal)) → IfErr r (FailsAt (outcome_of g entry table)) → IfErr r (IsFrameRefusal g entry table)
+  refuses (Ok x) h = h
+  refuses (Err fails.Memory) h = h
+  refuses (Err (fails.Said refusal)) h = (h.0, h.1, table_bad g entry table h.0 h.2)
+
+  pub stands_memory : (r : Result X (Fail Refusal)) (frames : List SeenAt) → StandsFor g entry table frames → IfErr r (FailsAt (outcome_of g entry table))
+      → IfErr r (λ e. e ≡ fails.Memory)
+  stands_memory (Ok x) frames stands h = h
+  stands_memory (Err fails.Memory) frames stands h = refl
+  stands_memory (Err (fails.Said refusal)) frames stands h = absurd (stands_fault (sym (table_again g entry table frames stands) ∙ h.2))
+
+  pub fault_refused : (view : X → List SeenAt) (r : Result X (Fail Refusal)) (place : ℕ) → TableFault g entry table place
+      → IfOk r (λ x. outcome_of g entry table ≡ stands_for (view x)) → IfOk r (λ x. ⊥)
+  fault_refused view (Ok x) place bad h = stands_fault (sym h ∙ table_fails g entry table place bad)
+  fault_refused view (Err e) place bad h = h
+
+  pub stands : (view : X → List SeenAt) (r : Result X (Fail Refusal)) → IfOk r (λ x. outcome_of g entry table ≡ stands_for (view x)) → IfOk r (λ x. StandsFor g entry table (view x))
+  stands view (Ok x) h = table_good g entry table (view x) h
+  stands view (Err e) h = h
+
+  pub made : (frames : X → List FrameAt) (names : Names) (r : Result X (Fail Refusal)) → AreOffsets (length g.code) g.starts → AllByRecursion (HasNew g) entry.locals
+      → IfOk r (λ x. outcome_of g entry table ≡ stands_for (map (seen_at names) (frames x))) → IfOk r (λ x. AreFramesFrom 0 g.code g.max_locals g.max_stack (frames x))
+  made frames names (Ok x) o new h = frames_well_made g names entry table (frames x) o new (table_good g entry table (map (seen_at names) (frames x)) h)
+  made frames names (Err e) o new h = h
+
+-- the objects of the state in which the method begins that aren't initialized have a `new`
+new_kind : (g : Ground) (names : Names) (k : Kind) → IsKind g.code k → HasNew g (held names k)
+new_kind g names (kinds.Uninit at) is = ap is_new is.1
+new_kind g names kinds.Top is = tt
+new_kind g names kinds.Int is = tt
+new_kind g names kinds.Float is = tt
+new_kind g names kinds.Double is = tt
+new_kind g names kinds.Long is = tt
+new_kind g names kinds.Null is = tt
+new_kind g names kinds.UninitThis is = tt
+new_kind g names (kinds.Object n) is = tt
+
+pub new_kinds : (g : Ground) (names : Names) (ks : List Kind) → All (IsKind g.code) ks → AllByRecursion (HasNew g) (map (held names) ks)
+new_kinds g names [] all = tt
+new_kinds g names (k ∷ ks) all = (new_kind g names k (all 0 k (omega arith)), new_kinds g names ks (λ i d lt. all (suc i) d (omega (arith, lt))))

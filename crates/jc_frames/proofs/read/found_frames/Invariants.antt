@@ -1,0 +1,22 @@
+use Rattle.std.proofs.Common.{◌≡◌, length, map, All}
+use Rattle.jc_base.specs.Held.{Names, seen, seen_at, Grows, AreNumberedFrames}
+use Rattle.jc_base.specs.Names.{met}
+use Rattle.jc_frames.specs.Answers.{frame_names}
+use Rattle.jc_frames.specs.Building.{AreKnown}
+use Rattle.jc_frames.specs.Frames.{ground}
+use Rattle.jc_frames.specs.Running.{IsRunning, IsNumberedValue, before}
+use Rattle.jc_frames.proofs.WalkLaws.{Walking}
+use Rattle.jc_frames.proofs.read.found_frames.Given as goal
+
+abbrev pub invariant-reading : goal.invariant-reading
+invariant-reading l = record {
+  running : IsRunning l.running;
+  known : AreKnown l.pool l.names l.known;
+  grows : Grows l.fn.names l.names;
+  walking : (later : Names) → Grows l.names later
+      → Walking (ground l.pool l.code l.starts (length l.entry.locals) l.max_stack) (seen later l.entry) l.table l.count l.number (map (seen_at later) l.frames.items)
+      (before l.pool later l.running) l.reader.left;
+  values : All (IsNumberedValue (length l.names)) l.running.values.items;
+  numbered : AreNumberedFrames (length l.names) l.frames.items;
+  met : l.names ≡ met l.fn.names (frame_names (map (seen_at l.names) l.frames.items));
+}

@@ -1,0 +1,7 @@
+use Rattle.std.proofs.Common.{refl}
+use Rattle.jc_frames.proofs.ReadingLaws.{refused_here}
+use Rattle.jc_frames.proofs.reading.type_behind.Goals as goal
+
+pub returns-in-NoType-clause-gives : goal.returns-in-NoType-clause-gives
+returns-in-NoType-clause-gives c =
+    rw c.in-NoType.is (c.args.reader.now.left, refl, refused_here c.args.reader.now c.not_a_class.result c.place.result c.not_a_class.ensures c.place.ensures)

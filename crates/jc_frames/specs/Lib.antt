@@ -1,0 +1,11 @@
+pub mod TableForm
+pub mod TableReading
+pub mod Frames
+pub mod Table
+pub mod FullFrames
+pub mod WellMade
+pub mod Numbering
+pub mod Running
+pub mod Walk
+pub mod Building
+pub mod Answers

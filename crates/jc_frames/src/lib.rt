@@ -1,0 +1,24 @@
+//! Stack map tables (JVM Specification 4.7.4).
+#![tactic(auto)]
+
+mod building;
+mod fault;
+mod items;
+mod laws;
+mod method;
+mod read;
+mod reading;
+mod running;
+mod walk;
+
+pub use fault::frame_fault;
+pub use items::{FrameForm, FrameItem, TypeForm, TypeItem};
+pub use jc_base::entry_state;
+pub use laws::{
+    a_frame_says_something_or_has_a_fault, each_table_has_frames_or_a_fault,
+    frames_of_a_table_are_well_made, full_frames_are_read_back,
+};
+pub use read::read_frames;
+
+#[cfg(test)]
+mod tests;
