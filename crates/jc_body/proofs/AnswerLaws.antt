@@ -4,7 +4,11 @@ use Rattle.jc_base.specs.declared.body.Body.{Body}
 use Rattle.jc_base.specs.declared.refusal.Refusal.{Refusal}
 use Rattle.jc_base.specs.declared.refusal.RefusalKind.{RefusalKind}
 use Rattle.jc_base.specs.declared.refusal.RefusalKind.TheVariants as kinds
+use Rattle.std.specs.List.{IsDistinct}
+use Rattle.std.specs.Str.{bytes_eq}
+use Rattle.jc_base.specs.Held.{Names, seen_at}
 use Rattle.jc_base.specs.WellMade.{TakeSlots}
+use Rattle.jc_pool.specs.Lookup.{class_name_of}
 use Rattle.jc_pool.specs.Pool.{PoolValue}
 use Rattle.jc_class.specs.declared.class_file.ClassFile.{ClassFile}
 use Rattle.jc_class.specs.declared.class_file.Member.{Member}
@@ -16,6 +20,9 @@ use Rattle.jc_body.specs.Faults.{HasSubroutine, OfCode, faults, insn_faults, row
 use Rattle.jc_base.specs.Least.{IsNowhere, IsLeast}
 use Rattle.jc_body.specs.First.{Fault, IsFirst, AreNowhere}
 use Rattle.jc_body.specs.BodyOf.{places_used, HasParts, IsBody, BodyOf, Bodiless, IsReason, FaultOf}
+use Rattle.jc_body.specs.StackMap.{HasFrames}
+use Rattle.jc_body.proofs.FramesByNamesLaws.{one_numbering}
+use Rattle.jc_body.proofs.StackMapLaws.{one_list}
 use Rattle.jc_body.proofs.OrderLaws.{least_once, first_once, first_or_nowhere}
 use Rattle.jc_body.proofs.CodedLaws.{one_coded, no_items, no_code, not_malformed, not_stopped, none_of_code}
 use Rattle.jc_body.proofs.TablesLaws.{one_tables}
@@ -25,44 +32,47 @@ use Rattle.jc_body.proofs.UsesLaws.{one_uses}
 -- ---- reasons
 
 -- a reason is a subroutine instruction, or else the first fault
-pub data Why (major : ℕ) (pool : PoolValue) (method : Member) (kind : RefusalKind) (place : ℕ) : Type 0 where
-  subroutine : kind ≡ kinds.Subroutine → IsLeast (HasSubroutine pool method) place → Why major pool method kind place
-  fault : kind ≡ kinds.BadCode → IsNowhere (HasSubroutine pool method) → IsFirst (faults major pool method) place → Why major pool method kind place
+pub data Why (major : ℕ) (pool : PoolValue) (owner : List ℕ) (method : Member) (kind : RefusalKind) (place : ℕ) : Type 0 where
+  subroutine : kind ≡ kinds.Subroutine → IsLeast (HasSubroutine pool method) place → Why major pool owner method kind place
+  fault : kind ≡ kinds.BadCode → IsNowhere (HasSubroutine pool method) → IsFirst (faults major pool owner method) place → Why major pool owner method kind place
 
-pub why : (major : ℕ) (pool : PoolValue) (method : Member) (kind : RefusalKind) (place : ℕ) → IsReason major pool method kind place → Why major pool method kind place
-why major pool method kinds.Subroutine place r = subroutine refl r
-why major pool method kinds.BadCode place r = fault refl r.0 r.1
-why major pool method kind place r = absurd r
+pub why : (major : ℕ) (pool : PoolValue) (owner : List ℕ) (method : Member) (kind : RefusalKind) (place : ℕ) → IsReason major pool owner method kind place → Why major pool owner method kind place
+why major pool owner method kinds.Subroutine place r = subroutine refl r
+why major pool owner method kinds.BadCode place r = fault refl r.0 r.1
+why major pool owner method kind place r = absurd r
 
-one_why : (major : ℕ) (pool : PoolValue) (method : Member) (kind kind' : RefusalKind) (place place' : ℕ) → Why major pool method kind place → Why major pool method kind' place' → (kind ≡ kind') × (place ≡ place')
-one_why major pool method kind kind' place place' (subroutine is at) (subroutine is' at') = (is ∙ sym is', least_once (HasSubroutine pool method) place place' at at')
-one_why major pool method kind kind' place place' (fault is none at) (fault is' none' at') = (is ∙ sym is', first_once (faults major pool method) place place' at at')
-one_why major pool method kind kind' place place' (subroutine is at) (fault is' none' at') = absurd (none' place at.there)
-one_why major pool method kind kind' place place' (fault is none at) (subroutine is' at') = absurd (none place' at'.there)
+one_why : (major : ℕ) (pool : PoolValue) (owner : List ℕ) (method : Member) (kind kind' : RefusalKind) (place place' : ℕ) → Why major pool owner method kind place → Why major pool owner method kind' place' → (kind ≡ kind') × (place ≡ place')
+one_why major pool owner method kind kind' place place' (subroutine is at) (subroutine is' at') = (is ∙ sym is', least_once (HasSubroutine pool method) place place' at at')
+one_why major pool owner method kind kind' place place' (fault is none at) (fault is' none' at') = (is ∙ sym is', first_once (faults major pool owner method) place place' at at')
+one_why major pool owner method kind kind' place place' (subroutine is at) (fault is' none' at') = absurd (none' place at.there)
+one_why major pool owner method kind kind' place place' (fault is none at) (subroutine is' at') = absurd (none place' at'.there)
 
-pub no_reason : (major : ℕ) (pool : PoolValue) (method : Member) (kind : RefusalKind) (place : ℕ) → IsNowhere (HasSubroutine pool method) → AreNowhere (faults major pool method) → IsReason major pool method kind place → ⊥
-no_reason major pool method kind place no_subroutine no_fault r = by (why major pool method kind place r)
+pub no_reason : (major : ℕ) (pool : PoolValue) (owner : List ℕ) (method : Member) (kind : RefusalKind) (place : ℕ) → IsNowhere (HasSubroutine pool method) → AreNowhere (faults major pool owner method) → IsReason major pool owner method kind place → ⊥
+no_reason major pool owner method kind place no_subroutine no_fault r = by (why major pool owner method kind place r)
   where
-    by : Why major pool method kind place → ⊥
+    by : Why major pool owner method kind place → ⊥
     by (subroutine is at) = no_subroutine place at.there
-    by (fault is none at) = first_or_nowhere (faults major pool method) place at no_fault
+    by (fault is none at) = first_or_nowhere (faults major pool owner method) place at no_fault
 
 -- a method without code has none of the faults
 none_of_all : (pool : PoolValue) (method : Member) → HasNoCode pool method → (Fs : List (Coded → Fault)) → AreNowhere (map (OfCode pool method) Fs)
 none_of_all pool method none [] = tt
 none_of_all pool method none (F ∷ Fs) = (none_of_code pool method none F, none_of_all pool method none Fs)
 
-pub no_faults : (major : ℕ) (pool : PoolValue) (method : Member) → HasNoCode pool method → AreNowhere (faults major pool method)
-no_faults major pool method none =
-    (no_code pool method none, (not_malformed pool method none, (not_stopped pool method none kinds.BadCode, none_of_all pool method none (insn_faults major pool ++ (row_faults pool method ++ table_faults pool)))))
+pub no_faults : (major : ℕ) (pool : PoolValue) (owner : List ℕ) (method : Member) → HasNoCode pool method → AreNowhere (faults major pool owner method)
+no_faults major pool owner method none =
+    (no_code pool method none, (not_malformed pool method none, (not_stopped pool method none kinds.BadCode, none_of_all pool method none (insn_faults major pool ++ (row_faults pool method ++ table_faults pool owner method)))))
 
 -- ---- one method
+
+pub some_text : {x y : List ℕ} → Some x ≡ Some y → x ≡ y
+some_text e = cc
 
 same_method : {x y : Member} → Some x ≡ Some y → x ≡ y
 same_method e = cc
 
-pub bodiless_or_body : (c : ClassFile) (number : ℕ) (b : Body) → Bodiless c number → BodyOf c number b → ⊥
-bodiless_or_body c number b none body =
+pub bodiless_or_body : (names : Names) (c : ClassFile) (number : ℕ) (b : Body) → Bodiless c number → BodyOf names c number b → ⊥
+bodiless_or_body names c number b none body =
     let same = same_method (sym none.at ∙ body.at) in
     no_items c.pool body.method (subst (HasNoCode c.pool) same none.none) body.is.coded.items body.is.is.items
 
@@ -70,28 +80,31 @@ pub bodiless_or_fault : (c : ClassFile) (number : ℕ) (r : Refusal) → Bodiles
 bodiless_or_fault c number r none bad =
     let same = same_method (sym none.at ∙ bad.at) in
     let has_none = subst (HasNoCode c.pool) same none.none in
-    no_reason c.major c.pool bad.method r.kind r.place (not_stopped c.pool bad.method has_none kinds.Subroutine) (no_faults c.major c.pool bad.method has_none) bad.reason
+    no_reason c.major c.pool bad.owner bad.method r.kind r.place (not_stopped c.pool bad.method has_none kinds.Subroutine) (no_faults c.major c.pool bad.owner bad.method has_none) bad.reason
 
-pub body_or_fault : (c : ClassFile) (number : ℕ) (b : Body) (r : Refusal) → BodyOf c number b → FaultOf c number r → ⊥
-body_or_fault c number b r body bad =
-    let same = same_method (sym bad.at ∙ body.at) in
-    no_reason c.major c.pool body.method r.kind r.place body.is.no_subroutine body.is.no_fault (subst (λ (m : Member). IsReason c.major c.pool m r.kind r.place) same bad.reason)
+-- the reason in a class with this name, and in a method that stands there too
+same_reason : (c : ClassFile) (owner other : List ℕ) (method last : Member) (r : Refusal) → class_name_of c.pool c.this_class ≡ Some owner → class_name_of c.pool c.this_class ≡ Some other → method ≡ last
+    → IsReason c.major c.pool owner method r.kind r.place → IsReason c.major c.pool other last r.kind r.place
+same_reason c owner other method last r one two same reason =
+    subst (λ (o : List ℕ). IsReason c.major c.pool o last r.kind r.place) (some_text (sym one ∙ two))
+    (subst (λ (m : Member). IsReason c.major c.pool owner m r.kind r.place) same reason)
+
+pub body_or_fault : (names : Names) (c : ClassFile) (number : ℕ) (b : Body) (r : Refusal) → BodyOf names c number b → FaultOf c number r → ⊥
+body_or_fault names c number b r body bad =
+    no_reason c.major c.pool b.owner body.method r.kind r.place body.is.no_subroutine body.is.no_fault
+    (same_reason c bad.owner b.owner bad.method body.method r bad.owner_is body.is.parts.owner (same_method (sym bad.at ∙ body.at)) bad.reason)
 
 pub one_fault : (c : ClassFile) (number : ℕ) (r s : Refusal) → FaultOf c number r → FaultOf c number s → r ≡ s
 one_fault c number r s p q =
-    let same = same_method (sym p.at ∙ q.at) in
-    let reason = subst (λ (m : Member). IsReason c.major c.pool m r.kind r.place) same p.reason in
-    let one = one_why c.major c.pool q.method r.kind s.kind r.place s.place (why c.major c.pool q.method r.kind r.place reason) (why c.major c.pool q.method s.kind s.place q.reason) in
+    let reason = same_reason c p.owner q.owner p.method q.method r p.owner_is q.owner_is (same_method (sym p.at ∙ q.at)) p.reason in
+    let one = one_why c.major c.pool q.owner q.method r.kind s.kind r.place s.place (why c.major c.pool q.owner q.method r.kind r.place reason) (why c.major c.pool q.owner q.method s.kind s.place q.reason) in
     let methods = p.method_is ∙ sym q.method_is in
     λ i. record { kind = one.0 i; method = methods i; place = one.1 i }
 
 -- ---- one body
 
-some_text : {x y : List ℕ} → Some x ≡ Some y → x ≡ y
-some_text e = cc
-
-one_parts : (c : ClassFile) (number : ℕ) (method : Member) (coded : Coded) (tables : Tables) (a b : Body) → HasParts c number method coded tables a → HasParts c number method coded tables b → a ≡ b
-one_parts c number method coded tables a b p q =
+one_parts : (names : Names) (c : ClassFile) (number : ℕ) (method : Member) (coded : Coded) (tables : Tables) (a b : Body) → IsDistinct bytes_eq names → HasParts names c number method coded tables a → HasParts names c number method coded tables b → a ≡ b
+one_parts names c number method coded tables a b distinct p q =
     let numbers = p.number_is ∙ sym q.number_is in
     let owner = some_text (sym p.owner ∙ q.owner) in
     let name = some_text (sym p.name ∙ q.name) in
@@ -105,7 +118,9 @@ one_parts c number method coded tables a b p q =
     let lines = p.lines ∙ sym q.lines in
     let vars = p.vars ∙ sym q.vars in
     let kind_vars = p.kind_vars ∙ sym q.kind_vars in
-    let frames = p.frames ∙ sym q.frames in
+    let listed = one_list c.pool b.owner method coded (map (seen_at names) a.frames) (map (seen_at names) b.frames)
+    (subst (λ (o : List ℕ). HasFrames c.pool o method coded (map (seen_at names) a.frames)) owner p.frames) q.frames in
+    let frames = one_numbering names distinct a.frames b.frames p.numbers q.numbers listed in
     let uses = one_uses c.pool (places_used coded.insns coded.items.rows) a.uses b.uses p.uses q.uses in
     λ i. record {
       method = numbers i;
@@ -125,14 +140,14 @@ one_parts c number method coded tables a b p q =
       uses = uses i;
     }
 
-one_is_body : (c : ClassFile) (number : ℕ) (method : Member) (a b : Body) → IsBody c number method a → IsBody c number method b → a ≡ b
-one_is_body c number method a b p q =
+one_is_body : (names : Names) (c : ClassFile) (number : ℕ) (method : Member) (a b : Body) → IsDistinct bytes_eq names → IsBody names c number method a → IsBody names c number method b → a ≡ b
+one_is_body names c number method a b distinct p q =
     let coded = one_coded c.pool method p.coded q.coded p.is q.is in
     let tables = one_tables c.pool q.coded.items.attributes p.tables q.tables (subst (λ (d : Coded). AreTables c.pool d.items.attributes p.tables) coded p.are_tables) q.are_tables in
-    let parts = subst (λ (d : Coded). HasParts c number method d p.tables a) coded p.parts in
-    one_parts c number method q.coded q.tables a b (subst (λ (t : Tables). HasParts c number method q.coded t a) tables parts) q.parts
+    let parts = subst (λ (d : Coded). HasParts names c number method d p.tables a) coded p.parts in
+    one_parts names c number method q.coded q.tables a b distinct (subst (λ (t : Tables). HasParts names c number method q.coded t a) tables parts) q.parts
 
-pub one_body : (c : ClassFile) (number : ℕ) (a b : Body) → BodyOf c number a → BodyOf c number b → a ≡ b
-one_body c number a b p q =
+pub one_body : (names : Names) (c : ClassFile) (number : ℕ) (a b : Body) → IsDistinct bytes_eq names → BodyOf names c number a → BodyOf names c number b → a ≡ b
+one_body names c number a b distinct p q =
     let same = same_method (sym p.at ∙ q.at) in
-    one_is_body c number q.method a b (subst (λ (m : Member). IsBody c number m a) same p.is) q.is
+    one_is_body names c number q.method a b distinct (subst (λ (m : Member). IsBody names c number m a) same p.is) q.is

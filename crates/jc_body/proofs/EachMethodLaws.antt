@@ -1,8 +1,12 @@
 -- Each method of a class file has an answer.
-use Rattle.std.proofs.Common.{◌≡◌, ◌⊎◌, inl, inr, ℕ, zero, suc, ◌<◌, List, [], ◌∷◌, ◌++◌, length, map, Some, slice_get, refl, sym, ◌∙◌, arith}
+use Rattle.std.proofs.Common.{◌≡◌, ◌⊎◌, inl, inr, ℕ, zero, suc, ◌<◌, List, [], ◌∷◌, ◌++◌, length, map, Some, slice_get, refl, sym, ◌∙◌, subst, arith}
 use Rattle.std.specs.List.{AllByRecursion}
 use Rattle.std.specs.Int.Bits.{bit_and}
+use Rattle.std.specs.List.{IsDistinct}
+use Rattle.std.specs.Str.{bytes_eq}
 use Rattle.jc_base.specs.declared.body.Body.{Body}
+use Rattle.jc_base.specs.Held.{Names, Seen, SeenAt}
+use Rattle.jc_base.specs.EntryState.{entry_seen}
 use Rattle.jc_base.specs.declared.refusal.Refusal.{Refusal}
 use Rattle.jc_base.specs.declared.refusal.RefusalKind.{RefusalKind}
 use Rattle.jc_base.specs.declared.refusal.RefusalKind.TheVariants as kinds
@@ -24,9 +28,12 @@ use Rattle.jc_body.specs.Faults.{NoSingleCode, HasSubroutine, faults, insn_fault
 use Rattle.jc_base.specs.Least.{IsNowhere}
 use Rattle.jc_body.specs.First.{IsFirst, AreNowhere}
 use Rattle.jc_body.specs.BodyOf.{BodyOf, Bodiless, IsReason, FaultOf, handler_of, lines_of, vars_of, places_used}
+use Rattle.jc_body.specs.StackMap.{BeginsWith, HasFrames, BadStackMap}
+use Rattle.jc_body.proofs.FramesByNamesLaws.{some_numbering}
+use Rattle.jc_body.proofs.StackMapLaws.{each_map}
 use Rattle.jc_body.proofs.OrderLaws.{each_decided}
 use Rattle.jc_body.proofs.ArgumentLaws.{zero_or_not, each_take}
-use Rattle.jc_body.proofs.DecideLaws.{all_decided, refused_reason, unsingle_reason, malformed_reason, coded_reason, coded_without}
+use Rattle.jc_body.proofs.ReasonLaws.{all_decided, refused_reason, unsingle_reason, malformed_reason, coded_reason, coded_without}
 use Rattle.jc_body.proofs.FormLaws.{code_text_or_none}
 use Rattle.jc_body.proofs.TablesLaws.{tables_or_none}
 use Rattle.jc_body.proofs.UsesLaws.{some_uses}
@@ -37,14 +44,16 @@ at_number P (x ∷ xs) zero less each = (x, refl, each.0)
 at_number P (x ∷ xs) (suc number) less each = at_number P xs number (omega (arith, less)) each.1
 
 abbrev pub Answer : ClassFile → ℕ → Type 0
-Answer c number = Bodiless c number ⊎ (((b : Body) × BodyOf c number b) ⊎ ((r : Refusal) × FaultOf c number r))
+Answer c number = Bodiless c number ⊎ (((names : Names) × (b : Body) × IsDistinct bytes_eq names × BodyOf names c number b) ⊎ ((r : Refusal) × FaultOf c number r))
 
 module _ (c : ClassFile) (number : ℕ) (method : Member) (at : slice_get c.methods number ≡ Some method) (is : IsMember (HasText c.pool) (HasMethodDescriptor c.pool) method) (owner : HasClass c.pool c.this_class) where
-  refused : (kind : RefusalKind) (place : ℕ) → IsReason c.major c.pool method kind place → Answer c number
-  refused kind place reason = inr (inr (record { kind = kind; method = Some number; place = place }, record { method = method; at = at; method_is = refl; reason = reason }))
+  refused : (kind : RefusalKind) (place : ℕ) → IsReason c.major c.pool owner.0 method kind place → Answer c number
+  refused kind place reason = inr (inr (record { kind = kind; method = Some number; place = place }, record { method = method; at = at; owner = owner.0; owner_is = owner.1; method_is = refl; reason = reason }))
 
-  made : (coded : Coded) → IsCoded c.pool method coded → IsNowhere (HasSubroutine c.pool method) → AreNowhere (faults c.major c.pool method) → (tables : Tables) → AreTables c.pool coded.items.attributes tables → Answer c number
-  made coded is_coded no_subroutine no_fault tables are_tables =
+  made : (coded : Coded) → IsCoded c.pool method coded → IsNowhere (HasSubroutine c.pool method) → AreNowhere (faults c.major c.pool owner.0 method)
+      → (tables : Tables) → AreTables c.pool coded.items.attributes tables → (frames : List SeenAt) → HasFrames c.pool owner.0 method coded frames → Answer c number
+  made coded is_coded no_subroutine no_fault tables are_tables frames has_frames =
+      let numbering = some_numbering frames in
       let uses = some_uses c.pool (places_used coded.insns coded.items.rows) in
       let slots = each_take method.flags is.desc.0 is.desc.2 in
       let body : Body = record {
@@ -61,11 +70,13 @@ module _ (c : ClassFile) (number : ℕ) (method : Member) (at : slice_get c.meth
         lines = lines_of (insn_number coded.starts) (length coded.insns) tables.lines;
         vars = vars_of (insn_number coded.starts) (length coded.insns) (length coded.items.code) coded.items.max_locals tables.vars;
         kind_vars = vars_of (insn_number coded.starts) (length coded.insns) (length coded.items.code) coded.items.max_locals tables.kind_vars;
-        frames = [];
+        frames = numbering.1;
         uses = uses.0;
       } in
       inr (inl (
+        numbering.0,
         body,
+        numbering.2.distinct,
         record {
           method = method;
           at = at;
@@ -90,7 +101,8 @@ module _ (c : ClassFile) (number : ℕ) (method : Member) (at : slice_get c.meth
               lines = refl;
               vars = refl;
               kind_vars = refl;
-              frames = refl;
+              frames = subst (HasFrames c.pool owner.0 method coded) (sym numbering.2.seen_are) has_frames;
+              numbers = numbering.2.numbers;
               uses = uses.1;
             };
           };
@@ -98,14 +110,24 @@ module _ (c : ClassFile) (number : ℕ) (method : Member) (at : slice_get c.meth
       ))
 
   with_code : (coded : Coded) → IsCoded c.pool method coded → Answer c number
-  with_code coded is_coded = by (each_decided (map (λ F. F coded) (insn_faults c.major c.pool ++ (row_faults c.pool method ++ table_faults c.pool))) (all_decided c.major c.pool method coded (are_starts coded.items.code coded.insns coded.starts is_coded.spelled) is.desc.0 is.desc.1 is.desc.2))
+  with_code coded is_coded = by (each_decided (map (λ F. F coded) (insn_faults c.major c.pool ++ (row_faults c.pool method ++ table_faults c.pool owner.0 method))) (all_decided c.major c.pool owner.0 method coded (are_starts coded.items.code coded.insns coded.starts is_coded.spelled) is.name.0 is.desc.0 is.name.1 is.desc.1 is.desc.2))
     where
-      by_tables : AreNowhere (map (λ F. F coded) (insn_faults c.major c.pool ++ (row_faults c.pool method ++ table_faults c.pool))) → ((tables : Tables) × AreTables c.pool coded.items.attributes tables) ⊎ ((tables : Tables) → AreTables c.pool coded.items.attributes tables → ⊥) → Answer c number
-      by_tables none (inl t) = let without = coded_without c.major c.pool method coded is_coded none in made coded is_coded without.0 without.1 t.0 t.1
+      by_tables : AreNowhere (map (λ F. F coded) (insn_faults c.major c.pool ++ (row_faults c.pool method ++ table_faults c.pool owner.0 method))) → ((tables : Tables) × AreTables c.pool coded.items.attributes tables) ⊎ ((tables : Tables) → AreTables c.pool coded.items.attributes tables → ⊥) → Answer c number
+      by_tables none (inl t) = by_map (each_map c.pool owner.0 method coded entry begins)
+        where
+          entry : Seen
+          entry = entry_seen owner.0 is.name.0 is.desc.0 method.flags coded.items.max_locals
+
+          begins : BeginsWith c.pool owner.0 method coded entry
+          begins = record { name = is.name.0; desc = is.desc.0; name_is = is.name.1; desc_is = is.desc.1; entry_is = refl }
+
+          by_map : ((frames : List SeenAt) × HasFrames c.pool owner.0 method coded frames) ⊎ ((place : ℕ) × BadStackMap c.pool owner.0 method coded place) → Answer c number
+          by_map (inl f) = let without = coded_without c.major c.pool owner.0 method coded is_coded none in made coded is_coded without.0 without.1 t.0 t.1 f.0 f.1
+          by_map (inr bad) = absurd (none.1.1.1.1.1.1.0 bad.0 bad.1)
       by_tables none (inr bad) = absurd (none.1.1.1.1.1.0 0 (record { at = refl; fault = bad }))
 
-      by : ((place : ℕ) × IsFirst (map (λ F. F coded) (insn_faults c.major c.pool ++ (row_faults c.pool method ++ table_faults c.pool))) place) ⊎ AreNowhere (map (λ F. F coded) (insn_faults c.major c.pool ++ (row_faults c.pool method ++ table_faults c.pool))) → Answer c number
-      by (inl first) = refused kinds.BadCode first.0 (coded_reason c.major c.pool method coded is_coded first.0 first.1)
+      by : ((place : ℕ) × IsFirst (map (λ F. F coded) (insn_faults c.major c.pool ++ (row_faults c.pool method ++ table_faults c.pool owner.0 method))) place) ⊎ AreNowhere (map (λ F. F coded) (insn_faults c.major c.pool ++ (row_faults c.pool method ++ table_faults c.pool owner.0 method))) → Answer c number
+      by (inl first) = refused kinds.BadCode first.0 (coded_reason c.major c.pool owner.0 method coded is_coded first.0 first.1)
       by (inr none) = by_tables none (tables_or_none c.pool coded.items.attributes)
 
   with_items : (items : CodeItems) → HasItems c.pool method items → Answer c number
@@ -113,17 +135,17 @@ module _ (c : ClassFile) (number : ℕ) (method : Member) (at : slice_get c.meth
     where
       by : ((code : List _) × (starts : List ℕ) × Spells items.code code starts) ⊎ ((r : Refusal) × IsRefused items.code r) → Answer c number
       by (inl s) = with_code (record { items = items; insns = s.0; starts = s.1 }) (record { items = has; spelled = s.2 })
-      by (inr bad) = refused bad.0.kind bad.0.place (refused_reason c.major c.pool method items has bad.0 bad.1)
+      by (inr bad) = refused bad.0.kind bad.0.place (refused_reason c.major c.pool owner.0 method items has bad.0 bad.1)
 
   with_bytes : (bytes : List ℕ) → HasCode c.pool method bytes → Answer c number
   with_bytes bytes code = by (code_text_or_none c.pool bytes)
     where
       by : ((items : CodeItems) × IsCodeText c.pool bytes items) ⊎ ((items : CodeItems) → IsCodeText c.pool bytes items → ⊥) → Answer c number
       by (inl text) = with_items text.0 (record { bytes = bytes; code = code; text = text.1 })
-      by (inr none) = refused kinds.BadCode 0 (malformed_reason c.major c.pool method bytes code (record { at = refl; bytes = bytes; code = code; fault = none }))
+      by (inr none) = refused kinds.BadCode 0 (malformed_reason c.major c.pool owner.0 method bytes code (record { at = refl; bytes = bytes; code = code; fault = none }))
 
   unsingle : NoSingleCode c.pool method 0 → ((bytes : List ℕ) → HasCode c.pool method bytes → ⊥) → Answer c number
-  unsingle fault none = refused kinds.BadCode 0 (unsingle_reason c.major c.pool method fault (λ items has. none has.bytes has.code))
+  unsingle fault none = refused kinds.BadCode 0 (unsingle_reason c.major c.pool owner.0 method fault (λ items has. none has.bytes has.code))
 
   pub each_method : Answer c number
   each_method = by (zero_or_not (bit_and method.flags 0x0500)) (code_bodies c.pool method) refl

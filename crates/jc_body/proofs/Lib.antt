@@ -9,8 +9,11 @@ pub mod StandingLaws
 pub mod CodedLaws
 pub mod FaultLaws
 pub mod ArgumentLaws
+pub mod FramesByNamesLaws
+pub mod StackMapLaws
+pub mod EntryLaws
 pub mod AnswerLaws
-pub mod DecideLaws
+pub mod ReasonLaws
 pub mod EachMethodLaws
 pub mod WellMadeLaws
 pub mod SizeLaws

@@ -1,5 +1,10 @@
 -- The parts of a body by the table over the offsets, and by the instructions' starts.
-use Rattle.std.proofs.Common.{◌≡◌, ℕ, List, length, map, ◌∙◌}
+use Rattle.std.proofs.Common.{◌≡◌, ℕ, List, length, map, ◌∙◌, subst}
+use Rattle.jc_base.specs.declared.body.FrameAt.{FrameAt}
+use Rattle.jc_base.specs.Held.{Names, seen_at}
+use Rattle.jc_pool.specs.Pool.{PoolValue}
+use Rattle.jc_class.specs.declared.class_file.Member.{Member}
+use Rattle.jc_body.specs.StackMap.{HasFrames}
 use Rattle.jc_base.specs.declared.body.Handler.{Handler}
 use Rattle.jc_base.specs.declared.body.LineAt.{LineAt}
 use Rattle.jc_base.specs.declared.body.VarAt.{VarAt}
@@ -24,3 +29,8 @@ module _ (coded : Coded) (offsets : Offsets) (numbers : Numbers coded offsets) w
 
   pub vars_by : (max_locals : ℕ) (vars : List VarAt) (seen entries : List VarEntry) → seen ≡ entries → vars ≡ vars_of (numbering offsets) offsets.count offsets.size max_locals seen → vars ≡ vars_of (insn_number coded.starts) (length coded.insns) (length coded.items.code) max_locals entries
   vars_by max_locals vars seen entries is e = e ∙ (λ i. vars_of (same i) (numbers.count i) (numbers.size i) max_locals (is i))
+
+-- the frames in a body, by the name of the class that the body has
+pub frames_by : (names : Names) (pool : PoolValue) (method : Member) (coded : Coded) (owner other : List ℕ) (frames : List FrameAt) → owner ≡ other
+    → HasFrames pool owner method coded (map (seen_at names) frames) → HasFrames pool other method coded (map (seen_at names) frames)
+frames_by names pool method coded owner other frames named has = subst (λ (o : List ℕ). HasFrames pool o method coded (map (seen_at names) frames)) named has

@@ -31,6 +31,15 @@ use Rattle.jc_body.specs.Faults.{OfCode, InsnAt, IsAstray, IsRow, IsClassOrNone,
 use Rattle.jc_base.specs.Least.{IsNowhere}
 use Rattle.jc_body.specs.First.{AreNowhere, NoItem}
 use Rattle.jc_body.specs.Standing.{what_of, what_at, found_in, found_at, HasRightEntry}
+use Rattle.std.specs.List.{AllByRecursion}
+use Rattle.jc_base.specs.declared.body.FrameAt.{FrameAt}
+use Rattle.jc_base.specs.Held.{Names, Seen, SeenAt, seen_at}
+use Rattle.jc_base.specs.WellMade.{AreFramesFrom}
+use Rattle.jc_frames.specs.Table.{StandsFor}
+use Rattle.jc_frames.specs.WellMade.{HasNew}
+use Rattle.jc_frames.proofs.WellMadeLaws.{frames_well_made}
+use Rattle.jc_body.specs.StackMap.{stack_maps, ground_of, HasFrames}
+use Rattle.jc_body.proofs.EntryLaws.{no_new}
 use Rattle.jc_body.proofs.ArgumentLaws.{arguments_fit}
 use Rattle.jc_base.proofs.StartsLaws.{number_of_end, numbers_rise, numbers_stay, some_insn}
 use Rattle.jc_body.proofs.PlacesLaws.{row_or_not, rows_handled, lines_kept, vars_kept}
@@ -57,8 +66,8 @@ no_insn pool method coded Fact is starts none number insn stands fault =
       fault = record { number = number; insn = insn; stands = stands; start = slice_get-get_or coded.starts number 0 (omega (arith, inside, starts.one_more)); fault = fault };
     })
 
-free_of_faults : (c : ClassFile) (method : Member) (coded : Coded) → IsCoded c.pool method coded → AreStarts (length coded.insns) (length coded.items.code) coded.starts → AreNowhere (faults_of_any_size c.major c.pool method) → IsFree c method coded
-free_of_faults c method coded is starts (single, (form, (stop, (entry, (jump, (local, (arguments, (row, (table, end))))))))) = record {
+free_of_faults : (c : ClassFile) (method : Member) (coded : Coded) → IsCoded c.pool method coded → AreStarts (length coded.insns) (length coded.items.code) coded.starts → (owner : List ℕ) → AreNowhere (faults_of_any_size c.major c.pool owner method) → IsFree c method coded
+free_of_faults c method coded is starts owner (single, (form, (stop, (entry, (jump, (local, (arguments, (row, (table, (map, end)))))))))) = record {
   entries = no_insn c.pool method coded (λ d number insn. HasRightEntry c.major c.pool insn → ⊥) is starts entry;
   jumps = no_insn c.pool method coded (λ d. IsAstray (length d.insns)) is starts jump;
   locals = no_insn c.pool method coded (λ d number insn. LocalsWithin d.items.max_locals insn → ⊥) is starts local;
@@ -152,6 +161,23 @@ bound coded none = by (cases_lt most_slots (length coded.insns * (coded.items.ma
     by (inl wide) = absurd (none 0 (record { at = refl; fault = wide }))
     by (inr fits) = fits
 
+-- ---- frames
+
+frames_well : (names : Names) (c : ClassFile) (method : Member) (coded : Coded) (owner : List ℕ) (frames : List FrameAt) → AreStarts (length coded.insns) (length coded.items.code) coded.starts
+    → HasFrames c.pool owner method coded (map (seen_at names) frames) → AreFramesFrom 0 coded.insns coded.items.max_locals coded.items.max_stack frames
+frames_well names c method coded owner frames starts has = by frames has.frames_are
+  where
+    by : (list : List FrameAt) → ((stack_maps c.pool coded ≡ []) × (map (seen_at names) list ≡ [])) ⊎ ((table : List ℕ) × (stack_maps c.pool coded ≡ table ∷ []) × StandsFor (ground_of c.pool coded) has.entry table (map (seen_at names) list))
+        → AreFramesFrom 0 coded.insns coded.items.max_locals coded.items.max_stack list
+    by [] none = tt
+    by (f ∷ list) (inl none) = absurd (some_none none.1)
+      where
+        some_none : {x : SeenAt} {xs : List SeenAt} → x ∷ xs ≡ [] → ⊥
+        some_none e = cc
+    by (f ∷ list) (inr table) = frames_well_made (ground_of c.pool coded) names has.entry table.0 (f ∷ list) (record { count = starts.one_more; rising = starts.rising })
+        (subst (λ (s : Seen). AllByRecursion (HasNew (ground_of c.pool coded)) s.locals) (sym has.begins.entry_is) (no_new (ground_of c.pool coded) owner has.begins.name has.begins.desc method.flags coded.items.max_locals))
+        table.2
+
 -- ---- the whole
 
 -- the body, by what was read of the method
@@ -170,12 +196,12 @@ made method coded tables b = record {
   lines = lines_of (insn_number coded.starts) (length coded.insns) tables.lines;
   vars = vars_of (insn_number coded.starts) (length coded.insns) (length coded.items.code) coded.items.max_locals tables.vars;
   kind_vars = vars_of (insn_number coded.starts) (length coded.insns) (length coded.items.code) coded.items.max_locals tables.kind_vars;
-  frames = [];
+  frames = b.frames;
   uses = b.uses;
 }
 
-is_made : (c : ClassFile) (number : ℕ) (method : Member) (coded : Coded) (tables : Tables) (b : Body) → HasParts c number method coded tables b → b ≡ made method coded tables b
-is_made c number method coded tables b p = λ i. record {
+is_made : (names : Names) (c : ClassFile) (number : ℕ) (method : Member) (coded : Coded) (tables : Tables) (b : Body) → HasParts names c number method coded tables b → b ≡ made method coded tables b
+is_made names c number method coded tables b p = λ i. record {
   method = b.method;
   owner = b.owner;
   name = b.name;
@@ -189,13 +215,13 @@ is_made c number method coded tables b p = λ i. record {
   lines = p.lines i;
   vars = p.vars i;
   kind_vars = p.kind_vars i;
-  frames = p.frames i;
+  frames = b.frames;
   uses = b.uses;
 }
 
-made_well : (c : ClassFile) (number : ℕ) (method : Member) (coded : Coded) (tables : Tables) (b : Body) → IsCoded c.pool method coded → AreStarts (length coded.insns) (length coded.items.code) coded.starts → IsFree c method coded
-    → HasParts c number method coded tables b → HasSizes b → All (λ u. HasShortTexts u.what) b.uses → IsWellMadeOfAnySize (made method coded tables b)
-made_well c number method coded tables b is starts free p sizes short =
+made_well : (names : Names) (c : ClassFile) (number : ℕ) (method : Member) (coded : Coded) (tables : Tables) (b : Body) → IsCoded c.pool method coded → AreStarts (length coded.insns) (length coded.items.code) coded.starts → IsFree c method coded
+    → HasParts names c number method coded tables b → HasSizes b → All (λ u. HasShortTexts u.what) b.uses → IsWellMadeOfAnySize (made method coded tables b)
+made_well names c number method coded tables b is starts free p sizes short =
     let count = length coded.insns in
     let size = length coded.items.code in
     let number_is = insn_number coded.starts in
@@ -211,19 +237,19 @@ made_well c number method coded tables b is starts free p sizes short =
       arguments = p.arg_slots;
       arguments_fit = arguments_fit c.pool method coded b.desc b.arg_slots p.desc p.arg_slots free.arguments;
       uses = are_uses c coded b.uses p.uses method free short;
-      frames = tt;
-      sizes = subst HasSizes (is_made c number method coded tables b p) sizes;
+      frames = frames_well names c method coded b.owner b.frames starts p.frames;
+      sizes = subst HasSizes (is_made names c number method coded tables b p) sizes;
     }
 
-pub well_made_of_any_size : (c : ClassFile) (number : ℕ) (method : Member) (b : Body) → IsBodyOfAnySize c number method b → HasSizes b → All (λ u. HasShortTexts u.what) b.uses → IsWellMadeOfAnySize b
-well_made_of_any_size c number method b is sizes short =
+pub well_made_of_any_size : (names : Names) (c : ClassFile) (number : ℕ) (method : Member) (b : Body) → IsBodyOfAnySize names c number method b → HasSizes b → All (λ u. HasShortTexts u.what) b.uses → IsWellMadeOfAnySize b
+well_made_of_any_size names c number method b is sizes short =
     let starts = are_starts is.coded.items.code is.coded.insns is.coded.starts is.is.spelled in
-    let free = free_of_faults c method is.coded is.is starts is.no_fault in
-    subst IsWellMadeOfAnySize (sym (is_made c number method is.coded is.tables b is.parts)) (made_well c number method is.coded is.tables b is.is starts free is.parts sizes short)
+    let free = free_of_faults c method is.coded is.is starts b.owner is.no_fault in
+    subst IsWellMadeOfAnySize (sym (is_made names c number method is.coded is.tables b is.parts)) (made_well names c number method is.coded is.tables b is.is starts free is.parts sizes short)
 
 -- a body is one whatever its size is
-pub any_size : (c : ClassFile) (number : ℕ) (method : Member) (b : Body) → IsBody c number method b → IsBodyOfAnySize c number method b
-any_size c number method b is = record {
+pub any_size : (names : Names) (c : ClassFile) (number : ℕ) (method : Member) (b : Body) → IsBody names c number method b → IsBodyOfAnySize names c number method b
+any_size names c number method b is = record {
   coded = is.coded;
   is = is.is;
   no_subroutine = is.no_subroutine;
@@ -233,18 +259,18 @@ any_size c number method b is = record {
   parts = is.parts;
 }
   where
-    all_but_last : AreNowhere (faults c.major c.pool method) → AreNowhere (faults_of_any_size c.major c.pool method)
-    all_but_last (single, (form, (stop, (entry, (jump, (local, (arguments, (row, (table, (wide, end)))))))))) = (single, (form, (stop, (entry, (jump, (local, (arguments, (row, (table, end)))))))))
+    all_but_last : AreNowhere (faults c.major c.pool b.owner method) → AreNowhere (faults_of_any_size c.major c.pool b.owner method)
+    all_but_last (single, (form, (stop, (entry, (jump, (local, (arguments, (row, (table, (map, (wide, end))))))))))) = (single, (form, (stop, (entry, (jump, (local, (arguments, (row, (table, (map, end))))))))))
 
-is_bounded : (c : ClassFile) (number : ℕ) (method : Member) (b : Body) → IsBody c number method b → IsBounded b
-is_bounded c number method b is = subst IsBounded (sym (is_made c number method is.coded is.tables b is.parts)) (of_code is.no_fault)
+is_bounded : (names : Names) (c : ClassFile) (number : ℕ) (method : Member) (b : Body) → IsBody names c number method b → IsBounded b
+is_bounded names c number method b is = subst IsBounded (sym (is_made names c number method is.coded is.tables b is.parts)) (of_code is.no_fault)
   where
-    of_code : AreNowhere (faults c.major c.pool method) → length is.coded.insns * (is.coded.items.max_locals + is.coded.items.max_stack) ≤ most_slots
-    of_code (single, (form, (stop, (entry, (jump, (local, (arguments, (row, (table, (wide, end)))))))))) =
+    of_code : AreNowhere (faults c.major c.pool b.owner method) → length is.coded.insns * (is.coded.items.max_locals + is.coded.items.max_stack) ≤ most_slots
+    of_code (single, (form, (stop, (entry, (jump, (local, (arguments, (row, (table, (map, (wide, end))))))))))) =
         bound is.coded (λ place fault. wide place (record { coded = is.coded; is = is.is; fault = fault }))
 
-pub well_made : (c : ClassFile) (number : ℕ) (method : Member) (b : Body) → IsBody c number method b → HasSizes b → All (λ u. HasShortTexts u.what) b.uses → IsWellMade b
-well_made c number method b is sizes short = record {
-  of_any_size = well_made_of_any_size c number method b (any_size c number method b is) sizes short;
-  bound = is_bounded c number method b is;
+pub well_made : (names : Names) (c : ClassFile) (number : ℕ) (method : Member) (b : Body) → IsBody names c number method b → HasSizes b → All (λ u. HasShortTexts u.what) b.uses → IsWellMade b
+well_made names c number method b is sizes short = record {
+  of_any_size = well_made_of_any_size names c number method b (any_size names c number method b is) sizes short;
+  bound = is_bounded names c number method b is;
 }

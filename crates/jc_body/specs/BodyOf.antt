@@ -12,6 +12,7 @@ use Rattle.jc_base.specs.declared.refusal.Refusal.{Refusal}
 use Rattle.jc_base.specs.declared.refusal.RefusalKind.{RefusalKind}
 use Rattle.jc_base.specs.declared.refusal.RefusalKind.TheVariants as kinds
 use Rattle.jc_base.specs.InsnUse.{pool_place}
+use Rattle.jc_base.specs.Held.{Names, seen_at, AreNumberedFrames}
 use Rattle.jc_base.specs.WellMade.{TakeSlots, AreRisingFrom, what_used}
 use Rattle.jc_pool.specs.Lookup.{utf8_of, class_name_of}
 use Rattle.jc_pool.specs.Pool.{PoolValue}
@@ -28,6 +29,7 @@ use Rattle.jc_body.specs.Coded.{IsCoded, HasNoCode}
 use Rattle.jc_body.specs.Faults.{HasSubroutine, faults, faults_of_any_size}
 use Rattle.jc_base.specs.Least.{IsNowhere, IsLeast}
 use Rattle.jc_body.specs.First.{Fault, IsFirst, AreNowhere}
+use Rattle.jc_body.specs.StackMap.{HasFrames}
 use Rattle.jc_body.specs.Standing.{what_at}
 
 -- ---- offsets as instruction numbers
@@ -102,8 +104,9 @@ pub record AreUsesOf (pool : PoolValue) (places : List ℕ) (uses : List Use) : 
 
 -- ---- the body
 
--- the parts of a body, from what was read of the method
-pub record HasParts (c : ClassFile) (number : ℕ) (method : Member) (coded : Coded) (tables : Tables) (body : Body) : Type 0 where
+-- the parts of a body, from what was read of the method, with classes in its frames by their numbers in the list of
+-- names
+pub record HasParts (names : Names) (c : ClassFile) (number : ℕ) (method : Member) (coded : Coded) (tables : Tables) (body : Body) : Type 0 where
   pub number_is : body.method ≡ number
   pub owner : class_name_of c.pool c.this_class ≡ Some body.owner
   pub name : utf8_of c.pool method.name ≡ Some body.name
@@ -117,39 +120,39 @@ pub record HasParts (c : ClassFile) (number : ℕ) (method : Member) (coded : Co
   pub lines : body.lines ≡ lines_of (insn_number coded.starts) (length coded.insns) tables.lines
   pub vars : body.vars ≡ vars_of (insn_number coded.starts) (length coded.insns) (length coded.items.code) coded.items.max_locals tables.vars
   pub kind_vars : body.kind_vars ≡ vars_of (insn_number coded.starts) (length coded.insns) (length coded.items.code) coded.items.max_locals tables.kind_vars
-  -- the stack map table isn't read
-  pub frames : body.frames ≡ []
+  pub frames : HasFrames c.pool body.owner method coded (map (seen_at names) body.frames)
+  pub numbers : AreNumberedFrames (length names) body.frames
   pub uses : AreUsesOf c.pool (places_used coded.insns coded.items.rows) body.uses
 
 -- the method has code without any of the faults, and the body is made of it
-pub record HasBody (Faults : List Fault) (c : ClassFile) (number : ℕ) (method : Member) (body : Body) : Type 0 where
+pub record HasBody (Faults : List Fault) (names : Names) (c : ClassFile) (number : ℕ) (method : Member) (body : Body) : Type 0 where
   pub coded : Coded
   pub is : IsCoded c.pool method coded
   pub no_subroutine : IsNowhere (HasSubroutine c.pool method)
   pub no_fault : AreNowhere Faults
   pub tables : Tables
   pub are_tables : AreTables c.pool coded.items.attributes tables
-  pub parts : HasParts c number method coded tables body
+  pub parts : HasParts names c number method coded tables body
 
 -- the method has code without a fault, and the body is made of it
-abbrev pub IsBody : ClassFile → ℕ → Member → Body → Type 0
-IsBody c number method body = HasBody (faults c.major c.pool method) c number method body
+abbrev pub IsBody : Names → ClassFile → ℕ → Member → Body → Type 0
+IsBody names c number method body = HasBody (faults c.major c.pool body.owner method) names c number method body
 
 -- the same, whatever the number of its instructions times its slots is
-abbrev pub IsBodyOfAnySize : ClassFile → ℕ → Member → Body → Type 0
-IsBodyOfAnySize c number method body = HasBody (faults_of_any_size c.major c.pool method) c number method body
+abbrev pub IsBodyOfAnySize : Names → ClassFile → ℕ → Member → Body → Type 0
+IsBodyOfAnySize names c number method body = HasBody (faults_of_any_size c.major c.pool body.owner method) names c number method body
 
 -- the body of the method with this number
-pub record BodyOf (c : ClassFile) (number : ℕ) (body : Body) : Type 0 where
+pub record BodyOf (names : Names) (c : ClassFile) (number : ℕ) (body : Body) : Type 0 where
   pub method : Member
   pub at : slice_get c.methods number ≡ Some method
-  pub is : IsBody c number method body
+  pub is : IsBody names c number method body
 
 -- the same, whatever the number of its instructions times its slots is
-pub record BodyOfAnySize (c : ClassFile) (number : ℕ) (body : Body) : Type 0 where
+pub record BodyOfAnySize (names : Names) (c : ClassFile) (number : ℕ) (body : Body) : Type 0 where
   pub method : Member
   pub at : slice_get c.methods number ≡ Some method
-  pub is : IsBodyOfAnySize c number method body
+  pub is : IsBodyOfAnySize names c number method body
 
 -- the method with this number is abstract or native, and has no code
 pub record Bodiless (c : ClassFile) (number : ℕ) : Type 0 where
@@ -159,15 +162,17 @@ pub record Bodiless (c : ClassFile) (number : ℕ) : Type 0 where
 
 -- ---- the reason of a refusal
 
--- a subroutine instruction, or else the first fault in their order
-abbrev pub IsReason : ℕ → PoolValue → Member → RefusalKind → ℕ → Type 0
-IsReason major pool method kinds.Subroutine place = IsLeast (HasSubroutine pool method) place
-IsReason major pool method kinds.BadCode place = IsNowhere (HasSubroutine pool method) × IsFirst (faults major pool method) place
-IsReason major pool method kind place = ⊥
+-- a subroutine instruction, or else the first fault in their order, in a method of the class with this name
+abbrev pub IsReason : ℕ → PoolValue → List ℕ → Member → RefusalKind → ℕ → Type 0
+IsReason major pool owner method kinds.Subroutine place = IsLeast (HasSubroutine pool method) place
+IsReason major pool owner method kinds.BadCode place = IsNowhere (HasSubroutine pool method) × IsFirst (faults major pool owner method) place
+IsReason major pool owner method kind place = ⊥
 
 -- why the method with this number has no body
 pub record FaultOf (c : ClassFile) (number : ℕ) (refusal : Refusal) : Type 0 where
   pub method : Member
   pub at : slice_get c.methods number ≡ Some method
+  pub owner : List ℕ
+  pub owner_is : class_name_of c.pool c.this_class ≡ Some owner
   pub method_is : refusal.method ≡ Some number
-  pub reason : IsReason c.major c.pool method refusal.kind refusal.place
+  pub reason : IsReason c.major c.pool owner method refusal.kind refusal.place

@@ -1,4 +1,4 @@
--- The faults of a method, each with the places at which it is (JVM Specification 4.7.3, 4.7.12 to 4.7.14, 4.9).
+-- The faults of a method, each with the places at which it is (JVM Specification 4.7.3, 4.7.4, 4.7.12 to 4.7.14, 4.9).
 use Rattle.std.specs.Prelude.{◌≡◌, ◌≢◌, ◌⊎◌, ℕ, ◌+◌, ◌*◌, ◌<◌, List, [], ◌∷◌, ◌++◌, length, map, Some, None, slice_get}
 use Rattle.jc_base.specs.declared.insn.Insn.{Insn}
 use Rattle.jc_base.specs.declared.refusal.RefusalKind.{RefusalKind}
@@ -19,6 +19,7 @@ use Rattle.jc_body.specs.CodeForm.{IsCodeText}
 use Rattle.jc_body.specs.declared.coded.Coded.{Coded}
 use Rattle.jc_body.specs.Coded.{IsCoded, IsBodiless, HasCode, HasItems, code_bodies}
 use Rattle.jc_body.specs.First.{Fault}
+use Rattle.jc_body.specs.StackMap.{BadStackMap}
 use Rattle.jc_body.specs.Standing.{HasRightEntry}
 
 -- ---- faults of the Code attribute, at place 0
@@ -117,7 +118,7 @@ pub record BadRow (pool : PoolValue) (coded : Coded) (place : ℕ) : Type 0 wher
   pub stands : slice_get coded.items.rows place ≡ Some row
   pub fault : IsRow pool (insn_number coded.starts) (length coded.insns) (length coded.items.code) row → ⊥
 
--- ---- the tables, and the size, at place 0
+-- ---- the line and variable tables, and the size, at place 0
 
 -- a line or variable attribute isn't of its form (JVM Specification 4.7.12 to 4.7.14)
 pub record MalformedTable (pool : PoolValue) (coded : Coded) (place : ℕ) : Type 0 where
@@ -139,18 +140,23 @@ insn_faults major pool = WrongPoolEntry major pool ∷ JumpNowhere ∷ LocalOuts
 abbrev pub row_faults : PoolValue → Member → List (Coded → Fault)
 row_faults pool method = ArgumentsOutside pool method ∷ BadRow pool ∷ []
 
--- The fault of the line and variable tables, and then that of the size. That of the stack map table will
--- stand between the two.
-abbrev pub table_faults : PoolValue → List (Coded → Fault)
-table_faults pool = MalformedTable pool ∷ TooWide ∷ []
+-- the faults of the tables but for that of the size, in a method of the class with this name
+abbrev pub form_faults : PoolValue → List ℕ → Member → List (Coded → Fault)
+form_faults pool owner method = MalformedTable pool ∷ BadStackMap pool owner method ∷ []
+
+-- the faults of the line and variable tables, of the stack map table and of the size, in the order in which they
+-- are looked for
+abbrev pub table_faults : PoolValue → List ℕ → Member → List (Coded → Fault)
+table_faults pool owner method = MalformedTable pool ∷ BadStackMap pool owner method ∷ TooWide ∷ []
 
 -- the faults of a method, with those of what was read, in the order in which they are looked for
 abbrev pub faults_with : PoolValue → Member → List (Coded → Fault) → List Fault
 faults_with pool method of_code = NoSingleCode pool method ∷ MalformedCode pool method ∷ MalformedInsn pool method ∷ map (OfCode pool method) of_code
 
-abbrev pub faults : ℕ → PoolValue → Member → List Fault
-faults major pool method = faults_with pool method (insn_faults major pool ++ (row_faults pool method ++ table_faults pool))
+-- those of a method of the class with this name
+abbrev pub faults : ℕ → PoolValue → List ℕ → Member → List Fault
+faults major pool owner method = faults_with pool method (insn_faults major pool ++ (row_faults pool method ++ table_faults pool owner method))
 
 -- all of them but that of the size
-abbrev pub faults_of_any_size : ℕ → PoolValue → Member → List Fault
-faults_of_any_size major pool method = faults_with pool method (insn_faults major pool ++ (row_faults pool method ++ MalformedTable pool ∷ []))
+abbrev pub faults_of_any_size : ℕ → PoolValue → List ℕ → Member → List Fault
+faults_of_any_size major pool owner method = faults_with pool method (insn_faults major pool ++ (row_faults pool method ++ form_faults pool owner method))

@@ -5,6 +5,7 @@ pub mod Standing
 pub mod FoundView
 pub mod First
 pub mod Coded
+pub mod StackMap
 pub mod Faults
 pub mod Numbering
 pub mod Used

@@ -1,5 +1,5 @@
 //! The code of a method: its one Code attribute, and the instructions in it (JVM Specification 4.7.3).
-ghost use Rattle.std.specs.Prelude.{◌≡◌, ◌≤◌, ℕ, Some, None, length, IfOk, IfErr, MatchOption, All};
+ghost use Rattle.std.specs.Prelude.{◌≡◌, ◌≤◌, ℕ, List, Some, None, length, IfOk, IfErr, MatchOption, All};
 ghost use Rattle.jc_body.specs.Coded.{HasNoCode, HasItems, IsCoded};
 ghost use Rattle.jc_insn.specs.Spells.{Spells, IsRefused};
 ghost use Rattle.jc_body.specs.Answers.{IsPresence, IsRefusal, Said};
@@ -61,7 +61,7 @@ fn read_items(
 ) -> Result<Option<CodeItems>, Fail<Refusal>>
     requires sizes { All (λ a. length a.body ≤ 67108864) method.now.attributes }
     ensures items { IfOk result (λ found. MatchOption found (HasNoCode pool.now method.now) (HasItems pool.now method.now)) }
-    ensures refused { (major : ℕ) → IfErr result (λ e. Said e (IsRefusal major pool.now method.now number)) }
+    ensures refused { (major : ℕ) (owner : List ℕ) → IfErr result (λ e. Said e (IsRefusal major pool.now owner method.now number)) }
 {
     match code_presence(alloc, pool, method)? {
         Presence::Without => Ok(None),
@@ -100,7 +100,7 @@ pub fn read_coded(
 ) -> Result<Option<Coded>, Fail<Refusal>>
     requires sizes { All (λ a. length a.body ≤ 67108864) method.now.attributes }
     ensures coded { IfOk result (λ found. MatchOption found (HasNoCode pool.now method.now) (IsCoded pool.now method.now)) }
-    ensures refused { (major : ℕ) → IfErr result (λ e. Said e (IsRefusal major pool.now method.now number)) }
+    ensures refused { (major : ℕ) (owner : List ℕ) → IfErr result (λ e. Said e (IsRefusal major pool.now owner method.now number)) }
 {
     match read_items(alloc, pool, number, method)? {
         None => Ok(None),

@@ -1,4 +1,6 @@
 //! A method's code as it was read.
+ghost use Rattle.std.specs.Prelude.{◌≡◌};
+
 use crate::items::CodeItems;
 use jc_base::{Insn, List};
 
@@ -10,4 +12,13 @@ pub struct Coded {
     pub insns: List<Insn>,
     /// The offset of each instruction, and then the length of the code.
     pub starts: List<u32>,
+}
+
+impl Coded {
+    /// How many local variables the method has.
+    pub fn max_locals(&self) -> u16
+        ensures { result ≡ self.now.items.max_locals }
+    {
+        self.items.max_locals
+    }
 }

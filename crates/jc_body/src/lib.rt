@@ -11,13 +11,14 @@ mod items;
 mod laws;
 mod places;
 mod reading;
+mod stack_map;
 mod standing;
 mod table_item;
 mod tables;
 mod texts;
 mod uses;
 
-pub use laws::each_method_has_one_answer;
+pub use laws::{each_method_has_one_answer, each_stack_map_has_frames_or_a_fault};
 pub use reading::read_body;
 
 #[cfg(test)]

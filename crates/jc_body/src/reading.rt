@@ -1,7 +1,11 @@
 //! Reading the body of a method.
-ghost use Rattle.std.specs.Prelude.{◌≡◌, ◌⊎◌, ◌<◌, ◌≤◌, ◌++◌, Some, None, length, map, IfOk, IfErr, IfSome, MatchOption, MatchResult, All, IsTrue};
+ghost use Rattle.std.specs.Prelude.{◌≡◌, ◌⊎◌, ◌<◌, ◌≤◌, ◌++◌, ℕ, List as Seq, Some, None, length, map, IfOk, IfErr, IfSome, MatchOption, MatchResult, All, IsTrue};
+ghost use Rattle.jc_base.specs.Held.{Names as AllNames, Grows, seen_at, AreNumberedFrames};
 ghost use Rattle.jc_base.specs.WellMade.{IsCounted, IsWellMade};
+ghost use Rattle.jc_pool.specs.Lookup.{class_name_of};
+ghost use Rattle.jc_body.specs.StackMap.{HasFrames};
 ghost use Rattle.jc_base.specs.declared.body.Body.{Body as BodyValue};
+ghost use Rattle.jc_base.specs.declared.body.FrameAt.{FrameAt as Frame};
 ghost use Rattle.jc_base.specs.declared.refusal.Refusal.{Refusal as Reason};
 ghost use Rattle.jc_class.specs.ClassFormat.{HasText, HasClass, HasMethodDescriptor};
 ghost use Rattle.jc_class.specs.Writable.{IsClassFile};
@@ -16,9 +20,10 @@ ghost use Rattle.jc_body.specs.Sizes.{HasShortParts, HasSmallParts};
 
 use crate::code::{bad_code, read_coded};
 use crate::coded::Coded;
-use crate::faults::{first_fault, is_too_wide, slots_of_arguments};
+use crate::faults::{first_fault, slots_of_arguments};
 use crate::items::Tables;
 use crate::places::{Offsets, handlers_of, lines_of, numbers_of, offsets_of, vars_of};
+use crate::stack_map::frames_of;
 use crate::tables::read_tables;
 use crate::texts::{class_name_at, text_at};
 use crate::uses::read_uses;
@@ -26,7 +31,7 @@ use jc_base::{Body, Bytes, Fail, List, Memory, Names, Refusal};
 use jc_class::{ClassFile, Member};
 use std::alloc::Global;
 
-/// The body that is made of what was read of a method, in which no fault was found.
+/// The body that is made of what was read of a method, in which no fault was found, without its frames.
 fn assembled(
     alloc: Global,
     class: &ClassFile,
@@ -41,7 +46,9 @@ fn assembled(
     requires desc { HasMethodDescriptor class.now.pool method.now.desc }
     requires arguments { IsNowhere (ArgumentsOutside class.now.pool method.now coded) }
     requires offsets { Numbers coded offsets.now }
-    ensures parts { IfOk result (HasParts class.now number method.now coded tables.now) }
+    ensures parts { (names : AllNames) (owner : Seq ℕ) (frames : Seq Frame) → class_name_of class.now.pool class.now.this_class ≡ Some owner
+        → HasFrames class.now.pool owner method.now coded (map (seen_at names) frames) → AreNumberedFrames (length names) frames
+        → IfOk result (λ (body : BodyValue). HasParts names class.now number method.now coded tables.now (record body { frames = frames })) }
     ensures texts { IfOk result HasShortParts }
 {
     let pool = &class.pool;
@@ -101,6 +108,7 @@ fn with_tables(
     method: &Member,
     coded: Coded,
     offsets: &Offsets<'_>,
+    names: &mut Names,
 ) -> Result<Body, Fail<Refusal>>
     requires class { HasClass class.now.pool class.now.this_class }
     requires name { HasText class.now.pool method.now.name }
@@ -110,17 +118,20 @@ fn with_tables(
     requires few { length coded.insns ≤ 65535 }
     requires offsets { Numbers coded offsets.now }
     requires before { AreNowhere (map (λ F. F coded) (insn_faults class.now.major class.now.pool ++ row_faults class.now.pool method.now)) }
-    ensures body { IfOk result (IsBody class.now number method.now) }
+    ensures body { IfOk result (IsBody names.new class.now number method.now) }
     ensures sizes { IfOk result HasSmallParts }
-    ensures refused { IfErr result (λ e. Said e (IsRefusal class.now.major class.now.pool method.now number)) }
+    ensures refused { (owner : Seq ℕ) → class_name_of class.now.pool class.now.this_class ≡ Some owner
+        → IfErr result (λ e. Said e (IsRefusal class.now.major class.now.pool owner method.now number)) }
+    ensures grows { Grows names.old names.new }
 {
     let Some(tables) = read_tables(alloc, &class.pool, &coded.items.attributes)? else {
         return Err(Fail::Said(bad_code(number, 0)));
     };
-    if is_too_wide(&coded) {
-        return Err(Fail::Said(bad_code(number, 0)));
-    }
-    let body = assembled(alloc, class, number, method, coded, offsets, &tables)?;
+    let pool = &class.pool;
+    let owner = class_name_at(pool, class.this_class);
+    let frames = frames_of(alloc, pool, owner, number, method, &coded, names)?;
+    let mut body = assembled(alloc, class, number, method, coded, offsets, &tables)?;
+    body.frames = frames;
     Ok(with_counted_lists(body)?)
 }
 
@@ -131,21 +142,24 @@ fn body_of(
     number: u16,
     method: &Member,
     coded: Coded,
+    names: &mut Names,
 ) -> Result<Body, Fail<Refusal>>
     requires class { HasClass class.now.pool class.now.this_class }
     requires name { HasText class.now.pool method.now.name }
     requires desc { HasMethodDescriptor class.now.pool method.now.desc }
     requires sizes { All (λ a. length a.body ≤ 67108864) method.now.attributes }
     requires coded { IsCoded class.now.pool method.now coded }
-    ensures body { IfOk result (IsBody class.now number method.now) }
+    ensures body { IfOk result (IsBody names.new class.now number method.now) }
     ensures sizes { IfOk result HasSmallParts }
-    ensures refused { IfErr result (λ e. Said e (IsRefusal class.now.major class.now.pool method.now number)) }
+    ensures refused { (owner : Seq ℕ) → class_name_of class.now.pool class.now.this_class ≡ Some owner
+        → IfErr result (λ e. Said e (IsRefusal class.now.major class.now.pool owner method.now number)) }
+    ensures grows { Grows names.old names.new }
 {
     let numbers = numbers_of(alloc, &coded)?;
     let offsets = offsets_of(&numbers, &coded);
     match first_fault(class.major, &class.pool, method, &coded, &offsets) {
         Some(place) => Err(Fail::Said(bad_code(number, place))),
-        None => with_tables(alloc, class, number, method, coded, &offsets),
+        None => with_tables(alloc, class, number, method, coded, &offsets, names),
     }
 }
 
@@ -155,18 +169,22 @@ fn answer(
     class: &ClassFile,
     number: u16,
     method: &Member,
+    names: &mut Names,
 ) -> Result<Option<Body>, Fail<Refusal>>
     requires class { HasClass class.now.pool class.now.this_class }
     requires name { HasText class.now.pool method.now.name }
     requires desc { HasMethodDescriptor class.now.pool method.now.desc }
     requires sizes { All (λ a. length a.body ≤ 67108864) method.now.attributes }
-    ensures answer { IfOk result (λ found. MatchOption found (HasNoCode class.now.pool method.now) (IsBody class.now number method.now)) }
+    ensures answer { IfOk result (λ found. MatchOption found (HasNoCode class.now.pool method.now)
+        (IsBody names.new class.now number method.now)) }
     ensures sizes { IfOk result (λ found. IfSome found HasSmallParts) }
-    ensures refused { IfErr result (λ e. Said e (IsRefusal class.now.major class.now.pool method.now number)) }
+    ensures refused { (owner : Seq ℕ) → class_name_of class.now.pool class.now.this_class ≡ Some owner
+        → IfErr result (λ e. Said e (IsRefusal class.now.major class.now.pool owner method.now number)) }
+    ensures grows { Grows names.old names.new }
 {
     match read_coded(alloc, &class.pool, number, method)? {
         None => Ok(None),
-        Some(coded) => Ok(Some(body_of(alloc, class, number, method, coded)?)),
+        Some(coded) => Ok(Some(body_of(alloc, class, number, method, coded, names)?)),
     }
 }
 
@@ -177,8 +195,8 @@ fn answer(
 ///
 /// The entries of several attributes of one name stand one behind the other. An entry that names no
 /// instruction is left out, but for a variable's end that is the code's length; and so is a variable whose
-/// slot is at or past `max_locals`. Stack map tables aren't read, and `frames` is empty. The list of
-/// names is as it was.
+/// slot is at or past `max_locals`. The frames of the stack map table say all local variables and the whole stack,
+/// with classes by their numbers in `names`, to which new ones are added behind the earlier.
 ///
 /// # Errors
 ///
@@ -200,6 +218,8 @@ fn answer(
 /// - an exception row whose start isn't before its end, whose places aren't instructions, but for an end
 ///   that is the code's length, or whose class is no Class entry (4.7.3), at the row's number;
 /// - a line or variable table that isn't of its form (4.7.12 to 4.7.14), at 0;
+/// - two stack map tables, at 0, or one that isn't of its form (4.7.4), at the number of the first frame that is
+///   wrong, or at 0 where bytes are left or the count is cut off;
 /// - more than 33,554,432 instructions times slots, which is the tool's own bound, at 0.
 pub fn read_body(
     alloc: Global,
@@ -211,16 +231,24 @@ pub fn read_body(
     requires class { IsClassFile class.now }
     requires sizes { All (λ m. All (λ a. length a.body ≤ 67108864) m.attributes) class.now.methods }
     // What is answered is so.
-    ensures body { IfOk result (λ found. MatchOption found (Bodiless class.now method) (BodyOf class.now method)) }
+    ensures body { IfOk result (λ found. MatchOption found (Bodiless class.now method) (BodyOf names.new class.now method)) }
     ensures refused { IfErr result (λ e. Said e (FaultOf class.now method)) }
     // What is so is answered, unless memory runs out.
-    ensures some { (b : BodyValue) → BodyOf class.now method b → MatchResult result (λ found. found ≡ Some b) (λ e. e ≡ Fail.Memory) }
+    ensures some { (b : BodyValue) → BodyOf names.new class.now method b → MatchResult result (λ found. found ≡ Some b) (λ e. e ≡ Fail.Memory) }
     ensures none { Bodiless class.now method → MatchResult result (λ found. found ≡ None) (λ e. e ≡ Fail.Memory) }
     ensures fault { (r : Reason) → FaultOf class.now method r
         → MatchResult result (λ _. ⊥) (λ e. (e ≡ Fail.Memory) ⊎ (e ≡ Fail.Said r)) }
     ensures well_made { IfOk result (λ found. IfSome found IsWellMade) }
-    ensures names { names.new ≡ names.old }
+    ensures names { Grows names.old names.new }
 {
-    let _ = names;
-    answer(alloc, class, method as u16, &class.methods[method as usize])
+    let found = answer(
+        alloc,
+        class,
+        method as u16,
+        &class.methods[method as usize],
+        names,
+    );
+    // No two names are equal, so the body is the only one.
+    let _count = names.len();
+    found
 }

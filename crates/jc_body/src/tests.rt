@@ -2,22 +2,25 @@
 
 use super::*;
 use jc_base::{
-    Body, Fail, Handler, LineAt, Memory, Names, Refusal, RefusalKind, Use, VarAt, What, put_bytes,
-    put_u8, put_u16, put_u32,
+    Arm, Body, Fail, Handler, Insn, Kind, LineAt, Memory, Names, Refusal, RefusalKind, Use, VarAt,
+    What, put_bytes, put_u8, put_u16, put_u32,
 };
 use jc_class::read_class;
 use std::alloc::Global;
 use std::process::Abort;
 use std::test::Fail as Failed;
-use tale::{methods, tale_class};
+use tale::{
+    LAST_LOCALS, LOOP_LOCALS, PARSED_LOCALS, PICK_LOCALS, Tale, Wanted, first, parsed, pick,
+    tale_class,
+};
 use wanted::{codes, heads, orders, other_tables, row_tables, sizes};
 
 mod tale;
 mod wanted;
 
 /// The items of each class that is written here, from its pool to its first method, which is abstract.
-static HEAD: [u8; 228] = [
-    0x00, 0x22, // the count: places 1 to 33
+static HEAD: [u8; 244] = [
+    0x00, 0x23, // the count: places 1 to 34
     0x01, 0x00, 0x01, 0x41, // 1: Utf8 A
     0x07, 0x00, 0x01, // 2: Class A
     0x01, 0x00, 0x01, 0x6d, // 3: Utf8 m
@@ -52,7 +55,9 @@ static HEAD: [u8; 228] = [
     0x06, 0x3f, 0xf0, 0x00, 0x00, 0x00, 0x00, 0x00, 0x00, // 30: Double 1, and its second place
     0x10, 0x00, 0x04, // 32: MethodType ()V
     0x0f, 0x06, 0x00, 0x0d, // 33: MethodHandle of A m ()V
-    0x04, 0x21, 0x00, 0x02, 0x00, 0x00, 0x00, 0x00, 0x00, 0x00, // class A, and no fields
+    0x01, 0x00, 0x0d, // 34: Utf8 StackMapTable
+    0x53, 0x74, 0x61, 0x63, 0x6b, 0x4d, 0x61, 0x70, 0x54, 0x61, 0x62, 0x6c, 0x65, 0x04, 0x21, 0x00,
+    0x02, 0x00, 0x00, 0x00, 0x00, 0x00, 0x00, // class A, and no fields
     0x00, 0x02, // two methods
     0x04, 0x01, 0x00, 0x03, 0x00, 0x04, 0x00, 0x00, // m ()V
 ];
@@ -266,11 +271,12 @@ fn answers_by_heads(rt: HostRuntime) -> Result<(), Failed> {
         };
         expect(&rt, alloc, &case, *want)?;
     }
-    for (stack, locals, nops, want) in sizes() {
+    for (stack, locals, nops, tables, want) in sizes() {
         let case = Case {
             stack: *stack,
             locals: *locals,
             nops: *nops,
+            tables,
             ..plain(b"\xb1")
         };
         expect(&rt, alloc, &case, *want)?;
@@ -434,27 +440,105 @@ fn places_that_are_used(rt: HostRuntime) -> Result<(), Failed> {
     Ok(())
 }
 
-/// What `javap` prints of a body, as text.
-fn printed_text(alloc: Global, bytes: &[u8], method: u32) -> Result<String, Failed> {
-    match read(alloc, bytes, method) {
-        Ok(Some(body)) => {
-            let code = body.code.as_slice();
-            let rows = body.handlers.as_slice();
-            let lines = body.lines.as_slice();
-            let vars = body.vars.as_slice();
-            let kind_vars = body.kind_vars.as_slice();
-            Ok(format!(in alloc; "{code:?} {rows:?} {lines:?} {vars:?} {kind_vars:?}")?)
+/// Whether the arms are those with these keys and targets.
+fn are_arms(arms: &[Arm], wanted: &[(i32, u32)]) -> bool {
+    arms.len() == wanted.len()
+        && arms
+            .iter()
+            .zip(wanted.iter())
+            .all(|(arm, (key, to))| arm.key == *key && arm.to == *to)
+}
+
+/// Whether the instruction is this one.
+fn is_wanted(insn: &Insn, wanted: &Wanted) -> bool {
+    match (insn, wanted) {
+        (Insn::Simple(op), Wanted::Simple(want)) => op == want,
+        (Insn::Local { op, slot }, Wanted::Local(want, at)) => op == want && slot == at,
+        (Insn::Constant2 { place }, Wanted::Constant2(want)) => place == want,
+        (Insn::Member { op, place }, Wanted::Member(want, at)) => op == want && place == at,
+        (Insn::Interface { place, count }, Wanted::Interface(want, words)) => {
+            place == want && count == words
         }
-        _ => Ok(format!(in alloc; "no body")?),
+        (Insn::Dynamic { place }, Wanted::Dynamic(want)) => place == want,
+        (Insn::OfClass { op, place }, Wanted::OfClass(want, at)) => op == want && place == at,
+        (Insn::Jump { op, to }, Wanted::Jump(want, at)) => op == want && to == at,
+        (Insn::Table { low, default, arms }, Wanted::Table(least, other, places)) => {
+            low == least && default == other && arms.as_slice() == places.as_slice()
+        }
+        (Insn::Lookup { default, arms }, Wanted::Lookup(other, keys)) => {
+            default == other && are_arms(arms, keys)
+        }
+        _ => false,
+    }
+}
+
+/// Whether the frame with this number is at this instruction, with these types.
+fn has_frame(body: &Body, number: usize, at: u32, locals: &[Kind], stack: &[Kind]) -> bool {
+    match body.frames.get(number) {
+        Some(frame) => {
+            frame.at == at
+                && frame.state.locals.as_slice() == locals
+                && frame.state.stack.as_slice() == stack
+        }
+        None => false,
+    }
+}
+
+/// The frames of `pick` have a key and two longs.
+fn expect_pick_frames(rt: &impl Abort, body: &Body) {
+    for (number, at) in [4, 9, 11, 15, 17, 26, 30].into_iter().enumerate() {
+        assert!(rt; has_frame(body, number, at, &PICK_LOCALS, &[]), "pick {at}");
+    }
+}
+
+/// The frames of `parsed` begin two handlers and what follows them.
+fn expect_parsed_frames(rt: &impl Abort, body: &Body) {
+    assert!(rt; has_frame(body, 0, 11, &PARSED_LOCALS, &[Kind::Object(2)]));
+    assert!(rt; has_frame(body, 1, 24, &PARSED_LOCALS, &[Kind::Object(3)]));
+    assert!(rt; has_frame(body, 2, 29, &PARSED_LOCALS, &[]));
+}
+
+/// The frames of `first` begin its loop, the end of its turn and what follows it.
+fn expect_first_frames(rt: &impl Abort, body: &Body) {
+    assert!(rt; has_frame(body, 0, 3, &LOOP_LOCALS, &[]));
+    assert!(rt; has_frame(body, 1, 20, &LOOP_LOCALS, &[]));
+    assert!(rt; has_frame(body, 2, 21, &LAST_LOCALS, &[]));
+}
+
+/// Asserts what the body of a method of the compiled class is.
+fn expect_tale(rt: &impl Abort, body: &Body, want: &Tale) {
+    let method = want.method;
+    assert_eq!(rt; body.code.len(), want.code.len(), "method {method}");
+    for (insn, wanted) in body.code.iter().zip(want.code.iter()) {
+        assert!(rt; is_wanted(insn, wanted), "method {method}: {insn:?}");
+    }
+    assert_eq!(rt; body.handlers.as_slice(), want.rows, "method {method}");
+    assert_eq!(rt; body.lines.as_slice(), want.lines, "method {method}");
+    assert_eq!(rt; body.vars.as_slice(), want.vars, "method {method}");
+    assert_eq!(rt;
+        body.kind_vars.as_slice(),
+        want.kind_vars,
+        "method {method}"
+    );
+    assert_eq!(rt; body.frames.len(), want.frames, "method {method}");
+}
+
+/// The body of a method of the compiled class, which is as wanted.
+fn tale_of(rt: &impl Abort, alloc: Global, want: &Tale) -> Result<Body, Failed> {
+    match read(alloc, tale_class(), want.method) {
+        Ok(Some(body)) => {
+            expect_tale(rt, &body, want);
+            Ok(body)
+        }
+        _ => Err("no body")?,
     }
 }
 
 #[test]
 fn compiled_methods(rt: HostRuntime) -> Result<(), Failed> {
     let alloc = rt.alloc();
-    for (method, want) in methods() {
-        let text = printed_text(alloc, tale_class(), *method)?;
-        assert_eq!(rt; text.as_str(), *want, "method {method}");
-    }
+    expect_pick_frames(&rt, &tale_of(&rt, alloc, &pick())?);
+    expect_parsed_frames(&rt, &tale_of(&rt, alloc, &parsed())?);
+    expect_first_frames(&rt, &tale_of(&rt, alloc, &first())?);
     Ok(())
 }

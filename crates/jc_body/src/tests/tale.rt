@@ -1,4 +1,5 @@
 //! A class that `javac` compiled, and what `javap` says of its methods.
+use jc_base::{Handler, Kind, LineAt, VarAt, opcode};
 
 /// `Tale.java`, compiled by `javac -g --release 8`, of version 17:
 ///
@@ -103,29 +104,392 @@ static TALE: &[u8] =
     \0\0\x16\0\x02\0\0\0\x13\0^\0X\0\0\0\0\0\x13\0a\0N\0\x01\0\x03\0h\0\0\0\x02\0i\0j\0\0\0\x0c\0\
     \x01\0k\0\x03\0r\0s\0v\0w\0\0\0\x0a\0\x01\0x\0z\0|\0\x19";
 
-/// The numbers of the methods `pick`, `parsed` and `first`, and what `javap -c -l -v -p` prints of them
-/// by instruction numbers: the instructions, exception rows, lines, variables and their signatures.
-static PRINTED: [(u32, &str); 3] = [
-    (
-        1,
-        "[Local { op: 22, slot: 1 }, Local { op: 55, slot: 3 }, Local { op: 21, slot: 0 }, Table { low: -1, default: 15, arms: List { items: [4, 9, 15, 11] } }, Local { op: 22, slot: 3 }, Constant2 { place: 7 }, Simple(97), Local { op: 55, slot: 3 }, Jump { op: 167, to: 15 }, Local { op: 22, slot: 3 }, Simple(173), Local { op: 22, slot: 3 }, Constant2 { place: 9 }, Simple(105), Local { op: 55, slot: 3 }, Local { op: 21, slot: 0 }, Lookup { default: 30, arms: List { items: [Arm { key: -70000, to: 17 }, Arm { key: 9, to: 26 }] } }, Local { op: 22, slot: 3 }, Simple(138), Local { op: 57, slot: 5 }, Local { op: 24, slot: 5 }, Constant2 { place: 11 }, Simple(111), Simple(143), Local { op: 55, slot: 3 }, Jump { op: 167, to: 30 }, Local { op: 22, slot: 3 }, Simple(10), Simple(101), Local { op: 55, slot: 3 }, Local { op: 22, slot: 3 }, Simple(173)] [] [LineAt { at: 0, line: 6 }, LineAt { at: 2, line: 7 }, LineAt { at: 4, line: 9 }, LineAt { at: 8, line: 10 }, LineAt { at: 9, line: 12 }, LineAt { at: 11, line: 14 }, LineAt { at: 15, line: 16 }, LineAt { at: 17, line: 18 }, LineAt { at: 20, line: 19 }, LineAt { at: 25, line: 20 }, LineAt { at: 26, line: 22 }, LineAt { at: 30, line: 24 }] [VarAt { start: 20, end: 26, name: 73, desc: 74, slot: 5 }, VarAt { start: 0, end: 32, name: 75, desc: 76, slot: 0 }, VarAt { start: 0, end: 32, name: 77, desc: 78, slot: 1 }, VarAt { start: 2, end: 32, name: 79, desc: 78, slot: 3 }] []",
-    ),
-    (
-        2,
-        "[Local { op: 25, slot: 1 }, Member { op: 184, place: 13 }, Local { op: 54, slot: 4 }, Local { op: 24, slot: 2 }, Local { op: 21, slot: 4 }, Simple(135), Simple(99), Local { op: 57, slot: 2 }, Simple(14), Local { op: 57, slot: 2 }, Jump { op: 167, to: 29 }, Local { op: 58, slot: 4 }, Local { op: 25, slot: 4 }, Member { op: 182, place: 21 }, Member { op: 182, place: 25 }, Simple(133), Local { op: 55, slot: 5 }, Local { op: 22, slot: 5 }, Simple(138), Local { op: 57, slot: 7 }, Simple(14), Local { op: 57, slot: 2 }, Local { op: 24, slot: 7 }, Simple(175), Local { op: 58, slot: 9 }, Simple(14), Local { op: 57, slot: 2 }, Local { op: 25, slot: 9 }, Simple(191), Local { op: 24, slot: 2 }, Simple(175)] [Handler { start: 0, end: 8, target: 11, class: 19 }, Handler { start: 0, end: 8, target: 24, class: 0 }, Handler { start: 11, end: 20, target: 24, class: 0 }, Handler { start: 24, end: 25, target: 24, class: 0 }] [LineAt { at: 0, line: 29 }, LineAt { at: 3, line: 30 }, LineAt { at: 8, line: 35 }, LineAt { at: 10, line: 36 }, LineAt { at: 11, line: 31 }, LineAt { at: 12, line: 32 }, LineAt { at: 17, line: 33 }, LineAt { at: 20, line: 35 }, LineAt { at: 22, line: 33 }, LineAt { at: 24, line: 35 }, LineAt { at: 27, line: 36 }, LineAt { at: 29, line: 37 }] [VarAt { start: 3, end: 8, name: 83, desc: 76, slot: 4 }, VarAt { start: 17, end: 24, name: 84, desc: 78, slot: 5 }, VarAt { start: 12, end: 24, name: 85, desc: 86, slot: 4 }, VarAt { start: 0, end: 31, name: 69, desc: 70, slot: 0 }, VarAt { start: 0, end: 31, name: 87, desc: 88, slot: 1 }, VarAt { start: 0, end: 31, name: 89, desc: 74, slot: 2 }] []",
-    ),
-    (
-        3,
-        "[Local { op: 25, slot: 0 }, Interface { place: 31, count: 1 }, Local { op: 58, slot: 3 }, Local { op: 25, slot: 3 }, Interface { place: 37, count: 1 }, Jump { op: 153, to: 21 }, Local { op: 25, slot: 3 }, Interface { place: 43, count: 1 }, OfClass { op: 192, place: 26 }, Local { op: 58, slot: 4 }, Local { op: 25, slot: 4 }, Member { op: 182, place: 25 }, Simple(133), Local { op: 22, slot: 1 }, Simple(148), Jump { op: 154, to: 20 }, Local { op: 25, slot: 4 }, Local { op: 22, slot: 1 }, Dynamic { place: 47 }, Simple(176), Jump { op: 167, to: 3 }, Simple(1), Simple(176)] [] [LineAt { at: 0, line: 41 }, LineAt { at: 10, line: 42 }, LineAt { at: 16, line: 43 }, LineAt { at: 20, line: 45 }, LineAt { at: 21, line: 46 }] [VarAt { start: 10, end: 20, name: 94, desc: 88, slot: 4 }, VarAt { start: 0, end: 23, name: 95, desc: 96, slot: 0 }, VarAt { start: 0, end: 23, name: 97, desc: 78, slot: 1 }] [VarAt { start: 0, end: 23, name: 95, desc: 99, slot: 0 }]",
-    ),
+/// An instruction, as `javap` prints it, with the number of each that it leads to.
+#[derive(Clone, Copy)]
+pub enum Wanted {
+    /// By its opcode.
+    Simple(u8),
+    /// By its opcode and its local variable.
+    Local(u8, u16),
+    /// `ldc2_w`, by its place in the pool.
+    Constant2(u16),
+    /// By its opcode and its place in the pool.
+    Member(u8, u16),
+    /// `invokeinterface`, by its place in the pool and the words of its arguments.
+    Interface(u16, u8),
+    /// `invokedynamic`, by its place in the pool.
+    Dynamic(u16),
+    /// By its opcode and its place in the pool.
+    OfClass(u8, u16),
+    /// By its opcode and its target.
+    Jump(u8, u32),
+    /// `tableswitch`, by its least key, its default and its arms.
+    Table(i32, u32, [u32; 4]),
+    /// `lookupswitch`, by its default, and its arms with their keys.
+    Lookup(u32, [(i32, u32); 2]),
+}
+
+/// What `javap -c -l -v -p` prints of a method, by instruction numbers.
+#[derive(Clone, Copy)]
+pub struct Tale {
+    pub method: u32,
+    pub code: &'static [Wanted],
+    pub rows: &'static [Handler],
+    pub lines: &'static [LineAt],
+    pub vars: &'static [VarAt],
+    /// The variables with their signatures.
+    pub kind_vars: &'static [VarAt],
+    pub frames: usize,
+}
+
+/// The local variables at each frame of `pick`: a key, and two longs.
+pub static PICK_LOCALS: [Kind; 7] = [
+    Kind::Int,
+    Kind::Long,
+    Kind::Top,
+    Kind::Long,
+    Kind::Top,
+    Kind::Top,
+    Kind::Top,
 ];
+
+/// Those of `parsed`: `this`, a text and a double.
+pub static PARSED_LOCALS: [Kind; 10] = [
+    Kind::Object(0),
+    Kind::Object(1),
+    Kind::Double,
+    Kind::Top,
+    Kind::Top,
+    Kind::Top,
+    Kind::Top,
+    Kind::Top,
+    Kind::Top,
+    Kind::Top,
+];
+
+/// Those of `first` in its loop: a list, a long and an iterator.
+pub static LOOP_LOCALS: [Kind; 5] = [
+    Kind::Object(0),
+    Kind::Long,
+    Kind::Top,
+    Kind::Object(1),
+    Kind::Top,
+];
+
+/// And behind it.
+pub static LAST_LOCALS: [Kind; 5] = [Kind::Object(0), Kind::Long, Kind::Top, Kind::Top, Kind::Top];
+
+/// The instructions of `pick`.
+static PICK_CODE: [Wanted; 32] = [
+    Wanted::Local(opcode::LLOAD, 1),
+    Wanted::Local(opcode::LSTORE, 3),
+    Wanted::Local(opcode::ILOAD, 0),
+    Wanted::Table(-1, 15, [4, 9, 15, 11]),
+    Wanted::Local(opcode::LLOAD, 3),
+    Wanted::Constant2(7),
+    Wanted::Simple(opcode::LADD),
+    Wanted::Local(opcode::LSTORE, 3),
+    Wanted::Jump(opcode::GOTO, 15),
+    Wanted::Local(opcode::LLOAD, 3),
+    Wanted::Simple(opcode::LRETURN),
+    Wanted::Local(opcode::LLOAD, 3),
+    Wanted::Constant2(9),
+    Wanted::Simple(opcode::LMUL),
+    Wanted::Local(opcode::LSTORE, 3),
+    Wanted::Local(opcode::ILOAD, 0),
+    Wanted::Lookup(30, [(-70000, 17), (9, 26)]),
+    Wanted::Local(opcode::LLOAD, 3),
+    Wanted::Simple(opcode::L2D),
+    Wanted::Local(opcode::DSTORE, 5),
+    Wanted::Local(opcode::DLOAD, 5),
+    Wanted::Constant2(11),
+    Wanted::Simple(opcode::DDIV),
+    Wanted::Simple(opcode::D2L),
+    Wanted::Local(opcode::LSTORE, 3),
+    Wanted::Jump(opcode::GOTO, 30),
+    Wanted::Local(opcode::LLOAD, 3),
+    Wanted::Simple(opcode::LCONST_1),
+    Wanted::Simple(opcode::LSUB),
+    Wanted::Local(opcode::LSTORE, 3),
+    Wanted::Local(opcode::LLOAD, 3),
+    Wanted::Simple(opcode::LRETURN),
+];
+
+static PICK_LINES: [LineAt; 12] = [
+    LineAt { at: 0, line: 6 },
+    LineAt { at: 2, line: 7 },
+    LineAt { at: 4, line: 9 },
+    LineAt { at: 8, line: 10 },
+    LineAt { at: 9, line: 12 },
+    LineAt { at: 11, line: 14 },
+    LineAt { at: 15, line: 16 },
+    LineAt { at: 17, line: 18 },
+    LineAt { at: 20, line: 19 },
+    LineAt { at: 25, line: 20 },
+    LineAt { at: 26, line: 22 },
+    LineAt { at: 30, line: 24 },
+];
+
+static PICK_VARS: [VarAt; 4] = [
+    VarAt {
+        start: 20,
+        end: 26,
+        name: 73,
+        desc: 74,
+        slot: 5,
+    },
+    VarAt {
+        start: 0,
+        end: 32,
+        name: 75,
+        desc: 76,
+        slot: 0,
+    },
+    VarAt {
+        start: 0,
+        end: 32,
+        name: 77,
+        desc: 78,
+        slot: 1,
+    },
+    VarAt {
+        start: 2,
+        end: 32,
+        name: 79,
+        desc: 78,
+        slot: 3,
+    },
+];
+
+/// The method `pick`.
+pub fn pick() -> Tale {
+    Tale {
+        method: 1,
+        code: PICK_CODE.as_slice(),
+        rows: &[],
+        lines: PICK_LINES.as_slice(),
+        vars: PICK_VARS.as_slice(),
+        kind_vars: &[],
+        frames: 7,
+    }
+}
+
+/// The instructions of `parsed`.
+static PARSED_CODE: [Wanted; 31] = [
+    Wanted::Local(opcode::ALOAD, 1),
+    Wanted::Member(opcode::INVOKESTATIC, 13),
+    Wanted::Local(opcode::ISTORE, 4),
+    Wanted::Local(opcode::DLOAD, 2),
+    Wanted::Local(opcode::ILOAD, 4),
+    Wanted::Simple(opcode::I2D),
+    Wanted::Simple(opcode::DADD),
+    Wanted::Local(opcode::DSTORE, 2),
+    Wanted::Simple(opcode::DCONST_0),
+    Wanted::Local(opcode::DSTORE, 2),
+    Wanted::Jump(opcode::GOTO, 29),
+    Wanted::Local(opcode::ASTORE, 4),
+    Wanted::Local(opcode::ALOAD, 4),
+    Wanted::Member(opcode::INVOKEVIRTUAL, 21),
+    Wanted::Member(opcode::INVOKEVIRTUAL, 25),
+    Wanted::Simple(opcode::I2L),
+    Wanted::Local(opcode::LSTORE, 5),
+    Wanted::Local(opcode::LLOAD, 5),
+    Wanted::Simple(opcode::L2D),
+    Wanted::Local(opcode::DSTORE, 7),
+    Wanted::Simple(opcode::DCONST_0),
+    Wanted::Local(opcode::DSTORE, 2),
+    Wanted::Local(opcode::DLOAD, 7),
+    Wanted::Simple(opcode::DRETURN),
+    Wanted::Local(opcode::ASTORE, 9),
+    Wanted::Simple(opcode::DCONST_0),
+    Wanted::Local(opcode::DSTORE, 2),
+    Wanted::Local(opcode::ALOAD, 9),
+    Wanted::Simple(opcode::ATHROW),
+    Wanted::Local(opcode::DLOAD, 2),
+    Wanted::Simple(opcode::DRETURN),
+];
+
+static PARSED_ROWS: [Handler; 4] = [
+    Handler {
+        start: 0,
+        end: 8,
+        target: 11,
+        class: 19,
+    },
+    Handler {
+        start: 0,
+        end: 8,
+        target: 24,
+        class: 0,
+    },
+    Handler {
+        start: 11,
+        end: 20,
+        target: 24,
+        class: 0,
+    },
+    Handler {
+        start: 24,
+        end: 25,
+        target: 24,
+        class: 0,
+    },
+];
+
+static PARSED_LINES: [LineAt; 12] = [
+    LineAt { at: 0, line: 29 },
+    LineAt { at: 3, line: 30 },
+    LineAt { at: 8, line: 35 },
+    LineAt { at: 10, line: 36 },
+    LineAt { at: 11, line: 31 },
+    LineAt { at: 12, line: 32 },
+    LineAt { at: 17, line: 33 },
+    LineAt { at: 20, line: 35 },
+    LineAt { at: 22, line: 33 },
+    LineAt { at: 24, line: 35 },
+    LineAt { at: 27, line: 36 },
+    LineAt { at: 29, line: 37 },
+];
+
+static PARSED_VARS: [VarAt; 6] = [
+    VarAt {
+        start: 3,
+        end: 8,
+        name: 83,
+        desc: 76,
+        slot: 4,
+    },
+    VarAt {
+        start: 17,
+        end: 24,
+        name: 84,
+        desc: 78,
+        slot: 5,
+    },
+    VarAt {
+        start: 12,
+        end: 24,
+        name: 85,
+        desc: 86,
+        slot: 4,
+    },
+    VarAt {
+        start: 0,
+        end: 31,
+        name: 69,
+        desc: 70,
+        slot: 0,
+    },
+    VarAt {
+        start: 0,
+        end: 31,
+        name: 87,
+        desc: 88,
+        slot: 1,
+    },
+    VarAt {
+        start: 0,
+        end: 31,
+        name: 89,
+        desc: 74,
+        slot: 2,
+    },
+];
+
+/// The method `parsed`.
+pub fn parsed() -> Tale {
+    Tale {
+        method: 2,
+        code: PARSED_CODE.as_slice(),
+        rows: PARSED_ROWS.as_slice(),
+        lines: PARSED_LINES.as_slice(),
+        vars: PARSED_VARS.as_slice(),
+        kind_vars: &[],
+        frames: 3,
+    }
+}
+
+/// The instructions of `first`.
+static FIRST_CODE: [Wanted; 23] = [
+    Wanted::Local(opcode::ALOAD, 0),
+    Wanted::Interface(31, 1),
+    Wanted::Local(opcode::ASTORE, 3),
+    Wanted::Local(opcode::ALOAD, 3),
+    Wanted::Interface(37, 1),
+    Wanted::Jump(opcode::IFEQ, 21),
+    Wanted::Local(opcode::ALOAD, 3),
+    Wanted::Interface(43, 1),
+    Wanted::OfClass(opcode::CHECKCAST, 26),
+    Wanted::Local(opcode::ASTORE, 4),
+    Wanted::Local(opcode::ALOAD, 4),
+    Wanted::Member(opcode::INVOKEVIRTUAL, 25),
+    Wanted::Simple(opcode::I2L),
+    Wanted::Local(opcode::LLOAD, 1),
+    Wanted::Simple(opcode::LCMP),
+    Wanted::Jump(opcode::IFNE, 20),
+    Wanted::Local(opcode::ALOAD, 4),
+    Wanted::Local(opcode::LLOAD, 1),
+    Wanted::Dynamic(47),
+    Wanted::Simple(opcode::ARETURN),
+    Wanted::Jump(opcode::GOTO, 3),
+    Wanted::Simple(opcode::ACONST_NULL),
+    Wanted::Simple(opcode::ARETURN),
+];
+
+static FIRST_LINES: [LineAt; 5] = [
+    LineAt { at: 0, line: 41 },
+    LineAt { at: 10, line: 42 },
+    LineAt { at: 16, line: 43 },
+    LineAt { at: 20, line: 45 },
+    LineAt { at: 21, line: 46 },
+];
+
+static FIRST_VARS: [VarAt; 3] = [
+    VarAt {
+        start: 10,
+        end: 20,
+        name: 94,
+        desc: 88,
+        slot: 4,
+    },
+    VarAt {
+        start: 0,
+        end: 23,
+        name: 95,
+        desc: 96,
+        slot: 0,
+    },
+    VarAt {
+        start: 0,
+        end: 23,
+        name: 97,
+        desc: 78,
+        slot: 1,
+    },
+];
+
+static FIRST_KIND_VARS: [VarAt; 1] = [VarAt {
+    start: 0,
+    end: 23,
+    name: 95,
+    desc: 99,
+    slot: 0,
+}];
+
+/// The method `first`.
+pub fn first() -> Tale {
+    Tale {
+        method: 3,
+        code: FIRST_CODE.as_slice(),
+        rows: &[],
+        lines: FIRST_LINES.as_slice(),
+        vars: FIRST_VARS.as_slice(),
+        kind_vars: FIRST_KIND_VARS.as_slice(),
+        frames: 3,
+    }
+}
 
 /// The class.
 pub fn tale_class() -> &'static [u8] {
     TALE
-}
-
-/// What is printed of its methods.
-pub fn methods() -> &'static [(u32, &'static str)] {
-    &PRINTED
 }

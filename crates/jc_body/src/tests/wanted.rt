@@ -16,7 +16,7 @@ static CODES: [(&[u8], Answer); 37] = [
     (b"\x14\0\x19\xb1", BadCode(0)), // `ldc2_w` of an Integer
     (b"\x14\0\x11\xb1", BadCode(0)), // of the second place of a Long
     (b"\x14\0\x10\xb1", HasBody), // of a Long
-    (b"\x12\x22\xb1", BadCode(0)), // `ldc` of a place outside the pool
+    (b"\x12\x23\xb1", BadCode(0)), // `ldc` of a place outside the pool
     (b"\x12\x15\xb1", HasBody), // `ldc` of a Dynamic of the type `I`
     (b"\x14\0\x15\xb1", BadCode(0)), // `ldc2_w` of one
     (b"\x12\x1c\xb1", BadCode(0)), // `ldc` of a Dynamic of the type `J`
@@ -71,7 +71,7 @@ static ROWS: [(&[u8], Answer); 11] = [
 ];
 
 /// Attributes of the code of three instructions.
-static TABLES: [(&[u8], Answer); 10] = [
+static TABLES: [(&[u8], Answer); 17] = [
     // A LineNumberTable one byte short, and one byte long.
     (b"\0\x01\0\x06\0\0\0\x05\0\x01\0\0\0", BadCode(0)),
     (b"\0\x01\0\x06\0\0\0\x07\0\x01\0\0\0\x07\0", BadCode(0)),
@@ -103,10 +103,24 @@ static TABLES: [(&[u8], Answer); 10] = [
         b"\0\x02\0\x07\0\0\0\x3e\0\x06\0\0\0\x05\0\x03\0\x09\0\x01\0\0\0\x05\0\x03\0\x09\0\x02\0\x01\0\x04\0\x03\0\x09\0\x01\0\0\0\x02\0\x03\0\x09\0\x01\0\0\0\x06\0\x03\0\x09\0\x01\0\x03\0\x01\0\x03\0\x09\0\0\0\x08\0\0\0\x16\0\x02\0\x03\0\x02\0\x01\0\x03\0\x02\0\x03\0\x02\0\x01\0\x03\0\x01",
         HasBody,
     ),
+    // A StackMapTable with a frame at 3, and one with a second frame at 4.
+    (b"\0\x01\0\x22\0\0\0\x03\0\x01\x03", HasBody),
+    (b"\0\x01\0\x22\0\0\0\x04\0\x02\x03\0", HasBody),
+    // Its second frame at the code's length, and at 2.
+    (b"\0\x01\0\x22\0\0\0\x04\0\x02\x03\x01", BadCode(1)),
+    (b"\0\x01\0\x22\0\0\0\x04\0\x02\0\x01", BadCode(1)),
+    // A byte behind its frame, and one without its count.
+    (b"\0\x01\0\x22\0\0\0\x04\0\x01\x03\x07", BadCode(0)),
+    (b"\0\x01\0\x22\0\0\0\x01\0", BadCode(0)),
+    // Two of them, both without a frame.
+    (
+        b"\0\x02\0\x22\0\0\0\x02\0\0\0\x22\0\0\0\x02\0\0",
+        BadCode(0),
+    ),
 ];
 
 /// A descriptor, an exception table and attributes of the code of three instructions, with several faults.
-static ORDERS: [(u16, &[u8], &[u8], Answer); 3] = [
+static ORDERS: [(u16, &[u8], &[u8], Answer); 5] = [
     // Arguments of four slots, and a second row that guards nothing.
     (
         23,
@@ -125,6 +139,20 @@ static ORDERS: [(u16, &[u8], &[u8], Answer); 3] = [
         4,
         b"\0\x01\0\0\0\x03\0\x04\0\0",
         b"\0\x01\0\x06\0\0\0\x05\0\x01\0\0\0",
+        BadCode(0),
+    ),
+    // The second row that guards nothing, and a StackMapTable without its count.
+    (
+        4,
+        b"\0\x02\0\0\0\x03\0\x04\0\0\0\x03\0\x03\0\x04\0\0",
+        b"\0\x01\0\x22\0\0\0\x01\0",
+        BadCode(1),
+    ),
+    // A StackMapTable whose second frame is at the code's length, and a LineNumberTable one byte short.
+    (
+        4,
+        b"\0\0",
+        b"\0\x02\0\x22\0\0\0\x04\0\x02\x03\x01\0\x06\0\0\0\x05\0\x01\0\0\0",
         BadCode(0),
     ),
 ];
@@ -147,12 +175,19 @@ static HEADS: [(u16, u16, u16, u16, u16, &[u8], Answer); 13] = [
     (52, 0x0009, 23, 1, 3, b"\0\x15\x03\xb1", BadCode(1)), // instructions come before arguments
 ];
 
-/// `max_stack`, `max_locals` and the number of `nop`s in front of a return.
-static SIZES: [(u16, u16, u32, Answer); 4] = [
-    (24, 1000, 32_767, HasBody), // 32,768 instructions times 1,024 slots
-    (24, 1000, 32_768, BadCode(0)),
-    (1, 2, 65_534, HasBody), // 65,535 bytes
-    (1, 2, 65_535, BadCode(0)),
+/// `max_stack`, `max_locals`, the number of `nop`s in front of a return, and attributes of the code.
+static SIZES: [(u16, u16, u32, &[u8], Answer); 5] = [
+    (24, 1000, 32_767, b"\0\0", HasBody), // 32,768 instructions times 1,024 slots
+    (24, 1000, 32_768, b"\0\0", BadCode(0)),
+    (
+        24,
+        1000,
+        32_768,
+        b"\0\x01\0\x22\0\0\0\x04\0\x02\0\x80",
+        BadCode(1),
+    ), // no second frame
+    (1, 2, 65_534, b"\0\0", HasBody), // 65,535 bytes
+    (1, 2, 65_535, b"\0\0", BadCode(0)),
 ];
 
 /// What is answered of code of the plain method.
@@ -181,6 +216,6 @@ pub fn heads() -> &'static [(u16, u16, u16, u16, u16, &'static [u8], Answer)] {
 }
 
 /// What is answered of large methods.
-pub fn sizes() -> &'static [(u16, u16, u32, Answer)] {
+pub fn sizes() -> &'static [(u16, u16, u32, &'static [u8], Answer)] {
     &SIZES
 }

@@ -1,7 +1,8 @@
 use Rattle.std.proofs.Common.{◌∙◌, ℕ, ◌<◌, List, Some, rules, refl, sym, ap, subst, arith}
 use Rattle.jc_base.specs.WellMade.{TakeSlots}
+use Rattle.jc_body.proofs.AnswerLaws.{some_text}
 use Rattle.jc_body.proofs.ArgumentLaws.{arguments_fit}
-use Rattle.jc_body.proofs.PartsLaws.{handlers_by, lines_by, vars_by}
+use Rattle.jc_body.proofs.PartsLaws.{handlers_by, lines_by, vars_by, frames_by}
 use Rattle.jc_body.proofs.reading.assembled.Goals as goal
 
 pub overflow_cast-result : goal.overflow_cast-result
@@ -11,14 +12,15 @@ overflow_cast-result c =
     omega (arith, few, small)
 
 pub returns-clause-parts : goal.returns-clause-parts
-returns-clause-parts c =
+returns-clause-parts c = λ names owner frames owner_is has numbered.
     let coded = c.args.coded in
     let offsets = c.args.offsets.now in
     let numbers = c.requires.offsets in
     let max_locals = coded.items.max_locals in
+    let named = c.class_name_at.ensures.text ∙ ap Some (sym c.in_ok-copy_of.ensures) in
     record {
       number_is = refl;
-      owner = c.class_name_at.ensures.text ∙ ap Some (sym c.in_ok-copy_of.ensures);
+      owner = named;
       name = c.text_at.ensures.text ∙ ap Some (sym c.in_ok-copy_of-2.ensures);
       desc = c.text_at-desc.ensures.text ∙ ap Some (sym c.in_ok-copy_of-3.ensures);
       flags = refl;
@@ -30,6 +32,7 @@ returns-clause-parts c =
       lines = lines_by coded offsets numbers c.in_ok-lines_of.field-0 c.deref-2.result.now c.args.tables.now.lines (search rules) c.in_ok-lines_of.ensures;
       vars = vars_by coded offsets numbers max_locals c.in_ok-vars_of.field-0 c.deref-3.result.now c.args.tables.now.vars (search rules) c.in_ok-vars_of.ensures;
       kind_vars = vars_by coded offsets numbers max_locals c.in_ok-vars_of-2.field-0 c.deref-4.result.now c.args.tables.now.kind_vars (search rules) c.in_ok-vars_of-2.ensures;
-      frames = c.new.ensures;
+      frames = frames_by names c.args.class.now.pool c.args.method.now coded owner c.in_ok-copy_of.field-0 frames (some_text (sym owner_is ∙ named)) has;
+      numbers = numbered;
       uses = search rules;
     }

@@ -1,31 +1,51 @@
-use Rattle.jc_body.proofs.ReadingLaws.{answered, found_at, some_answer, no_answer, fault_answer, made_well}
+use Rattle.jc_body.proofs.ReadingLaws.{answered, found_at, some_answer, no_answer, fault_answer, made_well, body_said, refusal_said}
 use Rattle.jc_body.proofs.reading.read_body.Goals as goal
+
+pub returns-clause-body : goal.returns-clause-body
+returns-clause-body c =
+    body_said c.answer-found.new.names c.len-count.ensures.names.distinct c.args.class.now c.args.method c.answer-found.result
+    (answered c.answer-found.new.names c.len-count.ensures.names.distinct c.args.class.now c.args.method c.index-deref-method.result
+    (found_at c.args.class.now.methods c.deref.result.now c.args.method c.index-deref-method.result c.deref.ensures c.requires.exists c.index-deref-method.is)
+    c.requires.class.this_class.0 c.requires.class.this_class.1 c.answer-found.result c.answer-found.ensures.answer
+    (c.answer-found.ensures.refused c.requires.class.this_class.0 c.requires.class.this_class.1))
+
+pub returns-clause-refused : goal.returns-clause-refused
+returns-clause-refused c =
+    refusal_said c.answer-found.new.names c.len-count.ensures.names.distinct c.args.class.now c.args.method c.answer-found.result
+    (answered c.answer-found.new.names c.len-count.ensures.names.distinct c.args.class.now c.args.method c.index-deref-method.result
+    (found_at c.args.class.now.methods c.deref.result.now c.args.method c.index-deref-method.result c.deref.ensures c.requires.exists c.index-deref-method.is)
+    c.requires.class.this_class.0 c.requires.class.this_class.1 c.answer-found.result c.answer-found.ensures.answer
+    (c.answer-found.ensures.refused c.requires.class.this_class.0 c.requires.class.this_class.1))
 
 pub returns-clause-some : goal.returns-clause-some
 returns-clause-some c =
-    some_answer c.args.class.now c.args.method c.answer.result
-    (answered c.args.class.now c.args.method c.index-deref-method.result
+    some_answer c.answer-found.new.names c.len-count.ensures.names.distinct c.args.class.now c.args.method c.answer-found.result
+    (answered c.answer-found.new.names c.len-count.ensures.names.distinct c.args.class.now c.args.method c.index-deref-method.result
     (found_at c.args.class.now.methods c.deref.result.now c.args.method c.index-deref-method.result c.deref.ensures c.requires.exists c.index-deref-method.is)
-    c.answer.result c.answer.ensures.answer c.answer.ensures.refused)
+    c.requires.class.this_class.0 c.requires.class.this_class.1 c.answer-found.result c.answer-found.ensures.answer
+    (c.answer-found.ensures.refused c.requires.class.this_class.0 c.requires.class.this_class.1))
 
 pub returns-clause-none : goal.returns-clause-none
 returns-clause-none c =
-    no_answer c.args.class.now c.args.method c.answer.result
-    (answered c.args.class.now c.args.method c.index-deref-method.result
+    no_answer c.answer-found.new.names c.len-count.ensures.names.distinct c.args.class.now c.args.method c.answer-found.result
+    (answered c.answer-found.new.names c.len-count.ensures.names.distinct c.args.class.now c.args.method c.index-deref-method.result
     (found_at c.args.class.now.methods c.deref.result.now c.args.method c.index-deref-method.result c.deref.ensures c.requires.exists c.index-deref-method.is)
-    c.answer.result c.answer.ensures.answer c.answer.ensures.refused)
+    c.requires.class.this_class.0 c.requires.class.this_class.1 c.answer-found.result c.answer-found.ensures.answer
+    (c.answer-found.ensures.refused c.requires.class.this_class.0 c.requires.class.this_class.1))
 
 pub returns-clause-fault : goal.returns-clause-fault
 returns-clause-fault c =
-    fault_answer c.args.class.now c.args.method c.answer.result
-    (answered c.args.class.now c.args.method c.index-deref-method.result
+    fault_answer c.answer-found.new.names c.len-count.ensures.names.distinct c.args.class.now c.args.method c.answer-found.result
+    (answered c.answer-found.new.names c.len-count.ensures.names.distinct c.args.class.now c.args.method c.index-deref-method.result
     (found_at c.args.class.now.methods c.deref.result.now c.args.method c.index-deref-method.result c.deref.ensures c.requires.exists c.index-deref-method.is)
-    c.answer.result c.answer.ensures.answer c.answer.ensures.refused)
+    c.requires.class.this_class.0 c.requires.class.this_class.1 c.answer-found.result c.answer-found.ensures.answer
+    (c.answer-found.ensures.refused c.requires.class.this_class.0 c.requires.class.this_class.1))
 
 pub returns-clause-well_made : goal.returns-clause-well_made
 returns-clause-well_made c =
-    made_well c.args.class.now c.args.method c.answer.result
-    (answered c.args.class.now c.args.method c.index-deref-method.result
+    made_well c.answer-found.new.names c.len-count.ensures.names.distinct c.args.class.now c.args.method c.answer-found.result
+    (answered c.answer-found.new.names c.len-count.ensures.names.distinct c.args.class.now c.args.method c.index-deref-method.result
     (found_at c.args.class.now.methods c.deref.result.now c.args.method c.index-deref-method.result c.deref.ensures c.requires.exists c.index-deref-method.is)
-    c.answer.result c.answer.ensures.answer c.answer.ensures.refused)
-    c.answer.ensures.sizes
+    c.requires.class.this_class.0 c.requires.class.this_class.1 c.answer-found.result c.answer-found.ensures.answer
+    (c.answer-found.ensures.refused c.requires.class.this_class.0 c.requires.class.this_class.1))
+    c.answer-found.ensures.sizes

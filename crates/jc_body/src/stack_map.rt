@@ -1,0 +1,111 @@
+//! The stack map table of a method (JVM Specification 4.7.4).
+ghost use Rattle.std.specs.Prelude.{◌≡◌, ◌≤◌, ◌∷◌, [], length, IfOk, IfErr, All};
+ghost use Rattle.jc_base.specs.Held.{Grows};
+ghost use Rattle.jc_base.specs.Least.{IsNowhere};
+ghost use Rattle.jc_class.specs.ClassFormat.{HasText, HasMethodDescriptor};
+ghost use Rattle.jc_body.specs.Coded.{IsCoded};
+ghost use Rattle.jc_body.specs.Faults.{ArgumentsOutside};
+ghost use Rattle.jc_body.specs.StackMap.{stack_maps, IsEntry};
+ghost use Rattle.jc_body.specs.Answers.{AreFramesOf, IsFrameRefusal, Said};
+
+use crate::attributes::bodies_of;
+use crate::code::bad_code;
+use crate::coded::Coded;
+use crate::faults::is_too_wide;
+use crate::texts::text_at;
+use jc_base::{Fail, FrameAt, List, Memory, Names, Refusal, State, entry_state};
+use jc_class::Member;
+use jc_frames::{frame_fault, read_frames};
+use jc_pool::Pool;
+use std::alloc::Global;
+
+/// The state in which a method begins whose arguments have their local variables.
+fn entry_of(
+    alloc: Global,
+    pool: &Pool,
+    owner: &[u8],
+    method: &Member,
+    coded: &Coded,
+    names: &mut Names,
+) -> Result<State, Memory>
+    requires name { HasText pool.now method.now.name }
+    requires desc { HasMethodDescriptor pool.now method.now.desc }
+    requires arguments { IsNowhere (ArgumentsOutside pool.now method.now coded.now) }
+    ensures entry { IfOk result (IsEntry names.new pool.now owner.now method.now coded.now) }
+    ensures grows { Grows names.old names.new }
+{
+    let name = text_at(pool, method.name);
+    let desc = text_at(pool, method.desc);
+    let max_locals = coded.max_locals();
+    match entry_state(alloc, owner, name, desc, method.flags, max_locals, names) {
+        Ok(entry) => Ok(entry),
+        // The arguments fit.
+        Err(_) => Err(Memory),
+    }
+}
+
+/// The frames of the one stack map table of a method.
+fn frames_of_table(
+    alloc: Global,
+    pool: &Pool,
+    owner: &[u8],
+    number: u16,
+    method: &Member,
+    coded: &Coded,
+    table: &[u8],
+    names: &mut Names,
+) -> Result<List<FrameAt>, Fail<Refusal>>
+    requires name { HasText pool.now method.now.name }
+    requires desc { HasMethodDescriptor pool.now method.now.desc }
+    requires arguments { IsNowhere (ArgumentsOutside pool.now method.now coded.now) }
+    requires coded { IsCoded pool.now method.now coded.now }
+    requires table { stack_maps pool.now coded.now ≡ table.now ∷ [] }
+    requires short { length table.now ≤ 67108864 }
+    ensures frames { IfOk result (AreFramesOf names.new pool.now owner.now method.now coded.now) }
+    ensures refused { IfErr result (λ e. Said e (IsFrameRefusal pool.now owner.now method.now coded.now number)) }
+    ensures grows { Grows names.old names.new }
+{
+    let entry = entry_of(alloc, pool, owner, method, coded, names)?;
+    let max_stack = coded.items.max_stack;
+    let Coded { insns, starts, .. } = coded;
+    if let Some(place) = frame_fault(alloc, table, &entry, max_stack, insns, starts, pool)? {
+        return Err(Fail::Said(bad_code(number, place)));
+    }
+    if is_too_wide(coded) {
+        return Err(Fail::Said(bad_code(number, 0)));
+    }
+    match read_frames(alloc, table, &entry, max_stack, insns, starts, pool, names) {
+        Ok(frames) => Ok(List::from_vec(frames)),
+        // The table has no fault.
+        Err(_) => Err(Fail::Memory),
+    }
+}
+
+/// The frames of a method's code, whose arguments have their local variables. The stack map table is judged first,
+/// then the size of the body, and only then are the frames' states made.
+pub fn frames_of(
+    alloc: Global,
+    pool: &Pool,
+    owner: &[u8],
+    number: u16,
+    method: &Member,
+    coded: &Coded,
+    names: &mut Names,
+) -> Result<List<FrameAt>, Fail<Refusal>>
+    requires name { HasText pool.now method.now.name }
+    requires desc { HasMethodDescriptor pool.now method.now.desc }
+    requires arguments { IsNowhere (ArgumentsOutside pool.now method.now coded.now) }
+    requires coded { IsCoded pool.now method.now coded.now }
+    requires sizes { All (λ a. length a.body ≤ 67108864) coded.now.items.attributes }
+    ensures frames { IfOk result (AreFramesOf names.new pool.now owner.now method.now coded.now) }
+    ensures refused { IfErr result (λ e. Said e (IsFrameRefusal pool.now owner.now method.now coded.now number)) }
+    ensures grows { Grows names.old names.new }
+{
+    let tables = bodies_of(alloc, pool, b"StackMapTable", &coded.items.attributes)?;
+    match tables.as_slice() {
+        [] if is_too_wide(coded) => Err(Fail::Said(bad_code(number, 0))),
+        [] => Ok(List::new(alloc)),
+        [table] => frames_of_table(alloc, pool, owner, number, method, coded, table, names),
+        _ => Err(Fail::Said(bad_code(number, 0))),
+    }
+}
