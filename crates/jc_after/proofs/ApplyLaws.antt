@@ -1,0 +1,225 @@
+-- The state that an instruction leaves, by its step.
+use Rattle.std.proofs.Common.{◌≡◌, ℕ, ◌+◌, ◌<◌, Bool, true, false, ◌&&◌, List, [], ◌∷◌, ◌++◌, length, map, Option, Some, None, option_map, Result, Ok, Err, IfOk, if◌then◌else◌, refl, sym, ap, ap₂, subst, ◌∙◌, get_or, slice_get, nat_eq, nat_le, nat_lt}
+use Rattle.std.specs.Option.{option_and_then}
+use Rattle.std.specs.List.{AllByRecursion}
+use Rattle.std.specs.Prelude.{codes, bytes_eq}
+use Rattle.std.proofs.lemmas.Option.{slice_get-get_or}
+use Rattle.jc_base.specs.declared.opcode.TheConstants as ops
+use Rattle.jc_base.specs.declared.insn.Insn.{Insn}
+use Rattle.jc_base.specs.declared.insn.Insn.TheVariants as insns
+use Rattle.jc_base.specs.declared.kind.State.{State}
+use Rattle.jc_base.specs.declared.body.Use.{Use}
+use Rattle.jc_base.specs.declared.body.What.{What}
+use Rattle.jc_base.specs.declared.body.What.TheVariants as whats
+use Rattle.jc_base.specs.declared.body.Body.{Body}
+use Rattle.jc_base.specs.declared.fail.Memory.{Memory}
+use Rattle.jc_base.specs.Descriptor.{FieldType, MethodType}
+use Rattle.jc_base.specs.DescriptorTypes.{field_type_in, method_type_in}
+use Rattle.jc_base.specs.Flow.{is_return}
+use Rattle.jc_base.specs.InsnUse.{is_of_two_slots, LocalsWithin}
+use Rattle.jc_base.specs.WellMade.{what_used}
+use Rattle.jc_base.specs.Held.{Names, Seen, held, seen, IsNumberedState}
+use Rattle.jc_base.proofs.SeenLaws.{seen_stays}
+use Rattle.jc_after.specs.declared.effects.Effects.{Effects}
+use Rattle.jc_after.specs.declared.step.Step.{Step as KeptStep}
+use Rattle.jc_after.specs.declared.step.Step.TheVariants as steps
+use Rattle.jc_after.specs.Step.{Form, Step, moves, loads, stores, counts, picks, makes, builds, fails, apply, built, picked, moved_by, with_stack}
+use Rattle.jc_after.specs.After.{field_step, method_step, member_step, interface_step, dynamic_step, computed_step, constant_step, array_of, class_step, multi_step, return_op, simple_step, local_want, step_of, insn_at, ground_of, returns_of, after_of}
+use Rattle.jc_after.specs.Arrays.{array_forms}
+use Rattle.jc_after.specs.Effects.{AreEffects, body_of}
+use Rattle.jc_after.specs.Steps.{step_in, HasLocal, is_picking}
+use Rattle.jc_after.proofs.EffectsLaws.{are_later}
+use Rattle.jc_after.proofs.LeaveLaws.{LeavesAlways}
+
+-- ---- local variables
+
+calm : Step → Bool
+calm (loads k w) = false
+calm (stores k w) = false
+calm (counts k) = false
+calm st = true
+
+abbrev InRange : ℕ → Step → Type 0
+InRange count (loads k w) = k < count
+InRange count (stores k w) = k < count
+InRange count (counts k) = k < count
+InRange count st = Unit {0}
+
+true_false : true ≡ false → ⊥
+true_false e = cc
+
+in_range : (count : ℕ) (st : Step) → calm st ≡ true → InRange count st
+unfolding calm
+in_range count (loads k w) e = absurd (true_false (sym e))
+in_range count (stores k w) e = absurd (true_false (sym e))
+in_range count (counts k) e = absurd (true_false (sym e))
+in_range count (moves forms) e = tt
+in_range count picks e = tt
+in_range count makes e = tt
+in_range count (builds f) e = tt
+in_range count fails e = tt
+
+if_calm : (b : Bool) (x y : Step) → calm x ≡ true → calm y ≡ true → calm (if b then x else y) ≡ true
+if_calm true x y p q = p
+if_calm false x y p q = q
+
+calm_field : (op : ℕ) (type : Option FieldType) → calm (field_step op type) ≡ true
+unfolding calm
+calm_field op None = refl
+calm_field op (Some type) = if_calm (nat_eq op ops.GETSTATIC) _ _ refl (if_calm (nat_eq op ops.PUTSTATIC) _ _ refl (if_calm (nat_eq op ops.GETFIELD) _ _ refl refl))
+
+calm_method : (op : ℕ) (name : List ℕ) (type : MethodType) → calm (method_step op name type) ≡ true
+unfolding calm
+calm_method op name type = if_calm (nat_eq op ops.INVOKESTATIC) _ _ refl (if_calm (nat_eq op ops.INVOKESPECIAL && bytes_eq name (codes "<init>")) _ _ refl refl)
+
+calm_member : (op : ℕ) (what : Option What) → calm (member_step op what) ≡ true
+unfolding calm
+calm_member op (Some (whats.Field class name desc)) = if_calm (nat_le op ops.PUTFIELD) _ _ (calm_field op (field_type_in desc)) refl
+calm_member op (Some (whats.Method class name desc)) = if_calm (nat_le op ops.PUTFIELD) _ _ refl (calm_method op name (method_type_in desc))
+calm_member op _ = refl
+
+calm_interface : (what : Option What) → calm (interface_step what) ≡ true
+unfolding calm
+calm_interface (Some (whats.Method class name desc)) = refl
+calm_interface _ = refl
+
+calm_dynamic : (what : Option What) → calm (dynamic_step what) ≡ true
+unfolding calm
+calm_dynamic (Some (whats.Call name desc)) = refl
+calm_dynamic _ = refl
+
+calm_computed : (type : Option FieldType) → calm (computed_step type) ≡ true
+unfolding calm
+calm_computed None = refl
+calm_computed (Some type) = refl
+
+calm_constant : (what : Option What) → calm (constant_step what) ≡ true
+unfolding calm
+calm_constant (Some (whats.Computed desc)) = calm_computed (field_type_in desc)
+calm_constant _ = refl
+
+calm_class : (op : ℕ) (what : Option What) → calm (class_step op what) ≡ true
+unfolding calm
+calm_class op (Some (whats.Class name)) =
+    if_calm (nat_eq op ops.NEW) _ _ refl (if_calm (nat_eq op ops.ANEWARRAY) _ _ (if_calm (nat_le (length (array_of name)) 65535) _ _ refl refl) (if_calm (nat_eq op ops.CHECKCAST) _ _ refl refl))
+calm_class op _ = refl
+
+calm_multi : (what : Option What) (dims : ℕ) → calm (multi_step what dims) ≡ true
+unfolding calm
+calm_multi (Some (whats.Class name)) dims = refl
+calm_multi _ dims = refl
+
+calm_simple : (returns : Option FieldType) (op : ℕ) → calm (simple_step returns op) ≡ true
+unfolding calm
+calm_simple returns op = if_calm (nat_eq op ops.AALOAD) _ _ refl (if_calm (is_return op) _ _ (if_calm (nat_eq op (return_op returns)) _ _ refl refl) refl)
+
+range_there : (uses : List Use) (returns : Option FieldType) (count : ℕ) (insn : Insn) → LocalsWithin count insn → InRange count (step_of uses returns insn)
+unfolding calm
+range_there uses returns count (insns.Local op slot) within = by (nat_lt op ops.ISTORE) (first (is_of_two_slots op) within)
+  where
+    first : (b : Bool) → AllByRecursion (λ s. s < count) (if b then slot ∷ (slot + 1) ∷ [] else slot ∷ []) → slot < count
+    first true w = w.0
+    first false w = w.0
+
+    by : (b : Bool) → slot < count → InRange count (if b then loads slot (local_want op) else stores slot (local_want op))
+    by true lt = lt
+    by false lt = lt
+range_there uses returns count (insns.Inc slot n) within = within.0
+range_there uses returns count (insns.Simple op) within = in_range count _ (calm_simple returns op)
+range_there uses returns count (insns.Push op value) within = tt
+range_there uses returns count (insns.Constant place) within = in_range count _ (calm_constant (what_used uses place))
+range_there uses returns count (insns.Constant2 place) within = in_range count _ (calm_constant (what_used uses place))
+range_there uses returns count (insns.Member op place) within = in_range count _ (calm_member op (what_used uses place))
+range_there uses returns count (insns.Interface place n) within = in_range count _ (calm_interface (what_used uses place))
+range_there uses returns count (insns.Dynamic place) within = in_range count _ (calm_dynamic (what_used uses place))
+range_there uses returns count (insns.OfClass op place) within = in_range count _ (calm_class op (what_used uses place))
+range_there uses returns count (insns.NewArray elem) within = tt
+range_there uses returns count (insns.Multi place dims) within = in_range count _ (calm_multi (what_used uses place) dims)
+range_there uses returns count (insns.Jump op to) within = tt
+range_there uses returns count (insns.Table low default arms) within = tt
+range_there uses returns count (insns.Lookup default arms) within = tt
+
+kept_range : (count : ℕ) (names : Names) (st : KeptStep) → InRange count (step_in names st) → HasLocal count st
+kept_range count names (steps.Load slot want) lt = lt
+kept_range count names (steps.Store slot want) lt = lt
+kept_range count names (steps.Count slot) lt = lt
+kept_range count names (steps.Opcode op) lt = tt
+kept_range count names (steps.Push k) lt = tt
+kept_range count names (steps.Take want) lt = tt
+kept_range count names (steps.Put want) lt = tt
+kept_range count names (steps.Turn want k) lt = tt
+kept_range count names (steps.Dimensions n k) lt = tt
+kept_range count names (steps.Call wanted result) lt = tt
+kept_range count names steps.Make lt = tt
+kept_range count names (steps.Build wanted result) lt = tt
+kept_range count names steps.Fail lt = tt
+
+-- ---- the instruction
+
+pub insn_here : (code other : List Insn) (i : ℕ) (x : Insn) → code ≡ other → i < length other → x ≡ get_or code i x → slice_get other i ≡ Some x
+insn_here code other i x same lt read = slice_get-get_or other i x lt ∙ ap Some (ap (λ (l : List Insn). get_or l i x) (sym same) ∙ sym read)
+
+pub local_there : (old : Names) (e : Effects) (i count : ℕ) (x : Insn) (st : KeptStep) → AreEffects old e → slice_get (body_of e).code i ≡ Some x → i < length (body_of e).code → count ≡ (body_of e).max_locals
+    → ((names : Names) → AreEffects names e → step_in names st ≡ step_of (body_of e).uses (returns_of (body_of e)) x) → HasLocal count st
+local_there old e i count x st are at lt counted kept =
+    kept_range count old st (subst (InRange count) (sym (kept old are)) (range_there (body_of e).uses (returns_of (body_of e)) count x
+    (subst (λ (n : ℕ). LocalsWithin n x) (sym counted) (subst (LocalsWithin (body_of e).max_locals) (some_is _ _ (sym (slice_get-get_or (body_of e).code i x lt) ∙ at)) (are.body.locals i x lt)))))
+  where
+    some_is : (a b : Insn) → Some a ≡ Some b → a ≡ b
+    some_is a b e = cc
+
+after_is : (b : Body) (i : ℕ) (s : Seen) (x : Insn) → insn_at b i ≡ Some x → after_of b i s ≡ apply (ground_of b i) (step_of b.uses (returns_of b) x) s
+unfolding after_of
+after_is b i s x at = ap (option_and_then (λ insn. apply (ground_of b i) (step_of b.uses (returns_of b) insn) s)) at
+
+-- ---- what is left
+
+pub leave_step : (old : Names) (e : Effects) (i : ℕ) (s : State) (x : Insn) (st : KeptStep) (r : Result (Option State) Memory) → AreEffects old e → IsNumberedState (length old) s → insn_at (body_of e) i ≡ Some x
+    → ((names : Names) → AreEffects names e → step_in names st ≡ step_of (body_of e).uses (returns_of (body_of e)) x)
+    → IfOk r (λ o. (names : Names) → AreEffects names e → option_map (seen names) o ≡ apply (ground_of (body_of e) i) (step_in names st) (seen names s)) → IfOk r (LeavesAlways old old (body_of e) i s)
+leave_step old e i s x st (Err f) are n at kept left = tt
+leave_step old e i s x st (Ok o) are n at kept left = λ more.
+    let later = are_later old (old ++ more) e (more, refl) are in
+    left (old ++ more) later ∙ ap₂ (apply (ground_of (body_of e) i)) (kept (old ++ more) later) (seen_stays old more s n) ∙ sym (after_is (body_of e) i (seen old s) x at)
+
+picking_step : (uses : List Use) (returns : Option FieldType) (x : Insn) → is_picking x ≡ true → step_of uses returns x ≡ picks
+picking_step uses returns (insns.Simple op) e = rw e refl
+picking_step uses returns (insns.Push op value) e = absurd (true_false (sym e))
+picking_step uses returns (insns.Local op slot) e = absurd (true_false (sym e))
+picking_step uses returns (insns.Inc slot n) e = absurd (true_false (sym e))
+picking_step uses returns (insns.Constant place) e = absurd (true_false (sym e))
+picking_step uses returns (insns.Constant2 place) e = absurd (true_false (sym e))
+picking_step uses returns (insns.Member op place) e = absurd (true_false (sym e))
+picking_step uses returns (insns.Interface place n) e = absurd (true_false (sym e))
+picking_step uses returns (insns.Dynamic place) e = absurd (true_false (sym e))
+picking_step uses returns (insns.OfClass op place) e = absurd (true_false (sym e))
+picking_step uses returns (insns.NewArray elem) e = absurd (true_false (sym e))
+picking_step uses returns (insns.Multi place dims) e = absurd (true_false (sym e))
+picking_step uses returns (insns.Jump op to) e = absurd (true_false (sym e))
+picking_step uses returns (insns.Table low default arms) e = absurd (true_false (sym e))
+picking_step uses returns (insns.Lookup default arms) e = absurd (true_false (sym e))
+
+pub leave_pick : (old new : Names) (b : Body) (i : ℕ) (s : State) (x : Insn) (r : Result (Option State) Memory) → insn_at b i ≡ Some x → is_picking x ≡ true
+    → IfOk r (λ o. (more : Names) → option_map (seen (new ++ more)) o ≡ picked b.max_stack (seen old s)) → IfOk r (LeavesAlways old new b i s)
+leave_pick old new b i s x (Err f) at picking left = tt
+leave_pick old new b i s x (Ok o) at picking left = λ more.
+    left more ∙ sym (after_is b i (seen old s) x at ∙ ap (λ (st : Step). apply (ground_of b i) st (seen old s)) (picking_step b.uses (returns_of b) x picking))
+
+pub leave_array : (old new : Names) (b : Body) (i elem : ℕ) (s : State) (x : Insn) (r : Result (Option State) Memory) → insn_at b i ≡ Some x → x ≡ insns.NewArray elem
+    → IfOk r (λ o. (more : Names) → option_map (seen (new ++ more)) o ≡ with_stack (seen old s) (moved_by b.max_stack (array_forms elem) (map (held old) s.stack))) → IfOk r (LeavesAlways old new b i s)
+leave_array old new b i elem s x (Err f) at is left = tt
+leave_array old new b i elem s x (Ok o) at is left = λ more. left more ∙ sym (after_is b i (seen old s) (insns.NewArray elem) (at ∙ ap Some is))
+
+-- ---- steps as they are kept
+
+pub built_there : (e : Effects) (s : State) (st : KeptStep) (F : Names → Form) (place : ℕ) (r : Result (Option State) Memory) → ((names : Names) → step_in names st ≡ builds (F names))
+    → IfOk r (λ o. (names : Names) (p : ℕ) → AreEffects names e → option_map (seen names) o ≡ built (ground_of (body_of e) p) (F names) (seen names s))
+    → IfOk r (λ o. (names : Names) → AreEffects names e → option_map (seen names) o ≡ apply (ground_of (body_of e) place) (step_in names st) (seen names s))
+built_there e s st F place (Err f) is left = tt
+built_there e s st F place (Ok o) is left = λ names are. left names place are ∙ sym (ap (λ (x : Step). apply (ground_of (body_of e) place) x (seen names s)) (is names))
+
+pub moved_there : (e : Effects) (s : State) (st : KeptStep) (F : Names → Form) (place : ℕ) (r : Result (Option State) Memory) → ((names : Names) → step_in names st ≡ moves (F names ∷ []))
+    → IfOk r (λ o. (names : Names) → option_map (seen names) o ≡ with_stack (seen names s) (moved_by (body_of e).max_stack (F names ∷ []) (map (held names) s.stack)))
+    → IfOk r (λ o. (names : Names) → AreEffects names e → option_map (seen names) o ≡ apply (ground_of (body_of e) place) (step_in names st) (seen names s))
+moved_there e s st F place (Err f) is left = tt
+moved_there e s st F place (Ok o) is left = λ names are. left names ∙ sym (ap (λ (x : Step). apply (ground_of (body_of e) place) x (seen names s)) (is names))

@@ -1,0 +1,6 @@
+use Rattle.std.proofs.Common.{◌≡◌, ◌+◌, map, drop}
+use Rattle.jc_base.specs.Held.{Names, held, slots}
+use Rattle.jc_after.proofs.moves.is_within.Given as goal
+
+abbrev pub invariant-counting : goal.invariant-counting
+invariant-counting l = (names : Names) → slots (map (held names) l.stack) + l.free ≡ l.most + slots (map (held names) (drop l.kind-index l.stack))

@@ -1,0 +1,8 @@
+use Rattle.std.proofs.Common.{◌≡◌, map, take, ◌++◌}
+use Rattle.jc_base.specs.Held.{Names, held}
+use Rattle.jc_after.specs.Step.{given_of}
+use Rattle.jc_after.specs.Shapes.{gives_of}
+use Rattle.jc_after.proofs.moves.move_stack.Given as goal
+
+abbrev pub invariant-giving : goal.invariant-giving
+invariant-giving l = (names : Names) → map (held names) l.after.items ≡ map (held names) (take l.base l.stack) ++ map (given_of (map (held names) l.operands)) (map (gives_of names) (take l.give-index l.gives))

@@ -1,0 +1,10 @@
+use Rattle.std.proofs.Common.{take}
+use Rattle.jc_base.specs.Held.{Grows}
+use Rattle.jc_after.specs.Does.{AllSay}
+use Rattle.jc_after.proofs.uses.all_effects.Given as goal
+
+abbrev pub invariant-reading : goal.invariant-reading
+invariant-reading l = record {
+  said : AllSay l.names (take l.entry-index l.uses) l.effects.items;
+  grown : Grows l.fn.names l.names;
+}

@@ -1,0 +1,12 @@
+pub mod Wants
+pub mod Step
+pub mod Table
+pub mod Shapes
+pub mod Objects
+pub mod After
+pub mod Arrays
+pub mod Does
+pub mod Steps
+pub mod Effects
+pub mod Answers
+pub mod Shift

@@ -1,0 +1,127 @@
+//! New arrays, and elements of arrays of references. They number the names of classes.
+ghost use Rattle.std.specs.Prelude.{◌≡◌, ◌++◌, true, false, map, length, replicate, IfOk, MatchOption, option_map};
+ghost use Rattle.jc_base.specs.Held.{Names, held, object, seen, Grows, IsNumbered, IsNumberedState};
+ghost use Rattle.jc_after.specs.Step.{is_array, is_array_name, element_of, element_name as name_of_elements, picked, with_stack, moved_by};
+ghost use Rattle.jc_after.specs.After.{element_letter as letter_of};
+ghost use Rattle.jc_after.specs.Arrays.{array_forms};
+ghost use Rattle.jc_after.specs.Table.{turns};
+ghost use Rattle.jc_after.specs.declared.want.Want.TheVariants as wants;
+
+use crate::Want;
+use crate::form::Give;
+use crate::moves::move_state;
+use jc_base::{Kind, Memory, Names, State};
+use std::alloc::Global;
+
+/// An object of the class with this name.
+pub fn object_of(alloc: Global, name: &[u8], names: &mut Names) -> Result<Kind, Memory>
+    ensures kind { IfOk result (λ kind. (more : Names) → held (names.new ++ more) kind ≡ object name.now) }
+    ensures names { Grows names.old names.new }
+{
+    Ok(Kind::Object(names.number(alloc, name)?))
+}
+
+/// The class of the elements of an array of references, by the name of the array's class.
+fn element_name(name: &[u8]) -> Option<&[u8]>
+    ensures { MatchOption result (is_array_name name.now ≡ false) (λ element. (is_array_name name.now ≡ true) × (element.now ≡ name_of_elements name.now)) }
+{
+    match name {
+        [b'[', b'[', ..] => Some(&name[1..]),
+        [b'[', b'L', rest @ ..] => Some(&rest[..rest.len().saturating_sub(1)]),
+        _ => None,
+    }
+}
+
+/// An element of an array of references, where it is one.
+fn element_in(alloc: Global, array: Kind, names: &mut Names) -> Result<Option<Kind>, Memory>
+    requires { IsNumbered (length names.old) array }
+    ensures element { IfOk result (λ o. MatchOption o (is_array (held names.old array) ≡ false) (λ kind.
+        (is_array (held names.old array) ≡ true) × ((more : Names) → held (names.new ++ more) kind ≡ element_of (held names.old array)))) }
+    ensures names { Grows names.old names.new }
+{
+    match array {
+        Kind::Null => Ok(Some(Kind::Null)),
+        Kind::Object(number) => {
+            let Some(name) = element_name(names.text(number)) else {
+                return Ok(None);
+            };
+            let name = Vec::from_slice(alloc, name)?;
+            Ok(Some(object_of(alloc, name.as_slice(), names)?))
+        }
+        _ => Ok(None),
+    }
+}
+
+/// The state after `aaload`.
+pub fn pick(
+    alloc: Global,
+    state: &State,
+    most: u16,
+    names: &mut Names,
+) -> Result<Option<State>, Memory>
+    requires { IsNumberedState (length names.old) state.now }
+    ensures after { IfOk result (λ o. (more : Names) → option_map (seen (names.new ++ more)) o ≡ picked most (seen names.old state.now)) }
+    ensures names { Grows names.old names.new }
+{
+    let stack = state.stack.as_slice();
+    if stack.len() < 2 {
+        return Ok(None);
+    }
+    let array = stack[stack.len() - 2];
+    let Some(element) = element_in(alloc, array, names)? else {
+        return Ok(None);
+    };
+    let gives = [Give::Kind(element)];
+    Ok(move_state(alloc, state, &[Want::Reference, Want::Int], &gives, most)?)
+}
+
+/// The letter of the elements' type, by the code of `newarray`.
+fn element_letter(elem: u8) -> u8
+    ensures { result ≡ letter_of elem }
+{
+    match elem {
+        4 => b'Z',
+        5 => b'C',
+        6 => b'F',
+        7 => b'D',
+        8 => b'B',
+        9 => b'S',
+        10 => b'I',
+        _ => b'J',
+    }
+}
+
+/// The state after `newarray`.
+pub fn new_array(
+    alloc: Global,
+    state: &State,
+    elem: u8,
+    most: u16,
+    names: &mut Names,
+) -> Result<Option<State>, Memory>
+    requires { IsNumberedState (length names.old) state.now }
+    ensures after { IfOk result (λ o. (more : Names) → option_map (seen (names.new ++ more)) o
+        ≡ with_stack (seen names.old state.now) (moved_by most (array_forms elem) (map (held names.old) state.now.stack))) }
+    ensures names { Grows names.old names.new }
+{
+    let class = object_of(alloc, &[b'[', element_letter(elem)], names)?;
+    Ok(move_state(alloc, state, &[Want::Int], &[Give::Kind(class)], most)?)
+}
+
+/// The most lengths that `multianewarray` takes.
+static INTS: [Want; 255] = [Want::Int; 255];
+
+/// The state after `multianewarray`.
+pub fn new_arrays(
+    alloc: Global,
+    state: &State,
+    count: u8,
+    class: Kind,
+    most: u16,
+) -> Result<Option<State>, Memory>
+    ensures { IfOk result (λ o. (names : Names) → option_map (seen names) o
+        ≡ with_stack (seen names state.now) (moved_by most (turns (replicate count wants.Int) (held names class)) (map (held names) state.now.stack))) }
+{
+    let ints = &INTS[..count as usize];
+    Ok(move_state(alloc, state, ints, &[Give::Kind(class)], most)?)
+}

@@ -1,0 +1,275 @@
+//! What the instructions of a body do to types.
+use crate::Want;
+use crate::arrays::{new_array, new_arrays, object_of, pick};
+use crate::by_opcode::move_by_opcode;
+use crate::effect::Effect;
+use crate::form::Give;
+use crate::locals::{count, load, store};
+use crate::moves::move_state;
+use crate::objects::{build_as, make};
+use crate::step::{
+    Step, class_of, class_step, constant_step, is_aaload, local_step, member_step, multi_step,
+    object_step, simple_step, static_step,
+};
+use crate::uses::{all_effects, effect_at, return_opcode};
+use crate::want::are_accepted;
+use jc_base::{Body, Insn, Kind, List, Memory, Names, State, opcode};
+use std::alloc::Global;
+
+/// What the instructions of a body do to types, with each descriptor read once.
+#[derive(Debug, Drop)]
+pub struct Effects<'a> {
+    body: &'a Body,
+    /// One for each of the body's uses, in their order.
+    uses: List<Effect>,
+    /// An object of the body's class.
+    owner: Kind,
+    /// The opcode of the method's returns.
+    returns: u8,
+}
+
+impl<'a> Effects<'a> {
+    ghost use Rattle.std.specs.Prelude.{◌≡◌, ◌<◌, ◌++◌, ℕ, length, All, IfOk, IfSome, Some, option_map, slice_get};
+    ghost use Rattle.jc_base.specs.Held.{Names, Grows, held, object, seen};
+    ghost use Rattle.jc_base.specs.InsnUse.{pool_place, Suits};
+    ghost use Rattle.jc_base.specs.WellMade.{HasUse, IsKind, IsWellMadeOfAnySize, what_used};
+    ghost use Rattle.jc_base.specs.declared.body.What.{What};
+    ghost use Rattle.jc_base.specs.declared.insn.Insn.TheVariants as insns;
+    ghost use Rattle.jc_base.specs.declared.opcode.TheConstants as ops;
+    ghost use Rattle.jc_after.specs.After.{after_of, ground_of, insn_at, new_class, returns_of, step_of};
+    ghost use Rattle.jc_after.specs.Answers.{IsStateOf, IsWhole, LeavesState};
+    ghost use Rattle.jc_after.specs.Does.{does, does_of, IsDescribed};
+    ghost use Rattle.jc_after.specs.Effects.{AreEffects, body_of, IsRead};
+    ghost use Rattle.jc_after.specs.Shapes.{form_of};
+    ghost use Rattle.jc_after.specs.Step.{apply as apply_step, built as built_held, class_built as class_held};
+    ghost use Rattle.jc_after.specs.Steps.{step_in, results, HasLocal, NumbersNothing};
+    ghost use Rattle.jc_after.specs.Table.{form};
+
+    /// What the instructions of the body do to types.
+    ///
+    /// # Errors
+    ///
+    /// `Memory` where memory was refused, or where a class is new and the list has 4,294,967,295 names.
+    pub fn of(alloc: Global, body: &'a Body, names: &mut Names) -> Result<Effects<'a>, Memory>
+        requires { IsWellMadeOfAnySize body.now }
+        ensures effects { IfOk result (λ effects. AreEffects names.new effects) }
+        ensures body { IfOk result (λ effects. body_of effects ≡ body.now) }
+        ensures names { Grows names.old names.new }
+    {
+        let uses = all_effects(alloc, &body.uses, names)?;
+        let owner = object_of(alloc, &body.owner, names)?;
+        let returns = return_opcode(alloc, &body.desc)?;
+        Ok(Effects {
+            body,
+            uses,
+            owner,
+            returns,
+        })
+    }
+
+    /// What the entry for a place does to types.
+    fn at(&self, place: u16) -> &Effect
+        requires read { IsRead self.now }
+        requires used { (what : What) × (what_used (body_of self.now).uses place ≡ Some what) }
+        ensures { (names : Names) (what : What) → AreEffects names self.now → what_used (body_of self.now).uses place ≡ Some what → IsDescribed what → does names result.now ≡ does_of what }
+    {
+        effect_at(&self.body.uses, &self.uses, place)
+    }
+
+    /// What an instruction does to types.
+    fn step(&self, insn: &Insn) -> Step<'_>
+        requires read { IsRead self.now }
+        requires used { (place : ℕ) → pool_place insn.now ≡ Some place → HasUse (body_of self.now).uses place (Suits insn.now) }
+        requires numbers { NumbersNothing insn.now }
+        ensures { (names : Names) → AreEffects names self.now → step_in names result ≡ step_of (body_of self.now).uses (returns_of (body_of self.now)) insn.now }
+    {
+        match insn {
+            Insn::Simple(op) => simple_step(self.returns, *op),
+            Insn::Push { op, .. } => Step::Opcode(*op),
+            Insn::Jump { op, .. } => Step::Opcode(*op),
+            Insn::Local { op, slot } => local_step(*op, *slot),
+            Insn::Inc { slot, .. } => Step::Count(*slot),
+            Insn::Constant { place } => constant_step(self.at(*place)),
+            Insn::Constant2 { place } => constant_step(self.at(*place)),
+            Insn::Member { op, place } => member_step(*op, self.at(*place)),
+            Insn::Interface { place, .. } => object_step(self.at(*place)),
+            Insn::Dynamic { place } => static_step(self.at(*place)),
+            Insn::OfClass { op, place } => class_step(*op, self.at(*place)),
+            Insn::Multi { place, dims } => multi_step(*dims, self.at(*place)),
+            Insn::NewArray { .. } => Step::Fail,
+            Insn::Table { .. } => Step::Opcode(opcode::TABLESWITCH),
+            Insn::Lookup { .. } => Step::Opcode(opcode::LOOKUPSWITCH),
+        }
+    }
+
+    /// The class of the objects that the `new` with this number makes.
+    fn class_made(&self, at: u32) -> Option<Kind>
+        requires read { IsRead self.now }
+        requires made { (place : ℕ) × (slice_get (body_of self.now).code at ≡ Some (insns.OfClass ops.NEW place)) }
+        ensures { (names : Names) → AreEffects names self.now → option_map (held names) result ≡ Some (object (new_class (body_of self.now).uses (insn_at (body_of self.now) at))) }
+    {
+        let place = self.body.code[at as usize].pool_place()?;
+        class_of(self.at(place))
+    }
+
+    /// The class of an object whose constructor is called: that of its `new`, or the method's.
+    fn class_built(&self, old: Kind) -> Option<Kind>
+        requires read { IsRead self.now }
+        requires kind { IsKind (body_of self.now).code old }
+        ensures { (names : Names) (place : ℕ) → AreEffects names self.now → option_map (held names) result ≡ option_map object (class_held (ground_of (body_of self.now) place) (held names old)) }
+    {
+        match old {
+            Kind::Uninit(at) => self.class_made(at),
+            Kind::UninitThis => Some(self.owner),
+            _ => None,
+        }
+    }
+
+    /// The state after a constructor was called.
+    fn build(
+        &self,
+        alloc: Global,
+        state: &State,
+        wants: &[Want],
+        gives: &[Give],
+    ) -> Result<Option<State>, Memory>
+        requires read { IsRead self.now }
+        requires kinds { All (IsKind (body_of self.now).code) state.now.stack }
+        ensures { IfOk result (λ o. (names : Names) (place : ℕ) → AreEffects names self.now → option_map (seen names) o
+            ≡ built_held (ground_of (body_of self.now) place) (form_of names wants.now gives.now) (seen names state.now)) }
+    {
+        let stack = state.stack.as_slice();
+        if stack.len() <= wants.len() {
+            return Ok(None);
+        }
+        let base = stack.len() - wants.len();
+        if !are_accepted(wants, &stack[base..]) {
+            return Ok(None);
+        }
+        let old = stack[base - 1];
+        match self.class_built(old) {
+            Some(class) => Ok(build_as(
+                alloc,
+                state,
+                old,
+                class,
+                &stack[..base - 1],
+                gives,
+                self.body.max_stack,
+            )?),
+            None => Ok(None),
+        }
+    }
+
+    /// The state after a constructor was called, with what its method leaves.
+    fn build_with(
+        &self,
+        alloc: Global,
+        state: &State,
+        wants: &[Want],
+        outcome: Option<Kind>,
+    ) -> Result<Option<State>, Memory>
+        requires read { IsRead self.now }
+        requires kinds { All (IsKind (body_of self.now).code) state.now.stack }
+        ensures { IfOk result (λ o. (names : Names) (place : ℕ) → AreEffects names self.now → option_map (seen names) o
+            ≡ built_held (ground_of (body_of self.now) place) (form wants.now (results (option_map (held names) outcome))) (seen names state.now)) }
+    {
+        match outcome {
+            Some(kind) => Ok(self.build(alloc, state, wants, &[Give::Kind(kind)])?),
+            None => Ok(self.build(alloc, state, wants, &[])?),
+        }
+    }
+
+    /// The state after a step.
+    fn apply(
+        &self,
+        alloc: Global,
+        state: &State,
+        step: Step<'_>,
+        place: u32,
+    ) -> Result<Option<State>, Memory>
+        requires read { IsRead self.now }
+        requires local { HasLocal (length state.now.locals) step }
+        requires kinds { All (IsKind (body_of self.now).code) state.now.stack }
+        ensures { IfOk result (λ o. (names : Names) → AreEffects names self.now → option_map (seen names) o
+            ≡ apply_step (ground_of (body_of self.now) place) (step_in names step.entry) (seen names state.now)) }
+    {
+        let most = self.body.max_stack;
+        match step {
+            Step::Opcode(op) => move_by_opcode(alloc, state, op, most),
+            Step::Push(kind) => move_state(alloc, state, &[], &[Give::Kind(kind)], most),
+            Step::Take(want) => move_state(alloc, state, &[want], &[], most),
+            Step::Put(want) => move_state(alloc, state, &[Want::Target, want], &[], most),
+            Step::Turn(want, kind) => move_state(alloc, state, &[want], &[Give::Kind(kind)], most),
+            Step::Dimensions(count, kind) => new_arrays(alloc, state, count, kind, most),
+            Step::Call(wants, Some(kind)) => move_state(
+                alloc,
+                state,
+                wants,
+                &[Give::Kind(kind)],
+                most,
+            ),
+            Step::Call(wants, None) => move_state(alloc, state, wants, &[], most),
+            Step::Load(slot, want) => load(alloc, state, slot, want, most),
+            Step::Store(slot, want) => store(alloc, state, slot, want),
+            Step::Count(slot) => count(alloc, state, slot),
+            Step::Make => make(alloc, state, place, most),
+            Step::Build(wants, outcome) => self.build_with(alloc, state, wants, outcome),
+            Step::Fail => Ok(None),
+        }
+    }
+
+    /// The state after an instruction, under all longer lists of names.
+    fn leave(
+        &self,
+        alloc: Global,
+        state: &State,
+        i: u32,
+        names: &mut Names,
+    ) -> Result<Option<State>, Memory>
+        requires effects { AreEffects names.old self.now }
+        requires place { i < length (body_of self.now).code }
+        requires state { IsStateOf (length names.old) (body_of self.now) state.now }
+        ensures after { IfOk result (λ after. (more : Names) → option_map (seen (names.new ++ more)) after ≡ after_of (body_of self.now) i (seen names.old state.now)) }
+        ensures names { Grows names.old names.new }
+    {
+        let insn = &self.body.code[i as usize];
+        if is_aaload(insn) {
+            return pick(alloc, state, self.body.max_stack, names);
+        }
+        match insn {
+            Insn::NewArray { elem } => new_array(alloc, state, *elem, self.body.max_stack, names),
+            _ => self.apply(alloc, state, self.step(insn), i),
+        }
+    }
+
+    /// The types after the instruction with this number, where it may be reached with the types before it. There
+    /// are none exactly where an operand is missing or of another kind, where the stack hasn't slots enough, or
+    /// where one of the other rules of the instruction is broken.
+    ///
+    /// # Errors
+    ///
+    /// `Memory` where memory was refused, or where a class is new and the list has 4,294,967,295 names.
+    pub fn after(
+        &self,
+        alloc: Global,
+        state: &State,
+        i: u32,
+        names: &mut Names,
+    ) -> Result<Option<State>, Memory>
+        requires effects { AreEffects names.old self.now }
+        requires place { i < length (body_of self.now).code }
+        requires state { IsStateOf (length names.old) (body_of self.now) state.now }
+        ensures after { IfOk result (λ after. LeavesState names.old names.new (body_of self.now) i state.now after) }
+        ensures next { IfOk result (λ after. IfSome after (λ s. IsStateOf (length names.new) (body_of self.now) s)) }
+
+        // A state that is well made leaves one that is.
+        ensures whole { IfOk result (λ after. IfSome after (λ s. IsWhole (body_of self.now) state.now → IsWhole (body_of self.now) s)) }
+        ensures names { Grows names.old names.new }
+
+        // They are the effects under the names that there are then, after a refusal too.
+        ensures effects { AreEffects names.new self.now }
+    {
+        self.leave(alloc, state, i, names)
+    }
+}

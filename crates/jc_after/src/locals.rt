@@ -1,0 +1,125 @@
+//! Loads and stores of local variables. No class is named, so the clauses hold under all names.
+ghost use Rattle.std.specs.Prelude.{◌≡◌, ◌<◌, length, map, IfOk, option_map};
+ghost use Rattle.jc_base.specs.Held.{Names, held, seen, is_pair as is_pair_held};
+ghost use Rattle.jc_after.specs.Step.{cleared as cleared_held, clear_before as cleared_before, put_second as with_second, put_local as with_local, loaded, stored, counted};
+
+use crate::Want;
+use crate::form::Give;
+use crate::moves::move_state;
+use crate::want::accepts;
+use jc_base::{Kind, List, Memory, State, TryClone};
+use std::alloc::Global;
+
+/// Whether a value takes two slots.
+fn is_pair(kind: Kind) -> bool
+    ensures { (names : Names) → result ≡ is_pair_held (held names kind) }
+{
+    matches!(kind, Kind::Long | Kind::Double)
+}
+
+/// The type of a local variable once the next one was written: half of a long or a double is no value.
+fn cleared(kind: Kind) -> Kind
+    ensures { (names : Names) → held names result ≡ cleared_held (held names kind) }
+{
+    match kind {
+        Kind::Long | Kind::Double => Kind::Top,
+        Kind::Top => Kind::Top,
+        Kind::Int => Kind::Int,
+        Kind::Float => Kind::Float,
+        Kind::Null => Kind::Null,
+        Kind::UninitThis => Kind::UninitThis,
+        Kind::Object(number) => Kind::Object(number),
+        Kind::Uninit(at) => Kind::Uninit(at),
+    }
+}
+
+/// Clears a long or a double that began one local variable before.
+fn clear_before(locals: &mut Vec<Kind>, slot: usize)
+    requires { slot < length locals.old.items }
+    ensures locals { (names : Names) → map (held names) locals.new.items ≡ cleared_before slot (map (held names) locals.old.items) }
+    ensures count { length locals.new.items ≡ length locals.old.items }
+{
+    if slot == 0 {
+        return;
+    }
+    let before = cleared(locals[slot - 1]);
+    locals[slot - 1] = before;
+}
+
+/// Writes the second local variable of a long or a double.
+fn put_second(locals: &mut Vec<Kind>, slot: usize, kind: Kind)
+    requires { slot < length locals.old.items }
+    ensures { (names : Names) → map (held names) locals.new.items ≡ with_second (held names kind) slot (map (held names) locals.old.items) }
+{
+    if !is_pair(kind) {
+        return;
+    }
+    let second = slot + 1;
+    if second >= locals.len() {
+        return;
+    }
+    locals[second] = Kind::Top;
+}
+
+/// The local variables after a value was stored in one.
+fn put_local(alloc: Global, locals: &[Kind], slot: usize, kind: Kind) -> Result<List<Kind>, Memory>
+    requires { slot < length locals.now }
+    ensures { IfOk result (λ after. (names : Names) → map (held names) after ≡ with_local slot (held names kind) (map (held names) locals.now)) }
+{
+    let mut after = Vec::from_slice(alloc, locals)?;
+    clear_before(&mut after, slot);
+    after[slot] = kind;
+    put_second(&mut after, slot, kind);
+    Ok(List::from_vec(after))
+}
+
+/// The state with a local variable pushed.
+pub fn load(
+    alloc: Global,
+    state: &State,
+    slot: u16,
+    want: Want,
+    most: u16,
+) -> Result<Option<State>, Memory>
+    requires { slot < length state.now.locals }
+    ensures { IfOk result (λ o. (names : Names) → option_map (seen names) o ≡ loaded most slot want (seen names state.now)) }
+{
+    let kind = state.locals[slot as usize];
+    if !accepts(want, kind) {
+        return Ok(None);
+    }
+    Ok(move_state(alloc, state, &[], &[Give::Kind(kind)], most)?)
+}
+
+/// The state with the value on top stored in a local variable.
+pub fn store(alloc: Global, state: &State, slot: u16, want: Want) -> Result<Option<State>, Memory>
+    requires { slot < length state.now.locals }
+    ensures { IfOk result (λ o. (names : Names) → option_map (seen names) o ≡ stored slot want (seen names state.now)) }
+{
+    let stack = state.stack.as_slice();
+    if stack.is_empty() {
+        return Ok(None);
+    }
+    let base = stack.len() - 1;
+    let kind = stack[base];
+    if !accepts(want, kind) {
+        return Ok(None);
+    }
+    let below = Vec::from_slice(alloc, &stack[..base])?;
+    let locals = put_local(alloc, &state.locals, slot as usize, kind)?;
+    Ok(Some(State {
+        locals,
+        stack: List::from_vec(below),
+    }))
+}
+
+/// The state after a local variable was added to.
+pub fn count(alloc: Global, state: &State, slot: u16) -> Result<Option<State>, Memory>
+    requires { slot < length state.now.locals }
+    ensures { IfOk result (λ o. (names : Names) → option_map (seen names) o ≡ counted slot (seen names state.now)) }
+{
+    if !accepts(Want::Int, state.locals[slot as usize]) {
+        return Ok(None);
+    }
+    Ok(Some(state.try_clone(alloc)?))
+}
