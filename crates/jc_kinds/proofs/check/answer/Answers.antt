@@ -1,0 +1,41 @@
+use Rattle.std.proofs.Common.{arith, rules, ◌≤◌, length, ap, sym, subst, List}
+use Rattle.jc_base.specs.declared.fail.Fail.{Fail}
+use Rattle.jc_base.specs.declared.kind.State.{State}
+use Rattle.jc_base.specs.declared.refusal.Refusal.{Refusal}
+use Rattle.jc_base.specs.Least.{IsNowhere}
+use Rattle.jc_kinds.specs.Checked.{IsMissing}
+use Rattle.jc_kinds.specs.Answers.{Said, IsKindRefusal}
+use Rattle.jc_kinds.proofs.MissingLaws.{few_insns}
+use Rattle.jc_kinds.proofs.AnswerLaws.{few_states, same_guard, clash_answered_at, states_answered_all, frames_inside}
+use Rattle.jc_kinds.proofs.RefusalLaws.{clash_refused}
+use Rattle.jc_kinds.proofs.check.answer.Goals as goal
+
+pub frame_numbers-requires-clause-within : goal.frame_numbers-requires-clause-within
+frame_numbers-requires-clause-within c = frames_inside c.args.body.now c.deref.result.now c.len.result c.requires.body c.deref.ensures c.len.ensures
+
+pub first_unguarded-requires-clause-small : goal.first_unguarded-requires-clause-small
+first_unguarded-requires-clause-small c =
+    let few = few_states c.args.names.now c.states_before_clash.new.names c.args.body.now c.in_ok-states.states.items c.requires.body c.in_ok-states.ensures.walk in
+    let same = ap (λ (l : List State). length l) c.deref-4.ensures.value in
+    omega (arith, few, same)
+
+pub overflow_cast-place : goal.overflow_cast-place
+overflow_cast-place c = let few : length c.args.body.now.code ≤ 65535 = few_insns c.args.body.now c.requires.body in search rules
+
+pub returns-then-place-len-clause-answer : goal.returns-then-place-len-clause-answer
+returns-then-place-len-clause-answer c =
+    let missing : IsNowhere (IsMissing c.args.body.now) = search rules in
+    let first = same_guard c.args.body.now c.in_ok-states.states.items c.deref-4.result.now c.deref-5.result.now c.deref-7.result.now c.from-slots.result c.in_ok-place-2.place
+    c.deref-4.ensures.value c.deref-5.ensures c.deref-7.ensures c.from-slots.ensures c.in_ok-place-2.ensures in
+    subst (λ (e : Fail Refusal). Said e (IsKindRefusal c.states_before_clash.new.names c.args.body.now)) (sym c.refused-then-place-len.ensures)
+    (clash_refused c.states_before_clash.new.names c.args.body.now c.in_ok-place-2.place
+    (clash_answered_at c.args.names.now c.states_before_clash.new.names c.args.body.now c.in_ok-states.states.items c.in_ok-place-2.place c.requires.body missing c.requires.frames
+    c.in_ok-states.ensures.walk first (search rules)))
+
+pub returns-clause-answer : goal.returns-clause-answer
+returns-clause-answer c =
+    let missing : IsNowhere (IsMissing c.args.body.now) = search rules in
+    let first = same_guard c.args.body.now c.in_ok-states.states.items c.deref-4.result.now c.deref-5.result.now c.deref-7.result.now c.from-slots.result c.in_ok-place-2.place
+    c.deref-4.ensures.value c.deref-5.ensures c.deref-7.ensures c.from-slots.ensures c.in_ok-place-2.ensures in
+    states_answered_all c.args.names.now c.states_before_clash.new.names c.args.body.now c.in_ok-states.states.items c.in_ok-place-2.place c.requires.body missing c.requires.frames
+    c.in_ok-states.ensures.walk first (search rules)

@@ -1,0 +1,10 @@
+use Rattle.jc_after.specs.Effects.{AreEffects}
+use Rattle.jc_kinds.proofs.WalkLaws.{IsWalking}
+use Rattle.jc_kinds.proofs.walk.walk.Given as goal
+
+-- the states so far
+abbrev pub invariant-walking : goal.invariant-walking
+invariant-walking l = record {
+  walking : IsWalking l.fn.names l.names l.body l.states.items l.at l.state;
+  effects : AreEffects l.names l.effects;
+}

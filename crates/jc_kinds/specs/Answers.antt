@@ -1,0 +1,58 @@
+-- What the kind check answers.
+use Rattle.std.specs.Prelude.{◌≡◌, ⊤, ℕ, List, length, Some, Result, Ok, Err, Vec, slice_get}
+use Rattle.jc_base.specs.declared.kind.State.{State}
+use Rattle.jc_base.specs.declared.body.Body.{Body}
+use Rattle.jc_base.specs.declared.fail.Fail.{Fail}
+use Rattle.jc_base.specs.declared.fail.Fail.TheVariants as fails
+use Rattle.jc_base.specs.declared.refusal.Refusal.{Refusal}
+use Rattle.jc_base.specs.declared.refusal.RefusalKind.{RefusalKind}
+use Rattle.jc_base.specs.declared.refusal.RefusalKind.TheVariants as kinds
+use Rattle.jc_base.specs.Held.{Names, seen, IsNumberedState}
+use Rattle.jc_base.specs.WellMade.{IsState}
+use Rattle.jc_kinds.specs.States.{state_of}
+use Rattle.jc_kinds.specs.Checked.{Checked, FirstMissing, FirstClash}
+use Rattle.std.specs.declared.alloc.Global.{Global}
+
+-- The state before an instruction, well made: it has a type for each local variable and room on the stack, and its
+-- class numbers are among the names.
+pub record IsStateAt (names : Names) (b : Body) (i : ℕ) (s : State) : Type 0 where
+  pub is : state_of names b i ≡ Some (seen names s)
+  pub numbered : IsNumberedState (length names) s
+  pub well_made : IsState b.code b.max_locals b.max_stack s
+
+-- one state for each instruction, that before it
+pub record AreStates (names : Names) (b : Body) (states : List State) : Type 0 where
+  pub count : length states ≡ length b.code
+  pub each : (i : ℕ) (s : State) → slice_get states i ≡ Some s → IsStateAt names b i s
+
+-- a missing frame, or else states that don't fit
+abbrev pub IsKindReason : Names → Body → RefusalKind → ℕ → Type 0
+IsKindReason names b kinds.FrameMissing place = FirstMissing b place
+IsKindReason names b kinds.FrameClash place = FirstClash names b place
+IsKindReason names b kind place = ⊥
+
+-- the refusal names the method, and the reason
+pub record IsKindRefusal (names : Names) (b : Body) (refusal : Refusal) : Type 0 where
+  pub method_is : refusal.method ≡ Some b.method
+  pub reason : IsKindReason names b refusal.kind refusal.place
+
+-- memory may run out at any time; else the refusal is one of these
+abbrev pub Said : Fail Refusal → (Refusal → Type 0) → Type 0
+Said fails.Memory Fact = ⊤
+Said (fails.Said refusal) Fact = Fact refusal
+
+-- the states, or the reason for which there are none
+abbrev pub IsAnswer : Names → Body → Result (Vec State Global) (Fail Refusal) → Type 0
+IsAnswer names b (Ok states) = Checked names b × AreStates names b states.items
+IsAnswer names b (Err e) = Said e (IsKindRefusal names b)
+
+-- ---- refusals
+
+abbrev pub refusal_of : Body → RefusalKind → ℕ → Refusal
+refusal_of b kind place = record { kind = kind; method = Some b.method; place = place }
+
+abbrev pub lacks_frame : Body → ℕ → Refusal
+lacks_frame b place = refusal_of b kinds.FrameMissing place
+
+abbrev pub has_clash : Body → ℕ → Refusal
+has_clash b place = refusal_of b kinds.FrameClash place

@@ -1,0 +1,14 @@
+pub mod Fits
+pub mod States
+pub mod Checked
+pub mod Checking
+pub mod Answers
+pub mod KindFits
+pub mod Frames
+pub mod Marks
+pub mod First
+pub mod Runs
+pub mod Guarded
+pub mod Walk
+pub mod StateShift
+pub mod TestBodies

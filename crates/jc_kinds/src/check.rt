@@ -1,0 +1,126 @@
+//! The kind check of a body.
+ghost use Rattle.std.specs.Prelude.{◌≡◌, ◌⊎◌, ⊤, ℕ, Some, length, IfOk, IfErr, MatchResult};
+ghost use Rattle.jc_base.specs.Held.{Grows, AreNumberedFrames};
+ghost use Rattle.jc_base.specs.WellMade.{IsWellMade};
+ghost use Rattle.jc_base.specs.Least.{IsNowhere};
+ghost use Rattle.jc_kinds.specs.Checked.{Checked, IsMissing, FirstMissing, FirstClash};
+ghost use Rattle.jc_kinds.specs.Frames.{AreNumbers};
+ghost use Rattle.jc_kinds.specs.Walk.{IsWalkFrom, IsKeptEntry};
+ghost use Rattle.jc_kinds.specs.Answers.{AreStates, IsKindRefusal, Said, IsAnswer, refusal_of, lacks_frame, has_clash};
+
+use crate::frames::frame_numbers;
+use crate::guarded::first_unguarded;
+use crate::missing::first_missing;
+use crate::walk::walk;
+use jc_after::Effects;
+use jc_base::{Body, Fail, Memory, Names, Refusal, RefusalKind, State, entry_state};
+use std::alloc::Global;
+
+/// The state in which the method begins. The arguments of a well made body fit, so that only memory may be
+/// wanting.
+fn entry_of(alloc: Global, body: &Body, names: &mut Names) -> Result<State, Memory>
+    requires { IsWellMade body.now }
+    ensures state { IfOk result (λ state. IsKeptEntry names.new body.now state) }
+    ensures names { Grows names.old names.new }
+{
+    match entry_state(
+        alloc,
+        &body.owner,
+        &body.name,
+        &body.desc,
+        body.flags,
+        body.max_locals,
+        names,
+    ) {
+        Ok(state) => Ok(state),
+        Err(_) => Err(Memory),
+    }
+}
+
+/// The states before the instructions in front of the first one whose states don't fit.
+fn states_before_clash(
+    alloc: Global,
+    body: &Body,
+    numbers: &[u32],
+    names: &mut Names,
+) -> Result<Vec<State>, Memory>
+    requires body { IsWellMade body.now }
+    requires frames { AreNumberedFrames (length names.old) body.now.frames }
+    requires numbers { AreNumbers body.now.frames (length body.now.code) numbers.now }
+    requires missing { IsNowhere (IsMissing body.now) }
+    ensures walk { IfOk result (λ states. IsWalkFrom names.old names.new body.now states.items) }
+    ensures names { Grows names.old names.new }
+{
+    let entry = entry_of(alloc, body, names)?;
+    let effects = Effects::of(alloc, body, names)?;
+    walk(alloc, &effects, body, numbers, entry, names)
+}
+
+/// The states, or why there are none.
+fn answer(alloc: Global, body: &Body, names: &mut Names) -> Result<Vec<State>, Fail<Refusal>>
+    requires body { IsWellMade body.now }
+    requires frames { AreNumberedFrames (length names.old) body.now.frames }
+    ensures answer { IsAnswer names.new body.now result }
+    ensures names { Grows names.old names.new }
+{
+    let numbers = frame_numbers(alloc, &body.frames, body.code.len())?;
+    if let Some(place) = first_missing(alloc, body, &numbers)? {
+        return Err(refused(body, RefusalKind::FrameMissing, place));
+    }
+    let states = states_before_clash(alloc, body, &numbers, names)?;
+    let slots = usize::from(body.max_locals);
+    let place = first_unguarded(
+        alloc,
+        &states,
+        &body.frames,
+        &numbers,
+        &body.handlers,
+        slots,
+    )?;
+    if place < body.code.len() {
+        return Err(refused(body, RefusalKind::FrameClash, place as u32));
+    }
+    Ok(states)
+}
+
+/// A refusal of the method.
+fn refused(body: &Body, kind: RefusalKind, place: u32) -> Fail<Refusal>
+    ensures { result ≡ Fail.Said (refusal_of body.now kind place) }
+{
+    Fail::Said(Refusal {
+        kind,
+        method: Some(body.method),
+        place,
+    })
+}
+
+/// The state before each instruction of a body (JVM Specification 4.10.1.6): the types of its local variables and
+/// of the operand stack. Classes aren't compared: an object fits any class.
+///
+/// # Errors
+///
+/// `Memory` where memory was refused, or where a class is new and the list has 4,294,967,295 names. Then, and
+/// after a refusal, `names` may have more names.
+///
+/// `Said`, of the body's method, the first of these that applies, at the least instruction:
+/// - `FrameMissing` where the target of a jump, of a switch or of an exception row has no frame, or an instruction
+///   other than the first into which control can't fall;
+/// - `FrameClash` where the first instruction has a frame that the state in which the method begins doesn't fit,
+///   where an instruction has no state after it, where that state doesn't fit where a branch leads, or where the
+///   local variables before an instruction, with what is caught, don't fit a handler that guards it.
+pub fn states(alloc: Global, body: &Body, names: &mut Names) -> Result<Vec<State>, Fail<Refusal>>
+    requires body { IsWellMade body.now }
+    requires frames { AreNumberedFrames (length names.old) body.now.frames }
+    // What is answered is so.
+    ensures states { IfOk result (λ states. Checked names.new body.now × AreStates names.new body.now states.items) }
+    ensures refused { IfErr result (λ e. Said e (IsKindRefusal names.new body.now)) }
+    // What is so is answered, unless memory runs out.
+    ensures checked { Checked names.new body.now → MatchResult result (λ _. ⊤) (λ e. e ≡ Fail.Memory) }
+    ensures missing { (i : ℕ) → FirstMissing body.now i
+        → MatchResult result (λ _. ⊥) (λ e. (e ≡ Fail.Memory) ⊎ (e ≡ Fail.Said (lacks_frame body.now i))) }
+    ensures clash { (i : ℕ) → FirstClash names.new body.now i
+        → MatchResult result (λ _. ⊥) (λ e. (e ≡ Fail.Memory) ⊎ (e ≡ Fail.Said (has_clash body.now i))) }
+    ensures names { Grows names.old names.new }
+{
+    answer(alloc, body, names)
+}

@@ -1,0 +1,174 @@
+//! The first instruction whose local variables don't fit a handler that guards it (JVM Specification 4.10.1.6).
+//! The work is in proportion to the local variables times the instructions and the rows together.
+ghost use Rattle.std.specs.Prelude.{◌≡◌, ◌<◌, ◌≤◌, false, true, [], ◌∷◌, length, All, IfOk};
+ghost use Rattle.jc_kinds.specs.First.{IsFirst};
+ghost use Rattle.jc_kinds.specs.Frames.{frame_in, AreNumbers};
+ghost use Rattle.jc_kinds.specs.Runs.{AreEnds};
+ghost use Rattle.jc_kinds.specs.Guarded.{column_of, local_at, wanted_at, catches, frame_catches, IsUncaught, IsUnfitInColumn, IsUnfitInRow, IsUnguarded};
+
+use crate::frames::frame_at;
+use crate::runs::{first_unfit, run_ends};
+use jc_base::{FrameAt, Handler, Kind, Memory, State};
+use std::alloc::Global;
+
+/// Whether a reference that is caught may stand alone on a stack.
+fn catches(stack: &[Kind]) -> bool
+    ensures { result ≡ catches stack.now }
+{
+    match stack {
+        [kind] => matches!(kind, Kind::Top | Kind::Object(_)),
+        _ => false,
+    }
+}
+
+/// Whether the frame at which a handler begins takes the reference that is caught.
+fn frame_catches(frames: &[FrameAt], numbers: &[u32], target: u32) -> bool
+    requires { AreNumbers frames.now (length numbers.now) numbers.now }
+    ensures { result ≡ frame_catches (frame_in frames.now target) }
+{
+    match frame_at(frames, numbers, target) {
+        Some(frame) => catches(&frame.stack),
+        None => true,
+    }
+}
+
+/// The first instruction that a row guards whose handler doesn't take the reference that is caught, or the bound.
+fn first_uncaught(frames: &[FrameAt], numbers: &[u32], handlers: &[Handler], bound: usize) -> usize
+    requires rows { All (λ h. h.start < h.end) handlers.now }
+    requires numbers { AreNumbers frames.now (length numbers.now) numbers.now }
+    ensures { IsFirst (IsUncaught frames.now handlers.now) bound result }
+{
+    let mut first = bound;
+    'catching: for handler in handlers {
+        first = first_in_range(frames, numbers, *handler, first);
+    }
+    first
+}
+
+/// The first instruction that a row guards where its handler doesn't take the reference that is caught, or the
+/// bound.
+fn first_in_range(frames: &[FrameAt], numbers: &[u32], handler: Handler, bound: usize) -> usize
+    requires row { handler.start < handler.end }
+    requires numbers { AreNumbers frames.now (length numbers.now) numbers.now }
+    ensures { IsFirst (IsUncaught frames.now (handler ∷ [])) bound result }
+{
+    let start = handler.start as usize;
+    if start < bound && !frame_catches(frames, numbers, handler.target) {
+        start
+    } else {
+        bound
+    }
+}
+
+/// The types of one local variable before each instruction.
+fn column_of(alloc: Global, states: &[State], slot: usize) -> Result<Vec<Kind>, Memory>
+    ensures { IfOk result (λ kinds. kinds.items ≡ column_of states.now slot) }
+{
+    let mut kinds = Vec::new(alloc);
+    'taking: for state in states {
+        kinds.push(local_at(state, slot))?;
+    }
+    Ok(kinds)
+}
+
+/// The type of a local variable.
+fn local_at(state: &State, slot: usize) -> Kind
+    ensures { result ≡ local_at slot state.now }
+{
+    let locals = state.locals.as_slice();
+    if slot < locals.len() {
+        locals[slot]
+    } else {
+        Kind::Top
+    }
+}
+
+/// The type that the frame at an instruction has for a local variable.
+fn wanted_at(frames: &[FrameAt], numbers: &[u32], target: u32, slot: usize) -> Kind
+    requires { AreNumbers frames.now (length numbers.now) numbers.now }
+    ensures { result ≡ wanted_at slot (frame_in frames.now target) }
+{
+    match frame_at(frames, numbers, target) {
+        Some(frame) => local_at(frame, slot),
+        None => Kind::Top,
+    }
+}
+
+/// The first instruction that a row guards whose type in a column isn't the one that is wanted, or the bound.
+fn first_in_row(
+    column: &[Kind],
+    tight: &[usize],
+    loose: &[usize],
+    handler: Handler,
+    want: Kind,
+    bound: usize,
+) -> usize
+    requires bound { bound ≤ length column.now }
+    requires tight { AreEnds false column.now 0 tight.now }
+    requires loose { AreEnds true column.now 0 loose.now }
+    ensures { IsFirst (IsUnfitInRow column.now handler want) bound result }
+{
+    let start = handler.start as usize;
+    let end = handler.end as usize;
+    let last = if end < bound { end } else { bound };
+    if start >= last {
+        return bound;
+    }
+    let first = first_unfit(column, tight, loose, start, last, want);
+    if first < last { first } else { bound }
+}
+
+/// The first instruction that a row guards whose type in a column doesn't fit the handler's frame, or the bound.
+fn first_in_column(
+    column: &[Kind],
+    tight: &[usize],
+    loose: &[usize],
+    frames: &[FrameAt],
+    numbers: &[u32],
+    handlers: &[Handler],
+    slot: usize,
+    bound: usize,
+) -> usize
+    requires bound { bound ≤ length column.now }
+    requires tight { AreEnds false column.now 0 tight.now }
+    requires loose { AreEnds true column.now 0 loose.now }
+    requires numbers { AreNumbers frames.now (length numbers.now) numbers.now }
+    ensures { IsFirst (IsUnfitInColumn column.now frames.now slot handlers.now) bound result }
+{
+    let mut first = bound;
+    'looking: for handler in handlers {
+        let want = wanted_at(frames, numbers, handler.target, slot);
+        first = first_in_row(column, tight, loose, *handler, want, first);
+    }
+    first
+}
+
+/// The first instruction whose state before it doesn't fit a handler that guards it, or the number of states.
+///
+/// # Errors
+///
+/// `Memory` where memory was refused.
+pub fn first_unguarded(
+    alloc: Global,
+    states: &[State],
+    frames: &[FrameAt],
+    numbers: &[u32],
+    handlers: &[Handler],
+    slots: usize,
+) -> Result<usize, Memory>
+    requires small { length states.now < 4294967296 }
+    requires rows { All (λ h. h.start < h.end) handlers.now }
+    requires numbers { AreNumbers frames.now (length numbers.now) numbers.now }
+    ensures { IfOk result (IsFirst (IsUnguarded states.now frames.now handlers.now slots) (length states.now)) }
+{
+    let mut first = first_uncaught(frames, numbers, handlers, states.len());
+    'slots: for slot in 0..slots {
+        let column = column_of(alloc, states, slot)?;
+        let tight = run_ends(alloc, false, &column)?;
+        let loose = run_ends(alloc, true, &column)?;
+        first = first_in_column(
+            &column, &tight, &loose, frames, numbers, handlers, slot, first,
+        );
+    }
+    Ok(first)
+}

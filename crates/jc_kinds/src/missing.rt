@@ -1,0 +1,103 @@
+//! Instructions that need a stack map frame (JVM Specification 4.10.1.6).
+ghost use Rattle.std.specs.Prelude.{◌≡◌, ◌<◌, length, All, IfOk, OnOk, MatchOption};
+ghost use Rattle.jc_base.specs.InsnUse.{LeadsWithin};
+ghost use Rattle.jc_base.specs.Least.{IsNowhere};
+ghost use Rattle.jc_base.specs.WellMade.{IsWellMade};
+ghost use Rattle.jc_kinds.specs.Checked.{IsMissing, FirstMissing};
+ghost use Rattle.jc_kinds.specs.Checking.{falls_into, needs_frame, is_missing};
+ghost use Rattle.jc_kinds.specs.Frames.{AreNumbers};
+ghost use Rattle.jc_kinds.specs.Marks.{Marks, is_among, leads_to, begins_handler, AreTargets};
+
+use crate::frames::frame_at;
+use jc_base::{Body, Handler, Insn, Memory};
+use std::alloc::Global;
+
+/// Marks places.
+fn mark_each(marks: &mut [bool], places: &[u32])
+    requires { All (λ place. place < length marks.old) places.now }
+    ensures { Marks marks.old marks.new (is_among places.now) }
+{
+    'marking: for place in places {
+        marks[*place as usize] = true;
+    }
+}
+
+/// Marks the instructions to which others may jump.
+fn mark_targets(alloc: Global, code: &[Insn], marks: &mut [bool]) -> Result<(), Memory>
+    requires { All (LeadsWithin (length marks.old)) code.now }
+    ensures { OnOk result (Marks marks.old marks.new (leads_to code.now)) }
+{
+    'marking: for insn in code {
+        let targets = insn.targets(alloc)?;
+        mark_each(marks, &targets);
+    }
+    Ok(())
+}
+
+/// Marks the instructions at which handlers begin.
+fn mark_handlers(handlers: &[Handler], marks: &mut [bool])
+    requires { All (λ h. h.target < length marks.old) handlers.now }
+    ensures { Marks marks.old marks.new (begins_handler handlers.now) }
+{
+    'marking: for handler in handlers {
+        marks[handler.target as usize] = true;
+    }
+}
+
+/// For each instruction whether it is the target of a jump, of a switch or of an exception row.
+fn marks_of(alloc: Global, body: &Body) -> Result<Vec<bool>, Memory>
+    requires { IsWellMade body.now }
+    ensures { IfOk result (λ marks. AreTargets body.now marks.items) }
+{
+    let mut marks = vec![in alloc; false; body.code.len()]?;
+    mark_targets(alloc, &body.code, &mut marks)?;
+    mark_handlers(&body.handlers, &mut marks);
+    Ok(marks)
+}
+
+/// Whether control may fall into an instruction from the one before it.
+fn falls_into(body: &Body, at: usize) -> bool
+    requires { at < length body.now.code }
+    ensures { result ≡ falls_into body.now at }
+{
+    at != 0 && body.code[at - 1].falls_through()
+}
+
+/// Whether an instruction needs a frame.
+fn needs_frame(body: &Body, marks: &[bool], at: usize) -> bool
+    requires within { at < length body.now.code }
+    requires marks { AreTargets body.now marks.now }
+    ensures { result ≡ needs_frame body.now at }
+{
+    marks[at] || (at != 0 && !falls_into(body, at))
+}
+
+/// Whether an instruction needs a frame that isn't there.
+fn is_missing(body: &Body, marks: &[bool], numbers: &[u32], at: usize) -> bool
+    requires within { at < length body.now.code }
+    requires few { length body.now.code < 4294967296 }
+    requires marks { AreTargets body.now marks.now }
+    requires numbers { AreNumbers body.now.frames (length body.now.code) numbers.now }
+    ensures { result ≡ is_missing body.now at }
+{
+    needs_frame(body, marks, at) && frame_at(&body.frames, numbers, at as u32).is_none()
+}
+
+/// The first instruction that needs a frame that isn't there.
+///
+/// # Errors
+///
+/// `Memory` where memory was refused.
+pub fn first_missing(alloc: Global, body: &Body, numbers: &[u32]) -> Result<Option<u32>, Memory>
+    requires body { IsWellMade body.now }
+    requires numbers { AreNumbers body.now.frames (length body.now.code) numbers.now }
+    ensures { IfOk result (λ found. MatchOption found (IsNowhere (IsMissing body.now)) (FirstMissing body.now)) }
+{
+    let marks = marks_of(alloc, body)?;
+    'seeking: for at in 0..body.code.len() {
+        if is_missing(body, &marks, numbers, at) {
+            return Ok(Some(at as u32));
+        }
+    }
+    Ok(None)
+}

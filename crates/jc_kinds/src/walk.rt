@@ -1,0 +1,185 @@
+//! The states before the instructions, one after the other (JVM Specification 4.10.1.6).
+ghost use Rattle.std.specs.Prelude.{◌≡◌, ◌<◌, true, length, IfOk, Some, unwrap_or, if◌then◌else◌};
+ghost use Rattle.std.specs.List.{list_all};
+ghost use Rattle.jc_base.specs.Held.{Grows, IsNumberedState, AreNumberedFrames};
+ghost use Rattle.jc_base.specs.Least.{IsNowhere};
+ghost use Rattle.jc_base.specs.WellMade.{IsWellMade, IsState};
+ghost use Rattle.jc_after.specs.Effects.{AreEffects, body_of};
+ghost use Rattle.jc_kinds.specs.Checked.{IsMissing};
+ghost use Rattle.jc_kinds.specs.Checking.{branches};
+ghost use Rattle.jc_kinds.specs.States.{falls_through};
+ghost use Rattle.jc_kinds.specs.Frames.{frame_in, AreNumbers};
+ghost use Rattle.jc_kinds.specs.Walk.{fits_frame, Begins, Steps, IsKeptEntry, IsWalk};
+
+use crate::fits::fits_state;
+use crate::frames::frame_at;
+use jc_after::Effects;
+use jc_base::{Body, FrameAt, Insn, Memory, Names, State, TryClone};
+use std::alloc::Global;
+
+/// Whether a state fits the frame at an instruction, if one stands there.
+fn fits_frame(frames: &[FrameAt], numbers: &[u32], state: &State, at: u32) -> bool
+    requires { AreNumbers frames.now (length numbers.now) numbers.now }
+    ensures { result ≡ fits_frame frames.now state.now at }
+{
+    match frame_at(frames, numbers, at) {
+        Some(frame) => fits_state(state, frame),
+        None => true,
+    }
+}
+
+/// Whether a state fits the frames at some instructions.
+fn fits_frames(frames: &[FrameAt], numbers: &[u32], state: &State, places: &[u32]) -> bool
+    requires { AreNumbers frames.now (length numbers.now) numbers.now }
+    ensures { result ≡ list_all (fits_frame frames.now state.now) places.now }
+{
+    'aiming: for place in places {
+        if !fits_frame(frames, numbers, state, *place) {
+            return false;
+        }
+    }
+    true
+}
+
+/// Whether the state after an instruction fits the frame at the next one, where that may follow.
+fn fits_next(frames: &[FrameAt], numbers: &[u32], insn: &Insn, next: u32, state: &State) -> bool
+    requires { AreNumbers frames.now (length numbers.now) numbers.now }
+    ensures { result ≡ (if falls_through insn.now then fits_frame frames.now state.now next else true) }
+{
+    if insn.falls_through() {
+        fits_frame(frames, numbers, state, next)
+    } else {
+        true
+    }
+}
+
+/// Whether the state after an instruction fits the frames where its branches lead.
+fn fits_branches(
+    alloc: Global,
+    frames: &[FrameAt],
+    numbers: &[u32],
+    insn: &Insn,
+    at: u32,
+    state: &State,
+) -> Result<bool, Memory>
+    requires place { at < 65535 }
+    requires numbers { AreNumbers frames.now (length numbers.now) numbers.now }
+    ensures { IfOk result (λ fits. fits ≡ list_all (fits_frame frames.now state.now) (branches (Some insn.now) at)) }
+{
+    if !fits_next(frames, numbers, insn, at + 1, state) {
+        return Ok(false);
+    }
+    let places = insn.distinct_targets(alloc)?;
+    Ok(fits_frames(frames, numbers, state, &places))
+}
+
+/// The state before the first instruction, where that in which the method begins fits it.
+fn begin(
+    alloc: Global,
+    frames: &[FrameAt],
+    numbers: &[u32],
+    entry: State,
+) -> Result<Option<State>, Memory>
+    requires { AreNumbers frames.now (length numbers.now) numbers.now }
+    ensures { IfOk result (Begins frames.now entry) }
+{
+    match frame_at(frames, numbers, 0) {
+        Some(frame) => {
+            if !fits_state(&entry, frame) {
+                return Ok(None);
+            }
+            Ok(Some(frame.try_clone(alloc)?))
+        }
+        None => Ok(Some(entry)),
+    }
+}
+
+/// The state before the next instruction: its frame, or what falls into it.
+fn next_state(
+    alloc: Global,
+    frames: &[FrameAt],
+    numbers: &[u32],
+    next: u32,
+    left: State,
+) -> Result<State, Memory>
+    requires { AreNumbers frames.now (length numbers.now) numbers.now }
+    ensures { IfOk result (λ state. state ≡ unwrap_or (frame_in frames.now next) left) }
+{
+    match frame_at(frames, numbers, next) {
+        Some(frame) => frame.try_clone(alloc),
+        None => Ok(left),
+    }
+}
+
+/// The state before the instruction behind this one, or none where this one has no state after it or where that
+/// state doesn't fit.
+fn step(
+    alloc: Global,
+    effects: &Effects<'_>,
+    body: &Body,
+    numbers: &[u32],
+    state: &State,
+    at: u32,
+    names: &mut Names,
+) -> Result<Option<State>, Memory>
+    requires effects { AreEffects names.old effects.now }
+    requires body { body_of effects.now ≡ body.now }
+    requires made { IsWellMade body.now }
+    requires numbers { AreNumbers body.now.frames (length body.now.code) numbers.now }
+    requires place { at < length body.now.code }
+    requires state { IsState body.now.code body.now.max_locals body.now.max_stack state.now }
+    requires numbered { IsNumberedState (length names.old) state.now }
+    requires frames { AreNumberedFrames (length names.old) body.now.frames }
+    ensures steps { IfOk result (Steps names.old names.new body.now at state.now) }
+    ensures names { Grows names.old names.new }
+    ensures effects { AreEffects names.new effects.now }
+{
+    let Some(left) = effects.after(alloc, state, at, names)? else {
+        return Ok(None);
+    };
+    let insn = &body.code[at as usize];
+    if !fits_branches(alloc, &body.frames, numbers, insn, at, &left)? {
+        return Ok(None);
+    }
+    Ok(Some(next_state(alloc, &body.frames, numbers, at + 1, left)?))
+}
+
+/// The states before the instructions, up to the first one from which control goes on with a state that isn't
+/// there or that doesn't fit.
+///
+/// # Errors
+///
+/// `Memory` where memory was refused, or where `names` is full.
+pub fn walk(
+    alloc: Global,
+    effects: &Effects<'_>,
+    body: &Body,
+    numbers: &[u32],
+    entry: State,
+    names: &mut Names,
+) -> Result<Vec<State>, Memory>
+    requires effects { AreEffects names.old effects.now }
+    requires body { body_of effects.now ≡ body.now }
+    requires made { IsWellMade body.now }
+    requires numbers { AreNumbers body.now.frames (length body.now.code) numbers.now }
+    requires entry { IsKeptEntry names.old body.now entry }
+    requires frames { AreNumberedFrames (length names.old) body.now.frames }
+    requires missing { IsNowhere (IsMissing body.now) }
+    ensures walk { IfOk result (λ states. IsWalk names.old names.new body.now states.items) }
+    ensures names { Grows names.old names.new }
+{
+    let mut states = Vec::new(alloc);
+    let mut state = match begin(alloc, &body.frames, numbers, entry)? {
+        Some(first) => first,
+        None => return Ok(states),
+    };
+    'walking: for at in 0..body.code.len() {
+        let next = match step(alloc, effects, body, numbers, &state, at as u32, names)? {
+            Some(next) => next,
+            None => return Ok(states),
+        };
+        states.push(state)?;
+        state = next;
+    }
+    Ok(states)
+}
