@@ -10,8 +10,8 @@ use std::alloc::Global;
 use std::process::Abort;
 use std::test::Fail as Failed;
 use tale::{
-    LAST_LOCALS, LOOP_LOCALS, PARSED_LOCALS, PICK_LOCALS, Tale, Wanted, first, parsed, pick,
-    tale_class,
+    LAST_LOCALS, LOOP_LOCALS, PARSED_LOCALS, PICK_ARMS, PICK_KEYS, PICK_LOCALS, Tale, Wanted,
+    first, parsed, pick, tale_class,
 };
 use wanted::{codes, heads, orders, other_tables, row_tables, sizes};
 
@@ -462,12 +462,10 @@ fn is_wanted(insn: &Insn, wanted: &Wanted) -> bool {
         (Insn::Dynamic { place }, Wanted::Dynamic(want)) => place == want,
         (Insn::OfClass { op, place }, Wanted::OfClass(want, at)) => op == want && place == at,
         (Insn::Jump { op, to }, Wanted::Jump(want, at)) => op == want && to == at,
-        (Insn::Table { low, default, arms }, Wanted::Table(least, other, places)) => {
-            low == least && default == other && arms.as_slice() == places.as_slice()
+        (Insn::Table { low, default, .. }, Wanted::Table(least, other)) => {
+            low == least && default == other
         }
-        (Insn::Lookup { default, arms }, Wanted::Lookup(other, keys)) => {
-            default == other && are_arms(arms, keys)
-        }
+        (Insn::Lookup { default, .. }, Wanted::Lookup(other)) => default == other,
         _ => false,
     }
 }
@@ -481,6 +479,17 @@ fn has_frame(body: &Body, number: usize, at: u32, locals: &[Kind], stack: &[Kind
                 && frame.state.stack.as_slice() == stack
         }
         None => false,
+    }
+}
+
+/// The two switches of `pick` have these arms.
+fn expect_pick_arms(rt: &impl Abort, body: &Body) {
+    for insn in &body.code {
+        match insn {
+            Insn::Table { arms, .. } => assert!(rt; arms.as_slice() == PICK_ARMS.as_slice()),
+            Insn::Lookup { arms, .. } => assert!(rt; are_arms(arms, &PICK_KEYS)),
+            _ => {}
+        }
     }
 }
 
@@ -537,7 +546,9 @@ fn tale_of(rt: &impl Abort, alloc: Global, want: &Tale) -> Result<Body, Failed> 
 #[test]
 fn compiled_methods(rt: HostRuntime) -> Result<(), Failed> {
     let alloc = rt.alloc();
-    expect_pick_frames(&rt, &tale_of(&rt, alloc, &pick())?);
+    let body = tale_of(&rt, alloc, &pick())?;
+    expect_pick_arms(&rt, &body);
+    expect_pick_frames(&rt, &body);
     expect_parsed_frames(&rt, &tale_of(&rt, alloc, &parsed())?);
     expect_first_frames(&rt, &tale_of(&rt, alloc, &first())?);
     Ok(())

@@ -123,10 +123,10 @@ pub enum Wanted {
     OfClass(u8, u16),
     /// By its opcode and its target.
     Jump(u8, u32),
-    /// `tableswitch`, by its least key, its default and its arms.
-    Table(i32, u32, [u32; 4]),
-    /// `lookupswitch`, by its default, and its arms with their keys.
-    Lookup(u32, [(i32, u32); 2]),
+    /// `tableswitch`, by its least key and its default.
+    Table(i32, u32),
+    /// `lookupswitch`, by its default.
+    Lookup(u32),
 }
 
 /// What `javap -c -l -v -p` prints of a method, by instruction numbers.
@@ -179,12 +179,18 @@ pub static LOOP_LOCALS: [Kind; 5] = [
 /// And behind it.
 pub static LAST_LOCALS: [Kind; 5] = [Kind::Object(0), Kind::Long, Kind::Top, Kind::Top, Kind::Top];
 
+/// The arms of the first switch of `pick`.
+pub static PICK_ARMS: [u32; 4] = [4, 9, 15, 11];
+
+/// The keys and arms of its second switch.
+pub static PICK_KEYS: [(i32, u32); 2] = [(-70000, 17), (9, 26)];
+
 /// The instructions of `pick`.
 static PICK_CODE: [Wanted; 32] = [
     Wanted::Local(opcode::LLOAD, 1),
     Wanted::Local(opcode::LSTORE, 3),
     Wanted::Local(opcode::ILOAD, 0),
-    Wanted::Table(-1, 15, [4, 9, 15, 11]),
+    Wanted::Table(-1, 15),
     Wanted::Local(opcode::LLOAD, 3),
     Wanted::Constant2(7),
     Wanted::Simple(opcode::LADD),
@@ -197,7 +203,7 @@ static PICK_CODE: [Wanted; 32] = [
     Wanted::Simple(opcode::LMUL),
     Wanted::Local(opcode::LSTORE, 3),
     Wanted::Local(opcode::ILOAD, 0),
-    Wanted::Lookup(30, [(-70000, 17), (9, 26)]),
+    Wanted::Lookup(30),
     Wanted::Local(opcode::LLOAD, 3),
     Wanted::Simple(opcode::L2D),
     Wanted::Local(opcode::DSTORE, 5),
