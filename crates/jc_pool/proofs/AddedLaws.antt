@@ -1,20 +1,19 @@
 -- What stands in a pool to which entries were added.
 use Rattle.std.proofs.Common.{◌≡◌, ◌≢◌, ◌⊎◌, inl, inr, ℕ, zero, suc, ◌<◌, ◌≤◌, List, [], ◌∷◌, ◌++◌, length, Option, Some, None, refl, sym, ◌∙◌, ap, subst, true≢false, arith}
-use Rattle.std.proofs.lemmas.Bool.{cases_lt}
+use Rattle.std.proofs.lemmas.Bool.{cases_Bool, cases_lt}
 use Rattle.std.proofs.lemmas.Option.{none-some}
 use Rattle.std.proofs.lemmas.Slice.Eq.{bytes_eq-Decides}
 use Rattle.std.specs.Str.{bytes_eq}
-use Rattle.jc_base.specs.Decoder.{◌>>=◌}
+use Rattle.jc_base.proofs.DecoderLaws.{some_is}
 use Rattle.jc_pool.specs.declared.entry.Entry.{Entry}
 use Rattle.jc_pool.specs.declared.entry.Entry.TheVariants as entry
 use Rattle.jc_pool.specs.Pool.{PoolValue}
-use Rattle.jc_pool.specs.Lookup.{entry_of, class_in, utf8_in, utf8_of, class_name_of}
+use Rattle.jc_pool.specs.Lookup.{entry_of, utf8_in, utf8_of, class_name_of}
 use Rattle.jc_pool.specs.Adding.{IsFirst, IsNowhere, IsPut, HasUtf8, HasClass, Extends}
-use Rattle.jc_pool.proofs.FirstsLaws.{one_first}
-use Rattle.jc_pool.proofs.GrownLaws.{grown_length, entry_stays, entry_put, entry_past, utf8_stays, utf8_past, utf8_put}
-use Rattle.jc_pool.proofs.ClassPlaceLaws.{has_name, is_named}
+use Rattle.jc_pool.proofs.FirstPlaceLaws.{one_first}
+use Rattle.jc_pool.proofs.OneMoreEntryLaws.{grown_length, entry_stays, entry_put, entry_past, utf8_stays, utf8_past, utf8_put}
+use Rattle.jc_pool.proofs.ClassPlaceLaws.{has_name, is_named, class_past}
 use Rattle.jc_pool.proofs.AddingLaws.{put_at_end}
-use Rattle.jc_pool.proofs.PoolSteps.{two_cases}
 
 -- ---- what stood there
 
@@ -84,13 +83,10 @@ one_class old new other name place at (inr p) (inr q) =
 
 decide : (r : Option (List ℕ)) (x : List ℕ) → (r ≡ Some x) ⊎ (r ≢ Some x)
 decide None x = inr (λ same. none-some x same)
-decide (Some y) x = elim (two_cases (bytes_eq y x)) [
+decide (Some y) x = elim (cases_Bool (bytes_eq y x)) [
   | inl same ↦ inl (ap Some ((bytes_eq-Decides y x).0 same))
-  | inr other ↦ inr (λ same. true≢false (sym ((bytes_eq-Decides y x).1 (one same)) ∙ other))
+  | inr other ↦ inr (λ same. true≢false (sym ((bytes_eq-Decides y x).1 (some_is y x same)) ∙ other))
 ]
-  where
-    one : Some y ≡ Some x → y ≡ x
-    one same = cc
 
 searched : (found : ℕ → Option (List ℕ)) (x : List ℕ) (end : ℕ) → ((p : ℕ) × IsFirst found x p) ⊎ ((p : ℕ) → p < end → found p ≢ Some x)
 searched found x zero = inr (λ p less. absurd (omega (arith, less)))
@@ -116,10 +112,6 @@ some_utf8 old text = elim (first_or_none (utf8_of old) text (length old) (utf8_p
   | inl first ↦ (old, first.0, inl (first.1, refl))
   | inr none ↦ (old ++ Some (entry.Utf8 text) ∷ [], length old, inr (none, put_at_end old (entry.Utf8 text)))
 ]
-
-class_past : (pool : PoolValue) (place : ℕ) → length pool ≤ place → class_name_of pool place ≡ None
-unfolding class_name_of
-class_past pool place behind = ap (λ (e : Option Entry). e >>= λ e. class_in e >>= λ name. utf8_of pool name) (entry_past pool place behind)
 
 pub some_class : (old : PoolValue) (name : List ℕ) → (new : PoolValue) × (place : ℕ) × HasClass old name new place
 some_class old name = elim (first_or_none (class_name_of old) name (length old) (class_past old)) [
@@ -164,10 +156,7 @@ put_keeps old new e at name place put fresh first = subst (λ (l : PoolValue). I
 
 utf8_keeps_first : (old new : PoolValue) (text name : List ℕ) (at place : ℕ) → HasUtf8 old text new at → IsFirst (class_name_of old) name place → IsFirst (class_name_of new) name place
 utf8_keeps_first old new text name at place (inl has) first = subst (λ (l : PoolValue). IsFirst (class_name_of l) name place) (sym has.1) first
-utf8_keeps_first old new text name at place (inr put) first = put_keeps old new (entry.Utf8 text) at name place put.1 (λ t is. subst (IsNowhere (utf8_of old)) (one t is) put.0) first
-  where
-    one : (t : List ℕ) → Some text ≡ Some t → text ≡ t
-    one t is = cc
+utf8_keeps_first old new text name at place (inr put) first = put_keeps old new (entry.Utf8 text) at name place put.1 (λ t is. subst (IsNowhere (utf8_of old)) (some_is text t is) put.0) first
 
 -- a class keeps its first place, whatever class is added
 pub class_keeps_first : (old new : PoolValue) (other name : List ℕ) (at place : ℕ) → HasClass old other new at → IsFirst (class_name_of old) name place → IsFirst (class_name_of new) name place

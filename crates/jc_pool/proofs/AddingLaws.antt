@@ -5,6 +5,7 @@ use Rattle.std.proofs.lemmas.Option.{none-some}
 use Rattle.jc_base.specs.declared.fail.Fail.{Fail}
 use Rattle.jc_base.specs.declared.fail.Fail.TheVariants as fails
 use Rattle.jc_base.specs.Texts.{IsShortText}
+use Rattle.jc_base.proofs.DecoderLaws.{some_is}
 use Rattle.jc_pool.specs.declared.add.PoolFull.{PoolFull}
 use Rattle.jc_pool.specs.declared.entry.Entry.{Entry}
 use Rattle.jc_pool.specs.declared.entry.Entry.TheVariants as entry
@@ -13,8 +14,8 @@ use Rattle.jc_pool.specs.Pool.{PoolValue, IsPool}
 use Rattle.jc_pool.specs.Lookup.{utf8_in, utf8_of, class_name_of}
 use Rattle.jc_pool.specs.Adding.{IsNowhere, IsPut, HasUtf8, HasClass, RefusesFull, Extends}
 use Rattle.jc_pool.specs.Index.{IsFirstBelow, AreFirsts, AreStandins, Notes, NotesEntry, text_place, key_in, key_at, key_place, IsIndexOf, missing, CountsTo}
-use Rattle.jc_pool.proofs.FirstsLaws.{is_nowhere}
-use Rattle.jc_pool.proofs.GrownLaws.{grown_length, utf8_past, texts_stay, texts_grow, keys_stay, keys_grow, standins_stay, put_pool}
+use Rattle.jc_pool.proofs.FirstPlaceLaws.{is_nowhere}
+use Rattle.jc_pool.proofs.OneMoreEntryLaws.{grown_length, utf8_past, texts_stay, texts_grow, keys_stay, keys_grow, standins_stay, put_pool}
 
 -- ---- the index
 
@@ -29,14 +30,11 @@ pub text_indexed : (pool new : PoolValue) (old index : Index) (text : List ℕ) 
 text_indexed pool new old index text place first same put notes none is = subst (λ (l : PoolValue). IsIndexOf l index) (sym put.grown) (record {
   texts = texts_grow pool text (text_place old.texts.entries (λ x. x.items)) (text_place index.texts.entries (λ x. x.items)) place first put.last notes is.texts;
   standins = subst (λ (l : List ℕ). AreStandins (utf8_of (pool ++ Some (entry.Utf8 text) ∷ [])) (length (pool ++ Some (entry.Utf8 text) ∷ [])) l) (sym same.firsts)
-      (standins_stay pool (entry.Utf8 text) old.firsts.items (λ t at. subst (IsNowhere (utf8_of pool)) (one at) none) is.standins);
+      (standins_stay pool (entry.Utf8 text) old.firsts.items (λ t at. subst (IsNowhere (utf8_of pool)) (some_is text t at) none) is.standins);
   keys = subst (λ (l : List ℕ). AreFirsts (length (pool ++ Some (entry.Utf8 text) ∷ [])) (key_at l (pool ++ Some (entry.Utf8 text) ∷ [])) (key_place index.keys.entries)) (sym same.firsts)
       (subst (λ l. AreFirsts (length (pool ++ Some (entry.Utf8 text) ∷ [])) (key_at old.firsts.items (pool ++ Some (entry.Utf8 text) ∷ [])) (key_place l)) (sym same.keys)
       (keys_stay old.firsts.items pool (entry.Utf8 text) (key_place old.keys.entries) refl is.keys));
 })
-  where
-    one : {t : List ℕ} → Some text ≡ Some t → text ≡ t
-    one at = cc
 
 -- an entry of no text was put, and its key noted
 pub entry_indexed : (pool new : PoolValue) (old index : Index) (e : Entry) (place : ℕ) → index.firsts.items ≡ old.firsts.items → index.texts.entries ≡ old.texts.entries → utf8_in e ≡ None

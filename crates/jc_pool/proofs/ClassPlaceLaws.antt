@@ -1,5 +1,5 @@
 -- Where classes stand, by the places of their names.
-use Rattle.std.proofs.Common.{◌≡◌, inl, inr, ℕ, ◌<◌, ◌≤◌, List, length, Option, Some, None, refl, sym, ◌∙◌, ap, subst}
+use Rattle.std.proofs.Common.{◌≡◌, inl, inr, ℕ, ◌<◌, ◌≤◌, List, length, Option, Some, None, refl, sym, ◌∙◌, ap}
 use Rattle.std.proofs.lemmas.Bool.{cases_lt}
 use Rattle.std.proofs.lemmas.Option.{none-some}
 use Rattle.jc_base.specs.Decoder.{◌>>=◌}
@@ -10,9 +10,9 @@ use Rattle.jc_pool.specs.declared.index.Index.{Index}
 use Rattle.jc_pool.specs.Pool.{PoolValue}
 use Rattle.jc_pool.specs.Lookup.{entry_of, class_in, utf8_of, class_name_of}
 use Rattle.jc_pool.specs.Adding.{IsFirst, IsNowhere}
-use Rattle.jc_pool.specs.Index.{IsFirstBelow, standing_for, AreStandins, key_in, key_at, text_place, key_place, class_place, IsIndexOf}
-use Rattle.jc_pool.proofs.FirstsLaws.{one_first, is_first, is_nowhere}
-use Rattle.jc_pool.proofs.GrownLaws.{utf8_past, past}
+use Rattle.jc_pool.specs.Index.{standing_for, AreStandins, key_in, key_at, text_place, key_place, class_place, IsIndexOf}
+use Rattle.jc_pool.proofs.FirstPlaceLaws.{one_first, is_first, is_nowhere}
+use Rattle.jc_pool.proofs.OneMoreEntryLaws.{utf8_past, past}
 
 -- ---- names
 
@@ -29,6 +29,10 @@ has_name pool place text is = named_at pool (entry_of pool place) text is
 pub is_named : (pool : PoolValue) (place name : ℕ) (text : List ℕ) → entry_of pool place ≡ Some (entry.Class name) → utf8_of pool name ≡ Some text → class_name_of pool place ≡ Some text
 unfolding class_name_of
 is_named pool place name text is named = ap (λ (e : Option Entry). e >>= λ e. class_in e >>= λ name. utf8_of pool name) is ∙ named
+
+pub class_past : (pool : PoolValue) (place : ℕ) → length pool ≤ place → class_name_of pool place ≡ None
+unfolding class_name_of
+class_past pool place behind = past (λ e. class_in e >>= λ name. utf8_of pool name) pool place behind
 
 -- ---- keys
 
@@ -107,8 +111,3 @@ class_missing pool index text None r is read found at = unnamed pool text (text_
 class_missing pool index text (Some name) r is read found at =
     class_nowhere pool index.firsts.items text name is.standins (text_found pool index text name (Some name) is read refl)
     (is_nowhere (key_at index.firsts.items pool) (length pool) (key.Class name) (key_place index.keys.entries (key.Class name)) (key_past index.firsts.items pool) (sym found ∙ at) (is.keys (key.Class name)))
-
--- the first place of a name, or that there is none
-pub name_below : (pool : PoolValue) (index : Index) (text : List ℕ) (named : Option ℕ) → IsIndexOf pool index → named ≡ text_place index.texts.entries (λ x. x.items) text
-    → IsFirstBelow (length pool) (utf8_of pool) text named
-name_below pool index text named is read = subst (IsFirstBelow (length pool) (utf8_of pool) text) (sym read) (is.texts text)

@@ -4,6 +4,7 @@ use Rattle.std.specs.Int.{w32, w64, cast_signed}
 use Rattle.std.proofs.lemmas.Bool.{eqb-true}
 use Rattle.std.proofs.lemmas.Bool.Decides.{nat_tests}
 use Rattle.std.proofs.lemmas.List.{take_at}
+use Rattle.std.proofs.lemmas.Option.{none-some}
 use Rattle.byteorder.specs.Endian.{big_number}
 use Rattle.jc_base.specs.Decoder.{IsBig, ◌>>=◌, first, byte_at, number_at}
 use Rattle.jc_base.proofs.DecoderLaws.{bind_some, some_is, chosen, test_some, first_takes, first_again, number_takes, number_again, byte_takes, byte_again}
@@ -112,7 +113,7 @@ by_tag k tag Info x other e tagged spelled read = elim (chosen (nat_eq tag k) (S
 
 chosen_one : (tag a : ℕ) (e : Entry) → of_place tag a ≡ Some e → Chosen tag (λ bytes. IsBig 2 bytes a) e
 chosen_one tag a e read =
-    ⊎_elim (λ c. c) (λ h. ⊎_elim (λ c. c) (λ h. ⊎_elim (λ c. c) (λ h. ⊎_elim (λ c. c) (λ h. ⊎_elim (λ c. c) (λ h. absurd (none h))
+    ⊎_elim (λ c. c) (λ h. ⊎_elim (λ c. c) (λ h. ⊎_elim (λ c. c) (λ h. ⊎_elim (λ c. c) (λ h. ⊎_elim (λ c. c) (λ h. absurd (none-some e h))
     (by_tag 20 tag Big (entry.Package a) _ e refl (λ bytes big. big) h))
     (by_tag 19 tag Big (entry.Module a) _ e refl (λ bytes big. big) h))
     (by_tag 16 tag Big (entry.MethodType a) _ e refl (λ bytes big. big) h))
@@ -122,12 +123,9 @@ chosen_one tag a e read =
     Big : List ℕ → Type 0
     Big = λ bytes. IsBig 2 bytes a
 
-    none : None ≡ Some e → ⊥
-    none h = cc
-
 chosen_two : (tag a b : ℕ) (e : Entry) → of_places tag a b ≡ Some e → Chosen tag (λ bytes. ArePlaces bytes a b) e
 chosen_two tag a b e read =
-    ⊎_elim (λ c. c) (λ h. ⊎_elim (λ c. c) (λ h. ⊎_elim (λ c. c) (λ h. ⊎_elim (λ c. c) (λ h. ⊎_elim (λ c. c) (λ h. ⊎_elim (λ c. c) (λ h. absurd (none h))
+    ⊎_elim (λ c. c) (λ h. ⊎_elim (λ c. c) (λ h. ⊎_elim (λ c. c) (λ h. ⊎_elim (λ c. c) (λ h. ⊎_elim (λ c. c) (λ h. ⊎_elim (λ c. c) (λ h. absurd (none-some e h))
     (by_tag 18 tag Both (entry.InvokeDynamic a b) _ e refl (λ bytes both. both) h))
     (by_tag 17 tag Both (entry.Dynamic a b) _ e refl (λ bytes both. both) h))
     (by_tag 12 tag Both (entry.NameAndType a b) _ e refl (λ bytes both. both) h))
@@ -137,9 +135,6 @@ chosen_two tag a b e read =
   where
     Both : List ℕ → Type 0
     Both = λ bytes. ArePlaces bytes a b
-
-    none : None ≡ Some e → ⊥
-    none h = cc
 
 found_one : (tag : ℕ) (left : List ℕ) (e : Entry) (rest : List ℕ) → naming_one_at tag left ≡ Some (e, rest) → Found tag left e rest
 unfolding naming_one_at

@@ -5,13 +5,14 @@ use Rattle.std.proofs.lemmas.Bool.{cases_lt}
 use Rattle.std.proofs.lemmas.List.{get_or_append_left, get_or_default, get_or_past, length-append}
 use Rattle.std.proofs.lemmas.Option.{none-some}
 use Rattle.jc_base.specs.Decoder.{◌>>=◌}
+use Rattle.jc_base.proofs.DecoderLaws.{some_is}
 use Rattle.jc_pool.specs.declared.entry.Entry.{Entry}
 use Rattle.jc_pool.specs.declared.index.Key.{Key}
 use Rattle.jc_pool.specs.Pool.{PoolValue}
 use Rattle.jc_pool.specs.Lookup.{entry_of, utf8_in, utf8_of}
 use Rattle.jc_pool.specs.Adding.{IsFirst}
-use Rattle.jc_pool.specs.Index.{IsFirstBelow, AreFirsts, Notes, NotesText, NotesEntry, standing_for, AreStandins, key_in, key_at}
-use Rattle.jc_pool.proofs.FirstsLaws.{nothing_more, noted, noted_first}
+use Rattle.jc_pool.specs.Index.{IsFirstBelow, AreFirsts, Notes, NotesText, NotesEntry, standing_for, key_in, key_at}
+use Rattle.jc_pool.proofs.FirstPlaceLaws.{nothing_more, noted, noted_first}
 
 -- ---- tables
 
@@ -40,14 +41,6 @@ pub record TextsRead (found : ℕ → Option (List ℕ)) (n : ℕ) (firsts : Lis
   pub stand : (place : ℕ) (text : List ℕ) → place < n → found place ≡ Some text → IsFirst found text (standing_for firsts place)
   pub others : (place : ℕ) → found place ≡ None → standing_for firsts place ≡ place
 
-pub texts_begun : (found : ℕ → Option (List ℕ)) (firsts : List ℕ) (table : List ℕ → Option ℕ) → firsts ≡ [] → ((x : List ℕ) → table x ≡ None) → TextsRead found 0 firsts table
-texts_begun found firsts table empty none = record {
-  count = ap length empty;
-  texts = none_yet found table none;
-  stand = λ place text less. absurd (omega (arith, less));
-  others = λ place nothing. standing_past firsts place (omega (arith, ap length empty));
-}
-
 noted_texts : (found : ℕ → Option (List ℕ)) (end first : ℕ) (old new : List ℕ → Option ℕ) (r : Option (List ℕ)) → found end ≡ r → NotesText old new r end first → AreFirsts end found old → AreFirsts (end + 1) found new
 noted_texts found end first old new None at notes firsts = same_table found (end + 1) old new notes.1 (nothing_more found end old at firsts)
 noted_texts found end first old new (Some text) at notes firsts = noted found end old new text first at notes firsts
@@ -56,12 +49,9 @@ place_noted : (found : ℕ → Option (List ℕ)) (end first : ℕ) (old new : L
     → ((text : List ℕ) → found end ≡ Some text → IsFirst found text first) × (found end ≡ None → first ≡ end)
 place_noted found end first old new None at notes firsts = (λ text there. absurd (none-some text (sym at ∙ there)), λ none. notes.0)
 place_noted found end first old new (Some text) at notes firsts = (
-  λ other there. subst (λ (t : List ℕ). IsFirst found t first) (one text other (sym at ∙ there)) (noted_first found end old new text first at notes firsts),
+  λ other there. subst (λ (t : List ℕ). IsFirst found t first) (some_is text other (sym at ∙ there)) (noted_first found end old new text first at notes firsts),
   λ none. absurd (none-some text (sym none ∙ at)),
 )
-  where
-    one : (a b : List ℕ) → Some a ≡ Some b → a ≡ b
-    one a b same = cc
 
 pub more_texts : (found : ℕ → Option (List ℕ)) (n m place first : ℕ) (firsts more : List ℕ) (old new : List ℕ → Option ℕ) (r : Option (List ℕ)) → found n ≡ r → place ≡ n → m ≡ n + 1 → more ≡ firsts ++ first ∷ []
     → NotesText old new r place first → TextsRead found n firsts old → TextsRead found m more new
@@ -88,13 +78,6 @@ more_texts found n m place first firsts more old new r at here next put notes so
 
     own : (p : ℕ) → p ≡ n → standing_for (firsts ++ first ∷ []) p ≡ first
     own p last = ap (standing_for (firsts ++ first ∷ [])) (last ∙ sym so_far.count) ∙ standing_last firsts first
-
-pub all_texts : (pool : PoolValue) (n : ℕ) (firsts : List ℕ) (table : List ℕ → Option ℕ) → n ≡ length pool → TextsRead (utf8_of pool) n firsts table
-    → AreFirsts (length pool) (utf8_of pool) table × AreStandins (utf8_of pool) (length pool) firsts
-all_texts pool n firsts table whole so_far = (
-  subst (λ (k : ℕ). AreFirsts k (utf8_of pool) table) whole so_far.texts,
-  record { texts = λ p text less there. so_far.stand p text (omega (arith, whole, less)) there; others = so_far.others },
-)
 
 -- ---- keys
 

@@ -4,10 +4,9 @@ pub mod PoolLaws
 pub mod WritingLaws
 pub mod TextLaws
 pub mod OneTextLaws
-pub mod ClassNameLaws
-mod FirstsLaws
-mod GrownLaws
-mod NotedLaws
+mod FirstPlaceLaws
+mod OneMoreEntryLaws
+mod FirstPlaceMapLaws
 mod ClassPlaceLaws
 pub mod AddingLaws
 pub mod AddedLaws

@@ -1,6 +1,6 @@
 -- Filling the places of a pool, entry by entry.
-use Rattle.std.proofs.Common.{◌≡◌, ◌⊎◌, inl, inr, ℕ, zero, suc, ◌-◌, ◌<◌, ◌≤◌, Bool, true, false, List, [], ◌∷◌, ◌++◌, length, Option, Some, None, Err, nat_lt, refl, sym, ◌∙◌, ap, subst, arith, append_assoc, if◌then◌else◌}
-use Rattle.std.proofs.lemmas.Bool.{le-ltb}
+use Rattle.std.proofs.Common.{◌≡◌, inl, inr, ℕ, zero, suc, ◌-◌, ◌<◌, ◌≤◌, Bool, false, List, [], ◌∷◌, ◌++◌, length, Option, Some, None, Err, nat_lt, refl, sym, ◌∙◌, ap, subst, arith, append_assoc, if◌then◌else◌}
+use Rattle.std.proofs.lemmas.Bool.{cases_Bool, le-ltb}
 use Rattle.std.proofs.lemmas.List.{append-nil, length-append}
 use Rattle.jc_base.specs.Reader.{Reading}
 use Rattle.jc_base.specs.Decoder.{SameEnd}
@@ -13,10 +13,6 @@ use Rattle.jc_pool.specs.declared.entry.Entry.{Entry}
 use Rattle.jc_pool.specs.Pool.{is_wide, width, slots_of, IsSmall, IsFilled, IsPool}
 use Rattle.jc_pool.specs.EntryReading.{entry_at, narrow_only, narrow_at, fitting_at}
 use Rattle.jc_pool.specs.PoolReading.{put_behind, places_at}
-
-pub two_cases : (b : Bool) → (b ≡ true) ⊎ (b ≡ false)
-two_cases true = inl refl
-two_cases false = inr refl
 
 -- an entry that takes no more than so many places
 abbrev fits_in : ℕ → Entry × List ℕ → Option (Entry × List ℕ)
@@ -31,7 +27,7 @@ behind_entry n e = by_size (is_wide e.0) n e
 
 at_last : (left : List ℕ) (r : Option (Entry × List ℕ)) → (parsed_or left (decoder.◌>>=◌ r narrow_only) >>= λ e. Good (Some e.0 ∷ []) e.1) ≡ (parsed_or left (decoder.◌>>=◌ r (fits_in 1)) >>= behind_entry 1)
 at_last left None = refl
-at_last left (Some e) = elim (two_cases (is_wide e.0)) [
+at_last left (Some e) = elim (cases_Bool (is_wide e.0)) [
   | inl wide ↦ rw wide refl
   | inr narrow ↦ rw narrow (sym (ap (λ (b : Bool). by_size b 1 e) narrow))
 ]
@@ -40,7 +36,7 @@ before : (n : ℕ) (left : List ℕ) (r : Option (Entry × List ℕ))
     → (parsed_or left r >>= λ e. if is_wide e.0 then put_behind (Some e.0 ∷ None ∷ []) (places_at n e.1) else put_behind (Some e.0 ∷ []) (places_at (suc n) e.1))
     ≡ (parsed_or left (decoder.◌>>=◌ r (fits_in (suc (suc n)))) >>= behind_entry (suc (suc n)))
 before n left None = refl
-before n left (Some e) = elim (two_cases (is_wide e.0)) [
+before n left (Some e) = elim (cases_Bool (is_wide e.0)) [
   | inl wide ↦
       let fits : nat_lt (suc (suc n)) 2 ≡ false = le-ltb (suc (suc n)) 2 (omega arith) in
       let size : suc (suc n) - 2 ≡ n = omega arith in
@@ -85,7 +81,7 @@ is_full whole front n left none so_far =
 -- ---- each entry takes its places
 
 entry_filled : (e : Entry) (rest : List (Option Entry)) → IsSmall e → IsFilled rest → IsFilled (slots_of e ++ rest)
-entry_filled e rest small filled = elim (two_cases (is_wide e)) [
+entry_filled e rest small filled = elim (cases_Bool (is_wide e)) [
   | inl wide ↦ rw wide (wide, small, filled)
   | inr narrow ↦ rw narrow (one narrow rest filled)
 ]
@@ -124,7 +120,7 @@ pub record Filling (whole : Parsed (List (Option Entry))) (count : ℕ) (old : R
   pub later : old.place ≤ now.place
 
 length_slots : (e : Entry) → length (slots_of e) ≡ width e
-length_slots e = elim (two_cases (is_wide e)) [ inl wide ↦ rw wide refl | inr narrow ↦ rw narrow refl ]
+length_slots e = elim (cases_Bool (is_wide e)) [ inl wide ↦ rw wide refl | inr narrow ↦ rw narrow refl ]
 
 pub fills_more : (whole : Parsed (List (Option Entry))) (count : ℕ) (old : Reading) (slots : List (Option Entry)) (now next : Reading) (e : Entry) (n : ℕ)
     → n ≡ count - length slots → 0 < n → IsSmall e → width e ≤ n → item (fitting_at n) now.left ≡ Good e next.left → SameEnd now next → now.place ≤ next.place

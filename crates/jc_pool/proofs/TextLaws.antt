@@ -1,9 +1,9 @@
 -- The units that modified UTF-8 spells, and the characters that the units spell.
-use Rattle.std.proofs.Common.{◌≡◌, ◌⊎◌, inl, inr, ℕ, ◌+◌, ◌-◌, ◌/◌, ◌%◌, ◌<◌, ◌≤◌, ◌^◌, true, false, not, List, [], ◌∷◌, ◌++◌, length, map, Option, Some, None, is_some, Result, Ok, Err, is_err, IfOk, IsSomeAnd, refl, sym, ◌∙◌, ap, subst, arith, append_assoc}
+use Rattle.std.proofs.Common.{◌≡◌, ◌⊎◌, inl, inr, ℕ, ◌+◌, ◌-◌, ◌/◌, ◌%◌, ◌<◌, ◌≤◌, ◌^◌, false, not, List, [], ◌∷◌, ◌++◌, length, map, Option, Some, None, is_some, Result, Ok, Err, is_err, IfOk, IsSomeAnd, refl, sym, ◌∙◌, ap, subst, arith, append_assoc}
 use Rattle.std.specs.Char.{IsScalar}
 use Rattle.std.specs.Char.Escape.{encode_utf16}
 use Rattle.std.proofs.lemmas.List.{append-nil}
-use Rattle.std.proofs.lemmas.Bool.{lt-ltb, le-ltb, cases_lt}
+use Rattle.std.proofs.lemmas.Bool.{true≢false, lt-ltb, le-ltb, cases_lt}
 use Rattle.std.proofs.lemmas.Str.{utf16_chars-nil, utf16_chars_lone, utf16_chars_pair}
 use Rattle.std.proofs.str.Utf16.{IsPair}
 use Rattle.std.specs.Char.Utf16.{surrogate_pair_char, lone_unit_char, utf16_chars, utf16_lossy_chars, has_unpaired_surrogate}
@@ -157,10 +157,6 @@ joined (u ∷ v ∷ us) small = elim (pair_or_not u v) [
 abbrev AllSmall : List ℕ → Type 0
 AllSmall units = AllByRecursion (λ u. u < 2 ^ 16) units
 
-all_both : {X : Type 0} (P : X → Type 0) (xs ys : List X) → AllByRecursion P xs → AllByRecursion P ys → AllByRecursion P (xs ++ ys)
-all_both P [] ys p q = q
-all_both P (x ∷ xs) ys p q = (p.0, all_both P xs ys p.1 q)
-
 -- the units of a character and of those behind it, read again
 abbrev Units : List ℕ → Type 0
 Units chars = AllSmall (flat_map encode_utf16 chars) × (utf16_chars (flat_map encode_utf16 chars) ≡ map (λ c. Some c) chars)
@@ -234,20 +230,14 @@ module _ {S E : Type 0} (bytes_of : S → List ℕ) (bytes units : List ℕ) (sp
   text_by (Ok s) read =
       let j = joined units spelled.small (sym read.1) in
       (utf16_lossy_chars units, record { scalars = j.0; parts = spelled.parts ∙ ap (flat_map unit_bytes) j.1 }, read.0)
-  text_by (Err e) read = λ chars text. true_false (read.1 ∙ (again bytes units chars spelled text).paired)
-    where
-      true_false : true ≡ false → ⊥
-      true_false e = cc
+  text_by (Err e) read = λ chars text. true≢false (read.1 ∙ (again bytes units chars spelled text).paired)
 
   pub text_found : (r : Result S E) (found : Option S) → found ≡ result_ok r → IsRead r → IsTextOf bytes (option_map bytes_of found)
   text_found r found is read = subst (λ o. IsTextOf bytes (option_map bytes_of o)) (sym is) (text_by r read)
 
   only_by : (r : Result S E) → IsRead r → (chars : List ℕ) → SpellsText bytes chars → IsSomeAnd (result_ok r) (λ s. bytes_of s ≡ encode_utf8_all chars)
   only_by (Ok s) read chars text = read.0 ∙ ap encode_utf8_all (again bytes units chars spelled text).chars_are
-  only_by (Err e) read chars text = absurd (true_false (read.1 ∙ (again bytes units chars spelled text).paired))
-    where
-      true_false : true ≡ false → ⊥
-      true_false e = cc
+  only_by (Err e) read chars text = absurd (true≢false (read.1 ∙ (again bytes units chars spelled text).paired))
 
   pub only_text : (r : Result S E) (found : Option S) → found ≡ result_ok r → IsRead r → (chars : List ℕ) → SpellsText bytes chars → IsSomeAnd found (λ s. bytes_of s ≡ encode_utf8_all chars)
   only_text r found is read chars text = subst (λ o. IsSomeAnd o (λ s. bytes_of s ≡ encode_utf8_all chars)) (sym is) (only_by r read chars text)

@@ -39,7 +39,8 @@ HasUtf8 old text new place =
 abbrev pub HasClass : PoolValue → List ℕ → PoolValue → ℕ → Type 0
 HasClass old name new place =
     (IsFirst (class_name_of old) name place × (new ≡ old))
-    ⊎ (IsNowhere (class_name_of old) name × (named : PoolValue) × (at : ℕ) × HasUtf8 old name named at × IsPut named new (entry.Class at) place)
+    ⊎ (IsNowhere (class_name_of old) name × (named : PoolValue) × (at : ℕ)
+    × HasUtf8 old name named at × IsPut named new (entry.Class at) place)
 
 -- ---- too many entries
 
@@ -52,6 +53,20 @@ abbrev pub RefusesFull : {X : Type 0} → (PoolValue → ℕ → Type 0) → Res
 RefusesFull Asked (Err (fails.Said full)) = IsTooLong Asked full.count
 RefusesFull Asked _ = Unit {0}
 
+-- ---- what stays
+
 -- what stood in a pool stands there, and more may stand behind it
 abbrev pub Extends : PoolValue → PoolValue → Type 0
 Extends old new = (more : PoolValue) × (new ≡ old ++ more)
+
+-- what was found at a place is found there
+abbrev pub Keeps : {X : Type 0} → (ℕ → Option X) → (ℕ → Option X) → Type 0
+Keeps {X} old new = (what : X) (place : ℕ) → old place ≡ Some what → new place ≡ Some what
+
+-- what was found first at a place is found first there
+abbrev pub KeepsFirst : {X : Type 0} → (ℕ → Option X) → (ℕ → Option X) → Type 0
+KeepsFirst {X} old new = (what : X) (place : ℕ) → IsFirst old what place → IsFirst new what place
+
+-- one pool at most is asked for, and one place in it
+abbrev pub AtMostOne : (PoolValue → ℕ → Type 0) → Type 0
+AtMostOne Asked = (new other : PoolValue) (place at : ℕ) → Asked new place → Asked other at → (new ≡ other) × (place ≡ at)

@@ -1,5 +1,6 @@
 -- What an index says of a pool: where equal entries stand first.
-use Rattle.std.specs.Prelude.{◌≡◌, ◌≢◌, ◌⊎◌, ℕ, ◌<◌, Bool, List, length, slice_index_or, Option, Some, None, Result, Err, is_some, if◌then◌else◌}
+use Rattle.std.specs.Prelude.{◌≡◌, ◌≢◌, ◌⊎◌, ℕ, ◌<◌, Bool, if◌then◌else◌, List, length, slice_index_or}
+use Rattle.std.specs.Prelude.{Option, Some, None, Result, Err, is_some}
 use Rattle.std.specs.Map.{lookup}
 use Rattle.std.specs.Str.{bytes_eq}
 use Rattle.jc_base.specs.Decoder.{◌>>=◌}
@@ -31,7 +32,8 @@ AreFirsts {X} end found table = (what : X) → IsFirstBelow end found what (tabl
 abbrev pub Notes : {X : Type 0} → (X → Option ℕ) → (X → Option ℕ) → X → ℕ → ℕ → Type 0
 Notes {X} old new what place first =
     ((old what ≡ Some first) × ((other : X) → new other ≡ old other))
-    ⊎ ((old what ≡ None) × (first ≡ place) × ((other : X) → ((other ≢ what) × (new other ≡ old other)) ⊎ ((other ≡ what) × (new other ≡ Some place))))
+    ⊎ ((old what ≡ None) × (first ≡ place)
+    × ((other : X) → ((other ≢ what) × (new other ≡ old other)) ⊎ ((other ≡ what) × (new other ≡ Some place))))
 
 -- ---- texts
 

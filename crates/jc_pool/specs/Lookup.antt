@@ -1,5 +1,5 @@
 -- What the places of a constant pool name (JVM Specification 4.4).
-use Rattle.std.specs.Prelude.{◌≡◌, ◌≢◌, ℕ, ◌<◌, List, [], slice_index_or, Option, Some, None}
+use Rattle.std.specs.Prelude.{ℕ, List, [], slice_index_or, Option, Some, None}
 use Rattle.jc_base.specs.Decoder.{◌>>=◌}
 use Rattle.jc_base.specs.Texts.{IsShortText}
 use Rattle.jc_pool.specs.declared.entry.Entry.{Entry}
@@ -34,11 +34,6 @@ class_name_of pool place = do
   e ← entry_of pool place
   name ← class_in e
   utf8_of pool name
-
--- the first place of a Class entry of this name
-pub record IsFirstClass (pool : PoolValue) (name : List ℕ) (place : ℕ) : Type 0 where
-  pub stands : class_name_of pool place ≡ Some name
-  pub before : (earlier : ℕ) → earlier < place → class_name_of pool earlier ≢ Some name
 
 -- ---- members
 

@@ -1,5 +1,6 @@
 //! Adding entries to what stands at the places of a pool.
-ghost use Rattle.std.specs.Prelude.{◌≡◌, ◌+◌, ◌<◌, ◌≤◌, None, Some, IfOk, IfSome, OnOk, OnErr, length, option_copied, vec_capacity, vec_len};
+ghost use Rattle.std.specs.Prelude.{◌≡◌, ◌+◌, ◌<◌, ◌≤◌, None, Some, IfOk, IfSome, OnOk, OnErr, length};
+ghost use Rattle.std.specs.Prelude.{vec_capacity, vec_len};
 ghost use Rattle.indexmap.specs.IndexMap.{spare};
 ghost use Rattle.jc_base.specs.Texts.{IsShortText};
 ghost use Rattle.jc_pool.specs.declared.entry.Entry.TheVariants as entry;

@@ -1,7 +1,8 @@
 //! Where equal entries stand, by their hash.
 ghost use Rattle.std.specs.Prelude.{◌≡◌, ◌<◌, ◌≤◌, ℕ, IfOk, OnOk, OnErr, length};
 ghost use Rattle.indexmap.specs.IndexMap.{spare};
-ghost use Rattle.jc_pool.specs.Index.{AreFirsts, Notes, text_place, key_place, key_in, key_at, class_place, standing_for, AreStandins, IsIndexOf, text_in, slot_key, NotesText, NotesEntry};
+ghost use Rattle.jc_pool.specs.Index.{AreFirsts, AreStandins, IsIndexOf, Notes, NotesText, NotesEntry};
+ghost use Rattle.jc_pool.specs.Index.{text_in, text_place, standing_for, key_in, key_at, slot_key, key_place, class_place};
 ghost use Rattle.jc_pool.specs.Lookup.{utf8_of};
 
 use crate::entry::Entry;
@@ -59,7 +60,8 @@ fn key_of(firsts: &[u16], entry: &Entry) -> Option<Key>
 
 /// The first place of a text, which is this one where the text is new.
 pub fn note_text(alloc: Global, texts: &mut Texts, text: &[u8], place: u16) -> Result<u16, Memory>
-    ensures ok { IfOk result (Notes (text_place texts.old.entries (λ x. x.items)) (text_place texts.new.entries (λ x. x.items)) text.now place) }
+    ensures ok { IfOk result (Notes (text_place texts.old.entries (λ x. x.items)) (text_place texts.new.entries (λ x. x.items))
+        text.now place) }
     ensures err { OnErr result (texts.new.entries ≡ texts.old.entries) }
 {
     if let Some(first) = texts.get(text) {
@@ -78,7 +80,8 @@ fn note_slot_text(
     slot: &Option<Entry>,
     place: u16,
 ) -> Result<u16, Memory>
-    ensures { IfOk result (NotesText (text_place texts.old.entries (λ x. x.items)) (text_place texts.new.entries (λ x. x.items)) (text_in slot.now) place) }
+    ensures { IfOk result (NotesText (text_place texts.old.entries (λ x. x.items)) (text_place texts.new.entries (λ x. x.items))
+        (text_in slot.now) place) }
 {
     match slot {
         Some(Entry::Utf8(text)) => note_text(alloc, texts, text.as_slice(), place),
@@ -173,8 +176,6 @@ impl Index {
 }
 
 impl Index {
-    ghost use Rattle.std.specs.Prelude.{IsSome};
-
     /// The first place of a text.
     pub fn text_place(&self, text: &[u8]) -> Option<u16>
         ensures { result ≡ text_place self.now.texts.entries (λ x. x.items) text.now }

@@ -1,9 +1,10 @@
 //! Reading the items of a constant pool (JVM Specification 4.1, 4.4).
-ghost use Rattle.std.specs.Prelude.{◌≡◌, ◌+◌, ◌<◌, ◌≤◌, IfOk, IfSome, Some, None};
+ghost use Rattle.std.specs.Prelude.{◌≡◌, ◌<◌, ◌≤◌, IfOk, IfSome, Some, None};
 ghost use Rattle.jc_base.specs.Decoder.{Gives, SameEnd};
 ghost use Rattle.jc_base.specs.Parsing.{Parses, item};
 ghost use Rattle.jc_pool.specs.Pool.{IsSmall, width};
-ghost use Rattle.jc_pool.specs.EntryReading.{count_at, utf8_at, integer_at, float_at, long_at, double_at, of_place, naming_one_at, of_places, naming_two_at, handle_at, info_at, entry_at, fitting_at};
+ghost use Rattle.jc_pool.specs.EntryReading.{count_at, utf8_at, integer_at, float_at, long_at, double_at, handle_at};
+ghost use Rattle.jc_pool.specs.EntryReading.{of_place, naming_one_at, of_places, naming_two_at, info_at, entry_at, fitting_at};
 
 use crate::entry::Entry;
 use crate::judged_text::JudgedText;

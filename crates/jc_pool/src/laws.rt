@@ -3,22 +3,24 @@ ghost use Rattle.std.specs.Prelude.{◌≡◌, ◌⊎◌, ◌++◌, ℕ, List, S
 ghost use Rattle.jc_pool.specs.Pool.{PoolValue};
 ghost use Rattle.jc_base.specs.ByteLists.{AreBytes};
 ghost use Rattle.jc_pool.specs.PoolGrammar.{pool};
-ghost use Rattle.jc_pool.specs.Adding.{IsFirst, HasUtf8, HasClass, Extends};
+ghost use Rattle.jc_pool.specs.Adding.{HasUtf8, HasClass, Extends, Keeps, KeepsFirst, AtMostOne};
 ghost use Rattle.jc_pool.specs.Lookup.{utf8_of, class_name_of};
 
 /// Bytes begin with a pool or fail as one, and never both, and they begin with one pool alone.
 pub fn one_reading()
-    ensures each { (bytes : List ℕ) → ((value : PoolValue) × (text rest : List ℕ) × (bytes ≡ text ++ rest) × pool.Text text value)
+    ensures each { (bytes : List ℕ)
+        → ((value : PoolValue) × (text rest : List ℕ) × (bytes ≡ text ++ rest) × pool.Text text value)
         ⊎ ((left : List ℕ) × pool.Fails bytes left) }
     ensures apart { (text rest left : List ℕ) (value : PoolValue) → pool.Text text value → pool.Fails (text ++ rest) left → ⊥ }
-    ensures one { (text more rest left : List ℕ) (value other : PoolValue) → text ++ rest ≡ more ++ left → pool.Text text value → pool.Text more other
-        → (value ≡ other) × (rest ≡ left) }
+    ensures one { (text more rest left : List ℕ) (value other : PoolValue) → text ++ rest ≡ more ++ left
+        → pool.Text text value → pool.Text more other → (value ≡ other) × (rest ≡ left) }
     ensures once { (bytes left other : List ℕ) → pool.Fails bytes left → pool.Fails bytes other → left ≡ other }
 {}
 
 /// A pool has one text, so what was read is written back byte for byte.
 pub fn one_text()
-    ensures { (text other : List ℕ) (value : PoolValue) → AreBytes text → AreBytes other → pool.Text text value → pool.Text other value → text ≡ other }
+    ensures { (text other : List ℕ) (value : PoolValue) → AreBytes text → AreBytes other → pool.Text text value
+        → pool.Text other value → text ≡ other }
 {}
 
 /// A pool to which an entry is added has it at the place that is answered, and all that stood in it.
@@ -27,11 +29,12 @@ pub fn one_text()
 pub fn added_entries()
     ensures utf8 { (old new : PoolValue) (text : List ℕ) (place : ℕ) → HasUtf8 old text new place → utf8_of new place ≡ Some text }
     ensures class { (old new : PoolValue) (name : List ℕ) (place : ℕ) → HasClass old name new place → class_name_of new place ≡ Some name }
-    ensures utf8_kept { (old new : PoolValue) (text : List ℕ) (place : ℕ) → Extends old new → utf8_of old place ≡ Some text → utf8_of new place ≡ Some text }
-    ensures class_kept { (old new : PoolValue) (name : List ℕ) (place : ℕ) → Extends old new → class_name_of old place ≡ Some name → class_name_of new place ≡ Some name }
-    ensures first_kept { (old new : PoolValue) (other name : List ℕ) (at place : ℕ) → HasClass old other new at → IsFirst (class_name_of old) name place → IsFirst (class_name_of new) name place }
-    ensures one_utf8 { (old new other : PoolValue) (text : List ℕ) (place at : ℕ) → HasUtf8 old text new place → HasUtf8 old text other at → (new ≡ other) × (place ≡ at) }
-    ensures one_class { (old new other : PoolValue) (name : List ℕ) (place at : ℕ) → HasClass old name new place → HasClass old name other at → (new ≡ other) × (place ≡ at) }
+    ensures utf8_kept { (old new : PoolValue) → Extends old new → Keeps (utf8_of old) (utf8_of new) }
+    ensures class_kept { (old new : PoolValue) → Extends old new → Keeps (class_name_of old) (class_name_of new) }
+    ensures first_kept { (old new : PoolValue) (name : List ℕ) (place : ℕ) → HasClass old name new place
+        → KeepsFirst (class_name_of old) (class_name_of new) }
+    ensures one_utf8 { (old : PoolValue) (text : List ℕ) → AtMostOne (HasUtf8 old text) }
+    ensures one_class { (old : PoolValue) (name : List ℕ) → AtMostOne (HasClass old name) }
     ensures some_utf8 { (old : PoolValue) (text : List ℕ) → (new : PoolValue) × (place : ℕ) × HasUtf8 old text new place }
     ensures some_class { (old : PoolValue) (name : List ℕ) → (new : PoolValue) × (place : ℕ) × HasClass old name new place }
 {}

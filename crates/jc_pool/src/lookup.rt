@@ -1,9 +1,11 @@
 //! What the places of a pool name.
-ghost use Rattle.std.specs.Prelude.{◌≡◌, ◌≢◌, ◌↔◌, [], ℕ, Some, None, IfOk, IfSome, IfNone, IsErr, IsSomeAnd, IsTrue, is_some};
+ghost use Rattle.std.specs.Prelude.{◌≡◌, ◌↔◌, [], Some, None, IfOk, IfSome, IfNone, IsErr, IsSomeAnd, IsTrue, is_some};
 ghost use Rattle.jc_base.specs.Descriptor.{IsFieldDescriptor, IsMethodDescriptor};
 ghost use Rattle.jc_base.specs.Modified.{IsModified};
 ghost use Rattle.jc_base.specs.Texts.{IsShortText};
-ghost use Rattle.jc_pool.specs.Lookup.{utf8_of, class_name_of, IsFirstClass, signature_of, member, judged_member, HasShortTexts, ref_of, dynamic_of, ref_in, reference_of, member_of, const_in, const_of};
+ghost use Rattle.jc_pool.specs.Adding.{IsFirst, IsNowhere};
+ghost use Rattle.jc_pool.specs.Lookup.{utf8_of, class_name_of, signature_of, const_in, const_of};
+ghost use Rattle.jc_pool.specs.Lookup.{member, judged_member, HasShortTexts, ref_of, dynamic_of, ref_in, reference_of, member_of};
 
 use crate::entry::Entry;
 use crate::judged_text::JudgedText;
@@ -145,8 +147,8 @@ impl Pool {
     /// The first place of a Class entry of this name (JVM Specification 4.4.1), exactly where there
     /// is one.
     pub fn find_class(&self, name: &[u8]) -> Option<u16>
-        ensures first { IfSome result (IsFirstClass self.now name.now) }
-        ensures none { IfNone result ((place : ℕ) → class_name_of self.now place ≢ Some name.now) }
+        ensures first { IfSome result (IsFirst (class_name_of self.now) name.now) }
+        ensures none { IfNone result (IsNowhere (class_name_of self.now) name.now) }
     {
         'finding: for place in 0..self.count() {
             if self.is_class_named(place, name) {

@@ -4,7 +4,7 @@ use Rattle.jc_pool.specs.declared.entry.Entry.TheVariants as entry
 use Rattle.jc_pool.specs.Adding.{IsPut}
 use Rattle.jc_pool.proofs.AddingLaws.{text_refused, utf8_pool}
 use Rattle.jc_pool.proofs.ClassPlaceLaws.{text_nowhere}
-use Rattle.jc_pool.proofs.GrownLaws.{grown_length}
+use Rattle.jc_pool.proofs.OneMoreEntryLaws.{grown_length}
 use Rattle.jc_pool.proofs.add.add_text.Goals as goal
 
 pub returns-in_err-take_room-clause-full : goal.returns-in_err-take_room-clause-full

@@ -1,7 +1,7 @@
 use Rattle.std.proofs.Common.{◌≡◌, ◌∙◌, ap, refl, not, inl, rules}
 use Rattle.indexmap.specs.IndexMap.{insert_entry}
 use Rattle.jc_pool.specs.Index.{same_key, key_place}
-use Rattle.jc_pool.proofs.NotedLaws.{key_fresh, not_found, was_found}
+use Rattle.jc_pool.proofs.FirstPlaceMapLaws.{key_fresh, not_found, was_found}
 use Rattle.jc_pool.proofs.index.note_key.Goals as goal
 
 pub returns-then-is_none : goal.returns-then-is_none

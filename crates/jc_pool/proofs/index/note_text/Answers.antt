@@ -1,5 +1,5 @@
 use Rattle.std.proofs.Common.{sym}
-use Rattle.jc_pool.proofs.NotedLaws.{text_fresh}
+use Rattle.jc_pool.proofs.FirstPlaceMapLaws.{text_fresh}
 use Rattle.jc_pool.proofs.index.note_text.Goals as goal
 
 pub returns-clause-ok : goal.returns-clause-ok

@@ -3,6 +3,7 @@ use Rattle.std.proofs.Common.{◌≡◌, ◌≢◌, ◌⊎◌, inl, inr, ℕ, �
 use Rattle.std.proofs.lemmas.Bool.{cases_lt}
 use Rattle.std.proofs.lemmas.Option.{none-some}
 use borrow.Author.Count.{below_more}
+use Rattle.jc_base.proofs.DecoderLaws.{some_is}
 use Rattle.jc_pool.specs.Adding.{IsFirst, IsNowhere}
 use Rattle.jc_pool.specs.Index.{IsFirstBelow, AreFirsts, Notes}
 
@@ -25,21 +26,18 @@ module _ {X : Type 0} where
   pub nothing_more : (found : ℕ → Option X) (end : ℕ) (table : X → Option ℕ) → found end ≡ None → AreFirsts end found table → AreFirsts (end + 1) found table
   nothing_more found end table none firsts x = further found end x (table x) (λ there _. none-some x (sym none ∙ there)) (firsts x)
 
-  one_found : (x y : X) → Some x ≡ Some y → x ≡ y
-  one_found x y same = cc
-
   -- what is found there is noted
   pub noted : (found : ℕ → Option X) (end : ℕ) (old new : X → Option ℕ) (x : X) (first : ℕ) → found end ≡ Some x → Notes old new x end first → AreFirsts end found old
       → AreFirsts (end + 1) found new
   noted found end old new x first at (inl known) firsts y =
       subst (IsFirstBelow (end + 1) found y) (sym (known.1 y))
-      (further found end y (old y) (λ there none. none-some first (sym none ∙ ap old (sym (one_found x y (sym at ∙ there))) ∙ known.0)) (firsts y))
+      (further found end y (old y) (λ there none. none-some first (sym none ∙ ap old (sym (some_is x y (sym at ∙ there))) ∙ known.0)) (firsts y))
   noted found end old new x first at (inr fresh) firsts y = by (fresh.2 y)
     where
       by : ((y ≢ x) × (new y ≡ old y)) ⊎ ((y ≡ x) × (new y ≡ Some end)) → IsFirstBelow (end + 1) found y (new y)
       by (inl other) =
           subst (IsFirstBelow (end + 1) found y) (sym other.1)
-          (further found end y (old y) (λ there none. other.0 (sym (one_found x y (sym at ∙ there)))) (firsts y))
+          (further found end y (old y) (λ there none. other.0 (sym (some_is x y (sym at ∙ there)))) (firsts y))
       by (inr this) =
           let none : IsFirstBelow end found y None = subst (IsFirstBelow end found y) (ap old this.0 ∙ fresh.0) (firsts y) in
           subst (IsFirstBelow (end + 1) found y) (sym this.1) (omega arith, record { stands = at ∙ ap Some (sym this.0); before = none })

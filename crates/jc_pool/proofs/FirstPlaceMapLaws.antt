@@ -2,6 +2,7 @@
 use Rattle.std.proofs.Common.{◌≡◌, ◌≢◌, ◌⊎◌, inl, inr, ℕ, Bool, true, false, List, [], ◌∷◌, ◌++◌, cond, Option, Some, None, Decides, Bor, option_copied, is_some, refl, sym, ◌∙◌, ap, true≢false}
 use Rattle.std.specs.Map.{lookup}
 use Rattle.std.specs.Str.{bytes_eq}
+use Rattle.std.proofs.lemmas.Bool.{cases_Bool}
 use Rattle.std.proofs.lemmas.Bool.Decides.{Decides-eqb}
 use Rattle.std.proofs.lemmas.Map.{NonePasses, none_passes_from_lookup}
 use Rattle.std.proofs.lemmas.Slice.Eq.{bytes_eq-Decides}
@@ -9,7 +10,6 @@ use Rattle.indexmap.specs.IndexMap.{insert_entry}
 use Rattle.jc_pool.specs.declared.index.Key.{Key}
 use Rattle.jc_pool.specs.declared.index.Key.TheVariants as key
 use Rattle.jc_pool.specs.Index.{Notes, text_place, same_key, key_place}
-use Rattle.jc_pool.proofs.PoolSteps.{two_cases}
 
 module _ {X : Type 0} (test : X → Bool) where
   -- a pair that is put last is found where its key passes and no earlier one does
@@ -43,7 +43,7 @@ module _ {X K : Type 0} (same : K → K → Bool) (tells : (a b : K) → Decides
       last = put ∙ inserted_last (λ x. same (key_of k) (key_of x)) (λ a b. same (key_of a) (key_of b)) es k place none_passes
 
       each : (other : K) → ((other ≢ what) × (place_of fs other ≡ place_of es other)) ⊎ ((other ≡ what) × (place_of fs other ≡ Some place))
-      each other = elim (two_cases (same other (key_of k))) [
+      each other = elim (cases_Bool (same other (key_of k))) [
         | inl passes ↦
             let this : other ≡ what = (tells other (key_of k)).0 passes ∙ is in
             inr (this, ap (λ (l : List (X × ℕ)). place_of l other) last ∙ push_same (λ x. same other (key_of x)) es k place passes (none_passes_from_lookup (λ x. same other (key_of x)) es (ap (place_of es) this ∙ none)))

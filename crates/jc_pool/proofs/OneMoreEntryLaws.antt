@@ -11,7 +11,7 @@ use Rattle.jc_pool.specs.Pool.{PoolValue, is_wide, IsSmall, IsFilled, IsPool}
 use Rattle.jc_pool.specs.Lookup.{entry_of, utf8_in, utf8_of}
 use Rattle.jc_pool.specs.Adding.{IsFirst, IsNowhere}
 use Rattle.jc_pool.specs.Index.{IsFirstBelow, AreFirsts, Notes, NotesEntry, standing_for, AreStandins, key_in, key_at}
-use Rattle.jc_pool.proofs.FirstsLaws.{nothing_more, noted, same_below, first_stays}
+use Rattle.jc_pool.proofs.FirstPlaceLaws.{nothing_more, noted, same_below, first_stays}
 
 -- ---- what stands where
 
