@@ -6,5 +6,5 @@ pub mod WritingLaws
 pub mod NamedLaws
 pub mod OneClassLaws
 pub mod FirstBadLaws
-pub mod WholeLaws
+pub mod WritableLaws
 pub mod SizesLaws

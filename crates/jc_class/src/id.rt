@@ -1,5 +1,5 @@
 //! The id of a class file.
-ghost use Rattle.std.specs.Prelude.{◌≡◌, ◌<◌, ◌^◌, ◌==◌, ◌&&◌, map, fold, nat_le, length, slice_index};
+ghost use Rattle.std.specs.Prelude.{◌≡◌, ◌^◌, ◌==◌, ◌&&◌, map, fold, nat_le, length, slice_index};
 ghost use Rattle.std.specs.List.{range_with_len};
 ghost use Rattle.jc_class.specs.ClassId.{after_bit, after_bits, after_byte, class_id};
 

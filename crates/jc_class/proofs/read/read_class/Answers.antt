@@ -3,7 +3,7 @@ use Rattle.jc_class.proofs.ClassLaws.{reads, refuses, takes, fails_there}
 use Rattle.jc_base.specs.Outside.{most_read}
 use Rattle.jc_base.proofs.OneTextLaws.{are_bytes}
 use Rattle.jc_class.proofs.SizesLaws.{all_within}
-use Rattle.jc_class.proofs.WholeLaws.{wholes}
+use Rattle.jc_class.proofs.WritableLaws.{wholes}
 use Rattle.jc_class.proofs.read.read_class.Goals as goal
 
 pub returns : goal.returns

@@ -1,4 +1,4 @@
-use Rattle.jc_class.proofs.WholeLaws.{written_back}
+use Rattle.jc_class.proofs.WritableLaws.{written_back}
 use Rattle.jc_class.proofs.write.write_class.Goals as goal
 
 pub returns-clause-back : goal.returns-clause-back
