@@ -1,18 +1,13 @@
 -- Over a store with one record of each id, each text has a union or a block that is refused first.
-use Rattle.std.proofs.Common.{◌≡◌, ◌≢◌, ◌⊎◌, inl, inr, ℕ, zero, suc, ◌<◌, ◌≤◌, Bool, true, false, cond, List, [], ◌∷◌, ◌++◌, length, take, Contains, Option, Some, None, option_map, bytes_eq, nat_eq, refl, sym, ◌∙◌, ap, subst, arith, append_assoc, length-append}
+use Rattle.std.proofs.Common.{◌≡◌, ◌≢◌, ◌⊎◌, inl, inr, ℕ, zero, suc, ◌<◌, ◌≤◌, Bool, true, false, cond, List, [], ◌∷◌, ◌++◌, length, Contains, Option, Some, None, option_map, nat_eq, refl, sym, ◌∙◌, ap, subst, arith, append_assoc}
 use Rattle.std.proofs.lemmas.Bool.{eqb-true, false≢true}
-use Rattle.std.proofs.lemmas.List.{append-nil, take_at}
-use Rattle.std.proofs.lemmas.Slice.Eq.{bytes_eq-Decides}
-use Rattle.jc_base.specs.Modified.{IsModified}
-use Rattle.jc_base.specs.Decoder.{IsBig, first, number_at}
-use Rattle.jc_base.proofs.DecoderLaws.{bind_some, guard_some, some_is, some_none, first_takes, first_again, number_takes, number_again}
+use Rattle.std.proofs.lemmas.List.{append-nil}
+use Rattle.jc_base.proofs.DecoderLaws.{some_none}
 use Rattle.jc_exec.specs.declared.hits.ClassHits.{ClassHits}
-use Rattle.jc_exec.specs.declared.session.Session.{Session}
-use Rattle.jc_exec.specs.Format.{Block, header, session, class, header_text, IsSessionBlock, IsClassBlock, IsBlock, AreBlocks, Blocks}
-use Rattle.jc_exec.specs.Reading.{class_at, session_at, version_at}
+use Rattle.jc_exec.specs.Format.{Block, header, session, class, IsBlock, Blocks}
 use Rattle.jc_exec.specs.Store.{Store}
 use Rattle.jc_exec.specs.Union.{Agrees, IsUnion, agree, either_bits, with_record, with_block}
-use Rattle.jc_exec.specs.Refusing.{Refused, bad_exec, other_version, conflict, blocks_of, MayFollow, HasOtherHeader, RefusedHere, IsTaken, IsRefused, OneOfEachId}
+use Rattle.jc_exec.specs.Refusing.{Refused, bad_exec, other_version, conflict, blocks_of, MayFollow, RefusedHere, IsTaken, IsRefused, OneOfEachId}
 use Rattle.jc_exec.proofs.BlockInFrontLaws.{Decided, HasBlock, other_header_decided, block_decided, shorter}
 use Rattle.jc_exec.proofs.ListLaws.{one_front, blocks_push}
 use Rattle.jc_exec.proofs.MergingLaws.{agrees_agree, union_block}

@@ -1,35 +1,27 @@
 -- The block in front of what is left, as it is read.
-use Rattle.std.proofs.Common.{◌≡◌, ℕ, zero, suc, ◌+◌, ◌*◌, ◌<◌, ◌≤◌, List, [], ◌∷◌, ◌++◌, ◌==◌, ◌↔◌, Bool, true, false, not, length, take, drop, get_or, bytes_eq, Option, Some, None, Result, Ok, Err, refl, sym, ◌∙◌, ap, subst, arith, append_assoc, inl, inr}
+use Rattle.std.proofs.Common.{◌≡◌, ℕ, ◌<◌, List, [], ◌∷◌, ◌++◌, ◌↔◌, Bool, true, false, get_or, Option, Some, None, Err, refl, sym, ◌∙◌, ap, subst, arith}
 use Rattle.std.specs.Prelude.{IsTrue}
-use Rattle.std.specs.Int.{w64, cast_signed}
-use Rattle.std.proofs.lemmas.Bool.{eqb-true, false≢true}
-use Rattle.std.proofs.lemmas.List.{take_at, take-append-drop, length-take}
-use Rattle.std.proofs.lemmas.Slice.Eq.{bytes_eq-Decides}
-use Rattle.byteorder.specs.Endian.{big_number}
+use Rattle.std.proofs.lemmas.Bool.{false≢true}
 use Rattle.jc_base.specs.declared.fail.Fail.{Fail}
 use Rattle.jc_base.specs.declared.fail.Fail.TheVariants as fails
 use Rattle.jc_base.specs.declared.fail.Unfit.{Unfit}
-use Rattle.jc_base.specs.Decoder.{IsBig, Gives, SameEnd, ◌>>=◌, first, byte_at, number_at}
+use Rattle.jc_base.specs.Decoder.{Gives, SameEnd, first}
 use Rattle.jc_base.specs.Modified.{IsModified}
 use Rattle.jc_base.specs.Reader.{Reading}
-use Rattle.jc_base.proofs.DecoderLaws.{bind_some, guard_some, some_is, some_none, first_takes, first_again, number_takes, number_again, byte_takes, byte_again}
+use Rattle.jc_base.proofs.DecoderLaws.{some_is, some_none}
 use Rattle.jc_exec.specs.declared.hits.ClassHits.{ClassHits}
 use Rattle.jc_exec.specs.declared.session.Session.{Session}
-use Rattle.jc_exec.specs.declared.block.Front.{Front}
 use Rattle.jc_exec.specs.declared.refusal.ExecRefusal.{ExecRefusal}
 use Rattle.jc_exec.specs.declared.refusal.ExecRefusal.TheVariants.{BadExec}
-use Rattle.jc_exec.specs.Format.{Block, header, session, class, header_text, SessionParts, session_joined, SpellsSession, IsSessionBlock, IsClassBlock, IsBlock}
+use Rattle.jc_exec.specs.Format.{Block, header, session, class, IsSessionBlock, IsClassBlock, IsBlock}
 use Rattle.jc_exec.specs.Front.{MayStandAt, Took, IsUnfit, ReadsFront, IsUnread}
-use Rattle.jc_exec.specs.Reading.{text_at, class_at, session_at, version_at}
-use Rattle.jc_exec.specs.Refusing.{bad_exec, other_version, HasOtherHeader}
-use Rattle.jc_exec.proofs.BlockLaws.{text_takes, text_again, class_takes, class_again}
+use Rattle.jc_exec.specs.Reading.{class_at, session_at, version_at}
+use Rattle.jc_exec.specs.Refusing.{bad_exec, HasOtherHeader}
+use Rattle.jc_exec.proofs.BlockLaws.{class_takes, class_again}
 use Rattle.jc_exec.proofs.ListLaws.{kind_of, kind_first, session_takes, session_again}
 use Rattle.jc_exec.proofs.HeaderLaws.{version_again}
 
 -- ---- what was taken
-
-pub took_header : (old new : Reading) → old.left ≡ header_text ++ new.left → SameEnd old new → Took old new header
-took_header old new parts end = record { front = header_text; parts = parts; block = refl; follows = λ first. refl; end = end }
 
 behind : (offset : ℕ) (b : Block) → 0 < offset → MayStandAt offset b
 behind offset b later = λ first. absurd (omega (arith, later, first))
@@ -105,15 +97,6 @@ no_first at offset here start apart = unfit at offset (get_or at.left 0 0) here 
   where
     by : (b : Block) (front more : List ℕ) → at.left ≡ front ++ more → IsBlock front b → MayStandAt at.place b → kind_of b ≡ get_or at.left 0 0 → ⊥
     by b front more parts block follows is = apart (sym is ∙ ap kind_of (follows (sym here ∙ start)))
-
--- the byte in front is no block's
-pub no_kind : (at : Reading) (offset : ℕ) → offset ≡ at.place → (get_or at.left 0 0 ≡ 1 → ⊥) → (get_or at.left 0 0 ≡ 0x10 → ⊥) → (get_or at.left 0 0 ≡ 0x11 → ⊥) → IsUnfit at (bad_exec offset)
-no_kind at offset here a b c = unfit at offset (get_or at.left 0 0) here refl by (λ found h is. a is)
-  where
-    by : (x : Block) (front more : List ℕ) → at.left ≡ front ++ more → IsBlock front x → MayStandAt at.place x → kind_of x ≡ get_or at.left 0 0 → ⊥
-    by header front more parts block follows is = a (sym is)
-    by (session s) front more parts block follows is = b (sym is)
-    by (class d) front more parts block follows is = c (sym is)
 
 -- ---- an item that was not read
 

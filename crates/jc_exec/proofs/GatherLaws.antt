@@ -1,22 +1,20 @@
 -- The blocks of a text, gathered one after the other.
-use Rattle.std.proofs.Common.{◌≡◌, ◌≢◌, ℕ, ◌+◌, ◌<◌, ◌≤◌, List, [], ◌∷◌, ◌++◌, length, map, Option, Some, None, option_map, option_and_then, is_ok, if◌then◌else◌, Result, Ok, Err, refl, sym, ◌∙◌, ap, subst, arith, append_assoc, length-append}
+use Rattle.std.proofs.Common.{◌≡◌, ◌≢◌, ℕ, ◌<◌, List, [], ◌∷◌, ◌++◌, length, Option, Some, option_and_then, is_ok, if◌then◌else◌, Result, Ok, Err, refl, sym, ◌∙◌, ap, subst, arith, append_assoc, length-append}
 use Rattle.std.specs.List.{AllByRecursion}
-use Rattle.std.proofs.lemmas.List.{append-nil, nil_from_length}
+use Rattle.std.proofs.lemmas.List.{nil_from_length}
 use Rattle.jc_base.specs.declared.fail.Fail.{Fail}
 use Rattle.jc_base.specs.declared.fail.Fail.TheVariants as fails
 use Rattle.jc_base.specs.Reader.{Reading}
-use Rattle.jc_base.proofs.DecoderLaws.{some_is}
 use Rattle.jc_exec.specs.declared.store.Added.{Added}
 use Rattle.jc_exec.specs.declared.hits.ClassHits.{ClassHits}
 use Rattle.jc_exec.specs.declared.session.Session.{Session}
-use Rattle.jc_exec.specs.declared.block.Front.{Front}
 use Rattle.jc_exec.specs.declared.refusal.ExecRefusal.{ExecRefusal}
-use Rattle.jc_exec.specs.Adding.{Entries, over, Gathers, Puts, Keeps, RefusesBlock, RefusesAll, store_of, store_with}
+use Rattle.jc_exec.specs.Adding.{Entries, over, Gathers, Puts, Keeps, RefusesBlock, store_of, store_with}
 use Rattle.jc_exec.specs.Answers.{why_of, Refuses, SaysOnly, RefusesRecord}
-use Rattle.jc_exec.specs.Format.{Block, header, session, class, IsBlock, AreBlocks, Blocks, BeginsWithHeader}
-use Rattle.jc_exec.specs.Front.{MayStandAt, Took, IsUnfit, ReadsFront, block_of}
+use Rattle.jc_exec.specs.Format.{Block, header, session, class, Blocks, BeginsWithHeader}
+use Rattle.jc_exec.specs.Front.{MayStandAt, Took, IsUnfit, ReadsFront}
 use Rattle.jc_exec.specs.Refusing.{Refused, bad_exec, other_version, conflict, MayFollow, RefusedHere, FirstRefusal, blocks_of}
-use Rattle.jc_exec.specs.Store.{Store, IsWritable, classes_of, Keyed}
+use Rattle.jc_exec.specs.Store.{Store, IsWritable, Keyed}
 use Rattle.jc_exec.specs.Union.{IsUnion, ReadsOn, with_block, union_of}
 use Rattle.jc_exec.proofs.ListLaws.{no_block, one_list, blocks_push}
 use Rattle.jc_exec.proofs.MergingLaws.{union_blocks}

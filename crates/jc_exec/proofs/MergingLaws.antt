@@ -1,5 +1,5 @@
 -- Records that are merged one after the other make the union, and nothing but records that do not agree stops it.
-use Rattle.std.proofs.Common.{◌≡◌, ◌≢◌, ◌⊎◌, inl, inr, ℕ, zero, suc, ◌<◌, Bool, true, false, not, cond, ◌&&◌, ◌||◌, List, [], ◌∷◌, ◌++◌, length, filter, Contains, Option, Some, None, option_map, option_and_then, nat_eq, get_or, bytes_eq, refl, sym, ◌∙◌, ap, subst, arith, append_assoc}
+use Rattle.std.proofs.Common.{◌≡◌, ◌≢◌, ◌⊎◌, inl, inr, ℕ, zero, suc, ◌<◌, Bool, true, false, not, cond, ◌||◌, List, [], ◌∷◌, ◌++◌, length, filter, Contains, Option, Some, None, option_map, option_and_then, nat_eq, get_or, bytes_eq, refl, sym, ◌∙◌, ap, subst, arith, append_assoc}
 use Rattle.std.specs.List.{AllByRecursion}
 use Rattle.std.proofs.lemmas.Bool.{eqb-true, eqb-false, eq-eqb, and_parts, or_cases, or_left, or_right}
 use Rattle.std.proofs.lemmas.List.{append-nil, map-append}
@@ -10,7 +10,8 @@ use Rattle.jc_exec.specs.declared.hits.ClassHits.{ClassHits}
 use Rattle.jc_exec.specs.declared.session.Session.{Session}
 use Rattle.jc_exec.specs.Format.{Block, header, session, class}
 use Rattle.jc_exec.specs.Store.{Store, IsNew}
-use Rattle.jc_exec.specs.Union.{sessions_of, records_of, ids_of, first_seen, Agrees, IsHitAt, IsMerged, IsUnion, either_bits, agree, either_hits, with_record, with_block, union_of}
+use Rattle.jc_base.specs.FirstSeen.{first_seen}
+use Rattle.jc_exec.specs.Union.{sessions_of, records_of, ids_of, Agrees, IsHitAt, IsMerged, IsUnion, either_bits, agree, either_hits, with_record, with_block, union_of}
 use Rattle.jc_exec.specs.Refusing.{OneOfEachId}
 use Rattle.jc_exec.proofs.UnionLaws.{sessions-append, records-append, all_filter, among, first_seen-append, among_first_seen, merged_other, merged_first, all_merged_other, union_none, union_header, one_union, in_union, among_there, HasRecord, seen_has_record}
 

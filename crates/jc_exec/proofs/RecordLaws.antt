@@ -1,5 +1,5 @@
 -- Records under their ids, with one more merged in.
-use Rattle.std.proofs.Common.{◌≡◌, ℕ, zero, suc, ◌<◌, Bool, true, false, cond, List, [], ◌∷◌, Contains, Option, Some, None, is_some, Result, Ok, Err, IfErr, OnOk, OnErr, IfSome, IsSomeAnd, IsErrAnd, length, get_or, nat_eq, refl, sym, ◌∙◌, ap, subst, arith}
+use Rattle.std.proofs.Common.{◌≡◌, ℕ, zero, suc, ◌<◌, Bool, true, false, cond, [], ◌∷◌, Contains, Option, Some, None, is_some, Result, Ok, Err, IfErr, OnOk, OnErr, IfSome, IsSomeAnd, IsErrAnd, length, get_or, nat_eq, refl, sym, ◌∙◌, ap, subst, arith}
 use Rattle.std.proofs.lemmas.Bool.{eqb-true, eqb-false, ne_eqb, eq-eqb}
 use denote.Bor.{Bor}
 use Rattle.std.specs.Option.{option_copied}
@@ -15,8 +15,8 @@ use Rattle.jc_exec.specs.declared.refusal.ExecRefusal.{ExecRefusal}
 use Rattle.jc_exec.specs.Adding.{Entries, over, Merges, Puts, RefusesMerging, GivesMerged, MergesInto}
 use Rattle.jc_exec.specs.Answers.{IsConflict, RefusesRecord, SaysOnly, conflict_of}
 use Rattle.jc_exec.specs.Store.{IsSmall, classes_of, Keyed, IsNew}
-use Rattle.jc_exec.specs.Union.{Agrees, agree, either_hits, with_record}
-use Rattle.jc_exec.proofs.EitherLaws.{small_either, agree_apart, apart_agree}
+use Rattle.jc_exec.specs.Union.{agree, either_hits, with_record}
+use Rattle.jc_exec.proofs.RecordBitsLaws.{small_either, agree_apart, apart_agree}
 
 -- ---- looking up
 

@@ -11,7 +11,8 @@ use Rattle.jc_exec.specs.declared.hits.ClassHits.{ClassHits}
 use Rattle.jc_exec.specs.Format.{class}
 use Rattle.jc_exec.specs.SlowUnion.{some_hit, all_hits, merged_record}
 use Rattle.jc_exec.specs.Store.{Store}
-use Rattle.jc_exec.specs.Union.{records_of, ids_of, first_seen, IsHitAt, SomeIsHitAt, IsMerged, IsUnion}
+use Rattle.jc_base.specs.FirstSeen.{first_seen}
+use Rattle.jc_exec.specs.Union.{records_of, ids_of, IsHitAt, SomeIsHitAt, IsMerged, IsUnion}
 use Rattle.jc_exec.specs.Writing.{low_first, pack}
 use Rattle.jc_exec.proofs.UnionLaws.{among, among_first_seen, all_weaker, same_records, seen_has_record, first_seen-append, in_union, among_there, HasRecord}
 
@@ -143,9 +144,6 @@ ids_next rs i r lt is =
     ∙ ap first_seen (map-append (λ (c : ClassHits). c.id) (take i rs) (r ∷ []))
     ∙ first_seen-append (ids_of (take i rs)) r.id
     ∙ ap (λ (b : Bool). first_seen (ids_of (take i rs)) ++ cond b [] (r.id ∷ [])) (among_ids r.id (take i rs))
-
-pub made_none : (rs out : List ClassHits) → out ≡ [] → Made rs 0 out
-made_none rs out e = subst (Made rs 0) (sym e) (record { ids = refl; all = tt })
 
 pub made_new : (rs out later : List ClassHits) (i : ℕ) (r c : ClassHits) → Made rs i out → i < length rs → get_or rs i r ≡ r → list_any (λ x. nat_eq x.id r.id) (take i rs) ≡ false → c ≡ merged_record rs r → later ≡ out ++ c ∷ [] → Made rs (i + 1) later
 made_new rs out later i r c m lt is none merges e = subst (Made rs (i + 1)) (sym e) (record {

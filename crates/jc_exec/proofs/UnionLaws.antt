@@ -1,15 +1,16 @@
 -- The union of a list of blocks, one block more at a time.
-use Rattle.std.proofs.Common.{◌≡◌, ◌⊎◌, inl, inr, ⊎_elim, ℕ, zero, suc, ◌<◌, Bool, true, false, not, cond, ◌||◌, List, [], ◌∷◌, ◌++◌, length, map, filter, Contains, nat_eq, get_or, drop, refl, sym, ◌∙◌, ap, subst, arith, append_assoc}
+use Rattle.std.proofs.Common.{◌≡◌, inl, inr, ℕ, zero, suc, ◌<◌, Bool, true, false, not, cond, ◌||◌, List, [], ◌∷◌, ◌++◌, length, filter, Contains, nat_eq, get_or, drop, refl, sym, ◌∙◌, ap, subst, arith}
 use Rattle.std.specs.List.{AllByRecursion, list_any}
 use Rattle.std.proofs.lemmas.Bool.{eqb-true, eqb-false, ne_eqb, eq-eqb, or_parts, or_right}
-use Rattle.std.proofs.lemmas.List.{append-nil, map-append, length-append}
+use Rattle.std.proofs.lemmas.List.{append-nil, map-append}
 use Rattle.std.proofs.lemmas.List.Elements.{filter-append, All-from_recursion, recursion_from_All, All-weaker, All-filter, Contains-append_left, Contains-push, Contains-push_cases}
 use Rattle.jc_base.proofs.EachLaws.{all_push}
 use Rattle.jc_exec.specs.declared.hits.ClassHits.{ClassHits}
 use Rattle.jc_exec.specs.declared.session.Session.{Session}
 use Rattle.jc_exec.specs.Format.{Block, header, session, class}
 use Rattle.jc_exec.specs.Store.{Store, IsNew}
-use Rattle.jc_exec.specs.Union.{sessions_of, records_of, ids_of, first_seen, Agrees, IsHitAt, IsMerged, IsUnion}
+use Rattle.jc_base.specs.FirstSeen.{first_seen}
+use Rattle.jc_exec.specs.Union.{sessions_of, records_of, ids_of, Agrees, IsHitAt, IsMerged, IsUnion}
 
 -- ---- what the blocks hold
 

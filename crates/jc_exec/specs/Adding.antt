@@ -1,6 +1,6 @@
 -- What a file adds to a store, as it is gathered apart: sessions, and records by their ids. A record whose id
 -- is in the store is gathered with the bits of both.
-use Rattle.std.specs.Prelude.{◌≡◌, ℕ, List, ◌++◌, Some, nat_eq, ⊤, Bool, true, false, Result, Ok, Err}
+use Rattle.std.specs.Prelude.{◌≡◌, ℕ, List, ◌++◌, Some, nat_eq, ⊤, true, false, Result, Ok, Err}
 use Rattle.std.specs.List.{AllByRecursion}
 use Rattle.indexmap.specs.IndexMap.{insert_all}
 use Rattle.jc_base.specs.declared.fail.Fail.{Fail}

@@ -1,6 +1,8 @@
 -- The union of a list of blocks.
-use Rattle.std.specs.Prelude.{◌≡◌, ℕ, ◌<◌, ◌↔◌, Bool, false, not, ◌&&◌, ◌||◌, IsTrue, List, [], ◌∷◌, ◌++◌, length, map, filter, Option, Some, None, option_map, option_and_then, Contains, nat_eq, bytes_eq, slice_index_or, if◌then◌else◌}
+use Rattle.std.specs.Prelude.{◌≡◌, ℕ, ◌<◌, ◌↔◌, Bool, false, not, ◌&&◌, ◌||◌, IsTrue, List, [], ◌∷◌, ◌++◌, length, map, Option}
+use Rattle.std.specs.Prelude.{Some, None, option_map, option_and_then, Contains, nat_eq, bytes_eq, slice_index_or, if◌then◌else◌}
 use Rattle.std.specs.List.{AllByRecursion}
+use Rattle.jc_base.specs.FirstSeen.{first_seen}
 use Rattle.jc_exec.specs.declared.hits.ClassHits.{ClassHits}
 use Rattle.jc_exec.specs.declared.session.Session.{Session}
 use Rattle.jc_exec.specs.Format.{Block, header, session, class, Blocks}
@@ -22,11 +24,6 @@ records_of (class c ∷ bs) = c ∷ records_of bs
 
 abbrev pub ids_of : List ClassHits → List ℕ
 ids_of cs = map (λ c. c.id) cs
-
--- each number once, where it is first seen
-abbrev pub first_seen : List ℕ → List ℕ
-first_seen [] = []
-first_seen (x ∷ xs) = x ∷ filter (λ y. not (nat_eq x y)) (first_seen xs)
 
 -- the same name, and as many probes
 pub record Agrees (c d : ClassHits) : Type 0 where

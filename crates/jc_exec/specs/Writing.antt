@@ -1,5 +1,6 @@
 -- The one text that is written for a store.
-use Rattle.std.specs.Prelude.{⊤, ◌≡◌, ◌&&◌, ℕ, zero, suc, ◌+◌, ◌*◌, ◌/◌, ◌%◌, ℤ, int_le, nat_lt, Bool, true, List, [], ◌∷◌, ◌++◌, length, take, drop, filter, if◌then◌else◌}
+use Rattle.std.specs.Prelude.{⊤, ◌≡◌, ◌&&◌, ℕ, zero, suc, ◌+◌, ◌*◌, ◌/◌, ◌%◌, ℤ, int_le, nat_lt, Bool}
+use Rattle.std.specs.Prelude.{true, List, [], ◌∷◌, ◌++◌, length, take, drop, filter, if◌then◌else◌}
 use Rattle.std.specs.List.{AllByRecursion, flat_map, list_any}
 use Rattle.std.specs.Int.{w64, cast_unsigned}
 use Rattle.byteorder.specs.Endian.{big_bytes}

@@ -2,6 +2,7 @@
 ghost use Rattle.std.specs.Prelude.{◌≡◌, ◌≤◌, ◌++◌, [], ◌∷◌, length, List, Contains, IfOk, IfErr, IfSome, IsSomeAnd};
 ghost use Rattle.std.specs.Prelude.{IsErrAnd, OnOk, OnErr, MatchResult};
 ghost use Rattle.jc_base.specs.Modified.{IsModified};
+ghost use Rattle.jc_base.specs.Outside.{most_read};
 ghost use Rattle.jc_exec.specs.declared.hits.ClassHits.{ClassHits};
 ghost use Rattle.jc_exec.specs.declared.session.Session.{Session};
 ghost use Rattle.jc_exec.specs.Adding.{Gathers, RefusesAll, Keeps, RefusesBlock};
@@ -75,7 +76,7 @@ impl ExecStore {
     /// where a whole header has another version. `Conflict`, where the class id is there with another
     /// name or another number of probes. `Memory`, where memory is refused.
     pub fn read(&mut self, alloc: Global, bytes: &[u8]) -> Result<(), Fail<ExecRefusal>>
-        requires { length bytes.now ≤ 67108864 }
+        requires { length bytes.now ≤ most_read }
 
         // A union of some blocks becomes the union of those and the blocks read.
         ensures union { OnOk result (ReadsOn bytes.now self.old self.new) }
@@ -183,7 +184,7 @@ fn keep(
 
 /// The blocks of a file over some records.
 fn read_blocks(alloc: Global, known: &Records, bytes: &[u8]) -> Result<Added, Fail<ExecRefusal>>
-    requires short { length bytes.now ≤ 67108864 }
+    requires short { length bytes.now ≤ most_read }
     requires keyed { Keyed known.now.entries }
     ensures gathers { IfOk result (λ added. Gathers known.now.entries bytes.now added.sessions.items added.records.entries) }
     ensures refused { IfErr result (RefusesAll known.now.entries bytes.now) }

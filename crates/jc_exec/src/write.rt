@@ -1,5 +1,5 @@
 //! Execution data as bytes.
-ghost use Rattle.std.specs.Prelude.{◌≡◌, ◌+◌, ◌*◌, ◌/◌, ◌<◌, ◌≤◌, ◌^◌, ◌++◌, ◌∷◌, [], ℕ, length, map, filter, OnOk, IfOk, All};
+ghost use Rattle.std.specs.Prelude.{◌≡◌, ◌+◌, ◌*◌, ◌/◌, ◌<◌, ◌≤◌, ◌^◌, ◌++◌, [], ℕ, length, map, filter, OnOk, IfOk, All};
 ghost use Rattle.std.specs.List.{list_any, flat_map};
 ghost use Rattle.jc_exec.specs.Store.{IsSmall};
 ghost use Rattle.jc_exec.specs.Writing.{low_first, packed, id_text, size_text, shortest, count_text, time_text};

@@ -1,5 +1,5 @@
 use Rattle.std.proofs.Common.{sym, ◌∙◌}
-use Rattle.jc_exec.proofs.EitherLaws.{hits_swap}
+use Rattle.jc_exec.proofs.RecordBitsLaws.{hits_swap}
 use Rattle.jc_exec.proofs.merge.merged.Goals as goal
 
 pub returns : goal.returns

@@ -1,5 +1,5 @@
 use Rattle.std.proofs.Common.{arith}
-use Rattle.jc_exec.proofs.EitherLaws.{either_none, either_more}
+use Rattle.jc_exec.proofs.RecordBitsLaws.{either_none, either_more}
 use Rattle.jc_exec.proofs.merge.or_bits.Goals as goal
 
 pub merging-init : goal.merging-init

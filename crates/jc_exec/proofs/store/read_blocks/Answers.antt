@@ -1,4 +1,4 @@
-use Rattle.std.proofs.Common.{◌<◌, length, sym, arith}
+use Rattle.std.proofs.Common.{◌<◌, length, arith}
 use Rattle.std.proofs.lemmas.Result.{err_from_is_err_and}
 use Rattle.jc_exec.specs.Front.{block_of}
 use Rattle.jc_exec.proofs.GatherLaws.{goes_on, stops_unread, stops_unkept}

@@ -1,8 +1,7 @@
 -- The bits of two records of one id.
-use Rattle.std.proofs.Common.{◌≡◌, ℕ, zero, suc, ◌+◌, ◌<◌, Bool, true, false, ◌&&◌, ◌||◌, List, [], ◌∷◌, length, take, get_or, nat_eq, bytes_eq, refl, sym, ◌∙◌, ap, arith}
+use Rattle.std.proofs.Common.{◌≡◌, ℕ, zero, suc, ◌+◌, ◌<◌, Bool, true, false, ◌||◌, List, [], ◌∷◌, length, take, get_or, refl, sym, ◌∙◌, ap, arith}
 use Rattle.std.proofs.Math.ListN.{set}
-use Rattle.std.proofs.lemmas.Bool.{eqb-true, eq-eqb, false≢true}
-use Rattle.std.proofs.lemmas.Slice.Eq.{bytes_eq-Decides}
+use Rattle.std.proofs.lemmas.Bool.{false≢true}
 use Rattle.jc_exec.specs.declared.hits.ClassHits.{ClassHits}
 use Rattle.jc_exec.specs.Store.{IsSmall}
 use Rattle.jc_exec.specs.Union.{Agrees, agree, either_bits, either_hits}
@@ -50,9 +49,6 @@ small_either c r small agrees =
     let a = agree_agrees c r agrees in
     let long = length_either c.bits r.bits (sym a.count) in
     record { id = small.id; name = small.name; bits = omega (arith, small.bits, long) }
-
-pub agree_count : (c r : ClassHits) → agree c r ≡ true → length c.bits ≡ length r.bits
-agree_count c r agrees = sym (agree_agrees c r agrees).count
 
 pub agree_apart : (c r : ClassHits) → agree c r ≡ false → Agrees c r → ⊥
 agree_apart c r apart a = false≢true (sym apart ∙ agrees_agree c r (record { name = sym a.name; count = sym a.count }))
