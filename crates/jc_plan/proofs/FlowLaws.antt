@@ -1,11 +1,11 @@
 -- What the flow of an instruction says of its branches.
-use Rattle.std.proofs.Common.{◌≡◌, ◌⊎◌, inl, inr, ⊎_elim, ℕ, zero, suc, ◌+◌, ◌*◌, ◌<◌, ◌≤◌, Bool, true, false, not, ◌||◌, cond, nat_eq, List, [], ◌∷◌, ◌++◌, length, filter, get_or, map, refl, sym, ap, ◌∙◌, subst, arith}
-use Rattle.std.specs.Prelude.{⊤, slice_get, Contains}
-use Rattle.std.specs.List.{count_by, list_any, AllByRecursion, sum_by}
+use Rattle.std.proofs.Common.{◌≡◌, ℕ, ◌+◌, ◌*◌, ◌<◌, ◌≤◌, Bool, true, false, not, ◌||◌, cond, nat_eq, List, [], ◌∷◌, ◌++◌, length, filter, get_or, map, refl, sym, ap, ◌∙◌, subst, arith}
+use Rattle.std.specs.Prelude.{⊤}
+use Rattle.std.specs.List.{count_by, list_any, AllByRecursion}
 use Rattle.std.specs.Cmp.{nat_eq_equiv}
-use Rattle.std.proofs.lemmas.Bool.{cases_Bool, eqb-true, false_from_ne_true}
+use Rattle.std.proofs.lemmas.Bool.{eqb-true, false_from_ne_true}
 use Rattle.std.proofs.lemmas.Map.Views.{Contains-from_any}
-use Rattle.std.proofs.lemmas.List.Sums.{sum_by-cons, get_or-le-sum_by, count_by-le-length}
+use Rattle.std.proofs.lemmas.List.Sums.{sum_by-cons, get_or-le-sum_by}
 use Rattle.jc_base.specs.PlainLists.{map_from, join_from}
 use Rattle.jc_base.specs.FirstSeen.{first_seen, IsDistinct}
 use Rattle.jc_base.specs.Flow.{flow_of, targets_of, is_return}
@@ -21,8 +21,8 @@ use Rattle.jc_base.specs.declared.insn.Flow.TheVariants as flows
 use Rattle.jc_base.proofs.FirstSeenLaws.{first_seen_distinct, any_first_seen}
 use Rattle.jc_plan.specs.declared.branch.Branch.{Branch}
 use Rattle.jc_plan.specs.declared.branch.Way.{Way}
-use Rattle.jc_plan.specs.declared.branch.Way.TheVariants.{Falls, Jumps, Switches, Exits}
-use Rattle.jc_plan.specs.Edges.{sequence, jump, arm, exit, branches_by, branches_of, branches}
+use Rattle.jc_plan.specs.declared.branch.Way.TheVariants.{Falls}
+use Rattle.jc_plan.specs.Edges.{sequence, jump, arm, branches_by, branches_of, branches}
 use Rattle.jc_plan.specs.Entries.{one_if, leads_to}
 use Rattle.jc_plan.specs.Marks.{enters, EntersWithin}
 use Rattle.jc_plan.proofs.CountLaws.{count_cons, count_one, count_join, each_joined}

@@ -5,8 +5,8 @@ pub mod ListedLaws
 pub mod LinesLaws
 pub mod IdsLaws
 pub mod NumberingLaws
-pub mod OutLaws
-pub mod ExactLaws
+pub mod PlannedProbesLaws
+pub mod OneIdLaws
 pub mod MarkLaws
 pub mod CountingLaws
 pub mod PlanningLaws

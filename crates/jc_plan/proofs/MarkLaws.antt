@@ -1,14 +1,10 @@
 -- Marks of the lines that call, made from the end.
-use Rattle.std.proofs.Common.{◌≡◌, ◌≢◌, ◌⊎◌, inl, inr, ⊎_elim, ℕ, zero, suc, ◌+◌, ◌<◌, ◌≤◌, Bool, true, false, ◌&&◌, ◌||◌, not, cond, List, [], ◌∷◌, ◌++◌, length, take, drop, get_or, set, replicate, map, nat_eq, refl, sym, ◌∙◌, ap, ap₂, subst, arith, add-one}
-use Rattle.std.specs.Prelude.{All}
-use Rattle.std.specs.List.{list_any}
-use Rattle.std.proofs.lemmas.Bool.{eq-eqb, ne_eqb, cases_eq, cases_lt}
-use Rattle.std.proofs.lemmas.List.{take_more, take_all, drop_more, get_or-set_same, get_or-set_other, length-set, get_or-replicate}
-use Rattle.std.proofs.lemmas.List.Folds.{list_any-append}
+use Rattle.std.proofs.Common.{◌≡◌, ℕ, zero, suc, ◌<◌, ◌≤◌, Bool, true, false, ◌&&◌, not, List, [], ◌∷◌, length, take, drop, get_or, map, refl, sym, ◌∙◌, ap, arith}
+use Rattle.std.proofs.lemmas.List.{take_all}
 use Rattle.jc_base.specs.PlainLists.{numbers_from}
 use Rattle.jc_base.specs.declared.insn.Insn.{Insn}
 use Rattle.jc_base.specs.declared.body.LineAt.{LineAt}
-use Rattle.jc_plan.specs.Entries.{is_call, is_line_start, calls_from, is_line_that_calls}
+use Rattle.jc_plan.specs.Entries.{is_line_start, calls_from, is_line_that_calls}
 use Rattle.jc_plan.proofs.PlacesLaws.{same_as_mapped, mapped_at, length_mapped}
 
 any_default : {X : Type 0} (xs : List X) (i : ℕ) (d e : X) → i < length xs → get_or xs i d ≡ get_or xs i e

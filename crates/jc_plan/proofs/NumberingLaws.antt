@@ -1,28 +1,24 @@
 -- The ids of probes, one behind the other in code order.
-use Rattle.std.proofs.Common.{◌≡◌, ◌⊎◌, inl, inr, ⊎_elim, ℕ, zero, suc, ◌+◌, ◌<◌, ◌≤◌, Bool, true, false, ◌&&◌, ◌||◌, cond, nat_eq, nat_lt, List, [], ◌∷◌, ◌++◌, length, take, drop, get_or, map, Option, Some, None, refl, sym, ap, ap₂, ◌∙◌, subst, arith, zero-add, add-one, append_assoc}
-use Rattle.std.specs.Prelude.{⊤, slice_get}
-use Rattle.std.specs.List.{count_by, AllByRecursion}
-use Rattle.std.proofs.lemmas.Bool.{and_parts, ltb-true, lt-ltb, false_from_ne_true, cases_order, cases_lt}
-use Rattle.std.proofs.lemmas.List.{take_all, length-take-le}
+use Rattle.std.proofs.Common.{◌≡◌, inl, inr, ⊎_elim, ℕ, suc, ◌+◌, ◌<◌, ◌≤◌, Bool, true, false, ◌&&◌, nat_lt, List, [], ◌∷◌, ◌++◌, length, take, drop, get_or, Some, refl, sym, ap, ◌∙◌, arith, add-one}
+use Rattle.std.specs.Prelude.{slice_get}
+use Rattle.std.specs.List.{count_by}
+use Rattle.std.proofs.lemmas.Bool.{ltb-true, lt-ltb, false_from_ne_true, cases_lt}
+use Rattle.std.proofs.lemmas.List.{length-take-le}
 use Rattle.std.proofs.lemmas.Option.{slice_get-get_or}
 use Rattle.jc_base.specs.PlainLists.{join_from}
 use Rattle.jc_base.specs.Flow.{flow_of, targets_of}
 use Rattle.jc_base.specs.declared.insn.Insn.{Insn}
-use Rattle.jc_base.specs.declared.insn.Flow.{Flow}
-use Rattle.jc_base.specs.declared.insn.Flow.TheVariants as flows
 use Rattle.jc_base.specs.declared.body.Body.{Body}
 use Rattle.jc_plan.specs.declared.branch.Branch.{Branch}
 use Rattle.jc_plan.specs.declared.branch.Way.{Way}
 use Rattle.jc_plan.specs.declared.branch.Way.TheVariants.{Falls, Jumps, Switches, Exits}
-use Rattle.jc_plan.specs.Edges.{sequence, jump, arm, exit, branches_by, branches_of, branches}
-use Rattle.jc_plan.specs.Entries.{one_if, goes_on, is_fallen_into}
-use Rattle.jc_plan.specs.Probed.{Position, position_by, position_of, is_before, is_probed_way, is_probed, probes_before, probe_of, probe_count, id_if, id_of}
-use Rattle.jc_plan.specs.Plan.{out_probe}
-use Rattle.jc_plan.specs.Marks.{ids_from}
-use Rattle.jc_plan.proofs.PlacesLaws.{join_from_more, join_from_split}
-use Rattle.jc_plan.proofs.CountLaws.{same_tests, count_cons, count_join, count_put, count_agree, count_none, each_mapped}
-use Rattle.jc_plan.proofs.FlowLaws.{IsAt, GoesFrom, all_at, IsRising, all_rise, has_targets}
-use Rattle.jc_plan.proofs.IdsLaws.{Before, before_to, before_from}
+use Rattle.jc_plan.specs.Edges.{branches_of, branches}
+use Rattle.jc_plan.specs.Entries.{goes_on, is_fallen_into}
+use Rattle.jc_plan.specs.Probed.{Position, position_by, position_of, is_before, is_probed_way, is_probed, probes_before}
+use Rattle.jc_plan.proofs.PlacesLaws.{join_from_split}
+use Rattle.jc_plan.proofs.CountLaws.{same_tests, count_join, count_agree, count_none, each_mapped}
+use Rattle.jc_plan.proofs.FlowLaws.{IsAt, GoesFrom, all_at}
+use Rattle.jc_plan.proofs.IdsLaws.{before_to, before_from}
 
 -- ---- the branches that have a probe at their own instruction
 
@@ -42,10 +38,6 @@ fallen_next code i x lt is =
   where
     fallen : slice_get code i ≡ Some x → is_fallen_into code (suc i) ≡ goes_on (flow_of x)
     fallen h = rw h refl
-
-and_same : (a b : Bool) → (a && (a && b)) ≡ (a && b)
-and_same true b = refl
-and_same false b = refl
 
 -- ---- positions before one of an instruction
 

@@ -1,16 +1,14 @@
 -- Each step of planning.
-use Rattle.std.proofs.Common.{◌≡◌, ◌⊎◌, inl, inr, ⊎_elim, ℕ, zero, suc, ◌+◌, ◌-◌, ◌*◌, ◌<◌, ◌≤◌, Bool, true, false, ◌&&◌, ◌||◌, List, [], ◌∷◌, ◌++◌, length, take, get_or, map, Option, Some, None, refl, sym, ap, ap₂, ◌∙◌, subst, arith, add-one, zero-add}
-use Rattle.std.specs.Prelude.{⊤, All}
+use Rattle.std.proofs.Common.{◌≡◌, ◌⊎◌, inl, inr, ℕ, zero, suc, ◌+◌, ◌-◌, ◌<◌, ◌≤◌, Bool, true, false, ◌&&◌, ◌||◌, List, [], ◌∷◌, ◌++◌, length, take, get_or, map, Option, refl, sym, ap, ap₂, ◌∙◌, subst, arith}
 use Rattle.std.specs.List.{count_by, AllByRecursion}
 use Rattle.std.proofs.lemmas.Bool.{false_from_ne_true}
 use Rattle.std.proofs.lemmas.List.{take_more, take_all}
 use Rattle.std.proofs.lemmas.List.Elements.{All-get_or}
 use Rattle.std.proofs.lemmas.List.Sums.{count_by-le-length, sum_by_more}
 use Rattle.jc_base.specs.PlainLists.{map_from, numbers_from, places}
-use Rattle.jc_base.specs.Flow.{flow_of, targets_of, FallsThrough}
-use Rattle.jc_base.specs.Insn.{arm_count}
+use Rattle.jc_base.specs.Flow.{flow_of, targets_of}
 use Rattle.jc_base.specs.InsnUse.{LeadsWithin}
-use Rattle.jc_base.specs.WellMade.{IsCode, insns_and_arms}
+use Rattle.jc_base.specs.WellMade.{IsCode}
 use Rattle.jc_base.specs.declared.insn.Insn.{Insn}
 use Rattle.jc_base.specs.declared.insn.Flow.{Flow}
 use Rattle.jc_base.specs.declared.insn.Flow.TheVariants as flows
@@ -21,13 +19,13 @@ use Rattle.jc_plan.specs.declared.branch.Way.TheVariants.{Falls, Jumps, Switches
 use Rattle.jc_plan.specs.Edges.{branches_of, branches}
 use Rattle.jc_plan.specs.Entries.{one_if, goes_on, is_fallen_into, is_multi_target, is_invocation_line}
 use Rattle.jc_plan.specs.Probed.{Position, position_of, is_before, is_probed_way, is_probed, probes_before, probe_count, id_if}
-use Rattle.jc_plan.specs.Plan.{plan_of, lead_probe, out_probe, out_probes}
+use Rattle.jc_plan.specs.Plan.{plan_of, lead_probe, out_probes}
 use Rattle.jc_plan.specs.Marks.{EntersWithin, has_probe, ids_from}
-use Rattle.jc_plan.proofs.PlacesLaws.{mapped_at, puts_place, maps_one}
+use Rattle.jc_plan.proofs.PlacesLaws.{mapped_at}
 use Rattle.jc_plan.proofs.CountLaws.{count_cons, count_agree, each_mapped}
-use Rattle.jc_plan.proofs.FlowLaws.{few_branches, few_of, few_at, branches_within}
+use Rattle.jc_plan.proofs.FlowLaws.{few_branches, branches_within}
 use Rattle.jc_plan.proofs.NumberingLaws.{own_by, own, fallen_next, in_front, before_next}
-use Rattle.jc_plan.proofs.OutLaws.{none_before, behind_lead, out_ids}
+use Rattle.jc_plan.proofs.PlannedProbesLaws.{none_before, behind_lead, out_ids}
 
 -- ---- the instruction in front may go on
 
@@ -38,15 +36,6 @@ falls_through flows.Jumps h = absurd cc
 falls_through flows.Switches h = absurd cc
 falls_through flows.Returns h = absurd cc
 falls_through flows.Throws h = absurd cc
-
-goes_through : (flow : Flow) → (flow ≡ flows.GoesOn) ⊎ (flow ≡ flows.Tests) → goes_on flow ≡ true
-goes_through flow (inl e) = ap goes_on e
-goes_through flow (inr e) = ap goes_on e
-
--- a test for falling through gives what the definition does
-pub falls_tested : (insn : Insn) (r : Bool) → (r ≡ true → FallsThrough insn) → (FallsThrough insn → r ≡ true) → r ≡ goes_on (flow_of insn)
-falls_tested insn true to from = sym (goes_through (flow_of insn) (to refl))
-falls_tested insn false to from = sym (false_from_ne_true (goes_on (flow_of insn)) (λ h. let e = from (falls_through (flow_of insn) h) in cc))
 
 -- nothing falls out of the end of the code
 no_end : (code : List Insn) → IsCode code → is_fallen_into code (length code) ≡ false
@@ -132,9 +121,6 @@ none_first b first = let e = none_before b in omega (arith, e)
 -- ---- one instruction
 
 module _ (b : Body) (code : IsCode b.code) (first i : ℕ) (insn : Insn) (lt : i < length b.code) (is : insn ≡ get_or b.code i insn) where
-  pub few_here : length (branches_of i insn) ≤ 65536
-  few_here = let few = code.few in omega (arith, few_of i insn, few_at b.code i insn lt is)
-
   here_within : AllByRecursion (EntersWithin (length b.code)) (branches_of i insn)
   here_within =
       branches_within (length b.code) i (flow_of insn) (targets_of insn)

@@ -1,5 +1,6 @@
 -- The entries into an instruction, and the lines that call (JaCoCo's documentation on control flow).
-use Rattle.std.specs.Prelude.{◌≡◌, ℕ, zero, suc, ◌+◌, ◌<◌, ◌≤◌, Bool, true, false, ◌&&◌, ◌||◌, not, List, [], ◌∷◌, Option, Some, None, nat_eq, nat_le, nat_lt, if◌then◌else◌, IsTrue, slice_get, Contains, drop}
+use Rattle.std.specs.Prelude.{◌≡◌, ℕ, zero, suc, ◌+◌, ◌<◌, ◌≤◌, Bool, true, false, ◌&&◌, ◌||◌, not, List, [], ◌∷◌, Option}
+use Rattle.std.specs.Prelude.{Some, None, nat_eq, nat_le, nat_lt, if◌then◌else◌, IsTrue, slice_get, Contains, drop}
 use Rattle.std.specs.List.{count_by, list_any}
 use Rattle.jc_base.specs.Flow.{flow_of, targets_of}
 use Rattle.jc_base.specs.Opcode as opcode

@@ -1,5 +1,5 @@
 -- What the code notes of each instruction, on the way to a plan.
-use Rattle.std.specs.Prelude.{⊤, ℕ, ◌+◌, ◌<◌, Bool, true, false, ◌&&◌, List, [], ◌∷◌, Option, None, nat_eq, slice_index_or}
+use Rattle.std.specs.Prelude.{⊤, ℕ, ◌+◌, ◌<◌, Bool, true, false, List, [], ◌∷◌, Option, nat_eq, slice_index_or}
 use Rattle.jc_plan.specs.declared.branch.Branch.{Branch}
 use Rattle.jc_plan.specs.declared.branch.Way.{Way}
 use Rattle.jc_plan.specs.declared.branch.Way.TheVariants.{Falls, Jumps, Switches, Exits}

@@ -1,5 +1,6 @@
 -- Which edges have a probe, and its number (JaCoCo's documentation on control flow).
-use Rattle.std.specs.Prelude.{◌≡◌, ◌⊎◌, ⊤, ℕ, ◌+◌, Bool, true, ◌&&◌, ◌||◌, List, Option, Some, None, nat_eq, nat_lt, if◌then◌else◌, IsTrue, take, Contains}
+use Rattle.std.specs.Prelude.{◌≡◌, ◌⊎◌, ⊤, ℕ, ◌+◌, Bool, true, ◌&&◌, ◌||◌, List, Option, Some}
+use Rattle.std.specs.Prelude.{None, nat_eq, nat_lt, if◌then◌else◌, IsTrue, take, Contains}
 use Rattle.std.specs.List.{count_by, sum_by}
 use Rattle.jc_base.specs.declared.body.Body.{Body}
 use Rattle.jc_plan.specs.declared.branch.Branch.{Branch}

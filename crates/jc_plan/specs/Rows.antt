@@ -109,7 +109,9 @@ catches =
 
 -- lines 1, 2 and 3 begin at a nop each, and line 4 at the return; a call stands in line 3, behind its nop
 abbrev pub calls : Body
-calls = body (nop ∷ nop ∷ nop ∷ insns.Member opcode.invokestatic 1 ∷ return ∷ []) [] (line_at 0 1 ∷ line_at 1 2 ∷ line_at 4 4 ∷ line_at 2 3 ∷ [])
+calls =
+    body (nop ∷ nop ∷ nop ∷ insns.Member opcode.invokestatic 1 ∷ return ∷ []) []
+    (line_at 0 1 ∷ line_at 1 2 ∷ line_at 4 4 ∷ line_at 2 3 ∷ [])
 
 -- the bodies of a class of ordinary use: a constructor, `abs`, a method that returns its argument, a bridge to it, and
 -- a lambda
@@ -137,10 +139,14 @@ abbrev pub edge : ℕ → ℕ → Option ℕ → Edge
 edge at branch to = record { method = 0; at = at; branch = branch; to = to }
 
 abbrev pub abs_plan : Plan
-abs_plan = plan (None ∷ None ∷ None ∷ None ∷ None ∷ None ∷ None ∷ []) (none ∷ (None ∷ None ∷ []) ∷ none ∷ none ∷ one 0 ∷ none ∷ one 1 ∷ []) 2
+abs_plan =
+    plan (None ∷ None ∷ None ∷ None ∷ None ∷ None ∷ None ∷ [])
+    (none ∷ (None ∷ None ∷ []) ∷ none ∷ none ∷ one 0 ∷ none ∷ one 1 ∷ []) 2
 
 abbrev pub abs_edges : List Edge
-abs_edges = edge 0 0 (Some 1) ∷ edge 1 0 (Some 2) ∷ edge 1 1 (Some 5) ∷ edge 2 0 (Some 3) ∷ edge 3 0 (Some 4) ∷ edge 4 0 None ∷ edge 5 0 (Some 6) ∷ edge 6 0 None ∷ []
+abs_edges =
+    edge 0 0 (Some 1) ∷ edge 1 0 (Some 2) ∷ edge 1 1 (Some 5) ∷ edge 2 0 (Some 3) ∷ edge 3 0 (Some 4) ∷ edge 4 0 None
+    ∷ edge 5 0 (Some 6) ∷ edge 6 0 None ∷ []
 
 abbrev pub counts_down_plan : Plan
 counts_down_plan = plan (None ∷ None ∷ None ∷ None ∷ None ∷ []) (none ∷ (None ∷ None ∷ []) ∷ none ∷ one 0 ∷ one 1 ∷ []) 2
@@ -162,8 +168,8 @@ switches_plan =
 
 abbrev pub switches_edges : List Edge
 switches_edges =
-    edge 0 0 (Some 1) ∷ edge 1 0 (Some 2) ∷ edge 1 1 (Some 4) ∷ edge 2 0 (Some 3) ∷ edge 3 0 (Some 6) ∷ edge 3 1 (Some 4) ∷ edge 4 0 (Some 5)
-    ∷ edge 5 0 None ∷ edge 6 0 (Some 7) ∷ edge 7 0 None ∷ []
+    edge 0 0 (Some 1) ∷ edge 1 0 (Some 2) ∷ edge 1 1 (Some 4) ∷ edge 2 0 (Some 3) ∷ edge 3 0 (Some 6) ∷ edge 3 1 (Some 4)
+    ∷ edge 4 0 (Some 5) ∷ edge 5 0 None ∷ edge 6 0 (Some 7) ∷ edge 7 0 None ∷ []
 
 abbrev pub catches_plan : Plan
 catches_plan =

@@ -1,5 +1,6 @@
 //! How many entries are aimed at each instruction, and which are multi-targets.
-ghost use Rattle.std.specs.Prelude.{◌≡◌, ◌+◌, ◌*◌, ◌<◌, ◌≤◌, ◌^◌, ℕ, All, map, length, replicate, slice_index, IfOk, nat_eq, nat_le, ◌&&◌, ◌||◌};
+ghost use Rattle.std.specs.Prelude.{◌≡◌, ◌+◌, ◌*◌, ◌<◌, ◌^◌, ℕ, All, map, length};
+ghost use Rattle.std.specs.Prelude.{replicate, slice_index, IfOk, nat_eq, nat_le, ◌&&◌, ◌||◌};
 ghost use Rattle.std.specs.List.{count_by};
 ghost use Rattle.jc_base.specs.PlainLists.{places};
 ghost use Rattle.jc_base.specs.Flow.{flow_of};

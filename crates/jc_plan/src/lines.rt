@@ -1,5 +1,5 @@
 //! The lines that call.
-ghost use Rattle.std.specs.Prelude.{◌≡◌, ℕ, ◌<◌, All, map, length, IfOk};
+ghost use Rattle.std.specs.Prelude.{◌≡◌, All, map, length, IfOk};
 ghost use Rattle.jc_base.specs.PlainLists.{places, numbers_from};
 ghost use Rattle.jc_base.specs.WellMade.{IsLine};
 ghost use Rattle.jc_plan.specs.Entries.{is_call, is_line_start, is_line_that_calls};

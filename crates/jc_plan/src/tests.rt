@@ -4,7 +4,9 @@ ghost use Rattle.std.specs.Prelude.{◌≡◌, ◌∷◌, [], map};
 ghost use Rattle.jc_plan.specs.Edges.{edges};
 ghost use Rattle.jc_plan.specs.Plan.{plan_of};
 ghost use Rattle.jc_plan.specs.Probed.{probe_count, first_id};
-ghost use Rattle.jc_plan.specs.Rows.{abs, abs_edges, abs_plan, calc, calls, calls_plan, catches, catches_plan, counts_down, counts_down_edges, counts_down_plan, jumps_to_next, jumps_to_next_edges, jumps_to_next_plan, switches, switches_edges, switches_plan};
+ghost use Rattle.jc_plan.specs.Rows.{abs, abs_edges, abs_plan, calc, calls, calls_plan, catches, catches_plan};
+ghost use Rattle.jc_plan.specs.Rows.{counts_down, counts_down_edges, counts_down_plan, jumps_to_next};
+ghost use Rattle.jc_plan.specs.Rows.{jumps_to_next_edges, jumps_to_next_plan, switches, switches_edges, switches_plan};
 
 /// The edges, by instruction and then by branch.
 fn worked_edges()

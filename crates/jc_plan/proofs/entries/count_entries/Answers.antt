@@ -1,4 +1,4 @@
-use Rattle.std.proofs.Common.{◌≡◌, length, arith, ap, subst, sym}
+use Rattle.std.proofs.Common.{◌≡◌, length, arith, subst, sym}
 use Rattle.std.specs.Prelude.{All}
 use Rattle.jc_base.specs.InsnUse.{LeadsWithin}
 use Rattle.jc_plan.specs.Marks.{EntersWithin}

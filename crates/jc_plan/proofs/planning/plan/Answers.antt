@@ -1,4 +1,4 @@
-use Rattle.std.proofs.Common.{◌≡◌, ◌<◌, ◌≤◌, ℕ, ◌+◌, Bool, Option, List, ◌∷◌, [], ◌++◌, length, get_or, map, refl, sym, ap, ap₂, ◌∙◌, arith}
+use Rattle.std.proofs.Common.{◌≡◌, ◌<◌, ℕ, ◌+◌, Bool, Option, List, ◌∷◌, [], ◌++◌, length, get_or, map, ap, ap₂, ◌∙◌, arith}
 use Rattle.std.specs.List.{count_by}
 use Rattle.jc_base.specs.PlainLists.{places}
 use Rattle.jc_base.specs.declared.insn.Insn.{Insn}

@@ -1,4 +1,4 @@
-use Rattle.std.proofs.Common.{◌≡◌, ◌<◌, ℕ, Bool, ◌&&◌, ◌||◌, List, ◌∷◌, [], ◌++◌, length, get_or, map, sym, ap, ap₂, ◌∙◌, arith}
+use Rattle.std.proofs.Common.{◌≡◌, ◌<◌, ℕ, Bool, List, ◌∷◌, [], ◌++◌, length, get_or, map, sym, ap, ap₂, ◌∙◌, arith}
 use Rattle.jc_base.specs.PlainLists.{numbers_from, places}
 use Rattle.jc_base.specs.declared.insn.Insn.{Insn}
 use Rattle.jc_base.specs.declared.body.LineAt.{LineAt}

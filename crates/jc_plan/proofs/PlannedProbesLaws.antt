@@ -1,9 +1,7 @@
 -- The probes of a plan, one behind the other.
-use Rattle.std.proofs.Common.{◌≡◌, ◌⊎◌, inl, inr, ⊎_elim, ℕ, zero, suc, ◌+◌, ◌-◌, ◌<◌, ◌≤◌, Bool, true, false, ◌&&◌, ◌||◌, cond, nat_eq, nat_lt, List, [], ◌∷◌, ◌++◌, length, take, get_or, map, Option, Some, None, refl, sym, ap, ap₂, ◌∙◌, subst, arith, zero-add, add-one, append_assoc}
-use Rattle.std.specs.Prelude.{⊤, Contains}
+use Rattle.std.proofs.Common.{◌≡◌, ⊎_elim, ℕ, zero, suc, ◌+◌, ◌<◌, ◌≤◌, Bool, true, false, ◌&&◌, ◌||◌, nat_lt, List, [], ◌∷◌, ◌++◌, length, take, get_or, map, Option, Some, refl, sym, ap, ap₂, ◌∙◌, subst, arith, add-one, append_assoc}
 use Rattle.std.specs.List.{count_by, AllByRecursion}
-use Rattle.std.proofs.lemmas.Bool.{and_parts, lt-ltb, le-ltb, cases_lt}
-use Rattle.std.proofs.lemmas.List.{take_all}
+use Rattle.std.proofs.lemmas.Bool.{lt-ltb, le-ltb}
 use Rattle.jc_base.specs.PlainLists.{map_from, join_from}
 use Rattle.jc_base.specs.FirstSeen.{first_seen}
 use Rattle.jc_base.specs.Flow.{flow_of, targets_of}
@@ -16,12 +14,12 @@ use Rattle.jc_plan.specs.declared.branch.Way.{Way}
 use Rattle.jc_plan.specs.declared.branch.Way.TheVariants.{Falls, Jumps, Switches, Exits}
 use Rattle.jc_plan.specs.Edges.{sequence, jump, arm, exit, branches_by, branches_of, branches}
 use Rattle.jc_plan.specs.Entries.{one_if, goes_on, is_fallen_into, is_multi_target, is_invocation_line}
-use Rattle.jc_plan.specs.Probed.{Position, position_by, position_of, is_before, is_probed_way, is_probed, probes_before, probe_of, probe_count, id_if, id_of}
-use Rattle.jc_plan.specs.Plan.{out_probe, out_by}
+use Rattle.jc_plan.specs.Probed.{Position, position_of, is_before, is_probed_way, is_probed, probes_before, id_if}
+use Rattle.jc_plan.specs.Plan.{out_probe}
 use Rattle.jc_plan.specs.Marks.{ids_from}
 use Rattle.jc_plan.proofs.PlacesLaws.{join_from_more}
 use Rattle.jc_plan.proofs.CountLaws.{count_cons, count_join, count_put, count_agree, count_none, each_mapped}
-use Rattle.jc_plan.proofs.FlowLaws.{HasTargets, IsAt, all_at, IsRising, all_rise, has_targets}
+use Rattle.jc_plan.proofs.FlowLaws.{IsAt, all_at, IsRising, all_rise, has_targets}
 use Rattle.jc_plan.proofs.IdsLaws.{before_to}
 use Rattle.jc_plan.proofs.NumberingLaws.{own_by, own, fallen_next, in_front, below, before_own, before_next}
 

@@ -1,11 +1,11 @@
 -- One id, one edge, and no id between them that isn't used.
-use Rattle.std.proofs.Common.{◌≡◌, ◌⊎◌, inl, inr, ⊎_elim, ℕ, zero, suc, ◌+◌, ◌-◌, ◌<◌, ◌≤◌, Bool, true, false, ◌&&◌, ◌||◌, List, [], ◌∷◌, ◌++◌, length, get_or, map, Some, refl, sym, ap, ap₂, ◌∙◌, subst, arith, zero-add, add-one}
-use Rattle.std.specs.Prelude.{⊤, Contains, slice_get}
-use Rattle.std.specs.List.{count_by, AllByRecursion}
-use Rattle.std.proofs.lemmas.Bool.{and_parts, and_from, cases_lt}
+use Rattle.std.proofs.Common.{◌≡◌, ◌⊎◌, inl, inr, ⊎_elim, ℕ, zero, suc, ◌+◌, ◌-◌, ◌<◌, ◌≤◌, Bool, true, false, ◌||◌, List, [], ◌∷◌, ◌++◌, length, get_or, map, Some, refl, sym, ap, ◌∙◌, subst, arith, zero-add, add-one}
+use Rattle.std.specs.Prelude.{Contains, slice_get}
+use Rattle.std.specs.List.{count_by}
+use Rattle.std.proofs.lemmas.Bool.{and_parts, cases_lt}
 use Rattle.std.proofs.lemmas.List.{take_all}
 use Rattle.std.proofs.lemmas.List.Elements.{Contains-append_right}
-use Rattle.std.proofs.lemmas.Option.{slice_get-get_or, slice_get_within}
+use Rattle.std.proofs.lemmas.Option.{slice_get-get_or}
 use Rattle.jc_base.specs.PlainLists.{join_from}
 use Rattle.jc_base.specs.Flow.{flow_of, targets_of}
 use Rattle.jc_base.specs.declared.insn.Insn.{Insn}
@@ -21,10 +21,10 @@ use Rattle.jc_plan.specs.Entries.{one_if, goes_on, is_fallen_into, is_multi_targ
 use Rattle.jc_plan.specs.Probed.{Position, position_by, position_of, is_probed_way, is_probed, probes_before, probe_count, id_of, IsUsed}
 use Rattle.jc_plan.proofs.CountLaws.{count_cons}
 use Rattle.jc_plan.proofs.FlowLaws.{IsAt, GoesFrom, all_at, IsRising, all_rise, has_targets}
-use Rattle.jc_plan.proofs.ListedLaws.{IsListed, listed_from, lists_from, all_listed}
+use Rattle.jc_plan.proofs.ListedLaws.{listed_from, lists_from, all_listed}
 use Rattle.jc_plan.proofs.IdsLaws.{one_position}
 use Rattle.jc_plan.proofs.NumberingLaws.{own_by, own, fallen_next, in_front, below, before_own, before_next}
-use Rattle.jc_plan.proofs.OutLaws.{count_below, in_front_more}
+use Rattle.jc_plan.proofs.PlannedProbesLaws.{count_below, in_front_more}
 
 -- ---- one position, one branch
 
