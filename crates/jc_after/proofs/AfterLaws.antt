@@ -1,10 +1,11 @@
 -- The state after an instruction shifts with the body.
 use Rattle.std.proofs.Common.{◌≡◌, ⊎_elim, ℕ, zero, suc, ◌+◌, ◌<◌, ◌≤◌, Bool, true, false, ◌&&◌, ◌||◌, List, [], ◌∷◌, ◌++◌, length, map, replicate, Option, Some, None, option_map, if◌then◌else◌, refl, sym, ap, ◌∙◌, subst, arith, get_or, nat_eq, nat_le, nat_lt}
 use Rattle.std.specs.Option.{option_and_then}
-use Rattle.std.proofs.lemmas.Bool.{leb-true, le-leb, eqb-true, cases_lt, and_parts, or_cases}
+use Rattle.std.proofs.lemmas.Bool.{leb-true, le-leb, eqb-true, cases_lt, and_parts, or_cases, true≢false}
 use Rattle.std.specs.List.{AllByRecursion, list_any, list_all}
 use Rattle.std.specs.Str.{bytes_eq}
 use Rattle.std.specs.Prelude.{codes}
+use Rattle.std.proofs.lemmas.Option.{none-some}
 use Rattle.jc_base.specs.declared.insn.Insn.{Insn}
 use Rattle.jc_base.specs.declared.insn.Insn.TheVariants as insns
 use Rattle.jc_base.specs.declared.body.Use.{Use}
@@ -27,7 +28,6 @@ use Rattle.jc_after.specs.Step.{Gives, kind, item, Form, Step, moves, loads, sto
 use Rattle.jc_after.specs.Table.{Row, table, find, forms_at}
 use Rattle.jc_after.specs.After.{result_of, field_step, static_step, object_step, method_step, member_step, interface_step, dynamic_step, computed_step, constant_step, array_of, array_step, class_step, multi_step, return_op, return_step, simple_step, local_want, local_step, step_of, insn_at, class_in, new_class, ground_of, returns_of, after_of}
 use Rattle.jc_after.specs.Shift.{shifted, slot_of, with_slot, IsImage, led, inverted, HasImages, Straddles, shifted_step, IsPlaceless, IsPlain, CanShift, takes_pair, Images, AfterShifts}
-use Rattle.jc_after.proofs.Tests.{true_false, none_some}
 use Rattle.jc_after.proofs.ShiftLaws.{shift-law}
 
 -- ---- more room on the stack
@@ -37,7 +37,7 @@ limit_more m n stack x le e = by (nat_le (slots stack) m) refl e
   where
     by : (b : Bool) → nat_le (slots stack) m ≡ b → (if b then Some stack else None) ≡ Some x → limited n stack ≡ Some x
     by true is e = let a = leb-true (slots stack) m is in let more : slots stack ≤ n = omega (arith, a, le) in rw (le-leb (slots stack) n more) e
-    by false is e = absurd (none_some e)
+    by false is e = absurd (none-some _ e)
 
 if_more : {X : Type 0} (b : Bool) (o p : Option X) (x : X) → (o ≡ Some x → p ≡ Some x) → (if b then o else None) ≡ Some x → (if b then p else None) ≡ Some x
 if_more true o p x f e = f e
@@ -56,7 +56,7 @@ by_more m n (f ∷ fs) stack x le e = by (has_form f stack) (λ g. by_more m n f
     by false more e = more e
 
 stack_more : (s t : Seen) (o p : Option (List Held)) → ((x : List Held) → o ≡ Some x → p ≡ Some x) → with_stack s o ≡ Some t → with_stack s p ≡ Some t
-stack_more s t None p h e = absurd (none_some e)
+stack_more s t None p h e = absurd (none-some _ e)
 stack_more s t (Some x) p h e = ap (with_stack s) (h x refl) ∙ e
 
 pushed_more : (m n : ℕ) (s t : Seen) (stack : List Held) → m ≤ n → with_stack s (limited m stack) ≡ Some t → with_stack s (limited n stack) ≡ Some t
@@ -149,7 +149,7 @@ still_method v op name type =
     still_if v (nat_eq op ops.INVOKESTATIC) _ _ (still_static v type)
     (still_if v (nat_eq op ops.INVOKESPECIAL && bytes_eq name (codes "<init>")) _ _ (record { stays = refl; can = results_placeless type.returns }) (still_object v type))
 
-still_member : (v op : ℕ) (what : Option What) → IsStill v (member_step op what)
+pub still_member : (v op : ℕ) (what : Option What) → IsStill v (member_step op what)
 still_member v op (Some (whats.Field class name desc)) = still_if v (nat_le op ops.PUTFIELD) _ _ (still_field v op (field_type_in desc)) (still_fails v)
 still_member v op (Some (whats.Method class name desc)) = still_if v (nat_le op ops.PUTFIELD) _ _ (still_fails v) (still_method v op name (method_type_in desc))
 still_member v op (Some (whats.Call name desc)) = still_fails v
@@ -164,7 +164,7 @@ still_member v op (Some whats.MethodKind) = still_fails v
 still_member v op (Some (whats.Computed desc)) = still_fails v
 still_member v op None = still_fails v
 
-still_interface : (v : ℕ) (what : Option What) → IsStill v (interface_step what)
+pub still_interface : (v : ℕ) (what : Option What) → IsStill v (interface_step what)
 still_interface v (Some (whats.Method class name desc)) = still_object v (method_type_in desc)
 still_interface v (Some (whats.Field class name desc)) = still_fails v
 still_interface v (Some (whats.Call name desc)) = still_fails v
@@ -179,7 +179,7 @@ still_interface v (Some whats.MethodKind) = still_fails v
 still_interface v (Some (whats.Computed desc)) = still_fails v
 still_interface v None = still_fails v
 
-still_dynamic : (v : ℕ) (what : Option What) → IsStill v (dynamic_step what)
+pub still_dynamic : (v : ℕ) (what : Option What) → IsStill v (dynamic_step what)
 still_dynamic v (Some (whats.Call name desc)) = still_static v (method_type_in desc)
 still_dynamic v (Some (whats.Field class name desc)) = still_fails v
 still_dynamic v (Some (whats.Method class name desc)) = still_fails v
@@ -201,7 +201,7 @@ still_computed : (v : ℕ) (type : Option FieldType) → IsStill v (computed_ste
 still_computed v None = still_fails v
 still_computed v (Some type) = still_gives v type []
 
-still_constant : (v : ℕ) (what : Option What) → IsStill v (constant_step what)
+pub still_constant : (v : ℕ) (what : Option What) → IsStill v (constant_step what)
 still_constant v (Some (whats.Int value)) = still_plain v _ [] tt
 still_constant v (Some (whats.Long value)) = still_plain v _ [] tt
 still_constant v (Some whats.Float) = still_plain v _ [] tt
@@ -219,7 +219,7 @@ still_constant v None = still_fails v
 still_array : (v : ℕ) (name : List ℕ) → IsStill v (array_step name)
 still_array v name = still_if v (nat_le (length (array_of name)) 65535) _ _ (still_plain v _ (wants.Int ∷ []) tt) (still_fails v)
 
-still_class : (v op : ℕ) (what : Option What) → IsStill v (class_step op what)
+pub still_class : (v op : ℕ) (what : Option What) → IsStill v (class_step op what)
 still_class v op (Some (whats.Class name)) =
     still_if v (nat_eq op ops.NEW) _ _ (record { stays = refl; can = tt })
     (still_if v (nat_eq op ops.ANEWARRAY) _ _ (still_array v name)
@@ -237,7 +237,7 @@ still_class v op (Some (whats.Method class name desc)) = still_fails v
 still_class v op (Some (whats.Call name desc)) = still_fails v
 still_class v op None = still_fails v
 
-still_multi : (v dims : ℕ) (what : Option What) → IsStill v (multi_step what dims)
+pub still_multi : (v dims : ℕ) (what : Option What) → IsStill v (multi_step what dims)
 still_multi v dims (Some (whats.Class name)) = still_plain v _ (replicate dims wants.Int) tt
 still_multi v dims (Some (whats.Int value)) = still_fails v
 still_multi v dims (Some (whats.Long value)) = still_fails v
@@ -281,11 +281,11 @@ all_of test Fact f (x ∷ xs) e = let p = and_parts (test x) (list_all test xs) 
 
 gives_fact : (g : Gives) → plain_gives g ≡ true → IsPlaceless g
 unfolding plain_gives
-gives_fact (kind (uninit at)) e = absurd (true_false (sym e))
+gives_fact (kind (uninit at)) e = absurd (true≢false (sym e))
 gives_fact (kind h) e = by h e
   where
     by : (h : Held) → plain_gives (kind h) ≡ true → IsPlaceless (kind h)
-    by (uninit at) e = absurd (true_false (sym e))
+    by (uninit at) e = absurd (true≢false (sym e))
     by h e = tt
 gives_fact (item k) e = tt
 
@@ -303,7 +303,7 @@ still_forms v op = still_moves v (forms_at op) (forms_plain op)
 still_return : (v : ℕ) (returns : Option FieldType) (op : ℕ) → IsStill v (return_step returns op)
 still_return v returns op = still_if v (nat_eq op (return_op returns)) _ _ (still_forms v op) (still_fails v)
 
-still_simple : (v : ℕ) (returns : Option FieldType) (op : ℕ) → IsStill v (simple_step returns op)
+pub still_simple : (v : ℕ) (returns : Option FieldType) (op : ℕ) → IsStill v (simple_step returns op)
 still_simple v returns op =
     still_if v (nat_eq op ops.AALOAD) _ _ (record { stays = refl; can = tt })
     (still_if v (is_return op) _ _ (still_return v returns op) (still_forms v op))
@@ -386,14 +386,14 @@ two_slots op e = by (nat_eq op ops.ILOAD || nat_eq op ops.ISTORE) (nat_eq op ops
     by : (i ll ls f dl ds : Bool)
         → takes_pair (if i then wants.Int else if ll || ls then wants.Long else if f then wants.Float else if dl || ds then wants.Double else wants.Anything) ≡ true
         → (ll || dl || ls || ds) ≡ true
-    by true ll ls f dl ds e = absurd (true_false (sym e))
+    by true ll ls f dl ds e = absurd (true≢false (sym e))
     by false true ls f dl ds e = refl
     by false false true f true ds e = refl
     by false false true f false ds e = refl
-    by false false false true dl ds e = absurd (true_false (sym e))
+    by false false false true dl ds e = absurd (true≢false (sym e))
     by false false false false true ds e = refl
     by false false false false false true e = refl
-    by false false false false false false e = absurd (true_false (sym e))
+    by false false false false false false e = absurd (true≢false (sym e))
 
 local_can : (v op slot : ℕ) → ((is_of_two_slots op ≡ true) × (slot + 1 ≡ v) → ⊥) → CanShift v (local_step op slot)
 local_can v op slot free = by (nat_lt op ops.ISTORE)

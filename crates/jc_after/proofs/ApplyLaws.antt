@@ -1,21 +1,17 @@
 -- The state that an instruction leaves, by its step.
-use Rattle.std.proofs.Common.{◌≡◌, ℕ, ◌+◌, ◌<◌, Bool, true, false, ◌&&◌, List, [], ◌∷◌, ◌++◌, length, map, Option, Some, None, option_map, Result, Ok, Err, IfOk, if◌then◌else◌, refl, sym, ap, ap₂, subst, ◌∙◌, get_or, slice_get, nat_eq, nat_le, nat_lt}
+use Rattle.std.proofs.Common.{◌≡◌, ℕ, ◌+◌, ◌<◌, Bool, true, false, List, [], ◌∷◌, ◌++◌, length, map, Option, Some, option_map, Result, Ok, Err, IfOk, if◌then◌else◌, refl, sym, ap, ap₂, subst, ◌∙◌, arith, get_or, slice_get, nat_lt}
 use Rattle.std.specs.Option.{option_and_then}
 use Rattle.std.specs.List.{AllByRecursion}
-use Rattle.std.specs.Prelude.{codes, bytes_eq}
-use Rattle.std.proofs.lemmas.Option.{slice_get-get_or}
+use Rattle.std.proofs.lemmas.Bool.{le-ltb, true≢false}
+use Rattle.std.proofs.lemmas.Option.{slice_get-get_or, same_Some}
 use Rattle.jc_base.specs.declared.opcode.TheConstants as ops
 use Rattle.jc_base.specs.declared.insn.Insn.{Insn}
 use Rattle.jc_base.specs.declared.insn.Insn.TheVariants as insns
 use Rattle.jc_base.specs.declared.kind.State.{State}
 use Rattle.jc_base.specs.declared.body.Use.{Use}
-use Rattle.jc_base.specs.declared.body.What.{What}
-use Rattle.jc_base.specs.declared.body.What.TheVariants as whats
 use Rattle.jc_base.specs.declared.body.Body.{Body}
 use Rattle.jc_base.specs.declared.fail.Memory.{Memory}
-use Rattle.jc_base.specs.Descriptor.{FieldType, MethodType}
-use Rattle.jc_base.specs.DescriptorTypes.{field_type_in, method_type_in}
-use Rattle.jc_base.specs.Flow.{is_return}
+use Rattle.jc_base.specs.Descriptor.{FieldType}
 use Rattle.jc_base.specs.InsnUse.{is_of_two_slots, LocalsWithin}
 use Rattle.jc_base.specs.WellMade.{what_used}
 use Rattle.jc_base.specs.Held.{Names, Seen, held, seen, IsNumberedState}
@@ -24,20 +20,16 @@ use Rattle.jc_after.specs.declared.effects.Effects.{Effects}
 use Rattle.jc_after.specs.declared.step.Step.{Step as KeptStep}
 use Rattle.jc_after.specs.declared.step.Step.TheVariants as steps
 use Rattle.jc_after.specs.Step.{Form, Step, moves, loads, stores, counts, picks, makes, builds, fails, apply, built, picked, moved_by, with_stack}
-use Rattle.jc_after.specs.After.{field_step, method_step, member_step, interface_step, dynamic_step, computed_step, constant_step, array_of, class_step, multi_step, return_op, simple_step, local_want, step_of, insn_at, ground_of, returns_of, after_of}
+use Rattle.jc_after.specs.After.{local_want, step_of, insn_at, ground_of, returns_of, after_of}
 use Rattle.jc_after.specs.Arrays.{array_forms}
 use Rattle.jc_after.specs.Effects.{AreEffects, body_of}
 use Rattle.jc_after.specs.Steps.{step_in, HasLocal, is_picking}
 use Rattle.jc_after.proofs.EffectsLaws.{are_later}
-use Rattle.jc_after.proofs.LeaveLaws.{LeavesAlways}
+use Rattle.jc_after.specs.Shift.{slot_of, shifted_step}
+use Rattle.jc_after.proofs.AfterLaws.{still_simple, still_constant, still_member, still_interface, still_dynamic, still_class, still_multi}
+use Rattle.jc_after.specs.Answers.{LeavesAlways}
 
 -- ---- local variables
-
-calm : Step → Bool
-calm (loads k w) = false
-calm (stores k w) = false
-calm (counts k) = false
-calm st = true
 
 abbrev InRange : ℕ → Step → Type 0
 InRange count (loads k w) = k < count
@@ -45,76 +37,22 @@ InRange count (stores k w) = k < count
 InRange count (counts k) = k < count
 InRange count st = Unit {0}
 
-true_false : true ≡ false → ⊥
-true_false e = cc
+-- With a new local variable in front of all, each has another number.
+moved_up : (k : ℕ) → slot_of 0 k ≡ k → ⊥
+moved_up k e = let up : slot_of 0 k ≡ k + 1 = ap (λ (b : Bool). if b then k else k + 1) (le-ltb k 0 (omega arith)) in omega (arith, e, up)
 
-in_range : (count : ℕ) (st : Step) → calm st ≡ true → InRange count st
-unfolding calm
-in_range count (loads k w) e = absurd (true_false (sym e))
-in_range count (stores k w) e = absurd (true_false (sym e))
-in_range count (counts k) e = absurd (true_false (sym e))
+-- what names no local variable
+in_range : (count : ℕ) (st : Step) → shifted_step 0 st ≡ st → InRange count st
+in_range count (loads k w) e = absurd (moved_up k (let same : slot_of 0 k ≡ k = cc in same))
+in_range count (stores k w) e = absurd (moved_up k (let same : slot_of 0 k ≡ k = cc in same))
+in_range count (counts k) e = absurd (moved_up k (let same : slot_of 0 k ≡ k = cc in same))
 in_range count (moves forms) e = tt
 in_range count picks e = tt
 in_range count makes e = tt
 in_range count (builds f) e = tt
 in_range count fails e = tt
 
-if_calm : (b : Bool) (x y : Step) → calm x ≡ true → calm y ≡ true → calm (if b then x else y) ≡ true
-if_calm true x y p q = p
-if_calm false x y p q = q
-
-calm_field : (op : ℕ) (type : Option FieldType) → calm (field_step op type) ≡ true
-unfolding calm
-calm_field op None = refl
-calm_field op (Some type) = if_calm (nat_eq op ops.GETSTATIC) _ _ refl (if_calm (nat_eq op ops.PUTSTATIC) _ _ refl (if_calm (nat_eq op ops.GETFIELD) _ _ refl refl))
-
-calm_method : (op : ℕ) (name : List ℕ) (type : MethodType) → calm (method_step op name type) ≡ true
-unfolding calm
-calm_method op name type = if_calm (nat_eq op ops.INVOKESTATIC) _ _ refl (if_calm (nat_eq op ops.INVOKESPECIAL && bytes_eq name (codes "<init>")) _ _ refl refl)
-
-calm_member : (op : ℕ) (what : Option What) → calm (member_step op what) ≡ true
-unfolding calm
-calm_member op (Some (whats.Field class name desc)) = if_calm (nat_le op ops.PUTFIELD) _ _ (calm_field op (field_type_in desc)) refl
-calm_member op (Some (whats.Method class name desc)) = if_calm (nat_le op ops.PUTFIELD) _ _ refl (calm_method op name (method_type_in desc))
-calm_member op _ = refl
-
-calm_interface : (what : Option What) → calm (interface_step what) ≡ true
-unfolding calm
-calm_interface (Some (whats.Method class name desc)) = refl
-calm_interface _ = refl
-
-calm_dynamic : (what : Option What) → calm (dynamic_step what) ≡ true
-unfolding calm
-calm_dynamic (Some (whats.Call name desc)) = refl
-calm_dynamic _ = refl
-
-calm_computed : (type : Option FieldType) → calm (computed_step type) ≡ true
-unfolding calm
-calm_computed None = refl
-calm_computed (Some type) = refl
-
-calm_constant : (what : Option What) → calm (constant_step what) ≡ true
-unfolding calm
-calm_constant (Some (whats.Computed desc)) = calm_computed (field_type_in desc)
-calm_constant _ = refl
-
-calm_class : (op : ℕ) (what : Option What) → calm (class_step op what) ≡ true
-unfolding calm
-calm_class op (Some (whats.Class name)) =
-    if_calm (nat_eq op ops.NEW) _ _ refl (if_calm (nat_eq op ops.ANEWARRAY) _ _ (if_calm (nat_le (length (array_of name)) 65535) _ _ refl refl) (if_calm (nat_eq op ops.CHECKCAST) _ _ refl refl))
-calm_class op _ = refl
-
-calm_multi : (what : Option What) (dims : ℕ) → calm (multi_step what dims) ≡ true
-unfolding calm
-calm_multi (Some (whats.Class name)) dims = refl
-calm_multi _ dims = refl
-
-calm_simple : (returns : Option FieldType) (op : ℕ) → calm (simple_step returns op) ≡ true
-unfolding calm
-calm_simple returns op = if_calm (nat_eq op ops.AALOAD) _ _ refl (if_calm (is_return op) _ _ (if_calm (nat_eq op (return_op returns)) _ _ refl refl) refl)
-
 range_there : (uses : List Use) (returns : Option FieldType) (count : ℕ) (insn : Insn) → LocalsWithin count insn → InRange count (step_of uses returns insn)
-unfolding calm
 range_there uses returns count (insns.Local op slot) within = by (nat_lt op ops.ISTORE) (first (is_of_two_slots op) within)
   where
     first : (b : Bool) → AllByRecursion (λ s. s < count) (if b then slot ∷ (slot + 1) ∷ [] else slot ∷ []) → slot < count
@@ -125,16 +63,16 @@ range_there uses returns count (insns.Local op slot) within = by (nat_lt op ops.
     by true lt = lt
     by false lt = lt
 range_there uses returns count (insns.Inc slot n) within = within.0
-range_there uses returns count (insns.Simple op) within = in_range count _ (calm_simple returns op)
+range_there uses returns count (insns.Simple op) within = in_range count _ (still_simple 0 returns op).stays
 range_there uses returns count (insns.Push op value) within = tt
-range_there uses returns count (insns.Constant place) within = in_range count _ (calm_constant (what_used uses place))
-range_there uses returns count (insns.Constant2 place) within = in_range count _ (calm_constant (what_used uses place))
-range_there uses returns count (insns.Member op place) within = in_range count _ (calm_member op (what_used uses place))
-range_there uses returns count (insns.Interface place n) within = in_range count _ (calm_interface (what_used uses place))
-range_there uses returns count (insns.Dynamic place) within = in_range count _ (calm_dynamic (what_used uses place))
-range_there uses returns count (insns.OfClass op place) within = in_range count _ (calm_class op (what_used uses place))
+range_there uses returns count (insns.Constant place) within = in_range count _ (still_constant 0 (what_used uses place)).stays
+range_there uses returns count (insns.Constant2 place) within = in_range count _ (still_constant 0 (what_used uses place)).stays
+range_there uses returns count (insns.Member op place) within = in_range count _ (still_member 0 op (what_used uses place)).stays
+range_there uses returns count (insns.Interface place n) within = in_range count _ (still_interface 0 (what_used uses place)).stays
+range_there uses returns count (insns.Dynamic place) within = in_range count _ (still_dynamic 0 (what_used uses place)).stays
+range_there uses returns count (insns.OfClass op place) within = in_range count _ (still_class 0 op (what_used uses place)).stays
 range_there uses returns count (insns.NewArray elem) within = tt
-range_there uses returns count (insns.Multi place dims) within = in_range count _ (calm_multi (what_used uses place) dims)
+range_there uses returns count (insns.Multi place dims) within = in_range count _ (still_multi 0 dims (what_used uses place)).stays
 range_there uses returns count (insns.Jump op to) within = tt
 range_there uses returns count (insns.Table low default arms) within = tt
 range_there uses returns count (insns.Lookup default arms) within = tt
@@ -163,10 +101,7 @@ pub local_there : (old : Names) (e : Effects) (i count : ℕ) (x : Insn) (st : K
     → ((names : Names) → AreEffects names e → step_in names st ≡ step_of (body_of e).uses (returns_of (body_of e)) x) → HasLocal count st
 local_there old e i count x st are at lt counted kept =
     kept_range count old st (subst (InRange count) (sym (kept old are)) (range_there (body_of e).uses (returns_of (body_of e)) count x
-    (subst (λ (n : ℕ). LocalsWithin n x) (sym counted) (subst (LocalsWithin (body_of e).max_locals) (some_is _ _ (sym (slice_get-get_or (body_of e).code i x lt) ∙ at)) (are.body.locals i x lt)))))
-  where
-    some_is : (a b : Insn) → Some a ≡ Some b → a ≡ b
-    some_is a b e = cc
+    (subst (λ (n : ℕ). LocalsWithin n x) (sym counted) (subst (LocalsWithin (body_of e).max_locals) (same_Some _ _ (sym (slice_get-get_or (body_of e).code i x lt) ∙ at)) (are.body.locals i x lt)))))
 
 after_is : (b : Body) (i : ℕ) (s : Seen) (x : Insn) → insn_at b i ≡ Some x → after_of b i s ≡ apply (ground_of b i) (step_of b.uses (returns_of b) x) s
 unfolding after_of
@@ -184,20 +119,20 @@ leave_step old e i s x st (Ok o) are n at kept left = λ more.
 
 picking_step : (uses : List Use) (returns : Option FieldType) (x : Insn) → is_picking x ≡ true → step_of uses returns x ≡ picks
 picking_step uses returns (insns.Simple op) e = rw e refl
-picking_step uses returns (insns.Push op value) e = absurd (true_false (sym e))
-picking_step uses returns (insns.Local op slot) e = absurd (true_false (sym e))
-picking_step uses returns (insns.Inc slot n) e = absurd (true_false (sym e))
-picking_step uses returns (insns.Constant place) e = absurd (true_false (sym e))
-picking_step uses returns (insns.Constant2 place) e = absurd (true_false (sym e))
-picking_step uses returns (insns.Member op place) e = absurd (true_false (sym e))
-picking_step uses returns (insns.Interface place n) e = absurd (true_false (sym e))
-picking_step uses returns (insns.Dynamic place) e = absurd (true_false (sym e))
-picking_step uses returns (insns.OfClass op place) e = absurd (true_false (sym e))
-picking_step uses returns (insns.NewArray elem) e = absurd (true_false (sym e))
-picking_step uses returns (insns.Multi place dims) e = absurd (true_false (sym e))
-picking_step uses returns (insns.Jump op to) e = absurd (true_false (sym e))
-picking_step uses returns (insns.Table low default arms) e = absurd (true_false (sym e))
-picking_step uses returns (insns.Lookup default arms) e = absurd (true_false (sym e))
+picking_step uses returns (insns.Push op value) e = absurd (true≢false (sym e))
+picking_step uses returns (insns.Local op slot) e = absurd (true≢false (sym e))
+picking_step uses returns (insns.Inc slot n) e = absurd (true≢false (sym e))
+picking_step uses returns (insns.Constant place) e = absurd (true≢false (sym e))
+picking_step uses returns (insns.Constant2 place) e = absurd (true≢false (sym e))
+picking_step uses returns (insns.Member op place) e = absurd (true≢false (sym e))
+picking_step uses returns (insns.Interface place n) e = absurd (true≢false (sym e))
+picking_step uses returns (insns.Dynamic place) e = absurd (true≢false (sym e))
+picking_step uses returns (insns.OfClass op place) e = absurd (true≢false (sym e))
+picking_step uses returns (insns.NewArray elem) e = absurd (true≢false (sym e))
+picking_step uses returns (insns.Multi place dims) e = absurd (true≢false (sym e))
+picking_step uses returns (insns.Jump op to) e = absurd (true≢false (sym e))
+picking_step uses returns (insns.Table low default arms) e = absurd (true≢false (sym e))
+picking_step uses returns (insns.Lookup default arms) e = absurd (true≢false (sym e))
 
 pub leave_pick : (old new : Names) (b : Body) (i : ℕ) (s : State) (x : Insn) (r : Result (Option State) Memory) → insn_at b i ≡ Some x → is_picking x ≡ true
     → IfOk r (λ o. (more : Names) → option_map (seen (new ++ more)) o ≡ picked b.max_stack (seen old s)) → IfOk r (LeavesAlways old new b i s)

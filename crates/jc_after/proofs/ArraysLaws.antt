@@ -1,6 +1,7 @@
 -- Elements of arrays, and classes that are numbered on the way.
 use Rattle.std.proofs.Common.{◌≡◌, ℕ, ◌+◌, ◌-◌, ◌≤◌, Bool, true, false, ◌&&◌, List, [], ◌∷◌, ◌++◌, length, map, drop, Option, Some, None, option_map, if◌then◌else◌, refl, ap, ◌∙◌, subst, arith, append_assoc, get_or, MatchOption}
 use Rattle.std.proofs.lemmas.List.{get_or-drop, length-drop}
+use Rattle.std.proofs.lemmas.Bool.{and_right}
 use Rattle.jc_base.specs.declared.kind.Kind.{Kind}
 use Rattle.jc_base.specs.declared.kind.Kind.TheVariants as kinds
 use Rattle.jc_base.specs.declared.kind.State.{State}
@@ -46,10 +47,6 @@ array_reference long e = absurd cc
 array_reference uninit_this e = absurd cc
 array_reference (uninit at) e = absurd cc
 
-pub no_and : (b : Bool) → b && false ≡ false
-no_and true = refl
-no_and false = refl
-
 -- what is said of the value that is there
 pub some_element : {X : Type 0} (o : Option X) (x : X) (P : Type 0) (Q : X → Type 0) → o ≡ Some x → MatchOption o P Q → Q x
 some_element {X = X} o x P Q e m = subst (λ (p : Option X). MatchOption p P Q) e m
@@ -63,7 +60,7 @@ picked_moves most s array at is = by (upper 2 s.stack) (let n = length-drop (len
         → with_stack s (if accepts_all (wants.Reference ∷ wants.Int ∷ []) u then limited most (below 2 s.stack ++ element_of array ∷ []) else None)
         ≡ (if is_array (get_or u 0 top) && is_int (get_or u 1 top) then with_stack s (limited most (below 2 s.stack ++ element_of (get_or u 0 top) ∷ [])) else None)
     by [] few at = refl
-    by (x ∷ []) few at = rw (no_and (is_reference x), no_and (is_array x)) refl
+    by (x ∷ []) few at = rw (and_right (is_reference x) false refl, and_right (is_array x) false refl) refl
     by (x ∷ y ∷ []) few at =
         let array_is : is_array x ≡ true = ap is_array at ∙ is in
         rw (array_reference x array_is, array_is, ← at) (index (is_int y))

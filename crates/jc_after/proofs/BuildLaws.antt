@@ -2,6 +2,7 @@
 use Rattle.std.proofs.Common.{◌≡◌, ℕ, suc, ◌-◌, ◌<◌, ◌≤◌, Bool, true, false, ◌&&◌, List, ◌∷◌, length, map, take, drop, Option, Some, None, option_map, if◌then◌else◌, refl, sym, ap, ap₂, ◌∙◌, subst, arith, get_or}
 use Rattle.std.proofs.lemmas.List.{length-map, length-drop}
 use Rattle.std.proofs.Math.Seq.{drop-cons}
+use Rattle.std.proofs.lemmas.Bool.{and_right}
 use Rattle.jc_base.specs.declared.kind.Kind.{Kind}
 use Rattle.jc_base.specs.declared.kind.Kind.TheVariants as kinds
 use Rattle.jc_base.specs.declared.kind.State.{State}
@@ -12,7 +13,6 @@ use Rattle.jc_after.specs.Wants.{accepts, accepts_all, is_anything}
 use Rattle.jc_after.specs.Step.{Gives, Ground, upper, below, built, built_as, class_built}
 use Rattle.jc_after.specs.Table.{form}
 use Rattle.jc_after.proofs.MovesLaws.{all-unequal, upper_is, below_is}
-use Rattle.jc_after.proofs.ArraysLaws.{no_and}
 
 -- the object, and the operands above it
 upper_more : (names : Names) (ks : List Kind) (n : ℕ) → n < length ks
@@ -68,7 +68,7 @@ module _ (names : Names) (state : State) (g : Ground) (wanted : List Want) (give
       let h = held names (get_or ks (length ks - suc (length wanted)) kinds.Top) in
       let no : accepts_all (wants.Anything ∷ wanted) (upper (suc (length wanted)) (map (held names) ks)) ≡ false =
       ap (accepts_all (wants.Anything ∷ wanted)) (upper_more names ks (length wanted) more)
-      ∙ ap (λ (b : Bool). accepts wants.Anything h && b) (ap (λ (o : List Kind). accepts_all wanted (map (held names) o)) (sym is) ∙ fit) ∙ no_and (accepts wants.Anything h) in
+      ∙ ap (λ (b : Bool). accepts wants.Anything h && b) (ap (λ (o : List Kind). accepts_all wanted (map (held names) o)) (sym is) ∙ fit) ∙ and_right (accepts wants.Anything h) false refl in
       subst (Built None) same (sym (rw no refl))
 
   old_is : (ks : List Kind) → length wanted < length ks → get_or (upper (suc (length wanted)) (map (held names) ks)) 0 top ≡ held names (get_or ks (length ks - suc (length wanted)) kinds.Top)

@@ -10,7 +10,7 @@ use Rattle.jc_base.specs.Held.{Names, Held, held, object, seen, Grows, IsNumbere
 use Rattle.jc_base.specs.WellMade.{IsWellMadeOfAnySize, HasUse, what_used}
 use Rattle.jc_base.proofs.SeenLaws.{seen_stays}
 use Rattle.jc_after.specs.declared.effects.Effects.{Effects}
-use Rattle.std.proofs.lemmas.Option.{slice_get_within, get_or_from_slice_get}
+use Rattle.std.proofs.lemmas.Option.{slice_get_within, get_or_from_slice_get, same_Some}
 use Rattle.jc_base.specs.declared.opcode.TheConstants as ops
 use Rattle.jc_base.specs.declared.insn.Insn.{Insn}
 use Rattle.jc_base.specs.declared.insn.Insn.TheVariants as insns
@@ -19,13 +19,12 @@ use Rattle.jc_base.specs.declared.body.What.TheVariants as whats
 use Rattle.jc_base.specs.InsnUse.{pool_place, Suits, IsClass}
 use Rattle.jc_after.specs.declared.effect.Effect.{Effect}
 use Rattle.jc_after.specs.Does.{does, does_of, of_class, IsDescribed}
-use Rattle.jc_after.proofs.Tests.{some_is}
 use Rattle.jc_after.specs.After.{after_of, class_in, insn_at, new_class, ground_of}
 use Rattle.jc_after.specs.Step.{class_built}
-use Rattle.jc_after.specs.Answers.{IsStateOf, IsWhole, LeavesState}
+use Rattle.jc_after.specs.Answers.{IsStateOf, IsWhole, LeavesState, LeavesAlways}
 use Rattle.jc_after.specs.Effects.{AreEffects, body_of}
 use Rattle.jc_after.proofs.DoesLaws.{later, all_say_later}
-use Rattle.jc_after.proofs.LeaveLaws.{LeavesAlways, leaves, left_of_body, left_whole}
+use Rattle.jc_after.proofs.LeaveLaws.{leaves, left_of_body, left_whole}
 
 pub are_later : (old new : Names) (e : Effects) → Grows old new → AreEffects old e → AreEffects new e
 are_later old new e g a = record {
@@ -113,7 +112,7 @@ made_class names e at made place x code effect result are is same read named kep
     x_is = read ∙ ap (λ (l : List Insn). get_or l at x) same ∙ get_or_from_slice_get (body_of e).code at (insns.OfClass ops.NEW made) x is
 
     place_is : place ≡ made
-    place_is = some_is place made (named ∙ ap pool_place x_is)
+    place_is = same_Some place made (named ∙ ap pool_place x_is)
 
     u : HasUse (body_of e).uses made (Suits (insns.OfClass ops.NEW made))
     u = subst (λ (i : Insn). (p : ℕ) → pool_place i ≡ Some p → HasUse (body_of e).uses p (Suits i)) (get_or_from_slice_get (body_of e).code at (insns.OfClass ops.NEW made) (insns.OfClass ops.NEW made) is)

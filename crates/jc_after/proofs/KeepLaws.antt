@@ -3,19 +3,19 @@ use Rattle.std.proofs.Common.{◌≡◌, ℕ, zero, suc, ◌+◌, ◌-◌, ◌�
 use Rattle.std.specs.List.{list_any, AllByRecursion}
 use Rattle.std.proofs.lemmas.List.{length-set, length-map}
 use Rattle.std.proofs.lemmas.Bool.{leb-true}
+use Rattle.std.proofs.lemmas.Option.{none-some, same_Some}
 use Rattle.jc_base.specs.Held.{Held, top, int, float, double, long, null, uninit_this, object, uninit, Seen, is_pair, slots}
 use Rattle.jc_after.specs.declared.want.Want.TheVariants as wants
 use Rattle.jc_after.specs.Wants.{is_int, accepts, accepts_all}
 use Rattle.jc_after.specs.Step.{Gives, kind, item, Form, Step, moves, loads, stores, counts, picks, makes, builds, fails, Ground, apply, upper, below, last, limited, has_form, moved, moved_by, given_of, cleared, clear_before, put_second, put_local, with_stack, is_array, element_of, without, is_made, class_built, built_as, replaced, same_new}
 use Rattle.jc_after.specs.Shift.{IsPlaceless, IsPlain, CanShift}
-use Rattle.jc_after.proofs.Tests.{none_some, some_is}
 
 pub then_some : {X : Type 0} (b : Bool) (x : Option X) (y : X) → (if b then x else None) ≡ Some y → (b ≡ true) × (x ≡ Some y)
 then_some true x y e = (refl, e)
-then_some false x y e = absurd (none_some e)
+then_some false x y e = absurd (none-some _ e)
 
 pub else_some : {X : Type 0} (b : Bool) (x : Option X) (y : X) → (if b then None else x) ≡ Some y → x ≡ Some y
-else_some true x y e = absurd (none_some e)
+else_some true x y e = absurd (none-some _ e)
 else_some false x y e = e
 
 -- ---- a fact of every value
@@ -67,10 +67,10 @@ module _ (P : Held → Type 0) (others : OfOthers P) where
       (all_given (upper (length f.wanted) stack) f.given (all_drop (length stack - length f.wanted) stack all) plain)
 
   limited_is : (most : ℕ) (stack x : List Held) → limited most stack ≡ Some x → stack ≡ x
-  limited_is most stack x e = some_is stack x (then_some (nat_le (slots stack) most) (Some stack) x e).1
+  limited_is most stack x e = same_Some stack x (then_some (nat_le (slots stack) most) (Some stack) x e).1
 
   all_by : (most : ℕ) (forms : List Form) (stack x : List Held) → AllByRecursion IsPlain forms → All P stack → moved_by most forms stack ≡ Some x → All P x
-  all_by most [] stack x plain all e = absurd (none_some e)
+  all_by most [] stack x plain all e = absurd (none-some _ e)
   all_by most (f ∷ forms) stack x plain all e = by (has_form f stack) (λ r. all_by most forms stack x plain.1 all r) e
     where
       by : (b : Bool) → (moved_by most forms stack ≡ Some x → All P x) → (if b then limited most (moved f stack) else moved_by most forms stack) ≡ Some x → All P x
@@ -98,15 +98,15 @@ module _ (P : Held → Type 0) (others : OfOthers P) where
     pub stack : All P s.stack
 
   stack_of : (s t : Seen) (o : Option (List Held)) → All P s.locals → ((x : List Held) → o ≡ Some x → All P x) → with_stack s o ≡ Some t → AllOf t
-  stack_of s t None l more e = absurd (none_some e)
-  stack_of s t (Some x) l more e = subst AllOf (some_is (record s { stack = x }) t e) (record { locals = l; stack = more x refl })
+  stack_of s t None l more e = absurd (none-some _ e)
+  stack_of s t (Some x) l more e = subst AllOf (same_Some (record s { stack = x }) t e) (record { locals = l; stack = more x refl })
 
   if_one : (b : Bool) (x y : Held) → P x → P y → P (if b then x else y)
   if_one true x y p q = p
   if_one false x y p q = q
 
   built_all : (most : ℕ) (old : Held) (rest : List Held) (given : List Gives) (name : Option (List ℕ)) (s t : Seen) → AllByRecursion IsPlaceless given → All P rest → AllOf s → built_as most old rest given name s ≡ Some t → AllOf t
-  built_all most old rest given None s t plain r all e = absurd (none_some e)
+  built_all most old rest given None s t plain r all e = absurd (none-some _ e)
   built_all most old rest given (Some name) s t plain r all e =
       let keeps : (h : Held) → P h → P (replaced old name h) = λ h p. if_one (same_new old h) (object name) h (others (object name) tt) p in
       stack_of (record { locals = map (replaced old name) s.locals; stack = s.stack }) t _ (all_map (replaced old name) keeps s.locals all.locals)
@@ -132,11 +132,11 @@ module _ (P : Held → Type 0) (others : OfOthers P) where
       (then_some (accepts w h) (with_stack s (limited g.most (s.stack ++ h ∷ []))) t e).1
   step_all v g (stores k w) s t can new all e =
       let p = then_some (accepts w (last s.stack)) (Some (record { locals = put_local k (last s.stack) s.locals; stack = below 1 s.stack })) t e in
-      subst AllOf (some_is _ t p.1) (record {
+      subst AllOf (same_Some _ t p.1) (record {
         locals = all_put k (last s.stack) s.locals all.locals (all_get (upper 1 s.stack) 0 (all_drop (length s.stack - 1) s.stack all.stack));
         stack = all_take (length s.stack - 1) s.stack all.stack;
       })
-  step_all v g (counts k) s t can new all e = subst AllOf (some_is s t (then_some (is_int (get_or s.locals k top)) (Some s) t e).1) all
+  step_all v g (counts k) s t can new all e = subst AllOf (same_Some s t (then_some (is_int (get_or s.locals k top)) (Some s) t e).1) all
   step_all v g picks s t can new all e =
       let array = get_or (upper 2 s.stack) 0 top in
       stack_of s t _ all.locals
@@ -151,13 +151,13 @@ module _ (P : Held → Type 0) (others : OfOthers P) where
       let n = suc (length f.wanted) in let old = get_or (upper n s.stack) 0 top in
       built_all g.most old (below n s.stack) f.given (class_built g old) s t can (all_take (length s.stack - n) s.stack all.stack) all
       (then_some (accepts_all (wants.Anything ∷ f.wanted) (upper n s.stack)) _ t e).1
-  step_all v g fails s t can new all e = absurd (none_some e)
+  step_all v g fails s t can new all e = absurd (none-some _ e)
 
 -- ---- the number of local variables
 
 pub same_locals : (s t : Seen) (o : Option (List Held)) → with_stack s o ≡ Some t → s.locals ≡ t.locals
-same_locals s t None e = absurd (none_some e)
-same_locals s t (Some x) e = ap (λ (u : Seen). u.locals) (some_is (record s { stack = x }) t e)
+same_locals s t None e = absurd (none-some _ e)
+same_locals s t (Some x) e = ap (λ (u : Seen). u.locals) (same_Some (record s { stack = x }) t e)
 
 pub length_clear : (k : ℕ) (ls : List Held) → length (clear_before k ls) ≡ length ls
 length_clear zero ls = refl
@@ -174,7 +174,7 @@ length_put : (k : ℕ) (h : Held) (ls : List Held) → length (put_local k h ls)
 length_put k h ls = length_second h k (set (clear_before k ls) k h) ∙ length-set (clear_before k ls) k h ∙ length_clear k ls
 
 length_built : (most : ℕ) (old : Held) (rest : List Held) (given : List Gives) (name : Option (List ℕ)) (s t : Seen) → built_as most old rest given name s ≡ Some t → length t.locals ≡ length s.locals
-length_built most old rest given None s t e = absurd (none_some e)
+length_built most old rest given None s t e = absurd (none-some _ e)
 length_built most old rest given (Some name) s t e =
     ap (λ (l : List Held). length l) (sym (same_locals (record { locals = map (replaced old name) s.locals; stack = s.stack }) t _ e)) ∙ length-map s.locals (replaced old name)
 
@@ -183,8 +183,8 @@ step_count g (moves forms) s t e = ap (λ (l : List Held). length l) (sym (same_
 step_count g (loads k w) s t e = ap (λ (l : List Held). length l) (sym (same_locals s t _ (then_some (accepts w (get_or s.locals k top)) _ t e).1))
 step_count g (stores k w) s t e =
     let p = then_some (accepts w (last s.stack)) (Some (record { locals = put_local k (last s.stack) s.locals; stack = below 1 s.stack })) t e in
-    ap (λ (u : Seen). length u.locals) (sym (some_is _ t p.1)) ∙ length_put k (last s.stack) s.locals
-step_count g (counts k) s t e = ap (λ (u : Seen). length u.locals) (sym (some_is s t (then_some (is_int (get_or s.locals k top)) (Some s) t e).1))
+    ap (λ (u : Seen). length u.locals) (sym (same_Some _ t p.1)) ∙ length_put k (last s.stack) s.locals
+step_count g (counts k) s t e = ap (λ (u : Seen). length u.locals) (sym (same_Some s t (then_some (is_int (get_or s.locals k top)) (Some s) t e).1))
 step_count g picks s t e =
     ap (λ (l : List Held). length l) (sym (same_locals s t _ (then_some (is_array (get_or (upper 2 s.stack) 0 top) && is_int (get_or (upper 2 s.stack) 1 top)) _ t e).1))
 step_count g makes s t e =
@@ -193,7 +193,7 @@ step_count g makes s t e =
 step_count g (builds f) s t e =
     let n = suc (length f.wanted) in let old = get_or (upper n s.stack) 0 top in
     length_built g.most old (below n s.stack) f.given (class_built g old) s t (then_some (accepts_all (wants.Anything ∷ f.wanted) (upper n s.stack)) _ t e).1
-step_count g fails s t e = absurd (none_some e)
+step_count g fails s t e = absurd (none-some _ e)
 
 -- ---- the slots of the stack
 
@@ -205,10 +205,10 @@ slots_take (suc n) (h ∷ hs) = let more = slots_take n hs in omega (arith, more
 limit : (most : ℕ) (stack x : List Held) → limited most stack ≡ Some x → slots x ≤ most
 limit most stack x e =
     let p = then_some (nat_le (slots stack) most) (Some stack) x e in
-    subst (λ (l : List Held). slots l ≤ most) (some_is stack x p.1) (leb-true (slots stack) most p.0)
+    subst (λ (l : List Held). slots l ≤ most) (same_Some stack x p.1) (leb-true (slots stack) most p.0)
 
 limit_by : (most : ℕ) (forms : List Form) (stack x : List Held) → moved_by most forms stack ≡ Some x → slots x ≤ most
-limit_by most [] stack x e = absurd (none_some e)
+limit_by most [] stack x e = absurd (none-some _ e)
 limit_by most (f ∷ forms) stack x e = by (has_form f stack) (λ r. limit_by most forms stack x r) e
   where
     by : (b : Bool) → (moved_by most forms stack ≡ Some x → slots x ≤ most) → (if b then limited most (moved f stack) else moved_by most forms stack) ≡ Some x → slots x ≤ most
@@ -216,11 +216,11 @@ limit_by most (f ∷ forms) stack x e = by (has_form f stack) (λ r. limit_by mo
     by false more e = more e
 
 limit_of : (most : ℕ) (s t : Seen) (o : Option (List Held)) → ((x : List Held) → o ≡ Some x → slots x ≤ most) → with_stack s o ≡ Some t → slots t.stack ≤ most
-limit_of most s t None more e = absurd (none_some e)
-limit_of most s t (Some x) more e = subst (λ (u : Seen). slots u.stack ≤ most) (some_is (record s { stack = x }) t e) (more x refl)
+limit_of most s t None more e = absurd (none-some _ e)
+limit_of most s t (Some x) more e = subst (λ (u : Seen). slots u.stack ≤ most) (same_Some (record s { stack = x }) t e) (more x refl)
 
 limit_built : (most : ℕ) (old : Held) (rest : List Held) (given : List Gives) (name : Option (List ℕ)) (s t : Seen) → built_as most old rest given name s ≡ Some t → slots t.stack ≤ most
-limit_built most old rest given None s t e = absurd (none_some e)
+limit_built most old rest given None s t e = absurd (none-some _ e)
 limit_built most old rest given (Some name) s t e = limit_of most (record { locals = map (replaced old name) s.locals; stack = s.stack }) t _ (λ x q. limit most _ x q) e
 
 pub step_slots : (g : Ground) (st : Step) (s t : Seen) → slots s.stack ≤ g.most → apply g st s ≡ Some t → slots t.stack ≤ g.most
@@ -228,12 +228,12 @@ step_slots g (moves forms) s t le e = limit_of g.most s t (moved_by g.most forms
 step_slots g (loads k w) s t le e = limit_of g.most s t _ (λ x q. limit g.most _ x q) (then_some (accepts w (get_or s.locals k top)) _ t e).1
 step_slots g (stores k w) s t le e =
     let p = then_some (accepts w (last s.stack)) (Some (record { locals = put_local k (last s.stack) s.locals; stack = below 1 s.stack })) t e in
-    subst (λ (u : Seen). slots u.stack ≤ g.most) (some_is _ t p.1) (let less = slots_take (length s.stack - 1) s.stack in omega (arith, less, le))
-step_slots g (counts k) s t le e = subst (λ (u : Seen). slots u.stack ≤ g.most) (some_is s t (then_some (is_int (get_or s.locals k top)) (Some s) t e).1) le
+    subst (λ (u : Seen). slots u.stack ≤ g.most) (same_Some _ t p.1) (let less = slots_take (length s.stack - 1) s.stack in omega (arith, less, le))
+step_slots g (counts k) s t le e = subst (λ (u : Seen). slots u.stack ≤ g.most) (same_Some s t (then_some (is_int (get_or s.locals k top)) (Some s) t e).1) le
 step_slots g picks s t le e = limit_of g.most s t _ (λ x q. limit g.most _ x q) (then_some (is_array (get_or (upper 2 s.stack) 0 top) && is_int (get_or (upper 2 s.stack) 1 top)) _ t e).1
 step_slots g makes s t le e =
     limit_of g.most (record { locals = map (without g.place) s.locals; stack = s.stack }) t _ (λ x q. limit g.most _ x q) (else_some (list_any (is_made g.place) s.stack) _ t e)
 step_slots g (builds f) s t le e =
     let n = suc (length f.wanted) in let old = get_or (upper n s.stack) 0 top in
     limit_built g.most old (below n s.stack) f.given (class_built g old) s t (then_some (accepts_all (wants.Anything ∷ f.wanted) (upper n s.stack)) _ t e).1
-step_slots g fails s t le e = absurd (none_some e)
+step_slots g fails s t le e = absurd (none-some _ e)

@@ -3,10 +3,10 @@ use Rattle.std.proofs.Common.{◌≡◌, ℕ, zero, suc, ◌+◌, ◌<◌, Bool,
 use Rattle.std.specs.Option.{option_and_then}
 use Rattle.std.specs.List.{AllByRecursion, sum_by}
 use Rattle.std.specs.Prelude.{codes, bytes_eq}
-use Rattle.std.proofs.lemmas.Bool.{eqb-true}
-use Rattle.std.proofs.lemmas.List.{length-map}
+use Rattle.std.proofs.lemmas.Bool.{eqb-true, true≢false}
+use Rattle.std.proofs.lemmas.List.{length-map, append-nil}
 use Rattle.std.proofs.lemmas.List.Sums.{sum_by-cons}
-use Rattle.std.proofs.lemmas.Option.{slice_get_within, get_or_from_slice_get}
+use Rattle.std.proofs.lemmas.Option.{slice_get_within, get_or_from_slice_get, none-some, same_Some}
 use Rattle.jc_base.specs.declared.opcode.TheConstants as ops
 use Rattle.jc_base.specs.declared.insn.Insn.{Insn}
 use Rattle.jc_base.specs.declared.insn.Insn.TheVariants as insns
@@ -28,10 +28,9 @@ use Rattle.jc_after.specs.declared.want.Want.TheVariants as wants
 use Rattle.jc_after.specs.Step.{Step, moves, loads, stores, counts, picks, makes, builds, fails, apply}
 use Rattle.jc_after.specs.Table.{turns}
 use Rattle.jc_after.specs.After.{field_step, method_step, member_step, interface_step, dynamic_step, computed_step, constant_step, array_of, array_step, class_step, multi_step, return_op, simple_step, local_want, step_of, insn_at, ground_of, returns_of, after_of}
-use Rattle.jc_after.specs.Answers.{IsStateOf, IsWhole, LeavesState}
+use Rattle.jc_after.specs.Answers.{IsStateOf, IsWhole, LeavesState, LeavesAlways}
 use Rattle.jc_after.specs.Shift.{IsPlaceless, Straddles}
 use Rattle.jc_after.specs.Step.{kind}
-use Rattle.jc_after.proofs.Tests.{none_some, some_is, true_false}
 use Rattle.jc_after.proofs.MovesLaws.{width_is}
 use Rattle.jc_after.proofs.AfterLaws.{can_shift, two_slots}
 use Rattle.jc_after.proofs.KeepLaws.{AllOf, step_all, step_count, step_slots}
@@ -44,13 +43,13 @@ plain (stores k w) = false
 plain makes = false
 plain st = true
 
-unfolded : (st : Step) → plain st ≡ true → st ≡ makes → ⊥
+makes_nothing : (st : Step) → plain st ≡ true → st ≡ makes → ⊥
 unfolding plain
-unfolded st e is = true_false (sym e ∙ ap plain is)
+makes_nothing st e is = true≢false (sym e ∙ ap plain is)
 
 no_second : (count : ℕ) (st : Step) → plain st ≡ true → HasSecond count st
 unfolding plain
-no_second count (stores k w) e = absurd (true_false (sym e))
+no_second count (stores k w) e = absurd (true≢false (sym e))
 no_second count (moves forms) e = tt
 no_second count (loads k w) e = tt
 no_second count (counts k) e = tt
@@ -107,38 +106,51 @@ plain_simple : (returns : Option FieldType) (op : ℕ) → plain (simple_step re
 unfolding plain
 plain_simple returns op = if_plain (nat_eq op ops.AALOAD) _ _ refl (if_plain (is_return op) _ _ (if_plain (nat_eq op (return_op returns)) _ _ refl refl) refl)
 
+-- anewarray, checkcast and instanceof
+abbrev class_rest : ℕ → List ℕ → Step
+class_rest op name =
+    if nat_eq op ops.ANEWARRAY then array_step name
+    else if nat_eq op ops.CHECKCAST then moves (turns (wants.Reference ∷ []) (object name))
+    else moves (turns (wants.Reference ∷ []) int)
+
+plain_rest : (op : ℕ) (name : List ℕ) → plain (class_rest op name) ≡ true
+unfolding plain
+plain_rest op name =
+    if_plain (nat_eq op ops.ANEWARRAY) _ _ (if_plain (nat_le (length (array_of name)) 65535) _ _ refl refl)
+    (if_plain (nat_eq op ops.CHECKCAST) _ _ refl refl)
+
 -- a step that makes an object is that of a `new`
 class_new : (op place : ℕ) (what : Option What) → class_step op what ≡ makes → op ≡ ops.NEW
 unfolding plain
 class_new op place (Some (whats.Class name)) e = by (nat_eq op ops.NEW) refl e
   where
-    by : (b : Bool) → nat_eq op ops.NEW ≡ b → (if b then makes else if nat_eq op ops.ANEWARRAY then array_step name else if nat_eq op ops.CHECKCAST then moves (turns (wants.Reference ∷ []) (object name)) else moves (turns (wants.Reference ∷ []) int)) ≡ makes → op ≡ ops.NEW
+    by : (b : Bool) → nat_eq op ops.NEW ≡ b → (if b then makes else class_rest op name) ≡ makes → op ≡ ops.NEW
     by true is e = eqb-true op ops.NEW is
-    by false is e = absurd (unfolded _ (if_plain (nat_eq op ops.ANEWARRAY) _ _ (if_plain (nat_le (length (array_of name)) 65535) _ _ refl refl) (if_plain (nat_eq op ops.CHECKCAST) _ _ refl refl)) e)
+    by false is e = absurd (makes_nothing _ (plain_rest op name) e)
 class_new op place _ e = absurd cc
 
 module _ (uses : List Use) (returns : Option FieldType) where
   new_there : (insn : Insn) → step_of uses returns insn ≡ makes → (place : ℕ) × (insn ≡ insns.OfClass ops.NEW place)
   unfolding plain
   new_there (insns.OfClass op place) e = (place, ap (λ (o : ℕ). insns.OfClass o place) (class_new op place (what_used uses place) e))
-  new_there (insns.Simple op) e = absurd (unfolded _ (plain_simple returns op) e)
-  new_there (insns.Push op value) e = absurd (unfolded _ refl e)
+  new_there (insns.Simple op) e = absurd (makes_nothing _ (plain_simple returns op) e)
+  new_there (insns.Push op value) e = absurd (makes_nothing _ refl e)
   new_there (insns.Local op slot) e = absurd (by (nat_lt op ops.ISTORE) e)
     where
       by : (b : Bool) → (if b then loads slot (local_want op) else stores slot (local_want op)) ≡ makes → ⊥
       by true e = cc
       by false e = cc
-  new_there (insns.Inc slot n) e = absurd (unfolded _ refl e)
-  new_there (insns.Constant place) e = absurd (unfolded _ (plain_constant (what_used uses place)) e)
-  new_there (insns.Constant2 place) e = absurd (unfolded _ (plain_constant (what_used uses place)) e)
-  new_there (insns.Member op place) e = absurd (unfolded _ (plain_member op (what_used uses place)) e)
-  new_there (insns.Interface place count) e = absurd (unfolded _ (plain_interface (what_used uses place)) e)
-  new_there (insns.Dynamic place) e = absurd (unfolded _ (plain_dynamic (what_used uses place)) e)
-  new_there (insns.NewArray elem) e = absurd (unfolded _ refl e)
-  new_there (insns.Multi place dims) e = absurd (unfolded _ (plain_multi (what_used uses place) dims) e)
-  new_there (insns.Jump op to) e = absurd (unfolded _ refl e)
-  new_there (insns.Table low default arms) e = absurd (unfolded _ refl e)
-  new_there (insns.Lookup default arms) e = absurd (unfolded _ refl e)
+  new_there (insns.Inc slot n) e = absurd (makes_nothing _ refl e)
+  new_there (insns.Constant place) e = absurd (makes_nothing _ (plain_constant (what_used uses place)) e)
+  new_there (insns.Constant2 place) e = absurd (makes_nothing _ (plain_constant (what_used uses place)) e)
+  new_there (insns.Member op place) e = absurd (makes_nothing _ (plain_member op (what_used uses place)) e)
+  new_there (insns.Interface place count) e = absurd (makes_nothing _ (plain_interface (what_used uses place)) e)
+  new_there (insns.Dynamic place) e = absurd (makes_nothing _ (plain_dynamic (what_used uses place)) e)
+  new_there (insns.NewArray elem) e = absurd (makes_nothing _ refl e)
+  new_there (insns.Multi place dims) e = absurd (makes_nothing _ (plain_multi (what_used uses place) dims) e)
+  new_there (insns.Jump op to) e = absurd (makes_nothing _ refl e)
+  new_there (insns.Table low default arms) e = absurd (makes_nothing _ refl e)
+  new_there (insns.Lookup default arms) e = absurd (makes_nothing _ refl e)
 
   -- what is stored has its second local variable too
   second_there : (count : ℕ) (insn : Insn) → LocalsWithin count insn → HasSecond count (step_of uses returns insn)
@@ -147,7 +159,7 @@ module _ (uses : List Use) (returns : Option FieldType) where
     where
       two : (b : Bool) → b ≡ true → AllByRecursion (λ s. s < count) (if b then slot ∷ (slot + 1) ∷ [] else slot ∷ []) → slot + 1 < count
       two true e w = w.1.0
-      two false e w = absurd (true_false (sym e))
+      two false e w = absurd (true≢false (sym e))
 
       by : (b : Bool) → HasSecond count (if b then loads slot (local_want op) else stores slot (local_want op))
       by true = tt
@@ -157,9 +169,9 @@ module _ (uses : List Use) (returns : Option FieldType) where
       class_second : (what : Option What) → HasSecond count (class_step op what)
       class_second (Some (whats.Class name)) = by (nat_eq op ops.NEW)
         where
-          by : (b : Bool) → HasSecond count (if b then makes else if nat_eq op ops.ANEWARRAY then array_step name else if nat_eq op ops.CHECKCAST then moves (turns (wants.Reference ∷ []) (object name)) else moves (turns (wants.Reference ∷ []) int))
+          by : (b : Bool) → HasSecond count (if b then makes else class_rest op name)
           by true = tt
-          by false = no_second count _ (if_plain (nat_eq op ops.ANEWARRAY) _ _ (if_plain (nat_le (length (array_of name)) 65535) _ _ refl refl) (if_plain (nat_eq op ops.CHECKCAST) _ _ refl refl))
+          by false = no_second count _ (plain_rest op name)
       class_second _ = tt
   second_there count (insns.Simple op) within = no_second count _ (plain_simple returns op)
   second_there count (insns.Push op value) within = tt
@@ -264,27 +276,19 @@ kinds_within : (names : Names) (ks : List Kind) → ((more : Names) → map (hel
 kinds_within names [] stays = tt
 kinds_within names (k ∷ ks) stays = (kind_within names k (λ more. head_is _ _ _ _ (stays more)), kinds_within names ks (λ more. tail_is _ _ _ _ (stays more)))
 
-append_nil : (names : Names) → names ++ [] ≡ names
-append_nil [] = refl
-append_nil (x ∷ names) = ap (λ (l : Names). x ∷ l) (append_nil names)
-
 -- ---- the state that is left
 
-insn_of : (b : Body) (i : ℕ) (s t : Seen) → after_of b i s ≡ Some t → (insn : Insn) × (insn_at b i ≡ Some insn) × (apply (ground_of b i) (step_of b.uses (returns_of b) insn) s ≡ Some t)
+pub insn_of : (b : Body) (i : ℕ) (s t : Seen) → after_of b i s ≡ Some t → (insn : Insn) × (insn_at b i ≡ Some insn) × (apply (ground_of b i) (step_of b.uses (returns_of b) insn) s ≡ Some t)
 unfolding after_of
 insn_of b i s t e = by (insn_at b i) refl e
   where
     by : (o : Option Insn) → insn_at b i ≡ o → option_and_then (λ insn. apply (ground_of b i) (step_of b.uses (returns_of b) insn) s) o ≡ Some t
         → (insn : Insn) × (insn_at b i ≡ Some insn) × (apply (ground_of b i) (step_of b.uses (returns_of b) insn) s ≡ Some t)
-    by None is e = absurd (none_some e)
+    by None is e = absurd (none-some _ e)
     by (Some insn) is e = (insn, is, e)
 
--- under all longer lists of names
-abbrev pub LeavesAlways : Names → Names → Body → ℕ → State → Option State → Type 0
-LeavesAlways old new b i before after = (more : Names) → option_map (seen (new ++ more)) after ≡ after_of b i (seen old before)
-
 pub leaves : (old new : Names) (b : Body) (i : ℕ) (s : State) (o : Option State) → LeavesAlways old new b i s o → LeavesState old new b i s o
-leaves old new b i s o always = ap (λ (names : Names). option_map (seen names) o) (sym (append_nil new)) ∙ always []
+leaves old new b i s o always = ap (λ (names : Names). option_map (seen names) o) (sym (append-nil new)) ∙ always []
 
 -- nothing stands before the first local variable
 no_slot : (insn : Insn) → Straddles 0 insn → ⊥
@@ -322,7 +326,7 @@ module _ (old new : Names) (b : Body) (i : ℕ) (s t : State) (w : IsWellMadeOfA
       (record { locals = all_held b.code old s.locals is.local_kinds; stack = all_held b.code old s.stack is.stack_kinds }) insn.2
 
   stays : (more : Names) → seen (new ++ more) t ≡ seen new t
-  stays more = some_is _ _ (always more ∙ here)
+  stays more = same_Some _ _ (always more ∙ here)
 
   pub left_of_body : IsStateOf (length new) b t
   left_of_body = record {

@@ -1,4 +1,3 @@
-pub mod Tests
 pub mod ShiftLaws
 pub mod AfterLaws
 pub mod MovesLaws
@@ -10,9 +9,11 @@ pub mod KeepLaws
 pub mod DoesLaws
 pub mod PairLaws
 pub mod LeaveLaws
+pub mod WholeLaws
 pub mod StepLaws
 pub mod UsesLaws
 pub mod EffectsLaws
 pub mod DispatchLaws
 pub mod BuildLaws
 pub mod ApplyLaws
+pub mod TestBodyLaws

@@ -1,7 +1,7 @@
 -- Operands that are taken and results that are left, one by one.
 use Rattle.jc_base.specs.WellMade.{kind_slots}
 use Rattle.jc_base.specs.declared.kind.Kind.TheVariants as kinds
-use Rattle.std.proofs.Common.{◌≡◌, ◌≢◌, ℕ, suc, ◌+◌, ◌-◌, ◌<◌, ◌≤◌, Bool, true, false, ◌&&◌, List, [], ◌∷◌, ◌++◌, length, map, take, drop, Option, Some, None, option_map, refl, sym, ap, ap₂, ◌∙◌, arith, get_or, nat_le}
+use Rattle.std.proofs.Common.{◌≡◌, ◌≢◌, ℕ, suc, ◌+◌, ◌-◌, ◌<◌, ◌≤◌, true, false, ◌&&◌, List, [], ◌∷◌, ◌++◌, length, map, take, drop, Option, Some, None, option_map, refl, sym, ap, ap₂, ◌∙◌, arith, get_or, nat_le}
 use Rattle.std.proofs.lemmas.List.{drop_more, drop_all, take_all, length-map, length-drop, take-map, drop-map, map-append, map_more, append_assoc}
 use Rattle.jc_base.specs.declared.kind.Kind.{Kind}
 use Rattle.jc_base.specs.declared.kind.State.{State}
@@ -11,6 +11,7 @@ use Rattle.jc_base.specs.Held.{Names, Held, held, seen, width, slots}
 use Rattle.jc_after.specs.Wants.{accepts, accepts_all}
 use Rattle.jc_after.specs.Step.{Form, limited, below, upper, has_form, moved_by, given_of, with_stack}
 use Rattle.std.specs.List.{flat_map}
+use Rattle.std.proofs.lemmas.Bool.{and_right}
 use Rattle.jc_after.specs.declared.table.Shape.{Shape}
 use Rattle.jc_after.specs.Shapes.{forms_of}
 use Rattle.jc_after.specs.Shapes.{gives_of, form_of, moved_in}
@@ -19,11 +20,7 @@ pub all-unequal : (ws : List Want) (hs : List Held) → length ws ≢ length hs 
 all-unequal [] [] ne = absurd (ne refl)
 all-unequal [] (h ∷ hs) ne = refl
 all-unequal (w ∷ ws) [] ne = refl
-all-unequal (w ∷ ws) (h ∷ hs) ne = rw (all-unequal ws hs (λ e. ne (ap suc e))) (and_false (accepts w h))
-  where
-    and_false : (b : Bool) → b && false ≡ false
-    and_false true = refl
-    and_false false = refl
+all-unequal (w ∷ ws) (h ∷ hs) ne = rw (all-unequal ws hs (λ e. ne (ap suc e))) (and_right (accepts w h) false refl)
 
 -- one operand on
 pub all_on : (names : Names) (ws : List Want) (ks : List Kind) (i : ℕ) (w : Want) (k : Kind) → i < length ws → length ws ≡ length ks →

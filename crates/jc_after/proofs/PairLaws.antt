@@ -2,7 +2,8 @@
 use Rattle.std.proofs.Common.{◌≡◌, ◌≢◌, ℕ, zero, suc, ◌+◌, ◌<◌, Bool, true, false, ◌&&◌, List, [], ◌∷◌, length, map, Option, Some, None, if◌then◌else◌, refl, sym, ap, ◌∙◌, subst, arith, get_or, set, nat_eq}
 use Rattle.std.specs.List.{list_any}
 use Rattle.std.proofs.lemmas.List.{length-set, length-map, get_or-set_same, get_or-set_other}
-use Rattle.std.proofs.lemmas.Bool.{eqb-true, eqb-false}
+use Rattle.std.proofs.lemmas.Bool.{eqb-true, eqb-false, true≢false}
+use Rattle.std.proofs.lemmas.Option.{none-some, same_Some}
 use Rattle.jc_base.specs.declared.kind.Kind.{Kind}
 use Rattle.jc_base.specs.declared.kind.Kind.TheVariants as kinds
 use Rattle.jc_base.specs.WellMade.{ArePaired, BeginsWithTop, kind_slots}
@@ -12,7 +13,6 @@ use Rattle.jc_after.specs.Wants.{is_int, accepts, accepts_all}
 use Rattle.jc_after.specs.Step.{Gives, Step, moves, loads, stores, counts, picks, makes, builds, fails, Ground, apply, upper, below, last, cleared, clear_before, put_local, is_array, without, is_made, class_built, built_as, replaced, same_new}
 use Rattle.jc_after.specs.Shift.{takes_pair}
 use Rattle.jc_after.proofs.ShiftLaws.{pair-taken}
-use Rattle.jc_after.proofs.Tests.{none_some, some_is, true_false}
 use Rattle.jc_after.proofs.KeepLaws.{then_some, else_some, same_locals, length_clear}
 
 -- behind each value of two slots stands `top`
@@ -62,7 +62,7 @@ begins names [] h = elim h [ ]
 begins names (k ∷ ks) h = (omega arith, ap (held names) h)
 
 pub pairs_of : (names : Names) (ks : List Kind) → ArePaired ks → Paired (map (held names) ks)
-pairs_of names [] pairs i e = absurd (true_false (sym e))
+pairs_of names [] pairs i e = absurd (true≢false (sym e))
 pairs_of names (k ∷ ks) pairs zero e = let b = begins names ks (pairs.0 (wide_pair names k e)) in (omega (arith, b.0), b.1)
 pairs_of names (k ∷ ks) pairs (suc i) e = let p = pairs_of names ks pairs.1 i e in (omega (arith, p.0), ap (λ (n : ℕ). get_or (map (held names) (k ∷ ks)) n top) (suc_plus i) ∙ p.1)
 
@@ -107,7 +107,7 @@ module _ (ls : List Held) (pairs : Paired ls) where
       by : (b : Bool) → nat_eq i k ≡ b → (i + 1 < length (set ls k y)) × (get_or (set ls k y) (i + 1) top ≡ top)
       by true is =
           let at = eqb-true i k is in
-          absurd (true_false (sym e ∙ ap (λ (n : ℕ). is_pair (get_or (set ls k y) n top)) at ∙ single_at ls k y single))
+          absurd (true≢false (sym e ∙ ap (λ (n : ℕ). is_pair (get_or (set ls k y) n top)) at ∙ single_at ls k y single))
       by false is = next (eqb-false i k is) (nat_eq (i + 1) k) refl
 
   -- a value of two slots, and `top` behind it
@@ -123,7 +123,7 @@ module _ (ls : List Held) (pairs : Paired ls) where
       by : (b : Bool) → nat_eq i (k + 1) ≡ b → (d : Bool) → nat_eq i k ≡ d → (i + 1 < length (set (set ls k h) (k + 1) top)) × (get_or (set (set ls k h) (k + 1) top) (i + 1) top ≡ top)
       by true is d also =
           let at = eqb-true i (k + 1) is in
-          absurd (true_false (sym e ∙ ap (λ (j : ℕ). is_pair (get_or (set (set ls k h) (k + 1) top) j top)) at ∙ single_at (set ls k h) (k + 1) top refl))
+          absurd (true≢false (sym e ∙ ap (λ (j : ℕ). is_pair (get_or (set (set ls k h) (k + 1) top) j top)) at ∙ single_at (set ls k h) (k + 1) top refl))
       by false is true also =
           let at = eqb-true i k also in
           (omega (arith, n, room, at), ap (λ (j : ℕ). get_or (set (set ls k h) (k + 1) top) (j + 1) top) at ∙ get_or-set_same (set ls k h) (k + 1) top top behind)
@@ -131,11 +131,11 @@ module _ (ls : List Held) (pairs : Paired ls) where
           let ne = eqb-false i (k + 1) is in let nk = eqb-false i k also in
           let there : is_pair (get_or ls i top) ≡ true = ap is_pair (sym (get_or-set_other (set ls k h) (k + 1) i top top ne ∙ get_or-set_other ls k i h top nk)) ∙ e in
           let p = pairs i there in
-          let no : i + 1 ≢ k = λ at. true_false (sym there ∙ free i at) in
+          let no : i + 1 ≢ k = λ at. true≢false (sym there ∙ free i at) in
           let nn : i + 1 ≢ k + 1 = λ at. nk (omega (arith, at)) in
           (omega (arith, n, p.0), get_or-set_other (set ls k h) (k + 1) (i + 1) top top nn ∙ get_or-set_other ls k (i + 1) h top no ∙ p.1)
 
-cleared_single : (h : Held) → is_pair (cleared h) ≡ false
+pub cleared_single : (h : Held) → is_pair (cleared h) ≡ false
 cleared_single h = by (is_pair h) refl
   where
     by : (b : Bool) → is_pair h ≡ b → is_pair (if b then top else h) ≡ false
@@ -158,9 +158,9 @@ put_pairs k h ls room pairs = by (is_pair h) refl
   where
     by : (b : Bool) → is_pair h ≡ b → Paired (if b then set (set (clear_before k ls) k h) (k + 1) top else set (clear_before k ls) k h)
     by true is = set_pair (clear_before k ls) (clear_pairs k ls pairs) k h (clear_free k ls) (let n = length_clear k ls in let r = room is in omega (arith, n, r))
-    by false is = set_single (clear_before k ls) (clear_pairs k ls pairs) k h is (λ j at wide. absurd (true_false (sym wide ∙ clear_free k ls j at)))
+    by false is = set_single (clear_before k ls) (clear_pairs k ls pairs) k h is (λ j at wide. absurd (true≢false (sym wide ∙ clear_free k ls j at)))
 
-get_mapped : (f : Held → Held) → f top ≡ top → (ls : List Held) (i : ℕ) → get_or (map f ls) i top ≡ f (get_or ls i top)
+pub get_mapped : (f : Held → Held) → f top ≡ top → (ls : List Held) (i : ℕ) → get_or (map f ls) i top ≡ f (get_or ls i top)
 get_mapped f tops [] i = sym tops
 get_mapped f tops (x ∷ ls) zero = refl
 get_mapped f tops (x ∷ ls) (suc i) = get_mapped f tops ls i
@@ -172,10 +172,10 @@ map_pairs f tops wide ls pairs i e =
     (omega (arith, n, p.0), get_mapped f tops ls (i + 1) ∙ ap f p.1 ∙ tops)
 
 one_pair : (b : Bool) (x y : Held) → is_pair x ≡ false → is_pair (if b then x else y) ≡ true → is_pair y ≡ true
-one_pair true x y single e = absurd (true_false (sym e ∙ single))
+one_pair true x y single e = absurd (true≢false (sym e ∙ single))
 one_pair false x y single e = e
 
-replaced_top : (old : Held) (name : List ℕ) → replaced old name top ≡ top
+pub replaced_top : (old : Held) (name : List ℕ) → replaced old name top ≡ top
 replaced_top (uninit at) name = refl
 replaced_top uninit_this name = refl
 replaced_top top name = refl
@@ -194,7 +194,7 @@ HasSecond count (stores k w) = takes_pair w ≡ true → k + 1 < count
 HasSecond count st = Unit {0}
 
 built_pairs : (most : ℕ) (old : Held) (rest : List Held) (given : List Gives) (name : Option (List ℕ)) (s t : Seen) → Paired s.locals → built_as most old rest given name s ≡ Some t → Paired t.locals
-built_pairs most old rest given None s t pairs e = absurd (none_some e)
+built_pairs most old rest given None s t pairs e = absurd (none-some _ e)
 built_pairs most old rest given (Some name) s t pairs e =
     subst Paired (same_locals (record { locals = map (replaced old name) s.locals; stack = s.stack }) t _ e)
     (map_pairs (replaced old name) (replaced_top old name) (λ h wide. one_pair (same_new old h) _ h refl wide) s.locals pairs)
@@ -204,8 +204,8 @@ step_pairs g (moves forms) s t room pairs e = subst Paired (same_locals s t _ e)
 step_pairs g (loads k w) s t room pairs e = subst Paired (same_locals s t _ (then_some (accepts w (get_or s.locals k top)) _ t e).1) pairs
 step_pairs g (stores k w) s t room pairs e =
     let p = then_some (accepts w (last s.stack)) (Some (record { locals = put_local k (last s.stack) s.locals; stack = below 1 s.stack })) t e in
-    subst Paired (ap (λ (u : Seen). u.locals) (some_is _ t p.1)) (put_pairs k (last s.stack) s.locals (λ wide. room (pair-taken (λ n. n) w (last s.stack) p.0 wide)) pairs)
-step_pairs g (counts k) s t room pairs e = subst Paired (ap (λ (u : Seen). u.locals) (some_is s t (then_some (is_int (get_or s.locals k top)) (Some s) t e).1)) pairs
+    subst Paired (ap (λ (u : Seen). u.locals) (same_Some _ t p.1)) (put_pairs k (last s.stack) s.locals (λ wide. room (pair-taken (λ n. n) w (last s.stack) p.0 wide)) pairs)
+step_pairs g (counts k) s t room pairs e = subst Paired (ap (λ (u : Seen). u.locals) (same_Some s t (then_some (is_int (get_or s.locals k top)) (Some s) t e).1)) pairs
 step_pairs g picks s t room pairs e =
     subst Paired (same_locals s t _ (then_some (is_array (get_or (upper 2 s.stack) 0 top) && is_int (get_or (upper 2 s.stack) 1 top)) _ t e).1) pairs
 step_pairs g makes s t room pairs e =
@@ -214,4 +214,4 @@ step_pairs g makes s t room pairs e =
 step_pairs g (builds f) s t room pairs e =
     let n = suc (length f.wanted) in let old = get_or (upper n s.stack) 0 top in
     built_pairs g.most old (below n s.stack) f.given (class_built g old) s t pairs (then_some (accepts_all (wants.Anything ∷ f.wanted) (upper n s.stack)) _ t e).1
-step_pairs g fails s t room pairs e = absurd (none_some e)
+step_pairs g fails s t room pairs e = absurd (none-some _ e)

@@ -6,6 +6,7 @@ use Rattle.jc_base.specs.declared.body.Use.{Use}
 use Rattle.jc_base.specs.declared.body.What.{What}
 use Rattle.jc_base.specs.declared.body.What.TheVariants as whats
 use Rattle.std.proofs.lemmas.List.{take_more}
+use Rattle.std.proofs.lemmas.Option.{none-some, same_Some}
 use Rattle.jc_base.specs.declared.value_type.ValueType.{ValueType}
 use Rattle.jc_base.specs.declared.opcode.TheConstants as ops
 use Rattle.jc_base.specs.Descriptor.{FieldType, MethodType, IsMethodDescriptor, DescribesMethod}
@@ -19,7 +20,6 @@ use Rattle.jc_base.specs.WellMade.{AreRisingFrom, what_used}
 use Rattle.jc_base.proofs.UsedLaws.{is_below, past_all, stands, stands_not}
 use Rattle.jc_after.specs.declared.effect.Effect.{Effect}
 use Rattle.jc_after.specs.Does.{Says, AllSay}
-use Rattle.jc_after.proofs.Tests.{none_some, some_is}
 use Rattle.jc_after.proofs.DoesLaws.{all_say_at, all_say_later, all_say_push}
 
 pub any_item : {X : Type 0} (xs : List X) (i : ℕ) (d e : X) → i < length xs → get_or xs i d ≡ get_or xs i e
@@ -32,7 +32,7 @@ Halves uses place middle = IsPartitionPoint (λ u. is_below place u ≡ true) (�
 
 pub position_within : (uses : List Use) (place middle : ℕ) (used : (what : What) × (what_used uses place ≡ Some what)) → Halves uses place middle → middle < length uses
 position_within uses place middle used halves =
-    ⊎_elim (λ lt. lt) (λ past. absurd (none_some (past_all uses place middle halves past ∙ used.1))) (cases_lt middle (length uses))
+    ⊎_elim (λ lt. lt) (λ past. absurd (none-some _ (past_all uses place middle halves past ∙ used.1))) (cases_lt middle (length uses))
 
 pub position_used : (uses : List Use) (place middle : ℕ) (used : (what : What) × (what_used uses place ≡ Some what)) → AreRisingFrom 0 uses → Halves uses place middle
     → (d : Use) → what_used uses place ≡ Some (get_or uses middle d).what
@@ -42,7 +42,7 @@ position_used uses place middle used rising halves d =
   where
     by : middle < length uses → get_or uses middle d ≡ get_or uses middle (get_or uses middle d) → (b : Bool) → nat_eq (get_or uses middle d).place place ≡ b → what_used uses place ≡ Some (get_or uses middle d).what
     by lt is true e = sym (stands uses place middle (get_or uses middle d) rising lt is (eqb-true (get_or uses middle d).place place e))
-    by lt is false e = absurd (none_some (stands_not uses place middle (get_or uses middle d) rising halves lt is (eqb-false (get_or uses middle d).place place e) ∙ used.1))
+    by lt is false e = absurd (none-some _ (stands_not uses place middle (get_or uses middle d) rising halves lt is (eqb-false (get_or uses middle d).place place e) ∙ used.1))
 
 no_use : Use
 no_use = record { place = 0; what = whats.Float }
@@ -51,7 +51,7 @@ no_use = record { place = 0; what = whats.Float }
 pub says_there : (names : Names) (uses : List Use) (each : List Effect) (place i : ℕ) (what : What) (e : Effect) → AllSay names uses each → i < length uses
     → ((d : Use) → what_used uses place ≡ Some (get_or uses i d).what) → what_used uses place ≡ Some what → length each ≡ length uses → e ≡ get_or each i e → Says names what e
 says_there names uses each place i what e all lt used is count read =
-    let same : (get_or uses i no_use).what ≡ what = some_is _ _ (sym (used no_use) ∙ is) in
+    let same : (get_or uses i no_use).what ≡ what = same_Some _ _ (sym (used no_use) ∙ is) in
     subst (λ (f : Effect). Says names what f) (sym read) (subst (λ (w : What). Says names w (get_or each i e)) same (all_say_at names uses each i no_use e all lt))
 
 -- ---- returns
@@ -66,7 +66,7 @@ return_some desc r v op d says is e =
   where
     by : (o : Option FieldType) → Some (held_by v) ≡ option_map held_of o → return_for (held_by v) ≡ return_op o
     by None f = absurd (no_result (held_by v) (sym f))
-    by (Some t) f = ap return_for (some_is (held_by v) (held_of t) f)
+    by (Some t) f = ap return_for (same_Some (held_by v) (held_of t) f)
 
 pub return_none : (desc : List ℕ) (r : Option ValueType) → IsMethodDescriptor desc → ((type : MethodType) → DescribesMethod desc type → SaysReturn r type.returns) → r ≡ None
     → ops.RETURN ≡ return_op (method_type_in desc).returns

@@ -1,5 +1,5 @@
 -- What the calls of this crate ask for and answer.
-use Rattle.std.specs.Prelude.{◌≡◌, ℕ, length, Option, All, option_map}
+use Rattle.std.specs.Prelude.{◌≡◌, ℕ, ◌++◌, length, Option, All, option_map}
 use Rattle.jc_base.specs.declared.kind.State.{State}
 use Rattle.jc_base.specs.declared.body.Body.{Body}
 use Rattle.jc_base.specs.WellMade.{IsKind, IsState}
@@ -21,3 +21,7 @@ IsWhole b s = IsState b.code b.max_locals b.max_stack s
 -- the state after an instruction, by the names afterwards, or none where there is none
 abbrev pub LeavesState : Names → Names → Body → ℕ → State → Option State → Type 0
 LeavesState old new b i before after = option_map (seen new) after ≡ after_of b i (seen old before)
+
+-- the same, also when more names are numbered
+abbrev pub LeavesAlways : Names → Names → Body → ℕ → State → Option State → Type 0
+LeavesAlways old new b i before after = (more : Names) → option_map (seen (new ++ more)) after ≡ after_of b i (seen old before)

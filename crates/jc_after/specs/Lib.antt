@@ -10,3 +10,4 @@ pub mod Steps
 pub mod Effects
 pub mod Answers
 pub mod Shift
+pub mod TestBodies

@@ -23,7 +23,8 @@ pub fn object_of(alloc: Global, name: &[u8], names: &mut Names) -> Result<Kind, 
 
 /// The class of the elements of an array of references, by the name of the array's class.
 fn element_name(name: &[u8]) -> Option<&[u8]>
-    ensures { MatchOption result (is_array_name name.now ≡ false) (λ element. (is_array_name name.now ≡ true) × (element.now ≡ name_of_elements name.now)) }
+    ensures { MatchOption result (is_array_name name.now ≡ false) (λ element.
+        (is_array_name name.now ≡ true) × (element.now ≡ name_of_elements name.now)) }
 {
     match name {
         [b'[', b'[', ..] => Some(&name[1..]),
@@ -119,8 +120,8 @@ pub fn new_arrays(
     class: Kind,
     most: u16,
 ) -> Result<Option<State>, Memory>
-    ensures { IfOk result (λ o. (names : Names) → option_map (seen names) o
-        ≡ with_stack (seen names state.now) (moved_by most (turns (replicate count wants.Int) (held names class)) (map (held names) state.now.stack))) }
+    ensures { IfOk result (λ o. (names : Names) → option_map (seen names) o ≡ with_stack (seen names state.now)
+        (moved_by most (turns (replicate count wants.Int) (held names class)) (map (held names) state.now.stack))) }
 {
     let ints = &INTS[..count as usize];
     Ok(move_state(alloc, state, ints, &[Give::Kind(class)], most)?)

@@ -58,7 +58,8 @@ fn want_for(value: ValueType<'_>) -> Want
 
 /// A field of a type, or a constant of it.
 fn value_effect(alloc: Global, desc: &[u8], names: &mut Names) -> Result<Effect, Memory>
-    ensures value { IfOk result (λ effect. (more : Names) → IsFieldDescriptor desc.now → does (names.new ++ more) effect ≡ value_of (field_type_in desc.now)) }
+    ensures value { IfOk result (λ effect. (more : Names) → IsFieldDescriptor desc.now →
+        does (names.new ++ more) effect ≡ value_of (field_type_in desc.now)) }
     ensures names { Grows names.old names.new }
 {
     if !is_field_descriptor(desc) {
@@ -105,7 +106,8 @@ fn call_effect(
     builds: bool,
     names: &mut Names,
 ) -> Result<Effect, Memory>
-    ensures call { IfOk result (λ effect. (more : Names) → IsMethodDescriptor desc.now → does (names.new ++ more) effect ≡ call_of builds (method_type_in desc.now)) }
+    ensures call { IfOk result (λ effect. (more : Names) → IsMethodDescriptor desc.now →
+        does (names.new ++ more) effect ≡ call_of builds (method_type_in desc.now)) }
     ensures names { Grows names.old names.new }
 {
     if !is_method_descriptor(desc) {

@@ -29,19 +29,18 @@ pub struct Effects<'a> {
 }
 
 impl<'a> Effects<'a> {
-    ghost use Rattle.std.specs.Prelude.{◌≡◌, ◌<◌, ◌++◌, ℕ, length, All, IfOk, IfSome, Some, option_map, slice_get};
-    ghost use Rattle.jc_base.specs.Held.{Names, Grows, held, object, seen};
+    ghost use Rattle.std.specs.Prelude.{◌≡◌, ◌<◌, ℕ, length, All, IfOk, IfSome, Some, option_map, slice_get};
+    ghost use Rattle.jc_base.specs.Held.{Names, Grows, held, seen};
     ghost use Rattle.jc_base.specs.InsnUse.{pool_place, Suits};
     ghost use Rattle.jc_base.specs.WellMade.{HasUse, IsKind, IsWellMadeOfAnySize, what_used};
     ghost use Rattle.jc_base.specs.declared.body.What.{What};
     ghost use Rattle.jc_base.specs.declared.insn.Insn.TheVariants as insns;
     ghost use Rattle.jc_base.specs.declared.opcode.TheConstants as ops;
-    ghost use Rattle.jc_after.specs.After.{after_of, ground_of, insn_at, new_class, returns_of, step_of};
-    ghost use Rattle.jc_after.specs.Answers.{IsStateOf, IsWhole, LeavesState};
-    ghost use Rattle.jc_after.specs.Does.{does, does_of, IsDescribed};
-    ghost use Rattle.jc_after.specs.Effects.{AreEffects, body_of, IsRead};
+    ghost use Rattle.jc_after.specs.After.{ground_of};
+    ghost use Rattle.jc_after.specs.Answers.{IsStateOf, IsWhole, LeavesState, LeavesAlways};
+    ghost use Rattle.jc_after.specs.Effects.{AreEffects, body_of, IsRead, DoesAt, StepsAs, IsClassMade, IsClassBuilt, IsBuilt};
     ghost use Rattle.jc_after.specs.Shapes.{form_of};
-    ghost use Rattle.jc_after.specs.Step.{apply as apply_step, built as built_held, class_built as class_held};
+    ghost use Rattle.jc_after.specs.Step.{apply as apply_step};
     ghost use Rattle.jc_after.specs.Steps.{step_in, results, HasLocal, NumbersNothing};
     ghost use Rattle.jc_after.specs.Table.{form};
 
@@ -71,7 +70,7 @@ impl<'a> Effects<'a> {
     fn at(&self, place: u16) -> &Effect
         requires read { IsRead self.now }
         requires used { (what : What) × (what_used (body_of self.now).uses place ≡ Some what) }
-        ensures { (names : Names) (what : What) → AreEffects names self.now → what_used (body_of self.now).uses place ≡ Some what → IsDescribed what → does names result.now ≡ does_of what }
+        ensures { DoesAt self.now place result.now }
     {
         effect_at(&self.body.uses, &self.uses, place)
     }
@@ -81,7 +80,7 @@ impl<'a> Effects<'a> {
         requires read { IsRead self.now }
         requires used { (place : ℕ) → pool_place insn.now ≡ Some place → HasUse (body_of self.now).uses place (Suits insn.now) }
         requires numbers { NumbersNothing insn.now }
-        ensures { (names : Names) → AreEffects names self.now → step_in names result ≡ step_of (body_of self.now).uses (returns_of (body_of self.now)) insn.now }
+        ensures { StepsAs self.now insn.now result }
     {
         match insn {
             Insn::Simple(op) => simple_step(self.returns, *op),
@@ -106,7 +105,7 @@ impl<'a> Effects<'a> {
     fn class_made(&self, at: u32) -> Option<Kind>
         requires read { IsRead self.now }
         requires made { (place : ℕ) × (slice_get (body_of self.now).code at ≡ Some (insns.OfClass ops.NEW place)) }
-        ensures { (names : Names) → AreEffects names self.now → option_map (held names) result ≡ Some (object (new_class (body_of self.now).uses (insn_at (body_of self.now) at))) }
+        ensures { IsClassMade self.now at result }
     {
         let place = self.body.code[at as usize].pool_place()?;
         class_of(self.at(place))
@@ -116,7 +115,7 @@ impl<'a> Effects<'a> {
     fn class_built(&self, old: Kind) -> Option<Kind>
         requires read { IsRead self.now }
         requires kind { IsKind (body_of self.now).code old }
-        ensures { (names : Names) (place : ℕ) → AreEffects names self.now → option_map (held names) result ≡ option_map object (class_held (ground_of (body_of self.now) place) (held names old)) }
+        ensures { IsClassBuilt self.now old result }
     {
         match old {
             Kind::Uninit(at) => self.class_made(at),
@@ -135,8 +134,7 @@ impl<'a> Effects<'a> {
     ) -> Result<Option<State>, Memory>
         requires read { IsRead self.now }
         requires kinds { All (IsKind (body_of self.now).code) state.now.stack }
-        ensures { IfOk result (λ o. (names : Names) (place : ℕ) → AreEffects names self.now → option_map (seen names) o
-            ≡ built_held (ground_of (body_of self.now) place) (form_of names wants.now gives.now) (seen names state.now)) }
+        ensures { IfOk result (IsBuilt self.now state.now (λ names. form_of names wants.now gives.now)) }
     {
         let stack = state.stack.as_slice();
         if stack.len() <= wants.len() {
@@ -171,8 +169,7 @@ impl<'a> Effects<'a> {
     ) -> Result<Option<State>, Memory>
         requires read { IsRead self.now }
         requires kinds { All (IsKind (body_of self.now).code) state.now.stack }
-        ensures { IfOk result (λ o. (names : Names) (place : ℕ) → AreEffects names self.now → option_map (seen names) o
-            ≡ built_held (ground_of (body_of self.now) place) (form wants.now (results (option_map (held names) outcome))) (seen names state.now)) }
+        ensures { IfOk result (IsBuilt self.now state.now (λ names. form wants.now (results (option_map (held names) outcome)))) }
     {
         match outcome {
             Some(kind) => Ok(self.build(alloc, state, wants, &[Give::Kind(kind)])?),
@@ -230,7 +227,7 @@ impl<'a> Effects<'a> {
         requires effects { AreEffects names.old self.now }
         requires place { i < length (body_of self.now).code }
         requires state { IsStateOf (length names.old) (body_of self.now) state.now }
-        ensures after { IfOk result (λ after. (more : Names) → option_map (seen (names.new ++ more)) after ≡ after_of (body_of self.now) i (seen names.old state.now)) }
+        ensures after { IfOk result (LeavesAlways names.old names.new (body_of self.now) i state.now) }
         ensures names { Grows names.old names.new }
     {
         let insn = &self.body.code[i as usize];

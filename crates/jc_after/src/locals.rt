@@ -1,7 +1,8 @@
 //! Loads and stores of local variables. No class is named, so the clauses hold under all names.
 ghost use Rattle.std.specs.Prelude.{◌≡◌, ◌<◌, length, map, IfOk, option_map};
 ghost use Rattle.jc_base.specs.Held.{Names, held, seen, is_pair as is_pair_held};
-ghost use Rattle.jc_after.specs.Step.{cleared as cleared_held, clear_before as cleared_before, put_second as with_second, put_local as with_local, loaded, stored, counted};
+ghost use Rattle.jc_after.specs.Step.{cleared as cleared_held, clear_before as cleared_before, put_second as with_second};
+ghost use Rattle.jc_after.specs.Step.{put_local as with_local, loaded, stored, counted};
 
 use crate::Want;
 use crate::form::Give;
@@ -64,7 +65,8 @@ fn put_second(locals: &mut Vec<Kind>, slot: usize, kind: Kind)
 /// The local variables after a value was stored in one.
 fn put_local(alloc: Global, locals: &[Kind], slot: usize, kind: Kind) -> Result<List<Kind>, Memory>
     requires { slot < length locals.now }
-    ensures { IfOk result (λ after. (names : Names) → map (held names) after ≡ with_local slot (held names kind) (map (held names) locals.now)) }
+    ensures { IfOk result (λ after. (names : Names) →
+        map (held names) after ≡ with_local slot (held names kind) (map (held names) locals.now)) }
 {
     let mut after = Vec::from_slice(alloc, locals)?;
     clear_before(&mut after, slot);

@@ -1,8 +1,9 @@
 //! New objects and their constructors.
 ghost use Rattle.std.specs.Prelude.{◌≡◌, ◌++◌, ℕ, List as Seq, Some, map, IfOk, option_map};
 ghost use Rattle.std.specs.List.{list_any};
-ghost use Rattle.jc_base.specs.Held.{Names, Held, held, object, seen};
-ghost use Rattle.jc_after.specs.Objects.{is_made_by as is_made_kind, left_by as left_kind, is_one_object as is_one_kind, built_in as built_kind};
+ghost use Rattle.jc_base.specs.Held.{Names, held, object, seen};
+ghost use Rattle.jc_after.specs.Objects.{is_made_by as is_made_kind, left_by as left_kind};
+ghost use Rattle.jc_after.specs.Objects.{is_one_object as is_one_kind, built_in as built_kind};
 ghost use Rattle.jc_after.specs.Shapes.{gives_of};
 ghost use Rattle.jc_after.specs.Step.{made_at, built_as};
 

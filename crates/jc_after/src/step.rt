@@ -4,7 +4,8 @@ ghost use Rattle.jc_base.specs.Descriptor.{FieldType};
 ghost use Rattle.jc_base.specs.Held.{Names, Held, held};
 ghost use Rattle.jc_base.specs.declared.opcode.TheConstants as ops;
 ghost use Rattle.jc_after.specs.Does.{does, of_class};
-ghost use Rattle.jc_after.specs.Steps.{step_in, constant_by, static_by, object_by, field_by, method_by, member_by, array_by, class_by, multi_by, is_picking};
+ghost use Rattle.jc_after.specs.Steps.{step_in, constant_by, static_by, object_by, field_by, method_by, member_by};
+ghost use Rattle.jc_after.specs.Steps.{array_by, class_by, multi_by, is_picking};
 ghost use Rattle.jc_after.specs.After.{local_step as local_step_of, local_want as local_want_of, return_op, simple_step as simple_step_of};
 
 use crate::Want;
@@ -209,7 +210,8 @@ pub fn multi_step(count: u8, effect: &Effect) -> Step<'_>
 
 /// The class itself, where it is one.
 pub fn class_of(effect: &Effect) -> Option<Kind>
-    ensures { (names : Names) (h constant : Held) (array : Option Held) → does names effect.now ≡ of_class h array constant → option_map (held names) result ≡ Some h }
+    ensures { (names : Names) (h constant : Held) (array : Option Held) → does names effect.now ≡ of_class h array constant →
+        option_map (held names) result ≡ Some h }
 {
     match effect {
         Effect::Class { itself, .. } => Some(*itself),

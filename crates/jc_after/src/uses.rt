@@ -1,6 +1,6 @@
 //! What the things that a body uses do to types.
 ghost use Rattle.std.specs.Prelude.{◌≡◌, ◌<◌, ℕ, length, Option, Some, IfOk, slice_index_or};
-ghost use Rattle.jc_base.specs.Descriptor.{FieldType, IsMethodDescriptor};
+ghost use Rattle.jc_base.specs.Descriptor.{IsMethodDescriptor};
 ghost use Rattle.jc_base.specs.DescriptorTypes.{method_type_in};
 ghost use Rattle.jc_base.specs.Held.{Names, Grows};
 ghost use Rattle.jc_base.specs.ValueTypes.{held_by};
@@ -29,7 +29,8 @@ pub fn effect_at<'e>(uses: &[Use], effects: &'e [Effect], place: u16) -> &'e Eff
     requires rising { AreRisingFrom 0 uses.now }
     requires used { (what : What) × (what_used uses.now place ≡ Some what) }
     requires count { length effects.now ≡ length uses.now }
-    ensures { (names : Names) (what : What) → AllSay names uses.now effects.now → what_used uses.now place ≡ Some what → Says names what result.now }
+    ensures { (names : Names) (what : What) → AllSay names uses.now effects.now → what_used uses.now place ≡ Some what →
+        Says names what result.now }
 {
     &effects[position_of(uses, place)]
 }

@@ -12,7 +12,7 @@ use Rattle.jc_after.specs.Step.{clear_before, put_local}
 use Rattle.jc_kinds.specs.Fits.{IsObject, IsNullOrObject, Fits, FitEach}
 use Rattle.jc_after.specs.Shift.{renamed, probes}
 use Rattle.jc_kinds.specs.StateShift.{FitsShift, EntryShifts}
-use Rattle.jc_kinds.proofs.KeepLaws.{last_single}
+use Rattle.jc_kinds.proofs.StateShiftLaws.{last_single}
 
 -- ---- fitting
 

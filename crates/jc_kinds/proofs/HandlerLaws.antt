@@ -5,6 +5,7 @@ use Rattle.std.proofs.lemmas.Bool.{and_left, and_right, and_cases, false_from_ne
 use Rattle.std.proofs.lemmas.List.{get_or-map}
 use Rattle.std.proofs.lemmas.List.Elements.{All-contains}
 use Rattle.std.proofs.lemmas.Option.{get_or_from_slice_get, slice_get_within}
+use Rattle.std.proofs.Math.Bool.{and-true}
 use Rattle.jc_base.specs.declared.kind.Kind.{Kind}
 use Rattle.jc_base.specs.declared.kind.Kind.TheVariants as kinds
 use Rattle.jc_base.specs.declared.kind.State.{State}
@@ -55,10 +56,6 @@ caught_object b h = by (nat_eq h.class 0) _ _
     by true one other = (one, refl)
     by false one other = (other, refl)
 
-and_true : (b : Bool) → (b && true) ≡ b
-and_true true = refl
-and_true false = refl
-
 takes_fits : (names : Names) (name : List ℕ) (k : Kind) → fits (object name) (held names k) ≡ takes_object k
 takes_fits names name kinds.Top = refl
 takes_fits names name kinds.Int = refl
@@ -72,7 +69,7 @@ takes_fits names name (kinds.Uninit at) = refl
 
 catches_fits : (names : Names) (name : List ℕ) (stack : List Kind) → fit_each (object name ∷ []) (map (held names) stack) ≡ catches stack
 catches_fits names name [] = refl
-catches_fits names name (k ∷ []) = and_true (fits (object name) (held names k)) ∙ takes_fits names name k
+catches_fits names name (k ∷ []) = and-true (fits (object name) (held names k)) ∙ takes_fits names name k
 catches_fits names name (k ∷ l ∷ more) = and_right (fits (object name) (held names k)) false refl
 
 -- ---- both

@@ -14,6 +14,6 @@ pub mod HandlerLaws
 pub mod AnswerLaws
 pub mod BranchLaws
 pub mod RefusalLaws
-pub mod KeepLaws
+pub mod StateShiftLaws
 pub mod EntryShiftLaws
 pub mod TestBodyLaws

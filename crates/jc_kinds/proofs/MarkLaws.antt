@@ -4,21 +4,14 @@ use Rattle.std.specs.List.{list_any}
 use Rattle.std.proofs.lemmas.Bool.{eq-eqb, ne_eqb, cases_eq, or_right}
 use Rattle.std.proofs.lemmas.List.{get_or-set_same, get_or-set_other, length-set, get_or-replicate, take_all}
 use Rattle.std.proofs.lemmas.List.Folds.{list_any_more}
+use Rattle.std.proofs.Math.Bool.{or-false, or_assoc}
 use Rattle.jc_base.specs.declared.body.Body.{Body}
 use Rattle.jc_kinds.specs.Marks.{is_marked, Marks, leads_to, begins_handler, AreTargets}
 use Rattle.jc_kinds.specs.Checking.{is_jump_target, is_handler_target}
 
-or_none : (b : Bool) → b ≡ (b || false)
-or_none true = refl
-or_none false = refl
-
-or_assoc : (a b c : Bool) → ((a || b) || c) ≡ (a || (b || c))
-or_assoc true b c = refl
-or_assoc false b c = refl
-
 -- nothing is marked
 pub marks_none : (marks : List Bool) (test : ℕ → Bool) → ((j : ℕ) → test j ≡ false) → Marks marks marks test
-marks_none marks test none = record { size = refl; each = λ j lt. or_none (is_marked marks j) ∙ ap (λ (b : Bool). is_marked marks j || b) (sym (none j)) }
+marks_none marks test none = record { size = refl; each = λ j lt. sym (or-false (is_marked marks j)) ∙ ap (λ (b : Bool). is_marked marks j || b) (sym (none j)) }
 
 -- one place is marked
 pub marks_one : (marks marks' : List Bool) (place : ℕ) (test : ℕ → Bool) → place < length marks → marks' ≡ set marks place true → ((j : ℕ) → test j ≡ nat_eq j place) → Marks marks marks' test
@@ -32,7 +25,7 @@ marks_one marks marks' place test lt is tests = record {
         ap (is_marked (set marks place true)) same ∙ get_or-set_same marks place true false lt
         ∙ sym (or_right (is_marked marks j) (test j) (tests j ∙ eq-eqb j place same))
     by j (inr other) =
-        get_or-set_other marks place j true false other ∙ or_none (is_marked marks j)
+        get_or-set_other marks place j true false other ∙ sym (or-false (is_marked marks j))
         ∙ ap (λ (b : Bool). is_marked marks j || b) (sym (tests j ∙ ne_eqb j place other))
 
 -- more places are marked

@@ -1,18 +1,18 @@
 -- The bodies that the tests build are well made.
-use Rattle.std.proofs.Common.{◌≡◌, ◌⊎◌, ⊎_elim, ℕ, ◌+◌, ◌*◌, ◌<◌, ◌≤◌, List, [], ◌∷◌, ◌++◌, length, Option, None, Some, refl, sym, ◌∙◌, ap, subst, arith, lit<, lit≤}
+use Rattle.std.proofs.Common.{◌≡◌, ◌⊎◌, ⊎_elim, ℕ, ◌+◌, ◌*◌, ◌<◌, ◌≤◌, List, [], ◌∷◌, ◌++◌, length, Option, None, Some, take, refl, sym, ◌∙◌, subst, arith, lit<, lit≤}
 use Rattle.std.specs.Prelude.{codes}
 use Rattle.std.specs.List.{AllByRecursion}
 use Rattle.std.proofs.lemmas.Option.{none-some}
+use Rattle.std.proofs.lemmas.List.{same_from_push}
 use Rattle.std.proofs.lemmas.List.Elements.{All-nil, All-from_recursion, All-weaker}
 use Rattle.jc_base.specs.declared.insn.Insn.{Insn}
-use Rattle.jc_base.specs.declared.insn.Flow.{Flow}
-use Rattle.jc_base.specs.declared.insn.Flow.TheVariants as flows
 use Rattle.jc_base.specs.declared.body.Handler.{Handler}
 use Rattle.jc_base.specs.declared.body.FrameAt.{FrameAt}
 use Rattle.jc_base.specs.Descriptor.{FieldType, Int, IsFieldType, MethodType, DescribesMethod, parameter_slots}
 use Rattle.jc_base.specs.declared.kind.Kind.{Kind}
 use Rattle.jc_base.specs.declared.kind.Kind.TheVariants as kinds
 use Rattle.jc_base.specs.declared.insn.Insn.TheVariants as insns
+use Rattle.jc_base.specs.declared.opcode.TheConstants as ops
 use Rattle.jc_base.specs.Flow.{FallsThrough}
 use Rattle.jc_base.specs.Insn.{IsWellFormed}
 use Rattle.jc_base.specs.InsnForm.{form_of}
@@ -21,27 +21,18 @@ use Rattle.jc_base.specs.WellMade.{IsHandler, IsLine, IsVar, IsKind, IsState, Ar
 use Rattle.jc_kinds.specs.TestBodies.{test_body, test_frame, abs_code, abs_body, null_code, null_body, loop_code, loop_body, guarded_code, guarded_rows, guarded_body}
 use Rattle.jc_base.specs.Held.{AreNumberedFrames}
 
--- ---- the end of the code
-
-final : {X : Type 0} → X → List X → X
-final d [] = d
-final d (x ∷ xs) = final x xs
-
-final-push : {X : Type 0} (d x : X) (xs : List X) → final d (xs ++ x ∷ []) ≡ x
-unfolding final
-final-push d x [] = refl
-final-push d x (y ∷ xs) = final-push y x xs
-
-Ends : Flow → Type 0
-Ends f = ((f ≡ flows.GoesOn) ⊎ (f ≡ flows.Tests)) → ⊥
+-- ---- every body
 
 -- each part of the code, and what its last instruction does
-record IsTested (slots : ℕ) (code : List Insn) (d : Insn) : Type 0 where
+record IsTested (slots : ℕ) (code : List Insn) : Type 0 where
+  front : List Insn
+  last : Insn
+  is : code ≡ front ++ last ∷ []
   some : 1 ≤ length code
   few : insns_and_arms code ≤ 65535
   formed : AllByRecursion IsWellFormed code
   places : AllByRecursion (LeadsWithin (length code)) code
-  ends : FallsThrough (final d code) → ⊥
+  ends : FallsThrough last → ⊥
   locals : AllByRecursion (LocalsWithin slots) code
   useless : AllByRecursion (λ insn. pool_place insn ≡ None) code
 
@@ -56,10 +47,9 @@ record IsTabled (count slots : ℕ) (code : List Insn) (handlers : List Handler)
 unused : (insn : Insn) → pool_place insn ≡ None → (place : ℕ) → pool_place insn ≡ Some place → HasUse [] place (Suits insn)
 unused insn none place some = absurd (none-some _ (sym none ∙ some))
 
-made : (desc : List ℕ) (slots : ℕ) (code : List Insn) (handlers : List Handler) (frames : List FrameAt) (d : Insn) → TakeSlots 0x0008 desc slots → length desc ≤ 65535 → length code * (slots + 1) ≤ 33554432
-    → IsTested slots code d → IsTabled (length code) slots code handlers frames → IsWellMade (test_body desc slots code handlers frames)
-unfolding final
-made desc slots code handlers frames d takes short room t tables = record {
+made : (desc : List ℕ) (slots : ℕ) (code : List Insn) (handlers : List Handler) (frames : List FrameAt) → TakeSlots 0x0008 desc slots → length desc ≤ 65535 → length code * (slots + 1) ≤ 33554432
+    → IsTested slots code → IsTabled (length code) slots code handlers frames → IsWellMade (test_body desc slots code handlers frames)
+made desc slots code handlers frames takes short room t tables = record {
   bound = room;
   of_any_size = record {
     code = record {
@@ -67,7 +57,7 @@ made desc slots code handlers frames d takes short room t tables = record {
       few = t.few;
       well_formed = All-from_recursion IsWellFormed code t.formed;
       places = All-from_recursion (LeadsWithin (length code)) code t.places;
-      ends = λ before last e falls. t.ends (subst FallsThrough (sym (ap (final d) e ∙ final-push d last before)) falls);
+      ends = λ before last e falls. t.ends (subst FallsThrough (sym (same_from_push t.front before t.last last (sym t.is ∙ e)).1) falls);
     };
     handlers = All-from_recursion (IsHandler (length code)) handlers tables.rows;
     lines = All-nil (IsLine (length code));
@@ -127,9 +117,12 @@ plain_int code = record {
   stack_kinds = All-nil (IsKind code);
 }
 
-abs_tested : IsTested 1 abs_code (insns.Simple 0)
-unfolding final form_of
+abs_tested : IsTested 1 abs_code
+unfolding form_of
 abs_tested = record {
+  front = take 6 abs_code;
+  last = insns.Simple ops.IRETURN;
+  is = refl;
   some = omega arith;
   few = lit≤ tt;
   formed = (refl, (refl, (refl, (refl, (refl, (refl, (refl, tt)))))));
@@ -149,16 +142,19 @@ void_to_int : TakeSlots 0x0008 (codes "()I") 0
 void_to_int = static (codes "()I") (taking [] (Some Int)) 0 (record { parameters = tt; returns = int_is; spelled = refl }) refl
 
 pub abs_made : IsWellMade (abs_body [])
-abs_made = made (codes "(I)I") 1 abs_code [] [] (insns.Simple 0) int_to_int (lit≤ tt) (lit≤ tt) abs_tested (no_tables 7 1 abs_code)
+abs_made = made (codes "(I)I") 1 abs_code [] [] int_to_int (lit≤ tt) (lit≤ tt) abs_tested (no_tables 7 1 abs_code)
 
 pub framed_abs_made : IsWellMade (abs_body (test_frame 5 (kinds.Int ∷ []) [] ∷ []))
-framed_abs_made = made (codes "(I)I") 1 abs_code [] (test_frame 5 (kinds.Int ∷ []) [] ∷ []) (insns.Simple 0) int_to_int (lit≤ tt) (lit≤ tt) abs_tested
+framed_abs_made = made (codes "(I)I") 1 abs_code [] (test_frame 5 (kinds.Int ∷ []) [] ∷ []) int_to_int (lit≤ tt) (lit≤ tt) abs_tested
     (record { rows = tt; all = tt; framed = one_frame 7 5 1 abs_code kinds.Int [] (lit< tt) (plain_int abs_code); few_rows = lit< tt; few_frames = lit< tt })
 
 pub null_made : IsWellMade null_body
-unfolding final form_of
-null_made = made (codes "()I") 0 null_code [] [] (insns.Simple 0) void_to_int (lit≤ tt) (lit≤ tt)
+unfolding form_of
+null_made = made (codes "()I") 0 null_code [] [] void_to_int (lit≤ tt) (lit≤ tt)
     (record {
+      front = take 1 null_code;
+      last = insns.Simple ops.IRETURN;
+      is = refl;
       some = omega arith;
       few = lit≤ tt;
       formed = (refl, (refl, tt));
@@ -170,9 +166,12 @@ null_made = made (codes "()I") 0 null_code [] [] (insns.Simple 0) void_to_int (l
     (no_tables 2 0 null_code)
 
 pub loop_made : IsWellMade loop_body
-unfolding final form_of
-loop_made = made (codes "(I)V") 1 loop_code [] (test_frame 0 (kinds.Float ∷ []) [] ∷ []) (insns.Simple 0) int_to_void (lit≤ tt) (lit≤ tt)
+unfolding form_of
+loop_made = made (codes "(I)V") 1 loop_code [] (test_frame 0 (kinds.Float ∷ []) [] ∷ []) int_to_void (lit≤ tt) (lit≤ tt)
     (record {
+      front = [];
+      last = insns.Jump ops.GOTO 0;
+      is = refl;
       some = omega arith;
       few = lit≤ tt;
       formed = (refl, tt);
@@ -196,9 +195,12 @@ loop_made = made (codes "(I)V") 1 loop_code [] (test_frame 0 (kinds.Float ∷ []
     })
 
 pub guarded_made : IsWellMade guarded_body
-unfolding final form_of
-guarded_made = made (codes "(I)V") 1 guarded_code guarded_rows (test_frame 3 (kinds.Int ∷ []) (kinds.Top ∷ []) ∷ []) (insns.Simple 0) int_to_void (lit≤ tt) (lit≤ tt)
+unfolding form_of
+guarded_made = made (codes "(I)V") 1 guarded_code guarded_rows (test_frame 3 (kinds.Int ∷ []) (kinds.Top ∷ []) ∷ []) int_to_void (lit≤ tt) (lit≤ tt)
     (record {
+      front = take 3 guarded_code;
+      last = insns.Simple ops.RETURN;
+      is = refl;
       some = omega arith;
       few = lit≤ tt;
       formed = (refl, (refl, (refl, (refl, tt))));

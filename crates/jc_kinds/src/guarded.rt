@@ -4,7 +4,8 @@ ghost use Rattle.std.specs.Prelude.{◌≡◌, ◌<◌, ◌≤◌, false, true, 
 ghost use Rattle.jc_kinds.specs.First.{IsFirst};
 ghost use Rattle.jc_kinds.specs.Frames.{frame_in, AreNumbers};
 ghost use Rattle.jc_kinds.specs.Runs.{AreEnds};
-ghost use Rattle.jc_kinds.specs.Guarded.{column_of, local_at, wanted_at, catches, frame_catches, IsUncaught, IsUnfitInColumn, IsUnfitInRow, IsUnguarded};
+ghost use Rattle.jc_kinds.specs.Guarded.{column_of, local_at, wanted_at, catches, frame_catches};
+ghost use Rattle.jc_kinds.specs.Guarded.{IsUncaught, IsUnfitInColumn, IsUnfitInRow, IsUnguarded};
 
 use crate::frames::frame_at;
 use crate::runs::{first_unfit, run_ends};

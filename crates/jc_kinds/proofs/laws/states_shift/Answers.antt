@@ -1,4 +1,4 @@
-use Rattle.jc_kinds.proofs.KeepLaws.{states_whole, states_shift}
+use Rattle.jc_kinds.proofs.StateShiftLaws.{states_whole, states_shift}
 use Rattle.jc_kinds.proofs.EntryShiftLaws.{fits_shift, entry_shifts}
 use Rattle.jc_kinds.proofs.laws.states_shift.Goals as goal
 
