@@ -4,9 +4,8 @@ use Rattle.std.proofs.lemmas.List.{map-append}
 use Rattle.jc_base.specs.declared.kind.Kind.{Kind}
 use Rattle.jc_base.specs.declared.kind.Kind.TheVariants as kinds
 use Rattle.jc_pool.specs.Pool.{PoolValue}
-use Rattle.jc_frames.specs.declared.method.Value.{Value}
 use Rattle.jc_frames.specs.declared.method.Value.TheVariants as values
-use Rattle.jc_frames.specs.Running.{held_value, held_values}
+use Rattle.jc_frames.specs.Running.{held_values}
 use Rattle.jc_frames.proofs.RunningLaws.{drop_one, take_last}
 use Rattle.jc_base.specs.Held.{Names, held, Held, top, int, float, double, long, null, uninit_this, object, uninit, is_pair}
 use Rattle.jc_frames.specs.Frames.{without_last_top, trimmed, values_from}
@@ -76,22 +75,28 @@ ended names xs end some within other =
 -- ---- from the first local variable on
 
 -- the values so far, and those that are in the rest
-abbrev pub listed_with : PoolValue → Names → List Value → Bool → List Kind → List Held
-listed_with pool names vs skips rest = held_values pool names vs ++ values_from skips (map (held names) rest)
+abbrev pub listed_with : Names → List Kind → Bool → List Kind → List Held
+listed_with names ks skips rest = map (held names) ks ++ values_from skips (map (held names) rest)
 
 -- the second local variable of a value
-pub skipped : (pool : PoolValue) (names : Names) (vs : List Value) (xs : List Kind) (i : ℕ) → i < length xs
-    → listed_with pool names vs true (drop i xs) ≡ listed_with pool names vs false (drop (i + 1) xs)
-skipped pool names vs xs i lt = ap (listed_with pool names vs true) (drop_one xs i kinds.Top lt)
+pub skipped : (names : Names) (ks xs : List Kind) (i : ℕ) → i < length xs
+    → listed_with names ks true (drop i xs) ≡ listed_with names ks false (drop (i + 1) xs)
+skipped names ks xs i lt = ap (listed_with names ks true) (drop_one xs i kinds.Top lt)
 
-pub listed_one : (pool : PoolValue) (names : Names) (vs more : List Value) (xs : List Kind) (i : ℕ) (wide : Bool) → i < length xs
-    → more ≡ vs ++ values.Of (get_or xs i kinds.Top) ∷ [] → wide ≡ is_pair (held names (get_or xs i kinds.Top))
-    → listed_with pool names vs false (drop i xs) ≡ listed_with pool names more wide (drop (i + 1) xs)
-listed_one pool names vs more xs i wide lt is pair =
+pub listed_one : (names : Names) (ks more xs : List Kind) (i : ℕ) (wide : Bool) → i < length xs
+    → more ≡ ks ++ get_or xs i kinds.Top ∷ [] → wide ≡ is_pair (held names (get_or xs i kinds.Top))
+    → listed_with names ks false (drop i xs) ≡ listed_with names more wide (drop (i + 1) xs)
+listed_one names ks more xs i wide lt is pair =
     let k = get_or xs i kinds.Top in
     let rest = map (held names) (drop (i + 1) xs) in
-    ap (listed_with pool names vs false) (drop_one xs i kinds.Top lt)
-    ∙ sym (append_assoc (held_values pool names vs) (held names k ∷ []) (values_from (is_pair (held names k)) rest))
+    ap (listed_with names ks false) (drop_one xs i kinds.Top lt)
+    ∙ sym (append_assoc (map (held names) ks) (held names k ∷ []) (values_from (is_pair (held names k)) rest))
     ∙ ap (λ (l : List Held). l ++ values_from (is_pair (held names k)) rest)
-    (sym (ap (held_values pool names) is ∙ map-append (held_value pool names) vs (values.Of k ∷ [])))
-    ∙ ap (λ (b : Bool). held_values pool names more ++ values_from b rest) (sym pair)
+    (sym (ap (map (held names)) is ∙ map-append (held names) ks (k ∷ [])))
+    ∙ ap (λ (b : Bool). map (held names) more ++ values_from b rest) (sym pair)
+
+-- ---- kinds as values
+
+pub values_wrapped : (pool : PoolValue) (names : Names) (ks : List Kind) → held_values pool names (map values.Of ks) ≡ map (held names) ks
+values_wrapped pool names [] = refl
+values_wrapped pool names (k ∷ ks) = ap (λ (l : List Held). held names k ∷ l) (values_wrapped pool names ks)

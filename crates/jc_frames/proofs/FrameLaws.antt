@@ -15,9 +15,6 @@ use Rattle.jc_frames.specs.Frames.{Ground, Before, is_new, insn_from, type_of, i
 none_some : {X : Type 0} {x : X} → None ≡ Some x → ⊥
 none_some e = cc
 
-true_false : true ≡ false → ⊥
-true_false e = cc
-
 -- ---- types that name nothing
 
 -- the item names a class or a `new` that isn't there

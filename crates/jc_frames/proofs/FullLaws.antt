@@ -18,7 +18,7 @@ use Rattle.jc_frames.specs.TableForm.{type_item, frame_item}
 use Rattle.jc_frames.specs.Frames.{Ground, Before, first_before, trimmed, values_in, is_new, type_of, in_front, types_of, is_start, found, fits_slots, found_if, frame_of}
 use Rattle.jc_frames.specs.Table.{AreFrames}
 use Rattle.jc_frames.specs.FullFrames.{short, Places, type_text, types_text, full_text, full_texts, HasPlaces, IsWritable, AreRising, FullFramesReadBack}
-use Rattle.jc_frames.proofs.ValuesLaws.{values_back, few_slots, values_few, trimmed_few, in_values}
+use Rattle.jc_frames.proofs.ValuesLaws.{values_back, few_slots, values_few, trimmed_few}
 
 -- ---- types
 
@@ -118,7 +118,7 @@ module _ (g : Ground) (p : Places) where
             types_text p values,
             types_text p f.state.stack,
             refl,
-            types_spelled values few (in_values (HasPlaces g p) f.state.locals w.local_places),
+            types_spelled values few w.local_places,
             (map (item_of p) f.state.stack, types_text p f.state.stack, [], sym (append-nil (types_text p f.state.stack)), types_spelled f.state.stack w.few_stack w.stack_places, (refl, refl)),
           ),
         ),
@@ -131,7 +131,7 @@ module _ (g : Ground) (p : Places) where
       let values = values_in f.state.locals in
       let offset : before.base + (p.start f.at - before.base) ≡ p.start f.at = omega (arith, le) in
       ap (λ (k : ℕ). found_if g k (types_of g (map (item_of p) values)) (types_of g (map (item_of p) f.state.stack))) offset
-      ∙ ap₂ (λ o q. found_if g (p.start f.at) o q) (types_say values (in_values (HasPlaces g p) f.state.locals w.local_places)) (types_say f.state.stack w.stack_places)
+      ∙ ap₂ (λ o q. found_if g (p.start f.at) o q) (types_say values w.local_places) (types_say f.state.stack w.stack_places)
       ∙ ap (λ (b : Bool). if b then Some (found g (p.start f.at) values f.state.stack) else None) tests
       ∙ ap₂ (λ (at : ℕ) (locals : List Held). Some (record { frame = record { at = at; state = record { locals = locals; stack = f.state.stack } }; next = record { base = p.start f.at + 1; values = values } })) w.starts.number locals
     where

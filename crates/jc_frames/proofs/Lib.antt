@@ -14,3 +14,8 @@ pub mod FaultLaws
 pub mod BuildingLaws
 pub mod ReadLaws
 pub mod MetLaws
+pub mod ResultLaws
+pub mod TakenLaws
+pub mod OneTakingLaws
+pub mod FullTextLaws
+pub mod WrittenLaws

@@ -1,5 +1,5 @@
 -- The frames of a table are those of a well made body.
-use Rattle.std.proofs.Common.{◌≡◌, ⊎_elim, ℕ, zero, suc, ◌+◌, ◌-◌, ◌<◌, ◌≤◌, Bool, true, false, ◌&&◌, List, [], ◌∷◌, ◌++◌, length, map, take, replicate, Option, Some, None, option_map, if◌then◌else◌, get_or, nat_eq, nat_le, refl, sym, ◌∙◌, ap, ap₂, subst, arith, length-append}
+use Rattle.std.proofs.Common.{◌≡◌, ⊎_elim, ℕ, zero, suc, ◌+◌, ◌-◌, ◌<◌, ◌≤◌, Bool, true, false, ◌&&◌, List, [], ◌∷◌, ◌++◌, length, map, take, replicate, Option, Some, None, option_map, if◌then◌else◌, get_or, nat_eq, nat_le, refl, sym, ◌∙◌, ap, ap₂, subst, arith, length-append, true≢false}
 use Rattle.std.proofs.lemmas.List.{length-map, length-replicate}
 use Rattle.std.proofs.lemmas.List.Sums.{sum_by-cons}
 use Rattle.std.proofs.lemmas.Bool.{eqb-true, ltb-true, leb-true, cases_lt}
@@ -30,9 +30,6 @@ none_some e = cc
 
 some_is : {X : Type 0} (x y : X) → Some x ≡ Some y → x ≡ y
 some_is x y e = cc
-
-true_false : true ≡ false → ⊥
-true_false e = cc
 
 -- ---- offsets
 
@@ -161,25 +158,25 @@ module _ (g : Ground) where
 
   new_is : (o : Option Insn) → is_new o ≡ true → (place : ℕ) × (o ≡ Some (insns.OfClass opcode.new place))
   new_is (Some (insns.OfClass op place)) e = (place, ap (λ (k : ℕ). Some (insns.OfClass k place)) (eqb-true op opcode.new e))
-  new_is None e = absurd (true_false (sym e))
+  new_is None e = absurd (true≢false (sym e))
   new_is (Some insn) e = by insn e
     where
       by : (insn : Insn) → is_new (Some insn) ≡ true → (place : ℕ) × (Some insn ≡ Some (insns.OfClass opcode.new place))
       by (insns.OfClass op place) e = (place, ap (λ (k : ℕ). Some (insns.OfClass k place)) (eqb-true op opcode.new e))
-      by (insns.Simple op) e = absurd (true_false (sym e))
-      by (insns.Push op value) e = absurd (true_false (sym e))
-      by (insns.Local op slot) e = absurd (true_false (sym e))
-      by (insns.Inc slot more) e = absurd (true_false (sym e))
-      by (insns.Constant place) e = absurd (true_false (sym e))
-      by (insns.Constant2 place) e = absurd (true_false (sym e))
-      by (insns.Member op place) e = absurd (true_false (sym e))
-      by (insns.Interface place count) e = absurd (true_false (sym e))
-      by (insns.Dynamic place) e = absurd (true_false (sym e))
-      by (insns.NewArray elem) e = absurd (true_false (sym e))
-      by (insns.Multi place dims) e = absurd (true_false (sym e))
-      by (insns.Jump op to) e = absurd (true_false (sym e))
-      by (insns.Table low default arms) e = absurd (true_false (sym e))
-      by (insns.Lookup default arms) e = absurd (true_false (sym e))
+      by (insns.Simple op) e = absurd (true≢false (sym e))
+      by (insns.Push op value) e = absurd (true≢false (sym e))
+      by (insns.Local op slot) e = absurd (true≢false (sym e))
+      by (insns.Inc slot more) e = absurd (true≢false (sym e))
+      by (insns.Constant place) e = absurd (true≢false (sym e))
+      by (insns.Constant2 place) e = absurd (true≢false (sym e))
+      by (insns.Member op place) e = absurd (true≢false (sym e))
+      by (insns.Interface place count) e = absurd (true≢false (sym e))
+      by (insns.Dynamic place) e = absurd (true≢false (sym e))
+      by (insns.NewArray elem) e = absurd (true≢false (sym e))
+      by (insns.Multi place dims) e = absurd (true≢false (sym e))
+      by (insns.Jump op to) e = absurd (true≢false (sym e))
+      by (insns.Table low default arms) e = absurd (true≢false (sym e))
+      by (insns.Lookup default arms) e = absurd (true≢false (sym e))
 
   kind_new : (names : Names) (k : Kind) → HasNew g (held names k) → IsKind g.code k
   kind_new names (kinds.Uninit at) p = new_is (slice_get g.code at) p

@@ -23,7 +23,13 @@ pub record Ground : Type 0 where
   pub max_stack : ℕ
 
 abbrev pub ground : PoolValue → List Insn → List ℕ → ℕ → ℕ → Ground
-ground pool code starts max_locals max_stack = record { pool = pool; code = code; starts = starts; max_locals = max_locals; max_stack = max_stack }
+ground pool code starts max_locals max_stack = record {
+  pool = pool;
+  code = code;
+  starts = starts;
+  max_locals = max_locals;
+  max_stack = max_stack;
+}
 
 -- what a frame depends on: the offset from which its delta counts, and the values in local variables before it,
 -- each of them once
@@ -102,7 +108,8 @@ offset_of before item = before.base + delta_of item
 abbrev pub values_of : Ground → Before → FrameItem → Option (List Held)
 values_of g before (frames.Same delta) = Some before.values
 values_of g before (frames.OneItem delta item) = Some before.values
-values_of g before (frames.Chop delta count) = if nat_le count (length before.values) then Some (take (length before.values - count) before.values) else None
+values_of g before (frames.Chop delta count) =
+    if nat_le count (length before.values) then Some (take (length before.values - count) before.values) else None
 values_of g before (frames.Append delta added) = option_map (λ more. before.values ++ more) (types_of g added)
 values_of g before (frames.Full delta locals stack) = types_of g locals
 
@@ -134,7 +141,8 @@ abbrev pub fits_slots : Ground → List Held → List Held → Bool
 fits_slots g values stack = nat_le (slots values) g.max_locals && nat_le (slots stack) g.max_stack
 
 abbrev pub found_if : Ground → ℕ → Option (List Held) → Option (List Held) → Option Found
-found_if g offset (Some values) (Some stack) = if is_start g offset && fits_slots g values stack then Some (found g offset values stack) else None
+found_if g offset (Some values) (Some stack) =
+    if is_start g offset && fits_slots g values stack then Some (found g offset values stack) else None
 found_if g offset _ _ = None
 
 -- what the frame says, if it says something

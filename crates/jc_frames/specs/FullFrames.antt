@@ -76,7 +76,7 @@ pub record IsWritable (g : Ground) (p : Places) (f : SeenAt) : Type 0 where
   pub stack : slots f.state.stack ≤ g.max_stack
   pub few_locals : length f.state.locals < 65536
   pub few_stack : length f.state.stack < 65536
-  pub local_places : AllByRecursion (HasPlaces g p) f.state.locals
+  pub local_places : AllByRecursion (HasPlaces g p) (values_in f.state.locals)
   pub stack_places : AllByRecursion (HasPlaces g p) f.state.stack
 
 -- the frames stand at rising offsets, from the base on
@@ -91,4 +91,5 @@ pub record AreWritable (g : Ground) (p : Places) (frames : List SeenAt) : Type 0
 
 -- the text of full frames stands for these frames, whatever the state is in which the method begins
 abbrev pub FullFramesReadBack : Type 0
-FullFramesReadBack = (g : Ground) (p : Places) (entry : Seen) (frames : List SeenAt) → AreWritable g p frames → StandsFor g entry (table_text p frames) frames
+FullFramesReadBack = (g : Ground) (p : Places) (entry : Seen) (frames : List SeenAt)
+    → AreWritable g p frames → StandsFor g entry (table_text p frames) frames

@@ -3,6 +3,8 @@ pub mod TableReading
 pub mod Frames
 pub mod Table
 pub mod FullFrames
+pub mod FullTable
+pub mod ReadBack
 pub mod WellMade
 pub mod Numbering
 pub mod Running

@@ -64,6 +64,9 @@ before pool names r = record { base = r.base; values = held_values pool names r.
 -- what a frame says, with what the next one depends on
 abbrev pub found_as : Ground → Names → Running → Frame → Found
 found_as g names r frame = record {
-  frame = record { at = frame.at; state = record { locals = in_locals g.max_locals (held_values g.pool names r.values.items); stack = held_values g.pool names frame.stack.items } };
+  frame = record {
+    at = frame.at;
+    state = record { locals = in_locals g.max_locals (held_values g.pool names r.values.items); stack = held_values g.pool names frame.stack.items };
+  };
   next = before g.pool names r;
 }

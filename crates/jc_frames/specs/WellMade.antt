@@ -20,9 +20,9 @@ HasNew g h = ⊤
 
 -- the frames stand at instructions in rising order, and have their local variables and their room on the stack
 abbrev pub FramesAreWellMade : Type 0
-FramesAreWellMade = (g : Ground) (names : Names) (entry : Seen) (table : List ℕ) (frames : List FrameAt) → AreOffsets (length g.code) g.starts →
-    AllByRecursion (HasNew g) entry.locals → StandsFor g entry table (map (seen_at names) frames) →
-    AreFramesFrom 0 g.code g.max_locals g.max_stack frames
+FramesAreWellMade = (g : Ground) (names : Names) (entry : Seen) (table : List ℕ) (frames : List FrameAt)
+    → AreOffsets (length g.code) g.starts → AllByRecursion (HasNew g) entry.locals → StandsFor g entry table (map (seen_at names) frames)
+    → AreFramesFrom 0 g.code g.max_locals g.max_stack frames
 
 -- an argument is a value
 abbrev pub IsValue : Held → Type 0
@@ -31,4 +31,5 @@ IsValue h = ⊤
 
 -- the first frame follows the arguments
 abbrev pub ArgumentsAreFirst : Type 0
-ArgumentsAreFirst = (count : ℕ) (arguments : List Held) → AllByRecursion IsValue arguments → values_in (in_locals count arguments) ≡ arguments
+ArgumentsAreFirst = (count : ℕ) (arguments : List Held)
+    → AllByRecursion IsValue arguments → values_in (in_locals count arguments) ≡ arguments

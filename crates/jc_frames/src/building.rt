@@ -66,7 +66,8 @@ fn kind_of(
     requires { AreKnown pool.now names.old known.old }
     ensures kind { (later : NameList) → Grows names.new later → IfOk result (λ kind. held later kind ≡ held_value pool.now later value) }
     ensures numbered { IsNumberedValue (length names.old) value → IfOk result (IsNumbered (length names.new)) }
-    ensures met { IsNumberedValue (length names.old) value → OnOk result (names.new ≡ met names.old (class_name (held_value pool.now names.new value))) }
+    ensures met { IsNumberedValue (length names.old) value
+        → OnOk result (names.new ≡ met names.old (class_name (held_value pool.now names.new value))) }
     ensures known { OnOk result (AreKnown pool.now names.new known.new) }
     ensures grows { Grows names.old names.new }
 {
@@ -94,7 +95,8 @@ fn kinds_of(
     requires { AreKnown pool.now names.old known.old }
     ensures kinds { (later : NameList) → Grows names.new later
         → IfOk result (λ list. map (held later) list.items ≡ held_values pool.now later values.now) }
-    ensures numbered { All (IsNumberedValue (length names.old)) values.now → IfOk result (λ list. All (IsNumbered (length names.new)) list.items) }
+    ensures numbered { All (IsNumberedValue (length names.old)) values.now
+        → IfOk result (λ list. All (IsNumbered (length names.new)) list.items) }
     ensures met { All (IsNumberedValue (length names.old)) values.now
         → OnOk result (names.new ≡ met names.old (class_names (held_values pool.now names.new values.now))) }
     ensures known { OnOk result (AreKnown pool.now names.new known.new) }
@@ -113,7 +115,8 @@ fn kinds_of(
 ///
 /// `Memory` where memory was refused.
 fn locals_of(alloc: Global, kinds: &[Kind], max_locals: u32) -> Result<List<Kind>, Memory>
-    ensures seen { (names : NameList) → IfOk result (λ locals. map (held names) locals ≡ in_locals max_locals (map (held names) kinds.now)) }
+    ensures seen { (names : NameList)
+        → IfOk result (λ locals. map (held names) locals ≡ in_locals max_locals (map (held names) kinds.now)) }
     ensures numbered { (count : ℕ) → All (IsNumbered count) kinds.now → IfOk result (λ locals. All (IsNumbered count) locals) }
 {
     let mut locals = List::new(alloc);

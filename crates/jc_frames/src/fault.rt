@@ -1,6 +1,7 @@
 //! Where a StackMapTable is wrong (JVM Specification 4.7.4).
 ghost use Rattle.std.specs.Prelude.{◌≡◌, ◌<◌, ◌≤◌, ◌^◌, ℕ, List, length, IfOk, MatchOption, Some, None};
 ghost use Rattle.jc_base.specs.Held.{Names, SeenAt, seen};
+ghost use Rattle.jc_base.specs.Outside.{most_read};
 ghost use Rattle.jc_frames.specs.Frames.{ground};
 ghost use Rattle.jc_frames.specs.Table.{StandsFor, TableFault, outcome_of, fault_of};
 ghost use Rattle.jc_frames.specs.WellMade.{AreOffsets};
@@ -29,7 +30,7 @@ pub fn frame_fault(
     starts: &[u32],
     pool: &Pool,
 ) -> Result<Option<u32>, Memory>
-    requires table { length table.now ≤ 67108864 }
+    requires table { length table.now ≤ most_read }
     requires locals { length entry.now.locals < 2 ^ 32 }
     requires few { length starts.now < 2 ^ 32 }
     requires offsets { AreOffsets (length code.now) starts.now }
@@ -38,7 +39,8 @@ pub fn frame_fault(
         IfOk result (λ fault. MatchOption fault ((frames : List SeenAt) × StandsFor g (seen names entry.now) table.now frames)
         (λ place. TableFault g (seen names entry.now) table.now place)) }
     // A table that stands for frames has no place, and one with a fault has that of the fault, unless memory runs out.
-    ensures stands { (names : Names) (frames : List SeenAt) → let g = ground pool.now code.now starts.now (length entry.now.locals) max_stack in
+    ensures stands { (names : Names) (frames : List SeenAt)
+        → let g = ground pool.now code.now starts.now (length entry.now.locals) max_stack in
         StandsFor g (seen names entry.now) table.now frames → IfOk result (λ fault. fault ≡ None) }
     ensures faulty { (names : Names) (place : ℕ) → let g = ground pool.now code.now starts.now (length entry.now.locals) max_stack in
         TableFault g (seen names entry.now) table.now place → IfOk result (λ fault. fault ≡ Some place) }
@@ -56,12 +58,12 @@ fn found_fault(
     starts: &[u32],
     pool: &Pool,
 ) -> Result<Option<u32>, Memory>
-    requires table { length table.now ≤ 67108864 }
+    requires table { length table.now ≤ most_read }
     requires locals { length entry.now.locals < 2 ^ 32 }
     requires few { length starts.now < 2 ^ 32 }
     requires offsets { AreOffsets (length code.now) starts.now }
-    ensures { (names : Names) → IfOk result (λ fault.
-        fault ≡ fault_of (outcome_of (ground pool.now code.now starts.now (length entry.now.locals) max_stack) (seen names entry.now) table.now)) }
+    ensures { (names : Names) → let g = ground pool.now code.now starts.now (length entry.now.locals) max_stack in
+        IfOk result (λ fault. fault ≡ fault_of (outcome_of g (seen names entry.now) table.now)) }
 {
     let method = Method::new(
         alloc,

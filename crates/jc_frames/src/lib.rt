@@ -3,6 +3,8 @@
 
 mod building;
 mod fault;
+mod full_classes;
+mod full_frames;
 mod items;
 mod laws;
 mod method;
@@ -12,11 +14,13 @@ mod running;
 mod walk;
 
 pub use fault::frame_fault;
+pub use full_frames::write_full;
 pub use items::{FrameForm, FrameItem, TypeForm, TypeItem};
 pub use jc_base::entry_state;
 pub use laws::{
-    a_frame_says_something_or_has_a_fault, each_table_has_frames_or_a_fault,
-    frames_of_a_table_are_well_made, full_frames_are_read_back,
+    a_frame_says_something_or_has_a_fault, a_pool_takes_classes_or_is_full,
+    each_table_has_frames_or_a_fault, frames_of_a_body_can_be_written,
+    frames_of_a_table_are_well_made, full_frames_are_read_back, written_frames_are_read_back,
 };
 pub use read::read_frames;
 

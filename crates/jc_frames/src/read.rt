@@ -2,6 +2,7 @@
 ghost use Rattle.std.specs.Prelude.{◌≡◌, ◌<◌, ◌≤◌, ◌^◌, ℕ, List, length, map, IfOk, IfErr, All};
 ghost use Rattle.jc_base.specs.Held.{SeenAt, seen, seen_at, Grows, IsNumberedState, AreNumberedFrames};
 ghost use Rattle.jc_base.specs.Names.{met};
+ghost use Rattle.jc_base.specs.Outside.{most_read};
 ghost use Rattle.jc_base.specs.WellMade.{IsKind, AreFramesFrom};
 ghost use Rattle.jc_base.specs.declared.fail.Fail.TheVariants as fails;
 ghost use Rattle.jc_frames.specs.Answers.{bad_frame, FailsAt, IsFrameRefusal, frame_names};
@@ -48,7 +49,7 @@ pub fn read_frames(
     pool: &Pool,
     names: &mut Names,
 ) -> Result<Vec<FrameAt>, Fail<Refusal>>
-    requires table { length table.now ≤ 67108864 }
+    requires table { length table.now ≤ most_read }
     requires locals { length entry.now.locals < 2 ^ 32 }
     requires few { length starts.now < 2 ^ 32 }
     requires offsets { AreOffsets (length code.now) starts.now }
@@ -84,7 +85,7 @@ fn found_frames(
     pool: &Pool,
     names: &mut Names,
 ) -> Result<Vec<FrameAt>, Fail<Refusal>>
-    requires table { length table.now ≤ 67108864 }
+    requires table { length table.now ≤ most_read }
     requires locals { length entry.now.locals < 2 ^ 32 }
     requires few { length starts.now < 2 ^ 32 }
     requires offsets { AreOffsets (length code.now) starts.now }

@@ -4,6 +4,7 @@ ghost use Rattle.std.specs.List.{sum_by};
 ghost use Rattle.jc_base.specs.Held.{Names, held, seen, is_pair, IsNumbered};
 ghost use Rattle.jc_pool.specs.Pool.{PoolValue};
 ghost use Rattle.jc_frames.specs.Frames.{delta_of, values_of, stack_of, types_of, frame_of, fits_slots, first_before, trimmed, values_in};
+ghost use Rattle.jc_frames.specs.FullTable.{IsPlaced};
 ghost use Rattle.jc_frames.specs.Running.{held_values, IsUnnumbered, IsNumberedValue, value_slots, IsRunning, HasFewTypes, before, found_as};
 
 use crate::items::{FrameItem, TypeItem};
@@ -108,6 +109,31 @@ pub fn is_wide(kind: Kind) -> bool
     matches!(kind, Kind::Long | Kind::Double)
 }
 
+/// The kinds of the values in local variables, each of them once, without the `Top`s at the end.
+///
+/// # Errors
+///
+/// `Memory` where memory was refused.
+pub fn kinds_in_locals(alloc: Global, locals: &[Kind]) -> Result<Vec<Kind>, Memory>
+    ensures values { (names : Names) → IfOk result (λ kinds. map (held names) kinds.items ≡ values_in (map (held names) locals.now)) }
+    ensures few { IfOk result (λ kinds. length kinds.items ≤ length locals.now) }
+    ensures numbered { (count : ℕ) → All (IsNumbered count) locals.now → IfOk result (λ kinds. All (IsNumbered count) kinds.items) }
+    ensures placed { (count : ℕ) → All (IsPlaced count) locals.now → IfOk result (λ kinds. All (IsPlaced count) kinds.items) }
+{
+    let trimmed = &locals[..end_of_values(locals)];
+    let mut kinds = Vec::new(alloc);
+    let mut skips = false;
+    'listing: for kind in trimmed {
+        if skips {
+            skips = false;
+        } else {
+            kinds.push(*kind)?;
+            skips = is_wide(*kind);
+        }
+    }
+    Ok(kinds)
+}
+
 /// The values in local variables, each of them once.
 ///
 /// # Errors
@@ -120,16 +146,10 @@ fn values_of_locals(alloc: Global, locals: &[Kind]) -> Result<Vec<Value>, Memory
     ensures numbered { (count : ℕ) → All (IsNumbered count) locals.now
         → IfOk result (λ values. All (IsNumberedValue count) values.items) }
 {
-    let trimmed = &locals[..end_of_values(locals)];
-    let mut values = Vec::new(alloc);
-    let mut skips = false;
-    'listing: for kind in trimmed {
-        if skips {
-            skips = false;
-        } else {
-            values.push(Value::Of(*kind))?;
-            skips = is_wide(*kind);
-        }
+    let kinds = kinds_in_locals(alloc, locals)?;
+    let mut values = Vec::with_capacity(alloc, kinds.len())?;
+    'listing: for kind in &kinds {
+        values.push(Value::Of(*kind))?;
     }
     Ok(values)
 }
@@ -142,7 +162,8 @@ impl Running {
     /// `Memory` where memory was refused.
     pub fn first(alloc: Global, entry: &State) -> Result<Running, Memory>
         requires { length entry.now.locals < 2 ^ 32 }
-        ensures values { (pool : PoolValue) (names : Names) → IfOk result (λ running. before pool names running ≡ first_before (seen names entry.now)) }
+        ensures values { (pool : PoolValue) (names : Names)
+            → IfOk result (λ running. before pool names running ≡ first_before (seen names entry.now)) }
         ensures running { IfOk result IsRunning }
         ensures numbered { (count : ℕ) → All (IsNumbered count) entry.now.locals
             → IfOk result (λ running. All (IsNumberedValue count) running.values.items) }
@@ -164,7 +185,8 @@ impl Running {
             then Some (take (length self.old.values.items - count) (held_values pool names self.old.values.items)) else None)
             ≡ (if result then Some (held_values pool names self.new.values.items) else None) }
         ensures running { IsRunning self.new }
-        ensures numbered { (count : ℕ) → All (IsNumberedValue count) self.old.values.items → All (IsNumberedValue count) self.new.values.items }
+        ensures numbered { (count : ℕ) → All (IsNumberedValue count) self.old.values.items
+            → All (IsNumberedValue count) self.new.values.items }
         ensures base { self.new.base ≡ self.old.base }
     {
         if self.values.len() < count {

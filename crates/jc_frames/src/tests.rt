@@ -1,12 +1,13 @@
 //! Tables whose frames or faults are known from the JVM Specification.
 ghost use Rattle.std.specs.Prelude.{◌≡◌, length, IfOk};
+ghost use Rattle.jc_frames.specs.FullTable.{AreShort};
 ghost use Rattle.jc_frames.specs.WellMade.{AreOffsets};
 
 use super::*;
 use jc_base::{
     Fail, FrameAt, Insn, Kind, List, Memory, Names, Reader, State, is_method_descriptor, opcode,
 };
-use jc_pool::Pool;
+use jc_pool::{Pool, PoolFull};
 use std::alloc::Global;
 use std::fmt::Write;
 use std::process::Abort;
@@ -102,6 +103,7 @@ static TABLES: [(&[u8], &str); 44] = [
 fn starts() -> &'static [u32]
     ensures length { length result.now ≡ 6 }
     ensures offsets { AreOffsets 5 result.now }
+    ensures short { AreShort result.now }
 {
     &STARTS
 }
@@ -122,12 +124,12 @@ fn code(alloc: Global) -> Result<Vec<Insn>, Memory>
     Ok(code)
 }
 
-/// The constant pool.
-fn pool(alloc: Global) -> Result<Pool, Memory> {
-    if POOL.len() > 1000 {
+/// The constant pool that bytes spell.
+fn pool(alloc: Global, bytes: &[u8]) -> Result<Pool, Memory> {
+    if bytes.len() > 1_000_000 {
         return Err(Memory);
     }
-    match Pool::read(alloc, &mut Reader::new(POOL)) {
+    match Pool::read(alloc, &mut Reader::new(bytes)) {
         Ok(pool) => Ok(pool),
         Err(_) => Err(Memory),
     }
@@ -174,7 +176,7 @@ fn answer_of(alloc: Global, table: &[u8]) -> Result<String, Memory> {
     let mut names = Names::new(alloc)?;
     let mut text = String::new(alloc);
     let code = code(alloc)?;
-    let pool = pool(alloc)?;
+    let pool = pool(alloc, POOL)?;
     if table.len() > 1000 || !is_method_descriptor(b"(IJ)V") {
         return Err(Memory);
     }
@@ -198,5 +200,97 @@ fn tables_have_frames_or_faults(rt: HostRuntime) -> Result<(), Failed> {
         let text = answer_of(rt.alloc(), table).map_err(|_| "memory")?;
         assert_eq!(rt; text.as_str(), *want, "the table {table:?}");
     }
+    Ok(())
+}
+
+/// A table of `void m(int, long)` of A with frames of several forms, which name each verification type: a
+/// same_frame, a full_frame, a chop_frame and a same_locals_1_stack_item_frame.
+static MIXED: &[u8] =
+    b"\0\x04\x03\xff\0\0\0\x06\0\x01\x02\x05\x06\x07\0\x04\0\x01\x03\xf8\0\0\x40\x08\0\0";
+
+/// The frames of that table.
+static MIXED_FRAMES: &str = "1 A0IJ---/;2 -IFNUA1/D;3 -IF---/;4 -IF---/V0;";
+
+/// The same frames as full frames: a tag, an offset delta, the number of values in local variables, those, the number
+/// of values on the stack, and those.
+static FULL: &[u8] = b"\0\x04\
+\xff\0\x03\0\x03\x07\0\x02\x01\x04\0\0\
+\xff\0\0\0\x06\0\x01\x02\x05\x06\x07\0\x04\0\x01\x03\
+\xff\0\0\0\x03\0\x01\x02\0\0\
+\xff\0\0\0\x03\0\x01\x02\0\x01\x08\0\0";
+
+/// A pool without entries.
+static EMPTY_POOL: &[u8] = b"\0\x01";
+
+/// Writes the frames of a table into full frames over a pool.
+fn write_frames(
+    alloc: Global,
+    table: &[u8],
+    pool: &mut Pool,
+    into: &mut Vec<u8>,
+) -> Result<(), Fail<PoolFull>> {
+    let mut names = Names::new(alloc)?;
+    let code = code(alloc)?;
+    let old = self::pool(alloc, POOL)?;
+    if table.len() > 1000 || !is_method_descriptor(b"(IJ)V") {
+        return Err(Fail::Memory);
+    }
+    let Ok(entry) = entry_state(alloc, b"A", b"m", b"(IJ)V", 0, 6, &mut names) else {
+        return Err(Fail::Memory);
+    };
+    let Ok(frames) = read_frames(alloc, table, &entry, 2, &code, starts(), &old, &mut names) else {
+        return Err(Fail::Memory);
+    };
+    if frames.len() > 65_535 {
+        return Err(Fail::Memory);
+    }
+    write_full(alloc, &frames, starts(), &names, pool, into)
+}
+
+/// A pool that has as many places as a pool may have, each with a class whose name is missing.
+fn full_pool(alloc: Global) -> Result<Pool, Memory> {
+    let mut bytes = Vec::new(alloc);
+    bytes.extend_from_slice(b"\xff\xff")?;
+    for _ in 1..65_535 {
+        bytes.extend_from_slice(b"\x07\0\0")?;
+    }
+    pool(alloc, &bytes)
+}
+
+#[test]
+fn full_frames_are_written_and_read_again(rt: HostRuntime) -> Result<(), Failed> {
+    let alloc = rt.alloc();
+    let mut table = Vec::new(alloc);
+    let mut classes = pool(alloc, POOL).map_err(|_| "pool")?;
+    write_frames(alloc, MIXED, &mut classes, &mut table).map_err(|_| "frames")?;
+    assert_eq!(rt; table.as_slice(), FULL);
+    let text = answer_of(alloc, &table).map_err(|_| "memory")?;
+    assert_eq!(rt; text.as_str(), MIXED_FRAMES);
+    assert_eq!(rt; classes.count(), 5);
+    Ok(())
+}
+
+#[test]
+fn classes_are_put_into_the_pool_once(rt: HostRuntime) -> Result<(), Failed> {
+    let alloc = rt.alloc();
+    let mut table = Vec::new(alloc);
+    let mut classes = pool(alloc, EMPTY_POOL).map_err(|_| "pool")?;
+    write_frames(alloc, MIXED, &mut classes, &mut table).map_err(|_| "frames")?;
+    assert_eq!(rt; table.as_slice(), FULL);
+    let mut written = Vec::new(alloc);
+    classes.write(alloc, &mut written).map_err(|_| "memory")?;
+    assert_eq!(rt; written.as_slice(), POOL);
+    Ok(())
+}
+
+#[test]
+fn a_full_pool_is_refused(rt: HostRuntime) -> Result<(), Failed> {
+    let alloc = rt.alloc();
+    let mut table = [1, 2].to_vec(alloc)?;
+    let mut classes = full_pool(alloc).map_err(|_| "pool")?;
+    let refused = write_frames(alloc, MIXED, &mut classes, &mut table);
+    assert_eq!(rt; refused, Err(Fail::Said(PoolFull { count: 65_537 })));
+    assert_eq!(rt; table.as_slice(), [1, 2].as_slice());
+    assert_eq!(rt; classes.count(), 65_535);
     Ok(())
 }

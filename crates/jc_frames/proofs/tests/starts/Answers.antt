@@ -1,4 +1,5 @@
-use Rattle.std.proofs.Common.{ℕ, zero, suc, ◌+◌, ◌<◌, List, [], ◌∷◌, get_or, refl, arith}
+use Rattle.std.proofs.Common.{ℕ, zero, suc, ◌+◌, ◌<◌, ◌≤◌, List, [], ◌∷◌, get_or, refl, arith}
+use Rattle.std.proofs.lemmas.List.Elements.{All-from_recursion}
 use Rattle.jc_frames.proofs.tests.starts.Goals as goal
 
 abbrev offsets : List ℕ
@@ -14,3 +15,7 @@ rises (suc (suc (suc (suc (suc k))))) lt = absurd (omega (arith, lt))
 
 pub returns-clause-offsets : goal.returns-clause-offsets
 returns-clause-offsets c = record { count = refl; rising = rises }
+
+pub returns-clause-short : goal.returns-clause-short
+returns-clause-short c =
+    All-from_recursion (λ (start : ℕ). start ≤ 65535) offsets (omega arith, (omega arith, (omega arith, (omega arith, (omega arith, (omega arith, tt))))))

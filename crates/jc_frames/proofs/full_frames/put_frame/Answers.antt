@@ -1,0 +1,97 @@
+use Rattle.std.proofs.Common.{◌≡◌, ℕ, ◌-◌, List, ◌++◌, length, map, sym, ◌∙◌, ap, subst, arith, All}
+use Rattle.std.proofs.lemmas.List.Elements.{All-from_recursion}
+use Rattle.std.specs.List.{AllByRecursion}
+use Rattle.jc_base.specs.declared.kind.Kind.{Kind}
+use Rattle.jc_base.specs.Held.{Held, class_names, held, seen_at, IsNumbered}
+use Rattle.jc_pool.specs.Pool.{PoolValue}
+use Rattle.jc_frames.specs.Frames.{values_in}
+use Rattle.jc_frames.specs.FullFrames.{full_text, short, types_text}
+use Rattle.jc_frames.specs.FullTable.{AreFirstPlaces, ArePlacesIn, HasPlace, IsPlaced}
+use Rattle.jc_frames.proofs.FullTextLaws.{both_parts, full_parts}
+use Rattle.jc_frames.proofs.ResultLaws.{ok_then}
+use Rattle.jc_frames.proofs.full_frames.put_frame.Goals as goal
+
+pub put_kinds-requires-clause-few : goal.put_kinds-requires-clause-few
+put_kinds-requires-clause-few c =
+    let a = ap (λ (l : List Kind). length l) c.deref-2.ensures.value in
+    let b = ap (λ (l : List Kind). length l) c.deref.ensures in
+    let few = c.in_ok-locals.ensures.few in
+    let most = c.requires.fits.few_locals in
+    omega (arith, a, b, few, most)
+
+pub put_kinds-requires-clause-numbers : goal.put_kinds-requires-clause-numbers
+put_kinds-requires-clause-numbers c =
+    let Each : List Kind → Type 0 = λ l. All (IsNumbered (length c.args.names.now)) l in
+    subst Each (sym c.deref-2.ensures.value) (c.in_ok-locals.ensures.numbered (length c.args.names.now)
+    (subst Each (sym c.deref.ensures) (All-from_recursion (IsNumbered (length c.args.names.now)) c.args.frame.now.state.locals c.requires.fits.numbered.locals)))
+
+pub put_kinds-requires-clause-places : goal.put_kinds-requires-clause-places
+put_kinds-requires-clause-places c =
+    let Each : List Kind → Type 0 = λ l. All (IsPlaced (length c.args.starts.now)) l in
+    subst Each (sym c.deref-2.ensures.value) (c.in_ok-locals.ensures.placed (length c.args.starts.now)
+    (subst Each (sym c.deref.ensures) (All-from_recursion (IsPlaced (length c.args.starts.now)) c.args.frame.now.state.locals c.requires.fits.local_places)))
+
+pub put_kinds-requires-clause-stand : goal.put_kinds-requires-clause-stand
+put_kinds-requires-clause-stand c =
+    let names = c.args.names.now in
+    let locals = c.args.frame.now.state.locals in
+    let values : map (held names) c.deref-2.result.now ≡ values_in (map (held names) locals) =
+    ap (map (held names)) c.deref-2.ensures.value ∙ c.in_ok-locals.ensures.values names ∙ ap (λ (l : List Kind). values_in (map (held names) l)) c.deref.ensures in
+    subst (λ (l : List Held). AllByRecursion (HasPlace c.args.pool.now) (class_names l)) (sym values)
+    (both_parts (HasPlace c.args.pool.now) (class_names (values_in (map (held names) locals))) (class_names (map (held names) c.args.frame.now.state.stack)) c.requires.stand).0
+
+pub put_kinds-requires-2-clause-few : goal.put_kinds-requires-2-clause-few
+put_kinds-requires-2-clause-few c =
+    let a = ap (λ (l : List Kind). length l) c.deref-3.ensures in
+    let most = c.requires.fits.few_stack in
+    omega (arith, a, most)
+
+pub put_kinds-requires-2-clause-numbers : goal.put_kinds-requires-2-clause-numbers
+put_kinds-requires-2-clause-numbers c =
+    let Each : List Kind → Type 0 = λ l. All (IsNumbered (length c.args.names.now)) l in
+    subst Each (sym c.deref-3.ensures) (All-from_recursion (IsNumbered (length c.args.names.now)) c.args.frame.now.state.stack c.requires.fits.numbered.stack)
+
+pub put_kinds-requires-2-clause-places : goal.put_kinds-requires-2-clause-places
+put_kinds-requires-2-clause-places c =
+    let Each : List Kind → Type 0 = λ l. All (IsPlaced (length c.args.starts.now)) l in
+    subst Each (sym c.deref-3.ensures) (All-from_recursion (IsPlaced (length c.args.starts.now)) c.args.frame.now.state.stack c.requires.fits.stack_places)
+
+pub put_kinds-requires-2-clause-stand : goal.put_kinds-requires-2-clause-stand
+put_kinds-requires-2-clause-stand c =
+    let names = c.args.names.now in
+    let state = c.args.frame.now.state in
+    let Stand : PoolValue → List Kind → Type 0 = λ pool l. AllByRecursion (HasPlace pool) (class_names (map (held names) l)) in
+    subst (λ (l : List Kind). Stand c.put_kinds.new.pool l) (sym c.deref-3.ensures)
+    (subst (λ (pool : PoolValue). Stand pool state.stack) (sym c.in_ok-put_kinds.ensures.kept)
+    (both_parts (HasPlace c.args.pool.now) (class_names (values_in (map (held names) state.locals))) (class_names (map (held names) state.stack)) c.requires.stand).1)
+
+pub put_kinds-requires-2-clause-known : goal.put_kinds-requires-2-clause-known
+put_kinds-requires-2-clause-known c =
+    subst (λ (pool : PoolValue). AreFirstPlaces pool c.args.names.now c.put_kinds.new.known) (sym c.in_ok-put_kinds.ensures.kept) c.in_ok-put_kinds.ensures.known
+
+pub returns-clause-text : goal.returns-clause-text
+returns-clause-text c p are =
+    let names = c.args.names.now in
+    let state = c.args.frame.now.state in
+    let old = c.args.into.now.items in
+    let a = c.put_u8.new.into.items in
+    let b = c.put_short.new.into.items in
+    let m = c.put_kinds.new.into.items in
+    let new = c.put_kinds-2.new.into.items in
+    let values : map (held names) c.deref-2.result.now ≡ values_in (map (held names) state.locals) =
+    ap (map (held names)) c.deref-2.ensures.value ∙ c.in_ok-locals.ensures.values names ∙ ap (λ (l : List Kind). values_in (map (held names) l)) c.deref.ensures in
+    let locals : m ≡ b ++ types_text p (values_in (map (held names) state.locals)) = c.in_ok-put_kinds.ensures.text p are ∙ ap (λ (l : List Held). b ++ types_text p l) values in
+    let delta : b ≡ a ++ short (p.start c.args.frame.now.at - c.args.base) = c.in_ok-put_short.ensures ∙ ap (λ (n : ℕ). a ++ short (n - c.args.base)) (sym (are.start c.args.frame.now.at)) in
+    let Text : List Kind → Type 0 = λ l. new ≡ m ++ types_text p (map (held names) l) in
+    ok_then (Text c.deref-3.result.now) (new ≡ old ++ full_text p c.args.base (seen_at names c.args.frame.now)) c.put_kinds-2.result
+    (λ e. full_parts old a b m new (short (p.start c.args.frame.now.at - c.args.base)) (types_text p (values_in (map (held names) state.locals)))
+    (types_text p (map (held names) state.stack)) c.in_ok-put_u8.ensures.ok delta locals (subst Text c.deref-3.ensures e))
+    (c.put_kinds-2.ensures.text p (subst (λ (pool : PoolValue). ArePlacesIn pool c.args.starts.now p) (sym c.in_ok-put_kinds.ensures.kept) are))
+
+pub returns-clause-known : goal.returns-clause-known
+returns-clause-known c =
+    ok_then (AreFirstPlaces c.put_kinds.new.pool c.args.names.now c.put_kinds-2.new.known) (AreFirstPlaces c.args.pool.now c.args.names.now c.put_kinds-2.new.known) c.put_kinds-2.result
+    (λ k. subst (λ (pool : PoolValue). AreFirstPlaces pool c.args.names.now c.put_kinds-2.new.known) c.in_ok-put_kinds.ensures.kept k) c.put_kinds-2.ensures.known
+
+pub returns-clause-kept : goal.returns-clause-kept
+returns-clause-kept c = c.put_kinds-2.ensures.kept ∙ c.in_ok-put_kinds.ensures.kept

@@ -1,0 +1,24 @@
+use Rattle.std.proofs.Common.{◌≡◌, ℕ, ◌++◌, length, map, sym, ◌∙◌, ap, arith}
+use Rattle.std.proofs.lemmas.List.{length-map}
+use Rattle.jc_base.proofs.AppendingLaws.{joined}
+use Rattle.jc_base.specs.Held.{seen_at}
+use Rattle.jc_frames.specs.FullFrames.{full_texts, short, table_text}
+use Rattle.jc_frames.proofs.FullTextLaws.{offsets_rise}
+use Rattle.jc_frames.proofs.ResultLaws.{ok_then}
+use Rattle.jc_frames.proofs.full_frames.put_table.Goals as goal
+
+pub put_frames-requires-clause-rising : goal.put_frames-requires-clause-rising
+put_frames-requires-clause-rising c =
+    let can = c.requires.written in
+    offsets_rise c.args.starts.now (length c.args.names.now) can.offsets 0 0 (λ j le lt. omega arith) c.args.frames.now can.rising can.each
+
+pub returns-clause-text : goal.returns-clause-text
+returns-clause-text c p are =
+    let fs = map (seen_at c.args.names.now) c.args.frames.now in
+    let old = c.args.into.now.items in
+    let mid = c.put_short.new.into.items in
+    let new = c.put_frames.new.into.items in
+    let head : mid ≡ old ++ short (length fs) =
+    c.in_ok-put_short.ensures ∙ ap (λ (n : ℕ). old ++ short n) (sym (length-map c.args.frames.now (seen_at c.args.names.now))) in
+    ok_then (new ≡ mid ++ full_texts p 0 fs) (new ≡ old ++ table_text p fs) c.put_frames.result
+    (λ e. joined old mid new (short (length fs)) (full_texts p 0 fs) head e) (c.put_frames.ensures.text p are)

@@ -1,0 +1,257 @@
+//! Writing full frames (JVM Specification 4.7.4).
+ghost use Rattle.std.specs.Prelude.{◌≡◌, ◌<◌, ◌≤◌, ◌++◌, [], All, IfErr, IfOk, OnErr, OnOk, length, map, slice_index, slice_index_or};
+ghost use Rattle.std.specs.List.{AllByRecursion, flat_map};
+ghost use Rattle.jc_base.specs.Held.{IsNumbered, class_name, class_names, held, seen_at};
+ghost use Rattle.jc_pool.specs.Adding.{Extends, IsFirst};
+ghost use Rattle.jc_pool.specs.Lookup.{class_name_of};
+ghost use Rattle.jc_frames.specs.FullFrames.{Places, full_text, full_texts, short, table_text, type_text, types_text};
+ghost use Rattle.jc_frames.specs.FullTable.{AreFirstPlaces, ArePlacesIn, AreShort, CanBeWritten, FitsFull, HasPlace, IsPlaced, OffsetsRise, RefusesClasses, TakesClasses, named_by, named_by_all};
+
+use crate::full_classes::{place_of_class, take_classes};
+use crate::running::kinds_in_locals;
+use byteorder::{BigEndian, ByteOrder};
+use jc_base::{Fail, FrameAt, Kind, Memory, Names, put_bytes, put_u8};
+use jc_pool::{Pool, PoolFull};
+use std::alloc::Global;
+use std::collections::HashMap;
+
+/// The tag of a full frame.
+const FULL_FRAME: u8 = 255;
+
+/// Puts a number of two bytes at the end.
+#[tactic(auto, unfolding(crate::specs::FullFrames::short))]
+fn put_short(into: &mut Vec<u8>, number: u16) -> Result<(), Memory>
+    ensures { OnOk result (into.new.items ≡ into.old.items ++ short number) }
+{
+    let mut bytes = [0; 2];
+    BigEndian::write_u16(&mut bytes, number);
+    put_bytes(into, &bytes)
+}
+
+/// The first place of a class that the pool has, by the number of its name. Each is looked up once, since its name
+/// may be long.
+fn class_place(
+    alloc: Global,
+    number: u32,
+    names: &Names,
+    known: &mut HashMap<u32, u16>,
+    pool: &mut Pool,
+) -> Result<u16, Memory>
+    requires number { number < length names.now }
+    requires stands { HasPlace pool.old (slice_index_or names.now number []) }
+    requires known { AreFirstPlaces pool.old names.now known.old }
+    ensures place { IfOk result (IsFirst (class_name_of pool.old) (slice_index_or names.now number [])) }
+    ensures known { OnOk result (AreFirstPlaces pool.old names.now known.new) }
+    ensures kept { pool.new ≡ pool.old }
+{
+    if let Some(place) = known.get(&number) {
+        return Ok(*place);
+    }
+    let Ok(place) = place_of_class(alloc, names.text(number), pool) else {
+        return Err(Memory);
+    };
+    known.insert(number, place)?;
+    Ok(place)
+}
+
+/// Puts a verification type at the end: its tag, and the place or the offset that it names.
+fn put_kind(
+    alloc: Global,
+    kind: Kind,
+    starts: &[u32],
+    names: &Names,
+    known: &mut HashMap<u32, u16>,
+    pool: &mut Pool,
+    into: &mut Vec<u8>,
+) -> Result<(), Memory>
+    requires number { IsNumbered (length names.now) kind }
+    requires place { IsPlaced (length starts.now) kind }
+    requires short { AreShort starts.now }
+    requires stands { AllByRecursion (HasPlace pool.old) (class_name (held names.now kind)) }
+    requires known { AreFirstPlaces pool.old names.now known.old }
+    ensures text { (p : Places) → ArePlacesIn pool.old starts.now p
+        → OnOk result (into.new.items ≡ into.old.items ++ type_text p (held names.now kind)) }
+    ensures known { OnOk result (AreFirstPlaces pool.old names.now known.new) }
+    ensures kept { pool.new ≡ pool.old }
+{
+    match kind {
+        Kind::Top => put_u8(into, 0),
+        Kind::Int => put_u8(into, 1),
+        Kind::Float => put_u8(into, 2),
+        Kind::Double => put_u8(into, 3),
+        Kind::Long => put_u8(into, 4),
+        Kind::Null => put_u8(into, 5),
+        Kind::UninitThis => put_u8(into, 6),
+        Kind::Object(number) => {
+            let place = class_place(alloc, number, names, known, pool)?;
+            put_u8(into, 7)?;
+            put_short(into, place)
+        }
+        Kind::Uninit(at) => {
+            put_u8(into, 8)?;
+            put_short(into, starts[at as usize] as u16)
+        }
+    }
+}
+
+/// Puts verification types at the end, one behind the other.
+fn put_listed_kinds(
+    alloc: Global,
+    kinds: &[Kind],
+    starts: &[u32],
+    names: &Names,
+    known: &mut HashMap<u32, u16>,
+    pool: &mut Pool,
+    into: &mut Vec<u8>,
+) -> Result<(), Memory>
+    requires numbers { All (IsNumbered (length names.now)) kinds.now }
+    requires places { All (IsPlaced (length starts.now)) kinds.now }
+    requires short { AreShort starts.now }
+    requires stand { AllByRecursion (HasPlace pool.old) (class_names (map (held names.now) kinds.now)) }
+    requires known { AreFirstPlaces pool.old names.now known.old }
+    ensures text { (p : Places) → ArePlacesIn pool.old starts.now p
+        → OnOk result (into.new.items ≡ into.old.items ++ flat_map (type_text p) (map (held names.now) kinds.now)) }
+    ensures known { OnOk result (AreFirstPlaces pool.old names.now known.new) }
+    ensures kept { pool.new ≡ pool.old }
+{
+    'writing: for kind in kinds {
+        put_kind(alloc, *kind, starts, names, known, pool, into)?;
+    }
+    Ok(())
+}
+
+/// Puts the number of verification types at the end, and the types.
+fn put_kinds(
+    alloc: Global,
+    kinds: &[Kind],
+    starts: &[u32],
+    names: &Names,
+    known: &mut HashMap<u32, u16>,
+    pool: &mut Pool,
+    into: &mut Vec<u8>,
+) -> Result<(), Memory>
+    requires few { length kinds.now ≤ 65535 }
+    requires numbers { All (IsNumbered (length names.now)) kinds.now }
+    requires places { All (IsPlaced (length starts.now)) kinds.now }
+    requires short { AreShort starts.now }
+    requires stand { AllByRecursion (HasPlace pool.old) (class_names (map (held names.now) kinds.now)) }
+    requires known { AreFirstPlaces pool.old names.now known.old }
+    ensures text { (p : Places) → ArePlacesIn pool.old starts.now p
+        → OnOk result (into.new.items ≡ into.old.items ++ types_text p (map (held names.now) kinds.now)) }
+    ensures known { OnOk result (AreFirstPlaces pool.old names.now known.new) }
+    ensures kept { pool.new ≡ pool.old }
+{
+    put_short(into, kinds.len() as u16)?;
+    put_listed_kinds(alloc, kinds, starts, names, known, pool, into)
+}
+
+/// Puts a full frame at the end, whose delta counts from a base: the values in local variables without the `Top`s at
+/// the end, each of them once, and the stack.
+fn put_frame(
+    alloc: Global,
+    frame: &FrameAt,
+    base: u32,
+    starts: &[u32],
+    names: &Names,
+    known: &mut HashMap<u32, u16>,
+    pool: &mut Pool,
+    into: &mut Vec<u8>,
+) -> Result<(), Memory>
+    requires fits { FitsFull (length starts.now) (length names.now) frame.now }
+    requires short { AreShort starts.now }
+    requires base { base ≤ slice_index starts.now frame.now.at }
+    requires stand { AllByRecursion (HasPlace pool.old) (named_by (seen_at names.now frame.now)) }
+    requires known { AreFirstPlaces pool.old names.now known.old }
+    ensures text { (p : Places) → ArePlacesIn pool.old starts.now p
+        → OnOk result (into.new.items ≡ into.old.items ++ full_text p base (seen_at names.now frame.now)) }
+    ensures known { OnOk result (AreFirstPlaces pool.old names.now known.new) }
+    ensures kept { pool.new ≡ pool.old }
+{
+    let delta = starts[frame.at as usize] - base;
+    put_u8(into, FULL_FRAME)?;
+    put_short(into, delta as u16)?;
+    let locals = kinds_in_locals(alloc, &frame.state.locals)?;
+    put_kinds(alloc, &locals, starts, names, known, pool, into)?;
+    put_kinds(alloc, &frame.state.stack, starts, names, known, pool, into)
+}
+
+/// Puts full frames at the end, one behind the other.
+fn put_frames(
+    alloc: Global,
+    frames: &[FrameAt],
+    starts: &[u32],
+    names: &Names,
+    pool: &mut Pool,
+    into: &mut Vec<u8>,
+) -> Result<(), Memory>
+    requires each { AllByRecursion (FitsFull (length starts.now) (length names.now)) frames.now }
+    requires short { AreShort starts.now }
+    requires rising { OffsetsRise starts.now 0 frames.now }
+    requires stand { AllByRecursion (HasPlace pool.old) (named_by_all (map (seen_at names.now) frames.now)) }
+    ensures text { (p : Places) → ArePlacesIn pool.old starts.now p
+        → OnOk result (into.new.items ≡ into.old.items ++ full_texts p 0 (map (seen_at names.now) frames.now)) }
+    ensures kept { pool.new ≡ pool.old }
+{
+    let mut known = HashMap::new(alloc);
+    let mut base = 0;
+    'writing: for frame in frames {
+        put_frame(alloc, frame, base, starts, names, &mut known, pool, into)?;
+        base = starts[frame.at as usize] + 1;
+    }
+    Ok(())
+}
+
+/// Puts the number of frames at the end, and a full frame for each.
+fn put_table(
+    alloc: Global,
+    frames: &[FrameAt],
+    starts: &[u32],
+    names: &Names,
+    pool: &mut Pool,
+    into: &mut Vec<u8>,
+) -> Result<(), Memory>
+    requires written { CanBeWritten starts.now (length names.now) frames.now }
+    requires stand { AllByRecursion (HasPlace pool.old) (named_by_all (map (seen_at names.now) frames.now)) }
+    ensures text { (p : Places) → ArePlacesIn pool.old starts.now p
+        → OnOk result (into.new.items ≡ into.old.items ++ table_text p (map (seen_at names.now) frames.now)) }
+    ensures kept { pool.new ≡ pool.old }
+{
+    put_short(into, frames.len() as u16)?;
+    put_frames(alloc, frames, starts, names, pool, into)
+}
+
+/// Writes a StackMapTable at the end, without the name and the length of the attribute (JVM Specification 4.7.4): the
+/// number of frames, and for each frame, in their order, a full frame, with the values in local variables up to the
+/// last one that isn't `Top`. Each class that a frame names is put into the pool where it isn't there, in the order
+/// of the values, those of the local variables first, and is written by its first place.
+///
+/// `starts` has the offset of each instruction.
+///
+/// # Errors
+///
+/// `PoolFull` exactly where `Pool::add_class` refuses the name of such a class after those before it, with the count
+/// that it gives. `Memory` where memory was refused, or where such a name has more than 65,535 bytes, which no pool
+/// can hold. Then nothing has been written, and the pool begins with the earlier one.
+pub fn write_full(
+    alloc: Global,
+    frames: &[FrameAt],
+    starts: &[u32],
+    names: &Names,
+    pool: &mut Pool,
+    into: &mut Vec<u8>,
+) -> Result<(), Fail<PoolFull>>
+    requires { CanBeWritten starts.now (length names.now) frames.now }
+    // The text of full frames, with the first place of each class in the new pool.
+    ensures text { (p : Places) → ArePlacesIn pool.new starts.now p
+        → OnOk result (into.new.items ≡ into.old.items ++ table_text p (map (seen_at names.now) frames.now)) }
+    // The pool takes the classes that the frames name, and no others.
+    ensures classes { OnOk result (TakesClasses pool.old (named_by_all (map (seen_at names.now) frames.now)) pool.new) }
+    ensures refused { IfErr result (RefusesClasses pool.old (named_by_all (map (seen_at names.now) frames.now)) pool.new) }
+    ensures kept { OnErr result (into.new.items ≡ into.old.items) }
+    ensures extends { Extends pool.old pool.new }
+{
+    take_classes(alloc, frames, names, pool)?;
+    let mut table = Vec::new(alloc);
+    put_table(alloc, frames, starts, names, pool, &mut table)?;
+    Ok(put_bytes(into, &table)?)
+}
