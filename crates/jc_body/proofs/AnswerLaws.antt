@@ -1,5 +1,6 @@
 -- A method has one answer: no code, a body, or a reason for which it has none.
 use Rattle.std.proofs.Common.{◌≡◌, ℕ, List, [], ◌∷◌, ◌++◌, map, Some, refl, sym, ◌∙◌, subst}
+use Rattle.std.proofs.lemmas.Option.{same_Some}
 use Rattle.jc_base.specs.declared.body.Body.{Body}
 use Rattle.jc_base.specs.declared.refusal.Refusal.{Refusal}
 use Rattle.jc_base.specs.declared.refusal.RefusalKind.{RefusalKind}
@@ -65,20 +66,14 @@ no_faults major pool owner method none =
 
 -- ---- one method
 
-pub some_text : {x y : List ℕ} → Some x ≡ Some y → x ≡ y
-some_text e = cc
-
-same_method : {x y : Member} → Some x ≡ Some y → x ≡ y
-same_method e = cc
-
 pub bodiless_or_body : (names : Names) (c : ClassFile) (number : ℕ) (b : Body) → Bodiless c number → BodyOf names c number b → ⊥
 bodiless_or_body names c number b none body =
-    let same = same_method (sym none.at ∙ body.at) in
+    let same = same_Some _ _ (sym none.at ∙ body.at) in
     no_items c.pool body.method (subst (HasNoCode c.pool) same none.none) body.is.coded.items body.is.is.items
 
 pub bodiless_or_fault : (c : ClassFile) (number : ℕ) (r : Refusal) → Bodiless c number → FaultOf c number r → ⊥
 bodiless_or_fault c number r none bad =
-    let same = same_method (sym none.at ∙ bad.at) in
+    let same = same_Some _ _ (sym none.at ∙ bad.at) in
     let has_none = subst (HasNoCode c.pool) same none.none in
     no_reason c.major c.pool bad.owner bad.method r.kind r.place (not_stopped c.pool bad.method has_none kinds.Subroutine) (no_faults c.major c.pool bad.owner bad.method has_none) bad.reason
 
@@ -86,17 +81,17 @@ bodiless_or_fault c number r none bad =
 same_reason : (c : ClassFile) (owner other : List ℕ) (method last : Member) (r : Refusal) → class_name_of c.pool c.this_class ≡ Some owner → class_name_of c.pool c.this_class ≡ Some other → method ≡ last
     → IsReason c.major c.pool owner method r.kind r.place → IsReason c.major c.pool other last r.kind r.place
 same_reason c owner other method last r one two same reason =
-    subst (λ (o : List ℕ). IsReason c.major c.pool o last r.kind r.place) (some_text (sym one ∙ two))
+    subst (λ (o : List ℕ). IsReason c.major c.pool o last r.kind r.place) (same_Some _ _ (sym one ∙ two))
     (subst (λ (m : Member). IsReason c.major c.pool owner m r.kind r.place) same reason)
 
 pub body_or_fault : (names : Names) (c : ClassFile) (number : ℕ) (b : Body) (r : Refusal) → BodyOf names c number b → FaultOf c number r → ⊥
 body_or_fault names c number b r body bad =
     no_reason c.major c.pool b.owner body.method r.kind r.place body.is.no_subroutine body.is.no_fault
-    (same_reason c bad.owner b.owner bad.method body.method r bad.owner_is body.is.parts.owner (same_method (sym bad.at ∙ body.at)) bad.reason)
+    (same_reason c bad.owner b.owner bad.method body.method r bad.owner_is body.is.parts.owner (same_Some _ _ (sym bad.at ∙ body.at)) bad.reason)
 
 pub one_fault : (c : ClassFile) (number : ℕ) (r s : Refusal) → FaultOf c number r → FaultOf c number s → r ≡ s
 one_fault c number r s p q =
-    let reason = same_reason c p.owner q.owner p.method q.method r p.owner_is q.owner_is (same_method (sym p.at ∙ q.at)) p.reason in
+    let reason = same_reason c p.owner q.owner p.method q.method r p.owner_is q.owner_is (same_Some _ _ (sym p.at ∙ q.at)) p.reason in
     let one = one_why c.major c.pool q.owner q.method r.kind s.kind r.place s.place (why c.major c.pool q.owner q.method r.kind r.place reason) (why c.major c.pool q.owner q.method s.kind s.place q.reason) in
     let methods = p.method_is ∙ sym q.method_is in
     λ i. record { kind = one.0 i; method = methods i; place = one.1 i }
@@ -106,9 +101,9 @@ one_fault c number r s p q =
 one_parts : (names : Names) (c : ClassFile) (number : ℕ) (method : Member) (coded : Coded) (tables : Tables) (a b : Body) → IsDistinct bytes_eq names → HasParts names c number method coded tables a → HasParts names c number method coded tables b → a ≡ b
 one_parts names c number method coded tables a b distinct p q =
     let numbers = p.number_is ∙ sym q.number_is in
-    let owner = some_text (sym p.owner ∙ q.owner) in
-    let name = some_text (sym p.name ∙ q.name) in
-    let desc = some_text (sym p.desc ∙ q.desc) in
+    let owner = same_Some _ _ (sym p.owner ∙ q.owner) in
+    let name = same_Some _ _ (sym p.name ∙ q.name) in
+    let desc = same_Some _ _ (sym p.desc ∙ q.desc) in
     let flags = p.flags ∙ sym q.flags in
     let slots = one_take method.flags b.desc a.arg_slots b.arg_slots (subst (λ (d : List ℕ). TakeSlots method.flags d a.arg_slots) desc p.arg_slots) q.arg_slots in
     let max_stack = p.max_stack ∙ sym q.max_stack in
@@ -149,5 +144,5 @@ one_is_body names c number method a b distinct p q =
 
 pub one_body : (names : Names) (c : ClassFile) (number : ℕ) (a b : Body) → IsDistinct bytes_eq names → BodyOf names c number a → BodyOf names c number b → a ≡ b
 one_body names c number a b distinct p q =
-    let same = same_method (sym p.at ∙ q.at) in
+    let same = same_Some _ _ (sym p.at ∙ q.at) in
     one_is_body names c number q.method a b distinct (subst (λ (m : Member). IsBody names c number m a) same p.is) q.is

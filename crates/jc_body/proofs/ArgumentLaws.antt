@@ -1,7 +1,8 @@
 -- The local variables that the arguments of a method take.
 use Rattle.std.proofs.Common.{◌≡◌, ◌⊎◌, inl, inr, ℕ, ◌+◌, ◌<◌, ◌≤◌, List, Some, refl, sym, ◌∙◌, ap, subst, arith}
 use Rattle.std.specs.Int.Bits.{bit_and}
-use Rattle.std.proofs.lemmas.Bool.{cases_lt}
+use Rattle.std.proofs.lemmas.Bool.{cases_lt, cases_eq}
+use Rattle.std.proofs.lemmas.Option.{same_Some}
 use Rattle.jc_base.specs.Descriptor.{MethodType, DescribesMethod, IsMethodDescriptor, parameter_slots}
 use Rattle.jc_base.specs.WellMade.{IsStatic, TakeSlots}
 use Rattle.jc_base.proofs.DescriptorLaws.{one_method}
@@ -13,16 +14,8 @@ use Rattle.jc_body.specs.Faults.{ArgumentsOutside}
 use Rattle.jc_base.specs.Least.{IsNowhere, IsLeast}
 use Rattle.jc_body.proofs.OrderLaws.{IsDecided, at_zero}
 
--- a number is 0 or isn't
-pub zero_or_not : (n : ℕ) → (n ≡ 0) ⊎ (n ≡ 0 → ⊥)
-zero_or_not n = by (cases_lt 0 n)
-  where
-    by : (0 < n) ⊎ (n ≤ 0) → (n ≡ 0) ⊎ (n ≡ 0 → ⊥)
-    by (inl some) = inr (λ none. omega (arith, some, none))
-    by (inr none) = inl (omega (arith, none))
-
 pub static_or_not : (flags : ℕ) → IsStatic flags ⊎ (IsStatic flags → ⊥)
-static_or_not flags = by (zero_or_not (bit_and flags 0x0008))
+static_or_not flags = by (cases_eq (bit_and flags 0x0008) 0)
   where
     by : (bit_and flags 0x0008 ≡ 0) ⊎ (bit_and flags 0x0008 ≡ 0 → ⊥) → IsStatic flags ⊎ (IsStatic flags → ⊥)
     by (inl none) = inr (λ is. is none)
@@ -54,16 +47,13 @@ each_take flags desc is = by (static_or_not flags)
 
 -- ---- arguments that need too many
 
-some_is : {x y : List ℕ} → Some x ≡ Some y → x ≡ y
-some_is e = cc
-
 module _ (pool : PoolValue) (method : Member) (coded : Coded) (desc : List ℕ) (desc_is : utf8_of pool method.desc ≡ Some desc) (slots : ℕ) (takes : TakeSlots method.flags desc slots) where
   pub outside_least : coded.items.max_locals < slots → IsLeast (ArgumentsOutside pool method coded) 0
   outside_least more = at_zero (ArgumentsOutside pool method coded) (record { at = refl; desc = desc; desc_is = desc_is; slots = slots; takes = takes; fault = more })
 
   pub outside_nowhere : slots ≤ coded.items.max_locals → IsNowhere (ArgumentsOutside pool method coded)
   outside_nowhere few place other =
-      let same_desc = some_is (sym other.desc_is ∙ desc_is) in
+      let same_desc = same_Some _ _ (sym other.desc_is ∙ desc_is) in
       let same = one_take method.flags desc other.slots slots (subst (λ (d : List ℕ). TakeSlots method.flags d other.slots) same_desc other.takes) takes in
       omega (arith, few, same, other.fault)
 

@@ -1,9 +1,9 @@
 -- Each method of a class file has an answer.
 use Rattle.std.proofs.Common.{◌≡◌, ◌⊎◌, inl, inr, ℕ, zero, suc, ◌<◌, List, [], ◌∷◌, ◌++◌, length, map, Some, slice_get, refl, sym, ◌∙◌, subst, arith}
-use Rattle.std.specs.List.{AllByRecursion}
+use Rattle.std.specs.List.{AllByRecursion, IsDistinct}
 use Rattle.std.specs.Int.Bits.{bit_and}
-use Rattle.std.specs.List.{IsDistinct}
 use Rattle.std.specs.Str.{bytes_eq}
+use Rattle.std.proofs.lemmas.Bool.{cases_eq}
 use Rattle.jc_base.specs.declared.body.Body.{Body}
 use Rattle.jc_base.specs.Held.{Names, Seen, SeenAt}
 use Rattle.jc_base.specs.EntryState.{entry_seen}
@@ -32,7 +32,7 @@ use Rattle.jc_body.specs.StackMap.{BeginsWith, HasFrames, BadStackMap}
 use Rattle.jc_body.proofs.FramesByNamesLaws.{some_numbering}
 use Rattle.jc_body.proofs.StackMapLaws.{each_map}
 use Rattle.jc_body.proofs.OrderLaws.{each_decided}
-use Rattle.jc_body.proofs.ArgumentLaws.{zero_or_not, each_take}
+use Rattle.jc_body.proofs.ArgumentLaws.{each_take}
 use Rattle.jc_body.proofs.ReasonLaws.{all_decided, refused_reason, unsingle_reason, malformed_reason, coded_reason, coded_without}
 use Rattle.jc_body.proofs.FormLaws.{code_text_or_none}
 use Rattle.jc_body.proofs.TablesLaws.{tables_or_none}
@@ -148,7 +148,7 @@ module _ (c : ClassFile) (number : ℕ) (method : Member) (at : slice_get c.meth
   unsingle fault none = refused kinds.BadCode 0 (unsingle_reason c.major c.pool owner.0 method fault (λ items has. none has.bytes has.code))
 
   pub each_method : Answer c number
-  each_method = by (zero_or_not (bit_and method.flags 0x0500)) (code_bodies c.pool method) refl
+  each_method = by (cases_eq (bit_and method.flags 0x0500) 0) (code_bodies c.pool method) refl
     where
       not_two : (bytes a b : List ℕ) (more : List (List ℕ)) → a ∷ (b ∷ more) ≡ bytes ∷ [] → ⊥
       not_two bytes a b more e = cc

@@ -5,7 +5,7 @@ use Rattle.std.specs.Option.{MatchOption}
 use Rattle.std.specs.Fn.{Called, Mut}
 use Rattle.std.specs.Iterator.{YieldsThen}
 use Rattle.std.proofs.lemmas.Iterator.{YieldsList, IsFirst-from_position}
-use Rattle.std.proofs.lemmas.Option.{slice_get_within, slice_get_read, get_or_from_slice_get}
+use Rattle.std.proofs.lemmas.Option.{same_Some, slice_get_within, slice_get_read, get_or_from_slice_get}
 use Rattle.jc_base.specs.declared.insn.Insn.{Insn}
 use Rattle.jc_base.specs.Flow.{FallsThrough}
 use Rattle.jc_base.specs.InsnUse.{LeadsWithin}
@@ -48,9 +48,6 @@ first_by_position {xs} Fact u f result ran yields holds fails = first_found Fact
 
 -- ---- one that can be decided
 
-same_item : {X : Type 0} {x y : X} → Some y ≡ Some x → x ≡ y
-same_item e = cc
-
 pub first_or_none : {X : Type 0} (Fact : ℕ → X → Type 0) → ((number : ℕ) (x : X) → Fact number x ⊎ (Fact number x → ⊥)) → (xs : List X) → (found : Option ℕ) × FirstItem Fact xs found
 first_or_none Fact decide [] = (None, λ number x at. absurd cc)
 first_or_none {X} Fact decide (y ∷ ys) = by (decide 0 y) (first_or_none (λ number x. Fact (suc number) x) (λ number x. decide (suc number) x) ys)
@@ -63,12 +60,12 @@ first_or_none {X} Fact decide (y ∷ ys) = by (decide 0 y) (first_or_none (λ nu
     by (inr other) (None, none) = (None, λ number x at fact. behind number x at fact)
       where
         behind : (number : ℕ) (x : X) → slice_get (y ∷ ys) number ≡ Some x → Fact number x → ⊥
-        behind zero x at fact = other (subst (Fact 0) (same_item at) fact)
+        behind zero x at fact = other (subst (Fact 0) (sym (same_Some y x at)) fact)
         behind (suc number) x at fact = none number x at fact
     by (inr other) (Some number, first) = (Some (suc number), record { item = first.item; stands = first.stands; fact = first.fact; first = λ before x. behind before x })
       where
         behind : (before : ℕ) (x : X) → before < suc number → slice_get (y ∷ ys) before ≡ Some x → Fact before x → ⊥
-        behind zero x less at fact = other (subst (Fact 0) (same_item at) fact)
+        behind zero x less at fact = other (subst (Fact 0) (sym (same_Some y x at)) fact)
         behind (suc before) x less at fact = first.first before x (omega (arith, less)) at fact
 
 -- ---- the first instruction that goes astray
@@ -109,4 +106,4 @@ not_astray xs last none some is stops = λ number insn at astray. by number insn
     by number insn at (inl nowhere) = none number insn at nowhere
     by number insn at (inr (end, falls)) =
         let place : length xs - 1 ≡ number = omega (arith, end) in
-        stops (subst FallsThrough (same_item (sym (last_stands xs last some is) ∙ ap (slice_get xs) place ∙ at)) falls)
+        stops (subst FallsThrough (sym (same_Some last insn (sym (last_stands xs last some is) ∙ ap (slice_get xs) place ∙ at))) falls)

@@ -1,8 +1,7 @@
 -- A Code attribute is read exactly where the form spells one.
-use Rattle.std.proofs.Common.{◌≡◌, ◌≤◌, ◌⊎◌, inl, inr, ⊎_elim, ℕ, ◌<◌, List, [], ◌++◌, length, Bool, true, false, leb, Err, sym, ◌∙◌, ap, subst, arith}
+use Rattle.std.proofs.Common.{◌≡◌, ◌≤◌, ◌⊎◌, inl, inr, ⊎_elim, ℕ, ◌<◌, List, [], ◌++◌, length, Bool, false, leb, Err, sym, ◌∙◌, ap, subst, arith}
 use Rattle.std.proofs.lemmas.List.{append-nil, nil_from_length}
-use Rattle.std.proofs.lemmas.Bool.{leb-true, le-leb}
-use Rattle.std.proofs.Math.Decide.{dec_le}
+use Rattle.std.proofs.lemmas.Bool.{false≢true, leb-true, le-leb}
 use Rattle.jc_base.specs.Decoder.{SameEnd}
 use Rattle.jc_base.specs.Counted.{counted_at}
 use Rattle.jc_base.specs.Grammar.{Grammar, Agrees}
@@ -18,6 +17,7 @@ use Rattle.jc_class.proofs.PartLaws.{agrees_attributes}
 use Rattle.jc_body.specs.declared.items.CodeItems.{CodeItems}
 use Rattle.jc_body.specs.CodeForm.{row, code_form, line_entry, line_table, var_entry, var_table, IsCodeText}
 use Rattle.jc_body.specs.CodeReading.{row_at, code_at, line_at, var_at}
+use Rattle.jc_body.proofs.DecidedLaws.{Decided, both_or_not, within_or_not}
 use Rattle.jc_body.proofs.ItemLaws.{row_agrees, line_agrees, var_agrees}
 
 -- the reader stands in front of the bytes
@@ -75,13 +75,8 @@ module _ {X : Type 0} (g : Grammar X) (read : List ℕ → Parsed X) (a : Agrees
 abbrev pub Fitting : ℕ → Type 0
 Fitting n = (1 ≤ n) × (n ≤ 65535)
 
-fits_or_not : (n : ℕ) → Fitting n ⊎ (Fitting n → ⊥)
-fits_or_not n = by (dec_le 1 n) (dec_le n 65535)
-  where
-    by : Dec (1 ≤ n) → Dec (n ≤ 65535) → Fitting n ⊎ (Fitting n → ⊥)
-    by (yes some) (yes few) = inl (some, few)
-    by (yes some) (no many) = inr (λ fits. many fits.1)
-    by (no none) few = inr (λ fits. none fits.0)
+fits_or_not : (n : ℕ) → Decided (Fitting n)
+fits_or_not n = both_or_not (1 ≤ n) (n ≤ 65535) (within_or_not 1 n) (within_or_not n 65535)
 
 -- the two tests of the size, one behind the other
 pub some_code : (test : Bool) (size n : ℕ) → size ≡ n → 1 ≤ size → test ≡ leb size 65535 → Decides test (Fitting n)
@@ -97,10 +92,7 @@ no_code test size n same none is = record {
 }
 
 pub unfit : (test : Bool) (n : ℕ) → Decides test (Fitting n) → test ≡ false → Fitting n → ⊥
-unfit test n d not fits = never (sym not ∙ d.back fits)
-  where
-    never : false ≡ true → ⊥
-    never e = cc
+unfit test n d not fits = false≢true (sym not ∙ d.back fits)
 
 pub sized : (pool : PoolValue) (bytes : List ℕ) (items : CodeItems) → (code_form pool).Text bytes items → Fitting (length items.code) → IsCodeText pool bytes items
 sized pool bytes items text fits = record { text = text; some = fits.0; few = fits.1 }

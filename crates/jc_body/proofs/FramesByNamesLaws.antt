@@ -1,7 +1,7 @@
 -- Frames with classes by their numbers, and the same with classes by their names.
 use Rattle.std.proofs.Common.{◌≡◌, ℕ, zero, suc, ◌+◌, ◌<◌, Bool, true, false, ◌||◌, List, [], ◌∷◌, ◌++◌, length, map, get_or, refl, sym, ◌∙◌, ap, ap₂, arith, if◌then◌else◌}
 use Rattle.std.proofs.lemmas.Slice.Eq.{bytes_eq-Decides}
-use Rattle.std.proofs.lemmas.Bool.{or_left, or_right}
+use Rattle.std.proofs.lemmas.Bool.{true≢false}
 use Rattle.std.specs.List.{list_any, AllByRecursion, IsDistinct}
 use Rattle.std.specs.Str.{bytes_eq}
 use Rattle.jc_base.specs.declared.kind.Kind.{Kind}
@@ -9,7 +9,7 @@ use Rattle.jc_base.specs.declared.kind.Kind.TheVariants as kinds
 use Rattle.jc_base.specs.declared.kind.State.{State}
 use Rattle.jc_base.specs.declared.body.FrameAt.{FrameAt}
 use Rattle.jc_base.specs.Names.{with_name}
-use Rattle.jc_base.specs.Held.{Names, Held, top, int, float, double, long, null, uninit_this, object, uninit, Seen, SeenAt, held, seen, seen_at, IsNumbered, IsNumberedState, AreNumberedFrames}
+use Rattle.jc_base.specs.Held.{Names, Held, top, int, float, double, long, null, uninit_this, object, uninit, Seen, SeenAt, held, seen_at, IsNumbered, IsNumberedState, AreNumberedFrames}
 
 -- ---- the number of a name
 
@@ -158,10 +158,7 @@ not_first : (name x : List ℕ) (names : Names) → list_any (bytes_eq name) (x 
 not_first name x names e = by (bytes_eq name x) refl e
   where
     by : (c : Bool) → bytes_eq name x ≡ c → c || list_any (bytes_eq name) names ≡ false → (c ≡ false) × (list_any (bytes_eq name) names ≡ false)
-    by true is f = absurd (differ f)
-      where
-        differ : true ≡ false → ⊥
-        differ t = cc
+    by true is f = absurd (true≢false f)
     by false is f = (refl, f)
 
 distinct_last : (name : List ℕ) (names : Names) → IsDistinct bytes_eq names → list_any (bytes_eq name) names ≡ false → IsDistinct bytes_eq (names ++ name ∷ [])

@@ -1,4 +1,5 @@
 pub mod FirstLaws
+pub mod DecidedLaws
 pub mod PlacesLaws
 pub mod UsesLaws
 pub mod OrderLaws

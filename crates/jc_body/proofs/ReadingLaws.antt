@@ -8,7 +8,6 @@ use Rattle.jc_base.specs.declared.body.Body.{Body}
 use Rattle.jc_base.specs.declared.fail.Fail.{Fail}
 use Rattle.jc_base.specs.declared.fail.Fail.TheVariants as fails
 use Rattle.jc_base.specs.declared.refusal.Refusal.{Refusal}
-use Rattle.jc_base.specs.declared.refusal.RefusalKind.TheVariants as kinds
 use Rattle.jc_base.specs.WellMade.{IsWellMade}
 use Rattle.jc_pool.specs.Pool.{PoolValue}
 use Rattle.jc_pool.specs.Lookup.{class_name_of}
@@ -18,7 +17,7 @@ use Rattle.jc_insn.specs.Spells.{IsRefused}
 use Rattle.jc_body.specs.declared.coded.Coded.{Coded}
 use Rattle.jc_body.specs.declared.items.Tables.{Tables}
 use Rattle.jc_body.specs.declared.items.CodeItems.{CodeItems}
-use Rattle.jc_body.specs.Answers.{IsRefusal, IsFrameRefusal, AreFramesOf, bad_code, Said}
+use Rattle.jc_body.specs.Answers.{IsRefusal, IsFrameRefusal, bad_code, Said}
 use Rattle.jc_body.specs.Attributes.{AreTables}
 use Rattle.jc_body.specs.Coded.{HasNoCode, HasItems, IsCoded}
 use Rattle.jc_body.specs.Faults.{HasSubroutine, MalformedTable, TooWide, faults, insn_faults, row_faults, table_faults}

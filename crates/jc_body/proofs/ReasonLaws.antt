@@ -19,7 +19,7 @@ use Rattle.jc_body.specs.declared.items.CodeItems.{CodeItems}
 use Rattle.jc_body.specs.declared.items.Tables.{Tables}
 use Rattle.jc_body.specs.Attributes.{AreTables}
 use Rattle.jc_body.specs.Coded.{HasCode, HasItems, IsCoded}
-use Rattle.jc_body.specs.Faults.{NoSingleCode, MalformedCode, IsStopped, HasSubroutine, InsnAt, IsAstray, IsRow, MalformedTable, TooWide, OfCode, faults, insn_faults, row_faults, table_faults}
+use Rattle.jc_body.specs.Faults.{NoSingleCode, MalformedCode, IsStopped, HasSubroutine, InsnAt, IsAstray, MalformedTable, TooWide, faults, insn_faults, row_faults, table_faults}
 use Rattle.jc_base.specs.Held.{SeenAt}
 use Rattle.jc_base.specs.EntryState.{entry_seen}
 use Rattle.jc_base.specs.Least.{IsNowhere, IsLeast}
@@ -33,13 +33,10 @@ use Rattle.jc_body.proofs.FaultLaws.{insn_decided, row_decided, IsBad}
 use Rattle.jc_body.proofs.ArgumentLaws.{each_take, outside_decided}
 use Rattle.jc_body.proofs.FirstLaws.{first_or_none}
 use Rattle.jc_body.proofs.StandingLaws.{right_entry_or_not, locals_or_not, astray_or_not}
+use Rattle.jc_body.proofs.DecidedLaws.{not_or_not}
 use Rattle.jc_body.proofs.PlacesLaws.{row_or_not}
 use Rattle.jc_body.proofs.TablesLaws.{tables_or_none}
 use Rattle.jc_body.proofs.StackMapLaws.{each_map, apart, least_map}
-
-not_or : {P : Type 0} → P ⊎ (P → ⊥) → (P → ⊥) ⊎ ((P → ⊥) → ⊥)
-not_or (inl p) = inr (λ n. n p)
-not_or (inr n) = inl n
 
 -- ---- the faults of code that was read
 
@@ -48,7 +45,7 @@ module _ (major : ℕ) (pool : PoolValue) (owner : List ℕ) (method : Member) (
   by_insn Fact decide = let f = first_or_none Fact decide coded.insns in insn_decided coded are Fact f.0 f.1
 
   by_row : IsDecided (Rattle.jc_body.specs.Faults.BadRow pool coded)
-  by_row = let f = first_or_none (IsBad pool coded) (λ number row. not_or (row_or_not pool (insn_number coded.starts) (length coded.insns) (length coded.items.code) row)) coded.items.rows in row_decided pool coded f.0 f.1
+  by_row = let f = first_or_none (IsBad pool coded) (λ number row. not_or_not _ (row_or_not pool (insn_number coded.starts) (length coded.insns) (length coded.items.code) row)) coded.items.rows in row_decided pool coded f.0 f.1
 
   by_arguments : IsDecided (Rattle.jc_body.specs.Faults.ArgumentsOutside pool method coded)
   by_arguments = let takes = each_take method.flags desc is in outside_decided pool method coded desc desc_is takes.0 takes.1
@@ -70,11 +67,11 @@ module _ (major : ℕ) (pool : PoolValue) (owner : List ℕ) (method : Member) (
 
   pub all_decided : AreDecided (map (λ F. F coded) (insn_faults major pool ++ (row_faults pool method ++ table_faults pool owner method)))
   all_decided = (
-    by_insn (λ number insn. HasRightEntry major pool insn → ⊥) (λ number insn. not_or (right_entry_or_not major pool insn)),
+    by_insn (λ number insn. HasRightEntry major pool insn → ⊥) (λ number insn. not_or_not _ (right_entry_or_not major pool insn)),
     (
       by_insn (IsAstray (length coded.insns)) (λ number insn. astray_or_not (length coded.insns) number insn),
       (
-        by_insn (λ number insn. LocalsWithin coded.items.max_locals insn → ⊥) (λ number insn. not_or (locals_or_not coded.items.max_locals insn)),
+        by_insn (λ number insn. LocalsWithin coded.items.max_locals insn → ⊥) (λ number insn. not_or_not _ (locals_or_not coded.items.max_locals insn)),
         (
           by_arguments,
           (

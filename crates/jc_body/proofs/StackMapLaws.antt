@@ -1,5 +1,6 @@
 -- The code of a method has frames, or a fault of its stack map table.
 use Rattle.std.proofs.Common.{◌≡◌, ◌⊎◌, inl, inr, ⊎_elim, ℕ, ◌<◌, ◌≤◌, List, [], ◌∷◌, length, map, Option, Some, None, MatchOption, refl, sym, ◌∙◌, ap, subst, arith, Bor}
+use Rattle.std.proofs.lemmas.Option.{same_Some}
 use Rattle.jc_base.specs.declared.insn.Insn.{Insn}
 use Rattle.jc_base.specs.declared.body.FrameAt.{FrameAt}
 use Rattle.jc_base.specs.declared.refusal.Refusal.{Refusal}
@@ -19,7 +20,7 @@ use Rattle.jc_body.specs.Coded.{IsCoded}
 use Rattle.jc_body.proofs.SizeLaws.{insns_short, starts_of}
 use Rattle.jc_body.proofs.TablesLaws.{texts}
 use Rattle.jc_body.specs.Faults.{TooWide}
-use Rattle.jc_body.specs.StackMap.{stack_maps, ground_of, BeginsWith, HasFrames, SeveralTables, FaultyTable, BadStackMap, IsEntry}
+use Rattle.jc_body.specs.StackMap.{stack_maps, ground_of, BeginsWith, HasFrames, BadStackMap, IsEntry}
 use Rattle.jc_body.specs.Answers.{bad_code, AreFramesOf, IsFrameRefusal}
 
 none_one : {X : Type 0} {x : X} {xs : List X} → [] ≡ x ∷ xs → ⊥
@@ -31,14 +32,11 @@ one_two e = cc
 head_is : {X : Type 0} (x y : X) (xs ys : List X) → x ∷ xs ≡ y ∷ ys → x ≡ y
 head_is x y xs ys e = cc
 
-some_is : (x y : List ℕ) → Some x ≡ Some y → x ≡ y
-some_is x y e = cc
-
 -- a method begins in one state
 one_entry : (pool : PoolValue) (owner : List ℕ) (method : Member) (coded : Coded) (a b : Seen) → BeginsWith pool owner method coded a → BeginsWith pool owner method coded b → a ≡ b
 one_entry pool owner method coded a b p q =
-    let name : p.name ≡ q.name = some_is p.name q.name (sym p.name_is ∙ q.name_is) in
-    let desc : p.desc ≡ q.desc = some_is p.desc q.desc (sym p.desc_is ∙ q.desc_is) in
+    let name : p.name ≡ q.name = same_Some p.name q.name (sym p.name_is ∙ q.name_is) in
+    let desc : p.desc ≡ q.desc = same_Some p.desc q.desc (sym p.desc_is ∙ q.desc_is) in
     p.entry_is
     ∙ ap (λ (n : List ℕ). entry_seen owner n p.desc method.flags coded.items.max_locals) name
     ∙ ap (λ (d : List ℕ). entry_seen owner q.name d method.flags coded.items.max_locals) desc

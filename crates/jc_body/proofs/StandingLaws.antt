@@ -1,82 +1,25 @@
 -- Whether an instruction names the right entry, leads where it may and uses local variables that there are, is decided.
-use Rattle.std.proofs.Common.{◌≡◌, ◌⊎◌, inl, inr, ⊎_elim, ℕ, ◌+◌, ◌<◌, ◌≤◌, Bool, true, false, List, [], ◌∷◌, Option, Some, None, IsSomeAnd, IsTrue, ◌↔◌, option_and_then, nat_eq, nat_le, refl, sym, ◌∙◌, ap, subst, arith}
-use Rattle.std.proofs.lemmas.Bool.{eqb-true, eqb-false, leb-true, leb-false}
-use Rattle.std.specs.List.{AllByRecursion}
+use Rattle.std.proofs.Common.{◌≡◌, ◌⊎◌, inl, inr, ℕ, ◌+◌, ◌<◌, ◌≤◌, Bool, List, [], ◌∷◌, Option, Some, None, IsSomeAnd, IsTrue, ◌↔◌, option_and_then, refl, ap, subst}
+use Rattle.std.proofs.lemmas.Bool.{cases_eq}
 use Rattle.jc_base.specs.declared.insn.Insn.{Insn}
 use Rattle.jc_base.specs.declared.insn.Insn.TheVariants as insns
 use Rattle.jc_base.specs.declared.insn.Flow.{Flow}
 use Rattle.jc_base.specs.declared.insn.Flow.TheVariants as flows
 use Rattle.jc_base.specs.declared.body.What.{What}
 use Rattle.jc_base.specs.declared.body.What.TheVariants as whats
+use Rattle.jc_base.specs.declared.opcode.TheConstants.{INVOKESPECIAL}
+use Rattle.jc_base.specs.Opcode.{putfield}
 use Rattle.jc_base.specs.Deciding.{is_field_text, is_method_text}
 use Rattle.jc_base.specs.Descriptor.{IsFieldDescriptor, IsMethodDescriptor}
 use Rattle.jc_base.specs.Flow.{FallsThrough, flow_of, targets_of}
 use Rattle.jc_base.specs.InsnUse.{pool_place, IsField, IsMethod, IsCall, IsClass, IsOfTwoSlots, IsOneSlotConstant, IsTwoSlotConstant, IsMemberFor, Suits, LocalsWithin, LeadsWithin, locals_of}
-use Rattle.jc_base.proofs.DecidingLaws.{Decides, field_text_decided, method_text_decided}
+use Rattle.jc_base.proofs.DecidingLaws.{field_text_decided, method_text_decided}
 use Rattle.jc_pool.specs.Lookup.{Member, member_of, class_name_of, const_of}
 use Rattle.jc_pool.specs.Pool.{PoolValue}
 use Rattle.jc_pool.specs.declared.constant.ConstText.{ConstText}
 use Rattle.jc_body.specs.Standing.{Found, of_member, found_in, found_at, StandsAt, what_of, what_at, TagSuits, Meets, FoundSuits, EntrySuits, PlaceSuits, HasRightEntry}
 use Rattle.jc_body.specs.Faults.{IsAstray}
-
--- ---- facts that hold or don't
-
-abbrev Decided : Type 0 → Type 0
-Decided P = P ⊎ (P → ⊥)
-
-both_or_not : (P Q : Type 0) → Decided P → Decided Q → Decided (P × Q)
-both_or_not P Q (inl p) (inl q) = inl (p, q)
-both_or_not P Q (inl p) (inr other) = inr (λ h. other h.1)
-both_or_not P Q (inr other) q = inr (λ h. other h.0)
-
-either_or_not : (P Q : Type 0) → Decided P → Decided Q → Decided (P ⊎ Q)
-either_or_not P Q (inl p) q = inl (inl p)
-either_or_not P Q (inr other) (inl q) = inl (inr q)
-either_or_not P Q (inr other) (inr more) = inr (λ h. ⊎_elim other more h)
-
-if_or_not : (P Q : Type 0) → Decided P → Decided Q → Decided (P → Q)
-if_or_not P Q (inl p) (inl q) = inl (λ h. q)
-if_or_not P Q (inl p) (inr other) = inr (λ h. other (h p))
-if_or_not P Q (inr other) q = inl (λ p. absurd (other p))
-
-not_or_not : (P : Type 0) → Decided P → Decided (P → ⊥)
-not_or_not P (inl p) = inr (λ h. h p)
-not_or_not P (inr other) = inl other
-
-by_test : (test : Bool) (P : Type 0) → Decides test P → Decided P
-by_test test P d = by test refl
-  where
-    by : (answer : Bool) → test ≡ answer → Decided P
-    by true is = inl (d.to is)
-    by false is = inr (λ p. differ (sym is ∙ d.back p))
-      where
-        differ : false ≡ true → ⊥
-        differ e = cc
-
-equal_or_not : (a b : ℕ) → Decided (a ≡ b)
-equal_or_not a b = by (nat_eq a b) refl
-  where
-    by : (test : Bool) → nat_eq a b ≡ test → Decided (a ≡ b)
-    by true is = inl (eqb-true a b is)
-    by false is = inr (λ e. eqb-false a b is e)
-
-within_or_not : (a b : ℕ) → Decided (a ≤ b)
-within_or_not a b = by (nat_le a b) refl
-  where
-    by : (test : Bool) → nat_le a b ≡ test → Decided (a ≤ b)
-    by true is = inl (leb-true a b is)
-    by false is = inr (λ less. omega (arith, less, leb-false a b is))
-
-below_or_not : (a b : ℕ) → Decided (a < b)
-below_or_not a b = by (within_or_not b a)
-  where
-    by : Decided (b ≤ a) → Decided (a < b)
-    by (inl above) = inr (λ less. omega (arith, less, above))
-    by (inr below) = inl (omega (arith, below))
-
-all_or_not : {X : Type 0} (Fact : X → Type 0) → ((x : X) → Decided (Fact x)) → (xs : List X) → Decided (AllByRecursion Fact xs)
-all_or_not Fact decide [] = inl tt
-all_or_not Fact decide (x ∷ xs) = both_or_not (Fact x) (AllByRecursion Fact xs) (decide x) (all_or_not Fact decide xs)
+use Rattle.jc_body.proofs.DecidedLaws.{Decided, both_or_not, either_or_not, if_or_not, not_or_not, by_test, within_or_not, below_or_not, all_or_not}
 
 -- ---- what stands in the pool
 
@@ -105,7 +48,7 @@ method_text_or_not desc = by_test (is_method_text desc) (IsMethodDescriptor desc
 one_byte_or_not : (b : ℕ) (desc : List ℕ) → Decided (desc ≡ b ∷ [])
 one_byte_or_not b [] = inr (λ e. absurd cc)
 one_byte_or_not b (a ∷ c ∷ rest) = inr (λ e. absurd cc)
-one_byte_or_not b (a ∷ []) = by (equal_or_not a b)
+one_byte_or_not b (a ∷ []) = by (cases_eq a b)
   where
     by : Decided (a ≡ b) → Decided (a ∷ [] ≡ b ∷ [])
     by (inl same) = inl (ap (λ (k : ℕ). k ∷ []) same)
@@ -154,9 +97,9 @@ two_slot_or_not _ = never
 
 member_or_not : (op : ℕ) (what : What) → Decided (IsMemberFor op what)
 member_or_not op what =
-    either_or_not ((op ≤ 181) × IsField what) ((181 < op) × IsMethod what)
-    (both_or_not (op ≤ 181) (IsField what) (within_or_not op 181) (field_or_not what))
-    (both_or_not (181 < op) (IsMethod what) (below_or_not 181 op) (method_or_not what))
+    either_or_not ((op ≤ putfield) × IsField what) ((putfield < op) × IsMethod what)
+    (both_or_not (op ≤ putfield) (IsField what) (within_or_not op putfield) (field_or_not what))
+    (both_or_not (putfield < op) (IsMethod what) (below_or_not putfield op) (method_or_not what))
 
 kind_or_not : (insn : Insn) (what : What) → Decided (Suits insn what)
 kind_or_not (insns.Constant place) what = one_slot_or_not what
@@ -173,8 +116,10 @@ meets_or_not insn None = never
 meets_or_not insn (Some what) = kind_or_not insn what
 
 tag_or_not : (major : ℕ) (insn : Insn) (found : Found) → Decided (TagSuits major insn found)
-tag_or_not major (insns.Member op place) (of_member m) = if_or_not (m.tag ≡ 11) ((52 ≤ major) × (183 ≤ op)) (equal_or_not m.tag 11) (both_or_not (52 ≤ major) (183 ≤ op) (within_or_not 52 major) (within_or_not 183 op))
-tag_or_not major (insns.Interface place count) (of_member m) = equal_or_not m.tag 11
+tag_or_not major (insns.Member op place) (of_member m) =
+    if_or_not (m.tag ≡ 11) ((52 ≤ major) × (INVOKESPECIAL ≤ op)) (cases_eq m.tag 11)
+    (both_or_not (52 ≤ major) (INVOKESPECIAL ≤ op) (within_or_not 52 major) (within_or_not INVOKESPECIAL op))
+tag_or_not major (insns.Interface place count) (of_member m) = cases_eq m.tag 11
 tag_or_not major _ _ = inl tt
 
 found_or_not : (major : ℕ) (insn : Insn) (found : Found) → Decided (FoundSuits major insn found)
@@ -239,4 +184,4 @@ falls_or_not insn = either_or_not (flow_of insn ≡ flows.GoesOn) (flow_of insn 
 pub astray_or_not : (count number : ℕ) (insn : Insn) → IsAstray count number insn ⊎ (IsAstray count number insn → ⊥)
 astray_or_not count number insn =
     either_or_not (LeadsWithin count insn → ⊥) ((number + 1 ≡ count) × FallsThrough insn) (not_or_not (LeadsWithin count insn) (leads_or_not count insn))
-    (both_or_not (number + 1 ≡ count) (FallsThrough insn) (equal_or_not (number + 1) count) (falls_or_not insn))
+    (both_or_not (number + 1 ≡ count) (FallsThrough insn) (cases_eq (number + 1) count) (falls_or_not insn))

@@ -5,6 +5,7 @@ use Rattle.std.proofs.lemmas.List.Elements.{All-map, All-filter}
 use Rattle.std.proofs.Math.ListN.{get_or-map}
 use Rattle.jc_base.specs.Counted.{counted_at}
 use Rattle.jc_base.specs.Grammar.{Grammar, Agrees}
+use Rattle.jc_base.specs.Outside.{most_read}
 use Rattle.jc_base.specs.Parsing.{Parsed}
 use Rattle.jc_base.proofs.AppendingLaws.{drop_at}
 use Rattle.jc_base.proofs.GrammarLaws.{one_value}
@@ -96,6 +97,10 @@ module _ {X : Type 0} (table : Grammar (List X)) (bodies : List (Bor (List ℕ))
   tables_joined xs i full j = all_joined table (texts bodies) xs (subst (Joining table (texts bodies) xs) (ap texts (drop_all i bodies full)) j)
 
 -- ---- the bodies of the attributes of a name
+
+-- no longer than a file that is read
+abbrev pub IsBounded : List ℕ → Type 0
+IsBounded bytes = length bytes ≤ most_read
 
 -- what holds of each attribute's body holds of each of these
 module _ (P : List ℕ → Type 0) (pool : PoolValue) (name : List ℕ) (attributes : List Attribute) (all : All (λ a. P a.body) attributes) where

@@ -1,15 +1,15 @@
 -- What stands at the places that are used, one entry a place, in rising order.
-use Rattle.std.proofs.Common.{◌≡◌, ⊎_elim, ◌⊎◌, inl, inr, ℕ, zero, suc, ◌+◌, ◌<◌, ◌≤◌, Bool, true, false, not, cond, ◌||◌, List, [], ◌∷◌, ◌++◌, length, map, filter, take, Contains, All, IfSome, nat_eq, nat_lt, get_or, Option, Some, None, Result, Ok, Err, IfOk, refl, sym, ◌∙◌, ap, subst, arith, append_assoc}
+use Rattle.std.proofs.Common.{◌≡◌, ◌⊎◌, inl, inr, ℕ, zero, suc, ◌+◌, ◌<◌, ◌≤◌, Bool, true, false, not, cond, ◌||◌, List, [], ◌∷◌, ◌++◌, length, map, filter, take, Contains, All, IfSome, nat_eq, nat_lt, get_or, Option, Some, None, Result, Ok, Err, IfOk, refl, sym, ◌∙◌, ap, subst, arith, append_assoc}
 use Rattle.std.specs.List.{list_any, flat_map, dedup, AllPairs}
 use Rattle.std.specs.List.Sorted.{IsSorted, IsPermutation}
 use Rattle.std.specs.Ordering.{nat_cmp}
 use Rattle.std.specs.Cmp.{nat_eq_equiv}
 use Rattle.std.proofs.Math.Dec.{eqb}
-use Rattle.std.proofs.lemmas.Bool.{cases_order, eqb-true, eq-eqb, ne_eqb, lt-ltb, le-ltb}
+use Rattle.std.proofs.lemmas.Bool.{true≢false, cases_order, eqb-true, eq-eqb, ne_eqb, lt-ltb, le-ltb}
 use Rattle.std.proofs.lemmas.Option.{none-some, same_Some}
 use Rattle.std.proofs.lemmas.Grind.{flat_map-append}
-use Rattle.std.proofs.lemmas.List.{append-nil, map_more, take_more}
-use Rattle.std.proofs.lemmas.List.Elements.{All-push, filter-append, Contains-append_left, Contains-append_right}
+use Rattle.std.proofs.lemmas.List.{append-nil, take_more}
+use Rattle.std.proofs.lemmas.List.Elements.{All-push, Contains-append_left, Contains-append_right}
 use Rattle.std.proofs.lemmas.List.Kept.{Contains-dedup_nat, Contains-from_dedup, AllPairs-from_increasing}
 use Rattle.std.proofs.lemmas.List.Sorted.{list_any-IsPermutation}
 use Rattle.std.proofs.lemmas.Map.Keys.{IsStrictlyIncreasing-dedup}
@@ -29,26 +29,12 @@ use Rattle.jc_body.specs.Standing.{what_at}
 
 -- ---- the places of one instruction or row more
 
-pub insn_more : (insns : List Insn) (i : ℕ) (insn : Insn) → i < length insns → insn ≡ get_or insns i insn → insn_places (take (i + 1) insns) ≡ insn_places (take i insns) ++ some_of (pool_place insn)
-insn_more insns i insn lt is =
-    ap insn_places (take_more insns i insn lt ∙ ap (λ (x : Insn). take i insns ++ x ∷ []) (sym is))
-    ∙ flat_map-append (λ (x : Insn). some_of (pool_place x)) (take i insns) (insn ∷ [])
-    ∙ ap (λ (l : List ℕ). insn_places (take i insns) ++ l) (append-nil (some_of (pool_place insn)))
-
 -- the place of a row, if it has one
 abbrev pub class_place : ℕ → List ℕ
 class_place class = cond (not (nat_eq class 0)) (class ∷ []) []
 
-pub row_more : (rows : List Row) (i : ℕ) (row : Row) → i < length rows → row_places (take (i + 1) rows) ≡ row_places (take i rows) ++ class_place (get_or rows i row).class
-row_more rows i row lt =
-    ap (filter (λ place. not (nat_eq place 0))) (map_more (λ (r : Row). r.class) rows i row lt)
-    ∙ filter-append (λ place. not (nat_eq place 0)) (map (λ (r : Row). r.class) (take i rows)) ((get_or rows i row).class ∷ [])
-
 pub class_kept : (class : ℕ) → (class ≡ 0 → ⊥) → class_place class ≡ class ∷ []
 class_kept class some = ap (λ (b : Bool). cond (not b) (class ∷ []) []) (ne_eqb class 0 some)
-
-pub class_left_out : (class : ℕ) → class ≡ 0 → class_place class ≡ []
-class_left_out class none = ap (λ (b : Bool). cond (not b) (class ∷ []) []) (eq-eqb class 0 none)
 
 -- more places behind those that were put
 pub puts_more : (first places more now new : List ℕ) → now ≡ first ++ places → new ≡ now ++ more → new ≡ first ++ (places ++ more)
@@ -184,9 +170,6 @@ abbrev put : Use → List Use → List Use
 put u [] = u ∷ []
 put u (v ∷ vs) = cond (nat_lt u.place v.place) (u ∷ v ∷ vs) (v ∷ put u vs)
 
-never_both : true ≡ false → ⊥
-never_both e = cc
-
 put_rising : (first : ℕ) (u : Use) (us : List Use) → AreRisingFrom first us → first ≤ u.place → what_used us u.place ≡ None → AreRisingFrom first (put u us)
 put_rising first u [] rising least none = (least, tt)
 put_rising first u (v ∷ vs) rising least none = by (put_rising (v.place + 1) u vs rising.1) (cases_order u.place v.place)
@@ -218,7 +201,7 @@ put_used u (v ∷ vs) place none = by (put_used u vs place) (nat_lt u.place v.pl
     swapped : (a b : Bool) → nat_eq v.place place ≡ a → nat_eq u.place place ≡ b → cond a (Some v.what) (cond b (Some u.what) (what_used vs place)) ≡ cond b (Some u.what) (cond a (Some v.what) (what_used vs place))
     swapped true false p q = refl
     swapped false b p q = refl
-    swapped true true p q = absurd (never_both (sym (eq-eqb v.place u.place (eqb-true v.place place p ∙ sym (eqb-true u.place place q))) ∙ apart))
+    swapped true true p q = absurd (true≢false (sym (eq-eqb v.place u.place (eqb-true v.place place p ∙ sym (eqb-true u.place place q))) ∙ apart))
 
     by : (what_used vs u.place ≡ None → what_used (put u vs) place ≡ cond (nat_eq u.place place) (Some u.what) (what_used vs place))
         → (b : Bool) → what_used (cond b (u ∷ v ∷ vs) (v ∷ put u vs)) place ≡ cond (nat_eq u.place place) (Some u.what) (what_used (v ∷ vs) place)

@@ -35,7 +35,8 @@ abbrev pub bad_code : ℕ → ℕ → Refusal
 bad_code number place = record { kind = kinds.BadCode; method = Some number; place = place }
 
 -- the frames of code that has no fault of its stack map table, and isn't too wide, with classes by their numbers
-pub record AreFramesOf (names : Names) (pool : PoolValue) (owner : List ℕ) (method : Member) (coded : Coded) (frames : List FrameAt) : Type 0 where
+pub record AreFramesOf (names : Names) (pool : PoolValue) (owner : List ℕ) (method : Member) (coded : Coded)
+    (frames : List FrameAt) : Type 0 where
   pub frames_are : HasFrames pool owner method coded (map (seen_at names) frames)
   pub numbers : AreNumberedFrames (length names) frames
   pub no_fault : IsNowhere (BadStackMap pool owner method coded)

@@ -1,7 +1,9 @@
 -- The body of a method, or why it has none (JVM Specification 4.7.3).
-use Rattle.std.specs.Prelude.{◌≡◌, ◌+◌, ℕ, Bool, ◌&&◌, ◌||◌, not, List, [], ◌∷◌, ◌++◌, length, map, filter, Option, Some, None, nat_lt, nat_eq, slice_get, if◌then◌else◌}
+use Rattle.std.specs.Prelude.{◌≡◌, ◌+◌, ℕ, Bool, ◌&&◌, ◌||◌, not, List, [], ◌∷◌, ◌++◌, length, map}
+use Rattle.std.specs.Prelude.{filter, Option, Some, None, nat_lt, nat_eq, slice_get, if◌then◌else◌}
 use Rattle.std.specs.List.{flat_map, list_any}
 use Rattle.jc_base.specs.declared.body.Body.{Body}
+use Rattle.jc_base.specs.declared.body.FrameAt.{FrameAt}
 use Rattle.jc_base.specs.declared.body.Handler.{Handler}
 use Rattle.jc_base.specs.declared.body.LineAt.{LineAt}
 use Rattle.jc_base.specs.declared.body.VarAt.{VarAt}
@@ -75,6 +77,10 @@ lines_of number count entries = map (line_of number) (filter (keeps_line number 
 abbrev pub vars_of : Numbering → ℕ → ℕ → ℕ → List VarEntry → List VarAt
 vars_of number count size max_locals entries = map (var_of number) (filter (keeps_var number count size max_locals) entries)
 
+-- those of this code
+abbrev pub vars_in : Coded → List VarEntry → List VarAt
+vars_in coded entries = vars_of (insn_number coded.starts) (length coded.insns) (length coded.items.code) coded.items.max_locals entries
+
 -- ---- what is used
 
 abbrev pub some_of : Option ℕ → List ℕ
@@ -106,7 +112,8 @@ pub record AreUsesOf (pool : PoolValue) (places : List ℕ) (uses : List Use) : 
 
 -- the parts of a body, from what was read of the method, with classes in its frames by their numbers in the list of
 -- names
-pub record HasParts (names : Names) (c : ClassFile) (number : ℕ) (method : Member) (coded : Coded) (tables : Tables) (body : Body) : Type 0 where
+pub record HasParts (names : Names) (c : ClassFile) (number : ℕ) (method : Member) (coded : Coded) (tables : Tables)
+    (body : Body) : Type 0 where
   pub number_is : body.method ≡ number
   pub owner : class_name_of c.pool c.this_class ≡ Some body.owner
   pub name : utf8_of c.pool method.name ≡ Some body.name
@@ -118,11 +125,15 @@ pub record HasParts (names : Names) (c : ClassFile) (number : ℕ) (method : Mem
   pub code : body.code ≡ coded.insns
   pub handlers : body.handlers ≡ map (handler_of (insn_number coded.starts)) coded.items.rows
   pub lines : body.lines ≡ lines_of (insn_number coded.starts) (length coded.insns) tables.lines
-  pub vars : body.vars ≡ vars_of (insn_number coded.starts) (length coded.insns) (length coded.items.code) coded.items.max_locals tables.vars
-  pub kind_vars : body.kind_vars ≡ vars_of (insn_number coded.starts) (length coded.insns) (length coded.items.code) coded.items.max_locals tables.kind_vars
+  pub vars : body.vars ≡ vars_in coded tables.vars
+  pub kind_vars : body.kind_vars ≡ vars_in coded tables.kind_vars
   pub frames : HasFrames c.pool body.owner method coded (map (seen_at names) body.frames)
   pub numbers : AreNumberedFrames (length names) body.frames
   pub uses : AreUsesOf c.pool (places_used coded.insns coded.items.rows) body.uses
+
+-- the body has these parts, once these are its frames
+abbrev pub HasPartsWith : Names → ClassFile → ℕ → Member → Coded → Tables → List FrameAt → Body → Type 0
+HasPartsWith names c number method coded tables frames body = HasParts names c number method coded tables (record body { frames = frames })
 
 -- the method has code without any of the faults, and the body is made of it
 pub record HasBody (Faults : List Fault) (names : Names) (c : ClassFile) (number : ℕ) (method : Member) (body : Body) : Type 0 where
@@ -165,7 +176,8 @@ pub record Bodiless (c : ClassFile) (number : ℕ) : Type 0 where
 -- a subroutine instruction, or else the first fault in their order, in a method of the class with this name
 abbrev pub IsReason : ℕ → PoolValue → List ℕ → Member → RefusalKind → ℕ → Type 0
 IsReason major pool owner method kinds.Subroutine place = IsLeast (HasSubroutine pool method) place
-IsReason major pool owner method kinds.BadCode place = IsNowhere (HasSubroutine pool method) × IsFirst (faults major pool owner method) place
+IsReason major pool owner method kinds.BadCode place =
+    IsNowhere (HasSubroutine pool method) × IsFirst (faults major pool owner method) place
 IsReason major pool owner method kind place = ⊥
 
 -- why the method with this number has no body

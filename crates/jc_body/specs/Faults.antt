@@ -151,12 +151,15 @@ table_faults pool owner method = MalformedTable pool ∷ BadStackMap pool owner 
 
 -- the faults of a method, with those of what was read, in the order in which they are looked for
 abbrev pub faults_with : PoolValue → Member → List (Coded → Fault) → List Fault
-faults_with pool method of_code = NoSingleCode pool method ∷ MalformedCode pool method ∷ MalformedInsn pool method ∷ map (OfCode pool method) of_code
+faults_with pool method of_code =
+    NoSingleCode pool method ∷ MalformedCode pool method ∷ MalformedInsn pool method ∷ map (OfCode pool method) of_code
 
 -- those of a method of the class with this name
 abbrev pub faults : ℕ → PoolValue → List ℕ → Member → List Fault
-faults major pool owner method = faults_with pool method (insn_faults major pool ++ (row_faults pool method ++ table_faults pool owner method))
+faults major pool owner method =
+    faults_with pool method (insn_faults major pool ++ (row_faults pool method ++ table_faults pool owner method))
 
 -- all of them but that of the size
 abbrev pub faults_of_any_size : ℕ → PoolValue → List ℕ → Member → List Fault
-faults_of_any_size major pool owner method = faults_with pool method (insn_faults major pool ++ (row_faults pool method ++ form_faults pool owner method))
+faults_of_any_size major pool owner method =
+    faults_with pool method (insn_faults major pool ++ (row_faults pool method ++ form_faults pool owner method))

@@ -6,7 +6,6 @@ use Rattle.jc_base.specs.EntryState.{entry_seen}
 use Rattle.jc_base.specs.WellMade.{IsState}
 use Rattle.jc_pool.specs.Pool.{PoolValue}
 use Rattle.jc_pool.specs.Lookup.{utf8_of}
-use Rattle.jc_class.specs.declared.class_file.Attribute.{Attribute}
 use Rattle.jc_class.specs.declared.class_file.Member.{Member}
 use Rattle.jc_frames.specs.Frames.{Ground, ground}
 use Rattle.jc_frames.specs.Table.{StandsFor, TableFault}

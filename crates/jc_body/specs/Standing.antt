@@ -4,6 +4,7 @@ use Rattle.jc_base.specs.declared.insn.Insn.{Insn}
 use Rattle.jc_base.specs.declared.insn.Insn.TheVariants as insns
 use Rattle.jc_base.specs.declared.body.What.{What}
 use Rattle.jc_base.specs.declared.body.What.TheVariants as whats
+use Rattle.jc_base.specs.declared.opcode.TheConstants.{INVOKESPECIAL}
 use Rattle.jc_base.specs.InsnUse.{pool_place, Suits}
 use Rattle.jc_pool.specs.declared.constant.ConstText.{ConstText}
 use Rattle.jc_pool.specs.declared.constant.ConstText.TheVariants as constants
@@ -63,9 +64,13 @@ what_at pool place = option_and_then what_of (found_at pool place)
 
 -- ---- what an instruction needs
 
--- invokestatic and invokespecial are on the methods of interfaces only from version 52 on
+-- of the instructions up to invokestatic, only invokespecial and invokestatic are on the methods of interfaces, and
+-- only from version 52 on
+abbrev pub SuitsInterface : ℕ → ℕ → Member → Type 0
+SuitsInterface major op m = m.tag ≡ 11 → ((52 ≤ major) × (INVOKESPECIAL ≤ op))
+
 abbrev pub TagSuits : ℕ → Insn → Found → Type 0
-TagSuits major (insns.Member op place) (of_member m) = m.tag ≡ 11 → ((52 ≤ major) × (183 ≤ op))
+TagSuits major (insns.Member op place) (of_member m) = SuitsInterface major op m
 TagSuits major (insns.Interface place count) (of_member m) = m.tag ≡ 11
 TagSuits major _ _ = ⊤
 

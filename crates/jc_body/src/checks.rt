@@ -1,6 +1,5 @@
 //! The first instruction with a fault (JVM Specification 4.9.1, 4.9.2).
 ghost use Rattle.std.specs.Prelude.{◌≤◌, length};
-ghost use Rattle.jc_base.specs.declared.insn.Insn.{Insn as Instruction};
 ghost use Rattle.jc_base.specs.InsnUse.{LocalsWithin, LeadsWithin};
 ghost use Rattle.jc_body.specs.First.{FirstItem};
 ghost use Rattle.jc_body.specs.Standing.{HasRightEntry};

@@ -1,5 +1,6 @@
 //! The code of a method: its one Code attribute, and the instructions in it (JVM Specification 4.7.3).
 ghost use Rattle.std.specs.Prelude.{◌≡◌, ◌≤◌, ℕ, List, Some, None, length, IfOk, IfErr, MatchOption, All};
+ghost use Rattle.jc_base.specs.Outside.{most_read};
 ghost use Rattle.jc_body.specs.Coded.{HasNoCode, HasItems, IsCoded};
 ghost use Rattle.jc_insn.specs.Spells.{Spells, IsRefused};
 ghost use Rattle.jc_body.specs.Answers.{IsPresence, IsRefusal, Said};
@@ -59,7 +60,7 @@ fn read_items(
     number: u16,
     method: &Member,
 ) -> Result<Option<CodeItems>, Fail<Refusal>>
-    requires sizes { All (λ a. length a.body ≤ 67108864) method.now.attributes }
+    requires sizes { All (λ a. length a.body ≤ most_read) method.now.attributes }
     ensures items { IfOk result (λ found. MatchOption found (HasNoCode pool.now method.now) (HasItems pool.now method.now)) }
     ensures refused { (major : ℕ) (owner : List ℕ) → IfErr result (λ e. Said e (IsRefusal major pool.now owner method.now number)) }
 {
@@ -75,7 +76,7 @@ fn read_items(
 
 /// The instructions of a method, or the refusal that names the method.
 fn decode_method(alloc: Global, number: u16, code: &[u8]) -> Result<Decoded, Fail<Refusal>>
-    requires { length code.now ≤ 67108864 }
+    requires { length code.now ≤ most_read }
     ensures decoded { IfOk result (λ d. Spells code.now d.code d.starts) }
     ensures refused { IfErr result (λ e. Said e (λ r. (r.method ≡ Some number)
         × IsRefused code.now (record { kind = r.kind; method = None; place = r.place }))) }
@@ -98,7 +99,7 @@ pub fn read_coded(
     number: u16,
     method: &Member,
 ) -> Result<Option<Coded>, Fail<Refusal>>
-    requires sizes { All (λ a. length a.body ≤ 67108864) method.now.attributes }
+    requires sizes { All (λ a. length a.body ≤ most_read) method.now.attributes }
     ensures coded { IfOk result (λ found. MatchOption found (HasNoCode pool.now method.now) (IsCoded pool.now method.now)) }
     ensures refused { (major : ℕ) (owner : List ℕ) → IfErr result (λ e. Said e (IsRefusal major pool.now owner method.now number)) }
 {

@@ -2,6 +2,7 @@
 ghost use Rattle.std.specs.Prelude.{◌↔◌, ◌≤◌, ◌++◌, length, map, IsTrue};
 ghost use Rattle.jc_base.specs.WellMade.{TakeSlots};
 ghost use Rattle.jc_base.specs.Descriptor.{IsMethodDescriptor};
+ghost use Rattle.jc_base.specs.Outside.{most_read};
 ghost use Rattle.jc_class.specs.ClassFormat.{HasMethodDescriptor};
 ghost use Rattle.jc_base.specs.Starts.{AreStarts};
 ghost use Rattle.jc_body.specs.First.{FirstFault};
@@ -59,7 +60,7 @@ fn insn_fault(major: u16, pool: &Pool, coded: &Coded) -> Option<u32>
 fn row_fault(pool: &Pool, method: &Member, coded: &Coded, offsets: &Offsets<'_>) -> Option<u32>
     requires desc { HasMethodDescriptor pool.now method.now.desc }
     requires offsets { Numbers coded.now offsets.now }
-    requires few { length coded.now.items.rows ≤ 67108864 }
+    requires few { length coded.now.items.rows ≤ most_read }
     ensures { FirstFault (map (λ F. F coded.now) (row_faults pool.now method.now)) result }
 {
     let slots = slots_of_arguments(method.flags, text_at(pool, method.desc));
@@ -84,7 +85,7 @@ pub fn first_fault(
     requires starts { AreStarts (length coded.now.insns) (length coded.now.items.code) coded.now.starts }
     requires offsets { Numbers coded.now offsets.now }
     requires few { length coded.now.insns ≤ 65535 }
-    requires rows { length coded.now.items.rows ≤ 67108864 }
+    requires rows { length coded.now.items.rows ≤ most_read }
     ensures { FirstFault (map (λ F. F coded.now) (insn_faults major pool.now ++ row_faults pool.now method.now)) result }
 {
     match insn_fault(major, pool, coded) {

@@ -1,7 +1,8 @@
 //! Reading a Code attribute (JVM Specification 4.7.3).
-ghost use Rattle.std.specs.Prelude.{◌≡◌, ◌≤◌, length, IfOk, MatchOption};
+ghost use Rattle.std.specs.Prelude.{◌≤◌, length, IfOk, MatchOption};
 ghost use Rattle.jc_base.specs.Decoder.{SameEnd};
 ghost use Rattle.jc_base.specs.Parsing.{Parses};
+ghost use Rattle.jc_base.specs.Outside.{most_read};
 ghost use Rattle.jc_body.specs.CodeReading.{row_at, code_at};
 ghost use Rattle.jc_body.specs.CodeForm.{IsCodeText};
 ghost use Rattle.jc_body.specs.declared.items.CodeItems.{CodeItems as Items};
@@ -71,7 +72,7 @@ fn code_items(
 ///
 /// `Memory` where memory was refused.
 pub fn read_code(alloc: Global, pool: &Pool, bytes: &[u8]) -> Result<Option<CodeItems>, Memory>
-    requires { length bytes.now ≤ 67108864 }
+    requires { length bytes.now ≤ most_read }
     ensures { IfOk result (λ found. MatchOption found
         ((items : Items) → IsCodeText pool.now bytes.now items → ⊥) (IsCodeText pool.now bytes.now)) }
 {

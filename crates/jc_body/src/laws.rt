@@ -5,7 +5,6 @@ ghost use Rattle.std.specs.Str.{bytes_eq};
 ghost use Rattle.jc_base.specs.declared.body.Body.{Body};
 ghost use Rattle.jc_base.specs.declared.refusal.Refusal.{Refusal};
 ghost use Rattle.jc_base.specs.Held.{Names, Seen, SeenAt};
-ghost use Rattle.jc_base.specs.WellMade.{IsWellMade};
 ghost use Rattle.jc_pool.specs.Pool.{PoolValue};
 ghost use Rattle.jc_class.specs.declared.class_file.ClassFile.{ClassFile};
 ghost use Rattle.jc_class.specs.declared.class_file.Member.{Member};
@@ -18,10 +17,13 @@ ghost use Rattle.jc_body.specs.StackMap.{BeginsWith, HasFrames, BadStackMap};
 /// subroutine instruction; and only one of these, once. Under a list of different names it has one body.
 pub fn each_method_has_one_answer()
     ensures each { (c : ClassFile) (number : ℕ) → IsClassFile c → number < length c.methods
-        → Bodiless c number ⊎ (((names : Names) × (b : Body) × IsDistinct bytes_eq names × BodyOf names c number b) ⊎ ((r : Refusal) × FaultOf c number r)) }
+        → Bodiless c number
+        ⊎ (((names : Names) × (b : Body) × IsDistinct bytes_eq names × BodyOf names c number b)
+        ⊎ ((r : Refusal) × FaultOf c number r)) }
     ensures bodiless_or_body { (names : Names) (c : ClassFile) (number : ℕ) (b : Body) → Bodiless c number → BodyOf names c number b → ⊥ }
     ensures bodiless_or_fault { (c : ClassFile) (number : ℕ) (r : Refusal) → Bodiless c number → FaultOf c number r → ⊥ }
-    ensures body_or_fault { (names : Names) (c : ClassFile) (number : ℕ) (b : Body) (r : Refusal) → BodyOf names c number b → FaultOf c number r → ⊥ }
+    ensures body_or_fault { (names : Names) (c : ClassFile) (number : ℕ) (b : Body) (r : Refusal) → BodyOf names c number b
+        → FaultOf c number r → ⊥ }
     ensures one_body { (names : Names) (c : ClassFile) (number : ℕ) (a b : Body) → IsDistinct bytes_eq names
         → BodyOf names c number a → BodyOf names c number b → a ≡ b }
     ensures one_fault { (c : ClassFile) (number : ℕ) (r s : Refusal) → FaultOf c number r → FaultOf c number s → r ≡ s }
@@ -29,7 +31,8 @@ pub fn each_method_has_one_answer()
 
 /// The code of a method has frames or a fault of its stack map table, and only one of these, once.
 pub fn each_stack_map_has_frames_or_a_fault()
-    ensures each { (pool : PoolValue) (owner : List ℕ) (method : Member) (coded : Coded) (entry : Seen) → BeginsWith pool owner method coded entry
+    ensures each { (pool : PoolValue) (owner : List ℕ) (method : Member) (coded : Coded) (entry : Seen)
+        → BeginsWith pool owner method coded entry
         → ((frames : List SeenAt) × HasFrames pool owner method coded frames) ⊎ ((place : ℕ) × BadStackMap pool owner method coded place) }
     ensures apart { (pool : PoolValue) (owner : List ℕ) (method : Member) (coded : Coded) (frames : List SeenAt) (place : ℕ)
         → HasFrames pool owner method coded frames → BadStackMap pool owner method coded place → ⊥ }

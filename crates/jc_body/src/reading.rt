@@ -1,7 +1,9 @@
 //! Reading the body of a method.
-ghost use Rattle.std.specs.Prelude.{◌≡◌, ◌⊎◌, ◌<◌, ◌≤◌, ◌++◌, ℕ, List as Seq, Some, None, length, map, IfOk, IfErr, IfSome, MatchOption, MatchResult, All, IsTrue};
+ghost use Rattle.std.specs.Prelude.{◌≡◌, ◌⊎◌, ◌<◌, ◌≤◌, ◌++◌, ℕ, List as Seq, Some, None, length, map};
+ghost use Rattle.std.specs.Prelude.{IfOk, IfErr, IfSome, MatchOption, MatchResult, All, IsTrue};
 ghost use Rattle.jc_base.specs.Held.{Names as AllNames, Grows, seen_at, AreNumberedFrames};
 ghost use Rattle.jc_base.specs.WellMade.{IsCounted, IsWellMade};
+ghost use Rattle.jc_base.specs.Outside.{most_read};
 ghost use Rattle.jc_pool.specs.Lookup.{class_name_of};
 ghost use Rattle.jc_body.specs.StackMap.{HasFrames};
 ghost use Rattle.jc_base.specs.declared.body.Body.{Body as BodyValue};
@@ -15,7 +17,7 @@ ghost use Rattle.jc_body.specs.Faults.{ArgumentsOutside, insn_faults, row_faults
 ghost use Rattle.jc_body.specs.Coded.{HasNoCode, IsCoded};
 ghost use Rattle.jc_body.specs.Numbering.{Numbers};
 ghost use Rattle.jc_body.specs.Answers.{IsRefusal, Said};
-ghost use Rattle.jc_body.specs.BodyOf.{HasParts, IsBody, BodyOf, Bodiless, FaultOf};
+ghost use Rattle.jc_body.specs.BodyOf.{HasPartsWith, IsBody, BodyOf, Bodiless, FaultOf};
 ghost use Rattle.jc_body.specs.Sizes.{HasShortParts, HasSmallParts};
 
 use crate::code::{bad_code, read_coded};
@@ -48,7 +50,7 @@ fn assembled(
     requires offsets { Numbers coded offsets.now }
     ensures parts { (names : AllNames) (owner : Seq ℕ) (frames : Seq Frame) → class_name_of class.now.pool class.now.this_class ≡ Some owner
         → HasFrames class.now.pool owner method.now coded (map (seen_at names) frames) → AreNumberedFrames (length names) frames
-        → IfOk result (λ (body : BodyValue). HasParts names class.now number method.now coded tables.now (record body { frames = frames })) }
+        → IfOk result (HasPartsWith names class.now number method.now coded tables.now frames) }
     ensures texts { IfOk result HasShortParts }
 {
     let pool = &class.pool;
@@ -114,7 +116,7 @@ fn with_tables(
     requires name { HasText class.now.pool method.now.name }
     requires desc { HasMethodDescriptor class.now.pool method.now.desc }
     requires coded { IsCoded class.now.pool method.now coded }
-    requires sizes { All (λ a. length a.body ≤ 67108864) coded.items.attributes }
+    requires sizes { All (λ a. length a.body ≤ most_read) coded.items.attributes }
     requires few { length coded.insns ≤ 65535 }
     requires offsets { Numbers coded offsets.now }
     requires before { AreNowhere (map (λ F. F coded) (insn_faults class.now.major class.now.pool ++ row_faults class.now.pool method.now)) }
@@ -147,7 +149,7 @@ fn body_of(
     requires class { HasClass class.now.pool class.now.this_class }
     requires name { HasText class.now.pool method.now.name }
     requires desc { HasMethodDescriptor class.now.pool method.now.desc }
-    requires sizes { All (λ a. length a.body ≤ 67108864) method.now.attributes }
+    requires sizes { All (λ a. length a.body ≤ most_read) method.now.attributes }
     requires coded { IsCoded class.now.pool method.now coded }
     ensures body { IfOk result (IsBody names.new class.now number method.now) }
     ensures sizes { IfOk result HasSmallParts }
@@ -174,7 +176,7 @@ fn answer(
     requires class { HasClass class.now.pool class.now.this_class }
     requires name { HasText class.now.pool method.now.name }
     requires desc { HasMethodDescriptor class.now.pool method.now.desc }
-    requires sizes { All (λ a. length a.body ≤ 67108864) method.now.attributes }
+    requires sizes { All (λ a. length a.body ≤ most_read) method.now.attributes }
     ensures answer { IfOk result (λ found. MatchOption found (HasNoCode class.now.pool method.now)
         (IsBody names.new class.now number method.now)) }
     ensures sizes { IfOk result (λ found. IfSome found HasSmallParts) }
@@ -229,12 +231,13 @@ pub fn read_body(
 ) -> Result<Option<Body>, Fail<Refusal>>
     requires exists { method < length class.now.methods }
     requires class { IsClassFile class.now }
-    requires sizes { All (λ m. All (λ a. length a.body ≤ 67108864) m.attributes) class.now.methods }
+    requires sizes { All (λ m. All (λ a. length a.body ≤ most_read) m.attributes) class.now.methods }
     // What is answered is so.
     ensures body { IfOk result (λ found. MatchOption found (Bodiless class.now method) (BodyOf names.new class.now method)) }
     ensures refused { IfErr result (λ e. Said e (FaultOf class.now method)) }
     // What is so is answered, unless memory runs out.
-    ensures some { (b : BodyValue) → BodyOf names.new class.now method b → MatchResult result (λ found. found ≡ Some b) (λ e. e ≡ Fail.Memory) }
+    ensures some { (b : BodyValue) → BodyOf names.new class.now method b
+        → MatchResult result (λ found. found ≡ Some b) (λ e. e ≡ Fail.Memory) }
     ensures none { Bodiless class.now method → MatchResult result (λ found. found ≡ None) (λ e. e ≡ Fail.Memory) }
     ensures fault { (r : Reason) → FaultOf class.now method r
         → MatchResult result (λ _. ⊥) (λ e. (e ≡ Fail.Memory) ⊎ (e ≡ Fail.Said r)) }

@@ -2,6 +2,7 @@
 ghost use Rattle.std.specs.Prelude.{◌≡◌, ◌≤◌, ◌∷◌, [], length, IfOk, IfErr, All};
 ghost use Rattle.jc_base.specs.Held.{Grows};
 ghost use Rattle.jc_base.specs.Least.{IsNowhere};
+ghost use Rattle.jc_base.specs.Outside.{most_read};
 ghost use Rattle.jc_class.specs.ClassFormat.{HasText, HasMethodDescriptor};
 ghost use Rattle.jc_body.specs.Coded.{IsCoded};
 ghost use Rattle.jc_body.specs.Faults.{ArgumentsOutside};
@@ -60,7 +61,7 @@ fn frames_of_table(
     requires arguments { IsNowhere (ArgumentsOutside pool.now method.now coded.now) }
     requires coded { IsCoded pool.now method.now coded.now }
     requires table { stack_maps pool.now coded.now ≡ table.now ∷ [] }
-    requires short { length table.now ≤ 67108864 }
+    requires short { length table.now ≤ most_read }
     ensures frames { IfOk result (AreFramesOf names.new pool.now owner.now method.now coded.now) }
     ensures refused { IfErr result (λ e. Said e (IsFrameRefusal pool.now owner.now method.now coded.now number)) }
     ensures grows { Grows names.old names.new }
@@ -96,7 +97,7 @@ pub fn frames_of(
     requires desc { HasMethodDescriptor pool.now method.now.desc }
     requires arguments { IsNowhere (ArgumentsOutside pool.now method.now coded.now) }
     requires coded { IsCoded pool.now method.now coded.now }
-    requires sizes { All (λ a. length a.body ≤ 67108864) coded.now.items.attributes }
+    requires sizes { All (λ a. length a.body ≤ most_read) coded.now.items.attributes }
     ensures frames { IfOk result (AreFramesOf names.new pool.now owner.now method.now coded.now) }
     ensures refused { IfErr result (λ e. Said e (IsFrameRefusal pool.now owner.now method.now coded.now number)) }
     ensures grows { Grows names.old names.new }

@@ -1,15 +1,16 @@
 //! What stands at the places in the pool that a body uses (JVM Specification 4.4, 4.9.1).
-ghost use Rattle.std.specs.Prelude.{◌≡◌, ◌↔◌, ◌≤◌, IfOk, IfSome, IsTrue, Some, option_map};
+ghost use Rattle.std.specs.Prelude.{◌≡◌, ◌↔◌, IfOk, IfSome, IsTrue, Some, option_map};
 ghost use Rattle.jc_base.specs.Descriptor.{IsFieldDescriptor, IsMethodDescriptor};
 ghost use Rattle.jc_base.specs.WellMade.{HasShortTexts};
 ghost use Rattle.jc_base.specs.InsnUse.{IsOfTwoSlots, IsOneSlotConstant, IsTwoSlotConstant, IsMemberFor};
-ghost use Rattle.jc_pool.specs.Lookup.{member, member_of};
-ghost use Rattle.jc_body.specs.Standing.{of_member, found_at, what_of_member, what_of_constant, what_of, what_at, StandsAt, Meets, FoundSuits, HasRightEntry};
+ghost use Rattle.jc_pool.specs.Lookup.{member};
+ghost use Rattle.jc_body.specs.Standing.{of_member, found_at, what_of_member, what_of_constant, what_of};
+ghost use Rattle.jc_body.specs.Standing.{what_at, StandsAt, SuitsInterface, Meets, FoundSuits, HasRightEntry};
 ghost use Rattle.jc_body.specs.FoundView.{found};
 ghost use Rattle.jc_body.specs.Sizes.{IsOfShortTexts};
 ghost use Rattle.jc_pool.specs.Lookup as MemberTexts;
 
-use jc_base::{Bytes, Insn, Memory, What};
+use jc_base::{Bytes, Insn, Memory, What, opcode};
 use jc_pool::{ConstText, MemberText, Pool};
 use std::alloc::Global;
 
@@ -153,13 +154,13 @@ fn is_two_slot_constant(standing: &Standing<'_>) -> bool
 /// `getstatic` to `invokestatic`, needs.
 fn is_member_for(major: u16, op: u8, pool: &Pool, place: u16, m: &MemberText<'_>) -> bool
     requires { StandsAt pool.now place (of_member (member m.now)) }
-    ensures { IsTrue result ↔ (IsMemberFor op (what_of_member (member m.now)) × (m.now.tag ≡ 11 → ((52 ≤ major) × (183 ≤ op)))) }
+    ensures { IsTrue result ↔ (IsMemberFor op (what_of_member (member m.now)) × SuitsInterface major op (member m.now)) }
 {
     match m.tag {
-        9 => op <= 181 && has_field_descriptor(pool, place, m),
-        11 => op > 182 && (major >= 52 && has_method_descriptor(pool, place, m)),
+        9 => op <= opcode::PUTFIELD && has_field_descriptor(pool, place, m),
+        11 => op >= opcode::INVOKESPECIAL && (major >= 52 && has_method_descriptor(pool, place, m)),
         17 | 18 => false,
-        _ => op > 181 && has_method_descriptor(pool, place, m),
+        _ => op > opcode::PUTFIELD && has_method_descriptor(pool, place, m),
     }
 }
 

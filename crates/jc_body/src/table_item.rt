@@ -2,6 +2,7 @@
 ghost use Rattle.std.specs.Prelude.{◌≤◌, List as Seq, length, map, IfOk, MatchOption, All};
 ghost use Rattle.jc_base.specs.Counted.{counted as counted_form};
 ghost use Rattle.jc_base.specs.Grammar.{Grammar, Agrees};
+ghost use Rattle.jc_base.specs.Outside.{most_read};
 ghost use Rattle.jc_body.specs.Attributes.{AreEntries};
 
 use jc_base::{Fail, ItemReader, List, Memory, Reader, counted};
@@ -21,7 +22,7 @@ fn whole_table<I: ItemReader>(
 ) -> Result<Option<List<I::Item>>, Memory>
 where
     I::Item: TableItem,
-    requires short { length bytes.now ≤ 67108864 }
+    requires short { length bytes.now ≤ most_read }
     requires agrees { Agrees I.Item.form (I.read_at items.now) }
     ensures { IfOk result (λ found. MatchOption found
         ((items : Seq I.Item) → (counted_form I.Item.form).Text bytes.now items → ⊥) ((counted_form I.Item.form).Text bytes.now)) }
@@ -45,7 +46,7 @@ pub fn joined_tables<I: ItemReader>(
 ) -> Result<Option<List<I::Item>>, Memory>
 where
     I::Item: TableItem,
-    requires short { All (λ body. length body.now ≤ 67108864) bodies.now }
+    requires short { All (λ body. length body.now ≤ most_read) bodies.now }
     requires agrees { Agrees I.Item.form (I.read_at items.now) }
     ensures { IfOk result (λ found. MatchOption found
         ((items : Seq I.Item) → AreEntries (counted_form I.Item.form) (map (λ body. body.now) bodies.now) items → ⊥)

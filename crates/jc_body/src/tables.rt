@@ -1,5 +1,6 @@
 //! Reading the line and variable tables of a Code attribute (JVM Specification 4.7.12 to 4.7.14).
 ghost use Rattle.std.specs.Prelude.{◌≤◌, length, IfOk, MatchOption, All};
+ghost use Rattle.jc_base.specs.Outside.{most_read};
 ghost use Rattle.jc_body.specs.CodeReading.{line_at, var_at};
 ghost use Rattle.jc_body.specs.CodeForm.{line_entry, var_entry};
 ghost use Rattle.jc_body.specs.Attributes.{AreTables};
@@ -83,7 +84,7 @@ pub fn read_tables(
     pool: &Pool,
     attributes: &[Attribute],
 ) -> Result<Option<Tables>, Memory>
-    requires { All (λ a. length a.body ≤ 67108864) attributes.now }
+    requires { All (λ a. length a.body ≤ most_read) attributes.now }
     ensures { IfOk result (λ found. MatchOption found
         ((tables : AllTables) → AreTables pool.now attributes.now tables → ⊥) (AreTables pool.now attributes.now)) }
 {

@@ -1,6 +1,6 @@
 use Rattle.std.proofs.Common.{◌∙◌, ℕ, ◌<◌, List, Some, rules, refl, sym, ap, subst, arith}
+use Rattle.std.proofs.lemmas.Option.{same_Some}
 use Rattle.jc_base.specs.WellMade.{TakeSlots}
-use Rattle.jc_body.proofs.AnswerLaws.{some_text}
 use Rattle.jc_body.proofs.ArgumentLaws.{arguments_fit}
 use Rattle.jc_body.proofs.PartsLaws.{handlers_by, lines_by, vars_by, frames_by}
 use Rattle.jc_body.proofs.reading.assembled.Goals as goal
@@ -32,7 +32,7 @@ returns-clause-parts c = λ names owner frames owner_is has numbered.
       lines = lines_by coded offsets numbers c.in_ok-lines_of.field-0 c.deref-2.result.now c.args.tables.now.lines (search rules) c.in_ok-lines_of.ensures;
       vars = vars_by coded offsets numbers max_locals c.in_ok-vars_of.field-0 c.deref-3.result.now c.args.tables.now.vars (search rules) c.in_ok-vars_of.ensures;
       kind_vars = vars_by coded offsets numbers max_locals c.in_ok-vars_of-2.field-0 c.deref-4.result.now c.args.tables.now.kind_vars (search rules) c.in_ok-vars_of-2.ensures;
-      frames = frames_by names c.args.class.now.pool c.args.method.now coded owner c.in_ok-copy_of.field-0 frames (some_text (sym owner_is ∙ named)) has;
+      frames = frames_by names c.args.class.now.pool c.args.method.now coded owner c.in_ok-copy_of.field-0 frames (same_Some _ _ (sym owner_is ∙ named)) has;
       numbers = numbered;
       uses = search rules;
     }

@@ -1,16 +1,20 @@
-use Rattle.std.proofs.Common.{◌≤◌, length, codes, rules, All}
+use Rattle.std.proofs.Common.{codes, rules, All}
+use Rattle.jc_base.specs.Outside.{most_read}
 use Rattle.jc_pool.specs.Pool.{PoolValue}
 use Rattle.jc_class.specs.declared.class_file.Member.{Member}
 use Rattle.jc_body.specs.declared.coded.Coded.{Coded}
 use Rattle.jc_body.specs.Coded.{IsCoded}
 use Rattle.jc_body.proofs.ReadingLaws.{front_refusal}
 use Rattle.jc_body.proofs.SizeLaws.{AreShort, items_short, starts_of, insns_short, starts_within}
-use Rattle.jc_body.proofs.TablesLaws.{each_text}
+use Rattle.jc_body.proofs.TablesLaws.{IsBounded, each_text}
 use Rattle.jc_body.proofs.reading.body_of.Goals as goal
 
 -- what the Code attribute holds is as short as the attribute
-short : (pool : PoolValue) (method : Member) (coded : Coded) → All (λ a. length a.body ≤ 67108864) method.attributes → IsCoded pool method coded → AreShort pool 67108864 coded.items
-short pool method coded sizes is = items_short pool 67108864 is.items.bytes coded.items (each_text (λ body. length body ≤ 67108864) pool (codes "Code") method.attributes sizes is.items.bytes is.items.code.single) is.items.text.text
+short : (pool : PoolValue) (method : Member) (coded : Coded) → All (λ a. IsBounded a.body) method.attributes → IsCoded pool method coded
+    → AreShort pool most_read coded.items
+short pool method coded sizes is =
+    let bytes = each_text IsBounded pool (codes "Code") method.attributes sizes is.items.bytes is.items.code.single in
+    items_short pool most_read is.items.bytes coded.items bytes is.items.text.text
 
 pub numbers_of-requires-clause-starts : goal.numbers_of-requires-clause-starts
 numbers_of-requires-clause-starts c = starts_of c.args.class.now.pool c.args.method.now c.args.coded c.requires.coded

@@ -1,10 +1,10 @@
-use Rattle.std.proofs.Common.{◌≡◌, ◌∙◌, List, ℕ, rules, subst, sym}
+use Rattle.std.proofs.Common.{◌∙◌, List, ℕ, rules, subst, sym}
 use Rattle.std.proofs.lemmas.Result.{err_from_is_err_and}
+use Rattle.std.proofs.lemmas.Option.{same_Some}
 use Rattle.jc_body.specs.Answers.{IsFrameRefusal, Said}
 use Rattle.jc_body.specs.BodyOf.{HasParts}
 use Rattle.jc_body.specs.First.{AreNowhere}
 use Rattle.jc_body.specs.Faults.{faults}
-use Rattle.jc_body.proofs.AnswerLaws.{some_text}
 use Rattle.jc_body.proofs.ReadingLaws.{table_refusal, frame_refusals, nothing_wrong, tables_are}
 use Rattle.jc_body.proofs.reading.with_tables.Goals as goal
 
@@ -15,7 +15,7 @@ returns-in_default-clause-refused c = λ owner owner_is.
 pub returns-in_err-frames-clause-refused : goal.returns-in_err-frames-clause-refused
 returns-in_err-frames-clause-refused c = λ owner owner_is.
     let p = err_from_is_err_and c.from_residual-in_err-frames.result c.from_residual-in_err-frames.ensures.1 in
-    let same = some_text (sym c.class_name_at-owner.ensures.text ∙ owner_is) in
+    let same = same_Some _ _ (sym c.class_name_at-owner.ensures.text ∙ owner_is) in
     let said = subst (λ (o : List ℕ). Said c.in_err-frames.field-0.0 (IsFrameRefusal c.args.class.now.pool o c.args.method.now c.args.coded c.args.number)) same c.in_err-frames.ensures.refused in
     rw (p.1, p.2) (frame_refusals c.args.class.now.major c.args.class.now.pool owner c.args.method.now c.args.number c.args.coded c.requires.coded c.in_err-frames.field-0.0 c.in_ok-tables.field-0 c.in-Some.tables c.requires.before (search rules) (search rules) said)
 
@@ -32,7 +32,7 @@ returns-clause-body c =
       coded = c.args.coded;
       is = c.requires.coded;
       no_subroutine = none.0;
-      no_fault = subst (λ (o : List ℕ). AreNowhere (faults class.major class.pool o c.args.method.now)) (some_text (sym c.class_name_at-owner.ensures.text ∙ parts.owner)) none.1;
+      no_fault = subst (λ (o : List ℕ). AreNowhere (faults class.major class.pool o c.args.method.now)) (same_Some _ _ (sym c.class_name_at-owner.ensures.text ∙ parts.owner)) none.1;
       tables = c.in-Some.tables;
       are_tables = tables_are class.major class.pool owner c.args.method.now c.args.number c.args.coded c.requires.coded c.in_ok-tables.field-0 c.in-Some.tables (search rules) (search rules);
       parts = parts;

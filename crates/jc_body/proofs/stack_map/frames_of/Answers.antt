@@ -1,12 +1,9 @@
-use Rattle.std.proofs.Common.{◌≤◌, ℕ, List, [], length, codes, rules, refl, sym, ◌∙◌, ap, arith}
+use Rattle.std.proofs.Common.{[], codes, rules, ◌∙◌, ap}
 use Rattle.jc_body.specs.Attributes.{bodies_of}
 use Rattle.jc_body.proofs.SizeLaws.{insns_short}
 use Rattle.jc_body.proofs.StackMapLaws.{no_frames, several_tables}
-use Rattle.jc_body.proofs.TablesLaws.{texts, each_body}
+use Rattle.jc_body.proofs.TablesLaws.{IsBounded, texts, each_body}
 use Rattle.jc_body.proofs.stack_map.frames_of.Goals as goal
-
-abbrev IsShortText : List ℕ → Type 0
-IsShortText body = length body ≤ 67108864
 
 pub is_too_wide-requires : goal.is_too_wide-requires
 is_too_wide-requires c = insns_short c.args.pool.now c.args.method.now c.args.coded.now c.requires.coded
@@ -18,7 +15,7 @@ returns-in-empty-2-clause-frames c =
 
 pub frames_of_table-requires-clause-short : goal.frames_of_table-requires-clause-short
 frames_of_table-requires-clause-short c =
-    each_body IsShortText c.args.pool.now (codes "StackMapTable") c.args.coded.now.items.attributes c.requires.sizes c.as_slice.result.now (ap texts c.as_slice.ensures.value ∙ (c.in_ok-tables.ensures ∙ ap (bodies_of c.args.pool.now (codes "StackMapTable")) c.deref.ensures)) 0 (record { ref_ptr = (0, 0); now = [] }) (search rules)
+    each_body IsBounded c.args.pool.now (codes "StackMapTable") c.args.coded.now.items.attributes c.requires.sizes c.as_slice.result.now (ap texts c.as_slice.ensures.value ∙ (c.in_ok-tables.ensures ∙ ap (bodies_of c.args.pool.now (codes "StackMapTable")) c.deref.ensures)) 0 (record { ref_ptr = (0, 0); now = [] }) (search rules)
 
 pub returns-clause-refused : goal.returns-clause-refused
 returns-clause-refused c =

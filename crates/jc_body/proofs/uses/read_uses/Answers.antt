@@ -1,7 +1,6 @@
 use Rattle.std.proofs.Common.{◌∙◌}
 use Rattle.std.proofs.lemmas.List.Filters.{dedup_is}
 use Rattle.std.proofs.Math.Dec.{eqb}
-use Rattle.jc_body.specs.Used.{uses_of}
 use Rattle.jc_body.proofs.UsesLaws.{listed_ok}
 use Rattle.jc_body.proofs.uses.read_uses.Goals as goal
 
