@@ -1,0 +1,119 @@
+-- What a body uses, of a class whose pool was read from bytes: few entries, whose texts are short.
+use Rattle.std.proofs.Common.{◌≡◌, ◌⊎◌, inl, inr, ℕ, suc, ◌+◌, ◌<◌, ◌≤◌, Bool, true, false, cond, List, [], ◌∷◌, length, get_or, Option, Some, None, slice_get, refl, sym, ◌∙◌, subst, arith, nat_eq}
+use Rattle.std.specs.Prelude.{All}
+use Rattle.std.specs.List.{list_any}
+use Rattle.std.specs.Option.{option_and_then}
+use Rattle.std.proofs.lemmas.Bool.{cases_lt}
+use Rattle.std.proofs.lemmas.Option.{none-some, same_Some, slice_get_within, get_or_from_slice_get}
+use Rattle.jc_base.specs.WellMade.{HasShortTexts, AreRisingFrom}
+use Rattle.jc_base.specs.declared.body.Use.{Use}
+use Rattle.jc_base.specs.declared.body.What.{What}
+use Rattle.jc_base.specs.declared.body.What.TheVariants as whats
+use Rattle.jc_base.proofs.UsedLaws.{entry_used}
+use Rattle.jc_pool.specs.declared.constant.ConstText.{ConstText}
+use Rattle.jc_pool.specs.declared.constant.ConstText.TheVariants as constants
+use Rattle.jc_pool.specs.Lookup.{Member as PoolMember, member_of, class_name_of, const_of}
+use Rattle.jc_pool.specs.Pool.{PoolValue}
+use Rattle.jc_body.specs.BodyOf.{AreUsesOf}
+use Rattle.jc_body.specs.Sizes.{IsOfShortTexts}
+use Rattle.jc_body.specs.Standing.{Found, of_member, of_class, of_constant, found_in, found_at, what_of_member, what_of_constant, what_of, what_at}
+use Rattle.jc_instrument.proofs.PoolTextLaws.{IsReadPool, class_short, member_short, none_past}
+
+-- ---- how many there are
+
+-- the places rise, so there are no more than the last one's number and one
+rising_few : (first most : ℕ) (uses : List Use) → AreRisingFrom first uses
+    → ((k : ℕ) (u : Use) → slice_get uses k ≡ Some u → u.place < most) → first ≤ most → first + length uses ≤ most
+rising_few first most [] rising within inside = omega (arith, inside)
+rising_few first most (u ∷ uses) rising within inside =
+    let here = within 0 u refl in
+    let rest = rising_few (u.place + 1) most uses rising.1 (λ k v at. within (suc k) v at) (omega (arith, here)) in
+    let above = rising.0 in
+    omega (arith, rest, above)
+
+-- ---- their texts
+
+member_what_short : (m : PoolMember) → IsOfShortTexts (of_member m) → HasShortTexts (what_of_member m)
+member_what_short m short = by (nat_eq m.tag 9) (nat_eq m.tag 17) (nat_eq m.tag 18)
+  where
+    by : (field computed call : Bool)
+        → HasShortTexts (cond field (whats.Field m.class m.name m.desc)
+        (cond computed (whats.Computed m.desc) (cond call (whats.Call m.name m.desc) (whats.Method m.class m.name m.desc))))
+    by true computed call = (short.class, short.name, short.desc)
+    by false true call = short.desc
+    by false false true = (short.name, short.desc)
+    by false false false = (short.class, short.name, short.desc)
+
+constant_short : (c : ConstText) (what : What) → what_of_constant c ≡ Some what → HasShortTexts what
+constant_short (constants.Int value) what is = subst HasShortTexts (same_Some _ what is) tt
+constant_short (constants.Long value) what is = subst HasShortTexts (same_Some _ what is) tt
+constant_short constants.Float what is = subst HasShortTexts (same_Some _ what is) tt
+constant_short constants.Double what is = subst HasShortTexts (same_Some _ what is) tt
+constant_short constants.Text what is = subst HasShortTexts (same_Some _ what is) tt
+constant_short constants.Handle what is = subst HasShortTexts (same_Some _ what is) tt
+constant_short constants.MethodKind what is = subst HasShortTexts (same_Some _ what is) tt
+constant_short c what is = absurd (none-some what is)
+
+what_short : (found : Found) (what : What) → IsOfShortTexts found → what_of found ≡ Some what → HasShortTexts what
+what_short (of_member m) what short is = subst HasShortTexts (same_Some _ what is) (member_what_short m short)
+what_short (of_class name) what short is = subst HasShortTexts (same_Some _ what is) short
+what_short (of_constant c) what short is = constant_short c what is
+
+module _ (pool : PoolValue) (read : IsReadPool pool) where
+  abbrev WhereFound : Option Found → Type 0
+  WhereFound o = (found : Found) → o ≡ Some found → IsOfShortTexts found
+
+  found_short : (place : ℕ) (m : Option PoolMember) (name : Option (List ℕ)) (c : Option ConstText) → member_of pool place ≡ m
+      → class_name_of pool place ≡ name → WhereFound (found_in m name c)
+  found_short place (Some m) name c is named found e =
+      subst IsOfShortTexts (same_Some (of_member m) found e) (member_short pool read.small place m is)
+  found_short place None (Some name) c is named found e =
+      subst IsOfShortTexts (same_Some (of_class name) found e) (class_short pool read.small place name named)
+  found_short place None None (Some c) is named found e = subst IsOfShortTexts (same_Some (of_constant c) found e) tt
+  found_short place None None None is named found e = absurd (none-some found e)
+
+  what_at_short : (place : ℕ) (what : What) → what_at pool place ≡ Some what → HasShortTexts what
+  unfolding found_at
+  what_at_short place what is = by (found_at pool place)
+      (found_short place (member_of pool place) (class_name_of pool place) (const_of pool place) refl refl) is
+    where
+      by : (o : Option Found) → WhereFound o → option_and_then what_of o ≡ Some what → HasShortTexts what
+      by None short e = absurd (none-some what e)
+      by (Some found) short e = what_short found what (short found refl) e
+
+  what_at_within : (place : ℕ) (what : What) → what_at pool place ≡ Some what → place < length pool
+  unfolding found_at
+  what_at_within place what is = by (cases_lt place (length pool))
+    where
+      by : (place < length pool) ⊎ (length pool ≤ place) → place < length pool
+      by (inl within) = within
+      by (inr past) =
+          let none = none_past pool place past in
+          absurd (none-some what (sym (λ i. option_and_then what_of (found_in (none.0 i) (none.1 i) (none.2 i))) ∙ is))
+
+  module _ (places : List ℕ) (uses : List Use) (are : AreUsesOf pool places uses) where
+    stands : (k : ℕ) (d : Use) → k < length uses → what_at pool (get_or uses k d).place ≡ Some (get_or uses k d).what
+    stands k d less =
+        let u = get_or uses k d in
+        (cond_what (list_any (nat_eq u.place) places) (what_at pool u.place) u.what
+        (sym (are.each u.place) ∙ entry_used 0 uses are.rising k d less))
+      where
+        cond_what : (t : Bool) (o : Option What) (what : What) → cond t o None ≡ Some what → o ≡ Some what
+        cond_what true o what e = e
+        cond_what false o what e = absurd (none-some what e)
+
+    pub uses_short : All (λ u. HasShortTexts u.what) uses
+    uses_short k d less = what_at_short (get_or uses k d).place (get_or uses k d).what (stands k d less)
+
+    pub uses_few : length uses ≤ 65536
+    uses_few =
+        let most = rising_few 0 (length pool) uses are.rising within (omega arith) in
+        let few = read.few in
+        omega (arith, most, few)
+      where
+        within : (k : ℕ) (u : Use) → slice_get uses k ≡ Some u → u.place < length pool
+        within k u at =
+            let less = slice_get_within uses k u at in
+            let is = get_or_from_slice_get uses k u u at in
+            subst (λ (v : Use). v.place < length pool) is
+            (what_at_within (get_or uses k u).place (get_or uses k u).what (stands k u less))

@@ -1,0 +1,50 @@
+//! The kind check of the bodies of a class.
+ghost use Rattle.std.specs.Prelude.{length, All, IfOk, IfErr};
+ghost use Rattle.jc_base.specs.Held.{Grows, AreNumberedFrames};
+ghost use Rattle.jc_base.specs.WellMade.{IsWellMade};
+ghost use Rattle.jc_kinds.specs.Answers.{Said};
+ghost use Rattle.jc_kinds.specs.Checked.{Checked};
+ghost use Rattle.jc_instrument.specs.Steps.{IsFrameRefusal, KeepsClash, IsMissingIn};
+
+use crate::kept::keep_first;
+use jc_base::{Body, Fail, Names, Refusal, RefusalKind};
+use jc_kinds::states;
+use std::alloc::Global;
+
+/// Checks one more body, where `kept` is the first clash of the bodies in front of it. A missing frame ends the check.
+fn check_next(
+    alloc: Global,
+    body: &Body,
+    names: &mut Names,
+    kept: Option<Refusal>,
+) -> Result<Option<Refusal>, Fail<Refusal>>
+    requires made { IsWellMade body.now }
+    requires frames { AreNumberedFrames (length names.old) body.now.frames }
+    ensures kept { IfOk result (KeepsClash names.new body.now kept) }
+    ensures refused { IfErr result (λ e. Said e (IsMissingIn body.now)) }
+    ensures grows { Grows names.old names.new }
+{
+    match states(alloc, body, names) {
+        Ok(_) => Ok(kept),
+        Err(fail) => keep_first(kept, RefusalKind::FrameMissing, fail),
+    }
+}
+
+/// Whether each body passes the kind check (JVM Specification 4.10.1). A missing frame of any body is refused before
+/// a clash of an earlier one.
+pub fn check_bodies(alloc: Global, bodies: &[Body], names: &mut Names) -> Result<(), Fail<Refusal>>
+    requires made { All IsWellMade bodies.now }
+    requires frames { All (λ b. AreNumberedFrames (length names.old) b.frames) bodies.now }
+    ensures checked { IfOk result (λ _. All (Checked names.new) bodies.now) }
+    ensures refused { IfErr result (λ e. Said e (IsFrameRefusal names.new bodies.now)) }
+    ensures grows { Grows names.old names.new }
+{
+    let mut clash = None;
+    'checking: for body in bodies {
+        clash = check_next(alloc, body, names, clash)?;
+    }
+    match clash {
+        Some(refusal) => Err(Fail::Said(refusal)),
+        None => Ok(()),
+    }
+}

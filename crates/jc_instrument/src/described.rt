@@ -1,0 +1,90 @@
+//! What of a class file a report is made from.
+ghost use Rattle.std.specs.Prelude.{◌≡◌, ◌≤◌, Some, length, map, All, IfOk};
+ghost use Rattle.jc_base.specs.WellMade.{IsWellMade};
+ghost use Rattle.jc_class.specs.ClassFormat.{HasClass, HasSuper};
+ghost use Rattle.jc_class.specs.Writable.{IsClassFile};
+ghost use Rattle.jc_pool.specs.Lookup.{class_name_of};
+ghost use Rattle.jc_base.specs.Outside.{most_read};
+ghost use Rattle.jc_instrument.specs.Analysis.{super_name_of, plans_of, all_probes, all_insns_and_arms, Describes, IsPlanned};
+
+use crate::plans::{Planned, plans_of};
+use crate::size::are_short;
+use jc_base::{Analysed, Body, Bytes, List, Memory};
+use jc_class::{ClassFile, class_id};
+use jc_pool::Pool;
+use std::alloc::Global;
+
+/// The name of the class at a place that has one.
+fn class_name_at(alloc: Global, pool: &Pool, place: u16) -> Result<Bytes, Memory>
+    requires { HasClass pool.now place }
+    ensures { IfOk result (λ name. class_name_of pool.now place ≡ Some name) }
+{
+    Ok(Bytes::copy_of(alloc, pool.class_at(place).unwrap_or(&[]))?)
+}
+
+/// The name of the superclass, if there is one.
+fn super_name_of(alloc: Global, pool: &Pool, place: u16) -> Result<Option<Bytes>, Memory>
+    requires { HasSuper pool.now place }
+    ensures { IfOk result (λ name. name ≡ super_name_of pool.now place) }
+{
+    if place == 0 {
+        return Ok(None);
+    }
+    Ok(Some(class_name_at(alloc, pool, place)?))
+}
+
+/// The names of the classes at places that have one.
+fn class_names_at(alloc: Global, pool: &Pool, places: &[u16]) -> Result<List<Bytes>, Memory>
+    requires { All (HasClass pool.now) places.now }
+    ensures { IfOk result (λ names. map Some names ≡ map (class_name_of pool.now) places.now) }
+{
+    let mut names = List::new(alloc);
+    'naming: for place in places {
+        names.push(class_name_at(alloc, pool, *place)?)?;
+    }
+    Ok(names)
+}
+
+/// The plans of the bodies of a class. Bodies that together have more instructions and arms of switches than a file
+/// that is read may have bytes count as want of memory: no file has as many.
+fn bounded_plans(alloc: Global, bodies: &[Body]) -> Result<Planned, Memory>
+    requires made { All IsWellMade bodies.now }
+    requires few { length bodies.now ≤ 65535 }
+    ensures few { IfOk result (λ _. all_insns_and_arms bodies.now ≤ most_read) }
+    ensures plans { IfOk result (λ planned. planned.plans ≡ plans_of bodies.now) }
+    ensures probes { IfOk result (λ planned. planned.probes ≡ all_probes bodies.now) }
+{
+    if !are_short(bodies) {
+        return Err(Memory);
+    }
+    plans_of(alloc, bodies)
+}
+
+/// The class, with these bodies and their plans.
+pub fn described(
+    alloc: Global,
+    bytes: &[u8],
+    class: &ClassFile,
+    bodies: List<Body>,
+) -> Result<Analysed, Memory>
+    requires class { IsClassFile class.now }
+    requires made { All IsWellMade bodies }
+    requires few { length bodies ≤ 65535 }
+    ensures described { IfOk result (Describes bytes.now class.now) }
+    ensures bodies { IfOk result (λ a. a.bodies ≡ bodies) }
+    ensures planned { IfOk result IsPlanned }
+{
+    let pool = &class.pool;
+    let Planned { plans, probes } = bounded_plans(alloc, &bodies)?;
+    Ok(Analysed {
+        id: class_id(bytes),
+        name: class_name_at(alloc, pool, class.this_class)?,
+        version: class.major,
+        flags: class.flags,
+        super_name: super_name_of(alloc, pool, class.super_class)?,
+        interfaces: class_names_at(alloc, pool, &class.interfaces)?,
+        bodies,
+        plans,
+        probes,
+    })
+}
