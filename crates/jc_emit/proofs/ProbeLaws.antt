@@ -1,0 +1,224 @@
+-- Each probe of a twin is that of a probed edge, and each probed edge has one.
+use Rattle.std.proofs.Common.{◌≡◌, ◌⊎◌, inl, inr, ⊎_elim, ℕ, zero, suc, pos, ◌+◌, ◌-◌, ◌<◌, Bool, true, false, List, [], ◌∷◌, length, map, Option, Some, None, nat_le, if◌then◌else◌, refl, sym, ap, ◌∙◌, subst, arith}
+use Rattle.std.specs.Prelude.{slice_get, Contains, nat_abs}
+use Rattle.std.proofs.lemmas.Option.{slice_get_within, same_Some}
+use Rattle.jc_base.specs.Flow.{flow_of, targets_of, jump_target}
+use Rattle.jc_base.specs.Widened.{goto}
+use Rattle.jc_base.specs.WellMade.{IsCode}
+use Rattle.jc_base.specs.declared.insn.Insn.{Insn}
+use Rattle.jc_base.specs.declared.insn.Insn.TheVariants as insns
+use Rattle.jc_base.specs.declared.insn.Flow.{Flow}
+use Rattle.jc_base.specs.declared.insn.Flow.TheVariants as flows
+use Rattle.jc_base.specs.declared.body.Body.{Body}
+use Rattle.jc_base.proofs.FirstSeenLaws.{contains_none, contains_one, contains_cases}
+use Rattle.jc_plan.specs.declared.branch.Branch.{Branch}
+use Rattle.jc_plan.specs.declared.branch.Way.TheVariants as ways
+use Rattle.jc_plan.specs.Edges.{sequence, jump, exit, branches_by}
+use Rattle.jc_plan.specs.Probed.{probe_of, id_if, is_probed, id_of}
+use Rattle.jc_plan.proofs.OneIdLaws.{one_edge}
+use Rattle.jc_plan.proofs.FlowLaws.{IsAt, all_at}
+use Rattle.jc_plan.proofs.ListedLaws.{all_listed}
+use Rattle.jc_emit.specs.Sizes.{insn_at, late_by, late_probe, arms_by, arms_at, hop_size}
+use Rattle.jc_emit.specs.Marks.{Marks, IsProbe, aload, invokestatic, push, image_place, land_place, lead_place}
+use Rattle.jc_emit.specs.TwinCode.{to_of, Sentences, IsTwinCode, ProbedEdge, InProbe, IsWideGoto, IsAdded, HasGotoBehind, HasTest, HasHop, HasArm, HasArms, IsProbeOf, IsProbeIn, arm, probe_place, probe_place_by}
+use Rattle.jc_emit.proofs.Others.{Arms, Agrees, agrees_first, agrees_rest, arms_by_list, at_found, tests_target, jumps_target}
+
+-- ---- ids
+
+-- the number that an instruction pushes
+abbrev number_of : Insn → ℕ
+number_of (insns.Simple op) = op - 3
+number_of (insns.Push op value) = nat_abs value
+number_of _ = 0
+
+number_pushed : (n : ℕ) → number_of (push n) ≡ n
+number_pushed n = by (nat_le n 5) (nat_le n 127)
+  where
+    by : (a c : Bool) → number_of (if a then insns.Simple (3 + n) else if c then insns.Push 16 (pos n) else insns.Push 17 (pos n)) ≡ n
+    by true c = omega arith
+    by false true = refl
+    by false false = refl
+
+same_number : (n k : ℕ) → push n ≡ push k → n ≡ k
+same_number n k e = sym (number_pushed n) ∙ ap number_of e ∙ number_pushed k
+
+-- an edge that has an id is probed, and the id is its own
+probed_is : (b : Body) (first id : ℕ) (x : Branch) → probe_of b first x ≡ Some id → (is_probed b x ≡ true) × (id_of b first x ≡ id)
+probed_is b first id x e = by (is_probed b x) refl e
+  where
+    by : (t : Bool) → is_probed b x ≡ t → id_if t (id_of b first x) ≡ Some id → (is_probed b x ≡ true) × (id_of b first x ≡ id)
+    by true is e = (is, same_Some (id_of b first x) id e)
+    by false is e = cc
+
+-- ---- what stands at a place that isn't own
+
+module _ (b : Body) (first : ℕ) (wide : Bool) (code : List Insn) (m : Marks) (image land lead : ℕ → ℕ) (call : ℕ) (is_code : IsCode b.code) (s : Sentences b first wide code m image land lead call) where
+  abbrev old : ℕ → Insn
+  old i = insn_at b.code i
+
+  abbrev Edge : Type 0
+  Edge = ProbedEdge b first wide code m image land lead
+
+  abbrev place : Branch → ℕ
+  place x = probe_place b first wide code m image land lead x
+
+  -- a goto stands there
+  abbrev IsGoto : ℕ → Type 0
+  IsGoto q = (to : ℕ) × (slice_get code q ≡ Some (goto to))
+
+  hop_goto : (q to : ℕ) → HasHop b first wide code m image land lead q to → IsGoto q
+  hop_goto q to h = (land to, h.insn_is)
+
+  arms_goto : (i : ℕ) (whole : ℕ → ℕ) (here : ℕ) (xs : List Branch) → Arms i xs → Agrees (probe_of b first) land whole here xs
+      → HasArms b first wide code m image land lead here xs → (x : Branch) (id : ℕ) → Contains xs x → probe_of b first x ≡ Some id
+      → IsGoto (whole (to_of x) + 4)
+  arms_goto i whole here [] arms a h x id c some = absurd (contains_none x c)
+  arms_goto i whole here (y ∷ xs) arms a h x id c some =
+      ⊎_elim
+      (λ same.
+      let yes : probe_of b first y ≡ Some id = ap (probe_of b first) same ∙ some in
+      let arm_has = subst (λ o. HasArm b first wide code m image land lead here (to_of y) o) yes h.0 in
+      let at = agrees_first (probe_of b first) land whole here id y xs a yes in
+      subst (λ z. IsGoto (whole (to_of z) + 4)) same (subst (λ q. IsGoto (q + 4)) (sym at) (hop_goto (here + 4) (to_of y) arm_has.1)))
+      (λ later.
+      arms_goto i whole (here + hop_size (probe_of b first y)) xs arms.3 (agrees_rest (probe_of b first) land whole here y xs arms.0 a) h.1 x id later some)
+      (contains_cases y xs x c)
+
+  -- the goto behind a probe that has one
+  edge_goto : (i : ℕ) (flow : Flow) (x : Branch) (id : ℕ) → i < length b.code → flow_of (old i) ≡ flow
+      → Contains (branches_by flow i (targets_of (old i))) x → probe_of b first x ≡ Some id
+      → HasGotoBehind b first wide code m image land lead x.way flow
+      → IsGoto (probe_place_by b first wide code m image land lead x.way flow i + 4)
+  edge_goto i flows.GoesOn x id lt e c some behind =
+      absurd (subst (λ z. HasGotoBehind b first wide code m image land lead z.way flows.GoesOn) (sym (contains_one (sequence i) x c)) behind)
+  edge_goto i flows.Tests x id lt e c some behind =
+      ⊎_elim
+      (λ same. absurd (subst (λ z. HasGotoBehind b first wide code m image land lead z.way flows.Tests) (sym same) behind))
+      (λ later.
+      let one = subst (λ ts. Contains (map (jump i) ts) x) (tests_target (old i) e) later in
+      let same = contains_one (jump i (jump_target (old i))) x one in
+      let late : late_probe b first i ≡ Some id = ap (late_by (probe_of b first) i (old i)) e ∙ ap (probe_of b first) same ∙ some in
+      subst (λ z. IsGoto (probe_place_by b first wide code m image land lead z.way flows.Tests i + 4)) same
+      (hop_goto _ (jump_target (old i)) (s.jumps.hops i id (lt, e) late)))
+      (contains_cases (sequence i) (map (jump i) (targets_of (old i))) x c)
+  edge_goto i flows.Jumps x id lt e c some behind =
+      let one = subst (λ ts. Contains (map (jump i) ts) x) (jumps_target (old i) e) c in
+      let same = contains_one (jump i (jump_target (old i))) x one in
+      absurd (subst (λ z. HasGotoBehind b first wide code m image land lead z.way flows.Jumps) (sym same) behind)
+  edge_goto i flows.Switches x id lt e c some behind =
+      let arms = arms_by_list b i in
+      let listed : Contains (arms_at b.code i) x = subst (λ f. Contains (arms_by i (old i) f) x) (sym e) (subst (λ f. Contains (branches_by f i (targets_of (old i))) x) (sym e) c) in
+      let way = way_is i (arms_at b.code i) arms x listed in
+      subst (λ w. IsGoto (probe_place_by b first wide code m image land lead w flows.Switches i + 4)) (sym way)
+      (arms_goto i (arm b first wide code m image land lead i) (image i + 1) (arms_at b.code i) arms (λ y d. refl) (s.switches.arms i (lt, e)) x id listed some)
+    where
+      way_is : (i : ℕ) (xs : List Branch) → Arms i xs → (x : Branch) → Contains xs x → x.way ≡ ways.Switches (to_of x)
+      way_is i [] arms x c = absurd (contains_none x c)
+      way_is i (y ∷ xs) arms x c =
+          ⊎_elim (λ same. subst (λ z. z.way ≡ ways.Switches (to_of z)) same arms.2) (λ later. way_is i xs arms.3 x later) (contains_cases y xs x c)
+  edge_goto i flows.Returns x id lt e c some behind =
+      absurd (subst (λ z. HasGotoBehind b first wide code m image land lead z.way flows.Returns) (sym (contains_one (exit i) x c)) behind)
+  edge_goto i flows.Throws x id lt e c some behind =
+      absurd (subst (λ z. HasGotoBehind b first wide code m image land lead z.way flows.Throws) (sym (contains_one (exit i) x c)) behind)
+
+  behind_edge : (e : Edge) → HasGotoBehind b first wide code m image land lead e.branch.way (flow_of (old e.branch.at))
+      → IsGoto (place e.branch + 4)
+  behind_edge e behind =
+      let a = at_found b first wide call is_code e.branch e.listed in
+      let same = branch_at a.at e.branch a.listed in
+      edge_goto e.branch.at (flow_of (old e.branch.at)) e.branch e.id
+      (subst (λ i. i < length b.code) (sym same) a.within) refl
+      (subst (λ i. Contains (branches_by (flow_of (old i)) i (targets_of (old i))) e.branch) (sym same) a.listed) e.probed behind
+    where
+      branch_at : (i : ℕ) (x : Branch) → Contains (branches_by (flow_of (old i)) i (targets_of (old i))) x → x.at ≡ i
+      branch_at i x c =
+          let flow = flow_of (old i) in let targets = targets_of (old i) in
+          (all_listed (IsAt i) (branches_by flow i targets) x (all_at i flow targets) c).at
+
+  -- ---- conditional jumps of the wide layout
+
+  test_goto : (w : Bool) (i : ℕ) (insn : Insn) (on : ℕ) → w ≡ true → HasTest b first wide code m image land lead w i insn on
+      → IsGoto (image i + 1)
+  test_goto false i insn on e h = cc
+  test_goto true i insn on e h = (jump_target insn, h.1.insn_is)
+
+  wide_goto : (q : ℕ) → IsWideGoto b first wide code m image land lead q → IsGoto q
+  wide_goto q w = subst IsGoto (sym w.place) (by (late_probe b first w.test) refl)
+    where
+      by : (o : Option ℕ) → late_probe b first w.test ≡ o → IsGoto (image w.test + 1)
+      by None none = test_goto wide w.test _ _ w.layout (s.jumps.tests w.test w.tests none)
+      by (Some id) some = test_goto wide w.test _ _ w.layout (s.jumps.inverses w.test id w.tests some)
+
+  -- ---- probes
+
+  no_probe : (q id at : ℕ) → IsGoto q → IsProbe code m b.arg_slots q id at → ⊥
+  no_probe q id at g p = let e = same_Some (goto g.0) (aload b.arg_slots) (sym g.1 ∙ p.array.insn_is) in cc
+
+  in_prelude : (q id at : ℕ) → q < 2 → IsProbe code m b.arg_slots q id at → ⊥
+  in_prelude zero id at lt p =
+      let e = same_Some (invokestatic call) (aload b.arg_slots) (sym s.prelude.fetch.insn_is ∙ p.array.insn_is) in cc
+  in_prelude (suc zero) id at lt p =
+      let e = same_Some 1 0 (sym s.prelude.store.extra_is ∙ p.array.extra_is) in omega (arith, e)
+  in_prelude (suc (suc q)) id at lt p = omega (arith, lt)
+
+  -- how many values a probe has pushed tells which of its instructions this is
+  extra_at : (e : Edge) (step : ℕ) → step < 4 → slice_get m.extra (place e.branch + step) ≡ Some step
+  extra_at e zero lt = let z : place e.branch + 0 ≡ place e.branch = omega arith in
+      ap (slice_get m.extra) z ∙ (s.nothing_else.probes e).array.extra_is
+  extra_at e (suc zero) lt = (s.nothing_else.probes e).number.extra_is
+  extra_at e (suc (suc zero)) lt = (s.nothing_else.probes e).one.extra_is
+  extra_at e (suc (suc (suc zero))) lt = (s.nothing_else.probes e).store.extra_is
+  extra_at e (suc (suc (suc (suc step)))) lt = absurd (omega (arith, lt))
+
+  in_probe : (q id at : ℕ) → IsProbe code m b.arg_slots q id at → InProbe b first wide code m image land lead q
+      → IsProbeOf b first wide code m image land lead q id at
+  in_probe q id at p i =
+      let k = s.nothing_else.probes i.edge in
+      let first_step = same_Some i.step 0 (sym (extra_at i.edge i.step i.four) ∙ sym (ap (slice_get m.extra) i.place) ∙ p.array.extra_is) in
+      let there = i.place in
+      let here : q ≡ place i.edge.branch = omega (arith, there, first_step) in
+      record {
+        edge = i.edge;
+        id_is = same_number i.edge.id id (same_Some (push i.edge.id) (push id)
+            (sym k.number.insn_is ∙ sym (ap (λ x. slice_get code (x + 1)) here) ∙ p.number.insn_is));
+        place = here;
+        owner = same_Some at _ (sym p.array.at_is ∙ ap (slice_get m.at) here ∙ k.array.at_is);
+      }
+
+  pub probe_found : (q id at : ℕ) → IsProbe code m b.arg_slots q id at → IsProbeOf b first wide code m image land lead q id at
+  probe_found q id at p = by (s.nothing_else.others q (slice_get_within code q (aload b.arg_slots) p.array.insn_is))
+    where
+      by : (q < 2) ⊎ ((slice_get m.own q ≡ Some true) ⊎ IsAdded b first wide code m image land lead q)
+          → IsProbeOf b first wide code m image land lead q id at
+      by (inl low) = absurd (in_prelude q id at low p)
+      by (inr (inl own)) = let e = same_Some false true (sym p.array.own_is ∙ own) in absurd (false_true e)
+        where
+          false_true : false ≡ true → ⊥
+          false_true e = cc
+      by (inr (inr (inl i))) = in_probe q id at p i
+      by (inr (inr (inr (inl h)))) = absurd (no_probe q id at (subst IsGoto (sym h.place) (behind_edge h.edge h.with_goto)) p)
+      by (inr (inr (inr (inr w)))) = absurd (no_probe q id at (wide_goto q w) p)
+
+  pub probe_once : (q r id at to : ℕ) → IsProbe code m b.arg_slots q id at → IsProbe code m b.arg_slots r id to → q ≡ r
+  probe_once q r id at to p k =
+      let e = probe_found q id at p in
+      let f = probe_found r id to k in
+      let x = probed_is b first e.edge.id e.edge.branch e.edge.probed in
+      let y = probed_is b first f.edge.id f.edge.branch f.edge.probed in
+      let same = one_edge b first e.edge.branch f.edge.branch e.edge.listed f.edge.listed x.0 y.0
+      (x.1 ∙ e.id_is ∙ sym f.id_is ∙ sym y.1) in
+      e.place ∙ ap place same ∙ sym f.place
+
+-- ---- in the code of a twin
+
+pub probe_in : (b : Body) (first : ℕ) (wide : Bool) (call : ℕ) (code : List Insn) (m : Marks) → IsCode b.code
+    → IsTwinCode b first wide call code m
+    → (q id at : ℕ) → IsProbe code m b.arg_slots q id at → IsProbeIn b first wide code m q id at
+probe_in b first wide call code m is_code is q id at p =
+    probe_found b first wide code m (image_place m.own) (land_place b first m.own) (lead_place b first m.own) call is_code is q id at p
+
+pub one_probe : (b : Body) (first : ℕ) (wide : Bool) (call : ℕ) (code : List Insn) (m : Marks) → IsCode b.code
+    → IsTwinCode b first wide call code m
+    → (q r id at to : ℕ) → IsProbe code m b.arg_slots q id at → IsProbe code m b.arg_slots r id to → q ≡ r
+one_probe b first wide call code m is_code is q r id at to p k =
+    probe_once b first wide code m (image_place m.own) (land_place b first m.own) (lead_place b first m.own) call is_code is q r id at to p k

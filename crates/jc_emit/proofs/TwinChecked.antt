@@ -1,0 +1,251 @@
+-- The twin of a body that passes the kind check passes it too.
+use Rattle.std.proofs.Common.{◌≡◌, inl, inr, ⊎_elim, ℕ, zero, suc, ◌+◌, ◌-◌, ◌<◌, ◌≤◌, Bool, true, false, List, [], ◌∷◌, length, Option, Some, is_some, refl, sym, ap, ◌∙◌, subst, arith, add-one, nat_eq, if◌then◌else◌}
+use Rattle.std.specs.Prelude.{Contains, codes, ◌≢◌}
+use Rattle.std.proofs.lemmas.Bool.{cases_lt, eqb-false}
+use Rattle.std.proofs.lemmas.Option.{slice_get-get_or, slice_get_within, same_Some}
+use Rattle.std.proofs.lemmas.List.Elements.{All-contains}
+use Rattle.jc_base.specs.Flow.{targets_of, FallsThrough}
+use Rattle.jc_base.specs.InsnUse.{IsClass}
+use Rattle.jc_base.specs.WellMade.{IsHandler, HasUse, IsWellMadeOfAnySize, what_used}
+use Rattle.jc_base.specs.declared.kind.State.{State}
+use Rattle.jc_base.specs.declared.body.Body.{Body}
+use Rattle.jc_base.specs.declared.body.Handler.{Handler}
+use Rattle.jc_base.specs.Held.{Names, Held, object, Seen, seen}
+use Rattle.jc_base.specs.EntryState.{entry_of}
+use Rattle.jc_after.specs.After.{class_in}
+use Rattle.jc_kinds.specs.States.{state_of, after_at}
+use Rattle.jc_kinds.specs.Fits.{FitEach, FitState, FitsThere}
+use Rattle.jc_kinds.specs.Checked.{LeadsTo, FallsInto, Guards, HasFrame, NeedsFrame, IsMissing, caught, at_handler, Checked}
+use Rattle.jc_kinds.specs.Answers.{AreStates}
+use Rattle.jc_after.specs.Shift.{renamed, shifted}
+use Rattle.jc_base.proofs.TestLaws.{none_in}
+use Rattle.jc_kinds.proofs.EntryShiftLaws.{fits_shift}
+use Rattle.jc_emit.specs.Straddling.{NoneStraddles}
+use Rattle.jc_emit.specs.TwinTables.{moved_row}
+use Rattle.jc_emit.specs.TwinFrames.{state_at}
+use Rattle.jc_emit.specs.Twin.{Twin}
+use Rattle.jc_emit.specs.Items.{insn_of, init_call, init_store, segment, lead_of, land_of, image_of}
+use Rattle.jc_emit.proofs.Places.{each_at}
+use Rattle.jc_emit.proofs.Built.{sized, prelude_at}
+use Rattle.jc_emit.proofs.TwinPremises.{Premises, premises, stands, code_long, asked_has, leads_grow, same_use}
+use Rattle.jc_emit.proofs.TwinPlaces.{state_b}
+use Rattle.jc_emit.proofs.TwinStates.{there_fit, fit_there, after_there, all_fit_on, state_fits_same, state_0, state_1, after_0, after_1, E_array}
+use Rattle.jc_emit.proofs.TwinLeads.{framed, landing_frame, all_led, all_landed}
+use Rattle.jc_emit.proofs.TwinSound.{Sound, Near, Fine, segment_fine}
+use Rattle.jc_emit.proofs.PlacedLaws.{contains_map}
+
+module _ (names new_names : Names) (states : List State) (first : ℕ) (wide : Bool) (call : ℕ) (b b' : Body) (p : Premises names new_names states first wide call b b') where
+  abbrev land : ℕ → ℕ
+  land i = land_of b first wide i
+
+  abbrev lead : ℕ → ℕ
+  lead i = lead_of b first wide i
+
+  abbrev moved : Seen → Seen
+  moved s = shifted (image_of b first wide) b.arg_slots s
+
+  abbrev S : ℕ → Seen
+  S i = seen names (state_at states i)
+
+  abbrev N : ℕ → Option Seen
+  N q = state_of new_names b' q
+
+  abbrev SoundAt : ℕ → Type 0
+  SoundAt q = Sound names new_names states first wide call b b' p q
+
+  -- the state behind the call
+  abbrev E1 : Seen
+  E1 = E_array names new_names states first wide call b b' p
+
+  -- ---- the prelude
+
+  call_sound : SoundAt 0
+  call_sound = record {
+    insn = insn_of call b.arg_slots init_call;
+    stands = stands names new_names states first wide call b b' p 0 init_call (prelude_at b first wide).0;
+    before = entry_of b';
+    state_is = state_0 names new_names states first wide call b b' p;
+    after = E1;
+    after_is = after_0 names new_names states first wide call b b' p;
+    next = λ falls. fit_there (N 1) E1 E1 (state_1 names new_names states first wide call b b' p) (state_fits_same E1);
+    stops = λ halts. absurd (halts (inl refl));
+    jumps = λ r c. absurd (none_in r c);
+  }
+
+  store_sound : SoundAt 1
+  store_sound =
+      let some = p.well.code.some in
+      let l = all_led names new_names states first wide call b b' p 0 (omega (arith, some)) in
+      let two : lead 0 ≡ 2 = omega arith in
+      record {
+        insn = insn_of call b.arg_slots init_store;
+        stands = stands names new_names states first wide call b b' p 1 init_store (prelude_at b first wide).1.0;
+        before = E1;
+        state_is = state_1 names new_names states first wide call b b' p;
+        after = moved (entry_of b);
+        after_is = after_1 names new_names states first wide call b b' p;
+        next = λ falls. fit_there (N 2) (moved (entry_of b)) (moved l.before) (ap N (sym two) ∙ l.state_is) (fits_shift (image_of b first wide) b.arg_slots (entry_of b) l.before (l.begins refl));
+        stops = λ halts. absurd (halts (inl refl));
+        jumps = λ r c. absurd (none_in r c);
+      }
+
+  -- ---- each place belongs to an instruction
+
+  record Piece (q : ℕ) : Type 0 where
+    owner : ℕ
+    within : owner < length b.code
+    low : lead owner ≤ q
+    high : q < lead (suc owner)
+
+  piece_of : (n q : ℕ) → n ≤ length b.code → 2 ≤ q → q < lead n → Piece q
+  piece_of zero q le low high = absurd (omega (arith, low, high))
+  piece_of (suc n) q le low high =
+      ⊎_elim (λ lt. piece_of n q (omega (arith, le)) low lt)
+      (λ ge. record { owner = n; within = omega (arith, le); low = ge; high = high })
+      (cases_lt q (lead n))
+
+  near_piece : (q : ℕ) (i : ℕ) → (lt : i < length b.code) → lead i ≤ q → q < lead (suc i)
+      → (w : SoundAt q) × Near names new_names states first wide call b b' p i w.before
+  near_piece q i lt low high =
+      let k = q - lead i in
+      let long = sized b first wide i in
+      let within : k < length (segment b first wide i) = omega (arith, low, high, long) in
+      let place : lead i + k ≡ q = omega (arith, low) in
+      let found = slice_get-get_or (segment b first wide i) k init_call within in
+      subst (λ m. (w : SoundAt m) × Near names new_names states first wide call b b' p i w.before) place
+      (each_at (Fine names new_names states first wide call b b' p i) (lead i) (segment b first wide i) k _ (segment_fine names new_names states first wide call b b' p i lt) found)
+
+  long : length b'.code ≡ lead (length b.code)
+  long = code_long names new_names states first wide call b b' p
+
+  sound : (q : ℕ) → q < length b'.code → SoundAt q
+  sound zero lt = call_sound
+  sound (suc zero) lt = store_sound
+  sound (suc (suc q)) lt =
+      let l = long in
+      let piece = piece_of (length b.code) (suc (suc q)) (omega arith) (omega arith) (omega (arith, lt, l)) in
+      (near_piece (suc (suc q)) piece.owner piece.within piece.low piece.high).0
+
+  -- ---- handlers
+
+  old_row : (h : Handler) → Contains b'.handlers h
+      → (g : Handler) × Contains b.handlers g × (h ≡ moved_row (lead_of b first wide) (land_of b first wide) g)
+  old_row h c =
+      contains_map (moved_row (lead_of b first wide) (land_of b first wide)) b.handlers h (subst (λ l. Contains l h) p.tables.handlers_are c)
+
+  row_is : (g : Handler) → Contains b.handlers g → IsHandler (length b.code) g
+  row_is g c = All-contains (IsHandler (length b.code)) b.handlers g p.well.handlers c
+
+  handler_frame : (g : Handler) → Contains b.handlers g → HasFrame b' (land g.target)
+  handler_frame g c =
+      let f = framed names new_names states first wide call b b' p g.target (row_is g c).target (inr (inl (g, c, refl))) in
+      let a = landing_frame names new_names states first wide call b b' p g.target f in
+      asked_has names new_names states first wide call b b' p (land g.target) a.0 a.1
+
+  -- what the handler finds on the stack is the same
+  same_caught : (g : Handler) → Contains b.handlers g → caught b' (moved_row (lead_of b first wide) (land_of b first wide) g) ≡ caught b g
+  same_caught g c = by (nat_eq g.class 0) refl
+    where
+      by : (t : Bool) → nat_eq g.class 0 ≡ t
+          → (if t then object (codes "java/lang/Throwable") else object (class_in (what_used b'.uses g.class))) ≡ (if t then object (codes "java/lang/Throwable") else object (class_in (what_used b.uses g.class)))
+      by true e = refl
+      by false e =
+          let used = All-contains (λ h. h.class ≢ 0 → HasUse b.uses h.class IsClass) b.handlers g p.well.uses.by_handlers c (eqb-false g.class 0 e) in
+          ap (λ o. object (class_in o)) (same_use names new_names states first wide call b b' p g.class IsClass used)
+
+  caught_stays : (g : Handler) → renamed (image_of b first wide) (caught b g) ≡ caught b g
+  caught_stays g = by (nat_eq g.class 0)
+    where
+      by : (t : Bool)
+          → renamed (image_of b first wide) (if t then object (codes "java/lang/Throwable") else object (class_in (what_used b.uses g.class)))
+          ≡ (if t then object (codes "java/lang/Throwable") else object (class_in (what_used b.uses g.class)))
+      by true = refl
+      by false = refl
+
+  handled : (h : Handler) (q : ℕ) → Guards b' h q → q < length b'.code → FitsThere (at_handler b' h (N q)) (N h.target)
+  handled h q guards lt =
+      let o = old_row h guards.row in
+      let g = o.0 in
+      let e = o.2 in
+      let row = row_is g o.1 in
+      let start : lead g.start ≤ q = let s = guards.start in let m = ap (λ (x : Handler). x.start) e in omega (arith, s, m) in
+      let end : q < lead g.end = let s = guards.end in let m = ap (λ (x : Handler). x.end) e in omega (arith, s, m) in
+      let l = long in
+      let piece = piece_of (length b.code) q (omega arith) (omega (arith, start)) (omega (arith, lt, l)) in
+      let i = piece.owner in
+      let low = piece.low in let high = piece.high in
+      let above : g.start ≤ i = ⊎_elim (λ below. let m = leads_grow names new_names states first wide call b b' p (suc i) g.start below in absurd (omega (arith, m, high, start))) (λ le. le) (cases_lt i g.start) in
+      let below : i < g.end = ⊎_elim (λ lt. lt) (λ le. let m = leads_grow names new_names states first wide call b b' p g.end i le in absurd (omega (arith, m, low, end))) (cases_lt i g.end) in
+      let w = near_piece q i piece.within low high in
+      let target = row.target in
+      let there = all_landed names new_names states first wide call b b' p g.target target in
+      let s : Seen = record { locals = (S i).locals; stack = caught b g ∷ [] } in
+      let before : state_of names b i ≡ Some (S i) = state_b names new_names states first wide call b b' p i piece.within in
+      let fits : FitState s (S g.target) =
+      there_fit (at_handler b g (state_of names b i)) (state_of names b g.target) s (S g.target) (ap (at_handler b g) before) (state_b names new_names states first wide call b b' p g.target target)
+      (p.checked.handlers g i (record { row = o.1; start = above; end = below }) piece.within) in
+      let shifted_fits = fits_shift (image_of b first wide) b.arg_slots s (S g.target) fits in
+      let all : FitState (record { locals = w.0.before.locals; stack = caught b g ∷ [] }) (moved (S g.target)) = record {
+        locals = all_fit_on w.0.before.locals (moved (S i)).locals (moved (S g.target)).locals w.1 shifted_fits.locals;
+        stack = subst (λ (x : Held). FitEach (x ∷ []) (moved (S g.target)).stack) (caught_stays g) shifted_fits.stack;
+      } in
+      let mine : at_handler b' (moved_row (lead_of b first wide) (land_of b first wide) g) (N q) ≡ Some (record { locals = w.0.before.locals; stack = caught b g ∷ [] }) =
+      ap (at_handler b' (moved_row (lead_of b first wide) (land_of b first wide) g)) w.0.state_is
+      ∙ ap (λ (x : Held). Some (record { locals = w.0.before.locals; stack = x ∷ [] })) (same_caught g o.1) in
+      subst (λ (x : Handler). FitsThere (at_handler b' x (N q)) (N x.target)) (sym e)
+      (subst (λ o. FitsThere o (N (land g.target))) (sym mine) (fit_there (N (land g.target)) (record { locals = w.0.before.locals; stack = caught b g ∷ [] }) (moved (S g.target)) there all))
+
+  -- ---- frames
+
+  no_missing : (r : ℕ) → IsMissing b' r → ⊥
+  no_missing r m = by m.needs
+    where
+      by : NeedsFrame b' r → ⊥
+      by (inl j) =
+          let jump = j.1 in
+          let s = sound j.0 (slice_get_within b'.code j.0 jump.insn jump.stands) in
+          let same : jump.insn ≡ s.insn = same_Some jump.insn s.insn (sym jump.stands ∙ s.stands) in
+          m.none (s.jumps r (subst (λ x. Contains (targets_of x) r) same jump.target)).0
+      by (inr (inl t)) =
+          let o = old_row t.0 t.1 in
+          let place : land o.0.target ≡ r = sym (ap (λ (x : Handler). x.target) o.2) ∙ t.2 in
+          m.none (subst (HasFrame b') place (handler_frame o.0 o.1))
+      by (inr (inr f)) = behind r m.within m.none f.0 f.1
+        where
+          behind : (r : ℕ) → r < length b'.code → (HasFrame b' r → ⊥) → r ≢ 0 → (FallsInto b' r → ⊥) → ⊥
+          behind zero lt none not free = not refl
+          behind (suc q) lt none not free =
+              let s = sound q (omega (arith, lt)) in
+              let up = add-one q in
+              none (subst (HasFrame b') up (s.stops (λ falls. free (q, sym up, record { insn = s.insn; stands = s.stands; falls = falls })) (omega (arith, lt))))
+
+  -- ---- the check
+
+  after_is_there : (q : ℕ) (s : SoundAt q) → after_at new_names b' q ≡ Some s.after
+  after_is_there q s = after_there new_names b' q s.before s.after s.state_is s.after_is
+
+  branch_fits : (q r : ℕ) → LeadsTo b' q r → FitsThere (after_at new_names b' q) (N r)
+  branch_fits q r (inl g) =
+      let falls = g.0 in
+      let s = sound q (slice_get_within b'.code q falls.insn falls.stands) in
+      let same : falls.insn ≡ s.insn = same_Some falls.insn s.insn (sym falls.stands ∙ s.stands) in
+      subst (λ o. FitsThere o (N r)) (sym (after_is_there q s)) (subst (λ k. FitsThere (Some s.after) (N k)) (sym g.1) (s.next (subst FallsThrough same falls.falls)))
+  branch_fits q r (inr j) =
+      let s = sound q (slice_get_within b'.code q j.insn j.stands) in
+      let same : j.insn ≡ s.insn = same_Some j.insn s.insn (sym j.stands ∙ s.stands) in
+      subst (λ o. FitsThere o (N r)) (sym (after_is_there q s)) (s.jumps r (subst (λ x. Contains (targets_of x) r) same j.target)).1
+
+  pub twin_checked : Checked new_names b'
+  twin_checked = record {
+    none_missing = no_missing;
+    entry = fit_there (N 0) (entry_of b') (entry_of b') (state_0 names new_names states first wide call b b' p) (state_fits_same (entry_of b'));
+    after = λ q lt. ap is_some (after_is_there q (sound q lt));
+    branches = branch_fits;
+    handlers = handled;
+  }
+
+pub verified : (names new_names : List (List ℕ)) (states : List State) (first : ℕ) (b b' : Body) → IsWellMadeOfAnySize b → Checked names b
+    → AreStates names b states → NoneStraddles b
+    → Twin names new_names states first b b' → Checked new_names b'
+verified names new_names states first b b' well checked are free t =
+    twin_checked names new_names states first t.wide t.call b b' (premises names new_names states first b b' well checked are free t)

@@ -1,0 +1,298 @@
+-- Where frames of a twin stand, and which states they have.
+use Rattle.std.proofs.Common.{◌≡◌, ◌⊎◌, inl, inr, ⊎_elim, ℕ, zero, suc, ◌+◌, ◌<◌, ◌≤◌, Bool, true, false, List, [], ◌∷◌, length, Option, Some, None, refl, sym, ap, ◌∙◌, subst, arith, add-one, if◌then◌else◌, option_and_then}
+use Rattle.std.specs.Prelude.{slice_get, Contains}
+use Rattle.std.proofs.lemmas.Bool.{cases_lt}
+use Rattle.std.proofs.lemmas.Option.{slice_get-get_or, same_Some}
+use Rattle.jc_base.specs.Flow.{flow_of, targets_of, jump_target}
+use Rattle.jc_base.specs.WellMade.{AreFramesFrom}
+use Rattle.jc_base.specs.declared.insn.Insn.{Insn}
+use Rattle.jc_base.specs.declared.insn.Flow.{Flow}
+use Rattle.jc_base.specs.declared.kind.State.{State}
+use Rattle.jc_base.specs.declared.body.Body.{Body}
+use Rattle.jc_base.specs.declared.body.FrameAt.{FrameAt}
+use Rattle.jc_base.specs.Held.{Names, Seen, seen}
+use Rattle.jc_base.specs.EntryState.{entry_of}
+use Rattle.jc_after.specs.After.{after_of}
+use Rattle.jc_kinds.specs.States.{frames_of, frame_at, falls_at, or_else, state_of}
+use Rattle.jc_plan.specs.declared.branch.Branch.{Branch}
+use Rattle.jc_plan.specs.Edges.{branches_by}
+use Rattle.jc_plan.specs.Probed.{probe_of}
+use Rattle.jc_plan.specs.Plan.{lead_probe}
+use Rattle.jc_base.proofs.FirstSeenLaws.{contains_none, contains_cases}
+use Rattle.jc_emit.specs.Sizes.{insn_at, late_by, late_probe, arms_by, arms_at, hop_size, arm_sizes, wide_by, wide_size}
+use Rattle.jc_emit.specs.TwinCode.{to_of, arm_place}
+use Rattle.jc_emit.specs.TwinFrames.{no_state, state_at, state_behind, IsFrameBehind, IsNarrowFrame, IsFrame, AreRising}
+use Rattle.jc_emit.specs.Items.{Item, lead_of, land_of, image_of, twin_items, extra_of}
+use Rattle.jc_emit.specs.Local.{Lands, IsBehind, early_of, IsNoHop}
+use Rattle.jc_emit.proofs.Built.{size_tests, size_switches}
+use Rattle.jc_emit.proofs.Others.{Arms, Agrees, agrees_first, agrees_rest, arms_by_list, none_some as none_id}
+use Rattle.jc_emit.proofs.Told.{main_by, hop_at}
+use Rattle.jc_emit.proofs.StraddlingLaws.{frame_within}
+use Rattle.jc_emit.proofs.LocalLaws.{land_lands, lead_lands, late_lands, arms_land, next_within, listed_within}
+use Rattle.jc_emit.proofs.TwinPremises.{Premises, frame_found, frame_asked, leads_grow}
+use Rattle.jc_base.specs.declared.insn.Flow.TheVariants as flows
+use Rattle.jc_after.specs.After as after
+
+are_rising : (first : ℕ) (code : List Insn) (locals stack : ℕ) (frames : List FrameAt) → AreFramesFrom first code locals stack frames
+    → AreRising first frames
+are_rising first code locals stack [] are = tt
+are_rising first code locals stack (f ∷ frames) are = (are.0, are_rising (f.at + 1) code locals stack frames are.3)
+
+module _ (names new_names : Names) (states : List State) (first : ℕ) (wide : Bool) (call : ℕ) (b b' : Body) (p : Premises names new_names states first wide call b b') where
+  abbrev items : List Item
+  items = twin_items b first wide
+
+  abbrev q_of : ℕ → ℕ
+  q_of i = image_of b first wide i
+
+  abbrev land : ℕ → ℕ
+  land i = land_of b first wide i
+
+  abbrev lead : ℕ → ℕ
+  lead i = lead_of b first wide i
+
+  abbrev old : ℕ → Insn
+  old i = insn_at b.code i
+
+  -- the state before an instruction of the body
+  abbrev pub S : ℕ → Seen
+  S i = seen names (state_at states i)
+
+  abbrev Asked : ℕ → State → Type 0
+  Asked q s = IsFrame b first states (image_of b first wide) (land_of b first wide) (lead_of b first wide) wide q s
+
+  abbrev Narrow : ℕ → State → Type 0
+  Narrow q s = IsNarrowFrame b first states (image_of b first wide) (land_of b first wide) (lead_of b first wide) q s
+
+  abbrev Behind : ℕ → State → Type 0
+  Behind q s = IsFrameBehind b first states (image_of b first wide) (land_of b first wide) (lead_of b first wide) 2 q s
+
+  abbrev Framed : Bool → ℕ → State → Type 0
+  Framed w q s = IsFrame b first states (image_of b first wide) (land_of b first wide) (lead_of b first wide) w q s
+
+  which_frame : (w : Bool) (q : ℕ) (s : State) → Framed w q s → Narrow q s ⊎ ((w ≡ true) × Behind q s)
+  which_frame false q s a = inl a
+  which_frame true q s (inl a) = inl a
+  which_frame true q s (inr a) = inr (refl, a)
+
+  narrow_by : (w : Bool) (q : ℕ) (s : State) → Narrow q s → Framed w q s
+  narrow_by false q s a = a
+  narrow_by true q s a = inl a
+
+  pub narrow : (q : ℕ) (s : State) → Narrow q s → Asked q s
+  narrow q s a = narrow_by wide q s a
+
+  behind_by : (w : Bool) (q : ℕ) (s : State) → w ≡ true → Behind q s → Framed w q s
+  behind_by true q s e a = inr a
+  behind_by false q s e a = cc
+
+  pub behind : (q : ℕ) (s : State) → wide ≡ true → Behind q s → Asked q s
+  behind q s e a = behind_by wide q s e a
+
+  -- ---- the states of the body
+
+  pub state_b : (i : ℕ) → i < length b.code → state_of names b i ≡ Some (S i)
+  state_b i lt =
+      let n = p.are.count in
+      (p.are.each i (state_at states i) (slice_get-get_or states i no_state (omega (arith, n, lt)))).is
+
+  pub frame_old : (f : FrameAt) → Contains b.frames f → frame_at (frames_of names b) f.at ≡ Some (seen names f.state)
+  frame_old f c = frame_found names 0 b.frames f (are_rising 0 b.code b.max_locals b.max_stack b.frames p.well.frames) c
+
+  frame_state_by : (i : ℕ) (t : Seen) → frame_at (frames_of names b) i ≡ Some t → state_of names b i ≡ Some t
+  unfolding state_of
+  frame_state_by zero t e = ap (λ o. or_else o (Some (entry_of b))) e
+  frame_state_by (suc i) t e =
+      ap (λ o. or_else o (if falls_at (after.insn_at b i) then option_and_then (after_of b i) (state_of names b i) else None)) e
+
+  pub within_old : (f : FrameAt) → Contains b.frames f → f.at < length b.code
+  within_old f c = frame_within 0 b.code b.max_locals b.max_stack b.frames p.well.frames f c
+
+  pub state_old : (f : FrameAt) → Contains b.frames f → seen names f.state ≡ S f.at
+  state_old f c =
+      same_Some (seen names f.state) (S f.at) (sym (frame_state_by f.at (seen names f.state) (frame_old f c)) ∙ state_b f.at (within_old f c))
+
+  -- ---- flows
+
+  late_tests : (i id : ℕ) → late_probe b first i ≡ Some id → flow_of (old i) ≡ flows.Tests
+  late_tests i id e = by (flow_of (old i)) e
+    where
+      by : (flow : Flow) → late_by (probe_of b first) i (old i) flow ≡ Some id → flow ≡ flows.Tests
+      by flows.GoesOn h = absurd (none_id id h)
+      by flows.Tests h = refl
+      by flows.Jumps h = absurd (none_id id h)
+      by flows.Switches h = absurd (none_id id h)
+      by flows.Returns h = absurd (none_id id h)
+      by flows.Throws h = absurd (none_id id h)
+
+  pub arms_switch : (i : ℕ) (x : Branch) → Contains (arms_at b.code i) x → flow_of (old i) ≡ flows.Switches
+  arms_switch i x c = by (flow_of (old i)) c
+    where
+      by : (flow : Flow) → Contains (arms_by i (old i) flow) x → flow ≡ flows.Switches
+      by flows.GoesOn h = absurd (contains_none x h)
+      by flows.Tests h = absurd (contains_none x h)
+      by flows.Jumps h = absurd (contains_none x h)
+      by flows.Switches h = refl
+      by flows.Returns h = absurd (contains_none x h)
+      by flows.Throws h = absurd (contains_none x h)
+
+  -- ---- places
+
+  leads_up : (i : ℕ) → lead (i + 1) ≡ lead (suc i)
+  leads_up i = ap lead (add-one i)
+
+  total_up : (i j : ℕ) → i ≤ j → lead i ≤ lead j
+  total_up i j le = leads_grow names new_names states first wide call b b' p i j le
+
+  -- a place belongs to one instruction
+  pub one_piece : (i j q : ℕ) → lead i ≤ q → q < lead (suc i) → lead j ≤ q → q < lead (suc j) → i ≡ j
+  one_piece i j q a c d e =
+      ⊎_elim
+      (λ below. let g = total_up (suc i) j (omega arith) in absurd (omega (arith, g, c, d)))
+      (λ ge. ⊎_elim (λ above. let g = total_up (suc j) i (omega arith) in absurd (omega (arith, g, a, e))) (λ le. omega (arith, ge, le)) (cases_lt j i))
+      (cases_lt i j)
+
+  pub tests_size : (i : ℕ) (o : Option ℕ) → flow_of (old i) ≡ flows.Tests → late_probe b first i ≡ o
+      → lead (suc i) ≡ q_of i + 1 + (wide_by flows.Tests wide + hop_size o)
+  tests_size i o e h =
+      let size = size_tests b first wide i e in
+      let same = ap hop_size h in
+      omega (arith, size, same)
+
+  -- the arm place of a probed branch lies among those of its list
+  arm_within : (whole : ℕ → ℕ) (i here : ℕ) (xs : List Branch) → Arms i xs → Agrees (probe_of b first) (land_of b first wide) whole here xs
+      → (x : Branch) (id : ℕ) → Contains xs x → probe_of b first x ≡ Some id
+      → (here ≤ whole (to_of x)) × (whole (to_of x) + 5 ≤ here + arm_sizes (probe_of b first) xs)
+  arm_within whole i here [] arms a x id c e = absurd (contains_none x c)
+  arm_within whole i here (y ∷ xs) arms a x id c e =
+      ⊎_elim
+      (λ same.
+      let some : probe_of b first y ≡ Some id = ap (probe_of b first) same ∙ e in
+      let at : whole (to_of x) ≡ here = ap (λ z. whole (to_of z)) (sym same) ∙ agrees_first (probe_of b first) (land_of b first wide) whole here id y xs a some in
+      let size = ap hop_size some in
+      (omega (arith, at), omega (arith, at, size)))
+      (λ later.
+      let more = arm_within whole i (here + hop_size (probe_of b first y)) xs arms.3 (agrees_rest (probe_of b first) (land_of b first wide) whole here y xs arms.0 a) x id later e in
+      let low = more.0 in let high = more.1 in
+      (omega (arith, low), omega (arith, high)))
+      (contains_cases y xs x c)
+
+  abbrev pub arm_of : ℕ → Branch → ℕ
+  arm_of i x = arm_place (probe_of b first) (land_of b first wide) (q_of i + 1) (arms_at b.code i) (to_of x)
+
+  pub arm_in : (i : ℕ) (x : Branch) (id : ℕ) → Contains (arms_at b.code i) x → probe_of b first x ≡ Some id
+      → (q_of i < arm_of i x) × (arm_of i x < lead (suc i))
+  arm_in i x id c e =
+      let w = arm_within (λ to. arm_place (probe_of b first) (land_of b first wide) (q_of i + 1) (arms_at b.code i) to) i (q_of i + 1) (arms_at b.code i) (arms_by_list b i) (λ y d. refl) x id c e in
+      let size = size_switches b first wide i (arms_switch i x c) in
+      let low = w.0 in let high = w.1 in
+      (omega (arith, low), omega (arith, high, size))
+
+  -- ---- what is asked for at a place
+
+  -- in front of the image, or at it, the state before the instruction; behind it only the wide layout and switches
+  -- have frames
+  abbrev pub Front : ℕ → ℕ → State → Type 0
+  Front i q s = (q ≤ q_of i) × (seen names s ≡ S i)
+
+  abbrev pub Back : ℕ → ℕ → Type 0
+  Back i q = (q_of i < q) × ((flow_of (old i) ≡ flows.Switches) ⊎ (wide ≡ true))
+
+  pub asked_piece : (i q : ℕ) (s : State) → lead i ≤ q → q < lead (suc i) → Asked q s → Front i q s ⊎ Back i q
+  asked_piece i q s low high a = by (which_frame wide q s a)
+    where
+      by : Narrow q s ⊎ ((wide ≡ true) × Behind q s) → Front i q s ⊎ Back i q
+      by (inl (inl o)) =
+          let f = o.frame in let at = o.place in
+          let same : f.at ≡ i = one_piece f.at i q (omega (arith, at)) (omega (arith, at)) low high in
+          inl (subst (λ k. q ≤ q_of k) same (omega (arith, at)), ap (seen names) o.state_is ∙ state_old f o.listed ∙ ap S same)
+      by (inl (inr (inl o))) =
+          let at = o.place in let up = leads_up o.test in
+          let same : suc o.test ≡ i = one_piece (suc o.test) i q (omega (arith, at, up)) (omega (arith, at, up)) low high in
+          inl (subst (λ k. q ≤ q_of k) same (omega (arith, at, up)), ap (seen names) o.state_is ∙ ap S (add-one o.test) ∙ ap S same)
+      by (inl (inr (inr o))) =
+          let at = o.place in
+          let w = arm_in o.switch o.branch o.id o.listed o.probed in
+          let left = w.0 in let right = w.1 in
+          let same : o.switch ≡ i = one_piece o.switch i q (omega (arith, at, left)) (omega (arith, at, right)) low high in
+          inr (subst (λ k. q_of k < q) same (omega (arith, at, left)), inl (ap (λ k. flow_of (old k)) (sym same) ∙ arms_switch o.switch o.branch o.listed))
+      by (inr (w, o)) = behind_at (late_probe b first o.test) refl
+        where
+          one : wide_by flows.Tests wide ≡ 1
+          one = ap (wide_by flows.Tests) w
+
+          behind_at : (late : Option ℕ) → late_probe b first o.test ≡ late → Front i q s ⊎ Back i q
+          behind_at None none =
+              let size = tests_size o.test None o.tests none in
+              let at = o.place in
+              let same : suc o.test ≡ i = one_piece (suc o.test) i q (omega (arith, at, size, one)) (omega (arith, at, size, one)) low high in
+              inl (subst (λ k. q ≤ q_of k) same (omega (arith, at, size, one)), ap (seen names) (o.state_is ∙ ap (state_behind b states o.test) none) ∙ ap S (add-one o.test) ∙ ap S same)
+          behind_at (Some id) some =
+              let size = tests_size o.test (Some id) o.tests some in
+              let at = o.place in
+              let same : o.test ≡ i = one_piece o.test i q (omega (arith, at)) (omega (arith, at, size, one)) low high in
+              inr (subst (λ k. q_of k < q) same (omega (arith, at)), inr w)
+
+  pub asked_front : (i q : ℕ) (s : State) → lead i ≤ q → q ≤ q_of i → Asked q s → seen names s ≡ S i
+  asked_front i q s low high a =
+      ⊎_elim (λ f. f.1) (λ c. let over = c.0 in absurd (omega (arith, high, over))) (asked_piece i q s low (omega (arith, high)) a)
+
+  -- ---- no frame stands inside a probe, at a goto that is no image, or at an image behind its probe
+
+  abbrev Landing : Item → Type 0
+  Landing x = IsBehind x × (extra_of x ≡ 0) × (early_of x ≡ None) × IsNoHop x
+
+  abbrev In : ℕ → Type 0
+  In k = (at : ℕ) × (due : Option ℕ) × Lands b.code (Some b.arg_slots) (probe_of b first) items k at due
+
+  pub arms_are : (i : ℕ) → flow_of (old i) ≡ flows.Switches → arms_at b.code i ≡ branches_by (flow_of (old i)) i (targets_of (old i))
+  arms_are i e = ap (λ f. arms_by i (old i) f) e
+
+  asked_lands : (q : ℕ) (s : State) → Asked q s
+      → (at : ℕ) × (due : Option ℕ) × Lands b.code (Some b.arg_slots) (probe_of b first) items q at due
+  asked_lands q s a = by (which_frame wide q s a)
+    where
+      by : Narrow q s ⊎ ((wide ≡ true) × Behind q s) → In q
+      by (inl (inl o)) =
+          (o.frame.at, None, subst (λ k. Lands b.code (Some b.arg_slots) (probe_of b first) items k o.frame.at None) (sym o.place) (land_lands b first wide p.well.code o.frame.at (within_old o.frame o.listed)))
+      by (inl (inr (inl o))) =
+          let next = next_within b first wide p.well.code o.test o.within (inr (late_tests o.test o.id o.probed)) in
+          (o.test + 1, lead_probe b first (o.test + 1), subst (λ k. Lands b.code (Some b.arg_slots) (probe_of b first) items k (o.test + 1) (lead_probe b first (o.test + 1))) (sym o.place) (lead_lands b first wide p.well.code (o.test + 1) next))
+      by (inl (inr (inr o))) =
+          let i = o.switch in
+          let e = arms_switch i o.branch o.listed in
+          let h = main_by b first wide call i flows.Switches o.within e in
+          let there = arms_land b first wide p.well.code i (λ to. arm_place (probe_of b first) (land_of b first wide) (q_of i + 1) (arms_at b.code i) to) (q_of i + 1) (arms_at b.code i) (arms_by_list b i) (λ y d. refl) h.1
+          (λ x c. listed_within b first wide p.well.code i o.within x (subst (λ f. Contains (branches_by f i (targets_of (old i))) x) e (subst (λ l. Contains l x) (arms_are i e) c))) o.branch o.listed in
+          (to_of o.branch, probe_of b first o.branch, subst (λ k. Lands b.code (Some b.arg_slots) (probe_of b first) items k (to_of o.branch) (probe_of b first o.branch)) (sym o.place) there)
+      by (inr (w, o)) = behind_at (late_probe b first o.test) refl
+        where
+          one : wide_by flows.Tests wide ≡ 1
+          one = ap (wide_by flows.Tests) w
+
+          behind_at : (late : Option ℕ) → late_probe b first o.test ≡ late → In q
+          behind_at None none =
+              let next = next_within b first wide p.well.code o.test o.within (inr o.tests) in
+              let size = tests_size o.test None o.tests none in
+              let at = o.place in let up = leads_up o.test in
+              let place : lead (o.test + 1) ≡ q = omega (arith, at, up, size, one) in
+              (o.test + 1, lead_probe b first (o.test + 1), subst (λ k. Lands b.code (Some b.arg_slots) (probe_of b first) items k (o.test + 1) (lead_probe b first (o.test + 1))) place (lead_lands b first wide p.well.code (o.test + 1) next))
+          behind_at (Some id) some =
+              let h = hop_at b first wide call o.test id o.within o.tests some in
+              let same : wide_size b wide o.test ≡ 1 = ap (λ f. wide_by f wide) o.tests ∙ one in
+              let at = o.place in
+              let place : q_of o.test + 1 + wide_size b wide o.test ≡ q = omega (arith, at, same) in
+              let to = jump_target (old o.test) in
+              (to, Some id, subst (λ k. Lands b.code (Some b.arg_slots) (probe_of b first) items k to (Some id)) place (late_lands b first wide p.well.code (q_of o.test + 1 + wide_size b wide o.test) id to h.0))
+
+  pub no_frame : (q : ℕ) (x : Item) → slice_get items q ≡ Some x → (Landing x → ⊥) → frame_at (frames_of new_names b') q ≡ None
+  no_frame q x here not = by (frame_at (frames_of new_names b') q) refl
+    where
+      by : (o : Option Seen) → frame_at (frames_of new_names b') q ≡ o → o ≡ None
+      by None e = refl
+      by (Some t) e =
+          let a = frame_asked names new_names states first wide call b b' p q t e in
+          let l = asked_lands q a.0 a.1 in
+          let stands = l.2.stands in
+          let same : stands.item ≡ x = same_Some stands.item x (sym stands.here ∙ here) in
+          absurd (subst (λ y. Landing y → ⊥) (sym same) not (stands.behind, stands.pushed, stands.no_early, l.2.no_hop))

@@ -1,0 +1,399 @@
+-- The states of a twin, from its first instruction on.
+use Rattle.std.proofs.Common.{true≢false, ◌≡◌, inl, inr, ℕ, zero, suc, pos, ◌+◌, ◌<◌, ◌≤◌, Bool, true, false, List, [], ◌∷◌, ◌++◌, length, map, Option, Some, None, option_and_then, refl, sym, ap, ◌∙◌, subst, arith, add-one, get_or, nat_le, if◌then◌else◌, append_assoc, append-nil}
+use Rattle.std.proofs.lemmas.Option.{none-some, same_Some}
+use Rattle.std.specs.List.{sum_by}
+use Rattle.std.proofs.lemmas.List.Sums.{sum_by-cons}
+use Rattle.std.specs.Prelude.{slice_get, IsSome}
+use Rattle.std.proofs.lemmas.Bool.{leb-true}
+use Rattle.std.proofs.lemmas.List.{length-map}
+use Rattle.std.proofs.lemmas.List.Edits.{get_or-insert_at}
+use Rattle.jc_base.specs.Flow.{flow_of, FallsThrough}
+use Rattle.jc_base.specs.DescriptorTypes.{types_from, rest_from}
+use Rattle.jc_base.specs.Descriptor.{FieldType}
+use Rattle.jc_base.specs.WellMade.{kind_slots}
+use Rattle.jc_base.specs.declared.insn.Insn.{Insn}
+use Rattle.jc_base.specs.declared.kind.Kind.{Kind}
+use Rattle.jc_base.specs.declared.kind.State.{State}
+use Rattle.jc_base.specs.declared.body.Body.{Body}
+use Rattle.jc_base.specs.declared.body.Use.{Use}
+use Rattle.jc_base.specs.Held.{Names, Held, top, int, Seen, held, seen, width, slots}
+use Rattle.jc_base.specs.EntryState.{entry_of, entry_seen}
+use Rattle.jc_after.specs.Wants.{accepts}
+use Rattle.jc_after.specs.Step.{kind, moves, apply, put_local, with_stack, limited}
+use Rattle.jc_after.specs.Table.{form, one, table, forms_at}
+use Rattle.jc_after.specs.After.{insn_at, ground_of, returns_of, step_of, member_step, after_of}
+use Rattle.jc_kinds.specs.States.{frames_of, frame_at, falls_at, or_else, state_of, after_at}
+use Rattle.jc_kinds.specs.Fits.{Fits, IsNullOrObject, FitEach, FitState, FitsThere}
+use Rattle.jc_after.specs.Shift.{renamed, probes, shifted}
+use Rattle.jc_kinds.specs.StateShift.{IsStraddled}
+use Rattle.jc_kinds.proofs.CheckLaws.{falls_decided}
+use Rattle.jc_kinds.proofs.StateShiftLaws.{state_fine, states_shift}
+use Rattle.jc_kinds.proofs.EntryShiftLaws.{entry_shifts}
+use Rattle.jc_emit.proofs.StateLaws.{slots-renamed, AllFrom, all_from, frame_is, frame_state, step_at}
+use Rattle.jc_emit.specs.Marks.{push, invokestatic}
+use Rattle.jc_emit.specs.TwinFrames.{state_at}
+use Rattle.jc_emit.specs.Items.{Item, init_call, init_store, probe_array, probe_id, probe_one, probe_store, insn_of, extra_of, probe, lead_of, land_of, image_of, twin_items}
+use Rattle.jc_emit.proofs.Places.{HasAt}
+use Rattle.jc_emit.proofs.Built.{prelude_at}
+use Rattle.jc_emit.proofs.StepLaws.{apply_low, after_is, state, moves_one, moves_gives, limited_is, slots-append}
+use Rattle.jc_emit.proofs.TwinPremises.{Premises, stands, images}
+use Rattle.jc_emit.proofs.TwinPlaces.{state_b, no_frame}
+use Rattle.jc_base.specs.declared.insn.Insn.TheVariants as insns
+use Rattle.jc_base.specs.declared.insn.Flow.TheVariants as flows
+use Rattle.jc_base.specs.declared.kind.Kind.TheVariants as kinds
+use Rattle.jc_after.specs.declared.want.Want.TheVariants as wants
+use Rattle.jc_emit.specs.Sizes as sizes
+
+-- ---- what fits
+
+pub fits_same : (xs : List Held) → FitEach xs xs
+fits_same [] = tt
+fits_same (x ∷ xs) = (inr (inl refl), fits_same xs)
+
+pub state_fits_same : (s : Seen) → FitState s s
+state_fits_same s = record { locals = fits_same s.locals; stack = fits_same s.stack }
+
+fits_on : (a b c : Held) → Fits a b → Fits b c → Fits a c
+fits_on a b c f (inl e) = inl e
+fits_on a b c f (inr (inl e)) = subst (Fits a) e f
+fits_on a b c (inl e) (inr (inr g)) = absurd (no_top (subst IsNullOrObject e g.0))
+  where
+    no_top : IsNullOrObject top → ⊥
+    no_top x = x
+fits_on a b c (inr (inl e)) (inr (inr g)) = inr (inr (subst IsNullOrObject (sym e) g.0, g.1))
+fits_on a b c (inr (inr f)) (inr (inr g)) = inr (inr (f.0, g.1))
+
+pub all_fit_on : (xs ys zs : List Held) → FitEach xs ys → FitEach ys zs → FitEach xs zs
+all_fit_on [] [] zs f g = g
+all_fit_on [] (y ∷ ys) zs f g = absurd f
+all_fit_on (x ∷ xs) [] zs f g = absurd f
+all_fit_on (x ∷ xs) (y ∷ ys) [] f g = absurd g
+all_fit_on (x ∷ xs) (y ∷ ys) (z ∷ zs) f g = (fits_on x y z f.0 g.0, all_fit_on xs ys zs f.1 g.1)
+
+pub fit_length : (xs ys : List Held) → FitEach xs ys → length xs ≡ length ys
+fit_length [] [] f = refl
+fit_length [] (y ∷ ys) f = absurd f
+fit_length (x ∷ xs) [] f = absurd f
+fit_length (x ∷ xs) (y ∷ ys) f = ap suc (fit_length xs ys f.1)
+
+-- ---- states by their places
+
+pub frame_state_is : (names : Names) (b : Body) (i : ℕ) (t : Seen) → frame_at (frames_of names b) i ≡ Some t → state_of names b i ≡ Some t
+unfolding state_of
+frame_state_is names b zero t e = ap (λ o. or_else o (Some (entry_of b))) e
+frame_state_is names b (suc i) t e =
+    ap (λ o. or_else o (if falls_at (insn_at b i) then option_and_then (after_of b i) (state_of names b i) else None)) e
+
+pub first_state : (names : Names) (b : Body) → frame_at (frames_of names b) 0 ≡ None → state_of names b 0 ≡ Some (entry_of b)
+unfolding state_of
+first_state names b e = ap (λ o. or_else o (Some (entry_of b))) e
+
+pub next_state : (names : Names) (b : Body) (i : ℕ) (insn : Insn) (s t : Seen) → frame_at (frames_of names b) (suc i) ≡ None
+    → insn_at b i ≡ Some insn → FallsThrough insn
+    → state_of names b i ≡ Some s → after_of b i s ≡ Some t → state_of names b (suc i) ≡ Some t
+unfolding state_of
+next_state names b i insn s t none is falls before after =
+    ap (λ o. or_else o (if falls_at (insn_at b i) then option_and_then (after_of b i) (state_of names b i) else None)) none
+    ∙ ap (λ o. if falls_at o then option_and_then (after_of b i) (state_of names b i) else None) is
+    ∙ ap (λ c. if c then option_and_then (after_of b i) (state_of names b i) else None) ((falls_decided insn).back falls)
+    ∙ ap (option_and_then (after_of b i)) before
+    ∙ after
+
+pub after_there : (names : Names) (b : Body) (i : ℕ) (s t : Seen) → state_of names b i ≡ Some s → after_of b i s ≡ Some t
+    → after_at names b i ≡ Some t
+after_there names b i s t before after = ap (option_and_then (after_of b i)) before ∙ after
+
+pub there_fit : (o u : Option Seen) (s t : Seen) → o ≡ Some s → u ≡ Some t → FitsThere o u → FitState s t
+there_fit o u s t e f h = subst (λ x. FitsThere (Some s) x) f (subst (λ x. FitsThere x u) e h)
+
+pub fit_there : (o : Option Seen) (s t : Seen) → o ≡ Some t → FitState s t → FitsThere (Some s) o
+fit_there o s t e h = subst (λ x. FitsThere (Some s) x) (sym e) h
+
+is_some_value : (o : Option Seen) → IsSome o → (t : Seen) × (o ≡ Some t)
+is_some_value None h = absurd (true≢false (sym h))
+is_some_value (Some t) h = (t, refl)
+
+-- ---- pushing an id
+
+abbrev IsPush : ℕ → Type 0
+IsPush n =
+    (uses : List Use) (returns : Option FieldType) → (step_of uses returns (insns.Simple (3 + n)) ≡ moves (one [] (kind int ∷ []))) × (flow_of (insns.Simple (3 + n)) ≡ flows.GoesOn)
+
+small_pushes : AllFrom IsPush 0 6
+unfolding forms_at table
+small_pushes =
+    (λ u r. (refl, refl), (λ u r. (refl, refl), (λ u r. (refl, refl), (λ u r. (refl, refl), (λ u r. (refl, refl), (λ u r. (refl, refl), tt))))))
+
+abbrev Pushes : Insn → Type 0
+Pushes insn =
+    (uses : List Use) (returns : Option FieldType) → (step_of uses returns insn ≡ moves (one [] (kind int ∷ []))) × (flow_of insn ≡ flows.GoesOn)
+
+pub push_is : (n : ℕ) → Pushes (push n)
+unfolding forms_at table
+push_is n = by (nat_le n 5) refl (nat_le n 127)
+  where
+    wide : (c : Bool) → Pushes (if c then insns.Push 16 (pos n) else insns.Push 17 (pos n))
+    wide true uses returns = (refl, refl)
+    wide false uses returns = (refl, refl)
+
+    by : (a : Bool) → nat_le n 5 ≡ a → (c : Bool)
+        → Pushes (if a then insns.Simple (3 + n) else if c then insns.Push 16 (pos n) else insns.Push 17 (pos n))
+    by true e c = let le = leb-true n 5 e in all_from IsPush 0 6 n small_pushes (omega arith) (omega (arith, le))
+    by false e c = wide c
+
+module _ (names new_names : Names) (states : List State) (first : ℕ) (wide : Bool) (call : ℕ) (b b' : Body) (p : Premises names new_names states first wide call b b') where
+  abbrev v : ℕ
+  v = b.arg_slots
+
+  abbrev items : List Item
+  items = twin_items b first wide
+
+  abbrev q_of : ℕ → ℕ
+  q_of i = image_of b first wide i
+
+  abbrev land : ℕ → ℕ
+  land i = land_of b first wide i
+
+  abbrev lead : ℕ → ℕ
+  lead i = lead_of b first wide i
+
+  abbrev old : ℕ → Insn
+  old i = sizes.insn_at b.code i
+
+  abbrev moved : Seen → Seen
+  moved s = shifted (image_of b first wide) b.arg_slots s
+
+  abbrev S : ℕ → Seen
+  S i = seen names (state_at states i)
+
+  -- the state before an instruction of the twin, and its frame
+  abbrev N : ℕ → Option Seen
+  N q = state_of new_names b' q
+
+  abbrev F : ℕ → Option Seen
+  F q = frame_at (frames_of new_names b') q
+
+  -- ---- the body
+
+  free : (i : ℕ) → IsStraddled b i → ⊥
+  free i s = p.free i s
+
+  pub after_b : (i : ℕ) → i < length b.code → (t : Seen) × (after_of b i (S i) ≡ Some t)
+  after_b i lt =
+      let t = is_some_value (after_at names b i) (p.checked.after i lt) in
+      (t.0, sym (ap (option_and_then (after_of b i)) (state_b names new_names states first wide call b b' p i lt)) ∙ t.1)
+
+  -- the state after it
+  abbrev pub A : (i : ℕ) → i < length b.code → Seen
+  A i lt = (after_b i lt).0
+
+  pub after_at_b : (i : ℕ) (lt : i < length b.code) → after_at names b i ≡ Some (A i lt)
+  after_at_b i lt = after_there names b i (S i) (A i lt) (state_b names new_names states first wide call b b' p i lt) (after_b i lt).1
+
+  pub image_after : (i : ℕ) (lt : i < length b.code) → after_of b' (q_of i) (moved (S i)) ≡ Some (moved (A i lt))
+  image_after i lt =
+      states_shift names (image_of b first wide) b b' p.well free (images names new_names states first wide call b b' p) i (S i) (A i lt)
+      (state_b names new_names states first wide call b b' p i lt) (after_b i lt).1
+
+  -- ---- bounds
+
+  entry_low : slots (entry_of b).stack ≤ b.max_stack
+  entry_low = omega arith
+
+  slots_held : (ks : List Kind) → slots (map (held names) ks) ≡ sum_by kind_slots ks
+  slots_held [] = refl
+  slots_held (k ∷ ks) = omega (arith, one k, slots_held ks, sum_by-cons kind_slots k ks)
+    where
+      one : (k : Kind) → width (held names k) ≡ kind_slots k
+      one kinds.Long = refl
+      one kinds.Double = refl
+      one kinds.Top = refl
+      one kinds.Int = refl
+      one kinds.Float = refl
+      one kinds.Null = refl
+      one kinds.UninitThis = refl
+      one (kinds.Object n) = refl
+      one (kinds.Uninit i) = refl
+
+  frame_low : (i : ℕ) (s : Seen) → frame_at (frames_of names b) i ≡ Some s → slots s.stack ≤ b.max_stack
+  frame_low i s e =
+      let f = frame_is names b.frames i s e in
+      let is = frame_state 0 b.code b.max_locals b.max_stack b.frames f.0 f.1.0 p.well.frames f.1.1 f.1.2 in
+      let low = is.stack in let same = slots_held f.0.state.stack in
+      subst (λ (t : Seen). slots t.stack ≤ b.max_stack) f.3 (omega (arith, low, same))
+
+  after_low : (i : ℕ) (s t : Seen) → slots s.stack ≤ b.max_stack → after_of b i s ≡ Some t → slots t.stack ≤ b.max_stack
+  after_low i s t low e =
+      let o = step_at b i s t e in
+      apply_low (ground_of b i) (step_of b.uses (returns_of b) o.0) s t low o.2
+
+  or_low : (i : ℕ) (other : Option Seen) (s : Seen) → ((t : Seen) → other ≡ Some t → slots t.stack ≤ b.max_stack)
+      → or_else (frame_at (frames_of names b) i) other ≡ Some s → slots s.stack ≤ b.max_stack
+  or_low i other s more e = by (frame_at (frames_of names b) i) refl e
+    where
+      by : (o : Option Seen) → frame_at (frames_of names b) i ≡ o → or_else o other ≡ Some s → slots s.stack ≤ b.max_stack
+      by None is e = more s e
+      by (Some t) is e = frame_low i s (is ∙ e)
+
+  then_low : (i : ℕ) (o : Option Seen) (falls : Bool) (t : Seen) → ((s : Seen) → o ≡ Some s → slots s.stack ≤ b.max_stack)
+      → (if falls then option_and_then (after_of b i) o else None) ≡ Some t → slots t.stack ≤ b.max_stack
+  then_low i o false t before e = absurd (none-some _ e)
+  then_low i None true t before e = absurd (none-some _ e)
+  then_low i (Some s) true t before e = after_low i s t (before s refl) e
+
+  state_low : (i : ℕ) (s : Seen) → state_of names b i ≡ Some s → slots s.stack ≤ b.max_stack
+  unfolding state_of
+  state_low zero s e =
+      or_low 0 (Some (entry_of b)) s (λ t is. subst (λ (x : Seen). slots x.stack ≤ b.max_stack) (same_Some (entry_of b) t is) entry_low) e
+  state_low (suc i) s e =
+      or_low (suc i) _ s (λ t is. then_low i (state_of names b i) (falls_at (insn_at b i)) t (λ u q. state_low i u q) is) e
+
+  pub S_low : (i : ℕ) → i < length b.code → slots (S i).stack ≤ b.max_stack
+  S_low i lt = state_low i (S i) (state_b names new_names states first wide call b b' p i lt)
+
+  pub A_low : (i : ℕ) (lt : i < length b.code) → slots (A i lt).stack ≤ b.max_stack
+  A_low i lt = after_low i (S i) (A i lt) (S_low i lt) (after_b i lt).1
+
+  pub S_long : (i : ℕ) → i < length b.code → v ≤ length (S i).locals
+  S_long i lt =
+      let f = state_fine names b p.well free i (S i) (state_b names new_names states first wide call b b' p i lt) in
+      let count = f.0 in let fit = p.well.arguments_fit in omega (arith, count, fit)
+
+  -- ---- one instruction of the twin
+
+  abbrev Step : ℕ → Item → Seen → Seen → Type 0
+  Step q x s t = apply (ground_of b' q) (step_of b'.uses (returns_of b') (insn_of call v x)) s ≡ Some t
+
+  pub goes : (q : ℕ) (x : Item) (s t : Seen) → slice_get items q ≡ Some x → Step q x s t → after_of b' q s ≡ Some t
+  goes q x s t here step = after_is b' q (insn_of call v x) s (stands names new_names states first wide call b b' p q x here) ∙ step
+
+  pub next_is : (q : ℕ) (x : Item) (s t : Seen) → slice_get items q ≡ Some x → flow_of (insn_of call v x) ≡ flows.GoesOn → F (q + 1) ≡ None
+      → N q ≡ Some s → after_of b' q s ≡ Some t → N (q + 1) ≡ Some t
+  next_is q x s t here flow none before after =
+      let up = add-one q in
+      ap N up
+      ∙ next_state new_names b' q (insn_of call v x) s t (ap F (sym up) ∙ none) (stands names new_names states first wide call b b' p q x here) (inl flow) before after
+
+  -- ---- a probe
+
+  abbrev pub with_array : Seen → Seen
+  with_array X = state (moved X).locals ((moved X).stack ++ probes ∷ [])
+
+  abbrev pub with_id : Seen → Seen
+  with_id X = state (moved X).locals (((moved X).stack ++ probes ∷ []) ++ int ∷ [])
+
+  abbrev pub with_one : Seen → Seen
+  with_one X = state (moved X).locals ((((moved X).stack ++ probes ∷ []) ++ int ∷ []) ++ int ∷ [])
+
+  pub record Runs (q : ℕ) (X : Seen) : Type 0 where
+    pub after0 : after_of b' q (moved X) ≡ Some (with_array X)
+    pub state1 : N (q + 1) ≡ Some (with_array X)
+    pub after1 : after_of b' (q + 1) (with_array X) ≡ Some (with_id X)
+    pub state2 : N (q + 1 + 1) ≡ Some (with_id X)
+    pub after2 : after_of b' (q + 1 + 1) (with_id X) ≡ Some (with_one X)
+    pub state3 : N (q + 1 + 1 + 1) ≡ Some (with_one X)
+    pub after3 : after_of b' (q + 1 + 1 + 1) (with_one X) ≡ Some (moved X)
+
+  moved_low : (X : Seen) → slots X.stack ≤ b.max_stack → slots (moved X).stack ≤ b.max_stack
+  moved_low X low = let same = slots-renamed (image_of b first wide) X.stack in omega (arith, same, low)
+
+  array_low : (X : Seen) → slots X.stack ≤ b.max_stack → slots (with_array X).stack ≤ b.max_stack + 1
+  array_low X low = let n = slots-append (moved X).stack (probes ∷ []) in let m = moved_low X low in omega (arith, n, m)
+
+  id_low : (X : Seen) → slots X.stack ≤ b.max_stack → slots (with_id X).stack ≤ b.max_stack + 2
+  id_low X low = let n = slots-append (with_array X).stack (int ∷ []) in let m = array_low X low in omega (arith, n, m)
+
+  array_step : (q id at : ℕ) (late : Bool) (X : Seen) → slots X.stack ≤ b.max_stack → v ≤ length X.locals
+      → Step q (probe_array id at late) (moved X) (with_array X)
+  array_step q id at late X low long =
+      let most = p.max_stack in let m = array_low X low in let n = length-map X.locals (renamed (image_of b first wide)) in
+      let here : get_or (moved X).locals v top ≡ probes = get_or-insert_at (map (renamed (image_of b first wide)) X.locals) v probes top (omega (arith, long, n)) in
+      ap (λ (h : Held). if accepts wants.Anything h then with_stack (moved X) (limited b'.max_stack ((moved X).stack ++ h ∷ [])) else None) here
+      ∙ ap (with_stack (moved X)) (limited_is b'.max_stack (with_array X).stack (omega (arith, most, m)))
+
+  id_step : (q id at : ℕ) (late : Bool) (X : Seen) → slots X.stack ≤ b.max_stack → Step q (probe_id id at late) (with_array X) (with_id X)
+  id_step q id at late X low =
+      let most = p.max_stack in let m = array_low X low in
+      ap (λ st. apply (ground_of b' q) st (with_array X)) (push_is id b'.uses (returns_of b')).0
+      ∙ moves_gives (ground_of b' q) int (moved X).locals (with_array X).stack (omega (arith, most, m))
+
+  one_step : (q id at : ℕ) (late : Bool) (X : Seen) → slots X.stack ≤ b.max_stack → Step q (probe_one id at late) (with_id X) (with_one X)
+  one_step q id at late X low =
+      let most = p.max_stack in let m = id_low X low in
+      ap (λ st. apply (ground_of b' q) st (with_id X)) (push_is 1 b'.uses (returns_of b')).0
+      ∙ moves_gives (ground_of b' q) int (moved X).locals (with_id X).stack (omega (arith, most, m))
+
+  store_step : (q id at : ℕ) (late : Bool) (X : Seen) → slots X.stack ≤ b.max_stack
+      → Step q (probe_store id at late) (with_one X) (moved X)
+  unfolding forms_at table
+  store_step q id at late X low =
+      let most = p.max_stack in let m = moved_low X low in
+      let xs = (moved X).stack in
+      let split : (with_one X).stack ≡ xs ++ (probes ∷ int ∷ int ∷ []) = append_assoc (xs ++ probes ∷ []) (int ∷ []) (int ∷ []) ∙ append_assoc xs (probes ∷ []) (int ∷ int ∷ []) in
+      let end = append-nil xs in
+      let size = ap slots end in
+      ap (λ l. apply (ground_of b' q) (moves (one (wants.Reference ∷ wants.Int ∷ wants.Int ∷ []) [])) (state (moved X).locals l)) split
+      ∙ moves_one (ground_of b' q) (form (wants.Reference ∷ wants.Int ∷ wants.Int ∷ []) []) (moved X).locals xs (probes ∷ int ∷ int ∷ []) refl refl (omega (arith, most, m, size))
+      ∙ ap (λ l. Some (state (moved X).locals l)) end
+
+  pub probe_runs : (q id at : ℕ) (late : Bool) (X : Seen) → HasAt items q (probe id at late) → N q ≡ Some (moved X)
+      → slots X.stack ≤ b.max_stack → v ≤ length X.locals → Runs q X
+  probe_runs q id at late X h before low long =
+      let none : (k : ℕ) (x : Item) → slice_get items k ≡ Some x → (extra_of x ≡ 0 → ⊥) → F k ≡ None =
+      λ k x here more. no_frame names new_names states first wide call b b' p k x here (λ l. more l.1) in
+      let a0 = goes q (probe_array id at late) (moved X) (with_array X) h.0 (array_step q id at late X low long) in
+      let s1 = next_is q (probe_array id at late) (moved X) (with_array X) h.0 refl (none (q + 1) (probe_id id at late) h.1.0 (λ e. cc)) before a0 in
+      let a1 = goes (q + 1) (probe_id id at late) (with_array X) (with_id X) h.1.0 (id_step (q + 1) id at late X low) in
+      let s2 = next_is (q + 1) (probe_id id at late) (with_array X) (with_id X) h.1.0 (push_is id b'.uses (returns_of b')).1 (none (q + 1 + 1) (probe_one id at late) h.1.1.0 (λ e. cc)) s1 a1 in
+      let a2 = goes (q + 1 + 1) (probe_one id at late) (with_id X) (with_one X) h.1.1.0 (one_step (q + 1 + 1) id at late X low) in
+      let s3 = next_is (q + 1 + 1) (probe_one id at late) (with_id X) (with_one X) h.1.1.0 refl (none (q + 1 + 1 + 1) (probe_store id at late) h.1.1.1.0 (λ e. cc)) s2 a2 in
+      record {
+        after0 = a0;
+        state1 = s1;
+        after1 = a1;
+        state2 = s2;
+        after2 = a2;
+        state3 = s3;
+        after3 = goes (q + 1 + 1 + 1) (probe_store id at late) (with_one X) (moved X) h.1.1.1.0 (store_step (q + 1 + 1 + 1) id at late X low);
+      }
+
+  -- ---- the prelude
+
+  -- the state in which the twin begins
+  abbrev pub E : Seen
+  E = entry_of b'
+
+  abbrev pub E_array : Seen
+  E_array = state E.locals (probes ∷ [])
+
+  entry_same : E ≡ entry_seen b.owner b.name b.desc b.flags (b.max_locals + 1)
+  entry_same k = entry_seen (p.method.owner k) (p.method.name k) (p.method.desc k) (p.method.flags k) (p.max_locals k)
+
+  no_frame_first : F 0 ≡ None
+  no_frame_first = no_frame names new_names states first wide call b b' p 0 init_call (prelude_at b first wide).0 (λ l. l.0)
+
+  pub state_0 : N 0 ≡ Some E
+  state_0 = first_state new_names b' no_frame_first
+
+  call_step : Step 0 init_call E E_array
+  unfolding types_from rest_from
+  call_step =
+      let most = p.max_stack in
+      ap (λ o. apply (ground_of b' 0) (member_step 184 o) E) p.calls
+      ∙ moves_gives (ground_of b' 0) probes E.locals [] (omega (arith, most))
+
+  pub after_0 : after_of b' 0 E ≡ Some E_array
+  after_0 = goes 0 init_call E E_array (prelude_at b first wide).0 call_step
+
+  pub state_1 : N 1 ≡ Some E_array
+  state_1 =
+      next_state new_names b' 0 (invokestatic call) E E_array (no_frame names new_names states first wide call b b' p 1 init_store (prelude_at b first wide).1.0 (λ l. l.0))
+      (stands names new_names states first wide call b b' p 0 init_call (prelude_at b first wide).0) (inl refl) state_0 after_0
+
+  store_array : Step 1 init_store E_array (moved (entry_of b))
+  store_array =
+      let shifts = entry_shifts (image_of b first wide) b p.well in
+      ap (λ (l : List Held). Some (state l [])) (ap (λ (e : Seen). put_local v probes e.locals) entry_same ∙ shifts)
+
+  pub after_1 : after_of b' 1 E_array ≡ Some (moved (entry_of b))
+  after_1 = goes 1 init_store E_array (moved (entry_of b)) (prelude_at b first wide).1.0 store_array

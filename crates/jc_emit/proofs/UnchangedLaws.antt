@@ -1,0 +1,165 @@
+-- An unchanged body goes on where it should: each instruction is its own image.
+use Rattle.std.proofs.Common.{◌≡◌, inl, inr, ⊎_elim, ℕ, zero, suc, ◌+◌, ◌<◌, List, [], ◌∷◌, map, length, Option, Some, None, refl, sym, ap, ◌∙◌, subst, arith, zero-add}
+use Rattle.std.specs.Prelude.{slice_get, Contains}
+use Rattle.std.specs.List.{AllByRecursion}
+use Rattle.std.proofs.lemmas.Bool.{cases_lt}
+use Rattle.std.proofs.lemmas.Option.{slice_get-get_or, slice_get_within}
+use Rattle.jc_base.specs.PlainLists.{map_from}
+use Rattle.jc_base.specs.FirstSeen.{first_seen}
+use Rattle.jc_base.specs.Flow.{flow_of, targets_of, FallsThrough, jump_target}
+use Rattle.jc_base.specs.Insn.{with_places, arm_with_place}
+use Rattle.jc_base.specs.WellMade.{IsCode}
+use Rattle.jc_base.specs.declared.insn.Insn.{Insn}
+use Rattle.jc_base.specs.declared.insn.Arm.{Arm}
+use Rattle.jc_base.specs.declared.insn.Flow.{Flow}
+use Rattle.jc_plan.specs.declared.branch.Branch.{Branch}
+use Rattle.jc_plan.specs.Edges.{branches_by}
+use Rattle.jc_base.proofs.FirstSeenLaws.{first_seen_listed}
+use Rattle.jc_plan.proofs.ListedLaws.{all_listed}
+use Rattle.jc_emit.specs.Sizes.{insn_at, early_by}
+use Rattle.jc_emit.specs.TwinCode.{to_of}
+use Rattle.jc_emit.specs.Items.{Item, image}
+use Rattle.jc_emit.specs.Local.{Lands, Ok, OkImage, AllOk, TestsAlike, unchanged_items}
+use Rattle.jc_emit.proofs.Ends.{last_parts}
+use Rattle.jc_emit.proofs.Others.{tests_target, jumps_target, arm_listed}
+use Rattle.jc_emit.proofs.LocalLaws.{one_place}
+use Rattle.jc_base.specs.declared.insn.Insn.TheVariants as insns
+use Rattle.jc_base.specs.declared.insn.Flow.TheVariants as flows
+
+arms_same : (arms : List Arm) → map (arm_with_place (λ to. to)) arms ≡ arms
+arms_same [] = refl
+arms_same (a ∷ arms) = λ k. a ∷ arms_same arms k
+
+numbers_same : (xs : List ℕ) → map (λ to. to) xs ≡ xs
+numbers_same [] = refl
+numbers_same (x ∷ xs) = λ k. x ∷ numbers_same xs k
+
+-- each place stays
+places_same : (insn : Insn) → with_places (λ to. to) insn ≡ insn
+places_same (insns.Jump op to) = refl
+places_same (insns.Table low default arms) = ap (insns.Table low default) (numbers_same arms)
+places_same (insns.Lookup default arms) = ap (insns.Lookup default) (arms_same arms)
+places_same (insns.Simple op) = refl
+places_same (insns.Push op value) = refl
+places_same (insns.Local op slot) = refl
+places_same (insns.Inc slot by) = refl
+places_same (insns.Constant place) = refl
+places_same (insns.Constant2 place) = refl
+places_same (insns.Member op place) = refl
+places_same (insns.Interface place count) = refl
+places_same (insns.Dynamic place) = refl
+places_same (insns.OfClass op place) = refl
+places_same (insns.NewArray elem) = refl
+places_same (insns.Multi place dims) = refl
+
+no_ids : Branch → Option ℕ
+no_ids x = None
+
+abbrev item : ℕ → Insn → Item
+item i insn = image insn i None
+
+get_item : (i k : ℕ) (code : List Insn) (insn : Insn) → slice_get code k ≡ Some insn
+    → slice_get (map_from item i code) k ≡ Some (image insn (i + k) None)
+get_item i k [] insn h = cc
+get_item i zero (x ∷ code) insn h =
+    let same : x ≡ insn = cc in
+    let e : i ≡ i + 0 = omega arith in
+    ap (λ y. Some (image y i None)) same ∙ ap (λ j. Some (image insn j None)) e
+get_item i (suc k) (x ∷ code) insn h =
+    let e : i + 1 + k ≡ i + suc k = omega arith in
+    get_item (i + 1) k code insn h ∙ ap (λ j. Some (image insn j None)) e
+
+item_got : (i k : ℕ) (code : List Insn) (x : Item) → slice_get (map_from item i code) k ≡ Some x
+    → (insn : Insn) × (slice_get code k ≡ Some insn) × (x ≡ image insn (i + k) None)
+item_got i k [] x h = cc
+item_got i zero (y ∷ code) x h =
+    let same : image y i None ≡ x = cc in
+    let e : i ≡ i + 0 = omega arith in
+    (y, refl, sym same ∙ ap (λ j. image y j None) e)
+item_got i (suc k) (y ∷ code) x h =
+    let more = item_got (i + 1) k code x h in
+    let e : i + 1 + k ≡ i + suc k = omega arith in
+    (more.0, more.1, more.2 ∙ ap (λ j. image more.0 j None) e)
+
+module _ (code : List Insn) (is_code : IsCode code) where
+  abbrev items : List Item
+  items = unchanged_items code
+
+  abbrev old : ℕ → Insn
+  old i = insn_at code i
+
+  abbrev nothing : Branch → Option ℕ
+  nothing x = None
+
+  abbrev In : ℕ → ℕ → Option ℕ → Type 0
+  In q at due = Lands code None nothing items q at due
+
+  lands : (i : ℕ) → i < length code → In i i None
+  lands i lt = record {
+    stands = record {
+      item = image (old i) i None;
+      here = get_item 0 i code (old i) (slice_get-get_or code i (insns.Simple 0) lt) ∙ ap (λ j. Some (image (old i) j None)) (zero-add i);
+      at_is = refl;
+      pushed = refl;
+      due_is = refl;
+      no_early = refl;
+      behind = tt;
+    };
+    no_hop = tt;
+  }
+
+  next_within : (i : ℕ) → i < length code → FallsThrough (old i) → i + 1 < length code
+  next_within i lt falls =
+      ⊎_elim (λ more. more)
+      (λ over.
+      let last : i + 1 ≡ length code = omega arith in
+      let parts = last_parts code i (old i) (slice_get-get_or code i (insns.Simple 0) lt) last in
+      absurd (is_code.ends parts.0 (old i) parts.1 falls))
+      (cases_lt (i + 1) (length code))
+
+  target_within : (i : ℕ) → i < length code → targets_of (old i) ≡ jump_target (old i) ∷ [] → jump_target (old i) < length code
+  target_within i lt e = (subst (λ ts. AllByRecursion (λ to. to < length code) ts) e (is_code.places i (insns.Simple 0) lt)).0
+
+  image_by : (i : ℕ) (flow : Flow) → i < length code → flow_of (old i) ≡ flow → OkImage code None nothing items i i (old i) (old i) flow
+  image_by i flows.GoesOn lt e = (refl, lands (i + 1) (next_within i lt (inl e)))
+  image_by i flows.Tests lt e =
+      let to = jump_target (old i) in
+      let alike : TestsAlike code None nothing items i i (old i) (old i) = record {
+        target = to;
+        same = sym (places_same (old i)) ∙ one_place (old i) (λ to. to) (tests_target (old i) e) (inr e);
+        jumped = lands to (target_within i lt (tests_target (old i) e));
+        fell = (lands (i + 1) (next_within i lt (inr e))).stands;
+      } in
+      inl alike
+  image_by i flows.Jumps lt e =
+      let to = jump_target (old i) in
+      record { target = to; same = sym (places_same (old i)) ∙ one_place (old i) (λ to. to) (jumps_target (old i) e) (inl e); jumped = lands to (target_within i lt (jumps_target (old i) e)) }
+  image_by i flows.Switches lt e = record {
+    place = λ to. to;
+    same = sym (places_same (old i));
+    each = λ x c.
+        lands (to_of x) (all_listed (λ to. to < length code) (targets_of (old i)) (to_of x) (is_code.places i (insns.Simple 0) lt)
+        (first_seen_listed (targets_of (old i)) (to_of x) (arm_listed i 0 (first_seen (targets_of (old i))) x (subst (λ f. Contains (branches_by f i (targets_of (old i))) x) e c))));
+  }
+  image_by i flows.Returns lt e = refl
+  image_by i flows.Throws lt e = refl
+
+  none_early : (i : ℕ) (insn : Insn) (flow : Flow) → None ≡ early_by nothing i insn flow
+  none_early i insn flows.GoesOn = refl
+  none_early i insn flows.Tests = refl
+  none_early i insn flows.Jumps = refl
+  none_early i insn flows.Switches = refl
+  none_early i insn flows.Returns = refl
+  none_early i insn flows.Throws = refl
+
+  pub unchanged_ok : AllOk code None nothing items
+  unchanged_ok = record { ok = each; start = lands 0 is_code.some }
+    where
+      each : (q : ℕ) (x : Item) → slice_get items q ≡ Some x → Ok code None nothing items q x
+      each q x h =
+          let got = item_got 0 q code x h in
+          let within = slice_get_within code q got.0 got.1 in
+          let found = slice_get-get_or code q (insns.Simple 0) within in
+          let same : got.0 ≡ old q = cc in
+          let e : image (old q) q None ≡ x = sym (got.2 ∙ ap (λ j. image got.0 j None) (zero-add q) ∙ ap (λ y. image y q None) same) in
+          subst (Ok code None nothing items q) e (within, none_early q (old q) (flow_of (old q)), image_by q (flow_of (old q)) within refl)

@@ -1,0 +1,32 @@
+-- The code that the function gives is that of a twin.
+use Rattle.std.proofs.Common.{ℕ, Bool, map, sym, subst}
+use Rattle.jc_base.specs.WellMade.{IsCode}
+use Rattle.jc_base.specs.declared.body.Body.{Body}
+use Rattle.jc_emit.specs.Marks.{land_place, lead_place}
+use Rattle.jc_emit.specs.TwinCode.{Sentences, IsTwinCode}
+use Rattle.jc_emit.specs.Items.{marks_of_items, insn_of, twin_items, image_of, land_of, lead_of}
+use Rattle.jc_emit.proofs.Ends.{images_are, lands_are, leads_are}
+use Rattle.jc_emit.proofs.Told.{lengths_told, prelude_told, images_told, places_told, jumps_told, switches_told}
+use Rattle.jc_emit.proofs.Others.{nothing_else_told}
+
+pub sentences : (b : Body) (first : ℕ) (wide : Bool) (call : ℕ) → IsCode b.code
+    → Sentences b first wide (map (insn_of call b.arg_slots) (twin_items b first wide)) (marks_of_items (twin_items b first wide)) (image_of b first wide) (land_of b first wide) (lead_of b first wide) call
+sentences b first wide call is_code = record {
+  lengths = lengths_told b first wide call;
+  prelude = prelude_told b first wide call;
+  images = images_told b first wide call;
+  nothing_else = nothing_else_told b first wide call is_code;
+  places = places_told b first wide call;
+  jumps = jumps_told b first wide call;
+  switches = switches_told b first wide call;
+}
+
+pub code_told : (b : Body) (first : ℕ) (wide : Bool) (call : ℕ) → IsCode b.code
+    → IsTwinCode b first wide call (map (insn_of call b.arg_slots) (twin_items b first wide)) (marks_of_items (twin_items b first wide))
+code_told b first wide call is_code =
+    let code = map (insn_of call b.arg_slots) (twin_items b first wide) in
+    let m = marks_of_items (twin_items b first wide) in
+    subst (λ f. Sentences b first wide code m f (land_place b first m.own) (lead_place b first m.own) call) (sym (images_are b first wide is_code))
+    (subst (λ f. Sentences b first wide code m (image_of b first wide) f (lead_place b first m.own) call) (sym (lands_are b first wide is_code))
+    (subst (λ f. Sentences b first wide code m (image_of b first wide) (land_of b first wide) f call) (sym (leads_are b first wide is_code))
+    (sentences b first wide call is_code)))

@@ -1,0 +1,263 @@
+-- The frames of the wide layout are those of a twin.
+use Rattle.std.proofs.Common.{◌≡◌, ◌⊎◌, inl, inr, ⊎_elim, ℕ, ◌+◌, ◌-◌, ◌<◌, true, false, ◌&&◌, List, [], ◌∷◌, map, length, Option, Some, None, refl, sym, ap, ap₂, ◌∙◌, subst, arith, add-one}
+use Rattle.std.specs.Prelude.{Contains, insert, is_none, slice_index_or}
+use Rattle.std.proofs.lemmas.Bool.{and_parts, or_left, cases_Bool, cases_lt, not-false}
+use Rattle.jc_base.specs.PlainLists.{pieces}
+use Rattle.jc_base.specs.Flow.{flow_of}
+use Rattle.jc_base.specs.WellMade.{IsCode, AreFramesFrom, IsWellMadeOfAnySize}
+use Rattle.jc_base.specs.Held.{Held, held, seen, object, uninit, top, int, float, double, long, null, uninit_this}
+use Rattle.jc_base.specs.declared.kind.State.{State}
+use Rattle.jc_base.specs.declared.body.Body.{Body}
+use Rattle.jc_base.specs.declared.body.FrameAt.{FrameAt}
+use Rattle.jc_base.specs.declared.insn.Flow.{Flow}
+use Rattle.jc_plan.specs.declared.branch.Branch.{Branch}
+use Rattle.jc_base.proofs.FirstSeenLaws.{contains_none}
+use Rattle.jc_plan.specs.Probed.{probe_of}
+use Rattle.jc_plan.specs.Plan.{lead_probe}
+use Rattle.jc_after.specs.Shift.{renamed, shifted}
+use Rattle.jc_emit.specs.Shift.{probe_array_class}
+use Rattle.jc_emit.specs.Sizes.{insn_at, late_probe, early_probe, arms_by, arms_at, probe_size, hop_size}
+use Rattle.jc_emit.specs.TwinCode.{to_of, arm_place}
+use Rattle.jc_emit.specs.TwinFrames.{state_at, state_behind, IsNarrowFrame, IsFrame, AreRising, AreTwinFrames}
+use Rattle.jc_emit.specs.Items.{image_part, insn_of, lead_of, land_of, image_of, twin_items}
+use Rattle.jc_emit.specs.Emission.{has_frame, has_inverse, is_further, frames_at, wide_frames_at, emission, widened_state, widened_frame, AreWidened}
+use Rattle.jc_emit.proofs.Built.{sized}
+use Rattle.jc_emit.proofs.Ends.{image_past}
+use Rattle.jc_emit.proofs.LocalLaws.{next_within}
+use Rattle.jc_emit.proofs.FrameLists.{of_piece, listed_if}
+use Rattle.jc_emit.proofs.FrameLaws.{all_moved, map_insert, landing, none_is, frames_told, seen_is}
+use Rattle.jc_emit.proofs.WideFrameLaws.{each_behind, behind_is, wide_frame}
+use Rattle.jc_emit.proofs.WidenedLaws.{W, lead_is, land_is, arm_places, inside, within_main, behind_end, place_zero, main_test}
+use Rattle.jc_base.specs.declared.insn.Flow.TheVariants as flows
+
+-- ---- states
+
+image_twice : (g f : ℕ → ℕ) (h : Held) → renamed g (renamed f h) ≡ renamed (λ i. g (f i)) h
+image_twice g f top = refl
+image_twice g f int = refl
+image_twice g f float = refl
+image_twice g f double = refl
+image_twice g f long = refl
+image_twice g f null = refl
+image_twice g f uninit_this = refl
+image_twice g f (object name) = refl
+image_twice g f (uninit i) = refl
+
+images_twice : (g f : ℕ → ℕ) (xs : List Held) → map (renamed g) (map (renamed f) xs) ≡ map (renamed (λ i. g (f i))) xs
+images_twice g f [] = refl
+images_twice g f (x ∷ xs) = λ k. image_twice g f x k ∷ images_twice g f xs k
+
+-- the state of a frame in the wide code
+seen_widened : (names : List (List ℕ)) (v : ℕ) (place image wide : ℕ → ℕ) (state s : State) → (λ i. place (image i)) ≡ wide
+    → seen names state ≡ shifted image v (seen names s)
+    → seen names (widened_state place state) ≡ shifted wide v (seen names s)
+seen_widened names v place image wide state s e h =
+    let locals : map (held names) state.locals ≡ insert (map (renamed image) (map (held names) s.locals)) v (object probe_array_class) = ap (λ x. x.locals) h in
+    let stack : map (held names) state.stack ≡ map (renamed image) (map (held names) s.stack) = ap (λ x. x.stack) h in
+    λ k. record {
+      locals =
+          (all_moved names place state.locals
+          ∙ ap (map (renamed place)) locals
+          ∙ map_insert (renamed place) (map (renamed image) (map (held names) s.locals)) v (object probe_array_class)
+          ∙ ap (λ l. insert l v (object probe_array_class)) (images_twice place image (map (held names) s.locals) ∙ ap (λ f. map (renamed f) (map (held names) s.locals)) e)) k;
+      stack =
+          (all_moved names place state.stack
+          ∙ ap (map (renamed place)) stack
+          ∙ images_twice place image (map (held names) s.stack)
+          ∙ ap (λ f. map (renamed f) (map (held names) s.stack)) e) k;
+    }
+
+module _ (b : Body) (first : ℕ) (states : List State) (array : ℕ) (names : List (List ℕ)) (is_code : IsCode b.code) (are_frames : AreFramesFrom 0 b.code b.max_locals b.max_stack b.frames)
+    (fit : (f : FrameAt) → Contains b.frames f → state_at states f.at ≡ f.state) (named : slice_index_or names array ([]) ≡ probe_array_class) where
+  abbrev n : ℕ
+  n = length b.code
+
+  abbrev P : ℕ → ℕ
+  P q = W b first 0 is_code q
+
+  abbrev narrow : List FrameAt
+  narrow = pieces (frames_at b first states array) n
+
+  abbrev further : List FrameAt
+  further = pieces (wide_frames_at b first states array) n
+
+  image_is : (i : ℕ) → P (image_of b first false i) ≡ image_of b first true i
+  image_is i =
+      ⊎_elim
+      (λ below.
+      let place : image_of b first false i ≡ lead_of b first false i + (probe_size (lead_probe b first i) + (probe_size (early_probe b first i) + 0)) = omega arith in
+      ap P place
+      ∙ inside b first 0 is_code i (probe_size (lead_probe b first i) + (probe_size (early_probe b first i) + 0)) below (omega (arith, sized b first false i))
+      ∙ ap (λ x. lead_of b first true i + x) (within_main b first 0 is_code i 0)
+      ∙ omega (arith, place_zero (map (insn_of 0 b.arg_slots) (image_part b first false i (insn_at b.code i) (flow_of (insn_at b.code i))))))
+      (λ above.
+      let e : i ≡ n + (i - n) = omega arith in
+      ap (λ j. P (image_of b first false j)) e
+      ∙ ap P (image_past b first false is_code (i - n))
+      ∙ behind_end b first 0 is_code (i - n)
+      ∙ sym (image_past b first true is_code (i - n))
+      ∙ ap (image_of b first true) (sym e))
+      (cases_lt i n)
+
+  images_are : (λ i. P (image_of b first false i)) ≡ image_of b first true
+  images_are = λ k i. image_is i k
+
+  -- behind a conditional jump
+  behind_is_two : (i : ℕ) → i < n → flow_of (insn_at b.code i) ≡ flows.Tests
+      → P (image_of b first false i + 1) ≡ image_of b first true i + 2
+  behind_is_two i lt e =
+      let place : image_of b first false i + 1 ≡ lead_of b first false i + (probe_size (lead_probe b first i) + (probe_size (early_probe b first i) + 1)) = omega arith in
+      ap P place
+      ∙ inside b first 0 is_code i (probe_size (lead_probe b first i) + (probe_size (early_probe b first i) + 1)) lt (omega (arith, sized b first false i))
+      ∙ ap (λ x. lead_of b first true i + x) (within_main b first 0 is_code i 1)
+      ∙ omega (arith, main_test b first 0 is_code i lt e)
+
+  abbrev Narrow : ℕ → State → Type 0
+  Narrow q s = IsNarrowFrame b first states (image_of b first false) (land_of b first false) (lead_of b first false) q s
+
+  abbrev Wide : ℕ → State → Type 0
+  Wide q s = IsFrame b first states (image_of b first true) (land_of b first true) (lead_of b first true) true q s
+
+  arm_is : (i : ℕ) → i < n → flow_of (insn_at b.code i) ≡ flows.Switches → (to : ℕ)
+      → P (arm_place (probe_of b first) (land_of b first false) (image_of b first false i + 1) (arms_at b.code i) to) ≡ arm_place (probe_of b first) (land_of b first true) (image_of b first true i + 1) (arms_at b.code i) to
+  arm_is i lt e to =
+      let z : image_of b first false i + 1 ≡ image_of b first false i + 1 + 0 = omega arith in
+      let y : image_of b first true i + 1 + 0 ≡ image_of b first true i + 1 = omega arith in
+      ap (λ h. P (arm_place (probe_of b first) (land_of b first false) h (arms_at b.code i) to)) z
+      ∙ arm_places b first 0 is_code i lt e 0 (arms_at b.code i) (omega arith) to
+      ∙ ap (λ h. arm_place (probe_of b first) (land_of b first true) h (arms_at b.code i) to) y
+
+  -- what has arms is a switch
+  arms_switch : (i : ℕ) (x : Branch) → Contains (arms_at b.code i) x → flow_of (insn_at b.code i) ≡ flows.Switches
+  arms_switch i x c = by (flow_of (insn_at b.code i)) c
+    where
+      by : (flow : Flow) → Contains (arms_by i (insn_at b.code i) flow) x → flow ≡ flows.Switches
+      by flows.GoesOn d = absurd (contains_none x d)
+      by flows.Tests d = absurd (contains_none x d)
+      by flows.Jumps d = absurd (contains_none x d)
+      by flows.Switches d = refl
+      by flows.Returns d = absurd (contains_none x d)
+      by flows.Throws d = absurd (contains_none x d)
+
+  to_wide : (q : ℕ) (s : State) → Narrow q s → Wide (P q) s
+  to_wide q s (inl o) =
+      inl (inl (record { frame = o.frame; listed = o.listed; place = ap P o.place ∙ land_is b first 0 is_code o.frame.at; state_is = o.state_is }))
+  to_wide q s (inr (inl o)) =
+      inl (inr (inl (record { test = o.test; id = o.id; within = o.within; probed = o.probed; place = ap P o.place ∙ lead_is b first 0 is_code (o.test + 1); state_is = o.state_is })))
+  to_wide q s (inr (inr o)) =
+      inl (inr (inr (record {
+        switch = o.switch;
+        branch = o.branch;
+        id = o.id;
+        within = o.within;
+        listed = o.listed;
+        probed = o.probed;
+        place = ap P o.place ∙ arm_is o.switch o.within (arms_switch o.switch o.branch o.listed) (to_of o.branch);
+        state_is = o.state_is;
+      })))
+
+  -- the place of the narrow code
+  record FromNarrow (q : ℕ) (s : State) : Type 0 where
+    place : ℕ
+    asked : Narrow place s
+    is : P place ≡ q
+
+  to_narrow : (q : ℕ) (s : State) → IsNarrowFrame b first states (image_of b first true) (land_of b first true) (lead_of b first true) q s
+      → FromNarrow q s
+  to_narrow q s (inl o) =
+      record { place = land_of b first false o.frame.at; asked = inl (record { frame = o.frame; listed = o.listed; place = refl; state_is = o.state_is }); is = land_is b first 0 is_code o.frame.at ∙ sym o.place }
+  to_narrow q s (inr (inl o)) = record {
+    place = lead_of b first false (o.test + 1);
+    asked = inr (inl (record { test = o.test; id = o.id; within = o.within; probed = o.probed; place = refl; state_is = o.state_is }));
+    is = lead_is b first 0 is_code (o.test + 1) ∙ sym o.place;
+  }
+  to_narrow q s (inr (inr o)) = record {
+    place = arm_place (probe_of b first) (land_of b first false) (image_of b first false o.switch + 1) (arms_at b.code o.switch) (to_of o.branch);
+    asked = inr (inr (record { switch = o.switch; branch = o.branch; id = o.id; within = o.within; listed = o.listed; probed = o.probed; place = refl; state_is = o.state_is }));
+    is = arm_is o.switch o.within (arms_switch o.switch o.branch o.listed) (to_of o.branch) ∙ sym o.place;
+  }
+
+  abbrev Shifted : State → State → Type 0
+  Shifted state s = seen names (widened_state P state) ≡ shifted (image_of b first true) b.arg_slots (seen names s)
+
+  shift : (state s : State) → seen names state ≡ shifted (image_of b first false) b.arg_slots (seen names s) → Shifted state s
+  shift state s h = seen_widened names b.arg_slots P (image_of b first false) (image_of b first true) state s images_are h
+
+  module _ (frames : List FrameAt) (each_from : (f : FrameAt) → Contains frames f → (g : FrameAt) × (Contains narrow g ⊎ Contains further g) × (f ≡ widened_frame P g))
+      (every_to : (g : FrameAt) → Contains narrow g ⊎ Contains further g → Contains frames (widened_frame P g)) where
+    abbrev told : AreTwinFrames names names b.arg_slots (image_of b first false) Narrow narrow
+    told = frames_told b first states array names is_code are_frames fit named
+
+    abbrev IsGood : FrameAt → Type 0
+    IsGood f = (s : State) × Wide f.at s × (seen names f.state ≡ shifted (image_of b first true) b.arg_slots (seen names s))
+
+    wide_each : (f : FrameAt) → Contains frames f → IsGood f
+    wide_each f c =
+        let from = each_from f c in
+        let g = from.0 in
+        subst IsGood (sym from.2)
+        (⊎_elim
+        (λ plain. let h = told.each g plain in (h.0, to_wide g.at h.0 h.1, shift g.state h.0 h.2))
+        (λ more.
+        let h = each_behind b first states array names is_code are_frames fit named g more in
+        let o = h.1.0 in
+        (h.0, inr (record { test = o.test; within = o.within; tests = o.tests; place = ap P o.place ∙ behind_is_two o.test o.within o.tests; state_is = o.state_is }), shift g.state h.0 h.2))
+        from.1)
+
+    abbrev IsThere : ℕ → State → Type 0
+    IsThere q s =
+        (f : FrameAt) × Contains frames f × (f.at ≡ q) × (seen names f.state ≡ shifted (image_of b first true) b.arg_slots (seen names s))
+
+    carried : (q : ℕ) (s : State) (g : FrameAt) → Contains narrow g ⊎ Contains further g → P g.at ≡ q
+        → seen names g.state ≡ shifted (image_of b first false) b.arg_slots (seen names s) → IsThere q s
+    carried q s g c e h = (widened_frame P g, every_to g c, e, shift g.state s h)
+
+    behind_there : (i : ℕ) → i < n → flow_of (insn_at b.code i) ≡ flows.Tests → (o : Option ℕ) → late_probe b first i ≡ o
+        → IsThere (image_of b first true i + 2) (state_behind b states i o)
+    behind_there i lt e o late =
+        ⊎_elim
+        (λ more.
+        let t : is_further b first states array i (late_probe b first i) (flow_of (insn_at b.code i)) ≡ true = ap₂ (is_further b first states array i) late e ∙ more in
+        let g = wide_frame b first states array names is_code are_frames fit named i in
+        carried (image_of b first true i + 2) (state_behind b states i o) g
+        (inr (of_piece (wide_frames_at b first states array) n i g lt (listed_if (is_further b first states array i (late_probe b first i) (flow_of (insn_at b.code i))) g t)))
+        (behind_is_two i lt e)
+        (seen_is b first states array names is_code are_frames fit named (state_behind b states i (late_probe b first i)) ∙ ap (λ p. shifted (image_of b first false) b.arg_slots (seen names (state_behind b states i p))) late))
+        (λ plain. stands o late plain)
+        (cases_Bool (is_further b first states array i o flows.Tests))
+      where
+        true_false : true ≡ false → ⊥
+        true_false h = cc
+
+        stands : (o : Option ℕ) → late_probe b first i ≡ o → is_further b first states array i o flows.Tests ≡ false
+            → IsThere (image_of b first true i + 2) (state_behind b states i o)
+        stands (Some id) late h = absurd (true_false h)
+        stands None late h =
+            let both = and_parts (has_frame b first states array (i + 1)) (is_none (lead_probe b first (i + 1))) (not-false (has_frame b first states array (i + 1) && is_none (lead_probe b first (i + 1))) h) in
+            let next = next_within b first false is_code i lt (inr e) in
+            let here = landing b first states array names is_code are_frames fit named (i + 1) next (or_left (has_frame b first states array (i + 1)) (has_inverse b first states array (i + 1) && is_none (lead_probe b first (i + 1))) both.0) in
+            let up = ap (lead_of b first false) (add-one i) in
+            let size = behind_is b first states array names is_code are_frames fit named i e ∙ ap hop_size late in
+            let lead_size = ap probe_size (none_is (lead_probe b first (i + 1)) both.1) in
+            let place : land_of b first false (i + 1) ≡ image_of b first false i + 1 = omega (arith, up, size, lead_size) in
+            carried (image_of b first true i + 2) (state_at states (i + 1)) here.0 (inl here.1) (ap P (here.2 ∙ place) ∙ behind_is_two i lt e) here.3
+
+    wide_every : (q : ℕ) (s : State) → Wide q s → IsThere q s
+    wide_every q s (inl o) =
+        let from = to_narrow q s o in
+        let here = told.every from.place s from.asked in
+        carried q s here.0 (inl here.1) (ap P here.2 ∙ from.is) here.3
+    wide_every q s (inr o) =
+        let there = behind_there o.test o.within o.tests (late_probe b first o.test) refl in
+        subst (λ z. IsThere q z) (sym o.state_is) (subst (λ k. IsThere k (state_behind b states o.test (late_probe b first o.test))) (sym o.place) there)
+
+    pub wide_told : AreRising 0 frames → AreTwinFrames names names b.arg_slots (image_of b first true) Wide frames
+    wide_told rising = record { rising = rising; each = wide_each; every = wide_every }
+
+pub widened_frames : (b : Body) (first : ℕ) (states : List State) (array : ℕ) (names : List (List ℕ)) → IsWellMadeOfAnySize b
+    → ((f : FrameAt) → Contains b.frames f → state_at states f.at ≡ f.state) → slice_index_or names array ([]) ≡ probe_array_class
+    → (frames : List FrameAt) → AreWidened (emission b first states array) frames
+    → AreTwinFrames names names b.arg_slots (image_of b first true) (IsFrame b first states (image_of b first true) (land_of b first true) (lead_of b first true) true) frames
+unfolding emission twin_items
+widened_frames b first states array names well fit named frames w =
+    wide_told b first states array names well.code well.frames fit named frames w.each w.every w.rising

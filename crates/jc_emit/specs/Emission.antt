@@ -1,0 +1,115 @@
+-- The instrumented code of a body before its layout is chosen, and the frames of its wide form: functions of the body.
+use Rattle.std.specs.Prelude.{ℕ, zero, suc, ◌+◌, Bool, true, false, ◌&&◌, ◌||◌, not, List, [], ◌∷◌, ◌++◌, map, length, Option, Some, None, is_some, is_none, nat_eq, if◌then◌else◌, ◌≡◌, ◌⊎◌, slice_index_or, Contains}
+use Rattle.std.specs.List.{list_any}
+use Rattle.jc_base.specs.Held.{Names}
+use Rattle.jc_base.specs.PlainLists.{pieces}
+use Rattle.jc_base.specs.Flow.{flow_of}
+use Rattle.jc_base.specs.declared.insn.Flow.{Flow}
+use Rattle.jc_base.specs.declared.kind.State.{State}
+use Rattle.jc_base.specs.declared.body.Body.{Body}
+use Rattle.jc_base.specs.declared.body.FrameAt.{FrameAt}
+use Rattle.jc_base.specs.declared.emitted.Emitted.{Emitted}
+use Rattle.jc_plan.specs.declared.branch.Branch.{Branch}
+use Rattle.jc_plan.specs.Probed.{probe_of}
+use Rattle.jc_plan.specs.Plan.{lead_probe}
+use Rattle.jc_emit.specs.Shift.{probe_array_class, shifted_state, image_kind}
+use Rattle.jc_emit.specs.Sizes.{insn_at, late_probe, arms_at, hop_size}
+use Rattle.jc_base.specs.Widened.{wide_place}
+use Rattle.jc_emit.specs.TwinTables.{moved_row, moved_line, moved_var}
+use Rattle.jc_emit.specs.TwinFrames.{state_at, left_by, state_behind, AreRising}
+use Rattle.jc_emit.specs.Items.{Item, insn_of, at_of, own_of, extra_of, lead_of, land_of, image_of, twin_items}
+use Rattle.jc_base.specs.declared.insn.Flow.TheVariants as flows
+
+-- the states at the instructions of frames are those of the frames
+abbrev pub HasFrameStates : Body → List State → Type 0
+HasFrameStates b states = (f : FrameAt) → Contains b.frames f → state_at states f.at ≡ f.state
+
+-- the number is that of the class of the array of probes
+abbrev pub IsArrayNumber : Names → ℕ → Type 0
+IsArrayNumber names array = slice_index_or names array [] ≡ probe_array_class
+
+abbrev pub frame : ℕ → State → FrameAt
+frame at state = record { at = at; state = state }
+
+-- one frame if the test holds
+abbrev pub frame_if : Bool → FrameAt → List FrameAt
+frame_if test f = if test then f ∷ [] else []
+
+module _ (b : Body) (first : ℕ) (states : List State) (array : ℕ) where
+  -- the shifted form of a state
+  abbrev pub moved_state : State → State
+  moved_state state = shifted_state b.arg_slots array (image_of b first false) state
+
+  -- a frame of the body stands at i
+  abbrev pub has_frame : ℕ → Bool
+  has_frame i = list_any (λ f. nat_eq f.at i) b.frames
+
+  -- the jump in front of i is inverted, and leads to where the fall-through into i does
+  abbrev pub has_inverse : ℕ → Bool
+  has_inverse zero = false
+  has_inverse (suc i) = is_some (late_probe b first i)
+
+  abbrev pub arm_frame : ℕ → State → Option ℕ → List FrameAt
+  arm_frame here state None = []
+  arm_frame here state (Some id) = frame here state ∷ []
+
+  -- the frames at the arm places of a switch
+  abbrev pub arm_frames : ℕ → State → List Branch → List FrameAt
+  arm_frames here state [] = []
+  arm_frames here state (x ∷ xs) =
+      arm_frame here state (probe_of b first x) ++ arm_frames (here + hop_size (probe_of b first x)) state xs
+
+  -- the frames of what belongs to i
+  abbrev pub frames_at : ℕ → List FrameAt
+  frames_at i =
+      frame_if (has_inverse i && is_some (lead_probe b first i))
+      (frame (lead_of b first false i) (moved_state (state_at states i)))
+      ++ (frame_if (has_frame i || (has_inverse i && is_none (lead_probe b first i)))
+      (frame (land_of b first false i) (moved_state (state_at states i)))
+      ++ arm_frames (image_of b first false i + 1) (moved_state (left_by (insn_at b.code i) (state_at states i))) (arms_at b.code i))
+
+  -- the wide layout needs a frame behind each conditional jump, where none stands
+  abbrev pub is_further : ℕ → Option ℕ → Flow → Bool
+  is_further i None flows.Tests = not (has_frame (i + 1) && is_none (lead_probe b first (i + 1)))
+  is_further i (Some id) flows.Tests = true
+  is_further i probe flow = false
+
+  abbrev pub wide_frames_at : ℕ → List FrameAt
+  wide_frames_at i =
+      frame_if (is_further i (late_probe b first i) (flow_of (insn_at b.code i)))
+      (frame (image_of b first false i + 1) (moved_state (state_behind b states i (late_probe b first i))))
+
+  abbrev pub items : List Item
+  items = twin_items b first false
+
+  unfoldable pub emission : Emitted
+  emission = record {
+    code = map (insn_of 0 b.arg_slots) items;
+    at = map at_of items;
+    own = map own_of items;
+    extra = map extra_of items;
+    handlers = map (moved_row (lead_of b first false) (land_of b first false)) b.handlers;
+    lines = map (moved_line (land_of b first false)) b.lines;
+    vars = map (moved_var b.arg_slots (land_of b first false)) b.vars;
+    kind_vars = map (moved_var b.arg_slots (land_of b first false)) b.kind_vars;
+    frames = pieces frames_at (length b.code);
+    wide_frames = pieces wide_frames_at (length b.code);
+    max_stack = b.max_stack + 3;
+    max_locals = b.max_locals + 1;
+  }
+
+-- ---- the frames of the wide form of the code
+
+-- a frame, where its place and the places of `new` instructions are those of the wide code
+abbrev pub widened_state : (ℕ → ℕ) → State → State
+widened_state place s = record { locals = map (image_kind place) s.locals; stack = map (image_kind place) s.stack }
+
+abbrev pub widened_frame : (ℕ → ℕ) → FrameAt → FrameAt
+widened_frame place f = record { at = place f.at; state = widened_state place f.state }
+
+-- the frames of the narrow layout and the further ones, in the wide code, one at each place
+pub record AreWidened (e : Emitted) (frames : List FrameAt) : Type 0 where
+  pub rising : AreRising 0 frames
+  pub each : (f : FrameAt) → Contains frames f
+      → (g : FrameAt) × (Contains e.frames g ⊎ Contains e.wide_frames g) × (f ≡ widened_frame (wide_place e.code) g)
+  pub every : (g : FrameAt) → Contains e.frames g ⊎ Contains e.wide_frames g → Contains frames (widened_frame (wide_place e.code) g)

@@ -1,0 +1,17 @@
+pub mod Shift
+pub mod Sizes
+pub mod Marks
+pub mod TwinCode
+pub mod TwinTables
+pub mod TwinFrames
+pub mod Twin
+pub mod Items
+pub mod Emission
+pub mod TwinBody
+pub mod Straddling
+pub mod Local
+pub mod Seen
+pub mod Ranks
+pub mod Added
+pub mod TwinProgram
+pub mod Rows

@@ -1,0 +1,76 @@
+-- What is said of each instruction of an instrumented method, and where those stand that the method had.
+use Rattle.std.specs.Prelude.{◌≡◌, ℕ, zero, suc, ◌+◌, ◌-◌, Bool, true, false, List, [], ◌∷◌, Some, pos, nat_le, if◌then◌else◌, slice_get}
+use Rattle.jc_base.specs.declared.opcode.TheConstants as ops
+use Rattle.jc_base.specs.declared.insn.Insn.{Insn}
+use Rattle.jc_base.specs.declared.insn.Insn.TheVariants as insns
+use Rattle.jc_base.specs.declared.body.Body.{Body}
+use Rattle.jc_plan.specs.Plan.{lead_probe}
+use Rattle.jc_emit.specs.Sizes.{probe_size, early_probe}
+
+-- one entry of each list for each instruction
+pub record Marks : Type 0 where
+  -- the instruction of the body to which it belongs
+  pub at : List ℕ
+  -- whether it is the image of that instruction
+  pub own : List Bool
+  -- how many values a probe or the prelude has put on the stack before it
+  pub extra : List ℕ
+
+-- ---- what stands at a place
+
+pub record Stands (code : List Insn) (m : Marks) (q : ℕ) (insn : Insn) (at : ℕ) (own : Bool) (extra : ℕ) : Type 0 where
+  pub insn_is : slice_get code q ≡ Some insn
+  pub at_is : slice_get m.at q ≡ Some at
+  pub own_is : slice_get m.own q ≡ Some own
+  pub extra_is : slice_get m.extra q ≡ Some extra
+
+-- ---- the instructions of the prelude and of probes (JVM Specification 6.5)
+
+abbrev pub aload : ℕ → Insn
+aload slot = insns.Local ops.ALOAD slot
+
+abbrev pub astore : ℕ → Insn
+astore slot = insns.Local ops.ASTORE slot
+
+abbrev pub invokestatic : ℕ → Insn
+invokestatic place = insns.Member ops.INVOKESTATIC place
+
+abbrev pub iconst_1 : Insn
+iconst_1 = insns.Simple ops.ICONST_1
+
+abbrev pub bastore : Insn
+bastore = insns.Simple ops.BASTORE
+
+-- the shortest instruction that pushes a number: iconst_0 to iconst_5, bipush to 127, and sipush
+abbrev pub push : ℕ → Insn
+push n =
+    if nat_le n 5 then insns.Simple (ops.ICONST_0 + n)
+    else if nat_le n 127 then insns.Push ops.BIPUSH (pos n)
+    else insns.Push ops.SIPUSH (pos n)
+
+-- A probe stands at a place, and belongs to the instruction `at`: the array of probes stands in local variable v, and
+-- true is stored at the index `id` of it.
+pub record IsProbe (code : List Insn) (m : Marks) (v q id at : ℕ) : Type 0 where
+  pub array : Stands code m q (aload v) at false 0
+  pub number : Stands code m (q + 1) (push id) at false 1
+  pub one : Stands code m (q + 2) iconst_1 at false 2
+  pub store : Stands code m (q + 3) bastore at false 3
+
+-- ---- where instructions of the body stand
+
+-- The place of the image of an instruction: the own instructions are the images, in order. Behind the last one
+-- the places run on from the end of the code, so that the number of instructions stands for the new end.
+abbrev pub image_place : List Bool → ℕ → ℕ
+image_place [] i = i
+image_place (true ∷ own) zero = 0
+image_place (true ∷ own) (suc i) = suc (image_place own i)
+image_place (false ∷ own) i = suc (image_place own i)
+
+-- where jumps to an instruction land: at its image, or at the probe directly in front of it where it is a goto, a
+-- return or an athrow with a probe
+abbrev pub land_place : Body → ℕ → List Bool → ℕ → ℕ
+land_place b first own i = image_place own i - probe_size (early_probe b first i)
+
+-- where a fall-through into an instruction leads: to its probe directly in front of where jumps land, or there
+abbrev pub lead_place : Body → ℕ → List Bool → ℕ → ℕ
+lead_place b first own i = land_place b first own i - probe_size (lead_probe b first i)

@@ -1,0 +1,105 @@
+-- The stack map frames of the twin of a body (JVM Specification 4.7.4).
+use Rattle.std.specs.Prelude.{◌≡◌, ◌⊎◌, ⊤, ℕ, ◌+◌, ◌-◌, ◌<◌, ◌≤◌, Bool, true, false, List, [], ◌∷◌, length, take, Option, Some, None, nat_le, ◌&&◌, if◌then◌else◌, slice_index_or, Contains}
+use Rattle.jc_base.specs.Flow.{flow_of}
+use Rattle.jc_base.specs.Held.{Names, seen}
+use Rattle.jc_base.specs.Opcode as opcode
+use Rattle.jc_base.specs.declared.insn.Insn.{Insn}
+use Rattle.jc_base.specs.declared.kind.State.{State}
+use Rattle.jc_base.specs.declared.body.Body.{Body}
+use Rattle.jc_base.specs.declared.body.FrameAt.{FrameAt}
+use Rattle.jc_plan.specs.declared.branch.Branch.{Branch}
+use Rattle.jc_plan.specs.Probed.{probe_of}
+use Rattle.jc_after.specs.Shift.{shifted}
+use Rattle.jc_emit.specs.Sizes.{insn_at, late_probe, arms_at}
+use Rattle.jc_emit.specs.TwinCode.{arm_place, to_of}
+use Rattle.jc_base.specs.declared.insn.Insn.TheVariants as insns
+use Rattle.jc_base.specs.declared.insn.Flow.TheVariants as flows
+
+-- ---- the states of the body
+
+abbrev pub no_state : State
+no_state = record { locals = []; stack = [] }
+
+-- the state before an instruction
+abbrev pub state_at : List State → ℕ → State
+state_at states i = slice_index_or states i no_state
+
+-- how many operands a jump or a switch takes: two where it compares two, else one (JVM Specification 6.5)
+abbrev pub operands_by : ℕ → ℕ
+operands_by op = if nat_le opcode.if_icmpeq op && nat_le op opcode.if_acmpne then 2 else 1
+
+abbrev pub operands_of : Insn → ℕ
+operands_of (insns.Jump op to) = operands_by op
+operands_of _ = 1
+
+-- the state that a conditional jump or a switch leaves
+abbrev pub left_by : Insn → State → State
+left_by insn s = record { locals = s.locals; stack = take (length s.stack - operands_of insn) s.stack }
+
+-- behind a conditional jump: the state that it leaves where a probe follows, else that of the next instruction
+abbrev pub state_behind : Body → List State → ℕ → Option ℕ → State
+state_behind b states i None = state_at states (i + 1)
+state_behind b states i (Some id) = left_by (insn_at b.code i) (state_at states i)
+
+-- ---- which frames there are
+
+-- The images stand at the places that `image` gives, jumps land at those of `land`, and fall-throughs lead to those of
+-- `lead`.
+module _ (b : Body) (first : ℕ) (states : List State) (image land lead : ℕ → ℕ) where
+  -- where jumps to the instruction of a frame land: the frame's state
+  pub record IsOldFrame (q : ℕ) (state : State) : Type 0 where
+    pub frame : FrameAt
+    pub listed : Contains b.frames frame
+    pub place : q ≡ land frame.at
+    pub state_is : state ≡ frame.state
+
+  -- at the target of an inverted jump: the state of the next instruction
+  pub record IsInverseFrame (q : ℕ) (state : State) : Type 0 where
+    pub test : ℕ
+    pub id : ℕ
+    pub within : test < length b.code
+    pub probed : late_probe b first test ≡ Some id
+    pub place : q ≡ lead (test + 1)
+    pub state_is : state ≡ state_at states (test + 1)
+
+  -- at an arm place: the state that the switch leaves
+  pub record IsArmFrame (q : ℕ) (state : State) : Type 0 where
+    pub switch : ℕ
+    pub branch : Branch
+    pub id : ℕ
+    pub within : switch < length b.code
+    pub listed : Contains (arms_at b.code switch) branch
+    pub probed : probe_of b first branch ≡ Some id
+    pub place : q ≡ arm_place (probe_of b first) land (image switch + 1) (arms_at b.code switch) (to_of branch)
+    pub state_is : state ≡ left_by (insn_at b.code switch) (state_at states switch)
+
+  -- a frame behind a conditional jump, so far behind its image
+  pub record IsFrameBehind (far q : ℕ) (state : State) : Type 0 where
+    pub test : ℕ
+    pub within : test < length b.code
+    pub tests : flow_of (insn_at b.code test) ≡ flows.Tests
+    pub place : q ≡ image test + far
+    pub state_is : state ≡ state_behind b states test (late_probe b first test)
+
+  -- the frames of either layout
+  abbrev pub IsNarrowFrame : ℕ → State → Type 0
+  IsNarrowFrame q state = IsOldFrame q state ⊎ (IsInverseFrame q state ⊎ IsArmFrame q state)
+
+  -- the frames of the layout: in the wide one the jump behind the inverse of a conditional jump needs one more
+  abbrev pub IsFrame : Bool → ℕ → State → Type 0
+  IsFrame false q state = IsNarrowFrame q state
+  IsFrame true q state = IsNarrowFrame q state ⊎ IsFrameBehind 2 q state
+
+-- each frame stands behind the one before it, so there is one at a place
+abbrev pub AreRising : ℕ → List FrameAt → Type 0
+AreRising from [] = ⊤
+AreRising from (f ∷ frames) = (from ≤ f.at) × AreRising (f.at + 1) frames
+
+-- The frames are exactly those that are asked for, one at each place, each with the shifted state, by the names of
+-- classes.
+pub record AreTwinFrames (names new_names : Names) (v : ℕ) (image : ℕ → ℕ) (Asked : ℕ → State → Type 0) (frames : List FrameAt) : Type 0 where
+  pub rising : AreRising 0 frames
+  pub each : (f : FrameAt) → Contains frames f
+      → (state : State) × Asked f.at state × (seen new_names f.state ≡ shifted image v (seen names state))
+  pub every : (q : ℕ) (state : State) → Asked q state
+      → (f : FrameAt) × Contains frames f × (f.at ≡ q) × (seen new_names f.state ≡ shifted image v (seen names state))

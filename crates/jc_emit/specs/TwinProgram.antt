@@ -1,0 +1,109 @@
+-- The twin of a program: the same classes, some of them with their probes.
+use Rattle.std.specs.Prelude.{◌≡◌, ◌⊎◌, ⊤, ℕ, pos, ◌+◌, List, [], ◌∷◌, ◌++◌, map, Some, None, Contains}
+use Rattle.std.specs.Int.{w64, cast_signed}
+use Rattle.std.specs.List.{sum_by}
+use Rattle.jc_base.specs.Held.{Names, seen_at}
+use Rattle.jc_base.specs.WellMade.{IsWellMade}
+use Rattle.jc_base.specs.declared.kind.State.{State}
+use Rattle.jc_base.specs.declared.body.Body.{Body}
+use Rattle.jc_emit.specs.declared.program.StaticField.{StaticField}
+use Rattle.jc_emit.specs.declared.program.Linked.{Linked}
+use Rattle.jc_emit.specs.declared.program.Program.{Program}
+use Rattle.jc_kinds.specs.Answers.{AreStates}
+use Rattle.jc_kinds.specs.Checked.{Checked}
+use Rattle.jc_plan.specs.Probed.{probe_count}
+use Rattle.jc_emit.specs.Added.{data_name, data_type, init_name, IsInitBody}
+use Rattle.jc_emit.specs.Straddling.{NoneStraddles}
+use Rattle.jc_emit.specs.Twin.{Twin}
+
+-- ---- a class that stays as it is
+
+-- no body and no static field has the name of an added member
+pub record HasNoAdded (class : Linked) : Type 0 where
+  pub bodies : (b : Body) → Contains class.bodies b → b.name ≡ init_name → ⊥
+  pub statics : (f : StaticField) → Contains class.statics f → f.name ≡ data_name → ⊥
+
+-- two bodies are equal, where classes are compared by their names
+pub record IsSameBody (names new_names : Names) (b b' : Body) : Type 0 where
+  pub frames : map (seen_at new_names) b'.frames ≡ map (seen_at names) b.frames
+  pub others : b' ≡ record b { frames = b'.frames }
+
+abbrev pub AreSameBodies : Names → Names → List Body → List Body → Type 0
+AreSameBodies names new_names [] [] = ⊤
+AreSameBodies names new_names (b ∷ bodies) (b' ∷ others) =
+    IsSameBody names new_names b b' × AreSameBodies names new_names bodies others
+AreSameBodies names new_names _ _ = ⊥
+
+-- the two are equal
+pub record IsUnchangedPair (names new_names : Names) (class new : Linked) : Type 0 where
+  pub name : new.name ≡ class.name
+  pub bodies : AreSameBodies names new_names class.bodies new.bodies
+  pub statics : new.statics ≡ class.statics
+  pub has_clinit : new.has_clinit ≡ class.has_clinit
+  pub probes : new.probes ≡ class.probes
+  pub none_added : HasNoAdded class
+
+-- ---- a class with its probes
+
+-- no body and no static field has the name of either added member
+abbrev pub IsAddedName : List ℕ → Type 0
+IsAddedName name = (name ≡ init_name) ⊎ (name ≡ data_name)
+
+pub record HasNeither (class : Linked) : Type 0 where
+  pub bodies : (b : Body) → Contains class.bodies b → IsAddedName b.name → ⊥
+  pub statics : (f : StaticField) → Contains class.statics f → IsAddedName f.name → ⊥
+
+-- the twin of a body whose first id is this one
+pub record HasTwinBody (names new_names : Names) (first : ℕ) (b b' : Body) : Type 0 where
+  pub states : List State
+  pub are : AreStates names b states
+  pub twin : Twin names new_names states first b b'
+
+-- Each body has its twin, in order, and behind them stands one body more. The first ids are told by the bodies in front.
+abbrev pub AreTwinBodies : Names → Names → ℕ → List Body → List Body → Body → Type 0
+AreTwinBodies names new_names first [] others added = others ≡ added ∷ []
+AreTwinBodies names new_names first (b ∷ bodies) [] added = ⊥
+AreTwinBodies names new_names first (b ∷ bodies) (b' ∷ others) added =
+    HasTwinBody names new_names first b b' × AreTwinBodies names new_names (first + probe_count b) bodies others added
+
+-- the static field that keeps the probe array, none before the program begins
+abbrev pub data_static : StaticField
+data_static = record { name = data_name; desc = data_type; first = pos 0 }
+
+pub record IsChangedPair (names new_names : Names) (class new : Linked) : Type 0 where
+  pub name : new.name ≡ class.name
+  pub has_clinit : new.has_clinit ≡ class.has_clinit
+  pub none_added : HasNeither class
+  pub no_probes : class.probes ≡ None
+  pub none_straddles : (b : Body) → Contains class.bodies b → NoneStraddles b
+  pub id : ℕ
+  pub added : Body
+  pub bodies : AreTwinBodies names new_names 0 class.bodies new.bodies added
+  pub added_is : IsInitBody new_names class.name (cast_signed w64 id) (sum_by probe_count class.bodies) added
+  pub statics : new.statics ≡ class.statics ++ data_static ∷ []
+  pub probes : new.probes ≡ Some (record { id = id; count = sum_by probe_count class.bodies })
+
+abbrev pub IsPair : Names → Names → Linked → Linked → Type 0
+IsPair names new_names class new = IsUnchangedPair names new_names class new ⊎ IsChangedPair names new_names class new
+
+-- the classes are as many, and those at each place are a pair
+abbrev pub ArePairs : Names → Names → List Linked → List Linked → Type 0
+ArePairs names new_names [] [] = ⊤
+ArePairs names new_names (c ∷ classes) (n ∷ others) = IsPair names new_names c n × ArePairs names new_names classes others
+ArePairs names new_names _ _ = ⊥
+
+-- ---- a program
+
+-- no two classes have one name
+abbrev pub DifferInName : List Linked → Type 0
+DifferInName [] = ⊤
+DifferInName (c ∷ classes) = ((other : Linked) → Contains classes other → other.name ≡ c.name → ⊥) × DifferInName classes
+
+-- each body of a class is well made and passes the kind check
+abbrev pub AreChecked : Names → List Linked → Type 0
+AreChecked names classes = (c : Linked) → Contains classes c → (b : Body) → Contains c.bodies b → IsWellMade b × Checked names b
+
+pub record TwinProgram (p p' : Program) : Type 0 where
+  pub checked : AreChecked p.names p.classes
+  pub differ : DifferInName p.classes
+  pub pairs : ArePairs p.names p'.names p.classes p'.classes

@@ -1,0 +1,115 @@
+//! Laws of instrumented code.
+ghost use Rattle.std.specs.Prelude.{◌≡◌, ℕ, List, Bool, true, false, Option, Some, None, map, length};
+ghost use Rattle.jc_base.specs.Held.{Names};
+ghost use Rattle.jc_base.specs.Widened.{widened};
+ghost use Rattle.jc_base.specs.WellMade.{IsCode, IsHandler, IsWellMadeOfAnySize, what_used};
+ghost use Rattle.jc_base.specs.declared.body.Body.{Body};
+ghost use Rattle.jc_base.specs.declared.body.FrameAt.{FrameAt};
+ghost use Rattle.jc_base.specs.declared.body.Handler.{Handler};
+ghost use Rattle.jc_base.specs.declared.insn.Insn.{Insn};
+ghost use Rattle.jc_base.specs.declared.kind.State.{State};
+ghost use Rattle.jc_plan.specs.declared.branch.Branch.{Branch};
+ghost use Rattle.jc_plan.specs.Probed.{probe_of};
+ghost use Rattle.jc_emit.specs.Emission.{emission, HasFrameStates, IsArrayNumber, AreWidened};
+ghost use Rattle.jc_emit.specs.Items.{Item, own_of, insn_of, twin_items, image_of, land_of, lead_of, marks_of_items};
+ghost use Rattle.jc_emit.specs.Local.{AllOk, OkRow, unchanged_items};
+ghost use Rattle.jc_emit.specs.Marks.{Marks, IsProbe, image_place, land_place, lead_place};
+ghost use Rattle.jc_emit.specs.Ranks.{IsRanked};
+ghost use Rattle.jc_emit.specs.Seen.{IsSeen};
+ghost use Rattle.jc_emit.specs.Twin.{Twin, IsEmitted};
+ghost use Rattle.jc_emit.specs.TwinBody.{twin_body};
+ghost use Rattle.jc_emit.specs.TwinCode.{IsTwinCode, IsProbeIn};
+ghost use Rattle.jc_emit.specs.TwinFrames.{IsFrame, AreTwinFrames};
+ghost use Rattle.jc_emit.specs.TwinTables.{moved_row};
+
+/// The places that the own instructions tell are those of the function.
+pub fn each_image_stands()
+    ensures images { (b : Body) (first : ℕ) (wide : Bool) → IsCode b.code
+        → image_place (map own_of (twin_items b first wide)) ≡ image_of b first wide }
+    ensures lands { (b : Body) (first : ℕ) (wide : Bool) → IsCode b.code
+        → land_place b first (map own_of (twin_items b first wide)) ≡ land_of b first wide }
+    ensures leads { (b : Body) (first : ℕ) (wide : Bool) → IsCode b.code
+        → lead_place b first (map own_of (twin_items b first wide)) ≡ lead_of b first wide }
+{}
+
+/// The code that the function gives is a twin's, in either layout.
+pub fn each_twin_is_told()
+    ensures { (b : Body) (first : ℕ) (wide : Bool) (call : ℕ) → IsCode b.code
+        → IsTwinCode b first wide call (map (insn_of call b.arg_slots) (twin_items b first wide)) (marks_of_items (twin_items b first wide)) }
+{}
+
+/// A body has one twin's code for each layout, and it is the one that the function gives.
+pub fn each_twin_is_known()
+    ensures code { (b : Body) (first : ℕ) (wide : Bool) (call : ℕ) (code : List Insn) (m : Marks) → IsCode b.code
+        → IsTwinCode b first wide call code m → code ≡ map (insn_of call b.arg_slots) (twin_items b first wide) }
+    ensures marks { (b : Body) (first : ℕ) (wide : Bool) (call : ℕ) (code : List Insn) (m : Marks) → IsCode b.code
+        → IsTwinCode b first wide call code m → m ≡ marks_of_items (twin_items b first wide) }
+{}
+
+/// Each probe in a twin's code is that of a probed edge, and no id has two; so each probed edge has exactly one probe.
+pub fn each_probe_is_once()
+    ensures edge { (b : Body) (first : ℕ) (wide : Bool) (call : ℕ) (code : List Insn) (m : Marks) → IsCode b.code
+        → IsTwinCode b first wide call code m → (q id at : ℕ) → IsProbe code m b.arg_slots q id at
+        → IsProbeIn b first wide code m q id at }
+    ensures once { (b : Body) (first : ℕ) (wide : Bool) (call : ℕ) (code : List Insn) (m : Marks) → IsCode b.code
+        → IsTwinCode b first wide call code m → (q r id at to : ℕ) → IsProbe code m b.arg_slots q id at
+        → IsProbe code m b.arg_slots r id to → q ≡ r }
+{}
+
+/// A twin goes on where it should, at each of its instructions, in either layout.
+pub fn each_twin_goes_on()
+    ensures { (b : Body) (first : ℕ) (wide : Bool) → IsCode b.code
+        → AllOk b.code (Some b.arg_slots) (probe_of b first) (twin_items b first wide) }
+{}
+
+/// A row of a twin holds the images of what the row of the body holds, and leads to where its handler goes on.
+pub fn each_row_is_kept()
+    ensures { (b : Body) (first : ℕ) (wide : Bool) → IsCode b.code → (h : Handler) → IsHandler (length b.code) h
+        → OkRow b.code (Some b.arg_slots) (probe_of b first) (twin_items b first wide) h
+        (moved_row (lead_of b first wide) (land_of b first wide) h) }
+{}
+
+/// An unchanged body goes on where it should, at each of its instructions.
+pub fn each_unchanged_body_goes_on()
+    ensures { (code : List Insn) → IsCode code → AllOk code None (λ (x : Branch). None) (unchanged_items code) }
+{}
+
+/// A twin is seen from each of its instructions: each goes on where it should, and the exception rows are kept.
+pub fn each_twin_is_seen()
+    ensures { (names new_names : Names) (states : List State) (first : ℕ) (b b' : Body) → IsWellMadeOfAnySize b
+        → (t : Twin names new_names states first b b') → IsSeen first b b' t.marks }
+{}
+
+/// What goes on where it should comes to an image soon.
+pub fn each_image_comes_soon()
+    ensures { (code : List Insn) (slot : Option ℕ) (ids : Branch → Option ℕ) (items : List Item) → AllOk code slot ids items
+        → IsRanked code ids items }
+{}
+
+/// What the function gives is the instrumented code of the body.
+pub fn each_emission_is_told()
+    ensures { (b : Body) (first : ℕ) (states : List State) (array : ℕ) (names : Names) → IsWellMadeOfAnySize b
+        → HasFrameStates b states → IsArrayNumber names array → IsEmitted names names states first b (emission b first states array) }
+{}
+
+/// The wide form of a twin's code in the narrow layout is its code in the wide layout.
+pub fn each_wide_twin_is_wide()
+    ensures { (b : Body) (first : ℕ) (call : ℕ) → IsCode b.code
+        → widened (map (insn_of call b.arg_slots) (twin_items b first false)) ≡ map (insn_of call b.arg_slots) (twin_items b first true) }
+{}
+
+/// The frames of the narrow layout and the further ones, in the wide code, are the frames of a twin in the wide layout.
+pub fn each_wide_frame_is_told()
+    ensures { (b : Body) (first : ℕ) (states : List State) (array : ℕ) (names : Names) → IsWellMadeOfAnySize b
+        → HasFrameStates b states → IsArrayNumber names array
+        → (frames : List FrameAt) → AreWidened (emission b first states array) frames
+        → AreTwinFrames names names b.arg_slots (image_of b first true)
+        (IsFrame b first states (image_of b first true) (land_of b first true) (lead_of b first true) true) frames }
+{}
+
+/// Each well made body has a twin in the narrow layout, where the method that it calls has a place of its own in the pool.
+pub fn each_body_has_a_twin()
+    ensures { (b : Body) (first : ℕ) (states : List State) (array call : ℕ) (names : Names) → IsWellMadeOfAnySize b
+        → HasFrameStates b states → IsArrayNumber names array → what_used b.uses call ≡ None
+        → Twin names names states first b (twin_body b first states array call) }
+{}
