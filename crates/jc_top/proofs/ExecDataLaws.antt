@@ -9,7 +9,7 @@ use Rattle.jc_exec.specs.Answers.{why_of}
 use Rattle.jc_exec.specs.Format.{Block, Blocks}
 use Rattle.jc_exec.specs.Refusing.{Refused, bad_exec, other_version, conflict, blocks_of, FirstRefusal, IsTaken, IsRefused}
 use Rattle.jc_exec.specs.Store.{Store}
-use Rattle.jc_exec.specs.Union.{IsUnion, ReadsOn, with_block, union_of}
+use Rattle.jc_exec.specs.Union.{IsUnion, ReadsOn, union_of}
 use Rattle.jc_exec.proofs.AnsweringLaws.{answered}
 use Rattle.jc_exec.proofs.ListLaws.{one_list}
 use Rattle.jc_exec.proofs.MergingLaws.{merging_makes_union, union_distinct, union_is_merged}

@@ -6,6 +6,7 @@ pub mod InputLaws
 pub mod ListingLaws
 pub mod ExecDataLaws
 pub mod MergeLaws
+pub mod MethodLaws
 pub mod InfoLaws
 pub mod WorkLaws
 pub mod RunLaws

@@ -1,93 +1,97 @@
 -- What is made of class files is one list of lines, or one refusal.
-use Rattle.std.proofs.Common.{◌≡◌, ◌⊎◌, inl, inr, ⊎_elim, ℕ, zero, suc, ◌+◌, ◌<◌, ◌≤◌, Bool, true, false, List, [], ◌∷◌, ◌++◌, length, take, get_or, map, Ok, Err, Vec, Bor, true≢false, refl, sym, ◌∙◌, ap, ap₂, subst, arith, String, string_bytes}
+use Rattle.std.proofs.Common.{◌≡◌, ◌⊎◌, inl, inr, ⊎_elim, ℕ, zero, suc, ◌+◌, ◌<◌, ◌≤◌, List, [], ◌∷◌, ◌++◌, length, take, get_or, map, Some, Ok, Err, Vec, Bor, refl, sym, ◌∙◌, ap, ap₂, subst, arith, append_assoc, String, string_bytes}
+use Rattle.std.proofs.lemmas.List.{append-nil, take_more, take_all, map-append, length-map, get_or-map}
+use Rattle.std.specs.List.{AllByRecursion}
 use Rattle.std.specs.declared.alloc.Global.{Global}
+use Rattle.jc_base.specs.ByteLists.{AreBytes}
+use Rattle.jc_base.specs.Outside.{most_read}
+use Rattle.jc_base.specs.declared.analysed.Analysed.{Analysed}
+use Rattle.jc_base.specs.declared.body.Body.{Body}
 use Rattle.jc_base.specs.declared.fail.Fail.{Fail}
 use Rattle.jc_base.specs.declared.fail.Fail.TheVariants as fails
 use Rattle.jc_base.specs.declared.refusal.Refusal.{Refusal}
-use Rattle.jc_class.specs.declared.class_file.ClassFile.{ClassFile}
-use Rattle.jc_class.specs.ClassText.{ClassText, FirstBad, not_a_class, RefusedAs}
-use Rattle.jc_class.proofs.FirstBadLaws.{each_text, apart, one_class_of, one_place}
-use Rattle.jc_top.specs.Words.{Word, words_of}
-use Rattle.jc_top.specs.ClassInfo.{Listing, prints, refuses, Lists, known, unknown, no_class, is_known_version, class_line, other_version, AreListed, RefusedAt}
-use Rattle.std.proofs.lemmas.List.{take_more, take_all, map-append, length-map, get_or-map}
+use Rattle.jc_kinds.specs.Answers.{Said}
+use Rattle.jc_instrument.specs.Analysis.{IsAnalysis}
+use Rattle.jc_instrument.specs.Reasons.{AnalysisReason}
+use Rattle.jc_instrument.specs.SameAnalysis.{IsSameAnalysis, without_frames}
+use Rattle.jc_instrument.proofs.OneReasonLaws.{one_reason}
+use Rattle.jc_instrument.proofs.SameAnalysisLaws.{same_analysis}
+use Rattle.jc_instrument.proofs.EachAnalysisLaws.{each_analysis, analysis_or_reason}
 use Rattle.jc_top.specs.declared.output.Write.{Write as Written}
-use Rattle.jc_top.specs.declared.output.Write.TheVariants as written
 use Rattle.jc_top.specs.declared.status.Status.TheVariants as status
 use Rattle.jc_top.specs.declared.status.Fault.TheVariants as fault
+use Rattle.jc_top.specs.Words.{Word, words_of}
+use Rattle.jc_top.specs.ClassInfo.{class_line, method_line, class_lines, Listing, prints, refuses, Lists, analysed, refused, AreListed, RefusedAt}
 use Rattle.jc_top.specs.Command.{class_info}
 use Rattle.jc_top.specs.Looks.{write_seen}
 use Rattle.jc_top.specs.World.{Write, to_out}
 use Rattle.jc_top.specs.Work.{Answers, listed, class_refused, refusing}
-use Rattle.jc_top.specs.Outcome.{ListsAs, class_stop, AnswersWith}
+use Rattle.jc_top.specs.Outcome.{class_stop, AnswersWith}
+
+-- ---- one file
+
+-- the lines of bodies don't depend on their frames
+lines_without : (bodies : List Body) → map method_line (map without_frames bodies) ≡ map method_line bodies
+lines_without [] = refl
+lines_without (b ∷ bodies) = ap (λ (ls : List (List ℕ)). method_line b ∷ ls) (lines_without bodies)
+
+same_lines : (a b : Analysed) → IsSameAnalysis a b → class_lines a ≡ class_lines b
+same_lines a b same =
+    let methods : map method_line a.bodies ≡ map method_line b.bodies = sym (lines_without a.bodies) ∙ ap (map method_line) same.bodies ∙ lines_without b.bodies in
+    ap₂ (λ (l : List ℕ) (ls : List (List ℕ)). l ∷ ls) (ap class_line same.rest) methods
 
 -- a listing, by what decided it
 data ListingOf (bytes : List ℕ) (l : Listing) : Type 0 where
-  by_known : (c : ClassFile) → ClassText bytes c → is_known_version c.major ≡ true → l ≡ prints (class_line bytes c) → ListingOf bytes l
-  by_unknown : (c : ClassFile) → ClassText bytes c → is_known_version c.major ≡ false → l ≡ refuses (other_version c.major) → ListingOf bytes l
-  by_bad : (place : ℕ) → FirstBad bytes place → l ≡ refuses (not_a_class place) → ListingOf bytes l
+  by_analysis : (a : Analysed) → IsAnalysis bytes a → l ≡ prints (class_lines a) → ListingOf bytes l
+  by_reason : (why : Refusal) → AnalysisReason bytes (Some why) → l ≡ refuses why → ListingOf bytes l
 
 listing_of : (bytes : List ℕ) (l : Listing) → Lists bytes l → ListingOf bytes l
-listing_of bytes l (known c text old) = by_known c text old refl
-listing_of bytes l (unknown c text other) = by_unknown c text other refl
-listing_of bytes l (no_class place bad) = by_bad place bad refl
+listing_of bytes l (analysed a is) = by_analysis a is refl
+listing_of bytes l (refused why is) = by_reason why is refl
+
+-- bytes that a file holds and that are read
+abbrev pub IsFile : List ℕ → Type 0
+IsFile bytes = AreBytes bytes × (length bytes ≤ most_read)
+
+some_is : {a b : Refusal} → Some a ≡ Some b → a ≡ b
+some_is e = cc
 
 module _ (bytes : List ℕ) where
-  both_versions : {P : Type 0} (c d : ClassFile) → ClassText bytes c → ClassText bytes d → is_known_version c.major ≡ true → is_known_version d.major ≡ false → P
-  both_versions c d p q is isnt = absurd (true≢false (sym is ∙ ap (λ (e : ClassFile). is_known_version e.major) (one_class_of bytes c d p q) ∙ isnt))
-
   one_listing_of : (a b : Listing) → ListingOf bytes a → ListingOf bytes b → a ≡ b
-  one_listing_of a b (by_known c p is e) (by_known d q is' f) = e ∙ ap (λ (x : ClassFile). prints (class_line bytes x)) (one_class_of bytes c d p q) ∙ sym f
-  one_listing_of a b (by_known c p is e) (by_unknown d q isnt f) = both_versions c d p q is isnt
-  one_listing_of a b (by_known c p is e) (by_bad place q f) = absurd (apart bytes c place p q)
-  one_listing_of a b (by_unknown c p isnt e) (by_known d q is f) = both_versions d c q p is isnt
-  one_listing_of a b (by_unknown c p isnt e) (by_unknown d q isnt' f) = e ∙ ap (λ (x : ClassFile). refuses (other_version x.major)) (one_class_of bytes c d p q) ∙ sym f
-  one_listing_of a b (by_unknown c p isnt e) (by_bad place q f) = absurd (apart bytes c place p q)
-  one_listing_of a b (by_bad place p e) (by_known d q is f) = absurd (apart bytes d place q p)
-  one_listing_of a b (by_bad place p e) (by_unknown d q isnt f) = absurd (apart bytes d place q p)
-  one_listing_of a b (by_bad place p e) (by_bad other q f) = e ∙ ap (λ (n : ℕ). refuses (not_a_class n)) (one_place bytes place other p q) ∙ sym f
+  one_listing_of a b (by_analysis x is e) (by_analysis y is' f) = e ∙ ap prints (same_lines x y (same_analysis bytes x y is is')) ∙ sym f
+  one_listing_of a b (by_analysis x is e) (by_reason why r f) = absurd (analysis_or_reason bytes x why is r)
+  one_listing_of a b (by_reason why r e) (by_analysis x is f) = absurd (analysis_or_reason bytes x why is r)
+  one_listing_of a b (by_reason why r e) (by_reason other s f) = e ∙ ap refuses (some_is (one_reason bytes (Some why) (Some other) r s)) ∙ sym f
 
   pub one_listing : (a b : Listing) → Lists bytes a → Lists bytes b → a ≡ b
   one_listing a b p q = one_listing_of a b (listing_of bytes a p) (listing_of bytes b q)
 
-  pub some_listing : (l : Listing) × Lists bytes l
-  some_listing = ⊎_elim (λ text. version text.0 text.1) (λ bad. (_, no_class bad.0 bad.1)) (each_text bytes)
-    where
-      version : (c : ClassFile) → ClassText bytes c → (l : Listing) × Lists bytes l
-      version c text = by (is_known_version c.major) refl
-        where
-          by : (b : Bool) → is_known_version c.major ≡ b → (l : Listing) × Lists bytes l
-          by true is = (_, known c text is)
-          by false isnt = (_, unknown c text isnt)
+  some_listing : IsFile bytes → (l : Listing) × Lists bytes l
+  some_listing file = ⊎_elim (λ a. (_, analysed a.0 a.1)) (λ r. (_, refused r.0 r.1)) (each_analysis bytes file.0 file.1)
 
-pub refused_listing : (bytes : List ℕ) (fail : Fail Refusal) → RefusedAs fail (FirstBad bytes) → ListsAs bytes (Err fail)
-refused_listing bytes fails.Memory bad = tt
-refused_listing bytes (fails.Said why) bad = subst (λ (r : Refusal). Lists bytes (refuses r)) (sym bad.0) (no_class why.place bad.1)
-
-line_is : (a b : List ℕ) → prints a ≡ prints b → a ≡ b
-line_is a b e = cc
+lines_are : (a b : List (List ℕ)) → prints a ≡ prints b → a ≡ b
+lines_are a b e = cc
 
 refusal_is : (a b : Refusal) → refuses a ≡ refuses b → a ≡ b
 refusal_is a b e = cc
 
-line_or_refusal : {P : Type 0} {a : List ℕ} {b : Refusal} → prints a ≡ refuses b → P
-line_or_refusal e = absurd cc
+lines_or_refusal : {P : Type 0} {a : List (List ℕ)} {b : Refusal} → prints a ≡ refuses b → P
+lines_or_refusal e = absurd cc
 
 -- ---- lists of files
 
-pub one_list : (ts ls ms : List (List ℕ)) → AreListed ts ls → AreListed ts ms → ls ≡ ms
-one_list [] [] [] p q = refl
-one_list [] [] (m ∷ ms) p q = absurd q
-one_list [] (l ∷ ls) ms p q = absurd p
-one_list (t ∷ ts) [] ms p q = absurd p
-one_list (t ∷ ts) (l ∷ ls) [] p q = absurd q
-one_list (t ∷ ts) (l ∷ ls) (m ∷ ms) p q = ap₂ (λ (x : List ℕ) (xs : List (List ℕ)). x ∷ xs) (line_is l m (one_listing t (prints l) (prints m) p.0 q.0)) (one_list ts ls ms p.1 q.1)
+pub one_list : (ts : List (List ℕ)) (ls ms : List (List ℕ)) → AreListed ts ls → AreListed ts ms → ls ≡ ms
+one_list [] ls ms p q = p ∙ sym q
+one_list (t ∷ ts) ls ms (own, rest, is, parts, later) (own', rest', is', parts', later') =
+    let same : own ≡ own' = lines_are own own' (one_listing t (prints own) (prints own') is is') in
+    let more : rest ≡ rest' = one_list ts rest rest' later later' in
+    parts ∙ ap₂ (λ (x y : List (List ℕ)). x ++ y) same more ∙ sym parts'
 
 pub listed_or_refused : (k : ℕ) (ps : List Word) (ts ls : List (List ℕ)) (index : ℕ) (path : Word) (why : Refusal) → AreListed ts ls → RefusedAt k ps ts index path why → ⊥
 listed_or_refused k [] ts ls index path why p q = absurd q
 listed_or_refused k (x ∷ ps) [] ls index path why p q = absurd q
-listed_or_refused k (x ∷ ps) (t ∷ ts) [] index path why p q = absurd p
-listed_or_refused k (x ∷ ps) (t ∷ ts) (l ∷ ls) index path why p (inl here) = line_or_refusal (one_listing t (prints l) (refuses why) p.0 here.0)
-listed_or_refused k (x ∷ ps) (t ∷ ts) (l ∷ ls) index path why p (inr later) = listed_or_refused (k + 1) ps ts ls index path why p.1 later.2
+listed_or_refused k (x ∷ ps) (t ∷ ts) ls index path why (own, rest, is, parts, later) (inl here) = lines_or_refusal (one_listing t (prints own) (refuses why) is here.0)
+listed_or_refused k (x ∷ ps) (t ∷ ts) ls index path why (own, rest, is, parts, later) (inr behind) = listed_or_refused (k + 1) ps ts rest index path why later behind.2
 
 pub record SameRefusal (index : ℕ) (path : Word) (why : Refusal) (index' : ℕ) (path' : Word) (why' : Refusal) : Type 0 where
   pub index_is : index ≡ index'
@@ -97,41 +101,43 @@ pub record SameRefusal (index : ℕ) (path : Word) (why : Refusal) (index' : ℕ
 pub one_refusal : (k : ℕ) (ps : List Word) (ts : List (List ℕ)) (index index' : ℕ) (path path' : Word) (why why' : Refusal) → RefusedAt k ps ts index path why → RefusedAt k ps ts index' path' why' → SameRefusal index path why index' path' why'
 one_refusal k [] ts index index' path path' why why' p q = absurd p
 one_refusal k (x ∷ ps) [] index index' path path' why why' p q = absurd p
-one_refusal k (x ∷ ps) (t ∷ ts) index index' path path' why why' (inl p) (inl q) = record { index_is = p.1 ∙ sym q.1; path_is = p.2 ∙ sym q.2; why_is = refusal_is why why' (one_listing t (refuses why) (refuses why') p.0 q.0) }
-one_refusal k (x ∷ ps) (t ∷ ts) index index' path path' why why' (inl p) (inr q) = line_or_refusal (one_listing t (prints q.0) (refuses why) q.1 p.0)
-one_refusal k (x ∷ ps) (t ∷ ts) index index' path path' why why' (inr p) (inl q) = line_or_refusal (one_listing t (prints p.0) (refuses why') p.1 q.0)
+one_refusal k (x ∷ ps) (t ∷ ts) index index' path path' why why' (inl p) (inl q) =
+    record { index_is = p.1 ∙ sym q.1; path_is = p.2 ∙ sym q.2; why_is = refusal_is why why' (one_listing t (refuses why) (refuses why') p.0 q.0) }
+one_refusal k (x ∷ ps) (t ∷ ts) index index' path path' why why' (inl p) (inr q) = lines_or_refusal (one_listing t (prints q.0) (refuses why) q.1 p.0)
+one_refusal k (x ∷ ps) (t ∷ ts) index index' path path' why why' (inr p) (inl q) = lines_or_refusal (one_listing t (prints p.0) (refuses why') p.1 q.0)
 one_refusal k (x ∷ ps) (t ∷ ts) index index' path path' why why' (inr p) (inr q) = one_refusal (k + 1) ps ts index index' path path' why why' p.2 q.2
 
-pub some_list : (k : ℕ) (ps : List Word) (ts : List (List ℕ)) → length ps ≡ length ts → ((ls : List (List ℕ)) × AreListed ts ls) ⊎ ((index : ℕ) × (path : Word) × (why : Refusal) × RefusedAt k ps ts index path why)
-some_list k [] [] same = inl ([], tt)
-some_list k [] (t ∷ ts) same = absurd (omega (arith, same))
-some_list k (p ∷ ps) [] same = absurd (omega (arith, same))
-some_list k (p ∷ ps) (t ∷ ts) same = by (some_listing t).0 (some_listing t).1 (some_list (k + 1) ps ts (omega (arith, same)))
+-- the files are listed, or one is the first that is refused
+abbrev Decided : ℕ → List Word → List (List ℕ) → Type 0
+Decided k ps ts = ((ls : List (List ℕ)) × AreListed ts ls) ⊎ ((index : ℕ) × (path : Word) × (why : Refusal) × RefusedAt k ps ts index path why)
+
+pub some_list : (k : ℕ) (ps : List Word) (ts : List (List ℕ)) → length ps ≡ length ts → AllByRecursion IsFile ts → Decided k ps ts
+some_list k [] [] same short = inl ([], refl)
+some_list k [] (t ∷ ts) same short = absurd (omega (arith, same))
+some_list k (p ∷ ps) [] same short = absurd (omega (arith, same))
+some_list k (p ∷ ps) (t ∷ ts) same short = by (some_listing t short.0).0 (some_listing t short.0).1 (some_list (k + 1) ps ts (omega (arith, same)) short.1)
   where
-    by : (l : Listing) → Lists t l → ((ls : List (List ℕ)) × AreListed ts ls) ⊎ ((index : ℕ) × (path : Word) × (why : Refusal) × RefusedAt (k + 1) ps ts index path why)
-        → ((ls : List (List ℕ)) × AreListed (t ∷ ts) ls) ⊎ ((index : ℕ) × (path : Word) × (why : Refusal) × RefusedAt k (p ∷ ps) (t ∷ ts) index path why)
+    by : (l : Listing) → Lists t l → Decided (k + 1) ps ts → Decided k (p ∷ ps) (t ∷ ts)
     by (refuses why) is rest = inr (k, p, why, inl (is, refl, refl))
-    by (prints l) is (inl rest) = inl (l ∷ rest.0, (is, rest.1))
-    by (prints l) is (inr rest) = inr (rest.0, rest.1, rest.2, inr (l, is, rest.3))
+    by (prints own) is (inl rest) = inl (own ++ rest.0, (own, rest.0, is, refl, rest.1))
+    by (prints own) is (inr rest) = inr (rest.0, rest.1, rest.2, inr (own, is, rest.3))
 
 -- ---- one file after the other
 
-pub listed_more : (ts ls : List (List ℕ)) (t l : List ℕ) → AreListed ts ls → Lists t (prints l) → AreListed (ts ++ t ∷ []) (ls ++ l ∷ [])
-listed_more [] [] t l p q = (q, tt)
-listed_more [] (m ∷ ls) t l p q = absurd p
-listed_more (u ∷ ts) [] t l p q = absurd p
-listed_more (u ∷ ts) (m ∷ ls) t l p q = (p.0, listed_more ts ls t l p.1 q)
+pub listed_more : (ts ls : List (List ℕ)) (t : List ℕ) (own : List (List ℕ)) → AreListed ts ls → Lists t (prints own) → AreListed (ts ++ t ∷ []) (ls ++ own)
+listed_more [] ls t own none is = (own, [], is, ap (λ (l : List (List ℕ)). l ++ own) none ∙ sym (append-nil own), refl)
+listed_more (u ∷ ts) ls t own (front, rest, is', parts, later) is =
+    (front, rest ++ own, is', ap (λ (l : List (List ℕ)). l ++ own) parts ∙ append_assoc front rest own, listed_more ts rest t own later is)
 
 pub refused_here : (k : ℕ) (ps : List Word) (ts ls : List (List ℕ)) (i : ℕ) (p : Word) (t : List ℕ) (why : Refusal) → length ps ≡ length ts → i < length ts → AreListed (take i ts) ls → t ≡ get_or ts i t → p ≡ get_or ps i p → Lists t (refuses why) → RefusedAt k ps ts (k + i) p why
 refused_here k [] [] ls i p t why same within are text path is = absurd (omega (arith, within))
 refused_here k [] (u ∷ ts) ls i p t why same within are text path is = absurd (omega (arith, same))
 refused_here k (x ∷ ps) [] ls i p t why same within are text path is = absurd (omega (arith, same))
 refused_here k (x ∷ ps) (u ∷ ts) ls zero p t why same within are text path is = inl (subst (λ (l : List ℕ). Lists l (refuses why)) text is, omega arith, path)
-refused_here k (x ∷ ps) (u ∷ ts) [] (suc i) p t why same within are text path is = absurd are
-refused_here k (x ∷ ps) (u ∷ ts) (l ∷ ls) (suc i) p t why same within are text path is =
-    let next = refused_here (k + 1) ps ts ls i p t why (omega (arith, same)) (omega (arith, within)) are.1 text path is in
+refused_here k (x ∷ ps) (u ∷ ts) ls (suc i) p t why same within (own, rest, first, parts, later) text path is =
+    let next = refused_here (k + 1) ps ts rest i p t why (omega (arith, same)) (omega (arith, within)) later text path is in
     let index : k + 1 + i ≡ k + suc i = omega arith in
-    inr (l, are.0, subst (λ (n : ℕ). RefusedAt (k + 1) ps ts n p why) index next)
+    inr (own, first, subst (λ (n : ℕ). RefusedAt (k + 1) ps ts n p why) index next)
 
 -- ---- the writes of the lines
 
@@ -142,24 +148,30 @@ pub record LinesOf (texts : List (List ℕ)) (writes : List Written) : Type 0 wh
   pub listed : AreListed texts lines
 
 pub no_lines : (texts : List (List ℕ)) (writes : List Written) → writes ≡ [] → LinesOf (take 0 texts) writes
-no_lines texts writes none = record { lines = []; writes_are = ap (map write_seen) none; listed = tt }
+no_lines texts writes none = record { lines = []; writes_are = ap (map write_seen) none; listed = refl }
 
-pub one_line_more : (texts : List (List ℕ)) (writes more : List Written) (i : ℕ) (t : List ℕ) (line : Vec ℕ Global) → LinesOf (take i texts) writes → i < length texts → t ≡ get_or texts i t → Lists t (prints line.items) → more ≡ writes ++ written.Out line ∷ []
+pub more_lines : (texts : List (List ℕ)) (writes more : List Written) (i : ℕ) (t : List ℕ) (class : Analysed) → LinesOf (take i texts) writes
+    → i < length texts → t ≡ get_or texts i t → IsAnalysis t class → map write_seen more ≡ map write_seen writes ++ map to_out (class_lines class)
     → LinesOf (take (i + 1) texts) more
-one_line_more texts writes more i t line so_far within is lists grows = record {
-  lines = so_far.lines ++ line.items ∷ [];
-  writes_are = ap (map write_seen) grows ∙ map-append write_seen writes (written.Out line ∷ []) ∙ ap (λ (ws : List Write). ws ++ to_out line.items ∷ []) so_far.writes_are ∙ sym (map-append to_out so_far.lines (line.items ∷ []));
-  listed = subst (λ (ts : List (List ℕ)). AreListed ts (so_far.lines ++ line.items ∷ [])) (sym (take_more texts i t within) ∙ refl) (listed_more (take i texts) so_far.lines (get_or texts i t) line.items so_far.listed (subst (λ (u : List ℕ). Lists u (prints line.items)) is lists));
+more_lines texts writes more i t class so_far within text is grows = record {
+  lines = so_far.lines ++ class_lines class;
+  writes_are =
+      grows ∙ ap (λ (ws : List Write). ws ++ map to_out (class_lines class)) so_far.writes_are ∙ sym (map-append to_out so_far.lines (class_lines class));
+  listed =
+      let longer : take (i + 1) texts ≡ take i texts ++ t ∷ [] = take_more texts i t within ∙ ap (λ (u : List ℕ). take i texts ++ u ∷ []) (sym text) in
+      subst (λ (ts : List (List ℕ)). AreListed ts (so_far.lines ++ class_lines class)) (sym longer)
+      (listed_more (take i texts) so_far.lines t (class_lines class) so_far.listed (analysed class is));
 }
 
 pub listing_refused : (words : List (String Global)) (texts : List (List ℕ)) (writes : List Written) (i : ℕ) (w : String Global) (t : List ℕ) (fail : Fail Refusal) (file : Bor (List ℕ)) → length words ≡ length texts → LinesOf (take i texts) writes → i < length texts
-    → t ≡ get_or texts i t → w ≡ get_or words i w → file.now ≡ string_bytes w → ListsAs t (Err fail) → AnswersWith (class_info (words_of words)) texts (Err (class_stop fail i file))
-listing_refused words texts writes i w t fails.Memory file same so_far within text word path lists = tt
-listing_refused words texts writes i w t (fails.Said why) file same so_far within text word path lists =
+    → t ≡ get_or texts i t → w ≡ get_or words i w → file.now ≡ string_bytes w → Said fail (λ r. AnalysisReason t (Some r)) → AnswersWith (class_info (words_of words)) texts (Err (class_stop fail i file))
+listing_refused words texts writes i w t fails.Memory file same so_far within text word path reason = tt
+listing_refused words texts writes i w t (fails.Said why) file same so_far within text word path reason =
     let counted : 0 + i ≡ i = omega arith in
     let at : string_bytes w ≡ get_or (words_of words) i (string_bytes w) = ap string_bytes word ∙ sym (get_or-map string_bytes words i w (string_bytes w) (omega (arith, same, within))) in
     subst (λ (p : Word). Answers (class_info (words_of words)) texts (refusing p (fault.Class i why))) (sym path)
-    (class_refused i (string_bytes w) why (subst (λ (n : ℕ). RefusedAt 0 (words_of words) texts n (string_bytes w) why) counted (refused_here 0 (words_of words) texts so_far.lines i (string_bytes w) t why (length-map words string_bytes ∙ same) within so_far.listed text at lists)))
+    (class_refused i (string_bytes w) why (subst (λ (n : ℕ). RefusedAt 0 (words_of words) texts n (string_bytes w) why) counted
+    (refused_here 0 (words_of words) texts so_far.lines i (string_bytes w) t why (length-map words string_bytes ∙ same) within so_far.listed text at (refused why reason))))
 
 pub listing_done : (words : List Word) (texts : List (List ℕ)) (writes : Vec Written Global) (i : ℕ) → LinesOf (take i texts) writes.items → length texts ≤ i → AnswersWith (class_info words) texts (Ok writes)
 listing_done words texts writes i so_far all =

@@ -1,6 +1,7 @@
 -- The work of words over told contents is one.
 use Rattle.std.proofs.Common.{◌≡◌, ◌⊎◌, inl, inr, ⊎_elim, ℕ, ◌≤◌, List, [], ◌∷◌, ◌++◌, length, map, Option, None, Some, refl, sym, ◌∙◌, ap, ap₂, subst, arith}
 use Rattle.std.specs.FinMap.{get}
+use Rattle.std.specs.List.{AllByRecursion}
 use Rattle.jc_base.proofs.DecoderLaws.{some_is, some_none}
 use Rattle.jc_base.specs.Outside.{FileMap, IsLong, most_read}
 use Rattle.jc_exec.specs.declared.refusal.ExecRefusal.{ExecRefusal}
@@ -14,14 +15,14 @@ use Rattle.jc_top.specs.Words.{Word}
 use Rattle.jc_top.specs.Command.{Command, merge, exec_info, class_info, inputs_of, Means, NoForm}
 use Rattle.jc_top.specs.Texts.{usage_text, cannot_read}
 use Rattle.jc_top.specs.World.{to_file, to_out, to_err}
-use Rattle.jc_top.specs.Work.{Holds, CantRead, AreRead, StopsAt, Answer, Answers, merged, merge_refused, informed, exec_info_refused, listed, class_refused, refusing, Work, IsWork, usage, unreadable, answered, WorkEnds}
+use Rattle.jc_top.specs.Work.{Holds, HoldsBytes, CantRead, AreRead, StopsAt, Answer, Answers, merged, merge_refused, informed, exec_info_refused, listed, class_refused, refusing, Work, IsWork, usage, unreadable, answered, WorkEnds}
 use Rattle.jc_base.specs.declared.refusal.Refusal.{Refusal}
 use Rattle.jc_top.specs.ClassInfo.{AreListed, RefusedAt}
 use Rattle.jc_top.specs.ExecData.{IsUnionOf, IsFirstRefused, IsFirstRefusedAlone}
 use Rattle.jc_top.specs.ExecInfo.{AreInfo}
 use Rattle.jc_top.proofs.ExecDataLaws.{one_union_of, union_or_refused, one_refused, some_union_or_refused, data_or_refused, one_refused_alone, some_data_or_refused}
 use Rattle.jc_top.proofs.InfoLaws.{one_info, info_is_data, data_has_info}
-use Rattle.jc_top.proofs.ListingLaws.{one_list, listed_or_refused, one_refusal, some_list}
+use Rattle.jc_top.proofs.ListingLaws.{IsFile, one_list, listed_or_refused, one_refusal, some_list}
 use Rattle.jc_top.proofs.CommandLaws.{one_command, command_or_none}
 
 -- ---- reading
@@ -239,17 +240,24 @@ as_many m [] (t ∷ ts) read = absurd read
 as_many m (p ∷ ps) [] read = absurd read
 as_many m (p ∷ ps) (t ∷ ts) read = let rest = as_many m ps ts read.1 in omega (arith, rest)
 
-some_answer : (command : Command) (texts : List (List ℕ)) (m : FileMap) → AreRead m (inputs_of command) texts → (answer : Answer) × Answers command texts answer
-some_answer (merge out inputs) texts m read = ⊎_elim (λ union. (_, merged union.0 union.1)) (λ refused. (_, merge_refused refused.0 refused.1 refused.2 refused.3)) (some_union_or_refused inputs texts)
-some_answer (exec_info paths) texts m read =
-    ⊎_elim (λ holds. let info = data_has_info paths texts (as_many m paths texts read) holds in (_, informed info.0 info.1)) (λ refused. (_, exec_info_refused refused.0 refused.1 refused.2 refused.3)) (some_data_or_refused paths texts)
-some_answer (class_info paths) texts m read = ⊎_elim (λ lines. (_, listed lines.0 lines.1)) (λ refused. (_, class_refused refused.0 refused.1 refused.2 refused.3)) (some_list 0 paths texts (as_many m paths texts read))
+all_files : (m : FileMap) (paths : List Word) (texts : List (List ℕ)) → HoldsBytes m → AreRead m paths texts → AllByRecursion IsFile texts
+all_files m [] [] bytes read = tt
+all_files m [] (t ∷ ts) bytes read = absurd read
+all_files m (p ∷ ps) [] bytes read = absurd read
+all_files m (p ∷ ps) (t ∷ ts) bytes read = ((bytes p t read.0.there, read.0.short), all_files m ps ts bytes read.1)
 
-pub some_work : (words : List Word) (m : FileMap) → (work : Work) × IsWork words m work
-some_work words m = by (command_or_none words)
+some_answer : (command : Command) (texts : List (List ℕ)) (m : FileMap) → HoldsBytes m → AreRead m (inputs_of command) texts → (answer : Answer) × Answers command texts answer
+some_answer (merge out inputs) texts m bytes read = ⊎_elim (λ union. (_, merged union.0 union.1)) (λ refused. (_, merge_refused refused.0 refused.1 refused.2 refused.3)) (some_union_or_refused inputs texts)
+some_answer (exec_info paths) texts m bytes read =
+    ⊎_elim (λ holds. let info = data_has_info paths texts (as_many m paths texts read) holds in (_, informed info.0 info.1)) (λ refused. (_, exec_info_refused refused.0 refused.1 refused.2 refused.3)) (some_data_or_refused paths texts)
+some_answer (class_info paths) texts m bytes read =
+    ⊎_elim (λ lines. (_, listed lines.0 lines.1)) (λ refused. (_, class_refused refused.0 refused.1 refused.2 refused.3)) (some_list 0 paths texts (as_many m paths texts read) (all_files m paths texts bytes read))
+
+pub some_work : (words : List Word) (m : FileMap) → HoldsBytes m → (work : Work) × IsWork words m work
+some_work words m bytes = by (command_or_none words)
   where
     by : ((command : Command) × Means words command) ⊎ NoForm words → (work : Work) × IsWork words m work
     by (inr none) = (_, usage none)
     by (inl called) =
-        ⊎_elim (λ read. let answer = some_answer called.0 read.0 m read.1 in (_, answered called.1 read.1 answer.1))
+        ⊎_elim (λ read. let answer = some_answer called.0 read.0 m bytes read.1 in (_, answered called.1 read.1 answer.1))
         (λ stop. (_, unreadable called.1 stop.2)) (reads_on m (inputs_of called.0))

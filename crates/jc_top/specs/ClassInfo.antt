@@ -1,55 +1,64 @@
 -- What the command `classinfo` makes of class files.
-use Rattle.std.specs.Prelude.{◌≡◌, ◌⊎◌, ◌+◌, ℕ, Bool, true, false, ◌&&◌, List, [], ◌∷◌, ◌++◌, codes, nat_le, None, unwrap_or, ⊤}
+use Rattle.std.specs.Prelude.{◌≡◌, ◌⊎◌, ℕ, ◌+◌, List, [], ◌∷◌, ◌++◌, codes, length, map, Some}
 use Rattle.std.specs.Fmt.{decimal}
+use Rattle.jc_base.specs.declared.analysed.Analysed.{Analysed}
+use Rattle.jc_base.specs.declared.body.Body.{Body}
 use Rattle.jc_base.specs.declared.refusal.Refusal.{Refusal}
-use Rattle.jc_base.specs.declared.refusal.RefusalKind.TheVariants as kinds
-use Rattle.jc_pool.specs.Lookup.{class_name_of}
-use Rattle.jc_class.specs.declared.class_file.ClassFile.{ClassFile}
-use Rattle.jc_class.specs.ClassText.{ClassText, FirstBad, not_a_class}
-use Rattle.jc_class.specs.ClassId.{class_id}
+use Rattle.jc_plan.specs.Probed.{probe_count}
+use Rattle.jc_instrument.specs.Analysis.{IsAnalysis}
+use Rattle.jc_instrument.specs.Reasons.{AnalysisReason}
 use Rattle.jc_top.specs.Texts.{hex_text}
 use Rattle.jc_top.specs.Words.{Word}
 
--- the major versions that are taken, 50 to 61 (JVM Specification 4.1)
-abbrev pub is_known_version : ℕ → Bool
-is_known_version major = nat_le 50 major && nat_le major 61
+-- ---- the lines of a class
 
--- the refusal of another version carries the version
-abbrev pub other_version : ℕ → Refusal
-other_version major = record { kind = kinds.Version; method = None; place = major }
+-- the class id, the major version and the number of probes, as they are printed
+abbrev pub class_end : (id version probes : ℕ) → List ℕ
+class_end id version probes =
+    codes " id " ++ (hex_text id ++ (codes " version " ++ (decimal version ++ (codes " probes " ++ (decimal probes ++ codes "\n")))))
 
--- the name of the class, which each class file has
-abbrev pub name_of : ClassFile → List ℕ
-name_of c = unwrap_or (class_name_of c.pool c.this_class) []
+abbrev pub class_line : Analysed → List ℕ
+class_line a = codes "class " ++ (a.name ++ class_end a.id a.version a.probes)
 
--- the id and the version, as they are printed
-abbrev pub line_end : ℕ → ℕ → List ℕ
-line_end id major = codes " id " ++ (hex_text id ++ (codes " version " ++ (decimal major ++ codes "\n")))
+-- the numbers of instructions and of probes, as they are printed
+abbrev pub method_end : (insns probes : ℕ) → List ℕ
+method_end insns probes = codes " instructions " ++ (decimal insns ++ (codes " probes " ++ (decimal probes ++ codes "\n")))
 
--- the line of a class file
-abbrev pub class_line : List ℕ → ClassFile → List ℕ
-class_line bytes c = codes "class " ++ (name_of c ++ line_end (class_id bytes) c.major)
+-- the name of a method and its descriptor, as they are printed
+abbrev pub method_start : Body → List ℕ
+method_start b = codes "method " ++ (b.name ++ b.desc)
 
--- what is made of one file: a line, or a refusal
+-- the line of a body that has so many probes
+abbrev pub method_text : Body → (probes : ℕ) → List ℕ
+method_text b probes = method_start b ++ method_end (length b.code) probes
+
+abbrev pub method_line : Body → List ℕ
+method_line b = method_text b (probe_count b)
+
+-- the line of the class, and one for each body
+abbrev pub class_lines : Analysed → List (List ℕ)
+class_lines a = class_line a ∷ map method_line a.bodies
+
+-- ---- files
+
+-- what is made of one file: its lines, or a refusal
 pub data Listing : Type 0 where
-  prints : (line : List ℕ) → Listing
+  prints : (lines : List (List ℕ)) → Listing
   refuses : (why : Refusal) → Listing
 
 pub data Lists (bytes : List ℕ) : Listing → Type 0 where
-  known : (c : ClassFile) → ClassText bytes c → is_known_version c.major ≡ true → Lists bytes (prints (class_line bytes c))
-  unknown : (c : ClassFile) → ClassText bytes c → is_known_version c.major ≡ false → Lists bytes (refuses (other_version c.major))
-  no_class : (place : ℕ) → FirstBad bytes place → Lists bytes (refuses (not_a_class place))
+  analysed : (a : Analysed) → IsAnalysis bytes a → Lists bytes (prints (class_lines a))
+  refused : (why : Refusal) → AnalysisReason bytes (Some why) → Lists bytes (refuses why)
 
--- each file has its line
+-- the lines of the files, in order
 abbrev pub AreListed : List (List ℕ) → List (List ℕ) → Type 0
-AreListed [] [] = ⊤
-AreListed [] (l ∷ ls) = ⊥
-AreListed (t ∷ ts) [] = ⊥
-AreListed (t ∷ ts) (l ∷ ls) = Lists t (prints l) × AreListed ts ls
+AreListed [] lines = lines ≡ []
+AreListed (t ∷ ts) lines = (own rest : List (List ℕ)) × Lists t (prints own) × (lines ≡ own ++ rest) × AreListed ts rest
 
--- The first file that is refused, by its index counted from k and by its path: each file before it has its line.
+-- The first file that is refused, by its index counted from k and by its path: each file before it has its lines.
 abbrev pub RefusedAt : ℕ → List Word → List (List ℕ) → ℕ → Word → Refusal → Type 0
 RefusedAt k [] texts index path why = ⊥
 RefusedAt k (p ∷ ps) [] index path why = ⊥
 RefusedAt k (p ∷ ps) (t ∷ ts) index path why =
-    (Lists t (refuses why) × (index ≡ k) × (path ≡ p)) ⊎ ((l : List ℕ) × Lists t (prints l) × RefusedAt (k + 1) ps ts index path why)
+    (Lists t (refuses why) × (index ≡ k) × (path ≡ p))
+    ⊎ ((own : List (List ℕ)) × Lists t (prints own) × RefusedAt (k + 1) ps ts index path why)

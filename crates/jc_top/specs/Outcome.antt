@@ -19,7 +19,6 @@ use Rattle.jc_top.specs.declared.stop.Stop.{Stop}
 use Rattle.jc_top.specs.declared.stop.Stop.TheVariants as stops
 use Rattle.jc_top.specs.Words.{Word}
 use Rattle.jc_base.specs.declared.refusal.Refusal.{Refusal}
-use Rattle.jc_top.specs.ClassInfo.{Lists, prints, refuses}
 use Rattle.jc_top.specs.Command.{Command, inputs_of, Means, NoForm}
 use Rattle.jc_top.specs.Looks.{command_seen, write_seen}
 use Rattle.jc_top.specs.World.{World, Counts, NoneRose, Write, to_file, to_out, to_err, Landed, after, Broken, TextBroken, StopsIn, grown}
@@ -83,12 +82,6 @@ ReadAll contents paths old new (Err (stops.Refused file fault)) = ⊥
 abbrev pub exec_stop : Fail ExecRefusal → ℕ → Bor (List ℕ) → Stop
 exec_stop fails.Memory index input = stops.Memory
 exec_stop (fails.Said refusal) index input = stops.Refused input (faults.Exec index refusal)
-
--- what a class file is listed as
-abbrev pub ListsAs : List ℕ → Result (Vec ℕ Global) (Fail Refusal) → Type 0
-ListsAs bytes (Ok v) = Lists bytes (prints v.items)
-ListsAs bytes (Err fails.Memory) = ⊤
-ListsAs bytes (Err (fails.Said why)) = Lists bytes (refuses why)
 
 -- how a class file that is refused stops a command
 abbrev pub class_stop : Fail Refusal → ℕ → Bor (List ℕ) → Stop

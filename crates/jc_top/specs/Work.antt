@@ -1,6 +1,7 @@
 -- The work of a command: what it reads and writes, and how it ends, where the files are told.
 use Rattle.std.specs.Prelude.{◌≡◌, ◌⊎◌, ◌≤◌, ⊤, ℕ, List, [], ◌∷◌, ◌++◌, length, map, Some, None}
 use Rattle.std.specs.FinMap.{get}
+use Rattle.jc_base.specs.ByteLists.{AreBytes}
 use Rattle.jc_base.specs.Outside.{FileMap, IsLong, WhereTold, most_read}
 use Rattle.jc_exec.specs.declared.refusal.ExecRefusal.{ExecRefusal}
 use Rattle.jc_exec.specs.Store.{Store}
@@ -24,6 +25,10 @@ use Rattle.jc_top.specs.World.{World, Write, to_file, to_out, to_err, Landed, af
 pub record Holds (m : FileMap) (path bytes : List ℕ) : Type 0 where
   pub there : get m path ≡ Some bytes
   pub short : length bytes ≤ most_read
+
+-- each file holds bytes
+abbrev pub HoldsBytes : FileMap → Type 0
+HoldsBytes m = (path bytes : List ℕ) → get m path ≡ Some bytes → AreBytes bytes
 
 -- the path is missing, or its file is too large
 abbrev pub CantRead : FileMap → List ℕ → Type 0

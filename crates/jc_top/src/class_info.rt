@@ -1,71 +1,94 @@
 //! The command `classinfo`.
-ghost use Rattle.std.specs.Prelude.{◌≡◌, ◌≤◌, ◌<◌, ◌^◌, ℕ, List, All, length, map, IfOk, string_bytes};
+ghost use Rattle.std.specs.Prelude.{◌≡◌, ◌≤◌, ◌<◌, ◌^◌, All, length, map, IfOk, OnOk, string_bytes};
 ghost use Rattle.jc_base.specs.Outside.{most_read};
-ghost use Rattle.jc_class.specs.declared.class_file.ClassFile.{ClassFile};
-ghost use Rattle.jc_class.specs.ClassText.{ClassText};
-ghost use Rattle.jc_class.specs.ClassId.{class_id};
+ghost use Rattle.jc_instrument.specs.Analysis.{IsPlanned};
 ghost use Rattle.jc_top.specs.Command.{class_info};
-ghost use Rattle.jc_top.specs.ClassInfo.{is_known_version, name_of, class_line, line_end};
+ghost use Rattle.jc_top.specs.ClassInfo.{class_end, class_line, class_lines};
+ghost use Rattle.jc_top.specs.ClassInfo.{method_end, method_start, method_text, method_line};
+ghost use Rattle.jc_top.specs.Looks.{Prints};
 ghost use Rattle.jc_top.specs.Words.{words_of};
-ghost use Rattle.jc_top.specs.Outcome.{Prepares, AnswersWith, ListsAs, class_stop};
+ghost use Rattle.jc_top.specs.Outcome.{Prepares, AnswersWith, class_stop};
 
 use crate::Fault;
 use crate::input::read_all;
 use crate::output::{Write, keep};
 use crate::stop::Stop;
-use jc_base::{Bytes, Fail, Files, Refusal, RefusalKind};
-use jc_class::{ClassFile, class_id, read_class};
+use jc_base::{Analysed, Body, Bytes, Fail, Files, Memory, Refusal};
+use jc_instrument::analyse;
 use std::alloc::{AllocError, Global};
 
-/// Whether a major version is taken.
-fn is_known_version(major: u16) -> bool
-    ensures { result ≡ is_known_version major }
+/// A class id, a major version and a number of probes, as they are printed.
+fn class_end(alloc: Global, id: u64, version: u16, probes: u32) -> Result<String, AllocError>
+    ensures { IfOk result (λ text. string_bytes text ≡ class_end id version probes) }
 {
-    major >= 50 && major <= 61
+    format!(in alloc; " id {id:016x} version {version} probes {probes}\n")
 }
 
-/// The name of a class.
-fn name_of(class: &ClassFile) -> &[u8]
-    ensures { result.now ≡ name_of class.now }
+fn class_line(alloc: Global, class: &Analysed) -> Result<Vec<u8>, AllocError>
+    ensures { IfOk result (λ line. line.items ≡ class_line class.now) }
 {
-    match class.pool.class_at(class.this_class) {
-        Ok(name) => name,
-        Err(_) => &[],
-    }
-}
-
-/// An id and a version, as they are printed.
-fn line_end(alloc: Global, id: u64, major: u16) -> Result<String, AllocError>
-    ensures { IfOk result (λ text. string_bytes text ≡ line_end id major) }
-{
-    format!(in alloc; " id {id:016x} version {major}\n")
-}
-
-/// The line of a class file.
-fn class_line(alloc: Global, bytes: &[u8], class: &ClassFile) -> Result<Vec<u8>, AllocError>
-    ensures { IfOk result (λ line. line.items ≡ class_line bytes.now class.now) }
-{
-    let end = line_end(alloc, class_id(bytes), class.major)?;
+    let end = class_end(alloc, class.id, class.version, class.probes)?;
     let mut line = Vec::from_slice(alloc, b"class ")?;
-    line.extend_from_slice(name_of(class))?;
+    line.extend_from_slice(&class.name)?;
     line.extend_from_slice(end.as_bytes())?;
     Ok(line)
 }
 
-/// What is printed of a class file, or why it is refused.
-fn listing(alloc: Global, bytes: &[u8]) -> Result<Vec<u8>, Fail<Refusal>>
-    requires { length bytes.now ≤ most_read }
-    ensures { ListsAs bytes.now result }
+/// The numbers of instructions and of probes, as they are printed.
+fn method_end(alloc: Global, instructions: usize, probes: u32) -> Result<String, AllocError>
+    ensures { IfOk result (λ text. string_bytes text ≡ method_end instructions probes) }
 {
-    let class = read_class(alloc, bytes)?;
-    if !is_known_version(class.major) {
-        return Err(Fail::Said(Refusal {
-            kind: RefusalKind::Version,
-            method: None,
-            place: u32::from(class.major),
-        }));
+    format!(in alloc; " instructions {instructions} probes {probes}\n")
+}
+
+/// The name of a method and its descriptor, as they are printed.
+fn method_start(alloc: Global, body: &Body) -> Result<Vec<u8>, AllocError>
+    ensures { IfOk result (λ line. line.items ≡ method_start body.now) }
+{
+    let mut line = Vec::from_slice(alloc, b"method ")?;
+    line.extend_from_slice(&body.name)?;
+    line.extend_from_slice(&body.desc)?;
+    Ok(line)
+}
+
+/// The line of a body that has so many probes.
+fn method_text(alloc: Global, body: &Body, probes: u32) -> Result<Vec<u8>, AllocError>
+    ensures { IfOk result (λ line. line.items ≡ method_text body.now probes) }
+{
+    let end = method_end(alloc, body.code.len(), probes)?;
+    let mut line = method_start(alloc, body)?;
+    line.extend_from_slice(end.as_bytes())?;
+    Ok(line)
+}
+
+/// Puts the lines of a class's bodies last.
+fn put_methods<'a>(
+    alloc: Global,
+    writes: &mut Vec<Write<'a>>,
+    class: &Analysed,
+) -> Result<(), Memory>
+    requires { IsPlanned class.now }
+    ensures { OnOk result (Prints writes.old.items (map method_line class.now.bodies) writes.new.items) }
+{
+    let mut first = 0;
+    'putting: for index in 0..class.bodies.len() {
+        let next = class.plans[index].next;
+        keep(
+            writes,
+            method_text(alloc, &class.bodies[index], next - first)?,
+        )?;
+        first = next;
     }
-    Ok(class_line(alloc, bytes, &class)?)
+    Ok(())
+}
+
+/// Puts the lines of a class last.
+fn put_class<'a>(alloc: Global, writes: &mut Vec<Write<'a>>, class: &Analysed) -> Result<(), Memory>
+    requires { IsPlanned class.now }
+    ensures { OnOk result (Prints writes.old.items (class_lines class.now) writes.new.items) }
+{
+    keep(writes, class_line(alloc, class)?)?;
+    put_methods(alloc, writes, class)
 }
 
 /// How a class file that is refused stops the command.
@@ -94,8 +117,8 @@ fn listings<'a>(
 {
     let mut writes = Vec::new(alloc);
     'listing: for index in 0..texts.len() {
-        match listing(alloc, &texts[index]) {
-            Ok(text) => keep(&mut writes, text)?,
+        match analyse(alloc, &texts[index]) {
+            Ok(class) => put_class(alloc, &mut writes, &class)?,
             Err(fail) => return Err(refused(fail, index as u32, paths[index].as_str())),
         }
     }

@@ -3,8 +3,8 @@
 use super::*;
 use jc_base::{Memory, MemoryFiles, MemorySink};
 use rows::{
-    A, FAILING_LISTS, FAILING_MERGES, FIRST_REFUSALS, INTERFACE, LONG_COUNT, MERGE, NO_HIT,
-    NOTHING, OTHER_WORDS, RECORD, REJECTED, TOO_LARGE, TWO_LINES,
+    A, ABS, ABS_LINES, FAILING_LISTS, FAILING_MERGES, FIRST_REFUSALS, INTERFACE, LONG_COUNT, MERGE,
+    NO_HIT, NOTHING, OTHER_WORDS, RECORD, REJECTED, TOO_LARGE, TWO_LINES,
 };
 use std::alloc::{AllocError, Global};
 use std::process::Abort;
@@ -263,6 +263,29 @@ fn classes_are_listed(rt: HostRuntime) -> Result<(), Fail> {
 }
 
 #[test]
+fn methods_are_listed(rt: HostRuntime) -> Result<(), Fail> {
+    let file = File {
+        path: "A.class",
+        bytes: &ABS,
+    };
+    check_files(
+        &rt,
+        rt.alloc(),
+        &["classinfo", "A.class"],
+        &[file],
+        ABS_LINES,
+    )?;
+    Ok(())
+}
+
+// The method whose attribute of frames has another name.
+fn without_frames() -> [u8; 133] {
+    let mut bytes = ABS;
+    bytes[62] = b's';
+    bytes
+}
+
+#[test]
 fn other_classes_are_refused(rt: HostRuntime) -> Result<(), Fail> {
     for (version, err) in [
         (49, "A.class: Version at 49\n"),
@@ -274,5 +297,7 @@ fn other_classes_are_refused(rt: HostRuntime) -> Result<(), Fail> {
         let err = "A.class: NotAClass at 0\n";
         check_class(&rt, rt.alloc(), bytes, err)?;
     }
+    let err = "A.class: FrameMissing in method 0 at 5\n";
+    check_class(&rt, rt.alloc(), &without_frames(), err)?;
     Ok(())
 }

@@ -29,6 +29,20 @@ pub const INTERFACE: [u8; 83] = [
     0x02, 0x00, 0x06,
 ];
 
+/// A class of version 52 whose one method is `static int abs(int)`, with a stack map frame at its instruction 5.
+#[rattlefmt::skip]
+pub const ABS: [u8; 133] = [
+    0xca, 0xfe, 0xba, 0xbe, 0x00, 0x00, 0x00, 0x34, 0x00, 0x09, 0x01, 0x00, 0x01, 0x41, 0x07, 0x00,
+    0x01, 0x01, 0x00, 0x10, 0x6a, 0x61, 0x76, 0x61, 0x2f, 0x6c, 0x61, 0x6e, 0x67, 0x2f, 0x4f, 0x62,
+    0x6a, 0x65, 0x63, 0x74, 0x07, 0x00, 0x03, 0x01, 0x00, 0x03, 0x61, 0x62, 0x73, 0x01, 0x00, 0x04,
+    0x28, 0x49, 0x29, 0x49, 0x01, 0x00, 0x04, 0x43, 0x6f, 0x64, 0x65, 0x01, 0x00, 0x0d, 0x53, 0x74,
+    0x61, 0x63, 0x6b, 0x4d, 0x61, 0x70, 0x54, 0x61, 0x62, 0x6c, 0x65, 0x00, 0x21, 0x00, 0x02, 0x00,
+    0x04, 0x00, 0x00, 0x00, 0x00, 0x00, 0x01, 0x00, 0x09, 0x00, 0x05, 0x00, 0x06, 0x00, 0x01, 0x00,
+    0x07, 0x00, 0x00, 0x00, 0x1e, 0x00, 0x01, 0x00, 0x01, 0x00, 0x00, 0x00, 0x09, 0x1a, 0x9c, 0x00,
+    0x06, 0x1a, 0x74, 0xac, 0x1a, 0xac, 0x00, 0x00, 0x00, 0x01, 0x00, 0x08, 0x00, 0x00, 0x00, 0x03,
+    0x00, 0x01, 0x07, 0x00, 0x00,
+];
+
 pub const MERGE: [&str; 4] = ["merge", "--destfile", "o", "a.exec"];
 
 pub const THREE: [&str; 4] = ["classinfo", "A.class", "B.class", "C.class"];
@@ -76,9 +90,9 @@ pub const LISTED: Row<'static> = Row {
     words: &THREE,
     files: &CLASSES,
     left: Left {
-        out: "class A id 27270f85a4077bc4 version 52\n\
-              class A id 27270f85a4077bc4 version 52\n\
-              class A id 27270f85a4077bc4 version 52\n",
+        out: "class A id 27270f85a4077bc4 version 52 probes 0\n\
+              class A id 27270f85a4077bc4 version 52 probes 0\n\
+              class A id 27270f85a4077bc4 version 52 probes 0\n",
         ..NOTHING
     },
     ..MERGED
@@ -262,7 +276,7 @@ pub const FAILING_LISTS: [Row<'static>; 7] = [
     Row {
         out_fails: &[1],
         left: Left {
-            out: "class A id 27270f85",
+            out: "class A id 27270f85a4077",
             err: "cannot write output\n",
             ..UNWRITTEN
         },
@@ -271,7 +285,7 @@ pub const FAILING_LISTS: [Row<'static>; 7] = [
     Row {
         out_fails: &[2],
         left: Left {
-            out: "class A id 27270f85a4077bc4 version 52\nclass A id 27270f85",
+            out: "class A id 27270f85a4077bc4 version 52 probes 0\nclass A id 27270f85a4077",
             err: "cannot write output\n",
             ..UNWRITTEN
         },
@@ -281,8 +295,8 @@ pub const FAILING_LISTS: [Row<'static>; 7] = [
         out_fails: &[3],
         err_fails: &[1],
         left: Left {
-            out: "class A id 27270f85a4077bc4 version 52\n\
-                  class A id 27270f85a4077bc4 version 52\nclass A id 27270f85",
+            out: "class A id 27270f85a4077bc4 version 52 probes 0\n\
+                  class A id 27270f85a4077bc4 version 52 probes 0\nclass A id 27270f85a4077",
             err: "cannot wri",
             ..UNWRITTEN
         },
@@ -336,6 +350,11 @@ pub const FIRST_REFUSALS: [Row<'static>; 2] = [
 ];
 
 pub const TWO_LINES: Left<'static> = Left {
-    out: "class A id 27270f85a4077bc4 version 52\nclass A id 77d70f8ec26a70a2 version 61\n",
+    out: "class A id 27270f85a4077bc4 version 52 probes 0\nclass A id 77d70f8ec26a70a2 version 61 probes 0\n",
+    ..NOTHING
+};
+
+pub const ABS_LINES: Left<'static> = Left {
+    out: "class A id 93f59ca5d2d3448c version 52 probes 2\nmethod abs(I)I instructions 7 probes 2\n",
     ..NOTHING
 };
