@@ -4,8 +4,8 @@ use Rattle.std.specs.Prelude.{Contains}
 use Rattle.std.specs.List.{sum_by}
 use Rattle.jc_base.specs.declared.body.Body.{Body}
 use Rattle.jc_base.specs.declared.body.FrameAt.{FrameAt}
-use Rattle.jc_emit.specs.declared.program.Linked.{Linked}
-use Rattle.jc_emit.specs.declared.program.Program.{Program}
+use Rattle.jc_base.specs.declared.program.Linked.{Linked}
+use Rattle.jc_base.specs.declared.program.Program.{Program}
 use Rattle.jc_base.specs.Held.{Names, SeenAt, seen_at}
 use Rattle.jc_base.specs.EntryState.{entry_of}
 use Rattle.jc_base.specs.WellMade.{IsWellMade}

@@ -6,9 +6,9 @@ use Rattle.jc_base.specs.Held.{Names, seen_at}
 use Rattle.jc_base.specs.WellMade.{IsWellMade}
 use Rattle.jc_base.specs.declared.kind.State.{State}
 use Rattle.jc_base.specs.declared.body.Body.{Body}
-use Rattle.jc_emit.specs.declared.program.StaticField.{StaticField}
-use Rattle.jc_emit.specs.declared.program.Linked.{Linked}
-use Rattle.jc_emit.specs.declared.program.Program.{Program}
+use Rattle.jc_base.specs.declared.program.StaticField.{StaticField}
+use Rattle.jc_base.specs.declared.program.Linked.{Linked}
+use Rattle.jc_base.specs.declared.program.Program.{Program}
 use Rattle.jc_kinds.specs.Answers.{AreStates}
 use Rattle.jc_kinds.specs.Checked.{Checked}
 use Rattle.jc_plan.specs.Probed.{probe_count}

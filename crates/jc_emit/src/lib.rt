@@ -3,7 +3,6 @@
 
 mod checks;
 mod laws;
-mod program;
 mod straddling;
 
 pub use checks::{each_init_is_verified, each_twin_is_verified, each_twin_program_is_verified};
@@ -13,7 +12,6 @@ pub use laws::{
     each_twin_is_told, each_unchanged_body_goes_on, each_wide_frame_is_told,
     each_wide_twin_is_wide,
 };
-pub use program::{Linked, ProbeInit, Program, StaticField};
 pub use straddling::straddles;
 
 #[cfg(test)]
