@@ -271,6 +271,22 @@ fn full_frames_are_written_and_read_again(rt: HostRuntime) -> Result<(), Failed>
 }
 
 #[test]
+fn frames_of_each_form_are_read_back_in_full(rt: HostRuntime) -> Result<(), Failed> {
+    let alloc = rt.alloc();
+    for (table, want) in &TABLES {
+        if want.starts_with("bad") {
+            continue;
+        }
+        let mut full = Vec::new(alloc);
+        let mut classes = pool(alloc, POOL).map_err(|_| "pool")?;
+        write_frames(alloc, table, &mut classes, &mut full).map_err(|_| "frames")?;
+        let text = answer_of(alloc, &full).map_err(|_| "memory")?;
+        assert_eq!(rt; text.as_str(), *want, "the table {table:?}");
+    }
+    Ok(())
+}
+
+#[test]
 fn classes_are_put_into_the_pool_once(rt: HostRuntime) -> Result<(), Failed> {
     let alloc = rt.alloc();
     let mut table = Vec::new(alloc);
