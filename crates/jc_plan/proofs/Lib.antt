@@ -11,3 +11,6 @@ pub mod MarkLaws
 pub mod CountingLaws
 pub mod PlanningLaws
 pub mod PlanLaws
+pub mod OneWayLaws
+pub mod ByBranchLaws
+pub mod MappedLaws

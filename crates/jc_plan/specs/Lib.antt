@@ -4,3 +4,6 @@ pub mod Probed
 pub mod Plan
 pub mod Marks
 pub mod Rows
+pub mod Leading
+pub mod ByBranch
+pub mod Analysed

@@ -2,12 +2,18 @@
 #![tactic(auto)]
 
 mod branch;
+mod class_laws;
 mod edge_list;
 mod entries;
 mod laws;
 mod lines;
 mod planning;
 
+pub use branch::{Branch, Way, put_branches};
+pub use class_laws::{
+    each_analysed_class_is_planned, each_branch_is_planned,
+    each_edge_without_a_probe_is_the_one_way, each_id_is_of_one_body,
+};
 pub use edge_list::edges;
 pub use laws::{
     each_id_is_its_own, each_line_is_tested, each_plan_is_one, each_plan_is_read,

@@ -1,0 +1,42 @@
+//! Laws of the probes of a class, and of edges without probes.
+ghost use Rattle.std.specs.Prelude.{◌≡◌, false, ◌<◌, IsTrue, Contains, ℕ, List, Some, slice_get};
+ghost use Rattle.jc_base.specs.WellMade.{IsCode};
+ghost use Rattle.jc_base.specs.declared.analysed.Analysed.{Analysed};
+ghost use Rattle.jc_base.specs.declared.body.Body.{Body};
+ghost use Rattle.jc_base.specs.declared.insn.Insn.{Insn};
+ghost use Rattle.jc_plan.specs.declared.branch.Branch.{Branch};
+ghost use Rattle.jc_plan.specs.Edges.{branches, branches_of};
+ghost use Rattle.jc_plan.specs.Probed.{probe_of, first_id, id_of, is_probed};
+ghost use Rattle.jc_plan.specs.Leading.{LeadsTo, IsOneWay};
+ghost use Rattle.jc_plan.specs.Analysed.{IsAnalysed};
+ghost use Rattle.jc_plan.specs.Plan.{plan_of};
+ghost use Rattle.jc_plan.specs.ByBranch.{planned};
+
+/// No two bodies of a class have a probe of one id. `m` and `n` are the numbers of the bodies.
+pub fn each_id_is_of_one_body()
+    ensures { (bodies : List Body) (m n : ℕ) (b c : Body) (x y : Branch) → slice_get bodies m ≡ Some b
+        → slice_get bodies n ≡ Some c → Contains (branches b.code) x → Contains (branches c.code) y
+        → IsTrue (is_probed b x) → IsTrue (is_probed c y)
+        → id_of b (first_id bodies m) x ≡ id_of c (first_id bodies n) y → m ≡ n }
+{}
+
+/// An edge without a probe is the one way to the instruction where it leads.
+pub fn each_edge_without_a_probe_is_the_one_way()
+    ensures { (b : Body) (x : Branch) (i : ℕ) → Contains (branches b.code) x → is_probed b x ≡ false → LeadsTo x i → IsOneWay b x i }
+{}
+
+/// What a plan says of a branch of the body is its probe; `k` is the place of the branch among those of its
+/// instruction.
+pub fn each_branch_is_planned()
+    ensures { (b : Body) (first i k : ℕ) (insn : Insn) (x : Branch) → IsCode b.code → slice_get b.code i ≡ Some insn
+        → slice_get (branches_of i insn) k ≡ Some x → planned (plan_of b first) x k ≡ probe_of b first x }
+{}
+
+/// In an analysed class the plan of each body is the one whose ids begin where those of the bodies in front of it end,
+/// and each id is below the number of its probes.
+pub fn each_analysed_class_is_planned()
+    ensures plan { (class : Analysed) (n : ℕ) (b : Body) → IsAnalysed class → slice_get class.bodies n ≡ Some b
+        → slice_get class.plans n ≡ Some (plan_of b (first_id class.bodies n)) }
+    ensures within { (class : Analysed) (n : ℕ) (b : Body) (x : Branch) → IsAnalysed class → slice_get class.bodies n ≡ Some b
+        → Contains (branches b.code) x → IsTrue (is_probed b x) → id_of b (first_id class.bodies n) x < class.probes }
+{}
