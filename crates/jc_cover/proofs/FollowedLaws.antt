@@ -1,0 +1,46 @@
+-- Covered edges and taken edges.
+use Rattle.std.proofs.Common.{◌≡◌, ℕ, zero, suc, ◌+◌, ◌<◌, Bool, true, false, List, [], ◌∷◌, refl, subst, arith}
+use Rattle.std.specs.Prelude.{Contains, IsTrue}
+use Rattle.jc_base.specs.declared.body.Body.{Body}
+use Rattle.jc_plan.specs.declared.branch.Branch.{Branch}
+use Rattle.jc_plan.specs.Edges.{branches}
+use Rattle.jc_plan.specs.Leading.{IsOneWay}
+use Rattle.jc_plan.specs.Probed.{is_probed, id_of}
+use Rattle.jc_plan.proofs.OneWayLaws.{one_way}
+use Rattle.jc_cover.specs.Covered.{is_hit, IsChain, Covered}
+use Rattle.jc_cover.specs.Followed.{CameTo, began, caught, led, AreEntered, AreFollowed}
+use Rattle.jc_cover.proofs.ChainLaws.{chain_listed, covered_unprobed}
+
+module _ (b : Body) (first : ℕ) (hits : List Bool) where
+  module _ (Took Reached : Branch → Type 0) (entered : AreEntered b Took Reached) where
+    -- what came to where an edge without a probe leads took that edge
+    took_it : (x : Branch) (i : ℕ) → IsOneWay b x i → CameTo b Took i → Took x
+    took_it x i one (began e) = absurd (one.not_first e)
+    took_it x i one (caught row c e) = absurd (one.no_handler row c e)
+    took_it x i one (led y c leads took) = subst Took (one.single y c leads) took
+
+    along : ((y : Branch) → Contains (branches b.code) y → IsTrue (is_probed b y) → IsTrue (is_hit hits (id_of b first y)) → Reached y)
+        → (x : Branch) (rest : List Branch) → IsChain b first hits (x ∷ rest) → Reached x
+    along last x [] c = last x c.0 c.1.0 c.1.1
+    along last x (y ∷ rest) c =
+        entered.reached x
+        (took_it x y.at (one_way b x y.at c.0 c.1.0 c.1.1)
+        (entered.came y (chain_listed b first hits y rest c.2) (along last y rest c.2)))
+
+    pub covered_reached : ((y : Branch) → Contains (branches b.code) y → IsTrue (is_probed b y) → IsTrue (is_hit hits (id_of b first y)) → Reached y)
+        → (x : Branch) → Covered b first hits x → Reached x
+    covered_reached last x c = along last x c.0 c.1
+
+  module _ (Took : Branch → ℕ → Type 0) (followed : AreFollowed b Took) (hit : (x : Branch) (left : ℕ) → Took x left → IsTrue (is_probed b x) → IsTrue (is_hit hits (id_of b first x))) where
+    within : (n : ℕ) (x : Branch) (left : ℕ) → left < n → Took x left → Covered b first hits x
+    within zero x left lt took = absurd (omega arith)
+    within (suc n) x left lt took = by (λ y later less took. within n y later (omega (arith, less, lt)) took) (is_probed b x) refl
+      where
+        by : ((y : Branch) (later : ℕ) → later < left → Took y later → Covered b first hits y) → (p : Bool) → is_probed b x ≡ p → Covered b first hits x
+        by again true e = ([], (followed.listed x left took, (e, hit x left took e)))
+        by again false e =
+            let next = followed.next x left took e in
+            (covered_unprobed b first hits x next.0.at (followed.listed x left took) e next.3).1 (next.0, refl, again next.0 next.1 next.2 next.4)
+
+    pub taken_covered : (x : Branch) (left : ℕ) → Took x left → Covered b first hits x
+    taken_covered x left took = within (left + 1) x left (omega arith) took

@@ -1,0 +1,13 @@
+pub mod ChainLaws
+pub mod SourceLaws
+pub mod MarkLaws
+pub mod CoverageLaws
+pub mod LineLaws
+pub mod OneCoverageLaws
+pub mod TotalLaws
+pub mod MarkingLaws
+pub mod SmallLaws
+pub mod FollowedLaws
+pub mod TableLaws
+pub mod PlannedLaws
+pub mod ClassLaws
