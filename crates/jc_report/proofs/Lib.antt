@@ -1,0 +1,5 @@
+mod SpelledLaws
+mod SplitLaws
+mod OrderLaws
+mod RowLaws
+mod CsvLaws
