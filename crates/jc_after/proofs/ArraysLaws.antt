@@ -1,5 +1,5 @@
 -- Elements of arrays, and classes that are numbered on the way.
-use Rattle.std.proofs.Common.{◌≡◌, ℕ, ◌+◌, ◌-◌, ◌≤◌, Bool, true, false, ◌&&◌, List, [], ◌∷◌, ◌++◌, length, map, drop, Option, Some, None, option_map, if◌then◌else◌, refl, ap, ◌∙◌, subst, arith, append_assoc, get_or, MatchOption}
+use Rattle.std.proofs.Common.{◌≡◌, ℕ, ◌+◌, ◌-◌, ◌≤◌, Bool, true, false, ◌&&◌, List, [], ◌∷◌, ◌++◌, length, map, drop, Option, Some, None, option_map, if◌then◌else◌, refl, sym, ap, ◌∙◌, subst, arith, append_assoc, get_or, MatchOption}
 use Rattle.std.proofs.lemmas.List.{get_or-drop, length-drop}
 use Rattle.std.proofs.lemmas.Bool.{and_right}
 use Rattle.jc_base.specs.declared.kind.Kind.{Kind}
@@ -50,6 +50,13 @@ array_reference (uninit at) e = absurd cc
 -- what is said of the value that is there
 pub some_element : {X : Type 0} (o : Option X) (x : X) (P : Type 0) (Q : X → Type 0) → o ≡ Some x → MatchOption o P Q → Q x
 some_element {X = X} o x P Q e m = subst (λ (p : Option X). MatchOption p P Q) e m
+
+-- what is said where there is none
+pub no_element : {X : Type 0} (o : Option X) (P : Type 0) (Q : X → Type 0) → o ≡ None → MatchOption o P Q → P
+no_element {X = X} o P Q e m = subst (λ (p : Option X). MatchOption p P Q) e m
+
+pub picked_no : (most : ℕ) (s : Seen) (array : Held) → get_or (upper 2 s.stack) 0 top ≡ array → is_array array ≡ false → None ≡ picked most s
+picked_no most s array at none = sym (rw (at, none) refl)
 
 -- aaload takes an array and an index, and leaves an element
 pub picked_moves : (most : ℕ) (s : Seen) (array : Held) → get_or (upper 2 s.stack) 0 top ≡ array → is_array array ≡ true

@@ -92,11 +92,11 @@ count_no names state ks slot same e =
     let P : List Kind → Type 0 = λ xs. None ≡ counted slot (record { locals = map (held names) xs; stack = map (held names) state.stack }) in
     subst P same (sym (rw (get_held names ks slot, e) refl))
 
-pub count_yes : (names : Names) (state copy : State) (ks : List Kind) (slot : ℕ) → ks ≡ state.locals → is_int (held names (get_or ks slot kinds.Top)) ≡ true → copy ≡ state
-    → Some (seen names copy) ≡ counted slot (seen names state)
-count_yes names state copy ks slot same e copied =
+pub count_yes : (names : Names) (state : State) (ks : List Kind) (slot : ℕ) → ks ≡ state.locals → is_int (held names (get_or ks slot kinds.Top)) ≡ true
+    → Some (seen names state) ≡ counted slot (seen names state)
+count_yes names state ks slot same e =
     let P : List Kind → Type 0 = λ xs. Some (record { locals = map (held names) xs; stack = map (held names) state.stack }) ≡ counted slot (record { locals = map (held names) xs; stack = map (held names) state.stack }) in
-    ap (λ (s : State). Some (seen names s)) copied ∙ subst P same (sym (rw (get_held names ks slot, e) refl))
+    subst P same (sym (rw (get_held names ks slot, e) refl))
 
 pub no_top : (want : Want) → accepts want top ≡ false
 no_top wants.Int = refl

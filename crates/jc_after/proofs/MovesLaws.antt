@@ -7,14 +7,15 @@ use Rattle.jc_base.specs.declared.kind.Kind.{Kind}
 use Rattle.jc_base.specs.declared.kind.State.{State}
 use Rattle.jc_after.specs.declared.want.Want.{Want}
 use Rattle.jc_after.specs.declared.form.Give.{Give}
+use Rattle.jc_after.specs.declared.form.Give.TheVariants as gives
 use Rattle.jc_base.specs.Held.{Names, Held, held, seen, width, slots}
 use Rattle.jc_after.specs.Wants.{accepts, accepts_all}
 use Rattle.jc_after.specs.Step.{Form, limited, below, upper, has_form, moved_by, given_of, with_stack}
-use Rattle.std.specs.List.{flat_map}
-use Rattle.std.proofs.lemmas.Bool.{and_right}
+use Rattle.std.specs.List.{flat_map, list_any}
+use Rattle.std.proofs.lemmas.Bool.{and_right, true≢false}
 use Rattle.jc_after.specs.declared.table.Shape.{Shape}
 use Rattle.jc_after.specs.Shapes.{forms_of}
-use Rattle.jc_after.specs.Shapes.{gives_of, form_of, moved_in}
+use Rattle.jc_after.specs.Shapes.{gives_of, is_item, form_of, moved_in}
 
 pub all-unequal : (ws : List Want) (hs : List Held) → length ws ≢ length hs → accepts_all ws hs ≡ false
 all-unequal [] [] ne = absurd (ne refl)
@@ -78,12 +79,21 @@ pub moved_fit : (names : Names) (most : ℕ) (ws : List Want) (gs : List Give) (
     moved_in most (form_of names ws gs) (map (held names) ks) ≡ limited most (map (held names) after)
 moved_fit names most ws gs ks ops after e fit m = rw (upper_is names (length ws) ks, below_is names (length ws) ks, ← e, fit, m) refl
 
-pub pushed : (names : Names) (gs : List Give) (i : ℕ) (g : Give) (k : Kind) (xs ys : List Kind) (front : List Held) (hs : List Held) → i < length gs →
-    held names k ≡ given_of hs (gives_of names (get_or gs i g)) → ys ≡ xs ++ k ∷ [] → map (held names) xs ≡ front ++ map (given_of hs) (map (gives_of names) (take i gs)) →
-    map (held names) ys ≡ front ++ map (given_of hs) (map (gives_of names) (take (i + 1) gs))
-pushed names gs i g k xs ys front hs lt one b m =
-    ap (map (held names)) b ∙ map-append (held names) xs (k ∷ []) ∙ ap₂ (λ x y. x ++ y ∷ []) m one ∙ append_assoc front (map (given_of hs) (map (gives_of names) (take i gs))) (given_of hs (gives_of names (get_or gs i g)) ∷ [])
+pub pushed : (names : Names) (gs : List Give) (i : ℕ) (g : Give) (k : Kind) (xs ys ops read : List Kind) (front : List Held) → i < length gs →
+    held names k ≡ given_of (map (held names) read) (gives_of names (get_or gs i g)) → read ≡ ops → ys ≡ xs ++ k ∷ [] →
+    map (held names) xs ≡ front ++ map (given_of (map (held names) ops)) (map (gives_of names) (take i gs)) →
+    map (held names) ys ≡ front ++ map (given_of (map (held names) ops)) (map (gives_of names) (take (i + 1) gs))
+pushed names gs i g k xs ys ops read front lt one same b m =
+    let hs = map (held names) ops in
+    let given = one ∙ ap (λ (l : List Kind). given_of (map (held names) l) (gives_of names (get_or gs i g))) same in
+    ap (map (held names)) b ∙ map-append (held names) xs (k ∷ []) ∙ ap₂ (λ x y. x ++ y ∷ []) m given ∙ append_assoc front (map (given_of hs) (map (gives_of names) (take i gs))) (given_of hs (gives_of names (get_or gs i g)) ∷ [])
     ∙ ap (λ x. front ++ x) (sym (ap (map (given_of hs)) (map_more (gives_of names) gs i g lt) ∙ map-append (given_of hs) (map (gives_of names) (take i gs)) (gives_of names (get_or gs i g) ∷ [])))
+
+-- where nothing that is left is an operand, the operands are of no matter
+pub no_items : (names : Names) (gs : List Give) (hs js : List Held) → list_any is_item gs ≡ false → map (given_of hs) (map (gives_of names) gs) ≡ map (given_of js) (map (gives_of names) gs)
+no_items names [] hs js none = refl
+no_items names (gives.Kind k ∷ gs) hs js none = ap (λ (l : List Held). held names k ∷ l) (no_items names gs hs js none)
+no_items names (gives.Item n ∷ gs) hs js none = absurd (true≢false none)
 
 pub limited_no : (most : ℕ) (hs : List Held) → nat_le (slots hs) most ≡ false → limited most hs ≡ None
 limited_no most hs e = rw e refl
@@ -91,12 +101,20 @@ limited_no most hs e = rw e refl
 pub limited_yes : (most : ℕ) (hs : List Held) → nat_le (slots hs) most ≡ true → limited most hs ≡ Some hs
 limited_yes most hs e = rw e refl
 
-pub moved_whole : (names : Names) (most : ℕ) (ws : List Want) (gs : List Give) (i : ℕ) (ks ops after : List Kind) → length gs ≤ i → ops ≡ drop (length ks - length ws) ks →
-    accepts_all ws (map (held names) ops) ≡ true →
-    map (held names) after ≡ map (held names) (take (length ks - length ws) ks) ++ map (given_of (map (held names) ops)) (map (gives_of names) (take i gs)) →
+-- the operands on top of a list that is the stack
+pub operands_are : (stack xs : List Kind) (m b w : ℕ) → xs ≡ stack → m ≡ length xs → b ≡ length stack - w → take (m - b) (drop b xs) ≡ drop (length stack - w) stack
+operands_are stack xs m b w same all at = take_all (m - b) (drop b xs) (let l = length-drop b xs in omega (arith, l, all)) ∙ ap₂ (λ (n : ℕ) (l : List Kind). drop n l) at same
+
+-- with all that is left behind them
+pub moved_all : (names : Names) (most : ℕ) (ws : List Want) (gs : List Give) (i b : ℕ) (ks kept after : List Kind) → length gs ≤ i → b ≡ length ks - length ws →
+    accepts_all ws (map (held names) (drop (length ks - length ws) ks)) ≡ true →
+    map (given_of (map (held names) kept)) (map (gives_of names) gs) ≡ map (given_of (map (held names) (drop (length ks - length ws) ks))) (map (gives_of names) gs) →
+    map (held names) after ≡ map (held names) (take b ks) ++ map (given_of (map (held names) kept)) (map (gives_of names) (take i gs)) →
     moved_in most (form_of names ws gs) (map (held names) ks) ≡ limited most (map (held names) after)
-moved_whole names most ws gs i ks ops after le e fit m =
-    moved_fit names most ws gs ks ops after e fit (m ∙ ap (λ g. map (held names) (take (length ks - length ws) ks) ++ map (given_of (map (held names) ops)) (map (gives_of names) g)) (take_all i gs le))
+moved_all names most ws gs i b ks kept after le at fit same m =
+    moved_fit names most ws gs ks (drop (length ks - length ws) ks) after refl fit
+    (m ∙ ap₂ (λ (n : ℕ) (g : List Give). map (held names) (take n ks) ++ map (given_of (map (held names) kept)) (map (gives_of names) g)) at (take_all i gs le)
+    ∙ ap (λ (hs : List Held). map (held names) (take (length ks - length ws) ks) ++ hs) same)
 
 -- ---- the first form that fits
 

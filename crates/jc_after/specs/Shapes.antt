@@ -1,5 +1,5 @@
 -- The forms of the table, one for each shape.
-use Rattle.std.specs.Prelude.{ℕ, List, [], ◌∷◌, map, Option, Some, None}
+use Rattle.std.specs.Prelude.{ℕ, Bool, true, false, List, [], ◌∷◌, map, Option, Some, None}
 use Rattle.jc_base.specs.Held.{Names, Held, held, int, float, double, long, null}
 use Rattle.jc_after.specs.declared.want.Want.{Want}
 use Rattle.jc_after.specs.declared.want.Want.TheVariants as wants
@@ -84,6 +84,11 @@ forms_of shapes.Length = one (wants.Reference ∷ []) (kind int ∷ [])
 abbrev pub gives_of : Names → Give → Gives
 gives_of names (given.Kind k) = kind (held names k)
 gives_of names (given.Item n) = item n
+
+-- what is left is one of the operands
+abbrev pub is_item : Give → Bool
+is_item (given.Kind k) = false
+is_item (given.Item n) = true
 
 abbrev pub form_of : Names → List Want → List Give → Form
 form_of names wanted gives = form wanted (map (gives_of names) gives)

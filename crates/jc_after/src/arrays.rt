@@ -56,12 +56,12 @@ fn element_in(alloc: Global, array: Kind, names: &mut Names) -> Result<Option<Ki
 /// The state after `aaload`.
 pub fn pick(
     alloc: Global,
-    state: &State,
+    state: State,
     most: u16,
     names: &mut Names,
 ) -> Result<Option<State>, Memory>
-    requires { IsNumberedState (length names.old) state.now }
-    ensures after { IfOk result (λ o. (more : Names) → option_map (seen (names.new ++ more)) o ≡ picked most (seen names.old state.now)) }
+    requires { IsNumberedState (length names.old) state }
+    ensures after { IfOk result (λ o. (more : Names) → option_map (seen (names.new ++ more)) o ≡ picked most (seen names.old state)) }
     ensures names { Grows names.old names.new }
 {
     let stack = state.stack.as_slice();
@@ -69,11 +69,16 @@ pub fn pick(
         return Ok(None);
     }
     let array = stack[stack.len() - 2];
-    let Some(element) = element_in(alloc, array, names)? else {
-        return Ok(None);
-    };
-    let gives = [Give::Kind(element)];
-    Ok(move_state(alloc, state, &[Want::Reference, Want::Int], &gives, most)?)
+    match element_in(alloc, array, names)? {
+        Some(element) => Ok(move_state(
+            alloc,
+            state,
+            &[Want::Reference, Want::Int],
+            &[Give::Kind(element)],
+            most,
+        )?),
+        None => Ok(None),
+    }
 }
 
 /// The letter of the elements' type, by the code of `newarray`.
@@ -95,14 +100,14 @@ fn element_letter(elem: u8) -> u8
 /// The state after `newarray`.
 pub fn new_array(
     alloc: Global,
-    state: &State,
+    state: State,
     elem: u8,
     most: u16,
     names: &mut Names,
 ) -> Result<Option<State>, Memory>
-    requires { IsNumberedState (length names.old) state.now }
+    requires { IsNumberedState (length names.old) state }
     ensures after { IfOk result (λ o. (more : Names) → option_map (seen (names.new ++ more)) o
-        ≡ with_stack (seen names.old state.now) (moved_by most (array_forms elem) (map (held names.old) state.now.stack))) }
+        ≡ with_stack (seen names.old state) (moved_by most (array_forms elem) (map (held names.old) state.stack))) }
     ensures names { Grows names.old names.new }
 {
     let class = object_of(alloc, &[b'[', element_letter(elem)], names)?;
@@ -115,13 +120,13 @@ static INTS: [Want; 255] = [Want::Int; 255];
 /// The state after `multianewarray`.
 pub fn new_arrays(
     alloc: Global,
-    state: &State,
+    state: State,
     count: u8,
     class: Kind,
     most: u16,
 ) -> Result<Option<State>, Memory>
-    ensures { IfOk result (λ o. (names : Names) → option_map (seen names) o ≡ with_stack (seen names state.now)
-        (moved_by most (turns (replicate count wants.Int) (held names class)) (map (held names) state.now.stack))) }
+    ensures { IfOk result (λ o. (names : Names) → option_map (seen names) o ≡ with_stack (seen names state)
+        (moved_by most (turns (replicate count wants.Int) (held names class)) (map (held names) state.stack))) }
 {
     let ints = &INTS[..count as usize];
     Ok(move_state(alloc, state, ints, &[Give::Kind(class)], most)?)

@@ -58,12 +58,12 @@ fn form_for(op: u8, stack: &[Kind]) -> Option<Form>
 /// The state after an instruction by the forms of its opcode.
 pub fn move_by_opcode(
     alloc: Global,
-    state: &State,
+    state: State,
     op: u8,
     most: u16,
 ) -> Result<Option<State>, Memory>
     ensures { IfOk result (λ o. (names : Names) → option_map (seen names) o
-        ≡ with_stack (seen names state.now) (moved_by most (forms_at op) (map (held names) state.now.stack))) }
+        ≡ with_stack (seen names state) (moved_by most (forms_at op) (map (held names) state.stack))) }
 {
     match form_for(op, state.stack.as_slice()) {
         Some(form) => Ok(move_state(alloc, state, form.wants, form.gives, most)?),

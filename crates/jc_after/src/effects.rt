@@ -13,7 +13,7 @@ use crate::step::{
 };
 use crate::uses::{all_effects, effect_at, return_opcode};
 use crate::want::are_accepted;
-use jc_base::{Body, Insn, Kind, List, Memory, Names, State, opcode};
+use jc_base::{Body, Insn, Kind, List, Memory, Names, State, TryClone, opcode};
 use std::alloc::Global;
 
 /// What the instructions of a body do to types, with each descriptor read once.
@@ -181,15 +181,15 @@ impl<'a> Effects<'a> {
     fn apply(
         &self,
         alloc: Global,
-        state: &State,
+        state: State,
         step: Step<'_>,
         place: u32,
     ) -> Result<Option<State>, Memory>
         requires read { IsRead self.now }
-        requires local { HasLocal (length state.now.locals) step }
-        requires kinds { All (IsKind (body_of self.now).code) state.now.stack }
+        requires local { HasLocal (length state.locals) step }
+        requires kinds { All (IsKind (body_of self.now).code) state.stack }
         ensures { IfOk result (λ o. (names : Names) → AreEffects names self.now → option_map (seen names) o
-            ≡ apply_step (ground_of (body_of self.now) place) (step_in names step.entry) (seen names state.now)) }
+            ≡ apply_step (ground_of (body_of self.now) place) (step_in names step.entry) (seen names state)) }
     {
         let most = self.body.max_stack;
         match step {
@@ -208,10 +208,10 @@ impl<'a> Effects<'a> {
             ),
             Step::Call(wants, None) => move_state(alloc, state, wants, &[], most),
             Step::Load(slot, want) => load(alloc, state, slot, want, most),
-            Step::Store(slot, want) => store(alloc, state, slot, want),
-            Step::Count(slot) => count(alloc, state, slot),
+            Step::Store(slot, want) => Ok(store(state, slot, want)),
+            Step::Count(slot) => Ok(count(state, slot)),
             Step::Make => make(alloc, state, place, most),
-            Step::Build(wants, outcome) => self.build_with(alloc, state, wants, outcome),
+            Step::Build(wants, outcome) => self.build_with(alloc, &state, wants, outcome),
             Step::Fail => Ok(None),
         }
     }
@@ -220,14 +220,14 @@ impl<'a> Effects<'a> {
     fn leave(
         &self,
         alloc: Global,
-        state: &State,
+        state: State,
         i: u32,
         names: &mut Names,
     ) -> Result<Option<State>, Memory>
         requires effects { AreEffects names.old self.now }
         requires place { i < length (body_of self.now).code }
-        requires state { IsStateOf (length names.old) (body_of self.now) state.now }
-        ensures after { IfOk result (LeavesAlways names.old names.new (body_of self.now) i state.now) }
+        requires state { IsStateOf (length names.old) (body_of self.now) state }
+        ensures after { IfOk result (LeavesAlways names.old names.new (body_of self.now) i state) }
         ensures names { Grows names.old names.new }
     {
         let insn = &self.body.code[i as usize];
@@ -238,6 +238,35 @@ impl<'a> Effects<'a> {
             Insn::NewArray { elem } => new_array(alloc, state, *elem, self.body.max_stack, names),
             _ => self.apply(alloc, state, self.step(insn), i),
         }
+    }
+
+    /// The types after the instruction with this number, as `after` gives them, made of those before it: where no
+    /// class is numbered and no constructor called, the lists are changed and none is made.
+    ///
+    /// # Errors
+    ///
+    /// `Memory` where memory was refused, or where a class is new and the list has 4,294,967,295 names.
+    pub fn advance(
+        &self,
+        alloc: Global,
+        state: State,
+        i: u32,
+        names: &mut Names,
+    ) -> Result<Option<State>, Memory>
+        requires effects { AreEffects names.old self.now }
+        requires place { i < length (body_of self.now).code }
+        requires state { IsStateOf (length names.old) (body_of self.now) state }
+        ensures after { IfOk result (λ after. LeavesState names.old names.new (body_of self.now) i state after) }
+        ensures next { IfOk result (λ after. IfSome after (λ s. IsStateOf (length names.new) (body_of self.now) s)) }
+
+        // A state that is well made leaves one that is.
+        ensures whole { IfOk result (λ after. IfSome after (λ s. IsWhole (body_of self.now) state → IsWhole (body_of self.now) s)) }
+        ensures names { Grows names.old names.new }
+
+        // They are the effects under the names that there are then, after a refusal too.
+        ensures effects { AreEffects names.new self.now }
+    {
+        self.leave(alloc, state, i, names)
     }
 
     /// The types after the instruction with this number, where it may be reached with the types before it. There
@@ -267,6 +296,7 @@ impl<'a> Effects<'a> {
         // They are the effects under the names that there are then, after a refusal too.
         ensures effects { AreEffects names.new self.now }
     {
-        self.leave(alloc, state, i, names)
+        let copy = state.try_clone(alloc)?;
+        self.advance(alloc, copy, i, names)
     }
 }

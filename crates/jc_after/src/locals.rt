@@ -8,7 +8,7 @@ use crate::Want;
 use crate::form::Give;
 use crate::moves::move_state;
 use crate::want::accepts;
-use jc_base::{Kind, List, Memory, State, TryClone};
+use jc_base::{Kind, List, Memory, State};
 use std::alloc::Global;
 
 /// Whether a value takes two slots.
@@ -63,28 +63,27 @@ fn put_second(locals: &mut Vec<Kind>, slot: usize, kind: Kind)
 }
 
 /// The local variables after a value was stored in one.
-fn put_local(alloc: Global, locals: &[Kind], slot: usize, kind: Kind) -> Result<List<Kind>, Memory>
-    requires { slot < length locals.now }
-    ensures { IfOk result (λ after. (names : Names) →
-        map (held names) after ≡ with_local slot (held names kind) (map (held names) locals.now)) }
+fn put_local(locals: List<Kind>, slot: usize, kind: Kind) -> List<Kind>
+    requires { slot < length locals }
+    ensures { (names : Names) → map (held names) result ≡ with_local slot (held names kind) (map (held names) locals) }
 {
-    let mut after = Vec::from_slice(alloc, locals)?;
+    let mut after = locals.into_vec();
     clear_before(&mut after, slot);
     after[slot] = kind;
     put_second(&mut after, slot, kind);
-    Ok(List::from_vec(after))
+    List::from_vec(after)
 }
 
 /// The state with a local variable pushed.
 pub fn load(
     alloc: Global,
-    state: &State,
+    state: State,
     slot: u16,
     want: Want,
     most: u16,
 ) -> Result<Option<State>, Memory>
-    requires { slot < length state.now.locals }
-    ensures { IfOk result (λ o. (names : Names) → option_map (seen names) o ≡ loaded most slot want (seen names state.now)) }
+    requires { slot < length state.locals }
+    ensures { IfOk result (λ o. (names : Names) → option_map (seen names) o ≡ loaded most slot want (seen names state)) }
 {
     let kind = state.locals[slot as usize];
     if !accepts(want, kind) {
@@ -94,34 +93,35 @@ pub fn load(
 }
 
 /// The state with the value on top stored in a local variable.
-pub fn store(alloc: Global, state: &State, slot: u16, want: Want) -> Result<Option<State>, Memory>
-    requires { slot < length state.now.locals }
-    ensures { IfOk result (λ o. (names : Names) → option_map (seen names) o ≡ stored slot want (seen names state.now)) }
+pub fn store(state: State, slot: u16, want: Want) -> Option<State>
+    requires { slot < length state.locals }
+    ensures { (names : Names) → option_map (seen names) result ≡ stored slot want (seen names state) }
 {
     let stack = state.stack.as_slice();
     if stack.is_empty() {
-        return Ok(None);
+        return None;
     }
     let base = stack.len() - 1;
     let kind = stack[base];
     if !accepts(want, kind) {
-        return Ok(None);
+        return None;
     }
-    let below = Vec::from_slice(alloc, &stack[..base])?;
-    let locals = put_local(alloc, &state.locals, slot as usize, kind)?;
-    Ok(Some(State {
-        locals,
+    let State { locals, stack } = state;
+    let mut below = stack.into_vec();
+    below.truncate(base);
+    Some(State {
+        locals: put_local(locals, slot as usize, kind),
         stack: List::from_vec(below),
-    }))
+    })
 }
 
 /// The state after a local variable was added to.
-pub fn count(alloc: Global, state: &State, slot: u16) -> Result<Option<State>, Memory>
-    requires { slot < length state.now.locals }
-    ensures { IfOk result (λ o. (names : Names) → option_map (seen names) o ≡ counted slot (seen names state.now)) }
+pub fn count(state: State, slot: u16) -> Option<State>
+    requires { slot < length state.locals }
+    ensures { (names : Names) → option_map (seen names) result ≡ counted slot (seen names state) }
 {
     if !accepts(Want::Int, state.locals[slot as usize]) {
-        return Ok(None);
+        return None;
     }
-    Ok(Some(state.try_clone(alloc)?))
+    Some(state)
 }

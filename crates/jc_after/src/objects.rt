@@ -51,16 +51,17 @@ fn has_made(place: u32, kinds: &[Kind]) -> bool
 }
 
 /// The state after the `new` at a place.
-pub fn make(alloc: Global, state: &State, place: u32, most: u16) -> Result<Option<State>, Memory>
-    ensures { IfOk result (λ o. (names : Names) → option_map (seen names) o ≡ made_at most place (seen names state.now)) }
+pub fn make(alloc: Global, state: State, place: u32, most: u16) -> Result<Option<State>, Memory>
+    ensures { IfOk result (λ o. (names : Names) → option_map (seen names) o ≡ made_at most place (seen names state)) }
 {
-    if has_made(place, &state.stack) {
+    let State { locals, stack } = state;
+    if has_made(place, &stack) {
         return Ok(None);
     }
     let made = [Give::Kind(Kind::Uninit(place))];
-    match move_stack(alloc, &state.stack, &[], &made, most)? {
+    match move_stack(alloc, stack, &[], &made, most)? {
         Some(stack) => Ok(Some(State {
-            locals: List::from_vec(all_left_by(alloc, place, &state.locals)?),
+            locals: List::from_vec(all_left_by(alloc, place, &locals)?),
             stack,
         })),
         None => Ok(None),
@@ -118,7 +119,7 @@ pub fn build_as(
         ≡ built_as most (held names old) (map (held names) rest.now) (map (gives_of names) gives.now) (Some name) (seen names state.now)) }
 {
     let rest = all_built_in(alloc, old, class, rest)?;
-    match move_stack(alloc, rest.as_slice(), &[], gives, most)? {
+    match move_stack(alloc, List::from_vec(rest), &[], gives, most)? {
         Some(stack) => Ok(Some(State {
             locals: List::from_vec(all_built_in(alloc, old, class, &state.locals)?),
             stack,

@@ -18,5 +18,5 @@ all_ints = refl
 pub returns : goal.returns
 returns c = λ names.
     c.in_ok-move_state.ensures names
-    ∙ ap (λ (l : List Want). with_stack (seen names c.args.state.now) (moved_by c.args.most (form l (kind (held names c.args.class) ∷ []) ∷ []) (map (held names) c.args.state.now.stack)))
+    ∙ ap (λ (l : List Want). with_stack (seen names c.args.state) (moved_by c.args.most (form l (kind (held names c.args.class) ∷ []) ∷ []) (map (held names) c.args.state.stack)))
     (ap (take c.args.count) all_ints ∙ ints_are 255 c.args.count (omega arith))

@@ -9,7 +9,7 @@ use Rattle.jc_after.proofs.by_opcode.move_by_opcode.Goals as goal
 pub returns-in_ok-move_state-in-Some : goal.returns-in_ok-move_state-in-Some
 returns-in_ok-move_state-in-Some c names =
     let P : List Kind → Type 0 = λ l. moved_by c.args.most (forms_at c.args.op) (map (held names) l) ≡ moved_in c.args.most (form_of names c.in-Some.form.wants.now c.in-Some.form.gives.now) (map (held names) l) in
-    c.in_ok-move_state-in-Some.ensures names ∙ ap (with_stack (seen names c.args.state.now)) (sym (subst P c.as_slice.ensures (c.in-Some.ensures names c.args.most)))
+    c.in_ok-move_state-in-Some.ensures names ∙ ap (with_stack (seen names c.args.state)) (sym (subst P c.as_slice.ensures (c.in-Some.ensures names c.args.most)))
 
 pub returns-in-None : goal.returns-in-None
-returns-in-None c names = ap (with_stack (seen names c.args.state.now)) (sym (c.in-None.ensures names c.args.most) ∙ ap (λ l. moved_by c.args.most (forms_at c.args.op) (map (held names) l)) c.as_slice.ensures)
+returns-in-None c names = ap (with_stack (seen names c.args.state)) (sym (c.in-None.ensures names c.args.most) ∙ ap (λ l. moved_by c.args.most (forms_at c.args.op) (map (held names) l)) c.as_slice.ensures)

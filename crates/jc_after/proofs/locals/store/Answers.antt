@@ -1,13 +1,15 @@
-use Rattle.std.proofs.Common.{sym, ◌∙◌}
+use Rattle.std.proofs.Common.{List, length, take, ◌-◌, refl, sym, ◌∙◌, ap}
+use Rattle.jc_base.specs.declared.kind.Kind.{Kind}
 use Rattle.jc_after.proofs.LocalsLaws.{store_no, store_yes, some_items}
 use Rattle.jc_after.proofs.locals.store.Goals as goal
 
 pub returns-then-not-accepts : goal.returns-then-not-accepts
 returns-then-not-accepts c = λ names.
-    store_no names c.args.state.now c.as_slice-stack.result.now c.args.slot c.args.want c.as_slice-stack.ensures (some_items c.as_slice-stack.result.now (sym c.is_empty.ensures ∙ c.if-is_empty.false))
+    store_no names c.args.state c.as_slice-stack.result.now c.args.slot c.args.want c.as_slice-stack.ensures (some_items c.as_slice-stack.result.now (sym c.is_empty.ensures ∙ c.if-is_empty.false))
     (sym (c.accepts.ensures names) ∙ c.if-not-accepts.true)
 
 pub returns : goal.returns
 returns c = λ names.
-    store_yes names c.args.state.now c.as_slice-stack.result.now c.deref.result.now c.args.slot c.args.want c.in_ok-locals.locals c.from_vec.result c.as_slice-stack.ensures c.deref.ensures
-    (some_items c.as_slice-stack.result.now (sym c.is_empty.ensures ∙ c.if-is_empty.false)) (sym (c.accepts.ensures names) ∙ c.if-not-accepts.false) (c.in_ok-locals.ensures names) (c.from_vec.ensures ∙ c.in_ok-below.ensures.items)
+    let below = c.from_vec.ensures ∙ c.truncate.ensures.items ∙ ap (λ (l : List Kind). take (length c.as_slice-stack.result.now - 1) l) (c.into_vec-below.ensures ∙ sym c.as_slice-stack.ensures) in
+    store_yes names c.args.state c.as_slice-stack.result.now c.args.state.locals c.args.slot c.args.want c.put_local.result c.from_vec.result c.as_slice-stack.ensures refl
+    (some_items c.as_slice-stack.result.now (sym c.is_empty.ensures ∙ c.if-is_empty.false)) (sym (c.accepts.ensures names) ∙ c.if-not-accepts.false) (c.put_local.ensures names) below

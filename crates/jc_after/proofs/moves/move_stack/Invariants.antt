@@ -5,4 +5,4 @@ use Rattle.jc_after.specs.Shapes.{gives_of}
 use Rattle.jc_after.proofs.moves.move_stack.Given as goal
 
 abbrev pub invariant-giving : goal.invariant-giving
-invariant-giving l = (names : Names) → map (held names) l.after.items ≡ map (held names) (take l.base l.stack) ++ map (given_of (map (held names) l.operands)) (map (gives_of names) (take l.give-index l.gives))
+invariant-giving l = (names : Names) → map (held names) l.after.items ≡ map (held names) (take l.base l.fn.stack) ++ map (given_of (map (held names) l.operands.items)) (map (gives_of names) (take l.give-index l.gives))

@@ -1,15 +1,16 @@
+use Rattle.std.proofs.Common.{length, IfOk, IfSome, sym, subst}
+use Rattle.jc_base.specs.declared.kind.State.{State}
+use Rattle.jc_after.specs.Answers.{IsStateOf, IsWhole, LeavesState}
 use Rattle.jc_after.specs.Effects.{body_of}
-use Rattle.jc_after.proofs.EffectsLaws.{are_later, after_leaves, after_next, after_whole}
 use Rattle.jc_after.proofs.effects.Effects.after.Goals as goal
 
-pub returns-clause-after : goal.returns-clause-after
-returns-clause-after c = after_leaves c.args.names.now c.leave.new.names (body_of c.args.self.now) c.args.i c.args.state.now c.leave.result c.leave.ensures.after
+pub advance-requires-clause-state : goal.advance-requires-clause-state
+advance-requires-clause-state c = subst (IsStateOf (length c.args.names.now) (body_of c.args.self.now)) (sym c.in_ok-copy.ensures) c.requires.state
 
-pub returns-clause-next : goal.returns-clause-next
-returns-clause-next c = after_next c.args.names.now c.leave.new.names (body_of c.args.self.now) c.args.i c.args.state.now c.requires.effects.body c.requires.state c.leave.result c.leave.ensures.after
+pub returns-clause-after : goal.returns-clause-after
+returns-clause-after c =
+    subst (λ (s : State). IfOk c.advance.result (λ after. LeavesState c.args.names.now c.advance.new.names (body_of c.args.self.now) c.args.i s after)) c.in_ok-copy.ensures c.advance.ensures.after
 
 pub returns-clause-whole : goal.returns-clause-whole
-returns-clause-whole c = after_whole c.args.names.now c.leave.new.names (body_of c.args.self.now) c.args.i c.args.state.now c.requires.effects.body c.requires.state c.leave.result c.leave.ensures.after
-
-pub returns-clause-effects : goal.returns-clause-effects
-returns-clause-effects c = are_later c.args.names.now c.leave.new.names c.args.self.now c.leave.ensures.names c.requires.effects
+returns-clause-whole c =
+    subst (λ (s : State). IfOk c.advance.result (λ after. IfSome after (λ t. IsWhole (body_of c.args.self.now) s → IsWhole (body_of c.args.self.now) t))) c.in_ok-copy.ensures c.advance.ensures.whole

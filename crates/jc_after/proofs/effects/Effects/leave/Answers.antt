@@ -6,12 +6,12 @@ use Rattle.jc_after.proofs.effects.Effects.leave.Goals as goal
 
 pub returns-then-is_aaload-clause-after : goal.returns-then-is_aaload-clause-after
 returns-then-is_aaload-clause-after c =
-    leave_pick c.args.names.now c.pick.new.names (body_of c.args.self.now) c.args.i c.args.state.now c.index-deref-i.result c.pick.result
+    leave_pick c.args.names.now c.pick.new.names (body_of c.args.self.now) c.args.i c.args.state c.index-deref-i.result c.pick.result
     (insn_here c.deref.result.now (body_of c.args.self.now).code c.args.i c.index-deref-i.result c.deref.ensures c.requires.place c.index-deref-i.is) (sym c.is_aaload.ensures ∙ c.if-is_aaload.true) c.pick.ensures.after
 
 pub returns-in-NewArray-clause-after : goal.returns-in-NewArray-clause-after
 returns-in-NewArray-clause-after c =
-    leave_array c.args.names.now c.new_array.new.names (body_of c.args.self.now) c.args.i c.in-NewArray.elem c.args.state.now c.index-deref-i.result c.new_array.result
+    leave_array c.args.names.now c.new_array.new.names (body_of c.args.self.now) c.args.i c.in-NewArray.elem c.args.state c.index-deref-i.result c.new_array.result
     (insn_here c.deref.result.now (body_of c.args.self.now).code c.args.i c.index-deref-i.result c.deref.ensures c.requires.place c.index-deref-i.is) c.in-NewArray.is c.new_array.ensures.after
 
 pub apply-requires : goal.apply-requires
@@ -24,7 +24,7 @@ apply-requires c = record {
 
 pub returns-in_default : goal.returns-in_default
 returns-in_default c = record {
-  after = leave_step c.args.names.now c.args.self.now c.args.i c.args.state.now c.index-deref-i.result c.step.result c.apply.result c.requires.effects c.requires.state.numbered
+  after = leave_step c.args.names.now c.args.self.now c.args.i c.args.state c.index-deref-i.result c.step.result c.apply.result c.requires.effects c.requires.state.numbered
       (insn_here c.deref.result.now (body_of c.args.self.now).code c.args.i c.index-deref-i.result c.deref.ensures c.requires.place c.index-deref-i.is) c.step.ensures c.apply.ensures;
   names = grown_here c.args.names.now;
 }

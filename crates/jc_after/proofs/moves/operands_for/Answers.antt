@@ -1,0 +1,11 @@
+use Rattle.std.proofs.Common.{◌≡◌, List, [], map, sym, ap, ◌∙◌}
+use Rattle.jc_base.specs.declared.kind.Kind.{Kind}
+use Rattle.jc_base.specs.Held.{held}
+use Rattle.jc_after.specs.Step.{given_of}
+use Rattle.jc_after.specs.Shapes.{gives_of}
+use Rattle.jc_after.proofs.MovesLaws.{no_items}
+use Rattle.jc_after.proofs.moves.operands_for.Goals as goal
+
+pub returns-else-has_item : goal.returns-else-has_item
+returns-else-has_item c = λ names.
+    no_items names c.args.gives.now (map (held names) c.new.result.items) (map (held names) c.args.operands.now) (sym c.has_item.ensures ∙ c.if-has_item.false)
