@@ -3,7 +3,7 @@ use Rattle.std.proofs.Common.{◌≡◌, ◌≢◌, ◌⊎◌, inl, inr, ℕ, Bo
 use Rattle.std.specs.Map.{lookup}
 use Rattle.std.specs.Str.{bytes_eq}
 use Rattle.std.proofs.lemmas.Bool.{cases_Bool}
-use Rattle.std.proofs.lemmas.Bool.Decides.{Decides-eqb}
+use Rattle.std.proofs.lemmas.Bool.Decides.{Decides-eqb, Decides-int_eq}
 use Rattle.std.proofs.lemmas.Map.{NonePasses, none_passes_from_lookup}
 use Rattle.std.proofs.lemmas.Slice.Eq.{bytes_eq-Decides}
 use Rattle.indexmap.specs.IndexMap.{insert_entry}
@@ -63,7 +63,14 @@ text_fresh text_of es fs k text place is put none = fresh bytes_eq bytes_eq-Deci
 -- ---- keys
 
 one_key : (a b : Key) → Decides (same_key a b) (a ≡ b)
+one_key (key.Integer x) (key.Integer y) = (λ same. ap key.Integer ((Decides-int_eq x y).0 same), λ same. (Decides-int_eq x y).1 cc)
+one_key (key.Long x) (key.Long y) = (λ same. ap key.Long ((Decides-int_eq x y).0 same), λ same. (Decides-int_eq x y).1 cc)
 one_key (key.Class x) (key.Class y) = (λ same. ap key.Class ((Decides-eqb x y).0 same), λ same. (Decides-eqb x y).1 cc)
+one_key (key.String x) (key.String y) = (λ same. ap key.String ((Decides-eqb x y).0 same), λ same. (Decides-eqb x y).1 cc)
+one_key (key.Integer x) b = (λ same. absurd cc, λ same. absurd cc)
+one_key (key.Long x) b = (λ same. absurd cc, λ same. absurd cc)
+one_key (key.Class x) b = (λ same. absurd cc, λ same. absurd cc)
+one_key (key.String x) b = (λ same. absurd cc, λ same. absurd cc)
 
 pub key_fresh : (es fs : List (Key × ℕ)) (k : Key) (place : ℕ) → fs ≡ insert_entry same_key es k place → key_place es k ≡ None
     → Notes (key_place es) (key_place fs) k place place

@@ -7,7 +7,7 @@ pub mod OneTextLaws
 mod FirstPlaceLaws
 mod OneMoreEntryLaws
 mod FirstPlaceMapLaws
-mod ClassPlaceLaws
+mod KeyPlaceLaws
 pub mod AddingLaws
 pub mod AddedLaws
 mod IndexLaws

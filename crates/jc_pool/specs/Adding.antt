@@ -1,12 +1,12 @@
 -- What is found in a constant pool, and what is put behind its entries (JVM Specification 4.4).
-use Rattle.std.specs.Prelude.{◌≡◌, ◌≢◌, ◌⊎◌, ℕ, ◌<◌, List, [], ◌∷◌, ◌++◌, length, Option, Some, Result, Err}
+use Rattle.std.specs.Prelude.{◌≡◌, ◌≢◌, ◌⊎◌, ℕ, ℤ, ◌<◌, List, ◌++◌, length, Option, Some, Result, Err}
 use Rattle.jc_base.specs.declared.fail.Fail.{Fail}
 use Rattle.jc_base.specs.declared.fail.Fail.TheVariants as fails
 use Rattle.jc_pool.specs.declared.add.PoolFull.{PoolFull}
 use Rattle.jc_pool.specs.declared.entry.Entry.{Entry}
 use Rattle.jc_pool.specs.declared.entry.Entry.TheVariants as entry
-use Rattle.jc_pool.specs.Pool.{PoolValue}
-use Rattle.jc_pool.specs.Lookup.{utf8_of, class_name_of}
+use Rattle.jc_pool.specs.Pool.{PoolValue, slots_of}
+use Rattle.jc_pool.specs.Lookup.{utf8_of, class_name_of, string_of, integer_of, long_of}
 
 -- ---- places
 
@@ -21,26 +21,50 @@ IsNowhere found what = (place : ℕ) → found place ≢ Some what
 
 -- ---- entries
 
--- An entry that takes one place is put behind the others.
+-- An entry is put behind the others, at the places that it takes.
 pub record IsPut (old new : PoolValue) (e : Entry) (place : ℕ) : Type 0 where
-  pub grown : new ≡ old ++ Some e ∷ []
+  pub grown : new ≡ old ++ slots_of e
   pub last : place ≡ length old
+
+-- the same, as what is asked for
+abbrev pub IsPutAs : PoolValue → Entry → PoolValue → ℕ → Type 0
+IsPutAs old e new place = IsPut old new e place
+
+-- A pool in which this is found at the place: the pool itself, where it is found there, and the first such place; else
+-- a pool in which it is put.
+abbrev pub Adds : {X : Type 0} → (PoolValue → ℕ → Option X) → X → PoolValue → (PoolValue → ℕ → Type 0) → PoolValue → ℕ → Type 0
+Adds found what old Put new place =
+    (IsFirst (found old) what place × (new ≡ old))
+    ⊎ (IsNowhere (found old) what × Put new place)
 
 -- A pool with a text, which stands at the place: the pool itself, where the text stands in it, and the first such
 -- place; else a Utf8 entry is put behind the others.
 abbrev pub HasUtf8 : PoolValue → List ℕ → PoolValue → ℕ → Type 0
-HasUtf8 old text new place =
-    (IsFirst (utf8_of old) text place × (new ≡ old))
-    ⊎ (IsNowhere (utf8_of old) text × IsPut old new (entry.Utf8 text) place)
+HasUtf8 old text = Adds utf8_of text old (IsPutAs old (entry.Utf8 text))
+
+-- the text is put, where it isn't there, and then the entry that names its place
+abbrev pub PutsNaming : PoolValue → List ℕ → (ℕ → Entry) → PoolValue → ℕ → Type 0
+PutsNaming old text naming new place =
+    (named : PoolValue) × (at : ℕ) × HasUtf8 old text named at × IsPut named new (naming at) place
 
 -- A pool with a class, which stands at the place: the pool itself, where a Class entry of this name stands in it,
 -- whatever the place of the name, and the first such place; else the name is put, where it isn't there, and then
 -- a Class entry.
 abbrev pub HasClass : PoolValue → List ℕ → PoolValue → ℕ → Type 0
-HasClass old name new place =
-    (IsFirst (class_name_of old) name place × (new ≡ old))
-    ⊎ (IsNowhere (class_name_of old) name × (named : PoolValue) × (at : ℕ)
-    × HasUtf8 old name named at × IsPut named new (entry.Class at) place)
+HasClass old name = Adds class_name_of name old (PutsNaming old name entry.Class)
+
+-- the same of a string, whose text is put, where it isn't there, and then a String entry
+abbrev pub HasString : PoolValue → List ℕ → PoolValue → ℕ → Type 0
+HasString old text = Adds string_of text old (PutsNaming old text entry.String)
+
+-- A pool with an int, which stands at the place: the pool itself, where an Integer entry of this value stands in it,
+-- and the first such place; else one is put behind the others.
+abbrev pub HasInteger : PoolValue → ℤ → PoolValue → ℕ → Type 0
+HasInteger old value = Adds integer_of value old (IsPutAs old (entry.Integer value))
+
+-- the same of a long, whose entry takes two places
+abbrev pub HasLong : PoolValue → ℤ → PoolValue → ℕ → Type 0
+HasLong old value = Adds long_of value old (IsPutAs old (entry.Long value))
 
 -- ---- too many entries
 

@@ -11,11 +11,13 @@ use Rattle.jc_pool.specs.declared.entry.Entry.{Entry}
 use Rattle.jc_pool.specs.declared.entry.Entry.TheVariants as entry
 use Rattle.jc_pool.specs.declared.index.Key.{Key}
 use Rattle.jc_pool.specs.declared.index.Key.TheVariants as key
+use Rattle.jc_pool.specs.declared.index.Naming.{Naming}
+use Rattle.jc_pool.specs.declared.index.Naming.TheVariants as naming
 use Rattle.jc_pool.specs.declared.index.Index.{Index}
 use Rattle.jc_pool.specs.contracts.index.KeyPartialEq.TheImpl as equal
 use Rattle.jc_pool.specs.Pool.{PoolValue}
-use Rattle.jc_pool.specs.Lookup.{entry_of, utf8_in, utf8_of}
-use Rattle.jc_pool.specs.Adding.{IsFirst}
+use Rattle.jc_pool.specs.Lookup.{entry_of, utf8_in, utf8_of, class_name_of, string_of}
+use Rattle.jc_pool.specs.Adding.{IsFirst, Adds, PutsNaming}
 
 -- ---- first places
 
@@ -45,9 +47,9 @@ text_place entries text_of text = lookup (λ x. bytes_eq text (text_of x)) entri
 abbrev pub standing_for : List ℕ → ℕ → ℕ
 standing_for firsts place = slice_index_or firsts place place
 
--- the first place of its text stands for each place of a Utf8 entry, and every other place for itself
-pub record AreStandins (found : ℕ → Option (List ℕ)) (end : ℕ) (firsts : List ℕ) : Type 0 where
-  pub texts : (place : ℕ) (text : List ℕ) → place < end → found place ≡ Some text → IsFirst found text (standing_for firsts place)
+-- where something is found at a place, the first such place stands for it, and every other place for itself
+pub record AreStandins {X : Type 0} (found : ℕ → Option X) (end : ℕ) (firsts : List ℕ) : Type 0 where
+  pub found_there : (place : ℕ) (what : X) → place < end → found place ≡ Some what → IsFirst found what (standing_for firsts place)
   pub others : (place : ℕ) → found place ≡ None → standing_for firsts place ≡ place
 
 -- ---- keys
@@ -59,19 +61,41 @@ same_key = equal.ghosts.eq
 abbrev pub key_place : List (Key × ℕ) → Key → Option ℕ
 key_place entries k = lookup (same_key k) entries
 
--- the place that they have for a class whose name has this first place
-abbrev pub class_place : List (Key × ℕ) → Option ℕ → Option ℕ
-class_place entries (Some name) = key_place entries (key.Class name)
-class_place entries None = None
+-- the entry of this kind that names a place
+abbrev pub entry_naming : Naming → ℕ → Entry
+entry_naming naming.Class text = entry.Class text
+entry_naming naming.String text = entry.String text
 
--- the key of an entry that names others
+-- the text that an entry of this kind names
+abbrev pub naming_of : Naming → PoolValue → ℕ → Option (List ℕ)
+naming_of naming.Class pool place = class_name_of pool place
+naming_of naming.String pool place = string_of pool place
+
+-- the key of an entry of this kind whose text has this first place
+abbrev pub key_naming : Naming → ℕ → Key
+key_naming naming.Class text = key.Class text
+key_naming naming.String text = key.String text
+
+-- the place that the entries of a map have for such an entry
+abbrev pub naming_place : List (Key × ℕ) → Naming → Option ℕ → Option ℕ
+naming_place entries kind (Some text) = key_place entries (key_naming kind text)
+naming_place entries kind None = None
+
+-- the key of an entry that is a number, or names others
 abbrev pub key_in : List ℕ → Entry → Option Key
+key_in firsts (entry.Integer value) = Some (key.Integer value)
+key_in firsts (entry.Long value) = Some (key.Long value)
 key_in firsts (entry.Class name) = Some (key.Class (standing_for firsts name))
+key_in firsts (entry.String text) = Some (key.String (standing_for firsts text))
 key_in firsts _ = None
 
 -- the key of the entry at a place
 unfoldable pub key_at : List ℕ → PoolValue → ℕ → Option Key
 key_at firsts pool place = entry_of pool place >>= key_in firsts
+
+-- a pool with an entry of this kind
+abbrev pub HasNaming : Naming → PoolValue → List ℕ → PoolValue → ℕ → Type 0
+HasNaming kind old text = Adds (naming_of kind) text old (PutsNaming old text (entry_naming kind))
 
 -- ---- the index
 
@@ -98,7 +122,7 @@ abbrev pub NotesEntry : (Key → Option ℕ) → (Key → Option ℕ) → Option
 NotesEntry old new None place = (k : Key) → new k ≡ old k
 NotesEntry old new (Some k) place = (first : ℕ) × Notes old new k place first
 
--- how many places a class lacks, whose name has this place
+-- how many places an entry lacks that names a text, which has this place
 abbrev pub missing : Option ℕ → ℕ
 missing named = if is_some named then 1 else 2
 

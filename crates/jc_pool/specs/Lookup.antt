@@ -1,5 +1,5 @@
 -- What the places of a constant pool name (JVM Specification 4.4).
-use Rattle.std.specs.Prelude.{ℕ, List, [], slice_index_or, Option, Some, None}
+use Rattle.std.specs.Prelude.{ℕ, ℤ, List, [], slice_index_or, Option, Some, None}
 use Rattle.jc_base.specs.Decoder.{◌>>=◌}
 use Rattle.jc_base.specs.Texts.{IsShortText}
 use Rattle.jc_pool.specs.declared.entry.Entry.{Entry}
@@ -34,6 +34,35 @@ class_name_of pool place = do
   e ← entry_of pool place
   name ← class_in e
   utf8_of pool name
+
+abbrev pub string_in : Entry → Option ℕ
+string_in (entry.String text) = Some text
+string_in _ = None
+
+-- the text of a String entry, which has to be a Utf8 entry (JVM Specification 4.4.3)
+unfoldable pub string_of : PoolValue → ℕ → Option (List ℕ)
+string_of pool place = do
+  e ← entry_of pool place
+  text ← string_in e
+  utf8_of pool text
+
+-- ---- numbers
+
+abbrev pub integer_in : Entry → Option ℤ
+integer_in (entry.Integer value) = Some value
+integer_in _ = None
+
+-- the value of an Integer entry (JVM Specification 4.4.4)
+unfoldable pub integer_of : PoolValue → ℕ → Option ℤ
+integer_of pool place = entry_of pool place >>= integer_in
+
+abbrev pub long_in : Entry → Option ℤ
+long_in (entry.Long value) = Some value
+long_in _ = None
+
+-- the value of a Long entry (JVM Specification 4.4.5)
+unfoldable pub long_of : PoolValue → ℕ → Option ℤ
+long_of pool place = entry_of pool place >>= long_in
 
 -- ---- members
 

@@ -1,16 +1,16 @@
 //! Adding entries to what stands at the places of a pool.
-ghost use Rattle.std.specs.Prelude.{◌≡◌, ◌+◌, ◌<◌, ◌≤◌, None, Some, IfOk, IfSome, OnOk, OnErr, length};
+ghost use Rattle.std.specs.Prelude.{◌≡◌, ◌+◌, ◌++◌, ◌<◌, ◌≤◌, None, Some, IfOk, IfSome, OnOk, OnErr, length};
 ghost use Rattle.std.specs.Prelude.{vec_capacity, vec_len};
 ghost use Rattle.indexmap.specs.IndexMap.{spare};
 ghost use Rattle.jc_base.specs.Texts.{IsShortText};
 ghost use Rattle.jc_pool.specs.declared.entry.Entry.TheVariants as entry;
-ghost use Rattle.jc_pool.specs.Adding.{IsNowhere, IsPut, HasUtf8, HasClass, RefusesFull};
-ghost use Rattle.jc_pool.specs.Index.{IsFirstBelow, IsIndexOf, CountsTo, missing};
-ghost use Rattle.jc_pool.specs.Lookup.{utf8_in, utf8_of, class_name_of};
-ghost use Rattle.jc_pool.specs.Pool.{IsPool};
+ghost use Rattle.jc_pool.specs.Adding.{IsNowhere, IsPut, IsPutAs, Adds, HasUtf8, RefusesFull};
+ghost use Rattle.jc_pool.specs.Index.{IsFirstBelow, IsIndexOf, CountsTo, missing, key_in, key_at, naming_of, HasNaming};
+ghost use Rattle.jc_pool.specs.Lookup.{utf8_in, utf8_of};
+ghost use Rattle.jc_pool.specs.Pool.{IsPool, slots_of, width};
 
 use crate::entry::Entry;
-use crate::index::{Index, note_entry, note_text};
+use crate::index::{Index, Key, Naming, note_entry, note_text};
 use crate::judged_text::JudgedText;
 use jc_base::{Fail, Memory};
 use std::alloc::Global;
@@ -84,11 +84,23 @@ fn put_text(
     Ok(place)
 }
 
-/// Puts an entry that takes one place and has no text behind the others, for which there is room.
+/// Puts an entry at the next place, and nothing at its second one. There is room for it.
+fn put_reserved(slots: &mut Vec<Option<Entry>>, entry: Entry)
+    requires { vec_len slots.old + width entry ≤ vec_capacity slots.old }
+    ensures { slots.new.items ≡ slots.old.items ++ slots_of entry }
+{
+    let wide = entry.is_wide();
+    slots.push_reserved(Some(entry));
+    if wide {
+        slots.push_reserved(None);
+    }
+}
+
+/// Puts an entry that has no text of its own behind the others, for which there is room.
 fn put_entry(slots: &mut Vec<Option<Entry>>, index: &mut Index, entry: Entry) -> u16
-    requires room { vec_len slots.old < vec_capacity slots.old }
+    requires room { vec_len slots.old + width entry ≤ vec_capacity slots.old }
     requires space { 0 < spare index.old.keys }
-    requires few { length slots.old.items < 65535 }
+    requires few { length slots.old.items + width entry ≤ 65535 }
     requires other { utf8_in entry ≡ None }
     requires index { IsIndexOf slots.old.items index.old }
     ensures put { IsPut slots.old.items slots.new.items entry result }
@@ -96,7 +108,7 @@ fn put_entry(slots: &mut Vec<Option<Entry>>, index: &mut Index, entry: Entry) ->
 {
     let place = slots.len() as u16;
     note_entry(&mut index.keys, &index.firsts, &entry, place);
-    slots.push_reserved(Some(entry));
+    put_reserved(slots, entry);
     place
 }
 
@@ -123,26 +135,51 @@ pub fn add_text(
     Ok(put_text(alloc, slots, index, text)?)
 }
 
-/// How many places a class lacks, whose name has this place.
+/// The first place of an entry that is a number, which is put behind the others where it is new.
+pub fn add_number(
+    slots: &mut Vec<Option<Entry>>,
+    index: &mut Index,
+    key: Key,
+    entry: Entry,
+) -> Result<u16, Fail<PoolFull>>
+    requires pool { IsPool slots.old.items }
+    requires index { IsIndexOf slots.old.items index.old }
+    requires keyed { key_in index.old.firsts.items entry ≡ Some key }
+    requires other { utf8_in entry ≡ None }
+    ensures ok { IfOk result (Adds (key_at index.old.firsts.items) key slots.old.items (IsPutAs slots.old.items entry) slots.new.items) }
+    ensures pool { IsPool slots.new.items }
+    ensures full { RefusesFull (Adds (key_at index.old.firsts.items) key slots.old.items (IsPutAs slots.old.items entry)) result }
+    ensures err { OnErr result (slots.new.items ≡ slots.old.items) }
+    ensures index { IsIndexOf slots.new.items index.new }
+{
+    if let Some(place) = index.key_place(key) {
+        return Ok(place);
+    }
+    take_room(slots, entry.width())?;
+    index.keys.reserve(1)?;
+    Ok(put_entry(slots, index, entry))
+}
+
+/// How many places an entry lacks that names a text, which has this place.
 fn missing(named: Option<u16>) -> usize
     ensures { result ≡ missing named }
 {
     if named.is_some() { 1 } else { 2 }
 }
 
-/// The place of a name, which is put behind the others where it has none. There is room for it.
+/// The place of a text, which is put behind the others where it has none. There is room for it.
 fn put_name(
     alloc: Global,
     slots: &mut Vec<Option<Entry>>,
     index: &mut Index,
     named: Option<u16>,
-    name: &[u8],
+    text: &[u8],
 ) -> Result<u16, Memory>
-    requires named { IsFirstBelow (length slots.old.items) (utf8_of slots.old.items) name.now named }
+    requires named { IsFirstBelow (length slots.old.items) (utf8_of slots.old.items) text.now named }
     requires room { vec_len slots.old + missing named ≤ vec_capacity slots.old }
     requires few { length slots.old.items + missing named ≤ 65535 }
     requires index { IsIndexOf slots.old.items index.old }
-    ensures has { IfOk result (HasUtf8 slots.old.items name.now slots.new.items) }
+    ensures has { IfOk result (HasUtf8 slots.old.items text.now slots.new.items) }
     ensures room { OnOk result (vec_len slots.new < vec_capacity slots.new) }
     ensures few { OnOk result (length slots.new.items < 65535) }
     ensures kept { OnErr result (slots.new.items ≡ slots.old.items) }
@@ -151,54 +188,56 @@ fn put_name(
 {
     match named {
         Some(at) => Ok(at),
-        None => put_text(alloc, slots, index, name),
+        None => put_text(alloc, slots, index, text),
     }
 }
 
-/// Puts a Class entry of a name behind the others, and before it the name, where it has no place.
-fn put_class(
+/// Puts an entry that names a text behind the others, and before it the text, where it has no place.
+fn put_naming(
     alloc: Global,
     slots: &mut Vec<Option<Entry>>,
     index: &mut Index,
+    kind: Naming,
     named: Option<u16>,
-    name: &[u8],
+    text: &[u8],
 ) -> Result<u16, Fail<PoolFull>>
     requires pool { IsPool slots.old.items }
-    requires short { IsShortText name.now }
-    requires named { IsFirstBelow (length slots.old.items) (utf8_of slots.old.items) name.now named }
-    requires new { IsNowhere (class_name_of slots.old.items) name.now }
+    requires short { IsShortText text.now }
+    requires named { IsFirstBelow (length slots.old.items) (utf8_of slots.old.items) text.now named }
+    requires new { IsNowhere (naming_of kind slots.old.items) text.now }
     requires index { IsIndexOf slots.old.items index.old }
-    ensures ok { IfOk result (HasClass slots.old.items name.now slots.new.items) }
+    ensures ok { IfOk result (HasNaming kind slots.old.items text.now slots.new.items) }
     ensures pool { IsPool slots.new.items }
-    ensures full { RefusesFull (HasClass slots.old.items name.now) result }
+    ensures full { RefusesFull (HasNaming kind slots.old.items text.now) result }
     ensures err { OnErr result (slots.new.items ≡ slots.old.items) }
     ensures index { IsIndexOf slots.new.items index.new }
 {
     take_room(slots, missing(named))?;
     index.keys.reserve(1)?;
-    let at = put_name(alloc, slots, index, named, name)?;
-    Ok(put_entry(slots, index, Entry::Class { name: at }))
+    let at = put_name(alloc, slots, index, named, text)?;
+    Ok(put_entry(slots, index, kind.entry(at)))
 }
 
-/// The first place of a class, which is put behind the others where it is new.
-pub fn add_class(
+/// The first place of an entry that names a text, which is put behind the others where it is new.
+pub fn add_naming(
     alloc: Global,
     slots: &mut Vec<Option<Entry>>,
     index: &mut Index,
-    name: &[u8],
+    kind: Naming,
+    text: &[u8],
 ) -> Result<u16, Fail<PoolFull>>
     requires pool { IsPool slots.old.items }
-    requires short { IsShortText name.now }
+    requires short { IsShortText text.now }
     requires index { IsIndexOf slots.old.items index.old }
-    ensures ok { IfOk result (HasClass slots.old.items name.now slots.new.items) }
+    ensures ok { IfOk result (HasNaming kind slots.old.items text.now slots.new.items) }
     ensures pool { IsPool slots.new.items }
-    ensures full { RefusesFull (HasClass slots.old.items name.now) result }
+    ensures full { RefusesFull (HasNaming kind slots.old.items text.now) result }
     ensures err { OnErr result (slots.new.items ≡ slots.old.items) }
     ensures index { IsIndexOf slots.new.items index.new }
 {
-    let named = index.text_place(name);
-    if let Some(place) = index.class_place(named) {
+    let named = index.text_place(text);
+    if let Some(place) = index.naming_place(kind, named) {
         return Ok(place);
     }
-    put_class(alloc, slots, index, named, name)
+    put_naming(alloc, slots, index, kind, named, text)
 }

@@ -2,7 +2,8 @@
 ghost use Rattle.std.specs.Prelude.{◌≡◌, ◌<◌, ◌≤◌, ℕ, IfOk, OnOk, OnErr, length};
 ghost use Rattle.indexmap.specs.IndexMap.{spare};
 ghost use Rattle.jc_pool.specs.Index.{AreFirsts, AreStandins, IsIndexOf, Notes, NotesText, NotesEntry};
-ghost use Rattle.jc_pool.specs.Index.{text_in, text_place, standing_for, key_in, key_at, slot_key, key_place, class_place};
+ghost use Rattle.jc_pool.specs.Index.{text_in, text_place, standing_for, key_in, key_at, slot_key, key_place};
+ghost use Rattle.jc_pool.specs.Index.{entry_naming, key_naming, naming_place};
 ghost use Rattle.jc_pool.specs.Lookup.{utf8_of};
 
 use crate::entry::Entry;
@@ -10,12 +11,49 @@ use indexmap::IndexMap;
 use jc_base::Memory;
 use std::alloc::Global;
 
-/// An entry that names others, each by the first place at which an equal one stands. Two such
-/// entries are equal by content exactly where their keys are equal.
+/// What an entry is by its content: a number, or a class or a string by the first place of the text
+/// that it names. Two such entries are equal by content exactly where their keys are equal.
 #[derive(Clone, Copy, Debug, PartialEq, Eq, Hash)]
 pub enum Key {
+    /// An int by its value.
+    Integer(i32),
+    /// A long by its value.
+    Long(i64),
     /// A class by its name.
     Class { name: u16 },
+    /// A string by its text.
+    String { text: u16 },
+}
+
+/// A kind of entry that names one text.
+#[derive(Clone, Copy, Debug, PartialEq, Eq)]
+pub enum Naming {
+    /// A class by its name (JVM Specification 4.4.1).
+    Class,
+    /// A string by its text (JVM Specification 4.4.3).
+    String,
+}
+
+impl Naming {
+    /// The entry of this kind that names the text at this place.
+    pub fn entry(self, text: u16) -> Entry
+        ensures { result ≡ entry_naming self text }
+    {
+        match self {
+            Naming::Class => Entry::Class { name: text },
+            Naming::String => Entry::String { text },
+        }
+    }
+
+    /// Its key, where this is the first place of the text.
+    fn key(self, text: u16) -> Key
+        ensures { result ≡ key_naming self text }
+    {
+        match self {
+            Naming::Class => Key::Class { name: text },
+            Naming::String => Key::String { text },
+        }
+    }
 }
 
 /// Texts that differ, each with the first place at which it stands.
@@ -46,11 +84,16 @@ fn standing_for(firsts: &[u16], place: u16) -> u16
     }
 }
 
-/// The key of an entry that names others.
+/// The key of an entry that is a number, or names others.
 fn key_of(firsts: &[u16], entry: &Entry) -> Option<Key>
     ensures { result ≡ key_in firsts.now entry.now }
 {
     match entry {
+        Entry::Integer(value) => Some(Key::Integer(*value)),
+        Entry::Long(value) => Some(Key::Long(*value)),
+        Entry::String { text } => Some(Key::String {
+            text: standing_for(firsts, *text),
+        }),
         Entry::Class { name } => Some(Key::Class {
             name: standing_for(firsts, *name),
         }),
@@ -183,11 +226,17 @@ impl Index {
         self.texts.get(text).copied()
     }
 
-    /// The first place of a class, by the first place of its name.
-    pub fn class_place(&self, named: Option<u16>) -> Option<u16>
-        ensures { result ≡ class_place self.now.keys.entries named }
+    /// The first place of a key.
+    pub fn key_place(&self, key: Key) -> Option<u16>
+        ensures { result ≡ key_place self.now.keys.entries key }
     {
-        let key = Key::Class { name: named? };
         self.keys.get(&key).copied()
+    }
+
+    /// The first place of an entry of a kind, by the first place of its text.
+    pub fn naming_place(&self, kind: Naming, named: Option<u16>) -> Option<u16>
+        ensures { result ≡ naming_place self.now.keys.entries kind named }
+    {
+        self.key_place(kind.key(named?))
     }
 }

@@ -7,9 +7,9 @@ ghost use Rattle.jc_pool.specs.PoolGrammar.{pool, ReadsBy};
 ghost use Rattle.jc_pool.specs.PoolReading.{filled_at, pool_at};
 
 use crate::PoolFull;
-use crate::add::{add_class, add_text, index_of};
+use crate::add::{add_naming, add_number, add_text, index_of};
 use crate::entry::Entry;
-use crate::index::Index;
+use crate::index::{Index, Key, Naming};
 use crate::item::{count_item, entry_item};
 use jc_base::{Fail, Memory, Reader, Refusal};
 use std::alloc::Global;
@@ -145,7 +145,7 @@ impl Pool {
 impl Pool {
     ghost use Rattle.std.specs.Prelude.{OnErr, OnOk};
     ghost use Rattle.jc_base.specs.Texts.{IsShortText};
-    ghost use Rattle.jc_pool.specs.Adding.{HasUtf8, HasClass, RefusesFull, Extends};
+    ghost use Rattle.jc_pool.specs.Adding.{HasUtf8, HasClass, HasString, HasInteger, HasLong, RefusesFull, Extends};
 
     /// The first place of a Utf8 entry with this text (JVM Specification 4.4.7). Where there is none,
     /// one is put behind the others. Every entry keeps its place.
@@ -185,7 +185,71 @@ impl Pool {
         ensures extends { Extends self.old self.new }
     {
         let mut index = index_of(alloc, self.index.take(), &self.slots)?;
-        let added = add_class(alloc, &mut self.slots, &mut index, name);
+        let added = add_naming(alloc, &mut self.slots, &mut index, Naming::Class, name);
+        self.index = Some(index);
+        added
+    }
+
+    /// The first place of a String entry of this text (JVM Specification 4.4.3), whatever the place of
+    /// the text. Where there is none, the text is put behind the others, unless it is there, and then
+    /// a String entry. Every entry keeps its place.
+    ///
+    /// # Errors
+    ///
+    /// `Memory` where memory was refused. `PoolFull` exactly where no such entry stands and the pool's
+    /// count would become `count`, which is above 65,535. Then nothing has changed.
+    pub fn add_string(&mut self, alloc: Global, text: &[u8]) -> Result<u16, Fail<PoolFull>>
+        requires { IsShortText text.now }
+        ensures ok { IfOk result (HasString self.old text.now self.new) }
+        ensures fits { OnOk result (length self.new ≤ 65535) }
+        ensures full { RefusesFull (HasString self.old text.now) result }
+        ensures err { OnErr result (self.new ≡ self.old) }
+        ensures extends { Extends self.old self.new }
+    {
+        let mut index = index_of(alloc, self.index.take(), &self.slots)?;
+        let added = add_naming(alloc, &mut self.slots, &mut index, Naming::String, text);
+        self.index = Some(index);
+        added
+    }
+
+    /// The first place of an Integer entry of this value (JVM Specification 4.4.4). Where there is
+    /// none, one is put behind the others. Every entry keeps its place.
+    ///
+    /// # Errors
+    ///
+    /// `Memory` where memory was refused. `PoolFull` exactly where no such entry stands and the pool's
+    /// count would become `count`, which is above 65,535. Then nothing has changed.
+    pub fn add_int(&mut self, alloc: Global, value: i32) -> Result<u16, Fail<PoolFull>>
+        ensures ok { IfOk result (HasInteger self.old value self.new) }
+        ensures fits { OnOk result (length self.new ≤ 65535) }
+        ensures full { RefusesFull (HasInteger self.old value) result }
+        ensures err { OnErr result (self.new ≡ self.old) }
+        ensures extends { Extends self.old self.new }
+    {
+        let mut index = index_of(alloc, self.index.take(), &self.slots)?;
+        let entry = Entry::Integer(value);
+        let added = add_number(&mut self.slots, &mut index, Key::Integer(value), entry);
+        self.index = Some(index);
+        added
+    }
+
+    /// The first place of a Long entry of this value (JVM Specification 4.4.5). Where there is none,
+    /// one is put behind the others, which takes two places. Every entry keeps its place.
+    ///
+    /// # Errors
+    ///
+    /// `Memory` where memory was refused. `PoolFull` exactly where no such entry stands and the pool's
+    /// count would become `count`, which is above 65,535. Then nothing has changed.
+    pub fn add_long(&mut self, alloc: Global, value: i64) -> Result<u16, Fail<PoolFull>>
+        ensures ok { IfOk result (HasLong self.old value self.new) }
+        ensures fits { OnOk result (length self.new ≤ 65535) }
+        ensures full { RefusesFull (HasLong self.old value) result }
+        ensures err { OnErr result (self.new ≡ self.old) }
+        ensures extends { Extends self.old self.new }
+    {
+        let mut index = index_of(alloc, self.index.take(), &self.slots)?;
+        let entry = Entry::Long(value);
+        let added = add_number(&mut self.slots, &mut index, Key::Long(value), entry);
         self.index = Some(index);
         added
     }

@@ -276,6 +276,49 @@ fn an_entry_equal_by_content_is_found(rt: HostRuntime) -> Result<(), test::Fail>
     Ok(())
 }
 
+/// A pool of numbers, and of strings of one text.
+const NUMBERS_AND_STRINGS: [u8; 44] = [
+    0x00, 0x0a, // the count: places 1 to 9
+    0x03, 0x00, 0x00, 0x00, 0x08, // 1: Integer 8
+    0x05, 0, 0, 0, 0, 0, 0, 0, 0x07, // 2: Long 7, and its second place
+    0x05, 0, 0, 0, 0, 0, 0, 0, 0x07, // 4: Long 7, and its second place
+    0x01, 0x00, 0x01, 0x41, // 6: Utf8 A
+    0x01, 0x00, 0x01, 0x41, // 7: Utf8 A
+    0x08, 0x00, 0x07, // 8: String A
+    0x08, 0x00, 0x06, // 9: String A
+    0x2a, 0x2a, 0x2a, 0x2a, 0x2a,
+];
+
+#[test]
+fn numbers_are_found_or_go_last(rt: HostRuntime) -> Result<(), test::Fail> {
+    let alloc = rt.alloc();
+    let Ok(mut pool) = Pool::read(alloc, &mut Reader::new(&NUMBERS_AND_STRINGS)) else {
+        return Err("refused")?;
+    };
+    for (value, place) in [(8, 1), (7, 10), (7, 10), (-1, 11)] {
+        assert_eq!(rt; pool.add_int(alloc, value), Ok(place), "{value}");
+    }
+    for (value, place) in [(7, 2), (8, 12), (8, 12), (-1, 14)] {
+        assert_eq!(rt; pool.add_long(alloc, value), Ok(place), "{value}");
+    }
+    assert_eq!(rt; pool.count(), 16);
+    Ok(())
+}
+
+#[test]
+fn strings_are_found_by_their_texts(rt: HostRuntime) -> Result<(), test::Fail> {
+    let alloc = rt.alloc();
+    let Ok(mut pool) = Pool::read(alloc, &mut Reader::new(&NUMBERS_AND_STRINGS)) else {
+        return Err("refused")?;
+    };
+    for (text, place) in [(b"A", 8), (b"B", 11), (b"B", 11)] {
+        assert_eq!(rt; pool.add_string(alloc, text), Ok(place));
+    }
+    assert_eq!(rt; pool.add_utf8(alloc, b"B"), Ok(10));
+    assert_eq!(rt; pool.count(), 12);
+    Ok(())
+}
+
 #[test]
 fn a_class_whose_name_was_missing_is_found(rt: HostRuntime) -> Result<(), test::Fail> {
     let alloc = rt.alloc();
@@ -316,6 +359,15 @@ fn a_full_pool_takes_no_new_entry(rt: HostRuntime) -> Result<(), test::Fail> {
     assert_eq!(rt; pool.add_class(alloc, b"A"), Ok(2));
     assert_eq!(rt;
         pool.add_class(alloc, b"new"),
+        Err(Fail::Said(PoolFull { count: 65_537 }))
+    );
+    assert_eq!(rt;
+        pool.add_string(alloc, b"A"),
+        Err(Fail::Said(PoolFull { count: 65_536 }))
+    );
+    assert_eq!(rt; pool.add_long(alloc, 7), Ok(3));
+    assert_eq!(rt;
+        pool.add_long(alloc, 8),
         Err(Fail::Said(PoolFull { count: 65_537 }))
     );
     assert_eq!(rt; pool.count(), 65_535);

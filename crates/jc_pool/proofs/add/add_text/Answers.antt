@@ -3,7 +3,7 @@ use Rattle.std.proofs.lemmas.Result.{err_from_is_err_and}
 use Rattle.jc_pool.specs.declared.entry.Entry.TheVariants as entry
 use Rattle.jc_pool.specs.Adding.{IsPut}
 use Rattle.jc_pool.proofs.AddingLaws.{text_refused, utf8_pool}
-use Rattle.jc_pool.proofs.ClassPlaceLaws.{text_nowhere}
+use Rattle.jc_pool.proofs.KeyPlaceLaws.{text_nowhere}
 use Rattle.jc_pool.proofs.OneMoreEntryLaws.{grown_length}
 use Rattle.jc_pool.proofs.add.add_text.Goals as goal
 

@@ -6,8 +6,8 @@ use Rattle.jc_pool.proofs.add.put_entry.Goals as goal
 
 pub returns-clause-index : goal.returns-clause-index
 returns-clause-index c =
-    let put : IsPut c.args.slots.now.items c.push_reserved.new.self.items c.args.entry c.len-place.result = search rules in
+    let put : IsPut c.args.slots.now.items c.put_reserved.new.slots.items c.args.entry c.len-place.result = search rules in
     let notes : NotesEntry (key_place c.args.index.now.keys.entries) (key_place c.note_entry.new.keys.entries) (key_in c.args.index.now.firsts.items c.args.entry) c.len-place.result =
     subst (λ (l : List ℕ). NotesEntry (key_place c.args.index.now.keys.entries) (key_place c.note_entry.new.keys.entries) (key_in l c.args.entry) c.len-place.result) c.deref.ensures.value c.note_entry.ensures in
-    entry_indexed c.args.slots.now.items c.push_reserved.new.self.items c.args.index.now
+    entry_indexed c.args.slots.now.items c.put_reserved.new.slots.items c.args.index.now
     (record { firsts = c.args.index.now.firsts; texts = c.args.index.now.texts; keys = c.note_entry.new.keys }) c.args.entry c.len-place.result refl refl c.requires.other put notes c.requires.index

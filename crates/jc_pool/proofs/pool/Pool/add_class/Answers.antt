@@ -1,5 +1,16 @@
-use Rattle.jc_pool.proofs.AddingLaws.{class_added}
+use Rattle.std.proofs.Common.{subst}
+use Rattle.jc_pool.specs.declared.entry.Entry.TheVariants as entry
+use Rattle.jc_pool.specs.Pool.{PoolValue}
+use Rattle.jc_pool.specs.Adding.{PutsNaming, HasClass, RefusesFull}
+use Rattle.jc_pool.specs.Lookup.{class_name_of}
+use Rattle.jc_pool.proofs.AddingLaws.{added, naming_extends}
 use Rattle.jc_pool.proofs.pool.Pool.add_class.Goals as goal
 
 pub returns-clause-extends : goal.returns-clause-extends
-returns-clause-extends c = class_added c.add_class-added.result c.self.inside.slots.items c.args.self.now c.add_class-added.new.slots.items c.args.name.now c.self.view_is c.add_class-added.ensures.ok c.add_class-added.ensures.err
+returns-clause-extends c =
+    let old = c.self.inside.slots.items in
+    added class_name_of c.args.name.now old (PutsNaming old c.args.name.now entry.Class) (λ new place put. naming_extends old new c.args.name.now entry.Class place put)
+    c.add_naming-added.result c.args.self.now c.add_naming-added.new.slots.items c.self.view_is c.add_naming-added.ensures.ok c.add_naming-added.ensures.err
+
+pub returns-clause-full : goal.returns-clause-full
+returns-clause-full c = subst (λ (l : PoolValue). RefusesFull (HasClass l c.args.name.now) c.add_naming-added.result) c.self.view_is c.add_naming-added.ensures.full
