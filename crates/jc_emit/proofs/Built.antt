@@ -16,7 +16,7 @@ use Rattle.jc_emit.specs.Marks.{image_place}
 use Rattle.jc_base.specs.Widened.{inverted}
 use Rattle.jc_emit.specs.TwinCode.{to_of}
 use Rattle.jc_emit.specs.Items.{Item, own_of, prelude, lead_part, early_part, hop_part, arm_parts, test_part, segment_size, lead_of, land_of, image_of, tests_part, image_part, segment, twin_items}
-use Rattle.jc_emit.proofs.Places.{HasAt, has_piece, length-pieces}
+use Rattle.jc_emit.proofs.PiecesLaws.{HasAt, has_piece, length-pieces}
 use Rattle.jc_emit.proofs.Images.{trues, trues-append, image_in_front, image_behind}
 use Rattle.jc_base.specs.declared.insn.Flow.TheVariants as flows
 

@@ -18,7 +18,7 @@ use Rattle.jc_emit.specs.Marks.{Marks, Stands, IsProbe, iconst_1, bastore, image
 use Rattle.jc_base.specs.Widened.{goto, inverted}
 use Rattle.jc_emit.specs.TwinCode.{to_of, Sentences, IsTwinCode, HasTest, HasArm, HasArms}
 use Rattle.jc_emit.specs.Items.{marks_of_items, Item, hop, insn_of, at_of, own_of, extra_of, prelude, probe, lead_part, early_part, hop_part, arm_parts, test_part, segment_size, lead_of, land_of, image_of, tests_part, image_part, segment, twin_items}
-use Rattle.jc_emit.proofs.Places.{HasAt, Each, each_append, each_piece, has_whole}
+use Rattle.jc_emit.proofs.PiecesLaws.{HasAt, Each, each_append, each_piece, has_whole}
 use Rattle.jc_emit.proofs.Images.{trues, trues_counted, image_behind}
 use Rattle.jc_emit.proofs.Built.{length-lead, length-early, length-hop, length-test, length_twin, sized}
 use Rattle.jc_emit.proofs.Ends.{image_past}

@@ -1,4 +1,4 @@
-pub mod Places
+pub mod PiecesLaws
 pub mod Images
 pub mod Built
 pub mod Ends
@@ -32,3 +32,8 @@ pub mod TwinChecked
 pub mod InitLaws
 pub mod TwinBodyLaws
 pub mod ProgramLaws
+pub mod PlanReads
+pub mod WritingLaws
+pub mod PlacingLaws
+pub mod SwitchLaws
+pub mod SegmentLaws

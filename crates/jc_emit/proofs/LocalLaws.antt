@@ -23,7 +23,7 @@ use Rattle.jc_base.specs.Widened.{inverted}
 use Rattle.jc_emit.specs.TwinCode.{to_of, here_or, arm_place}
 use Rattle.jc_emit.specs.Items.{Item, image, probe_array, hop, probe, lead_part, early_part, hop_part, arm_parts, test_part, segment_size, lead_of, land_of, image_of, tests_part, image_part, segment, twin_items}
 use Rattle.jc_emit.specs.Local.{Stands, Lands, Ok, OkImage, AllOk, TestsAlike, TestsInversely, SwitchesAlike, JumpsAlike}
-use Rattle.jc_emit.proofs.Places.{HasAt, has_front, has_back, Each, each_append, each_at, each_piece}
+use Rattle.jc_emit.proofs.PiecesLaws.{HasAt, has_front, has_back, Each, each_append, each_at, each_piece}
 use Rattle.jc_emit.proofs.Built.{length-lead, length-early, length-hop, sized, size_is, size_tests, prelude_at}
 use Rattle.jc_emit.proofs.Ends.{last_parts}
 use Rattle.jc_emit.proofs.Told.{lead_at, early_at, main_at}

@@ -26,7 +26,7 @@ use Rattle.jc_emit.specs.Marks.{Marks}
 use Rattle.jc_base.specs.Widened.{inverted}
 use Rattle.jc_emit.specs.TwinCode.{to_of, here_or, arm_place, probe_place, probe_place_by, probe_owner, probe_owner_by, ProbedEdge, InProbe, IsHop, IsWideGoto, NothingElse, HasProbe, HasArm, HasArms, HasGotoBehind}
 use Rattle.jc_emit.specs.Items.{marks_of_items, Item, init_call, hop, insn_of, own_of, probe, lead_part, early_part, hop_part, arm_parts, test_part, segment_size, lead_of, land_of, image_of, tests_part, image_part, segment, twin_items}
-use Rattle.jc_emit.proofs.Places.{HasAt, has_front, Each, each_append, each_at, each_piece}
+use Rattle.jc_emit.proofs.PiecesLaws.{HasAt, has_front, Each, each_append, each_at, each_piece}
 use Rattle.jc_emit.proofs.Built.{length-lead, length-early, length-hop, length-test, sized}
 use Rattle.jc_emit.proofs.Ends.{lead_none}
 use Rattle.jc_emit.proofs.Told.{item_stands, main_at, places_told, jumps_told, switches_told}

@@ -19,7 +19,7 @@ use Rattle.jc_emit.specs.TwinCode.{to_of}
 use Rattle.jc_emit.specs.TwinTables.{moved_row}
 use Rattle.jc_emit.specs.Items.{Item, image, lead_part, early_part, hop_part, arm_parts, test_part, segment_size, lead_of, land_of, image_of, tests_part, image_part, segment, twin_items}
 use Rattle.jc_emit.specs.Local.{OkRow, Holds}
-use Rattle.jc_emit.proofs.Places.{Each, each_append, each_at, each_piece}
+use Rattle.jc_emit.proofs.PiecesLaws.{Each, each_append, each_at, each_piece}
 use Rattle.jc_emit.proofs.Built.{length-lead, length-early, sized}
 use Rattle.jc_emit.proofs.LocalLaws.{land_lands}
 use Rattle.jc_base.specs.declared.insn.Flow.TheVariants as flows

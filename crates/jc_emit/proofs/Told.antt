@@ -17,7 +17,7 @@ use Rattle.jc_emit.specs.Marks.{Marks, Stands, IsProbe, iconst_1, bastore}
 use Rattle.jc_base.specs.Widened.{goto, inverted}
 use Rattle.jc_emit.specs.TwinCode.{to_of, Prelude, Images, Places, Jumps, Switches, Lengths, HasTest, HasProbe, HasHop, HasArm, HasArms}
 use Rattle.jc_emit.specs.Items.{Item, marks_of_items, image, hop, insn_of, at_of, own_of, extra_of, probe, lead_part, early_part, hop_part, arm_parts, test_part, segment_size, lead_of, land_of, image_of, tests_part, image_part, twin_items, probe_array, probe_id, probe_one, probe_store, init_call, init_store}
-use Rattle.jc_emit.proofs.Places.{HasAt, has_front, has_back}
+use Rattle.jc_emit.proofs.PiecesLaws.{HasAt, has_front, has_back}
 use Rattle.jc_emit.proofs.Images.{trues_counted}
 use Rattle.jc_emit.proofs.Built.{length-lead, length-early, length-hop, length-test, own_twin, segment_at, prelude_at}
 use Rattle.jc_base.specs.declared.insn.Flow.TheVariants as flows

@@ -25,7 +25,7 @@ use Rattle.jc_emit.specs.TwinTables.{moved_row}
 use Rattle.jc_emit.specs.TwinFrames.{state_at}
 use Rattle.jc_emit.specs.Twin.{Twin}
 use Rattle.jc_emit.specs.Items.{insn_of, init_call, init_store, segment, lead_of, land_of, image_of}
-use Rattle.jc_emit.proofs.Places.{each_at}
+use Rattle.jc_emit.proofs.PiecesLaws.{each_at}
 use Rattle.jc_emit.proofs.Built.{sized, prelude_at}
 use Rattle.jc_emit.proofs.TwinPremises.{Premises, premises, stands, code_long, asked_has, leads_grow, same_use}
 use Rattle.jc_emit.proofs.TwinPlaces.{state_b}

@@ -26,7 +26,7 @@ use Rattle.jc_emit.specs.Sizes.{early_probe, late_probe, probe_size, wide_by}
 use Rattle.jc_emit.specs.Marks.{astore}
 use Rattle.jc_emit.specs.TwinFrames.{state_at, state_behind, IsFrame}
 use Rattle.jc_emit.specs.Items.{Item, init_store, image, probe_store, insn_of, test_part, lead_part, early_part, lead_of, land_of, image_of, twin_items}
-use Rattle.jc_emit.proofs.Places.{HasAt}
+use Rattle.jc_emit.proofs.PiecesLaws.{HasAt}
 use Rattle.jc_emit.proofs.Built.{size_is, prelude_at}
 use Rattle.jc_emit.proofs.Told.{lead_at, early_at, main_at, main_by, plain_test}
 use Rattle.jc_emit.proofs.LocalLaws.{test_is, early_image}

@@ -33,7 +33,7 @@ use Rattle.jc_emit.specs.TwinFrames.{IsFrame, AreRising, AreTwinFrames}
 use Rattle.jc_emit.specs.Twin.{Twin, IsSameMethod, probe_init, KeepsUses}
 use Rattle.jc_emit.specs.Straddling.{NoneStraddles}
 use Rattle.jc_emit.specs.Items.{Item, insn_of, image, segment_size, lead_of, land_of, image_of, test_part, image_part, twin_items}
-use Rattle.jc_emit.proofs.Places.{HasAt}
+use Rattle.jc_emit.proofs.PiecesLaws.{HasAt}
 use Rattle.jc_emit.proofs.Built.{length_twin}
 use Rattle.jc_emit.proofs.Ends.{image_past}
 use Rattle.jc_emit.proofs.RowLaws.{total_grows}

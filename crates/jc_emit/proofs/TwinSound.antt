@@ -31,7 +31,7 @@ use Rattle.jc_emit.specs.Sizes.{early_probe, late_probe, arms_at, probe_size, ho
 use Rattle.jc_emit.specs.TwinCode.{to_of, here_or, arm_place}
 use Rattle.jc_emit.specs.TwinFrames.{state_at, left_by, state_behind}
 use Rattle.jc_emit.specs.Items.{Item, image, probe_array, probe_id, probe_one, probe_store, hop, insn_of, probe, lead_part, early_part, hop_part, arm_parts, test_part, tests_part, lead_of, land_of, image_of, image_part, segment, twin_items}
-use Rattle.jc_emit.proofs.Places.{HasAt, has_front, has_back, Each, each_append}
+use Rattle.jc_emit.proofs.PiecesLaws.{HasAt, has_front, has_back, Each, each_append}
 use Rattle.jc_emit.proofs.Built.{size_is, size_switches, length-lead, length-early, length-hop}
 use Rattle.jc_emit.proofs.Told.{lead_at, early_at, main_at}
 use Rattle.jc_emit.proofs.Others.{Arms, Agrees, agrees_first, agrees_rest, arms_by_list, arm_listed, tests_target}

@@ -33,7 +33,7 @@ use Rattle.jc_emit.proofs.StateLaws.{slots-renamed, AllFrom, all_from, frame_is,
 use Rattle.jc_emit.specs.Marks.{push, invokestatic}
 use Rattle.jc_emit.specs.TwinFrames.{state_at}
 use Rattle.jc_emit.specs.Items.{Item, init_call, init_store, probe_array, probe_id, probe_one, probe_store, insn_of, extra_of, probe, lead_of, land_of, image_of, twin_items}
-use Rattle.jc_emit.proofs.Places.{HasAt}
+use Rattle.jc_emit.proofs.PiecesLaws.{HasAt}
 use Rattle.jc_emit.proofs.Built.{prelude_at}
 use Rattle.jc_emit.proofs.StepLaws.{apply_low, after_is, state, moves_one, moves_gives, limited_is, slots-append}
 use Rattle.jc_emit.proofs.TwinPremises.{Premises, stands, images}

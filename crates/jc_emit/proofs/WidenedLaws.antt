@@ -20,7 +20,7 @@ use Rattle.jc_base.specs.Widened.{goto, inverted, widths_by, wide_place, widened
 use Rattle.jc_emit.specs.TwinCode.{to_of, here_or, arm_place}
 use Rattle.jc_emit.specs.Items.{Item, insn_of, prelude, probe, lead_part, early_part, hop_part, arm_parts, segment_size, lead_of, land_of, image_of, tests_part, image_part, segment, twin_items}
 use Rattle.jc_emit.proofs.Built.{length-lead, length-early, length-arms, size_is, size_tests, size_switches, sized}
-use Rattle.jc_emit.proofs.Places.{length-pieces}
+use Rattle.jc_emit.proofs.PiecesLaws.{length-pieces}
 use Rattle.jc_emit.proofs.Ends.{lead_none, lead_past}
 use Rattle.jc_emit.proofs.LocalLaws.{test_is}
 use Rattle.jc_emit.proofs.InverseLaws.{inverse_tests_too}

@@ -15,3 +15,7 @@ pub mod Ranks
 pub mod Added
 pub mod TwinProgram
 pub mod Rows
+pub mod Placing
+pub mod Branching
+pub mod Writing
+pub mod Written

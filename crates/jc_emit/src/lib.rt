@@ -2,8 +2,13 @@
 #![tactic(auto)]
 
 mod checks;
+mod image;
 mod laws;
+mod places;
+mod segments;
 mod straddling;
+mod switches;
+mod written;
 
 pub use checks::{each_init_is_verified, each_twin_is_verified, each_twin_program_is_verified};
 pub use laws::{

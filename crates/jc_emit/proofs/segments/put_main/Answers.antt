@@ -1,0 +1,126 @@
+use Rattle.std.proofs.Common.{◌≡◌, ⊎_elim, ℕ, [], ◌∷◌, false, Option, None, List, length, get_or, sym, ap, ap₂, ◌∙◌, subst, arith}
+use Rattle.std.specs.Prelude.{slice_index}
+use Rattle.jc_base.specs.Flow.{flow_of}
+use Rattle.jc_base.specs.Insn.{with_places}
+use Rattle.jc_base.specs.declared.insn.Insn.{Insn}
+use Rattle.jc_base.specs.declared.insn.Flow.TheVariants as flows
+use Rattle.jc_plan.specs.Plan.{out_probes}
+use Rattle.jc_plan.proofs.FlowLaws.{few_insns}
+use Rattle.jc_after.specs.Shift.{with_slot}
+use Rattle.jc_emit.specs.Branching.{IsPushed, IsTableOf, late_in}
+use Rattle.jc_emit.specs.Items.{image, land_of, tests_part}
+use Rattle.jc_emit.specs.Sizes.{insn_at, early_probe, late_probe}
+use Rattle.jc_emit.specs.Writing.{Grows}
+use Rattle.jc_emit.proofs.PlanReads.{length_outs, outs_here}
+use Rattle.jc_emit.proofs.PlacingLaws.{insn_here, late_read}
+use Rattle.jc_emit.proofs.SegmentLaws.{table_is, led_agrees, leads_at, outs_pushed, main_by}
+use Rattle.jc_emit.proofs.segments.put_main.Goals as goal
+
+pub overflow_cast-at : goal.overflow_cast-at
+overflow_cast-at c = omega (arith, c.requires.at, few_insns c.args.body.now.code, c.requires.given.made.code.few)
+
+pub bounds-deref-at-in-Tests : goal.bounds-deref-at-in-Tests
+bounds-deref-at-in-Tests c =
+    let plan = c.requires.given.planned in
+    omega (arith, c.requires.at, ap length c.deref-in-Tests.ensures, length_outs c.args.body.now plan.0 c.args.plan.now plan.1)
+
+pub overflow_cast-at-in-Tests : goal.overflow_cast-at-in-Tests
+overflow_cast-at-in-Tests c = omega (arith, c.requires.at, few_insns c.args.body.now.code, c.requires.given.made.code.few)
+
+pub put_test-requires-clause-pushed : goal.put_test-requires-clause-pushed
+put_test-requires-clause-pushed c =
+    let plan = c.requires.given.planned in
+    let b = c.args.body.now in
+    let at = c.args.at in
+    let ids : c.as_slice.result.now ≡ out_probes b plan.0 at (insn_at b.code at) =
+    c.as_slice.ensures
+    ∙ c.index-deref-at-in-Tests.is
+    ∙ ap (λ (l : List (List (Option ℕ))). get_or l at c.index-deref-at-in-Tests.result) c.deref-in-Tests.ensures
+    ∙ outs_here b plan.0 c.args.plan.now plan.1 at c.index-deref-at-in-Tests.result c.requires.at in
+    subst IsPushed (sym (c.late_id-late.ensures ∙ ap (λ (l : List (Option ℕ)). get_or l 1 None) ids))
+    (outs_pushed b plan.0 c.args.plan.now plan.1 c.requires.given.next at (insn_at b.code at) 1)
+
+pub overflow_cast-at-in-Jumps : goal.overflow_cast-at-in-Jumps
+overflow_cast-at-in-Jumps c = omega (arith, c.requires.at, few_insns c.args.body.now.code, c.requires.given.made.code.few)
+
+pub overflow_cast-at-in-Returns : goal.overflow_cast-at-in-Returns
+overflow_cast-at-in-Returns c = omega (arith, c.requires.at, few_insns c.args.body.now.code, c.requires.given.made.code.few)
+
+pub returns-in_ok-put_image-in-GoesOn-clause-code : goal.returns-in_ok-put_image-in-GoesOn-clause-code
+returns-in_ok-put_image-in-GoesOn-clause-code c = λ first plan.
+    let b = c.args.body.now in
+    let at = c.args.at in
+    let v = b.arg_slots in
+    let old = c.args.written.now in
+    let new = c.put_image.new.self in
+    let insn : c.index-deref-at.result ≡ insn_at b.code at =
+    insn_here b.code at c.index-deref-at.result c.index-deref-at.result c.requires.at
+    (c.index-deref-at.is ∙ ap (λ (l : List Insn). get_or l at c.index-deref-at.result) c.deref.ensures) in
+    let flow : flow_of (insn_at b.code at) ≡ flows.GoesOn = ap flow_of (sym insn) ∙ sym c.flow.ensures ∙ c.in-GoesOn.is in
+    let moved = c.in_ok-moved-in-GoesOn.ensures ∙ ap (with_slot v) insn in
+    main_by v b first at old new flows.GoesOn flow
+    (subst (λ (i : Insn). Grows v old new (image i at None ∷ [])) moved (c.in_ok-put_image-in-GoesOn.ensures v None))
+
+pub returns-in_ok-put_test-in-Tests-clause-code : goal.returns-in_ok-put_test-in-Tests-clause-code
+returns-in_ok-put_test-in-Tests-clause-code c = λ first plan.
+    let b = c.args.body.now in
+    let at = c.args.at in
+    let v = b.arg_slots in
+    let old = c.args.written.now in
+    let new = c.put_test.new.written in
+    let insn : c.index-deref-at.result ≡ insn_at b.code at =
+    insn_here b.code at c.index-deref-at.result c.index-deref-at.result c.requires.at
+    (c.index-deref-at.is ∙ ap (λ (l : List Insn). get_or l at c.index-deref-at.result) c.deref.ensures) in
+    let flow : flow_of (insn_at b.code at) ≡ flows.Tests = ap flow_of (sym insn) ∙ sym c.flow.ensures ∙ c.in-Tests.is in
+    let outs = out_probes b first at (insn_at b.code at) in
+    let ids : c.as_slice.result.now ≡ outs =
+    c.as_slice.ensures
+    ∙ c.index-deref-at-in-Tests.is
+    ∙ ap (λ (l : List (List (Option ℕ))). get_or l at c.index-deref-at-in-Tests.result) c.deref-in-Tests.ensures
+    ∙ outs_here b first c.args.plan.now plan at c.index-deref-at-in-Tests.result c.requires.at in
+    let late : c.late_id-late.result ≡ late_probe b first at =
+    c.late_id-late.ensures ∙ ap (λ (l : List (Option ℕ)). get_or l 1 None) ids ∙ ap (λ f. late_in f outs) (sym flow) ∙ late_read b first at in
+    main_by v b first at old new flows.Tests flow
+    (subst (Grows v old new) (ap₂ (λ (i : Insn) (o : Option ℕ). tests_part b first false at i o) insn late)
+    (c.in_ok-put_test-in-Tests.ensures b first (c.requires.given.placed first plan)))
+
+pub returns-in_ok-put_image-in-Jumps-clause-code : goal.returns-in_ok-put_image-in-Jumps-clause-code
+returns-in_ok-put_image-in-Jumps-clause-code c = λ first plan.
+    let b = c.args.body.now in
+    let at = c.args.at in
+    let v = b.arg_slots in
+    let old = c.args.written.now in
+    let new = c.put_image-in-Jumps.new.self in
+    let lands = c.deref-in-Jumps.result.now in
+    let land = land_of b first false in
+    let are = c.requires.given.placed first plan in
+    let insn : c.index-deref-at.result ≡ insn_at b.code at =
+    insn_here b.code at c.index-deref-at.result c.index-deref-at.result c.requires.at
+    (c.index-deref-at.is ∙ ap (λ (l : List Insn). get_or l at c.index-deref-at.result) c.deref.ensures) in
+    let flow : flow_of (insn_at b.code at) ≡ flows.Jumps = ap flow_of (sym insn) ∙ sym c.flow.ensures ∙ c.in-Jumps.is in
+    let tells : IsTableOf land lands =
+    subst (IsTableOf land) (sym c.deref-in-Jumps.ensures.value) (table_is land (length b.code) c.args.places.now.lands.items are.lands) in
+    let within = leads_at b at c.requires.at c.requires.given.made (length lands) (ap length c.deref-in-Jumps.ensures.value ∙ are.lands.size) in
+    let led =
+    c.in_ok-led-in-Jumps.ensures ∙ ap (with_places (slice_index lands)) insn ∙ led_agrees land lands (insn_at b.code at) tells within in
+    main_by v b first at old new flows.Jumps flow
+    (subst (λ (i : Insn). Grows v old new (image i at (early_probe b first at) ∷ [])) led
+    (c.in_ok-put_image-in-Jumps.ensures v (early_probe b first at)))
+
+pub returns-in_ok-put_image-in-Returns-clause-code : goal.returns-in_ok-put_image-in-Returns-clause-code
+returns-in_ok-put_image-in-Returns-clause-code c = λ first plan.
+    let b = c.args.body.now in
+    let at = c.args.at in
+    let v = b.arg_slots in
+    let old = c.args.written.now in
+    let new = c.put_image-in-Returns.new.self in
+    let insn : c.index-deref-at.result ≡ insn_at b.code at =
+    insn_here b.code at c.index-deref-at.result c.index-deref-at.result c.requires.at
+    (c.index-deref-at.is ∙ ap (λ (l : List Insn). get_or l at c.index-deref-at.result) c.deref.ensures) in
+    let grows : Grows v old new (image (insn_at b.code at) at (early_probe b first at) ∷ []) =
+    subst (λ (i : Insn). Grows v old new (image i at (early_probe b first at) ∷ [])) (c.in_ok-try_clone-in-Returns.ensures ∙ insn)
+    (c.in_ok-put_image-in-Returns.ensures v (early_probe b first at)) in
+    ⊎_elim
+    (λ (is : c.flow.result ≡ flows.Returns). main_by v b first at old new flows.Returns (ap flow_of (sym insn) ∙ sym c.flow.ensures ∙ is) grows)
+    (λ (is : c.flow.result ≡ flows.Throws). main_by v b first at old new flows.Throws (ap flow_of (sym insn) ∙ sym c.flow.ensures ∙ is) grows)
+    c.in-Returns.is

@@ -1,0 +1,85 @@
+use Rattle.std.proofs.Common.{◌≡◌, ℕ, ◌+◌, ◌++◌, false, Option, None, List, length, get_or, sym, ap, ap₂, ◌∙◌, subst, arith}
+use Rattle.jc_base.specs.Flow.{flow_of}
+use Rattle.jc_base.specs.declared.insn.Insn.{Insn}
+use Rattle.jc_base.specs.declared.insn.Flow.{Flow}
+use Rattle.jc_plan.specs.Plan.{lead_probe, out_probes}
+use Rattle.jc_plan.proofs.FlowLaws.{few_insns}
+use Rattle.jc_emit.specs.Branching.{IsPushed, early_in}
+use Rattle.jc_emit.specs.Items.{lead_part, early_part, image_part}
+use Rattle.jc_emit.specs.Sizes.{insn_at, early_probe}
+use Rattle.jc_emit.specs.Writing.{Grows}
+use Rattle.jc_emit.proofs.PlanReads.{length_leads, length_outs, lead_here, outs_here}
+use Rattle.jc_emit.proofs.PlacingLaws.{insn_here, early_read}
+use Rattle.jc_emit.proofs.SegmentLaws.{lead_pushed, outs_pushed, early_pushed}
+use Rattle.jc_emit.proofs.WritingLaws.{grows_append}
+use Rattle.jc_emit.proofs.segments.put_segment.Goals as goal
+
+pub bounds-deref-at : goal.bounds-deref-at
+bounds-deref-at c =
+    let plan = c.requires.given.planned in
+    omega (arith, c.requires.at, ap length c.deref.ensures, length_leads c.args.body.now plan.0 c.args.plan.now plan.1)
+
+pub overflow_cast-at : goal.overflow_cast-at
+overflow_cast-at c = omega (arith, c.requires.at, few_insns c.args.body.now.code, c.requires.given.made.code.few)
+
+pub put_front-requires : goal.put_front-requires
+put_front-requires c =
+    let plan = c.requires.given.planned in
+    let b = c.args.body.now in
+    let at = c.args.at in
+    subst IsPushed
+    (sym (ap (λ (l : List (Option ℕ)). get_or l at None) c.deref.ensures ∙ lead_here b plan.0 c.args.plan.now plan.1 at None c.requires.at))
+    (lead_pushed b plan.0 c.args.plan.now plan.1 c.requires.given.next at)
+
+pub bounds-deref-at-3 : goal.bounds-deref-at-3
+bounds-deref-at-3 c =
+    let plan = c.requires.given.planned in
+    omega (arith, c.requires.at, ap length c.deref-3.ensures, length_outs c.args.body.now plan.0 c.args.plan.now plan.1)
+
+pub overflow_cast-at-2 : goal.overflow_cast-at-2
+overflow_cast-at-2 c = omega (arith, c.requires.at, few_insns c.args.body.now.code, c.requires.given.made.code.few)
+
+pub put_front-requires-2 : goal.put_front-requires-2
+put_front-requires-2 c =
+    let plan = c.requires.given.planned in
+    let b = c.args.body.now in
+    let at = c.args.at in
+    let ids : c.as_slice.result.now ≡ out_probes b plan.0 at (insn_at b.code at) =
+    c.as_slice.ensures
+    ∙ c.index-deref-at-2.is
+    ∙ ap (λ (l : List (List (Option ℕ))). get_or l at c.index-deref-at-2.result) c.deref-3.ensures
+    ∙ outs_here b plan.0 c.args.plan.now plan.1 at c.index-deref-at-2.result c.requires.at in
+    subst IsPushed (sym c.early_id-early.ensures)
+    (early_pushed c.flow.result c.as_slice.result.now
+    (λ k. subst (λ (l : List (Option ℕ)). IsPushed (get_or l k None)) (sym ids) (outs_pushed b plan.0 c.args.plan.now plan.1 c.requires.given.next at (insn_at b.code at) k)))
+
+pub returns-clause-code : goal.returns-clause-code
+returns-clause-code c = λ first plan.
+    let b = c.args.body.now in
+    let at = c.args.at in
+    let v = b.arg_slots in
+    let old = c.args.written.now in
+    let led = c.put_front.new.self in
+    let front = c.put_front-2.new.self in
+    let new = c.put_main.new.written in
+    let ids : c.as_slice.result.now ≡ out_probes b first at (insn_at b.code at) =
+    c.as_slice.ensures
+    ∙ c.index-deref-at-2.is
+    ∙ ap (λ (l : List (List (Option ℕ))). get_or l at c.index-deref-at-2.result) c.deref-3.ensures
+    ∙ outs_here b first c.args.plan.now plan at c.index-deref-at-2.result c.requires.at in
+    let insn : c.index-deref-at.result ≡ insn_at b.code at =
+    insn_here b.code at c.index-deref-at.result c.index-deref-at.result c.requires.at
+    (c.index-deref-at.is ∙ ap (λ (l : List Insn). get_or l at c.index-deref-at.result) c.deref-2.ensures) in
+    let lead : get_or c.deref.result.now at None ≡ lead_probe b first at =
+    ap (λ (l : List (Option ℕ)). get_or l at None) c.deref.ensures ∙ lead_here b first c.args.plan.now plan at None c.requires.at in
+    let early : c.early_id-early.result ≡ early_probe b first at =
+    c.early_id-early.ensures
+    ∙ ap₂ (λ (f : Flow) (o : List (Option ℕ)). early_in f o) (c.flow.ensures ∙ ap flow_of insn) ids
+    ∙ early_read b first at in
+    let leads = lead_part (lead_probe b first at) at in
+    let earlies = early_part (early_probe b first at) at in
+    let rest = image_part b first false at (insn_at b.code at) (flow_of (insn_at b.code at)) in
+    grows_append v old led new leads (earlies ++ rest)
+    (subst (λ (o : Option ℕ). Grows v old led (lead_part o at)) lead c.in_ok-put_front.ensures.lead)
+    (grows_append v led front new earlies rest (subst (λ (o : Option ℕ). Grows v led front (early_part o at)) early c.in_ok-put_front-2.ensures.early)
+    (c.in_ok-put_main.ensures.code first plan))

@@ -1,0 +1,37 @@
+use Rattle.std.proofs.Common.{◌≡◌, ◌≤◌, ◌+◌, ◌++◌, [], false, length, drop, ap, ◌∙◌, subst, arith, length-append}
+use Rattle.std.proofs.lemmas.List.{length-take-le}
+use Rattle.jc_base.specs.PlainLists.{pieces}
+use Rattle.jc_emit.specs.Items.{prelude, segment, twin_items}
+use Rattle.jc_emit.specs.Written.{Shows}
+use Rattle.jc_emit.proofs.WritingLaws.{shows_more, shows_piece}
+use Rattle.jc_emit.proofs.segments.write_code.Goals as goal
+
+pub writing-init : goal.writing-init
+writing-init c =
+    let plan = c.requires.plan in
+    record {
+      table = ap length c.in_ok-table.ensures.items ∙ ap length c.deref.ensures.value ∙ (c.requires.places plan.0 plan.1).lands.size;
+      shows = λ first is.
+          shows_more c.args.body.now.arg_slots ([]) prelude c.new-written.result c.put_prelude.new.self
+          (c.new-written.ensures c.args.body.now.arg_slots) c.in_ok-put_prelude.ensures;
+    }
+
+pub writing-preserved : goal.writing-preserved
+writing-preserved c =
+    let table = c.put_segment.new.table in
+    let items = c.writing.table.items in
+    let len = c.writing.table.len in
+    let le : len ≤ length (table ++ drop (length table) items) = omega (arith, length-append table (drop (length table) items), c.in_ok-put_segment.ensures.table, ap length c.deref_mut.ensures.value, c.writing.table.ok.0) in
+    record {
+      table = length-take-le len (table ++ drop (length table) items) le ∙ omega (arith, c.writing.table.ok.0, c.writing.invariant.table);
+      shows = λ first is.
+          shows_piece c.args.body.now.arg_slots prelude (segment c.args.body.now first false) c.writing.at c.writing.written c.put_segment.new.written
+          (c.writing.invariant.shows first is) (c.in_ok-put_segment.ensures.code first is);
+    }
+
+pub returns : goal.returns
+unfolding twin_items
+returns c = λ first is.
+    let all : c.writing.at ≡ length c.args.body.now.code = omega (arith, c.len-at-end.ensures) in
+    subst (λ n. Shows c.args.body.now.arg_slots (prelude ++ pieces (segment c.args.body.now first false) n) c.writing.written) all
+    (c.writing.invariant.shows first is)

@@ -1,0 +1,24 @@
+-- The code of an instrumented method as it is written.
+use Rattle.std.specs.Prelude.{◌≡◌, ℕ, ◌≤◌, List, ◌++◌, map}
+use Rattle.jc_base.specs.WellMade.{IsWellMadeOfAnySize}
+use Rattle.jc_base.specs.declared.body.Body.{Body}
+use Rattle.jc_base.specs.declared.plan.Plan.{Plan}
+use Rattle.jc_plan.specs.Plan.{plan_of}
+use Rattle.jc_emit.specs.Items.{Item, insn_of, at_of, own_of, extra_of}
+use Rattle.jc_emit.specs.Placing.{HasPlan, ArePlaces}
+use Rattle.jc_emit.specs.declared.places.Places.{Places}
+use Rattle.jc_emit.specs.declared.written.Written.{Written}
+
+-- these items were put behind what stood there
+pub record Grows (v : ℕ) (old new : Written) (items : List Item) : Type 0 where
+  pub code : new.code.items ≡ old.code.items ++ map (insn_of 0 v) items
+  pub at : new.at.items ≡ old.at.items ++ map at_of items
+  pub own : new.own.items ≡ old.own.items ++ map own_of items
+  pub extra : new.extra.items ≡ old.extra.items ++ map extra_of items
+
+-- what the code is written from: a well made body, its plan, and the places of its instructions
+pub record CanWrite (b : Body) (plan : Plan) (places : Places) : Type 0 where
+  pub made : IsWellMadeOfAnySize b
+  pub planned : HasPlan b plan
+  pub next : plan.next ≤ 32767
+  pub placed : (first : ℕ) → plan ≡ plan_of b first → ArePlaces b first places
