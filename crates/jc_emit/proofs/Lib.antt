@@ -32,7 +32,13 @@ pub mod TwinChecked
 pub mod InitLaws
 pub mod TwinBodyLaws
 pub mod ProgramLaws
+pub mod FewLaws
 pub mod PlanReads
+pub mod TableLaws
+pub mod FramingLaws
+pub mod FrameStateLaws
+pub mod RefusalLaws
+pub mod EmittingLaws
 pub mod WritingLaws
 pub mod PlacingLaws
 pub mod SwitchLaws

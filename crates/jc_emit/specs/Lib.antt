@@ -16,6 +16,9 @@ pub mod Added
 pub mod TwinProgram
 pub mod Rows
 pub mod Placing
+pub mod Written
+pub mod Tables
+pub mod Framing
+pub mod Refusing
 pub mod Branching
 pub mod Writing
-pub mod Written

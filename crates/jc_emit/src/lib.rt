@@ -2,15 +2,19 @@
 #![tactic(auto)]
 
 mod checks;
+mod emitting;
+mod frames;
 mod image;
 mod laws;
 mod places;
 mod segments;
 mod straddling;
+mod tables;
 mod switches;
 mod written;
 
 pub use checks::{each_init_is_verified, each_twin_is_verified, each_twin_program_is_verified};
+pub use emitting::emit;
 pub use laws::{
     each_body_has_a_twin, each_emission_is_told, each_image_comes_soon, each_image_stands,
     each_probe_is_once, each_row_is_kept, each_twin_goes_on, each_twin_is_known, each_twin_is_seen,

@@ -1,0 +1,174 @@
+-- An emission has few instructions and few arms of switches.
+use Rattle.std.proofs.Common.{◌≡◌, ℕ, zero, suc, ◌+◌, ◌*◌, ◌<◌, ◌≤◌, Bool, false, cond, nat_le, List, [], ◌∷◌, ◌++◌, length, take, get_or, map, Option, Some, None, refl, sym, ap, ◌∙◌, subst, arith, pos, add-one}
+use Rattle.std.specs.List.{sum_by}
+use Rattle.std.proofs.lemmas.Bool.{cond_both}
+use Rattle.std.proofs.lemmas.List.{take_more, take_all, length-map}
+use Rattle.std.proofs.lemmas.List.Sums.{sum_by-cons, sum_by-append}
+use Rattle.jc_base.specs.PlainLists.{pieces}
+use Rattle.jc_base.specs.Flow.{flow_of, jump_target}
+use Rattle.jc_base.specs.Insn.{arm_count, with_places, arm_with_place}
+use Rattle.jc_base.specs.WellMade.{IsCode, insns_and_arms}
+use Rattle.jc_base.specs.Widened.{inverted}
+use Rattle.jc_base.specs.declared.insn.Insn.{Insn}
+use Rattle.jc_base.specs.declared.insn.Insn.TheVariants as insns
+use Rattle.jc_base.specs.declared.insn.Flow.{Flow}
+use Rattle.jc_base.specs.declared.insn.Flow.TheVariants as flows
+use Rattle.jc_base.specs.declared.kind.State.{State}
+use Rattle.jc_base.specs.declared.body.Body.{Body}
+use Rattle.jc_plan.specs.declared.branch.Branch.{Branch}
+use Rattle.jc_plan.specs.Edges.{branches_of}
+use Rattle.jc_plan.specs.Probed.{probe_of}
+use Rattle.jc_plan.specs.Plan.{lead_probe}
+use Rattle.jc_plan.proofs.FlowLaws.{few_of}
+use Rattle.jc_after.specs.Shift.{with_slot}
+use Rattle.jc_emit.specs.Sizes.{insn_at, early_by, early_probe, late_probe, arms_by, arms_at}
+use Rattle.jc_emit.specs.Marks.{push}
+use Rattle.jc_emit.specs.TwinCode.{to_of, arm_place}
+use Rattle.jc_emit.specs.Items.{Item, insn_of, image, hop, prelude, probe, lead_part, early_part, hop_part, arm_parts, lead_of, land_of, image_of, tests_part, image_part, segment, twin_items}
+use Rattle.jc_emit.specs.Emission.{emission}
+
+-- ---- arms
+
+few_placed : (f : ℕ → ℕ) (insn : Insn) → arm_count (with_places f insn) ≡ arm_count insn
+few_placed f (insns.Table low default arms) = length-map arms f
+few_placed f (insns.Lookup default arms) = length-map arms (arm_with_place f)
+few_placed f _ = refl
+
+few_slots : (v : ℕ) (insn : Insn) → arm_count (with_slot v insn) ≡ arm_count insn
+few_slots v (insns.Local op slot) = refl
+few_slots v (insns.Inc slot by) = refl
+few_slots v _ = refl
+
+few_inverted : (to : ℕ) (insn : Insn) → arm_count (inverted to insn) ≡ arm_count insn
+few_inverted to (insns.Jump op other) = refl
+few_inverted to _ = refl
+
+few_push : (n : ℕ) → arm_count (push n) ≡ 0
+few_push n =
+    cond_both (nat_le n 5) (insns.Simple (3 + n)) (cond (nat_le n 127) (insns.Push 16 (pos n)) (insns.Push 17 (pos n))) (λ x. arm_count x ≡ 0)
+    (λ few. refl)
+    (λ many. cond_both (nat_le n 127) (insns.Push 16 (pos n)) (insns.Push 17 (pos n)) (λ x. arm_count x ≡ 0) (λ h. refl) (λ h. refl))
+
+-- ---- instructions and arms of items
+
+abbrev weigh : ℕ → List Item → ℕ
+weigh v [] = 0
+weigh v (x ∷ xs) = 1 + arm_count (insn_of 0 v x) + weigh v xs
+
+weigh_all : (v : ℕ) (xs : List Item) → length (map (insn_of 0 v) xs) + sum_by arm_count (map (insn_of 0 v) xs) ≡ weigh v xs
+weigh_all v [] = refl
+weigh_all v (x ∷ xs) = omega (arith, sum_by-cons arm_count (insn_of 0 v x) (map (insn_of 0 v) xs), weigh_all v xs)
+
+length_weighed : (v : ℕ) (xs : List Item) → length xs ≤ weigh v xs
+length_weighed v [] = omega arith
+length_weighed v (x ∷ xs) = omega (arith, length_weighed v xs)
+
+weigh_both : (v : ℕ) (xs ys : List Item) → weigh v (xs ++ ys) ≡ weigh v xs + weigh v ys
+weigh_both v [] ys = omega arith
+weigh_both v (x ∷ xs) ys = omega (arith, weigh_both v xs ys)
+
+weigh_probe : (v id at : ℕ) (late : Bool) → weigh v (probe id at late) ≡ 4
+weigh_probe v id at late = omega (arith, few_push id)
+
+weigh_lead : (v : ℕ) (o : Option ℕ) (i : ℕ) → weigh v (lead_part o i) ≤ 4
+weigh_lead v None i = omega arith
+weigh_lead v (Some id) i = omega (arith, few_push id)
+
+weigh_early : (v : ℕ) (o : Option ℕ) (i : ℕ) → weigh v (early_part o i) ≤ 4
+weigh_early v None i = omega arith
+weigh_early v (Some id) i = omega (arith, few_push id)
+
+weigh_hop : (v : ℕ) (land : ℕ → ℕ) (o : Option ℕ) (to : ℕ) → weigh v (hop_part land o to) ≤ 5
+weigh_hop v land None to = omega arith
+weigh_hop v land (Some id) to = omega (arith, few_push id)
+
+weigh_arms : (v : ℕ) (land : ℕ → ℕ) (ids : Branch → Option ℕ) (xs : List Branch) → weigh v (arm_parts land ids xs) ≤ 5 * length xs
+weigh_arms v land ids [] = omega arith
+weigh_arms v land ids (x ∷ xs) =
+    omega (arith, weigh_both v (hop_part land (ids x) (to_of x)) (arm_parts land ids xs), weigh_hop v land (ids x) (to_of x), weigh_arms v land ids xs)
+
+pub few_arms : (i : ℕ) (insn : Insn) (flow : Flow) → length (arms_by i insn flow) ≤ 2 + arm_count insn
+few_arms i insn flows.Switches = few_of i insn
+few_arms i insn flows.GoesOn = omega arith
+few_arms i insn flows.Tests = omega arith
+few_arms i insn flows.Jumps = omega arith
+few_arms i insn flows.Returns = omega arith
+few_arms i insn flows.Throws = omega arith
+
+module _ (b : Body) (first v : ℕ) where
+  abbrev old : ℕ → Insn
+  old i = insn_at b.code i
+
+  abbrev land : ℕ → ℕ
+  land i = land_of b first false i
+
+  weigh_tests : (i : ℕ) (insn : Insn) (o : Option ℕ) → weigh v (tests_part b first false i insn o) ≤ 6 + arm_count insn
+  weigh_tests i insn None = omega (arith, few_placed (land_of b first false) insn)
+  weigh_tests i insn (Some id) = omega (arith, few_push id, few_inverted (lead_of b first false (i + 1)) insn)
+
+  -- the probe in front of an image, the image and what stands behind it
+  weigh_image : (i : ℕ) (flow : Flow)
+      → weigh v (early_part (early_by (probe_of b first) i (old i) flow) i) + weigh v (image_part b first false i (old i) flow) ≤ 11 + 6 * arm_count (old i)
+  weigh_image i flows.GoesOn = omega (arith, few_slots b.arg_slots (old i))
+  weigh_image i flows.Tests = omega (arith, weigh_tests i (old i) (late_probe b first i))
+  weigh_image i flows.Jumps = omega (arith, weigh_early v (early_by (probe_of b first) i (old i) flows.Jumps) i, few_placed (land_of b first false) (old i))
+  weigh_image i flows.Switches =
+      omega (
+        arith,
+        few_placed (arm_place (probe_of b first) (land_of b first false) (image_of b first false i + 1) (arms_at b.code i)) (old i),
+        weigh_arms v (land_of b first false) (probe_of b first) (arms_at b.code i),
+        few_arms i (old i) (flow_of (old i)),
+      )
+  weigh_image i flows.Returns = omega (arith, weigh_early v (early_by (probe_of b first) i (old i) flows.Returns) i)
+  weigh_image i flows.Throws = omega (arith, weigh_early v (early_by (probe_of b first) i (old i) flows.Throws) i)
+
+  weigh_segment : (i : ℕ) → weigh v (segment b first false i) ≤ 15 * (1 + arm_count (old i))
+  weigh_segment i =
+      let lead = lead_part (lead_probe b first i) i in
+      let early = early_part (early_probe b first i) i in
+      let rest = image_part b first false i (old i) (flow_of (old i)) in
+      omega (
+        arith,
+        weigh_both v lead (early ++ rest),
+        weigh_both v early rest,
+        weigh_lead v (lead_probe b first i) i,
+        weigh_image i (flow_of (old i)),
+      )
+
+  abbrev sizes : Insn → ℕ
+  sizes insn = 1 + arm_count insn
+
+  few_more : (n : ℕ) → n < length b.code → insns_and_arms (take (n + 1) b.code) ≡ insns_and_arms (take n b.code) + (1 + arm_count (old n))
+  few_more n lt =
+      let e = sum_by-append sizes (take n b.code) (old n ∷ []) in
+      let one = sum_by-cons sizes (old n) [] in
+      ap insns_and_arms (take_more b.code n (insns.Simple 0) lt) ∙ omega (arith, e, one)
+
+  weigh_pieces : (n : ℕ) → n ≤ length b.code → weigh v (pieces (segment b first false) n) ≤ 15 * insns_and_arms (take n b.code)
+  weigh_pieces zero le = omega arith
+  weigh_pieces (suc n) le =
+      let up : insns_and_arms (take (n + 1) b.code) ≡ insns_and_arms (take (suc n) b.code) = ap (λ k. insns_and_arms (take k b.code)) (add-one n) in
+      omega (
+        arith,
+        weigh_both v (pieces (segment b first false) n) (segment b first false n),
+        weigh_pieces n (omega arith),
+        weigh_segment n,
+        few_more n (omega arith),
+        up,
+      )
+
+  weigh_twin : IsCode b.code → weigh v (twin_items b first false) ≤ 983027
+  unfolding twin_items
+  weigh_twin code =
+      let all : insns_and_arms (take (length b.code) b.code) ≡ insns_and_arms b.code = ap insns_and_arms (take_all (length b.code) b.code (omega arith)) in
+      omega (arith, weigh_both v prelude (pieces (segment b first false) (length b.code)), weigh_pieces (length b.code) (omega arith), all, code.few)
+
+  pub few_items : IsCode b.code → length (twin_items b first false) ≤ 983027
+  few_items code = omega (arith, length_weighed v (twin_items b first false), weigh_twin code)
+
+-- of instructions and arms of switches together
+pub few_emitted : (b : Body) (first : ℕ) (states : List State) (array : ℕ) → IsCode b.code
+    → length (emission b first states array).code + sum_by arm_count (emission b first states array).code ≤ 1000000
+unfolding emission
+few_emitted b first states array code =
+    omega (arith, weigh_all b.arg_slots (twin_items b first false), weigh_twin b first b.arg_slots code)

@@ -1,0 +1,84 @@
+-- The states before the instructions at which frames stand are those of the frames.
+use Rattle.std.proofs.Common.{◌≡◌, ⊎_elim, subst, ℕ, zero, suc, ◌+◌, ◌<◌, Bool, true, false, List, [], ◌∷◌, length, get_or, map, Some, refl, sym, ap, ◌∙◌, arith}
+use Rattle.std.specs.Prelude.{Contains, slice_get}
+use Rattle.std.specs.List.{AllByRecursion, IsDistinct}
+use Rattle.std.specs.Str.{bytes_eq}
+use Rattle.std.proofs.lemmas.Bool.{true≢false}
+use Rattle.std.proofs.lemmas.Option.{slice_get-get_or}
+use Rattle.std.proofs.lemmas.Slice.Eq.{bytes_eq-Decides}
+use Rattle.jc_base.specs.declared.kind.Kind.{Kind}
+use Rattle.jc_base.specs.declared.kind.Kind.TheVariants as kinds
+use Rattle.jc_base.specs.declared.kind.State.{State}
+use Rattle.jc_base.specs.declared.body.Body.{Body}
+use Rattle.jc_base.specs.declared.body.FrameAt.{FrameAt}
+use Rattle.jc_base.specs.Held.{Names, Seen, held, seen, IsNumbered, IsNumberedState, AreNumberedFrames}
+use Rattle.jc_base.specs.Names.{AreNames}
+use Rattle.jc_base.specs.WellMade.{IsWellMadeOfAnySize, AreFramesFrom}
+use Rattle.jc_base.specs.declared.insn.Insn.{Insn}
+use Rattle.jc_base.proofs.FirstSeenLaws.{contains_none, contains_cases}
+use Rattle.jc_kinds.specs.States.{state_of}
+use Rattle.jc_kinds.specs.Answers.{AreStates}
+use Rattle.jc_emit.specs.TwinFrames.{no_state, state_at, AreRising}
+use Rattle.jc_emit.specs.Emission.{HasFrameStates}
+use Rattle.jc_emit.proofs.StraddlingLaws.{frame_within}
+use Rattle.jc_emit.proofs.TwinPremises.{frame_found}
+use Rattle.jc_emit.proofs.TwinStates.{frame_state_is}
+
+-- ---- names that differ have different numbers
+
+unlike_at : (x : List ℕ) (xs : List (List ℕ)) (n : ℕ) → AllByRecursion (λ y. bytes_eq x y ≡ false) xs → n < length xs → x ≡ get_or xs n [] → ⊥
+unlike_at x [] n all lt e = absurd (omega arith)
+unlike_at x (y ∷ xs) zero all lt e = true≢false (sym ((bytes_eq-Decides x y).1 e) ∙ all.0)
+unlike_at x (y ∷ xs) (suc n) all lt e = unlike_at x xs n all.1 (omega arith) e
+
+one_number : (names : Names) (m n : ℕ) → IsDistinct bytes_eq names → m < length names → n < length names → get_or names m [] ≡ get_or names n [] → m ≡ n
+one_number [] m n d lm ln e = absurd (omega arith)
+one_number (x ∷ names) zero zero d lm ln e = refl
+one_number (x ∷ names) zero (suc n) d lm ln e = absurd (unlike_at x names n d.0 (omega arith) e)
+one_number (x ∷ names) (suc m) zero d lm ln e = absurd (unlike_at x names m d.0 (omega arith) (sym e))
+one_number (x ∷ names) (suc m) (suc n) d lm ln e = ap suc (one_number names m n d.1 (omega arith) (omega arith) e)
+
+frames_rise : (first : ℕ) (code : List Insn) (locals stack : ℕ) (frames : List FrameAt) → AreFramesFrom first code locals stack frames → AreRising first frames
+frames_rise first code locals stack [] are = tt
+frames_rise first code locals stack (f ∷ frames) are = (are.0, frames_rise (f.at + 1) code locals stack frames are.3)
+
+module _ (names : Names) (distinct : IsDistinct bytes_eq names) where
+  one_kind : (k l : Kind) → IsNumbered (length names) k → IsNumbered (length names) l → held names k ≡ held names l → k ≡ l
+  one_kind (kinds.Object m) (kinds.Object n) a c e = ap kinds.Object (one_number names m n distinct a c (cc))
+  one_kind k l a c e = cc
+
+  same_kinds : (ks ls : List Kind) → AllByRecursion (IsNumbered (length names)) ks → AllByRecursion (IsNumbered (length names)) ls
+      → map (held names) ks ≡ map (held names) ls → ks ≡ ls
+  same_kinds [] [] a c e = refl
+  same_kinds [] (l ∷ ls) a c e = cc
+  same_kinds (k ∷ ks) [] a c e = cc
+  same_kinds (k ∷ ks) (l ∷ ls) a c e =
+      let first : held names k ≡ held names l = cc in
+      let rest : map (held names) ks ≡ map (held names) ls = cc in
+      let one = one_kind k l a.0 c.0 first in
+      let more = same_kinds ks ls a.1 c.1 rest in
+      cc
+
+  -- so numbered states are equal by the names of classes only where they are equal
+  same_state : (s t : State) → IsNumberedState (length names) s → IsNumberedState (length names) t → seen names s ≡ seen names t → s ≡ t
+  same_state s t a c e =
+      let locals = same_kinds s.locals t.locals a.locals c.locals (ap (λ (x : Seen). x.locals) e) in
+      let stack = same_kinds s.stack t.stack a.stack c.stack (ap (λ (x : Seen). x.stack) e) in
+      λ k. record { locals = locals k; stack = stack k }
+
+  numbered_there : (frames : List FrameAt) (f : FrameAt) → AreNumberedFrames (length names) frames → Contains frames f → IsNumberedState (length names) f.state
+  numbered_there [] f all c = absurd (contains_none f c)
+  numbered_there (g ∷ frames) f all c =
+      ⊎_elim (λ same. subst (λ (x : FrameAt). IsNumberedState (length names) x.state) same all.0) (λ later. numbered_there frames f all.1 later)
+      (contains_cases g frames f c)
+
+  pub frames_have_states : (b : Body) (states : List State) → IsWellMadeOfAnySize b → AreNumberedFrames (length names) b.frames
+      → AreStates names b states → HasFrameStates b states
+  frames_have_states b states made numbered are f c =
+      let within = frame_within 0 b.code b.max_locals b.max_stack b.frames made.frames f c in
+      let lt : f.at < length states = omega (arith, within, are.count) in
+      let at = are.each f.at (state_at states f.at) (slice_get-get_or states f.at no_state lt) in
+      let there = frame_state_is names b f.at (seen names f.state) (frame_found names 0 b.frames f (frames_rise 0 b.code b.max_locals b.max_stack b.frames made.frames) c) in
+      let both : Some (seen names (state_at states f.at)) ≡ Some (seen names f.state) = sym at.is ∙ there in
+      let e : seen names (state_at states f.at) ≡ seen names f.state = cc in
+      same_state (state_at states f.at) f.state at.numbered (numbered_there b.frames f numbered c) e

@@ -1,0 +1,160 @@
+//! The instrumented code of a method.
+ghost use Rattle.std.specs.Prelude.{◌≡◌, ◌⊎◌, ⊤, ℕ, ◌+◌, ◌<◌, ◌≤◌, Some, None, length, IfOk, IfErr, IfSome, MatchResult};
+ghost use Rattle.std.specs.List.{sum_by};
+ghost use Rattle.jc_base.specs.Held.{Grows, AreNumberedFrames};
+ghost use Rattle.jc_base.specs.Insn.{arm_count};
+ghost use Rattle.jc_base.specs.WellMade.{IsWellMade, IsCounted};
+ghost use Rattle.jc_base.specs.declared.refusal.RefusalKind.{RefusalKind as Kind};
+ghost use Rattle.jc_kinds.specs.Answers.{AreStates, Said, refusal_of};
+ghost use Rattle.jc_plan.specs.Plan.{plan_of};
+ghost use Rattle.jc_emit.specs.Emission.{IsArrayNumber, emission};
+ghost use Rattle.jc_emit.specs.Framing.{ArePut};
+ghost use Rattle.jc_emit.specs.Placing.{HasPlan};
+ghost use Rattle.jc_emit.specs.Refusing.{IsEmitRefusal, IsTaken, HasRoom};
+ghost use Rattle.jc_emit.specs.Straddling.{IsEmitReason};
+ghost use Rattle.jc_emit.specs.Twin.{IsEmitted};
+
+use crate::frames::Framing;
+use crate::places::Places;
+use crate::segments::write_code;
+use crate::straddling::straddles;
+use crate::tables::{moved_lines, moved_rows, moved_vars};
+use crate::written::Written;
+use jc_base::{Body, Emitted, Fail, List, Memory, Names, Plan, Refusal, RefusalKind, State};
+use std::alloc::Global;
+
+/// The name of the class of the array of probes (JVM Specification 4.4.1).
+const PROBE_ARRAY: &[u8] = b"[Z";
+
+/// A refusal of the method.
+fn refusal(body: &Body, kind: RefusalKind, place: u32) -> Refusal
+    ensures { result ≡ refusal_of body.now kind place }
+{
+    Refusal {
+        kind,
+        method: Some(body.method),
+        place,
+    }
+}
+
+/// Why a method isn't instrumented, if it isn't.
+fn refused(body: &Body) -> Option<Refusal>
+    requires { IsCounted body.now.code }
+    ensures refusal { IfSome result (IsEmitRefusal body.now) }
+    ensures each { (kind : Kind) (place : ℕ) → IsEmitReason body.now kind place → result ≡ Some (refusal_of body.now kind place) }
+    ensures room { result ≡ None → HasRoom body.now }
+{
+    if let Some(place) = straddles(body) {
+        return Some(refusal(body, RefusalKind::StraddlingLocal, place));
+    }
+    if body.max_locals == u16::MAX {
+        return Some(refusal(body, RefusalKind::LocalsFull, 65536));
+    }
+    if body.max_stack > 65532 {
+        let slots = u32::from(body.max_stack) + 3;
+        return Some(refusal(body, RefusalKind::StackFull, slots));
+    }
+    None
+}
+
+/// The instrumented code of a method that has room for it, where the class of the array of probes has this
+/// number.
+fn instrumented(
+    alloc: Global,
+    body: &Body,
+    plan: &Plan,
+    states: &[State],
+    array: u32,
+) -> Result<Emitted, Memory>
+    requires body { IsWellMade body.now }
+    requires plan { HasPlan body.now plan.now }
+    requires next { plan.now.next ≤ 32767 }
+    requires states { ArePut body.now states.now }
+    requires room { HasRoom body.now }
+    ensures { (first : ℕ) → plan.now ≡ plan_of body.now first → IfOk result (λ e. e ≡ emission body.now first states.now array) }
+{
+    let places = Places::of(alloc, body, plan)?;
+    let Written {
+        code,
+        at,
+        own,
+        extra,
+    } = write_code(alloc, body, plan, &places)?;
+    let framing = Framing::of(alloc, body, plan, &places, states, array)?;
+    let frames = framing.frames(alloc)?;
+    let wide_frames = framing.wide_frames(alloc)?;
+    let leads = places.leads.as_slice();
+    let lands = places.lands.as_slice();
+    let handlers = moved_rows(alloc, &body.handlers, leads, lands)?;
+    let lines = moved_lines(alloc, &body.lines, lands)?;
+    let vars = moved_vars(alloc, &body.vars, body.arg_slots, lands)?;
+    let kind_vars = moved_vars(alloc, &body.kind_vars, body.arg_slots, lands)?;
+    Ok(Emitted {
+        code: List::from_vec(code),
+        at: List::from_vec(at),
+        own: List::from_vec(own),
+        extra: List::from_vec(extra),
+        handlers,
+        lines,
+        vars,
+        kind_vars,
+        frames: List::from_vec(frames),
+        wide_frames: List::from_vec(wide_frames),
+        max_stack: body.max_stack + 3,
+        max_locals: body.max_locals + 1,
+    })
+}
+
+/// The instrumented code of a method in the narrow layout: each instruction with the probes of its edges in
+/// front of it or behind it, and the tables and frames that belong to it. The pool places of the call in front
+/// are 0, until the class has the method that it calls.
+///
+/// The local variable behind the arguments, of number v, holds the array of probes, whose class `[Z` gets a
+/// number in `names`. A local variable at or above v goes up by one. A probe of a fall-through, of a `goto`, of
+/// a return or of `athrow` stands in front of the instruction, one of a conditional jump or of a switch behind
+/// it. So a conditional jump with a probe is inverted, and a switch leads to an arm place for each target that
+/// has a probe (JVM Specification 4.7.3, 4.7.4, 6.5).
+///
+/// # Errors
+///
+/// `Memory` where memory was refused, or where `[Z` is new and the list has 4,294,967,295 names. Then `names`
+/// may have one name more.
+///
+/// `Said`, of the body's method, the first of these that applies; `names` is as it was:
+/// - `StraddlingLocal` where an instruction reads or writes a long or a double in the last local variable of
+///   the arguments and the next one, or a frame has one there, with the first such instruction;
+/// - `LocalsFull`, with 65,536, where there are 65,535 local variables;
+/// - `StackFull`, with the slots that would be needed, where the stack has more than 65,532 slots.
+pub fn emit(
+    alloc: Global,
+    body: &Body,
+    plan: &Plan,
+    states: &[State],
+    names: &mut Names,
+) -> Result<Emitted, Fail<Refusal>>
+    requires body { IsWellMade body.now }
+    requires plan { HasPlan body.now plan.now }
+    requires next { plan.now.next ≤ 32767 }
+    requires states { AreStates names.old body.now states.now }
+    requires frames { AreNumberedFrames (length names.old) body.now.frames }
+    // What is given is the emission of the definition, with the number of `[Z` in the names afterwards.
+    ensures emitted { (first : ℕ) → plan.now ≡ plan_of body.now first → IfOk result
+        (λ e. (array : ℕ) × IsArrayNumber names.new array × (e ≡ emission body.now first states.now array)) }
+    // So it is instrumented code of the body.
+    ensures twin { (first : ℕ) → plan.now ≡ plan_of body.now first
+        → IfOk result (IsEmitted names.new names.new states.now first body.now) }
+    ensures few { IfOk result (λ e. length e.code + sum_by arm_count e.code ≤ 1000000) }
+    ensures refused { IfErr result (λ e. Said e (IsEmitRefusal body.now)) }
+    // Each refusal comes exactly where its reason holds, unless memory runs out.
+    ensures exact { (kind : Kind) (place : ℕ) → IsEmitReason body.now kind place
+        → MatchResult result (λ _. ⊥) (λ e. (e ≡ Fail.Memory) ⊎ (e ≡ Fail.Said (refusal_of body.now kind place))) }
+    ensures taken { IsTaken body.now → MatchResult result (λ _. ⊤) (λ e. e ≡ Fail.Memory) }
+    ensures names { Grows names.old names.new }
+{
+    if let Some(refusal) = refused(body) {
+        return Err(Fail::Said(refusal));
+    }
+    let array = names.number(alloc, PROBE_ARRAY)?;
+    let emitted = instrumented(alloc, body, plan, states, array)?;
+    Ok(emitted)
+}

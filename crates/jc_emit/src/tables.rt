@@ -1,0 +1,96 @@
+//! The tables of instrumented code (JVM Specification 4.7.3, 4.7.12 to 4.7.14).
+ghost use Rattle.std.specs.Prelude.{◌≡◌, ◌<◌, length, map, All, IfOk, slice_index};
+ghost use Rattle.jc_after.specs.Shift.{slot_of};
+ghost use Rattle.jc_emit.specs.TwinTables.{moved_row, moved_line, moved_var};
+ghost use Rattle.jc_emit.specs.Tables.{RowWithin, VarWithin};
+
+use jc_base::{Handler, LineAt, List, Memory, VarAt};
+use std::alloc::Global;
+
+/// An exception row, from where fall-throughs lead to where they do, with its handler where jumps land.
+fn moved_row(row: &Handler, leads: &[u32], lands: &[u32]) -> Handler
+    requires { RowWithin (length leads.now) (length lands.now) row.now }
+    ensures { result ≡ moved_row (slice_index leads.now) (slice_index lands.now) row.now }
+{
+    Handler {
+        start: leads[row.start as usize],
+        end: leads[row.end as usize],
+        target: lands[row.target as usize],
+        class: row.class,
+    }
+}
+
+/// The exception rows, in their order.
+pub(crate) fn moved_rows(
+    alloc: Global,
+    rows: &[Handler],
+    leads: &[u32],
+    lands: &[u32],
+) -> Result<List<Handler>, Memory>
+    requires { All (RowWithin (length leads.now) (length lands.now)) rows.now }
+    ensures { IfOk result (λ moved. moved ≡ map (moved_row (slice_index leads.now) (slice_index lands.now)) rows.now) }
+{
+    let mut moved = List::new(alloc);
+    'moving: for row in rows {
+        moved.push(moved_row(row, leads, lands))?;
+    }
+    Ok(moved)
+}
+
+/// The entries of line tables, where jumps land, in their order.
+pub(crate) fn moved_lines(
+    alloc: Global,
+    lines: &[LineAt],
+    lands: &[u32],
+) -> Result<List<LineAt>, Memory>
+    requires { All (λ l. l.at < length lands.now) lines.now }
+    ensures { IfOk result (λ moved. moved ≡ map (moved_line (slice_index lands.now)) lines.now) }
+{
+    let mut moved = List::new(alloc);
+    'moving: for line in lines {
+        moved.push(LineAt {
+            at: lands[line.at as usize],
+            line: line.line,
+        })?;
+    }
+    Ok(moved)
+}
+
+/// A local variable's index, where one more stands behind the arguments.
+pub(crate) fn moved_slot(slot: u16, arg_slots: u16) -> u16
+    requires { slot < 65535 }
+    ensures { result ≡ slot_of arg_slots slot }
+{
+    if slot < arg_slots { slot } else { slot + 1 }
+}
+
+/// A variable, from where jumps land to where they do.
+fn moved_var(var: &VarAt, arg_slots: u16, lands: &[u32]) -> VarAt
+    requires { VarWithin (length lands.now) var.now }
+    ensures { result ≡ moved_var arg_slots (slice_index lands.now) var.now }
+{
+    VarAt {
+        start: lands[var.start as usize],
+        end: lands[var.end as usize],
+        name: var.name,
+        desc: var.desc,
+        slot: moved_slot(var.slot, arg_slots),
+    }
+}
+
+/// The variables, in their order.
+pub(crate) fn moved_vars(
+    alloc: Global,
+    vars: &[VarAt],
+    arg_slots: u16,
+    lands: &[u32],
+) -> Result<List<VarAt>, Memory>
+    requires { All (VarWithin (length lands.now)) vars.now }
+    ensures { IfOk result (λ moved. moved ≡ map (moved_var arg_slots (slice_index lands.now)) vars.now) }
+{
+    let mut moved = List::new(alloc);
+    'moving: for var in vars {
+        moved.push(moved_var(var, arg_slots, lands))?;
+    }
+    Ok(moved)
+}
