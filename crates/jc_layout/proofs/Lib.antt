@@ -1,0 +1,4 @@
+pub mod LayoutLaws
+pub mod OffsetLaws
+pub mod ChoiceLaws
+pub mod TestLaws

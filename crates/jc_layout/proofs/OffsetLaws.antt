@@ -1,0 +1,86 @@
+-- Offsets, instruction by instruction.
+use Rattle.std.proofs.Common.{◌≡◌, ℕ, suc, ◌+◌, ◌*◌, ◌<◌, ◌≤◌, Bool, true, false, cond, List, [], ◌∷◌, ◌++◌, length, drop, get_or, refl, sym, ap, ◌∙◌, arith, append_assoc, add-one, nat_eq, nat_lt}
+use Rattle.std.proofs.Math.Seq.{drop-cons}
+use Rattle.std.proofs.lemmas.List.{drop_all}
+use Rattle.std.proofs.lemmas.List.Sums.{sum_by-cons}
+use Rattle.jc_base.specs.Opcode as opcode
+use Rattle.jc_base.specs.declared.form.Form.{Form}
+use Rattle.jc_base.specs.declared.form.Form.TheVariants as forms
+use Rattle.jc_base.specs.InsnForm.{form_of}
+use Rattle.jc_base.specs.declared.insn.Insn.{Insn}
+use Rattle.jc_base.specs.declared.insn.Insn.TheVariants as insns
+use Rattle.jc_base.specs.Insn.{arm_count}
+use Rattle.jc_base.specs.WellMade.{insns_and_arms}
+use Rattle.jc_insn.specs.Sizes.{push_size, is_narrow_inc, size_of}
+use Rattle.jc_layout.specs.Layout.{starts_from, starts_of}
+
+-- ---- sizes
+
+most_of : (b : Bool) (m n most : ℕ) → m ≤ most → n ≤ most → cond b m n ≤ most
+most_of true m n most p q = p
+most_of false m n most p q = q
+
+push_few : (form : Form) → push_size form ≤ 16
+push_few forms.PushByte = omega arith
+push_few form = omega arith
+
+-- an instruction takes 16 bytes at most, and a switch as many more for each arm
+pub size_bound : (at : ℕ) (wide : Bool) (insn : Insn) → size_of at wide insn ≤ 16 * (1 + arm_count insn)
+size_bound at wide (insns.Simple op) = omega arith
+size_bound at wide (insns.Push op value) = push_few (form_of op)
+size_bound at wide (insns.Local op slot) =
+    most_of (nat_lt slot 4) 1 _ 16 (omega arith) (most_of (nat_lt slot 256) 2 4 16 (omega arith) (omega arith))
+size_bound at wide (insns.Inc slot by) = most_of (is_narrow_inc slot by) 3 6 16 (omega arith) (omega arith)
+size_bound at wide (insns.Constant place) = most_of (nat_lt place 256) 2 3 16 (omega arith) (omega arith)
+size_bound at wide (insns.Constant2 place) = omega arith
+size_bound at wide (insns.Member op place) = omega arith
+size_bound at wide (insns.Interface place count) = omega arith
+size_bound at wide (insns.Dynamic place) = omega arith
+size_bound at wide (insns.OfClass op place) = omega arith
+size_bound at wide (insns.NewArray elem) = omega arith
+size_bound at wide (insns.Multi place dims) = omega arith
+size_bound at wide (insns.Jump op to) =
+    most_of wide _ 3 16 (most_of (nat_eq op opcode.goto) 5 8 16 (omega arith) (omega arith)) (omega arith)
+size_bound at wide (insns.Table low default arms) = omega arith
+size_bound at wide (insns.Lookup default arms) = omega arith
+
+-- ---- the offsets so far
+
+-- these are the offsets of so many instructions, and the next one begins at this offset
+pub record IsPlaced (wide : Bool) (code : List Insn) (index at : ℕ) (starts : List ℕ) : Type 0 where
+  pub so_far : starts ++ starts_from wide at (drop index code) ≡ starts_of wide code
+  pub below : at + 16 * insns_and_arms (drop index code) ≤ 16 * insns_and_arms code
+
+pub placed_none : (wide : Bool) (code : List Insn) → IsPlaced wide code 0 0 []
+unfolding starts_of
+placed_none wide code = record { so_far = refl; below = omega arith }
+
+-- the instructions from one on
+pub rest_is : (code : List Insn) (index : ℕ) (insn : Insn) → index < length code → insn ≡ get_or code index insn
+    → drop index code ≡ insn ∷ drop (index + 1) code
+rest_is code index insn lt is =
+    drop-cons code index insn lt ∙ ap (λ x. x ∷ drop (suc index) code) (sym is)
+    ∙ ap (λ k. insn ∷ drop k code) (sym (add-one index))
+
+pub room_left : (wide : Bool) (code : List Insn) (index at : ℕ) (starts : List ℕ) (insn : Insn) → index < length code
+    → insn ≡ get_or code index insn → IsPlaced wide code index at starts
+    → at + size_of at wide insn + 16 * insns_and_arms (drop (index + 1) code) ≤ 16 * insns_and_arms code
+room_left wide code index at starts insn lt is p =
+    let split = ap insns_and_arms (rest_is code index insn lt is) ∙ sum_by-cons (λ (x : Insn). 1 + arm_count x) insn (drop (index + 1) code) in
+    omega (arith, split, size_bound at wide insn, p.below)
+
+pub placed_next : (wide : Bool) (code : List Insn) (index at : ℕ) (starts : List ℕ) (insn : Insn) → index < length code
+    → insn ≡ get_or code index insn → IsPlaced wide code index at starts
+    → IsPlaced wide code (index + 1) (at + size_of at wide insn) (starts ++ at ∷ [])
+placed_next wide code index at starts insn lt is p = record {
+  so_far =
+      append_assoc starts (at ∷ []) (starts_from wide (at + size_of at wide insn) (drop (index + 1) code))
+      ∙ ap (λ l. starts ++ starts_from wide at l) (sym (rest_is code index insn lt is))
+      ∙ p.so_far;
+  below = room_left wide code index at starts insn lt is p;
+}
+
+pub placed_all : (wide : Bool) (code : List Insn) (index at : ℕ) (starts : List ℕ) → length code ≤ index → IsPlaced wide code index at starts
+    → starts ++ at ∷ [] ≡ starts_of wide code
+placed_all wide code index at starts le p =
+    ap (λ l. starts ++ starts_from wide at l) (sym (drop_all index code le)) ∙ p.so_far

@@ -1,0 +1,6 @@
+use Rattle.jc_layout.proofs.OffsetLaws.{IsPlaced}
+use Rattle.jc_layout.proofs.offsets.offsets.Given as goal
+
+-- the offsets of the instructions so far
+abbrev pub invariant-placing : goal.invariant-placing
+invariant-placing l = IsPlaced l.wide l.code l.insn-index l.at l.starts.items

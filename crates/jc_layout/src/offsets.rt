@@ -1,0 +1,24 @@
+//! Offsets of instructions.
+ghost use Rattle.std.specs.Prelude.{◌≡◌, ◌≤◌, IfOk};
+ghost use Rattle.jc_base.specs.WellMade.{insns_and_arms};
+ghost use Rattle.jc_layout.specs.Layable.{most_laid};
+ghost use Rattle.jc_layout.specs.Layout.{starts_of};
+
+use jc_base::{Insn, Memory};
+use jc_insn::size_of;
+use std::alloc::Global;
+
+/// The offset of each instruction in a layout, and then that of the end.
+pub fn offsets(alloc: Global, code: &[Insn], wide: bool) -> Result<Vec<u32>, Memory>
+    requires { insns_and_arms code.now ≤ most_laid }
+    ensures { IfOk result (λ starts. starts.items ≡ starts_of wide code.now) }
+{
+    let mut starts = Vec::new(alloc);
+    let mut at = 0;
+    'placing: for insn in code {
+        starts.push(at)?;
+        at += size_of(insn, at, wide);
+    }
+    starts.push(at)?;
+    Ok(starts)
+}
