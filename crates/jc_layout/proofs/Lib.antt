@@ -1,4 +1,11 @@
 pub mod LayoutLaws
 pub mod OffsetLaws
 pub mod ChoiceLaws
+pub mod FormedLaws
+pub mod CountLaws
+pub mod LayableLaws
+pub mod MergedLaws
+pub mod LaidCodeLaws
+pub mod LaidBodyLaws
+pub mod CallLaws
 pub mod TestLaws

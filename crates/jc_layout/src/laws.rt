@@ -1,8 +1,21 @@
 //! Laws of layouts.
-ghost use Rattle.std.specs.Prelude.{◌≡◌, ℕ, Bool, List};
+ghost use Rattle.std.specs.Prelude.{◌≡◌, ◌<◌, ◌^◌, ℕ, Bool, List, Some};
+ghost use Rattle.jc_base.specs.Held.{Names};
+ghost use Rattle.jc_base.specs.WellMade.{IsWellMadeOfAnySize, what_used};
+ghost use Rattle.jc_base.specs.declared.body.Body.{Body};
+ghost use Rattle.jc_base.specs.declared.body.Use.{Use};
+ghost use Rattle.jc_base.specs.declared.body.What.{What};
+ghost use Rattle.jc_base.specs.declared.emitted.Emitted.{Emitted as Emission};
 ghost use Rattle.jc_base.specs.declared.insn.Insn.{Insn};
+ghost use Rattle.jc_base.specs.declared.kind.State.{State};
+ghost use Rattle.jc_insn.specs.Layouts.{laid_code, laid_starts};
 ghost use Rattle.jc_insn.specs.Sizes.{StartAt};
-ghost use Rattle.jc_layout.specs.Layout.{starts_of, IsChosen, is_wide};
+ghost use Rattle.jc_insn.specs.Spells.{Spells};
+ghost use Rattle.jc_emit.specs.Emission.{emission, HasFrameStates, IsArrayNumber};
+ghost use Rattle.jc_emit.specs.Twin.{probe_init, Twin};
+ghost use Rattle.jc_layout.specs.LaidBody.{with_place, laid_body};
+ghost use Rattle.jc_layout.specs.Layable.{IsLayable};
+ghost use Rattle.jc_layout.specs.Layout.{starts_of, IsChosen, is_wide, chosen_text};
 
 /// In each layout there is one list of offsets at which the instructions begin, whatever padding
 /// switches need, and one layout is chosen.
@@ -11,4 +24,30 @@ pub fn each_layout_is_chosen()
     ensures one { (wide : Bool) (code : List Insn) (starts : List ℕ) → StartAt wide 0 code starts → starts ≡ starts_of wide code }
     ensures chosen { (code : List Insn) → IsChosen code (is_wide code) }
     ensures one_choice { (code : List Insn) (wide : Bool) → IsChosen code wide → wide ≡ is_wide code }
+{}
+
+/// The instrumented code of a well made body can be laid out.
+pub fn each_emission_can_be_laid()
+    ensures { (b : Body) (first : ℕ) (states : List State) (array : ℕ) → IsWellMadeOfAnySize b
+        → IsLayable (emission b first states array).code }
+{}
+
+/// The body that stands in a layout of the instrumented code is a twin of the body, in either
+/// layout, where the method that the prelude calls has its place in the pool and what the body uses
+/// stays.
+pub fn each_laid_body_has_a_twin()
+    ensures { (b : Body) (first : ℕ) (states : List State) (array : ℕ) (names : Names) (wide : Bool) (call : ℕ) (uses : List Use)
+        → IsWellMadeOfAnySize b → HasFrameStates b states → IsArrayNumber names array
+        → what_used uses call ≡ Some (probe_init b.owner)
+        → ((place : ℕ) (what : What) → what_used b.uses place ≡ Some what → what_used uses place ≡ Some what)
+        → Twin names names states first b (laid_body b (emission b first states array) wide call uses) }
+{}
+
+/// The bytes of a layout of the instrumented code, with the place in the pool of the method that the
+/// prelude calls, spell the code of that body.
+pub fn each_laid_body_is_spelled()
+    ensures { (b : Body) (first : ℕ) (states : List State) (array : ℕ) (e : Emission) → e ≡ emission b first states array
+        → IsWellMadeOfAnySize b → (wide : Bool) (call : ℕ) (uses : List Use) (bytes starts : List ℕ) → call < 2 ^ 16
+        → bytes ≡ chosen_text e.code → Spells bytes (laid_code wide e.code) (laid_starts wide e.code starts)
+        → Spells (with_place call bytes) (laid_body b e wide call uses).code (laid_starts wide e.code starts) }
 {}

@@ -6,7 +6,10 @@ mod layouts;
 mod near;
 mod offsets;
 
-pub use laws::each_layout_is_chosen;
+pub use laws::{
+    each_emission_can_be_laid, each_laid_body_has_a_twin, each_laid_body_is_spelled,
+    each_layout_is_chosen,
+};
 pub use layouts::{Laid, layout};
 
 #[cfg(test)]

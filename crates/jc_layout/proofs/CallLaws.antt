@@ -1,0 +1,152 @@
+-- The bytes of a layout, where the method that the prelude calls has its place in the pool.
+use Rattle.std.proofs.Common.{◌≡◌, ℕ, ◌+◌, ◌<◌, Bool, false, List, [], ◌∷◌, ◌++◌, map, length, refl, sym, ap, ◌∙◌, subst, arith}
+use Rattle.std.specs.Prelude.{slice_index}
+use Rattle.std.proofs.lemmas.List.{append_cancel_left}
+use Rattle.jc_base.specs.declared.opcode.TheConstants as ops
+use Rattle.jc_base.specs.declared.form.Form.TheVariants as forms
+use Rattle.jc_base.specs.InsnForm.{form_of}
+use Rattle.jc_base.specs.Insn.{with_places}
+use Rattle.jc_base.specs.Starts.{insn_number}
+use Rattle.jc_base.specs.WellMade.{IsWellMadeOfAnySize}
+use Rattle.jc_base.specs.declared.insn.Insn.{Insn}
+use Rattle.jc_base.specs.declared.insn.Insn.TheVariants as insns
+use Rattle.jc_base.specs.declared.kind.State.{State}
+use Rattle.jc_base.specs.declared.body.Body.{Body}
+use Rattle.jc_base.specs.declared.body.Use.{Use}
+use Rattle.jc_insn.specs.declared.item.Item.TheVariants as items
+use Rattle.jc_insn.specs.Items.{operands, IsItem}
+use Rattle.jc_insn.specs.Sizes.{StartAt}
+use Rattle.jc_insn.specs.Spells.{SpellsFrom, Spells}
+use Rattle.jc_insn.specs.Writing.{short, insn_text, code_text}
+use Rattle.jc_insn.specs.Layouts.{laid_code, laid_starts}
+use Rattle.jc_insn.proofs.ItemReadingLaws.{same_item}
+use Rattle.jc_insn.proofs.OperandsSpelledLaws.{item_of, one_number}
+use Rattle.jc_insn.proofs.ReadBackLaws.{short_size, big_short}
+use Rattle.jc_emit.specs.Emission.{emission}
+use Rattle.jc_emit.specs.Items.{insn_of, twin_items}
+use Rattle.jc_emit.specs.Marks.{invokestatic}
+use Rattle.jc_layout.specs.Layout.{is_wide, chosen_starts, chosen_text}
+use Rattle.jc_layout.specs.LaidBody.{with_call, with_place, laid_body}
+use Rattle.jc_layout.proofs.ChoiceLaws.{chosen_stand}
+use Rattle.jc_layout.proofs.LaidCodeLaws.{begins_so, laid_is}
+
+-- ---- invokestatic
+
+abbrev call_text : ℕ → List ℕ
+call_text place = ops.INVOKESTATIC ∷ short place
+
+call_form : form_of ops.INVOKESTATIC ≡ forms.Member
+unfolding form_of
+call_form = refl
+
+call_item : (at place : ℕ) → place < 65536 → IsItem at (call_text place) (items.Insn (invokestatic place))
+unfolding operands
+call_item at place lt =
+    item_of at ops.INVOKESTATIC forms.Member (short place) (items.Insn (invokestatic place)) call_form
+    (one_number 2 (λ p. items.Insn (insns.Member ops.INVOKESTATIC p)) place (short place) (items.Insn (invokestatic place)) (big_short place lt) refl)
+
+call_back : (f : ℕ → ℕ) (place : ℕ) (x : Insn) → invokestatic place ≡ with_places f x → x ≡ invokestatic place
+call_back f place (insns.Member op p) e = sym e
+call_back f place (insns.Simple op) e = cc
+call_back f place (insns.Push op value) e = cc
+call_back f place (insns.Local op slot) e = cc
+call_back f place (insns.Inc slot by) e = cc
+call_back f place (insns.Constant p) e = cc
+call_back f place (insns.Constant2 p) e = cc
+call_back f place (insns.Interface p count) e = cc
+call_back f place (insns.Dynamic p) e = cc
+call_back f place (insns.OfClass op p) e = cc
+call_back f place (insns.NewArray elem) e = cc
+call_back f place (insns.Multi p dims) e = cc
+call_back f place (insns.Jump op to) e = cc
+call_back f place (insns.Table low default arms) e = cc
+call_back f place (insns.Lookup default arms) e = cc
+
+-- ---- another place in the first instruction
+
+first_is : (f : ℕ → ℕ) (y x : Insn) (code xs : List Insn) → y ∷ code ≡ with_places f x ∷ map (with_places f) xs → y ≡ with_places f x
+first_is f y x code xs e = cc
+
+rest_is : (f : ℕ → ℕ) (y x : Insn) (code xs : List Insn) → y ∷ code ≡ with_places f x ∷ map (with_places f) xs → code ≡ map (with_places f) xs
+rest_is f y x code xs e = cc
+
+no_none : (y : Insn) (code : List Insn) → y ∷ code ≡ [] → ⊥
+no_none y code e = cc
+
+called_text : (call : ℕ) (rest starts : List ℕ) (code spelled : List Insn) → call < 65536
+    → SpellsFrom 0 (call_text 0 ++ rest) spelled starts
+    → invokestatic 0 ∷ code ≡ map (with_places (insn_number starts)) spelled
+    → Spells (call_text call ++ rest) (invokestatic call ∷ code) starts
+called_text call rest starts code [] lt s e = absurd (no_none (invokestatic 0) code e)
+called_text call rest starts code (x ∷ xs) lt (text, left, later, parts, is, item, more) e =
+    let f = insn_number starts in
+    let x_is = call_back f 0 x (first_is f (invokestatic 0) x code xs e) in
+    let zero_item = call_item 0 0 (omega arith) in
+    let same = same_item 0 text (call_text 0) left rest (items.Insn (invokestatic 0)) (items.Insn (invokestatic 0))
+    (subst (λ y. IsItem 0 text (items.Insn y)) x_is item) zero_item (sym parts) in
+    let left_is : left ≡ rest = append_cancel_left (call_text 0) left rest (ap (λ (l : List ℕ). l ++ left) (sym same.0) ∙ sym parts) in
+    let size : 0 + length text ≡ 0 + length (call_text call) = let a = ap length same.0 in let b = short_size 0 in let c = short_size call in omega (arith, a, b, c) in
+    record {
+      spelled = invokestatic call ∷ xs;
+      text = (
+        call_text call,
+        rest,
+        later,
+        refl,
+        is,
+        call_item 0 call lt,
+        subst (λ n. SpellsFrom n rest xs later) size (subst (λ l. SpellsFrom (0 + length text) l xs later) left_is more),
+      );
+      places = ap (λ l. invokestatic call ∷ l) (rest_is f (invokestatic 0) x code xs e);
+    }
+
+-- ---- the bytes
+
+record AreTwo (l : List ℕ) : Type 0 where
+  high : ℕ
+  low : ℕ
+  is : l ≡ high ∷ low ∷ []
+
+two_of : (l : List ℕ) → length l ≡ 2 → AreTwo l
+two_of [] e = absurd (omega (arith, e))
+two_of (a ∷ []) e = absurd (omega (arith, e))
+two_of (a ∷ b ∷ []) e = record { high = a; low = b; is = refl }
+two_of (a ∷ b ∷ c ∷ l) e = absurd (omega (arith, e))
+
+placed_text : (call : ℕ) (rest : List ℕ) → with_place call (call_text 0 ++ rest) ≡ call_text call ++ rest
+placed_text call rest =
+    let two = two_of (short 0) (short_size 0) in
+    ap (λ (l : List ℕ). with_place call ((ops.INVOKESTATIC ∷ l) ++ rest)) two.is
+
+text_begins : (places : ℕ → ℕ) (wide : Bool) (code : List Insn) (starts : List ℕ) → StartAt wide 0 (invokestatic 0 ∷ code) starts
+    → (rest : List ℕ) × (code_text places wide (invokestatic 0 ∷ code) starts ≡ call_text 0 ++ rest)
+unfolding insn_text
+text_begins places wide code starts (later, is, more) =
+    (code_text places wide code later, ap (code_text places wide (invokestatic 0 ∷ code)) is)
+
+chosen_begins : (code : List Insn) → (rest : List ℕ) × (chosen_text (invokestatic 0 ∷ code) ≡ call_text 0 ++ rest)
+unfolding chosen_text
+chosen_begins code =
+    let whole = invokestatic 0 ∷ code in
+    text_begins (slice_index (chosen_starts whole)) (is_wide whole) code (chosen_starts whole) (chosen_stand whole)
+
+with_called : (call : ℕ) (bytes : List ℕ) (whole code : List Insn) (starts : List ℕ) → call < 65536
+    → bytes ≡ chosen_text (invokestatic 0 ∷ whole) → Spells bytes (invokestatic 0 ∷ code) starts
+    → Spells (with_place call bytes) (with_call call (invokestatic 0 ∷ code)) starts
+with_called call bytes whole code starts lt are s =
+    let begins = chosen_begins whole in
+    let bytes_are = are ∙ begins.1 in
+    subst (λ l. Spells l (invokestatic call ∷ code) starts) (sym (ap (with_place call) bytes_are ∙ placed_text call begins.0))
+    (called_text call begins.0 starts code s.spelled lt (subst (λ l. SpellsFrom 0 l s.spelled starts) bytes_are s.text) s.places)
+
+pub laid_spells : (b : Body) (first : ℕ) (states : List State) (array : ℕ) (wide : Bool) (call : ℕ) (uses : List Use) (bytes starts : List ℕ)
+    → IsWellMadeOfAnySize b → call < 65536 → bytes ≡ chosen_text (emission b first states array).code
+    → Spells bytes (laid_code wide (emission b first states array).code) (laid_starts wide (emission b first states array).code starts)
+    → Spells (with_place call bytes) (laid_body b (emission b first states array) wide call uses).code (laid_starts wide (emission b first states array).code starts)
+unfolding laid_body emission
+laid_spells b first states array wide call uses bytes starts well lt are s =
+    let narrow = begins_so b first false 0 in
+    let laid = laid_is b first wide well.code ∙ begins_so b first wide 0 in
+    let ends = laid_starts wide (map (insn_of 0 b.arg_slots) (twin_items b first false)) starts in
+    subst (λ code. Spells (with_place call bytes) (with_call call code) ends) (sym laid)
+    (with_called call bytes _ _ ends lt (are ∙ ap chosen_text narrow) (subst (λ code. Spells bytes code ends) laid s))

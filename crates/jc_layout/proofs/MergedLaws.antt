@@ -1,0 +1,147 @@
+-- The frames of the wide layout are in rising order.
+use Rattle.std.proofs.Common.{◌≡◌, ◌⊎◌, inl, inr, ⊎_elim, ℕ, zero, suc, ◌+◌, ◌≤◌, Bool, true, false, List, [], ◌∷◌, map, refl, sym, ap, subst, arith, nat_lt, if◌then◌else◌}
+use Rattle.std.specs.Prelude.{Contains}
+use Rattle.std.proofs.lemmas.Bool.{ltb-true}
+use Rattle.std.proofs.lemmas.Bool.Decides.{nat_tests}
+use Rattle.jc_base.specs.Flow.{flow_of}
+use Rattle.jc_base.specs.Widened.{widths_by, wide_place}
+use Rattle.jc_base.specs.declared.insn.Insn.{Insn}
+use Rattle.jc_base.specs.declared.insn.Flow.{Flow}
+use Rattle.jc_base.specs.declared.insn.Flow.TheVariants as flows
+use Rattle.jc_base.specs.declared.body.FrameAt.{FrameAt}
+use Rattle.jc_base.proofs.FirstSeenLaws.{contains_none, contains_one, contains_first, contains_later, contains_cases}
+use Rattle.jc_emit.specs.Emission.{widened_frame}
+use Rattle.jc_emit.specs.TwinFrames.{AreRising}
+use Rattle.jc_layout.specs.Merged.{with_frame, merged}
+
+-- ---- what is listed
+
+with_cases : (f : FrameAt) (frames : List FrameAt) (g : FrameAt) → Contains (with_frame f frames) g → (f ≡ g) ⊎ Contains frames g
+with_cases f [] g c = inl (contains_one f g c)
+with_cases f (h ∷ frames) g c = by (λ later. with_cases f frames g later) (nat_lt f.at h.at) c
+  where
+    by : (Contains (with_frame f frames) g → (f ≡ g) ⊎ Contains frames g) → (t : Bool)
+        → Contains (if t then f ∷ h ∷ frames else h ∷ with_frame f frames) g → (f ≡ g) ⊎ Contains (h ∷ frames) g
+    by rest true c = contains_cases f (h ∷ frames) g c
+    by rest false c =
+        ⊎_elim (λ same. inr (subst (λ x. Contains (h ∷ frames) x) same (contains_first h frames)))
+        (λ later. ⊎_elim (λ same. inl same) (λ more. inr (contains_later h frames g more)) (rest later))
+        (contains_cases h (with_frame f frames) g c)
+
+with_here : (f : FrameAt) (frames : List FrameAt) → Contains (with_frame f frames) f
+with_here f [] = contains_first f []
+with_here f (h ∷ frames) = by (nat_lt f.at h.at) (with_here f frames)
+  where
+    by : (t : Bool) → Contains (with_frame f frames) f → Contains (if t then f ∷ h ∷ frames else h ∷ with_frame f frames) f
+    by true more = contains_first f (h ∷ frames)
+    by false more = contains_later h (with_frame f frames) f more
+
+with_others : (f : FrameAt) (frames : List FrameAt) (g : FrameAt) → Contains frames g → Contains (with_frame f frames) g
+with_others f [] g c = absurd (contains_none g c)
+with_others f (h ∷ frames) g c = by (λ later. with_others f frames g later) (nat_lt f.at h.at)
+  where
+    by : (Contains frames g → Contains (with_frame f frames) g) → (t : Bool)
+        → Contains (if t then f ∷ h ∷ frames else h ∷ with_frame f frames) g
+    by rest true = contains_later f (h ∷ frames) g c
+    by rest false =
+        ⊎_elim (λ same. subst (λ x. Contains (h ∷ with_frame f frames) x) same (contains_first h (with_frame f frames)))
+        (λ later. contains_later h (with_frame f frames) g (rest later)) (contains_cases h frames g c)
+
+pub merged_cases : (frames others : List FrameAt) (g : FrameAt) → Contains (merged frames others) g → Contains frames g ⊎ Contains others g
+merged_cases frames [] g c = inl c
+merged_cases frames (f ∷ others) g c =
+    ⊎_elim (λ same. inr (subst (λ x. Contains (f ∷ others) x) same (contains_first f others)))
+    (λ more. ⊎_elim (λ old. inl old) (λ later. inr (contains_later f others g later)) (merged_cases frames others g more))
+    (with_cases f (merged frames others) g c)
+
+pub merged_left : (frames others : List FrameAt) (g : FrameAt) → Contains frames g → Contains (merged frames others) g
+merged_left frames [] g c = c
+merged_left frames (f ∷ others) g c = with_others f (merged frames others) g (merged_left frames others g c)
+
+pub merged_right : (frames others : List FrameAt) (g : FrameAt) → Contains others g → Contains (merged frames others) g
+merged_right frames [] g c = absurd (contains_none g c)
+merged_right frames (f ∷ others) g c =
+    ⊎_elim (λ same. subst (λ x. Contains (with_frame f (merged frames others)) x) same (with_here f (merged frames others)))
+    (λ later. with_others f (merged frames others) g (merged_right frames others g later))
+    (contains_cases f others g c)
+
+-- ---- their order
+
+above_first : (from : ℕ) (frames : List FrameAt) (g : FrameAt) → AreRising from frames → Contains frames g → from ≤ g.at
+above_first from [] g r c = absurd (contains_none g c)
+above_first from (f ∷ frames) g r c =
+    ⊎_elim (λ same. let e : f.at ≡ g.at = ap (λ (x : FrameAt). x.at) same in omega (arith, e, r.0))
+    (λ later. let more = above_first (f.at + 1) frames g r.1 later in omega (arith, more, r.0))
+    (contains_cases f frames g c)
+
+not_below : (a b : ℕ) → nat_lt a b ≡ false → b ≤ a
+not_below a b e = grind (arith, nat_tests)
+
+with_rises : (from : ℕ) (f : FrameAt) (frames : List FrameAt) → AreRising from frames → from ≤ f.at
+    → ((g : FrameAt) → Contains frames g → g.at ≡ f.at → ⊥) → AreRising from (with_frame f frames)
+with_rises from f [] r le apart = (le, tt)
+with_rises from f (h ∷ frames) r le apart =
+    by (λ above. with_rises (h.at + 1) f frames r.1 above (λ g c. apart g (contains_later h frames g c))) (nat_lt f.at h.at) refl
+  where
+    by : (h.at + 1 ≤ f.at → AreRising (h.at + 1) (with_frame f frames)) → (t : Bool) → nat_lt f.at h.at ≡ t
+        → AreRising from (if t then f ∷ h ∷ frames else h ∷ with_frame f frames)
+    by rest true e = let below = ltb-true f.at h.at e in (le, (omega (arith, below), r.1))
+    by rest false e =
+        let above = not_below f.at h.at e in
+        let other : h.at ≡ f.at → ⊥ = apart h (contains_first h frames) in
+        (r.0, rest (omega (arith, above, other)))
+
+pub merged_rises : (frames others : List FrameAt) (from : ℕ) → AreRising 0 frames → AreRising from others
+    → ((f : FrameAt) → Contains others f → (g : FrameAt) → Contains frames g → g.at ≡ f.at → ⊥)
+    → AreRising 0 (merged frames others)
+merged_rises frames [] from r s apart = r
+merged_rises frames (f ∷ others) from r s apart =
+    with_rises 0 f (merged frames others)
+    (merged_rises frames others (f.at + 1) r s.1 (λ h c. apart h (contains_later f others h c))) (omega arith)
+    (λ g c e.
+    ⊎_elim (λ old. apart f (contains_first f others) g old e)
+    (λ later. let above = above_first (f.at + 1) others g s.1 later in absurd (omega (arith, above, e)))
+    (merged_cases frames others g c))
+
+-- ---- in the wide code
+
+some_width : (flow : Flow) → 1 ≤ widths_by flow
+some_width flows.Tests = omega arith
+some_width flow = omega arith
+
+place_above : (code : List Insn) (k : ℕ) → k ≤ wide_place code k
+place_above [] k = omega arith
+place_above (insn ∷ code) zero = omega arith
+place_above (insn ∷ code) (suc k) =
+    let more = place_above code k in let some = some_width (flow_of insn) in omega (arith, more, some)
+
+place_apart : (code : List Insn) (q k : ℕ) → wide_place code q + k ≤ wide_place code (q + k)
+place_apart [] q k = omega arith
+place_apart (insn ∷ code) zero k =
+    let above = place_above (insn ∷ code) k in
+    let e : 0 + k ≡ k = omega arith in
+    subst (λ n. 0 + k ≤ wide_place (insn ∷ code) n) (sym e) (omega (arith, above))
+place_apart (insn ∷ code) (suc q) k =
+    let e : suc q + k ≡ suc (q + k) = omega arith in
+    let more = place_apart code q k in
+    subst (λ n. widths_by (flow_of insn) + wide_place code q + k ≤ wide_place (insn ∷ code) n) (sym e) (omega (arith, more))
+
+place_grows : (code : List Insn) (q r : ℕ) → q + 1 ≤ r → wide_place code q + 1 ≤ wide_place code r
+place_grows code q r le = up (difference q r le)
+  where
+    difference : (q r : ℕ) → q + 1 ≤ r → (k : ℕ) × (q + (k + 1) ≡ r)
+    difference q zero le = absurd (omega arith)
+    difference zero (suc r) le = (r, omega arith)
+    difference (suc q) (suc r) le = let d = difference q r (omega arith) in (d.0, let e = d.1 in omega (arith, e))
+
+    up : (k : ℕ) × (q + (k + 1) ≡ r) → wide_place code q + 1 ≤ wide_place code r
+    up (k, e) = let h = place_apart code q (k + 1) in let s = ap (wide_place code) e in omega (arith, h, s)
+
+widened_rise : (code : List Insn) (a b : ℕ) (frames : List FrameAt) → AreRising a frames
+    → ((r : ℕ) → a ≤ r → b ≤ wide_place code r) → AreRising b (map (widened_frame (wide_place code)) frames)
+widened_rise code a b [] r h = tt
+widened_rise code a b (f ∷ frames) r h =
+    (h f.at r.0, widened_rise code (f.at + 1) (wide_place code f.at + 1) frames r.1 (λ q le. place_grows code f.at q le))
+
+pub rising_widened : (code : List Insn) (frames : List FrameAt) → AreRising 0 frames → AreRising 0 (map (widened_frame (wide_place code)) frames)
+rising_widened code frames r = widened_rise code 0 0 frames r (λ q le. omega arith)
