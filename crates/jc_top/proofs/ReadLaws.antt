@@ -1,14 +1,16 @@
 -- Reads that stop a command, and what a command makes of what it read.
-use Rattle.std.proofs.Common.{◌≡◌, inl, inr, ℕ, List, Option, None, Some, Result, Ok, Err, Vec, Bor, refl}
+use Rattle.std.proofs.Common.{◌≡◌, ◌≤◌, inl, inr, ℕ, List, [], ◌++◌, length, Option, None, Some, Result, Ok, Err, Vec, Bor, refl, sym, ◌∙◌, ap, subst}
+use Rattle.std.specs.FinMap.{get}
 use Rattle.std.specs.declared.alloc.Global.{Global}
 use Rattle.jc_base.specs.declared.files.FileFault.{FileFault}
 use Rattle.jc_base.specs.declared.files.FileFault.TheVariants as faults
-use Rattle.jc_base.specs.Outside.{FileMap, ReadGives, ReadCause, WhereTold}
+use Rattle.jc_base.specs.ByteLists.{AreBytes}
+use Rattle.jc_base.specs.Outside.{FileMap, ReadGives, ReadCause, WhereTold, most_read}
 use Rattle.jc_top.specs.declared.output.Write.{Write as Written}
 use Rattle.jc_top.specs.declared.stop.Stop.{Stop}
 use Rattle.jc_top.specs.declared.stop.Stop.TheVariants as stops
 use Rattle.jc_top.specs.Command.{Command, inputs_of}
-use Rattle.jc_top.specs.Work.{AreRead}
+use Rattle.jc_top.specs.Work.{Holds, AreRead}
 use Rattle.jc_top.specs.Outcome.{ReadOne, ReadAll, read_stop, AnswersWith, Prepares}
 
 pub read_stops : (contents : Option FileMap) (path : Bor (List ℕ)) (had has : List ℕ) (old new : ℕ) (f : FileFault) → ReadGives contents path.now had has (Err f) → ReadCause contents old new (Err f) → ReadOne contents path.now old new (Err (read_stop f path))
@@ -16,8 +18,20 @@ read_stops contents path had has old new faults.Failed gives cause = (refl, inl 
 read_stops None path had has old new faults.Missing gives cause = (refl, inl cause)
 read_stops (Some m) path had has old new faults.Missing gives cause = (refl, inr (cause, m, refl, inl gives.1))
 read_stops None path had has old new faults.TooLarge gives cause = (refl, inl cause)
-read_stops (Some m) path had has old new faults.TooLarge gives cause = (refl, inr (cause, m, refl, inr gives.1))
+read_stops (Some m) path had has old new faults.TooLarge gives cause = (refl, inr (cause, m, refl, inr (inl gives.1)))
 read_stops contents path had has old new faults.Memory gives cause = cause
+
+pub read_gives : (contents : Option FileMap) (path had has bytes : List ℕ) (old new : ℕ) → had ≡ [] → bytes ≡ has → AreBytes bytes → ReadGives contents path had has (Ok tt) → new ≡ old
+    → ReadOne contents path old new (Ok bytes)
+read_gives contents path had has bytes old new none same are gives unread =
+    (unread, subst (λ (l : List ℕ). length l ≤ most_read) (sym read) gives.2, holds contents gives.3)
+  where
+    read : bytes ≡ gives.0
+    read = same ∙ gives.1 ∙ ap (λ (l : List ℕ). l ++ gives.0) none
+
+    holds : (k : Option FileMap) → WhereTold k (λ m. get m path ≡ Some gives.0) → WhereTold k (λ m. Holds m path bytes)
+    holds None told = tt
+    holds (Some m) told = record { there = told ∙ ap Some (sym read); are_bytes = are; short = subst (λ (l : List ℕ). length l ≤ most_read) (sym read) gives.2 }
 
 -- ---- the reads of a command
 

@@ -1,8 +1,9 @@
 -- The work of words over told contents is one.
-use Rattle.std.proofs.Common.{◌≡◌, ◌⊎◌, inl, inr, ⊎_elim, ℕ, ◌≤◌, List, [], ◌∷◌, ◌++◌, length, map, Option, None, Some, refl, sym, ◌∙◌, ap, ap₂, subst, arith}
+use Rattle.std.proofs.Common.{◌≡◌, ◌⊎◌, inl, inr, ⊎_elim, ℕ, ◌<◌, ◌≤◌, List, [], ◌∷◌, ◌++◌, length, map, Option, None, Some, refl, sym, ◌∙◌, ap, ap₂, subst, arith}
 use Rattle.std.specs.FinMap.{get}
 use Rattle.std.specs.List.{AllByRecursion}
 use Rattle.jc_base.proofs.DecoderLaws.{some_is, some_none}
+use Rattle.jc_base.specs.ByteLists.{AreBytes}
 use Rattle.jc_base.specs.Outside.{FileMap, IsLong, most_read}
 use Rattle.jc_exec.specs.declared.refusal.ExecRefusal.{ExecRefusal}
 use Rattle.jc_exec.specs.Store.{Store}
@@ -15,7 +16,7 @@ use Rattle.jc_top.specs.Words.{Word}
 use Rattle.jc_top.specs.Command.{Command, merge, exec_info, class_info, inputs_of, Means, NoForm}
 use Rattle.jc_top.specs.Texts.{usage_text, cannot_read}
 use Rattle.jc_top.specs.World.{to_file, to_out, to_err}
-use Rattle.jc_top.specs.Work.{Holds, HoldsBytes, CantRead, AreRead, StopsAt, Answer, Answers, merged, merge_refused, informed, exec_info_refused, listed, class_refused, refusing, Work, IsWork, usage, unreadable, answered, WorkEnds}
+use Rattle.jc_top.specs.Work.{Holds, IsNoFile, CantRead, AreRead, StopsAt, Answer, Answers, merged, merge_refused, informed, exec_info_refused, listed, class_refused, refusing, Work, IsWork, usage, unreadable, answered, WorkEnds}
 use Rattle.jc_base.specs.declared.refusal.Refusal.{Refusal}
 use Rattle.jc_top.specs.ClassInfo.{AreListed, RefusedAt}
 use Rattle.jc_top.specs.ExecData.{IsUnionOf, IsFirstRefused, IsFirstRefusedAlone}
@@ -42,10 +43,15 @@ long_or_short : (file : Option (List ℕ)) (bytes : List ℕ) → file ≡ Some 
 long_or_short None bytes is short long = absurd long
 long_or_short (Some found) bytes is short long = omega (arith, long, short, ap length (some_is found bytes is))
 
+bytes_or_none : (file : Option (List ℕ)) (bytes : List ℕ) → file ≡ Some bytes → AreBytes bytes → IsNoFile file → ⊥
+bytes_or_none None bytes is are none = none
+bytes_or_none (Some found) bytes is are none = none (subst AreBytes (sym (some_is found bytes is)) are)
+
 -- a file that is read can be
 holds_can : (m : FileMap) (path bytes : List ℕ) → Holds m path bytes → CantRead m path → ⊥
 holds_can m path bytes holds (inl missing) = some_none (sym holds.there ∙ missing)
-holds_can m path bytes holds (inr long) = long_or_short (get m path) bytes holds.there holds.short long
+holds_can m path bytes holds (inr (inl long)) = long_or_short (get m path) bytes holds.there holds.short long
+holds_can m path bytes holds (inr (inr none)) = bytes_or_none (get m path) bytes holds.there holds.are_bytes none
 
 tail_of : {a b : Word} (xs ys : List Word) → (a ∷ xs) ≡ (b ∷ ys) → (a ≡ b) × (xs ≡ ys)
 tail_of xs ys e = (cc, cc)
@@ -214,15 +220,27 @@ module _ (words : List Word) (m : FileMap) where
 
 -- ---- there is a work
 
+-- each number is a byte, or one isn't
+bytes_or_not : (numbers : List ℕ) → AreBytes numbers ⊎ (AreBytes numbers → ⊥)
+bytes_or_not [] = inl tt
+bytes_or_not (n ∷ numbers) = by (cases_lt n 256) (bytes_or_not numbers)
+  where
+    by : (n < 256) ⊎ (256 ≤ n) → AreBytes numbers ⊎ (AreBytes numbers → ⊥) → AreBytes (n ∷ numbers) ⊎ (AreBytes (n ∷ numbers) → ⊥)
+    by (inl low) (inl rest) = inl (low, rest)
+    by (inl low) (inr none) = inr (λ are. none are.1)
+    by (inr high) rest = inr (λ are. let low = are.0 in omega (arith, high, low))
+
 can_or_cannot : (m : FileMap) (path : Word) → ((bytes : List ℕ) × Holds m path bytes) ⊎ CantRead m path
 can_or_cannot m path = by (get m path) refl
   where
     by : (o : Option (List ℕ)) → get m path ≡ o → ((bytes : List ℕ) × Holds m path bytes) ⊎ CantRead m path
     by None is = inr (inl is)
-    by (Some bytes) is = elim (cases_lt most_read (length bytes)) [
-      | inl long ↦ inr (inr (subst IsLong (sym is) long))
-      | inr short ↦ inl (bytes, record { there = is; short = short })
-    ]
+    by (Some bytes) is = sized (cases_lt most_read (length bytes)) (bytes_or_not bytes)
+      where
+        sized : (most_read < length bytes) ⊎ (length bytes ≤ most_read) → AreBytes bytes ⊎ (AreBytes bytes → ⊥) → ((bytes : List ℕ) × Holds m path bytes) ⊎ CantRead m path
+        sized (inl long) which = inr (inr (inl (subst IsLong (sym is) long)))
+        sized (inr short) (inl are) = inl (bytes, record { there = is; are_bytes = are; short = short })
+        sized (inr short) (inr none) = inr (inr (inr (subst IsNoFile (sym is) none)))
 
 reads_on : (m : FileMap) (paths : List Word) → ((texts : List (List ℕ)) × AreRead m paths texts) ⊎ ((front : List Word) × (path : Word) × StopsAt m paths front path)
 reads_on m [] = inl ([], tt)
@@ -240,24 +258,24 @@ as_many m [] (t ∷ ts) read = absurd read
 as_many m (p ∷ ps) [] read = absurd read
 as_many m (p ∷ ps) (t ∷ ts) read = let rest = as_many m ps ts read.1 in omega (arith, rest)
 
-all_files : (m : FileMap) (paths : List Word) (texts : List (List ℕ)) → HoldsBytes m → AreRead m paths texts → AllByRecursion IsFile texts
-all_files m [] [] bytes read = tt
-all_files m [] (t ∷ ts) bytes read = absurd read
-all_files m (p ∷ ps) [] bytes read = absurd read
-all_files m (p ∷ ps) (t ∷ ts) bytes read = ((bytes p t read.0.there, read.0.short), all_files m ps ts bytes read.1)
+all_files : (m : FileMap) (paths : List Word) (texts : List (List ℕ)) → AreRead m paths texts → AllByRecursion IsFile texts
+all_files m [] [] read = tt
+all_files m [] (t ∷ ts) read = absurd read
+all_files m (p ∷ ps) [] read = absurd read
+all_files m (p ∷ ps) (t ∷ ts) read = ((read.0.are_bytes, read.0.short), all_files m ps ts read.1)
 
-some_answer : (command : Command) (texts : List (List ℕ)) (m : FileMap) → HoldsBytes m → AreRead m (inputs_of command) texts → (answer : Answer) × Answers command texts answer
-some_answer (merge out inputs) texts m bytes read = ⊎_elim (λ union. (_, merged union.0 union.1)) (λ refused. (_, merge_refused refused.0 refused.1 refused.2 refused.3)) (some_union_or_refused inputs texts)
-some_answer (exec_info paths) texts m bytes read =
+some_answer : (command : Command) (texts : List (List ℕ)) (m : FileMap) → AreRead m (inputs_of command) texts → (answer : Answer) × Answers command texts answer
+some_answer (merge out inputs) texts m read = ⊎_elim (λ union. (_, merged union.0 union.1)) (λ refused. (_, merge_refused refused.0 refused.1 refused.2 refused.3)) (some_union_or_refused inputs texts)
+some_answer (exec_info paths) texts m read =
     ⊎_elim (λ holds. let info = data_has_info paths texts (as_many m paths texts read) holds in (_, informed info.0 info.1)) (λ refused. (_, exec_info_refused refused.0 refused.1 refused.2 refused.3)) (some_data_or_refused paths texts)
-some_answer (class_info paths) texts m bytes read =
-    ⊎_elim (λ lines. (_, listed lines.0 lines.1)) (λ refused. (_, class_refused refused.0 refused.1 refused.2 refused.3)) (some_list 0 paths texts (as_many m paths texts read) (all_files m paths texts bytes read))
+some_answer (class_info paths) texts m read =
+    ⊎_elim (λ lines. (_, listed lines.0 lines.1)) (λ refused. (_, class_refused refused.0 refused.1 refused.2 refused.3)) (some_list 0 paths texts (as_many m paths texts read) (all_files m paths texts read))
 
-pub some_work : (words : List Word) (m : FileMap) → HoldsBytes m → (work : Work) × IsWork words m work
-some_work words m bytes = by (command_or_none words)
+pub some_work : (words : List Word) (m : FileMap) → (work : Work) × IsWork words m work
+some_work words m = by (command_or_none words)
   where
     by : ((command : Command) × Means words command) ⊎ NoForm words → (work : Work) × IsWork words m work
     by (inr none) = (_, usage none)
     by (inl called) =
-        ⊎_elim (λ read. let answer = some_answer called.0 read.0 m bytes read.1 in (_, answered called.1 read.1 answer.1))
+        ⊎_elim (λ read. let answer = some_answer called.0 read.0 m read.1 in (_, answered called.1 read.1 answer.1))
         (λ stop. (_, unreadable called.1 stop.2)) (reads_on m (inputs_of called.0))

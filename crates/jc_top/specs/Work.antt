@@ -1,5 +1,5 @@
 -- The work of a command: what it reads and writes, and how it ends, where the files are told.
-use Rattle.std.specs.Prelude.{◌≡◌, ◌⊎◌, ◌≤◌, ⊤, ℕ, List, [], ◌∷◌, ◌++◌, length, map, Some, None}
+use Rattle.std.specs.Prelude.{◌≡◌, ◌⊎◌, ◌≤◌, ⊤, ℕ, List, [], ◌∷◌, ◌++◌, length, map, Option, Some, None}
 use Rattle.std.specs.FinMap.{get}
 use Rattle.jc_base.specs.ByteLists.{AreBytes}
 use Rattle.jc_base.specs.Outside.{FileMap, IsLong, WhereTold, most_read}
@@ -21,18 +21,20 @@ use Rattle.jc_top.specs.World.{World, Write, to_file, to_out, to_err, Landed, af
 
 -- ---- reading
 
--- the path holds these bytes, and they aren't too many
+-- the path holds these numbers, each of them is a byte, and they aren't too many
 pub record Holds (m : FileMap) (path bytes : List ℕ) : Type 0 where
   pub there : get m path ≡ Some bytes
+  pub are_bytes : AreBytes bytes
   pub short : length bytes ≤ most_read
 
--- each file holds bytes
-abbrev pub HoldsBytes : FileMap → Type 0
-HoldsBytes m = (path bytes : List ℕ) → get m path ≡ Some bytes → AreBytes bytes
+-- numbers of which one is 256 or more are the contents of no file
+abbrev pub IsNoFile : Option (List ℕ) → Type 0
+IsNoFile None = ⊥
+IsNoFile (Some numbers) = AreBytes numbers → ⊥
 
--- the path is missing, or its file is too large
+-- the path is missing, or its file is too large, or what stands there is no file
 abbrev pub CantRead : FileMap → List ℕ → Type 0
-CantRead m path = (get m path ≡ None) ⊎ IsLong (get m path)
+CantRead m path = (get m path ≡ None) ⊎ (IsLong (get m path) ⊎ IsNoFile (get m path))
 
 -- the paths hold these bytes, in order
 abbrev pub AreRead : FileMap → List Word → List (List ℕ) → Type 0

@@ -1,5 +1,6 @@
 //! Reading the inputs of a command.
 ghost use Rattle.std.specs.Prelude.{◌≡◌, ◌≤◌, ◌++◌, ◌∷◌, [], All, length, IfOk, OnOk};
+ghost use Rattle.jc_base.specs.ByteLists.{AreBytes};
 ghost use Rattle.jc_base.specs.Outside.{most_read};
 ghost use Rattle.jc_top.specs.Words.{words_of};
 ghost use Rattle.jc_top.specs.Outcome.{ReadOne, ReadAll, read_stop};
@@ -18,6 +19,11 @@ fn read_stop<'a>(fault: FileFault, path: &'a str) -> Stop<'a>
     }
 }
 
+/// What is kept as bytes is bytes.
+fn are_bytes(bytes: &[u8])
+    ensures { AreBytes bytes.now }
+{}
+
 /// The bytes of the file at a path.
 pub fn read_one<'a, F: Files>(
     alloc: Global,
@@ -30,7 +36,10 @@ pub fn read_one<'a, F: Files>(
 {
     let mut bytes = Vec::new(alloc);
     match files.read(alloc, path, &mut bytes) {
-        Ok(()) => Ok(Bytes::from_vec(bytes)),
+        Ok(()) => {
+            are_bytes(bytes.as_slice());
+            Ok(Bytes::from_vec(bytes))
+        }
         Err(fault) => Err(read_stop(fault, path)),
     }
 }

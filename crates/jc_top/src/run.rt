@@ -5,7 +5,7 @@ ghost use Rattle.jc_top.specs.Words.{Word, words_of};
 ghost use Rattle.jc_top.specs.Command.{inputs_of};
 ghost use Rattle.jc_top.specs.Looks.{command_seen};
 ghost use Rattle.jc_top.specs.World.{world, counts};
-ghost use Rattle.jc_top.specs.Work.{Work, HoldsBytes, IsWork};
+ghost use Rattle.jc_top.specs.Work.{Work, IsWork};
 ghost use Rattle.jc_top.specs.Outcome.{Prepares, Runs, Ends};
 
 use crate::Status;
@@ -100,8 +100,8 @@ pub fn run_tool<F: Files, O: Sink, E: Sink>(
     }
 }
 
-/// Each list of words and contents has one work, where the contents are bytes.
+/// Each list of words and contents has one work.
 pub fn each_command_has_one_work()
     ensures one { (words : List Word) (m : FileMap) (v w : Work) → IsWork words m v → IsWork words m w → v ≡ w }
-    ensures some { (words : List Word) (m : FileMap) → HoldsBytes m → (work : Work) × IsWork words m work }
+    ensures some { (words : List Word) (m : FileMap) → (work : Work) × IsWork words m work }
 {}

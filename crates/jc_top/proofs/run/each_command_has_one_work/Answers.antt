@@ -5,4 +5,4 @@ pub returns-clause-one : goal.returns-clause-one
 returns-clause-one c = λ words m v w p q. one_work words m v w p q
 
 pub returns-clause-some : goal.returns-clause-some
-returns-clause-some c = λ words m bytes. some_work words m bytes
+returns-clause-some c = λ words m. some_work words m
