@@ -1,7 +1,7 @@
 -- The first place by the walk and by the handlers is that of the kind check.
-use Rattle.std.proofs.Common.{◌≡◌, ◌⊎◌, inl, inr, ⊎_elim, ℕ, zero, suc, ◌<◌, ◌≤◌, List, [], ◌∷◌, length, Option, Some, None, refl, sym, ◌∙◌, ap, subst, arith}
+use Rattle.std.proofs.Common.{◌≡◌, ◌≢◌, ◌⊎◌, inl, inr, ⊎_elim, ℕ, zero, suc, ◌<◌, ◌≤◌, Bool, true, List, [], ◌∷◌, length, Option, Some, None, refl, sym, ◌∙◌, ap, subst, arith}
 use Rattle.std.specs.Option.{option_and_then}
-use Rattle.std.specs.List.{slice_get, All}
+use Rattle.std.specs.List.{slice_get, All, Contains}
 use Rattle.std.proofs.lemmas.List.Elements.{All-weaker}
 use Rattle.jc_base.specs.declared.kind.State.{State}
 use Rattle.jc_base.specs.declared.body.Handler.{Handler}
@@ -20,6 +20,7 @@ use Rattle.jc_kinds.specs.First.{IsFirst}
 use Rattle.jc_kinds.specs.Guarded.{IsUnguarded}
 use Rattle.jc_kinds.specs.Walk.{IsKeptEntry, IsFlowClash, IsWalk, IsWalkFrom}
 use Rattle.std.proofs.lemmas.Option.{none-some}
+use Rattle.jc_base.proofs.TestLaws.{none_in}
 use Rattle.jc_kinds.proofs.CheckLaws.{checked}
 use Rattle.jc_kinds.proofs.FirstLaws.{instead_first, either_first}
 use Rattle.jc_kinds.proofs.GrowLaws.{states_stay}
@@ -67,21 +68,28 @@ not_past (s ∷ states) (suc i) lt e = not_past states i (omega (arith, lt)) e
 
 -- ---- the first of both
 
-module _ (old new : Names) (b : Body) (states : List State) (result : ℕ) (made : IsWellMade b) (missing : IsNowhere (IsMissing b)) (grown : Grows old new)
-    (frames : AreNumberedFrames (length old) b.frames) (walk : IsWalk old new b states)
-    (guarded : IsFirst (IsUnguarded states b.frames b.handlers b.max_locals) (length states) result) where
+some_row : (hs : List Handler) (h : Handler) → Contains hs h → hs ≢ []
+some_row hs h row none = none_in h (subst (λ (l : List Handler). Contains l h) none row)
+
+unguarded_row : (states : List State) (frames : List FrameAt) (hs : List Handler) (slots i : ℕ) → IsUnguarded states frames hs slots i → hs ≢ []
+unguarded_row states frames hs slots i (inl u) = some_row hs u.handler u.row
+unguarded_row states frames hs slots i (inr (slot, lt, u)) = some_row hs u.handler u.row
+
+module _ (old new : Names) (b : Body) (keeps : Bool) (count : ℕ) (states : List State) (result : ℕ) (made : IsWellMade b) (missing : IsNowhere (IsMissing b)) (grown : Grows old new)
+    (frames : AreNumberedFrames (length old) b.frames) (walk : IsWalk old new b keeps count states) (rows : b.handlers ≢ [] → keeps ≡ true)
+    (guarded : IsFirst (IsUnguarded states b.frames b.handlers b.max_locals) count result) where
   first_clash : IsFirst (λ i. IsFlowClash old b i ⊎ HandlerClash old b i) (length b.code) result
-  first_clash = either_first (length b.code) (length states) result walk.first (instead_first (length states) result
-      (λ i lt u. let s = there i lt in unguarded_clashes old new b states i s.0 made missing grown frames s.1 (walk.each i s.0 s.1) u)
-      (λ i lt u. let s = there i lt in clash_unguarded old new b states i s.0 made missing grown frames s.1 (walk.each i s.0 s.1) u)
+  first_clash = either_first (length b.code) count result walk.first (instead_first count result
+      (λ i lt u. let s = there i lt (unguarded_row states b.frames b.handlers b.max_locals i u) in unguarded_clashes old new b states i s.0 made missing grown frames s.1 (walk.each i s.0 s.1) u)
+      (λ i lt u. let s = there i lt (some_row b.handlers u.0 u.1.row) in clash_unguarded old new b states i s.0 made missing grown frames s.1 (walk.each i s.0 s.1) u)
       guarded)
     where
-      there : (i : ℕ) → i < length states → (s : State) × (slice_get states i ≡ Some s)
-      there i lt = by (slice_get states i) refl
+      there : (i : ℕ) → i < count → b.handlers ≢ [] → (s : State) × (slice_get states i ≡ Some s)
+      there i lt some = by (slice_get states i) refl
         where
           by : (o : Option State) → slice_get states i ≡ o → (s : State) × (slice_get states i ≡ Some s)
           by (Some s) e = (s, e)
-          by None e = absurd (not_past states i lt e)
+          by None e = absurd (not_past states i (let all = walk.kept (rows some) in omega (arith, lt, all)) e)
 
   same : (i : ℕ) → state_of new b i ≡ state_of old b i
   same = same_states old new b grown frames
@@ -95,11 +103,11 @@ module _ (old new : Names) (b : Body) (states : List State) (result : ℕ) (made
     },
   )
 
-  pub all_checked : length b.code ≤ result → Checked new b × AreStates new b states
+  pub all_checked : length b.code ≤ result → Checked new b × (keeps ≡ true → AreStates new b states)
   all_checked all = (
     checked new b made.of_any_size.code.some missing (λ i c. first_clash.free i (let w = c.within in omega (arith, w, all)) (other_way new old b (λ j. sym (same j)) i c)),
-    record {
-      count = let w = walk.first.within in let r = guarded.within in omega (arith, w, r, all);
+    λ keep. record {
+      count = let k = walk.kept keep in let w = walk.first.within in let r = guarded.within in omega (arith, k, w, r, all);
       each = λ i s e. let k = walk.each i s e in record { is = same i ∙ k.is; numbered = k.numbered; well_made = k.well_made };
     },
   )
@@ -123,27 +131,33 @@ entry_kept names b s o n d p q r is numbered made = record { is = is ∙ entry_a
 pub rows_start : (b : Body) → IsWellMade b → All (λ h. h.start < h.end) b.handlers
 rows_start b made = All-weaker (IsHandler (length b.code)) (λ h. h.start < h.end) (λ h is. is.some) b.handlers made.of_any_size.handlers
 
-pub few_states : (old new : Names) (b : Body) (states : List State) → IsWellMade b → IsWalkFrom old new b states → length states ≤ 65535
-few_states old new b states made w = let few = few_insns b made in let in_code = w.walk.first.within in omega (arith, few, in_code)
+pub few_walked : (old new : Names) (b : Body) (keeps : Bool) (count : ℕ) (states : List State) → IsWellMade b → IsWalkFrom old new b keeps count states → count ≤ 65535
+few_walked old new b keeps count states made w = let few = few_insns b made in let in_code = w.walk.first.within in omega (arith, few, in_code)
+
+-- the states of a body with rows are kept
+pub kept_by_rows : (old new : Names) (b : Body) (keeps : Bool) (count : ℕ) (states kept : List State) (handlers : List Handler) → (b.handlers ≢ [] → keeps ≡ true) → kept ≡ states → handlers ≡ b.handlers
+    → IsWalkFrom old new b keeps count states → handlers ≢ [] → length kept ≡ count
+kept_by_rows old new b keeps count states kept handlers rows same framed w some = ap (λ (l : List State). length l) same ∙ w.walk.kept (rows (λ none. some (framed ∙ none)))
 
 -- the place was looked for in what the body and the walk have
-pub same_guard : (b : Body) (states kept : List State) (frames : List FrameAt) (handlers : List Handler) (slots place : ℕ) → kept ≡ states → frames ≡ b.frames → handlers ≡ b.handlers → slots ≡ b.max_locals
-    → IsFirst (IsUnguarded kept frames handlers slots) (length kept) place → IsFirst (IsUnguarded states b.frames b.handlers b.max_locals) (length states) place
-same_guard b states kept frames handlers slots place p q r t first =
-    subst (λ (ks : List State). IsFirst (IsUnguarded ks b.frames b.handlers b.max_locals) (length ks) place) p
-    (subst (λ (fs : List FrameAt). IsFirst (IsUnguarded kept fs b.handlers b.max_locals) (length kept) place) q
-    (subst (λ (hs : List Handler). IsFirst (IsUnguarded kept frames hs b.max_locals) (length kept) place) r
-    (subst (λ (n : ℕ). IsFirst (IsUnguarded kept frames handlers n) (length kept) place) t first)))
+pub same_guard : (b : Body) (states kept : List State) (frames : List FrameAt) (handlers : List Handler) (slots count place : ℕ) → kept ≡ states → frames ≡ b.frames → handlers ≡ b.handlers → slots ≡ b.max_locals
+    → IsFirst (IsUnguarded kept frames handlers slots) count place → IsFirst (IsUnguarded states b.frames b.handlers b.max_locals) count place
+same_guard b states kept frames handlers slots count place p q r t first =
+    subst (λ (ks : List State). IsFirst (IsUnguarded ks b.frames b.handlers b.max_locals) count place) p
+    (subst (λ (fs : List FrameAt). IsFirst (IsUnguarded kept fs b.handlers b.max_locals) count place) q
+    (subst (λ (hs : List Handler). IsFirst (IsUnguarded kept frames hs b.max_locals) count place) r
+    (subst (λ (n : ℕ). IsFirst (IsUnguarded kept frames handlers n) count place) t first)))
 
-pub clash_answered_at : (old new : Names) (b : Body) (states : List State) (place : ℕ) → IsWellMade b → IsNowhere (IsMissing b) → AreNumberedFrames (length old) b.frames
-    → IsWalkFrom old new b states → IsFirst (IsUnguarded states b.frames b.handlers b.max_locals) (length states) place → place < length b.code → FirstClash new b place
-clash_answered_at old new b states place made missing numbered w first lt =
-    clash_found w.base new b states place made missing w.grown (frames_numbered (length old) (length w.base) b.frames (grown_count old w.base w.before) numbered) w.walk first lt
+pub clash_answered_at : (old new : Names) (b : Body) (keeps : Bool) (count : ℕ) (states : List State) (place : ℕ) → IsWellMade b → IsNowhere (IsMissing b) → AreNumberedFrames (length old) b.frames
+    → IsWalkFrom old new b keeps count states → (b.handlers ≢ [] → keeps ≡ true) → IsFirst (IsUnguarded states b.frames b.handlers b.max_locals) count place → place < length b.code → FirstClash new b place
+clash_answered_at old new b keeps count states place made missing numbered w rows first lt =
+    clash_found w.base new b keeps count states place made missing w.grown (frames_numbered (length old) (length w.base) b.frames (grown_count old w.base w.before) numbered) w.walk rows first lt
 
-pub states_answered_all : (old new : Names) (b : Body) (states : List State) (place : ℕ) → IsWellMade b → IsNowhere (IsMissing b) → AreNumberedFrames (length old) b.frames
-    → IsWalkFrom old new b states → IsFirst (IsUnguarded states b.frames b.handlers b.max_locals) (length states) place → length b.code ≤ place → Checked new b × AreStates new b states
-states_answered_all old new b states place made missing numbered w first all =
-    all_checked w.base new b states place made missing w.grown (frames_numbered (length old) (length w.base) b.frames (grown_count old w.base w.before) numbered) w.walk first all
+pub states_answered_all : (old new : Names) (b : Body) (keeps : Bool) (count : ℕ) (states : List State) (place : ℕ) → IsWellMade b → IsNowhere (IsMissing b) → AreNumberedFrames (length old) b.frames
+    → IsWalkFrom old new b keeps count states → (b.handlers ≢ [] → keeps ≡ true) → IsFirst (IsUnguarded states b.frames b.handlers b.max_locals) count place → length b.code ≤ place
+    → Checked new b × (keeps ≡ true → AreStates new b states)
+states_answered_all old new b keeps count states place made missing numbered w rows first all =
+    all_checked w.base new b keeps count states place made missing w.grown (frames_numbered (length old) (length w.base) b.frames (grown_count old w.base w.before) numbered) w.walk rows first all
 
 pub frames_inside : (b : Body) (frames : List FrameAt) (count : ℕ) → IsWellMade b → frames ≡ b.frames → count ≡ length b.code → All (λ f. f.at < count) frames
 frames_inside b frames count made framed counted =

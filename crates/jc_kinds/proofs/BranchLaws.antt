@@ -57,10 +57,10 @@ both_parts test insn i = by (falls_through insn)
 pub fits_not : (test : ℕ → Bool) (insn : Insn) (i : ℕ) (r : Bool) → r ≡ (if falls_through insn then test (i + 1) else true) → r ≡ false → false ≡ list_all test (branches (Some insn) i)
 fits_not test insn i r is misses = sym (both_parts test insn i ∙ ap (λ (b : Bool). b && list_all test (targets_of insn)) (sym is ∙ misses))
 
-pub fits_all : (test : ℕ → Bool) (insn : Insn) (i : ℕ) (r jumps : Bool) (places : List ℕ) → r ≡ (if falls_through insn then test (i + 1) else true) → r ≡ true
-    → places ≡ first_seen (targets_of insn) → jumps ≡ list_all test places → jumps ≡ list_all test (branches (Some insn) i)
-fits_all test insn i r jumps places is holds once all =
-    all ∙ ap (list_all test) once ∙ seen_all test (targets_of insn)
+pub fits_all : (test : ℕ → Bool) (insn : Insn) (i : ℕ) (r jumps : Bool) → r ≡ (if falls_through insn then test (i + 1) else true) → r ≡ true
+    → jumps ≡ list_all test (targets_of insn) → jumps ≡ list_all test (branches (Some insn) i)
+fits_all test insn i r jumps is holds all =
+    all
     ∙ sym (both_parts test insn i ∙ ap (λ (b : Bool). b && list_all test (targets_of insn)) (sym is ∙ holds))
 
 -- ---- one instruction
@@ -117,17 +117,17 @@ step_made old new b c code frames behind i s left next o insn fits made numbered
 
 -- ---- the first one
 
-pub first_made : (old : Names) (b : Body) (frames : List FrameAt) (entry s : State) (o : Option State) (states : List State) → IsWellMade b → AreNumberedFrames (length old) b.frames → IsKeptEntry old b entry → frames ≡ b.frames
-    → Begins frames entry o → o ≡ Some s → states ≡ [] → IsWalking old old b states 0 s
-first_made old b frames entry s o states made numbered kept framed begins some none =
+pub first_made : (old : Names) (b : Body) (keeps : Bool) (frames : List FrameAt) (entry s : State) (o : Option State) (states : List State) → IsWellMade b → AreNumberedFrames (length old) b.frames → IsKeptEntry old b entry → frames ≡ b.frames
+    → Begins frames entry o → o ≡ Some s → states ≡ [] → IsWalking old old b keeps states 0 s
+first_made old b keeps frames entry s o states made numbered kept framed begins some none =
     let there : Begins b.frames entry (Some s) = subst (Begins b.frames entry) some (subst (λ (l : List FrameAt). Begins l entry o) framed begins) in
     let both = kept_made old old b 0 entry made numbered (grows_none old) kept.numbered kept.well_made (frame_in b.frames 0) refl in
-    subst (λ (l : List State). IsWalking old old b l 0 s) (sym none)
-    (walk_begins old b entry s kept.is
+    subst (λ (l : List State). IsWalking old old b keeps l 0 s) (sym none)
+    (walk_begins old b keeps entry s kept.is
     (subst (IsState b.code b.max_locals b.max_stack) (sym there.1) both.1)
     (subst (IsNumberedState (length old)) (sym there.1) both.0)
     there)
 
-pub first_not : (old : Names) (b : Body) (frames : List FrameAt) (entry : State) (o : Option State) (states : List State) → IsKeptEntry old b entry → frames ≡ b.frames → Begins frames entry o → o ≡ None → states ≡ [] → IsWalk old old b states
-first_not old b frames entry o states kept framed begins none empty =
-    subst (IsWalk old old b) (sym empty) (walk_begins_not old b entry kept.is (subst (Begins b.frames entry) none (subst (λ (l : List FrameAt). Begins l entry o) framed begins)))
+pub first_not : (old : Names) (b : Body) (keeps : Bool) (frames : List FrameAt) (entry : State) (o : Option State) (states : List State) → IsKeptEntry old b entry → frames ≡ b.frames → Begins frames entry o → o ≡ None → states ≡ [] → IsWalk old old b keeps 0 states
+first_not old b keeps frames entry o states kept framed begins none empty =
+    subst (IsWalk old old b keeps 0) (sym empty) (walk_begins_not old b keeps entry kept.is (subst (Begins b.frames entry) none (subst (λ (l : List FrameAt). Begins l entry o) framed begins)))

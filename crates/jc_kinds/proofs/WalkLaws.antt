@@ -3,7 +3,7 @@ use Rattle.std.proofs.Common.{◌≡◌, ◌⊎◌, inl, inr, ⊎_elim, ℕ, zer
 use Rattle.std.specs.Option.{option_and_then}
 use Rattle.std.specs.List.{Contains, All, AllByRecursion, list_all, slice_get}
 use Rattle.std.proofs.lemmas.Bool.{cases_lt, and_parts, true≢false}
-use Rattle.std.proofs.lemmas.List.{length_push}
+use Rattle.std.proofs.lemmas.List.{length_push, append-nil}
 use Rattle.std.proofs.lemmas.List.Elements.{All-contains, All-from_recursion}
 use Rattle.jc_base.specs.declared.kind.State.{State}
 use Rattle.jc_base.specs.declared.body.Body.{Body}
@@ -20,7 +20,7 @@ use Rattle.jc_kinds.specs.Checked.{JumpsTo, LeadsTo, NeedsFrame, IsMissing}
 use Rattle.jc_kinds.specs.Checking.{branches}
 use Rattle.jc_kinds.specs.Frames.{frame_in}
 use Rattle.jc_kinds.specs.KindFits.{state_fits}
-use Rattle.jc_kinds.specs.Walk.{fits_there, fits_frame, Begins, IsStep, StopsAt, IsKeptAt, IsFlowClash, IsWalk}
+use Rattle.jc_kinds.specs.Walk.{fits_there, fits_frame, Begins, IsStep, StopsAt, IsKeptAt, IsFlowClash, kept_of, IsWalk}
 use Rattle.std.proofs.lemmas.Option.{none-some, same_Some}
 use Rattle.jc_base.proofs.TestLaws.{fails_where, stands_in, first_in, later_in}
 use Rattle.jc_kinds.proofs.FitsLaws.{fits_itself, state_decided}
@@ -206,38 +206,49 @@ kept_on old before after b i s g k = record {
   well_made = k.well_made;
 }
 
--- the states in front of an instruction, and that before it
-pub record IsWalking (old now : Names) (b : Body) (states : List State) (i : ℕ) (state : State) : Type 0 where
+-- the states in front of an instruction, if they are kept, and that before it
+pub record IsWalking (old now : Names) (b : Body) (keeps : Bool) (states : List State) (i : ℕ) (state : State) : Type 0 where
   pub grown : Grows old now
-  pub count : length states ≡ i
+  pub kept : keeps ≡ true → length states ≡ i
   pub each : (k : ℕ) (s : State) → slice_get states k ≡ Some s → IsKeptAt old now b k s
   pub free : (k : ℕ) → k < i → IsFlowClash old b k → ⊥
   pub here : i < length b.code → IsKeptAt old now b i state
   pub entry : FitsThere (Some (entry_of b)) (state_of old b 0)
 
-pub walk_begins : (old : Names) (b : Body) (entry s : State) → seen old entry ≡ entry_of b → IsState b.code b.max_locals b.max_stack s → IsNumberedState (length old) s
-    → Begins b.frames entry (Some s) → IsWalking old old b [] 0 s
-walk_begins old b entry s is made numbered begins =
+pub walk_begins : (old : Names) (b : Body) (keeps : Bool) (entry s : State) → seen old entry ≡ entry_of b → IsState b.code b.max_locals b.max_stack s → IsNumberedState (length old) s
+    → Begins b.frames entry (Some s) → IsWalking old old b keeps [] 0 s
+walk_begins old b keeps entry s is made numbered begins =
     let there = begins_there old b entry s is begins in record {
       grown = grows_none old;
-      count = refl;
+      kept = λ k. refl;
       each = λ k t e. absurd (none-some _ e);
       free = λ k lt f. absurd (omega (arith, lt));
       here = λ lt. record { is = there.0; numbered = numbered; well_made = made };
       entry = there.1;
     }
 
-pub walk_on : (old before after : Names) (b : Body) (states more : List State) (i : ℕ) (s next : State) → IsWellMade b → IsNowhere (IsMissing b) → AreNumberedFrames (length old) b.frames
-    → i < length b.code → IsWalking old before b states i s → Grows before after → IsStep before after b i s next → more ≡ states ++ s ∷ [] → IsWalking old after b more (i + 1) next
-walk_on old before after b states more i s next made missing frames lt w g st is =
+-- the states that are kept, with that before one more instruction
+each_more : (old now : Names) (b : Body) (keeps : Bool) (states more : List State) (i : ℕ) (s : State) → (keeps ≡ true → length states ≡ i)
+    → ((k : ℕ) (t : State) → slice_get states k ≡ Some t → IsKeptAt old now b k t) → IsKeptAt old now b i s → more ≡ states ++ kept_of keeps s
+    → (k : ℕ) (t : State) → slice_get more k ≡ Some t → IsKeptAt old now b k t
+each_more old now b true states more i s count each here is k t e = ⊎_elim
+    (λ old_one. each k t old_one)
+    (λ last. subst (λ (n : ℕ). IsKeptAt old now b n t) (sym (last.0 ∙ count refl)) (subst (IsKeptAt old now b i) last.1 here))
+    (pushed states s t k (sym (ap (λ (l : List State). slice_get l k) is) ∙ e))
+each_more old now b false states more i s count each here is k t e = each k t (sym (ap (λ (l : List State). slice_get l k) (is ∙ append-nil states)) ∙ e)
+
+kept_more : (keeps : Bool) (states more : List State) (i : ℕ) (s : State) → (keeps ≡ true → length states ≡ i) → more ≡ states ++ kept_of keeps s → keeps ≡ true → length more ≡ i + 1
+kept_more true states more i s count is k = ap length is ∙ length_push states s ∙ ap (λ (n : ℕ). n + 1) (count refl)
+kept_more false states more i s count is k = absurd (true≢false (sym k))
+
+pub walk_on : (old before after : Names) (b : Body) (keeps : Bool) (states more : List State) (i : ℕ) (s next : State) → IsWellMade b → IsNowhere (IsMissing b) → AreNumberedFrames (length old) b.frames
+    → i < length b.code → IsWalking old before b keeps states i s → Grows before after → IsStep before after b i s next → more ≡ states ++ kept_of keeps s → IsWalking old after b keeps more (i + 1) next
+walk_on old before after b keeps states more i s next made missing frames lt w g st is =
     let grown = grows_both old before after w.grown g in
     let here = w.here lt in record {
       grown = grown;
-      count = ap length is ∙ length_push states s ∙ ap (λ (n : ℕ). n + 1) w.count;
-      each = λ k t e. ⊎_elim
-          (λ old_one. kept_on old before after b k t g (w.each k t old_one))
-          (λ last. subst (λ (n : ℕ). IsKeptAt old after b n t) (sym (last.0 ∙ w.count)) (subst (IsKeptAt old after b i) last.1 (kept_on old before after b i s g here)))
-          (pushed states s t k (sym (ap (λ (l : List State). slice_get l k) is) ∙ e));
+      kept = kept_more keeps states more i s w.kept is;
+      each = each_more old after b keeps states more i s w.kept (λ k t e. kept_on old before after b k t g (w.each k t e)) (kept_on old before after b i s g here) is;
       free = λ k less f. ⊎_elim
           (λ low. w.free k low f)
           (λ high. let same : k ≡ i = omega (arith, less, high) in step_passes old before after b i s made missing grown frames lt here.is next w.entry st (subst (IsFlowClash old b) same f))
@@ -247,29 +258,32 @@ walk_on old before after b states more i s next made missing frames lt w g st is
       entry = w.entry;
     }
 
-pub walk_stops : (old before after : Names) (b : Body) (states : List State) (i : ℕ) (s : State) → IsWellMade b → IsNowhere (IsMissing b) → AreNumberedFrames (length old) b.frames
-    → i < length b.code → IsWalking old before b states i s → Grows before after → StopsAt before after b i s → IsWalk old after b states
-walk_stops old before after b states i s made missing frames lt w g stop = record {
+pub walk_stops : (old before after : Names) (b : Body) (keeps : Bool) (states : List State) (i : ℕ) (s : State) → IsWellMade b → IsNowhere (IsMissing b) → AreNumberedFrames (length old) b.frames
+    → i < length b.code → IsWalking old before b keeps states i s → Grows before after → StopsAt before after b i s → IsWalk old after b keeps i states
+walk_stops old before after b keeps states i s made missing frames lt w g stop = record {
+  first = record {
+    within = omega (arith, lt);
+    free = w.free;
+    found = λ less. stop_clashes old before after b i s made missing (grows_both old before after w.grown g) frames lt (w.here lt).is stop;
+  };
   each = λ k t e. kept_on old before after b k t g (w.each k t e);
-  first = record {
-    within = let c = w.count in omega (arith, c, lt);
-    free = λ k less f. w.free k (let c = w.count in omega (arith, c, less)) f;
-    found = λ less. subst (IsFlowClash old b) (sym w.count) (stop_clashes old before after b i s made missing (grows_both old before after w.grown g) frames lt (w.here lt).is stop);
-  };
+  kept = w.kept;
 }
 
-pub walk_ends : (old now : Names) (b : Body) (states : List State) (i : ℕ) (s : State) → i ≡ length b.code → IsWalking old now b states i s → IsWalk old now b states
-walk_ends old now b states i s all w = record {
+pub walk_ends : (old now : Names) (b : Body) (keeps : Bool) (states : List State) (i count : ℕ) (s : State) → i ≡ count → count ≡ length b.code → IsWalking old now b keeps states i s → IsWalk old now b keeps count states
+walk_ends old now b keeps states i count s all same w = record {
+  first = record {
+    within = omega (arith, same);
+    free = λ k less f. w.free k (omega (arith, all, less)) f;
+    found = λ less. absurd (omega (arith, same, less));
+  };
   each = w.each;
-  first = record {
-    within = let c = w.count in omega (arith, c, all);
-    free = λ k less f. w.free k (let c = w.count in omega (arith, c, less)) f;
-    found = λ less. absurd (let c = w.count in omega (arith, c, all, less));
-  };
+  kept = λ k. w.kept k ∙ all;
 }
 
-pub walk_begins_not : (old : Names) (b : Body) (entry : State) → seen old entry ≡ entry_of b → fits_frame b.frames entry 0 ≡ false → IsWalk old old b []
-walk_begins_not old b entry is misses = record {
-  each = λ k t e. absurd (none-some _ e);
+pub walk_begins_not : (old : Names) (b : Body) (keeps : Bool) (entry : State) → seen old entry ≡ entry_of b → fits_frame b.frames entry 0 ≡ false → IsWalk old old b keeps 0 []
+walk_begins_not old b keeps entry is misses = record {
   first = record { within = omega arith; free = λ k less f. absurd (omega (arith, less)); found = λ less. begins_not old b entry is misses };
+  each = λ k t e. absurd (none-some _ e);
+  kept = λ k. refl;
 }

@@ -41,10 +41,10 @@ abbrev pub Said : Fail Refusal → (Refusal → Type 0) → Type 0
 Said fails.Memory Fact = ⊤
 Said (fails.Said refusal) Fact = Fact refusal
 
--- the states, or the reason for which there are none
-abbrev pub IsAnswer : Names → Body → Result (Vec State Global) (Fail Refusal) → Type 0
-IsAnswer names b (Ok states) = Checked names b × AreStates names b states.items
-IsAnswer names b (Err e) = Said e (IsKindRefusal names b)
+-- the body passes, and what is found is as it should be, or the reason for which it doesn't pass
+abbrev pub IsAnswer : {X : Type 0} → Names → Body → (X → Type 0) → Result X (Fail Refusal) → Type 0
+IsAnswer names b Fact (Ok found) = Checked names b × Fact found
+IsAnswer names b Fact (Err e) = Said e (IsKindRefusal names b)
 
 -- ---- refusals
 

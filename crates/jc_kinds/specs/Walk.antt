@@ -1,5 +1,5 @@
 -- The walk over the states before the instructions.
-use Rattle.std.specs.Prelude.{◌≡◌, ◌⊎◌, ℕ, ◌+◌, Bool, true, false, List, length, Option, Some, None, slice_get, unwrap_or}
+use Rattle.std.specs.Prelude.{◌≡◌, ◌⊎◌, ℕ, ◌+◌, Bool, true, false, List, [], ◌∷◌, length, Option, Some, None, slice_get, unwrap_or}
 use Rattle.std.specs.List.{list_all}
 use Rattle.jc_base.specs.declared.kind.State.{State}
 use Rattle.jc_base.specs.declared.body.FrameAt.{FrameAt}
@@ -65,14 +65,24 @@ pub record IsKeptEntry (names : Names) (b : Body) (s : State) : Type 0 where
 abbrev pub IsFlowClash : Names → Body → ℕ → Type 0
 IsFlowClash names b i = EntryClash names b i ⊎ (NoAfter names b i ⊎ BranchClash names b i)
 
--- the states before the instructions in front of the first one at which this is so
-pub record IsWalk (old new : Names) (b : Body) (states : List State) : Type 0 where
+-- a state as a list, and the state that is kept, if states are
+abbrev pub listed : Option State → List State
+listed None = []
+listed (Some s) = s ∷ []
+
+abbrev pub kept_of : Bool → State → List State
+kept_of true s = s ∷ []
+kept_of false s = []
+
+-- the first instruction at which this is so, and the states before those in front of it, where states are kept
+pub record IsWalk (old new : Names) (b : Body) (keeps : Bool) (count : ℕ) (states : List State) : Type 0 where
+  pub first : IsFirst (IsFlowClash old b) (length b.code) count
   pub each : (i : ℕ) (s : State) → slice_get states i ≡ Some s → IsKeptAt old new b i s
-  pub first : IsFirst (IsFlowClash old b) (length b.code) (length states)
+  pub kept : keeps ≡ true → length states ≡ count
 
 -- the same, under names that were numbered on the way
-pub record IsWalkFrom (old new : Names) (b : Body) (states : List State) : Type 0 where
+pub record IsWalkFrom (old new : Names) (b : Body) (keeps : Bool) (count : ℕ) (states : List State) : Type 0 where
   pub base : Names
   pub before : Grows old base
   pub grown : Grows base new
-  pub walk : IsWalk base new b states
+  pub walk : IsWalk base new b keeps count states

@@ -1,5 +1,5 @@
 //! The kind check of a body.
-ghost use Rattle.std.specs.Prelude.{◌≡◌, ◌⊎◌, ⊤, ℕ, Some, length, IfOk, IfErr, MatchResult};
+ghost use Rattle.std.specs.Prelude.{◌≡◌, ◌≢◌, ◌⊎◌, ⊤, ℕ, [], true, Some, length, IfOk, IfErr, MatchResult};
 ghost use Rattle.jc_base.specs.Held.{Grows, AreNumberedFrames};
 ghost use Rattle.jc_base.specs.WellMade.{IsWellMade};
 ghost use Rattle.jc_base.specs.Least.{IsNowhere};
@@ -11,7 +11,7 @@ ghost use Rattle.jc_kinds.specs.Answers.{AreStates, IsKindRefusal, Said, IsAnswe
 use crate::frames::frame_numbers;
 use crate::guarded::first_unguarded;
 use crate::missing::first_missing;
-use crate::walk::walk;
+use crate::walk::{Walked, walk};
 use jc_after::Effects;
 use jc_base::{Body, Fail, Memory, Names, Refusal, RefusalKind, State, entry_state};
 use std::alloc::Global;
@@ -37,50 +37,65 @@ fn entry_of(alloc: Global, body: &Body, names: &mut Names) -> Result<State, Memo
     }
 }
 
-/// The states before the instructions in front of the first one whose states don't fit.
-fn states_before_clash(
+/// The walk up to the first instruction from which control goes on with no state that fits.
+fn walk_body(
     alloc: Global,
     body: &Body,
     numbers: &[u32],
+    keeps: bool,
     names: &mut Names,
-) -> Result<Vec<State>, Memory>
+) -> Result<Walked, Memory>
     requires body { IsWellMade body.now }
     requires frames { AreNumberedFrames (length names.old) body.now.frames }
     requires numbers { AreNumbers body.now.frames (length body.now.code) numbers.now }
     requires missing { IsNowhere (IsMissing body.now) }
-    ensures walk { IfOk result (λ states. IsWalkFrom names.old names.new body.now states.items) }
+    ensures walk { IfOk result (λ walked. IsWalkFrom names.old names.new body.now keeps walked.count walked.states.items) }
     ensures names { Grows names.old names.new }
 {
     let entry = entry_of(alloc, body, names)?;
     let effects = Effects::of(alloc, body, names)?;
-    walk(alloc, &effects, body, numbers, entry, names)
+    walk(alloc, &effects, body, numbers, entry, keeps, names)
 }
 
-/// The states, or why there are none.
-fn answer(alloc: Global, body: &Body, names: &mut Names) -> Result<Vec<State>, Fail<Refusal>>
+/// Whether states are kept: where they are wanted, and where handlers are compared with them.
+fn keeps_states(body: &Body, wanted: bool) -> bool
+    ensures wanted { wanted ≡ true → result ≡ true }
+    ensures rows { body.now.handlers ≢ [] → result ≡ true }
+{
+    wanted || !body.handlers.is_empty()
+}
+
+/// The states where they are wanted, or why the body doesn't pass.
+fn answer(
+    alloc: Global,
+    body: &Body,
+    wanted: bool,
+    names: &mut Names,
+) -> Result<Vec<State>, Fail<Refusal>>
     requires body { IsWellMade body.now }
     requires frames { AreNumberedFrames (length names.old) body.now.frames }
-    ensures answer { IsAnswer names.new body.now result }
+    ensures answer { IsAnswer names.new body.now (λ states. wanted ≡ true → AreStates names.new body.now states.items) result }
     ensures names { Grows names.old names.new }
 {
     let numbers = frame_numbers(alloc, &body.frames, body.code.len())?;
     if let Some(place) = first_missing(alloc, body, &numbers)? {
         return Err(refused(body, RefusalKind::FrameMissing, place));
     }
-    let states = states_before_clash(alloc, body, &numbers, names)?;
+    let walked = walk_body(alloc, body, &numbers, keeps_states(body, wanted), names)?;
     let slots = usize::from(body.max_locals);
     let place = first_unguarded(
         alloc,
-        &states,
+        &walked.states,
         &body.frames,
         &numbers,
         &body.handlers,
         slots,
+        walked.count,
     )?;
     if place < body.code.len() {
         return Err(refused(body, RefusalKind::FrameClash, place as u32));
     }
-    Ok(states)
+    Ok(walked.states)
 }
 
 /// A refusal of the method.
@@ -122,5 +137,31 @@ pub fn states(alloc: Global, body: &Body, names: &mut Names) -> Result<Vec<State
         → MatchResult result (λ _. ⊥) (λ e. (e ≡ Fail.Memory) ⊎ (e ≡ Fail.Said (has_clash body.now i))) }
     ensures names { Grows names.old names.new }
 {
-    answer(alloc, body, names)
+    answer(alloc, body, true, names)
+}
+
+/// Whether a body passes the kind check (JVM Specification 4.10.1), as `states` finds out. No list of states is made,
+/// but where the body has exception rows.
+///
+/// # Errors
+///
+/// As those of `states`.
+pub fn check_body(alloc: Global, body: &Body, names: &mut Names) -> Result<(), Fail<Refusal>>
+    requires body { IsWellMade body.now }
+    requires frames { AreNumberedFrames (length names.old) body.now.frames }
+    // What is answered is so.
+    ensures passes { IfOk result (λ _. Checked names.new body.now) }
+    ensures refused { IfErr result (λ e. Said e (IsKindRefusal names.new body.now)) }
+    // What is so is answered, unless memory runs out.
+    ensures checked { Checked names.new body.now → MatchResult result (λ _. ⊤) (λ e. e ≡ Fail.Memory) }
+    ensures missing { (i : ℕ) → FirstMissing body.now i
+        → MatchResult result (λ _. ⊥) (λ e. (e ≡ Fail.Memory) ⊎ (e ≡ Fail.Said (lacks_frame body.now i))) }
+    ensures clash { (i : ℕ) → FirstClash names.new body.now i
+        → MatchResult result (λ _. ⊥) (λ e. (e ≡ Fail.Memory) ⊎ (e ≡ Fail.Said (has_clash body.now i))) }
+    ensures names { Grows names.old names.new }
+{
+    match answer(alloc, body, false, names) {
+        Ok(_) => Ok(()),
+        Err(fail) => Err(fail),
+    }
 }

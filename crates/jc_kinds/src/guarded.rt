@@ -1,6 +1,6 @@
 //! The first instruction whose local variables don't fit a handler that guards it (JVM Specification 4.10.1.6).
 //! The work is in proportion to the local variables times the instructions and the rows together.
-ghost use Rattle.std.specs.Prelude.{◌≡◌, ◌<◌, ◌≤◌, false, true, [], ◌∷◌, length, All, IfOk};
+ghost use Rattle.std.specs.Prelude.{◌≡◌, ◌≢◌, ◌<◌, ◌≤◌, false, true, [], ◌∷◌, length, All, IfOk};
 ghost use Rattle.jc_kinds.specs.First.{IsFirst};
 ghost use Rattle.jc_kinds.specs.Frames.{frame_in, AreNumbers};
 ghost use Rattle.jc_kinds.specs.Runs.{AreEnds};
@@ -145,11 +145,7 @@ fn first_in_column(
 }
 
 /// The first instruction whose state before it doesn't fit a handler that guards it, or the number of states.
-///
-/// # Errors
-///
-/// `Memory` where memory was refused.
-pub fn first_unguarded(
+fn first_of_states(
     alloc: Global,
     states: &[State],
     frames: &[FrameAt],
@@ -172,4 +168,31 @@ pub fn first_unguarded(
         );
     }
     Ok(first)
+}
+
+/// The first of so many instructions whose state before it doesn't fit a handler that guards it, or their number. The
+/// states are looked at only where there is a handler.
+///
+/// # Errors
+///
+/// `Memory` where memory was refused.
+pub fn first_unguarded(
+    alloc: Global,
+    states: &[State],
+    frames: &[FrameAt],
+    numbers: &[u32],
+    handlers: &[Handler],
+    slots: usize,
+    count: usize,
+) -> Result<usize, Memory>
+    requires small { count < 4294967296 }
+    requires states { handlers.now ≢ [] → length states.now ≡ count }
+    requires rows { All (λ h. h.start < h.end) handlers.now }
+    requires numbers { AreNumbers frames.now (length numbers.now) numbers.now }
+    ensures { IfOk result (IsFirst (IsUnguarded states.now frames.now handlers.now slots) count) }
+{
+    if handlers.is_empty() {
+        return Ok(count);
+    }
+    Ok(first_of_states(alloc, states, frames, numbers, handlers, slots)?)
 }

@@ -1,6 +1,7 @@
 //! The states before the instructions, one after the other (JVM Specification 4.10.1.6).
-ghost use Rattle.std.specs.Prelude.{◌≡◌, ◌<◌, true, length, IfOk, Some, unwrap_or, if◌then◌else◌};
+ghost use Rattle.std.specs.Prelude.{◌≡◌, ◌<◌, ◌++◌, true, length, IfOk, OnOk, Some, unwrap_or, if◌then◌else◌};
 ghost use Rattle.std.specs.List.{list_all};
+ghost use Rattle.jc_base.specs.Flow.{targets_of};
 ghost use Rattle.jc_base.specs.Held.{Grows, IsNumberedState, AreNumberedFrames};
 ghost use Rattle.jc_base.specs.Least.{IsNowhere};
 ghost use Rattle.jc_base.specs.WellMade.{IsWellMade, IsState};
@@ -9,7 +10,7 @@ ghost use Rattle.jc_kinds.specs.Checked.{IsMissing};
 ghost use Rattle.jc_kinds.specs.Checking.{branches};
 ghost use Rattle.jc_kinds.specs.States.{falls_through};
 ghost use Rattle.jc_kinds.specs.Frames.{frame_in, AreNumbers};
-ghost use Rattle.jc_kinds.specs.Walk.{fits_frame, Begins, Steps, IsKeptEntry, IsWalk};
+ghost use Rattle.jc_kinds.specs.Walk.{fits_frame, Begins, Steps, IsKeptEntry, listed, kept_of, IsWalk};
 
 use crate::fits::fits_state;
 use crate::frames::frame_at;
@@ -53,6 +54,27 @@ fn fits_next(frames: &[FrameAt], numbers: &[u32], insn: &Insn, next: u32, state:
     }
 }
 
+/// Whether a state fits the frames where an instruction may jump.
+fn fits_targets(
+    alloc: Global,
+    frames: &[FrameAt],
+    numbers: &[u32],
+    insn: &Insn,
+    state: &State,
+) -> Result<bool, Memory>
+    requires { AreNumbers frames.now (length numbers.now) numbers.now }
+    ensures { IfOk result (λ fits. fits ≡ list_all (fits_frame frames.now state.now) (targets_of insn.now)) }
+{
+    match insn {
+        Insn::Jump { to, .. } => Ok(fits_frame(frames, numbers, state, *to)),
+        Insn::Table { .. } | Insn::Lookup { .. } => {
+            let places = insn.distinct_targets(alloc)?;
+            Ok(fits_frames(frames, numbers, state, &places))
+        }
+        _ => Ok(true),
+    }
+}
+
 /// Whether the state after an instruction fits the frames where its branches lead.
 fn fits_branches(
     alloc: Global,
@@ -69,8 +91,7 @@ fn fits_branches(
     if !fits_next(frames, numbers, insn, at + 1, state) {
         return Ok(false);
     }
-    let places = insn.distinct_targets(alloc)?;
-    Ok(fits_frames(frames, numbers, state, &places))
+    Ok(fits_targets(alloc, frames, numbers, insn, state)?)
 }
 
 /// The state before the first instruction, where that in which the method begins fits it.
@@ -111,14 +132,14 @@ fn next_state(
     }
 }
 
-/// The state before the instruction behind this one, or none where this one has no state after it or where that
-/// state doesn't fit.
+/// The state before the instruction behind this one, made of that before it, or none where this one has no state after
+/// it or where that state doesn't fit.
 fn step(
     alloc: Global,
     effects: &Effects<'_>,
     body: &Body,
     numbers: &[u32],
-    state: &State,
+    state: State,
     at: u32,
     names: &mut Names,
 ) -> Result<Option<State>, Memory>
@@ -127,14 +148,14 @@ fn step(
     requires made { IsWellMade body.now }
     requires numbers { AreNumbers body.now.frames (length body.now.code) numbers.now }
     requires place { at < length body.now.code }
-    requires state { IsState body.now.code body.now.max_locals body.now.max_stack state.now }
-    requires numbered { IsNumberedState (length names.old) state.now }
+    requires state { IsState body.now.code body.now.max_locals body.now.max_stack state }
+    requires numbered { IsNumberedState (length names.old) state }
     requires frames { AreNumberedFrames (length names.old) body.now.frames }
-    ensures steps { IfOk result (Steps names.old names.new body.now at state.now) }
+    ensures steps { IfOk result (Steps names.old names.new body.now at state) }
     ensures names { Grows names.old names.new }
     ensures effects { AreEffects names.new effects.now }
 {
-    let Some(left) = effects.after(alloc, state, at, names)? else {
+    let Some(left) = effects.after(alloc, &state, at, names)? else {
         return Ok(None);
     };
     let insn = &body.code[at as usize];
@@ -144,8 +165,42 @@ fn step(
     Ok(Some(next_state(alloc, &body.frames, numbers, at + 1, left)?))
 }
 
-/// The states before the instructions, up to the first one from which control goes on with a state that isn't
-/// there or that doesn't fit.
+/// A copy of a state, where it is to be kept.
+fn kept(alloc: Global, keeps: bool, state: &State) -> Result<Option<State>, Memory>
+    ensures { IfOk result (λ copy. listed copy ≡ kept_of keeps state.now) }
+{
+    if keeps {
+        Ok(Some(state.try_clone(alloc)?))
+    } else {
+        Ok(None)
+    }
+}
+
+/// Puts a state that is kept last.
+fn put(states: &mut Vec<State>, kept: Option<State>) -> Result<(), Memory>
+    ensures { OnOk result (states.new.items ≡ states.old.items ++ listed kept) }
+{
+    match kept {
+        Some(state) => {
+            states.push(state)?;
+            Ok(())
+        }
+        None => Ok(()),
+    }
+}
+
+/// What a walk over a body found.
+#[derive(Drop)]
+pub struct Walked {
+    /// The first instruction from which control goes on with a state that isn't there or that doesn't fit, or the
+    /// number of instructions.
+    pub count: usize,
+    /// The states before the instructions in front of it, where they are kept.
+    pub states: Vec<State>,
+}
+
+/// Walks over the states before the instructions, up to the first one from which control goes on with a state that
+/// isn't there or that doesn't fit. Where states aren't kept, there is one at a time.
 ///
 /// # Errors
 ///
@@ -156,8 +211,9 @@ pub fn walk(
     body: &Body,
     numbers: &[u32],
     entry: State,
+    keeps: bool,
     names: &mut Names,
-) -> Result<Vec<State>, Memory>
+) -> Result<Walked, Memory>
     requires effects { AreEffects names.old effects.now }
     requires body { body_of effects.now ≡ body.now }
     requires made { IsWellMade body.now }
@@ -165,21 +221,22 @@ pub fn walk(
     requires entry { IsKeptEntry names.old body.now entry }
     requires frames { AreNumberedFrames (length names.old) body.now.frames }
     requires missing { IsNowhere (IsMissing body.now) }
-    ensures walk { IfOk result (λ states. IsWalk names.old names.new body.now states.items) }
+    ensures walk { IfOk result (λ walked. IsWalk names.old names.new body.now keeps walked.count walked.states.items) }
     ensures names { Grows names.old names.new }
 {
     let mut states = Vec::new(alloc);
+    let count = body.code.len();
     let mut state = match begin(alloc, &body.frames, numbers, entry)? {
         Some(first) => first,
-        None => return Ok(states),
+        None => return Ok(Walked { count: 0, states }),
     };
-    'walking: for at in 0..body.code.len() {
-        let next = match step(alloc, effects, body, numbers, &state, at as u32, names)? {
+    'walking: for at in 0..count {
+        let copy = kept(alloc, keeps, &state)?;
+        state = match step(alloc, effects, body, numbers, state, at as u32, names)? {
             Some(next) => next,
-            None => return Ok(states),
+            None => return Ok(Walked { count: at, states }),
         };
-        states.push(state)?;
-        state = next;
+        put(&mut states, copy)?;
     }
-    Ok(states)
+    Ok(Walked { count, states })
 }

@@ -2,7 +2,7 @@ use Rattle.std.proofs.Common.{length}
 use Rattle.jc_base.proofs.MetNamesLaws.{grows_both}
 use Rattle.jc_kinds.proofs.AnswerLaws.{entry_on}
 use Rattle.jc_kinds.proofs.NumberLaws.{grown_count, frames_numbered}
-use Rattle.jc_kinds.proofs.check.states_before_clash.Goals as goal
+use Rattle.jc_kinds.proofs.check.walk_body.Goals as goal
 
 pub walk-requires-clause-entry : goal.walk-requires-clause-entry
 walk-requires-clause-entry c = entry_on c.entry_of.new.names c.of.new.names c.args.body.now c.in_ok-entry.entry c.in_ok-effects.ensures.names c.in_ok-entry.ensures.state

@@ -3,7 +3,7 @@ use Rattle.jc_base.specs.declared.kind.Kind.{Kind}
 use Rattle.jc_kinds.specs.First.{IsFirst}
 use Rattle.jc_kinds.specs.Guarded.{IsUnfitInColumn}
 use Rattle.jc_kinds.proofs.GuardLaws.{no_slots, next_slot}
-use Rattle.jc_kinds.proofs.guarded.first_unguarded.Goals as goal
+use Rattle.jc_kinds.proofs.guarded.first_of_states.Goals as goal
 
 pub slots-init : goal.slots-init
 slots-init c = no_slots c.args.states.now c.args.frames.now c.args.handlers.now (length c.args.states.now) c.first_uncaught-first.result c.first_uncaught-first.ensures

@@ -1,7 +1,7 @@
 use Rattle.std.proofs.Common.{length}
 use Rattle.jc_kinds.specs.First.{IsFirst}
 use Rattle.jc_kinds.specs.Guarded.{IsUnguarded}
-use Rattle.jc_kinds.proofs.guarded.first_unguarded.Given as goal
+use Rattle.jc_kinds.proofs.guarded.first_of_states.Given as goal
 
 -- the first place by the local variables so far
 abbrev pub invariant-slots : goal.invariant-slots

@@ -1,4 +1,3 @@
-use Rattle.std.proofs.Common.{◌∙◌}
 use Rattle.jc_kinds.specs.Walk.{fits_frame}
 use Rattle.jc_kinds.proofs.BranchLaws.{fits_not, fits_all}
 use Rattle.jc_kinds.proofs.walk.fits_branches.Goals as goal
@@ -7,5 +6,4 @@ pub returns-then-not-fits_next : goal.returns-then-not-fits_next
 returns-then-not-fits_next c = fits_not (fits_frame c.args.frames.now c.args.state.now) c.args.insn.now c.args.at c.fits_next.result c.fits_next.ensures c.if-not-fits_next.true
 
 pub returns : goal.returns
-returns c = fits_all (fits_frame c.args.frames.now c.args.state.now) c.args.insn.now c.args.at c.fits_next.result c.fits_frames.result c.deref.result.now c.fits_next.ensures c.if-not-fits_next.false
-    (c.deref.ensures ∙ c.in_ok-places.ensures) c.fits_frames.ensures
+returns c = fits_all (fits_frame c.args.frames.now c.args.state.now) c.args.insn.now c.args.at c.fits_next.result c.in_ok-fits_targets.field-0 c.fits_next.ensures c.if-not-fits_next.false c.in_ok-fits_targets.ensures

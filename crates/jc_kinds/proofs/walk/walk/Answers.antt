@@ -1,4 +1,5 @@
-use Rattle.std.proofs.Common.{rules, ◌≤◌, length, subst}
+use Rattle.std.proofs.Common.{rules, ◌≤◌, ◌++◌, length, subst, ◌∙◌, ap, List}
+use Rattle.jc_base.specs.declared.kind.State.{State}
 use Rattle.jc_kinds.specs.Walk.{Steps}
 use Rattle.jc_kinds.proofs.MissingLaws.{few_insns}
 use Rattle.jc_kinds.proofs.NumberLaws.{grown_count, frames_numbered}
@@ -8,11 +9,11 @@ use Rattle.jc_kinds.proofs.walk.walk.Goals as goal
 
 pub returns-in-None-clause-walk : goal.returns-in-None-clause-walk
 returns-in-None-clause-walk c =
-    first_not c.args.names.now c.args.body.now c.deref.result.now c.args.entry c.in_ok-first.field-0 c.new-states.result.items c.requires.entry c.deref.ensures c.in_ok-first.ensures c.in-None.is c.new-states.ensures.items
+    first_not c.args.names.now c.args.body.now c.args.keeps c.deref.result.now c.args.entry c.in_ok-first.field-0 c.new-states.result.items c.requires.entry c.deref.ensures c.in_ok-first.ensures c.in-None.is c.new-states.ensures.items
 
 pub walking-init : goal.walking-init
 walking-init c = record {
-  walking = first_made c.args.names.now c.args.body.now c.deref.result.now c.args.entry c.in-Some.first c.in_ok-first.field-0 c.new-states.result.items c.requires.made c.requires.frames c.requires.entry
+  walking = first_made c.args.names.now c.args.body.now c.args.keeps c.deref.result.now c.args.entry c.in-Some.first c.in_ok-first.field-0 c.new-states.result.items c.requires.made c.requires.frames c.requires.entry
       c.deref.ensures c.in_ok-first.ensures c.in-Some.is c.new-states.ensures.items;
   effects = c.requires.effects;
 }
@@ -25,14 +26,15 @@ step-requires-clause-frames c = frames_numbered (length c.args.names.now) (lengt
 
 pub returns-in-None-2-clause-walk : goal.returns-in-None-2-clause-walk
 returns-in-None-2-clause-walk c =
-    walk_stops c.args.names.now c.walking.names c.step.new.names c.args.body.now c.walking.states.items c.walking.at c.walking.state c.requires.made c.requires.missing c.requires.frames (search rules)
+    walk_stops c.args.names.now c.walking.names c.step.new.names c.args.body.now c.args.keeps c.walking.states.items c.walking.at c.walking.state c.requires.made c.requires.missing c.requires.frames (search rules)
     c.walking.invariant.walking c.in_ok-next.ensures.names
     (subst (Steps c.walking.names c.step.new.names c.args.body.now c.walking.at c.walking.state) c.in-None-2.is c.in_ok-next.ensures.steps)
 
 pub walking-preserved : goal.walking-preserved
 walking-preserved c = record {
-  walking = walk_on c.args.names.now c.walking.names c.step.new.names c.args.body.now c.walking.states.items c.push.new.self.items c.walking.at c.walking.state c.in-Some-2.next c.requires.made c.requires.missing
-      c.requires.frames (search rules) c.walking.invariant.walking c.in_ok-next.ensures.names
-      (subst (Steps c.walking.names c.step.new.names c.args.body.now c.walking.at c.walking.state) c.in-Some-2.is c.in_ok-next.ensures.steps) c.in_ok-push.ensures.items;
+  walking = walk_on c.args.names.now c.walking.names c.step.new.names c.args.body.now c.args.keeps c.walking.states.items c.put.new.states.items c.walking.at c.walking.state c.in-Some-2.next c.requires.made
+      c.requires.missing c.requires.frames (search rules) c.walking.invariant.walking c.in_ok-next.ensures.names
+      (subst (Steps c.walking.names c.step.new.names c.args.body.now c.walking.at c.walking.state) c.in-Some-2.is c.in_ok-next.ensures.steps)
+      (c.in_ok-put.ensures ∙ ap (λ (l : List State). c.walking.states.items ++ l) c.in_ok-copy.ensures);
   effects = c.in_ok-next.ensures.effects;
 }
