@@ -3,3 +3,4 @@ mod SplitLaws
 mod OrderLaws
 mod RowLaws
 mod CsvLaws
+mod WorkedLaws

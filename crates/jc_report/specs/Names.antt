@@ -1,6 +1,7 @@
 -- The names of packages and classes in a report, as JaCoCo shows those of Java. A class has its name in internal form
 -- (JVM Specification 4.2.1), with `/` between the names of packages.
-use Rattle.std.specs.Prelude.{ℕ, Bool, false, ◌&&◌, ◌==◌, List, [], ◌∷◌, ◌++◌, map, Option, Some, None, nat_le, if◌then◌else◌, codes}
+use Rattle.std.specs.Prelude.{ℕ, Bool, false, ◌&&◌, ◌==◌, List, [], ◌∷◌, ◌++◌, map, Option, Some, None}
+use Rattle.std.specs.Prelude.{nat_le, if◌then◌else◌, codes}
 use Rattle.jc_report.specs.Split.{split_at_last, front_of, back_of}
 
 abbrev pub slash : ℕ

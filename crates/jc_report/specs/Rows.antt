@@ -25,7 +25,9 @@ row_of name c = record {
 
 -- by package, class and class id, the texts by their bytes
 abbrev pub row_cmp : Row → Row → Ordering
-row_cmp r s = ordering_then (slice_cmp nat_cmp r.«package» s.«package») (ordering_then (slice_cmp nat_cmp r.class s.class) (nat_cmp r.id s.id))
+row_cmp r s =
+    ordering_then (slice_cmp nat_cmp r.«package» s.«package»)
+    (ordering_then (slice_cmp nat_cmp r.class s.class) (nat_cmp r.id s.id))
 
 abbrev pub row_lt : Row → Row → Bool
 row_lt r s = is_lt (row_cmp r s)

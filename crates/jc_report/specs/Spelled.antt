@@ -1,5 +1,6 @@
 -- The text that a name spells, as a report shows it.
-use Rattle.std.specs.Prelude.{◌≡◌, ◌⊎◌, ℕ, zero, suc, List, [], ◌∷◌, length, Option, Some, None, unwrap_or, option_map, option_and_then, if◌then◌else◌, encode_utf8_all}
+use Rattle.std.specs.Prelude.{◌≡◌, ◌⊎◌, ℕ, zero, suc, List, [], ◌∷◌, length, Option, Some, None}
+use Rattle.std.specs.Prelude.{unwrap_or, option_map, option_and_then, if◌then◌else◌, encode_utf8_all}
 use Rattle.std.specs.Char.Utf16.{has_unpaired_surrogate, utf16_lossy_chars}
 use Rattle.jc_base.specs.Deciding.{no_bytes}
 use Rattle.jc_base.specs.Modified.{unit_at}

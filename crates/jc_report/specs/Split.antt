@@ -1,5 +1,6 @@
 -- A text in front of the last place of a byte, and behind it.
-use Rattle.std.specs.Prelude.{◌≡◌, ◌≢◌, ℕ, ◌==◌, List, [], ◌∷◌, ◌++◌, Option, Some, None, if◌then◌else◌, All}
+use Rattle.std.specs.Prelude.{◌≡◌, ◌≢◌, ℕ, ◌==◌, List, [], ◌∷◌, ◌++◌, Option, Some, None, All}
+use Rattle.std.specs.Prelude.{if◌then◌else◌}
 
 -- the byte stands between front and back, and not in back
 pub record IsSplitAtLast (byte : ℕ) (text front back : List ℕ) : Type 0 where

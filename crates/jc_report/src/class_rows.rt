@@ -39,9 +39,11 @@ fn row_of(alloc: Global, name: &[u8], class: &Counted) -> Result<Row, Memory>
 fn row_cmp(row: &Row, other: &Row) -> Ordering
     ensures { result ≡ row_cmp row.now other.now }
 {
-    let packages = row.package.as_slice().cmp(&other.package.as_slice());
-    let classes = row.class.as_slice().cmp(&other.class.as_slice());
-    packages.then(classes).then(row.id.cmp(&other.id))
+    row.package
+        .as_slice()
+        .cmp(&other.package.as_slice())
+        .then_with(|| row.class.as_slice().cmp(&other.class.as_slice()))
+        .then_with(|| row.id.cmp(&other.id))
 }
 
 /// The rows of a report: one for each class that has an instruction that counts, by package, class
@@ -64,6 +66,6 @@ pub fn rows(alloc: Global, name: &[u8], classes: &[Counted]) -> Result<Vec<Row>,
             rows.push(row_of(alloc, name, class)?)?;
         }
     }
-    rows.sort_by(|row, other| row_cmp(row, other))?;
+    rows.sort_by(row_cmp)?;
     Ok(rows)
 }

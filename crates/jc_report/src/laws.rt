@@ -17,7 +17,8 @@ pub fn each_name_is_shown()
 pub fn each_split_is_at_the_last()
     ensures found { (byte : ℕ) (text front back : List ℕ)
         → (split_at_last byte text ≡ Some (front, back)) ↔ IsSplitAtLast byte text front back }
-    ensures none { (byte : ℕ) (text front back : List ℕ) → split_at_last byte text ≡ None → IsSplitAtLast byte text front back → ⊥ }
+    ensures none { (byte : ℕ) (text front back : List ℕ) → split_at_last byte text ≡ None
+        → IsSplitAtLast byte text front back → ⊥ }
 {}
 
 /// Rows are in order by package, class and class id, and rows of one order stand as before. No other

@@ -33,14 +33,11 @@ fn split_at_last(byte: u8, text: &[u8]) -> Option<(&[u8], &[u8])>
 fn replaced(alloc: Global, byte: u8, other: u8, text: &[u8]) -> Result<Vec<u8>, Memory>
     ensures { IfOk result (λ made. made.items ≡ replaced byte other text.now) }
 {
-    Ok(
-        text.iter()
-            .map(|b| if *b == byte { other } else { *b })
-            .collect(alloc)?,
-    )
+    let made = text.iter().map(|b| if *b == byte { other } else { *b });
+    Ok(made.collect(alloc)?)
 }
 
-/// The package in whose name the class stands, with dots, or `default`.
+/// The name of the class's package, with dots, or `default`.
 pub fn package_of(alloc: Global, text: &[u8]) -> Result<Vec<u8>, Memory>
     ensures { IfOk result (λ name. name.items ≡ package_of text.now) }
 {
