@@ -15,7 +15,8 @@ use Rattle.jc_pool.specs.Adding.{IsFirst, HasClass, RefusesFull, Extends}
 use Rattle.jc_pool.specs.declared.add.PoolFull.{PoolFull}
 use Rattle.jc_pool.specs.Lookup.{class_name_of}
 use Rattle.jc_pool.specs.Pool.{PoolValue}
-use Rattle.jc_pool.proofs.AddedLaws.{class_kept, class_there, some_class}
+use Rattle.jc_pool.proofs.AddedLaws.{naming_kept, naming_there, some_naming}
+use Rattle.jc_pool.specs.declared.index.Naming.TheVariants as naming
 use Rattle.jc_pool.proofs.AddingLaws.{class_extends}
 use Rattle.jc_frames.specs.FullTable.{named_by, named_by_all, TakesClass, TakesClasses, IsFullAt, RefusesClasses, HasPlace, AreTaken, AreFirstPlaces}
 
@@ -104,10 +105,10 @@ extends_itself a = ([], sym (append-nil a))
 -- ---- where classes stand
 
 pub has_place : (old new : PoolValue) (name : List ℕ) → TakesClass old name new → HasPlace new name
-has_place old new name t = record { place = t.place; stands = class_there old new name t.place t.class; fits = t.fits }
+has_place old new name t = record { place = t.place; stands = naming_there naming.Class old new name t.place t.class; fits = t.fits }
 
 pub place_kept : (old new : PoolValue) (name other : List ℕ) → TakesClass old name new → HasPlace old other → HasPlace new other
-place_kept old new name other t h = record { place = h.place; stands = class_kept old new other h.place (class_extends old new name t.place t.class) h.stands; fits = t.fits }
+place_kept old new name other t h = record { place = h.place; stands = naming_kept naming.Class old new other h.place (class_extends old new name t.place t.class) h.stands; fits = t.fits }
 
 places_kept : (old new : PoolValue) (names : Names) (other : List ℕ) → TakesClasses old names new → HasPlace old other → HasPlace new other
 places_kept old new [] other p h = subst (λ (l : PoolValue). HasPlace l other) (sym p) h
@@ -120,7 +121,7 @@ all_stand old new (name ∷ names) p = (places_kept p.0 new names name p.2 (has_
 
 -- a class that stands in the pool is taken as it is
 pub takes_again : (pool : PoolValue) (name : List ℕ) → HasPlace pool name → TakesClass pool name pool
-takes_again pool name h = let some = some_class pool name in elim some.2 [
+takes_again pool name h = let some = some_naming naming.Class pool name in elim some.2 [
   | inl has ↦ record { place = some.1; class = inl (has.0, refl); fits = h.fits }
   | inr put ↦ absurd (put.0 h.place h.stands)
 ]
@@ -131,7 +132,7 @@ stands_first pool new name place h (inl has) = (has.0, has.1)
 stands_first pool new name place h (inr put) = absurd (put.0 h.place h.stands)
 
 pub first_of : (pool : PoolValue) (name : List ℕ) → HasPlace pool name → (place : ℕ) × IsFirst (class_name_of pool) name place
-first_of pool name h = let some = some_class pool name in (some.1, (stands_first pool some.0 name some.1 h some.2).0)
+first_of pool name h = let some = some_naming naming.Class pool name in (some.1, (stands_first pool some.0 name some.1 h some.2).0)
 
 -- ---- numbers that were met
 
