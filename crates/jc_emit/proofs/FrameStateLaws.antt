@@ -32,6 +32,7 @@ unlike_at x (y ∷ xs) zero all lt e = true≢false (sym ((bytes_eq-Decides x y)
 unlike_at x (y ∷ xs) (suc n) all lt e = unlike_at x xs n all.1 (omega arith) e
 
 one_number : (names : Names) (m n : ℕ) → IsDistinct bytes_eq names → m < length names → n < length names → get_or names m [] ≡ get_or names n [] → m ≡ n
+unfolding IsDistinct
 one_number [] m n d lm ln e = absurd (omega arith)
 one_number (x ∷ names) zero zero d lm ln e = refl
 one_number (x ∷ names) zero (suc n) d lm ln e = absurd (unlike_at x names n d.0 (omega arith) e)
@@ -45,6 +46,14 @@ frames_rise first code locals stack (f ∷ frames) are = (are.0, frames_rise (f.
 module _ (names : Names) (distinct : IsDistinct bytes_eq names) where
   one_kind : (k l : Kind) → IsNumbered (length names) k → IsNumbered (length names) l → held names k ≡ held names l → k ≡ l
   one_kind (kinds.Object m) (kinds.Object n) a c e = ap kinds.Object (one_number names m n distinct a c (cc))
+  one_kind kinds.Top kinds.Top a c e = refl
+  one_kind kinds.Int kinds.Int a c e = refl
+  one_kind kinds.Float kinds.Float a c e = refl
+  one_kind kinds.Double kinds.Double a c e = refl
+  one_kind kinds.Long kinds.Long a c e = refl
+  one_kind kinds.Null kinds.Null a c e = refl
+  one_kind kinds.UninitThis kinds.UninitThis a c e = refl
+  one_kind (kinds.Uninit m) (kinds.Uninit n) a c e = ap kinds.Uninit (cc)
   one_kind k l a c e = cc
 
   same_kinds : (ks ls : List Kind) → AllByRecursion (IsNumbered (length names)) ks → AllByRecursion (IsNumbered (length names)) ls

@@ -5,13 +5,13 @@ ghost use Rattle.jc_base.specs.PlainLists.{pieces};
 ghost use Rattle.jc_base.specs.declared.insn.Flow.TheVariants as flows;
 ghost use Rattle.jc_base.specs.WellMade.{IsState};
 ghost use Rattle.jc_emit.specs.Shift.{image_kind, shifted_state};
-ghost use Rattle.jc_emit.specs.Sizes.{insn_at, hop_size, late_probe, arms_at};
+ghost use Rattle.jc_emit.specs.Sizes.{insn_at, arms_at, late_probe};
 ghost use Rattle.jc_emit.specs.TwinFrames.{operands_of, state_at, left_by};
 ghost use Rattle.jc_emit.specs.Items.{image_of};
 ghost use Rattle.jc_emit.specs.Emission.{frame, frame_if, moved_state, has_inverse, frames_at, wide_frames_at, arm_frames};
 ghost use Rattle.jc_emit.specs.Framing.{IsMadeWithin, without, AreFramed, id_frames, IsFraming};
 
-use crate::places::Places;
+use crate::places::{Places, hop_size};
 use jc_base::{Body, Flow, FrameAt, Insn, Kind, List, Memory, Plan, State, TryClone, opcode};
 use std::alloc::Global;
 
@@ -103,16 +103,6 @@ fn put_copy_if(
     Ok(())
 }
 
-/// How many instructions a probe and a goto behind it are.
-fn hop_size(id: Option<u32>) -> u32
-    ensures { result ≡ hop_size id }
-{
-    match id {
-        Some(_) => 5,
-        None => 0,
-    }
-}
-
 /// Puts a frame at each arm place of a switch. The first one is at `first`, and the targets without a
 /// probe have none.
 fn put_arms(
@@ -156,7 +146,7 @@ fn is_further(framed: bool, lead: bool) -> bool
 }
 
 /// What the frames of the instrumented code of a method are made from.
-#[derive(Debug, Drop)]
+#[derive(Drop)]
 pub(crate) struct Framing<'a> {
     body: &'a Body,
     plan: &'a Plan,

@@ -13,7 +13,7 @@ use jc_base::{Arm, Insn, List, Memory, TryClone, inverse};
 use std::alloc::Global;
 
 /// The local variable that is in the place of one of the method: one behind the arguments goes up by one.
-fn moved_slot(slot: u16, arg_slots: u16) -> u16
+pub(crate) fn moved_slot(slot: u16, arg_slots: u16) -> u16
     requires { slot < 65535 }
     ensures { result ≡ slot_of arg_slots slot }
 {

@@ -9,8 +9,8 @@ mod laws;
 mod places;
 mod segments;
 mod straddling;
-mod tables;
 mod switches;
+mod tables;
 mod written;
 
 pub use checks::{each_init_is_verified, each_twin_is_verified, each_twin_program_is_verified};

@@ -1,9 +1,9 @@
 //! The tables of instrumented code (JVM Specification 4.7.3, 4.7.12 to 4.7.14).
 ghost use Rattle.std.specs.Prelude.{◌≡◌, ◌<◌, length, map, All, IfOk, slice_index};
-ghost use Rattle.jc_after.specs.Shift.{slot_of};
 ghost use Rattle.jc_emit.specs.TwinTables.{moved_row, moved_line, moved_var};
 ghost use Rattle.jc_emit.specs.Tables.{RowWithin, VarWithin};
 
+use crate::image::moved_slot;
 use jc_base::{Handler, LineAt, List, Memory, VarAt};
 use std::alloc::Global;
 
@@ -54,14 +54,6 @@ pub(crate) fn moved_lines(
         })?;
     }
     Ok(moved)
-}
-
-/// A local variable's index, where one more stands behind the arguments.
-pub(crate) fn moved_slot(slot: u16, arg_slots: u16) -> u16
-    requires { slot < 65535 }
-    ensures { result ≡ slot_of arg_slots slot }
-{
-    if slot < arg_slots { slot } else { slot + 1 }
 }
 
 /// A variable, from where jumps land to where they do.
