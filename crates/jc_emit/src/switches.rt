@@ -1,5 +1,6 @@
 //! The switches of an instrumented method.
-ghost use Rattle.std.specs.Prelude.{◌≡◌, ◌<◌, ◌≤◌, ◌+◌, ℕ, All, Contains, length, slice_index, slice_index_or, OnOk, None};
+ghost use Rattle.std.specs.Prelude.{◌≡◌, ◌<◌, ◌≤◌, ◌+◌, ℕ, All, Contains, length};
+ghost use Rattle.std.specs.Prelude.{slice_index, slice_index_or, OnOk, None};
 ghost use Rattle.jc_base.specs.PlainLists.{pieces};
 ghost use Rattle.jc_emit.specs.Branching.{IsPushed, IsTableOf, arm_place_in, arm_part_in};
 ghost use Rattle.jc_emit.specs.TwinCode.{here_or};
