@@ -155,7 +155,7 @@ fn step(
     ensures names { Grows names.old names.new }
     ensures effects { AreEffects names.new effects.now }
 {
-    let Some(left) = effects.after(alloc, &state, at, names)? else {
+    let Some(left) = effects.advance(alloc, state, at, names)? else {
         return Ok(None);
     };
     let insn = &body.code[at as usize];
