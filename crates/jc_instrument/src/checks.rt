@@ -8,7 +8,7 @@ ghost use Rattle.jc_instrument.specs.Steps.{IsFrameRefusal, KeepsClash, IsMissin
 
 use crate::kept::keep_first;
 use jc_base::{Body, Fail, Names, Refusal, RefusalKind};
-use jc_kinds::states;
+use jc_kinds::check_body;
 use std::alloc::Global;
 
 /// Checks one more body, where `kept` is the first clash of the bodies in front of it. A missing frame ends the check.
@@ -24,7 +24,7 @@ fn check_next(
     ensures refused { IfErr result (λ e. Said e (IsMissingIn body.now)) }
     ensures grows { Grows names.old names.new }
 {
-    match states(alloc, body, names) {
+    match check_body(alloc, body, names) {
         Ok(_) => Ok(kept),
         Err(fail) => keep_first(kept, RefusalKind::FrameMissing, fail),
     }
