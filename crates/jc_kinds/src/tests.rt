@@ -3,7 +3,7 @@ ghost use Rattle.std.specs.Prelude.{◌≡◌, [], ◌∷◌, IfOk};
 ghost use Rattle.jc_base.specs.declared.kind.Kind.TheVariants as kinds;
 ghost use Rattle.jc_kinds.specs.TestBodies.{test_body, test_frame, abs_body, null_body, loop_body, guarded_body};
 
-use crate::states;
+use crate::{check_body, states};
 use jc_base::{
     Body, Bytes, Fail as Failed, FrameAt, Handler, Insn, Kind, List, Names, Refusal, RefusalKind,
     State, opcode,
@@ -164,13 +164,29 @@ fn guarded(alloc: Global) -> Result<Body, AllocError>
     body(alloc, b"(I)V", 1, code, rows, frames)
 }
 
+/// Whether this refusal was said.
+fn says(fail: Failed<Refusal>, kind: RefusalKind, place: u32) -> bool {
+    match fail {
+        Failed::Said(refusal) => {
+            refusal.kind == kind && refusal.method == Some(3) && refusal.place == place
+        }
+        Failed::Memory => false,
+    }
+}
+
 /// Whether the answer is this refusal.
 fn is_refused(answer: Result<Vec<State>, Failed<Refusal>>, kind: RefusalKind, place: u32) -> bool {
     match answer {
-        Err(Failed::Said(refusal)) => {
-            refusal.kind == kind && refusal.method == Some(3) && refusal.place == place
-        }
-        _ => false,
+        Ok(_) => false,
+        Err(fail) => says(fail, kind, place),
+    }
+}
+
+/// Whether a body doesn't pass, for this reason.
+fn fails(answer: Result<(), Failed<Refusal>>, kind: RefusalKind, place: u32) -> bool {
+    match answer {
+        Ok(()) => false,
+        Err(fail) => says(fail, kind, place),
     }
 }
 
@@ -225,5 +241,35 @@ fn the_last_guarded_instruction_misfits(rt: HostRuntime) -> Result<(), Fail> {
     let body = guarded(alloc)?;
     let answer = states(alloc, &body, &mut names);
     assert!(rt; is_refused(answer, RefusalKind::FrameClash, 2));
+    Ok(())
+}
+
+#[test]
+fn a_body_passes(rt: HostRuntime) -> Result<(), Fail> {
+    let alloc = rt.alloc();
+    let mut names = Names::new(alloc)?;
+    let body = abs_with_frame(alloc)?;
+    let answer = check_body(alloc, &body, &mut names);
+    assert!(rt; answer.is_ok());
+    Ok(())
+}
+
+#[test]
+fn no_body_passes_without_a_frame(rt: HostRuntime) -> Result<(), Fail> {
+    let alloc = rt.alloc();
+    let mut names = Names::new(alloc)?;
+    let body = abs_without_frame(alloc)?;
+    let answer = check_body(alloc, &body, &mut names);
+    assert!(rt; fails(answer, RefusalKind::FrameMissing, 5));
+    Ok(())
+}
+
+#[test]
+fn no_body_passes_whose_handler_misfits(rt: HostRuntime) -> Result<(), Fail> {
+    let alloc = rt.alloc();
+    let mut names = Names::new(alloc)?;
+    let body = guarded(alloc)?;
+    let answer = check_body(alloc, &body, &mut names);
+    assert!(rt; fails(answer, RefusalKind::FrameClash, 2));
     Ok(())
 }

@@ -1,0 +1,12 @@
+use Rattle.std.proofs.Common.{subst, sym, length}
+use Rattle.jc_base.specs.declared.body.Body.{Body}
+use Rattle.jc_base.specs.Held.{AreNumberedFrames}
+use Rattle.jc_base.specs.WellMade.{IsWellMade}
+use Rattle.jc_kinds.proofs.TestBodyLaws.{framed_abs_made, framed_abs_numbered}
+use Rattle.jc_kinds.proofs.tests.a_body_passes.Goals as goal
+
+pub check_body-answer-requires-clause-body : goal.check_body-answer-requires-clause-body
+check_body-answer-requires-clause-body g c = subst IsWellMade (sym c.in_ok-body.ensures) framed_abs_made
+
+pub check_body-answer-requires-clause-frames : goal.check_body-answer-requires-clause-frames
+check_body-answer-requires-clause-frames g c = subst (λ (b : Body). AreNumberedFrames (length c.in_ok-names.names) b.frames) (sym c.in_ok-body.ensures) (framed_abs_numbered (length c.in_ok-names.names))
