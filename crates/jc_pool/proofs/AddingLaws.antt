@@ -1,5 +1,6 @@
 -- Entries that are put behind the others.
-use Rattle.std.proofs.Common.{◌≡◌, inl, inr, ℕ, ◌+◌, ◌<◌, ◌≤◌, List, [], ◌∷◌, ◌++◌, length, IfOk, OnErr, Option, Some, None, Result, Ok, Err, refl, sym, ◌∙◌, ap, subst, arith, append_assoc}
+use Rattle.std.proofs.Common.{◌≡◌, inl, inr, ℕ, ◌+◌, ◌<◌, ◌≤◌, List, [], ◌∷◌, ◌++◌, length, take, IfOk, OnErr, Option, Some, None, Result, Ok, Err, refl, sym, ◌∙◌, ap, subst, arith, append_assoc}
+use Rattle.std.proofs.Math.Seq.{take-append_seam}
 use Rattle.std.proofs.lemmas.List.{append-nil}
 use Rattle.std.proofs.lemmas.Option.{none-some}
 use Rattle.jc_base.specs.declared.fail.Fail.{Fail}
@@ -10,13 +11,14 @@ use Rattle.jc_base.proofs.DecoderLaws.{some_is}
 use Rattle.jc_pool.specs.declared.add.PoolFull.{PoolFull}
 use Rattle.jc_pool.specs.declared.entry.Entry.{Entry}
 use Rattle.jc_pool.specs.declared.entry.Entry.TheVariants as entry
+use Rattle.jc_pool.specs.declared.index.Key.{Key}
 use Rattle.jc_pool.specs.declared.index.Index.{Index}
 use Rattle.jc_pool.specs.declared.index.Naming.{Naming}
 use Rattle.jc_pool.specs.declared.index.Naming.TheVariants as naming
 use Rattle.jc_pool.specs.Pool.{PoolValue, width, slots_of, IsSmall, IsPool}
-use Rattle.jc_pool.specs.Lookup.{utf8_in, utf8_of, class_name_of}
-use Rattle.jc_pool.specs.Adding.{IsNowhere, IsPut, IsPutAs, Adds, HasUtf8, PutsNaming, HasClass, RefusesFull, Extends}
-use Rattle.jc_pool.specs.Index.{IsFirstBelow, AreFirsts, AreStandins, Notes, NotesEntry, text_place, key_in, key_at, slot_key, key_place, entry_naming, naming_of, HasNaming, IsIndexOf, missing, CountsTo}
+use Rattle.jc_pool.specs.Lookup.{utf8_in, utf8_of, class_name_of, Signature, signature_of, Member, signature, member_of}
+use Rattle.jc_pool.specs.Adding.{IsNowhere, IsPut, IsPutAs, Adds, HasUtf8, PutsNaming, HasClass, PutsSignature, HasSignature, PutsMember, HasMember, entry_of_member, RefusesFull, Extends}
+use Rattle.jc_pool.specs.Index.{IsFirstBelow, AreFirsts, AreStandins, Notes, NotesEntry, text_place, key_in, key_at, slot_key, key_place, entry_naming, naming_of, HasNaming, AreTables, IsIndexOf, missing, CountsTo}
 use Rattle.jc_pool.proofs.FirstPlaceLaws.{is_nowhere}
 use Rattle.jc_pool.proofs.OneMoreEntryLaws.{grown_length, by_slots, utf8_past, texts_stay, texts_grow, text_standins, keys_grow, put_pool}
 
@@ -27,34 +29,45 @@ pub record IsSameButTexts (old new : Index) : Type 0 where
   pub firsts : new.firsts.items ≡ old.firsts.items
   pub keys : new.keys.entries ≡ old.keys.entries
 
--- a text was noted and put
-pub text_indexed : (pool new : PoolValue) (old index : Index) (text : List ℕ) (place first : ℕ) → IsSameButTexts old index → IsPut pool new (entry.Utf8 text) place
-    → Notes (text_place old.texts.entries (λ x. x.items)) (text_place index.texts.entries (λ x. x.items)) text place first → IsNowhere (utf8_of pool) text → IsIndexOf pool old → IsIndexOf new index
-text_indexed pool new old index text place first same put notes none is = subst (λ (l : PoolValue). IsIndexOf l index) (sym put.grown) (record {
-  texts = texts_grow pool text (text_place old.texts.entries (λ x. x.items)) (text_place index.texts.entries (λ x. x.items)) place first put.last notes is.texts;
-  standins = subst (λ (l : List ℕ). AreStandins (utf8_of (pool ++ Some (entry.Utf8 text) ∷ [])) (length (pool ++ Some (entry.Utf8 text) ∷ [])) l) (sym same.firsts)
-      (text_standins pool (Some (entry.Utf8 text)) old.firsts.items (λ t at. subst (IsNowhere (utf8_of pool)) (some_is text t at) none) is.standins);
-  keys = subst (λ (l : List ℕ). AreFirsts (length (pool ++ Some (entry.Utf8 text) ∷ [])) (key_at l (pool ++ Some (entry.Utf8 text) ∷ [])) (key_place index.keys.entries)) (sym same.firsts)
-      (subst (λ l. AreFirsts (length (pool ++ Some (entry.Utf8 text) ∷ [])) (key_at old.firsts.items (pool ++ Some (entry.Utf8 text) ∷ [])) (key_place l)) (sym same.keys)
-      (keys_grow old.firsts.items pool (Some (entry.Utf8 text)) (key_place old.keys.entries) (key_place old.keys.entries) (length pool) refl (λ k. refl) is.keys));
+-- a text is put, and its place noted
+pub text_tables : (pool new : PoolValue) (old more : List ℕ → Option ℕ) (firsts : List ℕ) (keys : Key → Option ℕ) (text : List ℕ) (place first : ℕ) → IsPut pool new (entry.Utf8 text) place
+    → Notes old more text place first → IsNowhere (utf8_of pool) text → AreTables pool old firsts keys → AreTables new more firsts keys
+text_tables pool new old more firsts keys text place first put notes none is = subst (λ (l : PoolValue). AreTables l more firsts keys) (sym put.grown) (record {
+  texts = texts_grow pool text old more place first put.last notes is.texts;
+  standins = text_standins pool (Some (entry.Utf8 text)) firsts (λ t at. subst (IsNowhere (utf8_of pool)) (some_is text t at) none) is.standins;
+  keys = keys_grow firsts pool (Some (entry.Utf8 text)) keys keys (length pool) refl (λ k. refl) is.keys;
 })
 
+pub text_indexed : (pool new : PoolValue) (old index : Index) (text : List ℕ) (place first : ℕ) → IsSameButTexts old index → IsPut pool new (entry.Utf8 text) place
+    → Notes (text_place old.texts.entries (λ x. x.items)) (text_place index.texts.entries (λ x. x.items)) text place first → IsNowhere (utf8_of pool) text → IsIndexOf pool old → IsIndexOf new index
+text_indexed pool new old index text place first same put notes none is =
+    subst (λ (l : List ℕ). AreTables new (text_place index.texts.entries (λ x. x.items)) l (key_place index.keys.entries)) (sym same.firsts)
+    (subst (λ l. AreTables new (text_place index.texts.entries (λ x. x.items)) old.firsts.items (key_place l)) (sym same.keys)
+    (text_tables pool new (text_place old.texts.entries (λ x. x.items)) (text_place index.texts.entries (λ x. x.items)) old.firsts.items (key_place old.keys.entries) text place first put notes none is))
+
 -- one place more, off which no text is read, and whose key is noted
-slot_indexed : (pool : PoolValue) (old index : Index) (slot : Option Entry) (place : ℕ) → index.firsts.items ≡ old.firsts.items → index.texts.entries ≡ old.texts.entries → (slot >>= utf8_in) ≡ None
-    → place ≡ length pool → NotesEntry (key_place old.keys.entries) (key_place index.keys.entries) (slot_key old.firsts.items slot) place → IsIndexOf pool old → IsIndexOf (pool ++ slot ∷ []) index
-slot_indexed pool old index slot place firsts texts none last notes is = record {
-  texts = subst (λ l. AreFirsts (length (pool ++ slot ∷ [])) (utf8_of (pool ++ slot ∷ [])) (text_place l (λ x. x.items))) (sym texts) (texts_stay pool slot (text_place old.texts.entries (λ x. x.items)) none is.texts);
-  standins = subst (AreStandins (utf8_of (pool ++ slot ∷ [])) (length (pool ++ slot ∷ []))) (sym firsts) (text_standins pool slot old.firsts.items (λ t at. absurd (none-some t (sym none ∙ at))) is.standins);
-  keys = subst (λ (l : List ℕ). AreFirsts (length (pool ++ slot ∷ [])) (key_at l (pool ++ slot ∷ [])) (key_place index.keys.entries)) (sym firsts) (keys_grow old.firsts.items pool slot (key_place old.keys.entries) (key_place index.keys.entries) place last notes is.keys);
+slot_tables : (pool : PoolValue) (texts : List ℕ → Option ℕ) (firsts : List ℕ) (old more : Key → Option ℕ) (slot : Option Entry) (place : ℕ) → (slot >>= utf8_in) ≡ None → place ≡ length pool
+    → NotesEntry old more (slot_key firsts slot) place → AreTables pool texts firsts old → AreTables (pool ++ slot ∷ []) texts firsts more
+slot_tables pool texts firsts old more slot place none last notes is = record {
+  texts = texts_stay pool slot texts none is.texts;
+  standins = text_standins pool slot firsts (λ t at. absurd (none-some t (sym none ∙ at))) is.standins;
+  keys = keys_grow firsts pool slot old more place last notes is.keys;
 }
 
--- an entry of no text was put, and its key noted
+-- an entry of no text is put, and its key noted
+pub entry_tables : (pool new : PoolValue) (texts : List ℕ → Option ℕ) (firsts : List ℕ) (old more : Key → Option ℕ) (e : Entry) (place : ℕ) → utf8_in e ≡ None → IsPut pool new e place
+    → NotesEntry old more (key_in firsts e) place → AreTables pool texts firsts old → AreTables new texts firsts more
+entry_tables pool new texts firsts old more e place none put notes is =
+    subst (λ (l : PoolValue). AreTables l texts firsts more) (sym put.grown)
+    (by_slots (λ l. AreTables l texts firsts more) pool e (slot_tables pool texts firsts old more (Some e) place none put.last notes is)
+    (λ one. slot_tables (pool ++ Some e ∷ []) texts firsts more more None (length (pool ++ Some e ∷ [])) refl refl (λ k. refl) one))
+
 pub entry_indexed : (pool new : PoolValue) (old index : Index) (e : Entry) (place : ℕ) → index.firsts.items ≡ old.firsts.items → index.texts.entries ≡ old.texts.entries → utf8_in e ≡ None
     → IsPut pool new e place → NotesEntry (key_place old.keys.entries) (key_place index.keys.entries) (key_in old.firsts.items e) place → IsIndexOf pool old → IsIndexOf new index
 entry_indexed pool new old index e place firsts texts none put notes is =
-    subst (λ (l : PoolValue). IsIndexOf l index) (sym put.grown)
-    (by_slots (λ l. IsIndexOf l index) pool e (slot_indexed pool old index (Some e) place firsts texts none put.last notes is)
-    (λ one. slot_indexed (pool ++ Some e ∷ []) index index None (length (pool ++ Some e ∷ [])) refl refl refl refl (λ k. refl) one))
+    subst (λ (l : List ℕ). AreTables new (text_place index.texts.entries (λ x. x.items)) l (key_place index.keys.entries)) (sym firsts)
+    (subst (λ l. AreTables new (text_place l (λ x. x.items)) old.firsts.items (key_place index.keys.entries)) (sym texts)
+    (entry_tables pool new (text_place old.texts.entries (λ x. x.items)) old.firsts.items (key_place old.keys.entries) (key_place index.keys.entries) e place none put notes is))
 
 -- ---- texts
 
@@ -152,14 +165,21 @@ number_pool pool new e place none few put is = subst IsPool (sym put.grown) (put
 
 -- ---- what extends a pool
 
-same_extends : (old new : PoolValue) → new ≡ old → Extends old new
+pub same_extends : (old new : PoolValue) → new ≡ old → Extends old new
 same_extends old new same = ([], same ∙ sym (append-nil old))
 
 pub more_extends : (old named new : PoolValue) (e : Entry) (place : ℕ) → Extends old named → IsPut named new e place → Extends old new
 more_extends old named new e place more put = (more.0 ++ slots_of e, put.grown ∙ ap (λ (l : PoolValue). l ++ slots_of e) more.1 ∙ append_assoc old more.0 (slots_of e))
 
+-- what stood in front of all that was put
+pub taken_back : (old new : PoolValue) (n : ℕ) → n ≡ length old → Extends old new → take n new ≡ old
+taken_back old new n is more = (λ i. take (is i) (more.1 i)) ∙ take-append_seam old more.0
+
 pub put_extends : (old new : PoolValue) (e : Entry) (place : ℕ) → IsPut old new e place → Extends old new
 put_extends old new e place put = (slots_of e, put.grown)
+
+pub extends_more : (old named new : PoolValue) → Extends old named → Extends named new → Extends old new
+extends_more old named new more after = (more.0 ++ after.0, after.1 ∙ ap (λ (l : PoolValue). l ++ after.0) more.1 ∙ append_assoc old more.0 after.0)
 
 module _ {X : Type 0} (found : PoolValue → ℕ → Option X) (what : X) (old : PoolValue) (Put : PoolValue → ℕ → Type 0) (extends : (new : PoolValue) (place : ℕ) → Put new place → Extends old new) where
   pub adds_extends : (new : PoolValue) (place : ℕ) → Adds found what old Put new place → Extends old new
@@ -177,5 +197,25 @@ utf8_extends old new text place has = adds_extends utf8_of text old (IsPutAs old
 pub naming_extends : (old new : PoolValue) (text : List ℕ) (naming : ℕ → Entry) (place : ℕ) → PutsNaming old text naming new place → Extends old new
 naming_extends old new text naming place put = more_extends old put.0 new (naming put.1) place (utf8_extends old put.0 text put.1 put.2) put.3
 
+pub has_naming_extends : (kind : Naming) (old new : PoolValue) (text : List ℕ) (place : ℕ) → HasNaming kind old text new place → Extends old new
+has_naming_extends kind old new text place has =
+    adds_extends (naming_of kind) text old (PutsNaming old text (entry_naming kind)) (λ l p put. naming_extends old l text (entry_naming kind) p put) new place has
+
 pub class_extends : (old new : PoolValue) (name : List ℕ) (place : ℕ) → HasClass old name new place → Extends old new
-class_extends old new name place has = adds_extends class_name_of name old (PutsNaming old name entry.Class) (λ l p put. naming_extends old l name entry.Class p put) new place has
+class_extends old new name place has = has_naming_extends naming.Class old new name place has
+
+pub signature_put_extends : (old new : PoolValue) (s : Signature) (place : ℕ) → PutsSignature old s new place → Extends old new
+signature_put_extends old new s place put =
+    extends_more old put.0 new (utf8_extends old put.0 s.name put.1 put.2)
+    (extends_more put.0 put.3 new (utf8_extends put.0 put.3 s.desc put.4 put.5) (put_extends put.3 new (entry.NameAndType put.1 put.4) place put.6))
+
+pub signature_extends : (old new : PoolValue) (s : Signature) (place : ℕ) → HasSignature old s new place → Extends old new
+signature_extends old new s place has = adds_extends signature_of s old (PutsSignature old s) (λ l p put. signature_put_extends old l s p put) new place has
+
+pub member_put_extends : (old new : PoolValue) (m : Member) (place : ℕ) → PutsMember old m new place → Extends old new
+member_put_extends old new m place put =
+    extends_more old put.0 new (has_naming_extends naming.Class old put.0 m.class put.1 put.2)
+    (extends_more put.0 put.3 new (signature_extends put.0 put.3 (signature m) put.4 put.5) (put_extends put.3 new (entry_of_member m.tag put.1 put.4) place put.6))
+
+pub member_extends : (old new : PoolValue) (m : Member) (place : ℕ) → HasMember old m new place → Extends old new
+member_extends old new m place has = adds_extends member_of m old (PutsMember old m) (λ l p put. member_put_extends old l m p put) new place has

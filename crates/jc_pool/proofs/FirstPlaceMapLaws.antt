@@ -1,5 +1,5 @@
 -- What a map of first places says after one is noted.
-use Rattle.std.proofs.Common.{◌≡◌, ◌≢◌, ◌⊎◌, inl, inr, ℕ, Bool, true, false, List, [], ◌∷◌, ◌++◌, cond, Option, Some, None, Decides, Bor, option_copied, is_some, refl, sym, ◌∙◌, ap, true≢false}
+use Rattle.std.proofs.Common.{◌≡◌, ◌≢◌, ◌⊎◌, inl, inr, ℕ, Bool, true, false, List, [], ◌∷◌, ◌++◌, cond, ◌==◌, ◌&&◌, Option, Some, None, Decides, Bor, option_copied, is_some, refl, sym, ◌∙◌, ap, true≢false}
 use Rattle.std.specs.Map.{lookup}
 use Rattle.std.specs.Str.{bytes_eq}
 use Rattle.std.proofs.lemmas.Bool.{cases_Bool}
@@ -62,11 +62,22 @@ text_fresh text_of es fs k text place is put none = fresh bytes_eq bytes_eq-Deci
 
 -- ---- keys
 
-one_key : (a b : Key) → Decides (same_key a b) (a ≡ b)
+pub and_decided : (a b : Bool) (A B : Type 0) → Decides a A → Decides b B → Decides (a && b) (A × B)
+and_decided true b A B left right = (λ is. (left.0 refl, right.0 is), λ holds. right.1 holds.1)
+and_decided false b A B left right = (λ is. absurd (true≢false (sym is)), λ holds. absurd (true≢false (sym (left.1 holds.0))))
+
+decided_both : (x y z w : ℕ) → Decides ((x == z) && (y == w)) (key.Signature x y ≡ key.Signature z w)
+decided_both x y z w =
+    let told = and_decided (x == z) (y == w) (x ≡ z) (y ≡ w) (Decides-eqb x z) (Decides-eqb y w) in
+    (λ is. (let same = told.0 is in λ i. key.Signature (same.0 i) (same.1 i)), λ same. told.1 (cc, cc))
+
+pub one_key : (a b : Key) → Decides (same_key a b) (a ≡ b)
 one_key (key.Integer x) (key.Integer y) = (λ same. ap key.Integer ((Decides-int_eq x y).0 same), λ same. (Decides-int_eq x y).1 cc)
 one_key (key.Long x) (key.Long y) = (λ same. ap key.Long ((Decides-int_eq x y).0 same), λ same. (Decides-int_eq x y).1 cc)
 one_key (key.Class x) (key.Class y) = (λ same. ap key.Class ((Decides-eqb x y).0 same), λ same. (Decides-eqb x y).1 cc)
 one_key (key.String x) (key.String y) = (λ same. ap key.String ((Decides-eqb x y).0 same), λ same. (Decides-eqb x y).1 cc)
+one_key (key.Signature x y) (key.Signature z w) = decided_both x y z w
+one_key (key.Signature x y) b = (λ same. absurd cc, λ same. absurd cc)
 one_key (key.Integer x) b = (λ same. absurd cc, λ same. absurd cc)
 one_key (key.Long x) b = (λ same. absurd cc, λ same. absurd cc)
 one_key (key.Class x) b = (λ same. absurd cc, λ same. absurd cc)

@@ -20,7 +20,7 @@ use Rattle.jc_pool.proofs.FirstPlaceLaws.{nothing_more, noted, noted_first}
 pub none_yet : {X : Type 0} (found : ℕ → Option X) (table : X → Option ℕ) → ((x : X) → table x ≡ None) → AreFirsts 0 found table
 none_yet found table none x = subst (IsFirstBelow 0 found x) (sym (none x)) (λ p less. absurd (omega (arith, less)))
 
-same_table : {X : Type 0} (found : ℕ → Option X) (end : ℕ) (old new : X → Option ℕ) → ((x : X) → new x ≡ old x) → AreFirsts end found old → AreFirsts end found new
+pub same_table : {X : Type 0} (found : ℕ → Option X) (end : ℕ) (old new : X → Option ℕ) → ((x : X) → new x ≡ old x) → AreFirsts end found old → AreFirsts end found new
 same_table found end old new same firsts x = subst (IsFirstBelow end found x) (sym (same x)) (firsts x)
 
 -- ---- texts

@@ -15,9 +15,9 @@ use Rattle.jc_pool.specs.declared.index.Naming.{Naming}
 use Rattle.jc_pool.specs.declared.index.Naming.TheVariants as naming
 use Rattle.jc_pool.specs.declared.index.Index.{Index}
 use Rattle.jc_pool.specs.Pool.{PoolValue}
-use Rattle.jc_pool.specs.Lookup.{entry_of, class_in, string_in, utf8_of, class_name_of, string_of, integer_in, integer_of, long_in, long_of}
+use Rattle.jc_pool.specs.Lookup.{entry_of, class_in, string_in, utf8_of, class_name_of, string_of, integer_in, integer_of, long_in, long_of, Signature, signature_in, signature_of}
 use Rattle.jc_pool.specs.Adding.{IsFirst, IsNowhere, Adds, RefusesFull}
-use Rattle.jc_pool.specs.Index.{standing_for, AreStandins, key_in, key_at, text_place, key_place, entry_naming, naming_of, key_naming, naming_place, IsIndexOf}
+use Rattle.jc_pool.specs.Index.{standing_for, AreStandins, key_in, key_at, text_place, key_place, entry_naming, naming_of, key_naming, naming_place, signature_place, AreTables, IsIndexOf}
 use Rattle.jc_pool.proofs.FirstPlaceLaws.{one_first, is_first, is_nowhere}
 use Rattle.jc_pool.proofs.OneMoreEntryLaws.{utf8_past, past}
 
@@ -175,6 +175,89 @@ long_as_one pool firsts value = record {
   to_key = λ place. (both_read long_in (key_in firsts) value (key.Long value) (λ e. long_keyed firsts e value) (entry_of pool place)).0;
   of_key = λ place. (both_read long_in (key_in firsts) value (key.Long value) (λ e. long_keyed firsts e value) (entry_of pool place)).1;
 }
+
+-- ---- names with descriptors
+
+abbrev sig_of : List ℕ → List ℕ → Option Signature
+sig_of name desc = Some (record { name = name; desc = desc })
+
+sig_parts : (r q : Option (List ℕ)) (s : Signature) → (r >>= λ name. q >>= λ desc. sig_of name desc) ≡ Some s → (r ≡ Some s.name) × (q ≡ Some s.desc)
+sig_parts None q s is = absurd (none-some s is)
+sig_parts (Some name) None s is = absurd (none-some s is)
+sig_parts (Some name) (Some desc) s is = let same = some_is (record { name = name; desc = desc }) s is in (ap (λ (t : Signature). Some t.name) same, ap (λ (t : Signature). Some t.desc) same)
+
+signature_named : (pool : PoolValue) (e : Option Entry) (s : Signature)
+    → (e >>= λ e. signature_in e >>= λ parts. utf8_of pool parts.0 >>= λ name. utf8_of pool parts.1 >>= λ desc. sig_of name desc) ≡ Some s
+    → (name desc : ℕ) × (e ≡ Some (entry.NameAndType name desc)) × (utf8_of pool name ≡ Some s.name) × (utf8_of pool desc ≡ Some s.desc)
+signature_named pool None s is = absurd (none-some s is)
+signature_named pool (Some (entry.NameAndType name desc)) s is = let parts = sig_parts (utf8_of pool name) (utf8_of pool desc) s is in (name, desc, refl, parts.0, parts.1)
+signature_named pool (Some e) s is = absurd (none-some s is)
+
+-- a NameAndType entry of the texts stands at the place
+pub has_signature : (pool : PoolValue) (place : ℕ) (s : Signature) → signature_of pool place ≡ Some s
+    → (name desc : ℕ) × (entry_of pool place ≡ Some (entry.NameAndType name desc)) × (utf8_of pool name ≡ Some s.name) × (utf8_of pool desc ≡ Some s.desc)
+unfolding signature_of
+has_signature pool place s is = signature_named pool (entry_of pool place) s is
+
+pub is_signed : (pool : PoolValue) (place name desc : ℕ) (s : Signature) → entry_of pool place ≡ Some (entry.NameAndType name desc) → utf8_of pool name ≡ Some s.name → utf8_of pool desc ≡ Some s.desc
+    → signature_of pool place ≡ Some s
+unfolding signature_of
+is_signed pool place name desc s is named described =
+    ap (λ (e : Option Entry). e >>= λ e. signature_in e >>= λ parts. utf8_of pool parts.0 >>= λ name. utf8_of pool parts.1 >>= λ desc. sig_of name desc) is
+    ∙ (λ i. named i >>= λ name. described i >>= λ desc. sig_of name desc)
+
+pub signature_past : (pool : PoolValue) (place : ℕ) → length pool ≤ place → signature_of pool place ≡ None
+unfolding signature_of
+signature_past pool place behind =
+    past (λ e. signature_in e >>= λ parts. utf8_of pool parts.0 >>= λ name. utf8_of pool parts.1 >>= λ desc. sig_of name desc) pool place behind
+
+signed_key : (firsts : List ℕ) (e : Option Entry) (name desc : ℕ) → (e >>= key_in firsts) ≡ Some (key.Signature name desc)
+    → (n d : ℕ) × (e ≡ Some (entry.NameAndType n d)) × (standing_for firsts n ≡ name) × (standing_for firsts d ≡ desc)
+signed_key firsts None name desc is = absurd (none-some (key.Signature name desc) is)
+signed_key firsts (Some (entry.NameAndType n d)) name desc is = (n, d, refl, cc, cc)
+signed_key firsts (Some e) name desc is = absurd cc
+
+has_signed_key : (firsts : List ℕ) (pool : PoolValue) (place name desc : ℕ) → key_at firsts pool place ≡ Some (key.Signature name desc)
+    → (n d : ℕ) × (entry_of pool place ≡ Some (entry.NameAndType n d)) × (standing_for firsts n ≡ name) × (standing_for firsts d ≡ desc)
+unfolding key_at
+has_signed_key firsts pool place name desc is = signed_key firsts (entry_of pool place) name desc is
+
+is_signed_key : (firsts : List ℕ) (pool : PoolValue) (place n d : ℕ) → entry_of pool place ≡ Some (entry.NameAndType n d)
+    → key_at firsts pool place ≡ Some (key.Signature (standing_for firsts n) (standing_for firsts d))
+unfolding key_at
+is_signed_key firsts pool place n d is = ap (λ (e : Option Entry). e >>= key_in firsts) is
+
+module _ (pool : PoolValue) (texts : List ℕ → Option ℕ) (firsts : List ℕ) (keys : Key → Option ℕ) (are : AreTables pool texts firsts keys) (s : Signature) where
+  signature_as_one : (name desc : ℕ) → IsFirst (utf8_of pool) s.name name → IsFirst (utf8_of pool) s.desc desc → AreAsOne (signature_of pool) s (key_at firsts pool) (key.Signature name desc)
+  signature_as_one name desc named described = record {
+    to_key = λ place is.
+        let p = has_signature pool place s is in
+        is_signed_key firsts pool place p.0 p.1 p.2
+        ∙ (λ i. Some (key.Signature (text_stands pool firsts s.name name are.standins named p.0 p.3 i) (text_stands pool firsts s.desc desc are.standins described p.1 p.4 i)));
+    of_key = λ place keyed.
+        let p = has_signed_key firsts pool place name desc keyed in
+        is_signed pool place p.0 p.1 s p.2 (stands_text pool firsts s.name name are.standins named p.0 p.3) (stands_text pool firsts s.desc desc are.standins described p.1 p.4);
+  }
+
+  first_text : (text : List ℕ) (place : ℕ) → texts text ≡ Some place → IsFirst (utf8_of pool) text place
+  first_text text place at = is_first (utf8_of pool) (length pool) text place (texts text) at (are.texts text)
+
+  no_text : (text : List ℕ) → texts text ≡ None → IsNowhere (utf8_of pool) text
+  no_text text at = is_nowhere (utf8_of pool) (length pool) text (texts text) (utf8_past pool) at (are.texts text)
+
+  pub signature_found : (name desc : Option ℕ) (place : ℕ) → texts s.name ≡ name → texts s.desc ≡ desc → signature_place keys name desc ≡ Some place → IsFirst (signature_of pool) s place
+  signature_found (Some n) (Some d) place named described at =
+      first_as_one (signature_of pool) s (key_at firsts pool) (key.Signature n d) (signature_as_one n d (first_text s.name n named) (first_text s.desc d described)) place
+      (is_first (key_at firsts pool) (length pool) (key.Signature n d) place (keys (key.Signature n d)) at (are.keys (key.Signature n d)))
+  signature_found (Some n) None place named described at = absurd (none-some place at)
+  signature_found None desc place named described at = absurd (none-some place at)
+
+  pub signature_missing : (name desc : Option ℕ) → texts s.name ≡ name → texts s.desc ≡ desc → signature_place keys name desc ≡ None → IsNowhere (signature_of pool) s
+  signature_missing (Some n) (Some d) named described at =
+      nowhere_as_one (signature_of pool) s (key_at firsts pool) (key.Signature n d) (signature_as_one n d (first_text s.name n named) (first_text s.desc d described))
+      (is_nowhere (key_at firsts pool) (length pool) (key.Signature n d) (keys (key.Signature n d)) (key_past firsts pool) at (are.keys (key.Signature n d)))
+  signature_missing (Some n) None named described at = λ place there. let p = has_signature pool place s there in no_text s.desc described p.1 p.4
+  signature_missing None desc named described at = λ place there. let p = has_signature pool place s there in no_text s.name named p.0 p.3
 
 -- ---- what the index answers
 

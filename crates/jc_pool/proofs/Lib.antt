@@ -11,3 +11,5 @@ mod KeyPlaceLaws
 pub mod AddingLaws
 pub mod AddedLaws
 mod IndexLaws
+mod MemberLaws
+mod AddedMemberLaws

@@ -1,12 +1,12 @@
 -- What is found in a constant pool, and what is put behind its entries (JVM Specification 4.4).
-use Rattle.std.specs.Prelude.{◌≡◌, ◌≢◌, ◌⊎◌, ℕ, ℤ, ◌<◌, List, ◌++◌, length, Option, Some, Result, Err}
+use Rattle.std.specs.Prelude.{◌≡◌, ◌≢◌, ◌⊎◌, ◌==◌, if◌then◌else◌, ℕ, ℤ, ◌<◌, ◌≤◌, List, ◌++◌, length, Option, Some, Result, Err}
 use Rattle.jc_base.specs.declared.fail.Fail.{Fail}
 use Rattle.jc_base.specs.declared.fail.Fail.TheVariants as fails
 use Rattle.jc_pool.specs.declared.add.PoolFull.{PoolFull}
 use Rattle.jc_pool.specs.declared.entry.Entry.{Entry}
 use Rattle.jc_pool.specs.declared.entry.Entry.TheVariants as entry
 use Rattle.jc_pool.specs.Pool.{PoolValue, slots_of}
-use Rattle.jc_pool.specs.Lookup.{utf8_of, class_name_of, string_of, integer_of, long_of}
+use Rattle.jc_pool.specs.Lookup.{utf8_of, class_name_of, string_of, integer_of, long_of, Signature, signature_of, Member, signature, member_of}
 
 -- ---- places
 
@@ -65,6 +65,44 @@ HasInteger old value = Adds integer_of value old (IsPutAs old (entry.Integer val
 -- the same of a long, whose entry takes two places
 abbrev pub HasLong : PoolValue → ℤ → PoolValue → ℕ → Type 0
 HasLong old value = Adds long_of value old (IsPutAs old (entry.Long value))
+
+-- ---- members
+
+-- the name is put, where it isn't there, then the descriptor, and then a NameAndType entry that names their places
+abbrev pub PutsSignature : PoolValue → Signature → PoolValue → ℕ → Type 0
+PutsSignature old s new place =
+    (named : PoolValue) × (name : ℕ) × HasUtf8 old s.name named name
+    × (described : PoolValue) × (desc : ℕ) × HasUtf8 named s.desc described desc
+    × IsPut described new (entry.NameAndType name desc) place
+
+-- A pool with a name and a descriptor, which stand at the place: the pool itself, where a NameAndType entry of these
+-- texts stands in it, whatever their places, and the first such place; else one is put, behind those texts that aren't there.
+abbrev pub HasSignature : PoolValue → Signature → PoolValue → ℕ → Type 0
+HasSignature old s = Adds signature_of s old (PutsSignature old s)
+
+-- the entry of a field or a method: its tag is 9 for a field, 10 for a method of a class, and 11 for one of an interface
+abbrev pub entry_of_member : ℕ → ℕ → ℕ → Entry
+entry_of_member tag class name_and_type =
+    if tag == 9 then entry.Fieldref class name_and_type
+    else if tag == 10 then entry.Methodref class name_and_type
+    else entry.InterfaceMethodref class name_and_type
+
+-- the tags of fields and methods (JVM Specification 4.4, table 4.4-A)
+abbrev pub IsMemberTag : ℕ → Type 0
+IsMemberTag tag = (9 ≤ tag) × (tag ≤ 11)
+
+-- the class is put, where it isn't there, then the name and the descriptor, and then an entry that names their places
+abbrev pub PutsMember : PoolValue → Member → PoolValue → ℕ → Type 0
+PutsMember old m new place =
+    (classed : PoolValue) × (class : ℕ) × HasClass old m.class classed class
+    × (signed : PoolValue) × (name_and_type : ℕ) × HasSignature classed (signature m) signed name_and_type
+    × IsPut signed new (entry_of_member m.tag class name_and_type) place
+
+-- A pool with a field or a method, which stands at the place: the pool itself, where an entry of this tag, class, name
+-- and descriptor stands in it, whatever the places of these, and the first such place; else the parts that aren't
+-- there are put behind the others, and then the entry.
+abbrev pub HasMember : PoolValue → Member → PoolValue → ℕ → Type 0
+HasMember old m = Adds member_of m old (PutsMember old m)
 
 -- ---- too many entries
 

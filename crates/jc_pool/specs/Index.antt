@@ -1,5 +1,5 @@
 -- What an index says of a pool: where equal entries stand first.
-use Rattle.std.specs.Prelude.{◌≡◌, ◌≢◌, ◌⊎◌, ℕ, ◌<◌, Bool, if◌then◌else◌, List, length, slice_index_or}
+use Rattle.std.specs.Prelude.{◌≡◌, ◌≢◌, ◌⊎◌, ℕ, ◌+◌, ◌<◌, Bool, if◌then◌else◌, List, length, slice_index_or}
 use Rattle.std.specs.Prelude.{Option, Some, None, Result, Err, is_some}
 use Rattle.std.specs.Map.{lookup}
 use Rattle.std.specs.Str.{bytes_eq}
@@ -16,8 +16,8 @@ use Rattle.jc_pool.specs.declared.index.Naming.TheVariants as naming
 use Rattle.jc_pool.specs.declared.index.Index.{Index}
 use Rattle.jc_pool.specs.contracts.index.KeyPartialEq.TheImpl as equal
 use Rattle.jc_pool.specs.Pool.{PoolValue}
-use Rattle.jc_pool.specs.Lookup.{entry_of, utf8_in, utf8_of, class_name_of, string_of}
-use Rattle.jc_pool.specs.Adding.{IsFirst, Adds, PutsNaming}
+use Rattle.jc_pool.specs.Lookup.{entry_of, utf8_in, utf8_of, class_name_of, string_of, Member}
+use Rattle.jc_pool.specs.Adding.{IsFirst, Adds, PutsNaming, HasClass, PutsMember}
 
 -- ---- first places
 
@@ -81,12 +81,18 @@ abbrev pub naming_place : List (Key × ℕ) → Naming → Option ℕ → Option
 naming_place entries kind (Some text) = key_place entries (key_naming kind text)
 naming_place entries kind None = None
 
--- the key of an entry that is a number, or names others
+-- the place that they have for a name and a descriptor, which have these first places
+abbrev pub signature_place : (Key → Option ℕ) → Option ℕ → Option ℕ → Option ℕ
+signature_place places (Some name) (Some descriptor) = places (key.Signature name descriptor)
+signature_place places _ _ = None
+
+-- the key of an entry that is a number, or names texts
 abbrev pub key_in : List ℕ → Entry → Option Key
 key_in firsts (entry.Integer value) = Some (key.Integer value)
 key_in firsts (entry.Long value) = Some (key.Long value)
 key_in firsts (entry.Class name) = Some (key.Class (standing_for firsts name))
 key_in firsts (entry.String text) = Some (key.String (standing_for firsts text))
+key_in firsts (entry.NameAndType name descriptor) = Some (key.Signature (standing_for firsts name) (standing_for firsts descriptor))
 key_in firsts _ = None
 
 -- the key of the entry at a place
@@ -99,10 +105,49 @@ HasNaming kind old text = Adds (naming_of kind) text old (PutsNaming old text (e
 
 -- ---- the index
 
-pub record IsIndexOf (pool : PoolValue) (index : Index) : Type 0 where
-  pub texts : AreFirsts (length pool) (utf8_of pool) (text_place index.texts.entries (λ x. x.items))
-  pub standins : AreStandins (utf8_of pool) (length pool) index.firsts.items
-  pub keys : AreFirsts (length pool) (key_at index.firsts.items pool) (key_place index.keys.entries)
+-- the tables have the first place of each text and of each key of a pool, and the place that stands for each place
+pub record AreTables (pool : PoolValue) (text_places : List ℕ → Option ℕ) (firsts : List ℕ) (key_places : Key → Option ℕ) : Type 0 where
+  pub texts : AreFirsts (length pool) (utf8_of pool) text_places
+  pub standins : AreStandins (utf8_of pool) (length pool) firsts
+  pub keys : AreFirsts (length pool) (key_at firsts pool) key_places
+
+abbrev pub IsIndexOf : PoolValue → Index → Type 0
+IsIndexOf pool index = AreTables pool (text_place index.texts.entries (λ x. x.items)) index.firsts.items (key_place index.keys.entries)
+
+-- ---- what a member lacks
+
+-- the places of texts, where this text is put at this place
+abbrev pub with_text : (List ℕ → Option ℕ) → Option (List ℕ × ℕ) → List ℕ → Option ℕ
+with_text places None text = places text
+with_text places (Some put) text = if bytes_eq text put.0 then Some put.1 else places text
+
+-- the text that is put at the place, if one is
+abbrev pub new_name : Bool → List ℕ → ℕ → Option (List ℕ × ℕ)
+new_name put text place = if put then Some (text, place) else None
+
+-- how many places a text lacks that has this place
+abbrev pub absent : Option ℕ → ℕ
+absent place = if is_some place then 0 else 1
+
+-- how many places a NameAndType entry and its texts lack, where an equal one and the texts have these places
+abbrev pub missing_signature : Option ℕ → Bool → Option ℕ → Option ℕ → ℕ
+missing_signature (Some place) same name desc = 0
+missing_signature None same name desc = absent name + (if same then 0 else absent desc) + 1
+
+-- A pool with the class is so many places longer. In it the texts have the places that they have in the pool, but for
+-- the one that is put, and so have all names with descriptors.
+pub record IsClassed (pool : PoolValue) (index : Index) (class : List ℕ) (missing : ℕ) (put : Option (List ℕ × ℕ)) : Type 0 where
+  pub classed : PoolValue
+  pub place : ℕ
+  pub has : HasClass pool class classed place
+  pub size : length classed ≡ length pool + missing
+  pub keys : Key → Option ℕ
+  pub tables : AreTables classed (with_text (text_place index.texts.entries (λ x. x.items)) put) index.firsts.items keys
+  pub signatures : (name descriptor : ℕ) → keys (key.Signature name descriptor) ≡ key_place index.keys.entries (key.Signature name descriptor)
+
+-- a pool with the member is so many places longer
+abbrev pub Lacks : PoolValue → Member → ℕ → Type 0
+Lacks pool m missing = (grown : PoolValue) × (place : ℕ) × PutsMember pool m grown place × (length grown ≡ length pool + missing)
 
 -- the text of what stands at a place
 abbrev pub text_in : Option Entry → Option (List ℕ)

@@ -91,6 +91,10 @@ pub record Member : Type 0 where
   pub name : List ℕ
   pub desc : List ℕ
 
+-- its name and its descriptor
+abbrev pub signature : Member → Signature
+signature m = record { name = m.name; desc = m.desc }
+
 -- the texts of a member
 abbrev pub member : MemberText → Member
 member m = record { tag = m.tag; class = m.class.now; name = m.name.now; desc = m.desc.now }

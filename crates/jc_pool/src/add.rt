@@ -41,8 +41,24 @@ pub fn index_of(
     }
 }
 
+/// Whether so many places that are missing fit behind those of a pool.
+pub fn check_room(count: usize, missing: usize) -> Result<(), Fail<PoolFull>>
+    requires pool { count ≤ 65535 }
+    requires few { missing ≤ 6 }
+    ensures fits { OnOk result (count + missing ≤ 65535) }
+    ensures full { CountsTo result (count + missing) }
+{
+    let count = count + missing;
+    if count > MOST_PLACES {
+        return Err(Fail::Said(PoolFull {
+            count: count as u32,
+        }));
+    }
+    Ok(())
+}
+
 /// Takes room for so many places that are missing.
-fn take_room(slots: &mut Vec<Option<Entry>>, missing: usize) -> Result<(), Fail<PoolFull>>
+pub fn take_room(slots: &mut Vec<Option<Entry>>, missing: usize) -> Result<(), Fail<PoolFull>>
     requires pool { length slots.old.items ≤ 65535 }
     requires few { missing ≤ 2 }
     ensures room { OnOk result (vec_len slots.new + missing ≤ vec_capacity slots.new) }
@@ -50,12 +66,7 @@ fn take_room(slots: &mut Vec<Option<Entry>>, missing: usize) -> Result<(), Fail<
     ensures full { CountsTo result (length slots.old.items + missing) }
     ensures kept { slots.new.items ≡ slots.old.items }
 {
-    let count = slots.len() + missing;
-    if count > MOST_PLACES {
-        return Err(Fail::Said(PoolFull {
-            count: count as u32,
-        }));
-    }
+    check_room(slots.len(), missing)?;
     slots.reserve(missing)?;
     Ok(())
 }
@@ -97,7 +108,7 @@ fn put_reserved(slots: &mut Vec<Option<Entry>>, entry: Entry)
 }
 
 /// Puts an entry that has no text of its own behind the others, for which there is room.
-fn put_entry(slots: &mut Vec<Option<Entry>>, index: &mut Index, entry: Entry) -> u16
+pub fn put_entry(slots: &mut Vec<Option<Entry>>, index: &mut Index, entry: Entry) -> u16
     requires room { vec_len slots.old + width entry ≤ vec_capacity slots.old }
     requires space { 0 < spare index.old.keys }
     requires few { length slots.old.items + width entry ≤ 65535 }

@@ -3,7 +3,7 @@ ghost use Rattle.std.specs.Prelude.{◌≡◌, ◌<◌, ◌≤◌, ℕ, IfOk, On
 ghost use Rattle.indexmap.specs.IndexMap.{spare};
 ghost use Rattle.jc_pool.specs.Index.{AreFirsts, AreStandins, IsIndexOf, Notes, NotesText, NotesEntry};
 ghost use Rattle.jc_pool.specs.Index.{text_in, text_place, standing_for, key_in, key_at, slot_key, key_place};
-ghost use Rattle.jc_pool.specs.Index.{entry_naming, key_naming, naming_place};
+ghost use Rattle.jc_pool.specs.Index.{entry_naming, key_naming, naming_place, signature_place};
 ghost use Rattle.jc_pool.specs.Lookup.{utf8_of};
 
 use crate::entry::Entry;
@@ -11,8 +11,8 @@ use indexmap::IndexMap;
 use jc_base::Memory;
 use std::alloc::Global;
 
-/// What an entry is by its content: a number, or a class or a string by the first place of the text
-/// that it names. Two such entries are equal by content exactly where their keys are equal.
+/// What an entry is by its content: a number, or texts that it names, each by its first place. Two
+/// such entries are equal by content exactly where their keys are equal.
 #[derive(Clone, Copy, Debug, PartialEq, Eq, Hash)]
 pub enum Key {
     /// An int by its value.
@@ -23,6 +23,8 @@ pub enum Key {
     Class { name: u16 },
     /// A string by its text.
     String { text: u16 },
+    /// A name and a descriptor.
+    Signature { name: u16, descriptor: u16 },
 }
 
 /// A kind of entry that names one text.
@@ -93,6 +95,10 @@ fn key_of(firsts: &[u16], entry: &Entry) -> Option<Key>
         Entry::Long(value) => Some(Key::Long(*value)),
         Entry::String { text } => Some(Key::String {
             text: standing_for(firsts, *text),
+        }),
+        Entry::NameAndType { name, descriptor } => Some(Key::Signature {
+            name: standing_for(firsts, *name),
+            descriptor: standing_for(firsts, *descriptor),
         }),
         Entry::Class { name } => Some(Key::Class {
             name: standing_for(firsts, *name),
@@ -231,6 +237,14 @@ impl Index {
         ensures { result ≡ key_place self.now.keys.entries key }
     {
         self.keys.get(&key).copied()
+    }
+
+    /// The first place of a name and a descriptor, by the first places of their texts.
+    pub fn signature_place(&self, name: Option<u16>, descriptor: Option<u16>) -> Option<u16>
+        ensures { result ≡ signature_place (key_place self.now.keys.entries) name descriptor }
+    {
+        let (name, descriptor) = (name?, descriptor?);
+        self.key_place(Key::Signature { name, descriptor })
     }
 
     /// The first place of an entry of a kind, by the first place of its text.

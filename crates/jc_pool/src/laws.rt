@@ -3,8 +3,8 @@ ghost use Rattle.std.specs.Prelude.{◌≡◌, ◌⊎◌, ◌++◌, ℕ, ℤ, Li
 ghost use Rattle.jc_pool.specs.Pool.{PoolValue};
 ghost use Rattle.jc_base.specs.ByteLists.{AreBytes};
 ghost use Rattle.jc_pool.specs.PoolGrammar.{pool};
-ghost use Rattle.jc_pool.specs.Adding.{HasUtf8, HasClass, HasString, HasInteger, HasLong, Extends, Keeps, KeepsFirst, AtMostOne};
-ghost use Rattle.jc_pool.specs.Lookup.{utf8_of, class_name_of, string_of, integer_of, long_of};
+ghost use Rattle.jc_pool.specs.Adding.{HasUtf8, HasClass, HasString, HasInteger, HasLong, HasMember, IsMemberTag, Extends, Keeps, KeepsFirst, AtMostOne};
+ghost use Rattle.jc_pool.specs.Lookup.{utf8_of, class_name_of, string_of, integer_of, long_of, Member, member_of};
 
 /// Bytes begin with a pool or fail as one, and never both, and they begin with one pool alone.
 pub fn one_reading()
@@ -32,11 +32,13 @@ pub fn added_entries()
     ensures string { (old new : PoolValue) (text : List ℕ) (place : ℕ) → HasString old text new place → string_of new place ≡ Some text }
     ensures integer { (old new : PoolValue) (value : ℤ) (place : ℕ) → HasInteger old value new place → integer_of new place ≡ Some value }
     ensures long { (old new : PoolValue) (value : ℤ) (place : ℕ) → HasLong old value new place → long_of new place ≡ Some value }
+    ensures member { (old new : PoolValue) (m : Member) (place : ℕ) → IsMemberTag m.tag → HasMember old m new place → member_of new place ≡ Some m }
     ensures utf8_kept { (old new : PoolValue) → Extends old new → Keeps (utf8_of old) (utf8_of new) }
     ensures class_kept { (old new : PoolValue) → Extends old new → Keeps (class_name_of old) (class_name_of new) }
     ensures string_kept { (old new : PoolValue) → Extends old new → Keeps (string_of old) (string_of new) }
     ensures integer_kept { (old new : PoolValue) → Extends old new → Keeps (integer_of old) (integer_of new) }
     ensures long_kept { (old new : PoolValue) → Extends old new → Keeps (long_of old) (long_of new) }
+    ensures member_kept { (old new : PoolValue) → Extends old new → Keeps (member_of old) (member_of new) }
     ensures first_kept { (old new : PoolValue) (name : List ℕ) (place : ℕ) → HasClass old name new place
         → KeepsFirst (class_name_of old) (class_name_of new) }
     ensures one_utf8 { (old : PoolValue) (text : List ℕ) → AtMostOne (HasUtf8 old text) }
@@ -44,9 +46,11 @@ pub fn added_entries()
     ensures one_string { (old : PoolValue) (text : List ℕ) → AtMostOne (HasString old text) }
     ensures one_integer { (old : PoolValue) (value : ℤ) → AtMostOne (HasInteger old value) }
     ensures one_long { (old : PoolValue) (value : ℤ) → AtMostOne (HasLong old value) }
+    ensures one_member { (old : PoolValue) (m : Member) → AtMostOne (HasMember old m) }
     ensures some_utf8 { (old : PoolValue) (text : List ℕ) → (new : PoolValue) × (place : ℕ) × HasUtf8 old text new place }
     ensures some_class { (old : PoolValue) (name : List ℕ) → (new : PoolValue) × (place : ℕ) × HasClass old name new place }
     ensures some_string { (old : PoolValue) (text : List ℕ) → (new : PoolValue) × (place : ℕ) × HasString old text new place }
     ensures some_integer { (old : PoolValue) (value : ℤ) → (new : PoolValue) × (place : ℕ) × HasInteger old value new place }
     ensures some_long { (old : PoolValue) (value : ℤ) → (new : PoolValue) × (place : ℕ) × HasLong old value new place }
+    ensures some_member { (old : PoolValue) (m : Member) → (new : PoolValue) × (place : ℕ) × HasMember old m new place }
 {}

@@ -3,6 +3,7 @@
 #![tactic(auto)]
 
 mod add;
+mod add_member;
 mod constant;
 mod entry;
 mod index;

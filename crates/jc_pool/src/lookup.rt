@@ -276,6 +276,34 @@ impl Pool {
         }
     }
 
+    /// Whether an entry at a place is this member.
+    fn is_member_there(&self, place: u16, m: &MemberText<'_>) -> bool
+        ensures { IsTrue result ↔ (member_of self.now place ≡ Some (member m.now)) }
+    {
+        match self.member_at(place) {
+            Ok(found) => {
+                found.tag == m.tag
+                    && found.class == m.class
+                    && found.name == m.name
+                    && found.desc == m.desc
+            }
+            Err(_) => false,
+        }
+    }
+
+    /// The first place of a member, exactly where it stands in the pool.
+    pub(crate) fn find_member(&self, m: &MemberText<'_>) -> Option<u16>
+        ensures first { IfSome result (IsFirst (member_of self.now) (member m.now)) }
+        ensures none { IfNone result (IsNowhere (member_of self.now) (member m.now)) }
+    {
+        'finding: for place in 0..self.count() {
+            if self.is_member_there(place, m) {
+                return Some(place);
+            }
+        }
+        None
+    }
+
     /// Whether what `member_at` finds at a place has the descriptor of a field (JVM Specification
     /// 4.3.2). This looks at no byte of the descriptor.
     pub fn has_field_descriptor(&self, place: u16) -> bool

@@ -8,9 +8,11 @@ ghost use Rattle.jc_pool.specs.PoolReading.{filled_at, pool_at};
 
 use crate::PoolFull;
 use crate::add::{add_naming, add_number, add_text, index_of};
+use crate::add_member::add_member;
 use crate::entry::Entry;
 use crate::index::{Index, Key, Naming};
 use crate::item::{count_item, entry_item};
+use crate::lookup::MemberText;
 use jc_base::{Fail, Memory, Reader, Refusal};
 use std::alloc::Global;
 use std::marker::Model;
@@ -145,7 +147,7 @@ impl Pool {
 impl Pool {
     ghost use Rattle.std.specs.Prelude.{OnErr, OnOk};
     ghost use Rattle.jc_base.specs.Texts.{IsShortText};
-    ghost use Rattle.jc_pool.specs.Adding.{HasUtf8, HasClass, HasString, HasInteger, HasLong, RefusesFull, Extends};
+    ghost use Rattle.jc_pool.specs.Adding.{HasUtf8, HasClass, HasString, HasInteger, HasLong, HasMember, IsMemberTag, RefusesFull, Extends};
 
     /// The first place of a Utf8 entry with this text (JVM Specification 4.4.7). Where there is none,
     /// one is put behind the others. Every entry keeps its place.
@@ -252,5 +254,48 @@ impl Pool {
         let added = add_number(&mut self.slots, &mut index, Key::Long(value), entry);
         self.index = Some(index);
         added
+    }
+
+    /// The first place of a Fieldref, Methodref or InterfaceMethodref entry (tags 9, 10 and 11, JVM
+    /// Specification 4.4.2) of this class, name and descriptor, whatever the places of these. Where
+    /// there is none, the parts that are not there are put behind the others, the class first, then
+    /// the name, the descriptor and the NameAndType entry, and then an entry of this tag. Every
+    /// entry keeps its place.
+    ///
+    /// # Errors
+    ///
+    /// `Memory` where memory was refused. `PoolFull` exactly where no such entry stands and the pool's
+    /// count would become `count`, which is above 65,535. Then nothing has changed.
+    pub fn add_member(
+        &mut self,
+        alloc: Global,
+        tag: u8,
+        class: &[u8],
+        name: &[u8],
+        desc: &[u8],
+    ) -> Result<u16, Fail<PoolFull>>
+        requires tag { IsMemberTag tag }
+        requires class { IsShortText class.now }
+        requires name { IsShortText name.now }
+        requires desc { IsShortText desc.now }
+        ensures ok { IfOk result (HasMember self.old (record { tag = tag; class = class.now; name = name.now; desc = desc.now }) self.new) }
+        ensures fits { OnOk result (length self.new ≤ 65535) }
+        ensures full { RefusesFull (HasMember self.old (record { tag = tag; class = class.now; name = name.now; desc = desc.now })) result }
+        ensures err { OnErr result (self.new ≡ self.old) }
+        ensures extends { Extends self.old self.new }
+    {
+        let member = MemberText {
+            tag,
+            class,
+            name,
+            desc,
+        };
+        if let Some(place) = self.find_member(&member) {
+            return Ok(place);
+        }
+        let mut index = index_of(alloc, self.index.take(), &self.slots)?;
+        let place = add_member(alloc, &mut self.slots, &mut index, &member)?;
+        self.index = Some(index);
+        Ok(place)
     }
 }

@@ -319,6 +319,54 @@ fn strings_are_found_by_their_texts(rt: HostRuntime) -> Result<(), test::Fail> {
     Ok(())
 }
 
+/// A pool of a method whose class and name have the second of two equal texts.
+const SECOND_TEXTS: [u8; 30] = [
+    0x00, 0x07, // the count: places 1 to 6
+    0x01, 0x00, 0x01, 0x41, // 1: Utf8 A
+    0x01, 0x00, 0x01, 0x41, // 2: Utf8 A
+    0x07, 0x00, 0x02, // 3: Class A
+    0x01, 0x00, 0x01, 0x49, // 4: Utf8 I
+    0x0c, 0x00, 0x02, 0x00, 0x04, // 5: NameAndType A I
+    0x0a, 0x00, 0x03, 0x00, 0x05, // 6: Methodref A.A I
+    0x2a, 0x2a, 0x2a,
+];
+
+#[test]
+fn members_are_found_or_go_last(rt: HostRuntime) -> Result<(), test::Fail> {
+    let alloc = rt.alloc();
+    let Ok(mut pool) = Pool::read(alloc, &mut Reader::new(&EVERY_TAG)) else {
+        return Err("refused")?;
+    };
+    for (tag, class, desc, place) in [
+        (9, b"A", &b"()V"[..], 5),
+        (10, b"A", b"()V", 6),
+        (11, b"A", b"()V", 7),
+        (10, b"A", b"I", 23),
+        (10, b"A", b"I", 23),
+        (9, b"A", b"I", 24),
+        (11, b"B", b"B", 28),
+    ] {
+        let added = pool.add_member(alloc, tag, class, class, desc);
+        assert_eq!(rt; added, Ok(place), "{place}");
+    }
+    assert_eq!(rt; pool.count(), 29);
+    assert_eq!(rt; pool.add_class(alloc, b"B"), Ok(26));
+    Ok(())
+}
+
+#[test]
+fn members_are_found_by_their_texts(rt: HostRuntime) -> Result<(), test::Fail> {
+    let alloc = rt.alloc();
+    let Ok(mut pool) = Pool::read(alloc, &mut Reader::new(&SECOND_TEXTS)) else {
+        return Err("refused")?;
+    };
+    assert_eq!(rt; pool.add_class(alloc, b"A"), Ok(3));
+    assert_eq!(rt; pool.add_member(alloc, 10, b"A", b"A", b"I"), Ok(6));
+    assert_eq!(rt; pool.add_member(alloc, 11, b"A", b"A", b"I"), Ok(7));
+    assert_eq!(rt; pool.count(), 8);
+    Ok(())
+}
+
 #[test]
 fn a_class_whose_name_was_missing_is_found(rt: HostRuntime) -> Result<(), test::Fail> {
     let alloc = rt.alloc();
@@ -364,6 +412,14 @@ fn a_full_pool_takes_no_new_entry(rt: HostRuntime) -> Result<(), test::Fail> {
     assert_eq!(rt;
         pool.add_string(alloc, b"A"),
         Err(Fail::Said(PoolFull { count: 65_536 }))
+    );
+    assert_eq!(rt;
+        pool.add_member(alloc, 10, b"A", b"A", b"new"),
+        Err(Fail::Said(PoolFull { count: 65_538 }))
+    );
+    assert_eq!(rt;
+        pool.add_member(alloc, 10, b"new", b"new", b"new"),
+        Err(Fail::Said(PoolFull { count: 65_539 }))
     );
     assert_eq!(rt; pool.add_long(alloc, 7), Ok(3));
     assert_eq!(rt;

@@ -3,6 +3,7 @@ use Rattle.jc_pool.specs.declared.index.Naming.TheVariants as naming
 use Rattle.jc_pool.specs.Lookup.{integer_of, long_of}
 use Rattle.jc_pool.proofs.AddedLaws.{utf8_there, naming_there, integer_there, long_there, utf8_kept, naming_kept, integer_kept, long_kept, class_keeps_first}
 use Rattle.jc_pool.proofs.AddedLaws.{one_utf8, one_naming, one_alone, some_utf8, some_naming, some_integer, some_long}
+use Rattle.jc_pool.proofs.AddedMemberLaws.{member_there, member_kept, one_member, some_member}
 use Rattle.jc_pool.proofs.laws.added_entries.Goals as goal
 
 pub returns-clause-utf8 : goal.returns-clause-utf8
@@ -67,3 +68,15 @@ returns-clause-some_integer c = some_integer
 
 pub returns-clause-some_long : goal.returns-clause-some_long
 returns-clause-some_long c = some_long
+
+pub returns-clause-member : goal.returns-clause-member
+returns-clause-member c = λ old new m place is has. member_there old new m place is has
+
+pub returns-clause-member_kept : goal.returns-clause-member_kept
+returns-clause-member_kept c = λ old new more m place at. member_kept old new m place more at
+
+pub returns-clause-one_member : goal.returns-clause-one_member
+returns-clause-one_member c = λ old m new other place at p q. let one = one_member old new other m place at p q in (one.pool, one.place_is)
+
+pub returns-clause-some_member : goal.returns-clause-some_member
+returns-clause-some_member c = some_member
