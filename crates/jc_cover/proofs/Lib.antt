@@ -11,3 +11,8 @@ pub mod FollowedLaws
 pub mod TableLaws
 pub mod PlannedLaws
 pub mod ClassLaws
+pub mod SumsLaws
+pub mod DistinctLaws
+pub mod InsnLinesLaws
+pub mod StartsLaws
+pub mod ClassCountsLaws

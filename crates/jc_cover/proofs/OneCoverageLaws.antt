@@ -48,7 +48,7 @@ module _ (bodies : List Body) (hits : List Bool) where
     insn_stands : slice_get body.code i ≡ Some insn
     size : length values ≡ length (branches_of i insn)
 
-  body_at : (c : Coverage) → HasShape bodies c → (n : ℕ) (insns : List (List Bool)) → slice_get c.edges n ≡ Some insns → (b : Body) × (slice_get bodies n ≡ Some b) × (map length insns ≡ body_shape b)
+  pub body_at : (c : Coverage) → HasShape bodies c → (n : ℕ) (insns : List (List Bool)) → slice_get c.edges n ≡ Some insns → (b : Body) × (slice_get bodies n ≡ Some b) × (map length insns ≡ body_shape b)
   body_at c shape n insns h =
       let here : slice_get (map (map length) c.edges) n ≡ Some (map length insns) = slice_get-map (map length) c.edges n ∙ ap (option_map (map length)) h in
       let sized : length (map (map length) c.edges) ≡ length (map body_shape bodies) = ap length shape in

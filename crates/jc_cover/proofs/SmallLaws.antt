@@ -22,7 +22,7 @@ use Rattle.jc_cover.specs.Counters.{AreAtMost, counters_of, counted_methods, is_
 abbrev size : Insn → ℕ
 size insn = 1 + arm_count insn
 
-sized : (i : ℕ) (code : List Insn) (values : List (List Bool)) → map length values ≡ map_from branch_count i code → (length values ≡ length code) × (sum_by length values ≤ length code + insns_and_arms code)
+pub sized : (i : ℕ) (code : List Insn) (values : List (List Bool)) → map length values ≡ map_from branch_count i code → (length values ≡ length code) × (sum_by length values ≤ length code + insns_and_arms code)
 sized i [] [] e = (refl, omega arith)
 sized i [] (v ∷ values) e = absurd (omega (arith, ap length e))
 sized i (insn ∷ code) [] e = absurd (omega (arith, ap length e))
@@ -89,7 +89,7 @@ branches_weigh : (ms : List Method) → sum_by length (all_insns ms) + length ms
 branches_weigh [] = omega arith
 branches_weigh (m ∷ ms) = omega (arith, sum_append m.insns (all_insns ms), branches_weigh ms, sum_by-cons weight m ms)
 
-branching_few : (f : List Bool → ℕ) → ((v : List Bool) → f v ≤ length v) → (insns : List (List Bool)) → sum_by f (branching insns) ≤ sum_by length insns
+pub branching_few : (f : List Bool → ℕ) → ((v : List Bool) → f v ≤ length v) → (insns : List (List Bool)) → sum_by f (branching insns) ≤ sum_by length insns
 branching_few f h [] = omega arith
 branching_few f h (v ∷ insns) = by (nat_le 2 (length v)) (branching_few f h insns)
   where

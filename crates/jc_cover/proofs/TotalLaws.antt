@@ -28,7 +28,7 @@ covered_within values = omega (arith, count_whole (λ (value : Bool). value) val
 paths : (values : List Bool) → missed_paths values + covered_paths values ≡ length values - 1
 paths values = omega (arith, covered_within values)
 
-paths_whole : (insns : List (List Bool)) → sum_by missed_paths insns + sum_by covered_paths insns ≡ sum_by (λ values. length values - 1) insns
+pub paths_whole : (insns : List (List Bool)) → sum_by missed_paths insns + sum_by covered_paths insns ≡ sum_by (λ values. length values - 1) insns
 paths_whole [] = refl
 paths_whole (values ∷ insns) =
     omega (arith, sum_by-cons missed_paths values insns, sum_by-cons covered_paths values insns, sum_by-cons (λ v. length v - 1) values insns, paths values, paths_whole insns)

@@ -3,3 +3,5 @@ pub mod Marking
 pub mod Counters
 pub mod Followed
 pub mod Planned
+pub mod Sums
+pub mod Lines

@@ -2,12 +2,16 @@
 //! documentation on control flow and on coverage counters).
 #![tactic(auto)]
 
+mod counting;
 mod coverage;
 mod covering;
 mod laws;
+mod lines;
 mod marking;
 mod planned;
+mod sums;
 
+pub use counting::counters;
 pub use coverage::{Count, Counters, Coverage};
 pub use covering::covered;
 pub use laws::{
