@@ -1,11 +1,11 @@
 -- An emission has few instructions and few arms of switches.
-use Rattle.std.proofs.Common.{◌≡◌, ℕ, zero, suc, ◌+◌, ◌*◌, ◌<◌, ◌≤◌, Bool, false, cond, nat_le, List, [], ◌∷◌, ◌++◌, length, take, get_or, map, Option, Some, None, refl, sym, ap, ◌∙◌, subst, arith, pos, add-one}
+use Rattle.std.proofs.Common.{◌≡◌, ℕ, zero, suc, ◌+◌, ◌*◌, ◌<◌, ◌≤◌, Bool, false, cond, nat_le, List, [], ◌∷◌, ◌++◌, length, take, map, Option, Some, None, refl, ap, ◌∙◌, arith, pos, add-one}
 use Rattle.std.specs.List.{sum_by}
 use Rattle.std.proofs.lemmas.Bool.{cond_both}
 use Rattle.std.proofs.lemmas.List.{take_more, take_all, length-map}
 use Rattle.std.proofs.lemmas.List.Sums.{sum_by-cons, sum_by-append}
 use Rattle.jc_base.specs.PlainLists.{pieces}
-use Rattle.jc_base.specs.Flow.{flow_of, jump_target}
+use Rattle.jc_base.specs.Flow.{flow_of}
 use Rattle.jc_base.specs.Insn.{arm_count, with_places, arm_with_place}
 use Rattle.jc_base.specs.WellMade.{IsCode, insns_and_arms}
 use Rattle.jc_base.specs.Widened.{inverted}
@@ -16,7 +16,6 @@ use Rattle.jc_base.specs.declared.insn.Flow.TheVariants as flows
 use Rattle.jc_base.specs.declared.kind.State.{State}
 use Rattle.jc_base.specs.declared.body.Body.{Body}
 use Rattle.jc_plan.specs.declared.branch.Branch.{Branch}
-use Rattle.jc_plan.specs.Edges.{branches_of}
 use Rattle.jc_plan.specs.Probed.{probe_of}
 use Rattle.jc_plan.specs.Plan.{lead_probe}
 use Rattle.jc_plan.proofs.FlowLaws.{few_of}
@@ -24,7 +23,7 @@ use Rattle.jc_after.specs.Shift.{with_slot}
 use Rattle.jc_emit.specs.Sizes.{insn_at, early_by, early_probe, late_probe, arms_by, arms_at}
 use Rattle.jc_emit.specs.Marks.{push}
 use Rattle.jc_emit.specs.TwinCode.{to_of, arm_place}
-use Rattle.jc_emit.specs.Items.{Item, insn_of, image, hop, prelude, probe, lead_part, early_part, hop_part, arm_parts, lead_of, land_of, image_of, tests_part, image_part, segment, twin_items}
+use Rattle.jc_emit.specs.Items.{Item, insn_of, prelude, probe, lead_part, early_part, hop_part, arm_parts, lead_of, land_of, image_of, tests_part, image_part, segment, twin_items}
 use Rattle.jc_emit.specs.Emission.{emission}
 
 -- ---- arms

@@ -1,6 +1,6 @@
 -- The states before the instructions at which frames stand are those of the frames.
-use Rattle.std.proofs.Common.{◌≡◌, ⊎_elim, subst, ℕ, zero, suc, ◌+◌, ◌<◌, Bool, true, false, List, [], ◌∷◌, length, get_or, map, Some, refl, sym, ap, ◌∙◌, arith}
-use Rattle.std.specs.Prelude.{Contains, slice_get}
+use Rattle.std.proofs.Common.{◌≡◌, ⊎_elim, subst, ℕ, zero, suc, ◌+◌, ◌<◌, false, List, [], ◌∷◌, length, get_or, map, Some, refl, sym, ap, ◌∙◌, arith}
+use Rattle.std.specs.Prelude.{Contains}
 use Rattle.std.specs.List.{AllByRecursion, IsDistinct}
 use Rattle.std.specs.Str.{bytes_eq}
 use Rattle.std.proofs.lemmas.Bool.{true≢false}
@@ -12,11 +12,9 @@ use Rattle.jc_base.specs.declared.kind.State.{State}
 use Rattle.jc_base.specs.declared.body.Body.{Body}
 use Rattle.jc_base.specs.declared.body.FrameAt.{FrameAt}
 use Rattle.jc_base.specs.Held.{Names, Seen, held, seen, IsNumbered, IsNumberedState, AreNumberedFrames}
-use Rattle.jc_base.specs.Names.{AreNames}
 use Rattle.jc_base.specs.WellMade.{IsWellMadeOfAnySize, AreFramesFrom}
 use Rattle.jc_base.specs.declared.insn.Insn.{Insn}
 use Rattle.jc_base.proofs.FirstSeenLaws.{contains_none, contains_cases}
-use Rattle.jc_kinds.specs.States.{state_of}
 use Rattle.jc_kinds.specs.Answers.{AreStates}
 use Rattle.jc_emit.specs.TwinFrames.{no_state, state_at, AreRising}
 use Rattle.jc_emit.specs.Emission.{HasFrameStates}

@@ -1,7 +1,7 @@
 -- What is read of the parts of frames, and the frames that are put.
-use Rattle.std.proofs.Common.{◌≡◌, inr, ℕ, suc, ◌+◌, ◌*◌, ◌<◌, ◌≤◌, Bool, true, false, ◌&&◌, ◌||◌, not, List, [], ◌∷◌, ◌++◌, length, get_or, map, Option, Some, None, refl, sym, ap, ap₂, ◌∙◌, subst, arith, add-one, append_assoc}
+use Rattle.std.proofs.Common.{◌≡◌, inr, ℕ, suc, ◌+◌, ◌*◌, ◌<◌, ◌≤◌, Bool, true, false, ◌&&◌, ◌||◌, not, List, [], ◌∷◌, ◌++◌, length, get_or, map, Option, Some, None, refl, sym, ap, ap₂, ◌∙◌, arith, add-one, append_assoc}
 use Rattle.std.specs.Prelude.{is_some, is_none}
-use Rattle.std.proofs.lemmas.List.{get_or_default, append-nil, length-map}
+use Rattle.std.proofs.lemmas.List.{get_or_default, length-map}
 use Rattle.jc_base.specs.PlainLists.{pieces}
 use Rattle.jc_base.specs.Flow.{flow_of}
 use Rattle.jc_base.specs.WellMade.{IsState}
@@ -15,11 +15,11 @@ use Rattle.jc_base.specs.declared.body.FrameAt.{FrameAt}
 use Rattle.jc_plan.specs.declared.branch.Branch.{Branch}
 use Rattle.jc_plan.specs.Probed.{probe_of}
 use Rattle.jc_plan.specs.Plan.{lead_probe, out_probes}
-use Rattle.jc_plan.proofs.FlowLaws.{few_at, few_insns}
+use Rattle.jc_plan.proofs.FlowLaws.{few_at}
 use Rattle.jc_emit.specs.declared.frames.Framing.{Framing}
-use Rattle.jc_emit.specs.Sizes.{insn_at, hop_size, probe_size, late_probe, arms_at}
+use Rattle.jc_emit.specs.Sizes.{insn_at, hop_size, late_probe, arms_at}
 use Rattle.jc_emit.specs.TwinFrames.{no_state, operands_of, state_at, left_by, state_behind}
-use Rattle.jc_emit.specs.Items.{segment_size, lead_of, land_of, image_of, twin_items}
+use Rattle.jc_emit.specs.Items.{segment_size, lead_of, land_of, image_of}
 use Rattle.jc_emit.specs.Emission.{frame, frame_if, moved_state, has_frame, has_inverse, arm_frame, arm_frames, frames_at, is_further, wide_frames_at}
 use Rattle.jc_emit.specs.Placing.{IsTable}
 use Rattle.jc_emit.specs.Framing.{without, id_frames, IsFraming}

@@ -1,8 +1,7 @@
 -- What the tables of a plan say of an instruction.
-use Rattle.std.proofs.Common.{◌≡◌, ℕ, ◌+◌, ◌<◌, List, [], ◌∷◌, length, get_or, map, Option, Some, None, refl, sym, ap, ap₂, ◌∙◌, arith}
-use Rattle.std.specs.Prelude.{slice_get}
+use Rattle.std.proofs.Common.{◌≡◌, ℕ, ◌+◌, ◌<◌, List, [], ◌∷◌, length, get_or, map, Option, None, refl, sym, ap, ◌∙◌, arith}
 use Rattle.std.proofs.lemmas.Option.{get_or_from_slice_get, slice_get-get_or}
-use Rattle.jc_base.specs.PlainLists.{map_from, places}
+use Rattle.jc_base.specs.PlainLists.{map_from}
 use Rattle.jc_base.specs.Flow.{flow_of, targets_of, jump_target}
 use Rattle.jc_base.specs.FirstSeen.{first_seen}
 use Rattle.jc_base.specs.declared.insn.Insn.{Insn}
@@ -11,14 +10,13 @@ use Rattle.jc_base.specs.declared.insn.Flow.{Flow}
 use Rattle.jc_base.specs.declared.insn.Flow.TheVariants as flows
 use Rattle.jc_base.specs.declared.body.Body.{Body}
 use Rattle.jc_base.specs.declared.plan.Plan.{Plan}
-use Rattle.jc_plan.specs.declared.branch.Branch.{Branch}
-use Rattle.jc_plan.specs.Edges.{arm, jump, branches_by, branches_of}
+use Rattle.jc_plan.specs.Edges.{arm, jump, branches_by}
 use Rattle.jc_plan.specs.Probed.{probe_of}
 use Rattle.jc_plan.specs.Plan.{plan_of, lead_probe, out_probe, out_probes}
 use Rattle.jc_plan.proofs.PlacesLaws.{length_mapped}
 use Rattle.jc_plan.proofs.PlanLaws.{lead_read, out_read}
-use Rattle.jc_emit.specs.Sizes.{insn_at, early_by, early_probe, late_by, late_probe, arms_by, arms_at}
-use Rattle.jc_emit.proofs.Others.{tests_target, jumps_target}
+use Rattle.jc_emit.specs.Sizes.{insn_at, late_by, late_probe, arms_by, arms_at}
+use Rattle.jc_emit.proofs.Others.{tests_target}
 
 length_map_from : {X Y : Type 0} (f : ℕ → X → Y) (k : ℕ) (xs : List X) → length (map_from f k xs) ≡ length xs
 length_map_from f k [] = refl

@@ -1,9 +1,8 @@
 -- The reasons for which a body isn't instrumented.
-use Rattle.std.proofs.Common.{◌≡◌, ⊎_elim, ℕ, ◌+◌, ◌<◌, ◌≤◌, Option, Some, None, ap, sym, ◌∙◌, arith}
+use Rattle.std.proofs.Common.{◌≡◌, ⊎_elim, ℕ, ◌+◌, ◌<◌, ◌≤◌, Some, None, ap, sym, ◌∙◌, arith}
 use Rattle.std.proofs.lemmas.Bool.{cases_lt}
 use Rattle.jc_base.specs.Least.{IsLeast}
 use Rattle.jc_base.specs.declared.body.Body.{Body}
-use Rattle.jc_base.specs.declared.refusal.Refusal.{Refusal}
 use Rattle.jc_base.specs.declared.refusal.RefusalKind.{RefusalKind}
 use Rattle.jc_base.specs.declared.refusal.RefusalKind.TheVariants as refusals
 use Rattle.jc_kinds.specs.StateShift.{IsStraddled}

@@ -1,4 +1,4 @@
-use Rattle.std.proofs.Common.{◌≡◌, ℕ, ◌+◌, ◌≤◌, [], length, sym, subst, arith, codes}
+use Rattle.std.proofs.Common.{◌+◌, ◌≤◌, [], length, sym, subst, arith}
 use Rattle.std.specs.List.{sum_by}
 use Rattle.std.proofs.lemmas.Option.{get_or_from_slice_get}
 use Rattle.jc_base.specs.Insn.{arm_count}

@@ -1,4 +1,4 @@
-use Rattle.std.proofs.Common.{◌≡◌, ℕ, ◌+◌, ◌<◌, Some, ap, ◌∙◌, arith}
+use Rattle.std.proofs.Common.{ℕ, ◌+◌, ◌<◌, Some, ap, ◌∙◌, arith}
 use Rattle.jc_emit.proofs.RefusalLaws.{straddling_each, locals_each, stack_each, none_each}
 use Rattle.jc_emit.proofs.emitting.refused.Goals as goal
 

@@ -1,5 +1,3 @@
-use Rattle.std.proofs.Common.{ℕ, ap, ◌∙◌, arith}
-use Rattle.jc_base.specs.PlainLists.{pieces}
 use Rattle.jc_emit.specs.Emission.{frames_at}
 use Rattle.jc_emit.proofs.FramingLaws.{piece_more}
 use Rattle.jc_emit.proofs.frames.Framing.frames.Goals as goal

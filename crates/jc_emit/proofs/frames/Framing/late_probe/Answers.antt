@@ -1,6 +1,4 @@
-use Rattle.std.proofs.Common.{◌≡◌, ℕ, List, ◌∷◌, [], Option, None, length, get_or, sym, ap, ◌∙◌, arith}
-use Rattle.jc_emit.specs.Sizes.{late_probe}
-use Rattle.jc_emit.specs.Framing.{IsFraming}
+use Rattle.std.proofs.Common.{ℕ, List, Option, None, length, get_or, sym, ap, arith}
 use Rattle.jc_emit.proofs.FramingLaws.{outs_long, test_read}
 use Rattle.jc_emit.proofs.frames.Framing.late_probe.Goals as goal
 
