@@ -1,5 +1,6 @@
 //! The instrumented code of a method.
-ghost use Rattle.std.specs.Prelude.{◌≡◌, ◌⊎◌, ⊤, ℕ, ◌+◌, ◌<◌, ◌≤◌, Some, None, length, IfOk, IfErr, IfSome, MatchResult};
+ghost use Rattle.std.specs.Prelude.{◌≡◌, ◌⊎◌, ⊤, ℕ, ◌+◌, ◌≤◌};
+ghost use Rattle.std.specs.Prelude.{Some, None, length, IfOk, IfErr, IfSome, MatchResult};
 ghost use Rattle.std.specs.List.{sum_by};
 ghost use Rattle.jc_base.specs.Held.{Grows, AreNumberedFrames};
 ghost use Rattle.jc_base.specs.Insn.{arm_count};

@@ -1,5 +1,6 @@
 //! The stack map frames of instrumented code (JVM Specification 4.7.4).
-ghost use Rattle.std.specs.Prelude.{◌≡◌, ℕ, ◌+◌, ◌-◌, ◌*◌, ◌<◌, ◌≤◌, ◌^◌, ◌&&◌, ◌||◌, not, false, ◌++◌, map, length, All, IfOk, OnOk, slice_index};
+ghost use Rattle.std.specs.Prelude.{◌≡◌, ℕ, ◌+◌, ◌*◌, ◌<◌, ◌≤◌, ◌^◌, ◌&&◌, ◌||◌};
+ghost use Rattle.std.specs.Prelude.{not, false, ◌++◌, map, length, All, IfOk, OnOk, slice_index};
 ghost use Rattle.jc_base.specs.Flow.{flow_of};
 ghost use Rattle.jc_base.specs.PlainLists.{pieces};
 ghost use Rattle.jc_base.specs.declared.insn.Flow.TheVariants as flows;
@@ -8,7 +9,8 @@ ghost use Rattle.jc_emit.specs.Shift.{image_kind, shifted_state};
 ghost use Rattle.jc_emit.specs.Sizes.{insn_at, arms_at, late_probe};
 ghost use Rattle.jc_emit.specs.TwinFrames.{operands_of, state_at, left_by};
 ghost use Rattle.jc_emit.specs.Items.{image_of};
-ghost use Rattle.jc_emit.specs.Emission.{frame, frame_if, moved_state, has_inverse, frames_at, wide_frames_at, arm_frames};
+ghost use Rattle.jc_emit.specs.Emission.{frame, frame_if, moved_state, has_inverse};
+ghost use Rattle.jc_emit.specs.Emission.{frames_at, wide_frames_at, arm_frames};
 ghost use Rattle.jc_emit.specs.Framing.{IsMadeWithin, without, AreFramed, id_frames, IsFraming};
 
 use crate::places::{Places, hop_size};
