@@ -6,9 +6,7 @@ ghost use Rattle.jc_base.specs.InsnUse.{LeadsWithin};
 ghost use Rattle.jc_layout.specs.Layable.{IsLayable};
 
 use crate::{Laid, layout};
-use jc_base::{
-    Arm, Emitted, Fail, Form, Insn, List, Memory, Refusal, RefusalKind, form_of, opcode,
-};
+use jc_base::{Arm, Emitted, Fail, Form, Insn, List, Refusal, RefusalKind, form_of, opcode};
 use std::alloc::{AllocError, Global};
 use std::test::Fail as Failed;
 
