@@ -1,5 +1,5 @@
 //! The text of a report.
-ghost use Rattle.std.specs.Prelude.{◌≡◌, ◌++◌, ◌∷◌, [], Some, false, IfOk, OnOk, decimal};
+ghost use Rattle.std.specs.Prelude.{◌≡◌, ◌++◌, [], false, IfOk, OnOk};
 ghost use Rattle.csv.specs.Records.{fields_of, partial_of};
 ghost use Rattle.csv.specs.Writing.{default_writer, fields_written, has_written, writer_setup};
 ghost use Rattle.jc_report.specs.Csv.{count_fields, csv_of, row_line, row_fields};
@@ -29,7 +29,7 @@ fn push_count(alloc: Global, fields: &mut ByteRecord, count: &Count) -> Result<(
 }
 
 /// The fields of a row.
-fn fields_of(alloc: Global, row: &Row) -> Result<ByteRecord, Memory>
+fn record_of(alloc: Global, row: &Row) -> Result<ByteRecord, Memory>
     ensures { IfOk result (λ fields. fields_of fields ≡ row_fields row.now) }
 {
     let mut fields = ByteRecord::new(alloc);
@@ -54,7 +54,7 @@ fn write_row(alloc: Global, writer: &mut Writer<Vec<u8>>, row: &Row) -> Result<(
     ensures wrote { OnOk result (has_written writer.new ≡ false) }
     ensures setup { OnOk result (writer_setup writer.new ≡ default_writer) }
 {
-    let fields = fields_of(alloc, row)?;
+    let fields = record_of(alloc, row)?;
     match writer.write_byte_record(&fields) {
         Ok(()) => Ok(()),
         Err(_) => Err(Memory),

@@ -1,5 +1,5 @@
 //! The names of packages and classes in a report.
-ghost use Rattle.std.specs.Prelude.{◌≡◌, List, IfOk, map};
+ghost use Rattle.std.specs.Prelude.{◌≡◌, IfOk};
 ghost use Rattle.std.specs.Option.{option_map};
 ghost use Rattle.jc_report.specs.Spelled.{shown};
 ghost use Rattle.jc_report.specs.Split.{split_at_last};
