@@ -311,9 +311,9 @@ fn strings_are_found_by_their_texts(rt: HostRuntime) -> Result<(), test::Fail> {
     let Ok(mut pool) = Pool::read(alloc, &mut Reader::new(&NUMBERS_AND_STRINGS)) else {
         return Err("refused")?;
     };
-    for (text, place) in [(b"A", 8), (b"B", 11), (b"B", 11)] {
-        assert_eq!(rt; pool.add_string(alloc, text), Ok(place));
-    }
+    assert_eq!(rt; pool.add_string(alloc, b"A"), Ok(8));
+    assert_eq!(rt; pool.add_string(alloc, b"B"), Ok(11));
+    assert_eq!(rt; pool.add_string(alloc, b"B"), Ok(11));
     assert_eq!(rt; pool.add_utf8(alloc, b"B"), Ok(10));
     assert_eq!(rt; pool.count(), 12);
     Ok(())
@@ -337,18 +337,13 @@ fn members_are_found_or_go_last(rt: HostRuntime) -> Result<(), test::Fail> {
     let Ok(mut pool) = Pool::read(alloc, &mut Reader::new(&EVERY_TAG)) else {
         return Err("refused")?;
     };
-    for (tag, class, desc, place) in [
-        (9, b"A", &b"()V"[..], 5),
-        (10, b"A", b"()V", 6),
-        (11, b"A", b"()V", 7),
-        (10, b"A", b"I", 23),
-        (10, b"A", b"I", 23),
-        (9, b"A", b"I", 24),
-        (11, b"B", b"B", 28),
-    ] {
-        let added = pool.add_member(alloc, tag, class, class, desc);
-        assert_eq!(rt; added, Ok(place), "{place}");
-    }
+    assert_eq!(rt; pool.add_member(alloc, 9, b"A", b"A", b"()V"), Ok(5));
+    assert_eq!(rt; pool.add_member(alloc, 10, b"A", b"A", b"()V"), Ok(6));
+    assert_eq!(rt; pool.add_member(alloc, 11, b"A", b"A", b"()V"), Ok(7));
+    assert_eq!(rt; pool.add_member(alloc, 10, b"A", b"A", b"I"), Ok(23));
+    assert_eq!(rt; pool.add_member(alloc, 10, b"A", b"A", b"I"), Ok(23));
+    assert_eq!(rt; pool.add_member(alloc, 9, b"A", b"A", b"I"), Ok(24));
+    assert_eq!(rt; pool.add_member(alloc, 11, b"B", b"B", b"B"), Ok(28));
     assert_eq!(rt; pool.count(), 29);
     assert_eq!(rt; pool.add_class(alloc, b"B"), Ok(26));
     Ok(())
