@@ -16,7 +16,7 @@ use Rattle.jc_pool.specs.Lookup.{entry_of, utf8_in, utf8_of, class_name_of, inte
 use Rattle.jc_pool.specs.Adding.{IsFirst, IsNowhere, IsPut, IsPutAs, Adds, HasUtf8, PutsNaming, HasClass, HasInteger, HasLong, Extends}
 use Rattle.jc_pool.specs.Index.{entry_naming, naming_of, HasNaming}
 use Rattle.jc_pool.proofs.FirstPlaceLaws.{one_first}
-use Rattle.jc_pool.proofs.OneMoreEntryLaws.{one_more, by_slots, slot_put, entry_stays, entry_put, entry_past, read_off, stays, past, put_there, utf8_stays, utf8_past, utf8_put}
+use Rattle.jc_pool.proofs.OneMoreEntryLaws.{one_more, by_slots, slot_put, entry_stays, entry_put, entry_past, read_off, stays, past, utf8_stays, utf8_past, utf8_put}
 use Rattle.jc_pool.proofs.KeyPlaceLaws.{has_name, is_named, naming_past}
 use Rattle.jc_pool.proofs.AddingLaws.{put_at_end, put_extends}
 

@@ -1,5 +1,5 @@
 -- What stands in a pool to which fields and methods were added.
-use Rattle.std.proofs.Common.{◌≡◌, ◌⊎◌, inl, inr, ℕ, ◌<◌, ◌≤◌, ◌==◌, Bool, ◌&&◌, List, [], ◌++◌, length, Option, Some, None, Decides, refl, sym, ◌∙◌, ap, subst, arith}
+use Rattle.std.proofs.Common.{◌≡◌, ◌⊎◌, inl, inr, ℕ, ◌≤◌, ◌==◌, Bool, ◌&&◌, List, [], length, Option, Some, None, Decides, refl, sym, ◌∙◌, ap, subst, arith}
 use Rattle.std.proofs.lemmas.Bool.Decides.{Decides-eqb}
 use Rattle.std.proofs.lemmas.Bool.{cases_lt}
 use Rattle.std.proofs.lemmas.Option.{none-some}
@@ -11,7 +11,7 @@ use Rattle.jc_pool.specs.declared.entry.Entry.TheVariants as entry
 use Rattle.jc_pool.specs.declared.index.Naming.TheVariants as naming
 use Rattle.jc_pool.specs.Pool.{PoolValue}
 use Rattle.jc_pool.specs.Lookup.{entry_of, class_name_of, Signature, signature_of, Member, signature, ref_of, dynamic_of, member_in, member_of}
-use Rattle.jc_pool.specs.Adding.{HasUtf8, HasClass, PutsSignature, HasSignature, PutsMember, HasMember, IsMemberTag, entry_of_member, Extends}
+use Rattle.jc_pool.specs.Adding.{HasUtf8, PutsSignature, HasSignature, PutsMember, HasMember, IsMemberTag, entry_of_member, Extends}
 use Rattle.jc_pool.proofs.FirstPlaceMapLaws.{and_decided}
 use Rattle.jc_pool.proofs.OneMoreEntryLaws.{past}
 use Rattle.jc_pool.proofs.KeyPlaceLaws.{has_signature, is_signed, signature_past}

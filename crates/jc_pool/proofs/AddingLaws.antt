@@ -16,9 +16,9 @@ use Rattle.jc_pool.specs.declared.index.Index.{Index}
 use Rattle.jc_pool.specs.declared.index.Naming.{Naming}
 use Rattle.jc_pool.specs.declared.index.Naming.TheVariants as naming
 use Rattle.jc_pool.specs.Pool.{PoolValue, width, slots_of, IsSmall, IsPool}
-use Rattle.jc_pool.specs.Lookup.{utf8_in, utf8_of, class_name_of, Signature, signature_of, Member, signature, member_of}
+use Rattle.jc_pool.specs.Lookup.{utf8_in, utf8_of, Signature, signature_of, Member, signature, member_of}
 use Rattle.jc_pool.specs.Adding.{IsNowhere, IsPut, IsPutAs, Adds, HasUtf8, PutsNaming, HasClass, PutsSignature, HasSignature, PutsMember, HasMember, entry_of_member, RefusesFull, Extends}
-use Rattle.jc_pool.specs.Index.{IsFirstBelow, AreFirsts, AreStandins, Notes, NotesEntry, text_place, key_in, key_at, slot_key, key_place, entry_naming, naming_of, HasNaming, AreTables, IsIndexOf, missing, CountsTo}
+use Rattle.jc_pool.specs.Index.{IsFirstBelow, Notes, NotesEntry, text_place, key_in, slot_key, key_place, entry_naming, naming_of, HasNaming, AreTables, IsIndexOf, missing, CountsTo}
 use Rattle.jc_pool.proofs.FirstPlaceLaws.{is_nowhere}
 use Rattle.jc_pool.proofs.OneMoreEntryLaws.{grown_length, by_slots, utf8_past, texts_stay, texts_grow, text_standins, keys_grow, put_pool}
 

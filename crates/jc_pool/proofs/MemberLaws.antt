@@ -1,7 +1,6 @@
 -- Fields and methods that are put behind the entries of a pool, and what they lack.
-use Rattle.std.proofs.Common.{◌≡◌, ◌≢◌, ◌⊎◌, inl, inr, ℕ, ◌+◌, ◌<◌, ◌≤◌, ◌==◌, Bool, true, false, List, [], ◌∷◌, ◌++◌, length, if◌then◌else◌, Option, Some, None, Result, Ok, Err, refl, sym, ◌∙◌, ap, subst, true≢false, arith}
+use Rattle.std.proofs.Common.{◌≡◌, ◌≢◌, ◌⊎◌, inl, inr, ℕ, ◌+◌, ◌==◌, Bool, true, false, List, [], ◌∷◌, ◌++◌, length, if◌then◌else◌, Option, Some, None, Err, refl, sym, ◌∙◌, ap, true≢false, arith}
 use Rattle.std.proofs.lemmas.Bool.{cases_Bool}
-use Rattle.std.proofs.lemmas.Option.{none-some}
 use Rattle.std.proofs.lemmas.Slice.Eq.{bytes_eq-Decides}
 use Rattle.std.specs.Str.{bytes_eq}
 use Rattle.jc_base.specs.declared.fail.Fail.{Fail}
@@ -13,10 +12,10 @@ use Rattle.jc_pool.specs.declared.index.Key.{Key}
 use Rattle.jc_pool.specs.declared.index.Key.TheVariants as key
 use Rattle.jc_pool.specs.declared.index.Index.{Index}
 use Rattle.jc_pool.specs.declared.index.Naming.TheVariants as naming
-use Rattle.jc_pool.specs.Pool.{PoolValue, width, slots_of, IsSmall, IsPool}
-use Rattle.jc_pool.specs.Lookup.{utf8_in, utf8_of, class_name_of, Signature, signature_of, Member, signature, member_of}
-use Rattle.jc_pool.specs.Adding.{IsFirst, IsNowhere, IsPut, HasUtf8, HasClass, PutsSignature, HasSignature, PutsMember, HasMember, entry_of_member, RefusesFull, Extends}
-use Rattle.jc_pool.specs.Index.{IsFirstBelow, Notes, NotesEntry, text_place, standing_for, key_in, key_place, same_key, signature_place, naming_place, AreTables, IsIndexOf, with_text, absent, missing_signature, IsClassed, Lacks, CountsTo}
+use Rattle.jc_pool.specs.Pool.{PoolValue, width, slots_of, IsSmall}
+use Rattle.jc_pool.specs.Lookup.{utf8_in, utf8_of, class_name_of, Signature, Member, signature, member_of}
+use Rattle.jc_pool.specs.Adding.{IsNowhere, HasUtf8, PutsSignature, HasSignature, HasMember, entry_of_member, RefusesFull}
+use Rattle.jc_pool.specs.Index.{Notes, NotesEntry, text_place, standing_for, key_place, same_key, signature_place, naming_place, AreTables, IsIndexOf, with_text, absent, missing_signature, IsClassed, Lacks, CountsTo}
 use Rattle.jc_pool.proofs.FirstPlaceLaws.{is_first, is_nowhere}
 use Rattle.jc_pool.proofs.FirstPlaceMapLaws.{one_key}
 use Rattle.jc_pool.proofs.IndexLaws.{same_table}

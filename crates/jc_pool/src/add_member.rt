@@ -1,9 +1,9 @@
 //! Adding fields and methods to what stands at the places of a pool.
 ghost use Rattle.std.specs.Prelude.{◌≡◌, ◌+◌, ◌≤◌, Some, IfOk, OnOk, OnErr, length};
 ghost use Rattle.jc_base.specs.Texts.{IsShortText};
-ghost use Rattle.jc_pool.specs.Adding.{IsNowhere, HasSignature, PutsMember, HasMember, Extends, RefusesFull, IsMemberTag, entry_of_member};
+ghost use Rattle.jc_pool.specs.Adding.{IsNowhere, HasSignature, PutsMember, HasMember, Extends, RefusesFull, entry_of_member};
 ghost use Rattle.jc_pool.specs.Index.{IsIndexOf, IsClassed, Lacks, text_place, with_text, new_name, absent, missing_signature};
-ghost use Rattle.jc_pool.specs.Lookup.{Member, member_of, member, HasShortTexts};
+ghost use Rattle.jc_pool.specs.Lookup.{member_of, member, HasShortTexts};
 ghost use Rattle.jc_pool.specs.Pool.{IsPool};
 
 use crate::add::{PoolFull, add_naming, add_text, check_room, put_entry, take_room};
