@@ -1,33 +1,37 @@
 -- Instrumented code can be laid out.
-use Rattle.std.proofs.Common.{◌≡◌, ⊎_elim, inl, inr, ℕ, ◌+◌, ◌<◌, false, List, [], ◌∷◌, map, length, get_or, Option, Some, None, refl, sym, ap, ◌∙◌, subst, All}
+use Rattle.std.proofs.Common.{◌≡◌, ⊎_elim, inl, inr, ℕ, ◌+◌, ◌<◌, false, List, [], ◌∷◌, map, length, get_or, Option, Some, None, refl, sym, ap, ◌∙◌, subst, arith, ◌≤◌, All}
 use Rattle.std.specs.Prelude.{slice_get, Contains}
-use Rattle.std.specs.List.{AllByRecursion}
+use Rattle.std.specs.List.{AllByRecursion, sum_by}
 use Rattle.std.proofs.lemmas.Bool.{cases_lt}
 use Rattle.std.proofs.lemmas.List.{length-map}
 use Rattle.std.proofs.lemmas.List.Elements.{All-map}
+use Rattle.std.proofs.lemmas.List.Sums.{sum_by-cons}
 use Rattle.std.proofs.lemmas.Option.{slice_get_past, slice_get-get_or}
 use Rattle.jc_base.specs.PlainLists.{map_from}
 use Rattle.jc_base.specs.FirstSeen.{first_seen}
 use Rattle.jc_base.proofs.FirstSeenLaws.{contains_none, contains_cases, contains_first, contains_later, first_seen_all}
 use Rattle.jc_base.specs.Flow.{flow_of, targets_of}
-use Rattle.jc_base.specs.Insn.{IsWellFormed, with_places}
+use Rattle.jc_base.specs.Insn.{IsWellFormed, arm_count, with_places}
 use Rattle.jc_base.specs.InsnUse.{LeadsWithin}
-use Rattle.jc_base.specs.WellMade.{IsCode}
+use Rattle.jc_base.specs.WellMade.{IsCode, insns_and_arms}
 use Rattle.jc_base.specs.declared.insn.Insn.{Insn}
 use Rattle.jc_base.specs.declared.insn.Insn.TheVariants as insns
 use Rattle.jc_base.specs.declared.insn.Flow.{Flow}
 use Rattle.jc_base.specs.declared.insn.Flow.TheVariants as flows
 use Rattle.jc_base.specs.declared.body.Body.{Body}
+use Rattle.jc_base.specs.declared.kind.State.{State}
 use Rattle.jc_insn.proofs.PlacesLaws.{well_formed_with}
 use Rattle.jc_plan.specs.declared.branch.Branch.{Branch}
 use Rattle.jc_plan.specs.Edges.{arm, branches_by}
 use Rattle.jc_plan.specs.Probed.{probe_of}
 use Rattle.jc_after.specs.Shift.{with_slot}
+use Rattle.jc_emit.specs.Emission.{emission}
 use Rattle.jc_emit.specs.Marks.{push}
 use Rattle.jc_emit.specs.Sizes.{insn_at}
 use Rattle.jc_emit.specs.TwinCode.{to_of}
 use Rattle.jc_emit.specs.Items.{Item, init_call, init_store, image, probe_array, probe_id, probe_one, probe_store, hop, insn_of, twin_items}
 use Rattle.jc_emit.specs.Local.{Lands, Ok, OkImage}
+use Rattle.jc_emit.proofs.FewLaws.{few_emitted}
 use Rattle.jc_emit.proofs.PlacedLaws.{flow_push, flow_shifted, targets_placed, no_targets, inverse_targets, placed_targets}
 use Rattle.jc_emit.proofs.Others.{jumps_target}
 use Rattle.jc_emit.proofs.LocalLaws.{twin_ok}
@@ -162,3 +166,19 @@ module _ (b : Body) (first : ℕ) (is_code : IsCode b.code) where
   all_within =
       subst (λ n. All (LeadsWithin n) (map (insn_of 0 b.arg_slots) items)) (sym (length-map items (insn_of 0 b.arg_slots)))
       (All-map (LeadsWithin count) (insn_of 0 b.arg_slots) items (λ q d lt. item_within q (get_or items q d) (fine q d lt)))
+
+-- ---- how many there are
+
+together : (code : List Insn) → insns_and_arms code ≡ length code + sum_by arm_count code
+together [] = refl
+together (insn ∷ code) =
+    let both = sum_by-cons (λ (x : Insn). 1 + arm_count x) insn code in
+    let arms = sum_by-cons arm_count insn code in
+    omega (arith, both, arms, together code)
+
+pub few_in : (b : Body) (first : ℕ) (states : List State) (array : ℕ) → IsCode b.code
+    → insns_and_arms (emission b first states array).code ≤ 1000000
+few_in b first states array is_code =
+    let few = few_emitted b first states array is_code in
+    let both = together (emission b first states array).code in
+    omega (arith, few, both)

@@ -2,7 +2,6 @@ pub mod LayoutLaws
 pub mod OffsetLaws
 pub mod ChoiceLaws
 pub mod FormedLaws
-pub mod CountLaws
 pub mod LayableLaws
 pub mod MergedLaws
 pub mod LaidCodeLaws

@@ -1,6 +1,5 @@
 use Rattle.jc_emit.specs.Emission.{emission}
-use Rattle.jc_layout.proofs.CountLaws.{items_cost}
-use Rattle.jc_layout.proofs.LayableLaws.{all_formed, all_within}
+use Rattle.jc_layout.proofs.LayableLaws.{all_formed, all_within, few_in}
 use Rattle.jc_layout.proofs.laws.each_emission_can_be_laid.Goals as goal
 
 pub returns : goal.returns
@@ -8,5 +7,5 @@ unfolding emission
 returns c = λ b first states array well. record {
   well_formed = all_formed b first well.code;
   places = all_within b first well.code;
-  few = items_cost b first well.code;
+  few = few_in b first states array well.code;
 }
