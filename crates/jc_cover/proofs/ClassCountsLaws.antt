@@ -1,23 +1,22 @@
 -- The methods of a class, one by one.
-use Rattle.std.proofs.Common.{◌≡◌, ℕ, ◌+◌, ◌-◌, ◌*◌, ◌<◌, ◌≤◌, Bool, true, false, cond, List, [], ◌∷◌, ◌++◌, map, length, filter, get_or, drop, refl, sym, ap, ap₂, ◌∙◌, subst, append_assoc, arith}
-use Rattle.std.specs.Prelude.{All, slice_get}
-use Rattle.std.specs.List.{sum_by, flat_map}
+use Rattle.std.proofs.Common.{◌≡◌, ℕ, ◌+◌, ◌-◌, ◌<◌, ◌≤◌, Bool, true, false, cond, List, [], ◌∷◌, ◌++◌, map, length, filter, get_or, drop, refl, sym, ap, ap₂, ◌∙◌, subst, append_assoc, arith}
+use Rattle.std.specs.Prelude.{All}
+use Rattle.std.specs.List.{flat_map}
 use Rattle.std.proofs.lemmas.List.{drop_all, append-nil, length-map}
 use Rattle.std.proofs.lemmas.Option.{same_Some, slice_get_read}
 use Rattle.jc_base.specs.FirstSeen.{first_seen}
-use Rattle.jc_base.specs.WellMade.{IsLine, insns_and_arms}
+use Rattle.jc_base.specs.WellMade.{IsLine}
 use Rattle.jc_base.specs.declared.analysed.Analysed.{Analysed}
 use Rattle.jc_base.specs.declared.body.Body.{Body}
 use Rattle.jc_base.proofs.AppendingLaws.{drop_is}
 use Rattle.jc_plan.specs.Analysed.{IsAnalysed}
 use Rattle.jc_plan.proofs.FlowLaws.{few_insns}
 use Rattle.jc_cover.specs.declared.coverage.Count.{Count}
-use Rattle.jc_cover.specs.declared.coverage.Counters.{Counters}
 use Rattle.jc_cover.specs.declared.coverage.Coverage.{Coverage}
 use Rattle.jc_cover.specs.declared.sums.Sums.{Sums}
 use Rattle.jc_cover.specs.Covered.{HasShape, body_shape}
-use Rattle.jc_cover.specs.Counters.{Method, methods_of, is_counted, counted_methods, counters_of, line_count, lined_insns, whole}
-use Rattle.jc_cover.specs.Lines.{numbers, covered_numbers, methods_lines, covered_methods_lines, counted_lines}
+use Rattle.jc_cover.specs.Counters.{Method, methods_of, is_counted, counted_methods, counters_of, line_count, lined_insns}
+use Rattle.jc_cover.specs.Lines.{methods_lines, covered_methods_lines, counted_lines}
 use Rattle.jc_cover.specs.Sums.{plus, AreSmall, methods_sums, method_sums, one_counted, insns_weight}
 use Rattle.jc_cover.proofs.ClassLaws.{well_made}
 use Rattle.jc_cover.proofs.DistinctLaws.{covered_lines, all_lines}
@@ -25,7 +24,6 @@ use Rattle.jc_cover.proofs.InsnLinesLaws.{lines_join, covered_lines_join}
 use Rattle.jc_cover.proofs.OneCoverageLaws.{body_at}
 use Rattle.jc_cover.proofs.SmallLaws.{sized, counters_small}
 use Rattle.jc_cover.proofs.SumsLaws.{plus_assoc, plus_none, plus_end, part_small, small_count, methods_counted}
-use Rattle.jc_cover.proofs.TotalLaws.{count_whole}
 
 pub sums_join : (a b : List Method) → methods_sums (a ++ b) ≡ plus (methods_sums a) (methods_sums b)
 sums_join [] b = sym (plus_none (methods_sums b))

@@ -1,16 +1,15 @@
 -- How many different lines there are, and how many of them are covered.
-use Rattle.std.proofs.Common.{◌≡◌, ◌⊎◌, inl, inr, ⊎_elim, ℕ, zero, suc, ◌+◌, ◌-◌, ◌<◌, ◌≤◌, Bool, true, false, cond, not, ◌&&◌, ◌||◌, nat_eq, List, [], ◌∷◌, map, length, filter, refl, sym, ap, ap₂, ◌∙◌, subst, arith}
+use Rattle.std.proofs.Common.{◌≡◌, ⊎_elim, ℕ, ◌+◌, Bool, true, false, cond, ◌&&◌, ◌||◌, nat_eq, List, [], ◌∷◌, map, length, filter, refl, sym, ap, ap₂, ◌∙◌, subst, arith}
 use Rattle.std.specs.Prelude.{Contains}
 use Rattle.std.specs.List.{count_by, list_any}
 use Rattle.std.specs.Cmp.{nat_eq_equiv}
-use Rattle.std.proofs.lemmas.Bool.{eqb-true, eq-eqb, false_from_ne_true, both_ways}
+use Rattle.std.proofs.lemmas.Bool.{eqb-true, eq-eqb, false_from_ne_true}
 use Rattle.std.proofs.lemmas.Map.Views.{Contains-from_any}
 use Rattle.jc_base.specs.FirstSeen.{first_seen, IsDistinct}
 use Rattle.jc_base.proofs.FirstSeenLaws.{any_first_seen, first_seen_all, contains_none, contains_cases, contains_first, contains_later, first_seen_distinct, first_seen_listed}
 use Rattle.jc_plan.specs.Entries.{one_if}
 use Rattle.jc_plan.proofs.CountLaws.{count_cons}
-use Rattle.jc_cover.specs.declared.coverage.Count.{Count}
-use Rattle.jc_cover.specs.Counters.{Lined, count_of, is_covered_line, line_count}
+use Rattle.jc_cover.specs.Counters.{Lined, is_covered_line, line_count}
 use Rattle.jc_cover.specs.Lines.{numbers, covered_numbers}
 use Rattle.jc_cover.proofs.TotalLaws.{count_whole}
 

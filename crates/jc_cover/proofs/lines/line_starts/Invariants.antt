@@ -1,4 +1,4 @@
-use Rattle.std.proofs.Common.{◌≡◌, length, drop, replicate, None}
+use Rattle.std.proofs.Common.{drop, replicate, None}
 use Rattle.jc_cover.specs.Lines.{with_lines}
 use Rattle.jc_cover.proofs.TableLaws.{Putting}
 use Rattle.jc_cover.proofs.lines.line_starts.Given as goal

@@ -1,6 +1,3 @@
-use Rattle.std.proofs.Common.{◌≡◌, ◌++◌, take}
-use Rattle.jc_base.specs.PlainLists.{join_from}
-use Rattle.jc_cover.specs.Lines.{insn_line, covered_insn_line}
 use Rattle.jc_cover.proofs.StartsLaws.{Lining}
 use Rattle.jc_cover.proofs.lines.put_lines.Given as goal
 

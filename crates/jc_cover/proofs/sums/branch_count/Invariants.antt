@@ -1,5 +1,3 @@
-use Rattle.std.proofs.Common.{◌≡◌, ◌+◌, not, take}
-use Rattle.std.specs.List.{count_by}
 use Rattle.jc_cover.proofs.SumsLaws.{BranchesCounted}
 use Rattle.jc_cover.proofs.sums.branch_count.Given as goal
 

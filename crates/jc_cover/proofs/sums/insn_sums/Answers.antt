@@ -1,4 +1,4 @@
-use Rattle.std.proofs.Common.{◌≤◌, ap, ◌∙◌, arith}
+use Rattle.std.proofs.Common.{ap, ◌∙◌, arith}
 use Rattle.jc_cover.specs.declared.coverage.Count.{Count}
 use Rattle.jc_cover.specs.declared.sums.Sums.{Sums}
 use Rattle.jc_cover.proofs.SumsLaws.{some_branches, plain_insn, branching_insn}

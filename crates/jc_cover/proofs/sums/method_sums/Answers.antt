@@ -1,4 +1,4 @@
-use Rattle.std.proofs.Common.{◌≡◌, ◌<◌, ◌≤◌, nat_lt, length, sym, ap, ap₂, ◌∙◌, subst, arith}
+use Rattle.std.proofs.Common.{◌<◌, ◌≤◌, nat_lt, length, sym, ap, ap₂, ◌∙◌, subst, arith}
 use Rattle.jc_cover.specs.declared.sums.Sums.{Sums}
 use Rattle.jc_cover.specs.Sums.{plus, AreSmall, insn_sums, insns_sums, own_sums}
 use Rattle.jc_cover.proofs.SumsLaws.{insn_small, small_method, all_insns_put, covered_told}
