@@ -126,7 +126,7 @@ one_signature_put old s new other place at p q =
     let desc = one_utf8 q.0 p.3 q.3 s.desc p.4 q.4 has q.5 in
     one_put p.3 q.3 new other (entry.NameAndType p.1 p.4) (entry.NameAndType q.1 q.4) place at desc.pool (λ i. entry.NameAndType (name.place_is i) (desc.place_is i)) p.6 q.6
 
-one_signature : (old : PoolValue) (s : Signature) (new other : PoolValue) (place at : ℕ) → HasSignature old s new place → HasSignature old s other at → AreOne new other place at
+pub one_signature : (old : PoolValue) (s : Signature) (new other : PoolValue) (place at : ℕ) → HasSignature old s new place → HasSignature old s other at → AreOne new other place at
 one_signature old s new other place at p q = one_added signature_of s old (PutsSignature old s) (one_signature_put old s) new other place at p q
 
 one_member_put : (old : PoolValue) (m : Member) (new other : PoolValue) (place at : ℕ) → PutsMember old m new place → PutsMember old m other at → AreOne new other place at

@@ -5,11 +5,11 @@ pub mod WritingLaws
 pub mod TextLaws
 pub mod OneTextLaws
 mod FirstPlaceLaws
-mod OneMoreEntryLaws
+pub mod OneMoreEntryLaws
 mod FirstPlaceMapLaws
-mod KeyPlaceLaws
+pub mod KeyPlaceLaws
 pub mod AddingLaws
 pub mod AddedLaws
 mod IndexLaws
 mod MemberLaws
-mod AddedMemberLaws
+pub mod AddedMemberLaws
