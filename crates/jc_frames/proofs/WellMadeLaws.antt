@@ -20,7 +20,7 @@ use Rattle.jc_frames.specs.declared.items.TypeItem.{TypeItem}
 use Rattle.jc_frames.specs.declared.items.TypeItem.TheVariants as types
 use Rattle.jc_frames.specs.declared.items.FrameItem.{FrameItem}
 use Rattle.jc_frames.specs.declared.items.FrameItem.TheVariants as frames
-use Rattle.jc_frames.specs.Frames.{Ground, Before, first_before, trimmed, values_from, values_in, is_new, insn_from, type_of, in_front, types_of, offset_of, values_of, stack_of, is_start, Found, found, fits_slots, found_if, frame_of}
+use Rattle.jc_frames.specs.Frames.{Ground, Before, first_before, trimmed, values_from, values_in, is_new, insn_from, type_of, in_front, types_of, offset_of, values_of, stack_of, is_start, Found, found, found_if, frame_of}
 use Rattle.jc_frames.specs.Table.{AreFrames}
 use Rattle.jc_frames.specs.WellMade.{AreOffsets, HasNew, FramesAreWellMade, IsValue, ArgumentsAreFirst}
 use Rattle.jc_frames.proofs.ValuesLaws.{paired_in, pair_values, single_values, spread_slots, in_values}

@@ -1,23 +1,16 @@
 -- Instructions whose places in the code are replaced.
-use Rattle.std.proofs.Common.{◌≡◌, ℕ, ◌+◌, ◌-◌, ◌*◌, ◌%◌, ◌<◌, ◌≤◌, Bool, true, false, cond, List, [], ◌∷◌, ◌++◌, length, map, get_or, All, nat_eq, nat_lt, refl, sym, ◌∙◌, ap, subst, arith, w16, w32, ℤ, pos, length-append}
+use Rattle.std.proofs.Common.{◌≡◌, ℕ, ◌+◌, ◌-◌, ◌*◌, ◌%◌, ◌<◌, ◌≤◌, cond, List, [], ◌∷◌, ◌++◌, length, map, get_or, All, refl, sym, ◌∙◌, ap, subst, arith, w16, w32, ℤ, pos}
 use Rattle.std.specs.Prelude.{FitsSigned, ◌≤ℤ◌, ◌+ℤ◌}
-use Rattle.std.specs.List.{flat_map}
-use Rattle.std.specs.Int.{cast_unsigned}
 use Rattle.std.proofs.lemmas.List.{length-map, map-id}
 use Rattle.std.proofs.lemmas.List.Elements.{All-map, All-nil, All-cons, All-tail}
 use Rattle.jc_base.specs.declared.form.Form.{Form}
 use Rattle.jc_base.specs.declared.form.Form.TheVariants as forms
-use Rattle.jc_base.specs.InsnForm.{form_of}
 use Rattle.jc_base.specs.declared.insn.Insn.{Insn}
 use Rattle.jc_base.specs.declared.insn.Insn.TheVariants as insns
 use Rattle.jc_base.specs.declared.insn.Arm.{Arm}
 use Rattle.jc_base.specs.Insn.{IsWellFormed, IsAscending, with_places, arm_with_place}
-use Rattle.jc_base.specs.Flow.{targets_of, inverse_of}
-use Rattle.jc_insn.specs.Items.{padding}
-use Rattle.jc_insn.specs.Sizes.{size_of, push_size, is_narrow_inc}
-use Rattle.jc_insn.specs.Writing.{short, word, signed_byte, signed_short, difference, push_text, local_text, inc_text, constant_text, pad_text, arm_text, last_key, table_text, lookup_text, jump_text, insn_text, IsInRange}
-use Rattle.jc_insn.proofs.ReadBackLaws.{short_size, word_size}
-use Rattle.jc_insn.proofs.SwitchesSpelledLaws.{pad_length, offsets_length, arms_length}
+use Rattle.jc_base.specs.Flow.{targets_of}
+use Rattle.jc_insn.specs.Writing.{IsInRange}
 
 ascending_map : (f : ℕ → ℕ) (arms : List Arm) → IsAscending arms → IsAscending (map (arm_with_place f) arms)
 ascending_map f [] up = tt

@@ -1,10 +1,9 @@
 -- How many bytes are written of an instruction.
-use Rattle.std.proofs.Common.{◌≡◌, ℕ, ◌+◌, ◌-◌, ◌*◌, ◌%◌, ◌<◌, ◌≤◌, Bool, true, false, cond, List, [], ◌∷◌, ◌++◌, length, map, get_or, All, nat_eq, nat_lt, refl, sym, ap, subst, arith, w16, w32, ℤ, pos, length-append}
-use Rattle.std.specs.Prelude.{FitsSigned, ◌≤ℤ◌, ◌+ℤ◌}
+use Rattle.std.proofs.Common.{◌≡◌, ℕ, ◌+◌, ◌-◌, ◌*◌, ◌%◌, ◌<◌, ◌≤◌, Bool, true, false, cond, List, [], ◌∷◌, ◌++◌, length, map, All, nat_eq, nat_lt, refl, ap, arith, w16, w32, ℤ, pos, length-append}
+use Rattle.std.specs.Prelude.{◌≤ℤ◌, ◌+ℤ◌}
 use Rattle.std.specs.List.{flat_map}
 use Rattle.std.specs.Int.{cast_unsigned}
-use Rattle.std.proofs.lemmas.List.{length-map, map-id}
-use Rattle.std.proofs.lemmas.List.Elements.{All-map, All-nil, All-cons, All-tail}
+use Rattle.std.proofs.lemmas.List.{length-map}
 use Rattle.jc_base.specs.Opcode as opcode
 use Rattle.jc_base.specs.declared.form.Form.{Form}
 use Rattle.jc_base.specs.declared.form.Form.TheVariants as forms
@@ -12,11 +11,11 @@ use Rattle.jc_base.specs.InsnForm.{form_of}
 use Rattle.jc_base.specs.declared.insn.Insn.{Insn}
 use Rattle.jc_base.specs.declared.insn.Insn.TheVariants as insns
 use Rattle.jc_base.specs.declared.insn.Arm.{Arm}
-use Rattle.jc_base.specs.Insn.{IsWellFormed, IsAscending, with_places, arm_with_place}
-use Rattle.jc_base.specs.Flow.{targets_of, inverse_of}
+use Rattle.jc_base.specs.Insn.{with_places, arm_with_place}
+use Rattle.jc_base.specs.Flow.{inverse_of}
 use Rattle.jc_insn.specs.Items.{padding}
 use Rattle.jc_insn.specs.Sizes.{size_of, push_size, is_narrow_inc}
-use Rattle.jc_insn.specs.Writing.{short, word, signed_byte, signed_short, difference, push_text, local_text, inc_text, constant_text, pad_text, arm_text, last_key, table_text, lookup_text, jump_text, insn_text, IsInRange}
+use Rattle.jc_insn.specs.Writing.{short, word, signed_byte, signed_short, difference, push_text, local_text, inc_text, constant_text, pad_text, arm_text, last_key, table_text, lookup_text, jump_text, insn_text}
 use Rattle.jc_insn.proofs.ReadBackLaws.{short_size, word_size}
 use Rattle.jc_insn.proofs.SwitchesSpelledLaws.{pad_length, offsets_length, arms_length}
 

@@ -1,5 +1,5 @@
 -- What the kind check answers.
-use Rattle.std.specs.Prelude.{◌≡◌, ⊤, ℕ, List, length, Some, Result, Ok, Err, Vec, slice_get}
+use Rattle.std.specs.Prelude.{◌≡◌, ⊤, ℕ, List, length, Some, Result, Ok, Err, slice_get}
 use Rattle.jc_base.specs.declared.kind.State.{State}
 use Rattle.jc_base.specs.declared.body.Body.{Body}
 use Rattle.jc_base.specs.declared.fail.Fail.{Fail}
@@ -11,7 +11,6 @@ use Rattle.jc_base.specs.Held.{Names, seen, IsNumberedState}
 use Rattle.jc_base.specs.WellMade.{IsState}
 use Rattle.jc_kinds.specs.States.{state_of}
 use Rattle.jc_kinds.specs.Checked.{Checked, FirstMissing, FirstClash}
-use Rattle.std.specs.declared.alloc.Global.{Global}
 
 -- The state before an instruction, well made: it has a type for each local variable and room on the stack, and its
 -- class numbers are among the names.

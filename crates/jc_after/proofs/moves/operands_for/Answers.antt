@@ -1,8 +1,5 @@
-use Rattle.std.proofs.Common.{◌≡◌, List, [], map, sym, ap, ◌∙◌}
-use Rattle.jc_base.specs.declared.kind.Kind.{Kind}
+use Rattle.std.proofs.Common.{◌≡◌, List, [], map, sym, ◌∙◌}
 use Rattle.jc_base.specs.Held.{held}
-use Rattle.jc_after.specs.Step.{given_of}
-use Rattle.jc_after.specs.Shapes.{gives_of}
 use Rattle.jc_after.proofs.MovesLaws.{no_items}
 use Rattle.jc_after.proofs.moves.operands_for.Goals as goal
 
