@@ -1,23 +1,25 @@
 -- Entries, counted one by one.
-use Rattle.std.proofs.Common.{◌≡◌, ℕ, zero, suc, ◌+◌, ◌*◌, ◌<◌, ◌≤◌, Bool, true, false, List, length, get_or, replicate, map, nat_eq, refl, ◌∙◌, ap, arith}
+use Rattle.std.proofs.Common.{◌≡◌, ℕ, zero, suc, ◌+◌, ◌*◌, ◌<◌, ◌≤◌, Bool, true, false, List, ◌++◌, length, take, get_or, replicate, map, nat_eq, refl, sym, ◌∙◌, ap, subst, arith}
 use Rattle.std.specs.Prelude.{All}
 use Rattle.std.specs.List.{count_by}
-use Rattle.std.proofs.lemmas.List.Elements.{All-from_recursion, recursion_from_All}
+use Rattle.std.proofs.lemmas.List.Elements.{All-from_recursion, All-get_or}
 use Rattle.std.proofs.lemmas.List.Sums.{count_by-le-length}
 use Rattle.std.proofs.lemmas.Grind.{get_or_default_zero}
 use Rattle.std.specs.Cmp.{nat_eq_equiv}
-use Rattle.jc_base.specs.PlainLists.{places}
+use Rattle.jc_base.specs.PlainLists.{places, join_from}
+use Rattle.jc_base.specs.Flow.{flow_of, targets_of}
 use Rattle.jc_base.specs.InsnUse.{LeadsWithin}
 use Rattle.jc_base.specs.WellMade.{insns_and_arms}
 use Rattle.jc_base.specs.declared.insn.Insn.{Insn}
 use Rattle.jc_base.specs.declared.body.Body.{Body}
 use Rattle.jc_base.specs.declared.body.Handler.{Handler}
 use Rattle.jc_plan.specs.declared.branch.Branch.{Branch}
-use Rattle.jc_plan.specs.Edges.{branches}
+use Rattle.jc_plan.specs.Edges.{branches, branches_of}
 use Rattle.jc_plan.specs.Entries.{one_if, entries, leads_to}
 use Rattle.jc_plan.specs.Marks.{enters, EntersWithin}
-use Rattle.jc_plan.proofs.PlacesLaws.{same_as_mapped}
-use Rattle.jc_plan.proofs.FlowLaws.{all_entered, all_within, few_branches}
+use Rattle.jc_plan.proofs.PlacesLaws.{same_as_mapped, joins_one}
+use Rattle.jc_plan.proofs.CountLaws.{count_join}
+use Rattle.jc_plan.proofs.FlowLaws.{all_entered, few_branches, few_in_front, length_join, branches_within}
 
 zeros : (n i : ℕ) → ◌≡◌ {A = ℕ} (get_or (replicate n 0) i 0) 0
 zeros zero i = refl
@@ -69,7 +71,27 @@ module _ (b : Body) (rows : List Handler) (listed : List Branch) (same_rows : ro
             get_or_default_zero all i d (let l : i < length all = omega (arith, size) in l)
             ∙ (let e : get_or all i 0 ≡ entries b i = omega (arith, nothing i, one_first, jumps, starts, targets, first i, second i, third i) in e)
 
--- where the jumps and switches of well made code lead
-pub branches_enter : (count : ℕ) (code : List Insn) → All (LeadsWithin count) code → All (EntersWithin count) (branches code)
-branches_enter count code leads =
-    All-from_recursion (EntersWithin count) (branches code) (all_within count 0 code (recursion_from_All (LeadsWithin count) code leads))
+-- ---- one instruction more
+
+-- the entries by the instructions in front of one, and those by it
+module _ (code : List Insn) (n : ℕ) (insn : Insn) (lt : n < length code) (is : insn ≡ get_or code n insn) where
+  abbrev before : List Branch
+  before = join_from branches_of 0 (take n code)
+
+  joined : before ++ branches_of n insn ≡ join_from branches_of 0 (take (n + 1) code)
+  joined = joins_one branches_of code n insn before (before ++ branches_of n insn) lt is refl refl
+
+  pub entered_next : (i : ℕ) → count_by (enters i) (join_from branches_of 0 (take (n + 1) code)) ≡ count_by (enters i) (join_from branches_of 0 (take n code)) + count_by (enters i) (branches_of n insn)
+  entered_next i = sym (ap (count_by (enters i)) joined) ∙ count_join (enters i) before (branches_of n insn)
+
+  pub entered_few : (i : ℕ) → count_by (enters i) (join_from branches_of 0 (take n code)) + length (branches_of n insn) ≤ length (branches code)
+  entered_few i =
+      let front : length (join_from branches_of 0 (take (n + 1) code)) ≤ length (branches code) = few_in_front 0 (n + 1) code in
+      let size : length before + length (branches_of n insn) ≡ length (join_from branches_of 0 (take (n + 1) code)) = sym (length_join before (branches_of n insn)) ∙ ap length joined in
+      let some : count_by (enters i) before ≤ length before = count_by-le-length (enters i) before in
+      omega (arith, front, size, some)
+
+  pub enters_within : (count : ℕ) → All (LeadsWithin count) code → All (EntersWithin count) (branches_of n insn)
+  enters_within count leads =
+      All-from_recursion (EntersWithin count) (branches_of n insn)
+      (branches_within count n (flow_of insn) (targets_of insn) (subst (LeadsWithin count) (sym is) (All-get_or (LeadsWithin count) code n insn lt leads)))

@@ -1,5 +1,5 @@
 -- What the flow of an instruction says of its branches.
-use Rattle.std.proofs.Common.{◌≡◌, ℕ, ◌+◌, ◌*◌, ◌<◌, ◌≤◌, Bool, true, false, not, ◌||◌, cond, nat_eq, List, [], ◌∷◌, ◌++◌, length, filter, get_or, map, refl, sym, ap, ◌∙◌, subst, arith}
+use Rattle.std.proofs.Common.{◌≡◌, ℕ, zero, suc, ◌+◌, ◌*◌, ◌<◌, ◌≤◌, Bool, true, false, not, ◌||◌, cond, nat_eq, List, [], ◌∷◌, ◌++◌, length, take, filter, get_or, map, refl, sym, ap, ◌∙◌, subst, arith}
 use Rattle.std.specs.Prelude.{⊤}
 use Rattle.std.specs.List.{count_by, list_any, AllByRecursion}
 use Rattle.std.specs.Cmp.{nat_eq_equiv}
@@ -163,7 +163,7 @@ few_insns (x ∷ code) = omega (arith, sum_by-cons sizes x code, few_insns code)
 pub few_at : (code : List Insn) (i : ℕ) (x : Insn) → i < length code → x ≡ get_or code i x → 1 + arm_count x ≤ insns_and_arms code
 few_at code i x lt is = subst (λ (y : Insn). 1 + arm_count y ≤ insns_and_arms code) (sym is) (get_or-le-sum_by sizes code i x lt)
 
-length_join : {Y : Type 0} (xs ys : List Y) → length (xs ++ ys) ≡ length xs + length ys
+pub length_join : {Y : Type 0} (xs ys : List Y) → length (xs ++ ys) ≡ length xs + length ys
 length_join [] ys = omega arith
 length_join (x ∷ xs) ys = omega (arith, length_join xs ys)
 
@@ -173,6 +173,18 @@ few_from k (x ∷ code) = omega (arith, length_join (branches_of k x) (join_from
 
 pub few_branches : (code : List Insn) → length (branches code) ≤ 2 * insns_and_arms code
 few_branches code = few_from 0 code
+
+-- the branches of the first instructions are as many at most
+pub few_in_front : (k n : ℕ) (code : List Insn) → length (join_from branches_of k (take n code)) ≤ length (join_from branches_of k code)
+few_in_front k zero code = omega arith
+few_in_front k (suc n) [] = omega arith
+few_in_front k (suc n) (x ∷ code) =
+    omega (
+      arith,
+      length_join (branches_of k x) (join_from branches_of (k + 1) (take n code)),
+      length_join (branches_of k x) (join_from branches_of (k + 1) code),
+      few_in_front (k + 1) n code,
+    )
 
 -- ---- entries
 

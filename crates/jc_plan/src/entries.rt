@@ -1,15 +1,16 @@
 //! How many entries are aimed at each instruction, and which are multi-targets.
-ghost use Rattle.std.specs.Prelude.{◌≡◌, ◌+◌, ◌*◌, ◌<◌, ◌^◌, ℕ, All, map, length};
-ghost use Rattle.std.specs.Prelude.{replicate, slice_index, IfOk, nat_eq, nat_le, ◌&&◌, ◌||◌};
+ghost use Rattle.std.specs.Prelude.{◌≡◌, ◌+◌, ◌*◌, ◌<◌, ◌≤◌, ◌^◌, ℕ, All, map, length};
+ghost use Rattle.std.specs.Prelude.{replicate, slice_index, IfOk, OnOk, nat_eq, nat_le, ◌&&◌, ◌||◌};
 ghost use Rattle.std.specs.List.{count_by};
 ghost use Rattle.jc_base.specs.PlainLists.{places};
-ghost use Rattle.jc_base.specs.Flow.{flow_of};
-ghost use Rattle.jc_base.specs.WellMade.{IsHandler, IsWellMadeOfAnySize};
-ghost use Rattle.jc_plan.specs.Edges.{branches};
+ghost use Rattle.jc_base.specs.Flow.{flow_of, targets_of};
+ghost use Rattle.jc_base.specs.InsnUse.{LeadsWithin};
+ghost use Rattle.jc_base.specs.WellMade.{IsHandler, IsWellMadeOfAnySize, insns_and_arms};
+ghost use Rattle.jc_plan.specs.Edges.{branches, branches_of};
 ghost use Rattle.jc_plan.specs.Entries.{one_if, goes_on, entries, is_multi_target};
 ghost use Rattle.jc_plan.specs.Marks.{enters, EntersWithin};
 
-use crate::branch::{Branch, Way, branches};
+use crate::branch::{Branch, Way, put_branches};
 use jc_base::{Body, Handler, Insn, Memory};
 use std::alloc::Global;
 
@@ -49,17 +50,57 @@ fn count_branches(counts: &mut [usize], branches: &[Branch])
     }
 }
 
-/// Counts the entries of a body, whose branches are given, where none is counted yet.
-fn count_entries(counts: &mut [usize], body: &Body, list: &[Branch])
+/// Counts the entries by one instruction: by its branches, which take the place of what stood in the list, if it is a
+/// jump or a switch.
+fn count_insn(
+    alloc: Global,
+    counts: &mut [usize],
+    list: &mut Vec<Branch>,
+    at: u32,
+    insn: &Insn,
+) -> Result<(), Memory>
+    requires at { at + 1 < 2 ^ 32 }
+    requires targets { length (targets_of insn.now) < 2 ^ 32 }
+    requires within { All (EntersWithin (length counts.old)) (branches_of at insn.now) }
+    requires room { (i : ℕ) → slice_index counts.old i + length (branches_of at insn.now) < 2 ^ 64 }
+    ensures { OnOk result ((i : ℕ) → slice_index counts.new i ≡ slice_index counts.old i + count_by (enters i) (branches_of at insn.now)) }
+{
+    match insn {
+        Insn::Jump { .. } | Insn::Table { .. } | Insn::Lookup { .. } => {
+            list.clear();
+            put_branches(alloc, list, at, insn)?;
+            count_branches(counts, list);
+            Ok(())
+        }
+        _ => Ok(()),
+    }
+}
+
+/// Counts the entries by the jumps and the switches of the code.
+fn count_code(alloc: Global, counts: &mut [usize], code: &[Insn]) -> Result<(), Memory>
+    requires few { insns_and_arms code.now ≤ 65535 }
+    requires within { All (LeadsWithin (length counts.old)) code.now }
+    requires room { (i : ℕ) → slice_index counts.old i + length (branches code.now) < 2 ^ 64 }
+    ensures { OnOk result ((i : ℕ) → slice_index counts.new i ≡ slice_index counts.old i + count_by (enters i) (branches code.now)) }
+{
+    let mut list = Vec::new(alloc);
+    'counting: for (at, insn) in code.iter().enumerate() {
+        count_insn(alloc, counts, &mut list, at as u32, insn)?;
+    }
+    Ok(())
+}
+
+/// Counts the entries of a body, where none is counted yet.
+fn count_entries(alloc: Global, counts: &mut [usize], body: &Body) -> Result<(), Memory>
     requires made { IsWellMadeOfAnySize body.now }
     requires none { counts.old ≡ replicate (length body.now.code) 0 }
     requires size { length counts.old ≡ length body.now.code }
-    requires listed { list.now ≡ branches body.now.code }
-    ensures { counts.new ≡ map (entries body.now) (places body.now.code) }
+    ensures { OnOk result (counts.new ≡ map (entries body.now) (places body.now.code)) }
 {
     count_entry(counts, 0);
     count_rows(counts, &body.handlers);
-    count_branches(counts, list);
+    count_code(alloc, counts, &body.code)?;
+    Ok(())
 }
 
 /// How many entries are aimed at each instruction.
@@ -67,9 +108,8 @@ fn entry_counts(alloc: Global, body: &Body) -> Result<Vec<usize>, Memory>
     requires { IsWellMadeOfAnySize body.now }
     ensures { IfOk result (λ counts. counts.items ≡ map (entries body.now) (places body.now.code)) }
 {
-    let branches = branches(alloc, &body.code)?;
     let mut counts = vec![in alloc; 0; body.code.len()]?;
-    count_entries(&mut counts, body, &branches);
+    count_entries(alloc, &mut counts, body)?;
     Ok(counts)
 }
 
@@ -94,7 +134,7 @@ pub fn multi_targets(alloc: Global, body: &Body) -> Result<Vec<bool>, Memory>
     ensures { IfOk result (λ marks. marks.items ≡ map (is_multi_target body.now) (places body.now.code)) }
 {
     let counts = entry_counts(alloc, body)?;
-    let mut marks = Vec::new(alloc);
+    let mut marks = Vec::with_capacity(alloc, body.code.len())?;
     let mut fallen_into = false;
     'marking: for (at, insn) in body.code.iter().enumerate() {
         marks.push(is_multi_target(counts[at], fallen_into))?;

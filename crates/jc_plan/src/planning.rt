@@ -1,9 +1,11 @@
 //! Where the probes of a method stand.
-ghost use Rattle.std.specs.Prelude.{◌≡◌, ◌+◌, ◌<◌, ◌≤◌, ◌^◌, ◌&&◌, ◌||◌, map, length, IfOk};
+ghost use Rattle.std.specs.Prelude.{◌≡◌, ◌+◌, ◌<◌, ◌≤◌, ◌^◌, ◌&&◌, ◌||◌, not, [], ◌∷◌, map, length, IfOk};
 ghost use Rattle.std.specs.List.{count_by};
+ghost use Rattle.jc_base.specs.Flow.{targets_of};
 ghost use Rattle.jc_base.specs.PlainLists.{places};
 ghost use Rattle.jc_base.specs.WellMade.{IsWellMadeOfAnySize};
 ghost use Rattle.jc_plan.specs.declared.branch.Way.TheVariants.{Falls};
+ghost use Rattle.jc_plan.specs.Edges.{branches_of};
 ghost use Rattle.jc_plan.specs.Entries.{one_if, is_multi_target};
 ghost use Rattle.jc_plan.specs.Marks.{has_probe, ids_from};
 ghost use Rattle.jc_plan.specs.Probed.{id_if, is_probed_way};
@@ -12,7 +14,7 @@ ghost use Rattle.jc_plan.specs.Plan.{plan_of};
 use crate::branch::{Branch, Way, put_branches};
 use crate::entries::{falls, multi_targets};
 use crate::lines::lines_that_call;
-use jc_base::{Body, List, Memory, Plan};
+use jc_base::{Body, Insn, List, Memory, Plan};
 use std::alloc::Global;
 
 /// The next id, if there is a probe for it.
@@ -61,6 +63,47 @@ fn out_probes(
     Ok(probes)
 }
 
+/// The probe of the one branch of an instruction that is no jump and no switch.
+fn single_probe(
+    alloc: Global,
+    falls_through: bool,
+    next: &mut u32,
+) -> Result<List<Option<u32>>, Memory>
+    requires { next.old + 1 < 2 ^ 32 }
+    ensures probes { IfOk result (λ probes. probes ≡ id_if (not falls_through) next.old ∷ []) }
+    ensures next { IfOk result (λ _. next.new ≡ next.old + one_if (not falls_through)) }
+{
+    let mut probes = List::new(alloc);
+    probes.push(take_id(next, !falls_through))?;
+    Ok(probes)
+}
+
+/// The probes of an instruction's branches. If it is a jump or a switch, these take the place of what stood in the
+/// list.
+fn insn_probes(
+    alloc: Global,
+    branches: &mut Vec<Branch>,
+    at: u32,
+    insn: &Insn,
+    multi_targets: &[bool],
+    next: &mut u32,
+) -> Result<List<Option<u32>>, Memory>
+    requires at { at + 1 < 2 ^ 32 }
+    requires targets { length (targets_of insn.now) < 2 ^ 32 }
+    requires room { next.old + 1 + length (branches_of at insn.now) < 2 ^ 32 }
+    ensures probes { IfOk result (λ probes. probes ≡ ids_from (has_probe multi_targets.now) next.old (branches_of at insn.now)) }
+    ensures next { IfOk result (λ _. next.new ≡ next.old + count_by (λ x. has_probe multi_targets.now x.way) (branches_of at insn.now)) }
+{
+    match insn {
+        Insn::Jump { .. } | Insn::Table { .. } | Insn::Lookup { .. } => {
+            branches.clear();
+            put_branches(alloc, branches, at, insn)?;
+            out_probes(alloc, branches, multi_targets, next)
+        }
+        _ => single_probe(alloc, insn.falls_through(), next),
+    }
+}
+
 /// Whether the fall-through into an instruction has a probe.
 fn is_probed_lead(fallen_into: bool, multi_target: bool, line_calls: bool) -> bool
     ensures { result ≡ (fallen_into && (multi_target || line_calls)) }
@@ -76,7 +119,7 @@ fn probed_leads(alloc: Global, body: &Body, multi_targets: &[bool]) -> Result<Ve
     ensures { IfOk result (λ marks. marks.items ≡ map (λ i. is_probed_way body.now (Falls i)) (places body.now.code)) }
 {
     let calling = lines_that_call(alloc, &body.code, &body.lines)?;
-    let mut marks = Vec::new(alloc);
+    let mut marks = Vec::with_capacity(alloc, body.code.len())?;
     let mut fallen_into = false;
     'marking: for (at, insn) in body.code.iter().enumerate() {
         marks.push(is_probed_lead(fallen_into, multi_targets[at], calling[at]))?;
@@ -105,14 +148,19 @@ pub fn plan(alloc: Global, body: &Body, first: u32) -> Result<Plan, Memory>
     let multi_targets = multi_targets(alloc, body)?;
     let probed = probed_leads(alloc, body, &multi_targets)?;
     let mut next = first;
-    let mut lead = List::new(alloc);
-    let mut out = List::new(alloc);
+    let mut lead = List::from_vec(Vec::with_capacity(alloc, body.code.len())?);
+    let mut out = List::from_vec(Vec::with_capacity(alloc, body.code.len())?);
     let mut branches = Vec::new(alloc);
     'planning: for (at, insn) in body.code.iter().enumerate() {
         lead.push(take_id(&mut next, probed[at]))?;
-        branches.clear();
-        put_branches(alloc, &mut branches, at as u32, insn)?;
-        out.push(out_probes(alloc, &branches, &multi_targets, &mut next)?)?;
+        out.push(insn_probes(
+            alloc,
+            &mut branches,
+            at as u32,
+            insn,
+            &multi_targets,
+            &mut next,
+        )?)?;
     }
     Ok(Plan { lead, out, next })
 }

@@ -7,4 +7,4 @@ returns c =
     let new = c.count_entries.new.counts in
     let old = c.in_ok-counts.counts in
     let size : old.len ≡ length new = omega arith in
-    ap (λ (n : ℕ). take n (new ++ drop (length new) old.items)) size ∙ take-append_seam new (drop (length new) old.items) ∙ c.count_entries.ensures
+    ap (λ (n : ℕ). take n (new ++ drop (length new) old.items)) size ∙ take-append_seam new (drop (length new) old.items) ∙ c.in_ok-count_entries.ensures
