@@ -1,11 +1,12 @@
 -- Rows of the exception table and local variables, one after the other.
 use Rattle.std.proofs.Common.{◌≡◌, ◌⊎◌, inl, inr, ⊎_elim, ℕ, ◌+◌, ◌<◌, ◌≤◌, true, false, List, [], ◌∷◌, length, take, get_or, sym, ap, ◌∙◌, subst, arith}
 use Rattle.std.proofs.lemmas.Bool.{cases_lt, both_ways}
-use Rattle.std.proofs.lemmas.List.{take_more}
+use Rattle.std.proofs.lemmas.List.{take_more, get_or-map}
 use Rattle.std.proofs.lemmas.List.Elements.{Contains-append_left, Contains-append_right, Contains-append_cases}
 use Rattle.jc_base.proofs.TestLaws.{none_in, first_in}
 use Rattle.jc_base.proofs.FirstSeenLaws.{contains_one}
 use Rattle.jc_base.specs.declared.kind.Kind.{Kind}
+use Rattle.jc_base.specs.declared.kind.Kind.TheVariants as kinds
 use Rattle.jc_base.specs.declared.kind.State.{State}
 use Rattle.jc_base.specs.declared.body.Handler.{Handler}
 use Rattle.jc_base.specs.declared.body.FrameAt.{FrameAt}
@@ -13,7 +14,7 @@ use Rattle.jc_kinds.specs.KindFits.{kind_fits}
 use Rattle.jc_kinds.specs.First.{IsFirst}
 use Rattle.jc_kinds.specs.Frames.{frame_in}
 use Rattle.jc_kinds.specs.Runs.{kind_at, IsFirstUnfit}
-use Rattle.jc_kinds.specs.Guarded.{column_of, wanted_at, frame_catches, IsGuarded, IsUncaught, IsUnfitInColumn, IsUnfitInRow, IsUnguarded}
+use Rattle.jc_kinds.specs.Guarded.{column_of, local_at, wanted_at, frame_catches, IsGuarded, IsUncaught, IsUnfitInColumn, IsUnfitInRow, IsUnguarded}
 use Rattle.jc_kinds.proofs.FirstLaws.{none_first, instead_first, either_first}
 
 -- ---- one row
@@ -124,7 +125,7 @@ no_rows_unfit column frames slot bound = none_first bound (λ i u. none_in u.han
 
 -- ---- one local variable more
 
-cases_last : (n k : ℕ) → k < n + 1 → (k < n) ⊎ (k ≡ n)
+pub cases_last : (n k : ℕ) → k < n + 1 → (k < n) ⊎ (k ≡ n)
 cases_last n k lt = ⊎_elim (λ less. inl less) (λ ge. inr (omega (arith, lt, ge))) (cases_lt k n)
 
 pub no_slots : (states : List State) (frames : List FrameAt) (hs : List Handler) (bound result : ℕ) → IsFirst (IsUncaught frames hs) bound result → IsFirst (IsUnguarded states frames hs 0) bound result
@@ -143,3 +144,23 @@ next_slot states frames hs slot bound middle result old new =
     (λ u. ⊎_elim (λ less. inl (inr (u.0, less, u.2))) (λ same. inr (subst (λ (k : ℕ). IsUnfitInColumn (column_of states k) frames k hs i) same u.2)) (cases_last slot u.0 u.1))
     g)
     (either_first bound middle result old new)
+
+-- ---- one state more
+
+-- the type in the column is that of the state
+pub column_at : (states : List State) (slot i : ℕ) (s : State) → i < length states → s ≡ get_or states i s → kind_at (column_of states slot) i ≡ local_at slot s
+column_at states slot i s lt is = get_or-map (local_at slot) states i s kinds.Top lt ∙ ap (local_at slot) (sym is)
+
+-- the types up to one more state fit
+pub fit_next : (states : List State) (slot start at : ℕ) (want : Kind) (s : State) → at < length states → s ≡ get_or states at s → kind_fits (local_at slot s) want ≡ true
+    → ((k : ℕ) → start ≤ k → k < at → kind_fits (kind_at (column_of states slot) k) want ≡ true)
+    → (k : ℕ) → start ≤ k → k < at + 1 → kind_fits (kind_at (column_of states slot) k) want ≡ true
+fit_next states slot start at want s lt is fits before = λ k from less.
+    ⊎_elim
+    (λ sooner. before k from sooner)
+    (λ same. subst (λ (n : ℕ). kind_fits (kind_at (column_of states slot) n) want ≡ true) (sym same) (ap (λ (kind : Kind). kind_fits kind want) (column_at states slot at s lt is) ∙ fits))
+    (cases_last at k less)
+
+-- any type fits Top
+pub top_fits : (column : List Kind) (h : Handler) (want : Kind) (bound : ℕ) → want ≡ kinds.Top → IsFirst (IsUnfitInRow column h want) bound bound
+top_fits column h want bound top = none_first bound (λ i u. both_ways (kind_fits (kind_at column i) want) u.unfit (ap (kind_fits (kind_at column i)) top))

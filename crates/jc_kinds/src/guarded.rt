@@ -3,10 +3,11 @@
 ghost use Rattle.std.specs.Prelude.{◌≡◌, ◌≢◌, ◌<◌, ◌≤◌, false, true, [], ◌∷◌, length, All, IfOk};
 ghost use Rattle.jc_kinds.specs.First.{IsFirst};
 ghost use Rattle.jc_kinds.specs.Frames.{frame_in, AreNumbers};
-ghost use Rattle.jc_kinds.specs.Runs.{AreEnds};
+ghost use Rattle.jc_kinds.specs.Runs.{AreEnds, IsFirstUnfit};
 ghost use Rattle.jc_kinds.specs.Guarded.{column_of, local_at, wanted_at, catches, frame_catches};
 ghost use Rattle.jc_kinds.specs.Guarded.{IsUncaught, IsUnfitInColumn, IsUnfitInRow, IsUnguarded};
 
+use crate::fits::fits;
 use crate::frames::frame_at;
 use crate::runs::{first_unfit, run_ends};
 use jc_base::{FrameAt, Handler, Kind, Memory, State};
@@ -144,6 +145,125 @@ fn first_in_column(
     first
 }
 
+/// The first instruction that a row guards whose type of a local variable doesn't fit the handler's frame, or the
+/// bound. The column is made, and the rows look at its runs.
+fn first_by_runs(
+    alloc: Global,
+    states: &[State],
+    frames: &[FrameAt],
+    numbers: &[u32],
+    handlers: &[Handler],
+    slot: usize,
+    bound: usize,
+) -> Result<usize, Memory>
+    requires small { length states.now < 4294967296 }
+    requires bound { bound ≤ length states.now }
+    requires numbers { AreNumbers frames.now (length numbers.now) numbers.now }
+    ensures { IfOk result (IsFirst (IsUnfitInColumn (column_of states.now slot) frames.now slot handlers.now) bound) }
+{
+    let column = column_of(alloc, states, slot)?;
+    let tight = run_ends(alloc, false, &column)?;
+    let loose = run_ends(alloc, true, &column)?;
+    Ok(first_in_column(
+        &column, &tight, &loose, frames, numbers, handlers, slot, bound,
+    ))
+}
+
+/// The first state of a range whose type of a local variable doesn't fit, or the range's end.
+fn first_in_states(states: &[State], slot: usize, start: usize, end: usize, want: Kind) -> usize
+    requires start { start < end }
+    requires end { end ≤ length states.now }
+    ensures { IsFirstUnfit (column_of states.now slot) want start end result }
+{
+    'looking: for at in start..end {
+        if !fits(local_at(&states[at], slot), want) {
+            return at;
+        }
+    }
+    end
+}
+
+/// The first instruction that a row guards whose type of a local variable isn't the one that is wanted, or the bound.
+fn first_by_row(states: &[State], handler: Handler, slot: usize, want: Kind, bound: usize) -> usize
+    requires bound { bound ≤ length states.now }
+    ensures { IsFirst (IsUnfitInRow (column_of states.now slot) handler want) bound result }
+{
+    if want.is_same(Kind::Top) {
+        return bound;
+    }
+    let start = handler.start as usize;
+    let last = if (handler.end as usize) < bound {
+        handler.end as usize
+    } else {
+        bound
+    };
+    if start >= last {
+        return bound;
+    }
+    let first = first_in_states(states, slot, start, last, want);
+    if first < last { first } else { bound }
+}
+
+/// The same as `first_by_runs`. Each row looks at each state that it guards, and no list is made.
+fn first_by_rows(
+    states: &[State],
+    frames: &[FrameAt],
+    numbers: &[u32],
+    handlers: &[Handler],
+    slot: usize,
+    bound: usize,
+) -> usize
+    requires bound { bound ≤ length states.now }
+    requires numbers { AreNumbers frames.now (length numbers.now) numbers.now }
+    ensures { IsFirst (IsUnfitInColumn (column_of states.now slot) frames.now slot handlers.now) bound result }
+{
+    let mut first = bound;
+    'looking: for handler in handlers {
+        let want = wanted_at(frames, numbers, handler.target, slot);
+        first = first_by_row(states, *handler, slot, want, first);
+    }
+    first
+}
+
+/// Whether the rows together guard no more than so many instructions, each as often as rows guard it.
+fn guard_few(handlers: &[Handler], most: usize) -> bool {
+    let mut left = most;
+    'counting: for handler in handlers {
+        let guarded = handler.end.saturating_sub(handler.start) as usize;
+        if guarded > left {
+            return false;
+        }
+        left -= guarded;
+    }
+    true
+}
+
+/// The first instruction that a row guards whose type of a local variable doesn't fit the handler's frame, or the
+/// bound: row by row where that takes few steps.
+fn first_in_slot(
+    alloc: Global,
+    states: &[State],
+    frames: &[FrameAt],
+    numbers: &[u32],
+    handlers: &[Handler],
+    slot: usize,
+    bound: usize,
+    few: bool,
+) -> Result<usize, Memory>
+    requires small { length states.now < 4294967296 }
+    requires bound { bound ≤ length states.now }
+    requires numbers { AreNumbers frames.now (length numbers.now) numbers.now }
+    ensures { IfOk result (IsFirst (IsUnfitInColumn (column_of states.now slot) frames.now slot handlers.now) bound) }
+{
+    if few {
+        return Ok(first_by_rows(states, frames, numbers, handlers, slot, bound));
+    }
+    first_by_runs(alloc, states, frames, numbers, handlers, slot, bound)
+}
+
+/// How many states the rows may look at for one local variable, for each instruction, before the column is made.
+const LOOKS: usize = 4;
+
 /// The first instruction whose state before it doesn't fit a handler that guards it, or the number of states.
 fn first_of_states(
     alloc: Global,
@@ -158,14 +278,10 @@ fn first_of_states(
     requires numbers { AreNumbers frames.now (length numbers.now) numbers.now }
     ensures { IfOk result (IsFirst (IsUnguarded states.now frames.now handlers.now slots) (length states.now)) }
 {
+    let few = guard_few(handlers, states.len().saturating_mul(LOOKS));
     let mut first = first_uncaught(frames, numbers, handlers, states.len());
     'slots: for slot in 0..slots {
-        let column = column_of(alloc, states, slot)?;
-        let tight = run_ends(alloc, false, &column)?;
-        let loose = run_ends(alloc, true, &column)?;
-        first = first_in_column(
-            &column, &tight, &loose, frames, numbers, handlers, slot, first,
-        );
+        first = first_in_slot(alloc, states, frames, numbers, handlers, slot, first, few)?;
     }
     Ok(first)
 }

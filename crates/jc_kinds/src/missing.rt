@@ -1,5 +1,6 @@
 //! Instructions that need a stack map frame (JVM Specification 4.10.1.6).
 ghost use Rattle.std.specs.Prelude.{◌≡◌, ◌<◌, length, All, IfOk, OnOk, MatchOption};
+ghost use Rattle.jc_base.specs.Flow.{targets_of};
 ghost use Rattle.jc_base.specs.InsnUse.{LeadsWithin};
 ghost use Rattle.jc_base.specs.Least.{IsNowhere};
 ghost use Rattle.jc_base.specs.WellMade.{IsWellMade};
@@ -22,14 +23,32 @@ fn mark_each(marks: &mut [bool], places: &[u32])
     }
 }
 
+/// Marks the places to which an instruction may jump.
+fn mark_insn(alloc: Global, insn: &Insn, marks: &mut [bool]) -> Result<(), Memory>
+    requires { LeadsWithin (length marks.old) insn.now }
+    ensures { OnOk result (Marks marks.old marks.new (is_among (targets_of insn.now))) }
+{
+    match insn {
+        Insn::Jump { to, .. } => {
+            mark_each(marks, &[*to]);
+            Ok(())
+        }
+        Insn::Table { .. } | Insn::Lookup { .. } => {
+            let targets = insn.targets(alloc)?;
+            mark_each(marks, &targets);
+            Ok(())
+        }
+        _ => Ok(()),
+    }
+}
+
 /// Marks the instructions to which others may jump.
 fn mark_targets(alloc: Global, code: &[Insn], marks: &mut [bool]) -> Result<(), Memory>
     requires { All (LeadsWithin (length marks.old)) code.now }
     ensures { OnOk result (Marks marks.old marks.new (leads_to code.now)) }
 {
     'marking: for insn in code {
-        let targets = insn.targets(alloc)?;
-        mark_each(marks, &targets);
+        mark_insn(alloc, insn, marks)?;
     }
     Ok(())
 }
