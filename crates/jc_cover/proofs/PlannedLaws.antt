@@ -5,8 +5,10 @@ use Rattle.std.specs.Prelude.{All, Contains, slice_get}
 use Rattle.std.specs.List.{list_any, AllByRecursion}
 use Rattle.std.proofs.lemmas.Option.{slice_get_within, get_or_from_slice_get}
 use Rattle.std.proofs.lemmas.List.{length-set, length-replicate}
+use Rattle.std.proofs.lemmas.List.Elements.{All-from_recursion, recursion_from_All}
 use Rattle.jc_base.specs.PlainLists.{map_from, join_from}
 use Rattle.jc_base.specs.Flow.{flow_of, targets_of}
+use Rattle.jc_base.specs.InsnUse.{LeadsWithin}
 use Rattle.jc_base.specs.WellMade.{IsCode}
 use Rattle.jc_base.specs.declared.insn.Insn.{Insn}
 use Rattle.jc_base.specs.declared.body.Body.{Body}
@@ -17,8 +19,7 @@ use Rattle.jc_plan.specs.Edges.{place_of, branches_of, branches}
 use Rattle.jc_plan.specs.Marks.{EntersWithin}
 use Rattle.jc_plan.specs.Plan.{plan_of}
 use Rattle.jc_plan.specs.Probed.{is_probed, id_of, id_if}
-use Rattle.jc_plan.proofs.CountingLaws.{branches_enter}
-use Rattle.jc_plan.proofs.FlowLaws.{IsAt, all_at}
+use Rattle.jc_plan.proofs.FlowLaws.{IsAt, all_at, all_within}
 use Rattle.jc_plan.proofs.MappedLaws.{length_made}
 use Rattle.jc_plan.proofs.OneWayLaws.{standing, IsOf, a_sequence, a_jump, an_arm, an_exit}
 use Rattle.jc_plan.proofs.ByBranchLaws.{each_planned, goes_within}
@@ -28,6 +29,13 @@ use Rattle.jc_cover.specs.Planned.{read_branch, read_branches, planned_branch, p
 use Rattle.jc_cover.specs.declared.planned.PlannedBranch.{PlannedBranch}
 use Rattle.jc_cover.proofs.MarkLaws.{listed_at}
 use Rattle.jc_cover.proofs.SourceLaws.{source_is, begins_within}
+
+-- ---- places to which branches lead
+
+-- the branches of code whose instructions lead within it do so too
+branches_enter : (count : ℕ) (code : List Insn) → All (LeadsWithin count) code → All (EntersWithin count) (branches code)
+branches_enter count code leads =
+    All-from_recursion (EntersWithin count) (branches code) (all_within count 0 code (recursion_from_All (LeadsWithin count) code leads))
 
 -- ---- lists made item by item
 
