@@ -1,15 +1,16 @@
 -- The command that the words call, by their parts and by tests.
-use Rattle.std.proofs.Common.{◌≡◌, ◌≢◌, ◌⊎◌, inl, inr, ◌≤◌, ◌<◌, ◌^◌, Bool, true, false, cond, ◌&&◌, List, [], ◌∷◌, ◌++◌, Option, None, Some, option_map, length, nat_eq, arith, codes, String, string_bytes, IsTrue, refl, sym, ◌∙◌, ap, ap₂, subst, append_assoc}
+use Rattle.std.proofs.Common.{◌≡◌, ◌⊎◌, inl, inr, ◌≤◌, ◌<◌, ◌^◌, Bool, true, false, not, cond, ◌&&◌, List, [], ◌∷◌, ◌++◌, Option, None, Some, option_map, length, nat_eq, arith, codes, String, string_bytes, refl, sym, ◌∙◌, ap, ap₂, subst, append_assoc}
 use Rattle.std.proofs.lemmas.Bool.{and_parts, not-true}
 use Rattle.std.proofs.lemmas.List.{append-nil, length-map}
-use Rattle.std.specs.List.{flat_map, list_all, AllByRecursion}
+use Rattle.std.specs.List.{ends_with, flat_map, list_all}
 use Rattle.std.specs.Str.{bytes_eq}
 use Rattle.std.proofs.lemmas.Slice.Eq.{bytes_eq-Decides}
 use Rattle.jc_base.proofs.DecoderLaws.{chosen, guard_some, some_is}
 use Rattle.std.specs.declared.alloc.Global.{Global}
 use Rattle.jc_top.specs.Words.{Word, words_of, Use, use_words, Call, call_words, Scan, with_use, scan, is_value, is_option, is_relative, are_distinct, components, is_component}
-use Rattle.jc_top.specs.Command.{Command, merge, exec_info, class_info, exec_info_call, class_info_call, AreFiles, merge_some, exec_info_some, class_info_some, IsCallOf, inputs_of, Means, NoForm}
-use Rattle.jc_top.specs.Command.{are_files, decide, decide_merge, decide_exec_info, decide_class_info, decide_scan, command_of, destfile}
+use Rattle.jc_top.specs.Command.{Command, merge, exec_info, class_info, exec_info_call, class_info_call, AreFiles, merge_some, exec_info_some, class_info_some, report_some, IsCallOf, inputs_of, Means, NoForm}
+use Rattle.jc_top.specs.Command.{are_files, decide, decide_merge, decide_exec_info, decide_class_info, decide_report, decide_scan, command_of, destfile}
+use Rattle.jc_top.proofs.ReportWordsLaws.{all_by_recursion, list_all_of, cons_not_nil, chosen_some, report_decided, report_scan, report_chosen}
 
 -- ---- a scan spells the words
 
@@ -37,22 +38,11 @@ scan_spells (w ∷ v ∷ rest) s e = elim (chosen (is_option w) (with_use (recor
 
 -- ---- what a decision says of the call
 
-all_by_recursion : (p : Word → Bool) (ws : List Word) → list_all p ws ≡ true → AllByRecursion (λ w. IsTrue (p w)) ws
-all_by_recursion p [] all = tt
-all_by_recursion p (w ∷ ws) all = let parts = and_parts (p w) (list_all p ws) all in (parts.0, all_by_recursion p ws parts.1)
-
-list_all_of : (p : Word → Bool) (ws : List Word) → AllByRecursion (λ w. IsTrue (p w)) ws → list_all p ws ≡ true
-list_all_of p [] all = refl
-list_all_of p (w ∷ ws) all = rw (all.0, list_all_of p ws all.1) refl
-
 files_are : (test : Word → Bool) (ws : List Word) → are_files test ws ≡ true → AreFiles test ws
 files_are test ws e = let parts = and_parts (list_all test ws) (are_distinct ws) e in record { each = all_by_recursion test ws parts.0; distinct = parts.1 }
 
 files_pass : (test : Word → Bool) (ws : List Word) → AreFiles test ws → are_files test ws ≡ true
 files_pass test ws files = rw (list_all_of test ws files.each, files.distinct) refl
-
-cons_not_nil : {w : Word} {ws : List Word} → (w ∷ ws) ≢ []
-cons_not_nil e = cc
 
 merge_decided : (uses : List Use) (files : List Word) (command : Command) → decide_merge uses files ≡ Some command → IsCallOf (record { command = codes "merge"; uses = uses; files = files }) command
 merge_decided [] files command e = absurd cc
@@ -86,19 +76,32 @@ named words name rest_name rest s command test parts is stated =
     let same : name ≡ rest_name = (bytes_eq-Decides name rest_name).0 test in
     record { call = record { command = rest_name; uses = s.uses; files = s.files }; spelled = parts ∙ ap₂ (λ (n : Word) (l : List Word). n ∷ l) same (scan_spells rest s is); stated = stated }
 
+-- the decision behind the first names
+abbrev report_or_none : Word → Scan → Option Command
+report_or_none name s = cond (bytes_eq name (codes "report")) (decide_report s.uses s.files) None
+
+abbrev class_info_or_report : Word → Scan → Option Command
+class_info_or_report name s = cond (bytes_eq name (codes "classinfo")) (decide_class_info s.uses s.files) (report_or_none name s)
+
+abbrev other_than_merge : Word → Scan → Option Command
+other_than_merge name s = cond (bytes_eq name (codes "execinfo")) (decide_exec_info s.uses s.files) (class_info_or_report name s)
+
 pub decided : (words : List Word) (command : Command) → command_of words ≡ Some command → Means words command
 decided [] command e = absurd cc
 decided (name ∷ rest) command e = by (scan rest) refl e
   where
     by : (o : Option Scan) → scan rest ≡ o → decide_scan name o ≡ Some command → Means (name ∷ rest) command
     by None is e = absurd cc
-    by (Some s) is e = elim (chosen (bytes_eq name (codes "merge")) (decide_merge s.uses s.files) (cond (bytes_eq name (codes "execinfo")) (decide_exec_info s.uses s.files) (cond (bytes_eq name (codes "classinfo")) (decide_class_info s.uses s.files) None)) (Some command) e) [
+    by (Some s) is e = elim (chosen (bytes_eq name (codes "merge")) (decide_merge s.uses s.files) (other_than_merge name s) (Some command) e) [
       | inl merges ↦ named (name ∷ rest) name (codes "merge") rest s command merges.0 refl is (merge_decided s.uses s.files command merges.1)
-      | inr other ↦ elim (chosen (bytes_eq name (codes "execinfo")) (decide_exec_info s.uses s.files) (cond (bytes_eq name (codes "classinfo")) (decide_class_info s.uses s.files) None) (Some command) other.1) [
+      | inr other ↦ elim (chosen (bytes_eq name (codes "execinfo")) (decide_exec_info s.uses s.files) (class_info_or_report name s) (Some command) other.1) [
         | inl infos ↦ named (name ∷ rest) name (codes "execinfo") rest s command infos.0 refl is (exec_info_decided s.uses s.files command infos.1)
-        | inr last ↦
-            let test = guard_some (bytes_eq name (codes "classinfo")) (decide_class_info s.uses s.files) command last.1 in
-            named (name ∷ rest) name (codes "classinfo") rest s command test.0 refl is (class_info_decided s.uses s.files command test.1)
+        | inr others ↦ elim (chosen (bytes_eq name (codes "classinfo")) (decide_class_info s.uses s.files) (report_or_none name s) (Some command) others.1) [
+          | inl lists ↦ named (name ∷ rest) name (codes "classinfo") rest s command lists.0 refl is (class_info_decided s.uses s.files command lists.1)
+          | inr last ↦
+              let test = guard_some (bytes_eq name (codes "report")) (decide_report s.uses s.files) command last.1 in
+              named (name ∷ rest) name (codes "report") rest s command test.0 refl is (report_decided s.uses s.files command test.1)
+        ]
       ]
     ]
 
@@ -116,9 +119,6 @@ merge_scan : (out input : Word) (inputs : List Word) → is_value input ≡ true
 unfolding scan
 merge_scan out input inputs plain = ap (with_use (record { option = destfile; value = out })) (scan_files input inputs (value_no_option input plain))
 
-chosen_some : (test : Bool) (command : Command) → test ≡ true → cond test (Some command) None ≡ Some command
-chosen_some test command is = rw is refl
-
 found : (words : List Word) (call : Call) (command : Command) → words ≡ call_words call → IsCallOf call command → command_of words ≡ Some command
 found words call command spelled (merge_some out [] some files) = absurd (some refl)
 found words call command spelled (merge_some out (input ∷ inputs) some files) =
@@ -133,6 +133,12 @@ found words call command spelled (class_info_some (path ∷ paths) some files) =
     let value = (and_parts (is_value path) (list_all is_component (components path)) files.each.0).0 in
     ap command_of spelled ∙ ap (decide_scan (codes "classinfo")) (scan_files path paths (value_no_option path value))
     ∙ chosen_some (are_files is_relative (path ∷ paths)) (class_info (path ∷ paths)) (files_pass is_relative (path ∷ paths) files)
+found words call command spelled (report_some out name exec [] some files) = absurd (some refl)
+found words call command spelled (report_some out name exec (path ∷ paths) some are) =
+    let value = (and_parts (is_value path) (not (ends_with nat_eq path (codes "/"))) are.files.0).0 in
+    ap command_of spelled
+    ∙ ap (decide_scan (codes "report")) (report_scan out name exec (path ∷ paths) (scan_files path paths (value_no_option path value)))
+    ∙ report_chosen out name exec path paths are
 
 pub means_found : (words : List Word) (command : Command) → Means words command → command_of words ≡ Some command
 means_found words command means = found words means.call command means.spelled means.stated
@@ -217,6 +223,10 @@ few_of : (words : List Word) (call : Call) (command : Command) → words ≡ cal
 few_of words call command spelled (merge_some out inputs some files) = omega (arith, ap length spelled)
 few_of words call command spelled (exec_info_some paths some files) = omega (arith, ap length spelled)
 few_of words call command spelled (class_info_some paths some files) = omega (arith, ap length spelled)
+few_of words call command spelled (report_some out None None paths some are) = omega (arith, ap length spelled)
+few_of words call command spelled (report_some out (Some name) None paths some are) = omega (arith, ap length spelled)
+few_of words call command spelled (report_some out None (Some exec) paths some are) = omega (arith, ap length spelled)
+few_of words call command spelled (report_some out (Some name) (Some exec) paths some are) = omega (arith, ap length spelled)
 
 pub few_inputs : (words : List (String Global)) (command : Command) → Means (words_of words) command → length words < 2 ^ 32 → length (inputs_of command) < 2 ^ 32
 few_inputs words command means bound = let few = few_of (words_of words) means.call command means.spelled means.stated in omega (arith, few, bound, length-map words string_bytes)

@@ -1,4 +1,5 @@
 pub mod PathLaws
+pub mod ReportWordsLaws
 pub mod CommandLaws
 pub mod ReadLaws
 pub mod WriteLaws
@@ -8,5 +9,10 @@ pub mod ExecDataLaws
 pub mod MergeLaws
 pub mod MethodLaws
 pub mod InfoLaws
+pub mod FramelessLaws
+pub mod ReportLaws
+pub mod ReportStepLaws
+pub mod ReportRunLaws
+pub mod ReportAnswerLaws
 pub mod WorkLaws
 pub mod RunLaws

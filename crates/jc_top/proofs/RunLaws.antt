@@ -1,23 +1,75 @@
 -- A command's steps give the cause of its status, and the cause gives the rest of what the top call promises.
-use Rattle.std.proofs.Common.{◌≡◌, ◌≢◌, ◌⊎◌, inl, inr, ⊎_elim, ℕ, List, ◌++◌, ◌∷◌, Option, None, Some, Result, Ok, Err, Vec, map, refl, sym, ◌∙◌, ap, subst}
+use Rattle.std.proofs.Common.{◌≡◌, ◌≢◌, ◌⊎◌, inl, inr, ⊎_elim, ℕ, List, [], ◌++◌, ◌∷◌, Option, None, Some, Result, Ok, Err, Vec, map, refl, sym, ◌∙◌, ap, subst, arith}
+use Rattle.std.specs.List.{AllByRecursion}
 use Rattle.std.specs.declared.alloc.Global.{Global}
 use Rattle.jc_base.proofs.DecoderLaws.{some_is}
 use Rattle.jc_base.specs.Outside.{FileMap, WhereTold, Rose}
 use Rattle.jc_top.specs.declared.status.Status.{Status}
 use Rattle.jc_top.specs.declared.status.Status.TheVariants as status
 use Rattle.jc_top.specs.declared.status.Fault.{Fault}
+use Rattle.jc_top.specs.declared.status.Fault.TheVariants as faults
 use Rattle.jc_top.specs.declared.output.Write.{Write as Written}
 use Rattle.jc_top.specs.declared.stop.Stop.{Stop}
 use Rattle.jc_top.specs.declared.stop.Stop.TheVariants as stops
 use Rattle.jc_top.specs.Words.{Word}
-use Rattle.jc_top.specs.Command.{Command, inputs_of, Means, NoForm}
+use Rattle.jc_top.specs.Command.{Command, inputs_of, HasNoErrLine, Means, NoForm}
 use Rattle.jc_top.specs.Texts.{usage_text, cannot_read, cannot_write, cannot_write_output, fault_text}
 use Rattle.jc_top.specs.Looks.{write_seen}
-use Rattle.jc_top.specs.World.{World, world, Counts, counts, NoneRose, Write, to_file, to_out, to_err, Landed, after, grown, StopsIn}
-use Rattle.jc_top.specs.Work.{StopsAt, Answer, Answers, refusing, IsWork, usage, unreadable, answered, WorkEnds, DoesWork}
-use Rattle.jc_top.specs.Outcome.{Rises, ReadStops, ReadsStop, Read, Prepares, WroteAll, IsFileWrite, IsTextWrite, Writing, Runs, Says, Reports, message_of, status_of}
-use Rattle.jc_top.specs.Outcome.{Kept, FailsFor, BreaksOff, ToldEnds, IsUnread, broken_text, IsUnwritten, Cause, IsOrMemory, Ends}
+use Rattle.jc_top.specs.World.{World, world, Counts, counts, NoneRose, Write, to_file, to_out, to_err, Landed, after, after_write, grown, Broken, StopsIn}
+use Rattle.jc_top.specs.Work.{StopsAt, Answer, Answers, merged, merge_refused, informed, exec_info_refused, listed, class_refused, reported, report_refused, report_clashes, refusing, IsWork, usage, unreadable, answered, WorkEnds, DoesWork}
+use Rattle.jc_top.specs.Outcome.{Rises, ReadStops, ReadsStop, Read, Prepares, FailsFor, FailsAs, WroteAll, IsFileWrite, IsTextWrite, Writing, Runs, Says, Reports, message_of, status_of}
+use Rattle.jc_top.specs.Outcome.{Kept, BreaksOff, ToldEnds, IsUnread, broken_text, IsUnwritten, IsOutOfMemory, Cause, IsOrMemory, Ends}
 use Rattle.jc_top.proofs.WorkLaws.{one_ending}
+
+-- ---- commands that write no line on `err`
+
+-- the write isn't one of a text on `err`
+abbrev IsNoErr : Write → Type 0
+IsNoErr (to_file path bytes) = Unit {0}
+IsNoErr (to_out text) = Unit {0}
+IsNoErr (to_err text) = ⊥
+
+all_out : (lines : List (List ℕ)) → AllByRecursion IsNoErr (map to_out lines)
+all_out [] = tt
+all_out (line ∷ lines) = (tt, all_out lines)
+
+no_refusal : (fault : Fault) → status.Refused fault ≡ status.Done → ⊥
+no_refusal fault e = cc
+
+quiet_writes : (command : Command) (texts : List (List ℕ)) (answer : Answer) → Answers command texts answer → HasNoErrLine command
+    → answer.status ≡ status.Done → AllByRecursion IsNoErr answer.writes
+quiet_writes command texts answer (merged store union) quiet done = (tt, tt)
+quiet_writes command texts answer (merge_refused index path refusal is) quiet done = absurd (no_refusal (faults.Exec index refusal) done)
+quiet_writes command texts answer (informed lines info) quiet done = all_out lines
+quiet_writes command texts answer (exec_info_refused index path refusal is) quiet done = absurd (no_refusal (faults.Exec index refusal) done)
+quiet_writes command texts answer (listed lines are) quiet done = all_out lines
+quiet_writes command texts answer (class_refused index path why is) quiet done = absurd (no_refusal (faults.Class index why) done)
+quiet_writes command texts answer (reported store items union are none) quiet done = absurd quiet
+quiet_writes command texts answer (report_refused index path refusal is) quiet done = absurd quiet
+quiet_writes command texts answer (report_clashes store count items refusal union are clash) quiet done = absurd quiet
+
+module _ (landed : Landed) where
+  one_silent : (old : World) (write : Write) → IsNoErr write → (after_write landed old write).err ≡ old.err
+  one_silent old (to_file path bytes) other = refl
+  one_silent old (to_out text) other = refl
+  one_silent old (to_err text) other = absurd other
+
+  all_silent : (old : World) (writes : List Write) → AllByRecursion IsNoErr writes → (after landed old writes).err ≡ old.err
+  all_silent old [] others = refl
+  all_silent old (write ∷ writes) others = all_silent (after_write landed old write) writes others.1 ∙ one_silent old write others.0
+
+  broken_silent : (old new : World) (f f' : Counts) (write : Write) → IsNoErr write → Broken landed old write new → FailsFor write f f'
+      → (new.err ≡ old.err) × (f'.errs ≡ f.errs)
+  broken_silent old new f f' (to_file path bytes) other broken fails = (broken.2, ap (λ (c : Counts). c.errs) fails.1)
+  broken_silent old new f f' (to_out text) other broken fails = (broken.2, ap (λ (c : Counts). c.errs) fails.1)
+  broken_silent old new f f' (to_err text) other broken fails = absurd other
+
+  stopped_silent : (old new : World) (f f' : Counts) (done behind : List Write) (failed : Write) → AllByRecursion IsNoErr (done ++ failed ∷ behind)
+      → Broken landed (after landed old done) failed new → FailsFor failed f f' → (new.err ≡ old.err) × (f'.errs ≡ f.errs)
+  stopped_silent old new f f' [] behind failed others broken fails = broken_silent old new f f' failed others.0 broken fails
+  stopped_silent old new f f' (write ∷ done) behind failed others broken fails =
+      let rest = stopped_silent (after_write landed old write) new f f' done behind failed others.1 broken fails in
+      (rest.0 ∙ one_silent old write others.0, rest.1)
 
 -- ---- a command without its last message
 
@@ -30,32 +82,37 @@ Prepared command writes texts = Answers command texts (record { writes = map wri
 prepared_writing : (contents : Option FileMap) (command : Command) (writes : List Written) (P : List Write → Type 0) → P (map write_seen writes) → Read contents command (Prepared command writes) → Writing contents command P
 prepared_writing contents command writes P made read = (read.0, read.1, (map write_seen writes, read.2, made))
 
-module _ (landed : Landed) (command : Command) (k0 k1 : Option FileMap) (same_k : k1 ≡ k0) where
+module _ (landed : Landed) (command : Command) (k0 k1 : Option FileMap) (same_k : k1 ≡ k0) (o err : Option (List ℕ)) (r0 r1 w0 w1 n e : ℕ) (same_w : w1 ≡ w0) where
+  made_on : (new : World) (f' : Counts) (writes : Vec Written Global) (r : Result (Unit {0}) Stop) → Prepares k0 command r0 r1 (Ok writes)
+      → WroteAll landed (world k0 o err) new (counts r0 w0 n e) f' (map write_seen writes.items) r
+      → Runs landed command (world k0 o err) new (counts r0 w0 n e) f' r
+  made_on new f' writes (Ok u) ready wrote = (wrote.0, prepared_writing k0 command writes.items (λ ws. new ≡ after landed (world k0 o err) ws) wrote.1 ready.1)
+  made_on new f' writes (Err (stops.Write p)) ready wrote =
+      prepared_writing k0 command writes.items (λ ws. StopsIn landed (world k0 o err) ws (FailsAs (stops.Write p) (counts r0 w0 n e) f') new) wrote ready.1
+  made_on new f' writes (Err stops.Output) ready wrote =
+      prepared_writing k0 command writes.items (λ ws. StopsIn landed (world k0 o err) ws (FailsAs stops.Output (counts r0 w0 n e) f') new) wrote ready.1
+  made_on new f' writes (Err stops.Memory) ready wrote = absurd wrote.which.0
+  made_on new f' writes (Err (stops.Read p)) ready wrote = absurd wrote.which.0
+  made_on new f' writes (Err (stops.Refused file fault)) ready wrote = absurd wrote.which.0
+
   -- the command was prepared, and its writes were made
-  pub runs_on : (k2 : Option FileMap) (o0 o2 err : Option (List ℕ)) (r0 r1 r2 w0 w1 w2 n0 n2 e : ℕ) (writes : Vec Written Global) (r : Result (Unit {0}) Stop)
-      → w1 ≡ w0 → r2 ≡ r1 → Prepares k0 command r0 r1 (Ok writes) → WroteAll landed (world k1 o0 err) (world k2 o2 err) w1 w2 n0 n2 (map write_seen writes.items) r
-      → Runs landed command (world k0 o0 err) (world k2 o2 err) (counts r0 w0 n0 e) (counts r2 w2 n2 e) r
-  runs_on k2 o0 o2 err r0 r1 r2 w0 w1 w2 n0 n2 e writes (Ok u) same_w same_r ready wrote =
-      let moved = wrote.2 ∙ ap (λ (k : Option FileMap). after landed (world k o0 err) (map write_seen writes.items)) same_k in
-      (same_counts e (same_r ∙ ready.0) (wrote.0 ∙ same_w) wrote.1, prepared_writing k0 command writes.items (λ ws. world k2 o2 err ≡ after landed (world k0 o0 err) ws) moved ready.1)
-  runs_on k2 o0 o2 err r0 r1 r2 w0 w1 w2 n0 n2 e writes (Err (stops.Write p)) same_w same_r ready wrote =
-      let stopped = subst (λ (k : Option FileMap). StopsIn landed (world k o0 err) (map write_seen writes.items) (IsFileWrite p.now) (world k2 o2 err)) same_k wrote.2 in
-      (same_counts e (same_r ∙ ready.0) refl wrote.1, subst (λ (n : ℕ). Rises n w2) same_w wrote.0, prepared_writing k0 command writes.items (λ ws. StopsIn landed (world k0 o0 err) ws (IsFileWrite p.now) (world k2 o2 err)) stopped ready.1)
-  runs_on k2 o0 o2 err r0 r1 r2 w0 w1 w2 n0 n2 e writes (Err stops.Output) same_w same_r ready wrote =
-      let stopped = subst (λ (k : Option FileMap). StopsIn landed (world k o0 err) (map write_seen writes.items) IsTextWrite (world k2 o2 err)) same_k wrote.2 in
-      (same_counts e (same_r ∙ ready.0) (wrote.0 ∙ same_w) refl, wrote.1, prepared_writing k0 command writes.items (λ ws. StopsIn landed (world k0 o0 err) ws IsTextWrite (world k2 o2 err)) stopped ready.1)
-  runs_on k2 o0 o2 err r0 r1 r2 w0 w1 w2 n0 n2 e writes (Err stops.Memory) same_w same_r ready wrote = absurd wrote
-  runs_on k2 o0 o2 err r0 r1 r2 w0 w1 w2 n0 n2 e writes (Err (stops.Read p)) same_w same_r ready wrote = absurd wrote
-  runs_on k2 o0 o2 err r0 r1 r2 w0 w1 w2 n0 n2 e writes (Err (stops.Refused file fault)) same_w same_r ready wrote = absurd wrote
+  pub runs_on : (new : World) (f' : Counts) (writes : Vec Written Global) (r : Result (Unit {0}) Stop) → Prepares k0 command r0 r1 (Ok writes)
+      → WroteAll landed (world k1 o err) new (counts r1 w1 n e) f' (map write_seen writes.items) r
+      → Runs landed command (world k0 o err) new (counts r0 w0 n e) f' r
+  runs_on new f' writes r ready wrote =
+      let same_f : counts r1 w1 n e ≡ counts r0 w0 n e = same_counts e ready.0 same_w refl in
+      made_on new f' writes r ready
+      (subst (λ (k : Option FileMap). WroteAll landed (world k o err) new (counts r0 w0 n e) f' (map write_seen writes.items) r) same_k
+      (subst (λ (f : Counts). WroteAll landed (world k1 o err) new f f' (map write_seen writes.items) r) same_f wrote))
 
   -- the command was stopped before its writes
-  pub run_stops : (o err : Option (List ℕ)) (r0 r1 w0 w1 n e : ℕ) (stop : Stop) → w1 ≡ w0 → Prepares k0 command r0 r1 (Err stop)
+  pub run_stops : (stop : Stop) → Prepares k0 command r0 r1 (Err stop)
       → Runs landed command (world k0 o err) (world k1 o err) (counts r0 w0 n e) (counts r1 w1 n e) (Err stop)
-  run_stops o err r0 r1 w0 w1 n e stops.Memory same_w stopped = (same_counts e stopped same_w refl, ap (λ (k : Option FileMap). world k o err) same_k)
-  run_stops o err r0 r1 w0 w1 n e (stops.Read p) same_w stopped = (same_counts e refl same_w refl, ap (λ (k : Option FileMap). world k o err) same_k, stopped)
-  run_stops o err r0 r1 w0 w1 n e (stops.Refused file fault) same_w stopped = (same_counts e stopped.0 same_w refl, ap (λ (k : Option FileMap). world k o err) same_k, stopped.1)
-  run_stops o err r0 r1 w0 w1 n e (stops.Write p) same_w stopped = absurd stopped
-  run_stops o err r0 r1 w0 w1 n e stops.Output same_w stopped = absurd stopped
+  run_stops stops.Memory stopped = (same_counts e stopped same_w refl, ap (λ (k : Option FileMap). world k o err) same_k)
+  run_stops (stops.Read p) stopped = (same_counts e refl same_w refl, ap (λ (k : Option FileMap). world k o err) same_k, stopped)
+  run_stops (stops.Refused file fault) stopped = (same_counts e stopped.0 same_w refl, ap (λ (k : Option FileMap). world k o err) same_k, stopped.1)
+  run_stops (stops.Write p) stopped = absurd stopped
+  run_stops stops.Output stopped = absurd stopped
 
 -- ---- where contents are told
 
@@ -86,67 +143,99 @@ unread_ends words command k path r r' means stop = by stop.0
 
 -- ---- the cause of a status
 
-pub done_cause : (landed : Landed) (words : List Word) (command : Command) → Means words command → (k k' : Option FileMap) (o o' err : Option (List ℕ)) (f f' : Counts)
-    → Runs landed command (world k o err) (world k' o' err) f f' (Ok tt) → Cause landed words (world k o err) (world k' o' err) f f' status.Done
-done_cause landed words command means k k' o o' err f f' ran = record { command = command; means = means; writes = ran.1; silent = refl; counts = ran.0 }
+pub done_cause : (landed : Landed) (words : List Word) (command : Command) → Means words command → (old new : World) (f f' : Counts)
+    → Runs landed command old new f f' (Ok tt) → Cause landed words old new f f' status.Done
+done_cause landed words command means old new f f' ran = record {
+  command = command;
+  means = means;
+  writes = ran.1;
+  silent = λ quiet.
+      ap (λ (w : World). w.err) ran.1.2.2
+      ∙ all_silent landed old ran.1.2.0
+      (quiet_writes command ran.1.0 (record { writes = ran.1.2.0; status = status.Done }) ran.1.2.1 quiet refl);
+  counts = ran.0;
+}
 
-module _ (landed : Landed) (words : List Word) (command : Command) (means : Means words command) (k k' : Option FileMap) (o o' err err' : Option (List ℕ)) (r r' w w' n n' e e' : ℕ) where
+module _ (landed : Landed) (words : List Word) (command : Command) (means : Means words command) (old mid : World) (f g : Counts) (err' : Option (List ℕ)) (e' : ℕ) where
   abbrev Ran : Stop → Type 0
-  Ran stop = Runs landed command (world k o err) (world k' o' err) (counts r w n e) (counts r' w' n' e) (Err stop)
+  Ran stop = Runs landed command old mid f g (Err stop)
 
   -- what is said of the old and the new
   abbrev Of : (World → World → Counts → Counts → Type 0) → Type 0
-  Of P = P (world k o err) (world k' o' err') (counts r w n e) (counts r' w' n' e')
+  Of P = P old (world mid.contents mid.out err') f (record g { errs = e' })
 
-  kept : world k' o' err ≡ world k o err → w' ≡ w → n' ≡ n → Of Kept
+  kept : mid ≡ old → g.writes ≡ f.writes → g.outs ≡ f.outs → Of Kept
   kept same writes outs = record { contents = ap (λ (v : World). v.contents) same; out = ap (λ (v : World). v.out) same; writes = writes; outs = outs }
 
-  abbrev Broke : (Write → Type 0) → Type 0
-  Broke Failed = Writing k command (λ ws. StopsIn landed (world k o err) ws Failed (world k' o' err))
+  abbrev Broke : Stop → Type 0
+  Broke stop = Writing old.contents command (λ ws. StopsIn landed old ws (FailsAs stop f g) mid)
 
-  abbrev Fails : (Write → Type 0) → Type 0
-  Fails Failed = (v : Write) → Failed v → FailsFor v (counts r w n e) (counts r' w' n' e')
+  broken_answer : (stop : Stop) (broke : Broke stop) → Answers command broke.0 (record { writes = broke.2.2.done ++ broke.2.2.failed ∷ broke.2.2.behind; status = status.Done })
+  broken_answer stop broke = subst (λ (ws : List Write). Answers command broke.0 (record { writes = ws; status = status.Done })) broke.2.2.parts broke.2.1
 
-  broken_read : (Failed : Write → Type 0) (broke : Broke Failed) → Read k command (λ texts. Answers command texts (record { writes = broke.2.2.done ++ broke.2.2.failed ∷ broke.2.2.behind; status = status.Done }))
-  broken_read Failed broke = (broke.0, broke.1, subst (λ (ws : List Write). Answers command broke.0 (record { writes = ws; status = status.Done })) broke.2.2.parts broke.2.1)
-
-  abbrev broken_off : (Failed : Write → Type 0) → Fails Failed → r' ≡ r → Broke Failed → Of (BreaksOff landed words)
-  broken_off Failed fails reads broke =
+  abbrev broken_off : (stop : Stop) → Broke stop → BreaksOff landed words old f
+  broken_off stop broke =
+      let writes : List Write = broke.2.2.done ++ broke.2.2.failed ∷ broke.2.2.behind in
+      let answer : Answer = record { writes = writes; status = status.Done } in
       record {
         command = command;
         means = means;
         done = broke.2.2.done;
         failed = broke.2.2.failed;
         behind = broke.2.2.behind;
-        read = broken_read Failed broke;
-        work = answer_is_work words command k (record { writes = broke.2.2.done ++ broke.2.2.failed ∷ broke.2.2.behind; status = status.Done }) means (broken_read Failed broke);
-        fails = fails broke.2.2.failed broke.2.2.which;
-        reads = reads;
-        stands = world k' o' err;
+        read = (broke.0, broke.1, broken_answer stop broke);
+        work = answer_is_work words command old.contents answer means (broke.0, broke.1, broken_answer stop broke);
+        counts = g;
+        fails = broke.2.2.which.1;
+        stands = mid;
         broken = broke.2.2.broken;
-        contents = refl;
-        out = refl;
+        silent = λ quiet.
+            stopped_silent landed old mid f g broke.2.2.done broke.2.2.behind broke.2.2.failed
+            (quiet_writes command broke.0 answer (broken_answer stop broke) quiet refl) broke.2.2.broken broke.2.2.which.1;
       }
 
-  unwritten : (Failed : Write → Type 0) (text : List ℕ) → Fails Failed → ((v : Write) → Failed v → broken_text v ≡ text) → r' ≡ r → Broke Failed → Says text err err' e e' → Of (IsUnwritten landed words)
-  unwritten Failed text fails names reads broke says =
-      record { breaks_off = broken_off Failed fails reads broke; message = subst (λ (t : List ℕ). Says t err err' e e') (sym (names broke.2.2.failed broke.2.2.which)) says }
+  file_text : (path : List ℕ) (v : Write) → IsFileWrite path v → broken_text v ≡ cannot_write path
+  file_text path v is = ap broken_text is.1
 
-  file_fails : (path : List ℕ) → Rises w w' → n' ≡ n → Fails (IsFileWrite path)
-  file_fails path rises outs v is = subst (λ (u : Write). FailsFor u (counts r w n e) (counts r' w' n' e')) (sym is.1) (rises, outs)
+  output_text : (v : Write) → IsTextWrite v → broken_text v ≡ cannot_write_output
+  output_text v is = ⊎_elim (λ out. ap broken_text out) (λ err. ap broken_text err) is.1
 
-  text_fails : Rises n n' → w' ≡ w → Fails IsTextWrite
-  text_fails rises writes v is = subst (λ (u : Write). FailsFor u (counts r w n e) (counts r' w' n' e')) (sym is.1) (rises, writes)
+  unwritten : (stop : Stop) (broke : Broke stop) (text : List ℕ) → broken_text broke.2.2.failed ≡ text → Says text mid.err err' g.errs e'
+      → Of (λ v v' c c'. IsUnwritten landed words v v' c c')
+  unwritten stop broke text names says = record {
+    breaks_off = broken_off stop broke;
+    so = record { contents = refl; out = refl; counts = refl };
+    message = subst (λ (t : List ℕ). Says t mid.err err' g.errs e') (sym names) says;
+  }
+
+  nothing : mid ≡ old → g.writes ≡ f.writes → g.outs ≡ f.outs → g.errs ≡ f.errs → e' ≡ g.errs → err' ≡ mid.err → Of (IsOutOfMemory landed words)
+  nothing same writes outs errs same_errs same_err =
+      inl (record { kept = kept same writes outs; silent = same_err ∙ ap (λ (v : World). v.err) same; errs = same_errs ∙ errs })
+
+  abbrev broke_off : (stop : Stop) → Broke stop → e' ≡ g.errs → err' ≡ mid.err → Of (IsOutOfMemory landed words)
+  broke_off stop broke same_errs same_err = inr (record {
+    breaks_off = broken_off stop broke;
+    stands = ap (λ (t : Option (List ℕ)). world mid.contents mid.out t) same_err;
+    counts = ap (λ (n : ℕ). counts g.reads g.writes g.outs n) same_errs;
+  })
 
   -- a command that was stopped wrote nothing, or its writes broke off
-  stands : (stop : Stop) → Ran stop → Of Kept ⊎ Of (BreaksOff landed words)
-  stands stops.Memory ran = inl (kept ran.1 (ap (λ (c : Counts). c.writes) ran.0) (ap (λ (c : Counts). c.outs) ran.0))
-  stands (stops.Read p) ran = inl (kept ran.1 (ap (λ (c : Counts). c.writes) ran.0) (ap (λ (c : Counts). c.outs) ran.0))
-  stands (stops.Refused file fault) ran = inl (kept ran.1 (ap (λ (c : Counts). c.writes) ran.0) (ap (λ (c : Counts). c.outs) ran.0))
-  stands (stops.Write p) ran = inr (broken_off (IsFileWrite p.now) (file_fails p.now ran.1 (ap (λ (c : Counts). c.outs) ran.0)) (ap (λ (c : Counts). c.reads) ran.0) ran.2)
-  stands stops.Output ran = inr (broken_off IsTextWrite (text_fails ran.1 (ap (λ (c : Counts). c.writes) ran.0)) (ap (λ (c : Counts). c.reads) ran.0) ran.2)
+  stands : (stop : Stop) → Ran stop → e' ≡ g.errs → err' ≡ mid.err → Of (IsOutOfMemory landed words)
+  stands stops.Memory ran same_errs same_err =
+      nothing ran.1 (ap (λ (c : Counts). c.writes) ran.0) (ap (λ (c : Counts). c.outs) ran.0) (ap (λ (c : Counts). c.errs) ran.0) same_errs same_err
+  stands (stops.Read p) ran same_errs same_err =
+      nothing ran.1 (ap (λ (c : Counts). c.writes) ran.0) (ap (λ (c : Counts). c.outs) ran.0) (ap (λ (c : Counts). c.errs) ran.0) same_errs same_err
+  stands (stops.Refused file fault) ran same_errs same_err =
+      nothing ran.1 (ap (λ (c : Counts). c.writes) ran.0) (ap (λ (c : Counts). c.outs) ran.0) (ap (λ (c : Counts). c.errs) ran.0) same_errs same_err
+  stands (stops.Write p) ran same_errs same_err = broke_off (stops.Write p) ran same_errs same_err
+  stands stops.Output ran same_errs same_err = broke_off stops.Output ran same_errs same_err
 
-  said_cause : (stop : Stop) → Ran stop → (stop ≡ stops.Memory → ⊥) → Says (message_of stop) err err' e e' → Of (λ v v' c c'. Cause landed words v v' c c' (status_of stop))
+  -- what is said behind a text on `err` that stayed
+  says_here : (text : List ℕ) → mid ≡ old → g.errs ≡ f.errs → Says text mid.err err' g.errs e' → Says text old.err err' f.errs e'
+  says_here text same errs says =
+      subst (λ (n : ℕ). Says text old.err err' n e') errs (subst (λ (v : World). Says text v.err err' g.errs e') same says)
+
+  said_cause : (stop : Stop) → Ran stop → (stop ≡ stops.Memory → ⊥) → Says (message_of stop) mid.err err' g.errs e' → Of (λ v v' c c'. Cause landed words v v' c c' (status_of stop))
   said_cause stops.Memory ran other says = absurd (other refl)
   said_cause (stops.Read p) ran other says =
       record {
@@ -154,9 +243,9 @@ module _ (landed : Landed) (words : List Word) (command : Command) (means : Mean
         means = means;
         path = p.now;
         stop = ran.2;
-        cause = unread_ends words command k p.now r r' means ran.2;
+        cause = unread_ends words command old.contents p.now f.reads g.reads means ran.2;
         kept = kept ran.1 (ap (λ (c : Counts). c.writes) ran.0) (ap (λ (c : Counts). c.outs) ran.0);
-        message = says;
+        message = says_here (cannot_read p.now) ran.1 (ap (λ (c : Counts). c.errs) ran.0) says;
       }
   said_cause (stops.Refused file fault) ran other says =
       record {
@@ -164,18 +253,16 @@ module _ (landed : Landed) (words : List Word) (command : Command) (means : Mean
         means = means;
         file = file.now;
         read = ran.2;
-        work = answer_ends words command k (refusing file.now fault) means ran.2;
+        work = answer_ends words command old.contents (refusing file.now fault) means ran.2;
         kept = kept ran.1 (ap (λ (c : Counts). c.writes) ran.0) (ap (λ (c : Counts). c.outs) ran.0);
         reads = ap (λ (c : Counts). c.reads) ran.0;
-        message = says;
+        message = says_here (fault_text file.now fault) ran.1 (ap (λ (c : Counts). c.errs) ran.0) says;
       }
-  said_cause (stops.Write p) ran other says =
-      unwritten (IsFileWrite p.now) (cannot_write p.now) (file_fails p.now ran.1 (ap (λ (c : Counts). c.outs) ran.0)) (λ v is. ap broken_text is.1) (ap (λ (c : Counts). c.reads) ran.0) ran.2 says
-  said_cause stops.Output ran other says =
-      unwritten IsTextWrite cannot_write_output (text_fails ran.1 (ap (λ (c : Counts). c.writes) ran.0)) (λ v is. ap broken_text is.1) (ap (λ (c : Counts). c.reads) ran.0) ran.2 says
+  said_cause (stops.Write p) ran other says = unwritten (stops.Write p) ran (cannot_write p.now) (file_text p.now ran.2.2.failed ran.2.2.which.0) says
+  said_cause stops.Output ran other says = unwritten stops.Output ran cannot_write_output (output_text ran.2.2.failed ran.2.2.which.0) says
 
-  pub stop_cause : (stop : Stop) (s : Status) → Ran stop → Reports stop err err' e e' s → Of (λ v v' c c'. Cause landed words v v' c c' s)
-  stop_cause stop s ran (inl memory) = subst (λ (t : Status). Of (λ v v' c c'. Cause landed words v v' c c' t)) (sym memory.0) (record { stands = stands stop ran; silent = memory.2; errs = memory.1 })
+  pub stop_cause : (stop : Stop) (s : Status) → Ran stop → Reports stop mid.err err' g.errs e' s → Of (λ v v' c c'. Cause landed words v v' c c' s)
+  stop_cause stop s ran (inl memory) = subst (λ (t : Status). Of (λ v v' c c'. Cause landed words v v' c c' t)) (sym memory.0) (stands stop ran memory.1 memory.2)
   stop_cause stop s ran (inr says) =
       let other : stop ≡ stops.Memory → ⊥ = λ is. says.1 (says.0 ∙ ap status_of is) in
       subst (λ (t : Status). Of (λ v v' c c'. Cause landed words v v' c c' t)) (sym says.0) (said_cause stop ran other says.2)
@@ -195,10 +282,18 @@ said : (text : List ℕ) (err err' : Option (List ℕ)) (e e' : ℕ) → Says te
 said text err err' e e' (inl says) quiet = says.1
 said text err err' e e' (inr rose) quiet = absurd (quiet rose.0.1)
 
-never_fails : (v : Write) (f f' : Counts) → FailsFor v f f' → NoneRose f f' → ⊥
-never_fails (to_file path bytes) f f' fails quiet = quiet.writes fails.0.1
-never_fails (to_out text) f f' fails quiet = quiet.outs fails.0.1
-never_fails (to_err text) f f' fails quiet = fails
+-- what rose before a message has risen behind it
+rose_on : (text : List ℕ) (err err' : Option (List ℕ)) (e m e' : ℕ) → Rises e m → Says text err err' m e' → Rose e e'
+rose_on text err err' e m e' rises (inl says) = subst (Rose e) (sym says.0) rises.1
+rose_on text err err' e m e' rises (inr (((m_below, inl less)), part)) = let e_below = rises.0 in inl (omega (arith, e_below, less))
+rose_on text err err' e m e' rises (inr (((m_below, inr last)), part)) = inr last
+
+never_fails : (v : Write) (f g f' : Counts) (text : List ℕ) (err err' : Option (List ℕ)) → FailsFor v f g → f' ≡ record g { errs = f'.errs } → Says text err err' g.errs f'.errs
+    → NoneRose f f' → ⊥
+never_fails (to_file path bytes) f g f' text err err' fails is says quiet =
+    quiet.writes (subst (Rose f.writes) (sym (ap (λ (c : Counts). c.writes) is)) fails.0.1)
+never_fails (to_out text') f g f' text err err' fails is says quiet = quiet.outs (subst (Rose f.outs) (sym (ap (λ (c : Counts). c.outs) is)) fails.0.1)
+never_fails (to_err text') f g f' text err err' fails is says quiet = quiet.errs (rose_on text err err' f.errs g.errs f'.errs fails.0 says)
 
 module _ (landed : Landed) (words : List Word) (old new : World) (f f' : Counts) where
   -- nothing was written but the message
@@ -275,7 +370,9 @@ module _ (landed : Landed) (words : List Word) (new : World) (f f' : Counts) (ou
       (_, answered cause.means cause.read.1 cause.read.2, refl, only_said landed words (world (Some m) out err) new f f' (fault_text cause.file fault) cause.kept cause.message quiet)
   does_work (Some m) status.Usage cause quiet other = (_, usage cause.no_form, refl, only_said landed words (world (Some m) out err) new f f' usage_text cause.kept cause.message quiet)
   does_work (Some m) status.ReadFault cause quiet other = unread_work m cause quiet
-  does_work (Some m) status.WriteFault cause quiet other = absurd (never_fails cause.breaks_off.failed f f' cause.breaks_off.fails quiet)
+  does_work (Some m) status.WriteFault cause quiet other =
+      let broke = cause.breaks_off in
+      absurd (never_fails broke.failed f broke.counts f' (broken_text broke.failed) broke.stands.err new.err broke.fails cause.so.counts cause.message quiet)
   does_work (Some m) status.Memory cause quiet other = absurd (other refl)
 
 -- ---- the promises of the top call
@@ -292,16 +389,16 @@ cause_gives landed words old new f f' s cause =
     }
 
 -- the command was run to its end
-pub done_ends : (landed : Landed) (words : List Word) (command : Command) → Means words command → (k k' : Option FileMap) (o o' err : Option (List ℕ)) (f f' : Counts)
-    → Runs landed command (world k o err) (world k' o' err) f f' (Ok tt) → Ends landed words (world k o err) (world k' o' err) f f' status.Done
-done_ends landed words command means k k' o o' err f f' ran = cause_gives landed words (world k o err) (world k' o' err) f f' status.Done (done_cause landed words command means k k' o o' err f f' ran)
+pub done_ends : (landed : Landed) (words : List Word) (command : Command) → Means words command → (old new : World) (f f' : Counts)
+    → Runs landed command old new f f' (Ok tt) → Ends landed words old new f f' status.Done
+done_ends landed words command means old new f f' ran = cause_gives landed words old new f f' status.Done (done_cause landed words command means old new f f' ran)
 
 -- the command was stopped, and its message was said
-pub stop_ends : (landed : Landed) (words : List Word) (command : Command) → Means words command → (k k' : Option FileMap) (o o' err err' : Option (List ℕ)) (r r' w w' n n' e e' : ℕ) (stop : Stop) (s : Status)
-    → Runs landed command (world k o err) (world k' o' err) (counts r w n e) (counts r' w' n' e) (Err stop) → Reports stop err err' e e' s
-    → Ends landed words (world k o err) (world k' o' err') (counts r w n e) (counts r' w' n' e') s
-stop_ends landed words command means k k' o o' err err' r r' w w' n n' e e' stop s ran reports =
-    cause_gives landed words (world k o err) (world k' o' err') (counts r w n e) (counts r' w' n' e') s (stop_cause landed words command means k k' o o' err err' r r' w w' n n' e e' stop s ran reports)
+pub stop_ends : (landed : Landed) (words : List Word) (command : Command) → Means words command → (old mid : World) (f g : Counts) (err' : Option (List ℕ)) (e' : ℕ) (stop : Stop) (s : Status)
+    → Runs landed command old mid f g (Err stop) → Reports stop mid.err err' g.errs e' s
+    → Ends landed words old (world mid.contents mid.out err') f (record g { errs = e' }) s
+stop_ends landed words command means old mid f g err' e' stop s ran reports =
+    cause_gives landed words old (world mid.contents mid.out err') f (record g { errs = e' }) s (stop_cause landed words command means old mid f g err' e' stop s ran reports)
 
 abbrev same_kept : (contents : Option FileMap) (out err err' : Option (List ℕ)) (r w n e e' : ℕ) → Kept (world contents out err) (world contents out err') (counts r w n e) (counts r w n e')
 same_kept contents out err err' r w n e e' = record { contents = refl; out = refl; writes = refl; outs = refl }
@@ -315,4 +412,5 @@ usage_ends landed words k o err err' r w n e e' none says =
 -- memory was refused before anything was read
 pub memory_ends : (landed : Landed) (words : List Word) (k : Option FileMap) (o err : Option (List ℕ)) (r w n e : ℕ) → Ends landed words (world k o err) (world k o err) (counts r w n e) (counts r w n e) status.Memory
 memory_ends landed words k o err r w n e =
-    cause_gives landed words (world k o err) (world k o err) (counts r w n e) (counts r w n e) status.Memory (record { stands = inl (same_kept k o err err r w n e e); silent = refl; errs = refl })
+    cause_gives landed words (world k o err) (world k o err) (counts r w n e) (counts r w n e) status.Memory
+    (inl (record { kept = same_kept k o err err r w n e e; silent = refl; errs = refl }))

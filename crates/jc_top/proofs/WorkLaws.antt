@@ -2,6 +2,7 @@
 use Rattle.std.proofs.Common.{◌≡◌, ◌⊎◌, inl, inr, ⊎_elim, ℕ, ◌<◌, ◌≤◌, List, [], ◌∷◌, ◌++◌, length, map, Option, None, Some, refl, sym, ◌∙◌, ap, ap₂, subst, arith}
 use Rattle.std.specs.FinMap.{get}
 use Rattle.std.specs.List.{AllByRecursion}
+use Rattle.std.specs.Option.{option_to_list}
 use Rattle.jc_base.proofs.DecoderLaws.{some_is, some_none}
 use Rattle.jc_base.specs.ByteLists.{AreBytes}
 use Rattle.jc_base.specs.Outside.{FileMap, IsLong, most_read}
@@ -13,10 +14,10 @@ use Rattle.jc_top.specs.declared.status.Status.{Status}
 use Rattle.jc_top.specs.declared.status.Status.TheVariants as status
 use Rattle.jc_top.specs.declared.status.Fault.TheVariants as fault
 use Rattle.jc_top.specs.Words.{Word}
-use Rattle.jc_top.specs.Command.{Command, merge, exec_info, class_info, inputs_of, Means, NoForm}
+use Rattle.jc_top.specs.Command.{Command, merge, exec_info, class_info, report, inputs_of, Means, NoForm}
 use Rattle.jc_top.specs.Texts.{usage_text, cannot_read}
 use Rattle.jc_top.specs.World.{to_file, to_out, to_err}
-use Rattle.jc_top.specs.Work.{Holds, IsNoFile, CantRead, AreRead, StopsAt, Answer, Answers, merged, merge_refused, informed, exec_info_refused, listed, class_refused, refusing, Work, IsWork, usage, unreadable, answered, WorkEnds}
+use Rattle.jc_top.specs.Work.{Holds, IsNoFile, CantRead, AreRead, StopsAt, Answer, Answers, merged, merge_refused, informed, exec_info_refused, listed, class_refused, reported, report_refused, report_clashes, refusing, Work, IsWork, usage, unreadable, answered, WorkEnds}
 use Rattle.jc_base.specs.declared.refusal.Refusal.{Refusal}
 use Rattle.jc_top.specs.ClassInfo.{AreListed, RefusedAt}
 use Rattle.jc_top.specs.ExecData.{IsUnionOf, IsFirstRefused, IsFirstRefusedAlone}
@@ -24,6 +25,7 @@ use Rattle.jc_top.specs.ExecInfo.{AreInfo}
 use Rattle.jc_top.proofs.ExecDataLaws.{one_union_of, union_or_refused, one_refused, some_union_or_refused, data_or_refused, one_refused_alone, some_data_or_refused}
 use Rattle.jc_top.proofs.InfoLaws.{one_info, info_is_data, data_has_info}
 use Rattle.jc_top.proofs.ListingLaws.{IsFile, one_list, listed_or_refused, one_refusal, some_list}
+use Rattle.jc_top.proofs.ReportAnswerLaws.{ReportAnswer, by_items, by_data, by_clash, one_report_answer, some_report_answer, files_behind}
 use Rattle.jc_top.proofs.CommandLaws.{one_command, command_or_none}
 
 -- ---- reading
@@ -122,6 +124,7 @@ abbrev AnswerOf : Command → List (List ℕ) → Answer → Type 0
 AnswerOf (merge out inputs) texts answer = MergeAnswer out inputs texts answer
 AnswerOf (exec_info paths) texts answer = InfoAnswer paths texts answer
 AnswerOf (class_info paths) texts answer = ListAnswer paths texts answer
+AnswerOf (report out name exec paths) texts answer = ReportAnswer out name exec paths texts answer
 
 answer_of : (command : Command) (texts : List (List ℕ)) (answer : Answer) → Answers command texts answer → AnswerOf command texts answer
 answer_of command texts answer (merged store union) = inl (store, union, refl)
@@ -130,6 +133,10 @@ answer_of command texts answer (informed lines info) = inl (lines, info, refl)
 answer_of command texts answer (exec_info_refused index path refusal is) = inr (index, path, refusal, is, refl)
 answer_of command texts answer (listed lines are) = inl (lines, are, refl)
 answer_of command texts answer (class_refused index path why is) = inr (index, path, why, is, refl)
+answer_of command texts answer (reported store items union are none) = by_items store items union are none refl
+answer_of command texts answer (report_refused index path refusal is) = by_data index path refusal is refl
+answer_of command texts answer (report_clashes {path = path} store count items refusal union are clash) =
+    by_clash path store count items refusal refl union are clash refl
 
 one_merge : (out : Word) (inputs : List Word) (texts : List (List ℕ)) (a b : Answer) → MergeAnswer out inputs texts a → MergeAnswer out inputs texts b → a ≡ b
 one_merge out inputs texts a b (inl p) (inl q) = p.2 ∙ ap (merged_answer out) (one_union_of texts p.0 q.0 p.1 q.1) ∙ sym q.2
@@ -159,6 +166,7 @@ one_answer_of : (command : Command) (texts : List (List ℕ)) (a b : Answer) →
 one_answer_of (merge out inputs) texts a b p q = one_merge out inputs texts a b p q
 one_answer_of (exec_info paths) texts a b p q = one_info_answer paths texts a b p q
 one_answer_of (class_info paths) texts a b p q = one_listing_answer paths texts a b p q
+one_answer_of (report out name exec paths) texts a b p q = one_report_answer out name exec paths texts a b p q
 
 pub one_answer : (command : Command) (texts : List (List ℕ)) (a b : Answer) → Answers command texts a → Answers command texts b → a ≡ b
 one_answer command texts a b p q = one_answer_of command texts a b (answer_of command texts a p) (answer_of command texts b q)
@@ -270,6 +278,8 @@ some_answer (exec_info paths) texts m read =
     ⊎_elim (λ holds. let info = data_has_info paths texts (as_many m paths texts read) holds in (_, informed info.0 info.1)) (λ refused. (_, exec_info_refused refused.0 refused.1 refused.2 refused.3)) (some_data_or_refused paths texts)
 some_answer (class_info paths) texts m read =
     ⊎_elim (λ lines. (_, listed lines.0 lines.1)) (λ refused. (_, class_refused refused.0 refused.1 refused.2 refused.3)) (some_list 0 paths texts (as_many m paths texts read) (all_files m paths texts read))
+some_answer (report out name exec paths) texts m read =
+    some_report_answer out name paths texts exec (files_behind (length (option_to_list exec)) texts (all_files m (option_to_list exec ++ paths) texts read))
 
 pub some_work : (words : List Word) (m : FileMap) → (work : Work) × IsWork words m work
 some_work words m = by (command_or_none words)

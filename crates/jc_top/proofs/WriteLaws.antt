@@ -1,5 +1,5 @@
 -- Writes, one after the other, up to one that fails.
-use Rattle.std.proofs.Common.{◌≡◌, ℕ, List, [], ◌∷◌, ◌++◌, Option, None, Some, option_map, Ok, Err, Bor, length, take, drop, map, get_or, ◌+◌, ◌<◌, refl, sym, ◌∙◌, ap, subst, append_assoc}
+use Rattle.std.proofs.Common.{◌≡◌, ℕ, List, [], ◌∷◌, ◌++◌, Option, None, Some, option_map, Ok, Err, Bor, inl, inr, length, take, drop, map, get_or, ◌+◌, ◌<◌, refl, sym, ◌∙◌, ap, subst, append_assoc}
 use Rattle.std.proofs.lemmas.List.{take_more, map-append, take-append-drop}
 use Rattle.jc_base.specs.declared.files.FileFault.{FileFault}
 use Rattle.jc_base.specs.declared.files.FileFault.TheVariants as faults
@@ -8,8 +8,8 @@ use Rattle.std.specs.FinMap.{insert}
 use Rattle.jc_base.specs.Outside.{FileMap, WriteLeaves, WriteCause, PutLeaves, PutCause}
 use Rattle.jc_top.specs.declared.stop.Stop.{Stop}
 use Rattle.jc_top.specs.declared.stop.Stop.TheVariants as stops
-use Rattle.jc_top.specs.World.{World, Write, to_file, to_out, Landed, after, after_write, grown, Broken, FileBroken, TextBroken, StopsIn}
-use Rattle.jc_top.specs.Outcome.{Rises, WroteOne, WroteAll, IsFileWrite, IsTextWrite}
+use Rattle.jc_top.specs.World.{World, world, Counts, counts, Write, to_file, to_out, to_err, Landed, after, after_write, grown, Broken, FileBroken, TextBroken}
+use Rattle.jc_top.specs.Outcome.{Rises, FailsAs, WroteOne, WroteAll}
 
 -- ---- one write
 
@@ -35,24 +35,37 @@ pub text_broken : (old new : Option (List ℕ)) (piece : List ℕ) (f : SinkFaul
 text_broken None new piece f leaves = leaves
 text_broken (Some t) new piece f leaves = leaves
 
-abbrev world : Option FileMap → Option (List ℕ) → Option (List ℕ) → World
-world contents out err = record { contents = contents; out = out; err = err }
+module _ (landed : Landed) (k k' : Option FileMap) (o o' err err' : Option (List ℕ)) (reads w w' outs outs' errs errs' : ℕ) where
+  pub wrote_file : (path bytes : List ℕ) → WriteLeaves (landed path bytes) path k k' (Ok tt) → w' ≡ w
+      → WroteOne landed (world k o err) (world k' o err) (counts reads w outs errs) (counts reads w' outs errs) (to_file path bytes) (Ok tt)
+  wrote_file path bytes leaves same =
+      (ap (λ (n : ℕ). counts reads n outs errs) same, ap (λ (c : Option FileMap). world c o err) (file_written (landed path bytes) path k k' leaves))
 
-pub wrote_file : (landed : Landed) (contents contents' : Option FileMap) (out err : Option (List ℕ)) (files files' outs : ℕ) (path bytes : List ℕ)
-    → WriteLeaves (landed path bytes) path contents contents' (Ok tt) → files' ≡ files → WroteOne landed (world contents out err) (world contents' out err) files files' outs outs (to_file path bytes) (Ok tt)
-wrote_file landed contents contents' out err files files' outs path bytes leaves same = (same, refl, ap (λ (c : Option FileMap). world c out err) (file_written (landed path bytes) path contents contents' leaves))
+  pub broke_file : (reads' : ℕ) → reads' ≡ reads → (path : Bor (List ℕ)) (bytes : List ℕ) (f : FileFault)
+      → WriteLeaves (landed path.now bytes) path.now k k' (Err f) → WriteCause w w' (Err f)
+      → WroteOne landed (world k o err) (world k' o err) (counts reads w outs errs) (counts reads' w' outs errs) (to_file path.now bytes) (Err (stops.Write path))
+  broke_file reads' same path bytes f leaves cause = (
+    ((bytes, refl), (write_rises w w' f cause, ap (λ (n : ℕ). counts n w' outs errs) same)),
+    (file_broken (landed path.now bytes) path.now k k' f leaves, refl, refl),
+  )
 
-pub broke_file : (landed : Landed) (contents contents' : Option FileMap) (out err : Option (List ℕ)) (files files' outs : ℕ) (path : Bor (List ℕ)) (bytes : List ℕ) (f : FileFault)
-    → WriteLeaves (landed path.now bytes) path.now contents contents' (Err f) → WriteCause files files' (Err f) → WroteOne landed (world contents out err) (world contents' out err) files files' outs outs (to_file path.now bytes) (Err (stops.Write path))
-broke_file landed contents contents' out err files files' outs path bytes f leaves cause = (write_rises files files' f cause, refl, (file_broken (landed path.now bytes) path.now contents contents' f leaves, refl, refl), (bytes, refl))
+  pub wrote_out : (text : List ℕ) → PutLeaves o o' text (Ok tt) → outs' ≡ outs
+      → WroteOne landed (world k o err) (world k o' err) (counts reads w outs errs) (counts reads w outs' errs) (to_out text) (Ok tt)
+  wrote_out text leaves same =
+      (ap (λ (n : ℕ). counts reads w n errs) same, ap (λ (t : Option (List ℕ)). world k t err) (text_written o o' text leaves))
 
-pub wrote_text : (landed : Landed) (contents : Option FileMap) (out out' err : Option (List ℕ)) (files outs outs' : ℕ) (text : List ℕ)
-    → PutLeaves out out' text (Ok tt) → outs' ≡ outs → WroteOne landed (world contents out err) (world contents out' err) files files outs outs' (to_out text) (Ok tt)
-wrote_text landed contents out out' err files outs outs' text leaves same = (refl, same, ap (λ (o : Option (List ℕ)). world contents o err) (text_written out out' text leaves))
+  pub broke_out : (text : List ℕ) (f : SinkFault) → PutLeaves o o' text (Err f) → PutCause outs outs' (Err f)
+      → WroteOne landed (world k o err) (world k o' err) (counts reads w outs errs) (counts reads w outs' errs) (to_out text) (Err stops.Output)
+  broke_out text f leaves cause = (((text, inl refl), (cause, refl)), (text_broken o o' text f leaves, refl, refl))
 
-pub broke_text : (landed : Landed) (contents : Option FileMap) (out out' err : Option (List ℕ)) (files outs outs' : ℕ) (text : List ℕ) (f : SinkFault)
-    → PutLeaves out out' text (Err f) → PutCause outs outs' (Err f) → WroteOne landed (world contents out err) (world contents out' err) files files outs outs' (to_out text) (Err stops.Output)
-broke_text landed contents out out' err files outs outs' text f leaves cause = (refl, cause, (text_broken out out' text f leaves, refl, refl), (text, refl))
+  pub wrote_err : (text : List ℕ) → PutLeaves err err' text (Ok tt) → errs' ≡ errs
+      → WroteOne landed (world k o err) (world k o err') (counts reads w outs errs) (counts reads w outs errs') (to_err text) (Ok tt)
+  wrote_err text leaves same =
+      (ap (λ (n : ℕ). counts reads w outs n) same, ap (λ (t : Option (List ℕ)). world k o t) (text_written err err' text leaves))
+
+  pub broke_err : (text : List ℕ) (f : SinkFault) → PutLeaves err err' text (Err f) → PutCause errs errs' (Err f)
+      → WroteOne landed (world k o err) (world k o err') (counts reads w outs errs) (counts reads w outs errs') (to_err text) (Err stops.Output)
+  broke_err text f leaves cause = (((text, inr refl), (cause, refl)), (text_broken err err' text f leaves, refl, refl))
 
 -- ---- one after the other
 
@@ -61,29 +74,27 @@ after-append landed w [] ys = refl
 after-append landed w (x ∷ xs) ys = after-append landed (after_write landed w x) xs ys
 
 -- the writes in front were made
-pub record Made (landed : Landed) (old new : World) (files files' outs outs' : ℕ) (front : List Write) : Type 0 where
-  pub same_files : files' ≡ files
-  pub same_outs : outs' ≡ outs
+pub record Made (landed : Landed) (old new : World) (f f' : Counts) (front : List Write) : Type 0 where
+  pub same : f' ≡ f
   pub made : new ≡ after landed old front
 
-pub made_one_more : (landed : Landed) (old mid new : World) (f f' f'' o o' o'' : ℕ) (front : List Write) (write : Write) → Made landed old mid f f' o o' front → WroteOne landed mid new f' f'' o' o'' write (Ok tt) → Made landed old new f f'' o o'' (front ++ write ∷ [])
-made_one_more landed old mid new f f' f'' o o' o'' front write made one = record {
-  same_files = one.0 ∙ made.same_files;
-  same_outs = one.1 ∙ made.same_outs;
-  made = one.2 ∙ ap (λ (w : World). after_write landed w write) made.made ∙ sym (after-append landed old front (write ∷ []));
-}
+module _ (landed : Landed) (old mid new : World) (f f' f'' : Counts) (front : List Write) (write : Write) (made : Made landed old mid f f' front) where
+  pub made_one_more : WroteOne landed mid new f' f'' write (Ok tt) → Made landed old new f f'' (front ++ write ∷ [])
+  made_one_more one = record {
+    same = one.0 ∙ made.same;
+    made = one.1 ∙ ap (λ (w : World). after_write landed w write) made.made ∙ sym (after-append landed old front (write ∷ []));
+  }
 
-stops_in : (landed : Landed) (old mid new : World) (writes front behind : List Write) (write : Write) {Failed : Write → Type 0} → writes ≡ front ++ write ∷ behind → mid ≡ after landed old front → Broken landed mid write new → Failed write → StopsIn landed old writes Failed new
-stops_in landed old mid new writes front behind write parts is broken which = record { done = front; failed = write; behind = behind; parts = parts; which = which; broken = subst (λ (w : World). Broken landed w write new) is broken }
-
-pub stopped : (landed : Landed) (old mid new : World) (f f' f'' o o' o'' : ℕ) (writes front behind : List Write) (write : Write) (stop : Stop) → Made landed old mid f f' o o' front → WroteOne landed mid new f' f'' o' o'' write (Err stop) → writes ≡ front ++ write ∷ behind → WroteAll landed old new f f'' o o'' writes (Err stop)
-stopped landed old mid new f f' f'' o o' o'' writes front behind write (stops.Write p) made one parts =
-    (subst (λ (n : ℕ). Rises n f'') made.same_files one.0, one.1 ∙ made.same_outs, stops_in landed old mid new writes front behind write {Failed = IsFileWrite p.now} parts made.made one.2 one.3)
-stopped landed old mid new f f' f'' o o' o'' writes front behind write stops.Output made one parts =
-    (one.0 ∙ made.same_files, subst (λ (n : ℕ). Rises n o'') made.same_outs one.1, stops_in landed old mid new writes front behind write {Failed = IsTextWrite} parts made.made one.2 one.3)
-stopped landed old mid new f f' f'' o o' o'' writes front behind write stops.Memory made one parts = absurd one
-stopped landed old mid new f f' f'' o o' o'' writes front behind write (stops.Read p) made one parts = absurd one
-stopped landed old mid new f f' f'' o o' o'' writes front behind write (stops.Refused file fault) made one parts = absurd one
+  pub stopped : (writes behind : List Write) (stop : Stop) → WroteOne landed mid new f' f'' write (Err stop) → writes ≡ front ++ write ∷ behind
+      → WroteAll landed old new f f'' writes (Err stop)
+  stopped writes behind stop one parts = record {
+    done = front;
+    failed = write;
+    behind = behind;
+    parts = parts;
+    which = subst (λ (c : Counts). FailsAs stop c f'' write) made.same one.0;
+    broken = subst (λ (w : World). Broken landed w write new) made.made one.1;
+  }
 
 -- ---- over a list
 

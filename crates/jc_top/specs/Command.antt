@@ -1,8 +1,8 @@
 -- The commands, and the words that each is called by.
-use Rattle.std.specs.Prelude.{◌≡◌, ◌≢◌, Bool, ◌&&◌, IsTrue, List, [], ◌∷◌, codes, Option, Some, None, if◌then◌else◌}
+use Rattle.std.specs.Prelude.{◌≡◌, ◌≢◌, ⊤, Bool, ◌&&◌, IsTrue, List, [], ◌∷◌, ◌++◌, codes, Option, Some, None, option_to_list, unwrap_or, if◌then◌else◌}
 use Rattle.std.specs.List.{AllByRecursion, list_all}
 use Rattle.std.specs.Str.{bytes_eq}
-use Rattle.jc_top.specs.Words.{Word, Use, Call, Scan, call_words, is_value, is_relative, are_distinct, scan}
+use Rattle.jc_top.specs.Words.{Word, Use, Call, Scan, call_words, uses_of, is_value, is_file, is_relative, are_distinct, scan}
 
 pub data Command : Type 0 where
   -- writes the union of the execution data in the inputs
@@ -11,15 +11,34 @@ pub data Command : Type 0 where
   exec_info : (paths : List Word) → Command
   -- prints each class's name, id and version
   class_info : (paths : List Word) → Command
+  -- writes the CSV text of the class files, by the hits in the execution data, if a file of it is named
+  report : (out name : Word) (exec : Option Word) (paths : List Word) → Command
 
 -- what the command reads, in order
 abbrev pub inputs_of : Command → List Word
 inputs_of (merge destfile inputs) = inputs
 inputs_of (exec_info paths) = paths
 inputs_of (class_info paths) = paths
+inputs_of (report out name exec paths) = option_to_list exec ++ paths
+
+-- the command writes no line on `err`
+abbrev pub HasNoErrLine : Command → Type 0
+HasNoErrLine (merge destfile inputs) = ⊤
+HasNoErrLine (exec_info paths) = ⊤
+HasNoErrLine (class_info paths) = ⊤
+HasNoErrLine (report out name exec paths) = ⊥
 
 abbrev pub destfile : Word
 destfile = codes "--destfile"
+
+abbrev pub csv : Word
+csv = codes "--csv"
+
+abbrev pub name_option : Word
+name_option = codes "--name"
+
+abbrev pub exec_option : Word
+exec_option = codes "--exec"
 
 abbrev pub merge_call : Word → List Word → Call
 merge_call out inputs = record { command = codes "merge"; uses = record { option = destfile; value = out } ∷ []; files = inputs }
@@ -30,10 +49,27 @@ exec_info_call paths = record { command = codes "execinfo"; uses = []; files = p
 abbrev pub class_info_call : List Word → Call
 class_info_call paths = record { command = codes "classinfo"; uses = []; files = paths }
 
+abbrev pub report_call : (out : Word) (name exec : Option Word) → List Word → Call
+report_call out name exec paths = record {
+  command = codes "report";
+  uses = record { option = csv; value = out } ∷ (uses_of name_option name ++ uses_of exec_option exec);
+  files = paths;
+}
+
+-- the name of a report that is given none
+abbrev pub default_name : Word
+default_name = codes "JaCoCo Coverage Report"
+
 -- the words pass the test, and no two of them are equal
 pub record AreFiles (test : Word → Bool) (words : List Word) : Type 0 where
   pub each : AllByRecursion (λ w. IsTrue (test w)) words
   pub distinct : IsTrue (are_distinct words)
+
+-- the values of a report's options are values, its class files are files, and no two of the paths are equal
+pub record AreReportWords (out : Word) (name exec : Option Word) (paths : List Word) : Type 0 where
+  pub values : AllByRecursion (λ w. IsTrue (is_value w)) (out ∷ (option_to_list name ++ option_to_list exec))
+  pub files : AllByRecursion (λ w. IsTrue (is_file w)) paths
+  pub distinct : IsTrue (are_distinct (out ∷ (option_to_list exec ++ paths)))
 
 -- the calls of each command
 pub data IsCallOf : Call → Command → Type 0 where
@@ -44,6 +80,9 @@ pub data IsCallOf : Call → Command → Type 0 where
   exec_info_some : (paths : List Word) → paths ≢ [] → AreFiles is_value paths → IsCallOf (exec_info_call paths) (exec_info paths)
   -- classinfo FILE.., where the files are different relative paths
   class_info_some : (paths : List Word) → paths ≢ [] → AreFiles is_relative paths → IsCallOf (class_info_call paths) (class_info paths)
+  -- report --csv OUT [--name NAME] [--exec IN] CLASSFILE.., where no two of OUT, IN and the CLASSFILEs are equal
+  report_some : (out : Word) (name exec : Option Word) (paths : List Word) → paths ≢ [] → AreReportWords out name exec paths
+      → IsCallOf (report_call out name exec paths) (report out (unwrap_or name default_name) exec paths)
 
 -- the words call the command
 pub record Means (words : List Word) (command : Command) : Type 0 where
@@ -73,11 +112,34 @@ abbrev pub decide_class_info : List Use → List Word → Option Command
 decide_class_info [] (path ∷ paths) = if are_files is_relative (path ∷ paths) then Some (class_info (path ∷ paths)) else None
 decide_class_info _ _ = None
 
+-- the value of the option and the uses behind, where the first of the uses is one of the option
+abbrev pub first_use : Word → List Use → Option Word × List Use
+first_use option [] = (None, [])
+first_use option (u ∷ uses) = if bytes_eq u.option option then (Some u.value, uses) else (None, u ∷ uses)
+
+abbrev pub are_report_words : (out : Word) (name exec : Option Word) (paths : List Word) → Bool
+are_report_words out name exec paths =
+    list_all is_value (out ∷ (option_to_list name ++ option_to_list exec))
+    && (list_all is_file paths && are_distinct (out ∷ (option_to_list exec ++ paths)))
+
+abbrev pub decide_options : Option Word → (name exec : Option Word) → List Use → List Word → Option Command
+decide_options (Some out) name exec [] (path ∷ paths) =
+    if are_report_words out name exec (path ∷ paths) then Some (report out (unwrap_or name default_name) exec (path ∷ paths)) else None
+decide_options _ name exec _ _ = None
+
+abbrev pub decide_report : List Use → List Word → Option Command
+decide_report uses files =
+    let out = first_use csv uses in
+    let name = first_use name_option out.1 in
+    let exec = first_use exec_option name.1 in
+    decide_options out.0 name.0 exec.0 exec.1 files
+
 abbrev pub decide : Word → Scan → Option Command
 decide command s =
     if bytes_eq command (codes "merge") then decide_merge s.uses s.files
     else if bytes_eq command (codes "execinfo") then decide_exec_info s.uses s.files
     else if bytes_eq command (codes "classinfo") then decide_class_info s.uses s.files
+    else if bytes_eq command (codes "report") then decide_report s.uses s.files
     else None
 
 abbrev pub decide_scan : Word → Option Scan → Option Command

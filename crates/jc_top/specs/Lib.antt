@@ -4,7 +4,9 @@ pub mod Texts
 pub mod ExecData
 pub mod ExecInfo
 pub mod ClassInfo
+pub mod Report
 pub mod World
 pub mod Work
 pub mod Looks
 pub mod Outcome
+pub mod ReportSteps

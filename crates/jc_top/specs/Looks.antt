@@ -1,5 +1,5 @@
 -- What a clause sees of words that were cut, and of a command.
-use Rattle.std.specs.Prelude.{◌≡◌, ◌<◌, ◌++◌, ℕ, List, [], length, map, String, Some, None}
+use Rattle.std.specs.Prelude.{◌≡◌, ◌<◌, ◌++◌, ℕ, List, [], length, map, String, Some, None, option_map}
 use Rattle.std.specs.declared.alloc.Global.{Global}
 use Rattle.jc_top.specs.declared.words.Use.{Use as Used}
 use Rattle.jc_top.specs.declared.words.Scanned.{Scanned}
@@ -10,8 +10,8 @@ use Rattle.jc_top.specs.declared.command.Command.TheVariants as commands
 use Rattle.jc_top.specs.declared.output.Write.{Write as Written}
 use Rattle.jc_top.specs.declared.output.Write.TheVariants as writes
 use Rattle.jc_top.specs.Words.{Use, Scan, words_of, scan, with_use}
-use Rattle.jc_top.specs.Command.{Command, merge, exec_info, class_info}
-use Rattle.jc_top.specs.World.{Write, to_file, to_out}
+use Rattle.jc_top.specs.Command.{Command, merge, exec_info, class_info, report}
+use Rattle.jc_top.specs.World.{Write, to_file, to_out, to_err}
 
 abbrev pub use_of : Used → Use
 use_of u = record { option = u.option.now; value = u.value.now }
@@ -30,10 +30,12 @@ abbrev pub command_seen : Called → Command
 command_seen (commands.Merge destfile inputs) = merge destfile.now (words_of inputs.now)
 command_seen (commands.ExecInfo paths) = exec_info (words_of paths.now)
 command_seen (commands.ClassInfo paths) = class_info (words_of paths.now)
+command_seen (commands.Report out name exec paths) = report out.now name.now (option_map (λ w. w.now) exec) (words_of paths.now)
 
 abbrev pub write_seen : Written → Write
 write_seen (writes.File path bytes) = to_file path.now bytes.items
 write_seen (writes.Out text) = to_out text.items
+write_seen (writes.Err text) = to_err text.items
 
 -- the lines were put last, each as one write on `out`
 abbrev pub Prints : List Written → List (List ℕ) → List Written → Type 0

@@ -19,7 +19,7 @@ use Rattle.jc_top.specs.declared.stop.Stop.{Stop}
 use Rattle.jc_top.specs.declared.stop.Stop.TheVariants as stops
 use Rattle.jc_top.specs.Words.{Word}
 use Rattle.jc_base.specs.declared.refusal.Refusal.{Refusal}
-use Rattle.jc_top.specs.Command.{Command, inputs_of, Means, NoForm}
+use Rattle.jc_top.specs.Command.{Command, inputs_of, HasNoErrLine, Means, NoForm}
 use Rattle.jc_top.specs.Looks.{command_seen, write_seen}
 use Rattle.jc_top.specs.World.{World, Counts, NoneRose, Write, to_file, to_out, to_err, Landed, after, Broken, TextBroken, StopsIn, grown}
 use Rattle.jc_top.specs.Texts.{cannot_read, cannot_write, cannot_write_output, fault_text, usage_text}
@@ -118,43 +118,39 @@ Prepares contents command old new (Err stops.Output) = ⊥
 abbrev pub Rises : ℕ → ℕ → Type 0
 Rises old new = (old ≤ new) × Rose old new
 
+-- the count rose of what the write goes to, which is a file or a text, and the others stay
+abbrev pub FailsFor : Write → Counts → Counts → Type 0
+FailsFor (to_file path bytes) f f' = Rises f.writes f'.writes × (f' ≡ record f { writes = f'.writes })
+FailsFor (to_out text) f f' = Rises f.outs f'.outs × (f' ≡ record f { outs = f'.outs })
+FailsFor (to_err text) f f' = Rises f.errs f'.errs × (f' ≡ record f { errs = f'.errs })
+
 -- the write that failed is one of the file at the path
 abbrev pub IsFileWrite : List ℕ → Write → Type 0
 IsFileWrite path write = (bytes : List ℕ) × (write ≡ to_file path bytes)
 
 -- the write that failed is one of a text
 abbrev pub IsTextWrite : Write → Type 0
-IsTextWrite write = (text : List ℕ) × (write ≡ to_out text)
+IsTextWrite write = (text : List ℕ) × ((write ≡ to_out text) ⊎ (write ≡ to_err text))
 
-abbrev pub WroteOne : Landed → World → World → (files files' outs outs' : ℕ) → Write → Result (Unit {0}) Stop → Type 0
-WroteOne landed old new files files' outs outs' write (Ok _) = (files' ≡ files) × (outs' ≡ outs) × (new ≡ after landed old (write ∷ []))
-WroteOne landed old new files files' outs outs' write (Err (stops.Write p)) =
-    Rises files files'
-    × (outs' ≡ outs)
-    × Broken landed old write new
-    × IsFileWrite p.now write
-WroteOne landed old new files files' outs outs' write (Err stops.Output) =
-    (files' ≡ files)
-    × Rises outs outs'
-    × Broken landed old write new
-    × IsTextWrite write
-WroteOne landed old new files files' outs outs' write (Err stops.Memory) = ⊥
-WroteOne landed old new files files' outs outs' write (Err (stops.Read p)) = ⊥
-WroteOne landed old new files files' outs outs' write (Err (stops.Refused file fault)) = ⊥
+-- the write that stopped a command so
+abbrev pub StopsAs : Stop → Write → Type 0
+StopsAs (stops.Write p) write = IsFileWrite p.now write
+StopsAs stops.Output write = IsTextWrite write
+StopsAs stops.Memory write = ⊥
+StopsAs (stops.Read p) write = ⊥
+StopsAs (stops.Refused file fault) write = ⊥
 
-abbrev pub WroteAll : Landed → World → World → (files files' outs outs' : ℕ) → List Write → Result (Unit {0}) Stop → Type 0
-WroteAll landed old new files files' outs outs' writes (Ok _) = (files' ≡ files) × (outs' ≡ outs) × (new ≡ after landed old writes)
-WroteAll landed old new files files' outs outs' writes (Err (stops.Write p)) =
-    Rises files files'
-    × (outs' ≡ outs)
-    × StopsIn landed old writes (IsFileWrite p.now) new
-WroteAll landed old new files files' outs outs' writes (Err stops.Output) =
-    (files' ≡ files)
-    × Rises outs outs'
-    × StopsIn landed old writes IsTextWrite new
-WroteAll landed old new files files' outs outs' writes (Err stops.Memory) = ⊥
-WroteAll landed old new files files' outs outs' writes (Err (stops.Read p)) = ⊥
-WroteAll landed old new files files' outs outs' writes (Err (stops.Refused file fault)) = ⊥
+-- the write failed, and stopped a command so
+abbrev pub FailsAs : Stop → Counts → Counts → Write → Type 0
+FailsAs stop f f' write = StopsAs stop write × FailsFor write f f'
+
+abbrev pub WroteOne : Landed → World → World → Counts → Counts → Write → Result (Unit {0}) Stop → Type 0
+WroteOne landed old new f f' write (Ok _) = (f' ≡ f) × (new ≡ after landed old (write ∷ []))
+WroteOne landed old new f f' write (Err stop) = FailsAs stop f f' write × Broken landed old write new
+
+abbrev pub WroteAll : Landed → World → World → Counts → Counts → List Write → Result (Unit {0}) Stop → Type 0
+WroteAll landed old new f f' writes (Ok _) = (f' ≡ f) × (new ≡ after landed old writes)
+WroteAll landed old new f f' writes (Err stop) = StopsIn landed old writes (FailsAs stop f f') new
 
 -- ---- a command
 
@@ -175,10 +171,10 @@ Runs landed command old new f f' (Err (stops.Refused file fault)) =
     (f' ≡ f)
     × (new ≡ old)
     × Read old.contents command (λ texts. Answers command texts (refusing file.now fault))
-Runs landed command old new f f' (Err (stops.Write p)) = (f' ≡ record f { writes = f'.writes }) × Rises f.writes f'.writes
-    × Writing old.contents command (λ writes. StopsIn landed old writes (IsFileWrite p.now) new)
-Runs landed command old new f f' (Err stops.Output) = (f' ≡ record f { outs = f'.outs }) × Rises f.outs f'.outs
-    × Writing old.contents command (λ writes. StopsIn landed old writes IsTextWrite new)
+Runs landed command old new f f' (Err (stops.Write p)) =
+    Writing old.contents command (λ writes. StopsIn landed old writes (FailsAs (stops.Write p) f f') new)
+Runs landed command old new f f' (Err stops.Output) =
+    Writing old.contents command (λ writes. StopsIn landed old writes (FailsAs stops.Output f f') new)
 
 -- ---- the last message
 
@@ -215,14 +211,8 @@ pub record Kept (old new : World) (f f' : Counts) : Type 0 where
   pub writes : f'.writes ≡ f.writes
   pub outs : f'.outs ≡ f.outs
 
--- the count rose of what the write goes to, which is a file or the text on `out`, and the other stays
-abbrev pub FailsFor : Write → Counts → Counts → Type 0
-FailsFor (to_file path bytes) f f' = Rises f.writes f'.writes × (f'.outs ≡ f.outs)
-FailsFor (to_out text) f f' = Rises f.outs f'.outs × (f'.writes ≡ f.writes)
-FailsFor (to_err text) f f' = ⊥
-
 -- a write of the command failed: those in front of it were made, and it was made in part
-pub record BreaksOff (landed : Landed) (words : List Word) (old new : World) (f f' : Counts) : Type 0 where
+pub record BreaksOff (landed : Landed) (words : List Word) (old : World) (f : Counts) : Type 0 where
   pub command : Command
   pub means : Means words command
   pub done : List Write
@@ -232,14 +222,20 @@ pub record BreaksOff (landed : Landed) (words : List Word) (old new : World) (f 
   pub read : Read old.contents command (λ texts. Answers command texts (record { writes = done ++ failed ∷ behind; status = status.Done }))
   pub work : WhereTold old.contents (λ m.
       IsWork words m (record { reads = inputs_of command; writes = done ++ failed ∷ behind; status = status.Done }))
-  -- The count of what the write goes to rose, and no read failed.
-  pub fails : FailsFor failed f f'
-  pub reads : f'.reads ≡ f.reads
-  -- What stands of the files and of the text on `out`.
+  -- The count of what the write goes to rose, and no other.
+  pub counts : Counts
+  pub fails : FailsFor failed f counts
+  -- What stands of the files and of the texts on `out` and `err`.
   pub stands : World
   pub broken : Broken landed (after landed old done) failed stands
+  -- A command that writes no line on `err` has written nothing there, and no text on `err` has failed.
+  pub silent : HasNoErrLine command → (stands.err ≡ old.err) × (counts.errs ≡ f.errs)
+
+-- the files, the text on `out` and the counts but that of `err` are these
+pub record StandsSo (stands new : World) (g f' : Counts) : Type 0 where
   pub contents : new.contents ≡ stands.contents
   pub out : new.out ≡ stands.out
+  pub counts : f' ≡ record g { errs = f'.errs }
 
 -- where contents are told, the work ends so
 abbrev pub ToldEnds : List Word → Option FileMap → Status → Type 0
@@ -247,12 +243,13 @@ ToldEnds words contents s = (m : FileMap) × (contents ≡ Some m) × WorkEnds w
 
 -- ---- each status: when it comes, what stands then, and what `err` holds
 
--- Done: no count moved, the writes of the command were made, and nothing is said
+-- Done: no count moved, and the writes of the command were made, those on `err` too, and nothing else is said
 pub record IsDone (landed : Landed) (words : List Word) (old new : World) (f f' : Counts) : Type 0 where
   pub command : Command
   pub means : Means words command
   pub writes : Writing old.contents command (λ writes. new ≡ after landed old writes)
-  pub silent : new.err ≡ old.err
+  -- A command that writes no line on `err` has written nothing there.
+  pub silent : HasNoErrLine command → new.err ≡ old.err
   pub counts : f' ≡ f
 
 -- Refused: no count but that of `err` moved, the command's answer to what was read is to refuse an input, which is named
@@ -289,16 +286,27 @@ broken_text (to_file path bytes) = cannot_write path
 broken_text (to_out text) = cannot_write_output
 broken_text (to_err text) = cannot_write_output
 
--- WriteFault: a write of the command failed, and the message names where it goes
+-- WriteFault: a write of the command failed, and the message names where it goes, behind what the writes have put on `err`
 pub record IsUnwritten (landed : Landed) (words : List Word) (old new : World) (f f' : Counts) : Type 0 where
-  pub breaks_off : BreaksOff landed words old new f f'
-  pub message : Says (broken_text breaks_off.failed) old.err new.err f.errs f'.errs
+  pub breaks_off : BreaksOff landed words old f
+  pub so : StandsSo breaks_off.stands new breaks_off.counts f'
+  pub message : Says (broken_text breaks_off.failed) breaks_off.stands.err new.err breaks_off.counts.errs f'.errs
 
--- Memory: nothing was written, or the writes broke off, and nothing is said
-pub record IsOutOfMemory (landed : Landed) (words : List Word) (old new : World) (f f' : Counts) : Type 0 where
-  pub stands : Kept old new f f' ⊎ BreaksOff landed words old new f f'
+-- nothing was written
+pub record NothingMade (old new : World) (f f' : Counts) : Type 0 where
+  pub kept : Kept old new f f'
   pub silent : new.err ≡ old.err
   pub errs : f'.errs ≡ f.errs
+
+-- the writes broke off
+pub record BrokeOff (landed : Landed) (words : List Word) (old new : World) (f f' : Counts) : Type 0 where
+  pub breaks_off : BreaksOff landed words old f
+  pub stands : new ≡ breaks_off.stands
+  pub counts : f' ≡ breaks_off.counts
+
+-- Memory: nothing was written, or the writes broke off, and nothing is said
+abbrev pub IsOutOfMemory : Landed → List Word → World → World → Counts → Counts → Type 0
+IsOutOfMemory landed words old new f f' = NothingMade old new f f' ⊎ BrokeOff landed words old new f f'
 
 abbrev pub Cause : Landed → List Word → World → World → Counts → Counts → Status → Type 0
 Cause landed words old new f f' status.Done = IsDone landed words old new f f'

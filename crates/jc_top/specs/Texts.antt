@@ -96,6 +96,10 @@ by_method file kind place (Some method) = in_method_text file kind method place
 abbrev pub class_refusal_text : List ℕ → Refusal → List ℕ
 class_refusal_text file refusal = by_method file (kind_text refusal.kind) refusal.place refusal.method
 
+-- the line of a class file that is refused and is no failure
+abbrev pub refused_line : List ℕ → Refusal → List ℕ
+refused_line file refusal = codes "refused " ++ class_refusal_text file refusal
+
 -- an input that is refused, by its path and what is wrong with it
 abbrev pub fault_text : List ℕ → Fault → List ℕ
 fault_text file (faults.Exec path refusal) = exec_refusal_text file refusal

@@ -1,6 +1,6 @@
 -- The words of the command line: the command's name, uses of its options, and files.
-use Rattle.std.specs.Prelude.{ℕ, Bool, true, false, not, List, [], ◌∷◌, ◌++◌, map, string_bytes, Option, Some, None, if◌then◌else◌, String, nat_eq, ◌&&◌, option_map}
-use Rattle.std.specs.List.{flat_map, list_all, list_any}
+use Rattle.std.specs.Prelude.{ℕ, Bool, true, false, not, List, [], ◌∷◌, ◌++◌, map, codes, string_bytes, Option, Some, None, if◌then◌else◌, String, nat_eq, ◌&&◌, option_map}
+use Rattle.std.specs.List.{ends_with, flat_map, list_all, list_any}
 use Rattle.std.specs.Str.{bytes_eq}
 use Rattle.std.specs.declared.alloc.Global.{Global}
 
@@ -43,6 +43,10 @@ is_component (a ∷ b ∷ c ∷ rest) = true
 abbrev pub is_relative : Word → Bool
 is_relative word = is_value word && list_all is_component (components word)
 
+-- a value that doesn't end with `/`
+abbrev pub is_file : Word → Bool
+is_file word = is_value word && not (ends_with nat_eq word (codes "/"))
+
 -- no two of the words are equal
 abbrev pub are_distinct : List Word → Bool
 are_distinct [] = true
@@ -57,6 +61,11 @@ pub record Use : Type 0 where
 
 abbrev pub use_words : Use → List Word
 use_words u = u.option ∷ u.value ∷ []
+
+-- a use of the option, where it has a value
+abbrev pub uses_of : Word → Option Word → List Use
+uses_of option None = []
+uses_of option (Some value) = record { option = option; value = value } ∷ []
 
 -- the words of a command, by their parts
 pub record Call : Type 0 where

@@ -1,5 +1,5 @@
 -- The work of a command: what it reads and writes, and how it ends, where the files are told.
-use Rattle.std.specs.Prelude.{◌≡◌, ◌⊎◌, ◌≤◌, ⊤, ℕ, List, [], ◌∷◌, ◌++◌, length, map, Option, Some, None}
+use Rattle.std.specs.Prelude.{◌≡◌, ◌⊎◌, ◌≤◌, ⊤, ℕ, List, [], ◌∷◌, ◌++◌, length, map, take, Option, Some, None, option_to_list}
 use Rattle.std.specs.FinMap.{get}
 use Rattle.jc_base.specs.ByteLists.{AreBytes}
 use Rattle.jc_base.specs.Outside.{FileMap, IsLong, WhereTold, most_read}
@@ -15,7 +15,8 @@ use Rattle.jc_base.specs.declared.refusal.Refusal.{Refusal}
 use Rattle.jc_top.specs.ClassInfo.{AreListed, RefusedAt}
 use Rattle.jc_top.specs.ExecData.{IsUnionOf, IsFirstRefused, IsFirstRefusedAlone}
 use Rattle.jc_top.specs.ExecInfo.{AreInfo}
-use Rattle.jc_top.specs.Command.{Command, merge, exec_info, class_info, inputs_of, Means, NoForm}
+use Rattle.jc_top.specs.Report.{Item, AreItems, data_texts, class_texts, lines_of, first_clash, csv_of_items}
+use Rattle.jc_top.specs.Command.{Command, merge, exec_info, class_info, report, inputs_of, Means, NoForm}
 use Rattle.jc_top.specs.Texts.{usage_text, cannot_read, fault_text}
 use Rattle.jc_top.specs.World.{World, Write, to_file, to_out, to_err, Landed, after}
 
@@ -78,6 +79,23 @@ pub data Answers : Command → List (List ℕ) → Answer → Type 0 where
   class_refused : {paths : List Word} {texts : List (List ℕ)} (index : ℕ) (path : Word) (why : Refusal)
       → RefusedAt 0 paths texts index path why
       → Answers (class_info paths) texts (refusing path (fault.Class index why))
+  -- no record clashes with a class
+  reported : {out name : Word} {exec : Option Word} {paths : List Word} {texts : List (List ℕ)}
+      → (store : Store) (items : List Item)
+      → IsUnionOf (data_texts exec texts) store → AreItems (class_texts exec texts) items → first_clash store.classes items ≡ None
+      → Answers (report out name exec paths) texts
+      (record { writes = map to_err (lines_of paths items) ++ to_file out (csv_of_items name store.classes items) ∷ []; status = status.Done })
+  -- the file of execution data is refused
+  report_refused : {out name : Word} {exec : Option Word} {paths : List Word} {texts : List (List ℕ)}
+      → (index : ℕ) (path : Word) (refusal : ExecRefusal)
+      → IsFirstRefused (option_to_list exec) (data_texts exec texts) index path refusal
+      → Answers (report out name exec paths) texts (refusing path (fault.Exec index refusal))
+  -- a clash is found among the first so many class files
+  report_clashes : {out name path : Word} {paths : List Word} {texts : List (List ℕ)}
+      → (store : Store) (count : ℕ) (items : List Item) (refusal : ExecRefusal)
+      → IsUnionOf (data_texts (Some path) texts) store → AreItems (take count (class_texts (Some path) texts)) items
+      → first_clash store.classes items ≡ Some refusal
+      → Answers (report out name (Some path) paths) texts (refusing path (fault.Exec 0 refusal))
 
 -- ---- the work
 

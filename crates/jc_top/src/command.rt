@@ -2,11 +2,12 @@
 ghost use Rattle.std.specs.Prelude.{◌≡◌, ◌<◌, ◌^◌, ℕ, List, length, map, Option, Ok, Err, Some, None, IfOk};
 ghost use Rattle.std.specs.Option.{option_map};
 ghost use Rattle.jc_top.specs.Words.{Word, words_of};
-ghost use Rattle.jc_top.specs.Command.{inputs_of, decide, decide_merge, decide_exec_info, decide_class_info};
+ghost use Rattle.jc_top.specs.Command.{inputs_of, decide, decide_merge, decide_exec_info, decide_class_info, decide_report};
 ghost use Rattle.jc_top.specs.Looks.{scan_of, command_seen};
 ghost use Rattle.jc_top.specs.Outcome.{CommandRead};
 
 use crate::paths::{are_distinct, are_relative, are_values, is_among};
+use crate::report_words::{are_report_words, first_use};
 use crate::words::{Scanned, is_value, scan_words};
 use jc_base::{Fail, Memory};
 use std::alloc::Global;
@@ -25,6 +26,13 @@ pub enum Command<'a> {
     },
     /// Prints the name, the id and the version of each class.
     ClassInfo {
+        paths: &'a [String],
+    },
+    /// Writes the CSV text of the class files, by the hits in the execution data, if a file of it is named.
+    Report {
+        out: &'a str,
+        name: &'a str,
+        exec: Option<&'a str>,
         paths: &'a [String],
     },
 }
@@ -89,6 +97,34 @@ fn class_info_of<'a>(alloc: Global, words: &Scanned<'a>) -> Result<Option<Comman
     }
 }
 
+/// The name of a report that is given none.
+const DEFAULT_NAME: &str = "JaCoCo Coverage Report";
+
+/// `report --csv OUT [--name NAME] [--exec IN] CLASSFILE..`, where no two of OUT, IN and the CLASSFILEs are equal.
+fn report_of<'a>(alloc: Global, words: &Scanned<'a>) -> Result<Option<Command<'a>>, Memory>
+    ensures { IfOk result (λ o. option_map command_seen o ≡ decide_report (scan_of words.now).uses (scan_of words.now).files) }
+{
+    let (out, behind) = first_use(&words.uses, "--csv");
+    let (name, behind) = first_use(behind, "--name");
+    let (exec, behind) = first_use(behind, "--exec");
+    let Some(out) = out else {
+        return Ok(None);
+    };
+    if !behind.is_empty() || words.files.is_empty() {
+        return Ok(None);
+    }
+    if are_report_words(alloc, out, name, exec, words.files)? {
+        Ok(Some(Command::Report {
+            out,
+            name: name.unwrap_or(DEFAULT_NAME),
+            exec,
+            paths: words.files,
+        }))
+    } else {
+        Ok(None)
+    }
+}
+
 /// The command of this name, where the words behind the name are of a form of it.
 fn decide<'a>(alloc: Global, name: &str, words: &Scanned<'a>) -> Result<Option<Command<'a>>, Memory>
     ensures { IfOk result (λ o. option_map command_seen o ≡ decide name.now (scan_of words.now)) }
@@ -97,6 +133,7 @@ fn decide<'a>(alloc: Global, name: &str, words: &Scanned<'a>) -> Result<Option<C
         "merge" => merge_of(alloc, words),
         "execinfo" => exec_info_of(alloc, words),
         "classinfo" => class_info_of(alloc, words),
+        "report" => report_of(alloc, words),
         _ => Ok(None),
     }
 }

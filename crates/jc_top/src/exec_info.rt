@@ -121,7 +121,7 @@ fn put_file<'a>(
 }
 
 /// The execution data of one file.
-fn data_of(alloc: Global, bytes: &[u8]) -> Result<ExecStore, Fail<ExecRefusal>>
+pub fn data_of(alloc: Global, bytes: &[u8]) -> Result<ExecStore, Fail<ExecRefusal>>
     requires { length bytes.now ≤ most_read }
     ensures union { IfOk result (λ store. IsUnionOf (bytes.now ∷ []) store) }
     ensures refused { IfErr result (λ e. Refuses e no_data bytes.now) }

@@ -2,6 +2,7 @@
 #![tactic(auto)]
 
 mod class_info;
+mod class_report;
 mod command;
 mod exec_info;
 mod input;
@@ -9,6 +10,8 @@ mod merge;
 mod message;
 mod output;
 mod paths;
+mod report;
+mod report_words;
 mod run;
 mod status;
 mod stop;

@@ -3,7 +3,7 @@ ghost use Rattle.std.specs.Prelude.{◌≡◌, string_bytes, IfOk};
 ghost use Rattle.jc_top.specs.Texts.{cannot_read, cannot_write, cannot_write_output, usage_text};
 ghost use Rattle.jc_top.specs.Texts.{bad_exec_text, version_start, version_line, other_version_text};
 ghost use Rattle.jc_top.specs.Texts.{conflict_start, first_count_text, second_count_text, conflict_text, exec_refusal_text};
-ghost use Rattle.jc_top.specs.Texts.{kind_text, placed_text, in_method_text, class_refusal_text, fault_text};
+ghost use Rattle.jc_top.specs.Texts.{kind_text, placed_text, in_method_text, class_refusal_text, refused_line, fault_text};
 ghost use Rattle.jc_top.specs.Outcome.{Says, Reports, message_of, status_of};
 
 use crate::stop::Stop;
@@ -177,6 +177,16 @@ fn class_refusal_text(alloc: Global, file: &str, refusal: Refusal) -> Result<Str
         None => placed_text(alloc, file, kind, refusal.place),
         Some(method) => in_method_text(alloc, file, kind, method, refusal.place),
     }
+}
+
+/// The line of a class file that is refused and is no failure.
+pub fn refused_line(alloc: Global, file: &str, refusal: Refusal) -> Result<Vec<u8>, AllocError>
+    ensures { IfOk result (λ line. line.items ≡ refused_line file.now refusal) }
+{
+    let text = class_refusal_text(alloc, file, refusal)?;
+    let mut line = Vec::from_slice(alloc, b"refused ")?;
+    line.extend_from_slice(text.as_bytes())?;
+    Ok(line)
 }
 
 fn fault_text(alloc: Global, file: &str, fault: &Fault) -> Result<Vec<u8>, AllocError>

@@ -1,7 +1,7 @@
 //! Making the writes of a command.
-ghost use Rattle.std.specs.Prelude.{◌≡◌, ◌++◌, ◌∷◌, [], ℕ, List, map, Option, OnOk};
+ghost use Rattle.std.specs.Prelude.{◌≡◌, ◌++◌, ◌∷◌, [], map, OnOk};
 ghost use Rattle.jc_top.specs.Looks.{write_seen};
-ghost use Rattle.jc_top.specs.World.{world};
+ghost use Rattle.jc_top.specs.World.{world, counts};
 ghost use Rattle.jc_top.specs.Outcome.{WroteOne, WroteAll};
 
 use crate::stop::Stop;
@@ -14,9 +14,11 @@ pub enum Write<'a> {
     File { path: &'a str, bytes: Vec<u8> },
     /// The text, on `out`.
     Out { text: Vec<u8> },
+    /// The text, on `err`.
+    Err { text: Vec<u8> },
 }
 
-/// Puts a line last.
+/// Puts a line on `out` last.
 pub fn keep<'a>(writes: &mut Vec<Write<'a>>, text: Vec<u8>) -> Result<(), Memory>
     ensures { OnOk result (writes.new.items ≡ writes.old.items ++ Write.Out text ∷ []) }
 {
@@ -25,15 +27,18 @@ pub fn keep<'a>(writes: &mut Vec<Write<'a>>, text: Vec<u8>) -> Result<(), Memory
 }
 
 /// Makes one write.
-fn write_one<'a, F: Files, O: Sink>(
+fn write_one<'a, F: Files, O: Sink, E: Sink>(
     files: &mut F,
     out: &mut O,
+    err: &mut E,
     write: &Write<'a>,
 ) -> Result<(), Stop<'a>>
-    ensures gives { (err : Option (List ℕ)) → WroteOne F.landed
-        (world (F.contents files.old) (O.told out.old) err) (world (F.contents files.new) (O.told out.new) err)
-        (F.write_faults files.old) (F.write_faults files.new) (O.faults out.old) (O.faults out.new) (write_seen write.now) result }
-    ensures read_faults { F.read_faults files.new ≡ F.read_faults files.old }
+    ensures { WroteOne F.landed
+        (world (F.contents files.old) (O.told out.old) (E.told err.old))
+        (world (F.contents files.new) (O.told out.new) (E.told err.new))
+        (counts (F.read_faults files.old) (F.write_faults files.old) (O.faults out.old) (E.faults err.old))
+        (counts (F.read_faults files.new) (F.write_faults files.new) (O.faults out.new) (E.faults err.new))
+        (write_seen write.now) result }
 {
     match write {
         Write::File { path, bytes } => match files.write(path, bytes) {
@@ -44,22 +49,29 @@ fn write_one<'a, F: Files, O: Sink>(
             Ok(()) => Ok(()),
             Err(_) => Err(Stop::Output),
         },
+        Write::Err { text } => match err.put(text) {
+            Ok(()) => Ok(()),
+            Err(_) => Err(Stop::Output),
+        },
     }
 }
 
 /// Makes the writes in order, up to the first that fails.
-pub fn write_all<'a, F: Files, O: Sink>(
+pub fn write_all<'a, F: Files, O: Sink, E: Sink>(
     files: &mut F,
     out: &mut O,
+    err: &mut E,
     writes: &[Write<'a>],
 ) -> Result<(), Stop<'a>>
-    ensures gives { (err : Option (List ℕ)) → WroteAll F.landed
-        (world (F.contents files.old) (O.told out.old) err) (world (F.contents files.new) (O.told out.new) err)
-        (F.write_faults files.old) (F.write_faults files.new) (O.faults out.old) (O.faults out.new) (map write_seen writes.now) result }
-    ensures read_faults { F.read_faults files.new ≡ F.read_faults files.old }
+    ensures { WroteAll F.landed
+        (world (F.contents files.old) (O.told out.old) (E.told err.old))
+        (world (F.contents files.new) (O.told out.new) (E.told err.new))
+        (counts (F.read_faults files.old) (F.write_faults files.old) (O.faults out.old) (E.faults err.old))
+        (counts (F.read_faults files.new) (F.write_faults files.new) (O.faults out.new) (E.faults err.new))
+        (map write_seen writes.now) result }
 {
     'writing: for write in writes {
-        write_one(files, out, write)?;
+        write_one(files, out, err, write)?;
     }
     Ok(())
 }

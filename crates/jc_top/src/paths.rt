@@ -2,7 +2,7 @@
 ghost use Rattle.std.specs.Prelude.{◌≡◌, ◌++◌, ◌∷◌, [], Bool, IfOk, map, not};
 ghost use Rattle.std.specs.List.{list_all, list_any};
 ghost use Rattle.std.specs.Str.{bytes_eq};
-ghost use Rattle.jc_top.specs.Words.{components, is_component, is_value, is_relative, are_distinct, words_of};
+ghost use Rattle.jc_top.specs.Words.{components, is_component, is_value, is_file, is_relative, are_distinct, words_of};
 
 use crate::words::is_value;
 use indexmap::IndexSet;
@@ -48,6 +48,25 @@ pub fn are_relative(words: &[String]) -> bool
 {
     'testing: for word in words {
         if !is_relative(word.as_str()) {
+            return false;
+        }
+    }
+    true
+}
+
+/// Whether a word is a value that doesn't end with `/`.
+fn is_file(word: &str) -> bool
+    ensures { result ≡ is_file word.now }
+{
+    is_value(word) && !word.as_bytes().ends_with(b"/")
+}
+
+/// Whether each word is such a value.
+pub fn are_files(words: &[String]) -> bool
+    ensures { result ≡ list_all is_file (words_of words.now) }
+{
+    'testing: for word in words {
+        if !is_file(word.as_str()) {
             return false;
         }
     }

@@ -15,6 +15,7 @@ use crate::exec_info::prepare_exec_info;
 use crate::merge::prepare_merge;
 use crate::message::{USAGE, report, say};
 use crate::output::{Write, write_all};
+use crate::report::prepare_report;
 use crate::stop::Stop;
 use jc_base::{Fail, Files, Sink};
 use std::alloc::Global;
@@ -34,31 +35,40 @@ fn prepare<'a, F: Files>(
         Command::Merge { destfile, inputs } => prepare_merge(alloc, files, destfile, inputs),
         Command::ExecInfo { paths } => prepare_exec_info(alloc, files, paths),
         Command::ClassInfo { paths } => prepare_class_info(alloc, files, paths),
+        Command::Report {
+            out,
+            name,
+            exec,
+            paths,
+        } => prepare_report(alloc, files, out, name, *exec, paths),
     }
 }
 
 /// Reads the inputs of a command, and then makes its writes.
-fn run<'a, F: Files, O: Sink>(
+fn run<'a, F: Files, O: Sink, E: Sink>(
     alloc: Global,
     files: &mut F,
     out: &mut O,
+    err: &mut E,
     command: &Command<'a>,
 ) -> Result<(), Stop<'a>>
     requires { length (inputs_of (command_seen command.now)) < 2 ^ 32 }
-    ensures { (err : Option (List ℕ)) (errs : ℕ) → Runs F.landed (command_seen command.now)
-        (world (F.contents files.old) (O.told out.old) err) (world (F.contents files.new) (O.told out.new) err)
-        (counts (F.read_faults files.old) (F.write_faults files.old) (O.faults out.old) errs)
-        (counts (F.read_faults files.new) (F.write_faults files.new) (O.faults out.new) errs) result }
+    ensures { Runs F.landed (command_seen command.now)
+        (world (F.contents files.old) (O.told out.old) (E.told err.old))
+        (world (F.contents files.new) (O.told out.new) (E.told err.new))
+        (counts (F.read_faults files.old) (F.write_faults files.old) (O.faults out.old) (E.faults err.old))
+        (counts (F.read_faults files.new) (F.write_faults files.new) (O.faults out.new) (E.faults err.new)) result }
 {
     let writes = prepare(alloc, files, command)?;
-    write_all(files, out, &writes)
+    write_all(files, out, err, &writes)
 }
 
 /// Runs the command that the words behind the program's name call.
 ///
-/// The words are `merge --destfile OUT IN..`, `execinfo IN..` or `classinfo FILE..`. A command first reads its inputs,
-/// then refuses what is wrong with them, and then writes. The first failure ends it and decides the status; its
-/// message goes to `err`, and a failure of that last message changes nothing. Want of memory
+/// The words are `merge --destfile OUT IN..`, `execinfo IN..`, `classinfo FILE..` or `report --csv OUT [--name NAME]
+/// [--exec IN] CLASSFILE..`. A command first reads its inputs, then refuses what is wrong with them, and then writes.
+/// `report` begins its writes with a line on `err` for each class file that is refused. The first failure ends a command
+/// and decides the status; its message goes to `err`, and a failure of that last message changes nothing. Want of memory
 /// prints no message.
 ///
 /// Where the contents of `files` are told, no count of faults rose and memory wasn't refused, the writes and the
@@ -70,7 +80,7 @@ fn run<'a, F: Files, O: Sink>(
 /// - `Usage`: the words are of no stated form. Nothing was written but the usage text.
 /// - `ReadFault`: an input can't be read, which the message names. It comes only where the count of reads that failed
 ///   rose, or where the work ends so. Nothing was written but the message.
-/// - `WriteFault`: a write failed, the count of the files or of `out` rose, and the message names where it goes. The
+/// - `WriteFault`: a write failed, the count of what it goes to rose, and the message names where it goes. The
 ///   writes in front of it were made, and of it a prefix.
 /// - `Memory`: nothing was written, or the writes broke off as at `WriteFault`. There is no message.
 pub fn run_tool<F: Files, O: Sink, E: Sink>(
@@ -94,7 +104,7 @@ pub fn run_tool<F: Files, O: Sink, E: Sink>(
             return Status::Usage;
         }
     };
-    match run(alloc, files, out, &command) {
+    match run(alloc, files, out, err, &command) {
         Ok(()) => Status::Done,
         Err(stop) => report(alloc, err, stop),
     }

@@ -11,6 +11,7 @@ use std::process::Abort;
 use std::test::Fail;
 
 mod exec;
+mod report;
 mod rows;
 
 // A file that is there before the run.

@@ -1,5 +1,6 @@
 use Rattle.jc_top.specs.Words.{words_of}
 use Rattle.jc_top.specs.Looks.{command_seen}
+use Rattle.jc_top.specs.World.{world, counts}
 use Rattle.jc_top.proofs.RunLaws.{done_ends, stop_ends, usage_ends, memory_ends}
 use Rattle.jc_top.proofs.run.run_tool.Goals as goal
 
@@ -12,10 +13,14 @@ returns-in-Err-Said g c =
     usage_ends g.F.Files.landed (words_of c.args.words.now) _ _ _ _ _ _ _ _ _ none c.say.ensures
 
 pub returns-in-Ok-run : goal.returns-in-Ok-run
-returns-in-Ok-run g c =
-    done_ends g.F.Files.landed (words_of c.args.words.now) (command_seen c.in-Ok.command) c.in-Ok.ensures.read _ _ _ _ _ _ _ (c.in-Ok-run.ensures (g.E.Sink.told c.args.err.now) (g.E.Sink.faults c.args.err.now))
+returns-in-Ok-run g c = done_ends g.F.Files.landed (words_of c.args.words.now) (command_seen c.in-Ok.command) c.in-Ok.ensures.read _ _ _ _ c.in-Ok-run.ensures
 
 pub returns-in-Err : goal.returns-in-Err
 returns-in-Err g c =
-    stop_ends g.F.Files.landed (words_of c.args.words.now) (command_seen c.in-Ok.command) c.in-Ok.ensures.read _ _ _ _ _ _ _ _ _ _ _ _ _ _ c.in-Err.stop c.report.result
-    (c.in-Err.ensures (g.E.Sink.told c.args.err.now) (g.E.Sink.faults c.args.err.now)) c.report.ensures
+    let F = g.F.Files in
+    let O = g.O.Sink in
+    let E = g.E.Sink in
+    stop_ends F.landed (words_of c.args.words.now) (command_seen c.in-Ok.command) c.in-Ok.ensures.read _
+    (world (F.contents c.run.new.files) (O.told c.run.new.out) (E.told c.run.new.err)) _
+    (counts (F.read_faults c.run.new.files) (F.write_faults c.run.new.files) (O.faults c.run.new.out) (E.faults c.run.new.err))
+    (E.told c.report.new.err) (E.faults c.report.new.err) c.in-Err.stop c.report.result c.in-Err.ensures c.report.ensures

@@ -1,0 +1,17 @@
+use Rattle.std.proofs.Common.{sym, ◌∙◌, ap}
+use Rattle.std.proofs.lemmas.List.{take_all}
+use Rattle.std.specs.List.{list_all}
+use Rattle.jc_top.specs.Words.{is_file, words_of}
+use Rattle.jc_top.proofs.PathLaws.{all_on, all_stop}
+use Rattle.jc_top.proofs.paths.are_files.Goals as goal
+
+pub testing-preserved : goal.testing-preserved
+testing-preserved c = all_on is_file c.args.words.now c.testing.word-index c.word-item.result c.testing-test.true c.word-item.is c.testing.invariant
+    (ap is_file (sym c.as_str.ensures.value) ∙ sym c.is_file.ensures ∙ c.if-not-is_file.false)
+
+pub returns-then-not-is_file : goal.returns-then-not-is_file
+returns-then-not-is_file c = all_stop is_file c.args.words.now c.testing.word-index c.word-item.result c.testing-test.true c.word-item.is
+    (ap is_file (sym c.as_str.ensures.value) ∙ sym c.is_file.ensures ∙ c.if-not-is_file.true)
+
+pub returns : goal.returns
+returns c = sym (ap (λ words. list_all is_file (words_of words)) (sym (take_all c.testing.word-index c.args.words.now c.testing-test.false)) ∙ c.testing.invariant)

@@ -1,0 +1,128 @@
+-- What the command `report` makes of execution data and of class files (JaCoCo's documentation on coverage counters).
+use Rattle.std.specs.Prelude.{◌≡◌, ⊤, ℕ, Bool, true, false, not, ◌&&◌, List, [], ◌∷◌, length, map, filter, take, drop, nat_eq, bytes_eq}
+use Rattle.std.specs.Prelude.{Option, Some, None, option_map, option_to_list, if◌then◌else◌}
+use Rattle.std.specs.Option.{option_or}
+use Rattle.std.specs.List.{find}
+use Rattle.jc_base.specs.declared.analysed.Analysed.{Analysed}
+use Rattle.jc_base.specs.declared.refusal.Refusal.{Refusal}
+use Rattle.jc_cover.specs.Counters.{counters_of}
+use Rattle.jc_cover.specs.Covered.{hits_or_none}
+use Rattle.jc_cover.specs.Marking.{coverage_of}
+use Rattle.jc_exec.specs.declared.hits.ClassHits.{ClassHits}
+use Rattle.jc_exec.specs.declared.refusal.ExecRefusal.{ExecRefusal}
+use Rattle.jc_exec.specs.declared.refusal.ExecRefusal.TheVariants.{Conflict}
+use Rattle.jc_instrument.specs.Analysis.{IsAnalysis}
+use Rattle.jc_instrument.specs.LeftAlone.{is_left_alone}
+use Rattle.jc_instrument.specs.Reasons.{AnalysisReason}
+use Rattle.jc_instrument.specs.SameAnalysis.{without_frames}
+use Rattle.jc_report.specs.declared.row.Counted.{Counted}
+use Rattle.jc_report.specs.Csv.{csv_of}
+use Rattle.jc_report.specs.Rows.{rows_of}
+use Rattle.jc_top.specs.Texts.{refused_line}
+use Rattle.jc_top.specs.Words.{Word}
+
+-- ---- the inputs
+
+-- the text of the execution data, if a file of it is named, and those of the class files behind it
+abbrev pub data_texts : Option Word → List (List ℕ) → List (List ℕ)
+data_texts exec texts = take (length (option_to_list exec)) texts
+
+abbrev pub class_texts : Option Word → List (List ℕ) → List (List ℕ)
+class_texts exec texts = drop (length (option_to_list exec)) texts
+
+-- ---- one class file
+
+-- the class without the frames of its bodies, at which no report looks
+abbrev pub frameless : Analysed → Analysed
+frameless a = record a { bodies = map without_frames a.bodies }
+
+-- what a class file is to a report
+pub data Item : Type 0 where
+  refused_class : (why : Refusal) → Item
+  unchanged_class : Item
+  changed_class : (a : Analysed) → Item
+
+-- A class file is refused for the reason for which it isn't analysed. Else its class is unchanged where instrumentation
+-- leaves it alone, and changed otherwise.
+pub data IsItem (bytes : List ℕ) : Item → Type 0 where
+  is_refused : (why : Refusal) → AnalysisReason bytes (Some why) → IsItem bytes (refused_class why)
+  is_unchanged : (a : Analysed) (is : IsAnalysis bytes a) → is_left_alone is.file ≡ true → IsItem bytes unchanged_class
+  is_changed : (a : Analysed) (is : IsAnalysis bytes a) → is_left_alone is.file ≡ false → IsItem bytes (changed_class (frameless a))
+
+-- the class files, in order
+abbrev pub AreItems : List (List ℕ) → List Item → Type 0
+AreItems [] [] = ⊤
+AreItems [] (item ∷ items) = ⊥
+AreItems (t ∷ ts) [] = ⊥
+AreItems (t ∷ ts) (item ∷ items) = IsItem t item × AreItems ts items
+
+-- a line for each class file that is refused
+abbrev pub lines_of : List Word → List Item → List (List ℕ)
+lines_of [] items = []
+lines_of (p ∷ ps) [] = []
+lines_of (p ∷ ps) (refused_class why ∷ items) = refused_line p why ∷ lines_of ps items
+lines_of (p ∷ ps) (unchanged_class ∷ items) = lines_of ps items
+lines_of (p ∷ ps) (changed_class a ∷ items) = lines_of ps items
+
+abbrev pub changed_of : List Item → List Analysed
+changed_of [] = []
+changed_of (refused_class why ∷ items) = changed_of items
+changed_of (unchanged_class ∷ items) = changed_of items
+changed_of (changed_class a ∷ items) = a ∷ changed_of items
+
+-- ---- the records of the classes
+
+-- the record of the id, if there is one
+abbrev pub record_of : List ClassHits → ℕ → Option ClassHits
+record_of records id = find (λ r. nat_eq r.id id) records
+
+-- the record has the name of the class, and as many probes
+abbrev pub fits : Analysed → ClassHits → Bool
+fits a r = bytes_eq r.name a.name && nat_eq (length r.bits) a.probes
+
+-- the record of the id of a class with another name or another count
+abbrev pub clash_with : Analysed → Option ClassHits → Option ExecRefusal
+clash_with a None = None
+clash_with a (Some r) = if fits a r then None else Some (Conflict a.id r.name a.name (length r.bits) a.probes)
+
+abbrev pub clash_of : List ClassHits → Item → Option ExecRefusal
+clash_of records (refused_class why) = None
+clash_of records unchanged_class = None
+clash_of records (changed_class a) = clash_with a (record_of records a.id)
+
+-- the clash of the first changed class that has one
+abbrev pub first_clash : List ClassHits → List Item → Option ExecRefusal
+first_clash records [] = None
+first_clash records (item ∷ items) = option_or (clash_of records item) (first_clash records items)
+
+-- ---- the report
+
+-- each class whose id hasn't come before
+abbrev pub first_of_each_id : List Analysed → List Analysed
+first_of_each_id [] = []
+first_of_each_id (a ∷ classes) = a ∷ filter (λ b. not (nat_eq a.id b.id)) (first_of_each_id classes)
+
+-- the class with its counters, by these hits, or by none
+abbrev pub counted_of : Option (List Bool) → Analysed → Counted
+counted_of hits a = record {
+  id = a.id;
+  name = a.name;
+  super_name = a.super_name;
+  interfaces = a.interfaces;
+  counters = counters_of a.bodies (coverage_of a.bodies (hits_or_none hits));
+}
+
+-- the same by the hits of its record
+abbrev pub counted_by : List ClassHits → Analysed → Counted
+counted_by records a = counted_of (option_map (λ r. r.bits) (record_of records a.id)) a
+
+abbrev pub counted_classes : List ClassHits → List Item → List Counted
+counted_classes records items = map (counted_by records) (first_of_each_id (changed_of items))
+
+-- the CSV text of classes in the report of this name
+abbrev pub report_text : Word → List Counted → List ℕ
+report_text name classes = csv_of (rows_of name classes)
+
+-- that of the changed classes
+abbrev pub csv_of_items : Word → List ClassHits → List Item → List ℕ
+csv_of_items name records items = report_text name (counted_classes records items)

@@ -1,0 +1,110 @@
+-- What the steps of a report give.
+use Rattle.std.specs.Prelude.{◌≡◌, ⊤, ℕ, Bool, List, [], ◌∷◌, ◌++◌, length, map, take, nat_eq, Option, Some, None, option_map, Result, Ok, Err, Vec, if◌then◌else◌}
+use Rattle.std.specs.Borrow.{Bor}
+use Rattle.std.specs.List.{list_any}
+use Rattle.std.specs.declared.alloc.Global.{Global}
+use Rattle.jc_base.specs.FirstSeen.{first_seen}
+use Rattle.jc_base.specs.declared.analysed.Analysed.{Analysed}
+use Rattle.jc_base.specs.declared.body.Body.{Body}
+use Rattle.jc_base.specs.declared.refusal.Refusal.{Refusal}
+use Rattle.jc_exec.specs.declared.hits.ClassHits.{ClassHits}
+use Rattle.jc_exec.specs.declared.refusal.ExecRefusal.{ExecRefusal}
+use Rattle.jc_top.specs.declared.class_report.Data.{Data}
+use Rattle.jc_top.specs.declared.class_report.Looked.{Looked}
+use Rattle.jc_top.specs.declared.output.Write.{Write as Written}
+use Rattle.jc_top.specs.declared.status.Fault.TheVariants as faults
+use Rattle.jc_top.specs.declared.stop.Stop.{Stop}
+use Rattle.jc_top.specs.declared.stop.Stop.TheVariants as stops
+use Rattle.jc_top.specs.Looks.{write_seen}
+use Rattle.jc_top.specs.Report.{Item, IsItem, AreItems, lines_of, changed_of, record_of, clash_with, clash_of, first_clash, counted_of, counted_classes, csv_of_items}
+use Rattle.jc_top.specs.Texts.{refused_line}
+use Rattle.jc_top.specs.Words.{Word}
+use Rattle.jc_top.specs.World.{to_file, to_err}
+
+-- ---- the execution data
+
+abbrev pub data_records : Option (Bor Data) → List ClassHits
+data_records None = []
+data_records (Some d) = d.now.store.classes
+
+abbrev pub data_path : Option (Bor Data) → Option Word
+data_path None = None
+data_path (Some d) = Some d.now.path.now
+
+-- how a clash stops a command: it names the file of execution data; want of memory may come at any time
+abbrev pub StopsAtClash : Option Word → (ExecRefusal → Type 0) → Stop → Type 0
+StopsAtClash path Why stops.Memory = ⊤
+StopsAtClash path Why (stops.Refused file fault) = (refusal : ExecRefusal) × (path ≡ Some file.now) × (fault ≡ faults.Exec 0 refusal) × Why refusal
+StopsAtClash path Why (stops.Read p) = ⊥
+StopsAtClash path Why (stops.Write p) = ⊥
+StopsAtClash path Why stops.Output = ⊥
+
+-- ---- one class file more
+
+-- the line of a class file that is refused was put last, and nothing else changed
+pub record KeepsRefused (path : Word) (why : Refusal) (old new : Looked) : Type 0 where
+  pub lines : map write_seen new.lines.items ≡ map write_seen old.lines.items ++ to_err (refused_line path why) ∷ []
+  pub classes : new.classes.items ≡ old.classes.items
+  pub ids : new.ids.keys ≡ old.ids.keys
+
+-- the item was put last, unless the id was there
+abbrev pub unless_known : {X : Type 0} → Bool → List X → X → List X
+unless_known known xs x = if known then xs else xs ++ x ∷ []
+
+-- the class was counted by these hits, unless its id came before
+pub record Counts (hits : Option (List Bool)) (a : Analysed) (old new : Looked) : Type 0 where
+  pub lines : new.lines.items ≡ old.lines.items
+  pub classes : new.classes.items ≡ unless_known (list_any (nat_eq a.id) old.ids.keys) old.classes.items (counted_of hits a)
+  pub ids : new.ids.keys ≡ unless_known (list_any (nat_eq a.id) old.ids.keys) old.ids.keys a.id
+
+-- the changed class was counted so by its record, which fits it
+pub record KeepsChanged (records : List ClassHits) (a : Analysed) (old new : Looked) : Type 0 where
+  pub counts : Counts (option_map (λ r. r.bits) (record_of records a.id)) a old new
+  pub fits : clash_with a (record_of records a.id) ≡ None
+
+-- a class without bodies is unchanged
+abbrev pub KeepsClass : List ClassHits → Analysed → List Body → Looked → Looked → Type 0
+KeepsClass records a [] old new = new ≡ old
+KeepsClass records a (b ∷ bodies) old new = KeepsChanged records a old new
+
+-- the class has bodies, and its record doesn't fit it
+abbrev pub ClassClashes : List ClassHits → Analysed → List Body → ExecRefusal → Type 0
+ClassClashes records a [] refusal = ⊥
+ClassClashes records a (b ∷ bodies) refusal = clash_with a (record_of records a.id) ≡ Some refusal
+
+-- ---- the class files so far
+
+-- the lines, the counted classes and the ids are those of the first class files
+pub record IsReportOf (records : List ClassHits) (paths : List Word) (items : List Item) (looked : Looked) : Type 0 where
+  pub lines : map write_seen looked.lines.items ≡ map to_err (lines_of paths items)
+  pub classes : looked.classes.items ≡ counted_classes records items
+  pub ids : looked.ids.keys ≡ first_seen (map (λ a. a.id) (changed_of items))
+
+-- one class file more was looked at, and it doesn't clash
+abbrev pub LooksOn : List ClassHits → Word → List ℕ → Looked → Looked → Type 0
+LooksOn records path bytes old new =
+    (paths : List Word) (items : List Item) → length paths ≡ length items → IsReportOf records paths items old
+    → (item : Item) × IsItem bytes item × (clash_of records item ≡ None) × IsReportOf records (paths ++ path ∷ []) (items ++ item ∷ []) new
+
+-- the class file clashes
+abbrev pub FileClashes : List ClassHits → List ℕ → ExecRefusal → Type 0
+FileClashes records bytes refusal = (item : Item) × IsItem bytes item × (clash_of records item ≡ Some refusal)
+
+-- ---- all class files
+
+-- all were looked at, and none clashes
+abbrev pub LooksAtAll : List ClassHits → List Word → List (List ℕ) → Looked → Type 0
+LooksAtAll records paths texts looked =
+    (items : List Item) × AreItems texts items × (first_clash records items ≡ None) × IsReportOf records paths items looked
+
+-- one of the first so many clashes
+abbrev pub FrontClashes : List ClassHits → List (List ℕ) → ExecRefusal → Type 0
+FrontClashes records texts refusal =
+    (count : ℕ) × (items : List Item) × AreItems (take count texts) items × (first_clash records items ≡ Some refusal)
+
+-- the writes of the report, or the clash that stops it
+abbrev pub ReportsWith : (out name : Word) → List ClassHits → Option Word → List Word → List (List ℕ) → Result (Vec Written Global) Stop → Type 0
+ReportsWith out name records path paths texts (Ok writes) =
+    (items : List Item) × AreItems texts items × (first_clash records items ≡ None)
+    × (map write_seen writes.items ≡ map to_err (lines_of paths items) ++ to_file out (csv_of_items name records items) ∷ [])
+ReportsWith out name records path paths texts (Err stop) = StopsAtClash path (FrontClashes records texts) stop
