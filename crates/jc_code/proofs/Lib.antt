@@ -1,0 +1,10 @@
+pub mod PartLaws
+pub mod MergingLaws
+pub mod InitLaws
+pub mod CodeTextLaws
+pub mod FirstPlaceLaws
+pub mod LaidLaws
+pub mod AttributeLaws
+pub mod NamedLaws
+pub mod TwinCodeLaws
+pub mod TestLaws

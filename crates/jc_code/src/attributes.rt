@@ -1,0 +1,99 @@
+//! The attributes of a Code attribute.
+ghost use Rattle.std.specs.Prelude.{◌≡◌, ◌++◌, ℕ, OnOk, length, map, slice_index};
+ghost use Rattle.std.specs.List.{AllByRecursion, flat_map};
+ghost use Rattle.jc_base.specs.Held.{Names as ClassNames, seen_at};
+ghost use Rattle.jc_pool.specs.Adding.{Extends};
+ghost use Rattle.jc_frames.specs.FullFrames.{Places};
+ghost use Rattle.jc_frames.specs.FullTable.{CanBeWritten, HasPlace, named_by_all};
+ghost use Rattle.jc_code.specs.CodeText.{attribute_text, counted_text, frame_attributes};
+ghost use Rattle.jc_code.specs.TwinCode.{attributes_by, places_by};
+
+use crate::code::CodePlaces;
+use crate::numbers::{put_header, put_short};
+use crate::parts::{part_count, put_line_tables, put_var_tables};
+use jc_base::{Emitted, FrameAt, Memory, Names, put_bytes};
+use jc_frames::write_full;
+use jc_pool::Pool;
+use std::alloc::Global;
+
+/// Puts a StackMapTable attribute at the end (JVM Specification 4.7.4), none where there are no
+/// frames. The classes that the frames name stand in the pool.
+///
+/// A table that is too long for an attribute is refused as memory is.
+fn put_frames(
+    alloc: Global,
+    into: &mut Vec<u8>,
+    name: u16,
+    frames: &[FrameAt],
+    starts: &[u32],
+    names: &Names,
+    pool: &mut Pool,
+) -> Result<(), Memory>
+    requires written { CanBeWritten starts.now (length names.now) frames.now }
+    requires stand { AllByRecursion (HasPlace pool.old) (named_by_all (map (seen_at names.now) frames.now)) }
+    ensures text { OnOk result (into.new.items ≡ into.old.items ++ flat_map attribute_text
+        (frame_attributes name (places_by pool.old (slice_index starts.now)) (map (seen_at names.now) frames.now))) }
+    ensures kept { OnOk result (pool.new ≡ pool.old) }
+    ensures extends { Extends pool.old pool.new }
+{
+    if frames.is_empty() {
+        return Ok(());
+    }
+    let mut table = Vec::new(alloc);
+    let Ok(()) = write_full(alloc, frames, starts, names, pool, &mut table) else {
+        return Err(Memory);
+    };
+    let Ok(size) = u32::try_from(table.len()) else {
+        return Err(Memory);
+    };
+    put_header(into, name, size)?;
+    put_bytes(into, &table)?;
+    Ok(())
+}
+
+/// How many attributes a Code attribute has.
+fn attribute_count(emitted: &Emitted, frames: &[FrameAt]) -> usize
+    ensures { (lines vars kind_vars frames_name : ℕ) (p : Places) (names : ClassNames)
+        → result ≡ length (attributes_by lines vars kind_vars frames_name p emitted.now (map (seen_at names) frames.now)) }
+{
+    let tables = part_count(emitted.lines.len()) + part_count(emitted.vars.len());
+    let all_tables = tables + part_count(emitted.kind_vars.len());
+    if frames.is_empty() {
+        return all_tables;
+    }
+    all_tables + 1
+}
+
+/// Puts the number of attributes of a Code attribute at the end, and the attributes. The classes
+/// that the frames name stand in the pool.
+///
+/// More than 65,535 attributes, and a StackMapTable that is too long for an attribute, are refused
+/// as memory is.
+pub fn put_attributes(
+    alloc: Global,
+    into: &mut Vec<u8>,
+    emitted: &Emitted,
+    frames: &[FrameAt],
+    starts: &[u32],
+    names: &Names,
+    places: &CodePlaces,
+    pool: &mut Pool,
+) -> Result<(), Memory>
+    requires written { CanBeWritten starts.now (length names.now) frames.now }
+    requires stand { AllByRecursion (HasPlace pool.old) (named_by_all (map (seen_at names.now) frames.now)) }
+    ensures text { OnOk result (into.new.items ≡ into.old.items ++ counted_text attribute_text
+        (attributes_by places.now.lines places.now.vars places.now.kind_vars places.now.frames
+        (places_by pool.old (slice_index starts.now)) emitted.now (map (seen_at names.now) frames.now))) }
+    ensures kept { OnOk result (pool.new ≡ pool.old) }
+    ensures extends { Extends pool.old pool.new }
+{
+    let Ok(count) = u16::try_from(attribute_count(emitted, frames)) else {
+        return Err(Memory);
+    };
+    put_short(into, count)?;
+    put_line_tables(into, places.lines, &emitted.lines, starts)?;
+    put_var_tables(into, places.vars, &emitted.vars, starts)?;
+    put_var_tables(into, places.kind_vars, &emitted.kind_vars, starts)?;
+    put_frames(alloc, into, places.frames, frames, starts, names, pool)?;
+    Ok(())
+}

@@ -1,0 +1,21 @@
+//! The Code attributes of instrumented methods as bytes (JVM Specification 4.7.3).
+#![tactic(auto)]
+
+mod attributes;
+mod code;
+mod init;
+mod laws;
+mod merging;
+mod numbers;
+mod parts;
+mod tables;
+mod texts;
+
+pub use code::{CodePlaces, write_code};
+pub use init::{AddedPlaces, write_init};
+pub use laws::{each_layout_can_be_written, first_places};
+pub use merging::{frames_of, merged_frames};
+pub use texts::first_text;
+
+#[cfg(test)]
+mod tests;
