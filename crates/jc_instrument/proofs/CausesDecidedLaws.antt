@@ -18,7 +18,7 @@ use Rattle.jc_body.proofs.AnswerLaws.{bodiless_or_body, bodiless_or_fault, body_
 use Rattle.jc_body.proofs.EachMethodLaws.{Answer, each_answer}
 use Rattle.jc_kinds.specs.Checked.{Checked, FirstMissing, FirstClash}
 use Rattle.jc_kinds.proofs.CheckLaws.{each_verdict, checked_not_missing, checked_not_clash, missing_not_clash}
-use Rattle.jc_instrument.specs.Added.{init_name, data_name, runtime_class}
+use Rattle.jc_emit.specs.Added.{init_name, data_name, runtime_class}
 use Rattle.jc_instrument.specs.Causes.{unless, of_class, of_method, InMethod}
 use Rattle.jc_instrument.specs.LeftAlone.{has_flag, has_code, is_left_alone}
 use Rattle.jc_instrument.specs.Reasons.{IsOutside, WrongVersion, HasAddedName, SomeAdded, NamesRuntime, HasAdded, IsInstrumented, HasCodeAt, IsInterfaceWithBody, IsFaulty, OfBody, class_causes, interface_causes, code_causes, analysis_causes}

@@ -58,7 +58,7 @@ module _ (names : Names) (c : ClassFile) (bodies : List Body) (are : AreBodies n
         let l = listed number f.names f.body f.is in
         (l, moves f.names f.body l.body (same_body f.names names c number f.body l.body f.is (body_at number l)) place f.holds)
 
-    first_of_methods : (r : Refusal) → InBodies kind (Fact names) bodies r → InMethod kind (OfBody c Fact) r
+    pub first_of_methods : (r : Refusal) → InBodies kind (Fact names) bodies r → InMethod kind (OfBody c Fact) r
     first_of_methods r f = record {
       number = f.body.method;
       place = f.place;
@@ -69,7 +69,7 @@ module _ (names : Names) (c : ClassFile) (bodies : List Body) (are : AreBodies n
           f.none_before there.0.index at there.0.body (index_less before f.index f.body there.0 f.stands less) there.0.stands there.1;
     }
 
-    none_of_methods : ((i place : ℕ) (b : Body) → slice_get bodies i ≡ Some b → Fact names b place → ⊥) → Never (InMethod kind (OfBody c Fact))
+    pub none_of_methods : ((i place : ℕ) (b : Body) → slice_get bodies i ≡ Some b → Fact names b place → ⊥) → Never (InMethod kind (OfBody c Fact))
     none_of_methods none = never_in_method kind (OfBody c Fact) (λ number place f.
         let there = holds_there number place f in
         none there.0.index place there.0.body there.0.stands there.1)

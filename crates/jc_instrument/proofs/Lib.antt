@@ -20,3 +20,15 @@ pub mod DecidedLaws
 pub mod CausesDecidedLaws
 pub mod SomeBodiesLaws
 pub mod EachAnalysisLaws
+pub mod ContentLaws
+pub mod GrownPoolLaws
+pub mod RefusedLaws
+pub mod SameItemsLaws
+pub mod RoomCauseLaws
+pub mod TwinLaws
+pub mod RoomLaws
+pub mod TakingLaws
+pub mod ClassTakingLaws
+pub mod ProbingLaws
+pub mod TooLargeLaws
+pub mod ProbedClassLaws

@@ -16,7 +16,7 @@ use Rattle.jc_kinds.proofs.CheckLaws.{one_missing, one_clash}
 use Rattle.jc_instrument.specs.Analysis.{IsAnalysis}
 use Rattle.jc_instrument.specs.Causes.{Cause, IsFirstCause, unless, of_method}
 use Rattle.jc_instrument.specs.LeftAlone.{is_left_alone}
-use Rattle.jc_instrument.specs.Reasons.{WrongVersion, IsInstrumented, HasCodeAt, IsInterfaceWithBody, IsFaulty, OfBody, class_causes, interface_causes, code_causes, analysis_causes, AnalysisReason}
+use Rattle.jc_instrument.specs.Reasons.{WrongVersion, IsInstrumented, HasCodeAt, IsInterfaceWithBody, IsFaulty, OfBody, class_causes, interface_causes, code_causes, analysis_causes, ReasonBy, AnalysisReason}
 use Rattle.jc_instrument.specs.Steps.{IsAnswer}
 use Rattle.jc_instrument.proofs.CauseLaws.{IsSingle, AreSingle, both_single, first_or_none, one_first, one_method}
 use Rattle.jc_instrument.proofs.OneBodyLaws.{same_body}
@@ -46,7 +46,7 @@ one_of_clashes c number p q a b =
 
 -- ---- all of them
 
-single_unless : (t : Bool) (Cs : List Cause) → AreSingle Cs → AreSingle (unless t Cs)
+pub single_unless : (t : Bool) (Cs : List Cause) → AreSingle Cs → AreSingle (unless t Cs)
 single_unless true Cs single = tt
 single_unless false Cs single = single
 
@@ -72,25 +72,31 @@ causes_single c =
 bad_or_class : (bytes : List ℕ) (r : Refusal) (c : ClassFile) → (r ≡ not_a_class r.place) × FirstBad bytes r.place → ClassText bytes c → ⊥
 bad_or_class bytes r c bad text = apart bytes c r.place text bad.1
 
-none_or_some : (bytes : List ℕ) (r : Refusal) → AnalysisReason bytes None → AnalysisReason bytes (Some r) → ⊥
-none_or_some bytes r none (inl bad) = bad_or_class bytes r none.0 bad none.1
-none_or_some bytes r none (inr some) =
-    let same = one_class_of bytes some.0 none.0 some.1 none.1 in
-    first_or_none (analysis_causes none.0) r none.2 (subst (λ (c : ClassFile). IsFirstCause (analysis_causes c) r) same some.2)
+module _ (causes : ClassFile → List Cause) where
+  pub none_or_some : (bytes : List ℕ) (r : Refusal) → ReasonBy causes bytes None → ReasonBy causes bytes (Some r) → ⊥
+  none_or_some bytes r none (inl bad) = bad_or_class bytes r none.0 bad none.1
+  none_or_some bytes r none (inr some) =
+      let same = one_class_of bytes some.0 none.0 some.1 none.1 in
+      first_or_none (causes none.0) r none.2 (subst (λ (c : ClassFile). IsFirstCause (causes c) r) same some.2)
 
-one_refusal : (bytes : List ℕ) (r s : Refusal) → AnalysisReason bytes (Some r) → AnalysisReason bytes (Some s) → r ≡ s
-one_refusal bytes r s (inl a) (inl b) = a.0 ∙ ap not_a_class (one_place bytes r.place s.place a.1 b.1) ∙ sym b.0
-one_refusal bytes r s (inl a) (inr b) = absurd (bad_or_class bytes r b.0 a b.1)
-one_refusal bytes r s (inr a) (inl b) = absurd (bad_or_class bytes s a.0 b a.1)
-one_refusal bytes r s (inr a) (inr b) =
-    let same = one_class_of bytes a.0 b.0 a.1 b.1 in
-    one_first (analysis_causes b.0) r s (causes_single b.0) (subst (λ (c : ClassFile). IsFirstCause (analysis_causes c) r) same a.2) b.2
+  -- where each cause gives one refusal at most, there is one reason
+  module _ (single : (c : ClassFile) → AreSingle (causes c)) where
+    pub one_refusal : (bytes : List ℕ) (r s : Refusal) → ReasonBy causes bytes (Some r) → ReasonBy causes bytes (Some s) → r ≡ s
+    one_refusal bytes r s (inl a) (inl b) = a.0 ∙ ap not_a_class (one_place bytes r.place s.place a.1 b.1) ∙ sym b.0
+    one_refusal bytes r s (inl a) (inr b) = absurd (bad_or_class bytes r b.0 a b.1)
+    one_refusal bytes r s (inr a) (inl b) = absurd (bad_or_class bytes s a.0 b a.1)
+    one_refusal bytes r s (inr a) (inr b) =
+        let same = one_class_of bytes a.0 b.0 a.1 b.1 in
+        one_first (causes b.0) r s (single b.0) (subst (λ (c : ClassFile). IsFirstCause (causes c) r) same a.2) b.2
+
+    pub one_reason_by : (bytes : List ℕ) (a b : Option Refusal) → ReasonBy causes bytes a → ReasonBy causes bytes b → a ≡ b
+    one_reason_by bytes None None p q = refl
+    one_reason_by bytes None (Some s) p q = absurd (none_or_some bytes s p q)
+    one_reason_by bytes (Some r) None p q = absurd (none_or_some bytes r q p)
+    one_reason_by bytes (Some r) (Some s) p q = ap Some (one_refusal bytes r s p q)
 
 pub one_reason : (bytes : List ℕ) (a b : Option Refusal) → AnalysisReason bytes a → AnalysisReason bytes b → a ≡ b
-one_reason bytes None None p q = refl
-one_reason bytes None (Some s) p q = absurd (none_or_some bytes s p q)
-one_reason bytes (Some r) None p q = absurd (none_or_some bytes r q p)
-one_reason bytes (Some r) (Some s) p q = ap Some (one_refusal bytes r s p q)
+one_reason bytes a b p q = one_reason_by analysis_causes causes_single bytes a b p q
 
 -- ---- what is so is answered
 
@@ -100,13 +106,13 @@ Answer = Result Analysed (Fail Refusal)
 pub accepted_answered : (bytes : List ℕ) (answer : Answer) → IsAnswer bytes answer → AnalysisReason bytes None → MatchResult answer (λ _. ⊤) (λ e. e ≡ fails.Memory)
 accepted_answered bytes (Ok a) is none = tt
 accepted_answered bytes (Err fails.Memory) is none = refl
-accepted_answered bytes (Err (fails.Said r)) is none = absurd (none_or_some bytes r none is)
+accepted_answered bytes (Err (fails.Said r)) is none = absurd (none_or_some analysis_causes bytes r none is)
 
 pub reason_answered : (bytes : List ℕ) (answer : Answer) → IsAnswer bytes answer → (r : Refusal) → AnalysisReason bytes (Some r)
     → MatchResult answer (λ _. ⊥) (λ e. (e ≡ fails.Memory) ⊎ (e ≡ fails.Said r))
-reason_answered bytes (Ok a) is r some = none_or_some bytes r (a_none a is) some
+reason_answered bytes (Ok a) is r some = none_or_some analysis_causes bytes r (a_none a is) some
   where
     a_none : (a : Analysed) → IsAnalysis bytes a → AnalysisReason bytes None
     a_none a is = (is.file, is.text, is.no_cause)
 reason_answered bytes (Err fails.Memory) is r some = inl refl
-reason_answered bytes (Err (fails.Said s)) is r some = inr (ap fails.Said (one_refusal bytes s r is some))
+reason_answered bytes (Err (fails.Said s)) is r some = inr (ap fails.Said (one_refusal analysis_causes causes_single bytes s r is some))

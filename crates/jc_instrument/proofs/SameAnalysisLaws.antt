@@ -59,7 +59,7 @@ module _ (names others : Names) (c : ClassFile) where
       by before (inr a) (inl b) = absurd (bodiless_or_body names c n a.last b.0 a.body)
       by before (inr a) (inr b) = same_ends n xs ys before a b
 
-same_bodies : (c : ClassFile) (xs ys : List Body) → AreBodiesOf c xs → AreBodiesOf c ys → map without_frames xs ≡ map without_frames ys
+pub same_bodies : (c : ClassFile) (xs ys : List Body) → AreBodiesOf c xs → AreBodiesOf c ys → map without_frames xs ≡ map without_frames ys
 same_bodies c xs ys p q = by (is_left_alone c) p.are q.are
   where
     by : (t : Bool) → AreBodiesUnless t p.names c xs → AreBodiesUnless t q.names c ys → map without_frames xs ≡ map without_frames ys
@@ -68,7 +68,7 @@ same_bodies c xs ys p q = by (is_left_alone c) p.are q.are
 
 -- ---- their probes don't depend on frames
 
-same_way : (b : Body) (way : Way) → is_probed_way b way ≡ is_probed_way (without_frames b) way
+pub same_way : (b : Body) (way : Way) → is_probed_way b way ≡ is_probed_way (without_frames b) way
 same_way b (Falls n) = refl
 same_way b (Jumps n) = refl
 same_way b (Switches n) = refl
@@ -77,10 +77,10 @@ same_way b Exits = refl
 same_count : (b : Body) → probe_count b ≡ probe_count (without_frames b)
 same_count b = λ i. count_by (λ x. same_way b x.way i) (branches b.code)
 
-same_before : (b : Body) (p : Position) → probes_before b p ≡ probes_before (without_frames b) p
+pub same_before : (b : Body) (p : Position) → probes_before b p ≡ probes_before (without_frames b) p
 same_before b p = λ i. count_by (λ x. same_way b x.way i && is_before (position_of x) p) (branches b.code)
 
-same_lead : (b : Body) (first n : ℕ) → lead_probe b first n ≡ lead_probe (without_frames b) first n
+pub same_lead : (b : Body) (first n : ℕ) → lead_probe b first n ≡ lead_probe (without_frames b) first n
 same_lead b first n = λ i. id_if (same_way b (Falls n) i) (first + same_before b (record { at = n; number = 0 }) i)
 
 same_out : (b : Body) (first : ℕ) (x : Branch) → out_probe b first x ≡ out_probe (without_frames b) first x
@@ -93,14 +93,14 @@ same_plan b first = λ i. record {
   next = first + same_count b i;
 }
 
-same_probes : (bodies : List Body) → all_probes bodies ≡ all_probes (map without_frames bodies)
+pub same_probes : (bodies : List Body) → all_probes bodies ≡ all_probes (map without_frames bodies)
 same_probes [] = refl
 same_probes (b ∷ bodies) =
     sum_by-cons probe_count b bodies
     ∙ ap₂ (λ m n. m + n) (same_count b) (same_probes bodies)
     ∙ sym (sum_by-cons probe_count (without_frames b) (map without_frames bodies))
 
-same_first : (bodies : List Body) (n : ℕ) → first_id bodies n ≡ first_id (map without_frames bodies) n
+pub same_first : (bodies : List Body) (n : ℕ) → first_id bodies n ≡ first_id (map without_frames bodies) n
 same_first [] n = refl
 same_first (b ∷ bodies) zero = refl
 same_first (b ∷ bodies) (suc n) =

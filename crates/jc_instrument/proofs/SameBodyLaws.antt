@@ -29,10 +29,10 @@ grown_same old new b grows numbered = record {
 
 -- ---- frames
 
-same_head : {s t : SeenAt} {ss ts : List SeenAt} → s ∷ ss ≡ t ∷ ts → s ≡ t
+pub same_head : {s t : SeenAt} {ss ts : List SeenAt} → s ∷ ss ≡ t ∷ ts → s ≡ t
 same_head e = cc
 
-same_tail : {s t : SeenAt} {ss ts : List SeenAt} → s ∷ ss ≡ t ∷ ts → ss ≡ ts
+pub same_tail : {s t : SeenAt} {ss ts : List SeenAt} → s ∷ ss ≡ t ∷ ts → ss ≡ ts
 same_tail e = cc
 
 -- a frame of the one list has one of the other at its instruction

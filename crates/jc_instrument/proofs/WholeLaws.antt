@@ -12,7 +12,7 @@ use Rattle.jc_instrument.specs.Bodies.{AreBodies, AreBodiesUnless, AreBodiesOf}
 use Rattle.jc_instrument.specs.Causes.{Cause, IsFirstCause, NoCause, unless}
 use Rattle.jc_instrument.specs.LeftAlone.{is_left_alone}
 use Rattle.jc_instrument.specs.Reasons.{class_causes, interface_causes, method_causes, frame_causes, code_causes, analysis_causes}
-use Rattle.jc_instrument.specs.Steps.{IsFrameRefusal, AreCheckedBodies}
+use Rattle.jc_instrument.specs.Steps.{IsFrameRefusal, AreCheckedUnder, AreCheckedBodies}
 use Rattle.jc_instrument.proofs.CauseLaws.{first_behind, none_in_both}
 use Rattle.jc_instrument.proofs.FrameCauseLaws.{frame_refused, no_frame_cause, no_method_cause}
 use Rattle.jc_instrument.proofs.ListedLaws.{grown_bodies, few_bodies}
@@ -28,10 +28,10 @@ check_refused old new c bodies r grows are refusal =
     let now = grown_bodies old new c (length c.methods) bodies grows are in
     first_behind (method_causes c) (frame_causes c) r (no_method_cause new c bodies now) (frame_refused new c bodies now r refusal)
 
-pub all_checked : (old new : Names) (c : ClassFile) (bodies : List Body) → Grows old new → AreBodies old c bodies → All (Checked new) bodies → AreCheckedBodies c bodies
-all_checked old new c bodies grows are checked = record { names = new; are = grown_bodies old new c (length c.methods) bodies grows are; checked = checked }
+pub checked_under : (old new : Names) (c : ClassFile) (bodies : List Body) → Grows old new → AreBodies old c bodies → All (Checked new) bodies → AreCheckedUnder new c bodies
+checked_under old new c bodies grows are checked = record { are = grown_bodies old new c (length c.methods) bodies grows are; checked = checked }
 
-no_code_cause : (c : ClassFile) (bodies : List Body) → AreCheckedBodies c bodies → NoCause (code_causes c)
+pub no_code_cause : (c : ClassFile) (bodies : List Body) → AreCheckedBodies c bodies → NoCause (code_causes c)
 no_code_cause c bodies are =
     none_in_both (method_causes c) (frame_causes c) (no_method_cause are.names c bodies are.are) (no_frame_cause are.names c bodies are.are are.checked)
 

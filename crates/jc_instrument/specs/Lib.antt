@@ -1,4 +1,3 @@
-pub mod Added
 pub mod LeftAlone
 pub mod Causes
 pub mod Reasons
@@ -6,3 +5,15 @@ pub mod Bodies
 pub mod Analysis
 pub mod Steps
 pub mod SameAnalysis
+pub mod Contents
+pub mod GrownPool
+pub mod Works
+pub mod Needed
+pub mod TwinText
+pub mod TwinClass
+pub mod RoomCauses
+pub mod Room
+pub mod Refused
+pub mod Probing
+pub mod Taking
+pub mod ProbedClass

@@ -12,7 +12,7 @@ use Rattle.jc_class.specs.declared.class_file.Member.{Member}
 use Rattle.jc_class.specs.ClassText.{ClassText, FirstBad, not_a_class}
 use Rattle.jc_body.specs.BodyOf.{BodyOf, FaultOf}
 use Rattle.jc_kinds.specs.Checked.{FirstMissing, FirstClash}
-use Rattle.jc_instrument.specs.Added.{init_name, data_name, runtime_class}
+use Rattle.jc_emit.specs.Added.{init_name, data_name, runtime_class}
 use Rattle.jc_instrument.specs.LeftAlone.{has_flag, has_code, is_left_alone}
 use Rattle.jc_instrument.specs.Causes.{Cause, IsFirstCause, NoCause, unless, of_class, of_method, InMethod}
 

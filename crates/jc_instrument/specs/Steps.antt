@@ -80,7 +80,12 @@ pub record IsMissingIn (b : Body) (r : Refusal) : Type 0 where
 
 -- ---- the bodies of a class
 
--- the bodies of all methods, under a list of names that is one for all of them; each passes the kind check
+-- the bodies of all methods under these names; each passes the kind check
+pub record AreCheckedUnder (names : Names) (c : ClassFile) (bodies : List Body) : Type 0 where
+  pub are : AreBodies names c bodies
+  pub checked : All (Checked names) bodies
+
+-- the same under a list of names that is one for all of them
 pub record AreCheckedBodies (c : ClassFile) (bodies : List Body) : Type 0 where
   pub names : Names
   pub are : AreBodies names c bodies

@@ -9,7 +9,7 @@ ghost use Rattle.jc_kinds.specs.Answers.{Said};
 ghost use Rattle.jc_instrument.specs.Bodies.{AreBodies, AreBodiesOf};
 ghost use Rattle.jc_instrument.specs.Causes.{NoCause, IsFirstCause};
 ghost use Rattle.jc_instrument.specs.Reasons.{method_causes, code_causes, analysis_causes};
-ghost use Rattle.jc_instrument.specs.Steps.{IsReading, IsSubroutineAt, AreCheckedBodies};
+ghost use Rattle.jc_instrument.specs.Steps.{IsReading, IsSubroutineAt, AreCheckedUnder, AreCheckedBodies};
 
 use crate::alone::{interface_refusal, is_left_alone};
 use crate::checks::check_bodies;
@@ -86,7 +86,25 @@ fn read_bodies(
     }
 }
 
-/// The bodies of a class's methods, each of which passes the kind check.
+/// The bodies of a class's methods, each of which passes the kind check, with classes in their frames by their numbers
+/// in `names`.
+pub fn named_bodies(
+    alloc: Global,
+    class: &ClassFile,
+    names: &mut Names,
+) -> Result<List<Body>, Fail<Refusal>>
+    requires class { IsClassFile class.now }
+    requires sizes { All (λ m. BodiesWithin most_read m.attributes) class.now.methods }
+    ensures bodies { IfOk result (AreCheckedUnder names.new class.now) }
+    ensures well_made { IfOk result (All IsWellMade) }
+    ensures refused { IfErr result (λ e. Said e (IsFirstCause (code_causes class.now))) }
+{
+    let bodies = read_bodies(alloc, class, names)?;
+    check_bodies(alloc, &bodies, names)?;
+    Ok(bodies)
+}
+
+/// The same, with names that aren't kept.
 fn checked_bodies(alloc: Global, class: &ClassFile) -> Result<List<Body>, Fail<Refusal>>
     requires class { IsClassFile class.now }
     requires sizes { All (λ m. BodiesWithin most_read m.attributes) class.now.methods }
@@ -95,8 +113,7 @@ fn checked_bodies(alloc: Global, class: &ClassFile) -> Result<List<Body>, Fail<R
     ensures refused { IfErr result (λ e. Said e (IsFirstCause (code_causes class.now))) }
 {
     let mut names = Names::new(alloc)?;
-    let bodies = read_bodies(alloc, class, &mut names)?;
-    check_bodies(alloc, &bodies, &mut names)?;
+    let bodies = named_bodies(alloc, class, &mut names)?;
     Ok(bodies)
 }
 

@@ -47,7 +47,7 @@ fn class_names_at(alloc: Global, pool: &Pool, places: &[u16]) -> Result<List<Byt
 
 /// The plans of the bodies of a class. Bodies that together have more instructions and arms of switches than a file
 /// that is read may have bytes count as want of memory: no file has as many.
-fn bounded_plans(alloc: Global, bodies: &[Body]) -> Result<Planned, Memory>
+pub fn bounded_plans(alloc: Global, bodies: &[Body]) -> Result<Planned, Memory>
     requires made { All IsWellMade bodies.now }
     requires few { length bodies.now ≤ 65535 }
     ensures few { IfOk result (λ _. all_insns_and_arms bodies.now ≤ most_read) }

@@ -7,12 +7,20 @@ mod bodies;
 mod checks;
 mod class;
 mod described;
+mod instrumented;
 mod kept;
 mod laws;
+mod needs;
 mod plans;
+mod probed;
+mod probed_class;
+mod room;
 mod size;
 
 pub use analysis::analyse;
+pub use instrumented::{
+    each_class_has_one_reason, each_class_has_one_twin, each_pool_grows, reasons_are_in_order,
+};
 pub use laws::{each_class_has_an_analysis_or_a_reason, each_class_has_one_analysis_reason};
 
 #[cfg(test)]

@@ -1,0 +1,114 @@
+-- Why there is no room in a class for its probes.
+use Rattle.std.specs.Prelude.{◌≡◌, ◌⊎◌, ℕ, ◌+◌, ◌<◌, false, List, [], ◌∷◌, ◌++◌, length, map, Some, slice_get}
+use Rattle.jc_base.specs.Held.{Names}
+use Rattle.jc_base.specs.declared.body.Body.{Body}
+use Rattle.jc_base.specs.declared.insn.Insn.{Insn}
+use Rattle.jc_base.specs.declared.refusal.Refusal.{Refusal}
+use Rattle.jc_base.specs.declared.refusal.RefusalKind.TheVariants as kinds
+use Rattle.jc_pool.specs.Pool.{PoolValue}
+use Rattle.jc_class.specs.declared.class_file.ClassFile.{ClassFile}
+use Rattle.jc_plan.specs.Probed.{first_id}
+use Rattle.jc_emit.specs.Items.{insn_of, twin_items}
+use Rattle.jc_emit.specs.Straddling.{IsFirstStraddling}
+use Rattle.jc_layout.specs.Layout.{chosen_length}
+use Rattle.jc_instrument.specs.Analysis.{all_probes}
+use Rattle.jc_instrument.specs.Bodies.{AreBodiesOf}
+use Rattle.jc_instrument.specs.Causes.{Cause, of_class, InMethod}
+use Rattle.jc_instrument.specs.Needed.{TakesNeeds}
+use Rattle.jc_instrument.specs.Reasons.{OfBody}
+use Rattle.jc_instrument.specs.Works.{Work, AreWorks}
+use Rattle.jc_instrument.specs.declared.needs.MemberPlaces.{MemberPlaces}
+
+-- ---- the probe array, and the probes
+
+-- a long or a double has one half in the last local variable of the arguments
+abbrev pub StraddlesArguments : ClassFile → ℕ → ℕ → Type 0
+StraddlesArguments c = OfBody c (λ names body place. IsFirstStraddling body (Some place))
+
+abbrev pub HasStraddling : ClassFile → Cause
+HasStraddling c = InMethod kinds.StraddlingLocal (StraddlesArguments c)
+
+-- more than 32,767 probes
+pub record HasTooManyProbes (c : ClassFile) (r : Refusal) : Type 0 where
+  pub bodies : List Body
+  pub are : AreBodiesOf c bodies
+  pub many : 32767 < all_probes bodies
+  pub refusal : r ≡ of_class kinds.TooManyProbes (all_probes bodies)
+
+-- ---- the added members, and room in methods
+
+-- no number is left for one more field or one more method (JVM Specification 4.1)
+abbrev pub IsFull : ClassFile → Type 0
+IsFull c = (length c.fields ≡ 65535) ⊎ (length c.methods ≡ 65535)
+
+pub record HasFullMembers (c : ClassFile) (r : Refusal) : Type 0 where
+  pub full : IsFull c
+  pub refusal : r ≡ of_class kinds.MembersFull 65536
+
+-- no number is left for one more local variable (JVM Specification 4.7.3)
+abbrev pub FillsLocals : ClassFile → ℕ → ℕ → Type 0
+FillsLocals c = OfBody c (λ names body place. (body.max_locals ≡ 65535) × (place ≡ 65536))
+
+abbrev pub HasFullLocals : ClassFile → Cause
+HasFullLocals c = InMethod kinds.LocalsFull (FillsLocals c)
+
+-- there is no room on the stack for the three operands of a probe (JVM Specification 4.7.3)
+abbrev pub FillsStack : ClassFile → ℕ → ℕ → Type 0
+FillsStack c = OfBody c (λ names body place. (65532 < body.max_stack) × (place ≡ body.max_stack + 3))
+
+abbrev pub HasFullStack : ClassFile → Cause
+HasFullStack c = InMethod kinds.StackFull (FillsStack c)
+
+-- ---- code that is too large
+
+-- The instrumented code of a body whose first id is this one. The place of the method that the prelude calls is 0 here: it takes
+-- two bytes, whatever it is.
+abbrev pub probed_code : Body → (first : ℕ) → List Insn
+probed_code body first = map (insn_of 0 body.arg_slots) (twin_items body first false)
+
+-- the layout that is chosen for the instrumented code of the method with this number has so many bytes, more than 65,535
+pub record IsTooLarge (c : ClassFile) (number place : ℕ) : Type 0 where
+  pub bodies : List Body
+  pub are : AreBodiesOf c bodies
+  pub index : ℕ
+  pub body : Body
+  pub stands : slice_get bodies index ≡ Some body
+  pub number_is : body.method ≡ number
+  pub size : place ≡ chosen_length (probed_code body (first_id bodies index))
+  pub large : 65535 < place
+
+abbrev pub HasTooLargeCode : ClassFile → Cause
+HasTooLargeCode c = InMethod kinds.CodeTooLarge (IsTooLarge c)
+
+-- ---- the constant pool
+
+-- the pool with what a class with this id needs would have a count above 65,535 (JVM Specification 4.1)
+pub record NeedsTooMuch (id : ℕ) (c : ClassFile) : Type 0 where
+  pub names : Names
+  pub array : ℕ
+  pub works : List Work
+  pub are : AreWorks names array c works
+  pub pool : PoolValue
+  pub places : MemberPlaces
+  pub takes : TakesNeeds id names array c works pool places
+  pub many : 65535 < length pool
+
+pub record HasFullPool (id : ℕ) (c : ClassFile) (r : Refusal) : Type 0 where
+  pub full : NeedsTooMuch id c
+  pub refusal : r ≡ of_class kinds.PoolFull 65536
+
+-- ---- their order
+
+-- those that are looked for before code is made
+abbrev pub early_room_causes : ClassFile → List Cause
+early_room_causes c =
+    HasStraddling c
+    ∷ HasTooManyProbes c
+    ∷ HasFullMembers c
+    ∷ HasFullLocals c
+    ∷ HasFullStack c
+    ∷ []
+
+-- that of the pool comes last
+abbrev pub room_causes : (id : ℕ) → ClassFile → List Cause
+room_causes id c = early_room_causes c ++ (HasTooLargeCode c ∷ HasFullPool id c ∷ [])

@@ -1,0 +1,68 @@
+-- What the steps answer by which a constant pool takes what an instrumented class needs.
+use Rattle.std.specs.Prelude.{◌≡◌, ⊤, ℕ, ℤ, ◌<◌, List, length, map, codes, if◌then◌else◌}
+use Rattle.std.specs.List.{flat_map}
+use Rattle.jc_base.specs.Held.{Names, SeenAt, seen_at}
+use Rattle.jc_base.specs.declared.body.FrameAt.{FrameAt}
+use Rattle.jc_base.specs.declared.fail.Fail.{Fail}
+use Rattle.jc_base.specs.declared.fail.Fail.TheVariants as fails
+use Rattle.jc_base.specs.declared.refusal.Refusal.{Refusal}
+use Rattle.jc_base.specs.declared.refusal.RefusalKind.TheVariants as kinds
+use Rattle.jc_frames.specs.FullTable.{CanBeWritten}
+use Rattle.jc_pool.specs.Pool.{PoolValue}
+use Rattle.jc_pool.specs.declared.add.PoolFull.{PoolFull}
+use Rattle.jc_emit.specs.Added.{data_name, data_type, init_name, init_type}
+use Rattle.jc_instrument.specs.Causes.{of_class}
+use Rattle.jc_instrument.specs.Contents.{Content, text_entry, class_entry, string_entry, long_entry, member_entry, TakesEach}
+use Rattle.jc_instrument.specs.Needed.{data_field, init_method, fetch_method}
+use Rattle.jc_instrument.specs.declared.needs.Need.{Need}
+use Rattle.jc_instrument.specs.declared.needs.Need.TheVariants as needs
+use Rattle.jc_instrument.specs.declared.probed.Probed.{Probed}
+
+-- what is needed by the added members of the class with this name and this id
+abbrev pub content_of : (owner : List ℕ) → (id : ℤ) → Need → Content
+content_of owner id needs.DataName = text_entry data_name
+content_of owner id needs.DataType = text_entry data_type
+content_of owner id needs.InitName = text_entry init_name
+content_of owner id needs.InitType = text_entry init_type
+content_of owner id needs.Field = member_entry (data_field owner)
+content_of owner id needs.Method = member_entry (init_method owner)
+content_of owner id needs.Fetch = member_entry fetch_method
+content_of owner id needs.Code = text_entry (codes "Code")
+content_of owner id needs.Frames = text_entry (codes "StackMapTable")
+content_of owner id needs.Id = long_entry id
+content_of owner id needs.Name = string_entry owner
+content_of owner id needs.Array = class_entry data_type
+
+abbrev pub contents_of : (owner : List ℕ) → (id : ℤ) → List Need → List Content
+contents_of owner id list = map (content_of owner id) list
+
+-- with all of these the pool would have a count above 65,535 (JVM Specification 4.1)
+pub record IsTooMuch (old : PoolValue) (contents : List Content) : Type 0 where
+  pub new : PoolValue
+  pub places : List ℕ
+  pub takes : TakesEach old contents new places
+  pub many : 65535 < length new
+
+-- memory was refused, or these are too much for the pool
+abbrev pub RefusesEach : PoolValue → List Content → Fail PoolFull → Type 0
+RefusesEach old contents fails.Memory = ⊤
+RefusesEach old contents (fails.Said full) = IsTooMuch old contents
+
+-- the refusal of a class for which these are too much (JVM Specification 4.1)
+pub record IsFullPool (old : PoolValue) (contents : List Content) (r : Refusal) : Type 0 where
+  pub much : IsTooMuch old contents
+  pub refusal : r ≡ of_class kinds.PoolFull 65536
+
+-- ---- frames
+
+-- the frames of the layout that is chosen
+abbrev pub frames_in : Probed → List FrameAt
+frames_in p = if p.laid.wide then p.merged else p.emitted.frames
+
+-- those of all methods, with classes by their names
+abbrev pub frames_of : Names → List Probed → List SeenAt
+frames_of names probed = flat_map (λ p. map (seen_at names) (frames_in p)) probed
+
+-- full frames can say this, over the instructions of the layout and with so many names
+abbrev pub HasWritableFrames : ℕ → Probed → Type 0
+HasWritableFrames names p = CanBeWritten p.laid.starts names (frames_in p)

@@ -1,0 +1,108 @@
+-- The twin of a class: the same class with its probes, and one more field and method.
+use Rattle.std.specs.Prelude.{◌≡◌, ◌⊎◌, ⊤, ℕ, ℤ, List, [], ◌∷◌, ◌++◌, Some, codes, slice_get}
+use Rattle.jc_base.specs.Held.{Names}
+use Rattle.jc_base.specs.declared.body.Body.{Body}
+use Rattle.jc_pool.specs.Lookup.{utf8_of, class_name_of, string_of, long_of, member_of}
+use Rattle.jc_pool.specs.Pool.{PoolValue}
+use Rattle.jc_class.specs.declared.class_file.Attribute.{Attribute}
+use Rattle.jc_class.specs.declared.class_file.ClassFile.{ClassFile}
+use Rattle.jc_class.specs.declared.class_file.Member.{Member}
+use Rattle.jc_body.specs.BodyOf.{BodyOfAnySize}
+use Rattle.jc_emit.specs.Added.{InitPlaces, data_name, data_type, data_flags, init_name, init_type, init_flags}
+use Rattle.jc_emit.specs.Twin.{Twin}
+use Rattle.jc_instrument.specs.Analysis.{all_probes}
+use Rattle.jc_instrument.specs.GrownPool.{IsGrown}
+use Rattle.jc_code.specs.InitText.{init_text}
+use Rattle.jc_instrument.specs.Needed.{name_of, signed_id, data_field, fetch_method, needs_of}
+use Rattle.jc_instrument.specs.Works.{Work, bodies_of, AreWorks}
+
+-- ---- what stays
+
+-- the same attribute, or another Code attribute in its place
+abbrev pub IsKeptAttribute : PoolValue → Attribute → Attribute → Type 0
+IsKeptAttribute pool a new = (new.name ≡ a.name) × ((new.body ≡ a.body) ⊎ (utf8_of pool a.name ≡ Some (codes "Code")))
+
+abbrev pub AreKeptAttributes : PoolValue → List Attribute → List Attribute → Type 0
+AreKeptAttributes pool [] [] = ⊤
+AreKeptAttributes pool (a ∷ olds) (b ∷ news) = IsKeptAttribute pool a b × AreKeptAttributes pool olds news
+AreKeptAttributes pool _ _ = ⊥
+
+-- a method is as before but for its code
+pub record IsKeptMethod (pool : PoolValue) (method new : Member) : Type 0 where
+  pub flags : new.flags ≡ method.flags
+  pub name : new.name ≡ method.name
+  pub desc : new.desc ≡ method.desc
+  pub attributes : AreKeptAttributes pool method.attributes new.attributes
+
+abbrev pub AreKeptMethods : PoolValue → List Member → List Member → Type 0
+AreKeptMethods pool [] [] = ⊤
+AreKeptMethods pool (m ∷ ms) (n ∷ ns) = IsKeptMethod pool m n × AreKeptMethods pool ms ns
+AreKeptMethods pool _ _ = ⊥
+
+-- ---- what is added
+
+-- the field that keeps the probe array
+pub record IsDataField (pool : PoolValue) (added : Member) : Type 0 where
+  pub flags : added.flags ≡ data_flags
+  pub name : utf8_of pool added.name ≡ Some data_name
+  pub desc : utf8_of pool added.desc ≡ Some data_type
+  pub attributes : added.attributes ≡ []
+
+-- The method that gives the probe array of the class with this name and this id, which has so many probes. It has one
+-- attribute, of which each byte is told: no other spelling of its code is meant.
+pub record IsInitMethod (pool : PoolValue) (owner : List ℕ) (id : ℤ) (count : ℕ) (added : Member) : Type 0 where
+  pub flags : added.flags ≡ init_flags
+  pub name : utf8_of pool added.name ≡ Some init_name
+  pub desc : utf8_of pool added.desc ≡ Some init_type
+  pub code : Attribute
+  pub attributes : added.attributes ≡ code ∷ []
+  pub code_is : utf8_of pool code.name ≡ Some (codes "Code")
+  pub places : InitPlaces
+  pub frames : ℕ
+  pub array : ℕ
+  pub text : code.body ≡ init_text places frames array count
+  pub field_is : member_of pool places.field ≡ Some (data_field owner)
+  pub id_is : long_of pool places.id ≡ Some id
+  pub name_is : string_of pool places.name ≡ Some owner
+  pub fetch_is : member_of pool places.fetch ≡ Some fetch_method
+  pub frames_are : utf8_of pool frames ≡ Some (codes "StackMapTable")
+  pub array_is : class_name_of pool array ≡ Some data_type
+
+-- ---- the bodies
+
+-- The twin of a body is the body of the method with its number, whatever the number of its instructions times its slots is.
+pub record HasTwin (names new_names : Names) (twin : ClassFile) (w : Work) : Type 0 where
+  pub body : Body
+  pub is : BodyOfAnySize new_names twin w.body.method body
+  pub twin_is : Twin names new_names w.states w.first w.body body
+
+-- ---- the class
+
+-- Outside of code the two are the same, but for what is needed of the pool, one more field and one more method.
+pub record IsSameOutside (id : ℕ) (names : Names) (array : ℕ) (works : List Work) (c twin : ClassFile) : Type 0 where
+  pub minor : twin.minor ≡ c.minor
+  pub major : twin.major ≡ c.major
+  pub flags : twin.flags ≡ c.flags
+  pub this_class : twin.this_class ≡ c.this_class
+  pub super_class : twin.super_class ≡ c.super_class
+  pub interfaces : twin.interfaces ≡ c.interfaces
+  pub attributes : twin.attributes ≡ c.attributes
+  pub pool : IsGrown c.pool twin.pool (needs_of id names array c works)
+  pub field : Member
+  pub fields : twin.fields ≡ c.fields ++ field ∷ []
+  pub field_is : IsDataField twin.pool field
+  pub kept : List Member
+  pub method : Member
+  pub methods : twin.methods ≡ kept ++ method ∷ []
+  pub kept_are : AreKeptMethods c.pool c.methods kept
+  pub method_is : IsInitMethod twin.pool (name_of c) (signed_id id) (all_probes (bodies_of works)) method
+
+-- the twin of a class with this id
+pub record TwinClass (id : ℕ) (c twin : ClassFile) : Type 0 where
+  pub names : Names
+  pub new_names : Names
+  pub array : ℕ
+  pub works : List Work
+  pub are : AreWorks names array c works
+  pub outside : IsSameOutside id names array works c twin
+  pub twins : (i : ℕ) (w : Work) → slice_get works i ≡ Some w → HasTwin names new_names twin w

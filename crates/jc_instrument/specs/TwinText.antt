@@ -1,0 +1,93 @@
+-- The one twin class that is written for a class.
+use Rattle.std.specs.Prelude.{◌≡◌, ℕ, ◌≤◌, List, [], ◌∷◌, ◌++◌, length, map, Option, Some, None, codes, nat_eq, if◌then◌else◌}
+use Rattle.jc_base.specs.Held.{Names}
+use Rattle.jc_base.specs.PlainLists.{map_from}
+use Rattle.jc_pool.specs.Pool.{PoolValue}
+use Rattle.jc_class.specs.ClassId.{class_id}
+use Rattle.jc_class.specs.ClassText.{ClassText}
+use Rattle.jc_class.specs.declared.class_file.Attribute.{Attribute}
+use Rattle.jc_class.specs.declared.class_file.ClassFile.{ClassFile}
+use Rattle.jc_class.specs.declared.class_file.Member.{Member}
+use Rattle.jc_body.specs.Attributes.{has_name}
+use Rattle.jc_emit.specs.Added.{InitPlaces, data_flags, init_flags}
+use Rattle.jc_instrument.specs.Analysis.{all_probes}
+use Rattle.jc_code.specs.CodeText.{attribute}
+use Rattle.jc_code.specs.InitText.{init_text}
+use Rattle.jc_code.specs.TwinCode.{twin_code}
+use Rattle.jc_instrument.specs.Needed.{TakesNeeds}
+use Rattle.jc_instrument.specs.Works.{Work, bodies_of, AreWorks, emitted_of}
+use Rattle.jc_instrument.specs.declared.needs.MemberPlaces.{MemberPlaces}
+
+-- ---- a method
+
+-- the work of the method with this number, if it has code
+abbrev pub work_of : ℕ → List Work → Option Work
+work_of number [] = None
+work_of number (w ∷ works) = if nat_eq w.body.method number then Some w else work_of number works
+
+-- a Code attribute gets other bytes, and each other attribute stays
+abbrev pub with_code : PoolValue → List ℕ → Attribute → Attribute
+with_code pool code a = if has_name pool (codes "Code") a then attribute a.name code else a
+
+abbrev pub twin_method : (old : PoolValue) → (code : Work → List ℕ) → Member → Option Work → Member
+twin_method old code method None = method
+twin_method old code method (Some w) = record method { attributes = map (with_code old (code w)) method.attributes }
+
+abbrev pub twin_methods : (old : PoolValue) → (code : Work → List ℕ) → List Work → List Member → List Member
+twin_methods old code works methods = map_from (λ number method. twin_method old code method (work_of number works)) 0 methods
+
+-- ---- the added members
+
+abbrev pub data_member : MemberPlaces → Member
+data_member p = record { flags = data_flags; name = p.data_name; desc = p.data_type; attributes = [] }
+
+abbrev pub init_places : MemberPlaces → InitPlaces
+init_places p = record { field = p.field; id = p.id; name = p.name; fetch = p.fetch }
+
+abbrev pub init_member : MemberPlaces → (count : ℕ) → Member
+init_member p count = record {
+  flags = init_flags;
+  name = p.init_name;
+  desc = p.init_type;
+  attributes = attribute p.code (init_text (init_places p) p.frames p.array count) ∷ [];
+}
+
+-- ---- the class
+
+-- The class with this pool, in which the members' entries stand at these places: each method with code has its twin's, and the
+-- field and the method go last.
+unfoldable pub twin_class : Names → (array : ℕ) → ClassFile → List Work → PoolValue → MemberPlaces → ClassFile
+twin_class names array c works pool places = record {
+  minor = c.minor;
+  major = c.major;
+  pool = pool;
+  flags = c.flags;
+  this_class = c.this_class;
+  super_class = c.super_class;
+  interfaces = c.interfaces;
+  fields = c.fields ++ data_member places ∷ [];
+  methods =
+      twin_methods c.pool (λ w. twin_code pool places.method places.frames names (emitted_of array w)) works c.methods
+      ++ init_member places (all_probes (bodies_of works)) ∷ [];
+  attributes = c.attributes;
+}
+
+-- the twin class that is written for a class with this id, whose works are these
+pub record IsWritten (id : ℕ) (names : Names) (array : ℕ) (works : List Work) (c twin : ClassFile) : Type 0 where
+  pub are : AreWorks names array c works
+  pub pool : PoolValue
+  pub places : MemberPlaces
+  pub takes : TakesNeeds id names array c works pool places
+  pub few : length pool ≤ 65535
+  pub is : twin ≡ twin_class names array c works pool places
+
+-- the bytes are a class, and the text is that of the twin class that is written for it
+pub record IsTwinText (bytes text : List ℕ) : Type 0 where
+  pub file : ClassFile
+  pub file_is : ClassText bytes file
+  pub names : Names
+  pub array : ℕ
+  pub works : List Work
+  pub twin : ClassFile
+  pub written : IsWritten (class_id bytes) names array works file twin
+  pub text_is : ClassText text twin

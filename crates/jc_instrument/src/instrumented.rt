@@ -1,0 +1,45 @@
+//! Laws of instrumented classes, and of the reasons for which a class file isn't instrumented.
+ghost use Rattle.std.specs.Prelude.{◌≡◌, ℕ, List, Option, Some, None};
+ghost use Rattle.std.specs.List.{AllByRecursion};
+ghost use Rattle.jc_base.specs.Held.{Names};
+ghost use Rattle.jc_base.specs.declared.refusal.Refusal.{Refusal};
+ghost use Rattle.jc_pool.specs.Pool.{PoolValue};
+ghost use Rattle.jc_class.specs.declared.class_file.ClassFile.{ClassFile as Class};
+ghost use Rattle.jc_instrument.specs.Contents.{Content, TakesEach, IsOfClass};
+ghost use Rattle.jc_instrument.specs.GrownPool.{IsGrown};
+ghost use Rattle.jc_instrument.specs.Reasons.{AnalysisReason};
+ghost use Rattle.jc_instrument.specs.Refused.{Reason, IsAccepted};
+ghost use Rattle.jc_instrument.specs.TwinClass.{IsSameOutside};
+ghost use Rattle.jc_instrument.specs.TwinText.{IsWritten};
+ghost use Rattle.jc_instrument.specs.Works.{Work};
+
+/// A class file that isn't analysed isn't instrumented, for the same reason; so one that is accepted is analysed. What
+/// is accepted has no reason for which it isn't instrumented.
+pub fn reasons_are_in_order()
+    ensures refused { (bytes : List ℕ) (r : Refusal) → AnalysisReason bytes (Some r) → Reason bytes (Some r) }
+    ensures analysed { (bytes : List ℕ) → IsAccepted bytes → AnalysisReason bytes None }
+    ensures apart { (bytes : List ℕ) (r : Refusal) → IsAccepted bytes → Reason bytes (Some r) → ⊥ }
+{}
+
+/// A class file has one reason for which it isn't instrumented, or none, and never both.
+pub fn each_class_has_one_reason()
+    ensures one { (bytes : List ℕ) (a b : Option Refusal) → Reason bytes a → Reason bytes b → a ≡ b }
+{}
+
+/// A pool that takes contents keeps its entries at their places. New entries are only those that are needed, with their
+/// parts, and that weren't there, each once. There is one such pool, and one list of places.
+pub fn each_pool_grows()
+    ensures grown { (needs : List Content) (old new : PoolValue) (places : List ℕ) → AllByRecursion IsOfClass needs
+        → TakesEach old needs new places → IsGrown old new needs }
+    ensures one { (needs : List Content) (old new other : PoolValue) (places more : List ℕ)
+        → TakesEach old needs new places → TakesEach old needs other more → (new ≡ other) × (places ≡ more) }
+{}
+
+/// Of the bodies of a class with their states one twin class is written. Outside of code it is the class, but for what
+/// its pool needs, the field and the method.
+pub fn each_class_has_one_twin()
+    ensures one { (id array : ℕ) (names : Names) (works : List Work) (c twin other : Class)
+        → IsWritten id names array works c twin → IsWritten id names array works c other → twin ≡ other }
+    ensures outside { (id array : ℕ) (names : Names) (works : List Work) (c twin : Class)
+        → IsWritten id names array works c twin → IsSameOutside id names array works c twin }
+{}

@@ -1,0 +1,271 @@
+//! What the constant pool of an instrumented class has to have.
+ghost use Rattle.std.specs.Prelude.{◌≡◌, ◌≤◌, length, IfOk, IfErr, OnOk};
+ghost use Rattle.std.specs.List.{AllByRecursion};
+ghost use Rattle.jc_base.specs.Texts.{IsShortText};
+ghost use Rattle.jc_pool.specs.Adding.{Extends, RefusesFull};
+ghost use Rattle.jc_frames.specs.FullTable.{RefusesClasses, TakesClasses, named_by_all};
+ghost use Rattle.jc_kinds.specs.Answers.{Said};
+ghost use Rattle.jc_instrument.specs.Contents.{Takes, TakesEach};
+ghost use Rattle.jc_instrument.specs.Needed.{signed_id, member_needs, needed, place_list, TakesNeeded};
+ghost use Rattle.jc_instrument.specs.Taking.{content_of, frames_in, frames_of, HasWritableFrames, IsFullPool, RefusesEach};
+
+use crate::probed::Probed;
+use jc_base::{Fail, FrameAt, Names, Refusal, RefusalKind};
+use jc_frames::write_full;
+use jc_pool::{Pool, PoolFull};
+use std::alloc::Global;
+
+/// The class of the array of probes, and its descriptor.
+const PROBE_ARRAY: &[u8] = b"[Z";
+
+/// The class whose method makes the array.
+const RUNTIME_CLASS: &[u8] = b"org/jacoco/agent/rt/internal/Offline";
+
+/// The descriptor of that method.
+const FETCH_TYPE: &[u8] = b"(JLjava/lang/String;I)[Z";
+
+/// The tag of a Fieldref entry (JVM Specification 4.4, table 4.4-A).
+const FIELD: u8 = 9;
+
+/// The tag of a Methodref entry.
+const METHOD: u8 = 10;
+
+/// What the added members need of the pool.
+#[derive(Clone, Copy, Debug)]
+pub enum Need {
+    /// The name of the field.
+    DataName,
+    /// The type of the field.
+    DataType,
+    /// The name of the method.
+    InitName,
+    /// The type of the method.
+    InitType,
+    /// The field.
+    Field,
+    /// The method.
+    Method,
+    /// The method of the runtime class.
+    Fetch,
+    /// The name of the attribute Code.
+    Code,
+    /// The name of the attribute StackMapTable.
+    Frames,
+    /// The id of the class.
+    Id,
+    /// The name of the class, as a string.
+    Name,
+    /// The class of the array of probes.
+    Array,
+}
+
+/// In the order in which it is taken.
+const MEMBER_NEEDS: [Need; 12] = [
+    Need::DataName,
+    Need::DataType,
+    Need::InitName,
+    Need::InitType,
+    Need::Field,
+    Need::Method,
+    Need::Fetch,
+    Need::Code,
+    Need::Frames,
+    Need::Id,
+    Need::Name,
+    Need::Array,
+];
+
+/// Where the pool has what the added members need.
+#[derive(Clone, Copy, Debug)]
+pub struct MemberPlaces {
+    /// The name of the field.
+    pub data_name: u16,
+    /// The type of the field.
+    pub data_type: u16,
+    /// The name of the method.
+    pub init_name: u16,
+    /// The type of the method.
+    pub init_type: u16,
+    /// The field.
+    pub field: u16,
+    /// The method.
+    pub method: u16,
+    /// The method of the runtime class.
+    pub fetch: u16,
+    /// The name of the attribute Code.
+    pub code: u16,
+    /// The name of the attribute StackMapTable.
+    pub frames: u16,
+    /// The id of the class.
+    pub id: u16,
+    /// The name of the class, as a string.
+    pub name: u16,
+    /// The class of the array of probes.
+    pub array: u16,
+}
+
+/// The first place of an entry that stands for what is needed by the class with this name and this id. Where there
+/// is none, it is put behind the others.
+fn take(
+    alloc: Global,
+    need: Need,
+    owner: &[u8],
+    id: u64,
+    pool: &mut Pool,
+) -> Result<u16, Fail<PoolFull>>
+    requires { IsShortText owner.now }
+    ensures ok { IfOk result (Takes pool.old (content_of owner.now (signed_id id) need) pool.new) }
+    ensures full { RefusesFull (Takes pool.old (content_of owner.now (signed_id id) need)) result }
+    ensures extends { Extends pool.old pool.new }
+    ensures fits { OnOk result (length pool.new ≤ 65535) }
+{
+    match need {
+        Need::DataName => pool.add_utf8(alloc, b"$jacocoData"),
+        Need::DataType => pool.add_utf8(alloc, PROBE_ARRAY),
+        Need::InitName => pool.add_utf8(alloc, b"$jacocoInit"),
+        Need::InitType => pool.add_utf8(alloc, b"()[Z"),
+        Need::Field => pool.add_member(alloc, FIELD, owner, b"$jacocoData", PROBE_ARRAY),
+        Need::Method => pool.add_member(alloc, METHOD, owner, b"$jacocoInit", b"()[Z"),
+        Need::Fetch => pool.add_member(alloc, METHOD, RUNTIME_CLASS, b"getProbes", FETCH_TYPE),
+        Need::Code => pool.add_utf8(alloc, b"Code"),
+        Need::Frames => pool.add_utf8(alloc, b"StackMapTable"),
+        Need::Id => pool.add_long(alloc, id.cast_signed()),
+        Need::Name => pool.add_string(alloc, owner),
+        Need::Array => pool.add_class(alloc, PROBE_ARRAY),
+    }
+}
+
+/// The first places of what the added members need, in the order in which it is taken.
+fn take_each(
+    alloc: Global,
+    owner: &[u8],
+    id: u64,
+    pool: &mut Pool,
+) -> Result<Vec<u16>, Fail<PoolFull>>
+    requires { IsShortText owner.now }
+    ensures ok { IfOk result (λ places. TakesEach pool.old (member_needs owner.now (signed_id id)) pool.new places.items) }
+    ensures refused { IfErr result (RefusesEach pool.old (member_needs owner.now (signed_id id))) }
+    ensures extends { Extends pool.old pool.new }
+{
+    let mut places = Vec::new(alloc);
+    'taking: for need in &MEMBER_NEEDS {
+        let place = take(alloc, *need, owner, id, pool)?;
+        places.push(place)?;
+    }
+    Ok(places)
+}
+
+/// Takes what the added members of the class with this name and this id need.
+fn take_members(
+    alloc: Global,
+    owner: &[u8],
+    id: u64,
+    pool: &mut Pool,
+) -> Result<MemberPlaces, Fail<PoolFull>>
+    requires { IsShortText owner.now }
+    ensures ok { IfOk result (λ places. TakesEach pool.old (member_needs owner.now (signed_id id)) pool.new (place_list places)) }
+    ensures refused { IfErr result (RefusesEach pool.old (member_needs owner.now (signed_id id))) }
+    ensures extends { Extends pool.old pool.new }
+{
+    let places = take_each(alloc, owner, id, pool)?;
+    if places.len() != MEMBER_NEEDS.len() {
+        return Err(Fail::Memory);
+    }
+    Ok(MemberPlaces {
+        data_name: places[0],
+        data_type: places[1],
+        init_name: places[2],
+        init_type: places[3],
+        field: places[4],
+        method: places[5],
+        fetch: places[6],
+        code: places[7],
+        frames: places[8],
+        id: places[9],
+        name: places[10],
+        array: places[11],
+    })
+}
+
+/// The frames of the layout that is chosen.
+fn frames_in(probed: &Probed) -> &[FrameAt]
+    ensures { result.now ≡ frames_in probed.now }
+{
+    if probed.laid.wide {
+        &probed.merged
+    } else {
+        &probed.emitted.frames
+    }
+}
+
+/// Takes the classes that frames name, method after method.
+fn take_classes(
+    alloc: Global,
+    probed: &[Probed],
+    names: &Names,
+    pool: &mut Pool,
+) -> Result<(), Fail<PoolFull>>
+    requires { AllByRecursion (HasWritableFrames (length names.now)) probed.now }
+    ensures classes { OnOk result (TakesClasses pool.old (named_by_all (frames_of names.now probed.now)) pool.new) }
+    ensures refused { IfErr result (RefusesClasses pool.old (named_by_all (frames_of names.now probed.now)) pool.new) }
+    ensures extends { Extends pool.old pool.new }
+{
+    'taking: for next in probed {
+        let mut table = Vec::new(alloc);
+        let frames = frames_in(next);
+        write_full(alloc, frames, &next.laid.starts, names, pool, &mut table)?;
+    }
+    Ok(())
+}
+
+/// Takes what the added members need, and then the classes that frames name.
+fn take_all(
+    alloc: Global,
+    owner: &[u8],
+    id: u64,
+    probed: &[Probed],
+    names: &Names,
+    pool: &mut Pool,
+) -> Result<MemberPlaces, Fail<PoolFull>>
+    requires owner { IsShortText owner.now }
+    requires frames { AllByRecursion (HasWritableFrames (length names.now)) probed.now }
+    ensures ok { IfOk result (TakesNeeded pool.old owner.now (signed_id id) (frames_of names.now probed.now) pool.new) }
+    ensures refused { IfErr result (RefusesEach pool.old (needed owner.now (signed_id id) (frames_of names.now probed.now))) }
+    ensures extends { Extends pool.old pool.new }
+{
+    let places = take_members(alloc, owner, id, pool)?;
+    take_classes(alloc, probed, names, pool)?;
+    Ok(places)
+}
+
+/// The pool takes what the instrumented class of this name with this id needs: what the added members need, and the
+/// classes that frames name (JVM Specification 4.1, 4.4). Each entry that is missing is put behind the others.
+///
+/// # Errors
+///
+/// `PoolFull`, at 65,536, exactly where the pool's count would be above 65,535, and `Memory` where memory was refused.
+pub fn take_needs(
+    alloc: Global,
+    owner: &[u8],
+    id: u64,
+    probed: &[Probed],
+    names: &Names,
+    pool: &mut Pool,
+) -> Result<MemberPlaces, Fail<Refusal>>
+    requires owner { IsShortText owner.now }
+    requires frames { AllByRecursion (HasWritableFrames (length names.now)) probed.now }
+    ensures ok { IfOk result (TakesNeeded pool.old owner.now (signed_id id) (frames_of names.now probed.now) pool.new) }
+    ensures refused { IfErr result
+        (λ e. Said e (IsFullPool pool.old (needed owner.now (signed_id id) (frames_of names.now probed.now)))) }
+    ensures extends { Extends pool.old pool.new }
+{
+    match take_all(alloc, owner, id, probed, names, pool) {
+        Ok(places) => Ok(places),
+        Err(Fail::Memory) => Err(Fail::Memory),
+        Err(Fail::Said(_)) => Err(Fail::Said(Refusal {
+            kind: RefusalKind::PoolFull,
+            method: None,
+            place: 65_536,
+        })),
+    }
+}

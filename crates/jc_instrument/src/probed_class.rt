@@ -1,0 +1,50 @@
+//! The instrumented code of a class.
+ghost use Rattle.std.specs.Prelude.{◌≡◌, false, All, IfOk, IfErr};
+ghost use Rattle.jc_base.specs.Outside.{most_read};
+ghost use Rattle.jc_class.specs.Sizes.{BodiesWithin};
+ghost use Rattle.jc_class.specs.Writable.{IsClassFile};
+ghost use Rattle.jc_kinds.specs.Answers.{Said};
+ghost use Rattle.jc_instrument.specs.Causes.{IsFirstCause};
+ghost use Rattle.jc_instrument.specs.LeftAlone.{is_left_alone};
+ghost use Rattle.jc_instrument.specs.ProbedClass.{IsProbedClass, making_causes};
+
+use crate::bodies::named_bodies;
+use crate::described::bounded_plans;
+use crate::plans::Planned;
+use crate::probed::{Probed, probed_bodies};
+use crate::room::room_refusal;
+use jc_base::{Fail, List, Names, Refusal};
+use jc_class::ClassFile;
+use std::alloc::Global;
+
+/// The instrumented code of the bodies of a class.
+#[derive(Debug, Drop)]
+pub struct ProbedClass {
+    /// That of each body, in the order of the methods.
+    pub probed: List<Probed>,
+    /// How many probes there are.
+    pub probes: u32,
+}
+
+/// The instrumented code of the bodies of a class that doesn't stay as it is, with classes in their frames by their
+/// numbers in `names`; or the first refusal, in their order, of those that are looked for in code and while code is
+/// made.
+pub fn probed_class(
+    alloc: Global,
+    class: &ClassFile,
+    names: &mut Names,
+) -> Result<ProbedClass, Fail<Refusal>>
+    requires class { IsClassFile class.now }
+    requires sizes { All (λ m. BodiesWithin most_read m.attributes) class.now.methods }
+    requires changes { is_left_alone class.now ≡ false }
+    ensures probed { IfOk result (IsProbedClass names.new class.now) }
+    ensures refused { IfErr result (λ e. Said e (IsFirstCause (making_causes class.now))) }
+{
+    let bodies = named_bodies(alloc, class, names)?;
+    let Planned { plans, probes } = bounded_plans(alloc, &bodies)?;
+    if let Some(refusal) = room_refusal(class, &bodies, probes) {
+        return Err(Fail::Said(refusal));
+    }
+    let probed = probed_bodies(alloc, &bodies, &plans, names)?;
+    Ok(ProbedClass { probed, probes })
+}
