@@ -4,7 +4,7 @@ ghost use Rattle.std.specs.Prelude.{length};
 ghost use Rattle.jc_base.specs.Held.{AreNumberedFrames};
 ghost use Rattle.jc_base.specs.WellMade.{IsWellMade};
 
-use files::{ABS, CATCHES, COUNTS_DOWN, JUMPS_TO_NEXT, STRADDLES, SWITCHES};
+use crate::files::{ABS, CATCHES, COUNTS_DOWN, JUMPS_TO_NEXT, STRADDLES, SWITCHES};
 use jc_base::{Body, Emitted, Fail, Memory, Names, Refusal, RefusalKind};
 use jc_body::read_body;
 use jc_class::read_class;
@@ -14,8 +14,6 @@ use jc_layout::{Laid, each_emission_can_be_laid, layout};
 use jc_plan::plan;
 use std::alloc::Global;
 use std::test::Fail as Failed;
-
-mod files;
 
 /// A class, its instrumented code, and the offsets of its frames.
 static ROWS: [(&[u8], &[u8], &[u32]); 5] = [
