@@ -32,3 +32,9 @@ pub mod ClassTakingLaws
 pub mod ProbingLaws
 pub mod TooLargeLaws
 pub mod ProbedClassLaws
+pub mod MemberLaws
+pub mod TwinMethodLaws
+pub mod CodedLaws
+pub mod ReadyLaws
+pub mod WritableLaws
+pub mod TakenNeedsLaws

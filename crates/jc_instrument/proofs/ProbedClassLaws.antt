@@ -64,6 +64,7 @@ module _ (names : Names) (c : ClassFile) (bodies : List Body) (changes : is_left
         each = λ i w at. subst (λ (l : List Body). IsWork new l i w) (sym a.bodies_are) (a.each i w at);
       };
       made = a.made;
+      frames = a.frames;
       probes = count_is ∙ ap all_probes (sym a.bodies_are);
       no_cause = none_in_both (code_causes c) (room c) no_code
           (none_in_both (early_room_causes c) (HasTooLargeCode c ∷ []) none (none_too_large c bodies of_class a.short, tt));

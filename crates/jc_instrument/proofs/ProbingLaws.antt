@@ -1,6 +1,7 @@
 -- The instrumented code of the bodies of a class, one after the other.
 use Rattle.std.proofs.Common.{◌≡◌, ◌⊎◌, inl, inr, ℕ, zero, suc, ◌+◌, ◌<◌, ◌≤◌, Bool, List, [], ◌∷◌, ◌++◌, length, take, get_or, Some, slice_get, refl, sym, ◌∙◌, ap, ap₂, subst, arith}
 use Rattle.std.specs.Bool.{⊤}
+use Rattle.std.specs.List.{AllByRecursion}
 use Rattle.std.proofs.lemmas.Bool.{cases_lt}
 use Rattle.std.proofs.lemmas.List.{get_or_past, length-map, length-take-le, map-append, take_all, take_more}
 use Rattle.std.proofs.lemmas.List.Sums.{sum_by-take-le}
@@ -13,6 +14,7 @@ use Rattle.jc_base.specs.declared.insn.Insn.{Insn}
 use Rattle.jc_base.specs.declared.kind.State.{State}
 use Rattle.jc_base.specs.WellMade.{IsWellMadeOfAnySize}
 use Rattle.jc_base.proofs.MetNamesLaws.{grows_both, grows_none, one_number}
+use Rattle.jc_frames.specs.FullTable.{FitsFull}
 use Rattle.jc_insn.specs.Sizes.{StartAt}
 use Rattle.jc_kinds.specs.Answers.{AreStates, IsStateAt}
 use Rattle.jc_kinds.proofs.NumberLaws.{frames_numbered, grown_count, seen_kept, state_numbered}
@@ -21,6 +23,7 @@ use Rattle.jc_kinds.specs.States.{state_of}
 use Rattle.jc_base.specs.declared.plan.Plan.{Plan}
 use Rattle.jc_plan.specs.Plan.{plan_of}
 use Rattle.jc_plan.specs.Probed.{probe_count, first_id}
+use Rattle.jc_plan.proofs.CountLaws.{each_mapped}
 use Rattle.jc_plan.proofs.MappedLaws.{length_made, made_of}
 use Rattle.jc_emit.specs.Emission.{emission, IsArrayNumber}
 use Rattle.jc_emit.specs.Shift.{probe_array_class}
@@ -32,6 +35,7 @@ use Rattle.jc_layout.proofs.LayoutLaws.{one_choice, one_list}
 use Rattle.jc_instrument.specs.Analysis.{plans_of, all_probes}
 use Rattle.jc_instrument.specs.Probing.{IsLaid, IsMade, IsMadeOf, work, AreMade, AreProbed, AreShortBelow}
 use Rattle.jc_instrument.specs.RoomCauses.{probed_code}
+use Rattle.jc_instrument.specs.Taking.{frames_in, HasFrames}
 use Rattle.jc_instrument.specs.Works.{Work, bodies_of, IsWork}
 use Rattle.jc_instrument.specs.declared.probed.Probed.{Probed}
 use Rattle.jc_instrument.proofs.ListedLaws.{below_or_last, put_cases}
@@ -97,7 +101,7 @@ states_grown old new b states grows numbered are = record { count = are.count; e
         }
 
 -- a name stands at the number of the class of the probe array
-array_stands : (names : Names) (array : ℕ) → IsArrayNumber names array → slice_get names array ≡ Some probe_array_class
+pub array_stands : (names : Names) (array : ℕ) → IsArrayNumber names array → slice_get names array ≡ Some probe_array_class
 array_stands names array is = by (cases_lt array (length names))
   where
     nothing : [] ≡ probe_array_class → ⊥
@@ -125,6 +129,7 @@ pub record IsMadeUnder (names : Names) (w : Work) (p : Probed) : Type 0 where
   pub array : ℕ
   pub array_is : IsArrayNumber names array
   pub made : IsMade array w p
+  pub frames : HasFrames (length names) p
 
 abbrev pub AreMadeUnder : Names → List Work → List Probed → Type 0
 AreMadeUnder names [] [] = ⊤
@@ -159,12 +164,34 @@ array_grown old new array grows is =
     get_or_from_slice_get new array probe_array_class []
     (ap (λ (l : Names). slice_get l array) grows.1 ∙ name_stays old grows.0 array probe_array_class (array_stands old array is))
 
+-- more names are named as well
+frames_grown : (old new : ℕ) (p : Probed) → old ≤ new → HasFrames old p → HasFrames new p
+frames_grown old new p le has = record {
+  are = has.are;
+  few = has.few;
+  rising = has.rising;
+  each = each_mapped (FitsFull (length p.emitted.code + 1) old) (FitsFull (length p.emitted.code + 1) new) (frames_in p)
+      (λ f fits. record {
+        at = fits.at;
+        few_locals = fits.few_locals;
+        few_stack = fits.few_stack;
+        numbered = state_numbered old new f.state le fits.numbered;
+        local_places = fits.local_places;
+        stack_places = fits.stack_places;
+      }) has.each;
+}
+
 all_grown : (old new : Names) (works : List Work) (probed : List Probed) → Grows old new → AreMadeUnder old works probed → AreMadeUnder new works probed
 all_grown old new [] [] grows made = tt
 all_grown old new [] (p ∷ probed) grows made = absurd made
 all_grown old new (w ∷ works) [] grows made = absurd made
 all_grown old new (w ∷ works) (p ∷ probed) grows made = (
-  record { array = made.0.array; array_is = array_grown old new made.0.array grows made.0.array_is; made = made.0.made },
+  record {
+    array = made.0.array;
+    array_is = array_grown old new made.0.array grows made.0.array_is;
+    made = made.0.made;
+    frames = frames_grown (length old) (length new) p (grown_count old new grows) made.0.frames;
+  },
   all_grown old new works probed grows made.1,
 )
 
@@ -193,7 +220,7 @@ work_grown old new bodies i w grows numbered is = record { first = is.first; sta
 
 module _ (first names more : Names) (bodies : List Body) (n : ℕ) (probed new : List Probed) (b : Body) (p : Probed)
     (numbered : AreNumberedFrames (length first) b.frames) (stands : slice_get bodies n ≡ Some b) (before : IsProbing first names bodies n probed)
-    (grows : Grows names more) (of : IsMadeOf more b (first_id bodies n) p) (put : new ≡ probed ++ p ∷ []) where
+    (grows : Grows names more) (of : IsMadeOf more b (first_id bodies n) p) (framed : HasFrames (length more) p) (put : new ≡ probed ++ p ∷ []) where
   abbrev own : Work
   own = work b of.states (first_id bodies n)
 
@@ -242,7 +269,7 @@ module _ (first names more : Names) (bodies : List Body) (n : ℕ) (probed new :
     numbered = λ i w at. numbers i w (put_cases before.works own w i at);
     each = λ i w at. is_work i w (put_cases before.works own w i at);
     made = made_more more before.works probed own p (all_grown names more before.works probed grows before.made)
-        (record { array = of.array; array_is = of.array_is; made = of.made });
+        (record { array = of.array; array_is = of.array_is; made = of.made; frames = framed });
     short = is_short;
   })
 
@@ -258,6 +285,13 @@ all_made old new array (w ∷ works) (p ∷ probed) grows are there made = (
   all_made old new array works probed grows are there made.1,
 )
 
+all_framed : (old new : Names) (works : List Work) (probed : List Probed) → Grows old new → AreMadeUnder old works probed → AllByRecursion (HasFrames (length new)) probed
+all_framed old new [] [] grows made = tt
+all_framed old new [] (p ∷ probed) grows made = absurd made
+all_framed old new (w ∷ works) [] grows made = absurd made
+all_framed old new (w ∷ works) (p ∷ probed) grows made =
+    (frames_grown (length old) (length new) p (grown_count old new grows) made.0.frames, all_framed old new works probed grows made.1)
+
 pub all_probed : (first names more : Names) (array : ℕ) (bodies : List Body) (n : ℕ) (probed : List Probed) → length bodies ≤ n → IsProbing first names bodies n probed
     → Grows names more → AreNames more → slice_get more array ≡ Some probe_array_class → AreProbed more bodies probed
 all_probed first names more array bodies n probed end all grows are there = record {
@@ -268,5 +302,6 @@ all_probed first names more array bodies n probed end all grows are there = reco
   each = λ i w at. work_grown names more bodies i w grows
       (frames_numbered (length first) (length names) w.body.frames (grown_count first names all.grows) (all.numbered i w at)) (all.each i w at);
   made = all_made names more array all.works probed grows are there all.made;
+  frames = all_framed names more all.works probed grows all.made;
   short = λ i b less at. all.short i b (omega (arith, less, end)) at;
 }

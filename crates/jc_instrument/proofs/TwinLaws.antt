@@ -32,7 +32,7 @@ classes_listed : (names : Names) → AllByRecursion IsOfClass (map class_entry n
 classes_listed [] = tt
 classes_listed (name ∷ names) = (tt, classes_listed names)
 
-each_listed : (id : ℕ) (names : Names) (array : ℕ) (c : ClassFile) (works : List Work) → AllByRecursion IsOfClass (needs_of id names array c works)
+pub each_listed : (id : ℕ) (names : Names) (array : ℕ) (c : ClassFile) (works : List Work) → AllByRecursion IsOfClass (needs_of id names array c works)
 each_listed id names array c works = (
   tt,
   (tt, (tt, (tt, ((omega arith, omega arith), ((omega arith, omega arith), ((omega arith, omega arith), (tt, (tt, (tt, (tt, (tt, classes_listed (named_by_all (all_frames names array works))))))))))))),
@@ -66,7 +66,7 @@ module _ (id : ℕ) (names : Names) (array : ℕ) (works : List Work) (c : Class
 
 -- ---- what stays
 
-text_is : (name : List ℕ) (o : Option (List ℕ)) → is_text name o ≡ true → o ≡ Some name
+pub text_is : (name : List ℕ) (o : Option (List ℕ)) → is_text name o ≡ true → o ≡ Some name
 text_is name None is = absurd (none is)
   where
     none : false ≡ true → ⊥

@@ -17,3 +17,4 @@ pub mod Refused
 pub mod Probing
 pub mod Taking
 pub mod ProbedClass
+pub mod Members

@@ -1,5 +1,6 @@
 -- A class whose bodies have their instrumented code.
-use Rattle.std.specs.Prelude.{◌≡◌, ℕ, List, [], ◌∷◌, ◌++◌}
+use Rattle.std.specs.Prelude.{◌≡◌, ℕ, List, [], ◌∷◌, ◌++◌, length}
+use Rattle.std.specs.List.{AllByRecursion}
 use Rattle.jc_base.specs.Held.{Names}
 use Rattle.jc_class.specs.declared.class_file.ClassFile.{ClassFile}
 use Rattle.jc_instrument.specs.Analysis.{all_probes}
@@ -7,6 +8,7 @@ use Rattle.jc_instrument.specs.Causes.{Cause, NoCause}
 use Rattle.jc_instrument.specs.Probing.{AreMade}
 use Rattle.jc_instrument.specs.Reasons.{code_causes}
 use Rattle.jc_instrument.specs.RoomCauses.{HasTooLargeCode, early_room_causes}
+use Rattle.jc_instrument.specs.Taking.{HasFrames}
 use Rattle.jc_instrument.specs.Works.{Work, bodies_of, AreWorks}
 use Rattle.jc_instrument.specs.declared.probed_class.ProbedClass.{ProbedClass}
 
@@ -20,5 +22,6 @@ pub record IsProbedClass (names : Names) (c : ClassFile) (p : ProbedClass) : Typ
   pub works : List Work
   pub are : AreWorks names array c works
   pub made : AreMade array works p.probed
+  pub frames : AllByRecursion (HasFrames (length names)) p.probed
   pub probes : p.probes ≡ all_probes (bodies_of works)
   pub no_cause : NoCause (making_causes c)

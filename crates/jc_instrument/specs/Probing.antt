@@ -1,5 +1,6 @@
 -- What is made of the bodies of a class that have room for its probes: their instrumented code, laid out.
 use Rattle.std.specs.Prelude.{◌≡◌, ⊤, ℕ, ◌<◌, ◌≤◌, true, List, [], ◌∷◌, length, Some, slice_get}
+use Rattle.std.specs.List.{AllByRecursion}
 use Rattle.jc_base.specs.Held.{Names}
 use Rattle.jc_base.specs.declared.body.Body.{Body}
 use Rattle.jc_base.specs.declared.insn.Insn.{Insn}
@@ -14,6 +15,7 @@ use Rattle.jc_layout.specs.Merged.{merged}
 use Rattle.jc_layout.specs.declared.layouts.Laid.{Laid}
 use Rattle.jc_instrument.specs.Causes.{of_method}
 use Rattle.jc_instrument.specs.RoomCauses.{probed_code}
+use Rattle.jc_instrument.specs.Taking.{HasFrames}
 use Rattle.jc_instrument.specs.Works.{Work, bodies_of, IsWork, emitted_of}
 use Rattle.jc_instrument.specs.declared.probed.Probed.{Probed}
 
@@ -73,6 +75,7 @@ pub record AreProbed (names : Names) (bodies : List Body) (probed : List Probed)
   pub bodies_are : bodies_of works ≡ bodies
   pub each : (i : ℕ) (w : Work) → slice_get works i ≡ Some w → IsWork names bodies i w
   pub made : AreMade array works probed
+  pub frames : AllByRecursion (HasFrames (length names)) probed
   pub short : AreShortBelow bodies (length bodies)
 
 -- the first of the bodies whose code is too large is refused

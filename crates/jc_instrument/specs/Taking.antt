@@ -10,6 +10,7 @@ use Rattle.jc_base.specs.declared.refusal.RefusalKind.TheVariants as kinds
 use Rattle.jc_frames.specs.FullTable.{CanBeWritten}
 use Rattle.jc_pool.specs.Pool.{PoolValue}
 use Rattle.jc_pool.specs.declared.add.PoolFull.{PoolFull}
+use Rattle.jc_code.specs.Given.{AreFrames}
 use Rattle.jc_emit.specs.Added.{data_name, data_type, init_name, init_type}
 use Rattle.jc_instrument.specs.Causes.{of_class}
 use Rattle.jc_instrument.specs.Contents.{Content, text_entry, class_entry, string_entry, long_entry, member_entry, TakesEach}
@@ -66,3 +67,7 @@ frames_of names probed = flat_map (λ p. map (seen_at names) (frames_in p)) prob
 -- full frames can say this, over the instructions of the layout and with so many names
 abbrev pub HasWritableFrames : ℕ → Probed → Type 0
 HasWritableFrames names p = CanBeWritten p.laid.starts names (frames_in p)
+
+-- these are the frames of the layout, and name classes of which there are so many
+abbrev pub HasFrames : ℕ → Probed → Type 0
+HasFrames names p = AreFrames p.emitted names (frames_in p)

@@ -81,6 +81,12 @@ pub record IsWritten (id : ℕ) (names : Names) (array : ℕ) (works : List Work
   pub few : length pool ≤ 65535
   pub is : twin ≡ twin_class names array c works pool places
 
+-- the twin class that is written for a class with this id, with classes by their numbers in this list of names
+pub record IsWrittenUnder (id : ℕ) (names : Names) (c twin : ClassFile) : Type 0 where
+  pub array : ℕ
+  pub works : List Work
+  pub written : IsWritten id names array works c twin
+
 -- the bytes are a class, and the text is that of the twin class that is written for it
 pub record IsTwinText (bytes text : List ℕ) : Type 0 where
   pub file : ClassFile

@@ -21,7 +21,7 @@ const SYNTHETIC: u16 = 0x1000;
 const MODULE: u16 = 0x8000;
 
 /// Whether the attribute has this name.
-fn has_name(pool: &Pool, name: &[u8], attribute: &Attribute) -> bool
+pub fn has_name(pool: &Pool, name: &[u8], attribute: &Attribute) -> bool
     ensures { result ≡ has_name pool.now name.now attribute.now }
 {
     match pool.utf8_at(attribute.name) {

@@ -10,12 +10,14 @@ mod described;
 mod instrumented;
 mod kept;
 mod laws;
+mod members;
 mod needs;
 mod plans;
 mod probed;
 mod probed_class;
 mod room;
 mod size;
+mod twin;
 
 pub use analysis::analyse;
 pub use instrumented::{

@@ -188,7 +188,7 @@ fn take_members(
 }
 
 /// The frames of the layout that is chosen.
-fn frames_in(probed: &Probed) -> &[FrameAt]
+pub fn frames_in(probed: &Probed) -> &[FrameAt]
     ensures { result.now ≡ frames_in probed.now }
 {
     if probed.laid.wide {

@@ -6,12 +6,14 @@ ghost use Rattle.jc_kinds.specs.Answers.{AreStates, Said};
 ghost use Rattle.jc_plan.specs.Plan.{plan_of};
 ghost use Rattle.jc_emit.specs.Placing.{HasPlan};
 ghost use Rattle.jc_emit.specs.Emission.{emission, IsArrayNumber};
+ghost use Rattle.jc_emit.specs.Twin.{IsEmitted};
 ghost use Rattle.jc_emit.specs.TwinFrames.{AreRising};
 ghost use Rattle.jc_layout.specs.Layable.{IsLayable};
 ghost use Rattle.jc_layout.specs.Layout.{chosen_length};
 ghost use Rattle.jc_layout.specs.Merged.{merged};
 ghost use Rattle.jc_instrument.specs.Analysis.{plans_of, all_probes};
 ghost use Rattle.jc_instrument.specs.Probing.{IsLaid, IsMadeOf, IsTooLong, IsRefusedAsLarge, AreProbed, IsFirstTooLong};
+ghost use Rattle.jc_instrument.specs.Taking.{HasFrames};
 
 use jc_base::{Body, Emitted, Fail, FrameAt, List, Memory, Names, Plan, Refusal, State};
 use jc_code::merged_frames;
@@ -64,6 +66,10 @@ fn emitted(
     requires frames { AreNumberedFrames (length names.old) body.now.frames }
     ensures emitted { (first : ℕ) → plan.now ≡ plan_of body.now first → IfOk result
         (λ e. (array : ℕ) × IsArrayNumber names.new array × (e ≡ emission body.now first states.now array)) }
+    ensures told { (first : ℕ) → plan.now ≡ plan_of body.now first
+        → IfOk result (IsEmitted names.new names.new states.now first body.now) }
+    ensures locals { IfOk result (λ e. e.max_locals ≤ 65535) }
+    ensures stack { IfOk result (λ e. e.max_stack ≤ 65535) }
     ensures layable { IfOk result (λ e. IsLayable e.code) }
     ensures frames { IfOk result (λ e. AreRising 0 e.frames) }
     ensures wide_frames { IfOk result (λ e. AreRising 0 e.wide_frames) }
@@ -117,6 +123,7 @@ fn probed_body(
     requires next { plan.now.next ≤ 32767 }
     requires frames { AreNumberedFrames (length names.old) body.now.frames }
     ensures made { (first : ℕ) → plan.now ≡ plan_of body.now first → IfOk result (IsMadeOf names.new body.now first) }
+    ensures written { IfOk result (HasFrames (length names.new)) }
     ensures refused { (first : ℕ) → plan.now ≡ plan_of body.now first → IfErr result (λ e. Said e (IsTooLong body.now first)) }
     ensures names { Grows names.old names.new }
 {

@@ -1,5 +1,5 @@
 //! The instrumented code of a class.
-ghost use Rattle.std.specs.Prelude.{◌≡◌, false, All, IfOk, IfErr};
+ghost use Rattle.std.specs.Prelude.{◌≡◌, ◌≤◌, false, All, IfOk, IfErr};
 ghost use Rattle.jc_base.specs.Outside.{most_read};
 ghost use Rattle.jc_class.specs.Sizes.{BodiesWithin};
 ghost use Rattle.jc_class.specs.Writable.{IsClassFile};
@@ -38,6 +38,7 @@ pub fn probed_class(
     requires sizes { All (λ m. BodiesWithin most_read m.attributes) class.now.methods }
     requires changes { is_left_alone class.now ≡ false }
     ensures probed { IfOk result (IsProbedClass names.new class.now) }
+    ensures few { IfOk result (λ p. p.probes ≤ 32767) }
     ensures refused { IfErr result (λ e. Said e (IsFirstCause (making_causes class.now))) }
 {
     let bodies = named_bodies(alloc, class, names)?;

@@ -53,7 +53,8 @@ probing-preserved c =
     (c.requires.frames i b c.probing-test.true) in
     let plan = plan_is bodies c.args.plans.now c.requires.plans i b c.index-plans-number.result at c.index-plans-number.is in
     probing_on old c.probing.names c.probed_body.new.names bodies i c.probing.probed c.push.new.self b c.in_ok-next.next numbered at
-    c.probing.invariant c.in_ok-next.ensures.names (c.in_ok-next.ensures.made (first_id bodies i) plan) c.in_ok-push.ensures.ok
+    c.probing.invariant c.in_ok-next.ensures.names (c.in_ok-next.ensures.made (first_id bodies i) plan)
+    c.in_ok-next.ensures.written c.in_ok-push.ensures.ok
 
 pub returns-in_err-next-clause-refused : goal.returns-in_err-next-clause-refused
 returns-in_err-next-clause-refused c =

@@ -7,6 +7,7 @@ use Rattle.jc_kinds.proofs.NumberLaws.{frames_numbered, grown_count}
 use Rattle.jc_layout.specs.Layout.{chosen_length}
 use Rattle.jc_instrument.specs.Probing.{IsRefusedAsLarge}
 use Rattle.jc_instrument.proofs.ProbingLaws.{emission_code, states_grown}
+use Rattle.jc_instrument.proofs.WritableLaws.{has_frames}
 use Rattle.jc_instrument.proofs.probed.probed_body.Goals as goal
 
 pub returns-in_err-laid-clause-refused : goal.returns-in_err-laid-clause-refused
@@ -35,3 +36,20 @@ returns-clause-made c = λ first is.
       array_is = told.1;
       made = record { method = refl; emitted = told.2; laid = c.in_ok-laid.ensures.laid; merged = c.in_ok-merged.ensures };
     }
+
+pub returns-clause-written : goal.returns-clause-written
+returns-clause-written c =
+    let b = c.args.body.now in
+    let old = c.known_states.new.names in
+    let new = c.emitted.new.names in
+    let first = c.requires.plan.0 in
+    let is = c.requires.plan.1 in
+    let told = c.in_ok-emitted.ensures.emitted first is in
+    let states = c.deref.result.now in
+    let numbered = frames_numbered (length c.args.names.now) (length old) b.frames (grown_count c.args.names.now old c.in_ok-states.ensures.names)
+    c.requires.frames in
+    let are = subst (AreStates old b) (sym c.deref.ensures.value) c.in_ok-states.ensures.states in
+    let now = states_grown old new b states c.in_ok-emitted.ensures.names numbered are in
+    has_frames new b first states told.0 _ now told.1
+    (record { method = refl; emitted = told.2; laid = c.in_ok-laid.ensures.laid; merged = c.in_ok-merged.ensures })
+    (c.in_ok-emitted.ensures.told first is) c.in_ok-emitted.ensures.locals c.in_ok-emitted.ensures.stack

@@ -64,3 +64,10 @@ returns-clause-probed c =
     let a = subst (λ (l : List Body). AreProbed new l probed) c.deref-3.ensures c.in_ok-probed.ensures.probed in
     class_probed c.named_bodies.new.names c.args.class.now bodies c.requires.changes c.in_ok-bodies.ensures.bodies c.in_default.ensures new probed
     c.in_ok-plans.field-0.probes c.in_ok-probed.ensures.names a (c.in_ok-plans.ensures.probes ∙ ap all_probes c.deref.ensures)
+
+pub returns-clause-few : goal.returns-clause-few
+returns-clause-few c =
+    let few = few_probes_then c.named_bodies.new.names c.args.class.now c.in_ok-bodies.bodies c.requires.changes c.in_ok-bodies.ensures.bodies
+    c.in_default.ensures in
+    let same = c.in_ok-plans.ensures.probes ∙ ap all_probes c.deref.ensures in
+    omega (arith, few, same)

@@ -1,0 +1,434 @@
+-- The frames of instrumented code can be written.
+use Rattle.std.proofs.Common.{◌≡◌, ◌⊎◌, inl, inr, ⊎_elim, ℕ, zero, suc, ◌+◌, ◌-◌, ◌<◌, ◌≤◌, Bool, true, false, ◌&&◌, ◌||◌, List, [], ◌∷◌, length, map, take, drop, Option, Some, None, refl, sym, ◌∙◌, ap, subst, arith}
+use Rattle.std.specs.Prelude.{Contains, sum_by, insert, is_some, is_none, slice_index, if◌then◌else◌}
+use Rattle.std.specs.List.{AllByRecursion}
+use Rattle.std.proofs.lemmas.Bool.{cases_lt}
+use Rattle.std.proofs.lemmas.List.{get_or_past, length-map}
+use Rattle.std.proofs.lemmas.List.Elements.{Contains-append_cases}
+use Rattle.std.proofs.lemmas.List.Sums.{sum_by-cons}
+use Rattle.std.proofs.lemmas.Option.{slice_get_within, slice_get-get_or}
+use Rattle.jc_base.specs.Flow.{flow_of}
+use Rattle.jc_base.specs.Held.{Names, IsNumbered, IsNumberedState}
+use Rattle.jc_base.specs.PlainLists.{pieces}
+use Rattle.jc_base.specs.WellMade.{IsKind, kind_slots}
+use Rattle.jc_base.specs.Opcode as opcode
+use Rattle.jc_base.specs.declared.body.Body.{Body}
+use Rattle.jc_base.specs.declared.body.FrameAt.{FrameAt}
+use Rattle.jc_base.specs.declared.emitted.Emitted.{Emitted}
+use Rattle.jc_base.specs.declared.insn.Insn.{Insn}
+use Rattle.jc_base.specs.declared.insn.Insn.TheVariants as insns
+use Rattle.jc_base.specs.declared.kind.Kind.{Kind}
+use Rattle.jc_base.specs.declared.kind.Kind.TheVariants as kinds
+use Rattle.jc_base.specs.declared.kind.State.{State}
+use Rattle.jc_base.proofs.FirstSeenLaws.{contains_none, contains_one, contains_first, contains_later}
+use Rattle.jc_frames.specs.FullTable.{AreRisingOffsets, FitsFull, IsPlaced, RiseFrom}
+use Rattle.jc_frames.proofs.BuildingLaws.{by_recursion}
+use Rattle.jc_kinds.specs.Answers.{AreStates, IsStateAt}
+use Rattle.jc_plan.specs.declared.branch.Branch.{Branch}
+use Rattle.jc_plan.specs.Probed.{probe_of}
+use Rattle.jc_plan.specs.Plan.{lead_probe}
+use Rattle.jc_plan.proofs.CountLaws.{each_joined, each_mapped}
+use Rattle.jc_emit.specs.Shift.{image_kind, probe_array_class, shifted_state}
+use Rattle.jc_emit.specs.Sizes.{insn_at, late_probe, arms_at, hop_size, arm_sizes}
+use Rattle.jc_emit.specs.TwinFrames.{no_state, operands_of, state_at, left_by, state_behind, AreRising}
+use Rattle.jc_emit.specs.Items.{insn_of, lead_of, land_of, image_of, segment_size, twin_items}
+use Rattle.jc_emit.specs.Emission.{emission, IsArrayNumber, frame, frame_if, moved_state, has_frame, has_inverse, is_further, arm_frame, arm_frames, frames_at, wide_frames_at}
+use Rattle.jc_emit.specs.Twin.{IsEmitted}
+use Rattle.jc_emit.proofs.Built.{length_twin}
+use Rattle.jc_emit.proofs.FrameLists.{in_piece, if_listed}
+use Rattle.jc_emit.proofs.RowLaws.{total_grows}
+use Rattle.jc_layout.specs.Layout.{is_wide}
+use Rattle.jc_layout.specs.Merged.{merged}
+use Rattle.jc_layout.proofs.ChoiceLaws.{chosen_count, text_length}
+use Rattle.jc_layout.proofs.MergedLaws.{merged_cases, merged_rises}
+use Rattle.jc_code.specs.Given.{IsLaid as IsLaidCode}
+use Rattle.jc_code.specs.TwinCode.{chosen_frames}
+use Rattle.jc_code.proofs.LaidLaws.{laid_rise}
+use Rattle.jc_instrument.specs.Probing.{IsLaid, IsMade, work}
+use Rattle.jc_instrument.specs.Taking.{frames_in, HasFrames}
+use Rattle.jc_instrument.specs.declared.probed.Probed.{Probed}
+use Rattle.jc_instrument.proofs.ProbingLaws.{array_stands, emission_code}
+
+-- ---- values
+
+array_below : (names : Names) (array : ℕ) → IsArrayNumber names array → array < length names
+array_below names array is = slice_get_within names array probe_array_class (array_stands names array is)
+
+module _ (P : Kind → Type 0) where
+  some_taken : (n : ℕ) (ks : List Kind) → AllByRecursion P ks → AllByRecursion P (take n ks)
+  some_taken zero ks all = tt
+  some_taken (suc n) [] all = tt
+  some_taken (suc n) (k ∷ ks) all = (all.0, some_taken n ks all.1)
+
+  some_dropped : (n : ℕ) (ks : List Kind) → AllByRecursion P ks → AllByRecursion P (drop n ks)
+  some_dropped zero ks all = all
+  some_dropped (suc n) [] all = tt
+  some_dropped (suc n) (k ∷ ks) all = some_dropped n ks all.1
+
+  one_put_in : (v : ℕ) (k : Kind) (ks : List Kind) → P k → AllByRecursion P ks → AllByRecursion P (insert ks v k)
+  one_put_in v k ks one all = each_joined P (take v ks) (k ∷ drop v ks) (some_taken v ks all) (one, some_dropped v ks all)
+
+fewer_taken : (n : ℕ) (ks : List Kind) → length (take n ks) ≤ length ks
+fewer_taken zero ks = omega arith
+fewer_taken (suc n) [] = omega arith
+fewer_taken (suc n) (k ∷ ks) = let less = fewer_taken n ks in omega (arith, less)
+
+put_in_count : (v : ℕ) (k : Kind) (ks : List Kind) → length (insert ks v k) ≡ length ks + 1
+put_in_count zero k ks = omega arith
+put_in_count (suc v) k [] = omega arith
+put_in_count (suc v) k (x ∷ ks) = let more = put_in_count v k ks in omega (arith, more)
+
+some_slot : (k : Kind) → 1 ≤ kind_slots k
+some_slot kinds.Top = omega arith
+some_slot kinds.Int = omega arith
+some_slot kinds.Float = omega arith
+some_slot kinds.Double = omega arith
+some_slot kinds.Long = omega arith
+some_slot kinds.Null = omega arith
+some_slot kinds.UninitThis = omega arith
+some_slot (kinds.Object n) = omega arith
+some_slot (kinds.Uninit at) = omega arith
+
+slots_above : (ks : List Kind) → length ks ≤ sum_by kind_slots ks
+slots_above [] = omega arith
+slots_above (k ∷ ks) = let a = slots_above ks in let b = some_slot k in let e = sum_by-cons kind_slots k ks in omega (arith, a, b, e)
+
+-- ---- states
+
+-- what a full frame can say, by the values alone
+record IsSayable (most names : ℕ) (s : State) : Type 0 where
+  few_locals : length s.locals ≤ 65535
+  few_stack : length s.stack ≤ 65535
+  numbered : IsNumberedState names s
+  local_places : AllByRecursion (IsPlaced most) s.locals
+  stack_places : AllByRecursion (IsPlaced most) s.stack
+
+-- a state of the body, whose values are numbered and whose new objects are those of its instructions
+record IsSource (code : List Insn) (names : ℕ) (s : State) : Type 0 where
+  few_locals : length s.locals + 1 ≤ 65535
+  few_stack : length s.stack ≤ 65535
+  numbered : IsNumberedState names s
+  local_kinds : AllByRecursion (IsKind code) s.locals
+  stack_kinds : AllByRecursion (IsKind code) s.stack
+
+module _ (code : List Insn) (names most : ℕ) (place : ℕ → ℕ) (within : (i : ℕ) → i < length code → place i < most) where
+  kind_placed : (k : Kind) → IsKind code k → IsPlaced most (image_kind place k)
+  kind_placed (kinds.Uninit at) is = within at (slice_get_within code at (insns.OfClass opcode.new is.0) is.1)
+  kind_placed kinds.Top is = tt
+  kind_placed kinds.Int is = tt
+  kind_placed kinds.Float is = tt
+  kind_placed kinds.Double is = tt
+  kind_placed kinds.Long is = tt
+  kind_placed kinds.Null is = tt
+  kind_placed kinds.UninitThis is = tt
+  kind_placed (kinds.Object n) is = tt
+
+  kind_numbered : (k : Kind) → IsNumbered names k → IsNumbered names (image_kind place k)
+  kind_numbered (kinds.Object n) is = is
+  kind_numbered (kinds.Uninit at) is = tt
+  kind_numbered kinds.Top is = tt
+  kind_numbered kinds.Int is = tt
+  kind_numbered kinds.Float is = tt
+  kind_numbered kinds.Double is = tt
+  kind_numbered kinds.Long is = tt
+  kind_numbered kinds.Null is = tt
+  kind_numbered kinds.UninitThis is = tt
+
+  all_placed : (ks : List Kind) → AllByRecursion (IsKind code) ks → AllByRecursion (IsPlaced most) (map (image_kind place) ks)
+  all_placed [] all = tt
+  all_placed (k ∷ ks) all = (kind_placed k all.0, all_placed ks all.1)
+
+  all_numbered : (ks : List Kind) → AllByRecursion (IsNumbered names) ks → AllByRecursion (IsNumbered names) (map (image_kind place) ks)
+  all_numbered [] all = tt
+  all_numbered (k ∷ ks) all = (kind_numbered k all.0, all_numbered ks all.1)
+
+  shifted_sayable : (v array : ℕ) (s : State) → array < names → IsSource code names s → IsSayable most names (shifted_state v array place s)
+  shifted_sayable v array s below source = record {
+    few_locals =
+        let e = put_in_count v (kinds.Object array) (map (image_kind place) s.locals) in
+        let l = length-map s.locals (image_kind place) in
+        let few = source.few_locals in
+        omega (arith, e, l, few);
+    few_stack = let l = length-map s.stack (image_kind place) in let few = source.few_stack in omega (arith, l, few);
+    numbered = record {
+      locals = one_put_in (IsNumbered names) v (kinds.Object array) (map (image_kind place) s.locals) below (all_numbered s.locals source.numbered.locals);
+      stack = all_numbered s.stack source.numbered.stack;
+    };
+    local_places = one_put_in (IsPlaced most) v (kinds.Object array) (map (image_kind place) s.locals) tt (all_placed s.locals source.local_kinds);
+    stack_places = all_placed s.stack source.stack_kinds;
+  }
+
+left_source : (code : List Insn) (names : ℕ) (insn : Insn) (s : State) → IsSource code names s → IsSource code names (left_by insn s)
+left_source code names insn s source = record {
+  few_locals = source.few_locals;
+  few_stack = let less = fewer_taken (length s.stack - operands_of insn) s.stack in let few = source.few_stack in omega (arith, less, few);
+  numbered = record { locals = source.numbered.locals; stack = some_taken (IsNumbered names) (length s.stack - operands_of insn) s.stack source.numbered.stack };
+  local_kinds = source.local_kinds;
+  stack_kinds = some_taken (IsKind code) (length s.stack - operands_of insn) s.stack source.stack_kinds;
+}
+
+-- ---- frames
+
+-- the frame stands behind the prelude and at most at the end, and can be said
+record IsDone (end names : ℕ) (f : FrameAt) : Type 0 where
+  behind : 2 ≤ f.at
+  within : f.at ≤ end
+  sayable : IsSayable (end + 1) names f.state
+
+module _ (b : Body) (first : ℕ) (states : List State) (array : ℕ) (names : Names) (are : AreStates names b states) (array_is : IsArrayNumber names array)
+    (locals : b.max_locals + 1 ≤ 65535) (stack : b.max_stack ≤ 65535) where
+  abbrev lead : ℕ → ℕ
+  lead i = lead_of b first false i
+
+  abbrev land : ℕ → ℕ
+  land i = land_of b first false i
+
+  abbrev q_of : ℕ → ℕ
+  q_of i = image_of b first false i
+
+  abbrev end : ℕ
+  end = lead (length b.code)
+
+  abbrev moved : State → State
+  moved s = moved_state b first states array s
+
+  abbrev Done : FrameAt → Type 0
+  Done f = IsDone end (length names) f
+
+  abbrev Source : State → Type 0
+  Source s = IsSource b.code (length names) s
+
+  lead_grows : (i j : ℕ) → i ≤ j → lead i ≤ lead j
+  lead_grows i j le = omega (arith, total_grows (segment_size b first false) i j le)
+
+  image_within : (i : ℕ) → i < length b.code → q_of i < end
+  image_within i lt = let g = lead_grows (suc i) (length b.code) (omega (arith, lt)) in omega (arith, g)
+
+  of_state : (i : ℕ) (s : State) → IsStateAt names b i s → Source s
+  of_state i s is = record {
+    few_locals = let e = is.well_made.locals in omega (arith, e, locals);
+    few_stack = let a = slots_above s.stack in let e = is.well_made.stack in omega (arith, a, e, stack);
+    numbered = is.numbered;
+    local_kinds = by_recursion (IsKind b.code) s.locals is.well_made.local_kinds;
+    stack_kinds = by_recursion (IsKind b.code) s.stack is.well_made.stack_kinds;
+  }
+
+  no_source : Source no_state
+  no_source = record { few_locals = omega arith; few_stack = omega arith; numbered = record { locals = tt; stack = tt }; local_kinds = tt; stack_kinds = tt }
+
+  source_at : (i : ℕ) → Source (state_at states i)
+  source_at i = by (cases_lt i (length states))
+    where
+      by : (i < length states) ⊎ (length states ≤ i) → Source (state_at states i)
+      by (inl lt) = of_state i (state_at states i) (are.each i (state_at states i) (slice_get-get_or states i no_state lt))
+      by (inr past) = subst Source (sym (get_or_past states i no_state past)) no_source
+
+  behind_source : (i : ℕ) (o : Option ℕ) → Source (state_behind b states i o)
+  behind_source i None = source_at (i + 1)
+  behind_source i (Some id) = left_source b.code (length names) (insn_at b.code i) (state_at states i) (source_at i)
+
+  moved_done : (q : ℕ) (s : State) → 2 ≤ q → q ≤ end → Source s → Done (frame q (moved s))
+  moved_done q s behind within source = record {
+    behind = behind;
+    within = within;
+    sayable = shifted_sayable b.code (length names) (end + 1) q_of (λ i lt. let w = image_within i lt in omega (arith, w)) b.arg_slots array s
+        (array_below names array array_is) source;
+  }
+
+  abbrev leads_there : ℕ → Bool
+  leads_there i = has_inverse b first states array i && is_some (lead_probe b first i)
+
+  abbrev lands_there : ℕ → Bool
+  lands_there i = has_frame b first states array i || (has_inverse b first states array i && is_none (lead_probe b first i))
+
+  abbrev lead_frames : ℕ → List FrameAt
+  lead_frames i = frame_if (leads_there i) (frame (lead i) (moved (state_at states i)))
+
+  abbrev land_frames : ℕ → List FrameAt
+  land_frames i = frame_if (lands_there i) (frame (land i) (moved (state_at states i)))
+
+  abbrev left : ℕ → State
+  left i = left_by (insn_at b.code i) (state_at states i)
+
+  lead_done : (i : ℕ) (f : FrameAt) → i < length b.code → Contains (lead_frames i) f → Done f
+  lead_done i f lt c =
+      let h = if_listed (leads_there i) (frame (lead i) (moved (state_at states i))) f c in
+      let w = image_within i lt in
+      subst Done h.1 (moved_done (lead i) (state_at states i) (omega arith) (omega (arith, w)) (source_at i))
+
+  land_done : (i : ℕ) (f : FrameAt) → i < length b.code → Contains (land_frames i) f → Done f
+  land_done i f lt c =
+      let h = if_listed (lands_there i) (frame (land i) (moved (state_at states i))) f c in
+      let w = image_within i lt in
+      subst Done h.1 (moved_done (land i) (state_at states i) (omega arith) (omega (arith, w)) (source_at i))
+
+  arms_done : (here : ℕ) (s : State) (xs : List Branch) → Source s → 2 ≤ here → here + arm_sizes (probe_of b first) xs ≤ end
+      → (f : FrameAt) → Contains (arm_frames b first states array here (moved s) xs) f → Done f
+  arms_done here s [] source behind within f c = absurd (contains_none f c)
+  arms_done here s (x ∷ xs) source behind within f c =
+      ⊎_elim (λ front. single (probe_of b first x) front)
+      (λ rest. arms_done (here + hop_size (probe_of b first x)) s xs source (omega (arith, behind)) (omega (arith, within)) f rest)
+      (Contains-append_cases (arm_frame b first states array here (moved s) (probe_of b first x)) _ f c)
+    where
+      single : (o : Option ℕ) → Contains (arm_frame b first states array here (moved s) o) f → Done f
+      single None d = absurd (contains_none f d)
+      single (Some id) d = subst Done (contains_one (frame here (moved s)) f d) (moved_done here s behind (omega (arith, within)) source)
+
+  arms_within : (i : ℕ) → i < length b.code → q_of i + 1 + arm_sizes (probe_of b first) (arms_at b.code i) ≤ end
+  arms_within i lt = let g = lead_grows (suc i) (length b.code) (omega (arith, lt)) in omega (arith, g)
+
+  each_done : (f : FrameAt) → Contains (pieces (frames_at b first states array) (length b.code)) f → Done f
+  each_done f c =
+      let p = in_piece (frames_at b first states array) (length b.code) f c in
+      let i = p.piece in
+      ⊎_elim (λ front. lead_done i f p.within front)
+      (λ rest.
+      ⊎_elim (λ middle. land_done i f p.within middle)
+      (λ last. arms_done (q_of i + 1) (left i) (arms_at b.code i) (left_source b.code (length names) (insn_at b.code i) (state_at states i) (source_at i)) (omega arith)
+      (arms_within i p.within) f last)
+      (Contains-append_cases (land_frames i) (arm_frames b first states array (q_of i + 1) (moved (left i)) (arms_at b.code i)) f rest))
+      (Contains-append_cases (lead_frames i) _ f p.listed)
+
+  each_wide_done : (f : FrameAt) → Contains (pieces (wide_frames_at b first states array) (length b.code)) f → Done f
+  each_wide_done f c =
+      let p = in_piece (wide_frames_at b first states array) (length b.code) f c in
+      let i = p.piece in
+      let s = state_behind b states i (late_probe b first i) in
+      let h = if_listed (is_further b first states array i (late_probe b first i) (flow_of (insn_at b.code i))) (frame (q_of i + 1) (moved s)) f p.listed in
+      let w = image_within i p.within in
+      subst Done h.1 (moved_done (q_of i + 1) s (omega arith) (omega (arith, w)) (behind_source i (late_probe b first i)))
+
+-- ---- lists of frames
+
+all_listed : (P : FrameAt → Type 0) (frames : List FrameAt) → ((f : FrameAt) → Contains frames f → P f) → AllByRecursion P frames
+all_listed P [] each = tt
+all_listed P (f ∷ frames) each = (each f (contains_first f frames), all_listed P frames (λ g c. each g (contains_later f frames g c)))
+
+rise_from : (from : ℕ) (frames : List FrameAt) → AreRising from frames → RiseFrom from frames
+rise_from from [] rising = tt
+rise_from from (f ∷ frames) rising = (rising.0, rise_from (f.at + 1) frames rising.1)
+
+count_below : (from end : ℕ) (frames : List FrameAt) → AreRising from frames → AllByRecursion (λ f. f.at ≤ end) frames → from ≤ end + 1 → from + length frames ≤ end + 1
+count_below from end [] rising all le = omega (arith, le)
+count_below from end (f ∷ frames) rising all le =
+    let first = rising.0 in
+    let here = all.0 in
+    let more = count_below (f.at + 1) end frames rising.1 all.1 (omega (arith, here)) in
+    omega (arith, first, more)
+
+few_frames : (end names : ℕ) (frames : List FrameAt) → AreRising 0 frames → AllByRecursion (IsDone end names) frames → 1 ≤ end → length frames + 1 ≤ end
+few_frames end names [] rising all some = omega (arith, some)
+few_frames end names (f ∷ frames) rising all some =
+    let behind = all.0.behind in
+    let within = all.0.within in
+    let below = each_mapped (IsDone end names) (λ (g : FrameAt). g.at ≤ end) frames (λ g done. done.within) all.1 in
+    let more = count_below (f.at + 1) end frames rising.1 below (omega (arith, within)) in
+    omega (arith, behind, more)
+
+fits : (end names : ℕ) (f : FrameAt) → IsDone end names f → FitsFull (end + 1) names f
+fits end names f done = record {
+  at = let within = done.within in omega (arith, within);
+  few_locals = done.sayable.few_locals;
+  few_stack = done.sayable.few_stack;
+  numbered = done.sayable.numbered;
+  local_places = done.sayable.local_places;
+  stack_places = done.sayable.stack_places;
+}
+
+-- as many bytes as instructions at least
+above : (starts : List ℕ) → AreRisingOffsets starts → (k : ℕ) → k < length starts → k ≤ slice_index starts k
+above starts rising zero lt = omega arith
+above starts rising (suc k) lt =
+    let before = above starts rising k (omega (arith, lt)) in
+    let e : k + 1 ≡ suc k = omega arith in
+    let next = subst (λ (n : ℕ). slice_index starts k < slice_index starts n) e (rising k (omega (arith, lt))) in
+    omega (arith, before, next)
+
+pub laid_for : (p : Probed) → IsLaid p.emitted.code p.laid → IsLaidCode p.emitted p.laid
+laid_for p laid = record {
+  wide = laid.wide;
+  starts = laid.starts;
+  text = laid.text;
+  few = let e = ap (λ (l : List ℕ). length l) laid.text ∙ text_length p.emitted.code in let short = laid.short in omega (arith, e, short);
+}
+
+few_insns : (p : Probed) → IsLaid p.emitted.code p.laid → length p.emitted.code ≤ 65535
+few_insns p laid =
+    let code = p.emitted.code in
+    let count = ap (λ (l : List ℕ). length l) laid.starts ∙ chosen_count code in
+    let rising = laid_rise p.emitted p.laid (laid_for p laid) in
+    let most = above p.laid.starts rising (length code) (omega (arith, count)) in
+    let e = ap (λ (l : List ℕ). slice_index l (length code)) laid.starts in
+    let short = laid.short in
+    omega (arith, most, e, short)
+
+pub frames_chosen : (p : Probed) → IsLaid p.emitted.code p.laid → (p.laid.wide ≡ true → p.merged ≡ merged p.emitted.frames p.emitted.wide_frames) → frames_in p ≡ chosen_frames p.emitted
+frames_chosen p laid merges = by p.laid.wide refl ∙ ap (λ (t : Bool). if t then merged p.emitted.frames p.emitted.wide_frames else p.emitted.frames) laid.wide
+  where
+    by : (t : Bool) → p.laid.wide ≡ t → (if t then p.merged else p.emitted.frames) ≡ (if t then merged p.emitted.frames p.emitted.wide_frames else p.emitted.frames)
+    by true wide = merges wide
+    by false narrow = refl
+
+-- ---- the frames of a body
+
+module _ (names : Names) (b : Body) (first : ℕ) (states : List State) (array : ℕ) (p : Probed) (are : AreStates names b states) (array_is : IsArrayNumber names array)
+    (made : IsMade array (work b states first) p) (told : IsEmitted names names states first b p.emitted)
+    (locals : p.emitted.max_locals ≤ 65535) (stack : p.emitted.max_stack ≤ 65535) where
+  abbrev e : Emitted
+  e = emission b first states array
+
+  few_locals : b.max_locals + 1 ≤ 65535
+  few_locals = let m = told.max_locals in omega (arith, m, locals)
+
+  few_stack : b.max_stack ≤ 65535
+  few_stack = let m = told.max_stack in omega (arith, m, stack)
+
+  abbrev last : ℕ
+  last = lead_of b first false (length b.code)
+
+  abbrev IsFine : FrameAt → Type 0
+  IsFine f = IsDone last (length names) f
+
+  narrow_done : (f : FrameAt) → Contains e.frames f → IsFine f
+  unfolding emission
+  narrow_done f c = each_done b first states array names are array_is few_locals few_stack f c
+
+  wide_done : (f : FrameAt) → Contains e.wide_frames f → IsFine f
+  unfolding emission
+  wide_done f c = each_wide_done b first states array names are array_is few_locals few_stack f c
+
+  chosen_done : (t : Bool) (f : FrameAt) → Contains (if t then merged e.frames e.wide_frames else e.frames) f → IsFine f
+  chosen_done false f c = narrow_done f c
+  chosen_done true f c = ⊎_elim (λ old. narrow_done f old) (λ more. wide_done f more) (merged_cases e.frames e.wide_frames f c)
+
+  abbrev q : Emitted
+  q = p.emitted
+
+  chosen_rise : (t : Bool) → AreRising 0 (if t then merged q.frames q.wide_frames else q.frames)
+  chosen_rise false = told.frames.rising
+  chosen_rise true =
+      merged_rises q.frames q.wide_frames 0 told.frames.rising told.wide_frames.rising
+      (λ f c g d same. (told.wide_frames.each f c).1.further (g, d, same))
+
+  code_count : length q.code ≡ last
+  code_count =
+      ap (λ (x : Emitted). length x.code) made.emitted ∙ ap (λ (l : List Insn). length l) (emission_code b first states array)
+      ∙ length-map (twin_items b first false) (insn_of 0 b.arg_slots) ∙ length_twin b first false
+
+  all_done : AllByRecursion IsFine (chosen_frames q)
+  all_done = subst (λ (x : Emitted). AllByRecursion IsFine (chosen_frames x)) (sym made.emitted) (all_listed IsFine (chosen_frames e) (chosen_done (is_wide e.code)))
+
+  pub has_frames : HasFrames (length names) p
+  has_frames = record {
+    are = frames_chosen p made.laid made.merged;
+    few =
+        let same = ap (λ (l : List FrameAt). length l) (frames_chosen p made.laid made.merged) in
+        let most = few_frames last (length names) (chosen_frames q) (chosen_rise (is_wide q.code)) all_done (omega arith) in
+        let insns = few_insns p made.laid in
+        let count = code_count in
+        omega (arith, same, most, insns, count);
+    rising = subst (RiseFrom 0) (sym (frames_chosen p made.laid made.merged)) (rise_from 0 (chosen_frames q) (chosen_rise (is_wide q.code)));
+    each = subst (AllByRecursion (FitsFull (length q.code + 1) (length names))) (sym (frames_chosen p made.laid made.merged))
+        (subst (λ (n : ℕ). AllByRecursion (FitsFull (n + 1) (length names)) (chosen_frames q)) (sym code_count)
+        (each_mapped IsFine (FitsFull (last + 1) (length names)) (chosen_frames q) (λ f done. fits last (length names) f done) all_done));
+  }

@@ -1,0 +1,78 @@
+-- The methods of a class, in which those with instrumented code have it.
+use Rattle.std.specs.Prelude.{◌≡◌, ⊤, ℕ, ◌<◌, List, [], ◌∷◌, length, map, Option, Some, None, nat_eq, slice_get, if◌then◌else◌}
+use Rattle.std.specs.List.{AllByRecursion}
+use Rattle.jc_base.specs.Held.{Names}
+use Rattle.jc_base.specs.PlainLists.{map_from}
+use Rattle.jc_pool.specs.Adding.{IsFirst}
+use Rattle.jc_pool.specs.Lookup.{utf8_of}
+use Rattle.jc_pool.specs.Pool.{PoolValue}
+use Rattle.jc_class.specs.declared.class_file.Member.{Member}
+use Rattle.jc_body.specs.Coded.{code_bodies}
+use Rattle.jc_code.specs.Given.{AreFrames, AreNamed, HaveClasses, IsLaid}
+use Rattle.jc_code.specs.TwinCode.{lines_name, vars_name, kind_vars_name, twin_code}
+use Rattle.jc_code.specs.declared.code.CodePlaces.{CodePlaces}
+use Rattle.jc_instrument.specs.Taking.{frames_in}
+use Rattle.jc_instrument.specs.TwinText.{with_code}
+use Rattle.jc_instrument.specs.declared.probed.Probed.{Probed}
+
+-- ---- what the writing relies on
+
+-- the text of its Code attribute can be written, over a pool that has all that it names
+pub record IsWritable (pool : PoolValue) (names : Names) (places : CodePlaces) (p : Probed) : Type 0 where
+  pub laid : IsLaid p.emitted p.laid
+  pub frames : AreFrames p.emitted (length names) (frames_in p)
+  pub classes : HaveClasses pool names p.emitted
+  pub named : AreNamed pool p.emitted places
+
+abbrev pub AreWritable : PoolValue → Names → CodePlaces → List Probed → Type 0
+AreWritable pool names places probed = AllByRecursion (IsWritable pool names places) probed
+
+-- the method has one Code attribute (JVM Specification 4.7.3)
+pub record HasOneCode (pool : PoolValue) (method : Member) : Type 0 where
+  pub bytes : List ℕ
+  pub single : code_bodies pool method ≡ bytes ∷ []
+
+-- the method with its number is one of these, and has one Code attribute
+pub record IsCoded (pool : PoolValue) (methods : List Member) (p : Probed) : Type 0 where
+  pub method : Member
+  pub at : slice_get methods p.method ≡ Some method
+  pub one : HasOneCode pool method
+
+-- each is of a method with one Code attribute, in the order of the methods
+abbrev pub AreCoded : PoolValue → List Member → List Probed → Type 0
+AreCoded pool methods [] = ⊤
+AreCoded pool methods (p ∷ probed) =
+    IsCoded pool methods p × AllByRecursion (λ q. p.method < q.method) probed × AreCoded pool methods probed
+
+-- ---- places of texts
+
+-- if the text stands in the pool, it stands first at this place
+abbrev pub IsFirstIfAny : PoolValue → List ℕ → ℕ → Type 0
+IsFirstIfAny pool text place = (at : ℕ) → utf8_of pool at ≡ Some text → IsFirst (utf8_of pool) text place
+
+-- the places of the texts that Code attributes name (JVM Specification 4.7.12 to 4.7.14)
+pub record AreTextPlaces (pool : PoolValue) (places : CodePlaces) : Type 0 where
+  pub lines : IsFirstIfAny pool lines_name places.lines
+  pub vars : IsFirstIfAny pool vars_name places.vars
+  pub kind_vars : IsFirstIfAny pool kind_vars_name places.kind_vars
+
+-- ---- what is written
+
+-- the one of the method with this number
+abbrev pub probed_of : ℕ → List Probed → Option Probed
+probed_of number [] = None
+probed_of number (p ∷ probed) = if nat_eq p.method number then Some p else probed_of number probed
+
+-- what its Code attribute holds
+abbrev pub text_of : PoolValue → Names → CodePlaces → Probed → List ℕ
+text_of pool names places p = twin_code pool places.method places.frames names p.emitted
+
+-- the method with its new code, if it has any
+abbrev pub put_method : PoolValue → Names → CodePlaces → Member → Option Probed → Member
+put_method pool names places method None = method
+put_method pool names places method (Some p) =
+    record method { attributes = map (with_code pool (text_of pool names places p)) method.attributes }
+
+abbrev pub put_methods : PoolValue → Names → CodePlaces → List Probed → List Member → List Member
+put_methods pool names places probed methods =
+    map_from (λ number method. put_method pool names places method (probed_of number probed)) 0 methods
