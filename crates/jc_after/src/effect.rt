@@ -127,7 +127,7 @@ fn call_effect(
 fn array_name(alloc: Global, name: &[u8]) -> Result<Vec<u8>, Memory>
     ensures { IfOk result (λ array. array.items ≡ array_name_of name.now) }
 {
-    let mut array = Vec::new(alloc);
+    let mut array = Vec::with_capacity(alloc, name.len().saturating_add(3))?;
     array.push(b'[')?;
     match name {
         [b'[', ..] => {

@@ -39,7 +39,7 @@ fn listed_uses(alloc: Global, pool: &Pool, places: &[u16]) -> Result<List<Use>, 
     ensures uses { IfOk result (λ uses. uses ≡ uses_of pool.now places.now) }
     ensures short { IfOk result (λ uses. All (λ u. HasShortTexts u.what) uses) }
 {
-    let mut uses = Vec::new(alloc);
+    let mut uses = Vec::with_capacity(alloc, places.len())?;
     'listing: for place in places {
         if let Some(what) = what_at(alloc, pool, *place)? {
             uses.push(Use {

@@ -66,8 +66,8 @@ fn read_all(alloc: Global, bytes: &[u8]) -> Result<Spelled, Fail<Refusal>>
     ensures refused { IfErr result (λ e. Refuses e bytes.now) }
 {
     let mut reader = Reader::new(bytes);
-    let mut code = Vec::new(alloc);
-    let mut starts = Vec::new(alloc);
+    let mut code = Vec::with_capacity(alloc, bytes.len() / 2)?;
+    let mut starts = Vec::with_capacity(alloc, bytes.len() / 2)?;
     'reading: while (reader.place() as usize) < bytes.len() {
         starts.push(reader.place())?;
         code.push(next_insn(alloc, &mut reader)?)?;

@@ -85,7 +85,7 @@ pub fn all_numbered(
 ) -> Result<List<Insn>, AllocError>
     ensures { IfOk result (λ code. code ≡ map (with_places (λ offset. slice_index_or numbers.now offset count)) spelled.items) }
 {
-    let mut code = Vec::new(alloc);
+    let mut code = Vec::with_capacity(alloc, spelled.len())?;
     'numbering: for insn in spelled {
         code.push(numbered(alloc, numbers, count, insn)?)?;
     }

@@ -8,9 +8,9 @@ use Rattle.jc_body.proofs.uses.listed_uses.Goals as goal
 
 pub listing-preserved : goal.listing-preserved
 listing-preserved c =
-    let more = lists_more c.args.pool.now c.args.places.now c.listing.place-index c.listing.uses.items c.match-branch-2.uses.items in
-    let short = short_more (get_or c.args.places.now c.listing.place-index 0) c.listing.uses.items c.match-branch-2.uses.items in
-    elim c.match-branch-2.branch [
+    let more = lists_more c.args.pool.now c.args.places.now c.listing.place-index c.listing.uses.items c.match-branch-3.uses.items in
+    let short = short_more (get_or c.args.places.now c.listing.place-index 0) c.listing.uses.items c.match-branch-3.uses.items in
+    elim c.match-branch-3.branch [
       | in-Some+in_ok-push w ↦
           (let put = ap (λ v. v.items) w.uses-is ∙ w.in_ok-push.ensures.items in (
             more (Some w.in-Some.what) c.listing-test.true (sym w.in-Some.is ∙ c.in_ok-what.ensures.what) c.listing.invariant.0 put,
