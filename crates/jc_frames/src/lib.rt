@@ -14,6 +14,7 @@ mod running;
 mod walk;
 
 pub use fault::frame_fault;
+pub use full_classes::take_classes;
 pub use full_frames::write_full;
 pub use items::{FrameForm, FrameItem, TypeForm, TypeItem};
 pub use jc_base::entry_state;
