@@ -20,6 +20,7 @@ pub mod Deciding
 pub mod Names
 pub mod InsnUse
 pub mod WellMade
+pub mod FrameOrder
 pub mod Appending
 pub mod Held
 pub mod DescriptorTypes

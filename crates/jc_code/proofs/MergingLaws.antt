@@ -6,18 +6,18 @@ use Rattle.std.proofs.lemmas.Bool.{cases_lt, ltb-true, lt-ltb}
 use Rattle.std.proofs.lemmas.Bool.Decides.{nat_tests}
 use Rattle.std.proofs.lemmas.List.{drop_all, take_rest}
 use Rattle.jc_base.proofs.AppendingLaws.{drop_is}
+use Rattle.jc_base.specs.FrameOrder.{RiseFrom}
 use Rattle.jc_base.specs.declared.body.FrameAt.{FrameAt}
-use Rattle.jc_emit.specs.TwinFrames.{AreRising}
 use Rattle.jc_layout.specs.Merged.{with_frame, merged}
 use Rattle.jc_code.specs.Merging.{other_first}
 
 -- ---- frames in rising order
 
-pub rising_weaker : (a b : ℕ) (frames : List FrameAt) → b ≤ a → AreRising a frames → AreRising b frames
+pub rising_weaker : (a b : ℕ) (frames : List FrameAt) → b ≤ a → RiseFrom a frames → RiseFrom b frames
 rising_weaker a b [] le r = tt
 rising_weaker a b (f ∷ frames) le r = let above = r.0 in (omega (arith, le, above), r.1)
 
-rising_left : (frames : List FrameAt) (k a : ℕ) → AreRising a frames → AreRising 0 (drop k frames)
+rising_left : (frames : List FrameAt) (k a : ℕ) → RiseFrom a frames → RiseFrom 0 (drop k frames)
 rising_left frames zero a r = rising_weaker a 0 frames (omega arith) r
 rising_left [] (suc k) a r = tt
 rising_left (f ∷ frames) (suc k) a r = rising_left frames k (f.at + 1) r.1
@@ -32,7 +32,7 @@ BeginsFrom n (f ∷ frames) = n ≤ f.at
 not_less : (a b : ℕ) → b ≤ a → nat_lt a b ≡ false
 not_less a b le = grind (arith, nat_tests)
 
-begins : (n : ℕ) (frames others : List FrameAt) → AreRising n frames → AreRising n others → BeginsFrom n (merged frames others)
+begins : (n : ℕ) (frames others : List FrameAt) → RiseFrom n frames → RiseFrom n others → BeginsFrom n (merged frames others)
 begins n [] [] r s = tt
 begins n (f ∷ frames) [] r s = r.0
 begins n frames (o ∷ others) r s =
@@ -51,11 +51,11 @@ with_front o [] b = refl
 with_front o (g ∷ all) b =
     ap (λ (t : Bool). if t then o ∷ g ∷ all else g ∷ with_frame o all) (lt-ltb o.at g.at (omega (arith, b)))
 
-other_before : (o : FrameAt) (frames others : List FrameAt) → AreRising (o.at + 1) frames → AreRising (o.at + 1) others
+other_before : (o : FrameAt) (frames others : List FrameAt) → RiseFrom (o.at + 1) frames → RiseFrom (o.at + 1) others
     → merged frames (o ∷ others) ≡ o ∷ merged frames others
 other_before o frames others r s = with_front o (merged frames others) (begins (o.at + 1) frames others r s)
 
-frame_before : (f : FrameAt) (frames others : List FrameAt) → AreRising f.at others → merged (f ∷ frames) others ≡ f ∷ merged frames others
+frame_before : (f : FrameAt) (frames others : List FrameAt) → RiseFrom f.at others → merged (f ∷ frames) others ≡ f ∷ merged frames others
 frame_before f frames [] s = refl
 frame_before f frames (o ∷ others) s =
     let above = s.0 in
@@ -69,12 +69,12 @@ some_first [] lt = absurd (omega (arith, lt))
 some_first (o ∷ others) lt = refl
 
 -- where one of the others comes first, all of these frames stand behind it
-first_before : (o : FrameAt) (frames others : List FrameAt) → AreRising 0 frames → true ≡ other_first frames (o ∷ others) → AreRising (o.at + 1) frames
+first_before : (o : FrameAt) (frames others : List FrameAt) → RiseFrom 0 frames → true ≡ other_first frames (o ∷ others) → RiseFrom (o.at + 1) frames
 first_before o [] others r e = tt
 first_before o (f ∷ frames) others r e = let less = ltb-true o.at f.at (sym e) in (omega (arith, less), r.1)
 
 -- where none of the others comes first, all of them stand at the first frame or behind it
-none_before : (f : FrameAt) (frames others : List FrameAt) → AreRising 0 others → false ≡ other_first (f ∷ frames) others → AreRising f.at others
+none_before : (f : FrameAt) (frames others : List FrameAt) → RiseFrom 0 others → false ≡ other_first (f ∷ frames) others → RiseFrom f.at others
 none_before f frames [] r e = tt
 none_before f frames (o ∷ others) r e = (not_above o.at f.at (sym e), r.1)
   where
@@ -114,13 +114,13 @@ module _ (frames others : List FrameAt) (at other : ℕ) where
         let is = first_is true e ∙ ap (λ (l : List FrameAt). other_first (drop at frames) l) (drop_all other others done) in absurd (true≢false is)
   ]
 
-  pub takes_other : AreRising 0 frames → AreRising 0 others → (o copy : FrameAt) (all next whole : List FrameAt) → other < length others
+  pub takes_other : RiseFrom 0 frames → RiseFrom 0 others → (o copy : FrameAt) (all next whole : List FrameAt) → other < length others
       → o ≡ get_or others other o → First true → copy ≡ o → next ≡ all ++ copy ∷ []
       → all ++ merged (drop at frames) (drop other others) ≡ whole → next ++ merged (drop at frames) (drop (other + 1) others) ≡ whole
   takes_other r s o copy all next whole lt is first same grown before =
       let rest = drop (other + 1) others in
       let split = drop_is others other o lt is in
-      let left = subst (λ (l : List FrameAt). AreRising 0 l) split (rising_left others other 0 s) in
+      let left = subst (λ (l : List FrameAt). RiseFrom 0 l) split (rising_left others other 0 s) in
       let behind = first_before o (drop at frames) rest (rising_left frames at 0 r)
       (first_is true first ∙ ap (λ (l : List FrameAt). other_first (drop at frames) l) split) in
       ap (λ (l : List FrameAt). l ++ merged (drop at frames) rest) (grown ∙ ap (λ (x : FrameAt). all ++ x ∷ []) same)
@@ -129,7 +129,7 @@ module _ (frames others : List FrameAt) (at other : ℕ) where
       ∙ ap (λ (l : List FrameAt). all ++ merged (drop at frames) l) (sym split)
       ∙ before
 
-  pub takes_frame : AreRising 0 others → (f copy : FrameAt) (all next whole : List FrameAt) → at < length frames
+  pub takes_frame : RiseFrom 0 others → (f copy : FrameAt) (all next whole : List FrameAt) → at < length frames
       → f ≡ get_or frames at f → First false → copy ≡ f → next ≡ all ++ copy ∷ []
       → all ++ merged (drop at frames) (drop other others) ≡ whole → next ++ merged (drop (at + 1) frames) (drop other others) ≡ whole
   takes_frame s f copy all next whole lt is first same grown before =

@@ -1,13 +1,14 @@
 -- What the writing of a Code attribute relies on.
 use Rattle.std.specs.Prelude.{◌≡◌, ℕ, ◌+◌, ◌≤◌, List, [], ◌∷◌, length}
 use Rattle.std.specs.List.{AllByRecursion}
+use Rattle.jc_base.specs.FrameOrder.{RiseFrom}
 use Rattle.jc_base.specs.Held.{Names}
 use Rattle.jc_base.specs.declared.body.FrameAt.{FrameAt}
 use Rattle.jc_base.specs.declared.emitted.Emitted.{Emitted}
 use Rattle.jc_pool.specs.Adding.{IsFirst}
 use Rattle.jc_pool.specs.Lookup.{utf8_of}
 use Rattle.jc_pool.specs.Pool.{PoolValue}
-use Rattle.jc_frames.specs.FullTable.{FitsFull, HasPlace, RiseFrom, named_by_all}
+use Rattle.jc_frames.specs.FullTable.{FitsFull, HasPlace, named_by_all}
 use Rattle.jc_layout.specs.Layout.{is_wide, chosen_starts, chosen_text, most_bytes}
 use Rattle.jc_layout.specs.declared.layouts.Laid.{Laid}
 use Rattle.jc_code.specs.declared.code.CodePlaces.{CodePlaces}

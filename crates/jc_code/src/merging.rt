@@ -1,6 +1,6 @@
 //! The frames of the wide layout.
 ghost use Rattle.std.specs.Prelude.{◌≡◌, IfOk, IsTrue};
-ghost use Rattle.jc_emit.specs.TwinFrames.{AreRising};
+ghost use Rattle.jc_base.specs.FrameOrder.{RiseFrom};
 ghost use Rattle.jc_layout.specs.Layout.{is_wide};
 ghost use Rattle.jc_layout.specs.Merged.{merged as merged_list};
 ghost use Rattle.jc_code.specs.Merging.{other_first};
@@ -34,8 +34,8 @@ pub fn merged_frames(
     frames: &[FrameAt],
     others: &[FrameAt],
 ) -> Result<List<FrameAt>, Memory>
-    requires frames { AreRising 0 frames.now }
-    requires others { AreRising 0 others.now }
+    requires frames { RiseFrom 0 frames.now }
+    requires others { RiseFrom 0 others.now }
     ensures { IfOk result (λ all. all ≡ merged_list frames.now others.now) }
 {
     let mut all = List::new(alloc);

@@ -1,11 +1,12 @@
 //! Code attributes whose bytes are put down by hand from the JVM Specification.
 ghost use Rattle.std.specs.Prelude.{◌≡◌, ◌≤◌, ◌+◌, ◌∷◌, [], All, IfOk, IsTrue, length, map, Some, slice_get};
 ghost use Rattle.std.specs.List.{AllByRecursion};
+ghost use Rattle.jc_base.specs.FrameOrder.{RiseFrom};
 ghost use Rattle.jc_base.specs.Held.{seen_at};
 ghost use Rattle.jc_base.specs.Insn.{IsWellFormed, arm_count};
 ghost use Rattle.jc_base.specs.InsnUse.{LeadsWithin};
 ghost use Rattle.jc_base.specs.declared.kind.Kind.TheVariants as kinds;
-ghost use Rattle.jc_frames.specs.FullTable.{FitsFull, HasPlace, RiseFrom, named_by_all};
+ghost use Rattle.jc_frames.specs.FullTable.{FitsFull, HasPlace, named_by_all};
 ghost use Rattle.jc_layout.specs.Layable.{IsLayable};
 ghost use Rattle.jc_code.specs.Given.{IsLaid};
 

@@ -18,11 +18,12 @@ use Rattle.jc_plan.specs.declared.branch.Branch.{Branch}
 use Rattle.jc_plan.specs.Probed.{probe_of}
 use Rattle.jc_plan.specs.Plan.{lead_probe}
 use Rattle.jc_base.proofs.FirstSeenLaws.{contains_none, contains_one, contains_first, contains_cases, contains_later}
+use Rattle.jc_base.specs.FrameOrder.{RiseFrom}
 use Rattle.jc_after.specs.Shift.{renamed, shifted}
 use Rattle.jc_emit.specs.Shift.{shifted_state, image_kind, probe_array_class}
 use Rattle.jc_emit.specs.Sizes.{insn_at, late_by, late_probe, arms_at, probe_size, hop_size, arm_sizes}
 use Rattle.jc_emit.specs.TwinCode.{to_of, arm_place}
-use Rattle.jc_emit.specs.TwinFrames.{state_at, left_by, IsNarrowFrame, AreRising, AreTwinFrames}
+use Rattle.jc_emit.specs.TwinFrames.{state_at, left_by, IsNarrowFrame, AreTwinFrames}
 use Rattle.jc_emit.specs.Items.{lead_of, land_of, image_of}
 use Rattle.jc_emit.specs.Emission.{frame, frame_if, moved_state, has_frame, has_inverse, arm_frame, arm_frames, frames_at}
 use Rattle.jc_emit.proofs.Others.{Arms, Agrees, agrees_first, agrees_rest, arms_by_list, none_some}
@@ -151,7 +152,7 @@ module _ (b : Body) (first : ℕ) (states : List State) (array : ℕ) (names : L
       (rises_if (lands_there i) (frame (land i) (moved (state_at states i))) (land i) (q_of i + 1) (λ t. (omega arith, omega arith)) (omega arith))
       (rises_to (q_of i + 1) (q_of i + 1 + arm_sizes (probe_of b first) (arms_at b.code i)) (lead (suc i)) (arms_part i) (omega arith) (arms_rise (q_of i + 1) (moved (left i)) (arms_at b.code i))))
 
-  all_rise : AreRising 0 (pieces part (length b.code))
+  all_rise : RiseFrom 0 (pieces part (length b.code))
   all_rise =
       are_rising 0 (lead (length b.code)) (pieces part (length b.code)) (rises_from 0 2 (lead (length b.code)) _ (omega arith) (rises_pieces part lead part_rises (length b.code)))
 

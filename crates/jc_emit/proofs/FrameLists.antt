@@ -6,7 +6,7 @@ use Rattle.std.proofs.lemmas.List.Elements.{Contains-append_left, Contains-appen
 use Rattle.jc_base.specs.PlainLists.{pieces}
 use Rattle.jc_base.specs.declared.body.FrameAt.{FrameAt}
 use Rattle.jc_base.proofs.FirstSeenLaws.{contains_none, contains_one, contains_first, contains_cases}
-use Rattle.jc_emit.specs.TwinFrames.{AreRising}
+use Rattle.jc_base.specs.FrameOrder.{RiseFrom}
 use Rattle.jc_emit.specs.Emission.{frame_if}
 
 -- each stands behind the one before it, from a place on and below another
@@ -31,7 +31,7 @@ pub rises_pieces : (g : ℕ → List FrameAt) (at : ℕ → ℕ) → ((i : ℕ) 
 rises_pieces g at r zero = omega arith
 rises_pieces g at r (suc n) = rises_both (at 0) (at n) (at (suc n)) (pieces g n) (g n) (rises_pieces g at r n) (r n)
 
-pub are_rising : (a b : ℕ) (frames : List FrameAt) → Rises a b frames → AreRising a frames
+pub are_rising : (a b : ℕ) (frames : List FrameAt) → Rises a b frames → RiseFrom a frames
 are_rising a b [] r = tt
 are_rising a b (f ∷ frames) r = (r.0, are_rising (f.at + 1) b frames r.1)
 

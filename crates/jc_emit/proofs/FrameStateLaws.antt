@@ -15,8 +15,9 @@ use Rattle.jc_base.specs.Held.{Names, Seen, held, seen, IsNumbered, IsNumberedSt
 use Rattle.jc_base.specs.WellMade.{IsWellMadeOfAnySize, AreFramesFrom}
 use Rattle.jc_base.specs.declared.insn.Insn.{Insn}
 use Rattle.jc_base.proofs.FirstSeenLaws.{contains_none, contains_cases}
+use Rattle.jc_base.specs.FrameOrder.{RiseFrom}
 use Rattle.jc_kinds.specs.Answers.{AreStates}
-use Rattle.jc_emit.specs.TwinFrames.{no_state, state_at, AreRising}
+use Rattle.jc_emit.specs.TwinFrames.{no_state, state_at}
 use Rattle.jc_emit.specs.Emission.{HasFrameStates}
 use Rattle.jc_emit.proofs.StraddlingLaws.{frame_within}
 use Rattle.jc_emit.proofs.TwinPremises.{frame_found}
@@ -37,7 +38,7 @@ one_number (x ∷ names) zero (suc n) d lm ln e = absurd (unlike_at x names n d.
 one_number (x ∷ names) (suc m) zero d lm ln e = absurd (unlike_at x names m d.0 (omega arith) (sym e))
 one_number (x ∷ names) (suc m) (suc n) d lm ln e = ap suc (one_number names m n d.1 (omega arith) (omega arith) e)
 
-frames_rise : (first : ℕ) (code : List Insn) (locals stack : ℕ) (frames : List FrameAt) → AreFramesFrom first code locals stack frames → AreRising first frames
+frames_rise : (first : ℕ) (code : List Insn) (locals stack : ℕ) (frames : List FrameAt) → AreFramesFrom first code locals stack frames → RiseFrom first frames
 frames_rise first code locals stack [] are = tt
 frames_rise first code locals stack (f ∷ frames) are = (are.0, frames_rise (f.at + 1) code locals stack frames are.3)
 

@@ -19,9 +19,10 @@ use Rattle.jc_plan.specs.Edges.{branches_by}
 use Rattle.jc_plan.specs.Probed.{probe_of}
 use Rattle.jc_plan.specs.Plan.{lead_probe}
 use Rattle.jc_base.proofs.FirstSeenLaws.{contains_none, contains_cases}
+use Rattle.jc_base.specs.FrameOrder.{RiseFrom}
 use Rattle.jc_emit.specs.Sizes.{insn_at, late_by, late_probe, arms_by, arms_at, hop_size, arm_sizes, wide_by, wide_size}
 use Rattle.jc_emit.specs.TwinCode.{to_of, arm_place}
-use Rattle.jc_emit.specs.TwinFrames.{no_state, state_at, state_behind, IsFrameBehind, IsNarrowFrame, IsFrame, AreRising}
+use Rattle.jc_emit.specs.TwinFrames.{no_state, state_at, state_behind, IsFrameBehind, IsNarrowFrame, IsFrame}
 use Rattle.jc_emit.specs.Items.{Item, lead_of, land_of, image_of, twin_items, extra_of}
 use Rattle.jc_emit.specs.Local.{Lands, IsBehind, early_of, IsNoHop}
 use Rattle.jc_emit.proofs.Built.{size_tests, size_switches}
@@ -34,7 +35,7 @@ use Rattle.jc_base.specs.declared.insn.Flow.TheVariants as flows
 use Rattle.jc_after.specs.After as after
 
 are_rising : (first : ℕ) (code : List Insn) (locals stack : ℕ) (frames : List FrameAt) → AreFramesFrom first code locals stack frames
-    → AreRising first frames
+    → RiseFrom first frames
 are_rising first code locals stack [] are = tt
 are_rising first code locals stack (f ∷ frames) are = (are.0, are_rising (f.at + 1) code locals stack frames are.3)
 

@@ -23,13 +23,14 @@ use Rattle.jc_kinds.specs.Checked.{Checked, HasFrame}
 use Rattle.jc_kinds.specs.Answers.{AreStates}
 use Rattle.jc_after.specs.Shift.{with_slot, shifted, IsImage, led, inverted, HasImages}
 use Rattle.jc_base.proofs.TestLaws.{which_in, none_in}
+use Rattle.jc_base.specs.FrameOrder.{RiseFrom}
 use Rattle.jc_plan.specs.Probed.{probe_of}
 use Rattle.jc_plan.specs.Plan.{lead_probe}
 use Rattle.jc_emit.proofs.StateLaws.{frame_is}
 use Rattle.jc_emit.specs.Sizes.{insn_at, early_probe, late_probe, arms_at}
 use Rattle.jc_emit.specs.TwinCode.{arm_place}
 use Rattle.jc_emit.specs.TwinTables.{AreMovedTables}
-use Rattle.jc_emit.specs.TwinFrames.{IsFrame, AreRising, AreTwinFrames}
+use Rattle.jc_emit.specs.TwinFrames.{IsFrame, AreTwinFrames}
 use Rattle.jc_emit.specs.Twin.{Twin, IsSameMethod, probe_init, KeepsUses}
 use Rattle.jc_emit.specs.Straddling.{NoneStraddles}
 use Rattle.jc_emit.specs.Items.{Item, insn_of, image, segment_size, lead_of, land_of, image_of, test_part, image_part, twin_items}
@@ -136,14 +137,14 @@ goes_not insn flow e h g = h (sym e ∙ g)
 
 -- ---- frames
 
-pub risen : (from : ℕ) (frames : List FrameAt) (f : FrameAt) → AreRising from frames → Contains frames f → from ≤ f.at
+pub risen : (from : ℕ) (frames : List FrameAt) (f : FrameAt) → RiseFrom from frames → Contains frames f → from ≤ f.at
 risen from [] f r c = absurd (none_in f c)
 risen from (g ∷ frames) f r c =
     ⊎_elim (λ same. let e : g.at ≡ f.at = ap (λ (x : FrameAt). x.at) same in let le = r.0 in omega (arith, e, le))
     (λ later. let more = risen (g.at + 1) frames f r.1 later in let le = r.0 in omega (arith, more, le))
     (which_in g frames f c)
 
-pub frame_found : (names : Names) (from : ℕ) (frames : List FrameAt) (f : FrameAt) → AreRising from frames → Contains frames f
+pub frame_found : (names : Names) (from : ℕ) (frames : List FrameAt) (f : FrameAt) → RiseFrom from frames → Contains frames f
     → frame_at (map (seen_at names) frames) f.at ≡ Some (seen names f.state)
 frame_found names from [] f r c = absurd (none_in f c)
 frame_found names from (g ∷ frames) f r c =

@@ -16,12 +16,13 @@ use Rattle.jc_plan.specs.declared.branch.Branch.{Branch}
 use Rattle.jc_plan.specs.Probed.{probe_of}
 use Rattle.jc_plan.specs.Plan.{lead_probe}
 use Rattle.jc_base.proofs.FirstSeenLaws.{contains_none}
+use Rattle.jc_base.specs.FrameOrder.{RiseFrom}
 use Rattle.jc_after.specs.Shift.{shifted}
 use Rattle.jc_emit.specs.Shift.{probe_array_class}
 use Rattle.jc_emit.specs.Sizes.{insn_at, late_probe, arms_by, arms_at, probe_size, hop_size, arm_sizes, behind_size}
 use Rattle.jc_emit.specs.Marks.{image_place, land_place, lead_place}
 use Rattle.jc_emit.specs.TwinTables.{AreMovedTables, moved_row, moved_line, moved_var}
-use Rattle.jc_emit.specs.TwinFrames.{state_at, left_by, state_behind, IsFrameBehind, IsFrame, AreRising, AreTwinFrames}
+use Rattle.jc_emit.specs.TwinFrames.{state_at, left_by, state_behind, IsFrameBehind, IsFrame, AreTwinFrames}
 use Rattle.jc_emit.specs.Items.{own_of, segment_size, lead_of, land_of, image_of, twin_items}
 use Rattle.jc_emit.specs.Emission.{frame, frame_if, moved_state, has_frame, has_inverse, arm_frames, frames_at, is_further, wide_frames_at, emission}
 use Rattle.jc_emit.specs.Twin.{HasFrameAt, IsFurtherFrame, IsEmitted}
@@ -77,7 +78,7 @@ module _ (b : Body) (first : ℕ) (states : List State) (array : ℕ) (names : L
   lead_grows : (i j : ℕ) → i ≤ j → lead i ≤ lead j
   lead_grows i j le = omega (arith, total_grows (segment_size b first false) i j le)
 
-  wide_rise : AreRising 0 (pieces wide (length b.code))
+  wide_rise : RiseFrom 0 (pieces wide (length b.code))
   wide_rise =
       are_rising 0 (q_of (length b.code) + 1) (pieces wide (length b.code))
       (rises_from 0 (q_of 0 + 1) (q_of (length b.code) + 1) (pieces wide (length b.code)) (omega arith)

@@ -12,13 +12,14 @@ use Rattle.jc_base.specs.declared.body.FrameAt.{FrameAt}
 use Rattle.jc_base.specs.declared.insn.Flow.{Flow}
 use Rattle.jc_plan.specs.declared.branch.Branch.{Branch}
 use Rattle.jc_base.proofs.FirstSeenLaws.{contains_none}
+use Rattle.jc_base.specs.FrameOrder.{RiseFrom}
 use Rattle.jc_plan.specs.Probed.{probe_of}
 use Rattle.jc_plan.specs.Plan.{lead_probe}
 use Rattle.jc_after.specs.Shift.{renamed, shifted}
 use Rattle.jc_emit.specs.Shift.{probe_array_class}
 use Rattle.jc_emit.specs.Sizes.{insn_at, late_probe, early_probe, arms_by, arms_at, probe_size, hop_size}
 use Rattle.jc_emit.specs.TwinCode.{to_of, arm_place}
-use Rattle.jc_emit.specs.TwinFrames.{state_at, state_behind, IsNarrowFrame, IsFrame, AreRising, AreTwinFrames}
+use Rattle.jc_emit.specs.TwinFrames.{state_at, state_behind, IsNarrowFrame, IsFrame, AreTwinFrames}
 use Rattle.jc_emit.specs.Items.{image_part, insn_of, lead_of, land_of, image_of, twin_items}
 use Rattle.jc_emit.specs.Emission.{has_frame, has_inverse, is_further, frames_at, wide_frames_at, emission, widened_state, widened_frame, AreWidened}
 use Rattle.jc_emit.proofs.Built.{sized}
@@ -251,7 +252,7 @@ module _ (b : Body) (first : ℕ) (states : List State) (array : ℕ) (names : L
         let there = behind_there o.test o.within o.tests (late_probe b first o.test) refl in
         subst (λ z. IsThere q z) (sym o.state_is) (subst (λ k. IsThere k (state_behind b states o.test (late_probe b first o.test))) (sym o.place) there)
 
-    pub wide_told : AreRising 0 frames → AreTwinFrames names names b.arg_slots (image_of b first true) Wide frames
+    pub wide_told : RiseFrom 0 frames → AreTwinFrames names names b.arg_slots (image_of b first true) Wide frames
     wide_told rising = record { rising = rising; each = wide_each; every = wide_every }
 
 pub widened_frames : (b : Body) (first : ℕ) (states : List State) (array : ℕ) (names : List (List ℕ)) → IsWellMadeOfAnySize b

@@ -4,6 +4,7 @@ use Rattle.std.specs.List.{list_any}
 use Rattle.jc_base.specs.Held.{Names}
 use Rattle.jc_base.specs.PlainLists.{pieces}
 use Rattle.jc_base.specs.Flow.{flow_of}
+use Rattle.jc_base.specs.FrameOrder.{RiseFrom}
 use Rattle.jc_base.specs.declared.insn.Flow.{Flow}
 use Rattle.jc_base.specs.declared.kind.State.{State}
 use Rattle.jc_base.specs.declared.body.Body.{Body}
@@ -16,7 +17,7 @@ use Rattle.jc_emit.specs.Shift.{probe_array_class, shifted_state, image_kind}
 use Rattle.jc_emit.specs.Sizes.{insn_at, late_probe, arms_at, hop_size}
 use Rattle.jc_base.specs.Widened.{wide_place}
 use Rattle.jc_emit.specs.TwinTables.{moved_row, moved_line, moved_var}
-use Rattle.jc_emit.specs.TwinFrames.{state_at, left_by, state_behind, AreRising}
+use Rattle.jc_emit.specs.TwinFrames.{state_at, left_by, state_behind}
 use Rattle.jc_emit.specs.Items.{Item, insn_of, at_of, own_of, extra_of, lead_of, land_of, image_of, twin_items}
 use Rattle.jc_base.specs.declared.insn.Flow.TheVariants as flows
 
@@ -109,7 +110,7 @@ widened_frame place f = record { at = place f.at; state = widened_state place f.
 
 -- the frames of the narrow layout and the further ones, in the wide code, one at each place
 pub record AreWidened (e : Emitted) (frames : List FrameAt) : Type 0 where
-  pub rising : AreRising 0 frames
+  pub rising : RiseFrom 0 frames
   pub each : (f : FrameAt) → Contains frames f
       → (g : FrameAt) × (Contains e.frames g ⊎ Contains e.wide_frames g) × (f ≡ widened_frame (wide_place e.code) g)
   pub every : (g : FrameAt) → Contains e.frames g ⊎ Contains e.wide_frames g → Contains frames (widened_frame (wide_place e.code) g)

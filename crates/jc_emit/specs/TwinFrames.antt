@@ -1,6 +1,7 @@
 -- The stack map frames of the twin of a body (JVM Specification 4.7.4).
 use Rattle.std.specs.Prelude.{◌≡◌, ◌⊎◌, ⊤, ℕ, ◌+◌, ◌-◌, ◌<◌, ◌≤◌, Bool, true, false, List, [], ◌∷◌, length, take, Option, Some, None, nat_le, ◌&&◌, if◌then◌else◌, slice_index_or, Contains}
 use Rattle.jc_base.specs.Flow.{flow_of}
+use Rattle.jc_base.specs.FrameOrder.{RiseFrom}
 use Rattle.jc_base.specs.Held.{Names, seen}
 use Rattle.jc_base.specs.Opcode as opcode
 use Rattle.jc_base.specs.declared.insn.Insn.{Insn}
@@ -90,15 +91,10 @@ module _ (b : Body) (first : ℕ) (states : List State) (image land lead : ℕ �
   IsFrame false q state = IsNarrowFrame q state
   IsFrame true q state = IsNarrowFrame q state ⊎ IsFrameBehind 2 q state
 
--- each frame stands behind the one before it, so there is one at a place
-abbrev pub AreRising : ℕ → List FrameAt → Type 0
-AreRising from [] = ⊤
-AreRising from (f ∷ frames) = (from ≤ f.at) × AreRising (f.at + 1) frames
-
 -- The frames are exactly those that are asked for, one at each place, each with the shifted state, by the names of
 -- classes.
 pub record AreTwinFrames (names new_names : Names) (v : ℕ) (image : ℕ → ℕ) (Asked : ℕ → State → Type 0) (frames : List FrameAt) : Type 0 where
-  pub rising : AreRising 0 frames
+  pub rising : RiseFrom 0 frames
   pub each : (f : FrameAt) → Contains frames f
       → (state : State) × Asked f.at state × (seen new_names f.state ≡ shifted image v (seen names state))
   pub every : (q : ℕ) (state : State) → Asked q state

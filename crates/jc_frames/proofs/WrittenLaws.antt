@@ -14,6 +14,7 @@ use Rattle.jc_base.specs.Opcode as opcode
 use Rattle.jc_base.specs.declared.kind.Kind.{Kind}
 use Rattle.jc_base.specs.declared.kind.Kind.TheVariants as kinds
 use Rattle.jc_base.specs.Decoder.{◌>>=◌}
+use Rattle.jc_base.specs.FrameOrder.{RiseFrom}
 use Rattle.jc_base.specs.Held.{Names, Held, top, int, float, double, long, null, uninit_this, object, uninit, class_names, held, seen_at, is_pair, slots, width, IsNumberedState, AreNumberedFrames}
 use Rattle.jc_base.specs.Starts.{insn_number}
 use Rattle.jc_base.specs.WellMade as made
@@ -22,7 +23,7 @@ use Rattle.jc_pool.specs.Lookup.{class_in, class_name_of, utf8_of}
 use Rattle.jc_pool.specs.Pool.{PoolValue}
 use Rattle.jc_frames.specs.Frames.{Ground, is_new, values_in}
 use Rattle.jc_frames.specs.FullFrames.{Places, BeginsWithTop, ArePaired, StartsAt, HasPlaces, IsWritable, AreRising}
-use Rattle.jc_frames.specs.FullTable.{IsPlaced, FitsFull, RiseFrom, OffsetsRise, AreRisingOffsets, AreShort, HasPlace, ArePlacesIn, named_by, named_by_all}
+use Rattle.jc_frames.specs.FullTable.{IsPlaced, FitsFull, OffsetsRise, AreRisingOffsets, AreShort, HasPlace, ArePlacesIn, named_by, named_by_all}
 use Rattle.jc_frames.specs.ReadBack.{FramesCanBeWritten, WrittenFramesReadBack}
 use Rattle.jc_frames.proofs.FullLaws.{read_back}
 use Rattle.jc_frames.proofs.FullTextLaws.{both_parts, later_offset, offsets_rise}

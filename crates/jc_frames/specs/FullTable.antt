@@ -3,6 +3,7 @@ use Rattle.std.specs.Prelude.{◌≡◌, ◌⊎◌, ⊤, ℕ, ◌+◌, ◌<◌, 
 use Rattle.std.specs.List.{flat_map, AllByRecursion}
 use Rattle.std.specs.HashMap.{HashMap, get}
 use Rattle.std.specs.HashSet.{HashSet, contains}
+use Rattle.jc_base.specs.FrameOrder.{RiseFrom}
 use Rattle.jc_base.specs.declared.body.FrameAt.{FrameAt}
 use Rattle.jc_base.specs.declared.fail.Fail.{Fail}
 use Rattle.jc_base.specs.declared.fail.Fail.TheVariants as fails
@@ -31,11 +32,6 @@ pub record FitsFull (insns names : ℕ) (f : FrameAt) : Type 0 where
   pub numbered : IsNumberedState names f.state
   pub local_places : AllByRecursion (IsPlaced insns) f.state.locals
   pub stack_places : AllByRecursion (IsPlaced insns) f.state.stack
-
--- the frames stand in rising order of their places, from one on
-abbrev pub RiseFrom : ℕ → List FrameAt → Type 0
-RiseFrom first [] = ⊤
-RiseFrom first (f ∷ frames) = (first ≤ f.at) × RiseFrom (f.at + 1) frames
 
 -- each offset is a number of two bytes
 abbrev pub AreShort : List ℕ → Type 0

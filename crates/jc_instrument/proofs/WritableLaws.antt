@@ -21,7 +21,8 @@ use Rattle.jc_base.specs.declared.kind.Kind.{Kind}
 use Rattle.jc_base.specs.declared.kind.Kind.TheVariants as kinds
 use Rattle.jc_base.specs.declared.kind.State.{State}
 use Rattle.jc_base.proofs.FirstSeenLaws.{contains_none, contains_one, contains_first, contains_later}
-use Rattle.jc_frames.specs.FullTable.{AreRisingOffsets, FitsFull, IsPlaced, RiseFrom}
+use Rattle.jc_base.specs.FrameOrder.{RiseFrom}
+use Rattle.jc_frames.specs.FullTable.{AreRisingOffsets, FitsFull, IsPlaced}
 use Rattle.jc_frames.proofs.BuildingLaws.{by_recursion}
 use Rattle.jc_kinds.specs.Answers.{AreStates, IsStateAt}
 use Rattle.jc_plan.specs.declared.branch.Branch.{Branch}
@@ -30,7 +31,7 @@ use Rattle.jc_plan.specs.Plan.{lead_probe}
 use Rattle.jc_plan.proofs.CountLaws.{each_joined, each_mapped}
 use Rattle.jc_emit.specs.Shift.{image_kind, probe_array_class, shifted_state}
 use Rattle.jc_emit.specs.Sizes.{insn_at, late_probe, arms_at, hop_size, arm_sizes}
-use Rattle.jc_emit.specs.TwinFrames.{no_state, operands_of, state_at, left_by, state_behind, AreRising}
+use Rattle.jc_emit.specs.TwinFrames.{no_state, operands_of, state_at, left_by, state_behind}
 use Rattle.jc_emit.specs.Items.{insn_of, lead_of, land_of, image_of, segment_size, twin_items}
 use Rattle.jc_emit.specs.Emission.{emission, IsArrayNumber, frame, frame_if, moved_state, has_frame, has_inverse, is_further, arm_frame, arm_frames, frames_at, wide_frames_at}
 use Rattle.jc_emit.specs.Twin.{IsEmitted}
@@ -304,11 +305,7 @@ all_listed : (P : FrameAt → Type 0) (frames : List FrameAt) → ((f : FrameAt)
 all_listed P [] each = tt
 all_listed P (f ∷ frames) each = (each f (contains_first f frames), all_listed P frames (λ g c. each g (contains_later f frames g c)))
 
-rise_from : (from : ℕ) (frames : List FrameAt) → AreRising from frames → RiseFrom from frames
-rise_from from [] rising = tt
-rise_from from (f ∷ frames) rising = (rising.0, rise_from (f.at + 1) frames rising.1)
-
-count_below : (from end : ℕ) (frames : List FrameAt) → AreRising from frames → AllByRecursion (λ f. f.at ≤ end) frames → from ≤ end + 1 → from + length frames ≤ end + 1
+count_below : (from end : ℕ) (frames : List FrameAt) → RiseFrom from frames → AllByRecursion (λ f. f.at ≤ end) frames → from ≤ end + 1 → from + length frames ≤ end + 1
 count_below from end [] rising all le = omega (arith, le)
 count_below from end (f ∷ frames) rising all le =
     let first = rising.0 in
@@ -316,7 +313,7 @@ count_below from end (f ∷ frames) rising all le =
     let more = count_below (f.at + 1) end frames rising.1 all.1 (omega (arith, here)) in
     omega (arith, first, more)
 
-few_frames : (end names : ℕ) (frames : List FrameAt) → AreRising 0 frames → AllByRecursion (IsDone end names) frames → 1 ≤ end → length frames + 1 ≤ end
+few_frames : (end names : ℕ) (frames : List FrameAt) → RiseFrom 0 frames → AllByRecursion (IsDone end names) frames → 1 ≤ end → length frames + 1 ≤ end
 few_frames end names [] rising all some = omega (arith, some)
 few_frames end names (f ∷ frames) rising all some =
     let behind = all.0.behind in
@@ -404,7 +401,7 @@ module _ (names : Names) (b : Body) (first : ℕ) (states : List State) (array :
   abbrev q : Emitted
   q = p.emitted
 
-  chosen_rise : (t : Bool) → AreRising 0 (if t then merged q.frames q.wide_frames else q.frames)
+  chosen_rise : (t : Bool) → RiseFrom 0 (if t then merged q.frames q.wide_frames else q.frames)
   chosen_rise false = told.frames.rising
   chosen_rise true =
       merged_rises q.frames q.wide_frames 0 told.frames.rising told.wide_frames.rising
@@ -427,7 +424,7 @@ module _ (names : Names) (b : Body) (first : ℕ) (states : List State) (array :
         let insns = few_insns p made.laid in
         let count = code_count in
         omega (arith, same, most, insns, count);
-    rising = subst (RiseFrom 0) (sym (frames_chosen p made.laid made.merged)) (rise_from 0 (chosen_frames q) (chosen_rise (is_wide q.code)));
+    rising = subst (RiseFrom 0) (sym (frames_chosen p made.laid made.merged)) (chosen_rise (is_wide q.code));
     each = subst (AllByRecursion (FitsFull (length q.code + 1) (length names))) (sym (frames_chosen p made.laid made.merged))
         (subst (λ (n : ℕ). AllByRecursion (FitsFull (n + 1) (length names)) (chosen_frames q)) (sym code_count)
         (each_mapped IsFine (FitsFull (last + 1) (length names)) (chosen_frames q) (λ f done. fits last (length names) f done) all_done));

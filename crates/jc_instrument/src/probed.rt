@@ -1,5 +1,6 @@
 //! The instrumented code of the bodies of a class.
 ghost use Rattle.std.specs.Prelude.{◌≡◌, ◌≤◌, ℕ, true, length, All, IfOk, IfErr};
+ghost use Rattle.jc_base.specs.FrameOrder.{RiseFrom};
 ghost use Rattle.jc_base.specs.Held.{Grows, AreNumberedFrames};
 ghost use Rattle.jc_base.specs.WellMade.{IsWellMade};
 ghost use Rattle.jc_kinds.specs.Answers.{AreStates, Said};
@@ -7,7 +8,6 @@ ghost use Rattle.jc_plan.specs.Plan.{plan_of};
 ghost use Rattle.jc_emit.specs.Placing.{HasPlan};
 ghost use Rattle.jc_emit.specs.Emission.{emission, IsArrayNumber};
 ghost use Rattle.jc_emit.specs.Twin.{IsEmitted};
-ghost use Rattle.jc_emit.specs.TwinFrames.{AreRising};
 ghost use Rattle.jc_layout.specs.Layable.{IsLayable};
 ghost use Rattle.jc_layout.specs.Layout.{chosen_length};
 ghost use Rattle.jc_layout.specs.Merged.{merged};
@@ -71,8 +71,8 @@ fn emitted(
     ensures locals { IfOk result (λ e. e.max_locals ≤ 65535) }
     ensures stack { IfOk result (λ e. e.max_stack ≤ 65535) }
     ensures layable { IfOk result (λ e. IsLayable e.code) }
-    ensures frames { IfOk result (λ e. AreRising 0 e.frames) }
-    ensures wide_frames { IfOk result (λ e. AreRising 0 e.wide_frames) }
+    ensures frames { IfOk result (λ e. RiseFrom 0 e.frames) }
+    ensures wide_frames { IfOk result (λ e. RiseFrom 0 e.wide_frames) }
     ensures names { Grows names.old names.new }
 {
     match emit(alloc, body, plan, states, names) {
@@ -100,8 +100,8 @@ fn laid(alloc: Global, method: u16, emitted: &Emitted) -> Result<Laid, Fail<Refu
 
 /// The frames of both layouts in the order of their places, if the wide one is chosen; else none.
 fn merged(alloc: Global, emitted: &Emitted, wide: bool) -> Result<List<FrameAt>, Memory>
-    requires frames { AreRising 0 emitted.now.frames }
-    requires wide_frames { AreRising 0 emitted.now.wide_frames }
+    requires frames { RiseFrom 0 emitted.now.frames }
+    requires wide_frames { RiseFrom 0 emitted.now.wide_frames }
     ensures { IfOk result (λ all. wide ≡ true → all ≡ merged emitted.now.frames emitted.now.wide_frames) }
 {
     if wide {

@@ -10,8 +10,8 @@ use Rattle.jc_base.specs.declared.insn.Flow.{Flow}
 use Rattle.jc_base.specs.declared.insn.Flow.TheVariants as flows
 use Rattle.jc_base.specs.declared.body.FrameAt.{FrameAt}
 use Rattle.jc_base.proofs.FirstSeenLaws.{contains_none, contains_one, contains_first, contains_later, contains_cases}
+use Rattle.jc_base.specs.FrameOrder.{RiseFrom}
 use Rattle.jc_emit.specs.Emission.{widened_frame}
-use Rattle.jc_emit.specs.TwinFrames.{AreRising}
 use Rattle.jc_layout.specs.Merged.{with_frame, merged}
 
 -- ---- what is listed
@@ -67,7 +67,7 @@ merged_right frames (f ∷ others) g c =
 
 -- ---- their order
 
-above_first : (from : ℕ) (frames : List FrameAt) (g : FrameAt) → AreRising from frames → Contains frames g → from ≤ g.at
+above_first : (from : ℕ) (frames : List FrameAt) (g : FrameAt) → RiseFrom from frames → Contains frames g → from ≤ g.at
 above_first from [] g r c = absurd (contains_none g c)
 above_first from (f ∷ frames) g r c =
     ⊎_elim (λ same. let e : f.at ≡ g.at = ap (λ (x : FrameAt). x.at) same in omega (arith, e, r.0))
@@ -77,23 +77,23 @@ above_first from (f ∷ frames) g r c =
 not_below : (a b : ℕ) → nat_lt a b ≡ false → b ≤ a
 not_below a b e = grind (arith, nat_tests)
 
-with_rises : (from : ℕ) (f : FrameAt) (frames : List FrameAt) → AreRising from frames → from ≤ f.at
-    → ((g : FrameAt) → Contains frames g → g.at ≡ f.at → ⊥) → AreRising from (with_frame f frames)
+with_rises : (from : ℕ) (f : FrameAt) (frames : List FrameAt) → RiseFrom from frames → from ≤ f.at
+    → ((g : FrameAt) → Contains frames g → g.at ≡ f.at → ⊥) → RiseFrom from (with_frame f frames)
 with_rises from f [] r le apart = (le, tt)
 with_rises from f (h ∷ frames) r le apart =
     by (λ above. with_rises (h.at + 1) f frames r.1 above (λ g c. apart g (contains_later h frames g c))) (nat_lt f.at h.at) refl
   where
-    by : (h.at + 1 ≤ f.at → AreRising (h.at + 1) (with_frame f frames)) → (t : Bool) → nat_lt f.at h.at ≡ t
-        → AreRising from (if t then f ∷ h ∷ frames else h ∷ with_frame f frames)
+    by : (h.at + 1 ≤ f.at → RiseFrom (h.at + 1) (with_frame f frames)) → (t : Bool) → nat_lt f.at h.at ≡ t
+        → RiseFrom from (if t then f ∷ h ∷ frames else h ∷ with_frame f frames)
     by rest true e = let below = ltb-true f.at h.at e in (le, (omega (arith, below), r.1))
     by rest false e =
         let above = not_below f.at h.at e in
         let other : h.at ≡ f.at → ⊥ = apart h (contains_first h frames) in
         (r.0, rest (omega (arith, above, other)))
 
-pub merged_rises : (frames others : List FrameAt) (from : ℕ) → AreRising 0 frames → AreRising from others
+pub merged_rises : (frames others : List FrameAt) (from : ℕ) → RiseFrom 0 frames → RiseFrom from others
     → ((f : FrameAt) → Contains others f → (g : FrameAt) → Contains frames g → g.at ≡ f.at → ⊥)
-    → AreRising 0 (merged frames others)
+    → RiseFrom 0 (merged frames others)
 merged_rises frames [] from r s apart = r
 merged_rises frames (f ∷ others) from r s apart =
     with_rises 0 f (merged frames others)
@@ -137,11 +137,11 @@ place_grows code q r le = up (difference q r le)
     up : (k : ℕ) × (q + (k + 1) ≡ r) → wide_place code q + 1 ≤ wide_place code r
     up (k, e) = let h = place_apart code q (k + 1) in let s = ap (wide_place code) e in omega (arith, h, s)
 
-widened_rise : (code : List Insn) (a b : ℕ) (frames : List FrameAt) → AreRising a frames
-    → ((r : ℕ) → a ≤ r → b ≤ wide_place code r) → AreRising b (map (widened_frame (wide_place code)) frames)
+widened_rise : (code : List Insn) (a b : ℕ) (frames : List FrameAt) → RiseFrom a frames
+    → ((r : ℕ) → a ≤ r → b ≤ wide_place code r) → RiseFrom b (map (widened_frame (wide_place code)) frames)
 widened_rise code a b [] r h = tt
 widened_rise code a b (f ∷ frames) r h =
     (h f.at r.0, widened_rise code (f.at + 1) (wide_place code f.at + 1) frames r.1 (λ q le. place_grows code f.at q le))
 
-pub rising_widened : (code : List Insn) (frames : List FrameAt) → AreRising 0 frames → AreRising 0 (map (widened_frame (wide_place code)) frames)
+pub rising_widened : (code : List Insn) (frames : List FrameAt) → RiseFrom 0 frames → RiseFrom 0 (map (widened_frame (wide_place code)) frames)
 rising_widened code frames r = widened_rise code 0 0 frames r (λ q le. omega arith)
