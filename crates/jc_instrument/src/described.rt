@@ -1,5 +1,6 @@
 //! What of a class file a report is made from.
 ghost use Rattle.std.specs.Prelude.{◌≡◌, ◌≤◌, Some, length, map, All, IfOk};
+ghost use Rattle.jc_base.specs.Texts.{IsShortText};
 ghost use Rattle.jc_base.specs.WellMade.{IsWellMade};
 ghost use Rattle.jc_class.specs.ClassFormat.{HasClass, HasSuper};
 ghost use Rattle.jc_class.specs.Writable.{IsClassFile};
@@ -15,9 +16,10 @@ use jc_pool::Pool;
 use std::alloc::Global;
 
 /// The name of the class at a place that has one.
-fn class_name_at(alloc: Global, pool: &Pool, place: u16) -> Result<Bytes, Memory>
+pub fn class_name_at(alloc: Global, pool: &Pool, place: u16) -> Result<Bytes, Memory>
     requires { HasClass pool.now place }
-    ensures { IfOk result (λ name. class_name_of pool.now place ≡ Some name) }
+    ensures name { IfOk result (λ name. class_name_of pool.now place ≡ Some name) }
+    ensures short { IfOk result IsShortText }
 {
     Ok(Bytes::copy_of(alloc, pool.class_at(place).unwrap_or(&[]))?)
 }
