@@ -38,3 +38,9 @@ pub mod CodedLaws
 pub mod ReadyLaws
 pub mod WritableLaws
 pub mod TakenNeedsLaws
+pub mod InstrumentingLaws
+pub mod TwinFileLaws
+pub mod FullPoolLaws
+pub mod SameFramesLaws
+pub mod SameEmissionLaws
+pub mod SameWorksLaws

@@ -29,11 +29,11 @@ use Rattle.jc_instrument.proofs.SameBodyLaws.{AreSame}
 
 -- ---- the bodies
 
-same_but_frames : (names others : Names) (a b : Body) → AreSame names others a b → without_frames a ≡ without_frames b
+pub same_but_frames : (names others : Names) (a b : Body) → AreSame names others a b → without_frames a ≡ without_frames b
 same_but_frames names others a b same = ap without_frames same.rest
 
 module _ (names others : Names) (c : ClassFile) where
-  abbrev AreSameBelow : ℕ → Type 0
+  abbrev pub AreSameBelow : ℕ → Type 0
   AreSameBelow n = (xs ys : List Body) → AreBodiesBelow names c n xs → AreBodiesBelow others c n ys
       → map without_frames xs ≡ map without_frames ys
 
@@ -47,7 +47,7 @@ module _ (names others : Names) (c : ClassFile) where
       ∙ sym (map-append without_frames b.front (b.last ∷ []))
       ∙ ap (map without_frames) (sym b.parts)
 
-  same_below : (n : ℕ) → AreSameBelow n
+  pub same_below : (n : ℕ) → AreSameBelow n
   same_below zero xs ys p q = ap (map without_frames) (none_below names c xs p ∙ sym (none_below others c ys q))
   same_below (suc n) xs ys p q = by (same_below n) (last_or_none names c n xs p) (last_or_none others c n ys q)
     where

@@ -163,6 +163,9 @@ module _ (names others : Names) (b : Body) (fs gs : List FrameAt) (same : map (s
   )
 
 module _ (names others : Names) (a b : Body) (same : AreSame names others a b) where
+  pub same_state : (i : ℕ) → state_of names a i ≡ state_of others b i
+  same_state i = ap (λ (x : Body). state_of names x i) same.rest ∙ states names others b a.frames b.frames same.seen i
+
   pub same_missing : (i : ℕ) → FirstMissing a i → FirstMissing b i
   same_missing i f = first_missing names others b a.frames b.frames same.seen i (subst (λ (x : Body). FirstMissing x i) same.rest f)
 

@@ -18,18 +18,18 @@ use Rattle.jc_instrument.specs.SameAnalysis.{without_frames}
 use Rattle.jc_instrument.proofs.SameAnalysisLaws.{same_way, same_before, same_lead}
 
 module _ (b : Body) (first : ℕ) where
-  abbrev bare : Body
+  abbrev pub bare : Body
   bare = without_frames b
 
   -- ---- probes
 
-  same_probe : (x : Branch) → probe_of b first x ≡ probe_of bare first x
+  pub same_probe : (x : Branch) → probe_of b first x ≡ probe_of bare first x
   same_probe x = λ k. id_if (same_way b x.way k) (first + same_before b (position_of x) k)
 
   same_early : (i : ℕ) → early_probe b first i ≡ early_probe bare first i
   same_early i = λ k. early_by (λ x. same_probe x k) i (insn_at b.code i) (flow_of (insn_at b.code i))
 
-  same_late : (i : ℕ) → late_probe b first i ≡ late_probe bare first i
+  pub same_late : (i : ℕ) → late_probe b first i ≡ late_probe bare first i
   same_late i = λ k. late_by (λ x. same_probe x k) i (insn_at b.code i) (flow_of (insn_at b.code i))
 
   -- ---- places
@@ -39,13 +39,13 @@ module _ (b : Body) (first : ℕ) where
       + (probe_size (same_early i k)
       + (1 + (wide_size b false i + hop_size (same_late i k) + arm_sizes (λ x. same_probe x k) (arms_at b.code i))))
 
-  same_lead_place : (i : ℕ) → lead_of b first false i ≡ lead_of bare first false i
+  pub same_lead_place : (i : ℕ) → lead_of b first false i ≡ lead_of bare first false i
   same_lead_place i = λ k. 2 + total (λ j. same_size j k) i
 
-  same_land : (i : ℕ) → land_of b first false i ≡ land_of bare first false i
+  pub same_land : (i : ℕ) → land_of b first false i ≡ land_of bare first false i
   same_land i = λ k. same_lead_place i k + probe_size (same_lead b first i k)
 
-  same_image : (i : ℕ) → image_of b first false i ≡ image_of bare first false i
+  pub same_image : (i : ℕ) → image_of b first false i ≡ image_of bare first false i
   same_image i = λ k. same_land i k + probe_size (same_early i k)
 
   -- ---- instructions
@@ -71,7 +71,7 @@ module _ (b : Body) (first : ℕ) where
   same_segment i = λ k. lead_part (same_lead b first i k) i
       ++ (early_part (same_early i k) i ++ same_part i (insn_at b.code i) (flow_of (insn_at b.code i)) k)
 
-  same_items : twin_items b first false ≡ twin_items bare first false
+  pub same_items : twin_items b first false ≡ twin_items bare first false
   unfolding twin_items
   same_items = λ k. prelude ++ pieces (λ i. same_segment i k) (length b.code)
 

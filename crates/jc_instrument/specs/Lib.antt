@@ -18,3 +18,5 @@ pub mod Probing
 pub mod Taking
 pub mod ProbedClass
 pub mod Members
+pub mod InstrumentedFile
+pub mod Changing

@@ -1,0 +1,337 @@
+-- The instrumented code of a body that was read under two lists of names: its frames say the same by names, and the rest is equal.
+use Rattle.std.proofs.Common.{◌≡◌, ◌⊎◌, inl, inr, ℕ, zero, suc, ◌+◌, ◌-◌, ◌<◌, ◌≤◌, Bool, true, false, ◌&&◌, ◌||◌, not, nat_eq, List, [], ◌∷◌, ◌++◌, length, map, take, Option, Some, None, refl, sym, ◌∙◌, ap, ap₂, arith, if◌then◌else◌}
+use Rattle.std.specs.List.{list_any, take-map}
+use Rattle.std.specs.Prelude.{is_some, is_none}
+use Rattle.std.proofs.lemmas.Bool.{cases_lt}
+use Rattle.std.proofs.lemmas.List.{get_or_past, length-map}
+use Rattle.std.proofs.lemmas.Option.{same_Some, slice_get-get_or}
+use Rattle.jc_base.specs.Flow.{flow_of}
+use Rattle.jc_base.specs.Held.{Names, Seen, SeenAt, held, seen, seen_at}
+use Rattle.jc_base.specs.PlainLists.{pieces}
+use Rattle.jc_base.specs.declared.body.Body.{Body}
+use Rattle.jc_base.specs.declared.body.FrameAt.{FrameAt}
+use Rattle.jc_base.specs.declared.emitted.Emitted.{Emitted}
+use Rattle.jc_base.specs.declared.insn.Flow.{Flow}
+use Rattle.jc_base.specs.declared.insn.Flow.TheVariants as flows
+use Rattle.jc_base.specs.declared.insn.Insn.{Insn}
+use Rattle.jc_base.specs.declared.kind.State.{State}
+use Rattle.jc_pool.specs.Pool.{PoolValue}
+use Rattle.jc_after.specs.Shift.{shifted}
+use Rattle.jc_kinds.specs.Answers.{AreStates}
+use Rattle.jc_plan.specs.declared.branch.Branch.{Branch}
+use Rattle.jc_plan.specs.Plan.{lead_probe}
+use Rattle.jc_plan.specs.Probed.{probe_of}
+use Rattle.jc_layout.specs.LaidBody.{with_place}
+use Rattle.jc_layout.specs.Layout.{is_wide, chosen_text}
+use Rattle.jc_layout.specs.Merged.{merged}
+use Rattle.jc_code.specs.CodeText.{code_text, counted_text, row_text}
+use Rattle.jc_code.specs.TwinCode.{code_attributes, offset_in, twin_code, written_frames}
+use Rattle.jc_emit.specs.Emission.{IsArrayNumber, arm_frame, arm_frames, emission, frame, frame_if, frames_at, has_frame, has_inverse, is_further, moved_state, wide_frames_at}
+use Rattle.jc_emit.specs.Items.{at_of, extra_of, image_of, insn_of, land_of, lead_of, own_of}
+use Rattle.jc_emit.specs.Sizes.{arms_at, hop_size, insn_at, late_probe}
+use Rattle.jc_emit.specs.TwinFrames.{left_by, no_state, operands_of, state_at, state_behind}
+use Rattle.jc_emit.specs.TwinTables.{moved_line, moved_row, moved_var}
+use Rattle.jc_emit.proofs.FrameLaws.{seen_moved}
+use Rattle.jc_instrument.specs.SameAnalysis.{without_frames}
+use Rattle.jc_instrument.proofs.SameAnalysisLaws.{same_but_frames, same_lead}
+use Rattle.jc_instrument.proofs.SameBodyLaws.{AreSame, same_state}
+use Rattle.jc_instrument.proofs.SameFramesLaws.{SayTheSame, both_same, merged_same, pieces_same}
+use Rattle.jc_instrument.proofs.SameItemsLaws.{same_image, same_items, same_land, same_late, same_lead_place, same_probe}
+
+-- all that is emitted but the frames
+abbrev pub code_and_tables : Emitted → Emitted
+code_and_tables e = record e { frames = []; wide_frames = [] }
+
+-- the two are equal but for how their frames number classes, and the frames say the same by names
+pub record IsSameEmission (names others : Names) (e f : Emitted) : Type 0 where
+  pub rest : code_and_tables e ≡ code_and_tables f
+  pub frames : SayTheSame names others e.frames f.frames
+  pub wide_frames : SayTheSame names others e.wide_frames f.wide_frames
+
+-- ---- what depends on no frame
+
+-- what doesn't depend on frames is the same of two bodies that are equal but for them
+by_bare : {X : Type 0} (f : Body → X) → ((x : Body) → f x ≡ f (without_frames x)) → (a b : Body) → without_frames a ≡ without_frames b → f a ≡ f b
+by_bare f bare a b same = bare a ∙ ap f same ∙ sym (bare b)
+
+bare_emission : (b : Body) (first : ℕ) (states : List State) (array : ℕ)
+    → code_and_tables (emission b first states array) ≡ code_and_tables (emission (without_frames b) first [] 0)
+unfolding emission
+bare_emission b first states array = λ k. record {
+  code = map (insn_of 0 b.arg_slots) (same_items b first k);
+  at = map at_of (same_items b first k);
+  own = map own_of (same_items b first k);
+  extra = map extra_of (same_items b first k);
+  handlers = map (moved_row (λ i. same_lead_place b first i k) (λ i. same_land b first i k)) b.handlers;
+  lines = map (moved_line (λ i. same_land b first i k)) b.lines;
+  vars = map (moved_var b.arg_slots (λ i. same_land b first i k)) b.vars;
+  kind_vars = map (moved_var b.arg_slots (λ i. same_land b first i k)) b.kind_vars;
+  frames = [];
+  wide_frames = [];
+  max_stack = b.max_stack + 3;
+  max_locals = b.max_locals + 1;
+}
+
+same_rest : (a b : Body) (first : ℕ) (states more : List State) (array other : ℕ) → without_frames a ≡ without_frames b
+    → code_and_tables (emission a first states array) ≡ code_and_tables (emission b first more other)
+same_rest a b first states more array other bare =
+    bare_emission a first states array
+    ∙ ap (λ (x : Body). code_and_tables (emission x first [] 0)) bare
+    ∙ sym (bare_emission b first more other)
+
+-- ---- states
+
+same_states : (names others : Names) (a b : Body) → AreSame names others a b → (states more : List State) → AreStates names a states
+    → AreStates others b more → (i : ℕ) → seen names (state_at states i) ≡ seen others (state_at more i)
+same_states names others a b same states more p q i =
+    by (cases_lt i (length states))
+  where
+    counts : length more ≡ length states
+    counts = q.count ∙ ap (λ (x : Body). length x.code) (sym same.rest) ∙ sym p.count
+
+    by : (i < length states) ⊎ (length states ≤ i) → seen names (state_at states i) ≡ seen others (state_at more i)
+    by (inl less) =
+        let here = p.each i (state_at states i) (slice_get-get_or states i no_state less) in
+        let there = q.each i (state_at more i) (slice_get-get_or more i no_state (let n = counts in omega (arith, less, n))) in
+        same_Some (seen names (state_at states i)) (seen others (state_at more i))
+        (sym here.is ∙ same_state names others a b same i ∙ there.is)
+    by (inr past) =
+        ap (seen names) (get_or_past states i no_state past)
+        ∙ ap (seen others) (sym (get_or_past more i no_state (let n = counts in omega (arith, past, n))))
+
+-- what a jump or a switch leaves of what is held
+abbrev seen_left : Insn → Seen → Seen
+seen_left insn s = record { locals = s.locals; stack = take (length s.stack - operands_of insn) s.stack }
+
+left_seen : (names : Names) (insn : Insn) (s : State) → seen names (left_by insn s) ≡ seen_left insn (seen names s)
+left_seen names insn s = λ k. record {
+  locals = map (held names) s.locals;
+  stack =
+      (sym (take-map (held names) (length s.stack - operands_of insn) s.stack)
+      ∙ ap (λ (n : ℕ). take (n - operands_of insn) (map (held names) s.stack)) (sym (length-map s.stack (held names)))) k;
+}
+
+-- ---- frames
+
+-- a frame stands at the instruction by names, too
+any_seen : (names : Names) (frames : List FrameAt) (i : ℕ)
+    → list_any (λ f. nat_eq f.at i) frames ≡ list_any (λ (s : SeenAt). nat_eq s.at i) (map (seen_at names) frames)
+any_seen names [] i = refl
+any_seen names (f ∷ frames) i = ap (λ (t : Bool). nat_eq f.at i || t) (any_seen names frames i)
+
+frame_if_same : (names others : Names) (t u : Bool) (f g : FrameAt) → t ≡ u → seen_at names f ≡ seen_at others g
+    → SayTheSame names others (frame_if t f) (frame_if u g)
+frame_if_same names others t u f g tests same = ap (λ (x : Bool). map (seen_at names) (frame_if x f)) tests ∙ by u
+  where
+    by : (x : Bool) → SayTheSame names others (frame_if x f) (frame_if x g)
+    by true = λ k. same k ∷ []
+    by false = refl
+
+-- the frames of what belongs to i, in their three parts
+module _ (b : Body) (first : ℕ) (states : List State) (array i : ℕ) where
+  abbrev moved : State → State
+  moved s = moved_state b first states array s
+
+  abbrev leads_there : Bool
+  leads_there = has_inverse b first states array i && is_some (lead_probe b first i)
+
+  abbrev lead_frame : FrameAt
+  lead_frame = frame (lead_of b first false i) (moved (state_at states i))
+
+  abbrev lands_there : Bool
+  lands_there = has_frame b first states array i || (has_inverse b first states array i && is_none (lead_probe b first i))
+
+  abbrev land_frame : FrameAt
+  land_frame = frame (land_of b first false i) (moved (state_at states i))
+
+  abbrev left : State
+  left = left_by (insn_at b.code i) (state_at states i)
+
+  abbrev frames_of_arms : List FrameAt
+  frames_of_arms = arm_frames b first states array (image_of b first false i + 1) (moved left) (arms_at b.code i)
+
+  abbrev behind : State
+  behind = state_behind b states i (late_probe b first i)
+
+  abbrev goes_further : Bool
+  goes_further = is_further b first states array i (late_probe b first i) (flow_of (insn_at b.code i))
+
+module _ (names others : Names) (a b : Body) (first : ℕ) (states more : List State) (array other : ℕ) (bare : without_frames a ≡ without_frames b)
+    (alike : SayTheSame names others a.frames b.frames) (named : IsArrayNumber names array) (called : IsArrayNumber others other)
+    (all : (i : ℕ) → seen names (state_at states i) ≡ seen others (state_at more i)) where
+  -- ---- places and tests
+
+  codes_same : a.code ≡ b.code
+  codes_same = ap (λ (x : Body). x.code) bare
+
+  leads_same : (i : ℕ) → lead_of a first false i ≡ lead_of b first false i
+  leads_same i = by_bare (λ x. lead_of x first false i) (λ x. same_lead_place x first i) a b bare
+
+  lands_same : (i : ℕ) → land_of a first false i ≡ land_of b first false i
+  lands_same i = by_bare (λ x. land_of x first false i) (λ x. same_land x first i) a b bare
+
+  images_same : (i : ℕ) → image_of a first false i ≡ image_of b first false i
+  images_same i = by_bare (λ x. image_of x first false i) (λ x. same_image x first i) a b bare
+
+  lead_probes_same : (i : ℕ) → lead_probe a first i ≡ lead_probe b first i
+  lead_probes_same i = by_bare (λ x. lead_probe x first i) (λ x. same_lead x first i) a b bare
+
+  late_probes_same : (i : ℕ) → late_probe a first i ≡ late_probe b first i
+  late_probes_same i = by_bare (λ x. late_probe x first i) (λ x. same_late x first i) a b bare
+
+  probes_same : (x : Branch) → probe_of a first x ≡ probe_of b first x
+  probes_same x = by_bare (λ y. probe_of y first x) (λ y. same_probe y first x) a b bare
+
+  has_frames_same : (i : ℕ) → has_frame a first states array i ≡ has_frame b first more other i
+  has_frames_same i =
+      any_seen names a.frames i
+      ∙ ap (list_any (λ (s : SeenAt). nat_eq s.at i)) alike
+      ∙ sym (any_seen others b.frames i)
+
+  inverses_same : (i : ℕ) → has_inverse a first states array i ≡ has_inverse b first more other i
+  inverses_same zero = refl
+  inverses_same (suc i) = ap is_some (late_probes_same i)
+
+  -- ---- states
+
+  moved_same : (s t : State) → seen names s ≡ seen others t
+      → seen names (moved_state a first states array s) ≡ seen others (moved_state b first more other t)
+  moved_same s t same =
+      seen_moved names a.arg_slots array (image_of a first false) s named
+      ∙ (λ k. shifted (λ i. images_same i k) ((bare k).arg_slots) (same k))
+      ∙ sym (seen_moved others b.arg_slots other (image_of b first false) t called)
+
+  -- a frame with such a state
+  frame_same : (p q : ℕ) (s t : State) → p ≡ q → seen names s ≡ seen others t
+      → seen_at names (frame p (moved_state a first states array s)) ≡ seen_at others (frame q (moved_state b first more other t))
+  frame_same p q s t place same = λ k. record { at = place k; state = moved_same s t same k }
+
+  left_same : (i : ℕ) → seen names (left a first states array i) ≡ seen others (left b first more other i)
+  left_same i =
+      left_seen names (insn_at a.code i) (state_at states i)
+      ∙ (λ k. seen_left (insn_at (codes_same k) i) (all i k))
+      ∙ sym (left_seen others (insn_at b.code i) (state_at more i))
+
+  -- ---- the arms of a switch
+
+  arm_same : (p q : ℕ) (s t : State) (o u : Option ℕ) → p ≡ q → seen names s ≡ seen others t → o ≡ u
+      → SayTheSame names others (arm_frame a first states array p s o) (arm_frame b first more other q t u)
+  arm_same p q s t o u place same e = ap (λ (x : Option ℕ). map (seen_at names) (arm_frame a first states array p s x)) e ∙ by u
+    where
+      by : (x : Option ℕ) → SayTheSame names others (arm_frame a first states array p s x) (arm_frame b first more other q t x)
+      by None = refl
+      by (Some id) = λ k. record { at = place k; state = same k } ∷ []
+
+  arms_same : (p q : ℕ) (s t : State) → p ≡ q → seen names s ≡ seen others t → (xs : List Branch)
+      → SayTheSame names others (arm_frames a first states array p s xs) (arm_frames b first more other q t xs)
+  arms_same p q s t place same [] = refl
+  arms_same p q s t place same (x ∷ xs) =
+      both_same names others (arm_frame a first states array p s (probe_of a first x)) (arm_frame b first more other q t (probe_of b first x))
+      (arm_frames a first states array (p + hop_size (probe_of a first x)) s xs) (arm_frames b first more other (q + hop_size (probe_of b first x)) t xs)
+      (arm_same p q s t (probe_of a first x) (probe_of b first x) place same (probes_same x))
+      (arms_same (p + hop_size (probe_of a first x)) (q + hop_size (probe_of b first x)) s t (λ k. place k + hop_size (probes_same x k)) same xs)
+
+  all_arms_same : (i : ℕ) → SayTheSame names others (frames_of_arms a first states array i) (frames_of_arms b first more other i)
+  all_arms_same i =
+      ap (λ (code : List Insn). map (seen_at names) (arm_frames a first states array (image_of a first false i + 1)
+      (moved a first states array i (left a first states array i)) (arms_at code i))) codes_same
+      ∙ arms_same (image_of a first false i + 1) (image_of b first false i + 1) (moved a first states array i (left a first states array i))
+      (moved b first more other i (left b first more other i)) (λ k. images_same i k + 1)
+      (moved_same (left a first states array i) (left b first more other i) (left_same i)) (arms_at b.code i)
+
+  -- ---- each part
+
+  frames_at_same : (i : ℕ) → SayTheSame names others (frames_at a first states array i) (frames_at b first more other i)
+  frames_at_same i =
+      both_same names others
+      (frame_if (leads_there a first states array i) (lead_frame a first states array i))
+      (frame_if (leads_there b first more other i) (lead_frame b first more other i))
+      (frame_if (lands_there a first states array i) (land_frame a first states array i) ++ frames_of_arms a first states array i)
+      (frame_if (lands_there b first more other i) (land_frame b first more other i) ++ frames_of_arms b first more other i)
+      (frame_if_same names others (leads_there a first states array i) (leads_there b first more other i)
+      (lead_frame a first states array i) (lead_frame b first more other i)
+      (λ k. inverses_same i k && is_some (lead_probes_same i k))
+      (frame_same (lead_of a first false i) (lead_of b first false i) (state_at states i) (state_at more i) (leads_same i) (all i)))
+      (both_same names others
+      (frame_if (lands_there a first states array i) (land_frame a first states array i))
+      (frame_if (lands_there b first more other i) (land_frame b first more other i))
+      (frames_of_arms a first states array i) (frames_of_arms b first more other i)
+      (frame_if_same names others (lands_there a first states array i) (lands_there b first more other i)
+      (land_frame a first states array i) (land_frame b first more other i)
+      (λ k. has_frames_same i k || (inverses_same i k && is_none (lead_probes_same i k)))
+      (frame_same (land_of a first false i) (land_of b first false i) (state_at states i) (state_at more i) (lands_same i) (all i)))
+      (all_arms_same i))
+
+  further_same : (i : ℕ) (o : Option ℕ) (flow : Flow) → is_further a first states array i o flow ≡ is_further b first more other i o flow
+  further_same i None flows.Tests = λ k. not (has_frames_same (i + 1) k && is_none (lead_probes_same (i + 1) k))
+  further_same i (Some id) flows.Tests = refl
+  further_same i None flows.GoesOn = refl
+  further_same i None flows.Jumps = refl
+  further_same i None flows.Switches = refl
+  further_same i None flows.Returns = refl
+  further_same i None flows.Throws = refl
+  further_same i (Some id) flows.GoesOn = refl
+  further_same i (Some id) flows.Jumps = refl
+  further_same i (Some id) flows.Switches = refl
+  further_same i (Some id) flows.Returns = refl
+  further_same i (Some id) flows.Throws = refl
+
+  all_further_same : (i : ℕ) → goes_further a first states array i ≡ goes_further b first more other i
+  all_further_same i =
+      (λ k. is_further a first states array i (late_probes_same i k) (flow_of (insn_at (codes_same k) i)))
+      ∙ further_same i (late_probe b first i) (flow_of (insn_at b.code i))
+
+  behind_same : (i : ℕ) → seen names (behind a first states array i) ≡ seen others (behind b first more other i)
+  behind_same i = ap (λ (o : Option ℕ). seen names (state_behind a states i o)) (late_probes_same i) ∙ by (late_probe b first i)
+    where
+      by : (o : Option ℕ) → seen names (state_behind a states i o) ≡ seen others (state_behind b more i o)
+      by None = all (i + 1)
+      by (Some id) = left_same i
+
+  wide_frames_at_same : (i : ℕ) → SayTheSame names others (wide_frames_at a first states array i) (wide_frames_at b first more other i)
+  wide_frames_at_same i =
+      frame_if_same names others (goes_further a first states array i) (goes_further b first more other i)
+      (frame (image_of a first false i + 1) (moved a first states array i (behind a first states array i)))
+      (frame (image_of b first false i + 1) (moved b first more other i (behind b first more other i))) (all_further_same i)
+      (frame_same (image_of a first false i + 1) (image_of b first false i + 1) (behind a first states array i) (behind b first more other i)
+      (λ k. images_same i k + 1) (behind_same i))
+
+  -- ---- the whole
+
+  all_parts_same : (f g : ℕ → List FrameAt) → ((i : ℕ) → SayTheSame names others (f i) (g i))
+      → SayTheSame names others (pieces f (length a.code)) (pieces g (length b.code))
+  all_parts_same f g each =
+      ap (λ (code : List Insn). map (seen_at names) (pieces f (length code))) codes_same ∙ pieces_same names others f g each (length b.code)
+
+  emitted_same : IsSameEmission names others (emission a first states array) (emission b first more other)
+  unfolding emission
+  emitted_same = record {
+    rest = same_rest a b first states more array other bare;
+    frames = all_parts_same (frames_at a first states array) (frames_at b first more other) frames_at_same;
+    wide_frames = all_parts_same (wide_frames_at a first states array) (wide_frames_at b first more other) wide_frames_at_same;
+  }
+
+pub same_emission : (names others : Names) (a b : Body) → AreSame names others a b → (first : ℕ) (states more : List State) (array other : ℕ)
+    → IsArrayNumber names array → IsArrayNumber others other → AreStates names a states → AreStates others b more
+    → IsSameEmission names others (emission a first states array) (emission b first more other)
+same_emission names others a b same first states more array other named called p q =
+    emitted_same names others a b first states more array other (same_but_frames names others a b same) same.seen named called
+    (same_states names others a b same states more p q)
+
+-- ---- what is written of it
+
+module _ (names others : Names) (e f : Emitted) (same : IsSameEmission names others e f) where
+  pub same_written : written_frames names e ≡ written_frames others f
+  same_written =
+      ap (λ (x : Emitted). map (seen_at names) (if is_wide x.code then merged e.frames e.wide_frames else e.frames)) same.rest ∙ by (is_wide f.code)
+    where
+      by : (wide : Bool) → SayTheSame names others (if wide then merged e.frames e.wide_frames else e.frames)
+          (if wide then merged f.frames f.wide_frames else f.frames)
+      by true = merged_same names others e.frames f.frames e.wide_frames f.wide_frames same.frames same.wide_frames
+      by false = same.frames
+
+  pub same_twin_code : (pool : PoolValue) (method frames_name : ℕ) → twin_code pool method frames_name names e ≡ twin_code pool method frames_name others f
+  unfolding twin_code
+  same_twin_code pool method frames_name =
+      ap₂ (λ (x : Emitted) (frames : List SeenAt). code_text x.max_stack x.max_locals (with_place method (chosen_text x.code))
+      (counted_text (row_text (offset_in x)) x.handlers) (code_attributes pool frames_name x frames)) same.rest same_written

@@ -1,0 +1,162 @@
+//! Instrumented class files.
+ghost use Rattle.std.specs.Prelude.{◌≡◌, ◌⊎◌, ◌≤◌, ⊤, false, length, All, Some, None, IfOk, IfErr, MatchResult};
+ghost use Rattle.std.specs.List.{list_any};
+ghost use Rattle.jc_base.specs.Outside.{most_read};
+ghost use Rattle.jc_base.specs.declared.refusal.Refusal.{Refusal as Why};
+ghost use Rattle.jc_class.specs.ClassFormat.{HasClass};
+ghost use Rattle.jc_class.specs.ClassId.{class_id};
+ghost use Rattle.jc_class.specs.Sizes.{BodiesWithin};
+ghost use Rattle.jc_class.specs.Writable.{IsClassFile};
+ghost use Rattle.jc_kinds.specs.Answers.{Said};
+ghost use Rattle.jc_pool.specs.Lookup.{class_name_of};
+ghost use Rattle.jc_instrument.specs.Causes.{IsFirstCause};
+ghost use Rattle.jc_instrument.specs.Changing.{IsChanged, changing_causes, has_too_long, is_too_long};
+ghost use Rattle.jc_instrument.specs.InstrumentedFile.{IsAsGiven, IsInstrumentedFile};
+ghost use Rattle.jc_instrument.specs.LeftAlone.{is_left_alone};
+ghost use Rattle.jc_instrument.specs.Refused.{Reason};
+
+use crate::alone::{interface_refusal, is_left_alone};
+use crate::class::class_refusal;
+use crate::described::class_name_at;
+use crate::probed_class::probed_class;
+use crate::twin::grown_twin;
+use jc_base::{Bytes, Fail, List, Memory, Names, Refusal};
+use jc_class::{Attribute, ClassFile, Member, class_id, read_class, write_class};
+use std::alloc::Global;
+
+/// A class file with probes, or one that stays as it is.
+#[derive(Debug, Drop)]
+pub struct Instrumented {
+    /// The bytes of the class file.
+    pub bytes: Bytes,
+    /// The id of the class: that of its bytes before probes were put in.
+    pub id: u64,
+    /// The name of the class.
+    pub name: Bytes,
+    /// How many probes there are.
+    pub probes: u32,
+    /// Whether the bytes are others than those that were given.
+    pub changed: bool,
+}
+
+/// A class file that stays as it is.
+fn unchanged(alloc: Global, bytes: &[u8], class: &ClassFile) -> Result<Instrumented, Memory>
+    requires { HasClass class.now.pool class.now.this_class }
+    ensures given { IfOk result (IsAsGiven bytes.now) }
+    ensures id { IfOk result (λ a. a.id ≡ class_id bytes.now) }
+    ensures name { IfOk result (λ a. class_name_of class.now.pool class.now.this_class ≡ Some a.name) }
+{
+    Ok(Instrumented {
+        bytes: Bytes::copy_of(alloc, bytes)?,
+        id: class_id(bytes),
+        name: class_name_at(alloc, &class.pool, class.this_class)?,
+        probes: 0,
+        changed: false,
+    })
+}
+
+/// The most bytes that an attribute holds (JVM Specification 4.7).
+const MOST_BYTES: usize = 4_294_967_295;
+
+/// Whether the attribute would hold more bytes.
+fn is_too_long(attribute: &Attribute) -> bool
+    ensures { result ≡ is_too_long attribute.now }
+{
+    attribute.body.len() > MOST_BYTES
+}
+
+/// Whether one of the method's attributes would.
+fn has_too_long(method: &Member) -> bool
+    ensures { result ≡ has_too_long method.now }
+{
+    method
+        .attributes
+        .iter()
+        .any(|attribute| is_too_long(attribute))
+}
+
+/// Whether an attribute of one of the methods would.
+fn some_too_long(methods: &[Member]) -> bool
+    ensures { result ≡ list_any has_too_long methods.now }
+{
+    methods.iter().any(|method| has_too_long(method))
+}
+
+/// The class with this id with its probes, or the first refusal of those that are looked for in code and while code is
+/// made and written.
+fn changed(alloc: Global, id: u64, class: ClassFile) -> Result<Instrumented, Fail<Refusal>>
+    requires class { IsClassFile class }
+    requires sizes { All (λ m. BodiesWithin most_read m.attributes) class.methods }
+    requires changes { is_left_alone class ≡ false }
+    ensures changed { IfOk result (IsChanged id class) }
+    ensures refused { IfErr result (λ e. Said e (IsFirstCause (changing_causes id class))) }
+{
+    let mut names = Names::new(alloc)?;
+    let probed = probed_class(alloc, &class, &mut names)?;
+    let name = class_name_at(alloc, &class.pool, class.this_class)?;
+    let twin = grown_twin(alloc, id, &name, class, &probed, &names)?;
+    if some_too_long(&twin.methods) {
+        return Err(Fail::Memory);
+    }
+    let bytes = write_class(alloc, &twin)?;
+    Ok(Instrumented {
+        bytes: List::from_vec(bytes),
+        id,
+        name,
+        probes: probed.probes,
+        changed: true,
+    })
+}
+
+/// The instrumented class file, or why there is none.
+fn whole(alloc: Global, bytes: &[u8]) -> Result<Instrumented, Fail<Refusal>>
+    requires { length bytes.now ≤ most_read }
+    ensures made { IfOk result (IsInstrumentedFile bytes.now) }
+    ensures refused { IfErr result (λ e. Said e (λ r. Reason bytes.now (Some r))) }
+{
+    let class = read_class(alloc, bytes)?;
+    if let Some(refusal) = class_refusal(&class) {
+        return Err(Fail::Said(refusal));
+    }
+    if is_left_alone(&class) {
+        return Ok(unchanged(alloc, bytes, &class)?);
+    }
+    if let Some(refusal) = interface_refusal(&class) {
+        return Err(Fail::Said(refusal));
+    }
+    changed(alloc, class_id(bytes), class)
+}
+
+/// The class file with its probes, or the reason for which it has none.
+///
+/// A module file, a synthetic class and a class or an interface without code (JVM Specification 4.1) stay as they
+/// are, without probes. Another class has in its code a probe for each probed edge of its control flow, a field and a
+/// method that keep and give the array of probes, and in its constant pool what these name. The ids of its probes run
+/// from 0 through the bodies (JaCoCo's documentation on control flow). The id of the class is that of the bytes given.
+///
+/// # Errors
+///
+/// `Memory` where memory was refused. Else `Said`, the first of these that applies; where the class stays as it is,
+/// only the first three are looked at. Of those that name a method, it is the first one to which they apply.
+///
+/// 1. The eight refusals of [`crate::analyse`], in their order.
+/// 2. `StraddlingLocal`, at the instruction, where a long or a double has one half in the last local variable of the
+///    arguments (JVM Specification 2.6.1).
+/// 3. `TooManyProbes`, with their number, where there are more than 32,767.
+/// 4. `MembersFull`, at 65,536, where the class has 65,535 fields or methods (4.1).
+/// 5. `LocalsFull`, at 65,536, where a method has 65,535 local variables (4.7.3).
+/// 6. `StackFull`, with the depth that is needed, where the stack has no room for three operands more (4.7.3).
+/// 7. `CodeTooLarge`, with its length, where the code of a method would have more than 65,535 bytes (4.7.3).
+/// 8. `PoolFull`, at 65,536, where the constant pool would have a count above 65,535 (4.1).
+pub fn instrument(alloc: Global, bytes: &[u8]) -> Result<Instrumented, Fail<Refusal>>
+    requires size { length bytes.now ≤ most_read }
+    // What is answered is so.
+    ensures made { IfOk result (IsInstrumentedFile bytes.now) }
+    ensures refused { IfErr result (λ e. Said e (λ r. Reason bytes.now (Some r))) }
+    // What is so is answered, unless memory runs out.
+    ensures accepted { Reason bytes.now None → MatchResult result (λ _. ⊤) (λ e. e ≡ Fail.Memory) }
+    ensures reason { (r : Why) → Reason bytes.now (Some r)
+        → MatchResult result (λ _. ⊥) (λ e. (e ≡ Fail.Memory) ⊎ (e ≡ Fail.Said r)) }
+{
+    whole(alloc, bytes)
+}
