@@ -44,3 +44,4 @@ pub mod FullPoolLaws
 pub mod SameFramesLaws
 pub mod SameEmissionLaws
 pub mod SameWorksLaws
+pub mod OneTwinLaws

@@ -1,5 +1,5 @@
--- The one twin class that is written: it is one, and outside of code it is the class with what is added.
-use Rattle.std.proofs.Common.{◌≡◌, inl, inr, ℕ, ◌+◌, Bool, true, false, List, [], ◌∷◌, ◌++◌, map, get_or, Option, Some, None, refl, sym, ◌∙◌, ap, subst, arith, if◌then◌else◌}
+-- The one twin class that is written: its pool has what is added, and outside of code it is the class.
+use Rattle.std.proofs.Common.{◌≡◌, inl, inr, ℕ, ◌+◌, Bool, true, false, List, [], ◌∷◌, ◌++◌, map, get_or, Option, Some, None, refl, sym, ap, subst, arith, if◌then◌else◌}
 use Rattle.std.specs.List.{AllByRecursion}
 use Rattle.std.specs.Prelude.{codes}
 use Rattle.std.proofs.lemmas.Slice.Eq.{bytes_eq-Decides}
@@ -23,7 +23,7 @@ use Rattle.jc_instrument.specs.TwinClass.{IsKeptAttribute, AreKeptAttributes, Is
 use Rattle.jc_instrument.specs.TwinText.{work_of, with_code, twin_method, twin_methods, data_member, init_member, init_places, twin_class, IsWritten}
 use Rattle.jc_instrument.specs.Works.{Work, bodies_of, emitted_of, all_frames}
 use Rattle.jc_instrument.proofs.ContentLaws.{of_content}
-use Rattle.jc_instrument.proofs.GrownPoolLaws.{StandAt, stand_at, pool_grown, one_taking}
+use Rattle.jc_instrument.proofs.GrownPoolLaws.{StandAt, stand_at, pool_grown}
 use Rattle.jc_instrument.specs.declared.needs.MemberPlaces.{MemberPlaces}
 
 -- ---- what is needed
@@ -38,9 +38,9 @@ each_listed id names array c works = (
   (tt, (tt, (tt, ((omega arith, omega arith), ((omega arith, omega arith), ((omega arith, omega arith), (tt, (tt, (tt, (tt, (tt, classes_listed (named_by_all (all_frames names array works))))))))))))),
 )
 
--- ---- there is one
+-- ---- where it stands
 
-one_places : (p q : MemberPlaces) (others more : List ℕ) → place_list p ++ others ≡ place_list q ++ more → p ≡ q
+pub one_places : (p q : MemberPlaces) (others more : List ℕ) → place_list p ++ others ≡ place_list q ++ more → p ≡ q
 one_places p q others more same = λ i. record {
   data_name = get_or (same i) 0 0;
   data_type = get_or (same i) 1 0;
@@ -55,14 +55,6 @@ one_places p q others more same = λ i. record {
   name = get_or (same i) 10 0;
   array = get_or (same i) 11 0;
 }
-
-module _ (id : ℕ) (names : Names) (array : ℕ) (works : List Work) (c : ClassFile) where
-  pub one_twin : (twin other : ClassFile) → IsWritten id names array works c twin → IsWritten id names array works c other → twin ≡ other
-  one_twin twin other a b =
-      let one = one_taking (needs_of id names array c works) c.pool a.pool b.pool (place_list a.places ++ a.takes.class_places)
-      (place_list b.places ++ b.takes.class_places) a.takes.takes b.takes.takes in
-      let places = one_places a.places b.places a.takes.class_places b.takes.class_places one.1 in
-      a.is ∙ (λ i. twin_class names array c works (one.0 i) (places i)) ∙ sym b.is
 
 -- ---- what stays
 

@@ -1,12 +1,13 @@
 -- What a class file becomes that is instrumented, or stays as it is.
 use Rattle.std.specs.Prelude.{◌≡◌, ℕ, Bool, true, false, List, Some}
+use Rattle.jc_base.specs.ByteLists.{AreBytes}
 use Rattle.jc_base.specs.Held.{Names}
 use Rattle.jc_pool.specs.Lookup.{class_name_of}
 use Rattle.jc_class.specs.ClassId.{class_id}
 use Rattle.jc_class.specs.ClassText.{ClassText}
 use Rattle.jc_class.specs.declared.class_file.ClassFile.{ClassFile}
 use Rattle.jc_instrument.specs.Analysis.{all_probes}
-use Rattle.jc_instrument.specs.Causes.{Cause, NoCause}
+use Rattle.jc_instrument.specs.Causes.{NoCause}
 use Rattle.jc_instrument.specs.LeftAlone.{is_left_alone}
 use Rattle.jc_instrument.specs.Refused.{probe_causes}
 use Rattle.jc_instrument.specs.TwinText.{IsWritten}
@@ -21,6 +22,7 @@ pub record HasProbes (id : ℕ) (c : ClassFile) (a : Instrumented) : Type 0 wher
   pub works : List Work
   pub twin : ClassFile
   pub written : IsWritten id names array works c twin
+  pub are_bytes : AreBytes a.bytes
   pub text : ClassText a.bytes twin
   pub probes : a.probes ≡ all_probes (bodies_of works)
   pub changed : a.changed ≡ true

@@ -7,11 +7,13 @@ ghost use Rattle.jc_pool.specs.Pool.{PoolValue};
 ghost use Rattle.jc_class.specs.declared.class_file.ClassFile.{ClassFile as Class};
 ghost use Rattle.jc_instrument.specs.Contents.{Content, TakesEach, IsOfClass};
 ghost use Rattle.jc_instrument.specs.GrownPool.{IsGrown};
+ghost use Rattle.jc_instrument.specs.InstrumentedFile.{IsInstrumentedFile};
 ghost use Rattle.jc_instrument.specs.Reasons.{AnalysisReason};
 ghost use Rattle.jc_instrument.specs.Refused.{Reason, IsAccepted};
 ghost use Rattle.jc_instrument.specs.TwinClass.{IsSameOutside};
 ghost use Rattle.jc_instrument.specs.TwinText.{IsWritten};
 ghost use Rattle.jc_instrument.specs.Works.{Work};
+ghost use Rattle.jc_instrument.specs.declared.whole.Instrumented.{Instrumented};
 
 /// A class file that isn't analysed isn't instrumented, for the same reason; so one that is accepted is analysed. What
 /// is accepted has no reason for which it isn't instrumented.
@@ -35,11 +37,19 @@ pub fn each_pool_grows()
         → TakesEach old needs new places → TakesEach old needs other more → (new ≡ other) × (places ≡ more) }
 {}
 
-/// Of the bodies of a class with their states one twin class is written. Outside of code it is the class, but for what
-/// its pool needs, the field and the method.
+/// One twin class is written of a class with this id, whatever the names with which its bodies are read. Outside of code
+/// it is the class, but for what its pool needs, the field and the method.
 pub fn each_class_has_one_twin()
-    ensures one { (id array : ℕ) (names : Names) (works : List Work) (c twin other : Class)
-        → IsWritten id names array works c twin → IsWritten id names array works c other → twin ≡ other }
+    ensures one { (id array other : ℕ) (names others : Names) (works more : List Work) (c twin same : Class)
+        → IsWritten id names array works c twin → IsWritten id others other more c same → twin ≡ same }
     ensures outside { (id array : ℕ) (names : Names) (works : List Work) (c twin : Class)
         → IsWritten id names array works c twin → IsSameOutside id names array works c twin }
+{}
+
+/// Bytes become one instrumented class file, whatever the names with which the bodies of the class are read, or there is
+/// a reason for which they don't, and never both.
+pub fn each_class_file_becomes_one()
+    ensures one { (bytes : List ℕ) (a b : Instrumented) → IsInstrumentedFile bytes a → IsInstrumentedFile bytes b → a ≡ b }
+    ensures apart { (bytes : List ℕ) (a : Instrumented) (r : Refusal)
+        → IsInstrumentedFile bytes a → Reason bytes (Some r) → ⊥ }
 {}

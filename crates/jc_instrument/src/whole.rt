@@ -1,6 +1,7 @@
 //! Instrumented class files.
 ghost use Rattle.std.specs.Prelude.{◌≡◌, ◌⊎◌, ◌≤◌, ⊤, false, length, All, Some, None, IfOk, IfErr, MatchResult};
 ghost use Rattle.std.specs.List.{list_any};
+ghost use Rattle.jc_base.specs.ByteLists.{AreBytes};
 ghost use Rattle.jc_base.specs.Outside.{most_read};
 ghost use Rattle.jc_base.specs.declared.refusal.Refusal.{Refusal as Why};
 ghost use Rattle.jc_class.specs.ClassFormat.{HasClass};
@@ -82,6 +83,11 @@ fn some_too_long(methods: &[Member]) -> bool
     methods.iter().any(|method| has_too_long(method))
 }
 
+/// What is kept as bytes is bytes.
+fn are_bytes(bytes: &[u8])
+    ensures { AreBytes bytes.now }
+{}
+
 /// The class with this id with its probes, or the first refusal of those that are looked for in code and while code is
 /// made and written.
 fn changed(alloc: Global, id: u64, class: ClassFile) -> Result<Instrumented, Fail<Refusal>>
@@ -99,6 +105,7 @@ fn changed(alloc: Global, id: u64, class: ClassFile) -> Result<Instrumented, Fai
         return Err(Fail::Memory);
     }
     let bytes = write_class(alloc, &twin)?;
+    are_bytes(bytes.as_slice());
     Ok(Instrumented {
         bytes: List::from_vec(bytes),
         id,

@@ -4,6 +4,7 @@ use Rattle.jc_instrument.specs.Changing.{changing_causes}
 use Rattle.jc_instrument.specs.ProbedClass.{making_causes}
 use Rattle.jc_instrument.specs.RoomCauses.{HasFullPool}
 use Rattle.std.proofs.Common.{ℕ, List, [], ◌∷◌, refl, sym, ◌∙◌, ap, subst}
+use Rattle.jc_base.specs.ByteLists.{AreBytes}
 use Rattle.jc_class.specs.ClassText.{ClassText}
 use Rattle.jc_instrument.proofs.FullPoolLaws.{no_full_pool, one_probe_count}
 use Rattle.std.specs.List.{list_any}
@@ -47,6 +48,7 @@ returns-clause-changed c =
         works = w.works;
         twin = c.in_ok-twin.twin;
         written = w.written;
+        are_bytes = subst AreBytes (c.as_slice.ensures.value ∙ sym c.from_vec.ensures) c.are_bytes.ensures;
         text = subst (λ (bytes : List ℕ). ClassText bytes c.in_ok-twin.twin) (sym c.from_vec.ensures) c.in_ok-bytes.ensures.text;
         probes = p.probes ∙ one_probe_count _ _ p.array w.array class p.works w.works p.are w.written.are;
         changed = refl;
