@@ -1,23 +1,24 @@
 -- What the pool of a class takes, by the instrumented code of its bodies.
-use Rattle.std.proofs.Common.{◌≡◌, ℕ, ℤ, ◌≤◌, List, [], ◌∷◌, ◌++◌, length, map, refl, sym, ◌∙◌, ap, ap₂, subst, arith}
+use Rattle.std.proofs.Common.{◌≡◌, ℕ, ℤ, ◌+◌, ◌≤◌, List, [], ◌∷◌, ◌++◌, length, map, refl, sym, ◌∙◌, ap, ap₂, subst, arith}
 use Rattle.std.specs.List.{AllByRecursion}
 use Rattle.std.proofs.lemmas.List.Concat.{flat_map-cons}
-use Rattle.jc_base.specs.Held.{Names, SeenAt, seen_at}
+use Rattle.jc_base.specs.Held.{AreNumberedFrames, Names, SeenAt, seen_at}
+use Rattle.jc_base.specs.declared.body.FrameAt.{FrameAt}
 use Rattle.jc_base.specs.declared.refusal.Refusal.{Refusal}
 use Rattle.jc_class.specs.declared.class_file.ClassFile.{ClassFile}
 use Rattle.jc_pool.specs.Pool.{PoolValue}
+use Rattle.jc_frames.specs.FullTable.{FitsFull}
 use Rattle.jc_code.specs.TwinCode.{chosen_frames, written_frames}
-use Rattle.jc_code.proofs.LaidLaws.{can_be_written}
 use Rattle.jc_instrument.specs.Contents.{TakesEach}
 use Rattle.jc_instrument.specs.Needed.{name_of, signed_id, place_list, needed, needs_of, TakesNeeded}
 use Rattle.jc_instrument.specs.Probing.{IsMade, AreMade}
 use Rattle.jc_instrument.specs.RoomCauses.{HasFullPool}
-use Rattle.jc_instrument.specs.Taking.{frames_in, frames_of, HasFrames, HasWritableFrames, IsFullPool}
+use Rattle.jc_instrument.specs.Taking.{frames_in, frames_of, HasFrames, HasNumberedFrames, IsFullPool}
 use Rattle.jc_instrument.specs.Works.{Work, AreWorks, emitted_of, all_frames}
 use Rattle.jc_instrument.specs.declared.needs.MemberPlaces.{MemberPlaces}
 use Rattle.jc_instrument.specs.declared.probed.Probed.{Probed}
 use Rattle.jc_instrument.proofs.TakingLaws.{taken_count}
-use Rattle.jc_instrument.proofs.WritableLaws.{frames_chosen, laid_for}
+use Rattle.jc_instrument.proofs.WritableLaws.{frames_chosen}
 
 -- ---- frames
 
@@ -35,13 +36,13 @@ frames_are names array (w ∷ works) (p ∷ probed) made =
     ∙ ap₂ (λ (a : List SeenAt) (b : List SeenAt). a ++ b) (same_frames names array w p made.0) (frames_are names array works probed made.1)
     ∙ sym (flat_map-cons (λ (x : Work). written_frames names (emitted_of array x)) w works)
 
-pub all_writable : (names array : ℕ) (works : List Work) (probed : List Probed) → AreMade array works probed → AllByRecursion (HasFrames names) probed
-    → AllByRecursion (HasWritableFrames names) probed
-all_writable names array [] [] made has = tt
-all_writable names array [] (p ∷ probed) made has = absurd made
-all_writable names array (w ∷ works) [] made has = absurd made
-all_writable names array (w ∷ works) (p ∷ probed) made has =
-    (can_be_written p.emitted p.laid (laid_for p made.0.laid) names (frames_in p) has.0, all_writable names array works probed made.1 has.1)
+numbered : (insns names : ℕ) (frames : List FrameAt) → AllByRecursion (FitsFull insns names) frames → AreNumberedFrames names frames
+numbered insns names [] fit = tt
+numbered insns names (f ∷ frames) fit = (fit.0.numbered, numbered insns names frames fit.1)
+
+pub all_numbered : (names : ℕ) (probed : List Probed) → AllByRecursion (HasFrames names) probed → AllByRecursion (HasNumberedFrames names) probed
+all_numbered names [] has = tt
+all_numbered names (p ∷ probed) has = (numbered (length p.emitted.code + 1) names (frames_in p) has.0.each, all_numbered names probed has.1)
 
 -- ---- a full pool
 

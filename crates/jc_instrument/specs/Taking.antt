@@ -1,13 +1,12 @@
 -- What the steps answer by which a constant pool takes what an instrumented class needs.
 use Rattle.std.specs.Prelude.{◌≡◌, ⊤, ℕ, ℤ, ◌<◌, List, length, map, codes, if◌then◌else◌}
 use Rattle.std.specs.List.{flat_map}
-use Rattle.jc_base.specs.Held.{Names, SeenAt, seen_at}
+use Rattle.jc_base.specs.Held.{AreNumberedFrames, Names, SeenAt, seen_at}
 use Rattle.jc_base.specs.declared.body.FrameAt.{FrameAt}
 use Rattle.jc_base.specs.declared.fail.Fail.{Fail}
 use Rattle.jc_base.specs.declared.fail.Fail.TheVariants as fails
 use Rattle.jc_base.specs.declared.refusal.Refusal.{Refusal}
 use Rattle.jc_base.specs.declared.refusal.RefusalKind.TheVariants as kinds
-use Rattle.jc_frames.specs.FullTable.{CanBeWritten}
 use Rattle.jc_pool.specs.Pool.{PoolValue}
 use Rattle.jc_pool.specs.declared.add.PoolFull.{PoolFull}
 use Rattle.jc_code.specs.Given.{AreFrames}
@@ -64,9 +63,9 @@ frames_in p = if p.laid.wide then p.merged else p.emitted.frames
 abbrev pub frames_of : Names → List Probed → List SeenAt
 frames_of names probed = flat_map (λ p. map (seen_at names) (frames_in p)) probed
 
--- full frames can say this, over the instructions of the layout and with so many names
-abbrev pub HasWritableFrames : ℕ → Probed → Type 0
-HasWritableFrames names p = CanBeWritten p.laid.starts names (frames_in p)
+-- the classes that the frames of the layout name are numbers of so many names
+abbrev pub HasNumberedFrames : ℕ → Probed → Type 0
+HasNumberedFrames names p = AreNumberedFrames names (frames_in p)
 
 -- these are the frames of the layout, and name classes of which there are so many
 abbrev pub HasFrames : ℕ → Probed → Type 0

@@ -7,11 +7,11 @@ ghost use Rattle.jc_frames.specs.FullTable.{RefusesClasses, TakesClasses, named_
 ghost use Rattle.jc_kinds.specs.Answers.{Said};
 ghost use Rattle.jc_instrument.specs.Contents.{Takes, TakesEach};
 ghost use Rattle.jc_instrument.specs.Needed.{signed_id, member_needs, needed, place_list, TakesNeeded};
-ghost use Rattle.jc_instrument.specs.Taking.{content_of, frames_in, frames_of, HasWritableFrames, IsFullPool, RefusesEach};
+ghost use Rattle.jc_instrument.specs.Taking.{content_of, frames_in, frames_of, HasNumberedFrames, IsFullPool, RefusesEach};
 
 use crate::probed::Probed;
 use jc_base::{Fail, FrameAt, Names, Refusal, RefusalKind};
-use jc_frames::write_full;
+use jc_frames::take_classes;
 use jc_pool::{Pool, PoolFull};
 use std::alloc::Global;
 
@@ -198,22 +198,21 @@ pub fn frames_in(probed: &Probed) -> &[FrameAt]
     }
 }
 
-/// Takes the classes that frames name, method after method.
-fn take_classes(
+/// Takes the classes that the frames of each method name, method after method.
+fn take_all_classes(
     alloc: Global,
     probed: &[Probed],
     names: &Names,
     pool: &mut Pool,
 ) -> Result<(), Fail<PoolFull>>
-    requires { AllByRecursion (HasWritableFrames (length names.now)) probed.now }
+    requires { AllByRecursion (HasNumberedFrames (length names.now)) probed.now }
     ensures classes { OnOk result (TakesClasses pool.old (named_by_all (frames_of names.now probed.now)) pool.new) }
     ensures refused { IfErr result (RefusesClasses pool.old (named_by_all (frames_of names.now probed.now)) pool.new) }
     ensures extends { Extends pool.old pool.new }
 {
     'taking: for next in probed {
-        let mut table = Vec::new(alloc);
         let frames = frames_in(next);
-        write_full(alloc, frames, &next.laid.starts, names, pool, &mut table)?;
+        take_classes(alloc, frames, names, pool)?;
     }
     Ok(())
 }
@@ -228,13 +227,13 @@ fn take_all(
     pool: &mut Pool,
 ) -> Result<MemberPlaces, Fail<PoolFull>>
     requires owner { IsShortText owner.now }
-    requires frames { AllByRecursion (HasWritableFrames (length names.now)) probed.now }
+    requires frames { AllByRecursion (HasNumberedFrames (length names.now)) probed.now }
     ensures ok { IfOk result (TakesNeeded pool.old owner.now (signed_id id) (frames_of names.now probed.now) pool.new) }
     ensures refused { IfErr result (RefusesEach pool.old (needed owner.now (signed_id id) (frames_of names.now probed.now))) }
     ensures extends { Extends pool.old pool.new }
 {
     let places = take_members(alloc, owner, id, pool)?;
-    take_classes(alloc, probed, names, pool)?;
+    take_all_classes(alloc, probed, names, pool)?;
     Ok(places)
 }
 
@@ -253,7 +252,7 @@ pub fn take_needs(
     pool: &mut Pool,
 ) -> Result<MemberPlaces, Fail<Refusal>>
     requires owner { IsShortText owner.now }
-    requires frames { AllByRecursion (HasWritableFrames (length names.now)) probed.now }
+    requires frames { AllByRecursion (HasNumberedFrames (length names.now)) probed.now }
     ensures ok { IfOk result (TakesNeeded pool.old owner.now (signed_id id) (frames_of names.now probed.now) pool.new) }
     ensures refused { IfErr result
         (λ e. Said e (IsFullPool pool.old (needed owner.now (signed_id id) (frames_of names.now probed.now)))) }

@@ -8,18 +8,18 @@ use Rattle.jc_instrument.specs.Members.{AreCoded, AreWritable}
 use Rattle.jc_instrument.specs.Needed.{name_of, needed, signed_id, TakesNeeded}
 use Rattle.jc_instrument.specs.Probing.{AreMade}
 use Rattle.jc_instrument.specs.RoomCauses.{HasFullPool}
-use Rattle.jc_instrument.specs.Taking.{frames_of, HasWritableFrames, IsFullPool}
+use Rattle.jc_instrument.specs.Taking.{frames_of, HasNumberedFrames, IsFullPool}
 use Rattle.jc_instrument.proofs.AnswerLaws.{said_more}
 use Rattle.jc_instrument.proofs.CodedLaws.{are_coded}
 use Rattle.jc_instrument.proofs.ReadyLaws.{all_placed, are_named, are_writable, have_classes}
-use Rattle.jc_instrument.proofs.TakenNeedsLaws.{all_writable, frames_are, full_found}
+use Rattle.jc_instrument.proofs.TakenNeedsLaws.{all_numbered, frames_are, full_found}
 use Rattle.jc_instrument.proofs.twin.grown_twin.Goals as goal
 
 pub take_needs-requires-clause-frames : goal.take_needs-requires-clause-frames
 take_needs-requires-clause-frames c =
     let p = c.requires.probed in
     let count = length c.args.names.now in
-    subst (AllByRecursion (HasWritableFrames count)) (sym c.deref.ensures) (all_writable count p.array p.works c.args.probed.now.probed p.made p.frames)
+    subst (AllByRecursion (HasNumberedFrames count)) (sym c.deref.ensures) (all_numbered count c.args.probed.now.probed p.frames)
 
 pub returns-in_err-members-clause-refused : goal.returns-in_err-members-clause-refused
 returns-in_err-members-clause-refused c =

@@ -3,7 +3,7 @@ use Rattle.jc_pool.specs.Adding.{Extends}
 use Rattle.jc_frames.specs.FullTable.{named_by_all}
 use Rattle.jc_frames.proofs.TakenLaws.{Taking}
 use Rattle.jc_instrument.specs.Taking.{frames_of}
-use Rattle.jc_instrument.proofs.needs.take_classes.Given as goal
+use Rattle.jc_instrument.proofs.needs.take_all_classes.Given as goal
 
 -- the classes of the methods so far are taken
 abbrev pub invariant-taking : goal.invariant-taking
