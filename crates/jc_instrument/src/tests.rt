@@ -13,6 +13,7 @@ use std::alloc::Global;
 use std::test::Fail as Failed;
 
 mod files;
+mod whole_files;
 
 /// The flags of TWO, and the code of its two methods.
 const FLAGS: usize = 60;
