@@ -1,5 +1,5 @@
 //! Class files with their probes, and those that have none. Long ones are made of pieces.
-use super::files::{ABS, ABS_INSTRUMENTED, HAS_DATA, NO_CODE, TWO};
+use super::files::{ABS, ABS_INSTRUMENTED, CALC, CALC_INSTRUMENTED, HAS_DATA, NO_CODE, TWO};
 use super::{FIRST, FLAGS, LAST, edited, of_class, of_method};
 use crate::{Instrumented, instrument};
 use jc_base::{Fail, Memory, Refusal, RefusalKind};
@@ -106,14 +106,28 @@ fn why(alloc: Global, bytes: &[u8]) -> Option<Refusal> {
 }
 
 #[test]
-fn a_class_with_its_probes(rt: HostRuntime) -> Result<(), Failed> {
-    let made = made(rt.alloc(), &ABS)?;
-    assert_eq!(rt; made.bytes.as_slice(), ABS_INSTRUMENTED.as_slice());
-    assert_eq!(rt;
-        (made.id, made.probes, made.changed),
-        (0x005b_90dc_3bc6_67a7, 2, true)
-    );
-    assert_eq!(rt; made.name.as_slice(), b"A".as_slice());
+fn classes_with_their_probes(rt: HostRuntime) -> Result<(), Failed> {
+    for (bytes, instrumented, id, name, probes) in [
+        (
+            ABS.as_slice(),
+            ABS_INSTRUMENTED.as_slice(),
+            0x005b_90dc_3bc6_67a7,
+            b"A".as_slice(),
+            2,
+        ),
+        (
+            &CALC,
+            &CALC_INSTRUMENTED,
+            0x33b2_3280_8506_ef7c,
+            b"demo/Calc",
+            6,
+        ),
+    ] {
+        let made = made(rt.alloc(), bytes)?;
+        assert!(rt; made.bytes.as_slice() == instrumented, "{}", made.probes);
+        assert_eq!(rt; (made.id, made.probes, made.changed), (id, probes, true));
+        assert_eq!(rt; made.name.as_slice(), name);
+    }
     Ok(())
 }
 
