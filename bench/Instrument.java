@@ -9,7 +9,8 @@ import org.jacoco.core.runtime.OfflineInstrumentationAccessGenerator;
  * JaCoCo's offline instrumentation of class files.
  *
  * usage: Instrument LIST FOLDER, where LIST has a path in each line. Writes FOLDER/PATH for each, and prints how many
- * were instrumented. A file that JaCoCo refuses is copied. The runtime class has the name that jcov writes.
+ * were instrumented. A file that JaCoCo refuses is copied, and has a line on `err`. The runtime class has the name that
+ * jcov writes.
  */
 public final class Instrument {
     private static final String RUNTIME = "org/jacoco/agent/rt/internal/Offline";
@@ -30,6 +31,7 @@ public final class Instrument {
                 made++;
             } catch (IOException error) {
                 Files.write(target, bytes);
+                System.err.println("refused " + path + ": " + error.getCause());
                 refused++;
             }
         }
