@@ -1,0 +1,238 @@
+-- The numbers of instrumented code fit their types, so its layout spells it.
+use Rattle.std.proofs.Common.{◌≡◌, ◌⊎◌, inl, inr, ℕ, zero, suc, ◌+◌, ◌<◌, ◌≤◌, Bool, true, false, ◌&&◌, List, [], ◌∷◌, ◌++◌, length, map, get_or, nat_le, nat_lt, pos, w16, All, Option, Some, None, if◌then◌else◌, refl, sym, subst, arith}
+use Rattle.std.specs.Prelude.{⊤, slice_index}
+use Rattle.std.specs.List.{AllByRecursion}
+use Rattle.std.proofs.lemmas.Bool.{and_parts, cases_lt}
+use Rattle.std.proofs.lemmas.Int.{fits_signed_from_abs}
+use Rattle.std.proofs.lemmas.List.{get_or_past}
+use Rattle.std.proofs.lemmas.List.Elements.{All-cons, All-map, All-nil}
+use Rattle.jc_base.proofs.EachLaws.{all_both, all_of_each}
+use Rattle.jc_base.specs.Flow.{flow_of, jump_target, targets_of}
+use Rattle.jc_base.specs.Insn.{with_places}
+use Rattle.jc_base.specs.InsnUse.{LocalsWithin, is_of_two_slots}
+use Rattle.jc_base.specs.PlainLists.{pieces}
+use Rattle.jc_base.specs.WellMade.{IsWellMadeOfAnySize}
+use Rattle.jc_base.specs.Widened.{inverted}
+use Rattle.jc_base.specs.declared.body.Body.{Body}
+use Rattle.jc_base.specs.declared.insn.Flow.{Flow}
+use Rattle.jc_base.specs.declared.insn.Flow.TheVariants as flows
+use Rattle.jc_base.specs.declared.insn.Insn.{Insn}
+use Rattle.jc_base.specs.declared.insn.Insn.TheVariants as insns
+use Rattle.jc_base.specs.declared.kind.State.{State}
+use Rattle.jc_base.specs.declared.opcode.TheConstants as ops
+use Rattle.jc_after.specs.Shift.{slot_of, with_slot}
+use Rattle.jc_plan.specs.declared.branch.Branch.{Branch}
+use Rattle.jc_plan.specs.Edges.{branches, exit, jump}
+use Rattle.jc_plan.specs.Plan.{lead_probe}
+use Rattle.jc_plan.specs.Probed.{Position, id_if, is_before, is_probed, position_of, probe_count, probe_of, probes_before}
+use Rattle.jc_plan.proofs.CountLaws.{count_le}
+use Rattle.jc_insn.specs.Layouts.{laid_code, laid_starts}
+use Rattle.jc_insn.specs.Spells.{Spells}
+use Rattle.jc_insn.specs.Writing.{AllNear, IsInRange, code_text}
+use Rattle.jc_insn.proofs.LaidOutLaws.{IsLaidOut}
+use Rattle.jc_insn.proofs.PlacesLaws.{in_range_with}
+use Rattle.jc_insn.proofs.SpellingLaws.{spells_code}
+use Rattle.jc_insn.proofs.WideCodeLaws.{spells_wide}
+use Rattle.jc_emit.specs.Emission.{emission}
+use Rattle.jc_emit.specs.Items.{Item, arm_parts, early_part, hop_part, image_part, insn_of, lead_part, probe, segment, test_part, tests_part, twin_items, image_of, land_of, lead_of}
+use Rattle.jc_emit.specs.Marks.{push}
+use Rattle.jc_emit.specs.Sizes.{arms_at, early_by, early_probe, insn_at, late_by, late_probe}
+use Rattle.jc_emit.specs.TwinCode.{arm_place, to_of}
+use Rattle.jc_layout.specs.Layout.{chosen_length, chosen_starts, chosen_text, is_wide}
+use Rattle.jc_layout.proofs.ChoiceLaws.{chosen_stand, near}
+use Rattle.jc_layout.proofs.LayableLaws.{all_formed, all_within}
+
+all_by : {X : Type 0} (P : X → Type 0) (xs : List X) → AllByRecursion P xs → All P xs
+all_by P [] all = All-nil P
+all_by P (x ∷ xs) all = All-cons P x xs all.0 (all_by P xs all.1)
+
+-- ---- numbers of instructions
+
+slot_small : (v slot max : ℕ) → slot < max → max + 1 ≤ 65535 → slot_of v slot < 65536
+slot_small v slot max lt few = by (nat_lt slot v)
+  where
+    by : (t : Bool) → (if t then slot else slot + 1) < 65536
+    by true = omega (arith, lt, few)
+    by false = omega (arith, lt, few)
+
+first_within : (test : Bool) (slot max : ℕ) → AllByRecursion (λ k. k < max) (if test then slot ∷ (slot + 1) ∷ [] else slot ∷ []) → slot < max
+first_within true slot max all = all.0
+first_within false slot max all = all.0
+
+slot_range : (v max : ℕ) (insn : Insn) → max + 1 ≤ 65535 → LocalsWithin max insn → IsInRange insn → IsInRange (with_slot v insn)
+slot_range v max (insns.Local op slot) few within h = slot_small v slot max (first_within (is_of_two_slots op) slot max within) few
+slot_range v max (insns.Inc slot by) few within h = (slot_small v slot max within.0 few, h.1)
+slot_range v max insn few within h = h
+
+inverted_range : (to : ℕ) (insn : Insn) → IsInRange insn → IsInRange (inverted to insn)
+inverted_range to (insns.Jump op other) h = tt
+inverted_range to insn h = h
+
+push_range : (n : ℕ) → n ≤ 32767 → IsInRange (push n)
+push_range n le = by (nat_le n 5) (nat_le n 127)
+  where
+    by : (s t : Bool) → IsInRange (if s then insns.Simple (ops.ICONST_0 + n) else if t then insns.Push ops.BIPUSH (pos n) else insns.Push ops.SIPUSH (pos n))
+    by true t = tt
+    by false true = fits_signed_from_abs w16 (pos n) (omega (arith, le))
+    by false false = fits_signed_from_abs w16 (pos n) (omega (arith, le))
+
+-- ---- ids
+
+-- an id can be pushed
+abbrev IsFewId : Option ℕ → Type 0
+IsFewId None = ⊤
+IsFewId (Some id) = id ≤ 32767
+
+few_if : (test : Bool) (id : ℕ) → id ≤ 32767 → IsFewId (id_if test id)
+few_if true id le = le
+few_if false id le = tt
+
+module _ (b : Body) (first : ℕ) (states : List State) (array : ℕ) (well : IsWellMadeOfAnySize b) (ranges : All IsInRange b.code)
+    (locals : b.max_locals + 1 ≤ 65535) (ids : first + probe_count b ≤ 32767) where
+  few_before : (p : Position) → first + probes_before b p ≤ 32767
+  few_before p =
+      let less = count_le (λ (x : Branch). is_probed b x && is_before (position_of x) p) (is_probed b) (branches b.code)
+      (λ x both. (and_parts (is_probed b x) (is_before (position_of x) p) both).0) in
+      omega (arith, less, ids)
+
+  lead_few : (i : ℕ) → IsFewId (lead_probe b first i)
+  lead_few i = few_if _ _ (few_before (record { at = i; number = 0 }))
+
+  probe_few : (x : Branch) → IsFewId (probe_of b first x)
+  probe_few x = few_if (is_probed b x) _ (few_before (position_of x))
+
+  early_few : (i : ℕ) (insn : Insn) (flow : Flow) → IsFewId (early_by (probe_of b first) i insn flow)
+  early_few i insn flows.Jumps = probe_few (jump i (jump_target insn))
+  early_few i insn flows.Returns = probe_few (exit i)
+  early_few i insn flows.Throws = probe_few (exit i)
+  early_few i insn flow = tt
+
+  late_few : (i : ℕ) (insn : Insn) (flow : Flow) → IsFewId (late_by (probe_of b first) i insn flow)
+  late_few i insn flows.Tests = probe_few (jump i (jump_target insn))
+  late_few i insn flow = tt
+
+  -- ---- items
+
+  abbrev Fits : Item → Type 0
+  Fits x = IsInRange (insn_of 0 b.arg_slots x)
+
+  abbrev All_fit : List Item → Type 0
+  All_fit xs = AllByRecursion Fits xs
+
+  slot_fits : b.arg_slots < 65536
+  slot_fits = let le = well.arguments_fit in omega (arith, le, locals)
+
+  probe_fits : (id at : ℕ) (late : Bool) → id ≤ 32767 → All_fit (probe id at late)
+  probe_fits id at late le = (slot_fits, (push_range id le, (tt, (tt, tt))))
+
+  lead_fits : (o : Option ℕ) (i : ℕ) → IsFewId o → All_fit (lead_part o i)
+  lead_fits None i few = tt
+  lead_fits (Some id) i few = probe_fits id i true few
+
+  early_fits : (o : Option ℕ) (i : ℕ) → IsFewId o → All_fit (early_part o i)
+  early_fits None i few = tt
+  early_fits (Some id) i few = probe_fits id i false few
+
+  hop_fits : (land : ℕ → ℕ) (o : Option ℕ) (to : ℕ) → IsFewId o → All_fit (hop_part land o to)
+  hop_fits land None to few = tt
+  hop_fits land (Some id) to few = (slot_fits, (push_range id few, (tt, (tt, (tt, tt)))))
+
+  arms_fit : (land : ℕ → ℕ) (xs : List Branch) → All_fit (arm_parts land (probe_of b first) xs)
+  arms_fit land [] = tt
+  arms_fit land (x ∷ xs) =
+      all_both Fits (hop_part land (probe_of b first x) (to_of x)) (arm_parts land (probe_of b first) xs)
+      (hop_fits land (probe_of b first x) (to_of x) (probe_few x)) (arms_fit land xs)
+
+  test_fits : (w : Bool) (q : ℕ) (insn : Insn) (i on : ℕ) (due : Option ℕ) → IsInRange insn → All_fit (test_part w q insn i on due)
+  test_fits false q insn i on due h = (h, tt)
+  test_fits true q insn i on due h = (inverted_range (q + 2) insn h, (tt, tt))
+
+  tests_fit : (i : ℕ) (insn : Insn) (o : Option ℕ) → IsInRange insn → IsFewId o → All_fit (tests_part b first false i insn o)
+  tests_fit i insn None h few =
+      test_fits false (image_of b first false i) (with_places (land_of b first false) insn) i (jump_target insn) None
+      (in_range_with (land_of b first false) insn h)
+  tests_fit i insn (Some id) h few =
+      all_both Fits (test_part false (image_of b first false i) (inverted (lead_of b first false (i + 1)) insn) i (i + 1) (lead_probe b first (i + 1)))
+      (hop_part (land_of b first false) (Some id) (jump_target insn))
+      (test_fits false (image_of b first false i) (inverted (lead_of b first false (i + 1)) insn) i (i + 1) (lead_probe b first (i + 1))
+      (inverted_range (lead_of b first false (i + 1)) insn h))
+      (hop_fits (land_of b first false) (Some id) (jump_target insn) few)
+
+  abbrev old : ℕ → Insn
+  old i = insn_at b.code i
+
+  image_fits : (i : ℕ) (flow : Flow) → IsInRange (old i) → LocalsWithin b.max_locals (old i) → All_fit (image_part b first false i (old i) flow)
+  image_fits i flows.GoesOn h within = (slot_range b.arg_slots b.max_locals (old i) locals within h, tt)
+  image_fits i flows.Tests h within = tests_fit i (old i) (late_probe b first i) h (late_few i (old i) (flow_of (old i)))
+  image_fits i flows.Jumps h within = (in_range_with (land_of b first false) (old i) h, tt)
+  image_fits i flows.Switches h within = (
+    in_range_with (arm_place (probe_of b first) (land_of b first false) (image_of b first false i + 1) (arms_at b.code i)) (old i) h,
+    arms_fit (land_of b first false) (arms_at b.code i),
+  )
+  image_fits i flows.Returns h within = (h, tt)
+  image_fits i flows.Throws h within = (h, tt)
+
+  old_is : (P : Insn → Type 0) → P (insns.Simple 0) → All P b.code → (i : ℕ) → P (old i)
+  old_is P none all i = by (cases_lt i (length b.code))
+    where
+      by : (i < length b.code) ⊎ (length b.code ≤ i) → P (old i)
+      by (inl lt) = all i (insns.Simple 0) lt
+      by (inr past) = subst P (sym (get_or_past b.code i (insns.Simple 0) past)) none
+
+  segment_fits : (i : ℕ) → All_fit (segment b first false i)
+  segment_fits i =
+      let main = image_part b first false i (old i) (flow_of (old i)) in
+      all_both Fits (lead_part (lead_probe b first i) i) (early_part (early_probe b first i) i ++ main) (lead_fits (lead_probe b first i) i (lead_few i))
+      (all_both Fits (early_part (early_probe b first i) i) main (early_fits (early_probe b first i) i (early_few i (old i) (flow_of (old i))))
+      (image_fits i (flow_of (old i)) (old_is IsInRange tt ranges i) (old_is (LocalsWithin b.max_locals) tt well.locals i)))
+
+  pieces_fit : (n : ℕ) → All_fit (pieces (segment b first false) n)
+  pieces_fit zero = tt
+  pieces_fit (suc n) = all_both Fits (pieces (segment b first false) n) (segment b first false n) (pieces_fit n) (segment_fits n)
+
+  items_fit : All_fit (twin_items b first false)
+  unfolding twin_items
+  items_fit = (omega arith, (slot_fits, pieces_fit (length b.code)))
+
+  each_mapped : (xs : List Item) → All_fit xs → AllByRecursion IsInRange (map (insn_of 0 b.arg_slots) xs)
+  each_mapped [] all = tt
+  each_mapped (x ∷ xs) all = (all.0, each_mapped xs all.1)
+
+  -- ---- the code
+
+  abbrev code : List Insn
+  code = map (insn_of 0 b.arg_slots) (twin_items b first false)
+
+  all_fit : All IsInRange code
+  all_fit = All-map IsInRange (insn_of 0 b.arg_slots) (twin_items b first false)
+      (all_of_each IsInRange (insn_of 0 b.arg_slots) (twin_items b first false) (each_mapped (twin_items b first false) items_fit))
+
+  places_fit : All (λ insn. All (λ to. to < length code) (targets_of insn)) code
+  places_fit k d lt = all_by (λ to. to < length code) (targets_of (get_or code k d)) (all_within b first well.code k d lt)
+
+-- ---- layouts
+
+spelled_by : (code : List Insn) (starts : List ℕ) (wide : Bool) → IsLaidOut wide code starts → (wide ≡ false → AllNear (slice_index starts) code starts)
+    → Spells (code_text (slice_index starts) wide code starts) (laid_code wide code) (laid_starts wide code starts)
+spelled_by code starts false out near = spells_code code starts out (near refl)
+spelled_by code starts true out near = spells_wide code starts out
+
+-- the layout that is chosen spells the instrumented code of a body whose instructions fit their types, where its ids can be pushed
+pub chosen_spelled : (b : Body) (first : ℕ) (states : List State) (array : ℕ) → IsWellMadeOfAnySize b → All IsInRange b.code → b.max_locals + 1 ≤ 65535
+    → first + probe_count b ≤ 32767 → chosen_length (emission b first states array).code ≤ 65535
+    → Spells (chosen_text (emission b first states array).code) (laid_code (is_wide (emission b first states array).code) (emission b first states array).code)
+    (laid_starts (is_wide (emission b first states array).code) (emission b first states array).code (chosen_starts (emission b first states array).code))
+unfolding chosen_text emission
+chosen_spelled b first states array well ranges locals ids few =
+    let laid = code b first states array well ranges locals ids in
+    let wide = is_wide laid in
+    let starts = chosen_starts laid in
+    spelled_by laid starts wide
+    (record {
+      starts_at = chosen_stand laid;
+      end = omega (arith, few);
+      well_formed = all_formed b first well.code;
+      in_range = all_fit b first states array well ranges locals ids;
+      places = places_fit b first states array well ranges locals ids;
+    })
+    (near laid starts wide refl refl)

@@ -1,0 +1,275 @@
+-- The instructions of a twin lead to instructions of it, and use its local variables.
+use Rattle.std.proofs.Common.{◌≡◌, ⊎_elim, inl, inr, ℕ, zero, suc, ◌+◌, ◌<◌, ◌≤◌, Bool, true, false, List, [], ◌∷◌, map, length, Option, Some, None, refl, sym, ap, ◌∙◌, subst, arith, All, nat_lt, nat_le, if◌then◌else◌, cond, pos}
+use Rattle.std.specs.Prelude.{slice_get, Contains}
+use Rattle.std.specs.List.{AllByRecursion}
+use Rattle.std.proofs.lemmas.Bool.{cond_both}
+use Rattle.std.proofs.lemmas.Option.{none-some, same_Some, slice_get_within}
+use Rattle.jc_base.proofs.EachLaws.{all_weaker}
+use Rattle.jc_base.proofs.FirstSeenLaws.{contains_none, contains_cases, contains_first, contains_later, first_seen_all}
+use Rattle.jc_base.specs.FirstSeen.{first_seen}
+use Rattle.jc_base.specs.PlainLists.{map_from}
+use Rattle.jc_base.specs.Flow.{flow_of, targets_of, FallsThrough}
+use Rattle.jc_base.specs.Insn.{with_places}
+use Rattle.jc_base.specs.InsnUse.{LeadsWithin, LocalsWithin, is_of_two_slots, locals_of}
+use Rattle.jc_base.specs.WellMade.{IsCode}
+use Rattle.jc_base.specs.Widened.{inverted}
+use Rattle.jc_base.specs.declared.insn.Insn.{Insn}
+use Rattle.jc_base.specs.declared.insn.Insn.TheVariants as insns
+use Rattle.jc_base.specs.declared.insn.Flow.{Flow}
+use Rattle.jc_base.specs.declared.insn.Flow.TheVariants as flows
+use Rattle.jc_base.specs.declared.body.Body.{Body}
+use Rattle.jc_plan.specs.declared.branch.Branch.{Branch}
+use Rattle.jc_plan.specs.Edges.{arm, branches_by}
+use Rattle.jc_plan.specs.Probed.{probe_of}
+use Rattle.jc_after.specs.Shift.{slot_of, with_slot}
+use Rattle.jc_emit.specs.Marks.{push}
+use Rattle.jc_emit.specs.Sizes.{insn_at}
+use Rattle.jc_emit.specs.TwinCode.{to_of}
+use Rattle.jc_emit.specs.Items.{Item, init_call, init_store, image, probe_array, probe_id, probe_one, probe_store, hop, insn_of, twin_items}
+use Rattle.jc_emit.specs.Local.{Stands, Lands, Ok, OkImage}
+use Rattle.jc_emit.proofs.PlacedLaws.{flow_push, flow_shifted, targets_placed, no_targets, inverse_targets, placed_targets, goto_stops, switch_stops, no_fall_goto, never}
+use Rattle.jc_emit.proofs.Others.{jumps_target}
+use Rattle.jc_emit.proofs.LocalLaws.{twin_ok}
+
+-- ---- mapped lists
+
+pub mapped_at : {X Y : Type 0} (f : X → Y) (xs : List X) (k : ℕ) (y : Y) → slice_get (map f xs) k ≡ Some y → (x : X) × (slice_get xs k ≡ Some x) × (f x ≡ y)
+mapped_at f [] k y e = absurd (none-some y e)
+mapped_at f (x ∷ xs) zero y e = (x, refl, same_Some (f x) y e)
+mapped_at f (x ∷ xs) (suc k) y e = mapped_at f xs k y e
+
+-- ---- local variables
+
+slot_near : (v k : ℕ) → slot_of v k ≤ k + 1
+slot_near v k = by (nat_lt k v)
+  where
+    by : (t : Bool) → (if t then k else k + 1) ≤ k + 1
+    by true = omega arith
+    by false = omega arith
+
+slot_within : (v n : ℕ) (insn : Insn) → LocalsWithin n insn → LocalsWithin (n + 1) (with_slot v insn)
+slot_within v n (insns.Local op slot) h = by (is_of_two_slots op) h
+  where
+    by : (t : Bool) → AllByRecursion (λ k. k < n) (if t then slot ∷ (slot + 1) ∷ [] else slot ∷ [])
+        → AllByRecursion (λ k. k < n + 1) (if t then slot_of v slot ∷ (slot_of v slot + 1) ∷ [] else slot_of v slot ∷ [])
+    by true h = let near = slot_near v slot in let two = h.1.0 in (omega (arith, near, two), (omega (arith, near, two), tt))
+    by false h = let near = slot_near v slot in let one = h.0 in (omega (arith, near, one), tt)
+slot_within v n (insns.Inc slot by) h = let near = slot_near v slot in let one = h.0 in (omega (arith, near, one), tt)
+slot_within v n (insns.Simple op) h = tt
+slot_within v n (insns.Push op value) h = tt
+slot_within v n (insns.Constant place) h = tt
+slot_within v n (insns.Constant2 place) h = tt
+slot_within v n (insns.Member op place) h = tt
+slot_within v n (insns.Interface place count) h = tt
+slot_within v n (insns.Dynamic place) h = tt
+slot_within v n (insns.OfClass op place) h = tt
+slot_within v n (insns.NewArray elem) h = tt
+slot_within v n (insns.Multi place dims) h = tt
+slot_within v n (insns.Jump op to) h = tt
+slot_within v n (insns.Table low default arms) h = tt
+slot_within v n (insns.Lookup default arms) h = tt
+
+placed_locals : (f : ℕ → ℕ) (insn : Insn) → locals_of (with_places f insn) ≡ locals_of insn
+placed_locals f (insns.Local op slot) = refl
+placed_locals f (insns.Inc slot by) = refl
+placed_locals f (insns.Simple op) = refl
+placed_locals f (insns.Push op value) = refl
+placed_locals f (insns.Constant place) = refl
+placed_locals f (insns.Constant2 place) = refl
+placed_locals f (insns.Member op place) = refl
+placed_locals f (insns.Interface place count) = refl
+placed_locals f (insns.Dynamic place) = refl
+placed_locals f (insns.OfClass op place) = refl
+placed_locals f (insns.NewArray elem) = refl
+placed_locals f (insns.Multi place dims) = refl
+placed_locals f (insns.Jump op to) = refl
+placed_locals f (insns.Table low default arms) = refl
+placed_locals f (insns.Lookup default arms) = refl
+
+inverted_locals : (to : ℕ) (insn : Insn) → locals_of (inverted to insn) ≡ locals_of insn
+inverted_locals to (insns.Local op slot) = refl
+inverted_locals to (insns.Inc slot by) = refl
+inverted_locals to (insns.Simple op) = refl
+inverted_locals to (insns.Push op value) = refl
+inverted_locals to (insns.Constant place) = refl
+inverted_locals to (insns.Constant2 place) = refl
+inverted_locals to (insns.Member op place) = refl
+inverted_locals to (insns.Interface place count) = refl
+inverted_locals to (insns.Dynamic place) = refl
+inverted_locals to (insns.OfClass op place) = refl
+inverted_locals to (insns.NewArray elem) = refl
+inverted_locals to (insns.Multi place dims) = refl
+inverted_locals to (insns.Jump op other) = refl
+inverted_locals to (insns.Table low default arms) = refl
+inverted_locals to (insns.Lookup default arms) = refl
+
+abbrev pub plain_push : ℕ → Insn
+plain_push n = cond (nat_le n 127) (insns.Push 16 (pos n)) (insns.Push 17 (pos n))
+
+pub push_locals : (n : ℕ) → locals_of (push n) ≡ []
+push_locals n =
+    cond_both (nat_le n 5) (insns.Simple (3 + n)) (plain_push n) (λ x. locals_of x ≡ []) (λ few. refl)
+    (λ many. cond_both (nat_le n 127) (insns.Push 16 (pos n)) (insns.Push 17 (pos n)) (λ x. locals_of x ≡ []) (λ h. refl) (λ h. refl))
+
+-- ---- where instructions lead
+
+each_mapped : (f : ℕ → ℕ) (P : ℕ → Type 0) (xs : List ℕ) → ((x : ℕ) → Contains xs x → P (f x)) → AllByRecursion P (map f xs)
+each_mapped f P [] h = tt
+each_mapped f P (x ∷ xs) h = (h x (contains_first x xs), each_mapped f P xs (λ y c. h y (contains_later x xs y c)))
+
+-- the branch of a switch's target
+branch_of : (i k : ℕ) (ts : List ℕ) (t : ℕ) → Contains ts t → (x : Branch) × Contains (map_from (arm i) k ts) x × (to_of x ≡ t)
+branch_of i k [] t c = absurd (contains_none t c)
+branch_of i k (s ∷ ts) t c =
+    ⊎_elim
+    (λ same. (arm i k s, contains_first (arm i k s) (map_from (arm i) (k + 1) ts), same))
+    (λ later. let x = branch_of i (k + 1) ts t later in (x.0, contains_later (arm i k s) (map_from (arm i) (k + 1) ts) x.0 x.1, x.2))
+    (contains_cases s ts t c)
+
+module _ (b : Body) (first : ℕ) (wide : Bool) (call : ℕ) (is_code : IsCode b.code) where
+  abbrev pub items : List Item
+  items = twin_items b first wide
+
+  abbrev new : Item → Insn
+  new x = insn_of call b.arg_slots x
+
+  abbrev old : ℕ → Insn
+  old i = insn_at b.code i
+
+  abbrev count : ℕ
+  count = length (twin_items b first wide)
+
+  abbrev Image : ℕ → ℕ → Insn → Flow → Type 0
+  Image q i insn flow = OkImage b.code (Some b.arg_slots) (probe_of b first) items q i (old i) insn flow
+
+  abbrev pub Fine : ℕ → Item → Type 0
+  Fine q x = Ok b.code (Some b.arg_slots) (probe_of b first) items q x
+
+  stands_within : (q at : ℕ) (due : Option ℕ) → Stands b.code (Some b.arg_slots) (probe_of b first) items q at due → q < count
+  stands_within q at due h = slice_get_within items q h.item h.here
+
+  pub lands_within : (q at : ℕ) (due : Option ℕ) → Lands b.code (Some b.arg_slots) (probe_of b first) items q at due → q < count
+  lands_within q at due h = stands_within q at due h.stands
+
+  -- ---- jumps
+
+  abbrev Within : List ℕ → Type 0
+  Within ts = AllByRecursion (λ to. to < count) ts
+
+  switch_within : (i : ℕ) (place : ℕ → ℕ) → flow_of (old i) ≡ flows.Switches
+      → ((x : Branch) → Contains (branches_by (flow_of (old i)) i (targets_of (old i))) x
+      → Lands b.code (Some b.arg_slots) (probe_of b first) items (place (to_of x)) (to_of x) (probe_of b first x))
+      → Within (targets_of (with_places place (old i)))
+  switch_within i place e each =
+      subst Within (sym (targets_placed place (old i)))
+      (each_mapped place (λ to. to < count) (targets_of (old i))
+      (λ t c.
+      let x = branch_of i 0 (first_seen (targets_of (old i))) t (first_seen_all (targets_of (old i)) t c) in
+      let listed = subst (λ f. Contains (branches_by f i (targets_of (old i))) x.0) (sym e) x.1 in
+      subst (λ to. place to < count) x.2 (lands_within (place (to_of x.0)) (to_of x.0) (probe_of b first x.0) (each x.0 listed))))
+
+  image_within : (q i : ℕ) (insn : Insn) (flow : Flow) → flow_of (old i) ≡ flow → Image q i insn flow → Within (targets_of insn)
+  image_within q i insn flows.GoesOn e h =
+      subst (λ x. Within (targets_of x)) (sym h.0)
+      (subst Within (sym (no_targets (with_slot b.arg_slots (old i)) (inl (flow_shifted b.arg_slots (old i) ∙ e)))) tt)
+  image_within q i insn flows.Tests e h =
+      ⊎_elim
+      (λ alike. subst (λ x. Within (targets_of x)) (sym alike.same)
+      (subst Within (sym (placed_targets (old i) (λ to. alike.target) e)) (lands_within alike.target _ _ alike.jumped, tt)))
+      (λ inverse. subst (λ x. Within (targets_of x)) (sym inverse.inverse)
+      (subst Within (sym (inverse_targets (old i) inverse.target e)) (lands_within inverse.target _ _ inverse.jumped, tt)))
+      h
+  image_within q i insn flows.Jumps e h =
+      subst (λ x. Within (targets_of x)) (sym h.same)
+      (subst Within (sym (targets_placed (λ to. h.target) (old i) ∙ ap (map (λ (to : ℕ). h.target)) (jumps_target (old i) e)))
+      (lands_within h.target _ _ h.jumped, tt))
+  image_within q i insn flows.Switches e h = subst (λ x. Within (targets_of x)) (sym h.same) (switch_within i h.place e h.each)
+  image_within q i insn flows.Returns e h =
+      subst (λ x. Within (targets_of x)) (sym h) (subst Within (sym (no_targets (old i) (inr (inl e)))) tt)
+  image_within q i insn flows.Throws e h =
+      subst (λ x. Within (targets_of x)) (sym h) (subst Within (sym (no_targets (old i) (inr (inr e)))) tt)
+
+  item_within : (q : ℕ) (x : Item) → Fine q x → LeadsWithin count (new x)
+  item_within q init_call h = tt
+  item_within q init_store h = tt
+  item_within q (image insn i early) h = image_within q i insn (flow_of (old i)) refl h.2
+  item_within q (probe_array id at late) h = tt
+  item_within q (probe_id id at late) h = subst Within (sym (no_targets (push id) (inl (flow_push id)))) tt
+  item_within q (probe_one id at late) h = tt
+  item_within q (probe_store id at late) h = tt
+  item_within q (hop to at due) h = (lands_within to at due h, tt)
+
+  -- ---- what falls through
+
+  image_falls : (q i : ℕ) (insn : Insn) (flow : Flow) → flow_of (old i) ≡ flow → Image q i insn flow → FallsThrough insn → q + 1 < count
+  image_falls q i insn flows.GoesOn e h falls = lands_within (q + 1) _ _ h.1
+  image_falls q i insn flows.Tests e h falls =
+      ⊎_elim (λ alike. stands_within (q + 1) _ _ alike.fell) (λ inverse. stands_within (q + 1) _ _ inverse.fell) h
+  image_falls q i insn flows.Jumps e h falls = absurd (goto_stops (old i) (λ to. h.target) e (subst FallsThrough h.same falls))
+  image_falls q i insn flows.Switches e h falls = absurd (switch_stops (old i) h.place e (subst FallsThrough h.same falls))
+  image_falls q i insn flows.Returns e h falls = absurd (never (old i) flows.Returns e (λ x. cc) (λ x. cc) (subst FallsThrough h falls))
+  image_falls q i insn flows.Throws e h falls = absurd (never (old i) flows.Throws e (λ x. cc) (λ x. cc) (subst FallsThrough h falls))
+
+  item_falls : (q : ℕ) (x : Item) → Fine q x → FallsThrough (new x) → q + 1 < count
+  item_falls q init_call h falls = slice_get_within items (q + 1) init_store h
+  item_falls q init_store h falls = lands_within (q + 1) 0 None h
+  item_falls q (image insn i early) h falls = image_falls q i insn (flow_of (old i)) refl h.2 falls
+  item_falls q (probe_array id at late) h falls = slice_get_within items (q + 1) (probe_id id at late) h.1
+  item_falls q (probe_id id at late) h falls = slice_get_within items (q + 1) (probe_one id at late) h.1
+  item_falls q (probe_one id at late) h falls = slice_get_within items (q + 1) (probe_store id at late) h.1
+  item_falls q (probe_store id at true) h falls = stands_within (q + 1) at None h.1
+  item_falls q (probe_store id at false) h falls = slice_get_within items (q + 1) (image h.1.0 at (Some id)) h.1.1
+  item_falls q (hop to at due) h falls = absurd (no_fall_goto to falls)
+
+  -- ---- local variables
+
+  module _ (locals : All (LocalsWithin b.max_locals) b.code) (room : b.arg_slots ≤ b.max_locals) where
+    old_locals : (i : ℕ) → i < length b.code → LocalsWithin (b.max_locals + 1) (old i)
+    old_locals i lt =
+        all_weaker (λ (k : ℕ). k < b.max_locals) (λ (k : ℕ). k < b.max_locals + 1) (λ k less. omega (arith, less)) (locals_of (old i)) (locals i (insns.Simple 0) lt)
+
+    abbrev Among : List ℕ → Type 0
+    Among slots = AllByRecursion (λ k. k < b.max_locals + 1) slots
+
+    image_locals : (q i : ℕ) (insn : Insn) (flow : Flow) → i < length b.code → Image q i insn flow → Among (locals_of insn)
+    image_locals q i insn flows.GoesOn lt h = subst (λ x. Among (locals_of x)) (sym h.0) (slot_within b.arg_slots b.max_locals (old i) (locals i (insns.Simple 0) lt))
+    image_locals q i insn flows.Tests lt h =
+        ⊎_elim
+        (λ alike. subst (λ x. Among (locals_of x)) (sym alike.same) (subst Among (sym (placed_locals (λ to. alike.target) (old i))) (old_locals i lt)))
+        (λ inverse. subst (λ x. Among (locals_of x)) (sym inverse.inverse) (subst Among (sym (inverted_locals inverse.target (old i))) (old_locals i lt)))
+        h
+    image_locals q i insn flows.Jumps lt h =
+        subst (λ x. Among (locals_of x)) (sym h.same) (subst Among (sym (placed_locals (λ to. h.target) (old i))) (old_locals i lt))
+    image_locals q i insn flows.Switches lt h =
+        subst (λ x. Among (locals_of x)) (sym h.same) (subst Among (sym (placed_locals h.place (old i))) (old_locals i lt))
+    image_locals q i insn flows.Returns lt h = subst (λ x. Among (locals_of x)) (sym h) (old_locals i lt)
+    image_locals q i insn flows.Throws lt h = subst (λ x. Among (locals_of x)) (sym h) (old_locals i lt)
+
+    item_locals : (q : ℕ) (x : Item) → Fine q x → LocalsWithin (b.max_locals + 1) (new x)
+    item_locals q init_call h = tt
+    item_locals q init_store h = (omega (arith, room), tt)
+    item_locals q (image insn i early) h = image_locals q i insn (flow_of (old i)) h.0 h.2
+    item_locals q (probe_array id at late) h = (omega (arith, room), tt)
+    item_locals q (probe_id id at late) h = subst Among (sym (push_locals id)) tt
+    item_locals q (probe_one id at late) h = tt
+    item_locals q (probe_store id at late) h = tt
+    item_locals q (hop to at due) h = tt
+
+  -- ---- the whole
+
+  -- what holds of the instruction of each item that is as it should be holds of each instruction of the twin
+  pub each_insn : (Fact : ℕ → Insn → Type 0) → ((q : ℕ) (x : Item) → Fine q x → Fact q (new x))
+      → (q : ℕ) (insn : Insn) → slice_get (map new items) q ≡ Some insn → Fact q insn
+  each_insn Fact each q insn at =
+      let found = mapped_at new items q insn at in
+      subst (Fact q) found.2 (each q found.0 ((twin_ok b first wide is_code).ok q found.0 found.1))
+
+  pub leads : (q : ℕ) (insn : Insn) → slice_get (map new items) q ≡ Some insn → LeadsWithin count insn
+  leads q insn at = each_insn (λ q insn. LeadsWithin count insn) item_within q insn at
+
+  pub falls : (q : ℕ) (insn : Insn) → slice_get (map new items) q ≡ Some insn → FallsThrough insn → q + 1 < count
+  falls q insn at = each_insn (λ q insn. FallsThrough insn → q + 1 < count) item_falls q insn at
+
+  pub uses_locals : All (LocalsWithin b.max_locals) b.code → b.arg_slots ≤ b.max_locals
+      → (q : ℕ) (insn : Insn) → slice_get (map new items) q ≡ Some insn → LocalsWithin (b.max_locals + 1) insn
+  uses_locals locals room q insn at = each_insn (λ q insn. LocalsWithin (b.max_locals + 1) insn) (item_locals locals room) q insn at
