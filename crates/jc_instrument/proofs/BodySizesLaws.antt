@@ -1,9 +1,12 @@
 -- A body of a class whose text is no longer than what is read is well made.
-use Rattle.std.proofs.Common.{◌≡◌, ◌⊎◌, inl, inr, ℕ, zero, suc, ◌+◌, ◌≤◌, Bool, List, [], ◌∷◌, length, map, filter, sym, ◌∙◌, ap, subst, arith, length-append}
+use Rattle.std.proofs.Common.{◌≡◌, ◌⊎◌, inl, inr, ℕ, zero, suc, ◌+◌, ◌*◌, ◌≤◌, Bool, List, [], ◌∷◌, ◌++◌, length, map, filter, sym, ◌∙◌, ap, subst, arith, length-append}
 use Rattle.std.specs.Prelude.{codes}
+use Rattle.std.specs.List.{sum_by}
 use Rattle.std.proofs.lemmas.List.{length-map}
 use Rattle.std.proofs.lemmas.List.Sums.{sum_by-cons, length-filter, count_by-le-length}
+use Rattle.std.proofs.Math.Nat.{mul-add, mul-one, mul-zero}
 use Rattle.jc_base.specs.Counted.{counted}
+use Rattle.jc_base.specs.Decoder.{IsBig}
 use Rattle.jc_base.specs.Grammar.{Grammar}
 use Rattle.jc_base.specs.Held.{Names, SeenAt, seen_at}
 use Rattle.jc_base.specs.Outside.{most_read}
@@ -36,40 +39,77 @@ use Rattle.jc_body.specs.declared.items.VarEntry.{VarEntry}
 use Rattle.jc_body.proofs.WellMadeLaws.{well_made}
 use Rattle.jc_instrument.proofs.PoolTextLaws.{IsReadPool, utf8_short, class_short}
 use Rattle.jc_instrument.proofs.UsedTextsLaws.{uses_short, uses_few}
-use Rattle.jc_instrument.proofs.TextSizesLaws.{in_two, counted_size, ones, attributes_size, texts_size, counted_attributes, some_size, method_size}
+use Rattle.jc_instrument.proofs.TextSizesLaws.{in_two, counted_size, attributes_size, texts_size, counted_attributes, some_size, method_size}
 
 -- ---- the code attribute
 
-row_some : (text : List ℕ) (r : Row) → row.Text text r → 1 ≤ length text
-row_some text r t = let one = in_two text t.1 t.2 t.3 in let size = t.4.size in omega (arith, one, size)
+-- two bytes, and what stands behind them
+behind_two : (bytes front rest : List ℕ) (n : ℕ) → bytes ≡ front ++ rest → IsBig 2 front n → length bytes ≡ 2 + length rest
+behind_two bytes front rest n parts big = let both = in_two bytes front rest parts in let size = big.size in omega (arith, both, size)
 
-line_some : (text : List ℕ) (e : LineEntry) → line_entry.Text text e → 1 ≤ length text
-line_some text e t = let one = in_two text t.1 t.2 t.3 in let size = t.4.size in omega (arith, one, size)
+row_some : (text : List ℕ) (r : Row) → row.Text text r → 8 ≤ length text
+row_some text r t =
+    let end = t.5 in
+    let target = end.5 in
+    let class = target.5 in
+    let one = behind_two text t.1 t.2 t.0 t.3 t.4 in
+    let two = behind_two t.2 end.1 end.2 end.0 end.3 end.4 in
+    let three = behind_two end.2 target.1 target.2 target.0 target.3 target.4 in
+    let four = behind_two target.2 class.1 class.2 class.0 class.3 class.4 in
+    omega (arith, one, two, three, four)
 
-var_some : (text : List ℕ) (e : VarEntry) → var_entry.Text text e → 1 ≤ length text
-var_some text e t = let one = in_two text t.1 t.2 t.3 in let size = t.4.size in omega (arith, one, size)
+line_some : (text : List ℕ) (e : LineEntry) → line_entry.Text text e → 4 ≤ length text
+line_some text e t =
+    let line = t.5 in
+    let one = behind_two text t.1 t.2 t.0 t.3 t.4 in
+    let two = behind_two t.2 line.1 line.2 line.0 line.3 line.4 in
+    omega (arith, one, two)
+
+var_some : (text : List ℕ) (e : VarEntry) → var_entry.Text text e → 10 ≤ length text
+var_some text e t =
+    let count = t.5 in
+    let name = count.5 in
+    let desc = name.5 in
+    let slot = desc.5 in
+    let one = behind_two text t.1 t.2 t.0 t.3 t.4 in
+    let two = behind_two t.2 count.1 count.2 count.0 count.3 count.4 in
+    let three = behind_two count.2 name.1 name.2 name.0 name.3 name.4 in
+    let four = behind_two name.2 desc.1 desc.2 desc.0 desc.3 desc.4 in
+    let five = behind_two desc.2 slot.1 slot.2 slot.0 slot.3 slot.4 in
+    omega (arith, one, two, three, four, five)
 
 frame_some : (text : List ℕ) (item : FrameItem) → frame_item.Text text item → 1 ≤ length text
 unfolding frame_item
 frame_some text item t = let one = in_two text t.1 t.2 t.3 in let size = t.4.size in omega (arith, one, size)
 
--- items of which each takes a byte or more
-counted_few : {X : Type 0} (g : Grammar X) → ((text : List ℕ) (x : X) → g.Text text x → 1 ≤ length text)
-    → (text : List ℕ) (xs : List X) → (counted g).Text text xs → length xs ≤ length text
-counted_few g some text xs t = let most = counted_size g (λ _. 1) some text xs t in let count = ones xs in omega (arith, most, count)
+-- items of one size
+alike : {X : Type 0} (k : ℕ) (xs : List X) → sum_by (λ _. k) xs ≡ k * length xs
+alike k [] = sym (mul-zero k)
+alike k (x ∷ xs) =
+    let is = sum_by-cons (λ _. k) x xs in
+    let rest = alike k xs in
+    let split = mul-add k 1 (length xs) in
+    let once = mul-one k in
+    let next = ap (λ (n : ℕ). k * n) (let e : suc (length xs) ≡ 1 + length xs = omega arith in e) in
+    omega (arith, is, rest, split, once, next)
 
-lines_few : (text : List ℕ) (entries : List LineEntry) → line_table.Text text entries → length entries ≤ length text
+-- items of which each takes so many bytes or more
+counted_few : {X : Type 0} (k : ℕ) (g : Grammar X) → ((text : List ℕ) (x : X) → g.Text text x → k ≤ length text)
+    → (text : List ℕ) (xs : List X) → (counted g).Text text xs → k * length xs ≤ length text
+counted_few k g some text xs t = let most = counted_size g (λ _. k) some text xs t in let count = alike k xs in omega (arith, most, count)
+
+lines_few : (text : List ℕ) (entries : List LineEntry) → line_table.Text text entries → 4 * length entries ≤ length text
 unfolding line_table
-lines_few text entries t = counted_few line_entry line_some text entries t
+lines_few text entries t = counted_few 4 line_entry line_some text entries t
 
-vars_few : (text : List ℕ) (entries : List VarEntry) → var_table.Text text entries → length entries ≤ length text
+vars_few : (text : List ℕ) (entries : List VarEntry) → var_table.Text text entries → 10 * length entries ≤ length text
 unfolding var_table
-vars_few text entries t = counted_few var_entry var_some text entries t
+vars_few text entries t = counted_few 10 var_entry var_some text entries t
 
 -- no part of it is longer than it is
 record AreWithin (most : ℕ) (items : CodeItems) : Type 0 where
   code : length items.code ≤ most
-  rows : length items.rows ≤ most
+  rows : 8 * length items.rows ≤ most
   attributes : attributes_size items.attributes ≤ most
 
 items_within : (pool : PoolValue) (bytes : List ℕ) (items : CodeItems) → (code_form pool).Text bytes items
@@ -88,7 +128,7 @@ items_within pool bytes items t =
     let s4 = in_two code.2 rows.1 rows.2 rows.3 in
     let s5 = in_two rows.2 attributes.1 attributes.2 attributes.3 in
     let own : length code.0 ≡ length code.1 = ap (λ (l : List ℕ). length l) (sym code.4.1) in
-    let few = counted_few row row_some rows.1 rows.0 rows.4 in
+    let few = counted_few 8 row row_some rows.1 rows.0 rows.4 in
     let most = counted_attributes (HasText pool) attributes.1 attributes.0 attributes.4 in
     subst (AreWithin (length bytes)) (sym attributes.5.1) (record {
       code = omega (arith, s0, s1, s2, s3, own);
@@ -105,24 +145,23 @@ code_bytes pool method bytes has =
 
 -- ---- tables
 
-entries_few : {X : Type 0} (table : Grammar (List X)) → ((text : List ℕ) (xs : List X) → table.Text text xs → length xs ≤ length text)
-    → (texts : List (List ℕ)) (entries : List X) → AreEntries table texts entries → length entries ≤ texts_size texts
-entries_few {X} table few [] entries is = let none : length entries ≡ 0 = ap (λ (l : List X). length l) is in omega (arith, none)
-entries_few {X} table few (text ∷ texts) entries (front, rest, parts, here, more) =
-    let both : length entries ≡ length front + length rest = ap (λ (l : List X). length l) parts ∙ length-append front rest in
-    let first = few text front here in
-    let behind = entries_few table few texts rest more in
-    let all = sum_by-cons (λ (t : List ℕ). length t) text texts in
-    omega (arith, both, first, behind, all)
+module _ {X : Type 0} (k : ℕ) (table : Grammar (List X)) (few : (text : List ℕ) (xs : List X) → table.Text text xs → k * length xs ≤ length text) where
+  entries_few : (texts : List (List ℕ)) (entries : List X) → AreEntries table texts entries → k * length entries ≤ texts_size texts
+  entries_few [] entries is = let none : k * length entries ≡ 0 = ap (λ (l : List X). k * length l) is ∙ mul-zero k in omega (arith, none)
+  entries_few (text ∷ texts) entries (front, rest, parts, here, more) =
+      let both : length entries ≡ length front + length rest = ap (λ (l : List X). length l) parts ∙ length-append front rest in
+      let times_both : k * length entries ≡ k * length front + k * length rest = ap (λ (n : ℕ). k * n) both ∙ mul-add k (length front) (length rest) in
+      let first = few text front here in
+      let behind = entries_few texts rest more in
+      let all = sum_by-cons (λ (t : List ℕ). length t) text texts in
+      omega (arith, times_both, first, behind, all)
 
-table_few : {X : Type 0} (pool : PoolValue) (name : List ℕ) (table : Grammar (List X))
-    → ((text : List ℕ) (xs : List X) → table.Text text xs → length xs ≤ length text)
-    → (attributes : List Attribute) (entries : List X) → AreEntries table (bodies_of pool name attributes) entries
-    → length entries ≤ attributes_size attributes
-table_few pool name table few attributes entries are =
-    let own = entries_few table few (bodies_of pool name attributes) entries are in
-    let all = some_size (has_name pool name) attributes in
-    omega (arith, own, all)
+  table_few : (pool : PoolValue) (name : List ℕ) (attributes : List Attribute) (entries : List X)
+      → AreEntries table (bodies_of pool name attributes) entries → k * length entries ≤ attributes_size attributes
+  table_few pool name attributes entries are =
+      let own = entries_few (bodies_of pool name attributes) entries are in
+      let all = some_size (has_name pool name) attributes in
+      omega (arith, own, all)
 
 kept_few : {X Y : Type 0} (f : X → Y) (p : X → Bool) (xs : List X) → length (map f (filter p xs)) ≤ length xs
 kept_few f p xs =
@@ -193,35 +232,35 @@ module _ (names : Names) (c : ClassFile) (number : ℕ) (method : Member) (b : B
   attributes_few : attributes_size attributes ≤ most_read
   attributes_few = let own = within.attributes in let short = short_code in omega (arith, own, short, most)
 
-  handlers_few : length b.handlers ≤ most_read
+  pub handlers_few : 8 * length b.handlers ≤ most_read
   handlers_few =
       let same = ap (λ (l : List Handler). length l) is.parts.handlers ∙ length-map is.coded.items.rows (handler_of numbering) in
       let own = within.rows in
       let short = short_code in
       omega (arith, same, own, short, most)
 
-  own_lines_few : length b.lines ≤ most_read
+  pub own_lines_few : 4 * length b.lines ≤ most_read
   own_lines_few =
       let same = ap (λ (l : List LineAt). length l) is.parts.lines in
       let kept = kept_few (line_of numbering) (keeps_line numbering count) is.tables.lines in
-      let few = table_few c.pool (codes "LineNumberTable") line_table lines_few attributes is.tables.lines is.are_tables.lines in
+      let few = table_few 4 line_table lines_few c.pool (codes "LineNumberTable") attributes is.tables.lines is.are_tables.lines in
       let own = attributes_few in
       omega (arith, same, kept, few, own)
 
-  own_vars_few : length b.vars ≤ most_read
+  pub own_vars_few : 10 * length b.vars ≤ most_read
   own_vars_few =
       let same = ap (λ (l : List VarAt). length l) is.parts.vars in
       let kept = kept_few (var_of numbering) (keeps_var numbering count size is.coded.items.max_locals) is.tables.vars in
-      let few = table_few c.pool (codes "LocalVariableTable") var_table vars_few attributes is.tables.vars is.are_tables.vars in
+      let few = table_few 10 var_table vars_few c.pool (codes "LocalVariableTable") attributes is.tables.vars is.are_tables.vars in
       let own = attributes_few in
       omega (arith, same, kept, few, own)
 
-  own_kind_vars_few : length b.kind_vars ≤ most_read
+  pub own_kind_vars_few : 10 * length b.kind_vars ≤ most_read
   own_kind_vars_few =
       let same = ap (λ (l : List VarAt). length l) is.parts.kind_vars in
       let kept = kept_few (var_of numbering) (keeps_var numbering count size is.coded.items.max_locals) is.tables.kind_vars in
       let table = is.are_tables.kind_vars in
-      let few = table_few c.pool (codes "LocalVariableTypeTable") var_table vars_few attributes is.tables.kind_vars table in
+      let few = table_few 10 var_table vars_few c.pool (codes "LocalVariableTypeTable") attributes is.tables.kind_vars table in
       let own = attributes_few in
       omega (arith, same, kept, few, own)
 

@@ -26,7 +26,7 @@ use Rattle.jc_instrument.proofs.DecidedLaws.{OrNot, either_or_not, true_or_not, 
 use Rattle.jc_instrument.proofs.OneBodyLaws.{same_body}
 use Rattle.jc_instrument.proofs.PoolTextLaws.{no_class_past}
 use Rattle.jc_instrument.proofs.ReadingLaws.{fault_cases, not_both}
-use Rattle.jc_instrument.proofs.SameBodyLaws.{AreSame, same_missing, same_clash}
+use Rattle.jc_verify.proofs.SameBodyLaws.{AreSame, same_missing, same_clash}
 
 -- ---- the class as a whole
 
@@ -160,7 +160,7 @@ module _ (c : ClassFile) (is : IsClassFile c) (Fact : Names → Body → ℕ →
     (moves : (names others : Names) (a b : Body) → AreSame names others a b → (place : ℕ) → Fact names a place → Fact others b place)
     (decide : (names : Names) (b : Body) → 1 ≤ length b.code
     → ((place : ℕ) × Fact names b place) ⊎ ((place : ℕ) → Fact names b place → ⊥)) where
-  of_body_at : (number : ℕ) → number < length c.methods → AtSomePlace (OfBody c Fact) number
+  pub of_body_at : (number : ℕ) → number < length c.methods → AtSomePlace (OfBody c Fact) number
   of_body_at number less = by (each_answer c number is less)
     where
       with_body : (names : Names) (b : Body) → BodyOf names c number b
@@ -175,7 +175,7 @@ module _ (c : ClassFile) (is : IsClassFile c) (Fact : Names → Body → ℕ →
       by (inr (inl found)) = with_body found.0 found.1 found.3 (decide found.0 found.1 (some_code found.0 c number found.1 found.3))
       by (inr (inr fault)) = inr (λ place f. body_or_fault f.names c number f.body fault.0 f.is fault.1)
 
-  of_body_below : (number place : ℕ) → OfBody c Fact number place → number < length c.methods
+  pub of_body_below : (number place : ℕ) → OfBody c Fact number place → number < length c.methods
   of_body_below number place f = slice_get_within c.methods number f.is.method f.is.at
 
 abbrev Lacks : Names → Body → ℕ → Type 0

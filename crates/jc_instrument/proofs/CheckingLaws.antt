@@ -13,7 +13,7 @@ use Rattle.jc_kinds.proofs.NumberLaws.{grown_count, frames_numbered}
 use Rattle.jc_instrument.specs.Steps.{InBodies, IsFrameRefusal, KeepsClash}
 use Rattle.jc_instrument.proofs.FrameCauseLaws.{each_at}
 use Rattle.jc_instrument.proofs.ListedLaws.{below_or_last}
-use Rattle.jc_instrument.proofs.SameBodyLaws.{AreSame, turned, grown_same, same_clash, same_check}
+use Rattle.jc_verify.proofs.SameBodyLaws.{AreSame, turned, grown_same, same_clash, same_check}
 
 same_item : {x y : Body} → Some x ≡ Some y → x ≡ y
 same_item e = cc

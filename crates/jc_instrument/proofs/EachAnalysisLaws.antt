@@ -49,7 +49,7 @@ bodies_alone c stays = record {
   checked = All-nil (Checked []);
 }
 
-bodies_checked : (c : ClassFile) (bodies : List Body) → is_left_alone c ≡ false → AreCheckedBodies c bodies → AreBodiesOf c bodies
+pub bodies_checked : (c : ClassFile) (bodies : List Body) → is_left_alone c ≡ false → AreCheckedBodies c bodies → AreBodiesOf c bodies
 bodies_checked c bodies changes are = record {
   names = are.names;
   are = subst (λ (t : Bool). AreBodiesUnless t are.names c bodies) (sym changes) are.are;

@@ -1,5 +1,6 @@
 -- The texts of a pool that was read from bytes are short, and it has few places.
 use Rattle.std.proofs.Common.{◌≡◌, ℕ, zero, suc, ◌-◌, ◌<◌, ◌≤◌, ◌^◌, Bool, true, false, List, [], ◌∷◌, length, Option, Some, None, refl, sym, ◌∙◌, ap, subst, arith}
+use Rattle.std.specs.List.{AllByRecursion}
 use Rattle.std.proofs.lemmas.List.{get_or_past}
 use Rattle.std.proofs.lemmas.Option.{none-some, same_Some}
 use Rattle.jc_base.specs.ByteLists.{AreBytes}
@@ -10,9 +11,9 @@ use Rattle.jc_pool.specs.declared.entry.Entry.{Entry}
 use Rattle.jc_pool.specs.declared.entry.Entry.TheVariants as entry
 use Rattle.jc_pool.specs.EntryFormat.{IsEntry}
 use Rattle.jc_pool.specs.Lookup.{entry_of, utf8_in, utf8_of, class_in, class_name_of, Signature, signature_in, signature_of, Member, HasShortTexts, ref_of, dynamic_of, member_in, member_of, const_in, const_of}
-use Rattle.jc_pool.specs.Pool.{PoolValue, is_wide, IsSmall}
+use Rattle.jc_pool.specs.Pool.{PoolValue, is_wide, IsSmall, IsFilled, IsPool}
 use Rattle.jc_pool.specs.PoolGrammar.{places, behind, by_size, pool}
-use Rattle.jc_pool.specs.Writing.{AreSmall}
+use Rattle.jc_pool.specs.Writing.{AreSmall, SpellsSlot}
 use Rattle.jc_pool.proofs.WritingLaws.{entry_small}
 use Rattle.jc_class.specs.ClassFormat.{class_file}
 use Rattle.jc_class.specs.ClassText.{ClassText}
@@ -29,39 +30,71 @@ is_small text (entry.Utf8 t) are is =
     omega (arith, below)
 is_small text e are is = tt
 
--- so many places, and each text among them is short
+-- a text of bytes spells what stands at the place
+pub record IsSpelledSlot (slot : Option Entry) : Type 0 where
+  pub text : List ℕ
+  pub spells : SpellsSlot text slot
+  pub are : AreBytes text
+
+-- so many places, which are filled, and each text among them is short
 record AreFew (n : ℕ) (slots : List (Option Entry)) : Type 0 where
   small : AreSmall slots
   count : length slots ≡ n
+  filled : IsFilled slots
+  each : AllByRecursion IsSpelledSlot slots
+
+narrow_filled : (e : Entry) (rest : List (Option Entry)) → is_wide e ≡ false → IsSmall e → IsFilled rest → IsFilled (Some e ∷ rest)
+narrow_filled e [] narrow small filled = (narrow, small)
+narrow_filled e (None ∷ rest) narrow small filled = absurd filled
+narrow_filled e (Some f ∷ rest) narrow small filled = (narrow, small, filled)
 
 few_places : (n : ℕ) (text : List ℕ) (slots : List (Option Entry)) → AreBytes text → (places n).Text text slots → AreFew n slots
-few_places zero text slots are t = subst (AreFew 0) (sym t.1) (record { small = tt; count = refl })
+few_places zero text slots are t = subst (AreFew 0) (sym t.1) (record { small = tt; count = refl; filled = tt; each = tt })
 few_places (suc zero) text slots are t =
     let bytes = both_bytes t.1 t.2 (subst AreBytes t.3 are) in
-    subst (AreFew 1) (sym t.5.1) (record { small = (is_small t.1 t.0 bytes.0 t.4.0, tt); count = refl })
+    let small = is_small t.1 t.0 bytes.0 t.4.0 in
+    subst (AreFew 1) (sym t.5.1) (record {
+      small = (small, tt);
+      count = refl;
+      filled = (t.4.1, small);
+      each = (record { text = t.1; spells = t.4.0; are = bytes.0 }, tt);
+    })
 few_places (suc (suc n)) text slots are t =
     let bytes = both_bytes t.1 t.2 (subst AreBytes t.3 are) in
-    by t.0 (is_small t.1 t.0 bytes.0 t.4) t.2 bytes.1 (few_places n) (few_places (suc n)) (is_wide t.0) t.5
+    by t.0 (is_small t.1 t.0 bytes.0 t.4) (record { text = t.1; spells = t.4; are = bytes.0 }) t.2 bytes.1 (few_places n) (few_places (suc n))
+    (is_wide t.0) refl t.5
   where
-    by : (e : Entry) → IsSmall e → (rest : List ℕ) → AreBytes rest
+    by : (e : Entry) → IsSmall e → IsSpelledSlot (Some e) → (rest : List ℕ) → AreBytes rest
         → ((text : List ℕ) (slots : List (Option Entry)) → AreBytes text → (places n).Text text slots → AreFew n slots)
         → ((text : List ℕ) (slots : List (Option Entry)) → AreBytes text → (places (suc n)).Text text slots → AreFew (suc n) slots)
-        → (wide : Bool) → (by_size wide (behind (Some e ∷ None ∷ []) (places n)) (behind (Some e ∷ []) (places (suc n)))).Text rest slots
+        → (wide : Bool) → is_wide e ≡ wide → (by_size wide (behind (Some e ∷ None ∷ []) (places n)) (behind (Some e ∷ []) (places (suc n)))).Text rest slots
         → AreFew (suc (suc n)) slots
-    by e small rest all two one true u =
+    by e small spelled rest all two one true wide u =
         let bytes = both_bytes u.1 u.2 (subst AreBytes u.3 all) in
         let later = two u.1 u.0 bytes.0 u.4 in
         let count = later.count in
-        subst (AreFew (suc (suc n))) (sym u.5.1) (record { small = (small, (tt, later.small)); count = omega (arith, count) })
-    by e small rest all two one false u =
+        subst (AreFew (suc (suc n))) (sym u.5.1) (record {
+          small = (small, (tt, later.small));
+          count = omega (arith, count);
+          filled = (wide, small, later.filled);
+          each = (spelled, (record { text = []; spells = refl; are = tt }, later.each));
+        })
+    by e small spelled rest all two one false narrow u =
         let bytes = both_bytes u.1 u.2 (subst AreBytes u.3 all) in
         let later = one u.1 u.0 bytes.0 u.4 in
         let count = later.count in
-        subst (AreFew (suc (suc n))) (sym u.5.1) (record { small = (small, later.small); count = omega (arith, count) })
+        subst (AreFew (suc (suc n))) (sym u.5.1) (record {
+          small = (small, later.small);
+          count = omega (arith, count);
+          filled = narrow_filled e u.0 narrow small later.filled;
+          each = (spelled, later.each);
+        })
 
 pub record IsReadPool (slots : PoolValue) : Type 0 where
   pub small : AreSmall slots
   pub few : length slots < 65536
+  pub is : IsPool slots
+  pub each : AllByRecursion IsSpelledSlot slots
 
 pool_read : (text : List ℕ) (slots : PoolValue) → AreBytes text → pool.Text text slots → IsReadPool slots
 pool_read text slots are t =
@@ -72,7 +105,12 @@ pool_read text slots are t =
     let behind_count = both_bytes u.1 u.2 (subst AreBytes u.3 bytes.1) in
     let later = few_places (t.0 - 1) u.1 u.0 behind_count.0 u.4 in
     let count = later.count in
-    subst IsReadPool (sym u.5.1) (record { small = (tt, later.small); few = omega (arith, below, some, count) })
+    subst IsReadPool (sym u.5.1) (record {
+      small = (tt, later.small);
+      few = omega (arith, below, some, count);
+      is = (omega (arith, below, some, count), later.filled);
+      each = (record { text = []; spells = refl; are = tt }, later.each);
+    })
 
 pub class_pool : (text : List ℕ) (c : ClassFile) → AreBytes text → ClassText text c → IsReadPool c.pool
 unfolding class_file
@@ -189,6 +227,80 @@ module _ (slots : PoolValue) (small : AreSmall slots) where
   pub member_short : (place : ℕ) (m : Member) → member_of slots place ≡ Some m → HasShortTexts m
   unfolding member_of
   member_short place m is = let e = bound (entry_of slots place) (member_in slots) m is in in_short e.0 m e.2
+
+-- ---- bytes
+
+module _ (slots : PoolValue) (each : AllByRecursion IsSpelledSlot slots) where
+  entry_spelled : (slots : List (Option Entry)) → AllByRecursion IsSpelledSlot slots → (place : ℕ) (e : Entry) → entry_of slots place ≡ Some e
+      → IsSpelledSlot (Some e)
+  entry_spelled [] all place e is = absurd (none-some e is)
+  entry_spelled (slot ∷ rest) all zero e is = subst IsSpelledSlot is all.0
+  entry_spelled (slot ∷ rest) all (suc place) e is = entry_spelled rest all.1 place e is
+
+  text_are : (e : Entry) (text : List ℕ) → IsSpelledSlot (Some e) → utf8_in e ≡ Some text → AreBytes text
+  text_are (entry.Utf8 t) text spelled is =
+      let all = subst AreBytes spelled.spells.parts spelled.are in
+      let info = subst AreBytes spelled.spells.spells.parts all.1 in
+      subst AreBytes (same_Some t text is) (both_bytes spelled.spells.spells.size t info).1
+  text_are e text spelled is = absurd (none-some text is)
+
+  -- the texts of the pool are of bytes
+  pub utf8_are : (place : ℕ) (text : List ℕ) → utf8_of slots place ≡ Some text → AreBytes text
+  unfolding utf8_of
+  utf8_are place text is =
+      let e = bound (entry_of slots place) utf8_in text is in
+      text_are e.0 text (entry_spelled slots each place e.0 e.1) e.2
+
+  pub class_are : (place : ℕ) (name : List ℕ) → class_name_of slots place ≡ Some name → AreBytes name
+  unfolding class_name_of
+  class_are place name is =
+      let e = bound (entry_of slots place) (λ e. class_in e >>= λ n. utf8_of slots n) name is in
+      let n = bound (class_in e.0) (λ n. utf8_of slots n) name e.2 in
+      utf8_are n.0 name n.2
+
+  abbrev described : List ℕ → ℕ → Option Signature
+  described name place = utf8_of slots place >>= λ desc. Some (record { name = name; desc = desc })
+
+  signature_are : (place : ℕ) (s : Signature) → signature_of slots place ≡ Some s → AreBytes s.desc
+  unfolding signature_of
+  signature_are place s is =
+      let e = bound (entry_of slots place) (λ e. signature_in e >>= λ parts. utf8_of slots parts.0 >>= λ name. described name parts.1) s is in
+      let parts = bound (signature_in e.0) (λ parts. utf8_of slots parts.0 >>= λ name. described name parts.1) s e.2 in
+      let name = bound (utf8_of slots parts.0.0) (λ name. described name parts.0.1) s parts.2 in
+      let desc = bound (utf8_of slots parts.0.1) (λ desc. Some (record { name = name.0; desc = desc })) s name.2 in
+      subst (λ (t : Signature). AreBytes t.desc) {x = record { name = name.0; desc = desc.0 }}
+      (same_Some (record { name = name.0; desc = desc.0 }) s desc.2) (utf8_are parts.0.1 desc.0 desc.1)
+
+  with_are : (tag : ℕ) (class : List ℕ) (place : ℕ) (m : Member)
+      → (signature_of slots place >>= λ s. Some (record { tag = tag; class = class; name = s.name; desc = s.desc })) ≡ Some m → AreBytes m.desc
+  with_are tag class place m is =
+      let s = bound (signature_of slots place) (λ s. Some (record { tag = tag; class = class; name = s.name; desc = s.desc })) m is in
+      subst (λ (n : Member). AreBytes n.desc) {x = record { tag = tag; class = class; name = s.0.name; desc = s.0.desc }}
+      (same_Some (record { tag = tag; class = class; name = s.0.name; desc = s.0.desc }) m s.2)
+      (signature_are place s.0 s.1)
+
+  ref_are : (tag class place : ℕ) (m : Member) → ref_of slots tag class place ≡ Some m → AreBytes m.desc
+  unfolding ref_of
+  ref_are tag class place m is =
+      let name = bound (class_name_of slots class)
+      (λ name. signature_of slots place >>= λ s. Some (record { tag = tag; class = name; name = s.name; desc = s.desc })) m is in
+      with_are tag name.0 place m name.2
+
+  dynamic_are : (tag place : ℕ) (m : Member) → dynamic_of slots tag place ≡ Some m → AreBytes m.desc
+  unfolding dynamic_of
+  dynamic_are tag place m is = with_are tag [] place m is
+
+  in_are : (e : Entry) (m : Member) → member_in slots e ≡ Some m → AreBytes m.desc
+  in_are (entry.Dynamic bootstrap place) m is = dynamic_are 17 place m is
+  in_are (entry.InvokeDynamic bootstrap place) m is = dynamic_are 18 place m is
+  in_are (entry.Fieldref class place) m is = ref_are 9 class place m is
+  in_are (entry.Methodref class place) m is = ref_are 10 class place m is
+  in_are (entry.InterfaceMethodref class place) m is = ref_are 11 class place m is
+  in_are e m is = absurd (none-some m is)
+
+  pub member_are : (place : ℕ) (m : Member) → member_of slots place ≡ Some m → AreBytes m.desc
+  unfolding member_of
+  member_are place m is = let e = bound (entry_of slots place) (member_in slots) m is in in_are e.0 m e.2
 
 -- each of these is nowhere behind the places
 pub none_past : (slots : PoolValue) (place : ℕ) → length slots ≤ place

@@ -145,7 +145,7 @@ pub record IsProbing (first names : Names) (bodies : List Body) (n : ℕ) (probe
   pub made : AreMadeUnder names works probed
   pub short : AreShortBelow bodies n
 
-nothing_at : {X : Type 0} (i : ℕ) (x : X) → slice_get [] i ≡ Some x → ⊥
+pub nothing_at : {X : Type 0} (i : ℕ) (x : X) → slice_get [] i ≡ Some x → ⊥
 nothing_at i x is = none-some x is
 
 pub probing_begun : (names : Names) (bodies : List Body) (probed : List Probed) → probed ≡ [] → IsProbing names names bodies 0 probed
@@ -214,7 +214,7 @@ made_short names b first p of =
     subst (λ (code : List Insn). chosen_length code ≤ 65535)
     (ap (λ (e : Emitted). e.code) of.made.emitted ∙ emission_code b first of.states of.array) of.made.laid.short
 
-work_grown : (old new : Names) (bodies : List Body) (i : ℕ) (w : Work) → Grows old new → AreNumberedFrames (length old) w.body.frames
+pub work_grown : (old new : Names) (bodies : List Body) (i : ℕ) (w : Work) → Grows old new → AreNumberedFrames (length old) w.body.frames
     → IsWork old bodies i w → IsWork new bodies i w
 work_grown old new bodies i w grows numbered is = record { first = is.first; states = states_grown old new w.body w.states grows numbered is.states }
 

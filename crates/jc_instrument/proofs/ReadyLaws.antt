@@ -114,7 +114,7 @@ table_named old new extends name place make none entries places (inr there) =
 
 module _ (names : Names) (c : ClassFile) (new : PoolValue) (extends : Extends c.pool new) (places : CodePlaces) (at : AreTextPlaces new places)
     (array : ℕ) where
-  work_named : (w : Work) → BodyOf names c w.body.method w.body → AreNamed new (emitted_of array w) places
+  pub work_named : (w : Work) → BodyOf names c w.body.method w.body → AreNamed new (emitted_of array w) places
   unfolding emission
   work_named w body =
       let b = w.body in

@@ -23,7 +23,7 @@ use Rattle.jc_instrument.proofs.FrameCauseLaws.{first_of_methods, none_of_method
 use Rattle.jc_instrument.proofs.ListedLaws.{below_or_last}
 use Rattle.jc_instrument.proofs.RoomCauseLaws.{same_straddled}
 use Rattle.jc_instrument.proofs.SameAnalysisLaws.{same_bodies, same_probes}
-use Rattle.jc_instrument.proofs.SameBodyLaws.{AreSame, turned}
+use Rattle.jc_verify.proofs.SameBodyLaws.{AreSame, turned}
 
 -- ---- bodies that differ in their names alone
 
@@ -33,7 +33,7 @@ least_moved Fact Other to back p least = record {
   first = λ before less holds. least.first before less (back before holds);
 }
 
-moved_room : (kind : RefusalKind) (others names : Names) (a b : Body) → AreSame others names a b → (place : ℕ) → LacksRoom kind a place → LacksRoom kind b place
+pub moved_room : (kind : RefusalKind) (others names : Names) (a b : Body) → AreSame others names a b → (place : ℕ) → LacksRoom kind a place → LacksRoom kind b place
 moved_room kinds.StraddlingLocal others names a b same place lacks =
     least_moved (IsStraddled a) (IsStraddled b) (same_straddled others names a b same) (same_straddled names others b a (turned others names a b same)) place lacks
 moved_room kinds.LocalsFull others names a b same place lacks = (sym (ap (λ (x : Body). x.max_locals) same.rest) ∙ lacks.0, lacks.1)

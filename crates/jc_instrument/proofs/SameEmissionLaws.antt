@@ -34,7 +34,7 @@ use Rattle.jc_emit.specs.TwinTables.{moved_line, moved_row, moved_var}
 use Rattle.jc_emit.proofs.FrameLaws.{seen_moved}
 use Rattle.jc_instrument.specs.SameAnalysis.{without_frames}
 use Rattle.jc_instrument.proofs.SameAnalysisLaws.{same_but_frames, same_lead}
-use Rattle.jc_instrument.proofs.SameBodyLaws.{AreSame, same_state}
+use Rattle.jc_verify.proofs.SameBodyLaws.{AreSame, same_state}
 use Rattle.jc_instrument.proofs.SameFramesLaws.{SayTheSame, both_same, merged_same, pieces_same}
 use Rattle.jc_instrument.proofs.SameItemsLaws.{same_image, same_items, same_land, same_late, same_lead_place, same_probe}
 

@@ -5,7 +5,7 @@ use Rattle.jc_base.specs.Held.{Names, SeenAt, seen_at}
 use Rattle.jc_base.specs.PlainLists.{pieces}
 use Rattle.jc_base.specs.declared.body.FrameAt.{FrameAt}
 use Rattle.jc_layout.specs.Merged.{merged, with_frame}
-use Rattle.jc_instrument.proofs.SameBodyLaws.{same_head, same_tail}
+use Rattle.jc_verify.proofs.SameBodyLaws.{same_head, same_tail}
 
 module _ (names others : Names) where
   -- the frames say the same by names

@@ -15,7 +15,7 @@ use Rattle.jc_instrument.specs.SameAnalysis.{without_frames}
 use Rattle.jc_instrument.specs.Works.{Work, AreWorks, all_frames, bodies_of, emitted_of}
 use Rattle.jc_instrument.proofs.OneBodyLaws.{same_body}
 use Rattle.jc_instrument.proofs.SameAnalysisLaws.{same_below, same_first}
-use Rattle.jc_instrument.proofs.SameBodyLaws.{AreSame}
+use Rattle.jc_verify.proofs.SameBodyLaws.{AreSame}
 use Rattle.jc_instrument.proofs.SameEmissionLaws.{IsSameEmission, same_emission, same_written}
 
 -- the works are of one method, and what is emitted is the same

@@ -125,12 +125,12 @@ module _ (c : ClassFile) (is : IsClassFile c) (read : IsReadPool c.pool) (most :
   -- ---- all of them
 
   module _ (names : Names) (bodies : List Body) (are : AreBodies names c bodies) where
-    made_well : (i : ℕ) (b : Body) → slice_get bodies i ≡ Some b → IsWellMade b
+    pub made_well : (i : ℕ) (b : Body) → slice_get bodies i ≡ Some b → IsWellMade b
     made_well i b stands =
         let body = are.each i b stands in
         is_well_made names c b.method body.method b read (few_bytes b.method body.method body.at) body.is
 
-    passes : (i : ℕ) (b : Body) → slice_get bodies i ≡ Some b → Checked names b
+    pub passes : (i : ℕ) (b : Body) → slice_get bodies i ≡ Some b → Checked names b
     passes i b stands = by (are.each i b stands) (each_verdict names b (some_code names c b.method b (are.each i b stands)))
       where
         by : BodyOf names c b.method b

@@ -84,7 +84,7 @@ are_split (a ∷ b ∷ c ∷ d ∷ e ∷ f ∷ g ∷ h ∷ i ∷ []) some = absu
 are_split (a ∷ b ∷ c ∷ d ∷ e ∷ f ∷ g ∷ h ∷ i ∷ j ∷ []) some = absurd (omega (arith, some))
 are_split (a ∷ b ∷ c ∷ d ∷ e ∷ f ∷ g ∷ h ∷ i ∷ j ∷ k ∷ []) some = absurd (omega (arith, some))
 
-takes_needed : (old new : PoolValue) (owner : List ℕ) (id : ℤ) (frames : List SeenAt) (places : List ℕ) → TakesEach old (needed owner id frames) new places
+pub takes_needed : (old new : PoolValue) (owner : List ℕ) (id : ℤ) (frames : List SeenAt) (places : List ℕ) → TakesEach old (needed owner id frames) new places
     → (members : MemberPlaces) × TakesNeeded old owner id frames new members
 takes_needed old new owner id frames places takes =
     let count = taken_count old new (needed owner id frames) places takes in

@@ -49,7 +49,7 @@ some_taking old (long_entry value) is = some_long old value
 some_taking old (signature_entry s) is = absurd is
 some_taking old (member_entry m) is = some_member old m
 
-some_takings : (old : PoolValue) (cs : List Content) → AllByRecursion IsEntire cs → (new : PoolValue) × (places : List ℕ) × TakesEach old cs new places
+pub some_takings : (old : PoolValue) (cs : List Content) → AllByRecursion IsEntire cs → (new : PoolValue) × (places : List ℕ) × TakesEach old cs new places
 some_takings old [] all = (old, [], (refl, refl))
 some_takings old (c ∷ cs) all =
     let one = some_taking old c all.0 in

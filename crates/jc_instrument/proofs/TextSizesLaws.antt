@@ -31,11 +31,6 @@ module _ {X : Type 0} (g : Grammar X) (size : X → ℕ) (most : (text : List �
   pub counted_size : (text : List ℕ) (xs : List X) → (counted g).Text text xs → sum_by size xs ≤ length text
   counted_size text xs t = let whole = in_two text t.1 t.2 t.3 in let all = times_size t.0 t.2 xs t.5 in omega (arith, whole, all)
 
--- as many as they are, where each takes a byte or more
-pub ones : {X : Type 0} (xs : List X) → sum_by (λ _. 1) xs ≡ length xs
-ones [] = refl
-ones (x ∷ xs) = let is = sum_by-cons (λ _. 1) x xs in let rest = ones xs in omega (arith, is, rest)
-
 pub item_size : {X : Type 0} (f : X → ℕ) (xs : List X) (i : ℕ) (x : X) → slice_get xs i ≡ Some x → f x ≤ sum_by f xs
 item_size f xs i x at =
     let most = get_or-le-sum_by f xs i x (slice_get_within xs i x at) in

@@ -56,7 +56,7 @@ array_below : (names : Names) (array : ℕ) → IsArrayNumber names array → ar
 array_below names array is = slice_get_within names array probe_array_class (array_stands names array is)
 
 module _ (P : Kind → Type 0) where
-  some_taken : (n : ℕ) (ks : List Kind) → AllByRecursion P ks → AllByRecursion P (take n ks)
+  pub some_taken : (n : ℕ) (ks : List Kind) → AllByRecursion P ks → AllByRecursion P (take n ks)
   some_taken zero ks all = tt
   some_taken (suc n) [] all = tt
   some_taken (suc n) (k ∷ ks) all = (all.0, some_taken n ks all.1)
@@ -66,15 +66,15 @@ module _ (P : Kind → Type 0) where
   some_dropped (suc n) [] all = tt
   some_dropped (suc n) (k ∷ ks) all = some_dropped n ks all.1
 
-  one_put_in : (v : ℕ) (k : Kind) (ks : List Kind) → P k → AllByRecursion P ks → AllByRecursion P (insert ks v k)
+  pub one_put_in : (v : ℕ) (k : Kind) (ks : List Kind) → P k → AllByRecursion P ks → AllByRecursion P (insert ks v k)
   one_put_in v k ks one all = each_joined P (take v ks) (k ∷ drop v ks) (some_taken v ks all) (one, some_dropped v ks all)
 
-fewer_taken : (n : ℕ) (ks : List Kind) → length (take n ks) ≤ length ks
+pub fewer_taken : (n : ℕ) (ks : List Kind) → length (take n ks) ≤ length ks
 fewer_taken zero ks = omega arith
 fewer_taken (suc n) [] = omega arith
 fewer_taken (suc n) (k ∷ ks) = let less = fewer_taken n ks in omega (arith, less)
 
-put_in_count : (v : ℕ) (k : Kind) (ks : List Kind) → length (insert ks v k) ≡ length ks + 1
+pub put_in_count : (v : ℕ) (k : Kind) (ks : List Kind) → length (insert ks v k) ≡ length ks + 1
 put_in_count zero k ks = omega arith
 put_in_count (suc v) k [] = omega arith
 put_in_count (suc v) k (x ∷ ks) = let more = put_in_count v k ks in omega (arith, more)
@@ -90,7 +90,7 @@ some_slot kinds.UninitThis = omega arith
 some_slot (kinds.Object n) = omega arith
 some_slot (kinds.Uninit at) = omega arith
 
-slots_above : (ks : List Kind) → length ks ≤ sum_by kind_slots ks
+pub slots_above : (ks : List Kind) → length ks ≤ sum_by kind_slots ks
 slots_above [] = omega arith
 slots_above (k ∷ ks) = let a = slots_above ks in let b = some_slot k in let e = sum_by-cons kind_slots k ks in omega (arith, a, b, e)
 

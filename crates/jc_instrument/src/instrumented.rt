@@ -1,7 +1,9 @@
 //! Laws of instrumented classes, and of the reasons for which a class file isn't instrumented.
-ghost use Rattle.std.specs.Prelude.{◌≡◌, ℕ, List, Option, Some, None};
+ghost use Rattle.std.specs.Prelude.{◌≡◌, ◌≤◌, ◌⊎◌, ℕ, List, length, Option, Some, None};
 ghost use Rattle.std.specs.List.{AllByRecursion};
+ghost use Rattle.jc_base.specs.ByteLists.{AreBytes};
 ghost use Rattle.jc_base.specs.Held.{Names};
+ghost use Rattle.jc_base.specs.Outside.{most_read};
 ghost use Rattle.jc_base.specs.declared.refusal.Refusal.{Refusal};
 ghost use Rattle.jc_pool.specs.Pool.{PoolValue};
 ghost use Rattle.jc_class.specs.declared.class_file.ClassFile.{ClassFile as Class};
@@ -46,9 +48,11 @@ pub fn each_class_has_one_twin()
         → IsWritten id names array works c twin → IsSameOutside id names array works c twin }
 {}
 
-/// Bytes become one instrumented class file, whatever the names with which the bodies of the class are read, or there is
+/// Bytes, at most 67,108,864, become one instrumented class file, whatever the names with which the bodies of the class are read, or there is
 /// a reason for which they don't, and never both.
 pub fn each_class_file_becomes_one()
+    ensures each { (bytes : List ℕ) → AreBytes bytes → length bytes ≤ most_read
+        → ((a : Instrumented) × IsInstrumentedFile bytes a) ⊎ ((r : Refusal) × Reason bytes (Some r)) }
     ensures one { (bytes : List ℕ) (a b : Instrumented) → IsInstrumentedFile bytes a → IsInstrumentedFile bytes b → a ≡ b }
     ensures apart { (bytes : List ℕ) (a : Instrumented) (r : Refusal)
         → IsInstrumentedFile bytes a → Reason bytes (Some r) → ⊥ }
