@@ -10,6 +10,7 @@ pub mod GrownPool
 pub mod Works
 pub mod Needed
 pub mod TwinText
+pub mod Verified
 pub mod TwinClass
 pub mod RoomCauses
 pub mod Room

@@ -1,5 +1,5 @@
 //! Instrumented class files.
-ghost use Rattle.std.specs.Prelude.{◌≡◌, ◌⊎◌, ◌≤◌, ⊤, false, length, All, Some, None, IfOk, IfErr, MatchResult};
+ghost use Rattle.std.specs.Prelude.{◌≡◌, ◌⊎◌, ◌≤◌, ⊤, true, false, length, All, Some, None, IfOk, IfErr, MatchResult};
 ghost use Rattle.std.specs.List.{list_any};
 ghost use Rattle.jc_base.specs.ByteLists.{AreBytes};
 ghost use Rattle.jc_base.specs.Outside.{most_read};
@@ -15,6 +15,7 @@ ghost use Rattle.jc_instrument.specs.Changing.{IsChanged, changing_causes, has_t
 ghost use Rattle.jc_instrument.specs.InstrumentedFile.{IsAsGiven, IsInstrumentedFile};
 ghost use Rattle.jc_instrument.specs.LeftAlone.{is_left_alone};
 ghost use Rattle.jc_instrument.specs.Refused.{Reason};
+ghost use Rattle.jc_instrument.specs.Verified.{IsVerified};
 
 use crate::alone::{interface_refusal, is_left_alone};
 use crate::class::class_refusal;
@@ -160,6 +161,9 @@ pub fn instrument(alloc: Global, bytes: &[u8]) -> Result<Instrumented, Fail<Refu
     // What is answered is so.
     ensures made { IfOk result (IsInstrumentedFile bytes.now) }
     ensures refused { IfErr result (λ e. Said e (λ r. Reason bytes.now (Some r))) }
+    // The methods of an instrumented class are read again and pass the kind check, whatever the number of their instructions
+    // times their slots.
+    ensures verified { IfOk result (λ a. a.changed ≡ true → IsVerified a.bytes) }
     // What is so is answered, unless memory runs out.
     ensures accepted { Reason bytes.now None → MatchResult result (λ _. ⊤) (λ e. e ≡ Fail.Memory) }
     ensures reason { (r : Why) → Reason bytes.now (Some r)

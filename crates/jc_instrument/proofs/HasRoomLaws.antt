@@ -1,0 +1,51 @@
+-- The bodies of a class that no cause refuses have room for their probes.
+use Rattle.std.proofs.Common.{◌≡◌, ◌⊎◌, inl, inr, ℕ, ◌+◌, ◌<◌, ◌≤◌, List, [], ◌∷◌, ◌++◌, length, slice_get, Some, false, refl, subst, arith}
+use Rattle.std.proofs.lemmas.Bool.{cases_lt}
+use Rattle.jc_base.specs.declared.body.Body.{Body}
+use Rattle.jc_base.specs.declared.refusal.RefusalKind.TheVariants as kinds
+use Rattle.jc_class.specs.Writable.{IsClassFile}
+use Rattle.jc_class.specs.declared.class_file.ClassFile.{ClassFile}
+use Rattle.jc_emit.specs.Straddling.{NoneStraddles}
+use Rattle.jc_instrument.specs.Analysis.{all_probes}
+use Rattle.jc_instrument.specs.Bodies.{AreBodiesOf}
+use Rattle.jc_instrument.specs.Causes.{Cause, NoCause, of_class}
+use Rattle.jc_instrument.specs.LeftAlone.{is_left_alone}
+use Rattle.jc_instrument.specs.ProbedClass.{making_causes}
+use Rattle.jc_instrument.specs.Reasons.{code_causes}
+use Rattle.jc_instrument.specs.RoomCauses.{HasTooLargeCode, early_room_causes}
+use Rattle.jc_instrument.proofs.RoomDecidedLaws.{has_local_room, has_stack_room, none_straddles, short_code}
+use Rattle.jc_instrument.proofs.RoomLaws.{of_class_are}
+use Rattle.jc_instrument.proofs.WrittenCodeLaws.{HasRoom}
+
+rest_none : (Cs Ds : List Cause) → NoCause (Cs ++ Ds) → NoCause Ds
+rest_none [] Ds none = none
+rest_none (C ∷ Cs) Ds none = rest_none Cs Ds none.1
+
+module _ (c : ClassFile) (bodies : List Body) (is : IsClassFile c) (changes : is_left_alone c ≡ false) (are : AreBodiesOf c bodies)
+    (none : NoCause (making_causes c)) where
+  room : NoCause (early_room_causes c ++ (HasTooLargeCode c ∷ []))
+  room = rest_none (code_causes c) (early_room_causes c ++ (HasTooLargeCode c ∷ [])) none
+
+  probes_few : all_probes bodies ≤ 32767
+  probes_few = by (cases_lt 32767 (all_probes bodies))
+    where
+      by : (32767 < all_probes bodies) ⊎ (all_probes bodies ≤ 32767) → all_probes bodies ≤ 32767
+      by (inl many) = absurd (room.1.0 (of_class kinds.TooManyProbes (all_probes bodies))
+          (record { bodies = bodies; are = are; many = many; refusal = refl }))
+      by (inr few) = few
+
+  pub has_room : HasRoom bodies
+  has_room = record {
+    locals = λ i place b at lacks.
+        has_local_room c is room.1.1.1.0 are.names b.method b ((of_class_are c bodies changes are).each i b at) lacks.0;
+    stack = λ i place b at lacks.
+        let few = has_stack_room c is room.1.1.1.1.0 are.names b.method b ((of_class_are c bodies changes are).each i b at) in
+        let many = lacks.0 in
+        omega (arith, few, many);
+    probes = probes_few;
+    short = short_code c bodies are room.1.1.1.1.1.0;
+  }
+
+  -- and no long or double stands where the array of probes will
+  pub all_free : (i : ℕ) (b : Body) → slice_get bodies i ≡ Some b → NoneStraddles b
+  all_free i b at = none_straddles c is room.0 are.names b.method b ((of_class_are c bodies changes are).each i b at)

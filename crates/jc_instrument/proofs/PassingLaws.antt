@@ -1,0 +1,144 @@
+-- Each method of an instrumented class file has no code, or is read again and passes the kind check.
+use Rattle.std.proofs.Common.{◌≡◌, ◌⊎◌, inl, inr, ℕ, suc, zero, ◌≤◌, ◌<◌, Bool, true, false, List, [], ◌∷◌, ◌++◌, length, map, get_or, All, Some, refl, sym, ◌∙◌, ap, subst, arith}
+use Rattle.std.specs.Prelude.{codes, filter, slice_get, sum_by}
+use Rattle.std.specs.List.{AllByRecursion}
+use Rattle.std.proofs.lemmas.Option.{slice_get-get_or}
+use Rattle.jc_base.specs.ByteLists.{AreBytes}
+use Rattle.jc_base.specs.Held.{Names, SeenAt}
+use Rattle.jc_base.specs.Outside.{most_read}
+use Rattle.jc_base.specs.WellMade.{IsWellMade, IsWellMadeOfAnySize}
+use Rattle.jc_base.specs.declared.body.Body.{Body}
+use Rattle.jc_pool.specs.Pool.{PoolValue}
+use Rattle.jc_class.specs.ClassFormat.{HasMethodDescriptor, HasText}
+use Rattle.jc_class.specs.ClassId.{class_id}
+use Rattle.jc_class.specs.ClassText.{ClassText}
+use Rattle.jc_class.specs.Writable.{IsAttribute, IsClassFile, IsMember}
+use Rattle.jc_class.specs.declared.class_file.Attribute.{Attribute}
+use Rattle.jc_class.specs.declared.class_file.ClassFile.{ClassFile}
+use Rattle.jc_class.specs.declared.class_file.Member.{Member}
+use Rattle.jc_class.proofs.FirstBadLaws.{one_class_of}
+use Rattle.jc_class.proofs.WritableLaws.{class_holds}
+use Rattle.jc_kinds.specs.Checked.{Checked}
+use Rattle.jc_emit.specs.Straddling.{NoneStraddles}
+use Rattle.jc_code.specs.TwinCode.{twin_code}
+use Rattle.jc_verify.specs.Again.{EachPassesAgain}
+use Rattle.jc_verify.specs.WrittenCode.{IsWrittenCode}
+use Rattle.jc_verify.proofs.AgainLaws.{each_passes}
+use Rattle.jc_verify.proofs.ReadBytesLaws.{class_bytes}
+use Rattle.jc_instrument.specs.Causes.{Cause, NoCause, unless}
+use Rattle.jc_instrument.specs.InstrumentedFile.{Becomes, HasProbes, IsAsGiven, IsInstrumentedFile}
+use Rattle.jc_instrument.specs.LeftAlone.{is_left_alone}
+use Rattle.jc_instrument.specs.Needed.{name_of, signed_id, TakesNeeded}
+use Rattle.jc_instrument.specs.Reasons.{class_causes, code_causes, interface_causes}
+use Rattle.jc_instrument.specs.Refused.{probe_causes}
+use Rattle.jc_instrument.specs.RoomCauses.{room_causes}
+use Rattle.jc_instrument.specs.TwinText.{twin_class, work_of, IsWritten}
+use Rattle.jc_instrument.specs.Works.{Work, all_frames, bodies_of, emitted_of, AreWorks}
+use Rattle.jc_instrument.specs.declared.whole.Instrumented.{Instrumented}
+use Rattle.jc_instrument.proofs.DecidedLaws.{none_behind}
+use Rattle.jc_instrument.proofs.FramedStatesLaws.{framed_work, same_bodies, works_are, works_fit}
+use Rattle.jc_instrument.proofs.OneTwinLaws.{one_twin}
+use Rattle.jc_instrument.proofs.PoolTextLaws.{class_pool}
+use Rattle.jc_instrument.proofs.SameWorksLaws.{same_frames}
+use Rattle.jc_instrument.proofs.SomeBodiesLaws.{made_well, passes}
+use Rattle.jc_instrument.proofs.TextSizesLaws.{class_size, method_size}
+use Rattle.jc_instrument.proofs.WrittenAgainLaws.{AreSoundBodies, body_at, texts_short, work_found, written_methods}
+use Rattle.jc_instrument.proofs.WrittenCodeLaws.{HasRoom, code_places, written_code}
+
+-- ---- causes
+
+none_in_front : (Cs Ds : List Cause) → NoCause (Cs ++ Ds) → NoCause Cs
+none_in_front [] Ds none = tt
+none_in_front (C ∷ Cs) Ds none = (none.0, none_in_front Cs Ds none.1)
+
+module _ (id : ℕ) (c : ClassFile) (none : NoCause (probe_causes id c)) (changes : is_left_alone c ≡ false) where
+  abbrev causes_by : Bool → List Cause
+  causes_by t = (class_causes c ++ unless t (interface_causes c ++ code_causes c)) ++ unless t (room_causes id c)
+
+  none_so : NoCause ((class_causes c ++ (interface_causes c ++ code_causes c)) ++ room_causes id c)
+  none_so = subst (λ (t : Bool). NoCause (causes_by t)) changes none
+
+  pub no_room_cause : NoCause (room_causes id c)
+  no_room_cause = none_behind (class_causes c ++ (interface_causes c ++ code_causes c)) (room_causes id c) none_so
+
+  pub no_code_cause : NoCause (code_causes c)
+  no_code_cause =
+      none_behind (interface_causes c) (code_causes c)
+      (none_behind (class_causes c) (interface_causes c ++ code_causes c)
+      (none_in_front (class_causes c ++ (interface_causes c ++ code_causes c)) (room_causes id c) none_so))
+
+-- ---- the class
+
+module _ (bytes : List ℕ) (c : ClassFile) (text : ClassText bytes c) (are_bytes : AreBytes bytes) (size : length bytes ≤ most_read) (id : ℕ)
+    (none : NoCause (code_causes c)) (names : Names) (array : ℕ) (works : List Work) (twin : ClassFile) (w : IsWritten id names array works c twin) where
+  is : IsClassFile c
+  is = class_holds bytes c are_bytes text
+
+  few : sum_by method_size c.methods ≤ most_read
+  few = let less = class_size bytes c text in omega (arith, less, size)
+
+  made : (i : ℕ) (b : Body) → slice_get (bodies_of works) i ≡ Some b → IsWellMadeOfAnySize b
+  made i b at = (made_well c is (class_pool bytes c are_bytes text) few none names (bodies_of works) w.are.bodies i b at).of_any_size
+
+  pub all_checked : All (Checked names) (bodies_of works)
+  all_checked k d less =
+      passes c is (class_pool bytes c are_bytes text) few none names (bodies_of works) w.are.bodies k (get_or (bodies_of works) k d)
+      (slice_get-get_or (bodies_of works) k d less)
+
+  -- the works with the states of the frames
+  abbrev framed : List Work
+  framed = map framed_work works
+
+  framed_are : AreWorks names array c framed
+  framed_are = works_are names array c works w.are made
+
+  bodies_same : bodies_of framed ≡ bodies_of works
+  bodies_same = same_bodies works
+
+  framed_written : IsWritten id names array framed c (twin_class names array c framed w.pool w.places)
+  framed_written = record {
+    are = framed_are;
+    pool = w.pool;
+    places = w.places;
+    takes = subst (λ (frames : List SeenAt). TakesNeeded c.pool (name_of c) (signed_id id) frames w.pool w.places)
+        (same_frames names names array array c works framed w.are framed_are) w.takes;
+    few = w.few;
+    is = refl;
+  }
+
+  twins : twin ≡ twin_class names array c framed w.pool w.places
+  twins = one_twin id names names array array works framed c twin (twin_class names array c framed w.pool w.places) w framed_written
+
+  module _ (new_bytes : List ℕ) (new_are : AreBytes new_bytes) (new_text : ClassText new_bytes twin) (room : HasRoom (bodies_of works))
+      (free : (i : ℕ) (b : Body) → slice_get (bodies_of works) i ≡ Some b → NoneStraddles b) where
+    stands : (i : ℕ) (b : Body) → slice_get (bodies_of framed) i ≡ Some b → slice_get (bodies_of works) i ≡ Some b
+    stands i b at = ap (λ (l : List Body). slice_get l i) (sym bodies_same) ∙ at
+
+    sound : AreSoundBodies names (bodies_of framed)
+    sound = record {
+      well_made = λ i b at. made i b (stands i b at);
+      checked = λ i b at. passes c is (class_pool bytes c are_bytes text) few none names (bodies_of works) w.are.bodies i b (stands i b at);
+      none_straddles = λ i b at. free i b (stands i b at);
+    }
+
+    framed_room : HasRoom (bodies_of framed)
+    framed_room = subst HasRoom (sym bodies_same) room
+
+    twin_is : IsClassFile (twin_class names array c framed w.pool w.places)
+    twin_is = class_holds new_bytes (twin_class names array c framed w.pool w.places) new_are (subst (ClassText new_bytes) twins new_text)
+
+    coded : (number : ℕ) (x : Work) → work_of number framed ≡ Some x → IsWrittenCode w.pool (code_places w.pool w.places) names (emitted_of array x)
+    unfolding framed_written
+    coded number x found =
+        let h = work_found number framed x found in
+        written_code id names array c framed (twin_class names array c framed w.pool w.places) framed_written
+        (class_bytes bytes c are_bytes text) framed_room h.index x h.stands (sound.well_made h.index x.body (body_at framed h.index x h.stands))
+        (texts_short id names array framed c (twin_class names array c framed w.pool w.places) framed_written twin_is number x found)
+
+    pub class_passes : EachPassesAgain twin
+    unfolding framed_written
+    class_passes =
+        subst EachPassesAgain (sym twins)
+        (each_passes names c (twin_class names array c framed w.pool w.places) (code_places w.pool w.places) array
+        (written_methods id names array framed c (twin_class names array c framed w.pool w.places) framed_written is
+        (works_fit names array c works w.are made) sound framed_room.probes coded))
