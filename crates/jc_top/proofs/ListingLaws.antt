@@ -1,7 +1,8 @@
--- What is made of class files is one list of lines, or one refusal.
-use Rattle.std.proofs.Common.{◌≡◌, ◌⊎◌, inl, inr, ⊎_elim, ℕ, zero, suc, ◌+◌, ◌<◌, ◌≤◌, List, [], ◌∷◌, ◌++◌, length, take, get_or, map, Some, Ok, Err, Vec, Bor, refl, sym, ◌∙◌, ap, ap₂, subst, arith, append_assoc, String, string_bytes}
-use Rattle.std.proofs.lemmas.List.{append-nil, take_more, take_all, map-append, length-map, get_or-map}
-use Rattle.std.specs.List.{AllByRecursion}
+-- What is made of class files is one list of texts, or one refusal.
+use Rattle.std.proofs.Common.{◌≡◌, ◌⊎◌, inl, inr, ⊎_elim, ℕ, zero, suc, ◌+◌, ◌<◌, ◌≤◌, List, [], ◌∷◌, ◌++◌, length, take, get_or, map, Some, Ok, Err, Vec, Bor, refl, sym, ◌∙◌, ap, ap₂, subst, arith, String, string_bytes}
+use Rattle.std.proofs.lemmas.List.{take_more, take_all, map-append, length-map, get_or-map}
+use Rattle.std.specs.List.{AllByRecursion, flat_map}
+use Rattle.std.proofs.lemmas.List.Concat.{flat_map-cons}
 use Rattle.std.specs.declared.alloc.Global.{Global}
 use Rattle.jc_base.specs.ByteLists.{AreBytes}
 use Rattle.jc_base.specs.Outside.{most_read}
@@ -18,10 +19,11 @@ use Rattle.jc_instrument.proofs.OneReasonLaws.{one_reason}
 use Rattle.jc_instrument.proofs.SameAnalysisLaws.{same_analysis}
 use Rattle.jc_instrument.proofs.EachAnalysisLaws.{each_analysis, analysis_or_reason}
 use Rattle.jc_top.specs.declared.output.Write.{Write as Written}
+use Rattle.jc_top.specs.declared.output.Write.TheVariants as written
 use Rattle.jc_top.specs.declared.status.Status.TheVariants as status
 use Rattle.jc_top.specs.declared.status.Fault.TheVariants as fault
 use Rattle.jc_top.specs.Words.{Word, words_of}
-use Rattle.jc_top.specs.ClassInfo.{class_line, method_line, class_lines, Listing, prints, refuses, Lists, analysed, refused, AreListed, RefusedAt}
+use Rattle.jc_top.specs.ClassInfo.{class_line, method_line, class_text, Listing, prints, refuses, Lists, analysed, refused, AreListed, RefusedAt}
 use Rattle.jc_top.specs.Command.{class_info}
 use Rattle.jc_top.specs.Looks.{write_seen}
 use Rattle.jc_top.specs.World.{Write, to_out}
@@ -31,18 +33,21 @@ use Rattle.jc_top.specs.Outcome.{class_stop, AnswersWith}
 -- ---- one file
 
 -- the lines of bodies don't depend on their frames
-lines_without : (bodies : List Body) → map method_line (map without_frames bodies) ≡ map method_line bodies
+lines_without : (bodies : List Body) → flat_map method_line (map without_frames bodies) ≡ flat_map method_line bodies
 lines_without [] = refl
-lines_without (b ∷ bodies) = ap (λ (ls : List (List ℕ)). method_line b ∷ ls) (lines_without bodies)
+lines_without (b ∷ bodies) =
+    flat_map-cons method_line (without_frames b) (map without_frames bodies)
+    ∙ ap (λ (text : List ℕ). method_line b ++ text) (lines_without bodies) ∙ sym (flat_map-cons method_line b bodies)
 
-same_lines : (a b : Analysed) → IsSameAnalysis a b → class_lines a ≡ class_lines b
-same_lines a b same =
-    let methods : map method_line a.bodies ≡ map method_line b.bodies = sym (lines_without a.bodies) ∙ ap (map method_line) same.bodies ∙ lines_without b.bodies in
-    ap₂ (λ (l : List ℕ) (ls : List (List ℕ)). l ∷ ls) (ap class_line same.rest) methods
+same_text : (a b : Analysed) → IsSameAnalysis a b → class_text a ≡ class_text b
+same_text a b same =
+    let methods : flat_map method_line a.bodies ≡ flat_map method_line b.bodies =
+    sym (lines_without a.bodies) ∙ ap (flat_map method_line) same.bodies ∙ lines_without b.bodies in
+    ap₂ (λ (x y : List ℕ). x ++ y) (ap class_line same.rest) methods
 
 -- a listing, by what decided it
 data ListingOf (bytes : List ℕ) (l : Listing) : Type 0 where
-  by_analysis : (a : Analysed) → IsAnalysis bytes a → l ≡ prints (class_lines a) → ListingOf bytes l
+  by_analysis : (a : Analysed) → IsAnalysis bytes a → l ≡ prints (class_text a) → ListingOf bytes l
   by_reason : (why : Refusal) → AnalysisReason bytes (Some why) → l ≡ refuses why → ListingOf bytes l
 
 listing_of : (bytes : List ℕ) (l : Listing) → Lists bytes l → ListingOf bytes l
@@ -58,7 +63,7 @@ some_is e = cc
 
 module _ (bytes : List ℕ) where
   one_listing_of : (a b : Listing) → ListingOf bytes a → ListingOf bytes b → a ≡ b
-  one_listing_of a b (by_analysis x is e) (by_analysis y is' f) = e ∙ ap prints (same_lines x y (same_analysis bytes x y is is')) ∙ sym f
+  one_listing_of a b (by_analysis x is e) (by_analysis y is' f) = e ∙ ap prints (same_text x y (same_analysis bytes x y is is')) ∙ sym f
   one_listing_of a b (by_analysis x is e) (by_reason why r f) = absurd (analysis_or_reason bytes x why is r)
   one_listing_of a b (by_reason why r e) (by_analysis x is f) = absurd (analysis_or_reason bytes x why is r)
   one_listing_of a b (by_reason why r e) (by_reason other s f) = e ∙ ap refuses (some_is (one_reason bytes (Some why) (Some other) r s)) ∙ sym f
@@ -69,28 +74,28 @@ module _ (bytes : List ℕ) where
   some_listing : IsFile bytes → (l : Listing) × Lists bytes l
   some_listing file = ⊎_elim (λ a. (_, analysed a.0 a.1)) (λ r. (_, refused r.0 r.1)) (each_analysis bytes file.0 file.1)
 
-lines_are : (a b : List (List ℕ)) → prints a ≡ prints b → a ≡ b
-lines_are a b e = cc
+text_is : (a b : List ℕ) → prints a ≡ prints b → a ≡ b
+text_is a b e = cc
 
 refusal_is : (a b : Refusal) → refuses a ≡ refuses b → a ≡ b
 refusal_is a b e = cc
 
-lines_or_refusal : {P : Type 0} {a : List (List ℕ)} {b : Refusal} → prints a ≡ refuses b → P
-lines_or_refusal e = absurd cc
+text_or_refusal : {P : Type 0} {a : List ℕ} {b : Refusal} → prints a ≡ refuses b → P
+text_or_refusal e = absurd cc
 
 -- ---- lists of files
 
 pub one_list : (ts : List (List ℕ)) (ls ms : List (List ℕ)) → AreListed ts ls → AreListed ts ms → ls ≡ ms
 one_list [] ls ms p q = p ∙ sym q
 one_list (t ∷ ts) ls ms (own, rest, is, parts, later) (own', rest', is', parts', later') =
-    let same : own ≡ own' = lines_are own own' (one_listing t (prints own) (prints own') is is') in
+    let same : own ≡ own' = text_is own own' (one_listing t (prints own) (prints own') is is') in
     let more : rest ≡ rest' = one_list ts rest rest' later later' in
-    parts ∙ ap₂ (λ (x y : List (List ℕ)). x ++ y) same more ∙ sym parts'
+    parts ∙ ap₂ (λ (x : List ℕ) (xs : List (List ℕ)). x ∷ xs) same more ∙ sym parts'
 
 pub listed_or_refused : (k : ℕ) (ps : List Word) (ts ls : List (List ℕ)) (index : ℕ) (path : Word) (why : Refusal) → AreListed ts ls → RefusedAt k ps ts index path why → ⊥
 listed_or_refused k [] ts ls index path why p q = absurd q
 listed_or_refused k (x ∷ ps) [] ls index path why p q = absurd q
-listed_or_refused k (x ∷ ps) (t ∷ ts) ls index path why (own, rest, is, parts, later) (inl here) = lines_or_refusal (one_listing t (prints own) (refuses why) is here.0)
+listed_or_refused k (x ∷ ps) (t ∷ ts) ls index path why (own, rest, is, parts, later) (inl here) = text_or_refusal (one_listing t (prints own) (refuses why) is here.0)
 listed_or_refused k (x ∷ ps) (t ∷ ts) ls index path why (own, rest, is, parts, later) (inr behind) = listed_or_refused (k + 1) ps ts rest index path why later behind.2
 
 pub record SameRefusal (index : ℕ) (path : Word) (why : Refusal) (index' : ℕ) (path' : Word) (why' : Refusal) : Type 0 where
@@ -103,8 +108,8 @@ one_refusal k [] ts index index' path path' why why' p q = absurd p
 one_refusal k (x ∷ ps) [] index index' path path' why why' p q = absurd p
 one_refusal k (x ∷ ps) (t ∷ ts) index index' path path' why why' (inl p) (inl q) =
     record { index_is = p.1 ∙ sym q.1; path_is = p.2 ∙ sym q.2; why_is = refusal_is why why' (one_listing t (refuses why) (refuses why') p.0 q.0) }
-one_refusal k (x ∷ ps) (t ∷ ts) index index' path path' why why' (inl p) (inr q) = lines_or_refusal (one_listing t (prints q.0) (refuses why) q.1 p.0)
-one_refusal k (x ∷ ps) (t ∷ ts) index index' path path' why why' (inr p) (inl q) = lines_or_refusal (one_listing t (prints p.0) (refuses why') p.1 q.0)
+one_refusal k (x ∷ ps) (t ∷ ts) index index' path path' why why' (inl p) (inr q) = text_or_refusal (one_listing t (prints q.0) (refuses why) q.1 p.0)
+one_refusal k (x ∷ ps) (t ∷ ts) index index' path path' why why' (inr p) (inl q) = text_or_refusal (one_listing t (prints p.0) (refuses why') p.1 q.0)
 one_refusal k (x ∷ ps) (t ∷ ts) index index' path path' why why' (inr p) (inr q) = one_refusal (k + 1) ps ts index index' path path' why why' p.2 q.2
 
 -- the files are listed, or one is the first that is refused
@@ -119,15 +124,15 @@ some_list k (p ∷ ps) (t ∷ ts) same short = by (some_listing t short.0).0 (so
   where
     by : (l : Listing) → Lists t l → Decided (k + 1) ps ts → Decided k (p ∷ ps) (t ∷ ts)
     by (refuses why) is rest = inr (k, p, why, inl (is, refl, refl))
-    by (prints own) is (inl rest) = inl (own ++ rest.0, (own, rest.0, is, refl, rest.1))
+    by (prints own) is (inl rest) = inl (own ∷ rest.0, (own, rest.0, is, refl, rest.1))
     by (prints own) is (inr rest) = inr (rest.0, rest.1, rest.2, inr (own, is, rest.3))
 
 -- ---- one file after the other
 
-pub listed_more : (ts ls : List (List ℕ)) (t : List ℕ) (own : List (List ℕ)) → AreListed ts ls → Lists t (prints own) → AreListed (ts ++ t ∷ []) (ls ++ own)
-listed_more [] ls t own none is = (own, [], is, ap (λ (l : List (List ℕ)). l ++ own) none ∙ sym (append-nil own), refl)
+pub listed_more : (ts ls : List (List ℕ)) (t own : List ℕ) → AreListed ts ls → Lists t (prints own) → AreListed (ts ++ t ∷ []) (ls ++ own ∷ [])
+listed_more [] ls t own none is = (own, [], is, ap (λ (l : List (List ℕ)). l ++ own ∷ []) none, refl)
 listed_more (u ∷ ts) ls t own (front, rest, is', parts, later) is =
-    (front, rest ++ own, is', ap (λ (l : List (List ℕ)). l ++ own) parts ∙ append_assoc front rest own, listed_more ts rest t own later is)
+    (front, rest ++ own ∷ [], is', ap (λ (l : List (List ℕ)). l ++ own ∷ []) parts, listed_more ts rest t own later is)
 
 pub refused_here : (k : ℕ) (ps : List Word) (ts ls : List (List ℕ)) (i : ℕ) (p : Word) (t : List ℕ) (why : Refusal) → length ps ≡ length ts → i < length ts → AreListed (take i ts) ls → t ≡ get_or ts i t → p ≡ get_or ps i p → Lists t (refuses why) → RefusedAt k ps ts (k + i) p why
 refused_here k [] [] ls i p t why same within are text path is = absurd (omega (arith, within))
@@ -139,9 +144,9 @@ refused_here k (x ∷ ps) (u ∷ ts) ls (suc i) p t why same within (own, rest, 
     let index : k + 1 + i ≡ k + suc i = omega arith in
     inr (own, first, subst (λ (n : ℕ). RefusedAt (k + 1) ps ts n p why) index next)
 
--- ---- the writes of the lines
+-- ---- the writes of the texts
 
--- the files have these lines, as writes
+-- the files have these lines, each its own as one write
 pub record LinesOf (texts : List (List ℕ)) (writes : List Written) : Type 0 where
   pub lines : List (List ℕ)
   pub writes_are : map write_seen writes ≡ map to_out lines
@@ -150,17 +155,19 @@ pub record LinesOf (texts : List (List ℕ)) (writes : List Written) : Type 0 wh
 pub no_lines : (texts : List (List ℕ)) (writes : List Written) → writes ≡ [] → LinesOf (take 0 texts) writes
 no_lines texts writes none = record { lines = []; writes_are = ap (map write_seen) none; listed = refl }
 
-pub more_lines : (texts : List (List ℕ)) (writes more : List Written) (i : ℕ) (t : List ℕ) (class : Analysed) → LinesOf (take i texts) writes
-    → i < length texts → t ≡ get_or texts i t → IsAnalysis t class → map write_seen more ≡ map write_seen writes ++ map to_out (class_lines class)
+pub more_lines : (texts : List (List ℕ)) (writes more : List Written) (i : ℕ) (t : List ℕ) (class : Analysed) (text : Vec ℕ Global) → LinesOf (take i texts) writes
+    → i < length texts → t ≡ get_or texts i t → IsAnalysis t class → text.items ≡ class_text class → more ≡ writes ++ written.Out text ∷ []
     → LinesOf (take (i + 1) texts) more
-more_lines texts writes more i t class so_far within text is grows = record {
-  lines = so_far.lines ++ class_lines class;
+more_lines texts writes more i t class text so_far within at is own grows = record {
+  lines = so_far.lines ++ class_text class ∷ [];
   writes_are =
-      grows ∙ ap (λ (ws : List Write). ws ++ map to_out (class_lines class)) so_far.writes_are ∙ sym (map-append to_out so_far.lines (class_lines class));
+      ap (map write_seen) grows ∙ map-append write_seen writes (written.Out text ∷ [])
+      ∙ ap₂ (λ (ws : List Write) (l : List ℕ). ws ++ to_out l ∷ []) so_far.writes_are own
+      ∙ sym (map-append to_out so_far.lines (class_text class ∷ []));
   listed =
-      let longer : take (i + 1) texts ≡ take i texts ++ t ∷ [] = take_more texts i t within ∙ ap (λ (u : List ℕ). take i texts ++ u ∷ []) (sym text) in
-      subst (λ (ts : List (List ℕ)). AreListed ts (so_far.lines ++ class_lines class)) (sym longer)
-      (listed_more (take i texts) so_far.lines t (class_lines class) so_far.listed (analysed class is));
+      let longer : take (i + 1) texts ≡ take i texts ++ t ∷ [] = take_more texts i t within ∙ ap (λ (u : List ℕ). take i texts ++ u ∷ []) (sym at) in
+      subst (λ (ts : List (List ℕ)). AreListed ts (so_far.lines ++ class_text class ∷ [])) (sym longer)
+      (listed_more (take i texts) so_far.lines t (class_text class) so_far.listed (analysed class is));
 }
 
 pub listing_refused : (words : List (String Global)) (texts : List (List ℕ)) (writes : List Written) (i : ℕ) (w : String Global) (t : List ℕ) (fail : Fail Refusal) (file : Bor (List ℕ)) → length words ≡ length texts → LinesOf (take i texts) writes → i < length texts

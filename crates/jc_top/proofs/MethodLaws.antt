@@ -1,7 +1,9 @@
 -- The lines of a class's bodies, which come with their plans.
-use Rattle.std.proofs.Common.{◌≡◌, ℕ, zero, suc, ◌+◌, ◌<◌, List, [], ◌∷◌, ◌++◌, length, take, get_or, map, Vec, refl, sym, ◌∙◌, ap, arith, append_assoc}
-use Rattle.std.proofs.lemmas.List.{take_more, map-append}
-use Rattle.std.specs.declared.alloc.Global.{Global}
+use Rattle.std.proofs.Common.{◌≡◌, ℕ, zero, suc, ◌+◌, ◌<◌, List, [], ◌∷◌, ◌++◌, length, take, get_or, refl, sym, ◌∙◌, ap, ap₂, arith, append_assoc}
+use Rattle.std.specs.List.{flat_map}
+use Rattle.std.proofs.lemmas.Grind.{flat_map-append}
+use Rattle.std.proofs.lemmas.List.{append-nil, take_more}
+use Rattle.std.proofs.lemmas.List.Concat.{flat_map-cons}
 use Rattle.std.proofs.lemmas.List.Sums.{sum_by_more}
 use Rattle.jc_base.specs.PlainLists.{map_from}
 use Rattle.jc_base.specs.declared.analysed.Analysed.{Analysed}
@@ -10,11 +12,7 @@ use Rattle.jc_base.specs.declared.plan.Plan.{Plan}
 use Rattle.jc_plan.specs.Plan.{plan_of}
 use Rattle.jc_plan.specs.Probed.{probe_count, first_id}
 use Rattle.jc_instrument.specs.Analysis.{IsPlanned}
-use Rattle.jc_top.specs.declared.output.Write.{Write as Written}
-use Rattle.jc_top.specs.declared.output.Write.TheVariants as written
 use Rattle.jc_top.specs.ClassInfo.{method_text, method_line}
-use Rattle.jc_top.specs.Looks.{Prints, write_seen}
-use Rattle.jc_top.specs.World.{Write, to_out}
 
 module _ {X Y : Type 0} (f : ℕ → X → Y) where
   map_from_length : (k : ℕ) (xs : List X) → length (map_from f k xs) ≡ length xs
@@ -42,17 +40,14 @@ module _ (a : Analysed) (planned : IsPlanned a) where
   pub first_behind : (i : ℕ) (d : Body) → i < length a.bodies → first_id a.bodies (i + 1) ≡ first_id a.bodies i + probe_count (get_or a.bodies i d)
   first_behind i d less = sum_by_more probe_count a.bodies i d less
 
--- the line of one more body is put last
-pub method_put : (bodies : List Body) (old now new : List Written) (i probes : ℕ) (b d : Body) (line : Vec ℕ Global) → i < length bodies → b ≡ get_or bodies i d
-    → probes ≡ probe_count b → Prints old (map method_line (take i bodies)) now → line.items ≡ method_text b probes → new ≡ now ++ written.Out line ∷ []
-    → Prints old (map method_line (take (i + 1) bodies)) new
-method_put bodies old now new i probes b d line less body count printed text grows =
+-- the line of one more body is put at the end
+pub method_put : (bodies : List Body) (old now new : List ℕ) (i probes : ℕ) (b d : Body) → i < length bodies → b ≡ get_or bodies i d
+    → probes ≡ probe_count b → now ≡ old ++ flat_map method_line (take i bodies) → new ≡ now ++ method_text b probes
+    → new ≡ old ++ flat_map method_line (take (i + 1) bodies)
+method_put bodies old now new i probes b d less body count so_far grows =
     let more : take (i + 1) bodies ≡ take i bodies ++ b ∷ [] = take_more bodies i d less ∙ ap (λ (x : Body). take i bodies ++ x ∷ []) (sym body) in
-    let is : line.items ≡ method_line b = text ∙ ap (method_text b) count in
-    let lines : map to_out (map method_line (take (i + 1) bodies)) ≡ map to_out (map method_line (take i bodies)) ++ to_out line.items ∷ [] =
-    ap (λ (bs : List Body). map to_out (map method_line bs)) more ∙ ap (map to_out) (map-append method_line (take i bodies) (b ∷ []))
-    ∙ map-append to_out (map method_line (take i bodies)) (method_line b ∷ [])
-    ∙ ap (λ (l : List ℕ). map to_out (map method_line (take i bodies)) ++ to_out l ∷ []) (sym is) in
-    ap (map write_seen) grows ∙ map-append write_seen now (written.Out line ∷ []) ∙ ap (λ (ws : List Write). ws ++ to_out line.items ∷ []) printed
-    ∙ append_assoc (map write_seen old) (map to_out (map method_line (take i bodies))) (to_out line.items ∷ [])
-    ∙ ap (λ (ws : List Write). map write_seen old ++ ws) (sym lines)
+    let lines : flat_map method_line (take (i + 1) bodies) ≡ flat_map method_line (take i bodies) ++ method_line b =
+    ap (flat_map method_line) more ∙ flat_map-append method_line (take i bodies) (b ∷ [])
+    ∙ ap (λ (text : List ℕ). flat_map method_line (take i bodies) ++ text) (flat_map-cons method_line b [] ∙ append-nil (method_line b)) in
+    grows ∙ ap₂ (λ (text : List ℕ) (n : ℕ). text ++ method_text b n) so_far count
+    ∙ append_assoc old (flat_map method_line (take i bodies)) (method_line b) ∙ ap (λ (text : List ℕ). old ++ text) (sym lines)

@@ -1,6 +1,7 @@
 -- What the command `classinfo` makes of class files.
-use Rattle.std.specs.Prelude.{◌≡◌, ◌⊎◌, ℕ, ◌+◌, List, [], ◌∷◌, ◌++◌, codes, length, map, Some}
+use Rattle.std.specs.Prelude.{◌≡◌, ◌⊎◌, ℕ, ◌+◌, List, [], ◌∷◌, ◌++◌, codes, length, Some}
 use Rattle.std.specs.Fmt.{decimal}
+use Rattle.std.specs.List.{flat_map}
 use Rattle.jc_base.specs.declared.analysed.Analysed.{Analysed}
 use Rattle.jc_base.specs.declared.body.Body.{Body}
 use Rattle.jc_base.specs.declared.refusal.Refusal.{Refusal}
@@ -36,24 +37,24 @@ abbrev pub method_line : Body → List ℕ
 method_line b = method_text b (probe_count b)
 
 -- the line of the class, and one for each body
-abbrev pub class_lines : Analysed → List (List ℕ)
-class_lines a = class_line a ∷ map method_line a.bodies
+abbrev pub class_text : Analysed → List ℕ
+class_text a = class_line a ++ flat_map method_line a.bodies
 
 -- ---- files
 
--- what is made of one file: its lines, or a refusal
+-- what is made of one file: a text of lines, or a refusal
 pub data Listing : Type 0 where
-  prints : (lines : List (List ℕ)) → Listing
+  prints : (text : List ℕ) → Listing
   refuses : (why : Refusal) → Listing
 
 pub data Lists (bytes : List ℕ) : Listing → Type 0 where
-  analysed : (a : Analysed) → IsAnalysis bytes a → Lists bytes (prints (class_lines a))
+  analysed : (a : Analysed) → IsAnalysis bytes a → Lists bytes (prints (class_text a))
   refused : (why : Refusal) → AnalysisReason bytes (Some why) → Lists bytes (refuses why)
 
--- the lines of the files, in order
+-- the lines of the files, in order: one text for each
 abbrev pub AreListed : List (List ℕ) → List (List ℕ) → Type 0
-AreListed [] lines = lines ≡ []
-AreListed (t ∷ ts) lines = (own rest : List (List ℕ)) × Lists t (prints own) × (lines ≡ own ++ rest) × AreListed ts rest
+AreListed [] listed = listed ≡ []
+AreListed (t ∷ ts) listed = (own : List ℕ) × (rest : List (List ℕ)) × Lists t (prints own) × (listed ≡ own ∷ rest) × AreListed ts rest
 
 -- The first file that is refused, by its index counted from k and by its path: each file before it has its lines.
 abbrev pub RefusedAt : ℕ → List Word → List (List ℕ) → ℕ → Word → Refusal → Type 0
@@ -61,4 +62,4 @@ RefusedAt k [] texts index path why = ⊥
 RefusedAt k (p ∷ ps) [] index path why = ⊥
 RefusedAt k (p ∷ ps) (t ∷ ts) index path why =
     (Lists t (refuses why) × (index ≡ k) × (path ≡ p))
-    ⊎ ((own : List (List ℕ)) × Lists t (prints own) × RefusedAt (k + 1) ps ts index path why)
+    ⊎ ((own : List ℕ) × Lists t (prints own) × RefusedAt (k + 1) ps ts index path why)

@@ -1,11 +1,11 @@
 //! The command `classinfo`.
-ghost use Rattle.std.specs.Prelude.{◌≡◌, ◌≤◌, ◌<◌, ◌^◌, All, length, map, IfOk, OnOk, string_bytes};
+ghost use Rattle.std.specs.Prelude.{◌≡◌, ◌≤◌, ◌<◌, ◌^◌, ◌++◌, All, length, IfOk, OnOk, string_bytes};
+ghost use Rattle.std.specs.List.{flat_map};
 ghost use Rattle.jc_base.specs.Outside.{most_read};
 ghost use Rattle.jc_instrument.specs.Analysis.{IsPlanned};
 ghost use Rattle.jc_top.specs.Command.{class_info};
-ghost use Rattle.jc_top.specs.ClassInfo.{class_end, class_line, class_lines};
+ghost use Rattle.jc_top.specs.ClassInfo.{class_end, class_line, class_text};
 ghost use Rattle.jc_top.specs.ClassInfo.{method_end, method_start, method_text, method_line};
-ghost use Rattle.jc_top.specs.Looks.{Prints};
 ghost use Rattle.jc_top.specs.Words.{words_of};
 ghost use Rattle.jc_top.specs.Outcome.{Prepares, AnswersWith, class_stop};
 
@@ -61,34 +61,29 @@ fn method_text(alloc: Global, body: &Body, probes: u32) -> Result<Vec<u8>, Alloc
     Ok(line)
 }
 
-/// Puts the lines of a class's bodies last.
-fn put_methods<'a>(
-    alloc: Global,
-    writes: &mut Vec<Write<'a>>,
-    class: &Analysed,
-) -> Result<(), Memory>
+/// Puts the lines of a class's bodies at the end.
+fn put_methods(alloc: Global, text: &mut Vec<u8>, class: &Analysed) -> Result<(), AllocError>
     requires { IsPlanned class.now }
-    ensures { OnOk result (Prints writes.old.items (map method_line class.now.bodies) writes.new.items) }
+    ensures { OnOk result (text.new.items ≡ text.old.items ++ flat_map method_line class.now.bodies) }
 {
     let mut first = 0;
     'putting: for index in 0..class.bodies.len() {
         let next = class.plans[index].next;
-        keep(
-            writes,
-            method_text(alloc, &class.bodies[index], next - first)?,
-        )?;
+        let line = method_text(alloc, &class.bodies[index], next - first)?;
+        text.extend_from_slice(&line)?;
         first = next;
     }
     Ok(())
 }
 
-/// Puts the lines of a class last.
-fn put_class<'a>(alloc: Global, writes: &mut Vec<Write<'a>>, class: &Analysed) -> Result<(), Memory>
+/// The lines of a class.
+fn class_text(alloc: Global, class: &Analysed) -> Result<Vec<u8>, Memory>
     requires { IsPlanned class.now }
-    ensures { OnOk result (Prints writes.old.items (class_lines class.now) writes.new.items) }
+    ensures { IfOk result (λ text. text.items ≡ class_text class.now) }
 {
-    keep(writes, class_line(alloc, class)?)?;
-    put_methods(alloc, writes, class)
+    let mut text = class_line(alloc, class)?;
+    put_methods(alloc, &mut text, class)?;
+    Ok(text)
 }
 
 /// How a class file that is refused stops the command.
@@ -104,7 +99,7 @@ fn refused<'a>(fail: Fail<Refusal>, path: u32, file: &'a str) -> Stop<'a>
     }
 }
 
-/// The lines of the class files, in order.
+/// The lines of the class files, in order: one text for each.
 fn listings<'a>(
     alloc: Global,
     paths: &'a [String],
@@ -118,7 +113,7 @@ fn listings<'a>(
     let mut writes = Vec::new(alloc);
     'listing: for index in 0..texts.len() {
         match analyse(alloc, &texts[index]) {
-            Ok(class) => put_class(alloc, &mut writes, &class)?,
+            Ok(class) => keep(&mut writes, class_text(alloc, &class)?)?,
             Err(fail) => return Err(refused(fail, index as u32, paths[index].as_str())),
         }
     }

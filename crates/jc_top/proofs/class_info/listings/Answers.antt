@@ -11,9 +11,9 @@ pub listing-init : goal.listing-init
 listing-init c = no_lines c.args.texts.now c.new-writes.result.items c.new-writes.ensures.items
 
 pub listing-preserved : goal.listing-preserved
-listing-preserved c = more_lines c.args.texts.now c.listing.writes.items c.put_class.new.writes.items c.listing.index c.index-texts-index.result c.in-Ok.class
-    c.listing.invariant c.listing-test.true c.index-texts-index.is
-    (subst (λ (t : List ℕ). IsAnalysis t c.in-Ok.class) c.deref.ensures c.in-Ok.ensures.analysed) c.in_ok-put_class-in-Ok.ensures
+listing-preserved c = more_lines c.args.texts.now c.listing.writes.items c.keep.new.writes.items c.listing.index c.index-texts-index.result c.in-Ok.class
+    c.in_ok-class_text-in-Ok.field-0 c.listing.invariant c.listing-test.true c.index-texts-index.is
+    (subst (λ (t : List ℕ). IsAnalysis t c.in-Ok.class) c.deref.ensures c.in-Ok.ensures.analysed) c.in_ok-class_text-in-Ok.ensures c.in_ok-keep-in-Ok.ensures
 
 pub returns-in-Err : goal.returns-in-Err
 returns-in-Err c =

@@ -1,4 +1,4 @@
-use Rattle.std.proofs.Common.{ℕ, ◌-◌, ◌<◌, ◌≤◌, List, length, get_or, sym, ◌∙◌, ap, subst, arith}
+use Rattle.std.proofs.Common.{ℕ, ◌-◌, ◌<◌, ◌≤◌, ◌++◌, List, length, get_or, sym, ◌∙◌, ap, subst, arith}
 use Rattle.jc_base.specs.declared.body.Body.{Body}
 use Rattle.jc_base.specs.declared.plan.Plan.{Plan}
 use Rattle.jc_plan.specs.Probed.{probe_count}
@@ -37,9 +37,9 @@ putting-preserved c =
     let next = ap (λ (ps : List Plan). (get_or ps c.putting.index p).next) c.deref.ensures ∙ next_id c.args.class.now c.requires c.putting.index d p within in
     let body = c.index-deref-index-in-putting.is ∙ ap (λ (bs : List Body). get_or bs c.putting.index d) c.deref-in-putting.ensures in
     let first = c.putting.invariant.1 in (
-      method_put bodies c.args.writes.now.items c.putting.writes.items c.keep.new.writes.items c.putting.index
-          ((get_or c.deref.result.now c.putting.index p).next - c.putting.first) d d
-          c.in_ok-method_text.field-0 within body
-          (omega (arith, next, first) ∙ ap probe_count (sym body)) c.putting.invariant.0 c.in_ok-method_text.ensures c.in_ok-keep.ensures,
+      method_put bodies c.args.text.now.items c.putting.text.items c.extend_from_slice.new.self.items c.putting.index
+          ((get_or c.deref.result.now c.putting.index p).next - c.putting.first) d d within body
+          (omega (arith, next, first) ∙ ap probe_count (sym body)) c.putting.invariant.0
+          (c.in_ok-extend_from_slice.ensures.items ∙ ap (λ (l : List ℕ). c.putting.text.items ++ l) (c.deref-in-putting-2.ensures.value ∙ c.in_ok-line.ensures)),
       next ∙ sym (first_behind c.args.class.now c.requires c.putting.index d within),
     )
