@@ -8,8 +8,9 @@ use Rattle.std.proofs.lemmas.Slice.Eq.{bytes_eq-Decides}
 use Rattle.jc_base.proofs.DecoderLaws.{chosen, guard_some, some_is}
 use Rattle.std.specs.declared.alloc.Global.{Global}
 use Rattle.jc_top.specs.Words.{Word, words_of, Use, use_words, Call, call_words, Scan, with_use, scan, is_value, is_option, is_relative, are_distinct, components, is_component}
-use Rattle.jc_top.specs.Command.{Command, merge, exec_info, class_info, exec_info_call, class_info_call, AreFiles, merge_some, exec_info_some, class_info_some, report_some, IsCallOf, inputs_of, Means, NoForm}
-use Rattle.jc_top.specs.Command.{are_files, decide, decide_merge, decide_exec_info, decide_class_info, decide_report, decide_scan, command_of, destfile}
+use Rattle.jc_top.specs.Command.{Command, merge, exec_info, class_info, exec_info_call, class_info_call, AreFiles, merge_some, exec_info_some, class_info_some, report_some, instrument_some, IsCallOf, inputs_of, Means, NoForm}
+use Rattle.jc_top.specs.Command.{are_files, decide, decide_merge, decide_exec_info, decide_class_info, decide_report, decide_instrument, decide_scan, command_of, destfile, dest_option}
+use Rattle.jc_top.proofs.InstrumentWordsLaws.{instrument_decided, instrument_chosen}
 use Rattle.jc_top.proofs.ReportWordsLaws.{all_by_recursion, list_all_of, cons_not_nil, chosen_some, report_decided, report_scan, report_chosen}
 
 -- ---- a scan spells the words
@@ -77,11 +78,14 @@ named words name rest_name rest s command test parts is stated =
     record { call = record { command = rest_name; uses = s.uses; files = s.files }; spelled = parts ∙ ap₂ (λ (n : Word) (l : List Word). n ∷ l) same (scan_spells rest s is); stated = stated }
 
 -- the decision behind the first names
-abbrev report_or_none : Word → Scan → Option Command
-report_or_none name s = cond (bytes_eq name (codes "report")) (decide_report s.uses s.files) None
+abbrev instrument_or_none : Word → Scan → Option Command
+instrument_or_none name s = cond (bytes_eq name (codes "instrument")) (decide_instrument s.uses s.files) None
+
+abbrev report_or_instrument : Word → Scan → Option Command
+report_or_instrument name s = cond (bytes_eq name (codes "report")) (decide_report s.uses s.files) (instrument_or_none name s)
 
 abbrev class_info_or_report : Word → Scan → Option Command
-class_info_or_report name s = cond (bytes_eq name (codes "classinfo")) (decide_class_info s.uses s.files) (report_or_none name s)
+class_info_or_report name s = cond (bytes_eq name (codes "classinfo")) (decide_class_info s.uses s.files) (report_or_instrument name s)
 
 abbrev other_than_merge : Word → Scan → Option Command
 other_than_merge name s = cond (bytes_eq name (codes "execinfo")) (decide_exec_info s.uses s.files) (class_info_or_report name s)
@@ -96,11 +100,14 @@ decided (name ∷ rest) command e = by (scan rest) refl e
       | inl merges ↦ named (name ∷ rest) name (codes "merge") rest s command merges.0 refl is (merge_decided s.uses s.files command merges.1)
       | inr other ↦ elim (chosen (bytes_eq name (codes "execinfo")) (decide_exec_info s.uses s.files) (class_info_or_report name s) (Some command) other.1) [
         | inl infos ↦ named (name ∷ rest) name (codes "execinfo") rest s command infos.0 refl is (exec_info_decided s.uses s.files command infos.1)
-        | inr others ↦ elim (chosen (bytes_eq name (codes "classinfo")) (decide_class_info s.uses s.files) (report_or_none name s) (Some command) others.1) [
+        | inr others ↦ elim (chosen (bytes_eq name (codes "classinfo")) (decide_class_info s.uses s.files) (report_or_instrument name s) (Some command) others.1) [
           | inl lists ↦ named (name ∷ rest) name (codes "classinfo") rest s command lists.0 refl is (class_info_decided s.uses s.files command lists.1)
-          | inr last ↦
-              let test = guard_some (bytes_eq name (codes "report")) (decide_report s.uses s.files) command last.1 in
-              named (name ∷ rest) name (codes "report") rest s command test.0 refl is (report_decided s.uses s.files command test.1)
+          | inr behind ↦ elim (chosen (bytes_eq name (codes "report")) (decide_report s.uses s.files) (instrument_or_none name s) (Some command) behind.1) [
+            | inl reports ↦ named (name ∷ rest) name (codes "report") rest s command reports.0 refl is (report_decided s.uses s.files command reports.1)
+            | inr last ↦
+                let test = guard_some (bytes_eq name (codes "instrument")) (decide_instrument s.uses s.files) command last.1 in
+                named (name ∷ rest) name (codes "instrument") rest s command test.0 refl is (instrument_decided s.uses s.files command test.1)
+          ]
         ]
       ]
     ]
@@ -115,14 +122,17 @@ unfolding scan
 scan_files w [] no_option = rw no_option refl
 scan_files w (v ∷ rest) no_option = rw no_option refl
 
-merge_scan : (out input : Word) (inputs : List Word) → is_value input ≡ true → scan (destfile ∷ out ∷ input ∷ inputs) ≡ Some (record { uses = record { option = destfile; value = out } ∷ []; files = input ∷ inputs })
+-- one use of an option in front of files
+use_scan : (option value file : Word) (files : List Word) → is_option option ≡ true → is_value file ≡ true
+    → scan (option ∷ value ∷ file ∷ files) ≡ Some (record { uses = record { option = option; value = value } ∷ []; files = file ∷ files })
 unfolding scan
-merge_scan out input inputs plain = ap (with_use (record { option = destfile; value = out })) (scan_files input inputs (value_no_option input plain))
+use_scan option value file files is plain =
+    rw is (ap (with_use (record { option = option; value = value })) (scan_files file files (value_no_option file plain)))
 
 found : (words : List Word) (call : Call) (command : Command) → words ≡ call_words call → IsCallOf call command → command_of words ≡ Some command
 found words call command spelled (merge_some out [] some files) = absurd (some refl)
 found words call command spelled (merge_some out (input ∷ inputs) some files) =
-    ap command_of spelled ∙ ap (decide_scan (codes "merge")) (merge_scan out input inputs files.each.1.0)
+    ap command_of spelled ∙ ap (decide_scan (codes "merge")) (use_scan destfile out input inputs refl files.each.1.0)
     ∙ chosen_some (are_files is_value (out ∷ input ∷ inputs)) (merge out (input ∷ inputs)) (files_pass is_value (out ∷ input ∷ inputs) files)
 found words call command spelled (exec_info_some [] some files) = absurd (some refl)
 found words call command spelled (exec_info_some (path ∷ paths) some files) =
@@ -139,6 +149,11 @@ found words call command spelled (report_some out name exec (path ∷ paths) som
     ap command_of spelled
     ∙ ap (decide_scan (codes "report")) (report_scan out name exec (path ∷ paths) (scan_files path paths (value_no_option path value)))
     ∙ report_chosen out name exec path paths are
+found words call command spelled (instrument_some dest [] some are) = absurd (some refl)
+found words call command spelled (instrument_some dest (path ∷ paths) some are) =
+    let value = (and_parts (is_value path) (list_all is_component (components path)) are.files.0).0 in
+    ap command_of spelled ∙ ap (decide_scan (codes "instrument")) (use_scan dest_option dest path paths refl value)
+    ∙ instrument_chosen dest path paths are
 
 pub means_found : (words : List Word) (command : Command) → Means words command → command_of words ≡ Some command
 means_found words command means = found words means.call command means.spelled means.stated
@@ -227,6 +242,7 @@ few_of words call command spelled (report_some out None None paths some are) = o
 few_of words call command spelled (report_some out (Some name) None paths some are) = omega (arith, ap length spelled)
 few_of words call command spelled (report_some out None (Some exec) paths some are) = omega (arith, ap length spelled)
 few_of words call command spelled (report_some out (Some name) (Some exec) paths some are) = omega (arith, ap length spelled)
+few_of words call command spelled (instrument_some dest paths some are) = omega (arith, ap length spelled)
 
 pub few_inputs : (words : List (String Global)) (command : Command) → Means (words_of words) command → length words < 2 ^ 32 → length (inputs_of command) < 2 ^ 32
 few_inputs words command means bound = let few = few_of (words_of words) means.call command means.spelled means.stated in omega (arith, few, bound, length-map words string_bytes)

@@ -1,5 +1,6 @@
 pub mod PathLaws
 pub mod ReportWordsLaws
+pub mod InstrumentWordsLaws
 pub mod CommandLaws
 pub mod ReadLaws
 pub mod WriteLaws
@@ -14,5 +15,6 @@ pub mod ReportLaws
 pub mod ReportStepLaws
 pub mod ReportRunLaws
 pub mod ReportAnswerLaws
+pub mod InstrumentLaws
 pub mod WorkLaws
 pub mod RunLaws

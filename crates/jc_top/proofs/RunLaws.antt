@@ -16,7 +16,7 @@ use Rattle.jc_top.specs.Command.{Command, inputs_of, HasNoErrLine, Means, NoForm
 use Rattle.jc_top.specs.Texts.{usage_text, cannot_read, cannot_write, cannot_write_output, fault_text}
 use Rattle.jc_top.specs.Looks.{write_seen}
 use Rattle.jc_top.specs.World.{World, world, Counts, counts, NoneRose, Write, to_file, to_out, to_err, Landed, after, after_write, grown, Broken, StopsIn}
-use Rattle.jc_top.specs.Work.{StopsAt, Answer, Answers, merged, merge_refused, informed, exec_info_refused, listed, class_refused, reported, report_refused, report_clashes, refusing, IsWork, usage, unreadable, answered, WorkEnds, DoesWork}
+use Rattle.jc_top.specs.Work.{StopsAt, Answer, Answers, merged, merge_refused, informed, exec_info_refused, listed, class_refused, reported, report_refused, report_clashes, instrumented, refusing, IsWork, usage, unreadable, answered, WorkEnds, DoesWork}
 use Rattle.jc_top.specs.Outcome.{Rises, ReadStops, ReadsStop, Read, Prepares, FailsFor, FailsAs, WroteAll, IsFileWrite, IsTextWrite, Writing, Runs, Says, Reports, message_of, status_of}
 use Rattle.jc_top.specs.Outcome.{Kept, BreaksOff, ToldEnds, IsUnread, broken_text, IsUnwritten, IsOutOfMemory, Cause, IsOrMemory, Ends}
 use Rattle.jc_top.proofs.WorkLaws.{one_ending}
@@ -47,6 +47,7 @@ quiet_writes command texts answer (class_refused index path why is) quiet done =
 quiet_writes command texts answer (reported store items union are none) quiet done = absurd quiet
 quiet_writes command texts answer (report_refused index path refusal is) quiet done = absurd quiet
 quiet_writes command texts answer (report_clashes store count items refusal union are clash) quiet done = absurd quiet
+quiet_writes command texts answer (instrumented writes are) quiet done = absurd quiet
 
 module _ (landed : Landed) where
   one_silent : (old : World) (write : Write) → IsNoErr write → (after_write landed old write).err ≡ old.err

@@ -10,21 +10,24 @@ use Rattle.jc_exec.specs.declared.refusal.ExecRefusal.{ExecRefusal}
 use Rattle.jc_exec.specs.Store.{Store}
 use Rattle.jc_exec.specs.Writing.{exec_text}
 use Rattle.std.proofs.lemmas.Bool.{cases_lt}
+use Rattle.std.proofs.lemmas.List.{length-map}
 use Rattle.jc_top.specs.declared.status.Status.{Status}
 use Rattle.jc_top.specs.declared.status.Status.TheVariants as status
 use Rattle.jc_top.specs.declared.status.Fault.TheVariants as fault
-use Rattle.jc_top.specs.Words.{Word}
-use Rattle.jc_top.specs.Command.{Command, merge, exec_info, class_info, report, inputs_of, Means, NoForm}
+use Rattle.jc_top.specs.Words.{Word, in_folder}
+use Rattle.jc_top.specs.Command.{Command, merge, exec_info, class_info, report, instrument, inputs_of, Means, NoForm}
 use Rattle.jc_top.specs.Texts.{usage_text, cannot_read}
-use Rattle.jc_top.specs.World.{to_file, to_out, to_err}
-use Rattle.jc_top.specs.Work.{Holds, IsNoFile, CantRead, AreRead, StopsAt, Answer, Answers, merged, merge_refused, informed, exec_info_refused, listed, class_refused, reported, report_refused, report_clashes, refusing, Work, IsWork, usage, unreadable, answered, WorkEnds}
+use Rattle.jc_top.specs.World.{Write, to_file, to_out, to_err}
+use Rattle.jc_top.specs.Work.{Holds, IsNoFile, CantRead, AreRead, StopsAt, Answer, Answers, merged, merge_refused, informed, exec_info_refused, listed, class_refused, reported, report_refused, report_clashes, instrumented, refusing, Work, IsWork, usage, unreadable, answered, WorkEnds}
 use Rattle.jc_base.specs.declared.refusal.Refusal.{Refusal}
 use Rattle.jc_top.specs.ClassInfo.{AreListed, RefusedAt}
 use Rattle.jc_top.specs.ExecData.{IsUnionOf, IsFirstRefused, IsFirstRefusedAlone}
 use Rattle.jc_top.specs.ExecInfo.{AreInfo}
+use Rattle.jc_top.specs.Instrument.{AreFileWrites}
 use Rattle.jc_top.proofs.ExecDataLaws.{one_union_of, union_or_refused, one_refused, some_union_or_refused, data_or_refused, one_refused_alone, some_data_or_refused}
 use Rattle.jc_top.proofs.InfoLaws.{one_info, info_is_data, data_has_info}
 use Rattle.jc_top.proofs.ListingLaws.{IsFile, one_list, listed_or_refused, one_refusal, some_list}
+use Rattle.jc_top.proofs.InstrumentLaws.{one_writes, some_writes}
 use Rattle.jc_top.proofs.ReportAnswerLaws.{ReportAnswer, by_items, by_data, by_clash, one_report_answer, some_report_answer, files_behind}
 use Rattle.jc_top.proofs.CommandLaws.{one_command, command_or_none}
 
@@ -119,12 +122,20 @@ ListAnswer paths texts answer =
     ((lines : List (List ℕ)) × AreListed texts lines × (answer ≡ listed_answer lines))
     ⊎ ((index : ℕ) × (path : Word) × (why : Refusal) × RefusedAt 0 paths texts index path why × (answer ≡ refusing path (fault.Class index why)))
 
+abbrev written_answer : List Write → Answer
+written_answer writes = record { writes = writes; status = status.Done }
+
+abbrev InstrumentAnswer : Word → List Word → List (List ℕ) → Answer → Type 0
+InstrumentAnswer dest paths texts answer =
+    (writes : List Write) × AreFileWrites (map (in_folder dest) paths) paths texts writes × (answer ≡ written_answer writes)
+
 -- an answer, by the command and the texts
 abbrev AnswerOf : Command → List (List ℕ) → Answer → Type 0
 AnswerOf (merge out inputs) texts answer = MergeAnswer out inputs texts answer
 AnswerOf (exec_info paths) texts answer = InfoAnswer paths texts answer
 AnswerOf (class_info paths) texts answer = ListAnswer paths texts answer
 AnswerOf (report out name exec paths) texts answer = ReportAnswer out name exec paths texts answer
+AnswerOf (instrument dest paths) texts answer = InstrumentAnswer dest paths texts answer
 
 answer_of : (command : Command) (texts : List (List ℕ)) (answer : Answer) → Answers command texts answer → AnswerOf command texts answer
 answer_of command texts answer (merged store union) = inl (store, union, refl)
@@ -137,6 +148,7 @@ answer_of command texts answer (reported store items union are none) = by_items 
 answer_of command texts answer (report_refused index path refusal is) = by_data index path refusal is refl
 answer_of command texts answer (report_clashes {path = path} store count items refusal union are clash) =
     by_clash path store count items refusal refl union are clash refl
+answer_of command texts answer (instrumented writes are) = (writes, are, refl)
 
 one_merge : (out : Word) (inputs : List Word) (texts : List (List ℕ)) (a b : Answer) → MergeAnswer out inputs texts a → MergeAnswer out inputs texts b → a ≡ b
 one_merge out inputs texts a b (inl p) (inl q) = p.2 ∙ ap (merged_answer out) (one_union_of texts p.0 q.0 p.1 q.1) ∙ sym q.2
@@ -167,6 +179,8 @@ one_answer_of (merge out inputs) texts a b p q = one_merge out inputs texts a b 
 one_answer_of (exec_info paths) texts a b p q = one_info_answer paths texts a b p q
 one_answer_of (class_info paths) texts a b p q = one_listing_answer paths texts a b p q
 one_answer_of (report out name exec paths) texts a b p q = one_report_answer out name exec paths texts a b p q
+one_answer_of (instrument dest paths) texts a b p q =
+    p.2 ∙ ap written_answer (one_writes (map (in_folder dest) paths) paths texts p.0 q.0 p.1 q.1) ∙ sym q.2
 
 pub one_answer : (command : Command) (texts : List (List ℕ)) (a b : Answer) → Answers command texts a → Answers command texts b → a ≡ b
 one_answer command texts a b p q = one_answer_of command texts a b (answer_of command texts a p) (answer_of command texts b q)
@@ -280,6 +294,10 @@ some_answer (class_info paths) texts m read =
     ⊎_elim (λ lines. (_, listed lines.0 lines.1)) (λ refused. (_, class_refused refused.0 refused.1 refused.2 refused.3)) (some_list 0 paths texts (as_many m paths texts read) (all_files m paths texts read))
 some_answer (report out name exec paths) texts m read =
     some_report_answer out name paths texts exec (files_behind (length (option_to_list exec)) texts (all_files m (option_to_list exec ++ paths) texts read))
+some_answer (instrument dest paths) texts m read =
+    let many = as_many m paths texts read in
+    let made = some_writes (map (in_folder dest) paths) paths texts (length-map paths (in_folder dest)) many (all_files m paths texts read) in
+    (_, instrumented made.0 made.1)
 
 pub some_work : (words : List Word) (m : FileMap) → (work : Work) × IsWork words m work
 some_work words m = by (command_or_none words)

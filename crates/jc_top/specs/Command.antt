@@ -1,8 +1,8 @@
 -- The commands, and the words that each is called by.
-use Rattle.std.specs.Prelude.{◌≡◌, ◌≢◌, ⊤, Bool, ◌&&◌, IsTrue, List, [], ◌∷◌, ◌++◌, codes, Option, Some, None, option_to_list, unwrap_or, if◌then◌else◌}
+use Rattle.std.specs.Prelude.{◌≡◌, ◌≢◌, ⊤, Bool, ◌&&◌, IsTrue, List, [], ◌∷◌, ◌++◌, map, codes, Option, Some, None, option_to_list, unwrap_or, if◌then◌else◌}
 use Rattle.std.specs.List.{AllByRecursion, list_all}
 use Rattle.std.specs.Str.{bytes_eq}
-use Rattle.jc_top.specs.Words.{Word, Use, Call, Scan, call_words, uses_of, is_value, is_file, is_relative, are_distinct, scan}
+use Rattle.jc_top.specs.Words.{Word, Use, Call, Scan, call_words, uses_of, is_value, is_file, is_relative, in_folder, are_distinct, scan}
 
 pub data Command : Type 0 where
   -- writes the union of the execution data in the inputs
@@ -13,6 +13,8 @@ pub data Command : Type 0 where
   class_info : (paths : List Word) → Command
   -- writes the CSV text of the class files, by the hits in the execution data, if a file of it is named
   report : (out name : Word) (exec : Option Word) (paths : List Word) → Command
+  -- writes each class file into the folder, with probes where it is instrumented
+  instrument : (dest : Word) (paths : List Word) → Command
 
 -- what the command reads, in order
 abbrev pub inputs_of : Command → List Word
@@ -20,6 +22,7 @@ inputs_of (merge destfile inputs) = inputs
 inputs_of (exec_info paths) = paths
 inputs_of (class_info paths) = paths
 inputs_of (report out name exec paths) = option_to_list exec ++ paths
+inputs_of (instrument dest paths) = paths
 
 -- the command writes no line on `err`
 abbrev pub HasNoErrLine : Command → Type 0
@@ -27,6 +30,7 @@ HasNoErrLine (merge destfile inputs) = ⊤
 HasNoErrLine (exec_info paths) = ⊤
 HasNoErrLine (class_info paths) = ⊤
 HasNoErrLine (report out name exec paths) = ⊥
+HasNoErrLine (instrument dest paths) = ⊥
 
 abbrev pub destfile : Word
 destfile = codes "--destfile"
@@ -39,6 +43,9 @@ name_option = codes "--name"
 
 abbrev pub exec_option : Word
 exec_option = codes "--exec"
+
+abbrev pub dest_option : Word
+dest_option = codes "--dest"
 
 abbrev pub merge_call : Word → List Word → Call
 merge_call out inputs = record { command = codes "merge"; uses = record { option = destfile; value = out } ∷ []; files = inputs }
@@ -56,6 +63,10 @@ report_call out name exec paths = record {
   files = paths;
 }
 
+abbrev pub instrument_call : (dest : Word) → List Word → Call
+instrument_call dest paths =
+    record { command = codes "instrument"; uses = record { option = dest_option; value = dest } ∷ []; files = paths }
+
 -- the name of a report that is given none
 abbrev pub default_name : Word
 default_name = codes "JaCoCo Coverage Report"
@@ -71,6 +82,13 @@ pub record AreReportWords (out : Word) (name exec : Option Word) (paths : List W
   pub files : AllByRecursion (λ w. IsTrue (is_file w)) paths
   pub distinct : IsTrue (are_distinct (out ∷ (option_to_list exec ++ paths)))
 
+-- The folder is a value, the class files are relative paths, and no two of their paths and of the paths to which they are
+-- written are equal.
+pub record AreInstrumentWords (dest : Word) (paths : List Word) : Type 0 where
+  pub value : IsTrue (is_value dest)
+  pub files : AllByRecursion (λ w. IsTrue (is_relative w)) paths
+  pub distinct : IsTrue (are_distinct (paths ++ map (in_folder dest) paths))
+
 -- the calls of each command
 pub data IsCallOf : Call → Command → Type 0 where
   -- merge --destfile OUT IN.., where no two of OUT and the INs are equal
@@ -83,6 +101,9 @@ pub data IsCallOf : Call → Command → Type 0 where
   -- report --csv OUT [--name NAME] [--exec IN] CLASSFILE.., where no two of OUT, IN and the CLASSFILEs are equal
   report_some : (out : Word) (name exec : Option Word) (paths : List Word) → paths ≢ [] → AreReportWords out name exec paths
       → IsCallOf (report_call out name exec paths) (report out (unwrap_or name default_name) exec paths)
+  -- instrument --dest DIR FILE.., where no two of the FILEs and of their paths in DIR are equal
+  instrument_some : (dest : Word) (paths : List Word) → paths ≢ [] → AreInstrumentWords dest paths
+      → IsCallOf (instrument_call dest paths) (instrument dest paths)
 
 -- the words call the command
 pub record Means (words : List Word) (command : Command) : Type 0 where
@@ -134,12 +155,21 @@ decide_report uses files =
     let exec = first_use exec_option name.1 in
     decide_options out.0 name.0 exec.0 exec.1 files
 
+abbrev pub are_instrument_words : (dest : Word) (paths : List Word) → Bool
+are_instrument_words dest paths = is_value dest && (list_all is_relative paths && are_distinct (paths ++ map (in_folder dest) paths))
+
+abbrev pub decide_instrument : List Use → List Word → Option Command
+decide_instrument (u ∷ []) (path ∷ paths) =
+    if bytes_eq u.option dest_option && are_instrument_words u.value (path ∷ paths) then Some (instrument u.value (path ∷ paths)) else None
+decide_instrument _ _ = None
+
 abbrev pub decide : Word → Scan → Option Command
 decide command s =
     if bytes_eq command (codes "merge") then decide_merge s.uses s.files
     else if bytes_eq command (codes "execinfo") then decide_exec_info s.uses s.files
     else if bytes_eq command (codes "classinfo") then decide_class_info s.uses s.files
     else if bytes_eq command (codes "report") then decide_report s.uses s.files
+    else if bytes_eq command (codes "instrument") then decide_instrument s.uses s.files
     else None
 
 abbrev pub decide_scan : Word → Option Scan → Option Command

@@ -6,6 +6,7 @@ pub mod ExecInfo
 pub mod ClassInfo
 pub mod Report
 pub mod World
+pub mod Instrument
 pub mod Work
 pub mod Looks
 pub mod Outcome

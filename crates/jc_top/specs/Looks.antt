@@ -1,5 +1,5 @@
 -- What a clause sees of words that were cut, and of a command.
-use Rattle.std.specs.Prelude.{◌≡◌, ◌<◌, ◌++◌, ℕ, List, [], length, map, String, Some, None, option_map}
+use Rattle.std.specs.Prelude.{◌≡◌, ⊤, ◌<◌, ◌++◌, ℕ, List, [], length, map, String, Some, None, option_map}
 use Rattle.std.specs.declared.alloc.Global.{Global}
 use Rattle.jc_top.specs.declared.words.Use.{Use as Used}
 use Rattle.jc_top.specs.declared.words.Scanned.{Scanned}
@@ -9,8 +9,8 @@ use Rattle.jc_top.specs.declared.command.Command.{Command as Called}
 use Rattle.jc_top.specs.declared.command.Command.TheVariants as commands
 use Rattle.jc_top.specs.declared.output.Write.{Write as Written}
 use Rattle.jc_top.specs.declared.output.Write.TheVariants as writes
-use Rattle.jc_top.specs.Words.{Use, Scan, words_of, scan, with_use}
-use Rattle.jc_top.specs.Command.{Command, merge, exec_info, class_info, report}
+use Rattle.jc_top.specs.Words.{Use, Scan, words_of, in_folder, scan, with_use}
+use Rattle.jc_top.specs.Command.{Command, merge, exec_info, class_info, report, instrument}
 use Rattle.jc_top.specs.World.{Write, to_file, to_out, to_err}
 
 abbrev pub use_of : Used → Use
@@ -31,11 +31,24 @@ command_seen (commands.Merge destfile inputs) = merge destfile.now (words_of inp
 command_seen (commands.ExecInfo paths) = exec_info (words_of paths.now)
 command_seen (commands.ClassInfo paths) = class_info (words_of paths.now)
 command_seen (commands.Report out name exec paths) = report out.now name.now (option_map (λ w. w.now) exec) (words_of paths.now)
+command_seen (commands.Instrument dest paths targets) = instrument dest.now (words_of paths.now)
+
+-- the paths to which class files are written are those in the folder
+abbrev pub HasTargets : Called → Type 0
+HasTargets (commands.Merge destfile inputs) = ⊤
+HasTargets (commands.ExecInfo paths) = ⊤
+HasTargets (commands.ClassInfo paths) = ⊤
+HasTargets (commands.Report out name exec paths) = ⊤
+HasTargets (commands.Instrument dest paths targets) = words_of targets.items ≡ map (in_folder dest.now) (words_of paths.now)
 
 abbrev pub write_seen : Written → Write
 write_seen (writes.File path bytes) = to_file path.now bytes.items
 write_seen (writes.Out text) = to_out text.items
 write_seen (writes.Err text) = to_err text.items
+
+-- these writes were put last
+abbrev pub Puts : List Written → List Write → List Written → Type 0
+Puts old more new = map write_seen new ≡ map write_seen old ++ more
 
 -- the lines were put last, each as one write on `out`
 abbrev pub Prints : List Written → List (List ℕ) → List Written → Type 0

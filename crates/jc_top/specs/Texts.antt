@@ -1,5 +1,5 @@
 -- The texts that the tool prints. Each line ends with a line feed.
-use Rattle.std.specs.Prelude.{ℕ, ◌^◌, ◌-◌, List, [], ◌++◌, codes, Option, None, Some, false}
+use Rattle.std.specs.Prelude.{ℕ, ◌^◌, ◌-◌, List, [], ◌++◌, codes, Option, None, Some, Bool, true, false}
 use Rattle.std.specs.Fmt.{decimal, digits, format_spec, padded_integral}
 use Rattle.jc_base.specs.declared.refusal.Refusal.{Refusal}
 use Rattle.jc_base.specs.declared.refusal.RefusalKind.{RefusalKind}
@@ -99,6 +99,21 @@ class_refusal_text file refusal = by_method file (kind_text refusal.kind) refusa
 -- the line of a class file that is refused and is no failure
 abbrev pub refused_line : List ℕ → Refusal → List ℕ
 refused_line file refusal = codes "refused " ++ class_refusal_text file refusal
+
+-- ---- class files that are instrumented
+
+abbrev pub instrumented_line : (file : List ℕ) (probes : ℕ) → List ℕ
+instrumented_line file probes = codes "instrumented " ++ (file ++ (codes " " ++ (decimal probes ++ codes "\n")))
+
+abbrev pub unchanged_line : (file : List ℕ) → List ℕ
+unchanged_line file = codes "unchanged " ++ (file ++ codes "\n")
+
+-- the line of a class file that has so many probes, or that stays as it is
+abbrev pub accepted_line : (file : List ℕ) (changed : Bool) (probes : ℕ) → List ℕ
+accepted_line file true probes = instrumented_line file probes
+accepted_line file false probes = unchanged_line file
+
+-- ---- inputs that are refused
 
 -- an input that is refused, by its path and what is wrong with it
 abbrev pub fault_text : List ℕ → Fault → List ℕ

@@ -47,6 +47,10 @@ is_relative word = is_value word && list_all is_component (components word)
 abbrev pub is_file : Word → Bool
 is_file word = is_value word && not (ends_with nat_eq word (codes "/"))
 
+-- the path of a file in a folder: a `/` stands between the two, unless the folder's path ends with one
+abbrev pub in_folder : (folder path : Word) → Word
+in_folder folder path = if ends_with nat_eq folder (codes "/") then folder ++ path else folder ++ (codes "/" ++ path)
+
 -- no two of the words are equal
 abbrev pub are_distinct : List Word → Bool
 are_distinct [] = true

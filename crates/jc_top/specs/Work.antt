@@ -10,14 +10,15 @@ use Rattle.jc_top.specs.declared.status.Status.{Status}
 use Rattle.jc_top.specs.declared.status.Status.TheVariants as status
 use Rattle.jc_top.specs.declared.status.Fault.{Fault}
 use Rattle.jc_top.specs.declared.status.Fault.TheVariants as fault
-use Rattle.jc_top.specs.Words.{Word}
+use Rattle.jc_top.specs.Words.{Word, in_folder}
 use Rattle.jc_base.specs.declared.refusal.Refusal.{Refusal}
 use Rattle.jc_top.specs.ClassInfo.{AreListed, RefusedAt}
 use Rattle.jc_top.specs.ExecData.{IsUnionOf, IsFirstRefused, IsFirstRefusedAlone}
 use Rattle.jc_top.specs.ExecInfo.{AreInfo}
 use Rattle.jc_top.specs.Report.{Item, AreItems, data_texts, class_texts, lines_of, first_clash, csv_of_items}
-use Rattle.jc_top.specs.Command.{Command, merge, exec_info, class_info, report, inputs_of, Means, NoForm}
+use Rattle.jc_top.specs.Command.{Command, merge, exec_info, class_info, report, instrument, inputs_of, Means, NoForm}
 use Rattle.jc_top.specs.Texts.{usage_text, cannot_read, fault_text}
+use Rattle.jc_top.specs.Instrument.{AreFileWrites}
 use Rattle.jc_top.specs.World.{World, Write, to_file, to_out, to_err, Landed, after}
 
 -- ---- reading
@@ -96,6 +97,10 @@ pub data Answers : Command → List (List ℕ) → Answer → Type 0 where
       → IsUnionOf (data_texts (Some path) texts) store → AreItems (take count (class_texts (Some path) texts)) items
       → first_clash store.classes items ≡ Some refusal
       → Answers (report out name (Some path) paths) texts (refusing path (fault.Exec 0 refusal))
+  -- a class file that is refused stops nothing
+  instrumented : {dest : Word} {paths : List Word} {texts : List (List ℕ)} (writes : List Write)
+      → AreFileWrites (map (in_folder dest) paths) paths texts writes
+      → Answers (instrument dest paths) texts (record { writes = writes; status = status.Done })
 
 -- ---- the work
 

@@ -6,6 +6,7 @@ mod class_report;
 mod command;
 mod exec_info;
 mod input;
+mod instrument;
 mod merge;
 mod message;
 mod output;

@@ -1,9 +1,10 @@
-//! The last message of a command that ended early.
+//! The lines of class files, and the last message of a command that ended early.
 ghost use Rattle.std.specs.Prelude.{◌≡◌, string_bytes, IfOk};
 ghost use Rattle.jc_top.specs.Texts.{cannot_read, cannot_write, cannot_write_output, usage_text};
 ghost use Rattle.jc_top.specs.Texts.{bad_exec_text, version_start, version_line, other_version_text};
 ghost use Rattle.jc_top.specs.Texts.{conflict_start, first_count_text, second_count_text, conflict_text, exec_refusal_text};
 ghost use Rattle.jc_top.specs.Texts.{kind_text, placed_text, in_method_text, class_refusal_text, refused_line, fault_text};
+ghost use Rattle.jc_top.specs.Texts.{instrumented_line, unchanged_line, accepted_line};
 ghost use Rattle.jc_top.specs.Outcome.{Says, Reports, message_of, status_of};
 
 use crate::stop::Stop;
@@ -187,6 +188,35 @@ pub fn refused_line(alloc: Global, file: &str, refusal: Refusal) -> Result<Vec<u
     let mut line = Vec::from_slice(alloc, b"refused ")?;
     line.extend_from_slice(text.as_bytes())?;
     Ok(line)
+}
+
+fn instrumented_line(alloc: Global, file: &str, probes: u32) -> Result<String, AllocError>
+    ensures { IfOk result (λ line. string_bytes line ≡ instrumented_line file.now probes) }
+{
+    format!(in alloc; "instrumented {file} {probes}\n")
+}
+
+fn unchanged_line(alloc: Global, file: &str) -> Result<String, AllocError>
+    ensures { IfOk result (λ line. string_bytes line ≡ unchanged_line file.now) }
+{
+    format!(in alloc; "unchanged {file}\n")
+}
+
+/// The line of a class file that has so many probes, or that stays as it is.
+pub fn accepted_line(
+    alloc: Global,
+    file: &str,
+    changed: bool,
+    probes: u32,
+) -> Result<Vec<u8>, AllocError>
+    ensures { IfOk result (λ line. line.items ≡ accepted_line file.now changed probes) }
+{
+    let line = if changed {
+        instrumented_line(alloc, file, probes)?
+    } else {
+        unchanged_line(alloc, file)?
+    };
+    Ok(line.into_bytes())
 }
 
 fn fault_text(alloc: Global, file: &str, fault: &Fault) -> Result<Vec<u8>, AllocError>

@@ -1,13 +1,13 @@
 //! Paths among the words.
-ghost use Rattle.std.specs.Prelude.{◌≡◌, ◌++◌, ◌∷◌, [], Bool, IfOk, map, not};
+ghost use Rattle.std.specs.Prelude.{◌≡◌, ◌++◌, ◌∷◌, [], Bool, IfOk, map, not, string_bytes};
 ghost use Rattle.std.specs.List.{list_all, list_any};
 ghost use Rattle.std.specs.Str.{bytes_eq};
-ghost use Rattle.jc_top.specs.Words.{components, is_component, is_value, is_file, is_relative, are_distinct, words_of};
+ghost use Rattle.jc_top.specs.Words.{components, is_component, is_value, is_file, is_relative, in_folder, are_distinct, words_of};
 
 use crate::words::is_value;
 use indexmap::IndexSet;
 use jc_base::Memory;
-use std::alloc::Global;
+use std::alloc::{AllocError, Global};
 
 /// Whether the bytes are neither empty nor `.` nor `..`.
 fn is_component(bytes: &[u8]) -> bool
@@ -97,16 +97,49 @@ pub fn is_among(word: &str, others: &[String]) -> bool
     false
 }
 
-/// Whether no two of the words are equal.
-pub fn are_distinct(alloc: Global, words: &[String]) -> Result<bool, Memory>
-    ensures { IfOk result (λ distinct. distinct ≡ are_distinct (words_of words.now)) }
+/// Whether no two of the words and of the others are equal.
+pub fn are_all_distinct(alloc: Global, words: &[String], others: &[String]) -> Result<bool, Memory>
+    ensures { IfOk result (λ distinct. distinct ≡ are_distinct (words_of words.now ++ words_of others.now)) }
 {
     let mut seen = IndexSet::new(alloc);
-    'seeing: for word in words {
+    'seeing: for word in words.iter().chain(others.iter()) {
         let (_, is_new) = seen.insert_full(word.as_str())?;
         if !is_new {
             return Ok(false);
         }
     }
     Ok(true)
+}
+
+/// Whether no two of the words are equal.
+pub fn are_distinct(alloc: Global, words: &[String]) -> Result<bool, Memory>
+    ensures { IfOk result (λ distinct. distinct ≡ are_distinct (words_of words.now)) }
+{
+    are_all_distinct(alloc, words, &[])
+}
+
+/// The path of a file in a folder.
+fn in_folder(alloc: Global, folder: &str, path: &str) -> Result<String, AllocError>
+    ensures { IfOk result (λ target. string_bytes target ≡ in_folder folder.now path.now) }
+{
+    if folder.as_bytes().ends_with(b"/") {
+        format!(in alloc; "{folder}{path}")
+    } else {
+        format!(in alloc; "{folder}/{path}")
+    }
+}
+
+/// The paths of the files in a folder.
+pub fn all_in_folder(
+    alloc: Global,
+    folder: &str,
+    paths: &[String],
+) -> Result<Vec<String>, AllocError>
+    ensures { IfOk result (λ targets. words_of targets.items ≡ map (in_folder folder.now) (words_of paths.now)) }
+{
+    let mut targets = Vec::with_capacity(alloc, paths.len())?;
+    'joining: for path in paths {
+        targets.push(in_folder(alloc, folder, path.as_str())?)?;
+    }
+    Ok(targets)
 }

@@ -3,7 +3,7 @@ ghost use Rattle.std.specs.Prelude.{◌≡◌, ◌<◌, ◌^◌, ℕ, List, Opti
 ghost use Rattle.jc_base.specs.Outside.{FileMap};
 ghost use Rattle.jc_top.specs.Words.{Word, words_of};
 ghost use Rattle.jc_top.specs.Command.{inputs_of};
-ghost use Rattle.jc_top.specs.Looks.{command_seen};
+ghost use Rattle.jc_top.specs.Looks.{command_seen, HasTargets};
 ghost use Rattle.jc_top.specs.World.{world, counts};
 ghost use Rattle.jc_top.specs.Work.{Work, IsWork};
 ghost use Rattle.jc_top.specs.Outcome.{Prepares, Runs, Ends};
@@ -12,6 +12,7 @@ use crate::Status;
 use crate::class_info::prepare_class_info;
 use crate::command::{Command, Usage, read_words};
 use crate::exec_info::prepare_exec_info;
+use crate::instrument::prepare_instrument;
 use crate::merge::prepare_merge;
 use crate::message::{USAGE, report, say};
 use crate::output::{Write, write_all};
@@ -24,10 +25,11 @@ use std::alloc::Global;
 fn prepare<'a, F: Files>(
     alloc: Global,
     files: &mut F,
-    command: &Command<'a>,
+    command: &'a Command<'a>,
 ) -> Result<Vec<Write<'a>>, Stop<'a>>
-    requires { length (inputs_of (command_seen command.now)) < 2 ^ 32 }
-    ensures gives { Prepares (F.contents files.old) (command_seen command.now) (F.read_faults files.old) (F.read_faults files.new) result }
+    requires few { length (inputs_of (command_seen command.now)) < 2 ^ 32 }
+    requires targets { HasTargets command.now }
+    ensures gives { Prepares (F.contents files.old) (command_seen command.entry.now) (F.read_faults files.old) (F.read_faults files.new) result }
     ensures contents { F.contents files.new ≡ F.contents files.old }
     ensures write_faults { F.write_faults files.new ≡ F.write_faults files.old }
 {
@@ -41,6 +43,9 @@ fn prepare<'a, F: Files>(
             exec,
             paths,
         } => prepare_report(alloc, files, out, name, *exec, paths),
+        Command::Instrument { paths, targets, .. } => {
+            prepare_instrument(alloc, files, paths, targets)
+        }
     }
 }
 
@@ -50,10 +55,11 @@ fn run<'a, F: Files, O: Sink, E: Sink>(
     files: &mut F,
     out: &mut O,
     err: &mut E,
-    command: &Command<'a>,
+    command: &'a Command<'a>,
 ) -> Result<(), Stop<'a>>
-    requires { length (inputs_of (command_seen command.now)) < 2 ^ 32 }
-    ensures { Runs F.landed (command_seen command.now)
+    requires few { length (inputs_of (command_seen command.now)) < 2 ^ 32 }
+    requires targets { HasTargets command.now }
+    ensures { Runs F.landed (command_seen command.entry.now)
         (world (F.contents files.old) (O.told out.old) (E.told err.old))
         (world (F.contents files.new) (O.told out.new) (E.told err.new))
         (counts (F.read_faults files.old) (F.write_faults files.old) (O.faults out.old) (E.faults err.old))
@@ -65,11 +71,15 @@ fn run<'a, F: Files, O: Sink, E: Sink>(
 
 /// Runs the command that the words behind the program's name call.
 ///
-/// The words are `merge --destfile OUT IN..`, `execinfo IN..`, `classinfo FILE..` or `report --csv OUT [--name NAME]
-/// [--exec IN] CLASSFILE..`. A command first reads its inputs, then refuses what is wrong with them, and then writes.
-/// `report` begins its writes with a line on `err` for each class file that is refused. The first failure ends a command
-/// and decides the status; its message goes to `err`, and a failure of that last message changes nothing. Want of memory
-/// prints no message.
+/// The words are `merge --destfile OUT IN..`, `execinfo IN..`, `classinfo FILE..`, `report --csv OUT [--name NAME]
+/// [--exec IN] CLASSFILE..` or `instrument --dest DIR FILE..`. A command first reads its inputs, then refuses what is
+/// wrong with them, and then writes. The first failure ends a command and decides the status; its message goes to `err`,
+/// and a failure of that last message changes nothing. Want of memory prints no message.
+///
+/// A class file that `report` or `instrument` refuses is no failure. `report` begins its writes with a line on `err` for
+/// each. `instrument` writes each class file to DIR/FILE, and behind it its line: one that is refused byte for byte as it
+/// was read, with a line on `err` that gives the reason; one whose class stays as it is too, with a line on `out`; and
+/// each other one with its probes, whose number is in its line on `out`.
 ///
 /// Where the contents of `files` are told, no count of faults rose and memory wasn't refused, the writes and the
 /// status are those of the work of the words. What each status says:

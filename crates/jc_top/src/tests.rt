@@ -11,6 +11,7 @@ use std::process::Abort;
 use std::test::Fail;
 
 mod exec;
+mod instrument;
 mod report;
 mod rows;
 
@@ -130,12 +131,27 @@ fn difference(ran: &Ran, row: &Row<'_>) -> Option<&'static str> {
     }
 }
 
-fn check(rt: &impl Abort, alloc: Global, row: &Row<'_>) -> Result<(), Memory> {
+// A run leaves what it should, and these files.
+fn check_standing(
+    rt: &impl Abort,
+    alloc: Global,
+    row: &Row<'_>,
+    stands: &[File<'_>],
+) -> Result<(), Memory> {
     let ran = run(alloc, row)?;
     if let Some(what) = difference(&ran, row) {
         panic!(rt; "{:?}: {what}, with {}", row.words, number(&ran.status));
     }
+    for file in stands {
+        if ran.files.get(file.path) != Some(file.bytes) {
+            panic!(rt; "{:?}: {}", row.words, file.path);
+        }
+    }
     Ok(())
+}
+
+fn check(rt: &impl Abort, alloc: Global, row: &Row<'_>) -> Result<(), Memory> {
+    check_standing(rt, alloc, row, &[])
 }
 
 // A run of these words over these files, in which no call fails.

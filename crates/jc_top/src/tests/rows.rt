@@ -173,7 +173,7 @@ pub const REJECTED: Left<'static> = Left {
     ..NOTHING
 };
 
-pub const OTHER_WORDS: [&[&str]; 33] = [
+pub const OTHER_WORDS: [&[&str]; 42] = [
     &[],
     &["merge"],
     &["merge", "--destfile", "a.exec", "a.exec"],
@@ -209,6 +209,15 @@ pub const OTHER_WORDS: [&[&str]; 33] = [
     &["classinfo", "a/../A.class"],
     &["classinfo", "a//A.class"],
     &["classinfo", "a/"],
+    &["instrument", "--dest", "out"],
+    &["instrument", "A.class"],
+    &["instrument", "--csv", "out", "A.class"],
+    &["instrument", "--dest", "-x", "A.class"],
+    &["instrument", "--dest", "out", "../A.class"],
+    &["instrument", "--dest", "out", "a/"],
+    &["instrument", "--dest", "out", "A.class", "A.class"],
+    &["instrument", "--dest", "out", "A.class", "out/A.class"],
+    &["instrument", "--dest", "out/", "A.class", "out/A.class"],
 ];
 
 pub const FAILING_MERGES: [Row<'static>; 8] = [

@@ -9,8 +9,8 @@ use Rattle.jc_top.specs.Looks.{use_of}
 use Rattle.jc_top.proofs.ReportWordsLaws.{report_taken, report_left}
 use Rattle.jc_top.proofs.command.report_of.Goals as goal
 
-pub returns-then-branch : goal.returns-then-branch
-returns-then-branch c =
+pub returns-then-branch-clause-called : goal.returns-then-branch-clause-called
+returns-then-branch-clause-called c =
     let none : length c.first_use-3.result.1.now ≡ 0 = grind (arith, nat_tests) in
     let some : 0 < length (words_of c.args.words.now.files.now) = grind (arith, nat_tests, length-map) in
     subst
@@ -28,8 +28,8 @@ returns-then-branch c =
     })
     c.in-Some.is _ _ c.unwrap_or.ensures refl none some (sym c.in_ok-are_report_words.ensures ∙ c.if-branch.true))
 
-pub returns-else-branch : goal.returns-else-branch
-returns-else-branch c =
+pub returns-else-branch-clause-called : goal.returns-else-branch-clause-called
+returns-else-branch-clause-called c =
     subst (λ (us : List Used). None ≡ decide_report (map use_of us) (words_of c.args.words.now.files.now)) c.deref.ensures.value
     (report_left c.deref.result.now _ _ _ c.first_use.result.0 c.first_use-2.result.0 c.first_use-3.result.0 c.in-Some.out (words_of c.args.words.now.files.now)
     (record {

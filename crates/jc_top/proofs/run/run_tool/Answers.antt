@@ -15,8 +15,8 @@ returns-in-Err-Said g c =
 pub returns-in-Ok-run : goal.returns-in-Ok-run
 returns-in-Ok-run g c = done_ends g.F.Files.landed (words_of c.args.words.now) (command_seen c.in-Ok.command) c.in-Ok.ensures.read _ _ _ _ c.in-Ok-run.ensures
 
-pub returns-in-Err : goal.returns-in-Err
-returns-in-Err g c =
+pub returns : goal.returns
+returns g c =
     let F = g.F.Files in
     let O = g.O.Sink in
     let E = g.E.Sink in

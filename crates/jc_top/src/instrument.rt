@@ -1,0 +1,121 @@
+//! The command `instrument`.
+ghost use Rattle.std.specs.Prelude.{◌≡◌, ◌≤◌, All, length, map, IfOk, OnOk};
+ghost use Rattle.jc_base.specs.Outside.{most_read};
+ghost use Rattle.jc_top.specs.Command.{instrument};
+ghost use Rattle.jc_top.specs.Instrument.{Decision, refused_file, accepted_file, IsDecision, file_writes, AreFileWrites};
+ghost use Rattle.jc_top.specs.Looks.{write_seen, Puts};
+ghost use Rattle.jc_top.specs.Outcome.{Prepares};
+ghost use Rattle.jc_top.specs.Words.{Word, words_of, in_folder};
+
+use crate::input::read_all;
+use crate::message::{accepted_line, refused_line};
+use crate::output::Write;
+use crate::stop::Stop;
+use jc_base::{Bytes, Fail, Files, Memory, Refusal};
+use jc_instrument::{Instrumented, instrument};
+use std::alloc::Global;
+
+/// Puts last the write of a class file that is accepted, and behind it its line.
+fn put_accepted<'a>(
+    alloc: Global,
+    writes: &mut Vec<Write<'a>>,
+    target: &'a str,
+    path: &str,
+    class: Instrumented,
+) -> Result<(), Memory>
+    ensures { OnOk result ((bytes : Word)
+        → Puts writes.old.items (file_writes target.entry.now path.now bytes (accepted_file class)) writes.new.items) }
+{
+    let text = accepted_line(alloc, path, class.changed, class.probes)?;
+    let bytes = class.bytes.into_vec();
+    writes.push(Write::File {
+        path: target,
+        bytes,
+    })?;
+    writes.push(Write::Out { text })?;
+    Ok(())
+}
+
+/// Puts last the write of a class file that is refused, as it was read, and behind it its line.
+fn put_refused<'a>(
+    alloc: Global,
+    writes: &mut Vec<Write<'a>>,
+    target: &'a str,
+    path: &str,
+    bytes: Bytes,
+    refusal: Refusal,
+) -> Result<(), Memory>
+    ensures { OnOk result (Puts writes.old.items (file_writes target.entry.now path.now bytes (refused_file refusal)) writes.new.items) }
+{
+    let text = refused_line(alloc, path, refusal)?;
+    let bytes = bytes.into_vec();
+    writes.push(Write::File {
+        path: target,
+        bytes,
+    })?;
+    writes.push(Write::Err { text })?;
+    Ok(())
+}
+
+/// Puts last the writes of a class file.
+fn put_file<'a>(
+    alloc: Global,
+    writes: &mut Vec<Write<'a>>,
+    target: &'a str,
+    path: &str,
+    bytes: Bytes,
+) -> Result<(), Memory>
+    requires { length bytes ≤ most_read }
+    ensures { OnOk result ((d : Decision) × IsDecision bytes d
+        × Puts writes.old.items (file_writes target.entry.now path.now bytes d) writes.new.items) }
+{
+    match instrument(alloc, &bytes) {
+        Ok(class) => put_accepted(alloc, writes, target, path, class),
+        Err(Fail::Memory) => Err(Memory),
+        Err(Fail::Said(refusal)) => put_refused(alloc, writes, target, path, bytes, refusal),
+    }
+}
+
+/// The writes of the class files, in order.
+fn all_writes<'a>(
+    alloc: Global,
+    targets: &'a [String],
+    paths: &[String],
+    texts: Vec<Bytes>,
+) -> Result<Vec<Write<'a>>, Memory>
+    requires targets { length targets.now ≡ length paths.now }
+    requires each { length texts.items ≡ length paths.now }
+    requires short { All (λ t. length t ≤ most_read) texts.items }
+    ensures { IfOk result (λ writes. AreFileWrites (words_of targets.entry.now) (words_of paths.now) texts.items (map write_seen writes.items)) }
+{
+    let mut writes = Vec::new(alloc);
+    'instrumenting: for (index, bytes) in texts.into_iter().enumerate() {
+        put_file(
+            alloc,
+            &mut writes,
+            targets[index].as_str(),
+            paths[index].as_str(),
+            bytes,
+        )?;
+    }
+    Ok(writes)
+}
+
+/// The writes of `instrument --dest DIR FILE..`, where the files are written to these paths.
+pub fn prepare_instrument<'a, F: Files>(
+    alloc: Global,
+    files: &mut F,
+    paths: &'a [String],
+    targets: &'a [String],
+) -> Result<Vec<Write<'a>>, Stop<'a>>
+    requires { length targets.now ≡ length paths.now }
+    // The paths are those of the files in a folder.
+    ensures gives { (dest : Word) → words_of targets.entry.now ≡ map (in_folder dest) (words_of paths.entry.now)
+        → Prepares (F.contents files.old) (instrument dest (words_of paths.entry.now))
+        (F.read_faults files.old) (F.read_faults files.new) result }
+    ensures contents { F.contents files.new ≡ F.contents files.old }
+    ensures write_faults { F.write_faults files.new ≡ F.write_faults files.old }
+{
+    let texts = read_all(alloc, files, paths)?;
+    Ok(all_writes(alloc, targets, paths, texts)?)
+}
