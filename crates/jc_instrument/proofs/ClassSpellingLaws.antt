@@ -1,11 +1,11 @@
 -- A class file whose numbers fit has a text of bytes.
-use Rattle.std.proofs.Common.{◌≡◌, ◌⊎◌, inl, inr, ℕ, zero, suc, ◌+◌, ◌<◌, ◌≤◌, ◌%◌, ◌/◌, ◌^◌, List, [], ◌∷◌, ◌++◌, length, Some, None, refl, sym, ◌∙◌, ap, subst, arith}
+use Rattle.std.proofs.Common.{◌≡◌, ◌⊎◌, inl, inr, ℕ, zero, suc, ◌<◌, ◌≤◌, ◌/◌, ◌^◌, List, [], ◌∷◌, ◌++◌, length, Some, refl, sym, ◌∙◌, subst, arith}
 use Rattle.std.specs.List.{AllByRecursion}
 use Rattle.std.proofs.Math.Nat.{mod-lt}
 use Rattle.std.proofs.lemmas.Bool.{cases_lt}
 use Rattle.std.proofs.lemmas.Option.{none-some}
 use Rattle.std.specs.Int.{byte_at, bytes_high_first}
-use Rattle.jc_base.specs.Appending.{Appends, Appended}
+use Rattle.jc_base.specs.Appending.{Appends}
 use Rattle.jc_base.specs.ByteLists.{AreBytes}
 use Rattle.jc_base.specs.Counted.{counted}
 use Rattle.jc_base.specs.Decoder.{IsBig}
@@ -18,7 +18,7 @@ use Rattle.jc_pool.specs.PoolGrammar as pools
 use Rattle.jc_pool.proofs.OneMoreEntryLaws.{utf8_past}
 use Rattle.jc_class.specs.ClassFormat.{attribute, member, HasText, HasClass, HasFieldDescriptor, HasMethodDescriptor, HasSuper}
 use Rattle.jc_class.specs.ClassText.{ClassText}
-use Rattle.jc_class.specs.Writable.{Anything, AreCounted, IsAttribute, IsMember, IsClassFile}
+use Rattle.jc_class.specs.Writable.{Anything, IsAttribute, IsMember, IsClassFile}
 use Rattle.jc_class.specs.declared.class_file.Attribute.{Attribute}
 use Rattle.jc_class.specs.declared.class_file.ClassFile.{ClassFile}
 use Rattle.jc_class.specs.declared.class_file.Member.{Member}

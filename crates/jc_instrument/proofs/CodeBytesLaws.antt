@@ -1,11 +1,10 @@
 -- Instrumented code that is laid out is a list of bytes.
-use Rattle.std.proofs.Common.{◌≡◌, ◌⊎◌, inl, inr, ⊎_elim, ℕ, zero, suc, ◌+◌, ◌*◌, ◌-◌, ◌<◌, ◌≤◌, ◌%◌, ◌/◌, Bool, true, false, ◌&&◌, List, [], ◌∷◌, ◌++◌, length, map, replicate, get_or, Option, Some, None, slice_index, if◌then◌else◌, refl, sym, ◌∙◌, ap, subst, arith, nat_eq, nat_lt, nat_le}
+use Rattle.std.proofs.Common.{◌≡◌, ◌⊎◌, inl, inr, ℕ, zero, suc, ◌+◌, ◌*◌, ◌-◌, ◌<◌, ◌≤◌, ◌%◌, Bool, true, false, List, [], ◌∷◌, ◌++◌, length, map, replicate, Option, Some, None, slice_index, if◌then◌else◌, refl, sym, ◌∙◌, subst, arith, nat_eq, nat_lt, nat_le}
 use Rattle.std.specs.Prelude.{ℤ}
 use Rattle.std.specs.Int.{w16, cast_unsigned}
 use Rattle.std.specs.List.{flat_map, AllByRecursion}
 use Rattle.std.proofs.Math.Nat.{mod-lt}
 use Rattle.std.proofs.lemmas.Bool.{cases_lt, and_parts, ltb-true}
-use Rattle.std.proofs.lemmas.List.{get_or_past}
 use Rattle.std.proofs.lemmas.List.Elements.{recursion_from_All}
 use Rattle.jc_base.specs.ByteLists.{AreBytes}
 use Rattle.jc_base.specs.Flow.{flow_of, jump_target, inverse_of}
@@ -29,14 +28,14 @@ use Rattle.jc_after.specs.Shift.{with_slot}
 use Rattle.jc_insn.specs.Items.{padding, IsItem, operands, wide_operands, table_operands, lookup_operands}
 use Rattle.jc_insn.specs.Sizes.{is_narrow_inc}
 use Rattle.jc_insn.specs.Spells.{Spells, SpellsFrom}
-use Rattle.jc_insn.specs.Writing.{short, word, difference, signed_byte, signed_short, push_text, short_code, local_text, inc_text, constant_text, wide_jump_text, jump_text, arm_text, pad_text, insn_text, code_text}
+use Rattle.jc_insn.specs.Writing.{short, word, difference, signed_byte, signed_short, push_text, short_code, local_text, inc_text, constant_text, jump_text, arm_text, pad_text, insn_text, code_text}
 use Rattle.jc_insn.specs.declared.item.Item.TheVariants as items
 use Rattle.jc_insn.proofs.PlacesLaws.{well_formed_with}
 use Rattle.jc_plan.proofs.CountLaws.{each_joined}
 use Rattle.jc_plan.specs.Plan.{lead_probe}
 use Rattle.jc_plan.specs.Probed.{probe_of}
 use Rattle.jc_plan.specs.declared.branch.Branch.{Branch}
-use Rattle.jc_emit.specs.Items.{Item, image, insn_of, lead_part, early_part, hop_part, arm_parts, tests_part, image_part, lead_of, land_of, image_of, segment, twin_items}
+use Rattle.jc_emit.specs.Items.{Item, insn_of, lead_part, early_part, hop_part, arm_parts, tests_part, image_part, lead_of, land_of, segment, twin_items}
 use Rattle.jc_emit.specs.Marks.{push}
 use Rattle.jc_emit.specs.Sizes.{insn_at, early_probe, late_probe, arms_at}
 use Rattle.jc_emit.specs.TwinCode.{to_of}

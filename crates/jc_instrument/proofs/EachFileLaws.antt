@@ -18,15 +18,14 @@ use Rattle.jc_class.proofs.WritableLaws.{class_holds}
 use Rattle.jc_instrument.specs.Analysis.{all_probes}
 use Rattle.jc_instrument.specs.Bodies.{AreBodiesOf}
 use Rattle.jc_instrument.specs.Causes.{Cause, Never, IsFirstCause, NoCause, unless, of_class}
-use Rattle.jc_instrument.specs.Contents.{TakesEach}
 use Rattle.jc_instrument.specs.InstrumentedFile.{Becomes, IsInstrumentedFile}
 use Rattle.jc_instrument.specs.LeftAlone.{is_left_alone}
-use Rattle.jc_instrument.specs.Needed.{name_of, signed_id, needed, needs_of, member_needs, TakesNeeds}
+use Rattle.jc_instrument.specs.Needed.{name_of, signed_id, needed, needs_of, TakesNeeds}
 use Rattle.jc_instrument.specs.Reasons.{analysis_causes, code_causes, interface_causes, class_causes}
-use Rattle.jc_instrument.specs.Refused.{probe_causes, Reason}
-use Rattle.jc_instrument.specs.RoomCauses.{IsFull, HasFullPool, HasTooLargeCode, early_room_causes, room_causes}
+use Rattle.jc_instrument.specs.Refused.{Reason}
+use Rattle.jc_instrument.specs.RoomCauses.{HasFullPool, HasTooLargeCode, early_room_causes, room_causes}
 use Rattle.jc_instrument.specs.TwinText.{IsWritten, twin_class}
-use Rattle.jc_instrument.specs.Works.{Work, bodies_of, all_frames}
+use Rattle.jc_instrument.specs.Works.{bodies_of, all_frames}
 use Rattle.jc_instrument.specs.declared.needs.MemberPlaces.{MemberPlaces}
 use Rattle.jc_instrument.specs.declared.whole.Instrumented.{Instrumented}
 use Rattle.jc_instrument.proofs.CauseLaws.{first_behind, first_in_front, none_in_both}

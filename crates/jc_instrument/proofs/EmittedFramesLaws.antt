@@ -1,5 +1,5 @@
 -- The frames of instrumented code have moved states of the body, and how many frames there are.
-use Rattle.std.proofs.Common.{◌≡◌, ◌⊎◌, inl, inr, ⊎_elim, ℕ, zero, suc, ◌+◌, ◌*◌, ◌<◌, ◌≤◌, Bool, true, false, ◌&&◌, ◌||◌, List, [], ◌∷◌, ◌++◌, length, Option, Some, None, refl, sym, ◌∙◌, ap, subst, arith, if◌then◌else◌, nat_lt, length-append}
+use Rattle.std.proofs.Common.{◌≡◌, ◌⊎◌, inl, inr, ⊎_elim, ℕ, zero, suc, ◌+◌, ◌*◌, ◌≤◌, Bool, true, false, ◌&&◌, ◌||◌, List, [], ◌∷◌, ◌++◌, length, Option, Some, None, refl, sym, ap, arith, if◌then◌else◌, nat_lt, length-append}
 use Rattle.std.specs.Prelude.{Contains, is_some, is_none}
 use Rattle.std.proofs.lemmas.List.Elements.{Contains-append_cases}
 use Rattle.jc_base.specs.Flow.{flow_of}

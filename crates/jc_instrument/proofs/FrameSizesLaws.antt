@@ -1,5 +1,5 @@
 -- How many bytes the text of full frames and of tables has at most.
-use Rattle.std.proofs.Common.{◌≡◌, ◌⊎◌, inl, inr, ℕ, zero, suc, ◌+◌, ◌*◌, ◌-◌, ◌<◌, ◌≤◌, Bool, true, false, List, [], ◌∷◌, ◌++◌, length, map, take, drop, refl, sym, ◌∙◌, ap, subst, arith, length-append}
+use Rattle.std.proofs.Common.{◌≡◌, ◌⊎◌, inl, inr, ℕ, zero, suc, ◌+◌, ◌*◌, ◌-◌, ◌<◌, ◌≤◌, Bool, true, false, List, [], ◌∷◌, ◌++◌, length, map, take, drop, refl, sym, ◌∙◌, ap, arith, length-append}
 use Rattle.std.specs.List.{flat_map, AllByRecursion}
 use Rattle.std.proofs.Math.Nat.{add-mul, one-mul}
 use Rattle.std.proofs.Math.ListN.{drop_of_length-le}
@@ -11,7 +11,7 @@ use Rattle.jc_class.specs.declared.class_file.Attribute.{Attribute}
 use Rattle.jc_frames.specs.Frames.{trimmed, without_last_top, values_from, values_in}
 use Rattle.jc_frames.specs.FullFrames as full
 use Rattle.jc_insn.specs.Writing.{short, word}
-use Rattle.jc_code.specs.CodeText.{attribute, attribute_text, counted_text, parts_of, all_parts, table_attributes}
+use Rattle.jc_code.specs.CodeText.{attribute, attribute_text, counted_text, parts_of, table_attributes}
 
 pub short_count : (x : ℕ) → length (short x) ≡ 2
 unfolding short

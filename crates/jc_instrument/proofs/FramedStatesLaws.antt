@@ -1,8 +1,8 @@
 -- States before the instructions of a body that are those of its frames, where frames stand.
-use Rattle.std.proofs.Common.{◌≡◌, ⊎_elim, ℕ, zero, suc, ◌+◌, ◌<◌, ◌≤◌, Bool, true, false, List, [], ◌∷◌, length, map, Option, Some, None, nat_eq, refl, sym, ◌∙◌, ap, subst, arith, if◌then◌else◌}
+use Rattle.std.proofs.Common.{◌≡◌, ⊎_elim, ℕ, zero, suc, ◌+◌, Bool, true, false, List, [], ◌∷◌, length, map, Option, Some, None, nat_eq, refl, sym, ◌∙◌, ap, subst, arith, if◌then◌else◌}
 use Rattle.std.specs.Prelude.{Contains, slice_get, unwrap_or}
-use Rattle.std.proofs.lemmas.Bool.{eq-eqb, eqb-true, true≢false}
-use Rattle.std.proofs.lemmas.Option.{none-some, same_Some, get_or_from_slice_get, slice_get-get_or, slice_get_within}
+use Rattle.std.proofs.lemmas.Bool.{eq-eqb, eqb-true}
+use Rattle.std.proofs.lemmas.Option.{none-some, same_Some, get_or_from_slice_get, slice_get-get_or}
 use Rattle.jc_base.proofs.FirstSeenLaws.{contains_none, contains_cases, contains_first, contains_later}
 use Rattle.jc_base.specs.FrameOrder.{RiseFrom}
 use Rattle.jc_base.specs.Held.{Names, seen, AreNumberedFrames, IsNumberedState}

@@ -1,11 +1,11 @@
 -- The classes that the frames of instrumented code name have names that a pool can take, and how many values frames have.
-use Rattle.std.proofs.Common.{◌≡◌, ◌⊎◌, inl, inr, ℕ, zero, suc, ◌+◌, ◌-◌, ◌<◌, ◌≤◌, false, List, [], ◌∷◌, ◌++◌, length, map, take, get_or, Some, slice_get, refl, sym, ◌∙◌, ap, subst, arith}
+use Rattle.std.proofs.Common.{◌≡◌, ◌⊎◌, inl, inr, ℕ, ◌+◌, ◌-◌, ◌<◌, ◌≤◌, false, List, [], ◌∷◌, ◌++◌, length, map, get_or, sym, ◌∙◌, ap, subst, arith}
 use Rattle.std.specs.Prelude.{Contains, insert}
-use Rattle.std.specs.List.{flat_map, AllByRecursion}
+use Rattle.std.specs.List.{AllByRecursion}
 use Rattle.std.proofs.lemmas.Bool.{cases_lt}
 use Rattle.std.proofs.lemmas.List.{get_or_past, length-map}
 use Rattle.std.proofs.lemmas.Option.{slice_get-get_or}
-use Rattle.jc_base.specs.Held.{Names, Held, top, int, float, double, long, null, uninit_this, object, uninit, class_names, held, Seen, seen, SeenAt, seen_at}
+use Rattle.jc_base.specs.Held.{Names, Held, top, int, float, double, long, null, uninit_this, object, uninit, class_names, held, seen, SeenAt, seen_at}
 use Rattle.jc_base.specs.WellMade.{IsWellMadeOfAnySize}
 use Rattle.jc_base.specs.declared.body.Body.{Body}
 use Rattle.jc_base.specs.declared.body.FrameAt.{FrameAt}
@@ -16,11 +16,11 @@ use Rattle.jc_base.proofs.FirstSeenLaws.{contains_first, contains_later}
 use Rattle.jc_frames.specs.Frames.{values_in}
 use Rattle.jc_frames.specs.FullTable.{named_by, named_by_all}
 use Rattle.jc_kinds.specs.Answers.{AreStates}
-use Rattle.jc_emit.specs.Emission.{emission, moved_state}
+use Rattle.jc_emit.specs.Emission.{emission}
 use Rattle.jc_emit.specs.Items.{image_of}
-use Rattle.jc_emit.specs.Shift.{image_kind, probe_array_class, shifted_state}
+use Rattle.jc_emit.specs.Shift.{image_kind, probe_array_class}
 use Rattle.jc_emit.specs.Sizes.{insn_at}
-use Rattle.jc_emit.specs.TwinFrames.{no_state, state_at, left_by, operands_of}
+use Rattle.jc_emit.specs.TwinFrames.{no_state, state_at, operands_of}
 use Rattle.jc_code.specs.TwinCode.{chosen_frames, written_frames}
 use Rattle.jc_instrument.proofs.EmittedFramesLaws.{IsOf, IsMoved, each_moved}
 use Rattle.jc_instrument.proofs.NamedStatesLaws.{HasTexts, state_named, values_named}

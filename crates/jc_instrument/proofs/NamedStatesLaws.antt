@@ -1,8 +1,8 @@
 -- The classes of objects in the states of a body have names that a pool can take.
-use Rattle.std.proofs.Common.{◌≡◌, ◌⊎◌, inl, inr, ℕ, zero, suc, ◌+◌, ◌-◌, ◌<◌, ◌≤◌, Bool, true, false, ◌&&◌, List, [], ◌∷◌, ◌++◌, length, map, take, replicate, Option, Some, None, slice_get, if◌then◌else◌, refl, sym, ◌∙◌, ap, subst, arith, nat_eq, nat_le, codes, bytes_eq}
+use Rattle.std.proofs.Common.{◌≡◌, ℕ, zero, suc, ◌-◌, Bool, true, false, ◌&&◌, List, [], ◌∷◌, ◌++◌, length, map, take, replicate, Option, Some, None, if◌then◌else◌, refl, sym, ◌∙◌, subst, nat_eq, nat_le, codes, bytes_eq}
 use Rattle.std.specs.Prelude.{not, option_map}
 use Rattle.std.specs.Int.Bits.{bit_and}
-use Rattle.std.specs.List.{flat_map, AllByRecursion}
+use Rattle.std.specs.List.{AllByRecursion}
 use Rattle.std.specs.Option.{option_and_then}
 use Rattle.std.proofs.lemmas.Option.{none-some, same_Some, slice_get_within, get_or_from_slice_get}
 use Rattle.jc_base.specs.Descriptor.{IsMethodDescriptor}
@@ -11,25 +11,23 @@ use Rattle.jc_base.specs.EntryState.{spread, in_locals, held_of, this_of, argume
 use Rattle.jc_base.specs.Held.{Names, Held, top, uninit_this, object, uninit, is_pair, Seen, SeenAt, seen_at}
 use Rattle.jc_base.specs.Starts.{insn_number}
 use Rattle.jc_base.specs.InsnUse.{pool_place, Suits}
-use Rattle.jc_base.specs.WellMade.{IsWellMadeOfAnySize, HasUse, HasShortTexts, what_used}
+use Rattle.jc_base.specs.WellMade.{IsWellMadeOfAnySize, HasUse, what_used}
 use Rattle.jc_base.specs.declared.body.Body.{Body}
-use Rattle.jc_base.specs.declared.body.Use.{Use}
 use Rattle.jc_base.specs.declared.body.What.{What}
 use Rattle.jc_base.specs.declared.body.What.TheVariants as whats
 use Rattle.jc_base.specs.declared.insn.Insn.{Insn}
 use Rattle.jc_base.specs.declared.insn.Insn.TheVariants as insns
 use Rattle.jc_pool.specs.Lookup.{class_name_of}
-use Rattle.jc_pool.specs.Pool.{PoolValue}
 use Rattle.jc_after.specs.After.{class_in, new_class, insn_at, ground_of, returns_of, after_of}
 use Rattle.jc_after.proofs.LeaveLaws.{insn_of}
-use Rattle.jc_frames.specs.Frames.{Ground, Before, Found, first_before, trimmed, without_last_top, values_from, values_in, is_new, insn_from, type_of, in_front, types_of, values_of, stack_of, offset_of, is_start, fits_slots, found, found_if, frame_of}
+use Rattle.jc_frames.specs.Frames.{Ground, Before, Found, trimmed, without_last_top, values_from, values_in, is_new, insn_from, type_of, in_front, types_of, values_of, stack_of, offset_of, is_start, fits_slots, found, found_if, frame_of}
 use Rattle.jc_frames.specs.Table.{AreFrames}
 use Rattle.jc_frames.specs.declared.items.FrameItem.{FrameItem}
 use Rattle.jc_frames.specs.declared.items.FrameItem.TheVariants as frames
 use Rattle.jc_frames.specs.declared.items.TypeItem.{TypeItem}
 use Rattle.jc_frames.specs.declared.items.TypeItem.TheVariants as types
 use Rattle.jc_kinds.specs.States.{frames_of, frame_at, falls_at, or_else, state_of}
-use Rattle.jc_instrument.proofs.NamedStepsLaws.{AllNamed, AreNamed, IsNamed, GroundNamed, UseNamed, TypesNamed, insn_named, method_named, named_both, named_take, no_text, step_named}
+use Rattle.jc_instrument.proofs.NamedStepsLaws.{AllNamed, AreNamed, IsNamed, GroundNamed, UseNamed, insn_named, method_named, named_both, named_take, no_text, step_named}
 use Rattle.jc_instrument.proofs.PoolSpellingLaws.{IsText}
 use Rattle.jc_instrument.proofs.PoolTextLaws.{IsReadPool, class_are, class_short}
 

@@ -1,12 +1,11 @@
 -- Instructions leave objects of classes whose names a pool can take, where those before them have such names.
-use Rattle.std.proofs.Common.{◌≡◌, ◌⊎◌, inl, inr, ℕ, zero, suc, ◌+◌, ◌-◌, ◌<◌, ◌≤◌, Bool, true, false, ◌&&◌, List, [], ◌∷◌, ◌++◌, length, map, take, drop, get_or, set, Option, Some, None, if◌then◌else◌, refl, sym, ◌∙◌, ap, subst, arith, nat_eq, nat_le, nat_lt, codes, bytes_eq}
-use Rattle.std.specs.Prelude.{replicate}
+use Rattle.std.proofs.Common.{◌≡◌, inl, inr, ℕ, zero, suc, ◌+◌, ◌-◌, ◌<◌, ◌≤◌, Bool, true, false, ◌&&◌, List, [], ◌∷◌, ◌++◌, length, map, take, drop, get_or, set, Option, Some, None, if◌then◌else◌, refl, sym, subst, arith, nat_eq, nat_le, nat_lt, codes, bytes_eq}
 use Rattle.std.specs.List.{list_any, list_all, flat_map, AllByRecursion}
 use Rattle.std.proofs.lemmas.Bool.{and_parts, leb-true, ltb-true, true≢false}
 use Rattle.std.proofs.lemmas.List.{length-append, append-nil}
 use Rattle.std.proofs.lemmas.Option.{none-some, same_Some}
 use Rattle.jc_base.specs.ByteLists.{AreBytes}
-use Rattle.jc_base.specs.Descriptor.{FieldType, Byte, Char, Double, Float, Int, Long, Short, Boolean, Object, Array, field_text, return_text, MethodType, method_text, DescribesField, DescribesMethod, IsFieldDescriptor, IsMethodDescriptor}
+use Rattle.jc_base.specs.Descriptor.{FieldType, Byte, Char, Double, Float, Int, Long, Short, Boolean, Object, Array, field_text, return_text, MethodType, IsFieldDescriptor, IsMethodDescriptor}
 use Rattle.jc_base.specs.DescriptorTypes.{field_type_in, method_type_in}
 use Rattle.jc_base.specs.EntryState.{held_of}
 use Rattle.jc_base.specs.Flow.{is_return}
@@ -21,7 +20,7 @@ use Rattle.jc_base.specs.declared.insn.Insn.TheVariants as insns
 use Rattle.jc_base.specs.declared.opcode.TheConstants as ops
 use Rattle.jc_base.proofs.DescriptorTypesLaws.{field_again, method_again}
 use Rattle.jc_base.proofs.OneTextLaws.{both_bytes}
-use Rattle.jc_after.specs.After.{field_step, result_of, call_form, method_step, member_step, interface_step, dynamic_step, computed_step, constant_step, is_array_class, array_of, array_step, class_step, element_letter, multi_step, return_op, return_step, simple_step, local_want, local_step, step_of}
+use Rattle.jc_after.specs.After.{field_step, result_of, call_form, method_step, member_step, interface_step, dynamic_step, computed_step, constant_step, is_array_class, array_of, array_step, class_step, element_letter, multi_step, return_op, simple_step, step_of}
 use Rattle.jc_after.specs.Step.{Gives, kind, item, Form, Step, moves, loads, stores, counts, picks, makes, builds, fails, Ground, apply, upper, below, last, limited, has_form, moved, moved_by, given_of, cleared, clear_before, put_local, with_stack, is_array, element_name, element_of, without, is_made, class_built, built_as, replaced, same_new}
 use Rattle.jc_after.specs.Table.{Row, table, find, forms_at}
 use Rattle.jc_after.specs.Wants.{is_int, accepts, accepts_all}

@@ -1,5 +1,5 @@
 -- A method has one body, whatever the names with which it was read.
-use Rattle.std.proofs.Common.{◌≡◌, ℕ, List, map, Some, sym, ◌∙◌, ap, subst}
+use Rattle.std.proofs.Common.{◌≡◌, ℕ, map, Some, sym, ◌∙◌, ap, subst}
 use Rattle.jc_base.specs.Held.{Names, Grows, seen_at}
 use Rattle.jc_base.specs.declared.body.Body.{Body}
 use Rattle.jc_base.proofs.SeenLaws.{frames_stay}

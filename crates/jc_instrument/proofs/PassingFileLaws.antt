@@ -1,10 +1,7 @@
 -- The methods of an instrumented class file pass the kind check.
-use Rattle.std.proofs.Common.{◌≡◌, ℕ, ◌≤◌, Bool, true, false, List, [], ◌∷◌, ◌++◌, length, Some, refl, sym, ◌∙◌, subst, true≢false}
-use Rattle.std.specs.Prelude.{slice_get}
+use Rattle.std.proofs.Common.{◌≡◌, ℕ, ◌≤◌, Bool, true, false, List, [], ◌∷◌, ◌++◌, length, refl, sym, ◌∙◌, subst, true≢false}
 use Rattle.jc_base.specs.ByteLists.{AreBytes}
-use Rattle.jc_base.specs.Held.{Names}
 use Rattle.jc_base.specs.Outside.{most_read}
-use Rattle.jc_base.specs.declared.body.Body.{Body}
 use Rattle.jc_class.specs.ClassId.{class_id}
 use Rattle.jc_class.specs.ClassText.{ClassText}
 use Rattle.jc_class.specs.Writable.{IsClassFile}
@@ -12,7 +9,7 @@ use Rattle.jc_class.specs.declared.class_file.ClassFile.{ClassFile}
 use Rattle.jc_class.proofs.FirstBadLaws.{one_class_of}
 use Rattle.jc_class.proofs.WritableLaws.{class_holds}
 use Rattle.jc_verify.specs.Again.{EachPassesAgain}
-use Rattle.jc_instrument.specs.Bodies.{AreBodies, AreBodiesOf, AreBodiesUnless}
+use Rattle.jc_instrument.specs.Bodies.{AreBodiesOf, AreBodiesUnless}
 use Rattle.jc_instrument.specs.Causes.{NoCause}
 use Rattle.jc_instrument.specs.InstrumentedFile.{Becomes, HasProbes, IsInstrumentedFile}
 use Rattle.jc_instrument.specs.LeftAlone.{is_left_alone}

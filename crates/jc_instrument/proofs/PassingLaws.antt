@@ -1,40 +1,30 @@
 -- Each method of an instrumented class file has no code, or is read again and passes the kind check.
-use Rattle.std.proofs.Common.{◌≡◌, ◌⊎◌, inl, inr, ℕ, suc, zero, ◌≤◌, ◌<◌, Bool, true, false, List, [], ◌∷◌, ◌++◌, length, map, get_or, All, Some, refl, sym, ◌∙◌, ap, subst, arith}
-use Rattle.std.specs.Prelude.{codes, filter, slice_get, sum_by}
-use Rattle.std.specs.List.{AllByRecursion}
+use Rattle.std.proofs.Common.{◌≡◌, ℕ, ◌≤◌, Bool, false, List, [], ◌∷◌, ◌++◌, length, map, get_or, All, Some, refl, sym, ◌∙◌, ap, subst, arith}
+use Rattle.std.specs.Prelude.{slice_get, sum_by}
 use Rattle.std.proofs.lemmas.Option.{slice_get-get_or}
 use Rattle.jc_base.specs.ByteLists.{AreBytes}
 use Rattle.jc_base.specs.Held.{Names, SeenAt}
 use Rattle.jc_base.specs.Outside.{most_read}
-use Rattle.jc_base.specs.WellMade.{IsWellMade, IsWellMadeOfAnySize}
+use Rattle.jc_base.specs.WellMade.{IsWellMadeOfAnySize}
 use Rattle.jc_base.specs.declared.body.Body.{Body}
-use Rattle.jc_pool.specs.Pool.{PoolValue}
-use Rattle.jc_class.specs.ClassFormat.{HasMethodDescriptor, HasText}
-use Rattle.jc_class.specs.ClassId.{class_id}
 use Rattle.jc_class.specs.ClassText.{ClassText}
-use Rattle.jc_class.specs.Writable.{IsAttribute, IsClassFile, IsMember}
-use Rattle.jc_class.specs.declared.class_file.Attribute.{Attribute}
+use Rattle.jc_class.specs.Writable.{IsClassFile}
 use Rattle.jc_class.specs.declared.class_file.ClassFile.{ClassFile}
-use Rattle.jc_class.specs.declared.class_file.Member.{Member}
-use Rattle.jc_class.proofs.FirstBadLaws.{one_class_of}
 use Rattle.jc_class.proofs.WritableLaws.{class_holds}
 use Rattle.jc_kinds.specs.Checked.{Checked}
 use Rattle.jc_emit.specs.Straddling.{NoneStraddles}
-use Rattle.jc_code.specs.TwinCode.{twin_code}
 use Rattle.jc_verify.specs.Again.{EachPassesAgain}
 use Rattle.jc_verify.specs.WrittenCode.{IsWrittenCode}
 use Rattle.jc_verify.proofs.AgainLaws.{each_passes}
 use Rattle.jc_verify.proofs.ReadBytesLaws.{class_bytes}
 use Rattle.jc_instrument.specs.Causes.{Cause, NoCause, unless}
-use Rattle.jc_instrument.specs.InstrumentedFile.{Becomes, HasProbes, IsAsGiven, IsInstrumentedFile}
 use Rattle.jc_instrument.specs.LeftAlone.{is_left_alone}
 use Rattle.jc_instrument.specs.Needed.{name_of, signed_id, TakesNeeded}
 use Rattle.jc_instrument.specs.Reasons.{class_causes, code_causes, interface_causes}
 use Rattle.jc_instrument.specs.Refused.{probe_causes}
 use Rattle.jc_instrument.specs.RoomCauses.{room_causes}
 use Rattle.jc_instrument.specs.TwinText.{twin_class, work_of, IsWritten}
-use Rattle.jc_instrument.specs.Works.{Work, all_frames, bodies_of, emitted_of, AreWorks}
-use Rattle.jc_instrument.specs.declared.whole.Instrumented.{Instrumented}
+use Rattle.jc_instrument.specs.Works.{Work, bodies_of, emitted_of, AreWorks}
 use Rattle.jc_instrument.proofs.DecidedLaws.{none_behind}
 use Rattle.jc_instrument.proofs.FramedStatesLaws.{framed_work, same_bodies, works_are, works_fit}
 use Rattle.jc_instrument.proofs.OneTwinLaws.{one_twin}

@@ -6,7 +6,7 @@ use Rattle.std.proofs.lemmas.Bool.{cases_lt}
 use Rattle.std.proofs.lemmas.Option.{none-some}
 use Rattle.jc_base.specs.ByteLists.{AreBytes}
 use Rattle.jc_base.specs.Texts.{IsShortText}
-use Rattle.jc_pool.specs.Adding.{IsPut, HasUtf8, HasClass, HasLong, HasSignature, HasMember, entry_of_member}
+use Rattle.jc_pool.specs.Adding.{IsPut, HasUtf8, HasLong, HasSignature, HasMember, entry_of_member}
 use Rattle.jc_pool.specs.EntryFormat.{IsSigned}
 use Rattle.jc_pool.specs.Index.{entry_naming, HasNaming}
 use Rattle.jc_pool.specs.Lookup.{class_name_of, signature_of, Signature, signature, Member}

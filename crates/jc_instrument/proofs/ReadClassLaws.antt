@@ -1,5 +1,5 @@
 -- What is known of the numbers and the texts of a class file that was read from bytes.
-use Rattle.std.proofs.Common.{◌≡◌, ◌⊎◌, inl, inr, ℕ, zero, suc, ◌+◌, ◌*◌, ◌/◌, ◌%◌, ◌<◌, ◌≤◌, ◌^◌, ◌==◌, Bool, true, false, ◌&&◌, List, [], ◌∷◌, ◌++◌, length, map, filter, set, fold, cond, refl, sym, ◌∙◌, ap, subst, arith, if◌then◌else◌, nat_le, slice_index}
+use Rattle.std.proofs.Common.{ℕ, zero, suc, ◌/◌, ◌%◌, ◌<◌, ◌^◌, ◌==◌, Bool, true, false, ◌&&◌, List, [], ◌∷◌, length, map, filter, set, fold, cond, sym, ◌∙◌, ap, subst, arith, if◌then◌else◌, nat_le, slice_index}
 use Rattle.std.specs.Prelude.{bit_xor, slice_set, codes}
 use Rattle.std.specs.List.{AllByRecursion}
 use Rattle.std.proofs.lemmas.Nat.{xor_lt}
@@ -15,7 +15,7 @@ use Rattle.jc_class.specs.ClassText.{ClassText}
 use Rattle.jc_class.specs.declared.class_file.Attribute.{Attribute}
 use Rattle.jc_class.specs.declared.class_file.ClassFile.{ClassFile}
 use Rattle.jc_class.specs.declared.class_file.Member.{Member}
-use Rattle.jc_body.specs.Attributes.{has_name, bodies_of}
+use Rattle.jc_body.specs.Attributes.{has_name}
 use Rattle.jc_body.specs.CodeForm.{code_form}
 use Rattle.jc_body.specs.Coded.{HasCode}
 use Rattle.jc_body.specs.declared.items.CodeItems.{CodeItems}

@@ -10,7 +10,7 @@ use Rattle.std.proofs.lemmas.List.Elements.{All-from_recursion}
 use Rattle.std.proofs.lemmas.Option.{none-some, slice_get-get_or}
 use Rattle.jc_base.specs.Descriptor.{FieldType, Byte, Char, Double, Float, Int, Long, Short, Boolean, Object, Array}
 use Rattle.jc_base.specs.DescriptorTypes.{method_type_in}
-use Rattle.jc_base.specs.EntryState.{spread, in_locals, held_of, this_of, arguments, entry_of}
+use Rattle.jc_base.specs.EntryState.{spread, held_of, this_of, arguments, entry_of}
 use Rattle.jc_base.specs.Held.{Names, Held, top, int, float, double, long, null, uninit_this, object, uninit, held, is_pair, Seen, seen, IsNumbered, IsNumberedState, AreNumberedFrames, Grows}
 use Rattle.jc_base.specs.WellMade.{IsKind, IsState, IsWellMadeOfAnySize, IsWellMade}
 use Rattle.jc_base.specs.declared.body.Body.{Body}
@@ -23,7 +23,7 @@ use Rattle.jc_base.proofs.MetNamesLaws.{grows_none, grows_both}
 use Rattle.jc_base.proofs.TestLaws.{fails_where}
 use Rattle.jc_after.specs.After.{insn_at, after_of}
 use Rattle.jc_after.specs.Answers.{IsStateOf}
-use Rattle.jc_after.proofs.LeaveLaws.{left_of_body, left_whole}
+use Rattle.jc_after.proofs.LeaveLaws.{left_whole}
 use Rattle.jc_after.proofs.PairLaws.{Paired, of_pairs}
 use Rattle.jc_kinds.specs.Answers.{AreStates}
 use Rattle.jc_kinds.specs.Checked.{Checked}

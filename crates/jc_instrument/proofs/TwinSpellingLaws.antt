@@ -1,8 +1,8 @@
 -- The twin class that is written has a text of bytes.
-use Rattle.std.proofs.Common.{◌≡◌, ◌≢◌, ◌⊎◌, inl, inr, ℕ, zero, suc, ℤ, ◌+◌, ◌<◌, ◌≤◌, ◌^◌, Bool, true, false, List, [], ◌∷◌, ◌++◌, length, map, get_or, Option, Some, None, slice_get, refl, sym, ◌∙◌, ap, subst, arith, if◌then◌else◌, nat_eq, unwrap_or}
+use Rattle.std.proofs.Common.{◌≡◌, ◌⊎◌, inl, inr, ℕ, zero, suc, ◌+◌, ◌<◌, ◌≤◌, Bool, true, false, List, [], ◌∷◌, ◌++◌, length, map, Option, Some, None, slice_get, refl, sym, ◌∙◌, ap, subst, arith, if◌then◌else◌, nat_eq, unwrap_or}
 use Rattle.std.specs.Prelude.{codes}
 use Rattle.std.specs.Int.{bytes_high_first, w64, cast_signed}
-use Rattle.std.specs.List.{flat_map, AllByRecursion}
+use Rattle.std.specs.List.{AllByRecursion}
 use Rattle.std.proofs.lemmas.Bool.{cases_lt}
 use Rattle.std.proofs.lemmas.Grind.{flat_map-append}
 use Rattle.std.proofs.lemmas.List.Concat.{flat_map-cons}
@@ -10,7 +10,7 @@ use Rattle.std.proofs.lemmas.List.Elements.{recursion_from_All}
 use Rattle.std.proofs.lemmas.Option.{none-some, same_Some, slice_get_within}
 use Rattle.jc_base.specs.ByteLists.{AreBytes}
 use Rattle.jc_base.specs.Descriptor.{IsMethodDescriptor}
-use Rattle.jc_base.specs.Held.{Names, Seen, SeenAt, seen_at}
+use Rattle.jc_base.specs.Held.{Names, SeenAt, seen_at}
 use Rattle.jc_base.specs.Outside.{most_read}
 use Rattle.jc_base.specs.PlainLists.{map_from}
 use Rattle.jc_base.specs.WellMade.{IsWellMade, HasShortTexts, what_used}
@@ -20,7 +20,6 @@ use Rattle.jc_base.specs.declared.body.What.{What}
 use Rattle.jc_base.specs.declared.body.What.TheVariants as whats
 use Rattle.jc_base.specs.declared.insn.Insn.{Insn}
 use Rattle.jc_base.proofs.AppendingLaws.{big_spells}
-use Rattle.jc_pool.specs.Lookup.{class_name_of}
 use Rattle.jc_pool.specs.Pool.{PoolValue}
 use Rattle.jc_class.specs.ClassId.{class_id}
 use Rattle.jc_class.specs.ClassText.{ClassText}
@@ -36,9 +35,7 @@ use Rattle.jc_body.specs.Attributes.{has_name}
 use Rattle.jc_body.specs.BodyOf.{BodyOf, places_used}
 use Rattle.jc_body.specs.StackMap.{ground_of, stack_maps, HasFrames}
 use Rattle.jc_plan.proofs.CountLaws.{each_joined, each_mapped}
-use Rattle.jc_plan.specs.Probed.{first_id}
 use Rattle.jc_emit.specs.Added.{data_name, data_type, init_name, init_type, runtime_class, fetch_name, fetch_type}
-use Rattle.jc_emit.specs.Emission.{emission}
 use Rattle.jc_emit.specs.Shift.{probe_array_class}
 use Rattle.jc_layout.specs.Layout.{chosen_length, chosen_text}
 use Rattle.jc_code.specs.CodeText.{attribute}
@@ -47,8 +44,8 @@ use Rattle.jc_instrument.specs.Analysis.{all_probes}
 use Rattle.jc_instrument.specs.Bodies.{AreBodiesOf}
 use Rattle.jc_instrument.specs.Causes.{NoCause}
 use Rattle.jc_instrument.specs.Changing.{AreShort, AreShortIn}
-use Rattle.jc_instrument.specs.Contents.{Content, class_entry}
-use Rattle.jc_instrument.specs.Needed.{name_of, signed_id, member_needs, needs_of, place_list, TakesNeeds}
+use Rattle.jc_instrument.specs.Contents.{class_entry}
+use Rattle.jc_instrument.specs.Needed.{name_of, signed_id, needs_of, place_list, TakesNeeds}
 use Rattle.jc_instrument.specs.Probing.{AreShortBelow}
 use Rattle.jc_instrument.specs.RoomCauses.{HasTooLargeCode, early_room_causes, probed_code}
 use Rattle.jc_instrument.specs.TwinText.{work_of, with_code, twin_method, twin_methods, data_member, init_member, init_places, twin_class, IsWritten}
@@ -59,7 +56,7 @@ use Rattle.jc_instrument.proofs.ClassSpellingLaws.{IsOfBytes, big_bytes_are, cla
 use Rattle.jc_instrument.proofs.CodeBytesLaws.{HasByte, spelled_byte, text_are}
 use Rattle.jc_instrument.proofs.NamedFramesLaws.{texts_both, written_small, written_texts}
 use Rattle.jc_instrument.proofs.NamedStatesLaws.{HasTexts, entry_named, frames_named, values_named}
-use Rattle.jc_instrument.proofs.NamedStepsLaws.{AreNamed, UseNamed, bytes_by, no_text}
+use Rattle.jc_instrument.proofs.NamedStepsLaws.{AreNamed, UseNamed, bytes_by}
 use Rattle.jc_instrument.proofs.PoolSpellingLaws.{IsPlain, IsSpelledLong, IsText, each_spelled, spelled_pool}
 use Rattle.jc_instrument.proofs.PoolTextLaws.{IsReadPool, class_are, class_pool, class_short, utf8_are, utf8_short}
 use Rattle.jc_instrument.proofs.ProbingLaws.{emission_code}

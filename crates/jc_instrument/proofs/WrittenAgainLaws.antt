@@ -1,5 +1,5 @@
 -- Each method of the twin class that is written has no code, or its instrumented code, or is the added one.
-use Rattle.std.proofs.Common.{◌≡◌, ◌⊎◌, ⊎_elim, inl, inr, ℕ, ℤ, zero, suc, ◌+◌, ◌<◌, ◌≤◌, Bool, true, false, List, [], ◌∷◌, ◌++◌, length, map, Option, Some, None, nat_eq, refl, sym, ◌∙◌, ap, subst, arith, if◌then◌else◌}
+use Rattle.std.proofs.Common.{◌≡◌, ◌⊎◌, inl, inr, ℕ, ℤ, zero, suc, ◌+◌, ◌<◌, ◌≤◌, Bool, true, false, List, [], ◌∷◌, ◌++◌, length, map, Option, Some, None, nat_eq, refl, sym, ◌∙◌, ap, subst, arith, if◌then◌else◌}
 use Rattle.std.specs.Prelude.{codes, filter, slice_get, unwrap_or}
 use Rattle.std.specs.List.{AllByRecursion}
 use Rattle.std.specs.Option.{option_map}
@@ -7,11 +7,10 @@ use Rattle.std.proofs.lemmas.Bool.{cases_lt, eq-eqb, eqb-true}
 use Rattle.std.proofs.lemmas.Grind.{flat_map-append}
 use Rattle.std.proofs.lemmas.List.Concat.{flat_map-cons}
 use Rattle.std.proofs.lemmas.Option.{none-some, same_Some, slice_get-map, slice_get_within}
-use Rattle.jc_base.specs.Held.{Names, SeenAt}
+use Rattle.jc_base.specs.Held.{Names}
 use Rattle.jc_base.specs.PlainLists.{map_from}
 use Rattle.jc_base.specs.WellMade.{IsWellMadeOfAnySize}
 use Rattle.jc_base.specs.declared.body.Body.{Body}
-use Rattle.jc_base.specs.declared.emitted.Emitted.{Emitted}
 use Rattle.jc_pool.specs.Adding.{Extends}
 use Rattle.jc_pool.specs.Lookup.{Member as MemberText, class_name_of, long_in, long_of, member_of, string_of, utf8_of}
 use Rattle.jc_pool.specs.Pool.{PoolValue}
@@ -42,17 +41,14 @@ use Rattle.jc_code.specs.CodeText.{attribute}
 use Rattle.jc_code.specs.Given.{AreFrames, HaveClasses}
 use Rattle.jc_code.specs.InitText.{init_text}
 use Rattle.jc_code.specs.TwinCode.{chosen_frames, twin_code, written_frames}
-use Rattle.jc_code.specs.declared.code.CodePlaces.{CodePlaces}
 use Rattle.jc_code.specs.declared.init.AddedPlaces.{AddedPlaces}
 use Rattle.jc_verify.specs.Again.{IsAddedAt, IsWrittenAt, AreWrittenMethods}
-use Rattle.jc_verify.specs.InitRead.{IsWrittenInit}
 use Rattle.jc_verify.specs.Written.{IsAddedMethod, IsWrittenMethod}
 use Rattle.jc_verify.specs.WrittenCode.{IsWrittenCode}
 use Rattle.jc_instrument.specs.Analysis.{all_probes}
 use Rattle.jc_instrument.specs.Bodies.{IsListed}
-use Rattle.jc_instrument.specs.Contents.{Content, text_entry, class_entry, string_entry, long_entry, member_entry}
+use Rattle.jc_instrument.specs.Contents.{text_entry, class_entry, string_entry, long_entry, member_entry}
 use Rattle.jc_instrument.specs.Needed.{data_field, fetch_method, init_method, name_of, needs_of, place_list, signed_id, TakesNeeds}
-use Rattle.jc_instrument.specs.Probing.{IsMade, work}
 use Rattle.jc_instrument.specs.TwinText.{init_member, init_places, twin_class, twin_method, twin_methods, with_code, work_of, IsWritten}
 use Rattle.jc_instrument.specs.Works.{Work, all_frames, bodies_of, emitted_of, AreWorks}
 use Rattle.jc_instrument.specs.declared.needs.MemberPlaces.{MemberPlaces}

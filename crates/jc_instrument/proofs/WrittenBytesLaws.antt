@@ -1,5 +1,5 @@
 -- The texts of the Code attributes of an instrumented class are of bytes.
-use Rattle.std.proofs.Common.{◌≡◌, ℕ, zero, suc, ◌+◌, ◌-◌, ◌<◌, ◌≤◌, Bool, true, false, List, [], ◌∷◌, ◌++◌, length, map, refl, sym, ◌∙◌, ap, subst, arith, if◌then◌else◌, nat_le, length-append}
+use Rattle.std.proofs.Common.{◌≡◌, ℕ, ◌+◌, ◌-◌, ◌≤◌, Bool, true, false, List, [], ◌∷◌, ◌++◌, length, map, refl, arith, if◌then◌else◌, nat_le, length-append}
 use Rattle.std.specs.Prelude.{ℤ, pos}
 use Rattle.std.specs.Int.{w16, cast_unsigned}
 use Rattle.std.specs.List.{flat_map, AllByRecursion}

@@ -1,7 +1,7 @@
 -- What is given of the code that is written for a method, where it is read again.
-use Rattle.std.proofs.Common.{◌≡◌, ◌≢◌, ◌⊎◌, inl, inr, ℕ, zero, suc, ◌+◌, ◌<◌, ◌≤◌, Bool, true, false, true≢false, List, [], ◌∷◌, ◌++◌, length, map, take, Option, Some, None, slice_get, refl, sym, ◌∙◌, ap, subst, arith}
+use Rattle.std.proofs.Common.{◌≡◌, ◌≢◌, ◌⊎◌, inl, inr, ℕ, zero, suc, ◌+◌, ◌<◌, ◌≤◌, Bool, true, false, true≢false, List, [], ◌∷◌, ◌++◌, length, take, Option, Some, slice_get, refl, sym, ◌∙◌, ap, subst, arith}
 use Rattle.std.specs.Prelude.{codes}
-use Rattle.std.specs.List.{AllByRecursion, sum_by}
+use Rattle.std.specs.List.{AllByRecursion}
 use Rattle.std.proofs.lemmas.Bool.{cases_lt}
 use Rattle.std.proofs.lemmas.List.Sums.{sum_by-cons}
 use Rattle.std.proofs.lemmas.Option.{none-some, same_Some, slice_get_within}
@@ -15,7 +15,6 @@ use Rattle.jc_pool.specs.Adding.{Extends, IsFirst}
 use Rattle.jc_pool.specs.Lookup.{Member as MemberText, member_of, utf8_of}
 use Rattle.jc_pool.specs.Pool.{PoolValue}
 use Rattle.jc_class.specs.declared.class_file.ClassFile.{ClassFile}
-use Rattle.jc_class.specs.declared.class_file.Member.{Member}
 use Rattle.jc_body.specs.Attributes.{is_text}
 use Rattle.jc_body.specs.BodyOf.{BodyOf}
 use Rattle.jc_body.specs.Faults.{faults}

@@ -1,5 +1,5 @@
 -- The text of an instrumented Code attribute is no longer than an attribute may be.
-use Rattle.std.proofs.Common.{◌≡◌, ◌⊎◌, inl, inr, ℕ, zero, suc, ◌+◌, ◌*◌, ◌-◌, ◌<◌, ◌≤◌, false, List, [], ◌∷◌, ◌++◌, length, map, refl, sym, ◌∙◌, ap, subst, arith, length-append}
+use Rattle.std.proofs.Common.{◌≡◌, ℕ, ◌+◌, ◌*◌, ◌-◌, ◌≤◌, false, List, [], ◌∷◌, ◌++◌, length, map, refl, sym, ◌∙◌, ap, subst, arith, length-append}
 use Rattle.std.specs.List.{flat_map, AllByRecursion}
 use Rattle.std.proofs.Math.Nat.{add-mul, mul-add, mul_assoc, mul_comm, mul-le-mul, mul-le-mul_right}
 use Rattle.std.proofs.lemmas.Grind.{flat_map-append}
@@ -9,7 +9,6 @@ use Rattle.jc_base.specs.Outside.{most_read}
 use Rattle.jc_base.specs.PlainLists.{total}
 use Rattle.jc_base.specs.WellMade.{IsBounded}
 use Rattle.jc_base.specs.declared.body.Body.{Body}
-use Rattle.jc_base.specs.declared.body.FrameAt.{FrameAt}
 use Rattle.jc_base.specs.declared.body.Handler.{Handler}
 use Rattle.jc_base.specs.declared.body.LineAt.{LineAt}
 use Rattle.jc_base.specs.declared.body.VarAt.{VarAt}
