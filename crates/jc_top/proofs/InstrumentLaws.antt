@@ -1,6 +1,6 @@
 -- What is made of class files that are instrumented is one list of writes.
 use Rattle.std.proofs.Common.{◌≡◌, ⊎_elim, ℕ, ◌+◌, ◌<◌, ◌≤◌, List, [], ◌∷◌, ◌++◌, length, take, get_or, map, Some, refl, sym, ◌∙◌, ap, ap₂, subst, arith, append_assoc, String, string_bytes}
-use Rattle.std.proofs.lemmas.List.{append-nil, take_more, take_all, length-map}
+use Rattle.std.proofs.lemmas.List.{append-nil, take_more, take_all}
 use Rattle.std.specs.List.{AllByRecursion}
 use Rattle.std.specs.declared.alloc.Global.{Global}
 use Rattle.jc_base.specs.declared.refusal.Refusal.{Refusal}
