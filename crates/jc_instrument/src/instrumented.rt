@@ -1,21 +1,17 @@
 //! Laws of instrumented classes, and of the reasons for which a class file isn't instrumented.
-ghost use Rattle.std.specs.Prelude.{◌≡◌, ◌≤◌, ◌⊎◌, ℕ, List, length, Option, Some, None};
+ghost use Rattle.std.specs.Prelude.{◌≡◌, ℕ, List, Option, Some, None};
 ghost use Rattle.std.specs.List.{AllByRecursion};
-ghost use Rattle.jc_base.specs.ByteLists.{AreBytes};
 ghost use Rattle.jc_base.specs.Held.{Names};
-ghost use Rattle.jc_base.specs.Outside.{most_read};
 ghost use Rattle.jc_base.specs.declared.refusal.Refusal.{Refusal};
 ghost use Rattle.jc_pool.specs.Pool.{PoolValue};
 ghost use Rattle.jc_class.specs.declared.class_file.ClassFile.{ClassFile as Class};
 ghost use Rattle.jc_instrument.specs.Contents.{Content, TakesEach, IsOfClass};
 ghost use Rattle.jc_instrument.specs.GrownPool.{IsGrown};
-ghost use Rattle.jc_instrument.specs.InstrumentedFile.{IsInstrumentedFile};
 ghost use Rattle.jc_instrument.specs.Reasons.{AnalysisReason};
 ghost use Rattle.jc_instrument.specs.Refused.{Reason, IsAccepted};
 ghost use Rattle.jc_instrument.specs.TwinClass.{IsSameOutside};
 ghost use Rattle.jc_instrument.specs.TwinText.{IsWritten};
 ghost use Rattle.jc_instrument.specs.Works.{Work};
-ghost use Rattle.jc_instrument.specs.declared.whole.Instrumented.{Instrumented};
 
 /// A class file that isn't analysed isn't instrumented, for the same reason; so one that is accepted is analysed. What
 /// is accepted has no reason for which it isn't instrumented.
@@ -46,14 +42,4 @@ pub fn each_class_has_one_twin()
         → IsWritten id names array works c twin → IsWritten id others other more c same → twin ≡ same }
     ensures outside { (id array : ℕ) (names : Names) (works : List Work) (c twin : Class)
         → IsWritten id names array works c twin → IsSameOutside id names array works c twin }
-{}
-
-/// Bytes, at most 67,108,864, become one instrumented class file, whatever the names with which the bodies of the class are read, or there is
-/// a reason for which they don't, and never both.
-pub fn each_class_file_becomes_one()
-    ensures each { (bytes : List ℕ) → AreBytes bytes → length bytes ≤ most_read
-        → ((a : Instrumented) × IsInstrumentedFile bytes a) ⊎ ((r : Refusal) × Reason bytes (Some r)) }
-    ensures one { (bytes : List ℕ) (a b : Instrumented) → IsInstrumentedFile bytes a → IsInstrumentedFile bytes b → a ≡ b }
-    ensures apart { (bytes : List ℕ) (a : Instrumented) (r : Refusal)
-        → IsInstrumentedFile bytes a → Reason bytes (Some r) → ⊥ }
 {}

@@ -22,8 +22,7 @@ mod whole;
 
 pub use analysis::analyse;
 pub use instrumented::{
-    each_class_file_becomes_one, each_class_has_one_reason, each_class_has_one_twin,
-    each_pool_grows, reasons_are_in_order,
+    each_class_has_one_reason, each_class_has_one_twin, each_pool_grows, reasons_are_in_order,
 };
 pub use laws::{each_class_has_an_analysis_or_a_reason, each_class_has_one_analysis_reason};
 pub use whole::{Instrumented, instrument};

@@ -17,7 +17,7 @@ use Rattle.jc_emit.specs.Sizes.{insn_at, early_probe, late_probe, arms_by, arms_
 use Rattle.jc_emit.specs.TwinCode.{to_of}
 use Rattle.jc_layout.specs.Layout.{is_wide, chosen_starts, chosen_length, starts_from, starts_of}
 use Rattle.jc_instrument.specs.RoomCauses.{probed_code}
-use Rattle.jc_instrument.proofs.EmittedFramesLaws.{arms_size}
+use Rattle.jc_instrument_laws.proofs.EmittedFramesLaws.{arms_size}
 
 -- a goto has three bytes or more, and each other instruction one or more
 abbrev least : Item → ℕ

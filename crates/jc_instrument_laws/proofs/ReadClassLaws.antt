@@ -19,7 +19,7 @@ use Rattle.jc_body.specs.Attributes.{has_name}
 use Rattle.jc_body.specs.CodeForm.{code_form}
 use Rattle.jc_body.specs.Coded.{HasCode}
 use Rattle.jc_body.specs.declared.items.CodeItems.{CodeItems}
-use Rattle.jc_instrument.proofs.ClassSpellingLaws.{IsOfBytes}
+use Rattle.jc_instrument_laws.proofs.ClassSpellingLaws.{IsOfBytes}
 
 -- ---- the parts
 

@@ -25,7 +25,7 @@ use Rattle.jc_instrument.proofs.FrameCauseLaws.{each_at}
 use Rattle.jc_instrument.proofs.ListedLaws.{grown_bodies, item_at, put_cases, put_last}
 use Rattle.jc_instrument.proofs.ProbingLaws.{nothing_at, work_grown}
 use Rattle.jc_instrument.proofs.SomeBodiesLaws.{AllBodies}
-use Rattle.jc_instrument.proofs.SomeStatesLaws.{AllStates, all_states}
+use Rattle.jc_instrument_laws.proofs.SomeStatesLaws.{AllStates, all_states}
 use Rattle.jc_instrument.proofs.WholeLaws.{bodies_numbered}
 
 -- works of the first n of these bodies, under more names

@@ -24,7 +24,7 @@ use Rattle.jc_pool.proofs.KeyPlaceLaws.{signature_past}
 use Rattle.jc_pool.proofs.OneMoreEntryLaws.{grown_length, put_pool}
 use Rattle.jc_pool.proofs.WritingLaws.{pool_written}
 use Rattle.jc_instrument.specs.Contents.{Content, text_entry, class_entry, string_entry, long_entry, signature_entry, member_entry, Takes, TakesEach}
-use Rattle.jc_instrument.proofs.ClassSpellingLaws.{bytes_both, Spelled, short_number, text_fits}
+use Rattle.jc_instrument_laws.proofs.ClassSpellingLaws.{bytes_both, Spelled, short_number, text_fits}
 use Rattle.jc_instrument.proofs.GrownPoolLaws.{longer}
 use Rattle.jc_instrument.proofs.PoolTextLaws.{IsSpelledSlot, no_class_past}
 use Rattle.jc_instrument.proofs.TakingLaws.{each_extends}

@@ -31,9 +31,9 @@ use Rattle.jc_code.specs.CodeText.{attribute, attribute_text, code_text, counted
 use Rattle.jc_code.specs.FirstPlaces.{text_place}
 use Rattle.jc_code.specs.InitText.{push_count, end_offset, init_bytes, init_frame_places, init_frames, init_text}
 use Rattle.jc_code.specs.TwinCode.{written_frames, offset_in, places_of, lines_name, vars_name, kind_vars_name, code_attributes, twin_code}
-use Rattle.jc_instrument.proofs.ClassSpellingLaws.{bytes_both, big_bytes_are}
-use Rattle.jc_instrument.proofs.CodeBytesLaws.{short_are, word_are, push_are, placed_are}
-use Rattle.jc_instrument.proofs.FrameSizesLaws.{short_count, word_count, attribute_count, counted_count, table_most}
+use Rattle.jc_instrument_laws.proofs.ClassSpellingLaws.{bytes_both, big_bytes_are}
+use Rattle.jc_instrument_laws.proofs.CodeBytesLaws.{short_are, word_are, push_are, placed_are}
+use Rattle.jc_instrument_laws.proofs.FrameSizesLaws.{short_count, word_count, attribute_count, counted_count, table_most}
 
 -- ---- lists
 

@@ -26,8 +26,8 @@ use Rattle.jc_after.specs.Table.{Row, table, find, forms_at}
 use Rattle.jc_after.specs.Wants.{is_int, accepts, accepts_all}
 use Rattle.jc_after.specs.declared.want.Want.TheVariants as wants
 use Rattle.jc_after.proofs.KeepLaws.{then_some, else_some}
-use Rattle.jc_instrument.proofs.ClassSpellingLaws.{bytes_both}
-use Rattle.jc_instrument.proofs.PoolSpellingLaws.{IsText}
+use Rattle.jc_instrument_laws.proofs.ClassSpellingLaws.{bytes_both}
+use Rattle.jc_instrument_laws.proofs.PoolSpellingLaws.{IsText}
 
 -- ---- texts
 

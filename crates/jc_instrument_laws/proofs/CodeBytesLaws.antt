@@ -44,7 +44,7 @@ use Rattle.jc_layout.specs.Layout.{is_wide, chosen_starts, chosen_text}
 use Rattle.jc_layout.proofs.FormedLaws.{inverse_form}
 use Rattle.jc_layout.proofs.LayableLaws.{all_formed}
 use Rattle.jc_instrument.specs.RoomCauses.{probed_code}
-use Rattle.jc_instrument.proofs.ClassSpellingLaws.{bytes_both, big_bytes_are}
+use Rattle.jc_instrument_laws.proofs.ClassSpellingLaws.{bytes_both, big_bytes_are}
 
 pub short_are : (x : ℕ) → AreBytes (short x)
 unfolding short

@@ -28,9 +28,9 @@ use Rattle.jc_code.specs.CodeText.{attribute_text, counted_text, row_text, line_
 use Rattle.jc_code.specs.FirstPlaces.{text_place}
 use Rattle.jc_code.specs.TwinCode.{chosen_frames, written_frames, offset_in, places_of, lines_name, vars_name, kind_vars_name, code_attributes, twin_code}
 use Rattle.jc_instrument.specs.RoomCauses.{probed_code}
-use Rattle.jc_instrument.proofs.CodeWeightLaws.{code_least}
-use Rattle.jc_instrument.proofs.EmittedFramesLaws.{arms_size, written_most}
-use Rattle.jc_instrument.proofs.FrameSizesLaws.{short_count, word_count, attribute_count, counted_count, sized_most, table_most, tables_most}
+use Rattle.jc_instrument_laws.proofs.CodeWeightLaws.{code_least}
+use Rattle.jc_instrument_laws.proofs.EmittedFramesLaws.{arms_size, written_most}
+use Rattle.jc_instrument_laws.proofs.FrameSizesLaws.{short_count, word_count, attribute_count, counted_count, sized_most, table_most, tables_most}
 
 -- ---- the entries of tables
 

@@ -22,10 +22,10 @@ use Rattle.jc_emit.specs.Shift.{image_kind, probe_array_class}
 use Rattle.jc_emit.specs.Sizes.{insn_at}
 use Rattle.jc_emit.specs.TwinFrames.{no_state, state_at, operands_of}
 use Rattle.jc_code.specs.TwinCode.{chosen_frames, written_frames}
-use Rattle.jc_instrument.proofs.EmittedFramesLaws.{IsOf, IsMoved, each_moved}
-use Rattle.jc_instrument.proofs.NamedStatesLaws.{HasTexts, state_named, values_named}
-use Rattle.jc_instrument.proofs.NamedStepsLaws.{AllNamed, AreNamed, IsNamed}
-use Rattle.jc_instrument.proofs.PoolSpellingLaws.{IsText}
+use Rattle.jc_instrument_laws.proofs.EmittedFramesLaws.{IsOf, IsMoved, each_moved}
+use Rattle.jc_instrument_laws.proofs.NamedStatesLaws.{HasTexts, state_named, values_named}
+use Rattle.jc_instrument_laws.proofs.NamedStepsLaws.{AllNamed, AreNamed, IsNamed}
+use Rattle.jc_instrument_laws.proofs.PoolSpellingLaws.{IsText}
 use Rattle.jc_instrument.proofs.WritableLaws.{slots_above, fewer_taken, put_in_count, some_taken, one_put_in}
 
 -- ---- values by their kinds

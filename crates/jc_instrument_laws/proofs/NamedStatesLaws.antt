@@ -27,8 +27,8 @@ use Rattle.jc_frames.specs.declared.items.FrameItem.TheVariants as frames
 use Rattle.jc_frames.specs.declared.items.TypeItem.{TypeItem}
 use Rattle.jc_frames.specs.declared.items.TypeItem.TheVariants as types
 use Rattle.jc_kinds.specs.States.{frames_of, frame_at, falls_at, or_else, state_of}
-use Rattle.jc_instrument.proofs.NamedStepsLaws.{AllNamed, AreNamed, IsNamed, GroundNamed, UseNamed, insn_named, method_named, named_both, named_take, no_text, step_named}
-use Rattle.jc_instrument.proofs.PoolSpellingLaws.{IsText}
+use Rattle.jc_instrument_laws.proofs.NamedStepsLaws.{AllNamed, AreNamed, IsNamed, GroundNamed, UseNamed, insn_named, method_named, named_both, named_take, no_text, step_named}
+use Rattle.jc_instrument_laws.proofs.PoolSpellingLaws.{IsText}
 use Rattle.jc_instrument.proofs.PoolTextLaws.{IsReadPool, class_are, class_short}
 
 -- ---- the state in which a method begins

@@ -1,0 +1,17 @@
+pub mod SomeStatesLaws
+pub mod SomeWorksLaws
+pub mod ClassSpellingLaws
+pub mod PoolSpellingLaws
+pub mod UsedBytesLaws
+pub mod NamedStepsLaws
+pub mod NamedStatesLaws
+pub mod EmittedFramesLaws
+pub mod CodeWeightLaws
+pub mod FrameSizesLaws
+pub mod NamedFramesLaws
+pub mod WrittenSizesLaws
+pub mod CodeBytesLaws
+pub mod WrittenBytesLaws
+pub mod ReadClassLaws
+pub mod TwinSpellingLaws
+pub mod EachFileLaws
