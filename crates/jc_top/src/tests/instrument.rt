@@ -1,6 +1,6 @@
 //! The command `instrument`.
 use super::rows::{ABS, INTERFACE, MERGED, NOTHING, UNREAD, UNWRITTEN};
-use super::{File, Left, Row, check_standing, with_version};
+use super::{File, Left, Row, check_standing};
 use jc_base::Memory;
 use std::alloc::Global;
 use std::process::Abort;
@@ -108,6 +108,15 @@ const STRADDLING: [u8; 102] = [
     0x00, 0x00, 0x00, 0x00, 0x00, 0x00,
 ];
 
+/// The interface `I` of version 62.
+#[rattlefmt::skip]
+const NEWER: [u8; 53] = [
+    0xca, 0xfe, 0xba, 0xbe, 0x00, 0x00, 0x00, 0x3e, 0x00, 0x05, 0x01, 0x00, 0x01, 0x49, 0x07, 0x00,
+    0x01, 0x01, 0x00, 0x10, 0x6a, 0x61, 0x76, 0x61, 0x2f, 0x6c, 0x61, 0x6e, 0x67, 0x2f, 0x4f, 0x62,
+    0x6a, 0x65, 0x63, 0x74, 0x07, 0x00, 0x03, 0x06, 0x00, 0x00, 0x02, 0x00, 0x04, 0x00, 0x00, 0x00,
+    0x00, 0x00, 0x00, 0x00, 0x00,
+];
+
 const JAR: [u8; 8] = [0x50, 0x4b, 0x03, 0x04, 0x0a, 0x00, 0x00, 0x00];
 
 // A run, and what stands at paths after it.
@@ -124,7 +133,7 @@ fn check_all(rt: &impl Abort, alloc: Global, writings: &[Writing<'_>]) -> Result
     Ok(())
 }
 
-const FILES: [File<'static>; 6] = [
+const FILES: [File<'static>; 7] = [
     File {
         path: "A.class",
         bytes: &ABS,
@@ -149,6 +158,10 @@ const FILES: [File<'static>; 6] = [
         path: "x.class",
         bytes: &[0xca, 0xfe, 0xba],
     },
+    File {
+        path: "y.class",
+        bytes: &NEWER,
+    },
 ];
 
 const CHANGED: Row<'static> = Row {
@@ -161,7 +174,7 @@ const CHANGED: Row<'static> = Row {
     ..MERGED
 };
 
-const WRITINGS: [Writing<'static>; 6] = [
+const WRITINGS: [Writing<'static>; 7] = [
     Writing {
         row: CHANGED,
         stands: &[File {
@@ -229,6 +242,27 @@ const WRITINGS: [Writing<'static>; 6] = [
             bytes: &JAR,
         }],
     },
+    // Two files are refused, one of them a whole class of a later version.
+    Writing {
+        row: Row {
+            words: &["instrument", "--dest", "out", "x.class", "y.class"],
+            left: Left {
+                err: "refused x.class: NotAClass at 0\nrefused y.class: Version at 62\n",
+                ..NOTHING
+            },
+            ..CHANGED
+        },
+        stands: &[
+            File {
+                path: "out/x.class",
+                bytes: &[0xca, 0xfe, 0xba],
+            },
+            File {
+                path: "out/y.class",
+                bytes: &NEWER,
+            },
+        ],
+    },
     // A refused file stops nothing.
     Writing {
         row: Row {
@@ -260,41 +294,6 @@ const WRITINGS: [Writing<'static>; 6] = [
 #[test]
 fn class_files_are_written(rt: HostRuntime) -> Result<(), Fail> {
     check_all(&rt, rt.alloc(), &WRITINGS)?;
-    Ok(())
-}
-
-#[test]
-fn refused_files_are_copied(rt: HostRuntime) -> Result<(), Fail> {
-    let newer = with_version(62);
-    let row = Row {
-        words: &["instrument", "--dest", "out", "x.class", "y.class"],
-        files: &[
-            File {
-                path: "x.class",
-                bytes: &[0xca, 0xfe, 0xba],
-            },
-            File {
-                path: "y.class",
-                bytes: &newer,
-            },
-        ],
-        left: Left {
-            err: "refused x.class: NotAClass at 0\nrefused y.class: Version at 62\n",
-            ..NOTHING
-        },
-        ..MERGED
-    };
-    let stands = [
-        File {
-            path: "out/x.class",
-            bytes: &[0xca, 0xfe, 0xba],
-        },
-        File {
-            path: "out/y.class",
-            bytes: &newer,
-        },
-    ];
-    check_standing(&rt, rt.alloc(), &row, &stands)?;
     Ok(())
 }
 
