@@ -28,12 +28,12 @@ fn moved_kind(kind: Kind, images: &[u32]) -> Kind
     }
 }
 
-/// The same of types, in their order.
+/// The same of types, in their order. There is room for one more behind them.
 fn moved_kinds(alloc: Global, kinds: &[Kind], images: &[u32]) -> Result<Vec<Kind>, Memory>
     requires { All (IsMadeWithin (length images.now)) kinds.now }
     ensures { IfOk result (λ moved. moved.items ≡ map (image_kind (slice_index images.now)) kinds.now) }
 {
-    let mut moved = Vec::new(alloc);
+    let mut moved = Vec::with_capacity(alloc, kinds.len().saturating_add(1))?;
     'moving: for kind in kinds {
         moved.push(moved_kind(*kind, images))?;
     }

@@ -92,6 +92,27 @@ impl Places {
     ghost use Rattle.jc_emit.specs.Placing.{HasPlan, ArePlaces};
     ghost use Rattle.jc_emit.specs.Branching.{AreSmall};
 
+    /// None yet, with room for so many entries.
+    fn with_room(alloc: Global, count: usize) -> Result<Places, Memory>
+        ensures leads { IfOk result (λ places. places.leads.items ≡ []) }
+        ensures lands { IfOk result (λ places. places.lands.items ≡ []) }
+        ensures images { IfOk result (λ places. places.images.items ≡ []) }
+    {
+        Ok(Places {
+            leads: Vec::with_capacity(alloc, count)?,
+            lands: Vec::with_capacity(alloc, count)?,
+            images: Vec::with_capacity(alloc, count)?,
+        })
+    }
+
+    /// How many instructions stand in front of the end.
+    pub(crate) fn count(&self) -> usize {
+        match self.leads.last() {
+            Some(end) => *end as usize,
+            None => 0,
+        }
+    }
+
     /// Puts the places of an instruction at the ends.
     fn put(&mut self, lead: u32, land: u32, image: u32) -> Result<(), Memory>
         ensures leads { OnOk result (self.new.leads.items ≡ self.old.leads.items ++ lead ∷ []) }
@@ -117,11 +138,7 @@ impl Places {
         ensures places { (first : ℕ) → plan.now ≡ plan_of body.now first → IfOk result (ArePlaces body.now first) }
         ensures small { IfOk result AreSmall }
     {
-        let mut places = Places {
-            leads: Vec::new(alloc),
-            lands: Vec::new(alloc),
-            images: Vec::new(alloc),
-        };
+        let mut places = Places::with_room(alloc, body.code.len() + 1)?;
         let mut here = 2;
         'placing: for (at, insn) in body.code.iter().enumerate() {
             let flow = insn.flow();

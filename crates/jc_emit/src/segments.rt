@@ -194,7 +194,7 @@ pub(crate) fn write_code(
     ensures { (first : ℕ) → plan.now ≡ plan_of body.now first
         → IfOk result (Shows body.now.arg_slots (twin_items body.now first false)) }
 {
-    let mut written = Written::new(alloc);
+    let mut written = Written::with_room(alloc, places.count())?;
     written.put_prelude(body.arg_slots)?;
     let mut table = Vec::from_slice(alloc, &places.lands)?;
     'writing: for at in 0..body.code.len() {

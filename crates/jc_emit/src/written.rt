@@ -1,5 +1,5 @@
 //! The code of an instrumented method as it is written.
-ghost use Rattle.std.specs.Prelude.{◌≡◌, ◌≤◌, [], ◌∷◌, ◌++◌, Bool, Option, ℕ, OnOk};
+ghost use Rattle.std.specs.Prelude.{◌≡◌, ◌≤◌, [], ◌∷◌, ◌++◌, Bool, Option, ℕ, IfOk, OnOk};
 ghost use Rattle.jc_base.specs.Widened.{goto};
 ghost use Rattle.jc_emit.specs.Branching.{IsPushed};
 ghost use Rattle.jc_emit.specs.Items.{prelude, image, probe, hop, lead_part, early_part, hop_part};
@@ -42,16 +42,16 @@ fn push(id: u32) -> Insn
 }
 
 impl Written {
-    /// Nothing yet.
-    pub(crate) fn new(alloc: Global) -> Self
-        ensures { (slot : ℕ) → Shows slot ([]) result }
+    /// Nothing yet, with room for so many instructions.
+    pub(crate) fn with_room(alloc: Global, count: usize) -> Result<Self, Memory>
+        ensures { IfOk result (λ written. (slot : ℕ) → Shows slot ([]) written) }
     {
-        Written {
-            code: Vec::new(alloc),
-            at: Vec::new(alloc),
-            own: Vec::new(alloc),
-            extra: Vec::new(alloc),
-        }
+        Ok(Written {
+            code: Vec::with_capacity(alloc, count)?,
+            at: Vec::with_capacity(alloc, count)?,
+            own: Vec::with_capacity(alloc, count)?,
+            extra: Vec::with_capacity(alloc, count)?,
+        })
     }
 
     /// Puts an instruction at the end.

@@ -121,7 +121,7 @@ pub fn kinds_in_locals(alloc: Global, locals: &[Kind]) -> Result<Vec<Kind>, Memo
     ensures placed { (count : ℕ) → All (IsPlaced count) locals.now → IfOk result (λ kinds. All (IsPlaced count) kinds.items) }
 {
     let trimmed = &locals[..end_of_values(locals)];
-    let mut kinds = Vec::new(alloc);
+    let mut kinds = Vec::with_capacity(alloc, trimmed.len())?;
     let mut skips = false;
     'listing: for kind in trimmed {
         if skips {

@@ -1,5 +1,5 @@
 //! The states before the instructions, one after the other (JVM Specification 4.10.1.6).
-ghost use Rattle.std.specs.Prelude.{◌≡◌, ◌<◌, ◌++◌, true, length, IfOk, OnOk, Some, unwrap_or, if◌then◌else◌};
+ghost use Rattle.std.specs.Prelude.{◌≡◌, ◌<◌, ◌++◌, [], true, length, IfOk, OnOk, Some, unwrap_or, if◌then◌else◌};
 ghost use Rattle.std.specs.List.{list_all};
 ghost use Rattle.jc_base.specs.Flow.{targets_of};
 ghost use Rattle.jc_base.specs.Held.{Grows, IsNumberedState, AreNumberedFrames};
@@ -189,6 +189,17 @@ fn put(states: &mut Vec<State>, kept: Option<State>) -> Result<(), Memory>
     }
 }
 
+/// No states yet, with room for so many where they are kept.
+fn room_for(alloc: Global, keeps: bool, count: usize) -> Result<Vec<State>, Memory>
+    ensures { IfOk result (λ states. states.items ≡ []) }
+{
+    if keeps {
+        Ok(Vec::with_capacity(alloc, count)?)
+    } else {
+        Ok(Vec::new(alloc))
+    }
+}
+
 /// What a walk over a body found.
 #[derive(Drop)]
 pub struct Walked {
@@ -224,8 +235,8 @@ pub fn walk(
     ensures walk { IfOk result (λ walked. IsWalk names.old names.new body.now keeps walked.count walked.states.items) }
     ensures names { Grows names.old names.new }
 {
-    let mut states = Vec::new(alloc);
     let count = body.code.len();
+    let mut states = room_for(alloc, keeps, count)?;
     let mut state = match begin(alloc, &body.frames, numbers, entry)? {
         Some(first) => first,
         None => return Ok(Walked { count: 0, states }),

@@ -12,8 +12,8 @@ writing-init c =
     record {
       table = ap length c.in_ok-table.ensures.items ∙ ap length c.deref.ensures.value ∙ (c.requires.places plan.0 plan.1).lands.size;
       shows = λ first is.
-          shows_more c.args.body.now.arg_slots ([]) prelude c.new-written.result c.put_prelude.new.self
-          (c.new-written.ensures c.args.body.now.arg_slots) c.in_ok-put_prelude.ensures;
+          shows_more c.args.body.now.arg_slots ([]) prelude c.in_ok-written.written c.put_prelude.new.self
+          (c.in_ok-written.ensures c.args.body.now.arg_slots) c.in_ok-put_prelude.ensures;
     }
 
 pub writing-preserved : goal.writing-preserved

@@ -4,17 +4,17 @@ use Rattle.jc_kinds.specs.Walk.{Steps}
 use Rattle.jc_kinds.proofs.MissingLaws.{few_insns}
 use Rattle.jc_kinds.proofs.NumberLaws.{grown_count, frames_numbered}
 use Rattle.jc_kinds.proofs.BranchLaws.{first_made, first_not}
-use Rattle.jc_kinds.proofs.WalkLaws.{walk_on, walk_stops}
+use Rattle.jc_kinds.proofs.WalkLaws.{walk_ends, walk_on, walk_stops}
 use Rattle.jc_kinds.proofs.walk.walk.Goals as goal
 
 pub returns-in-None-clause-walk : goal.returns-in-None-clause-walk
 returns-in-None-clause-walk c =
-    first_not c.args.names.now c.args.body.now c.args.keeps c.deref.result.now c.args.entry c.in_ok-first.field-0 c.new-states.result.items c.requires.entry c.deref.ensures c.in_ok-first.ensures c.in-None.is c.new-states.ensures.items
+    first_not c.args.names.now c.args.body.now c.args.keeps c.deref.result.now c.args.entry c.in_ok-first.field-0 c.in_ok-states.states.items c.requires.entry c.deref.ensures c.in_ok-first.ensures c.in-None.is c.in_ok-states.ensures
 
 pub walking-init : goal.walking-init
 walking-init c = record {
-  walking = first_made c.args.names.now c.args.body.now c.args.keeps c.deref.result.now c.args.entry c.in-Some.first c.in_ok-first.field-0 c.new-states.result.items c.requires.made c.requires.frames c.requires.entry
-      c.deref.ensures c.in_ok-first.ensures c.in-Some.is c.new-states.ensures.items;
+  walking = first_made c.args.names.now c.args.body.now c.args.keeps c.deref.result.now c.args.entry c.in-Some.first c.in_ok-first.field-0 c.in_ok-states.states.items c.requires.made c.requires.frames c.requires.entry
+      c.deref.ensures c.in_ok-first.ensures c.in-Some.is c.in_ok-states.ensures;
   effects = c.requires.effects;
 }
 
@@ -38,3 +38,8 @@ walking-preserved c = record {
       (c.in_ok-put.ensures ∙ ap (λ (l : List State). c.walking.states.items ++ l) c.in_ok-copy.ensures);
   effects = c.in_ok-next.ensures.effects;
 }
+
+pub returns-clause-walk : goal.returns-clause-walk
+returns-clause-walk c =
+    walk_ends c.args.names.now c.walking.names c.args.body.now c.args.keeps c.walking.states.items c.walking.at c.len-count.result c.walking.state
+    (search rules) (search rules) c.walking.invariant.walking

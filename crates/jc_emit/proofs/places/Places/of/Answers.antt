@@ -1,13 +1,19 @@
-use Rattle.std.proofs.Common.{◌≡◌, ◌<◌, ◌≤◌, ℕ, false, Option, None, List, length, get_or, ap, ap₂, ◌∙◌, arith}
+use Rattle.std.proofs.Common.{rules, ◌≡◌, ◌<◌, ◌≤◌, ℕ, false, Option, None, List, length, get_or, ap, ap₂, ◌∙◌, arith}
 use Rattle.jc_base.specs.Flow.{flow_of}
 use Rattle.jc_base.specs.declared.insn.Insn.{Insn}
 use Rattle.jc_base.specs.declared.insn.Flow.{Flow}
 use Rattle.jc_plan.specs.Plan.{lead_probe, out_probes}
+use Rattle.jc_plan.proofs.FlowLaws.{few_insns}
 use Rattle.jc_emit.specs.Branching.{early_in, behind_in}
 use Rattle.jc_emit.specs.Sizes.{insn_at, probe_size, early_probe, behind_size}
 use Rattle.jc_emit.proofs.PlanReads.{length_leads, length_outs, lead_here, outs_here}
 use Rattle.jc_emit.proofs.PlacingLaws.{insn_here, early_read, behind_read, few_outs, lead_small, placed_more, placed_all, small_places}
 use Rattle.jc_emit.proofs.places.Places.of.Goals as goal
+
+pub overflow_add-len : goal.overflow_add-len
+overflow_add-len c =
+    let few : length c.args.body.now.code ≤ 1000000 = omega (arith, few_insns c.args.body.now.code, c.requires.made.code.few) in
+    search rules
 
 pub bounds-deref-at : goal.bounds-deref-at
 bounds-deref-at c =
