@@ -34,6 +34,12 @@ module _ (e : Emitted) (l : Laid) (laid : IsLaid e l) where
   count : length l.starts ≡ length e.code + 1
   count = ap (λ (s : List ℕ). length s) laid.starts ∙ chosen_count e.code
 
+  pub laid_length : chosen_length e.code ≤ most_bytes
+  laid_length =
+      let size = ap (λ (t : List ℕ). length t) laid.text ∙ text_length e.code in
+      let few = laid.few in
+      omega (arith, size, few)
+
   pub laid_rise : AreRisingOffsets l.starts
   laid_rise = subst AreRisingOffsets (sym laid.starts) (rises (is_wide e.code) 0 e.code (chosen_starts e.code) (chosen_stand e.code))
 
@@ -46,9 +52,8 @@ module _ (e : Emitted) (l : Laid) (laid : IsLaid e l) where
           let stand = chosen_stand e.code in
           let read = get_or_default all k d 0 lt in
           let last = below_last (is_wide e.code) 0 e.code all stand k lt in
-          let size = ap (λ (t : List ℕ). length t) laid.text ∙ text_length e.code in
-          let few = laid.few in
-          omega (arith, read, last, size, few)
+          let few = laid_length in
+          omega (arith, read, last, few)
 
   pub can_be_written : (names : ℕ) (frames : List FrameAt) → AreFrames e names frames → CanBeWritten l.starts names frames
   can_be_written names frames are = record {

@@ -15,7 +15,6 @@ use Rattle.jc_base.specs.declared.kind.State.{State}
 use Rattle.jc_base.specs.WellMade.{IsWellMadeOfAnySize}
 use Rattle.jc_base.proofs.MetNamesLaws.{grows_both, grows_none, one_number}
 use Rattle.jc_frames.specs.FullTable.{FitsFull}
-use Rattle.jc_insn.specs.Sizes.{StartAt}
 use Rattle.jc_kinds.specs.Answers.{AreStates, IsStateAt}
 use Rattle.jc_kinds.proofs.NumberLaws.{frames_numbered, grown_count, seen_kept, state_numbered}
 use Rattle.jc_kinds.proofs.GrowLaws.{states_stay}
@@ -28,12 +27,11 @@ use Rattle.jc_plan.proofs.MappedLaws.{length_made, made_of}
 use Rattle.jc_emit.specs.Emission.{emission, IsArrayNumber}
 use Rattle.jc_emit.specs.Shift.{probe_array_class}
 use Rattle.jc_layout.specs.Layable.{IsLayable}
-use Rattle.jc_layout.specs.Layout.{IsChosen, chosen_length, chosen_starts, chosen_text, starts_of}
-use Rattle.jc_layout.specs.declared.layouts.Laid.{Laid}
+use Rattle.jc_layout.specs.Layout.{chosen_length}
 use Rattle.jc_layout.proofs.LayableLaws.{all_formed, all_within, few_in}
-use Rattle.jc_layout.proofs.LayoutLaws.{one_choice, one_list}
+use Rattle.jc_code.proofs.LaidLaws.{laid_length}
 use Rattle.jc_instrument.specs.Analysis.{plans_of, all_probes}
-use Rattle.jc_instrument.specs.Probing.{IsLaid, IsMade, IsMadeOf, work, AreMade, AreProbed, AreShortBelow}
+use Rattle.jc_instrument.specs.Probing.{IsMade, IsMadeOf, work, AreMade, AreProbed, AreShortBelow}
 use Rattle.jc_instrument.specs.RoomCauses.{probed_code}
 use Rattle.jc_instrument.specs.Taking.{frames_in, HasFrames}
 use Rattle.jc_instrument.specs.Works.{Work, bodies_of, IsWork}
@@ -54,17 +52,6 @@ emission_layable b first states array made = record {
   places = all_within b first made.code;
   few = few_in b first states array made.code;
 }
-
-pub layout_is : (code : List Insn) (l : Laid) → IsChosen code l.wide → StartAt l.wide 0 code l.starts → l.code ≡ chosen_text code → chosen_length code ≤ 65535 → IsLaid code l
-unfolding chosen_starts
-layout_is code l chosen starts text short =
-    let wide = one_choice code l.wide chosen in
-    record {
-      wide = wide;
-      starts = one_list l.wide code l.starts starts ∙ ap (λ (t : Bool). starts_of t code) wide;
-      text = text;
-      short = short;
-    }
 
 -- ---- plans
 
@@ -212,7 +199,7 @@ made_count names (w ∷ works) (p ∷ probed) made = ap suc (made_count names wo
 made_short : (names : Names) (b : Body) (first : ℕ) (p : Probed) → IsMadeOf names b first p → chosen_length (probed_code b first) ≤ 65535
 made_short names b first p of =
     subst (λ (code : List Insn). chosen_length code ≤ 65535)
-    (ap (λ (e : Emitted). e.code) of.made.emitted ∙ emission_code b first of.states of.array) of.made.laid.short
+    (ap (λ (e : Emitted). e.code) of.made.emitted ∙ emission_code b first of.states of.array) (laid_length p.emitted p.laid of.made.laid)
 
 pub work_grown : (old new : Names) (bodies : List Body) (i : ℕ) (w : Work) → Grows old new → AreNumberedFrames (length old) w.body.frames
     → IsWork old bodies i w → IsWork new bodies i w

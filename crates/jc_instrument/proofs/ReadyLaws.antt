@@ -39,7 +39,6 @@ use Rattle.jc_instrument.specs.declared.probed.Probed.{Probed}
 use Rattle.jc_instrument.proofs.ContentLaws.{of_content}
 use Rattle.jc_instrument.proofs.GrownPoolLaws.{StandAt, stand_at}
 use Rattle.jc_instrument.proofs.TwinLaws.{each_listed, text_is}
-use Rattle.jc_instrument.proofs.WritableLaws.{laid_for}
 
 -- ---- classes
 
@@ -155,6 +154,6 @@ are_writable pool names places array [] [] made frames classes named = tt
 are_writable pool names places array [] (p ∷ probed) made frames classes named = absurd made
 are_writable pool names places array (w ∷ works) [] made frames classes named = absurd made
 are_writable pool names places array (w ∷ works) (p ∷ probed) made frames classes named = (
-  record { laid = laid_for p made.0.laid; frames = frames.0; classes = classes.0; named = named.0 },
+  record { laid = made.0.laid; frames = frames.0; classes = classes.0; named = named.0 },
   are_writable pool names places array works probed made.1 frames.1 classes.1 named.1,
 )

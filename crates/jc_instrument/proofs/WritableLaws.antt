@@ -40,12 +40,12 @@ use Rattle.jc_emit.proofs.FrameLists.{in_piece, if_listed}
 use Rattle.jc_emit.proofs.RowLaws.{total_grows}
 use Rattle.jc_layout.specs.Layout.{is_wide}
 use Rattle.jc_layout.specs.Merged.{merged}
-use Rattle.jc_layout.proofs.ChoiceLaws.{chosen_count, text_length}
+use Rattle.jc_layout.proofs.ChoiceLaws.{chosen_count}
 use Rattle.jc_layout.proofs.MergedLaws.{merged_cases, merged_rises}
-use Rattle.jc_code.specs.Given.{IsLaid as IsLaidCode}
+use Rattle.jc_code.specs.Given.{IsLaid}
 use Rattle.jc_code.specs.TwinCode.{chosen_frames}
-use Rattle.jc_code.proofs.LaidLaws.{laid_rise}
-use Rattle.jc_instrument.specs.Probing.{IsLaid, IsMade, work}
+use Rattle.jc_code.proofs.LaidLaws.{laid_length, laid_rise}
+use Rattle.jc_instrument.specs.Probing.{IsMade, work}
 use Rattle.jc_instrument.specs.Taking.{frames_in, HasFrames}
 use Rattle.jc_instrument.specs.declared.probed.Probed.{Probed}
 use Rattle.jc_instrument.proofs.ProbingLaws.{array_stands, emission_code}
@@ -341,25 +341,17 @@ above starts rising (suc k) lt =
     let next = subst (λ (n : ℕ). slice_index starts k < slice_index starts n) e (rising k (omega (arith, lt))) in
     omega (arith, before, next)
 
-pub laid_for : (p : Probed) → IsLaid p.emitted.code p.laid → IsLaidCode p.emitted p.laid
-laid_for p laid = record {
-  wide = laid.wide;
-  starts = laid.starts;
-  text = laid.text;
-  few = let e = ap (λ (l : List ℕ). length l) laid.text ∙ text_length p.emitted.code in let short = laid.short in omega (arith, e, short);
-}
-
-few_insns : (p : Probed) → IsLaid p.emitted.code p.laid → length p.emitted.code ≤ 65535
+few_insns : (p : Probed) → IsLaid p.emitted p.laid → length p.emitted.code ≤ 65535
 few_insns p laid =
     let code = p.emitted.code in
     let count = ap (λ (l : List ℕ). length l) laid.starts ∙ chosen_count code in
-    let rising = laid_rise p.emitted p.laid (laid_for p laid) in
+    let rising = laid_rise p.emitted p.laid laid in
     let most = above p.laid.starts rising (length code) (omega (arith, count)) in
     let e = ap (λ (l : List ℕ). slice_index l (length code)) laid.starts in
-    let short = laid.short in
+    let short = laid_length p.emitted p.laid laid in
     omega (arith, most, e, short)
 
-pub frames_chosen : (p : Probed) → IsLaid p.emitted.code p.laid → (p.laid.wide ≡ true → p.merged ≡ merged p.emitted.frames p.emitted.wide_frames) → frames_in p ≡ chosen_frames p.emitted
+pub frames_chosen : (p : Probed) → IsLaid p.emitted p.laid → (p.laid.wide ≡ true → p.merged ≡ merged p.emitted.frames p.emitted.wide_frames) → frames_in p ≡ chosen_frames p.emitted
 frames_chosen p laid merges = by p.laid.wide refl ∙ ap (λ (t : Bool). if t then merged p.emitted.frames p.emitted.wide_frames else p.emitted.frames) laid.wide
   where
     by : (t : Bool) → p.laid.wide ≡ t → (if t then p.merged else p.emitted.frames) ≡ (if t then merged p.emitted.frames p.emitted.wide_frames else p.emitted.frames)

@@ -37,6 +37,7 @@ use Rattle.jc_emit.specs.Straddling.{NoneStraddles}
 use Rattle.jc_emit.proofs.WideFrameLaws.{emitted}
 use Rattle.jc_layout.specs.Layout.{is_wide, chosen_length, chosen_starts, chosen_text}
 use Rattle.jc_layout.specs.Merged.{merged}
+use Rattle.jc_layout.proofs.ChoiceLaws.{text_length}
 use Rattle.jc_code.specs.CodeText.{attribute}
 use Rattle.jc_code.specs.Given.{AreFrames, HaveClasses}
 use Rattle.jc_code.specs.InitText.{init_text}
@@ -195,7 +196,7 @@ frames_are names array x are array_is well fit short locals stack =
     (record {
       method = refl;
       emitted = refl;
-      laid = record { wide = refl; starts = refl; text = refl; short = short };
+      laid = record { wide = refl; starts = refl; text = refl; few = let size = text_length (emitted_of array x).code in omega (arith, size, short) };
       merged = λ wide. refl;
     })
     (emitted x.body x.first x.states array names well fit array_is) locals stack

@@ -3,16 +3,15 @@ use Rattle.std.specs.Prelude.{◌≡◌, ⊤, ℕ, ◌<◌, ◌≤◌, true, Lis
 use Rattle.std.specs.List.{AllByRecursion}
 use Rattle.jc_base.specs.Held.{Names}
 use Rattle.jc_base.specs.declared.body.Body.{Body}
-use Rattle.jc_base.specs.declared.insn.Insn.{Insn}
 use Rattle.jc_base.specs.declared.kind.State.{State}
 use Rattle.jc_base.specs.declared.refusal.Refusal.{Refusal}
 use Rattle.jc_base.specs.declared.refusal.RefusalKind.TheVariants as kinds
 use Rattle.jc_kinds.specs.Answers.{AreStates}
 use Rattle.jc_plan.specs.Probed.{first_id}
 use Rattle.jc_emit.specs.Emission.{IsArrayNumber}
-use Rattle.jc_layout.specs.Layout.{is_wide, chosen_starts, chosen_length, chosen_text}
+use Rattle.jc_layout.specs.Layout.{chosen_length}
 use Rattle.jc_layout.specs.Merged.{merged}
-use Rattle.jc_layout.specs.declared.layouts.Laid.{Laid}
+use Rattle.jc_code.specs.Given.{IsLaid}
 use Rattle.jc_instrument.specs.Causes.{of_method}
 use Rattle.jc_instrument.specs.RoomCauses.{probed_code}
 use Rattle.jc_instrument.specs.Taking.{HasFrames}
@@ -21,18 +20,11 @@ use Rattle.jc_instrument.specs.declared.probed.Probed.{Probed}
 
 -- ---- one body
 
--- the layout is the one that is chosen for the code, which isn't too large
-pub record IsLaid (code : List Insn) (l : Laid) : Type 0 where
-  pub wide : l.wide ≡ is_wide code
-  pub starts : l.starts ≡ chosen_starts code
-  pub text : l.code ≡ chosen_text code
-  pub short : chosen_length code ≤ 65535
-
 -- the instrumented code of the work's body, where the class of the probe array has this number
 pub record IsMade (array : ℕ) (w : Work) (p : Probed) : Type 0 where
   pub method : p.method ≡ w.body.method
   pub emitted : p.emitted ≡ emitted_of array w
-  pub laid : IsLaid p.emitted.code p.laid
+  pub laid : IsLaid p.emitted p.laid
   pub merged : p.laid.wide ≡ true → p.merged ≡ merged p.emitted.frames p.emitted.wide_frames
 
 abbrev pub work : Body → List State → ℕ → Work

@@ -11,8 +11,9 @@ ghost use Rattle.jc_emit.specs.Twin.{IsEmitted};
 ghost use Rattle.jc_layout.specs.Layable.{IsLayable};
 ghost use Rattle.jc_layout.specs.Layout.{chosen_length};
 ghost use Rattle.jc_layout.specs.Merged.{merged};
+ghost use Rattle.jc_code.specs.Given.{IsLaid};
 ghost use Rattle.jc_instrument.specs.Analysis.{plans_of, all_probes};
-ghost use Rattle.jc_instrument.specs.Probing.{IsLaid, IsMadeOf, IsTooLong, IsRefusedAsLarge, AreProbed, IsFirstTooLong};
+ghost use Rattle.jc_instrument.specs.Probing.{IsMadeOf, IsTooLong, IsRefusedAsLarge, AreProbed, IsFirstTooLong};
 ghost use Rattle.jc_instrument.specs.Taking.{HasFrames};
 
 use jc_base::{Body, Emitted, Fail, FrameAt, List, Memory, Names, Plan, Refusal, State};
@@ -84,7 +85,7 @@ fn emitted(
 /// The chosen layout of the code of a method. Code that is too large is refused with the method's number.
 fn laid(alloc: Global, method: u16, emitted: &Emitted) -> Result<Laid, Fail<Refusal>>
     requires { IsLayable emitted.now.code }
-    ensures laid { IfOk result (IsLaid emitted.now.code) }
+    ensures laid { IfOk result (IsLaid emitted.now) }
     ensures refused { IfErr result (λ e. Said e (IsRefusedAsLarge method (chosen_length emitted.now.code))) }
 {
     match layout(alloc, emitted) {
