@@ -19,7 +19,8 @@ use Rattle.jc_code.specs.declared.code.CodePlaces.{CodePlaces}
 use Rattle.jc_code.proofs.CodeTextLaws.{code_text_parts}
 use Rattle.jc_code.proofs.NamedLaws.{are_named}
 
-placed_size : (call : ℕ) (code : List ℕ) → length (with_place call code) ≡ length code
+-- the place of a method has as many bytes as another
+pub placed_size : (call : ℕ) (code : List ℕ) → length (with_place call code) ≡ length code
 placed_size call [] = refl
 placed_size call (a ∷ []) = refl
 placed_size call (a ∷ b ∷ []) = refl

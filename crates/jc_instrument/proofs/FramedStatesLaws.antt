@@ -24,7 +24,8 @@ use Rattle.jc_emit.proofs.TwinPremises.{frame_found, risen}
 use Rattle.jc_emit.proofs.TwinStates.{frame_state_is}
 use Rattle.jc_instrument.specs.Bodies.{AreBodies}
 use Rattle.jc_instrument.specs.Works.{Work, bodies_of, AreWorks, IsWork}
-use Rattle.jc_instrument.proofs.WrittenAgainLaws.{from_at, there_from, body_at}
+use Rattle.jc_instrument.proofs.WrittenAgainLaws.{from_at, there_from}
+use Rattle.jc_instrument.proofs.ListedLaws.{body_at}
 
 -- ---- the frame at an instruction
 

@@ -1,13 +1,25 @@
 -- Bodies that are listed in the order of their methods.
-use Rattle.std.proofs.Common.{◌≡◌, ◌⊎◌, inl, inr, ℕ, zero, suc, ◌+◌, ◌-◌, ◌<◌, ◌≤◌, List, [], ◌∷◌, ◌++◌, length, Some, None, slice_get, refl, sym, ◌∙◌, ap, subst, arith}
+use Rattle.std.proofs.Common.{◌≡◌, ◌⊎◌, inl, inr, ℕ, zero, suc, ◌+◌, ◌-◌, ◌<◌, ◌≤◌, List, [], ◌∷◌, ◌++◌, length, option_map, Some, None, slice_get, refl, sym, ◌∙◌, ap, subst, arith}
+use Rattle.std.specs.List.{AllByRecursion}
 use Rattle.std.proofs.lemmas.Bool.{cases_order}
-use Rattle.std.proofs.lemmas.Option.{slice_get_within}
+use Rattle.std.proofs.lemmas.Option.{none-some, same_Some, slice_get_within, slice_get-map}
 use Rattle.jc_base.specs.Held.{Names, Grows}
 use Rattle.jc_base.specs.declared.body.Body.{Body}
 use Rattle.jc_class.specs.declared.class_file.ClassFile.{ClassFile}
 use Rattle.jc_body.specs.BodyOf.{BodyOf, Bodiless}
 use Rattle.jc_instrument.specs.Bodies.{IsListed, AreBodiesBelow}
+use Rattle.jc_instrument.specs.Works.{Work, bodies_of}
 use Rattle.jc_instrument.proofs.OneBodyLaws.{grown_body}
+
+-- ---- an item
+
+pub all_at : {X : Type 0} (P : X → Type 0) (xs : List X) (i : ℕ) (x : X) → AllByRecursion P xs → slice_get xs i ≡ Some x → P x
+all_at P [] i x all at = absurd (none-some x at)
+all_at P (y ∷ xs) zero x all at = subst P (same_Some y x at) all.0
+all_at P (y ∷ xs) (suc i) x all at = all_at P xs i x all.1 at
+
+pub body_at : (works : List Work) (i : ℕ) (w : Work) → slice_get works i ≡ Some w → slice_get (bodies_of works) i ≡ Some w.body
+body_at works i w stands = slice_get-map (λ (v : Work). v.body) works i ∙ ap (option_map (λ (v : Work). v.body)) stands
 
 -- ---- one more item
 

@@ -29,10 +29,11 @@ use Rattle.jc_instrument.proofs.DecidedLaws.{none_behind}
 use Rattle.jc_instrument.proofs.FramedStatesLaws.{framed_work, same_bodies, works_are, works_fit}
 use Rattle.jc_instrument.proofs.OneTwinLaws.{one_twin}
 use Rattle.jc_instrument.proofs.PoolTextLaws.{class_pool}
+use Rattle.jc_instrument.proofs.ListedLaws.{body_at}
 use Rattle.jc_instrument.proofs.SameWorksLaws.{same_frames}
 use Rattle.jc_instrument.proofs.SomeBodiesLaws.{made_well, passes}
 use Rattle.jc_instrument.proofs.TextSizesLaws.{class_size, method_size}
-use Rattle.jc_instrument.proofs.WrittenAgainLaws.{AreSoundBodies, body_at, texts_short, work_found, written_methods}
+use Rattle.jc_instrument.proofs.WrittenAgainLaws.{AreSoundBodies, texts_short, work_found, written_methods}
 use Rattle.jc_instrument.proofs.WrittenCodeLaws.{HasRoom, code_places, written_code}
 
 -- ---- causes

@@ -13,6 +13,7 @@ use Rattle.jc_code.specs.TwinCode.{written_frames}
 use Rattle.jc_emit.specs.Emission.{emission}
 use Rattle.jc_instrument.specs.SameAnalysis.{without_frames}
 use Rattle.jc_instrument.specs.Works.{Work, AreWorks, all_frames, bodies_of, emitted_of}
+use Rattle.jc_instrument.proofs.ListedLaws.{body_at}
 use Rattle.jc_instrument.proofs.OneBodyLaws.{same_body}
 use Rattle.jc_instrument.proofs.SameAnalysisLaws.{same_below, same_first}
 use Rattle.jc_verify.proofs.SameBodyLaws.{AreSame}
@@ -33,9 +34,6 @@ zip_of_places R (x ∷ xs) (y ∷ ys) count each = (
   each 0 x y refl refl,
   zip_of_places R xs ys (omega (arith, count)) (λ i u v p q. each (suc i) u v p q),
 )
-
-body_at : (works : List Work) (i : ℕ) (w : Work) → slice_get works i ≡ Some w → slice_get (bodies_of works) i ≡ Some w.body
-body_at works i w stands = slice_get-map (λ (v : Work). v.body) works i ∙ ap (option_map (λ (v : Work). v.body)) stands
 
 bare_at : (works : List Work) (i : ℕ) (w : Work) → slice_get works i ≡ Some w
     → slice_get (map without_frames (bodies_of works)) i ≡ Some (without_frames w.body)

@@ -3,6 +3,7 @@ use Rattle.std.proofs.Common.{◌≡◌, ◌⊎◌, inl, inr, ℕ, ◌≤◌, �
 use Rattle.std.specs.List.{AllByRecursion, list_any}
 use Rattle.std.proofs.lemmas.Bool.{cases_lt, ltb-false}
 use Rattle.std.proofs.lemmas.List.{length-append}
+use Rattle.jc_base.proofs.EachLaws.{all_both, all_weaker}
 use Rattle.jc_base.specs.Descriptor.{Array, Boolean, IsFieldDescriptor, IsMethodDescriptor}
 use Rattle.jc_base.specs.Held.{Names}
 use Rattle.jc_emit.specs.Added.{data_name, data_type, init_name, init_type}
@@ -22,10 +23,6 @@ use Rattle.jc_instrument.specs.Works.{Work}
 
 -- ---- lists of parts
 
-all_both : {X : Type 0} (P : X → Type 0) (xs ys : List X) → AllByRecursion P xs → AllByRecursion P ys → AllByRecursion P (xs ++ ys)
-all_both P [] ys all more = more
-all_both P (x ∷ xs) ys all more = (all.0, all_both P xs ys all.1 more)
-
 all_behind : {X : Type 0} (P : X → Type 0) (xs ys : List X) → AllByRecursion P (xs ++ ys) → AllByRecursion P ys
 all_behind P [] ys all = all
 all_behind P (x ∷ xs) ys all = all_behind P xs ys all.1
@@ -33,10 +30,6 @@ all_behind P (x ∷ xs) ys all = all_behind P xs ys all.1
 all_front : {X : Type 0} (P : X → Type 0) (xs ys : List X) → AllByRecursion P (xs ++ ys) → AllByRecursion P xs
 all_front P [] ys all = tt
 all_front P (x ∷ xs) ys all = (all.0, all_front P xs ys all.1)
-
-all_turned : {X : Type 0} (P Q : X → Type 0) → ((x : X) → P x → Q x) → (xs : List X) → AllByRecursion P xs → AllByRecursion Q xs
-all_turned P Q turn [] all = tt
-all_turned P Q turn (x ∷ xs) all = (turn x all.0, all_turned P Q turn xs all.1)
 
 one_more : {X : Type 0} (xs : List X) (x : X) → length xs ≤ 65535 → (length xs ≡ 65535 → ⊥) → length (xs ++ x ∷ []) ≤ 65535
 one_more xs x few room = by (cases_lt 65534 (length xs))
@@ -88,7 +81,7 @@ module _ (old new : PoolValue) (more : Extends old new) where
   attribute_kept a is = record { name = text_kept a.name is.name; size = is.size }
 
   attributes_kept : (l : List Attribute) → AreCounted (IsAttribute (HasText old)) l → AreCounted (IsAttribute (HasText new)) l
-  attributes_kept l are = record { few = are.few; each = all_turned (IsAttribute (HasText old)) (IsAttribute (HasText new)) attribute_kept l are.each }
+  attributes_kept l are = record { few = are.few; each = all_weaker (IsAttribute (HasText old)) (IsAttribute (HasText new)) attribute_kept l are.each }
 
   member_kept : (m : Member) → IsMember (HasText old) (HasFieldDescriptor old) m → IsMember (HasText new) (HasFieldDescriptor new) m
   member_kept m is = record {
@@ -172,11 +165,11 @@ twin_is_class id names array works c twin is room out short =
       this_class = subst (HasClass new) (sym out.this_class) (class_kept old new more c.this_class is.this_class);
       super_class = subst (HasSuper new) (sym out.super_class) (super_kept old new more c.super_class is.super_class);
       interfaces = subst (AreCounted (HasClass new)) (sym out.interfaces)
-          (record { few = is.interfaces.few; each = all_turned (HasClass old) (HasClass new) (class_kept old new more) c.interfaces is.interfaces.each });
+          (record { few = is.interfaces.few; each = all_weaker (HasClass old) (HasClass new) (class_kept old new more) c.interfaces is.interfaces.each });
       fields = subst (AreCounted (IsMember (HasText new) (HasFieldDescriptor new))) (sym out.fields) (record {
         few = one_more c.fields out.field is.fields.few (λ full. room (inl full));
         each = all_both (IsMember (HasText new) (HasFieldDescriptor new)) c.fields (out.field ∷ [])
-            (all_turned (IsMember (HasText old) (HasFieldDescriptor old)) (IsMember (HasText new) (HasFieldDescriptor new)) (member_kept old new more) c.fields is.fields.each) (
+            (all_weaker (IsMember (HasText old) (HasFieldDescriptor old)) (IsMember (HasText new) (HasFieldDescriptor new)) (member_kept old new more) c.fields is.fields.each) (
               record {
                 name = (data_name, out.field_is.name);
                 desc = (data_type, out.field_is.desc, data_described);

@@ -62,6 +62,7 @@ use Rattle.jc_instrument.proofs.TakingLaws.{each_extends}
 use Rattle.jc_instrument.proofs.TwinLaws.{each_listed}
 use Rattle.jc_instrument.proofs.TwinMethodLaws.{same_code}
 use Rattle.jc_instrument.proofs.WritableLaws.{has_frames}
+use Rattle.jc_instrument.proofs.ListedLaws.{all_at, body_at}
 use Rattle.jc_instrument.proofs.WrittenCodeLaws.{code_places}
 
 -- ---- lists
@@ -82,11 +83,6 @@ there_from f k (y ∷ xs) zero x at =
 there_from f k (y ∷ xs) (suc i) x at =
     let e : k + 1 + i ≡ k + suc i = omega arith in
     there_from f (k + 1) xs i x at ∙ ap (λ n. Some (f n x)) e
-
-all_at : {X : Type 0} (P : X → Type 0) (xs : List X) (i : ℕ) (x : X) → AllByRecursion P xs → slice_get xs i ≡ Some x → P x
-all_at P [] i x all at = absurd (none-some x at)
-all_at P (y ∷ xs) zero x all at = subst P (same_Some y x at) all.0
-all_at P (y ∷ xs) (suc i) x all at = all_at P xs i x all.1 at
 
 -- ---- the work of a method
 
@@ -208,9 +204,6 @@ pub record AreSoundBodies (names : Names) (bodies : List Body) : Type 0 where
   pub well_made : (i : ℕ) (b : Body) → slice_get bodies i ≡ Some b → IsWellMadeOfAnySize b
   pub checked : (i : ℕ) (b : Body) → slice_get bodies i ≡ Some b → Checked names b
   pub none_straddles : (i : ℕ) (b : Body) → slice_get bodies i ≡ Some b → NoneStraddles b
-
-pub body_at : (works : List Work) (i : ℕ) (x : Work) → slice_get works i ≡ Some x → slice_get (bodies_of works) i ≡ Some x.body
-body_at works i x at = slice_get-map (λ (w : Work). w.body) works i ∙ ap (option_map (λ (w : Work). w.body)) at
 
 module _ (id : ℕ) (names : Names) (array : ℕ) (works : List Work) (c : ClassFile) (pool : PoolValue) (places : MemberPlaces)
     (are : AreWorks names array c works) (takes : TakesNeeds id names array c works pool places) (few : length pool ≤ 65535)

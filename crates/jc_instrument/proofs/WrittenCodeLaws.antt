@@ -29,6 +29,7 @@ use Rattle.jc_verify.specs.WrittenCode.{IsWrittenCode}
 use Rattle.jc_verify.proofs.ReadBytesLaws.{HasOnlyBytes}
 use Rattle.jc_verify.proofs.ReadNumbersLaws.{body_short}
 use Rattle.jc_verify.proofs.WrittenCodeLaws.{written_code as code_written}
+use Rattle.jc_instrument.proofs.ListedLaws.{all_at, body_at}
 use Rattle.jc_instrument.specs.Analysis.{all_probes}
 use Rattle.jc_instrument.specs.Contents.{Content, member_entry, text_entry}
 use Rattle.jc_instrument.specs.Members.{AreTextPlaces, IsFirstIfAny}
@@ -106,16 +107,6 @@ member_within pool place m is = by (cases_lt place (length pool))
     by (inr past) = absurd (none-some m (sym (none_past pool place past).0 ∙ is))
 
 -- ---- lists
-
-body_at : (works : List Work) (i : ℕ) (x : Work) → slice_get works i ≡ Some x → slice_get (bodies_of works) i ≡ Some x.body
-body_at [] i x at = absurd cc
-body_at (w ∷ works) zero x at = ap (λ (w : Work). Some w.body) (same_Some w x at)
-body_at (w ∷ works) (suc i) x at = body_at works i x at
-
-of_each : {X : Type 0} (P : X → Type 0) (xs : List X) (i : ℕ) (x : X) → AllByRecursion P xs → slice_get xs i ≡ Some x → P x
-of_each P [] i x all at = absurd cc
-of_each P (y ∷ xs) zero x all at = subst P (same_Some y x at) all.0
-of_each P (y ∷ xs) (suc i) x all at = of_each P xs i x all.1 at
 
 -- the ids of a body are among those of all bodies
 ids_among : (bodies : List Body) (i : ℕ) (b : Body) → slice_get bodies i ≡ Some b → first_id bodies i + probe_count b ≤ all_probes bodies
@@ -196,7 +187,7 @@ module _ (id : ℕ) (names : Names) (array : ℕ) (c : ClassFile) (works : List 
       let b = x.body in
       let there = body_at works i x at in
       let body : BodyOf names c b.method b = w.are.bodies.each i b there in
-      let only = of_each HasOnlyBytes c.methods b.method body.method bytes body.at in
+      let only = all_at HasOnlyBytes c.methods b.method body.method bytes body.at in
       let first = (w.are.each i x at).first in
       let ids = ids_among (bodies_of works) i b there in
       let few = room.probes in

@@ -59,6 +59,7 @@ use Rattle.jc_instrument_laws.proofs.NamedStatesLaws.{HasTexts, entry_named, fra
 use Rattle.jc_instrument_laws.proofs.NamedStepsLaws.{AreNamed, UseNamed, bytes_by}
 use Rattle.jc_instrument_laws.proofs.PoolSpellingLaws.{IsPlain, IsSpelledLong, IsText, each_spelled, spelled_pool}
 use Rattle.jc_instrument.proofs.PoolTextLaws.{IsReadPool, class_are, class_pool, class_short, utf8_are, utf8_short}
+use Rattle.jc_instrument.proofs.ListedLaws.{all_at, body_at}
 use Rattle.jc_instrument.proofs.ProbingLaws.{emission_code}
 use Rattle.jc_instrument_laws.proofs.ReadClassLaws.{IsReadClass, AreReadItems, class_read, code_read, id_below, items_read}
 use Rattle.jc_instrument.proofs.RoomDecidedLaws.{has_local_room, has_stack_room, short_code}
@@ -73,19 +74,9 @@ use Rattle.jc_instrument_laws.proofs.WrittenSizesLaws.{written_few}
 
 -- ---- lists
 
-at_index : {X : Type 0} (P : X → Type 0) (xs : List X) (i : ℕ) (x : X) → AllByRecursion P xs → slice_get xs i ≡ Some x → P x
-at_index P [] i x all at = absurd (none-some x at)
-at_index P (y ∷ xs) zero x all at = subst P (same_Some y x at) all.0
-at_index P (y ∷ xs) (suc i) x all at = at_index P xs i x all.1 at
-
 by_index : {X : Type 0} (P : X → Type 0) (xs : List X) → ((i : ℕ) (x : X) → slice_get xs i ≡ Some x → P x) → AllByRecursion P xs
 by_index P [] each = tt
 by_index P (x ∷ xs) each = (each 0 x refl, by_index P xs (λ i y at. each (suc i) y at))
-
-body_stands : (works : List Work) (i : ℕ) (w : Work) → slice_get works i ≡ Some w → slice_get (bodies_of works) i ≡ Some w.body
-body_stands [] i w at = absurd (none-some w at)
-body_stands (x ∷ works) zero w at = ap (λ (y : Work). Some y.body) (same_Some x w at)
-body_stands (x ∷ works) (suc i) w at = body_stands works i w at
 
 -- ---- what is used
 
@@ -140,7 +131,7 @@ module _ (bytes : List ℕ) (c : ClassFile) (text : ClassText bytes c) (is : IsC
     b = x.body
 
     body : BodyOf w.names c b.method b
-    body = w.are.bodies.each i b (body_stands w.works i x at)
+    body = w.are.bodies.each i b (body_at w.works i x at)
 
     few_bytes : method_size body.method ≤ most_read
     few_bytes =
@@ -152,7 +143,7 @@ module _ (bytes : List ℕ) (c : ClassFile) (text : ClassText bytes c) (is : IsC
     made = is_well_made w.names c b.method body.method b read few_bytes body.is
 
     of_bytes : IsOfBytes body.method
-    of_bytes = at_index IsOfBytes c.methods b.method body.method given.methods body.at
+    of_bytes = all_at IsOfBytes c.methods b.method body.method given.methods body.at
 
     code_bytes : AreReadItems body.is.coded.items
     code_bytes =
@@ -160,7 +151,7 @@ module _ (bytes : List ℕ) (c : ClassFile) (text : ClassText bytes c) (is : IsC
         (code_read c.pool body.method body.is.is.items.bytes of_bytes body.is.is.items.code) body.is.is.items.text.text
 
     described : HasMethodDescriptor c.pool body.method.desc
-    described = (at_index (IsMember (HasText c.pool) (HasMethodDescriptor c.pool)) c.methods b.method body.method is.methods.each body.at).desc
+    described = (all_at (IsMember (HasText c.pool) (HasMethodDescriptor c.pool)) c.methods b.method body.method is.methods.each body.at).desc
 
     owner_text : IsText b.owner
     owner_text = record { short = made.of_any_size.sizes.owner; are = class_are c.pool read.each c.this_class b.owner body.is.parts.owner }
@@ -217,7 +208,7 @@ module _ (bytes : List ℕ) (c : ClassFile) (text : ClassText bytes c) (is : IsC
 
     short_here : chosen_length (probed_code b x.first) ≤ 65535
     short_here =
-        let stands = body_stands w.works i x at in
+        let stands = body_at w.works i x at in
         subst (λ (n : ℕ). chosen_length (probed_code b n) ≤ 65535) (sym (w.are.each i x at).first)
         (all_short i b (slice_get_within (bodies_of w.works) i b stands) stands)
 

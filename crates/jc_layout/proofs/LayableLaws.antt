@@ -46,12 +46,12 @@ some_within xs q x h =
     differ : {X : Type 0} (x : X) → None ≡ Some x → ⊥
     differ x e = cc
 
-each_mapped : (f : ℕ → ℕ) (P : ℕ → Type 0) (xs : List ℕ) → ((x : ℕ) → Contains xs x → P (f x)) → AllByRecursion P (map f xs)
+pub each_mapped : (f : ℕ → ℕ) (P : ℕ → Type 0) (xs : List ℕ) → ((x : ℕ) → Contains xs x → P (f x)) → AllByRecursion P (map f xs)
 each_mapped f P [] h = tt
 each_mapped f P (x ∷ xs) h = (h x (contains_first x xs), each_mapped f P xs (λ y c. h y (contains_later x xs y c)))
 
 -- the branch of a switch's target
-branch_of : (i k : ℕ) (ts : List ℕ) (t : ℕ) → Contains ts t → (x : Branch) × Contains (map_from (arm i) k ts) x × (to_of x ≡ t)
+pub branch_of : (i k : ℕ) (ts : List ℕ) (t : ℕ) → Contains ts t → (x : Branch) × Contains (map_from (arm i) k ts) x × (to_of x ≡ t)
 branch_of i k [] t c = absurd (contains_none t c)
 branch_of i k (s ∷ ts) t c =
     ⊎_elim

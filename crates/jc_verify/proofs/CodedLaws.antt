@@ -1,5 +1,5 @@
 -- A Code attribute is read as it was written (JVM Specification 4.7.3).
-use Rattle.std.proofs.Common.{◌≡◌, ℕ, ◌<◌, ◌≤◌, List, [], ◌∷◌, ◌++◌, length, map, refl, sym, ◌∙◌, ap, subst, arith, length-append}
+use Rattle.std.proofs.Common.{◌≡◌, ℕ, ◌<◌, ◌≤◌, List, [], ◌∷◌, ◌++◌, length, map, refl, sym, ◌∙◌, ap, subst, arith}
 use Rattle.std.specs.List.{AllByRecursion, flat_map}
 use Rattle.std.proofs.lemmas.List.{append-nil}
 use Rattle.jc_base.proofs.EachLaws.{all_both, all_weaker}
@@ -11,7 +11,7 @@ use Rattle.jc_base.specs.declared.emitted.Emitted.{Emitted}
 use Rattle.jc_base.specs.declared.kind.State.{State}
 use Rattle.jc_insn.specs.Spells.{Spells}
 use Rattle.jc_insn.specs.Writing.{short, word}
-use Rattle.jc_insn.proofs.ReadBackLaws.{big_short, big_word, short_size}
+use Rattle.jc_insn.proofs.ReadBackLaws.{big_short, big_word}
 use Rattle.jc_pool.specs.Pool.{PoolValue}
 use Rattle.jc_class.specs.ClassFormat.{HasText}
 use Rattle.jc_class.specs.declared.class_file.Attribute.{Attribute}
@@ -29,6 +29,7 @@ use Rattle.jc_code.specs.TwinCode.{attributes_by, code_attributes, kind_vars_nam
 use Rattle.jc_code.specs.declared.code.CodePlaces.{CodePlaces}
 use Rattle.jc_code.proofs.FirstPlaceLaws.{text_within}
 use Rattle.jc_code.proofs.NamedLaws.{are_named}
+use Rattle.jc_code.proofs.TwinCodeLaws.{placed_size}
 use Rattle.jc_verify.specs.ReadCode.{row_at, written_coded, written_insns, written_items, written_starts}
 use Rattle.jc_verify.specs.WrittenCode.{IsWrittenCode, frames_name}
 use Rattle.jc_verify.proofs.CodeSizeLaws.{attributes_few, attributes_in, bodies_short}
@@ -101,13 +102,6 @@ module _ (pool : PoolValue) (few : length pool ≤ 65535) where
   readable (a ∷ rest) named short = (readable_one a named.0 short.0, readable rest named.1 short.1)
 
 -- ---- the written code
-
--- the place of a method has as many bytes as another
-placed_length : (call : ℕ) (code : List ℕ) → length (with_place call code) ≡ length code
-placed_length call [] = refl
-placed_length call (a ∷ []) = refl
-placed_length call (a ∷ b ∷ []) = refl
-placed_length call (a ∷ b ∷ c ∷ code) = let both = length-append (a ∷ short call) code in let size = short_size call in omega (arith, both, size)
 
 module _ (pool : PoolValue) (places : CodePlaces) (names : Names) (e : Emitted) (w : IsWrittenCode pool places names e) where
   abbrev offset : ℕ → ℕ
@@ -183,7 +177,7 @@ module _ (pool : PoolValue) (places : CodePlaces) (names : Names) (e : Emitted) 
       (readable pool w.pool_few placed all_named (bodies_short 4294967295 placed texts_short))
 
   pub code_size : length (with_place places.method (chosen_text e.code)) ≡ chosen_length e.code
-  code_size = placed_length places.method (chosen_text e.code) ∙ text_length e.code
+  code_size = placed_size places.method (chosen_text e.code) ∙ text_length e.code
 
   -- the text is of the form of a Code attribute
   items_read : (code_form pool).Text (twin_code pool places.method places.frames names e) (written_items pool places names e)

@@ -5,7 +5,7 @@ use Rattle.std.specs.List.{AllByRecursion}
 use Rattle.std.proofs.lemmas.Bool.{and_parts, cases_lt}
 use Rattle.std.proofs.lemmas.Int.{fits_signed_from_abs}
 use Rattle.std.proofs.lemmas.List.{get_or_past}
-use Rattle.std.proofs.lemmas.List.Elements.{All-cons, All-map, All-nil}
+use Rattle.std.proofs.lemmas.List.Elements.{All-map}
 use Rattle.jc_base.proofs.EachLaws.{all_both, all_of_each}
 use Rattle.jc_base.specs.Flow.{flow_of, jump_target, targets_of}
 use Rattle.jc_base.specs.Insn.{with_places}
@@ -26,6 +26,7 @@ use Rattle.jc_plan.specs.Edges.{branches, exit, jump}
 use Rattle.jc_plan.specs.Plan.{lead_probe}
 use Rattle.jc_plan.specs.Probed.{Position, id_if, is_before, is_probed, position_of, probe_count, probe_of, probes_before}
 use Rattle.jc_plan.proofs.CountLaws.{count_le}
+use Rattle.jc_frames.proofs.ReadLaws.{each_of}
 use Rattle.jc_insn.specs.Layouts.{laid_code, laid_starts}
 use Rattle.jc_insn.specs.Spells.{Spells}
 use Rattle.jc_insn.specs.Writing.{AllNear, IsInRange, code_text}
@@ -41,10 +42,6 @@ use Rattle.jc_emit.specs.TwinCode.{arm_place, to_of}
 use Rattle.jc_layout.specs.Layout.{chosen_length, chosen_starts, chosen_text, is_wide}
 use Rattle.jc_layout.proofs.ChoiceLaws.{chosen_stand, near}
 use Rattle.jc_layout.proofs.LayableLaws.{all_formed, all_within}
-
-all_by : {X : Type 0} (P : X → Type 0) (xs : List X) → AllByRecursion P xs → All P xs
-all_by P [] all = All-nil P
-all_by P (x ∷ xs) all = All-cons P x xs all.0 (all_by P xs all.1)
 
 -- ---- numbers of instructions
 
@@ -208,7 +205,7 @@ module _ (b : Body) (first : ℕ) (states : List State) (array : ℕ) (well : Is
       (all_of_each IsInRange (insn_of 0 b.arg_slots) (twin_items b first false) (each_mapped (twin_items b first false) items_fit))
 
   places_fit : All (λ insn. All (λ to. to < length code) (targets_of insn)) code
-  places_fit k d lt = all_by (λ to. to < length code) (targets_of (get_or code k d)) (all_within b first well.code k d lt)
+  places_fit k d lt = each_of (λ to. to < length code) (targets_of (get_or code k d)) (all_within b first well.code k d lt)
 
 -- ---- layouts
 

@@ -5,9 +5,8 @@ use Rattle.std.specs.List.{AllByRecursion}
 use Rattle.std.proofs.lemmas.Bool.{cond_both}
 use Rattle.std.proofs.lemmas.Option.{none-some, same_Some, slice_get_within}
 use Rattle.jc_base.proofs.EachLaws.{all_weaker}
-use Rattle.jc_base.proofs.FirstSeenLaws.{contains_none, contains_cases, contains_first, contains_later, first_seen_all}
+use Rattle.jc_base.proofs.FirstSeenLaws.{first_seen_all}
 use Rattle.jc_base.specs.FirstSeen.{first_seen}
-use Rattle.jc_base.specs.PlainLists.{map_from}
 use Rattle.jc_base.specs.Flow.{flow_of, targets_of, FallsThrough}
 use Rattle.jc_base.specs.Insn.{with_places}
 use Rattle.jc_base.specs.InsnUse.{LeadsWithin, LocalsWithin, is_of_two_slots, locals_of}
@@ -19,7 +18,7 @@ use Rattle.jc_base.specs.declared.insn.Flow.{Flow}
 use Rattle.jc_base.specs.declared.insn.Flow.TheVariants as flows
 use Rattle.jc_base.specs.declared.body.Body.{Body}
 use Rattle.jc_plan.specs.declared.branch.Branch.{Branch}
-use Rattle.jc_plan.specs.Edges.{arm, branches_by}
+use Rattle.jc_plan.specs.Edges.{branches_by}
 use Rattle.jc_plan.specs.Probed.{probe_of}
 use Rattle.jc_after.specs.Shift.{slot_of, with_slot}
 use Rattle.jc_emit.specs.Marks.{push}
@@ -30,6 +29,7 @@ use Rattle.jc_emit.specs.Local.{Stands, Lands, Ok, OkImage}
 use Rattle.jc_emit.proofs.PlacedLaws.{flow_push, flow_shifted, targets_placed, no_targets, inverse_targets, placed_targets, goto_stops, switch_stops, no_fall_goto, never}
 use Rattle.jc_emit.proofs.Others.{jumps_target}
 use Rattle.jc_emit.proofs.LocalLaws.{twin_ok}
+use Rattle.jc_layout.proofs.LayableLaws.{branch_of, each_mapped}
 
 -- ---- mapped lists
 
@@ -112,19 +112,6 @@ push_locals n =
     (λ many. cond_both (nat_le n 127) (insns.Push 16 (pos n)) (insns.Push 17 (pos n)) (λ x. locals_of x ≡ []) (λ h. refl) (λ h. refl))
 
 -- ---- where instructions lead
-
-each_mapped : (f : ℕ → ℕ) (P : ℕ → Type 0) (xs : List ℕ) → ((x : ℕ) → Contains xs x → P (f x)) → AllByRecursion P (map f xs)
-each_mapped f P [] h = tt
-each_mapped f P (x ∷ xs) h = (h x (contains_first x xs), each_mapped f P xs (λ y c. h y (contains_later x xs y c)))
-
--- the branch of a switch's target
-branch_of : (i k : ℕ) (ts : List ℕ) (t : ℕ) → Contains ts t → (x : Branch) × Contains (map_from (arm i) k ts) x × (to_of x ≡ t)
-branch_of i k [] t c = absurd (contains_none t c)
-branch_of i k (s ∷ ts) t c =
-    ⊎_elim
-    (λ same. (arm i k s, contains_first (arm i k s) (map_from (arm i) (k + 1) ts), same))
-    (λ later. let x = branch_of i (k + 1) ts t later in (x.0, contains_later (arm i k s) (map_from (arm i) (k + 1) ts) x.0 x.1, x.2))
-    (contains_cases s ts t c)
 
 module _ (b : Body) (first : ℕ) (wide : Bool) (call : ℕ) (is_code : IsCode b.code) where
   abbrev pub items : List Item
