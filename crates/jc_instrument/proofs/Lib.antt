@@ -3,6 +3,7 @@ pub mod OneBodyLaws
 pub mod ListedLaws
 pub mod FrameCauseLaws
 pub mod ReadingLaws
+pub mod KeptStatesLaws
 pub mod CheckingLaws
 pub mod WholeLaws
 pub mod OneReasonLaws

@@ -15,10 +15,7 @@ use Rattle.jc_base.specs.declared.kind.State.{State}
 use Rattle.jc_base.specs.WellMade.{IsWellMadeOfAnySize}
 use Rattle.jc_base.proofs.MetNamesLaws.{grows_both, grows_none, one_number}
 use Rattle.jc_frames.specs.FullTable.{FitsFull}
-use Rattle.jc_kinds.specs.Answers.{AreStates, IsStateAt}
-use Rattle.jc_kinds.proofs.NumberLaws.{frames_numbered, grown_count, seen_kept, state_numbered}
-use Rattle.jc_kinds.proofs.GrowLaws.{states_stay}
-use Rattle.jc_kinds.specs.States.{state_of}
+use Rattle.jc_kinds.proofs.NumberLaws.{frames_numbered, grown_count, state_numbered}
 use Rattle.jc_base.specs.declared.plan.Plan.{Plan}
 use Rattle.jc_plan.specs.Plan.{plan_of}
 use Rattle.jc_plan.specs.Probed.{probe_count, first_id}
@@ -36,6 +33,7 @@ use Rattle.jc_instrument.specs.RoomCauses.{probed_code}
 use Rattle.jc_instrument.specs.Taking.{frames_in, HasFrames}
 use Rattle.jc_instrument.specs.Works.{Work, bodies_of, IsWork}
 use Rattle.jc_instrument.specs.declared.probed.Probed.{Probed}
+use Rattle.jc_instrument.proofs.KeptStatesLaws.{states_grown}
 use Rattle.jc_instrument.proofs.ListedLaws.{below_or_last, put_cases}
 use Rattle.jc_instrument.proofs.PlanningLaws.{first_more}
 
@@ -74,18 +72,6 @@ module _ (bodies : List Body) (plans : List Plan) (are : plans ≡ plans_of bodi
       omega (arith, more, most, next, few)
 
 -- ---- more names
-
-pub states_grown : (old new : Names) (b : Body) (states : List State) → Grows old new → AreNumberedFrames (length old) b.frames → AreStates old b states → AreStates new b states
-states_grown old new b states grows numbered are = record { count = are.count; each = each }
-  where
-    each : (i : ℕ) (s : State) → slice_get states i ≡ Some s → IsStateAt new b i s
-    each i s at =
-        let there = are.each i s at in
-        record {
-          is = ap (λ (l : Names). state_of l b i) grows.1 ∙ states_stay old grows.0 b numbered i ∙ there.is ∙ ap Some (sym (seen_kept old new s grows there.numbered));
-          numbered = state_numbered (length old) (length new) s (grown_count old new grows) there.numbered;
-          well_made = there.well_made;
-        }
 
 -- a name stands at the number of the class of the probe array
 pub array_stands : (names : Names) (array : ℕ) → IsArrayNumber names array → slice_get names array ≡ Some probe_array_class

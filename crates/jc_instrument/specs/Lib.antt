@@ -3,6 +3,7 @@ pub mod Causes
 pub mod Reasons
 pub mod Bodies
 pub mod Analysis
+pub mod KeptStates
 pub mod Steps
 pub mod SameAnalysis
 pub mod Contents

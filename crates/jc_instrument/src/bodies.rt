@@ -1,5 +1,5 @@
 //! The bodies of a class.
-ghost use Rattle.std.specs.Prelude.{◌<◌, ◌+◌, length, All, IfOk, IfErr, OnOk};
+ghost use Rattle.std.specs.Prelude.{◌<◌, ◌≤◌, ◌+◌, length, All, IfOk, IfErr, OnOk};
 ghost use Rattle.jc_base.specs.Held.{Grows};
 ghost use Rattle.jc_base.specs.Outside.{most_read};
 ghost use Rattle.jc_base.specs.WellMade.{IsWellMade};
@@ -8,11 +8,12 @@ ghost use Rattle.jc_class.specs.Sizes.{BodiesWithin};
 ghost use Rattle.jc_kinds.specs.Answers.{Said};
 ghost use Rattle.jc_instrument.specs.Bodies.{AreBodies, AreBodiesOf};
 ghost use Rattle.jc_instrument.specs.Causes.{NoCause, IsFirstCause};
+ghost use Rattle.jc_instrument.specs.KeptStates.{places_kept, AreKeptStates};
 ghost use Rattle.jc_instrument.specs.Reasons.{method_causes, code_causes, analysis_causes};
 ghost use Rattle.jc_instrument.specs.Steps.{IsReading, IsSubroutineAt, AreCheckedUnder, AreCheckedBodies};
 
 use crate::alone::{interface_refusal, is_left_alone};
-use crate::checks::check_bodies;
+use crate::checks::{KeptStates, check_bodies};
 use crate::class::class_refusal;
 use crate::kept::keep_first;
 use jc_base::{Body, Fail, List, Memory, Names, Refusal, RefusalKind};
@@ -27,6 +28,15 @@ pub struct Reading {
     pub bodies: List<Body>,
     /// The first fault of their code, none of which is a subroutine instruction.
     pub bad: Option<Refusal>,
+}
+
+/// The bodies of a class's methods, each of which passes the kind check.
+#[derive(Debug, Drop)]
+pub struct NamedBodies {
+    /// The bodies.
+    pub bodies: List<Body>,
+    /// The states of each body, where they are kept.
+    pub states: KeptStates,
 }
 
 /// Reads one more method.
@@ -87,24 +97,27 @@ fn read_bodies(
 }
 
 /// The bodies of a class's methods, each of which passes the kind check, with classes in their frames by their numbers
-/// in `names`.
+/// in `names`; and the states of those for which there is room.
 pub fn named_bodies(
     alloc: Global,
     class: &ClassFile,
+    room: usize,
     names: &mut Names,
-) -> Result<List<Body>, Fail<Refusal>>
+) -> Result<NamedBodies, Fail<Refusal>>
     requires class { IsClassFile class.now }
     requires sizes { All (λ m. BodiesWithin most_read m.attributes) class.now.methods }
-    ensures bodies { IfOk result (AreCheckedUnder names.new class.now) }
-    ensures well_made { IfOk result (All IsWellMade) }
+    ensures bodies { IfOk result (λ named. AreCheckedUnder names.new class.now named.bodies) }
+    ensures well_made { IfOk result (λ named. All IsWellMade named.bodies) }
+    ensures states { IfOk result (λ named. AreKeptStates names.new named.bodies named.states) }
+    ensures few { IfOk result (λ named. places_kept named.bodies named.states ≤ room) }
     ensures refused { IfErr result (λ e. Said e (IsFirstCause (code_causes class.now))) }
 {
     let bodies = read_bodies(alloc, class, names)?;
-    check_bodies(alloc, &bodies, names)?;
-    Ok(bodies)
+    let states = check_bodies(alloc, &bodies, room, names)?;
+    Ok(NamedBodies { bodies, states })
 }
 
-/// The same, with names that aren't kept.
+/// The bodies alone, with names that aren't kept.
 fn checked_bodies(alloc: Global, class: &ClassFile) -> Result<List<Body>, Fail<Refusal>>
     requires class { IsClassFile class.now }
     requires sizes { All (λ m. BodiesWithin most_read m.attributes) class.now.methods }
@@ -113,8 +126,8 @@ fn checked_bodies(alloc: Global, class: &ClassFile) -> Result<List<Body>, Fail<R
     ensures refused { IfErr result (λ e. Said e (IsFirstCause (code_causes class.now))) }
 {
     let mut names = Names::new(alloc)?;
-    let bodies = named_bodies(alloc, class, &mut names)?;
-    Ok(bodies)
+    let named = named_bodies(alloc, class, 0, &mut names)?;
+    Ok(named.bodies)
 }
 
 /// The bodies of a class: none where it stays as it is, else those of its methods, each of which passes the kind

@@ -24,7 +24,7 @@ pub fn plans_of(alloc: Global, bodies: &[Body]) -> Result<Planned, Memory>
     ensures plans { IfOk result (λ planned. planned.plans ≡ plans_of bodies.now) }
     ensures probes { IfOk result (λ planned. planned.probes ≡ all_probes bodies.now) }
 {
-    let mut plans = List::new(alloc);
+    let mut plans = List::from_vec(Vec::with_capacity(alloc, bodies.len())?);
     let mut first = 0;
     'planning: for body in bodies {
         let next = plan(alloc, body, first)?;

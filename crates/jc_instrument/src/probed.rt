@@ -1,4 +1,5 @@
 //! The instrumented code of the bodies of a class.
+ghost use Rattle.std.specs.Option.{ForSome};
 ghost use Rattle.std.specs.Prelude.{◌≡◌, ◌≤◌, ℕ, true, length, All, IfOk, IfErr};
 ghost use Rattle.jc_base.specs.FrameOrder.{RiseFrom};
 ghost use Rattle.jc_base.specs.Held.{Grows, AreNumberedFrames};
@@ -13,9 +14,11 @@ ghost use Rattle.jc_layout.specs.Layout.{chosen_length};
 ghost use Rattle.jc_layout.specs.Merged.{merged};
 ghost use Rattle.jc_code.specs.Given.{IsLaid};
 ghost use Rattle.jc_instrument.specs.Analysis.{plans_of, all_probes};
+ghost use Rattle.jc_instrument.specs.KeptStates.{AreKeptStates};
 ghost use Rattle.jc_instrument.specs.Probing.{IsMadeOf, IsTooLong, IsRefusedAsLarge, AreProbed, IsFirstTooLong};
 ghost use Rattle.jc_instrument.specs.Taking.{HasFrames};
 
+use crate::checks::KeptStates;
 use jc_base::{Body, Emitted, Fail, FrameAt, List, Memory, Names, Plan, Refusal, State};
 use jc_code::merged_frames;
 use jc_emit::emit;
@@ -39,15 +42,25 @@ pub struct Probed {
     pub merged: List<FrameAt>,
 }
 
-/// The states before the instructions of a body that passes the kind check.
-fn known_states(alloc: Global, body: &Body, names: &mut Names) -> Result<Vec<State>, Memory>
+/// The states before the instructions of a body that passes the kind check: those that were kept, or else they are
+/// found anew.
+fn known_states(
+    alloc: Global,
+    body: &Body,
+    kept: Option<List<State>>,
+    names: &mut Names,
+) -> Result<List<State>, Memory>
     requires made { IsWellMade body.now }
+    requires kept { ForSome kept (AreStates names.old body.now) }
     requires frames { AreNumberedFrames (length names.old) body.now.frames }
-    ensures states { IfOk result (λ states. AreStates names.new body.now states.items) }
+    ensures states { IfOk result (AreStates names.new body.now) }
     ensures names { Grows names.old names.new }
 {
+    if let Some(states) = kept {
+        return Ok(states);
+    }
     match states(alloc, body, names) {
-        Ok(states) => Ok(states),
+        Ok(states) => Ok(List::from_vec(states)),
         Err(_) => Err(Memory),
     }
 }
@@ -112,23 +125,25 @@ fn merged(alloc: Global, emitted: &Emitted, wide: bool) -> Result<List<FrameAt>,
     }
 }
 
-/// The instrumented code of one more body.
+/// The instrumented code of one more body, whose states may be kept.
 fn probed_body(
     alloc: Global,
     body: &Body,
     plan: &Plan,
+    kept: Option<List<State>>,
     names: &mut Names,
 ) -> Result<Probed, Fail<Refusal>>
     requires made { IsWellMade body.now }
     requires plan { HasPlan body.now plan.now }
     requires next { plan.now.next ≤ 32767 }
+    requires kept { ForSome kept (AreStates names.old body.now) }
     requires frames { AreNumberedFrames (length names.old) body.now.frames }
     ensures made { (first : ℕ) → plan.now ≡ plan_of body.now first → IfOk result (IsMadeOf names.new body.now first) }
     ensures written { IfOk result (HasFrames (length names.new)) }
     ensures refused { (first : ℕ) → plan.now ≡ plan_of body.now first → IfErr result (λ e. Said e (IsTooLong body.now first)) }
     ensures names { Grows names.old names.new }
 {
-    let states = known_states(alloc, body, names)?;
+    let states = known_states(alloc, body, kept, names)?;
     let emitted = emitted(alloc, body, plan, &states, names)?;
     let laid = laid(alloc, body.method, &emitted)?;
     let merged = merged(alloc, &emitted, laid.wide)?;
@@ -145,19 +160,21 @@ pub fn probed_bodies(
     alloc: Global,
     bodies: &[Body],
     plans: &[Plan],
+    kept: KeptStates,
     names: &mut Names,
 ) -> Result<List<Probed>, Fail<Refusal>>
     requires made { All IsWellMade bodies.now }
     requires frames { All (λ b. AreNumberedFrames (length names.old) b.frames) bodies.now }
     requires plans { plans.now ≡ plans_of bodies.now }
+    requires kept { AreKeptStates names.old bodies.now kept }
     requires few { all_probes bodies.now ≤ 32767 }
     ensures probed { IfOk result (AreProbed names.new bodies.now) }
     ensures refused { IfErr result (λ e. Said e (IsFirstTooLong bodies.now)) }
     ensures names { Grows names.old names.new }
 {
-    let mut probed = List::new(alloc);
-    'probing: for (number, body) in bodies.iter().enumerate() {
-        let next = probed_body(alloc, body, &plans[number], names)?;
+    let mut probed = List::from_vec(Vec::with_capacity(alloc, bodies.len())?);
+    'probing: for (number, states) in kept.into_vec().into_iter().enumerate() {
+        let next = probed_body(alloc, &bodies[number], &plans[number], states, names)?;
         probed.push(next)?;
     }
     names.number(alloc, PROBE_ARRAY)?;

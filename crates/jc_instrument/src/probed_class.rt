@@ -8,7 +8,7 @@ ghost use Rattle.jc_instrument.specs.Causes.{IsFirstCause};
 ghost use Rattle.jc_instrument.specs.LeftAlone.{is_left_alone};
 ghost use Rattle.jc_instrument.specs.ProbedClass.{IsProbedClass, making_causes};
 
-use crate::bodies::named_bodies;
+use crate::bodies::{NamedBodies, named_bodies};
 use crate::described::bounded_plans;
 use crate::plans::Planned;
 use crate::probed::{Probed, probed_bodies};
@@ -16,6 +16,9 @@ use crate::room::room_refusal;
 use jc_base::{Fail, List, Names, Refusal};
 use jc_class::ClassFile;
 use std::alloc::Global;
+
+/// How many places the states of bodies may take that are kept until the code is made.
+const MOST_KEPT_PLACES: usize = 1_048_576;
 
 /// The instrumented code of the bodies of a class.
 #[derive(Debug, Drop)]
@@ -41,11 +44,11 @@ pub fn probed_class(
     ensures few { IfOk result (λ p. p.probes ≤ 32767) }
     ensures refused { IfErr result (λ e. Said e (IsFirstCause (making_causes class.now))) }
 {
-    let bodies = named_bodies(alloc, class, names)?;
+    let NamedBodies { bodies, states } = named_bodies(alloc, class, MOST_KEPT_PLACES, names)?;
     let Planned { plans, probes } = bounded_plans(alloc, &bodies)?;
     if let Some(refusal) = room_refusal(class, &bodies, probes) {
         return Err(Fail::Said(refusal));
     }
-    let probed = probed_bodies(alloc, &bodies, &plans, names)?;
+    let probed = probed_bodies(alloc, &bodies, &plans, states, names)?;
     Ok(ProbedClass { probed, probes })
 }

@@ -6,7 +6,8 @@ use Rattle.jc_kinds.specs.Answers.{AreStates, Said}
 use Rattle.jc_kinds.proofs.NumberLaws.{frames_numbered, grown_count}
 use Rattle.jc_layout.specs.Layout.{chosen_length}
 use Rattle.jc_instrument.specs.Probing.{IsRefusedAsLarge}
-use Rattle.jc_instrument.proofs.ProbingLaws.{emission_code, states_grown}
+use Rattle.jc_instrument.proofs.KeptStatesLaws.{states_grown}
+use Rattle.jc_instrument.proofs.ProbingLaws.{emission_code}
 use Rattle.jc_instrument.proofs.WritableLaws.{has_frames}
 use Rattle.jc_instrument.proofs.probed.probed_body.Goals as goal
 
@@ -28,7 +29,7 @@ returns-clause-made c = λ first is.
     let told = c.in_ok-emitted.ensures.emitted first is in
     let numbered = frames_numbered (length c.args.names.now) (length old) b.frames (grown_count c.args.names.now old c.in_ok-states.ensures.names)
     c.requires.frames in
-    let are = subst (AreStates old b) (sym c.deref.ensures.value) c.in_ok-states.ensures.states in
+    let are = subst (AreStates old b) (sym c.deref.ensures) c.in_ok-states.ensures.states in
     record {
       states = c.deref.result.now;
       are = states_grown old new b c.deref.result.now c.in_ok-emitted.ensures.names numbered are;
@@ -48,7 +49,7 @@ returns-clause-written c =
     let states = c.deref.result.now in
     let numbered = frames_numbered (length c.args.names.now) (length old) b.frames (grown_count c.args.names.now old c.in_ok-states.ensures.names)
     c.requires.frames in
-    let are = subst (AreStates old b) (sym c.deref.ensures.value) c.in_ok-states.ensures.states in
+    let are = subst (AreStates old b) (sym c.deref.ensures) c.in_ok-states.ensures.states in
     let now = states_grown old new b states c.in_ok-emitted.ensures.names numbered are in
     has_frames new b first states told.0 _ now told.1
     (record { method = refl; emitted = told.2; laid = c.in_ok-laid.ensures.laid; merged = c.in_ok-merged.ensures })

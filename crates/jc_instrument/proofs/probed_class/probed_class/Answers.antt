@@ -7,6 +7,7 @@ use Rattle.jc_kinds.specs.Answers.{Said}
 use Rattle.jc_instrument.specs.Analysis.{all_probes}
 use Rattle.jc_instrument.specs.Bodies.{AreBodiesOf}
 use Rattle.jc_instrument.specs.Causes.{IsFirstCause}
+use Rattle.jc_instrument.specs.KeptStates.{AreKeptStates}
 use Rattle.jc_instrument.specs.ProbedClass.{making_causes}
 use Rattle.jc_instrument.specs.Probing.{AreProbed, IsFirstTooLong}
 use Rattle.jc_instrument.proofs.AnswerLaws.{said_more}
@@ -18,7 +19,7 @@ use Rattle.jc_instrument.proofs.probed_class.probed_class.Goals as goal
 pub bounded_plans-requires-clause-few : goal.bounded_plans-requires-clause-few
 bounded_plans-requires-clause-few c =
     let class = c.args.class.now in
-    let most = few_bodies c.named_bodies.new.names class (length class.methods) c.in_ok-bodies.bodies c.in_ok-bodies.ensures.bodies.are in
+    let most = few_bodies c.named_bodies.new.names class (length class.methods) c.in_ok-bodies.field-0.bodies c.in_ok-bodies.ensures.bodies.are in
     let few = c.requires.class.methods.few in
     subst (λ (l : List Body). length l ≤ 65535) (sym c.deref.ensures) (omega (arith, most, few))
 
@@ -26,29 +27,33 @@ pub room_refusal-requires-clause-bodies : goal.room_refusal-requires-clause-bodi
 room_refusal-requires-clause-bodies c =
     let class = c.args.class.now in
     subst (AreBodiesOf class) (sym c.deref-2.ensures)
-    (of_class c.named_bodies.new.names class c.in_ok-bodies.bodies c.requires.changes c.in_ok-bodies.ensures.bodies)
+    (of_class c.named_bodies.new.names class c.in_ok-bodies.field-0.bodies c.requires.changes c.in_ok-bodies.ensures.bodies)
 
 pub returns-in-Some-clause-refused : goal.returns-in-Some-clause-refused
 returns-in-Some-clause-refused c =
-    room_first c.named_bodies.new.names c.args.class.now c.in_ok-bodies.bodies c.requires.changes c.in_ok-bodies.ensures.bodies c.in-Some.refusal
+    room_first c.named_bodies.new.names c.args.class.now c.in_ok-bodies.field-0.bodies c.requires.changes c.in_ok-bodies.ensures.bodies c.in-Some.refusal
     c.in-Some.ensures
 
 pub probed_bodies-requires-clause-frames : goal.probed_bodies-requires-clause-frames
 probed_bodies-requires-clause-frames c =
     let names = c.named_bodies.new.names in
     subst (All (λ (b : Body). AreNumberedFrames (length names) b.frames)) (sym c.deref-3.ensures)
-    (bodies_numbered names c.args.class.now c.in_ok-bodies.bodies c.in_ok-bodies.ensures.bodies.are)
+    (bodies_numbered names c.args.class.now c.in_ok-bodies.field-0.bodies c.in_ok-bodies.ensures.bodies.are)
+
+pub probed_bodies-requires-clause-kept : goal.probed_bodies-requires-clause-kept
+probed_bodies-requires-clause-kept c =
+    subst (λ (l : List Body). AreKeptStates c.named_bodies.new.names l c.in_ok-bodies.field-0.states) (sym c.deref-3.ensures) c.in_ok-bodies.ensures.states
 
 pub probed_bodies-requires-clause-few : goal.probed_bodies-requires-clause-few
 probed_bodies-requires-clause-few c =
     subst (λ (l : List Body). all_probes l ≤ 32767) (sym c.deref-3.ensures)
-    (few_probes_then c.named_bodies.new.names c.args.class.now c.in_ok-bodies.bodies c.requires.changes c.in_ok-bodies.ensures.bodies
+    (few_probes_then c.named_bodies.new.names c.args.class.now c.in_ok-bodies.field-0.bodies c.requires.changes c.in_ok-bodies.ensures.bodies
     c.in_default.ensures)
 
 pub returns-in_err-probed-clause-refused : goal.returns-in_err-probed-clause-refused
 returns-in_err-probed-clause-refused c =
     let class = c.args.class.now in
-    let bodies = c.in_ok-bodies.bodies in
+    let bodies = c.in_ok-bodies.field-0.bodies in
     let r = c.from_residual-in_err-probed in
     let p = err_from_is_err_and r.result r.ensures.1 in
     let e = c.in_err-probed.field-0.0 in
@@ -58,7 +63,7 @@ returns-in_err-probed-clause-refused c =
 
 pub returns-clause-probed : goal.returns-clause-probed
 returns-clause-probed c =
-    let bodies = c.in_ok-bodies.bodies in
+    let bodies = c.in_ok-bodies.field-0.bodies in
     let new = c.probed_bodies.new.names in
     let probed = c.in_ok-probed.probed in
     let a = subst (λ (l : List Body). AreProbed new l probed) c.deref-3.ensures c.in_ok-probed.ensures.probed in
@@ -67,7 +72,7 @@ returns-clause-probed c =
 
 pub returns-clause-few : goal.returns-clause-few
 returns-clause-few c =
-    let few = few_probes_then c.named_bodies.new.names c.args.class.now c.in_ok-bodies.bodies c.requires.changes c.in_ok-bodies.ensures.bodies
+    let few = few_probes_then c.named_bodies.new.names c.args.class.now c.in_ok-bodies.field-0.bodies c.requires.changes c.in_ok-bodies.ensures.bodies
     c.in_default.ensures in
     let same = c.in_ok-plans.ensures.probes ∙ ap all_probes c.deref.ensures in
     omega (arith, few, same)
