@@ -6,7 +6,9 @@ use jc_base::{Memory, MemoryFiles, MemorySink, put_bytes, put_u64};
 use jc_class::class_id;
 use jc_top::{Status, run_tool};
 use std::alloc::Global;
+use std::marker::Sync;
 use std::test::Fail as Failed;
+use std::thread::Threads;
 
 /// A class, the number of its probes, their hits in the bits from the lowest on, and its row.
 struct Reported {
@@ -80,13 +82,17 @@ fn words(alloc: Global) -> Result<Vec<String>, Memory> {
 }
 
 /// Whether the report of the class is done, and its row is the one that is told.
-fn is_reported(alloc: Global, reported: &Reported) -> Result<bool, Memory> {
+fn is_reported(
+    rt: &(impl Threads + Sync),
+    alloc: Global,
+    reported: &Reported,
+) -> Result<bool, Memory> {
     let mut files = MemoryFiles::new(alloc, &[])?;
     files.with(alloc, "a.exec", &exec_text(alloc, reported)?)?;
     files.with(alloc, "A.class", reported.class)?;
     let mut out = MemorySink::new(alloc, &[])?;
     let mut err = MemorySink::new(alloc, &[])?;
-    let status = run_tool(alloc, &words(alloc)?, &mut files, &mut out, &mut err);
+    let status = run_tool(rt, alloc, &words(alloc)?, &mut files, &mut out, &mut err);
     let row = match files.get("o") {
         Some(text) => text.get(HEADER..) == Some(reported.row),
         None => false,
@@ -97,7 +103,7 @@ fn is_reported(alloc: Global, reported: &Reported) -> Result<bool, Memory> {
 #[test]
 fn reports_have_the_rows_told_by_hand(rt: HostRuntime) -> Result<(), Failed> {
     for reported in &ROWS {
-        assert!(rt; is_reported(rt.alloc(), reported)?);
+        assert!(rt; is_reported(&rt, rt.alloc(), reported)?);
     }
     Ok(())
 }

@@ -1,17 +1,21 @@
 -- What is made of class files that are instrumented is one list of writes.
-use Rattle.std.proofs.Common.{◌≡◌, ⊎_elim, ℕ, ◌+◌, ◌<◌, ◌≤◌, List, [], ◌∷◌, ◌++◌, length, take, get_or, map, Some, refl, sym, ◌∙◌, ap, ap₂, subst, arith, append_assoc, String, string_bytes}
+use Rattle.std.proofs.Common.{◌≡◌, ⊎_elim, ℕ, ◌+◌, ◌<◌, ◌≤◌, List, [], ◌∷◌, ◌++◌, length, take, get_or, map, Some, Result, Ok, IfOk, refl, sym, ◌∙◌, ap, ap₂, subst, arith, append_assoc, String, string_bytes}
 use Rattle.std.proofs.lemmas.List.{append-nil, take_more, take_all}
-use Rattle.std.specs.List.{AllByRecursion}
+use Rattle.std.proofs.lemmas.Slice.Zip.{AllZip-long}
+use Rattle.std.specs.List.{AllByRecursion, AllZip}
 use Rattle.std.specs.declared.alloc.Global.{Global}
+use Rattle.jc_base.specs.declared.fail.Memory.{Memory}
 use Rattle.jc_base.specs.declared.refusal.Refusal.{Refusal}
 use Rattle.jc_instrument_laws.proofs.EachFileLaws.{each_file}
 use Rattle.jc_instrument.proofs.OneTwinLaws.{one_file, file_or_reason}
 use Rattle.jc_instrument.proofs.RoomCauseLaws.{one_reason}
+use Rattle.jc_top.specs.declared.instrument.Decided.{Decided}
 use Rattle.jc_top.specs.declared.output.Write.{Write as Written}
 use Rattle.jc_top.specs.Instrument.{Decision, refused_file, accepted_file, IsDecision, file_writes, AreFileWrites}
-use Rattle.jc_top.specs.Looks.{write_seen, Puts}
+use Rattle.jc_top.specs.Looks.{IsDecided, write_seen, Puts}
 use Rattle.jc_top.specs.Words.{Word, words_of}
 use Rattle.jc_top.specs.World.{Write}
+use Rattle.jc_top.proofs.EachLaws.{zipped_at, AtPlace}
 use Rattle.jc_top.proofs.ListingLaws.{IsFile}
 use Rattle.jc_top.proofs.WriteLaws.{map_take_more}
 
@@ -77,7 +81,7 @@ module _ (targets paths : List (String Global)) (texts : List (List ℕ)) where
   abbrev pub AreWrittenFirst : ℕ → List Written → Type 0
   AreWrittenFirst i writes = AreFileWrites (words_of (take i targets)) (words_of (take i paths)) (take i texts) (map write_seen writes)
 
-  pub file_written : (i : ℕ) (target path : String Global) (t target_path file : List ℕ) (old new : List Written) → i < length targets → i < length paths → i < length texts
+  file_written : (i : ℕ) (target path : String Global) (t target_path file : List ℕ) (old new : List Written) → i < length targets → i < length paths → i < length texts
       → target ≡ get_or targets i target → path ≡ get_or paths i path → t ≡ get_or texts i t → target_path ≡ string_bytes target → file ≡ string_bytes path
       → AreWrittenFirst i old → (d : Decision) × IsDecision t d × Puts old (file_writes target_path file t d) new → AreWrittenFirst (i + 1) new
   file_written i target path t target_path file old new at_target at_path at_text target_is path_is text_is named_target named_path so_far (d, is, puts) =
@@ -91,6 +95,24 @@ module _ (targets paths : List (String Global)) (texts : List (List ℕ)) where
       (subst (λ (fs : List Word). AreFileWrites (words_of (take i targets) ++ target_path ∷ []) fs (take (i + 1) texts) (map write_seen new)) (sym more_paths)
       (subst (λ (ts : List (List ℕ)). AreFileWrites (words_of (take i targets) ++ target_path ∷ []) (words_of (take i paths) ++ file ∷ []) ts (map write_seen new)) (sym more_texts)
       (subst (AreFileWrites (words_of (take i targets) ++ target_path ∷ []) (words_of (take i paths) ++ file ∷ []) (take i texts ++ t ∷ [])) (sym puts) more)))
+
+  -- one more file, by what was decided of it
+  pub decided_written : (answers : List (Result Decided Memory)) (i index : ℕ) (answer : Result Decided Memory) (decided : Decided)
+      → (target path : String Global) (target_path file : List ℕ) (old new : List Written)
+      → AllZip (λ t r. IfOk r (IsDecided t)) texts answers → length targets ≡ length paths → length texts ≡ length paths
+      → AtPlace answers i index answer → answer ≡ Ok decided → target ≡ get_or targets index target → path ≡ get_or paths index path
+      → target_path ≡ string_bytes target → file ≡ string_bytes path → AreWrittenFirst i old
+      → ((t : List ℕ) → IsDecided t decided → (d : Decision) × IsDecision t d × Puts old (file_writes target_path file t d) new)
+      → AreWrittenFirst (i + 1) new
+  decided_written answers i index answer decided target path target_path file old new
+      are as_many each place is target_is path_is named_target named_path so_far puts =
+      let Answers : List ℕ → Result Decided Memory → Type 0 = λ t r. IfOk r (IsDecided t) in
+      let own = zipped_at Answers texts answers i answer are place.within place.at in
+      let within : i < length texts = let long = AllZip-long Answers texts answers are in omega (arith, place.within, long) in
+      let at_target = target_is ∙ ap (λ (k : ℕ). get_or targets k target) place.index_is in
+      let at_path = path_is ∙ ap (λ (k : ℕ). get_or paths k path) place.index_is in
+      file_written i target path own.0 target_path file old new (omega (arith, within, as_many, each)) (omega (arith, within, each)) within
+      at_target at_path own.1 named_target named_path so_far (puts own.0 (subst (Answers own.0) is own.2))
 
   pub all_written : (i : ℕ) (writes : List Written) → length targets ≤ i → length paths ≤ i → length texts ≤ i → AreWrittenFirst i writes
       → AreFileWrites (words_of targets) (words_of paths) texts (map write_seen writes)

@@ -5,6 +5,7 @@ pub mod CommandLaws
 pub mod ReadLaws
 pub mod WriteLaws
 pub mod InputLaws
+pub mod EachLaws
 pub mod ListingLaws
 pub mod ExecDataLaws
 pub mod MergeLaws

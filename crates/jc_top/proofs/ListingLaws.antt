@@ -1,8 +1,9 @@
 -- What is made of class files is one list of texts, or one refusal.
-use Rattle.std.proofs.Common.{◌≡◌, ◌⊎◌, inl, inr, ⊎_elim, ℕ, zero, suc, ◌+◌, ◌<◌, ◌≤◌, List, [], ◌∷◌, ◌++◌, length, take, get_or, map, Some, Ok, Err, Vec, Bor, refl, sym, ◌∙◌, ap, ap₂, subst, arith, String, string_bytes}
+use Rattle.std.proofs.Common.{◌≡◌, ◌⊎◌, inl, inr, ⊎_elim, ℕ, zero, suc, ◌+◌, ◌<◌, ◌≤◌, List, [], ◌∷◌, ◌++◌, length, take, get_or, map, Some, Ok, Err, Vec, Bor, refl, sym, ◌∙◌, ap, ap₂, subst, arith, Result, String, string_bytes}
 use Rattle.std.proofs.lemmas.List.{take_more, take_all, map-append, length-map, get_or-map}
-use Rattle.std.specs.List.{AllByRecursion, flat_map}
+use Rattle.std.specs.List.{AllByRecursion, AllZip, flat_map}
 use Rattle.std.proofs.lemmas.List.Concat.{flat_map-cons}
+use Rattle.std.proofs.lemmas.Slice.Zip.{AllZip-long}
 use Rattle.std.specs.declared.alloc.Global.{Global}
 use Rattle.jc_base.specs.ByteLists.{AreBytes}
 use Rattle.jc_base.specs.Outside.{most_read}
@@ -23,12 +24,13 @@ use Rattle.jc_top.specs.declared.output.Write.TheVariants as written
 use Rattle.jc_top.specs.declared.status.Status.TheVariants as status
 use Rattle.jc_top.specs.declared.status.Fault.TheVariants as fault
 use Rattle.jc_top.specs.Words.{Word, words_of}
-use Rattle.jc_top.specs.ClassInfo.{class_line, method_line, class_text, Listing, prints, refuses, Lists, analysed, refused, AreListed, RefusedAt}
+use Rattle.jc_top.specs.ClassInfo.{class_line, method_line, class_text, Listing, prints, refuses, Lists, analysed, refused, IsListing, AreListed, RefusedAt}
 use Rattle.jc_top.specs.Command.{class_info}
 use Rattle.jc_top.specs.Looks.{write_seen}
 use Rattle.jc_top.specs.World.{Write, to_out}
 use Rattle.jc_top.specs.Work.{Answers, listed, class_refused, refusing}
 use Rattle.jc_top.specs.Outcome.{class_stop, AnswersWith}
+use Rattle.jc_top.proofs.EachLaws.{zipped_at, AtPlace}
 
 -- ---- one file
 
@@ -127,6 +129,13 @@ some_list k (p ∷ ps) (t ∷ ts) same short = by (some_listing t short.0).0 (so
     by (prints own) is (inl rest) = inl (own ∷ rest.0, (own, rest.0, is, refl, rest.1))
     by (prints own) is (inr rest) = inr (rest.0, rest.1, rest.2, inr (own, is, rest.3))
 
+-- ---- what is said of one file
+
+-- a reason for which a file is refused
+pub refused_listing : (bytes : List ℕ) (fail : Fail Refusal) → Said fail (λ r. AnalysisReason bytes (Some r)) → IsListing bytes (Err fail)
+refused_listing bytes fails.Memory said = tt
+refused_listing bytes (fails.Said why) said = refused why said
+
 -- ---- one file after the other
 
 pub listed_more : (ts ls : List (List ℕ)) (t own : List ℕ) → AreListed ts ls → Lists t (prints own) → AreListed (ts ++ t ∷ []) (ls ++ own ∷ [])
@@ -155,30 +164,55 @@ pub record LinesOf (texts : List (List ℕ)) (writes : List Written) : Type 0 wh
 pub no_lines : (texts : List (List ℕ)) (writes : List Written) → writes ≡ [] → LinesOf (take 0 texts) writes
 no_lines texts writes none = record { lines = []; writes_are = ap (map write_seen) none; listed = refl }
 
-pub more_lines : (texts : List (List ℕ)) (writes more : List Written) (i : ℕ) (t : List ℕ) (class : Analysed) (text : Vec ℕ Global) → LinesOf (take i texts) writes
-    → i < length texts → t ≡ get_or texts i t → IsAnalysis t class → text.items ≡ class_text class → more ≡ writes ++ written.Out text ∷ []
-    → LinesOf (take (i + 1) texts) more
-more_lines texts writes more i t class text so_far within at is own grows = record {
-  lines = so_far.lines ++ class_text class ∷ [];
+more_lines : (texts : List (List ℕ)) (writes more : List Written) (i : ℕ) (t : List ℕ) (text : Vec ℕ Global)
+    → LinesOf (take i texts) writes → i < length texts → t ≡ get_or texts i t
+    → Lists t (prints text.items) → more ≡ writes ++ written.Out text ∷ [] → LinesOf (take (i + 1) texts) more
+more_lines texts writes more i t text so_far within at is grows = record {
+  lines = so_far.lines ++ text.items ∷ [];
   writes_are =
       ap (map write_seen) grows ∙ map-append write_seen writes (written.Out text ∷ [])
-      ∙ ap₂ (λ (ws : List Write) (l : List ℕ). ws ++ to_out l ∷ []) so_far.writes_are own
-      ∙ sym (map-append to_out so_far.lines (class_text class ∷ []));
+      ∙ ap (λ (ws : List Write). ws ++ to_out text.items ∷ []) so_far.writes_are
+      ∙ sym (map-append to_out so_far.lines (text.items ∷ []));
   listed =
       let longer : take (i + 1) texts ≡ take i texts ++ t ∷ [] = take_more texts i t within ∙ ap (λ (u : List ℕ). take i texts ++ u ∷ []) (sym at) in
-      subst (λ (ts : List (List ℕ)). AreListed ts (so_far.lines ++ class_text class ∷ [])) (sym longer)
-      (listed_more (take i texts) so_far.lines t (class_text class) so_far.listed (analysed class is));
+      subst (λ (ts : List (List ℕ)). AreListed ts (so_far.lines ++ text.items ∷ [])) (sym longer)
+      (listed_more (take i texts) so_far.lines t text.items so_far.listed is);
 }
 
-pub listing_refused : (words : List (String Global)) (texts : List (List ℕ)) (writes : List Written) (i : ℕ) (w : String Global) (t : List ℕ) (fail : Fail Refusal) (file : Bor (List ℕ)) → length words ≡ length texts → LinesOf (take i texts) writes → i < length texts
-    → t ≡ get_or texts i t → w ≡ get_or words i w → file.now ≡ string_bytes w → Said fail (λ r. AnalysisReason t (Some r)) → AnswersWith (class_info (words_of words)) texts (Err (class_stop fail i file))
-listing_refused words texts writes i w t fails.Memory file same so_far within text word path reason = tt
-listing_refused words texts writes i w t (fails.Said why) file same so_far within text word path reason =
+listing_stops : (words : List (String Global)) (texts : List (List ℕ)) (writes : List Written) (i : ℕ) (w : String Global) (t : List ℕ)
+    → (fail : Fail Refusal) (file : Bor (List ℕ)) → length words ≡ length texts → LinesOf (take i texts) writes → i < length texts
+    → t ≡ get_or texts i t → w ≡ get_or words i w → file.now ≡ string_bytes w → Said fail (λ r. Lists t (refuses r))
+    → AnswersWith (class_info (words_of words)) texts (Err (class_stop fail i file))
+listing_stops words texts writes i w t fails.Memory file same so_far within text word path reason = tt
+listing_stops words texts writes i w t (fails.Said why) file same so_far within text word path reason =
     let counted : 0 + i ≡ i = omega arith in
-    let at : string_bytes w ≡ get_or (words_of words) i (string_bytes w) = ap string_bytes word ∙ sym (get_or-map string_bytes words i w (string_bytes w) (omega (arith, same, within))) in
+    let at : string_bytes w ≡ get_or (words_of words) i (string_bytes w) =
+    ap string_bytes word ∙ sym (get_or-map string_bytes words i w (string_bytes w) (omega (arith, same, within))) in
     subst (λ (p : Word). Answers (class_info (words_of words)) texts (refusing p (fault.Class i why))) (sym path)
     (class_refused i (string_bytes w) why (subst (λ (n : ℕ). RefusedAt 0 (words_of words) texts n (string_bytes w) why) counted
-    (refused_here 0 (words_of words) texts so_far.lines i (string_bytes w) t why (length-map words string_bytes ∙ same) within so_far.listed text at (refused why reason))))
+    (refused_here 0 (words_of words) texts so_far.lines i (string_bytes w) t why (length-map words string_bytes ∙ same) within
+    so_far.listed text at reason)))
+
+module _ (texts : List (List ℕ)) (answers : List (Result (Vec ℕ Global) (Fail Refusal))) (are : AllZip IsListing texts answers)
+    (writes : List Written) (n index : ℕ) (answer : Result (Vec ℕ Global) (Fail Refusal)) (so_far : LinesOf (take n texts) writes)
+    (place : AtPlace answers n index answer) where
+  own : (t : List ℕ) × (t ≡ get_or texts n t) × IsListing t answer
+  own = zipped_at IsListing texts answers n answer are place.within place.at
+
+  within : n < length texts
+  within = let long = AllZip-long IsListing texts answers are in omega (arith, place.within, long)
+
+  -- the lines of one more file are put last
+  pub listing_put : (more : List Written) (text : Vec ℕ Global) → answer ≡ Ok text → more ≡ writes ++ written.Out text ∷ [] → LinesOf (take (n + 1) texts) more
+  listing_put more text is grows = more_lines texts writes more n own.0 text so_far within own.1 (subst (IsListing own.0) is own.2) grows
+
+  -- the file is the first that is refused
+  pub listing_refused : (words : List (String Global)) (w : String Global) (fail : Fail Refusal) (file : Bor (List ℕ)) → length words ≡ length texts
+      → answer ≡ Err fail → w ≡ get_or words index w → file.now ≡ string_bytes w → AnswersWith (class_info (words_of words)) texts (Err (class_stop fail index file))
+  listing_refused words w fail file same is word path =
+      let at : w ≡ get_or words n w = word ∙ ap (λ (k : ℕ). get_or words k w) place.index_is in
+      subst (λ (k : ℕ). AnswersWith (class_info (words_of words)) texts (Err (class_stop fail k file))) (sym place.index_is)
+      (listing_stops words texts writes n w own.0 fail file same so_far within own.1 at path (subst (IsListing own.0) is own.2))
 
 pub listing_done : (words : List Word) (texts : List (List ℕ)) (writes : Vec Written Global) (i : ℕ) → LinesOf (take i texts) writes.items → length texts ≤ i → AnswersWith (class_info words) texts (Ok writes)
 listing_done words texts writes i so_far all =

@@ -1,10 +1,13 @@
 -- What the command `classinfo` makes of class files.
-use Rattle.std.specs.Prelude.{◌≡◌, ◌⊎◌, ℕ, ◌+◌, List, [], ◌∷◌, ◌++◌, codes, length, Some}
+use Rattle.std.specs.Prelude.{◌≡◌, ◌⊎◌, ℕ, ◌+◌, List, [], ◌∷◌, ◌++◌, codes, length, Some, Result, Ok, Err, Vec}
 use Rattle.std.specs.Fmt.{decimal}
+use Rattle.std.specs.declared.alloc.Global.{Global}
 use Rattle.std.specs.List.{flat_map}
 use Rattle.jc_base.specs.declared.analysed.Analysed.{Analysed}
 use Rattle.jc_base.specs.declared.body.Body.{Body}
+use Rattle.jc_base.specs.declared.fail.Fail.{Fail}
 use Rattle.jc_base.specs.declared.refusal.Refusal.{Refusal}
+use Rattle.jc_kinds.specs.Answers.{Said}
 use Rattle.jc_plan.specs.Probed.{probe_count}
 use Rattle.jc_instrument.specs.Analysis.{IsAnalysis}
 use Rattle.jc_instrument.specs.Reasons.{AnalysisReason}
@@ -50,6 +53,11 @@ pub data Listing : Type 0 where
 pub data Lists (bytes : List ℕ) : Listing → Type 0 where
   analysed : (a : Analysed) → IsAnalysis bytes a → Lists bytes (prints (class_text a))
   refused : (why : Refusal) → AnalysisReason bytes (Some why) → Lists bytes (refuses why)
+
+-- what a call gives for one file: its lines, or why it is refused; memory may run out at any time
+abbrev pub IsListing : List ℕ → Result (Vec ℕ Global) (Fail Refusal) → Type 0
+IsListing bytes (Ok text) = Lists bytes (prints text.items)
+IsListing bytes (Err fail) = Said fail (λ why. Lists bytes (refuses why))
 
 -- the lines of the files, in order: one text for each
 abbrev pub AreListed : List (List ℕ) → List (List ℕ) → Type 0

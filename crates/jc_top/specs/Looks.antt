@@ -7,10 +7,13 @@ use Rattle.jc_top.specs.declared.words.Front.{Front}
 use Rattle.jc_top.specs.declared.words.Front.TheVariants as fronts
 use Rattle.jc_top.specs.declared.command.Command.{Command as Called}
 use Rattle.jc_top.specs.declared.command.Command.TheVariants as commands
+use Rattle.jc_top.specs.declared.instrument.Decided.{Decided}
+use Rattle.jc_top.specs.declared.instrument.Decided.TheVariants as decided
 use Rattle.jc_top.specs.declared.output.Write.{Write as Written}
 use Rattle.jc_top.specs.declared.output.Write.TheVariants as writes
 use Rattle.jc_top.specs.Words.{Use, Scan, words_of, in_folder, scan, with_use}
 use Rattle.jc_top.specs.Command.{Command, merge, exec_info, class_info, report, instrument}
+use Rattle.jc_top.specs.Instrument.{IsDecision, refused_file, accepted_file}
 use Rattle.jc_top.specs.World.{Write, to_file, to_out, to_err}
 
 abbrev pub use_of : Used → Use
@@ -40,6 +43,11 @@ HasTargets (commands.ExecInfo paths) = ⊤
 HasTargets (commands.ClassInfo paths) = ⊤
 HasTargets (commands.Report out name exec paths) = ⊤
 HasTargets (commands.Instrument dest paths targets) = words_of targets.items ≡ map (in_folder dest.now) (words_of paths.now)
+
+-- what comes of a class file with these bytes
+abbrev pub IsDecided : List ℕ → Decided → Type 0
+IsDecided bytes (decided.Accepted class) = IsDecision bytes (accepted_file class)
+IsDecided bytes (decided.Refused own why) = (own ≡ bytes) × IsDecision bytes (refused_file why)
 
 abbrev pub write_seen : Written → Write
 write_seen (writes.File path bytes) = to_file path.now bytes.items

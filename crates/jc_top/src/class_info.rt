@@ -1,21 +1,24 @@
 //! The command `classinfo`.
 ghost use Rattle.std.specs.Prelude.{◌≡◌, ◌≤◌, ◌<◌, ◌^◌, ◌++◌, All, length, IfOk, OnOk, string_bytes};
-ghost use Rattle.std.specs.List.{flat_map};
+ghost use Rattle.std.specs.List.{AllZip, flat_map};
 ghost use Rattle.jc_base.specs.Outside.{most_read};
 ghost use Rattle.jc_instrument.specs.Analysis.{IsPlanned};
 ghost use Rattle.jc_top.specs.Command.{class_info};
 ghost use Rattle.jc_top.specs.ClassInfo.{class_end, class_line, class_text};
-ghost use Rattle.jc_top.specs.ClassInfo.{method_end, method_start, method_text, method_line};
+ghost use Rattle.jc_top.specs.ClassInfo.{method_end, method_start, method_text, method_line, IsListing};
 ghost use Rattle.jc_top.specs.Words.{words_of};
 ghost use Rattle.jc_top.specs.Outcome.{Prepares, AnswersWith, class_stop};
 
 use crate::Fault;
+use crate::each::each_answer;
 use crate::input::read_all;
 use crate::output::{Write, keep};
 use crate::stop::Stop;
 use jc_base::{Analysed, Body, Bytes, Fail, Files, Memory, Refusal};
 use jc_instrument::analyse;
 use std::alloc::{AllocError, Global};
+use std::marker::Sync;
+use std::thread::Threads;
 
 /// A class id, a major version and a number of probes, as they are printed.
 fn class_end(alloc: Global, id: u64, version: u16, probes: u32) -> Result<String, AllocError>
@@ -99,21 +102,49 @@ fn refused<'a>(fail: Fail<Refusal>, path: u32, file: &'a str) -> Stop<'a>
     }
 }
 
+/// The lines of a class file, or why it is refused.
+fn listing(alloc: Global, bytes: &[u8]) -> Result<Vec<u8>, Fail<Refusal>>
+    requires { length bytes.now ≤ most_read }
+    ensures { IsListing bytes.now result }
+{
+    let class = analyse(alloc, bytes)?;
+    Ok(class_text(alloc, &class)?)
+}
+
+/// The lines of each class file, or why it is refused, in order.
+fn all_listings<R: Threads + Sync>(
+    rt: &R,
+    alloc: Global,
+    texts: Vec<Bytes>,
+) -> Result<Vec<Result<Vec<u8>, Fail<Refusal>>>, Memory>
+    requires { All (λ t. length t ≤ most_read) texts.items }
+    ensures each { IfOk result (λ answers. AllZip IsListing texts.items answers.items) }
+    ensures len { IfOk result (λ answers. length answers.items ≡ length texts.items) }
+{
+    let answer = |bytes: Bytes| -> Result<Vec<u8>, Fail<Refusal>>
+        requires { length bytes ≤ most_read }
+        ensures { IsListing bytes result }
+    { listing(alloc, &bytes) };
+    each_answer(rt, alloc, texts, answer)
+}
+
 /// The lines of the class files, in order: one text for each.
-fn listings<'a>(
+fn listings<'a, R: Threads + Sync>(
+    rt: &R,
     alloc: Global,
     paths: &'a [String],
-    texts: &[Bytes],
+    texts: Vec<Bytes>,
 ) -> Result<Vec<Write<'a>>, Stop<'a>>
     requires few { length paths.now < 2 ^ 32 }
-    requires each { length texts.now ≡ length paths.now }
-    requires short { All (λ t. length t ≤ most_read) texts.now }
-    ensures { AnswersWith (class_info (words_of paths.entry.now)) texts.now result }
+    requires each { length texts.items ≡ length paths.now }
+    requires short { All (λ t. length t ≤ most_read) texts.items }
+    ensures { AnswersWith (class_info (words_of paths.entry.now)) texts.items result }
 {
+    let answers = all_listings(rt, alloc, texts)?;
     let mut writes = Vec::new(alloc);
-    'listing: for index in 0..texts.len() {
-        match analyse(alloc, &texts[index]) {
-            Ok(class) => keep(&mut writes, class_text(alloc, &class)?)?,
+    'listing: for (index, answer) in answers.into_iter().enumerate() {
+        match answer {
+            Ok(text) => keep(&mut writes, text)?,
             Err(fail) => return Err(refused(fail, index as u32, paths[index].as_str())),
         }
     }
@@ -121,7 +152,8 @@ fn listings<'a>(
 }
 
 /// The writes of `classinfo FILE..`.
-pub fn prepare_class_info<'a, F: Files>(
+pub fn prepare_class_info<'a, R: Threads + Sync, F: Files>(
+    rt: &R,
     alloc: Global,
     files: &mut F,
     paths: &'a [String],
@@ -133,5 +165,5 @@ pub fn prepare_class_info<'a, F: Files>(
     ensures write_faults { F.write_faults files.new ≡ F.write_faults files.old }
 {
     let texts = read_all(alloc, files, paths)?;
-    listings(alloc, paths, &texts)
+    listings(rt, alloc, paths, texts)
 }

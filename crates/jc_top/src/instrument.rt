@@ -1,12 +1,14 @@
 //! The command `instrument`.
 ghost use Rattle.std.specs.Prelude.{◌≡◌, ◌≤◌, All, length, map, IfOk, OnOk};
+ghost use Rattle.std.specs.List.{AllZip};
 ghost use Rattle.jc_base.specs.Outside.{most_read};
 ghost use Rattle.jc_top.specs.Command.{instrument};
 ghost use Rattle.jc_top.specs.Instrument.{Decision, refused_file, accepted_file, IsDecision, file_writes, AreFileWrites};
-ghost use Rattle.jc_top.specs.Looks.{write_seen, Puts};
+ghost use Rattle.jc_top.specs.Looks.{IsDecided, write_seen, Puts};
 ghost use Rattle.jc_top.specs.Outcome.{Prepares};
 ghost use Rattle.jc_top.specs.Words.{Word, words_of, in_folder};
 
+use crate::each::each_answer;
 use crate::input::read_all;
 use crate::message::{accepted_line, refused_line};
 use crate::output::Write;
@@ -14,6 +16,46 @@ use crate::stop::Stop;
 use jc_base::{Bytes, Fail, Files, Memory, Refusal};
 use jc_instrument::{Instrumented, instrument};
 use std::alloc::Global;
+use std::marker::Sync;
+use std::thread::Threads;
+
+/// What comes of a class file.
+#[derive(Drop)]
+enum Decided {
+    /// It has probes, or its class stays as it is.
+    Accepted(Instrumented),
+    /// It is refused: its bytes are those that were read.
+    Refused { bytes: Bytes, refusal: Refusal },
+}
+
+/// Decides what comes of the class file with these bytes.
+fn decide(alloc: Global, bytes: Bytes) -> Result<Decided, Memory>
+    requires { length bytes ≤ most_read }
+    ensures { IfOk result (IsDecided bytes) }
+{
+    match instrument(alloc, &bytes) {
+        Ok(class) => Ok(Decided::Accepted(class)),
+        Err(Fail::Memory) => Err(Memory),
+        Err(Fail::Said(refusal)) => Ok(Decided::Refused { bytes, refusal }),
+    }
+}
+
+/// Decides what comes of each class file, in order.
+fn decide_all<R: Threads + Sync>(
+    rt: &R,
+    alloc: Global,
+    texts: Vec<Bytes>,
+) -> Result<Vec<Result<Decided, Memory>>, Memory>
+    requires { All (λ t. length t ≤ most_read) texts.items }
+    ensures each { IfOk result (λ answers. AllZip (λ t r. IfOk r (IsDecided t)) texts.items answers.items) }
+    ensures len { IfOk result (λ answers. length answers.items ≡ length texts.items) }
+{
+    let answer = |bytes: Bytes| -> Result<Decided, Memory>
+        requires { length bytes ≤ most_read }
+        ensures { IfOk result (IsDecided bytes) }
+    { decide(alloc, bytes) };
+    each_answer(rt, alloc, texts, answer)
+}
 
 /// Puts last the write of a class file that is accepted, and behind it its line.
 fn put_accepted<'a>(
@@ -63,21 +105,22 @@ fn put_file<'a>(
     writes: &mut Vec<Write<'a>>,
     target: &'a str,
     path: &str,
-    bytes: Bytes,
+    decided: Decided,
 ) -> Result<(), Memory>
-    requires { length bytes ≤ most_read }
-    ensures { OnOk result ((d : Decision) × IsDecision bytes d
+    ensures { (bytes : Word) → IsDecided bytes decided → OnOk result ((d : Decision) × IsDecision bytes d
         × Puts writes.old.items (file_writes target.entry.now path.now bytes d) writes.new.items) }
 {
-    match instrument(alloc, &bytes) {
-        Ok(class) => put_accepted(alloc, writes, target, path, class),
-        Err(Fail::Memory) => Err(Memory),
-        Err(Fail::Said(refusal)) => put_refused(alloc, writes, target, path, bytes, refusal),
+    match decided {
+        Decided::Accepted(class) => put_accepted(alloc, writes, target, path, class),
+        Decided::Refused { bytes, refusal } => {
+            put_refused(alloc, writes, target, path, bytes, refusal)
+        }
     }
 }
 
 /// The writes of the class files, in order.
-fn all_writes<'a>(
+fn all_writes<'a, R: Threads + Sync>(
+    rt: &R,
     alloc: Global,
     targets: &'a [String],
     paths: &[String],
@@ -88,21 +131,23 @@ fn all_writes<'a>(
     requires short { All (λ t. length t ≤ most_read) texts.items }
     ensures { IfOk result (λ writes. AreFileWrites (words_of targets.entry.now) (words_of paths.now) texts.items (map write_seen writes.items)) }
 {
+    let answers = decide_all(rt, alloc, texts)?;
     let mut writes = Vec::new(alloc);
-    'instrumenting: for (index, bytes) in texts.into_iter().enumerate() {
+    'instrumenting: for (index, answer) in answers.into_iter().enumerate() {
         put_file(
             alloc,
             &mut writes,
             targets[index].as_str(),
             paths[index].as_str(),
-            bytes,
+            answer?,
         )?;
     }
     Ok(writes)
 }
 
 /// The writes of `instrument --dest DIR FILE..`, where the files are written to these paths.
-pub fn prepare_instrument<'a, F: Files>(
+pub fn prepare_instrument<'a, R: Threads + Sync, F: Files>(
+    rt: &R,
     alloc: Global,
     files: &mut F,
     paths: &'a [String],
@@ -117,5 +162,5 @@ pub fn prepare_instrument<'a, F: Files>(
     ensures write_faults { F.write_faults files.new ≡ F.write_faults files.old }
 {
     let texts = read_all(alloc, files, paths)?;
-    Ok(all_writes(alloc, targets, paths, texts)?)
+    Ok(all_writes(rt, alloc, targets, paths, texts)?)
 }

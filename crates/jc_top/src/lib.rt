@@ -4,6 +4,7 @@
 mod class_info;
 mod class_report;
 mod command;
+mod each;
 mod exec_info;
 mod input;
 mod instrument;

@@ -20,9 +20,12 @@ use crate::report::prepare_report;
 use crate::stop::Stop;
 use jc_base::{Fail, Files, Sink};
 use std::alloc::Global;
+use std::marker::Sync;
+use std::thread::Threads;
 
 /// What a command writes: it reads its inputs, and is told nothing else.
-fn prepare<'a, F: Files>(
+fn prepare<'a, R: Threads + Sync, F: Files>(
+    rt: &R,
     alloc: Global,
     files: &mut F,
     command: &'a Command<'a>,
@@ -36,7 +39,7 @@ fn prepare<'a, F: Files>(
     match command {
         Command::Merge { destfile, inputs } => prepare_merge(alloc, files, destfile, inputs),
         Command::ExecInfo { paths } => prepare_exec_info(alloc, files, paths),
-        Command::ClassInfo { paths } => prepare_class_info(alloc, files, paths),
+        Command::ClassInfo { paths } => prepare_class_info(rt, alloc, files, paths),
         Command::Report {
             out,
             name,
@@ -44,13 +47,14 @@ fn prepare<'a, F: Files>(
             paths,
         } => prepare_report(alloc, files, out, name, *exec, paths),
         Command::Instrument { paths, targets, .. } => {
-            prepare_instrument(alloc, files, paths, targets)
+            prepare_instrument(rt, alloc, files, paths, targets)
         }
     }
 }
 
 /// Reads the inputs of a command, and then makes its writes.
-fn run<'a, F: Files, O: Sink, E: Sink>(
+fn run<'a, R: Threads + Sync, F: Files, O: Sink, E: Sink>(
+    rt: &R,
     alloc: Global,
     files: &mut F,
     out: &mut O,
@@ -65,7 +69,7 @@ fn run<'a, F: Files, O: Sink, E: Sink>(
         (counts (F.read_faults files.old) (F.write_faults files.old) (O.faults out.old) (E.faults err.old))
         (counts (F.read_faults files.new) (F.write_faults files.new) (O.faults out.new) (E.faults err.new)) result }
 {
-    let writes = prepare(alloc, files, command)?;
+    let writes = prepare(rt, alloc, files, command)?;
     write_all(files, out, err, &writes)
 }
 
@@ -79,7 +83,8 @@ fn run<'a, F: Files, O: Sink, E: Sink>(
 /// A class file that `report` or `instrument` refuses is no failure. `report` begins its writes with a line on `err` for
 /// each. `instrument` writes each class file to DIR/FILE, and behind it its line: one that is refused byte for byte as it
 /// was read, with a line on `err` that gives the reason; one whose class stays as it is too, with a line on `out`; and
-/// each other one with its probes, whose number is in its line on `out`.
+/// each other one with its probes, whose number is in its line on `out`. `instrument` and `classinfo` look at the class
+/// files in threads, which `rt` starts.
 ///
 /// Where the contents of `files` are told, no count of faults rose and memory wasn't refused, the writes and the
 /// status are those of the work of the words. What each status says:
@@ -93,7 +98,8 @@ fn run<'a, F: Files, O: Sink, E: Sink>(
 /// - `WriteFault`: a write failed, the count of what it goes to rose, and the message names where it goes. The
 ///   writes in front of it were made, and of it a prefix.
 /// - `Memory`: nothing was written, or the writes broke off as at `WriteFault`. There is no message.
-pub fn run_tool<F: Files, O: Sink, E: Sink>(
+pub fn run_tool<R: Threads + Sync, F: Files, O: Sink, E: Sink>(
+    rt: &R,
     alloc: Global,
     words: &[String],
     files: &mut F,
@@ -114,7 +120,7 @@ pub fn run_tool<F: Files, O: Sink, E: Sink>(
             return Status::Usage;
         }
     };
-    match run(alloc, files, out, err, &command) {
+    match run(rt, alloc, files, out, err, &command) {
         Ok(()) => Status::Done,
         Err(stop) => report(alloc, err, stop),
     }

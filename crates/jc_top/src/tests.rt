@@ -7,11 +7,14 @@ use rows::{
     NO_HIT, NOTHING, OTHER_WORDS, RECORD, REJECTED, TOO_LARGE, TWO_LINES,
 };
 use std::alloc::{AllocError, Global};
+use std::marker::Sync;
 use std::process::Abort;
 use std::test::Fail;
+use std::thread::Threads;
 
 mod exec;
 mod instrument;
+mod many;
 mod report;
 mod rows;
 
@@ -68,12 +71,12 @@ struct Ran {
     err: MemorySink,
 }
 
-fn run(alloc: Global, row: &Row<'_>) -> Result<Ran, Memory> {
+fn run(rt: &(impl Threads + Sync), alloc: Global, row: &Row<'_>) -> Result<Ran, Memory> {
     let words = words(alloc, row.words)?;
     let mut files = files(alloc, row.files, row.files_fail)?;
     let mut out = MemorySink::new(alloc, row.out_fails)?;
     let mut err = MemorySink::new(alloc, row.err_fails)?;
-    let status = run_tool(alloc, &words, &mut files, &mut out, &mut err);
+    let status = run_tool(rt, alloc, &words, &mut files, &mut out, &mut err);
     Ok(Ran {
         status,
         files,
@@ -133,12 +136,12 @@ fn difference(ran: &Ran, row: &Row<'_>) -> Option<&'static str> {
 
 // A run leaves what it should, and these files.
 fn check_standing(
-    rt: &impl Abort,
+    rt: &(impl Abort + Threads + Sync),
     alloc: Global,
     row: &Row<'_>,
     stands: &[File<'_>],
 ) -> Result<(), Memory> {
-    let ran = run(alloc, row)?;
+    let ran = run(rt, alloc, row)?;
     if let Some(what) = difference(&ran, row) {
         panic!(rt; "{:?}: {what}, with {}", row.words, number(&ran.status));
     }
@@ -150,13 +153,13 @@ fn check_standing(
     Ok(())
 }
 
-fn check(rt: &impl Abort, alloc: Global, row: &Row<'_>) -> Result<(), Memory> {
+fn check(rt: &(impl Abort + Threads + Sync), alloc: Global, row: &Row<'_>) -> Result<(), Memory> {
     check_standing(rt, alloc, row, &[])
 }
 
 // A run of these words over these files, in which no call fails.
 fn check_files(
-    rt: &impl Abort,
+    rt: &(impl Abort + Threads + Sync),
     alloc: Global,
     words: &[&str],
     files: &[File<'_>],
@@ -174,7 +177,12 @@ fn check_files(
 }
 
 // A merge of these bytes leaves this.
-fn check_merge(rt: &impl Abort, alloc: Global, bytes: &[u8], left: Left<'_>) -> Result<(), Memory> {
+fn check_merge(
+    rt: &(impl Abort + Threads + Sync),
+    alloc: Global,
+    bytes: &[u8],
+    left: Left<'_>,
+) -> Result<(), Memory> {
     let file = File {
         path: "a.exec",
         bytes,
@@ -239,7 +247,12 @@ fn the_first_class_that_is_refused(rt: HostRuntime) -> Result<(), Fail> {
 }
 
 // Listing one class of these bytes is refused.
-fn check_class(rt: &impl Abort, alloc: Global, bytes: &[u8], err: &str) -> Result<(), Memory> {
+fn check_class(
+    rt: &(impl Abort + Threads + Sync),
+    alloc: Global,
+    bytes: &[u8],
+    err: &str,
+) -> Result<(), Memory> {
     let file = File {
         path: "A.class",
         bytes,

@@ -39,6 +39,7 @@ fn exit_status(status: Status) -> u8 {
 fn main(rt: HostRuntime) -> ExitCode {
     let status = match words(&rt) {
         Ok(words) => run_tool(
+            &rt,
             rt.alloc(),
             &words,
             &mut HostFiles::new(&rt),

@@ -3,8 +3,10 @@ use super::rows::{ABS, INTERFACE, MERGED, NOTHING, UNREAD, UNWRITTEN};
 use super::{File, Left, Row, check_standing};
 use jc_base::Memory;
 use std::alloc::Global;
+use std::marker::Sync;
 use std::process::Abort;
 use std::test::Fail;
+use std::thread::Threads;
 
 /// The instrumented class of `ABS`, written from the JVM Specification, 4.1 to 4.10 and 6.5.
 #[rattlefmt::skip]
@@ -126,7 +128,11 @@ struct Writing<'a> {
     stands: &'a [File<'a>],
 }
 
-fn check_all(rt: &impl Abort, alloc: Global, writings: &[Writing<'_>]) -> Result<(), Memory> {
+fn check_all(
+    rt: &(impl Abort + Threads + Sync),
+    alloc: Global,
+    writings: &[Writing<'_>],
+) -> Result<(), Memory> {
     for writing in writings {
         check_standing(rt, alloc, &writing.row, writing.stands)?;
     }

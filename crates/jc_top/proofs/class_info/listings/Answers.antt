@@ -1,26 +1,46 @@
-use Rattle.std.proofs.Common.{ℕ, List, Some, sym, subst}
+use Rattle.std.proofs.Common.{rules, ◌≡◌, ℕ, List, Result, Vec, length, sym, ◌∙◌, arith}
+use Rattle.std.proofs.lemmas.Iterator.Adapters.{YieldsList-from_vec}
+use Rattle.std.proofs.lemmas.Iterator.Consumers.{YieldsList-from_enumerate, YieldsList-turn, YieldsList-end}
+use Rattle.std.proofs.lemmas.List.{length_push}
+use Rattle.std.proofs.lemmas.List.FromFn.{length-enumerate_from}
+use Rattle.std.specs.declared.alloc.Global.{Global}
+use Rattle.jc_base.specs.declared.fail.Fail.{Fail}
 use Rattle.jc_base.specs.declared.refusal.Refusal.{Refusal}
-use Rattle.jc_kinds.specs.Answers.{Said}
-use Rattle.jc_instrument.specs.Analysis.{IsAnalysis}
-use Rattle.jc_instrument.specs.Reasons.{AnalysisReason}
 use Rattle.jc_top.specs.Words.{words_of}
-use Rattle.jc_top.proofs.ListingLaws.{no_lines, more_lines, listing_refused, listing_done}
+use Rattle.jc_top.proofs.EachLaws.{at_place}
+use Rattle.jc_top.proofs.ListingLaws.{no_lines, listing_put, listing_refused, listing_done}
 use Rattle.jc_top.proofs.class_info.listings.Goals as goal
 
 pub listing-init : goal.listing-init
-listing-init c = no_lines c.args.texts.now c.new-writes.result.items c.new-writes.ensures.items
+listing-init g c = no_lines c.args.texts.items c.new-writes.result.items c.new-writes.ensures.items
 
 pub listing-preserved : goal.listing-preserved
-listing-preserved c = more_lines c.args.texts.now c.listing.writes.items c.keep.new.writes.items c.listing.index c.index-texts-index.result c.in-Ok.class
-    c.in_ok-class_text-in-Ok.field-0 c.listing.invariant c.listing-test.true c.index-texts-index.is
-    (subst (λ (t : List ℕ). IsAnalysis t c.in-Ok.class) c.deref.ensures c.in-Ok.ensures.analysed) c.in_ok-class_text-in-Ok.ensures c.in_ok-keep-in-Ok.ensures
+listing-preserved g c =
+    let answers = c.in_ok-answers.answers.items in
+    let n = length c.listing.yielded in
+    let item : ℕ × Result (Vec ℕ Global) (Fail Refusal) = (c.in-Some.index, c.in-Some.answer) in
+    let turn = YieldsList-turn (YieldsList-from_enumerate (YieldsList-from_vec answers (cc) (search rules)) (cc))
+    c.listing.yielded c.listing.index-iterator c.listing.yielded_by c.next.result c.next.new.self item c.in-Some.is c.next.ensures.steps in
+    rw (length_push c.listing.yielded item)
+    (listing_put c.args.texts.items answers c.in_ok-answers.ensures.each c.listing.writes.items n c.in-Some.index c.in-Some.answer c.listing.invariant
+    (at_place answers n c.in-Some.index c.in-Some.answer turn.0 turn.1) c.keep.new.writes.items c.in-Ok.text c.in-Ok.is c.in_ok-keep-in-Ok.ensures)
 
 pub returns-in-Err : goal.returns-in-Err
-returns-in-Err c =
-    rw c.refused.ensures (listing_refused c.args.paths.now c.args.texts.now c.listing.writes.items c.listing.index c.index-paths-index.result
-    c.index-texts-index.result c.in-Err.fail c.as_str.result (sym c.requires.each) c.listing.invariant c.listing-test.true
-    c.index-texts-index.is c.index-paths-index.is c.as_str.ensures.value
-    (subst (λ (t : List ℕ). Said c.in-Err.fail (λ (r : Refusal). AnalysisReason t (Some r))) c.deref.ensures c.in-Err.ensures.refused))
+returns-in-Err g c =
+    let answers = c.in_ok-answers.answers.items in
+    let n = length c.listing.yielded in
+    let item : ℕ × Result (Vec ℕ Global) (Fail Refusal) = (c.in-Some.index, c.in-Some.answer) in
+    let turn = YieldsList-turn (YieldsList-from_enumerate (YieldsList-from_vec answers (cc) (search rules)) (cc))
+    c.listing.yielded c.listing.index-iterator c.listing.yielded_by c.next.result c.next.new.self item c.in-Some.is c.next.ensures.steps in
+    rw c.refused.ensures
+    (listing_refused c.args.texts.items answers c.in_ok-answers.ensures.each c.listing.writes.items n c.in-Some.index c.in-Some.answer c.listing.invariant
+    (at_place answers n c.in-Some.index c.in-Some.answer turn.0 turn.1) c.args.paths.now c.index-paths-index.result c.in-Err.fail c.as_str.result
+    (sym c.requires.each) c.in-Err.is c.index-paths-index.is c.as_str.ensures.value)
 
 pub returns : goal.returns
-returns c = listing_done (words_of c.args.paths.now) c.args.texts.now c.listing.writes c.listing.index c.listing.invariant c.listing-test.false
+returns g c =
+    let answers = c.in_ok-answers.answers.items in
+    let end = YieldsList-end (YieldsList-from_enumerate (YieldsList-from_vec answers (cc) (search rules)) (cc))
+    c.listing.yielded c.listing.index-iterator c.listing.yielded_by c.next.result c.next.new.self c.in-None.is c.next.ensures.steps in
+    listing_done (words_of c.args.paths.now) c.args.texts.items c.listing.writes (length c.listing.yielded) c.listing.invariant
+    (omega (arith, end.1, length-enumerate_from 0 answers, c.in_ok-answers.ensures.len))

@@ -1,8 +1,6 @@
-use Rattle.std.proofs.Common.{ℕ, List, subst}
 use Rattle.std.proofs.lemmas.Result.{err_from_is_err_and}
 use Rattle.jc_top.specs.Command.{class_info}
 use Rattle.jc_top.specs.Words.{words_of}
-use Rattle.jc_top.specs.Outcome.{AnswersWith}
 use Rattle.jc_top.proofs.ReadLaws.{command_stops, command_prepares}
 use Rattle.jc_top.proofs.class_info.prepare_class_info.Goals as goal
 
@@ -14,4 +12,4 @@ returns-in_err-texts-clause-gives g c =
 pub returns-clause-gives : goal.returns-clause-gives
 returns-clause-gives g c =
     command_prepares (g.F.Files.contents c.args.files.now) (class_info (words_of c.args.paths.now)) c.in_ok-texts.texts.items (g.F.Files.read_faults c.args.files.now) (g.F.Files.read_faults c.read_all.new.files) c.listings.result c.in_ok-texts.ensures.gives.0 c.in_ok-texts.ensures.gives.1
-    (subst (λ (ts : List (List ℕ)). AnswersWith (class_info (words_of c.args.paths.now)) ts c.listings.result) c.deref.ensures.value c.listings.ensures)
+    c.listings.ensures

@@ -1,22 +1,20 @@
-use Rattle.std.proofs.Common.{ℕ, List, Some, subst}
+use Rattle.std.proofs.Common.{sym, subst}
 use Rattle.std.proofs.lemmas.Result.{on_ok_weaker}
-use Rattle.jc_kinds.specs.Answers.{Said}
-use Rattle.jc_instrument.specs.InstrumentedFile.{IsInstrumentedFile}
-use Rattle.jc_instrument.specs.Refused.{Reason}
-use Rattle.jc_top.specs.Instrument.{refused_file, accepted_file}
-use Rattle.jc_top.proofs.ReportStepLaws.{said_why}
+use Rattle.jc_top.specs.Instrument.{refused_file, accepted_file, file_writes}
+use Rattle.jc_top.specs.Looks.{IsDecided, Puts}
+use Rattle.jc_top.specs.Words.{Word}
 use Rattle.jc_top.proofs.instrument.put_file.Goals as goal
 
-pub returns-in-Ok : goal.returns-in-Ok
-returns-in-Ok c =
-    let class = c.in-Ok.class in
-    let made = subst (λ (b : List ℕ). IsInstrumentedFile b class) c.deref.ensures c.in-Ok.ensures.made in
-    on_ok_weaker c.put_accepted.result (λ puts. (accepted_file class, made, puts c.args.bytes)) c.put_accepted.ensures
+pub returns-in-Accepted : goal.returns-in-Accepted
+returns-in-Accepted c = λ bytes is.
+    let made = subst (IsDecided bytes) c.in-Accepted.is is in
+    on_ok_weaker c.put_accepted.result (λ puts. (accepted_file c.in-Accepted.class, made, puts bytes)) c.put_accepted.ensures
 
-pub returns-in-Err-Said : goal.returns-in-Err-Said
-returns-in-Err-Said c =
-    let fail = c.in-Err-Said.field-0 in
-    let why = c.in-Err-Said.refusal in
-    let said = subst (λ (b : List ℕ). Said fail (λ r. Reason b (Some r))) c.deref.ensures c.in-Err-Said.ensures.refused in
-    let reason = said_why fail why (λ r. Reason c.args.bytes (Some r)) (cc) said in
-    on_ok_weaker c.put_refused.result (λ puts. (refused_file why, reason, puts)) c.put_refused.ensures
+pub returns-in-Refused : goal.returns-in-Refused
+returns-in-Refused c = λ bytes is.
+    let why = c.in-Refused.refusal in
+    let reason = subst (IsDecided bytes) c.in-Refused.is is in
+    let old = c.args.writes.now.items in
+    let new = c.put_refused.new.writes.items in
+    let own = λ (b : Word). Puts old (file_writes c.args.target.now c.args.path.now b (refused_file why)) new in
+    on_ok_weaker c.put_refused.result (λ puts. (refused_file why, reason.1, subst own reason.0 puts)) c.put_refused.ensures
