@@ -1,12 +1,13 @@
 -- The class files of a report are looked at one after the other.
-use Rattle.std.proofs.Common.{◌≡◌, ◌≢◌, ℕ, zero, suc, ◌+◌, ◌<◌, ◌≤◌, Bool, true, false, not, cond, ◌||◌, List, [], ◌∷◌, ◌++◌, length, take, get_or, map, filter, Option, None, Some, Result, Ok, Err, IfOk, Bor, Contains, nat_eq, option_map, String, string_bytes, refl, sym, ◌∙◌, ap, subst, arith}
-use Rattle.std.specs.List.{find, list_any}
+use Rattle.std.proofs.Common.{◌≡◌, ◌≢◌, ℕ, zero, suc, ◌+◌, ◌<◌, ◌≤◌, Bool, true, false, not, cond, ◌||◌, List, [], ◌∷◌, ◌++◌, length, take, get_or, map, filter, Option, None, Some, Result, Ok, Err, IfOk, IfErr, Bor, Contains, nat_eq, option_map, String, string_bytes, refl, sym, ◌∙◌, ap, subst, arith}
+use Rattle.std.specs.List.{AllZip, find, list_any}
 use Rattle.std.specs.Option.{option_or, IfSome, IsSomeAnd}
 use Rattle.std.specs.Cmp.{nat_eq_equiv}
 use Rattle.std.proofs.lemmas.Bool.{and_parts, eqb-true, eq-eqb}
 use Rattle.std.specs.Str.{bytes_eq}
 use Rattle.std.proofs.lemmas.List.{append-nil, map-append, take_more, take_all, length-map, length-take}
 use Rattle.std.proofs.lemmas.List.Elements.{filter-append}
+use Rattle.std.proofs.lemmas.Slice.Zip.{AllZip-long}
 use Rattle.std.specs.declared.alloc.Global.{Global}
 use Rattle.jc_base.specs.FirstSeen.{first_seen, seen_behind}
 use Rattle.jc_base.specs.declared.analysed.Analysed.{Analysed}
@@ -23,16 +24,21 @@ use Rattle.jc_instrument.specs.LeftAlone.{is_left_alone}
 use Rattle.jc_instrument.specs.Reasons.{AnalysisReason}
 use Rattle.jc_kinds.specs.Answers.{Said}
 use Rattle.jc_plan.specs.Analysed.{IsAnalysed}
+use Rattle.jc_report.specs.declared.row.Counted.{Counted}
 use Rattle.jc_top.specs.declared.class_report.Looked.{Looked}
+use Rattle.jc_top.specs.declared.class_report.Seen.{Seen}
+use Rattle.jc_top.specs.declared.class_report.Seen.TheVariants as seens
 use Rattle.jc_top.specs.declared.stop.Stop.{Stop}
 use Rattle.jc_top.specs.declared.stop.Stop.TheVariants as stops
 use Rattle.jc_top.specs.Looks.{write_seen}
 use Rattle.jc_top.specs.Report.{frameless, Item, refused_class, unchanged_class, changed_class, IsItem, is_refused, is_unchanged, is_changed, AreItems, lines_of, changed_of}
 use Rattle.jc_top.specs.Report.{record_of, fits, clash_with, clash_of, first_clash, first_of_each_id, counted_by, counted_classes}
-use Rattle.jc_top.specs.ReportSteps.{StopsAtClash, KeepsRefused, unless_known, KeepsChanged, KeepsClass, ClassClashes, IsReportOf, LooksOn, FileClashes, LooksAtAll, FrontClashes}
+use Rattle.jc_top.specs.ReportSteps.{StopsAtClash, seen_as, IsSeen, SeesClass, ClassClashes, FileClashes, IsLooked, KeepsRefused, unless_known, Keeps}
+use Rattle.jc_top.specs.ReportSteps.{IsReportOf, LooksOn, LooksAtAll, FrontClashes}
 use Rattle.jc_top.specs.Texts.{refused_line}
 use Rattle.jc_top.specs.Words.{Word, words_of}
 use Rattle.jc_top.specs.World.{Write, to_err}
+use Rattle.jc_top.proofs.EachLaws.{zipped_at, AtPlace}
 use Rattle.jc_top.proofs.FramelessLaws.{same_counted}
 use Rattle.jc_top.proofs.ReportLaws.{left_alone_has_none, changed_has_some}
 use Rattle.jc_top.proofs.WriteLaws.{map_take_more}
@@ -204,11 +210,11 @@ module _ (records : List ClassHits) (path : Word) (bytes : List ℕ) (old new : 
   no_class : (items : List Item) (item : Item) → changed_of (item ∷ []) ≡ [] → changed_of (items ++ item ∷ []) ≡ changed_of items
   no_class items item none = changed_more items (item ∷ []) ∙ ap (λ (l : List Analysed). changed_of items ++ l) none ∙ append-nil (changed_of items)
 
-  pub looks_refused : (why : Refusal) → AnalysisReason bytes (Some why) → KeepsRefused path why old new → LooksOn records path bytes old new
-  looks_refused why reason keeps = λ paths items same so_far.
+  looks_refused : (why : Refusal) → IsItem bytes (refused_class why) → KeepsRefused path why old new → LooksOn records path bytes old new
+  looks_refused why is keeps = λ paths items same so_far.
       let stay : changed_of items ≡ changed_of (items ++ refused_class why ∷ []) = sym (no_class items (refused_class why) refl) in (
         refused_class why,
-        is_refused why reason,
+        is,
         refl,
         record {
           lines =
@@ -220,11 +226,11 @@ module _ (records : List ClassHits) (path : Word) (bytes : List ℕ) (old new : 
         },
       )
 
-  looks_unchanged : (a : Analysed) (is : IsAnalysis bytes a) → is_left_alone is.file ≡ true → new ≡ old → LooksOn records path bytes old new
-  looks_unchanged a is alone same_looked = λ paths items same so_far.
+  looks_unchanged : IsItem bytes unchanged_class → new ≡ old → LooksOn records path bytes old new
+  looks_unchanged is same_looked = λ paths items same so_far.
       let stay : changed_of items ≡ changed_of (items ++ unchanged_class ∷ []) = sym (no_class items unchanged_class refl) in (
         unchanged_class,
-        is_unchanged a is alone,
+        is,
         refl,
         record {
           lines =
@@ -237,41 +243,56 @@ module _ (records : List ClassHits) (path : Word) (bytes : List ℕ) (old new : 
         },
       )
 
-  looks_changed : (a : Analysed) (is : IsAnalysis bytes a) → is_left_alone is.file ≡ false → KeepsChanged records a old new → LooksOn records path bytes old new
-  looks_changed a is code keeps = λ paths items same so_far.
-      let b = frameless a in
+  looks_changed : (a : Analysed) → IsItem bytes (changed_class a) → clash_of records (changed_class a) ≡ None → Keeps (counted_by records a) old new
+      → LooksOn records path bytes old new
+  looks_changed a is fits keeps = λ paths items same so_far.
       let classes = changed_of items in
-      let more : changed_of (items ++ changed_class b ∷ []) ≡ classes ++ b ∷ [] = changed_more items (changed_class b ∷ []) in
+      let more : changed_of (items ++ changed_class a ∷ []) ≡ classes ++ a ∷ [] = changed_more items (changed_class a ∷ []) in
       let known : list_any (nat_eq a.id) old.ids.keys ≡ list_any (nat_eq a.id) (first_seen (ids classes)) = ap (list_any (nat_eq a.id)) so_far.ids in (
-        changed_class b,
-        is_changed a is code,
-        keeps.fits,
+        changed_class a,
+        is,
+        fits,
         record {
           lines =
-              ap (map write_seen) keeps.counts.lines ∙ so_far.lines
-              ∙ ap (map to_err) (sym (lines_more paths items path (changed_class b) same ∙ append-nil (lines_of paths items)));
+              ap (map write_seen) keeps.lines ∙ so_far.lines
+              ∙ ap (map to_err) (sym (lines_more paths items path (changed_class a) same ∙ append-nil (lines_of paths items)));
           classes =
-              keeps.counts.classes
-              ∙ (λ i. unless_known (known i) (so_far.classes i) (sym (same_by records a) i))
-              ∙ ap (λ (k : Bool). unless_known k (counted_classes records items) (counted_by records b)) (any_first_seen (ids classes) a.id)
-              ∙ sym (map_unless records (list_any (nat_eq a.id) (ids classes)) (first_of_each_id classes) b)
-              ∙ ap (map (counted_by records)) (sym (first_more classes b))
+              keeps.classes
+              ∙ (λ i. unless_known (known i) (so_far.classes i) (counted_by records a))
+              ∙ ap (λ (k : Bool). unless_known k (counted_classes records items) (counted_by records a)) (any_first_seen (ids classes) a.id)
+              ∙ sym (map_unless records (list_any (nat_eq a.id) (ids classes)) (first_of_each_id classes) a)
+              ∙ ap (map (counted_by records)) (sym (first_more classes a))
               ∙ ap (λ (cs : List Analysed). map (counted_by records) (first_of_each_id cs)) (sym more);
           ids =
-              keeps.counts.ids ∙ (λ i. unless_known (known i) (so_far.ids i) a.id) ∙ sym (ap (λ (cs : List Analysed). first_seen (ids cs)) more ∙ ids_more classes b);
+              keeps.ids ∙ (λ i. unless_known (known i) (so_far.ids i) a.id) ∙ sym (ap (λ (cs : List Analysed). first_seen (ids cs)) more ∙ ids_more classes a);
         },
       )
 
-  by_bodies : (a : Analysed) (bodies : List Body) → bodies ≢ [] → KeepsClass records a bodies old new → KeepsChanged records a old new
-  by_bodies a [] some keeps = absurd (some refl)
-  by_bodies a (b ∷ bodies) some keeps = keeps
-
-  pub looks_class : (a : Analysed) → IsAnalysis bytes a → KeepsClass records a a.bodies old new → LooksOn records path bytes old new
-  looks_class a is keeps = by (is_left_alone is.file) refl
+  pub seen_refused : (why : Refusal) → IsSeen records bytes (seens.Refused why) → KeepsRefused path why old new → LooksOn records path bytes old new
+  seen_refused why seen keeps = by seen.item seen.is seen.kept
     where
-      by : (t : Bool) → is_left_alone is.file ≡ t → LooksOn records path bytes old new
-      by true alone = looks_unchanged a is alone (subst (λ (bs : List Body). KeepsClass records a bs old new) (left_alone_has_none bytes a is alone) keeps)
-      by false code = looks_changed a is code (by_bodies a a.bodies (changed_has_some bytes a is code) keeps)
+      by : (item : Item) → IsItem bytes item → seens.Refused why ≡ seen_as records item → LooksOn records path bytes old new
+      by (refused_class other) is kept =
+          let same : other ≡ why = cc in looks_refused why (subst (λ (r : Refusal). IsItem bytes (refused_class r)) same is) keeps
+      by unchanged_class is kept = absurd cc
+      by (changed_class a) is kept = absurd cc
+
+  pub seen_unchanged : IsSeen records bytes seens.Unchanged → new ≡ old → LooksOn records path bytes old new
+  seen_unchanged seen keeps = by seen.item seen.is seen.kept
+    where
+      by : (item : Item) → IsItem bytes item → seens.Unchanged ≡ seen_as records item → LooksOn records path bytes old new
+      by (refused_class why) is kept = absurd cc
+      by unchanged_class is kept = looks_unchanged is keeps
+      by (changed_class a) is kept = absurd cc
+
+  pub seen_changed : (c : Counted) → IsSeen records bytes (seens.Changed c) → Keeps c old new → LooksOn records path bytes old new
+  seen_changed c seen keeps = by seen.item seen.is seen.fits seen.kept
+    where
+      by : (item : Item) → IsItem bytes item → clash_of records item ≡ None → seens.Changed c ≡ seen_as records item → LooksOn records path bytes old new
+      by (refused_class why) is fits kept = absurd cc
+      by unchanged_class is fits kept = absurd cc
+      by (changed_class a) is fits kept =
+          let same : c ≡ counted_by records a = cc in looks_changed a is fits (subst (λ (d : Counted). Keeps d old new) same keeps)
 
 -- ---- clashes
 
@@ -288,6 +309,23 @@ file_clashes records bytes a is refusal clash = by (is_left_alone is.file) refl
     by true alone = absurd ((class_clashes records a a.bodies refusal clash).0 (left_alone_has_none bytes a is alone))
     by false code = (changed_class (frameless a), is_changed a is code, (class_clashes records a a.bodies refusal clash).1)
 
+-- what is seen of a class is what is seen of its class file
+sees_class : (records : List ClassHits) (bytes : List ℕ) (a : Analysed) → IsAnalysis bytes a → (seen : Seen) → SeesClass records a a.bodies seen → IsSeen records bytes seen
+sees_class records bytes a is seen sees = by (is_left_alone is.file) refl
+  where
+    by_bodies : (bodies : List Body) → bodies ≢ [] → SeesClass records a bodies seen
+        → (clash_with a (record_of records a.id) ≡ None) × (seen ≡ seens.Changed (counted_by records a))
+    by_bodies [] some sees = absurd (some refl)
+    by_bodies (b ∷ bodies) some sees = sees
+
+    by : (t : Bool) → is_left_alone is.file ≡ t → IsSeen records bytes seen
+    by true alone =
+        let none = subst (λ (bs : List Body). SeesClass records a bs seen) (left_alone_has_none bytes a is alone) sees in
+        record { item = unchanged_class; is = is_unchanged a is alone; fits = refl; kept = none }
+    by false code =
+        let both = by_bodies a.bodies (changed_has_some bytes a is code) sees in
+        record { item = changed_class (frameless a); is = is_changed a is code; fits = both.0; kept = both.1 ∙ ap seens.Changed (sym (same_by records a)) }
+
 -- a clash stops for whatever follows from it
 pub stops_for : (path : Option Word) (P Q : ExecRefusal → Type 0) → ((r : ExecRefusal) → P r → Q r) → (stop : Stop) → StopsAtClash path P stop → StopsAtClash path Q stop
 stops_for path P Q f stops.Memory stop = tt
@@ -295,6 +333,15 @@ stops_for path P Q f (stops.Refused file fault) stop = (stop.0, stop.1, stop.2, 
 stops_for path P Q f (stops.Read p) stop = absurd stop
 stops_for path P Q f (stops.Write p) stop = absurd stop
 stops_for path P Q f stops.Output stop = absurd stop
+
+pub looked_class : (records : List ClassHits) (path : Option Word) (bytes : List ℕ) (a : Analysed) → IsAnalysis bytes a → (r : Result Seen Stop)
+    → IfOk r (SeesClass records a a.bodies) → IfErr r (StopsAtClash path (ClassClashes records a a.bodies)) → IsLooked records path bytes r
+looked_class records path bytes a is (Ok seen) sees clash = sees_class records bytes a is seen sees
+looked_class records path bytes a is (Err stop) sees clash =
+    stops_for path (ClassClashes records a a.bodies) (FileClashes records bytes) (file_clashes records bytes a is) stop clash
+
+pub looked_refused : (records : List ClassHits) (bytes : List ℕ) (why : Refusal) → AnalysisReason bytes (Some why) → IsSeen records bytes (seens.Refused why)
+looked_refused records bytes why reason = record { item = refused_class why; is = is_refused why reason; fits = refl; kept = refl }
 
 -- ---- all class files
 
@@ -310,14 +357,15 @@ pub looking_none : (records : List ClassHits) (paths : List (String Global)) (te
 looking_none records paths texts looked lines classes keys =
     record { items = []; are = tt; none = refl; report = record { lines = ap (map write_seen) lines; classes = classes; ids = keys } }
 
-module _ (records : List ClassHits) (words : List (String Global)) (texts : List (List ℕ)) (i : ℕ) (w : String Global) (t : List ℕ) (path : Word) (old : Looked)
-    (same : length texts ≡ length words) (within : i < length texts) (text : t ≡ get_or texts i t) (word : w ≡ get_or words i w) (path_is : path ≡ string_bytes w)
+module _ (records : List ClassHits) (words : List (String Global)) (texts : List (List ℕ)) (i : ℕ) (t : List ℕ) (old : Looked)
+    (same : length texts ≡ length words) (within : i < length texts) (text : t ≡ get_or texts i t)
     (so_far : Looking records (words_of (take i words)) (take i texts) old) where
   longer : take (i + 1) texts ≡ take i texts ++ t ∷ []
   longer = take_more texts i t within ∙ ap (λ (u : List ℕ). take i texts ++ u ∷ []) (sym text)
 
-  pub looking_on : (new : Looked) → LooksOn records path t old new → Looking records (words_of (take (i + 1) words)) (take (i + 1) texts) new
-  looking_on new looks =
+  looking_on : (w : String Global) (path : Word) (new : Looked) → w ≡ get_or words i w → path ≡ string_bytes w
+      → LooksOn records path t old new → Looking records (words_of (take (i + 1) words)) (take (i + 1) texts) new
+  looking_on w path new word path_is looks =
       let many = as_many_items (take i texts) so_far.items so_far.are in
       let short : length (words_of (take i words)) ≡ length so_far.items =
       omega (arith, length-map (take i words) string_bytes, length-take i words, length-take i texts, many, same) in
@@ -326,18 +374,44 @@ module _ (records : List ClassHits) (words : List (String Global)) (texts : List
       map_take_more string_bytes words i w (omega (arith, same, within)) word ∙ ap (λ (p : Word). words_of (take i words) ++ p ∷ []) (sym path_is) in
       record {
         items = so_far.items ++ step.0 ∷ [];
-        are = subst (λ (ts : List (List ℕ)). AreItems ts (so_far.items ++ step.0 ∷ [])) (sym longer) (items_more (take i texts) so_far.items t step.0 so_far.are step.1);
+        are =
+            subst (λ (ts : List (List ℕ)). AreItems ts (so_far.items ++ step.0 ∷ [])) (sym longer)
+            (items_more (take i texts) so_far.items t step.0 so_far.are step.1);
         none = clash_behind records so_far.items step.0 None so_far.none step.2;
         report = subst (λ (ps : List Word). IsReportOf records ps (so_far.items ++ step.0 ∷ []) new) (sym more) step.3;
       }
 
-  pub front_clashes : (refusal : ExecRefusal) → FileClashes records t refusal → FrontClashes records texts refusal
+  front_clashes : (refusal : ExecRefusal) → FileClashes records t refusal → FrontClashes records texts refusal
   front_clashes refusal clash = (
     i + 1,
     so_far.items ++ clash.0 ∷ [],
-    subst (λ (ts : List (List ℕ)). AreItems ts (so_far.items ++ clash.0 ∷ [])) (sym longer) (items_more (take i texts) so_far.items t clash.0 so_far.are clash.1),
+    subst (λ (ts : List (List ℕ)). AreItems ts (so_far.items ++ clash.0 ∷ [])) (sym longer)
+        (items_more (take i texts) so_far.items t clash.0 so_far.are clash.1),
     clash_behind records so_far.items clash.0 (Some refusal) so_far.none clash.2,
   )
+
+module _ (records : List ClassHits) (data_path : Option Word) (words : List (String Global)) (texts : List (List ℕ))
+    (answers : List (Result Seen Stop)) (are : AllZip (IsLooked records data_path) texts answers) (n index : ℕ) (answer : Result Seen Stop)
+    (old : Looked) (same : length texts ≡ length words) (place : AtPlace answers n index answer)
+    (so_far : Looking records (words_of (take n words)) (take n texts) old) where
+  own : (t : List ℕ) × (t ≡ get_or texts n t) × IsLooked records data_path t answer
+  own = zipped_at (IsLooked records data_path) texts answers n answer are place.within place.at
+
+  within : n < length texts
+  within = let long = AllZip-long (IsLooked records data_path) texts answers are in omega (arith, place.within, long)
+
+  pub looked_on : (seen : Seen) (w : String Global) (path : Word) (new : Looked) → answer ≡ Ok seen → w ≡ get_or words index w
+      → path ≡ string_bytes w → ((bytes : Word) → IsSeen records bytes seen → LooksOn records path bytes old new)
+      → Looking records (words_of (take (n + 1) words)) (take (n + 1) texts) new
+  looked_on seen w path new is word path_is looks =
+      let at : w ≡ get_or words n w = word ∙ ap (λ (k : ℕ). get_or words k w) place.index_is in
+      let seen_is = subst (IsLooked records data_path own.0) is own.2 in
+      looking_on records words texts n own.0 old same within own.1 so_far w path new at path_is (looks own.0 seen_is)
+
+  pub looked_stops : (stop : Stop) → answer ≡ Err stop → StopsAtClash data_path (FrontClashes records texts) stop
+  looked_stops stop is =
+      stops_for data_path (FileClashes records own.0) (FrontClashes records texts)
+      (front_clashes records words texts n own.0 old same within own.1 so_far) stop (subst (IsLooked records data_path own.0) is own.2)
 
 pub looked_at_all : (records : List ClassHits) (words : List (String Global)) (texts : List (List ℕ)) (i : ℕ) (looked : Looked) → length texts ≡ length words
     → length texts ≤ i → Looking records (words_of (take i words)) (take i texts) looked → LooksAtAll records (words_of words) texts looked

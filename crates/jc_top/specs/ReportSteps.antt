@@ -1,5 +1,5 @@
 -- What the steps of a report give.
-use Rattle.std.specs.Prelude.{◌≡◌, ⊤, ℕ, Bool, List, [], ◌∷◌, ◌++◌, length, map, take, nat_eq, Option, Some, None, option_map, Result, Ok, Err, Vec, if◌then◌else◌}
+use Rattle.std.specs.Prelude.{◌≡◌, ⊤, ℕ, Bool, List, [], ◌∷◌, ◌++◌, length, map, take, nat_eq, Option, Some, None, Result, Ok, Err, Vec, if◌then◌else◌}
 use Rattle.std.specs.Borrow.{Bor}
 use Rattle.std.specs.List.{list_any}
 use Rattle.std.specs.declared.alloc.Global.{Global}
@@ -9,14 +9,18 @@ use Rattle.jc_base.specs.declared.body.Body.{Body}
 use Rattle.jc_base.specs.declared.refusal.Refusal.{Refusal}
 use Rattle.jc_exec.specs.declared.hits.ClassHits.{ClassHits}
 use Rattle.jc_exec.specs.declared.refusal.ExecRefusal.{ExecRefusal}
+use Rattle.jc_report.specs.declared.row.Counted.{Counted}
 use Rattle.jc_top.specs.declared.class_report.Data.{Data}
 use Rattle.jc_top.specs.declared.class_report.Looked.{Looked}
+use Rattle.jc_top.specs.declared.class_report.Seen.{Seen}
+use Rattle.jc_top.specs.declared.class_report.Seen.TheVariants as seens
 use Rattle.jc_top.specs.declared.output.Write.{Write as Written}
 use Rattle.jc_top.specs.declared.status.Fault.TheVariants as faults
 use Rattle.jc_top.specs.declared.stop.Stop.{Stop}
 use Rattle.jc_top.specs.declared.stop.Stop.TheVariants as stops
 use Rattle.jc_top.specs.Looks.{write_seen}
-use Rattle.jc_top.specs.Report.{Item, IsItem, AreItems, lines_of, changed_of, record_of, clash_with, clash_of, first_clash, counted_of, counted_classes, csv_of_items}
+use Rattle.jc_top.specs.Report.{Item, refused_class, unchanged_class, changed_class, IsItem, AreItems, lines_of, changed_of}
+use Rattle.jc_top.specs.Report.{record_of, clash_with, clash_of, first_clash, counted_by, counted_classes, csv_of_items}
 use Rattle.jc_top.specs.Texts.{refused_line}
 use Rattle.jc_top.specs.Words.{Word}
 use Rattle.jc_top.specs.World.{to_file, to_err}
@@ -39,6 +43,40 @@ StopsAtClash path Why (stops.Read p) = ⊥
 StopsAtClash path Why (stops.Write p) = ⊥
 StopsAtClash path Why stops.Output = ⊥
 
+-- ---- one class file
+
+-- what a class file is to a report, and what is kept of it
+abbrev pub seen_as : List ClassHits → Item → Seen
+seen_as records (refused_class why) = seens.Refused why
+seen_as records unchanged_class = seens.Unchanged
+seen_as records (changed_class a) = seens.Changed (counted_by records a)
+
+-- the class file doesn't clash, and this is kept of it
+pub record IsSeen (records : List ClassHits) (bytes : List ℕ) (seen : Seen) : Type 0 where
+  pub item : Item
+  pub is : IsItem bytes item
+  pub fits : clash_of records item ≡ None
+  pub kept : seen ≡ seen_as records item
+
+-- a class without bodies is unchanged, and the record of any other fits it
+abbrev pub SeesClass : List ClassHits → Analysed → List Body → Seen → Type 0
+SeesClass records a [] seen = seen ≡ seens.Unchanged
+SeesClass records a (b ∷ bodies) seen = (clash_with a (record_of records a.id) ≡ None) × (seen ≡ seens.Changed (counted_by records a))
+
+-- the class has bodies, and its record doesn't fit it
+abbrev pub ClassClashes : List ClassHits → Analysed → List Body → ExecRefusal → Type 0
+ClassClashes records a [] refusal = ⊥
+ClassClashes records a (b ∷ bodies) refusal = clash_with a (record_of records a.id) ≡ Some refusal
+
+-- the class file clashes
+abbrev pub FileClashes : List ClassHits → List ℕ → ExecRefusal → Type 0
+FileClashes records bytes refusal = (item : Item) × IsItem bytes item × (clash_of records item ≡ Some refusal)
+
+-- what is kept of a class file, or the clash that stops the command
+abbrev pub IsLooked : List ClassHits → Option Word → List ℕ → Result Seen Stop → Type 0
+IsLooked records path bytes (Ok seen) = IsSeen records bytes seen
+IsLooked records path bytes (Err stop) = StopsAtClash path (FileClashes records bytes) stop
+
 -- ---- one class file more
 
 -- the line of a class file that is refused was put last, and nothing else changed
@@ -51,26 +89,11 @@ pub record KeepsRefused (path : Word) (why : Refusal) (old new : Looked) : Type 
 abbrev pub unless_known : {X : Type 0} → Bool → List X → X → List X
 unless_known known xs x = if known then xs else xs ++ x ∷ []
 
--- the class was counted by these hits, unless its id came before
-pub record Counts (hits : Option (List Bool)) (a : Analysed) (old new : Looked) : Type 0 where
+-- the counted class was put last, unless its id came before
+pub record Keeps (c : Counted) (old new : Looked) : Type 0 where
   pub lines : new.lines.items ≡ old.lines.items
-  pub classes : new.classes.items ≡ unless_known (list_any (nat_eq a.id) old.ids.keys) old.classes.items (counted_of hits a)
-  pub ids : new.ids.keys ≡ unless_known (list_any (nat_eq a.id) old.ids.keys) old.ids.keys a.id
-
--- the changed class was counted so by its record, which fits it
-pub record KeepsChanged (records : List ClassHits) (a : Analysed) (old new : Looked) : Type 0 where
-  pub counts : Counts (option_map (λ r. r.bits) (record_of records a.id)) a old new
-  pub fits : clash_with a (record_of records a.id) ≡ None
-
--- a class without bodies is unchanged
-abbrev pub KeepsClass : List ClassHits → Analysed → List Body → Looked → Looked → Type 0
-KeepsClass records a [] old new = new ≡ old
-KeepsClass records a (b ∷ bodies) old new = KeepsChanged records a old new
-
--- the class has bodies, and its record doesn't fit it
-abbrev pub ClassClashes : List ClassHits → Analysed → List Body → ExecRefusal → Type 0
-ClassClashes records a [] refusal = ⊥
-ClassClashes records a (b ∷ bodies) refusal = clash_with a (record_of records a.id) ≡ Some refusal
+  pub classes : new.classes.items ≡ unless_known (list_any (nat_eq c.id) old.ids.keys) old.classes.items c
+  pub ids : new.ids.keys ≡ unless_known (list_any (nat_eq c.id) old.ids.keys) old.ids.keys c.id
 
 -- ---- the class files so far
 
@@ -85,10 +108,6 @@ abbrev pub LooksOn : List ClassHits → Word → List ℕ → Looked → Looked 
 LooksOn records path bytes old new =
     (paths : List Word) (items : List Item) → length paths ≡ length items → IsReportOf records paths items old
     → (item : Item) × IsItem bytes item × (clash_of records item ≡ None) × IsReportOf records (paths ++ path ∷ []) (items ++ item ∷ []) new
-
--- the class file clashes
-abbrev pub FileClashes : List ClassHits → List ℕ → ExecRefusal → Type 0
-FileClashes records bytes refusal = (item : Item) × IsItem bytes item × (clash_of records item ≡ Some refusal)
 
 -- ---- all class files
 

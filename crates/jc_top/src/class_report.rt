@@ -1,15 +1,18 @@
 //! The class files of a report.
-ghost use Rattle.std.specs.Prelude.{◌≡◌, ◌≤◌, ℕ, length, map, option_map, false, Some, None, All, IfSome, IfOk, IfErr, OnOk, string_bytes};
+ghost use Rattle.std.specs.Prelude.{◌≡◌, ◌≤◌, List, length, option_map, false, Some, None, All, IfSome, IfOk, IfErr, OnOk};
+ghost use Rattle.std.specs.List.{AllZip};
 ghost use Rattle.jc_base.specs.Outside.{most_read};
+ghost use Rattle.jc_exec.specs.declared.hits.ClassHits.{ClassHits};
 ghost use Rattle.jc_exec.specs.declared.refusal.ExecRefusal.TheVariants.{Conflict as conflict};
 ghost use Rattle.jc_instrument.specs.Analysis.{IsPlanned};
-ghost use Rattle.jc_top.specs.Report.{counted_of};
+ghost use Rattle.jc_top.specs.Report.{counted_of, counted_by};
 ghost use Rattle.jc_top.specs.Report.{fits, record_of, clash_with};
-ghost use Rattle.jc_top.specs.ReportSteps.{data_records, data_path, StopsAtClash, KeepsRefused, Counts, KeepsChanged, KeepsClass};
-ghost use Rattle.jc_top.specs.ReportSteps.{ClassClashes, LooksOn, FileClashes, LooksAtAll, FrontClashes};
-ghost use Rattle.jc_top.specs.Words.{words_of};
+ghost use Rattle.jc_top.specs.ReportSteps.{data_records, data_path, StopsAtClash, ClassClashes, IsLooked, IsSeen, SeesClass};
+ghost use Rattle.jc_top.specs.ReportSteps.{KeepsRefused, Keeps, LooksOn, LooksAtAll, FrontClashes};
+ghost use Rattle.jc_top.specs.Words.{Word, words_of};
 
 use crate::Fault;
+use crate::each::each_answer;
 use crate::message::refused_line;
 use crate::output::Write;
 use crate::stop::Stop;
@@ -20,6 +23,8 @@ use jc_exec::{ClassHits, ExecRefusal, ExecStore};
 use jc_instrument::analyse;
 use jc_report::Counted;
 use std::alloc::Global;
+use std::marker::Sync;
+use std::thread::Threads;
 
 /// Execution data, and the file that it was read from.
 #[derive(Drop)]
@@ -37,6 +42,17 @@ pub struct Looked<'a> {
     pub classes: Vec<Counted>,
     /// Their ids.
     pub ids: IndexSet<u64>,
+}
+
+/// What a class file is to a report.
+#[derive(Drop)]
+enum Seen {
+    /// It is refused.
+    Refused(Refusal),
+    /// Its class is unchanged.
+    Unchanged,
+    /// Its class is changed, and has these counters.
+    Changed(Counted),
 }
 
 /// Whether a record has the name of a class, and as many probes.
@@ -144,6 +160,81 @@ fn counted(alloc: Global, class: Analysed, hits: Option<&[bool]>) -> Result<Coun
     })
 }
 
+/// The hits of a record.
+fn bits_of<'d>(class_hits: Option<&'d ClassHits>) -> Option<&'d [bool]>
+    ensures { option_map (λ bits. bits.now) result ≡ option_map (λ r. r.now.bits) class_hits.entry }
+{
+    match class_hits {
+        Some(class_hits) => Some(&class_hits.bits),
+        None => None,
+    }
+}
+
+/// A class with its counters, by the hits of its record in the execution data, or by none. A record that doesn't fit it
+/// stops the command.
+fn counted_by<'a>(
+    alloc: Global,
+    exec_data: Option<&Data<'a>>,
+    class: Analysed,
+) -> Result<Counted, Stop<'a>>
+    requires { IsPlanned class }
+    ensures counted { IfOk result (λ c. c ≡ counted_by (data_records exec_data.entry) class) }
+    ensures fit { IfOk result (λ _. clash_with class (record_of (data_records exec_data.entry) class.id) ≡ None) }
+    ensures clash { IfErr result (StopsAtClash (data_path exec_data.entry)
+        (λ refusal. clash_with class (record_of (data_records exec_data.entry) class.id) ≡ Some refusal)) }
+{
+    let class_hits = record_of(alloc, exec_data, &class)?;
+    Ok(counted(alloc, class, bits_of(class_hits))?)
+}
+
+/// What the class of a class file is to a report.
+fn seen_class<'a>(
+    alloc: Global,
+    exec_data: Option<&Data<'a>>,
+    class: Analysed,
+) -> Result<Seen, Stop<'a>>
+    requires { IsPlanned class }
+    ensures seen { IfOk result (SeesClass (data_records exec_data.entry) class class.bodies) }
+    ensures clash { IfErr result (StopsAtClash (data_path exec_data.entry)
+        (ClassClashes (data_records exec_data.entry) class class.bodies)) }
+{
+    if class.bodies.len() == 0 {
+        return Ok(Seen::Unchanged);
+    }
+    Ok(Seen::Changed(counted_by(alloc, exec_data, class)?))
+}
+
+/// Looks at one class file.
+fn look<'a>(alloc: Global, exec_data: Option<&Data<'a>>, bytes: &[u8]) -> Result<Seen, Stop<'a>>
+    requires { length bytes.now ≤ most_read }
+    ensures { IsLooked (data_records exec_data.entry) (data_path exec_data.entry) bytes.now result }
+{
+    match analyse(alloc, bytes) {
+        Ok(class) => seen_class(alloc, exec_data, class),
+        Err(Fail::Memory) => Err(Stop::Memory),
+        Err(Fail::Said(refusal)) => Ok(Seen::Refused(refusal)),
+    }
+}
+
+/// Looks at each class file. The answers are in the order of the files.
+fn look_at_each<'a, R: Threads + Sync>(
+    rt: &R,
+    alloc: Global,
+    exec_data: Option<&Data<'a>>,
+    texts: Vec<Bytes>,
+) -> Result<Vec<Result<Seen, Stop<'a>>>, Memory>
+    requires { All (λ t. length t ≤ most_read) texts.items }
+    ensures each { IfOk result (λ answers.
+        AllZip (IsLooked (data_records exec_data.entry) (data_path exec_data.entry)) texts.items answers.items) }
+    ensures len { IfOk result (λ answers. length answers.items ≡ length texts.items) }
+{
+    let answer = |bytes: Bytes| -> Result<Seen, Stop<'_>>
+        requires { length bytes ≤ most_read }
+        ensures { IsLooked (data_records exec_data.entry) (data_path exec_data.entry) bytes result }
+    { look(alloc, exec_data, &bytes) };
+    each_answer(rt, alloc, texts, answer)
+}
+
 /// Keeps the line of a class file that is refused.
 fn keep_refused<'a>(
     alloc: Global,
@@ -158,117 +249,55 @@ fn keep_refused<'a>(
     Ok(())
 }
 
-/// The hits of a record.
-fn bits_of<'d>(class_hits: Option<&'d ClassHits>) -> Option<&'d [bool]>
-    ensures { option_map (λ bits. bits.now) result ≡ option_map (λ r. r.now.bits) class_hits.entry }
-{
-    match class_hits {
-        Some(class_hits) => Some(&class_hits.bits),
-        None => None,
-    }
-}
-
-/// Counts a class by the hits of its record, or by none, unless its id came before.
-fn count_class<'a>(
-    alloc: Global,
-    looked: &mut Looked<'a>,
-    class: Analysed,
-    class_hits: Option<&ClassHits>,
-) -> Result<(), Memory>
-    requires planned { IsPlanned class }
-    requires hits { IfSome class_hits (λ r. length r.now.bits ≡ class.probes) }
-    ensures { OnOk result (Counts (option_map (λ r. r.now.bits) class_hits.entry) class looked.old looked.new) }
+/// Keeps a changed class, unless its id came before.
+fn keep_counted<'a>(looked: &mut Looked<'a>, class: Counted) -> Result<(), Memory>
+    ensures { OnOk result (Keeps class looked.old looked.new) }
 {
     let (_, is_new) = looked.ids.insert_full(class.id)?;
     if is_new {
-        looked
-            .classes
-            .push(counted(alloc, class, bits_of(class_hits))?)?;
+        looked.classes.push(class)?;
     }
     Ok(())
 }
 
-/// Counts a changed class, unless its id came before.
-fn keep_changed<'a>(
+/// Keeps what a class file is to the report.
+fn keep_seen<'a>(
     alloc: Global,
-    exec_data: Option<&Data<'a>>,
-    looked: &mut Looked<'a>,
-    class: Analysed,
-) -> Result<(), Stop<'a>>
-    requires { IsPlanned class }
-    ensures kept { OnOk result (KeepsChanged (data_records exec_data.entry) class looked.old looked.new) }
-    ensures clash { IfErr result (StopsAtClash (data_path exec_data.entry)
-        (λ refusal. clash_with class (record_of (data_records exec_data.entry) class.id) ≡ Some refusal)) }
-{
-    let class_hits = record_of(alloc, exec_data, &class)?;
-    count_class(alloc, looked, class, class_hits)?;
-    Ok(())
-}
-
-/// Counts a class that isn't unchanged.
-fn keep_class<'a>(
-    alloc: Global,
-    exec_data: Option<&Data<'a>>,
-    looked: &mut Looked<'a>,
-    class: Analysed,
-) -> Result<(), Stop<'a>>
-    requires { IsPlanned class }
-    ensures kept { OnOk result (KeepsClass (data_records exec_data.entry) class class.bodies looked.old looked.new) }
-    ensures clash { IfErr result (StopsAtClash (data_path exec_data.entry)
-        (ClassClashes (data_records exec_data.entry) class class.bodies)) }
-{
-    if class.bodies.len() == 0 {
-        return Ok(());
-    }
-    keep_changed(alloc, exec_data, looked, class)?;
-    Ok(())
-}
-
-/// Looks at one class file.
-fn look<'a>(
-    alloc: Global,
-    exec_data: Option<&Data<'a>>,
     looked: &mut Looked<'a>,
     path: &str,
-    bytes: &[u8],
-) -> Result<(), Stop<'a>>
-    requires { length bytes.now ≤ most_read }
-    ensures on { OnOk result (LooksOn (data_records exec_data.entry) path.now bytes.now looked.old looked.new) }
-    ensures clash { IfErr result (StopsAtClash (data_path exec_data.entry) (FileClashes (data_records exec_data.entry) bytes.now)) }
+    seen: Seen,
+) -> Result<(), Memory>
+    ensures { (records : List ClassHits) (bytes : Word) → IsSeen records bytes seen
+        → OnOk result (LooksOn records path.now bytes looked.old looked.new) }
 {
-    match analyse(alloc, bytes) {
-        Ok(class) => keep_class(alloc, exec_data, looked, class)?,
-        Err(Fail::Memory) => return Err(Stop::Memory),
-        Err(Fail::Said(refusal)) => keep_refused(alloc, looked, path, refusal)?,
+    match seen {
+        Seen::Refused(refusal) => keep_refused(alloc, looked, path, refusal),
+        Seen::Unchanged => Ok(()),
+        Seen::Changed(class) => keep_counted(looked, class),
     }
-    Ok(())
 }
 
 /// Looks at the class files, in order.
-pub fn look_at_all<'a>(
+pub fn look_at_all<'a, R: Threads + Sync>(
+    rt: &R,
     alloc: Global,
     exec_data: Option<&Data<'a>>,
     paths: &[String],
-    texts: &[Bytes],
+    texts: Vec<Bytes>,
 ) -> Result<Looked<'a>, Stop<'a>>
-    requires each { length texts.now ≡ length paths.now }
-    requires short { All (λ t. length t ≤ most_read) texts.now }
-    ensures all { IfOk result (LooksAtAll (data_records exec_data.entry) (words_of paths.now) texts.now) }
-    ensures clash { IfErr result (StopsAtClash (data_path exec_data.entry) (FrontClashes (data_records exec_data.entry) texts.now)) }
+    requires each { length texts.items ≡ length paths.now }
+    requires short { All (λ t. length t ≤ most_read) texts.items }
+    ensures all { IfOk result (LooksAtAll (data_records exec_data.entry) (words_of paths.now) texts.items) }
+    ensures clash { IfErr result (StopsAtClash (data_path exec_data.entry) (FrontClashes (data_records exec_data.entry) texts.items)) }
 {
+    let answers = look_at_each(rt, alloc, exec_data, texts)?;
     let mut looked = Looked {
         lines: Vec::new(alloc),
         classes: Vec::new(alloc),
         ids: IndexSet::new(alloc),
     };
-    'looking: for index in 0..texts.len() {
-        look(
-            alloc,
-            exec_data,
-            &mut looked,
-            paths[index].as_str(),
-            &texts[index],
-        )?;
+    'looking: for (index, answer) in answers.into_iter().enumerate() {
+        keep_seen(alloc, &mut looked, paths[index].as_str(), answer?)?;
     }
     Ok(looked)
 }

@@ -15,6 +15,8 @@ use crate::stop::{Stop, exec_stop};
 use jc_base::{Bytes, Files, Memory};
 use jc_report::{Counted, csv_text, rows};
 use std::alloc::Global;
+use std::marker::Sync;
+use std::thread::Threads;
 
 /// The CSV text of classes.
 fn csv_of(alloc: Global, name: &str, classes: &[Counted]) -> Result<Vec<u8>, Memory>
@@ -38,65 +40,69 @@ fn with_file<'a>(
 }
 
 /// The writes of a report of class files.
-fn reported<'a>(
+fn reported<'a, R: Threads + Sync>(
+    rt: &R,
     alloc: Global,
     out: &'a str,
     name: &str,
     exec_data: Option<&Data<'a>>,
     paths: &[String],
-    texts: &[Bytes],
+    texts: Vec<Bytes>,
 ) -> Result<Vec<Write<'a>>, Stop<'a>>
-    requires each { length texts.now ≡ length paths.now }
-    requires short { All (λ t. length t ≤ most_read) texts.now }
+    requires each { length texts.items ≡ length paths.now }
+    requires short { All (λ t. length t ≤ most_read) texts.items }
     ensures { ReportsWith out.entry.now name.now (data_records exec_data.entry) (data_path exec_data.entry)
-        (words_of paths.now) texts.now result }
+        (words_of paths.now) texts.items result }
 {
-    let looked = look_at_all(alloc, exec_data, paths, texts)?;
+    let looked = look_at_all(rt, alloc, exec_data, paths, texts)?;
     let bytes = csv_of(alloc, name, &looked.classes)?;
     Ok(with_file(looked.lines, out, bytes)?)
 }
 
 /// The writes of a report without execution data.
-fn reported_without_data<'a>(
+fn reported_without_data<'a, R: Threads + Sync>(
+    rt: &R,
     alloc: Global,
     out: &'a str,
     name: &str,
     paths: &[String],
-    texts: &[Bytes],
+    texts: Vec<Bytes>,
 ) -> Result<Vec<Write<'a>>, Stop<'a>>
-    requires each { length texts.now ≡ length paths.now }
-    requires short { All (λ t. length t ≤ most_read) texts.now }
-    ensures { AnswersWith (report out.entry.now name.now None (words_of paths.now)) texts.now result }
+    requires each { length texts.items ≡ length paths.now }
+    requires short { All (λ t. length t ≤ most_read) texts.items }
+    ensures { AnswersWith (report out.entry.now name.now None (words_of paths.now)) texts.items result }
 {
-    reported(alloc, out, name, None, paths, texts)
+    reported(rt, alloc, out, name, None, paths, texts)
 }
 
 /// The writes of a report by the execution data of a file.
-fn reported_by_data<'a>(
+fn reported_by_data<'a, R: Threads + Sync>(
+    rt: &R,
     alloc: Global,
     out: &'a str,
     name: &str,
     exec: &'a str,
     bytes: &[u8],
     paths: &[String],
-    texts: &[Bytes],
+    texts: Vec<Bytes>,
 ) -> Result<Vec<Write<'a>>, Stop<'a>>
     requires exec_short { length bytes.now ≤ most_read }
-    requires each { length texts.now ≡ length paths.now }
-    requires short { All (λ t. length t ≤ most_read) texts.now }
-    ensures { AnswersWith (report out.entry.now name.now (Some exec.entry.now) (words_of paths.now)) (bytes.now ∷ texts.now) result }
+    requires each { length texts.items ≡ length paths.now }
+    requires short { All (λ t. length t ≤ most_read) texts.items }
+    ensures { AnswersWith (report out.entry.now name.now (Some exec.entry.now) (words_of paths.now)) (bytes.now ∷ texts.items) result }
 {
     match data_of(alloc, bytes) {
         Ok(store) => {
             let exec_data = Data { path: exec, store };
-            reported(alloc, out, name, Some(&exec_data), paths, texts)
+            reported(rt, alloc, out, name, Some(&exec_data), paths, texts)
         }
         Err(fail) => Err(exec_stop(fail, 0, exec)),
     }
 }
 
 /// Reads the class files, and makes the writes of a report without execution data.
-fn prepare_without_data<'a, F: Files>(
+fn prepare_without_data<'a, R: Threads + Sync, F: Files>(
+    rt: &R,
     alloc: Global,
     files: &mut F,
     out: &'a str,
@@ -109,11 +115,12 @@ fn prepare_without_data<'a, F: Files>(
     ensures write_faults { F.write_faults files.new ≡ F.write_faults files.old }
 {
     let texts = read_all(alloc, files, paths)?;
-    reported_without_data(alloc, out, name, paths, &texts)
+    reported_without_data(rt, alloc, out, name, paths, texts)
 }
 
 /// Reads the execution data and the class files, and makes the writes of a report.
-fn prepare_by_data<'a, F: Files>(
+fn prepare_by_data<'a, R: Threads + Sync, F: Files>(
+    rt: &R,
     alloc: Global,
     files: &mut F,
     out: &'a str,
@@ -128,11 +135,12 @@ fn prepare_by_data<'a, F: Files>(
 {
     let bytes = read_one(alloc, files, exec)?;
     let texts = read_all(alloc, files, paths)?;
-    reported_by_data(alloc, out, name, exec, &bytes, paths, &texts)
+    reported_by_data(rt, alloc, out, name, exec, &bytes, paths, texts)
 }
 
 /// The writes of `report --csv OUT [--name NAME] [--exec IN] CLASSFILE..`.
-pub fn prepare_report<'a, F: Files>(
+pub fn prepare_report<'a, R: Threads + Sync, F: Files>(
+    rt: &R,
     alloc: Global,
     files: &mut F,
     out: &'a str,
@@ -147,7 +155,7 @@ pub fn prepare_report<'a, F: Files>(
     ensures write_faults { F.write_faults files.new ≡ F.write_faults files.old }
 {
     match exec {
-        None => prepare_without_data(alloc, files, out, name, paths),
-        Some(exec) => prepare_by_data(alloc, files, out, name, exec, paths),
+        None => prepare_without_data(rt, alloc, files, out, name, paths),
+        Some(exec) => prepare_by_data(rt, alloc, files, out, name, exec, paths),
     }
 }

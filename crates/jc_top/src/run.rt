@@ -45,7 +45,7 @@ fn prepare<'a, R: Threads + Sync, F: Files>(
             name,
             exec,
             paths,
-        } => prepare_report(alloc, files, out, name, *exec, paths),
+        } => prepare_report(rt, alloc, files, out, name, *exec, paths),
         Command::Instrument { paths, targets, .. } => {
             prepare_instrument(rt, alloc, files, paths, targets)
         }
@@ -83,8 +83,8 @@ fn run<'a, R: Threads + Sync, F: Files, O: Sink, E: Sink>(
 /// A class file that `report` or `instrument` refuses is no failure. `report` begins its writes with a line on `err` for
 /// each. `instrument` writes each class file to DIR/FILE, and behind it its line: one that is refused byte for byte as it
 /// was read, with a line on `err` that gives the reason; one whose class stays as it is too, with a line on `out`; and
-/// each other one with its probes, whose number is in its line on `out`. `instrument` and `classinfo` look at the class
-/// files in threads, which `rt` starts.
+/// each other one with its probes, whose number is in its line on `out`. `classinfo`, `report` and `instrument` look at
+/// the class files in threads, which `rt` starts.
 ///
 /// Where the contents of `files` are told, no count of faults rose and memory wasn't refused, the writes and the
 /// status are those of the work of the words. What each status says:

@@ -1,4 +1,4 @@
-use Rattle.std.proofs.Common.{sym, subst}
+use Rattle.std.proofs.Common.{subst}
 use Rattle.std.proofs.lemmas.Result.{on_ok_weaker}
 use Rattle.jc_top.specs.Instrument.{refused_file, accepted_file, file_writes}
 use Rattle.jc_top.specs.Looks.{IsDecided, Puts}

@@ -35,7 +35,7 @@ returns-clause-gives g c =
     let ts = c.in_ok-texts.texts.items in
     let command = report c.args.out.now c.args.name.now (Some c.args.exec.now) paths in
     let read = c.in_ok-bytes.ensures.gives in
-    let both : (c.deref.result.now ∷ c.deref-2.result.now) ≡ (t ∷ ts) = λ i. c.deref.ensures i ∷ c.deref-2.ensures.value i in
+    let both : (c.deref.result.now ∷ ts) ≡ (t ∷ ts) = λ i. c.deref.ensures i ∷ ts in
     command_prepares k command (t ∷ ts) (g.F.Files.read_faults c.args.files.now) (g.F.Files.read_faults c.read_all.new.files) c.reported_by_data.result
     (c.in_ok-texts.ensures.gives.0 ∙ read.0)
     (both_read k c.args.exec.now paths t ts read.2

@@ -1,8 +1,7 @@
-use Rattle.std.proofs.Common.{ℕ, List, None, subst}
+use Rattle.std.proofs.Common.{None}
 use Rattle.std.proofs.lemmas.Result.{err_from_is_err_and}
 use Rattle.jc_top.specs.Command.{report}
 use Rattle.jc_top.specs.Words.{words_of}
-use Rattle.jc_top.specs.Outcome.{AnswersWith}
 use Rattle.jc_top.proofs.ReadLaws.{command_stops, command_prepares}
 use Rattle.jc_top.proofs.report.prepare_without_data.Goals as goal
 
@@ -17,4 +16,4 @@ returns-clause-gives g c =
     let command = report c.args.out.now c.args.name.now None (words_of c.args.paths.now) in
     command_prepares (g.F.Files.contents c.args.files.now) command c.in_ok-texts.texts.items (g.F.Files.read_faults c.args.files.now) (g.F.Files.read_faults c.read_all.new.files)
     c.reported_without_data.result c.in_ok-texts.ensures.gives.0 c.in_ok-texts.ensures.gives.1
-    (subst (λ (ts : List (List ℕ)). AnswersWith command ts c.reported_without_data.result) c.deref.ensures.value c.reported_without_data.ensures)
+    c.reported_without_data.ensures

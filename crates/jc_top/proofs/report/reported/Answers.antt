@@ -7,10 +7,10 @@ use Rattle.jc_top.proofs.ReportRunLaws.{report_writes}
 use Rattle.jc_top.proofs.report.reported.Goals as goal
 
 pub returns-in_err-looked : goal.returns-in_err-looked
-returns-in_err-looked c =
+returns-in_err-looked g c =
     let p = err_from_is_err_and c.from_residual.result c.from_residual.ensures.1 in
     rw (p.1, p.2) c.in_err-looked.ensures.clash
 
 pub returns : goal.returns
-returns c = report_writes c.args.out c.args.name.now (data_records c.args.exec_data) (data_path c.args.exec_data) (words_of c.args.paths.now) c.args.texts.now c.in_ok-looked.looked
+returns g c = report_writes c.args.out c.args.name.now (data_records c.args.exec_data) (data_path c.args.exec_data) (words_of c.args.paths.now) c.args.texts.items c.in_ok-looked.looked
     c.in_ok-bytes.bytes c.in_ok-with_file.field-0 c.in_ok-looked.ensures.all (c.in_ok-bytes.ensures ∙ ap (report_text c.args.name.now) c.deref.ensures.value) c.in_ok-with_file.ensures
