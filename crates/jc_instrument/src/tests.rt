@@ -3,12 +3,8 @@ ghost use Rattle.std.specs.Prelude.{IfOk};
 ghost use Rattle.jc_instrument.specs.Analysis.{IsPlanned};
 
 use super::*;
-use files::{
-    ABS, CALC, CATCHES, COUNTS_DOWN, HAS_DATA, HAS_INIT, JUMPS_TO_NEXT, NAMES_RUNTIME, NO_CODE,
-    SWITCHES, TWO,
-};
+use files::{ABS, CALC, HAS_DATA, HAS_INIT, NAMES_RUNTIME, NO_CODE, TWO};
 use jc_base::{Analysed, Fail, Memory, Refusal, RefusalKind};
-use jc_plan::edges;
 use std::alloc::Global;
 use std::test::Fail as Failed;
 
@@ -70,25 +66,6 @@ fn of_method(kind: RefusalKind, method: u16, place: u32) -> Option<Refusal> {
         method: Some(method),
         place,
     })
-}
-
-#[test]
-fn instructions_edges_and_probes(rt: HostRuntime) -> Result<(), Failed> {
-    for (bytes, instructions, branches, probes) in [
-        (ABS.as_slice(), 7, 8, 2),
-        (COUNTS_DOWN.as_slice(), 5, 6, 2),
-        (JUMPS_TO_NEXT.as_slice(), 3, 4, 3),
-        (SWITCHES.as_slice(), 8, 10, 4),
-        (CATCHES.as_slice(), 9, 9, 3),
-    ] {
-        let class = accepted(rt.alloc(), bytes)?;
-        assert_eq!(rt; (class.bodies.len(), class.probes), (1, probes));
-        for body in &class.bodies {
-            assert_eq!(rt; body.code.len(), instructions);
-            assert_eq!(rt; edges(rt.alloc(), body)?.len(), branches);
-        }
-    }
-    Ok(())
 }
 
 #[test]

@@ -4,6 +4,8 @@
 #[cfg(test)]
 mod again;
 #[cfg(test)]
+mod analysis;
+#[cfg(test)]
 mod emission;
 #[cfg(test)]
 mod files;
