@@ -92,8 +92,8 @@ state locals stack = record { locals = locals; stack = stack }
 abbrev pub frame_at : ℕ → State → FrameAt
 frame_at at state = record { at = at; state = state }
 
-abbrev pub row : ℕ → ℕ → ℕ → ℕ → Handler
-row start end target class = record { start = start; end = end; target = target; class = class }
+abbrev pub handler : ℕ → ℕ → ℕ → ℕ → Handler
+handler start end target class = record { start = start; end = end; target = target; class = class }
 
 abbrev pub line_at : ℕ → ℕ → LineAt
 line_at at line = record { at = at; line = line }
@@ -279,7 +279,7 @@ abbrev pub catches_code : List Insn
 catches_code = iconst_0 ∷ istore 1 ∷ iconst_1 ∷ iload 0 ∷ idiv ∷ ireturn ∷ pop ∷ iload 1 ∷ ireturn ∷ []
 
 abbrev pub catches : Body
-catches = body catches_code (row 2 6 6 7 ∷ row 2 6 6 8 ∷ []) (frame_at 6 (state (kinds.Int ∷ kinds.Int ∷ []) (kinds.Object 0 ∷ [])) ∷ []) 2
+catches = body catches_code (handler 2 6 6 7 ∷ handler 2 6 6 8 ∷ []) (frame_at 6 (state (kinds.Int ∷ kinds.Int ∷ []) (kinds.Object 0 ∷ [])) ∷ []) 2
 
 abbrev pub catches_states : List State
 catches_states =
@@ -307,7 +307,7 @@ abbrev pub catches_extra : List ℕ
 catches_extra = 0 ∷ 1 ∷ 0 ∷ 0 ∷ 0 ∷ 1 ∷ 2 ∷ 3 ∷ 0 ∷ 0 ∷ 0 ∷ 0 ∷ 1 ∷ 2 ∷ 3 ∷ 0 ∷ 0 ∷ 0 ∷ 0 ∷ 1 ∷ 2 ∷ 3 ∷ 0 ∷ []
 
 abbrev pub catches_new_rows : List Handler
-catches_new_rows = row 4 16 16 7 ∷ row 4 16 16 8 ∷ []
+catches_new_rows = handler 4 16 16 7 ∷ handler 4 16 16 8 ∷ []
 
 abbrev pub catches_new_frames : List FrameAt
 catches_new_frames = frame_at 16 (state (kinds.Int ∷ kinds.Object 1 ∷ kinds.Int ∷ []) (kinds.Object 0 ∷ [])) ∷ []

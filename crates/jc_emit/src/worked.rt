@@ -1,5 +1,7 @@
 //! Twins that were worked by hand from the JVM Specification and JaCoCo's documentation on control flow. Each holds by
 //! computation.
+#![tactic(auto, unfolding(crate::specs::Emission::emission, crate::specs::Items::twin_items, jc_base::specs::Widened::widened, jc_base::specs::Flow::inverse_of))]
+
 ghost use Rattle.std.specs.Prelude.{◌≡◌, ◌+◌, false, true, negsuc, map};
 ghost use Rattle.jc_base.specs.Widened.{widened};
 ghost use Rattle.jc_base.specs.declared.insn.Insn.TheVariants as insns;
@@ -8,14 +10,19 @@ ghost use Rattle.jc_emit.specs.Emission.{emission};
 ghost use Rattle.jc_emit.specs.Items.{insn_of, at_of, own_of, twin_items};
 ghost use Rattle.jc_emit.specs.Shift.{shifted_state};
 ghost use Rattle.jc_emit.specs.Rows.{abs, abs_states, abs_new_code, abs_at, abs_own, abs_extra, abs_new_frames, abs_wide_frames};
-ghost use Rattle.jc_emit.specs.Rows.{counts_down, counts_down_states, counts_down_new_code, counts_down_at, counts_down_own, counts_down_extra, counts_down_new_frames, counts_down_wide_frames};
-ghost use Rattle.jc_emit.specs.Rows.{jumps_to_next, jumps_to_next_states, jumps_to_next_new_code, jumps_to_next_at, jumps_to_next_own, jumps_to_next_extra, jumps_to_next_new_frames, jumps_to_next_wide_frames, wide_code, wide_at, wide_own};
-ghost use Rattle.jc_emit.specs.Rows.{switches, switches_states, switches_new_code, switches_at, switches_own, switches_extra, switches_new_frames, switches_wide_frames};
-ghost use Rattle.jc_emit.specs.Rows.{catches, catches_states, catches_new_code, catches_at, catches_own, catches_extra, catches_new_rows, catches_new_frames, catches_wide_frames};
+ghost use Rattle.jc_emit.specs.Rows.{counts_down, counts_down_states, counts_down_new_code, counts_down_at};
+ghost use Rattle.jc_emit.specs.Rows.{counts_down_own, counts_down_extra, counts_down_new_frames};
+ghost use Rattle.jc_emit.specs.Rows.{counts_down_wide_frames};
+ghost use Rattle.jc_emit.specs.Rows.{jumps_to_next, jumps_to_next_states, jumps_to_next_new_code, jumps_to_next_at};
+ghost use Rattle.jc_emit.specs.Rows.{jumps_to_next_own, jumps_to_next_extra, jumps_to_next_new_frames};
+ghost use Rattle.jc_emit.specs.Rows.{jumps_to_next_wide_frames, wide_code, wide_at, wide_own};
+ghost use Rattle.jc_emit.specs.Rows.{switches, switches_states, switches_new_code, switches_at, switches_own};
+ghost use Rattle.jc_emit.specs.Rows.{switches_extra, switches_new_frames, switches_wide_frames};
+ghost use Rattle.jc_emit.specs.Rows.{catches, catches_states, catches_new_code, catches_at, catches_own, catches_extra};
+ghost use Rattle.jc_emit.specs.Rows.{catches_new_rows, catches_new_frames, catches_wide_frames};
 ghost use Rattle.jc_emit.specs.Rows.{lined, lined_lines, lined_vars, lined_kind_vars, before_shift, after_shift};
 
 /// The absolute value of an int, with a probe on each return.
-#[tactic(auto, unfolding(crate::specs::Emission::emission, crate::specs::Items::twin_items, jc_base::specs::Widened::widened, jc_base::specs::Flow::inverse_of))]
 fn worked_abs()
     ensures code { (emission abs 0 abs_states 0).code ≡ abs_new_code }
     ensures at { (emission abs 0 abs_states 0).at ≡ abs_at }
@@ -27,7 +34,6 @@ fn worked_abs()
 {}
 
 /// A loop: a probe on the goto, and one on the return.
-#[tactic(auto, unfolding(crate::specs::Emission::emission, crate::specs::Items::twin_items, jc_base::specs::Widened::widened, jc_base::specs::Flow::inverse_of))]
 fn worked_counts_down()
     ensures code { (emission counts_down 0 counts_down_states 0).code ≡ counts_down_new_code }
     ensures at { (emission counts_down 0 counts_down_states 0).at ≡ counts_down_at }
@@ -39,7 +45,6 @@ fn worked_counts_down()
 {}
 
 /// A jump to the next instruction: a probe on each edge.
-#[tactic(auto, unfolding(crate::specs::Emission::emission, crate::specs::Items::twin_items, jc_base::specs::Widened::widened, jc_base::specs::Flow::inverse_of))]
 fn worked_jumps_to_next()
     ensures code { (emission jumps_to_next 0 jumps_to_next_states 0).code ≡ jumps_to_next_new_code }
     ensures at { (emission jumps_to_next 0 jumps_to_next_states 0).at ≡ jumps_to_next_at }
@@ -51,7 +56,6 @@ fn worked_jumps_to_next()
 {}
 
 /// A jump over a switch of two targets.
-#[tactic(auto, unfolding(crate::specs::Emission::emission, crate::specs::Items::twin_items, jc_base::specs::Widened::widened, jc_base::specs::Flow::inverse_of))]
 fn worked_switches()
     ensures code { (emission switches 0 switches_states 0).code ≡ switches_new_code }
     ensures at { (emission switches 0 switches_states 0).at ≡ switches_at }
@@ -63,7 +67,6 @@ fn worked_switches()
 {}
 
 /// Two exception rows with one handler.
-#[tactic(auto, unfolding(crate::specs::Emission::emission, crate::specs::Items::twin_items, jc_base::specs::Widened::widened, jc_base::specs::Flow::inverse_of))]
 fn worked_catches()
     ensures code { (emission catches 0 catches_states 1).code ≡ catches_new_code }
     ensures at { (emission catches 0 catches_states 1).at ≡ catches_at }
@@ -76,7 +79,6 @@ fn worked_catches()
 {}
 
 /// In the wide layout a conditional jump is its inverse over a goto, which is no image.
-#[tactic(auto, unfolding(crate::specs::Emission::emission, crate::specs::Items::twin_items, jc_base::specs::Widened::widened, jc_base::specs::Flow::inverse_of))]
 fn worked_wide()
     ensures code { map (insn_of 0 1) (twin_items jumps_to_next 0 true) ≡ wide_code }
     ensures at { map at_of (twin_items jumps_to_next 0 true) ≡ wide_at }
@@ -85,7 +87,6 @@ fn worked_wide()
 
 /// Lines and variables begin where jumps land, and end there or at the new end; one local variable and three slots of the
 /// stack are more.
-#[tactic(auto, unfolding(crate::specs::Emission::emission, crate::specs::Items::twin_items, jc_base::specs::Widened::widened, jc_base::specs::Flow::inverse_of))]
 fn worked_tables()
     ensures lines { (emission lined 0 counts_down_states 0).lines ≡ lined_lines }
     ensures vars { (emission lined 0 counts_down_states 0).vars ≡ lined_vars }

@@ -1,5 +1,6 @@
 //! Frames one after the other, without their states.
-ghost use Rattle.std.specs.Prelude.{◌≡◌, ◌+◌, ◌-◌, ◌*◌, ◌<◌, ◌≤◌, ◌^◌, ◌++◌, ℕ, length, map, take, nat_le, IfOk, OnOk, IfSome, OnSome, Some, None, All, option_map, if◌then◌else◌};
+ghost use Rattle.std.specs.Prelude.{◌≡◌, ◌+◌, ◌-◌, ◌*◌, ◌<◌, ◌≤◌, ◌^◌, ◌++◌, ℕ, length, map, take, nat_le, IfOk};
+ghost use Rattle.std.specs.Prelude.{OnOk, IfSome, OnSome, Some, None, All, option_map, if◌then◌else◌};
 ghost use Rattle.std.specs.List.{sum_by};
 ghost use Rattle.jc_base.specs.Held.{Names, held, seen, is_pair, IsNumbered};
 ghost use Rattle.jc_pool.specs.Pool.{PoolValue};

@@ -58,8 +58,8 @@ aload slot = insns.Local opcode.aload slot
 abbrev pub line_at : ℕ → ℕ → LineAt
 line_at at line = record { at = at; line = line }
 
-abbrev pub row : ℕ → ℕ → ℕ → ℕ → Handler
-row start end target class = record { start = start; end = end; target = target; class = class }
+abbrev pub handler : ℕ → ℕ → ℕ → ℕ → Handler
+handler start end target class = record { start = start; end = end; target = target; class = class }
 
 abbrev pub body : List Insn → List Handler → List LineAt → Body
 body code handlers lines = record {
@@ -105,7 +105,7 @@ switches =
 abbrev pub catches : Body
 catches =
     body (iconst_0 ∷ istore 1 ∷ iconst_1 ∷ iload 0 ∷ idiv ∷ ireturn ∷ pop ∷ iload 1 ∷ ireturn ∷ [])
-    (row 2 6 6 7 ∷ row 2 6 6 8 ∷ []) []
+    (handler 2 6 6 7 ∷ handler 2 6 6 8 ∷ []) []
 
 -- lines 1, 2 and 3 begin at a nop each, and line 4 at the return; a call stands in line 3, behind its nop
 abbrev pub calls : Body
