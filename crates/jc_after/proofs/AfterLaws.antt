@@ -1,7 +1,7 @@
 -- The state after an instruction shifts with the body.
-use Rattle.std.proofs.Common.{◌≡◌, ⊎_elim, ℕ, zero, suc, ◌+◌, ◌<◌, ◌≤◌, Bool, true, false, ◌&&◌, ◌||◌, List, [], ◌∷◌, ◌++◌, length, map, replicate, Option, Some, None, option_map, if◌then◌else◌, refl, sym, ap, ◌∙◌, subst, arith, get_or, nat_eq, nat_le, nat_lt}
+use Rattle.std.proofs.Common.{◌≡◌, ⊎_elim, ℕ, suc, ◌+◌, ◌≤◌, Bool, true, false, ◌&&◌, ◌||◌, List, [], ◌∷◌, ◌++◌, length, map, replicate, Option, Some, None, option_map, if◌then◌else◌, refl, sym, ap, ◌∙◌, subst, arith, get_or, nat_eq, nat_le, nat_lt}
 use Rattle.std.specs.Option.{option_and_then}
-use Rattle.std.proofs.lemmas.Bool.{leb-true, le-leb, eqb-true, cases_lt, and_parts, or_cases, true≢false}
+use Rattle.std.proofs.lemmas.Bool.{leb-true, le-leb, eqb-true, and_parts, or_cases, true≢false}
 use Rattle.std.specs.List.{AllByRecursion, list_any, list_all}
 use Rattle.std.specs.Str.{bytes_eq}
 use Rattle.std.specs.Prelude.{codes}
@@ -21,6 +21,7 @@ use Rattle.jc_base.specs.Insn.{with_places}
 use Rattle.jc_base.specs.InsnUse.{pool_place, is_of_two_slots}
 use Rattle.jc_base.specs.Held.{Held, top, uninit, Seen, slots}
 use Rattle.jc_base.specs.EntryState.{held_of}
+use Rattle.jc_base.proofs.EachLaws.{AllFrom, all_from}
 use Rattle.jc_after.specs.declared.want.Want.{Want}
 use Rattle.jc_after.specs.declared.want.Want.TheVariants as wants
 use Rattle.jc_after.specs.Wants.{is_int, accepts, accepts_all}
@@ -275,7 +276,7 @@ plain_form f = list_all plain_gives f.given
 plain_row : Row → Bool
 plain_row r = list_all plain_form r.forms
 
-all_of : {X : Type 0} (test : X → Bool) (Fact : X → Type 0) → ((x : X) → test x ≡ true → Fact x) → (xs : List X) → list_all test xs ≡ true → AllByRecursion Fact xs
+pub all_of : {X : Type 0} (test : X → Bool) (Fact : X → Type 0) → ((x : X) → test x ≡ true → Fact x) → (xs : List X) → list_all test xs ≡ true → AllByRecursion Fact xs
 all_of test Fact f [] e = tt
 all_of test Fact f (x ∷ xs) e = let p = and_parts (test x) (list_all test xs) e in (f x p.0, all_of test Fact f xs p.1)
 
@@ -311,17 +312,6 @@ still_simple v returns op =
 -- the inverse of a conditional jump takes the same operands
 abbrev Inverts : ℕ → Type 0
 Inverts op = forms_at (inverse_of op) ≡ forms_at op
-
-abbrev AllFrom : (ℕ → Type 0) → ℕ → ℕ → Type 0
-AllFrom Fact at zero = Unit {0}
-AllFrom Fact at (suc n) = Fact at × AllFrom Fact (at + 1) n
-
-all_from : (Fact : ℕ → Type 0) (at n op : ℕ) → AllFrom Fact at n → at ≤ op → op < at + n → Fact op
-all_from Fact at zero op all le lt = absurd (omega (arith, le, lt))
-all_from Fact at (suc n) op all le lt = ⊎_elim
-    (λ more. all_from Fact (at + 1) n op all.1 (omega (arith, more)) (omega (arith, lt)))
-    (λ ge. let same : at ≡ op = omega (arith, le, ge) in subst Fact same all.0)
-    (cases_lt at op)
 
 jumps_invert : AllFrom Inverts ops.IFEQ 14
 unfolding forms_at table inverse_of

@@ -103,7 +103,7 @@ local_there old e i count x st are at lt counted kept =
     kept_range count old st (subst (InRange count) (sym (kept old are)) (range_there (body_of e).uses (returns_of (body_of e)) count x
     (subst (λ (n : ℕ). LocalsWithin n x) (sym counted) (subst (LocalsWithin (body_of e).max_locals) (same_Some _ _ (sym (slice_get-get_or (body_of e).code i x lt) ∙ at)) (are.body.locals i x lt)))))
 
-after_is : (b : Body) (i : ℕ) (s : Seen) (x : Insn) → insn_at b i ≡ Some x → after_of b i s ≡ apply (ground_of b i) (step_of b.uses (returns_of b) x) s
+pub after_is : (b : Body) (i : ℕ) (s : Seen) (x : Insn) → insn_at b i ≡ Some x → after_of b i s ≡ apply (ground_of b i) (step_of b.uses (returns_of b) x) s
 unfolding after_of
 after_is b i s x at = ap (option_and_then (λ insn. apply (ground_of b i) (step_of b.uses (returns_of b) insn) s)) at
 

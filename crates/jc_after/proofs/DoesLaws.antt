@@ -1,7 +1,6 @@
 -- What uses do to types, when more names are numbered.
 use Rattle.std.proofs.Common.{◌≡◌, ℕ, zero, suc, ◌<◌, List, [], ◌∷◌, ◌++◌, length, map, Option, option_map, refl, sym, ap, ap₂, ◌∙◌, subst, arith, append_assoc, get_or, Bool}
 use Rattle.jc_base.specs.declared.kind.Kind.{Kind}
-use Rattle.jc_base.specs.declared.kind.State.{State}
 use Rattle.jc_base.specs.declared.body.Use.{Use}
 use Rattle.jc_base.specs.declared.body.What.{What}
 use Rattle.jc_base.specs.declared.value_type.ValueType.{ValueType}
@@ -9,9 +8,9 @@ use Rattle.jc_base.specs.Descriptor.{FieldType, MethodType, IsFieldDescriptor, D
 use Rattle.jc_base.specs.DescriptorTypes.{field_type_in, method_type_in}
 use Rattle.jc_base.proofs.DescriptorTypesLaws.{field_again, method_again}
 use Rattle.jc_base.specs.EntryState.{held_of}
-use Rattle.jc_base.specs.Held.{Names, Held, Seen, held, Grows, IsNumbered}
+use Rattle.jc_base.specs.Held.{Names, Held, held, Grows, IsNumbered}
 use Rattle.jc_base.specs.ValueTypes.{held_by, Says as SaysType, AllSay as AllSayTypes, SaysReturn}
-use Rattle.jc_base.proofs.SeenLaws.{seen_stays}
+use Rattle.jc_base.proofs.SeenLaws.{held_stays}
 use Rattle.jc_after.specs.declared.want.Want.{Want}
 use Rattle.jc_after.specs.declared.want.Want.TheVariants as wants
 use Rattle.jc_after.specs.declared.effect.Effect.{Effect}
@@ -36,12 +35,6 @@ later f x old new g all more = ap (λ (l : Names). f (l ++ more)) g.1 ∙ ap f (
 
 some_head : (x y : Held) (xs ys : List Held) → (x ∷ xs) ≡ (y ∷ ys) → x ≡ y
 some_head x y xs ys e = cc
-
--- a numbered class keeps its name
-pub kind_stays : (names more : Names) (k : Kind) → IsNumbered (length names) k → held (names ++ more) k ≡ held names k
-kind_stays names more k n =
-    let s : State = record { locals = []; stack = k ∷ [] } in
-    some_head _ _ [] [] (ap (λ (u : Seen). u.stack) (seen_stays names more s (record { locals = tt; stack = (n, tt) })))
 
 -- ---- uses
 
@@ -92,7 +85,7 @@ pub value_says : (desc : List ℕ) (v : ValueType) (want : Want) (k : Kind) (nam
     → want ≡ want_for (held_by v) → held names k ≡ held_by v → IsNumbered (length names) k → value want (held (names ++ more) k) ≡ value_of (field_type_in desc)
 value_says desc v want k names more d says want_is kind_is numbered =
     let said = says d.0 d.1 in
-    ap₂ value (want_is ∙ ap want_for said.held_is) (kind_stays names more k numbered ∙ kind_is ∙ said.held_is) ∙ ap value_of (sym (field_again desc d.0 d.1))
+    ap₂ value (want_is ∙ ap want_for said.held_is) (held_stays names more k numbered ∙ kind_is ∙ said.held_is) ∙ ap value_of (sym (field_again desc d.0 d.1))
 
 pub class_says : (n1 n2 n3 : Names) (itself constant : Kind) (array : Option Kind) (h j : Held) (a : Option Held) → Grows n1 n2 → Grows n2 n3 → ((more : Names) → held (n1 ++ more) itself ≡ h)
     → ((more : Names) → option_map (held (n2 ++ more)) array ≡ a) → ((more : Names) → held (n3 ++ more) constant ≡ j) → (more : Names)

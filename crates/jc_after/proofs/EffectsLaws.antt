@@ -1,14 +1,12 @@
 -- The effects of a body when more names are numbered, and what their calls answer.
-use Rattle.std.proofs.Common.{◌≡◌, ℕ, ◌+◌, ◌<◌, List, [], ◌∷◌, ◌++◌, length, Option, Some, None, option_map, Result, Ok, Err, IfOk, IfSome, refl, sym, ap, subst, ◌∙◌, arith, length-append, slice_get, get_or}
-use Rattle.std.specs.List.{AllByRecursion}
+use Rattle.std.proofs.Common.{◌≡◌, ℕ, List, [], ◌∷◌, ◌++◌, length, Option, Some, None, option_map, Result, Ok, Err, IfOk, IfSome, refl, sym, ap, subst, ◌∙◌, slice_get, get_or}
 use Rattle.jc_base.specs.declared.kind.Kind.{Kind}
 use Rattle.jc_base.specs.declared.kind.Kind.TheVariants as kinds
 use Rattle.jc_base.specs.declared.kind.State.{State}
 use Rattle.jc_base.specs.declared.body.Body.{Body}
 use Rattle.jc_base.specs.declared.fail.Memory.{Memory}
-use Rattle.jc_base.specs.Held.{Names, Held, held, object, seen, Grows, IsNumbered, IsNumberedState}
+use Rattle.jc_base.specs.Held.{Names, Held, held, object, seen, Grows, IsNumberedState}
 use Rattle.jc_base.specs.WellMade.{IsWellMadeOfAnySize, HasUse, what_used}
-use Rattle.jc_base.proofs.SeenLaws.{seen_stays}
 use Rattle.jc_after.specs.declared.effects.Effects.{Effects}
 use Rattle.std.proofs.lemmas.Option.{slice_get_within, get_or_from_slice_get, same_Some}
 use Rattle.jc_base.specs.declared.opcode.TheConstants as ops
@@ -17,6 +15,7 @@ use Rattle.jc_base.specs.declared.insn.Insn.TheVariants as insns
 use Rattle.jc_base.specs.declared.body.What.{What}
 use Rattle.jc_base.specs.declared.body.What.TheVariants as whats
 use Rattle.jc_base.specs.InsnUse.{pool_place, Suits, IsClass}
+use Rattle.jc_base.proofs.NumberedLaws.{seen_grown, grown_count, state_numbered}
 use Rattle.jc_after.specs.declared.effect.Effect.{Effect}
 use Rattle.jc_after.specs.Does.{does, does_of, of_class, IsDescribed}
 use Rattle.jc_after.specs.After.{after_of, class_in, insn_at, new_class, ground_of}
@@ -34,32 +33,14 @@ are_later old new e g a = record {
   returns = a.returns;
 }
 
-pub seen_grown : (old new : Names) (s : State) → Grows old new → IsNumberedState (length old) s → seen new s ≡ seen old s
-seen_grown old new s g n = ap (λ (l : Names). seen l s) g.1 ∙ seen_stays old g.0 s n
-
-kind_later : (m n : ℕ) (k : Kind) → m < n + 1 → IsNumbered m k → IsNumbered n k
-kind_later m n (kinds.Object number) le is = omega (arith, le, is)
-kind_later m n kinds.Top le is = tt
-kind_later m n kinds.Int le is = tt
-kind_later m n kinds.Float le is = tt
-kind_later m n kinds.Double le is = tt
-kind_later m n kinds.Long le is = tt
-kind_later m n kinds.Null le is = tt
-kind_later m n kinds.UninitThis le is = tt
-kind_later m n (kinds.Uninit at) le is = tt
-
-kinds_later : (m n : ℕ) (ks : List Kind) → m < n + 1 → AllByRecursion (IsNumbered m) ks → AllByRecursion (IsNumbered n) ks
-kinds_later m n [] le all = tt
-kinds_later m n (k ∷ ks) le all = (kind_later m n k le all.0, kinds_later m n ks le all.1)
-
 pub state_later : (old new : Names) (b : Body) (s : State) → Grows old new → IsStateOf (length old) b s → IsStateOf (length new) b s
 state_later old new b s g is =
-    let e = ap (λ (l : Names). length l) g.1 in let n = length-append old g.0 in let le : length old < length new + 1 = omega (arith, e, n) in
+    let le = grown_count old new g in
     record {
       locals = is.locals;
       local_kinds = is.local_kinds;
       stack_kinds = is.stack_kinds;
-      numbered = record { locals = kinds_later _ _ s.locals le is.numbered.locals; stack = kinds_later _ _ s.stack le is.numbered.stack };
+      numbered = state_numbered (length old) (length new) s le is.numbered;
     }
 
 -- ---- results

@@ -8,6 +8,7 @@ use Rattle.jc_base.specs.declared.kind.Kind.{Kind}
 use Rattle.jc_base.specs.declared.kind.Kind.TheVariants as kinds
 use Rattle.jc_base.specs.WellMade.{ArePaired, BeginsWithTop, kind_slots}
 use Rattle.jc_base.specs.Held.{Names, Held, top, int, float, double, long, null, uninit_this, object, uninit, held, Seen, is_pair}
+use Rattle.jc_base.proofs.SeenLaws.{held_top}
 use Rattle.jc_after.specs.declared.want.Want.TheVariants as wants
 use Rattle.jc_after.specs.Wants.{is_int, accepts, accepts_all}
 use Rattle.jc_after.specs.Step.{Gives, Step, moves, loads, stores, counts, picks, makes, builds, fails, Ground, apply, upper, below, last, cleared, clear_before, put_local, is_array, without, is_made, class_built, built_as, replaced, same_new}
@@ -43,17 +44,6 @@ pair_wide names kinds.UninitThis e = absurd (omega (arith, e))
 pair_wide names (kinds.Object n) e = absurd (omega (arith, e))
 pair_wide names (kinds.Uninit at) e = absurd (omega (arith, e))
 
-top_held : (names : Names) (k : Kind) → held names k ≡ top → k ≡ kinds.Top
-top_held names kinds.Top e = refl
-top_held names kinds.Long e = absurd cc
-top_held names kinds.Double e = absurd cc
-top_held names kinds.Int e = absurd cc
-top_held names kinds.Float e = absurd cc
-top_held names kinds.Null e = absurd cc
-top_held names kinds.UninitThis e = absurd cc
-top_held names (kinds.Object n) e = absurd cc
-top_held names (kinds.Uninit at) e = absurd cc
-
 suc_plus : (i : ℕ) → suc i + 1 ≡ suc (i + 1)
 suc_plus i = omega arith
 
@@ -68,7 +58,7 @@ pairs_of names (k ∷ ks) pairs (suc i) e = let p = pairs_of names ks pairs.1 i 
 
 begins_there : (names : Names) (ks : List Kind) → 1 < suc (length (map (held names) ks)) → get_or (map (held names) ks) 0 top ≡ top → BeginsWithTop ks
 begins_there names [] lt e = absurd (omega (arith, lt))
-begins_there names (k ∷ ks) lt e = top_held names k e
+begins_there names (k ∷ ks) lt e = held_top names k e
 
 pub of_pairs : (names : Names) (ks : List Kind) → Paired (map (held names) ks) → ArePaired ks
 of_pairs names [] pairs = tt

@@ -222,7 +222,7 @@ module _ (e : Held) where
       ap (put_second h (up v k)) (set_up v k h (clear_before k ls) (omega arith)) ∙
       second_up v k h (set (clear_before k ls) k h) (omega arith) ne
 
-map-insert : {A B : Type 0} (g : A → B) (ls : List A) (v : ℕ) (e : A) → map g (insert ls v e) ≡ insert (map g ls) v (g e)
+pub map-insert : {A B : Type 0} (g : A → B) (ls : List A) (v : ℕ) (e : A) → map g (insert ls v e) ≡ insert (map g ls) v (g e)
 map-insert g ls v e = map-append g (take v ls) (e ∷ drop v ls) ∙ ap₂ (λ a b. a ++ g e ∷ b) (sym (take-map g v ls)) (sym (drop-map g v ls))
 
 map-both : {A B C D : Type 0} (g : A → B) (h : B → D) (g' : C → D) (h' : A → C) → ((x : A) → h (g x) ≡ g' (h' x)) → (ls : List A) → map h (map g ls) ≡ map g' (map h' ls)

@@ -1,11 +1,11 @@
 -- The entry for a place, and what it does to types.
-use Rattle.std.proofs.Common.{◌≡◌, ⊎_elim, ℕ, zero, suc, ◌+◌, ◌<◌, Bool, true, false, List, [], ◌∷◌, ◌++◌, length, get_or, take, Option, Some, None, option_map, nat_eq, refl, sym, ap, subst, ◌∙◌, arith}
+use Rattle.std.proofs.Common.{◌≡◌, ⊎_elim, ℕ, ◌+◌, ◌<◌, Bool, true, false, List, [], ◌∷◌, ◌++◌, length, get_or, take, Option, Some, None, option_map, nat_eq, refl, sym, ap, subst, ◌∙◌}
 use Rattle.std.proofs.lemmas.Bool.{cases_lt, eqb-true, eqb-false}
 use Rattle.std.specs.List.Sorted.{IsPartitionPoint}
 use Rattle.jc_base.specs.declared.body.Use.{Use}
 use Rattle.jc_base.specs.declared.body.What.{What}
 use Rattle.jc_base.specs.declared.body.What.TheVariants as whats
-use Rattle.std.proofs.lemmas.List.{take_more}
+use Rattle.std.proofs.lemmas.List.{take_more, get_or_default}
 use Rattle.std.proofs.lemmas.Option.{none-some, same_Some}
 use Rattle.jc_base.specs.declared.value_type.ValueType.{ValueType}
 use Rattle.jc_base.specs.declared.opcode.TheConstants as ops
@@ -22,11 +22,6 @@ use Rattle.jc_after.specs.declared.effect.Effect.{Effect}
 use Rattle.jc_after.specs.Does.{Says, AllSay}
 use Rattle.jc_after.proofs.DoesLaws.{all_say_at, all_say_later, all_say_push}
 
-pub any_item : {X : Type 0} (xs : List X) (i : ℕ) (d e : X) → i < length xs → get_or xs i d ≡ get_or xs i e
-any_item [] i d e lt = absurd (omega (arith, lt))
-any_item (x ∷ xs) zero d e lt = refl
-any_item (x ∷ xs) (suc i) d e lt = any_item xs i d e (omega (arith, lt))
-
 abbrev Halves : List Use → ℕ → ℕ → Type 0
 Halves uses place middle = IsPartitionPoint (λ u. is_below place u ≡ true) (λ u. is_below place u ≡ false) uses middle
 
@@ -38,7 +33,7 @@ pub position_used : (uses : List Use) (place middle : ℕ) (used : (what : What)
     → (d : Use) → what_used uses place ≡ Some (get_or uses middle d).what
 position_used uses place middle used rising halves d =
     let lt = position_within uses place middle used halves in
-    by lt (any_item uses middle d (get_or uses middle d) lt) (nat_eq (get_or uses middle d).place place) refl
+    by lt (get_or_default uses middle d (get_or uses middle d) lt) (nat_eq (get_or uses middle d).place place) refl
   where
     by : middle < length uses → get_or uses middle d ≡ get_or uses middle (get_or uses middle d) → (b : Bool) → nat_eq (get_or uses middle d).place place ≡ b → what_used uses place ≡ Some (get_or uses middle d).what
     by lt is true e = sym (stands uses place middle (get_or uses middle d) rising lt is (eqb-true (get_or uses middle d).place place e))

@@ -23,6 +23,7 @@ use Rattle.jc_base.proofs.DescriptorTypesLaws.{method_again}
 use Rattle.jc_base.proofs.EachLaws.{all_both, all_weaker}
 use Rattle.jc_base.proofs.EntryLaws.{argument_slots}
 use Rattle.jc_base.proofs.MetNamesLaws.{met_more, met_grows}
+use Rattle.jc_base.proofs.NumberedLaws.{numbers_kept}
 use Rattle.jc_base.proofs.SeenLaws.{kinds_stay}
 
 -- ---- how many local variables the arguments take
@@ -112,17 +113,6 @@ each_slot P k t p = by (nat_eq (kind_slots k) 2)
     by true = (p, (t, tt))
     by false = (p, tt)
 
-numbered_more : (a b : ℕ) → a ≤ b → (k : Kind) → IsNumbered a k → IsNumbered b k
-numbered_more a b le (kinds.Object n) lt = omega (arith, le, lt)
-numbered_more a b le kinds.Top lt = tt
-numbered_more a b le kinds.Int lt = tt
-numbered_more a b le kinds.Float lt = tt
-numbered_more a b le kinds.Double lt = tt
-numbered_more a b le kinds.Long lt = tt
-numbered_more a b le kinds.Null lt = tt
-numbered_more a b le kinds.UninitThis lt = tt
-numbered_more a b le (kinds.Uninit at) lt = tt
-
 pub no_values : (names : Names) → Holds names names [] []
 no_values names = record { names = refl; says = refl; numbered = tt; paired = tt; made = tt }
 
@@ -144,7 +134,7 @@ one_value old mid new values locals h kind p q =
           ++ (kind_spread new kind ∙ ap spread_one q.says ∙ sym (append-nil (spread_one h))) i)
           ∙ sym (flat_map-append spread_one values (h ∷ []));
       numbered = all_both (IsNumbered (length new)) locals (in_slots kind)
-          (all_weaker (IsNumbered (length mid)) (IsNumbered (length new)) (numbered_more (length mid) (length new) longer) locals p.numbered)
+          (numbers_kept (length mid) (length new) locals longer p.numbered)
           (each_slot (IsNumbered (length new)) kind tt q.numbered);
       paired = paired_both locals (in_slots kind) p.paired (kind_paired kind);
       made = all_both IsMade locals (in_slots kind) p.made (each_slot IsMade kind tt q.made);
@@ -207,7 +197,7 @@ tops_paired : (n : ℕ) → ArePaired (replicate n kinds.Top)
 tops_paired zero = tt
 tops_paired (suc n) = (λ two. absurd (omega (arith, two)), tops_paired n)
 
-tops_held : (names : Names) (n : ℕ) → map (held names) (replicate n kinds.Top) ≡ replicate n top
+pub tops_held : (names : Names) (n : ℕ) → map (held names) (replicate n kinds.Top) ≡ replicate n top
 tops_held names zero = refl
 tops_held names (suc n) = ap (λ (l : List Held). top ∷ l) (tops_held names n)
 

@@ -7,6 +7,7 @@ use Rattle.std.proofs.lemmas.List.{append-nil, take_more, take_all}
 use Rattle.std.proofs.lemmas.List.Elements.{filter_agree, Contains-append_right, Contains-append_cases}
 use Rattle.std.proofs.lemmas.Map.Views.{Contains-from_any, list_any-from_Contains}
 use Rattle.jc_base.specs.FirstSeen.{first_seen, IsDistinct, seen_behind}
+use Rattle.jc_base.proofs.TestLaws.{none_in, which_in, first_in, later_in}
 
 -- ---- numbers put into a list of those that are seen
 
@@ -103,7 +104,7 @@ puts_all xs i now all before = before ∙ ap (seen_behind []) (take_all i xs all
 
 -- ---- the same numbers are seen
 
-either_way : (a b c : Bool) → (a ≡ false → b ≡ c) → (a || b) ≡ (a || c)
+pub either_way : (a b c : Bool) → (a ≡ false → b ≡ c) → (a || b) ≡ (a || c)
 either_way true b c f = refl
 either_way false b c f = f refl
 
@@ -130,31 +131,19 @@ module _ {X : Type 0} where
   contains_one y x (zero, lt, e) = e
   contains_one y x (suc k, lt, e) = absurd (omega arith)
 
-  pub contains_none : (x : X) → Contains ([]) x → ⊥
-  contains_none x (k, lt, e) = omega arith
-
-  pub contains_cases : (y : X) (xs : List X) (x : X) → Contains (y ∷ xs) x → (y ≡ x) ⊎ Contains xs x
-  contains_cases y xs x c = ⊎_elim (λ front. inl (contains_one y x front)) (λ rest. inr rest) (Contains-append_cases (y ∷ []) xs x c)
-
-  pub contains_first : (x : X) (xs : List X) → Contains (x ∷ xs) x
-  contains_first x xs = (0, omega arith, refl)
-
-  pub contains_later : (y : X) (xs : List X) (x : X) → Contains xs x → Contains (y ∷ xs) x
-  contains_later y xs x c = Contains-append_right (y ∷ []) xs x c
-
 -- ---- no number is seen twice
 
 -- what passes a filter, and where it comes from
 passes : (p : ℕ → Bool) (xs : List ℕ) (y : ℕ) → Contains (filter p xs) y → (p y ≡ true) × Contains xs y
-passes p [] y c = absurd (contains_none y c)
+passes p [] y c = absurd (none_in y c)
 passes p (x ∷ xs) y c =
     ⊎_elim
     (λ yes.
     ⊎_elim
-    (λ same. (ap p (sym same) ∙ yes, subst (λ z. Contains (z ∷ xs) y) (sym same) (contains_first y xs)))
-    (λ rest. let more = passes p xs y rest in (more.0, contains_later x xs y more.1))
-    (contains_cases x (filter p xs) y (subst (λ l. Contains l y) (cond-true (p x) (x ∷ filter p xs) (filter p xs) yes) c)))
-    (λ no. let more = passes p xs y (subst (λ l. Contains l y) (cond-false (p x) (x ∷ filter p xs) (filter p xs) no) c) in (more.0, contains_later x xs y more.1))
+    (λ same. (ap p (sym same) ∙ yes, subst (λ z. Contains (z ∷ xs) y) (sym same) (first_in y xs)))
+    (λ rest. let more = passes p xs y rest in (more.0, later_in x xs y more.1))
+    (which_in x (filter p xs) y (subst (λ l. Contains l y) (cond-true (p x) (x ∷ filter p xs) (filter p xs) yes) c)))
+    (λ no. let more = passes p xs y (subst (λ l. Contains l y) (cond-false (p x) (x ∷ filter p xs) (filter p xs) no) c) in (more.0, later_in x xs y more.1))
     (cases_Bool (p x))
 
 distinct_filter : (p : ℕ → Bool) (xs : List ℕ) → IsDistinct xs → IsDistinct (filter p xs)
@@ -180,6 +169,6 @@ pub first_seen_listed : (xs : List ℕ) (y : ℕ) → Contains (first_seen xs) y
 first_seen_listed [] y c = c
 first_seen_listed (x ∷ xs) y c =
     ⊎_elim
-    (λ same. subst (λ z. Contains (z ∷ xs) y) (sym same) (contains_first y xs))
-    (λ rest. contains_later x xs y (first_seen_listed xs y (passes (λ y. not (nat_eq x y)) (first_seen xs) y rest).1))
-    (contains_cases x (filter (λ y. not (nat_eq x y)) (first_seen xs)) y c)
+    (λ same. subst (λ z. Contains (z ∷ xs) y) (sym same) (first_in y xs))
+    (λ rest. later_in x xs y (first_seen_listed xs y (passes (λ y. not (nat_eq x y)) (first_seen xs) y rest).1))
+    (which_in x (filter (λ y. not (nat_eq x y)) (first_seen xs)) y c)

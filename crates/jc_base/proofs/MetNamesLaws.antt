@@ -8,6 +8,7 @@ use Rattle.std.specs.List.{list_any, AllByRecursion, IsDistinct}
 use Rattle.std.specs.Str.{bytes_eq}
 use Rattle.jc_base.specs.Held.{Names, held, IsNumbered, Grows}
 use Rattle.jc_base.specs.Names.{with_name, met, AreNames}
+use Rattle.jc_base.proofs.ListLaws.{all_at}
 use Rattle.jc_base.specs.declared.kind.Kind.{Kind}
 use Rattle.jc_base.specs.declared.kind.Kind.TheVariants as kinds
 
@@ -37,11 +38,6 @@ met_grows names (text ∷ texts) = grows_both names (with_name names text) (met 
 
 -- ---- each name has one number
 
-each_at : {X : Type 0} (P : X → Type 0) (xs : List X) (i : ℕ) (y : X) → AllByRecursion P xs → slice_get xs i ≡ Some y → P y
-each_at P [] i y all is = cc
-each_at P (x ∷ xs) zero y all is = subst P (same_Some x y is) all.0
-each_at P (x ∷ xs) (suc i) y all is = each_at P xs i y all.1 is
-
 unlike : (x y : List ℕ) → bytes_eq x y ≡ false → x ≡ y → ⊥
 unlike x y other same = true≢false (sym ((bytes_eq-Decides x y).1 same) ∙ other)
 
@@ -50,9 +46,9 @@ unfolding IsDistinct
 distinct_numbers [] text i j distinct p q = cc
 distinct_numbers (x ∷ names) text zero zero distinct p q = refl
 distinct_numbers (x ∷ names) text zero (suc j) distinct p q =
-    absurd (unlike x text (each_at (λ y. bytes_eq x y ≡ false) names j text distinct.0 q) (same_Some x text p))
+    absurd (unlike x text (all_at (λ y. bytes_eq x y ≡ false) names j text distinct.0 q) (same_Some x text p))
 distinct_numbers (x ∷ names) text (suc i) zero distinct p q =
-    absurd (unlike x text (each_at (λ y. bytes_eq x y ≡ false) names i text distinct.0 p) (same_Some x text q))
+    absurd (unlike x text (all_at (λ y. bytes_eq x y ≡ false) names i text distinct.0 p) (same_Some x text q))
 distinct_numbers (x ∷ names) text (suc i) (suc j) distinct p q = ap (λ (n : ℕ). suc n) (distinct_numbers names text i j distinct.1 p q)
 
 pub one_number : (names : Names) (text : List ℕ) (i j : ℕ) → AreNames names → slice_get names i ≡ Some text → slice_get names j ≡ Some text → i ≡ j

@@ -1,5 +1,5 @@
 -- Tests that decide facts, put together, and what stands in a list.
-use Rattle.std.proofs.Common.{◌≡◌, ◌⊎◌, inl, inr, ⊎_elim, ℕ, zero, suc, ◌<◌, ◌≤◌, Bool, false, not, ◌&&◌, ◌||◌, List, [], ◌∷◌, length, Option, Some, None, is_some, get_or, slice_get, nat_eq, nat_le, nat_lt, refl, sym, ◌∙◌, ap, subst, arith}
+use Rattle.std.proofs.Common.{◌≡◌, ◌⊎◌, inl, inr, ⊎_elim, ℕ, zero, suc, ◌<◌, ◌≤◌, Bool, true, false, not, ◌&&◌, ◌||◌, List, [], ◌∷◌, length, map, Option, Some, None, is_some, get_or, slice_get, nat_eq, nat_le, nat_lt, refl, sym, ◌∙◌, ap, subst, arith}
 use Rattle.std.proofs.lemmas.Bool.{true≢false, both_ways, false_from_ne_true, not_from_false, not-true, and_parts, and_from, or_cases, or_left, or_right, eqb-true, eq-eqb, leb-true, le-leb, ltb-true, lt-ltb}
 use Rattle.std.proofs.lemmas.Option.{same_Some}
 use Rattle.std.specs.List.{Contains, list_any}
@@ -29,6 +29,12 @@ instead d f g = record { to = λ h. f (d.to h); back = λ h. d.back (g h) }
 -- where a test fails the fact doesn't hold
 pub fails_where : {a : Bool} {A : Type 0} → Decides a A → a ≡ false → A → ⊥
 fails_where d e x = true≢false (sym (d.back x) ∙ e)
+
+-- two tests that pass together
+pub same_tests : (a b : Bool) → (a ≡ true → b ≡ true) → (b ≡ true → a ≡ true) → a ≡ b
+same_tests true b to from = sym (to refl)
+same_tests false true to from = from refl
+same_tests false false to from = refl
 
 -- ---- numbers
 
@@ -76,6 +82,17 @@ module _ {X : Type 0} where
   pub place_of : (xs : List X) (x : X) → Contains xs x → (i : ℕ) × (slice_get xs i ≡ Some x)
   place_of [] x h = absurd (none_in x h)
   place_of (y ∷ xs) x h = ⊎_elim (λ e. (0, ap Some e)) (λ m. let p = place_of xs x m in (suc p.0, p.1)) (which_in y xs x h)
+
+-- what stands in a list of images is the image of what stands in the list
+pub in_map : {X Y : Type 0} (f : X → Y) (xs : List X) (x : X) → Contains xs x → Contains (map f xs) (f x)
+in_map f [] x c = absurd (none_in x c)
+in_map f (y ∷ xs) x c =
+    ⊎_elim (λ same. subst (λ z. Contains (f y ∷ map f xs) (f z)) same (first_in (f y) (map f xs))) (λ later. later_in (f y) (map f xs) (f x) (in_map f xs x later)) (which_in y xs x c)
+
+pub of_map : {X Y : Type 0} (f : X → Y) (xs : List X) (y : Y) → Contains (map f xs) y → (x : X) × Contains xs x × (y ≡ f x)
+of_map f [] y c = absurd (none_in y c)
+of_map f (x ∷ xs) y c =
+    ⊎_elim (λ same. (x, first_in x xs, sym same)) (λ later. let m = of_map f xs y later in (m.0, later_in x xs m.0 m.1, m.2)) (which_in (f x) (map f xs) y c)
 
 -- ---- options
 

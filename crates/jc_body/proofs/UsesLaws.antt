@@ -21,6 +21,7 @@ use Rattle.jc_base.specs.declared.body.What.{What}
 use Rattle.jc_base.specs.InsnUse.{pool_place}
 use Rattle.jc_base.specs.WellMade.{HasUse, HasShortTexts, AreRisingFrom, what_used}
 use Rattle.jc_base.proofs.UsedLaws.{none_below}
+use Rattle.jc_base.proofs.TestLaws.{in_map}
 use Rattle.jc_pool.specs.Pool.{PoolValue}
 use Rattle.jc_body.specs.declared.items.Row.{Row}
 use Rattle.jc_body.specs.BodyOf.{some_of, insn_places, row_places, places_used, used_at, AreUsesOf}
@@ -260,14 +261,6 @@ contains_flat f xs x a c inside = at f xs x a inside c.0 c.1 c.2
     at f (y ∷ ys) x a inside zero lt is = Contains-append_left (f y) (flat_map f ys) a (subst (λ z. Contains (f z) a) (sym is) inside)
     at f (y ∷ ys) x a inside (suc k) lt is = Contains-append_right (f y) (flat_map f ys) a (at f ys x a inside k (omega (arith, lt)) is)
 
-contains_map : {X Y : Type 0} (f : X → Y) (xs : List X) (x : X) → Contains xs x → Contains (map f xs) (f x)
-contains_map f xs x c = at f xs x c.0 c.1 c.2
-  where
-    at : {X Y : Type 0} (f : X → Y) (xs : List X) (x : X) (k : ℕ) → k < length xs → get_or xs k x ≡ x → Contains (map f xs) (f x)
-    at f [] x k lt is = absurd (omega (arith, lt))
-    at f (y ∷ ys) x zero lt is = (0, omega arith, ap f is)
-    at f (y ∷ ys) x (suc k) lt is = let c = at f ys x k (omega (arith, lt)) is in (suc c.0, omega (arith, c.1), c.2)
-
 contains_filter : (p : ℕ → Bool) (xs : List ℕ) (x : ℕ) → p x ≡ true → Contains xs x → Contains (filter p xs) x
 contains_filter p xs x pass c = at xs c.0 c.1 c.2
   where
@@ -293,4 +286,4 @@ insn_place_used insns rows insn place c is = Contains-append_left (insn_places i
 
 pub row_place_used : (insns : List Insn) (rows : List Row) (row : Row) → Contains rows row → (row.class ≡ 0 → ⊥) → Contains (places_used insns rows) row.class
 row_place_used insns rows row c some = Contains-append_right (insn_places insns) (row_places rows) row.class
-    (contains_filter (λ place. not (nat_eq place 0)) (map (λ (r : Row). r.class) rows) row.class (ap not (ne_eqb row.class 0 some)) (contains_map (λ (r : Row). r.class) rows row c))
+    (contains_filter (λ place. not (nat_eq place 0)) (map (λ (r : Row). r.class) rows) row.class (ap not (ne_eqb row.class 0 some)) (in_map (λ (r : Row). r.class) rows row c))

@@ -42,6 +42,7 @@ use Rattle.jc_body.specs.StackMap.{stack_maps, ground_of, HasFrames}
 use Rattle.jc_body.proofs.EntryLaws.{no_new}
 use Rattle.jc_body.proofs.ArgumentLaws.{arguments_fit}
 use Rattle.jc_base.proofs.StartsLaws.{number_of_end, numbers_rise, numbers_stay, some_insn}
+use Rattle.jc_base.proofs.ListLaws.{put_last}
 use Rattle.jc_body.proofs.PlacesLaws.{row_or_not, rows_handled, lines_kept, vars_kept}
 use Rattle.jc_body.proofs.StandingLaws.{right_entry_or_not, suits_what, locals_or_not, leads_or_not}
 use Rattle.jc_body.proofs.UsesLaws.{has_use, insn_place_used, row_place_used}
@@ -85,10 +86,6 @@ all_of {X} P xs decide none k d lt = by (decide (get_or xs k d))
 
 -- ---- the code
 
-last_of : {X : Type 0} (before : List X) (last : X) → slice_get (before ++ last ∷ []) (length before) ≡ Some last
-last_of [] last = refl
-last_of (x ∷ before) last = last_of before last
-
 is_code : (c : ClassFile) (method : Member) (coded : Coded) → IsCoded c.pool method coded → AreStarts (length coded.insns) (length coded.items.code) coded.starts → IsFree c method coded → IsCode coded.insns
 is_code c method coded is starts free =
     let few = is.items.text.few in
@@ -105,7 +102,7 @@ is_code c method coded is starts free =
     ends : (before : List Insn) (last : Insn) → coded.insns ≡ before ++ last ∷ [] → FallsThrough last → ⊥
     ends before last parts falls =
         let long = ap length parts ∙ length-append before (last ∷ []) in
-        free.jumps (length before) last (ap (λ (l : List Insn). slice_get l (length before)) parts ∙ last_of before last) (inr (omega (arith, long), falls))
+        free.jumps (length before) last (ap (λ (l : List Insn). slice_get l (length before)) parts ∙ put_last before last) (inr (omega (arith, long), falls))
 
 -- ---- what is used
 

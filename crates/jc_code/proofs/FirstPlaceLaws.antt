@@ -9,8 +9,9 @@ use Rattle.jc_base.specs.Decoder.{◌>>=◌}
 use Rattle.jc_body.specs.Attributes.{is_text}
 use Rattle.jc_pool.specs.declared.entry.Entry.{Entry}
 use Rattle.jc_pool.specs.Adding.{IsFirst}
-use Rattle.jc_pool.specs.Lookup.{utf8_in, class_in, utf8_of, class_name_of}
+use Rattle.jc_pool.specs.Lookup.{utf8_in, utf8_of, class_name_of}
 use Rattle.jc_pool.specs.Pool.{PoolValue}
+use Rattle.jc_pool.proofs.AddedLaws.{class_within}
 use Rattle.jc_code.specs.FirstPlaces.{first_from, text_place, class_place}
 
 -- ---- the search
@@ -53,13 +54,6 @@ unfolding utf8_of
 text_within pool place text there = elim (cases_lt place (length pool)) [
   | inl less ↦ less
   | inr behind ↦ absurd (none-some text (sym (ap (λ (e : Option Entry). e >>= utf8_in) (get_or_past pool place None behind)) ∙ there))
-]
-
-class_within : (pool : PoolValue) (place : ℕ) (name : List ℕ) → class_name_of pool place ≡ Some name → place < length pool
-unfolding class_name_of
-class_within pool place name there = elim (cases_lt place (length pool)) [
-  | inl less ↦ less
-  | inr behind ↦ absurd (none-some name (sym (ap (λ (e : Option Entry). e >>= λ e. class_in e >>= λ at. utf8_of pool at) (get_or_past pool place None behind)) ∙ there))
 ]
 
 pub text_found : (pool : PoolValue) (text : List ℕ) (place : ℕ) → IsFirst (utf8_of pool) text place → text_place pool text ≡ place

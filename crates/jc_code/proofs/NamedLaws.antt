@@ -4,12 +4,18 @@ use Rattle.jc_base.specs.Held.{SeenAt}
 use Rattle.jc_base.specs.declared.emitted.Emitted.{Emitted}
 use Rattle.jc_class.specs.declared.class_file.Attribute.{Attribute}
 use Rattle.jc_pool.specs.Pool.{PoolValue}
+use Rattle.jc_pool.specs.Adding.{IsFirst}
+use Rattle.jc_pool.specs.Lookup.{utf8_of}
 use Rattle.jc_code.specs.CodeText.{table_attributes, frame_attributes, line_text, var_text}
 use Rattle.jc_code.specs.FirstPlaces.{text_place}
 use Rattle.jc_code.specs.Given.{AreNamed, IsNamedAt}
 use Rattle.jc_code.specs.TwinCode.{lines_name, vars_name, kind_vars_name, offset_in, places_of, attributes_by, code_attributes}
 use Rattle.jc_code.specs.declared.code.CodePlaces.{CodePlaces}
 use Rattle.jc_code.proofs.FirstPlaceLaws.{text_found}
+
+pub named_at : {X : Type 0} (pool : PoolValue) (name : List ℕ) (xs : List X) (place : ℕ) → IsFirst (utf8_of pool) name place → IsNamedAt pool name xs place
+named_at pool name [] place first = tt
+named_at pool name (x ∷ xs) place first = first
 
 -- a table without entries has no attribute, and so no name
 named_table : {X : Type 0} (pool : PoolValue) (name : List ℕ) (place : ℕ) (text : X → List ℕ) (xs : List X) → IsNamedAt pool name xs place

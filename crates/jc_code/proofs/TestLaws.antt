@@ -1,29 +1,14 @@
 -- What tests of the tests' code mean.
-use Rattle.std.proofs.Common.{◌≡◌, ◌+◌, ◌≤◌, ℕ, List, [], ◌∷◌, ◌++◌, length, map, get_or, Some, slice_get, sym, ◌∙◌, ap, subst, arith, All}
-use Rattle.std.proofs.lemmas.List.Sums.{sum_by-le}
+use Rattle.std.proofs.Common.{◌≡◌, ◌≤◌, ℕ, List, [], ◌∷◌, ◌++◌, length, map, get_or, Some, slice_get, sym, ◌∙◌, ap, subst, arith}
 use Rattle.std.proofs.lemmas.Option.{get_or_from_slice_get}
 use Rattle.std.specs.List.{AllByRecursion}
 use Rattle.jc_base.specs.Held.{Names, seen_at}
-use Rattle.jc_base.specs.Insn.{arm_count}
-use Rattle.jc_base.specs.WellMade.{insns_and_arms}
 use Rattle.jc_base.specs.declared.body.FrameAt.{FrameAt}
-use Rattle.jc_base.specs.declared.insn.Insn.{Insn}
 use Rattle.jc_base.specs.declared.kind.Kind.TheVariants as kinds
 use Rattle.jc_frames.specs.FullTable.{HasPlace, named_by_all}
 use Rattle.jc_pool.specs.Adding.{IsFirst}
-use Rattle.jc_pool.specs.Lookup.{class_name_of, utf8_of}
+use Rattle.jc_pool.specs.Lookup.{class_name_of}
 use Rattle.jc_pool.specs.Pool.{PoolValue}
-use Rattle.jc_code.specs.Given.{IsNamedAt}
-
-pub few_in_all : (code : List Insn) → length code ≤ 100000 → All (λ insn. arm_count insn ≤ 3) code → insns_and_arms code ≤ 1000000
-few_in_all code few each =
-    let most = sum_by-le (λ (x : Insn). 1 + arm_count x) 4 code (λ k d below. let one = each k d below in omega (arith, one)) in
-    omega (arith, most)
-
-pub named_at : {X : Type 0} (pool : PoolValue) (name : List ℕ) (xs : List X) (place : ℕ) → IsFirst (utf8_of pool) name place
-    → IsNamedAt pool name xs place
-named_at pool name [] place first = tt
-named_at pool name (x ∷ xs) place first = first
 
 -- the one class that a frame names stands in the pool
 pub frame_classes : (pool : PoolValue) (names : Names) (class at place count : ℕ) (name : List ℕ) (f : FrameAt) (none frames all : List FrameAt)

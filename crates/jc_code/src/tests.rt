@@ -59,7 +59,7 @@ fn all_lead_within(code: &[Insn]) -> bool
 }
 
 /// Whether code like that below can be laid out.
-#[tactic(auto, using(crate::proofs::TestLaws::few_in_all))]
+#[tactic(auto, using(jc_layout::proofs::TestLaws::few_in_all))]
 fn is_layable(code: &[Insn]) -> bool
     ensures { IsTrue result → IsLayable code.now }
 {

@@ -9,8 +9,8 @@ use Rattle.jc_base.specs.WellMade.{IsLine}
 use Rattle.jc_base.specs.declared.analysed.Analysed.{Analysed}
 use Rattle.jc_base.specs.declared.body.Body.{Body}
 use Rattle.jc_base.proofs.AppendingLaws.{drop_is}
+use Rattle.jc_base.proofs.PlacedInsnLaws.{few_insns}
 use Rattle.jc_plan.specs.Analysed.{IsAnalysed}
-use Rattle.jc_plan.proofs.FlowLaws.{few_insns}
 use Rattle.jc_cover.specs.declared.coverage.Count.{Count}
 use Rattle.jc_cover.specs.declared.coverage.Coverage.{Coverage}
 use Rattle.jc_cover.specs.declared.sums.Sums.{Sums}

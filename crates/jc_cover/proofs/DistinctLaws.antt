@@ -6,7 +6,8 @@ use Rattle.std.specs.Cmp.{nat_eq_equiv}
 use Rattle.std.proofs.lemmas.Bool.{eqb-true, eq-eqb, false_from_ne_true}
 use Rattle.std.proofs.lemmas.Map.Views.{Contains-from_any}
 use Rattle.jc_base.specs.FirstSeen.{first_seen, IsDistinct}
-use Rattle.jc_base.proofs.FirstSeenLaws.{any_first_seen, first_seen_all, contains_none, contains_cases, contains_first, contains_later, first_seen_distinct, first_seen_listed}
+use Rattle.jc_base.proofs.FirstSeenLaws.{any_first_seen, first_seen_all, first_seen_distinct, first_seen_listed}
+use Rattle.jc_base.proofs.TestLaws.{none_in, which_in, first_in, later_in}
 use Rattle.jc_plan.specs.Entries.{one_if}
 use Rattle.jc_plan.proofs.CountLaws.{count_cons}
 use Rattle.jc_cover.specs.Counters.{Lined, is_covered_line, line_count}
@@ -26,12 +27,12 @@ no_member (x ∷ xs) = let e : one_if false ≡ 0 = refl in omega (arith, count_
 absent : (xs : List ℕ) (e : ℕ) → ((y : ℕ) → Contains xs y → e ≡ y → ⊥) → count_by (λ x. nat_eq x e) xs ≡ 0
 absent [] e none = refl
 absent (x ∷ xs) e none =
-    let f : nat_eq x e ≡ false = false_from_ne_true (nat_eq x e) (λ t. none x (contains_first x xs) (sym (eqb-true x e t))) in
-    omega (arith, count_cons (λ y. nat_eq y e) x xs, ap one_if f, absent xs e (λ y c. none y (contains_later x xs y c)))
+    let f : nat_eq x e ≡ false = false_from_ne_true (nat_eq x e) (λ t. none x (first_in x xs) (sym (eqb-true x e t))) in
+    omega (arith, count_cons (λ y. nat_eq y e) x xs, ap one_if f, absent xs e (λ y c. none y (later_in x xs y c)))
 
 -- it stands there once
 once : (xs : List ℕ) (e : ℕ) → IsDistinct xs → Contains xs e → count_by (λ x. nat_eq x e) xs ≡ 1
-once [] e d c = absurd (contains_none e c)
+once [] e d c = absurd (none_in e c)
 once (x ∷ xs) e d c =
     ⊎_elim
     (λ same.
@@ -40,7 +41,7 @@ once (x ∷ xs) e d c =
     (λ later.
     let f : nat_eq x e ≡ false = false_from_ne_true (nat_eq x e) (λ t. d.0 e later (eqb-true x e t)) in
     omega (arith, count_cons (λ y. nat_eq y e) x xs, ap one_if f, once xs e d.1 later))
-    (contains_cases x xs e c)
+    (which_in x xs e c)
 
 -- tests that no item passes both
 apart : {X : Type 0} (p q : X → Bool) (xs : List X) → ((x : X) → p x ≡ true → q x ≡ true → ⊥) → count_by (λ x. p x || q x) xs ≡ count_by p xs + count_by q xs
@@ -57,7 +58,7 @@ members : (ds es : List ℕ) → IsDistinct ds → IsDistinct es → ((e : ℕ) 
 members ds [] dd de within = no_member ds
 members ds (e ∷ es) dd de within =
     let two = apart (λ d. nat_eq d e) (λ d. list_any (nat_eq d) es) ds (λ d s t. de.0 d (Contains-from_any eqb-true d es t) (sym (eqb-true d e s))) in
-    omega (arith, two, once ds e dd (within e (contains_first e es)), members ds es dd de.1 (λ f c. within f (contains_later e es f c)))
+    omega (arith, two, once ds e dd (within e (first_in e es)), members ds es dd de.1 (λ f c. within f (later_in e es f c)))
 
 -- ---- lines
 
@@ -85,10 +86,10 @@ covered_listed (l ∷ insns) n c = by (covered_listed insns n) l.covered c
     by : (Contains (covered_numbers insns) n → Contains (numbers insns) n) → (t : Bool) → Contains (map (λ (k : Lined). k.number) (cond t (l ∷ filter (λ (k : Lined). k.covered) insns) (filter (λ (k : Lined). k.covered) insns))) n → Contains (numbers (l ∷ insns)) n
     by again true d =
         ⊎_elim
-        (λ same. subst (λ k. Contains (k ∷ numbers insns) n) (sym same) (contains_first n (numbers insns)))
-        (λ later. contains_later l.number (numbers insns) n (again later))
-        (contains_cases l.number (covered_numbers insns) n d)
-    by again false d = contains_later l.number (numbers insns) n (again d)
+        (λ same. subst (λ k. Contains (k ∷ numbers insns) n) (sym same) (first_in n (numbers insns)))
+        (λ later. later_in l.number (numbers insns) n (again later))
+        (which_in l.number (covered_numbers insns) n d)
+    by again false d = later_in l.number (numbers insns) n (again d)
 
 pub covered_lines : (insns : List Lined) → count_by (is_covered_line insns) (first_seen (numbers insns)) ≡ length (first_seen (covered_numbers insns))
 covered_lines insns =

@@ -1,5 +1,5 @@
 -- One coverage of each class and hits, and what its values say of instructions.
-use Rattle.std.proofs.Common.{◌≡◌, ◌↔◌, ℕ, zero, suc, ◌<◌, Bool, true, false, ◌||◌, List, [], ◌∷◌, map, length, Some, refl, sym, ap, ap₂, ◌∙◌, subst, arith}
+use Rattle.std.proofs.Common.{◌≡◌, ◌↔◌, ℕ, suc, ◌<◌, Bool, true, false, ◌||◌, List, [], ◌∷◌, map, length, Some, refl, sym, ap, ap₂, ◌∙◌, subst, arith}
 use Rattle.std.specs.Prelude.{IsTrue, slice_get, option_map, option_and_then, Contains}
 use Rattle.std.specs.List.{list_any}
 use Rattle.std.proofs.lemmas.List.{length-map}
@@ -7,6 +7,7 @@ use Rattle.std.proofs.lemmas.Option.{same_Some, slice_get-map, slice_get_within}
 use Rattle.jc_base.specs.PlainLists.{map_from}
 use Rattle.jc_base.specs.declared.insn.Insn.{Insn}
 use Rattle.jc_base.specs.declared.body.Body.{Body}
+use Rattle.jc_base.proofs.ListLaws.{item_at}
 use Rattle.jc_plan.specs.declared.branch.Branch.{Branch}
 use Rattle.jc_plan.specs.Edges.{branches_of}
 use Rattle.jc_plan.specs.Probed.{first_id}
@@ -26,12 +27,6 @@ same_by_places [] [] size agree = refl
 same_by_places [] (y ∷ ys) size agree = absurd (omega (arith, size))
 same_by_places (x ∷ xs) [] size agree = absurd (omega (arith, size))
 same_by_places (x ∷ xs) (y ∷ ys) size agree = ap₂ (λ z zs. z ∷ zs) (agree 0 x y refl refl) (same_by_places xs ys (omega (arith, size)) (λ k u v h g. agree (suc k) u v h g))
-
--- something stands at each place inside a list
-stands_at : {X : Type 0} (xs : List X) (k : ℕ) → k < length xs → (x : X) × (slice_get xs k ≡ Some x)
-stands_at [] k lt = absurd (omega arith)
-stands_at (x ∷ xs) zero lt = (x, refl)
-stands_at (x ∷ xs) (suc k) lt = stands_at xs k (omega arith)
 
 both_same : (v w : Bool) {P : Type 0} → (IsTrue v ↔ P) → (IsTrue w ↔ P) → v ≡ w
 both_same true true p q = refl
@@ -53,7 +48,7 @@ module _ (bodies : List Body) (hits : List Bool) where
       let here : slice_get (map (map length) c.edges) n ≡ Some (map length insns) = slice_get-map (map length) c.edges n ∙ ap (option_map (map length)) h in
       let sized : length (map (map length) c.edges) ≡ length (map body_shape bodies) = ap length shape in
       let lt = slice_get_within c.edges n insns h in
-      let s = stands_at bodies n (omega (arith, lt, sized, length-map c.edges (map length), length-map bodies body_shape)) in
+      let s = item_at bodies n (omega (arith, lt, sized, length-map c.edges (map length), length-map bodies body_shape)) in
       let there : slice_get (map body_shape bodies) n ≡ Some (body_shape s.0) = slice_get-map body_shape bodies n ∙ ap (option_map body_shape) s.1 in
       (s.0, s.1, same_Some (map length insns) (body_shape s.0) (sym here ∙ ap (λ l. slice_get l n) shape ∙ there))
 
@@ -63,7 +58,7 @@ module _ (bodies : List Body) (hits : List Bool) where
       let here : slice_get (map length insns) i ≡ Some (length values) = slice_get-map length insns i ∙ ap (option_map length) g in
       let sized : length (map length insns) ≡ length (body_shape b.0) = ap length b.2 in
       let lt = slice_get_within insns i values g in
-      let s = stands_at b.0.code i (omega (arith, lt, sized, length-map insns length, length_made branch_count 0 b.0.code)) in
+      let s = item_at b.0.code i (omega (arith, lt, sized, length-map insns length, length_made branch_count 0 b.0.code)) in
       let there : slice_get (body_shape b.0) i ≡ Some (branch_count i s.0) = made_of branch_count b.0.code i s.0 s.1 in
       record {
         body = b.0;
@@ -82,7 +77,7 @@ module _ (bodies : List Body) (hits : List Bool) where
         let insn_same : s.insn ≡ r.insn = same_Some s.insn r.insn (sym s.insn_stands ∙ ap (λ b. slice_get b.code i) body_same ∙ r.insn_stands) in
         let sizes : length values ≡ length more = s.size ∙ ap (λ insn. length (branches_of i insn)) insn_same ∙ sym r.size in
         same_by_places values more sizes (λ j v w p q.
-        let x = stands_at (branches_of i s.insn) j (subst (λ m. j < m) s.size (slice_get_within values j v p)) in
+        let x = item_at (branches_of i s.insn) j (subst (λ m. j < m) s.size (slice_get_within values j v p)) in
         let vc = tc.values n i j s.body s.insn x.0 s.stands s.insn_stands x.1 in
         let wc = td.values n i j s.body s.insn x.0 s.stands s.insn_stands x.1 in
         let v_is : value_at c n i j ≡ Some v = ap (option_and_then (λ vs. slice_get vs j)) (ap (option_and_then (λ es. slice_get es i)) h ∙ k) ∙ p in

@@ -11,7 +11,8 @@ use Rattle.jc_base.specs.WellMade.{IsWellMade, insns_and_arms}
 use Rattle.jc_base.specs.declared.insn.Insn.{Insn}
 use Rattle.jc_base.specs.declared.body.Body.{Body}
 use Rattle.jc_base.specs.declared.body.LineAt.{LineAt}
-use Rattle.jc_plan.proofs.FlowLaws.{few_of, few_insns, length_seen}
+use Rattle.jc_base.proofs.PlacedInsnLaws.{few_insns}
+use Rattle.jc_plan.proofs.FlowLaws.{few_of, length_seen}
 use Rattle.jc_cover.specs.Covered.{branch_count, body_shape, HasShape}
 use Rattle.jc_cover.specs.declared.coverage.Coverage.{Coverage}
 use Rattle.jc_cover.proofs.TotalLaws.{count_whole, branch_whole, complexity_whole}

@@ -9,7 +9,7 @@ use Rattle.jc_plan.specs.declared.branch.Branch.{Branch}
 use Rattle.jc_plan.specs.Edges.{place_of, branches}
 use Rattle.jc_plan.specs.Leading.{LeadsTo}
 use Rattle.jc_plan.specs.Probed.{is_probed}
-use Rattle.jc_base.proofs.FirstSeenLaws.{contains_none, contains_cases, contains_first, contains_later}
+use Rattle.jc_base.proofs.TestLaws.{none_in, which_in, first_in, later_in}
 use Rattle.jc_plan.proofs.OneWayLaws.{standing, one_way}
 use Rattle.jc_cover.specs.Marking.{with_edge, with_edges, sources}
 
@@ -44,19 +44,19 @@ module _ (b : Body) where
 
   tabled : (xs : List Branch) (table : List (Option ℕ)) (t : ℕ) → t < length table
       → ((at : ℕ) × ComesFrom xs t at × (get_or (with_edges b xs table) t None ≡ Some at)) ⊎ (((x : Branch) → Contains xs x → is_probed b x ≡ false → LeadsTo x t → ⊥) × (get_or (with_edges b xs table) t None ≡ get_or table t None))
-  tabled [] table t lt = inr ((λ x c p l. contains_none x c), refl)
+  tabled [] table t lt = inr ((λ x c p l. none_in x c), refl)
   tabled (x ∷ xs) table t lt =
       ⊎_elim
-      (λ found. let more = found.1 in inl (found.0, record { edge = more.edge; listed = contains_later x xs more.edge more.listed; unprobed = more.unprobed; leads = more.leads; begins = more.begins }, found.2))
+      (λ found. let more = found.1 in inl (found.0, record { edge = more.edge; listed = later_in x xs more.edge more.listed; unprobed = more.unprobed; leads = more.leads; begins = more.begins }, found.2))
       (λ none.
       ⊎_elim
-      (λ here. inl (x.at, record { edge = x; listed = contains_first x xs; unprobed = here.0; leads = here.1; begins = refl }, none.1 ∙ here.2))
+      (λ here. inl (x.at, record { edge = x; listed = first_in x xs; unprobed = here.0; leads = here.1; begins = refl }, none.1 ∙ here.2))
       (λ not_here. inr (
         (λ y c p l.
             ⊎_elim
             (λ same. not_here.0 (ap (is_probed b) same ∙ p) (ap (λ z. place_of z.way) same ∙ l))
             (λ later. none.0 y later p l)
-            (contains_cases x xs y c)),
+            (which_in x xs y c)),
         none.1 ∙ not_here.1,
       ))
       (step (is_probed b x) (place_of x.way) x.at t table lt))

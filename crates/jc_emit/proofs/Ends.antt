@@ -1,5 +1,5 @@
 -- The places run on behind the end of the twin, one for each number.
-use Rattle.std.proofs.Common.{◌≡◌, ℕ, zero, suc, ◌+◌, ◌-◌, Bool, false, ◌&&◌, ◌||◌, List, [], ◌∷◌, ◌++◌, map, length, Some, None, refl, sym, ap, ap₂, ◌∙◌, ⊎_elim, inl, inr, arith, append-nil}
+use Rattle.std.proofs.Common.{◌≡◌, ℕ, zero, suc, ◌+◌, ◌-◌, Bool, false, ◌&&◌, ◌||◌, List, [], map, length, None, refl, sym, ap, ap₂, ◌∙◌, ⊎_elim, inl, inr, arith, append-nil}
 use Rattle.std.specs.Prelude.{slice_get}
 use Rattle.std.proofs.lemmas.List.{length-map, get_or_past}
 use Rattle.std.proofs.lemmas.Option.{slice_get_past, slice_get-get_or}
@@ -12,6 +12,7 @@ use Rattle.jc_base.specs.declared.body.Body.{Body}
 use Rattle.jc_plan.specs.Entries.{is_fallen_into, falls_at, goes_on, is_multi_target, is_invocation_line}
 use Rattle.jc_plan.specs.Probed.{probe_of, id_if, probes_before}
 use Rattle.jc_plan.specs.Plan.{lead_probe}
+use Rattle.jc_plan.proofs.ByBranchLaws.{last_parts}
 use Rattle.jc_emit.specs.Sizes.{insn_at, early_by, early_probe, late_by, arms_by, probe_size, hop_size, arm_sizes, wide_by}
 use Rattle.jc_emit.specs.Marks.{image_place, land_place, lead_place}
 use Rattle.jc_emit.specs.Items.{own_of, segment_size, lead_of, land_of, image_of, twin_items}
@@ -30,15 +31,6 @@ no_sequence_by insn flows.Throws e h = refl
 
 no_sequence : (insn : Insn) → (FallsThrough insn → ⊥) → goes_on (flow_of insn) ≡ false
 no_sequence insn h = no_sequence_by insn (flow_of insn) refl h
-
-pub last_parts : (code : List Insn) (i : ℕ) (insn : Insn) → slice_get code i ≡ Some insn → i + 1 ≡ length code
-    → (before : List Insn) × (code ≡ before ++ insn ∷ [])
-last_parts [] i insn h e = absurd (omega arith)
-last_parts (x ∷ []) zero insn h e = let same : x ≡ insn = cc in ([], λ k. same k ∷ [])
-last_parts (x ∷ y ∷ code) zero insn h e = absurd (omega arith)
-last_parts (x ∷ code) (suc i) insn h e =
-    let rest = last_parts code i insn h (omega arith) in
-    (x ∷ rest.0, λ k. x ∷ rest.1 k)
 
 module _ (b : Body) (first : ℕ) (wide : Bool) (is_code : IsCode b.code) where
   abbrev n : ℕ

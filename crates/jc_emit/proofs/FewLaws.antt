@@ -15,6 +15,7 @@ use Rattle.jc_base.specs.declared.insn.Flow.{Flow}
 use Rattle.jc_base.specs.declared.insn.Flow.TheVariants as flows
 use Rattle.jc_base.specs.declared.kind.State.{State}
 use Rattle.jc_base.specs.declared.body.Body.{Body}
+use Rattle.jc_base.proofs.PlacedInsnLaws.{same_arms}
 use Rattle.jc_plan.specs.declared.branch.Branch.{Branch}
 use Rattle.jc_plan.specs.Probed.{probe_of}
 use Rattle.jc_plan.specs.Plan.{lead_probe}
@@ -27,11 +28,6 @@ use Rattle.jc_emit.specs.Items.{Item, insn_of, prelude, probe, lead_part, early_
 use Rattle.jc_emit.specs.Emission.{emission}
 
 -- ---- arms
-
-few_placed : (f : ℕ → ℕ) (insn : Insn) → arm_count (with_places f insn) ≡ arm_count insn
-few_placed f (insns.Table low default arms) = length-map arms f
-few_placed f (insns.Lookup default arms) = length-map arms (arm_with_place f)
-few_placed f _ = refl
 
 few_slots : (v : ℕ) (insn : Insn) → arm_count (with_slot v insn) ≡ arm_count insn
 few_slots v (insns.Local op slot) = refl
@@ -102,7 +98,7 @@ module _ (b : Body) (first v : ℕ) where
   land i = land_of b first false i
 
   weigh_tests : (i : ℕ) (insn : Insn) (o : Option ℕ) → weigh v (tests_part b first false i insn o) ≤ 6 + arm_count insn
-  weigh_tests i insn None = omega (arith, few_placed (land_of b first false) insn)
+  weigh_tests i insn None = omega (arith, same_arms (land_of b first false) insn)
   weigh_tests i insn (Some id) = omega (arith, few_push id, few_inverted (lead_of b first false (i + 1)) insn)
 
   -- the probe in front of an image, the image and what stands behind it
@@ -110,11 +106,11 @@ module _ (b : Body) (first v : ℕ) where
       → weigh v (early_part (early_by (probe_of b first) i (old i) flow) i) + weigh v (image_part b first false i (old i) flow) ≤ 11 + 6 * arm_count (old i)
   weigh_image i flows.GoesOn = omega (arith, few_slots b.arg_slots (old i))
   weigh_image i flows.Tests = omega (arith, weigh_tests i (old i) (late_probe b first i))
-  weigh_image i flows.Jumps = omega (arith, weigh_early v (early_by (probe_of b first) i (old i) flows.Jumps) i, few_placed (land_of b first false) (old i))
+  weigh_image i flows.Jumps = omega (arith, weigh_early v (early_by (probe_of b first) i (old i) flows.Jumps) i, same_arms (land_of b first false) (old i))
   weigh_image i flows.Switches =
       omega (
         arith,
-        few_placed (arm_place (probe_of b first) (land_of b first false) (image_of b first false i + 1) (arms_at b.code i)) (old i),
+        same_arms (arm_place (probe_of b first) (land_of b first false) (image_of b first false i + 1) (arms_at b.code i)) (old i),
         weigh_arms v (land_of b first false) (probe_of b first) (arms_at b.code i),
         few_arms i (old i) (flow_of (old i)),
       )

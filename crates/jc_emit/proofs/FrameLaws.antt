@@ -17,9 +17,10 @@ use Rattle.jc_base.specs.declared.body.FrameAt.{FrameAt}
 use Rattle.jc_plan.specs.declared.branch.Branch.{Branch}
 use Rattle.jc_plan.specs.Probed.{probe_of}
 use Rattle.jc_plan.specs.Plan.{lead_probe}
-use Rattle.jc_base.proofs.FirstSeenLaws.{contains_none, contains_one, contains_first, contains_cases, contains_later}
+use Rattle.jc_base.proofs.FirstSeenLaws.{contains_one}
 use Rattle.jc_base.specs.FrameOrder.{RiseFrom}
 use Rattle.jc_after.specs.Shift.{renamed, shifted}
+use Rattle.jc_after.proofs.ShiftLaws.{map-insert}
 use Rattle.jc_emit.specs.Shift.{shifted_state, image_kind, probe_array_class}
 use Rattle.jc_emit.specs.Sizes.{insn_at, late_by, late_probe, arms_at, probe_size, hop_size, arm_sizes}
 use Rattle.jc_emit.specs.TwinCode.{to_of, arm_place}
@@ -32,6 +33,7 @@ use Rattle.jc_emit.proofs.StraddlingLaws.{frame_within}
 use Rattle.jc_emit.proofs.FrameLists.{Rises, rises_from, rises_to, rises_both, rises_pieces, are_rising, in_piece, of_piece, if_listed, listed_if, rises_if}
 use Rattle.jc_base.specs.declared.insn.Flow.TheVariants as flows
 use Rattle.jc_base.specs.declared.kind.Kind.TheVariants as kinds
+use Rattle.jc_base.proofs.TestLaws.{none_in, which_in, first_in, later_in}
 
 -- ---- states
 
@@ -51,18 +53,13 @@ pub all_moved : (names : List (List ℕ)) (image : ℕ → ℕ) (xs : List Kind)
 all_moved names image [] = refl
 all_moved names image (x ∷ xs) = λ k. held_moved names image x k ∷ all_moved names image xs k
 
-pub map_insert : {X Y : Type 0} (f : X → Y) (xs : List X) (i : ℕ) (x : X) → map f (insert xs i x) ≡ insert (map f xs) i (f x)
-map_insert f xs i x =
-    map-append f (take i xs) (x ∷ drop i xs)
-    ∙ ap₂ (λ a c. a ++ f x ∷ c) (sym (take-map f i xs)) (sym (drop-map f i xs))
-
 -- the state that is written is the shifted one, where the number is that of the class of the array of probes
 pub seen_moved : (names : List (List ℕ)) (v array : ℕ) (image : ℕ → ℕ) (s : State) → slice_index_or names array ([]) ≡ probe_array_class
     → seen names (shifted_state v array image s) ≡ shifted image v (seen names s)
 seen_moved names v array image s e =
     λ k. record {
       locals =
-          (map_insert (held names) (map (image_kind image) s.locals) v (kinds.Object array)
+          (map-insert (held names) (map (image_kind image) s.locals) v (kinds.Object array)
           ∙ ap₂ (λ l c. insert l v (object c)) (all_moved names image s.locals) e) k;
       stack = all_moved names image s.stack k;
     }
@@ -71,16 +68,16 @@ frame_found : (frames : List FrameAt) (i : ℕ) → list_any (λ f. nat_eq f.at 
     → (f : FrameAt) × Contains frames f × (f.at ≡ i)
 frame_found [] i h = absurd cc
 frame_found (f ∷ frames) i h =
-    ⊎_elim (λ here. (f, contains_first f frames, eqb-true f.at i here))
-    (λ later. let more = frame_found frames i later in (more.0, contains_later f frames more.0 more.1, more.2))
+    ⊎_elim (λ here. (f, first_in f frames, eqb-true f.at i here))
+    (λ later. let more = frame_found frames i later in (more.0, later_in f frames more.0 more.1, more.2))
     (or_cases (nat_eq f.at i) (list_any (λ g. nat_eq g.at i) frames) h)
 
 frame_tested : (frames : List FrameAt) (i : ℕ) (g : FrameAt) → Contains frames g → g.at ≡ i → list_any (λ f. nat_eq f.at i) frames ≡ true
-frame_tested [] i g c e = absurd (contains_none g c)
+frame_tested [] i g c e = absurd (none_in g c)
 frame_tested (f ∷ frames) i g c e =
     ⊎_elim (λ same. or_left (nat_eq f.at i) (list_any (λ x. nat_eq x.at i) frames) (eq-eqb f.at i (ap (λ x. x.at) same ∙ e)))
     (λ later. or_right (nat_eq f.at i) (list_any (λ x. nat_eq x.at i) frames) (frame_tested frames i g later e))
-    (contains_cases f frames g c)
+    (which_in f frames g c)
 
 some_is : {X : Type 0} (o : Option X) → is_some o ≡ true → (x : X) × (o ≡ Some x)
 some_is None h = absurd cc
@@ -204,18 +201,18 @@ module _ (b : Body) (first : ℕ) (states : List State) (array : ℕ) (names : L
       → Agrees (probe_of b first) (land_of b first false) (whole i) here xs
       → ((y : Branch) → Contains xs y → Contains (arms_at b.code i) y)
       → (f : FrameAt) → Contains (arm_frames b first states array here (moved (left i)) xs) f → IsGood f
-  arms_good i lt here [] arms a listed f c = absurd (contains_none f c)
+  arms_good i lt here [] arms a listed f c = absurd (none_in f c)
   arms_good i lt here (x ∷ xs) arms a listed f c =
       ⊎_elim (λ front. single (probe_of b first x) refl front)
-      (λ rest. arms_good i lt (here + hop_size (probe_of b first x)) xs arms.3 (agrees_rest (probe_of b first) (land_of b first false) (whole i) here x xs arms.0 a) (λ y d. listed y (contains_later x xs y d)) f rest)
+      (λ rest. arms_good i lt (here + hop_size (probe_of b first x)) xs arms.3 (agrees_rest (probe_of b first) (land_of b first false) (whole i) here x xs arms.0 a) (λ y d. listed y (later_in x xs y d)) f rest)
       (Contains-append_cases (arm_frame b first states array here (moved (left i)) (probe_of b first x)) _ f c)
     where
       single : (o : Option ℕ) → probe_of b first x ≡ o → Contains (arm_frame b first states array here (moved (left i)) o) f → IsGood f
-      single None e d = absurd (contains_none f d)
+      single None e d = absurd (none_in f d)
       single (Some id) e d =
           let place = agrees_first (probe_of b first) (land_of b first false) (whole i) here id x xs a e in
           subst IsGood (contains_one (frame here (moved (left i))) f d)
-          (left i, inr (inr (record { switch = i; branch = x; id = id; within = lt; listed = listed x (contains_first x xs); probed = e; place = sym place; state_is = refl })), seen_is (left i))
+          (left i, inr (inr (record { switch = i; branch = x; id = id; within = lt; listed = listed x (first_in x xs); probed = e; place = sym place; state_is = refl })), seen_is (left i))
 
   each_good : (f : FrameAt) → Contains (pieces part (length b.code)) f → IsGood f
   each_good f c =
@@ -269,7 +266,7 @@ module _ (b : Body) (first : ℕ) (states : List State) (array : ℕ) (names : L
       → Agrees (probe_of b first) (land_of b first false) (whole i) here xs
       → (x : Branch) (id : ℕ) → Contains xs x → probe_of b first x ≡ Some id
       → Contains (arm_frames b first states array here (moved (left i)) xs) (frame (whole i (to_of x)) (moved (left i)))
-  arm_there i lt here [] arms a x id c e = absurd (contains_none x c)
+  arm_there i lt here [] arms a x id c e = absurd (none_in x c)
   arm_there i lt here (y ∷ xs) arms a x id c e =
       ⊎_elim
       (λ same.
@@ -277,11 +274,11 @@ module _ (b : Body) (first : ℕ) (states : List State) (array : ℕ) (names : L
       let place : here ≡ whole i (to_of x) = sym (agrees_first (probe_of b first) (land_of b first false) (whole i) here id y xs a some) ∙ ap (λ z. whole i (to_of z)) same in
       Contains-append_left (arm_frame b first states array here (moved (left i)) (probe_of b first y)) _ _
       (subst (λ o. Contains (arm_frame b first states array here (moved (left i)) o) (frame (whole i (to_of x)) (moved (left i)))) (sym some)
-      (subst (λ q. Contains (frame here (moved (left i)) ∷ []) (frame q (moved (left i)))) place (contains_first (frame here (moved (left i))) ([])))))
+      (subst (λ q. Contains (frame here (moved (left i)) ∷ []) (frame q (moved (left i)))) place (first_in (frame here (moved (left i))) ([])))))
       (λ later.
       Contains-append_right (arm_frame b first states array here (moved (left i)) (probe_of b first y)) _ _
       (arm_there i lt (here + hop_size (probe_of b first y)) xs arms.3 (agrees_rest (probe_of b first) (land_of b first false) (whole i) here y xs arms.0 a) x id later e))
-      (contains_cases y xs x c)
+      (which_in y xs x c)
 
   every_there : (q : ℕ) (s : State) → Asked q s → IsThere q s
   every_there q s (inl o) =

@@ -5,8 +5,9 @@ use Rattle.std.proofs.lemmas.Bool.{cases_lt}
 use Rattle.std.proofs.lemmas.List.Elements.{Contains-append_left, Contains-append_right, Contains-append_cases}
 use Rattle.jc_base.specs.PlainLists.{pieces}
 use Rattle.jc_base.specs.declared.body.FrameAt.{FrameAt}
-use Rattle.jc_base.proofs.FirstSeenLaws.{contains_none, contains_one, contains_first, contains_cases}
+use Rattle.jc_base.proofs.FirstSeenLaws.{contains_one}
 use Rattle.jc_base.specs.FrameOrder.{RiseFrom}
+use Rattle.jc_base.proofs.TestLaws.{none_in, which_in, first_in}
 use Rattle.jc_emit.specs.Emission.{frame_if}
 
 -- each stands behind the one before it, from a place on and below another
@@ -37,12 +38,12 @@ are_rising a b (f ∷ frames) r = (r.0, are_rising (f.at + 1) b frames r.1)
 
 -- it stands between them
 pub rises_within : (a b : ℕ) (frames : List FrameAt) → Rises a b frames → (f : FrameAt) → Contains frames f → (a ≤ f.at) × (f.at < b)
-rises_within a b [] r f c = absurd (contains_none f c)
+rises_within a b [] r f c = absurd (none_in f c)
 rises_within a b (g ∷ frames) r f c =
     ⊎_elim
     (λ same. let e : g.at ≡ f.at = ap (λ x. x.at) same in let end = rises_end (g.at + 1) b frames r.1 in (omega (arith, e, r.0), omega (arith, e, end)))
     (λ later. let w = rises_within (g.at + 1) b frames r.1 f later in (omega (arith, w.0, r.0), w.1))
-    (contains_cases g frames f c)
+    (which_in g frames f c)
   where
     rises_end : (a b : ℕ) (frames : List FrameAt) → Rises a b frames → a ≤ b
     rises_end a b [] r = r
@@ -56,7 +57,7 @@ pub record InPiece (g : ℕ → List FrameAt) (n : ℕ) (f : FrameAt) : Type 0 w
   pub listed : Contains (g piece) f
 
 pub in_piece : (g : ℕ → List FrameAt) (n : ℕ) (f : FrameAt) → Contains (pieces g n) f → InPiece g n f
-in_piece g zero f c = absurd (contains_none f c)
+in_piece g zero f c = absurd (none_in f c)
 in_piece g (suc n) f c =
     ⊎_elim (λ front. let p = in_piece g n f front in let w = p.within in record { piece = p.piece; within = omega arith; listed = p.listed })
     (λ last. record { piece = n; within = omega arith; listed = last })
@@ -73,10 +74,10 @@ of_piece g (suc n) i f lt c =
 
 pub if_listed : (t : Bool) (f g : FrameAt) → Contains (frame_if t f) g → (t ≡ true) × (f ≡ g)
 if_listed true f g c = (refl, contains_one f g c)
-if_listed false f g c = absurd (contains_none g c)
+if_listed false f g c = absurd (none_in g c)
 
 pub listed_if : (t : Bool) (f : FrameAt) → t ≡ true → Contains (frame_if t f) f
-listed_if true f e = contains_first f ([])
+listed_if true f e = first_in f ([])
 listed_if false f e = cc
 
 pub rises_if : (t : Bool) (f : FrameAt) (a b : ℕ) → (t ≡ true → (a ≤ f.at) × (f.at < b)) → a ≤ b → Rises a b (frame_if t f)

@@ -14,13 +14,13 @@ use Rattle.jc_base.specs.declared.body.FrameAt.{FrameAt}
 use Rattle.jc_base.specs.Held.{Names, Seen, held, seen, IsNumbered, IsNumberedState, AreNumberedFrames}
 use Rattle.jc_base.specs.WellMade.{IsWellMadeOfAnySize, AreFramesFrom}
 use Rattle.jc_base.specs.declared.insn.Insn.{Insn}
-use Rattle.jc_base.proofs.FirstSeenLaws.{contains_none, contains_cases}
 use Rattle.jc_base.specs.FrameOrder.{RiseFrom}
+use Rattle.jc_base.proofs.TestLaws.{none_in, which_in}
 use Rattle.jc_kinds.specs.Answers.{AreStates}
 use Rattle.jc_emit.specs.TwinFrames.{no_state, state_at}
 use Rattle.jc_emit.specs.Emission.{HasFrameStates}
 use Rattle.jc_emit.proofs.StraddlingLaws.{frame_within}
-use Rattle.jc_emit.proofs.TwinPremises.{frame_found}
+use Rattle.jc_emit.proofs.TwinPremises.{frame_found, frames_rise}
 use Rattle.jc_emit.proofs.TwinStates.{frame_state_is}
 
 -- ---- names that differ have different numbers
@@ -37,10 +37,6 @@ one_number (x ∷ names) zero zero d lm ln e = refl
 one_number (x ∷ names) zero (suc n) d lm ln e = absurd (unlike_at x names n d.0 (omega arith) e)
 one_number (x ∷ names) (suc m) zero d lm ln e = absurd (unlike_at x names m d.0 (omega arith) (sym e))
 one_number (x ∷ names) (suc m) (suc n) d lm ln e = ap suc (one_number names m n d.1 (omega arith) (omega arith) e)
-
-frames_rise : (first : ℕ) (code : List Insn) (locals stack : ℕ) (frames : List FrameAt) → AreFramesFrom first code locals stack frames → RiseFrom first frames
-frames_rise first code locals stack [] are = tt
-frames_rise first code locals stack (f ∷ frames) are = (are.0, frames_rise (f.at + 1) code locals stack frames are.3)
 
 module _ (names : Names) (distinct : IsDistinct bytes_eq names) where
   one_kind : (k l : Kind) → IsNumbered (length names) k → IsNumbered (length names) l → held names k ≡ held names l → k ≡ l
@@ -75,10 +71,10 @@ module _ (names : Names) (distinct : IsDistinct bytes_eq names) where
       λ k. record { locals = locals k; stack = stack k }
 
   numbered_there : (frames : List FrameAt) (f : FrameAt) → AreNumberedFrames (length names) frames → Contains frames f → IsNumberedState (length names) f.state
-  numbered_there [] f all c = absurd (contains_none f c)
+  numbered_there [] f all c = absurd (none_in f c)
   numbered_there (g ∷ frames) f all c =
       ⊎_elim (λ same. subst (λ (x : FrameAt). IsNumberedState (length names) x.state) same all.0) (λ later. numbered_there frames f all.1 later)
-      (contains_cases g frames f c)
+      (which_in g frames f c)
 
   pub frames_have_states : (b : Body) (states : List State) → IsWellMadeOfAnySize b → AreNumberedFrames (length names) b.frames
       → AreStates names b states → HasFrameStates b states

@@ -11,12 +11,12 @@ use Rattle.jc_base.specs.EntryState.{entry_of, entry_seen}
 use Rattle.jc_after.specs.Step.{Step, apply}
 use Rattle.jc_after.specs.Table.{table, forms_at}
 use Rattle.jc_after.specs.After.{insn_at, new_class, ground_of, returns_of, member_step, constant_step, return_step, step_of, after_of}
+use Rattle.jc_after.proofs.ApplyLaws.{after_is}
 use Rattle.jc_kinds.specs.States.{frames_of, frame_at, state_of, after_at}
 use Rattle.jc_kinds.specs.Fits.{FitState, FitsThere}
 use Rattle.jc_kinds.specs.Checked.{Checked, LeadsTo, FallsInto, HasFrame, IsHandlerTarget, NeedsFrame, IsMissing}
 use Rattle.jc_base.proofs.TestLaws.{which_in, none_in, first_in}
 use Rattle.jc_emit.specs.Marks.{push}
-use Rattle.jc_emit.proofs.StepLaws.{after_is}
 use Rattle.jc_emit.proofs.PlacedLaws.{no_targets}
 use Rattle.jc_emit.proofs.TwinStates.{push_is, state_fits_same, first_state, frame_state_is, next_state, after_there, fit_there}
 use Rattle.jc_emit.specs.Added.{data_name, data_type, init_type, runtime_class, fetch_name, fetch_type, init_code, init_frame, IsInitBody}
@@ -117,7 +117,7 @@ module _ (names : Names) (class : List ℕ) (id : ℤ) (count : ℕ) (b : Body) 
       → apply (record { most = 4; place = q; owner = b.owner; class_at = λ k. new_class b.uses (insn_at b k) }) st s ≡ Some t
       → after_of b q s ≡ Some t
   step q insn st s t here is goes =
-      after_is b q insn s (at q insn here)
+      after_is b q s insn (at q insn here)
       ∙ ap (λ x. apply (ground_of b q) x s) is
       ∙ ap (λ m. apply (record { most = m; place = q; owner = b.owner; class_at = λ k. new_class b.uses (insn_at b k) }) st s) i.max_stack
       ∙ goes

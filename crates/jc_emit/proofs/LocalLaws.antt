@@ -1,12 +1,12 @@
 -- The twin that the function gives goes on where it should, at each of its instructions.
-use Rattle.std.proofs.Common.{◌≡◌, ◌⊎◌, inl, inr, ⊎_elim, ℕ, ◌+◌, ◌<◌, Bool, true, false, nat_eq, List, [], ◌∷◌, ◌++◌, length, Option, Some, None, refl, sym, ap, ◌∙◌, subst, arith, add-one, zero-add}
+use Rattle.std.proofs.Common.{◌≡◌, ◌⊎◌, inl, inr, ⊎_elim, ℕ, ◌+◌, ◌<◌, Bool, true, false, List, [], ◌∷◌, ◌++◌, length, Option, Some, None, refl, sym, ap, ◌∙◌, subst, arith, add-one, zero-add}
 use Rattle.std.specs.Prelude.{slice_get, Contains}
 use Rattle.std.specs.List.{AllByRecursion}
 use Rattle.std.proofs.lemmas.Bool.{cases_lt}
 use Rattle.std.proofs.lemmas.Option.{slice_get-get_or}
 use Rattle.jc_base.specs.PlainLists.{total}
 use Rattle.jc_base.specs.FirstSeen.{first_seen}
-use Rattle.jc_base.specs.Flow.{flow_of, targets_of, is_return, FallsThrough, jump_target}
+use Rattle.jc_base.specs.Flow.{flow_of, targets_of, FallsThrough, jump_target}
 use Rattle.jc_base.specs.Insn.{with_places, IsWellFormed}
 use Rattle.jc_base.specs.WellMade.{IsCode}
 use Rattle.jc_base.specs.declared.insn.Insn.{Insn}
@@ -16,8 +16,9 @@ use Rattle.jc_plan.specs.declared.branch.Branch.{Branch}
 use Rattle.jc_plan.specs.Edges.{sequence, jump, branches_by}
 use Rattle.jc_plan.specs.Probed.{probe_of}
 use Rattle.jc_plan.specs.Plan.{lead_probe}
-use Rattle.jc_base.proofs.FirstSeenLaws.{contains_none, contains_cases, contains_first, contains_later, first_seen_listed, first_seen_distinct}
+use Rattle.jc_base.proofs.FirstSeenLaws.{first_seen_listed, first_seen_distinct}
 use Rattle.jc_plan.proofs.ListedLaws.{all_listed}
+use Rattle.jc_plan.proofs.ByBranchLaws.{last_parts}
 use Rattle.jc_emit.specs.Sizes.{insn_at, early_by, early_probe, late_by, late_probe, arms_by, arms_at, probe_size, hop_size, wide_by, behind_size}
 use Rattle.jc_base.specs.Widened.{inverted}
 use Rattle.jc_emit.specs.TwinCode.{to_of, here_or, arm_place}
@@ -25,12 +26,13 @@ use Rattle.jc_emit.specs.Items.{Item, image, probe_array, hop, probe, lead_part,
 use Rattle.jc_emit.specs.Local.{Stands, Lands, Ok, OkImage, AllOk, TestsAlike, TestsInversely, SwitchesAlike, JumpsAlike}
 use Rattle.jc_emit.proofs.PiecesLaws.{HasAt, has_front, has_back, Each, each_append, each_at, each_piece}
 use Rattle.jc_emit.proofs.Built.{length-lead, length-early, length-hop, sized, size_is, size_tests, prelude_at}
-use Rattle.jc_emit.proofs.Ends.{last_parts}
 use Rattle.jc_emit.proofs.Told.{lead_at, early_at, main_at}
-use Rattle.jc_emit.proofs.Others.{Arms, Agrees, agrees_here, agrees_rest, are_arms, arm_listed, not_tests_by, tests_target, jumps_target, none_some}
+use Rattle.jc_emit.proofs.Others.{Arms, Agrees, agrees_here, agrees_rest, are_arms, arm_listed, tests_target, jumps_target, none_some}
 use Rattle.jc_emit.proofs.InverseLaws.{twice_inverse}
 use Rattle.jc_base.specs.declared.insn.Insn.TheVariants as insns
 use Rattle.jc_base.specs.declared.insn.Flow.TheVariants as flows
+use Rattle.jc_base.proofs.PlacedInsnLaws.{simple_is_no_test}
+use Rattle.jc_base.proofs.TestLaws.{none_in, which_in, first_in, later_in}
 
 -- ---- conditional jumps
 
@@ -41,7 +43,7 @@ pub record IsJumpOf (insn : Insn) : Type 0 where
 
 pub test_is : (insn : Insn) → flow_of insn ≡ flows.Tests → IsJumpOf insn
 test_is (insns.Jump op to) e = record { op = op; to = to; is = refl }
-test_is (insns.Simple op) e = absurd (not_tests_by (is_return op) (nat_eq op 191) e)
+test_is (insns.Simple op) e = absurd (simple_is_no_test op e)
 test_is (insns.Table low default arms) e = cc
 test_is (insns.Lookup default arms) e = cc
 test_is (insns.Push op value) e = cc
@@ -274,19 +276,19 @@ module _ (b : Body) (first : ℕ) (wide : Bool) (is_code : IsCode b.code) where
   pub arms_land : (i : ℕ) (whole : ℕ → ℕ) (here : ℕ) (xs : List Branch) → Arms i xs → Agrees ids land whole here xs
       → HasAt items here (arm_parts land (probe_of b first) xs)
       → ((x : Branch) → Contains xs x → to_of x < length b.code) → (x : Branch) → Contains xs x → In (whole (to_of x)) (to_of x) (ids x)
-  arms_land i whole here [] arms a h within x c = absurd (contains_none x c)
+  arms_land i whole here [] arms a h within x c = absurd (none_in x c)
   arms_land i whole here (y ∷ xs) arms a h within x c =
       let part = hop_part land (probe_of b first y) (to_of y) in
       ⊎_elim
       (λ same.
       let place = agrees_here ids land whole here y xs a in
-      let there = arm_lands here y (probe_of b first y) (has_front items here part _ h) (within y (contains_first y xs)) in
+      let there = arm_lands here y (probe_of b first y) (has_front items here part _ h) (within y (first_in y xs)) in
       subst (λ z. In (whole (to_of z)) (to_of z) (ids z)) same (subst (λ q. In q (to_of y) (ids y)) (sym place) there))
       (λ later.
       arms_land i whole (here + hop_size (probe_of b first y)) xs arms.3 (agrees_rest ids land whole here y xs arms.0 a)
       (subst (λ k. HasAt items (here + k) (arm_parts land (probe_of b first) xs)) (length-hop land (probe_of b first y) (to_of y)) (has_back items here part _ h))
-      (λ z d. within z (contains_later y xs z d)) x later)
-      (contains_cases y xs x c)
+      (λ z d. within z (later_in y xs z d)) x later)
+      (which_in y xs x c)
 
   arms_fine : (here : ℕ) (xs : List Branch) → HasAt items here (arm_parts land (probe_of b first) xs)
       → ((x : Branch) → Contains xs x → to_of x < length b.code) → Each Fine here (arm_parts land (probe_of b first) xs)
@@ -298,11 +300,11 @@ module _ (b : Body) (first : ℕ) (wide : Bool) (is_code : IsCode b.code) where
       (subst (λ k. Each Fine (here + k) (arm_parts land (probe_of b first) xs)) (sym (length-hop land (probe_of b first x) (to_of x)))
       (arms_fine (here + hop_size (probe_of b first x)) xs
       (subst (λ k. HasAt items (here + k) (arm_parts land (probe_of b first) xs)) (length-hop land (probe_of b first x) (to_of x)) (has_back items here o _ h))
-      (λ z d. within z (contains_later x xs z d))))
+      (λ z d. within z (later_in x xs z d))))
     where
       part : (o : Option ℕ) → HasAt items here (hop_part land o (to_of x)) → Each Fine here (hop_part land o (to_of x))
       part None h = tt
-      part (Some id) h = hop_fine here id (to_of x) h (within x (contains_first x xs))
+      part (Some id) h = hop_fine here id (to_of x) h (within x (first_in x xs))
 
   -- ---- images
 

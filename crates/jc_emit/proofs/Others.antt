@@ -19,7 +19,7 @@ use Rattle.jc_plan.specs.Edges.{sequence, jump, arm, exit, branches_by, branches
 use Rattle.jc_plan.specs.Entries.{falls_at, goes_on, is_fallen_into, is_multi_target, is_invocation_line}
 use Rattle.jc_plan.specs.Probed.{probe_of, id_if}
 use Rattle.jc_plan.specs.Plan.{lead_probe}
-use Rattle.jc_base.proofs.FirstSeenLaws.{contains_one, contains_none, contains_cases, contains_first, contains_later, first_seen_distinct}
+use Rattle.jc_base.proofs.FirstSeenLaws.{contains_one, first_seen_distinct}
 use Rattle.jc_plan.proofs.ListedLaws.{listed_from, lists_from}
 use Rattle.jc_emit.specs.Sizes.{insn_at, early_by, early_probe, late_by, late_probe, arms_by, arms_at, hop_size, wide_by, wide_size}
 use Rattle.jc_emit.specs.Marks.{Marks}
@@ -32,6 +32,8 @@ use Rattle.jc_emit.proofs.Ends.{lead_none}
 use Rattle.jc_emit.proofs.Told.{item_stands, main_at, places_told, jumps_told, switches_told}
 use Rattle.jc_base.specs.declared.insn.Insn.TheVariants as insns
 use Rattle.jc_base.specs.declared.insn.Flow.TheVariants as flows
+use Rattle.jc_base.proofs.PlacedInsnLaws.{simple_is_no_test}
+use Rattle.jc_base.proofs.TestLaws.{none_in, which_in, first_in, later_in}
 
 pub none_some : (id : ℕ) → None ≡ Some id → ⊥
 none_some id e = cc
@@ -42,11 +44,6 @@ if_some false a id e = absurd (none_some id e)
 
 -- ---- what jumps
 
-pub not_tests_by : (t u : Bool) → cond t flows.Returns (cond u flows.Throws flows.GoesOn) ≡ flows.Tests → ⊥
-not_tests_by true u e = cc
-not_tests_by false true e = cc
-not_tests_by false false e = cc
-
 not_jumps_by : (t u : Bool) → cond t flows.Returns (cond u flows.Throws flows.GoesOn) ≡ flows.Jumps → ⊥
 not_jumps_by true u e = cc
 not_jumps_by false true e = cc
@@ -54,7 +51,7 @@ not_jumps_by false false e = cc
 
 pub tests_target : (insn : Insn) → flow_of insn ≡ flows.Tests → targets_of insn ≡ jump_target insn ∷ []
 tests_target (insns.Jump op to) e = refl
-tests_target (insns.Simple op) e = absurd (not_tests_by (is_return op) (nat_eq op 191) e)
+tests_target (insns.Simple op) e = absurd (simple_is_no_test op e)
 tests_target (insns.Table low default arms) e = cc
 tests_target (insns.Lookup default arms) e = cc
 tests_target (insns.Push op value) e = cc
@@ -95,12 +92,12 @@ Arms i (x ∷ xs) = ((y : Branch) → Contains xs y → to_of x ≡ to_of y → 
 
 -- what stands in the list of arms leads where a number of the list says
 pub arm_listed : (i k : ℕ) (ts : List ℕ) (y : Branch) → Contains (map_from (arm i) k ts) y → Contains ts (to_of y)
-arm_listed i k [] y c = absurd (contains_none y c)
+arm_listed i k [] y c = absurd (none_in y c)
 arm_listed i k (t ∷ ts) y c =
     ⊎_elim
-    (λ same. let e : t ≡ to_of y = ap to_of same in subst (λ z. Contains (z ∷ ts) (to_of y)) (sym e) (contains_first (to_of y) ts))
-    (λ later. contains_later t ts (to_of y) (arm_listed i (k + 1) ts y later))
-    (contains_cases (arm i k t) (map_from (arm i) (k + 1) ts) y c)
+    (λ same. let e : t ≡ to_of y = ap to_of same in subst (λ z. Contains (z ∷ ts) (to_of y)) (sym e) (first_in (to_of y) ts))
+    (λ later. later_in t ts (to_of y) (arm_listed i (k + 1) ts y later))
+    (which_in (arm i k t) (map_from (arm i) (k + 1) ts) y c)
 
 pub are_arms : (i k : ℕ) (ts : List ℕ) → IsDistinct ts → Arms i (map_from (arm i) k ts)
 are_arms i k [] d = tt
@@ -113,21 +110,21 @@ Agrees ids land whole here xs = (y : Branch) → Contains xs y → whole (to_of 
 pub agrees_first : (ids : Branch → Option ℕ) (land whole : ℕ → ℕ) (here id : ℕ) (x : Branch) (xs : List Branch)
     → Agrees ids land whole here (x ∷ xs) → ids x ≡ Some id → whole (to_of x) ≡ here
 agrees_first ids land whole here id x xs a some =
-    a x (contains_first x xs)
+    a x (first_in x xs)
     ∙ cond-true (nat_eq (to_of x) (to_of x)) (here_or (ids x) here (land (to_of x))) (arm_place ids land (here + hop_size (ids x)) xs (to_of x)) (eq-eqb (to_of x) (to_of x) refl)
     ∙ ap (λ o. here_or o here (land (to_of x))) some
 
 pub agrees_here : (ids : Branch → Option ℕ) (land whole : ℕ → ℕ) (here : ℕ) (x : Branch) (xs : List Branch)
     → Agrees ids land whole here (x ∷ xs) → whole (to_of x) ≡ here_or (ids x) here (land (to_of x))
 agrees_here ids land whole here x xs a =
-    a x (contains_first x xs)
+    a x (first_in x xs)
     ∙ cond-true (nat_eq (to_of x) (to_of x)) (here_or (ids x) here (land (to_of x))) (arm_place ids land (here + hop_size (ids x)) xs (to_of x)) (eq-eqb (to_of x) (to_of x) refl)
 
 pub agrees_rest : (ids : Branch → Option ℕ) (land whole : ℕ → ℕ) (here : ℕ) (x : Branch) (xs : List Branch)
     → ((y : Branch) → Contains xs y → to_of x ≡ to_of y → ⊥) → Agrees ids land whole here (x ∷ xs)
     → Agrees ids land whole (here + hop_size (ids x)) xs
 agrees_rest ids land whole here x xs apart a y c =
-    a y (contains_later x xs y c)
+    a y (later_in x xs y c)
     ∙ cond-false (nat_eq (to_of x) (to_of y)) (here_or (ids x) here (land (to_of y))) (arm_place ids land (here + hop_size (ids x)) xs (to_of y)) (ne_eqb (to_of x) (to_of y) (apart y c))
 
 -- the arms of the instruction at i
@@ -229,7 +226,7 @@ module _ (b : Body) (first : ℕ) (wide : Bool) (call : ℕ) (is_code : IsCode b
       → HasArms b first wide code m image_at land lead here xs
       → (x : Branch) (id : ℕ) → Contains xs x → probe_of b first x ≡ Some id
       → Has (whole (to_of x)) id (to_of x) × (x.at ≡ i) × (x.way ≡ ways.Switches (to_of x))
-  arms_have i whole here [] arms a h x id c some = absurd (contains_none x c)
+  arms_have i whole here [] arms a h x id c some = absurd (none_in x c)
   arms_have i whole here (y ∷ xs) arms a h x id c some =
       ⊎_elim
       (λ same.
@@ -238,7 +235,7 @@ module _ (b : Body) (first : ℕ) (wide : Bool) (call : ℕ) (is_code : IsCode b
       let there = subst (λ q. Has q id (to_of y)) (sym (agrees_first (probe_of b first) land whole here id y xs a yes)) arm_has.0 in
       subst (λ z. Has (whole (to_of z)) id (to_of z) × (z.at ≡ i) × (z.way ≡ ways.Switches (to_of z))) same (there, arms.1, arms.2))
       (λ later. arms_have i whole (here + hop_size (probe_of b first y)) xs arms.3 (agrees_rest (probe_of b first) land whole here y xs arms.0 a) h.1 x id later some)
-      (contains_cases y xs x c)
+      (which_in y xs x c)
 
   -- where the branch of a switch has its arm place
   abbrev arm_at : ℕ → ℕ → ℕ
@@ -265,7 +262,7 @@ module _ (b : Body) (first : ℕ) (wide : Bool) (call : ℕ) (is_code : IsCode b
       let same = contains_one (jump i (jump_target (old i))) x one in
       let late : late_probe b first i ≡ Some id = ap (late_by (probe_of b first) i (old i)) e ∙ ap (probe_of b first) same ∙ some in
       subst (λ z. Has (place_by z.way flows.Tests i) id (owner_by z.way flows.Tests i) × (z.at ≡ i)) same ((jumps_told b first wide call).probes i id (lt, e) late, refl))
-      (contains_cases (sequence i) (map (jump i) (targets_of (old i))) x c)
+      (which_in (sequence i) (map (jump i) (targets_of (old i))) x c)
   edge_has i flows.Jumps x id lt e c some =
       let one = subst (λ ts. Contains (map (jump i) ts) x) (jumps_target (old i) e) c in
       let same = contains_one (jump i (jump_target (old i))) x one in
@@ -326,8 +323,8 @@ module _ (b : Body) (first : ℕ) (wide : Bool) (call : ℕ) (is_code : IsCode b
 
   -- the probe of a fall-through
   sequence_listed : (flow : Flow) (j : ℕ) (ts : List ℕ) → goes_on flow ≡ true → Contains (branches_by flow j ts) (sequence j)
-  sequence_listed flows.GoesOn j ts h = contains_first (sequence j) ([])
-  sequence_listed flows.Tests j ts h = contains_first (sequence j) (map (jump j) ts)
+  sequence_listed flows.GoesOn j ts h = first_in (sequence j) ([])
+  sequence_listed flows.Tests j ts h = first_in (sequence j) (map (jump j) ts)
   sequence_listed flows.Jumps j ts h = cc
   sequence_listed flows.Switches j ts h = cc
   sequence_listed flows.Returns j ts h = cc
@@ -355,10 +352,10 @@ module _ (b : Body) (first : ℕ) (wide : Bool) (call : ℕ) (is_code : IsCode b
   early_edge i flows.GoesOn id lt e h = absurd (none_some id h)
   early_edge i flows.Tests id lt e h = absurd (none_some id h)
   early_edge i flows.Jumps id lt e h =
-      (jump i (jump_target (old i)), subst (λ ts. Contains (map (jump i) ts) (jump i (jump_target (old i)))) (sym (jumps_target (old i) e)) (contains_first (jump i (jump_target (old i))) ([])), h, refl, refl)
+      (jump i (jump_target (old i)), subst (λ ts. Contains (map (jump i) ts) (jump i (jump_target (old i)))) (sym (jumps_target (old i) e)) (first_in (jump i (jump_target (old i))) ([])), h, refl, refl)
   early_edge i flows.Switches id lt e h = absurd (none_some id h)
-  early_edge i flows.Returns id lt e h = (exit i, contains_first (exit i) ([]), h, refl, refl)
-  early_edge i flows.Throws id lt e h = (exit i, contains_first (exit i) ([]), h, refl, refl)
+  early_edge i flows.Returns id lt e h = (exit i, first_in (exit i) ([]), h, refl, refl)
+  early_edge i flows.Throws id lt e h = (exit i, first_in (exit i) ([]), h, refl, refl)
 
   early_roles : (i : ℕ) → i < length b.code → (o : Option ℕ) → early_probe b first i ≡ o → Each Role (land i) (early_part o i)
   early_roles i lt None e = tt
@@ -382,7 +379,7 @@ module _ (b : Body) (first : ℕ) (wide : Bool) (call : ℕ) (is_code : IsCode b
       let more = hop_part land (Some id) (jump_target (old i)) in
       let long = length-test wide (image_at i) (inverted (lead (i + 1)) (old i)) i (i + 1) (lead_probe b first (i + 1)) in
       let x = jump i (jump_target (old i)) in
-      let listed = contains_later (sequence i) (map (jump i) (targets_of (old i))) x (subst (λ ts. Contains (map (jump i) ts) x) (sym (tests_target (old i) e)) (contains_first x ([]))) in
+      let listed = later_in (sequence i) (map (jump i) (targets_of (old i))) x (subst (λ ts. Contains (map (jump i) ts) x) (sym (tests_target (old i) e)) (first_in x ([]))) in
       let probed : probe_of b first x ≡ Some id = sym (ap (late_by (probe_of b first) i (old i)) e) ∙ some in
       let edge = edge_of i flows.Tests x id lt e listed probed in
       let same : wide_size b wide i ≡ wide_by flows.Tests wide = ap (λ f. wide_by f wide) e in
@@ -402,12 +399,12 @@ module _ (b : Body) (first : ℕ) (wide : Bool) (call : ℕ) (is_code : IsCode b
       each_append Role here (hop_part land (probe_of b first x) (to_of x)) (arm_parts land (probe_of b first) xs)
       (part (probe_of b first x) refl)
       (subst (λ k. Each Role (here + k) (arm_parts land (probe_of b first) xs)) (sym (length-hop land (probe_of b first x) (to_of x)))
-      (arm_roles i lt e (here + hop_size (probe_of b first x)) xs (λ y c. listed y (contains_later x xs y c)) arms.3 (agrees_rest (probe_of b first) land (arm_at i) here x xs arms.0 a)))
+      (arm_roles i lt e (here + hop_size (probe_of b first x)) xs (λ y c. listed y (later_in x xs y c)) arms.3 (agrees_rest (probe_of b first) land (arm_at i) here x xs arms.0 a)))
     where
       part : (o : Option ℕ) → probe_of b first x ≡ o → Each Role here (hop_part land o (to_of x))
       part None none = tt
       part (Some id) some =
-          let c = subst (λ l. Contains l x) (arms_is i e) (listed x (contains_first x xs)) in
+          let c = subst (λ l. Contains l x) (arms_is i e) (listed x (first_in x xs)) in
           let edge = edge_of i flows.Switches x id lt e c some in
           let here_is = agrees_first (probe_of b first) land (arm_at i) here id x xs a some in
           hop_roles here id (to_of x) edge

@@ -10,7 +10,8 @@ use Rattle.jc_base.specs.declared.insn.Insn.TheVariants as insns
 use Rattle.jc_base.specs.declared.insn.Arm.{Arm}
 use Rattle.jc_base.specs.declared.insn.Flow.{Flow}
 use Rattle.jc_base.specs.declared.insn.Flow.TheVariants as flows
-use Rattle.jc_base.proofs.TestLaws.{which_in, none_in, first_in, later_in}
+use Rattle.jc_base.proofs.TestLaws.{which_in, none_in}
+use Rattle.jc_base.proofs.PlacedInsnLaws.{flow_placed}
 use Rattle.jc_after.specs.Shift.{with_slot}
 use Rattle.jc_emit.specs.Marks.{push}
 use Rattle.jc_emit.proofs.Others.{tests_target}
@@ -51,23 +52,6 @@ flow_shifted v (insns.Multi place dims) = refl
 flow_shifted v (insns.Jump op to) = refl
 flow_shifted v (insns.Table low default arms) = refl
 flow_shifted v (insns.Lookup default arms) = refl
-
-pub flow_placed : (f : ℕ → ℕ) (insn : Insn) → flow_of (with_places f insn) ≡ flow_of insn
-flow_placed f (insns.Simple op) = refl
-flow_placed f (insns.Push op value) = refl
-flow_placed f (insns.Local op slot) = refl
-flow_placed f (insns.Inc slot by) = refl
-flow_placed f (insns.Constant place) = refl
-flow_placed f (insns.Constant2 place) = refl
-flow_placed f (insns.Member op place) = refl
-flow_placed f (insns.Interface place count) = refl
-flow_placed f (insns.Dynamic place) = refl
-flow_placed f (insns.OfClass op place) = refl
-flow_placed f (insns.NewArray elem) = refl
-flow_placed f (insns.Multi place dims) = refl
-flow_placed f (insns.Jump op to) = refl
-flow_placed f (insns.Table low default arms) = refl
-flow_placed f (insns.Lookup default arms) = refl
 
 pub not_on_by : (t : Bool) → cond t flows.Jumps flows.Tests ≡ flows.GoesOn → ⊥
 not_on_by true e = cc
@@ -164,11 +148,6 @@ targets_placed f (insns.Dynamic place) = refl
 targets_placed f (insns.OfClass op place) = refl
 targets_placed f (insns.NewArray elem) = refl
 targets_placed f (insns.Multi place dims) = refl
-
-pub contains_map : {X Y : Type 0} (f : X → Y) (xs : List X) (y : Y) → Contains (map f xs) y → (x : X) × Contains xs x × (y ≡ f x)
-contains_map f [] y c = absurd (none_in y c)
-contains_map f (x ∷ xs) y c =
-    ⊎_elim (λ same. (x, first_in x xs, sym same)) (λ later. let m = contains_map f xs y later in (m.0, later_in x xs m.0 m.1, m.2)) (which_in (f x) (map f xs) y c)
 
 -- what goes on, returns or throws has no target
 pub no_targets : (insn : Insn) → (flow_of insn ≡ flows.GoesOn) ⊎ ((flow_of insn ≡ flows.Returns) ⊎ (flow_of insn ≡ flows.Throws))

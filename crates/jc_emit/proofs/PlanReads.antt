@@ -18,7 +18,7 @@ use Rattle.jc_plan.proofs.PlanLaws.{lead_read, out_read}
 use Rattle.jc_emit.specs.Sizes.{insn_at, late_by, late_probe, arms_by, arms_at}
 use Rattle.jc_emit.proofs.Others.{tests_target}
 
-length_map_from : {X Y : Type 0} (f : ℕ → X → Y) (k : ℕ) (xs : List X) → length (map_from f k xs) ≡ length xs
+pub length_map_from : {X Y : Type 0} (f : ℕ → X → Y) (k : ℕ) (xs : List X) → length (map_from f k xs) ≡ length xs
 length_map_from f k [] = refl
 length_map_from f k (x ∷ xs) = let e = length_map_from f (k + 1) xs in omega (arith, e)
 

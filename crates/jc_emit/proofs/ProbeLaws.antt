@@ -10,7 +10,8 @@ use Rattle.jc_base.specs.declared.insn.Insn.TheVariants as insns
 use Rattle.jc_base.specs.declared.insn.Flow.{Flow}
 use Rattle.jc_base.specs.declared.insn.Flow.TheVariants as flows
 use Rattle.jc_base.specs.declared.body.Body.{Body}
-use Rattle.jc_base.proofs.FirstSeenLaws.{contains_none, contains_one, contains_cases}
+use Rattle.jc_base.proofs.FirstSeenLaws.{contains_one}
+use Rattle.jc_base.proofs.TestLaws.{none_in, which_in}
 use Rattle.jc_plan.specs.declared.branch.Branch.{Branch}
 use Rattle.jc_plan.specs.declared.branch.Way.TheVariants as ways
 use Rattle.jc_plan.specs.Edges.{sequence, jump, exit, branches_by}
@@ -72,7 +73,7 @@ module _ (b : Body) (first : ℕ) (wide : Bool) (code : List Insn) (m : Marks) (
   arms_goto : (i : ℕ) (whole : ℕ → ℕ) (here : ℕ) (xs : List Branch) → Arms i xs → Agrees (probe_of b first) land whole here xs
       → HasArms b first wide code m image land lead here xs → (x : Branch) (id : ℕ) → Contains xs x → probe_of b first x ≡ Some id
       → IsGoto (whole (to_of x) + 4)
-  arms_goto i whole here [] arms a h x id c some = absurd (contains_none x c)
+  arms_goto i whole here [] arms a h x id c some = absurd (none_in x c)
   arms_goto i whole here (y ∷ xs) arms a h x id c some =
       ⊎_elim
       (λ same.
@@ -82,7 +83,7 @@ module _ (b : Body) (first : ℕ) (wide : Bool) (code : List Insn) (m : Marks) (
       subst (λ z. IsGoto (whole (to_of z) + 4)) same (subst (λ q. IsGoto (q + 4)) (sym at) (hop_goto (here + 4) (to_of y) arm_has.1)))
       (λ later.
       arms_goto i whole (here + hop_size (probe_of b first y)) xs arms.3 (agrees_rest (probe_of b first) land whole here y xs arms.0 a) h.1 x id later some)
-      (contains_cases y xs x c)
+      (which_in y xs x c)
 
   -- the goto behind a probe that has one
   edge_goto : (i : ℕ) (flow : Flow) (x : Branch) (id : ℕ) → i < length b.code → flow_of (old i) ≡ flow
@@ -100,7 +101,7 @@ module _ (b : Body) (first : ℕ) (wide : Bool) (code : List Insn) (m : Marks) (
       let late : late_probe b first i ≡ Some id = ap (late_by (probe_of b first) i (old i)) e ∙ ap (probe_of b first) same ∙ some in
       subst (λ z. IsGoto (probe_place_by b first wide code m image land lead z.way flows.Tests i + 4)) same
       (hop_goto _ (jump_target (old i)) (s.jumps.hops i id (lt, e) late)))
-      (contains_cases (sequence i) (map (jump i) (targets_of (old i))) x c)
+      (which_in (sequence i) (map (jump i) (targets_of (old i))) x c)
   edge_goto i flows.Jumps x id lt e c some behind =
       let one = subst (λ ts. Contains (map (jump i) ts) x) (jumps_target (old i) e) c in
       let same = contains_one (jump i (jump_target (old i))) x one in
@@ -113,9 +114,9 @@ module _ (b : Body) (first : ℕ) (wide : Bool) (code : List Insn) (m : Marks) (
       (arms_goto i (arm b first wide code m image land lead i) (image i + 1) (arms_at b.code i) arms (λ y d. refl) (s.switches.arms i (lt, e)) x id listed some)
     where
       way_is : (i : ℕ) (xs : List Branch) → Arms i xs → (x : Branch) → Contains xs x → x.way ≡ ways.Switches (to_of x)
-      way_is i [] arms x c = absurd (contains_none x c)
+      way_is i [] arms x c = absurd (none_in x c)
       way_is i (y ∷ xs) arms x c =
-          ⊎_elim (λ same. subst (λ z. z.way ≡ ways.Switches (to_of z)) same arms.2) (λ later. way_is i xs arms.3 x later) (contains_cases y xs x c)
+          ⊎_elim (λ same. subst (λ z. z.way ≡ ways.Switches (to_of z)) same arms.2) (λ later. way_is i xs arms.3 x later) (which_in y xs x c)
   edge_goto i flows.Returns x id lt e c some behind =
       absurd (subst (λ z. HasGotoBehind b first wide code m image land lead z.way flows.Returns) (sym (contains_one (exit i) x c)) behind)
   edge_goto i flows.Throws x id lt e c some behind =

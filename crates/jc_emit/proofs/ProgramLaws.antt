@@ -13,18 +13,12 @@ use Rattle.jc_after.specs.After.{insn_at, after_of}
 use Rattle.jc_kinds.specs.States.{frame_at, falls_at, or_else, state_of, after_at}
 use Rattle.jc_kinds.specs.Fits.{FitsThere}
 use Rattle.jc_kinds.specs.Checked.{JumpsTo, GoesOnFrom, LeadsTo, NeedsFrame, at_handler, Checked}
-use Rattle.jc_base.proofs.TestLaws.{which_in, none_in, first_in, later_in}
+use Rattle.jc_base.proofs.TestLaws.{which_in, none_in, first_in, later_in, in_map, of_map}
 use Rattle.jc_plan.specs.Probed.{probe_count}
 use Rattle.jc_emit.specs.Straddling.{NoneStraddles}
 use Rattle.jc_emit.specs.TwinProgram.{AreSameBodies, AreTwinBodies, IsPair, ArePairs, TwinProgram}
 use Rattle.jc_emit.proofs.InitLaws.{verified as init_verified}
 use Rattle.jc_emit.proofs.TwinChecked.{verified}
-use Rattle.jc_emit.proofs.PlacedLaws.{contains_map}
-
-in_map : {X Y : Type 0} (f : X → Y) (xs : List X) (x : X) → Contains xs x → Contains (map f xs) (f x)
-in_map f [] x c = absurd (none_in x c)
-in_map f (y ∷ xs) x c =
-    ⊎_elim (λ same. subst (λ z. Contains (f y ∷ map f xs) (f z)) same (first_in (f y) (map f xs))) (λ later. later_in (f y) (map f xs) (f x) (in_map f xs x later)) (which_in y xs x c)
 
 -- ---- a body with the same frames under other names
 
@@ -36,7 +30,7 @@ module _ (names new_names : Names) (b : Body) (frames : List FrameAt) (same : ma
       → map (seen_at other_names) others ≡ map (seen_at old_names) olds → (i : ℕ) → ((f : FrameAt) × Contains olds f × (f.at ≡ i))
       → (f : FrameAt) × Contains others f × (f.at ≡ i)
   moved_frame old_names other_names olds others e i h =
-      let m = contains_map (seen_at other_names) others (seen_at old_names h.0) (subst (λ l. Contains l (seen_at old_names h.0)) (sym e) (in_map (seen_at old_names) olds h.0 h.1)) in
+      let m = of_map (seen_at other_names) others (seen_at old_names h.0) (subst (λ l. Contains l (seen_at old_names h.0)) (sym e) (in_map (seen_at old_names) olds h.0 h.1)) in
       (m.0, m.1, sym (ap (λ (f : SeenAt). f.at) m.2) ∙ h.2)
 
   state_same : (i : ℕ) → state_of new_names new i ≡ state_of names b i

@@ -5,15 +5,10 @@ use Rattle.jc_base.specs.Least.{IsLeast}
 use Rattle.jc_base.specs.declared.body.Body.{Body}
 use Rattle.jc_base.specs.declared.refusal.RefusalKind.{RefusalKind}
 use Rattle.jc_base.specs.declared.refusal.RefusalKind.TheVariants as refusals
+use Rattle.jc_base.proofs.LeastLaws.{least_one}
 use Rattle.jc_kinds.specs.StateShift.{IsStraddled}
 use Rattle.jc_kinds.specs.Answers.{refusal_of}
 use Rattle.jc_emit.specs.Straddling.{NoneStraddles, IsEmitReason}
-
-least_one : (Fact : ℕ → Type 0) (i j : ℕ) → IsLeast Fact i → IsLeast Fact j → i ≡ j
-least_one Fact i j p q =
-    ⊎_elim (λ lt. absurd (q.first i lt p.there))
-    (λ le. ⊎_elim (λ gt. absurd (p.first j gt q.there)) (λ ge. omega (arith, le, ge)) (cases_lt j i))
-    (cases_lt i j)
 
 module _ (b : Body) where
   -- where one straddles

@@ -9,7 +9,7 @@ use Rattle.jc_base.specs.declared.insn.Insn.{Insn}
 use Rattle.jc_base.specs.declared.body.Body.{Body}
 use Rattle.jc_base.specs.declared.body.FrameAt.{FrameAt}
 use Rattle.jc_base.specs.WellMade.{AreFramesFrom}
-use Rattle.jc_base.proofs.FirstSeenLaws.{contains_none, contains_cases}
+use Rattle.jc_base.proofs.TestLaws.{none_in, which_in}
 use Rattle.jc_after.specs.Shift.{Straddles}
 use Rattle.jc_emit.specs.Straddling.{InsnStraddles, FramesStraddle, IsFirstOf, IsFirstStraddling, lesser}
 
@@ -18,11 +18,11 @@ use Rattle.jc_emit.specs.Straddling.{InsnStraddles, FramesStraddle, IsFirstOf, I
 -- each frame of a body stands at one of its instructions
 pub frame_within : (first : ℕ) (code : List Insn) (max_locals max_stack : ℕ) (frames : List FrameAt)
     → AreFramesFrom first code max_locals max_stack frames → (f : FrameAt) → Contains frames f → f.at < length code
-frame_within first code max_locals max_stack [] a f c = absurd (contains_none f c)
+frame_within first code max_locals max_stack [] a f c = absurd (none_in f c)
 frame_within first code max_locals max_stack (g ∷ frames) a f c =
     ⊎_elim (λ same. subst (λ z. z.at < length code) same a.1)
     (λ later. frame_within (g.at + 1) code max_locals max_stack frames a.3 f later)
-    (contains_cases g frames f c)
+    (which_in g frames f c)
 
 -- ---- the first place
 

@@ -12,7 +12,7 @@ use Rattle.jc_base.specs.Insn.{with_places, arm_with_place}
 use Rattle.jc_base.specs.declared.insn.Arm.{Arm}
 use Rattle.jc_base.specs.declared.insn.Insn.{Insn}
 use Rattle.jc_base.specs.declared.insn.Insn.TheVariants as insns
-use Rattle.jc_base.proofs.FirstSeenLaws.{contains_none, contains_cases, contains_first, contains_later}
+use Rattle.jc_base.proofs.TestLaws.{none_in, which_in, first_in, later_in}
 use Rattle.jc_plan.specs.declared.branch.Branch.{Branch}
 use Rattle.jc_plan.specs.Edges.{arm}
 use Rattle.jc_emit.specs.Sizes.{hop_size}
@@ -36,7 +36,7 @@ module _ (land : ℕ → ℕ) (here : ℕ) (targets : List ℕ) (ids : List (Opt
     size_is = long;
     within = omega (arith, all);
     place_is = behind ∙ ap (λ (l : List (Option ℕ)). here + sum_by hop_size l) (sym (take_all number ids (omega (arith, all, same))));
-    each = λ to has. absurd (contains_none to (subst (λ (l : List ℕ). Contains l to) (ap (λ k. drop k targets) all ∙ drop-length targets) has));
+    each = λ to has. absurd (none_in to (subst (λ (l : List ℕ). Contains l to) (ap (λ k. drop k targets) all ∙ drop-length targets) has));
   }
 
   -- what is taken back for one more target
@@ -93,7 +93,7 @@ module _ (land : ℕ → ℕ) (here : ℕ) (targets : List ℕ) (ids : List (Opt
           ∙ sym (ap (λ (t : Bool). cond t (here_or id place' (land to)) (arm_place_in land (place' + hop_size id) rest rest_ids to)) (eq-eqb x to (sym e)))
           ∙ sym (both to)
       each to has (inr other) =
-          let later : Contains rest to = ⊎_elim (λ (e : x ≡ to). absurd (other (sym e))) (λ (h : Contains rest to). h) (contains_cases x rest to has) in
+          let later : Contains rest to = ⊎_elim (λ (e : x ≡ to). absurd (other (sym e))) (λ (h : Contains rest to). h) (which_in x rest to has) in
           ap (λ (l : List ℕ). get_or l to 0) is
           ∙ get_or-set_other table x to value 0 other
           ∙ so_far.each to (subst (λ k. Contains (drop k targets) to) (sym up) later)
@@ -129,15 +129,15 @@ module _ (ids : Branch → Option ℕ) (i : ℕ) where
 -- ---- places to which an instruction leads
 
 pub each_contains : (P : ℕ → Type 0) (xs : List ℕ) → AllByRecursion P xs → (x : ℕ) → Contains xs x → P x
-each_contains P [] each x has = absurd (contains_none x has)
+each_contains P [] each x has = absurd (none_in x has)
 each_contains P (y ∷ xs) each x has =
-    ⊎_elim (λ (e : y ≡ x). subst P e each.0) (λ (h : Contains xs x). each_contains P xs each.1 x h) (contains_cases y xs x has)
+    ⊎_elim (λ (e : y ≡ x). subst P e each.0) (λ (h : Contains xs x). each_contains P xs each.1 x h) (which_in y xs x has)
 
 module _ (f g : ℕ → ℕ) where
   maps_agree : (xs : List ℕ) → ((x : ℕ) → Contains xs x → f x ≡ g x) → map f xs ≡ map g xs
   maps_agree [] h = refl
   maps_agree (x ∷ xs) h =
-      ap₂ (λ (y : ℕ) (l : List ℕ). y ∷ l) (h x (contains_first x xs)) (maps_agree xs (λ y has. h y (contains_later x xs y has)))
+      ap₂ (λ (y : ℕ) (l : List ℕ). y ∷ l) (h x (first_in x xs)) (maps_agree xs (λ y has. h y (later_in x xs y has)))
 
   abbrev tos : List Arm → List ℕ
   tos arms = map (λ (a : Arm). a.to) arms
@@ -145,15 +145,15 @@ module _ (f g : ℕ → ℕ) where
   arms_led_agree : (arms : List Arm) → ((x : ℕ) → Contains (tos arms) x → f x ≡ g x) → map (arm_with_place f) arms ≡ map (arm_with_place g) arms
   arms_led_agree [] h = refl
   arms_led_agree (a ∷ arms) h =
-      ap₂ (λ (to : ℕ) (l : List Arm). (record { key = a.key; to = to }) ∷ l) (h a.to (contains_first a.to (tos arms)))
-      (arms_led_agree arms (λ y has. h y (contains_later a.to (tos arms) y has)))
+      ap₂ (λ (to : ℕ) (l : List Arm). (record { key = a.key; to = to }) ∷ l) (h a.to (first_in a.to (tos arms)))
+      (arms_led_agree arms (λ y has. h y (later_in a.to (tos arms) y has)))
 
   pub places_agree : (insn : Insn) → ((to : ℕ) → Contains (targets_of insn) to → f to ≡ g to) → with_places f insn ≡ with_places g insn
-  places_agree (insns.Jump op to) h = ap (insns.Jump op) (h to (contains_first to ([])))
+  places_agree (insns.Jump op to) h = ap (insns.Jump op) (h to (first_in to ([])))
   places_agree (insns.Table low default arms) h =
-      ap₂ (λ (d : ℕ) (l : List ℕ). insns.Table low d l) (h default (contains_first default arms))
-      (maps_agree arms (λ x has. h x (contains_later default arms x has)))
+      ap₂ (λ (d : ℕ) (l : List ℕ). insns.Table low d l) (h default (first_in default arms))
+      (maps_agree arms (λ x has. h x (later_in default arms x has)))
   places_agree (insns.Lookup default arms) h =
-      ap₂ (λ (d : ℕ) (l : List Arm). insns.Lookup d l) (h default (contains_first default (tos arms)))
-      (arms_led_agree arms (λ x has. h x (contains_later default (tos arms) x has)))
+      ap₂ (λ (d : ℕ) (l : List Arm). insns.Lookup d l) (h default (first_in default (tos arms)))
+      (arms_led_agree arms (λ x has. h x (later_in default (tos arms) x has)))
   places_agree _ h = refl

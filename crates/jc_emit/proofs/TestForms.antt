@@ -16,17 +16,17 @@ use Rattle.jc_after.specs.declared.want.Want.{Want}
 use Rattle.jc_after.specs.Step.{Ground, moves, apply, below}
 use Rattle.jc_after.specs.Table.{one, table, forms_at}
 use Rattle.jc_after.specs.After.{step_of}
-use Rattle.jc_emit.proofs.StateLaws.{AllFrom, all_from}
 use Rattle.jc_emit.specs.TwinFrames.{operands_by, left_by}
 use Rattle.jc_emit.proofs.StepLaws.{state, takes_only}
 use Rattle.jc_base.specs.declared.form.Form.TheVariants as forms
 use Rattle.jc_base.specs.declared.insn.Insn.TheVariants as insns
 use Rattle.jc_base.specs.declared.insn.Flow.TheVariants as flows
+use Rattle.jc_base.proofs.EachLaws.{AllFrom, all_from}
 use Rattle.jc_after.specs.declared.want.Want.TheVariants as wants
 
 -- ---- the opcodes of conditional jumps
 
-abbrev is_jump : Form → Bool
+abbrev pub is_jump : Form → Bool
 is_jump forms.Jump = true
 is_jump _ = false
 
@@ -37,10 +37,10 @@ tests_below : (op : ℕ) → op < 202 → tests_by op ≡ true
 unfolding form_of
 tests_below op below = agree_below_at tests_by (λ op. true) 202 op refl below
 
-unknown_no_jump : forms.Unknown ≡ forms.Jump → ⊥
+pub unknown_no_jump : forms.Unknown ≡ forms.Jump → ⊥
 unknown_no_jump e = cc
 
-not_goto_by : (t : Bool) → cond t flows.Jumps flows.Tests ≡ flows.Tests → t ≡ false
+pub not_goto_by : (t : Bool) → cond t flows.Jumps flows.Tests ≡ flows.Tests → t ≡ false
 not_goto_by true e = cc
 not_goto_by false e = refl
 

@@ -18,7 +18,7 @@ use Rattle.jc_kinds.specs.Fits.{FitEach, FitState, FitsThere}
 use Rattle.jc_kinds.specs.Checked.{LeadsTo, FallsInto, Guards, HasFrame, NeedsFrame, IsMissing, caught, at_handler, Checked}
 use Rattle.jc_kinds.specs.Answers.{AreStates}
 use Rattle.jc_after.specs.Shift.{renamed, shifted}
-use Rattle.jc_base.proofs.TestLaws.{none_in}
+use Rattle.jc_base.proofs.TestLaws.{none_in, of_map}
 use Rattle.jc_kinds.proofs.EntryShiftLaws.{fits_shift}
 use Rattle.jc_emit.specs.Straddling.{NoneStraddles}
 use Rattle.jc_emit.specs.TwinTables.{moved_row}
@@ -32,7 +32,6 @@ use Rattle.jc_emit.proofs.TwinPlaces.{state_b}
 use Rattle.jc_emit.proofs.TwinStates.{there_fit, fit_there, after_there, all_fit_on, state_fits_same, state_0, state_1, after_0, after_1, E_array}
 use Rattle.jc_emit.proofs.TwinLeads.{framed, landing_frame, all_led, all_landed}
 use Rattle.jc_emit.proofs.TwinSound.{Sound, Near, Fine, segment_fine}
-use Rattle.jc_emit.proofs.PlacedLaws.{contains_map}
 
 module _ (names new_names : Names) (states : List State) (first : ℕ) (wide : Bool) (call : ℕ) (b b' : Body) (p : Premises names new_names states first wide call b b') where
   abbrev land : ℕ → ℕ
@@ -131,7 +130,7 @@ module _ (names new_names : Names) (states : List State) (first : ℕ) (wide : B
   old_row : (h : Handler) → Contains b'.handlers h
       → (g : Handler) × Contains b.handlers g × (h ≡ moved_row (lead_of b first wide) (land_of b first wide) g)
   old_row h c =
-      contains_map (moved_row (lead_of b first wide) (land_of b first wide)) b.handlers h (subst (λ l. Contains l h) p.tables.handlers_are c)
+      of_map (moved_row (lead_of b first wide) (land_of b first wide)) b.handlers h (subst (λ l. Contains l h) p.tables.handlers_are c)
 
   row_is : (g : Handler) → Contains b.handlers g → IsHandler (length b.code) g
   row_is g c = All-contains (IsHandler (length b.code)) b.handlers g p.well.handlers c

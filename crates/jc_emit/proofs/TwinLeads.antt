@@ -18,10 +18,10 @@ use Rattle.jc_kinds.specs.Checked.{GoesOnFrom, LeadsTo, FallsInto, HasFrame, Nee
 use Rattle.jc_kinds.specs.Checking.{has_frame}
 use Rattle.jc_after.specs.Shift.{with_slot, shifted}
 use Rattle.jc_kinds.proofs.CheckLaws.{has_frame_decided}
+use Rattle.jc_kinds.proofs.StateShiftLaws.{frame_is}
 use Rattle.jc_plan.specs.Entries.{is_multi_target, is_invocation_line, goes_on, falls_at}
 use Rattle.jc_plan.specs.Probed.{id_if, probes_before}
 use Rattle.jc_plan.specs.Plan.{lead_probe}
-use Rattle.jc_emit.proofs.StateLaws.{frame_is}
 use Rattle.jc_emit.specs.Sizes.{early_probe, late_probe, probe_size, wide_by}
 use Rattle.jc_emit.specs.Marks.{astore}
 use Rattle.jc_emit.specs.TwinFrames.{state_at, state_behind, IsFrame}

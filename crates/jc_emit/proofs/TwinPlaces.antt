@@ -4,7 +4,6 @@ use Rattle.std.specs.Prelude.{slice_get, Contains}
 use Rattle.std.proofs.lemmas.Bool.{cases_lt}
 use Rattle.std.proofs.lemmas.Option.{slice_get-get_or, same_Some}
 use Rattle.jc_base.specs.Flow.{flow_of, targets_of, jump_target}
-use Rattle.jc_base.specs.WellMade.{AreFramesFrom}
 use Rattle.jc_base.specs.declared.insn.Insn.{Insn}
 use Rattle.jc_base.specs.declared.insn.Flow.{Flow}
 use Rattle.jc_base.specs.declared.kind.State.{State}
@@ -18,8 +17,6 @@ use Rattle.jc_plan.specs.declared.branch.Branch.{Branch}
 use Rattle.jc_plan.specs.Edges.{branches_by}
 use Rattle.jc_plan.specs.Probed.{probe_of}
 use Rattle.jc_plan.specs.Plan.{lead_probe}
-use Rattle.jc_base.proofs.FirstSeenLaws.{contains_none, contains_cases}
-use Rattle.jc_base.specs.FrameOrder.{RiseFrom}
 use Rattle.jc_emit.specs.Sizes.{insn_at, late_by, late_probe, arms_by, arms_at, hop_size, arm_sizes, wide_by, wide_size}
 use Rattle.jc_emit.specs.TwinCode.{to_of, arm_place}
 use Rattle.jc_emit.specs.TwinFrames.{no_state, state_at, state_behind, IsFrameBehind, IsNarrowFrame, IsFrame}
@@ -30,14 +27,10 @@ use Rattle.jc_emit.proofs.Others.{Arms, Agrees, agrees_first, agrees_rest, arms_
 use Rattle.jc_emit.proofs.Told.{main_by, hop_at}
 use Rattle.jc_emit.proofs.StraddlingLaws.{frame_within}
 use Rattle.jc_emit.proofs.LocalLaws.{land_lands, lead_lands, late_lands, arms_land, next_within, listed_within}
-use Rattle.jc_emit.proofs.TwinPremises.{Premises, frame_found, frame_asked, leads_grow}
+use Rattle.jc_emit.proofs.TwinPremises.{Premises, frame_found, frame_asked, leads_grow, frames_rise}
 use Rattle.jc_base.specs.declared.insn.Flow.TheVariants as flows
+use Rattle.jc_base.proofs.TestLaws.{none_in, which_in}
 use Rattle.jc_after.specs.After as after
-
-are_rising : (first : ℕ) (code : List Insn) (locals stack : ℕ) (frames : List FrameAt) → AreFramesFrom first code locals stack frames
-    → RiseFrom first frames
-are_rising first code locals stack [] are = tt
-are_rising first code locals stack (f ∷ frames) are = (are.0, are_rising (f.at + 1) code locals stack frames are.3)
 
 module _ (names new_names : Names) (states : List State) (first : ℕ) (wide : Bool) (call : ℕ) (b b' : Body) (p : Premises names new_names states first wide call b b') where
   abbrev items : List Item
@@ -98,7 +91,7 @@ module _ (names new_names : Names) (states : List State) (first : ℕ) (wide : B
       (p.are.each i (state_at states i) (slice_get-get_or states i no_state (omega (arith, n, lt)))).is
 
   pub frame_old : (f : FrameAt) → Contains b.frames f → frame_at (frames_of names b) f.at ≡ Some (seen names f.state)
-  frame_old f c = frame_found names 0 b.frames f (are_rising 0 b.code b.max_locals b.max_stack b.frames p.well.frames) c
+  frame_old f c = frame_found names 0 b.frames f (frames_rise 0 b.code b.max_locals b.max_stack b.frames p.well.frames) c
 
   frame_state_by : (i : ℕ) (t : Seen) → frame_at (frames_of names b) i ≡ Some t → state_of names b i ≡ Some t
   unfolding state_of
@@ -130,12 +123,12 @@ module _ (names new_names : Names) (states : List State) (first : ℕ) (wide : B
   arms_switch i x c = by (flow_of (old i)) c
     where
       by : (flow : Flow) → Contains (arms_by i (old i) flow) x → flow ≡ flows.Switches
-      by flows.GoesOn h = absurd (contains_none x h)
-      by flows.Tests h = absurd (contains_none x h)
-      by flows.Jumps h = absurd (contains_none x h)
+      by flows.GoesOn h = absurd (none_in x h)
+      by flows.Tests h = absurd (none_in x h)
+      by flows.Jumps h = absurd (none_in x h)
       by flows.Switches h = refl
-      by flows.Returns h = absurd (contains_none x h)
-      by flows.Throws h = absurd (contains_none x h)
+      by flows.Returns h = absurd (none_in x h)
+      by flows.Throws h = absurd (none_in x h)
 
   -- ---- places
 
@@ -164,7 +157,7 @@ module _ (names new_names : Names) (states : List State) (first : ℕ) (wide : B
   arm_within : (whole : ℕ → ℕ) (i here : ℕ) (xs : List Branch) → Arms i xs → Agrees (probe_of b first) (land_of b first wide) whole here xs
       → (x : Branch) (id : ℕ) → Contains xs x → probe_of b first x ≡ Some id
       → (here ≤ whole (to_of x)) × (whole (to_of x) + 5 ≤ here + arm_sizes (probe_of b first) xs)
-  arm_within whole i here [] arms a x id c e = absurd (contains_none x c)
+  arm_within whole i here [] arms a x id c e = absurd (none_in x c)
   arm_within whole i here (y ∷ xs) arms a x id c e =
       ⊎_elim
       (λ same.
@@ -176,7 +169,7 @@ module _ (names new_names : Names) (states : List State) (first : ℕ) (wide : B
       let more = arm_within whole i (here + hop_size (probe_of b first y)) xs arms.3 (agrees_rest (probe_of b first) (land_of b first wide) whole here y xs arms.0 a) x id later e in
       let low = more.0 in let high = more.1 in
       (omega (arith, low), omega (arith, high)))
-      (contains_cases y xs x c)
+      (which_in y xs x c)
 
   abbrev pub arm_of : ℕ → Branch → ℕ
   arm_of i x = arm_place (probe_of b first) (land_of b first wide) (q_of i + 1) (arms_at b.code i) (to_of x)

@@ -8,7 +8,7 @@ use Rattle.jc_base.specs.Flow.{flow_of, inverse_of, jump_target}
 use Rattle.jc_base.specs.Insn.{with_places, arm_with_place, IsWellFormed}
 use Rattle.jc_base.specs.InsnForm.{form_of}
 use Rattle.jc_base.specs.InsnUse.{pool_place, Suits}
-use Rattle.jc_base.specs.WellMade.{IsWellMadeOfAnySize, HasUse, what_used}
+use Rattle.jc_base.specs.WellMade.{IsWellMadeOfAnySize, HasUse, what_used, AreFramesFrom}
 use Rattle.jc_base.specs.Widened.{inverted as inverse_jump}
 use Rattle.jc_base.specs.declared.insn.Insn.{Insn}
 use Rattle.jc_base.specs.declared.insn.Arm.{Arm}
@@ -21,12 +21,12 @@ use Rattle.jc_base.specs.Held.{Names, Seen, seen, seen_at}
 use Rattle.jc_kinds.specs.States.{frames_of, frame_at}
 use Rattle.jc_kinds.specs.Checked.{Checked, HasFrame}
 use Rattle.jc_kinds.specs.Answers.{AreStates}
+use Rattle.jc_kinds.proofs.StateShiftLaws.{frame_is}
 use Rattle.jc_after.specs.Shift.{with_slot, shifted, IsImage, led, inverted, HasImages}
 use Rattle.jc_base.proofs.TestLaws.{which_in, none_in}
 use Rattle.jc_base.specs.FrameOrder.{RiseFrom}
 use Rattle.jc_plan.specs.Probed.{probe_of}
 use Rattle.jc_plan.specs.Plan.{lead_probe}
-use Rattle.jc_emit.proofs.StateLaws.{frame_is}
 use Rattle.jc_emit.specs.Sizes.{insn_at, early_probe, late_probe, arms_at}
 use Rattle.jc_emit.specs.TwinCode.{arm_place}
 use Rattle.jc_emit.specs.TwinTables.{AreMovedTables}
@@ -136,6 +136,10 @@ goes_not : (insn : Insn) (flow : Flow) → flow_of insn ≡ flow → (flow ≡ f
 goes_not insn flow e h g = h (sym e ∙ g)
 
 -- ---- frames
+
+pub frames_rise : (first : ℕ) (code : List Insn) (locals stack : ℕ) (frames : List FrameAt) → AreFramesFrom first code locals stack frames → RiseFrom first frames
+frames_rise first code locals stack [] are = tt
+frames_rise first code locals stack (f ∷ frames) are = (are.0, frames_rise (f.at + 1) code locals stack frames are.3)
 
 pub risen : (from : ℕ) (frames : List FrameAt) (f : FrameAt) → RiseFrom from frames → Contains frames f → from ≤ f.at
 risen from [] f r c = absurd (none_in f c)

@@ -17,7 +17,8 @@ use Rattle.jc_kinds.specs.States.{frames_of, frame_at, state_of}
 use Rattle.jc_kinds.specs.Fits.{FitEach, FitsThere}
 use Rattle.jc_kinds.specs.Checked.{JumpsTo, HasFrame}
 use Rattle.jc_after.specs.Shift.{with_slot, shifted}
-use Rattle.jc_base.proofs.TestLaws.{which_in, none_in, first_in, later_in}
+use Rattle.jc_after.proofs.ApplyLaws.{after_is}
+use Rattle.jc_base.proofs.TestLaws.{which_in, none_in, first_in, later_in, of_map}
 use Rattle.jc_kinds.proofs.EntryShiftLaws.{fits_shift}
 use Rattle.jc_plan.specs.declared.branch.Branch.{Branch}
 use Rattle.jc_plan.specs.Edges.{branches_by}
@@ -25,7 +26,7 @@ use Rattle.jc_plan.specs.Probed.{probe_of}
 use Rattle.jc_plan.specs.Plan.{lead_probe}
 use Rattle.jc_plan.proofs.ListedLaws.{all_listed}
 use Rattle.jc_base.proofs.FirstSeenLaws.{first_seen_listed}
-use Rattle.jc_emit.proofs.PlacedLaws.{no_fall_goto, never, only, inverse_targets, placed_targets, targets_placed, contains_map, no_targets, goto_stops, switch_stops}
+use Rattle.jc_emit.proofs.PlacedLaws.{no_fall_goto, never, only, inverse_targets, placed_targets, targets_placed, no_targets, goto_stops, switch_stops}
 use Rattle.jc_emit.proofs.StateLaws.{slots-renamed}
 use Rattle.jc_emit.specs.Sizes.{early_probe, late_probe, arms_at, probe_size, hop_size, arm_sizes, wide_by}
 use Rattle.jc_emit.specs.TwinCode.{to_of, here_or, arm_place}
@@ -37,7 +38,7 @@ use Rattle.jc_emit.proofs.Told.{lead_at, early_at, main_at}
 use Rattle.jc_emit.proofs.Others.{Arms, Agrees, agrees_first, agrees_rest, arms_by_list, arm_listed, tests_target}
 use Rattle.jc_emit.proofs.InverseLaws.{inverse_tests_too, twice_inverse}
 use Rattle.jc_emit.proofs.LocalLaws.{test_is, placed_target, inverted_target, next_within}
-use Rattle.jc_emit.proofs.StepLaws.{after_is, moves_nothing}
+use Rattle.jc_emit.proofs.StepLaws.{moves_nothing}
 use Rattle.jc_emit.proofs.TestForms.{left_is}
 use Rattle.jc_emit.proofs.TwinPremises.{Premises, stands, code_long, asked_frame, asked_has, frame_asked, old_at, leads_grow}
 use Rattle.jc_emit.proofs.TwinPlaces.{no_frame, narrow, tests_size, asked_piece, arms_switch, arms_are}
@@ -222,7 +223,7 @@ module _ (names new_names : Names) (states : List State) (first : ℕ) (wide : B
       → After i lt ≡ seen names (left_by (old i) (state_at states i))
   left i lt e =
       left_is names (ground_of b i) b.uses (returns_of b) (old i) (state_at states i) (After i lt) (p.well.code.well_formed i (insns.Simple 0) lt) e
-      (sym (after_is b i (old i) (S i) (old_at names new_names states first wide call b b' p i lt)) ∙ (after_b names new_names states first wide call b b' p i lt).1)
+      (sym (after_is b i (S i) (old i) (old_at names new_names states first wide call b b' p i lt)) ∙ (after_b names new_names states first wide call b b' p i lt).1)
 
   left_near : (i : ℕ) (lt : i < length b.code) → (flow_of (old i) ≡ flows.Tests) ⊎ (flow_of (old i) ≡ flows.Switches)
       → Near i (moved (After i lt))
@@ -541,7 +542,7 @@ module _ (names new_names : Names) (states : List State) (first : ℕ) (wide : B
       let stops : FallsThrough new → ⊥ = goto_stops (old i) (land_of b first wide) e in (
         leading i lt new (early_probe b first i) h.0 (λ falls. absurd (stops falls)) (λ halts short. alone i lt flows.Jumps e (λ x. cc) (λ x. cc) (omega (arith, size)) short)
             (λ r c.
-            let m = contains_map (land_of b first wide) (targets_of (old i)) r (subst (λ l. Contains l r) (targets_placed (land_of b first wide) (old i)) c) in
+            let m = of_map (land_of b first wide) (targets_of (old i)) r (subst (λ l. Contains l r) (targets_placed (land_of b first wide) (old i)) c) in
             subst (λ k. HasFrame b' k × FitsThere (Some (moved (After i lt))) (N k)) (sym m.2) (target_jump i m.0 lt m.1)),
         tt,
       )
@@ -553,7 +554,7 @@ module _ (names new_names : Names) (states : List State) (first : ℕ) (wide : B
         leading i lt new None h.0 (λ falls. absurd (stops falls))
             (λ halts short. arms_frame i lt e (q_of i + 1) (arms_at b.code i) (arms_by_list b i) (λ y d. refl) (λ y d. d) end short)
             (λ r c.
-            let m = contains_map (whole i) (targets_of (old i)) r (subst (λ l. Contains l r) (targets_placed (whole i) (old i)) c) in
+            let m = of_map (whole i) (targets_of (old i)) r (subst (λ l. Contains l r) (targets_placed (whole i) (old i)) c) in
             subst (λ k. HasFrame b' k × FitsThere (Some (moved (After i lt))) (N k)) (sym m.2) (switch_target i m.0 lt m.1)),
         arms_fine i lt e (q_of i + 1) (arms_at b.code i) (arms_by_list b i) (λ y d. refl) (λ y d. d) end h.1,
       )

@@ -27,21 +27,25 @@ use Rattle.jc_kinds.specs.Fits.{Fits, IsNullOrObject, FitEach, FitState, FitsThe
 use Rattle.jc_after.specs.Shift.{renamed, probes, shifted}
 use Rattle.jc_kinds.specs.StateShift.{IsStraddled}
 use Rattle.jc_kinds.proofs.CheckLaws.{falls_decided}
-use Rattle.jc_kinds.proofs.StateShiftLaws.{state_fine, states_shift}
+use Rattle.jc_kinds.proofs.StateShiftLaws.{state_fine, states_shift, frame_is, frame_state}
 use Rattle.jc_kinds.proofs.EntryShiftLaws.{entry_shifts}
-use Rattle.jc_emit.proofs.StateLaws.{slots-renamed, AllFrom, all_from, frame_is, frame_state, step_at}
+use Rattle.jc_emit.proofs.StateLaws.{slots-renamed}
 use Rattle.jc_emit.specs.Marks.{push, invokestatic}
 use Rattle.jc_emit.specs.TwinFrames.{state_at}
 use Rattle.jc_emit.specs.Items.{Item, init_call, init_store, probe_array, probe_id, probe_one, probe_store, insn_of, extra_of, probe, lead_of, land_of, image_of, twin_items}
 use Rattle.jc_emit.proofs.PiecesLaws.{HasAt}
 use Rattle.jc_emit.proofs.Built.{prelude_at}
-use Rattle.jc_emit.proofs.StepLaws.{apply_low, after_is, state, moves_one, moves_gives, limited_is, slots-append}
+use Rattle.jc_emit.proofs.StepLaws.{state, moves_one, moves_gives, limited_is, slots-append}
 use Rattle.jc_emit.proofs.TwinPremises.{Premises, stands, images}
 use Rattle.jc_emit.proofs.TwinPlaces.{state_b, no_frame}
 use Rattle.jc_base.specs.declared.insn.Insn.TheVariants as insns
 use Rattle.jc_base.specs.declared.insn.Flow.TheVariants as flows
 use Rattle.jc_base.specs.declared.kind.Kind.TheVariants as kinds
+use Rattle.jc_base.proofs.EachLaws.{AllFrom, all_from}
 use Rattle.jc_after.specs.declared.want.Want.TheVariants as wants
+use Rattle.jc_after.proofs.KeepLaws.{step_slots}
+use Rattle.jc_after.proofs.LeaveLaws.{insn_of as step_at}
+use Rattle.jc_after.proofs.ApplyLaws.{after_is}
 use Rattle.jc_emit.specs.Sizes as sizes
 
 -- ---- what fits
@@ -225,7 +229,7 @@ module _ (names new_names : Names) (states : List State) (first : ℕ) (wide : B
   after_low : (i : ℕ) (s t : Seen) → slots s.stack ≤ b.max_stack → after_of b i s ≡ Some t → slots t.stack ≤ b.max_stack
   after_low i s t low e =
       let o = step_at b i s t e in
-      apply_low (ground_of b i) (step_of b.uses (returns_of b) o.0) s t low o.2
+      step_slots (ground_of b i) (step_of b.uses (returns_of b) o.0) s t low o.2
 
   or_low : (i : ℕ) (other : Option Seen) (s : Seen) → ((t : Seen) → other ≡ Some t → slots t.stack ≤ b.max_stack)
       → or_else (frame_at (frames_of names b) i) other ≡ Some s → slots s.stack ≤ b.max_stack
@@ -265,7 +269,7 @@ module _ (names new_names : Names) (states : List State) (first : ℕ) (wide : B
   Step q x s t = apply (ground_of b' q) (step_of b'.uses (returns_of b') (insn_of call v x)) s ≡ Some t
 
   pub goes : (q : ℕ) (x : Item) (s t : Seen) → slice_get items q ≡ Some x → Step q x s t → after_of b' q s ≡ Some t
-  goes q x s t here step = after_is b' q (insn_of call v x) s (stands names new_names states first wide call b b' p q x here) ∙ step
+  goes q x s t here step = after_is b' q s (insn_of call v x) (stands names new_names states first wide call b b' p q x here) ∙ step
 
   pub next_is : (q : ℕ) (x : Item) (s t : Seen) → slice_get items q ≡ Some x → flow_of (insn_of call v x) ≡ flows.GoesOn → F (q + 1) ≡ None
       → N q ≡ Some s → after_of b' q s ≡ Some t → N (q + 1) ≡ Some t

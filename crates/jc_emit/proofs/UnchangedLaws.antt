@@ -16,11 +16,11 @@ use Rattle.jc_plan.specs.declared.branch.Branch.{Branch}
 use Rattle.jc_plan.specs.Edges.{branches_by}
 use Rattle.jc_base.proofs.FirstSeenLaws.{first_seen_listed}
 use Rattle.jc_plan.proofs.ListedLaws.{all_listed}
+use Rattle.jc_plan.proofs.ByBranchLaws.{last_parts}
 use Rattle.jc_emit.specs.Sizes.{insn_at, early_by}
 use Rattle.jc_emit.specs.TwinCode.{to_of}
 use Rattle.jc_emit.specs.Items.{Item, image}
 use Rattle.jc_emit.specs.Local.{Lands, Ok, OkImage, AllOk, TestsAlike, unchanged_items}
-use Rattle.jc_emit.proofs.Ends.{last_parts}
 use Rattle.jc_emit.proofs.Others.{tests_target, jumps_target, arm_listed}
 use Rattle.jc_emit.proofs.LocalLaws.{one_place}
 use Rattle.jc_base.specs.declared.insn.Insn.TheVariants as insns

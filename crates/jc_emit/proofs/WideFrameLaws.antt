@@ -15,7 +15,6 @@ use Rattle.jc_base.specs.declared.emitted.Emitted.{Emitted}
 use Rattle.jc_plan.specs.declared.branch.Branch.{Branch}
 use Rattle.jc_plan.specs.Probed.{probe_of}
 use Rattle.jc_plan.specs.Plan.{lead_probe}
-use Rattle.jc_base.proofs.FirstSeenLaws.{contains_none}
 use Rattle.jc_base.specs.FrameOrder.{RiseFrom}
 use Rattle.jc_after.specs.Shift.{shifted}
 use Rattle.jc_emit.specs.Shift.{probe_array_class}
@@ -34,6 +33,7 @@ use Rattle.jc_emit.proofs.WholeLaws.{code_told}
 use Rattle.jc_emit.proofs.FrameLists.{rises_from, rises_pieces, are_rising, rises_within, in_piece, of_piece, if_listed, listed_if, rises_if}
 use Rattle.jc_emit.proofs.FrameLaws.{arms_rise, part_rises, landing, none_is, seen_is, frames_told}
 use Rattle.jc_base.specs.declared.insn.Flow.TheVariants as flows
+use Rattle.jc_base.proofs.TestLaws.{none_in}
 
 module _ (b : Body) (first : ℕ) (states : List State) (array : ℕ) (names : List (List ℕ)) (is_code : IsCode b.code) (are_frames : AreFramesFrom 0 b.code b.max_locals b.max_stack b.frames)
     (fit : (f : FrameAt) → Contains b.frames f → state_at states f.at ≡ f.state) (named : slice_index_or names array ([]) ≡ probe_array_class) where
@@ -112,7 +112,7 @@ module _ (b : Body) (first : ℕ) (states : List State) (array : ℕ) (names : L
       (λ middle.
       let h = if_listed (has_frame b first states array i || (has_inverse b first states array i && is_none (lead_probe b first i))) (frame (land i) (moved (state_at states i))) f middle in
       let same : land i ≡ f.at = ap (λ x. x.at) h.1 in omega (arith, same, at))
-      (λ last. contains_none f (subst (λ l. Contains (arms_with i l) f) (ap (arms_by i (insn_at b.code i)) e) last))
+      (λ last. none_in f (subst (λ l. Contains (arms_with i l) f) (ap (arms_by i (insn_at b.code i)) e) last))
       (Contains-append_cases (land_part_at i) (arms_with i (arms_at b.code i)) f rest))
       (Contains-append_cases (lead_part_at i) (land_part_at i ++ arms_with i (arms_at b.code i)) f c)
 

@@ -11,11 +11,11 @@ use Rattle.jc_base.specs.declared.body.Body.{Body}
 use Rattle.jc_base.specs.declared.body.FrameAt.{FrameAt}
 use Rattle.jc_base.specs.declared.insn.Flow.{Flow}
 use Rattle.jc_plan.specs.declared.branch.Branch.{Branch}
-use Rattle.jc_base.proofs.FirstSeenLaws.{contains_none}
 use Rattle.jc_base.specs.FrameOrder.{RiseFrom}
 use Rattle.jc_plan.specs.Probed.{probe_of}
 use Rattle.jc_plan.specs.Plan.{lead_probe}
 use Rattle.jc_after.specs.Shift.{renamed, shifted}
+use Rattle.jc_after.proofs.ShiftLaws.{map-insert}
 use Rattle.jc_emit.specs.Shift.{probe_array_class}
 use Rattle.jc_emit.specs.Sizes.{insn_at, late_probe, early_probe, arms_by, arms_at, probe_size, hop_size}
 use Rattle.jc_emit.specs.TwinCode.{to_of, arm_place}
@@ -26,10 +26,11 @@ use Rattle.jc_emit.proofs.Built.{sized}
 use Rattle.jc_emit.proofs.Ends.{image_past}
 use Rattle.jc_emit.proofs.LocalLaws.{next_within}
 use Rattle.jc_emit.proofs.FrameLists.{of_piece, listed_if}
-use Rattle.jc_emit.proofs.FrameLaws.{all_moved, map_insert, landing, none_is, frames_told, seen_is}
+use Rattle.jc_emit.proofs.FrameLaws.{all_moved, landing, none_is, frames_told, seen_is}
 use Rattle.jc_emit.proofs.WideFrameLaws.{each_behind, behind_is, wide_frame}
 use Rattle.jc_emit.proofs.WidenedLaws.{W, lead_is, land_is, arm_places, inside, within_main, behind_end, place_zero, main_test}
 use Rattle.jc_base.specs.declared.insn.Flow.TheVariants as flows
+use Rattle.jc_base.proofs.TestLaws.{none_in}
 
 -- ---- states
 
@@ -59,7 +60,7 @@ seen_widened names v place image wide state s e h =
       locals =
           (all_moved names place state.locals
           ∙ ap (map (renamed place)) locals
-          ∙ map_insert (renamed place) (map (renamed image) (map (held names) s.locals)) v (object probe_array_class)
+          ∙ map-insert (renamed place) (map (renamed image) (map (held names) s.locals)) v (object probe_array_class)
           ∙ ap (λ l. insert l v (object probe_array_class)) (images_twice place image (map (held names) s.locals) ∙ ap (λ f. map (renamed f) (map (held names) s.locals)) e)) k;
       stack =
           (all_moved names place state.stack
@@ -133,12 +134,12 @@ module _ (b : Body) (first : ℕ) (states : List State) (array : ℕ) (names : L
   arms_switch i x c = by (flow_of (insn_at b.code i)) c
     where
       by : (flow : Flow) → Contains (arms_by i (insn_at b.code i) flow) x → flow ≡ flows.Switches
-      by flows.GoesOn d = absurd (contains_none x d)
-      by flows.Tests d = absurd (contains_none x d)
-      by flows.Jumps d = absurd (contains_none x d)
+      by flows.GoesOn d = absurd (none_in x d)
+      by flows.Tests d = absurd (none_in x d)
+      by flows.Jumps d = absurd (none_in x d)
       by flows.Switches d = refl
-      by flows.Returns d = absurd (contains_none x d)
-      by flows.Throws d = absurd (contains_none x d)
+      by flows.Returns d = absurd (none_in x d)
+      by flows.Throws d = absurd (none_in x d)
 
   to_wide : (q : ℕ) (s : State) → Narrow q s → Wide (P q) s
   to_wide q s (inl o) =

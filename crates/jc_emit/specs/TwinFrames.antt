@@ -1,5 +1,5 @@
 -- The stack map frames of the twin of a body (JVM Specification 4.7.4).
-use Rattle.std.specs.Prelude.{◌≡◌, ◌⊎◌, ⊤, ℕ, ◌+◌, ◌-◌, ◌<◌, ◌≤◌, Bool, true, false, List, [], ◌∷◌, length, take, Option, Some, None, nat_le, ◌&&◌, if◌then◌else◌, slice_index_or, Contains}
+use Rattle.std.specs.Prelude.{◌≡◌, ◌⊎◌, ℕ, ◌+◌, ◌-◌, ◌<◌, Bool, true, false, List, [], length, take, Option, Some, None, nat_le, ◌&&◌, if◌then◌else◌, slice_index_or, Contains}
 use Rattle.jc_base.specs.Flow.{flow_of}
 use Rattle.jc_base.specs.FrameOrder.{RiseFrom}
 use Rattle.jc_base.specs.Held.{Names, seen}

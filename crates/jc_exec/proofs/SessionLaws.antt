@@ -10,10 +10,10 @@ use Rattle.std.proofs.lemmas.Bool.Decides.{nat_tests}
 use Rattle.std.proofs.lemmas.Cmp.{int_cmp_total}
 use Rattle.std.proofs.lemmas.List.{map-id}
 use Rattle.std.proofs.lemmas.List.Sorted.{ranks_by, sorted_far}
-use Rattle.jc_base.proofs.EachLaws.{all_of_each, each_of_all}
+use Rattle.jc_base.proofs.EachLaws.{all_of_each, each_of_all, all_weaker}
 use Rattle.jc_exec.specs.declared.session.Session.{Session}
 use Rattle.jc_exec.specs.Writing.{placed, by_dump, InOrder, is_dumped_at, IsByDump}
-use Rattle.jc_exec.proofs.UnionLaws.{all_weaker, all_filter}
+use Rattle.jc_exec.proofs.UnionLaws.{all_filter}
 
 -- ---- the order of times
 
@@ -53,7 +53,7 @@ placed_in_order s [] o = (tt, tt)
 placed_in_order s (t ∷ ts) o = by (int_le s.dump t.dump) refl (placed_in_order s ts o.1)
   where
     by : (b : Bool) → int_le s.dump t.dump ≡ b → InOrder (placed s ts) → InOrder (cond b (s ∷ t ∷ ts) (t ∷ placed s ts))
-    by true is rest = ((is, all_weaker (λ u. int_le t.dump u.dump ≡ true) (λ u. int_le s.dump u.dump ≡ true) ts (λ u le. le_trans s.dump t.dump u.dump is le) o.0), o)
+    by true is rest = ((is, all_weaker (λ u. int_le t.dump u.dump ≡ true) (λ u. int_le s.dump u.dump ≡ true) (λ u le. le_trans s.dump t.dump u.dump is le) ts o.0), o)
     by false is rest = (all_placed (λ u. int_le t.dump u.dump ≡ true) s ts (le_other s.dump t.dump is) o.0, rest)
 
 placed_stable : (time : ℤ) (s : Session) (ts : List Session) → filter (is_dumped_at time) (placed s ts) ≡ filter (is_dumped_at time) (s ∷ ts)

@@ -6,7 +6,7 @@ use Rattle.std.proofs.lemmas.List.FromFn.{map-range_with_len_more, get_or-map-ra
 use Rattle.std.proofs.lemmas.Bool.{eqb-true, eq-eqb, and_parts, or_right}
 use Rattle.std.proofs.lemmas.List.{append-nil, map-append, get_or-take, get_or-drop, drop-drop, take_all}
 use Rattle.std.proofs.Math.Seq.{take-suc}
-use Rattle.jc_base.proofs.EachLaws.{all_push}
+use Rattle.jc_base.proofs.EachLaws.{all_push, all_weaker}
 use Rattle.jc_exec.specs.declared.hits.ClassHits.{ClassHits}
 use Rattle.jc_exec.specs.Format.{class}
 use Rattle.jc_exec.specs.SlowUnion.{some_hit, all_hits, merged_record}
@@ -14,7 +14,7 @@ use Rattle.jc_exec.specs.Store.{Store}
 use Rattle.jc_base.specs.FirstSeen.{first_seen}
 use Rattle.jc_exec.specs.Union.{records_of, ids_of, IsHitAt, SomeIsHitAt, IsMerged, IsUnion}
 use Rattle.jc_exec.specs.Writing.{low_first, pack}
-use Rattle.jc_exec.proofs.UnionLaws.{among, among_first_seen, all_weaker, same_records, seen_has_record, first_seen-append, in_union, among_there, HasRecord}
+use Rattle.jc_exec.proofs.UnionLaws.{among, among_first_seen, same_records, seen_has_record, first_seen-append, in_union, among_there, HasRecord}
 
 -- ---- bytes
 
@@ -176,4 +176,4 @@ made_union rs out i m whole s u =
     let merged : AllByRecursion (IsMerged rs) s.classes = subst (λ (l : List ClassHits). AllByRecursion (IsMerged l) s.classes) (records_of_classes rs) u.merged in
     let ids : ids_of s.classes ≡ first_seen (ids_of rs) = u.ids ∙ ap (λ (l : List ClassHits). first_seen (ids_of l)) (records_of_classes rs) in
     let own : ids_of out ≡ first_seen (ids_of rs) = m.ids ∙ ap (λ (l : List ClassHits). first_seen (ids_of l)) (take_all i rs whole) in
-    same_records rs out s.classes (own ∙ sym ids) (subst (AllByRecursion (HasRecord rs)) (sym own) (seen_has_record rs)) (all_weaker (Came rs) (IsMerged rs) out (came_merged rs s u) m.all) merged
+    same_records rs out s.classes (own ∙ sym ids) (subst (AllByRecursion (HasRecord rs)) (sym own) (seen_has_record rs)) (all_weaker (Came rs) (IsMerged rs) (came_merged rs s u) out m.all) merged

@@ -3,13 +3,15 @@ use Rattle.std.proofs.Common.{◌≡◌, inl, inr, ℕ, zero, suc, ◌<◌, Bool
 use Rattle.std.specs.List.{AllByRecursion, list_any}
 use Rattle.std.proofs.lemmas.Bool.{eqb-true, eqb-false, ne_eqb, eq-eqb, or_parts, or_right}
 use Rattle.std.proofs.lemmas.List.{append-nil, map-append}
-use Rattle.std.proofs.lemmas.List.Elements.{filter-append, All-from_recursion, recursion_from_All, All-weaker, All-filter, Contains-append_left, Contains-push, Contains-push_cases}
-use Rattle.jc_base.proofs.EachLaws.{all_push}
+use Rattle.std.proofs.lemmas.List.Elements.{filter-append, All-from_recursion, recursion_from_All, All-filter, Contains-append_left, Contains-push, Contains-push_cases}
+use Rattle.jc_base.proofs.EachLaws.{all_push, all_weaker}
 use Rattle.jc_exec.specs.declared.hits.ClassHits.{ClassHits}
 use Rattle.jc_exec.specs.declared.session.Session.{Session}
 use Rattle.jc_exec.specs.Format.{Block, header, session, class}
 use Rattle.jc_exec.specs.Store.{Store, IsNew}
 use Rattle.jc_base.specs.FirstSeen.{first_seen}
+use Rattle.jc_base.proofs.FirstSeenLaws.{either_way}
+use Rattle.jc_base.proofs.TestLaws.{same_tests}
 use Rattle.jc_exec.specs.Union.{sessions_of, records_of, ids_of, Agrees, IsHitAt, IsMerged, IsUnion}
 
 -- ---- what the blocks hold
@@ -28,9 +30,6 @@ records-append (class c ∷ bs) more = ap (λ (l : List ClassHits). c ∷ l) (re
 
 -- ---- elements of a list
 
-pub all_weaker : {X : Type 0} (P Q : X → Type 0) (xs : List X) → ((x : X) → P x → Q x) → AllByRecursion P xs → AllByRecursion Q xs
-all_weaker P Q xs to all = recursion_from_All Q xs (All-weaker P Q to xs (All-from_recursion P xs all))
-
 pub all_filter : {X : Type 0} (P : X → Type 0) (p : X → Bool) (xs : List X) → AllByRecursion P xs → AllByRecursion P (filter p xs)
 all_filter P p xs all = recursion_from_All P (filter p xs) (All-filter p P xs (All-from_recursion P xs all))
 
@@ -39,10 +38,6 @@ all_filter P p xs all = recursion_from_All P (filter p xs) (All-filter p P xs (A
 -- the number is in the list
 abbrev pub among : ℕ → List ℕ → Bool
 among y xs = list_any (λ x. nat_eq x y) xs
-
-either_way : (a b c : Bool) → (a ≡ false → b ≡ c) → (a || b) ≡ (a || c)
-either_way true b c f = refl
-either_way false b c f = f refl
 
 among_filter : (x y : ℕ) → nat_eq x y ≡ false → (xs : List ℕ) → among y (filter (λ z. not (nat_eq x z)) xs) ≡ among y xs
 among_filter x y apart [] = refl
@@ -161,18 +156,13 @@ union_class bs s c u new =
 
 -- ---- one union of each list
 
-both_true : (b c : Bool) → (b ≡ true → c ≡ true) → (c ≡ true → b ≡ true) → b ≡ c
-both_true true c f g = sym (f refl)
-both_true false true f g = g refl
-both_true false false f g = refl
-
 same_bits : (xs ys : List Bool) → length xs ≡ length ys → ((k : ℕ) → k < length xs → (get_or xs k false ≡ true → get_or ys k false ≡ true) × (get_or ys k false ≡ true → get_or xs k false ≡ true)) → xs ≡ ys
 same_bits [] [] long same = refl
 same_bits [] (y ∷ ys) long same = absurd (omega (arith, long))
 same_bits (x ∷ xs) [] long same = absurd (omega (arith, long))
 same_bits (x ∷ xs) (y ∷ ys) long same =
     let first = same 0 (omega arith) in
-    let head = both_true x y first.0 first.1 in
+    let head = same_tests x y first.0 first.1 in
     let tail = same_bits xs ys (omega (arith, long)) (λ k lt. same (suc k) (omega (arith, lt))) in
     λ i. head i ∷ tail i
 
@@ -209,7 +199,7 @@ pub seen_has_record : (rs : List ClassHits) → AllByRecursion (HasRecord rs) (f
 seen_has_record [] = tt
 seen_has_record (r ∷ rs) = (
   (r, (0, omega arith, refl), refl),
-  all_filter (HasRecord (r ∷ rs)) (λ y. not (nat_eq r.id y)) (first_seen (ids_of rs)) (all_weaker (HasRecord rs) (HasRecord (r ∷ rs)) (first_seen (ids_of rs)) (has_weaker rs r) (seen_has_record rs)),
+  all_filter (HasRecord (r ∷ rs)) (λ y. not (nat_eq r.id y)) (first_seen (ids_of rs)) (all_weaker (HasRecord rs) (HasRecord (r ∷ rs)) (has_weaker rs r) (first_seen (ids_of rs)) (seen_has_record rs)),
 )
 
 pub one_union : (bs : List Block) (s t : Store) → IsUnion bs s → IsUnion bs t → s ≡ t

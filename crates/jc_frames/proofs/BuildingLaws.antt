@@ -1,5 +1,5 @@
 -- Kinds for values, with numbers of class names.
-use Rattle.std.proofs.Common.{◌≡◌, ℕ, zero, suc, ◌+◌, ◌-◌, ◌<◌, ◌≤◌, true, false, List, [], ◌∷◌, ◌++◌, length, map, take, get_or, replicate, All, refl, sym, ◌∙◌, ap, ap₂, subst, arith, append_assoc, length-append}
+use Rattle.std.proofs.Common.{◌≡◌, ℕ, zero, suc, ◌+◌, ◌-◌, ◌<◌, ◌≤◌, true, false, List, [], ◌∷◌, ◌++◌, length, map, take, get_or, replicate, All, sym, ◌∙◌, ap, ap₂, subst, arith, append_assoc}
 use Rattle.std.proofs.Math.Seq.{take-suc}
 use Rattle.std.proofs.lemmas.List.{map-append, append-nil, take_all, length-map}
 use Rattle.std.proofs.lemmas.List.Elements.{All-append, All-cons, All-nil}
@@ -8,6 +8,8 @@ use Rattle.jc_base.specs.declared.kind.Kind.{Kind}
 use Rattle.jc_base.specs.declared.kind.Kind.TheVariants as kinds
 use Rattle.jc_base.specs.EntryState.{spread_one, spread, in_locals}
 use Rattle.jc_base.specs.Held.{Names, Held, top, held, is_pair, IsNumbered, Grows}
+use Rattle.jc_base.proofs.NumberedLaws.{grown_count, number_kept}
+use Rattle.jc_base.proofs.EntryStateLaws.{tops_held}
 use Rattle.jc_pool.specs.Pool.{PoolValue}
 use Rattle.jc_frames.specs.declared.method.Value.{Value}
 use Rattle.jc_frames.specs.declared.method.Value.TheVariants as values
@@ -16,29 +18,15 @@ use Rattle.jc_frames.proofs.ValuesLaws.{spread_single, spread_pair}
 
 -- ---- lists of names that grow
 
-pub longer : (a b : Names) → Grows a b → length a ≤ length b
-longer a b g = let e = ap (λ (l : Names). length l) g.1 in omega (arith, e, length-append a g.0)
-
-numbered_more : (a b : ℕ) → a ≤ b → (k : Kind) → IsNumbered a k → IsNumbered b k
-numbered_more a b le (kinds.Object n) lt = omega (arith, le, lt)
-numbered_more a b le kinds.Top lt = tt
-numbered_more a b le kinds.Int lt = tt
-numbered_more a b le kinds.Float lt = tt
-numbered_more a b le kinds.Double lt = tt
-numbered_more a b le kinds.Long lt = tt
-numbered_more a b le kinds.Null lt = tt
-numbered_more a b le kinds.UninitThis lt = tt
-numbered_more a b le (kinds.Uninit at) lt = tt
-
 pub kinds_numbered : (a b : Names) (ks : List Kind) → Grows a b → All (IsNumbered (length a)) ks → All (IsNumbered (length b)) ks
-kinds_numbered a b ks g all k d lt = numbered_more (length a) (length b) (longer a b g) (get_or ks k d) (all k d lt)
+kinds_numbered a b ks g all k d lt = number_kept (length a) (length b) (get_or ks k d) (grown_count a b g) (all k d lt)
 
 value_numbered : (a b : ℕ) → a ≤ b → (v : Value) → IsNumberedValue a v → IsNumberedValue b v
-value_numbered a b le (values.Of kind) n = numbered_more a b le kind n
+value_numbered a b le (values.Of kind) n = number_kept a b kind le n
 value_numbered a b le (values.ClassAt place) n = tt
 
 pub values_numbered : (a b : Names) (vs : List Value) → Grows a b → All (IsNumberedValue (length a)) vs → All (IsNumberedValue (length b)) vs
-values_numbered a b vs g all k d lt = value_numbered (length a) (length b) (longer a b g) (get_or vs k d) (all k d lt)
+values_numbered a b vs g all k d lt = value_numbered (length a) (length b) (grown_count a b g) (get_or vs k d) (all k d lt)
 
 unnumbered : (count : ℕ) (v : Value) → IsUnnumbered v → IsNumberedValue count v
 unnumbered count (values.Of (kinds.Object n)) none = absurd none
@@ -108,18 +96,6 @@ two_slots names ks locals first new i d lt is more pair before =
 
 -- ---- the local variables that are left
 
-pub one_top : (locals new : List Kind) (count : ℕ) → length locals < count → new ≡ locals ++ kinds.Top ∷ []
-    → new ++ replicate (count - length new) kinds.Top ≡ locals ++ replicate (count - length locals) kinds.Top
-one_top locals new count lt is =
-    ap (λ (l : List Kind). l ++ replicate (count - length l) kinds.Top) is
-    ∙ append_assoc locals (kinds.Top ∷ []) (replicate (count - length (locals ++ kinds.Top ∷ [])) kinds.Top)
-    ∙ ap (λ (n : ℕ). locals ++ replicate n kinds.Top) (let a = length-append locals (kinds.Top ∷ []) in
-    let e : suc (count - length (locals ++ kinds.Top ∷ [])) ≡ count - length locals = omega (arith, a, lt) in e)
-
-tops_seen : (names : Names) (n : ℕ) → map (held names) (replicate n kinds.Top) ≡ replicate n top
-tops_seen names zero = refl
-tops_seen names (suc n) = ap (λ (l : List Held). top ∷ l) (tops_seen names n)
-
 pub tops_numbered : (count n : ℕ) → All (IsNumbered count) (replicate n kinds.Top)
 tops_numbered count zero = All-nil (IsNumbered count)
 tops_numbered count (suc n) = All-cons (IsNumbered count) kinds.Top (replicate n kinds.Top) tt (tops_numbered count n)
@@ -130,4 +106,4 @@ with_tops names ks locals new count i le is seen =
     let all : map (held names) locals ≡ spread (map (held names) ks) = seen ∙ ap (λ (l : List Kind). spread (map (held names) l)) (take_all i ks le) in
     let long : length locals ≡ length (spread (map (held names) ks)) = sym (length-map locals (held names)) ∙ ap (λ (l : List Held). length l) all in
     ap (map (held names)) is ∙ map-append (held names) locals (replicate (count - length locals) kinds.Top)
-    ∙ ap₂ (λ (a b : List Held). a ++ b) all (tops_seen names (count - length locals) ∙ ap (λ (n : ℕ). replicate (count - n) top) long)
+    ∙ ap₂ (λ (a b : List Held). a ++ b) all (tops_held names (count - length locals) ∙ ap (λ (n : ℕ). replicate (count - n) top) long)

@@ -6,8 +6,10 @@ use Rattle.jc_base.specs.declared.kind.Kind.TheVariants as kinds
 use Rattle.jc_pool.specs.Pool.{PoolValue}
 use Rattle.jc_frames.specs.declared.method.Value.TheVariants as values
 use Rattle.jc_frames.specs.Running.{held_values}
-use Rattle.jc_frames.proofs.RunningLaws.{drop_one, take_last}
+use Rattle.jc_frames.proofs.RunningLaws.{take_last}
 use Rattle.jc_base.specs.Held.{Names, held, Held, top, int, float, double, long, null, uninit_this, object, uninit, is_pair}
+use Rattle.jc_base.proofs.AppendingLaws.{drop_at}
+use Rattle.jc_base.proofs.SeenLaws.{held_top}
 use Rattle.jc_frames.specs.Frames.{without_last_top, trimmed, values_from}
 
 -- `top` at the end goes
@@ -42,17 +44,6 @@ trim_other (x ∷ xs) h other = ap (without_last_top x) (trim_other xs h other) 
 
 -- ---- from the last local variable on
 
-held_top : (names : Names) (k : Kind) → held names k ≡ top → k ≡ kinds.Top
-held_top names kinds.Top e = refl
-held_top names kinds.Int e = absurd cc
-held_top names kinds.Float e = absurd cc
-held_top names kinds.Double e = absurd cc
-held_top names kinds.Long e = absurd cc
-held_top names kinds.Null e = absurd cc
-held_top names kinds.UninitThis e = absurd cc
-held_top names (kinds.Object n) e = absurd cc
-held_top names (kinds.Uninit at) e = absurd cc
-
 seen_last : (names : Names) (xs : List Kind) (end : ℕ) → 0 < end → end ≤ length xs
     → map (held names) (take end xs) ≡ map (held names) (take (end - 1) xs) ++ held names (get_or xs (end - 1) kinds.Top) ∷ []
 seen_last names xs end some within =
@@ -81,7 +72,7 @@ listed_with names ks skips rest = map (held names) ks ++ values_from skips (map 
 -- the second local variable of a value
 pub skipped : (names : Names) (ks xs : List Kind) (i : ℕ) → i < length xs
     → listed_with names ks true (drop i xs) ≡ listed_with names ks false (drop (i + 1) xs)
-skipped names ks xs i lt = ap (listed_with names ks true) (drop_one xs i kinds.Top lt)
+skipped names ks xs i lt = ap (listed_with names ks true) (drop_at xs i kinds.Top lt)
 
 pub listed_one : (names : Names) (ks more xs : List Kind) (i : ℕ) (wide : Bool) → i < length xs
     → more ≡ ks ++ get_or xs i kinds.Top ∷ [] → wide ≡ is_pair (held names (get_or xs i kinds.Top))
@@ -89,7 +80,7 @@ pub listed_one : (names : Names) (ks more xs : List Kind) (i : ℕ) (wide : Bool
 listed_one names ks more xs i wide lt is pair =
     let k = get_or xs i kinds.Top in
     let rest = map (held names) (drop (i + 1) xs) in
-    ap (listed_with names ks false) (drop_one xs i kinds.Top lt)
+    ap (listed_with names ks false) (drop_at xs i kinds.Top lt)
     ∙ sym (append_assoc (map (held names) ks) (held names k ∷ []) (values_from (is_pair (held names k)) rest))
     ∙ ap (λ (l : List Held). l ++ values_from (is_pair (held names k)) rest)
     (sym (ap (map (held names)) is ∙ map-append (held names) ks (k ∷ [])))

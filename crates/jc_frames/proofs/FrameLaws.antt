@@ -5,6 +5,7 @@ use Rattle.std.proofs.lemmas.List.Elements.{Contains-append_left, Contains-appen
 use Rattle.std.specs.List.{Contains}
 use Rattle.jc_base.specs.Held.{Held, object, uninit, slots}
 use Rattle.jc_base.specs.Starts.{insn_number}
+use Rattle.jc_base.proofs.DecoderLaws.{some_is}
 use Rattle.jc_pool.specs.Lookup.{class_name_of}
 use Rattle.jc_frames.specs.declared.items.TypeItem.{TypeItem}
 use Rattle.jc_frames.specs.declared.items.TypeItem.TheVariants as types
@@ -141,9 +142,6 @@ refused g offset (Some values) (Some stack) test = ap (λ (b : Bool). if b then 
 and_right : (a b : Bool) → b ≡ false → (a && b) ≡ false
 and_right true b e = e
 and_right false b e = refl
-
-some_is : {X : Type 0} (x y : X) → Some x ≡ Some y → x ≡ y
-some_is x y e = cc
 
 item_nothing : (g : Ground) (before : Before) (item : FrameItem) → SomeNothing g (items_of item) → found_if g (offset_of before item) (values_of g before item) (stack_of g item) ≡ None
 item_nothing g before (frames.Same delta) s = absurd (omega (arith, s.1.1))

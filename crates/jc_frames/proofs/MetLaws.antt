@@ -15,6 +15,7 @@ use Rattle.jc_base.specs.Held.{Names, Held, SeenAt, top, int, float, double, lon
 use Rattle.jc_base.specs.Names.{with_name, met}
 use Rattle.jc_base.proofs.MetNamesLaws.{met_more}
 use Rattle.jc_base.proofs.SeenLaws.{frames_stay, kinds_stay}
+use Rattle.jc_base.proofs.DecoderLaws.{some_is}
 use Rattle.jc_pool.specs.Pool.{PoolValue}
 use Rattle.jc_frames.specs.declared.method.Value.{Value}
 use Rattle.jc_frames.specs.declared.method.Value.TheVariants as values
@@ -27,9 +28,6 @@ use Rattle.jc_frames.specs.Running.{name_at, held_value, held_values, IsNumbered
 use Rattle.jc_frames.proofs.BuildingLaws.{take_more}
 
 -- ---- a name that has a number
-
-some_is : (x y : List ℕ) → Some x ≡ Some y → x ≡ y
-some_is x y e = cc
 
 is_any : (names : Names) (n : ℕ) (name : List ℕ) → slice_get names n ≡ Some name → list_any (bytes_eq name) names ≡ true
 is_any [] n name e = absurd cc

@@ -9,9 +9,9 @@ use Rattle.jc_base.specs.declared.kind.Kind.{Kind}
 use Rattle.jc_base.specs.declared.kind.Kind.TheVariants as kinds
 use Rattle.jc_base.specs.declared.kind.State.{State}
 use Rattle.jc_base.specs.declared.refusal.Refusal.{Refusal}
-use Rattle.jc_base.specs.Held.{Names, Seen, SeenAt, held, seen, seen_at, Grows, IsNumbered, IsNumberedState, AreNumberedFrames}
+use Rattle.jc_base.specs.Held.{Names, Seen, SeenAt, held, seen, seen_at, Grows, IsNumberedState, AreNumberedFrames}
 use Rattle.jc_base.specs.WellMade.{IsKind, AreFramesFrom}
-use Rattle.jc_base.proofs.SeenLaws.{seen_stays}
+use Rattle.jc_base.proofs.NumberedLaws.{seen_grown, frames_numbered, grown_count}
 use Rattle.jc_frames.specs.declared.running.Frame.{Frame}
 use Rattle.jc_frames.specs.declared.running.Running.{Running}
 use Rattle.jc_frames.specs.Answers.{bad_frame, IsFrameRefusal, FailsAt}
@@ -19,32 +19,20 @@ use Rattle.jc_frames.specs.Frames.{Ground, Before, is_new}
 use Rattle.jc_frames.specs.Running.{found_as}
 use Rattle.jc_frames.specs.Table.{StandsFor, TableFault, stands_for, at_fault, outcome_of}
 use Rattle.jc_frames.specs.WellMade.{AreOffsets, HasNew}
-use Rattle.jc_frames.proofs.BuildingLaws.{kinds_numbered, by_recursion}
 use Rattle.jc_frames.proofs.TableLaws.{table_good, table_bad, table_again, table_fails, stands_fault}
 use Rattle.jc_frames.proofs.WalkLaws.{Walking}
 use Rattle.jc_frames.proofs.WellMadeLaws.{frames_well_made}
 
 -- ---- lists of names that grow
 
-pub entry_stays : (old mid : Names) (entry : State) → Grows old mid → IsNumberedState (length old) entry → seen mid entry ≡ seen old entry
-entry_stays old mid entry g n = ap (λ (l : Names). seen l entry) g.1 ∙ seen_stays old g.0 entry n
-
 pub each_of : {X : Type 0} (P : X → Type 0) (xs : List X) → AllByRecursion P xs → All P xs
 each_of P [] all k d lt = absurd (omega (arith, lt))
 each_of P (x ∷ xs) all zero d lt = all.0
 each_of P (x ∷ xs) all (suc k) d lt = each_of P xs all.1 k d (omega (arith, lt))
 
-kinds_more : (a b : Names) (ks : List Kind) → Grows a b → AllByRecursion (IsNumbered (length a)) ks → AllByRecursion (IsNumbered (length b)) ks
-kinds_more a b ks g all = by_recursion (IsNumbered (length b)) ks (kinds_numbered a b ks g (each_of (IsNumbered (length a)) ks all))
-
-frames_more : (a b : Names) (frames : List FrameAt) → Grows a b → AreNumberedFrames (length a) frames → AreNumberedFrames (length b) frames
-frames_more a b [] g all = tt
-frames_more a b (f ∷ frames) g all =
-    (record { locals = kinds_more a b f.state.locals g all.0.locals; stack = kinds_more a b f.state.stack g all.0.stack }, frames_more a b frames g all.1)
-
 pub frames_pushed : (a b : Names) (frames new : List FrameAt) (f : FrameAt) → new ≡ frames ++ f ∷ [] → Grows a b → AreNumberedFrames (length a) frames
     → IsNumberedState (length b) f.state → AreNumberedFrames (length b) new
-frames_pushed a b frames new f is g all last = subst (AreNumberedFrames (length b)) (sym is) (at_end frames (frames_more a b frames g all))
+frames_pushed a b frames new f is g all last = subst (AreNumberedFrames (length b)) (sym is) (at_end frames (frames_numbered (length a) (length b) frames (grown_count a b g) all))
   where
     at_end : (xs : List FrameAt) → AreNumberedFrames (length b) xs → AreNumberedFrames (length b) (xs ++ f ∷ [])
     at_end [] h = (last, tt)
@@ -65,7 +53,7 @@ built_more m g later entry table count this frames new built running frame b res
 
 pub refusal_at : (old mid : Names) (entry : State) (g : Ground) (table : List ℕ) (place : ℕ) (refusal : Refusal) → Grows old mid → IsNumberedState (length old) entry
     → refusal ≡ bad_frame place → outcome_of g (seen mid entry) table ≡ at_fault place → FailsAt (outcome_of g (seen old entry) table) (fails.Said refusal)
-refusal_at old mid entry g table place refusal grows n is e = (place, is, ap (λ (s : Seen). outcome_of g s table) (sym (entry_stays old mid entry grows n)) ∙ e)
+refusal_at old mid entry g table place refusal grows n is e = (place, is, ap (λ (s : Seen). outcome_of g s table) (sym (seen_grown old mid entry grows n)) ∙ e)
 
 module _ {X : Type 0} (g : Ground) (entry : Seen) (table : List ℕ) where
   pub refuses : (r : Result X (Fail Refusal)) → IfErr r (FailsAt (outcome_of g entry table)) → IfErr r (IsFrameRefusal g entry table)

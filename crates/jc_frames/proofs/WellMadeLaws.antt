@@ -15,6 +15,7 @@ use Rattle.jc_base.specs.Opcode as opcode
 use Rattle.jc_base.specs.Starts.{insn_number}
 use Rattle.jc_base.specs.Held.{Names, Held, top, int, float, double, long, null, uninit_this, object, uninit, SeenAt, held, seen_at, is_pair, slots, width}
 use Rattle.jc_base.specs.EntryState.{spread_one, spread, in_locals}
+use Rattle.jc_base.proofs.DecoderLaws.{some_is}
 use Rattle.jc_pool.specs.Lookup.{class_name_of}
 use Rattle.jc_frames.specs.declared.items.TypeItem.{TypeItem}
 use Rattle.jc_frames.specs.declared.items.TypeItem.TheVariants as types
@@ -27,9 +28,6 @@ use Rattle.jc_frames.proofs.ValuesLaws.{paired_in, pair_values, single_values, s
 
 none_some : {X : Type 0} {x : X} → None ≡ Some x → ⊥
 none_some e = cc
-
-some_is : {X : Type 0} (x y : X) → Some x ≡ Some y → x ≡ y
-some_is x y e = cc
 
 -- ---- offsets
 

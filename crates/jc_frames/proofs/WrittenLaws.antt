@@ -1,10 +1,10 @@
 -- Full frames are read back as the frames that were written.
-use Rattle.std.proofs.Common.{◌≡◌, inl, inr, ℕ, zero, suc, ◌+◌, ◌<◌, ◌≤◌, true, List, [], ◌∷◌, ◌++◌, length, map, get_or, Option, Some, None, All, slice_get, refl, sym, ◌∙◌, ap, ap₂, subst, arith}
-use Rattle.std.proofs.lemmas.Bool.{eq-eqb, ne_eqb, cases_lt}
-use Rattle.std.proofs.lemmas.List.{length-map, get_or_past}
+use Rattle.std.proofs.Common.{◌≡◌, ℕ, zero, suc, ◌+◌, ◌<◌, ◌≤◌, true, List, [], ◌∷◌, ◌++◌, length, map, get_or, Some, All, slice_get, refl, sym, ◌∙◌, ap, ap₂, subst, arith}
+use Rattle.std.proofs.lemmas.Bool.{eq-eqb, ne_eqb}
+use Rattle.std.proofs.lemmas.List.{length-map}
 use Rattle.std.proofs.lemmas.List.Elements.{recursion_from_All}
 use Rattle.std.proofs.lemmas.List.Sums.{sum_by-cons}
-use Rattle.std.proofs.lemmas.Option.{none-some, slice_get_within}
+use Rattle.std.proofs.lemmas.Option.{slice_get_within}
 use Rattle.std.specs.List.{AllByRecursion, sum_by}
 use Rattle.jc_base.proofs.EachLaws.{all_weaker, each_of_all}
 use Rattle.jc_base.specs.declared.body.FrameAt.{FrameAt}
@@ -13,14 +13,12 @@ use Rattle.jc_base.specs.declared.insn.Insn.TheVariants as insn
 use Rattle.jc_base.specs.Opcode as opcode
 use Rattle.jc_base.specs.declared.kind.Kind.{Kind}
 use Rattle.jc_base.specs.declared.kind.Kind.TheVariants as kinds
-use Rattle.jc_base.specs.Decoder.{◌>>=◌}
 use Rattle.jc_base.specs.FrameOrder.{RiseFrom}
 use Rattle.jc_base.specs.Held.{Names, Held, top, int, float, double, long, null, uninit_this, object, uninit, class_names, held, seen_at, is_pair, slots, width, IsNumberedState, AreNumberedFrames}
 use Rattle.jc_base.specs.Starts.{insn_number}
 use Rattle.jc_base.specs.WellMade as made
-use Rattle.jc_pool.specs.declared.entry.Entry.{Entry}
-use Rattle.jc_pool.specs.Lookup.{class_in, class_name_of, utf8_of}
-use Rattle.jc_pool.specs.Pool.{PoolValue}
+use Rattle.jc_pool.specs.Lookup.{class_name_of}
+use Rattle.jc_pool.proofs.AddedLaws.{class_within}
 use Rattle.jc_frames.specs.Frames.{Ground, is_new, values_in}
 use Rattle.jc_frames.specs.FullFrames.{Places, BeginsWithTop, ArePaired, StartsAt, HasPlaces, IsWritable, AreRising}
 use Rattle.jc_frames.specs.FullTable.{IsPlaced, FitsFull, OffsetsRise, AreRisingOffsets, AreShort, HasPlace, ArePlacesIn, named_by, named_by_all}
@@ -31,13 +29,6 @@ use Rattle.jc_frames.proofs.TakenLaws.{all_stand, first_of}
 use Rattle.jc_frames.proofs.ValuesLaws.{in_values}
 
 -- ---- places of classes
-
-class_within : (pool : PoolValue) (place : ℕ) (name : List ℕ) → class_name_of pool place ≡ Some name → place < length pool
-unfolding class_name_of
-class_within pool place name there = elim (cases_lt place (length pool)) [
-  | inl less ↦ less
-  | inr behind ↦ absurd (none-some name (sym (ap (λ (e : Option Entry). e >>= λ e. class_in e >>= λ at. utf8_of pool at) (get_or_past pool place None behind)) ∙ there))
-]
 
 -- ---- offsets of instructions
 

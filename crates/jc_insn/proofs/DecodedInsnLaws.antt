@@ -1,13 +1,13 @@
 -- What is known of the instructions that a decoder gives.
-use Rattle.std.proofs.Common.{◌≡◌, ℕ, suc, ◌+◌, ◌<◌, ◌≤◌, List, [], ◌∷◌, length, get_or, All, cond, nat_eq, Bool, true, false, refl, sym, ◌∙◌, ap, subst, arith, length-append, zero}
+use Rattle.std.proofs.Common.{◌≡◌, ℕ, suc, ◌+◌, ◌<◌, ◌≤◌, List, [], ◌∷◌, length, get_or, All, cond, nat_eq, Bool, true, false, sym, ◌∙◌, ap, subst, arith, length-append, zero}
 use Rattle.std.proofs.lemmas.List.{length-map}
 use Rattle.std.proofs.lemmas.List.Elements.{All-map, All-nil, All-cons}
 use Rattle.jc_base.specs.Outside.{most_read}
 use Rattle.jc_base.specs.declared.insn.Insn.{Insn}
-use Rattle.jc_base.specs.declared.insn.Insn.TheVariants as insns
-use Rattle.jc_base.specs.Insn.{IsWellFormed, arm_count, with_places, arm_with_place}
+use Rattle.jc_base.specs.Insn.{IsWellFormed, arm_count, with_places}
 use Rattle.jc_base.specs.Flow.{targets_of}
 use Rattle.jc_base.specs.Starts.{AreStarts, insn_number}
+use Rattle.jc_base.proofs.PlacedInsnLaws.{same_arms}
 use Rattle.jc_insn.specs.Spells.{SpellsFrom, Spells}
 use Rattle.jc_insn.specs.Decoding.{IsInsnAmong}
 use Rattle.jc_insn.specs.declared.item.Item.TheVariants as items
@@ -43,11 +43,6 @@ number_below (start ∷ next ∷ starts) offset some = by (nat_eq start offset) 
     by : (b : Bool) → insn_number (next ∷ starts) offset < suc (length starts) → cond b 0 (1 + insn_number (next ∷ starts) offset) < suc (suc (length starts))
     by true below = omega arith
     by false below = omega (arith, below)
-
-pub same_arms : (f : ℕ → ℕ) (insn : Insn) → arm_count (with_places f insn) ≡ arm_count insn
-same_arms f (insns.Table low default arms) = length-map arms f
-same_arms f (insns.Lookup default arms) = length-map arms (arm_with_place f)
-same_arms f insn = refl
 
 at_most : (n : ℕ) (xs : List ℕ) → All (λ x. x < n + 1) xs → All (λ x. x ≤ n) xs
 at_most n xs all k d below = let h = all k d below in omega (arith, h)

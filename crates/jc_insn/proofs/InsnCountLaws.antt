@@ -5,11 +5,11 @@ use Rattle.jc_base.specs.declared.insn.Insn.{Insn}
 use Rattle.jc_base.specs.Insn.{arm_count, with_places}
 use Rattle.jc_base.specs.WellMade.{insns_and_arms}
 use Rattle.jc_base.specs.Starts.{insn_number}
+use Rattle.jc_base.proofs.PlacedInsnLaws.{same_arms}
 use Rattle.jc_insn.specs.declared.item.Item.TheVariants as items
 use Rattle.jc_insn.specs.Items.{IsItem}
 use Rattle.jc_insn.specs.Spells.{SpellsFrom, Spells}
 use Rattle.jc_insn.proofs.SpelledInsnLaws.{text_facts}
-use Rattle.jc_insn.proofs.DecodedInsnLaws.{same_arms}
 
 -- an instruction takes a byte for itself and one for each arm, at least
 pub insn_size : (at : ℕ) (text : List ℕ) (insn : Insn) → IsItem at text (items.Insn insn) → 1 + arm_count insn ≤ length text

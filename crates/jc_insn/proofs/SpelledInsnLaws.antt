@@ -74,7 +74,7 @@ signed_word_range n = by (nat_lt n 2147483648) refl
     by true e = rw e (let small = ltb-true n 2147483648 e in omega (arith, ints, small))
     by false e = rw e (omega (arith, ints))
 
-cond_most : (b : Bool) (m n k : ℕ) → m ≤ k → n ≤ k → cond b m n ≤ k
+pub cond_most : (b : Bool) (m n k : ℕ) → m ≤ k → n ≤ k → cond b m n ≤ k
 cond_most true m n k p q = p
 cond_most false m n k p q = q
 

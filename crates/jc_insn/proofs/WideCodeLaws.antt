@@ -14,10 +14,11 @@ use Rattle.jc_base.specs.declared.insn.Insn.TheVariants as insns
 use Rattle.jc_base.specs.declared.insn.Flow.{Flow}
 use Rattle.jc_base.specs.declared.insn.Flow.TheVariants as flows
 use Rattle.jc_base.specs.Insn.{with_places}
-use Rattle.jc_base.specs.Flow.{targets_of, inverse_of, is_test, is_return, flow_of, flow_of_simple}
+use Rattle.jc_base.specs.Flow.{targets_of, inverse_of, is_test, flow_of, flow_of_simple}
 use Rattle.jc_base.specs.Starts.{insn_number}
 use Rattle.jc_base.specs.Widened.{widths_by, wide_place, widened_by, widened_from, widened}
 use Rattle.jc_base.proofs.WidenedLaws.{first_place}
+use Rattle.jc_base.proofs.PlacedInsnLaws.{flow_placed, simple_is_no_test}
 use Rattle.jc_insn.specs.declared.item.Item.TheVariants as items
 use Rattle.jc_insn.specs.Items.{IsItem, target_of, operands}
 use Rattle.jc_insn.specs.Spells.{SpellsFrom, Spells}
@@ -35,14 +36,6 @@ use Rattle.jc_insn.proofs.LaidOutLaws.{IsLaidOut, EachFits, each_fits, small_sta
 
 -- ---- conditional jumps
 
-not_simple : (a b : Bool) → cond a flows.Returns (cond b flows.Throws flows.GoesOn) ≡ flows.Tests → ⊥
-not_simple true b e = cc
-not_simple false true e = cc
-not_simple false false e = cc
-
-simple_is_no_test : (op : ℕ) → flow_of_simple op ≡ flows.Tests → ⊥
-simple_is_no_test op e = not_simple (is_return op) (nat_eq op 191) e
-
 -- a conditional jump takes eight bytes
 test_size : (at : ℕ) (insn : Insn) → flow_of insn ≡ flows.Tests → size_of at true insn ≡ 8
 test_size at (insns.Simple op) e = absurd (simple_is_no_test op e)
@@ -52,23 +45,6 @@ test_size at (insns.Jump op to) e = by (nat_eq op opcode.goto) e
     by true e = absurd cc
     by false e = refl
 test_size at insn e = absurd cc
-
-flow_placed : (f : ℕ → ℕ) (insn : Insn) → flow_of (with_places f insn) ≡ flow_of insn
-flow_placed f (insns.Simple op) = refl
-flow_placed f (insns.Push op value) = refl
-flow_placed f (insns.Local op slot) = refl
-flow_placed f (insns.Inc slot by) = refl
-flow_placed f (insns.Constant place) = refl
-flow_placed f (insns.Constant2 place) = refl
-flow_placed f (insns.Member op place) = refl
-flow_placed f (insns.Interface place count) = refl
-flow_placed f (insns.Dynamic place) = refl
-flow_placed f (insns.OfClass op place) = refl
-flow_placed f (insns.NewArray elem) = refl
-flow_placed f (insns.Multi place dims) = refl
-flow_placed f (insns.Jump op to) = refl
-flow_placed f (insns.Table low default arms) = refl
-flow_placed f (insns.Lookup default arms) = refl
 
 -- what is no conditional jump begins once, and is one instruction
 one_start : (at : ℕ) (flow : Flow) → (flow ≡ flows.Tests → ⊥) → wide_starts_by at flow ≡ at ∷ []

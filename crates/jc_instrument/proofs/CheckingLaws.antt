@@ -9,15 +9,15 @@ use Rattle.jc_base.specs.declared.body.Body.{Body}
 use Rattle.jc_base.specs.declared.kind.State.{State}
 use Rattle.jc_base.specs.declared.refusal.Refusal.{Refusal}
 use Rattle.jc_base.specs.declared.refusal.RefusalKind.TheVariants as kinds
+use Rattle.jc_base.proofs.NumberedLaws.{grown_count, frames_numbered}
+use Rattle.jc_base.proofs.ListLaws.{below_or_last}
 use Rattle.jc_kinds.specs.Checked.{Checked, FirstMissing, FirstClash}
 use Rattle.jc_kinds.proofs.CheckLaws.{checked_not_missing, checked_not_clash}
-use Rattle.jc_kinds.proofs.NumberLaws.{grown_count, frames_numbered}
 use Rattle.jc_instrument.specs.KeptStates.{AreKeptStates, PutsStates, StandForBodies, places_kept}
 use Rattle.jc_instrument.specs.Steps.{InBodies, IsFrameRefusal, KeepsClash}
 use Rattle.jc_instrument.specs.declared.checks.Checking.{Checking}
 use Rattle.jc_instrument.proofs.FrameCauseLaws.{each_at}
 use Rattle.jc_instrument.proofs.KeptStatesLaws.{room_on, stand_on}
-use Rattle.jc_instrument.proofs.ListedLaws.{below_or_last}
 use Rattle.jc_verify.proofs.SameBodyLaws.{AreSame, turned, grown_same, same_clash, same_check}
 
 same_item : {x y : Body} → Some x ≡ Some y → x ≡ y

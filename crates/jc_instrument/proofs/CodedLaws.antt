@@ -1,9 +1,9 @@
 -- The methods whose instrumented code is made have one Code attribute each.
-use Rattle.std.proofs.Common.{◌≡◌, ℕ, zero, suc, ◌<◌, List, [], ◌∷◌, Some, slice_get, refl, sym, ◌∙◌, ap, subst, arith}
+use Rattle.std.proofs.Common.{◌≡◌, ℕ, suc, ◌<◌, List, [], ◌∷◌, Some, slice_get, refl, sym, ◌∙◌, ap, subst, arith}
 use Rattle.std.specs.List.{AllByRecursion}
-use Rattle.std.proofs.lemmas.Option.{same_Some}
 use Rattle.jc_base.specs.Held.{Names}
 use Rattle.jc_base.specs.declared.body.Body.{Body}
+use Rattle.jc_base.proofs.ListLaws.{all_at}
 use Rattle.jc_pool.specs.Adding.{Extends}
 use Rattle.jc_pool.specs.Pool.{PoolValue}
 use Rattle.jc_class.specs.Writable.{IsClassFile}
@@ -16,15 +16,10 @@ use Rattle.jc_instrument.specs.Works.{Work, bodies_of}
 use Rattle.jc_instrument.specs.declared.probed.Probed.{Probed}
 use Rattle.jc_instrument.proofs.TwinMethodLaws.{IsOld, same_code}
 
-item_at : {X : Type 0} (P : X → Type 0) (l : List X) (n : ℕ) (x : X) → AllByRecursion P l → slice_get l n ≡ Some x → P x
-item_at P [] n x all at = cc
-item_at P (y ∷ l) zero x all at = subst P (same_Some y x at) all.0
-item_at P (y ∷ l) (suc n) x all at = item_at P l n x all.1 at
-
 module _ (names : Names) (c : ClassFile) (new : PoolValue) (extends : Extends c.pool new) (is : IsClassFile c) (array : ℕ) where
   one_coded : (b : Body) (p : Probed) → p.method ≡ b.method → BodyOf names c b.method b → IsCoded new c.methods p
   one_coded b p same body =
-      let old = item_at (IsOld c.pool new extends) c.methods b.method body.method is.methods.each body.at in
+      let old = all_at (IsOld c.pool new extends) c.methods b.method body.method is.methods.each body.at in
       record {
         method = body.method;
         at = ap (slice_get c.methods) same ∙ body.at;

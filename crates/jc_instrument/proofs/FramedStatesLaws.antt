@@ -3,7 +3,6 @@ use Rattle.std.proofs.Common.{◌≡◌, ⊎_elim, ℕ, zero, suc, ◌+◌, Bool
 use Rattle.std.specs.Prelude.{Contains, slice_get, unwrap_or}
 use Rattle.std.proofs.lemmas.Bool.{eq-eqb, eqb-true}
 use Rattle.std.proofs.lemmas.Option.{none-some, same_Some, get_or_from_slice_get, slice_get-get_or}
-use Rattle.jc_base.proofs.FirstSeenLaws.{contains_none, contains_cases, contains_first, contains_later}
 use Rattle.jc_base.specs.FrameOrder.{RiseFrom}
 use Rattle.jc_base.specs.Held.{Names, seen, AreNumberedFrames, IsNumberedState}
 use Rattle.jc_base.specs.PlainLists.{map_from}
@@ -12,19 +11,22 @@ use Rattle.jc_base.specs.declared.body.Body.{Body}
 use Rattle.jc_base.specs.declared.body.FrameAt.{FrameAt}
 use Rattle.jc_base.specs.declared.insn.Insn.{Insn}
 use Rattle.jc_base.specs.declared.kind.State.{State}
+use Rattle.jc_base.proofs.TestLaws.{none_in, which_in, first_in, later_in}
 use Rattle.jc_class.specs.declared.class_file.ClassFile.{ClassFile}
 use Rattle.jc_kinds.specs.Answers.{AreStates, IsStateAt}
 use Rattle.jc_kinds.specs.Frames.{frame_in}
 use Rattle.jc_kinds.specs.States.{state_of}
 use Rattle.jc_plan.specs.Probed.{first_id}
+use Rattle.jc_plan.proofs.PlanLaws.{mapped_at}
 use Rattle.jc_emit.specs.Emission.{HasFrameStates}
 use Rattle.jc_emit.specs.TwinFrames.{no_state, state_at}
 use Rattle.jc_emit.proofs.StraddlingLaws.{frame_within}
-use Rattle.jc_emit.proofs.TwinPremises.{frame_found, risen}
+use Rattle.jc_emit.proofs.TwinPremises.{frame_found, risen, frames_rise}
 use Rattle.jc_emit.proofs.TwinStates.{frame_state_is}
+use Rattle.jc_emit.proofs.PlanReads.{length_map_from}
 use Rattle.jc_instrument.specs.Bodies.{AreBodies}
 use Rattle.jc_instrument.specs.Works.{Work, bodies_of, AreWorks, IsWork}
-use Rattle.jc_instrument.proofs.WrittenAgainLaws.{from_at, there_from}
+use Rattle.jc_instrument.proofs.WrittenAgainLaws.{from_at}
 use Rattle.jc_instrument.proofs.ListedLaws.{body_at}
 
 -- ---- the frame at an instruction
@@ -49,7 +51,7 @@ found_in first code max_locals max_stack names (g ∷ frames) are numbered i t i
         let here = same_Some g.state t h in
         record {
           frame = g;
-          listed = contains_first g frames;
+          listed = first_in g frames;
           at = eqb-true g.at i same;
           state = here;
           well_made = subst (IsState code max_locals max_stack) here are.2;
@@ -57,16 +59,12 @@ found_in first code max_locals max_stack names (g ∷ frames) are numbered i t i
         }
     by false other h more =
         let m = more h in
-        record { frame = m.frame; listed = contains_later g frames m.frame m.listed; at = m.at; state = m.state; well_made = m.well_made; numbered = m.numbered }
-
-frames_rise : (first : ℕ) (code : List Insn) (max_locals max_stack : ℕ) (frames : List FrameAt) → AreFramesFrom first code max_locals max_stack frames → RiseFrom first frames
-frames_rise first code max_locals max_stack [] are = tt
-frames_rise first code max_locals max_stack (f ∷ frames) are = (are.0, frames_rise (f.at + 1) code max_locals max_stack frames are.3)
+        record { frame = m.frame; listed = later_in g frames m.frame m.listed; at = m.at; state = m.state; well_made = m.well_made; numbered = m.numbered }
 
 in_there : (first : ℕ) (frames : List FrameAt) (f : FrameAt) → RiseFrom first frames → Contains frames f → frame_in frames f.at ≡ Some f.state
-in_there first [] f rises c = absurd (contains_none f c)
+in_there first [] f rises c = absurd (none_in f c)
 in_there first (g ∷ frames) f rises c =
-    ⊎_elim (λ same. here same) (λ later. behind (nat_eq g.at f.at) refl later (in_there (g.at + 1) frames f rises.1 later)) (contains_cases g frames f c)
+    ⊎_elim (λ same. here same) (λ later. behind (nat_eq g.at f.at) refl later (in_there (g.at + 1) frames f rises.1 later)) (which_in g frames f c)
   where
     here : g ≡ f → frame_in (g ∷ frames) f.at ≡ Some f.state
     here same =
@@ -86,10 +84,6 @@ framed b i s = unwrap_or (frame_in b.frames i) s
 
 abbrev pub framed_states : Body → List State → List State
 framed_states b states = map_from (framed b) 0 states
-
-count_from : {X Y : Type 0} (f : ℕ → X → Y) (k : ℕ) (xs : List X) → length (map_from f k xs) ≡ length xs
-count_from f k [] = refl
-count_from f k (x ∷ xs) = let rest = count_from f (k + 1) xs in omega (arith, rest)
 
 module _ (names : Names) (b : Body) (states : List State) (made : IsWellMadeOfAnySize b) (numbered : AreNumberedFrames (length names) b.frames)
     (are : AreStates names b states) where
@@ -111,7 +105,7 @@ module _ (names : Names) (b : Body) (states : List State) (made : IsWellMadeOfAn
 
   pub framed_are : AreStates names b (framed_states b states)
   framed_are = record {
-    count = count_from (framed b) 0 states ∙ are.count;
+    count = length_map_from (framed b) 0 states ∙ are.count;
     each = λ i s at.
         let old = from_at (framed b) 0 states i s at in
         let same : 0 + i ≡ i = omega arith in
@@ -122,7 +116,7 @@ module _ (names : Names) (b : Body) (states : List State) (made : IsWellMadeOfAn
   framed_fit f c =
       let within = frame_within 0 b.code b.max_locals b.max_stack b.frames made.frames f c in
       let count = are.count in
-      let at = there_from (framed b) 0 states f.at (state_at states f.at) (slice_get-get_or states f.at no_state (omega (arith, within, count))) in
+      let at = mapped_at (framed b) 0 f.at states (state_at states f.at) (slice_get-get_or states f.at no_state (omega (arith, within, count))) in
       let same : 0 + f.at ≡ f.at = omega arith in
       get_or_from_slice_get (framed_states b states) f.at (framed b (0 + f.at) (state_at states f.at)) no_state at
       ∙ ap (λ (n : ℕ). framed b n (state_at states f.at)) same

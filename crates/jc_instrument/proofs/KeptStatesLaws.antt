@@ -8,13 +8,13 @@ use Rattle.std.proofs.lemmas.Option.{slice_get-get_or, slice_get_read, slice_get
 use Rattle.jc_base.specs.Held.{Names, AreNumberedFrames, Grows}
 use Rattle.jc_base.specs.declared.body.Body.{Body}
 use Rattle.jc_base.specs.declared.kind.State.{State}
+use Rattle.jc_base.proofs.NumberedLaws.{grown_count, seen_grown, state_numbered}
+use Rattle.jc_base.proofs.ListLaws.{put_cases}
 use Rattle.jc_kinds.specs.Answers.{AreStates, IsStateAt}
 use Rattle.jc_kinds.specs.States.{state_of}
 use Rattle.jc_kinds.proofs.GrowLaws.{states_stay}
-use Rattle.jc_kinds.proofs.NumberLaws.{grown_count, seen_kept, state_numbered}
 use Rattle.jc_instrument.specs.KeptStates.{AreKeptStates, PutsStates, StandForBodies, places_if_kept, places_kept}
 use Rattle.jc_instrument.specs.declared.checks.Checking.{Checking}
-use Rattle.jc_instrument.proofs.ListedLaws.{put_cases}
 
 pub states_grown : (old new : Names) (b : Body) (states : List State) → Grows old new → AreNumberedFrames (length old) b.frames → AreStates old b states
     → AreStates new b states
@@ -25,7 +25,7 @@ states_grown old new b states grows numbered are = record { count = are.count; e
         let there = are.each i s at in
         record {
           is = ap (λ (l : Names). state_of l b i) grows.1 ∙ states_stay old grows.0 b numbered i ∙ there.is
-              ∙ ap Some (sym (seen_kept old new s grows there.numbered));
+              ∙ ap Some (sym (seen_grown old new s grows there.numbered));
           numbered = state_numbered (length old) (length new) s (grown_count old new grows) there.numbered;
           well_made = there.well_made;
         }

@@ -1,10 +1,10 @@
 -- Bodies that are listed in the order of their methods.
-use Rattle.std.proofs.Common.{◌≡◌, ◌⊎◌, inl, inr, ℕ, zero, suc, ◌+◌, ◌-◌, ◌<◌, ◌≤◌, List, [], ◌∷◌, ◌++◌, length, option_map, Some, None, slice_get, refl, sym, ◌∙◌, ap, subst, arith}
-use Rattle.std.specs.List.{AllByRecursion}
+use Rattle.std.proofs.Common.{◌≡◌, ◌⊎◌, inl, inr, ℕ, zero, suc, ◌+◌, ◌-◌, ◌<◌, ◌≤◌, List, [], ◌∷◌, ◌++◌, length, option_map, Some, slice_get, sym, ◌∙◌, ap, subst, arith}
 use Rattle.std.proofs.lemmas.Bool.{cases_order}
-use Rattle.std.proofs.lemmas.Option.{none-some, same_Some, slice_get_within, slice_get-map}
+use Rattle.std.proofs.lemmas.Option.{slice_get_within, slice_get-map}
 use Rattle.jc_base.specs.Held.{Names, Grows}
 use Rattle.jc_base.specs.declared.body.Body.{Body}
+use Rattle.jc_base.proofs.ListLaws.{put_stays, put_last, put_cases, below_or_last, item_at}
 use Rattle.jc_class.specs.declared.class_file.ClassFile.{ClassFile}
 use Rattle.jc_body.specs.BodyOf.{BodyOf, Bodiless}
 use Rattle.jc_instrument.specs.Bodies.{IsListed, AreBodiesBelow}
@@ -13,46 +13,8 @@ use Rattle.jc_instrument.proofs.OneBodyLaws.{grown_body}
 
 -- ---- an item
 
-pub all_at : {X : Type 0} (P : X → Type 0) (xs : List X) (i : ℕ) (x : X) → AllByRecursion P xs → slice_get xs i ≡ Some x → P x
-all_at P [] i x all at = absurd (none-some x at)
-all_at P (y ∷ xs) zero x all at = subst P (same_Some y x at) all.0
-all_at P (y ∷ xs) (suc i) x all at = all_at P xs i x all.1 at
-
 pub body_at : (works : List Work) (i : ℕ) (w : Work) → slice_get works i ≡ Some w → slice_get (bodies_of works) i ≡ Some w.body
 body_at works i w stands = slice_get-map (λ (v : Work). v.body) works i ∙ ap (option_map (λ (v : Work). v.body)) stands
-
--- ---- one more item
-
-pub put_stays : {X : Type 0} (xs : List X) (x y : X) (i : ℕ) → slice_get xs i ≡ Some y → slice_get (xs ++ x ∷ []) i ≡ Some y
-put_stays [] x y i e = absurd (none e)
-  where
-    none : None ≡ Some y → ⊥
-    none e = cc
-put_stays (z ∷ xs) x y zero e = e
-put_stays (z ∷ xs) x y (suc i) e = put_stays xs x y i e
-
-pub put_last : {X : Type 0} (xs : List X) (x : X) → slice_get (xs ++ x ∷ []) (length xs) ≡ Some x
-put_last [] x = refl
-put_last (z ∷ xs) x = put_last xs x
-
--- it is one of those that stood there, or the last
-pub put_cases : {X : Type 0} (xs : List X) (x y : X) (i : ℕ) → slice_get (xs ++ x ∷ []) i ≡ Some y → (slice_get xs i ≡ Some y) ⊎ ((i ≡ length xs) × (x ≡ y))
-put_cases [] x y zero e = inr (refl, cc)
-put_cases [] x y (suc i) e = absurd cc
-put_cases (z ∷ xs) x y zero e = inl e
-put_cases (z ∷ xs) x y (suc i) e = by (put_cases xs x y i e)
-  where
-    by : (slice_get xs i ≡ Some y) ⊎ ((i ≡ length xs) × (x ≡ y)) → (slice_get xs i ≡ Some y) ⊎ ((suc i ≡ length (z ∷ xs)) × (x ≡ y))
-    by (inl there) = inl there
-    by (inr last) = inr (ap suc last.0, last.1)
-
-pub below_or_last : (n m : ℕ) → m < n + 1 → (m < n) ⊎ (m ≡ n)
-below_or_last n m less = by (cases_order m n)
-  where
-    by : (m ≡ n) ⊎ ((m < n) ⊎ (n < m)) → (m < n) ⊎ (m ≡ n)
-    by (inl same) = inr same
-    by (inr (inl before)) = inl before
-    by (inr (inr behind)) = absurd (omega (arith, less, behind))
 
 -- ---- bodies
 
@@ -128,11 +90,6 @@ grown_bodies old new c n bodies grows are = record {
 }
 
 -- ---- how many there are
-
-pub item_at : {X : Type 0} (xs : List X) (i : ℕ) → i < length xs → (x : X) × (slice_get xs i ≡ Some x)
-item_at [] i less = absurd (omega (arith, less))
-item_at (x ∷ xs) zero less = (x, refl)
-item_at (x ∷ xs) (suc i) less = item_at xs i (omega (arith, less))
 
 place_most : (names : Names) (c : ClassFile) (n : ℕ) (bodies : List Body) → AreBodiesBelow names c n bodies → (i : ℕ) (b : Body) → slice_get bodies i ≡ Some b → i ≤ b.method
 place_most names c n bodies are zero b stands = omega arith

@@ -3,6 +3,7 @@ use Rattle.std.proofs.Common.{◌≡◌, ℕ, map, Some, sym, ◌∙◌, ap, sub
 use Rattle.jc_base.specs.Held.{Names, Grows, seen_at}
 use Rattle.jc_base.specs.declared.body.Body.{Body}
 use Rattle.jc_base.proofs.SeenLaws.{frames_stay}
+use Rattle.jc_base.proofs.NumberedLaws.{grown_count, frames_numbered}
 use Rattle.jc_class.specs.declared.class_file.ClassFile.{ClassFile}
 use Rattle.jc_class.specs.declared.class_file.Member.{Member}
 use Rattle.jc_body.specs.BodyOf.{HasParts, IsBody, BodyOf}
@@ -10,7 +11,6 @@ use Rattle.jc_body.specs.Faults.{faults}
 use Rattle.jc_body.specs.StackMap.{HasFrames}
 use Rattle.jc_body.specs.declared.coded.Coded.{Coded}
 use Rattle.jc_body.specs.declared.items.Tables.{Tables}
-use Rattle.jc_kinds.proofs.NumberLaws.{grown_count, frames_numbered}
 use Rattle.jc_verify.proofs.OneBodyLaws.{same_bodies}
 use Rattle.jc_verify.proofs.SameBodyLaws.{AreSame}
 

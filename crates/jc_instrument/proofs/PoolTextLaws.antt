@@ -1,12 +1,12 @@
 -- The texts of a pool that was read from bytes are short, and it has few places.
 use Rattle.std.proofs.Common.{◌≡◌, ℕ, zero, suc, ◌-◌, ◌<◌, ◌≤◌, ◌^◌, Bool, true, false, List, [], ◌∷◌, length, Option, Some, None, refl, sym, ◌∙◌, ap, subst, arith}
 use Rattle.std.specs.List.{AllByRecursion}
-use Rattle.std.proofs.lemmas.List.{get_or_past}
 use Rattle.std.proofs.lemmas.Option.{none-some, same_Some}
 use Rattle.jc_base.specs.ByteLists.{AreBytes}
 use Rattle.jc_base.specs.Decoder.{◌>>=◌}
 use Rattle.jc_base.specs.Texts.{IsShortText}
 use Rattle.jc_base.proofs.OneTextLaws.{both_bytes, big_below}
+use Rattle.jc_base.proofs.DecoderLaws.{bind_some}
 use Rattle.jc_pool.specs.declared.entry.Entry.{Entry}
 use Rattle.jc_pool.specs.declared.entry.Entry.TheVariants as entry
 use Rattle.jc_pool.specs.EntryFormat.{IsEntry}
@@ -15,6 +15,7 @@ use Rattle.jc_pool.specs.Pool.{PoolValue, is_wide, IsSmall, IsFilled, IsPool}
 use Rattle.jc_pool.specs.PoolGrammar.{places, behind, by_size, pool}
 use Rattle.jc_pool.specs.Writing.{AreSmall, SpellsSlot}
 use Rattle.jc_pool.proofs.WritingLaws.{entry_small}
+use Rattle.jc_pool.proofs.OneMoreEntryLaws.{entry_past}
 use Rattle.jc_class.specs.ClassFormat.{class_file}
 use Rattle.jc_class.specs.ClassText.{ClassText}
 use Rattle.jc_class.specs.declared.class_file.ClassFile.{ClassFile}
@@ -134,19 +135,10 @@ class_pool text c are t =
 
 -- ---- what its places name
 
--- where two steps give something, so does each
-pub bound : {A B : Type 0} (o : Option A) (f : A → Option B) (y : B) → (o >>= f) ≡ Some y → (x : A) × (o ≡ Some x) × (f x ≡ Some y)
-bound None f y e = absurd (none-some y e)
-bound (Some x) f y e = (x, refl, e)
-
--- nothing stands behind its places
-nothing_past : (slots : PoolValue) (place : ℕ) → length slots ≤ place → entry_of slots place ≡ None
-nothing_past slots place past = get_or_past slots place None past
-
 pub no_class_past : (slots : PoolValue) (place : ℕ) (name : List ℕ) → length slots ≤ place → class_name_of slots place ≡ Some name → ⊥
 unfolding class_name_of
 no_class_past slots place name past is =
-    none-some name (sym (ap (λ (o : Option Entry). o >>= λ e. class_in e >>= λ n. utf8_of slots n) (nothing_past slots place past)) ∙ is)
+    none-some name (sym (ap (λ (o : Option Entry). o >>= λ e. class_in e >>= λ n. utf8_of slots n) (entry_past slots place past)) ∙ is)
 
 module _ (slots : PoolValue) (small : AreSmall slots) where
   text_short : (e : Entry) (text : List ℕ) → IsSmall e → utf8_in e ≡ Some text → IsShortText text
@@ -158,14 +150,14 @@ module _ (slots : PoolValue) (small : AreSmall slots) where
   pub utf8_short : (place : ℕ) (text : List ℕ) → utf8_of slots place ≡ Some text → IsShortText text
   unfolding utf8_of
   utf8_short place text is =
-      let e = bound (entry_of slots place) utf8_in text is in
+      let e = bind_some (entry_of slots place) utf8_in text is in
       text_short e.0 text (entry_small slots small place e.0 e.1) e.2
 
   pub class_short : (place : ℕ) (name : List ℕ) → class_name_of slots place ≡ Some name → IsShortText name
   unfolding class_name_of
   class_short place name is =
-      let e = bound (entry_of slots place) (λ e. class_in e >>= λ n. utf8_of slots n) name is in
-      let n = bound (class_in e.0) (λ n. utf8_of slots n) name e.2 in
+      let e = bind_some (entry_of slots place) (λ e. class_in e >>= λ n. utf8_of slots n) name is in
+      let n = bind_some (class_in e.0) (λ n. utf8_of slots n) name e.2 in
       utf8_short n.0 name n.2
 
   record IsShortSignature (s : Signature) : Type 0 where
@@ -183,10 +175,10 @@ module _ (slots : PoolValue) (small : AreSmall slots) where
   signature_short : (place : ℕ) (s : Signature) → signature_of slots place ≡ Some s → IsShortSignature s
   unfolding signature_of
   signature_short place s is =
-      let e = bound (entry_of slots place) (λ e. signature_in e >>= λ parts. utf8_of slots parts.0 >>= λ name. named name parts.1) s is in
-      let parts = bound (signature_in e.0) (λ parts. utf8_of slots parts.0 >>= λ name. named name parts.1) s e.2 in
-      let name = bound (utf8_of slots parts.0.0) (λ name. named name parts.0.1) s parts.2 in
-      let desc = bound (utf8_of slots parts.0.1) (λ desc. Some (record { name = name.0; desc = desc })) s name.2 in
+      let e = bind_some (entry_of slots place) (λ e. signature_in e >>= λ parts. utf8_of slots parts.0 >>= λ name. named name parts.1) s is in
+      let parts = bind_some (signature_in e.0) (λ parts. utf8_of slots parts.0 >>= λ name. named name parts.1) s e.2 in
+      let name = bind_some (utf8_of slots parts.0.0) (λ name. named name parts.0.1) s parts.2 in
+      let desc = bind_some (utf8_of slots parts.0.1) (λ desc. Some (record { name = name.0; desc = desc })) s name.2 in
       both_short name.0 desc.0 s (utf8_short parts.0.0 name.0 name.1) (utf8_short parts.0.1 desc.0 desc.1) desc.2
 
   abbrev with_signature : ℕ → List ℕ → ℕ → Option Member
@@ -202,14 +194,14 @@ module _ (slots : PoolValue) (small : AreSmall slots) where
   with_short : (tag : ℕ) (class : List ℕ) (place : ℕ) (m : Member) → IsShortText class → with_signature tag class place ≡ Some m
       → HasShortTexts m
   with_short tag class place m short is =
-      let s = bound (signature_of slots place) (λ s. Some (record { tag = tag; class = class; name = s.name; desc = s.desc })) m is in
+      let s = bind_some (signature_of slots place) (λ s. Some (record { tag = tag; class = class; name = s.name; desc = s.desc })) m is in
       let both = signature_short place s.0 s.1 in
       all_short tag class s.0 m short both s.2
 
   ref_short : (tag class place : ℕ) (m : Member) → ref_of slots tag class place ≡ Some m → HasShortTexts m
   unfolding ref_of
   ref_short tag class place m is =
-      let name = bound (class_name_of slots class) (λ name. with_signature tag name place) m is in
+      let name = bind_some (class_name_of slots class) (λ name. with_signature tag name place) m is in
       with_short tag name.0 place m (class_short class name.0 name.1) name.2
 
   dynamic_short : (tag place : ℕ) (m : Member) → dynamic_of slots tag place ≡ Some m → HasShortTexts m
@@ -226,7 +218,7 @@ module _ (slots : PoolValue) (small : AreSmall slots) where
 
   pub member_short : (place : ℕ) (m : Member) → member_of slots place ≡ Some m → HasShortTexts m
   unfolding member_of
-  member_short place m is = let e = bound (entry_of slots place) (member_in slots) m is in in_short e.0 m e.2
+  member_short place m is = let e = bind_some (entry_of slots place) (member_in slots) m is in in_short e.0 m e.2
 
 -- ---- bytes
 
@@ -248,14 +240,14 @@ module _ (slots : PoolValue) (each : AllByRecursion IsSpelledSlot slots) where
   pub utf8_are : (place : ℕ) (text : List ℕ) → utf8_of slots place ≡ Some text → AreBytes text
   unfolding utf8_of
   utf8_are place text is =
-      let e = bound (entry_of slots place) utf8_in text is in
+      let e = bind_some (entry_of slots place) utf8_in text is in
       text_are e.0 text (entry_spelled slots each place e.0 e.1) e.2
 
   pub class_are : (place : ℕ) (name : List ℕ) → class_name_of slots place ≡ Some name → AreBytes name
   unfolding class_name_of
   class_are place name is =
-      let e = bound (entry_of slots place) (λ e. class_in e >>= λ n. utf8_of slots n) name is in
-      let n = bound (class_in e.0) (λ n. utf8_of slots n) name e.2 in
+      let e = bind_some (entry_of slots place) (λ e. class_in e >>= λ n. utf8_of slots n) name is in
+      let n = bind_some (class_in e.0) (λ n. utf8_of slots n) name e.2 in
       utf8_are n.0 name n.2
 
   abbrev described : List ℕ → ℕ → Option Signature
@@ -264,17 +256,17 @@ module _ (slots : PoolValue) (each : AllByRecursion IsSpelledSlot slots) where
   signature_are : (place : ℕ) (s : Signature) → signature_of slots place ≡ Some s → AreBytes s.desc
   unfolding signature_of
   signature_are place s is =
-      let e = bound (entry_of slots place) (λ e. signature_in e >>= λ parts. utf8_of slots parts.0 >>= λ name. described name parts.1) s is in
-      let parts = bound (signature_in e.0) (λ parts. utf8_of slots parts.0 >>= λ name. described name parts.1) s e.2 in
-      let name = bound (utf8_of slots parts.0.0) (λ name. described name parts.0.1) s parts.2 in
-      let desc = bound (utf8_of slots parts.0.1) (λ desc. Some (record { name = name.0; desc = desc })) s name.2 in
+      let e = bind_some (entry_of slots place) (λ e. signature_in e >>= λ parts. utf8_of slots parts.0 >>= λ name. described name parts.1) s is in
+      let parts = bind_some (signature_in e.0) (λ parts. utf8_of slots parts.0 >>= λ name. described name parts.1) s e.2 in
+      let name = bind_some (utf8_of slots parts.0.0) (λ name. described name parts.0.1) s parts.2 in
+      let desc = bind_some (utf8_of slots parts.0.1) (λ desc. Some (record { name = name.0; desc = desc })) s name.2 in
       subst (λ (t : Signature). AreBytes t.desc) {x = record { name = name.0; desc = desc.0 }}
       (same_Some (record { name = name.0; desc = desc.0 }) s desc.2) (utf8_are parts.0.1 desc.0 desc.1)
 
   with_are : (tag : ℕ) (class : List ℕ) (place : ℕ) (m : Member)
       → (signature_of slots place >>= λ s. Some (record { tag = tag; class = class; name = s.name; desc = s.desc })) ≡ Some m → AreBytes m.desc
   with_are tag class place m is =
-      let s = bound (signature_of slots place) (λ s. Some (record { tag = tag; class = class; name = s.name; desc = s.desc })) m is in
+      let s = bind_some (signature_of slots place) (λ s. Some (record { tag = tag; class = class; name = s.name; desc = s.desc })) m is in
       subst (λ (n : Member). AreBytes n.desc) {x = record { tag = tag; class = class; name = s.0.name; desc = s.0.desc }}
       (same_Some (record { tag = tag; class = class; name = s.0.name; desc = s.0.desc }) m s.2)
       (signature_are place s.0 s.1)
@@ -282,7 +274,7 @@ module _ (slots : PoolValue) (each : AllByRecursion IsSpelledSlot slots) where
   ref_are : (tag class place : ℕ) (m : Member) → ref_of slots tag class place ≡ Some m → AreBytes m.desc
   unfolding ref_of
   ref_are tag class place m is =
-      let name = bound (class_name_of slots class)
+      let name = bind_some (class_name_of slots class)
       (λ name. signature_of slots place >>= λ s. Some (record { tag = tag; class = name; name = s.name; desc = s.desc })) m is in
       with_are tag name.0 place m name.2
 
@@ -300,14 +292,14 @@ module _ (slots : PoolValue) (each : AllByRecursion IsSpelledSlot slots) where
 
   pub member_are : (place : ℕ) (m : Member) → member_of slots place ≡ Some m → AreBytes m.desc
   unfolding member_of
-  member_are place m is = let e = bound (entry_of slots place) (member_in slots) m is in in_are e.0 m e.2
+  member_are place m is = let e = bind_some (entry_of slots place) (member_in slots) m is in in_are e.0 m e.2
 
 -- each of these is nowhere behind the places
 pub none_past : (slots : PoolValue) (place : ℕ) → length slots ≤ place
     → (member_of slots place ≡ None) × (class_name_of slots place ≡ None) × (const_of slots place ≡ None)
 unfolding member_of class_name_of const_of
 none_past slots place past =
-    let none = nothing_past slots place past in (
+    let none = entry_past slots place past in (
       ap (λ (o : Option Entry). o >>= member_in slots) none,
       ap (λ (o : Option Entry). o >>= λ e. class_in e >>= λ n. utf8_of slots n) none,
       ap (λ (o : Option Entry). o >>= const_in slots) none,

@@ -1,5 +1,5 @@
 -- The instrumented code of the bodies of a class, one after the other.
-use Rattle.std.proofs.Common.{◌≡◌, ◌⊎◌, inl, inr, ℕ, zero, suc, ◌+◌, ◌<◌, ◌≤◌, Bool, List, [], ◌∷◌, ◌++◌, length, take, get_or, Some, slice_get, refl, sym, ◌∙◌, ap, ap₂, subst, arith}
+use Rattle.std.proofs.Common.{◌≡◌, ◌⊎◌, inl, inr, ℕ, zero, suc, ◌+◌, ◌<◌, ◌≤◌, List, [], ◌∷◌, ◌++◌, length, take, get_or, Some, slice_get, refl, sym, ◌∙◌, ap, ap₂, subst, arith}
 use Rattle.std.specs.Bool.{⊤}
 use Rattle.std.specs.List.{AllByRecursion}
 use Rattle.std.proofs.lemmas.Bool.{cases_lt}
@@ -15,8 +15,9 @@ use Rattle.jc_base.specs.declared.kind.State.{State}
 use Rattle.jc_base.specs.WellMade.{IsWellMadeOfAnySize}
 use Rattle.jc_base.proofs.MetNamesLaws.{grows_both, grows_none, one_number}
 use Rattle.jc_frames.specs.FullTable.{FitsFull}
-use Rattle.jc_kinds.proofs.NumberLaws.{frames_numbered, grown_count, state_numbered}
 use Rattle.jc_base.specs.declared.plan.Plan.{Plan}
+use Rattle.jc_base.proofs.NumberedLaws.{grown_count, state_numbered, frames_numbered}
+use Rattle.jc_base.proofs.ListLaws.{put_cases, below_or_last}
 use Rattle.jc_plan.specs.Plan.{plan_of}
 use Rattle.jc_plan.specs.Probed.{probe_count, first_id}
 use Rattle.jc_plan.proofs.CountLaws.{each_mapped}
@@ -34,7 +35,6 @@ use Rattle.jc_instrument.specs.Taking.{frames_in, HasFrames}
 use Rattle.jc_instrument.specs.Works.{Work, bodies_of, IsWork}
 use Rattle.jc_instrument.specs.declared.probed.Probed.{Probed}
 use Rattle.jc_instrument.proofs.KeptStatesLaws.{states_grown}
-use Rattle.jc_instrument.proofs.ListedLaws.{below_or_last, put_cases}
 use Rattle.jc_instrument.proofs.PlanningLaws.{first_more}
 
 -- ---- one body

@@ -11,6 +11,7 @@ use Rattle.jc_base.specs.declared.fail.Fail.{Fail}
 use Rattle.jc_base.specs.declared.refusal.Refusal.{Refusal}
 use Rattle.jc_base.specs.declared.refusal.RefusalKind.{RefusalKind}
 use Rattle.jc_base.specs.declared.refusal.RefusalKind.TheVariants as kinds
+use Rattle.jc_base.proofs.ListLaws.{below_or_last}
 use Rattle.jc_class.specs.declared.class_file.ClassFile.{ClassFile}
 use Rattle.jc_body.specs.BodyOf.{BodyOf, Bodiless, FaultOf}
 use Rattle.jc_body.specs.Answers as bodies
@@ -21,7 +22,7 @@ use Rattle.jc_instrument.specs.Reasons.{IsFaulty, method_causes}
 use Rattle.jc_instrument.specs.Steps.{IsKept, IsReading}
 use Rattle.jc_instrument.specs.declared.bodies.Reading.{Reading}
 use Rattle.jc_instrument.proofs.CauseLaws.{never_in_method}
-use Rattle.jc_instrument.proofs.ListedLaws.{without_body, with_body, grown_bodies, below_or_last}
+use Rattle.jc_instrument.proofs.ListedLaws.{without_body, with_body, grown_bodies}
 
 -- ---- a fault of a method
 

@@ -11,7 +11,7 @@ use Rattle.jc_base.specs.declared.body.Body.{Body}
 use Rattle.jc_base.specs.declared.body.LineAt.{LineAt}
 use Rattle.jc_base.specs.declared.body.VarAt.{VarAt}
 use Rattle.jc_base.specs.declared.emitted.Emitted.{Emitted}
-use Rattle.jc_pool.specs.Adding.{Extends, IsFirst}
+use Rattle.jc_pool.specs.Adding.{Extends}
 use Rattle.jc_pool.specs.Lookup.{utf8_of}
 use Rattle.jc_pool.specs.Pool.{PoolValue}
 use Rattle.jc_pool.proofs.AddedLaws.{utf8_kept}
@@ -28,6 +28,7 @@ use Rattle.jc_emit.specs.TwinTables.{moved_line, moved_var}
 use Rattle.jc_code.specs.Given.{AreNamed, HaveClasses, IsNamedAt}
 use Rattle.jc_code.specs.TwinCode.{lines_name, vars_name, kind_vars_name, written_frames}
 use Rattle.jc_code.specs.declared.code.CodePlaces.{CodePlaces}
+use Rattle.jc_code.proofs.NamedLaws.{named_at}
 use Rattle.jc_instrument.specs.Contents.{class_entry}
 use Rattle.jc_instrument.specs.Members.{AreTextPlaces, AreWritable, IsFirstIfAny}
 use Rattle.jc_instrument.specs.Needed.{needs_of, place_list, TakesNeeds}
@@ -97,17 +98,13 @@ entries_there pool name l table entries are = by (texts_there pool name l)
     by (inl none) = inl (subst (λ (bodies : List (List ℕ)). AreEntries table bodies entries) none are)
     by (inr there) = inr there
 
-named_if : {X : Type 0} (pool : PoolValue) (name : List ℕ) (xs : List X) (place : ℕ) → IsFirst (utf8_of pool) name place → IsNamedAt pool name xs place
-named_if pool name [] place first = tt
-named_if pool name (x ∷ xs) place first = first
-
 -- a table that is made of entries, of which there are none where the name stands nowhere
 table_named : {X Y : Type 0} (old new : PoolValue) (extends : Extends old new) (name : List ℕ) (place : ℕ) (make : List X → List Y) (none : make [] ≡ [])
     (entries : List X) → IsFirstIfAny new name place → (entries ≡ []) ⊎ IsThere old name → IsNamedAt new name (make entries) place
 table_named old new extends name place make none entries places (inl empty) =
     subst (λ (ys : List _). IsNamedAt new name ys place) (sym (ap make empty ∙ none)) tt
 table_named old new extends name place make none entries places (inr there) =
-    named_if new name (make entries) place (places there.0 (utf8_kept old new name there.0 extends there.1))
+    named_at new name (make entries) place (places there.0 (utf8_kept old new name there.0 extends there.1))
 
 -- ---- one body
 

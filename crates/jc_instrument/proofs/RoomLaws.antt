@@ -7,6 +7,7 @@ use Rattle.jc_base.specs.declared.body.Body.{Body}
 use Rattle.jc_base.specs.declared.refusal.Refusal.{Refusal}
 use Rattle.jc_base.specs.declared.refusal.RefusalKind.{RefusalKind}
 use Rattle.jc_base.specs.declared.refusal.RefusalKind.TheVariants as kinds
+use Rattle.jc_base.proofs.ListLaws.{below_or_last}
 use Rattle.jc_class.specs.declared.class_file.ClassFile.{ClassFile}
 use Rattle.jc_kinds.specs.StateShift.{IsStraddled}
 use Rattle.jc_emit.specs.Straddling.{IsFirstStraddling}
@@ -20,7 +21,6 @@ use Rattle.jc_instrument.specs.RoomCauses.{HasStraddling, HasTooManyProbes, IsFu
 use Rattle.jc_instrument.specs.Steps.{InBodies}
 use Rattle.jc_instrument.proofs.CauseLaws.{first_behind, first_in_front, none_in_both}
 use Rattle.jc_instrument.proofs.FrameCauseLaws.{first_of_methods, none_of_methods}
-use Rattle.jc_instrument.proofs.ListedLaws.{below_or_last}
 use Rattle.jc_instrument.proofs.RoomCauseLaws.{same_straddled}
 use Rattle.jc_instrument.proofs.SameAnalysisLaws.{same_bodies, same_probes}
 use Rattle.jc_verify.proofs.SameBodyLaws.{AreSame, turned}

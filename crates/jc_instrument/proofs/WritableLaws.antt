@@ -20,8 +20,9 @@ use Rattle.jc_base.specs.declared.insn.Insn.TheVariants as insns
 use Rattle.jc_base.specs.declared.kind.Kind.{Kind}
 use Rattle.jc_base.specs.declared.kind.Kind.TheVariants as kinds
 use Rattle.jc_base.specs.declared.kind.State.{State}
-use Rattle.jc_base.proofs.FirstSeenLaws.{contains_none, contains_one, contains_first, contains_later}
+use Rattle.jc_base.proofs.FirstSeenLaws.{contains_one}
 use Rattle.jc_base.specs.FrameOrder.{RiseFrom}
+use Rattle.jc_base.proofs.TestLaws.{none_in, first_in, later_in}
 use Rattle.jc_frames.specs.FullTable.{AreRisingOffsets, FitsFull, IsPlaced}
 use Rattle.jc_frames.proofs.BuildingLaws.{by_recursion}
 use Rattle.jc_kinds.specs.Answers.{AreStates, IsStateAt}
@@ -265,14 +266,14 @@ module _ (b : Body) (first : ℕ) (states : List State) (array : ℕ) (names : N
 
   arms_done : (here : ℕ) (s : State) (xs : List Branch) → Source s → 2 ≤ here → here + arm_sizes (probe_of b first) xs ≤ end
       → (f : FrameAt) → Contains (arm_frames b first states array here (moved s) xs) f → Done f
-  arms_done here s [] source behind within f c = absurd (contains_none f c)
+  arms_done here s [] source behind within f c = absurd (none_in f c)
   arms_done here s (x ∷ xs) source behind within f c =
       ⊎_elim (λ front. single (probe_of b first x) front)
       (λ rest. arms_done (here + hop_size (probe_of b first x)) s xs source (omega (arith, behind)) (omega (arith, within)) f rest)
       (Contains-append_cases (arm_frame b first states array here (moved s) (probe_of b first x)) _ f c)
     where
       single : (o : Option ℕ) → Contains (arm_frame b first states array here (moved s) o) f → Done f
-      single None d = absurd (contains_none f d)
+      single None d = absurd (none_in f d)
       single (Some id) d = subst Done (contains_one (frame here (moved s)) f d) (moved_done here s behind (omega (arith, within)) source)
 
   arms_within : (i : ℕ) → i < length b.code → q_of i + 1 + arm_sizes (probe_of b first) (arms_at b.code i) ≤ end
@@ -303,7 +304,7 @@ module _ (b : Body) (first : ℕ) (states : List State) (array : ℕ) (names : N
 
 all_listed : (P : FrameAt → Type 0) (frames : List FrameAt) → ((f : FrameAt) → Contains frames f → P f) → AllByRecursion P frames
 all_listed P [] each = tt
-all_listed P (f ∷ frames) each = (each f (contains_first f frames), all_listed P frames (λ g c. each g (contains_later f frames g c)))
+all_listed P (f ∷ frames) each = (each f (first_in f frames), all_listed P frames (λ g c. each g (later_in f frames g c)))
 
 count_below : (from end : ℕ) (frames : List FrameAt) → RiseFrom from frames → AllByRecursion (λ f. f.at ≤ end) frames → from ≤ end + 1 → from + length frames ≤ end + 1
 count_below from end [] rising all le = omega (arith, le)

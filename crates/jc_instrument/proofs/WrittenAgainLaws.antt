@@ -2,15 +2,15 @@
 use Rattle.std.proofs.Common.{◌≡◌, ◌⊎◌, inl, inr, ℕ, ℤ, zero, suc, ◌+◌, ◌<◌, ◌≤◌, Bool, true, false, List, [], ◌∷◌, ◌++◌, length, map, Option, Some, None, nat_eq, refl, sym, ◌∙◌, ap, subst, arith, if◌then◌else◌}
 use Rattle.std.specs.Prelude.{codes, filter, slice_get, unwrap_or}
 use Rattle.std.specs.List.{AllByRecursion}
-use Rattle.std.specs.Option.{option_map}
 use Rattle.std.proofs.lemmas.Bool.{cases_lt, eq-eqb, eqb-true}
 use Rattle.std.proofs.lemmas.Grind.{flat_map-append}
 use Rattle.std.proofs.lemmas.List.Concat.{flat_map-cons}
-use Rattle.std.proofs.lemmas.Option.{none-some, same_Some, slice_get-map, slice_get_within}
+use Rattle.std.proofs.lemmas.Option.{none-some, same_Some, slice_get_within}
 use Rattle.jc_base.specs.Held.{Names}
 use Rattle.jc_base.specs.PlainLists.{map_from}
 use Rattle.jc_base.specs.WellMade.{IsWellMadeOfAnySize}
 use Rattle.jc_base.specs.declared.body.Body.{Body}
+use Rattle.jc_base.proofs.ListLaws.{put_stays, put_cases, all_at}
 use Rattle.jc_pool.specs.Adding.{Extends}
 use Rattle.jc_pool.specs.Lookup.{Member as MemberText, class_name_of, long_in, long_of, member_of, string_of, utf8_of}
 use Rattle.jc_pool.specs.Pool.{PoolValue}
@@ -31,6 +31,7 @@ use Rattle.jc_frames.specs.FullTable.{HasPlace, named_by, named_by_all}
 use Rattle.jc_frames.proofs.FullTextLaws.{both_parts}
 use Rattle.jc_kinds.specs.Answers.{AreStates}
 use Rattle.jc_kinds.specs.Checked.{Checked}
+use Rattle.jc_plan.proofs.PlanLaws.{mapped_at}
 use Rattle.jc_emit.specs.Added.{data_type, init_name, init_type}
 use Rattle.jc_emit.specs.Emission.{HasFrameStates, IsArrayNumber}
 use Rattle.jc_emit.specs.Straddling.{NoneStraddles}
@@ -56,13 +57,12 @@ use Rattle.jc_instrument.specs.declared.needs.MemberPlaces.{MemberPlaces}
 use Rattle.jc_instrument.specs.declared.probed.Probed.{Probed}
 use Rattle.jc_instrument.proofs.ContentLaws.{of_content}
 use Rattle.jc_instrument.proofs.GrownPoolLaws.{StandAt, stand_at}
-use Rattle.jc_instrument.proofs.ListedLaws.{put_cases, put_stays}
 use Rattle.jc_instrument.proofs.ReadyLaws.{all_placed}
 use Rattle.jc_instrument.proofs.TakingLaws.{each_extends}
 use Rattle.jc_instrument.proofs.TwinLaws.{each_listed}
 use Rattle.jc_instrument.proofs.TwinMethodLaws.{same_code}
 use Rattle.jc_instrument.proofs.WritableLaws.{has_frames}
-use Rattle.jc_instrument.proofs.ListedLaws.{all_at, body_at}
+use Rattle.jc_instrument.proofs.ListedLaws.{body_at}
 use Rattle.jc_instrument.proofs.WrittenCodeLaws.{code_places}
 
 -- ---- lists
@@ -74,15 +74,6 @@ from_at f k (x ∷ xs) zero y at = (x, refl, ap (λ n. f n x) (let e : k + 0 ≡
 from_at f k (x ∷ xs) (suc i) y at =
     let rest = from_at f (k + 1) xs i y at in
     (rest.0, rest.1, ap (λ n. f n rest.0) (let e : k + suc i ≡ k + 1 + i = omega arith in e) ∙ rest.2)
-
-pub there_from : {X Y : Type 0} (f : ℕ → X → Y) (k : ℕ) (xs : List X) (i : ℕ) (x : X) → slice_get xs i ≡ Some x → slice_get (map_from f k xs) i ≡ Some (f (k + i) x)
-there_from f k [] i x at = absurd (none-some x at)
-there_from f k (y ∷ xs) zero x at =
-    let e : k ≡ k + 0 = omega arith in
-    ap (λ n. Some (f n y)) e ∙ ap (λ z. Some (f (k + 0) z)) (same_Some y x at)
-there_from f k (y ∷ xs) (suc i) x at =
-    let e : k + 1 + i ≡ k + suc i = omega arith in
-    there_from f (k + 1) xs i x at ∙ ap (λ n. Some (f n x)) e
 
 -- ---- the work of a method
 
@@ -479,7 +470,7 @@ texts_short id names array works c twin w is number x found =
     let there : slice_get c.methods number ≡ Some m = ap (slice_get c.methods) (sym h.number_is) ∙ body.at in
     let same : 0 + number ≡ number = omega arith in
     let own : slice_get (twin_methods c.pool code works c.methods) number ≡ Some (twin_method c.pool code m (Some x)) =
-    there_from (λ n method. twin_method c.pool code method (work_of n works)) 0 c.methods number m there
+    mapped_at (λ n method. twin_method c.pool code method (work_of n works)) 0 number c.methods m there
     ∙ ap (λ (n : ℕ). Some (twin_method c.pool code m (work_of n works))) same ∙ ap (λ (o : Option Work). Some (twin_method c.pool code m o)) found in
     let among : slice_get twin.methods number ≡ Some (twin_method c.pool code m (Some x)) =
     ap (λ (t : ClassFile). slice_get t.methods number) w.is

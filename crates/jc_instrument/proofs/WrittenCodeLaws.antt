@@ -11,6 +11,7 @@ use Rattle.jc_base.specs.WellMade.{IsWellMadeOfAnySize}
 use Rattle.jc_base.specs.declared.body.Body.{Body}
 use Rattle.jc_base.specs.declared.kind.State.{State}
 use Rattle.jc_base.specs.declared.refusal.RefusalKind.TheVariants as kinds
+use Rattle.jc_base.proofs.ListLaws.{all_at}
 use Rattle.jc_pool.specs.Adding.{Extends, IsFirst}
 use Rattle.jc_pool.specs.Lookup.{Member as MemberText, member_of, utf8_of}
 use Rattle.jc_pool.specs.Pool.{PoolValue}
@@ -29,7 +30,7 @@ use Rattle.jc_verify.specs.WrittenCode.{IsWrittenCode}
 use Rattle.jc_verify.proofs.ReadBytesLaws.{HasOnlyBytes}
 use Rattle.jc_verify.proofs.ReadNumbersLaws.{body_short}
 use Rattle.jc_verify.proofs.WrittenCodeLaws.{written_code as code_written}
-use Rattle.jc_instrument.proofs.ListedLaws.{all_at, body_at}
+use Rattle.jc_instrument.proofs.ListedLaws.{body_at}
 use Rattle.jc_instrument.specs.Analysis.{all_probes}
 use Rattle.jc_instrument.specs.Contents.{Content, member_entry, text_entry}
 use Rattle.jc_instrument.specs.Members.{AreTextPlaces, IsFirstIfAny}

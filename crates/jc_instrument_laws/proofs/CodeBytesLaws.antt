@@ -31,6 +31,7 @@ use Rattle.jc_insn.specs.Spells.{Spells, SpellsFrom}
 use Rattle.jc_insn.specs.Writing.{short, word, difference, signed_byte, signed_short, push_text, short_code, local_text, inc_text, constant_text, jump_text, arm_text, pad_text, insn_text, code_text}
 use Rattle.jc_insn.specs.declared.item.Item.TheVariants as items
 use Rattle.jc_insn.proofs.PlacesLaws.{well_formed_with}
+use Rattle.jc_insn.proofs.ItemReadingLaws.{insn_is, not_subroutine}
 use Rattle.jc_plan.proofs.CountLaws.{each_joined}
 use Rattle.jc_plan.specs.Plan.{lead_probe}
 use Rattle.jc_plan.specs.Probed.{probe_of}
@@ -297,17 +298,11 @@ module _ (b : Body) (first : ℕ) (small : AllByRecursion HasByte b.code) where
 
 -- ---- the code that was read
 
-insn_same : (a b : Insn) → items.Insn a ≡ items.Insn b → a ≡ b
-insn_same a b e = cc
-
 abbrev Known : Insn → Insn → Type 0
 Known insn known = items.Insn insn ≡ items.Insn known
 
 by_known : (insn known : Insn) → Known insn known → HasByte known → HasByte insn
-by_known insn known is small = subst HasByte (sym (insn_same insn known is)) small
-
-not_subroutine : (insn : Insn) → items.Insn insn ≡ items.Subroutine → ⊥
-not_subroutine insn e = cc
+by_known insn known is small = subst HasByte (sym (insn_is insn known is)) small
 
 wide_byte : (form : Form) (op : ℕ) (rest : List ℕ) (insn : Insn) → wide_operands form op rest (items.Insn insn) → HasByte insn
 unfolding wide_operands

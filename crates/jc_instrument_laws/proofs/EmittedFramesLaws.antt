@@ -7,7 +7,8 @@ use Rattle.jc_base.specs.PlainLists.{pieces, total}
 use Rattle.jc_base.specs.declared.body.Body.{Body}
 use Rattle.jc_base.specs.declared.body.FrameAt.{FrameAt}
 use Rattle.jc_base.specs.declared.kind.State.{State}
-use Rattle.jc_base.proofs.FirstSeenLaws.{contains_none, contains_one}
+use Rattle.jc_base.proofs.FirstSeenLaws.{contains_one}
+use Rattle.jc_base.proofs.TestLaws.{none_in}
 use Rattle.jc_plan.specs.declared.branch.Branch.{Branch}
 use Rattle.jc_plan.specs.Plan.{lead_probe}
 use Rattle.jc_plan.specs.Probed.{probe_of}
@@ -55,14 +56,14 @@ module _ (b : Body) (first : ℕ) (states : List State) (array : ℕ) where
   one_moved t q s f of c = moved_frame q s f of (if_listed t (frame q (moved s)) f c).1
 
   arms_moved : (here : ℕ) (s : State) (xs : List Branch) → IsOf s → (f : FrameAt) → Contains (arm_frames b first states array here (moved s) xs) f → IsMoved f
-  arms_moved here s [] of f c = absurd (contains_none f c)
+  arms_moved here s [] of f c = absurd (none_in f c)
   arms_moved here s (x ∷ xs) of f c =
       ⊎_elim (λ front. single (probe_of b first x) front)
       (λ rest. arms_moved (here + hop_size (probe_of b first x)) s xs of f rest)
       (Contains-append_cases (arm_frame b first states array here (moved s) (probe_of b first x)) _ f c)
     where
       single : (o : Option ℕ) → Contains (arm_frame b first states array here (moved s) o) f → IsMoved f
-      single None d = absurd (contains_none f d)
+      single None d = absurd (none_in f d)
       single (Some id) d = moved_frame here s f of (contains_one (frame here (moved s)) f d)
 
   abbrev lead_frames : ℕ → List FrameAt

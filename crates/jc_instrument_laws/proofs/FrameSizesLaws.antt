@@ -1,15 +1,16 @@
 -- How many bytes the text of full frames and of tables has at most.
-use Rattle.std.proofs.Common.{◌≡◌, ◌⊎◌, inl, inr, ℕ, zero, suc, ◌+◌, ◌*◌, ◌-◌, ◌<◌, ◌≤◌, Bool, true, false, List, [], ◌∷◌, ◌++◌, length, map, take, drop, refl, sym, ◌∙◌, ap, arith, length-append}
+use Rattle.std.proofs.Common.{◌≡◌, ◌⊎◌, inl, inr, ℕ, zero, suc, ◌+◌, ◌*◌, ◌-◌, ◌<◌, ◌≤◌, false, List, [], ◌∷◌, ◌++◌, length, map, take, drop, refl, sym, ◌∙◌, ap, arith, length-append}
 use Rattle.std.specs.List.{flat_map, AllByRecursion}
 use Rattle.std.proofs.Math.Nat.{add-mul, one-mul}
 use Rattle.std.proofs.Math.ListN.{drop_of_length-le}
 use Rattle.std.proofs.lemmas.Bool.{cases_lt}
 use Rattle.std.proofs.lemmas.Grind.{flat_map-append}
 use Rattle.std.proofs.lemmas.List.{take-append-drop, length-drop}
-use Rattle.jc_base.specs.Held.{Held, top, int, float, double, long, null, uninit_this, object, uninit, is_pair, SeenAt}
+use Rattle.jc_base.specs.Held.{Held, top, int, float, double, long, null, uninit_this, object, uninit, SeenAt}
 use Rattle.jc_class.specs.declared.class_file.Attribute.{Attribute}
-use Rattle.jc_frames.specs.Frames.{trimmed, without_last_top, values_from, values_in}
+use Rattle.jc_frames.specs.Frames.{trimmed, values_in}
 use Rattle.jc_frames.specs.FullFrames as full
+use Rattle.jc_frames.proofs.ValuesLaws.{trimmed_few, values_few}
 use Rattle.jc_insn.specs.Writing.{short, word}
 use Rattle.jc_code.specs.CodeText.{attribute, attribute_text, counted_text, parts_of, table_attributes}
 
@@ -27,22 +28,8 @@ frame_short_count x = refl
 
 -- ---- frames
 
-trimmed_most : (hs : List Held) → length (trimmed hs) ≤ length hs
-trimmed_most [] = omega arith
-trimmed_most (h ∷ hs) = let most = trimmed_most hs in let one = by h (trimmed hs) in omega (arith, most, one)
-  where
-    by : (h : Held) (rest : List Held) → length (without_last_top h rest) ≤ suc (length rest)
-    by top [] = omega arith
-    by top (x ∷ rest) = omega arith
-    by h rest = omega arith
-
-from_most : (skips : Bool) (hs : List Held) → length (values_from skips hs) ≤ length hs
-from_most skips [] = omega arith
-from_most true (h ∷ hs) = let most = from_most false hs in omega (arith, most)
-from_most false (h ∷ hs) = let most = from_most (is_pair h) hs in omega (arith, most)
-
 values_most : (hs : List Held) → length (values_in hs) ≤ length hs
-values_most hs = let a = trimmed_most hs in let c = from_most false (trimmed hs) in omega (arith, a, c)
+values_most hs = let a = trimmed_few hs in let c = values_few false (trimmed hs) in omega (arith, a, c)
 
 module _ (p : full.Places) where
   type_most : (h : Held) → length (full.type_text p h) ≤ 3

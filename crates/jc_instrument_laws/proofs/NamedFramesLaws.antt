@@ -12,7 +12,7 @@ use Rattle.jc_base.specs.declared.body.FrameAt.{FrameAt}
 use Rattle.jc_base.specs.declared.kind.Kind.{Kind}
 use Rattle.jc_base.specs.declared.kind.Kind.TheVariants as kinds
 use Rattle.jc_base.specs.declared.kind.State.{State}
-use Rattle.jc_base.proofs.FirstSeenLaws.{contains_first, contains_later}
+use Rattle.jc_base.proofs.TestLaws.{first_in, later_in}
 use Rattle.jc_frames.specs.Frames.{values_in}
 use Rattle.jc_frames.specs.FullTable.{named_by, named_by_all}
 use Rattle.jc_kinds.specs.Answers.{AreStates}
@@ -134,7 +134,7 @@ module _ (names : Names) (b : Body) (made : IsWellMadeOfAnySize b) (texts : HasT
       → AllByRecursion IsSmallFrame (map (seen_at names) frames)
   small_frames [] each = tt
   small_frames (f ∷ frames) each =
-      (small_frame f (each f (contains_first f frames)), small_frames frames (λ g c. each g (contains_later f frames g c)))
+      (small_frame f (each f (first_in f frames)), small_frames frames (λ g c. each g (later_in f frames g c)))
 
   pub written_small : AllByRecursion IsSmallFrame (written_frames names (emission b first states array))
   written_small = small_frames (chosen_frames (emission b first states array)) (each_moved b first states array)

@@ -26,6 +26,7 @@ use Rattle.jc_after.specs.Table.{Row, table, find, forms_at}
 use Rattle.jc_after.specs.Wants.{is_int, accepts, accepts_all}
 use Rattle.jc_after.specs.declared.want.Want.TheVariants as wants
 use Rattle.jc_after.proofs.KeepLaws.{then_some, else_some}
+use Rattle.jc_after.proofs.AfterLaws.{all_of}
 use Rattle.jc_instrument_laws.proofs.ClassSpellingLaws.{bytes_both}
 use Rattle.jc_instrument_laws.proofs.PoolSpellingLaws.{IsText}
 
@@ -256,11 +257,6 @@ named_form f = list_all named_gives f.given
 
 named_row : Row → Bool
 named_row r = list_all named_form r.forms
-
-all_of : {X : Type 0} (test : X → Bool) (Fact : X → Type 0) → ((x : X) → test x ≡ true → Fact x) → (xs : List X) → list_all test xs ≡ true
-    → AllByRecursion Fact xs
-all_of test Fact f [] e = tt
-all_of test Fact f (x ∷ xs) e = let p = and_parts (test x) (list_all test xs) e in (f x p.0, all_of test Fact f xs p.1)
 
 gives_fact : (g : Gives) → named_gives g ≡ true → GivesNamed g
 unfolding named_gives

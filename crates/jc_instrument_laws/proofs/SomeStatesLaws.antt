@@ -21,6 +21,8 @@ use Rattle.jc_base.specs.declared.kind.State.{State}
 use Rattle.jc_base.proofs.EntryLaws.{entry_count}
 use Rattle.jc_base.proofs.MetNamesLaws.{grows_none, grows_both}
 use Rattle.jc_base.proofs.TestLaws.{fails_where}
+use Rattle.jc_base.proofs.NumberedLaws.{grown_count, number_kept, numbers_kept}
+use Rattle.jc_base.proofs.ListLaws.{put_cases}
 use Rattle.jc_after.specs.After.{insn_at, after_of}
 use Rattle.jc_after.specs.Answers.{IsStateOf}
 use Rattle.jc_after.proofs.LeaveLaws.{left_whole}
@@ -33,8 +35,7 @@ use Rattle.jc_kinds.specs.Walk.{IsKeptAt}
 use Rattle.jc_kinds.proofs.CheckLaws.{falls_into_decided}
 use Rattle.jc_kinds.proofs.FrameLaws.{frame_made, frame_numbered}
 use Rattle.jc_kinds.proofs.GrowLaws.{states_stay}
-use Rattle.jc_kinds.proofs.NumberLaws.{grown_count, state_numbered}
-use Rattle.jc_kinds.proofs.WalkLaws.{frame_needed, frame_is, entry_is, falls_is, pushed, kept_on}
+use Rattle.jc_kinds.proofs.WalkLaws.{frame_needed, frame_is, entry_is, falls_is, kept_on}
 
 -- ---- kinds that say what is held
 
@@ -78,10 +79,6 @@ record SomeKinds (names : Names) (hs : List Held) : Type 0 where
 later_names : (old new : Names) (grows : Grows old new) (rest : Names) → new ++ rest ≡ old ++ (grows.0 ++ rest)
 later_names old new grows rest = ap (λ (l : Names). l ++ rest) grows.1 ∙ append_assoc old grows.0 rest
 
-kinds_numbered : (old new : Names) (ks : List Kind) → Grows old new → AllByRecursion (IsNumbered (length old)) ks → AllByRecursion (IsNumbered (length new)) ks
-kinds_numbered old new ks grows all =
-    (state_numbered (length old) (length new) (record { locals = ks; stack = [] }) (grown_count old new grows) (record { locals = all; stack = tt })).locals
-
 some_kinds : (names : Names) (hs : List Held) → SomeKinds names hs
 some_kinds names [] = record { new = names; grows = grows_none names; list = []; says = λ rest. refl; numbered = tt }
 some_kinds names (h ∷ hs) =
@@ -94,7 +91,7 @@ some_kinds names (h ∷ hs) =
       says = λ rest. ap₂ (λ (x : Held) (xs : List Held). x ∷ xs)
           (ap (λ (l : Names). held l one.kind) (later_names one.new others.new others.grows rest) ∙ one.says (others.grows.0 ++ rest))
           (others.says rest);
-      numbered = ((kinds_numbered one.new others.new (one.kind ∷ []) others.grows (one.numbered, tt)).0, others.numbered);
+      numbered = (number_kept (length one.new) (length others.new) one.kind (grown_count one.new others.new others.grows) one.numbered, others.numbered);
     }
 
 record SomeState (names : Names) (s : Seen) : Type 0 where
@@ -117,7 +114,7 @@ some_state names s =
           ∙ locals.says (stack.grows.0 ++ rest) in
           let says_stack = stack.says rest in
           λ i. record { locals = says_locals i; stack = says_stack i };
-      numbered = record { locals = kinds_numbered locals.new stack.new locals.list stack.grows locals.numbered; stack = stack.numbered };
+      numbered = record { locals = numbers_kept (length locals.new) (length stack.new) locals.list (grown_count locals.new stack.new stack.grows) locals.numbered; stack = stack.numbered };
     }
 
 says_now : (names : Names) (s : Seen) (some : SomeState names s) → seen some.new some.state ≡ s
@@ -352,7 +349,7 @@ module _ (old : Names) (b : Body) (made : IsWellMade b) (numbered : AreNumberedF
         grows = grows_both old before.names next.new before.grows next.grows;
         states = before.states ++ next.state ∷ [];
         count = omega (arith, count, more);
-        each = λ k s at. each before next k s (pushed before.states next.state s k at);
+        each = λ k s at. each before next k s (put_cases before.states next.state s k at);
       }
     where
       each : (before : SomeStates old b n) (next : NextState old before.names b n) (k : ℕ) (s : State)

@@ -9,20 +9,21 @@ use Rattle.jc_base.specs.EntryState.{entry_of}
 use Rattle.jc_base.specs.WellMade.{IsWellMade}
 use Rattle.jc_base.specs.declared.body.Body.{Body}
 use Rattle.jc_base.proofs.MetNamesLaws.{grows_none, grows_both}
+use Rattle.jc_base.proofs.NumberedLaws.{grown_count, frames_numbered}
+use Rattle.jc_base.proofs.ListLaws.{put_last, put_cases, item_at}
 use Rattle.jc_class.specs.declared.class_file.ClassFile.{ClassFile}
 use Rattle.jc_after.specs.After.{after_of}
 use Rattle.jc_kinds.specs.Checked.{Checked, at_handler}
 use Rattle.jc_kinds.specs.Fits.{FitsThere}
 use Rattle.jc_kinds.specs.States.{state_of}
 use Rattle.jc_kinds.proofs.GrowLaws.{states_stay}
-use Rattle.jc_kinds.proofs.NumberLaws.{frames_numbered, grown_count}
 use Rattle.jc_plan.specs.Probed.{first_id}
 use Rattle.jc_emit.specs.Shift.{probe_array_class}
 use Rattle.jc_instrument.specs.Bodies.{AreBodies}
 use Rattle.jc_instrument.specs.Probing.{work}
 use Rattle.jc_instrument.specs.Works.{Work, bodies_of, IsWork, AreWorks}
 use Rattle.jc_instrument.proofs.FrameCauseLaws.{each_at}
-use Rattle.jc_instrument.proofs.ListedLaws.{grown_bodies, item_at, put_cases, put_last}
+use Rattle.jc_instrument.proofs.ListedLaws.{grown_bodies}
 use Rattle.jc_instrument.proofs.ProbingLaws.{nothing_at, work_grown}
 use Rattle.jc_instrument.proofs.SomeBodiesLaws.{AllBodies}
 use Rattle.jc_instrument_laws.proofs.SomeStatesLaws.{AllStates, all_states}

@@ -1,5 +1,5 @@
 -- The twin class that is written has a text of bytes.
-use Rattle.std.proofs.Common.{◌≡◌, ◌⊎◌, inl, inr, ℕ, zero, suc, ◌+◌, ◌<◌, ◌≤◌, Bool, true, false, List, [], ◌∷◌, ◌++◌, length, map, Option, Some, None, slice_get, refl, sym, ◌∙◌, ap, subst, arith, if◌then◌else◌, nat_eq, unwrap_or}
+use Rattle.std.proofs.Common.{◌≡◌, ◌⊎◌, inl, inr, ℕ, suc, ◌+◌, ◌<◌, ◌≤◌, Bool, true, false, List, [], ◌∷◌, ◌++◌, length, map, Option, Some, None, slice_get, refl, sym, ◌∙◌, ap, subst, arith, if◌then◌else◌, nat_eq, unwrap_or}
 use Rattle.std.specs.Prelude.{codes}
 use Rattle.std.specs.Int.{bytes_high_first, w64, cast_signed}
 use Rattle.std.specs.List.{AllByRecursion}
@@ -20,6 +20,7 @@ use Rattle.jc_base.specs.declared.body.What.{What}
 use Rattle.jc_base.specs.declared.body.What.TheVariants as whats
 use Rattle.jc_base.specs.declared.insn.Insn.{Insn}
 use Rattle.jc_base.proofs.AppendingLaws.{big_spells}
+use Rattle.jc_base.proofs.ListLaws.{all_at}
 use Rattle.jc_pool.specs.Pool.{PoolValue}
 use Rattle.jc_class.specs.ClassId.{class_id}
 use Rattle.jc_class.specs.ClassText.{ClassText}
@@ -59,7 +60,7 @@ use Rattle.jc_instrument_laws.proofs.NamedStatesLaws.{HasTexts, entry_named, fra
 use Rattle.jc_instrument_laws.proofs.NamedStepsLaws.{AreNamed, UseNamed, bytes_by}
 use Rattle.jc_instrument_laws.proofs.PoolSpellingLaws.{IsPlain, IsSpelledLong, IsText, each_spelled, spelled_pool}
 use Rattle.jc_instrument.proofs.PoolTextLaws.{IsReadPool, class_are, class_pool, class_short, utf8_are, utf8_short}
-use Rattle.jc_instrument.proofs.ListedLaws.{all_at, body_at}
+use Rattle.jc_instrument.proofs.ListedLaws.{body_at}
 use Rattle.jc_instrument.proofs.ProbingLaws.{emission_code}
 use Rattle.jc_instrument_laws.proofs.ReadClassLaws.{IsReadClass, AreReadItems, class_read, code_read, id_below, items_read}
 use Rattle.jc_instrument.proofs.RoomDecidedLaws.{has_local_room, has_stack_room, short_code}

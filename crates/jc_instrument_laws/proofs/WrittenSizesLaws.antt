@@ -1,5 +1,5 @@
 -- The text of an instrumented Code attribute is no longer than an attribute may be.
-use Rattle.std.proofs.Common.{◌≡◌, ℕ, ◌+◌, ◌*◌, ◌-◌, ◌≤◌, false, List, [], ◌∷◌, ◌++◌, length, map, refl, sym, ◌∙◌, ap, subst, arith, length-append}
+use Rattle.std.proofs.Common.{◌≡◌, ℕ, ◌+◌, ◌*◌, ◌-◌, ◌≤◌, false, List, [], ◌∷◌, ◌++◌, length, map, sym, ◌∙◌, ap, subst, arith, length-append}
 use Rattle.std.specs.List.{flat_map, AllByRecursion}
 use Rattle.std.proofs.Math.Nat.{add-mul, mul-add, mul_assoc, mul_comm, mul-le-mul, mul-le-mul_right}
 use Rattle.std.proofs.lemmas.Grind.{flat_map-append}
@@ -27,6 +27,7 @@ use Rattle.jc_layout.proofs.ChoiceLaws.{text_length}
 use Rattle.jc_code.specs.CodeText.{attribute_text, counted_text, row_text, line_text, var_text, table_attributes, frame_attributes}
 use Rattle.jc_code.specs.FirstPlaces.{text_place}
 use Rattle.jc_code.specs.TwinCode.{chosen_frames, written_frames, offset_in, places_of, lines_name, vars_name, kind_vars_name, code_attributes, twin_code}
+use Rattle.jc_code.proofs.TwinCodeLaws.{placed_size}
 use Rattle.jc_instrument.specs.RoomCauses.{probed_code}
 use Rattle.jc_instrument_laws.proofs.CodeWeightLaws.{code_least}
 use Rattle.jc_instrument_laws.proofs.EmittedFramesLaws.{arms_size, written_most}
@@ -73,15 +74,6 @@ table_few name k text each xs most few =
     let turned = mul_comm (length xs) k in
     let all = tables_most name text xs in
     omega (arith, size, turned, all, most, few)
-
-place_count : (call : ℕ) (bytes : List ℕ) → length (with_place call bytes) ≡ length bytes
-place_count call [] = refl
-place_count call (a ∷ []) = refl
-place_count call (a ∷ b ∷ []) = refl
-place_count call (op ∷ high ∷ low ∷ bytes) =
-    let count = short_count call in
-    let both = length-append (short call) bytes in
-    omega (arith, count, both)
 
 -- the frames
 frames_few : (name most size : ℕ) (p : full.Places) (frames : List SeenAt) → AllByRecursion (λ f. length f.state.locals + length f.state.stack ≤ most) frames
@@ -216,7 +208,7 @@ module _ (names : Names) (b : Body) (first : ℕ) (states : List State) (array :
         let stack_size = short_count e.max_stack in
         let locals_size = short_count e.max_locals in
         let code_size = word_count (length code) in
-        let same = place_count method (chosen_text e.code) in
+        let same = placed_size method (chosen_text e.code) in
         let few = code_count in
         let rows_size = rows_few in
         let attributes_size = attributes_few in

@@ -21,13 +21,13 @@ use Rattle.jc_kinds.specs.Guarded.{IsUnguarded}
 use Rattle.jc_kinds.specs.Walk.{IsKeptEntry, IsFlowClash, IsWalk, IsWalkFrom}
 use Rattle.std.proofs.lemmas.Option.{none-some}
 use Rattle.jc_base.proofs.TestLaws.{none_in}
+use Rattle.jc_base.proofs.NumberedLaws.{grown_count, seen_grown, state_numbered, frames_numbered}
 use Rattle.jc_kinds.proofs.CheckLaws.{checked}
 use Rattle.jc_kinds.proofs.FirstLaws.{instead_first, either_first}
 use Rattle.jc_kinds.proofs.GrowLaws.{states_stay}
 use Rattle.jc_kinds.proofs.HandlerLaws.{unguarded_clashes, clash_unguarded}
 use Rattle.jc_kinds.proofs.FrameLaws.{frames_within}
 use Rattle.jc_kinds.proofs.MissingLaws.{few_insns}
-use Rattle.jc_kinds.proofs.NumberLaws.{grown_count, seen_kept, state_numbered, frames_numbered}
 
 -- ---- under more names
 
@@ -116,7 +116,7 @@ module _ (old new : Names) (b : Body) (keeps : Bool) (count : ℕ) (states : Lis
 
 pub entry_on : (old new : Names) (b : Body) (s : State) → Grows old new → IsKeptEntry old b s → IsKeptEntry new b s
 entry_on old new b s g k = record {
-  is = seen_kept old new s g k.numbered ∙ k.is;
+  is = seen_grown old new s g k.numbered ∙ k.is;
   numbered = state_numbered (length old) (length new) s (grown_count old new g) k.numbered;
   well_made = k.well_made;
 }

@@ -22,8 +22,8 @@ use Rattle.jc_after.specs.Answers.{IsStateOf, IsWhole, LeavesState}
 use Rattle.jc_kinds.specs.Walk.{fits_frame, Begins, passes, IsStep, StopsAt, IsKeptEntry, IsWalk}
 use Rattle.jc_kinds.proofs.CheckLaws.{falls_decided}
 use Rattle.jc_kinds.proofs.FrameLaws.{frame_made, frame_numbered}
-use Rattle.jc_kinds.proofs.NumberLaws.{grown_count, state_numbered}
 use Rattle.jc_base.proofs.MetNamesLaws.{grows_none}
+use Rattle.jc_base.proofs.NumberedLaws.{grown_count, state_numbered}
 use Rattle.jc_kinds.proofs.WalkLaws.{all_true, all_false, IsWalking, walk_begins, walk_begins_not}
 
 -- of each place once

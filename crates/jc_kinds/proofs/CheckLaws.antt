@@ -18,6 +18,7 @@ use Rattle.jc_kinds.specs.Checked.{JumpsTo, GoesOnFrom, LeadsTo, FallsInto, HasF
 use Rattle.jc_kinds.specs.Checking.{branches, guards, falls_into, has_frame, is_jump_target, is_handler_target, needs_frame, is_missing, entry_clash, branch_clash, handler_clash, is_clash, first_from, first_below, Verdict, passes, frame_missing, frame_clash, clash_or_passes, missing_or, verdict_of}
 use Rattle.std.proofs.lemmas.Option.{none-some, same_Some, slice_get_within}
 use Rattle.jc_base.proofs.TestLaws.{both, either, neither, instead, fails_where, equal_decided, at_most_decided, below_decided, first_in, later_in, which_in, any_decided, stands_in, place_of, none_decided}
+use Rattle.jc_base.proofs.LeastLaws.{least_one}
 use Rattle.jc_kinds.proofs.FitsLaws.{there_decided}
 
 -- ---- where control goes
@@ -228,12 +229,6 @@ checked_not_clash names b i c m = no_clash_in names b c i m.1.there
 
 pub missing_not_clash : (names : Names) (b : Body) (i j : ℕ) → FirstMissing b i → FirstClash names b j → ⊥
 missing_not_clash names b i j m c = c.0 i m.there
-
-least_one : (Fact : ℕ → Type 0) (i j : ℕ) → IsLeast Fact i → IsLeast Fact j → i ≡ j
-least_one Fact i j p q = ⊎_elim
-    (λ lt. absurd (q.first i lt p.there))
-    (λ le. ⊎_elim (λ gt. absurd (p.first j gt q.there)) (λ ge. omega (arith, le, ge)) (cases_lt j i))
-    (cases_lt i j)
 
 pub one_missing : (b : Body) (i j : ℕ) → FirstMissing b i → FirstMissing b j → i ≡ j
 one_missing b i j p q = least_one (IsMissing b) i j p q

@@ -10,6 +10,7 @@ use Rattle.jc_base.specs.declared.kind.Kind.TheVariants as kinds
 use Rattle.jc_base.specs.declared.kind.State.{State}
 use Rattle.jc_base.specs.declared.body.Handler.{Handler}
 use Rattle.jc_base.specs.declared.body.FrameAt.{FrameAt}
+use Rattle.jc_base.proofs.ListLaws.{below_or_last}
 use Rattle.jc_kinds.specs.KindFits.{kind_fits}
 use Rattle.jc_kinds.specs.First.{IsFirst}
 use Rattle.jc_kinds.specs.Frames.{frame_in}
@@ -125,9 +126,6 @@ no_rows_unfit column frames slot bound = none_first bound (λ i u. none_in u.han
 
 -- ---- one local variable more
 
-pub cases_last : (n k : ℕ) → k < n + 1 → (k < n) ⊎ (k ≡ n)
-cases_last n k lt = ⊎_elim (λ less. inl less) (λ ge. inr (omega (arith, lt, ge))) (cases_lt k n)
-
 pub no_slots : (states : List State) (frames : List FrameAt) (hs : List Handler) (bound result : ℕ) → IsFirst (IsUncaught frames hs) bound result → IsFirst (IsUnguarded states frames hs 0) bound result
 no_slots states frames hs bound result first = instead_first bound result (λ i lt u. inl u) (λ i lt e. ⊎_elim (λ u. u) (λ u. let none = u.1 in absurd (omega (arith, none))) e) first
 
@@ -141,7 +139,7 @@ next_slot states frames hs slot bound middle result old new =
     e)
     (λ i lt g. ⊎_elim
     (λ u. inl (inl u))
-    (λ u. ⊎_elim (λ less. inl (inr (u.0, less, u.2))) (λ same. inr (subst (λ (k : ℕ). IsUnfitInColumn (column_of states k) frames k hs i) same u.2)) (cases_last slot u.0 u.1))
+    (λ u. ⊎_elim (λ less. inl (inr (u.0, less, u.2))) (λ same. inr (subst (λ (k : ℕ). IsUnfitInColumn (column_of states k) frames k hs i) same u.2)) (below_or_last slot u.0 u.1))
     g)
     (either_first bound middle result old new)
 
@@ -159,7 +157,7 @@ fit_next states slot start at want s lt is fits before = λ k from less.
     ⊎_elim
     (λ sooner. before k from sooner)
     (λ same. subst (λ (n : ℕ). kind_fits (kind_at (column_of states slot) n) want ≡ true) (sym same) (ap (λ (kind : Kind). kind_fits kind want) (column_at states slot at s lt is) ∙ fits))
-    (cases_last at k less)
+    (below_or_last at k less)
 
 -- any type fits Top
 pub top_fits : (column : List Kind) (h : Handler) (want : Kind) (bound : ℕ) → want ≡ kinds.Top → IsFirst (IsUnfitInRow column h want) bound bound

@@ -23,10 +23,10 @@ use Rattle.jc_kinds.specs.Runs.{kind_at}
 use Rattle.jc_kinds.specs.Guarded.{local_at, column_of, wanted_at, takes_object, catches, frame_catches, IsUnguarded}
 use Rattle.jc_kinds.specs.Walk.{IsKeptAt}
 use Rattle.jc_base.proofs.TestLaws.{fails_where}
+use Rattle.jc_base.proofs.NumberedLaws.{seen_grown}
 use Rattle.jc_kinds.proofs.FitsLaws.{state_decided}
 use Rattle.jc_kinds.proofs.KindFitsLaws.{each_held_fits}
 use Rattle.jc_kinds.proofs.FrameLaws.{frame_made, frame_numbered}
-use Rattle.jc_kinds.proofs.NumberLaws.{seen_kept}
 use Rattle.jc_kinds.proofs.WalkLaws.{frame_is, frame_needed}
 
 -- ---- one local variable
@@ -87,7 +87,7 @@ module _ (old now : Names) (b : Body) (states : List State) (i : ℕ) (s : State
       let left : at_handler b h (state_of old b i) ≡ Some (record { locals = map (held now) s.locals; stack = object c.0 ∷ [] }) =
       ap (at_handler b h) kept.is ∙ ap (λ (x : Held). Some (record { locals = map (held now) s.locals; stack = x ∷ [] })) c.1 in
       let right : state_of old b h.target ≡ Some (seen now f) =
-      frame_is old b h.target f e ∙ ap Some (sym (seen_kept old now f grown (frame_numbered (length old) b.frames frames h.target f e))) in
+      frame_is old b h.target f e ∙ ap Some (sym (seen_grown old now f grown (frame_numbered (length old) b.frames frames h.target f e))) in
       let both : FitState (record { locals = map (held now) s.locals; stack = object c.0 ∷ [] }) (seen now f) =
       subst (FitsThere (Some (record { locals = map (held now) s.locals; stack = object c.0 ∷ [] }))) right (subst (λ (t : Option Seen). FitsThere t (state_of old b h.target)) left fit) in
       fails_where (state_decided (record { locals = map (held now) s.locals; stack = object c.0 ∷ [] }) (seen now f))
@@ -100,7 +100,7 @@ module _ (old now : Names) (b : Body) (states : List State) (i : ℕ) (s : State
       let left : at_handler b h (state_of old b i) ≡ Some (record { locals = map (held now) s.locals; stack = object c.0 ∷ [] }) =
       ap (at_handler b h) kept.is ∙ ap (λ (x : Held). Some (record { locals = map (held now) s.locals; stack = x ∷ [] })) c.1 in
       let right : state_of old b h.target ≡ Some (seen now f) =
-      frame_is old b h.target f e ∙ ap Some (sym (seen_kept old now f grown (frame_numbered (length old) b.frames frames h.target f e))) in
+      frame_is old b h.target f e ∙ ap Some (sym (seen_grown old now f grown (frame_numbered (length old) b.frames frames h.target f e))) in
       subst (λ (t : Option Seen). FitsThere t (state_of old b h.target)) (sym left)
       (subst (FitsThere (Some (record { locals = map (held now) s.locals; stack = object c.0 ∷ [] }))) (sym right)
       ((state_decided (record { locals = map (held now) s.locals; stack = object c.0 ∷ [] }) (seen now f)).to

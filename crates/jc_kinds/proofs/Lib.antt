@@ -8,7 +8,6 @@ pub mod MarkLaws
 pub mod MissingLaws
 pub mod RunLaws
 pub mod GuardLaws
-pub mod NumberLaws
 pub mod WalkLaws
 pub mod HandlerLaws
 pub mod AnswerLaws

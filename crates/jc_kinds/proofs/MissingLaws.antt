@@ -1,14 +1,12 @@
 -- Instructions that need a frame that isn't there, and the first of them.
-use Rattle.std.proofs.Common.{◌≡◌, ℕ, ◌+◌, ◌<◌, ◌≤◌, Bool, true, false, not, ◌&&◌, List, [], ◌∷◌, length, Option, Some, None, is_some, refl, sym, ◌∙◌, ap, arith}
+use Rattle.std.proofs.Common.{◌≡◌, ℕ, ◌<◌, ◌≤◌, Bool, true, false, not, ◌&&◌, length, Option, Some, None, is_some, refl, sym, ◌∙◌, ap, arith}
 use Rattle.std.specs.Borrow.{Bor}
 use Rattle.std.specs.Option.{option_copied}
-use Rattle.jc_base.specs.declared.insn.Insn.{Insn}
 use Rattle.jc_base.specs.declared.kind.State.{State}
 use Rattle.jc_base.specs.declared.body.Body.{Body}
-use Rattle.std.proofs.lemmas.List.Sums.{sum_by-cons}
-use Rattle.jc_base.specs.Insn.{arm_count}
 use Rattle.jc_base.specs.Least.{IsNowhere}
-use Rattle.jc_base.specs.WellMade.{IsWellMade, insns_and_arms}
+use Rattle.jc_base.specs.WellMade.{IsWellMade}
+use Rattle.jc_base.proofs.PlacedInsnLaws as arms
 use Rattle.jc_kinds.specs.Checked.{IsMissing, FirstMissing}
 use Rattle.jc_kinds.specs.Checking.{needs_frame, has_frame, is_missing}
 use Rattle.jc_kinds.specs.Frames.{frame_in}
@@ -32,12 +30,8 @@ frame_missing b at o r needs is none =
     ∙ ap not (sym (copied_some o) ∙ ap is_some is ∙ sym (frame_found b.frames at))
     ∙ ap (λ (n : Bool). n && not (has_frame b at)) (sym needs)
 
-each_counts : (code : List Insn) → length code ≤ insns_and_arms code
-each_counts [] = omega arith
-each_counts (insn ∷ code) = let more = each_counts code in let e = sum_by-cons (λ x. 1 + arm_count x) insn code in omega (arith, more, e)
-
 pub few_insns : (b : Body) → IsWellMade b → length b.code ≤ 65535
-few_insns b made = let few = made.of_any_size.code.few in let each = each_counts b.code in omega (arith, few, each)
+few_insns b made = let few = made.of_any_size.code.few in let each = arms.few_insns b.code in omega (arith, few, each)
 
 pub first_found : (b : Body) (at : ℕ) → at < length b.code → ((k : ℕ) → k < at → is_missing b k ≡ false) → is_missing b at ≡ true → FirstMissing b at
 first_found b at lt before here = least_missing b at (omega arith, lt, here, λ k low less. before k less)

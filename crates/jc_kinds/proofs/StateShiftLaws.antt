@@ -21,6 +21,7 @@ use Rattle.jc_after.specs.Shift.{StaysWhole}
 use Rattle.jc_after.proofs.AfterLaws.{after_shifts}
 use Rattle.jc_after.proofs.LeaveLaws.{insn_of}
 use Rattle.jc_after.proofs.WholeLaws.{StaysRound, after_stays}
+use Rattle.jc_after.proofs.LocalsLaws.{get_held}
 use Rattle.jc_kinds.specs.States.{frames_of, frame_at, falls_at, or_else, state_of}
 use Rattle.jc_kinds.specs.StateShift.{IsStraddled, StatesStayWhole, StatesShift}
 
@@ -56,7 +57,7 @@ entry_whole b w k e =
 
 -- ---- frames
 
-frame_is : (names : Names) (frames : List FrameAt) (i : ℕ) (s : Seen) → frame_at (map (seen_at names) frames) i ≡ Some s → (f : FrameAt) × Contains frames f × (f.at ≡ i) × (seen names f.state ≡ s)
+pub frame_is : (names : Names) (frames : List FrameAt) (i : ℕ) (s : Seen) → frame_at (map (seen_at names) frames) i ≡ Some s → (f : FrameAt) × Contains frames f × (f.at ≡ i) × (seen names f.state ≡ s)
 frame_is names [] i s e = absurd (none-some _ e)
 frame_is names (f ∷ frames) i s e = by (λ h. frame_is names frames i s h) (nat_eq f.at i) refl e
   where
@@ -65,15 +66,10 @@ frame_is names (f ∷ frames) i s e = by (λ h. frame_is names frames i s h) (na
     by more true is e = (f, first_in f frames, eqb-true f.at i is, same_Some (seen names f.state) s e)
     by more false is e = let m = more e in (m.0, later_in f frames m.0 m.1, m.2, m.3)
 
-frame_state : (first : ℕ) (code : List Insn) (locals stack : ℕ) (frames : List FrameAt) (f : FrameAt) (k : ℕ) → AreFramesFrom first code locals stack frames → k < length frames → get_or frames k f ≡ f → IsState code locals stack f.state
+pub frame_state : (first : ℕ) (code : List Insn) (locals stack : ℕ) (frames : List FrameAt) (f : FrameAt) (k : ℕ) → AreFramesFrom first code locals stack frames → k < length frames → get_or frames k f ≡ f → IsState code locals stack f.state
 frame_state first code locals stack [] f k are lt e = absurd (omega (arith, lt))
 frame_state first code locals stack (g ∷ frames) f zero are lt e = subst (λ (x : FrameAt). IsState code locals stack x.state) e are.2
 frame_state first code locals stack (g ∷ frames) f (suc k) are lt e = frame_state (g.at + 1) code locals stack frames f k are.3 (omega (arith, lt)) e
-
-get_held : (names : Names) (ks : List Kind) (k : ℕ) → get_or (map (held names) ks) k top ≡ held names (get_or ks k kinds.Top)
-get_held names [] k = refl
-get_held names (x ∷ ks) zero = refl
-get_held names (x ∷ ks) (suc k) = get_held names ks k
 
 held_single : (names : Names) (k : Kind) → (kind_slots k ≡ 2 → ⊥) → is_pair (held names k) ≡ false
 held_single names kinds.Top one = refl

@@ -1,5 +1,5 @@
 -- One instruction on.
-use Rattle.std.proofs.Common.{◌≡◌, ◌⊎◌, inl, inr, ⊎_elim, ℕ, zero, suc, ◌+◌, ◌<◌, Bool, true, false, ◌&&◌, List, [], ◌∷◌, ◌++◌, length, Option, Some, None, is_some, option_map, unwrap_or, refl, sym, ◌∙◌, ap, subst, arith, add-one, if◌then◌else◌}
+use Rattle.std.proofs.Common.{◌≡◌, inl, inr, ⊎_elim, ℕ, zero, suc, ◌+◌, ◌<◌, Bool, true, false, ◌&&◌, List, [], ◌∷◌, ◌++◌, length, Option, Some, None, is_some, option_map, unwrap_or, refl, sym, ◌∙◌, ap, subst, arith, add-one, if◌then◌else◌}
 use Rattle.std.specs.Option.{option_and_then}
 use Rattle.std.specs.List.{Contains, All, AllByRecursion, list_all, slice_get}
 use Rattle.std.proofs.lemmas.Bool.{cases_lt, and_parts, true≢false}
@@ -21,14 +21,15 @@ use Rattle.jc_kinds.specs.Checking.{branches}
 use Rattle.jc_kinds.specs.Frames.{frame_in}
 use Rattle.jc_kinds.specs.KindFits.{state_fits}
 use Rattle.jc_kinds.specs.Walk.{fits_there, fits_frame, Begins, IsStep, StopsAt, IsKeptAt, IsFlowClash, kept_of, IsWalk}
-use Rattle.std.proofs.lemmas.Option.{none-some, same_Some}
+use Rattle.std.proofs.lemmas.Option.{none-some}
 use Rattle.jc_base.proofs.TestLaws.{fails_where, stands_in, first_in, later_in}
 use Rattle.jc_kinds.proofs.FitsLaws.{fits_itself, state_decided}
 use Rattle.jc_kinds.proofs.CheckLaws.{has_frame_decided, goes_on_decided, falls_into_decided, leads_decided}
 use Rattle.jc_kinds.proofs.KindFitsLaws.{state_held_fits}
 use Rattle.jc_kinds.proofs.FrameLaws.{frame_seen, frame_found, frame_numbered}
-use Rattle.jc_kinds.proofs.NumberLaws.{grown_count, seen_kept, state_numbered}
 use Rattle.jc_base.proofs.MetNamesLaws.{grows_none, grows_both}
+use Rattle.jc_base.proofs.NumberedLaws.{grown_count, seen_grown, state_numbered}
+use Rattle.jc_base.proofs.ListLaws.{put_cases}
 
 -- ---- states that fit
 
@@ -137,7 +138,7 @@ module _ (old before after : Names) (b : Body) (i : ℕ) (s : State) (made : IsW
   after_is = ap (option_and_then (after_of b i)) here
 
   frame_later : (j : ℕ) (f : State) → frame_in b.frames j ≡ Some f → state_of old b j ≡ Some (seen after f)
-  frame_later j f e = frame_is old b j f e ∙ ap Some (sym (seen_kept old after f grown (frame_numbered (length old) b.frames frames j f e)))
+  frame_later j f e = frame_is old b j f e ∙ ap Some (sym (seen_grown old after f grown (frame_numbered (length old) b.frames frames j f e)))
 
   -- where control goes on the state after the instruction fits
   leads_there : (left : State) (j : ℕ) → after_at old b i ≡ Some (seen after left) → LeadsTo b i j → fits_frame b.frames left j ≡ true → FitsThere (Some (seen after left)) (state_of old b j)
@@ -192,16 +193,9 @@ module _ (old before after : Names) (b : Body) (i : ℕ) (s : State) (made : IsW
 
 -- ---- the walk
 
--- an item that was put behind others
-pub pushed : {X : Type 0} (xs : List X) (x y : X) (k : ℕ) → slice_get (xs ++ x ∷ []) k ≡ Some y → (slice_get xs k ≡ Some y) ⊎ ((k ≡ length xs) × (x ≡ y))
-pushed [] x y zero e = inr (refl, same_Some x y e)
-pushed [] x y (suc k) e = absurd (none-some _ e)
-pushed (z ∷ xs) x y zero e = inl e
-pushed (z ∷ xs) x y (suc k) e = ⊎_elim (λ more. inl more) (λ last. inr (ap suc last.0, last.1)) (pushed xs x y k e)
-
 pub kept_on : (old before after : Names) (b : Body) (i : ℕ) (s : State) → Grows before after → IsKeptAt old before b i s → IsKeptAt old after b i s
 kept_on old before after b i s g k = record {
-  is = k.is ∙ ap Some (sym (seen_kept before after s g k.numbered));
+  is = k.is ∙ ap Some (sym (seen_grown before after s g k.numbered));
   numbered = state_numbered (length before) (length after) s (grown_count before after g) k.numbered;
   well_made = k.well_made;
 }
@@ -234,7 +228,7 @@ each_more : (old now : Names) (b : Body) (keeps : Bool) (states more : List Stat
 each_more old now b true states more i s count each here is k t e = ⊎_elim
     (λ old_one. each k t old_one)
     (λ last. subst (λ (n : ℕ). IsKeptAt old now b n t) (sym (last.0 ∙ count refl)) (subst (IsKeptAt old now b i) last.1 here))
-    (pushed states s t k (sym (ap (λ (l : List State). slice_get l k) is) ∙ e))
+    (put_cases states s t k (sym (ap (λ (l : List State). slice_get l k) is) ∙ e))
 each_more old now b false states more i s count each here is k t e = each k t (sym (ap (λ (l : List State). slice_get l k) (is ∙ append-nil states)) ∙ e)
 
 kept_more : (keeps : Bool) (states more : List State) (i : ℕ) (s : State) → (keeps ≡ true → length states ≡ i) → more ≡ states ++ kept_of keeps s → keeps ≡ true → length more ≡ i + 1

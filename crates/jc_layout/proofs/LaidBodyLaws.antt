@@ -13,7 +13,7 @@ use Rattle.jc_base.specs.declared.body.VarAt.{VarAt}
 use Rattle.jc_base.specs.declared.body.Use.{Use}
 use Rattle.jc_base.specs.declared.body.What.{What}
 use Rattle.jc_base.specs.declared.emitted.Emitted.{Emitted}
-use Rattle.jc_base.proofs.FirstSeenLaws.{contains_none, contains_first, contains_later, contains_cases}
+use Rattle.jc_base.proofs.TestLaws.{in_map, of_map}
 use Rattle.jc_insn.specs.Layouts.{laid_code}
 use Rattle.jc_emit.specs.Shift.{probe_array_class}
 use Rattle.jc_emit.specs.Marks.{image_place, land_place, lead_place}
@@ -25,7 +25,6 @@ use Rattle.jc_emit.specs.Emission.{emission, widened_frame, AreWidened}
 use Rattle.jc_emit.specs.Twin.{probe_init, Twin}
 use Rattle.jc_emit.proofs.Ends.{images_are, lands_are, leads_are}
 use Rattle.jc_emit.proofs.WholeLaws.{code_told}
-use Rattle.jc_emit.proofs.PlacedLaws.{contains_map}
 use Rattle.jc_emit.proofs.FrameLaws.{frames_told}
 use Rattle.jc_emit.proofs.WidenedLaws.{lead_is, land_is}
 use Rattle.jc_emit.proofs.WideTwinLaws.{widened_frames}
@@ -48,12 +47,6 @@ lines_twice p land (x ∷ lines) = ap (λ l. moved_line (λ i. p (land i)) x ∷
 vars_twice : (v : ℕ) (p land : ℕ → ℕ) (vars : List VarAt) → map (placed_var p) (map (moved_var v land) vars) ≡ map (moved_var v (λ i. p (land i))) vars
 vars_twice v p land [] = refl
 vars_twice v p land (x ∷ vars) = ap (λ l. moved_var v (λ i. p (land i)) x ∷ l) (vars_twice v p land vars)
-
-listed_map : {X Y : Type 0} (f : X → Y) (xs : List X) (x : X) → Contains xs x → Contains (map f xs) (f x)
-listed_map f [] x c = absurd (contains_none x c)
-listed_map f (y ∷ xs) x c =
-    ⊎_elim (λ same. subst (λ z. Contains (f y ∷ map f xs) (f z)) same (contains_first (f y) (map f xs)))
-    (λ later. contains_later (f y) (map f xs) (f x) (listed_map f xs x later)) (contains_cases y xs x c)
 
 -- ---- frames
 
@@ -84,10 +77,10 @@ module _ (b : Body) (first : ℕ) (states : List State) (array : ℕ) (names : L
             (merged_rises e.frames e.wide_frames 0 told.frames.rising told.wide_frames.rising
             (λ f c g d at. let asked = told.wide_frames.each f c in asked.1.further (g, d, at)));
         each = λ f c.
-            let from = contains_map (widened_frame (wide_place e.code)) (merged e.frames e.wide_frames) f c in
+            let from = of_map (widened_frame (wide_place e.code)) (merged e.frames e.wide_frames) f c in
             (from.0, merged_cases e.frames e.wide_frames from.0 from.1, from.2);
         every = λ g c.
-            listed_map (widened_frame (wide_place e.code)) (merged e.frames e.wide_frames) g
+            in_map (widened_frame (wide_place e.code)) (merged e.frames e.wide_frames) g
             (⊎_elim (λ old. merged_left e.frames e.wide_frames g old) (λ more. merged_right e.frames e.wide_frames g more) c);
       }
 

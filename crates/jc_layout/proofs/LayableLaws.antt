@@ -1,15 +1,14 @@
 -- Instrumented code can be laid out.
-use Rattle.std.proofs.Common.{◌≡◌, ⊎_elim, inl, inr, ℕ, ◌+◌, ◌<◌, false, List, [], ◌∷◌, map, length, get_or, Option, Some, None, refl, sym, ap, ◌∙◌, subst, arith, ◌≤◌, All}
-use Rattle.std.specs.Prelude.{slice_get, Contains}
+use Rattle.std.proofs.Common.{◌≡◌, ⊎_elim, inl, inr, ℕ, ◌+◌, ◌<◌, false, List, [], ◌∷◌, map, length, get_or, Option, Some, refl, sym, ap, ◌∙◌, subst, arith, ◌≤◌, All}
+use Rattle.std.specs.Prelude.{Contains}
 use Rattle.std.specs.List.{AllByRecursion, sum_by}
-use Rattle.std.proofs.lemmas.Bool.{cases_lt}
 use Rattle.std.proofs.lemmas.List.{length-map}
 use Rattle.std.proofs.lemmas.List.Elements.{All-map}
 use Rattle.std.proofs.lemmas.List.Sums.{sum_by-cons}
-use Rattle.std.proofs.lemmas.Option.{slice_get_past, slice_get-get_or}
+use Rattle.std.proofs.lemmas.Option.{slice_get-get_or, slice_get_within}
 use Rattle.jc_base.specs.PlainLists.{map_from}
 use Rattle.jc_base.specs.FirstSeen.{first_seen}
-use Rattle.jc_base.proofs.FirstSeenLaws.{contains_none, contains_cases, contains_first, contains_later, first_seen_all}
+use Rattle.jc_base.proofs.FirstSeenLaws.{first_seen_all}
 use Rattle.jc_base.specs.Flow.{flow_of, targets_of}
 use Rattle.jc_base.specs.Insn.{IsWellFormed, arm_count, with_places}
 use Rattle.jc_base.specs.InsnUse.{LeadsWithin}
@@ -20,6 +19,7 @@ use Rattle.jc_base.specs.declared.insn.Flow.{Flow}
 use Rattle.jc_base.specs.declared.insn.Flow.TheVariants as flows
 use Rattle.jc_base.specs.declared.body.Body.{Body}
 use Rattle.jc_base.specs.declared.kind.State.{State}
+use Rattle.jc_base.proofs.TestLaws.{none_in, which_in, first_in, later_in}
 use Rattle.jc_insn.proofs.PlacesLaws.{well_formed_with}
 use Rattle.jc_plan.specs.declared.branch.Branch.{Branch}
 use Rattle.jc_plan.specs.Edges.{arm, branches_by}
@@ -39,25 +39,18 @@ use Rattle.jc_layout.proofs.FormedLaws.{inverted_formed, slot_formed, call_forme
 
 -- ---- lists
 
-some_within : {X : Type 0} (xs : List X) (q : ℕ) (x : X) → slice_get xs q ≡ Some x → q < length xs
-some_within xs q x h =
-    ⊎_elim (λ below. below) (λ above. absurd (differ x (sym (slice_get_past xs q above) ∙ h))) (cases_lt q (length xs))
-  where
-    differ : {X : Type 0} (x : X) → None ≡ Some x → ⊥
-    differ x e = cc
-
 pub each_mapped : (f : ℕ → ℕ) (P : ℕ → Type 0) (xs : List ℕ) → ((x : ℕ) → Contains xs x → P (f x)) → AllByRecursion P (map f xs)
 each_mapped f P [] h = tt
-each_mapped f P (x ∷ xs) h = (h x (contains_first x xs), each_mapped f P xs (λ y c. h y (contains_later x xs y c)))
+each_mapped f P (x ∷ xs) h = (h x (first_in x xs), each_mapped f P xs (λ y c. h y (later_in x xs y c)))
 
 -- the branch of a switch's target
 pub branch_of : (i k : ℕ) (ts : List ℕ) (t : ℕ) → Contains ts t → (x : Branch) × Contains (map_from (arm i) k ts) x × (to_of x ≡ t)
-branch_of i k [] t c = absurd (contains_none t c)
+branch_of i k [] t c = absurd (none_in t c)
 branch_of i k (s ∷ ts) t c =
     ⊎_elim
-    (λ same. (arm i k s, contains_first (arm i k s) (map_from (arm i) (k + 1) ts), same))
-    (λ later. let x = branch_of i (k + 1) ts t later in (x.0, contains_later (arm i k s) (map_from (arm i) (k + 1) ts) x.0 x.1, x.2))
-    (contains_cases s ts t c)
+    (λ same. (arm i k s, first_in (arm i k s) (map_from (arm i) (k + 1) ts), same))
+    (λ later. let x = branch_of i (k + 1) ts t later in (x.0, later_in (arm i k s) (map_from (arm i) (k + 1) ts) x.0 x.1, x.2))
+    (which_in s ts t c)
 
 module _ (b : Body) (first : ℕ) (is_code : IsCode b.code) where
   abbrev items : List Item
@@ -106,7 +99,7 @@ module _ (b : Body) (first : ℕ) (is_code : IsCode b.code) where
   -- ---- where they lead
 
   lands_within : (q at : ℕ) (due : Option ℕ) → Lands b.code (Some b.arg_slots) (probe_of b first) items q at due → q < count
-  lands_within q at due h = some_within items q h.stands.item h.stands.here
+  lands_within q at due h = slice_get_within items q h.stands.item h.stands.here
 
   abbrev Within : List ℕ → Type 0
   Within ts = AllByRecursion (λ to. to < count) ts

@@ -9,9 +9,11 @@ use Rattle.jc_base.specs.declared.insn.Insn.{Insn}
 use Rattle.jc_base.specs.declared.insn.Flow.{Flow}
 use Rattle.jc_base.specs.declared.insn.Flow.TheVariants as flows
 use Rattle.jc_base.specs.declared.body.FrameAt.{FrameAt}
-use Rattle.jc_base.proofs.FirstSeenLaws.{contains_none, contains_one, contains_first, contains_later, contains_cases}
+use Rattle.jc_base.proofs.FirstSeenLaws.{contains_one}
 use Rattle.jc_base.specs.FrameOrder.{RiseFrom}
+use Rattle.jc_base.proofs.TestLaws.{none_in, which_in, first_in, later_in}
 use Rattle.jc_emit.specs.Emission.{widened_frame}
+use Rattle.jc_emit.proofs.TwinPremises.{risen}
 use Rattle.jc_layout.specs.Merged.{with_frame, merged}
 
 -- ---- what is listed
@@ -22,36 +24,36 @@ with_cases f (h ∷ frames) g c = by (λ later. with_cases f frames g later) (na
   where
     by : (Contains (with_frame f frames) g → (f ≡ g) ⊎ Contains frames g) → (t : Bool)
         → Contains (if t then f ∷ h ∷ frames else h ∷ with_frame f frames) g → (f ≡ g) ⊎ Contains (h ∷ frames) g
-    by rest true c = contains_cases f (h ∷ frames) g c
+    by rest true c = which_in f (h ∷ frames) g c
     by rest false c =
-        ⊎_elim (λ same. inr (subst (λ x. Contains (h ∷ frames) x) same (contains_first h frames)))
-        (λ later. ⊎_elim (λ same. inl same) (λ more. inr (contains_later h frames g more)) (rest later))
-        (contains_cases h (with_frame f frames) g c)
+        ⊎_elim (λ same. inr (subst (λ x. Contains (h ∷ frames) x) same (first_in h frames)))
+        (λ later. ⊎_elim (λ same. inl same) (λ more. inr (later_in h frames g more)) (rest later))
+        (which_in h (with_frame f frames) g c)
 
 with_here : (f : FrameAt) (frames : List FrameAt) → Contains (with_frame f frames) f
-with_here f [] = contains_first f []
+with_here f [] = first_in f []
 with_here f (h ∷ frames) = by (nat_lt f.at h.at) (with_here f frames)
   where
     by : (t : Bool) → Contains (with_frame f frames) f → Contains (if t then f ∷ h ∷ frames else h ∷ with_frame f frames) f
-    by true more = contains_first f (h ∷ frames)
-    by false more = contains_later h (with_frame f frames) f more
+    by true more = first_in f (h ∷ frames)
+    by false more = later_in h (with_frame f frames) f more
 
 with_others : (f : FrameAt) (frames : List FrameAt) (g : FrameAt) → Contains frames g → Contains (with_frame f frames) g
-with_others f [] g c = absurd (contains_none g c)
+with_others f [] g c = absurd (none_in g c)
 with_others f (h ∷ frames) g c = by (λ later. with_others f frames g later) (nat_lt f.at h.at)
   where
     by : (Contains frames g → Contains (with_frame f frames) g) → (t : Bool)
         → Contains (if t then f ∷ h ∷ frames else h ∷ with_frame f frames) g
-    by rest true = contains_later f (h ∷ frames) g c
+    by rest true = later_in f (h ∷ frames) g c
     by rest false =
-        ⊎_elim (λ same. subst (λ x. Contains (h ∷ with_frame f frames) x) same (contains_first h (with_frame f frames)))
-        (λ later. contains_later h (with_frame f frames) g (rest later)) (contains_cases h frames g c)
+        ⊎_elim (λ same. subst (λ x. Contains (h ∷ with_frame f frames) x) same (first_in h (with_frame f frames)))
+        (λ later. later_in h (with_frame f frames) g (rest later)) (which_in h frames g c)
 
 pub merged_cases : (frames others : List FrameAt) (g : FrameAt) → Contains (merged frames others) g → Contains frames g ⊎ Contains others g
 merged_cases frames [] g c = inl c
 merged_cases frames (f ∷ others) g c =
-    ⊎_elim (λ same. inr (subst (λ x. Contains (f ∷ others) x) same (contains_first f others)))
-    (λ more. ⊎_elim (λ old. inl old) (λ later. inr (contains_later f others g later)) (merged_cases frames others g more))
+    ⊎_elim (λ same. inr (subst (λ x. Contains (f ∷ others) x) same (first_in f others)))
+    (λ more. ⊎_elim (λ old. inl old) (λ later. inr (later_in f others g later)) (merged_cases frames others g more))
     (with_cases f (merged frames others) g c)
 
 pub merged_left : (frames others : List FrameAt) (g : FrameAt) → Contains frames g → Contains (merged frames others) g
@@ -59,20 +61,13 @@ merged_left frames [] g c = c
 merged_left frames (f ∷ others) g c = with_others f (merged frames others) g (merged_left frames others g c)
 
 pub merged_right : (frames others : List FrameAt) (g : FrameAt) → Contains others g → Contains (merged frames others) g
-merged_right frames [] g c = absurd (contains_none g c)
+merged_right frames [] g c = absurd (none_in g c)
 merged_right frames (f ∷ others) g c =
     ⊎_elim (λ same. subst (λ x. Contains (with_frame f (merged frames others)) x) same (with_here f (merged frames others)))
     (λ later. with_others f (merged frames others) g (merged_right frames others g later))
-    (contains_cases f others g c)
+    (which_in f others g c)
 
 -- ---- their order
-
-above_first : (from : ℕ) (frames : List FrameAt) (g : FrameAt) → RiseFrom from frames → Contains frames g → from ≤ g.at
-above_first from [] g r c = absurd (contains_none g c)
-above_first from (f ∷ frames) g r c =
-    ⊎_elim (λ same. let e : f.at ≡ g.at = ap (λ (x : FrameAt). x.at) same in omega (arith, e, r.0))
-    (λ later. let more = above_first (f.at + 1) frames g r.1 later in omega (arith, more, r.0))
-    (contains_cases f frames g c)
 
 not_below : (a b : ℕ) → nat_lt a b ≡ false → b ≤ a
 not_below a b e = grind (arith, nat_tests)
@@ -81,14 +76,14 @@ with_rises : (from : ℕ) (f : FrameAt) (frames : List FrameAt) → RiseFrom fro
     → ((g : FrameAt) → Contains frames g → g.at ≡ f.at → ⊥) → RiseFrom from (with_frame f frames)
 with_rises from f [] r le apart = (le, tt)
 with_rises from f (h ∷ frames) r le apart =
-    by (λ above. with_rises (h.at + 1) f frames r.1 above (λ g c. apart g (contains_later h frames g c))) (nat_lt f.at h.at) refl
+    by (λ above. with_rises (h.at + 1) f frames r.1 above (λ g c. apart g (later_in h frames g c))) (nat_lt f.at h.at) refl
   where
     by : (h.at + 1 ≤ f.at → RiseFrom (h.at + 1) (with_frame f frames)) → (t : Bool) → nat_lt f.at h.at ≡ t
         → RiseFrom from (if t then f ∷ h ∷ frames else h ∷ with_frame f frames)
     by rest true e = let below = ltb-true f.at h.at e in (le, (omega (arith, below), r.1))
     by rest false e =
         let above = not_below f.at h.at e in
-        let other : h.at ≡ f.at → ⊥ = apart h (contains_first h frames) in
+        let other : h.at ≡ f.at → ⊥ = apart h (first_in h frames) in
         (r.0, rest (omega (arith, above, other)))
 
 pub merged_rises : (frames others : List FrameAt) (from : ℕ) → RiseFrom 0 frames → RiseFrom from others
@@ -97,10 +92,10 @@ pub merged_rises : (frames others : List FrameAt) (from : ℕ) → RiseFrom 0 fr
 merged_rises frames [] from r s apart = r
 merged_rises frames (f ∷ others) from r s apart =
     with_rises 0 f (merged frames others)
-    (merged_rises frames others (f.at + 1) r s.1 (λ h c. apart h (contains_later f others h c))) (omega arith)
+    (merged_rises frames others (f.at + 1) r s.1 (λ h c. apart h (later_in f others h c))) (omega arith)
     (λ g c e.
-    ⊎_elim (λ old. apart f (contains_first f others) g old e)
-    (λ later. let above = above_first (f.at + 1) others g s.1 later in absurd (omega (arith, above, e)))
+    ⊎_elim (λ old. apart f (first_in f others) g old e)
+    (λ later. let above = risen (f.at + 1) others g s.1 later in absurd (omega (arith, above, e)))
     (merged_cases frames others g c))
 
 -- ---- in the wide code

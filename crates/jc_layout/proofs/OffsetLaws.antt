@@ -1,5 +1,5 @@
 -- Offsets, instruction by instruction.
-use Rattle.std.proofs.Common.{◌≡◌, ℕ, suc, ◌+◌, ◌*◌, ◌<◌, ◌≤◌, Bool, true, false, cond, List, [], ◌∷◌, ◌++◌, length, drop, get_or, refl, sym, ap, ◌∙◌, arith, append_assoc, add-one, nat_eq, nat_lt}
+use Rattle.std.proofs.Common.{◌≡◌, ℕ, suc, ◌+◌, ◌*◌, ◌<◌, ◌≤◌, Bool, List, [], ◌∷◌, ◌++◌, length, drop, get_or, refl, sym, ap, ◌∙◌, arith, append_assoc, add-one, nat_eq, nat_lt}
 use Rattle.std.proofs.Math.Seq.{drop-cons}
 use Rattle.std.proofs.lemmas.List.{drop_all}
 use Rattle.std.proofs.lemmas.List.Sums.{sum_by-cons}
@@ -12,13 +12,10 @@ use Rattle.jc_base.specs.declared.insn.Insn.TheVariants as insns
 use Rattle.jc_base.specs.Insn.{arm_count}
 use Rattle.jc_base.specs.WellMade.{insns_and_arms}
 use Rattle.jc_insn.specs.Sizes.{push_size, is_narrow_inc, size_of}
+use Rattle.jc_insn.proofs.SpelledInsnLaws.{cond_most}
 use Rattle.jc_layout.specs.Layout.{starts_from, starts_of}
 
 -- ---- sizes
-
-most_of : (b : Bool) (m n most : ℕ) → m ≤ most → n ≤ most → cond b m n ≤ most
-most_of true m n most p q = p
-most_of false m n most p q = q
 
 push_few : (form : Form) → push_size form ≤ 16
 push_few forms.PushByte = omega arith
@@ -29,9 +26,9 @@ pub size_bound : (at : ℕ) (wide : Bool) (insn : Insn) → size_of at wide insn
 size_bound at wide (insns.Simple op) = omega arith
 size_bound at wide (insns.Push op value) = push_few (form_of op)
 size_bound at wide (insns.Local op slot) =
-    most_of (nat_lt slot 4) 1 _ 16 (omega arith) (most_of (nat_lt slot 256) 2 4 16 (omega arith) (omega arith))
-size_bound at wide (insns.Inc slot by) = most_of (is_narrow_inc slot by) 3 6 16 (omega arith) (omega arith)
-size_bound at wide (insns.Constant place) = most_of (nat_lt place 256) 2 3 16 (omega arith) (omega arith)
+    cond_most (nat_lt slot 4) 1 _ 16 (omega arith) (cond_most (nat_lt slot 256) 2 4 16 (omega arith) (omega arith))
+size_bound at wide (insns.Inc slot by) = cond_most (is_narrow_inc slot by) 3 6 16 (omega arith) (omega arith)
+size_bound at wide (insns.Constant place) = cond_most (nat_lt place 256) 2 3 16 (omega arith) (omega arith)
 size_bound at wide (insns.Constant2 place) = omega arith
 size_bound at wide (insns.Member op place) = omega arith
 size_bound at wide (insns.Interface place count) = omega arith
@@ -40,7 +37,7 @@ size_bound at wide (insns.OfClass op place) = omega arith
 size_bound at wide (insns.NewArray elem) = omega arith
 size_bound at wide (insns.Multi place dims) = omega arith
 size_bound at wide (insns.Jump op to) =
-    most_of wide _ 3 16 (most_of (nat_eq op opcode.goto) 5 8 16 (omega arith) (omega arith)) (omega arith)
+    cond_most wide _ 3 16 (cond_most (nat_eq op opcode.goto) 5 8 16 (omega arith) (omega arith)) (omega arith)
 size_bound at wide (insns.Table low default arms) = omega arith
 size_bound at wide (insns.Lookup default arms) = omega arith
 

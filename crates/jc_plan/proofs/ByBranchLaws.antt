@@ -26,7 +26,7 @@ use Rattle.jc_plan.proofs.MappedLaws.{made_of}
 use Rattle.jc_plan.proofs.OneWayLaws.{firsts_rise, IsOf, a_sequence, a_jump, an_arm, an_exit, is_of}
 
 -- the last instruction of a list
-last_parts : (code : List Insn) (i : ℕ) (insn : Insn) → slice_get code i ≡ Some insn → i + 1 ≡ length code → (before : List Insn) × (code ≡ before ++ insn ∷ [])
+pub last_parts : (code : List Insn) (i : ℕ) (insn : Insn) → slice_get code i ≡ Some insn → i + 1 ≡ length code → (before : List Insn) × (code ≡ before ++ insn ∷ [])
 last_parts [] i insn h e = absurd (none-some insn h)
 last_parts (x ∷ []) zero insn h e = let same : x ≡ insn = same_Some x insn h in ([], λ k. same k ∷ [])
 last_parts (x ∷ y ∷ code) zero insn h e = absurd (omega arith)

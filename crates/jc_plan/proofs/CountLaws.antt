@@ -3,15 +3,10 @@ use Rattle.std.proofs.Common.{◌≡◌, ⊎_elim, ◌+◌, ◌<◌, ◌≤◌, 
 use Rattle.std.specs.Prelude.{Contains}
 use Rattle.std.specs.List.{count_by, AllByRecursion}
 use Rattle.std.proofs.lemmas.List.Sums.{sum_by-cons, sum_by-append}
-use Rattle.jc_base.proofs.FirstSeenLaws.{contains_none, contains_cases}
+use Rattle.jc_base.proofs.TestLaws.{none_in, which_in}
 use Rattle.jc_plan.specs.Entries.{one_if}
 
 -- ---- tests
-
-pub same_tests : (a b : Bool) → (a ≡ true → b ≡ true) → (b ≡ true → a ≡ true) → a ≡ b
-same_tests true b to from = sym (to refl)
-same_tests false true to from = from refl
-same_tests false false to from = refl
 
 one_le : (s t : Bool) → (s ≡ true → t ≡ true) → one_if s ≤ one_if t
 one_le true t h = subst (λ z. 1 ≤ one_if z) (sym (h refl)) (omega arith)
@@ -47,7 +42,7 @@ module _ {X : Type 0} where
   count_le p q (x ∷ xs) h = omega (arith, count_cons p x xs, count_cons q x xs, one_le (p x) (q x) (h x), count_le p q xs h)
 
   pub count_lt : (p q : X → Bool) (xs : List X) (x : X) → ((y : X) → p y ≡ true → q y ≡ true) → Contains xs x → p x ≡ false → q x ≡ true → count_by p xs < count_by q xs
-  count_lt p q [] x h c none some = absurd (contains_none x c)
+  count_lt p q [] x h c none some = absurd (none_in x c)
   count_lt p q (y ∷ xs) x h c none some =
       ⊎_elim
       (λ same.
@@ -55,7 +50,7 @@ module _ {X : Type 0} where
       let b : one_if (q y) ≡ 1 = ap one_if (ap q same ∙ some) in
       omega (arith, count_cons p y xs, count_cons q y xs, a, b, count_le p q xs h))
       (λ later. omega (arith, count_cons p y xs, count_cons q y xs, one_le (p y) (q y) (h y), count_lt p q xs x h later none some))
-      (contains_cases y xs x c)
+      (which_in y xs x c)
 
   -- ---- every item
 

@@ -156,10 +156,6 @@ few_of k insn = omega (arith, length_branches (flow_of insn) k (targets_of insn)
 abbrev sizes : Insn → ℕ
 sizes insn = 1 + arm_count insn
 
-pub few_insns : (code : List Insn) → length code ≤ insns_and_arms code
-few_insns [] = omega arith
-few_insns (x ∷ code) = omega (arith, sum_by-cons sizes x code, few_insns code)
-
 pub few_at : (code : List Insn) (i : ℕ) (x : Insn) → i < length code → x ≡ get_or code i x → 1 + arm_count x ≤ insns_and_arms code
 few_at code i x lt is = subst (λ (y : Insn). 1 + arm_count y ≤ insns_and_arms code) (sym is) (get_or-le-sum_by sizes code i x lt)
 

@@ -10,23 +10,23 @@ use Rattle.jc_plan.specs.declared.branch.Way.{Way}
 use Rattle.jc_plan.specs.declared.branch.Way.TheVariants.{Falls, Jumps, Switches, Exits}
 use Rattle.jc_plan.specs.Entries.{IsLineStart, IsInvocationLine, is_line_start, is_call, calls_from, is_invocation_line, is_fallen_into, is_multi_target}
 use Rattle.jc_plan.specs.Probed.{IsProbedWay, is_probed_way, IsProbed, is_probed}
-use Rattle.jc_base.proofs.FirstSeenLaws.{contains_none, contains_cases, contains_first, contains_later}
+use Rattle.jc_base.proofs.TestLaws.{none_in, which_in, first_in, later_in}
 
 start_found : (lines : List LineAt) (i : ℕ) → is_line_start lines i ≡ true → IsLineStart lines i
 start_found [] i h = absurd cc
 start_found (l ∷ lines) i h =
     ⊎_elim
-    (λ here. (l, contains_first l lines, eqb-true l.at i here))
-    (λ later. let more = start_found lines i later in (more.0, contains_later l lines more.0 more.1, more.2))
+    (λ here. (l, first_in l lines, eqb-true l.at i here))
+    (λ later. let more = start_found lines i later in (more.0, later_in l lines more.0 more.1, more.2))
     (or_cases (nat_eq l.at i) (is_line_start lines i) h)
 
 start_tested : (lines : List LineAt) (i : ℕ) → IsLineStart lines i → is_line_start lines i ≡ true
-start_tested [] i s = absurd (contains_none s.0 s.1)
+start_tested [] i s = absurd (none_in s.0 s.1)
 start_tested (l ∷ lines) i s =
     ⊎_elim
     (λ same. or_left (nat_eq l.at i) (is_line_start lines i) (eq-eqb l.at i (ap (λ x. x.at) same ∙ s.2)))
     (λ later. or_right (nat_eq l.at i) (is_line_start lines i) (start_tested lines i (s.0, later, s.2)))
-    (contains_cases l lines s.0 s.1)
+    (which_in l lines s.0 s.1)
 
 -- a call in the code, so many places behind the first one, before the next line starts
 record Calls (lines : List LineAt) (at : ℕ) (code : List Insn) : Type 0 where

@@ -3,8 +3,8 @@ use Rattle.std.proofs.Common.{◌≡◌, ⊎_elim, ℕ, zero, suc, ◌+◌, List
 use Rattle.std.specs.Prelude.{slice_get, Contains}
 use Rattle.std.specs.List.{AllByRecursion}
 use Rattle.std.proofs.lemmas.List.Elements.{Contains-append_left, Contains-append_right, Contains-append_cases}
-use Rattle.jc_base.proofs.FirstSeenLaws.{contains_none, contains_cases}
 use Rattle.jc_base.specs.PlainLists.{join_from}
+use Rattle.jc_base.proofs.TestLaws.{none_in, which_in}
 
 -- ---- joined lists
 
@@ -16,7 +16,7 @@ pub record IsListed {X Y : Type 0} (f : ℕ → X → List Y) (i : ℕ) (xs : Li
 
 module _ {X Y : Type 0} (f : ℕ → X → List Y) where
   pub listed_from : (i : ℕ) (xs : List X) (y : Y) → Contains (join_from f i xs) y → IsListed f i xs y
-  listed_from i [] y c = absurd (contains_none y c)
+  listed_from i [] y c = absurd (none_in y c)
   listed_from i (x ∷ xs) y c =
       ⊎_elim
       (λ front. record { place = 0; item = x; stands = refl; listed = let e : i ≡ i + 0 = omega arith in subst (λ k. Contains (f k x) y) e front })
@@ -41,5 +41,5 @@ module _ {X Y : Type 0} (f : ℕ → X → List Y) where
 
 -- what holds of each holds of what is listed
 pub all_listed : {X : Type 0} (P : X → Type 0) (xs : List X) (y : X) → AllByRecursion P xs → Contains xs y → P y
-all_listed P [] y a c = absurd (contains_none y c)
-all_listed P (x ∷ xs) y a c = ⊎_elim (λ same. subst P same a.0) (λ later. all_listed P xs y a.1 later) (contains_cases x xs y c)
+all_listed P [] y a c = absurd (none_in y c)
+all_listed P (x ∷ xs) y a c = ⊎_elim (λ same. subst P same a.0) (λ later. all_listed P xs y a.1 later) (which_in x xs y c)

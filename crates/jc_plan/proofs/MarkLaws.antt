@@ -1,16 +1,11 @@
 -- Marks of the lines that call, made from the end.
-use Rattle.std.proofs.Common.{◌≡◌, ℕ, zero, suc, ◌<◌, ◌≤◌, Bool, true, false, ◌&&◌, not, List, [], ◌∷◌, length, take, drop, get_or, map, refl, sym, ◌∙◌, ap, arith}
-use Rattle.std.proofs.lemmas.List.{take_all}
+use Rattle.std.proofs.Common.{◌≡◌, ℕ, ◌<◌, ◌≤◌, Bool, true, false, ◌&&◌, not, List, [], ◌∷◌, length, take, drop, get_or, map, refl, sym, ◌∙◌, ap, arith}
+use Rattle.std.proofs.lemmas.List.{take_all, get_or_default}
 use Rattle.jc_base.specs.PlainLists.{numbers_from}
 use Rattle.jc_base.specs.declared.insn.Insn.{Insn}
 use Rattle.jc_base.specs.declared.body.LineAt.{LineAt}
 use Rattle.jc_plan.specs.Entries.{is_line_start, calls_from, is_line_that_calls}
 use Rattle.jc_plan.proofs.PlacesLaws.{same_as_mapped, mapped_at, length_mapped}
-
-any_default : {X : Type 0} (xs : List X) (i : ℕ) (d e : X) → i < length xs → get_or xs i d ≡ get_or xs i e
-any_default [] i d e lt = absurd (omega arith)
-any_default (x ∷ xs) zero d e lt = refl
-any_default (x ∷ xs) (suc i) d e lt = any_default xs i d e (omega arith)
 
 -- ---- line starts
 
@@ -22,7 +17,7 @@ pub starts_end : (lines : List LineAt) (k count : ℕ) (marks : List Bool) → l
     → marks ≡ map (is_line_start lines) (numbers_from 0 count)
 starts_end lines k count marks all so_far =
     same_as_mapped (is_line_start lines) marks count so_far.size
-    (λ i d lt. any_default marks i d false (let l : i < length marks = omega (arith, so_far.size) in l) ∙ so_far.each i lt ∙ ap (λ (l : List LineAt). is_line_start l i) (take_all k lines all))
+    (λ i d lt. get_or_default marks i d false (let l : i < length marks = omega (arith, so_far.size) in l) ∙ so_far.each i lt ∙ ap (λ (l : List LineAt). is_line_start l i) (take_all k lines all))
 
 -- ---- lines that call
 
@@ -56,4 +51,4 @@ pub calls_end : (lines : List LineAt) (code : List Insn) (at : ℕ) (marks : Lis
     → marks ≡ map (is_line_that_calls lines code) (numbers_from 0 (length code))
 calls_end lines code at marks calls so_far done =
     same_as_mapped (is_line_that_calls lines code) marks (length code) so_far.size
-    (λ i d lt. any_default marks i d false (let l : i < length marks = omega (arith, so_far.size) in l) ∙ so_far.behind i (omega arith) lt)
+    (λ i d lt. get_or_default marks i d false (let l : i < length marks = omega (arith, so_far.size) in l) ∙ so_far.behind i (omega arith) lt)

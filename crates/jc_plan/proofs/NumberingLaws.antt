@@ -9,6 +9,7 @@ use Rattle.jc_base.specs.PlainLists.{join_from}
 use Rattle.jc_base.specs.Flow.{flow_of, targets_of}
 use Rattle.jc_base.specs.declared.insn.Insn.{Insn}
 use Rattle.jc_base.specs.declared.body.Body.{Body}
+use Rattle.jc_base.proofs.TestLaws.{same_tests}
 use Rattle.jc_plan.specs.declared.branch.Branch.{Branch}
 use Rattle.jc_plan.specs.declared.branch.Way.{Way}
 use Rattle.jc_plan.specs.declared.branch.Way.TheVariants.{Falls, Jumps, Switches, Exits}
@@ -16,7 +17,7 @@ use Rattle.jc_plan.specs.Edges.{branches_of, branches}
 use Rattle.jc_plan.specs.Entries.{goes_on, is_fallen_into}
 use Rattle.jc_plan.specs.Probed.{Position, position_by, position_of, is_before, is_probed_way, is_probed, probes_before}
 use Rattle.jc_plan.proofs.PlacesLaws.{join_from_split}
-use Rattle.jc_plan.proofs.CountLaws.{same_tests, count_join, count_agree, count_none, each_mapped}
+use Rattle.jc_plan.proofs.CountLaws.{count_join, count_agree, count_none, each_mapped}
 use Rattle.jc_plan.proofs.FlowLaws.{IsAt, GoesFrom, all_at}
 use Rattle.jc_plan.proofs.IdsLaws.{before_to, before_from}
 

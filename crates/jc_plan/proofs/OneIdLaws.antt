@@ -12,7 +12,7 @@ use Rattle.jc_base.specs.declared.insn.Insn.{Insn}
 use Rattle.jc_base.specs.declared.insn.Flow.{Flow}
 use Rattle.jc_base.specs.declared.insn.Flow.TheVariants as flows
 use Rattle.jc_base.specs.declared.body.Body.{Body}
-use Rattle.jc_base.proofs.FirstSeenLaws.{contains_none, contains_cases, contains_first}
+use Rattle.jc_base.proofs.TestLaws.{none_in, which_in, first_in}
 use Rattle.jc_plan.specs.declared.branch.Branch.{Branch}
 use Rattle.jc_plan.specs.declared.branch.Way.{Way}
 use Rattle.jc_plan.specs.declared.branch.Way.TheVariants.{Falls, Jumps, Switches, Exits}
@@ -32,23 +32,23 @@ same_branch : (x y : Branch) → x.at ≡ y.at → x.number ≡ y.number → x.w
 same_branch x y a n w = λ k. record { at = a k; number = n k; way = w k }
 
 rising_low : (first : ℕ) (xs : List Branch) (y : Branch) → IsRising first xs → Contains xs y → first ≤ y.number
-rising_low first [] y r c = absurd (contains_none y c)
+rising_low first [] y r c = absurd (none_in y c)
 rising_low first (x ∷ xs) y r c =
     let f = r.0 in
-    ⊎_elim (λ same. omega (arith, ap (λ (z : Branch). z.number) same)) (λ later. omega (arith, rising_low (x.number + 1) xs y r.1 later)) (contains_cases x xs y c)
+    ⊎_elim (λ same. omega (arith, ap (λ (z : Branch). z.number) same)) (λ later. omega (arith, rising_low (x.number + 1) xs y r.1 later)) (which_in x xs y c)
 
 -- in a list in which numbers rise one number is that of one branch
 rising_once : (first : ℕ) (xs : List Branch) (x y : Branch) → IsRising first xs → Contains xs x → Contains xs y → x.number ≡ y.number → x ≡ y
-rising_once first [] x y r c d e = absurd (contains_none x c)
+rising_once first [] x y r c d e = absurd (none_in x c)
 rising_once first (z ∷ zs) x y r c d e =
     ⊎_elim
     (λ a. ⊎_elim (λ o. sym a ∙ o)
     (λ o. absurd (omega (arith, ap (λ (v : Branch). v.number) a, rising_low (z.number + 1) zs y r.1 o)))
-    (contains_cases z zs y d))
+    (which_in z zs y d))
     (λ a. ⊎_elim (λ o. absurd (omega (arith, ap (λ (v : Branch). v.number) o, rising_low (z.number + 1) zs x r.1 a)))
     (λ o. rising_once (z.number + 1) zs x y r.1 a o e)
-    (contains_cases z zs y d))
-    (contains_cases z zs x c)
+    (which_in z zs y d))
+    (which_in z zs x c)
 
 -- a branch of the code is one of an instruction
 record Listed (code : List Insn) (x : Branch) : Type 0 where
@@ -178,8 +178,8 @@ module _ (b : Body) where
   own_position Exits h at number = refl
 
   has_sequence : (flow : Flow) (k : ℕ) (targets : List ℕ) → goes_on flow ≡ true → Contains (branches_by flow k targets) (sequence k)
-  has_sequence flows.GoesOn k targets h = contains_first (sequence k) []
-  has_sequence flows.Tests k targets h = contains_first (sequence k) (map (jump k) targets)
+  has_sequence flows.GoesOn k targets h = first_in (sequence k) []
+  has_sequence flows.Tests k targets h = first_in (sequence k) (map (jump k) targets)
   has_sequence flows.Jumps k targets h = absurd cc
   has_sequence flows.Switches k targets h = absurd cc
   has_sequence flows.Returns k targets h = absurd cc
@@ -202,7 +202,7 @@ module _ (b : Body) where
   found_own i n insn lt stands is low high =
       let p = passing (own b) (branches_of i insn) (n - in_front b i) (omega (arith, low, high)) in
       let x = p.item in
-      let here : Contains (branches_of i insn) x = subst (λ (l : List Branch). Contains l x) (sym p.split) (Contains-append_right p.pre (x ∷ p.post) x (contains_first x p.post)) in
+      let here : Contains (branches_of i insn) x = subst (λ (l : List Branch). Contains l x) (sym p.split) (Contains-append_right p.pre (x ∷ p.post) x (first_in x p.post)) in
       let at = all_listed (IsAt i) (branches_of i insn) x (all_at i (flow_of insn) (targets_of insn)) here in
       let rising : IsRising 0 (p.pre ++ x ∷ p.post) = subst (IsRising 0) p.split (all_rise (flow_of insn) i (targets_of insn) (has_targets insn)) in
       let position : position_of x ≡ record { at = i; number = 1 + x.number } =

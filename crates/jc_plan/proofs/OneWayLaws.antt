@@ -13,7 +13,8 @@ use Rattle.jc_base.specs.declared.insn.Flow.{Flow}
 use Rattle.jc_base.specs.declared.insn.Flow.TheVariants as flows
 use Rattle.jc_base.specs.declared.body.Body.{Body}
 use Rattle.jc_base.specs.declared.body.Handler.{Handler}
-use Rattle.jc_base.proofs.FirstSeenLaws.{contains_one, contains_none, contains_cases, contains_first, contains_later, first_seen_distinct, first_seen_listed}
+use Rattle.jc_base.proofs.FirstSeenLaws.{contains_one, first_seen_distinct, first_seen_listed}
+use Rattle.jc_base.proofs.TestLaws.{none_in, which_in, first_in, later_in}
 use Rattle.jc_plan.specs.declared.branch.Branch.{Branch}
 use Rattle.jc_plan.specs.declared.branch.Way.{Way}
 use Rattle.jc_plan.specs.declared.branch.Way.TheVariants.{Falls, Jumps, Switches, Exits}
@@ -47,20 +48,20 @@ count_two p (z ∷ xs) (suc k) zero x y lt h g t u = absurd (omega arith)
 count_two p (z ∷ xs) (suc k) (suc l) x y lt h g t u = omega (arith, count_cons p z xs, count_two p xs k l x y (omega arith) h g t u)
 
 count_listed : {X : Type 0} (p : X → Bool) (xs : List X) (x : X) → Contains xs x → p x ≡ true → 1 ≤ count_by p xs
-count_listed p [] x c t = absurd (contains_none x c)
+count_listed p [] x c t = absurd (none_in x c)
 count_listed p (y ∷ xs) x c t =
     ⊎_elim
     (λ same. let sure : one_if (p y) ≡ 1 = ap one_if (ap p same ∙ t) in omega (arith, count_cons p y xs, sure))
     (λ later. omega (arith, count_cons p y xs, count_listed p xs x later t))
-    (contains_cases y xs x c)
+    (which_in y xs x c)
 
 any_listed : (i : ℕ) (ts : List ℕ) → Contains ts i → list_any (nat_eq i) ts ≡ true
-any_listed i [] c = absurd (contains_none i c)
+any_listed i [] c = absurd (none_in i c)
 any_listed i (t ∷ ts) c =
     ⊎_elim
     (λ same. or_left (nat_eq i t) (list_any (nat_eq i) ts) (eq-eqb i t (sym same)))
     (λ later. or_right (nat_eq i t) (list_any (nat_eq i) ts) (any_listed i ts later))
-    (contains_cases t ts i c)
+    (which_in t ts i c)
 
 -- ---- what jumps has one target
 
@@ -83,20 +84,20 @@ pub data IsOf (insn : Insn) (i : ℕ) (x : Branch) : Type 0 where
   an_exit : ((flow_of insn ≡ flows.Returns) ⊎ (flow_of insn ≡ flows.Throws)) → exit i ≡ x → IsOf insn i x
 
 jump_listed : (i : ℕ) (ts : List ℕ) (x : Branch) → Contains (map (jump i) ts) x → (to : ℕ) × Contains ts to × (jump i to ≡ x)
-jump_listed i [] x c = absurd (contains_none x c)
+jump_listed i [] x c = absurd (none_in x c)
 jump_listed i (t ∷ ts) x c =
     ⊎_elim
-    (λ same. (t, contains_first t ts, same))
-    (λ later. let more = jump_listed i ts x later in (more.0, contains_later t ts more.0 more.1, more.2))
-    (contains_cases (jump i t) (map (jump i) ts) x c)
+    (λ same. (t, first_in t ts, same))
+    (λ later. let more = jump_listed i ts x later in (more.0, later_in t ts more.0 more.1, more.2))
+    (which_in (jump i t) (map (jump i) ts) x c)
 
 arm_listed : (i k : ℕ) (ts : List ℕ) (x : Branch) → Contains (map_from (arm i) k ts) x → (number : ℕ) × (to : ℕ) × Contains ts to × (k ≤ number) × (arm i number to ≡ x)
-arm_listed i k [] x c = absurd (contains_none x c)
+arm_listed i k [] x c = absurd (none_in x c)
 arm_listed i k (t ∷ ts) x c =
     ⊎_elim
-    (λ same. (k, t, contains_first t ts, omega arith, same))
-    (λ later. let more = arm_listed i (k + 1) ts x later in let le = more.3 in (more.0, more.1, contains_later t ts more.1 more.2, omega (arith, le), more.4))
-    (contains_cases (arm i k t) (map_from (arm i) (k + 1) ts) x c)
+    (λ same. (k, t, first_in t ts, omega arith, same))
+    (λ later. let more = arm_listed i (k + 1) ts x later in let le = more.3 in (more.0, more.1, later_in t ts more.1 more.2, omega (arith, le), more.4))
+    (which_in (arm i k t) (map_from (arm i) (k + 1) ts) x c)
 
 jump_is : (insn : Insn) (i : ℕ) (x : Branch) → HasOne (targets_of insn) → ((flow_of insn ≡ flows.Tests) ⊎ (flow_of insn ≡ flows.Jumps)) → Contains (map (jump i) (targets_of insn)) x → IsOf insn i x
 jump_is insn i x one flow c =
@@ -113,7 +114,7 @@ is_of insn i x c = by (flow_of insn) refl c
         ⊎_elim
         (λ same. a_sequence (ap goes_on e) same)
         (λ later. jump_is insn i x (tests_one insn e) (inl e) later)
-        (contains_cases (sequence i) (map (jump i) (targets_of insn)) x c)
+        (which_in (sequence i) (map (jump i) (targets_of insn)) x c)
     by flows.Jumps e c = jump_is insn i x (jumps_one insn e) (inr e) c
     by flows.Switches e c =
         let l = arm_listed i 0 (first_seen (targets_of insn)) x c in
@@ -151,20 +152,20 @@ standing code x c =
 
 -- of distinct targets, an arm is told by its target, and by its number
 arm_by_target : (i k : ℕ) (ts : List ℕ) (n m to : ℕ) → IsDistinct ts → Contains (map_from (arm i) k ts) (arm i n to) → Contains (map_from (arm i) k ts) (arm i m to) → n ≡ m
-arm_by_target i k [] n m to d c e = absurd (contains_none (arm i n to) c)
+arm_by_target i k [] n m to d c e = absurd (none_in (arm i n to) c)
 arm_by_target i k (t ∷ ts) n m to d c e =
     ⊎_elim
     (λ first.
     ⊎_elim
     (λ second. sym (ap (λ y. y.number) first) ∙ ap (λ y. y.number) second)
     (λ later. absurd (d.0 to (target_of_arm (k + 1) ts m to later) (to_is first)))
-    (contains_cases (arm i k t) (map_from (arm i) (k + 1) ts) (arm i m to) e))
+    (which_in (arm i k t) (map_from (arm i) (k + 1) ts) (arm i m to) e))
     (λ behind.
     ⊎_elim
     (λ second. absurd (d.0 to (target_of_arm (k + 1) ts n to behind) (to_is second)))
     (λ later. arm_by_target i (k + 1) ts n m to d.1 behind later)
-    (contains_cases (arm i k t) (map_from (arm i) (k + 1) ts) (arm i m to) e))
-    (contains_cases (arm i k t) (map_from (arm i) (k + 1) ts) (arm i n to) c)
+    (which_in (arm i k t) (map_from (arm i) (k + 1) ts) (arm i m to) e))
+    (which_in (arm i k t) (map_from (arm i) (k + 1) ts) (arm i n to) c)
   where
     switched : Way → ℕ
     switched (Switches to) = to
@@ -208,7 +209,7 @@ leads : (insn : Insn) (t : ℕ) → Contains (targets_of insn) t → leads_to t 
 leads insn t c = any_listed t (targets_of insn) c
 
 one_listed : (ts : List ℕ) (t : ℕ) → ts ≡ t ∷ [] → Contains ts t
-one_listed ts t e = subst (λ us. Contains us t) (sym e) (contains_first t [])
+one_listed ts t e = subst (λ us. Contains us t) (sym e) (first_in t [])
 
 -- how the branch leads there: by sequence, or by a jump of an instruction
 data Way_in (code : List Insn) (x : Branch) (t : ℕ) : Type 0 where

@@ -183,7 +183,7 @@ some_long old value = some_added int_eq Decides-int_eq (read_off long_in) value 
 
 -- ---- first places stay
 
-class_within : (pool : PoolValue) (place : ℕ) (name : List ℕ) → class_name_of pool place ≡ Some name → place < length pool
+pub class_within : (pool : PoolValue) (place : ℕ) (name : List ℕ) → class_name_of pool place ≡ Some name → place < length pool
 class_within pool place name there = elim (cases_lt place (length pool)) [ inl less ↦ less | inr behind ↦ absurd (none-some name (sym (naming_past naming.Class pool place behind) ∙ there)) ]
 
 -- one place more, and no text in it that stands already

@@ -12,6 +12,7 @@ use Rattle.jc_pool.specs.Lookup.{entry_of, utf8_in, utf8_of}
 use Rattle.jc_pool.specs.Adding.{IsFirst, IsNowhere}
 use Rattle.jc_pool.specs.Index.{IsFirstBelow, AreFirsts, Notes, NotesEntry, standing_for, AreStandins, key_in, key_at, slot_key}
 use Rattle.jc_pool.proofs.FirstPlaceLaws.{nothing_more, noted, same_below, first_stays}
+use Rattle.jc_pool.proofs.PoolSteps.{length_slots}
 
 -- ---- what stands where
 
@@ -28,16 +29,13 @@ one_more pool slot = length-append pool (slot ∷ [])
 pub slots_front : (e : Entry) → (more : PoolValue) × (slots_of e ≡ Some e ∷ more)
 slots_front e = elim (cases_Bool (is_wide e)) [ inl wide ↦ (None ∷ [], rw wide refl) | inr narrow ↦ ([], rw narrow refl) ]
 
-slots_length : (e : Entry) → length (slots_of e) ≡ width e
-slots_length e = elim (cases_Bool (is_wide e)) [ inl wide ↦ rw wide refl | inr narrow ↦ rw narrow refl ]
-
 pub entry_put : (pool : PoolValue) (e : Entry) → entry_of (pool ++ slots_of e) (length pool) ≡ Some e
 entry_put pool e =
     let front = slots_front e in
     ap (λ (l : PoolValue). entry_of (pool ++ l) (length pool)) front.1 ∙ get_or-append_seam pool (Some e) front.0 None
 
 pub grown_length : (pool : PoolValue) (e : Entry) → length (pool ++ slots_of e) ≡ length pool + width e
-grown_length pool e = length-append pool (slots_of e) ∙ ap (λ (n : ℕ). length pool + n) (slots_length e)
+grown_length pool e = length-append pool (slots_of e) ∙ ap (λ (n : ℕ). length pool + n) (length_slots e)
 
 -- what holds with each of its places holds with the entry
 pub by_slots : (P : PoolValue → Type 0) (pool : PoolValue) (e : Entry) → P (pool ++ Some e ∷ []) → (P (pool ++ Some e ∷ []) → P ((pool ++ Some e ∷ []) ++ None ∷ [])) → P (pool ++ slots_of e)

@@ -119,7 +119,7 @@ pub record Filling (whole : Parsed (List (Option Entry))) (count : ℕ) (old : R
   pub end : SameEnd old now
   pub later : old.place ≤ now.place
 
-length_slots : (e : Entry) → length (slots_of e) ≡ width e
+pub length_slots : (e : Entry) → length (slots_of e) ≡ width e
 length_slots e = elim (cases_Bool (is_wide e)) [ inl wide ↦ rw wide refl | inr narrow ↦ rw narrow refl ]
 
 pub fills_more : (whole : Parsed (List (Option Entry))) (count : ℕ) (old : Reading) (slots : List (Option Entry)) (now next : Reading) (e : Entry) (n : ℕ)

@@ -4,7 +4,7 @@ use Rattle.std.specs.Prelude.{IsSortedBy}
 use Rattle.std.specs.Cmp.{IsStrictWeakOrder}
 use Rattle.std.specs.List.Sorted.{ties}
 use Rattle.std.proofs.lemmas.Bool.{and_parts, and_from, both_ways, false_from_ne_true, not-true, not_from_false, cond-true}
-use Rattle.jc_base.proofs.FirstSeenLaws.{contains_none, contains_first, contains_later, contains_cases}
+use Rattle.jc_base.proofs.TestLaws.{none_in, which_in, first_in, later_in}
 use Rattle.jc_report.specs.Order.{IsInOrder, placed, in_order}
 
 module _ {X : Type 0} (lt : X → X → Bool) (o : IsStrictWeakOrder lt) where
@@ -115,19 +115,19 @@ module _ {X : Type 0} (lt : X → X → Bool) (o : IsStrictWeakOrder lt) where
   -- ---- one list
 
   least : (x : X) (ys : List X) (y : X) → Rising (x ∷ ys) → Contains ys y → lt y x ≡ false
-  least x [] y h c = absurd (contains_none y c)
+  least x [] y h c = absurd (none_in y c)
   least x (z ∷ zs) y h c =
       ⊎_elim
       (λ same. subst (λ w. lt w x ≡ false) same h.0)
       (λ later. o.chain y z x (least z zs y h.1 later) h.0)
-      (contains_cases z zs y c)
+      (which_in z zs y c)
 
   least_of_all : (x : X) (ys : List X) (y : X) → Rising (x ∷ ys) → Contains (x ∷ ys) y → lt y x ≡ false
   least_of_all x ys y h c =
       ⊎_elim
       (λ same. subst (λ w. lt w x ≡ false) same (not_below_itself x))
       (λ later. least x ys y h later)
-      (contains_cases x ys y c)
+      (which_in x ys y c)
 
   filtered : (p : X → Bool) (xs : List X) (y : X) → Contains (filter p xs) y → Contains xs y
   filtered p [] y c = c
@@ -136,10 +136,10 @@ module _ {X : Type 0} (lt : X → X → Bool) (o : IsStrictWeakOrder lt) where
       by : (Contains (filter p xs) y → Contains xs y) → (t : Bool) → Contains (cond t (x ∷ filter p xs) (filter p xs)) y → Contains (x ∷ xs) y
       by behind true c =
           ⊎_elim
-          (λ same. subst (λ w. Contains (w ∷ xs) y) (sym same) (contains_first y xs))
-          (λ later. contains_later x xs y (behind later))
-          (contains_cases x (filter p xs) y c)
-      by behind false c = contains_later x xs y (behind c)
+          (λ same. subst (λ w. Contains (w ∷ xs) y) (sym same) (first_in y xs))
+          (λ later. later_in x xs y (behind later))
+          (which_in x (filter p xs) y c)
+      by behind false c = later_in x xs y (behind c)
 
   kept : (w x : X) (xs : List X) → ties lt w x ≡ true → filter (ties lt w) (x ∷ xs) ≡ x ∷ filter (ties lt w) xs
   kept w x xs t = cond-true (ties lt w x) (x ∷ filter (ties lt w) xs) (filter (ties lt w) xs) t
@@ -158,7 +158,7 @@ module _ {X : Type 0} (lt : X → X → Bool) (o : IsStrictWeakOrder lt) where
 
   stands_in : (x : X) (xs ys : List X) → SameTies (x ∷ xs) ys → Contains ys x
   stands_in x xs ys same =
-      filtered (ties lt x) ys x (subst (λ l. Contains l x) (sym (kept x x xs (ties_itself x)) ∙ same x) (contains_first x (filter (ties lt x) xs)))
+      filtered (ties lt x) ys x (subst (λ l. Contains l x) (sym (kept x x xs (ties_itself x)) ∙ same x) (first_in x (filter (ties lt x) xs)))
 
   same_order : (xs ys : List X) → Rising xs → Rising ys → SameTies xs ys → xs ≡ ys
   same_order [] [] h g same = refl

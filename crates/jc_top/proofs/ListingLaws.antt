@@ -12,6 +12,7 @@ use Rattle.jc_base.specs.declared.body.Body.{Body}
 use Rattle.jc_base.specs.declared.fail.Fail.{Fail}
 use Rattle.jc_base.specs.declared.fail.Fail.TheVariants as fails
 use Rattle.jc_base.specs.declared.refusal.Refusal.{Refusal}
+use Rattle.jc_base.proofs.DecoderLaws.{some_is}
 use Rattle.jc_kinds.specs.Answers.{Said}
 use Rattle.jc_instrument.specs.Analysis.{IsAnalysis}
 use Rattle.jc_instrument.specs.Reasons.{AnalysisReason}
@@ -60,15 +61,12 @@ listing_of bytes l (refused why is) = by_reason why is refl
 abbrev pub IsFile : List ℕ → Type 0
 IsFile bytes = AreBytes bytes × (length bytes ≤ most_read)
 
-some_is : {a b : Refusal} → Some a ≡ Some b → a ≡ b
-some_is e = cc
-
 module _ (bytes : List ℕ) where
   one_listing_of : (a b : Listing) → ListingOf bytes a → ListingOf bytes b → a ≡ b
   one_listing_of a b (by_analysis x is e) (by_analysis y is' f) = e ∙ ap prints (same_text x y (same_analysis bytes x y is is')) ∙ sym f
   one_listing_of a b (by_analysis x is e) (by_reason why r f) = absurd (analysis_or_reason bytes x why is r)
   one_listing_of a b (by_reason why r e) (by_analysis x is f) = absurd (analysis_or_reason bytes x why is r)
-  one_listing_of a b (by_reason why r e) (by_reason other s f) = e ∙ ap refuses (some_is (one_reason bytes (Some why) (Some other) r s)) ∙ sym f
+  one_listing_of a b (by_reason why r e) (by_reason other s f) = e ∙ ap refuses (some_is _ _ (one_reason bytes (Some why) (Some other) r s)) ∙ sym f
 
   pub one_listing : (a b : Listing) → Lists bytes a → Lists bytes b → a ≡ b
   one_listing a b p q = one_listing_of a b (listing_of bytes a p) (listing_of bytes b q)

@@ -4,7 +4,6 @@ use Rattle.std.specs.Prelude.{Contains}
 use Rattle.std.proofs.lemmas.List.Elements.{All-take}
 use Rattle.std.proofs.lemmas.List.Sums.{sum_by-take-le}
 use Rattle.std.proofs.lemmas.Option.{none-some, slice_get-get_or}
-use Rattle.jc_base.proofs.FirstSeenLaws.{contains_none}
 use Rattle.jc_base.specs.Flow.{flow_of, targets_of}
 use Rattle.jc_base.specs.Held.{Names, seen}
 use Rattle.jc_base.specs.PlainLists.{total}
@@ -14,6 +13,7 @@ use Rattle.jc_base.specs.declared.insn.Flow.{Flow}
 use Rattle.jc_base.specs.declared.insn.Flow.TheVariants as flows
 use Rattle.jc_base.specs.declared.kind.State.{State}
 use Rattle.jc_base.specs.declared.body.Body.{Body}
+use Rattle.jc_base.proofs.TestLaws.{none_in}
 use Rattle.jc_after.specs.Shift.{StaysWhole}
 use Rattle.jc_kinds.specs.Answers.{AreStates}
 use Rattle.jc_kinds.proofs.StateShiftLaws.{states_whole}
@@ -66,11 +66,11 @@ late_tests probe i id insn flows.Throws is = absurd (none-some id is)
 
 arm_switches : (i : ℕ) (insn : Insn) (flow : Flow) (x : Branch) → Contains (arms_by i insn flow) x → flow ≡ flows.Switches
 arm_switches i insn flows.Switches x c = refl
-arm_switches i insn flows.GoesOn x c = absurd (contains_none x c)
-arm_switches i insn flows.Tests x c = absurd (contains_none x c)
-arm_switches i insn flows.Jumps x c = absurd (contains_none x c)
-arm_switches i insn flows.Returns x c = absurd (contains_none x c)
-arm_switches i insn flows.Throws x c = absurd (contains_none x c)
+arm_switches i insn flows.GoesOn x c = absurd (none_in x c)
+arm_switches i insn flows.Tests x c = absurd (none_in x c)
+arm_switches i insn flows.Jumps x c = absurd (none_in x c)
+arm_switches i insn flows.Returns x c = absurd (none_in x c)
+arm_switches i insn flows.Throws x c = absurd (none_in x c)
 
 -- an arm place, or where jumps to the target land
 arm_below : (ids : Branch → Option ℕ) (land : ℕ → ℕ) (here end to : ℕ) (xs : List Branch) → land to < end → here + arm_sizes ids xs ≤ end

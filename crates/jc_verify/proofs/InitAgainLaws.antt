@@ -29,6 +29,7 @@ use Rattle.jc_base.specs.declared.opcode.TheConstants as ops
 use Rattle.jc_insn.proofs.DecodedInsnLaws.{are_starts}
 use Rattle.jc_pool.specs.declared.constant.ConstText.TheVariants as constants
 use Rattle.jc_pool.specs.Pool.{PoolValue}
+use Rattle.jc_pool.proofs.AddedLaws.{class_within}
 use Rattle.jc_class.specs.declared.class_file.ClassFile.{ClassFile}
 use Rattle.jc_class.specs.declared.class_file.Member.{Member}
 use Rattle.jc_frames.specs.Frames.{Ground}
@@ -57,7 +58,7 @@ use Rattle.jc_verify.proofs.KeptEntryLaws.{member_found_at, long_found_at, strin
 use Rattle.jc_verify.proofs.RightEntryLaws.{push_right}
 use Rattle.jc_verify.proofs.TwinItemLaws.{push_locals}
 use Rattle.jc_verify.proofs.UsedPlaceLaws.{stands_used}
-use Rattle.jc_verify.proofs.WritableFrameLaws.{class_within, number_of}
+use Rattle.jc_verify.proofs.WritableFrameLaws.{number_of}
 
 -- ---- descriptors
 

@@ -22,6 +22,7 @@ use Rattle.jc_insn.proofs.ReadBackLaws.{big_short, short_size, short_target}
 use Rattle.jc_insn.proofs.ShortestSpellingLaws.{Fits, near_text_is}
 use Rattle.jc_emit.specs.Added.{InitPlaces, end_place, init_code}
 use Rattle.jc_emit.specs.Marks.{push}
+use Rattle.jc_emit.proofs.PlacedLaws.{places_push}
 use Rattle.jc_layout.proofs.FormedLaws.{push_formed}
 use Rattle.jc_code.specs.InitText.{init_bytes, push_count}
 use Rattle.jc_code.proofs.InitLaws.{push_byte, push_short, push_small}
@@ -38,11 +39,6 @@ unfolding insn_text
 same_text_by at n true t = refl
 same_text_by at n false true = refl
 same_text_by at n false false = refl
-
-same_places_by : (f : ℕ → ℕ) (n : ℕ) (s t : Bool) → with_places f (push_by n s t) ≡ push_by n s t
-same_places_by f n true t = refl
-same_places_by f n false true = refl
-same_places_by f n false false = refl
 
 fits_short : (n : ℕ) → n ≤ 32767 → FitsSigned w16 (pos n)
 fits_short n le = fits_signed_from_abs w16 (pos n) (omega (arith, le))
@@ -63,9 +59,6 @@ push_item at n lt le =
     let t = nat_le n 127 in
     subst (λ (l : List ℕ). IsItem at l (items.Insn (push n))) (same_text_by at n s t)
     (near_text_is at (push n) (fits_by at n s t lt le (push_formed n)) (near_by at n s t))
-
-same_push : (f : ℕ → ℕ) (n : ℕ) → with_places f (push n) ≡ push n
-same_push f n = same_places_by f n (nat_le n 5) (nat_le n 127)
 
 -- ---- items
 
@@ -245,7 +238,7 @@ module _ (p : InitPlaces) (count : ℕ) (few : count ≤ 32767) (field : p.field
   code_named =
       let target : end_place ≡ number (4 + (17 + k)) =
       sym (end_number k (pushed_length count)) ∙ ap number (let e : 21 + k ≡ 4 + (17 + k) = omega arith in e) in
-      let same = sym (same_push number count) in λ i.
+      let same = sym (places_push number count) in λ i.
       insns.Member ops.GETSTATIC p.field
       ∷ insns.Simple ops.DUP
       ∷ insns.Jump ops.IFNONNULL (target i)

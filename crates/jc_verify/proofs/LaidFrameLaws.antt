@@ -4,7 +4,6 @@ use Rattle.std.specs.Prelude.{Contains, slice_get, slice_index}
 use Rattle.std.specs.List.{AllByRecursion}
 use Rattle.std.proofs.lemmas.List.{length-map}
 use Rattle.std.proofs.lemmas.Option.{slice_get_within}
-use Rattle.jc_base.proofs.FirstSeenLaws.{contains_first, contains_later}
 use Rattle.jc_base.specs.Held.{Names, IsNumbered, AreNumberedFrames, Seen, SeenAt, seen, seen_at}
 use Rattle.jc_base.specs.Opcode as opcode
 use Rattle.jc_base.specs.Starts.{AreStarts}
@@ -17,6 +16,7 @@ use Rattle.jc_base.specs.declared.insn.Insn.TheVariants as insns
 use Rattle.jc_base.specs.declared.kind.Kind.{Kind}
 use Rattle.jc_base.specs.declared.kind.Kind.TheVariants as kinds
 use Rattle.jc_base.specs.declared.kind.State.{State}
+use Rattle.jc_base.proofs.TestLaws.{first_in, later_in}
 use Rattle.jc_pool.specs.Adding.{IsFirst}
 use Rattle.jc_pool.specs.Lookup.{class_name_of}
 use Rattle.jc_frames.specs.Frames.{Ground, is_new}
@@ -120,7 +120,7 @@ laid_named wide names e =
 all_listed : (names : Names) (Fact : SeenAt → Type 0) (frames : List FrameAt) → ((f : FrameAt) → Contains frames f → Fact (seen_at names f))
     → AllByRecursion Fact (map (seen_at names) frames)
 all_listed names Fact [] each = tt
-all_listed names Fact (f ∷ frames) each = (each f (contains_first f frames), all_listed names Fact frames (λ g c. each g (contains_later f frames g c)))
+all_listed names Fact (f ∷ frames) each = (each f (first_in f frames), all_listed names Fact frames (λ g c. each g (later_in f frames g c)))
 
 module _ (names : Names) (b : Body) (first : ℕ) (states : List State) (array : ℕ) (well : IsWellMadeOfAnySize b) (are : AreStates names b states)
     (fit : HasFrameStates b states) (free : NoneStraddles b) (array_is : IsArrayNumber names array) where

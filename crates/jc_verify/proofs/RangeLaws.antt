@@ -22,14 +22,11 @@ use Rattle.jc_insn.specs.Fields.{Then, byte, nothing, piece}
 use Rattle.jc_insn.specs.Items.{IsItem, arm_in, arms_in, in_pieces, lookup_operands, number, operands, table_operands, wide_operands}
 use Rattle.jc_insn.specs.Spells.{Spells, SpellsFrom}
 use Rattle.jc_insn.specs.Writing.{IsInRange}
-use Rattle.jc_insn.proofs.ItemReadingLaws.{insn_is}
+use Rattle.jc_insn.proofs.ItemReadingLaws.{insn_is, not_subroutine}
 use Rattle.jc_insn.proofs.PlacesLaws.{in_range_with}
 
 as_range : (insn known : Insn) → items.Insn insn ≡ items.Insn known → IsInRange known → IsInRange insn
 as_range insn known e range = subst IsInRange (sym (insn_is insn known e)) range
-
-no_subroutine : (insn : Insn) → items.Insn insn ≡ items.Subroutine → ⊥
-no_subroutine insn e = cc
 
 -- ---- fields
 
@@ -63,7 +60,7 @@ wide_range forms.Inc op rest insn are t =
     let slot = number_of 2 _ rest (items.Insn insn) t are in
     let by = number_of 2 _ t.rest (items.Insn insn) t.behind slot.1 in
     as_range insn (insns.Inc t.value (cast_signed w16 t.behind.value)) t.behind.behind.1 (slot.0, sfits_to_z {w = w16} record { fits = by.0 })
-wide_range forms.Subroutine op rest insn are t = absurd (no_subroutine insn t.1.1)
+wide_range forms.Subroutine op rest insn are t = absurd (not_subroutine insn t.1.1)
 wide_range form op rest insn are t = absurd t
 
 -- ---- switches
@@ -132,7 +129,7 @@ range at forms.Inc op rest insn are t =
     as_range insn (insns.Inc t.value (cast_signed w8 t.behind.value)) t.behind.behind.1 (omega (arith, low), short_byte t.behind.value by.0)
 range at forms.Jump op rest insn are t = as_range insn _ t.behind.1 tt
 range at forms.WideJump op rest insn are t = as_range insn _ t.behind.1 tt
-range at forms.Subroutine op rest insn are t = absurd (no_subroutine insn t.1)
+range at forms.Subroutine op rest insn are t = absurd (not_subroutine insn t.1)
 range at forms.Table op rest insn are t = table_range at rest insn are t
 range at forms.Lookup op rest insn are t = lookup_range at rest insn are t
 range at forms.Member op rest insn are t = as_range insn (insns.Member op t.value) t.behind.1 (number_of 2 _ rest (items.Insn insn) t are).0

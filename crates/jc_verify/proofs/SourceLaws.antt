@@ -1,9 +1,8 @@
 -- What the body of a method whose instrumented code is written says of the grown pool.
-use Rattle.std.proofs.Common.{◌≡◌, ◌⊎◌, ⊎_elim, inl, inr, ℕ, ◌<◌, false, List, [], ◌∷◌, length, map, get_or, Some, refl, sym, ◌∙◌, ap, subst, arith}
+use Rattle.std.proofs.Common.{◌≡◌, ◌⊎◌, inl, inr, ℕ, ◌<◌, false, List, length, map, get_or, Some, refl, sym, ◌∙◌, ap, subst, arith}
 use Rattle.std.specs.Prelude.{Contains, slice_get}
 use Rattle.std.proofs.lemmas.Bool.{cases_eq}
 use Rattle.std.proofs.lemmas.Option.{slice_get_within, slice_get-get_or, get_or_from_slice_get}
-use Rattle.jc_base.proofs.FirstSeenLaws.{contains_none, contains_cases, contains_first, contains_later}
 use Rattle.jc_base.specs.Held.{Names}
 use Rattle.jc_base.specs.InsnUse.{IsClass}
 use Rattle.jc_base.specs.Starts.{insn_number}
@@ -13,6 +12,7 @@ use Rattle.jc_base.specs.declared.body.Handler.{Handler}
 use Rattle.jc_base.specs.declared.insn.Insn.{Insn}
 use Rattle.jc_base.specs.declared.insn.Insn.TheVariants as insns
 use Rattle.jc_base.specs.declared.kind.State.{State}
+use Rattle.jc_base.proofs.TestLaws.{in_map}
 use Rattle.jc_insn.proofs.DecodedInsnLaws.{are_starts}
 use Rattle.jc_pool.specs.Adding.{Extends}
 use Rattle.jc_pool.specs.Pool.{PoolValue}
@@ -33,13 +33,6 @@ use Rattle.jc_verify.specs.Written.{IsSource}
 use Rattle.jc_verify.proofs.KeptEntryLaws.{right_kept, what_kept}
 use Rattle.jc_verify.proofs.UsedPlaceLaws.{KeepClasses, used_stands}
 use Rattle.jc_verify.proofs.WrittenRowLaws.{class_there, handlers_are}
-
-module _ {X Y : Type 0} (f : X → Y) where
-  in_map : (xs : List X) (x : X) → Contains xs x → Contains (map f xs) (f x)
-  in_map [] x c = absurd (contains_none x c)
-  in_map (y ∷ xs) x c =
-      ⊎_elim (λ same. subst (λ (z : Y). Contains (map f (y ∷ xs)) z) (ap f same) (contains_first (f y) (map f xs)))
-      (λ later. contains_later (f y) (map f xs) (f x) (in_map xs x later)) (contains_cases y xs x c)
 
 module _ (names : Names) (c : ClassFile) (method : Member) (b : Body) (states : List State) (array : ℕ) (s : IsSource names c method b states array) where
   abbrev coded : Coded

@@ -5,8 +5,8 @@ use Rattle.std.specs.List.{list_any}
 use Rattle.std.proofs.lemmas.Bool.{true≢false, eq-eqb}
 use Rattle.std.proofs.lemmas.List.Elements.{Contains-append_cases}
 use Rattle.std.proofs.lemmas.Option.{none-some}
-use Rattle.jc_base.proofs.FirstSeenLaws.{contains_none, contains_one, contains_cases, contains_first, contains_later}
-use Rattle.jc_base.proofs.TestLaws.{any_decided, equal_decided}
+use Rattle.jc_base.proofs.FirstSeenLaws.{contains_one}
+use Rattle.jc_base.proofs.TestLaws.{any_decided, equal_decided, none_in, which_in, first_in, later_in}
 use Rattle.jc_base.specs.InsnUse.{pool_place}
 use Rattle.jc_base.specs.WellMade.{what_used}
 use Rattle.jc_base.specs.declared.body.Use.{Use}
@@ -52,33 +52,33 @@ record HasRow (rows : List Row) (place : ℕ) : Type 0 where
   some : row.class ≡ 0 → ⊥
 
 named_by_insn : (insns : List Insn) (place : ℕ) → Contains (insn_places insns) place → HasInsn insns place
-named_by_insn [] place c = absurd (contains_none place c)
+named_by_insn [] place c = absurd (none_in place c)
 named_by_insn (x ∷ insns) place c =
     ⊎_elim (λ here. by (pool_place x) refl here)
-    (λ later. let h = named_by_insn insns place later in record { insn = h.insn; listed = contains_later x insns h.insn h.listed; names = h.names })
+    (λ later. let h = named_by_insn insns place later in record { insn = h.insn; listed = later_in x insns h.insn h.listed; names = h.names })
     (Contains-append_cases (some_of (pool_place x)) (insn_places insns) place c)
   where
     by : (o : Option ℕ) → pool_place x ≡ o → Contains (some_of o) place → HasInsn (x ∷ insns) place
-    by None is d = absurd (contains_none place d)
-    by (Some p) is d = record { insn = x; listed = contains_first x insns; names = is ∙ ap Some (contains_one p place d) }
+    by None is d = absurd (none_in place d)
+    by (Some p) is d = record { insn = x; listed = first_in x insns; names = is ∙ ap Some (contains_one p place d) }
 
 named_by_row : (rows : List Row) (place : ℕ) → Contains (row_places rows) place → HasRow rows place
-named_by_row [] place c = absurd (contains_none place c)
+named_by_row [] place c = absurd (none_in place c)
 named_by_row (x ∷ rows) place c = by (nat_eq x.class 0) refl c (λ d. named_by_row rows place d)
   where
     by : (t : Bool) → nat_eq x.class 0 ≡ t → Contains (cond (not t) (x.class ∷ row_places rows) (row_places rows)) place
         → (Contains (row_places rows) place → HasRow rows place) → HasRow (x ∷ rows) place
-    by true is d more = let h = more d in record { row = h.row; listed = contains_later x rows h.row h.listed; names = h.names; some = h.some }
+    by true is d more = let h = more d in record { row = h.row; listed = later_in x rows h.row h.listed; names = h.names; some = h.some }
     by false is d more =
         ⊎_elim
         (λ same. record {
           row = x;
-          listed = contains_first x rows;
+          listed = first_in x rows;
           names = same;
           some = λ e. true≢false (sym (eq-eqb x.class 0 e) ∙ is);
         })
-        (λ later. let h = more later in record { row = h.row; listed = contains_later x rows h.row h.listed; names = h.names; some = h.some })
-        (contains_cases x.class (row_places rows) place d)
+        (λ later. let h = more later in record { row = h.row; listed = later_in x rows h.row h.listed; names = h.names; some = h.some })
+        (which_in x.class (row_places rows) place d)
 
 -- ---- the uses of a twin
 

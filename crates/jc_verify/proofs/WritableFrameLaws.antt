@@ -1,10 +1,9 @@
 -- The frames of a twin can be said by full frames.
-use Rattle.std.proofs.Common.{◌≡◌, ⊎_elim, ℕ, zero, suc, ◌+◌, ◌-◌, ◌<◌, ◌≤◌, true, List, [], ◌∷◌, length, map, get_or, Some, refl, sym, ◌∙◌, ap, arith}
+use Rattle.std.proofs.Common.{◌≡◌, ℕ, zero, suc, ◌+◌, ◌-◌, ◌<◌, ◌≤◌, true, List, [], ◌∷◌, length, map, get_or, Some, refl, ◌∙◌, ap, arith}
 use Rattle.std.specs.Prelude.{slice_get, slice_index}
 use Rattle.std.specs.List.{AllByRecursion}
-use Rattle.std.proofs.lemmas.Bool.{eq-eqb, ne_eqb, cases_lt}
+use Rattle.std.proofs.lemmas.Bool.{eq-eqb, ne_eqb}
 use Rattle.std.proofs.lemmas.List.{length-map}
-use Rattle.std.proofs.lemmas.Option.{none-some}
 use Rattle.jc_base.proofs.StartsLaws.{rising}
 use Rattle.jc_base.specs.FrameOrder.{RiseFrom}
 use Rattle.jc_base.specs.Held.{Names, Held, top, int, float, double, long, null, uninit_this, object, uninit, class_names, Seen, SeenAt, slots, seen_at}
@@ -12,9 +11,7 @@ use Rattle.jc_base.specs.Starts.{insn_number, AreStarts}
 use Rattle.jc_base.specs.declared.body.FrameAt.{FrameAt}
 use Rattle.jc_pool.specs.Adding.{IsFirst}
 use Rattle.jc_pool.specs.Lookup.{class_name_of}
-use Rattle.jc_pool.specs.Pool.{PoolValue}
-use Rattle.jc_pool.specs.declared.index.Naming.TheVariants as naming
-use Rattle.jc_pool.proofs.KeyPlaceLaws.{naming_past}
+use Rattle.jc_pool.proofs.AddedLaws.{class_within}
 use Rattle.jc_frames.specs.Frames.{Ground, is_new, values_in}
 use Rattle.jc_frames.specs.FullFrames.{Places, ArePaired, StartsAt, HasPlaces, IsWritable, AreRising, AreWritable}
 use Rattle.jc_frames.specs.FullTable.{HasPlace, named_by, named_by_all}
@@ -60,11 +57,6 @@ number_of (start ∷ next ∷ starts) count (suc k) size_is up le =
     let more = number_of (next ∷ starts) (count - 1) k (omega (arith, size_is))
     (λ i j lt within. up (suc i) (suc j) (omega (arith, lt)) (omega (arith, within, le))) (omega (arith, le)) in
     rw (ne_eqb start (get_or (next ∷ starts) k 0) (λ e. omega (arith, above, e))) (omega (arith, more))
-
--- a class stands in front of the pool's end
-pub class_within : (pool : PoolValue) (place : ℕ) (name : List ℕ) → class_name_of pool place ≡ Some name → place < length pool
-class_within pool place name there =
-    ⊎_elim (λ less. less) (λ behind. absurd (none-some name (sym (naming_past naming.Class pool place behind) ∙ there))) (cases_lt place (length pool))
 
 -- frames in rising order among so many instructions are as many at most
 few_frames : (from count : ℕ) (frames : List FrameAt) → RiseFrom from frames → AllByRecursion (λ f. f.at < count) frames → from ≤ count

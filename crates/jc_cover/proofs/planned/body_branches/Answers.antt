@@ -3,7 +3,7 @@ use Rattle.std.proofs.lemmas.List.{take_all}
 use Rattle.jc_base.specs.PlainLists.{map_from}
 use Rattle.jc_base.specs.declared.insn.Insn.{Insn}
 use Rattle.jc_base.specs.declared.plan.Plan.{Plan}
-use Rattle.jc_plan.proofs.FlowLaws.{few_insns}
+use Rattle.jc_base.proofs.PlacedInsnLaws.{few_insns}
 use Rattle.jc_plan.proofs.PlacesLaws.{maps_one}
 use Rattle.jc_cover.specs.Planned.{read_branches}
 use Rattle.jc_cover.specs.declared.planned.PlannedBranch.{PlannedBranch}

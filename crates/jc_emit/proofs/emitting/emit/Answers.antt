@@ -3,7 +3,7 @@ use Rattle.std.specs.List.{sum_by}
 use Rattle.std.proofs.lemmas.Option.{get_or_from_slice_get}
 use Rattle.jc_base.specs.Insn.{arm_count}
 use Rattle.jc_base.specs.declared.emitted.Emitted.{Emitted}
-use Rattle.jc_plan.proofs.FlowLaws.{few_insns}
+use Rattle.jc_base.proofs.PlacedInsnLaws.{few_insns}
 use Rattle.jc_emit.specs.Twin.{IsEmitted}
 use Rattle.jc_emit.specs.Shift.{probe_array_class}
 use Rattle.jc_emit.proofs.EmittingLaws.{grows_one, states_put}

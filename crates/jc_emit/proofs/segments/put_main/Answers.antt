@@ -4,8 +4,8 @@ use Rattle.jc_base.specs.Flow.{flow_of}
 use Rattle.jc_base.specs.Insn.{with_places}
 use Rattle.jc_base.specs.declared.insn.Insn.{Insn}
 use Rattle.jc_base.specs.declared.insn.Flow.TheVariants as flows
+use Rattle.jc_base.proofs.PlacedInsnLaws.{few_insns}
 use Rattle.jc_plan.specs.Plan.{out_probes}
-use Rattle.jc_plan.proofs.FlowLaws.{few_insns}
 use Rattle.jc_after.specs.Shift.{with_slot}
 use Rattle.jc_emit.specs.Branching.{IsPushed, IsTableOf, late_in}
 use Rattle.jc_emit.specs.Items.{image, land_of, tests_part}

@@ -2,8 +2,8 @@ use Rattle.std.proofs.Common.{◌≡◌, ℕ, ◌++◌, false, Option, None, Lis
 use Rattle.jc_base.specs.Flow.{flow_of}
 use Rattle.jc_base.specs.declared.insn.Insn.{Insn}
 use Rattle.jc_base.specs.declared.insn.Flow.{Flow}
+use Rattle.jc_base.proofs.PlacedInsnLaws.{few_insns}
 use Rattle.jc_plan.specs.Plan.{lead_probe, out_probes}
-use Rattle.jc_plan.proofs.FlowLaws.{few_insns}
 use Rattle.jc_emit.specs.Branching.{IsPushed, early_in}
 use Rattle.jc_emit.specs.Items.{lead_part, early_part, image_part}
 use Rattle.jc_emit.specs.Sizes.{insn_at, early_probe}

@@ -7,9 +7,9 @@ use Rattle.jc_base.specs.Flow.{targets_of}
 use Rattle.jc_base.specs.Insn.{with_places}
 use Rattle.jc_base.specs.InsnUse.{LeadsWithin}
 use Rattle.jc_base.specs.declared.insn.Insn.{Insn}
+use Rattle.jc_base.proofs.PlacedInsnLaws.{few_insns}
 use Rattle.jc_plan.specs.Plan.{out_probes}
 use Rattle.jc_plan.specs.Probed.{probe_of}
-use Rattle.jc_plan.proofs.FlowLaws.{few_insns}
 use Rattle.jc_emit.specs.Branching.{IsPushed, IsTableOf, arm_place_in, arm_part_in}
 use Rattle.jc_emit.specs.Items.{image, arm_parts, land_of, image_of}
 use Rattle.jc_emit.specs.Sizes.{insn_at, arms_at}

@@ -1,5 +1,6 @@
 use Rattle.std.proofs.Common.{ℕ, List, length, map, All, sym, ◌∙◌, ap, ap₂, subst}
 use Rattle.std.specs.List.{AllByRecursion}
+use Rattle.std.proofs.lemmas.List.Elements.{recursion_from_All}
 use Rattle.jc_base.specs.declared.kind.Kind.{Kind}
 use Rattle.jc_base.specs.EntryState.{in_locals}
 use Rattle.jc_base.specs.Held.{Held, SeenAt, class_names, held, IsNumbered}
@@ -8,7 +9,7 @@ use Rattle.jc_pool.specs.Pool.{PoolValue}
 use Rattle.jc_frames.specs.declared.method.Value.{Value}
 use Rattle.jc_frames.specs.Running.{held_values, IsNumberedValue}
 use Rattle.jc_base.proofs.MetNamesLaws.{grows_both}
-use Rattle.jc_frames.proofs.BuildingLaws.{kinds_numbered, values_numbered, all_unnumbered, by_recursion}
+use Rattle.jc_frames.proofs.BuildingLaws.{kinds_numbered, values_numbered, all_unnumbered}
 use Rattle.jc_frames.proofs.MetLaws.{frame_met}
 use Rattle.jc_frames.proofs.building.built_frame.Goals as goal
 
@@ -33,8 +34,8 @@ returns-clause-numbered c values stack =
     let Each : List Kind → Type 0 = λ l. AllByRecursion (IsNumbered (length new)) l in
     let kinds = kinds_numbered mid new c.in_ok-values.values.items c.in_ok-stack.ensures.grows (c.in_ok-values.ensures.numbered (subst Old (sym c.deref.ensures.value) values)) in
     record {
-      locals = by_recursion (IsNumbered (length new)) c.in_ok-locals.locals (c.in_ok-locals.ensures.numbered (length new) (subst New (sym c.deref-2.ensures.value) kinds));
-      stack = subst Each (sym c.from_vec.ensures) (by_recursion (IsNumbered (length new)) c.in_ok-stack.stack.items
+      locals = recursion_from_All (IsNumbered (length new)) c.in_ok-locals.locals (c.in_ok-locals.ensures.numbered (length new) (subst New (sym c.deref-2.ensures.value) kinds));
+      stack = subst Each (sym c.from_vec.ensures) (recursion_from_All (IsNumbered (length new)) c.in_ok-stack.stack.items
           (c.in_ok-stack.ensures.numbered (subst Mid (sym c.deref-3.ensures.value) (all_unnumbered (length mid) c.args.frame.now.stack.items stack))));
     }
 

@@ -1,5 +1,5 @@
 use Rattle.std.proofs.Common.{◌∙◌, arith}
-use Rattle.jc_frames.proofs.BuildingLaws.{one_top}
+use Rattle.jc_base.proofs.EntryStateLaws.{one_top}
 use Rattle.jc_frames.proofs.building.put_tops.Goals as goal
 
 pub tops-preserved : goal.tops-preserved

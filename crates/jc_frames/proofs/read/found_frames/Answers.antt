@@ -1,4 +1,5 @@
 use Rattle.std.proofs.Common.{◌+◌, ℕ, List, length, map, refl, sym, ◌∙◌, ap, subst}
+use Rattle.std.proofs.lemmas.List.Elements.{All-from_recursion}
 use Rattle.jc_base.specs.Decoder.{number_at}
 use Rattle.jc_base.specs.Held.{Seen, SeenAt, seen, seen_at, IsNumbered}
 use Rattle.jc_base.specs.Parsing.{item}
@@ -12,8 +13,9 @@ use Rattle.jc_frames.specs.Table.{outcome_of}
 use Rattle.jc_frames.proofs.BuildingLaws.{values_numbered}
 use Rattle.jc_base.proofs.MetNamesLaws.{grows_none, grows_both}
 use Rattle.jc_base.specs.Names.{met}
+use Rattle.jc_base.proofs.NumberedLaws.{seen_grown}
 use Rattle.jc_frames.proofs.MetLaws.{frames_met}
-use Rattle.jc_frames.proofs.ReadLaws.{entry_stays, each_of, frames_pushed, built_more, refusal_at}
+use Rattle.jc_frames.proofs.ReadLaws.{frames_pushed, built_more, refusal_at}
 use Rattle.jc_frames.proofs.StepLaws.{begins_by, stopped_by, walks_by}
 use Rattle.jc_frames.proofs.WalkLaws.{Walking, count_cut, nothing_left, bytes_left, none_left, some_left}
 use Rattle.jc_frames.proofs.read.found_frames.Goals as goal
@@ -41,7 +43,7 @@ reading-init c =
           (before g.pool later c.in_ok-running.running) c.table_count.new.reader.left in
           subst At (sym c.new-frames.ensures.items) (begins_by c.in_ok-method.method g is later (seen later c.args.entry.now) c.args.table.now c.in-Some.count c.in_ok-running.running
           c.new-reader.result.left c.table_count.new.reader.left c.new-reader.ensures.left (c.in_ok-running.ensures.values c.args.pool.now later) c.in-Some.ensures.count);
-      values = c.in_ok-running.ensures.numbered (length c.args.names.now) (each_of (IsNumbered (length c.args.names.now)) c.args.entry.now.locals c.requires.numbered.locals);
+      values = c.in_ok-running.ensures.numbered (length c.args.names.now) (All-from_recursion (IsNumbered (length c.args.names.now)) c.args.entry.now.locals c.requires.numbered.locals);
       numbered = rw c.new-frames.ensures.items tt;
       met = rw c.new-frames.ensures.items refl;
     }
@@ -98,7 +100,7 @@ pub returns-clause-frames : goal.returns-clause-frames
 returns-clause-frames c =
     let g = ground c.args.pool.now c.args.code.now c.args.starts.now (length c.args.entry.now.locals) c.args.max_stack in
     let mid = c.reading.names in
-    ap (λ (s : Seen). outcome_of g s c.args.table.now) (sym (entry_stays c.args.names.now mid c.args.entry.now c.reading.invariant.grows c.requires.numbered))
+    ap (λ (s : Seen). outcome_of g s c.args.table.now) (sym (seen_grown c.args.names.now mid c.args.entry.now c.reading.invariant.grows c.requires.numbered))
     ∙ nothing_left g (seen mid c.args.entry.now) c.args.table.now c.in-Some.count c.reading.number (map (seen_at mid) c.reading.frames.items) (before g.pool mid c.reading.running)
     c.reading.reader.left c.reading-test.false (c.reading.invariant.walking mid (grows_none mid))
     (none_left c.u8.result c.is_ok.result (length c.reading.reader.left) c.is_ok.ensures.value c.if-is_ok.false c.u8.ensures.short.0)

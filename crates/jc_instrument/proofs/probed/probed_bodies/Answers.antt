@@ -8,7 +8,7 @@ use Rattle.jc_base.specs.Held.{AreNumberedFrames, Grows}
 use Rattle.jc_base.specs.declared.body.Body.{Body}
 use Rattle.jc_base.specs.declared.kind.State.{State}
 use Rattle.jc_base.proofs.MetNamesLaws.{name_grows}
-use Rattle.jc_kinds.proofs.NumberLaws.{frames_numbered, grown_count}
+use Rattle.jc_base.proofs.NumberedLaws.{grown_count, frames_numbered}
 use Rattle.jc_plan.specs.Probed.{first_id}
 use Rattle.jc_emit.specs.Shift.{probe_array_class}
 use Rattle.jc_instrument.specs.Probing.{IsTooLong, IsFirstTooLong}

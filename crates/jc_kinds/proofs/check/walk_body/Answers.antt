@@ -1,7 +1,7 @@
 use Rattle.std.proofs.Common.{length}
 use Rattle.jc_base.proofs.MetNamesLaws.{grows_both}
+use Rattle.jc_base.proofs.NumberedLaws.{grown_count, frames_numbered}
 use Rattle.jc_kinds.proofs.AnswerLaws.{entry_on}
-use Rattle.jc_kinds.proofs.NumberLaws.{grown_count, frames_numbered}
 use Rattle.jc_kinds.proofs.check.walk_body.Goals as goal
 
 pub walk-requires-clause-entry : goal.walk-requires-clause-entry

@@ -1,8 +1,8 @@
 use Rattle.std.proofs.Common.{rules, ◌≤◌, ◌++◌, length, subst, ◌∙◌, ap, List}
 use Rattle.jc_base.specs.declared.kind.State.{State}
+use Rattle.jc_base.proofs.NumberedLaws.{grown_count, frames_numbered}
 use Rattle.jc_kinds.specs.Walk.{Steps}
 use Rattle.jc_kinds.proofs.MissingLaws.{few_insns}
-use Rattle.jc_kinds.proofs.NumberLaws.{grown_count, frames_numbered}
 use Rattle.jc_kinds.proofs.BranchLaws.{first_made, first_not}
 use Rattle.jc_kinds.proofs.WalkLaws.{walk_ends, walk_on, walk_stops}
 use Rattle.jc_kinds.proofs.walk.walk.Goals as goal

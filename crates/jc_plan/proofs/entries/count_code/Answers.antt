@@ -4,10 +4,11 @@ use Rattle.std.specs.List.{count_by}
 use Rattle.std.proofs.lemmas.List.{take_all}
 use Rattle.jc_base.specs.PlainLists.{join_from}
 use Rattle.jc_base.specs.declared.insn.Insn.{Insn}
+use Rattle.jc_base.proofs.PlacedInsnLaws.{few_insns}
 use Rattle.jc_plan.specs.Edges.{branches_of}
 use Rattle.jc_plan.specs.Marks.{enters, EntersWithin}
 use Rattle.jc_plan.proofs.CountingLaws.{entered_next, entered_few, enters_within}
-use Rattle.jc_plan.proofs.FlowLaws.{few_insns, few_targets, few_at}
+use Rattle.jc_plan.proofs.FlowLaws.{few_targets, few_at}
 use Rattle.jc_plan.proofs.entries.count_code.Goals as goal
 
 pub counting-init : goal.counting-init

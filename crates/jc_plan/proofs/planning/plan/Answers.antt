@@ -2,6 +2,7 @@ use Rattle.std.proofs.Common.{◌≡◌, ◌<◌, ℕ, ◌+◌, Bool, Option, Li
 use Rattle.std.specs.List.{count_by}
 use Rattle.jc_base.specs.PlainLists.{places}
 use Rattle.jc_base.specs.declared.insn.Insn.{Insn}
+use Rattle.jc_base.proofs.PlacedInsnLaws.{few_insns}
 use Rattle.jc_plan.specs.declared.branch.Way.TheVariants.{Falls}
 use Rattle.jc_plan.specs.Edges.{branches_of}
 use Rattle.jc_plan.specs.Entries.{one_if, is_multi_target}
@@ -10,7 +11,7 @@ use Rattle.jc_plan.specs.Plan.{lead_probe, out_probes}
 use Rattle.jc_plan.specs.Marks.{has_probe, ids_from}
 use Rattle.jc_plan.proofs.PlacesLaws.{puts_place, maps_one, mapped_at, length_mapped}
 use Rattle.jc_plan.proofs.CountingLaws.{one_most}
-use Rattle.jc_plan.proofs.FlowLaws.{few_insns, few_targets, few_at, few_of}
+use Rattle.jc_plan.proofs.FlowLaws.{few_targets, few_at, few_of}
 use Rattle.jc_plan.proofs.PlanningLaws.{few_probes, outs_here, next_here, planned, none_first}
 use Rattle.jc_plan.proofs.planning.plan.Goals as goal
 

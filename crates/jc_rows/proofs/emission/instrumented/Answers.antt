@@ -1,6 +1,6 @@
 use Rattle.std.proofs.Common.{sym, subst}
 use Rattle.jc_base.specs.declared.emitted.Emitted.{Emitted}
-use Rattle.jc_kinds.proofs.NumberLaws.{grown_count, frames_numbered}
+use Rattle.jc_base.proofs.NumberedLaws.{grown_count, frames_numbered}
 use Rattle.jc_layout.specs.Layable.{IsLayable}
 use Rattle.jc_rows.proofs.emission.instrumented.Goals as goal
 

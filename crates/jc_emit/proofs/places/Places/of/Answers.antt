@@ -2,8 +2,8 @@ use Rattle.std.proofs.Common.{rules, ◌≡◌, ◌<◌, ◌≤◌, ℕ, false, 
 use Rattle.jc_base.specs.Flow.{flow_of}
 use Rattle.jc_base.specs.declared.insn.Insn.{Insn}
 use Rattle.jc_base.specs.declared.insn.Flow.{Flow}
+use Rattle.jc_base.proofs.PlacedInsnLaws.{few_insns}
 use Rattle.jc_plan.specs.Plan.{lead_probe, out_probes}
-use Rattle.jc_plan.proofs.FlowLaws.{few_insns}
 use Rattle.jc_emit.specs.Branching.{early_in, behind_in}
 use Rattle.jc_emit.specs.Sizes.{insn_at, probe_size, early_probe, behind_size}
 use Rattle.jc_emit.proofs.PlanReads.{length_leads, length_outs, lead_here, outs_here}

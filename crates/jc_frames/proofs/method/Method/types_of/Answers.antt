@@ -3,10 +3,11 @@ use Rattle.std.proofs.lemmas.List.{drop_all, map-append}
 use Rattle.std.proofs.lemmas.List.Elements.{All-append, All-cons, All-nil}
 use Rattle.jc_frames.specs.declared.method.Value.{Value}
 use Rattle.jc_base.specs.Held.{Held}
+use Rattle.jc_base.proofs.AppendingLaws.{drop_at}
 use Rattle.jc_frames.specs.Frames.{types_of}
 use Rattle.jc_frames.specs.Running.{held_value, held_values, IsUnnumbered}
 use Rattle.jc_frames.proofs.MethodLaws.{behind, one_typed, none_typed, all_typed}
-use Rattle.jc_frames.proofs.RunningLaws.{drop_one, said_none, said_some}
+use Rattle.jc_frames.proofs.RunningLaws.{said_none, said_some}
 use Rattle.jc_frames.proofs.method.Method.types_of.Goals as goal
 
 pub returns-in-None-clause-says : goal.returns-in-None-clause-says
@@ -15,7 +16,7 @@ returns-in-None-clause-says c names =
     let i = c.typing.item-index in
     let g = c.args.self.now in
     c.typing.invariant.says names
-    ∙ none_typed g (held_values g.pool names c.typing.values.items) (drop i items) (drop (i + 1) items) _ (drop_one items i _ c.typing-test.true)
+    ∙ none_typed g (held_values g.pool names c.typing.values.items) (drop i items) (drop (i + 1) items) _ (drop_at items i _ c.typing-test.true)
     (said_none (held_value g.pool names) _ c.type_of.result (c.type_of.ensures.says names) c.in-None.is)
 
 pub typing-preserved : goal.typing-preserved
@@ -28,7 +29,7 @@ typing-preserved c =
       says = λ names.
           c.typing.invariant.says names
           ∙ one_typed g (held_values g.pool names c.typing.values.items) (drop i items) (drop (i + 1) items) _ (held_value g.pool names c.in-Some.value)
-          (drop_one items i _ c.typing-test.true) (said_some (held_value g.pool names) _ c.type_of.result c.in-Some.value (c.type_of.ensures.says names) c.in-Some.is)
+          (drop_at items i _ c.typing-test.true) (said_some (held_value g.pool names) _ c.type_of.result c.in-Some.value (c.type_of.ensures.says names) c.in-Some.is)
           ∙ ap (λ (hs : List Held). behind hs (types_of g (drop (i + 1) items)))
           (sym (ap (held_values g.pool names) pushed ∙ map-append (held_value g.pool names) c.typing.values.items (c.in-Some.value ∷ [])));
       unnumbered = rw pushed (All-append IsUnnumbered c.typing.values.items (c.in-Some.value ∷ []) c.typing.invariant.unnumbered

@@ -11,10 +11,10 @@ use Rattle.jc_base.proofs.SeenLaws.{seen_stays}
 pub grown_count : (old new : Names) → Grows old new → length old ≤ length new
 grown_count old new g = let e = ap (λ (l : Names). length l) g.1 ∙ length-append old g.0 in omega (arith, e)
 
-pub seen_kept : (old new : Names) (s : State) → Grows old new → IsNumberedState (length old) s → seen new s ≡ seen old s
-seen_kept old new s g n = ap (λ (names : Names). seen names s) g.1 ∙ seen_stays old g.0 s n
+pub seen_grown : (old new : Names) (s : State) → Grows old new → IsNumberedState (length old) s → seen new s ≡ seen old s
+seen_grown old new s g n = ap (λ (names : Names). seen names s) g.1 ∙ seen_stays old g.0 s n
 
-number_kept : (count more : ℕ) (k : Kind) → count ≤ more → IsNumbered count k → IsNumbered more k
+pub number_kept : (count more : ℕ) (k : Kind) → count ≤ more → IsNumbered count k → IsNumbered more k
 number_kept count more (kinds.Object n) le lt = omega (arith, le, lt)
 number_kept count more kinds.Top le n = tt
 number_kept count more kinds.Int le n = tt
@@ -25,7 +25,7 @@ number_kept count more kinds.Null le n = tt
 number_kept count more kinds.UninitThis le n = tt
 number_kept count more (kinds.Uninit at) le n = tt
 
-numbers_kept : (count more : ℕ) (ks : List Kind) → count ≤ more → AllByRecursion (IsNumbered count) ks → AllByRecursion (IsNumbered more) ks
+pub numbers_kept : (count more : ℕ) (ks : List Kind) → count ≤ more → AllByRecursion (IsNumbered count) ks → AllByRecursion (IsNumbered more) ks
 numbers_kept count more [] le all = tt
 numbers_kept count more (k ∷ ks) le all = (number_kept count more k le all.0, numbers_kept count more ks le all.1)
 
