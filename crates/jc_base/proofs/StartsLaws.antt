@@ -21,11 +21,11 @@ rising count size starts are i j less inside =
     subst (λ (k : ℕ). get_or starts i 0 < get_or starts k 0) steps (rises count size starts are i (j - suc i) (omega (arith, less, inside)))
 
 -- the numbers of the list rise, as far as the last
-abbrev Rises : List ℕ → ℕ → Type 0
+abbrev pub Rises : List ℕ → ℕ → Type 0
 Rises starts count = (k j : ℕ) → k < j → j ≤ count → get_or starts k 0 < get_or starts j 0
 
 -- what begins at an offset has its number, and so has the end
-number_at : (starts : List ℕ) (count k : ℕ) → length starts ≡ count + 1 → Rises starts count → k ≤ count → insn_number starts (get_or starts k 0) ≡ k
+pub number_at : (starts : List ℕ) (count k : ℕ) → length starts ≡ count + 1 → Rises starts count → k ≤ count → insn_number starts (get_or starts k 0) ≡ k
 number_at [] count k long up le = absurd (omega (arith, long))
 number_at (end ∷ []) count k long up le = omega (arith, long, le)
 number_at (start ∷ next ∷ starts) count zero long up le = rw (eq-eqb start start refl) refl

@@ -101,12 +101,15 @@ fn put_values(
     Ok(())
 }
 
-/// Puts `Top` into the local variables that are left.
-fn put_tops(locals: &mut List<Kind>, max_locals: u16) -> Result<(), Memory>
+/// Puts `Top` into the local variables that are left of so many (JVM Specification 4.10.1.6).
+///
+/// # Errors
+///
+/// `Memory` where memory was refused.
+pub fn put_tops(locals: &mut List<Kind>, max_locals: usize) -> Result<(), Memory>
     ensures { OnOk result (locals.new ≡ locals.old ++ replicate (max_locals - length locals.old) kinds.Top) }
 {
-    let count = usize::from(max_locals);
-    'tops: while locals.len() < count {
+    'tops: while locals.len() < max_locals {
         locals.push(Kind::Top)?;
     }
     Ok(())
@@ -150,7 +153,7 @@ pub fn entry_state(
     let types = method_types(alloc, desc)?;
     let mut locals = with_this(alloc, owner, name, flags, names)?;
     put_values(alloc, types.parameters.as_slice(), &mut locals, names)?;
-    put_tops(&mut locals, max_locals)?;
+    put_tops(&mut locals, usize::from(max_locals))?;
     Ok(State {
         locals,
         stack: List::new(alloc),

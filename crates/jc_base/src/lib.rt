@@ -52,7 +52,7 @@ pub use descriptor_types::{
     more_names_change_nothing,
 };
 pub use emitted::Emitted;
-pub use entry::entry_state;
+pub use entry::{entry_state, put_tops};
 pub use fail::{Fail, Memory, Unfit};
 pub use files::{FileFault, Files, MOST_READ};
 pub use form::{Form, form_of};

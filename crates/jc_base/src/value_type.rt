@@ -1,6 +1,7 @@
 //! The types that descriptors say, as values.
 ghost use Rattle.std.specs.Prelude.{◌≡◌, Option, IfOk, OnOk, OnErr, [], ◌∷◌, length};
-ghost use Rattle.jc_base.specs.Descriptor.{FieldType, MethodType, IsFieldDescriptor, DescribesField, IsMethodDescriptor, DescribesMethod, IsReturnDescriptor, IsReturnType, return_text};
+ghost use Rattle.jc_base.specs.Descriptor.{FieldType, MethodType, IsFieldDescriptor, DescribesField, IsMethodDescriptor};
+ghost use Rattle.jc_base.specs.Descriptor.{DescribesMethod, IsReturnDescriptor, IsReturnType, return_text};
 ghost use Rattle.jc_base.specs.DescriptorTypes.{base_type};
 ghost use Rattle.jc_base.specs.Held.{held, width, class_names, Grows, IsNumbered};
 ghost use Rattle.jc_base.specs.Names.{met};

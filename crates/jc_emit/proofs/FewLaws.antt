@@ -2,11 +2,11 @@
 use Rattle.std.proofs.Common.{◌≡◌, ℕ, zero, suc, ◌+◌, ◌*◌, ◌<◌, ◌≤◌, Bool, false, cond, nat_le, List, [], ◌∷◌, ◌++◌, length, take, map, Option, Some, None, refl, ap, ◌∙◌, arith, pos, add-one}
 use Rattle.std.specs.List.{sum_by}
 use Rattle.std.proofs.lemmas.Bool.{cond_both}
-use Rattle.std.proofs.lemmas.List.{take_more, take_all, length-map}
+use Rattle.std.proofs.lemmas.List.{take_more, take_all}
 use Rattle.std.proofs.lemmas.List.Sums.{sum_by-cons, sum_by-append}
 use Rattle.jc_base.specs.PlainLists.{pieces}
 use Rattle.jc_base.specs.Flow.{flow_of}
-use Rattle.jc_base.specs.Insn.{arm_count, with_places, arm_with_place}
+use Rattle.jc_base.specs.Insn.{arm_count}
 use Rattle.jc_base.specs.WellMade.{IsCode, insns_and_arms}
 use Rattle.jc_base.specs.Widened.{inverted}
 use Rattle.jc_base.specs.declared.insn.Insn.{Insn}

@@ -1,5 +1,5 @@
 -- The states before the instructions at which frames stand are those of the frames.
-use Rattle.std.proofs.Common.{◌≡◌, ⊎_elim, subst, ℕ, zero, suc, ◌+◌, ◌<◌, false, List, [], ◌∷◌, length, get_or, map, Some, refl, sym, ap, ◌∙◌, arith}
+use Rattle.std.proofs.Common.{◌≡◌, ⊎_elim, subst, ℕ, zero, suc, ◌<◌, false, List, [], ◌∷◌, length, get_or, map, Some, refl, sym, ap, ◌∙◌, arith}
 use Rattle.std.specs.Prelude.{Contains}
 use Rattle.std.specs.List.{AllByRecursion, IsDistinct}
 use Rattle.std.specs.Str.{bytes_eq}
@@ -12,9 +12,7 @@ use Rattle.jc_base.specs.declared.kind.State.{State}
 use Rattle.jc_base.specs.declared.body.Body.{Body}
 use Rattle.jc_base.specs.declared.body.FrameAt.{FrameAt}
 use Rattle.jc_base.specs.Held.{Names, Seen, held, seen, IsNumbered, IsNumberedState, AreNumberedFrames}
-use Rattle.jc_base.specs.WellMade.{IsWellMadeOfAnySize, AreFramesFrom}
-use Rattle.jc_base.specs.declared.insn.Insn.{Insn}
-use Rattle.jc_base.specs.FrameOrder.{RiseFrom}
+use Rattle.jc_base.specs.WellMade.{IsWellMadeOfAnySize}
 use Rattle.jc_base.proofs.TestLaws.{none_in, which_in}
 use Rattle.jc_kinds.specs.Answers.{AreStates}
 use Rattle.jc_emit.specs.TwinFrames.{no_state, state_at}

@@ -10,7 +10,7 @@ ghost use Rattle.jc_frames.specs.Running.{name_at, held_value, held_values, IsNu
 
 use crate::method::{Method, Value};
 use crate::running::{Frame, Running, is_wide};
-use jc_base::{FrameAt, Kind, List, Memory, Names, State};
+use jc_base::{FrameAt, Kind, List, Memory, Names, State, put_tops};
 use jc_pool::Pool;
 use std::alloc::Global;
 use std::collections::HashMap;
@@ -126,23 +126,8 @@ fn locals_of(alloc: Global, kinds: &[Kind], max_locals: u32) -> Result<List<Kind
             locals.push(Kind::Top)?;
         }
     }
-    put_tops(&mut locals, max_locals)?;
+    put_tops(&mut locals, max_locals as usize)?;
     Ok(locals)
-}
-
-/// Puts `Top` into the local variables that are left of so many.
-///
-/// # Errors
-///
-/// `Memory` where memory was refused.
-fn put_tops(locals: &mut List<Kind>, max_locals: u32) -> Result<(), Memory>
-    ensures { OnOk result (locals.new ≡ locals.old ++ replicate (max_locals - length locals.old) kinds.Top) }
-{
-    let count = max_locals as usize;
-    'tops: while locals.len() < count {
-        locals.push(Kind::Top)?;
-    }
-    Ok(())
 }
 
 /// The frame, with the state there.

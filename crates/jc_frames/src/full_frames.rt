@@ -5,7 +5,8 @@ ghost use Rattle.jc_base.specs.Held.{IsNumbered, class_name, class_names, held, 
 ghost use Rattle.jc_pool.specs.Adding.{Extends, IsFirst};
 ghost use Rattle.jc_pool.specs.Lookup.{class_name_of};
 ghost use Rattle.jc_frames.specs.FullFrames.{Places, full_text, full_texts, short, table_text, type_text, types_text};
-ghost use Rattle.jc_frames.specs.FullTable.{AreFirstPlaces, ArePlacesIn, AreShort, CanBeWritten, FitsFull, HasPlace, IsPlaced, OffsetsRise, RefusesClasses, TakesClasses, named_by, named_by_all};
+ghost use Rattle.jc_frames.specs.FullTable.{AreFirstPlaces, ArePlacesIn, AreShort, CanBeWritten, FitsFull, HasPlace, IsPlaced};
+ghost use Rattle.jc_frames.specs.FullTable.{OffsetsRise, RefusesClasses, TakesClasses, named_by, named_by_all};
 
 use crate::full_classes::{place_of_class, take_classes};
 use crate::running::kinds_in_locals;

@@ -9,7 +9,7 @@ use Rattle.jc_base.specs.Grammar.{Grammar, times}
 use Rattle.jc_base.proofs.OneTextLaws.{both_bytes, big_below}
 use Rattle.jc_pool.specs.Pool.{PoolValue}
 use Rattle.jc_class.specs.ClassFormat.{attribute, member, class_file, HasText, HasFieldDescriptor, HasMethodDescriptor}
-use Rattle.jc_class.specs.ClassId.{polynomial, after_bit, after_bits, after_byte, remainder_of, class_id}
+use Rattle.jc_class.specs.ClassId.{polynomial, after_bit, after_bits, after_byte, class_id}
 use Rattle.jc_class.specs.ClassId as id
 use Rattle.jc_class.specs.ClassText.{ClassText}
 use Rattle.jc_class.specs.declared.class_file.Attribute.{Attribute}

@@ -7,7 +7,7 @@ use Rattle.std.specs.Option.{option_and_then}
 use Rattle.std.proofs.lemmas.Bool.{cases_lt}
 use Rattle.std.proofs.lemmas.Option.{none-some, same_Some, slice_get_within}
 use Rattle.jc_base.proofs.DecidingLaws.{method_text_decided}
-use Rattle.jc_base.proofs.StartsLaws.{rising}
+use Rattle.jc_base.proofs.StartsLaws.{number_at, rising}
 use Rattle.jc_base.proofs.TestLaws.{stands_in}
 use Rattle.jc_base.specs.Deciding.{after_types}
 use Rattle.jc_base.specs.DescriptorReading.{after_type, after_brackets, after_name}
@@ -58,7 +58,6 @@ use Rattle.jc_verify.proofs.KeptEntryLaws.{member_found_at, long_found_at, strin
 use Rattle.jc_verify.proofs.RightEntryLaws.{push_right}
 use Rattle.jc_verify.proofs.TwinItemLaws.{push_locals}
 use Rattle.jc_verify.proofs.UsedPlaceLaws.{stands_used}
-use Rattle.jc_verify.proofs.WritableFrameLaws.{number_of}
 
 -- ---- descriptors
 
@@ -194,7 +193,7 @@ module _ (twin : ClassFile) (owner : List ℕ) (id : ℤ) (count : ℕ) (p : Add
             within = omega arith;
             starts = record {
               few = omega (arith, up, end, few);
-              number = number_of coded.starts 11 10 starts.one_more rises_so (omega arith);
+              number = number_at coded.starts 11 10 starts.one_more rises_so (omega arith);
             };
             locals = refl;
             paired = tt;

@@ -1,10 +1,9 @@
 -- The frames of a twin can be said by full frames.
-use Rattle.std.proofs.Common.{◌≡◌, ℕ, zero, suc, ◌+◌, ◌-◌, ◌<◌, ◌≤◌, true, List, [], ◌∷◌, length, map, get_or, Some, refl, ◌∙◌, ap, arith}
+use Rattle.std.proofs.Common.{◌≡◌, ℕ, zero, suc, ◌+◌, ◌-◌, ◌<◌, ◌≤◌, true, List, [], ◌∷◌, length, map, get_or, Some, ◌∙◌, ap, arith}
 use Rattle.std.specs.Prelude.{slice_get, slice_index}
 use Rattle.std.specs.List.{AllByRecursion}
-use Rattle.std.proofs.lemmas.Bool.{eq-eqb, ne_eqb}
 use Rattle.std.proofs.lemmas.List.{length-map}
-use Rattle.jc_base.proofs.StartsLaws.{rising}
+use Rattle.jc_base.proofs.StartsLaws.{number_at, rising}
 use Rattle.jc_base.specs.FrameOrder.{RiseFrom}
 use Rattle.jc_base.specs.Held.{Names, Held, top, int, float, double, long, null, uninit_this, object, uninit, class_names, Seen, SeenAt, slots, seen_at}
 use Rattle.jc_base.specs.Starts.{insn_number, AreStarts}
@@ -46,18 +45,6 @@ pub record IsFine (g : Ground) (f : SeenAt) : Type 0 where
 
 -- ---- offsets
 
--- the instruction that begins at the offset of an instruction is that one
-pub number_of : (starts : List ℕ) (count k : ℕ) → length starts ≡ count + 1 → ((i j : ℕ) → i < j → j ≤ count → get_or starts i 0 < get_or starts j 0)
-    → k ≤ count → insn_number starts (get_or starts k 0) ≡ k
-number_of [] count k size_is up le = absurd (omega (arith, size_is))
-number_of (end ∷ []) count k size_is up le = omega (arith, size_is, le)
-number_of (start ∷ next ∷ starts) count zero size_is up le = rw (eq-eqb start start refl) refl
-number_of (start ∷ next ∷ starts) count (suc k) size_is up le =
-    let above : start < get_or (next ∷ starts) k 0 = up 0 (suc k) (omega arith) le in
-    let more = number_of (next ∷ starts) (count - 1) k (omega (arith, size_is))
-    (λ i j lt within. up (suc i) (suc j) (omega (arith, lt)) (omega (arith, within, le))) (omega (arith, le)) in
-    rw (ne_eqb start (get_or (next ∷ starts) k 0) (λ e. omega (arith, above, e))) (omega (arith, more))
-
 -- frames in rising order among so many instructions are as many at most
 few_frames : (from count : ℕ) (frames : List FrameAt) → RiseFrom from frames → AllByRecursion (λ f. f.at < count) frames → from ≤ count
     → from + length frames ≤ count
@@ -81,7 +68,7 @@ module _ (g : Ground) (p : Places) (size : ℕ) (starts : AreStarts (length g.co
         let up = rises at (length g.code) lt (omega arith) in
         let end = starts.end in
         omega (arith, e, up, end, few);
-    number = ap (insn_number g.starts) (start at) ∙ number_of g.starts (length g.code) at starts.one_more rises (omega (arith, lt));
+    number = ap (insn_number g.starts) (start at) ∙ number_at g.starts (length g.code) at starts.one_more rises (omega (arith, lt));
   }
 
   -- ---- places of classes
