@@ -16,18 +16,26 @@ cat > refuse.c <<'C'
 #include <dlfcn.h>
 #include <errno.h>
 #include <fcntl.h>
+#include <stdatomic.h>
 #include <stdio.h>
 #include <stdlib.h>
 #include <unistd.h>
 
-static long calls, refused = -1;
+static atomic_long calls;
+static long refused;
 
+__attribute__((constructor)) static void begin(void) {
+    const char *number = getenv("REFUSED_CALL");
+    refused = number ? atol(number) : 0;
+    calls = 0;
+}
+
+/* The Nth call says by a file that the run has reached it. */
 static int is_refused(void) {
-    if (refused < 0) {
-        const char *number = getenv("REFUSED_CALL");
-        refused = number ? atol(number) : 0;
-    }
-    return ++calls == refused;
+    if (atomic_fetch_add(&calls, 1) + 1 != refused) return 0;
+    int file = open(getenv("REFUSED_MARK"), O_CREAT | O_WRONLY, 0600);
+    if (file >= 0) close(file);
+    return 1;
 }
 
 void *malloc(size_t size) {
@@ -48,13 +56,6 @@ void *realloc(void *old, size_t size) {
         return NULL;
     }
     return next(old, size);
-}
-
-__attribute__((destructor)) static void report(void) {
-    if (refused > 0 && calls >= refused) {
-        int file = open(getenv("REFUSED_MARK"), O_CREAT | O_WRONLY, 0600);
-        if (file >= 0) close(file);
-    }
 }
 C
 cc -O2 -shared -fPIC -o refuse.so refuse.c -ldl
@@ -118,6 +119,13 @@ def made(name, major):
 open("A.class", "wb").write(made(b"A", 52))
 open("B.class", "wb").write(made(b"B", 52))
 open("C.class", "wb").write(made(b"C", 62))
+
+# A class of version 52 with one method, whose code is `return`.
+utf8 = lambda text: b"\x01" + len(text).to_bytes(2, "big") + text
+pool = utf8(b"D") + bytes.fromhex("070001") + utf8(b"java/lang/Object") + bytes.fromhex("070003") + utf8(b"f") + utf8(b"()V") + utf8(b"Code")
+code = bytes.fromhex("00070000000d0000000000000001b100000000")
+method = bytes.fromhex("0009000500060001") + code
+open("D.class", "wb").write(bytes.fromhex("cafebabe000000340008") + pool + bytes.fromhex("00210002000400000000" + "0001") + method + bytes.fromhex("0000"))
 PY
 )
 
@@ -135,4 +143,8 @@ try_words "execinfo a.exec bad.exec"
 try_words "classinfo A.class B.class"
 try_words "classinfo A.class C.class"
 try_words "classinfo A.class a.exec"
+try_words "report --csv o --exec a.exec D.class"
+try_words "report --csv o D.class a.exec"
+try_words "instrument --dest d D.class A.class"
+try_words "instrument --dest d a.exec D.class"
 exit "$failed"
