@@ -16,4 +16,3 @@ pub mod EffectsLaws
 pub mod DispatchLaws
 pub mod BuildLaws
 pub mod ApplyLaws
-pub mod TestBodyLaws

@@ -10,4 +10,3 @@ pub mod Steps
 pub mod Effects
 pub mod Answers
 pub mod Shift
-pub mod TestBodies

@@ -20,6 +20,3 @@ pub use effects::Effects;
 pub use laws::{a_step_shifts, each_array_has_a_name};
 pub use state_after::after;
 pub use want::Want;
-
-#[cfg(test)]
-mod tests;

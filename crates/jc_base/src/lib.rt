@@ -79,6 +79,3 @@ pub use try_clone::{TryClone, clone_each};
 pub use used::what_used;
 pub use value_type::{MethodTypes, ValueType, field_type, method_types};
 pub use widened::the_wide_form_has_each_image;
-
-#[cfg(test)]
-mod tests;

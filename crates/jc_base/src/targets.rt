@@ -77,34 +77,3 @@ pub fn first_seen(alloc: Global, numbers: &[u32]) -> Result<List<u32>, Memory>
     }
     Ok(List::from_vec(Vec::from_slice(alloc, seen.as_slice())?))
 }
-
-#[cfg(test)]
-mod tests {
-    use super::*;
-    use std::test::Fail;
-
-    #[test]
-    fn targets_in_table_order(rt: HostRuntime) -> Result<(), Fail> {
-        let alloc = rt.alloc();
-        let table = Insn::Table {
-            low: 5,
-            default: 9,
-            arms: List::from_vec([4, 9, 4, 3].to_vec(alloc)?),
-        };
-        let lookup = Insn::Lookup {
-            default: 2,
-            arms: List::from_vec([Arm { key: -1, to: 3 }, Arm { key: 7, to: 2 }].to_vec(alloc)?),
-        };
-        let goto = Insn::Jump { op: 167, to: 6 };
-        for (insn, targets, distinct) in [
-            (&table, &[9, 4, 9, 4, 3][..], &[9, 4, 3][..]),
-            (&lookup, &[2, 3, 2], &[2, 3]),
-            (&goto, &[6], &[6]),
-            (&Insn::Simple(177), &[], &[]),
-        ] {
-            assert_eq!(rt; insn.targets(alloc)?.as_slice(), targets);
-            assert_eq!(rt; insn.distinct_targets(alloc)?.as_slice(), distinct);
-        }
-        Ok(())
-    }
-}

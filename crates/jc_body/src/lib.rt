@@ -20,6 +20,3 @@ mod uses;
 
 pub use laws::{each_method_has_one_answer, each_stack_map_has_frames_or_a_fault};
 pub use reading::read_body;
-
-#[cfg(test)]
-mod tests;

@@ -15,6 +15,3 @@ pub use laws::{each_class_has_one_text, each_text_is_read_or_refused};
 pub use parts::read_attributes;
 pub use read::read_class;
 pub use write::write_class;
-
-#[cfg(test)]
-mod tests;

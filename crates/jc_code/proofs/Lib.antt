@@ -7,4 +7,3 @@ pub mod LaidLaws
 pub mod AttributeLaws
 pub mod NamedLaws
 pub mod TwinCodeLaws
-pub mod TestLaws

@@ -16,6 +16,3 @@ pub use init::{AddedPlaces, write_init};
 pub use laws::{each_layout_can_be_written, first_places};
 pub use merging::{frames_of, merged_frames};
 pub use texts::first_text;
-
-#[cfg(test)]
-mod tests;

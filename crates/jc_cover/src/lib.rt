@@ -19,6 +19,3 @@ pub use laws::{
     each_counter_is_small, each_coverage_tells_what_is_covered, each_covered_edge_is_entered,
     each_line_is_found, each_mark_is_a_covered_instruction,
 };
-
-#[cfg(test)]
-mod tests;

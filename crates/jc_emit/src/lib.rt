@@ -22,8 +22,3 @@ pub use laws::{
     each_wide_twin_is_wide,
 };
 pub use straddling::straddles;
-
-#[cfg(test)]
-mod tests;
-#[cfg(test)]
-mod worked;

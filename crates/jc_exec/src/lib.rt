@@ -20,8 +20,3 @@ pub use laws::{
 pub use refusal::ExecRefusal;
 pub use session::Session;
 pub use store::ExecStore;
-
-#[cfg(test)]
-mod slow;
-#[cfg(test)]
-mod tests;

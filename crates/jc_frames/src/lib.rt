@@ -24,6 +24,3 @@ pub use laws::{
     frames_of_a_table_are_well_made, full_frames_are_read_back, written_frames_are_read_back,
 };
 pub use read::read_frames;
-
-#[cfg(test)]
-mod tests;

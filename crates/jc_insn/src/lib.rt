@@ -9,8 +9,6 @@ mod operands;
 mod places;
 mod size;
 mod switch;
-#[cfg(test)]
-mod tests;
 mod write;
 
 pub use decoding::{Decoded, decode};

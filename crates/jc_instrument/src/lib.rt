@@ -26,6 +26,3 @@ pub use instrumented::{
 };
 pub use laws::{each_class_has_an_analysis_or_a_reason, each_class_has_one_analysis_reason};
 pub use whole::{Instrumented, instrument};
-
-#[cfg(test)]
-mod tests;

@@ -15,4 +15,3 @@ pub mod BranchLaws
 pub mod RefusalLaws
 pub mod StateShiftLaws
 pub mod EntryShiftLaws
-pub mod TestBodyLaws

@@ -11,4 +11,3 @@ pub mod Runs
 pub mod Guarded
 pub mod Walk
 pub mod StateShift
-pub mod TestBodies

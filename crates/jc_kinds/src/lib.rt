@@ -16,6 +16,3 @@ pub use jc_after::after;
 pub use laws::{
     each_body_passes_or_is_refused, more_names_change_no_state, states_shift, the_tests_decide,
 };
-
-#[cfg(test)]
-mod tests;

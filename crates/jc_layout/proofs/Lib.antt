@@ -7,4 +7,3 @@ pub mod MergedLaws
 pub mod LaidCodeLaws
 pub mod LaidBodyLaws
 pub mod CallLaws
-pub mod TestLaws

@@ -11,6 +11,3 @@ pub use laws::{
     each_layout_is_chosen,
 };
 pub use layouts::{Laid, layout};
-
-#[cfg(test)]
-mod tests;

@@ -20,6 +20,3 @@ pub use laws::{
     each_position_is_of_one_branch, each_target_is_once, each_way_is_tested,
 };
 pub use planning::plan;
-
-#[cfg(test)]
-mod tests;

@@ -21,6 +21,3 @@ pub use laws::{added_entries, one_reading, one_text};
 pub use lookup::{BadIndex, MemberText};
 pub use pool::Pool;
 pub use text::text_of;
-
-#[cfg(test)]
-mod tests;

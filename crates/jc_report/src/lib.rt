@@ -11,8 +11,3 @@ pub use class_rows::rows;
 pub use csv_file::csv_text;
 pub use laws::{each_name_is_shown, each_split_is_at_the_last, rows_stand_in_order};
 pub use row::{Counted, Row};
-
-#[cfg(test)]
-mod tests;
-#[cfg(test)]
-mod worked;

@@ -21,6 +21,3 @@ mod words;
 
 pub use run::{each_command_has_one_work, run_tool};
 pub use status::{Fault, Status};
-
-#[cfg(test)]
-mod tests;
