@@ -3,6 +3,7 @@ use Rattle.std.specs.Prelude.{◌≡◌, ◌≢◌, ◌⊎◌, ◌<◌, ◌≤�
 use Rattle.std.specs.Ordering.{nat_cmp}
 use Rattle.std.specs.FinMap.{FinMap, get, insert}
 use Rattle.std.specs.Cmp.Lexicographic.{slice_cmp}
+use Rattle.jc_base.specs.Reader.{most_read}
 use Rattle.jc_base.specs.declared.files.FileFault.{FileFault}
 use Rattle.jc_base.specs.declared.files.FileFault.TheVariants as faults
 use Rattle.jc_base.specs.declared.sink.SinkFault.{SinkFault}
@@ -10,10 +11,6 @@ use Rattle.jc_base.specs.declared.sink.SinkFault.{SinkFault}
 -- what each path holds
 abbrev pub FileMap : Type 0
 FileMap = FinMap (slice_cmp nat_cmp) (List ℕ)
-
--- no more bytes of a file are read
-abbrev pub most_read : ℕ
-most_read = 67108864
 
 -- a count that stands at its last value can't rise, and is as good as risen
 abbrev pub Rose : ℕ → ℕ → Type 0
