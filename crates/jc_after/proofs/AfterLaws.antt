@@ -6,22 +6,22 @@ use Rattle.std.specs.List.{AllByRecursion, list_any, list_all}
 use Rattle.std.specs.Str.{bytes_eq}
 use Rattle.std.specs.Prelude.{codes}
 use Rattle.std.proofs.lemmas.Option.{none-some}
-use Rattle.jc_base.specs.declared.insn.Insn.{Insn}
-use Rattle.jc_base.specs.declared.insn.Insn.TheVariants as insns
-use Rattle.jc_base.specs.declared.body.Use.{Use}
-use Rattle.jc_base.specs.declared.body.What.{What}
-use Rattle.jc_base.specs.declared.body.What.TheVariants as whats
-use Rattle.jc_base.specs.declared.body.Body.{Body}
-use Rattle.jc_base.specs.Descriptor.{FieldType, Byte, Char, Double, Float, Int, Long, Short, Boolean, Object, Array, MethodType}
-use Rattle.jc_base.specs.DescriptorTypes.{field_type_in, method_type_in}
-use Rattle.jc_base.specs.Flow.{is_test, is_return, inverse_of}
-use Rattle.jc_base.specs.WellMade.{what_used}
-use Rattle.jc_base.specs.declared.opcode.TheConstants as ops
-use Rattle.jc_base.specs.Insn.{with_places}
-use Rattle.jc_base.specs.InsnUse.{pool_place, is_of_two_slots}
-use Rattle.jc_base.specs.Held.{Held, top, uninit, Seen, slots}
-use Rattle.jc_base.specs.EntryState.{held_of}
-use Rattle.jc_base.proofs.EachLaws.{AllFrom, all_from}
+use Rattle.jc_methods.specs.declared.insn.Insn.{Insn}
+use Rattle.jc_methods.specs.declared.insn.Insn.TheVariants as insns
+use Rattle.jc_methods.specs.declared.body.Use.{Use}
+use Rattle.jc_methods.specs.declared.body.What.{What}
+use Rattle.jc_methods.specs.declared.body.What.TheVariants as whats
+use Rattle.jc_methods.specs.declared.body.Body.{Body}
+use Rattle.jc_bytes.specs.Descriptor.{FieldType, Byte, Char, Double, Float, Int, Long, Short, Boolean, Object, Array, MethodType}
+use Rattle.jc_methods.specs.DescriptorTypes.{field_type_in, method_type_in}
+use Rattle.jc_methods.specs.Flow.{is_test, is_return, inverse_of}
+use Rattle.jc_methods.specs.WellMade.{what_used}
+use Rattle.jc_methods.specs.Opcode as opcode
+use Rattle.jc_methods.specs.Insn.{with_places}
+use Rattle.jc_methods.specs.InsnUse.{pool_place, is_of_two_slots}
+use Rattle.jc_methods.specs.Held.{Held, top, uninit, Seen, slots}
+use Rattle.jc_methods.specs.EntryState.{held_of}
+use Rattle.jc_bytes.proofs.EachLaws.{AllFrom, all_from}
 use Rattle.jc_after.specs.declared.want.Want.{Want}
 use Rattle.jc_after.specs.declared.want.Want.TheVariants as wants
 use Rattle.jc_after.specs.Wants.{is_int, accepts, accepts_all}
@@ -135,9 +135,9 @@ still_takes v wanted = still_moves v _ (tt, tt)
 still_field : (v op : ℕ) (type : Option FieldType) → IsStill v (field_step op type)
 still_field v op None = still_fails v
 still_field v op (Some type) =
-    still_if v (nat_eq op ops.GETSTATIC) _ _ (still_gives v type [])
-    (still_if v (nat_eq op ops.PUTSTATIC) _ _ (still_takes v _)
-    (still_if v (nat_eq op ops.GETFIELD) _ _ (still_gives v type (wants.Reference ∷ [])) (still_takes v _)))
+    still_if v (nat_eq op opcode.getstatic) _ _ (still_gives v type [])
+    (still_if v (nat_eq op opcode.putstatic) _ _ (still_takes v _)
+    (still_if v (nat_eq op opcode.getfield) _ _ (still_gives v type (wants.Reference ∷ [])) (still_takes v _)))
 
 still_static : (v : ℕ) (type : MethodType) → IsStill v (static_step type)
 still_static v type = still_moves v _ (results_placeless type.returns, tt)
@@ -147,12 +147,12 @@ still_object v type = still_moves v _ (results_placeless type.returns, tt)
 
 still_method : (v op : ℕ) (name : List ℕ) (type : MethodType) → IsStill v (method_step op name type)
 still_method v op name type =
-    still_if v (nat_eq op ops.INVOKESTATIC) _ _ (still_static v type)
-    (still_if v (nat_eq op ops.INVOKESPECIAL && bytes_eq name (codes "<init>")) _ _ (record { stays = refl; can = results_placeless type.returns }) (still_object v type))
+    still_if v (nat_eq op opcode.invokestatic) _ _ (still_static v type)
+    (still_if v (nat_eq op opcode.invokespecial && bytes_eq name (codes "<init>")) _ _ (record { stays = refl; can = results_placeless type.returns }) (still_object v type))
 
 pub still_member : (v op : ℕ) (what : Option What) → IsStill v (member_step op what)
-still_member v op (Some (whats.Field class name desc)) = still_if v (nat_le op ops.PUTFIELD) _ _ (still_field v op (field_type_in desc)) (still_fails v)
-still_member v op (Some (whats.Method class name desc)) = still_if v (nat_le op ops.PUTFIELD) _ _ (still_fails v) (still_method v op name (method_type_in desc))
+still_member v op (Some (whats.Field class name desc)) = still_if v (nat_le op opcode.putfield) _ _ (still_field v op (field_type_in desc)) (still_fails v)
+still_member v op (Some (whats.Method class name desc)) = still_if v (nat_le op opcode.putfield) _ _ (still_fails v) (still_method v op name (method_type_in desc))
 still_member v op (Some (whats.Call name desc)) = still_fails v
 still_member v op (Some (whats.Class name)) = still_fails v
 still_member v op (Some (whats.Int value)) = still_fails v
@@ -222,9 +222,9 @@ still_array v name = still_if v (nat_le (length (array_of name)) 65535) _ _ (sti
 
 pub still_class : (v op : ℕ) (what : Option What) → IsStill v (class_step op what)
 still_class v op (Some (whats.Class name)) =
-    still_if v (nat_eq op ops.NEW) _ _ (record { stays = refl; can = tt })
-    (still_if v (nat_eq op ops.ANEWARRAY) _ _ (still_array v name)
-    (still_if v (nat_eq op ops.CHECKCAST) _ _ (still_plain v _ (wants.Reference ∷ []) tt) (still_plain v _ (wants.Reference ∷ []) tt)))
+    still_if v (nat_eq op opcode.new) _ _ (record { stays = refl; can = tt })
+    (still_if v (nat_eq op opcode.anewarray) _ _ (still_array v name)
+    (still_if v (nat_eq op opcode.checkcast) _ _ (still_plain v _ (wants.Reference ∷ []) tt) (still_plain v _ (wants.Reference ∷ []) tt)))
 still_class v op (Some (whats.Int value)) = still_fails v
 still_class v op (Some (whats.Long value)) = still_fails v
 still_class v op (Some whats.Float) = still_fails v
@@ -306,37 +306,37 @@ still_return v returns op = still_if v (nat_eq op (return_op returns)) _ _ (stil
 
 pub still_simple : (v : ℕ) (returns : Option FieldType) (op : ℕ) → IsStill v (simple_step returns op)
 still_simple v returns op =
-    still_if v (nat_eq op ops.AALOAD) _ _ (record { stays = refl; can = tt })
+    still_if v (nat_eq op opcode.aaload) _ _ (record { stays = refl; can = tt })
     (still_if v (is_return op) _ _ (still_return v returns op) (still_forms v op))
 
 -- the inverse of a conditional jump takes the same operands
 abbrev Inverts : ℕ → Type 0
 Inverts op = forms_at (inverse_of op) ≡ forms_at op
 
-jumps_invert : AllFrom Inverts ops.IFEQ 14
+jumps_invert : AllFrom Inverts opcode.ifeq 14
 unfolding forms_at table inverse_of
 jumps_invert = (refl, (refl, (refl, (refl, (refl, (refl, (refl, (refl, (refl, (refl, (refl, (refl, (refl, (refl, tt))))))))))))))
 
-nulls_invert : AllFrom Inverts ops.IFNULL 2
+nulls_invert : AllFrom Inverts opcode.ifnull 2
 unfolding forms_at table inverse_of
 nulls_invert = (refl, (refl, tt))
 
 pub test_inverts : (op : ℕ) → is_test op ≡ true → Inverts op
 test_inverts op test = ⊎_elim
-    (λ range. let p = and_parts (nat_le ops.IFEQ op) (nat_le op ops.IF_ACMPNE) range in
-    let low = leb-true ops.IFEQ op p.0 in let high = leb-true op ops.IF_ACMPNE p.1 in
-    all_from Inverts ops.IFEQ 14 op jumps_invert low (omega (arith, high)))
+    (λ range. let p = and_parts (nat_le opcode.ifeq op) (nat_le op opcode.if_acmpne) range in
+    let low = leb-true opcode.ifeq op p.0 in let high = leb-true op opcode.if_acmpne p.1 in
+    all_from Inverts opcode.ifeq 14 op jumps_invert low (omega (arith, high)))
     (λ null. ⊎_elim
-    (λ a. subst Inverts (sym (eqb-true op ops.IFNULL a)) nulls_invert.0)
-    (λ b. subst Inverts (sym (eqb-true op ops.IFNONNULL b)) nulls_invert.1.0)
-    (or_cases (nat_eq op ops.IFNULL) (nat_eq op ops.IFNONNULL) null))
-    (or_cases (nat_le ops.IFEQ op && nat_le op ops.IF_ACMPNE) (nat_eq op ops.IFNULL || nat_eq op ops.IFNONNULL) test)
+    (λ a. subst Inverts (sym (eqb-true op opcode.ifnull a)) nulls_invert.0)
+    (λ b. subst Inverts (sym (eqb-true op opcode.ifnonnull b)) nulls_invert.1.0)
+    (or_cases (nat_eq op opcode.ifnull) (nat_eq op opcode.ifnonnull) null))
+    (or_cases (nat_le opcode.ifeq op && nat_le op opcode.if_acmpne) (nat_eq op opcode.ifnull || nat_eq op opcode.ifnonnull) test)
 
 -- ---- the step of an image
 
 module _ (v : ℕ) (uses news : List Use) (returns : Option FieldType) where
   local_shifts : (op slot : ℕ) → local_step op (slot_of v slot) ≡ shifted_step v (local_step op slot)
-  local_shifts op slot = by (nat_lt op ops.ISTORE)
+  local_shifts op slot = by (nat_lt op opcode.istore)
     where
       by : (b : Bool) → (if b then loads (slot_of v slot) (local_want op) else stores (slot_of v slot) (local_want op))
           ≡ shifted_step v (if b then loads slot (local_want op) else stores slot (local_want op))
@@ -371,7 +371,7 @@ module _ (v : ℕ) (uses news : List Use) (returns : Option FieldType) where
 
 -- what moves a long or a double is of two slots
 pub two_slots : (op : ℕ) → takes_pair (local_want op) ≡ true → is_of_two_slots op ≡ true
-two_slots op e = by (nat_eq op ops.ILOAD || nat_eq op ops.ISTORE) (nat_eq op ops.LLOAD) (nat_eq op ops.LSTORE) (nat_eq op ops.FLOAD || nat_eq op ops.FSTORE) (nat_eq op ops.DLOAD) (nat_eq op ops.DSTORE) e
+two_slots op e = by (nat_eq op opcode.iload || nat_eq op opcode.istore) (nat_eq op opcode.lload) (nat_eq op opcode.lstore) (nat_eq op opcode.fload || nat_eq op opcode.fstore) (nat_eq op opcode.dload) (nat_eq op opcode.dstore) e
   where
     by : (i ll ls f dl ds : Bool)
         → takes_pair (if i then wants.Int else if ll || ls then wants.Long else if f then wants.Float else if dl || ds then wants.Double else wants.Anything) ≡ true
@@ -386,7 +386,7 @@ two_slots op e = by (nat_eq op ops.ILOAD || nat_eq op ops.ISTORE) (nat_eq op ops
     by false false false false false false e = absurd (true≢false (sym e))
 
 local_can : (v op slot : ℕ) → ((is_of_two_slots op ≡ true) × (slot + 1 ≡ v) → ⊥) → CanShift v (local_step op slot)
-local_can v op slot free = by (nat_lt op ops.ISTORE)
+local_can v op slot free = by (nat_lt op opcode.istore)
   where
     by : (b : Bool) → CanShift v (if b then loads slot (local_want op) else stores slot (local_want op))
     by true = tt
@@ -406,8 +406,8 @@ can_shift v uses returns (insns.OfClass op place) free = (still_class v op (what
 can_shift v uses returns (insns.NewArray elem) free = ((tt, tt), tt)
 can_shift v uses returns (insns.Multi place dims) free = (still_multi v dims (what_used uses place)).can
 can_shift v uses returns (insns.Jump op to) free = (still_forms v op).can
-can_shift v uses returns (insns.Table low default arms) free = (still_forms v ops.TABLESWITCH).can
-can_shift v uses returns (insns.Lookup default arms) free = (still_forms v ops.LOOKUPSWITCH).can
+can_shift v uses returns (insns.Table low default arms) free = (still_forms v opcode.tableswitch).can
+can_shift v uses returns (insns.Lookup default arms) free = (still_forms v opcode.lookupswitch).can
 
 -- ---- the classes of objects that aren't initialized
 

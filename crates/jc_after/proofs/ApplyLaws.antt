@@ -4,18 +4,18 @@ use Rattle.std.specs.Option.{option_and_then}
 use Rattle.std.specs.List.{AllByRecursion}
 use Rattle.std.proofs.lemmas.Bool.{le-ltb, true≢false}
 use Rattle.std.proofs.lemmas.Option.{slice_get-get_or, same_Some}
-use Rattle.jc_base.specs.declared.opcode.TheConstants as ops
-use Rattle.jc_base.specs.declared.insn.Insn.{Insn}
-use Rattle.jc_base.specs.declared.insn.Insn.TheVariants as insns
-use Rattle.jc_base.specs.declared.kind.State.{State}
-use Rattle.jc_base.specs.declared.body.Use.{Use}
-use Rattle.jc_base.specs.declared.body.Body.{Body}
-use Rattle.jc_base.specs.declared.fail.Memory.{Memory}
-use Rattle.jc_base.specs.Descriptor.{FieldType}
-use Rattle.jc_base.specs.InsnUse.{is_of_two_slots, LocalsWithin}
-use Rattle.jc_base.specs.WellMade.{what_used}
-use Rattle.jc_base.specs.Held.{Names, Seen, held, seen, IsNumberedState}
-use Rattle.jc_base.proofs.SeenLaws.{seen_stays}
+use Rattle.jc_methods.specs.Opcode as opcode
+use Rattle.jc_methods.specs.declared.insn.Insn.{Insn}
+use Rattle.jc_methods.specs.declared.insn.Insn.TheVariants as insns
+use Rattle.jc_methods.specs.declared.kind.State.{State}
+use Rattle.jc_methods.specs.declared.body.Use.{Use}
+use Rattle.jc_methods.specs.declared.body.Body.{Body}
+use Rattle.jc_bytes.specs.declared.fail.Memory.{Memory}
+use Rattle.jc_bytes.specs.Descriptor.{FieldType}
+use Rattle.jc_methods.specs.InsnUse.{is_of_two_slots, LocalsWithin}
+use Rattle.jc_methods.specs.WellMade.{what_used}
+use Rattle.jc_methods.specs.Held.{Names, Seen, held, seen, IsNumberedState}
+use Rattle.jc_methods.proofs.SeenLaws.{seen_stays}
 use Rattle.jc_after.specs.declared.effects.Effects.{Effects}
 use Rattle.jc_after.specs.declared.step.Step.{Step as KeptStep}
 use Rattle.jc_after.specs.declared.step.Step.TheVariants as steps
@@ -53,7 +53,7 @@ in_range count (builds f) e = tt
 in_range count fails e = tt
 
 range_there : (uses : List Use) (returns : Option FieldType) (count : ℕ) (insn : Insn) → LocalsWithin count insn → InRange count (step_of uses returns insn)
-range_there uses returns count (insns.Local op slot) within = by (nat_lt op ops.ISTORE) (first (is_of_two_slots op) within)
+range_there uses returns count (insns.Local op slot) within = by (nat_lt op opcode.istore) (first (is_of_two_slots op) within)
   where
     first : (b : Bool) → AllByRecursion (λ s. s < count) (if b then slot ∷ (slot + 1) ∷ [] else slot ∷ []) → slot < count
     first true w = w.0

@@ -1,13 +1,13 @@
 -- The step of an instruction that names a use, by what the use does.
 use Rattle.std.proofs.Common.{◌≡◌, inl, inr, ℕ, List, Option, Some, sym, ap, subst, ◌∙◌, arith}
-use Rattle.jc_base.specs.declared.insn.Insn.{Insn}
-use Rattle.jc_base.specs.declared.body.Use.{Use}
-use Rattle.jc_base.specs.declared.body.What.{What}
-use Rattle.jc_base.specs.declared.body.What.TheVariants as whats
-use Rattle.jc_base.specs.Descriptor.{FieldType, Long, Double, IsFieldDescriptor}
-use Rattle.jc_base.specs.Held.{Names}
-use Rattle.jc_base.specs.InsnUse.{pool_place, Suits, IsOneSlotConstant, IsTwoSlotConstant, IsOfTwoSlots, IsMemberFor, IsMethod, IsCall, IsClass}
-use Rattle.jc_base.specs.WellMade.{HasUse, what_used}
+use Rattle.jc_methods.specs.declared.insn.Insn.{Insn}
+use Rattle.jc_methods.specs.declared.body.Use.{Use}
+use Rattle.jc_methods.specs.declared.body.What.{What}
+use Rattle.jc_methods.specs.declared.body.What.TheVariants as whats
+use Rattle.jc_bytes.specs.Descriptor.{FieldType, Long, Double, IsFieldDescriptor}
+use Rattle.jc_methods.specs.Held.{Names}
+use Rattle.jc_methods.specs.InsnUse.{pool_place, Suits, IsOneSlotConstant, IsTwoSlotConstant, IsOfTwoSlots, IsMemberFor, IsMethod, IsCall, IsClass}
+use Rattle.jc_methods.specs.WellMade.{HasUse, what_used}
 use Rattle.jc_after.specs.declared.effect.Effect.{Effect}
 use Rattle.jc_after.specs.declared.step.Step.{Step as KeptStep}
 use Rattle.jc_after.specs.Step.{Step}

@@ -1,16 +1,16 @@
 -- What uses do to types, when more names are numbered.
 use Rattle.std.proofs.Common.{◌≡◌, ℕ, zero, suc, ◌<◌, List, [], ◌∷◌, ◌++◌, length, map, Option, option_map, refl, sym, ap, ap₂, ◌∙◌, subst, arith, append_assoc, get_or, Bool}
-use Rattle.jc_base.specs.declared.kind.Kind.{Kind}
-use Rattle.jc_base.specs.declared.body.Use.{Use}
-use Rattle.jc_base.specs.declared.body.What.{What}
-use Rattle.jc_base.specs.declared.value_type.ValueType.{ValueType}
-use Rattle.jc_base.specs.Descriptor.{FieldType, MethodType, IsFieldDescriptor, DescribesField, IsMethodDescriptor, DescribesMethod}
-use Rattle.jc_base.specs.DescriptorTypes.{field_type_in, method_type_in}
-use Rattle.jc_base.proofs.DescriptorTypesLaws.{field_again, method_again}
-use Rattle.jc_base.specs.EntryState.{held_of}
-use Rattle.jc_base.specs.Held.{Names, Held, held, Grows, IsNumbered}
-use Rattle.jc_base.specs.ValueTypes.{held_by, Says as SaysType, AllSay as AllSayTypes, SaysReturn}
-use Rattle.jc_base.proofs.SeenLaws.{held_stays}
+use Rattle.jc_methods.specs.declared.kind.Kind.{Kind}
+use Rattle.jc_methods.specs.declared.body.Use.{Use}
+use Rattle.jc_methods.specs.declared.body.What.{What}
+use Rattle.jc_methods.specs.declared.value_type.ValueType.{ValueType}
+use Rattle.jc_bytes.specs.Descriptor.{FieldType, MethodType, IsFieldDescriptor, DescribesField, IsMethodDescriptor, DescribesMethod}
+use Rattle.jc_methods.specs.DescriptorTypes.{field_type_in, method_type_in}
+use Rattle.jc_methods.proofs.DescriptorTypesLaws.{field_again, method_again}
+use Rattle.jc_methods.specs.EntryState.{held_of}
+use Rattle.jc_methods.specs.Held.{Names, Held, held, Grows, IsNumbered}
+use Rattle.jc_methods.specs.ValueTypes.{held_by, Says as SaysType, AllSay as AllSayTypes, SaysReturn}
+use Rattle.jc_methods.proofs.SeenLaws.{held_stays}
 use Rattle.jc_after.specs.declared.want.Want.{Want}
 use Rattle.jc_after.specs.declared.want.Want.TheVariants as wants
 use Rattle.jc_after.specs.declared.effect.Effect.{Effect}

@@ -1,21 +1,21 @@
 -- The effects of a body when more names are numbered, and what their calls answer.
 use Rattle.std.proofs.Common.{◌≡◌, ℕ, List, [], ◌∷◌, ◌++◌, length, Option, Some, None, option_map, Result, Ok, Err, IfOk, IfSome, refl, sym, ap, subst, ◌∙◌, slice_get, get_or}
-use Rattle.jc_base.specs.declared.kind.Kind.{Kind}
-use Rattle.jc_base.specs.declared.kind.Kind.TheVariants as kinds
-use Rattle.jc_base.specs.declared.kind.State.{State}
-use Rattle.jc_base.specs.declared.body.Body.{Body}
-use Rattle.jc_base.specs.declared.fail.Memory.{Memory}
-use Rattle.jc_base.specs.Held.{Names, Held, held, object, seen, Grows, IsNumberedState}
-use Rattle.jc_base.specs.WellMade.{IsWellMadeOfAnySize, HasUse, what_used}
+use Rattle.jc_methods.specs.declared.kind.Kind.{Kind}
+use Rattle.jc_methods.specs.declared.kind.Kind.TheVariants as kinds
+use Rattle.jc_methods.specs.declared.kind.State.{State}
+use Rattle.jc_methods.specs.declared.body.Body.{Body}
+use Rattle.jc_bytes.specs.declared.fail.Memory.{Memory}
+use Rattle.jc_methods.specs.Held.{Names, Held, held, object, seen, Grows, IsNumberedState}
+use Rattle.jc_methods.specs.WellMade.{IsWellMadeOfAnySize, HasUse, what_used}
 use Rattle.jc_after.specs.declared.effects.Effects.{Effects}
 use Rattle.std.proofs.lemmas.Option.{slice_get_within, get_or_from_slice_get, same_Some}
-use Rattle.jc_base.specs.declared.opcode.TheConstants as ops
-use Rattle.jc_base.specs.declared.insn.Insn.{Insn}
-use Rattle.jc_base.specs.declared.insn.Insn.TheVariants as insns
-use Rattle.jc_base.specs.declared.body.What.{What}
-use Rattle.jc_base.specs.declared.body.What.TheVariants as whats
-use Rattle.jc_base.specs.InsnUse.{pool_place, Suits, IsClass}
-use Rattle.jc_base.proofs.NumberedLaws.{seen_grown, grown_count, state_numbered}
+use Rattle.jc_methods.specs.Opcode as opcode
+use Rattle.jc_methods.specs.declared.insn.Insn.{Insn}
+use Rattle.jc_methods.specs.declared.insn.Insn.TheVariants as insns
+use Rattle.jc_methods.specs.declared.body.What.{What}
+use Rattle.jc_methods.specs.declared.body.What.TheVariants as whats
+use Rattle.jc_methods.specs.InsnUse.{pool_place, Suits, IsClass}
+use Rattle.jc_methods.proofs.NumberedLaws.{seen_grown, grown_count, state_numbered}
 use Rattle.jc_after.specs.declared.effect.Effect.{Effect}
 use Rattle.jc_after.specs.Does.{does, does_of, of_class, IsDescribed}
 use Rattle.jc_after.specs.After.{after_of, class_in, insn_at, new_class, ground_of}
@@ -82,22 +82,22 @@ owner_built names e place old are is =
 -- ---- the class that a `new` makes
 
 pub made_class : (names : Names) (e : Effects) (at made place : ℕ) (x : Insn) (code : List Insn) (effect : Effect) (result : Option Kind) → AreEffects names e
-    → slice_get (body_of e).code at ≡ Some (insns.OfClass ops.NEW made) → code ≡ (body_of e).code → x ≡ get_or code at x → Some place ≡ pool_place x
+    → slice_get (body_of e).code at ≡ Some (insns.OfClass opcode.new made) → code ≡ (body_of e).code → x ≡ get_or code at x → Some place ≡ pool_place x
     → ((what : What) → what_used (body_of e).uses place ≡ Some what → IsDescribed what → does names effect ≡ does_of what)
     → ((h constant : Held) (array : Option Held) → does names effect ≡ of_class h array constant → option_map (held names) result ≡ Some h)
     → option_map (held names) result ≡ Some (object (new_class (body_of e).uses (insn_at (body_of e) at)))
 made_class names e at made place x code effect result are is same read named kept classed =
     by u.what u.fact u.used
   where
-    x_is : x ≡ insns.OfClass ops.NEW made
-    x_is = read ∙ ap (λ (l : List Insn). get_or l at x) same ∙ get_or_from_slice_get (body_of e).code at (insns.OfClass ops.NEW made) x is
+    x_is : x ≡ insns.OfClass opcode.new made
+    x_is = read ∙ ap (λ (l : List Insn). get_or l at x) same ∙ get_or_from_slice_get (body_of e).code at (insns.OfClass opcode.new made) x is
 
     place_is : place ≡ made
     place_is = same_Some place made (named ∙ ap pool_place x_is)
 
-    u : HasUse (body_of e).uses made (Suits (insns.OfClass ops.NEW made))
-    u = subst (λ (i : Insn). (p : ℕ) → pool_place i ≡ Some p → HasUse (body_of e).uses p (Suits i)) (get_or_from_slice_get (body_of e).code at (insns.OfClass ops.NEW made) (insns.OfClass ops.NEW made) is)
-        (are.body.uses.by_insns at (insns.OfClass ops.NEW made) (slice_get_within (body_of e).code at (insns.OfClass ops.NEW made) is)) made refl
+    u : HasUse (body_of e).uses made (Suits (insns.OfClass opcode.new made))
+    u = subst (λ (i : Insn). (p : ℕ) → pool_place i ≡ Some p → HasUse (body_of e).uses p (Suits i)) (get_or_from_slice_get (body_of e).code at (insns.OfClass opcode.new made) (insns.OfClass opcode.new made) is)
+        (are.body.uses.by_insns at (insns.OfClass opcode.new made) (slice_get_within (body_of e).code at (insns.OfClass opcode.new made) is)) made refl
 
     by : (what : What) → IsClass what → what_used (body_of e).uses made ≡ Some what → option_map (held names) result ≡ Some (object (new_class (body_of e).uses (insn_at (body_of e) at)))
     by (whats.Class name) fits used =

@@ -4,7 +4,7 @@ use Rattle.std.specs.List.{list_any, AllByRecursion}
 use Rattle.std.proofs.lemmas.List.{length-set, length-map}
 use Rattle.std.proofs.lemmas.Bool.{leb-true}
 use Rattle.std.proofs.lemmas.Option.{none-some, same_Some}
-use Rattle.jc_base.specs.Held.{Held, top, int, float, double, long, null, uninit_this, object, uninit, Seen, is_pair, slots}
+use Rattle.jc_methods.specs.Held.{Held, top, int, float, double, long, null, uninit_this, object, uninit, Seen, is_pair, slots}
 use Rattle.jc_after.specs.declared.want.Want.TheVariants as wants
 use Rattle.jc_after.specs.Wants.{is_int, accepts, accepts_all}
 use Rattle.jc_after.specs.Step.{Gives, kind, item, Form, Step, moves, loads, stores, counts, picks, makes, builds, fails, Ground, apply, upper, below, last, limited, has_form, moved, moved_by, given_of, cleared, clear_before, put_second, put_local, with_stack, is_array, element_of, without, is_made, class_built, built_as, replaced, same_new}

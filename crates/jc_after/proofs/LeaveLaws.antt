@@ -7,23 +7,23 @@ use Rattle.std.proofs.lemmas.Bool.{eqb-true, true≢false}
 use Rattle.std.proofs.lemmas.List.{length-map, append-nil}
 use Rattle.std.proofs.lemmas.List.Sums.{sum_by-cons}
 use Rattle.std.proofs.lemmas.Option.{slice_get_within, get_or_from_slice_get, none-some, same_Some}
-use Rattle.jc_base.specs.declared.opcode.TheConstants as ops
-use Rattle.jc_base.specs.declared.insn.Insn.{Insn}
-use Rattle.jc_base.specs.declared.insn.Insn.TheVariants as insns
-use Rattle.jc_base.specs.declared.kind.Kind.{Kind}
-use Rattle.jc_base.specs.declared.kind.Kind.TheVariants as kinds
-use Rattle.jc_base.specs.declared.kind.State.{State}
-use Rattle.jc_base.specs.declared.body.Use.{Use}
-use Rattle.jc_base.specs.declared.body.What.{What}
-use Rattle.jc_base.specs.declared.body.What.TheVariants as whats
-use Rattle.jc_base.specs.declared.body.Body.{Body}
-use Rattle.jc_base.specs.Descriptor.{FieldType, MethodType}
-use Rattle.jc_base.specs.DescriptorTypes.{field_type_in, method_type_in}
-use Rattle.jc_base.specs.Flow.{is_return}
-use Rattle.jc_base.specs.InsnUse.{is_of_two_slots, LocalsWithin}
-use Rattle.jc_base.specs.WellMade.{IsKind, IsWellMadeOfAnySize, kind_slots, what_used}
-use Rattle.jc_base.specs.Held.{Names, Held, top, int, float, double, long, null, uninit_this, object, uninit, held, Seen, seen, slots, IsNumbered}
-use Rattle.jc_base.proofs.EachLaws.{each_of_all, all_of_each}
+use Rattle.jc_methods.specs.Opcode as opcode
+use Rattle.jc_methods.specs.declared.insn.Insn.{Insn}
+use Rattle.jc_methods.specs.declared.insn.Insn.TheVariants as insns
+use Rattle.jc_methods.specs.declared.kind.Kind.{Kind}
+use Rattle.jc_methods.specs.declared.kind.Kind.TheVariants as kinds
+use Rattle.jc_methods.specs.declared.kind.State.{State}
+use Rattle.jc_methods.specs.declared.body.Use.{Use}
+use Rattle.jc_methods.specs.declared.body.What.{What}
+use Rattle.jc_methods.specs.declared.body.What.TheVariants as whats
+use Rattle.jc_methods.specs.declared.body.Body.{Body}
+use Rattle.jc_bytes.specs.Descriptor.{FieldType, MethodType}
+use Rattle.jc_methods.specs.DescriptorTypes.{field_type_in, method_type_in}
+use Rattle.jc_methods.specs.Flow.{is_return}
+use Rattle.jc_methods.specs.InsnUse.{is_of_two_slots, LocalsWithin}
+use Rattle.jc_methods.specs.WellMade.{IsKind, IsWellMadeOfAnySize, kind_slots, what_used}
+use Rattle.jc_methods.specs.Held.{Names, Held, top, int, float, double, long, null, uninit_this, object, uninit, held, Seen, seen, slots, IsNumbered}
+use Rattle.jc_bytes.proofs.EachLaws.{each_of_all, all_of_each}
 use Rattle.jc_after.specs.declared.want.Want.TheVariants as wants
 use Rattle.jc_after.specs.Step.{Step, moves, loads, stores, counts, picks, makes, builds, fails, apply}
 use Rattle.jc_after.specs.Table.{turns}
@@ -65,16 +65,16 @@ if_plain false x y p q = q
 plain_field : (op : ℕ) (type : Option FieldType) → plain (field_step op type) ≡ true
 unfolding plain
 plain_field op None = refl
-plain_field op (Some type) = if_plain (nat_eq op ops.GETSTATIC) _ _ refl (if_plain (nat_eq op ops.PUTSTATIC) _ _ refl (if_plain (nat_eq op ops.GETFIELD) _ _ refl refl))
+plain_field op (Some type) = if_plain (nat_eq op opcode.getstatic) _ _ refl (if_plain (nat_eq op opcode.putstatic) _ _ refl (if_plain (nat_eq op opcode.getfield) _ _ refl refl))
 
 plain_method : (op : ℕ) (name : List ℕ) (type : MethodType) → plain (method_step op name type) ≡ true
 unfolding plain
-plain_method op name type = if_plain (nat_eq op ops.INVOKESTATIC) _ _ refl (if_plain (nat_eq op ops.INVOKESPECIAL && bytes_eq name (codes "<init>")) _ _ refl refl)
+plain_method op name type = if_plain (nat_eq op opcode.invokestatic) _ _ refl (if_plain (nat_eq op opcode.invokespecial && bytes_eq name (codes "<init>")) _ _ refl refl)
 
 plain_member : (op : ℕ) (what : Option What) → plain (member_step op what) ≡ true
 unfolding plain
-plain_member op (Some (whats.Field class name desc)) = if_plain (nat_le op ops.PUTFIELD) _ _ (plain_field op (field_type_in desc)) refl
-plain_member op (Some (whats.Method class name desc)) = if_plain (nat_le op ops.PUTFIELD) _ _ refl (plain_method op name (method_type_in desc))
+plain_member op (Some (whats.Field class name desc)) = if_plain (nat_le op opcode.putfield) _ _ (plain_field op (field_type_in desc)) refl
+plain_member op (Some (whats.Method class name desc)) = if_plain (nat_le op opcode.putfield) _ _ refl (plain_method op name (method_type_in desc))
 plain_member op _ = refl
 
 plain_interface : (what : Option What) → plain (interface_step what) ≡ true
@@ -104,38 +104,38 @@ plain_multi _ dims = refl
 
 plain_simple : (returns : Option FieldType) (op : ℕ) → plain (simple_step returns op) ≡ true
 unfolding plain
-plain_simple returns op = if_plain (nat_eq op ops.AALOAD) _ _ refl (if_plain (is_return op) _ _ (if_plain (nat_eq op (return_op returns)) _ _ refl refl) refl)
+plain_simple returns op = if_plain (nat_eq op opcode.aaload) _ _ refl (if_plain (is_return op) _ _ (if_plain (nat_eq op (return_op returns)) _ _ refl refl) refl)
 
 -- anewarray, checkcast and instanceof
 abbrev class_rest : ℕ → List ℕ → Step
 class_rest op name =
-    if nat_eq op ops.ANEWARRAY then array_step name
-    else if nat_eq op ops.CHECKCAST then moves (turns (wants.Reference ∷ []) (object name))
+    if nat_eq op opcode.anewarray then array_step name
+    else if nat_eq op opcode.checkcast then moves (turns (wants.Reference ∷ []) (object name))
     else moves (turns (wants.Reference ∷ []) int)
 
 plain_rest : (op : ℕ) (name : List ℕ) → plain (class_rest op name) ≡ true
 unfolding plain
 plain_rest op name =
-    if_plain (nat_eq op ops.ANEWARRAY) _ _ (if_plain (nat_le (length (array_of name)) 65535) _ _ refl refl)
-    (if_plain (nat_eq op ops.CHECKCAST) _ _ refl refl)
+    if_plain (nat_eq op opcode.anewarray) _ _ (if_plain (nat_le (length (array_of name)) 65535) _ _ refl refl)
+    (if_plain (nat_eq op opcode.checkcast) _ _ refl refl)
 
 -- a step that makes an object is that of a `new`
-class_new : (op place : ℕ) (what : Option What) → class_step op what ≡ makes → op ≡ ops.NEW
+class_new : (op place : ℕ) (what : Option What) → class_step op what ≡ makes → op ≡ opcode.new
 unfolding plain
-class_new op place (Some (whats.Class name)) e = by (nat_eq op ops.NEW) refl e
+class_new op place (Some (whats.Class name)) e = by (nat_eq op opcode.new) refl e
   where
-    by : (b : Bool) → nat_eq op ops.NEW ≡ b → (if b then makes else class_rest op name) ≡ makes → op ≡ ops.NEW
-    by true is e = eqb-true op ops.NEW is
+    by : (b : Bool) → nat_eq op opcode.new ≡ b → (if b then makes else class_rest op name) ≡ makes → op ≡ opcode.new
+    by true is e = eqb-true op opcode.new is
     by false is e = absurd (makes_nothing _ (plain_rest op name) e)
 class_new op place _ e = absurd cc
 
 module _ (uses : List Use) (returns : Option FieldType) where
-  new_there : (insn : Insn) → step_of uses returns insn ≡ makes → (place : ℕ) × (insn ≡ insns.OfClass ops.NEW place)
+  new_there : (insn : Insn) → step_of uses returns insn ≡ makes → (place : ℕ) × (insn ≡ insns.OfClass opcode.new place)
   unfolding plain
   new_there (insns.OfClass op place) e = (place, ap (λ (o : ℕ). insns.OfClass o place) (class_new op place (what_used uses place) e))
   new_there (insns.Simple op) e = absurd (makes_nothing _ (plain_simple returns op) e)
   new_there (insns.Push op value) e = absurd (makes_nothing _ refl e)
-  new_there (insns.Local op slot) e = absurd (by (nat_lt op ops.ISTORE) e)
+  new_there (insns.Local op slot) e = absurd (by (nat_lt op opcode.istore) e)
     where
       by : (b : Bool) → (if b then loads slot (local_want op) else stores slot (local_want op)) ≡ makes → ⊥
       by true e = cc
@@ -155,7 +155,7 @@ module _ (uses : List Use) (returns : Option FieldType) where
   -- what is stored has its second local variable too
   second_there : (count : ℕ) (insn : Insn) → LocalsWithin count insn → HasSecond count (step_of uses returns insn)
   unfolding plain
-  second_there count (insns.Local op slot) within = by (nat_lt op ops.ISTORE)
+  second_there count (insns.Local op slot) within = by (nat_lt op opcode.istore)
     where
       two : (b : Bool) → b ≡ true → AllByRecursion (λ s. s < count) (if b then slot ∷ (slot + 1) ∷ [] else slot ∷ []) → slot + 1 < count
       two true e w = w.1.0
@@ -167,7 +167,7 @@ module _ (uses : List Use) (returns : Option FieldType) where
   second_there count (insns.OfClass op place) within = class_second (what_used uses place)
     where
       class_second : (what : Option What) → HasSecond count (class_step op what)
-      class_second (Some (whats.Class name)) = by (nat_eq op ops.NEW)
+      class_second (Some (whats.Class name)) = by (nat_eq op opcode.new)
         where
           by : (b : Bool) → HasSecond count (if b then makes else class_rest op name)
           by true = tt
@@ -191,7 +191,7 @@ module _ (uses : List Use) (returns : Option FieldType) where
 
 -- made by a `new` of the body
 abbrev HeldKind : List Insn → Held → Type 0
-HeldKind code (uninit at) = (place : ℕ) × (slice_get code at ≡ Some (insns.OfClass ops.NEW place))
+HeldKind code (uninit at) = (place : ℕ) × (slice_get code at ≡ Some (insns.OfClass opcode.new place))
 HeldKind code h = Unit {0}
 
 others : (code : List Insn) (h : Held) → IsPlaceless (kind h) → HeldKind code h

@@ -1,14 +1,14 @@
 -- Operands that are taken and results that are left, one by one.
-use Rattle.jc_base.specs.WellMade.{kind_slots}
-use Rattle.jc_base.specs.declared.kind.Kind.TheVariants as kinds
+use Rattle.jc_methods.specs.WellMade.{kind_slots}
+use Rattle.jc_methods.specs.declared.kind.Kind.TheVariants as kinds
 use Rattle.std.proofs.Common.{◌≡◌, ◌≢◌, ℕ, suc, ◌+◌, ◌-◌, ◌<◌, ◌≤◌, true, false, ◌&&◌, List, [], ◌∷◌, ◌++◌, length, map, take, drop, Option, Some, None, option_map, refl, sym, ap, ap₂, ◌∙◌, arith, get_or, nat_le}
 use Rattle.std.proofs.lemmas.List.{drop_more, drop_all, take_all, length-map, length-drop, take-map, drop-map, map-append, map_more, append_assoc}
-use Rattle.jc_base.specs.declared.kind.Kind.{Kind}
-use Rattle.jc_base.specs.declared.kind.State.{State}
+use Rattle.jc_methods.specs.declared.kind.Kind.{Kind}
+use Rattle.jc_methods.specs.declared.kind.State.{State}
 use Rattle.jc_after.specs.declared.want.Want.{Want}
 use Rattle.jc_after.specs.declared.form.Give.{Give}
 use Rattle.jc_after.specs.declared.form.Give.TheVariants as gives
-use Rattle.jc_base.specs.Held.{Names, Held, held, seen, width, slots}
+use Rattle.jc_methods.specs.Held.{Names, Held, held, seen, width, slots}
 use Rattle.jc_after.specs.Wants.{accepts, accepts_all}
 use Rattle.jc_after.specs.Step.{Form, limited, below, upper, has_form, moved_by, given_of, with_stack}
 use Rattle.std.specs.List.{flat_map, list_any}

@@ -1,10 +1,10 @@
 -- New objects and constructors, by what is held.
 use Rattle.std.proofs.Common.{◌≡◌, ℕ, Bool, true, false, ◌||◌, List, [], ◌∷◌, ◌++◌, map, Option, Some, None, option_map, if◌then◌else◌, refl, sym, ap, ap₂, ◌∙◌, subst}
 use Rattle.std.specs.List.{list_any}
-use Rattle.jc_base.specs.declared.kind.Kind.{Kind}
-use Rattle.jc_base.specs.declared.kind.Kind.TheVariants as kinds
-use Rattle.jc_base.specs.declared.kind.State.{State}
-use Rattle.jc_base.specs.Held.{Names, top, object, uninit, held, Seen, seen}
+use Rattle.jc_methods.specs.declared.kind.Kind.{Kind}
+use Rattle.jc_methods.specs.declared.kind.Kind.TheVariants as kinds
+use Rattle.jc_methods.specs.declared.kind.State.{State}
+use Rattle.jc_methods.specs.Held.{Names, top, object, uninit, held, Seen, seen}
 use Rattle.jc_after.specs.Step.{Gives, kind, is_made, without, same_new, replaced, made_at, built_as, with_stack, limited, given_of}
 use Rattle.jc_after.specs.Table.{form}
 use Rattle.jc_after.specs.Shapes.{moved_in}

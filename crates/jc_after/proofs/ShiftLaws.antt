@@ -5,7 +5,7 @@ use Rattle.std.proofs.lemmas.Bool.{cases_lt, lt-ltb, le-ltb, cond-true, cond-fal
 use Rattle.std.specs.List.{AllByRecursion, list_any}
 use Rattle.jc_after.specs.declared.want.Want.{Want}
 use Rattle.jc_after.specs.declared.want.Want.TheVariants as wants
-use Rattle.jc_base.specs.Held.{Held, top, int, float, double, long, null, uninit_this, object, uninit, Seen, width, is_pair, slots}
+use Rattle.jc_methods.specs.Held.{Held, top, int, float, double, long, null, uninit_this, object, uninit, Seen, width, is_pair, slots}
 use Rattle.jc_after.specs.Wants.{accepts, accepts_all}
 use Rattle.jc_after.specs.Step.{Gives, kind, item, Form, moves, loads, stores, counts, picks, picked, makes, builds, fails, Ground, apply, is_array, element_of, given_of, limited, below, upper, has_form, moved, moved_by, cleared, clear_before, put_second, put_local, with_stack, last, loaded, is_made, without, same_new, replaced, built_as, class_built}
 use Rattle.jc_after.specs.Shift.{renamed, probes, shifted, slot_of, IsPlaceless, IsPlain, CanShift, StaysWhole, StepShifts, takes_pair}

@@ -1,14 +1,14 @@
 -- The step of an instruction, by what its use does.
 use Rattle.std.proofs.Common.{◌≡◌, inl, inr, ℕ, Bool, true, false, ◌&&◌, List, [], ◌∷◌, length, map, Option, Some, None, option_map, if◌then◌else◌, refl, ap, nat_eq, nat_le}
 use Rattle.std.specs.Prelude.{codes, bytes_eq}
-use Rattle.jc_base.specs.declared.opcode.TheConstants as ops
-use Rattle.jc_base.specs.declared.body.What.{What}
-use Rattle.jc_base.specs.declared.body.What.TheVariants as whats
-use Rattle.jc_base.specs.Descriptor.{FieldType}
-use Rattle.jc_base.specs.DescriptorTypes.{field_type_in, method_type_in}
-use Rattle.jc_base.specs.EntryState.{held_of}
-use Rattle.jc_base.specs.Held.{int, object}
-use Rattle.jc_base.specs.InsnUse.{IsOneSlotConstant, IsTwoSlotConstant, IsMemberFor, IsMethod, IsCall, IsClass}
+use Rattle.jc_methods.specs.Opcode as opcode
+use Rattle.jc_methods.specs.declared.body.What.{What}
+use Rattle.jc_methods.specs.declared.body.What.TheVariants as whats
+use Rattle.jc_bytes.specs.Descriptor.{FieldType}
+use Rattle.jc_methods.specs.DescriptorTypes.{field_type_in, method_type_in}
+use Rattle.jc_methods.specs.EntryState.{held_of}
+use Rattle.jc_methods.specs.Held.{int, object}
+use Rattle.jc_methods.specs.InsnUse.{IsOneSlotConstant, IsTwoSlotConstant, IsMemberFor, IsMethod, IsCall, IsClass}
 use Rattle.jc_after.specs.declared.want.Want.{Want}
 use Rattle.jc_after.specs.declared.want.Want.TheVariants as wants
 use Rattle.jc_after.specs.Step.{Gives, Step, moves, makes, builds, fails}
@@ -87,8 +87,8 @@ static_is whats.Handle fits = elim fits [ ]
 static_is whats.MethodKind fits = elim fits [ ]
 static_is (whats.Computed desc) fits = elim fits [ ]
 
-field_is : (op : ℕ) (type : Option FieldType) → member_by op (value_of type) ≡ (if nat_le op ops.PUTFIELD then field_step op type else fails)
-field_is op None = by (nat_le op ops.PUTFIELD)
+field_is : (op : ℕ) (type : Option FieldType) → member_by op (value_of type) ≡ (if nat_le op opcode.putfield then field_step op type else fails)
+field_is op None = by (nat_le op opcode.putfield)
   where
     by : (b : Bool) → fails ≡ (if b then fails else fails)
     by true = refl
@@ -98,9 +98,9 @@ field_is op (Some type) = refl
 -- a call, by its results
 called : ℕ → Bool → List Want → List Gives → Step
 called op build wanted given =
-    if nat_le op ops.PUTFIELD then fails
-    else if nat_eq op ops.INVOKESTATIC then moves (form wanted given ∷ [])
-    else if nat_eq op ops.INVOKESPECIAL && build then builds (form wanted given)
+    if nat_le op opcode.putfield then fails
+    else if nat_eq op opcode.invokestatic then moves (form wanted given ∷ [])
+    else if nat_eq op opcode.invokespecial && build then builds (form wanted given)
     else moves (form (wants.Reference ∷ wanted) given ∷ [])
 
 pub member_is : (op : ℕ) (what : What) → IsMemberFor op what → member_by op (does_of what) ≡ member_step op (Some what)
@@ -137,7 +137,7 @@ array_is name = by (nat_le (length (array_of name)) 65535)
 
 pub class_is : (op : ℕ) (what : What) → IsClass what → class_by op (does_of what) ≡ class_step op (Some what)
 class_is op (whats.Class name) fits =
-    ap (λ (st : Step). if nat_eq op ops.NEW then makes else if nat_eq op ops.ANEWARRAY then st else if nat_eq op ops.CHECKCAST then moves (turns (wants.Reference ∷ []) (object name)) else moves (turns (wants.Reference ∷ []) int)) (array_is name)
+    ap (λ (st : Step). if nat_eq op opcode.new then makes else if nat_eq op opcode.anewarray then st else if nat_eq op opcode.checkcast then moves (turns (wants.Reference ∷ []) (object name)) else moves (turns (wants.Reference ∷ []) int)) (array_is name)
 class_is op (whats.Field class name desc) fits = elim fits [ ]
 class_is op (whats.Method class name desc) fits = elim fits [ ]
 class_is op (whats.Call name desc) fits = elim fits [ ]

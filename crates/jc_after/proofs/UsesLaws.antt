@@ -2,22 +2,22 @@
 use Rattle.std.proofs.Common.{◌≡◌, ⊎_elim, ℕ, ◌+◌, ◌<◌, Bool, true, false, List, [], ◌∷◌, ◌++◌, length, get_or, take, Option, Some, None, option_map, nat_eq, refl, sym, ap, subst, ◌∙◌}
 use Rattle.std.proofs.lemmas.Bool.{cases_lt, eqb-true, eqb-false}
 use Rattle.std.specs.List.Sorted.{IsPartitionPoint}
-use Rattle.jc_base.specs.declared.body.Use.{Use}
-use Rattle.jc_base.specs.declared.body.What.{What}
-use Rattle.jc_base.specs.declared.body.What.TheVariants as whats
+use Rattle.jc_methods.specs.declared.body.Use.{Use}
+use Rattle.jc_methods.specs.declared.body.What.{What}
+use Rattle.jc_methods.specs.declared.body.What.TheVariants as whats
 use Rattle.std.proofs.lemmas.List.{take_more, get_or_default}
 use Rattle.std.proofs.lemmas.Option.{none-some, same_Some}
-use Rattle.jc_base.specs.declared.value_type.ValueType.{ValueType}
-use Rattle.jc_base.specs.declared.opcode.TheConstants as ops
-use Rattle.jc_base.specs.Descriptor.{FieldType, MethodType, IsMethodDescriptor, DescribesMethod}
-use Rattle.jc_base.specs.DescriptorTypes.{method_type_in}
-use Rattle.jc_base.specs.EntryState.{held_of}
-use Rattle.jc_base.specs.ValueTypes.{held_by, SaysReturn}
-use Rattle.jc_base.proofs.DescriptorTypesLaws.{method_again}
+use Rattle.jc_methods.specs.declared.value_type.ValueType.{ValueType}
+use Rattle.jc_methods.specs.Opcode as opcode
+use Rattle.jc_bytes.specs.Descriptor.{FieldType, MethodType, IsMethodDescriptor, DescribesMethod}
+use Rattle.jc_methods.specs.DescriptorTypes.{method_type_in}
+use Rattle.jc_methods.specs.EntryState.{held_of}
+use Rattle.jc_methods.specs.ValueTypes.{held_by, SaysReturn}
+use Rattle.jc_methods.proofs.DescriptorTypesLaws.{method_again}
 use Rattle.jc_after.specs.After.{return_for, return_op}
-use Rattle.jc_base.specs.Held.{Names, Held, Grows}
-use Rattle.jc_base.specs.WellMade.{AreRisingFrom, what_used}
-use Rattle.jc_base.proofs.UsedLaws.{is_below, past_all, stands, stands_not}
+use Rattle.jc_methods.specs.Held.{Names, Held, Grows}
+use Rattle.jc_methods.specs.WellMade.{AreRisingFrom, what_used}
+use Rattle.jc_methods.proofs.UsedLaws.{is_below, past_all, stands, stands_not}
 use Rattle.jc_after.specs.declared.effect.Effect.{Effect}
 use Rattle.jc_after.specs.Does.{Says, AllSay}
 use Rattle.jc_after.proofs.DoesLaws.{all_say_at, all_say_later, all_say_push}
@@ -64,11 +64,11 @@ return_some desc r v op d says is e =
     by (Some t) f = ap return_for (same_Some (held_by v) (held_of t) f)
 
 pub return_none : (desc : List ℕ) (r : Option ValueType) → IsMethodDescriptor desc → ((type : MethodType) → DescribesMethod desc type → SaysReturn r type.returns) → r ≡ None
-    → ops.RETURN ≡ return_op (method_type_in desc).returns
+    → opcode.return ≡ return_op (method_type_in desc).returns
 return_none desc r d says is =
     by d.0.returns (ap (option_map held_by) (sym is) ∙ (says d.0 d.1).held_is) ∙ ap (λ (t : MethodType). return_op t.returns) (sym (method_again desc d.0 d.1))
   where
-    by : (o : Option FieldType) → None ≡ option_map held_of o → ops.RETURN ≡ return_op o
+    by : (o : Option FieldType) → None ≡ option_map held_of o → opcode.return ≡ return_op o
     by None f = refl
     by (Some t) f = absurd (no_result (held_of t) f)
 

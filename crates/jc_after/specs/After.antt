@@ -1,18 +1,18 @@
 -- The state after an instruction (JVM Specification 4.10.1.9, 6.5): what each instruction does to types.
 use Rattle.std.specs.Prelude.{ℕ, Bool, false, ◌&&◌, ◌||◌, List, [], ◌∷◌, ◌++◌, length, map, replicate, Option, Some, None, option_and_then, nat_eq, nat_lt, nat_le, slice_get, codes, bytes_eq, if◌then◌else◌}
-use Rattle.jc_base.specs.declared.opcode.TheConstants as ops
-use Rattle.jc_base.specs.declared.insn.Insn.{Insn}
-use Rattle.jc_base.specs.declared.insn.Insn.TheVariants as insns
-use Rattle.jc_base.specs.declared.body.Use.{Use}
-use Rattle.jc_base.specs.declared.body.What.{What}
-use Rattle.jc_base.specs.declared.body.What.TheVariants as whats
-use Rattle.jc_base.specs.declared.body.Body.{Body}
-use Rattle.jc_base.specs.Descriptor.{FieldType, MethodType}
-use Rattle.jc_base.specs.DescriptorTypes.{field_type_in, method_type_in}
-use Rattle.jc_base.specs.Flow.{is_return}
-use Rattle.jc_base.specs.WellMade.{what_used}
-use Rattle.jc_base.specs.Held.{Held, int, float, double, long, object, Seen}
-use Rattle.jc_base.specs.EntryState.{held_of}
+use Rattle.jc_methods.specs.Opcode as opcode
+use Rattle.jc_methods.specs.declared.insn.Insn.{Insn}
+use Rattle.jc_methods.specs.declared.insn.Insn.TheVariants as insns
+use Rattle.jc_methods.specs.declared.body.Use.{Use}
+use Rattle.jc_methods.specs.declared.body.What.{What}
+use Rattle.jc_methods.specs.declared.body.What.TheVariants as whats
+use Rattle.jc_methods.specs.declared.body.Body.{Body}
+use Rattle.jc_bytes.specs.Descriptor.{FieldType, MethodType}
+use Rattle.jc_methods.specs.DescriptorTypes.{field_type_in, method_type_in}
+use Rattle.jc_methods.specs.Flow.{is_return}
+use Rattle.jc_methods.specs.WellMade.{what_used}
+use Rattle.jc_methods.specs.Held.{Held, int, float, double, long, object, Seen}
+use Rattle.jc_methods.specs.EntryState.{held_of}
 use Rattle.jc_after.specs.declared.want.Want.{Want}
 use Rattle.jc_after.specs.declared.want.Want.TheVariants as wants
 use Rattle.jc_after.specs.Step.{Gives, kind, Form, Step, moves, loads, stores, counts, picks, makes, builds, fails, Ground, apply}
@@ -44,9 +44,9 @@ result_of (Some type) = kind (held_of type) ∷ []
 abbrev pub field_step : ℕ → Option FieldType → Step
 field_step op None = fails
 field_step op (Some type) =
-    if nat_eq op ops.GETSTATIC then moves (gives (held_of type))
-    else if nat_eq op ops.PUTSTATIC then moves (takes (want_of type ∷ []))
-    else if nat_eq op ops.GETFIELD then moves (turns (wants.Reference ∷ []) (held_of type))
+    if nat_eq op opcode.getstatic then moves (gives (held_of type))
+    else if nat_eq op opcode.putstatic then moves (takes (want_of type ∷ []))
+    else if nat_eq op opcode.getfield then moves (turns (wants.Reference ∷ []) (held_of type))
     else moves (takes (wants.Target ∷ want_of type ∷ []))
 
 -- the arguments, and the result
@@ -64,13 +64,13 @@ object_step type = moves (form (wants.Reference ∷ map want_of type.parameters)
 -- invokevirtual, invokespecial and invokestatic, of a method with this name
 abbrev pub method_step : ℕ → List ℕ → MethodType → Step
 method_step op name type =
-    if nat_eq op ops.INVOKESTATIC then static_step type
-    else if nat_eq op ops.INVOKESPECIAL && bytes_eq name (codes "<init>") then builds (call_form type)
+    if nat_eq op opcode.invokestatic then static_step type
+    else if nat_eq op opcode.invokespecial && bytes_eq name (codes "<init>") then builds (call_form type)
     else object_step type
 
 abbrev pub member_step : ℕ → Option What → Step
-member_step op (Some (whats.Field class name desc)) = if nat_le op ops.PUTFIELD then field_step op (field_type_in desc) else fails
-member_step op (Some (whats.Method class name desc)) = if nat_le op ops.PUTFIELD then fails else method_step op name (method_type_in desc)
+member_step op (Some (whats.Field class name desc)) = if nat_le op opcode.putfield then field_step op (field_type_in desc) else fails
+member_step op (Some (whats.Method class name desc)) = if nat_le op opcode.putfield then fails else method_step op name (method_type_in desc)
 member_step op _ = fails
 
 abbrev pub interface_step : Option What → Step
@@ -116,9 +116,9 @@ array_step name = if nat_le (length (array_of name)) 65535 then moves (turns (wa
 -- new, anewarray, checkcast, instanceof
 abbrev pub class_step : ℕ → Option What → Step
 class_step op (Some (whats.Class name)) =
-    if nat_eq op ops.NEW then makes
-    else if nat_eq op ops.ANEWARRAY then array_step name
-    else if nat_eq op ops.CHECKCAST then moves (turns (wants.Reference ∷ []) (object name))
+    if nat_eq op opcode.new then makes
+    else if nat_eq op opcode.anewarray then array_step name
+    else if nat_eq op opcode.checkcast then moves (turns (wants.Reference ∷ []) (object name))
     else moves (turns (wants.Reference ∷ []) int)
 class_step op _ = fails
 
@@ -142,15 +142,15 @@ multi_step _ dims = fails
 
 -- the opcode of the return of a value of a verification type
 abbrev pub return_for : Held → ℕ
-return_for int = ops.IRETURN
-return_for long = ops.LRETURN
-return_for float = ops.FRETURN
-return_for double = ops.DRETURN
-return_for _ = ops.ARETURN
+return_for int = opcode.ireturn
+return_for long = opcode.lreturn
+return_for float = opcode.freturn
+return_for double = opcode.dreturn
+return_for _ = opcode.areturn
 
 -- the opcode of the return of a method with this result
 abbrev pub return_op : Option FieldType → ℕ
-return_op None = ops.RETURN
+return_op None = opcode.return
 return_op (Some type) = return_for (held_of type)
 
 -- it has to be the one for the type that the method returns
@@ -161,22 +161,22 @@ return_step returns op = if nat_eq op (return_op returns) then moves (forms_at o
 
 abbrev pub simple_step : Option FieldType → ℕ → Step
 simple_step returns op =
-    if nat_eq op ops.AALOAD then picks
+    if nat_eq op opcode.aaload then picks
     else if is_return op then return_step returns op
     else moves (forms_at op)
 
 -- what a load or a store of a local variable moves
 abbrev pub local_want : ℕ → Want
 local_want op =
-    if nat_eq op ops.ILOAD || nat_eq op ops.ISTORE then wants.Int
-    else if nat_eq op ops.LLOAD || nat_eq op ops.LSTORE then wants.Long
-    else if nat_eq op ops.FLOAD || nat_eq op ops.FSTORE then wants.Float
-    else if nat_eq op ops.DLOAD || nat_eq op ops.DSTORE then wants.Double
+    if nat_eq op opcode.iload || nat_eq op opcode.istore then wants.Int
+    else if nat_eq op opcode.lload || nat_eq op opcode.lstore then wants.Long
+    else if nat_eq op opcode.fload || nat_eq op opcode.fstore then wants.Float
+    else if nat_eq op opcode.dload || nat_eq op opcode.dstore then wants.Double
     else wants.Anything
 
 -- iload to aload, and istore to astore
 abbrev pub local_step : ℕ → ℕ → Step
-local_step op slot = if nat_lt op ops.ISTORE then loads slot (local_want op) else stores slot (local_want op)
+local_step op slot = if nat_lt op opcode.istore then loads slot (local_want op) else stores slot (local_want op)
 
 -- what an instruction does, by what stands in the pool and by what the method returns
 abbrev pub step_of : List Use → Option FieldType → Insn → Step
@@ -193,8 +193,8 @@ step_of uses returns (insns.OfClass op place) = class_step op (what_used uses pl
 step_of uses returns (insns.NewArray elem) = moves (turns (wants.Int ∷ []) (object (91 ∷ element_letter elem ∷ [])))
 step_of uses returns (insns.Multi place dims) = multi_step (what_used uses place) dims
 step_of uses returns (insns.Jump op to) = moves (forms_at op)
-step_of uses returns (insns.Table low default arms) = moves (forms_at ops.TABLESWITCH)
-step_of uses returns (insns.Lookup default arms) = moves (forms_at ops.LOOKUPSWITCH)
+step_of uses returns (insns.Table low default arms) = moves (forms_at opcode.tableswitch)
+step_of uses returns (insns.Lookup default arms) = moves (forms_at opcode.lookupswitch)
 
 -- ---- in a body
 

@@ -1,9 +1,9 @@
 -- What the calls of this crate ask for and answer.
 use Rattle.std.specs.Prelude.{◌≡◌, ℕ, ◌++◌, length, Option, All, option_map}
-use Rattle.jc_base.specs.declared.kind.State.{State}
-use Rattle.jc_base.specs.declared.body.Body.{Body}
-use Rattle.jc_base.specs.WellMade.{IsKind, IsState}
-use Rattle.jc_base.specs.Held.{Names, seen, IsNumberedState}
+use Rattle.jc_methods.specs.declared.kind.State.{State}
+use Rattle.jc_methods.specs.declared.body.Body.{Body}
+use Rattle.jc_methods.specs.WellMade.{IsKind, IsState}
+use Rattle.jc_methods.specs.Held.{Names, seen, IsNumberedState}
 use Rattle.jc_after.specs.After.{after_of}
 
 -- A state of a body: it has each local variable, its objects before their constructors come from a `new` of the

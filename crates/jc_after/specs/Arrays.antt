@@ -1,6 +1,6 @@
 -- New arrays of primitive types.
 use Rattle.std.specs.Prelude.{ℕ, List, [], ◌∷◌}
-use Rattle.jc_base.specs.Held.{object}
+use Rattle.jc_methods.specs.Held.{object}
 use Rattle.jc_after.specs.declared.want.Want.TheVariants as wants
 use Rattle.jc_after.specs.Step.{Form}
 use Rattle.jc_after.specs.Table.{turns}

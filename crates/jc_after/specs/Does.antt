@@ -1,12 +1,12 @@
 -- What one thing that a body uses does to types, read once and kept under numbers of class names.
 use Rattle.std.specs.Prelude.{◌≡◌, ⊤, ℕ, ◌++◌, Bool, false, List, [], ◌∷◌, length, map, Option, Some, None, option_map, nat_le, codes, bytes_eq, if◌then◌else◌}
-use Rattle.jc_base.specs.declared.body.Use.{Use}
-use Rattle.jc_base.specs.declared.body.What.{What}
-use Rattle.jc_base.specs.declared.body.What.TheVariants as whats
-use Rattle.jc_base.specs.Descriptor.{FieldType, MethodType, IsFieldDescriptor, IsMethodDescriptor}
-use Rattle.jc_base.specs.DescriptorTypes.{field_type_in, method_type_in}
-use Rattle.jc_base.specs.EntryState.{held_of}
-use Rattle.jc_base.specs.Held.{Names, Held, int, float, double, long, object, held}
+use Rattle.jc_methods.specs.declared.body.Use.{Use}
+use Rattle.jc_methods.specs.declared.body.What.{What}
+use Rattle.jc_methods.specs.declared.body.What.TheVariants as whats
+use Rattle.jc_bytes.specs.Descriptor.{FieldType, MethodType, IsFieldDescriptor, IsMethodDescriptor}
+use Rattle.jc_methods.specs.DescriptorTypes.{field_type_in, method_type_in}
+use Rattle.jc_methods.specs.EntryState.{held_of}
+use Rattle.jc_methods.specs.Held.{Names, Held, int, float, double, long, object, held}
 use Rattle.jc_after.specs.declared.want.Want.{Want}
 use Rattle.jc_after.specs.declared.want.Want.TheVariants as wants
 use Rattle.jc_after.specs.declared.effect.Effect.{Effect}

@@ -1,7 +1,7 @@
 -- Objects before their constructors, as they are kept: what their types become.
 use Rattle.std.specs.Prelude.{ℕ, Bool, true, false, nat_eq, if◌then◌else◌}
-use Rattle.jc_base.specs.declared.kind.Kind.{Kind}
-use Rattle.jc_base.specs.declared.kind.Kind.TheVariants as kinds
+use Rattle.jc_methods.specs.declared.kind.Kind.{Kind}
+use Rattle.jc_methods.specs.declared.kind.Kind.TheVariants as kinds
 
 -- made by the `new` at a place
 abbrev pub is_made_by : ℕ → Kind → Bool

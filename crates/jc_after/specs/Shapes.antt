@@ -1,6 +1,6 @@
 -- The forms of the table, one for each shape.
 use Rattle.std.specs.Prelude.{ℕ, Bool, true, false, List, [], ◌∷◌, map, Option, Some, None}
-use Rattle.jc_base.specs.Held.{Names, Held, held, int, float, double, long, null}
+use Rattle.jc_methods.specs.Held.{Names, Held, held, int, float, double, long, null}
 use Rattle.jc_after.specs.declared.want.Want.{Want}
 use Rattle.jc_after.specs.declared.want.Want.TheVariants as wants
 use Rattle.jc_after.specs.declared.table.Shape.{Shape}

@@ -2,14 +2,14 @@
 -- arguments, and each instruction at its image.
 use Rattle.std.specs.Prelude.{◌≡◌, ⊤, ℕ, ◌+◌, ◌≤◌, Bool, true, false, IsTrue, [], ◌∷◌, length, map, slice_index_or, Some, None, option_map, nat_eq, nat_lt, if◌then◌else◌}
 use Rattle.std.specs.List.{insert, AllByRecursion}
-use Rattle.jc_base.specs.declared.insn.Insn.{Insn}
-use Rattle.jc_base.specs.declared.insn.Insn.TheVariants as insns
-use Rattle.jc_base.specs.declared.body.Body.{Body}
-use Rattle.jc_base.specs.WellMade.{what_used}
-use Rattle.jc_base.specs.Flow.{is_test, inverse_of}
-use Rattle.jc_base.specs.Insn.{with_places}
-use Rattle.jc_base.specs.InsnUse.{pool_place, is_of_two_slots}
-use Rattle.jc_base.specs.Held.{Held, top, object, uninit, Seen, is_pair}
+use Rattle.jc_methods.specs.declared.insn.Insn.{Insn}
+use Rattle.jc_methods.specs.declared.insn.Insn.TheVariants as insns
+use Rattle.jc_methods.specs.declared.body.Body.{Body}
+use Rattle.jc_methods.specs.WellMade.{what_used}
+use Rattle.jc_methods.specs.Flow.{is_test, inverse_of}
+use Rattle.jc_methods.specs.Insn.{with_places}
+use Rattle.jc_methods.specs.InsnUse.{pool_place, is_of_two_slots}
+use Rattle.jc_methods.specs.Held.{Held, top, object, uninit, Seen, is_pair}
 use Rattle.jc_after.specs.declared.want.Want.{Want}
 use Rattle.jc_after.specs.declared.want.Want.TheVariants as wants
 use Rattle.jc_after.specs.Step.{Gives, kind, Form, Step, moves, loads, stores, counts, builds, Ground, apply}

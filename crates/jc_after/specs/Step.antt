@@ -1,7 +1,7 @@
 -- What an instruction does to the types of local variables and of the stack (JVM Specification 4.10.1.9).
 use Rattle.std.specs.Prelude.{ℕ, zero, suc, ◌+◌, ◌-◌, ◌&&◌, ◌||◌, Bool, true, false, List, [], ◌∷◌, ◌++◌, length, map, take, drop, slice_index_or, slice_set, Option, Some, None, nat_le, nat_eq, if◌then◌else◌}
 use Rattle.std.specs.List.{list_any}
-use Rattle.jc_base.specs.Held.{Held, top, null, uninit_this, object, uninit, Seen, is_pair, slots}
+use Rattle.jc_methods.specs.Held.{Held, top, null, uninit_this, object, uninit, Seen, is_pair, slots}
 use Rattle.jc_after.specs.declared.want.Want.{Want}
 use Rattle.jc_after.specs.declared.want.Want.TheVariants as wants
 use Rattle.jc_after.specs.Wants.{is_int, accepts, accepts_all}

@@ -1,9 +1,9 @@
 -- What an instruction does to types, by what its use does: the same steps as in the table, as they are kept.
 use Rattle.std.specs.Prelude.{◌≢◌, ⊤, ℕ, ◌<◌, Bool, false, ◌&&◌, List, [], ◌∷◌, drop, replicate, Option, Some, None, option_map, nat_eq, nat_le, if◌then◌else◌}
-use Rattle.jc_base.specs.declared.opcode.TheConstants as ops
-use Rattle.jc_base.specs.declared.insn.Insn.{Insn}
-use Rattle.jc_base.specs.declared.insn.Insn.TheVariants as insns
-use Rattle.jc_base.specs.Held.{Names, Held, int, held}
+use Rattle.jc_methods.specs.Opcode as opcode
+use Rattle.jc_methods.specs.declared.insn.Insn.{Insn}
+use Rattle.jc_methods.specs.declared.insn.Insn.TheVariants as insns
+use Rattle.jc_methods.specs.Held.{Names, Held, int, held}
 use Rattle.jc_after.specs.declared.want.Want.{Want}
 use Rattle.jc_after.specs.declared.want.Want.TheVariants as wants
 use Rattle.jc_after.specs.declared.step.Step.{Step as KeptStep}
@@ -50,20 +50,20 @@ object_by _ = fails
 
 abbrev pub field_by : ℕ → Want → Held → Step
 field_by op want h =
-    if nat_eq op ops.GETSTATIC then moves (gives h)
-    else if nat_eq op ops.PUTSTATIC then moves (takes (want ∷ []))
-    else if nat_eq op ops.GETFIELD then moves (turns (wants.Reference ∷ []) h)
+    if nat_eq op opcode.getstatic then moves (gives h)
+    else if nat_eq op opcode.putstatic then moves (takes (want ∷ []))
+    else if nat_eq op opcode.getfield then moves (turns (wants.Reference ∷ []) h)
     else moves (takes (wants.Target ∷ want ∷ []))
 
 abbrev pub method_by : ℕ → List Want → Option Held → Bool → Step
 method_by op wanted result build =
-    if nat_eq op ops.INVOKESTATIC then moves (form (drop 1 wanted) (results result) ∷ [])
-    else if nat_eq op ops.INVOKESPECIAL && build then builds (form (drop 1 wanted) (results result))
+    if nat_eq op opcode.invokestatic then moves (form (drop 1 wanted) (results result) ∷ [])
+    else if nat_eq op opcode.invokespecial && build then builds (form (drop 1 wanted) (results result))
     else moves (form wanted (results result) ∷ [])
 
 abbrev pub member_by : ℕ → Does → Step
-member_by op (value want h) = if nat_le op ops.PUTFIELD then field_by op want h else fails
-member_by op (call wanted result build) = if nat_le op ops.PUTFIELD then fails else method_by op wanted result build
+member_by op (value want h) = if nat_le op opcode.putfield then field_by op want h else fails
+member_by op (call wanted result build) = if nat_le op opcode.putfield then fails else method_by op wanted result build
 member_by op _ = fails
 
 abbrev pub array_by : Option Held → Step
@@ -72,9 +72,9 @@ array_by (Some h) = moves (turns (wants.Int ∷ []) h)
 
 abbrev pub class_by : ℕ → Does → Step
 class_by op (of_class itself array constant) =
-    if nat_eq op ops.NEW then makes
-    else if nat_eq op ops.ANEWARRAY then array_by array
-    else if nat_eq op ops.CHECKCAST then moves (turns (wants.Reference ∷ []) itself)
+    if nat_eq op opcode.new then makes
+    else if nat_eq op opcode.anewarray then array_by array
+    else if nat_eq op opcode.checkcast then moves (turns (wants.Reference ∷ []) itself)
     else moves (turns (wants.Reference ∷ []) int)
 class_by op _ = fails
 
@@ -85,12 +85,12 @@ multi_by count _ = fails
 -- ---- instructions that number a class when they are reached
 
 abbrev pub NumbersNothing : Insn → Type 0
-NumbersNothing (insns.Simple op) = op ≢ ops.AALOAD
+NumbersNothing (insns.Simple op) = op ≢ opcode.aaload
 NumbersNothing (insns.NewArray elem) = ⊥
 NumbersNothing insn = ⊤
 
 abbrev pub is_picking : Insn → Bool
-is_picking (insns.Simple op) = nat_eq op ops.AALOAD
+is_picking (insns.Simple op) = nat_eq op opcode.aaload
 is_picking insn = false
 
 -- the local variable is one of so many

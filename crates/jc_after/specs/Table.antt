@@ -1,7 +1,7 @@
 -- The opcodes that do nothing but take operands from the stack and leave results: one table (JVM Specification 6.5).
 use Rattle.std.specs.Prelude.{ℕ, ◌&&◌, List, [], ◌∷◌, nat_le, if◌then◌else◌}
-use Rattle.jc_base.specs.declared.opcode.TheConstants as ops
-use Rattle.jc_base.specs.Held.{Held, int, float, double, long, null}
+use Rattle.jc_methods.specs.Opcode as opcode
+use Rattle.jc_methods.specs.Held.{Held, int, float, double, long, null}
 use Rattle.jc_after.specs.declared.want.Want.{Want}
 use Rattle.jc_after.specs.declared.want.Want.TheVariants as wants
 use Rattle.jc_after.specs.Step.{Gives, kind, item, Form}
@@ -41,175 +41,175 @@ row first last forms = record { first = first; last = last; forms = forms }
 unfoldable pub table : List Row
 table =
     -- nop
-    row ops.NOP ops.NOP (one [] [])
+    row opcode.nop opcode.nop (one [] [])
     -- aconst_null
-    ∷ row ops.ACONST_NULL ops.ACONST_NULL (gives null)
+    ∷ row opcode.aconst_null opcode.aconst_null (gives null)
     -- iconst_m1 to iconst_5
-    ∷ row ops.ICONST_M1 ops.ICONST_5 (gives int)
+    ∷ row opcode.iconst_m1 opcode.iconst_5 (gives int)
     -- lconst_0, lconst_1
-    ∷ row ops.LCONST_0 ops.LCONST_1 (gives long)
+    ∷ row opcode.lconst_0 opcode.lconst_1 (gives long)
     -- fconst_0 to fconst_2
-    ∷ row ops.FCONST_0 ops.FCONST_2 (gives float)
+    ∷ row opcode.fconst_0 opcode.fconst_2 (gives float)
     -- dconst_0, dconst_1
-    ∷ row ops.DCONST_0 ops.DCONST_1 (gives double)
+    ∷ row opcode.dconst_0 opcode.dconst_1 (gives double)
     -- bipush, sipush
-    ∷ row ops.BIPUSH ops.SIPUSH (gives int)
+    ∷ row opcode.bipush opcode.sipush (gives int)
     -- iaload
-    ∷ row ops.IALOAD ops.IALOAD (turns (wants.Reference ∷ wants.Int ∷ []) int)
+    ∷ row opcode.iaload opcode.iaload (turns (wants.Reference ∷ wants.Int ∷ []) int)
     -- laload
-    ∷ row ops.LALOAD ops.LALOAD (turns (wants.Reference ∷ wants.Int ∷ []) long)
+    ∷ row opcode.laload opcode.laload (turns (wants.Reference ∷ wants.Int ∷ []) long)
     -- faload
-    ∷ row ops.FALOAD ops.FALOAD (turns (wants.Reference ∷ wants.Int ∷ []) float)
+    ∷ row opcode.faload opcode.faload (turns (wants.Reference ∷ wants.Int ∷ []) float)
     -- daload
-    ∷ row ops.DALOAD ops.DALOAD (turns (wants.Reference ∷ wants.Int ∷ []) double)
+    ∷ row opcode.daload opcode.daload (turns (wants.Reference ∷ wants.Int ∷ []) double)
     -- baload, caload, saload
-    ∷ row ops.BALOAD ops.SALOAD (turns (wants.Reference ∷ wants.Int ∷ []) int)
+    ∷ row opcode.baload opcode.saload (turns (wants.Reference ∷ wants.Int ∷ []) int)
     -- iastore
-    ∷ row ops.IASTORE ops.IASTORE (takes (wants.Reference ∷ wants.Int ∷ wants.Int ∷ []))
+    ∷ row opcode.iastore opcode.iastore (takes (wants.Reference ∷ wants.Int ∷ wants.Int ∷ []))
     -- lastore
-    ∷ row ops.LASTORE ops.LASTORE (takes (wants.Reference ∷ wants.Int ∷ wants.Long ∷ []))
+    ∷ row opcode.lastore opcode.lastore (takes (wants.Reference ∷ wants.Int ∷ wants.Long ∷ []))
     -- fastore
-    ∷ row ops.FASTORE ops.FASTORE (takes (wants.Reference ∷ wants.Int ∷ wants.Float ∷ []))
+    ∷ row opcode.fastore opcode.fastore (takes (wants.Reference ∷ wants.Int ∷ wants.Float ∷ []))
     -- dastore
-    ∷ row ops.DASTORE ops.DASTORE (takes (wants.Reference ∷ wants.Int ∷ wants.Double ∷ []))
+    ∷ row opcode.dastore opcode.dastore (takes (wants.Reference ∷ wants.Int ∷ wants.Double ∷ []))
     -- aastore
-    ∷ row ops.AASTORE ops.AASTORE (takes (wants.Reference ∷ wants.Int ∷ wants.Reference ∷ []))
+    ∷ row opcode.aastore opcode.aastore (takes (wants.Reference ∷ wants.Int ∷ wants.Reference ∷ []))
     -- bastore, castore, sastore
-    ∷ row ops.BASTORE ops.SASTORE (takes (wants.Reference ∷ wants.Int ∷ wants.Int ∷ []))
+    ∷ row opcode.bastore opcode.sastore (takes (wants.Reference ∷ wants.Int ∷ wants.Int ∷ []))
     -- pop
-    ∷ row ops.POP ops.POP (takes (wants.Single ∷ []))
+    ∷ row opcode.pop opcode.pop (takes (wants.Single ∷ []))
     -- pop2
-    ∷ row ops.POP2 ops.POP2 (form (wants.Single ∷ wants.Single ∷ []) [] ∷ form (wants.Pair ∷ []) [] ∷ [])
+    ∷ row opcode.pop2 opcode.pop2 (form (wants.Single ∷ wants.Single ∷ []) [] ∷ form (wants.Pair ∷ []) [] ∷ [])
     -- dup
-    ∷ row ops.DUP ops.DUP (one (wants.Single ∷ []) (item 0 ∷ item 0 ∷ []))
+    ∷ row opcode.dup opcode.dup (one (wants.Single ∷ []) (item 0 ∷ item 0 ∷ []))
     -- dup_x1
-    ∷ row ops.DUP_X1 ops.DUP_X1 (one (wants.Single ∷ wants.Single ∷ []) (item 1 ∷ item 0 ∷ item 1 ∷ []))
+    ∷ row opcode.dup_x1 opcode.dup_x1 (one (wants.Single ∷ wants.Single ∷ []) (item 1 ∷ item 0 ∷ item 1 ∷ []))
     -- dup_x2
-    ∷ row ops.DUP_X2 ops.DUP_X2 (
+    ∷ row opcode.dup_x2 opcode.dup_x2 (
     form (wants.Single ∷ wants.Single ∷ wants.Single ∷ []) (item 2 ∷ item 0 ∷ item 1 ∷ item 2 ∷ [])
     ∷ form (wants.Pair ∷ wants.Single ∷ []) (item 1 ∷ item 0 ∷ item 1 ∷ [])
     ∷ [])
     -- dup2
-    ∷ row ops.DUP2 ops.DUP2 (
+    ∷ row opcode.dup2 opcode.dup2 (
     form (wants.Single ∷ wants.Single ∷ []) (item 0 ∷ item 1 ∷ item 0 ∷ item 1 ∷ [])
     ∷ form (wants.Pair ∷ []) (item 0 ∷ item 0 ∷ [])
     ∷ [])
     -- dup2_x1
-    ∷ row ops.DUP2_X1 ops.DUP2_X1 (
+    ∷ row opcode.dup2_x1 opcode.dup2_x1 (
     form (wants.Single ∷ wants.Single ∷ wants.Single ∷ []) (item 1 ∷ item 2 ∷ item 0 ∷ item 1 ∷ item 2 ∷ [])
     ∷ form (wants.Single ∷ wants.Pair ∷ []) (item 1 ∷ item 0 ∷ item 1 ∷ [])
     ∷ [])
     -- dup2_x2
-    ∷ row ops.DUP2_X2 ops.DUP2_X2 (
+    ∷ row opcode.dup2_x2 opcode.dup2_x2 (
     form (wants.Single ∷ wants.Single ∷ wants.Single ∷ wants.Single ∷ []) (item 2 ∷ item 3 ∷ item 0 ∷ item 1 ∷ item 2 ∷ item 3 ∷ [])
     ∷ form (wants.Single ∷ wants.Single ∷ wants.Pair ∷ []) (item 2 ∷ item 0 ∷ item 1 ∷ item 2 ∷ [])
     ∷ form (wants.Pair ∷ wants.Single ∷ wants.Single ∷ []) (item 1 ∷ item 2 ∷ item 0 ∷ item 1 ∷ item 2 ∷ [])
     ∷ form (wants.Pair ∷ wants.Pair ∷ []) (item 1 ∷ item 0 ∷ item 1 ∷ [])
     ∷ [])
     -- swap
-    ∷ row ops.SWAP ops.SWAP (one (wants.Single ∷ wants.Single ∷ []) (item 1 ∷ item 0 ∷ []))
+    ∷ row opcode.swap opcode.swap (one (wants.Single ∷ wants.Single ∷ []) (item 1 ∷ item 0 ∷ []))
     -- iadd, ladd, fadd, dadd
-    ∷ row ops.IADD ops.IADD (turns (wants.Int ∷ wants.Int ∷ []) int)
-    ∷ row ops.LADD ops.LADD (turns (wants.Long ∷ wants.Long ∷ []) long)
-    ∷ row ops.FADD ops.FADD (turns (wants.Float ∷ wants.Float ∷ []) float)
-    ∷ row ops.DADD ops.DADD (turns (wants.Double ∷ wants.Double ∷ []) double)
+    ∷ row opcode.iadd opcode.iadd (turns (wants.Int ∷ wants.Int ∷ []) int)
+    ∷ row opcode.ladd opcode.ladd (turns (wants.Long ∷ wants.Long ∷ []) long)
+    ∷ row opcode.fadd opcode.fadd (turns (wants.Float ∷ wants.Float ∷ []) float)
+    ∷ row opcode.dadd opcode.dadd (turns (wants.Double ∷ wants.Double ∷ []) double)
     -- isub, lsub, fsub, dsub
-    ∷ row ops.ISUB ops.ISUB (turns (wants.Int ∷ wants.Int ∷ []) int)
-    ∷ row ops.LSUB ops.LSUB (turns (wants.Long ∷ wants.Long ∷ []) long)
-    ∷ row ops.FSUB ops.FSUB (turns (wants.Float ∷ wants.Float ∷ []) float)
-    ∷ row ops.DSUB ops.DSUB (turns (wants.Double ∷ wants.Double ∷ []) double)
+    ∷ row opcode.isub opcode.isub (turns (wants.Int ∷ wants.Int ∷ []) int)
+    ∷ row opcode.lsub opcode.lsub (turns (wants.Long ∷ wants.Long ∷ []) long)
+    ∷ row opcode.fsub opcode.fsub (turns (wants.Float ∷ wants.Float ∷ []) float)
+    ∷ row opcode.dsub opcode.dsub (turns (wants.Double ∷ wants.Double ∷ []) double)
     -- imul, lmul, fmul, dmul
-    ∷ row ops.IMUL ops.IMUL (turns (wants.Int ∷ wants.Int ∷ []) int)
-    ∷ row ops.LMUL ops.LMUL (turns (wants.Long ∷ wants.Long ∷ []) long)
-    ∷ row ops.FMUL ops.FMUL (turns (wants.Float ∷ wants.Float ∷ []) float)
-    ∷ row ops.DMUL ops.DMUL (turns (wants.Double ∷ wants.Double ∷ []) double)
+    ∷ row opcode.imul opcode.imul (turns (wants.Int ∷ wants.Int ∷ []) int)
+    ∷ row opcode.lmul opcode.lmul (turns (wants.Long ∷ wants.Long ∷ []) long)
+    ∷ row opcode.fmul opcode.fmul (turns (wants.Float ∷ wants.Float ∷ []) float)
+    ∷ row opcode.dmul opcode.dmul (turns (wants.Double ∷ wants.Double ∷ []) double)
     -- idiv, ldiv, fdiv, ddiv
-    ∷ row ops.IDIV ops.IDIV (turns (wants.Int ∷ wants.Int ∷ []) int)
-    ∷ row ops.LDIV ops.LDIV (turns (wants.Long ∷ wants.Long ∷ []) long)
-    ∷ row ops.FDIV ops.FDIV (turns (wants.Float ∷ wants.Float ∷ []) float)
-    ∷ row ops.DDIV ops.DDIV (turns (wants.Double ∷ wants.Double ∷ []) double)
+    ∷ row opcode.idiv opcode.idiv (turns (wants.Int ∷ wants.Int ∷ []) int)
+    ∷ row opcode.ldiv opcode.ldiv (turns (wants.Long ∷ wants.Long ∷ []) long)
+    ∷ row opcode.fdiv opcode.fdiv (turns (wants.Float ∷ wants.Float ∷ []) float)
+    ∷ row opcode.ddiv opcode.ddiv (turns (wants.Double ∷ wants.Double ∷ []) double)
     -- irem, lrem, frem, drem
-    ∷ row ops.IREM ops.IREM (turns (wants.Int ∷ wants.Int ∷ []) int)
-    ∷ row ops.LREM ops.LREM (turns (wants.Long ∷ wants.Long ∷ []) long)
-    ∷ row ops.FREM ops.FREM (turns (wants.Float ∷ wants.Float ∷ []) float)
-    ∷ row ops.DREM ops.DREM (turns (wants.Double ∷ wants.Double ∷ []) double)
+    ∷ row opcode.irem opcode.irem (turns (wants.Int ∷ wants.Int ∷ []) int)
+    ∷ row opcode.lrem opcode.lrem (turns (wants.Long ∷ wants.Long ∷ []) long)
+    ∷ row opcode.frem opcode.frem (turns (wants.Float ∷ wants.Float ∷ []) float)
+    ∷ row opcode.drem opcode.drem (turns (wants.Double ∷ wants.Double ∷ []) double)
     -- ineg, lneg, fneg, dneg
-    ∷ row ops.INEG ops.INEG (turns (wants.Int ∷ []) int)
-    ∷ row ops.LNEG ops.LNEG (turns (wants.Long ∷ []) long)
-    ∷ row ops.FNEG ops.FNEG (turns (wants.Float ∷ []) float)
-    ∷ row ops.DNEG ops.DNEG (turns (wants.Double ∷ []) double)
+    ∷ row opcode.ineg opcode.ineg (turns (wants.Int ∷ []) int)
+    ∷ row opcode.lneg opcode.lneg (turns (wants.Long ∷ []) long)
+    ∷ row opcode.fneg opcode.fneg (turns (wants.Float ∷ []) float)
+    ∷ row opcode.dneg opcode.dneg (turns (wants.Double ∷ []) double)
     -- ishl, lshl
-    ∷ row ops.ISHL ops.ISHL (turns (wants.Int ∷ wants.Int ∷ []) int)
-    ∷ row ops.LSHL ops.LSHL (turns (wants.Long ∷ wants.Int ∷ []) long)
+    ∷ row opcode.ishl opcode.ishl (turns (wants.Int ∷ wants.Int ∷ []) int)
+    ∷ row opcode.lshl opcode.lshl (turns (wants.Long ∷ wants.Int ∷ []) long)
     -- ishr, lshr
-    ∷ row ops.ISHR ops.ISHR (turns (wants.Int ∷ wants.Int ∷ []) int)
-    ∷ row ops.LSHR ops.LSHR (turns (wants.Long ∷ wants.Int ∷ []) long)
+    ∷ row opcode.ishr opcode.ishr (turns (wants.Int ∷ wants.Int ∷ []) int)
+    ∷ row opcode.lshr opcode.lshr (turns (wants.Long ∷ wants.Int ∷ []) long)
     -- iushr, lushr
-    ∷ row ops.IUSHR ops.IUSHR (turns (wants.Int ∷ wants.Int ∷ []) int)
-    ∷ row ops.LUSHR ops.LUSHR (turns (wants.Long ∷ wants.Int ∷ []) long)
+    ∷ row opcode.iushr opcode.iushr (turns (wants.Int ∷ wants.Int ∷ []) int)
+    ∷ row opcode.lushr opcode.lushr (turns (wants.Long ∷ wants.Int ∷ []) long)
     -- iand, land
-    ∷ row ops.IAND ops.IAND (turns (wants.Int ∷ wants.Int ∷ []) int)
-    ∷ row ops.LAND ops.LAND (turns (wants.Long ∷ wants.Long ∷ []) long)
+    ∷ row opcode.iand opcode.iand (turns (wants.Int ∷ wants.Int ∷ []) int)
+    ∷ row opcode.land opcode.land (turns (wants.Long ∷ wants.Long ∷ []) long)
     -- ior, lor
-    ∷ row ops.IOR ops.IOR (turns (wants.Int ∷ wants.Int ∷ []) int)
-    ∷ row ops.LOR ops.LOR (turns (wants.Long ∷ wants.Long ∷ []) long)
+    ∷ row opcode.ior opcode.ior (turns (wants.Int ∷ wants.Int ∷ []) int)
+    ∷ row opcode.lor opcode.lor (turns (wants.Long ∷ wants.Long ∷ []) long)
     -- ixor, lxor
-    ∷ row ops.IXOR ops.IXOR (turns (wants.Int ∷ wants.Int ∷ []) int)
-    ∷ row ops.LXOR ops.LXOR (turns (wants.Long ∷ wants.Long ∷ []) long)
+    ∷ row opcode.ixor opcode.ixor (turns (wants.Int ∷ wants.Int ∷ []) int)
+    ∷ row opcode.lxor opcode.lxor (turns (wants.Long ∷ wants.Long ∷ []) long)
     -- i2l, i2f, i2d
-    ∷ row ops.I2L ops.I2L (turns (wants.Int ∷ []) long)
-    ∷ row ops.I2F ops.I2F (turns (wants.Int ∷ []) float)
-    ∷ row ops.I2D ops.I2D (turns (wants.Int ∷ []) double)
+    ∷ row opcode.i2l opcode.i2l (turns (wants.Int ∷ []) long)
+    ∷ row opcode.i2f opcode.i2f (turns (wants.Int ∷ []) float)
+    ∷ row opcode.i2d opcode.i2d (turns (wants.Int ∷ []) double)
     -- l2i, l2f, l2d
-    ∷ row ops.L2I ops.L2I (turns (wants.Long ∷ []) int)
-    ∷ row ops.L2F ops.L2F (turns (wants.Long ∷ []) float)
-    ∷ row ops.L2D ops.L2D (turns (wants.Long ∷ []) double)
+    ∷ row opcode.l2i opcode.l2i (turns (wants.Long ∷ []) int)
+    ∷ row opcode.l2f opcode.l2f (turns (wants.Long ∷ []) float)
+    ∷ row opcode.l2d opcode.l2d (turns (wants.Long ∷ []) double)
     -- f2i, f2l, f2d
-    ∷ row ops.F2I ops.F2I (turns (wants.Float ∷ []) int)
-    ∷ row ops.F2L ops.F2L (turns (wants.Float ∷ []) long)
-    ∷ row ops.F2D ops.F2D (turns (wants.Float ∷ []) double)
+    ∷ row opcode.f2i opcode.f2i (turns (wants.Float ∷ []) int)
+    ∷ row opcode.f2l opcode.f2l (turns (wants.Float ∷ []) long)
+    ∷ row opcode.f2d opcode.f2d (turns (wants.Float ∷ []) double)
     -- d2i, d2l, d2f
-    ∷ row ops.D2I ops.D2I (turns (wants.Double ∷ []) int)
-    ∷ row ops.D2L ops.D2L (turns (wants.Double ∷ []) long)
-    ∷ row ops.D2F ops.D2F (turns (wants.Double ∷ []) float)
+    ∷ row opcode.d2i opcode.d2i (turns (wants.Double ∷ []) int)
+    ∷ row opcode.d2l opcode.d2l (turns (wants.Double ∷ []) long)
+    ∷ row opcode.d2f opcode.d2f (turns (wants.Double ∷ []) float)
     -- i2b, i2c, i2s
-    ∷ row ops.I2B ops.I2S (turns (wants.Int ∷ []) int)
+    ∷ row opcode.i2b opcode.i2s (turns (wants.Int ∷ []) int)
     -- lcmp
-    ∷ row ops.LCMP ops.LCMP (turns (wants.Long ∷ wants.Long ∷ []) int)
+    ∷ row opcode.lcmp opcode.lcmp (turns (wants.Long ∷ wants.Long ∷ []) int)
     -- fcmpl, fcmpg
-    ∷ row ops.FCMPL ops.FCMPG (turns (wants.Float ∷ wants.Float ∷ []) int)
+    ∷ row opcode.fcmpl opcode.fcmpg (turns (wants.Float ∷ wants.Float ∷ []) int)
     -- dcmpl, dcmpg
-    ∷ row ops.DCMPL ops.DCMPG (turns (wants.Double ∷ wants.Double ∷ []) int)
+    ∷ row opcode.dcmpl opcode.dcmpg (turns (wants.Double ∷ wants.Double ∷ []) int)
     -- ifeq to ifle
-    ∷ row ops.IFEQ ops.IFLE (takes (wants.Int ∷ []))
+    ∷ row opcode.ifeq opcode.ifle (takes (wants.Int ∷ []))
     -- if_icmpeq to if_icmple
-    ∷ row ops.IF_ICMPEQ ops.IF_ICMPLE (takes (wants.Int ∷ wants.Int ∷ []))
+    ∷ row opcode.if_icmpeq opcode.if_icmple (takes (wants.Int ∷ wants.Int ∷ []))
     -- if_acmpeq, if_acmpne
-    ∷ row ops.IF_ACMPEQ ops.IF_ACMPNE (takes (wants.Anything ∷ wants.Anything ∷ []))
+    ∷ row opcode.if_acmpeq opcode.if_acmpne (takes (wants.Anything ∷ wants.Anything ∷ []))
     -- goto
-    ∷ row ops.GOTO ops.GOTO (one [] [])
+    ∷ row opcode.goto opcode.goto (one [] [])
     -- tableswitch, lookupswitch
-    ∷ row ops.TABLESWITCH ops.LOOKUPSWITCH (takes (wants.Int ∷ []))
+    ∷ row opcode.tableswitch opcode.lookupswitch (takes (wants.Int ∷ []))
     -- ireturn
-    ∷ row ops.IRETURN ops.IRETURN (takes (wants.Int ∷ []))
+    ∷ row opcode.ireturn opcode.ireturn (takes (wants.Int ∷ []))
     -- lreturn
-    ∷ row ops.LRETURN ops.LRETURN (takes (wants.Long ∷ []))
+    ∷ row opcode.lreturn opcode.lreturn (takes (wants.Long ∷ []))
     -- freturn
-    ∷ row ops.FRETURN ops.FRETURN (takes (wants.Float ∷ []))
+    ∷ row opcode.freturn opcode.freturn (takes (wants.Float ∷ []))
     -- dreturn
-    ∷ row ops.DRETURN ops.DRETURN (takes (wants.Double ∷ []))
+    ∷ row opcode.dreturn opcode.dreturn (takes (wants.Double ∷ []))
     -- areturn
-    ∷ row ops.ARETURN ops.ARETURN (takes (wants.Reference ∷ []))
+    ∷ row opcode.areturn opcode.areturn (takes (wants.Reference ∷ []))
     -- return
-    ∷ row ops.RETURN ops.RETURN (one [] [])
+    ∷ row opcode.return opcode.return (one [] [])
     -- arraylength
-    ∷ row ops.ARRAYLENGTH ops.ARRAYLENGTH (turns (wants.Reference ∷ []) int)
+    ∷ row opcode.arraylength opcode.arraylength (turns (wants.Reference ∷ []) int)
     -- athrow
-    ∷ row ops.ATHROW ops.ATHROW (takes (wants.Reference ∷ []))
+    ∷ row opcode.athrow opcode.athrow (takes (wants.Reference ∷ []))
     -- monitorenter, monitorexit
-    ∷ row ops.MONITORENTER ops.MONITOREXIT (takes (wants.Anything ∷ []))
+    ∷ row opcode.monitorenter opcode.monitorexit (takes (wants.Anything ∷ []))
     -- ifnull, ifnonnull
-    ∷ row ops.IFNULL ops.IFNONNULL (takes (wants.Anything ∷ []))
+    ∷ row opcode.ifnull opcode.ifnonnull (takes (wants.Anything ∷ []))
     ∷ []
 
 abbrev pub find : ℕ → List Row → List Form

@@ -1,6 +1,6 @@
 -- Which values are of the kind that an instruction asks for (JVM Specification 6.5).
 use Rattle.std.specs.Prelude.{Bool, true, false, ◌&&◌, List, [], ◌∷◌}
-use Rattle.jc_base.specs.Held.{Held, top, int, float, double, long, null, uninit_this, object, uninit, is_pair}
+use Rattle.jc_methods.specs.Held.{Held, top, int, float, double, long, null, uninit_this, object, uninit, is_pair}
 use Rattle.jc_after.specs.declared.want.Want.{Want}
 use Rattle.jc_after.specs.declared.want.Want.TheVariants as wants
 

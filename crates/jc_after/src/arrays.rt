@@ -1,6 +1,6 @@
 //! New arrays, and elements of arrays of references. They number the names of classes.
 ghost use Rattle.std.specs.Prelude.{◌≡◌, ◌++◌, true, false, map, length, replicate, IfOk, MatchOption, option_map};
-ghost use Rattle.jc_base.specs.Held.{Names, held, object, seen, Grows, IsNumbered, IsNumberedState};
+ghost use Rattle.jc_methods.specs.Held.{Names, held, object, seen, Grows, IsNumbered, IsNumberedState};
 ghost use Rattle.jc_after.specs.Step.{is_array, is_array_name, element_of, element_name as name_of_elements, picked, with_stack, moved_by};
 ghost use Rattle.jc_after.specs.After.{element_letter as letter_of};
 ghost use Rattle.jc_after.specs.Arrays.{array_forms};
@@ -10,7 +10,8 @@ ghost use Rattle.jc_after.specs.declared.want.Want.TheVariants as wants;
 use crate::Want;
 use crate::form::Give;
 use crate::moves::move_state;
-use jc_base::{Kind, Memory, Names, State};
+use jc_bytes::{Memory, Names};
+use jc_methods::{Kind, State};
 use std::alloc::Global;
 
 /// An object of the class with this name.

@@ -1,6 +1,6 @@
 //! The instructions that do nothing but take operands from the stack and leave results.
 ghost use Rattle.std.specs.Prelude.{◌≡◌, ℕ, [], ◌++◌, length, map, IfOk, option_map, List as Seq};
-ghost use Rattle.jc_base.specs.Held.{Names, held, seen};
+ghost use Rattle.jc_methods.specs.Held.{Names, held, seen};
 ghost use Rattle.jc_after.specs.Wants.{accepts_all};
 ghost use Rattle.jc_after.specs.Step.{Form as SpecForm, upper, moved_by, with_stack};
 ghost use Rattle.jc_after.specs.Shapes.{chosen, forms_of};
@@ -11,7 +11,8 @@ use crate::form::{Form, form_in};
 use crate::moves::move_state;
 use crate::table::{Shape, shapes};
 use crate::want::are_accepted;
-use jc_base::{Kind, Memory, State};
+use jc_bytes::Memory;
+use jc_methods::{Kind, State};
 use std::alloc::Global;
 
 /// Whether the operands on top are those that are asked for.

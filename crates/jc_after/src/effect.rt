@@ -1,20 +1,18 @@
 //! What one thing that a body uses does to types.
 ghost use Rattle.std.specs.Prelude.{◌≡◌, ◌∷◌, ◌++◌, map, IfOk, option_map, codes, bytes_eq};
-ghost use Rattle.jc_base.specs.Descriptor.{IsFieldDescriptor, IsMethodDescriptor};
-ghost use Rattle.jc_base.specs.DescriptorTypes.{field_type_in, method_type_in};
-ghost use Rattle.jc_base.specs.Held.{Names, held, object, Grows};
-ghost use Rattle.jc_base.specs.ValueTypes.{held_by};
+ghost use Rattle.jc_bytes.specs.Descriptor.{IsFieldDescriptor, IsMethodDescriptor};
+ghost use Rattle.jc_methods.specs.DescriptorTypes.{field_type_in, method_type_in};
+ghost use Rattle.jc_methods.specs.Held.{Names, held, object, Grows};
+ghost use Rattle.jc_methods.specs.ValueTypes.{held_by};
 ghost use Rattle.jc_after.specs.After.{array_of as array_name_of, want_for as want_held};
 ghost use Rattle.jc_after.specs.Does.{arrays_of, call_of, does, value, value_of, Says};
-ghost use Rattle.jc_base.specs.declared.body.What.TheVariants as whats;
+ghost use Rattle.jc_methods.specs.declared.body.What.TheVariants as whats;
 ghost use Rattle.jc_after.specs.declared.want.Want.TheVariants as wants;
 
 use crate::Want;
 use crate::arrays::object_of;
-use jc_base::{
-    Kind, List, Memory, Names, ValueType, What, field_type, is_field_descriptor,
-    is_method_descriptor, method_types,
-};
+use jc_bytes::{List, Memory, Names, is_field_descriptor, is_method_descriptor};
+use jc_methods::{Kind, ValueType, What, field_type, method_types};
 use std::alloc::Global;
 
 /// What a use does to types: its descriptor is read, and its classes are numbered.

@@ -13,7 +13,8 @@ use crate::step::{
 };
 use crate::uses::{all_effects, effect_at, return_opcode};
 use crate::want::are_accepted;
-use jc_base::{Body, Insn, Kind, List, Memory, Names, State, TryClone, opcode};
+use jc_bytes::{List, Memory, Names};
+use jc_methods::{Body, Insn, Kind, State, TryClone, opcode};
 use std::alloc::Global;
 
 /// What the instructions of a body do to types, with each descriptor read once.
@@ -30,12 +31,12 @@ pub struct Effects<'a> {
 
 impl<'a> Effects<'a> {
     ghost use Rattle.std.specs.Prelude.{◌≡◌, ◌<◌, ℕ, length, All, IfOk, IfSome, Some, option_map, slice_get};
-    ghost use Rattle.jc_base.specs.Held.{Names, Grows, held, seen};
-    ghost use Rattle.jc_base.specs.InsnUse.{pool_place, Suits};
-    ghost use Rattle.jc_base.specs.WellMade.{HasUse, IsKind, IsWellMadeOfAnySize, what_used};
-    ghost use Rattle.jc_base.specs.declared.body.What.{What};
-    ghost use Rattle.jc_base.specs.declared.insn.Insn.TheVariants as insns;
-    ghost use Rattle.jc_base.specs.declared.opcode.TheConstants as ops;
+    ghost use Rattle.jc_methods.specs.Held.{Names, Grows, held, seen};
+    ghost use Rattle.jc_methods.specs.InsnUse.{pool_place, Suits};
+    ghost use Rattle.jc_methods.specs.WellMade.{HasUse, IsKind, IsWellMadeOfAnySize, what_used};
+    ghost use Rattle.jc_methods.specs.declared.body.What.{What};
+    ghost use Rattle.jc_methods.specs.declared.insn.Insn.TheVariants as insns;
+    ghost use Rattle.jc_methods.specs.Opcode as opcode;
     ghost use Rattle.jc_after.specs.After.{ground_of};
     ghost use Rattle.jc_after.specs.Answers.{IsStateOf, IsWhole, LeavesState, LeavesAlways};
     ghost use Rattle.jc_after.specs.Effects.{AreEffects, body_of, IsRead, DoesAt, StepsAs, IsClassMade, IsClassBuilt, IsBuilt};
@@ -104,7 +105,7 @@ impl<'a> Effects<'a> {
     /// The class of the objects that the `new` with this number makes.
     fn class_made(&self, at: u32) -> Option<Kind>
         requires read { IsRead self.now }
-        requires made { (place : ℕ) × (slice_get (body_of self.now).code at ≡ Some (insns.OfClass ops.NEW place)) }
+        requires made { (place : ℕ) × (slice_get (body_of self.now).code at ≡ Some (insns.OfClass opcode.new place)) }
         ensures { IsClassMade self.now at result }
     {
         let place = self.body.code[at as usize].pool_place()?;

@@ -1,11 +1,11 @@
 //! What each shape takes and leaves.
 ghost use Rattle.std.specs.Prelude.{◌≡◌};
-ghost use Rattle.jc_base.specs.Held.{Names};
+ghost use Rattle.jc_methods.specs.Held.{Names};
 ghost use Rattle.jc_after.specs.Shapes.{forms_of, forms_seen};
 
 use crate::Want;
 use crate::table::Shape;
-use jc_base::Kind;
+use jc_methods::Kind;
 
 /// What an instruction leaves: a value of a type, or the operand with this number, the deepest 0.
 #[derive(Clone, Copy, Debug, PartialEq, Eq)]

@@ -1,6 +1,6 @@
 //! Loads and stores of local variables. No class is named, so the clauses hold under all names.
 ghost use Rattle.std.specs.Prelude.{◌≡◌, ◌<◌, length, map, IfOk, option_map};
-ghost use Rattle.jc_base.specs.Held.{Names, held, seen, is_pair as is_pair_held};
+ghost use Rattle.jc_methods.specs.Held.{Names, held, seen, is_pair as is_pair_held};
 ghost use Rattle.jc_after.specs.Step.{cleared as cleared_held, clear_before as cleared_before, put_second as with_second};
 ghost use Rattle.jc_after.specs.Step.{put_local as with_local, loaded, stored, counted};
 
@@ -8,7 +8,8 @@ use crate::Want;
 use crate::form::Give;
 use crate::moves::move_state;
 use crate::want::accepts;
-use jc_base::{Kind, List, Memory, State};
+use jc_bytes::{List, Memory};
+use jc_methods::{Kind, State};
 use std::alloc::Global;
 
 /// Whether a value takes two slots.

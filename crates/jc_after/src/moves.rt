@@ -1,14 +1,15 @@
 //! What is taken from the stack and left there. No class is named, so the clauses hold under all names.
 ghost use Rattle.std.specs.Prelude.{◌≡◌, ℕ, map, IfOk, option_map, nat_le};
 ghost use Rattle.std.specs.List.{list_any};
-ghost use Rattle.jc_base.specs.Held.{Names, held, seen, slots};
+ghost use Rattle.jc_methods.specs.Held.{Names, held, seen, slots};
 ghost use Rattle.jc_after.specs.Step.{given_of, with_stack as put_stack};
 ghost use Rattle.jc_after.specs.Shapes.{gives_of, is_item as is_operand, form_of, moved_in};
 
 use crate::Want;
 use crate::form::Give;
 use crate::want::are_accepted;
-use jc_base::{Kind, List, Memory, State};
+use jc_bytes::{List, Memory};
+use jc_methods::{Kind, State};
 use std::alloc::{AllocError, Global};
 
 /// Whether what is left is one of the operands.

@@ -1,7 +1,7 @@
 //! New objects and their constructors.
 ghost use Rattle.std.specs.Prelude.{◌≡◌, ◌++◌, ℕ, List as Seq, Some, map, IfOk, option_map};
 ghost use Rattle.std.specs.List.{list_any};
-ghost use Rattle.jc_base.specs.Held.{Names, held, object, seen};
+ghost use Rattle.jc_methods.specs.Held.{Names, held, object, seen};
 ghost use Rattle.jc_after.specs.Objects.{is_made_by as is_made_kind, left_by as left_kind};
 ghost use Rattle.jc_after.specs.Objects.{is_one_object as is_one_kind, built_in as built_kind};
 ghost use Rattle.jc_after.specs.Shapes.{gives_of};
@@ -9,7 +9,8 @@ ghost use Rattle.jc_after.specs.Step.{made_at, built_as};
 
 use crate::form::Give;
 use crate::moves::move_stack;
-use jc_base::{Kind, List, Memory, State};
+use jc_bytes::{List, Memory};
+use jc_methods::{Kind, State};
 use std::alloc::{AllocError, Global};
 
 /// Whether a `new` made the object.

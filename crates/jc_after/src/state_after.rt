@@ -1,11 +1,12 @@
 //! The types of values after an instruction.
 ghost use Rattle.std.specs.Prelude.{◌<◌, length, IfOk, IfSome};
-ghost use Rattle.jc_base.specs.Held.{Grows};
-ghost use Rattle.jc_base.specs.WellMade.{IsWellMadeOfAnySize};
+ghost use Rattle.jc_methods.specs.Held.{Grows};
+ghost use Rattle.jc_methods.specs.WellMade.{IsWellMadeOfAnySize};
 ghost use Rattle.jc_after.specs.Answers.{IsStateOf, IsWhole, LeavesState};
 
 use crate::Effects;
-use jc_base::{Body, Memory, Names, State};
+use jc_bytes::{Memory, Names};
+use jc_methods::{Body, State};
 use std::alloc::Global;
 
 /// The types after an instruction of a body (JVM Specification 4.10.1.9). For many instructions of one body

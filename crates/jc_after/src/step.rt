@@ -1,8 +1,8 @@
 //! What an instruction does to types.
 ghost use Rattle.std.specs.Prelude.{◌≡◌, ◌≢◌, drop, Option, Some, option_map};
-ghost use Rattle.jc_base.specs.Descriptor.{FieldType};
-ghost use Rattle.jc_base.specs.Held.{Names, Held, held};
-ghost use Rattle.jc_base.specs.declared.opcode.TheConstants as ops;
+ghost use Rattle.jc_bytes.specs.Descriptor.{FieldType};
+ghost use Rattle.jc_methods.specs.Held.{Names, Held, held};
+ghost use Rattle.jc_methods.specs.Opcode as opcode;
 ghost use Rattle.jc_after.specs.Does.{does, of_class};
 ghost use Rattle.jc_after.specs.Steps.{step_in, constant_by, static_by, object_by, field_by, method_by, member_by};
 ghost use Rattle.jc_after.specs.Steps.{array_by, class_by, multi_by, is_picking};
@@ -10,7 +10,7 @@ ghost use Rattle.jc_after.specs.After.{local_step as local_step_of, local_want a
 
 use crate::Want;
 use crate::effect::Effect;
-use jc_base::{Insn, Kind, opcode};
+use jc_methods::{Insn, Kind, opcode};
 
 /// What an instruction does to types.
 #[derive(Clone, Copy, Debug)]
@@ -221,7 +221,7 @@ pub fn class_of(effect: &Effect) -> Option<Kind>
 
 /// An instruction without operands: its return has to be the one for the method's result.
 pub fn simple_step<'s>(returns: u8, op: u8) -> Step<'s>
-    requires { op ≢ ops.AALOAD }
+    requires { op ≢ opcode.aaload }
     ensures { (names : Names) (type : Option FieldType) → returns ≡ return_op type → step_in names result ≡ simple_step_of type op }
 {
     if op < opcode::IRETURN {

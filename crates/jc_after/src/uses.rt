@@ -1,17 +1,18 @@
 //! What the things that a body uses do to types.
 ghost use Rattle.std.specs.Prelude.{◌≡◌, ◌<◌, ℕ, length, Option, Some, IfOk, slice_index_or};
-ghost use Rattle.jc_base.specs.Descriptor.{IsMethodDescriptor};
-ghost use Rattle.jc_base.specs.DescriptorTypes.{method_type_in};
-ghost use Rattle.jc_base.specs.Held.{Names, Grows};
-ghost use Rattle.jc_base.specs.ValueTypes.{held_by};
-ghost use Rattle.jc_base.specs.WellMade.{AreRisingFrom, what_used};
-ghost use Rattle.jc_base.specs.declared.body.Use.{Use};
-ghost use Rattle.jc_base.specs.declared.body.What.{What};
+ghost use Rattle.jc_bytes.specs.Descriptor.{IsMethodDescriptor};
+ghost use Rattle.jc_methods.specs.DescriptorTypes.{method_type_in};
+ghost use Rattle.jc_methods.specs.Held.{Names, Grows};
+ghost use Rattle.jc_methods.specs.ValueTypes.{held_by};
+ghost use Rattle.jc_methods.specs.WellMade.{AreRisingFrom, what_used};
+ghost use Rattle.jc_methods.specs.declared.body.Use.{Use};
+ghost use Rattle.jc_methods.specs.declared.body.What.{What};
 ghost use Rattle.jc_after.specs.After.{return_for, return_op};
 ghost use Rattle.jc_after.specs.Does.{AllSay, Says};
 
 use crate::effect::{Effect, effect_of};
-use jc_base::{List, Memory, Names, Use, ValueType, method_types, opcode};
+use jc_bytes::{List, Memory, Names};
+use jc_methods::{Use, ValueType, method_types, opcode};
 use std::alloc::Global;
 
 /// Where the entry for a place stands.

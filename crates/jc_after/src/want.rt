@@ -1,9 +1,9 @@
 //! What instructions ask of their operands.
 ghost use Rattle.std.specs.Prelude.{◌≡◌, ℕ, map};
-ghost use Rattle.jc_base.specs.Held.{Names, held};
+ghost use Rattle.jc_methods.specs.Held.{Names, held};
 ghost use Rattle.jc_after.specs.Wants.{accepts as is_accepted, accepts_all};
 
-use jc_base::Kind;
+use jc_methods::Kind;
 
 /// What an instruction asks of an operand (JVM Specification 6.5). None of them takes `Top`.
 #[derive(Clone, Copy, Debug, PartialEq, Eq)]

@@ -1,14 +1,14 @@
 -- A method has one answer: no code, a body, or a reason for which it has none.
 use Rattle.std.proofs.Common.{◌≡◌, ℕ, List, [], ◌∷◌, ◌++◌, map, Some, refl, sym, ◌∙◌, subst}
 use Rattle.std.proofs.lemmas.Option.{same_Some}
-use Rattle.jc_base.specs.declared.body.Body.{Body}
-use Rattle.jc_base.specs.declared.refusal.Refusal.{Refusal}
-use Rattle.jc_base.specs.declared.refusal.RefusalKind.{RefusalKind}
-use Rattle.jc_base.specs.declared.refusal.RefusalKind.TheVariants as kinds
+use Rattle.jc_methods.specs.declared.body.Body.{Body}
+use Rattle.jc_bytes.specs.declared.refusal.Refusal.{Refusal}
+use Rattle.jc_bytes.specs.declared.refusal.RefusalKind.{RefusalKind}
+use Rattle.jc_bytes.specs.declared.refusal.RefusalKind.TheVariants as kinds
 use Rattle.std.specs.List.{IsDistinct}
 use Rattle.std.specs.Str.{bytes_eq}
-use Rattle.jc_base.specs.Held.{Names, seen_at}
-use Rattle.jc_base.specs.WellMade.{TakeSlots}
+use Rattle.jc_methods.specs.Held.{Names, seen_at}
+use Rattle.jc_methods.specs.WellMade.{TakeSlots}
 use Rattle.jc_pool.specs.Lookup.{class_name_of}
 use Rattle.jc_pool.specs.Pool.{PoolValue}
 use Rattle.jc_class.specs.declared.class_file.ClassFile.{ClassFile}
@@ -18,7 +18,7 @@ use Rattle.jc_body.specs.declared.items.Tables.{Tables}
 use Rattle.jc_body.specs.Coded.{HasNoCode}
 use Rattle.jc_body.specs.Attributes.{AreTables}
 use Rattle.jc_body.specs.Faults.{HasSubroutine, OfCode, faults, insn_faults, row_faults, table_faults}
-use Rattle.jc_base.specs.Least.{IsNowhere, IsLeast}
+use Rattle.jc_bytes.specs.Least.{IsNowhere, IsLeast}
 use Rattle.jc_body.specs.First.{Fault, IsFirst, AreNowhere}
 use Rattle.jc_body.specs.BodyOf.{places_used, HasParts, IsBody, BodyOf, Bodiless, IsReason, FaultOf}
 use Rattle.jc_body.specs.StackMap.{HasFrames}

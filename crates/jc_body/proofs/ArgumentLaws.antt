@@ -3,15 +3,15 @@ use Rattle.std.proofs.Common.{◌≡◌, ◌⊎◌, inl, inr, ℕ, ◌+◌, ◌<
 use Rattle.std.specs.Int.Bits.{bit_and}
 use Rattle.std.proofs.lemmas.Bool.{cases_lt, cases_eq}
 use Rattle.std.proofs.lemmas.Option.{same_Some}
-use Rattle.jc_base.specs.Descriptor.{MethodType, DescribesMethod, IsMethodDescriptor, parameter_slots}
-use Rattle.jc_base.specs.WellMade.{IsStatic, TakeSlots}
-use Rattle.jc_base.proofs.DescriptorLaws.{one_method}
+use Rattle.jc_bytes.specs.Descriptor.{MethodType, DescribesMethod, IsMethodDescriptor, parameter_slots}
+use Rattle.jc_methods.specs.WellMade.{IsStatic, TakeSlots}
+use Rattle.jc_bytes.proofs.DescriptorLaws.{one_method}
 use Rattle.jc_pool.specs.Lookup.{utf8_of}
 use Rattle.jc_pool.specs.Pool.{PoolValue}
 use Rattle.jc_class.specs.declared.class_file.Member.{Member}
 use Rattle.jc_body.specs.declared.coded.Coded.{Coded}
 use Rattle.jc_body.specs.Faults.{ArgumentsOutside}
-use Rattle.jc_base.specs.Least.{IsNowhere, IsLeast}
+use Rattle.jc_bytes.specs.Least.{IsNowhere, IsLeast}
 use Rattle.jc_body.proofs.OrderLaws.{IsDecided, at_zero}
 
 pub static_or_not : (flags : ℕ) → IsStatic flags ⊎ (IsStatic flags → ⊥)

@@ -1,6 +1,6 @@
 -- A method has one code, and what stands in the way of it.
 use Rattle.std.proofs.Common.{◌≡◌, ◌⊎◌, inl, inr, ℕ, List, [], ◌∷◌, map, sym, ◌∙◌, subst}
-use Rattle.jc_base.specs.declared.refusal.RefusalKind.{RefusalKind}
+use Rattle.jc_bytes.specs.declared.refusal.RefusalKind.{RefusalKind}
 use Rattle.jc_pool.specs.Pool.{PoolValue}
 use Rattle.jc_class.specs.declared.class_file.Member.{Member}
 use Rattle.jc_insn.specs.Spells.{Spells}
@@ -10,7 +10,7 @@ use Rattle.jc_body.specs.declared.coded.Coded.{Coded}
 use Rattle.jc_body.specs.CodeForm.{IsCodeText}
 use Rattle.jc_body.specs.Coded.{IsBodiless, HasNoCode, HasCode, HasItems, IsCoded, code_bodies}
 use Rattle.jc_body.specs.Faults.{NoSingleCode, MalformedCode, IsStopped, OfCode}
-use Rattle.jc_base.specs.Least.{IsNowhere, IsLeast}
+use Rattle.jc_bytes.specs.Least.{IsNowhere, IsLeast}
 use Rattle.jc_body.specs.First.{Fault, IsFirst, AreNowhere}
 use Rattle.jc_body.proofs.FormLaws.{one_code_text}
 

@@ -4,17 +4,17 @@ use Rattle.std.specs.List.{AllByRecursion, IsDistinct}
 use Rattle.std.specs.Int.Bits.{bit_and}
 use Rattle.std.specs.Str.{bytes_eq}
 use Rattle.std.proofs.lemmas.Bool.{cases_eq}
-use Rattle.jc_base.specs.declared.body.Body.{Body}
-use Rattle.jc_base.specs.Held.{Names, Seen, SeenAt}
-use Rattle.jc_base.specs.EntryState.{entry_seen}
-use Rattle.jc_base.specs.declared.refusal.Refusal.{Refusal}
-use Rattle.jc_base.specs.declared.refusal.RefusalKind.{RefusalKind}
-use Rattle.jc_base.specs.declared.refusal.RefusalKind.TheVariants as kinds
+use Rattle.jc_methods.specs.declared.body.Body.{Body}
+use Rattle.jc_methods.specs.Held.{Names, Seen, SeenAt}
+use Rattle.jc_methods.specs.EntryState.{entry_seen}
+use Rattle.jc_bytes.specs.declared.refusal.Refusal.{Refusal}
+use Rattle.jc_bytes.specs.declared.refusal.RefusalKind.{RefusalKind}
+use Rattle.jc_bytes.specs.declared.refusal.RefusalKind.TheVariants as kinds
 use Rattle.jc_class.specs.ClassFormat.{HasText, HasClass, HasMethodDescriptor}
 use Rattle.jc_class.specs.Writable.{IsClassFile, IsMember}
 use Rattle.jc_class.specs.declared.class_file.ClassFile.{ClassFile}
 use Rattle.jc_class.specs.declared.class_file.Member.{Member}
-use Rattle.jc_base.specs.Starts.{insn_number}
+use Rattle.jc_methods.specs.Starts.{insn_number}
 use Rattle.jc_insn.specs.Spells.{Spells, IsRefused}
 use Rattle.jc_insn.proofs.DecodedInsnLaws.{are_starts}
 use Rattle.jc_insn.proofs.SpelledOrRefusedLaws.{spelled_or_refused}
@@ -25,7 +25,7 @@ use Rattle.jc_body.specs.Attributes.{AreTables}
 use Rattle.jc_body.specs.CodeForm.{IsCodeText}
 use Rattle.jc_body.specs.Coded.{HasCode, HasItems, IsCoded, code_bodies}
 use Rattle.jc_body.specs.Faults.{NoSingleCode, HasSubroutine, faults, insn_faults, row_faults, table_faults}
-use Rattle.jc_base.specs.Least.{IsNowhere}
+use Rattle.jc_bytes.specs.Least.{IsNowhere}
 use Rattle.jc_body.specs.First.{IsFirst, AreNowhere}
 use Rattle.jc_body.specs.BodyOf.{BodyOf, Bodiless, IsReason, FaultOf, handler_of, lines_of, vars_of, places_used}
 use Rattle.jc_body.specs.StackMap.{BeginsWith, HasFrames, BadStackMap}

@@ -2,10 +2,10 @@
 use Rattle.std.proofs.Common.{ℕ, zero, suc, ◌-◌, Bool, true, false, List, [], ◌∷◌, ◌++◌, length, map, replicate, codes, if◌then◌else◌}
 use Rattle.std.specs.List.{AllByRecursion}
 use Rattle.std.specs.Str.{bytes_eq}
-use Rattle.jc_base.specs.Descriptor.{FieldType, Byte, Char, Double, Float, Int, Long, Short, Boolean, Object, Array}
-use Rattle.jc_base.specs.DescriptorTypes.{method_type_in}
-use Rattle.jc_base.specs.Held.{Held, top, uninit_this, object}
-use Rattle.jc_base.specs.EntryState.{spread_one, spread, held_of, is_static, arguments, entry_seen}
+use Rattle.jc_bytes.specs.Descriptor.{FieldType, Byte, Char, Double, Float, Int, Long, Short, Boolean, Object, Array}
+use Rattle.jc_methods.specs.DescriptorTypes.{method_type_in}
+use Rattle.jc_methods.specs.Held.{Held, top, uninit_this, object}
+use Rattle.jc_methods.specs.EntryState.{spread_one, spread, held_of, is_static, arguments, entry_seen}
 use Rattle.jc_frames.specs.Frames.{Ground}
 use Rattle.jc_frames.specs.WellMade.{HasNew}
 

@@ -2,14 +2,14 @@
 use Rattle.std.proofs.Common.{◌≡◌, ◌⊎◌, inl, inr, ℕ, ◌<◌, ◌≤◌, List, length, Option, Some, None, slice_get, get_or, sym, subst, arith}
 use Rattle.std.proofs.lemmas.Bool.{cases_lt}
 use Rattle.std.proofs.lemmas.Option.{slice_get_within, slice_get-get_or, get_or_from_slice_get}
-use Rattle.jc_base.specs.declared.insn.Insn.{Insn}
+use Rattle.jc_methods.specs.declared.insn.Insn.{Insn}
 use Rattle.jc_pool.specs.Pool.{PoolValue}
-use Rattle.jc_base.specs.Starts.{AreStarts, insn_number}
-use Rattle.jc_base.proofs.StartsLaws.{rising}
+use Rattle.jc_methods.specs.Starts.{AreStarts, insn_number}
+use Rattle.jc_methods.proofs.StartsLaws.{rising}
 use Rattle.jc_body.specs.declared.items.Row.{Row}
 use Rattle.jc_body.specs.declared.coded.Coded.{Coded}
 use Rattle.jc_body.specs.Faults.{InsnAt, IsRow, BadRow}
-use Rattle.jc_base.specs.Least.{IsNowhere, IsLeast}
+use Rattle.jc_bytes.specs.Least.{IsNowhere, IsLeast}
 use Rattle.jc_body.specs.First.{IsFirstItem, NoItem, FirstItem}
 use Rattle.jc_body.specs.declared.places.Offsets.{Offsets}
 use Rattle.jc_body.specs.Numbering.{numbering, Numbers}

@@ -6,9 +6,9 @@ use Rattle.std.specs.Fn.{Called, Mut}
 use Rattle.std.specs.Iterator.{YieldsThen}
 use Rattle.std.proofs.lemmas.Iterator.{YieldsList, IsFirst-from_position}
 use Rattle.std.proofs.lemmas.Option.{same_Some, slice_get_within, slice_get_read, get_or_from_slice_get}
-use Rattle.jc_base.specs.declared.insn.Insn.{Insn}
-use Rattle.jc_base.specs.Flow.{FallsThrough}
-use Rattle.jc_base.specs.InsnUse.{LeadsWithin}
+use Rattle.jc_methods.specs.declared.insn.Insn.{Insn}
+use Rattle.jc_methods.specs.Flow.{FallsThrough}
+use Rattle.jc_methods.specs.InsnUse.{LeadsWithin}
 use Rattle.jc_body.specs.First.{NoneBefore, NoItem, IsFirstItem, FirstItem}
 use Rattle.jc_body.specs.Faults.{IsAstray}
 

@@ -2,16 +2,16 @@
 use Rattle.std.proofs.Common.{◌≡◌, ◌≤◌, ◌⊎◌, inl, inr, ⊎_elim, ℕ, ◌<◌, List, [], ◌++◌, length, Bool, false, leb, Err, sym, ◌∙◌, ap, subst, arith}
 use Rattle.std.proofs.lemmas.List.{append-nil, nil_from_length}
 use Rattle.std.proofs.lemmas.Bool.{false≢true, leb-true, le-leb}
-use Rattle.jc_base.specs.Decoder.{SameEnd}
-use Rattle.jc_base.specs.Counted.{counted_at}
-use Rattle.jc_base.specs.Grammar.{Grammar, Agrees}
-use Rattle.jc_base.specs.Parsing.{Parsed, Good, Parses}
-use Rattle.jc_base.specs.Reader.{Reading}
-use Rattle.jc_base.specs.declared.fail.Fail.TheVariants as fails
-use Rattle.jc_base.specs.declared.refusal.Refusal.{Refusal}
-use Rattle.jc_base.proofs.DecidingLaws.{Decides}
-use Rattle.jc_base.proofs.CountedLaws.{agrees_number, agrees_piece, agrees_counted}
-use Rattle.jc_base.proofs.GrammarLaws.{agrees_nothing, agrees_followed, good_is, one_value, whole_or_fails, never_both}
+use Rattle.jc_bytes.specs.Decoder.{SameEnd}
+use Rattle.jc_bytes.specs.Counted.{counted_at}
+use Rattle.jc_bytes.specs.Grammar.{Grammar, Agrees}
+use Rattle.jc_bytes.specs.Parsing.{Parsed, Good, Parses}
+use Rattle.jc_bytes.specs.Reader.{Reading}
+use Rattle.jc_bytes.specs.declared.fail.Fail.TheVariants as fails
+use Rattle.jc_bytes.specs.declared.refusal.Refusal.{Refusal}
+use Rattle.jc_bytes.proofs.DecidingLaws.{Decides}
+use Rattle.jc_bytes.proofs.CountedLaws.{agrees_number, agrees_piece, agrees_counted}
+use Rattle.jc_bytes.proofs.GrammarLaws.{agrees_nothing, agrees_followed, good_is, one_value, whole_or_fails, never_both}
 use Rattle.jc_pool.specs.Pool.{PoolValue}
 use Rattle.jc_class.proofs.PartLaws.{agrees_attributes}
 use Rattle.jc_body.specs.declared.items.CodeItems.{CodeItems}

@@ -1,7 +1,7 @@
 -- Each item of a table is read exactly where its form spells one.
-use Rattle.jc_base.specs.Grammar.{Agrees}
-use Rattle.jc_base.proofs.CountedLaws.{agrees_number}
-use Rattle.jc_base.proofs.GrammarLaws.{agrees_nothing, agrees_followed}
+use Rattle.jc_bytes.specs.Grammar.{Agrees}
+use Rattle.jc_bytes.proofs.CountedLaws.{agrees_number}
+use Rattle.jc_bytes.proofs.GrammarLaws.{agrees_nothing, agrees_followed}
 use Rattle.jc_body.specs.CodeForm.{row, line_entry, var_entry}
 use Rattle.jc_body.specs.CodeReading.{row_at, line_at, var_at}
 

@@ -1,7 +1,7 @@
 -- The first of several faults is one, and faults of a list with a front and a rest.
 use Rattle.std.proofs.Common.{◌≡◌, ◌⊎◌, inl, inr, ℕ, ◌<◌, List, [], ◌∷◌, ◌++◌, arith}
 use Rattle.std.proofs.lemmas.Bool.{cases_order}
-use Rattle.jc_base.specs.Least.{IsNowhere, IsLeast}
+use Rattle.jc_bytes.specs.Least.{IsNowhere, IsLeast}
 use Rattle.jc_body.specs.First.{Fault, IsFirst, AreNowhere}
 
 -- ---- one first place

@@ -3,7 +3,7 @@ use Rattle.std.proofs.Common.{◌≡◌, ◌⊎◌, inl, inr, ℕ, ◌+◌, ◌<
 use Rattle.std.proofs.lemmas.Bool.{and_parts, or_cases, eqb-true, ltb-true, cases_eq}
 use Rattle.std.proofs.lemmas.Option.{none-some, slice_get-get_or}
 use Rattle.std.proofs.lemmas.List.Elements.{All-map, filter_passes}
-use Rattle.jc_base.specs.WellMade.{IsHandler, IsLine, IsVar}
+use Rattle.jc_methods.specs.WellMade.{IsHandler, IsLine, IsVar}
 use Rattle.jc_pool.specs.Lookup.{class_name_of}
 use Rattle.jc_pool.specs.Pool.{PoolValue}
 use Rattle.jc_body.specs.declared.items.Row.{Row}

@@ -3,12 +3,12 @@ use Rattle.std.proofs.Common.{◌≡◌, ◌⊎◌, inl, inr, ℕ, ◌<◌, List
 use Rattle.std.proofs.lemmas.Option.{slice_get-get_or}
 use Rattle.std.specs.List.{IsDistinct}
 use Rattle.std.specs.Str.{bytes_eq}
-use Rattle.jc_base.specs.Held.{Names}
-use Rattle.jc_base.specs.declared.body.Body.{Body}
-use Rattle.jc_base.specs.declared.fail.Fail.{Fail}
-use Rattle.jc_base.specs.declared.fail.Fail.TheVariants as fails
-use Rattle.jc_base.specs.declared.refusal.Refusal.{Refusal}
-use Rattle.jc_base.specs.WellMade.{IsWellMade}
+use Rattle.jc_methods.specs.Held.{Names}
+use Rattle.jc_methods.specs.declared.body.Body.{Body}
+use Rattle.jc_bytes.specs.declared.fail.Fail.{Fail}
+use Rattle.jc_bytes.specs.declared.fail.Fail.TheVariants as fails
+use Rattle.jc_bytes.specs.declared.refusal.Refusal.{Refusal}
+use Rattle.jc_methods.specs.WellMade.{IsWellMade}
 use Rattle.jc_pool.specs.Pool.{PoolValue}
 use Rattle.jc_pool.specs.Lookup.{class_name_of}
 use Rattle.jc_class.specs.declared.class_file.ClassFile.{ClassFile}
@@ -21,7 +21,7 @@ use Rattle.jc_body.specs.Answers.{IsRefusal, IsFrameRefusal, bad_code, Said}
 use Rattle.jc_body.specs.Attributes.{AreTables}
 use Rattle.jc_body.specs.Coded.{HasNoCode, HasItems, IsCoded}
 use Rattle.jc_body.specs.Faults.{HasSubroutine, MalformedTable, TooWide, faults, insn_faults, row_faults, table_faults}
-use Rattle.jc_base.specs.Least.{IsNowhere}
+use Rattle.jc_bytes.specs.Least.{IsNowhere}
 use Rattle.jc_body.specs.First.{Fault, IsFirst, AreNowhere, FirstFault}
 use Rattle.jc_body.specs.BodyOf.{IsBody, BodyOf, Bodiless, FaultOf}
 use Rattle.jc_body.specs.Sizes.{HasSmallParts}

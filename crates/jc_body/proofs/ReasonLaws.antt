@@ -1,17 +1,17 @@
 -- Which faults the code of a method has, and what reason they make.
 use Rattle.std.proofs.Common.{◌≡◌, ◌⊎◌, inl, inr, ℕ, ◌+◌, ◌*◌, ◌<◌, ◌≤◌, List, [], ◌∷◌, ◌++◌, length, map, Some, refl, sym, subst, arith}
 use Rattle.std.proofs.lemmas.Bool.{cases_lt}
-use Rattle.jc_base.specs.WellMade.{most_slots}
-use Rattle.jc_base.specs.declared.insn.Insn.{Insn}
-use Rattle.jc_base.specs.declared.refusal.Refusal.{Refusal}
-use Rattle.jc_base.specs.declared.refusal.RefusalKind.{RefusalKind}
-use Rattle.jc_base.specs.declared.refusal.RefusalKind.TheVariants as kinds
-use Rattle.jc_base.specs.Descriptor.{IsMethodDescriptor}
-use Rattle.jc_base.specs.InsnUse.{LocalsWithin}
+use Rattle.jc_methods.specs.WellMade.{most_slots}
+use Rattle.jc_methods.specs.declared.insn.Insn.{Insn}
+use Rattle.jc_bytes.specs.declared.refusal.Refusal.{Refusal}
+use Rattle.jc_bytes.specs.declared.refusal.RefusalKind.{RefusalKind}
+use Rattle.jc_bytes.specs.declared.refusal.RefusalKind.TheVariants as kinds
+use Rattle.jc_bytes.specs.Descriptor.{IsMethodDescriptor}
+use Rattle.jc_methods.specs.InsnUse.{LocalsWithin}
 use Rattle.jc_pool.specs.Lookup.{utf8_of}
 use Rattle.jc_pool.specs.Pool.{PoolValue}
 use Rattle.jc_class.specs.declared.class_file.Member.{Member}
-use Rattle.jc_base.specs.Starts.{AreStarts, insn_number}
+use Rattle.jc_methods.specs.Starts.{AreStarts, insn_number}
 use Rattle.jc_insn.specs.Spells.{IsRefused, IsFault, FaultBehind}
 use Rattle.jc_insn.proofs.OneReadingLaws.{same_fault}
 use Rattle.jc_body.specs.declared.coded.Coded.{Coded}
@@ -20,9 +20,9 @@ use Rattle.jc_body.specs.declared.items.Tables.{Tables}
 use Rattle.jc_body.specs.Attributes.{AreTables}
 use Rattle.jc_body.specs.Coded.{HasCode, HasItems, IsCoded}
 use Rattle.jc_body.specs.Faults.{NoSingleCode, MalformedCode, IsStopped, HasSubroutine, InsnAt, IsAstray, MalformedTable, TooWide, faults, insn_faults, row_faults, table_faults}
-use Rattle.jc_base.specs.Held.{SeenAt}
-use Rattle.jc_base.specs.EntryState.{entry_seen}
-use Rattle.jc_base.specs.Least.{IsNowhere, IsLeast}
+use Rattle.jc_methods.specs.Held.{SeenAt}
+use Rattle.jc_methods.specs.EntryState.{entry_seen}
+use Rattle.jc_bytes.specs.Least.{IsNowhere, IsLeast}
 use Rattle.jc_body.specs.StackMap.{HasFrames, BadStackMap}
 use Rattle.jc_body.specs.First.{IsFirst, AreNowhere}
 use Rattle.jc_body.specs.Standing.{HasRightEntry}

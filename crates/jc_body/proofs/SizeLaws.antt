@@ -3,20 +3,20 @@ use Rattle.std.proofs.Common.{◌≡◌, ◌⊎◌, inl, inr, ℕ, zero, suc, �
 use Rattle.std.proofs.lemmas.Bool.{cases_lt}
 use Rattle.std.proofs.lemmas.List.{length-append, get_or_default}
 use Rattle.std.proofs.lemmas.List.Elements.{All-cons, All-nil}
-use Rattle.jc_base.specs.Grammar.{times}
+use Rattle.jc_bytes.specs.Grammar.{times}
 use Rattle.jc_pool.specs.Pool.{PoolValue}
-use Rattle.jc_base.specs.Counted.{counted}
+use Rattle.jc_bytes.specs.Counted.{counted}
 use Rattle.jc_class.specs.ClassFormat.{HasText, attribute}
 use Rattle.jc_class.specs.declared.class_file.Attribute.{Attribute}
 use Rattle.jc_class.specs.declared.class_file.Member.{Member}
-use Rattle.jc_base.specs.Starts.{AreStarts}
+use Rattle.jc_methods.specs.Starts.{AreStarts}
 use Rattle.jc_insn.proofs.DecodedInsnLaws.{are_starts}
 use Rattle.jc_body.specs.declared.items.CodeItems.{CodeItems}
 use Rattle.jc_body.specs.declared.items.Row.{Row}
 use Rattle.jc_body.specs.declared.coded.Coded.{Coded}
 use Rattle.jc_body.specs.CodeForm.{row, code_form}
 use Rattle.jc_body.specs.Coded.{IsCoded}
-use Rattle.jc_base.proofs.StartsLaws.{rising}
+use Rattle.jc_methods.proofs.StartsLaws.{rising}
 
 in_two : (bytes front rest : List ℕ) → bytes ≡ front ++ rest → (length front ≤ length bytes) × (length rest ≤ length bytes)
 in_two bytes front rest parts =

@@ -1,16 +1,16 @@
 -- The code of a method has frames, or a fault of its stack map table.
 use Rattle.std.proofs.Common.{◌≡◌, ◌⊎◌, inl, inr, ⊎_elim, ℕ, ◌<◌, ◌≤◌, List, [], ◌∷◌, length, map, Option, Some, None, MatchOption, refl, sym, ◌∙◌, ap, subst, arith, Bor}
 use Rattle.std.proofs.lemmas.Option.{same_Some}
-use Rattle.jc_base.specs.declared.insn.Insn.{Insn}
-use Rattle.jc_base.specs.declared.body.FrameAt.{FrameAt}
-use Rattle.jc_base.specs.declared.refusal.Refusal.{Refusal}
-use Rattle.jc_base.specs.Least.{IsNowhere, IsLeast}
-use Rattle.jc_base.specs.Held.{Names, Seen, SeenAt, seen, seen_at, AreNumberedFrames}
-use Rattle.jc_base.specs.EntryState.{entry_seen}
+use Rattle.jc_methods.specs.declared.insn.Insn.{Insn}
+use Rattle.jc_methods.specs.declared.body.FrameAt.{FrameAt}
+use Rattle.jc_bytes.specs.declared.refusal.Refusal.{Refusal}
+use Rattle.jc_bytes.specs.Least.{IsNowhere, IsLeast}
+use Rattle.jc_methods.specs.Held.{Names, Seen, SeenAt, seen, seen_at, AreNumberedFrames}
+use Rattle.jc_methods.specs.EntryState.{entry_seen}
 use Rattle.jc_pool.specs.Lookup.{utf8_of}
 use Rattle.jc_pool.specs.Pool.{PoolValue}
 use Rattle.jc_class.specs.declared.class_file.Member.{Member}
-use Rattle.jc_base.specs.declared.kind.State.{State}
+use Rattle.jc_methods.specs.declared.kind.State.{State}
 use Rattle.jc_frames.specs.Frames.{Ground, ground}
 use Rattle.jc_frames.specs.Table.{StandsFor, TableFault, Outcome, stands_for, at_fault, outcome_of}
 use Rattle.jc_frames.proofs.TableLaws.{table_good, table_again, table_bad, table_fails, stands_fault, stands_is, fault_is}

@@ -1,19 +1,19 @@
 -- Whether an instruction names the right entry, leads where it may and uses local variables that there are, is decided.
 use Rattle.std.proofs.Common.{◌≡◌, ◌⊎◌, inl, inr, ℕ, ◌+◌, ◌<◌, ◌≤◌, Bool, List, [], ◌∷◌, Option, Some, None, IsSomeAnd, IsTrue, ◌↔◌, option_and_then, refl, ap, subst}
 use Rattle.std.proofs.lemmas.Bool.{cases_eq}
-use Rattle.jc_base.specs.declared.insn.Insn.{Insn}
-use Rattle.jc_base.specs.declared.insn.Insn.TheVariants as insns
-use Rattle.jc_base.specs.declared.insn.Flow.{Flow}
-use Rattle.jc_base.specs.declared.insn.Flow.TheVariants as flows
-use Rattle.jc_base.specs.declared.body.What.{What}
-use Rattle.jc_base.specs.declared.body.What.TheVariants as whats
-use Rattle.jc_base.specs.declared.opcode.TheConstants.{INVOKESPECIAL}
-use Rattle.jc_base.specs.Opcode.{putfield}
-use Rattle.jc_base.specs.Deciding.{is_field_text, is_method_text}
-use Rattle.jc_base.specs.Descriptor.{IsFieldDescriptor, IsMethodDescriptor}
-use Rattle.jc_base.specs.Flow.{FallsThrough, flow_of, targets_of}
-use Rattle.jc_base.specs.InsnUse.{pool_place, IsField, IsMethod, IsCall, IsClass, IsOfTwoSlots, IsOneSlotConstant, IsTwoSlotConstant, IsMemberFor, Suits, LocalsWithin, LeadsWithin, locals_of}
-use Rattle.jc_base.proofs.DecidingLaws.{field_text_decided, method_text_decided}
+use Rattle.jc_methods.specs.declared.insn.Insn.{Insn}
+use Rattle.jc_methods.specs.declared.insn.Insn.TheVariants as insns
+use Rattle.jc_methods.specs.declared.insn.Flow.{Flow}
+use Rattle.jc_methods.specs.declared.insn.Flow.TheVariants as flows
+use Rattle.jc_methods.specs.declared.body.What.{What}
+use Rattle.jc_methods.specs.declared.body.What.TheVariants as whats
+use Rattle.jc_methods.specs.Opcode.{invokespecial}
+use Rattle.jc_methods.specs.Opcode.{putfield}
+use Rattle.jc_bytes.specs.Deciding.{is_field_text, is_method_text}
+use Rattle.jc_bytes.specs.Descriptor.{IsFieldDescriptor, IsMethodDescriptor}
+use Rattle.jc_methods.specs.Flow.{FallsThrough, flow_of, targets_of}
+use Rattle.jc_methods.specs.InsnUse.{pool_place, IsField, IsMethod, IsCall, IsClass, IsOfTwoSlots, IsOneSlotConstant, IsTwoSlotConstant, IsMemberFor, Suits, LocalsWithin, LeadsWithin, locals_of}
+use Rattle.jc_bytes.proofs.DecidingLaws.{field_text_decided, method_text_decided}
 use Rattle.jc_pool.specs.Lookup.{Member, member_of, class_name_of, const_of}
 use Rattle.jc_pool.specs.Pool.{PoolValue}
 use Rattle.jc_pool.specs.declared.constant.ConstText.{ConstText}
@@ -117,8 +117,8 @@ meets_or_not insn (Some what) = kind_or_not insn what
 
 tag_or_not : (major : ℕ) (insn : Insn) (found : Found) → Decided (TagSuits major insn found)
 tag_or_not major (insns.Member op place) (of_member m) =
-    if_or_not (m.tag ≡ 11) ((52 ≤ major) × (INVOKESPECIAL ≤ op)) (cases_eq m.tag 11)
-    (both_or_not (52 ≤ major) (INVOKESPECIAL ≤ op) (within_or_not 52 major) (within_or_not INVOKESPECIAL op))
+    if_or_not (m.tag ≡ 11) ((52 ≤ major) × (invokespecial ≤ op)) (cases_eq m.tag 11)
+    (both_or_not (52 ≤ major) (invokespecial ≤ op) (within_or_not 52 major) (within_or_not invokespecial op))
 tag_or_not major (insns.Interface place count) (of_member m) = cases_eq m.tag 11
 tag_or_not major _ _ = inl tt
 

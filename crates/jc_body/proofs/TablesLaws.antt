@@ -3,12 +3,12 @@ use Rattle.std.proofs.Common.{◌≡◌, ◌<◌, ◌≤◌, ◌⊎◌, inl, inr
 use Rattle.std.proofs.lemmas.List.{append-nil, drop_all, length-map}
 use Rattle.std.proofs.lemmas.List.Elements.{All-map, All-filter}
 use Rattle.std.proofs.Math.ListN.{get_or-map}
-use Rattle.jc_base.specs.Counted.{counted_at}
-use Rattle.jc_base.specs.Grammar.{Grammar, Agrees}
-use Rattle.jc_base.specs.Outside.{most_read}
-use Rattle.jc_base.specs.Parsing.{Parsed}
-use Rattle.jc_base.proofs.AppendingLaws.{drop_at}
-use Rattle.jc_base.proofs.GrammarLaws.{one_value}
+use Rattle.jc_bytes.specs.Counted.{counted_at}
+use Rattle.jc_bytes.specs.Grammar.{Grammar, Agrees}
+use Rattle.jc_bytes.specs.Reader.{most_read}
+use Rattle.jc_bytes.specs.Parsing.{Parsed}
+use Rattle.jc_bytes.proofs.AppendingLaws.{drop_at}
+use Rattle.jc_bytes.proofs.GrammarLaws.{one_value}
 use Rattle.jc_pool.specs.Pool.{PoolValue}
 use Rattle.jc_class.specs.declared.class_file.Attribute.{Attribute}
 use Rattle.jc_body.specs.declared.items.Tables.{Tables}

@@ -14,14 +14,14 @@ use Rattle.std.proofs.lemmas.List.Kept.{Contains-dedup_nat, Contains-from_dedup,
 use Rattle.std.proofs.lemmas.List.Sorted.{list_any-IsPermutation}
 use Rattle.std.proofs.lemmas.Map.Keys.{IsStrictlyIncreasing-dedup}
 use Rattle.std.proofs.lemmas.Map.Views.{Contains-from_any, list_any-from_Contains}
-use Rattle.jc_base.specs.declared.fail.Memory.{Memory}
-use Rattle.jc_base.specs.declared.insn.Insn.{Insn}
-use Rattle.jc_base.specs.declared.body.Use.{Use}
-use Rattle.jc_base.specs.declared.body.What.{What}
-use Rattle.jc_base.specs.InsnUse.{pool_place}
-use Rattle.jc_base.specs.WellMade.{HasUse, HasShortTexts, AreRisingFrom, what_used}
-use Rattle.jc_base.proofs.UsedLaws.{none_below}
-use Rattle.jc_base.proofs.TestLaws.{in_map}
+use Rattle.jc_bytes.specs.declared.fail.Memory.{Memory}
+use Rattle.jc_methods.specs.declared.insn.Insn.{Insn}
+use Rattle.jc_methods.specs.declared.body.Use.{Use}
+use Rattle.jc_methods.specs.declared.body.What.{What}
+use Rattle.jc_methods.specs.InsnUse.{pool_place}
+use Rattle.jc_methods.specs.WellMade.{HasUse, HasShortTexts, AreRisingFrom, what_used}
+use Rattle.jc_methods.proofs.UsedLaws.{none_below}
+use Rattle.jc_bytes.proofs.TestLaws.{in_map}
 use Rattle.jc_pool.specs.Pool.{PoolValue}
 use Rattle.jc_body.specs.declared.items.Row.{Row}
 use Rattle.jc_body.specs.BodyOf.{some_of, insn_places, row_places, places_used, used_at, AreUsesOf}

@@ -4,22 +4,22 @@ use Rattle.std.specs.Option.{option_and_then}
 use Rattle.std.proofs.lemmas.Bool.{cases_lt}
 use Rattle.std.proofs.lemmas.Option.{none-some, slice_get-get_or, slice_get_within}
 use Rattle.std.proofs.lemmas.List.Elements.{All-map, Contains-get_or}
-use Rattle.jc_base.specs.Decoder.{◌>>=◌}
-use Rattle.jc_base.specs.Flow.{FallsThrough}
-use Rattle.jc_base.specs.InsnUse.{pool_place, Suits, IsClass, LocalsWithin, LeadsWithin}
-use Rattle.jc_base.specs.WellMade.{IsCode, HasUse, HasShortTexts, AreUses, HasSizes, IsWellMadeOfAnySize, most_slots, IsBounded, IsWellMade}
-use Rattle.jc_base.specs.declared.body.Body.{Body}
-use Rattle.jc_base.specs.declared.body.Handler.{Handler}
-use Rattle.jc_base.specs.declared.body.Use.{Use}
-use Rattle.jc_base.specs.declared.body.What.TheVariants as whats
-use Rattle.jc_base.specs.declared.insn.Insn.{Insn}
+use Rattle.jc_bytes.specs.Decoder.{◌>>=◌}
+use Rattle.jc_methods.specs.Flow.{FallsThrough}
+use Rattle.jc_methods.specs.InsnUse.{pool_place, Suits, IsClass, LocalsWithin, LeadsWithin}
+use Rattle.jc_methods.specs.WellMade.{IsCode, HasUse, HasShortTexts, AreUses, HasSizes, IsWellMadeOfAnySize, most_slots, IsBounded, IsWellMade}
+use Rattle.jc_methods.specs.declared.body.Body.{Body}
+use Rattle.jc_methods.specs.declared.body.Handler.{Handler}
+use Rattle.jc_methods.specs.declared.body.Use.{Use}
+use Rattle.jc_methods.specs.declared.body.What.TheVariants as whats
+use Rattle.jc_methods.specs.declared.insn.Insn.{Insn}
 use Rattle.jc_pool.specs.declared.entry.Entry.{Entry}
 use Rattle.jc_pool.specs.declared.entry.Entry.TheVariants as entry
 use Rattle.jc_pool.specs.Lookup.{entry_of, utf8_of, class_in, class_name_of, member_in, member_of, const_of}
 use Rattle.jc_pool.specs.Pool.{PoolValue}
 use Rattle.jc_class.specs.declared.class_file.ClassFile.{ClassFile}
 use Rattle.jc_class.specs.declared.class_file.Member.{Member}
-use Rattle.jc_base.specs.Starts.{AreStarts, insn_number}
+use Rattle.jc_methods.specs.Starts.{AreStarts, insn_number}
 use Rattle.jc_insn.proofs.DecodedInsnLaws.{all_among, are_starts}
 use Rattle.jc_insn.proofs.InsnCountLaws.{code_size}
 use Rattle.jc_body.specs.declared.coded.Coded.{Coded}
@@ -28,21 +28,21 @@ use Rattle.jc_body.specs.declared.items.Tables.{Tables}
 use Rattle.jc_body.specs.BodyOf.{handler_of, lines_of, vars_of, places_used, AreUsesOf, HasParts, IsBody, IsBodyOfAnySize}
 use Rattle.jc_body.specs.Coded.{IsCoded}
 use Rattle.jc_body.specs.Faults.{OfCode, InsnAt, IsAstray, IsRow, IsClassOrNone, ArgumentsOutside, TooWide, faults, faults_of_any_size}
-use Rattle.jc_base.specs.Least.{IsNowhere}
+use Rattle.jc_bytes.specs.Least.{IsNowhere}
 use Rattle.jc_body.specs.First.{AreNowhere, NoItem}
 use Rattle.jc_body.specs.Standing.{what_of, what_at, found_in, found_at, HasRightEntry}
 use Rattle.std.specs.List.{AllByRecursion}
-use Rattle.jc_base.specs.declared.body.FrameAt.{FrameAt}
-use Rattle.jc_base.specs.Held.{Names, Seen, SeenAt, seen_at}
-use Rattle.jc_base.specs.WellMade.{AreFramesFrom}
+use Rattle.jc_methods.specs.declared.body.FrameAt.{FrameAt}
+use Rattle.jc_methods.specs.Held.{Names, Seen, SeenAt, seen_at}
+use Rattle.jc_methods.specs.WellMade.{AreFramesFrom}
 use Rattle.jc_frames.specs.Table.{StandsFor}
 use Rattle.jc_frames.specs.WellMade.{HasNew}
 use Rattle.jc_frames.proofs.WellMadeLaws.{frames_well_made}
 use Rattle.jc_body.specs.StackMap.{stack_maps, ground_of, HasFrames}
 use Rattle.jc_body.proofs.EntryLaws.{no_new}
 use Rattle.jc_body.proofs.ArgumentLaws.{arguments_fit}
-use Rattle.jc_base.proofs.StartsLaws.{number_of_end, numbers_rise, numbers_stay, some_insn}
-use Rattle.jc_base.proofs.ListLaws.{put_last}
+use Rattle.jc_methods.proofs.StartsLaws.{number_of_end, numbers_rise, numbers_stay, some_insn}
+use Rattle.jc_bytes.proofs.ListLaws.{put_last}
 use Rattle.jc_body.proofs.PlacesLaws.{row_or_not, rows_handled, lines_kept, vars_kept}
 use Rattle.jc_body.proofs.StandingLaws.{right_entry_or_not, suits_what, locals_or_not, leads_or_not}
 use Rattle.jc_body.proofs.UsesLaws.{has_use, insn_place_used, row_place_used}

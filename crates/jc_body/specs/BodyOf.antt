@@ -2,25 +2,25 @@
 use Rattle.std.specs.Prelude.{◌≡◌, ◌+◌, ℕ, Bool, ◌&&◌, ◌||◌, not, List, [], ◌∷◌, ◌++◌, length, map}
 use Rattle.std.specs.Prelude.{filter, Option, Some, None, nat_lt, nat_eq, slice_get, if◌then◌else◌}
 use Rattle.std.specs.List.{flat_map, list_any}
-use Rattle.jc_base.specs.declared.body.Body.{Body}
-use Rattle.jc_base.specs.declared.body.FrameAt.{FrameAt}
-use Rattle.jc_base.specs.declared.body.Handler.{Handler}
-use Rattle.jc_base.specs.declared.body.LineAt.{LineAt}
-use Rattle.jc_base.specs.declared.body.VarAt.{VarAt}
-use Rattle.jc_base.specs.declared.body.Use.{Use}
-use Rattle.jc_base.specs.declared.body.What.{What}
-use Rattle.jc_base.specs.declared.insn.Insn.{Insn}
-use Rattle.jc_base.specs.declared.refusal.Refusal.{Refusal}
-use Rattle.jc_base.specs.declared.refusal.RefusalKind.{RefusalKind}
-use Rattle.jc_base.specs.declared.refusal.RefusalKind.TheVariants as kinds
-use Rattle.jc_base.specs.InsnUse.{pool_place}
-use Rattle.jc_base.specs.Held.{Names, seen_at, AreNumberedFrames}
-use Rattle.jc_base.specs.WellMade.{TakeSlots, AreRisingFrom, what_used}
+use Rattle.jc_methods.specs.declared.body.Body.{Body}
+use Rattle.jc_methods.specs.declared.body.FrameAt.{FrameAt}
+use Rattle.jc_methods.specs.declared.body.Handler.{Handler}
+use Rattle.jc_methods.specs.declared.body.LineAt.{LineAt}
+use Rattle.jc_methods.specs.declared.body.VarAt.{VarAt}
+use Rattle.jc_methods.specs.declared.body.Use.{Use}
+use Rattle.jc_methods.specs.declared.body.What.{What}
+use Rattle.jc_methods.specs.declared.insn.Insn.{Insn}
+use Rattle.jc_bytes.specs.declared.refusal.Refusal.{Refusal}
+use Rattle.jc_bytes.specs.declared.refusal.RefusalKind.{RefusalKind}
+use Rattle.jc_bytes.specs.declared.refusal.RefusalKind.TheVariants as kinds
+use Rattle.jc_methods.specs.InsnUse.{pool_place}
+use Rattle.jc_methods.specs.Held.{Names, seen_at, AreNumberedFrames}
+use Rattle.jc_methods.specs.WellMade.{TakeSlots, AreRisingFrom, what_used}
 use Rattle.jc_pool.specs.Lookup.{utf8_of, class_name_of}
 use Rattle.jc_pool.specs.Pool.{PoolValue}
 use Rattle.jc_class.specs.declared.class_file.ClassFile.{ClassFile}
 use Rattle.jc_class.specs.declared.class_file.Member.{Member}
-use Rattle.jc_base.specs.Starts.{insn_number}
+use Rattle.jc_methods.specs.Starts.{insn_number}
 use Rattle.jc_body.specs.declared.items.Row.{Row}
 use Rattle.jc_body.specs.declared.items.LineEntry.{LineEntry}
 use Rattle.jc_body.specs.declared.items.VarEntry.{VarEntry}
@@ -29,7 +29,7 @@ use Rattle.jc_body.specs.Attributes.{AreTables}
 use Rattle.jc_body.specs.declared.coded.Coded.{Coded}
 use Rattle.jc_body.specs.Coded.{IsCoded, HasNoCode}
 use Rattle.jc_body.specs.Faults.{HasSubroutine, faults, faults_of_any_size}
-use Rattle.jc_base.specs.Least.{IsNowhere, IsLeast}
+use Rattle.jc_bytes.specs.Least.{IsNowhere, IsLeast}
 use Rattle.jc_body.specs.First.{Fault, IsFirst, AreNowhere}
 use Rattle.jc_body.specs.StackMap.{HasFrames}
 use Rattle.jc_body.specs.Standing.{what_at}

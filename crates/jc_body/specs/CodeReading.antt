@@ -1,8 +1,8 @@
 -- Reading a Code attribute and the tables in it, item by item.
 use Rattle.std.specs.Prelude.{ℕ, List, take}
-use Rattle.jc_base.specs.Counted.{counted_at}
-use Rattle.jc_base.specs.Decoder.{first, number_at}
-use Rattle.jc_base.specs.Parsing.{Parsed, Good, ◌>>=◌, item}
+use Rattle.jc_bytes.specs.Counted.{counted_at}
+use Rattle.jc_bytes.specs.Decoder.{first, number_at}
+use Rattle.jc_bytes.specs.Parsing.{Parsed, Good, ◌>>=◌, item}
 use Rattle.jc_pool.specs.Pool.{PoolValue}
 use Rattle.jc_class.specs.ClassReading.{attributes_at}
 use Rattle.jc_body.specs.declared.items.CodeItems.{CodeItems}

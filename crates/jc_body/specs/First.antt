@@ -1,6 +1,6 @@
 -- The first of several faults, each with its place.
 use Rattle.std.specs.Prelude.{◌≡◌, ◌⊎◌, ◌<◌, ⊤, ℕ, List, [], ◌∷◌, Option, Some, None, slice_get}
-use Rattle.jc_base.specs.Least.{IsNowhere, IsLeast}
+use Rattle.jc_bytes.specs.Least.{IsNowhere, IsLeast}
 
 -- a fault: at which places it is
 abbrev pub Fault : Type 1

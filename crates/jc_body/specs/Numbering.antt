@@ -1,6 +1,6 @@
 -- The table over the offsets of a method's code.
 use Rattle.std.specs.Prelude.{◌≡◌, ℕ, List, length, slice_index_or}
-use Rattle.jc_base.specs.Starts.{insn_number}
+use Rattle.jc_methods.specs.Starts.{insn_number}
 use Rattle.jc_body.specs.declared.coded.Coded.{Coded}
 use Rattle.jc_body.specs.declared.places.Offsets.{Offsets}
 

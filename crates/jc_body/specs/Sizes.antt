@@ -1,8 +1,8 @@
 -- Sizes of the parts of a body that was read.
 use Rattle.std.specs.Prelude.{⊤, All}
-use Rattle.jc_base.specs.Texts.{IsShortText}
-use Rattle.jc_base.specs.WellMade.{HasSizes, HasShortTexts}
-use Rattle.jc_base.specs.declared.body.Body.{Body}
+use Rattle.jc_bytes.specs.Texts.{IsShortText}
+use Rattle.jc_methods.specs.WellMade.{HasSizes, HasShortTexts}
+use Rattle.jc_methods.specs.declared.body.Body.{Body}
 use Rattle.jc_pool.specs.Lookup as members
 use Rattle.jc_body.specs.Standing.{Found, of_member, of_class, of_constant}
 

@@ -1,9 +1,9 @@
 -- The stack map table of a method: the frames that it stands for, or its fault (JVM Specification 4.7.4).
 use Rattle.std.specs.Prelude.{◌≡◌, ◌⊎◌, ℕ, ◌<◌, List, [], ◌∷◌, length, Some, codes}
-use Rattle.jc_base.specs.declared.kind.State.{State}
-use Rattle.jc_base.specs.Held.{Names, Seen, SeenAt, seen, IsNumberedState}
-use Rattle.jc_base.specs.EntryState.{entry_seen}
-use Rattle.jc_base.specs.WellMade.{IsState}
+use Rattle.jc_methods.specs.declared.kind.State.{State}
+use Rattle.jc_methods.specs.Held.{Names, Seen, SeenAt, seen, IsNumberedState}
+use Rattle.jc_methods.specs.EntryState.{entry_seen}
+use Rattle.jc_methods.specs.WellMade.{IsState}
 use Rattle.jc_pool.specs.Pool.{PoolValue}
 use Rattle.jc_pool.specs.Lookup.{utf8_of}
 use Rattle.jc_class.specs.declared.class_file.Member.{Member}

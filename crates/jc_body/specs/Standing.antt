@@ -1,11 +1,11 @@
 -- What stands at a place in the pool that an instruction or an exception row uses (JVM Specification 4.4, 4.9.1).
 use Rattle.std.specs.Prelude.{◌≡◌, ⊤, ℕ, ◌≤◌, List, Option, Some, None, option_and_then, nat_eq, if◌then◌else◌}
-use Rattle.jc_base.specs.declared.insn.Insn.{Insn}
-use Rattle.jc_base.specs.declared.insn.Insn.TheVariants as insns
-use Rattle.jc_base.specs.declared.body.What.{What}
-use Rattle.jc_base.specs.declared.body.What.TheVariants as whats
-use Rattle.jc_base.specs.declared.opcode.TheConstants.{INVOKESPECIAL}
-use Rattle.jc_base.specs.InsnUse.{pool_place, Suits}
+use Rattle.jc_methods.specs.declared.insn.Insn.{Insn}
+use Rattle.jc_methods.specs.declared.insn.Insn.TheVariants as insns
+use Rattle.jc_methods.specs.declared.body.What.{What}
+use Rattle.jc_methods.specs.declared.body.What.TheVariants as whats
+use Rattle.jc_methods.specs.Opcode.{invokespecial}
+use Rattle.jc_methods.specs.InsnUse.{pool_place, Suits}
 use Rattle.jc_pool.specs.declared.constant.ConstText.{ConstText}
 use Rattle.jc_pool.specs.declared.constant.ConstText.TheVariants as constants
 use Rattle.jc_pool.specs.Lookup.{Member, member_of, class_name_of, const_of}
@@ -67,7 +67,7 @@ what_at pool place = option_and_then what_of (found_at pool place)
 -- of the instructions up to invokestatic, only invokespecial and invokestatic are on the methods of interfaces, and
 -- only from version 52 on
 abbrev pub SuitsInterface : ℕ → ℕ → Member → Type 0
-SuitsInterface major op m = m.tag ≡ 11 → ((52 ≤ major) × (INVOKESPECIAL ≤ op))
+SuitsInterface major op m = m.tag ≡ 11 → ((52 ≤ major) × (invokespecial ≤ op))
 
 abbrev pub TagSuits : ℕ → Insn → Found → Type 0
 TagSuits major (insns.Member op place) (of_member m) = SuitsInterface major op m

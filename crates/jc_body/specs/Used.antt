@@ -1,8 +1,8 @@
 -- What stands at places, one entry for each.
 use Rattle.std.specs.Prelude.{ℕ, List, [], ◌∷◌, Option, Some, None}
 use Rattle.std.specs.List.{flat_map}
-use Rattle.jc_base.specs.declared.body.Use.{Use}
-use Rattle.jc_base.specs.declared.body.What.{What}
+use Rattle.jc_methods.specs.declared.body.Use.{Use}
+use Rattle.jc_methods.specs.declared.body.What.{What}
 use Rattle.jc_pool.specs.Pool.{PoolValue}
 use Rattle.jc_body.specs.Standing.{what_at}
 

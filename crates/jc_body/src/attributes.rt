@@ -2,7 +2,7 @@
 ghost use Rattle.std.specs.Prelude.{◌≡◌, map, IfOk};
 ghost use Rattle.jc_body.specs.Attributes.{has_name, bodies_of};
 
-use jc_base::Memory;
+use jc_bytes::Memory;
 use jc_class::Attribute;
 use jc_pool::Pool;
 use std::alloc::Global;

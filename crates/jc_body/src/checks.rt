@@ -1,12 +1,12 @@
 //! The first instruction with a fault (JVM Specification 4.9.1, 4.9.2).
 ghost use Rattle.std.specs.Prelude.{◌≤◌, length};
-ghost use Rattle.jc_base.specs.InsnUse.{LocalsWithin, LeadsWithin};
+ghost use Rattle.jc_methods.specs.InsnUse.{LocalsWithin, LeadsWithin};
 ghost use Rattle.jc_body.specs.First.{FirstItem};
 ghost use Rattle.jc_body.specs.Standing.{HasRightEntry};
 ghost use Rattle.jc_body.specs.Faults.{IsAstray};
 
 use crate::standing::has_right_entry;
-use jc_base::Insn;
+use jc_methods::Insn;
 use jc_pool::Pool;
 
 /// The number of the first instruction that names a place without an entry of the kind that it needs.

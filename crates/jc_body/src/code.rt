@@ -1,6 +1,6 @@
 //! The code of a method: its one Code attribute, and the instructions in it (JVM Specification 4.7.3).
 ghost use Rattle.std.specs.Prelude.{◌≡◌, ◌≤◌, ℕ, List, Some, None, length, IfOk, IfErr, MatchOption, All};
-ghost use Rattle.jc_base.specs.Outside.{most_read};
+ghost use Rattle.jc_bytes.specs.Reader.{most_read};
 ghost use Rattle.jc_body.specs.Coded.{HasNoCode, HasItems, IsCoded};
 ghost use Rattle.jc_insn.specs.Spells.{Spells, IsRefused};
 ghost use Rattle.jc_body.specs.Answers.{IsPresence, IsRefusal, Said};
@@ -9,7 +9,7 @@ use crate::attributes::bodies_of;
 use crate::coded::Coded;
 use crate::form::read_code;
 use crate::items::CodeItems;
-use jc_base::{Fail, Memory, Refusal, RefusalKind};
+use jc_bytes::{Fail, Memory, Refusal, RefusalKind};
 use jc_class::Member;
 use jc_insn::{Decoded, decode};
 use jc_pool::Pool;

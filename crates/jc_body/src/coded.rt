@@ -2,7 +2,8 @@
 ghost use Rattle.std.specs.Prelude.{◌≡◌};
 
 use crate::items::CodeItems;
-use jc_base::{Insn, List};
+use jc_bytes::List;
+use jc_methods::Insn;
 
 /// What a Code attribute holds, its instructions, and where they begin.
 #[derive(Debug, Drop)]

@@ -1,10 +1,10 @@
 //! The first fault of a method's code (JVM Specification 4.9).
 ghost use Rattle.std.specs.Prelude.{◌↔◌, ◌≤◌, ◌++◌, length, map, IsTrue};
-ghost use Rattle.jc_base.specs.WellMade.{TakeSlots};
-ghost use Rattle.jc_base.specs.Descriptor.{IsMethodDescriptor};
-ghost use Rattle.jc_base.specs.Outside.{most_read};
+ghost use Rattle.jc_methods.specs.WellMade.{TakeSlots};
+ghost use Rattle.jc_bytes.specs.Descriptor.{IsMethodDescriptor};
+ghost use Rattle.jc_bytes.specs.Reader.{most_read};
 ghost use Rattle.jc_class.specs.ClassFormat.{HasMethodDescriptor};
-ghost use Rattle.jc_base.specs.Starts.{AreStarts};
+ghost use Rattle.jc_methods.specs.Starts.{AreStarts};
 ghost use Rattle.jc_body.specs.First.{FirstFault};
 ghost use Rattle.jc_body.specs.Faults.{insn_faults, row_faults, TooWide};
 ghost use Rattle.jc_body.specs.Numbering.{Numbers};
@@ -13,7 +13,7 @@ use crate::checks::{first_astray, first_local_outside, first_wrong_entry};
 use crate::coded::Coded;
 use crate::places::{Offsets, first_bad_row};
 use crate::texts::text_at;
-use jc_base::argument_slots;
+use jc_bytes::argument_slots;
 use jc_class::Member;
 use jc_pool::Pool;
 

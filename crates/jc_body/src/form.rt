@@ -1,14 +1,14 @@
 //! Reading a Code attribute (JVM Specification 4.7.3).
 ghost use Rattle.std.specs.Prelude.{◌≤◌, length, IfOk, MatchOption};
-ghost use Rattle.jc_base.specs.Decoder.{SameEnd};
-ghost use Rattle.jc_base.specs.Parsing.{Parses};
-ghost use Rattle.jc_base.specs.Outside.{most_read};
+ghost use Rattle.jc_bytes.specs.Decoder.{SameEnd};
+ghost use Rattle.jc_bytes.specs.Parsing.{Parses};
+ghost use Rattle.jc_bytes.specs.Reader.{most_read};
 ghost use Rattle.jc_body.specs.CodeReading.{row_at, code_at};
 ghost use Rattle.jc_body.specs.CodeForm.{IsCodeText};
 ghost use Rattle.jc_body.specs.declared.items.CodeItems.{CodeItems as Items};
 
 use crate::items::{CodeItems, Row};
-use jc_base::{
+use jc_bytes::{
     Bytes, Fail, ItemReader, Memory, Reader, Refusal, counted, piece_item, u16_item, u32_item,
 };
 use jc_class::read_attributes;

@@ -1,5 +1,5 @@
 //! What a Code attribute and its tables hold, as it stands in the class file.
-use jc_base::{Bytes, List};
+use jc_bytes::{Bytes, List};
 use jc_class::Attribute;
 
 /// What a Code attribute holds (JVM Specification 4.7.3). Places in the code are offsets.

@@ -2,9 +2,9 @@
 ghost use Rattle.std.specs.Prelude.{◌≡◌, ◌<◌, ◌⊎◌, ℕ, List, length};
 ghost use Rattle.std.specs.List.{IsDistinct};
 ghost use Rattle.std.specs.Str.{bytes_eq};
-ghost use Rattle.jc_base.specs.declared.body.Body.{Body};
-ghost use Rattle.jc_base.specs.declared.refusal.Refusal.{Refusal};
-ghost use Rattle.jc_base.specs.Held.{Names, Seen, SeenAt};
+ghost use Rattle.jc_methods.specs.declared.body.Body.{Body};
+ghost use Rattle.jc_bytes.specs.declared.refusal.Refusal.{Refusal};
+ghost use Rattle.jc_methods.specs.Held.{Names, Seen, SeenAt};
 ghost use Rattle.jc_pool.specs.Pool.{PoolValue};
 ghost use Rattle.jc_class.specs.declared.class_file.ClassFile.{ClassFile};
 ghost use Rattle.jc_class.specs.declared.class_file.Member.{Member};

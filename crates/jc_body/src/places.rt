@@ -2,13 +2,14 @@
 ghost use Rattle.std.specs.Prelude.{◌≡◌, ◌↔◌, ◌<◌, ◌≤◌, ◌+◌, length, map, slice_index_or, IfOk, IsTrue, All};
 ghost use Rattle.jc_body.specs.First.{FirstItem};
 ghost use Rattle.jc_body.specs.Faults.{IsClassOrNone, IsRow};
-ghost use Rattle.jc_base.specs.Starts.{AreStarts};
+ghost use Rattle.jc_methods.specs.Starts.{AreStarts};
 ghost use Rattle.jc_body.specs.Numbering.{numbering, IsTable, Numbers};
 ghost use Rattle.jc_body.specs.BodyOf.{is_start, handler_of, var_of, keeps_var, lines_of, vars_of};
 
 use crate::coded::Coded;
 use crate::items::{LineEntry, Row, VarEntry};
-use jc_base::{Handler, LineAt, List, Memory, VarAt, insn_numbers};
+use jc_bytes::{List, Memory};
+use jc_methods::{Handler, LineAt, VarAt, insn_numbers};
 use jc_pool::Pool;
 use std::alloc::Global;
 

@@ -1,17 +1,17 @@
 //! Reading the body of a method.
 ghost use Rattle.std.specs.Prelude.{◌≡◌, ◌⊎◌, ◌<◌, ◌≤◌, ◌++◌, ℕ, List as Seq, Some, None, length, map};
 ghost use Rattle.std.specs.Prelude.{IfOk, IfErr, IfSome, MatchOption, MatchResult, All, IsTrue};
-ghost use Rattle.jc_base.specs.Held.{Names as AllNames, Grows, seen_at, AreNumberedFrames};
-ghost use Rattle.jc_base.specs.WellMade.{IsCounted, IsWellMade};
-ghost use Rattle.jc_base.specs.Outside.{most_read};
+ghost use Rattle.jc_methods.specs.Held.{Names as AllNames, Grows, seen_at, AreNumberedFrames};
+ghost use Rattle.jc_methods.specs.WellMade.{IsCounted, IsWellMade};
+ghost use Rattle.jc_bytes.specs.Reader.{most_read};
 ghost use Rattle.jc_pool.specs.Lookup.{class_name_of};
 ghost use Rattle.jc_body.specs.StackMap.{HasFrames};
-ghost use Rattle.jc_base.specs.declared.body.Body.{Body as BodyValue};
-ghost use Rattle.jc_base.specs.declared.body.FrameAt.{FrameAt as Frame};
-ghost use Rattle.jc_base.specs.declared.refusal.Refusal.{Refusal as Reason};
+ghost use Rattle.jc_methods.specs.declared.body.Body.{Body as BodyValue};
+ghost use Rattle.jc_methods.specs.declared.body.FrameAt.{FrameAt as Frame};
+ghost use Rattle.jc_bytes.specs.declared.refusal.Refusal.{Refusal as Reason};
 ghost use Rattle.jc_class.specs.ClassFormat.{HasText, HasClass, HasMethodDescriptor};
 ghost use Rattle.jc_class.specs.Writable.{IsClassFile};
-ghost use Rattle.jc_base.specs.Least.{IsNowhere};
+ghost use Rattle.jc_bytes.specs.Least.{IsNowhere};
 ghost use Rattle.jc_body.specs.First.{AreNowhere};
 ghost use Rattle.jc_body.specs.Faults.{ArgumentsOutside, insn_faults, row_faults};
 ghost use Rattle.jc_body.specs.Coded.{HasNoCode, IsCoded};
@@ -29,8 +29,9 @@ use crate::stack_map::frames_of;
 use crate::tables::read_tables;
 use crate::texts::{class_name_at, text_at};
 use crate::uses::read_uses;
-use jc_base::{Body, Bytes, Fail, List, Memory, Names, Refusal};
+use jc_bytes::{Bytes, Fail, List, Memory, Names, Refusal};
 use jc_class::{ClassFile, Member};
+use jc_methods::Body;
 use std::alloc::Global;
 
 /// The body that is made of what was read of a method, in which no fault was found, without its frames.

@@ -1,8 +1,8 @@
 //! The stack map table of a method (JVM Specification 4.7.4).
 ghost use Rattle.std.specs.Prelude.{◌≡◌, ◌≤◌, ◌∷◌, [], length, IfOk, IfErr, All};
-ghost use Rattle.jc_base.specs.Held.{Grows};
-ghost use Rattle.jc_base.specs.Least.{IsNowhere};
-ghost use Rattle.jc_base.specs.Outside.{most_read};
+ghost use Rattle.jc_methods.specs.Held.{Grows};
+ghost use Rattle.jc_bytes.specs.Least.{IsNowhere};
+ghost use Rattle.jc_bytes.specs.Reader.{most_read};
 ghost use Rattle.jc_class.specs.ClassFormat.{HasText, HasMethodDescriptor};
 ghost use Rattle.jc_body.specs.Coded.{IsCoded};
 ghost use Rattle.jc_body.specs.Faults.{ArgumentsOutside};
@@ -14,9 +14,10 @@ use crate::code::bad_code;
 use crate::coded::Coded;
 use crate::faults::is_too_wide;
 use crate::texts::text_at;
-use jc_base::{Fail, FrameAt, List, Memory, Names, Refusal, State, entry_state};
+use jc_bytes::{Fail, List, Memory, Names, Refusal};
 use jc_class::Member;
 use jc_frames::{frame_fault, read_frames};
+use jc_methods::{FrameAt, State, entry_state};
 use jc_pool::Pool;
 use std::alloc::Global;
 

@@ -1,8 +1,8 @@
 //! What stands at the places in the pool that a body uses (JVM Specification 4.4, 4.9.1).
 ghost use Rattle.std.specs.Prelude.{◌≡◌, ◌↔◌, IfOk, IfSome, IsTrue, Some, option_map};
-ghost use Rattle.jc_base.specs.Descriptor.{IsFieldDescriptor, IsMethodDescriptor};
-ghost use Rattle.jc_base.specs.WellMade.{HasShortTexts};
-ghost use Rattle.jc_base.specs.InsnUse.{IsOfTwoSlots, IsOneSlotConstant, IsTwoSlotConstant, IsMemberFor};
+ghost use Rattle.jc_bytes.specs.Descriptor.{IsFieldDescriptor, IsMethodDescriptor};
+ghost use Rattle.jc_methods.specs.WellMade.{HasShortTexts};
+ghost use Rattle.jc_methods.specs.InsnUse.{IsOfTwoSlots, IsOneSlotConstant, IsTwoSlotConstant, IsMemberFor};
 ghost use Rattle.jc_pool.specs.Lookup.{member};
 ghost use Rattle.jc_body.specs.Standing.{of_member, found_at, what_of_member, what_of_constant, what_of};
 ghost use Rattle.jc_body.specs.Standing.{what_at, StandsAt, SuitsInterface, Meets, FoundSuits, HasRightEntry};
@@ -10,7 +10,8 @@ ghost use Rattle.jc_body.specs.FoundView.{found};
 ghost use Rattle.jc_body.specs.Sizes.{IsOfShortTexts};
 ghost use Rattle.jc_pool.specs.Lookup as MemberTexts;
 
-use jc_base::{Bytes, Insn, Memory, What, opcode};
+use jc_bytes::{Bytes, Memory};
+use jc_methods::{Insn, What, opcode};
 use jc_pool::{ConstText, MemberText, Pool};
 use std::alloc::Global;
 

@@ -1,11 +1,11 @@
 //! Tables of counted items in a Code attribute (JVM Specification 4.7.12 to 4.7.14).
 ghost use Rattle.std.specs.Prelude.{◌≤◌, List as Seq, length, map, IfOk, MatchOption, All};
-ghost use Rattle.jc_base.specs.Counted.{counted as counted_form};
-ghost use Rattle.jc_base.specs.Grammar.{Grammar, Agrees};
-ghost use Rattle.jc_base.specs.Outside.{most_read};
+ghost use Rattle.jc_bytes.specs.Counted.{counted as counted_form};
+ghost use Rattle.jc_bytes.specs.Grammar.{Grammar, Agrees};
+ghost use Rattle.jc_bytes.specs.Reader.{most_read};
 ghost use Rattle.jc_body.specs.Attributes.{AreEntries};
 
-use jc_base::{Fail, ItemReader, List, Memory, Reader, counted};
+use jc_bytes::{Fail, ItemReader, List, Memory, Reader, counted};
 use std::alloc::Global;
 
 /// An item of a table.

@@ -1,6 +1,6 @@
 //! Reading the line and variable tables of a Code attribute (JVM Specification 4.7.12 to 4.7.14).
 ghost use Rattle.std.specs.Prelude.{◌≤◌, length, IfOk, MatchOption, All};
-ghost use Rattle.jc_base.specs.Outside.{most_read};
+ghost use Rattle.jc_bytes.specs.Reader.{most_read};
 ghost use Rattle.jc_body.specs.CodeReading.{line_at, var_at};
 ghost use Rattle.jc_body.specs.CodeForm.{line_entry, var_entry};
 ghost use Rattle.jc_body.specs.Attributes.{AreTables};
@@ -9,7 +9,7 @@ ghost use Rattle.jc_body.specs.declared.items.Tables.{Tables as AllTables};
 use crate::attributes::bodies_of;
 use crate::items::{LineEntry, Tables, VarEntry};
 use crate::table_item::{TableItem, joined_tables};
-use jc_base::{Fail, ItemReader, Memory, Reader, Refusal, u16_item};
+use jc_bytes::{Fail, ItemReader, Memory, Reader, Refusal, u16_item};
 use jc_class::Attribute;
 use jc_pool::Pool;
 use std::alloc::Global;

@@ -1,12 +1,13 @@
 //! What stands at the places in the pool that a body uses.
 ghost use Rattle.std.specs.Prelude.{◌≡◌, ◌++◌, IfOk, OnOk, All};
-ghost use Rattle.jc_base.specs.WellMade.{HasShortTexts};
+ghost use Rattle.jc_methods.specs.WellMade.{HasShortTexts};
 ghost use Rattle.jc_body.specs.BodyOf.{insn_places, row_places, places_used, AreUsesOf};
 ghost use Rattle.jc_body.specs.Used.{uses_of};
 
 use crate::items::Row;
 use crate::standing::what_at;
-use jc_base::{Insn, List, Memory, Use};
+use jc_bytes::{List, Memory};
+use jc_methods::{Insn, Use};
 use jc_pool::Pool;
 use std::alloc::Global;
 

@@ -2,16 +2,16 @@
 use Rattle.std.proofs.Common.{◌≡◌, inl, inr, ℕ, cond, nat_eq, List, [], ◌++◌, length, Some, None, Result, Ok, Err, IfOk, IfErr, MatchResult, refl, sym, ◌∙◌, ap, subst, arith}
 use Rattle.std.proofs.lemmas.Bool.{eqb-true}
 use Rattle.std.proofs.lemmas.List.{append-nil}
-use Rattle.jc_base.specs.Decoder.{IsBig, number_at}
-use Rattle.jc_base.specs.Grammar.{WholeFails, Agrees}
-use Rattle.jc_base.specs.Parsing.{Parsed, Good, item}
-use Rattle.jc_base.proofs.CountedLaws.{agrees_number, agrees_counted}
-use Rattle.jc_base.proofs.DecoderLaws.{bind_some, guard_some, some_is, number_takes, number_again}
-use Rattle.jc_base.proofs.GrammarLaws.{agrees_nothing, agrees_item, agrees_followed, good_is, good_bad, never_both, one_failure}
-use Rattle.jc_base.specs.declared.fail.Fail.{Fail}
-use Rattle.jc_base.specs.declared.fail.Fail.TheVariants as fails
-use Rattle.jc_base.specs.declared.refusal.Refusal.{Refusal}
-use Rattle.jc_base.specs.declared.refusal.RefusalKind.TheVariants as kinds
+use Rattle.jc_bytes.specs.Decoder.{IsBig, number_at}
+use Rattle.jc_bytes.specs.Grammar.{WholeFails, Agrees}
+use Rattle.jc_bytes.specs.Parsing.{Parsed, Good, item}
+use Rattle.jc_bytes.proofs.CountedLaws.{agrees_number, agrees_counted}
+use Rattle.jc_bytes.proofs.DecoderLaws.{bind_some, guard_some, some_is, number_takes, number_again}
+use Rattle.jc_bytes.proofs.GrammarLaws.{agrees_nothing, agrees_item, agrees_followed, good_is, good_bad, never_both, one_failure}
+use Rattle.jc_bytes.specs.declared.fail.Fail.{Fail}
+use Rattle.jc_bytes.specs.declared.fail.Fail.TheVariants as fails
+use Rattle.jc_bytes.specs.declared.refusal.Refusal.{Refusal}
+use Rattle.jc_bytes.specs.declared.refusal.RefusalKind.TheVariants as kinds
 use Rattle.jc_pool.proofs.PoolLaws.{pool_agrees}
 use Rattle.jc_class.specs.declared.class_file.ClassFile.{ClassFile}
 use Rattle.jc_class.specs.declared.item.Named.TheVariants as named

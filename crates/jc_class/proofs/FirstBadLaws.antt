@@ -1,9 +1,9 @@
 -- What is left at a failing item is no longer than all the bytes.
 use Rattle.std.proofs.Common.{◌≡◌, ◌⊎◌, inl, inr, ℕ, zero, suc, ◌-◌, ◌≤◌, Bool, true, false, List, [], ◌∷◌, ◌++◌, length, Option, Some, None, ap, arith, length-append}
-use Rattle.jc_base.specs.Counted.{counted}
-use Rattle.jc_base.specs.ItemForms.{number}
-use Rattle.jc_base.specs.Grammar.{Grammar, nothing, one, followed_by, times, WholeFails}
-use Rattle.jc_base.proofs.GrammarLaws.{whole_or_fails, never_both, one_value, one_failure}
+use Rattle.jc_bytes.specs.Counted.{counted}
+use Rattle.jc_bytes.specs.ItemForms.{number}
+use Rattle.jc_bytes.specs.Grammar.{Grammar, nothing, one, followed_by, times, WholeFails}
+use Rattle.jc_bytes.proofs.GrammarLaws.{whole_or_fails, never_both, one_value, one_failure}
 use Rattle.jc_pool.specs.declared.entry.Entry.{Entry}
 use Rattle.jc_pool.specs.Pool.{is_wide}
 use Rattle.jc_pool.specs.EntryFormat.{IsEntry}

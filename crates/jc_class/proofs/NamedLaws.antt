@@ -2,16 +2,16 @@
 use Rattle.std.proofs.Common.{ℕ, zero, suc, List, [], ◌++◌, refl, sym, ◌∙◌, ap, subst}
 use Rattle.std.proofs.lemmas.List.{append-nil}
 use Rattle.std.proofs.lemmas.List.Elements.{All-from_recursion, recursion_from_All, All-weaker}
-use Rattle.jc_base.specs.Counted.{counted}
-use Rattle.jc_base.specs.Decoder.{IsBig}
-use Rattle.jc_base.specs.ItemForms.{number_where}
+use Rattle.jc_bytes.specs.Counted.{counted}
+use Rattle.jc_bytes.specs.Decoder.{IsBig}
+use Rattle.jc_bytes.specs.ItemForms.{number_where}
 use Rattle.jc_pool.specs.PoolGrammar as pools
 use Rattle.jc_class.specs.declared.class_file.ClassFile.{ClassFile}
 use Rattle.jc_class.specs.ClassText.{ClassText}
 use Rattle.std.specs.List.{AllByRecursion}
-use Rattle.jc_base.specs.Appending.{Appends, Appended}
-use Rattle.jc_base.specs.Grammar.{Grammar, times}
-use Rattle.jc_base.proofs.AppendingLaws.{joined}
+use Rattle.jc_bytes.specs.Appending.{Appends, Appended}
+use Rattle.jc_bytes.specs.Grammar.{Grammar, times}
+use Rattle.jc_bytes.proofs.AppendingLaws.{joined}
 use Rattle.jc_class.specs.declared.class_file.Attribute.{Attribute}
 use Rattle.jc_class.specs.declared.class_file.Member.{Member}
 use Rattle.jc_class.specs.ClassFormat.{attribute, member, class_file, HasText, HasClass, HasFieldDescriptor, HasMethodDescriptor}

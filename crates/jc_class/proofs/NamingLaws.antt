@@ -1,9 +1,9 @@
 -- What a place names, by the answers of the pool and by the form of a class file.
 use Rattle.std.proofs.Common.{◌≡◌, Bool, true, false, List, ℕ, Option, None, Some, IsSomeAnd, IsTrue, ◌↔◌, refl}
-use Rattle.jc_base.specs.Modified.{IsModified}
-use Rattle.jc_base.specs.Descriptor.{IsFieldDescriptor, IsMethodDescriptor}
-use Rattle.jc_base.specs.Deciding.{is_modified_text, is_field_text, is_method_text}
-use Rattle.jc_base.proofs.DecidingLaws.{Decides, one_test, modified_decided, field_text_decided, method_text_decided}
+use Rattle.jc_bytes.specs.Modified.{IsModified}
+use Rattle.jc_bytes.specs.Descriptor.{IsFieldDescriptor, IsMethodDescriptor}
+use Rattle.jc_bytes.specs.Deciding.{is_modified_text, is_field_text, is_method_text}
+use Rattle.jc_bytes.proofs.DecidingLaws.{Decides, one_test, modified_decided, field_text_decided, method_text_decided}
 use Rattle.jc_class.specs.ItemReading.{passes}
 
 -- the pool answered whether the fact holds of the text that stands there

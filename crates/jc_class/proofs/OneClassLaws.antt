@@ -1,8 +1,8 @@
 -- A class file has one text in bytes.
 use Rattle.std.proofs.Common.{◌≡◌, ℕ, List, length, refl, sym, ◌∙◌, ap}
-use Rattle.jc_base.specs.Grammar.{nothing, followed_by}
-use Rattle.jc_base.specs.ItemForms.{number_where, piece}
-use Rattle.jc_base.proofs.OneTextLaws.{OneText, one_big, one_nothing, one_followed, one_number, one_number_where, one_piece, one_counted}
+use Rattle.jc_bytes.specs.Grammar.{nothing, followed_by}
+use Rattle.jc_bytes.specs.ItemForms.{number_where, piece}
+use Rattle.jc_bytes.proofs.OneTextLaws.{OneText, one_big, one_nothing, one_followed, one_number, one_number_where, one_piece, one_counted}
 use Rattle.jc_pool.proofs.OneTextLaws as pool_laws
 use Rattle.jc_class.specs.declared.class_file.Attribute.{Attribute}
 use Rattle.jc_class.specs.declared.class_file.Member.{Member}

@@ -2,16 +2,16 @@
 use Rattle.std.proofs.Common.{◌≡◌, ◌⊎◌, inl, inr, ⊎_elim, ℕ, Bool, true, false, cond, ◌||◌, nat_eq, List, ◌++◌}
 use Rattle.std.proofs.Common.{Option, Some, None, is_some, refl, sym, ◌∙◌, ap, subst}
 use Rattle.std.proofs.lemmas.Bool.{eqb-true, eqb-false}
-use Rattle.jc_base.specs.Counted.{counted}
-use Rattle.jc_base.specs.Decoder.{IsBig, number_at}
-use Rattle.jc_base.specs.Deciding.{is_modified_text, is_field_text, is_method_text}
-use Rattle.jc_base.specs.Grammar.{Agrees}
-use Rattle.jc_base.specs.ItemForms.{number_where}
-use Rattle.jc_base.specs.Parsing.{item}
-use Rattle.jc_base.proofs.CountedLaws.{agrees_number, agrees_piece, agrees_counted}
-use Rattle.jc_base.proofs.DecoderLaws.{bind_some, guard_some, some_is, number_takes, number_again}
-use Rattle.jc_base.proofs.DecidingLaws.{Decides, modified_decided, field_text_decided, method_text_decided}
-use Rattle.jc_base.proofs.GrammarLaws.{agrees_nothing, agrees_item, agrees_followed}
+use Rattle.jc_bytes.specs.Counted.{counted}
+use Rattle.jc_bytes.specs.Decoder.{IsBig, number_at}
+use Rattle.jc_bytes.specs.Deciding.{is_modified_text, is_field_text, is_method_text}
+use Rattle.jc_bytes.specs.Grammar.{Agrees}
+use Rattle.jc_bytes.specs.ItemForms.{number_where}
+use Rattle.jc_bytes.specs.Parsing.{item}
+use Rattle.jc_bytes.proofs.CountedLaws.{agrees_number, agrees_piece, agrees_counted}
+use Rattle.jc_bytes.proofs.DecoderLaws.{bind_some, guard_some, some_is, number_takes, number_again}
+use Rattle.jc_bytes.proofs.DecidingLaws.{Decides, modified_decided, field_text_decided, method_text_decided}
+use Rattle.jc_bytes.proofs.GrammarLaws.{agrees_nothing, agrees_item, agrees_followed}
 use Rattle.jc_pool.specs.Lookup.{utf8_of, class_name_of}
 use Rattle.jc_pool.specs.Pool.{PoolValue}
 use Rattle.jc_class.specs.declared.item.Named.{Named}

@@ -1,15 +1,15 @@
 -- What was read can be written.
 use Rattle.std.proofs.Common.{◌≡◌, ℕ, zero, suc, ◌<◌, ◌^◌, List, [], ◌++◌, length, Result, Ok, Err, IfOk, sym, ◌∙◌, ap, subst, arith}
 use Rattle.std.specs.List.{AllByRecursion}
-use Rattle.jc_base.specs.Appending.{Appends}
-use Rattle.jc_base.specs.ByteLists.{AreBytes}
-use Rattle.jc_base.specs.Counted.{counted}
-use Rattle.jc_base.specs.Grammar.{Grammar, times}
-use Rattle.jc_base.specs.ItemForms.{number_where}
-use Rattle.jc_base.proofs.CountedLaws.{times_length}
-use Rattle.jc_base.proofs.OneTextLaws.{both_bytes, big_below}
-use Rattle.jc_base.specs.declared.fail.Fail.{Fail}
-use Rattle.jc_base.specs.declared.refusal.Refusal.{Refusal}
+use Rattle.jc_bytes.specs.Appending.{Appends}
+use Rattle.jc_bytes.specs.ByteLists.{AreBytes}
+use Rattle.jc_bytes.specs.Counted.{counted}
+use Rattle.jc_bytes.specs.Grammar.{Grammar, times}
+use Rattle.jc_bytes.specs.ItemForms.{number_where}
+use Rattle.jc_bytes.proofs.CountedLaws.{times_length}
+use Rattle.jc_bytes.proofs.OneTextLaws.{both_bytes, big_below}
+use Rattle.jc_bytes.specs.declared.fail.Fail.{Fail}
+use Rattle.jc_bytes.specs.declared.refusal.Refusal.{Refusal}
 use Rattle.jc_class.specs.declared.class_file.Attribute.{Attribute}
 use Rattle.jc_class.specs.declared.class_file.Member.{Member}
 use Rattle.jc_class.specs.declared.class_file.ClassFile.{ClassFile}

@@ -1,12 +1,12 @@
 -- What the writing of a class file appends.
 use Rattle.std.proofs.Common.{◌≡◌, ℕ, ◌+◌, ◌<◌, List, [], ◌++◌, length, drop, get_or, refl, subst}
 use Rattle.std.specs.List.{AllByRecursion}
-use Rattle.jc_base.specs.Appending.{Appends, Appended}
-use Rattle.jc_base.specs.Counted.{counted}
-use Rattle.jc_base.specs.Decoder.{IsBig}
-use Rattle.jc_base.specs.ItemForms.{number_where}
-use Rattle.jc_base.specs.Grammar.{Grammar, times}
-use Rattle.jc_base.proofs.AppendingLaws.{joined, ended, Writing, drop_is, writing_begun, writes_next}
+use Rattle.jc_bytes.specs.Appending.{Appends, Appended}
+use Rattle.jc_bytes.specs.Counted.{counted}
+use Rattle.jc_bytes.specs.Decoder.{IsBig}
+use Rattle.jc_bytes.specs.ItemForms.{number_where}
+use Rattle.jc_bytes.specs.Grammar.{Grammar, times}
+use Rattle.jc_bytes.proofs.AppendingLaws.{joined, ended, Writing, drop_is, writing_begun, writes_next}
 use Rattle.jc_class.specs.declared.class_file.Attribute.{Attribute}
 use Rattle.jc_class.specs.declared.class_file.Member.{Member}
 use Rattle.jc_class.specs.ClassFormat.{attribute, member}

@@ -1,11 +1,11 @@
 -- The form of a class file, item by item (JVM Specification 4.1, 4.5 to 4.7).
 use Rattle.std.specs.Prelude.{◌≡◌, ◌⊎◌, ℕ, Some, List}
-use Rattle.jc_base.specs.Counted.{counted}
-use Rattle.jc_base.specs.Decoder.{IsBig}
-use Rattle.jc_base.specs.Descriptor.{IsFieldDescriptor, IsMethodDescriptor}
-use Rattle.jc_base.specs.Grammar.{Grammar, nothing, one}
-use Rattle.jc_base.specs.ItemForms.{◌>>=◌, number, number_where, piece}
-use Rattle.jc_base.specs.Modified.{IsModified}
+use Rattle.jc_bytes.specs.Counted.{counted}
+use Rattle.jc_bytes.specs.Decoder.{IsBig}
+use Rattle.jc_bytes.specs.Descriptor.{IsFieldDescriptor, IsMethodDescriptor}
+use Rattle.jc_bytes.specs.Grammar.{Grammar, nothing, one}
+use Rattle.jc_bytes.specs.ItemForms.{◌>>=◌, number, number_where, piece}
+use Rattle.jc_bytes.specs.Modified.{IsModified}
 use Rattle.jc_pool.specs.Lookup.{utf8_of, class_name_of}
 use Rattle.jc_pool.specs.Pool.{PoolValue}
 use Rattle.jc_pool.specs.PoolGrammar as pools

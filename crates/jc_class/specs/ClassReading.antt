@@ -1,11 +1,11 @@
 -- Reading a class file, item by item.
 use Rattle.std.specs.Prelude.{◌≡◌, ◌≢◌, ◌⊎◌, ℕ, List, [], take, Result, Ok, Err}
-use Rattle.jc_base.specs.Counted.{counted_at}
-use Rattle.jc_base.specs.Decoder.{first, number_at}
-use Rattle.jc_base.specs.Parsing.{Parsed, Good, Bad, ◌>>=◌, item, RefusedAt}
-use Rattle.jc_base.specs.declared.fail.Fail.{Fail}
-use Rattle.jc_base.specs.declared.fail.Fail.TheVariants as fails
-use Rattle.jc_base.specs.declared.refusal.Refusal.{Refusal}
+use Rattle.jc_bytes.specs.Counted.{counted_at}
+use Rattle.jc_bytes.specs.Decoder.{first, number_at}
+use Rattle.jc_bytes.specs.Parsing.{Parsed, Good, Bad, ◌>>=◌, item, RefusedAt}
+use Rattle.jc_bytes.specs.declared.fail.Fail.{Fail}
+use Rattle.jc_bytes.specs.declared.fail.Fail.TheVariants as fails
+use Rattle.jc_bytes.specs.declared.refusal.Refusal.{Refusal}
 use Rattle.jc_pool.specs.Pool.{PoolValue}
 use Rattle.jc_pool.specs.PoolReading.{pool_at}
 use Rattle.jc_class.specs.declared.item.Named.{Named}

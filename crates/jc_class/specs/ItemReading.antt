@@ -1,7 +1,7 @@
 -- Reading one item of a class file from the front of the bytes that are left.
 use Rattle.std.specs.Prelude.{ℕ, ◌==◌, Bool, false, ◌||◌, List, Option, Some, None, is_some, if◌then◌else◌}
-use Rattle.jc_base.specs.Decoder.{◌>>=◌, number_at}
-use Rattle.jc_base.specs.Deciding.{is_modified_text, is_field_text, is_method_text}
+use Rattle.jc_bytes.specs.Decoder.{◌>>=◌, number_at}
+use Rattle.jc_bytes.specs.Deciding.{is_modified_text, is_field_text, is_method_text}
 use Rattle.jc_pool.specs.Lookup.{utf8_of, class_name_of}
 use Rattle.jc_pool.specs.Pool.{PoolValue}
 use Rattle.jc_class.specs.declared.item.Named.{Named}

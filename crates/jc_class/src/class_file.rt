@@ -1,5 +1,5 @@
 //! A class file as its items (JVM Specification 4.1, 4.5 to 4.7).
-use jc_base::{Bytes, List};
+use jc_bytes::{Bytes, List};
 use jc_pool::Pool;
 
 /// A class file (JVM Specification 4.1). Numbers that name something are places in the pool.

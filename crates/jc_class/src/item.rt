@@ -1,10 +1,10 @@
 //! Reading single items of a class file.
 ghost use Rattle.std.specs.Prelude.{◌≡◌, ◌≤◌};
-ghost use Rattle.jc_base.specs.Decoder.{SameEnd};
-ghost use Rattle.jc_base.specs.Parsing.{Parses, item};
+ghost use Rattle.jc_bytes.specs.Decoder.{SameEnd};
+ghost use Rattle.jc_bytes.specs.Parsing.{Parses, item};
 ghost use Rattle.jc_class.specs.ItemReading.{has_class, names, number_if, magic_at};
 
-use jc_base::{Fail, Reader, Refusal, not_a_class, u16_item, u32_item};
+use jc_bytes::{Fail, Reader, Refusal, not_a_class, u16_item, u32_item};
 use jc_pool::Pool;
 
 /// What stands in front of every class file.

@@ -1,6 +1,6 @@
 //! Laws of the text of class files.
 ghost use Rattle.std.specs.Prelude.{◌≡◌, ◌⊎◌, ℕ, List};
-ghost use Rattle.jc_base.specs.ByteLists.{AreBytes};
+ghost use Rattle.jc_bytes.specs.ByteLists.{AreBytes};
 ghost use Rattle.jc_class.specs.ClassText.{ClassText, FirstBad};
 ghost use Rattle.jc_class.specs.declared.class_file.ClassFile.{ClassFile};
 

@@ -1,14 +1,14 @@
 //! Reading the interfaces, the members and the attributes of a class file.
 ghost use Rattle.std.specs.Prelude.{◌≤◌};
-ghost use Rattle.jc_base.specs.Counted.{counted_at};
-ghost use Rattle.jc_base.specs.Decoder.{SameEnd};
-ghost use Rattle.jc_base.specs.Parsing.{Parses};
+ghost use Rattle.jc_bytes.specs.Counted.{counted_at};
+ghost use Rattle.jc_bytes.specs.Decoder.{SameEnd};
+ghost use Rattle.jc_bytes.specs.Parsing.{Parses};
 ghost use Rattle.jc_class.specs.ClassReading.{named_at, attribute_at, attributes_at, member_at};
 ghost use Rattle.jc_class.specs.declared.item.Named.TheVariants as kinds;
 
 use crate::item::{Named, place_item};
 use crate::{Attribute, Member};
-use jc_base::{
+use jc_bytes::{
     Bytes, Fail, ItemReader, List, Reader, Refusal, counted, piece_item, u16_item, u32_item,
 };
 use jc_pool::Pool;

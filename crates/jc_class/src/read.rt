@@ -1,8 +1,8 @@
 //! Reading a class file.
 ghost use Rattle.std.specs.Prelude.{◌≡◌, ◌≤◌, ℕ, length, IfOk, IfErr, MatchResult};
-ghost use Rattle.jc_base.specs.Outside.{most_read};
-ghost use Rattle.jc_base.specs.Decoder.{SameEnd};
-ghost use Rattle.jc_base.specs.Parsing.{Parses};
+ghost use Rattle.jc_bytes.specs.Reader.{most_read};
+ghost use Rattle.jc_bytes.specs.Decoder.{SameEnd};
+ghost use Rattle.jc_bytes.specs.Parsing.{Parses};
 ghost use Rattle.jc_class.specs.ClassReading.{class_at, GivesWhole};
 ghost use Rattle.jc_class.specs.ClassText.{ClassText, FirstBad, RefusedAs};
 ghost use Rattle.jc_class.specs.Writable.{IsClassFile};
@@ -12,7 +12,7 @@ ghost use Rattle.jc_class.specs.declared.class_file.ClassFile.{ClassFile};
 use crate::ClassFile;
 use crate::item::{Named, magic_item, place_item};
 use crate::parts::{read_attributes, read_interfaces, read_members};
-use jc_base::{Fail, Reader, Refusal, not_a_class, u16_item};
+use jc_bytes::{Fail, Reader, Refusal, not_a_class, u16_item};
 use jc_pool::Pool;
 use std::alloc::Global;
 

@@ -1,10 +1,10 @@
 //! Writing a class file.
 ghost use Rattle.std.specs.Prelude.{◌≡◌, ◌≤◌, ℕ, List, length, OnOk, IfOk};
-ghost use Rattle.jc_base.specs.Appending.{Appends, Appended};
-ghost use Rattle.jc_base.specs.ByteLists.{AreBytes};
-ghost use Rattle.jc_base.specs.Counted.{counted};
-ghost use Rattle.jc_base.specs.Grammar.{times};
-ghost use Rattle.jc_base.specs.ItemForms.{number_where};
+ghost use Rattle.jc_bytes.specs.Appending.{Appends, Appended};
+ghost use Rattle.jc_bytes.specs.ByteLists.{AreBytes};
+ghost use Rattle.jc_bytes.specs.Counted.{counted};
+ghost use Rattle.jc_bytes.specs.Grammar.{times};
+ghost use Rattle.jc_bytes.specs.ItemForms.{number_where};
 ghost use Rattle.jc_class.specs.ClassFormat.{attribute as attribute_form, member as member_form};
 ghost use Rattle.jc_class.specs.Writable.{Anything, AreCounted, IsAttribute, IsMember, IsClassFile};
 ghost use Rattle.jc_class.specs.ClassText.{ClassText};
@@ -12,7 +12,7 @@ ghost use Rattle.std.specs.List.{AllByRecursion};
 
 use crate::item::MAGIC;
 use crate::{Attribute, ClassFile, Member};
-use jc_base::{Memory, put_bytes, put_u16, put_u32};
+use jc_bytes::{Memory, put_bytes, put_u16, put_u32};
 use std::alloc::Global;
 
 /// Puts an attribute at the end (JVM Specification 4.7).

@@ -2,7 +2,7 @@
 use Rattle.std.proofs.Common.{◌≡◌, ℕ, List, [], ◌∷◌, ◌++◌, length, sym, ◌∙◌, ap, append_assoc}
 use Rattle.std.specs.List.{flat_map}
 use Rattle.std.proofs.lemmas.List.{append-nil}
-use Rattle.jc_base.proofs.AppendingLaws.{joined}
+use Rattle.jc_bytes.proofs.AppendingLaws.{joined}
 use Rattle.jc_class.specs.declared.class_file.Attribute.{Attribute}
 use Rattle.jc_insn.specs.Writing.{short, word}
 use Rattle.jc_code.specs.CodeText.{attribute_text, code_text, counted_text}

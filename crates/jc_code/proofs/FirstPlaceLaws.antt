@@ -5,7 +5,7 @@ use Rattle.std.proofs.lemmas.List.{get_or_past}
 use Rattle.std.proofs.lemmas.Option.{none-some}
 use Rattle.std.proofs.lemmas.Slice.Eq.{bytes_eq-Decides}
 use Rattle.std.specs.Str.{bytes_eq}
-use Rattle.jc_base.specs.Decoder.{◌>>=◌}
+use Rattle.jc_bytes.specs.Decoder.{◌>>=◌}
 use Rattle.jc_body.specs.Attributes.{is_text}
 use Rattle.jc_pool.specs.declared.entry.Entry.{Entry}
 use Rattle.jc_pool.specs.Adding.{IsFirst}

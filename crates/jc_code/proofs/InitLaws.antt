@@ -4,12 +4,11 @@ use Rattle.std.proofs.lemmas.Bool.{cases_lt, le-leb}
 use Rattle.std.proofs.lemmas.Bool.Decides.{nat_tests}
 use Rattle.std.proofs.lemmas.List.{append-nil}
 use Rattle.std.proofs.Math.Nat.{sub-zero}
-use Rattle.jc_base.proofs.AppendingLaws.{joined}
-use Rattle.jc_base.specs.Opcode as opcode
-use Rattle.jc_base.specs.InsnForm.{form_of}
-use Rattle.jc_base.specs.declared.opcode.TheConstants as ops
-use Rattle.jc_base.specs.declared.insn.Insn.{Insn}
-use Rattle.jc_base.specs.declared.insn.Insn.TheVariants as insns
+use Rattle.jc_bytes.proofs.AppendingLaws.{joined}
+use Rattle.jc_methods.specs.Opcode as opcode
+use Rattle.jc_methods.specs.InsnForm.{form_of}
+use Rattle.jc_methods.specs.declared.insn.Insn.{Insn}
+use Rattle.jc_methods.specs.declared.insn.Insn.TheVariants as insns
 use Rattle.jc_frames.specs.FullFrames as frames
 use Rattle.jc_insn.specs.Writing.{short, word, insn_text}
 use Rattle.jc_insn.proofs.ReadBackLaws.{short_size}
@@ -25,23 +24,23 @@ not_most : (a b : ℕ) → a < b → nat_le b a ≡ false
 not_most a b less = grind (arith, nat_tests)
 
 abbrev longer : ℕ → Bool → Insn
-longer n t = if t then insns.Push ops.BIPUSH (pos n) else insns.Push ops.SIPUSH (pos n)
+longer n t = if t then insns.Push opcode.bipush (pos n) else insns.Push opcode.sipush (pos n)
 
 abbrev pushes : ℕ → Bool → Bool → Insn
-pushes n s t = if s then insns.Simple (ops.ICONST_0 + n) else longer n t
+pushes n s t = if s then insns.Simple (opcode.iconst_0 + n) else longer n t
 
-pub push_small : (n : ℕ) → n ≤ 5 → push_count n ≡ (ops.ICONST_0 + n) ∷ []
+pub push_small : (n : ℕ) → n ≤ 5 → push_count n ≡ (opcode.iconst_0 + n) ∷ []
 unfolding insn_text
 push_small n le = ap (λ (s : Bool). insn_text 0 false (pushes n s (nat_le n 127))) (le-leb n 5 le)
 
-pub push_byte : (n : ℕ) → 5 < n → n ≤ 127 → push_count n ≡ ops.BIPUSH ∷ n ∷ []
+pub push_byte : (n : ℕ) → 5 < n → n ≤ 127 → push_count n ≡ opcode.bipush ∷ n ∷ []
 unfolding insn_text form_of
 push_byte n more le =
     let same : n % 256 ≡ n = omega (arith, le) in
     ap₂ (λ (s t : Bool). insn_text 0 false (pushes n s t)) (not_most 5 n more) (le-leb n 127 le)
-    ∙ ap (λ (k : ℕ). ops.BIPUSH ∷ k ∷ []) same
+    ∙ ap (λ (k : ℕ). opcode.bipush ∷ k ∷ []) same
 
-pub push_short : (n : ℕ) → 127 < n → push_count n ≡ ops.SIPUSH ∷ short n
+pub push_short : (n : ℕ) → 127 < n → push_count n ≡ opcode.sipush ∷ short n
 unfolding insn_text form_of
 push_short n more = ap₂ (λ (s t : Bool). insn_text 0 false (pushes n s t)) (not_most 5 n (omega (arith, more))) (not_most 127 n more)
 
@@ -62,36 +61,36 @@ eight : (a b c d e f g h i x₁ x₂ x₃ x₄ x₅ x₆ x₇ x₈ : List ℕ) �
 eight a b c d e f g h i x₁ x₂ x₃ x₄ x₅ x₆ x₇ x₈ p₁ p₂ p₃ p₄ p₅ p₆ p₇ p₈ =
     joined a b i x₁ _ p₁ (joined b c i x₂ _ p₂ (joined c d i x₃ _ p₃ (joined d e i x₄ _ p₄ (joined e f i x₅ _ p₅ (joined f g i x₆ _ p₆ (joined g h i x₇ x₈ p₇ p₈))))))
 
-pub init_parts : (p : InitPlaces) (pushed a b b' c c' d e f g g' h i : List ℕ) → b ≡ a ++ ops.GETSTATIC ∷ short p.field → b' ≡ b ++ ops.DUP ∷ []
-    → c ≡ b' ++ ops.IFNONNULL ∷ short (17 + length pushed) → c' ≡ c ++ ops.POP ∷ [] → d ≡ c' ++ opcode.ldc2_w ∷ short p.id
-    → e ≡ d ++ opcode.ldc_w ∷ short p.name → f ≡ e ++ pushed → g ≡ f ++ ops.INVOKESTATIC ∷ short p.fetch → g' ≡ g ++ ops.DUP ∷ []
-    → h ≡ g' ++ ops.PUTSTATIC ∷ short p.field → i ≡ h ++ ops.ARETURN ∷ [] → i ≡ a ++ init_bytes p pushed
+pub init_parts : (p : InitPlaces) (pushed a b b' c c' d e f g g' h i : List ℕ) → b ≡ a ++ opcode.getstatic ∷ short p.field → b' ≡ b ++ opcode.dup ∷ []
+    → c ≡ b' ++ opcode.ifnonnull ∷ short (17 + length pushed) → c' ≡ c ++ opcode.pop ∷ [] → d ≡ c' ++ opcode.ldc2_w ∷ short p.id
+    → e ≡ d ++ opcode.ldc_w ∷ short p.name → f ≡ e ++ pushed → g ≡ f ++ opcode.invokestatic ∷ short p.fetch → g' ≡ g ++ opcode.dup ∷ []
+    → h ≡ g' ++ opcode.putstatic ∷ short p.field → i ≡ h ++ opcode.areturn ∷ [] → i ≡ a ++ init_bytes p pushed
 unfolding init_bytes
 init_parts p pushed a b b' c c' d e f g g' h i p₁ q₂ p₂ q₃ p₃ p₄ p₅ p₆ q₇ p₇ p₈ =
-    eight a b c d e f g h i (ops.GETSTATIC ∷ short p.field) (ops.DUP ∷ ops.IFNONNULL ∷ short (17 + length pushed))
-    (ops.POP ∷ opcode.ldc2_w ∷ short p.id) (opcode.ldc_w ∷ short p.name) pushed (ops.INVOKESTATIC ∷ short p.fetch)
-    (ops.DUP ∷ ops.PUTSTATIC ∷ short p.field) (ops.ARETURN ∷ []) p₁
-    (joined b b' c (ops.DUP ∷ []) (ops.IFNONNULL ∷ short (17 + length pushed)) q₂ p₂)
-    (joined c c' d (ops.POP ∷ []) (opcode.ldc2_w ∷ short p.id) q₃ p₃) p₄ p₅ p₆
-    (joined g g' h (ops.DUP ∷ []) (ops.PUTSTATIC ∷ short p.field) q₇ p₇) p₈
+    eight a b c d e f g h i (opcode.getstatic ∷ short p.field) (opcode.dup ∷ opcode.ifnonnull ∷ short (17 + length pushed))
+    (opcode.pop ∷ opcode.ldc2_w ∷ short p.id) (opcode.ldc_w ∷ short p.name) pushed (opcode.invokestatic ∷ short p.fetch)
+    (opcode.dup ∷ opcode.putstatic ∷ short p.field) (opcode.areturn ∷ []) p₁
+    (joined b b' c (opcode.dup ∷ []) (opcode.ifnonnull ∷ short (17 + length pushed)) q₂ p₂)
+    (joined c c' d (opcode.pop ∷ []) (opcode.ldc2_w ∷ short p.id) q₃ p₃) p₄ p₅ p₆
+    (joined g g' h (opcode.dup ∷ []) (opcode.putstatic ∷ short p.field) q₇ p₇) p₈
 
 pub init_size : (p : InitPlaces) (pushed : List ℕ) → length (init_bytes p pushed) ≡ 22 + length pushed
 unfolding init_bytes
 init_size p pushed =
-    let x₇ = ops.DUP ∷ ops.PUTSTATIC ∷ short p.field in
-    let rest₇ = x₇ ++ (ops.ARETURN ∷ []) in
-    let rest₆ = (ops.INVOKESTATIC ∷ short p.fetch) ++ rest₇ in
+    let x₇ = opcode.dup ∷ opcode.putstatic ∷ short p.field in
+    let rest₇ = x₇ ++ (opcode.areturn ∷ []) in
+    let rest₆ = (opcode.invokestatic ∷ short p.fetch) ++ rest₇ in
     let rest₅ = pushed ++ rest₆ in
     let rest₄ = (opcode.ldc_w ∷ short p.name) ++ rest₅ in
-    let rest₃ = (ops.POP ∷ opcode.ldc2_w ∷ short p.id) ++ rest₄ in
-    let rest₂ = (ops.DUP ∷ ops.IFNONNULL ∷ short (17 + length pushed)) ++ rest₃ in
-    let l₁ = length-append (ops.GETSTATIC ∷ short p.field) rest₂ in
-    let l₂ = length-append (ops.DUP ∷ ops.IFNONNULL ∷ short (17 + length pushed)) rest₃ in
-    let l₃ = length-append (ops.POP ∷ opcode.ldc2_w ∷ short p.id) rest₄ in
+    let rest₃ = (opcode.pop ∷ opcode.ldc2_w ∷ short p.id) ++ rest₄ in
+    let rest₂ = (opcode.dup ∷ opcode.ifnonnull ∷ short (17 + length pushed)) ++ rest₃ in
+    let l₁ = length-append (opcode.getstatic ∷ short p.field) rest₂ in
+    let l₂ = length-append (opcode.dup ∷ opcode.ifnonnull ∷ short (17 + length pushed)) rest₃ in
+    let l₃ = length-append (opcode.pop ∷ opcode.ldc2_w ∷ short p.id) rest₄ in
     let l₄ = length-append (opcode.ldc_w ∷ short p.name) rest₅ in
     let l₅ = length-append pushed rest₆ in
-    let l₆ = length-append (ops.INVOKESTATIC ∷ short p.fetch) rest₇ in
-    let l₇ = length-append x₇ (ops.ARETURN ∷ []) in
+    let l₆ = length-append (opcode.invokestatic ∷ short p.fetch) rest₇ in
+    let l₇ = length-append x₇ (opcode.areturn ∷ []) in
     let a = short_size p.field in
     let b = short_size (17 + length pushed) in
     let c = short_size p.id in

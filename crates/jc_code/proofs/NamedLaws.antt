@@ -1,7 +1,7 @@
 -- Attributes whose names stand at their first places.
 use Rattle.std.proofs.Common.{◌≡◌, ℕ, List, [], ◌∷◌, ◌++◌, refl, sym, ◌∙◌, ap}
-use Rattle.jc_base.specs.Held.{SeenAt}
-use Rattle.jc_base.specs.declared.emitted.Emitted.{Emitted}
+use Rattle.jc_methods.specs.Held.{SeenAt}
+use Rattle.jc_methods.specs.declared.emitted.Emitted.{Emitted}
 use Rattle.jc_class.specs.declared.class_file.Attribute.{Attribute}
 use Rattle.jc_pool.specs.Pool.{PoolValue}
 use Rattle.jc_pool.specs.Adding.{IsFirst}

@@ -1,10 +1,10 @@
 -- The text of an instrumented method's Code attribute, from its parts.
 use Rattle.std.proofs.Common.{◌≡◌, ℕ, List, [], ◌∷◌, ◌++◌, length, map, refl, sym, ◌∙◌, ap, arith, length-append}
 use Rattle.std.specs.Prelude.{slice_index}
-use Rattle.jc_base.specs.Held.{Names, seen_at}
-use Rattle.jc_base.specs.declared.body.FrameAt.{FrameAt}
-use Rattle.jc_base.specs.declared.body.Handler.{Handler}
-use Rattle.jc_base.specs.declared.emitted.Emitted.{Emitted}
+use Rattle.jc_methods.specs.Held.{Names, seen_at}
+use Rattle.jc_methods.specs.declared.body.FrameAt.{FrameAt}
+use Rattle.jc_methods.specs.declared.body.Handler.{Handler}
+use Rattle.jc_methods.specs.declared.emitted.Emitted.{Emitted}
 use Rattle.jc_class.specs.declared.class_file.Attribute.{Attribute}
 use Rattle.jc_insn.specs.Writing.{short, word}
 use Rattle.jc_insn.proofs.ReadBackLaws.{short_size}

@@ -1,10 +1,10 @@
 -- The text of a Code attribute (JVM Specification 4.7.3, 4.7.4, 4.7.12 to 4.7.14).
 use Rattle.std.specs.Prelude.{ℕ, zero, suc, ◌-◌, List, [], ◌∷◌, ◌++◌, length, map, take, drop}
 use Rattle.std.specs.List.{flat_map}
-use Rattle.jc_base.specs.Held.{SeenAt}
-use Rattle.jc_base.specs.declared.body.Handler.{Handler}
-use Rattle.jc_base.specs.declared.body.LineAt.{LineAt}
-use Rattle.jc_base.specs.declared.body.VarAt.{VarAt}
+use Rattle.jc_methods.specs.Held.{SeenAt}
+use Rattle.jc_methods.specs.declared.body.Handler.{Handler}
+use Rattle.jc_methods.specs.declared.body.LineAt.{LineAt}
+use Rattle.jc_methods.specs.declared.body.VarAt.{VarAt}
 use Rattle.jc_class.specs.declared.class_file.Attribute.{Attribute}
 use Rattle.jc_frames.specs.FullFrames.{Places, table_text}
 use Rattle.jc_insn.specs.Writing.{short, word}

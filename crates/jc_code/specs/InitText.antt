@@ -1,7 +1,6 @@
 -- The text of the method that gives the probe array of a class.
 use Rattle.std.specs.Prelude.{ℕ, ◌+◌, false, List, [], ◌∷◌, ◌++◌, length}
-use Rattle.jc_base.specs.Opcode as opcode
-use Rattle.jc_base.specs.declared.opcode.TheConstants as ops
+use Rattle.jc_methods.specs.Opcode as opcode
 use Rattle.jc_class.specs.declared.class_file.Attribute.{Attribute}
 use Rattle.jc_frames.specs.FullFrames.{Places, table_text}
 use Rattle.jc_insn.specs.Writing.{short, insn_text}
@@ -22,14 +21,14 @@ end_offset pushed = 21 + length pushed
 -- place of the constant is (JVM Specification 6.5).
 unfoldable pub init_bytes : InitPlaces → (pushed : List ℕ) → List ℕ
 init_bytes p pushed =
-    ops.GETSTATIC ∷ short p.field
-    ++ (ops.DUP ∷ ops.IFNONNULL ∷ short (17 + length pushed)
-    ++ (ops.POP ∷ opcode.ldc2_w ∷ short p.id
+    opcode.getstatic ∷ short p.field
+    ++ (opcode.dup ∷ opcode.ifnonnull ∷ short (17 + length pushed)
+    ++ (opcode.pop ∷ opcode.ldc2_w ∷ short p.id
     ++ (opcode.ldc_w ∷ short p.name
     ++ (pushed
-    ++ (ops.INVOKESTATIC ∷ short p.fetch
-    ++ (ops.DUP ∷ ops.PUTSTATIC ∷ short p.field
-    ++ (ops.ARETURN ∷ [])))))))
+    ++ (opcode.invokestatic ∷ short p.fetch
+    ++ (opcode.dup ∷ opcode.putstatic ∷ short p.field
+    ++ (opcode.areturn ∷ [])))))))
 
 -- the places of what the frame names
 abbrev pub init_frame_places : (array offset : ℕ) → Places

@@ -1,7 +1,7 @@
 //! The attributes of a Code attribute.
 ghost use Rattle.std.specs.Prelude.{◌≡◌, ◌++◌, ℕ, OnOk, length, map, slice_index};
 ghost use Rattle.std.specs.List.{AllByRecursion, flat_map};
-ghost use Rattle.jc_base.specs.Held.{Names as ClassNames, seen_at};
+ghost use Rattle.jc_methods.specs.Held.{Names as ClassNames, seen_at};
 ghost use Rattle.jc_pool.specs.Adding.{Extends};
 ghost use Rattle.jc_frames.specs.FullFrames.{Places};
 ghost use Rattle.jc_frames.specs.FullTable.{CanBeWritten, HasPlace, named_by_all};
@@ -11,8 +11,9 @@ ghost use Rattle.jc_code.specs.TwinCode.{attributes_by, places_by};
 use crate::code::CodePlaces;
 use crate::numbers::{put_header, put_short};
 use crate::parts::{part_count, put_line_tables, put_var_tables};
-use jc_base::{Emitted, FrameAt, Memory, Names, put_bytes};
+use jc_bytes::{Memory, Names, put_bytes};
 use jc_frames::write_full;
+use jc_methods::{Emitted, FrameAt};
 use jc_pool::Pool;
 use std::alloc::Global;
 

@@ -8,8 +8,9 @@ ghost use Rattle.jc_code.specs.TwinCode.{twin_code};
 use crate::attributes::put_attributes;
 use crate::numbers::{put_short, put_sizes};
 use crate::tables::put_rows;
-use jc_base::{Bytes, Emitted, FrameAt, List, Memory, Names, put_bytes, put_u8};
+use jc_bytes::{Bytes, List, Memory, Names, put_bytes, put_u8};
 use jc_layout::Laid;
+use jc_methods::{Emitted, FrameAt};
 use jc_pool::Pool;
 use std::alloc::Global;
 

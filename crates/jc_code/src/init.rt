@@ -5,7 +5,8 @@ ghost use Rattle.jc_code.specs.CodeText.{attribute_text};
 ghost use Rattle.jc_code.specs.InitText.{init_bytes, init_frames, init_text, named_places, push_count};
 
 use crate::numbers::{put_header, put_short, put_sizes};
-use jc_base::{Bytes, List, Memory, opcode, put_bytes, put_u8};
+use jc_bytes::{Bytes, List, Memory, put_bytes, put_u8};
+use jc_methods::opcode;
 use std::alloc::Global;
 
 /// How many slots the operand stack has.

@@ -1,6 +1,6 @@
 //! Laws of Code attributes.
 ghost use Rattle.std.specs.Prelude.{◌≡◌, ◌≤◌, ℕ, List, length};
-ghost use Rattle.jc_base.specs.declared.emitted.Emitted.{Emitted as Emission};
+ghost use Rattle.jc_methods.specs.declared.emitted.Emitted.{Emitted as Emission};
 ghost use Rattle.jc_pool.specs.Adding.{IsFirst};
 ghost use Rattle.jc_pool.specs.Lookup.{class_name_of, utf8_of};
 ghost use Rattle.jc_pool.specs.Pool.{PoolValue};

@@ -1,12 +1,13 @@
 //! The frames of the wide layout.
 ghost use Rattle.std.specs.Prelude.{◌≡◌, IfOk, IsTrue};
-ghost use Rattle.jc_base.specs.FrameOrder.{RiseFrom};
+ghost use Rattle.jc_methods.specs.FrameOrder.{RiseFrom};
 ghost use Rattle.jc_layout.specs.Layout.{is_wide};
 ghost use Rattle.jc_layout.specs.Merged.{merged as merged_list};
 ghost use Rattle.jc_code.specs.Merging.{other_first};
 ghost use Rattle.jc_code.specs.TwinCode.{chosen_frames};
 
-use jc_base::{Emitted, FrameAt, List, Memory, TryClone};
+use jc_bytes::{List, Memory};
+use jc_methods::{Emitted, FrameAt, TryClone};
 use std::alloc::Global;
 
 /// Whether the first of the other frames comes next.

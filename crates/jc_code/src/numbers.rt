@@ -2,7 +2,7 @@
 ghost use Rattle.std.specs.Prelude.{◌≡◌, ◌++◌, OnOk};
 ghost use Rattle.jc_insn.specs.Writing.{short, word};
 
-use jc_base::{Memory, put_bytes};
+use jc_bytes::{Memory, put_bytes};
 
 /// Puts a number of two bytes at the end.
 #[tactic(auto, unfolding(jc_insn::specs::Writing::short))]

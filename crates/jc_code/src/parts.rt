@@ -6,7 +6,8 @@ ghost use Rattle.jc_code.specs.CodeText.{attribute, attribute_text, counted_text
 
 use crate::numbers::put_header;
 use crate::tables::{put_lines, put_vars};
-use jc_base::{LineAt, Memory, VarAt};
+use jc_bytes::Memory;
+use jc_methods::{LineAt, VarAt};
 
 /// The most entries that a table has.
 const MOST_ENTRIES: usize = 65_535;

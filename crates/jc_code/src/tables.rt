@@ -4,7 +4,8 @@ ghost use Rattle.jc_frames.specs.FullTable.{AreShort};
 ghost use Rattle.jc_code.specs.CodeText.{counted_text, line_text, row_text, var_text};
 
 use crate::numbers::put_short;
-use jc_base::{Handler, LineAt, Memory, VarAt};
+use jc_bytes::Memory;
+use jc_methods::{Handler, LineAt, VarAt};
 
 /// The offset of an instruction, or of the end of the code; 0 where there is none.
 fn offset_of(starts: &[u32], place: u32) -> u16

@@ -1,10 +1,10 @@
 -- The bodies and plans of an analysed class.
 use Rattle.std.proofs.Common.{◌≡◌, ℕ, ◌+◌, ◌-◌, ◌<◌, length, get_or, refl, sym, ap, ◌∙◌, subst, arith}
 use Rattle.std.proofs.lemmas.Option.{same_Some, slice_get_read}
-use Rattle.jc_base.specs.WellMade.{IsCode, IsWellMade}
-use Rattle.jc_base.specs.declared.analysed.Analysed.{Analysed}
-use Rattle.jc_base.specs.declared.body.Body.{Body}
-use Rattle.jc_base.specs.declared.plan.Plan.{Plan}
+use Rattle.jc_methods.specs.WellMade.{IsCode, IsWellMade}
+use Rattle.jc_methods.specs.declared.analysed.Analysed.{Analysed}
+use Rattle.jc_methods.specs.declared.body.Body.{Body}
+use Rattle.jc_methods.specs.declared.plan.Plan.{Plan}
 use Rattle.jc_plan.specs.Analysed.{IsAnalysed, class_plan}
 use Rattle.jc_plan.specs.Plan.{plan_of}
 use Rattle.jc_plan.specs.Probed.{probe_count, first_id}

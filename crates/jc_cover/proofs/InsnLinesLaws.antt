@@ -3,9 +3,9 @@ use Rattle.std.proofs.Common.{◌≡◌, ℕ, ◌+◌, ◌<◌, ◌≤◌, Bool,
 use Rattle.std.specs.Prelude.{option_map, option_to_list}
 use Rattle.std.specs.List.{flat_map}
 use Rattle.std.proofs.lemmas.List.{take_all, append-nil}
-use Rattle.jc_base.specs.PlainLists.{join_from}
-use Rattle.jc_base.specs.declared.body.Body.{Body}
-use Rattle.jc_base.specs.declared.body.LineAt.{LineAt}
+use Rattle.jc_bytes.specs.PlainLists.{join_from}
+use Rattle.jc_methods.specs.declared.body.Body.{Body}
+use Rattle.jc_methods.specs.declared.body.LineAt.{LineAt}
 use Rattle.jc_plan.proofs.PlacesLaws.{join_from_more}
 use Rattle.jc_cover.specs.Counters.{Method, is_covered, line_of, Lined, lined, lined_insns}
 use Rattle.jc_cover.specs.Lines.{insn_line, covered_insn_line, insn_lines, covered_insn_lines, numbers, covered_numbers, methods_lines, covered_methods_lines}

@@ -5,13 +5,13 @@ use Rattle.std.specs.List.{count_by, list_any}
 use Rattle.std.proofs.lemmas.Bool.{both_ways, cases_order, and_parts, and_from}
 use Rattle.std.proofs.lemmas.Option.{same_Some, none-some, slice_get_within}
 use Rattle.std.proofs.lemmas.List.{get_or-set_same, get_or-set_other, get_or_default, get_or_past, length-set, length-replicate, get_or-replicate}
-use Rattle.jc_base.specs.declared.insn.Insn.{Insn}
-use Rattle.jc_base.specs.declared.body.Body.{Body}
+use Rattle.jc_methods.specs.declared.insn.Insn.{Insn}
+use Rattle.jc_methods.specs.declared.body.Body.{Body}
 use Rattle.jc_plan.specs.declared.branch.Branch.{Branch}
 use Rattle.jc_plan.specs.Edges.{place_of, branches_of, branches}
 use Rattle.jc_plan.specs.Probed.{is_probed, id_of}
-use Rattle.jc_base.proofs.DecidingLaws.{Decides}
-use Rattle.jc_base.proofs.TestLaws.{any_decided}
+use Rattle.jc_bytes.proofs.DecidingLaws.{Decides}
+use Rattle.jc_bytes.proofs.TestLaws.{any_decided}
 use Rattle.jc_plan.proofs.ListedLaws.{lists_from}
 use Rattle.jc_plan.specs.Entries.{one_if}
 use Rattle.jc_plan.proofs.CountLaws.{count_cons}

@@ -4,14 +4,14 @@ use Rattle.std.specs.Prelude.{All, nat_le, option_map, option_to_list}
 use Rattle.std.specs.List.{sum_by, flat_map, AllByRecursion}
 use Rattle.std.proofs.lemmas.List.{length-append, length-map}
 use Rattle.std.proofs.lemmas.List.Sums.{sum_by-cons}
-use Rattle.jc_base.specs.PlainLists.{map_from, join_from}
-use Rattle.jc_base.specs.FirstSeen.{first_seen}
-use Rattle.jc_base.specs.Insn.{arm_count}
-use Rattle.jc_base.specs.WellMade.{IsWellMade, insns_and_arms}
-use Rattle.jc_base.specs.declared.insn.Insn.{Insn}
-use Rattle.jc_base.specs.declared.body.Body.{Body}
-use Rattle.jc_base.specs.declared.body.LineAt.{LineAt}
-use Rattle.jc_base.proofs.PlacedInsnLaws.{few_insns}
+use Rattle.jc_bytes.specs.PlainLists.{map_from, join_from}
+use Rattle.jc_bytes.specs.FirstSeen.{first_seen}
+use Rattle.jc_methods.specs.Insn.{arm_count}
+use Rattle.jc_methods.specs.WellMade.{IsWellMade, insns_and_arms}
+use Rattle.jc_methods.specs.declared.insn.Insn.{Insn}
+use Rattle.jc_methods.specs.declared.body.Body.{Body}
+use Rattle.jc_methods.specs.declared.body.LineAt.{LineAt}
+use Rattle.jc_methods.proofs.PlacedInsnLaws.{few_insns}
 use Rattle.jc_plan.proofs.FlowLaws.{few_of, length_seen}
 use Rattle.jc_cover.specs.Covered.{branch_count, body_shape, HasShape}
 use Rattle.jc_cover.specs.declared.coverage.Coverage.{Coverage}

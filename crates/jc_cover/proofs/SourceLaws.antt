@@ -4,12 +4,12 @@ use Rattle.std.specs.Prelude.{Contains, slice_set}
 use Rattle.std.proofs.lemmas.Bool.{both_ways, cases_order}
 use Rattle.std.proofs.lemmas.Option.{same_Some, none-some, slice_get_within}
 use Rattle.std.proofs.lemmas.List.{get_or-set_same, get_or-set_other, length-set, length-replicate, get_or-replicate}
-use Rattle.jc_base.specs.declared.body.Body.{Body}
+use Rattle.jc_methods.specs.declared.body.Body.{Body}
 use Rattle.jc_plan.specs.declared.branch.Branch.{Branch}
 use Rattle.jc_plan.specs.Edges.{place_of, branches}
 use Rattle.jc_plan.specs.Leading.{LeadsTo}
 use Rattle.jc_plan.specs.Probed.{is_probed}
-use Rattle.jc_base.proofs.TestLaws.{none_in, which_in, first_in, later_in}
+use Rattle.jc_bytes.proofs.TestLaws.{none_in, which_in, first_in, later_in}
 use Rattle.jc_plan.proofs.OneWayLaws.{standing, one_way}
 use Rattle.jc_cover.specs.Marking.{with_edge, with_edges, sources}
 

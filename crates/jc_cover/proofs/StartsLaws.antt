@@ -4,8 +4,8 @@ use Rattle.std.specs.Prelude.{slice_get, option_to_list}
 use Rattle.std.proofs.lemmas.Bool.{cases_order}
 use Rattle.std.proofs.lemmas.Option.{same_Some, none-some}
 use Rattle.std.proofs.lemmas.List.{get_or-set_same, get_or-set_other, get_or_default, length-set, length-replicate, get_or-replicate, append-nil}
-use Rattle.jc_base.specs.PlainLists.{join_from}
-use Rattle.jc_base.specs.declared.body.LineAt.{LineAt}
+use Rattle.jc_bytes.specs.PlainLists.{join_from}
+use Rattle.jc_methods.specs.declared.body.LineAt.{LineAt}
 use Rattle.jc_cover.specs.Counters.{is_covered, line_of, IsLineOf}
 use Rattle.jc_cover.specs.Lines.{with_lines, first_of, insn_line, covered_insn_line}
 use Rattle.jc_cover.proofs.LineLaws.{line_found, one_line}

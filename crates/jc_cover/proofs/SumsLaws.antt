@@ -5,7 +5,7 @@ use Rattle.std.specs.List.{count_by, sum_by, flat_map, list_any}
 use Rattle.std.proofs.lemmas.Bool.{false_from_ne_true, leb-true, le-leb, lt-ltb}
 use Rattle.std.proofs.lemmas.List.{drop_all}
 use Rattle.std.proofs.lemmas.List.Sums.{sum_by-cons, get_or-le-sum_by}
-use Rattle.jc_base.proofs.AppendingLaws.{drop_is}
+use Rattle.jc_bytes.proofs.AppendingLaws.{drop_is}
 use Rattle.jc_plan.specs.Entries.{one_if}
 use Rattle.jc_plan.proofs.CountLaws.{count_cons, count_join}
 use Rattle.jc_cover.specs.declared.coverage.Count.{Count}

@@ -2,7 +2,7 @@
 use Rattle.std.proofs.Common.{◌≡◌, ℕ, zero, suc, ◌+◌, ◌<◌, Bool, true, false, List, [], ◌∷◌, length, get_or, set, drop, Option, Some, None, refl, sym, ap, ◌∙◌}
 use Rattle.std.specs.List.{list_any}
 use Rattle.std.proofs.lemmas.List.{length-set}
-use Rattle.jc_base.proofs.AppendingLaws.{drop_is}
+use Rattle.jc_bytes.proofs.AppendingLaws.{drop_is}
 use Rattle.jc_cover.specs.Marking.{with_source, unless_marked, at_source, mark_back, mark_if}
 use Rattle.jc_cover.specs.Planned.{free_place, with_branches, with_insns, is_hit_branch, mark_insns}
 use Rattle.jc_cover.specs.declared.planned.PlannedBranch.{PlannedBranch}

@@ -3,10 +3,10 @@ use Rattle.std.specs.Prelude.{◌≡◌, ◌⊎◌, ℕ, ◌+◌, ◌-◌, ◌<�
 use Rattle.std.specs.Prelude.{Option, Some, None, option_map, option_to_list, nat_eq, nat_le, bit_and, codes, slice_get}
 use Rattle.std.specs.Prelude.{if◌then◌else◌}
 use Rattle.std.specs.List.{count_by, sum_by, flat_map, list_any, starts_with}
-use Rattle.jc_base.specs.PlainLists.{join_from}
-use Rattle.jc_base.specs.FirstSeen.{first_seen}
-use Rattle.jc_base.specs.declared.body.Body.{Body}
-use Rattle.jc_base.specs.declared.body.LineAt.{LineAt}
+use Rattle.jc_bytes.specs.PlainLists.{join_from}
+use Rattle.jc_bytes.specs.FirstSeen.{first_seen}
+use Rattle.jc_methods.specs.declared.body.Body.{Body}
+use Rattle.jc_methods.specs.declared.body.LineAt.{LineAt}
 use Rattle.jc_cover.specs.declared.coverage.Coverage.{Coverage}
 use Rattle.jc_cover.specs.declared.coverage.Count.{Count}
 use Rattle.jc_cover.specs.declared.coverage.Counters.{Counters}

@@ -1,9 +1,9 @@
 -- Which edges of a body are covered by hits of probes (JaCoCo's documentation on control flow).
 use Rattle.std.specs.Prelude.{◌≡◌, ℕ, ◌↔◌, Bool, false, List, [], ◌∷◌, map, Option, Some, None, IsTrue, slice_get}
 use Rattle.std.specs.Prelude.{slice_index_or, option_and_then, length, Contains}
-use Rattle.jc_base.specs.PlainLists.{map_from}
-use Rattle.jc_base.specs.declared.insn.Insn.{Insn}
-use Rattle.jc_base.specs.declared.body.Body.{Body}
+use Rattle.jc_bytes.specs.PlainLists.{map_from}
+use Rattle.jc_methods.specs.declared.insn.Insn.{Insn}
+use Rattle.jc_methods.specs.declared.body.Body.{Body}
 use Rattle.jc_plan.specs.declared.branch.Branch.{Branch}
 use Rattle.jc_plan.specs.Edges.{branches_of, branches}
 use Rattle.jc_plan.specs.Leading.{LeadsTo}

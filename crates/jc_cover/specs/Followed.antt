@@ -1,7 +1,7 @@
 -- What covered edges say of edges that were taken, whoever took them: one walk, a run, or many of them.
 use Rattle.std.specs.Prelude.{◌≡◌, ℕ, ◌<◌, false, Contains}
-use Rattle.jc_base.specs.declared.body.Body.{Body}
-use Rattle.jc_base.specs.declared.body.Handler.{Handler}
+use Rattle.jc_methods.specs.declared.body.Body.{Body}
+use Rattle.jc_methods.specs.declared.body.Handler.{Handler}
 use Rattle.jc_plan.specs.declared.branch.Branch.{Branch}
 use Rattle.jc_plan.specs.Edges.{branches}
 use Rattle.jc_plan.specs.Leading.{LeadsTo}

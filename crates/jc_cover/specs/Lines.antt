@@ -1,9 +1,9 @@
 -- The lines of instructions, one by one.
 use Rattle.std.specs.Prelude.{ℕ, ◌-◌, Bool, length, List, [], ◌∷◌, map, filter, Option, Some, None, option_to_list, slice_set, if◌then◌else◌}
 use Rattle.std.specs.List.{flat_map}
-use Rattle.jc_base.specs.PlainLists.{join_from}
-use Rattle.jc_base.specs.FirstSeen.{first_seen}
-use Rattle.jc_base.specs.declared.body.LineAt.{LineAt}
+use Rattle.jc_bytes.specs.PlainLists.{join_from}
+use Rattle.jc_bytes.specs.FirstSeen.{first_seen}
+use Rattle.jc_methods.specs.declared.body.LineAt.{LineAt}
 use Rattle.jc_cover.specs.declared.coverage.Count.{Count}
 use Rattle.jc_cover.specs.Counters.{Method, is_covered, line_of, Lined, lined_insns}
 

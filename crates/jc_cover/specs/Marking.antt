@@ -3,9 +3,9 @@
 use Rattle.std.specs.Prelude.{ℕ, zero, suc, ◌+◌, Bool, true, false, ◌&&◌, List, [], ◌∷◌, map, replicate, length, Option}
 use Rattle.std.specs.Prelude.{Some, None, slice_index_or, slice_set}
 use Rattle.std.specs.List.{list_any}
-use Rattle.jc_base.specs.PlainLists.{map_from}
-use Rattle.jc_base.specs.declared.insn.Insn.{Insn}
-use Rattle.jc_base.specs.declared.body.Body.{Body}
+use Rattle.jc_bytes.specs.PlainLists.{map_from}
+use Rattle.jc_methods.specs.declared.insn.Insn.{Insn}
+use Rattle.jc_methods.specs.declared.body.Body.{Body}
 use Rattle.jc_plan.specs.declared.branch.Branch.{Branch}
 use Rattle.jc_plan.specs.Edges.{place_of, branches_of, branches}
 use Rattle.jc_plan.specs.Probed.{is_probed, id_of, first_id}

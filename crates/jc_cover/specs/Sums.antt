@@ -1,7 +1,7 @@
 -- Counters put together from instructions and methods.
 use Rattle.std.specs.Prelude.{ℕ, ◌+◌, ◌-◌, ◌<◌, Bool, not, List, [], ◌∷◌, length, filter, nat_le, if◌then◌else◌}
 use Rattle.std.specs.List.{list_any, sum_by}
-use Rattle.jc_base.specs.declared.body.Body.{Body}
+use Rattle.jc_methods.specs.declared.body.Body.{Body}
 use Rattle.jc_plan.specs.Entries.{one_if}
 use Rattle.jc_cover.specs.declared.coverage.Count.{Count}
 use Rattle.jc_cover.specs.declared.sums.Sums.{Sums}

@@ -1,6 +1,6 @@
 //! The counters of a class.
 ghost use Rattle.std.specs.Prelude.{◌≡◌, ◌++◌, ◌<◌, ◌^◌, All, length, IfOk, OnOk};
-ghost use Rattle.jc_base.specs.WellMade.{IsLine};
+ghost use Rattle.jc_methods.specs.WellMade.{IsLine};
 ghost use Rattle.jc_plan.specs.Analysed.{IsAnalysed};
 ghost use Rattle.jc_cover.specs.Covered.{HasShape};
 ghost use Rattle.jc_cover.specs.Counters.{is_counted, counters_of};
@@ -10,7 +10,8 @@ ghost use Rattle.jc_cover.specs.Sums.{plus, AreSmall, methods_sums, one_counted,
 use crate::coverage::{Counters, Coverage};
 use crate::lines::{Lines, line_count, put_lines};
 use crate::sums::{Sums, method_sums, no_sums, plus};
-use jc_base::{Analysed, Body, List, Memory};
+use jc_bytes::{List, Memory};
+use jc_methods::{Analysed, Body};
 use std::alloc::Global;
 
 /// The flag of what no source file has (JVM Specification 4.6, ACC_SYNTHETIC).

@@ -1,6 +1,6 @@
 //! Which edges of a class are covered.
 ghost use Rattle.std.specs.Prelude.{◌≡◌, ℕ, map, length, option_map, IfSome, IfOk};
-ghost use Rattle.jc_base.specs.WellMade.{IsCode};
+ghost use Rattle.jc_methods.specs.WellMade.{IsCode};
 ghost use Rattle.jc_plan.specs.Analysed.{IsAnalysed};
 ghost use Rattle.jc_plan.specs.Plan.{plan_of};
 ghost use Rattle.jc_cover.specs.Covered.{hits_or_none, TellsCovered};
@@ -10,7 +10,8 @@ ghost use Rattle.jc_cover.specs.Planned.{told};
 use crate::coverage::Coverage;
 use crate::marking::{is_hit, marks, sources};
 use crate::planned::{PlannedBranch, body_branches};
-use jc_base::{Analysed, Body, List, Memory, Plan};
+use jc_bytes::{List, Memory};
+use jc_methods::{Analysed, Body, Plan};
 use std::alloc::Global;
 
 /// Whether the instruction at a place is marked.

@@ -2,11 +2,11 @@
 ghost use Rattle.std.specs.Prelude.{◌≡◌, ◌↔◌, ℕ, All, ◌+◌, ◌-◌, ◌*◌, ◌≤◌, ◌<◌, Bool, false, map, List, Option, Some, IsTrue};
 ghost use Rattle.std.specs.Prelude.{slice_get, Contains, length, slice_index_or};
 ghost use Rattle.std.specs.List.{sum_by, flat_map};
-ghost use Rattle.jc_base.specs.WellMade.{IsWellMade, insns_and_arms};
-ghost use Rattle.jc_base.specs.FirstSeen.{first_seen};
-ghost use Rattle.jc_base.specs.declared.insn.Insn.{Insn};
-ghost use Rattle.jc_base.specs.declared.body.Body.{Body};
-ghost use Rattle.jc_base.specs.declared.body.LineAt.{LineAt};
+ghost use Rattle.jc_methods.specs.WellMade.{IsWellMade, insns_and_arms};
+ghost use Rattle.jc_bytes.specs.FirstSeen.{first_seen};
+ghost use Rattle.jc_methods.specs.declared.insn.Insn.{Insn};
+ghost use Rattle.jc_methods.specs.declared.body.Body.{Body};
+ghost use Rattle.jc_methods.specs.declared.body.LineAt.{LineAt};
 ghost use Rattle.jc_plan.specs.declared.branch.Branch.{Branch};
 ghost use Rattle.jc_plan.specs.Edges.{branches};
 ghost use Rattle.jc_plan.specs.Leading.{LeadsTo};

@@ -1,13 +1,14 @@
 //! The lines of a class.
 ghost use Rattle.std.specs.Prelude.{◌≡◌, ◌++◌, ◌<◌, ◌≤◌, ◌^◌, All, None, length, replicate, option_to_list, if◌then◌else◌, OnOk, IfOk};
-ghost use Rattle.jc_base.specs.WellMade.{IsLine};
-ghost use Rattle.jc_base.specs.FirstSeen.{first_seen};
+ghost use Rattle.jc_methods.specs.WellMade.{IsLine};
+ghost use Rattle.jc_bytes.specs.FirstSeen.{first_seen};
 ghost use Rattle.jc_cover.specs.Lines.{with_lines, first_of, insn_lines, covered_insn_lines, counted_lines};
 ghost use Rattle.jc_cover.specs.Sums.{insns_weight};
 
 use crate::coverage::Count;
 use crate::sums::branch_count;
-use jc_base::{LineAt, List, Memory, first_seen};
+use jc_bytes::{List, Memory};
+use jc_methods::{LineAt, first_seen};
 use std::alloc::{AllocError, Global};
 
 /// The lines of the instructions of a class, in the order of the instructions.

@@ -5,7 +5,7 @@ ghost use Rattle.jc_cover.specs.Marking.{with_source, mark_if, mark_back};
 ghost use Rattle.jc_cover.specs.Planned.{IsWithin, LeadsInside, with_branches, with_insns, is_hit_probe, is_hit_branch, mark_insns};
 
 use crate::planned::PlannedBranch;
-use jc_base::{List, Memory};
+use jc_bytes::{List, Memory};
 use std::alloc::Global;
 
 /// Puts the instruction at `at` down as the source of a place.

@@ -1,13 +1,14 @@
 //! The branches of a body's instructions with their probes.
 ghost use Rattle.std.specs.Prelude.{◌≡◌, ◌+◌, ◌<◌, ◌^◌, ℕ, length, IfOk};
-ghost use Rattle.jc_base.specs.Flow.{targets_of};
-ghost use Rattle.jc_base.specs.WellMade.{IsCode};
+ghost use Rattle.jc_methods.specs.Flow.{targets_of};
+ghost use Rattle.jc_methods.specs.WellMade.{IsCode};
 ghost use Rattle.jc_plan.specs.Edges.{place_of};
 ghost use Rattle.jc_plan.specs.Plan.{plan_of};
 ghost use Rattle.jc_plan.specs.ByBranch.{planned};
 ghost use Rattle.jc_cover.specs.Planned.{read_branches, body_branches, free_place};
 
-use jc_base::{Body, Insn, List, Memory, Plan};
+use jc_bytes::{List, Memory};
+use jc_methods::{Body, Insn, Plan};
 use jc_plan::{Branch, Way, put_branches};
 use std::alloc::Global;
 

@@ -5,7 +5,7 @@ ghost use Rattle.jc_cover.specs.Sums.{no_items, one_item, plus_count, plus, no_s
 ghost use Rattle.jc_cover.specs.Sums.{paths, insn_sums, method_sums, own_sums, insns_weight};
 
 use crate::coverage::Count;
-use jc_base::List;
+use jc_bytes::List;
 
 /// The counters of a class but that of its lines.
 #[derive(Clone, Copy, Debug, PartialEq, Eq)]

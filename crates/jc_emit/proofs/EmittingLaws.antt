@@ -5,15 +5,15 @@ use Rattle.std.specs.List.{list_any}
 use Rattle.std.specs.Str.{bytes_eq}
 use Rattle.std.proofs.lemmas.List.{append-nil}
 use Rattle.std.proofs.lemmas.Option.{slice_get-get_or}
-use Rattle.jc_base.specs.Held.{Names, Grows}
-use Rattle.jc_base.specs.Names.{with_name}
-use Rattle.jc_base.specs.declared.kind.State.{State}
-use Rattle.jc_base.specs.declared.body.Body.{Body}
+use Rattle.jc_methods.specs.Held.{Names, Grows}
+use Rattle.jc_bytes.specs.Names.{with_name}
+use Rattle.jc_methods.specs.declared.kind.State.{State}
+use Rattle.jc_methods.specs.declared.body.Body.{Body}
 use Rattle.jc_kinds.specs.Answers.{AreStates}
-use Rattle.jc_base.specs.PlainLists.{pieces}
-use Rattle.jc_base.specs.WellMade.{IsCode, IsState, IsWellMadeOfAnySize}
-use Rattle.jc_base.specs.declared.emitted.Emitted.{Emitted}
-use Rattle.jc_base.specs.declared.plan.Plan.{Plan}
+use Rattle.jc_bytes.specs.PlainLists.{pieces}
+use Rattle.jc_methods.specs.WellMade.{IsCode, IsState, IsWellMadeOfAnySize}
+use Rattle.jc_methods.specs.declared.emitted.Emitted.{Emitted}
+use Rattle.jc_methods.specs.declared.plan.Plan.{Plan}
 use Rattle.jc_plan.specs.Plan.{plan_of}
 use Rattle.jc_emit.specs.declared.frames.Framing.{Framing}
 use Rattle.jc_emit.specs.declared.places.Places.{Places}

@@ -4,11 +4,11 @@ use Rattle.std.specs.Prelude.{slice_get}
 use Rattle.std.proofs.lemmas.List.{length-map, get_or_past}
 use Rattle.std.proofs.lemmas.Option.{slice_get_past, slice_get-get_or}
 use Rattle.std.proofs.lemmas.Bool.{cases_lt}
-use Rattle.jc_base.specs.Flow.{flow_of, FallsThrough}
-use Rattle.jc_base.specs.WellMade.{IsCode}
-use Rattle.jc_base.specs.declared.insn.Insn.{Insn}
-use Rattle.jc_base.specs.declared.insn.Flow.{Flow}
-use Rattle.jc_base.specs.declared.body.Body.{Body}
+use Rattle.jc_methods.specs.Flow.{flow_of, FallsThrough}
+use Rattle.jc_methods.specs.WellMade.{IsCode}
+use Rattle.jc_methods.specs.declared.insn.Insn.{Insn}
+use Rattle.jc_methods.specs.declared.insn.Flow.{Flow}
+use Rattle.jc_methods.specs.declared.body.Body.{Body}
 use Rattle.jc_plan.specs.Entries.{is_fallen_into, falls_at, goes_on, is_multi_target, is_invocation_line}
 use Rattle.jc_plan.specs.Probed.{probe_of, id_if, probes_before}
 use Rattle.jc_plan.specs.Plan.{lead_probe}
@@ -18,8 +18,8 @@ use Rattle.jc_emit.specs.Marks.{image_place, land_place, lead_place}
 use Rattle.jc_emit.specs.Items.{own_of, segment_size, lead_of, land_of, image_of, twin_items}
 use Rattle.jc_emit.proofs.Images.{image_behind}
 use Rattle.jc_emit.proofs.Built.{own_twin, length_twin, image_is}
-use Rattle.jc_base.specs.declared.insn.Insn.TheVariants as insns
-use Rattle.jc_base.specs.declared.insn.Flow.TheVariants as flows
+use Rattle.jc_methods.specs.declared.insn.Insn.TheVariants as insns
+use Rattle.jc_methods.specs.declared.insn.Flow.TheVariants as flows
 
 no_sequence_by : (insn : Insn) (flow : Flow) → flow_of insn ≡ flow → (FallsThrough insn → ⊥) → goes_on flow ≡ false
 no_sequence_by insn flows.GoesOn e h = absurd (h (inl e))

@@ -4,20 +4,20 @@ use Rattle.std.specs.Prelude.{Contains, insert, is_some, is_none, slice_index_or
 use Rattle.std.specs.List.{list_any}
 use Rattle.std.proofs.lemmas.Bool.{and_parts, and_from, or_cases, or_left, or_right, eqb-true, eq-eqb}
 use Rattle.std.proofs.lemmas.List.Elements.{Contains-append_left, Contains-append_right, Contains-append_cases}
-use Rattle.jc_base.specs.PlainLists.{pieces}
-use Rattle.jc_base.specs.Flow.{flow_of}
-use Rattle.jc_base.specs.WellMade.{IsCode, AreFramesFrom}
-use Rattle.jc_base.specs.Held.{held, seen, object}
-use Rattle.jc_base.specs.declared.insn.Flow.{Flow}
-use Rattle.jc_base.specs.declared.kind.Kind.{Kind}
-use Rattle.jc_base.specs.declared.kind.State.{State}
-use Rattle.jc_base.specs.declared.body.Body.{Body}
-use Rattle.jc_base.specs.declared.body.FrameAt.{FrameAt}
+use Rattle.jc_bytes.specs.PlainLists.{pieces}
+use Rattle.jc_methods.specs.Flow.{flow_of}
+use Rattle.jc_methods.specs.WellMade.{IsCode, AreFramesFrom}
+use Rattle.jc_methods.specs.Held.{held, seen, object}
+use Rattle.jc_methods.specs.declared.insn.Flow.{Flow}
+use Rattle.jc_methods.specs.declared.kind.Kind.{Kind}
+use Rattle.jc_methods.specs.declared.kind.State.{State}
+use Rattle.jc_methods.specs.declared.body.Body.{Body}
+use Rattle.jc_methods.specs.declared.body.FrameAt.{FrameAt}
 use Rattle.jc_plan.specs.declared.branch.Branch.{Branch}
 use Rattle.jc_plan.specs.Probed.{probe_of}
 use Rattle.jc_plan.specs.Plan.{lead_probe}
-use Rattle.jc_base.proofs.FirstSeenLaws.{contains_one}
-use Rattle.jc_base.specs.FrameOrder.{RiseFrom}
+use Rattle.jc_bytes.proofs.FirstSeenLaws.{contains_one}
+use Rattle.jc_methods.specs.FrameOrder.{RiseFrom}
 use Rattle.jc_after.specs.Shift.{renamed, shifted}
 use Rattle.jc_after.proofs.ShiftLaws.{map-insert}
 use Rattle.jc_emit.specs.Shift.{shifted_state, image_kind, probe_array_class}
@@ -30,9 +30,9 @@ use Rattle.jc_emit.proofs.Others.{Arms, Agrees, agrees_first, agrees_rest, arms_
 use Rattle.jc_emit.proofs.LocalLaws.{next_within}
 use Rattle.jc_emit.proofs.StraddlingLaws.{frame_within}
 use Rattle.jc_emit.proofs.FrameLists.{Rises, rises_from, rises_to, rises_both, rises_pieces, are_rising, in_piece, of_piece, if_listed, listed_if, rises_if}
-use Rattle.jc_base.specs.declared.insn.Flow.TheVariants as flows
-use Rattle.jc_base.specs.declared.kind.Kind.TheVariants as kinds
-use Rattle.jc_base.proofs.TestLaws.{none_in, which_in, first_in, later_in}
+use Rattle.jc_methods.specs.declared.insn.Flow.TheVariants as flows
+use Rattle.jc_methods.specs.declared.kind.Kind.TheVariants as kinds
+use Rattle.jc_bytes.proofs.TestLaws.{none_in, which_in, first_in, later_in}
 
 -- ---- states
 

@@ -2,12 +2,12 @@
 use Rattle.std.proofs.Common.{◌≡◌, inl, inr, ⊎_elim, ℕ, ℤ, zero, suc, ◌+◌, ◌<◌, List, [], ◌∷◌, length, map, Option, Some, None, is_some, refl, sym, ap, ◌∙◌, subst, arith, add-one, nat_eq, if◌then◌else◌}
 use Rattle.std.specs.Prelude.{slice_get, Contains, ◌≢◌, codes}
 use Rattle.std.proofs.lemmas.Option.{slice_get_within, same_Some}
-use Rattle.jc_base.specs.Flow.{flow_of, targets_of, FallsThrough}
-use Rattle.jc_base.specs.DescriptorTypes.{method_type_in, types_from, rest_from}
-use Rattle.jc_base.specs.declared.insn.Insn.{Insn}
-use Rattle.jc_base.specs.declared.body.Body.{Body}
-use Rattle.jc_base.specs.Held.{Names, Held, int, long, object, Seen, seen, seen_at}
-use Rattle.jc_base.specs.EntryState.{entry_of, entry_seen}
+use Rattle.jc_methods.specs.Flow.{flow_of, targets_of, FallsThrough}
+use Rattle.jc_methods.specs.DescriptorTypes.{method_type_in, types_from, rest_from}
+use Rattle.jc_methods.specs.declared.insn.Insn.{Insn}
+use Rattle.jc_methods.specs.declared.body.Body.{Body}
+use Rattle.jc_methods.specs.Held.{Names, Held, int, long, object, Seen, seen, seen_at}
+use Rattle.jc_methods.specs.EntryState.{entry_of, entry_seen}
 use Rattle.jc_after.specs.Step.{Step, apply}
 use Rattle.jc_after.specs.Table.{table, forms_at}
 use Rattle.jc_after.specs.After.{insn_at, new_class, ground_of, returns_of, member_step, constant_step, return_step, step_of, after_of}
@@ -15,14 +15,14 @@ use Rattle.jc_after.proofs.ApplyLaws.{after_is}
 use Rattle.jc_kinds.specs.States.{frames_of, frame_at, state_of, after_at}
 use Rattle.jc_kinds.specs.Fits.{FitState, FitsThere}
 use Rattle.jc_kinds.specs.Checked.{Checked, LeadsTo, FallsInto, HasFrame, IsHandlerTarget, NeedsFrame, IsMissing}
-use Rattle.jc_base.proofs.TestLaws.{which_in, none_in, first_in}
+use Rattle.jc_bytes.proofs.TestLaws.{which_in, none_in, first_in}
 use Rattle.jc_emit.specs.Marks.{push}
 use Rattle.jc_emit.proofs.PlacedLaws.{no_targets}
 use Rattle.jc_emit.proofs.TwinStates.{push_is, state_fits_same, first_state, frame_state_is, next_state, after_there, fit_there}
 use Rattle.jc_emit.specs.Added.{data_name, data_type, init_type, runtime_class, fetch_name, fetch_type, init_code, init_frame, IsInitBody}
-use Rattle.jc_base.specs.declared.insn.Insn.TheVariants as insns
-use Rattle.jc_base.specs.declared.insn.Flow.TheVariants as flows
-use Rattle.jc_base.specs.declared.body.What.TheVariants as whats
+use Rattle.jc_methods.specs.declared.insn.Insn.TheVariants as insns
+use Rattle.jc_methods.specs.declared.insn.Flow.TheVariants as flows
+use Rattle.jc_methods.specs.declared.body.What.TheVariants as whats
 
 -- ---- a body each of whose instructions goes on well
 

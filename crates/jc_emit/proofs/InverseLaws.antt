@@ -1,12 +1,12 @@
 -- Inverses of conditional jumps.
 use Rattle.std.proofs.Common.{◌≡◌, ⊎_elim, ℕ, ◌<◌, Bool, true, cond, not, ◌&&◌, nat_eq, refl, sym, ap, ◌∙◌}
 use Rattle.std.proofs.lemmas.Bool.{cases_lt, eqb-true, agree_below_at, cond-true, cond-false, and_from, not-true, not_from_false}
-use Rattle.jc_base.specs.InsnForm.{form_of}
-use Rattle.jc_base.proofs.InsnFormLaws.{unknown_beyond}
-use Rattle.jc_base.specs.Flow.{flow_of, inverse_of}
-use Rattle.jc_base.specs.declared.form.Form.TheVariants as forms
-use Rattle.jc_base.specs.declared.insn.Insn.TheVariants as insns
-use Rattle.jc_base.specs.declared.insn.Flow.TheVariants as flows
+use Rattle.jc_methods.specs.InsnForm.{form_of}
+use Rattle.jc_methods.proofs.InsnFormLaws.{unknown_beyond}
+use Rattle.jc_methods.specs.Flow.{flow_of, inverse_of}
+use Rattle.jc_methods.specs.declared.form.Form.TheVariants as forms
+use Rattle.jc_methods.specs.declared.insn.Insn.TheVariants as insns
+use Rattle.jc_methods.specs.declared.insn.Flow.TheVariants as flows
 use Rattle.jc_emit.proofs.TestForms.{is_jump, not_goto_by, unknown_no_jump}
 
 -- where it is one, the inverse of the inverse is the opcode

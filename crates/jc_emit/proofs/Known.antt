@@ -3,26 +3,26 @@ use Rattle.std.proofs.Common.{◌≡◌, ℕ, zero, suc, ◌+◌, ◌-◌, ◌<�
 use Rattle.std.specs.Prelude.{slice_get}
 use Rattle.std.proofs.lemmas.List.{length-map}
 use Rattle.std.proofs.lemmas.Bool.{cases_lt}
-use Rattle.jc_base.specs.PlainLists.{pieces}
-use Rattle.jc_base.specs.Flow.{flow_of, jump_target}
-use Rattle.jc_base.specs.Insn.{with_places}
-use Rattle.jc_base.specs.WellMade.{IsCode}
-use Rattle.jc_base.specs.declared.insn.Insn.{Insn}
-use Rattle.jc_base.specs.declared.insn.Flow.{Flow}
-use Rattle.jc_base.specs.declared.body.Body.{Body}
+use Rattle.jc_bytes.specs.PlainLists.{pieces}
+use Rattle.jc_methods.specs.Flow.{flow_of, jump_target}
+use Rattle.jc_methods.specs.Insn.{with_places}
+use Rattle.jc_methods.specs.WellMade.{IsCode}
+use Rattle.jc_methods.specs.declared.insn.Insn.{Insn}
+use Rattle.jc_methods.specs.declared.insn.Flow.{Flow}
+use Rattle.jc_methods.specs.declared.body.Body.{Body}
 use Rattle.jc_plan.specs.declared.branch.Branch.{Branch}
 use Rattle.jc_plan.specs.Probed.{probe_of}
 use Rattle.jc_plan.specs.Plan.{lead_probe}
 use Rattle.jc_emit.specs.Sizes.{insn_at, early_probe, late_probe, arms_at, probe_size, hop_size, wide_by, wide_size}
 use Rattle.jc_emit.specs.Marks.{Marks, Stands, IsProbe, iconst_1, bastore, image_place, land_place, lead_place}
-use Rattle.jc_base.specs.Widened.{goto, inverted}
+use Rattle.jc_methods.specs.Widened.{goto, inverted}
 use Rattle.jc_emit.specs.TwinCode.{to_of, Sentences, IsTwinCode, HasTest, HasArm, HasArms}
 use Rattle.jc_emit.specs.Items.{marks_of_items, Item, hop, insn_of, at_of, own_of, extra_of, prelude, probe, lead_part, early_part, hop_part, arm_parts, test_part, segment_size, lead_of, land_of, image_of, tests_part, image_part, segment, twin_items}
 use Rattle.jc_emit.proofs.PiecesLaws.{HasAt, Each, each_append, each_piece, has_whole}
 use Rattle.jc_emit.proofs.Images.{trues, trues_counted, image_behind}
 use Rattle.jc_emit.proofs.Built.{length-lead, length-early, length-hop, length-test, length_twin, sized}
 use Rattle.jc_emit.proofs.Ends.{image_past}
-use Rattle.jc_base.specs.declared.insn.Flow.TheVariants as flows
+use Rattle.jc_methods.specs.declared.insn.Flow.TheVariants as flows
 
 -- what is left of a number that something was taken off
 left_over : (a s : ℕ) → 1 ≤ a - s → a ≡ a - s + s

@@ -4,23 +4,23 @@ use Rattle.std.specs.Prelude.{slice_get, Contains}
 use Rattle.std.specs.List.{AllByRecursion}
 use Rattle.std.proofs.lemmas.Bool.{cases_lt}
 use Rattle.std.proofs.lemmas.Option.{slice_get-get_or}
-use Rattle.jc_base.specs.PlainLists.{total}
-use Rattle.jc_base.specs.FirstSeen.{first_seen}
-use Rattle.jc_base.specs.Flow.{flow_of, targets_of, FallsThrough, jump_target}
-use Rattle.jc_base.specs.Insn.{with_places, IsWellFormed}
-use Rattle.jc_base.specs.WellMade.{IsCode}
-use Rattle.jc_base.specs.declared.insn.Insn.{Insn}
-use Rattle.jc_base.specs.declared.insn.Flow.{Flow}
-use Rattle.jc_base.specs.declared.body.Body.{Body}
+use Rattle.jc_bytes.specs.PlainLists.{total}
+use Rattle.jc_bytes.specs.FirstSeen.{first_seen}
+use Rattle.jc_methods.specs.Flow.{flow_of, targets_of, FallsThrough, jump_target}
+use Rattle.jc_methods.specs.Insn.{with_places, IsWellFormed}
+use Rattle.jc_methods.specs.WellMade.{IsCode}
+use Rattle.jc_methods.specs.declared.insn.Insn.{Insn}
+use Rattle.jc_methods.specs.declared.insn.Flow.{Flow}
+use Rattle.jc_methods.specs.declared.body.Body.{Body}
 use Rattle.jc_plan.specs.declared.branch.Branch.{Branch}
 use Rattle.jc_plan.specs.Edges.{sequence, jump, branches_by}
 use Rattle.jc_plan.specs.Probed.{probe_of}
 use Rattle.jc_plan.specs.Plan.{lead_probe}
-use Rattle.jc_base.proofs.FirstSeenLaws.{first_seen_listed, first_seen_distinct}
+use Rattle.jc_bytes.proofs.FirstSeenLaws.{first_seen_listed, first_seen_distinct}
 use Rattle.jc_plan.proofs.ListedLaws.{all_listed}
 use Rattle.jc_plan.proofs.ByBranchLaws.{last_parts}
 use Rattle.jc_emit.specs.Sizes.{insn_at, early_by, early_probe, late_by, late_probe, arms_by, arms_at, probe_size, hop_size, wide_by, behind_size}
-use Rattle.jc_base.specs.Widened.{inverted}
+use Rattle.jc_methods.specs.Widened.{inverted}
 use Rattle.jc_emit.specs.TwinCode.{to_of, here_or, arm_place}
 use Rattle.jc_emit.specs.Items.{Item, image, probe_array, hop, probe, lead_part, early_part, hop_part, arm_parts, test_part, segment_size, lead_of, land_of, image_of, tests_part, image_part, segment, twin_items}
 use Rattle.jc_emit.specs.Local.{Stands, Lands, Ok, OkImage, AllOk, TestsAlike, TestsInversely, SwitchesAlike, JumpsAlike}
@@ -29,10 +29,10 @@ use Rattle.jc_emit.proofs.Built.{length-lead, length-early, length-hop, sized, s
 use Rattle.jc_emit.proofs.Told.{lead_at, early_at, main_at}
 use Rattle.jc_emit.proofs.Others.{Arms, Agrees, agrees_here, agrees_rest, are_arms, arm_listed, tests_target, jumps_target, none_some}
 use Rattle.jc_emit.proofs.InverseLaws.{twice_inverse}
-use Rattle.jc_base.specs.declared.insn.Insn.TheVariants as insns
-use Rattle.jc_base.specs.declared.insn.Flow.TheVariants as flows
-use Rattle.jc_base.proofs.PlacedInsnLaws.{simple_is_no_test}
-use Rattle.jc_base.proofs.TestLaws.{none_in, which_in, first_in, later_in}
+use Rattle.jc_methods.specs.declared.insn.Insn.TheVariants as insns
+use Rattle.jc_methods.specs.declared.insn.Flow.TheVariants as flows
+use Rattle.jc_methods.proofs.PlacedInsnLaws.{simple_is_no_test}
+use Rattle.jc_bytes.proofs.TestLaws.{none_in, which_in, first_in, later_in}
 
 -- ---- conditional jumps
 

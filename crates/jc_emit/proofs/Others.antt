@@ -4,14 +4,14 @@ use Rattle.std.specs.Prelude.{slice_get, Contains}
 use Rattle.std.proofs.lemmas.Bool.{cases_lt, and_parts, eq-eqb, ne_eqb, cond-true, cond-false}
 use Rattle.std.proofs.lemmas.Option.{slice_get-get_or, slice_get_within}
 use Rattle.std.proofs.lemmas.List.{length-map}
-use Rattle.jc_base.specs.PlainLists.{map_from}
-use Rattle.jc_base.specs.FirstSeen.{first_seen, IsDistinct}
-use Rattle.jc_base.specs.Flow.{flow_of, targets_of, is_return, jump_target}
-use Rattle.jc_base.specs.Insn.{with_places}
-use Rattle.jc_base.specs.WellMade.{IsCode}
-use Rattle.jc_base.specs.declared.insn.Insn.{Insn}
-use Rattle.jc_base.specs.declared.insn.Flow.{Flow}
-use Rattle.jc_base.specs.declared.body.Body.{Body}
+use Rattle.jc_bytes.specs.PlainLists.{map_from}
+use Rattle.jc_bytes.specs.FirstSeen.{first_seen, IsDistinct}
+use Rattle.jc_methods.specs.Flow.{flow_of, targets_of, is_return, jump_target}
+use Rattle.jc_methods.specs.Insn.{with_places}
+use Rattle.jc_methods.specs.WellMade.{IsCode}
+use Rattle.jc_methods.specs.declared.insn.Insn.{Insn}
+use Rattle.jc_methods.specs.declared.insn.Flow.{Flow}
+use Rattle.jc_methods.specs.declared.body.Body.{Body}
 use Rattle.jc_plan.specs.declared.branch.Way.{Way}
 use Rattle.jc_plan.specs.declared.branch.Way.TheVariants as ways
 use Rattle.jc_plan.specs.declared.branch.Branch.{Branch}
@@ -19,21 +19,21 @@ use Rattle.jc_plan.specs.Edges.{sequence, jump, arm, exit, branches_by, branches
 use Rattle.jc_plan.specs.Entries.{falls_at, goes_on, is_fallen_into, is_multi_target, is_invocation_line}
 use Rattle.jc_plan.specs.Probed.{probe_of, id_if}
 use Rattle.jc_plan.specs.Plan.{lead_probe}
-use Rattle.jc_base.proofs.FirstSeenLaws.{contains_one, first_seen_distinct}
+use Rattle.jc_bytes.proofs.FirstSeenLaws.{contains_one, first_seen_distinct}
 use Rattle.jc_plan.proofs.ListedLaws.{listed_from, lists_from}
 use Rattle.jc_emit.specs.Sizes.{insn_at, early_by, early_probe, late_by, late_probe, arms_by, arms_at, hop_size, wide_by, wide_size}
 use Rattle.jc_emit.specs.Marks.{Marks}
-use Rattle.jc_base.specs.Widened.{inverted}
+use Rattle.jc_methods.specs.Widened.{inverted}
 use Rattle.jc_emit.specs.TwinCode.{to_of, here_or, arm_place, probe_place, probe_place_by, probe_owner, probe_owner_by, ProbedEdge, InProbe, IsHop, IsWideGoto, NothingElse, HasProbe, HasArm, HasArms, HasGotoBehind}
 use Rattle.jc_emit.specs.Items.{marks_of_items, Item, init_call, hop, insn_of, own_of, probe, lead_part, early_part, hop_part, arm_parts, test_part, segment_size, lead_of, land_of, image_of, tests_part, image_part, segment, twin_items}
 use Rattle.jc_emit.proofs.PiecesLaws.{HasAt, has_front, Each, each_append, each_at, each_piece}
 use Rattle.jc_emit.proofs.Built.{length-lead, length-early, length-hop, length-test, sized}
 use Rattle.jc_emit.proofs.Ends.{lead_none}
 use Rattle.jc_emit.proofs.Told.{item_stands, main_at, places_told, jumps_told, switches_told}
-use Rattle.jc_base.specs.declared.insn.Insn.TheVariants as insns
-use Rattle.jc_base.specs.declared.insn.Flow.TheVariants as flows
-use Rattle.jc_base.proofs.PlacedInsnLaws.{simple_is_no_test}
-use Rattle.jc_base.proofs.TestLaws.{none_in, which_in, first_in, later_in}
+use Rattle.jc_methods.specs.declared.insn.Insn.TheVariants as insns
+use Rattle.jc_methods.specs.declared.insn.Flow.TheVariants as flows
+use Rattle.jc_methods.proofs.PlacedInsnLaws.{simple_is_no_test}
+use Rattle.jc_bytes.proofs.TestLaws.{none_in, which_in, first_in, later_in}
 
 pub none_some : (id : ℕ) → None ≡ Some id → ⊥
 none_some id e = cc

@@ -4,7 +4,7 @@ use Rattle.std.specs.Prelude.{slice_get}
 use Rattle.std.proofs.Math.Seq.{get_or-append_seam}
 use Rattle.std.proofs.lemmas.Option.{slice_get-get_or}
 use Rattle.std.proofs.lemmas.Bool.{cases_lt}
-use Rattle.jc_base.specs.PlainLists.{pieces, total}
+use Rattle.jc_bytes.specs.PlainLists.{pieces, total}
 
 -- these items stand in the list from this place on
 abbrev pub HasAt : {X : Type 0} → List X → ℕ → List X → Type 0

@@ -2,16 +2,16 @@
 use Rattle.std.proofs.Common.{◌≡◌, ◌⊎◌, ⊎_elim, ℕ, ◌+◌, ◌<◌, Bool, true, false, cond, if◌then◌else◌, nat_eq, nat_le, List, [], ◌∷◌, map, refl, sym, ap, ◌∙◌, subst, arith, pos}
 use Rattle.std.specs.Prelude.{Contains}
 use Rattle.std.proofs.lemmas.Bool.{cond-false, cond_both, lt-leb, ne_eqb, and_left, leb-true}
-use Rattle.jc_base.specs.Flow.{flow_of, flow_of_simple, is_return, targets_of, jump_target, FallsThrough}
-use Rattle.jc_base.specs.Insn.{with_places, arm_with_place}
-use Rattle.jc_base.specs.Widened.{goto, inverted}
-use Rattle.jc_base.specs.declared.insn.Insn.{Insn}
-use Rattle.jc_base.specs.declared.insn.Insn.TheVariants as insns
-use Rattle.jc_base.specs.declared.insn.Arm.{Arm}
-use Rattle.jc_base.specs.declared.insn.Flow.{Flow}
-use Rattle.jc_base.specs.declared.insn.Flow.TheVariants as flows
-use Rattle.jc_base.proofs.TestLaws.{which_in, none_in}
-use Rattle.jc_base.proofs.PlacedInsnLaws.{flow_placed}
+use Rattle.jc_methods.specs.Flow.{flow_of, flow_of_simple, is_return, targets_of, jump_target, FallsThrough}
+use Rattle.jc_methods.specs.Insn.{with_places, arm_with_place}
+use Rattle.jc_methods.specs.Widened.{goto, inverted}
+use Rattle.jc_methods.specs.declared.insn.Insn.{Insn}
+use Rattle.jc_methods.specs.declared.insn.Insn.TheVariants as insns
+use Rattle.jc_methods.specs.declared.insn.Arm.{Arm}
+use Rattle.jc_methods.specs.declared.insn.Flow.{Flow}
+use Rattle.jc_methods.specs.declared.insn.Flow.TheVariants as flows
+use Rattle.jc_bytes.proofs.TestLaws.{which_in, none_in}
+use Rattle.jc_methods.proofs.PlacedInsnLaws.{flow_placed}
 use Rattle.jc_after.specs.Shift.{with_slot}
 use Rattle.jc_emit.specs.Marks.{push}
 use Rattle.jc_emit.proofs.Others.{tests_target}

@@ -6,15 +6,15 @@ use Rattle.std.proofs.lemmas.Bool.{cases_lt}
 use Rattle.std.proofs.lemmas.Option.{slice_get-get_or, same_Some}
 use Rattle.std.proofs.lemmas.List.{get_or_past, length-map}
 use Rattle.std.proofs.lemmas.List.Sums.{sum_by-cons, sum_by_more, sum_by-take-le}
-use Rattle.jc_base.specs.PlainLists.{numbers_from}
-use Rattle.jc_base.specs.Flow.{flow_of, targets_of}
-use Rattle.jc_base.specs.Insn.{arm_count}
-use Rattle.jc_base.specs.WellMade.{IsCode, insns_and_arms}
-use Rattle.jc_base.specs.declared.insn.Insn.{Insn}
-use Rattle.jc_base.specs.declared.insn.Insn.TheVariants as insns
-use Rattle.jc_base.specs.declared.insn.Flow.{Flow}
-use Rattle.jc_base.specs.declared.insn.Flow.TheVariants as flows
-use Rattle.jc_base.specs.declared.body.Body.{Body}
+use Rattle.jc_bytes.specs.PlainLists.{numbers_from}
+use Rattle.jc_methods.specs.Flow.{flow_of, targets_of}
+use Rattle.jc_methods.specs.Insn.{arm_count}
+use Rattle.jc_methods.specs.WellMade.{IsCode, insns_and_arms}
+use Rattle.jc_methods.specs.declared.insn.Insn.{Insn}
+use Rattle.jc_methods.specs.declared.insn.Insn.TheVariants as insns
+use Rattle.jc_methods.specs.declared.insn.Flow.{Flow}
+use Rattle.jc_methods.specs.declared.insn.Flow.TheVariants as flows
+use Rattle.jc_methods.specs.declared.body.Body.{Body}
 use Rattle.jc_plan.specs.declared.branch.Branch.{Branch}
 use Rattle.jc_plan.specs.Edges.{jump, branches_by, branches_of}
 use Rattle.jc_plan.specs.Probed.{probe_of}

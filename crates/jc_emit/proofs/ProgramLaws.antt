@@ -2,18 +2,18 @@
 use Rattle.std.proofs.Common.{◌≡◌, inl, inr, ⊎_elim, ℕ, zero, suc, ◌+◌, List, [], ◌∷◌, map, Some, None, is_some, option_and_then, sym, ap, ◌∙◌, subst, if◌then◌else◌}
 use Rattle.std.specs.Prelude.{Contains}
 use Rattle.std.specs.List.{sum_by}
-use Rattle.jc_base.specs.declared.body.Body.{Body}
-use Rattle.jc_base.specs.declared.body.FrameAt.{FrameAt}
-use Rattle.jc_base.specs.declared.program.Linked.{Linked}
-use Rattle.jc_base.specs.declared.program.Program.{Program}
-use Rattle.jc_base.specs.Held.{Names, SeenAt, seen_at}
-use Rattle.jc_base.specs.EntryState.{entry_of}
-use Rattle.jc_base.specs.WellMade.{IsWellMade}
+use Rattle.jc_methods.specs.declared.body.Body.{Body}
+use Rattle.jc_methods.specs.declared.body.FrameAt.{FrameAt}
+use Rattle.jc_programs.specs.declared.program.Linked.{Linked}
+use Rattle.jc_programs.specs.declared.program.Program.{Program}
+use Rattle.jc_methods.specs.Held.{Names, SeenAt, seen_at}
+use Rattle.jc_methods.specs.EntryState.{entry_of}
+use Rattle.jc_methods.specs.WellMade.{IsWellMade}
 use Rattle.jc_after.specs.After.{insn_at, after_of}
 use Rattle.jc_kinds.specs.States.{frame_at, falls_at, or_else, state_of, after_at}
 use Rattle.jc_kinds.specs.Fits.{FitsThere}
 use Rattle.jc_kinds.specs.Checked.{JumpsTo, GoesOnFrom, LeadsTo, NeedsFrame, at_handler, Checked}
-use Rattle.jc_base.proofs.TestLaws.{which_in, none_in, first_in, later_in, in_map, of_map}
+use Rattle.jc_bytes.proofs.TestLaws.{which_in, none_in, first_in, later_in, in_map, of_map}
 use Rattle.jc_plan.specs.Probed.{probe_count}
 use Rattle.jc_emit.specs.Straddling.{NoneStraddles}
 use Rattle.jc_emit.specs.TwinProgram.{AreSameBodies, AreTwinBodies, IsPair, ArePairs, TwinProgram}

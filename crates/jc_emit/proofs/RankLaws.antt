@@ -1,7 +1,7 @@
 -- A twin comes to an image soon.
 use Rattle.std.proofs.Common.{◌≡◌, ℕ, ◌+◌, ◌<◌, ◌≤◌, Bool, true, false, List, Option, Some, None, ap, subst, arith}
 use Rattle.std.specs.Prelude.{slice_get}
-use Rattle.jc_base.specs.declared.insn.Insn.{Insn}
+use Rattle.jc_methods.specs.declared.insn.Insn.{Insn}
 use Rattle.jc_plan.specs.declared.branch.Branch.{Branch}
 use Rattle.jc_emit.specs.Sizes.{probe_size, hop_size}
 use Rattle.jc_emit.specs.Items.{Item, init_call, init_store, image, probe_array, probe_id, probe_one, probe_store, hop, own_of, at_of, extra_of}

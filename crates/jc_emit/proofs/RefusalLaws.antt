@@ -1,10 +1,10 @@
 -- The reasons for which a body isn't instrumented.
 use Rattle.std.proofs.Common.{◌≡◌, ℕ, ◌+◌, ◌<◌, ◌≤◌, Some, None, ap, sym, ◌∙◌, arith}
-use Rattle.jc_base.specs.Least.{IsLeast}
-use Rattle.jc_base.specs.declared.body.Body.{Body}
-use Rattle.jc_base.specs.declared.refusal.RefusalKind.{RefusalKind}
-use Rattle.jc_base.specs.declared.refusal.RefusalKind.TheVariants as refusals
-use Rattle.jc_base.proofs.LeastLaws.{least_one}
+use Rattle.jc_bytes.specs.Least.{IsLeast}
+use Rattle.jc_methods.specs.declared.body.Body.{Body}
+use Rattle.jc_bytes.specs.declared.refusal.RefusalKind.{RefusalKind}
+use Rattle.jc_bytes.specs.declared.refusal.RefusalKind.TheVariants as refusals
+use Rattle.jc_bytes.proofs.LeastLaws.{least_one}
 use Rattle.jc_kinds.specs.StateShift.{IsStraddled}
 use Rattle.jc_kinds.specs.Answers.{refusal_of}
 use Rattle.jc_emit.specs.Straddling.{NoneStraddles, IsEmitReason}

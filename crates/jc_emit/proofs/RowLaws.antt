@@ -2,19 +2,19 @@
 use Rattle.std.proofs.Common.{◌≡◌, ◌↔◌, ⊎_elim, ℕ, zero, suc, ◌+◌, ◌<◌, ◌≤◌, Bool, true, false, List, [], ◌∷◌, ◌++◌, length, Option, Some, None, refl, sym, ap, ◌∙◌, subst, arith, add-one, zero-add}
 use Rattle.std.specs.Prelude.{slice_get, ⊤}
 use Rattle.std.proofs.lemmas.Bool.{cases_lt}
-use Rattle.jc_base.specs.PlainLists.{total}
-use Rattle.jc_base.specs.Flow.{flow_of, jump_target}
-use Rattle.jc_base.specs.Insn.{with_places}
-use Rattle.jc_base.specs.WellMade.{IsCode, IsHandler}
-use Rattle.jc_base.specs.declared.insn.Insn.{Insn}
-use Rattle.jc_base.specs.declared.insn.Flow.{Flow}
-use Rattle.jc_base.specs.declared.body.Handler.{Handler}
-use Rattle.jc_base.specs.declared.body.Body.{Body}
+use Rattle.jc_bytes.specs.PlainLists.{total}
+use Rattle.jc_methods.specs.Flow.{flow_of, jump_target}
+use Rattle.jc_methods.specs.Insn.{with_places}
+use Rattle.jc_methods.specs.WellMade.{IsCode, IsHandler}
+use Rattle.jc_methods.specs.declared.insn.Insn.{Insn}
+use Rattle.jc_methods.specs.declared.insn.Flow.{Flow}
+use Rattle.jc_methods.specs.declared.body.Handler.{Handler}
+use Rattle.jc_methods.specs.declared.body.Body.{Body}
 use Rattle.jc_plan.specs.declared.branch.Branch.{Branch}
 use Rattle.jc_plan.specs.Probed.{probe_of}
 use Rattle.jc_plan.specs.Plan.{lead_probe}
 use Rattle.jc_emit.specs.Sizes.{insn_at, early_probe, late_probe, arms_at}
-use Rattle.jc_base.specs.Widened.{inverted}
+use Rattle.jc_methods.specs.Widened.{inverted}
 use Rattle.jc_emit.specs.TwinCode.{to_of}
 use Rattle.jc_emit.specs.TwinTables.{moved_row}
 use Rattle.jc_emit.specs.Items.{Item, image, lead_part, early_part, hop_part, arm_parts, test_part, segment_size, lead_of, land_of, image_of, tests_part, image_part, segment, twin_items}
@@ -22,7 +22,7 @@ use Rattle.jc_emit.specs.Local.{OkRow, Holds}
 use Rattle.jc_emit.proofs.PiecesLaws.{Each, each_append, each_at, each_piece}
 use Rattle.jc_emit.proofs.Built.{length-lead, length-early, sized}
 use Rattle.jc_emit.proofs.LocalLaws.{land_lands}
-use Rattle.jc_base.specs.declared.insn.Flow.TheVariants as flows
+use Rattle.jc_methods.specs.declared.insn.Flow.TheVariants as flows
 
 pub total_grows : (f : ℕ → ℕ) (i j : ℕ) → i ≤ j → total f i ≤ total f j
 total_grows f i zero le = let e : i ≡ 0 = omega arith in subst (λ k. total f k ≤ 0) (sym e) (omega arith)

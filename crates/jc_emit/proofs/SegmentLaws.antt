@@ -3,22 +3,22 @@ use Rattle.std.proofs.Common.{◌≡◌, ℕ, zero, suc, ◌+◌, ◌<◌, ◌�
 use Rattle.std.specs.Prelude.{Contains, All, slice_index}
 use Rattle.std.specs.List.{AllByRecursion}
 use Rattle.std.proofs.lemmas.List.Elements.{All-get_or, Contains-get_or}
-use Rattle.jc_base.specs.PlainLists.{map_from, pieces}
-use Rattle.jc_base.specs.Flow.{flow_of, targets_of, jump_target}
-use Rattle.jc_base.specs.FirstSeen.{first_seen}
-use Rattle.jc_base.specs.Insn.{IsWellFormed, with_places}
-use Rattle.jc_base.specs.InsnUse.{is_of_two_slots, LocalsWithin, LeadsWithin}
-use Rattle.jc_base.specs.Slots.{slot_of}
-use Rattle.jc_base.specs.WellMade.{IsWellMadeOfAnySize}
-use Rattle.jc_base.specs.Widened.{inverted}
-use Rattle.jc_base.specs.declared.insn.Insn.{Insn}
-use Rattle.jc_base.specs.declared.insn.Insn.TheVariants as insns
-use Rattle.jc_base.specs.declared.insn.Flow.{Flow}
-use Rattle.jc_base.specs.declared.insn.Flow.TheVariants as flows
-use Rattle.jc_base.specs.declared.body.Body.{Body}
-use Rattle.jc_base.specs.declared.plan.Plan.{Plan}
-use Rattle.jc_base.proofs.EachLaws.{all_weaker}
-use Rattle.jc_base.proofs.FirstSeenLaws.{first_seen_all, first_seen_listed}
+use Rattle.jc_bytes.specs.PlainLists.{map_from, pieces}
+use Rattle.jc_methods.specs.Flow.{flow_of, targets_of, jump_target}
+use Rattle.jc_bytes.specs.FirstSeen.{first_seen}
+use Rattle.jc_methods.specs.Insn.{IsWellFormed, with_places}
+use Rattle.jc_methods.specs.InsnUse.{is_of_two_slots, LocalsWithin, LeadsWithin}
+use Rattle.jc_methods.specs.Slots.{slot_of}
+use Rattle.jc_methods.specs.WellMade.{IsWellMadeOfAnySize}
+use Rattle.jc_methods.specs.Widened.{inverted}
+use Rattle.jc_methods.specs.declared.insn.Insn.{Insn}
+use Rattle.jc_methods.specs.declared.insn.Insn.TheVariants as insns
+use Rattle.jc_methods.specs.declared.insn.Flow.{Flow}
+use Rattle.jc_methods.specs.declared.insn.Flow.TheVariants as flows
+use Rattle.jc_methods.specs.declared.body.Body.{Body}
+use Rattle.jc_methods.specs.declared.plan.Plan.{Plan}
+use Rattle.jc_bytes.proofs.EachLaws.{all_weaker}
+use Rattle.jc_bytes.proofs.FirstSeenLaws.{first_seen_all, first_seen_listed}
 use Rattle.jc_plan.specs.declared.branch.Branch.{Branch}
 use Rattle.jc_plan.specs.Edges.{arm, branches_by, branches_of, branches}
 use Rattle.jc_plan.specs.Probed.{Position, position_of, is_before, is_probed, is_probed_way, probes_before, probe_count, id_if, probe_of}

@@ -1,6 +1,6 @@
 -- States by their instructions and frames, and their sizes: what jc_after and jc_kinds prove for themselves alone.
 use Rattle.std.proofs.Common.{◌≡◌, ℕ, List, [], ◌∷◌, map, refl, arith}
-use Rattle.jc_base.specs.Held.{Held, top, int, float, double, long, null, uninit_this, object, uninit, width, slots}
+use Rattle.jc_methods.specs.Held.{Held, top, int, float, double, long, null, uninit_this, object, uninit, width, slots}
 use Rattle.jc_after.specs.Shift.{renamed}
 
 -- ---- sizes

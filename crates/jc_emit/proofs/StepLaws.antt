@@ -4,7 +4,7 @@ use Rattle.std.proofs.lemmas.Option.{none-some, same_Some}
 use Rattle.std.proofs.lemmas.Bool.{cond-true, leb-true, le-leb}
 use Rattle.std.proofs.lemmas.List.{take_at}
 use Rattle.std.proofs.Math.Seq.{drop-append_seam}
-use Rattle.jc_base.specs.Held.{Held, Seen, width, slots}
+use Rattle.jc_methods.specs.Held.{Held, Seen, width, slots}
 use Rattle.jc_after.specs.declared.want.Want.{Want}
 use Rattle.jc_after.specs.Wants.{accepts_all}
 use Rattle.jc_after.specs.Step.{kind, Form, moves, Ground, apply, given_of, limited, below, upper, has_form, moved, with_stack}

@@ -6,13 +6,13 @@ use Rattle.std.proofs.lemmas.Bool.{eq-eqb, ne_eqb, cases_eq}
 use Rattle.std.proofs.lemmas.List.{get_or-set_same, get_or-set_other, length-set, take_all}
 use Rattle.std.proofs.lemmas.List.Sums.{sum_by_more}
 use Rattle.std.proofs.Math.Seq.{drop-cons, drop-length}
-use Rattle.jc_base.specs.PlainLists.{map_from, pieces}
-use Rattle.jc_base.specs.Flow.{targets_of}
-use Rattle.jc_base.specs.Insn.{with_places, arm_with_place}
-use Rattle.jc_base.specs.declared.insn.Arm.{Arm}
-use Rattle.jc_base.specs.declared.insn.Insn.{Insn}
-use Rattle.jc_base.specs.declared.insn.Insn.TheVariants as insns
-use Rattle.jc_base.proofs.TestLaws.{none_in, which_in, first_in, later_in}
+use Rattle.jc_bytes.specs.PlainLists.{map_from, pieces}
+use Rattle.jc_methods.specs.Flow.{targets_of}
+use Rattle.jc_methods.specs.Insn.{with_places, arm_with_place}
+use Rattle.jc_methods.specs.declared.insn.Arm.{Arm}
+use Rattle.jc_methods.specs.declared.insn.Insn.{Insn}
+use Rattle.jc_methods.specs.declared.insn.Insn.TheVariants as insns
+use Rattle.jc_bytes.proofs.TestLaws.{none_in, which_in, first_in, later_in}
 use Rattle.jc_plan.specs.declared.branch.Branch.{Branch}
 use Rattle.jc_plan.specs.Edges.{arm}
 use Rattle.jc_emit.specs.Sizes.{hop_size}

@@ -4,14 +4,14 @@ use Rattle.std.specs.Prelude.{All, insert, slice_index}
 use Rattle.std.proofs.lemmas.List.{take_all}
 use Rattle.std.proofs.lemmas.List.Elements.{All-take}
 use Rattle.std.proofs.lemmas.Option.{slice_get_within}
-use Rattle.jc_base.specs.WellMade.{IsHandler, IsLine, IsVar, IsKind, IsState}
-use Rattle.jc_base.specs.declared.insn.Insn.{Insn}
-use Rattle.jc_base.specs.declared.kind.Kind.{Kind}
-use Rattle.jc_base.specs.declared.kind.Kind.TheVariants as kinds
-use Rattle.jc_base.specs.declared.kind.State.{State}
-use Rattle.jc_base.specs.declared.body.Handler.{Handler}
-use Rattle.jc_base.specs.declared.body.LineAt.{LineAt}
-use Rattle.jc_base.specs.declared.body.VarAt.{VarAt}
+use Rattle.jc_methods.specs.WellMade.{IsHandler, IsLine, IsVar, IsKind, IsState}
+use Rattle.jc_methods.specs.declared.insn.Insn.{Insn}
+use Rattle.jc_methods.specs.declared.kind.Kind.{Kind}
+use Rattle.jc_methods.specs.declared.kind.Kind.TheVariants as kinds
+use Rattle.jc_methods.specs.declared.kind.State.{State}
+use Rattle.jc_methods.specs.declared.body.Handler.{Handler}
+use Rattle.jc_methods.specs.declared.body.LineAt.{LineAt}
+use Rattle.jc_methods.specs.declared.body.VarAt.{VarAt}
 use Rattle.jc_after.specs.Shift.{slot_of}
 use Rattle.jc_emit.specs.Shift.{image_kind, shifted_state}
 use Rattle.jc_emit.specs.TwinTables.{moved_row, moved_line, moved_var}

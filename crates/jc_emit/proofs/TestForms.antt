@@ -2,26 +2,26 @@
 use Rattle.std.proofs.Common.{◌≡◌, ◌⊎◌, inl, inr, ⊎_elim, ℕ, ◌-◌, ◌<◌, Bool, true, false, cond, not, ◌&&◌, ◌||◌, List, [], ◌∷◌, length, map, take, Option, Some, nat_eq, nat_le, refl, sym, ap, ◌∙◌, subst, arith}
 use Rattle.std.proofs.lemmas.Bool.{cases_lt, eqb-true, leb-true, agree_below_at, cond-true, and_from, not_from_false}
 use Rattle.std.proofs.lemmas.List.{take-map, length-map}
-use Rattle.jc_base.specs.InsnForm.{form_of}
-use Rattle.jc_base.proofs.InsnFormLaws.{unknown_beyond}
-use Rattle.jc_base.specs.declared.form.Form.{Form}
-use Rattle.jc_base.specs.Flow.{flow_of, is_test}
-use Rattle.jc_base.specs.Insn.{IsWellFormed}
-use Rattle.jc_base.specs.declared.insn.Insn.{Insn}
-use Rattle.jc_base.specs.declared.kind.State.{State}
-use Rattle.jc_base.specs.declared.body.Use.{Use}
-use Rattle.jc_base.specs.Descriptor.{FieldType}
-use Rattle.jc_base.specs.Held.{Names, Seen, held, seen}
+use Rattle.jc_methods.specs.InsnForm.{form_of}
+use Rattle.jc_methods.proofs.InsnFormLaws.{unknown_beyond}
+use Rattle.jc_methods.specs.declared.form.Form.{Form}
+use Rattle.jc_methods.specs.Flow.{flow_of, is_test}
+use Rattle.jc_methods.specs.Insn.{IsWellFormed}
+use Rattle.jc_methods.specs.declared.insn.Insn.{Insn}
+use Rattle.jc_methods.specs.declared.kind.State.{State}
+use Rattle.jc_methods.specs.declared.body.Use.{Use}
+use Rattle.jc_bytes.specs.Descriptor.{FieldType}
+use Rattle.jc_methods.specs.Held.{Names, Seen, held, seen}
 use Rattle.jc_after.specs.declared.want.Want.{Want}
 use Rattle.jc_after.specs.Step.{Ground, moves, apply, below}
 use Rattle.jc_after.specs.Table.{one, table, forms_at}
 use Rattle.jc_after.specs.After.{step_of}
 use Rattle.jc_emit.specs.TwinFrames.{operands_by, left_by}
 use Rattle.jc_emit.proofs.StepLaws.{state, takes_only}
-use Rattle.jc_base.specs.declared.form.Form.TheVariants as forms
-use Rattle.jc_base.specs.declared.insn.Insn.TheVariants as insns
-use Rattle.jc_base.specs.declared.insn.Flow.TheVariants as flows
-use Rattle.jc_base.proofs.EachLaws.{AllFrom, all_from}
+use Rattle.jc_methods.specs.declared.form.Form.TheVariants as forms
+use Rattle.jc_methods.specs.declared.insn.Insn.TheVariants as insns
+use Rattle.jc_methods.specs.declared.insn.Flow.TheVariants as flows
+use Rattle.jc_bytes.proofs.EachLaws.{AllFrom, all_from}
 use Rattle.jc_after.specs.declared.want.Want.TheVariants as wants
 
 -- ---- the opcodes of conditional jumps

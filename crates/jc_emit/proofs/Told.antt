@@ -3,24 +3,24 @@ use Rattle.std.proofs.Common.{◌≡◌, ℕ, ◌+◌, ◌<◌, Bool, true, fals
 use Rattle.std.specs.Prelude.{slice_get, option_map}
 use Rattle.std.proofs.lemmas.List.{length-map}
 use Rattle.std.proofs.lemmas.Option.{slice_get-map}
-use Rattle.jc_base.specs.PlainLists.{total}
-use Rattle.jc_base.specs.Flow.{flow_of, jump_target}
-use Rattle.jc_base.specs.Insn.{with_places}
-use Rattle.jc_base.specs.declared.insn.Insn.{Insn}
-use Rattle.jc_base.specs.declared.insn.Flow.{Flow}
-use Rattle.jc_base.specs.declared.body.Body.{Body}
+use Rattle.jc_bytes.specs.PlainLists.{total}
+use Rattle.jc_methods.specs.Flow.{flow_of, jump_target}
+use Rattle.jc_methods.specs.Insn.{with_places}
+use Rattle.jc_methods.specs.declared.insn.Insn.{Insn}
+use Rattle.jc_methods.specs.declared.insn.Flow.{Flow}
+use Rattle.jc_methods.specs.declared.body.Body.{Body}
 use Rattle.jc_plan.specs.declared.branch.Branch.{Branch}
 use Rattle.jc_plan.specs.Probed.{probe_of}
 use Rattle.jc_plan.specs.Plan.{lead_probe}
 use Rattle.jc_emit.specs.Sizes.{insn_at, early_probe, late_probe, arms_at, hop_size, wide_by, wide_size}
 use Rattle.jc_emit.specs.Marks.{Marks, Stands, IsProbe, iconst_1, bastore}
-use Rattle.jc_base.specs.Widened.{goto, inverted}
+use Rattle.jc_methods.specs.Widened.{goto, inverted}
 use Rattle.jc_emit.specs.TwinCode.{to_of, Prelude, Images, Places, Jumps, Switches, Lengths, HasTest, HasProbe, HasHop, HasArm, HasArms}
 use Rattle.jc_emit.specs.Items.{Item, marks_of_items, image, hop, insn_of, at_of, own_of, extra_of, probe, lead_part, early_part, hop_part, arm_parts, test_part, segment_size, lead_of, land_of, image_of, tests_part, image_part, twin_items, probe_array, probe_id, probe_one, probe_store, init_call, init_store}
 use Rattle.jc_emit.proofs.PiecesLaws.{HasAt, has_front, has_back}
 use Rattle.jc_emit.proofs.Images.{trues_counted}
 use Rattle.jc_emit.proofs.Built.{length-lead, length-early, length-hop, length-test, own_twin, segment_at, prelude_at}
-use Rattle.jc_base.specs.declared.insn.Flow.TheVariants as flows
+use Rattle.jc_methods.specs.declared.insn.Flow.TheVariants as flows
 
 mapped : {B : Type 0} (f : Item → B) (items : List Item) (q : ℕ) (x : Item) → slice_get items q ≡ Some x
     → slice_get (map f items) q ≡ Some (f x)

@@ -3,14 +3,14 @@ use Rattle.std.proofs.Common.{◌≡◌, ◌⊎◌, inl, inr, ⊎_elim, ℕ, zer
 use Rattle.std.specs.Prelude.{slice_get, Contains}
 use Rattle.std.proofs.lemmas.Bool.{cases_lt}
 use Rattle.std.proofs.lemmas.Option.{slice_get-get_or, same_Some}
-use Rattle.jc_base.specs.Flow.{flow_of, targets_of, jump_target}
-use Rattle.jc_base.specs.declared.insn.Insn.{Insn}
-use Rattle.jc_base.specs.declared.insn.Flow.{Flow}
-use Rattle.jc_base.specs.declared.kind.State.{State}
-use Rattle.jc_base.specs.declared.body.Body.{Body}
-use Rattle.jc_base.specs.declared.body.FrameAt.{FrameAt}
-use Rattle.jc_base.specs.Held.{Names, Seen, seen}
-use Rattle.jc_base.specs.EntryState.{entry_of}
+use Rattle.jc_methods.specs.Flow.{flow_of, targets_of, jump_target}
+use Rattle.jc_methods.specs.declared.insn.Insn.{Insn}
+use Rattle.jc_methods.specs.declared.insn.Flow.{Flow}
+use Rattle.jc_methods.specs.declared.kind.State.{State}
+use Rattle.jc_methods.specs.declared.body.Body.{Body}
+use Rattle.jc_methods.specs.declared.body.FrameAt.{FrameAt}
+use Rattle.jc_methods.specs.Held.{Names, Seen, seen}
+use Rattle.jc_methods.specs.EntryState.{entry_of}
 use Rattle.jc_after.specs.After.{after_of}
 use Rattle.jc_kinds.specs.States.{frames_of, frame_at, falls_at, or_else, state_of}
 use Rattle.jc_plan.specs.declared.branch.Branch.{Branch}
@@ -28,8 +28,8 @@ use Rattle.jc_emit.proofs.Told.{main_by, hop_at}
 use Rattle.jc_emit.proofs.StraddlingLaws.{frame_within}
 use Rattle.jc_emit.proofs.LocalLaws.{land_lands, lead_lands, late_lands, arms_land, next_within, listed_within}
 use Rattle.jc_emit.proofs.TwinPremises.{Premises, frame_found, frame_asked, leads_grow, frames_rise}
-use Rattle.jc_base.specs.declared.insn.Flow.TheVariants as flows
-use Rattle.jc_base.proofs.TestLaws.{none_in, which_in}
+use Rattle.jc_methods.specs.declared.insn.Flow.TheVariants as flows
+use Rattle.jc_bytes.proofs.TestLaws.{none_in, which_in}
 use Rattle.jc_after.specs.After as after
 
 module _ (names new_names : Names) (states : List State) (first : ℕ) (wide : Bool) (call : ℕ) (b b' : Body) (p : Premises names new_names states first wide call b b') where

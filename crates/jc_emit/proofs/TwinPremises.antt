@@ -4,27 +4,27 @@ use Rattle.std.specs.Prelude.{slice_get, option_map, Contains}
 use Rattle.std.proofs.lemmas.Bool.{cases_lt, eq-eqb, ne_eqb, eqb-true}
 use Rattle.std.proofs.lemmas.List.{map-id, length-map}
 use Rattle.std.proofs.lemmas.Option.{slice_get-map, slice_get-get_or, slice_get_past, slice_get_within, get_or_from_slice_get, none-some}
-use Rattle.jc_base.specs.Flow.{flow_of, inverse_of, jump_target}
-use Rattle.jc_base.specs.Insn.{with_places, arm_with_place, IsWellFormed}
-use Rattle.jc_base.specs.InsnForm.{form_of}
-use Rattle.jc_base.specs.InsnUse.{pool_place, Suits}
-use Rattle.jc_base.specs.WellMade.{IsWellMadeOfAnySize, HasUse, what_used, AreFramesFrom}
-use Rattle.jc_base.specs.Widened.{inverted as inverse_jump}
-use Rattle.jc_base.specs.declared.insn.Insn.{Insn}
-use Rattle.jc_base.specs.declared.insn.Arm.{Arm}
-use Rattle.jc_base.specs.declared.insn.Flow.{Flow}
-use Rattle.jc_base.specs.declared.kind.State.{State}
-use Rattle.jc_base.specs.declared.body.Body.{Body}
-use Rattle.jc_base.specs.declared.body.FrameAt.{FrameAt}
-use Rattle.jc_base.specs.declared.body.What.{What}
-use Rattle.jc_base.specs.Held.{Names, Seen, seen, seen_at}
+use Rattle.jc_methods.specs.Flow.{flow_of, inverse_of, jump_target}
+use Rattle.jc_methods.specs.Insn.{with_places, arm_with_place, IsWellFormed}
+use Rattle.jc_methods.specs.InsnForm.{form_of}
+use Rattle.jc_methods.specs.InsnUse.{pool_place, Suits}
+use Rattle.jc_methods.specs.WellMade.{IsWellMadeOfAnySize, HasUse, what_used, AreFramesFrom}
+use Rattle.jc_methods.specs.Widened.{inverted as inverse_jump}
+use Rattle.jc_methods.specs.declared.insn.Insn.{Insn}
+use Rattle.jc_methods.specs.declared.insn.Arm.{Arm}
+use Rattle.jc_methods.specs.declared.insn.Flow.{Flow}
+use Rattle.jc_methods.specs.declared.kind.State.{State}
+use Rattle.jc_methods.specs.declared.body.Body.{Body}
+use Rattle.jc_methods.specs.declared.body.FrameAt.{FrameAt}
+use Rattle.jc_methods.specs.declared.body.What.{What}
+use Rattle.jc_methods.specs.Held.{Names, Seen, seen, seen_at}
 use Rattle.jc_kinds.specs.States.{frames_of, frame_at}
 use Rattle.jc_kinds.specs.Checked.{Checked, HasFrame}
 use Rattle.jc_kinds.specs.Answers.{AreStates}
 use Rattle.jc_kinds.proofs.StateShiftLaws.{frame_is}
 use Rattle.jc_after.specs.Shift.{with_slot, shifted, IsImage, led, inverted, HasImages}
-use Rattle.jc_base.proofs.TestLaws.{which_in, none_in}
-use Rattle.jc_base.specs.FrameOrder.{RiseFrom}
+use Rattle.jc_bytes.proofs.TestLaws.{which_in, none_in}
+use Rattle.jc_methods.specs.FrameOrder.{RiseFrom}
 use Rattle.jc_plan.specs.Probed.{probe_of}
 use Rattle.jc_plan.specs.Plan.{lead_probe}
 use Rattle.jc_emit.specs.Sizes.{insn_at, early_probe, late_probe, arms_at}
@@ -43,9 +43,9 @@ use Rattle.jc_emit.proofs.Known.{code_known, images_known, lands_known, leads_kn
 use Rattle.jc_emit.proofs.LocalLaws.{test_is}
 use Rattle.jc_emit.proofs.InverseLaws.{twice_inverse}
 use Rattle.jc_emit.proofs.TestForms.{test_op}
-use Rattle.jc_base.specs.declared.form.Form.TheVariants as forms
-use Rattle.jc_base.specs.declared.insn.Insn.TheVariants as insns
-use Rattle.jc_base.specs.declared.insn.Flow.TheVariants as flows
+use Rattle.jc_methods.specs.declared.form.Form.TheVariants as forms
+use Rattle.jc_methods.specs.declared.insn.Insn.TheVariants as insns
+use Rattle.jc_methods.specs.declared.insn.Flow.TheVariants as flows
 use Rattle.jc_after.specs.After as after
 use Rattle.jc_emit.specs.Marks as marks
 

@@ -2,15 +2,15 @@
 use Rattle.std.proofs.Common.{◌≡◌, ◌⊎◌, inl, inr, ⊎_elim, ℕ, suc, ◌+◌, ◌<◌, ◌≤◌, Bool, true, false, List, [], ◌∷◌, ◌++◌, length, Option, Some, None, refl, sym, ap, ◌∙◌, subst, arith, add-one, nat_eq, if◌then◌else◌}
 use Rattle.std.specs.Prelude.{slice_get, Contains}
 use Rattle.std.proofs.lemmas.Bool.{cases_lt, eqb-true}
-use Rattle.jc_base.specs.FirstSeen.{first_seen}
-use Rattle.jc_base.specs.Flow.{flow_of, targets_of, FallsThrough, jump_target}
-use Rattle.jc_base.specs.Insn.{with_places, IsWellFormed}
-use Rattle.jc_base.specs.Widened.{goto, inverted as inverse_jump}
-use Rattle.jc_base.specs.declared.insn.Insn.{Insn}
-use Rattle.jc_base.specs.declared.insn.Flow.{Flow}
-use Rattle.jc_base.specs.declared.kind.State.{State}
-use Rattle.jc_base.specs.declared.body.Body.{Body}
-use Rattle.jc_base.specs.Held.{Names, Seen, seen, slots}
+use Rattle.jc_bytes.specs.FirstSeen.{first_seen}
+use Rattle.jc_methods.specs.Flow.{flow_of, targets_of, FallsThrough, jump_target}
+use Rattle.jc_methods.specs.Insn.{with_places, IsWellFormed}
+use Rattle.jc_methods.specs.Widened.{goto, inverted as inverse_jump}
+use Rattle.jc_methods.specs.declared.insn.Insn.{Insn}
+use Rattle.jc_methods.specs.declared.insn.Flow.{Flow}
+use Rattle.jc_methods.specs.declared.kind.State.{State}
+use Rattle.jc_methods.specs.declared.body.Body.{Body}
+use Rattle.jc_methods.specs.Held.{Names, Seen, seen, slots}
 use Rattle.jc_after.specs.Table.{table, forms_at}
 use Rattle.jc_after.specs.After.{insn_at, ground_of, returns_of, after_of}
 use Rattle.jc_kinds.specs.States.{frames_of, frame_at, state_of}
@@ -18,14 +18,14 @@ use Rattle.jc_kinds.specs.Fits.{FitEach, FitsThere}
 use Rattle.jc_kinds.specs.Checked.{JumpsTo, HasFrame}
 use Rattle.jc_after.specs.Shift.{with_slot, shifted}
 use Rattle.jc_after.proofs.ApplyLaws.{after_is}
-use Rattle.jc_base.proofs.TestLaws.{which_in, none_in, first_in, later_in, of_map}
+use Rattle.jc_bytes.proofs.TestLaws.{which_in, none_in, first_in, later_in, of_map}
 use Rattle.jc_kinds.proofs.EntryShiftLaws.{fits_shift}
 use Rattle.jc_plan.specs.declared.branch.Branch.{Branch}
 use Rattle.jc_plan.specs.Edges.{branches_by}
 use Rattle.jc_plan.specs.Probed.{probe_of}
 use Rattle.jc_plan.specs.Plan.{lead_probe}
 use Rattle.jc_plan.proofs.ListedLaws.{all_listed}
-use Rattle.jc_base.proofs.FirstSeenLaws.{first_seen_listed}
+use Rattle.jc_bytes.proofs.FirstSeenLaws.{first_seen_listed}
 use Rattle.jc_emit.proofs.PlacedLaws.{no_fall_goto, never, only, inverse_targets, placed_targets, targets_placed, no_targets, goto_stops, switch_stops}
 use Rattle.jc_emit.proofs.StateLaws.{slots-renamed}
 use Rattle.jc_emit.specs.Sizes.{early_probe, late_probe, arms_at, probe_size, hop_size, arm_sizes, wide_by}
@@ -44,8 +44,8 @@ use Rattle.jc_emit.proofs.TwinPremises.{Premises, stands, code_long, asked_frame
 use Rattle.jc_emit.proofs.TwinPlaces.{no_frame, narrow, tests_size, asked_piece, arms_switch, arms_are}
 use Rattle.jc_emit.proofs.TwinStates.{fit_there, frame_state_is, next_state, state_fits_same, fits_same, after_b, A, push_is, image_after, S_low, A_low, S_long, goes, next_is, probe_runs, with_array, with_id, with_one}
 use Rattle.jc_emit.proofs.TwinLeads.{slot_flow, placed_flow, framed, fits_branch, landing_frame, led_long, stopped_frame, inverse_frame, wide_frame, all_led, all_landed, all_imaged}
-use Rattle.jc_base.specs.declared.insn.Insn.TheVariants as insns
-use Rattle.jc_base.specs.declared.insn.Flow.TheVariants as flows
+use Rattle.jc_methods.specs.declared.insn.Insn.TheVariants as insns
+use Rattle.jc_methods.specs.declared.insn.Flow.TheVariants as flows
 use Rattle.jc_emit.specs.Sizes as sizes
 
 module _ (names new_names : Names) (states : List State) (first : ℕ) (wide : Bool) (call : ℕ) (b b' : Body) (p : Premises names new_names states first wide call b b') where

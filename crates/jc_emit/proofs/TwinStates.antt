@@ -7,17 +7,17 @@ use Rattle.std.specs.Prelude.{slice_get, IsSome}
 use Rattle.std.proofs.lemmas.Bool.{leb-true}
 use Rattle.std.proofs.lemmas.List.{length-map}
 use Rattle.std.proofs.lemmas.List.Edits.{get_or-insert_at}
-use Rattle.jc_base.specs.Flow.{flow_of, FallsThrough}
-use Rattle.jc_base.specs.DescriptorTypes.{types_from, rest_from}
-use Rattle.jc_base.specs.Descriptor.{FieldType}
-use Rattle.jc_base.specs.WellMade.{kind_slots}
-use Rattle.jc_base.specs.declared.insn.Insn.{Insn}
-use Rattle.jc_base.specs.declared.kind.Kind.{Kind}
-use Rattle.jc_base.specs.declared.kind.State.{State}
-use Rattle.jc_base.specs.declared.body.Body.{Body}
-use Rattle.jc_base.specs.declared.body.Use.{Use}
-use Rattle.jc_base.specs.Held.{Names, Held, top, int, Seen, held, seen, width, slots}
-use Rattle.jc_base.specs.EntryState.{entry_of, entry_seen}
+use Rattle.jc_methods.specs.Flow.{flow_of, FallsThrough}
+use Rattle.jc_methods.specs.DescriptorTypes.{types_from, rest_from}
+use Rattle.jc_bytes.specs.Descriptor.{FieldType}
+use Rattle.jc_methods.specs.WellMade.{kind_slots}
+use Rattle.jc_methods.specs.declared.insn.Insn.{Insn}
+use Rattle.jc_methods.specs.declared.kind.Kind.{Kind}
+use Rattle.jc_methods.specs.declared.kind.State.{State}
+use Rattle.jc_methods.specs.declared.body.Body.{Body}
+use Rattle.jc_methods.specs.declared.body.Use.{Use}
+use Rattle.jc_methods.specs.Held.{Names, Held, top, int, Seen, held, seen, width, slots}
+use Rattle.jc_methods.specs.EntryState.{entry_of, entry_seen}
 use Rattle.jc_after.specs.Wants.{accepts}
 use Rattle.jc_after.specs.Step.{kind, moves, apply, put_local, with_stack, limited}
 use Rattle.jc_after.specs.Table.{form, one, table, forms_at}
@@ -38,10 +38,10 @@ use Rattle.jc_emit.proofs.Built.{prelude_at}
 use Rattle.jc_emit.proofs.StepLaws.{state, moves_one, moves_gives, limited_is, slots-append}
 use Rattle.jc_emit.proofs.TwinPremises.{Premises, stands, images}
 use Rattle.jc_emit.proofs.TwinPlaces.{state_b, no_frame}
-use Rattle.jc_base.specs.declared.insn.Insn.TheVariants as insns
-use Rattle.jc_base.specs.declared.insn.Flow.TheVariants as flows
-use Rattle.jc_base.specs.declared.kind.Kind.TheVariants as kinds
-use Rattle.jc_base.proofs.EachLaws.{AllFrom, all_from}
+use Rattle.jc_methods.specs.declared.insn.Insn.TheVariants as insns
+use Rattle.jc_methods.specs.declared.insn.Flow.TheVariants as flows
+use Rattle.jc_methods.specs.declared.kind.Kind.TheVariants as kinds
+use Rattle.jc_bytes.proofs.EachLaws.{AllFrom, all_from}
 use Rattle.jc_after.specs.declared.want.Want.TheVariants as wants
 use Rattle.jc_after.proofs.KeepLaws.{step_slots}
 use Rattle.jc_after.proofs.LeaveLaws.{insn_of as step_at}

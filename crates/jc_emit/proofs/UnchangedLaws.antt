@@ -4,17 +4,17 @@ use Rattle.std.specs.Prelude.{slice_get, Contains}
 use Rattle.std.specs.List.{AllByRecursion}
 use Rattle.std.proofs.lemmas.Bool.{cases_lt}
 use Rattle.std.proofs.lemmas.Option.{slice_get-get_or, slice_get_within}
-use Rattle.jc_base.specs.PlainLists.{map_from}
-use Rattle.jc_base.specs.FirstSeen.{first_seen}
-use Rattle.jc_base.specs.Flow.{flow_of, targets_of, FallsThrough, jump_target}
-use Rattle.jc_base.specs.Insn.{with_places, arm_with_place}
-use Rattle.jc_base.specs.WellMade.{IsCode}
-use Rattle.jc_base.specs.declared.insn.Insn.{Insn}
-use Rattle.jc_base.specs.declared.insn.Arm.{Arm}
-use Rattle.jc_base.specs.declared.insn.Flow.{Flow}
+use Rattle.jc_bytes.specs.PlainLists.{map_from}
+use Rattle.jc_bytes.specs.FirstSeen.{first_seen}
+use Rattle.jc_methods.specs.Flow.{flow_of, targets_of, FallsThrough, jump_target}
+use Rattle.jc_methods.specs.Insn.{with_places, arm_with_place}
+use Rattle.jc_methods.specs.WellMade.{IsCode}
+use Rattle.jc_methods.specs.declared.insn.Insn.{Insn}
+use Rattle.jc_methods.specs.declared.insn.Arm.{Arm}
+use Rattle.jc_methods.specs.declared.insn.Flow.{Flow}
 use Rattle.jc_plan.specs.declared.branch.Branch.{Branch}
 use Rattle.jc_plan.specs.Edges.{branches_by}
-use Rattle.jc_base.proofs.FirstSeenLaws.{first_seen_listed}
+use Rattle.jc_bytes.proofs.FirstSeenLaws.{first_seen_listed}
 use Rattle.jc_plan.proofs.ListedLaws.{all_listed}
 use Rattle.jc_plan.proofs.ByBranchLaws.{last_parts}
 use Rattle.jc_emit.specs.Sizes.{insn_at, early_by}
@@ -23,8 +23,8 @@ use Rattle.jc_emit.specs.Items.{Item, image}
 use Rattle.jc_emit.specs.Local.{Lands, Ok, OkImage, AllOk, TestsAlike, unchanged_items}
 use Rattle.jc_emit.proofs.Others.{tests_target, jumps_target, arm_listed}
 use Rattle.jc_emit.proofs.LocalLaws.{one_place}
-use Rattle.jc_base.specs.declared.insn.Insn.TheVariants as insns
-use Rattle.jc_base.specs.declared.insn.Flow.TheVariants as flows
+use Rattle.jc_methods.specs.declared.insn.Insn.TheVariants as insns
+use Rattle.jc_methods.specs.declared.insn.Flow.TheVariants as flows
 
 arms_same : (arms : List Arm) → map (arm_with_place (λ to. to)) arms ≡ arms
 arms_same [] = refl

@@ -1,7 +1,7 @@
 -- The code that the function gives is that of a twin.
 use Rattle.std.proofs.Common.{ℕ, Bool, map, sym, subst}
-use Rattle.jc_base.specs.WellMade.{IsCode}
-use Rattle.jc_base.specs.declared.body.Body.{Body}
+use Rattle.jc_methods.specs.WellMade.{IsCode}
+use Rattle.jc_methods.specs.declared.body.Body.{Body}
 use Rattle.jc_emit.specs.Marks.{land_place, lead_place}
 use Rattle.jc_emit.specs.TwinCode.{Sentences, IsTwinCode}
 use Rattle.jc_emit.specs.Items.{marks_of_items, insn_of, twin_items, image_of, land_of, lead_of}

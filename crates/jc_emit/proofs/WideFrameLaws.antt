@@ -3,19 +3,19 @@ use Rattle.std.proofs.Common.{◌≡◌, inr, ⊎_elim, ℕ, suc, ◌+◌, ◌<�
 use Rattle.std.specs.Prelude.{Contains, is_some, is_none, slice_index_or}
 use Rattle.std.proofs.lemmas.Bool.{and_parts, and_from, or_cases, or_left, cases_lt, both_ways, not-true, not_from_false, false_from_ne_true}
 use Rattle.std.proofs.lemmas.List.Elements.{Contains-append_cases}
-use Rattle.jc_base.specs.PlainLists.{pieces}
-use Rattle.jc_base.specs.Flow.{flow_of}
-use Rattle.jc_base.specs.WellMade.{IsCode, AreFramesFrom, IsWellMadeOfAnySize}
-use Rattle.jc_base.specs.Held.{seen}
-use Rattle.jc_base.specs.declared.insn.Flow.{Flow}
-use Rattle.jc_base.specs.declared.kind.State.{State}
-use Rattle.jc_base.specs.declared.body.Body.{Body}
-use Rattle.jc_base.specs.declared.body.FrameAt.{FrameAt}
-use Rattle.jc_base.specs.declared.emitted.Emitted.{Emitted}
+use Rattle.jc_bytes.specs.PlainLists.{pieces}
+use Rattle.jc_methods.specs.Flow.{flow_of}
+use Rattle.jc_methods.specs.WellMade.{IsCode, AreFramesFrom, IsWellMadeOfAnySize}
+use Rattle.jc_methods.specs.Held.{seen}
+use Rattle.jc_methods.specs.declared.insn.Flow.{Flow}
+use Rattle.jc_methods.specs.declared.kind.State.{State}
+use Rattle.jc_methods.specs.declared.body.Body.{Body}
+use Rattle.jc_methods.specs.declared.body.FrameAt.{FrameAt}
+use Rattle.jc_methods.specs.declared.emitted.Emitted.{Emitted}
 use Rattle.jc_plan.specs.declared.branch.Branch.{Branch}
 use Rattle.jc_plan.specs.Probed.{probe_of}
 use Rattle.jc_plan.specs.Plan.{lead_probe}
-use Rattle.jc_base.specs.FrameOrder.{RiseFrom}
+use Rattle.jc_methods.specs.FrameOrder.{RiseFrom}
 use Rattle.jc_after.specs.Shift.{shifted}
 use Rattle.jc_emit.specs.Shift.{probe_array_class}
 use Rattle.jc_emit.specs.Sizes.{insn_at, late_probe, arms_by, arms_at, probe_size, hop_size, arm_sizes, behind_size}
@@ -32,8 +32,8 @@ use Rattle.jc_emit.proofs.RowLaws.{total_grows}
 use Rattle.jc_emit.proofs.WholeLaws.{code_told}
 use Rattle.jc_emit.proofs.FrameLists.{rises_from, rises_pieces, are_rising, rises_within, in_piece, of_piece, if_listed, listed_if, rises_if}
 use Rattle.jc_emit.proofs.FrameLaws.{arms_rise, part_rises, landing, none_is, seen_is, frames_told}
-use Rattle.jc_base.specs.declared.insn.Flow.TheVariants as flows
-use Rattle.jc_base.proofs.TestLaws.{none_in}
+use Rattle.jc_methods.specs.declared.insn.Flow.TheVariants as flows
+use Rattle.jc_bytes.proofs.TestLaws.{none_in}
 
 module _ (b : Body) (first : ℕ) (states : List State) (array : ℕ) (names : List (List ℕ)) (is_code : IsCode b.code) (are_frames : AreFramesFrom 0 b.code b.max_locals b.max_stack b.frames)
     (fit : (f : FrameAt) → Contains b.frames f → state_at states f.at ≡ f.state) (named : slice_index_or names array ([]) ≡ probe_array_class) where

@@ -2,16 +2,16 @@
 use Rattle.std.proofs.Common.{◌≡◌, ◌⊎◌, inl, inr, ⊎_elim, ℕ, ◌+◌, ◌-◌, ◌<◌, true, false, ◌&&◌, List, [], ◌∷◌, map, length, Option, Some, None, refl, sym, ap, ap₂, ◌∙◌, subst, arith, add-one}
 use Rattle.std.specs.Prelude.{Contains, insert, is_none, slice_index_or}
 use Rattle.std.proofs.lemmas.Bool.{and_parts, or_left, cases_Bool, cases_lt, not-false}
-use Rattle.jc_base.specs.PlainLists.{pieces}
-use Rattle.jc_base.specs.Flow.{flow_of}
-use Rattle.jc_base.specs.WellMade.{IsCode, AreFramesFrom, IsWellMadeOfAnySize}
-use Rattle.jc_base.specs.Held.{Held, held, seen, object, uninit, top, int, float, double, long, null, uninit_this}
-use Rattle.jc_base.specs.declared.kind.State.{State}
-use Rattle.jc_base.specs.declared.body.Body.{Body}
-use Rattle.jc_base.specs.declared.body.FrameAt.{FrameAt}
-use Rattle.jc_base.specs.declared.insn.Flow.{Flow}
+use Rattle.jc_bytes.specs.PlainLists.{pieces}
+use Rattle.jc_methods.specs.Flow.{flow_of}
+use Rattle.jc_methods.specs.WellMade.{IsCode, AreFramesFrom, IsWellMadeOfAnySize}
+use Rattle.jc_methods.specs.Held.{Held, held, seen, object, uninit, top, int, float, double, long, null, uninit_this}
+use Rattle.jc_methods.specs.declared.kind.State.{State}
+use Rattle.jc_methods.specs.declared.body.Body.{Body}
+use Rattle.jc_methods.specs.declared.body.FrameAt.{FrameAt}
+use Rattle.jc_methods.specs.declared.insn.Flow.{Flow}
 use Rattle.jc_plan.specs.declared.branch.Branch.{Branch}
-use Rattle.jc_base.specs.FrameOrder.{RiseFrom}
+use Rattle.jc_methods.specs.FrameOrder.{RiseFrom}
 use Rattle.jc_plan.specs.Probed.{probe_of}
 use Rattle.jc_plan.specs.Plan.{lead_probe}
 use Rattle.jc_after.specs.Shift.{renamed, shifted}
@@ -29,8 +29,8 @@ use Rattle.jc_emit.proofs.FrameLists.{of_piece, listed_if}
 use Rattle.jc_emit.proofs.FrameLaws.{all_moved, landing, none_is, frames_told, seen_is}
 use Rattle.jc_emit.proofs.WideFrameLaws.{each_behind, behind_is, wide_frame}
 use Rattle.jc_emit.proofs.WidenedLaws.{W, lead_is, land_is, arm_places, inside, within_main, behind_end, place_zero, main_test}
-use Rattle.jc_base.specs.declared.insn.Flow.TheVariants as flows
-use Rattle.jc_base.proofs.TestLaws.{none_in}
+use Rattle.jc_methods.specs.declared.insn.Flow.TheVariants as flows
+use Rattle.jc_bytes.proofs.TestLaws.{none_in}
 
 -- ---- states
 

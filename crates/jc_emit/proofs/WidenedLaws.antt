@@ -2,13 +2,13 @@
 use Rattle.std.proofs.Common.{◌≡◌, inl, inr, ⊎_elim, ℕ, zero, suc, ◌+◌, ◌-◌, ◌<◌, ◌≤◌, Bool, true, false, cond, nat_eq, List, [], ◌∷◌, ◌++◌, map, length, Option, Some, None, refl, sym, ap, ap₂, ◌∙◌, subst, arith, zero-add, append_assoc, append-nil}
 use Rattle.std.proofs.lemmas.List.{map-append, length-map}
 use Rattle.std.proofs.lemmas.Bool.{cases_lt}
-use Rattle.jc_base.specs.PlainLists.{pieces}
-use Rattle.jc_base.specs.Flow.{flow_of, jump_target}
-use Rattle.jc_base.specs.Insn.{with_places, IsWellFormed}
-use Rattle.jc_base.specs.WellMade.{IsCode}
-use Rattle.jc_base.specs.declared.insn.Insn.{Insn}
-use Rattle.jc_base.specs.declared.insn.Flow.{Flow}
-use Rattle.jc_base.specs.declared.body.Body.{Body}
+use Rattle.jc_bytes.specs.PlainLists.{pieces}
+use Rattle.jc_methods.specs.Flow.{flow_of, jump_target}
+use Rattle.jc_methods.specs.Insn.{with_places, IsWellFormed}
+use Rattle.jc_methods.specs.WellMade.{IsCode}
+use Rattle.jc_methods.specs.declared.insn.Insn.{Insn}
+use Rattle.jc_methods.specs.declared.insn.Flow.{Flow}
+use Rattle.jc_methods.specs.declared.body.Body.{Body}
 use Rattle.jc_plan.specs.declared.branch.Branch.{Branch}
 use Rattle.jc_plan.specs.Probed.{probe_of}
 use Rattle.jc_plan.specs.Plan.{lead_probe}
@@ -16,7 +16,7 @@ use Rattle.jc_after.specs.Shift.{with_slot}
 use Rattle.jc_emit.proofs.PlacedLaws.{flow_push, places_push, flow_shifted, places_on, places_out, places_twice}
 use Rattle.jc_emit.specs.Sizes.{insn_at, early_probe, late_probe, arms_at, probe_size, hop_size, arm_sizes, behind_size}
 use Rattle.jc_emit.specs.Marks.{aload, iconst_1, bastore, push}
-use Rattle.jc_base.specs.Widened.{goto, inverted, widths_by, wide_place, widened_by, widened_from, widened}
+use Rattle.jc_methods.specs.Widened.{goto, inverted, widths_by, wide_place, widened_by, widened_from, widened}
 use Rattle.jc_emit.specs.TwinCode.{to_of, here_or, arm_place}
 use Rattle.jc_emit.specs.Items.{Item, insn_of, prelude, probe, lead_part, early_part, hop_part, arm_parts, segment_size, lead_of, land_of, image_of, tests_part, image_part, segment, twin_items}
 use Rattle.jc_emit.proofs.Built.{length-lead, length-early, length-arms, size_is, size_tests, size_switches, sized}
@@ -24,9 +24,9 @@ use Rattle.jc_emit.proofs.PiecesLaws.{length-pieces}
 use Rattle.jc_emit.proofs.Ends.{lead_none, lead_past}
 use Rattle.jc_emit.proofs.LocalLaws.{test_is}
 use Rattle.jc_emit.proofs.InverseLaws.{inverse_tests_too}
-use Rattle.jc_base.specs.declared.insn.Insn.TheVariants as insns
-use Rattle.jc_base.specs.declared.insn.Flow.TheVariants as flows
-use Rattle.jc_base.proofs.PlacedInsnLaws.{flow_placed}
+use Rattle.jc_methods.specs.declared.insn.Insn.TheVariants as insns
+use Rattle.jc_methods.specs.declared.insn.Flow.TheVariants as flows
+use Rattle.jc_methods.proofs.PlacedInsnLaws.{flow_placed}
 
 -- ---- lists
 

@@ -1,7 +1,7 @@
 -- Items that are put behind one another.
 use Rattle.std.proofs.Common.{◌≡◌, ℕ, ◌+◌, List, [], ◌++◌, map, sym, ap, ◌∙◌, subst, add-one, append_assoc, append-nil}
 use Rattle.std.proofs.lemmas.List.{map-append}
-use Rattle.jc_base.specs.PlainLists.{pieces}
+use Rattle.jc_bytes.specs.PlainLists.{pieces}
 use Rattle.jc_emit.specs.Items.{Item, insn_of, at_of, own_of, extra_of}
 use Rattle.jc_emit.specs.Writing.{Grows}
 use Rattle.jc_emit.specs.Written.{Shows}

@@ -1,14 +1,14 @@
 -- The field and the method that instrumentation adds to a class.
 use Rattle.std.specs.Prelude.{◌≡◌, ℕ, ℤ, List, [], ◌∷◌, Some, codes}
-use Rattle.jc_base.specs.Held.{Names, object, Seen, seen}
-use Rattle.jc_base.specs.WellMade.{what_used}
-use Rattle.jc_base.specs.declared.opcode.TheConstants as ops
-use Rattle.jc_base.specs.declared.insn.Insn.{Insn}
-use Rattle.jc_base.specs.declared.body.Body.{Body}
-use Rattle.jc_base.specs.declared.body.FrameAt.{FrameAt}
+use Rattle.jc_methods.specs.Held.{Names, object, Seen, seen}
+use Rattle.jc_methods.specs.WellMade.{what_used}
+use Rattle.jc_methods.specs.Opcode as opcode
+use Rattle.jc_methods.specs.declared.insn.Insn.{Insn}
+use Rattle.jc_methods.specs.declared.body.Body.{Body}
+use Rattle.jc_methods.specs.declared.body.FrameAt.{FrameAt}
 use Rattle.jc_emit.specs.Marks.{push}
-use Rattle.jc_base.specs.declared.insn.Insn.TheVariants as insns
-use Rattle.jc_base.specs.declared.body.What.TheVariants as whats
+use Rattle.jc_methods.specs.declared.insn.Insn.TheVariants as insns
+use Rattle.jc_methods.specs.declared.body.What.TheVariants as whats
 
 -- ---- names (JVM Specification 4.3, 4.5, 4.6)
 
@@ -63,18 +63,18 @@ end_place = 10
 -- probes, and put there (JVM Specification 6.5).
 abbrev pub init_code : InitPlaces → (count : ℕ) → List Insn
 init_code p count =
-    insns.Member ops.GETSTATIC p.field
-    ∷ insns.Simple ops.DUP
-    ∷ insns.Jump ops.IFNONNULL end_place
-    ∷ insns.Simple ops.POP
+    insns.Member opcode.getstatic p.field
+    ∷ insns.Simple opcode.dup
+    ∷ insns.Jump opcode.ifnonnull end_place
+    ∷ insns.Simple opcode.pop
     -- ldc2_w, ldc_w
     ∷ insns.Constant2 p.id
     ∷ insns.Constant p.name
     ∷ push count
-    ∷ insns.Member ops.INVOKESTATIC p.fetch
-    ∷ insns.Simple ops.DUP
-    ∷ insns.Member ops.PUTSTATIC p.field
-    ∷ insns.Simple ops.ARETURN
+    ∷ insns.Member opcode.invokestatic p.fetch
+    ∷ insns.Simple opcode.dup
+    ∷ insns.Member opcode.putstatic p.field
+    ∷ insns.Simple opcode.areturn
     ∷ []
 
 abbrev pub init_stack : ℕ

@@ -1,11 +1,11 @@
 -- The probes of an instruction, read off the list of the probes of its branches.
 use Rattle.std.specs.Prelude.{◌≡◌, ◌<◌, length, ⊤, ℕ, ◌+◌, ◌≤◌, List, [], ◌∷◌, Option, Some, None, slice_index, slice_index_or, nat_eq, if◌then◌else◌}
 use Rattle.std.specs.List.{sum_by}
-use Rattle.jc_base.specs.Insn.{with_places}
-use Rattle.jc_base.specs.Widened.{inverted}
-use Rattle.jc_base.specs.declared.insn.Insn.{Insn}
-use Rattle.jc_base.specs.declared.insn.Flow.{Flow}
-use Rattle.jc_base.specs.declared.insn.Flow.TheVariants as flows
+use Rattle.jc_methods.specs.Insn.{with_places}
+use Rattle.jc_methods.specs.Widened.{inverted}
+use Rattle.jc_methods.specs.declared.insn.Insn.{Insn}
+use Rattle.jc_methods.specs.declared.insn.Flow.{Flow}
+use Rattle.jc_methods.specs.declared.insn.Flow.TheVariants as flows
 use Rattle.jc_emit.specs.declared.places.Places.{Places}
 use Rattle.jc_emit.specs.Sizes.{hop_size}
 use Rattle.jc_emit.specs.TwinCode.{here_or}

@@ -1,12 +1,12 @@
 -- What the frames of instrumented code are made from.
 use Rattle.std.specs.Prelude.{◌≡◌, ℕ, ◌+◌, ◌-◌, ◌<◌, ◌≤◌, Bool, false, ⊤, List, [], ◌∷◌, ◌++◌, length, take, Option, All, nat_eq, is_some, slice_index_or}
 use Rattle.std.specs.List.{list_any}
-use Rattle.jc_base.specs.WellMade.{IsCode, IsState}
-use Rattle.jc_base.specs.declared.kind.Kind.{Kind}
-use Rattle.jc_base.specs.declared.kind.Kind.TheVariants as kinds
-use Rattle.jc_base.specs.declared.kind.State.{State}
-use Rattle.jc_base.specs.declared.body.Body.{Body}
-use Rattle.jc_base.specs.declared.body.FrameAt.{FrameAt}
+use Rattle.jc_methods.specs.WellMade.{IsCode, IsState}
+use Rattle.jc_methods.specs.declared.kind.Kind.{Kind}
+use Rattle.jc_methods.specs.declared.kind.Kind.TheVariants as kinds
+use Rattle.jc_methods.specs.declared.kind.State.{State}
+use Rattle.jc_methods.specs.declared.body.Body.{Body}
+use Rattle.jc_methods.specs.declared.body.FrameAt.{FrameAt}
 use Rattle.jc_plan.specs.Plan.{plan_of}
 use Rattle.jc_emit.specs.declared.frames.Framing.{Framing}
 use Rattle.jc_emit.specs.Sizes.{hop_size}

@@ -1,20 +1,20 @@
 -- The instructions of a twin, each with what it is: a function of the body.
 use Rattle.std.specs.Prelude.{ℕ, ◌+◌, Bool, true, false, List, [], ◌∷◌, ◌++◌, map, length, Option, Some, None}
-use Rattle.jc_base.specs.PlainLists.{pieces, total}
-use Rattle.jc_base.specs.Flow.{flow_of, jump_target}
-use Rattle.jc_base.specs.Insn.{with_places}
-use Rattle.jc_base.specs.declared.insn.Insn.{Insn}
-use Rattle.jc_base.specs.declared.insn.Flow.{Flow}
-use Rattle.jc_base.specs.declared.body.Body.{Body}
+use Rattle.jc_bytes.specs.PlainLists.{pieces, total}
+use Rattle.jc_methods.specs.Flow.{flow_of, jump_target}
+use Rattle.jc_methods.specs.Insn.{with_places}
+use Rattle.jc_methods.specs.declared.insn.Insn.{Insn}
+use Rattle.jc_methods.specs.declared.insn.Flow.{Flow}
+use Rattle.jc_methods.specs.declared.body.Body.{Body}
 use Rattle.jc_plan.specs.declared.branch.Branch.{Branch}
 use Rattle.jc_plan.specs.Probed.{probe_of}
 use Rattle.jc_plan.specs.Plan.{lead_probe}
 use Rattle.jc_after.specs.Shift.{with_slot}
 use Rattle.jc_emit.specs.Sizes.{insn_at, early_probe, late_probe, arms_at, probe_size, behind_size}
 use Rattle.jc_emit.specs.Marks.{Marks, aload, astore, invokestatic, iconst_1, bastore, push}
-use Rattle.jc_base.specs.Widened.{goto, inverted}
+use Rattle.jc_methods.specs.Widened.{goto, inverted}
 use Rattle.jc_emit.specs.TwinCode.{to_of, arm_place}
-use Rattle.jc_base.specs.declared.insn.Flow.TheVariants as flows
+use Rattle.jc_methods.specs.declared.insn.Flow.TheVariants as flows
 
 -- One instruction of a twin, with the instruction of the body to which it belongs. A probe is late where its edge was
 -- taken before it, and not where it stands in front of the goto, return or athrow. An image has the probe that was

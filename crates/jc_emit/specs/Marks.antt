@@ -1,9 +1,9 @@
 -- What is said of each instruction of an instrumented method, and where those stand that the method had.
 use Rattle.std.specs.Prelude.{◌≡◌, ℕ, zero, suc, ◌+◌, ◌-◌, Bool, true, false, List, [], ◌∷◌, Some, pos, nat_le, if◌then◌else◌, slice_get}
-use Rattle.jc_base.specs.declared.opcode.TheConstants as ops
-use Rattle.jc_base.specs.declared.insn.Insn.{Insn}
-use Rattle.jc_base.specs.declared.insn.Insn.TheVariants as insns
-use Rattle.jc_base.specs.declared.body.Body.{Body}
+use Rattle.jc_methods.specs.Opcode as opcode
+use Rattle.jc_methods.specs.declared.insn.Insn.{Insn}
+use Rattle.jc_methods.specs.declared.insn.Insn.TheVariants as insns
+use Rattle.jc_methods.specs.declared.body.Body.{Body}
 use Rattle.jc_plan.specs.Plan.{lead_probe}
 use Rattle.jc_emit.specs.Sizes.{probe_size, early_probe}
 
@@ -27,26 +27,26 @@ pub record Stands (code : List Insn) (m : Marks) (q : ℕ) (insn : Insn) (at : �
 -- ---- the instructions of the prelude and of probes (JVM Specification 6.5)
 
 abbrev pub aload : ℕ → Insn
-aload slot = insns.Local ops.ALOAD slot
+aload slot = insns.Local opcode.aload slot
 
 abbrev pub astore : ℕ → Insn
-astore slot = insns.Local ops.ASTORE slot
+astore slot = insns.Local opcode.astore slot
 
 abbrev pub invokestatic : ℕ → Insn
-invokestatic place = insns.Member ops.INVOKESTATIC place
+invokestatic place = insns.Member opcode.invokestatic place
 
 abbrev pub iconst_1 : Insn
-iconst_1 = insns.Simple ops.ICONST_1
+iconst_1 = insns.Simple opcode.iconst_1
 
 abbrev pub bastore : Insn
-bastore = insns.Simple ops.BASTORE
+bastore = insns.Simple opcode.bastore
 
 -- the shortest instruction that pushes a number: iconst_0 to iconst_5, bipush to 127, and sipush
 abbrev pub push : ℕ → Insn
 push n =
-    if nat_le n 5 then insns.Simple (ops.ICONST_0 + n)
-    else if nat_le n 127 then insns.Push ops.BIPUSH (pos n)
-    else insns.Push ops.SIPUSH (pos n)
+    if nat_le n 5 then insns.Simple (opcode.iconst_0 + n)
+    else if nat_le n 127 then insns.Push opcode.bipush (pos n)
+    else insns.Push opcode.sipush (pos n)
 
 -- A probe stands at a place, and belongs to the instruction `at`: the array of probes stands in local variable v, and
 -- true is stored at the index `id` of it.

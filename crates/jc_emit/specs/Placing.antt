@@ -1,7 +1,7 @@
 -- The places of instrumented code as tables.
 use Rattle.std.specs.Prelude.{◌≡◌, ℕ, ◌+◌, ◌≤◌, false, List, length, slice_index}
-use Rattle.jc_base.specs.declared.body.Body.{Body}
-use Rattle.jc_base.specs.declared.plan.Plan.{Plan}
+use Rattle.jc_methods.specs.declared.body.Body.{Body}
+use Rattle.jc_methods.specs.declared.plan.Plan.{Plan}
 use Rattle.jc_plan.specs.Plan.{plan_of}
 use Rattle.jc_emit.specs.declared.places.Places.{Places}
 use Rattle.jc_emit.specs.Items.{lead_of, land_of, image_of}

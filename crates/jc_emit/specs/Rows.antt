@@ -1,82 +1,82 @@
 -- Twins that were worked by hand from the JVM Specification, chapter 6, and JaCoCo's documentation on control flow.
 use Rattle.std.specs.Prelude.{ℕ, ℤ, Bool, true, false, pos, negsuc, List, [], ◌∷◌}
-use Rattle.jc_base.specs.declared.opcode.TheConstants as ops
-use Rattle.jc_base.specs.declared.insn.Arm.{Arm}
-use Rattle.jc_base.specs.declared.insn.Insn.{Insn}
-use Rattle.jc_base.specs.declared.insn.Insn.TheVariants as insns
-use Rattle.jc_base.specs.declared.kind.Kind.{Kind}
-use Rattle.jc_base.specs.declared.kind.Kind.TheVariants as kinds
-use Rattle.jc_base.specs.declared.kind.State.{State}
-use Rattle.jc_base.specs.declared.body.FrameAt.{FrameAt}
-use Rattle.jc_base.specs.declared.body.Handler.{Handler}
-use Rattle.jc_base.specs.declared.body.LineAt.{LineAt}
-use Rattle.jc_base.specs.declared.body.VarAt.{VarAt}
-use Rattle.jc_base.specs.declared.body.Body.{Body}
+use Rattle.jc_methods.specs.Opcode as opcode
+use Rattle.jc_methods.specs.declared.insn.Arm.{Arm}
+use Rattle.jc_methods.specs.declared.insn.Insn.{Insn}
+use Rattle.jc_methods.specs.declared.insn.Insn.TheVariants as insns
+use Rattle.jc_methods.specs.declared.kind.Kind.{Kind}
+use Rattle.jc_methods.specs.declared.kind.Kind.TheVariants as kinds
+use Rattle.jc_methods.specs.declared.kind.State.{State}
+use Rattle.jc_methods.specs.declared.body.FrameAt.{FrameAt}
+use Rattle.jc_methods.specs.declared.body.Handler.{Handler}
+use Rattle.jc_methods.specs.declared.body.LineAt.{LineAt}
+use Rattle.jc_methods.specs.declared.body.VarAt.{VarAt}
+use Rattle.jc_methods.specs.declared.body.Body.{Body}
 
 -- ---- instructions
 
 abbrev pub iconst_0 : Insn
-iconst_0 = insns.Simple ops.ICONST_0
+iconst_0 = insns.Simple opcode.iconst_0
 
 abbrev pub iconst_1 : Insn
-iconst_1 = insns.Simple ops.ICONST_1
+iconst_1 = insns.Simple opcode.iconst_1
 
 abbrev pub iconst_2 : Insn
-iconst_2 = insns.Simple ops.ICONST_2
+iconst_2 = insns.Simple opcode.iconst_2
 
 abbrev pub iconst_3 : Insn
-iconst_3 = insns.Simple ops.ICONST_3
+iconst_3 = insns.Simple opcode.iconst_3
 
 abbrev pub bastore : Insn
-bastore = insns.Simple ops.BASTORE
+bastore = insns.Simple opcode.bastore
 
 abbrev pub pop : Insn
-pop = insns.Simple ops.POP
+pop = insns.Simple opcode.pop
 
 abbrev pub idiv : Insn
-idiv = insns.Simple ops.IDIV
+idiv = insns.Simple opcode.idiv
 
 abbrev pub ineg : Insn
-ineg = insns.Simple ops.INEG
+ineg = insns.Simple opcode.ineg
 
 abbrev pub ireturn : Insn
-ireturn = insns.Simple ops.IRETURN
+ireturn = insns.Simple opcode.ireturn
 
 abbrev pub return : Insn
-return = insns.Simple ops.RETURN
+return = insns.Simple opcode.return
 
 abbrev pub iload : ℕ → Insn
-iload slot = insns.Local ops.ILOAD slot
+iload slot = insns.Local opcode.iload slot
 
 abbrev pub istore : ℕ → Insn
-istore slot = insns.Local ops.ISTORE slot
+istore slot = insns.Local opcode.istore slot
 
 abbrev pub aload : ℕ → Insn
-aload slot = insns.Local ops.ALOAD slot
+aload slot = insns.Local opcode.aload slot
 
 abbrev pub astore : ℕ → Insn
-astore slot = insns.Local ops.ASTORE slot
+astore slot = insns.Local opcode.astore slot
 
 abbrev pub ifeq : ℕ → Insn
-ifeq to = insns.Jump ops.IFEQ to
+ifeq to = insns.Jump opcode.ifeq to
 
 abbrev pub ifne : ℕ → Insn
-ifne to = insns.Jump ops.IFNE to
+ifne to = insns.Jump opcode.ifne to
 
 abbrev pub iflt : ℕ → Insn
-iflt to = insns.Jump ops.IFLT to
+iflt to = insns.Jump opcode.iflt to
 
 abbrev pub ifge : ℕ → Insn
-ifge to = insns.Jump ops.IFGE to
+ifge to = insns.Jump opcode.ifge to
 
 abbrev pub goto : ℕ → Insn
-goto to = insns.Jump ops.GOTO to
+goto to = insns.Jump opcode.goto to
 
 abbrev pub iinc : ℕ → ℤ → Insn
 iinc slot by = insns.Inc slot by
 
 abbrev pub invokestatic : ℕ → Insn
-invokestatic place = insns.Member ops.INVOKESTATIC place
+invokestatic place = insns.Member opcode.invokestatic place
 
 abbrev pub arm : ℤ → ℕ → Arm
 arm key to = record { key = key; to = to }

@@ -1,8 +1,8 @@
 -- The states of an instrumented method: one more local variable stands behind the arguments and holds the array of probes.
 use Rattle.std.specs.Prelude.{ℕ, List, map, insert, codes}
-use Rattle.jc_base.specs.declared.kind.Kind.{Kind}
-use Rattle.jc_base.specs.declared.kind.Kind.TheVariants as kinds
-use Rattle.jc_base.specs.declared.kind.State.{State}
+use Rattle.jc_methods.specs.declared.kind.Kind.{Kind}
+use Rattle.jc_methods.specs.declared.kind.Kind.TheVariants as kinds
+use Rattle.jc_methods.specs.declared.kind.State.{State}
 
 -- the class of the array of probes, `[Z` (JVM Specification 4.4.1)
 abbrev pub probe_array_class : List ℕ

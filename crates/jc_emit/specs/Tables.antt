@@ -1,7 +1,7 @@
 -- Entries of tables, among the places that tables have.
 use Rattle.std.specs.Prelude.{ℕ, ◌<◌}
-use Rattle.jc_base.specs.declared.body.Handler.{Handler}
-use Rattle.jc_base.specs.declared.body.VarAt.{VarAt}
+use Rattle.jc_methods.specs.declared.body.Handler.{Handler}
+use Rattle.jc_methods.specs.declared.body.VarAt.{VarAt}
 
 pub record RowWithin (leads lands : ℕ) (h : Handler) : Type 0 where
   pub start : h.start < leads

@@ -1,8 +1,8 @@
 -- The twin of a body in the narrow layout, as a body: a function of the body.
 use Rattle.std.specs.Prelude.{ℕ, false, List, ◌∷◌, map}
-use Rattle.jc_base.specs.declared.kind.State.{State}
-use Rattle.jc_base.specs.declared.body.Body.{Body}
-use Rattle.jc_base.specs.declared.body.Use.{Use}
+use Rattle.jc_methods.specs.declared.kind.State.{State}
+use Rattle.jc_methods.specs.declared.body.Body.{Body}
+use Rattle.jc_methods.specs.declared.body.Use.{Use}
 use Rattle.jc_emit.specs.Twin.{probe_init}
 use Rattle.jc_emit.specs.Emission.{emission}
 use Rattle.jc_emit.specs.Items.{insn_of, twin_items}

@@ -1,20 +1,20 @@
 -- The stack map frames of the twin of a body (JVM Specification 4.7.4).
 use Rattle.std.specs.Prelude.{◌≡◌, ◌⊎◌, ℕ, ◌+◌, ◌-◌, ◌<◌, Bool, true, false, List, [], length, take, Option, Some, None, nat_le, ◌&&◌, if◌then◌else◌, slice_index_or, Contains}
-use Rattle.jc_base.specs.Flow.{flow_of}
-use Rattle.jc_base.specs.FrameOrder.{RiseFrom}
-use Rattle.jc_base.specs.Held.{Names, seen}
-use Rattle.jc_base.specs.Opcode as opcode
-use Rattle.jc_base.specs.declared.insn.Insn.{Insn}
-use Rattle.jc_base.specs.declared.kind.State.{State}
-use Rattle.jc_base.specs.declared.body.Body.{Body}
-use Rattle.jc_base.specs.declared.body.FrameAt.{FrameAt}
+use Rattle.jc_methods.specs.Flow.{flow_of}
+use Rattle.jc_methods.specs.FrameOrder.{RiseFrom}
+use Rattle.jc_methods.specs.Held.{Names, seen}
+use Rattle.jc_methods.specs.Opcode as opcode
+use Rattle.jc_methods.specs.declared.insn.Insn.{Insn}
+use Rattle.jc_methods.specs.declared.kind.State.{State}
+use Rattle.jc_methods.specs.declared.body.Body.{Body}
+use Rattle.jc_methods.specs.declared.body.FrameAt.{FrameAt}
 use Rattle.jc_plan.specs.declared.branch.Branch.{Branch}
 use Rattle.jc_plan.specs.Probed.{probe_of}
 use Rattle.jc_after.specs.Shift.{shifted}
 use Rattle.jc_emit.specs.Sizes.{insn_at, late_probe, arms_at}
 use Rattle.jc_emit.specs.TwinCode.{arm_place, to_of}
-use Rattle.jc_base.specs.declared.insn.Insn.TheVariants as insns
-use Rattle.jc_base.specs.declared.insn.Flow.TheVariants as flows
+use Rattle.jc_methods.specs.declared.insn.Insn.TheVariants as insns
+use Rattle.jc_methods.specs.declared.insn.Flow.TheVariants as flows
 
 -- ---- the states of the body
 

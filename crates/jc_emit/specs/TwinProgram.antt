@@ -2,13 +2,13 @@
 use Rattle.std.specs.Prelude.{◌≡◌, ◌⊎◌, ⊤, ℕ, pos, ◌+◌, List, [], ◌∷◌, ◌++◌, map, Some, None, Contains}
 use Rattle.std.specs.Int.{w64, cast_signed}
 use Rattle.std.specs.List.{sum_by}
-use Rattle.jc_base.specs.Held.{Names, seen_at}
-use Rattle.jc_base.specs.WellMade.{IsWellMade}
-use Rattle.jc_base.specs.declared.kind.State.{State}
-use Rattle.jc_base.specs.declared.body.Body.{Body}
-use Rattle.jc_base.specs.declared.program.StaticField.{StaticField}
-use Rattle.jc_base.specs.declared.program.Linked.{Linked}
-use Rattle.jc_base.specs.declared.program.Program.{Program}
+use Rattle.jc_methods.specs.Held.{Names, seen_at}
+use Rattle.jc_methods.specs.WellMade.{IsWellMade}
+use Rattle.jc_methods.specs.declared.kind.State.{State}
+use Rattle.jc_methods.specs.declared.body.Body.{Body}
+use Rattle.jc_programs.specs.declared.program.StaticField.{StaticField}
+use Rattle.jc_programs.specs.declared.program.Linked.{Linked}
+use Rattle.jc_programs.specs.declared.program.Program.{Program}
 use Rattle.jc_kinds.specs.Answers.{AreStates}
 use Rattle.jc_kinds.specs.Checked.{Checked}
 use Rattle.jc_plan.specs.Probed.{probe_count}

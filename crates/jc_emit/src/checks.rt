@@ -1,13 +1,13 @@
 //! Laws of instrumented code and the kind check.
 ghost use Rattle.std.specs.Prelude.{ℕ, ℤ, List, Contains};
-ghost use Rattle.jc_base.specs.Held.{Names};
-ghost use Rattle.jc_base.specs.WellMade.{IsWellMadeOfAnySize};
-ghost use Rattle.jc_base.specs.declared.body.Body.{Body};
-ghost use Rattle.jc_base.specs.declared.kind.State.{State};
+ghost use Rattle.jc_methods.specs.Held.{Names};
+ghost use Rattle.jc_methods.specs.WellMade.{IsWellMadeOfAnySize};
+ghost use Rattle.jc_methods.specs.declared.body.Body.{Body};
+ghost use Rattle.jc_methods.specs.declared.kind.State.{State};
 ghost use Rattle.jc_kinds.specs.Answers.{AreStates};
 ghost use Rattle.jc_kinds.specs.Checked.{Checked};
-ghost use Rattle.jc_base.specs.declared.program.Linked.{Linked};
-ghost use Rattle.jc_base.specs.declared.program.Program.{Program};
+ghost use Rattle.jc_programs.specs.declared.program.Linked.{Linked};
+ghost use Rattle.jc_programs.specs.declared.program.Program.{Program};
 ghost use Rattle.jc_emit.specs.Added.{IsInitBody};
 ghost use Rattle.jc_emit.specs.Straddling.{NoneStraddles};
 ghost use Rattle.jc_emit.specs.Twin.{Twin};

@@ -2,10 +2,10 @@
 ghost use Rattle.std.specs.Prelude.{◌≡◌, ◌⊎◌, ⊤, ℕ, ◌+◌, ◌≤◌};
 ghost use Rattle.std.specs.Prelude.{Some, None, length, IfOk, IfErr, IfSome, MatchResult};
 ghost use Rattle.std.specs.List.{sum_by};
-ghost use Rattle.jc_base.specs.Held.{Grows, AreNumberedFrames};
-ghost use Rattle.jc_base.specs.Insn.{arm_count};
-ghost use Rattle.jc_base.specs.WellMade.{IsWellMade, IsCounted};
-ghost use Rattle.jc_base.specs.declared.refusal.RefusalKind.{RefusalKind as Kind};
+ghost use Rattle.jc_methods.specs.Held.{Grows, AreNumberedFrames};
+ghost use Rattle.jc_methods.specs.Insn.{arm_count};
+ghost use Rattle.jc_methods.specs.WellMade.{IsWellMade, IsCounted};
+ghost use Rattle.jc_bytes.specs.declared.refusal.RefusalKind.{RefusalKind as Kind};
 ghost use Rattle.jc_kinds.specs.Answers.{AreStates, Said, refusal_of};
 ghost use Rattle.jc_plan.specs.Plan.{plan_of};
 ghost use Rattle.jc_emit.specs.Emission.{IsArrayNumber, emission};
@@ -21,7 +21,8 @@ use crate::segments::write_code;
 use crate::straddling::straddles;
 use crate::tables::{moved_lines, moved_rows, moved_vars};
 use crate::written::Written;
-use jc_base::{Body, Emitted, Fail, List, Memory, Names, Plan, Refusal, RefusalKind, State};
+use jc_bytes::{Fail, List, Memory, Names, Refusal, RefusalKind};
+use jc_methods::{Body, Emitted, Plan, State};
 use std::alloc::Global;
 
 /// The name of the class of the array of probes (JVM Specification 4.4.1).

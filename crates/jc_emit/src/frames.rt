@@ -1,10 +1,10 @@
 //! The stack map frames of instrumented code (JVM Specification 4.7.4).
 ghost use Rattle.std.specs.Prelude.{◌≡◌, ℕ, ◌+◌, ◌*◌, ◌<◌, ◌≤◌, ◌^◌, ◌&&◌, ◌||◌};
 ghost use Rattle.std.specs.Prelude.{not, false, ◌++◌, map, length, All, IfOk, OnOk, slice_index};
-ghost use Rattle.jc_base.specs.Flow.{flow_of};
-ghost use Rattle.jc_base.specs.PlainLists.{pieces};
-ghost use Rattle.jc_base.specs.declared.insn.Flow.TheVariants as flows;
-ghost use Rattle.jc_base.specs.WellMade.{IsState};
+ghost use Rattle.jc_methods.specs.Flow.{flow_of};
+ghost use Rattle.jc_bytes.specs.PlainLists.{pieces};
+ghost use Rattle.jc_methods.specs.declared.insn.Flow.TheVariants as flows;
+ghost use Rattle.jc_methods.specs.WellMade.{IsState};
 ghost use Rattle.jc_emit.specs.Shift.{image_kind, shifted_state};
 ghost use Rattle.jc_emit.specs.Sizes.{insn_at, arms_at, late_probe};
 ghost use Rattle.jc_emit.specs.TwinFrames.{operands_of, state_at, left_by};
@@ -14,7 +14,8 @@ ghost use Rattle.jc_emit.specs.Emission.{frames_at, wide_frames_at, arm_frames};
 ghost use Rattle.jc_emit.specs.Framing.{IsMadeWithin, without, AreFramed, id_frames, IsFraming};
 
 use crate::places::{Places, hop_size};
-use jc_base::{Body, Flow, FrameAt, Insn, Kind, List, Memory, Plan, State, TryClone, opcode};
+use jc_bytes::{List, Memory};
+use jc_methods::{Body, Flow, FrameAt, Insn, Kind, Plan, State, TryClone, opcode};
 use std::alloc::Global;
 
 /// A type, where an object without a constructor's call is named by the image of its `new`.

@@ -1,15 +1,16 @@
 //! The images of instructions.
 ghost use Rattle.std.specs.Prelude.{◌≡◌, ◌<◌, Some, map, length, slice_index, ℕ, IfOk};
 ghost use Rattle.std.specs.List.{AllByRecursion};
-ghost use Rattle.jc_base.specs.Flow.{flow_of, jump_target};
-ghost use Rattle.jc_base.specs.Insn.{IsWellFormed, with_places, arm_with_place};
-ghost use Rattle.jc_base.specs.InsnUse.{LeadsWithin};
-ghost use Rattle.jc_base.specs.Slots.{slot_of as named_slot};
-ghost use Rattle.jc_base.specs.Widened.{inverted};
-ghost use Rattle.jc_base.specs.declared.insn.Flow.TheVariants as flows;
+ghost use Rattle.jc_methods.specs.Flow.{flow_of, jump_target};
+ghost use Rattle.jc_methods.specs.Insn.{IsWellFormed, with_places, arm_with_place};
+ghost use Rattle.jc_methods.specs.InsnUse.{LeadsWithin};
+ghost use Rattle.jc_methods.specs.Slots.{slot_of as named_slot};
+ghost use Rattle.jc_methods.specs.Widened.{inverted};
+ghost use Rattle.jc_methods.specs.declared.insn.Flow.TheVariants as flows;
 ghost use Rattle.jc_after.specs.Shift.{slot_of, with_slot};
 
-use jc_base::{Arm, Insn, List, Memory, TryClone, inverse};
+use jc_bytes::{List, Memory};
+use jc_methods::{Arm, Insn, TryClone, inverse};
 use std::alloc::Global;
 
 /// The local variable that is in the place of one of the method: one behind the arguments goes up by one.

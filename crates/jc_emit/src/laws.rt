@@ -1,13 +1,13 @@
 //! Laws of instrumented code.
 ghost use Rattle.std.specs.Prelude.{◌≡◌, ℕ, List, Bool, true, false, Option, Some, None, map, length};
-ghost use Rattle.jc_base.specs.Held.{Names};
-ghost use Rattle.jc_base.specs.Widened.{widened};
-ghost use Rattle.jc_base.specs.WellMade.{IsCode, IsHandler, IsWellMadeOfAnySize, what_used};
-ghost use Rattle.jc_base.specs.declared.body.Body.{Body};
-ghost use Rattle.jc_base.specs.declared.body.FrameAt.{FrameAt};
-ghost use Rattle.jc_base.specs.declared.body.Handler.{Handler};
-ghost use Rattle.jc_base.specs.declared.insn.Insn.{Insn};
-ghost use Rattle.jc_base.specs.declared.kind.State.{State};
+ghost use Rattle.jc_methods.specs.Held.{Names};
+ghost use Rattle.jc_methods.specs.Widened.{widened};
+ghost use Rattle.jc_methods.specs.WellMade.{IsCode, IsHandler, IsWellMadeOfAnySize, what_used};
+ghost use Rattle.jc_methods.specs.declared.body.Body.{Body};
+ghost use Rattle.jc_methods.specs.declared.body.FrameAt.{FrameAt};
+ghost use Rattle.jc_methods.specs.declared.body.Handler.{Handler};
+ghost use Rattle.jc_methods.specs.declared.insn.Insn.{Insn};
+ghost use Rattle.jc_methods.specs.declared.kind.State.{State};
 ghost use Rattle.jc_plan.specs.declared.branch.Branch.{Branch};
 ghost use Rattle.jc_plan.specs.Probed.{probe_of};
 ghost use Rattle.jc_emit.specs.Emission.{emission, HasFrameStates, IsArrayNumber, AreWidened};

@@ -1,11 +1,12 @@
 //! Where the instructions of an instrumented method stand, in the narrow layout.
 ghost use Rattle.std.specs.Prelude.{◌≡◌, ◌≤◌, ◌+◌, ◌*◌, [], ◌∷◌, ◌++◌, ℕ, length, IfOk, OnOk};
 ghost use Rattle.std.specs.List.{sum_by};
-ghost use Rattle.jc_base.specs.WellMade.{IsWellMadeOfAnySize};
+ghost use Rattle.jc_methods.specs.WellMade.{IsWellMadeOfAnySize};
 ghost use Rattle.jc_emit.specs.Branching.{early_in, late_in, behind_in};
 ghost use Rattle.jc_emit.specs.Sizes.{probe_size, hop_size};
 
-use jc_base::{Body, Flow, Memory, Plan};
+use jc_bytes::Memory;
+use jc_methods::{Body, Flow, Plan};
 use std::alloc::Global;
 
 /// Where the instructions of an instrumented method stand: one entry for each instruction of the method,

@@ -1,11 +1,11 @@
 //! The code of an instrumented method, from what belongs to each instruction of the method.
 ghost use Rattle.std.specs.Prelude.{◌≡◌, ◌<◌, ◌≤◌, ◌+◌, ℕ, false, length, slice_index, IfOk, OnOk};
-ghost use Rattle.jc_base.specs.Flow.{flow_of};
-ghost use Rattle.jc_base.specs.Insn.{IsWellFormed};
-ghost use Rattle.jc_base.specs.InsnUse.{LeadsWithin};
-ghost use Rattle.jc_base.specs.WellMade.{IsWellMadeOfAnySize};
-ghost use Rattle.jc_base.specs.declared.body.Body.{Body as MethodBody};
-ghost use Rattle.jc_base.specs.declared.insn.Flow.TheVariants as flows;
+ghost use Rattle.jc_methods.specs.Flow.{flow_of};
+ghost use Rattle.jc_methods.specs.Insn.{IsWellFormed};
+ghost use Rattle.jc_methods.specs.InsnUse.{LeadsWithin};
+ghost use Rattle.jc_methods.specs.WellMade.{IsWellMadeOfAnySize};
+ghost use Rattle.jc_methods.specs.declared.body.Body.{Body as MethodBody};
+ghost use Rattle.jc_methods.specs.declared.insn.Flow.TheVariants as flows;
 ghost use Rattle.jc_plan.specs.Plan.{plan_of};
 ghost use Rattle.jc_emit.specs.Branching.{IsPushed, test_image};
 ghost use Rattle.jc_emit.specs.Items.{tests_part, image_part, segment, twin_items};
@@ -18,7 +18,8 @@ use crate::image::{inverted, jump_target, led, moved};
 use crate::places::{Places, early_id, late_id};
 use crate::switches::{put_arms, set_arms};
 use crate::written::Written;
-use jc_base::{Body, Flow, Insn, Memory, Plan, TryClone};
+use jc_bytes::Memory;
+use jc_methods::{Body, Flow, Insn, Plan, TryClone};
 use std::alloc::Global;
 
 /// The image of a conditional jump: with a probe of its jump the inverse, which leads to where the

@@ -1,11 +1,11 @@
 //! Longs and doubles that the array of probes would cut apart.
 ghost use Rattle.std.specs.Prelude.{◌≡◌, ◌↔◌, ◌∷◌, [], IsTrue};
-ghost use Rattle.jc_base.specs.WellMade.{IsCounted};
+ghost use Rattle.jc_methods.specs.WellMade.{IsCounted};
 ghost use Rattle.jc_after.specs.Shift.{Straddles};
 ghost use Rattle.jc_kinds.specs.StateShift.{FrameStraddles};
 ghost use Rattle.jc_emit.specs.Straddling.{InsnStraddles, FramesStraddle, IsFirstOf, IsFirstStraddling, lesser};
 
-use jc_base::{Body, FrameAt, Insn};
+use jc_methods::{Body, FrameAt, Insn};
 
 /// Whether an instruction reads or writes a long or a double of which the last argument has the
 /// first half: the first of its local variables is among the arguments, and not each of them is.

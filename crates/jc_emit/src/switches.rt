@@ -1,14 +1,14 @@
 //! The switches of an instrumented method.
 ghost use Rattle.std.specs.Prelude.{◌≡◌, ◌<◌, ◌≤◌, ◌+◌, ℕ, All, Contains, length};
 ghost use Rattle.std.specs.Prelude.{slice_index, slice_index_or, OnOk, None};
-ghost use Rattle.jc_base.specs.PlainLists.{pieces};
+ghost use Rattle.jc_bytes.specs.PlainLists.{pieces};
 ghost use Rattle.jc_emit.specs.Branching.{IsPushed, IsTableOf, arm_place_in, arm_part_in};
 ghost use Rattle.jc_emit.specs.TwinCode.{here_or};
 ghost use Rattle.jc_emit.specs.Writing.{Grows};
 
 use crate::places::{hop_size, hop_sizes};
 use crate::written::Written;
-use jc_base::Memory;
+use jc_bytes::Memory;
 
 /// The arm place where there is a probe, and else where jumps to the target land.
 fn here_or(id: Option<u32>, here: u32, landing: u32) -> u32

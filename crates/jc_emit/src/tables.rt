@@ -4,7 +4,8 @@ ghost use Rattle.jc_emit.specs.TwinTables.{moved_row, moved_line, moved_var};
 ghost use Rattle.jc_emit.specs.Tables.{RowWithin, VarWithin};
 
 use crate::image::moved_slot;
-use jc_base::{Handler, LineAt, List, Memory, VarAt};
+use jc_bytes::{List, Memory};
+use jc_methods::{Handler, LineAt, VarAt};
 use std::alloc::Global;
 
 /// An exception row, from where fall-throughs lead to where they do, with its handler where jumps land.

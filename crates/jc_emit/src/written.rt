@@ -1,13 +1,14 @@
 //! The code of an instrumented method as it is written.
 ghost use Rattle.std.specs.Prelude.{◌≡◌, ◌≤◌, [], ◌∷◌, ◌++◌, Bool, Option, ℕ, IfOk, OnOk};
-ghost use Rattle.jc_base.specs.Widened.{goto};
+ghost use Rattle.jc_methods.specs.Widened.{goto};
 ghost use Rattle.jc_emit.specs.Branching.{IsPushed};
 ghost use Rattle.jc_emit.specs.Items.{prelude, image, probe, hop, lead_part, early_part, hop_part};
 ghost use Rattle.jc_emit.specs.Marks.{push};
 ghost use Rattle.jc_emit.specs.Writing.{Grows};
 ghost use Rattle.jc_emit.specs.Written.{Shows};
 
-use jc_base::{Insn, Memory, opcode};
+use jc_bytes::Memory;
+use jc_methods::{Insn, opcode};
 use std::alloc::Global;
 
 /// The instructions of an instrumented method, and of each the instruction of the method to which it

@@ -3,10 +3,10 @@ use Rattle.std.proofs.Common.{◌≡◌, ◌≢◌, ◌⊎◌, inl, inr, ℕ, �
 use Rattle.std.proofs.lemmas.Bool.{eqb-true, eqb-false, false≢true}
 use Rattle.std.proofs.lemmas.List.{take_at, take-append-drop}
 use Rattle.std.proofs.lemmas.Slice.Eq.{bytes_eq-Decides}
-use Rattle.jc_base.specs.Modified.{IsModified}
-use Rattle.jc_base.specs.Deciding.{is_modified_text}
-use Rattle.jc_base.proofs.DecidingLaws.{Decides, modified_decided}
-use Rattle.jc_base.proofs.DecoderLaws.{some_is, some_none}
+use Rattle.jc_bytes.specs.Modified.{IsModified}
+use Rattle.jc_bytes.specs.Deciding.{is_modified_text}
+use Rattle.jc_bytes.proofs.DecidingLaws.{Decides, modified_decided}
+use Rattle.jc_bytes.proofs.DecoderLaws.{some_is, some_none}
 use Rattle.jc_exec.specs.declared.hits.ClassHits.{ClassHits}
 use Rattle.jc_exec.specs.declared.session.Session.{Session}
 use Rattle.jc_exec.specs.Format.{Block, header, session, class, header_text, IsSessionBlock, IsClassBlock, IsBlock}

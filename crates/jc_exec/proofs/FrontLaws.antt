@@ -2,13 +2,13 @@
 use Rattle.std.proofs.Common.{◌≡◌, ℕ, ◌<◌, List, [], ◌∷◌, ◌++◌, ◌↔◌, Bool, true, false, get_or, Option, Some, None, Err, refl, sym, ◌∙◌, ap, subst, arith}
 use Rattle.std.specs.Prelude.{IsTrue}
 use Rattle.std.proofs.lemmas.Bool.{false≢true}
-use Rattle.jc_base.specs.declared.fail.Fail.{Fail}
-use Rattle.jc_base.specs.declared.fail.Fail.TheVariants as fails
-use Rattle.jc_base.specs.declared.fail.Unfit.{Unfit}
-use Rattle.jc_base.specs.Decoder.{Gives, SameEnd, first}
-use Rattle.jc_base.specs.Modified.{IsModified}
-use Rattle.jc_base.specs.Reader.{Reading}
-use Rattle.jc_base.proofs.DecoderLaws.{some_is, some_none}
+use Rattle.jc_bytes.specs.declared.fail.Fail.{Fail}
+use Rattle.jc_bytes.specs.declared.fail.Fail.TheVariants as fails
+use Rattle.jc_bytes.specs.declared.fail.Unfit.{Unfit}
+use Rattle.jc_bytes.specs.Decoder.{Gives, SameEnd, first}
+use Rattle.jc_bytes.specs.Modified.{IsModified}
+use Rattle.jc_bytes.specs.Reader.{Reading}
+use Rattle.jc_bytes.proofs.DecoderLaws.{some_is, some_none}
 use Rattle.jc_exec.specs.declared.hits.ClassHits.{ClassHits}
 use Rattle.jc_exec.specs.declared.session.Session.{Session}
 use Rattle.jc_exec.specs.declared.refusal.ExecRefusal.{ExecRefusal}

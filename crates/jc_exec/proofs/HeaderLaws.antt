@@ -3,8 +3,8 @@ use Rattle.std.proofs.Common.{◌≡◌, ℕ, ◌+◌, ◌*◌, ◌<◌, ◌≤�
 use Rattle.std.proofs.lemmas.Bool.{not-false}
 use Rattle.std.proofs.lemmas.List.{take_at, take-append-drop, length-take}
 use Rattle.std.proofs.lemmas.Slice.Eq.{bytes_eq-Decides}
-use Rattle.jc_base.specs.Decoder.{IsBig, first, number_at}
-use Rattle.jc_base.proofs.DecoderLaws.{bind_some, guard_some, first_takes, first_again, number_takes, number_again}
+use Rattle.jc_bytes.specs.Decoder.{IsBig, first, number_at}
+use Rattle.jc_bytes.proofs.DecoderLaws.{bind_some, guard_some, first_takes, first_again, number_takes, number_again}
 use Rattle.jc_exec.specs.Format.{header_text}
 use Rattle.jc_exec.specs.Reading.{version_at}
 

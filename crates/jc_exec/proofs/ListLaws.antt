@@ -4,9 +4,9 @@ use Rattle.std.specs.Int.{w64, cast_signed}
 use Rattle.std.proofs.lemmas.Bool.{eqb-true}
 use Rattle.std.proofs.lemmas.List.{append-nil, append_cancel_left}
 use Rattle.byteorder.specs.Endian.{big_number}
-use Rattle.jc_base.specs.Decoder.{byte_at, number_at}
-use Rattle.jc_base.specs.Modified.{IsModified}
-use Rattle.jc_base.proofs.DecoderLaws.{bind_some, guard_some, some_is, number_takes, number_again, byte_takes, byte_again}
+use Rattle.jc_bytes.specs.Decoder.{byte_at, number_at}
+use Rattle.jc_bytes.specs.Modified.{IsModified}
+use Rattle.jc_bytes.proofs.DecoderLaws.{bind_some, guard_some, some_is, number_takes, number_again, byte_takes, byte_again}
 use Rattle.jc_exec.specs.declared.session.Session.{Session}
 use Rattle.jc_exec.specs.declared.hits.ClassHits.{ClassHits}
 use Rattle.jc_exec.specs.Format.{Block, header, session, class, header_text, SessionParts, session_joined, SpellsSession, IsSessionBlock, IsBlock, AreBlocks, Blocks}

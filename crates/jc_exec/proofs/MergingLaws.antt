@@ -5,12 +5,12 @@ use Rattle.std.proofs.lemmas.Bool.{eqb-true, eqb-false, eq-eqb, and_parts, or_ca
 use Rattle.std.proofs.lemmas.List.{append-nil, map-append}
 use Rattle.std.proofs.lemmas.List.Elements.{Contains-append_left, Contains-push, Contains-push_cases}
 use Rattle.std.proofs.lemmas.Slice.Eq.{bytes_eq-Decides}
-use Rattle.jc_base.proofs.DecoderLaws.{some_is}
+use Rattle.jc_bytes.proofs.DecoderLaws.{some_is}
 use Rattle.jc_exec.specs.declared.hits.ClassHits.{ClassHits}
 use Rattle.jc_exec.specs.declared.session.Session.{Session}
 use Rattle.jc_exec.specs.Format.{Block, header, session, class}
 use Rattle.jc_exec.specs.Store.{Store, IsNew}
-use Rattle.jc_base.specs.FirstSeen.{first_seen}
+use Rattle.jc_bytes.specs.FirstSeen.{first_seen}
 use Rattle.jc_exec.specs.Union.{sessions_of, records_of, ids_of, Agrees, IsHitAt, IsMerged, IsUnion, either_bits, agree, either_hits, with_record, with_block, union_of}
 use Rattle.jc_exec.specs.Refusing.{OneOfEachId}
 use Rattle.jc_exec.proofs.UnionLaws.{sessions-append, records-append, all_filter, among, first_seen-append, among_first_seen, merged_other, merged_first, all_merged_other, union_none, union_header, one_union, in_union, among_there, HasRecord, seen_has_record}

@@ -6,10 +6,10 @@ use Rattle.std.specs.Option.{option_copied}
 use Rattle.std.proofs.lemmas.Map.Steps.{set_value_same}
 use Rattle.std.specs.Map.{lookup, set_value}
 use Rattle.indexmap.specs.IndexMap.{insert_entry, insert_all}
-use Rattle.jc_base.specs.declared.fail.Fail.{Fail}
-use Rattle.jc_base.specs.declared.fail.Fail.TheVariants as fails
-use Rattle.jc_base.specs.Modified.{IsModified}
-use Rattle.jc_base.proofs.DecoderLaws.{some_is, some_none}
+use Rattle.jc_bytes.specs.declared.fail.Fail.{Fail}
+use Rattle.jc_bytes.specs.declared.fail.Fail.TheVariants as fails
+use Rattle.jc_bytes.specs.Modified.{IsModified}
+use Rattle.jc_bytes.proofs.DecoderLaws.{some_is, some_none}
 use Rattle.jc_exec.specs.declared.hits.ClassHits.{ClassHits}
 use Rattle.jc_exec.specs.declared.refusal.ExecRefusal.{ExecRefusal}
 use Rattle.jc_exec.specs.Adding.{Entries, over, Merges, Puts, RefusesMerging, GivesMerged, MergesInto}

@@ -10,7 +10,7 @@ use Rattle.std.proofs.lemmas.Bool.Decides.{nat_tests}
 use Rattle.std.proofs.lemmas.Cmp.{int_cmp_total}
 use Rattle.std.proofs.lemmas.List.{map-id}
 use Rattle.std.proofs.lemmas.List.Sorted.{ranks_by, sorted_far}
-use Rattle.jc_base.proofs.EachLaws.{all_of_each, each_of_all, all_weaker}
+use Rattle.jc_bytes.proofs.EachLaws.{all_of_each, each_of_all, all_weaker}
 use Rattle.jc_exec.specs.declared.session.Session.{Session}
 use Rattle.jc_exec.specs.Writing.{placed, by_dump, InOrder, is_dumped_at, IsByDump}
 use Rattle.jc_exec.proofs.UnionLaws.{all_filter}

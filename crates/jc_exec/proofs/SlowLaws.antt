@@ -6,12 +6,12 @@ use Rattle.std.proofs.lemmas.List.FromFn.{map-range_with_len_more, get_or-map-ra
 use Rattle.std.proofs.lemmas.Bool.{eqb-true, eq-eqb, and_parts, or_right}
 use Rattle.std.proofs.lemmas.List.{append-nil, map-append, get_or-take, get_or-drop, drop-drop, take_all}
 use Rattle.std.proofs.Math.Seq.{take-suc}
-use Rattle.jc_base.proofs.EachLaws.{all_push, all_weaker}
+use Rattle.jc_bytes.proofs.EachLaws.{all_push, all_weaker}
 use Rattle.jc_exec.specs.declared.hits.ClassHits.{ClassHits}
 use Rattle.jc_exec.specs.Format.{class}
 use Rattle.jc_exec.specs.SlowUnion.{some_hit, all_hits, merged_record}
 use Rattle.jc_exec.specs.Store.{Store}
-use Rattle.jc_base.specs.FirstSeen.{first_seen}
+use Rattle.jc_bytes.specs.FirstSeen.{first_seen}
 use Rattle.jc_exec.specs.Union.{records_of, ids_of, IsHitAt, SomeIsHitAt, IsMerged, IsUnion}
 use Rattle.jc_exec.specs.Writing.{low_first, pack}
 use Rattle.jc_exec.proofs.UnionLaws.{among, among_first_seen, same_records, seen_has_record, first_seen-append, in_union, among_there, HasRecord}

@@ -4,14 +4,14 @@ use Rattle.std.specs.List.{AllByRecursion, list_any}
 use Rattle.std.proofs.lemmas.Bool.{eqb-true, eqb-false, ne_eqb, eq-eqb, or_parts, or_right}
 use Rattle.std.proofs.lemmas.List.{append-nil, map-append}
 use Rattle.std.proofs.lemmas.List.Elements.{filter-append, All-from_recursion, recursion_from_All, All-filter, Contains-append_left, Contains-push, Contains-push_cases}
-use Rattle.jc_base.proofs.EachLaws.{all_push, all_weaker}
+use Rattle.jc_bytes.proofs.EachLaws.{all_push, all_weaker}
 use Rattle.jc_exec.specs.declared.hits.ClassHits.{ClassHits}
 use Rattle.jc_exec.specs.declared.session.Session.{Session}
 use Rattle.jc_exec.specs.Format.{Block, header, session, class}
 use Rattle.jc_exec.specs.Store.{Store, IsNew}
-use Rattle.jc_base.specs.FirstSeen.{first_seen}
-use Rattle.jc_base.proofs.FirstSeenLaws.{either_way}
-use Rattle.jc_base.proofs.TestLaws.{same_tests}
+use Rattle.jc_bytes.specs.FirstSeen.{first_seen}
+use Rattle.jc_bytes.proofs.FirstSeenLaws.{either_way}
+use Rattle.jc_bytes.proofs.TestLaws.{same_tests}
 use Rattle.jc_exec.specs.Union.{sessions_of, records_of, ids_of, Agrees, IsHitAt, IsMerged, IsUnion}
 
 -- ---- what the blocks hold

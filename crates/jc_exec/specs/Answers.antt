@@ -1,7 +1,7 @@
 -- What a refusal of execution data says, and where it is given.
 use Rattle.std.specs.Prelude.{◌≡◌, ⊤, ℕ, List, length, Contains}
-use Rattle.jc_base.specs.declared.fail.Fail.{Fail}
-use Rattle.jc_base.specs.declared.fail.Fail.TheVariants as fails
+use Rattle.jc_bytes.specs.declared.fail.Fail.{Fail}
+use Rattle.jc_bytes.specs.declared.fail.Fail.TheVariants as fails
 use Rattle.jc_exec.specs.declared.hits.ClassHits.{ClassHits}
 use Rattle.jc_exec.specs.declared.refusal.ExecRefusal.{ExecRefusal}
 use Rattle.jc_exec.specs.declared.refusal.ExecRefusal.TheVariants.{BadExec, OtherVersion, Conflict}

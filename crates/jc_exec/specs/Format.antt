@@ -4,8 +4,8 @@ use Rattle.std.specs.Prelude.{◌≡◌, ℕ, ◌+◌, ◌*◌, ◌/◌, ◌%◌
 use Rattle.std.specs.List.{range_with_len}
 use Rattle.std.specs.Int.{w64, cast_signed}
 use Rattle.byteorder.specs.Endian.{big_number}
-use Rattle.jc_base.specs.Decoder.{IsBig}
-use Rattle.jc_base.specs.Modified.{IsModified}
+use Rattle.jc_bytes.specs.Decoder.{IsBig}
+use Rattle.jc_bytes.specs.Modified.{IsModified}
 use Rattle.jc_exec.specs.declared.hits.ClassHits.{ClassHits}
 use Rattle.jc_exec.specs.declared.session.Session.{Session}
 

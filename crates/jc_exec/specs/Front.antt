@@ -1,11 +1,11 @@
 -- The block in front of what is left of a text.
 use Rattle.std.specs.Prelude.{◌≡◌, ⊤, ℕ, List, ◌++◌, Result, Ok, Err}
-use Rattle.jc_base.specs.declared.fail.Fail.{Fail}
-use Rattle.jc_base.specs.declared.fail.Fail.TheVariants as fails
-use Rattle.jc_base.specs.Decoder.{SameEnd}
-use Rattle.jc_base.specs.Modified.{IsModified}
-use Rattle.jc_base.specs.Reader.{Reading}
-use Rattle.jc_base.specs.declared.fail.Unfit.{Unfit}
+use Rattle.jc_bytes.specs.declared.fail.Fail.{Fail}
+use Rattle.jc_bytes.specs.declared.fail.Fail.TheVariants as fails
+use Rattle.jc_bytes.specs.Decoder.{SameEnd}
+use Rattle.jc_bytes.specs.Modified.{IsModified}
+use Rattle.jc_bytes.specs.Reader.{Reading}
+use Rattle.jc_bytes.specs.declared.fail.Unfit.{Unfit}
 use Rattle.jc_exec.specs.declared.block.Front.{Front}
 use Rattle.jc_exec.specs.declared.block.Front.TheVariants.{Header, Session, Class}
 use Rattle.jc_exec.specs.declared.refusal.ExecRefusal.{ExecRefusal}

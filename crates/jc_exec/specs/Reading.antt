@@ -2,7 +2,7 @@
 use Rattle.std.specs.Prelude.{ℕ, zero, suc, ◌+◌, ◌-◌, ◌*◌, ◌/◌, List, [], ◌∷◌, take, Bool}
 use Rattle.std.specs.Prelude.{Option, Some, None, nat_lt, bytes_eq, ◌==◌, if◌then◌else◌}
 use Rattle.std.specs.Int.{w64, cast_signed}
-use Rattle.jc_base.specs.Decoder.{◌>>=◌, first, byte_at, number_at}
+use Rattle.jc_bytes.specs.Decoder.{◌>>=◌, first, byte_at, number_at}
 use Rattle.jc_exec.specs.declared.hits.ClassHits.{ClassHits}
 use Rattle.jc_exec.specs.declared.session.Session.{Session}
 use Rattle.jc_exec.specs.Format.{unpack}

@@ -1,6 +1,6 @@
 -- Which block of execution data is refused first, and why.
 use Rattle.std.specs.Prelude.{⊤, ◌≡◌, ◌≢◌, ℕ, List, [], ◌∷◌, ◌++◌, length, map, Contains}
-use Rattle.jc_base.specs.Decoder.{IsBig}
+use Rattle.jc_bytes.specs.Decoder.{IsBig}
 use Rattle.jc_exec.specs.declared.hits.ClassHits.{ClassHits}
 use Rattle.jc_exec.specs.Format.{Block, session, class, IsBlock, IsClassBlock, Blocks, BeginsWithHeader}
 use Rattle.jc_exec.specs.Store.{Store, IsNew}

@@ -1,7 +1,7 @@
 -- What a store of execution data holds.
 use Rattle.std.specs.Prelude.{◌≡◌, ◌<◌, ◌≢◌, ◌^◌, ⊤, ℕ, List, [], ◌∷◌, length, map, FitsSigned}
 use Rattle.std.specs.Int.{w64}
-use Rattle.jc_base.specs.Modified.{IsModified}
+use Rattle.jc_bytes.specs.Modified.{IsModified}
 use Rattle.jc_exec.specs.declared.hits.ClassHits.{ClassHits}
 use Rattle.jc_exec.specs.declared.session.Session.{Session}
 

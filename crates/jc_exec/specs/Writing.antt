@@ -4,7 +4,7 @@ use Rattle.std.specs.Prelude.{true, List, [], ◌∷◌, ◌++◌, length, take,
 use Rattle.std.specs.List.{AllByRecursion, flat_map, list_any}
 use Rattle.std.specs.Int.{w64, cast_unsigned}
 use Rattle.byteorder.specs.Endian.{big_bytes}
-use Rattle.jc_base.specs.Modified.{IsModified}
+use Rattle.jc_bytes.specs.Modified.{IsModified}
 use Rattle.jc_exec.specs.declared.hits.ClassHits.{ClassHits}
 use Rattle.jc_exec.specs.declared.session.Session.{Session}
 use Rattle.jc_exec.specs.Format.{header_text}

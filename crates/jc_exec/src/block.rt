@@ -1,14 +1,14 @@
 //! One block of execution data.
 ghost use Rattle.std.specs.Prelude.{◌≡◌, ◌*◌, ◌^◌, ◌<◌, ◌≤◌, ◌∷◌, [], ◌++◌, length, slice_index, IfOk, FitsSigned};
 ghost use Rattle.std.specs.Int.{w64};
-ghost use Rattle.jc_base.specs.Decoder.{Gives, SameEnd};
+ghost use Rattle.jc_bytes.specs.Decoder.{Gives, SameEnd};
 ghost use Rattle.jc_exec.specs.Format.{header_text, unpack};
 ghost use Rattle.jc_exec.specs.Store.{IsSmall};
 ghost use Rattle.jc_exec.specs.Reading.{text_at, count_in, count_at, bits_at, class_at, session_at, version_at};
 ghost use Rattle.jc_exec.specs.Front.{ReadsFront, IsUnread};
 
 use crate::{ClassHits, ExecRefusal, Session};
-use jc_base::{Bytes, Fail, List, Reader, Unfit, is_modified};
+use jc_bytes::{Bytes, Fail, List, Reader, Unfit, is_modified};
 use std::alloc::{AllocError, Global};
 
 pub const HEADER: [u8; 5] = [0x01, 0xc0, 0xc0, 0x10, 0x07];

@@ -1,4 +1,4 @@
-use jc_base::{Bytes, List};
+use jc_bytes::{Bytes, List};
 
 /// The probes of a class, and which of them were hit.
 #[derive(Debug, Drop, PartialEq, Eq)]

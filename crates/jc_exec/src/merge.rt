@@ -1,7 +1,7 @@
 //! Records of one id, merged.
 ghost use Rattle.std.specs.Prelude.{◌≡◌, ◌≤◌, nat_eq, length, IfOk, IfErr, OnOk, OnErr, MatchResult};
 ghost use Rattle.indexmap.specs.IndexMap.{insert_entry};
-ghost use Rattle.jc_base.specs.Modified.{IsModified};
+ghost use Rattle.jc_bytes.specs.Modified.{IsModified};
 ghost use Rattle.jc_exec.specs.Adding.{Merges, Puts, over, MergesInto, GivesMerged, RefusesMerging};
 ghost use Rattle.jc_exec.specs.Answers.{why_of, conflict_of, RefusesRecord};
 ghost use Rattle.jc_exec.specs.Store.{IsSmall, Keyed, classes_of};
@@ -9,7 +9,7 @@ ghost use Rattle.jc_exec.specs.Union.{agree, either_bits, either_hits};
 
 use crate::store::Records;
 use crate::{ClassHits, ExecRefusal};
-use jc_base::{Bytes, Fail, List};
+use jc_bytes::{Bytes, Fail, List};
 use std::alloc::{AllocError, Global};
 use std::mem;
 

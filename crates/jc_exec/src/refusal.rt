@@ -1,4 +1,4 @@
-use jc_base::Bytes;
+use jc_bytes::Bytes;
 
 /// Why execution data is refused.
 #[derive(Debug, Drop, PartialEq, Eq)]

@@ -1,4 +1,4 @@
-use jc_base::Bytes;
+use jc_bytes::Bytes;
 
 /// A run of a program whose execution data was dumped.
 #[derive(Debug, Drop, PartialEq, Eq)]

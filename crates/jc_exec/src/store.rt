@@ -1,8 +1,8 @@
 //! The union of execution data.
 ghost use Rattle.std.specs.Prelude.{◌≡◌, ◌≤◌, ◌++◌, [], ◌∷◌, length, List, Contains, IfOk, IfErr, IfSome, IsSomeAnd};
 ghost use Rattle.std.specs.Prelude.{IsErrAnd, OnOk, OnErr, MatchResult};
-ghost use Rattle.jc_base.specs.Modified.{IsModified};
-ghost use Rattle.jc_base.specs.Outside.{most_read};
+ghost use Rattle.jc_bytes.specs.Modified.{IsModified};
+ghost use Rattle.jc_bytes.specs.Reader.{most_read};
 ghost use Rattle.jc_exec.specs.declared.hits.ClassHits.{ClassHits};
 ghost use Rattle.jc_exec.specs.declared.session.Session.{Session};
 ghost use Rattle.jc_exec.specs.Adding.{Gathers, RefusesAll, Keeps, RefusesBlock};
@@ -19,7 +19,7 @@ use crate::merge::{gather, put};
 use crate::write::exec_data;
 use crate::{ClassHits, ExecRefusal, Session};
 use indexmap::IndexMap;
-use jc_base::{Fail, Memory, Reader};
+use jc_bytes::{Fail, Memory, Reader};
 use std::alloc::{AllocError, Global};
 use std::marker::Model;
 

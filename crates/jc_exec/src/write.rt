@@ -7,7 +7,7 @@ ghost use Rattle.jc_exec.specs.Writing.{class_text, session_text, by_dump, is_hi
 
 use crate::block::{CLASS, HEADER, SESSION};
 use crate::{ClassHits, Session};
-use jc_base::Memory;
+use jc_bytes::Memory;
 use std::alloc::{AllocError, Global};
 
 /// The number whose bits these are, the lowest first.

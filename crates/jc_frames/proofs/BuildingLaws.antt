@@ -4,12 +4,12 @@ use Rattle.std.proofs.Math.Seq.{take-suc}
 use Rattle.std.proofs.lemmas.List.{map-append, append-nil, take_all, length-map}
 use Rattle.std.proofs.lemmas.List.Elements.{All-append, All-cons, All-nil}
 use Rattle.std.specs.List.{AllByRecursion}
-use Rattle.jc_base.specs.declared.kind.Kind.{Kind}
-use Rattle.jc_base.specs.declared.kind.Kind.TheVariants as kinds
-use Rattle.jc_base.specs.EntryState.{spread_one, spread, in_locals}
-use Rattle.jc_base.specs.Held.{Names, Held, top, held, is_pair, IsNumbered, Grows}
-use Rattle.jc_base.proofs.NumberedLaws.{grown_count, number_kept}
-use Rattle.jc_base.proofs.EntryStateLaws.{tops_held}
+use Rattle.jc_methods.specs.declared.kind.Kind.{Kind}
+use Rattle.jc_methods.specs.declared.kind.Kind.TheVariants as kinds
+use Rattle.jc_methods.specs.EntryState.{spread_one, spread, in_locals}
+use Rattle.jc_methods.specs.Held.{Names, Held, top, held, is_pair, IsNumbered, Grows}
+use Rattle.jc_methods.proofs.NumberedLaws.{grown_count, number_kept}
+use Rattle.jc_methods.proofs.EntryStateLaws.{tops_held}
 use Rattle.jc_pool.specs.Pool.{PoolValue}
 use Rattle.jc_frames.specs.declared.method.Value.{Value}
 use Rattle.jc_frames.specs.declared.method.Value.TheVariants as values

@@ -1,15 +1,15 @@
 -- The values of a state's local variables, from the last one and from the first one on.
 use Rattle.std.proofs.Common.{◌≡◌, ℕ, ◌+◌, ◌-◌, ◌<◌, ◌≤◌, Bool, true, false, List, [], ◌∷◌, ◌++◌, length, map, take, drop, get_or, refl, sym, ◌∙◌, ap, append_assoc}
 use Rattle.std.proofs.lemmas.List.{map-append}
-use Rattle.jc_base.specs.declared.kind.Kind.{Kind}
-use Rattle.jc_base.specs.declared.kind.Kind.TheVariants as kinds
+use Rattle.jc_methods.specs.declared.kind.Kind.{Kind}
+use Rattle.jc_methods.specs.declared.kind.Kind.TheVariants as kinds
 use Rattle.jc_pool.specs.Pool.{PoolValue}
 use Rattle.jc_frames.specs.declared.method.Value.TheVariants as values
 use Rattle.jc_frames.specs.Running.{held_values}
 use Rattle.jc_frames.proofs.RunningLaws.{take_last}
-use Rattle.jc_base.specs.Held.{Names, held, Held, top, int, float, double, long, null, uninit_this, object, uninit, is_pair}
-use Rattle.jc_base.proofs.AppendingLaws.{drop_at}
-use Rattle.jc_base.proofs.SeenLaws.{held_top}
+use Rattle.jc_methods.specs.Held.{Names, held, Held, top, int, float, double, long, null, uninit_this, object, uninit, is_pair}
+use Rattle.jc_bytes.proofs.AppendingLaws.{drop_at}
+use Rattle.jc_methods.proofs.SeenLaws.{held_top}
 use Rattle.jc_frames.specs.Frames.{without_last_top, trimmed, values_from}
 
 -- `top` at the end goes

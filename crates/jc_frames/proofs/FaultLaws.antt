@@ -1,6 +1,6 @@
 -- The answer of the search for a fault, by the outcome of the table.
 use Rattle.std.proofs.Common.{◌≡◌, ℕ, List, Option, Some, None, Result, Ok, Err, IfOk, MatchOption, refl, sym, ◌∙◌, ap, subst}
-use Rattle.jc_base.specs.Held.{Seen, SeenAt}
+use Rattle.jc_methods.specs.Held.{Seen, SeenAt}
 use Rattle.jc_frames.specs.Frames.{Ground}
 use Rattle.jc_frames.specs.Table.{StandsFor, TableFault, Outcome, stands_for, at_fault, outcome_of, fault_of}
 use Rattle.jc_frames.proofs.TableLaws.{table_good, table_bad, table_again, table_fails}

@@ -1,14 +1,14 @@
 -- Frames are read exactly where the form spells them.
 use Rattle.std.proofs.Common.{◌≡◌, ℕ, List, [], ◌∷◌, ◌++◌, Some, refl, sym, ◌∙◌, ap, arith}
-use Rattle.jc_base.specs.Counted.{counted, counted_at}
+use Rattle.jc_bytes.specs.Counted.{counted, counted_at}
 use Rattle.byteorder.specs.Endian.{big_number}
-use Rattle.jc_base.specs.Decoder.{IsBig, byte_at, number_at}
-use Rattle.jc_base.proofs.DecoderLaws.{byte_takes, byte_again}
-use Rattle.jc_base.specs.Grammar.{times, Agrees}
-use Rattle.jc_base.specs.ItemForms.{number}
-use Rattle.jc_base.specs.Parsing.{Parsed, Good, Bad, ◌>>=◌, item, times_at}
-use Rattle.jc_base.proofs.CountedLaws.{agrees_number, agrees_counted}
-use Rattle.jc_base.proofs.GrammarLaws.{agrees_nothing, agrees_item, agrees_followed, agrees_times, good_bad, bad_is}
+use Rattle.jc_bytes.specs.Decoder.{IsBig, byte_at, number_at}
+use Rattle.jc_bytes.proofs.DecoderLaws.{byte_takes, byte_again}
+use Rattle.jc_bytes.specs.Grammar.{times, Agrees}
+use Rattle.jc_bytes.specs.ItemForms.{number}
+use Rattle.jc_bytes.specs.Parsing.{Parsed, Good, Bad, ◌>>=◌, item, times_at}
+use Rattle.jc_bytes.proofs.CountedLaws.{agrees_number, agrees_counted}
+use Rattle.jc_bytes.proofs.GrammarLaws.{agrees_nothing, agrees_item, agrees_followed, agrees_times, good_bad, bad_is}
 use Rattle.jc_frames.specs.declared.items.TypeItem.TheVariants as types
 use Rattle.jc_frames.specs.declared.items.FrameItem.TheVariants as frames
 use Rattle.jc_frames.specs.declared.items.TypeForm.{TypeForm}

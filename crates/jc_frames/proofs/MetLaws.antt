@@ -7,15 +7,15 @@ use Rattle.std.proofs.lemmas.Slice.Eq.{bytes_eq-Decides}
 use Rattle.std.specs.HashMap.{get, HashMap}
 use Rattle.std.specs.List.{list_any}
 use Rattle.std.specs.Str.{bytes_eq}
-use Rattle.jc_base.specs.declared.body.FrameAt.{FrameAt}
-use Rattle.jc_base.specs.declared.kind.Kind.{Kind}
-use Rattle.jc_base.specs.declared.kind.Kind.TheVariants as kinds
-use Rattle.jc_base.specs.EntryState.{spread_one, spread, in_locals}
-use Rattle.jc_base.specs.Held.{Names, Held, SeenAt, top, int, float, double, long, null, uninit_this, object, uninit, held, seen_at, class_name, class_names, Grows, IsNumbered, AreNumberedFrames}
-use Rattle.jc_base.specs.Names.{with_name, met}
-use Rattle.jc_base.proofs.MetNamesLaws.{met_more}
-use Rattle.jc_base.proofs.SeenLaws.{frames_stay, kinds_stay}
-use Rattle.jc_base.proofs.DecoderLaws.{some_is}
+use Rattle.jc_methods.specs.declared.body.FrameAt.{FrameAt}
+use Rattle.jc_methods.specs.declared.kind.Kind.{Kind}
+use Rattle.jc_methods.specs.declared.kind.Kind.TheVariants as kinds
+use Rattle.jc_methods.specs.EntryState.{spread_one, spread, in_locals}
+use Rattle.jc_methods.specs.Held.{Names, Held, SeenAt, top, int, float, double, long, null, uninit_this, object, uninit, held, seen_at, class_name, class_names, Grows, IsNumbered, AreNumberedFrames}
+use Rattle.jc_bytes.specs.Names.{with_name, met}
+use Rattle.jc_methods.proofs.MetNamesLaws.{met_more}
+use Rattle.jc_methods.proofs.SeenLaws.{frames_stay, kinds_stay}
+use Rattle.jc_bytes.proofs.DecoderLaws.{some_is}
 use Rattle.jc_pool.specs.Pool.{PoolValue}
 use Rattle.jc_frames.specs.declared.method.Value.{Value}
 use Rattle.jc_frames.specs.declared.method.Value.TheVariants as values

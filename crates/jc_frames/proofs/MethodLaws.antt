@@ -1,7 +1,7 @@
 -- Offsets of a method's instructions, and the types that frames list.
 use Rattle.std.proofs.Common.{◌≡◌, ℕ, ◌+◌, ◌-◌, ◌<◌, List, [], ◌∷◌, ◌++◌, get_or, All, Option, Some, None, option_map, refl, sym, ◌∙◌, ap, arith, append_assoc}
 use Rattle.std.proofs.lemmas.List.{get_or_default, append-nil}
-use Rattle.jc_base.specs.Held.{Held}
+use Rattle.jc_methods.specs.Held.{Held}
 use Rattle.jc_frames.specs.declared.items.TypeItem.{TypeItem}
 use Rattle.jc_frames.specs.Frames.{Ground, type_of, in_front, types_of}
 use Rattle.jc_frames.specs.WellMade.{AreOffsets}

@@ -2,16 +2,16 @@
 use Rattle.std.proofs.Common.{◌≡◌, ℕ, zero, suc, List, [], ◌∷◌, ◌++◌, length, map, All, Result, Ok, Err, IfOk, IfErr, refl, sym, ◌∙◌, ap, subst, arith}
 use Rattle.std.proofs.lemmas.List.{map-append}
 use Rattle.std.specs.List.{AllByRecursion}
-use Rattle.jc_base.specs.declared.body.FrameAt.{FrameAt}
-use Rattle.jc_base.specs.declared.fail.Fail.{Fail}
-use Rattle.jc_base.specs.declared.fail.Fail.TheVariants as fails
-use Rattle.jc_base.specs.declared.kind.Kind.{Kind}
-use Rattle.jc_base.specs.declared.kind.Kind.TheVariants as kinds
-use Rattle.jc_base.specs.declared.kind.State.{State}
-use Rattle.jc_base.specs.declared.refusal.Refusal.{Refusal}
-use Rattle.jc_base.specs.Held.{Names, Seen, SeenAt, held, seen, seen_at, Grows, IsNumberedState, AreNumberedFrames}
-use Rattle.jc_base.specs.WellMade.{IsKind, AreFramesFrom}
-use Rattle.jc_base.proofs.NumberedLaws.{seen_grown, frames_numbered, grown_count}
+use Rattle.jc_methods.specs.declared.body.FrameAt.{FrameAt}
+use Rattle.jc_bytes.specs.declared.fail.Fail.{Fail}
+use Rattle.jc_bytes.specs.declared.fail.Fail.TheVariants as fails
+use Rattle.jc_methods.specs.declared.kind.Kind.{Kind}
+use Rattle.jc_methods.specs.declared.kind.Kind.TheVariants as kinds
+use Rattle.jc_methods.specs.declared.kind.State.{State}
+use Rattle.jc_bytes.specs.declared.refusal.Refusal.{Refusal}
+use Rattle.jc_methods.specs.Held.{Names, Seen, SeenAt, held, seen, seen_at, Grows, IsNumberedState, AreNumberedFrames}
+use Rattle.jc_methods.specs.WellMade.{IsKind, AreFramesFrom}
+use Rattle.jc_methods.proofs.NumberedLaws.{seen_grown, frames_numbered, grown_count}
 use Rattle.jc_frames.specs.declared.running.Frame.{Frame}
 use Rattle.jc_frames.specs.declared.running.Running.{Running}
 use Rattle.jc_frames.specs.Answers.{bad_frame, IsFrameRefusal, FailsAt}

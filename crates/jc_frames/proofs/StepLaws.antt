@@ -1,8 +1,8 @@
 -- One step of a walk, as the method's fields say it.
 use Rattle.std.proofs.Common.{◌≡◌, ℕ, ◌+◌, ◌<◌, List, [], ◌∷◌, ◌++◌, Option, Some, None, option_map, sym, ◌∙◌, ap, subst}
-use Rattle.jc_base.specs.Held.{Names, Seen, SeenAt}
-use Rattle.jc_base.specs.Decoder.{number_at}
-use Rattle.jc_base.specs.Parsing.{Good, item}
+use Rattle.jc_methods.specs.Held.{Names, Seen, SeenAt}
+use Rattle.jc_bytes.specs.Decoder.{number_at}
+use Rattle.jc_bytes.specs.Parsing.{Good, item}
 use Rattle.jc_frames.specs.declared.running.Frame.{Frame}
 use Rattle.jc_frames.specs.declared.running.Running.{Running}
 use Rattle.jc_frames.specs.Frames.{Ground, Before, first_before, Found}

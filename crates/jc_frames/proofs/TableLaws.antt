@@ -1,14 +1,14 @@
 -- A table stands for one list of frames, or has one first fault, and reading finds out which.
 use Rattle.std.proofs.Common.{◌≡◌, inl, inr, ℕ, zero, suc, ◌+◌, List, [], ◌∷◌, Option, Some, None, refl, sym, ◌∙◌, ap}
-use Rattle.jc_base.specs.Decoder.{number_at}
-use Rattle.jc_base.specs.Parsing.{Parsed, Good, Bad, item}
-use Rattle.jc_base.proofs.GrammarLaws.{good_bad}
-use Rattle.jc_base.specs.Held.{Seen, SeenAt}
+use Rattle.jc_bytes.specs.Decoder.{number_at}
+use Rattle.jc_bytes.specs.Parsing.{Parsed, Good, Bad, item}
+use Rattle.jc_bytes.proofs.GrammarLaws.{good_bad}
+use Rattle.jc_methods.specs.Held.{Seen, SeenAt}
 use Rattle.jc_frames.specs.declared.items.FrameItem.{FrameItem}
 use Rattle.jc_frames.specs.TableReading.{frame_item_at}
 use Rattle.jc_frames.specs.Frames.{Ground, Before, first_before, Found, frame_of}
 use Rattle.jc_frames.specs.Table.{FrameBefore, AreFrames, StandsFor, NoFrame, FaultFrom, TableFault, Outcome, stands_for, at_fault, behind_frame, at_end, with_found, with_item, frames_from, with_count, outcome_of}
-use Rattle.jc_base.proofs.CountedLaws.{agrees_number}
+use Rattle.jc_bytes.proofs.CountedLaws.{agrees_number}
 use Rattle.jc_frames.proofs.FormLaws.{frame_agrees}
 use Rattle.jc_frames.proofs.FrameLaws.{says_nothing, fault_says_nothing}
 

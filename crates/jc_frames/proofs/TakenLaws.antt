@@ -5,12 +5,12 @@ use Rattle.std.proofs.lemmas.List.{append-nil, drop_all}
 use Rattle.std.specs.HashMap.{HashMap, get}
 use Rattle.std.specs.HashSet.{HashSet, contains}
 use Rattle.std.specs.List.{AllByRecursion, list_any}
-use Rattle.jc_base.proofs.AppendingLaws.{drop_at, drop_is}
-use Rattle.jc_base.specs.Held.{Names, class_name, class_names, held, seen_at}
-use Rattle.jc_base.specs.declared.body.FrameAt.{FrameAt}
-use Rattle.jc_base.specs.declared.fail.Fail.{Fail}
-use Rattle.jc_base.specs.declared.fail.Fail.TheVariants as fails
-use Rattle.jc_base.specs.declared.kind.Kind.{Kind}
+use Rattle.jc_bytes.proofs.AppendingLaws.{drop_at, drop_is}
+use Rattle.jc_methods.specs.Held.{Names, class_name, class_names, held, seen_at}
+use Rattle.jc_methods.specs.declared.body.FrameAt.{FrameAt}
+use Rattle.jc_bytes.specs.declared.fail.Fail.{Fail}
+use Rattle.jc_bytes.specs.declared.fail.Fail.TheVariants as fails
+use Rattle.jc_methods.specs.declared.kind.Kind.{Kind}
 use Rattle.jc_pool.specs.Adding.{IsFirst, HasClass, RefusesFull, Extends}
 use Rattle.jc_pool.specs.declared.add.PoolFull.{PoolFull}
 use Rattle.jc_pool.specs.Lookup.{class_name_of}

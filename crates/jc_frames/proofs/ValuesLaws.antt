@@ -1,8 +1,8 @@
 -- Values in local variables, each of them once and in its slots.
 use Rattle.std.proofs.Common.{◌≡◌, ◌⊎◌, inl, inr, ⊎_elim, ℕ, suc, ◌+◌, ◌-◌, ◌≤◌, Bool, true, false, List, [], ◌∷◌, ◌++◌, length, replicate, refl, sym, ◌∙◌, ap, ap₂, arith, length-append, if◌then◌else◌, zero}
 use Rattle.std.specs.List.{AllByRecursion}
-use Rattle.jc_base.specs.Held.{Held, top, int, float, double, long, null, uninit_this, object, uninit, is_pair, width, slots}
-use Rattle.jc_base.specs.EntryState.{spread_one, spread, in_locals}
+use Rattle.jc_methods.specs.Held.{Held, top, int, float, double, long, null, uninit_this, object, uninit, is_pair, width, slots}
+use Rattle.jc_methods.specs.EntryState.{spread_one, spread, in_locals}
 use Rattle.jc_frames.specs.Frames.{without_last_top, trimmed, values_from, values_in}
 use Rattle.jc_frames.specs.FullFrames.{BeginsWithTop, ArePaired}
 

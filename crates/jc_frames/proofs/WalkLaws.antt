@@ -1,9 +1,9 @@
 -- Frame after frame, a walk finds what the table stands for.
 use Rattle.std.proofs.Common.{◌≡◌, ℕ, zero, suc, ◌+◌, ◌-◌, ◌<◌, ◌≤◌, List, [], ◌∷◌, ◌++◌, length, Option, Some, None, option_map, Result, Ok, Err, IfOk, IsErr, is_ok, Bool, true, false, refl, sym, ◌∙◌, ap, arith, append_assoc}
 use Rattle.std.proofs.lemmas.List.{append-nil}
-use Rattle.jc_base.specs.Held.{Seen, SeenAt}
-use Rattle.jc_base.specs.Decoder.{number_at}
-use Rattle.jc_base.specs.Parsing.{Parsed, Good, Bad, item}
+use Rattle.jc_methods.specs.Held.{Seen, SeenAt}
+use Rattle.jc_bytes.specs.Decoder.{number_at}
+use Rattle.jc_bytes.specs.Parsing.{Parsed, Good, Bad, item}
 use Rattle.jc_frames.specs.declared.items.FrameItem.{FrameItem}
 use Rattle.jc_frames.specs.TableReading.{frame_item_at}
 use Rattle.jc_frames.specs.Frames.{Ground, Before, first_before, Found, frame_of}

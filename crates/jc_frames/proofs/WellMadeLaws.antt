@@ -4,18 +4,18 @@ use Rattle.std.proofs.lemmas.List.{length-map, length-replicate}
 use Rattle.std.proofs.lemmas.List.Sums.{sum_by-cons}
 use Rattle.std.proofs.lemmas.Bool.{eqb-true, ltb-true, leb-true, cases_lt}
 use Rattle.std.specs.List.{AllByRecursion, All, slice_get, sum_by}
-use Rattle.jc_base.specs.declared.insn.Insn.{Insn}
-use Rattle.jc_base.specs.declared.insn.Insn.TheVariants as insns
-use Rattle.jc_base.specs.declared.kind.Kind.{Kind}
-use Rattle.jc_base.specs.declared.kind.Kind.TheVariants as kinds
-use Rattle.jc_base.specs.declared.body.FrameAt.{FrameAt}
-use Rattle.jc_base.specs.WellMade.{IsKind, IsState, AreFramesFrom, kind_slots, BeginsWithTop, ArePaired}
+use Rattle.jc_methods.specs.declared.insn.Insn.{Insn}
+use Rattle.jc_methods.specs.declared.insn.Insn.TheVariants as insns
+use Rattle.jc_methods.specs.declared.kind.Kind.{Kind}
+use Rattle.jc_methods.specs.declared.kind.Kind.TheVariants as kinds
+use Rattle.jc_methods.specs.declared.body.FrameAt.{FrameAt}
+use Rattle.jc_methods.specs.WellMade.{IsKind, IsState, AreFramesFrom, kind_slots, BeginsWithTop, ArePaired}
 use Rattle.jc_frames.specs.FullFrames as full
-use Rattle.jc_base.specs.Opcode as opcode
-use Rattle.jc_base.specs.Starts.{insn_number}
-use Rattle.jc_base.specs.Held.{Names, Held, top, int, float, double, long, null, uninit_this, object, uninit, SeenAt, held, seen_at, is_pair, slots, width}
-use Rattle.jc_base.specs.EntryState.{spread_one, spread, in_locals}
-use Rattle.jc_base.proofs.DecoderLaws.{some_is}
+use Rattle.jc_methods.specs.Opcode as opcode
+use Rattle.jc_methods.specs.Starts.{insn_number}
+use Rattle.jc_methods.specs.Held.{Names, Held, top, int, float, double, long, null, uninit_this, object, uninit, SeenAt, held, seen_at, is_pair, slots, width}
+use Rattle.jc_methods.specs.EntryState.{spread_one, spread, in_locals}
+use Rattle.jc_bytes.proofs.DecoderLaws.{some_is}
 use Rattle.jc_pool.specs.Lookup.{class_name_of}
 use Rattle.jc_frames.specs.declared.items.TypeItem.{TypeItem}
 use Rattle.jc_frames.specs.declared.items.TypeItem.TheVariants as types

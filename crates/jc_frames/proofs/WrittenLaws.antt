@@ -6,17 +6,17 @@ use Rattle.std.proofs.lemmas.List.Elements.{recursion_from_All}
 use Rattle.std.proofs.lemmas.List.Sums.{sum_by-cons}
 use Rattle.std.proofs.lemmas.Option.{slice_get_within}
 use Rattle.std.specs.List.{AllByRecursion, sum_by}
-use Rattle.jc_base.proofs.EachLaws.{all_weaker, each_of_all}
-use Rattle.jc_base.specs.declared.body.FrameAt.{FrameAt}
-use Rattle.jc_base.specs.declared.insn.Insn.{Insn}
-use Rattle.jc_base.specs.declared.insn.Insn.TheVariants as insn
-use Rattle.jc_base.specs.Opcode as opcode
-use Rattle.jc_base.specs.declared.kind.Kind.{Kind}
-use Rattle.jc_base.specs.declared.kind.Kind.TheVariants as kinds
-use Rattle.jc_base.specs.FrameOrder.{RiseFrom}
-use Rattle.jc_base.specs.Held.{Names, Held, top, int, float, double, long, null, uninit_this, object, uninit, class_names, held, seen_at, is_pair, slots, width, IsNumberedState, AreNumberedFrames}
-use Rattle.jc_base.specs.Starts.{insn_number}
-use Rattle.jc_base.specs.WellMade as made
+use Rattle.jc_bytes.proofs.EachLaws.{all_weaker, each_of_all}
+use Rattle.jc_methods.specs.declared.body.FrameAt.{FrameAt}
+use Rattle.jc_methods.specs.declared.insn.Insn.{Insn}
+use Rattle.jc_methods.specs.declared.insn.Insn.TheVariants as insn
+use Rattle.jc_methods.specs.Opcode as opcode
+use Rattle.jc_methods.specs.declared.kind.Kind.{Kind}
+use Rattle.jc_methods.specs.declared.kind.Kind.TheVariants as kinds
+use Rattle.jc_methods.specs.FrameOrder.{RiseFrom}
+use Rattle.jc_methods.specs.Held.{Names, Held, top, int, float, double, long, null, uninit_this, object, uninit, class_names, held, seen_at, is_pair, slots, width, IsNumberedState, AreNumberedFrames}
+use Rattle.jc_methods.specs.Starts.{insn_number}
+use Rattle.jc_methods.specs.WellMade as made
 use Rattle.jc_pool.specs.Lookup.{class_name_of}
 use Rattle.jc_pool.proofs.AddedLaws.{class_within}
 use Rattle.jc_frames.specs.Frames.{Ground, is_new, values_in}

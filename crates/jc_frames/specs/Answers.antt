@@ -1,11 +1,11 @@
 -- The answers of the call that reads a StackMapTable.
 use Rattle.std.specs.Prelude.{◌≡◌, ⊤, ℕ, List, ◌++◌, None}
 use Rattle.std.specs.List.{flat_map}
-use Rattle.jc_base.specs.Held.{Names, Seen, SeenAt, class_names}
-use Rattle.jc_base.specs.declared.fail.Fail.{Fail}
-use Rattle.jc_base.specs.declared.fail.Fail.TheVariants as fails
-use Rattle.jc_base.specs.declared.refusal.Refusal.{Refusal}
-use Rattle.jc_base.specs.declared.refusal.RefusalKind.TheVariants as kinds
+use Rattle.jc_methods.specs.Held.{Names, Seen, SeenAt, class_names}
+use Rattle.jc_bytes.specs.declared.fail.Fail.{Fail}
+use Rattle.jc_bytes.specs.declared.fail.Fail.TheVariants as fails
+use Rattle.jc_bytes.specs.declared.refusal.Refusal.{Refusal}
+use Rattle.jc_bytes.specs.declared.refusal.RefusalKind.TheVariants as kinds
 use Rattle.jc_frames.specs.Frames.{Ground}
 use Rattle.jc_frames.specs.Table.{TableFault, Outcome, at_fault}
 

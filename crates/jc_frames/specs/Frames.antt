@@ -1,11 +1,11 @@
 -- What a frame of a StackMapTable says, and why it may say nothing (JVM Specification 4.7.4, 4.10.1.4).
 use Rattle.std.specs.Prelude.{◌≡◌, ℕ, ◌+◌, ◌-◌, ◌<◌, ◌≤◌, Bool, true, false, ◌&&◌, List, [], ◌∷◌, ◌++◌, length, take, Option, Some, None, option_map, Contains, slice_get, nat_eq, nat_lt, nat_le, if◌then◌else◌}
-use Rattle.jc_base.specs.declared.insn.Insn.{Insn}
-use Rattle.jc_base.specs.declared.insn.Insn.TheVariants as insns
-use Rattle.jc_base.specs.Starts.{insn_number}
-use Rattle.jc_base.specs.Opcode as opcode
-use Rattle.jc_base.specs.Held.{Held, top, int, float, double, long, null, uninit_this, object, uninit, Seen, SeenAt, is_pair, slots}
-use Rattle.jc_base.specs.EntryState.{in_locals}
+use Rattle.jc_methods.specs.declared.insn.Insn.{Insn}
+use Rattle.jc_methods.specs.declared.insn.Insn.TheVariants as insns
+use Rattle.jc_methods.specs.Starts.{insn_number}
+use Rattle.jc_methods.specs.Opcode as opcode
+use Rattle.jc_methods.specs.Held.{Held, top, int, float, double, long, null, uninit_this, object, uninit, Seen, SeenAt, is_pair, slots}
+use Rattle.jc_methods.specs.EntryState.{in_locals}
 use Rattle.jc_pool.specs.Pool.{PoolValue}
 use Rattle.jc_pool.specs.Lookup.{class_name_of}
 use Rattle.jc_frames.specs.declared.items.TypeItem.{TypeItem}

@@ -2,8 +2,8 @@
 use Rattle.std.specs.Prelude.{◌≡◌, ⊤, ℕ, ◌+◌, ◌-◌, ◌<◌, ◌≤◌, true, List, [], ◌∷◌, ◌++◌, length, Some, slice_get}
 use Rattle.std.specs.List.{flat_map, AllByRecursion}
 use Rattle.byteorder.specs.Endian.{big_bytes}
-use Rattle.jc_base.specs.Held.{Held, top, int, float, double, long, null, uninit_this, object, uninit, Seen, SeenAt, is_pair, slots}
-use Rattle.jc_base.specs.Starts.{insn_number}
+use Rattle.jc_methods.specs.Held.{Held, top, int, float, double, long, null, uninit_this, object, uninit, Seen, SeenAt, is_pair, slots}
+use Rattle.jc_methods.specs.Starts.{insn_number}
 use Rattle.jc_pool.specs.Lookup.{class_name_of}
 use Rattle.jc_frames.specs.Frames.{Ground, values_in, is_new}
 use Rattle.jc_frames.specs.Table.{StandsFor}

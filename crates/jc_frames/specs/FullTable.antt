@@ -3,13 +3,13 @@ use Rattle.std.specs.Prelude.{◌≡◌, ◌⊎◌, ⊤, ℕ, ◌+◌, ◌<◌, 
 use Rattle.std.specs.List.{flat_map, AllByRecursion}
 use Rattle.std.specs.HashMap.{HashMap, get}
 use Rattle.std.specs.HashSet.{HashSet, contains}
-use Rattle.jc_base.specs.FrameOrder.{RiseFrom}
-use Rattle.jc_base.specs.declared.body.FrameAt.{FrameAt}
-use Rattle.jc_base.specs.declared.fail.Fail.{Fail}
-use Rattle.jc_base.specs.declared.fail.Fail.TheVariants as fails
-use Rattle.jc_base.specs.declared.kind.Kind.{Kind}
-use Rattle.jc_base.specs.declared.kind.Kind.TheVariants as kinds
-use Rattle.jc_base.specs.Held.{Names, SeenAt, class_names, IsNumberedState}
+use Rattle.jc_methods.specs.FrameOrder.{RiseFrom}
+use Rattle.jc_methods.specs.declared.body.FrameAt.{FrameAt}
+use Rattle.jc_bytes.specs.declared.fail.Fail.{Fail}
+use Rattle.jc_bytes.specs.declared.fail.Fail.TheVariants as fails
+use Rattle.jc_methods.specs.declared.kind.Kind.{Kind}
+use Rattle.jc_methods.specs.declared.kind.Kind.TheVariants as kinds
+use Rattle.jc_methods.specs.Held.{Names, SeenAt, class_names, IsNumberedState}
 use Rattle.jc_pool.specs.declared.add.PoolFull.{PoolFull}
 use Rattle.jc_pool.specs.Adding.{IsFirst, HasClass, IsTooLong}
 use Rattle.jc_pool.specs.Lookup.{class_name_of}

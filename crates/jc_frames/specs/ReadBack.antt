@@ -1,10 +1,10 @@
 -- Full frames that were written are read back (JVM Specification 4.7.4).
 use Rattle.std.specs.Prelude.{◌≡◌, ℕ, ◌≤◌, List, [], ◌∷◌, ◌++◌, length, map}
 use Rattle.std.specs.List.{AllByRecursion}
-use Rattle.jc_base.specs.declared.body.FrameAt.{FrameAt}
-use Rattle.jc_base.specs.declared.insn.Insn.{Insn}
-use Rattle.jc_base.specs.Held.{AreNumberedFrames, Names, Seen, seen_at}
-use Rattle.jc_base.specs.WellMade.{AreFramesFrom, IsState}
+use Rattle.jc_methods.specs.declared.body.FrameAt.{FrameAt}
+use Rattle.jc_methods.specs.declared.insn.Insn.{Insn}
+use Rattle.jc_methods.specs.Held.{AreNumberedFrames, Names, Seen, seen_at}
+use Rattle.jc_methods.specs.WellMade.{AreFramesFrom, IsState}
 use Rattle.jc_pool.specs.Pool.{PoolValue}
 use Rattle.jc_frames.specs.Frames.{Ground}
 use Rattle.jc_frames.specs.FullFrames.{Places, table_text}

@@ -1,10 +1,10 @@
 -- The values that reading frames has in hand, and what they stand for.
 use Rattle.std.specs.Prelude.{◌≡◌, ⊤, ℕ, ◌+◌, ◌<◌, ◌≤◌, ◌^◌, List, [], length, map, unwrap_or}
 use Rattle.std.specs.List.{sum_by}
-use Rattle.jc_base.specs.declared.kind.Kind.TheVariants as kinds
-use Rattle.jc_base.specs.Held.{Names, Held, object, held, IsNumbered}
-use Rattle.jc_base.specs.EntryState.{in_locals}
-use Rattle.jc_base.specs.WellMade.{kind_slots}
+use Rattle.jc_methods.specs.declared.kind.Kind.TheVariants as kinds
+use Rattle.jc_methods.specs.Held.{Names, Held, object, held, IsNumbered}
+use Rattle.jc_methods.specs.EntryState.{in_locals}
+use Rattle.jc_methods.specs.WellMade.{kind_slots}
 use Rattle.jc_pool.specs.Pool.{PoolValue}
 use Rattle.jc_pool.specs.Lookup.{class_name_of}
 use Rattle.jc_frames.specs.declared.items.FrameItem.{FrameItem}

@@ -1,10 +1,10 @@
 -- The frames that a StackMapTable stands for, or its first fault (JVM Specification 4.7.4).
 use Rattle.std.specs.Prelude.{◌≡◌, ◌≢◌, ◌⊎◌, ℕ, zero, suc, ◌+◌, List, [], ◌∷◌, ◌++◌, Option, Some, None}
-use Rattle.jc_base.specs.Decoder.{number_at}
-use Rattle.jc_base.specs.Parsing.{Parsed, Good, Bad, item}
-use Rattle.jc_base.specs.Held.{Seen, SeenAt}
+use Rattle.jc_bytes.specs.Decoder.{number_at}
+use Rattle.jc_bytes.specs.Parsing.{Parsed, Good, Bad, item}
+use Rattle.jc_methods.specs.Held.{Seen, SeenAt}
 use Rattle.jc_frames.specs.declared.items.FrameItem.{FrameItem}
-use Rattle.jc_base.specs.ItemForms.{number}
+use Rattle.jc_bytes.specs.ItemForms.{number}
 use Rattle.jc_frames.specs.TableForm.{frame_item}
 use Rattle.jc_frames.specs.TableReading.{frame_item_at}
 use Rattle.jc_frames.specs.Frames.{Ground, Before, first_before, Found, frame_of, FrameFault}

@@ -1,6 +1,6 @@
 -- One frame of a table, read and understood.
 use Rattle.std.specs.Prelude.{ℕ, List, Option, None, option_map}
-use Rattle.jc_base.specs.Parsing.{Parsed, Good, Bad}
+use Rattle.jc_bytes.specs.Parsing.{Parsed, Good, Bad}
 use Rattle.jc_frames.specs.declared.items.FrameItem.{FrameItem}
 use Rattle.jc_frames.specs.Frames.{Ground, Before, Found, frame_of}
 

@@ -1,10 +1,10 @@
 -- The frames of a table are those of a well made body (JVM Specification 4.7.4).
 use Rattle.std.specs.Prelude.{◌≡◌, ⊤, ℕ, ◌+◌, ◌<◌, true, List, length, map, slice_get, slice_index}
 use Rattle.std.specs.List.{AllByRecursion}
-use Rattle.jc_base.specs.declared.body.FrameAt.{FrameAt}
-use Rattle.jc_base.specs.WellMade.{AreFramesFrom}
-use Rattle.jc_base.specs.Held.{Names, Held, top, uninit, Seen, seen_at}
-use Rattle.jc_base.specs.EntryState.{in_locals}
+use Rattle.jc_methods.specs.declared.body.FrameAt.{FrameAt}
+use Rattle.jc_methods.specs.WellMade.{AreFramesFrom}
+use Rattle.jc_methods.specs.Held.{Names, Held, top, uninit, Seen, seen_at}
+use Rattle.jc_methods.specs.EntryState.{in_locals}
 use Rattle.jc_frames.specs.Frames.{Ground, is_new, values_in}
 use Rattle.jc_frames.specs.Table.{StandsFor}
 

@@ -1,16 +1,17 @@
 //! The state of a frame, with numbers of class names.
 ghost use Rattle.std.specs.Prelude.{◌≡◌, ◌<◌, ◌≤◌, ◌++◌, ◌-◌, ℕ, length, map, replicate, IfOk, OnOk, Some, All, slice_get};
-ghost use Rattle.jc_base.specs.EntryState.{spread, in_locals};
-ghost use Rattle.jc_base.specs.Held.{Names as NameList, class_name, class_names, held, seen_at, Grows, IsNumbered, IsNumberedState};
-ghost use Rattle.jc_base.specs.declared.kind.Kind.TheVariants as kinds;
-ghost use Rattle.jc_base.specs.Names.{with_name, met};
+ghost use Rattle.jc_methods.specs.EntryState.{spread, in_locals};
+ghost use Rattle.jc_methods.specs.Held.{Names as NameList, class_name, class_names, held, seen_at, Grows, IsNumbered, IsNumberedState};
+ghost use Rattle.jc_methods.specs.declared.kind.Kind.TheVariants as kinds;
+ghost use Rattle.jc_bytes.specs.Names.{with_name, met};
 ghost use Rattle.jc_frames.specs.Answers.{seen_names};
 ghost use Rattle.jc_frames.specs.Building.{AreKnown};
 ghost use Rattle.jc_frames.specs.Running.{name_at, held_value, held_values, IsNumberedValue, IsUnnumbered, found_as};
 
 use crate::method::{Method, Value};
 use crate::running::{Frame, Running, is_wide};
-use jc_base::{FrameAt, Kind, List, Memory, Names, State, put_tops};
+use jc_bytes::{List, Memory, Names};
+use jc_methods::{FrameAt, Kind, State, put_tops};
 use jc_pool::Pool;
 use std::alloc::Global;
 use std::collections::HashMap;

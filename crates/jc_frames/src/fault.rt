@@ -1,7 +1,7 @@
 //! Where a StackMapTable is wrong (JVM Specification 4.7.4).
 ghost use Rattle.std.specs.Prelude.{◌≡◌, ◌<◌, ◌≤◌, ◌^◌, ℕ, List, length, IfOk, MatchOption, Some, None};
-ghost use Rattle.jc_base.specs.Held.{Names, SeenAt, seen};
-ghost use Rattle.jc_base.specs.Outside.{most_read};
+ghost use Rattle.jc_methods.specs.Held.{Names, SeenAt, seen};
+ghost use Rattle.jc_bytes.specs.Reader.{most_read};
 ghost use Rattle.jc_frames.specs.Frames.{ground};
 ghost use Rattle.jc_frames.specs.Table.{StandsFor, TableFault, outcome_of, fault_of};
 ghost use Rattle.jc_frames.specs.WellMade.{AreOffsets};
@@ -9,7 +9,8 @@ ghost use Rattle.jc_frames.specs.WellMade.{AreOffsets};
 use crate::method::Method;
 use crate::running::Running;
 use crate::walk::{next_frame, table_count};
-use jc_base::{Insn, Memory, Reader, State};
+use jc_bytes::{Memory, Reader};
+use jc_methods::{Insn, State};
 use jc_pool::Pool;
 use std::alloc::Global;
 

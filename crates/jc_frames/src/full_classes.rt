@@ -1,11 +1,12 @@
 //! The classes that full frames name, in a constant pool (JVM Specification 4.4.1, 4.7.4).
 ghost use Rattle.std.specs.Prelude.{◌≡◌, ◌≤◌, All, IfErr, IfOk, OnErr, OnOk, length, map};
-ghost use Rattle.jc_base.specs.Held.{AreNumberedFrames, IsNumbered, IsNumberedState, class_name, class_names, held, seen_at};
+ghost use Rattle.jc_methods.specs.Held.{AreNumberedFrames, IsNumbered, IsNumberedState, class_name, class_names, held, seen_at};
 ghost use Rattle.jc_pool.specs.Adding.{Extends, HasClass, RefusesFull};
 ghost use Rattle.jc_frames.specs.FullTable.{AreTaken, RefusesClasses, TakesClasses, named_by, named_by_all};
 
 use crate::running::kinds_in_locals;
-use jc_base::{Fail, FrameAt, Kind, Names};
+use jc_bytes::{Fail, Names};
+use jc_methods::{FrameAt, Kind};
 use jc_pool::{Pool, PoolFull};
 use std::alloc::Global;
 use std::collections::HashSet;

@@ -1,7 +1,7 @@
 //! Writing full frames (JVM Specification 4.7.4).
 ghost use Rattle.std.specs.Prelude.{◌≡◌, ◌<◌, ◌≤◌, ◌++◌, [], All, IfErr, IfOk, OnErr, OnOk, length, map, slice_index, slice_index_or};
 ghost use Rattle.std.specs.List.{AllByRecursion, flat_map};
-ghost use Rattle.jc_base.specs.Held.{IsNumbered, class_name, class_names, held, seen_at};
+ghost use Rattle.jc_methods.specs.Held.{IsNumbered, class_name, class_names, held, seen_at};
 ghost use Rattle.jc_pool.specs.Adding.{Extends, IsFirst};
 ghost use Rattle.jc_pool.specs.Lookup.{class_name_of};
 ghost use Rattle.jc_frames.specs.FullFrames.{Places, full_text, full_texts, short, table_text, type_text, types_text};
@@ -11,7 +11,8 @@ ghost use Rattle.jc_frames.specs.FullTable.{OffsetsRise, RefusesClasses, TakesCl
 use crate::full_classes::{place_of_class, take_classes};
 use crate::running::kinds_in_locals;
 use byteorder::{BigEndian, ByteOrder};
-use jc_base::{Fail, FrameAt, Kind, Memory, Names, put_bytes, put_u8};
+use jc_bytes::{Fail, Memory, Names, put_bytes, put_u8};
+use jc_methods::{FrameAt, Kind};
 use jc_pool::{Pool, PoolFull};
 use std::alloc::Global;
 use std::collections::HashMap;

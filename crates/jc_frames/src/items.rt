@@ -1,5 +1,5 @@
 //! What a StackMapTable holds, as it stands in the class file.
-use jc_base::List;
+use jc_bytes::List;
 
 /// A verification type (JVM Specification 4.7.4). Places in the code are offsets.
 #[derive(Clone, Copy, Debug, PartialEq, Eq)]

@@ -17,7 +17,7 @@ pub use fault::frame_fault;
 pub use full_classes::take_classes;
 pub use full_frames::write_full;
 pub use items::{FrameForm, FrameItem, TypeForm, TypeItem};
-pub use jc_base::entry_state;
+pub use jc_methods::entry_state;
 pub use laws::{
     a_frame_says_something_or_has_a_fault, a_pool_takes_classes_or_is_full,
     each_table_has_frames_or_a_fault, frames_of_a_body_can_be_written,

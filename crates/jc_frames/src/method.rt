@@ -1,13 +1,14 @@
 //! What the meaning of a table depends on.
 ghost use Rattle.std.specs.Prelude.{◌≡◌, ◌+◌, ◌<◌, ◌≤◌, ◌^◌, length, IfOk, IfSome, IfNone, Some, All, option_map, slice_get};
-ghost use Rattle.jc_base.specs.Held.{Names};
-ghost use Rattle.jc_base.specs.Starts.{insn_number};
+ghost use Rattle.jc_methods.specs.Held.{Names};
+ghost use Rattle.jc_methods.specs.Starts.{insn_number};
 ghost use Rattle.jc_frames.specs.Frames.{is_new, type_of, types_of};
 ghost use Rattle.jc_frames.specs.Running.{held_value, held_values, IsUnnumbered};
 ghost use Rattle.jc_frames.specs.WellMade.{AreOffsets};
 
 use crate::items::TypeItem;
-use jc_base::{Insn, Kind, Memory, insn_numbers, opcode};
+use jc_bytes::Memory;
+use jc_methods::{Insn, Kind, insn_numbers, opcode};
 use jc_pool::Pool;
 use std::alloc::Global;
 use std::marker::Model;

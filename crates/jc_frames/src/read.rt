@@ -1,10 +1,10 @@
 //! Reading a StackMapTable (JVM Specification 4.7.4).
 ghost use Rattle.std.specs.Prelude.{◌≡◌, ◌<◌, ◌≤◌, ◌^◌, ℕ, List, length, map, IfOk, IfErr, All};
-ghost use Rattle.jc_base.specs.Held.{SeenAt, seen, seen_at, Grows, IsNumberedState, AreNumberedFrames};
-ghost use Rattle.jc_base.specs.Names.{met};
-ghost use Rattle.jc_base.specs.Outside.{most_read};
-ghost use Rattle.jc_base.specs.WellMade.{IsKind, AreFramesFrom};
-ghost use Rattle.jc_base.specs.declared.fail.Fail.TheVariants as fails;
+ghost use Rattle.jc_methods.specs.Held.{SeenAt, seen, seen_at, Grows, IsNumberedState, AreNumberedFrames};
+ghost use Rattle.jc_bytes.specs.Names.{met};
+ghost use Rattle.jc_bytes.specs.Reader.{most_read};
+ghost use Rattle.jc_methods.specs.WellMade.{IsKind, AreFramesFrom};
+ghost use Rattle.jc_bytes.specs.declared.fail.Fail.TheVariants as fails;
 ghost use Rattle.jc_frames.specs.Answers.{bad_frame, FailsAt, IsFrameRefusal, frame_names};
 ghost use Rattle.jc_frames.specs.Frames.{ground};
 ghost use Rattle.jc_frames.specs.Table.{StandsFor, TableFault, outcome_of, stands_for};
@@ -14,7 +14,8 @@ use crate::building::built_frame;
 use crate::method::Method;
 use crate::running::Running;
 use crate::walk::{next_frame, table_count};
-use jc_base::{Fail, FrameAt, Insn, Names, Reader, Refusal, RefusalKind, State};
+use jc_bytes::{Fail, Names, Reader, Refusal, RefusalKind};
+use jc_methods::{FrameAt, Insn, State};
 use jc_pool::Pool;
 use std::alloc::Global;
 use std::collections::HashMap;

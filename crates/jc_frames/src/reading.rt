@@ -1,14 +1,14 @@
 //! Reading the frames of a StackMapTable, item by item (JVM Specification 4.7.4).
 ghost use Rattle.std.specs.Prelude.{◌≡◌, ◌<◌, ◌≤◌, length, IfOk};
-ghost use Rattle.jc_base.specs.Counted.{counted_at};
-ghost use Rattle.jc_base.specs.Decoder.{SameEnd};
-ghost use Rattle.jc_base.specs.Parsing.{Parses, times_at};
+ghost use Rattle.jc_bytes.specs.Counted.{counted_at};
+ghost use Rattle.jc_bytes.specs.Decoder.{SameEnd};
+ghost use Rattle.jc_bytes.specs.Parsing.{Parses, times_at};
 ghost use Rattle.jc_frames.specs.Running.{HasFewTypes};
 ghost use Rattle.jc_frames.specs.TableForm.{type_form as form_of_type, frame_form as form_of_frame};
 ghost use Rattle.jc_frames.specs.TableReading.{type_behind_at, type_at, frame_behind_at, frame_item_at};
 
 use crate::items::{FrameForm, FrameItem, TypeForm, TypeItem};
-use jc_base::{Fail, List, Reader, Refusal, byte_item, not_a_class, u16_item};
+use jc_bytes::{Fail, List, Reader, Refusal, byte_item, not_a_class, u16_item};
 use std::alloc::Global;
 
 /// The form of a verification type's tag.
@@ -80,7 +80,7 @@ fn so_many_types(
 }
 
 /// A count of two bytes, and so many verification types.
-#[tactic(auto, unfolding(jc_base::specs::Counted::counted_at))]
+#[tactic(auto, unfolding(jc_bytes::specs::Counted::counted_at))]
 fn counted_types(alloc: Global, reader: &mut Reader<'_>) -> Result<List<TypeItem>, Fail<Refusal>>
     ensures gives { Parses (λ x. x) result reader.old reader.new (counted_at type_at reader.old.left) }
     ensures end { SameEnd reader.old reader.new }

@@ -2,7 +2,7 @@
 ghost use Rattle.std.specs.Prelude.{◌≡◌, ◌+◌, ◌-◌, ◌*◌, ◌<◌, ◌≤◌, ◌^◌, ◌++◌, ℕ, length, map, take, nat_le, IfOk};
 ghost use Rattle.std.specs.Prelude.{OnOk, IfSome, OnSome, Some, None, All, option_map, if◌then◌else◌};
 ghost use Rattle.std.specs.List.{sum_by};
-ghost use Rattle.jc_base.specs.Held.{Names, held, seen, is_pair, IsNumbered};
+ghost use Rattle.jc_methods.specs.Held.{Names, held, seen, is_pair, IsNumbered};
 ghost use Rattle.jc_pool.specs.Pool.{PoolValue};
 ghost use Rattle.jc_frames.specs.Frames.{delta_of, values_of, stack_of, types_of, frame_of, fits_slots, first_before, trimmed, values_in};
 ghost use Rattle.jc_frames.specs.FullTable.{IsPlaced};
@@ -10,7 +10,8 @@ ghost use Rattle.jc_frames.specs.Running.{held_values, IsUnnumbered, IsNumberedV
 
 use crate::items::{FrameItem, TypeItem};
 use crate::method::{Method, Value};
-use jc_base::{Kind, Memory, State};
+use jc_bytes::Memory;
+use jc_methods::{Kind, State};
 use std::alloc::Global;
 
 /// A frame that says something: where it stands, and the values on the stack there.

@@ -1,8 +1,8 @@
 //! The frames of a table one after the other.
 ghost use Rattle.std.specs.Prelude.{◌≡◌, ◌<◌, ◌^◌, ℕ, IfOk, OnOk, IfSome, OnSome, IfNone, All, option_map};
-ghost use Rattle.jc_base.specs.Decoder.{number_at};
-ghost use Rattle.jc_base.specs.Held.{Names};
-ghost use Rattle.jc_base.specs.Parsing.{Good, Bad, item};
+ghost use Rattle.jc_bytes.specs.Decoder.{number_at};
+ghost use Rattle.jc_methods.specs.Held.{Names};
+ghost use Rattle.jc_bytes.specs.Parsing.{Good, Bad, item};
 ghost use Rattle.jc_frames.specs.Running.{IsUnnumbered, IsNumberedValue, IsRunning, before, found_as};
 ghost use Rattle.jc_frames.specs.TableReading.{frame_item_at};
 ghost use Rattle.jc_frames.specs.Walk.{with_rest, read_frame};
@@ -10,7 +10,7 @@ ghost use Rattle.jc_frames.specs.Walk.{with_rest, read_frame};
 use crate::method::Method;
 use crate::reading::frame_item;
 use crate::running::{Frame, Running};
-use jc_base::{Fail, Memory, Reader};
+use jc_bytes::{Fail, Memory, Reader};
 use std::alloc::Global;
 
 /// How many frames a table has, by the count in front.

@@ -2,20 +2,20 @@
 use Rattle.std.proofs.Common.{◌≡◌, Ok, Err, ℕ, ◌+◌, ◌<◌, ◌≤◌, List, [], ◌∷◌, ◌++◌, length, Some, All, refl, sym, ◌∙◌, ap, subst, arith, append_assoc, length-append}
 use Rattle.std.proofs.lemmas.List.{append-nil}
 use Rattle.std.proofs.lemmas.List.Elements.{All-push, All-nil}
-use Rattle.jc_base.specs.Reader.{Reading}
-use Rattle.jc_base.specs.Decoder.{SameEnd}
-use Rattle.jc_base.proofs.DecoderLaws.{some_none}
-use Rattle.jc_base.specs.declared.refusal.Refusal.{Refusal}
-use Rattle.jc_base.specs.declared.refusal.RefusalKind.{RefusalKind}
-use Rattle.jc_base.specs.declared.refusal.RefusalKind.TheVariants as kinds
-use Rattle.jc_base.specs.declared.insn.Insn.{Insn}
+use Rattle.jc_bytes.specs.Reader.{Reading}
+use Rattle.jc_bytes.specs.Decoder.{SameEnd}
+use Rattle.jc_bytes.proofs.DecoderLaws.{some_none}
+use Rattle.jc_bytes.specs.declared.refusal.Refusal.{Refusal}
+use Rattle.jc_bytes.specs.declared.refusal.RefusalKind.{RefusalKind}
+use Rattle.jc_bytes.specs.declared.refusal.RefusalKind.TheVariants as kinds
+use Rattle.jc_methods.specs.declared.insn.Insn.{Insn}
 use Rattle.jc_insn.specs.declared.item.Item.{Item}
 use Rattle.jc_insn.specs.declared.item.Item.TheVariants as items
 use Rattle.jc_insn.specs.Items.{IsItem}
 use Rattle.jc_insn.specs.Reading.{item_at}
 use Rattle.jc_insn.specs.Spells.{SpellsFrom, IsFault, FaultBehind}
-use Rattle.jc_base.specs.declared.fail.Fail.{Fail}
-use Rattle.jc_base.specs.declared.fail.Fail.TheVariants as fails
+use Rattle.jc_bytes.specs.declared.fail.Fail.{Fail}
+use Rattle.jc_bytes.specs.declared.fail.Fail.TheVariants as fails
 use Rattle.jc_insn.specs.Decoding.{Stops, Refuses, GivesNext}
 use Rattle.jc_insn.proofs.ItemReadingLaws.{reads_item}
 

@@ -2,12 +2,12 @@
 use Rattle.std.proofs.Common.{◌≡◌, ℕ, suc, ◌+◌, ◌<◌, ◌≤◌, List, [], ◌∷◌, length, get_or, All, cond, nat_eq, Bool, true, false, sym, ◌∙◌, ap, subst, arith, length-append, zero}
 use Rattle.std.proofs.lemmas.List.{length-map}
 use Rattle.std.proofs.lemmas.List.Elements.{All-map, All-nil, All-cons}
-use Rattle.jc_base.specs.Outside.{most_read}
-use Rattle.jc_base.specs.declared.insn.Insn.{Insn}
-use Rattle.jc_base.specs.Insn.{IsWellFormed, arm_count, with_places}
-use Rattle.jc_base.specs.Flow.{targets_of}
-use Rattle.jc_base.specs.Starts.{AreStarts, insn_number}
-use Rattle.jc_base.proofs.PlacedInsnLaws.{same_arms}
+use Rattle.jc_bytes.specs.Reader.{most_read}
+use Rattle.jc_methods.specs.declared.insn.Insn.{Insn}
+use Rattle.jc_methods.specs.Insn.{IsWellFormed, arm_count, with_places}
+use Rattle.jc_methods.specs.Flow.{targets_of}
+use Rattle.jc_methods.specs.Starts.{AreStarts, insn_number}
+use Rattle.jc_methods.proofs.PlacedInsnLaws.{same_arms}
 use Rattle.jc_insn.specs.Spells.{SpellsFrom, Spells}
 use Rattle.jc_insn.specs.Decoding.{IsInsnAmong}
 use Rattle.jc_insn.specs.declared.item.Item.TheVariants as items

@@ -1,8 +1,8 @@
 -- Reading functions that agree with forms of bytes, field by field.
 use Rattle.std.proofs.Common.{◌≡◌, ℕ, Bool, cond, List, [], ◌∷◌, ◌++◌, take, Option, Some, None, refl, sym, ◌∙◌, ap, append_assoc}
 use Rattle.std.proofs.lemmas.List.{take_at}
-use Rattle.jc_base.specs.Decoder.{◌>>=◌, byte_at, number_at}
-use Rattle.jc_base.proofs.DecoderLaws.{bind_some, guard_some, some_is, some_none, first_takes, first_again, number_takes, number_again, byte_takes, byte_again}
+use Rattle.jc_bytes.specs.Decoder.{◌>>=◌, byte_at, number_at}
+use Rattle.jc_bytes.proofs.DecoderLaws.{bind_some, guard_some, some_is, some_none, first_takes, first_again, number_takes, number_again, byte_takes, byte_again}
 use Rattle.jc_insn.specs.Fields.{nothing, byte, piece, Then, only_if}
 use Rattle.jc_insn.specs.Items.{number}
 use Rattle.jc_insn.specs.Reading.{piece_at}

@@ -1,11 +1,11 @@
 -- Code has no more instructions and arms than bytes.
 use Rattle.std.proofs.Common.{◌≡◌, ℕ, ◌+◌, ◌≤◌, List, [], ◌∷◌, length, map, refl, ◌∙◌, ap, arith, length-append}
 use Rattle.std.proofs.lemmas.List.Sums.{sum_by-cons}
-use Rattle.jc_base.specs.declared.insn.Insn.{Insn}
-use Rattle.jc_base.specs.Insn.{arm_count, with_places}
-use Rattle.jc_base.specs.WellMade.{insns_and_arms}
-use Rattle.jc_base.specs.Starts.{insn_number}
-use Rattle.jc_base.proofs.PlacedInsnLaws.{same_arms}
+use Rattle.jc_methods.specs.declared.insn.Insn.{Insn}
+use Rattle.jc_methods.specs.Insn.{arm_count, with_places}
+use Rattle.jc_methods.specs.WellMade.{insns_and_arms}
+use Rattle.jc_methods.specs.Starts.{insn_number}
+use Rattle.jc_methods.proofs.PlacedInsnLaws.{same_arms}
 use Rattle.jc_insn.specs.declared.item.Item.TheVariants as items
 use Rattle.jc_insn.specs.Items.{IsItem}
 use Rattle.jc_insn.specs.Spells.{SpellsFrom, Spells}

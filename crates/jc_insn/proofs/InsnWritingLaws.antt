@@ -3,22 +3,22 @@ use Rattle.std.proofs.Common.{◌≡◌, ◌⊎◌, ℕ, zero, suc, ◌+◌, ◌
 use Rattle.std.specs.Prelude.{slice_index}
 use Rattle.std.specs.List.{flat_map}
 use Rattle.std.proofs.lemmas.Bool.{ne_eqb}
-use Rattle.jc_base.specs.Opcode as opcode
-use Rattle.jc_base.specs.declared.form.Form.TheVariants as forms
-use Rattle.jc_base.specs.InsnForm.{form_of}
+use Rattle.jc_methods.specs.Opcode as opcode
+use Rattle.jc_methods.specs.declared.form.Form.TheVariants as forms
+use Rattle.jc_methods.specs.InsnForm.{form_of}
 use Rattle.std.specs.Prelude.{ℤ, FitsSigned}
 use Rattle.std.proofs.lemmas.List.{length-map, get_or-map, append-nil, take_all, map-append}
 use Rattle.std.proofs.lemmas.Grind.{flat_map-append}
 use Rattle.std.proofs.Math.ListN.{drop_of_length-le}
-use Rattle.jc_base.specs.Flow.{is_test, targets_of}
+use Rattle.jc_methods.specs.Flow.{is_test, targets_of}
 use Rattle.std.proofs.Math.Seq.{drop-cons, take-suc}
 use Rattle.std.proofs.lemmas.List.Elements.{All-tail, All-more}
-use Rattle.jc_base.specs.Insn.{IsWellFormed, with_places, arm_with_place}
+use Rattle.jc_methods.specs.Insn.{IsWellFormed, with_places, arm_with_place}
 use Rattle.jc_insn.specs.Writing.{insn_text, code_text, arm_text, IsInRange}
-use Rattle.jc_base.specs.declared.insn.Insn.{Insn}
-use Rattle.jc_base.specs.declared.insn.Insn.TheVariants as insns
-use Rattle.jc_base.specs.declared.insn.Arm.{Arm}
-use Rattle.jc_base.proofs.InsnFormLaws.{jump_codes, local_codes}
+use Rattle.jc_methods.specs.declared.insn.Insn.{Insn}
+use Rattle.jc_methods.specs.declared.insn.Insn.TheVariants as insns
+use Rattle.jc_methods.specs.declared.insn.Arm.{Arm}
+use Rattle.jc_methods.proofs.InsnFormLaws.{jump_codes, local_codes}
 
 -- a jump that isn't goto is a conditional one
 pub jump_tests : (op : ℕ) → form_of op ≡ forms.Jump → (op ≡ opcode.goto → ⊥) → is_test op ≡ true

@@ -4,9 +4,9 @@ use Rattle.std.proofs.lemmas.List.Elements.{All-tail}
 use Rattle.std.specs.Prelude.{slice_index}
 use Rattle.std.proofs.lemmas.List.{get_or_past, get_or_default}
 use Rattle.std.proofs.lemmas.Bool.{cases_lt}
-use Rattle.jc_base.specs.declared.insn.Insn.{Insn}
-use Rattle.jc_base.specs.Insn.{IsWellFormed, with_places}
-use Rattle.jc_base.specs.Flow.{targets_of}
+use Rattle.jc_methods.specs.declared.insn.Insn.{Insn}
+use Rattle.jc_methods.specs.Insn.{IsWellFormed, with_places}
+use Rattle.jc_methods.specs.Flow.{targets_of}
 use Rattle.jc_insn.specs.Sizes.{StartAt}
 use Rattle.jc_insn.specs.Writing.{IsInRange}
 use Rattle.jc_insn.proofs.ShortestSpellingLaws.{Fits}

@@ -1,14 +1,14 @@
 -- Code has one reading: one list of instructions, or one first fault.
 use Rattle.std.proofs.Common.{◌≡◌, ◌⊎◌, inl, inr, ℕ, ◌+◌, ◌<◌, List, [], ◌∷◌, ◌++◌, length, map, get_or, All, refl, sym, ◌∙◌, ap, subst, arith, length-append}
 use Rattle.std.proofs.lemmas.List.{append_cancel_left}
-use Rattle.jc_base.specs.declared.fail.Fail.{Fail}
-use Rattle.jc_base.specs.declared.fail.Fail.TheVariants as fails
-use Rattle.jc_base.specs.declared.refusal.Refusal.{Refusal}
-use Rattle.jc_base.specs.declared.refusal.RefusalKind.{RefusalKind}
-use Rattle.jc_base.specs.declared.refusal.RefusalKind.TheVariants as kinds
-use Rattle.jc_base.specs.declared.insn.Insn.{Insn}
-use Rattle.jc_base.specs.Insn.{with_places}
-use Rattle.jc_base.specs.Starts.{insn_number}
+use Rattle.jc_bytes.specs.declared.fail.Fail.{Fail}
+use Rattle.jc_bytes.specs.declared.fail.Fail.TheVariants as fails
+use Rattle.jc_bytes.specs.declared.refusal.Refusal.{Refusal}
+use Rattle.jc_bytes.specs.declared.refusal.RefusalKind.{RefusalKind}
+use Rattle.jc_bytes.specs.declared.refusal.RefusalKind.TheVariants as kinds
+use Rattle.jc_methods.specs.declared.insn.Insn.{Insn}
+use Rattle.jc_methods.specs.Insn.{with_places}
+use Rattle.jc_methods.specs.Starts.{insn_number}
 use Rattle.jc_insn.specs.declared.item.Item.{Item}
 use Rattle.jc_insn.specs.declared.item.Item.TheVariants as items
 use Rattle.jc_insn.specs.Items.{IsItem}
@@ -16,7 +16,7 @@ use Rattle.jc_insn.specs.Spells.{SpellsFrom, Spells, IsFault, FaultBehind, IsRef
 use Rattle.jc_insn.specs.Decoding.{Refuses}
 use Rattle.jc_insn.proofs.ItemReadingLaws.{insn_is, not_subroutine, same_item}
 use Rattle.jc_insn.proofs.CodeReadingLaws.{some_bytes}
-use Rattle.jc_base.proofs.StartsLaws.{numbers_are}
+use Rattle.jc_methods.proofs.StartsLaws.{numbers_are}
 
 -- an item isn't in front of no bytes
 no_bytes : (at : ℕ) (bytes text rest : List ℕ) (item : Item) → bytes ≡ [] → bytes ≡ text ++ rest → IsItem at text item → ⊥

@@ -7,14 +7,14 @@ use Rattle.std.specs.List.{flat_map}
 use Rattle.std.specs.Int.{cast_signed, cast_unsigned}
 use Rattle.std.proofs.lemmas.List.{append-nil, drop_at}
 use Rattle.std.proofs.lemmas.Bool.{and_parts, cases_lt, lt-ltb, le-ltb}
-use Rattle.jc_base.specs.Opcode as opcode
-use Rattle.jc_base.specs.Decoder.{IsBig}
-use Rattle.jc_base.proofs.DecoderLaws.{big_front}
-use Rattle.jc_base.specs.declared.form.Form.{Form}
-use Rattle.jc_base.specs.declared.form.Form.TheVariants as forms
-use Rattle.jc_base.specs.InsnForm.{form_of}
-use Rattle.jc_base.proofs.InsnFormLaws.{local_codes, load_form, store_form, named_forms}
-use Rattle.jc_base.specs.declared.insn.Insn.TheVariants as insns
+use Rattle.jc_methods.specs.Opcode as opcode
+use Rattle.jc_bytes.specs.Decoder.{IsBig}
+use Rattle.jc_bytes.proofs.DecoderLaws.{big_front}
+use Rattle.jc_methods.specs.declared.form.Form.{Form}
+use Rattle.jc_methods.specs.declared.form.Form.TheVariants as forms
+use Rattle.jc_methods.specs.InsnForm.{form_of}
+use Rattle.jc_methods.proofs.InsnFormLaws.{local_codes, load_form, store_form, named_forms}
+use Rattle.jc_methods.specs.declared.insn.Insn.TheVariants as insns
 use Rattle.jc_insn.specs.declared.item.Item.{Item}
 use Rattle.jc_insn.specs.declared.item.Item.TheVariants as items
 use Rattle.jc_insn.specs.Fields.{nothing, byte, piece, Then}

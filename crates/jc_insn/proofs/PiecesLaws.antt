@@ -1,7 +1,7 @@
 -- Pieces of the same size, one behind the other.
 use Rattle.std.proofs.Common.{◌≡◌, ℕ, zero, suc, ◌+◌, ◌-◌, ◌*◌, ◌<◌, List, [], ◌∷◌, ◌++◌, length, take, drop, refl, sym, ◌∙◌, ap, arith, length-drop, true}
 use Rattle.std.proofs.lemmas.List.{drop-drop, take_all}
-use Rattle.jc_base.specs.declared.insn.Arm.{Arm}
+use Rattle.jc_methods.specs.declared.insn.Arm.{Arm}
 use Rattle.jc_insn.specs.Items.{in_pieces, ascending}
 
 -- one piece more

@@ -3,11 +3,11 @@ use Rattle.std.proofs.Common.{◌≡◌, ℕ, ◌<◌, ◌≤◌, List, [], ◌�
 use Rattle.std.specs.Prelude.{FitsSigned, ◌≤ℤ◌, ◌+ℤ◌}
 use Rattle.std.proofs.lemmas.List.{length-map, map-id}
 use Rattle.std.proofs.lemmas.List.Elements.{All-map, All-nil, All-cons, All-tail}
-use Rattle.jc_base.specs.declared.insn.Insn.{Insn}
-use Rattle.jc_base.specs.declared.insn.Insn.TheVariants as insns
-use Rattle.jc_base.specs.declared.insn.Arm.{Arm}
-use Rattle.jc_base.specs.Insn.{IsWellFormed, IsAscending, with_places, arm_with_place}
-use Rattle.jc_base.specs.Flow.{targets_of}
+use Rattle.jc_methods.specs.declared.insn.Insn.{Insn}
+use Rattle.jc_methods.specs.declared.insn.Insn.TheVariants as insns
+use Rattle.jc_methods.specs.declared.insn.Arm.{Arm}
+use Rattle.jc_methods.specs.Insn.{IsWellFormed, IsAscending, with_places, arm_with_place}
+use Rattle.jc_methods.specs.Flow.{targets_of}
 use Rattle.jc_insn.specs.Writing.{IsInRange}
 
 ascending_map : (f : ℕ → ℕ) (arms : List Arm) → IsAscending arms → IsAscending (map (arm_with_place f) arms)

@@ -5,8 +5,8 @@ use Rattle.std.specs.Int.{cast_signed, cast_unsigned}
 use Rattle.std.proofs.lemmas.Int.{ints, to_z-of_z, of_z-to_z, to_z_pos}
 use Rattle.std.proofs.lemmas.Bool.{cases_lt, le-ltb}
 use Rattle.byteorder.specs.Numbers.{length-bytes_high_first}
-use Rattle.jc_base.specs.Decoder.{IsBig}
-use Rattle.jc_base.proofs.AppendingLaws.{big_spells}
+use Rattle.jc_bytes.specs.Decoder.{IsBig}
+use Rattle.jc_bytes.proofs.AppendingLaws.{big_spells}
 use Rattle.jc_insn.specs.Items.{target_of}
 use Rattle.jc_insn.specs.Writing.{short, word, signed_byte, difference, IsNear}
 

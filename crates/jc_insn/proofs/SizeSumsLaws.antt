@@ -1,14 +1,14 @@
 -- Offsets that are the sums of sizes.
 use Rattle.std.proofs.Common.{◌≡◌, ◌≢◌, ℕ, zero, suc, ◌+◌, ◌<◌, ◌≤◌, Bool, true, false, cond, List, [], ◌∷◌, length, get_or, nat_eq, nat_lt, refl, ◌∙◌, ap, arith}
 use Rattle.std.proofs.lemmas.Bool.{eq-eqb, ne_eqb}
-use Rattle.jc_base.specs.Opcode as opcode
-use Rattle.jc_base.specs.declared.form.Form.{Form}
-use Rattle.jc_base.specs.declared.form.Form.TheVariants as forms
-use Rattle.jc_base.specs.InsnForm.{form_of}
-use Rattle.jc_base.specs.declared.insn.Insn.{Insn}
-use Rattle.jc_base.specs.declared.insn.Insn.TheVariants as insns
+use Rattle.jc_methods.specs.Opcode as opcode
+use Rattle.jc_methods.specs.declared.form.Form.{Form}
+use Rattle.jc_methods.specs.declared.form.Form.TheVariants as forms
+use Rattle.jc_methods.specs.InsnForm.{form_of}
+use Rattle.jc_methods.specs.declared.insn.Insn.{Insn}
+use Rattle.jc_methods.specs.declared.insn.Insn.TheVariants as insns
 use Rattle.jc_insn.specs.Sizes.{push_size, is_narrow_inc, size_of, StartAt}
-use Rattle.jc_base.specs.Starts.{insn_number}
+use Rattle.jc_methods.specs.Starts.{insn_number}
 
 some_of : (b : Bool) (m n : ℕ) → 1 ≤ m → 1 ≤ n → 1 ≤ cond b m n
 some_of true m n p q = p

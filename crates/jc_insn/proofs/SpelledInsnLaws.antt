@@ -6,15 +6,15 @@ use Rattle.std.specs.Int.Signed.{lt_z_yes}
 use Rattle.std.proofs.lemmas.Int.{ints}
 use Rattle.std.proofs.lemmas.Bool.{and_parts, lt-ltb, ltb-true, ltb-false}
 use Rattle.std.proofs.lemmas.Bool.Decides.{nat_tests}
-use Rattle.jc_base.specs.Opcode as opcode
-use Rattle.jc_base.specs.declared.form.Form.{Form}
-use Rattle.jc_base.specs.declared.form.Form.TheVariants as forms
-use Rattle.jc_base.specs.InsnForm.{form_of}
-use Rattle.jc_base.proofs.InsnFormLaws.{short_load_form, short_store_form, named_forms}
-use Rattle.jc_base.specs.declared.insn.Insn.{Insn}
-use Rattle.jc_base.specs.declared.insn.Insn.TheVariants as insns
-use Rattle.jc_base.specs.declared.insn.Arm.{Arm}
-use Rattle.jc_base.specs.Insn.{IsWellFormed, IsAscending, arm_count}
+use Rattle.jc_methods.specs.Opcode as opcode
+use Rattle.jc_methods.specs.declared.form.Form.{Form}
+use Rattle.jc_methods.specs.declared.form.Form.TheVariants as forms
+use Rattle.jc_methods.specs.InsnForm.{form_of}
+use Rattle.jc_methods.proofs.InsnFormLaws.{short_load_form, short_store_form, named_forms}
+use Rattle.jc_methods.specs.declared.insn.Insn.{Insn}
+use Rattle.jc_methods.specs.declared.insn.Insn.TheVariants as insns
+use Rattle.jc_methods.specs.declared.insn.Arm.{Arm}
+use Rattle.jc_methods.specs.Insn.{IsWellFormed, IsAscending, arm_count}
 use Rattle.jc_insn.specs.declared.item.Item.TheVariants as items
 use Rattle.jc_insn.specs.Fields.{nothing, byte, piece, Then, only_if}
 use Rattle.jc_insn.specs.Items.{number, padding, key_count, target_of, in_pieces, offset_in, offsets_in, arm_in, arms_in, ascending, table_operands, lookup_operands, wide_operands, operands, IsItem}

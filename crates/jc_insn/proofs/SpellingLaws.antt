@@ -1,10 +1,10 @@
 -- What is written of code is a spelling of it, or of its wide form.
 use Rattle.std.proofs.Common.{◌≡◌, ℕ, ◌+◌, ◌<◌, Bool, true, false, List, [], ◌∷◌, ◌++◌, length, map, get_or, All, refl, sym, ◌∙◌, ap, subst}
 use Rattle.std.specs.Prelude.{slice_index}
-use Rattle.jc_base.specs.declared.insn.Insn.{Insn}
-use Rattle.jc_base.specs.Insn.{with_places}
-use Rattle.jc_base.specs.Flow.{targets_of}
-use Rattle.jc_base.specs.Starts.{insn_number}
+use Rattle.jc_methods.specs.declared.insn.Insn.{Insn}
+use Rattle.jc_methods.specs.Insn.{with_places}
+use Rattle.jc_methods.specs.Flow.{targets_of}
+use Rattle.jc_methods.specs.Starts.{insn_number}
 use Rattle.jc_insn.specs.declared.item.Item.TheVariants as items
 use Rattle.jc_insn.specs.Items.{IsItem}
 use Rattle.jc_insn.specs.Spells.{SpellsFrom, Spells}

@@ -7,13 +7,13 @@ use Rattle.std.proofs.lemmas.Int.{ints}
 use Rattle.std.proofs.lemmas.List.{append-nil, drop_at, length-replicate}
 use Rattle.std.proofs.lemmas.Bool.{lt-ltb}
 use Rattle.byteorder.specs.Endian.{big_number}
-use Rattle.jc_base.specs.Opcode as opcode
-use Rattle.jc_base.proofs.DecoderLaws.{big_front}
-use Rattle.jc_base.specs.declared.form.Form.TheVariants as forms
-use Rattle.jc_base.proofs.InsnFormLaws.{named_forms}
-use Rattle.jc_base.specs.declared.insn.Insn.TheVariants as insns
-use Rattle.jc_base.specs.declared.insn.Arm.{Arm}
-use Rattle.jc_base.specs.Insn.{IsAscending}
+use Rattle.jc_methods.specs.Opcode as opcode
+use Rattle.jc_bytes.proofs.DecoderLaws.{big_front}
+use Rattle.jc_methods.specs.declared.form.Form.TheVariants as forms
+use Rattle.jc_methods.proofs.InsnFormLaws.{named_forms}
+use Rattle.jc_methods.specs.declared.insn.Insn.TheVariants as insns
+use Rattle.jc_methods.specs.declared.insn.Arm.{Arm}
+use Rattle.jc_methods.specs.Insn.{IsAscending}
 use Rattle.jc_insn.specs.declared.item.Item.TheVariants as items
 use Rattle.jc_insn.specs.Fields.{nothing, piece, Then, only_if}
 use Rattle.jc_insn.specs.Items.{padding, key_count, target_of, in_pieces, offset_in, offsets_in, arm_in, arms_in, ascending, table_operands, lookup_operands, operands, IsItem}

@@ -5,20 +5,20 @@ use Rattle.std.specs.Int.{cast_signed}
 use Rattle.std.proofs.lemmas.List.{map-append}
 use Rattle.std.proofs.lemmas.List.Elements.{All-tail}
 use Rattle.std.proofs.lemmas.Bool.{eq-eqb, eqb-true, eqb-false}
-use Rattle.jc_base.specs.Opcode as opcode
-use Rattle.jc_base.specs.declared.form.Form.TheVariants as forms
-use Rattle.jc_base.specs.InsnForm.{form_of}
-use Rattle.jc_base.proofs.InsnFormLaws.{named_forms, inverse_form, test_below}
-use Rattle.jc_base.specs.declared.insn.Insn.{Insn}
-use Rattle.jc_base.specs.declared.insn.Insn.TheVariants as insns
-use Rattle.jc_base.specs.declared.insn.Flow.{Flow}
-use Rattle.jc_base.specs.declared.insn.Flow.TheVariants as flows
-use Rattle.jc_base.specs.Insn.{with_places}
-use Rattle.jc_base.specs.Flow.{targets_of, inverse_of, is_test, flow_of, flow_of_simple}
-use Rattle.jc_base.specs.Starts.{insn_number}
-use Rattle.jc_base.specs.Widened.{widths_by, wide_place, widened_by, widened_from, widened}
-use Rattle.jc_base.proofs.WidenedLaws.{first_place}
-use Rattle.jc_base.proofs.PlacedInsnLaws.{flow_placed, simple_is_no_test}
+use Rattle.jc_methods.specs.Opcode as opcode
+use Rattle.jc_methods.specs.declared.form.Form.TheVariants as forms
+use Rattle.jc_methods.specs.InsnForm.{form_of}
+use Rattle.jc_methods.proofs.InsnFormLaws.{named_forms, inverse_form, test_below}
+use Rattle.jc_methods.specs.declared.insn.Insn.{Insn}
+use Rattle.jc_methods.specs.declared.insn.Insn.TheVariants as insns
+use Rattle.jc_methods.specs.declared.insn.Flow.{Flow}
+use Rattle.jc_methods.specs.declared.insn.Flow.TheVariants as flows
+use Rattle.jc_methods.specs.Insn.{with_places}
+use Rattle.jc_methods.specs.Flow.{targets_of, inverse_of, is_test, flow_of, flow_of_simple}
+use Rattle.jc_methods.specs.Starts.{insn_number}
+use Rattle.jc_methods.specs.Widened.{widths_by, wide_place, widened_by, widened_from, widened}
+use Rattle.jc_methods.proofs.WidenedLaws.{first_place}
+use Rattle.jc_methods.proofs.PlacedInsnLaws.{flow_placed, simple_is_no_test}
 use Rattle.jc_insn.specs.declared.item.Item.TheVariants as items
 use Rattle.jc_insn.specs.Items.{IsItem, target_of, operands}
 use Rattle.jc_insn.specs.Spells.{SpellsFrom, Spells}

@@ -2,13 +2,13 @@
 use Rattle.std.specs.Prelude.{ℕ, zero, suc, ◌+◌, ◌-◌, ◌*◌, ◌/◌, ◌%◌, ◌^◌, ℤ, ◌-ℤ◌, Bool, true, ◌&&◌, List, [], ◌∷◌, length, drop, nat_eq, nat_lt, nat_le, int_lt, int_le, unsigned_abs}
 use Rattle.std.specs.Int.{w8, w16, w32, cast_signed, cast_unsigned}
 use Rattle.byteorder.specs.Endian.{big_number}
-use Rattle.jc_base.specs.declared.form.Form.{Form}
-use Rattle.jc_base.specs.declared.form.Form.TheVariants as forms
-use Rattle.jc_base.specs.Opcode as opcode
-use Rattle.jc_base.specs.InsnForm.{form_of}
-use Rattle.jc_base.specs.Decoder.{IsBig}
-use Rattle.jc_base.specs.declared.insn.Insn.TheVariants as insns
-use Rattle.jc_base.specs.declared.insn.Arm.{Arm}
+use Rattle.jc_methods.specs.declared.form.Form.{Form}
+use Rattle.jc_methods.specs.declared.form.Form.TheVariants as forms
+use Rattle.jc_methods.specs.Opcode as opcode
+use Rattle.jc_methods.specs.InsnForm.{form_of}
+use Rattle.jc_bytes.specs.Decoder.{IsBig}
+use Rattle.jc_methods.specs.declared.insn.Insn.TheVariants as insns
+use Rattle.jc_methods.specs.declared.insn.Arm.{Arm}
 use Rattle.jc_insn.specs.declared.item.Item.{Item}
 use Rattle.jc_insn.specs.declared.item.Item.TheVariants as items
 use Rattle.jc_insn.specs.Fields.{nothing, byte, piece, ◌>>=◌, only_if}

@@ -1,10 +1,10 @@
 -- The two layouts of code: with two bytes for the operand of a jump, and the wide one.
 use Rattle.std.specs.Prelude.{◌≡◌, ℕ, ◌+◌, Bool, List, [], ◌∷◌, ◌++◌, if◌then◌else◌}
-use Rattle.jc_base.specs.declared.insn.Insn.{Insn}
-use Rattle.jc_base.specs.declared.insn.Flow.{Flow}
-use Rattle.jc_base.specs.declared.insn.Flow.TheVariants as flows
-use Rattle.jc_base.specs.Flow.{flow_of}
-use Rattle.jc_base.specs.Widened.{widened}
+use Rattle.jc_methods.specs.declared.insn.Insn.{Insn}
+use Rattle.jc_methods.specs.declared.insn.Flow.{Flow}
+use Rattle.jc_methods.specs.declared.insn.Flow.TheVariants as flows
+use Rattle.jc_methods.specs.Flow.{flow_of}
+use Rattle.jc_methods.specs.Widened.{widened}
 use Rattle.jc_insn.specs.Spells.{Spells}
 
 -- Where in the wide layout the instructions begin that stand for one at this offset. The goto_w behind the

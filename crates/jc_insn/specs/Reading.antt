@@ -1,12 +1,12 @@
 -- Reading an instruction from the front of the bytes that are left.
 use Rattle.std.specs.Prelude.{ℕ, ◌*◌, ◌&&◌, List, take, Option, Some, None, nat_eq, nat_lt, nat_le, int_le, if◌then◌else◌}
 use Rattle.std.specs.Int.{w8, w16, w32, cast_signed}
-use Rattle.jc_base.specs.declared.form.Form.{Form}
-use Rattle.jc_base.specs.declared.form.Form.TheVariants as forms
-use Rattle.jc_base.specs.Opcode as opcode
-use Rattle.jc_base.specs.InsnForm.{form_of}
-use Rattle.jc_base.specs.Decoder.{◌>>=◌, first, byte_at, number_at}
-use Rattle.jc_base.specs.declared.insn.Insn.TheVariants as insns
+use Rattle.jc_methods.specs.declared.form.Form.{Form}
+use Rattle.jc_methods.specs.declared.form.Form.TheVariants as forms
+use Rattle.jc_methods.specs.Opcode as opcode
+use Rattle.jc_methods.specs.InsnForm.{form_of}
+use Rattle.jc_bytes.specs.Decoder.{◌>>=◌, first, byte_at, number_at}
+use Rattle.jc_methods.specs.declared.insn.Insn.TheVariants as insns
 use Rattle.jc_insn.specs.declared.item.Item.{Item}
 use Rattle.jc_insn.specs.declared.item.Item.TheVariants as items
 use Rattle.jc_insn.specs.Items.{short_load, short_store, target_of, padding, key_count, ascending, offsets_in, arms_in}

@@ -1,12 +1,12 @@
 -- How many bytes instructions take.
 use Rattle.std.specs.Prelude.{◌≡◌, ◌≤◌, ◌<◌, ⊤, ℕ, ◌+◌, ◌*◌, ℤ, pos, negsuc, Bool, ◌&&◌, List, [], ◌∷◌, length, nat_eq, nat_lt, int_le, if◌then◌else◌, All}
-use Rattle.jc_base.specs.declared.form.Form.{Form}
-use Rattle.jc_base.specs.declared.form.Form.TheVariants as forms
-use Rattle.jc_base.specs.Opcode as opcode
-use Rattle.jc_base.specs.InsnForm.{form_of}
-use Rattle.jc_base.specs.declared.insn.Insn.{Insn}
-use Rattle.jc_base.specs.declared.insn.Insn.TheVariants as insns
-use Rattle.jc_base.specs.Insn.{with_places}
+use Rattle.jc_methods.specs.declared.form.Form.{Form}
+use Rattle.jc_methods.specs.declared.form.Form.TheVariants as forms
+use Rattle.jc_methods.specs.Opcode as opcode
+use Rattle.jc_methods.specs.InsnForm.{form_of}
+use Rattle.jc_methods.specs.declared.insn.Insn.{Insn}
+use Rattle.jc_methods.specs.declared.insn.Insn.TheVariants as insns
+use Rattle.jc_methods.specs.Insn.{with_places}
 use Rattle.jc_insn.specs.declared.item.Item.TheVariants as items
 use Rattle.jc_insn.specs.Items.{padding, IsItem}
 

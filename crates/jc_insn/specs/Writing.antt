@@ -3,15 +3,15 @@ use Rattle.std.specs.Prelude.{◌<◌, ◌≤◌, ⊤, ℕ, ◌+◌, ◌-◌, �
 use Rattle.std.specs.List.{flat_map}
 use Rattle.std.specs.Int.{w16, w32, cast_unsigned}
 use Rattle.byteorder.specs.Endian.{big_bytes}
-use Rattle.jc_base.specs.declared.form.Form.{Form}
-use Rattle.jc_base.specs.declared.form.Form.TheVariants as forms
-use Rattle.jc_base.specs.Opcode as opcode
-use Rattle.jc_base.specs.InsnForm.{form_of}
-use Rattle.jc_base.specs.declared.insn.Insn.{Insn}
-use Rattle.jc_base.specs.declared.insn.Insn.TheVariants as insns
-use Rattle.jc_base.specs.declared.insn.Arm.{Arm}
-use Rattle.jc_base.specs.Flow.{inverse_of}
-use Rattle.jc_base.specs.Insn.{with_places}
+use Rattle.jc_methods.specs.declared.form.Form.{Form}
+use Rattle.jc_methods.specs.declared.form.Form.TheVariants as forms
+use Rattle.jc_methods.specs.Opcode as opcode
+use Rattle.jc_methods.specs.InsnForm.{form_of}
+use Rattle.jc_methods.specs.declared.insn.Insn.{Insn}
+use Rattle.jc_methods.specs.declared.insn.Insn.TheVariants as insns
+use Rattle.jc_methods.specs.declared.insn.Arm.{Arm}
+use Rattle.jc_methods.specs.Flow.{inverse_of}
+use Rattle.jc_methods.specs.Insn.{with_places}
 use Rattle.jc_insn.specs.Items.{padding}
 use Rattle.jc_insn.specs.Sizes.{is_narrow_inc}
 

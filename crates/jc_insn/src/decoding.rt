@@ -1,16 +1,17 @@
 //! Instructions of a byte string.
 ghost use Rattle.std.specs.Prelude.{◌≡◌, ◌+◌, ◌≤◌, ◌<◌, ◌⊎◌, List, ℕ, length, IfOk, IfErr, MatchResult, All};
-ghost use Rattle.jc_base.specs.Outside.{most_read};
-ghost use Rattle.jc_base.specs.Decoder.{SameEnd};
-ghost use Rattle.jc_base.specs.declared.insn.Insn.{Insn as Instruction};
-ghost use Rattle.jc_base.specs.declared.refusal.Refusal.{Refusal as Reason};
-ghost use Rattle.jc_base.specs.Starts.{AreStarts};
+ghost use Rattle.jc_bytes.specs.Reader.{most_read};
+ghost use Rattle.jc_bytes.specs.Decoder.{SameEnd};
+ghost use Rattle.jc_methods.specs.declared.insn.Insn.{Insn as Instruction};
+ghost use Rattle.jc_bytes.specs.declared.refusal.Refusal.{Refusal as Reason};
+ghost use Rattle.jc_methods.specs.Starts.{AreStarts};
 ghost use Rattle.jc_insn.specs.Spells.{SpellsFrom, Spells, IsRefused};
 ghost use Rattle.jc_insn.specs.Decoding.{Refuses, GivesNext, IsInsnAmong};
 
 use crate::item::{Item, read_item};
 use crate::places::all_numbered;
-use jc_base::{Fail, Insn, List, Reader, Refusal, RefusalKind, Unfit, insn_numbers};
+use jc_bytes::{Fail, List, Reader, Refusal, RefusalKind, Unfit};
+use jc_methods::{Insn, insn_numbers};
 use std::alloc::Global;
 
 /// Instructions, and where they begin.

@@ -1,8 +1,8 @@
 //! Instructions as bytes.
 ghost use Rattle.std.specs.Prelude.{◌≡◌, ◌≤◌, ◌<◌, ◌++◌, List, ℕ, false, length, slice_index, OnOk, OnErr, All};
-ghost use Rattle.jc_base.specs.Outside.{most_read};
-ghost use Rattle.jc_base.specs.Flow.{targets_of};
-ghost use Rattle.jc_base.specs.Insn.{arm_count, IsWellFormed, with_places};
+ghost use Rattle.jc_bytes.specs.Reader.{most_read};
+ghost use Rattle.jc_methods.specs.Flow.{targets_of};
+ghost use Rattle.jc_methods.specs.Insn.{arm_count, IsWellFormed, with_places};
 ghost use Rattle.jc_insn.specs.Sizes.{StartAt};
 ghost use Rattle.jc_insn.specs.Writing.{insn_text, code_text, AllNear, IsInRange};
 ghost use Rattle.jc_insn.specs.Layouts.{AppendsSpelling};
@@ -11,7 +11,8 @@ use crate::write::{
     put_constant, put_dynamic, put_inc, put_interface, put_jump, put_local, put_lookup, put_multi,
     put_new_array, put_push, put_table, put_with_short,
 };
-use jc_base::{Insn, Memory, form_of, opcode};
+use jc_bytes::Memory;
+use jc_methods::{Insn, form_of, opcode};
 use std::alloc::{AllocError, Global};
 
 /// An instruction that begins at the offset `at`.

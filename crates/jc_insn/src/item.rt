@@ -1,7 +1,7 @@
 //! What stands at an offset of the code.
 ghost use Rattle.std.specs.Prelude.{◌≡◌, ◌≤◌, ◌+◌, length};
-ghost use Rattle.jc_base.specs.Outside.{most_read};
-ghost use Rattle.jc_base.specs.Decoder.{Gives, SameEnd};
+ghost use Rattle.jc_bytes.specs.Reader.{most_read};
+ghost use Rattle.jc_bytes.specs.Decoder.{Gives, SameEnd};
 ghost use Rattle.jc_insn.specs.Items.{short_load, short_store};
 ghost use Rattle.jc_insn.specs.Reading.{operands_at, item_at};
 
@@ -10,7 +10,8 @@ use crate::operands::{
     new_array, of_class, push_byte, push_short, wide, wide_jump,
 };
 use crate::switch::{lookup, table};
-use jc_base::{Fail, Form, Insn, Reader, Unfit, form_of, opcode};
+use jc_bytes::{Fail, Reader, Unfit};
+use jc_methods::{Form, Insn, form_of, opcode};
 use std::alloc::Global;
 
 /// What stands at an offset of the code.

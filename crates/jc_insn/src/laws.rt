@@ -1,9 +1,9 @@
 //! Laws of the spelling of code.
 ghost use Rattle.std.specs.Prelude.{◌≡◌, ◌⊎◌, ◌++◌, ◌+◌, ◌≤◌, ℕ, List, length, slice_index};
 ghost use Rattle.jc_insn.specs.declared.item.Item.{Item};
-ghost use Rattle.jc_base.specs.declared.insn.Insn.{Insn};
-ghost use Rattle.jc_base.specs.declared.refusal.Refusal.{Refusal};
-ghost use Rattle.jc_base.specs.Widened.{wide_place};
+ghost use Rattle.jc_methods.specs.declared.insn.Insn.{Insn};
+ghost use Rattle.jc_bytes.specs.declared.refusal.Refusal.{Refusal};
+ghost use Rattle.jc_methods.specs.Widened.{wide_place};
 ghost use Rattle.jc_insn.specs.Layouts.{wide_starts};
 ghost use Rattle.jc_insn.specs.Items.{IsItem};
 ghost use Rattle.jc_insn.specs.Spells.{Spells, IsRefused};

@@ -1,6 +1,6 @@
 //! The operands of an instruction.
 ghost use Rattle.std.specs.Prelude.{◌≡◌, ℤ};
-ghost use Rattle.jc_base.specs.Decoder.{Gives, SameEnd};
+ghost use Rattle.jc_bytes.specs.Decoder.{Gives, SameEnd};
 ghost use Rattle.jc_insn.specs.Items.{target_of};
 ghost use Rattle.jc_insn.specs.Reading.{push_byte_at, push_short_at, constant_byte_at, constant_short_at, constant2_at};
 ghost use Rattle.jc_insn.specs.Reading.{local_at, inc_at, jump_at, wide_jump_at, member_at, interface_at, dynamic_at};
@@ -8,7 +8,8 @@ ghost use Rattle.jc_insn.specs.Reading.{of_class_at, new_array_at, multi_at, wid
 ghost use Rattle.jc_insn.specs.Reading.{wide_operands_at, wide_at};
 
 use crate::item::Item;
-use jc_base::{Fail, Form, Insn, Reader, Unfit, form_of, opcode};
+use jc_bytes::{Fail, Reader, Unfit};
+use jc_methods::{Form, Insn, form_of, opcode};
 
 /// The offset that lies so far from this one.
 pub fn target(at: u32, difference: i32) -> u32

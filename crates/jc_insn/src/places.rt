@@ -1,8 +1,9 @@
 //! Numbers of instructions in place of their offsets.
 ghost use Rattle.std.specs.Prelude.{◌≡◌, map, slice_index_or, IfOk};
-ghost use Rattle.jc_base.specs.Insn.{with_places, arm_with_place};
+ghost use Rattle.jc_methods.specs.Insn.{with_places, arm_with_place};
 
-use jc_base::{Arm, Insn, List};
+use jc_bytes::List;
+use jc_methods::{Arm, Insn};
 use std::alloc::{AllocError, Global};
 
 /// The number at an offset, or the number of instructions where there is none.

@@ -1,11 +1,11 @@
 //! How many bytes an instruction takes.
 ghost use Rattle.std.specs.Prelude.{◌≡◌, ◌≤◌, true, nat_lt, if◌then◌else◌};
-ghost use Rattle.jc_base.specs.Outside.{most_read};
-ghost use Rattle.jc_base.specs.Insn.{arm_count};
+ghost use Rattle.jc_bytes.specs.Reader.{most_read};
+ghost use Rattle.jc_methods.specs.Insn.{arm_count};
 ghost use Rattle.jc_insn.specs.Items.{padding};
 ghost use Rattle.jc_insn.specs.Sizes.{push_size, local_size, is_narrow_inc, jump_size, size_of, IsJump, IsLeast};
 
-use jc_base::{Form, Insn, form_of, opcode};
+use jc_methods::{Form, Insn, form_of, opcode};
 
 /// How many bytes stand between the opcode of a switch at this offset and its operands.
 pub fn padding(at: u32) -> u32

@@ -1,7 +1,7 @@
 //! The operands of switches.
 ghost use Rattle.std.specs.Prelude.{◌≡◌, ◌+◌, ◌*◌, ◌/◌, ◌<◌, ◌≤◌, length, take, int_le, IfOk};
-ghost use Rattle.jc_base.specs.Outside.{most_read};
-ghost use Rattle.jc_base.specs.Decoder.{Gives, SameEnd, first};
+ghost use Rattle.jc_bytes.specs.Reader.{most_read};
+ghost use Rattle.jc_bytes.specs.Decoder.{Gives, SameEnd, first};
 ghost use Rattle.jc_insn.specs.Items.{padding, key_count, ascending, offset_in, offsets_in, arm_in, arms_in};
 ghost use Rattle.jc_insn.specs.Reading.{piece_at, table_at, lookup_at};
 
@@ -9,7 +9,8 @@ use crate::item::Item;
 use crate::operands::target;
 use crate::size::padding;
 use byteorder::{BigEndian, ByteOrder};
-use jc_base::{Arm, Fail, Insn, List, MOST_READ, Reader, Unfit};
+use jc_bytes::{Fail, List, MOST_READ, Reader, Unfit};
+use jc_methods::{Arm, Insn};
 use std::alloc::{AllocError, Global};
 
 /// The next `count` pieces of `size` bytes each.

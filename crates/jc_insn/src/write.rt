@@ -3,18 +3,18 @@ ghost use Rattle.std.specs.Prelude.{◌≡◌, ◌≤◌, ◌+◌, ◌%◌, ◌<
 ghost use Rattle.std.specs.Prelude.{slice_index, OnOk, OnErr, All, map, IsTrue, ℤ, pos, ◌+ℤ◌, ◌≤ℤ◌, FitsSigned};
 ghost use Rattle.std.specs.List.{flat_map};
 ghost use Rattle.std.specs.Int.{w32, cast_unsigned};
-ghost use Rattle.jc_base.specs.Outside.{most_read};
-ghost use Rattle.jc_base.specs.declared.form.Form.TheVariants as forms;
-ghost use Rattle.jc_base.specs.Opcode.{iload, aload, istore, astore, goto_w, newarray};
-ghost use Rattle.jc_base.specs.InsnForm.{form_of};
-ghost use Rattle.jc_base.specs.Insn.{arm_with_place};
+ghost use Rattle.jc_bytes.specs.Reader.{most_read};
+ghost use Rattle.jc_methods.specs.declared.form.Form.TheVariants as forms;
+ghost use Rattle.jc_methods.specs.Opcode.{iload, aload, istore, astore, goto_w, newarray};
+ghost use Rattle.jc_methods.specs.InsnForm.{form_of};
+ghost use Rattle.jc_methods.specs.Insn.{arm_with_place};
 ghost use Rattle.jc_insn.specs.Writing.{short, word, signed_byte, signed_short, difference, push_text, short_code};
 ghost use Rattle.jc_insn.specs.Writing.{local_text, inc_text, constant_text, wide_jump_text, jump_text, arm_text};
 ghost use Rattle.jc_insn.specs.Writing.{pad_text, last_key, table_text, lookup_text, interface_text, dynamic_text};
 ghost use Rattle.jc_insn.specs.Writing.{multi_text};
 
 use crate::size::{is_narrow_inc, padding};
-use jc_base::{Arm, Form, inverse, opcode};
+use jc_methods::{Arm, Form, inverse, opcode};
 use std::alloc::AllocError;
 
 /// A number in two bytes.

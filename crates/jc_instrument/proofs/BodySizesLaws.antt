@@ -5,17 +5,17 @@ use Rattle.std.specs.List.{sum_by}
 use Rattle.std.proofs.lemmas.List.{length-map}
 use Rattle.std.proofs.lemmas.List.Sums.{sum_by-cons, length-filter, count_by-le-length}
 use Rattle.std.proofs.Math.Nat.{mul-add, mul-one, mul-zero}
-use Rattle.jc_base.specs.Counted.{counted}
-use Rattle.jc_base.specs.Decoder.{IsBig}
-use Rattle.jc_base.specs.Grammar.{Grammar}
-use Rattle.jc_base.specs.Held.{Names, SeenAt, seen_at}
-use Rattle.jc_base.specs.Outside.{most_read}
-use Rattle.jc_base.specs.Starts.{insn_number}
-use Rattle.jc_base.specs.WellMade.{HasSizes, IsWellMade, insns_and_arms}
-use Rattle.jc_base.specs.declared.body.Body.{Body}
-use Rattle.jc_base.specs.declared.body.Handler.{Handler}
-use Rattle.jc_base.specs.declared.body.LineAt.{LineAt}
-use Rattle.jc_base.specs.declared.body.VarAt.{VarAt}
+use Rattle.jc_bytes.specs.Counted.{counted}
+use Rattle.jc_bytes.specs.Decoder.{IsBig}
+use Rattle.jc_bytes.specs.Grammar.{Grammar}
+use Rattle.jc_methods.specs.Held.{Names, SeenAt, seen_at}
+use Rattle.jc_bytes.specs.Reader.{most_read}
+use Rattle.jc_methods.specs.Starts.{insn_number}
+use Rattle.jc_methods.specs.WellMade.{HasSizes, IsWellMade, insns_and_arms}
+use Rattle.jc_methods.specs.declared.body.Body.{Body}
+use Rattle.jc_methods.specs.declared.body.Handler.{Handler}
+use Rattle.jc_methods.specs.declared.body.LineAt.{LineAt}
+use Rattle.jc_methods.specs.declared.body.VarAt.{VarAt}
 use Rattle.jc_pool.specs.Pool.{PoolValue}
 use Rattle.jc_class.specs.ClassFormat.{HasText}
 use Rattle.jc_class.specs.declared.class_file.Attribute.{Attribute}

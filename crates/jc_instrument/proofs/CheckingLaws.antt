@@ -4,13 +4,13 @@ use Rattle.std.specs.Prelude.{All}
 use Rattle.std.specs.Option.{MatchOption}
 use Rattle.std.proofs.lemmas.List.{take_all}
 use Rattle.std.proofs.lemmas.Option.{slice_get-get_or, slice_get_within, get_or_from_slice_get}
-use Rattle.jc_base.specs.Held.{Names, AreNumberedFrames, Grows}
-use Rattle.jc_base.specs.declared.body.Body.{Body}
-use Rattle.jc_base.specs.declared.kind.State.{State}
-use Rattle.jc_base.specs.declared.refusal.Refusal.{Refusal}
-use Rattle.jc_base.specs.declared.refusal.RefusalKind.TheVariants as kinds
-use Rattle.jc_base.proofs.NumberedLaws.{grown_count, frames_numbered}
-use Rattle.jc_base.proofs.ListLaws.{below_or_last}
+use Rattle.jc_methods.specs.Held.{Names, AreNumberedFrames, Grows}
+use Rattle.jc_methods.specs.declared.body.Body.{Body}
+use Rattle.jc_methods.specs.declared.kind.State.{State}
+use Rattle.jc_bytes.specs.declared.refusal.Refusal.{Refusal}
+use Rattle.jc_bytes.specs.declared.refusal.RefusalKind.TheVariants as kinds
+use Rattle.jc_methods.proofs.NumberedLaws.{grown_count, frames_numbered}
+use Rattle.jc_bytes.proofs.ListLaws.{below_or_last}
 use Rattle.jc_kinds.specs.Checked.{Checked, FirstMissing, FirstClash}
 use Rattle.jc_kinds.proofs.CheckLaws.{checked_not_missing, checked_not_clash}
 use Rattle.jc_instrument.specs.KeptStates.{AreKeptStates, PutsStates, StandForBodies, places_kept}

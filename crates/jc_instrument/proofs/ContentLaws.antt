@@ -2,8 +2,8 @@
 use Rattle.std.proofs.Common.{◌≡◌, ℕ, ℤ, List, Option, Some, None, refl, ◌∙◌, ap, subst}
 use Rattle.std.proofs.lemmas.Option.{none-some}
 use Rattle.std.specs.Option.{option_map}
-use Rattle.jc_base.specs.Decoder.{◌>>=◌}
-use Rattle.jc_base.proofs.DecoderLaws.{some_is}
+use Rattle.jc_bytes.specs.Decoder.{◌>>=◌}
+use Rattle.jc_bytes.proofs.DecoderLaws.{some_is}
 use Rattle.jc_pool.specs.Adding.{IsNowhere, Extends}
 use Rattle.jc_pool.specs.Index.{entry_naming}
 use Rattle.jc_pool.specs.Lookup.{entry_of, utf8_in, utf8_of, class_name_of, string_of, long_in, long_of, signature_of, Member, member_in, member_of}

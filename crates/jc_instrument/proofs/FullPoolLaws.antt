@@ -1,6 +1,6 @@
 -- A class that has a twin class has no full pool, whatever the names with which its bodies are read.
 use Rattle.std.proofs.Common.{◌≡◌, ◌++◌, ◌∙◌, ℕ, List, length, sym, ap, subst, arith}
-use Rattle.jc_base.specs.Held.{Names, SeenAt}
+use Rattle.jc_methods.specs.Held.{Names, SeenAt}
 use Rattle.jc_pool.specs.Pool.{PoolValue}
 use Rattle.jc_class.specs.declared.class_file.ClassFile.{ClassFile}
 use Rattle.jc_instrument.specs.Analysis.{all_probes}

@@ -2,9 +2,9 @@
 use Rattle.std.proofs.Common.{◌≡◌, ◌⊎◌, inl, inr, ℕ, Bool, true, false, List, ◌++◌, Some, None, Result, Ok, Err, MatchResult, refl, sym, ap, subst}
 use Rattle.std.specs.Bool.{⊤}
 use Rattle.std.specs.Prelude.{IfErr, IfOk}
-use Rattle.jc_base.specs.declared.fail.Fail.{Fail}
-use Rattle.jc_base.specs.declared.fail.Fail.TheVariants as fails
-use Rattle.jc_base.specs.declared.refusal.Refusal.{Refusal}
+use Rattle.jc_bytes.specs.declared.fail.Fail.{Fail}
+use Rattle.jc_bytes.specs.declared.fail.Fail.TheVariants as fails
+use Rattle.jc_bytes.specs.declared.refusal.Refusal.{Refusal}
 use Rattle.jc_pool.specs.Lookup.{class_name_of}
 use Rattle.jc_class.specs.ClassId.{class_id}
 use Rattle.jc_class.specs.ClassText.{ClassText}

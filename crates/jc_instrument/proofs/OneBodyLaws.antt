@@ -1,9 +1,9 @@
 -- A method has one body, whatever the names with which it was read.
 use Rattle.std.proofs.Common.{◌≡◌, ℕ, map, Some, sym, ◌∙◌, ap, subst}
-use Rattle.jc_base.specs.Held.{Names, Grows, seen_at}
-use Rattle.jc_base.specs.declared.body.Body.{Body}
-use Rattle.jc_base.proofs.SeenLaws.{frames_stay}
-use Rattle.jc_base.proofs.NumberedLaws.{grown_count, frames_numbered}
+use Rattle.jc_methods.specs.Held.{Names, Grows, seen_at}
+use Rattle.jc_methods.specs.declared.body.Body.{Body}
+use Rattle.jc_methods.proofs.SeenLaws.{frames_stay}
+use Rattle.jc_methods.proofs.NumberedLaws.{grown_count, frames_numbered}
 use Rattle.jc_class.specs.declared.class_file.ClassFile.{ClassFile}
 use Rattle.jc_class.specs.declared.class_file.Member.{Member}
 use Rattle.jc_body.specs.BodyOf.{HasParts, IsBody, BodyOf}

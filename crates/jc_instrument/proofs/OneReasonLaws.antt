@@ -1,12 +1,12 @@
 -- A class file has one reason for which it isn't analysed, or none.
 use Rattle.std.proofs.Common.{◌≡◌, ◌⊎◌, inl, inr, ℕ, Bool, true, false, List, ◌++◌, Option, Some, None, Result, Ok, Err, MatchResult, refl, sym, ◌∙◌, ap, subst}
 use Rattle.std.specs.Bool.{⊤}
-use Rattle.jc_base.specs.declared.analysed.Analysed.{Analysed}
-use Rattle.jc_base.specs.declared.fail.Fail.{Fail}
-use Rattle.jc_base.specs.declared.fail.Fail.TheVariants as fails
-use Rattle.jc_base.specs.declared.refusal.Refusal.{Refusal}
-use Rattle.jc_base.specs.declared.refusal.RefusalKind.{RefusalKind}
-use Rattle.jc_base.specs.declared.refusal.RefusalKind.TheVariants as kinds
+use Rattle.jc_methods.specs.declared.analysed.Analysed.{Analysed}
+use Rattle.jc_bytes.specs.declared.fail.Fail.{Fail}
+use Rattle.jc_bytes.specs.declared.fail.Fail.TheVariants as fails
+use Rattle.jc_bytes.specs.declared.refusal.Refusal.{Refusal}
+use Rattle.jc_bytes.specs.declared.refusal.RefusalKind.{RefusalKind}
+use Rattle.jc_bytes.specs.declared.refusal.RefusalKind.TheVariants as kinds
 use Rattle.jc_class.specs.ClassText.{ClassText, FirstBad, not_a_class}
 use Rattle.jc_class.specs.declared.class_file.ClassFile.{ClassFile}
 use Rattle.jc_class.proofs.FirstBadLaws.{apart, one_class_of, one_place}

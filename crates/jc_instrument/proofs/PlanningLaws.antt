@@ -3,9 +3,9 @@ use Rattle.std.proofs.Common.{◌≡◌, ℕ, ◌+◌, ◌*◌, ◌<◌, ◌≤�
 use Rattle.std.specs.Prelude.{All}
 use Rattle.std.proofs.lemmas.List.Elements.{All-head, All-tail}
 use Rattle.std.proofs.lemmas.List.Sums.{count_by-le-length, sum_by-cons, sum_by-take-le, sum_by_more, sum_by_more_le}
-use Rattle.jc_base.specs.Outside.{most_read}
-use Rattle.jc_base.specs.WellMade.{IsWellMade, insns_and_arms}
-use Rattle.jc_base.specs.declared.body.Body.{Body}
+use Rattle.jc_bytes.specs.Reader.{most_read}
+use Rattle.jc_methods.specs.WellMade.{IsWellMade, insns_and_arms}
+use Rattle.jc_methods.specs.declared.body.Body.{Body}
 use Rattle.jc_plan.specs.Edges.{branches}
 use Rattle.jc_plan.specs.Probed.{is_probed, probe_count, first_id}
 use Rattle.jc_plan.proofs.FlowLaws.{few_branches}

@@ -2,11 +2,11 @@
 use Rattle.std.proofs.Common.{◌≡◌, ℕ, zero, suc, ◌-◌, ◌<◌, ◌≤◌, ◌^◌, Bool, true, false, List, [], ◌∷◌, length, Option, Some, None, refl, sym, ◌∙◌, ap, subst, arith}
 use Rattle.std.specs.List.{AllByRecursion}
 use Rattle.std.proofs.lemmas.Option.{none-some, same_Some}
-use Rattle.jc_base.specs.ByteLists.{AreBytes}
-use Rattle.jc_base.specs.Decoder.{◌>>=◌}
-use Rattle.jc_base.specs.Texts.{IsShortText}
-use Rattle.jc_base.proofs.OneTextLaws.{both_bytes, big_below}
-use Rattle.jc_base.proofs.DecoderLaws.{bind_some}
+use Rattle.jc_bytes.specs.ByteLists.{AreBytes}
+use Rattle.jc_bytes.specs.Decoder.{◌>>=◌}
+use Rattle.jc_bytes.specs.Texts.{IsShortText}
+use Rattle.jc_bytes.proofs.OneTextLaws.{both_bytes, big_below}
+use Rattle.jc_bytes.proofs.DecoderLaws.{bind_some}
 use Rattle.jc_pool.specs.declared.entry.Entry.{Entry}
 use Rattle.jc_pool.specs.declared.entry.Entry.TheVariants as entry
 use Rattle.jc_pool.specs.EntryFormat.{IsEntry}

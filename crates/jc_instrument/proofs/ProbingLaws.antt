@@ -6,18 +6,18 @@ use Rattle.std.proofs.lemmas.Bool.{cases_lt}
 use Rattle.std.proofs.lemmas.List.{get_or_past, length-map, length-take-le, map-append, take_all, take_more}
 use Rattle.std.proofs.lemmas.List.Sums.{sum_by-take-le}
 use Rattle.std.proofs.lemmas.Option.{none-some, same_Some, slice_get_within, slice_get-get_or, get_or_from_slice_get}
-use Rattle.jc_base.specs.Held.{Names, AreNumberedFrames, Grows}
-use Rattle.jc_base.specs.Names.{AreNames}
-use Rattle.jc_base.specs.declared.body.Body.{Body}
-use Rattle.jc_base.specs.declared.emitted.Emitted.{Emitted}
-use Rattle.jc_base.specs.declared.insn.Insn.{Insn}
-use Rattle.jc_base.specs.declared.kind.State.{State}
-use Rattle.jc_base.specs.WellMade.{IsWellMadeOfAnySize}
-use Rattle.jc_base.proofs.MetNamesLaws.{grows_both, grows_none, one_number}
+use Rattle.jc_methods.specs.Held.{Names, AreNumberedFrames, Grows}
+use Rattle.jc_bytes.specs.Names.{AreNames}
+use Rattle.jc_methods.specs.declared.body.Body.{Body}
+use Rattle.jc_methods.specs.declared.emitted.Emitted.{Emitted}
+use Rattle.jc_methods.specs.declared.insn.Insn.{Insn}
+use Rattle.jc_methods.specs.declared.kind.State.{State}
+use Rattle.jc_methods.specs.WellMade.{IsWellMadeOfAnySize}
+use Rattle.jc_methods.proofs.MetNamesLaws.{grows_both, grows_none, one_number}
 use Rattle.jc_frames.specs.FullTable.{FitsFull}
-use Rattle.jc_base.specs.declared.plan.Plan.{Plan}
-use Rattle.jc_base.proofs.NumberedLaws.{grown_count, state_numbered, frames_numbered}
-use Rattle.jc_base.proofs.ListLaws.{put_cases, below_or_last}
+use Rattle.jc_methods.specs.declared.plan.Plan.{Plan}
+use Rattle.jc_methods.proofs.NumberedLaws.{grown_count, state_numbered, frames_numbered}
+use Rattle.jc_bytes.proofs.ListLaws.{put_cases, below_or_last}
 use Rattle.jc_plan.specs.Plan.{plan_of}
 use Rattle.jc_plan.specs.Probed.{probe_count, first_id}
 use Rattle.jc_plan.proofs.CountLaws.{each_mapped}

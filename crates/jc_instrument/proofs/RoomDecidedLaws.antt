@@ -3,19 +3,19 @@ use Rattle.std.proofs.Common.{◌≡◌, ◌≢◌, ◌⊎◌, inl, inr, ℕ, ze
 use Rattle.std.specs.Prelude.{Contains}
 use Rattle.std.proofs.lemmas.Bool.{cases_lt, cases_eq}
 use Rattle.std.proofs.lemmas.Option.{none-some, same_Some, slice_get_within, slice_get_cases}
-use Rattle.jc_base.specs.Held.{Names}
-use Rattle.jc_base.specs.InsnUse.{is_of_two_slots}
-use Rattle.jc_base.specs.Least.{IsLeast}
-use Rattle.jc_base.specs.WellMade.{kind_slots}
-use Rattle.jc_base.specs.declared.body.Body.{Body}
-use Rattle.jc_base.specs.declared.body.FrameAt.{FrameAt}
-use Rattle.jc_base.specs.declared.insn.Insn.{Insn}
-use Rattle.jc_base.specs.declared.insn.Insn.TheVariants as insns
-use Rattle.jc_base.specs.declared.kind.Kind.TheVariants as variants
-use Rattle.jc_base.specs.declared.refusal.Refusal.{Refusal}
-use Rattle.jc_base.specs.declared.refusal.RefusalKind.{RefusalKind}
-use Rattle.jc_base.specs.declared.refusal.RefusalKind.TheVariants as kinds
-use Rattle.jc_base.proofs.TestLaws.{which_in, none_in}
+use Rattle.jc_methods.specs.Held.{Names}
+use Rattle.jc_methods.specs.InsnUse.{is_of_two_slots}
+use Rattle.jc_bytes.specs.Least.{IsLeast}
+use Rattle.jc_methods.specs.WellMade.{kind_slots}
+use Rattle.jc_methods.specs.declared.body.Body.{Body}
+use Rattle.jc_methods.specs.declared.body.FrameAt.{FrameAt}
+use Rattle.jc_methods.specs.declared.insn.Insn.{Insn}
+use Rattle.jc_methods.specs.declared.insn.Insn.TheVariants as insns
+use Rattle.jc_methods.specs.declared.kind.Kind.TheVariants as variants
+use Rattle.jc_bytes.specs.declared.refusal.Refusal.{Refusal}
+use Rattle.jc_bytes.specs.declared.refusal.RefusalKind.{RefusalKind}
+use Rattle.jc_bytes.specs.declared.refusal.RefusalKind.TheVariants as kinds
+use Rattle.jc_bytes.proofs.TestLaws.{which_in, none_in}
 use Rattle.jc_class.specs.Writable.{IsClassFile}
 use Rattle.jc_class.specs.declared.class_file.ClassFile.{ClassFile}
 use Rattle.jc_body.specs.BodyOf.{BodyOf}

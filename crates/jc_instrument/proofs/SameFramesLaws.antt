@@ -1,9 +1,9 @@
 -- Frames of two lists that say the same by the names of classes, put together.
 use Rattle.std.proofs.Common.{◌≡◌, ℕ, zero, suc, Bool, true, false, List, [], ◌∷◌, ◌++◌, map, nat_lt, refl, sym, ◌∙◌, ap, ap₂, if◌then◌else◌}
 use Rattle.std.proofs.lemmas.List.{map-append}
-use Rattle.jc_base.specs.Held.{Names, SeenAt, seen_at}
-use Rattle.jc_base.specs.PlainLists.{pieces}
-use Rattle.jc_base.specs.declared.body.FrameAt.{FrameAt}
+use Rattle.jc_methods.specs.Held.{Names, SeenAt, seen_at}
+use Rattle.jc_bytes.specs.PlainLists.{pieces}
+use Rattle.jc_methods.specs.declared.body.FrameAt.{FrameAt}
 use Rattle.jc_layout.specs.Merged.{merged, with_frame}
 use Rattle.jc_verify.proofs.SameBodyLaws.{same_head, same_tail}
 

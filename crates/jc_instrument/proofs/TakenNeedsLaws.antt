@@ -2,9 +2,9 @@
 use Rattle.std.proofs.Common.{◌≡◌, ℕ, ℤ, ◌+◌, ◌≤◌, List, [], ◌∷◌, ◌++◌, length, map, refl, sym, ◌∙◌, ap, ap₂, subst, arith}
 use Rattle.std.specs.List.{AllByRecursion}
 use Rattle.std.proofs.lemmas.List.Concat.{flat_map-cons}
-use Rattle.jc_base.specs.Held.{AreNumberedFrames, Names, SeenAt, seen_at}
-use Rattle.jc_base.specs.declared.body.FrameAt.{FrameAt}
-use Rattle.jc_base.specs.declared.refusal.Refusal.{Refusal}
+use Rattle.jc_methods.specs.Held.{AreNumberedFrames, Names, SeenAt, seen_at}
+use Rattle.jc_methods.specs.declared.body.FrameAt.{FrameAt}
+use Rattle.jc_bytes.specs.declared.refusal.Refusal.{Refusal}
 use Rattle.jc_class.specs.declared.class_file.ClassFile.{ClassFile}
 use Rattle.jc_pool.specs.Pool.{PoolValue}
 use Rattle.jc_frames.specs.FullTable.{FitsFull}

@@ -3,9 +3,9 @@ use Rattle.std.proofs.Common.{◌≡◌, ◌⊎◌, inl, inr, ℕ, ◌≤◌, �
 use Rattle.std.specs.List.{AllByRecursion, list_any}
 use Rattle.std.proofs.lemmas.Bool.{cases_lt, ltb-false}
 use Rattle.std.proofs.lemmas.List.{length-append}
-use Rattle.jc_base.proofs.EachLaws.{all_both, all_weaker}
-use Rattle.jc_base.specs.Descriptor.{Array, Boolean, IsFieldDescriptor, IsMethodDescriptor}
-use Rattle.jc_base.specs.Held.{Names}
+use Rattle.jc_bytes.proofs.EachLaws.{all_both, all_weaker}
+use Rattle.jc_bytes.specs.Descriptor.{Array, Boolean, IsFieldDescriptor, IsMethodDescriptor}
+use Rattle.jc_methods.specs.Held.{Names}
 use Rattle.jc_emit.specs.Added.{data_name, data_type, init_name, init_type}
 use Rattle.jc_pool.specs.Adding.{Extends}
 use Rattle.jc_pool.specs.Pool.{PoolValue}

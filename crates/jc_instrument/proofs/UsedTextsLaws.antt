@@ -5,11 +5,11 @@ use Rattle.std.specs.List.{list_any}
 use Rattle.std.specs.Option.{option_and_then}
 use Rattle.std.proofs.lemmas.Bool.{cases_lt}
 use Rattle.std.proofs.lemmas.Option.{none-some, same_Some, slice_get_within, get_or_from_slice_get}
-use Rattle.jc_base.specs.WellMade.{HasShortTexts, AreRisingFrom}
-use Rattle.jc_base.specs.declared.body.Use.{Use}
-use Rattle.jc_base.specs.declared.body.What.{What}
-use Rattle.jc_base.specs.declared.body.What.TheVariants as whats
-use Rattle.jc_base.proofs.UsedLaws.{entry_used}
+use Rattle.jc_methods.specs.WellMade.{HasShortTexts, AreRisingFrom}
+use Rattle.jc_methods.specs.declared.body.Use.{Use}
+use Rattle.jc_methods.specs.declared.body.What.{What}
+use Rattle.jc_methods.specs.declared.body.What.TheVariants as whats
+use Rattle.jc_methods.proofs.UsedLaws.{entry_used}
 use Rattle.jc_pool.specs.declared.constant.ConstText.{ConstText}
 use Rattle.jc_pool.specs.declared.constant.ConstText.TheVariants as constants
 use Rattle.jc_pool.specs.Lookup.{Member as PoolMember, member_of, class_name_of, const_of}

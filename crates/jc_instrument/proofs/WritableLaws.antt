@@ -7,22 +7,22 @@ use Rattle.std.proofs.lemmas.List.{get_or_past, length-map}
 use Rattle.std.proofs.lemmas.List.Elements.{Contains-append_cases}
 use Rattle.std.proofs.lemmas.List.Sums.{sum_by-cons}
 use Rattle.std.proofs.lemmas.Option.{slice_get_within, slice_get-get_or}
-use Rattle.jc_base.specs.Flow.{flow_of}
-use Rattle.jc_base.specs.Held.{Names, IsNumbered, IsNumberedState}
-use Rattle.jc_base.specs.PlainLists.{pieces}
-use Rattle.jc_base.specs.WellMade.{IsKind, kind_slots}
-use Rattle.jc_base.specs.Opcode as opcode
-use Rattle.jc_base.specs.declared.body.Body.{Body}
-use Rattle.jc_base.specs.declared.body.FrameAt.{FrameAt}
-use Rattle.jc_base.specs.declared.emitted.Emitted.{Emitted}
-use Rattle.jc_base.specs.declared.insn.Insn.{Insn}
-use Rattle.jc_base.specs.declared.insn.Insn.TheVariants as insns
-use Rattle.jc_base.specs.declared.kind.Kind.{Kind}
-use Rattle.jc_base.specs.declared.kind.Kind.TheVariants as kinds
-use Rattle.jc_base.specs.declared.kind.State.{State}
-use Rattle.jc_base.proofs.FirstSeenLaws.{contains_one}
-use Rattle.jc_base.specs.FrameOrder.{RiseFrom}
-use Rattle.jc_base.proofs.TestLaws.{none_in, first_in, later_in}
+use Rattle.jc_methods.specs.Flow.{flow_of}
+use Rattle.jc_methods.specs.Held.{Names, IsNumbered, IsNumberedState}
+use Rattle.jc_bytes.specs.PlainLists.{pieces}
+use Rattle.jc_methods.specs.WellMade.{IsKind, kind_slots}
+use Rattle.jc_methods.specs.Opcode as opcode
+use Rattle.jc_methods.specs.declared.body.Body.{Body}
+use Rattle.jc_methods.specs.declared.body.FrameAt.{FrameAt}
+use Rattle.jc_methods.specs.declared.emitted.Emitted.{Emitted}
+use Rattle.jc_methods.specs.declared.insn.Insn.{Insn}
+use Rattle.jc_methods.specs.declared.insn.Insn.TheVariants as insns
+use Rattle.jc_methods.specs.declared.kind.Kind.{Kind}
+use Rattle.jc_methods.specs.declared.kind.Kind.TheVariants as kinds
+use Rattle.jc_methods.specs.declared.kind.State.{State}
+use Rattle.jc_bytes.proofs.FirstSeenLaws.{contains_one}
+use Rattle.jc_methods.specs.FrameOrder.{RiseFrom}
+use Rattle.jc_bytes.proofs.TestLaws.{none_in, first_in, later_in}
 use Rattle.jc_frames.specs.FullTable.{AreRisingOffsets, FitsFull, IsPlaced}
 use Rattle.jc_frames.proofs.BuildingLaws.{by_recursion}
 use Rattle.jc_kinds.specs.Answers.{AreStates, IsStateAt}

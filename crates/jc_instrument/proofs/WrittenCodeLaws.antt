@@ -6,12 +6,12 @@ use Rattle.std.proofs.lemmas.Bool.{cases_lt}
 use Rattle.std.proofs.lemmas.List.Sums.{sum_by-cons}
 use Rattle.std.proofs.lemmas.Option.{none-some, same_Some, slice_get_within}
 use Rattle.std.proofs.lemmas.Slice.Eq.{bytes_eq-Decides}
-use Rattle.jc_base.specs.Held.{Names}
-use Rattle.jc_base.specs.WellMade.{IsWellMadeOfAnySize}
-use Rattle.jc_base.specs.declared.body.Body.{Body}
-use Rattle.jc_base.specs.declared.kind.State.{State}
-use Rattle.jc_base.specs.declared.refusal.RefusalKind.TheVariants as kinds
-use Rattle.jc_base.proofs.ListLaws.{all_at}
+use Rattle.jc_methods.specs.Held.{Names}
+use Rattle.jc_methods.specs.WellMade.{IsWellMadeOfAnySize}
+use Rattle.jc_methods.specs.declared.body.Body.{Body}
+use Rattle.jc_methods.specs.declared.kind.State.{State}
+use Rattle.jc_bytes.specs.declared.refusal.RefusalKind.TheVariants as kinds
+use Rattle.jc_bytes.proofs.ListLaws.{all_at}
 use Rattle.jc_pool.specs.Adding.{Extends, IsFirst}
 use Rattle.jc_pool.specs.Lookup.{Member as MemberText, member_of, utf8_of}
 use Rattle.jc_pool.specs.Pool.{PoolValue}

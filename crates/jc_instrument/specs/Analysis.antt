@@ -1,12 +1,12 @@
 -- What a class file says to a report.
 use Rattle.std.specs.Prelude.{◌≡◌, ◌≤◌, ℕ, List, map, Option, Some, None, All, nat_eq, if◌then◌else◌}
 use Rattle.std.specs.List.{sum_by}
-use Rattle.jc_base.specs.Outside.{most_read}
-use Rattle.jc_base.specs.PlainLists.{map_from}
-use Rattle.jc_base.specs.WellMade.{IsWellMade, insns_and_arms}
-use Rattle.jc_base.specs.declared.analysed.Analysed.{Analysed}
-use Rattle.jc_base.specs.declared.body.Body.{Body}
-use Rattle.jc_base.specs.declared.plan.Plan.{Plan}
+use Rattle.jc_bytes.specs.Reader.{most_read}
+use Rattle.jc_bytes.specs.PlainLists.{map_from}
+use Rattle.jc_methods.specs.WellMade.{IsWellMade, insns_and_arms}
+use Rattle.jc_methods.specs.declared.analysed.Analysed.{Analysed}
+use Rattle.jc_methods.specs.declared.body.Body.{Body}
+use Rattle.jc_methods.specs.declared.plan.Plan.{Plan}
 use Rattle.jc_pool.specs.Lookup.{class_name_of}
 use Rattle.jc_pool.specs.Pool.{PoolValue}
 use Rattle.jc_class.specs.declared.class_file.ClassFile.{ClassFile}

@@ -1,7 +1,7 @@
 -- What a class file becomes that is instrumented, or stays as it is.
 use Rattle.std.specs.Prelude.{◌≡◌, ℕ, Bool, true, false, List, Some}
-use Rattle.jc_base.specs.ByteLists.{AreBytes}
-use Rattle.jc_base.specs.Held.{Names}
+use Rattle.jc_bytes.specs.ByteLists.{AreBytes}
+use Rattle.jc_methods.specs.Held.{Names}
 use Rattle.jc_pool.specs.Lookup.{class_name_of}
 use Rattle.jc_class.specs.ClassId.{class_id}
 use Rattle.jc_class.specs.ClassText.{ClassText}

@@ -1,8 +1,8 @@
 -- The methods of a class, in which those with instrumented code have it.
 use Rattle.std.specs.Prelude.{◌≡◌, ⊤, ℕ, ◌<◌, List, [], ◌∷◌, length, map, Option, Some, None, nat_eq, slice_get, if◌then◌else◌}
 use Rattle.std.specs.List.{AllByRecursion}
-use Rattle.jc_base.specs.Held.{Names}
-use Rattle.jc_base.specs.PlainLists.{map_from}
+use Rattle.jc_methods.specs.Held.{Names}
+use Rattle.jc_bytes.specs.PlainLists.{map_from}
 use Rattle.jc_pool.specs.Adding.{IsFirst}
 use Rattle.jc_pool.specs.Lookup.{utf8_of}
 use Rattle.jc_pool.specs.Pool.{PoolValue}

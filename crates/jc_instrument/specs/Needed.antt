@@ -1,7 +1,7 @@
 -- What the constant pool of an instrumented class has to have, in the order in which it is added.
 use Rattle.std.specs.Prelude.{ℕ, ℤ, List, [], ◌∷◌, ◌++◌, map, unwrap_or, codes}
 use Rattle.std.specs.Int.{w64, cast_signed}
-use Rattle.jc_base.specs.Held.{Names, SeenAt}
+use Rattle.jc_methods.specs.Held.{Names, SeenAt}
 use Rattle.jc_pool.specs.Lookup.{class_name_of, Member}
 use Rattle.jc_pool.specs.Pool.{PoolValue}
 use Rattle.jc_class.specs.declared.class_file.ClassFile.{ClassFile}

@@ -1,10 +1,10 @@
 -- Why a class file isn't analysed: the first of eight causes that applies, in their order.
 use Rattle.std.specs.Prelude.{◌≡◌, ◌⊎◌, ℕ, ◌<◌, true, List, [], ◌∷◌, ◌++◌, Option, Some, None, Contains, slice_get, IsTrue}
-use Rattle.jc_base.specs.Held.{Names}
-use Rattle.jc_base.specs.declared.body.Body.{Body}
-use Rattle.jc_base.specs.declared.refusal.Refusal.{Refusal}
-use Rattle.jc_base.specs.declared.refusal.RefusalKind.{RefusalKind}
-use Rattle.jc_base.specs.declared.refusal.RefusalKind.TheVariants as kinds
+use Rattle.jc_methods.specs.Held.{Names}
+use Rattle.jc_methods.specs.declared.body.Body.{Body}
+use Rattle.jc_bytes.specs.declared.refusal.Refusal.{Refusal}
+use Rattle.jc_bytes.specs.declared.refusal.RefusalKind.{RefusalKind}
+use Rattle.jc_bytes.specs.declared.refusal.RefusalKind.TheVariants as kinds
 use Rattle.jc_pool.specs.Lookup.{utf8_of, class_name_of}
 use Rattle.jc_pool.specs.Pool.{PoolValue}
 use Rattle.jc_class.specs.declared.class_file.ClassFile.{ClassFile}

@@ -1,7 +1,7 @@
 -- Two analyses of one class file.
 use Rattle.std.specs.Prelude.{◌≡◌, [], map}
-use Rattle.jc_base.specs.declared.analysed.Analysed.{Analysed}
-use Rattle.jc_base.specs.declared.body.Body.{Body}
+use Rattle.jc_methods.specs.declared.analysed.Analysed.{Analysed}
+use Rattle.jc_methods.specs.declared.body.Body.{Body}
 
 -- the body but for its frames, whose class numbers depend on a list of names
 abbrev pub without_frames : Body → Body

@@ -1,12 +1,12 @@
 -- What the steps answer by which a constant pool takes what an instrumented class needs.
 use Rattle.std.specs.Prelude.{◌≡◌, ⊤, ℕ, ℤ, ◌<◌, List, length, map, codes, if◌then◌else◌}
 use Rattle.std.specs.List.{flat_map}
-use Rattle.jc_base.specs.Held.{AreNumberedFrames, Names, SeenAt, seen_at}
-use Rattle.jc_base.specs.declared.body.FrameAt.{FrameAt}
-use Rattle.jc_base.specs.declared.fail.Fail.{Fail}
-use Rattle.jc_base.specs.declared.fail.Fail.TheVariants as fails
-use Rattle.jc_base.specs.declared.refusal.Refusal.{Refusal}
-use Rattle.jc_base.specs.declared.refusal.RefusalKind.TheVariants as kinds
+use Rattle.jc_methods.specs.Held.{AreNumberedFrames, Names, SeenAt, seen_at}
+use Rattle.jc_methods.specs.declared.body.FrameAt.{FrameAt}
+use Rattle.jc_bytes.specs.declared.fail.Fail.{Fail}
+use Rattle.jc_bytes.specs.declared.fail.Fail.TheVariants as fails
+use Rattle.jc_bytes.specs.declared.refusal.Refusal.{Refusal}
+use Rattle.jc_bytes.specs.declared.refusal.RefusalKind.TheVariants as kinds
 use Rattle.jc_pool.specs.Pool.{PoolValue}
 use Rattle.jc_pool.specs.declared.add.PoolFull.{PoolFull}
 use Rattle.jc_code.specs.Given.{AreFrames}

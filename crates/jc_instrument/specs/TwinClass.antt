@@ -1,7 +1,7 @@
 -- The twin of a class: the same class with its probes, and one more field and method.
 use Rattle.std.specs.Prelude.{◌≡◌, ◌⊎◌, ⊤, ℕ, ℤ, List, [], ◌∷◌, ◌++◌, Some, codes, slice_get}
-use Rattle.jc_base.specs.Held.{Names}
-use Rattle.jc_base.specs.declared.body.Body.{Body}
+use Rattle.jc_methods.specs.Held.{Names}
+use Rattle.jc_methods.specs.declared.body.Body.{Body}
 use Rattle.jc_pool.specs.Lookup.{utf8_of, class_name_of, string_of, long_of, member_of}
 use Rattle.jc_pool.specs.Pool.{PoolValue}
 use Rattle.jc_class.specs.declared.class_file.Attribute.{Attribute}

@@ -1,7 +1,7 @@
 -- The one twin class that is written for a class.
 use Rattle.std.specs.Prelude.{◌≡◌, ℕ, ◌≤◌, List, [], ◌∷◌, ◌++◌, length, map, Option, Some, None, codes, nat_eq, if◌then◌else◌}
-use Rattle.jc_base.specs.Held.{Names}
-use Rattle.jc_base.specs.PlainLists.{map_from}
+use Rattle.jc_methods.specs.Held.{Names}
+use Rattle.jc_bytes.specs.PlainLists.{map_from}
 use Rattle.jc_pool.specs.Pool.{PoolValue}
 use Rattle.jc_class.specs.ClassId.{class_id}
 use Rattle.jc_class.specs.ClassText.{ClassText}

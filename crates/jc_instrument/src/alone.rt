@@ -7,7 +7,7 @@ ghost use Rattle.jc_instrument.specs.Causes.{FirstCause};
 ghost use Rattle.jc_instrument.specs.LeftAlone.{has_code, is_left_alone};
 ghost use Rattle.jc_instrument.specs.Reasons.{interface_causes};
 
-use jc_base::{Refusal, RefusalKind};
+use jc_bytes::{Refusal, RefusalKind};
 use jc_class::{Attribute, ClassFile, Member};
 use jc_pool::Pool;
 

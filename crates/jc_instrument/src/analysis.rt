@@ -1,7 +1,7 @@
 //! The analysis of a class file.
 ghost use Rattle.std.specs.Prelude.{◌≡◌, ◌⊎◌, ◌≤◌, ⊤, length, Some, None, IfOk, IfErr, MatchResult};
-ghost use Rattle.jc_base.specs.Outside.{most_read};
-ghost use Rattle.jc_base.specs.declared.refusal.Refusal.{Refusal as Reason};
+ghost use Rattle.jc_bytes.specs.Reader.{most_read};
+ghost use Rattle.jc_bytes.specs.declared.refusal.Refusal.{Refusal as Reason};
 ghost use Rattle.jc_kinds.specs.Answers.{Said};
 ghost use Rattle.jc_instrument.specs.Analysis.{IsAnalysis};
 ghost use Rattle.jc_instrument.specs.Reasons.{AnalysisReason};
@@ -9,8 +9,9 @@ ghost use Rattle.jc_instrument.specs.Steps.{IsAnswer};
 
 use crate::bodies::bodies_of;
 use crate::described::described;
-use jc_base::{Analysed, Fail, Refusal};
+use jc_bytes::{Fail, Refusal};
 use jc_class::read_class;
+use jc_methods::Analysed;
 use std::alloc::Global;
 
 /// The analysis, or why there is none.

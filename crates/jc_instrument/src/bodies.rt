@@ -1,8 +1,8 @@
 //! The bodies of a class.
 ghost use Rattle.std.specs.Prelude.{◌<◌, ◌≤◌, ◌+◌, length, All, IfOk, IfErr, OnOk};
-ghost use Rattle.jc_base.specs.Held.{Grows};
-ghost use Rattle.jc_base.specs.Outside.{most_read};
-ghost use Rattle.jc_base.specs.WellMade.{IsWellMade};
+ghost use Rattle.jc_methods.specs.Held.{Grows};
+ghost use Rattle.jc_bytes.specs.Reader.{most_read};
+ghost use Rattle.jc_methods.specs.WellMade.{IsWellMade};
 ghost use Rattle.jc_class.specs.Writable.{IsClassFile};
 ghost use Rattle.jc_class.specs.Sizes.{BodiesWithin};
 ghost use Rattle.jc_kinds.specs.Answers.{Said};
@@ -16,9 +16,10 @@ use crate::alone::{interface_refusal, is_left_alone};
 use crate::checks::{KeptStates, check_bodies};
 use crate::class::class_refusal;
 use crate::kept::keep_first;
-use jc_base::{Body, Fail, List, Memory, Names, Refusal, RefusalKind};
 use jc_body::read_body;
+use jc_bytes::{Fail, List, Memory, Names, Refusal, RefusalKind};
 use jc_class::ClassFile;
+use jc_methods::Body;
 use std::alloc::Global;
 
 /// What was read of the first methods of a class.

@@ -1,15 +1,16 @@
 //! The kind check of the bodies of a class.
 ghost use Rattle.std.specs.Prelude.{◌≡◌, ◌+◌, ◌≤◌, length, All, IfOk, IfErr, IfSome, OnOk, OnErr};
-ghost use Rattle.jc_base.specs.Held.{Grows, AreNumberedFrames};
-ghost use Rattle.jc_base.specs.WellMade.{IsWellMade};
+ghost use Rattle.jc_methods.specs.Held.{Grows, AreNumberedFrames};
+ghost use Rattle.jc_methods.specs.WellMade.{IsWellMade};
 ghost use Rattle.jc_kinds.specs.Answers.{AreStates, IsKindRefusal, Said};
 ghost use Rattle.jc_kinds.specs.Checked.{Checked};
 ghost use Rattle.jc_instrument.specs.KeptStates.{places_of, places_if_kept, places_kept, PutsStates, AreKeptStates};
 ghost use Rattle.jc_instrument.specs.Steps.{IsFrameRefusal, KeepsClash, IsMissingIn};
 
 use crate::kept::keep_first;
-use jc_base::{Body, Fail, List, Memory, Names, Refusal, RefusalKind, State};
+use jc_bytes::{Fail, List, Memory, Names, Refusal, RefusalKind};
 use jc_kinds::{check_body, states};
+use jc_methods::{Body, State};
 use std::alloc::Global;
 
 /// How many places a state takes beside those of its types.

@@ -3,7 +3,7 @@ ghost use Rattle.std.specs.Prelude.{◌↔◌, IsTrue};
 ghost use Rattle.jc_instrument.specs.Causes.{FirstCause};
 ghost use Rattle.jc_instrument.specs.Reasons.{IsOutside, HasAddedName, SomeAdded, NamesRuntime, HasAdded, class_causes};
 
-use jc_base::{Refusal, RefusalKind};
+use jc_bytes::{Refusal, RefusalKind};
 use jc_class::{ClassFile, Member};
 use jc_pool::Pool;
 

@@ -1,17 +1,18 @@
 //! What of a class file a report is made from.
 ghost use Rattle.std.specs.Prelude.{◌≡◌, ◌≤◌, Some, length, map, All, IfOk};
-ghost use Rattle.jc_base.specs.Texts.{IsShortText};
-ghost use Rattle.jc_base.specs.WellMade.{IsWellMade};
+ghost use Rattle.jc_bytes.specs.Texts.{IsShortText};
+ghost use Rattle.jc_methods.specs.WellMade.{IsWellMade};
 ghost use Rattle.jc_class.specs.ClassFormat.{HasClass, HasSuper};
 ghost use Rattle.jc_class.specs.Writable.{IsClassFile};
 ghost use Rattle.jc_pool.specs.Lookup.{class_name_of};
-ghost use Rattle.jc_base.specs.Outside.{most_read};
+ghost use Rattle.jc_bytes.specs.Reader.{most_read};
 ghost use Rattle.jc_instrument.specs.Analysis.{super_name_of, plans_of, all_probes, all_insns_and_arms, Describes, IsPlanned};
 
 use crate::plans::{Planned, plans_of};
 use crate::size::are_short;
-use jc_base::{Analysed, Body, Bytes, List, Memory};
+use jc_bytes::{Bytes, List, Memory};
 use jc_class::{ClassFile, class_id};
+use jc_methods::{Analysed, Body};
 use jc_pool::Pool;
 use std::alloc::Global;
 

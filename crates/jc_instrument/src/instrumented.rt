@@ -1,8 +1,8 @@
 //! Laws of instrumented classes, and of the reasons for which a class file isn't instrumented.
 ghost use Rattle.std.specs.Prelude.{◌≡◌, ℕ, List, Option, Some, None};
 ghost use Rattle.std.specs.List.{AllByRecursion};
-ghost use Rattle.jc_base.specs.Held.{Names};
-ghost use Rattle.jc_base.specs.declared.refusal.Refusal.{Refusal};
+ghost use Rattle.jc_methods.specs.Held.{Names};
+ghost use Rattle.jc_bytes.specs.declared.refusal.Refusal.{Refusal};
 ghost use Rattle.jc_pool.specs.Pool.{PoolValue};
 ghost use Rattle.jc_class.specs.declared.class_file.ClassFile.{ClassFile as Class};
 ghost use Rattle.jc_instrument.specs.Contents.{Content, TakesEach, IsOfClass};

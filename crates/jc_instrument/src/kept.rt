@@ -2,7 +2,7 @@
 ghost use Rattle.std.specs.Prelude.{◌≡◌, IfOk, IfErr};
 ghost use Rattle.jc_instrument.specs.Steps.{IsKept, Ends};
 
-use jc_base::{Fail, Refusal, RefusalKind};
+use jc_bytes::{Fail, Refusal, RefusalKind};
 
 /// What is kept after a further refusal: the first one. Want of memory and a refusal of the kind that comes before
 /// all others aren't kept, but end the search.

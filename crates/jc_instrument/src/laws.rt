@@ -1,9 +1,9 @@
 //! Laws of analyses, and of the reasons for which a class file isn't analysed.
 ghost use Rattle.std.specs.Prelude.{◌≡◌, ◌≤◌, ◌⊎◌, ℕ, List, length, Option, Some};
-ghost use Rattle.jc_base.specs.ByteLists.{AreBytes};
-ghost use Rattle.jc_base.specs.Outside.{most_read};
-ghost use Rattle.jc_base.specs.declared.analysed.Analysed.{Analysed};
-ghost use Rattle.jc_base.specs.declared.refusal.Refusal.{Refusal};
+ghost use Rattle.jc_bytes.specs.ByteLists.{AreBytes};
+ghost use Rattle.jc_bytes.specs.Reader.{most_read};
+ghost use Rattle.jc_methods.specs.declared.analysed.Analysed.{Analysed};
+ghost use Rattle.jc_bytes.specs.declared.refusal.Refusal.{Refusal};
 ghost use Rattle.jc_instrument.specs.Analysis.{IsAnalysis};
 ghost use Rattle.jc_instrument.specs.Reasons.{AnalysisReason};
 ghost use Rattle.jc_instrument.specs.SameAnalysis.{IsSameAnalysis};

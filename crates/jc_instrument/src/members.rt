@@ -10,7 +10,7 @@ ghost use Rattle.jc_instrument.specs.TwinText.{data_member, init_member, with_co
 use crate::alone::has_name;
 use crate::needs::{MemberPlaces, frames_in};
 use crate::probed::Probed;
-use jc_base::{Bytes, List, Memory, Names};
+use jc_bytes::{Bytes, List, Memory, Names};
 use jc_class::{Attribute, Member};
 use jc_code::{AddedPlaces, CodePlaces, write_code, write_init};
 use jc_pool::Pool;

@@ -1,7 +1,7 @@
 //! What the constant pool of an instrumented class has to have.
 ghost use Rattle.std.specs.Prelude.{◌≡◌, ◌≤◌, length, IfOk, IfErr, OnOk};
 ghost use Rattle.std.specs.List.{AllByRecursion};
-ghost use Rattle.jc_base.specs.Texts.{IsShortText};
+ghost use Rattle.jc_bytes.specs.Texts.{IsShortText};
 ghost use Rattle.jc_pool.specs.Adding.{Extends, RefusesFull};
 ghost use Rattle.jc_frames.specs.FullTable.{RefusesClasses, TakesClasses, named_by_all};
 ghost use Rattle.jc_kinds.specs.Answers.{Said};
@@ -10,8 +10,9 @@ ghost use Rattle.jc_instrument.specs.Needed.{signed_id, member_needs, needed, pl
 ghost use Rattle.jc_instrument.specs.Taking.{content_of, frames_in, frames_of, HasNumberedFrames, IsFullPool, RefusesEach};
 
 use crate::probed::Probed;
-use jc_base::{Fail, FrameAt, Names, Refusal, RefusalKind};
+use jc_bytes::{Fail, Names, Refusal, RefusalKind};
 use jc_frames::take_classes;
+use jc_methods::FrameAt;
 use jc_pool::{Pool, PoolFull};
 use std::alloc::Global;
 

@@ -1,10 +1,11 @@
 //! The plans of the bodies of a class.
 ghost use Rattle.std.specs.Prelude.{◌≡◌, ◌≤◌, All, IfOk};
-ghost use Rattle.jc_base.specs.Outside.{most_read};
-ghost use Rattle.jc_base.specs.WellMade.{IsWellMade};
+ghost use Rattle.jc_bytes.specs.Reader.{most_read};
+ghost use Rattle.jc_methods.specs.WellMade.{IsWellMade};
 ghost use Rattle.jc_instrument.specs.Analysis.{plans_of, all_probes, all_insns_and_arms};
 
-use jc_base::{Body, List, Memory, Plan};
+use jc_bytes::{List, Memory};
+use jc_methods::{Body, Plan};
 use jc_plan::plan;
 use std::alloc::Global;
 

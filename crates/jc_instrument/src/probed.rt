@@ -1,9 +1,9 @@
 //! The instrumented code of the bodies of a class.
 ghost use Rattle.std.specs.Option.{ForSome};
 ghost use Rattle.std.specs.Prelude.{◌≡◌, ◌≤◌, ℕ, true, length, All, IfOk, IfErr};
-ghost use Rattle.jc_base.specs.FrameOrder.{RiseFrom};
-ghost use Rattle.jc_base.specs.Held.{Grows, AreNumberedFrames};
-ghost use Rattle.jc_base.specs.WellMade.{IsWellMade};
+ghost use Rattle.jc_methods.specs.FrameOrder.{RiseFrom};
+ghost use Rattle.jc_methods.specs.Held.{Grows, AreNumberedFrames};
+ghost use Rattle.jc_methods.specs.WellMade.{IsWellMade};
 ghost use Rattle.jc_kinds.specs.Answers.{AreStates, Said};
 ghost use Rattle.jc_plan.specs.Plan.{plan_of};
 ghost use Rattle.jc_emit.specs.Placing.{HasPlan};
@@ -19,11 +19,12 @@ ghost use Rattle.jc_instrument.specs.Probing.{IsMadeOf, IsTooLong, IsRefusedAsLa
 ghost use Rattle.jc_instrument.specs.Taking.{HasFrames};
 
 use crate::checks::KeptStates;
-use jc_base::{Body, Emitted, Fail, FrameAt, List, Memory, Names, Plan, Refusal, State};
+use jc_bytes::{Fail, List, Memory, Names, Refusal};
 use jc_code::merged_frames;
 use jc_emit::emit;
 use jc_kinds::states;
 use jc_layout::{Laid, layout};
+use jc_methods::{Body, Emitted, FrameAt, Plan, State};
 use std::alloc::Global;
 
 /// The name of the class of the array of probes.

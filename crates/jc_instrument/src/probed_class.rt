@@ -1,6 +1,6 @@
 //! The instrumented code of a class.
 ghost use Rattle.std.specs.Prelude.{◌≡◌, ◌≤◌, false, All, IfOk, IfErr};
-ghost use Rattle.jc_base.specs.Outside.{most_read};
+ghost use Rattle.jc_bytes.specs.Reader.{most_read};
 ghost use Rattle.jc_class.specs.Sizes.{BodiesWithin};
 ghost use Rattle.jc_class.specs.Writable.{IsClassFile};
 ghost use Rattle.jc_kinds.specs.Answers.{Said};
@@ -13,7 +13,7 @@ use crate::described::bounded_plans;
 use crate::plans::Planned;
 use crate::probed::{Probed, probed_bodies};
 use crate::room::room_refusal;
-use jc_base::{Fail, List, Names, Refusal};
+use jc_bytes::{Fail, List, Names, Refusal};
 use jc_class::ClassFile;
 use std::alloc::Global;
 

@@ -1,6 +1,6 @@
 //! Whether a class has room for its probes, as far as this is known before its code is made.
 ghost use Rattle.std.specs.Prelude.{◌≡◌, ◌≤◌, ◌↔◌, ◌∷◌, [], false, All, IsTrue, length};
-ghost use Rattle.jc_base.specs.WellMade.{IsWellMade, IsCounted};
+ghost use Rattle.jc_methods.specs.WellMade.{IsWellMade, IsCounted};
 ghost use Rattle.jc_instrument.specs.Analysis.{all_probes};
 ghost use Rattle.jc_instrument.specs.Bodies.{AreBodiesOf};
 ghost use Rattle.jc_instrument.specs.Causes.{FirstCause, of_class as class_refusal_of};
@@ -8,9 +8,10 @@ ghost use Rattle.jc_instrument.specs.LeftAlone.{is_left_alone};
 ghost use Rattle.jc_instrument.specs.Room.{IsWhereItLacks, IsFirstThatLacks};
 ghost use Rattle.jc_instrument.specs.RoomCauses.{HasTooManyProbes, IsFull, HasFullMembers, early_room_causes};
 
-use jc_base::{Body, Refusal, RefusalKind};
+use jc_bytes::{Refusal, RefusalKind};
 use jc_class::ClassFile;
 use jc_emit::straddles;
+use jc_methods::Body;
 
 /// The most probes that a class has: `sipush` pushes each id (JVM Specification 6.5).
 const MOST_PROBES: u32 = 32_767;

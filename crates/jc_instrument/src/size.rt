@@ -1,11 +1,12 @@
 //! How long the bodies of a class are.
 ghost use Rattle.std.specs.Prelude.{◌≡◌, ◌≤◌, ◌+◌, ◌<◌, ◌↔◌, length, All, IsTrue};
-ghost use Rattle.jc_base.specs.Insn.{arm_count};
-ghost use Rattle.jc_base.specs.Outside.{most_read};
-ghost use Rattle.jc_base.specs.WellMade.{IsWellMade, insns_and_arms};
+ghost use Rattle.jc_methods.specs.Insn.{arm_count};
+ghost use Rattle.jc_bytes.specs.Reader.{most_read};
+ghost use Rattle.jc_methods.specs.WellMade.{IsWellMade, insns_and_arms};
 ghost use Rattle.jc_instrument.specs.Analysis.{all_insns_and_arms};
 
-use jc_base::{Body, Insn, MOST_READ};
+use jc_bytes::MOST_READ;
+use jc_methods::{Body, Insn};
 
 /// How many arms the instruction has: as many as it has, if it is a switch.
 fn arm_count(insn: &Insn) -> usize

@@ -1,9 +1,9 @@
 //! Instrumented class files.
 ghost use Rattle.std.specs.Prelude.{◌≡◌, ◌⊎◌, ◌≤◌, ⊤, true, false, length, All, Some, None, IfOk, IfErr, MatchResult};
 ghost use Rattle.std.specs.List.{list_any};
-ghost use Rattle.jc_base.specs.ByteLists.{AreBytes};
-ghost use Rattle.jc_base.specs.Outside.{most_read};
-ghost use Rattle.jc_base.specs.declared.refusal.Refusal.{Refusal as Why};
+ghost use Rattle.jc_bytes.specs.ByteLists.{AreBytes};
+ghost use Rattle.jc_bytes.specs.Reader.{most_read};
+ghost use Rattle.jc_bytes.specs.declared.refusal.Refusal.{Refusal as Why};
 ghost use Rattle.jc_class.specs.ClassFormat.{HasClass};
 ghost use Rattle.jc_class.specs.ClassId.{class_id};
 ghost use Rattle.jc_class.specs.Sizes.{BodiesWithin};
@@ -22,7 +22,7 @@ use crate::class::class_refusal;
 use crate::described::class_name_at;
 use crate::probed_class::probed_class;
 use crate::twin::grown_twin;
-use jc_base::{Bytes, Fail, List, Memory, Names, Refusal};
+use jc_bytes::{Bytes, Fail, List, Memory, Names, Refusal};
 use jc_class::{Attribute, ClassFile, Member, class_id, read_class, write_class};
 use std::alloc::Global;
 

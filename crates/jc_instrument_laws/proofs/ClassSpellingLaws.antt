@@ -5,13 +5,13 @@ use Rattle.std.proofs.Math.Nat.{mod-lt}
 use Rattle.std.proofs.lemmas.Bool.{cases_lt}
 use Rattle.std.proofs.lemmas.Option.{none-some}
 use Rattle.std.specs.Int.{byte_at, bytes_high_first}
-use Rattle.jc_base.specs.Appending.{Appends}
-use Rattle.jc_base.specs.ByteLists.{AreBytes}
-use Rattle.jc_base.specs.Counted.{counted}
-use Rattle.jc_base.specs.Decoder.{IsBig}
-use Rattle.jc_base.specs.Grammar.{Grammar, times}
-use Rattle.jc_base.specs.ItemForms.{number_where}
-use Rattle.jc_base.proofs.AppendingLaws.{big_spells}
+use Rattle.jc_bytes.specs.Appending.{Appends}
+use Rattle.jc_bytes.specs.ByteLists.{AreBytes}
+use Rattle.jc_bytes.specs.Counted.{counted}
+use Rattle.jc_bytes.specs.Decoder.{IsBig}
+use Rattle.jc_bytes.specs.Grammar.{Grammar, times}
+use Rattle.jc_bytes.specs.ItemForms.{number_where}
+use Rattle.jc_bytes.proofs.AppendingLaws.{big_spells}
 use Rattle.jc_pool.specs.Lookup.{utf8_of}
 use Rattle.jc_pool.specs.Pool.{PoolValue}
 use Rattle.jc_pool.specs.PoolGrammar as pools

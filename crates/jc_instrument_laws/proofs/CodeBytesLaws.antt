@@ -6,24 +6,24 @@ use Rattle.std.specs.List.{flat_map, AllByRecursion}
 use Rattle.std.proofs.Math.Nat.{mod-lt}
 use Rattle.std.proofs.lemmas.Bool.{cases_lt, and_parts, ltb-true}
 use Rattle.std.proofs.lemmas.List.Elements.{recursion_from_All}
-use Rattle.jc_base.specs.ByteLists.{AreBytes}
-use Rattle.jc_base.specs.Flow.{flow_of, jump_target, inverse_of}
-use Rattle.jc_base.specs.Insn.{with_places, IsWellFormed}
-use Rattle.jc_base.specs.InsnForm.{form_of}
-use Rattle.jc_base.specs.Opcode as opcode
-use Rattle.jc_base.specs.PlainLists.{pieces}
-use Rattle.jc_base.specs.WellMade.{IsWellMadeOfAnySize}
-use Rattle.jc_base.specs.Widened.{inverted}
-use Rattle.jc_base.specs.declared.body.Body.{Body}
-use Rattle.jc_base.specs.declared.form.Form.{Form}
-use Rattle.jc_base.specs.declared.form.Form.TheVariants as forms
-use Rattle.jc_base.specs.declared.insn.Arm.{Arm}
-use Rattle.jc_base.specs.declared.insn.Flow.{Flow}
-use Rattle.jc_base.specs.declared.insn.Flow.TheVariants as flows
-use Rattle.jc_base.specs.declared.insn.Insn.{Insn}
-use Rattle.jc_base.specs.declared.insn.Insn.TheVariants as insns
-use Rattle.jc_base.proofs.OneTextLaws.{both_bytes}
-use Rattle.jc_base.proofs.InsnFormLaws.{unknown_beyond, local_codes}
+use Rattle.jc_bytes.specs.ByteLists.{AreBytes}
+use Rattle.jc_methods.specs.Flow.{flow_of, jump_target, inverse_of}
+use Rattle.jc_methods.specs.Insn.{with_places, IsWellFormed}
+use Rattle.jc_methods.specs.InsnForm.{form_of}
+use Rattle.jc_methods.specs.Opcode as opcode
+use Rattle.jc_bytes.specs.PlainLists.{pieces}
+use Rattle.jc_methods.specs.WellMade.{IsWellMadeOfAnySize}
+use Rattle.jc_methods.specs.Widened.{inverted}
+use Rattle.jc_methods.specs.declared.body.Body.{Body}
+use Rattle.jc_methods.specs.declared.form.Form.{Form}
+use Rattle.jc_methods.specs.declared.form.Form.TheVariants as forms
+use Rattle.jc_methods.specs.declared.insn.Arm.{Arm}
+use Rattle.jc_methods.specs.declared.insn.Flow.{Flow}
+use Rattle.jc_methods.specs.declared.insn.Flow.TheVariants as flows
+use Rattle.jc_methods.specs.declared.insn.Insn.{Insn}
+use Rattle.jc_methods.specs.declared.insn.Insn.TheVariants as insns
+use Rattle.jc_bytes.proofs.OneTextLaws.{both_bytes}
+use Rattle.jc_methods.proofs.InsnFormLaws.{unknown_beyond, local_codes}
 use Rattle.jc_after.specs.Shift.{with_slot}
 use Rattle.jc_insn.specs.Items.{padding, IsItem, operands, wide_operands, table_operands, lookup_operands}
 use Rattle.jc_insn.specs.Sizes.{is_narrow_inc}

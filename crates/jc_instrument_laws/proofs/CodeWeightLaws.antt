@@ -1,12 +1,12 @@
 -- How many bytes instrumented code takes at least: seven for each probe behind an arm of a switch.
 use Rattle.std.proofs.Common.{◌≡◌, ℕ, zero, suc, ◌+◌, ◌*◌, ◌≤◌, Bool, true, false, List, [], ◌∷◌, ◌++◌, length, map, Option, Some, None, slice_index, refl, ap, arith}
-use Rattle.jc_base.specs.Flow.{flow_of}
-use Rattle.jc_base.specs.PlainLists.{pieces, total}
-use Rattle.jc_base.specs.declared.body.Body.{Body}
-use Rattle.jc_base.specs.declared.insn.Flow.{Flow}
-use Rattle.jc_base.specs.declared.insn.Flow.TheVariants as flows
-use Rattle.jc_base.specs.declared.insn.Insn.{Insn}
-use Rattle.jc_base.specs.Opcode as opcode
+use Rattle.jc_methods.specs.Flow.{flow_of}
+use Rattle.jc_bytes.specs.PlainLists.{pieces, total}
+use Rattle.jc_methods.specs.declared.body.Body.{Body}
+use Rattle.jc_methods.specs.declared.insn.Flow.{Flow}
+use Rattle.jc_methods.specs.declared.insn.Flow.TheVariants as flows
+use Rattle.jc_methods.specs.declared.insn.Insn.{Insn}
+use Rattle.jc_methods.specs.Opcode as opcode
 use Rattle.jc_insn.specs.Sizes.{jump_size, size_of}
 use Rattle.jc_insn.proofs.SizeSumsLaws.{some_size}
 use Rattle.jc_plan.specs.declared.branch.Branch.{Branch}

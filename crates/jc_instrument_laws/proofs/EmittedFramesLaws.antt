@@ -2,13 +2,13 @@
 use Rattle.std.proofs.Common.{◌≡◌, ◌⊎◌, inl, inr, ⊎_elim, ℕ, zero, suc, ◌+◌, ◌*◌, ◌≤◌, Bool, true, false, ◌&&◌, ◌||◌, List, [], ◌∷◌, ◌++◌, length, Option, Some, None, refl, sym, ap, arith, if◌then◌else◌, nat_lt, length-append}
 use Rattle.std.specs.Prelude.{Contains, is_some, is_none}
 use Rattle.std.proofs.lemmas.List.Elements.{Contains-append_cases}
-use Rattle.jc_base.specs.Flow.{flow_of}
-use Rattle.jc_base.specs.PlainLists.{pieces, total}
-use Rattle.jc_base.specs.declared.body.Body.{Body}
-use Rattle.jc_base.specs.declared.body.FrameAt.{FrameAt}
-use Rattle.jc_base.specs.declared.kind.State.{State}
-use Rattle.jc_base.proofs.FirstSeenLaws.{contains_one}
-use Rattle.jc_base.proofs.TestLaws.{none_in}
+use Rattle.jc_methods.specs.Flow.{flow_of}
+use Rattle.jc_bytes.specs.PlainLists.{pieces, total}
+use Rattle.jc_methods.specs.declared.body.Body.{Body}
+use Rattle.jc_methods.specs.declared.body.FrameAt.{FrameAt}
+use Rattle.jc_methods.specs.declared.kind.State.{State}
+use Rattle.jc_bytes.proofs.FirstSeenLaws.{contains_one}
+use Rattle.jc_bytes.proofs.TestLaws.{none_in}
 use Rattle.jc_plan.specs.declared.branch.Branch.{Branch}
 use Rattle.jc_plan.specs.Plan.{lead_probe}
 use Rattle.jc_plan.specs.Probed.{probe_of}

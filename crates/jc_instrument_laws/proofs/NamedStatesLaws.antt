@@ -5,18 +5,18 @@ use Rattle.std.specs.Int.Bits.{bit_and}
 use Rattle.std.specs.List.{AllByRecursion}
 use Rattle.std.specs.Option.{option_and_then}
 use Rattle.std.proofs.lemmas.Option.{none-some, same_Some, slice_get_within, get_or_from_slice_get}
-use Rattle.jc_base.specs.Descriptor.{IsMethodDescriptor}
-use Rattle.jc_base.specs.DescriptorTypes.{method_type_in}
-use Rattle.jc_base.specs.EntryState.{spread, in_locals, held_of, this_of, arguments, entry_seen, entry_of}
-use Rattle.jc_base.specs.Held.{Names, Held, top, uninit_this, object, uninit, is_pair, Seen, SeenAt, seen_at}
-use Rattle.jc_base.specs.Starts.{insn_number}
-use Rattle.jc_base.specs.InsnUse.{pool_place, Suits}
-use Rattle.jc_base.specs.WellMade.{IsWellMadeOfAnySize, HasUse, what_used}
-use Rattle.jc_base.specs.declared.body.Body.{Body}
-use Rattle.jc_base.specs.declared.body.What.{What}
-use Rattle.jc_base.specs.declared.body.What.TheVariants as whats
-use Rattle.jc_base.specs.declared.insn.Insn.{Insn}
-use Rattle.jc_base.specs.declared.insn.Insn.TheVariants as insns
+use Rattle.jc_bytes.specs.Descriptor.{IsMethodDescriptor}
+use Rattle.jc_methods.specs.DescriptorTypes.{method_type_in}
+use Rattle.jc_methods.specs.EntryState.{spread, in_locals, held_of, this_of, arguments, entry_seen, entry_of}
+use Rattle.jc_methods.specs.Held.{Names, Held, top, uninit_this, object, uninit, is_pair, Seen, SeenAt, seen_at}
+use Rattle.jc_methods.specs.Starts.{insn_number}
+use Rattle.jc_methods.specs.InsnUse.{pool_place, Suits}
+use Rattle.jc_methods.specs.WellMade.{IsWellMadeOfAnySize, HasUse, what_used}
+use Rattle.jc_methods.specs.declared.body.Body.{Body}
+use Rattle.jc_methods.specs.declared.body.What.{What}
+use Rattle.jc_methods.specs.declared.body.What.TheVariants as whats
+use Rattle.jc_methods.specs.declared.insn.Insn.{Insn}
+use Rattle.jc_methods.specs.declared.insn.Insn.TheVariants as insns
 use Rattle.jc_pool.specs.Lookup.{class_name_of}
 use Rattle.jc_after.specs.After.{class_in, new_class, insn_at, ground_of, returns_of, after_of}
 use Rattle.jc_after.proofs.LeaveLaws.{insn_of}

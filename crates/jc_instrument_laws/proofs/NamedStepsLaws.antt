@@ -4,22 +4,22 @@ use Rattle.std.specs.List.{list_any, list_all, flat_map, AllByRecursion}
 use Rattle.std.proofs.lemmas.Bool.{and_parts, leb-true, ltb-true, true≢false}
 use Rattle.std.proofs.lemmas.List.{length-append, append-nil}
 use Rattle.std.proofs.lemmas.Option.{none-some, same_Some}
-use Rattle.jc_base.specs.ByteLists.{AreBytes}
-use Rattle.jc_base.specs.Descriptor.{FieldType, Byte, Char, Double, Float, Int, Long, Short, Boolean, Object, Array, field_text, return_text, MethodType, IsFieldDescriptor, IsMethodDescriptor}
-use Rattle.jc_base.specs.DescriptorTypes.{field_type_in, method_type_in}
-use Rattle.jc_base.specs.EntryState.{held_of}
-use Rattle.jc_base.specs.Flow.{is_return}
-use Rattle.jc_base.specs.Held.{Held, top, int, float, double, long, null, uninit_this, object, uninit, Seen, is_pair, slots}
-use Rattle.jc_base.specs.InsnUse.{pool_place, IsOneSlotConstant, IsTwoSlotConstant, IsOfTwoSlots, IsMethod, IsCall, IsClass, IsMemberFor, Suits}
-use Rattle.jc_base.specs.WellMade.{HasUse, what_used}
-use Rattle.jc_base.specs.declared.body.Use.{Use}
-use Rattle.jc_base.specs.declared.body.What.{What}
-use Rattle.jc_base.specs.declared.body.What.TheVariants as whats
-use Rattle.jc_base.specs.declared.insn.Insn.{Insn}
-use Rattle.jc_base.specs.declared.insn.Insn.TheVariants as insns
-use Rattle.jc_base.specs.declared.opcode.TheConstants as ops
-use Rattle.jc_base.proofs.DescriptorTypesLaws.{field_again, method_again}
-use Rattle.jc_base.proofs.OneTextLaws.{both_bytes}
+use Rattle.jc_bytes.specs.ByteLists.{AreBytes}
+use Rattle.jc_bytes.specs.Descriptor.{FieldType, Byte, Char, Double, Float, Int, Long, Short, Boolean, Object, Array, field_text, return_text, MethodType, IsFieldDescriptor, IsMethodDescriptor}
+use Rattle.jc_methods.specs.DescriptorTypes.{field_type_in, method_type_in}
+use Rattle.jc_methods.specs.EntryState.{held_of}
+use Rattle.jc_methods.specs.Flow.{is_return}
+use Rattle.jc_methods.specs.Held.{Held, top, int, float, double, long, null, uninit_this, object, uninit, Seen, is_pair, slots}
+use Rattle.jc_methods.specs.InsnUse.{pool_place, IsOneSlotConstant, IsTwoSlotConstant, IsOfTwoSlots, IsMethod, IsCall, IsClass, IsMemberFor, Suits}
+use Rattle.jc_methods.specs.WellMade.{HasUse, what_used}
+use Rattle.jc_methods.specs.declared.body.Use.{Use}
+use Rattle.jc_methods.specs.declared.body.What.{What}
+use Rattle.jc_methods.specs.declared.body.What.TheVariants as whats
+use Rattle.jc_methods.specs.declared.insn.Insn.{Insn}
+use Rattle.jc_methods.specs.declared.insn.Insn.TheVariants as insns
+use Rattle.jc_methods.specs.Opcode as opcode
+use Rattle.jc_methods.proofs.DescriptorTypesLaws.{field_again, method_again}
+use Rattle.jc_bytes.proofs.OneTextLaws.{both_bytes}
 use Rattle.jc_after.specs.After.{field_step, result_of, call_form, method_step, member_step, interface_step, dynamic_step, computed_step, constant_step, is_array_class, array_of, array_step, class_step, element_letter, multi_step, return_op, simple_step, step_of}
 use Rattle.jc_after.specs.Step.{Gives, kind, item, Form, Step, moves, loads, stores, counts, picks, makes, builds, fails, Ground, apply, upper, below, last, limited, has_form, moved, moved_by, given_of, cleared, clear_before, put_local, with_stack, is_array, element_name, element_of, without, is_made, class_built, built_as, replaced, same_new}
 use Rattle.jc_after.specs.Table.{Row, table, find, forms_at}
@@ -348,8 +348,8 @@ field_named op desc t is =
     let type = is.0 in
     let named = type_named type (subst IsText is.1.spelled t) in
     subst (λ (o : Option FieldType). StepNamed (field_step op o)) (sym (field_again desc type is.1))
-    (if_named (nat_eq op ops.GETSTATIC) _ _ ((named, tt), tt)
-    (if_named (nat_eq op ops.PUTSTATIC) _ _ (tt, tt) (if_named (nat_eq op ops.GETFIELD) _ _ ((named, tt), tt) (tt, tt))))
+    (if_named (nat_eq op opcode.getstatic) _ _ ((named, tt), tt)
+    (if_named (nat_eq op opcode.putstatic) _ _ (tt, tt) (if_named (nat_eq op opcode.getfield) _ _ ((named, tt), tt) (tt, tt))))
 
 form_named : (type : MethodType) → TypesNamed type → FormNamed (call_form type)
 form_named type named = by type.returns refl
@@ -360,15 +360,15 @@ form_named type named = by type.returns refl
 
 method_step_named : (op : ℕ) (name : List ℕ) (type : MethodType) → TypesNamed type → StepNamed (method_step op name type)
 method_step_named op name type named =
-    if_named (nat_eq op ops.INVOKESTATIC) _ _ (form_named type named, tt)
-    (if_named (nat_eq op ops.INVOKESPECIAL && bytes_eq name (codes "<init>")) _ _ (form_named type named) (form_named type named, tt))
+    if_named (nat_eq op opcode.invokestatic) _ _ (form_named type named, tt)
+    (if_named (nat_eq op opcode.invokespecial && bytes_eq name (codes "<init>")) _ _ (form_named type named) (form_named type named, tt))
 
 member_named : (op : ℕ) (what : What) → UseNamed what → IsMemberFor op what → StepNamed (member_step op (Some what))
-member_named op (whats.Field class name desc) t (inl is) = if_named (nat_le op ops.PUTFIELD) _ _ (field_named op desc t is.1) tt
+member_named op (whats.Field class name desc) t (inl is) = if_named (nat_le op opcode.putfield) _ _ (field_named op desc t is.1) tt
 member_named op (whats.Field class name desc) t (inr is) = absurd is.1
 member_named op (whats.Method class name desc) t (inl is) = absurd is.1
 member_named op (whats.Method class name desc) t (inr is) =
-    if_named (nat_le op ops.PUTFIELD) _ _ tt (method_step_named op name (method_type_in desc) (method_named desc t is.1))
+    if_named (nat_le op opcode.putfield) _ _ tt (method_step_named op name (method_type_in desc) (method_named desc t is.1))
 member_named op (whats.Call name desc) t is = tt
 member_named op (whats.Class name) t is = tt
 member_named op (whats.Computed desc) t is = tt
@@ -480,8 +480,8 @@ array_named name t = by (nat_le (length (array_of name)) 65535) refl
 
 class_step_named : (op : ℕ) (what : What) → UseNamed what → IsClass what → StepNamed (class_step op (Some what))
 class_step_named op (whats.Class name) t is =
-    if_named (nat_eq op ops.NEW) _ _ tt
-    (if_named (nat_eq op ops.ANEWARRAY) _ _ (array_named name t) (if_named (nat_eq op ops.CHECKCAST) _ _ ((t, tt), tt) ((tt, tt), tt)))
+    if_named (nat_eq op opcode.new) _ _ tt
+    (if_named (nat_eq op opcode.anewarray) _ _ (array_named name t) (if_named (nat_eq op opcode.checkcast) _ _ ((t, tt), tt) ((tt, tt), tt)))
 class_step_named op (whats.Field class name desc) t is = absurd is
 class_step_named op (whats.Method class name desc) t is = absurd is
 class_step_named op (whats.Call name desc) t is = absurd is
@@ -524,7 +524,7 @@ letter_byte elem = by (nat_eq elem 4) (nat_eq elem 5) (nat_eq elem 6) (nat_eq el
 
 simple_named : (returns : Option FieldType) (op : ℕ) → StepNamed (simple_step returns op)
 simple_named returns op =
-    if_named (nat_eq op ops.AALOAD) _ _ tt
+    if_named (nat_eq op opcode.aaload) _ _ tt
     (if_named (is_return op) _ _ (if_named (nat_eq op (return_op returns)) _ _ (forms_named op) tt) (forms_named op))
 
 module _ (uses : List Use) (returns : Option FieldType) (named : (place : ℕ) (what : What) → what_used uses place ≡ Some what → UseNamed what) where
@@ -535,7 +535,7 @@ module _ (uses : List Use) (returns : Option FieldType) (named : (place : ℕ) (
   pub insn_named : (insn : Insn) → ((place : ℕ) → pool_place insn ≡ Some place → HasUse uses place (Suits insn)) → StepNamed (step_of uses returns insn)
   insn_named (insns.Simple op) used = simple_named returns op
   insn_named (insns.Push op value) used = forms_named op
-  insn_named (insns.Local op slot) used = if_named (nat_lt op ops.ISTORE) _ _ tt tt
+  insn_named (insns.Local op slot) used = if_named (nat_lt op opcode.istore) _ _ tt tt
   insn_named (insns.Inc slot n) used = tt
   insn_named (insns.Constant place) used =
       by_use place IsOneSlotConstant constant_step (used place refl) (λ what t is. constant_named what t (one_slot_described what is))
@@ -548,5 +548,5 @@ module _ (uses : List Use) (returns : Option FieldType) (named : (place : ℕ) (
   insn_named (insns.NewArray elem) used = ((record { short = omega arith; are = (omega arith, (letter_byte elem, tt)) }, tt), tt)
   insn_named (insns.Multi place dims) used = by_use place IsClass (λ o. multi_step o dims) (used place refl) (λ what t is. multi_named what dims t is)
   insn_named (insns.Jump op to) used = forms_named op
-  insn_named (insns.Table low default arms) used = forms_named ops.TABLESWITCH
-  insn_named (insns.Lookup default arms) used = forms_named ops.LOOKUPSWITCH
+  insn_named (insns.Table low default arms) used = forms_named opcode.tableswitch
+  insn_named (insns.Lookup default arms) used = forms_named opcode.lookupswitch

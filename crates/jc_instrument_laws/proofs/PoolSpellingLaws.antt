@@ -4,8 +4,8 @@ use Rattle.std.specs.Int.{w64}
 use Rattle.std.specs.List.{AllByRecursion}
 use Rattle.std.proofs.lemmas.Bool.{cases_lt}
 use Rattle.std.proofs.lemmas.Option.{none-some}
-use Rattle.jc_base.specs.ByteLists.{AreBytes}
-use Rattle.jc_base.specs.Texts.{IsShortText}
+use Rattle.jc_bytes.specs.ByteLists.{AreBytes}
+use Rattle.jc_bytes.specs.Texts.{IsShortText}
 use Rattle.jc_pool.specs.Adding.{IsPut, HasUtf8, HasLong, HasSignature, HasMember, entry_of_member}
 use Rattle.jc_pool.specs.EntryFormat.{IsSigned}
 use Rattle.jc_pool.specs.Index.{entry_naming, HasNaming}

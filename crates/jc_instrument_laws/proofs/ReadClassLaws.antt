@@ -3,10 +3,10 @@ use Rattle.std.proofs.Common.{ℕ, zero, suc, ◌/◌, ◌%◌, ◌<◌, ◌^◌
 use Rattle.std.specs.Prelude.{bit_xor, slice_set, codes}
 use Rattle.std.specs.List.{AllByRecursion}
 use Rattle.std.proofs.lemmas.Nat.{xor_lt}
-use Rattle.jc_base.specs.ByteLists.{AreBytes}
-use Rattle.jc_base.specs.Counted.{counted}
-use Rattle.jc_base.specs.Grammar.{Grammar, times}
-use Rattle.jc_base.proofs.OneTextLaws.{both_bytes, big_below}
+use Rattle.jc_bytes.specs.ByteLists.{AreBytes}
+use Rattle.jc_bytes.specs.Counted.{counted}
+use Rattle.jc_bytes.specs.Grammar.{Grammar, times}
+use Rattle.jc_bytes.proofs.OneTextLaws.{both_bytes, big_below}
 use Rattle.jc_pool.specs.Pool.{PoolValue}
 use Rattle.jc_class.specs.ClassFormat.{attribute, member, class_file, HasText, HasFieldDescriptor, HasMethodDescriptor}
 use Rattle.jc_class.specs.ClassId.{polynomial, after_bit, after_bits, after_byte, class_id}

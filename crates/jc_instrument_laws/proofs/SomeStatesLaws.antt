@@ -8,21 +8,21 @@ use Rattle.std.proofs.lemmas.Bool.{true≢false}
 use Rattle.std.proofs.lemmas.List.{length-append, length-map, append-nil}
 use Rattle.std.proofs.lemmas.List.Elements.{All-from_recursion}
 use Rattle.std.proofs.lemmas.Option.{none-some, slice_get-get_or}
-use Rattle.jc_base.specs.Descriptor.{FieldType, Byte, Char, Double, Float, Int, Long, Short, Boolean, Object, Array}
-use Rattle.jc_base.specs.DescriptorTypes.{method_type_in}
-use Rattle.jc_base.specs.EntryState.{spread, held_of, this_of, arguments, entry_of}
-use Rattle.jc_base.specs.Held.{Names, Held, top, int, float, double, long, null, uninit_this, object, uninit, held, is_pair, Seen, seen, IsNumbered, IsNumberedState, AreNumberedFrames, Grows}
-use Rattle.jc_base.specs.WellMade.{IsKind, IsState, IsWellMadeOfAnySize, IsWellMade}
-use Rattle.jc_base.specs.declared.body.Body.{Body}
-use Rattle.jc_base.specs.declared.insn.Insn.{Insn}
-use Rattle.jc_base.specs.declared.kind.Kind.{Kind}
-use Rattle.jc_base.specs.declared.kind.Kind.TheVariants as kinds
-use Rattle.jc_base.specs.declared.kind.State.{State}
-use Rattle.jc_base.proofs.EntryLaws.{entry_count}
-use Rattle.jc_base.proofs.MetNamesLaws.{grows_none, grows_both}
-use Rattle.jc_base.proofs.TestLaws.{fails_where}
-use Rattle.jc_base.proofs.NumberedLaws.{grown_count, number_kept, numbers_kept}
-use Rattle.jc_base.proofs.ListLaws.{put_cases}
+use Rattle.jc_bytes.specs.Descriptor.{FieldType, Byte, Char, Double, Float, Int, Long, Short, Boolean, Object, Array}
+use Rattle.jc_methods.specs.DescriptorTypes.{method_type_in}
+use Rattle.jc_methods.specs.EntryState.{spread, held_of, this_of, arguments, entry_of}
+use Rattle.jc_methods.specs.Held.{Names, Held, top, int, float, double, long, null, uninit_this, object, uninit, held, is_pair, Seen, seen, IsNumbered, IsNumberedState, AreNumberedFrames, Grows}
+use Rattle.jc_methods.specs.WellMade.{IsKind, IsState, IsWellMadeOfAnySize, IsWellMade}
+use Rattle.jc_methods.specs.declared.body.Body.{Body}
+use Rattle.jc_methods.specs.declared.insn.Insn.{Insn}
+use Rattle.jc_methods.specs.declared.kind.Kind.{Kind}
+use Rattle.jc_methods.specs.declared.kind.Kind.TheVariants as kinds
+use Rattle.jc_methods.specs.declared.kind.State.{State}
+use Rattle.jc_methods.proofs.EntryLaws.{entry_count}
+use Rattle.jc_methods.proofs.MetNamesLaws.{grows_none, grows_both}
+use Rattle.jc_bytes.proofs.TestLaws.{fails_where}
+use Rattle.jc_methods.proofs.NumberedLaws.{grown_count, number_kept, numbers_kept}
+use Rattle.jc_bytes.proofs.ListLaws.{put_cases}
 use Rattle.jc_after.specs.After.{insn_at, after_of}
 use Rattle.jc_after.specs.Answers.{IsStateOf}
 use Rattle.jc_after.proofs.LeaveLaws.{left_whole}

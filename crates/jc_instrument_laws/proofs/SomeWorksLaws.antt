@@ -4,13 +4,13 @@ use Rattle.std.specs.Prelude.{Option, IsSome}
 use Rattle.std.specs.Option.{option_and_then}
 use Rattle.std.proofs.lemmas.List.{length-map, length-take-le, map-append, take_all, take_more}
 use Rattle.std.proofs.lemmas.Option.{slice_get_within, get_or_from_slice_get}
-use Rattle.jc_base.specs.Held.{Names, Seen, AreNumberedFrames, Grows}
-use Rattle.jc_base.specs.EntryState.{entry_of}
-use Rattle.jc_base.specs.WellMade.{IsWellMade}
-use Rattle.jc_base.specs.declared.body.Body.{Body}
-use Rattle.jc_base.proofs.MetNamesLaws.{grows_none, grows_both}
-use Rattle.jc_base.proofs.NumberedLaws.{grown_count, frames_numbered}
-use Rattle.jc_base.proofs.ListLaws.{put_last, put_cases, item_at}
+use Rattle.jc_methods.specs.Held.{Names, Seen, AreNumberedFrames, Grows}
+use Rattle.jc_methods.specs.EntryState.{entry_of}
+use Rattle.jc_methods.specs.WellMade.{IsWellMade}
+use Rattle.jc_methods.specs.declared.body.Body.{Body}
+use Rattle.jc_methods.proofs.MetNamesLaws.{grows_none, grows_both}
+use Rattle.jc_methods.proofs.NumberedLaws.{grown_count, frames_numbered}
+use Rattle.jc_bytes.proofs.ListLaws.{put_last, put_cases, item_at}
 use Rattle.jc_class.specs.declared.class_file.ClassFile.{ClassFile}
 use Rattle.jc_after.specs.After.{after_of}
 use Rattle.jc_kinds.specs.Checked.{Checked, at_handler}

@@ -8,19 +8,19 @@ use Rattle.std.proofs.lemmas.Grind.{flat_map-append}
 use Rattle.std.proofs.lemmas.List.Concat.{flat_map-cons}
 use Rattle.std.proofs.lemmas.List.Elements.{recursion_from_All}
 use Rattle.std.proofs.lemmas.Option.{none-some, same_Some, slice_get_within}
-use Rattle.jc_base.specs.ByteLists.{AreBytes}
-use Rattle.jc_base.specs.Descriptor.{IsMethodDescriptor}
-use Rattle.jc_base.specs.Held.{Names, SeenAt, seen_at}
-use Rattle.jc_base.specs.Outside.{most_read}
-use Rattle.jc_base.specs.PlainLists.{map_from}
-use Rattle.jc_base.specs.WellMade.{IsWellMade, HasShortTexts, what_used}
-use Rattle.jc_base.specs.declared.body.Body.{Body}
-use Rattle.jc_base.specs.declared.body.Use.{Use}
-use Rattle.jc_base.specs.declared.body.What.{What}
-use Rattle.jc_base.specs.declared.body.What.TheVariants as whats
-use Rattle.jc_base.specs.declared.insn.Insn.{Insn}
-use Rattle.jc_base.proofs.AppendingLaws.{big_spells}
-use Rattle.jc_base.proofs.ListLaws.{all_at}
+use Rattle.jc_bytes.specs.ByteLists.{AreBytes}
+use Rattle.jc_bytes.specs.Descriptor.{IsMethodDescriptor}
+use Rattle.jc_methods.specs.Held.{Names, SeenAt, seen_at}
+use Rattle.jc_bytes.specs.Reader.{most_read}
+use Rattle.jc_bytes.specs.PlainLists.{map_from}
+use Rattle.jc_methods.specs.WellMade.{IsWellMade, HasShortTexts, what_used}
+use Rattle.jc_methods.specs.declared.body.Body.{Body}
+use Rattle.jc_methods.specs.declared.body.Use.{Use}
+use Rattle.jc_methods.specs.declared.body.What.{What}
+use Rattle.jc_methods.specs.declared.body.What.TheVariants as whats
+use Rattle.jc_methods.specs.declared.insn.Insn.{Insn}
+use Rattle.jc_bytes.proofs.AppendingLaws.{big_spells}
+use Rattle.jc_bytes.proofs.ListLaws.{all_at}
 use Rattle.jc_pool.specs.Pool.{PoolValue}
 use Rattle.jc_class.specs.ClassId.{class_id}
 use Rattle.jc_class.specs.ClassText.{ClassText}

@@ -4,19 +4,18 @@ use Rattle.std.specs.Prelude.{ℤ, pos}
 use Rattle.std.specs.Int.{w16, cast_unsigned}
 use Rattle.std.specs.List.{flat_map, AllByRecursion}
 use Rattle.std.proofs.lemmas.Bool.{leb-true}
-use Rattle.jc_base.specs.ByteLists.{AreBytes}
-use Rattle.jc_base.specs.Held.{Names, Held, top, int, float, double, long, null, uninit_this, object, uninit, SeenAt}
-use Rattle.jc_base.specs.InsnForm.{form_of}
-use Rattle.jc_base.specs.Opcode as opcode
-use Rattle.jc_base.specs.declared.body.Handler.{Handler}
-use Rattle.jc_base.specs.declared.body.LineAt.{LineAt}
-use Rattle.jc_base.specs.declared.body.VarAt.{VarAt}
-use Rattle.jc_base.specs.declared.emitted.Emitted.{Emitted}
-use Rattle.jc_base.specs.declared.form.Form.{Form}
-use Rattle.jc_base.specs.declared.form.Form.TheVariants as forms
-use Rattle.jc_base.specs.declared.insn.Insn.{Insn}
-use Rattle.jc_base.specs.declared.insn.Insn.TheVariants as insns
-use Rattle.jc_base.specs.declared.opcode.TheConstants as ops
+use Rattle.jc_bytes.specs.ByteLists.{AreBytes}
+use Rattle.jc_methods.specs.Held.{Names, Held, top, int, float, double, long, null, uninit_this, object, uninit, SeenAt}
+use Rattle.jc_methods.specs.InsnForm.{form_of}
+use Rattle.jc_methods.specs.Opcode as opcode
+use Rattle.jc_methods.specs.declared.body.Handler.{Handler}
+use Rattle.jc_methods.specs.declared.body.LineAt.{LineAt}
+use Rattle.jc_methods.specs.declared.body.VarAt.{VarAt}
+use Rattle.jc_methods.specs.declared.emitted.Emitted.{Emitted}
+use Rattle.jc_methods.specs.declared.form.Form.{Form}
+use Rattle.jc_methods.specs.declared.form.Form.TheVariants as forms
+use Rattle.jc_methods.specs.declared.insn.Insn.{Insn}
+use Rattle.jc_methods.specs.declared.insn.Insn.TheVariants as insns
 use Rattle.jc_class.specs.declared.class_file.Attribute.{Attribute}
 use Rattle.jc_frames.specs.Frames.{values_in}
 use Rattle.jc_frames.specs.FullFrames as full
@@ -150,10 +149,10 @@ unfolding insn_text
 push_fits n = by (nat_le n 5) refl (nat_le n 127)
   where
     by : (t : Bool) → nat_le n 5 ≡ t → (u : Bool)
-        → PushFits (if t then insns.Simple (ops.ICONST_0 + n) else if u then insns.Push ops.BIPUSH (pos n) else insns.Push ops.SIPUSH (pos n))
+        → PushFits (if t then insns.Simple (opcode.iconst_0 + n) else if u then insns.Push opcode.bipush (pos n) else insns.Push opcode.sipush (pos n))
     by true is u = let few = leb-true n 5 is in ((omega (arith, few), tt), omega arith)
-    by false is true = (push_are (form_of ops.BIPUSH) ops.BIPUSH (pos n) (omega arith), push_few (form_of ops.BIPUSH) ops.BIPUSH (pos n))
-    by false is false = (push_are (form_of ops.SIPUSH) ops.SIPUSH (pos n) (omega arith), push_few (form_of ops.SIPUSH) ops.SIPUSH (pos n))
+    by false is true = (push_are (form_of opcode.bipush) opcode.bipush (pos n) (omega arith), push_few (form_of opcode.bipush) opcode.bipush (pos n))
+    by false is false = (push_are (form_of opcode.sipush) opcode.sipush (pos n) (omega arith), push_few (form_of opcode.sipush) opcode.sipush (pos n))
 
 init_are : (p : InitPlaces) (pushed : List ℕ) → AreBytes pushed → AreBytes (init_bytes p pushed)
 unfolding init_bytes
@@ -190,16 +189,16 @@ init_count p pushed few =
     let c = short_count p.id in
     let d = short_count p.name in
     let e = short_count p.fetch in
-    let seven = length-append (short p.field) (ops.ARETURN ∷ []) in
-    let six = length-append (short p.fetch) (ops.DUP ∷ ops.PUTSTATIC ∷ short p.field ++ (ops.ARETURN ∷ [])) in
-    let five = length-append pushed (ops.INVOKESTATIC ∷ short p.fetch ++ (ops.DUP ∷ ops.PUTSTATIC ∷ short p.field ++ (ops.ARETURN ∷ []))) in
-    let four = length-append (short p.name) (pushed ++ (ops.INVOKESTATIC ∷ short p.fetch ++ (ops.DUP ∷ ops.PUTSTATIC ∷ short p.field ++ (ops.ARETURN ∷ [])))) in
-    let three = length-append (short p.id) (opcode.ldc_w ∷ short p.name ++ (pushed ++ (ops.INVOKESTATIC ∷ short p.fetch
-    ++ (ops.DUP ∷ ops.PUTSTATIC ∷ short p.field ++ (ops.ARETURN ∷ []))))) in
-    let two = length-append (short (17 + length pushed)) (ops.POP ∷ opcode.ldc2_w ∷ short p.id ++ (opcode.ldc_w ∷ short p.name ++ (pushed
-    ++ (ops.INVOKESTATIC ∷ short p.fetch ++ (ops.DUP ∷ ops.PUTSTATIC ∷ short p.field ++ (ops.ARETURN ∷ [])))))) in
-    let one = length-append (short p.field) (ops.DUP ∷ ops.IFNONNULL ∷ short (17 + length pushed) ++ (ops.POP ∷ opcode.ldc2_w ∷ short p.id
-    ++ (opcode.ldc_w ∷ short p.name ++ (pushed ++ (ops.INVOKESTATIC ∷ short p.fetch ++ (ops.DUP ∷ ops.PUTSTATIC ∷ short p.field ++ (ops.ARETURN ∷ []))))))) in
+    let seven = length-append (short p.field) (opcode.areturn ∷ []) in
+    let six = length-append (short p.fetch) (opcode.dup ∷ opcode.putstatic ∷ short p.field ++ (opcode.areturn ∷ [])) in
+    let five = length-append pushed (opcode.invokestatic ∷ short p.fetch ++ (opcode.dup ∷ opcode.putstatic ∷ short p.field ++ (opcode.areturn ∷ []))) in
+    let four = length-append (short p.name) (pushed ++ (opcode.invokestatic ∷ short p.fetch ++ (opcode.dup ∷ opcode.putstatic ∷ short p.field ++ (opcode.areturn ∷ [])))) in
+    let three = length-append (short p.id) (opcode.ldc_w ∷ short p.name ++ (pushed ++ (opcode.invokestatic ∷ short p.fetch
+    ++ (opcode.dup ∷ opcode.putstatic ∷ short p.field ++ (opcode.areturn ∷ []))))) in
+    let two = length-append (short (17 + length pushed)) (opcode.pop ∷ opcode.ldc2_w ∷ short p.id ++ (opcode.ldc_w ∷ short p.name ++ (pushed
+    ++ (opcode.invokestatic ∷ short p.fetch ++ (opcode.dup ∷ opcode.putstatic ∷ short p.field ++ (opcode.areturn ∷ [])))))) in
+    let one = length-append (short p.field) (opcode.dup ∷ opcode.ifnonnull ∷ short (17 + length pushed) ++ (opcode.pop ∷ opcode.ldc2_w ∷ short p.id
+    ++ (opcode.ldc_w ∷ short p.name ++ (pushed ++ (opcode.invokestatic ∷ short p.fetch ++ (opcode.dup ∷ opcode.putstatic ∷ short p.field ++ (opcode.areturn ∷ []))))))) in
     omega (arith, few, a, b, c, d, e, one, two, three, four, five, six, seven)
 
 -- a short text of bytes

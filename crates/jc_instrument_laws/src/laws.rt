@@ -1,8 +1,8 @@
 //! What becomes of a class file.
 ghost use Rattle.std.specs.Prelude.{◌≡◌, ◌≤◌, ◌⊎◌, ℕ, List, length, Some};
-ghost use Rattle.jc_base.specs.ByteLists.{AreBytes};
-ghost use Rattle.jc_base.specs.Outside.{most_read};
-ghost use Rattle.jc_base.specs.declared.refusal.Refusal.{Refusal};
+ghost use Rattle.jc_bytes.specs.ByteLists.{AreBytes};
+ghost use Rattle.jc_bytes.specs.Reader.{most_read};
+ghost use Rattle.jc_bytes.specs.declared.refusal.Refusal.{Refusal};
 ghost use Rattle.jc_instrument.specs.InstrumentedFile.{IsInstrumentedFile};
 ghost use Rattle.jc_instrument.specs.Refused.{Reason};
 ghost use Rattle.jc_instrument.specs.declared.whole.Instrumented.{Instrumented};

@@ -3,14 +3,14 @@ use Rattle.std.proofs.Common.{◌≡◌, ◌≢◌, ◌⊎◌, inl, inr, ⊎_eli
 use Rattle.std.specs.Option.{option_and_then}
 use Rattle.std.specs.List.{slice_get, All, Contains}
 use Rattle.std.proofs.lemmas.List.Elements.{All-weaker}
-use Rattle.jc_base.specs.declared.kind.State.{State}
-use Rattle.jc_base.specs.declared.body.Handler.{Handler}
-use Rattle.jc_base.specs.declared.body.Body.{Body}
-use Rattle.jc_base.specs.declared.body.FrameAt.{FrameAt}
-use Rattle.jc_base.specs.Held.{Names, Seen, seen, IsNumberedState, AreNumberedFrames, Grows}
-use Rattle.jc_base.specs.EntryState.{entry_seen, entry_of}
-use Rattle.jc_base.specs.Least.{IsNowhere}
-use Rattle.jc_base.specs.WellMade.{IsHandler, IsState, IsWellMade}
+use Rattle.jc_methods.specs.declared.kind.State.{State}
+use Rattle.jc_methods.specs.declared.body.Handler.{Handler}
+use Rattle.jc_methods.specs.declared.body.Body.{Body}
+use Rattle.jc_methods.specs.declared.body.FrameAt.{FrameAt}
+use Rattle.jc_methods.specs.Held.{Names, Seen, seen, IsNumberedState, AreNumberedFrames, Grows}
+use Rattle.jc_methods.specs.EntryState.{entry_seen, entry_of}
+use Rattle.jc_bytes.specs.Least.{IsNowhere}
+use Rattle.jc_methods.specs.WellMade.{IsHandler, IsState, IsWellMade}
 use Rattle.jc_after.specs.After.{after_of}
 use Rattle.jc_kinds.specs.Fits.{FitsThere}
 use Rattle.jc_kinds.specs.States.{state_of, after_at}
@@ -20,8 +20,8 @@ use Rattle.jc_kinds.specs.First.{IsFirst}
 use Rattle.jc_kinds.specs.Guarded.{IsUnguarded}
 use Rattle.jc_kinds.specs.Walk.{IsKeptEntry, IsFlowClash, IsWalk, IsWalkFrom}
 use Rattle.std.proofs.lemmas.Option.{none-some}
-use Rattle.jc_base.proofs.TestLaws.{none_in}
-use Rattle.jc_base.proofs.NumberedLaws.{grown_count, seen_grown, state_numbered, frames_numbered}
+use Rattle.jc_bytes.proofs.TestLaws.{none_in}
+use Rattle.jc_methods.proofs.NumberedLaws.{grown_count, seen_grown, state_numbered, frames_numbered}
 use Rattle.jc_kinds.proofs.CheckLaws.{checked}
 use Rattle.jc_kinds.proofs.FirstLaws.{instead_first, either_first}
 use Rattle.jc_kinds.proofs.GrowLaws.{states_stay}

@@ -4,16 +4,16 @@ use Rattle.std.specs.Option.{option_map}
 use Rattle.std.specs.List.{list_all}
 use Rattle.std.proofs.lemmas.Bool.{both_ways}
 use Rattle.std.proofs.lemmas.Option.{slice_get_read}
-use Rattle.jc_base.specs.FirstSeen.{first_seen}
-use Rattle.jc_base.proofs.FirstSeenLaws.{first_seen_all, first_seen_listed}
-use Rattle.jc_base.proofs.DecidingLaws.{one_test}
-use Rattle.jc_base.specs.declared.insn.Insn.{Insn}
-use Rattle.jc_base.specs.declared.kind.State.{State}
-use Rattle.jc_base.specs.declared.body.FrameAt.{FrameAt}
-use Rattle.jc_base.specs.declared.body.Body.{Body}
-use Rattle.jc_base.specs.Flow.{FallsThrough, targets_of}
-use Rattle.jc_base.specs.Held.{Names, seen, IsNumberedState, AreNumberedFrames, Grows}
-use Rattle.jc_base.specs.WellMade.{IsState, IsWellMade}
+use Rattle.jc_bytes.specs.FirstSeen.{first_seen}
+use Rattle.jc_bytes.proofs.FirstSeenLaws.{first_seen_all, first_seen_listed}
+use Rattle.jc_bytes.proofs.DecidingLaws.{one_test}
+use Rattle.jc_methods.specs.declared.insn.Insn.{Insn}
+use Rattle.jc_methods.specs.declared.kind.State.{State}
+use Rattle.jc_methods.specs.declared.body.FrameAt.{FrameAt}
+use Rattle.jc_methods.specs.declared.body.Body.{Body}
+use Rattle.jc_methods.specs.Flow.{FallsThrough, targets_of}
+use Rattle.jc_methods.specs.Held.{Names, seen, IsNumberedState, AreNumberedFrames, Grows}
+use Rattle.jc_methods.specs.WellMade.{IsState, IsWellMade}
 use Rattle.jc_after.specs.After.{insn_at, after_of}
 use Rattle.jc_kinds.specs.States.{falls_through}
 use Rattle.jc_kinds.specs.Checking.{branches}
@@ -22,8 +22,8 @@ use Rattle.jc_after.specs.Answers.{IsStateOf, IsWhole, LeavesState}
 use Rattle.jc_kinds.specs.Walk.{fits_frame, Begins, passes, IsStep, StopsAt, IsKeptEntry, IsWalk}
 use Rattle.jc_kinds.proofs.CheckLaws.{falls_decided}
 use Rattle.jc_kinds.proofs.FrameLaws.{frame_made, frame_numbered}
-use Rattle.jc_base.proofs.MetNamesLaws.{grows_none}
-use Rattle.jc_base.proofs.NumberedLaws.{grown_count, state_numbered}
+use Rattle.jc_methods.proofs.MetNamesLaws.{grows_none}
+use Rattle.jc_methods.proofs.NumberedLaws.{grown_count, state_numbered}
 use Rattle.jc_kinds.proofs.WalkLaws.{all_true, all_false, IsWalking, walk_begins, walk_begins_not}
 
 -- of each place once

@@ -2,23 +2,23 @@
 use Rattle.std.proofs.Common.{◌≡◌, ◌⊎◌, inl, inr, ⊎_elim, ℕ, zero, suc, ◌+◌, ◌<◌, ◌≤◌, Bool, true, false, not, ◌&&◌, ◌∷◌, length, Option, Some, None, is_some, nat_eq, refl, sym, ◌∙◌, ap, subst, arith, if◌then◌else◌}
 use Rattle.std.proofs.lemmas.Bool.{cases_lt, true≢false}
 use Rattle.std.specs.List.{Contains, list_any}
-use Rattle.jc_base.proofs.DecidingLaws.{Decides}
-use Rattle.jc_base.specs.declared.insn.Insn.{Insn}
-use Rattle.jc_base.specs.declared.insn.Flow.{Flow}
-use Rattle.jc_base.specs.declared.insn.Flow.TheVariants as flows
-use Rattle.jc_base.specs.declared.body.Body.{Body}
-use Rattle.jc_base.specs.Flow.{flow_of, FallsThrough, targets_of}
-use Rattle.jc_base.specs.Least.{IsNowhere, IsLeast}
-use Rattle.jc_base.specs.Held.{Names, Seen}
-use Rattle.jc_base.specs.EntryState.{entry_of}
+use Rattle.jc_bytes.proofs.DecidingLaws.{Decides}
+use Rattle.jc_methods.specs.declared.insn.Insn.{Insn}
+use Rattle.jc_methods.specs.declared.insn.Flow.{Flow}
+use Rattle.jc_methods.specs.declared.insn.Flow.TheVariants as flows
+use Rattle.jc_methods.specs.declared.body.Body.{Body}
+use Rattle.jc_methods.specs.Flow.{flow_of, FallsThrough, targets_of}
+use Rattle.jc_bytes.specs.Least.{IsNowhere, IsLeast}
+use Rattle.jc_methods.specs.Held.{Names, Seen}
+use Rattle.jc_methods.specs.EntryState.{entry_of}
 use Rattle.jc_after.specs.After.{insn_at}
 use Rattle.jc_kinds.specs.Fits.{FitsThere, fits_there}
 use Rattle.jc_kinds.specs.States.{goes_on, falls_through, falls_at, state_of, after_at}
 use Rattle.jc_kinds.specs.Checked.{JumpsTo, GoesOnFrom, LeadsTo, FallsInto, HasFrame, IsHandlerTarget, NeedsFrame, IsMissing, at_handler, EntryClash, NoAfter, BranchClash, HandlerClash, IsClash, Checked, FirstMissing, FirstClash}
 use Rattle.jc_kinds.specs.Checking.{branches, guards, falls_into, has_frame, is_jump_target, is_handler_target, needs_frame, is_missing, entry_clash, branch_clash, handler_clash, is_clash, first_from, first_below, Verdict, passes, frame_missing, frame_clash, clash_or_passes, missing_or, verdict_of}
 use Rattle.std.proofs.lemmas.Option.{none-some, same_Some, slice_get_within}
-use Rattle.jc_base.proofs.TestLaws.{both, either, neither, instead, fails_where, equal_decided, at_most_decided, below_decided, first_in, later_in, which_in, any_decided, stands_in, place_of, none_decided}
-use Rattle.jc_base.proofs.LeastLaws.{least_one}
+use Rattle.jc_bytes.proofs.TestLaws.{both, either, neither, instead, fails_where, equal_decided, at_most_decided, below_decided, first_in, later_in, which_in, any_decided, stands_in, place_of, none_decided}
+use Rattle.jc_bytes.proofs.LeastLaws.{least_one}
 use Rattle.jc_kinds.proofs.FitsLaws.{there_decided}
 
 -- ---- where control goes

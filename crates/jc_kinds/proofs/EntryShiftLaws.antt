@@ -3,11 +3,11 @@ use Rattle.std.proofs.Common.{◌≡◌, inl, inr, ℕ, zero, suc, ◌+◌, ◌-
 use Rattle.std.proofs.lemmas.List.{map-append}
 use Rattle.std.specs.Prelude.{codes, bytes_eq}
 use Rattle.std.specs.List.{AllByRecursion}
-use Rattle.jc_base.specs.Descriptor.{FieldType, Byte, Char, Double, Float, Int, Long, Short, Boolean, Object, Array}
-use Rattle.jc_base.specs.DescriptorTypes.{method_type_in}
-use Rattle.jc_base.specs.Held.{Held, top, int, float, double, long, null, uninit_this, object, uninit, is_pair}
-use Rattle.jc_base.specs.EntryState.{spread_one, spread, in_locals, held_of, is_static, arguments}
-use Rattle.jc_base.proofs.EntryLaws.{argument_slots}
+use Rattle.jc_bytes.specs.Descriptor.{FieldType, Byte, Char, Double, Float, Int, Long, Short, Boolean, Object, Array}
+use Rattle.jc_methods.specs.DescriptorTypes.{method_type_in}
+use Rattle.jc_methods.specs.Held.{Held, top, int, float, double, long, null, uninit_this, object, uninit, is_pair}
+use Rattle.jc_methods.specs.EntryState.{spread_one, spread, in_locals, held_of, is_static, arguments}
+use Rattle.jc_methods.proofs.EntryLaws.{argument_slots}
 use Rattle.jc_after.specs.Step.{clear_before, put_local}
 use Rattle.jc_kinds.specs.Fits.{IsObject, IsNullOrObject, Fits, FitEach}
 use Rattle.jc_after.specs.Shift.{renamed, probes}

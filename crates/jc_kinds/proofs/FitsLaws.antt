@@ -1,11 +1,11 @@
 -- The tests of fitting decide fitting.
 use Rattle.std.proofs.Common.{◌≡◌, inl, inr, ℕ, true, false, List, [], ◌∷◌, Option, Some, None, refl, sym, ◌∙◌, ap}
 use Rattle.std.proofs.lemmas.Bool.{eqb-true, eq-eqb, true≢false}
-use Rattle.jc_base.proofs.DecidingLaws.{Decides}
-use Rattle.jc_base.specs.Held.{Held, top, int, float, double, long, null, uninit_this, object, uninit, Seen}
+use Rattle.jc_bytes.proofs.DecidingLaws.{Decides}
+use Rattle.jc_methods.specs.Held.{Held, top, int, float, double, long, null, uninit_this, object, uninit, Seen}
 use Rattle.jc_after.specs.Wants.{is_int, is_float, is_long, is_double, is_reference}
 use Rattle.jc_kinds.specs.Fits.{IsObject, IsNullOrObject, Fits, FitEach, FitState, FitsThere, is_null, is_uninit_this, is_uninit_at, fits, fit_each, fit_state, fits_there}
-use Rattle.jc_base.proofs.TestLaws.{both, instead}
+use Rattle.jc_bytes.proofs.TestLaws.{both, instead}
 
 no : {X : Type 0} → false ≡ true → X
 no e = absurd (true≢false (sym e))

@@ -6,11 +6,11 @@ use Rattle.std.proofs.lemmas.Bool.{eq-eqb, ne_eqb, cases_eq}
 use Rattle.std.proofs.lemmas.List.{get_or-set_same, get_or-set_other, length-set, get_or-replicate, drop_all}
 use Rattle.std.proofs.lemmas.Option.{slice_get_read, slice_get_past, slice_get-get_or, none-some, same_Some}
 use Rattle.std.proofs.Math.Seq.{drop-cons}
-use Rattle.jc_base.specs.declared.kind.State.{State}
-use Rattle.jc_base.specs.declared.body.FrameAt.{FrameAt}
-use Rattle.jc_base.specs.Held.{Names, seen, seen_at, IsNumberedState, AreNumberedFrames}
-use Rattle.jc_base.specs.WellMade.{IsState, AreFramesFrom}
-use Rattle.jc_base.specs.declared.insn.Insn.{Insn}
+use Rattle.jc_methods.specs.declared.kind.State.{State}
+use Rattle.jc_methods.specs.declared.body.FrameAt.{FrameAt}
+use Rattle.jc_methods.specs.Held.{Names, seen, seen_at, IsNumberedState, AreNumberedFrames}
+use Rattle.jc_methods.specs.WellMade.{IsState, AreFramesFrom}
+use Rattle.jc_methods.specs.declared.insn.Insn.{Insn}
 use Rattle.jc_kinds.specs.States.{frame_at}
 use Rattle.jc_kinds.specs.Frames.{frame_in, numbered_frame, AreNumbers}
 

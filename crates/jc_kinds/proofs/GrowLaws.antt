@@ -1,10 +1,10 @@
 -- More names change no state.
 use Rattle.std.proofs.Common.{◌≡◌, ℕ, zero, suc, List, ◌++◌, length, Option, Some, None, if◌then◌else◌, ap, ap₂}
 use Rattle.std.specs.Option.{option_and_then}
-use Rattle.jc_base.specs.declared.body.Body.{Body}
-use Rattle.jc_base.specs.Held.{Names, Seen, SeenAt, AreNumberedFrames}
-use Rattle.jc_base.specs.EntryState.{entry_of}
-use Rattle.jc_base.proofs.SeenLaws.{frames_stay}
+use Rattle.jc_methods.specs.declared.body.Body.{Body}
+use Rattle.jc_methods.specs.Held.{Names, Seen, SeenAt, AreNumberedFrames}
+use Rattle.jc_methods.specs.EntryState.{entry_of}
+use Rattle.jc_methods.proofs.SeenLaws.{frames_stay}
 use Rattle.jc_after.specs.After.{insn_at, after_of}
 use Rattle.jc_kinds.specs.States.{frame_at, falls_at, or_else, state_of}
 

@@ -6,14 +6,14 @@ use Rattle.std.proofs.lemmas.List.{get_or-map}
 use Rattle.std.proofs.lemmas.List.Elements.{All-contains}
 use Rattle.std.proofs.lemmas.Option.{get_or_from_slice_get, slice_get_within}
 use Rattle.std.proofs.Math.Bool.{and-true}
-use Rattle.jc_base.specs.declared.kind.Kind.{Kind}
-use Rattle.jc_base.specs.declared.kind.Kind.TheVariants as kinds
-use Rattle.jc_base.specs.declared.kind.State.{State}
-use Rattle.jc_base.specs.declared.body.Handler.{Handler}
-use Rattle.jc_base.specs.declared.body.Body.{Body}
-use Rattle.jc_base.specs.Held.{Names, Held, object, held, Seen, seen, AreNumberedFrames, Grows}
-use Rattle.jc_base.specs.Least.{IsNowhere}
-use Rattle.jc_base.specs.WellMade.{IsHandler, IsWellMade}
+use Rattle.jc_methods.specs.declared.kind.Kind.{Kind}
+use Rattle.jc_methods.specs.declared.kind.Kind.TheVariants as kinds
+use Rattle.jc_methods.specs.declared.kind.State.{State}
+use Rattle.jc_methods.specs.declared.body.Handler.{Handler}
+use Rattle.jc_methods.specs.declared.body.Body.{Body}
+use Rattle.jc_methods.specs.Held.{Names, Held, object, held, Seen, seen, AreNumberedFrames, Grows}
+use Rattle.jc_bytes.specs.Least.{IsNowhere}
+use Rattle.jc_methods.specs.WellMade.{IsHandler, IsWellMade}
 use Rattle.jc_kinds.specs.Fits.{FitState, FitsThere, fits, fit_each}
 use Rattle.jc_kinds.specs.States.{state_of}
 use Rattle.jc_kinds.specs.Checked.{IsMissing, caught, at_handler, HandlerClash}
@@ -22,8 +22,8 @@ use Rattle.jc_kinds.specs.Frames.{frame_in}
 use Rattle.jc_kinds.specs.Runs.{kind_at}
 use Rattle.jc_kinds.specs.Guarded.{local_at, column_of, wanted_at, takes_object, catches, frame_catches, IsUnguarded}
 use Rattle.jc_kinds.specs.Walk.{IsKeptAt}
-use Rattle.jc_base.proofs.TestLaws.{fails_where}
-use Rattle.jc_base.proofs.NumberedLaws.{seen_grown}
+use Rattle.jc_bytes.proofs.TestLaws.{fails_where}
+use Rattle.jc_methods.proofs.NumberedLaws.{seen_grown}
 use Rattle.jc_kinds.proofs.FitsLaws.{state_decided}
 use Rattle.jc_kinds.proofs.KindFitsLaws.{each_held_fits}
 use Rattle.jc_kinds.proofs.FrameLaws.{frame_made, frame_numbered}

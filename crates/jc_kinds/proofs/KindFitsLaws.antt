@@ -2,10 +2,10 @@
 use Rattle.std.proofs.Common.{◌≡◌, ◌≢◌, ℕ, suc, ◌+◌, ◌<◌, ◌≤◌, Bool, false, true, ◌&&◌, List, [], ◌∷◌, length, map, drop, get_or, refl, ◌∙◌, ap, ap₂, arith}
 use Rattle.std.proofs.lemmas.Bool.{and_right}
 use Rattle.std.proofs.lemmas.List.{drop_more, drop_all}
-use Rattle.jc_base.specs.declared.kind.Kind.{Kind}
-use Rattle.jc_base.specs.declared.kind.Kind.TheVariants as kinds
-use Rattle.jc_base.specs.declared.kind.State.{State}
-use Rattle.jc_base.specs.Held.{Names, Held, object, held, seen}
+use Rattle.jc_methods.specs.declared.kind.Kind.{Kind}
+use Rattle.jc_methods.specs.declared.kind.Kind.TheVariants as kinds
+use Rattle.jc_methods.specs.declared.kind.State.{State}
+use Rattle.jc_methods.specs.Held.{Names, Held, object, held, seen}
 use Rattle.jc_kinds.specs.Fits.{fits, fit_each, fit_state}
 use Rattle.jc_kinds.specs.KindFits.{kind_fits, kinds_fit, state_fits}
 

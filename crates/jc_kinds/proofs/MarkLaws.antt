@@ -5,7 +5,7 @@ use Rattle.std.proofs.lemmas.Bool.{eq-eqb, ne_eqb, cases_eq, or_right}
 use Rattle.std.proofs.lemmas.List.{get_or-set_same, get_or-set_other, length-set, get_or-replicate, take_all}
 use Rattle.std.proofs.lemmas.List.Folds.{list_any_more}
 use Rattle.std.proofs.Math.Bool.{or-false, or_assoc}
-use Rattle.jc_base.specs.declared.body.Body.{Body}
+use Rattle.jc_methods.specs.declared.body.Body.{Body}
 use Rattle.jc_kinds.specs.Marks.{is_marked, Marks, leads_to, begins_handler, AreTargets}
 use Rattle.jc_kinds.specs.Checking.{is_jump_target, is_handler_target}
 

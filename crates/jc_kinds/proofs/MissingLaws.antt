@@ -2,11 +2,11 @@
 use Rattle.std.proofs.Common.{◌≡◌, ℕ, ◌<◌, ◌≤◌, Bool, true, false, not, ◌&&◌, length, Option, Some, None, is_some, refl, sym, ◌∙◌, ap, arith}
 use Rattle.std.specs.Borrow.{Bor}
 use Rattle.std.specs.Option.{option_copied}
-use Rattle.jc_base.specs.declared.kind.State.{State}
-use Rattle.jc_base.specs.declared.body.Body.{Body}
-use Rattle.jc_base.specs.Least.{IsNowhere}
-use Rattle.jc_base.specs.WellMade.{IsWellMade}
-use Rattle.jc_base.proofs.PlacedInsnLaws as arms
+use Rattle.jc_methods.specs.declared.kind.State.{State}
+use Rattle.jc_methods.specs.declared.body.Body.{Body}
+use Rattle.jc_bytes.specs.Least.{IsNowhere}
+use Rattle.jc_methods.specs.WellMade.{IsWellMade}
+use Rattle.jc_methods.proofs.PlacedInsnLaws as arms
 use Rattle.jc_kinds.specs.Checked.{IsMissing, FirstMissing}
 use Rattle.jc_kinds.specs.Checking.{needs_frame, has_frame, is_missing}
 use Rattle.jc_kinds.specs.Frames.{frame_in}

@@ -6,16 +6,16 @@ use Rattle.std.proofs.lemmas.List.{length-map}
 use Rattle.std.proofs.lemmas.Bool.{eqb-true}
 use Rattle.std.specs.List.{Contains}
 use Rattle.std.proofs.lemmas.Option.{none-some, same_Some}
-use Rattle.jc_base.specs.declared.insn.Insn.{Insn}
-use Rattle.jc_base.specs.declared.body.Body.{Body}
-use Rattle.jc_base.specs.declared.body.FrameAt.{FrameAt}
-use Rattle.jc_base.specs.declared.kind.Kind.{Kind}
-use Rattle.jc_base.specs.declared.kind.Kind.TheVariants as kinds
-use Rattle.jc_base.specs.WellMade.{IsWellMadeOfAnySize, IsState, AreFramesFrom, kind_slots}
-use Rattle.jc_base.specs.Held.{Names, Held, top, Seen, held, seen, seen_at, is_pair}
-use Rattle.jc_base.specs.EntryState.{spread, arguments, entry_of}
-use Rattle.jc_base.proofs.EntryLaws.{argument_slots, entry_count}
-use Rattle.jc_base.proofs.TestLaws.{first_in, later_in}
+use Rattle.jc_methods.specs.declared.insn.Insn.{Insn}
+use Rattle.jc_methods.specs.declared.body.Body.{Body}
+use Rattle.jc_methods.specs.declared.body.FrameAt.{FrameAt}
+use Rattle.jc_methods.specs.declared.kind.Kind.{Kind}
+use Rattle.jc_methods.specs.declared.kind.Kind.TheVariants as kinds
+use Rattle.jc_methods.specs.WellMade.{IsWellMadeOfAnySize, IsState, AreFramesFrom, kind_slots}
+use Rattle.jc_methods.specs.Held.{Names, Held, top, Seen, held, seen, seen_at, is_pair}
+use Rattle.jc_methods.specs.EntryState.{spread, arguments, entry_of}
+use Rattle.jc_methods.proofs.EntryLaws.{argument_slots, entry_count}
+use Rattle.jc_bytes.proofs.TestLaws.{first_in, later_in}
 use Rattle.jc_after.specs.After.{insn_at, after_of}
 use Rattle.jc_after.specs.Shift.{StaysWhole}
 use Rattle.jc_after.proofs.AfterLaws.{after_shifts}

@@ -5,14 +5,14 @@ use Rattle.std.specs.List.{Contains, All, AllByRecursion, list_all, slice_get}
 use Rattle.std.proofs.lemmas.Bool.{cases_lt, and_parts, true≢false}
 use Rattle.std.proofs.lemmas.List.{length_push, append-nil}
 use Rattle.std.proofs.lemmas.List.Elements.{All-contains, All-from_recursion}
-use Rattle.jc_base.specs.declared.kind.State.{State}
-use Rattle.jc_base.specs.declared.body.Body.{Body}
-use Rattle.jc_base.specs.Flow.{targets_of}
-use Rattle.jc_base.specs.InsnUse.{LeadsWithin}
-use Rattle.jc_base.specs.Held.{Names, Held, Seen, seen, IsNumberedState, AreNumberedFrames, Grows}
-use Rattle.jc_base.specs.EntryState.{entry_of}
-use Rattle.jc_base.specs.Least.{IsNowhere}
-use Rattle.jc_base.specs.WellMade.{IsState, IsWellMade}
+use Rattle.jc_methods.specs.declared.kind.State.{State}
+use Rattle.jc_methods.specs.declared.body.Body.{Body}
+use Rattle.jc_methods.specs.Flow.{targets_of}
+use Rattle.jc_methods.specs.InsnUse.{LeadsWithin}
+use Rattle.jc_methods.specs.Held.{Names, Held, Seen, seen, IsNumberedState, AreNumberedFrames, Grows}
+use Rattle.jc_methods.specs.EntryState.{entry_of}
+use Rattle.jc_bytes.specs.Least.{IsNowhere}
+use Rattle.jc_methods.specs.WellMade.{IsState, IsWellMade}
 use Rattle.jc_after.specs.After.{insn_at, after_of}
 use Rattle.jc_kinds.specs.Fits.{FitState, FitsThere, fits, fit_each}
 use Rattle.jc_kinds.specs.States.{falls_at, or_else, state_of, after_at}
@@ -22,14 +22,14 @@ use Rattle.jc_kinds.specs.Frames.{frame_in}
 use Rattle.jc_kinds.specs.KindFits.{state_fits}
 use Rattle.jc_kinds.specs.Walk.{fits_there, fits_frame, Begins, IsStep, StopsAt, IsKeptAt, IsFlowClash, kept_of, IsWalk}
 use Rattle.std.proofs.lemmas.Option.{none-some}
-use Rattle.jc_base.proofs.TestLaws.{fails_where, stands_in, first_in, later_in}
+use Rattle.jc_bytes.proofs.TestLaws.{fails_where, stands_in, first_in, later_in}
 use Rattle.jc_kinds.proofs.FitsLaws.{fits_itself, state_decided}
 use Rattle.jc_kinds.proofs.CheckLaws.{has_frame_decided, goes_on_decided, falls_into_decided, leads_decided}
 use Rattle.jc_kinds.proofs.KindFitsLaws.{state_held_fits}
 use Rattle.jc_kinds.proofs.FrameLaws.{frame_seen, frame_found, frame_numbered}
-use Rattle.jc_base.proofs.MetNamesLaws.{grows_none, grows_both}
-use Rattle.jc_base.proofs.NumberedLaws.{grown_count, seen_grown, state_numbered}
-use Rattle.jc_base.proofs.ListLaws.{put_cases}
+use Rattle.jc_methods.proofs.MetNamesLaws.{grows_none, grows_both}
+use Rattle.jc_methods.proofs.NumberedLaws.{grown_count, seen_grown, state_numbered}
+use Rattle.jc_bytes.proofs.ListLaws.{put_cases}
 
 -- ---- states that fit
 

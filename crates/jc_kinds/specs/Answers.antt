@@ -1,14 +1,14 @@
 -- What the kind check answers.
 use Rattle.std.specs.Prelude.{◌≡◌, ⊤, ℕ, List, length, Some, Result, Ok, Err, slice_get}
-use Rattle.jc_base.specs.declared.kind.State.{State}
-use Rattle.jc_base.specs.declared.body.Body.{Body}
-use Rattle.jc_base.specs.declared.fail.Fail.{Fail}
-use Rattle.jc_base.specs.declared.fail.Fail.TheVariants as fails
-use Rattle.jc_base.specs.declared.refusal.Refusal.{Refusal}
-use Rattle.jc_base.specs.declared.refusal.RefusalKind.{RefusalKind}
-use Rattle.jc_base.specs.declared.refusal.RefusalKind.TheVariants as kinds
-use Rattle.jc_base.specs.Held.{Names, seen, IsNumberedState}
-use Rattle.jc_base.specs.WellMade.{IsState}
+use Rattle.jc_methods.specs.declared.kind.State.{State}
+use Rattle.jc_methods.specs.declared.body.Body.{Body}
+use Rattle.jc_bytes.specs.declared.fail.Fail.{Fail}
+use Rattle.jc_bytes.specs.declared.fail.Fail.TheVariants as fails
+use Rattle.jc_bytes.specs.declared.refusal.Refusal.{Refusal}
+use Rattle.jc_bytes.specs.declared.refusal.RefusalKind.{RefusalKind}
+use Rattle.jc_bytes.specs.declared.refusal.RefusalKind.TheVariants as kinds
+use Rattle.jc_methods.specs.Held.{Names, seen, IsNumberedState}
+use Rattle.jc_methods.specs.WellMade.{IsState}
 use Rattle.jc_kinds.specs.States.{state_of}
 use Rattle.jc_kinds.specs.Checked.{Checked, FirstMissing, FirstClash}
 

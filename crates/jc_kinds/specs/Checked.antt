@@ -1,15 +1,15 @@
 -- The kind check of a body (JVM Specification 4.10.1): each instruction has a state, and each state fits where
 -- control goes on.
 use Rattle.std.specs.Prelude.{◌≡◌, ◌≢◌, ◌⊎◌, ℕ, ◌+◌, ◌<◌, ◌≤◌, [], ◌∷◌, length, Option, Some, None, Contains, IsSome, option_map, codes, nat_eq, if◌then◌else◌}
-use Rattle.jc_base.specs.declared.insn.Insn.{Insn}
-use Rattle.jc_base.specs.declared.body.Handler.{Handler}
-use Rattle.jc_base.specs.declared.body.FrameAt.{FrameAt}
-use Rattle.jc_base.specs.declared.body.Body.{Body}
-use Rattle.jc_base.specs.Flow.{FallsThrough, targets_of}
-use Rattle.jc_base.specs.Least.{IsNowhere, IsLeast}
-use Rattle.jc_base.specs.Held.{Names, Held, object, Seen}
-use Rattle.jc_base.specs.EntryState.{entry_of}
-use Rattle.jc_base.specs.WellMade.{what_used}
+use Rattle.jc_methods.specs.declared.insn.Insn.{Insn}
+use Rattle.jc_methods.specs.declared.body.Handler.{Handler}
+use Rattle.jc_methods.specs.declared.body.FrameAt.{FrameAt}
+use Rattle.jc_methods.specs.declared.body.Body.{Body}
+use Rattle.jc_methods.specs.Flow.{FallsThrough, targets_of}
+use Rattle.jc_bytes.specs.Least.{IsNowhere, IsLeast}
+use Rattle.jc_methods.specs.Held.{Names, Held, object, Seen}
+use Rattle.jc_methods.specs.EntryState.{entry_of}
+use Rattle.jc_methods.specs.WellMade.{what_used}
 use Rattle.jc_after.specs.After.{insn_at, class_in}
 use Rattle.jc_kinds.specs.Fits.{FitsThere}
 use Rattle.jc_kinds.specs.States.{state_of, after_at}

@@ -1,12 +1,12 @@
 -- The kind check as tests, one for each part of its definition.
 use Rattle.std.specs.Prelude.{ℕ, zero, suc, ◌+◌, Bool, false, not, ◌&&◌, ◌||◌, List, [], ◌∷◌, length, Option, Some, None, is_some, nat_eq, nat_le, nat_lt, if◌then◌else◌}
 use Rattle.std.specs.List.{list_any}
-use Rattle.jc_base.specs.declared.insn.Insn.{Insn}
-use Rattle.jc_base.specs.declared.body.Handler.{Handler}
-use Rattle.jc_base.specs.declared.body.Body.{Body}
-use Rattle.jc_base.specs.Flow.{targets_of}
-use Rattle.jc_base.specs.Held.{Names}
-use Rattle.jc_base.specs.EntryState.{entry_of}
+use Rattle.jc_methods.specs.declared.insn.Insn.{Insn}
+use Rattle.jc_methods.specs.declared.body.Handler.{Handler}
+use Rattle.jc_methods.specs.declared.body.Body.{Body}
+use Rattle.jc_methods.specs.Flow.{targets_of}
+use Rattle.jc_methods.specs.Held.{Names}
+use Rattle.jc_methods.specs.EntryState.{entry_of}
 use Rattle.jc_after.specs.After.{insn_at}
 use Rattle.jc_kinds.specs.Fits.{fits_there}
 use Rattle.jc_kinds.specs.States.{state_of, after_at, falls_at}

@@ -1,7 +1,7 @@
 -- When a value may stand where another type is expected (JVM Specification 4.10.1.2, 4.10.1.4). Classes aren't
 -- compared: an object fits any class.
 use Rattle.std.specs.Prelude.{◌≡◌, ◌⊎◌, ⊤, ℕ, Bool, true, false, ◌&&◌, nat_eq, List, [], ◌∷◌, Option, Some}
-use Rattle.jc_base.specs.Held.{Held, top, int, float, double, long, null, uninit_this, object, uninit, Seen}
+use Rattle.jc_methods.specs.Held.{Held, top, int, float, double, long, null, uninit_this, object, uninit, Seen}
 use Rattle.jc_after.specs.Wants.{is_int, is_float, is_long, is_double, is_reference}
 
 abbrev pub IsObject : Held → Type 0

@@ -1,7 +1,7 @@
 -- The frames of a body by the instructions at which they stand.
 use Rattle.std.specs.Prelude.{◌≡◌, ℕ, ◌<◌, List, [], ◌∷◌, length, Option, Some, None, option_map, nat_eq, All, slice_get, slice_index, if◌then◌else◌}
-use Rattle.jc_base.specs.declared.kind.State.{State}
-use Rattle.jc_base.specs.declared.body.FrameAt.{FrameAt}
+use Rattle.jc_methods.specs.declared.kind.State.{State}
+use Rattle.jc_methods.specs.declared.body.FrameAt.{FrameAt}
 
 -- what the frame at an instruction says, if one stands there
 abbrev pub frame_in : List FrameAt → ℕ → Option State

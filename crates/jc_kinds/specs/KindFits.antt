@@ -1,8 +1,8 @@
 -- Whether types fit, on types as they are kept: numbers of class names play no part in it.
 use Rattle.std.specs.Prelude.{Bool, false, true, ◌&&◌, List, [], ◌∷◌}
-use Rattle.jc_base.specs.declared.kind.Kind.{Kind}
-use Rattle.jc_base.specs.declared.kind.State.{State}
-use Rattle.jc_base.specs.Held.{held}
+use Rattle.jc_methods.specs.declared.kind.Kind.{Kind}
+use Rattle.jc_methods.specs.declared.kind.State.{State}
+use Rattle.jc_methods.specs.Held.{held}
 use Rattle.jc_kinds.specs.Fits.{fits}
 
 -- classes aren't compared, so any list of names will do

@@ -1,10 +1,10 @@
 -- Marks at instructions that need a frame.
 use Rattle.std.specs.Prelude.{◌≡◌, ℕ, ◌<◌, Bool, false, ◌||◌, List, length, nat_eq, slice_index_or}
 use Rattle.std.specs.List.{list_any}
-use Rattle.jc_base.specs.declared.insn.Insn.{Insn}
-use Rattle.jc_base.specs.declared.body.Handler.{Handler}
-use Rattle.jc_base.specs.declared.body.Body.{Body}
-use Rattle.jc_base.specs.Flow.{targets_of}
+use Rattle.jc_methods.specs.declared.insn.Insn.{Insn}
+use Rattle.jc_methods.specs.declared.body.Handler.{Handler}
+use Rattle.jc_methods.specs.declared.body.Body.{Body}
+use Rattle.jc_methods.specs.Flow.{targets_of}
 use Rattle.jc_kinds.specs.Checking.{is_jump_target, is_handler_target}
 
 abbrev pub is_marked : List Bool → ℕ → Bool

@@ -1,7 +1,7 @@
 -- Runs of equal types in one local variable, instruction by instruction.
 use Rattle.std.specs.Prelude.{◌≡◌, ◌≢◌, ℕ, ◌<◌, ◌≤◌, Bool, true, false, List, length, slice_index, slice_index_or}
-use Rattle.jc_base.specs.declared.kind.Kind.{Kind}
-use Rattle.jc_base.specs.declared.kind.Kind.TheVariants as kinds
+use Rattle.jc_methods.specs.declared.kind.Kind.{Kind}
+use Rattle.jc_methods.specs.declared.kind.Kind.TheVariants as kinds
 use Rattle.jc_kinds.specs.KindFits.{kind_fits}
 
 abbrev pub kind_at : List Kind → ℕ → Kind

@@ -1,13 +1,13 @@
 -- The states of a body as those of its instrumented body: one local variable more, behind the arguments, and each
 -- instruction at its image.
 use Rattle.std.specs.Prelude.{◌≡◌, ◌⊎◌, ℕ, ◌+◌, length, slice_index_or, Some, Contains}
-use Rattle.jc_base.specs.declared.insn.Insn.{Insn}
-use Rattle.jc_base.specs.declared.kind.Kind.TheVariants as kinds
-use Rattle.jc_base.specs.declared.body.FrameAt.{FrameAt}
-use Rattle.jc_base.specs.declared.body.Body.{Body}
-use Rattle.jc_base.specs.WellMade.{IsWellMadeOfAnySize, kind_slots}
-use Rattle.jc_base.specs.Held.{Names, Seen}
-use Rattle.jc_base.specs.EntryState.{entry_seen, entry_of}
+use Rattle.jc_methods.specs.declared.insn.Insn.{Insn}
+use Rattle.jc_methods.specs.declared.kind.Kind.TheVariants as kinds
+use Rattle.jc_methods.specs.declared.body.FrameAt.{FrameAt}
+use Rattle.jc_methods.specs.declared.body.Body.{Body}
+use Rattle.jc_methods.specs.WellMade.{IsWellMadeOfAnySize, kind_slots}
+use Rattle.jc_methods.specs.Held.{Names, Seen}
+use Rattle.jc_methods.specs.EntryState.{entry_seen, entry_of}
 use Rattle.jc_after.specs.Step.{put_local}
 use Rattle.jc_after.specs.After.{insn_at, after_of}
 use Rattle.jc_after.specs.Shift.{probes, shifted, Straddles, HasImages, StaysWhole}

@@ -1,12 +1,12 @@
 -- The walk over the states before the instructions.
 use Rattle.std.specs.Prelude.{◌≡◌, ◌⊎◌, ℕ, ◌+◌, Bool, true, false, List, [], ◌∷◌, length, Option, Some, None, slice_get, unwrap_or}
 use Rattle.std.specs.List.{list_all}
-use Rattle.jc_base.specs.declared.kind.State.{State}
-use Rattle.jc_base.specs.declared.body.FrameAt.{FrameAt}
-use Rattle.jc_base.specs.declared.body.Body.{Body}
-use Rattle.jc_base.specs.Held.{Names, seen, IsNumberedState, Grows}
-use Rattle.jc_base.specs.EntryState.{entry_of}
-use Rattle.jc_base.specs.WellMade.{IsState}
+use Rattle.jc_methods.specs.declared.kind.State.{State}
+use Rattle.jc_methods.specs.declared.body.FrameAt.{FrameAt}
+use Rattle.jc_methods.specs.declared.body.Body.{Body}
+use Rattle.jc_methods.specs.Held.{Names, seen, IsNumberedState, Grows}
+use Rattle.jc_methods.specs.EntryState.{entry_of}
+use Rattle.jc_methods.specs.WellMade.{IsState}
 use Rattle.jc_after.specs.After.{insn_at, after_of}
 use Rattle.jc_kinds.specs.States.{state_of}
 use Rattle.jc_kinds.specs.Checked.{EntryClash, NoAfter, BranchClash}

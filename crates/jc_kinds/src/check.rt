@@ -1,8 +1,8 @@
 //! The kind check of a body.
 ghost use Rattle.std.specs.Prelude.{◌≡◌, ◌≢◌, ◌⊎◌, ⊤, ℕ, [], true, Some, length, IfOk, IfErr, MatchResult};
-ghost use Rattle.jc_base.specs.Held.{Grows, AreNumberedFrames};
-ghost use Rattle.jc_base.specs.WellMade.{IsWellMade};
-ghost use Rattle.jc_base.specs.Least.{IsNowhere};
+ghost use Rattle.jc_methods.specs.Held.{Grows, AreNumberedFrames};
+ghost use Rattle.jc_methods.specs.WellMade.{IsWellMade};
+ghost use Rattle.jc_bytes.specs.Least.{IsNowhere};
 ghost use Rattle.jc_kinds.specs.Checked.{Checked, IsMissing, FirstMissing, FirstClash};
 ghost use Rattle.jc_kinds.specs.Frames.{AreNumbers};
 ghost use Rattle.jc_kinds.specs.Walk.{IsWalkFrom, IsKeptEntry};
@@ -13,7 +13,8 @@ use crate::guarded::first_unguarded;
 use crate::missing::first_missing;
 use crate::walk::{Walked, walk};
 use jc_after::Effects;
-use jc_base::{Body, Fail, Memory, Names, Refusal, RefusalKind, State, entry_state};
+use jc_bytes::{Fail, Memory, Names, Refusal, RefusalKind};
+use jc_methods::{Body, State, entry_state};
 use std::alloc::Global;
 
 /// The state in which the method begins. The arguments of a well made body fit, so that only memory may be

@@ -2,7 +2,7 @@
 ghost use Rattle.std.specs.Prelude.{◌≡◌};
 ghost use Rattle.jc_kinds.specs.KindFits.{kind_fits, kinds_fit, state_fits};
 
-use jc_base::{Kind, State};
+use jc_methods::{Kind, State};
 
 /// Whether a value of a type may stand where another type is expected (JVM Specification 4.10.1.2). Classes
 /// aren't compared.

@@ -2,7 +2,8 @@
 ghost use Rattle.std.specs.Prelude.{◌≡◌, ◌<◌, length, All, IfOk, option_copied};
 ghost use Rattle.jc_kinds.specs.Frames.{frame_in, AreNumbers};
 
-use jc_base::{FrameAt, Memory, State};
+use jc_bytes::Memory;
+use jc_methods::{FrameAt, State};
 use std::alloc::Global;
 
 /// For each of so many instructions the number of the frame that stands there, or the number of frames where

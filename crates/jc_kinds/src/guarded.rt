@@ -10,7 +10,8 @@ ghost use Rattle.jc_kinds.specs.Guarded.{IsUncaught, IsUnfitInColumn, IsUnfitInR
 use crate::fits::fits;
 use crate::frames::frame_at;
 use crate::runs::{first_unfit, run_ends};
-use jc_base::{FrameAt, Handler, Kind, Memory, State};
+use jc_bytes::Memory;
+use jc_methods::{FrameAt, Handler, Kind, State};
 use std::alloc::Global;
 
 /// Whether a reference that is caught may stand alone on a stack.

@@ -1,7 +1,7 @@
 //! Laws of the kind check.
 ghost use Rattle.std.specs.Prelude.{◌≡◌, ◌⊎◌, ◌↔◌, ◌≤◌, ◌++◌, ℕ, length, IsTrue};
-ghost use Rattle.jc_base.specs.declared.body.Body.{Body};
-ghost use Rattle.jc_base.specs.Held.{Names, Held, AreNumberedFrames};
+ghost use Rattle.jc_methods.specs.declared.body.Body.{Body};
+ghost use Rattle.jc_methods.specs.Held.{Names, Held, AreNumberedFrames};
 ghost use Rattle.jc_kinds.specs.Checked.{Checked, FirstMissing, FirstClash};
 ghost use Rattle.jc_kinds.specs.Checking.{verdict_of, passes, frame_missing, frame_clash};
 ghost use Rattle.jc_kinds.specs.States.{state_of};

@@ -1,16 +1,17 @@
 //! Instructions that need a stack map frame (JVM Specification 4.10.1.6).
 ghost use Rattle.std.specs.Prelude.{◌≡◌, ◌<◌, length, All, IfOk, OnOk, MatchOption};
-ghost use Rattle.jc_base.specs.Flow.{targets_of};
-ghost use Rattle.jc_base.specs.InsnUse.{LeadsWithin};
-ghost use Rattle.jc_base.specs.Least.{IsNowhere};
-ghost use Rattle.jc_base.specs.WellMade.{IsWellMade};
+ghost use Rattle.jc_methods.specs.Flow.{targets_of};
+ghost use Rattle.jc_methods.specs.InsnUse.{LeadsWithin};
+ghost use Rattle.jc_bytes.specs.Least.{IsNowhere};
+ghost use Rattle.jc_methods.specs.WellMade.{IsWellMade};
 ghost use Rattle.jc_kinds.specs.Checked.{IsMissing, FirstMissing};
 ghost use Rattle.jc_kinds.specs.Checking.{falls_into, needs_frame, is_missing};
 ghost use Rattle.jc_kinds.specs.Frames.{AreNumbers};
 ghost use Rattle.jc_kinds.specs.Marks.{Marks, is_among, leads_to, begins_handler, AreTargets};
 
 use crate::frames::frame_at;
-use jc_base::{Body, Handler, Insn, Memory};
+use jc_bytes::Memory;
+use jc_methods::{Body, Handler, Insn};
 use std::alloc::Global;
 
 /// Marks places.

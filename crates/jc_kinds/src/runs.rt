@@ -3,7 +3,8 @@ ghost use Rattle.std.specs.Prelude.{◌≡◌, ◌<◌, ◌≤◌, ◌+◌, fals
 ghost use Rattle.jc_kinds.specs.Runs.{key_of, IsEnd, AreEnds, IsFirstUnfit};
 
 use crate::fits::fits;
-use jc_base::{Kind, Memory};
+use jc_bytes::Memory;
+use jc_methods::Kind;
 use std::alloc::Global;
 
 /// The type, or one that stands for null and for all objects where these are to be alike.

@@ -1,10 +1,10 @@
 //! The states before the instructions, one after the other (JVM Specification 4.10.1.6).
 ghost use Rattle.std.specs.Prelude.{◌≡◌, ◌<◌, ◌++◌, [], true, length, IfOk, OnOk, Some, unwrap_or, if◌then◌else◌};
 ghost use Rattle.std.specs.List.{list_all};
-ghost use Rattle.jc_base.specs.Flow.{targets_of};
-ghost use Rattle.jc_base.specs.Held.{Grows, IsNumberedState, AreNumberedFrames};
-ghost use Rattle.jc_base.specs.Least.{IsNowhere};
-ghost use Rattle.jc_base.specs.WellMade.{IsWellMade, IsState};
+ghost use Rattle.jc_methods.specs.Flow.{targets_of};
+ghost use Rattle.jc_methods.specs.Held.{Grows, IsNumberedState, AreNumberedFrames};
+ghost use Rattle.jc_bytes.specs.Least.{IsNowhere};
+ghost use Rattle.jc_methods.specs.WellMade.{IsWellMade, IsState};
 ghost use Rattle.jc_after.specs.Effects.{AreEffects, body_of};
 ghost use Rattle.jc_kinds.specs.Checked.{IsMissing};
 ghost use Rattle.jc_kinds.specs.Checking.{branches};
@@ -15,7 +15,8 @@ ghost use Rattle.jc_kinds.specs.Walk.{fits_frame, Begins, Steps, IsKeptEntry, li
 use crate::fits::fits_state;
 use crate::frames::frame_at;
 use jc_after::Effects;
-use jc_base::{Body, FrameAt, Insn, Memory, Names, State, TryClone};
+use jc_bytes::{Memory, Names};
+use jc_methods::{Body, FrameAt, Insn, State, TryClone};
 use std::alloc::Global;
 
 /// Whether a state fits the frame at an instruction, if one stands there.

@@ -2,17 +2,17 @@
 use Rattle.std.proofs.Common.{◌≡◌, ℕ, ◌+◌, ◌<◌, Bool, false, List, [], ◌∷◌, ◌++◌, map, length, refl, sym, ap, ◌∙◌, subst, arith}
 use Rattle.std.specs.Prelude.{slice_index}
 use Rattle.std.proofs.lemmas.List.{append_cancel_left}
-use Rattle.jc_base.specs.declared.opcode.TheConstants as ops
-use Rattle.jc_base.specs.declared.form.Form.TheVariants as forms
-use Rattle.jc_base.specs.InsnForm.{form_of}
-use Rattle.jc_base.specs.Insn.{with_places}
-use Rattle.jc_base.specs.Starts.{insn_number}
-use Rattle.jc_base.specs.WellMade.{IsWellMadeOfAnySize}
-use Rattle.jc_base.specs.declared.insn.Insn.{Insn}
-use Rattle.jc_base.specs.declared.insn.Insn.TheVariants as insns
-use Rattle.jc_base.specs.declared.kind.State.{State}
-use Rattle.jc_base.specs.declared.body.Body.{Body}
-use Rattle.jc_base.specs.declared.body.Use.{Use}
+use Rattle.jc_methods.specs.Opcode as opcode
+use Rattle.jc_methods.specs.declared.form.Form.TheVariants as forms
+use Rattle.jc_methods.specs.InsnForm.{form_of}
+use Rattle.jc_methods.specs.Insn.{with_places}
+use Rattle.jc_methods.specs.Starts.{insn_number}
+use Rattle.jc_methods.specs.WellMade.{IsWellMadeOfAnySize}
+use Rattle.jc_methods.specs.declared.insn.Insn.{Insn}
+use Rattle.jc_methods.specs.declared.insn.Insn.TheVariants as insns
+use Rattle.jc_methods.specs.declared.kind.State.{State}
+use Rattle.jc_methods.specs.declared.body.Body.{Body}
+use Rattle.jc_methods.specs.declared.body.Use.{Use}
 use Rattle.jc_insn.specs.declared.item.Item.TheVariants as items
 use Rattle.jc_insn.specs.Items.{operands, IsItem}
 use Rattle.jc_insn.specs.Sizes.{StartAt}
@@ -33,17 +33,17 @@ use Rattle.jc_layout.proofs.LaidCodeLaws.{begins_so, laid_is}
 -- ---- invokestatic
 
 abbrev call_text : ℕ → List ℕ
-call_text place = ops.INVOKESTATIC ∷ short place
+call_text place = opcode.invokestatic ∷ short place
 
-call_form : form_of ops.INVOKESTATIC ≡ forms.Member
+call_form : form_of opcode.invokestatic ≡ forms.Member
 unfolding form_of
 call_form = refl
 
 call_item : (at place : ℕ) → place < 65536 → IsItem at (call_text place) (items.Insn (invokestatic place))
 unfolding operands
 call_item at place lt =
-    item_of at ops.INVOKESTATIC forms.Member (short place) (items.Insn (invokestatic place)) call_form
-    (one_number 2 (λ p. items.Insn (insns.Member ops.INVOKESTATIC p)) place (short place) (items.Insn (invokestatic place)) (big_short place lt) refl)
+    item_of at opcode.invokestatic forms.Member (short place) (items.Insn (invokestatic place)) call_form
+    (one_number 2 (λ p. items.Insn (insns.Member opcode.invokestatic p)) place (short place) (items.Insn (invokestatic place)) (big_short place lt) refl)
 
 call_back : (f : ℕ → ℕ) (place : ℕ) (x : Insn) → invokestatic place ≡ with_places f x → x ≡ invokestatic place
 call_back f place (insns.Member op p) e = sym e
@@ -116,7 +116,7 @@ two_of (a ∷ b ∷ c ∷ l) e = absurd (omega (arith, e))
 placed_text : (call : ℕ) (rest : List ℕ) → with_place call (call_text 0 ++ rest) ≡ call_text call ++ rest
 placed_text call rest =
     let two = two_of (short 0) (short_size 0) in
-    ap (λ (l : List ℕ). with_place call ((ops.INVOKESTATIC ∷ l) ++ rest)) two.is
+    ap (λ (l : List ℕ). with_place call ((opcode.invokestatic ∷ l) ++ rest)) two.is
 
 text_begins : (places : ℕ → ℕ) (wide : Bool) (code : List Insn) (starts : List ℕ) → StartAt wide 0 (invokestatic 0 ∷ code) starts
     → (rest : List ℕ) × (code_text places wide (invokestatic 0 ∷ code) starts ≡ call_text 0 ++ rest)

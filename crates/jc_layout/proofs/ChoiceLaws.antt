@@ -2,8 +2,8 @@
 use Rattle.std.proofs.Common.{◌≡◌, ℕ, ◌+◌, Bool, false, List, [], ◌∷◌, length, get_or, sym, ap, ap₂, ◌∙◌, subst, arith, length-append}
 use Rattle.std.specs.Prelude.{slice_index}
 use Rattle.std.proofs.lemmas.List.{get_or_read}
-use Rattle.jc_base.specs.declared.insn.Insn.{Insn}
-use Rattle.jc_base.specs.Insn.{with_places}
+use Rattle.jc_methods.specs.declared.insn.Insn.{Insn}
+use Rattle.jc_methods.specs.Insn.{with_places}
 use Rattle.jc_insn.specs.Sizes.{size_of, StartAt}
 use Rattle.jc_insn.specs.Writing.{AllNear, insn_text, code_text}
 use Rattle.jc_insn.proofs.SizeSumsLaws.{count_starts, first_start}

@@ -3,17 +3,16 @@ use Rattle.std.proofs.Common.{◌≡◌, ⊎_elim, inl, inr, ℕ, ◌+◌, ◌<�
 use Rattle.std.specs.Prelude.{pos, negsuc, ◌≤ℤ◌, if◌then◌else◌}
 use Rattle.std.proofs.lemmas.Int.{ints}
 use Rattle.std.proofs.lemmas.Bool.{cases_lt, agree_below_at, cond-true, leb-true, le-leb}
-use Rattle.jc_base.specs.InsnForm.{form_of}
-use Rattle.jc_base.proofs.InsnFormLaws.{unknown_beyond}
-use Rattle.jc_base.specs.Opcode as opcode
-use Rattle.jc_base.specs.declared.opcode.TheConstants as ops
-use Rattle.jc_base.specs.declared.form.Form.{Form}
-use Rattle.jc_base.specs.declared.form.Form.TheVariants as forms
-use Rattle.jc_base.specs.declared.insn.Insn.{Insn}
-use Rattle.jc_base.specs.declared.insn.Insn.TheVariants as insns
-use Rattle.jc_base.specs.Flow.{inverse_of}
-use Rattle.jc_base.specs.Insn.{IsWellFormed}
-use Rattle.jc_base.specs.Widened.{inverted}
+use Rattle.jc_methods.specs.InsnForm.{form_of}
+use Rattle.jc_methods.proofs.InsnFormLaws.{unknown_beyond}
+use Rattle.jc_methods.specs.Opcode as opcode
+use Rattle.jc_methods.specs.declared.form.Form.{Form}
+use Rattle.jc_methods.specs.declared.form.Form.TheVariants as forms
+use Rattle.jc_methods.specs.declared.insn.Insn.{Insn}
+use Rattle.jc_methods.specs.declared.insn.Insn.TheVariants as insns
+use Rattle.jc_methods.specs.Flow.{inverse_of}
+use Rattle.jc_methods.specs.Insn.{IsWellFormed}
+use Rattle.jc_methods.specs.Widened.{inverted}
 use Rattle.jc_after.specs.Shift.{with_slot}
 use Rattle.jc_emit.specs.Marks.{aload, astore, invokestatic, iconst_1, bastore, push}
 
@@ -81,15 +80,15 @@ pub goto_formed : (to : ℕ) → IsWellFormed (insns.Jump opcode.goto to)
 unfolding form_of
 goto_formed to = refl
 
-low_form : (n : ℕ) → n ≤ 5 → form_of (ops.ICONST_0 + n) ≡ forms.Simple
+low_form : (n : ℕ) → n ≤ 5 → form_of (opcode.iconst_0 + n) ≡ forms.Simple
 unfolding form_of
-low_form n le = cond-true (nat_le (ops.ICONST_0 + n) opcode.dconst_1) forms.Simple _ (le-leb (ops.ICONST_0 + n) opcode.dconst_1 (omega arith))
+low_form n le = cond-true (nat_le (opcode.iconst_0 + n) opcode.dconst_1) forms.Simple _ (le-leb (opcode.iconst_0 + n) opcode.dconst_1 (omega arith))
 
-byte_form : form_of ops.BIPUSH ≡ forms.PushByte
+byte_form : form_of opcode.bipush ≡ forms.PushByte
 unfolding form_of
 byte_form = refl
 
-short_form : form_of ops.SIPUSH ≡ forms.PushShort
+short_form : form_of opcode.sipush ≡ forms.PushShort
 unfolding form_of
 short_form = refl
 
@@ -103,7 +102,7 @@ pub push_formed : (n : ℕ) → IsWellFormed (push n)
 push_formed n = by (nat_le n 5) refl (nat_le n 127) refl
   where
     by : (t : Bool) → nat_le n 5 ≡ t → (u : Bool) → nat_le n 127 ≡ u
-        → IsWellFormed (if t then insns.Simple (ops.ICONST_0 + n) else if u then insns.Push ops.BIPUSH (pos n) else insns.Push ops.SIPUSH (pos n))
+        → IsWellFormed (if t then insns.Simple (opcode.iconst_0 + n) else if u then insns.Push opcode.bipush (pos n) else insns.Push opcode.sipush (pos n))
     by true e u f = low_form n (leb-true n 5 e)
     by false e true f = inl (byte_form, byte_low n, byte_high n (leb-true n 127 f))
     by false e false f = inr short_form

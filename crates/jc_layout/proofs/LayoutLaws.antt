@@ -2,9 +2,9 @@
 use Rattle.std.proofs.Common.{◌≡◌, ℕ, ◌+◌, Bool, true, false, not, List, [], ◌∷◌, refl, sym, ap, ◌∙◌, nat_lt, nat_le}
 use Rattle.std.specs.Prelude.{slice_index}
 use Rattle.std.proofs.lemmas.Bool.{and_parts, and_from, ltb-true, lt-ltb, leb-true, le-leb}
-use Rattle.jc_base.specs.declared.insn.Insn.{Insn}
-use Rattle.jc_base.specs.declared.insn.Insn.TheVariants as insns
-use Rattle.jc_base.specs.Insn.{with_places}
+use Rattle.jc_methods.specs.declared.insn.Insn.{Insn}
+use Rattle.jc_methods.specs.declared.insn.Insn.TheVariants as insns
+use Rattle.jc_methods.specs.Insn.{with_places}
 use Rattle.jc_insn.specs.Sizes.{size_of, StartAt}
 use Rattle.jc_insn.specs.Writing.{IsNear, IsNearJump, AllNear}
 use Rattle.jc_layout.specs.Layout.{starts_from, starts_of, IsChosen, is_near, is_near_jump, all_near, is_wide}

@@ -3,15 +3,15 @@ use Rattle.std.proofs.Common.{◌≡◌, ◌⊎◌, inl, inr, ⊎_elim, ℕ, zer
 use Rattle.std.specs.Prelude.{Contains}
 use Rattle.std.proofs.lemmas.Bool.{ltb-true}
 use Rattle.std.proofs.lemmas.Bool.Decides.{nat_tests}
-use Rattle.jc_base.specs.Flow.{flow_of}
-use Rattle.jc_base.specs.Widened.{widths_by, wide_place}
-use Rattle.jc_base.specs.declared.insn.Insn.{Insn}
-use Rattle.jc_base.specs.declared.insn.Flow.{Flow}
-use Rattle.jc_base.specs.declared.insn.Flow.TheVariants as flows
-use Rattle.jc_base.specs.declared.body.FrameAt.{FrameAt}
-use Rattle.jc_base.proofs.FirstSeenLaws.{contains_one}
-use Rattle.jc_base.specs.FrameOrder.{RiseFrom}
-use Rattle.jc_base.proofs.TestLaws.{none_in, which_in, first_in, later_in}
+use Rattle.jc_methods.specs.Flow.{flow_of}
+use Rattle.jc_methods.specs.Widened.{widths_by, wide_place}
+use Rattle.jc_methods.specs.declared.insn.Insn.{Insn}
+use Rattle.jc_methods.specs.declared.insn.Flow.{Flow}
+use Rattle.jc_methods.specs.declared.insn.Flow.TheVariants as flows
+use Rattle.jc_methods.specs.declared.body.FrameAt.{FrameAt}
+use Rattle.jc_bytes.proofs.FirstSeenLaws.{contains_one}
+use Rattle.jc_methods.specs.FrameOrder.{RiseFrom}
+use Rattle.jc_bytes.proofs.TestLaws.{none_in, which_in, first_in, later_in}
 use Rattle.jc_emit.specs.Emission.{widened_frame}
 use Rattle.jc_emit.proofs.TwinPremises.{risen}
 use Rattle.jc_layout.specs.Merged.{with_frame, merged}

@@ -1,6 +1,6 @@
 -- Frames of two lists, by their places (JVM Specification 4.7.4).
 use Rattle.std.specs.Prelude.{List, [], ◌∷◌, nat_lt, if◌then◌else◌}
-use Rattle.jc_base.specs.declared.body.FrameAt.{FrameAt}
+use Rattle.jc_methods.specs.declared.body.FrameAt.{FrameAt}
 
 -- a frame in front of the first of these that stands behind it
 abbrev pub with_frame : FrameAt → List FrameAt → List FrameAt

@@ -1,13 +1,13 @@
 //! Laws of layouts.
 ghost use Rattle.std.specs.Prelude.{◌≡◌, ◌<◌, ◌^◌, ℕ, Bool, List, Some};
-ghost use Rattle.jc_base.specs.Held.{Names};
-ghost use Rattle.jc_base.specs.WellMade.{IsWellMadeOfAnySize, what_used};
-ghost use Rattle.jc_base.specs.declared.body.Body.{Body};
-ghost use Rattle.jc_base.specs.declared.body.Use.{Use};
-ghost use Rattle.jc_base.specs.declared.body.What.{What};
-ghost use Rattle.jc_base.specs.declared.emitted.Emitted.{Emitted as Emission};
-ghost use Rattle.jc_base.specs.declared.insn.Insn.{Insn};
-ghost use Rattle.jc_base.specs.declared.kind.State.{State};
+ghost use Rattle.jc_methods.specs.Held.{Names};
+ghost use Rattle.jc_methods.specs.WellMade.{IsWellMadeOfAnySize, what_used};
+ghost use Rattle.jc_methods.specs.declared.body.Body.{Body};
+ghost use Rattle.jc_methods.specs.declared.body.Use.{Use};
+ghost use Rattle.jc_methods.specs.declared.body.What.{What};
+ghost use Rattle.jc_methods.specs.declared.emitted.Emitted.{Emitted as Emission};
+ghost use Rattle.jc_methods.specs.declared.insn.Insn.{Insn};
+ghost use Rattle.jc_methods.specs.declared.kind.State.{State};
 ghost use Rattle.jc_insn.specs.Layouts.{laid_code, laid_starts};
 ghost use Rattle.jc_insn.specs.Sizes.{StartAt};
 ghost use Rattle.jc_insn.specs.Spells.{Spells};

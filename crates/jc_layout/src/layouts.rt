@@ -8,8 +8,9 @@ ghost use Rattle.jc_layout.specs.Layout.{IsChosen, is_wide, chosen_starts, chose
 
 use crate::near::all_near;
 use crate::offsets::offsets;
-use jc_base::{Bytes, Emitted, Fail, Insn, List, Memory, Refusal, RefusalKind};
+use jc_bytes::{Bytes, Fail, List, Memory, Refusal, RefusalKind};
 use jc_insn::encode;
+use jc_methods::{Emitted, Insn};
 use std::alloc::Global;
 
 /// The most bytes that the code of a method has.

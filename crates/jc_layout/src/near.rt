@@ -1,11 +1,11 @@
 //! Jumps that have room in two bytes.
 ghost use Rattle.std.specs.Prelude.{◌≡◌, ◌+◌, ◌<◌, All, length, slice_index};
-ghost use Rattle.jc_base.specs.Flow.{targets_of};
-ghost use Rattle.jc_base.specs.Insn.{with_places};
-ghost use Rattle.jc_base.specs.InsnUse.{LeadsWithin};
+ghost use Rattle.jc_methods.specs.Flow.{targets_of};
+ghost use Rattle.jc_methods.specs.Insn.{with_places};
+ghost use Rattle.jc_methods.specs.InsnUse.{LeadsWithin};
 ghost use Rattle.jc_layout.specs.Layout.{is_near, is_near_jump, all_near};
 
-use jc_base::Insn;
+use jc_methods::Insn;
 
 /// Whether a jump from one offset to the other has room in two bytes.
 fn is_near(at: u32, to: u32) -> bool

@@ -1,11 +1,12 @@
 //! Offsets of instructions.
 ghost use Rattle.std.specs.Prelude.{◌≡◌, ◌≤◌, IfOk};
-ghost use Rattle.jc_base.specs.WellMade.{insns_and_arms};
+ghost use Rattle.jc_methods.specs.WellMade.{insns_and_arms};
 ghost use Rattle.jc_layout.specs.Layable.{most_laid};
 ghost use Rattle.jc_layout.specs.Layout.{starts_of};
 
-use jc_base::{Insn, Memory};
+use jc_bytes::Memory;
 use jc_insn::size_of;
+use jc_methods::Insn;
 use std::alloc::Global;
 
 /// The offset of each instruction in a layout, and then that of the end.

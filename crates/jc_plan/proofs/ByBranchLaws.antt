@@ -5,19 +5,19 @@ use Rattle.std.specs.List.{sum_by}
 use Rattle.std.proofs.lemmas.List.{take_all}
 use Rattle.std.proofs.lemmas.Bool.{cases_order}
 use Rattle.std.proofs.lemmas.Option.{slice_get-map, slice_get_within, same_Some, none-some}
-use Rattle.jc_base.specs.Flow.{flow_of, FallsThrough}
-use Rattle.jc_base.specs.WellMade.{IsCode}
-use Rattle.jc_base.specs.declared.insn.Insn.{Insn}
-use Rattle.jc_base.specs.declared.insn.Flow.{Flow}
-use Rattle.jc_base.specs.declared.insn.Flow.TheVariants as flows
-use Rattle.jc_base.specs.declared.body.Body.{Body}
-use Rattle.jc_base.proofs.TestLaws.{stands_in}
+use Rattle.jc_methods.specs.Flow.{flow_of, FallsThrough}
+use Rattle.jc_methods.specs.WellMade.{IsCode}
+use Rattle.jc_methods.specs.declared.insn.Insn.{Insn}
+use Rattle.jc_methods.specs.declared.insn.Flow.{Flow}
+use Rattle.jc_methods.specs.declared.insn.Flow.TheVariants as flows
+use Rattle.jc_methods.specs.declared.body.Body.{Body}
+use Rattle.jc_bytes.proofs.TestLaws.{stands_in}
 use Rattle.jc_plan.specs.declared.branch.Branch.{Branch}
 use Rattle.jc_plan.specs.Edges.{branches, jump, arm, exit, branches_of}
 use Rattle.jc_plan.specs.Entries.{goes_on}
 use Rattle.jc_plan.specs.Probed.{is_probed, id_of, probe_count, first_id, probe_of}
 use Rattle.jc_plan.specs.Analysed.{IsAnalysed, class_plan}
-use Rattle.jc_base.specs.declared.analysed.Analysed.{Analysed}
+use Rattle.jc_methods.specs.declared.analysed.Analysed.{Analysed}
 use Rattle.jc_plan.specs.Plan.{plan_of, lead_probe, out_probe}
 use Rattle.jc_plan.specs.ByBranch.{no_probe, planned}
 use Rattle.jc_plan.proofs.IdsLaws.{ids_within}

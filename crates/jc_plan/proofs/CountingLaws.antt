@@ -6,13 +6,13 @@ use Rattle.std.proofs.lemmas.List.Elements.{All-from_recursion, All-get_or}
 use Rattle.std.proofs.lemmas.List.Sums.{count_by-le-length}
 use Rattle.std.proofs.lemmas.Grind.{get_or_default_zero}
 use Rattle.std.specs.Cmp.{nat_eq_equiv}
-use Rattle.jc_base.specs.PlainLists.{places, join_from}
-use Rattle.jc_base.specs.Flow.{flow_of, targets_of}
-use Rattle.jc_base.specs.InsnUse.{LeadsWithin}
-use Rattle.jc_base.specs.WellMade.{insns_and_arms}
-use Rattle.jc_base.specs.declared.insn.Insn.{Insn}
-use Rattle.jc_base.specs.declared.body.Body.{Body}
-use Rattle.jc_base.specs.declared.body.Handler.{Handler}
+use Rattle.jc_bytes.specs.PlainLists.{places, join_from}
+use Rattle.jc_methods.specs.Flow.{flow_of, targets_of}
+use Rattle.jc_methods.specs.InsnUse.{LeadsWithin}
+use Rattle.jc_methods.specs.WellMade.{insns_and_arms}
+use Rattle.jc_methods.specs.declared.insn.Insn.{Insn}
+use Rattle.jc_methods.specs.declared.body.Body.{Body}
+use Rattle.jc_methods.specs.declared.body.Handler.{Handler}
 use Rattle.jc_plan.specs.declared.branch.Branch.{Branch}
 use Rattle.jc_plan.specs.Edges.{branches, branches_of}
 use Rattle.jc_plan.specs.Entries.{one_if, entries, leads_to}

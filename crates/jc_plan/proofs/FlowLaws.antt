@@ -6,19 +6,19 @@ use Rattle.std.specs.Cmp.{nat_eq_equiv}
 use Rattle.std.proofs.lemmas.Bool.{eqb-true, false_from_ne_true}
 use Rattle.std.proofs.lemmas.Map.Views.{Contains-from_any}
 use Rattle.std.proofs.lemmas.List.Sums.{sum_by-cons, get_or-le-sum_by}
-use Rattle.jc_base.specs.PlainLists.{map_from, join_from}
-use Rattle.jc_base.specs.FirstSeen.{first_seen, IsDistinct}
-use Rattle.jc_base.specs.Flow.{flow_of, targets_of, is_return}
-use Rattle.jc_base.specs.Insn.{arm_count}
-use Rattle.jc_base.specs.InsnUse.{LeadsWithin}
-use Rattle.jc_base.specs.WellMade.{insns_and_arms}
-use Rattle.jc_base.specs.Opcode as opcode
-use Rattle.jc_base.specs.declared.insn.Arm.{Arm}
-use Rattle.jc_base.specs.declared.insn.Insn.{Insn}
-use Rattle.jc_base.specs.declared.insn.Insn.TheVariants as insns
-use Rattle.jc_base.specs.declared.insn.Flow.{Flow}
-use Rattle.jc_base.specs.declared.insn.Flow.TheVariants as flows
-use Rattle.jc_base.proofs.FirstSeenLaws.{first_seen_distinct, any_first_seen}
+use Rattle.jc_bytes.specs.PlainLists.{map_from, join_from}
+use Rattle.jc_bytes.specs.FirstSeen.{first_seen, IsDistinct}
+use Rattle.jc_methods.specs.Flow.{flow_of, targets_of, is_return}
+use Rattle.jc_methods.specs.Insn.{arm_count}
+use Rattle.jc_methods.specs.InsnUse.{LeadsWithin}
+use Rattle.jc_methods.specs.WellMade.{insns_and_arms}
+use Rattle.jc_methods.specs.Opcode as opcode
+use Rattle.jc_methods.specs.declared.insn.Arm.{Arm}
+use Rattle.jc_methods.specs.declared.insn.Insn.{Insn}
+use Rattle.jc_methods.specs.declared.insn.Insn.TheVariants as insns
+use Rattle.jc_methods.specs.declared.insn.Flow.{Flow}
+use Rattle.jc_methods.specs.declared.insn.Flow.TheVariants as flows
+use Rattle.jc_bytes.proofs.FirstSeenLaws.{first_seen_distinct, any_first_seen}
 use Rattle.jc_plan.specs.declared.branch.Branch.{Branch}
 use Rattle.jc_plan.specs.declared.branch.Way.{Way}
 use Rattle.jc_plan.specs.declared.branch.Way.TheVariants.{Falls}

@@ -3,8 +3,8 @@ use Rattle.std.proofs.Common.{◌≡◌, ⊎_elim, ℕ, zero, suc, ◌+◌, List
 use Rattle.std.specs.Prelude.{slice_get, Contains}
 use Rattle.std.specs.List.{AllByRecursion}
 use Rattle.std.proofs.lemmas.List.Elements.{Contains-append_left, Contains-append_right, Contains-append_cases}
-use Rattle.jc_base.specs.PlainLists.{join_from}
-use Rattle.jc_base.proofs.TestLaws.{none_in, which_in}
+use Rattle.jc_bytes.specs.PlainLists.{join_from}
+use Rattle.jc_bytes.proofs.TestLaws.{none_in, which_in}
 
 -- ---- joined lists
 

@@ -1,7 +1,7 @@
 -- What stands at a place of a list that is made item by item.
 use Rattle.std.proofs.Common.{◌≡◌, ℕ, zero, suc, ◌+◌, List, [], ◌∷◌, length, Some, refl, ap, ◌∙◌, arith, zero-add}
 use Rattle.std.specs.Prelude.{slice_get, option_map}
-use Rattle.jc_base.specs.PlainLists.{map_from}
+use Rattle.jc_bytes.specs.PlainLists.{map_from}
 
 module _ {X Y : Type 0} (f : ℕ → X → Y) where
   pub made_at : (i k : ℕ) (xs : List X) → slice_get (map_from f i xs) k ≡ option_map (f (i + k)) (slice_get xs k)

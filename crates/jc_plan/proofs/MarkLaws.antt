@@ -1,9 +1,9 @@
 -- Marks of the lines that call, made from the end.
 use Rattle.std.proofs.Common.{◌≡◌, ℕ, ◌<◌, ◌≤◌, Bool, true, false, ◌&&◌, not, List, [], ◌∷◌, length, take, drop, get_or, map, refl, sym, ◌∙◌, ap, arith}
 use Rattle.std.proofs.lemmas.List.{take_all, get_or_default}
-use Rattle.jc_base.specs.PlainLists.{numbers_from}
-use Rattle.jc_base.specs.declared.insn.Insn.{Insn}
-use Rattle.jc_base.specs.declared.body.LineAt.{LineAt}
+use Rattle.jc_bytes.specs.PlainLists.{numbers_from}
+use Rattle.jc_methods.specs.declared.insn.Insn.{Insn}
+use Rattle.jc_methods.specs.declared.body.LineAt.{LineAt}
 use Rattle.jc_plan.specs.Entries.{is_line_start, calls_from, is_line_that_calls}
 use Rattle.jc_plan.proofs.PlacesLaws.{same_as_mapped, mapped_at, length_mapped}
 

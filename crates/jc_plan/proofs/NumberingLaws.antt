@@ -5,11 +5,11 @@ use Rattle.std.specs.List.{count_by}
 use Rattle.std.proofs.lemmas.Bool.{ltb-true, lt-ltb, false_from_ne_true, cases_lt}
 use Rattle.std.proofs.lemmas.List.{length-take-le}
 use Rattle.std.proofs.lemmas.Option.{slice_get-get_or}
-use Rattle.jc_base.specs.PlainLists.{join_from}
-use Rattle.jc_base.specs.Flow.{flow_of, targets_of}
-use Rattle.jc_base.specs.declared.insn.Insn.{Insn}
-use Rattle.jc_base.specs.declared.body.Body.{Body}
-use Rattle.jc_base.proofs.TestLaws.{same_tests}
+use Rattle.jc_bytes.specs.PlainLists.{join_from}
+use Rattle.jc_methods.specs.Flow.{flow_of, targets_of}
+use Rattle.jc_methods.specs.declared.insn.Insn.{Insn}
+use Rattle.jc_methods.specs.declared.body.Body.{Body}
+use Rattle.jc_bytes.proofs.TestLaws.{same_tests}
 use Rattle.jc_plan.specs.declared.branch.Branch.{Branch}
 use Rattle.jc_plan.specs.declared.branch.Way.{Way}
 use Rattle.jc_plan.specs.declared.branch.Way.TheVariants.{Falls, Jumps, Switches, Exits}

@@ -5,16 +5,16 @@ use Rattle.std.specs.List.{count_by, list_any}
 use Rattle.std.proofs.lemmas.Bool.{and_cases, or_parts, or_left, or_right, eq-eqb, leb-false, cases_order, both_ways}
 use Rattle.std.proofs.lemmas.List.Sums.{sum_by-cons}
 use Rattle.std.proofs.lemmas.Option.{same_Some, none-some}
-use Rattle.jc_base.specs.PlainLists.{map_from}
-use Rattle.jc_base.specs.FirstSeen.{first_seen, IsDistinct}
-use Rattle.jc_base.specs.Flow.{flow_of, targets_of}
-use Rattle.jc_base.specs.declared.insn.Insn.{Insn}
-use Rattle.jc_base.specs.declared.insn.Flow.{Flow}
-use Rattle.jc_base.specs.declared.insn.Flow.TheVariants as flows
-use Rattle.jc_base.specs.declared.body.Body.{Body}
-use Rattle.jc_base.specs.declared.body.Handler.{Handler}
-use Rattle.jc_base.proofs.FirstSeenLaws.{contains_one, first_seen_distinct, first_seen_listed}
-use Rattle.jc_base.proofs.TestLaws.{none_in, which_in, first_in, later_in}
+use Rattle.jc_bytes.specs.PlainLists.{map_from}
+use Rattle.jc_bytes.specs.FirstSeen.{first_seen, IsDistinct}
+use Rattle.jc_methods.specs.Flow.{flow_of, targets_of}
+use Rattle.jc_methods.specs.declared.insn.Insn.{Insn}
+use Rattle.jc_methods.specs.declared.insn.Flow.{Flow}
+use Rattle.jc_methods.specs.declared.insn.Flow.TheVariants as flows
+use Rattle.jc_methods.specs.declared.body.Body.{Body}
+use Rattle.jc_methods.specs.declared.body.Handler.{Handler}
+use Rattle.jc_bytes.proofs.FirstSeenLaws.{contains_one, first_seen_distinct, first_seen_listed}
+use Rattle.jc_bytes.proofs.TestLaws.{none_in, which_in, first_in, later_in}
 use Rattle.jc_plan.specs.declared.branch.Branch.{Branch}
 use Rattle.jc_plan.specs.declared.branch.Way.{Way}
 use Rattle.jc_plan.specs.declared.branch.Way.TheVariants.{Falls, Jumps, Switches, Exits}

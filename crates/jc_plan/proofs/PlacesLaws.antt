@@ -1,7 +1,7 @@
 -- Lists by their places, grown by an item at the end.
 use Rattle.std.proofs.Common.{◌≡◌, ℕ, zero, suc, ◌+◌, ◌<◌, List, [], ◌∷◌, ◌++◌, length, take, drop, get_or, map, refl, sym, ap, ap₂, ◌∙◌, arith, zero-add, add-one, append_assoc}
 use Rattle.std.proofs.lemmas.List.{take_more, length-take-le, map-append, append-nil, same_lists}
-use Rattle.jc_base.specs.PlainLists.{map_from, join_from, numbers_from}
+use Rattle.jc_bytes.specs.PlainLists.{map_from, join_from, numbers_from}
 
 -- ---- what f gives of each item
 

@@ -1,6 +1,6 @@
 -- What a plan says of a branch.
 use Rattle.std.specs.Prelude.{ℕ, Option, Some, None, option_and_then, slice_get}
-use Rattle.jc_base.specs.declared.plan.Plan.{Plan}
+use Rattle.jc_methods.specs.declared.plan.Plan.{Plan}
 use Rattle.jc_plan.specs.declared.branch.Branch.{Branch}
 use Rattle.jc_plan.specs.declared.branch.Way.{Way}
 use Rattle.jc_plan.specs.declared.branch.Way.TheVariants.{Falls}

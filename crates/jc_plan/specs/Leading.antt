@@ -1,7 +1,7 @@
 -- Where edges lead, and what else leads there.
 use Rattle.std.specs.Prelude.{◌≡◌, ℕ, Some, Contains}
-use Rattle.jc_base.specs.declared.body.Body.{Body}
-use Rattle.jc_base.specs.declared.body.Handler.{Handler}
+use Rattle.jc_methods.specs.declared.body.Body.{Body}
+use Rattle.jc_methods.specs.declared.body.Handler.{Handler}
 use Rattle.jc_plan.specs.declared.branch.Branch.{Branch}
 use Rattle.jc_plan.specs.Edges.{place_of, branches}
 

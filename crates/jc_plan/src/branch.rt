@@ -1,11 +1,12 @@
 //! The branches of instructions.
 ghost use Rattle.std.specs.Prelude.{◌≡◌, ◌+◌, ◌<◌, ◌^◌, ◌++◌, length, OnOk, IfOk};
-ghost use Rattle.jc_base.specs.PlainLists.{map_from};
-ghost use Rattle.jc_base.specs.Flow.{targets_of};
-ghost use Rattle.jc_base.specs.WellMade.{IsCode};
+ghost use Rattle.jc_bytes.specs.PlainLists.{map_from};
+ghost use Rattle.jc_methods.specs.Flow.{targets_of};
+ghost use Rattle.jc_methods.specs.WellMade.{IsCode};
 ghost use Rattle.jc_plan.specs.Edges.{sequence, jump, arm, exit, branches_of, branches};
 
-use jc_base::{Insn, Memory};
+use jc_bytes::Memory;
+use jc_methods::Insn;
 use std::alloc::{AllocError, Global};
 
 /// How a branch goes on.

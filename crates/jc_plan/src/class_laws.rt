@@ -1,9 +1,9 @@
 //! Laws of the probes of a class, and of edges without probes.
 ghost use Rattle.std.specs.Prelude.{◌≡◌, false, ◌<◌, IsTrue, Contains, ℕ, List, Some, slice_get};
-ghost use Rattle.jc_base.specs.WellMade.{IsCode};
-ghost use Rattle.jc_base.specs.declared.analysed.Analysed.{Analysed};
-ghost use Rattle.jc_base.specs.declared.body.Body.{Body};
-ghost use Rattle.jc_base.specs.declared.insn.Insn.{Insn};
+ghost use Rattle.jc_methods.specs.WellMade.{IsCode};
+ghost use Rattle.jc_methods.specs.declared.analysed.Analysed.{Analysed};
+ghost use Rattle.jc_methods.specs.declared.body.Body.{Body};
+ghost use Rattle.jc_methods.specs.declared.insn.Insn.{Insn};
 ghost use Rattle.jc_plan.specs.declared.branch.Branch.{Branch};
 ghost use Rattle.jc_plan.specs.Edges.{branches, branches_of};
 ghost use Rattle.jc_plan.specs.Probed.{probe_of, first_id, id_of, is_probed};

@@ -1,10 +1,11 @@
 //! The edges of a method's flow graph.
 ghost use Rattle.std.specs.Prelude.{◌≡◌, IfOk};
-ghost use Rattle.jc_base.specs.WellMade.{IsWellMadeOfAnySize};
+ghost use Rattle.jc_methods.specs.WellMade.{IsWellMadeOfAnySize};
 ghost use Rattle.jc_plan.specs.Edges.{place_of, edge_of, edges};
 
 use crate::branch::{Branch, Way, branches};
-use jc_base::{Body, Edge, Memory};
+use jc_bytes::Memory;
+use jc_methods::{Body, Edge};
 use std::alloc::Global;
 
 /// Where a branch leads, if it doesn't leave the method.

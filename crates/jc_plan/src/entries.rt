@@ -2,16 +2,17 @@
 ghost use Rattle.std.specs.Prelude.{◌≡◌, ◌+◌, ◌*◌, ◌<◌, ◌≤◌, ◌^◌, ℕ, All, map, length};
 ghost use Rattle.std.specs.Prelude.{replicate, slice_index, IfOk, OnOk, nat_eq, nat_le, ◌&&◌, ◌||◌};
 ghost use Rattle.std.specs.List.{count_by};
-ghost use Rattle.jc_base.specs.PlainLists.{places};
-ghost use Rattle.jc_base.specs.Flow.{flow_of, targets_of};
-ghost use Rattle.jc_base.specs.InsnUse.{LeadsWithin};
-ghost use Rattle.jc_base.specs.WellMade.{IsHandler, IsWellMadeOfAnySize, insns_and_arms};
+ghost use Rattle.jc_bytes.specs.PlainLists.{places};
+ghost use Rattle.jc_methods.specs.Flow.{flow_of, targets_of};
+ghost use Rattle.jc_methods.specs.InsnUse.{LeadsWithin};
+ghost use Rattle.jc_methods.specs.WellMade.{IsHandler, IsWellMadeOfAnySize, insns_and_arms};
 ghost use Rattle.jc_plan.specs.Edges.{branches, branches_of};
 ghost use Rattle.jc_plan.specs.Entries.{one_if, goes_on, entries, is_multi_target};
 ghost use Rattle.jc_plan.specs.Marks.{enters, EntersWithin};
 
 use crate::branch::{Branch, Way, put_branches};
-use jc_base::{Body, Handler, Insn, Memory};
+use jc_bytes::Memory;
+use jc_methods::{Body, Handler, Insn};
 use std::alloc::Global;
 
 /// Counts an entry more at the place.

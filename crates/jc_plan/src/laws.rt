@@ -1,12 +1,12 @@
 //! Laws of edges and probes.
 ghost use Rattle.std.specs.Prelude.{◌≡◌, ◌+◌, ◌<◌, ◌≤◌, ◌↔◌, IsTrue, Contains, ℕ, List, Some, length, slice_get};
-ghost use Rattle.jc_base.specs.FirstSeen.{first_seen, IsDistinct};
-ghost use Rattle.jc_base.specs.declared.body.Body.{Body};
+ghost use Rattle.jc_bytes.specs.FirstSeen.{first_seen, IsDistinct};
+ghost use Rattle.jc_methods.specs.declared.body.Body.{Body};
 ghost use Rattle.jc_plan.specs.declared.branch.Branch.{Branch};
 ghost use Rattle.jc_plan.specs.Edges.{branches};
 ghost use Rattle.jc_plan.specs.Entries.{IsInvocationLine, is_invocation_line};
 ghost use Rattle.jc_plan.specs.Probed.{probe_count, id_of, IsProbed, is_probed, position_of, is_before, IsUsed};
-ghost use Rattle.jc_base.specs.declared.insn.Insn.{Insn};
+ghost use Rattle.jc_methods.specs.declared.insn.Insn.{Insn};
 ghost use Rattle.jc_plan.specs.Plan.{plan_of, lead_probe, out_probes};
 
 /// The ids of a body end where those of the next one begin.

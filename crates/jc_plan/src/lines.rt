@@ -1,10 +1,11 @@
 //! The lines that call.
 ghost use Rattle.std.specs.Prelude.{◌≡◌, All, map, length, IfOk};
-ghost use Rattle.jc_base.specs.PlainLists.{places, numbers_from};
-ghost use Rattle.jc_base.specs.WellMade.{IsLine};
+ghost use Rattle.jc_bytes.specs.PlainLists.{places, numbers_from};
+ghost use Rattle.jc_methods.specs.WellMade.{IsLine};
 ghost use Rattle.jc_plan.specs.Entries.{is_call, is_line_start, is_line_that_calls};
 
-use jc_base::{Insn, LineAt, Memory, opcode};
+use jc_bytes::Memory;
+use jc_methods::{Insn, LineAt, opcode};
 use std::alloc::Global;
 
 /// Whether the instruction calls a method (JVM Specification 6.5, `invokevirtual` to

@@ -1,9 +1,9 @@
 //! Where the probes of a method stand.
 ghost use Rattle.std.specs.Prelude.{◌≡◌, ◌+◌, ◌<◌, ◌≤◌, ◌^◌, ◌&&◌, ◌||◌, not, [], ◌∷◌, map, length, IfOk};
 ghost use Rattle.std.specs.List.{count_by};
-ghost use Rattle.jc_base.specs.Flow.{targets_of};
-ghost use Rattle.jc_base.specs.PlainLists.{places};
-ghost use Rattle.jc_base.specs.WellMade.{IsWellMadeOfAnySize};
+ghost use Rattle.jc_methods.specs.Flow.{targets_of};
+ghost use Rattle.jc_bytes.specs.PlainLists.{places};
+ghost use Rattle.jc_methods.specs.WellMade.{IsWellMadeOfAnySize};
 ghost use Rattle.jc_plan.specs.declared.branch.Way.TheVariants.{Falls};
 ghost use Rattle.jc_plan.specs.Edges.{branches_of};
 ghost use Rattle.jc_plan.specs.Entries.{one_if, is_multi_target};
@@ -14,7 +14,8 @@ ghost use Rattle.jc_plan.specs.Plan.{plan_of};
 use crate::branch::{Branch, Way, put_branches};
 use crate::entries::{falls, multi_targets};
 use crate::lines::lines_that_call;
-use jc_base::{Body, Insn, List, Memory, Plan};
+use jc_bytes::{List, Memory};
+use jc_methods::{Body, Insn, Plan};
 use std::alloc::Global;
 
 /// The next id, if there is a probe for it.

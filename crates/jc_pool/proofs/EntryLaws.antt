@@ -6,8 +6,8 @@ use Rattle.std.proofs.lemmas.Bool.Decides.{nat_tests}
 use Rattle.std.proofs.lemmas.List.{take_at}
 use Rattle.std.proofs.lemmas.Option.{none-some}
 use Rattle.byteorder.specs.Endian.{big_number}
-use Rattle.jc_base.specs.Decoder.{IsBig, ◌>>=◌, first, byte_at, number_at}
-use Rattle.jc_base.proofs.DecoderLaws.{bind_some, some_is, chosen, test_some, first_takes, first_again, number_takes, number_again, byte_takes, byte_again}
+use Rattle.jc_bytes.specs.Decoder.{IsBig, ◌>>=◌, first, byte_at, number_at}
+use Rattle.jc_bytes.proofs.DecoderLaws.{bind_some, some_is, chosen, test_some, first_takes, first_again, number_takes, number_again, byte_takes, byte_again}
 use Rattle.jc_pool.specs.declared.entry.Entry.{Entry}
 use Rattle.jc_pool.specs.declared.entry.Entry.TheVariants as entry
 use Rattle.jc_pool.specs.Pool.{is_wide}

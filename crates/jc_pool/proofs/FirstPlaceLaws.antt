@@ -3,7 +3,7 @@ use Rattle.std.proofs.Common.{◌≡◌, ◌≢◌, ◌⊎◌, inl, inr, ℕ, �
 use Rattle.std.proofs.lemmas.Bool.{cases_lt}
 use Rattle.std.proofs.lemmas.Option.{none-some}
 use borrow.Author.Count.{below_more}
-use Rattle.jc_base.proofs.DecoderLaws.{some_is}
+use Rattle.jc_bytes.proofs.DecoderLaws.{some_is}
 use Rattle.jc_pool.specs.Adding.{IsFirst, IsNowhere}
 use Rattle.jc_pool.specs.Index.{IsFirstBelow, AreFirsts, Notes}
 

@@ -3,8 +3,8 @@ use Rattle.std.proofs.Common.{◌≡◌, ◌≢◌, ◌⊎◌, inl, inr, ℕ, �
 use Rattle.std.proofs.lemmas.Bool.{cases_Bool}
 use Rattle.std.proofs.lemmas.Slice.Eq.{bytes_eq-Decides}
 use Rattle.std.specs.Str.{bytes_eq}
-use Rattle.jc_base.specs.declared.fail.Fail.{Fail}
-use Rattle.jc_base.specs.declared.fail.Fail.TheVariants as fails
+use Rattle.jc_bytes.specs.declared.fail.Fail.{Fail}
+use Rattle.jc_bytes.specs.declared.fail.Fail.TheVariants as fails
 use Rattle.jc_pool.specs.declared.add.PoolFull.{PoolFull}
 use Rattle.jc_pool.specs.declared.entry.Entry.{Entry}
 use Rattle.jc_pool.specs.declared.entry.Entry.TheVariants as entry

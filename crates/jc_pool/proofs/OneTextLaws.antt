@@ -5,10 +5,10 @@ use Rattle.std.proofs.lemmas.Int.{of_z-to_z}
 use Rattle.std.proofs.lemmas.List.{append_cancel_left}
 use Rattle.byteorder.specs.Endian.{big_number}
 use Rattle.byteorder.specs.Numbers.{big_from-lt}
-use Rattle.jc_base.specs.ByteLists.{AreBytes}
-use Rattle.jc_base.specs.Decoder.{IsBig}
-use Rattle.jc_base.specs.Grammar.{Grammar, nothing, one}
-use Rattle.jc_base.proofs.OneTextLaws.{OneText, byte_at, both_bytes, same_bytes, one_big, one_nothing, one_followed}
+use Rattle.jc_bytes.specs.ByteLists.{AreBytes}
+use Rattle.jc_bytes.specs.Decoder.{IsBig}
+use Rattle.jc_bytes.specs.Grammar.{Grammar, nothing, one}
+use Rattle.jc_bytes.proofs.OneTextLaws.{OneText, byte_at, both_bytes, same_bytes, one_big, one_nothing, one_followed}
 use Rattle.jc_pool.specs.declared.entry.Entry.{Entry}
 use Rattle.jc_pool.specs.declared.entry.Entry.TheVariants as entry
 use Rattle.jc_pool.specs.Pool.{PoolValue, is_wide}

@@ -1,12 +1,12 @@
 -- A pool is read exactly where the grammar spells one, and fails exactly where the grammar fails.
 use Rattle.std.proofs.Common.{◌≡◌, ◌⊎◌, inl, inr, refl, ℕ, zero, suc, ◌-◌, Bool, true, false, List, [], ◌∷◌, ◌++◌, Option, Some, None, Result, Ok, Err, if◌then◌else◌, sym, ◌∙◌, ap, subst}
-use Rattle.jc_base.specs.Grammar.{Grammar, nothing, one, Agrees}
-use Rattle.jc_base.specs.Parsing.{Parsed, Good, Bad, item, Parses}
-use Rattle.jc_base.specs.Reader.{Reading}
-use Rattle.jc_base.specs.declared.fail.Fail.{Fail}
-use Rattle.jc_base.specs.declared.fail.Fail.TheVariants as fails
-use Rattle.jc_base.specs.declared.refusal.Refusal.{Refusal}
-use Rattle.jc_base.proofs.GrammarLaws.{agrees_nothing, agrees_item, agrees_followed, good_is, bad_is, good_bad}
+use Rattle.jc_bytes.specs.Grammar.{Grammar, nothing, one, Agrees}
+use Rattle.jc_bytes.specs.Parsing.{Parsed, Good, Bad, item, Parses}
+use Rattle.jc_bytes.specs.Reader.{Reading}
+use Rattle.jc_bytes.specs.declared.fail.Fail.{Fail}
+use Rattle.jc_bytes.specs.declared.fail.Fail.TheVariants as fails
+use Rattle.jc_bytes.specs.declared.refusal.Refusal.{Refusal}
+use Rattle.jc_bytes.proofs.GrammarLaws.{agrees_nothing, agrees_item, agrees_followed, good_is, bad_is, good_bad}
 use Rattle.jc_pool.specs.declared.entry.Entry.{Entry}
 use Rattle.jc_pool.specs.Pool.{PoolValue, is_wide}
 use Rattle.jc_pool.specs.EntryFormat.{IsEntry}

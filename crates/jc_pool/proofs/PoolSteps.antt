@@ -2,13 +2,13 @@
 use Rattle.std.proofs.Common.{◌≡◌, inl, inr, ℕ, zero, suc, ◌-◌, ◌<◌, ◌≤◌, Bool, false, List, [], ◌∷◌, ◌++◌, length, Option, Some, None, Err, nat_lt, refl, sym, ◌∙◌, ap, subst, arith, append_assoc, if◌then◌else◌}
 use Rattle.std.proofs.lemmas.Bool.{cases_Bool, le-ltb}
 use Rattle.std.proofs.lemmas.List.{append-nil, length-append}
-use Rattle.jc_base.specs.Reader.{Reading}
-use Rattle.jc_base.specs.Decoder.{SameEnd}
-use Rattle.jc_base.specs.Decoder as decoder
-use Rattle.jc_base.specs.Parsing.{Parsed, Good, Bad, ◌>>=◌, parsed_or, item, Parses}
-use Rattle.jc_base.specs.declared.fail.Fail.{Fail}
-use Rattle.jc_base.specs.declared.fail.Fail.TheVariants as fails
-use Rattle.jc_base.specs.declared.refusal.Refusal.{Refusal}
+use Rattle.jc_bytes.specs.Reader.{Reading}
+use Rattle.jc_bytes.specs.Decoder.{SameEnd}
+use Rattle.jc_bytes.specs.Decoder as decoder
+use Rattle.jc_bytes.specs.Parsing.{Parsed, Good, Bad, ◌>>=◌, parsed_or, item, Parses}
+use Rattle.jc_bytes.specs.declared.fail.Fail.{Fail}
+use Rattle.jc_bytes.specs.declared.fail.Fail.TheVariants as fails
+use Rattle.jc_bytes.specs.declared.refusal.Refusal.{Refusal}
 use Rattle.jc_pool.specs.declared.entry.Entry.{Entry}
 use Rattle.jc_pool.specs.Pool.{is_wide, width, slots_of, IsSmall, IsFilled, IsPool}
 use Rattle.jc_pool.specs.EntryReading.{entry_at, narrow_only, narrow_at, fitting_at}

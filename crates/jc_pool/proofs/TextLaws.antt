@@ -13,10 +13,10 @@ use Rattle.std.specs.Result.{result_ok}
 use Rattle.std.specs.Str.{encode_utf8_all}
 use Rattle.std.proofs.lemmas.Bool.Decides.{nat_tests}
 use Rattle.std.proofs.lemmas.Grind.{flat_map-append}
-use Rattle.jc_base.proofs.DecoderLaws.{some_is, some_none}
-use Rattle.jc_base.specs.Modified.{unit_bytes, IsModified, unit_at}
-use Rattle.jc_base.proofs.EachLaws.{all_push}
-use Rattle.jc_base.proofs.ModifiedLaws.{SameVerdict, next_unit, unit_again}
+use Rattle.jc_bytes.proofs.DecoderLaws.{some_is, some_none}
+use Rattle.jc_bytes.specs.Modified.{unit_bytes, IsModified, unit_at}
+use Rattle.jc_bytes.proofs.EachLaws.{all_push}
+use Rattle.jc_bytes.proofs.ModifiedLaws.{SameVerdict, next_unit, unit_again}
 use Rattle.jc_pool.specs.Text.{SpellsUnits, SpellsText, IsTextOf, AreUnitsOf}
 
 -- ---- units

@@ -1,14 +1,14 @@
 -- What is appended in parts.
 use Rattle.std.proofs.Common.{◌≡◌, ℕ, zero, suc, ◌+◌, ◌-◌, ◌<◌, ◌≤◌, Bool, List, [], ◌∷◌, ◌++◌, length, drop, get_or, Option, Some, None, IfSome, option_copied, Bor, refl, sym, ◌∙◌, ap, subst, arith, append_assoc}
 use Rattle.std.proofs.lemmas.List.{append-nil, drop_all}
-use Rattle.jc_base.proofs.AppendingLaws.{drop_is}
-use Rattle.jc_base.specs.Decoder.{IsBig}
-use Rattle.jc_base.specs.Grammar.{Grammar}
+use Rattle.jc_bytes.proofs.AppendingLaws.{drop_is}
+use Rattle.jc_bytes.specs.Decoder.{IsBig}
+use Rattle.jc_bytes.specs.Grammar.{Grammar}
 use Rattle.jc_pool.specs.declared.entry.Entry.{Entry}
 use Rattle.jc_pool.specs.Pool.{PoolValue, IsSmall, IsFilled, IsPool}
 use Rattle.jc_pool.specs.Lookup.{entry_of}
 use Rattle.jc_pool.specs.PoolGrammar.{by_size, behind, places, pool}
-use Rattle.jc_base.specs.Appending.{Appends}
+use Rattle.jc_bytes.specs.Appending.{Appends}
 use Rattle.jc_pool.specs.Writing.{SpellsSlot, SpellsSlots, IsSmallSlot, AreSmall}
 
 -- two parts, one behind the other

@@ -1,7 +1,7 @@
 -- Reading one item of a constant pool from the front of the bytes that are left.
 use Rattle.std.specs.Prelude.{ℕ, ◌==◌, List, take, Option, Some, None, nat_lt, ◌||◌, if◌then◌else◌}
 use Rattle.std.specs.Int.{w32, w64, cast_signed}
-use Rattle.jc_base.specs.Decoder.{◌>>=◌, first, byte_at, number_at}
+use Rattle.jc_bytes.specs.Decoder.{◌>>=◌, first, byte_at, number_at}
 use Rattle.jc_pool.specs.declared.entry.Entry.{Entry}
 use Rattle.jc_pool.specs.declared.entry.Entry.TheVariants as entry
 use Rattle.jc_pool.specs.Pool.{is_wide, width}

@@ -1,7 +1,7 @@
 -- What the places of a constant pool name (JVM Specification 4.4).
 use Rattle.std.specs.Prelude.{ℕ, ℤ, List, [], slice_index_or, Option, Some, None}
-use Rattle.jc_base.specs.Decoder.{◌>>=◌}
-use Rattle.jc_base.specs.Texts.{IsShortText}
+use Rattle.jc_bytes.specs.Decoder.{◌>>=◌}
+use Rattle.jc_bytes.specs.Texts.{IsShortText}
 use Rattle.jc_pool.specs.declared.entry.Entry.{Entry}
 use Rattle.jc_pool.specs.declared.entry.Entry.TheVariants as entry
 use Rattle.jc_pool.specs.declared.constant.ConstText.{ConstText}

@@ -1,6 +1,6 @@
 -- Reading a constant pool, item by item.
 use Rattle.std.specs.Prelude.{ℕ, zero, suc, ◌-◌, List, [], ◌∷◌, ◌++◌, Option, Some, None, if◌then◌else◌}
-use Rattle.jc_base.specs.Parsing.{Parsed, Good, ◌>>=◌, item}
+use Rattle.jc_bytes.specs.Parsing.{Parsed, Good, ◌>>=◌, item}
 use Rattle.jc_pool.specs.declared.entry.Entry.{Entry}
 use Rattle.jc_pool.specs.Pool.{PoolValue, is_wide}
 use Rattle.jc_pool.specs.EntryReading.{count_at, entry_at, narrow_at}

@@ -4,7 +4,7 @@ use Rattle.std.specs.Char.{IsScalar}
 use Rattle.std.specs.Char.Escape.{encode_utf16}
 use Rattle.std.specs.List.{AllByRecursion, flat_map}
 use Rattle.std.specs.Str.{encode_utf8_all}
-use Rattle.jc_base.specs.Modified.{unit_bytes}
+use Rattle.jc_bytes.specs.Modified.{unit_bytes}
 
 -- the bytes spell these units of 16 bits
 pub record SpellsUnits (bytes units : List ℕ) : Type 0 where

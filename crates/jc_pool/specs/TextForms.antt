@@ -1,7 +1,7 @@
 -- The forms of a text.
 use Rattle.std.specs.Prelude.{ℕ, List, IsTrue, ◌↔◌}
-use Rattle.jc_base.specs.Descriptor.{IsFieldDescriptor, IsMethodDescriptor}
-use Rattle.jc_base.specs.Modified.{IsModified}
+use Rattle.jc_bytes.specs.Descriptor.{IsFieldDescriptor, IsMethodDescriptor}
+use Rattle.jc_bytes.specs.Modified.{IsModified}
 use Rattle.jc_pool.specs.declared.judged_text.TextForms.{TextForms}
 
 -- the forms are those of the text: modified UTF-8, the descriptor of a field, that of a method (JVM Specification 4.4.7, 4.3.2, 4.3.3)

@@ -2,7 +2,7 @@
 ghost use Rattle.std.specs.Prelude.{◌≡◌, ◌+◌, ◌++◌, ◌<◌, ◌≤◌, None, Some, IfOk, IfSome, OnOk, OnErr, length};
 ghost use Rattle.std.specs.Prelude.{vec_capacity, vec_len};
 ghost use Rattle.indexmap.specs.IndexMap.{spare};
-ghost use Rattle.jc_base.specs.Texts.{IsShortText};
+ghost use Rattle.jc_bytes.specs.Texts.{IsShortText};
 ghost use Rattle.jc_pool.specs.declared.entry.Entry.TheVariants as entry;
 ghost use Rattle.jc_pool.specs.Adding.{IsNowhere, IsPut, IsPutAs, Adds, HasUtf8, RefusesFull};
 ghost use Rattle.jc_pool.specs.Index.{IsFirstBelow, IsIndexOf, CountsTo, missing, key_in, key_at, naming_of, HasNaming};
@@ -12,7 +12,7 @@ ghost use Rattle.jc_pool.specs.Pool.{IsPool, slots_of, width};
 use crate::entry::Entry;
 use crate::index::{Index, Key, Naming, note_entry, note_text};
 use crate::judged_text::JudgedText;
-use jc_base::{Fail, Memory};
+use jc_bytes::{Fail, Memory};
 use std::alloc::Global;
 
 /// The largest count of a pool (JVM Specification 4.1).

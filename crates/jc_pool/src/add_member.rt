@@ -1,6 +1,6 @@
 //! Adding fields and methods to what stands at the places of a pool.
 ghost use Rattle.std.specs.Prelude.{◌≡◌, ◌+◌, ◌≤◌, Some, IfOk, OnOk, OnErr, length};
-ghost use Rattle.jc_base.specs.Texts.{IsShortText};
+ghost use Rattle.jc_bytes.specs.Texts.{IsShortText};
 ghost use Rattle.jc_pool.specs.Adding.{IsNowhere, HasSignature, PutsMember, HasMember, Extends, RefusesFull, entry_of_member};
 ghost use Rattle.jc_pool.specs.Index.{IsIndexOf, IsClassed, Lacks, text_place, with_text, new_name, absent, missing_signature};
 ghost use Rattle.jc_pool.specs.Lookup.{member_of, member, HasShortTexts};
@@ -10,7 +10,7 @@ use crate::add::{PoolFull, add_naming, add_text, check_room, put_entry, take_roo
 use crate::entry::Entry;
 use crate::index::{Index, Naming};
 use crate::lookup::MemberText;
-use jc_base::Fail;
+use jc_bytes::Fail;
 use std::alloc::Global;
 
 /// The entry of a field or a method with this tag.

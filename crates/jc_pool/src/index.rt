@@ -8,7 +8,7 @@ ghost use Rattle.jc_pool.specs.Lookup.{utf8_of};
 
 use crate::entry::Entry;
 use indexmap::IndexMap;
-use jc_base::Memory;
+use jc_bytes::Memory;
 use std::alloc::Global;
 
 /// What an entry is by its content: a number, or texts that it names, each by its first place. Two

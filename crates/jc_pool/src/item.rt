@@ -1,14 +1,14 @@
 //! Reading the items of a constant pool (JVM Specification 4.1, 4.4).
 ghost use Rattle.std.specs.Prelude.{◌≡◌, ◌<◌, ◌≤◌, IfOk, IfSome, Some, None};
-ghost use Rattle.jc_base.specs.Decoder.{Gives, SameEnd};
-ghost use Rattle.jc_base.specs.Parsing.{Parses, item};
+ghost use Rattle.jc_bytes.specs.Decoder.{Gives, SameEnd};
+ghost use Rattle.jc_bytes.specs.Parsing.{Parses, item};
 ghost use Rattle.jc_pool.specs.Pool.{IsSmall, width};
 ghost use Rattle.jc_pool.specs.EntryReading.{count_at, utf8_at, integer_at, float_at, long_at, double_at, handle_at};
 ghost use Rattle.jc_pool.specs.EntryReading.{of_place, naming_one_at, of_places, naming_two_at, info_at, entry_at, fitting_at};
 
 use crate::entry::Entry;
 use crate::judged_text::JudgedText;
-use jc_base::{Fail, Reader, Refusal, Unfit, not_a_class};
+use jc_bytes::{Fail, Reader, Refusal, Unfit, not_a_class};
 use std::alloc::Global;
 
 /// The pool's count, which is above 0.

@@ -1,10 +1,10 @@
 //! The text of a Utf8 entry.
 ghost use Rattle.std.specs.Prelude.{◌≡◌, ◌↔◌, IfOk, IsTrue};
-ghost use Rattle.jc_base.specs.Descriptor.{IsFieldDescriptor, IsMethodDescriptor};
-ghost use Rattle.jc_base.specs.Modified.{IsModified};
+ghost use Rattle.jc_bytes.specs.Descriptor.{IsFieldDescriptor, IsMethodDescriptor};
+ghost use Rattle.jc_bytes.specs.Modified.{IsModified};
 ghost use Rattle.jc_pool.specs.TextForms.{AreForms};
 
-use jc_base::{Bytes, Memory, is_field_descriptor, is_method_descriptor, is_modified};
+use jc_bytes::{Bytes, Memory, is_field_descriptor, is_method_descriptor, is_modified};
 use std::alloc::Global;
 use std::marker::Model;
 

@@ -1,7 +1,7 @@
 //! Laws of the grammar of constant pools.
 ghost use Rattle.std.specs.Prelude.{◌≡◌, ◌⊎◌, ◌++◌, ℕ, ℤ, List, Some};
 ghost use Rattle.jc_pool.specs.Pool.{PoolValue};
-ghost use Rattle.jc_base.specs.ByteLists.{AreBytes};
+ghost use Rattle.jc_bytes.specs.ByteLists.{AreBytes};
 ghost use Rattle.jc_pool.specs.PoolGrammar.{pool};
 ghost use Rattle.jc_pool.specs.Adding.{HasUtf8, HasClass, HasString, HasInteger, HasLong, HasMember, IsMemberTag, Extends, Keeps, KeepsFirst, AtMostOne};
 ghost use Rattle.jc_pool.specs.Lookup.{utf8_of, class_name_of, string_of, integer_of, long_of, Member, member_of};

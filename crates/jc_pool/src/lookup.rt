@@ -1,8 +1,8 @@
 //! What the places of a pool name.
 ghost use Rattle.std.specs.Prelude.{◌≡◌, ◌↔◌, [], Some, None, IfOk, IfSome, IfNone, IsErr, IsSomeAnd, IsTrue, is_some};
-ghost use Rattle.jc_base.specs.Descriptor.{IsFieldDescriptor, IsMethodDescriptor};
-ghost use Rattle.jc_base.specs.Modified.{IsModified};
-ghost use Rattle.jc_base.specs.Texts.{IsShortText};
+ghost use Rattle.jc_bytes.specs.Descriptor.{IsFieldDescriptor, IsMethodDescriptor};
+ghost use Rattle.jc_bytes.specs.Modified.{IsModified};
+ghost use Rattle.jc_bytes.specs.Texts.{IsShortText};
 ghost use Rattle.jc_pool.specs.Adding.{IsFirst, IsNowhere};
 ghost use Rattle.jc_pool.specs.Lookup.{utf8_of, class_name_of, signature_of, const_in, const_of};
 ghost use Rattle.jc_pool.specs.Lookup.{member, judged_member, HasShortTexts, ref_of, dynamic_of, ref_in, reference_of, member_of};

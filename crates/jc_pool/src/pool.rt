@@ -1,7 +1,7 @@
 //! The constant pool.
 ghost use Rattle.std.specs.Prelude.{◌≡◌, ◌<◌, ◌≤◌, ◌++◌, ℕ, List, length, IfOk, IfSome, OnOk};
-ghost use Rattle.jc_base.specs.Decoder.{SameEnd};
-ghost use Rattle.jc_base.specs.Parsing.{Good, Bad, Parses};
+ghost use Rattle.jc_bytes.specs.Decoder.{SameEnd};
+ghost use Rattle.jc_bytes.specs.Parsing.{Good, Bad, Parses};
 ghost use Rattle.jc_pool.specs.Pool.{PoolValue, IsPool, IsSmall, slots_of};
 ghost use Rattle.jc_pool.specs.PoolGrammar.{pool, ReadsBy};
 ghost use Rattle.jc_pool.specs.PoolReading.{filled_at, pool_at};
@@ -13,7 +13,7 @@ use crate::entry::Entry;
 use crate::index::{Index, Key, Naming};
 use crate::item::{count_item, entry_item};
 use crate::lookup::MemberText;
-use jc_base::{Fail, Memory, Reader, Refusal};
+use jc_bytes::{Fail, Memory, Reader, Refusal};
 use std::alloc::Global;
 use std::marker::Model;
 
@@ -146,7 +146,7 @@ impl Pool {
 
 impl Pool {
     ghost use Rattle.std.specs.Prelude.{OnErr, OnOk};
-    ghost use Rattle.jc_base.specs.Texts.{IsShortText};
+    ghost use Rattle.jc_bytes.specs.Texts.{IsShortText};
     ghost use Rattle.jc_pool.specs.Adding.{HasUtf8, HasClass, HasString, HasInteger, HasLong, HasMember, IsMemberTag, RefusesFull, Extends};
 
     /// The first place of a Utf8 entry with this text (JVM Specification 4.4.7). Where there is none,

@@ -4,7 +4,7 @@ ghost use Rattle.std.specs.Str.{encode_utf8_all};
 ghost use Rattle.std.specs.String.{string_bytes};
 ghost use Rattle.jc_pool.specs.Text.{SpellsText, IsTextOf, AreUnitsOf};
 
-use jc_base::{Memory, first_unit};
+use jc_bytes::{Memory, first_unit};
 use std::alloc::Global;
 
 /// The units of 16 bits that modified UTF-8 spells.

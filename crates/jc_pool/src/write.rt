@@ -3,12 +3,12 @@ ghost use Rattle.std.specs.Prelude.{◌≡◌, ◌<◌, length, IfOk, OnOk, OnEr
 ghost use Rattle.jc_pool.specs.Pool.{IsSmall};
 ghost use Rattle.jc_pool.specs.PoolGrammar.{pool as pool_text};
 ghost use Rattle.jc_pool.specs.EntryFormat.{ArePlaces, IsHandle, IsUtf8, IsInfo, IsEntry};
-ghost use Rattle.jc_base.specs.Appending.{Appends};
+ghost use Rattle.jc_bytes.specs.Appending.{Appends};
 ghost use Rattle.jc_pool.specs.Writing.{SpellsSlot, SpellsSlots, IsSmallSlot, AreSmall};
 
 use crate::Pool;
 use crate::entry::Entry;
-use jc_base::{Memory, put_bytes, put_u8, put_u16, put_u32, put_u64};
+use jc_bytes::{Memory, put_bytes, put_u8, put_u16, put_u32, put_u64};
 use std::alloc::Global;
 
 /// Puts a size of two bytes at the end, and the text.

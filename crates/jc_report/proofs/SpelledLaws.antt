@@ -6,9 +6,9 @@ use Rattle.std.specs.Str.{encode_utf8_all}
 use Rattle.std.specs.Char.Utf16.{has_unpaired_surrogate, utf16_lossy_chars}
 use Rattle.std.specs.Prelude.{option_and_then}
 use Rattle.std.proofs.lemmas.Option.{same_Some}
-use Rattle.jc_base.specs.Deciding.{no_bytes}
-use Rattle.jc_base.specs.Modified.{unit_at, unit_bytes}
-use Rattle.jc_base.proofs.ModifiedLaws.{Spelled, unit_found, unit_again, no_unit}
+use Rattle.jc_bytes.specs.Deciding.{no_bytes}
+use Rattle.jc_bytes.specs.Modified.{unit_at, unit_bytes}
+use Rattle.jc_bytes.proofs.ModifiedLaws.{Spelled, unit_found, unit_again, no_unit}
 use Rattle.jc_pool.specs.Text.{SpellsUnits, SpellsText, IsTextOf, AreUnitsOf}
 use Rattle.jc_pool.proofs.TextLaws.{text_found, only_text, no_text}
 use Rattle.jc_report.specs.Spelled.{IsShown, more_units, units_of, text_of_units, text_of, shown}

@@ -1,6 +1,6 @@
 -- The report of classes that were analysed.
 use Rattle.std.specs.Prelude.{ℕ, Bool, List, map, Option}
-use Rattle.jc_base.specs.declared.analysed.Analysed.{Analysed}
+use Rattle.jc_methods.specs.declared.analysed.Analysed.{Analysed}
 use Rattle.jc_cover.specs.Covered.{hits_or_none}
 use Rattle.jc_cover.specs.Marking.{coverage_of}
 use Rattle.jc_cover.specs.Counters.{counters_of}

@@ -2,8 +2,8 @@
 use Rattle.std.specs.Prelude.{◌≡◌, ◌⊎◌, ℕ, zero, suc, List, [], ◌∷◌, length, Option, Some, None}
 use Rattle.std.specs.Prelude.{unwrap_or, option_map, option_and_then, if◌then◌else◌, encode_utf8_all}
 use Rattle.std.specs.Char.Utf16.{has_unpaired_surrogate, utf16_lossy_chars}
-use Rattle.jc_base.specs.Deciding.{no_bytes}
-use Rattle.jc_base.specs.Modified.{unit_at}
+use Rattle.jc_bytes.specs.Deciding.{no_bytes}
+use Rattle.jc_bytes.specs.Modified.{unit_at}
 use Rattle.jc_pool.specs.Text.{IsTextOf}
 
 -- The text is the one, in UTF-8, that the name spells in modified UTF-8 (JVM Specification 4.4.7). A name that spells

@@ -1,10 +1,10 @@
 -- Classes of the worked examples.
 use Rattle.std.specs.Prelude.{ℕ, ◌+◌, List, [], ◌∷◌, Option, Some, None, codes}
-use Rattle.jc_base.specs.declared.opcode.TheConstants as ops
-use Rattle.jc_base.specs.declared.insn.Insn.TheVariants as insns
-use Rattle.jc_base.specs.declared.body.Body.{Body}
-use Rattle.jc_base.specs.declared.plan.Plan.{Plan}
-use Rattle.jc_base.specs.declared.analysed.Analysed.{Analysed}
+use Rattle.jc_methods.specs.Opcode as opcode
+use Rattle.jc_methods.specs.declared.insn.Insn.TheVariants as insns
+use Rattle.jc_methods.specs.declared.body.Body.{Body}
+use Rattle.jc_methods.specs.declared.plan.Plan.{Plan}
+use Rattle.jc_methods.specs.declared.analysed.Analysed.{Analysed}
 use Rattle.jc_cover.specs.declared.coverage.Count.{Count}
 use Rattle.jc_cover.specs.declared.coverage.Counters.{Counters}
 use Rattle.jc_report.specs.declared.row.Counted.{Counted}
@@ -58,7 +58,7 @@ returning method name = record {
   arg_slots = 0;
   max_stack = 0;
   max_locals = 0;
-  code = insns.Simple ops.RETURN ∷ [];
+  code = insns.Simple opcode.return ∷ [];
   handlers = [];
   lines = record { at = 0; line = 1 } ∷ [];
   vars = [];

@@ -4,7 +4,7 @@ ghost use Rattle.jc_report.specs.Rows.{has_counted_insn, row_of, row_cmp, rows_o
 
 use crate::names::{class_of, package_of, shown};
 use crate::{Counted, Row};
-use jc_base::{Bytes, List, Memory};
+use jc_bytes::{Bytes, List, Memory};
 use std::alloc::Global;
 use std::cmp::Ordering;
 

@@ -7,7 +7,7 @@ ghost use Rattle.jc_report.specs.Written.{written};
 
 use crate::Row;
 use csv::{ByteRecord, Writer, WriterBuilder};
-use jc_base::Memory;
+use jc_bytes::Memory;
 use jc_cover::Count;
 use std::alloc::Global;
 use std::string::ToString;

@@ -5,7 +5,7 @@ ghost use Rattle.jc_report.specs.Spelled.{shown};
 ghost use Rattle.jc_report.specs.Split.{split_at_last};
 ghost use Rattle.jc_report.specs.Names.{package_of, plain_name, anonymous_name, begins_with_digit, class_of, replaced};
 
-use jc_base::Memory;
+use jc_bytes::Memory;
 use jc_pool::text_of;
 use std::alloc::Global;
 

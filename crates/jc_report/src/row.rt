@@ -1,5 +1,5 @@
 //! The rows of a report, and what they are made from.
-use jc_base::{Bytes, List};
+use jc_bytes::{Bytes, List};
 use jc_cover::Counters;
 
 /// A class with its counters.

@@ -6,12 +6,12 @@ use Rattle.std.proofs.lemmas.List.Concat.{flat_map-cons}
 use Rattle.std.proofs.lemmas.Slice.Zip.{AllZip-long}
 use Rattle.std.specs.declared.alloc.Global.{Global}
 use Rattle.jc_base.specs.ByteLists.{AreBytes}
-use Rattle.jc_base.specs.Outside.{most_read}
-use Rattle.jc_base.specs.declared.analysed.Analysed.{Analysed}
-use Rattle.jc_base.specs.declared.body.Body.{Body}
-use Rattle.jc_base.specs.declared.fail.Fail.{Fail}
-use Rattle.jc_base.specs.declared.fail.Fail.TheVariants as fails
-use Rattle.jc_base.specs.declared.refusal.Refusal.{Refusal}
+use Rattle.jc_base.specs.Reader.{most_read}
+use Rattle.jc_base.specs.declared.Analysed.{Analysed}
+use Rattle.jc_base.specs.declared.Body.{Body}
+use Rattle.jc_base.specs.declared.Fail.{Fail}
+use Rattle.jc_base.specs.declared.Fail.TheVariants as fails
+use Rattle.jc_base.specs.declared.Refusal.{Refusal}
 use Rattle.jc_base.proofs.DecoderLaws.{some_is}
 use Rattle.jc_kinds.specs.Answers.{Said}
 use Rattle.jc_instrument.specs.Analysis.{IsAnalysis}

@@ -2,10 +2,11 @@
 use Rattle.std.proofs.Common.{◌≡◌, ◌≤◌, inl, inr, ℕ, List, [], ◌++◌, length, Option, None, Some, Result, Ok, Err, Vec, Bor, refl, sym, ◌∙◌, ap, subst}
 use Rattle.std.specs.FinMap.{get}
 use Rattle.std.specs.declared.alloc.Global.{Global}
-use Rattle.jc_base.specs.declared.files.FileFault.{FileFault}
-use Rattle.jc_base.specs.declared.files.FileFault.TheVariants as faults
+use Rattle.jc_base.specs.declared.FileFault.{FileFault}
+use Rattle.jc_base.specs.declared.FileFault.TheVariants as faults
 use Rattle.jc_base.specs.ByteLists.{AreBytes}
-use Rattle.jc_base.specs.Outside.{FileMap, ReadGives, ReadCause, WhereTold, most_read}
+use Rattle.jc_base.specs.Reader.{most_read}
+use Rattle.jc_base.specs.Outside.{FileMap, ReadGives, ReadCause, WhereTold}
 use Rattle.jc_top.specs.declared.output.Write.{Write as Written}
 use Rattle.jc_top.specs.declared.stop.Stop.{Stop}
 use Rattle.jc_top.specs.declared.stop.Stop.TheVariants as stops

@@ -10,11 +10,11 @@ use Rattle.std.proofs.lemmas.List.Elements.{filter-append}
 use Rattle.std.proofs.lemmas.Slice.Zip.{AllZip-long}
 use Rattle.std.specs.declared.alloc.Global.{Global}
 use Rattle.jc_base.specs.FirstSeen.{first_seen, seen_behind}
-use Rattle.jc_base.specs.declared.analysed.Analysed.{Analysed}
-use Rattle.jc_base.specs.declared.body.Body.{Body}
-use Rattle.jc_base.specs.declared.fail.Fail.{Fail}
-use Rattle.jc_base.specs.declared.fail.Fail.TheVariants as fails
-use Rattle.jc_base.specs.declared.refusal.Refusal.{Refusal}
+use Rattle.jc_base.specs.declared.Analysed.{Analysed}
+use Rattle.jc_base.specs.declared.Body.{Body}
+use Rattle.jc_base.specs.declared.Fail.{Fail}
+use Rattle.jc_base.specs.declared.Fail.TheVariants as fails
+use Rattle.jc_base.specs.declared.Refusal.{Refusal}
 use Rattle.jc_base.proofs.FirstSeenLaws.{seen-append, seen_anew, any_first_seen}
 use Rattle.jc_exec.specs.declared.hits.ClassHits.{ClassHits}
 use Rattle.jc_exec.specs.declared.refusal.ExecRefusal.{ExecRefusal}

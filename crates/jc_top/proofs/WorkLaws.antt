@@ -5,7 +5,8 @@ use Rattle.std.specs.List.{AllByRecursion}
 use Rattle.std.specs.Option.{option_to_list}
 use Rattle.jc_base.proofs.DecoderLaws.{some_is, some_none}
 use Rattle.jc_base.specs.ByteLists.{AreBytes}
-use Rattle.jc_base.specs.Outside.{FileMap, IsLong, most_read}
+use Rattle.jc_base.specs.Reader.{most_read}
+use Rattle.jc_base.specs.Outside.{FileMap, IsLong}
 use Rattle.jc_exec.specs.declared.refusal.ExecRefusal.{ExecRefusal}
 use Rattle.jc_exec.specs.Store.{Store}
 use Rattle.jc_exec.specs.Writing.{exec_text}
@@ -19,7 +20,7 @@ use Rattle.jc_top.specs.Command.{Command, merge, exec_info, class_info, report, 
 use Rattle.jc_top.specs.Texts.{usage_text, cannot_read}
 use Rattle.jc_top.specs.World.{Write, to_file, to_out, to_err}
 use Rattle.jc_top.specs.Work.{Holds, IsNoFile, CantRead, AreRead, StopsAt, Answer, Answers, merged, merge_refused, informed, exec_info_refused, listed, class_refused, reported, report_refused, report_clashes, instrumented, refusing, Work, IsWork, usage, unreadable, answered, WorkEnds}
-use Rattle.jc_base.specs.declared.refusal.Refusal.{Refusal}
+use Rattle.jc_base.specs.declared.Refusal.{Refusal}
 use Rattle.jc_top.specs.ClassInfo.{AreListed, RefusedAt}
 use Rattle.jc_top.specs.ExecData.{IsUnionOf, IsFirstRefused, IsFirstRefusedAlone}
 use Rattle.jc_top.specs.ExecInfo.{AreInfo}

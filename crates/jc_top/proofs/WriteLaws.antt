@@ -1,9 +1,9 @@
 -- Writes, one after the other, up to one that fails.
 use Rattle.std.proofs.Common.{◌≡◌, ℕ, List, [], ◌∷◌, ◌++◌, Option, None, Some, option_map, Ok, Err, Bor, inl, inr, length, take, drop, map, get_or, ◌+◌, ◌<◌, refl, sym, ◌∙◌, ap, subst, append_assoc}
 use Rattle.std.proofs.lemmas.List.{take_more, map-append, take-append-drop}
-use Rattle.jc_base.specs.declared.files.FileFault.{FileFault}
-use Rattle.jc_base.specs.declared.files.FileFault.TheVariants as faults
-use Rattle.jc_base.specs.declared.sink.SinkFault.{SinkFault}
+use Rattle.jc_base.specs.declared.FileFault.{FileFault}
+use Rattle.jc_base.specs.declared.FileFault.TheVariants as faults
+use Rattle.jc_base.specs.declared.SinkFault.{SinkFault}
 use Rattle.std.specs.FinMap.{insert}
 use Rattle.jc_base.specs.Outside.{FileMap, WriteLeaves, WriteCause, PutLeaves, PutCause}
 use Rattle.jc_top.specs.declared.stop.Stop.{Stop}

@@ -2,11 +2,12 @@
 use Rattle.std.specs.Prelude.{◌≡◌, ◌≢◌, ◌⊎◌, ◌≤◌, ⊤, ℕ, List, [], ◌∷◌, ◌++◌, length, map, Option, Some, Result, Ok, Err, Vec}
 use Rattle.std.specs.Borrow.{Bor}
 use Rattle.std.specs.declared.alloc.Global.{Global}
-use Rattle.jc_base.specs.declared.fail.Fail.{Fail}
-use Rattle.jc_base.specs.declared.fail.Fail.TheVariants as fails
-use Rattle.jc_base.specs.declared.files.FileFault.{FileFault}
-use Rattle.jc_base.specs.declared.files.FileFault.TheVariants as file_faults
-use Rattle.jc_base.specs.Outside.{FileMap, WhereTold, Rose, most_read}
+use Rattle.jc_base.specs.declared.Fail.{Fail}
+use Rattle.jc_base.specs.declared.Fail.TheVariants as fails
+use Rattle.jc_base.specs.declared.FileFault.{FileFault}
+use Rattle.jc_base.specs.declared.FileFault.TheVariants as file_faults
+use Rattle.jc_base.specs.Reader.{most_read}
+use Rattle.jc_base.specs.Outside.{FileMap, WhereTold, Rose}
 use Rattle.jc_exec.specs.declared.refusal.ExecRefusal.{ExecRefusal}
 use Rattle.jc_top.specs.declared.status.Status.{Status}
 use Rattle.jc_top.specs.declared.status.Status.TheVariants as status
@@ -18,7 +19,7 @@ use Rattle.jc_top.specs.declared.output.Write.{Write as Written}
 use Rattle.jc_top.specs.declared.stop.Stop.{Stop}
 use Rattle.jc_top.specs.declared.stop.Stop.TheVariants as stops
 use Rattle.jc_top.specs.Words.{Word}
-use Rattle.jc_base.specs.declared.refusal.Refusal.{Refusal}
+use Rattle.jc_base.specs.declared.Refusal.{Refusal}
 use Rattle.jc_top.specs.Command.{Command, inputs_of, HasNoErrLine, Means, NoForm}
 use Rattle.jc_top.specs.Looks.{command_seen, write_seen}
 use Rattle.jc_top.specs.World.{World, Counts, NoneRose, Write, to_file, to_out, to_err, Landed, after, Broken, TextBroken, StopsIn, grown}

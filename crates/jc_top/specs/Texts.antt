@@ -1,9 +1,9 @@
 -- The texts that the tool prints. Each line ends with a line feed.
 use Rattle.std.specs.Prelude.{ℕ, ◌^◌, ◌-◌, List, [], ◌++◌, codes, Option, None, Some, Bool, true, false}
 use Rattle.std.specs.Fmt.{decimal, digits, format_spec, padded_integral}
-use Rattle.jc_base.specs.declared.refusal.Refusal.{Refusal}
-use Rattle.jc_base.specs.declared.refusal.RefusalKind.{RefusalKind}
-use Rattle.jc_base.specs.declared.refusal.RefusalKind.TheVariants as kinds
+use Rattle.jc_base.specs.declared.Refusal.{Refusal}
+use Rattle.jc_base.specs.declared.RefusalKind.{RefusalKind}
+use Rattle.jc_base.specs.declared.RefusalKind.TheVariants as kinds
 use Rattle.jc_exec.specs.declared.refusal.ExecRefusal.{ExecRefusal}
 use Rattle.jc_exec.specs.declared.refusal.ExecRefusal.TheVariants.{BadExec, OtherVersion, Conflict}
 use Rattle.jc_top.specs.declared.status.Fault.{Fault}

@@ -2,7 +2,8 @@
 use Rattle.std.specs.Prelude.{◌≡◌, ◌⊎◌, ◌≤◌, ⊤, ℕ, List, [], ◌∷◌, ◌++◌, length, map, take, Option, Some, None, option_to_list}
 use Rattle.std.specs.FinMap.{get}
 use Rattle.jc_base.specs.ByteLists.{AreBytes}
-use Rattle.jc_base.specs.Outside.{FileMap, IsLong, WhereTold, most_read}
+use Rattle.jc_base.specs.Reader.{most_read}
+use Rattle.jc_base.specs.Outside.{FileMap, IsLong, WhereTold}
 use Rattle.jc_exec.specs.declared.refusal.ExecRefusal.{ExecRefusal}
 use Rattle.jc_exec.specs.Store.{Store}
 use Rattle.jc_exec.specs.Writing.{exec_text}
@@ -11,7 +12,7 @@ use Rattle.jc_top.specs.declared.status.Status.TheVariants as status
 use Rattle.jc_top.specs.declared.status.Fault.{Fault}
 use Rattle.jc_top.specs.declared.status.Fault.TheVariants as fault
 use Rattle.jc_top.specs.Words.{Word, in_folder}
-use Rattle.jc_base.specs.declared.refusal.Refusal.{Refusal}
+use Rattle.jc_base.specs.declared.Refusal.{Refusal}
 use Rattle.jc_top.specs.ClassInfo.{AreListed, RefusedAt}
 use Rattle.jc_top.specs.ExecData.{IsUnionOf, IsFirstRefused, IsFirstRefusedAlone}
 use Rattle.jc_top.specs.ExecInfo.{AreInfo}

@@ -1,7 +1,7 @@
 //! The command `classinfo`.
 ghost use Rattle.std.specs.Prelude.{◌≡◌, ◌≤◌, ◌<◌, ◌^◌, ◌++◌, All, length, IfOk, OnOk, string_bytes};
 ghost use Rattle.std.specs.List.{AllZip, flat_map};
-ghost use Rattle.jc_base.specs.Outside.{most_read};
+ghost use Rattle.jc_base.specs.Reader.{most_read};
 ghost use Rattle.jc_instrument.specs.Analysis.{IsPlanned};
 ghost use Rattle.jc_top.specs.Command.{class_info};
 ghost use Rattle.jc_top.specs.ClassInfo.{class_end, class_line, class_text};

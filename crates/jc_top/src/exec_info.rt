@@ -1,7 +1,7 @@
 //! The command `execinfo`.
 ghost use Rattle.std.specs.Prelude.{◌≡◌, ◌≤◌, ◌<◌, ◌^◌, ◌++◌, ◌∷◌, []};
 ghost use Rattle.std.specs.Prelude.{All, count_by, length, map, IfOk, IfErr, OnOk, string_bytes};
-ghost use Rattle.jc_base.specs.Outside.{most_read};
+ghost use Rattle.jc_base.specs.Reader.{most_read};
 ghost use Rattle.jc_exec.specs.Answers.{Refuses};
 ghost use Rattle.jc_top.specs.Command.{exec_info};
 ghost use Rattle.jc_top.specs.ExecData.{IsUnionOf, no_data};

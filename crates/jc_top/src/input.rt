@@ -1,7 +1,7 @@
 //! Reading the inputs of a command.
 ghost use Rattle.std.specs.Prelude.{◌≡◌, ◌≤◌, ◌++◌, ◌∷◌, [], All, length, IfOk, OnOk};
 ghost use Rattle.jc_base.specs.ByteLists.{AreBytes};
-ghost use Rattle.jc_base.specs.Outside.{most_read};
+ghost use Rattle.jc_base.specs.Reader.{most_read};
 ghost use Rattle.jc_top.specs.Words.{words_of};
 ghost use Rattle.jc_top.specs.Outcome.{ReadOne, ReadAll, read_stop};
 

@@ -1,7 +1,7 @@
 //! The command `instrument`.
 ghost use Rattle.std.specs.Prelude.{◌≡◌, ◌≤◌, All, length, map, IfOk, OnOk};
 ghost use Rattle.std.specs.List.{AllZip};
-ghost use Rattle.jc_base.specs.Outside.{most_read};
+ghost use Rattle.jc_base.specs.Reader.{most_read};
 ghost use Rattle.jc_top.specs.Command.{instrument};
 ghost use Rattle.jc_top.specs.Instrument.{Decision, refused_file, accepted_file, IsDecision, file_writes, AreFileWrites};
 ghost use Rattle.jc_top.specs.Looks.{IsDecided, write_seen, Puts};

@@ -1,6 +1,6 @@
 //! The command `merge`.
 ghost use Rattle.std.specs.Prelude.{◌≡◌, ◌≤◌, ◌<◌, ◌^◌, [], ◌∷◌, All, length, Err, IfOk, IfErr};
-ghost use Rattle.jc_base.specs.Outside.{most_read};
+ghost use Rattle.jc_base.specs.Reader.{most_read};
 ghost use Rattle.jc_top.specs.Command.{merge};
 ghost use Rattle.jc_top.specs.ExecData.{IsUnionOf};
 ghost use Rattle.jc_top.specs.Words.{Word, words_of};

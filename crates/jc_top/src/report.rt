@@ -1,6 +1,6 @@
 //! The command `report`.
 ghost use Rattle.std.specs.Prelude.{◌≡◌, ◌≤◌, ◌<◌, ◌^◌, ◌∷◌, ◌++◌, [], All, Some, None, length, map, option_map, IfOk};
-ghost use Rattle.jc_base.specs.Outside.{most_read};
+ghost use Rattle.jc_base.specs.Reader.{most_read};
 ghost use Rattle.jc_top.specs.Report.{report_text};
 ghost use Rattle.jc_top.specs.Command.{report};
 ghost use Rattle.jc_top.specs.ReportSteps.{data_records, data_path, ReportsWith};

@@ -1,14 +1,14 @@
 -- A method of which each part is as it should be has no fault.
 use Rattle.std.proofs.Common.{◌≡◌, inl, inr, ℕ, ◌+◌, ◌<◌, ◌≤◌, List, length, Some, arith}
 use Rattle.std.specs.Prelude.{slice_get}
-use Rattle.jc_base.specs.Flow.{FallsThrough}
-use Rattle.jc_base.specs.InsnUse.{LeadsWithin, LocalsWithin}
-use Rattle.jc_base.specs.Held.{SeenAt}
-use Rattle.jc_base.specs.Least.{IsNowhere}
-use Rattle.jc_base.specs.Starts.{insn_number}
-use Rattle.jc_base.specs.WellMade.{TakeSlots}
-use Rattle.jc_base.specs.declared.insn.Insn.{Insn}
-use Rattle.jc_base.specs.declared.refusal.RefusalKind.TheVariants as kinds
+use Rattle.jc_methods.specs.Flow.{FallsThrough}
+use Rattle.jc_methods.specs.InsnUse.{LeadsWithin, LocalsWithin}
+use Rattle.jc_methods.specs.Held.{SeenAt}
+use Rattle.jc_bytes.specs.Least.{IsNowhere}
+use Rattle.jc_methods.specs.Starts.{insn_number}
+use Rattle.jc_methods.specs.WellMade.{TakeSlots}
+use Rattle.jc_methods.specs.declared.insn.Insn.{Insn}
+use Rattle.jc_bytes.specs.declared.refusal.RefusalKind.TheVariants as kinds
 use Rattle.jc_pool.specs.Lookup.{utf8_of}
 use Rattle.jc_pool.specs.Pool.{PoolValue}
 use Rattle.jc_class.specs.declared.class_file.Member.{Member}

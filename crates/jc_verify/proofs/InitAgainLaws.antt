@@ -6,26 +6,26 @@ use Rattle.std.specs.List.{AllByRecursion}
 use Rattle.std.specs.Option.{option_and_then}
 use Rattle.std.proofs.lemmas.Bool.{cases_lt}
 use Rattle.std.proofs.lemmas.Option.{none-some, same_Some, slice_get_within}
-use Rattle.jc_base.proofs.DecidingLaws.{method_text_decided}
-use Rattle.jc_base.proofs.StartsLaws.{number_at, rising}
-use Rattle.jc_base.proofs.TestLaws.{stands_in}
-use Rattle.jc_base.specs.Deciding.{after_types}
-use Rattle.jc_base.specs.DescriptorReading.{after_type, after_brackets, after_name}
-use Rattle.jc_base.specs.Descriptor.{Array, Boolean, MethodType, DescribesMethod, IsFieldDescriptor, IsMethodDescriptor}
-use Rattle.jc_base.specs.EntryState.{entry_seen}
-use Rattle.jc_base.specs.Flow.{FallsThrough}
-use Rattle.jc_base.specs.Held.{Names, SeenAt}
-use Rattle.jc_base.specs.InsnUse.{LeadsWithin, LocalsWithin, pool_place}
-use Rattle.jc_base.specs.Starts.{AreStarts}
-use Rattle.jc_base.specs.WellMade.{TakeSlots, what_used}
-use Rattle.jc_base.specs.declared.body.Body.{Body}
-use Rattle.jc_base.specs.declared.body.Use.{Use}
-use Rattle.jc_base.specs.declared.body.What.{What}
-use Rattle.jc_base.specs.declared.body.What.TheVariants as whats
-use Rattle.jc_base.specs.declared.insn.Insn.{Insn}
-use Rattle.jc_base.specs.declared.insn.Insn.TheVariants as insns
-use Rattle.jc_base.specs.declared.kind.Kind.TheVariants as kinds
-use Rattle.jc_base.specs.declared.opcode.TheConstants as ops
+use Rattle.jc_bytes.proofs.DecidingLaws.{method_text_decided}
+use Rattle.jc_methods.proofs.StartsLaws.{number_at, rising}
+use Rattle.jc_bytes.proofs.TestLaws.{stands_in}
+use Rattle.jc_bytes.specs.Deciding.{after_types}
+use Rattle.jc_bytes.specs.DescriptorReading.{after_type, after_brackets, after_name}
+use Rattle.jc_bytes.specs.Descriptor.{Array, Boolean, MethodType, DescribesMethod, IsFieldDescriptor, IsMethodDescriptor}
+use Rattle.jc_methods.specs.EntryState.{entry_seen}
+use Rattle.jc_methods.specs.Flow.{FallsThrough}
+use Rattle.jc_methods.specs.Held.{Names, SeenAt}
+use Rattle.jc_methods.specs.InsnUse.{LeadsWithin, LocalsWithin, pool_place}
+use Rattle.jc_methods.specs.Starts.{AreStarts}
+use Rattle.jc_methods.specs.WellMade.{TakeSlots, what_used}
+use Rattle.jc_methods.specs.declared.body.Body.{Body}
+use Rattle.jc_methods.specs.declared.body.Use.{Use}
+use Rattle.jc_methods.specs.declared.body.What.{What}
+use Rattle.jc_methods.specs.declared.body.What.TheVariants as whats
+use Rattle.jc_methods.specs.declared.insn.Insn.{Insn}
+use Rattle.jc_methods.specs.declared.insn.Insn.TheVariants as insns
+use Rattle.jc_methods.specs.declared.kind.Kind.TheVariants as kinds
+use Rattle.jc_methods.specs.Opcode as opcode
 use Rattle.jc_insn.proofs.DecodedInsnLaws.{are_starts}
 use Rattle.jc_pool.specs.declared.constant.ConstText.TheVariants as constants
 use Rattle.jc_pool.specs.Pool.{PoolValue}
@@ -116,8 +116,8 @@ module _ (twin : ClassFile) (owner : List ℕ) (id : ℤ) (count : ℕ) (p : Add
   field_right op le = right_where (insns.Member op p.field) p.field (of_member (data_field owner)) (member_found_at twin.pool p.field (data_field owner) w.field_is)
       (record { kind = inl (le, data_described); tag = λ e. absurd (omega (arith, e)) })
 
-  fetch_right : Right (insns.Member ops.INVOKESTATIC p.fetch)
-  fetch_right = right_where (insns.Member ops.INVOKESTATIC p.fetch) p.fetch (of_member fetch_method) (member_found_at twin.pool p.fetch fetch_method w.fetch_is)
+  fetch_right : Right (insns.Member opcode.invokestatic p.fetch)
+  fetch_right = right_where (insns.Member opcode.invokestatic p.fetch) p.fetch (of_member fetch_method) (member_found_at twin.pool p.fetch fetch_method w.fetch_is)
       (record { kind = inr (omega arith, fetch_described); tag = λ e. absurd (omega (arith, e)) })
 
   id_right : Right (insns.Constant2 p.id)
@@ -128,8 +128,8 @@ module _ (twin : ClassFile) (owner : List ℕ) (id : ℤ) (count : ℕ) (p : Add
 
   all_right : AllByRecursion Right coded.insns
   all_right = (
-    field_right ops.GETSTATIC (omega arith),
-    (tt, (tt, (tt, (id_right, (name_right, (push_right twin.major twin.pool count, (fetch_right, (tt, (field_right ops.PUTSTATIC (omega arith), (tt, tt)))))))))),
+    field_right opcode.getstatic (omega arith),
+    (tt, (tt, (tt, (id_right, (name_right, (push_right twin.major twin.pool count, (fetch_right, (tt, (field_right opcode.putstatic (omega arith), (tt, tt)))))))))),
   )
 
   all_lead : AllByRecursion (LeadsWithin 11) coded.insns
@@ -147,7 +147,7 @@ module _ (twin : ClassFile) (owner : List ℕ) (id : ℤ) (count : ℕ) (p : Add
   goes_on_within : (i : ℕ) (insn : Insn) → slice_get coded.insns i ≡ Some insn → FallsThrough insn → i + 1 < length coded.insns
   goes_on_within i insn at through = by (cases_lt i 10)
     where
-      stops : FallsThrough (insns.Simple ops.ARETURN) → ⊥
+      stops : FallsThrough (insns.Simple opcode.areturn) → ⊥
       stops (inl e) = absurd cc
       stops (inr e) = absurd cc
 
@@ -156,7 +156,7 @@ module _ (twin : ClassFile) (owner : List ℕ) (id : ℤ) (count : ℕ) (p : Add
       by (inr last) =
           let within = slice_get_within coded.insns i insn at in
           let same : i ≡ 10 = omega (arith, last, within) in
-          let is : insns.Simple ops.ARETURN ≡ insn = same_Some (insns.Simple ops.ARETURN) insn (ap (slice_get coded.insns) (sym same) ∙ at) in
+          let is : insns.Simple opcode.areturn ≡ insn = same_Some (insns.Simple opcode.areturn) insn (ap (slice_get coded.insns) (sym same) ∙ at) in
           absurd (stops (subst FallsThrough (sym is) through))
 
   sound : AreSound twin.major twin.pool coded
@@ -329,11 +329,11 @@ module _ (twin : ClassFile) (owner : List ℕ) (id : ℤ) (count : ℕ) (p : Add
     vars = refl;
     kind_vars = refl;
     frames = record { frame = _; single = refl; at = refl; state = refl };
-    field_is = use_there 0 p.field (insns.Member ops.GETSTATIC p.field) (of_member (data_field owner)) (whats.Field owner data_name data_type) refl refl
+    field_is = use_there 0 p.field (insns.Member opcode.getstatic p.field) (of_member (data_field owner)) (whats.Field owner data_name data_type) refl refl
         (member_found_at twin.pool p.field (data_field owner) w.field_is) refl;
     id_is = use_there 4 p.id (insns.Constant2 p.id) (of_constant (constants.Long id)) (whats.Long id) refl refl (long_found_at twin.pool p.id id w.id_is) refl;
     name_is = use_there 5 p.name (insns.Constant p.name) (of_constant constants.Text) whats.Text refl refl (string_found_at twin.pool p.name owner w.name_is) refl;
-    fetch_is = use_there 7 p.fetch (insns.Member ops.INVOKESTATIC p.fetch) (of_member fetch_method) (whats.Method runtime_class fetch_name fetch_type) refl refl
+    fetch_is = use_there 7 p.fetch (insns.Member opcode.invokestatic p.fetch) (of_member fetch_method) (whats.Method runtime_class fetch_name fetch_type) refl refl
         (member_found_at twin.pool p.fetch fetch_method w.fetch_is) refl;
   }
 

@@ -5,14 +5,13 @@ use Rattle.std.specs.Int.{cast_signed}
 use Rattle.std.proofs.lemmas.Bool.{cases_lt}
 use Rattle.std.proofs.lemmas.Int.{fits_signed_from_abs}
 use Rattle.std.proofs.lemmas.List.Elements.{All-nil}
-use Rattle.jc_base.specs.Insn.{IsWellFormed, with_places}
-use Rattle.jc_base.specs.InsnForm.{form_of}
-use Rattle.jc_base.specs.Opcode as opcode
-use Rattle.jc_base.specs.Starts.{insn_number}
-use Rattle.jc_base.specs.declared.form.Form.TheVariants as forms
-use Rattle.jc_base.specs.declared.insn.Insn.{Insn}
-use Rattle.jc_base.specs.declared.insn.Insn.TheVariants as insns
-use Rattle.jc_base.specs.declared.opcode.TheConstants as ops
+use Rattle.jc_methods.specs.Insn.{IsWellFormed, with_places}
+use Rattle.jc_methods.specs.InsnForm.{form_of}
+use Rattle.jc_methods.specs.Opcode as opcode
+use Rattle.jc_methods.specs.Starts.{insn_number}
+use Rattle.jc_methods.specs.declared.form.Form.TheVariants as forms
+use Rattle.jc_methods.specs.declared.insn.Insn.{Insn}
+use Rattle.jc_methods.specs.declared.insn.Insn.TheVariants as insns
 use Rattle.jc_insn.specs.declared.item.Item.TheVariants as items
 use Rattle.jc_insn.specs.Items.{IsItem, operands, target_of}
 use Rattle.jc_insn.specs.Spells.{Spells, SpellsFrom}
@@ -32,7 +31,7 @@ use Rattle.jc_verify.specs.InitRead.{init_starts}
 
 -- the instruction that pushes a number, by what tells how long it is
 abbrev push_by : ℕ → Bool → Bool → Insn
-push_by n small byte = if small then insns.Simple (ops.ICONST_0 + n) else if byte then insns.Push ops.BIPUSH (pos n) else insns.Push ops.SIPUSH (pos n)
+push_by n small byte = if small then insns.Simple (opcode.iconst_0 + n) else if byte then insns.Push opcode.bipush (pos n) else insns.Push opcode.sipush (pos n)
 
 same_text_by : (at n : ℕ) (s t : Bool) → insn_text at false (push_by n s t) ≡ insn_text 0 false (push_by n s t)
 unfolding insn_text
@@ -98,31 +97,31 @@ jump_item at op distance form low few =
 
 -- ---- forms
 
-get_form : form_of ops.GETSTATIC ≡ forms.Member
+get_form : form_of opcode.getstatic ≡ forms.Member
 unfolding form_of
 get_form = refl
 
-put_form : form_of ops.PUTSTATIC ≡ forms.Member
+put_form : form_of opcode.putstatic ≡ forms.Member
 unfolding form_of
 put_form = refl
 
-call_form : form_of ops.INVOKESTATIC ≡ forms.Member
+call_form : form_of opcode.invokestatic ≡ forms.Member
 unfolding form_of
 call_form = refl
 
-dup_form : form_of ops.DUP ≡ forms.Simple
+dup_form : form_of opcode.dup ≡ forms.Simple
 unfolding form_of
 dup_form = refl
 
-pop_form : form_of ops.POP ≡ forms.Simple
+pop_form : form_of opcode.pop ≡ forms.Simple
 unfolding form_of
 pop_form = refl
 
-return_form : form_of ops.ARETURN ≡ forms.Simple
+return_form : form_of opcode.areturn ≡ forms.Simple
 unfolding form_of
 return_form = refl
 
-test_form : form_of ops.IFNONNULL ≡ forms.Jump
+test_form : form_of opcode.ifnonnull ≡ forms.Jump
 unfolding form_of
 test_form = refl
 
@@ -185,17 +184,17 @@ module _ (p : InitPlaces) (count : ℕ) (few : count ≤ 32767) (field : p.field
   -- the instructions, with the offset to which the jump leads
   abbrev spelled : List Insn
   spelled =
-      insns.Member ops.GETSTATIC p.field
-      ∷ insns.Simple ops.DUP
-      ∷ insns.Jump ops.IFNONNULL (4 + (17 + k))
-      ∷ insns.Simple ops.POP
+      insns.Member opcode.getstatic p.field
+      ∷ insns.Simple opcode.dup
+      ∷ insns.Jump opcode.ifnonnull (4 + (17 + k))
+      ∷ insns.Simple opcode.pop
       ∷ insns.Constant2 p.id
       ∷ insns.Constant p.name
       ∷ push count
-      ∷ insns.Member ops.INVOKESTATIC p.fetch
-      ∷ insns.Simple ops.DUP
-      ∷ insns.Member ops.PUTSTATIC p.field
-      ∷ insns.Simple ops.ARETURN
+      ∷ insns.Member opcode.invokestatic p.fetch
+      ∷ insns.Simple opcode.dup
+      ∷ insns.Member opcode.putstatic p.field
+      ∷ insns.Simple opcode.areturn
       ∷ []
 
   k_few : k ≤ 3
@@ -203,17 +202,17 @@ module _ (p : InitPlaces) (count : ℕ) (few : count ≤ 32767) (field : p.field
 
   from_call : Rest (14 + k)
   from_call =
-      one_more (14 + k) (17 + k) (ops.INVOKESTATIC ∷ short p.fetch) (insns.Member ops.INVOKESTATIC p.fetch)
-      (member_item (14 + k) ops.INVOKESTATIC p.fetch call_form fetch) (three (14 + k) ops.INVOKESTATIC p.fetch ∙ omega arith)
-      (one_more (17 + k) (18 + k) (ops.DUP ∷ []) (insns.Simple ops.DUP) (simple_item (17 + k) ops.DUP dup_form) (omega arith)
-      (one_more (18 + k) (21 + k) (ops.PUTSTATIC ∷ short p.field) (insns.Member ops.PUTSTATIC p.field)
-      (member_item (18 + k) ops.PUTSTATIC p.field put_form field) (three (18 + k) ops.PUTSTATIC p.field ∙ omega arith)
-      (one_more (21 + k) (22 + k) (ops.ARETURN ∷ []) (insns.Simple ops.ARETURN) (simple_item (21 + k) ops.ARETURN return_form) (omega arith)
+      one_more (14 + k) (17 + k) (opcode.invokestatic ∷ short p.fetch) (insns.Member opcode.invokestatic p.fetch)
+      (member_item (14 + k) opcode.invokestatic p.fetch call_form fetch) (three (14 + k) opcode.invokestatic p.fetch ∙ omega arith)
+      (one_more (17 + k) (18 + k) (opcode.dup ∷ []) (insns.Simple opcode.dup) (simple_item (17 + k) opcode.dup dup_form) (omega arith)
+      (one_more (18 + k) (21 + k) (opcode.putstatic ∷ short p.field) (insns.Member opcode.putstatic p.field)
+      (member_item (18 + k) opcode.putstatic p.field put_form field) (three (18 + k) opcode.putstatic p.field ∙ omega arith)
+      (one_more (21 + k) (22 + k) (opcode.areturn ∷ []) (insns.Simple opcode.areturn) (simple_item (21 + k) opcode.areturn return_form) (omega arith)
       (no_more (22 + k)))))
 
   from_pop : Rest 7
   from_pop =
-      one_more 7 8 (ops.POP ∷ []) (insns.Simple ops.POP) (simple_item 7 ops.POP pop_form) refl
+      one_more 7 8 (opcode.pop ∷ []) (insns.Simple opcode.pop) (simple_item 7 opcode.pop pop_form) refl
       (one_more 8 11 (opcode.ldc2_w ∷ short p.id) (insns.Constant2 p.id) (long_item 8 p.id id) (three 8 opcode.ldc2_w p.id)
       (one_more 11 14 (opcode.ldc_w ∷ short p.name) (insns.Constant p.name) (text_item 11 p.name name) (three 11 opcode.ldc_w p.name)
       (one_more 14 (14 + k) pushed (push count) (push_item 14 count (omega arith) few) refl from_call)))
@@ -221,11 +220,11 @@ module _ (p : InitPlaces) (count : ℕ) (few : count ≤ 32767) (field : p.field
   whole : Rest 0
   whole =
       let few_bytes = k_few in
-      one_more 0 3 (ops.GETSTATIC ∷ short p.field) (insns.Member ops.GETSTATIC p.field) (member_item 0 ops.GETSTATIC p.field get_form field)
-      (three 0 ops.GETSTATIC p.field)
-      (one_more 3 4 (ops.DUP ∷ []) (insns.Simple ops.DUP) (simple_item 3 ops.DUP dup_form) refl
-      (one_more 4 7 (ops.IFNONNULL ∷ short (17 + k)) (insns.Jump ops.IFNONNULL (4 + (17 + k)))
-      (jump_item 4 ops.IFNONNULL (17 + k) test_form (omega arith) (omega (arith, few_bytes))) (three 4 ops.IFNONNULL (17 + k)) from_pop))
+      one_more 0 3 (opcode.getstatic ∷ short p.field) (insns.Member opcode.getstatic p.field) (member_item 0 opcode.getstatic p.field get_form field)
+      (three 0 opcode.getstatic p.field)
+      (one_more 3 4 (opcode.dup ∷ []) (insns.Simple opcode.dup) (simple_item 3 opcode.dup dup_form) refl
+      (one_more 4 7 (opcode.ifnonnull ∷ short (17 + k)) (insns.Jump opcode.ifnonnull (4 + (17 + k)))
+      (jump_item 4 opcode.ifnonnull (17 + k) test_form (omega arith) (omega (arith, few_bytes))) (three 4 opcode.ifnonnull (17 + k)) from_pop))
 
   bytes_spelled : SpellsFrom 0 (init_bytes p pushed) spelled (init_starts k)
   unfolding init_bytes whole one_more from_pop from_call no_more
@@ -239,17 +238,17 @@ module _ (p : InitPlaces) (count : ℕ) (few : count ≤ 32767) (field : p.field
       let target : end_place ≡ number (4 + (17 + k)) =
       sym (end_number k (pushed_length count)) ∙ ap number (let e : 21 + k ≡ 4 + (17 + k) = omega arith in e) in
       let same = sym (places_push number count) in λ i.
-      insns.Member ops.GETSTATIC p.field
-      ∷ insns.Simple ops.DUP
-      ∷ insns.Jump ops.IFNONNULL (target i)
-      ∷ insns.Simple ops.POP
+      insns.Member opcode.getstatic p.field
+      ∷ insns.Simple opcode.dup
+      ∷ insns.Jump opcode.ifnonnull (target i)
+      ∷ insns.Simple opcode.pop
       ∷ insns.Constant2 p.id
       ∷ insns.Constant p.name
       ∷ same i
-      ∷ insns.Member ops.INVOKESTATIC p.fetch
-      ∷ insns.Simple ops.DUP
-      ∷ insns.Member ops.PUTSTATIC p.field
-      ∷ insns.Simple ops.ARETURN
+      ∷ insns.Member opcode.invokestatic p.fetch
+      ∷ insns.Simple opcode.dup
+      ∷ insns.Member opcode.putstatic p.field
+      ∷ insns.Simple opcode.areturn
       ∷ []
 
   pub init_spelled : Spells (init_bytes p pushed) (init_code p count) (init_starts k)

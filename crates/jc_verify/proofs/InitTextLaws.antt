@@ -2,8 +2,8 @@
 use Rattle.std.proofs.Common.{◌≡◌, ℕ, ◌+◌, ◌-◌, ◌≤◌, false, List, [], ◌∷◌, ◌++◌, length, refl, sym, subst, arith, length-append}
 use Rattle.std.proofs.lemmas.List.{append-nil}
 use Rattle.std.specs.Str.{bytes_eq}
-use Rattle.jc_base.specs.Counted.{counted}
-use Rattle.jc_base.specs.Grammar.{Grammar}
+use Rattle.jc_bytes.specs.Counted.{counted}
+use Rattle.jc_bytes.specs.Grammar.{Grammar}
 use Rattle.jc_frames.specs.FullFrames as frames
 use Rattle.jc_insn.specs.Writing.{short}
 use Rattle.jc_insn.proofs.ReadBackLaws.{big_short, short_size}

@@ -1,12 +1,12 @@
 -- What stands in a constant pool stands there still when the pool has grown.
 use Rattle.std.proofs.Common.{◌≡◌, inr, ℕ, ℤ, List, [], Option, Some, None, refl, sym, ◌∙◌, ap, subst, arith, option_and_then}
 use Rattle.std.proofs.lemmas.Option.{none-some, same_Some}
-use Rattle.jc_base.proofs.DecoderLaws.{bind_some}
-use Rattle.jc_base.specs.Decoder.{◌>>=◌}
-use Rattle.jc_base.specs.Descriptor.{Array, Boolean, IsMethodDescriptor}
-use Rattle.jc_base.specs.InsnUse.{pool_place}
-use Rattle.jc_base.specs.declared.body.What.{What}
-use Rattle.jc_base.specs.declared.insn.Insn.{Insn}
+use Rattle.jc_bytes.proofs.DecoderLaws.{bind_some}
+use Rattle.jc_bytes.specs.Decoder.{◌>>=◌}
+use Rattle.jc_bytes.specs.Descriptor.{Array, Boolean, IsMethodDescriptor}
+use Rattle.jc_methods.specs.InsnUse.{pool_place}
+use Rattle.jc_methods.specs.declared.body.What.{What}
+use Rattle.jc_methods.specs.declared.insn.Insn.{Insn}
 use Rattle.jc_pool.specs.declared.constant.ConstText.{ConstText}
 use Rattle.jc_pool.specs.declared.constant.ConstText.TheVariants as constants
 use Rattle.jc_pool.specs.declared.entry.Entry.{Entry}

@@ -4,19 +4,19 @@ use Rattle.std.specs.Prelude.{Contains, slice_get, slice_index}
 use Rattle.std.specs.List.{AllByRecursion}
 use Rattle.std.proofs.lemmas.List.{length-map}
 use Rattle.std.proofs.lemmas.Option.{slice_get_within}
-use Rattle.jc_base.specs.Held.{Names, IsNumbered, AreNumberedFrames, Seen, SeenAt, seen, seen_at}
-use Rattle.jc_base.specs.Opcode as opcode
-use Rattle.jc_base.specs.Starts.{AreStarts}
-use Rattle.jc_base.specs.WellMade.{IsWellMadeOfAnySize}
-use Rattle.jc_base.specs.declared.body.Body.{Body}
-use Rattle.jc_base.specs.declared.body.FrameAt.{FrameAt}
-use Rattle.jc_base.specs.declared.emitted.Emitted.{Emitted}
-use Rattle.jc_base.specs.declared.insn.Insn.{Insn}
-use Rattle.jc_base.specs.declared.insn.Insn.TheVariants as insns
-use Rattle.jc_base.specs.declared.kind.Kind.{Kind}
-use Rattle.jc_base.specs.declared.kind.Kind.TheVariants as kinds
-use Rattle.jc_base.specs.declared.kind.State.{State}
-use Rattle.jc_base.proofs.TestLaws.{first_in, later_in}
+use Rattle.jc_methods.specs.Held.{Names, IsNumbered, AreNumberedFrames, Seen, SeenAt, seen, seen_at}
+use Rattle.jc_methods.specs.Opcode as opcode
+use Rattle.jc_methods.specs.Starts.{AreStarts}
+use Rattle.jc_methods.specs.WellMade.{IsWellMadeOfAnySize}
+use Rattle.jc_methods.specs.declared.body.Body.{Body}
+use Rattle.jc_methods.specs.declared.body.FrameAt.{FrameAt}
+use Rattle.jc_methods.specs.declared.emitted.Emitted.{Emitted}
+use Rattle.jc_methods.specs.declared.insn.Insn.{Insn}
+use Rattle.jc_methods.specs.declared.insn.Insn.TheVariants as insns
+use Rattle.jc_methods.specs.declared.kind.Kind.{Kind}
+use Rattle.jc_methods.specs.declared.kind.Kind.TheVariants as kinds
+use Rattle.jc_methods.specs.declared.kind.State.{State}
+use Rattle.jc_bytes.proofs.TestLaws.{first_in, later_in}
 use Rattle.jc_pool.specs.Adding.{IsFirst}
 use Rattle.jc_pool.specs.Lookup.{class_name_of}
 use Rattle.jc_frames.specs.Frames.{Ground, is_new}

@@ -6,20 +6,20 @@ use Rattle.std.proofs.lemmas.Bool.{and_parts, cases_lt}
 use Rattle.std.proofs.lemmas.Int.{fits_signed_from_abs}
 use Rattle.std.proofs.lemmas.List.{get_or_past}
 use Rattle.std.proofs.lemmas.List.Elements.{All-map}
-use Rattle.jc_base.proofs.EachLaws.{all_both, all_of_each}
-use Rattle.jc_base.specs.Flow.{flow_of, jump_target, targets_of}
-use Rattle.jc_base.specs.Insn.{with_places}
-use Rattle.jc_base.specs.InsnUse.{LocalsWithin, is_of_two_slots}
-use Rattle.jc_base.specs.PlainLists.{pieces}
-use Rattle.jc_base.specs.WellMade.{IsWellMadeOfAnySize}
-use Rattle.jc_base.specs.Widened.{inverted}
-use Rattle.jc_base.specs.declared.body.Body.{Body}
-use Rattle.jc_base.specs.declared.insn.Flow.{Flow}
-use Rattle.jc_base.specs.declared.insn.Flow.TheVariants as flows
-use Rattle.jc_base.specs.declared.insn.Insn.{Insn}
-use Rattle.jc_base.specs.declared.insn.Insn.TheVariants as insns
-use Rattle.jc_base.specs.declared.kind.State.{State}
-use Rattle.jc_base.specs.declared.opcode.TheConstants as ops
+use Rattle.jc_bytes.proofs.EachLaws.{all_both, all_of_each}
+use Rattle.jc_methods.specs.Flow.{flow_of, jump_target, targets_of}
+use Rattle.jc_methods.specs.Insn.{with_places}
+use Rattle.jc_methods.specs.InsnUse.{LocalsWithin, is_of_two_slots}
+use Rattle.jc_bytes.specs.PlainLists.{pieces}
+use Rattle.jc_methods.specs.WellMade.{IsWellMadeOfAnySize}
+use Rattle.jc_methods.specs.Widened.{inverted}
+use Rattle.jc_methods.specs.declared.body.Body.{Body}
+use Rattle.jc_methods.specs.declared.insn.Flow.{Flow}
+use Rattle.jc_methods.specs.declared.insn.Flow.TheVariants as flows
+use Rattle.jc_methods.specs.declared.insn.Insn.{Insn}
+use Rattle.jc_methods.specs.declared.insn.Insn.TheVariants as insns
+use Rattle.jc_methods.specs.declared.kind.State.{State}
+use Rattle.jc_methods.specs.Opcode as opcode
 use Rattle.jc_after.specs.Shift.{slot_of, with_slot}
 use Rattle.jc_plan.specs.declared.branch.Branch.{Branch}
 use Rattle.jc_plan.specs.Edges.{branches, exit, jump}
@@ -68,7 +68,7 @@ inverted_range to insn h = h
 push_range : (n : ℕ) → n ≤ 32767 → IsInRange (push n)
 push_range n le = by (nat_le n 5) (nat_le n 127)
   where
-    by : (s t : Bool) → IsInRange (if s then insns.Simple (ops.ICONST_0 + n) else if t then insns.Push ops.BIPUSH (pos n) else insns.Push ops.SIPUSH (pos n))
+    by : (s t : Bool) → IsInRange (if s then insns.Simple (opcode.iconst_0 + n) else if t then insns.Push opcode.bipush (pos n) else insns.Push opcode.sipush (pos n))
     by true t = tt
     by false true = fits_signed_from_abs w16 (pos n) (omega (arith, le))
     by false false = fits_signed_from_abs w16 (pos n) (omega (arith, le))

@@ -4,18 +4,18 @@ use Rattle.std.specs.List.{AllByRecursion}
 use Rattle.std.specs.Prelude.{slice_index}
 use Rattle.std.proofs.Math.Bool.{or-true}
 use Rattle.std.proofs.lemmas.Bool.{cases_lt, eq-eqb, lt-ltb}
-use Rattle.jc_base.proofs.EachLaws.{all_weaker}
-use Rattle.jc_base.specs.Held.{Names}
-use Rattle.jc_base.specs.Starts.{insn_number}
-use Rattle.jc_base.specs.WellMade.{IsLine, IsVar, IsWellMadeOfAnySize}
-use Rattle.jc_base.specs.declared.body.Body.{Body}
-use Rattle.jc_base.specs.declared.body.Handler.{Handler}
-use Rattle.jc_base.specs.declared.body.LineAt.{LineAt}
-use Rattle.jc_base.specs.declared.body.Use.{Use}
-use Rattle.jc_base.specs.declared.body.VarAt.{VarAt}
-use Rattle.jc_base.specs.declared.emitted.Emitted.{Emitted}
-use Rattle.jc_base.specs.declared.insn.Insn.{Insn}
-use Rattle.jc_base.specs.declared.kind.State.{State}
+use Rattle.jc_bytes.proofs.EachLaws.{all_weaker}
+use Rattle.jc_methods.specs.Held.{Names}
+use Rattle.jc_methods.specs.Starts.{insn_number}
+use Rattle.jc_methods.specs.WellMade.{IsLine, IsVar, IsWellMadeOfAnySize}
+use Rattle.jc_methods.specs.declared.body.Body.{Body}
+use Rattle.jc_methods.specs.declared.body.Handler.{Handler}
+use Rattle.jc_methods.specs.declared.body.LineAt.{LineAt}
+use Rattle.jc_methods.specs.declared.body.Use.{Use}
+use Rattle.jc_methods.specs.declared.body.VarAt.{VarAt}
+use Rattle.jc_methods.specs.declared.emitted.Emitted.{Emitted}
+use Rattle.jc_methods.specs.declared.insn.Insn.{Insn}
+use Rattle.jc_methods.specs.declared.kind.State.{State}
 use Rattle.jc_insn.specs.Layouts.{laid_code, laid_starts}
 use Rattle.jc_pool.specs.Pool.{PoolValue}
 use Rattle.jc_body.specs.Attributes.{AreTables}

@@ -1,9 +1,9 @@
 -- Places in the layout that is chosen, by their offsets.
 use Rattle.std.proofs.Common.{◌≡◌, ℕ, ◌<◌, ◌≤◌, Bool, true, false, List, [], ◌∷◌, length, refl, arith}
 use Rattle.std.specs.Prelude.{slice_index}
-use Rattle.jc_base.specs.Starts.{insn_number}
-use Rattle.jc_base.specs.declared.insn.Insn.{Insn}
-use Rattle.jc_base.proofs.WidenedLaws.{wide_length}
+use Rattle.jc_methods.specs.Starts.{insn_number}
+use Rattle.jc_methods.specs.declared.insn.Insn.{Insn}
+use Rattle.jc_methods.proofs.WidenedLaws.{wide_length}
 use Rattle.jc_insn.specs.Layouts.{laid_code, laid_starts}
 use Rattle.jc_insn.specs.Sizes.{StartAt}
 use Rattle.jc_insn.proofs.SizeSumsLaws.{count_starts}

@@ -1,8 +1,8 @@
 -- A method has one body, whatever the names with which it was read and whatever faults it was found to be without.
 use Rattle.std.proofs.Common.{◌≡◌, ℕ, List, map, Some, sym, ◌∙◌, subst}
-use Rattle.jc_base.specs.Held.{Names, seen_at}
-use Rattle.jc_base.specs.WellMade.{TakeSlots}
-use Rattle.jc_base.specs.declared.body.Body.{Body}
+use Rattle.jc_methods.specs.Held.{Names, seen_at}
+use Rattle.jc_methods.specs.WellMade.{TakeSlots}
+use Rattle.jc_methods.specs.declared.body.Body.{Body}
 use Rattle.jc_class.specs.declared.class_file.ClassFile.{ClassFile}
 use Rattle.jc_class.specs.declared.class_file.Member.{Member}
 use Rattle.jc_body.specs.Attributes.{AreTables}

@@ -3,9 +3,9 @@ use Rattle.std.proofs.Common.{◌≡◌, ℕ, zero, suc, ◌≤◌, List, [], �
 use Rattle.std.specs.List.{AllByRecursion}
 use Rattle.std.proofs.lemmas.List.{map-append, take-append-drop}
 use Rattle.std.proofs.lemmas.Simd.{map-map}
-use Rattle.jc_base.specs.Counted.{counted}
-use Rattle.jc_base.specs.Grammar.{Grammar}
-use Rattle.jc_base.specs.Held.{SeenAt}
+use Rattle.jc_bytes.specs.Counted.{counted}
+use Rattle.jc_bytes.specs.Grammar.{Grammar}
+use Rattle.jc_methods.specs.Held.{SeenAt}
 use Rattle.jc_frames.specs.FullFrames.{Places}
 use Rattle.jc_pool.specs.Lookup.{utf8_of}
 use Rattle.jc_pool.specs.Pool.{PoolValue}

@@ -6,17 +6,17 @@ use Rattle.std.proofs.Math.Facts.{sfits_to_z, sfits_widen}
 use Rattle.std.proofs.lemmas.List.Elements.{All-cons, All-map, All-nil}
 use Rattle.byteorder.specs.Endian.{big_number}
 use Rattle.byteorder.specs.Numbers.{big_from-lt}
-use Rattle.jc_base.specs.ByteLists.{AreBytes}
-use Rattle.jc_base.specs.InsnForm.{form_of}
-use Rattle.jc_base.specs.Insn.{with_places}
-use Rattle.jc_base.specs.Opcode as opcode
-use Rattle.jc_base.specs.Starts.{insn_number}
-use Rattle.jc_base.specs.declared.form.Form.{Form}
-use Rattle.jc_base.specs.declared.form.Form.TheVariants as forms
-use Rattle.jc_base.specs.declared.insn.Arm.{Arm}
-use Rattle.jc_base.specs.declared.insn.Insn.{Insn}
-use Rattle.jc_base.specs.declared.insn.Insn.TheVariants as insns
-use Rattle.jc_base.proofs.OneTextLaws.{big_below, both_bytes, byte_at}
+use Rattle.jc_bytes.specs.ByteLists.{AreBytes}
+use Rattle.jc_methods.specs.InsnForm.{form_of}
+use Rattle.jc_methods.specs.Insn.{with_places}
+use Rattle.jc_methods.specs.Opcode as opcode
+use Rattle.jc_methods.specs.Starts.{insn_number}
+use Rattle.jc_methods.specs.declared.form.Form.{Form}
+use Rattle.jc_methods.specs.declared.form.Form.TheVariants as forms
+use Rattle.jc_methods.specs.declared.insn.Arm.{Arm}
+use Rattle.jc_methods.specs.declared.insn.Insn.{Insn}
+use Rattle.jc_methods.specs.declared.insn.Insn.TheVariants as insns
+use Rattle.jc_bytes.proofs.OneTextLaws.{big_below, both_bytes, byte_at}
 use Rattle.jc_insn.specs.declared.item.Item.TheVariants as items
 use Rattle.jc_insn.specs.Fields.{Then, byte, nothing, piece}
 use Rattle.jc_insn.specs.Items.{IsItem, arm_in, arms_in, in_pieces, lookup_operands, number, operands, table_operands, wide_operands}

@@ -3,19 +3,19 @@ use Rattle.std.proofs.Common.{◌≡◌, ◌⊎◌, inl, inr, ℕ, ◌+◌, ◌�
 use Rattle.std.specs.Prelude.{Contains, slice_get, slice_index, ◌≢◌}
 use Rattle.std.specs.Int.Bits.{bit_and}
 use Rattle.std.proofs.lemmas.List.{length-map}
-use Rattle.jc_base.proofs.TestLaws.{stands_in, place_of}
-use Rattle.jc_base.specs.Held.{Names, AreNumberedFrames, Seen, SeenAt, seen_at}
-use Rattle.jc_base.specs.EntryState.{entry_seen}
-use Rattle.jc_base.specs.InsnUse.{pool_place, LeadsWithin, LocalsWithin}
-use Rattle.jc_base.specs.Starts.{AreStarts}
-use Rattle.jc_base.specs.WellMade.{TakeSlots, what_used}
-use Rattle.jc_base.specs.declared.body.Body.{Body}
-use Rattle.jc_base.specs.declared.body.FrameAt.{FrameAt}
-use Rattle.jc_base.specs.declared.body.Use.{Use}
-use Rattle.jc_base.specs.declared.body.What.{What}
-use Rattle.jc_base.specs.declared.emitted.Emitted.{Emitted}
-use Rattle.jc_base.specs.declared.insn.Insn.{Insn}
-use Rattle.jc_base.specs.declared.kind.State.{State}
+use Rattle.jc_bytes.proofs.TestLaws.{stands_in, place_of}
+use Rattle.jc_methods.specs.Held.{Names, AreNumberedFrames, Seen, SeenAt, seen_at}
+use Rattle.jc_methods.specs.EntryState.{entry_seen}
+use Rattle.jc_methods.specs.InsnUse.{pool_place, LeadsWithin, LocalsWithin}
+use Rattle.jc_methods.specs.Starts.{AreStarts}
+use Rattle.jc_methods.specs.WellMade.{TakeSlots, what_used}
+use Rattle.jc_methods.specs.declared.body.Body.{Body}
+use Rattle.jc_methods.specs.declared.body.FrameAt.{FrameAt}
+use Rattle.jc_methods.specs.declared.body.Use.{Use}
+use Rattle.jc_methods.specs.declared.body.What.{What}
+use Rattle.jc_methods.specs.declared.emitted.Emitted.{Emitted}
+use Rattle.jc_methods.specs.declared.insn.Insn.{Insn}
+use Rattle.jc_methods.specs.declared.kind.State.{State}
 use Rattle.jc_insn.proofs.DecodedInsnLaws.{are_starts}
 use Rattle.jc_pool.specs.Lookup.{utf8_of, class_name_of}
 use Rattle.jc_pool.specs.Pool.{PoolValue}

@@ -1,11 +1,11 @@
 -- What a class that was read holds of bytes are bytes.
 use Rattle.std.proofs.Common.{ℕ, zero, suc, ◌<◌, ◌^◌, List, sym, ◌∙◌, ap, subst, arith}
 use Rattle.std.specs.List.{AllByRecursion}
-use Rattle.jc_base.specs.ByteLists.{AreBytes}
-use Rattle.jc_base.specs.Counted.{counted}
-use Rattle.jc_base.specs.Grammar.{Grammar, times}
-use Rattle.jc_base.proofs.CountedLaws.{times_length}
-use Rattle.jc_base.proofs.OneTextLaws.{big_below, both_bytes}
+use Rattle.jc_bytes.specs.ByteLists.{AreBytes}
+use Rattle.jc_bytes.specs.Counted.{counted}
+use Rattle.jc_bytes.specs.Grammar.{Grammar, times}
+use Rattle.jc_bytes.proofs.CountedLaws.{times_length}
+use Rattle.jc_bytes.proofs.OneTextLaws.{big_below, both_bytes}
 use Rattle.jc_class.specs.ClassFormat.{HasMethodDescriptor, HasText, attribute, class_file, member}
 use Rattle.jc_class.specs.ClassText.{ClassText}
 use Rattle.jc_class.specs.Writable.{AreCounted}

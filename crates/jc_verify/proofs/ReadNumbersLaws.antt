@@ -2,20 +2,20 @@
 use Rattle.std.proofs.Common.{ℕ, ◌+◌, ◌<◌, ◌≤◌, ◌^◌, All, Bool, true, false, List, [], ◌∷◌, length, map, filter, sym, ◌∙◌, ap, subst, arith, if◌then◌else◌}
 use Rattle.std.specs.List.{AllByRecursion}
 use Rattle.std.proofs.lemmas.List.{length-map}
-use Rattle.jc_base.specs.ByteLists.{AreBytes}
-use Rattle.jc_base.specs.Counted.{counted}
-use Rattle.jc_base.specs.Grammar.{Grammar}
-use Rattle.jc_base.specs.Held.{Names}
-use Rattle.jc_base.specs.Starts.{insn_number}
-use Rattle.jc_base.specs.WellMade.{IsWellMadeOfAnySize}
-use Rattle.jc_base.specs.declared.body.Body.{Body}
-use Rattle.jc_base.specs.declared.body.Handler.{Handler}
-use Rattle.jc_base.specs.declared.body.LineAt.{LineAt}
-use Rattle.jc_base.specs.declared.body.VarAt.{VarAt}
-use Rattle.jc_base.specs.declared.emitted.Emitted.{Emitted}
-use Rattle.jc_base.specs.declared.kind.State.{State}
-use Rattle.jc_base.proofs.EachLaws.{all_both}
-use Rattle.jc_base.proofs.OneTextLaws.{big_below, both_bytes}
+use Rattle.jc_bytes.specs.ByteLists.{AreBytes}
+use Rattle.jc_bytes.specs.Counted.{counted}
+use Rattle.jc_bytes.specs.Grammar.{Grammar}
+use Rattle.jc_methods.specs.Held.{Names}
+use Rattle.jc_methods.specs.Starts.{insn_number}
+use Rattle.jc_methods.specs.WellMade.{IsWellMadeOfAnySize}
+use Rattle.jc_methods.specs.declared.body.Body.{Body}
+use Rattle.jc_methods.specs.declared.body.Handler.{Handler}
+use Rattle.jc_methods.specs.declared.body.LineAt.{LineAt}
+use Rattle.jc_methods.specs.declared.body.VarAt.{VarAt}
+use Rattle.jc_methods.specs.declared.emitted.Emitted.{Emitted}
+use Rattle.jc_methods.specs.declared.kind.State.{State}
+use Rattle.jc_bytes.proofs.EachLaws.{all_both}
+use Rattle.jc_bytes.proofs.OneTextLaws.{big_below, both_bytes}
 use Rattle.jc_pool.specs.Pool.{PoolValue}
 use Rattle.jc_class.specs.ClassFormat.{HasText, attribute}
 use Rattle.jc_class.specs.Writable.{AreCounted}

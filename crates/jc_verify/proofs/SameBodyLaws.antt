@@ -1,12 +1,12 @@
 -- A body under several lists of names: its frames say the same by names, and so the kind check comes to the same.
 use Rattle.std.proofs.Common.{◌≡◌, ◌⊎◌, inl, inr, ℕ, zero, suc, ◌<◌, List, [], ◌∷◌, length, map, get_or, Option, Some, None, if◌then◌else◌, refl, sym, ◌∙◌, ap, ap₂, subst, arith}
 use Rattle.std.specs.Option.{option_and_then, IsSome}
-use Rattle.jc_base.specs.Held.{Names, Seen, SeenAt, seen_at, AreNumberedFrames, Grows}
-use Rattle.jc_base.specs.EntryState.{entry_of}
-use Rattle.jc_base.specs.declared.body.Body.{Body}
-use Rattle.jc_base.specs.declared.body.FrameAt.{FrameAt}
-use Rattle.jc_base.specs.declared.body.Handler.{Handler}
-use Rattle.jc_base.proofs.SeenLaws.{frames_stay}
+use Rattle.jc_methods.specs.Held.{Names, Seen, SeenAt, seen_at, AreNumberedFrames, Grows}
+use Rattle.jc_methods.specs.EntryState.{entry_of}
+use Rattle.jc_methods.specs.declared.body.Body.{Body}
+use Rattle.jc_methods.specs.declared.body.FrameAt.{FrameAt}
+use Rattle.jc_methods.specs.declared.body.Handler.{Handler}
+use Rattle.jc_methods.proofs.SeenLaws.{frames_stay}
 use Rattle.jc_after.specs.After.{insn_at, after_of}
 use Rattle.jc_kinds.specs.Checked.{JumpsTo, GoesOnFrom, LeadsTo, FallsInto, Guards, NeedsFrame, IsMissing, at_handler, EntryClash, NoAfter, BranchClash, HandlerClash, IsClash, Checked, FirstMissing, FirstClash}
 use Rattle.jc_kinds.specs.Fits.{FitsThere}

@@ -2,10 +2,10 @@
 use Rattle.std.proofs.Common.{◌≡◌, ℕ, ◌<◌, ◌≤◌, List, [], ◌∷◌, ◌++◌, map, refl, sym, ◌∙◌, ap, subst, arith}
 use Rattle.std.specs.List.{AllByRecursion}
 use Rattle.std.proofs.lemmas.List.{append-nil}
-use Rattle.jc_base.specs.Held.{Names}
-use Rattle.jc_base.specs.WellMade.{IsVar}
-use Rattle.jc_base.specs.declared.body.VarAt.{VarAt}
-use Rattle.jc_base.specs.declared.emitted.Emitted.{Emitted}
+use Rattle.jc_methods.specs.Held.{Names}
+use Rattle.jc_methods.specs.WellMade.{IsVar}
+use Rattle.jc_methods.specs.declared.body.VarAt.{VarAt}
+use Rattle.jc_methods.specs.declared.emitted.Emitted.{Emitted}
 use Rattle.jc_pool.specs.Pool.{PoolValue}
 use Rattle.jc_class.specs.declared.class_file.Attribute.{Attribute}
 use Rattle.jc_body.specs.Attributes.{AreEntries, AreTables, bodies_of}

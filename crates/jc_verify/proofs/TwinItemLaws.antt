@@ -4,19 +4,19 @@ use Rattle.std.specs.Prelude.{slice_get, Contains}
 use Rattle.std.specs.List.{AllByRecursion}
 use Rattle.std.proofs.lemmas.Bool.{cond_both}
 use Rattle.std.proofs.lemmas.Option.{none-some, same_Some, slice_get_within}
-use Rattle.jc_base.proofs.EachLaws.{all_weaker}
-use Rattle.jc_base.proofs.FirstSeenLaws.{first_seen_all}
-use Rattle.jc_base.specs.FirstSeen.{first_seen}
-use Rattle.jc_base.specs.Flow.{flow_of, targets_of, FallsThrough}
-use Rattle.jc_base.specs.Insn.{with_places}
-use Rattle.jc_base.specs.InsnUse.{LeadsWithin, LocalsWithin, is_of_two_slots, locals_of}
-use Rattle.jc_base.specs.WellMade.{IsCode}
-use Rattle.jc_base.specs.Widened.{inverted}
-use Rattle.jc_base.specs.declared.insn.Insn.{Insn}
-use Rattle.jc_base.specs.declared.insn.Insn.TheVariants as insns
-use Rattle.jc_base.specs.declared.insn.Flow.{Flow}
-use Rattle.jc_base.specs.declared.insn.Flow.TheVariants as flows
-use Rattle.jc_base.specs.declared.body.Body.{Body}
+use Rattle.jc_bytes.proofs.EachLaws.{all_weaker}
+use Rattle.jc_bytes.proofs.FirstSeenLaws.{first_seen_all}
+use Rattle.jc_bytes.specs.FirstSeen.{first_seen}
+use Rattle.jc_methods.specs.Flow.{flow_of, targets_of, FallsThrough}
+use Rattle.jc_methods.specs.Insn.{with_places}
+use Rattle.jc_methods.specs.InsnUse.{LeadsWithin, LocalsWithin, is_of_two_slots, locals_of}
+use Rattle.jc_methods.specs.WellMade.{IsCode}
+use Rattle.jc_methods.specs.Widened.{inverted}
+use Rattle.jc_methods.specs.declared.insn.Insn.{Insn}
+use Rattle.jc_methods.specs.declared.insn.Insn.TheVariants as insns
+use Rattle.jc_methods.specs.declared.insn.Flow.{Flow}
+use Rattle.jc_methods.specs.declared.insn.Flow.TheVariants as flows
+use Rattle.jc_methods.specs.declared.body.Body.{Body}
 use Rattle.jc_plan.specs.declared.branch.Branch.{Branch}
 use Rattle.jc_plan.specs.Edges.{branches_by}
 use Rattle.jc_plan.specs.Probed.{probe_of}

@@ -5,13 +5,13 @@ use Rattle.std.specs.List.{list_any}
 use Rattle.std.proofs.lemmas.Bool.{true≢false, eq-eqb}
 use Rattle.std.proofs.lemmas.List.Elements.{Contains-append_cases}
 use Rattle.std.proofs.lemmas.Option.{none-some}
-use Rattle.jc_base.proofs.FirstSeenLaws.{contains_one}
-use Rattle.jc_base.proofs.TestLaws.{any_decided, equal_decided, none_in, which_in, first_in, later_in}
-use Rattle.jc_base.specs.InsnUse.{pool_place}
-use Rattle.jc_base.specs.WellMade.{what_used}
-use Rattle.jc_base.specs.declared.body.Use.{Use}
-use Rattle.jc_base.specs.declared.body.What.{What}
-use Rattle.jc_base.specs.declared.insn.Insn.{Insn}
+use Rattle.jc_bytes.proofs.FirstSeenLaws.{contains_one}
+use Rattle.jc_bytes.proofs.TestLaws.{any_decided, equal_decided, none_in, which_in, first_in, later_in}
+use Rattle.jc_methods.specs.InsnUse.{pool_place}
+use Rattle.jc_methods.specs.WellMade.{what_used}
+use Rattle.jc_methods.specs.declared.body.Use.{Use}
+use Rattle.jc_methods.specs.declared.body.What.{What}
+use Rattle.jc_methods.specs.declared.insn.Insn.{Insn}
 use Rattle.jc_pool.specs.Pool.{PoolValue}
 use Rattle.jc_body.specs.BodyOf.{some_of, insn_places, row_places, places_used, AreUsesOf}
 use Rattle.jc_body.specs.Standing.{what_at}

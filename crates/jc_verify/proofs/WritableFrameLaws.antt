@@ -3,11 +3,11 @@ use Rattle.std.proofs.Common.{◌≡◌, ℕ, zero, suc, ◌+◌, ◌-◌, ◌<�
 use Rattle.std.specs.Prelude.{slice_get, slice_index}
 use Rattle.std.specs.List.{AllByRecursion}
 use Rattle.std.proofs.lemmas.List.{length-map}
-use Rattle.jc_base.proofs.StartsLaws.{number_at, rising}
-use Rattle.jc_base.specs.FrameOrder.{RiseFrom}
-use Rattle.jc_base.specs.Held.{Names, Held, top, int, float, double, long, null, uninit_this, object, uninit, class_names, Seen, SeenAt, slots, seen_at}
-use Rattle.jc_base.specs.Starts.{insn_number, AreStarts}
-use Rattle.jc_base.specs.declared.body.FrameAt.{FrameAt}
+use Rattle.jc_methods.proofs.StartsLaws.{number_at, rising}
+use Rattle.jc_methods.specs.FrameOrder.{RiseFrom}
+use Rattle.jc_methods.specs.Held.{Names, Held, top, int, float, double, long, null, uninit_this, object, uninit, class_names, Seen, SeenAt, slots, seen_at}
+use Rattle.jc_methods.specs.Starts.{insn_number, AreStarts}
+use Rattle.jc_methods.specs.declared.body.FrameAt.{FrameAt}
 use Rattle.jc_pool.specs.Adding.{IsFirst}
 use Rattle.jc_pool.specs.Lookup.{class_name_of}
 use Rattle.jc_pool.proofs.AddedLaws.{class_within}

@@ -1,11 +1,11 @@
 -- What is read of an instrumented method's code that was written (JVM Specification 4.7.3, 4.7.12 to 4.7.14).
 use Rattle.std.specs.Prelude.{ℕ, ◌-◌, List, map}
-use Rattle.jc_base.specs.Held.{Names}
-use Rattle.jc_base.specs.declared.body.Handler.{Handler}
-use Rattle.jc_base.specs.declared.body.LineAt.{LineAt}
-use Rattle.jc_base.specs.declared.body.VarAt.{VarAt}
-use Rattle.jc_base.specs.declared.emitted.Emitted.{Emitted}
-use Rattle.jc_base.specs.declared.insn.Insn.{Insn}
+use Rattle.jc_methods.specs.Held.{Names}
+use Rattle.jc_methods.specs.declared.body.Handler.{Handler}
+use Rattle.jc_methods.specs.declared.body.LineAt.{LineAt}
+use Rattle.jc_methods.specs.declared.body.VarAt.{VarAt}
+use Rattle.jc_methods.specs.declared.emitted.Emitted.{Emitted}
+use Rattle.jc_methods.specs.declared.insn.Insn.{Insn}
 use Rattle.jc_pool.specs.Pool.{PoolValue}
 use Rattle.jc_insn.specs.Layouts.{laid_code, laid_starts}
 use Rattle.jc_body.specs.declared.coded.Coded.{Coded}

@@ -1,10 +1,10 @@
 -- A method whose instrumented code is written into the class: what is given where its bytes are read again.
 use Rattle.std.specs.Prelude.{◌≡◌, ℕ, ℤ, List, [], ◌∷◌, length, Some}
-use Rattle.jc_base.specs.Held.{Names}
-use Rattle.jc_base.specs.WellMade.{IsWellMadeOfAnySize}
-use Rattle.jc_base.specs.declared.body.Body.{Body}
-use Rattle.jc_base.specs.declared.emitted.Emitted.{Emitted}
-use Rattle.jc_base.specs.declared.kind.State.{State}
+use Rattle.jc_methods.specs.Held.{Names}
+use Rattle.jc_methods.specs.WellMade.{IsWellMadeOfAnySize}
+use Rattle.jc_methods.specs.declared.body.Body.{Body}
+use Rattle.jc_methods.specs.declared.emitted.Emitted.{Emitted}
+use Rattle.jc_methods.specs.declared.kind.State.{State}
 use Rattle.jc_pool.specs.Adding.{Extends}
 use Rattle.jc_pool.specs.Lookup.{Member as MemberText, class_name_of, long_of, member_of, string_of, utf8_of}
 use Rattle.jc_pool.specs.Pool.{PoolValue}

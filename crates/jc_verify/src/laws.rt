@@ -1,8 +1,8 @@
 //! Laws of instrumented methods that were written.
 ghost use Rattle.std.specs.Prelude.{ℕ, ℤ, List};
-ghost use Rattle.jc_base.specs.Held.{Names};
-ghost use Rattle.jc_base.specs.declared.body.Body.{Body};
-ghost use Rattle.jc_base.specs.declared.kind.State.{State};
+ghost use Rattle.jc_methods.specs.Held.{Names};
+ghost use Rattle.jc_methods.specs.declared.body.Body.{Body};
+ghost use Rattle.jc_methods.specs.declared.kind.State.{State};
 ghost use Rattle.jc_class.specs.declared.class_file.ClassFile.{ClassFile};
 ghost use Rattle.jc_class.specs.declared.class_file.Member.{Member};
 ghost use Rattle.jc_code.specs.declared.code.CodePlaces.{CodePlaces};

@@ -1,5 +1,5 @@
 use Rattle.std.proofs.Common.{◌≡◌, ℕ, zero, suc, ◌≤◌, List, [], ◌∷◌, map, take, replicate, refl, ap, ◌∙◌, arith}
-use Rattle.jc_base.specs.Held.{held, seen}
+use Rattle.jc_methods.specs.Held.{held, seen}
 use Rattle.jc_after.specs.declared.want.Want.{Want}
 use Rattle.jc_after.specs.declared.want.Want.TheVariants as wants
 use Rattle.jc_after.specs.declared.arrays.TheConstants.{INTS}

@@ -1,7 +1,7 @@
 use Rattle.std.proofs.Common.{◌+◌, sym, ◌∙◌, ap, map, drop}
 use Rattle.std.specs.List.{flat_map}
 use Rattle.jc_after.specs.declared.table.Shape.TheVariants as shapes
-use Rattle.jc_base.specs.Held.{held}
+use Rattle.jc_methods.specs.Held.{held}
 use Rattle.jc_after.specs.Step.{moved_by}
 use Rattle.jc_after.specs.Shapes.{forms_of}
 use Rattle.jc_after.proofs.MovesLaws.{forms_on, forms_end}

@@ -1,6 +1,6 @@
 use Rattle.std.proofs.Common.{◌≡◌, ℕ, drop, map}
 use Rattle.std.specs.List.{flat_map}
-use Rattle.jc_base.specs.Held.{Names, held}
+use Rattle.jc_methods.specs.Held.{Names, held}
 use Rattle.jc_after.specs.Step.{moved_by}
 use Rattle.jc_after.specs.Shapes.{forms_of}
 use Rattle.jc_after.specs.Table.{forms_at}

@@ -1,6 +1,6 @@
 use Rattle.std.proofs.Common.{◌-◌, sym, ◌∙◌, ap, arith, length, map}
 use Rattle.std.proofs.lemmas.List.{length-map, length-drop}
-use Rattle.jc_base.specs.Held.{held}
+use Rattle.jc_methods.specs.Held.{held}
 use Rattle.jc_after.specs.Wants.{accepts_all}
 use Rattle.jc_after.specs.Step.{upper}
 use Rattle.jc_after.proofs.MovesLaws.{all-unequal, upper_slice}

@@ -1,7 +1,7 @@
 use Rattle.std.proofs.Common.{◌≡◌, sym, ◌∙◌, ap, map, subst, List}
-use Rattle.jc_base.specs.declared.kind.Kind.{Kind}
+use Rattle.jc_methods.specs.declared.kind.Kind.{Kind}
 use Rattle.jc_after.specs.Shapes.{moved_in, form_of}
-use Rattle.jc_base.specs.Held.{seen, held}
+use Rattle.jc_methods.specs.Held.{seen, held}
 use Rattle.jc_after.specs.Table.{forms_at}
 use Rattle.jc_after.specs.Step.{with_stack, moved_by}
 use Rattle.jc_after.proofs.by_opcode.move_by_opcode.Goals as goal

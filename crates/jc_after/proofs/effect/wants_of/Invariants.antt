@@ -1,5 +1,5 @@
 use Rattle.std.proofs.Common.{◌≡◌, ◌∷◌, map, take}
-use Rattle.jc_base.specs.ValueTypes.{held_by}
+use Rattle.jc_methods.specs.ValueTypes.{held_by}
 use Rattle.jc_after.specs.After.{want_for}
 use Rattle.jc_after.specs.declared.want.Want.TheVariants as wants
 use Rattle.jc_after.proofs.effect.wants_of.Given as goal

@@ -1,6 +1,6 @@
 use Rattle.std.proofs.Common.{◌-◌, ap, sym, ◌∙◌, arith}
-use Rattle.jc_base.specs.declared.kind.Kind.TheVariants as kinds
-use Rattle.jc_base.specs.Held.{held}
+use Rattle.jc_methods.specs.declared.kind.Kind.TheVariants as kinds
+use Rattle.jc_methods.specs.Held.{held}
 use Rattle.jc_after.specs.Step.{cleared}
 use Rattle.jc_after.proofs.LocalsLaws.{cleared_there, read_is}
 use Rattle.jc_after.proofs.locals.clear_before.Goals as goal

@@ -1,7 +1,7 @@
 use Rattle.std.proofs.Common.{List, length, map, ap, ◌∙◌, arith}
 use Rattle.std.proofs.lemmas.List.{length-set}
-use Rattle.jc_base.specs.declared.kind.Kind.{Kind}
-use Rattle.jc_base.specs.Held.{held}
+use Rattle.jc_methods.specs.declared.kind.Kind.{Kind}
+use Rattle.jc_methods.specs.Held.{held}
 use Rattle.jc_after.specs.Step.{put_local}
 use Rattle.jc_after.proofs.LocalsLaws.{put_there}
 use Rattle.jc_after.proofs.locals.put_local.Goals as goal

@@ -1,5 +1,5 @@
 use Rattle.std.proofs.Common.{sym, ◌∙◌}
-use Rattle.jc_base.specs.Held.{held}
+use Rattle.jc_methods.specs.Held.{held}
 use Rattle.jc_after.proofs.LocalsLaws.{second_there}
 use Rattle.jc_after.proofs.locals.put_second.Goals as goal
 

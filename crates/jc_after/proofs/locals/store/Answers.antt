@@ -1,5 +1,5 @@
 use Rattle.std.proofs.Common.{List, length, take, ◌-◌, refl, sym, ◌∙◌, ap}
-use Rattle.jc_base.specs.declared.kind.Kind.{Kind}
+use Rattle.jc_methods.specs.declared.kind.Kind.{Kind}
 use Rattle.jc_after.proofs.LocalsLaws.{store_no, store_yes, some_items}
 use Rattle.jc_after.proofs.locals.store.Goals as goal
 

@@ -1,5 +1,5 @@
 use Rattle.std.proofs.Common.{◌≡◌, ◌+◌, map, drop}
-use Rattle.jc_base.specs.Held.{Names, held, slots}
+use Rattle.jc_methods.specs.Held.{Names, held, slots}
 use Rattle.jc_after.proofs.moves.is_within.Given as goal
 
 abbrev pub invariant-counting : goal.invariant-counting

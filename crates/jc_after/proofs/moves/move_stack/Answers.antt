@@ -1,6 +1,6 @@
 use Rattle.std.proofs.Common.{◌≡◌, ◌-◌, List, map, length, refl, sym, ◌∙◌, arith, ap, Some, nat_le}
-use Rattle.jc_base.specs.declared.kind.Kind.{Kind}
-use Rattle.jc_base.specs.Held.{held, slots}
+use Rattle.jc_methods.specs.declared.kind.Kind.{Kind}
+use Rattle.jc_methods.specs.Held.{held, slots}
 use Rattle.jc_after.specs.Wants.{accepts_all}
 use Rattle.jc_after.specs.Step.{given_of}
 use Rattle.jc_after.specs.Shapes.{gives_of}

@@ -1,5 +1,5 @@
 use Rattle.std.proofs.Common.{◌≡◌, map, take, ◌++◌}
-use Rattle.jc_base.specs.Held.{Names, held}
+use Rattle.jc_methods.specs.Held.{Names, held}
 use Rattle.jc_after.specs.Step.{given_of}
 use Rattle.jc_after.specs.Shapes.{gives_of}
 use Rattle.jc_after.proofs.moves.move_stack.Given as goal

@@ -1,5 +1,5 @@
 use Rattle.std.proofs.Common.{map, sym, ◌∙◌}
-use Rattle.jc_base.specs.Held.{held}
+use Rattle.jc_methods.specs.Held.{held}
 use Rattle.jc_after.proofs.MovesLaws.{no_items}
 use Rattle.jc_after.proofs.moves.operands_for.Goals as goal
 

@@ -1,5 +1,5 @@
 use Rattle.std.proofs.Common.{List, map, refl, sym, ap, ◌∙◌}
-use Rattle.jc_base.specs.declared.kind.Kind.{Kind}
+use Rattle.jc_methods.specs.declared.kind.Kind.{Kind}
 use Rattle.std.specs.List.{list_any}
 use Rattle.jc_after.specs.Objects.{left_by, is_made_by}
 use Rattle.jc_after.proofs.ObjectsLaws.{make_no, make_yes, make_none, some_put}

@@ -1,5 +1,5 @@
 use Rattle.std.proofs.Common.{◌<◌, length, sym, subst, IfOk, IfSome}
-use Rattle.jc_base.specs.declared.body.Body.{Body}
+use Rattle.jc_methods.specs.declared.body.Body.{Body}
 use Rattle.jc_after.specs.Answers.{IsStateOf, IsWhole}
 use Rattle.jc_after.proofs.DoesLaws.{grown_twice}
 use Rattle.jc_after.proofs.EffectsLaws.{of_body, state_later}

@@ -1,5 +1,5 @@
 use Rattle.std.proofs.Common.{ap}
-use Rattle.jc_base.specs.declared.body.Use.{Use}
+use Rattle.jc_methods.specs.declared.body.Use.{Use}
 use Rattle.jc_after.proofs.DoesLaws.{grown_twice}
 use Rattle.jc_after.proofs.UsesLaws.{said_more}
 use Rattle.jc_after.proofs.uses.all_effects.Goals as goal

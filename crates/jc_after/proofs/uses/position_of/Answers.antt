@@ -1,6 +1,6 @@
 use Rattle.std.proofs.Common.{rules}
 use Rattle.std.proofs.lemmas.List.Sorted.{IsPartitionPoint-from_clause}
-use Rattle.jc_base.proofs.UsedLaws.{is_below, parted}
+use Rattle.jc_methods.proofs.UsedLaws.{is_below, parted}
 use Rattle.jc_after.proofs.UsesLaws.{position_within, position_used}
 use Rattle.jc_after.proofs.uses.position_of.Goals as goal
 

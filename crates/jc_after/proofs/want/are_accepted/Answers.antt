@@ -1,6 +1,6 @@
 use Rattle.std.proofs.Common.{map, sym, ◌∙◌, arith}
 use Rattle.std.proofs.lemmas.List.{length-map}
-use Rattle.jc_base.specs.Held.{held}
+use Rattle.jc_methods.specs.Held.{held}
 use Rattle.jc_after.proofs.MovesLaws.{all-unequal, all_no, all_yes, all_end}
 use Rattle.jc_after.proofs.want.are_accepted.Goals as goal
 

@@ -1,5 +1,5 @@
 use Rattle.std.proofs.Common.{◌≡◌, map, drop}
-use Rattle.jc_base.specs.Held.{Names, held}
+use Rattle.jc_methods.specs.Held.{Names, held}
 use Rattle.jc_after.specs.Wants.{accepts_all}
 use Rattle.jc_after.proofs.want.are_accepted.Given as goal
 

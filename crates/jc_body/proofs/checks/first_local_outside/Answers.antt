@@ -1,6 +1,6 @@
 use Rattle.std.proofs.Common.{rules, tests}
 use Rattle.std.proofs.lemmas.Iterator.{YieldsList-from_slice}
-use Rattle.jc_base.specs.InsnUse.{LocalsWithin}
+use Rattle.jc_methods.specs.InsnUse.{LocalsWithin}
 use Rattle.jc_body.proofs.FirstLaws.{first_by_position}
 use Rattle.jc_body.proofs.checks.first_local_outside.Goals as goal
 

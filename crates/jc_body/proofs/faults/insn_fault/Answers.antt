@@ -1,6 +1,6 @@
 use Rattle.std.proofs.Common.{◌≡◌, inl, inr, List, length, rules, refl, subst, arith}
-use Rattle.jc_base.specs.declared.insn.Insn.{Insn}
-use Rattle.jc_base.specs.InsnUse.{LocalsWithin}
+use Rattle.jc_methods.specs.declared.insn.Insn.{Insn}
+use Rattle.jc_methods.specs.InsnUse.{LocalsWithin}
 use Rattle.jc_body.specs.First.{FirstItem}
 use Rattle.jc_body.specs.Faults.{IsAstray}
 use Rattle.jc_body.specs.Standing.{HasRightEntry}

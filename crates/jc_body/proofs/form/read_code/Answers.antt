@@ -1,5 +1,5 @@
 use Rattle.std.proofs.Common.{length, sym, ◌∙◌}
-use Rattle.jc_base.proofs.DecidingLaws.{Decides}
+use Rattle.jc_bytes.proofs.DecidingLaws.{Decides}
 use Rattle.jc_body.specs.CodeForm.{code_form}
 use Rattle.jc_body.specs.CodeReading.{code_at}
 use Rattle.jc_body.proofs.FormLaws.{Fitting, code_agrees, read_whole, read_part, read_refused, some_code, no_code, unfit, sized, unsized}

@@ -1,6 +1,6 @@
 use Rattle.std.proofs.Common.{◌≡◌, ℕ, ◌+◌, ◌<◌, List, length, get_or, rules, subst}
-use Rattle.jc_base.specs.Starts.{insn_number}
-use Rattle.jc_base.proofs.StartsLaws.{numbers_are}
+use Rattle.jc_methods.specs.Starts.{insn_number}
+use Rattle.jc_methods.proofs.StartsLaws.{numbers_are}
 use Rattle.jc_body.proofs.places.numbers_of.Goals as goal
 
 pub returns : goal.returns

@@ -1,6 +1,6 @@
 use Rattle.std.proofs.Common.{◌∙◌, ℕ, ◌<◌, List, Some, rules, refl, sym, ap, subst, arith}
 use Rattle.std.proofs.lemmas.Option.{same_Some}
-use Rattle.jc_base.specs.WellMade.{TakeSlots}
+use Rattle.jc_methods.specs.WellMade.{TakeSlots}
 use Rattle.jc_body.proofs.ArgumentLaws.{arguments_fit}
 use Rattle.jc_body.proofs.PartsLaws.{handlers_by, lines_by, vars_by, frames_by}
 use Rattle.jc_body.proofs.reading.assembled.Goals as goal

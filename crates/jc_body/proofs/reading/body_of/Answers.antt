@@ -1,5 +1,5 @@
 use Rattle.std.proofs.Common.{codes, rules, All}
-use Rattle.jc_base.specs.Outside.{most_read}
+use Rattle.jc_bytes.specs.Reader.{most_read}
 use Rattle.jc_pool.specs.Pool.{PoolValue}
 use Rattle.jc_class.specs.declared.class_file.Member.{Member}
 use Rattle.jc_body.specs.declared.coded.Coded.{Coded}

@@ -1,6 +1,6 @@
 use Rattle.std.proofs.Common.{◌∙◌, ℕ, ◌<◌, rules, ap, subst, arith}
-use Rattle.jc_base.specs.EntryState.{entry_seen}
-use Rattle.jc_base.specs.WellMade.{IsState}
+use Rattle.jc_methods.specs.EntryState.{entry_seen}
+use Rattle.jc_methods.specs.WellMade.{IsState}
 use Rattle.jc_body.proofs.stack_map.entry_of.Goals as goal
 
 pub returns-in-Ok-clause-entry : goal.returns-in-Ok-clause-entry

@@ -1,5 +1,5 @@
 use Rattle.std.proofs.Common.{map, inl, inr, rules, arith}
-use Rattle.jc_base.specs.Held.{seen_at}
+use Rattle.jc_methods.specs.Held.{seen_at}
 use Rattle.jc_body.proofs.SizeLaws.{insns_short}
 use Rattle.jc_body.proofs.StackMapLaws.{is_faulty, no_fault, stand_there, few_starts, offsets_of, nowhere_wide}
 use Rattle.jc_body.proofs.stack_map.frames_of_table.Goals as goal

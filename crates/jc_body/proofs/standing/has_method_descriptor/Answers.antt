@@ -1,4 +1,4 @@
-use Rattle.jc_base.specs.Descriptor.{IsMethodDescriptor}
+use Rattle.jc_bytes.specs.Descriptor.{IsMethodDescriptor}
 use Rattle.jc_pool.specs.Lookup.{Member, member}
 use Rattle.jc_body.proofs.StandingLaws.{of_member_there}
 use Rattle.jc_body.proofs.standing.has_method_descriptor.Goals as goal

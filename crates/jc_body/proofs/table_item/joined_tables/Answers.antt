@@ -1,5 +1,5 @@
 use Rattle.std.proofs.Common.{List, ◌++◌, ◌∙◌, ap}
-use Rattle.jc_base.specs.Counted.{counted}
+use Rattle.jc_bytes.specs.Counted.{counted}
 use Rattle.jc_body.proofs.TablesLaws.{table_joined, table_missing, tables_joined}
 use Rattle.jc_body.proofs.table_item.joined_tables.Goals as goal
 

@@ -1,5 +1,5 @@
 use Rattle.std.proofs.Common.{drop}
-use Rattle.jc_base.specs.Counted.{counted}
+use Rattle.jc_bytes.specs.Counted.{counted}
 use Rattle.jc_body.proofs.TablesLaws.{Joining, texts}
 use Rattle.jc_body.proofs.table_item.joined_tables.Given as goal
 

@@ -1,6 +1,6 @@
 use Rattle.std.proofs.Common.{sym, ◌∙◌}
-use Rattle.jc_base.specs.Counted.{counted, counted_at}
-use Rattle.jc_base.proofs.CountedLaws.{agrees_counted}
+use Rattle.jc_bytes.specs.Counted.{counted, counted_at}
+use Rattle.jc_bytes.proofs.CountedLaws.{agrees_counted}
 use Rattle.jc_body.proofs.FormLaws.{read_whole, read_part, read_refused}
 use Rattle.jc_body.proofs.table_item.whole_table.Goals as goal
 use Rattle.jc_body.proofs.table_item.whole_table.Goals.{then-whole, else-whole}

@@ -1,7 +1,7 @@
 use Rattle.std.proofs.Common.{◌∙◌, ap, get_or, sym, subst, Option, None, Some, IfSome}
 use Rattle.std.proofs.lemmas.List.{append-nil}
-use Rattle.jc_base.specs.declared.body.What.{What}
-use Rattle.jc_base.specs.WellMade.{HasShortTexts}
+use Rattle.jc_methods.specs.declared.body.What.{What}
+use Rattle.jc_methods.specs.WellMade.{HasShortTexts}
 use Rattle.jc_body.proofs.UsesLaws.{lists_more, short_more}
 use Rattle.jc_body.proofs.uses.listed_uses.Goals.{in-Some+in_ok-push, in_default}
 use Rattle.jc_body.proofs.uses.listed_uses.Goals as goal

@@ -1,5 +1,5 @@
 use Rattle.std.proofs.Common.{◌≡◌, take, All}
-use Rattle.jc_base.specs.WellMade.{HasShortTexts}
+use Rattle.jc_methods.specs.WellMade.{HasShortTexts}
 use Rattle.jc_body.specs.Used.{uses_of}
 use Rattle.jc_body.proofs.uses.listed_uses.Given as goal
 

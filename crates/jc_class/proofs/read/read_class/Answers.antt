@@ -1,7 +1,7 @@
 use Rattle.std.proofs.Common.{length, arith}
 use Rattle.jc_class.proofs.ClassLaws.{reads, refuses, takes, fails_there}
-use Rattle.jc_base.specs.Outside.{most_read}
-use Rattle.jc_base.proofs.OneTextLaws.{are_bytes}
+use Rattle.jc_bytes.specs.Reader.{most_read}
+use Rattle.jc_bytes.proofs.OneTextLaws.{are_bytes}
 use Rattle.jc_class.proofs.SizesLaws.{all_within}
 use Rattle.jc_class.proofs.WritableLaws.{wholes}
 use Rattle.jc_class.proofs.read.read_class.Goals as goal

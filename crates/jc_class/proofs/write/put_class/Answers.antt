@@ -1,15 +1,15 @@
 use Rattle.std.proofs.Common.{ℕ, List, subst, arith}
 use Rattle.std.proofs.lemmas.Result.{on_ok_weaker}
-use Rattle.jc_base.specs.Appending.{Appends, Appended}
+use Rattle.jc_bytes.specs.Appending.{Appends, Appended}
 use Rattle.jc_pool.specs.PoolGrammar as pools
 use Rattle.jc_class.specs.declared.class_file.Attribute.{Attribute}
 use Rattle.jc_class.specs.declared.class_file.Member.{Member}
-use Rattle.jc_base.specs.Counted.{counted}
-use Rattle.jc_base.specs.ItemForms.{number_where}
+use Rattle.jc_bytes.specs.Counted.{counted}
+use Rattle.jc_bytes.specs.ItemForms.{number_where}
 use Rattle.jc_class.specs.ClassFormat.{attribute, member, HasText, HasFieldDescriptor, HasMethodDescriptor}
 use Rattle.jc_class.specs.Writable.{Anything}
 use Rattle.jc_class.proofs.NamedLaws.{any_members, any_attributes, class_put}
-use Rattle.jc_base.proofs.OneTextLaws.{items_are_bytes}
+use Rattle.jc_bytes.proofs.OneTextLaws.{items_are_bytes}
 use Rattle.jc_class.proofs.write.put_class.Goals as goal
 
 pub put_members-requires : goal.put_members-requires

@@ -1,6 +1,6 @@
 use Rattle.std.proofs.Common.{length, refl}
 use Rattle.std.proofs.lemmas.Result.{on_ok_weaker}
-use Rattle.jc_base.specs.ItemForms.{number_where}
+use Rattle.jc_bytes.specs.ItemForms.{number_where}
 use Rattle.jc_class.specs.Writable.{Anything}
 use Rattle.jc_class.proofs.WritingLaws.{counted_put}
 use Rattle.jc_class.proofs.write.put_interfaces.Goals as goal

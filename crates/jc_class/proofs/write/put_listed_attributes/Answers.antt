@@ -1,4 +1,4 @@
-use Rattle.jc_base.proofs.AppendingLaws.{all_written}
+use Rattle.jc_bytes.proofs.AppendingLaws.{all_written}
 use Rattle.jc_class.specs.ClassFormat.{attribute}
 use Rattle.jc_class.specs.Writable.{Anything, IsAttribute}
 use Rattle.jc_class.proofs.WritingLaws.{puts_begun, next_fits, puts_more}

@@ -1,6 +1,6 @@
 use Rattle.std.proofs.Common.{get_or}
-use Rattle.jc_base.proofs.AppendingLaws.{writing_begun, drop_at, writes_next, all_written}
-use Rattle.jc_base.specs.ItemForms.{number_where}
+use Rattle.jc_bytes.proofs.AppendingLaws.{writing_begun, drop_at, writes_next, all_written}
+use Rattle.jc_bytes.specs.ItemForms.{number_where}
 use Rattle.jc_class.specs.Writable.{Anything}
 use Rattle.jc_class.proofs.WritingLaws.{interface_put}
 use Rattle.jc_class.proofs.write.put_listed_interfaces.Goals as goal

@@ -1,6 +1,6 @@
 use Rattle.std.proofs.Common.{drop}
-use Rattle.jc_base.proofs.AppendingLaws.{Writing}
-use Rattle.jc_base.specs.ItemForms.{number_where}
+use Rattle.jc_bytes.proofs.AppendingLaws.{Writing}
+use Rattle.jc_bytes.specs.ItemForms.{number_where}
 use Rattle.jc_class.specs.Writable.{Anything}
 use Rattle.jc_class.proofs.write.put_listed_interfaces.Given as goal
 

@@ -1,8 +1,8 @@
 use Rattle.std.proofs.Common.{List, subst}
 use Rattle.std.proofs.lemmas.Result.{on_ok_weaker}
-use Rattle.jc_base.specs.Appending.{Appended}
+use Rattle.jc_bytes.specs.Appending.{Appended}
 use Rattle.jc_class.specs.declared.class_file.Attribute.{Attribute}
-use Rattle.jc_base.specs.Counted.{counted}
+use Rattle.jc_bytes.specs.Counted.{counted}
 use Rattle.jc_class.specs.ClassFormat.{attribute}
 use Rattle.jc_class.specs.Writable.{Anything}
 use Rattle.jc_class.proofs.WritingLaws.{member_put}

@@ -1,9 +1,9 @@
 use Rattle.std.proofs.Common.{◌≡◌, ◌++◌, List, map, ◌∙◌, ap}
 use Rattle.std.specs.Prelude.{slice_index}
 use Rattle.std.specs.List.{flat_map}
-use Rattle.jc_base.specs.Held.{seen_at}
-use Rattle.jc_base.specs.declared.body.LineAt.{LineAt}
-use Rattle.jc_base.specs.declared.body.VarAt.{VarAt}
+use Rattle.jc_methods.specs.Held.{seen_at}
+use Rattle.jc_methods.specs.declared.body.LineAt.{LineAt}
+use Rattle.jc_methods.specs.declared.body.VarAt.{VarAt}
 use Rattle.jc_code.specs.CodeText.{attribute_text, table_attributes, frame_attributes, line_text, var_text}
 use Rattle.jc_code.specs.TwinCode.{places_by}
 use Rattle.jc_code.proofs.AttributeLaws.{all_text}

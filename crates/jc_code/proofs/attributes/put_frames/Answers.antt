@@ -1,7 +1,7 @@
 use Rattle.std.proofs.Common.{◌++◌, ℕ, List, length, map, sym, ◌∙◌, ap, subst, arith}
 use Rattle.std.specs.Prelude.{slice_index}
 use Rattle.std.proofs.lemmas.List.{length-map}
-use Rattle.jc_base.specs.Held.{seen_at}
+use Rattle.jc_methods.specs.Held.{seen_at}
 use Rattle.jc_frames.specs.FullTable.{ArePlacesIn, named_by_all}
 use Rattle.jc_pool.specs.Pool.{PoolValue}
 use Rattle.jc_code.specs.TwinCode.{places_by}

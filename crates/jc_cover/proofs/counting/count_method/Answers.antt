@@ -1,5 +1,5 @@
 use Rattle.std.proofs.Common.{◌≡◌, ◌++◌, Bool, true, cond, List, [], ◌∷◌, sym, ap, ◌∙◌}
-use Rattle.jc_base.specs.declared.body.LineAt.{LineAt}
+use Rattle.jc_methods.specs.declared.body.LineAt.{LineAt}
 use Rattle.jc_cover.specs.Counters.{Method, is_counted}
 use Rattle.jc_cover.specs.Lines.{insn_lines, covered_insn_lines, methods_lines, covered_methods_lines}
 use Rattle.jc_cover.proofs.InsnLinesLaws.{method_lines, covered_method_lines}

@@ -1,7 +1,7 @@
 use Rattle.std.proofs.Common.{◌≡◌, ◌<◌, ◌≤◌, Bool, List, length, get_or, ap, ◌∙◌, subst, sym, arith}
 use Rattle.std.specs.Prelude.{All}
-use Rattle.jc_base.specs.WellMade.{IsLine}
-use Rattle.jc_base.specs.declared.body.Body.{Body}
+use Rattle.jc_methods.specs.WellMade.{IsLine}
+use Rattle.jc_methods.specs.declared.body.Body.{Body}
 use Rattle.jc_cover.specs.Sums.{insns_weight}
 use Rattle.jc_cover.proofs.ClassCountsLaws.{one_more, small_now, all_summed, all_lined, all_told, edges_size, all_small, few_lines, lines_within, few_weight, lines_inside, counters_told}
 use Rattle.jc_cover.proofs.counting.counters.Goals as goal

@@ -1,6 +1,6 @@
 use Rattle.std.proofs.Common.{◌≡◌, ◌<◌, ℕ, List, Option, Some, length, sym, ap, ◌∙◌, subst, arith}
 use Rattle.std.specs.Prelude.{slice_get}
-use Rattle.jc_base.proofs.PlacedInsnLaws.{few_insns}
+use Rattle.jc_methods.proofs.PlacedInsnLaws.{few_insns}
 use Rattle.jc_cover.specs.Marking.{sources, marks_of}
 use Rattle.jc_cover.proofs.PlannedLaws.{branches_size, body_sources, sources_size, sources_within, body_marks, body_told, body_inside}
 use Rattle.jc_cover.proofs.covering.body_values.Goals as goal

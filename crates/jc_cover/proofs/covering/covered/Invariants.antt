@@ -1,5 +1,5 @@
 use Rattle.std.proofs.Common.{◌≡◌, ◌-◌, take}
-use Rattle.jc_base.specs.PlainLists.{map_from}
+use Rattle.jc_bytes.specs.PlainLists.{map_from}
 use Rattle.jc_plan.specs.Probed.{probe_count}
 use Rattle.jc_cover.specs.Marking.{class_values}
 use Rattle.jc_cover.proofs.covering.covered.Given as goal

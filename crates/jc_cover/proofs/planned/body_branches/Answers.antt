@@ -1,9 +1,9 @@
 use Rattle.std.proofs.Common.{◌<◌, ◌≤◌, List, [], ◌∷◌, ◌++◌, length, get_or, ap, ◌∙◌, arith}
 use Rattle.std.proofs.lemmas.List.{take_all}
-use Rattle.jc_base.specs.PlainLists.{map_from}
-use Rattle.jc_base.specs.declared.insn.Insn.{Insn}
-use Rattle.jc_base.specs.declared.plan.Plan.{Plan}
-use Rattle.jc_base.proofs.PlacedInsnLaws.{few_insns}
+use Rattle.jc_bytes.specs.PlainLists.{map_from}
+use Rattle.jc_methods.specs.declared.insn.Insn.{Insn}
+use Rattle.jc_methods.specs.declared.plan.Plan.{Plan}
+use Rattle.jc_methods.proofs.PlacedInsnLaws.{few_insns}
 use Rattle.jc_plan.proofs.PlacesLaws.{maps_one}
 use Rattle.jc_cover.specs.Planned.{read_branches}
 use Rattle.jc_cover.specs.declared.planned.PlannedBranch.{PlannedBranch}

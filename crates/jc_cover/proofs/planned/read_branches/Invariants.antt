@@ -1,5 +1,5 @@
 use Rattle.std.proofs.Common.{◌≡◌, take}
-use Rattle.jc_base.specs.PlainLists.{map_from}
+use Rattle.jc_bytes.specs.PlainLists.{map_from}
 use Rattle.jc_cover.specs.Planned.{read_branch}
 use Rattle.jc_cover.proofs.planned.read_branches.Given as goal
 

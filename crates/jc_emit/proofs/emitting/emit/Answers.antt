@@ -1,9 +1,9 @@
 use Rattle.std.proofs.Common.{◌+◌, ◌≤◌, [], length, sym, subst, arith}
 use Rattle.std.specs.List.{sum_by}
 use Rattle.std.proofs.lemmas.Option.{get_or_from_slice_get}
-use Rattle.jc_base.specs.Insn.{arm_count}
-use Rattle.jc_base.specs.declared.emitted.Emitted.{Emitted}
-use Rattle.jc_base.proofs.PlacedInsnLaws.{few_insns}
+use Rattle.jc_methods.specs.Insn.{arm_count}
+use Rattle.jc_methods.specs.declared.emitted.Emitted.{Emitted}
+use Rattle.jc_methods.proofs.PlacedInsnLaws.{few_insns}
 use Rattle.jc_emit.specs.Twin.{IsEmitted}
 use Rattle.jc_emit.specs.Shift.{probe_array_class}
 use Rattle.jc_emit.proofs.EmittingLaws.{grows_one, states_put}

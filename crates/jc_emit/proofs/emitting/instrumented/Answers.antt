@@ -1,6 +1,6 @@
 use Rattle.std.proofs.Common.{false, length, map, refl, ◌∙◌}
 use Rattle.std.specs.Prelude.{slice_index}
-use Rattle.jc_base.specs.PlainLists.{pieces}
+use Rattle.jc_bytes.specs.PlainLists.{pieces}
 use Rattle.jc_kinds.proofs.FrameLaws.{frames_within}
 use Rattle.jc_emit.specs.TwinTables.{moved_row, moved_line, moved_var}
 use Rattle.jc_emit.specs.Items.{lead_of, land_of}

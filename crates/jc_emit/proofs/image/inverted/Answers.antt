@@ -1,8 +1,8 @@
 use Rattle.std.proofs.Common.{◌≡◌, subst}
-use Rattle.jc_base.specs.Flow.{flow_of}
-use Rattle.jc_base.specs.Insn.{IsWellFormed}
-use Rattle.jc_base.specs.declared.insn.Insn.{Insn}
-use Rattle.jc_base.specs.declared.insn.Flow.TheVariants as flows
+use Rattle.jc_methods.specs.Flow.{flow_of}
+use Rattle.jc_methods.specs.Insn.{IsWellFormed}
+use Rattle.jc_methods.specs.declared.insn.Insn.{Insn}
+use Rattle.jc_methods.specs.declared.insn.Flow.TheVariants as flows
 use Rattle.jc_emit.proofs.TestForms.{test_op}
 use Rattle.jc_emit.proofs.image.inverted.Goals as goal
 

@@ -1,7 +1,7 @@
 use Rattle.std.proofs.Common.{◌<◌, length, pos}
 use Rattle.std.proofs.lemmas.List.Elements.{All-get_or}
-use Rattle.jc_base.specs.declared.insn.Arm.{Arm}
-use Rattle.jc_base.proofs.EachLaws.{all_of_each}
+use Rattle.jc_methods.specs.declared.insn.Arm.{Arm}
+use Rattle.jc_bytes.proofs.EachLaws.{all_of_each}
 use Rattle.jc_emit.proofs.image.led_arms.Goals as goal
 
 pub bounds-table-arm : goal.bounds-table-arm

@@ -1,5 +1,5 @@
 use Rattle.std.proofs.Common.{◌≡◌, map, take, slice_index}
-use Rattle.jc_base.specs.Insn.{arm_with_place}
+use Rattle.jc_methods.specs.Insn.{arm_with_place}
 use Rattle.jc_emit.proofs.image.led_arms.Given as goal
 
 -- the arms so far

@@ -1,5 +1,5 @@
 use Rattle.std.proofs.Common.{ap}
-use Rattle.jc_base.specs.Slots.{slot_of}
+use Rattle.jc_methods.specs.Slots.{slot_of}
 use Rattle.jc_emit.proofs.image.moved.Goals as goal
 
 pub moved_slot-requires : goal.moved_slot-requires

@@ -1,6 +1,6 @@
 use Rattle.std.proofs.Common.{◌≡◌, ◌≤◌, ◌++◌, [], false, length, drop, ap, ◌∙◌, subst, arith, length-append}
 use Rattle.std.proofs.lemmas.List.{length-take-le}
-use Rattle.jc_base.specs.PlainLists.{pieces}
+use Rattle.jc_bytes.specs.PlainLists.{pieces}
 use Rattle.jc_emit.specs.Items.{prelude, segment, twin_items}
 use Rattle.jc_emit.specs.Written.{Shows}
 use Rattle.jc_emit.proofs.WritingLaws.{shows_more, shows_piece}

@@ -1,5 +1,5 @@
 use Rattle.std.proofs.Common.{◌≡◌, ℕ, ◌+◌, ◌++◌, false, length}
-use Rattle.jc_base.specs.PlainLists.{pieces}
+use Rattle.jc_bytes.specs.PlainLists.{pieces}
 use Rattle.jc_plan.specs.Plan.{plan_of}
 use Rattle.jc_emit.specs.Items.{prelude, segment}
 use Rattle.jc_emit.specs.Written.{Shows}

@@ -1,6 +1,6 @@
 use Rattle.std.proofs.Common.{List, subst}
-use Rattle.jc_base.specs.declared.insn.Insn.{Insn}
-use Rattle.jc_base.specs.declared.body.FrameAt.{FrameAt}
+use Rattle.jc_methods.specs.declared.insn.Insn.{Insn}
+use Rattle.jc_methods.specs.declared.body.FrameAt.{FrameAt}
 use Rattle.jc_emit.specs.Straddling.{InsnStraddles, FramesStraddle, IsFirstOf}
 use Rattle.jc_emit.proofs.StraddlingLaws.{first_of_both}
 use Rattle.jc_emit.proofs.straddling.straddles.Goals as goal

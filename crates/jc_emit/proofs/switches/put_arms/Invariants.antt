@@ -1,5 +1,5 @@
 use Rattle.std.proofs.Common.{ℕ}
-use Rattle.jc_base.specs.PlainLists.{pieces}
+use Rattle.jc_bytes.specs.PlainLists.{pieces}
 use Rattle.jc_emit.specs.Branching.{IsTableOf, arm_part_in}
 use Rattle.jc_emit.specs.Writing.{Grows}
 use Rattle.jc_emit.proofs.switches.put_arms.Given as goal

@@ -1,14 +1,14 @@
 use Rattle.std.proofs.Common.{ℕ, List, length, map, All, sym, ◌∙◌, ap, ap₂, subst}
 use Rattle.std.specs.List.{AllByRecursion}
 use Rattle.std.proofs.lemmas.List.Elements.{recursion_from_All}
-use Rattle.jc_base.specs.declared.kind.Kind.{Kind}
-use Rattle.jc_base.specs.EntryState.{in_locals}
-use Rattle.jc_base.specs.Held.{Held, SeenAt, class_names, held, IsNumbered}
-use Rattle.jc_base.specs.Names.{met}
+use Rattle.jc_methods.specs.declared.kind.Kind.{Kind}
+use Rattle.jc_methods.specs.EntryState.{in_locals}
+use Rattle.jc_methods.specs.Held.{Held, SeenAt, class_names, held, IsNumbered}
+use Rattle.jc_bytes.specs.Names.{met}
 use Rattle.jc_pool.specs.Pool.{PoolValue}
 use Rattle.jc_frames.specs.declared.method.Value.{Value}
 use Rattle.jc_frames.specs.Running.{held_values, IsNumberedValue}
-use Rattle.jc_base.proofs.MetNamesLaws.{grows_both}
+use Rattle.jc_methods.proofs.MetNamesLaws.{grows_both}
 use Rattle.jc_frames.proofs.BuildingLaws.{kinds_numbered, values_numbered, all_unnumbered}
 use Rattle.jc_frames.proofs.MetLaws.{frame_met}
 use Rattle.jc_frames.proofs.building.built_frame.Goals as goal

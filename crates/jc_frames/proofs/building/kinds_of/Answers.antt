@@ -1,11 +1,11 @@
 use Rattle.std.proofs.Common.{List, length, ◌∙◌, ap}
 use Rattle.std.proofs.lemmas.List.{take_all}
 use Rattle.std.proofs.lemmas.List.Elements.{All-take}
-use Rattle.jc_base.specs.Held.{class_names, IsNumbered}
-use Rattle.jc_base.specs.Names.{met}
+use Rattle.jc_methods.specs.Held.{class_names, IsNumbered}
+use Rattle.jc_bytes.specs.Names.{met}
 use Rattle.jc_frames.specs.declared.method.Value.{Value}
 use Rattle.jc_frames.specs.Running.{held_values, IsNumberedValue}
-use Rattle.jc_base.proofs.MetNamesLaws.{grows_both}
+use Rattle.jc_methods.proofs.MetNamesLaws.{grows_both}
 use Rattle.jc_frames.proofs.BuildingLaws.{kinds_numbered, values_numbered, one_at_end, kinds_more}
 use Rattle.jc_frames.proofs.MetLaws.{one_more_met}
 use Rattle.jc_frames.proofs.building.kinds_of.Goals as goal

@@ -1,6 +1,6 @@
 use Rattle.std.proofs.Common.{◌≡◌, length, map, take, All}
-use Rattle.jc_base.specs.Held.{Names, class_names, held, Grows, IsNumbered}
-use Rattle.jc_base.specs.Names.{met}
+use Rattle.jc_methods.specs.Held.{Names, class_names, held, Grows, IsNumbered}
+use Rattle.jc_bytes.specs.Names.{met}
 use Rattle.jc_frames.specs.Building.{AreKnown}
 use Rattle.jc_frames.specs.Running.{held_values, IsNumberedValue}
 use Rattle.jc_frames.proofs.building.kinds_of.Given as goal

@@ -1,6 +1,6 @@
 use Rattle.std.proofs.Common.{◌≡◌, ℕ, map, take, All}
-use Rattle.jc_base.specs.EntryState.{spread}
-use Rattle.jc_base.specs.Held.{Names, held, IsNumbered}
+use Rattle.jc_methods.specs.EntryState.{spread}
+use Rattle.jc_methods.specs.Held.{Names, held, IsNumbered}
 use Rattle.jc_frames.proofs.building.locals_of.Given as goal
 
 abbrev pub invariant-spreading : goal.invariant-spreading

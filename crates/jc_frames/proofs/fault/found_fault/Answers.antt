@@ -1,7 +1,7 @@
 use Rattle.std.proofs.Common.{ℕ, [], ◌∷◌, ◌++◌, length, Some, sym, ◌∙◌, ap}
-use Rattle.jc_base.specs.Decoder.{number_at}
-use Rattle.jc_base.specs.Held.{seen}
-use Rattle.jc_base.specs.Parsing.{item}
+use Rattle.jc_bytes.specs.Decoder.{number_at}
+use Rattle.jc_methods.specs.Held.{seen}
+use Rattle.jc_bytes.specs.Parsing.{item}
 use Rattle.jc_frames.specs.Frames.{ground}
 use Rattle.jc_frames.specs.Running.{before, found_as}
 use Rattle.jc_frames.specs.Table.{fault_of}

@@ -1,5 +1,5 @@
 use Rattle.std.proofs.Common.{List, length}
-use Rattle.jc_base.specs.Held.{Names, SeenAt, seen}
+use Rattle.jc_methods.specs.Held.{Names, SeenAt, seen}
 use Rattle.jc_frames.specs.Frames.{ground}
 use Rattle.jc_frames.specs.Running.{IsRunning, before}
 use Rattle.jc_frames.proofs.WalkLaws.{Walking}

@@ -1,5 +1,5 @@
 use Rattle.std.proofs.Common.{length}
-use Rattle.jc_base.specs.Held.{seen}
+use Rattle.jc_methods.specs.Held.{seen}
 use Rattle.jc_frames.specs.Frames.{ground}
 use Rattle.jc_frames.proofs.FaultLaws.{answers, answers_frames, answers_fault}
 use Rattle.jc_frames.proofs.fault.frame_fault.Goals as goal

@@ -1,8 +1,8 @@
 use Rattle.std.proofs.Common.{◌+◌, length, map, drop, sym, subst}
 use Rattle.std.proofs.lemmas.List.Elements.{All-from_recursion}
 use Rattle.std.proofs.lemmas.Result.{err_from_is_err_and}
-use Rattle.jc_base.specs.declared.body.FrameAt.{FrameAt}
-use Rattle.jc_base.specs.Held.{seen_at, IsNumberedState}
+use Rattle.jc_methods.specs.declared.body.FrameAt.{FrameAt}
+use Rattle.jc_methods.specs.Held.{seen_at, IsNumberedState}
 use Rattle.jc_frames.specs.FullTable.{named_by, named_by_all}
 use Rattle.jc_frames.proofs.TakenLaws.{all_taken, extends_both, extends_itself, frames_done, frames_split, none_taken, refuses_here, takes_more, taking_begun}
 use Rattle.jc_frames.proofs.full_classes.take_classes.Goals as goal

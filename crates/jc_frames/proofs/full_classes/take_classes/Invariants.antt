@@ -1,5 +1,5 @@
 use Rattle.std.proofs.Common.{map, drop}
-use Rattle.jc_base.specs.Held.{seen_at}
+use Rattle.jc_methods.specs.Held.{seen_at}
 use Rattle.jc_pool.specs.Adding.{Extends}
 use Rattle.jc_frames.specs.FullTable.{AreTaken, named_by_all}
 use Rattle.jc_frames.proofs.TakenLaws.{Taking}

@@ -1,6 +1,6 @@
 use Rattle.std.proofs.Common.{map, drop, ◌+◌}
 use Rattle.std.proofs.lemmas.Result.{err_from_is_err_and}
-use Rattle.jc_base.specs.Held.{class_names, held}
+use Rattle.jc_methods.specs.Held.{class_names, held}
 use Rattle.jc_frames.proofs.TakenLaws.{all_taken, extends_both, extends_itself, kinds_done, kinds_split, refuses_here, takes_more, taking_begun}
 use Rattle.jc_frames.proofs.full_classes.take_classes_of.Goals as goal
 

@@ -1,5 +1,5 @@
 use Rattle.std.proofs.Common.{map, drop}
-use Rattle.jc_base.specs.Held.{class_names, held}
+use Rattle.jc_methods.specs.Held.{class_names, held}
 use Rattle.jc_pool.specs.Adding.{Extends}
 use Rattle.jc_frames.specs.FullTable.{AreTaken}
 use Rattle.jc_frames.proofs.TakenLaws.{Taking}

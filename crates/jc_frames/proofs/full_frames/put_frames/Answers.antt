@@ -1,9 +1,9 @@
 use Rattle.std.proofs.Common.{ℕ, ◌+◌, List, ◌++◌, length, map, drop, get_or, refl, sym, ◌∙◌, ap, subst}
 use Rattle.std.proofs.lemmas.List.Elements.{All-from_recursion}
 use Rattle.std.specs.List.{AllByRecursion}
-use Rattle.jc_base.proofs.AppendingLaws.{drop_is}
-use Rattle.jc_base.specs.declared.body.FrameAt.{FrameAt}
-use Rattle.jc_base.specs.Held.{Names, seen_at}
+use Rattle.jc_bytes.proofs.AppendingLaws.{drop_is}
+use Rattle.jc_methods.specs.declared.body.FrameAt.{FrameAt}
+use Rattle.jc_methods.specs.Held.{Names, seen_at}
 use Rattle.jc_pool.specs.Pool.{PoolValue}
 use Rattle.jc_frames.specs.FullFrames.{full_texts}
 use Rattle.jc_frames.specs.FullTable.{AreFirstPlaces, ArePlacesIn, FitsFull, HasPlace, OffsetsRise, named_by, named_by_all}

@@ -1,6 +1,6 @@
 use Rattle.std.proofs.Common.{◌≡◌, ◌++◌, map, drop}
 use Rattle.std.specs.List.{AllByRecursion}
-use Rattle.jc_base.specs.Held.{seen_at}
+use Rattle.jc_methods.specs.Held.{seen_at}
 use Rattle.jc_frames.specs.FullFrames.{Places, full_texts}
 use Rattle.jc_frames.specs.FullTable.{AreFirstPlaces, ArePlacesIn, HasPlace, OffsetsRise, named_by_all}
 use Rattle.jc_frames.proofs.full_frames.put_frames.Given as goal

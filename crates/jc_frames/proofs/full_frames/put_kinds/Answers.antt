@@ -1,8 +1,8 @@
 use Rattle.std.proofs.Common.{◌≡◌, ℕ, ◌++◌, length, map, sym, ◌∙◌, ap}
 use Rattle.std.proofs.lemmas.List.{length-map}
 use Rattle.std.specs.List.{flat_map}
-use Rattle.jc_base.proofs.AppendingLaws.{joined}
-use Rattle.jc_base.specs.Held.{held}
+use Rattle.jc_bytes.proofs.AppendingLaws.{joined}
+use Rattle.jc_methods.specs.Held.{held}
 use Rattle.jc_frames.specs.FullFrames.{short, type_text, types_text}
 use Rattle.jc_frames.proofs.ResultLaws.{ok_then}
 use Rattle.jc_frames.proofs.full_frames.put_kinds.Goals as goal

@@ -1,7 +1,7 @@
 use Rattle.std.proofs.Common.{◌+◌, ◌++◌, map, drop, get_or, sym, ◌∙◌, subst}
 use Rattle.std.specs.List.{AllByRecursion, flat_map}
-use Rattle.jc_base.specs.Held.{Names, class_name, class_names, held}
-use Rattle.jc_base.specs.declared.kind.Kind.TheVariants as kinds
+use Rattle.jc_methods.specs.Held.{Names, class_name, class_names, held}
+use Rattle.jc_methods.specs.declared.kind.Kind.TheVariants as kinds
 use Rattle.jc_pool.specs.Pool.{PoolValue}
 use Rattle.jc_frames.specs.FullFrames.{type_text}
 use Rattle.jc_frames.specs.FullTable.{AreFirstPlaces, ArePlacesIn, HasPlace}

@@ -1,6 +1,6 @@
 use Rattle.std.proofs.Common.{◌≡◌, ◌++◌, map, drop}
 use Rattle.std.specs.List.{AllByRecursion, flat_map}
-use Rattle.jc_base.specs.Held.{class_names, held}
+use Rattle.jc_methods.specs.Held.{class_names, held}
 use Rattle.jc_frames.specs.FullFrames.{Places, type_text}
 use Rattle.jc_frames.specs.FullTable.{AreFirstPlaces, ArePlacesIn, HasPlace}
 use Rattle.jc_frames.proofs.full_frames.put_listed_kinds.Given as goal

@@ -1,7 +1,7 @@
 use Rattle.std.proofs.Common.{◌≡◌, ℕ, ◌++◌, length, map, sym, ◌∙◌, ap, arith}
 use Rattle.std.proofs.lemmas.List.{length-map}
-use Rattle.jc_base.proofs.AppendingLaws.{joined}
-use Rattle.jc_base.specs.Held.{seen_at}
+use Rattle.jc_bytes.proofs.AppendingLaws.{joined}
+use Rattle.jc_methods.specs.Held.{seen_at}
 use Rattle.jc_frames.specs.FullFrames.{full_texts, short, table_text}
 use Rattle.jc_frames.proofs.FullTextLaws.{offsets_rise}
 use Rattle.jc_frames.proofs.ResultLaws.{ok_then}

@@ -1,7 +1,7 @@
 use Rattle.std.proofs.Common.{List, ℕ, ◌++◌, length, map, sym, ◌∙◌, ap, subst}
-use Rattle.jc_base.proofs.EachLaws.{all_weaker}
-use Rattle.jc_base.specs.declared.body.FrameAt.{FrameAt}
-use Rattle.jc_base.specs.Held.{seen_at, IsNumberedState}
+use Rattle.jc_bytes.proofs.EachLaws.{all_weaker}
+use Rattle.jc_methods.specs.declared.body.FrameAt.{FrameAt}
+use Rattle.jc_methods.specs.Held.{seen_at, IsNumberedState}
 use Rattle.jc_pool.specs.Adding.{Extends}
 use Rattle.jc_pool.specs.Pool.{PoolValue}
 use Rattle.jc_frames.specs.FullFrames.{table_text}

@@ -1,9 +1,9 @@
 use Rattle.std.proofs.Common.{◌+◌, ℕ, List, length, map, refl, sym, ◌∙◌, ap, subst}
 use Rattle.std.proofs.lemmas.List.Elements.{All-from_recursion}
-use Rattle.jc_base.specs.Decoder.{number_at}
-use Rattle.jc_base.specs.Held.{Seen, SeenAt, seen, seen_at, IsNumbered}
-use Rattle.jc_base.specs.Parsing.{item}
-use Rattle.jc_base.specs.declared.body.FrameAt.{FrameAt}
+use Rattle.jc_bytes.specs.Decoder.{number_at}
+use Rattle.jc_methods.specs.Held.{Seen, SeenAt, seen, seen_at, IsNumbered}
+use Rattle.jc_bytes.specs.Parsing.{item}
+use Rattle.jc_methods.specs.declared.body.FrameAt.{FrameAt}
 use Rattle.jc_pool.specs.Pool.{PoolValue}
 use Rattle.jc_frames.specs.Answers.{bad_frame, seen_names}
 use Rattle.jc_frames.specs.Building.{AreKnown}
@@ -11,9 +11,9 @@ use Rattle.jc_frames.specs.Frames.{Ground, ground}
 use Rattle.jc_frames.specs.Running.{before}
 use Rattle.jc_frames.specs.Table.{outcome_of}
 use Rattle.jc_frames.proofs.BuildingLaws.{values_numbered}
-use Rattle.jc_base.proofs.MetNamesLaws.{grows_none, grows_both}
-use Rattle.jc_base.specs.Names.{met}
-use Rattle.jc_base.proofs.NumberedLaws.{seen_grown}
+use Rattle.jc_methods.proofs.MetNamesLaws.{grows_none, grows_both}
+use Rattle.jc_bytes.specs.Names.{met}
+use Rattle.jc_methods.proofs.NumberedLaws.{seen_grown}
 use Rattle.jc_frames.proofs.MetLaws.{frames_met}
 use Rattle.jc_frames.proofs.ReadLaws.{frames_pushed, built_more, refusal_at}
 use Rattle.jc_frames.proofs.StepLaws.{begins_by, stopped_by, walks_by}

@@ -1,6 +1,6 @@
 use Rattle.std.proofs.Common.{◌≡◌, length, map, All}
-use Rattle.jc_base.specs.Held.{Names, seen, seen_at, Grows, AreNumberedFrames}
-use Rattle.jc_base.specs.Names.{met}
+use Rattle.jc_methods.specs.Held.{Names, seen, seen_at, Grows, AreNumberedFrames}
+use Rattle.jc_bytes.specs.Names.{met}
 use Rattle.jc_frames.specs.Answers.{frame_names}
 use Rattle.jc_frames.specs.Building.{AreKnown}
 use Rattle.jc_frames.specs.Frames.{ground}

@@ -1,5 +1,5 @@
 use Rattle.std.proofs.Common.{length, map}
-use Rattle.jc_base.specs.Held.{seen, seen_at}
+use Rattle.jc_methods.specs.Held.{seen, seen_at}
 use Rattle.jc_frames.specs.Frames.{ground}
 use Rattle.jc_frames.proofs.ReadLaws.{refuses, stands_memory, fault_refused, stands, made, new_kinds}
 use Rattle.jc_frames.proofs.read.read_frames.Goals as goal

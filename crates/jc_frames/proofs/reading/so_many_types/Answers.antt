@@ -1,6 +1,6 @@
 use Rattle.std.proofs.Common.{[], ◌∷◌, arith, length-append}
 use Rattle.std.proofs.lemmas.Result.{err_from_is_err_and}
-use Rattle.jc_base.proofs.ListReadingLaws.{one_more, refused}
+use Rattle.jc_bytes.proofs.ListReadingLaws.{one_more, refused}
 use Rattle.jc_frames.specs.TableReading.{type_at}
 use Rattle.jc_frames.proofs.reading.so_many_types.Goals as goal
 

@@ -1,5 +1,5 @@
 use Rattle.std.proofs.Common.{◌≡◌, length}
-use Rattle.jc_base.proofs.ListReadingLaws.{Listing}
+use Rattle.jc_bytes.proofs.ListReadingLaws.{Listing}
 use Rattle.jc_frames.specs.TableReading.{type_at}
 use Rattle.jc_frames.proofs.reading.so_many_types.Given as goal
 

@@ -1,5 +1,5 @@
 use Rattle.std.proofs.Common.{◌≡◌, ◌≤◌, length, take, map}
-use Rattle.jc_base.specs.Held.{Names, held}
+use Rattle.jc_methods.specs.Held.{Names, held}
 use Rattle.jc_frames.specs.Frames.{trimmed}
 use Rattle.jc_frames.proofs.running.end_of_values.Given as goal
 

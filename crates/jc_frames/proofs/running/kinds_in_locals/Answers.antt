@@ -1,9 +1,9 @@
 use Rattle.std.proofs.Common.{Bool, false, List, [], ◌∷◌, ◌++◌, length, map, take, drop, get_or, sym, ◌∙◌, ap, arith, length-append}
 use Rattle.std.proofs.lemmas.List.{drop_all, append-nil}
 use Rattle.std.proofs.lemmas.List.Elements.{All-take, All-get_or}
-use Rattle.jc_base.specs.declared.kind.Kind.{Kind}
-use Rattle.jc_base.specs.declared.kind.Kind.TheVariants as kinds
-use Rattle.jc_base.specs.Held.{held, IsNumbered}
+use Rattle.jc_methods.specs.declared.kind.Kind.{Kind}
+use Rattle.jc_methods.specs.declared.kind.Kind.TheVariants as kinds
+use Rattle.jc_methods.specs.Held.{held, IsNumbered}
 use Rattle.jc_frames.specs.Frames.{values_from}
 use Rattle.jc_frames.specs.FullTable.{IsPlaced}
 use Rattle.jc_frames.proofs.BuildingLaws.{one_at_end}

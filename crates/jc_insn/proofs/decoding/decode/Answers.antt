@@ -1,7 +1,7 @@
 use Rattle.std.proofs.Common.{rules, ◌≡◌, ◌∙◌, ◌+◌, sym, arith, List, ℕ, length, subst, map, ◌<◌, get_or, ap}
 use Rattle.std.proofs.lemmas.Result.{err_from_is_err_and}
-use Rattle.jc_base.specs.Insn.{with_places}
-use Rattle.jc_base.specs.Starts.{insn_number}
+use Rattle.jc_methods.specs.Insn.{with_places}
+use Rattle.jc_methods.specs.Starts.{insn_number}
 use Rattle.jc_insn.specs.Spells.{Spells}
 use Rattle.jc_insn.proofs.OneReadingLaws.{spells, one_list, spelled_or_memory, not_spelled, refused_or_memory}
 use Rattle.jc_insn.proofs.DecodedInsnLaws.{all_among, are_starts}

@@ -1,7 +1,7 @@
 use Rattle.std.proofs.Common.{◌≡◌, ◌<◌, length, arith, List, ℕ, All, subst, sym, ap, ◌∙◌, ◌++◌}
 use Rattle.std.specs.Prelude.{slice_index}
-use Rattle.jc_base.specs.declared.insn.Insn.{Insn}
-use Rattle.jc_base.specs.Flow.{targets_of}
+use Rattle.jc_methods.specs.declared.insn.Insn.{Insn}
+use Rattle.jc_methods.specs.Flow.{targets_of}
 use Rattle.jc_insn.proofs.InsnWritingLaws.{puts_insn, all_put}
 use Rattle.jc_insn.proofs.SizeSumsLaws.{count_starts, below_last}
 use Rattle.jc_insn.specs.Writing.{code_text}

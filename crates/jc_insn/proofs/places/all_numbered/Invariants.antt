@@ -1,6 +1,6 @@
 use Rattle.std.proofs.Common.{◌≡◌, map}
 use Rattle.std.specs.Prelude.{slice_index_or}
-use Rattle.jc_base.specs.Insn.{with_places}
+use Rattle.jc_methods.specs.Insn.{with_places}
 use Rattle.jc_insn.proofs.places.all_numbered.Given as goal
 
 -- the instructions so far

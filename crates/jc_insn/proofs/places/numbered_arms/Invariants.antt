@@ -1,6 +1,6 @@
 use Rattle.std.proofs.Common.{◌≡◌, map, take}
 use Rattle.std.specs.Prelude.{slice_index_or}
-use Rattle.jc_base.specs.Insn.{arm_with_place}
+use Rattle.jc_methods.specs.Insn.{arm_with_place}
 use Rattle.jc_insn.proofs.places.numbered_arms.Given as goal
 
 -- the arms so far

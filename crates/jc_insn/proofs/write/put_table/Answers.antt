@@ -3,7 +3,7 @@ use Rattle.std.proofs.lemmas.List.{length-map}
 use Rattle.std.specs.Prelude.{slice_index}
 use Rattle.std.specs.List.{flat_map}
 use Rattle.std.specs.Int.{w32, cast_unsigned}
-use Rattle.jc_base.specs.Opcode as opcode
+use Rattle.jc_methods.specs.Opcode as opcode
 use Rattle.jc_insn.specs.Writing.{word, last_key, difference, pad_text}
 use Rattle.jc_insn.proofs.InsnWritingLaws.{six_pieces}
 use Rattle.jc_insn.proofs.write.put_table.Goals as goal

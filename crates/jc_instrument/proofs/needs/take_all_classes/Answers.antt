@@ -1,7 +1,7 @@
 use Rattle.std.proofs.Common.{List, ◌+◌, map, drop, subst}
 use Rattle.std.proofs.lemmas.Result.{err_from_is_err_and}
-use Rattle.jc_base.specs.Held.{seen_at}
-use Rattle.jc_base.specs.declared.body.FrameAt.{FrameAt}
+use Rattle.jc_methods.specs.Held.{seen_at}
+use Rattle.jc_methods.specs.declared.body.FrameAt.{FrameAt}
 use Rattle.jc_frames.specs.FullTable.{named_by_all, RefusesClasses, TakesClasses}
 use Rattle.jc_frames.proofs.TakenLaws.{extends_both, refuses_here, takes_more}
 use Rattle.jc_instrument.specs.Taking.{frames_in, frames_of}

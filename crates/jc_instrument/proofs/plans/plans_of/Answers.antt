@@ -1,5 +1,5 @@
 use Rattle.std.proofs.Common.{◌≡◌, ◌++◌, ◌∷◌, [], ◌∙◌, sym, ap, arith}
-use Rattle.jc_base.specs.declared.plan.Plan.{Plan}
+use Rattle.jc_methods.specs.declared.plan.Plan.{Plan}
 use Rattle.jc_plan.specs.Plan.{plan_of}
 use Rattle.jc_plan.specs.Probed.{first_id}
 use Rattle.jc_plan.proofs.PlacesLaws.{maps_one}

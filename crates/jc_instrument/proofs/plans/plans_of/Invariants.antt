@@ -1,5 +1,5 @@
 use Rattle.std.proofs.Common.{◌≡◌, take}
-use Rattle.jc_base.specs.PlainLists.{map_from}
+use Rattle.jc_bytes.specs.PlainLists.{map_from}
 use Rattle.jc_plan.specs.Plan.{plan_of}
 use Rattle.jc_plan.specs.Probed.{first_id}
 use Rattle.jc_instrument.proofs.plans.plans_of.Given as goal

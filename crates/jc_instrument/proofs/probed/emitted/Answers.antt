@@ -1,5 +1,5 @@
 use Rattle.std.proofs.Common.{sym, subst}
-use Rattle.jc_base.specs.declared.emitted.Emitted.{Emitted}
+use Rattle.jc_methods.specs.declared.emitted.Emitted.{Emitted}
 use Rattle.jc_layout.specs.Layable.{IsLayable}
 use Rattle.jc_instrument.proofs.ProbingLaws.{emission_layable}
 use Rattle.jc_instrument.proofs.probed.emitted.Goals as goal

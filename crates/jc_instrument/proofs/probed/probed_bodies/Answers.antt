@@ -4,11 +4,11 @@ use Rattle.std.proofs.lemmas.Iterator.Consumers.{YieldsList-from_enumerate, Yiel
 use Rattle.std.proofs.lemmas.List.{length_push}
 use Rattle.std.proofs.lemmas.List.FromFn.{length-enumerate_from}
 use Rattle.std.proofs.lemmas.Result.{err_from_is_err_and}
-use Rattle.jc_base.specs.Held.{AreNumberedFrames, Grows}
-use Rattle.jc_base.specs.declared.body.Body.{Body}
-use Rattle.jc_base.specs.declared.kind.State.{State}
-use Rattle.jc_base.proofs.MetNamesLaws.{name_grows}
-use Rattle.jc_base.proofs.NumberedLaws.{grown_count, frames_numbered}
+use Rattle.jc_methods.specs.Held.{AreNumberedFrames, Grows}
+use Rattle.jc_methods.specs.declared.body.Body.{Body}
+use Rattle.jc_methods.specs.declared.kind.State.{State}
+use Rattle.jc_methods.proofs.MetNamesLaws.{name_grows}
+use Rattle.jc_methods.proofs.NumberedLaws.{grown_count, frames_numbered}
 use Rattle.jc_plan.specs.Probed.{first_id}
 use Rattle.jc_emit.specs.Shift.{probe_array_class}
 use Rattle.jc_instrument.specs.Probing.{IsTooLong, IsFirstTooLong}

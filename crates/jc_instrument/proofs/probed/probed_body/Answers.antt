@@ -1,8 +1,8 @@
 use Rattle.std.proofs.Common.{List, length, sym, ◌∙◌, ap, subst, refl}
 use Rattle.std.proofs.lemmas.Result.{err_from_is_err_and}
-use Rattle.jc_base.specs.declared.emitted.Emitted.{Emitted}
-use Rattle.jc_base.specs.declared.insn.Insn.{Insn}
-use Rattle.jc_base.proofs.NumberedLaws.{grown_count, frames_numbered}
+use Rattle.jc_methods.specs.declared.emitted.Emitted.{Emitted}
+use Rattle.jc_methods.specs.declared.insn.Insn.{Insn}
+use Rattle.jc_methods.proofs.NumberedLaws.{grown_count, frames_numbered}
 use Rattle.jc_kinds.specs.Answers.{AreStates, Said}
 use Rattle.jc_layout.specs.Layout.{chosen_length}
 use Rattle.jc_instrument.specs.Probing.{IsRefusedAsLarge}

@@ -1,7 +1,7 @@
 use Rattle.std.proofs.Common.{◌<◌, length, refl, sym, subst, arith}
 use Rattle.std.proofs.lemmas.Option.{slice_get_read, slice_get_within}
-use Rattle.jc_base.specs.WellMade.{IsWellMade}
-use Rattle.jc_base.proofs.PlacedInsnLaws.{few_insns}
+use Rattle.jc_methods.specs.WellMade.{IsWellMade}
+use Rattle.jc_methods.proofs.PlacedInsnLaws.{few_insns}
 use Rattle.jc_instrument.proofs.RoomLaws.{none_more}
 use Rattle.jc_instrument.proofs.room.first_that_lacks.Goals as goal
 

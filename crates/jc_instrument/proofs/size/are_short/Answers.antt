@@ -1,5 +1,5 @@
 use Rattle.std.proofs.Common.{◌∙◌, ap, arith}
-use Rattle.jc_base.specs.WellMade.{insns_and_arms}
+use Rattle.jc_methods.specs.WellMade.{insns_and_arms}
 use Rattle.jc_instrument.proofs.PlanningLaws.{count_fits}
 use Rattle.jc_instrument.proofs.size.are_short.Goals as goal
 

@@ -1,5 +1,5 @@
 use Rattle.std.proofs.Common.{◌≡◌, take}
-use Rattle.jc_base.specs.WellMade.{insns_and_arms}
+use Rattle.jc_methods.specs.WellMade.{insns_and_arms}
 use Rattle.jc_instrument.proofs.size.insns_and_arms.Given as goal
 
 -- those so far are counted

@@ -1,7 +1,7 @@
 use Rattle.std.proofs.Common.{ℕ, List, length, sym, ◌∙◌, ap, subst}
 use Rattle.std.specs.List.{AllByRecursion}
 use Rattle.std.proofs.lemmas.Result.{err_from_is_err_and}
-use Rattle.jc_base.specs.Held.{SeenAt}
+use Rattle.jc_methods.specs.Held.{SeenAt}
 use Rattle.jc_kinds.specs.Answers.{Said}
 use Rattle.jc_instrument.specs.Contents.{Content}
 use Rattle.jc_instrument.specs.Members.{AreCoded, AreWritable}

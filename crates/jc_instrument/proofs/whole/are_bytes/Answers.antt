@@ -1,5 +1,5 @@
 use Rattle.std.proofs.Common.{arith}
-use Rattle.jc_base.proofs.OneTextLaws.{are_bytes}
+use Rattle.jc_bytes.proofs.OneTextLaws.{are_bytes}
 use Rattle.jc_instrument.proofs.whole.are_bytes.Goals as goal
 
 pub returns : goal.returns

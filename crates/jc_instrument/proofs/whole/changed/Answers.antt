@@ -4,7 +4,7 @@ use Rattle.jc_instrument.specs.Changing.{changing_causes}
 use Rattle.jc_instrument.specs.ProbedClass.{making_causes}
 use Rattle.jc_instrument.specs.RoomCauses.{HasFullPool}
 use Rattle.std.proofs.Common.{ℕ, List, [], ◌∷◌, refl, sym, ◌∙◌, ap, subst}
-use Rattle.jc_base.specs.ByteLists.{AreBytes}
+use Rattle.jc_bytes.specs.ByteLists.{AreBytes}
 use Rattle.jc_class.specs.ClassText.{ClassText}
 use Rattle.jc_instrument.proofs.FullPoolLaws.{no_full_pool, one_probe_count}
 use Rattle.std.specs.List.{list_any}

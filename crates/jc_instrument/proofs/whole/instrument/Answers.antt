@@ -1,5 +1,5 @@
 use Rattle.std.proofs.Common.{arith}
-use Rattle.jc_base.proofs.OneTextLaws.{are_bytes}
+use Rattle.jc_bytes.proofs.OneTextLaws.{are_bytes}
 use Rattle.jc_instrument.proofs.VerifiedLaws.{answer_verified}
 use Rattle.jc_instrument.proofs.InstrumentingLaws.{accepted_instrumented, refused_for}
 use Rattle.jc_instrument.proofs.whole.instrument.Goals as goal

@@ -1,7 +1,7 @@
 use Rattle.std.proofs.Common.{arith, rules, ◌≤◌, length, sym, subst}
-use Rattle.jc_base.specs.declared.fail.Fail.{Fail}
-use Rattle.jc_base.specs.declared.refusal.Refusal.{Refusal}
-use Rattle.jc_base.specs.Least.{IsNowhere}
+use Rattle.jc_bytes.specs.declared.fail.Fail.{Fail}
+use Rattle.jc_bytes.specs.declared.refusal.Refusal.{Refusal}
+use Rattle.jc_bytes.specs.Least.{IsNowhere}
 use Rattle.jc_kinds.specs.Checked.{IsMissing}
 use Rattle.jc_kinds.specs.Answers.{Said, IsKindRefusal}
 use Rattle.jc_kinds.proofs.MissingLaws.{few_insns}

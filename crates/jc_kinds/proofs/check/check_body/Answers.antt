@@ -1,7 +1,7 @@
 use Rattle.std.proofs.Common.{◌≡◌, Vec, true, false, sym, subst}
 use Rattle.std.specs.Prelude.{⊤}
 use Rattle.std.specs.declared.alloc.Global.{Global}
-use Rattle.jc_base.specs.declared.kind.State.{State}
+use Rattle.jc_methods.specs.declared.kind.State.{State}
 use Rattle.jc_kinds.specs.Answers.{AreStates, IsAnswer}
 use Rattle.jc_kinds.proofs.RefusalLaws.{checked_answered, missing_answered, clash_answered, answered_found, answered_refused}
 use Rattle.jc_kinds.proofs.check.check_body.Goals as goal

@@ -1,6 +1,6 @@
 use Rattle.std.proofs.Common.{◌≡◌, Vec, true, refl}
 use Rattle.std.specs.declared.alloc.Global.{Global}
-use Rattle.jc_base.specs.declared.kind.State.{State}
+use Rattle.jc_methods.specs.declared.kind.State.{State}
 use Rattle.jc_kinds.specs.Answers.{AreStates}
 use Rattle.jc_kinds.proofs.RefusalLaws.{found_answered, refusals_answered, checked_answered, missing_answered, clash_answered, answered_so}
 use Rattle.jc_kinds.proofs.check.states.Goals as goal

@@ -1,6 +1,6 @@
 use Rattle.std.proofs.Common.{length}
-use Rattle.jc_base.proofs.MetNamesLaws.{grows_both}
-use Rattle.jc_base.proofs.NumberedLaws.{grown_count, frames_numbered}
+use Rattle.jc_methods.proofs.MetNamesLaws.{grows_both}
+use Rattle.jc_methods.proofs.NumberedLaws.{grown_count, frames_numbered}
 use Rattle.jc_kinds.proofs.AnswerLaws.{entry_on}
 use Rattle.jc_kinds.proofs.check.walk_body.Goals as goal
 

@@ -1,5 +1,5 @@
 use Rattle.std.proofs.Common.{subst}
-use Rattle.jc_base.specs.declared.kind.Kind.{Kind}
+use Rattle.jc_methods.specs.declared.kind.Kind.{Kind}
 use Rattle.jc_kinds.specs.First.{IsFirst}
 use Rattle.jc_kinds.specs.Guarded.{column_of, IsUnfitInRow}
 use Rattle.jc_kinds.proofs.GuardLaws.{row_at, next_unfit, no_rows_unfit}

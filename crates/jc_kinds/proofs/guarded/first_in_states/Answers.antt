@@ -1,5 +1,5 @@
 use Rattle.std.proofs.Common.{rules, ◌≡◌, ◌<◌, true, length, sym, ap, ◌∙◌}
-use Rattle.jc_base.specs.declared.kind.Kind.{Kind}
+use Rattle.jc_methods.specs.declared.kind.Kind.{Kind}
 use Rattle.jc_kinds.specs.KindFits.{kind_fits}
 use Rattle.jc_kinds.proofs.GuardLaws.{fit_next}
 use Rattle.jc_kinds.proofs.guarded.first_in_states.Goals as goal

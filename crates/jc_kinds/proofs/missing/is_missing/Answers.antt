@@ -1,5 +1,5 @@
 use Rattle.std.proofs.Common.{sym, ◌∙◌, ap, List}
-use Rattle.jc_base.specs.declared.body.FrameAt.{FrameAt}
+use Rattle.jc_methods.specs.declared.body.FrameAt.{FrameAt}
 use Rattle.jc_kinds.specs.Frames.{frame_in}
 use Rattle.jc_kinds.proofs.MissingLaws.{frame_missing}
 use Rattle.jc_kinds.proofs.missing.is_missing.Goals as goal

@@ -1,7 +1,7 @@
 use Rattle.std.proofs.Common.{refl, nat_eq, get_or, true, set, ◌<◌, length, arith}
 use Rattle.std.specs.Cmp.{nat_eq_equiv}
 use Rattle.std.proofs.lemmas.List.Elements.{All-get_or}
-use Rattle.jc_base.specs.declared.body.Handler.{Handler}
+use Rattle.jc_methods.specs.declared.body.Handler.{Handler}
 use Rattle.jc_kinds.proofs.MarkLaws.{marks_none, marks_one, marks_next, marks_all}
 use Rattle.jc_kinds.proofs.missing.mark_handlers.Goals as goal
 

@@ -1,6 +1,6 @@
 use Rattle.std.proofs.Common.{take}
 use Rattle.std.specs.List.{list_any}
-use Rattle.jc_base.specs.Flow.{targets_of}
+use Rattle.jc_methods.specs.Flow.{targets_of}
 use Rattle.jc_kinds.specs.Marks.{Marks, is_among}
 use Rattle.jc_kinds.proofs.missing.mark_targets.Given as goal
 

@@ -1,5 +1,5 @@
 use Rattle.std.proofs.Common.{◌<◌, length, arith}
-use Rattle.jc_base.proofs.PlacedInsnLaws.{few_insns}
+use Rattle.jc_methods.proofs.PlacedInsnLaws.{few_insns}
 use Rattle.jc_plan.specs.Edges.{branches_of}
 use Rattle.jc_plan.proofs.FlowLaws.{few_targets, few_at}
 use Rattle.jc_plan.proofs.PlacesLaws.{joins_one}

@@ -1,5 +1,5 @@
 use Rattle.std.proofs.Common.{◌≡◌, take}
-use Rattle.jc_base.specs.PlainLists.{join_from}
+use Rattle.jc_bytes.specs.PlainLists.{join_from}
 use Rattle.jc_plan.specs.Edges.{branches_of}
 use Rattle.jc_plan.proofs.branch.branches.Given as goal
 

@@ -1,5 +1,5 @@
 use Rattle.std.proofs.Common.{◌≡◌, ◌++◌, take}
-use Rattle.jc_base.specs.PlainLists.{map_from}
+use Rattle.jc_bytes.specs.PlainLists.{map_from}
 use Rattle.jc_plan.specs.Edges.{arm}
 use Rattle.jc_plan.proofs.branch.put_arms.Given as goal
 

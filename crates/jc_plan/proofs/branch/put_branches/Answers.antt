@@ -1,5 +1,5 @@
 use Rattle.std.proofs.Common.{length, ap, arith}
-use Rattle.jc_base.specs.Flow.{targets_of}
+use Rattle.jc_methods.specs.Flow.{targets_of}
 use Rattle.jc_plan.proofs.FlowLaws.{length_seen}
 use Rattle.jc_plan.proofs.branch.put_branches.Goals as goal
 

@@ -1,8 +1,8 @@
 use Rattle.std.proofs.Common.{◌≡◌, ◌≤◌, List, length, refl, sym, ap, subst, arith}
 use Rattle.std.specs.Prelude.{All}
-use Rattle.jc_base.specs.InsnUse.{LeadsWithin}
-use Rattle.jc_base.specs.WellMade.{insns_and_arms}
-use Rattle.jc_base.specs.declared.insn.Insn.{Insn}
+use Rattle.jc_methods.specs.InsnUse.{LeadsWithin}
+use Rattle.jc_methods.specs.WellMade.{insns_and_arms}
+use Rattle.jc_methods.specs.declared.insn.Insn.{Insn}
 use Rattle.jc_plan.specs.Edges.{branches}
 use Rattle.jc_plan.proofs.CountingLaws.{room_for_rows, room_for_branches, entries_counted}
 use Rattle.jc_plan.proofs.entries.count_entries.Goals as goal

@@ -1,5 +1,5 @@
 use Rattle.std.proofs.Common.{◌<◌, ℕ, Bool, ◌&&◌, ◌||◌, nat_le, List, ◌∷◌, [], ◌++◌, length, get_or, sym, ap, ap₂, ◌∙◌, arith}
-use Rattle.jc_base.specs.declared.insn.Insn.{Insn}
+use Rattle.jc_methods.specs.declared.insn.Insn.{Insn}
 use Rattle.jc_plan.specs.Entries.{entries, is_multi_target}
 use Rattle.jc_plan.proofs.PlacesLaws.{puts_place, mapped_at, length_mapped}
 use Rattle.jc_plan.proofs.NumberingLaws.{fallen_next}

@@ -1,5 +1,5 @@
 use Rattle.std.proofs.Common.{◌≡◌, map}
-use Rattle.jc_base.specs.PlainLists.{numbers_from}
+use Rattle.jc_bytes.specs.PlainLists.{numbers_from}
 use Rattle.jc_plan.specs.Entries.{is_fallen_into, is_multi_target}
 use Rattle.jc_plan.proofs.entries.multi_targets.Given as goal
 

@@ -1,8 +1,8 @@
 use Rattle.std.proofs.Common.{◌≡◌, ◌<◌, ℕ, ◌+◌, Bool, Option, List, ◌∷◌, [], ◌++◌, length, get_or, map, ap, ap₂, ◌∙◌, arith}
 use Rattle.std.specs.List.{count_by}
-use Rattle.jc_base.specs.PlainLists.{places}
-use Rattle.jc_base.specs.declared.insn.Insn.{Insn}
-use Rattle.jc_base.proofs.PlacedInsnLaws.{few_insns}
+use Rattle.jc_bytes.specs.PlainLists.{places}
+use Rattle.jc_methods.specs.declared.insn.Insn.{Insn}
+use Rattle.jc_methods.proofs.PlacedInsnLaws.{few_insns}
 use Rattle.jc_plan.specs.declared.branch.Way.TheVariants.{Falls}
 use Rattle.jc_plan.specs.Edges.{branches_of}
 use Rattle.jc_plan.specs.Entries.{one_if, is_multi_target}

@@ -1,5 +1,5 @@
 use Rattle.std.proofs.Common.{◌≡◌, ◌+◌, map, take}
-use Rattle.jc_base.specs.PlainLists.{map_from, numbers_from}
+use Rattle.jc_bytes.specs.PlainLists.{map_from, numbers_from}
 use Rattle.jc_plan.specs.Probed.{probes_before}
 use Rattle.jc_plan.specs.Plan.{lead_probe, out_probes}
 use Rattle.jc_plan.proofs.planning.plan.Given as goal

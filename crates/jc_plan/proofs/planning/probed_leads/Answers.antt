@@ -1,7 +1,7 @@
 use Rattle.std.proofs.Common.{◌≡◌, ◌<◌, ℕ, Bool, List, ◌∷◌, [], ◌++◌, length, get_or, map, sym, ap, ap₂, ◌∙◌, arith}
-use Rattle.jc_base.specs.PlainLists.{numbers_from, places}
-use Rattle.jc_base.specs.declared.insn.Insn.{Insn}
-use Rattle.jc_base.specs.declared.body.LineAt.{LineAt}
+use Rattle.jc_bytes.specs.PlainLists.{numbers_from, places}
+use Rattle.jc_methods.specs.declared.insn.Insn.{Insn}
+use Rattle.jc_methods.specs.declared.body.LineAt.{LineAt}
 use Rattle.jc_plan.specs.declared.branch.Way.TheVariants.{Falls}
 use Rattle.jc_plan.specs.Entries.{is_multi_target, is_invocation_line, is_line_that_calls}
 use Rattle.jc_plan.specs.Probed.{is_probed_way}

@@ -1,5 +1,5 @@
 use Rattle.std.proofs.Common.{◌≡◌, map}
-use Rattle.jc_base.specs.PlainLists.{numbers_from}
+use Rattle.jc_bytes.specs.PlainLists.{numbers_from}
 use Rattle.jc_plan.specs.declared.branch.Way.TheVariants.{Falls}
 use Rattle.jc_plan.specs.Entries.{is_fallen_into}
 use Rattle.jc_plan.specs.Probed.{is_probed_way}

@@ -4,8 +4,8 @@ use Rattle.std.proofs.lemmas.Iterator.Consumers.{YieldsList-from_enumerate, Yiel
 use Rattle.std.proofs.lemmas.List.{length_push}
 use Rattle.std.proofs.lemmas.List.FromFn.{length-enumerate_from}
 use Rattle.std.specs.declared.alloc.Global.{Global}
-use Rattle.jc_base.specs.declared.fail.Fail.{Fail}
-use Rattle.jc_base.specs.declared.refusal.Refusal.{Refusal}
+use Rattle.jc_base.specs.declared.Fail.{Fail}
+use Rattle.jc_base.specs.declared.Refusal.{Refusal}
 use Rattle.jc_top.specs.Words.{words_of}
 use Rattle.jc_top.proofs.EachLaws.{at_place}
 use Rattle.jc_top.proofs.ListingLaws.{no_lines, listing_put, listing_refused, listing_done}

@@ -2,7 +2,8 @@ use Rattle.std.proofs.Common.{◌≤◌, ◌+◌, ◌∷◌, [], ℕ, All, List,
 use Rattle.std.proofs.lemmas.Result.{err_from_is_err_and}
 use Rattle.std.proofs.lemmas.List.{take_all, length-append}
 use Rattle.std.proofs.lemmas.List.Elements.{All-push}
-use Rattle.jc_base.specs.Outside.{FileMap, WhereTold, most_read}
+use Rattle.jc_base.specs.Reader.{most_read}
+use Rattle.jc_base.specs.Outside.{FileMap, WhereTold}
 use Rattle.std.specs.declared.alloc.Global.{Global}
 use Rattle.jc_top.specs.Words.{Word, words_of}
 use Rattle.jc_top.specs.Work.{AreRead, Holds}

@@ -1,5 +1,6 @@
 use Rattle.std.proofs.Common.{◌≡◌, ◌≤◌, All, length, take}
-use Rattle.jc_base.specs.Outside.{WhereTold, most_read}
+use Rattle.jc_base.specs.Reader.{most_read}
+use Rattle.jc_base.specs.Outside.{WhereTold}
 use Rattle.jc_top.specs.Words.{words_of}
 use Rattle.jc_top.specs.Work.{AreRead}
 use Rattle.jc_top.proofs.input.read_all.Given as goal

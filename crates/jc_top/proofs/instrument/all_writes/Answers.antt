@@ -2,7 +2,7 @@ use Rattle.std.proofs.Common.{rules, ℕ, Result, length}
 use Rattle.std.proofs.lemmas.Iterator.Adapters.{YieldsList-from_vec}
 use Rattle.std.proofs.lemmas.Iterator.Consumers.{YieldsList-from_enumerate, YieldsList-turn}
 use Rattle.std.proofs.lemmas.List.{length_push}
-use Rattle.jc_base.specs.declared.fail.Memory.{Memory}
+use Rattle.jc_base.specs.declared.Memory.{Memory}
 use Rattle.jc_top.specs.declared.instrument.Decided.{Decided}
 use Rattle.jc_top.proofs.EachLaws.{at_place}
 use Rattle.jc_top.proofs.InstrumentLaws.{decided_written}

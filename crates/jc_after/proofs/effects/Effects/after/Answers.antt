@@ -1,5 +1,5 @@
 use Rattle.std.proofs.Common.{length, IfOk, IfSome, sym, subst}
-use Rattle.jc_base.specs.declared.kind.State.{State}
+use Rattle.jc_methods.specs.declared.kind.State.{State}
 use Rattle.jc_after.specs.Answers.{IsStateOf, IsWhole, LeavesState}
 use Rattle.jc_after.specs.Effects.{body_of}
 use Rattle.jc_after.proofs.effects.Effects.after.Goals as goal

@@ -1,5 +1,5 @@
 use Rattle.std.proofs.Common.{option_map, ap}
-use Rattle.jc_base.specs.Held.{held}
+use Rattle.jc_methods.specs.Held.{held}
 use Rattle.jc_after.specs.Steps.{step_in, results}
 use Rattle.jc_after.specs.Table.{form}
 use Rattle.jc_after.proofs.ApplyLaws.{built_there}

@@ -1,6 +1,6 @@
 use Rattle.std.proofs.Common.{List, length, ap, sym, ◌∙◌}
-use Rattle.jc_base.specs.declared.body.Use.{Use}
-use Rattle.jc_base.specs.WellMade.{what_used}
+use Rattle.jc_methods.specs.declared.body.Use.{Use}
+use Rattle.jc_methods.specs.WellMade.{what_used}
 use Rattle.jc_after.specs.declared.effect.Effect.{Effect}
 use Rattle.jc_after.proofs.DoesLaws.{all_say_count, says_now, all_say_same}
 use Rattle.jc_after.proofs.effects.Effects.at.Goals as goal

@@ -1,6 +1,6 @@
 use Rattle.std.proofs.Common.{◌≡◌, ℕ, suc, ◌-◌, List, length, map, take, drop, refl, ap, sym, ◌∙◌, arith}
 use Rattle.std.proofs.lemmas.List.{take_all, length-drop}
-use Rattle.jc_base.specs.declared.kind.Kind.{Kind}
+use Rattle.jc_methods.specs.declared.kind.Kind.{Kind}
 use Rattle.jc_after.specs.After.{ground_of}
 use Rattle.jc_after.specs.Effects.{body_of}
 use Rattle.jc_after.specs.Shapes.{gives_of}

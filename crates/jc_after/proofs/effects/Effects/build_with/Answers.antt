@@ -1,6 +1,6 @@
 use Rattle.std.proofs.Common.{Option, option_map, ap, sym, ◌∙◌}
-use Rattle.jc_base.specs.declared.kind.Kind.{Kind}
-use Rattle.jc_base.specs.Held.{held, seen}
+use Rattle.jc_methods.specs.declared.kind.Kind.{Kind}
+use Rattle.jc_methods.specs.Held.{held, seen}
 use Rattle.jc_after.specs.After.{ground_of}
 use Rattle.jc_after.specs.Effects.{body_of}
 use Rattle.jc_after.specs.Step.{built}

@@ -1,6 +1,6 @@
 use Rattle.std.proofs.Common.{Option, refl, ap, sym, ◌∙◌}
-use Rattle.jc_base.specs.declared.insn.Insn.TheVariants as insns
-use Rattle.jc_base.specs.declared.body.What.{What}
+use Rattle.jc_methods.specs.declared.insn.Insn.TheVariants as insns
+use Rattle.jc_methods.specs.declared.body.What.{What}
 use Rattle.jc_after.specs.After.{returns_of, constant_step, member_step, interface_step, dynamic_step, class_step, multi_step}
 use Rattle.jc_after.specs.Effects.{body_of}
 use Rattle.jc_after.specs.Steps.{constant_by, static_by, object_by, member_by, class_by, multi_by}

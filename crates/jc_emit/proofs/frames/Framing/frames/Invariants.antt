@@ -1,5 +1,5 @@
 use Rattle.std.proofs.Common.{◌≡◌, ℕ}
-use Rattle.jc_base.specs.PlainLists.{pieces}
+use Rattle.jc_bytes.specs.PlainLists.{pieces}
 use Rattle.jc_emit.specs.Emission.{frames_at}
 use Rattle.jc_emit.specs.Framing.{IsFraming}
 use Rattle.jc_emit.proofs.frames.Framing.frames.Given as goal

@@ -1,6 +1,6 @@
 use Rattle.std.proofs.Common.{◌≡◌, ℕ, false, List, ap, ◌∙◌, subst}
 use Rattle.std.specs.Prelude.{IfOk, slice_index}
-use Rattle.jc_base.specs.declared.kind.State.{State}
+use Rattle.jc_methods.specs.declared.kind.State.{State}
 use Rattle.jc_emit.specs.Shift.{shifted_state}
 use Rattle.jc_emit.specs.Items.{image_of}
 use Rattle.jc_emit.specs.Framing.{without}

@@ -1,6 +1,6 @@
 use Rattle.std.proofs.Common.{ℕ, ◌+◌, false, List, ◌++◌, length, sym, ap, ap₂, ◌∙◌, arith}
-use Rattle.jc_base.specs.declared.kind.State.{State}
-use Rattle.jc_base.specs.declared.body.FrameAt.{FrameAt}
+use Rattle.jc_methods.specs.declared.kind.State.{State}
+use Rattle.jc_methods.specs.declared.body.FrameAt.{FrameAt}
 use Rattle.jc_emit.specs.Emission.{moved_state}
 use Rattle.jc_emit.specs.Items.{image_of}
 use Rattle.jc_emit.specs.Sizes.{arms_at}

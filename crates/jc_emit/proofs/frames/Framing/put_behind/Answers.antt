@@ -1,5 +1,5 @@
 use Rattle.std.proofs.Common.{◌+◌, false, List, ◌++◌, length, ap, ◌∙◌, arith}
-use Rattle.jc_base.specs.declared.body.FrameAt.{FrameAt}
+use Rattle.jc_methods.specs.declared.body.FrameAt.{FrameAt}
 use Rattle.jc_emit.specs.Items.{image_of}
 use Rattle.jc_emit.proofs.FramingLaws.{leads_long, image_small, next_there, state_fits, table_read, lead_read, framed_read, behind_none}
 use Rattle.jc_emit.proofs.frames.Framing.put_behind.Goals as goal

@@ -1,8 +1,8 @@
 use Rattle.std.proofs.Common.{rules, ◌≡◌, ◌<◌, ◌≤◌, ℕ, false, Option, None, List, length, get_or, ap, ap₂, ◌∙◌, arith}
-use Rattle.jc_base.specs.Flow.{flow_of}
-use Rattle.jc_base.specs.declared.insn.Insn.{Insn}
-use Rattle.jc_base.specs.declared.insn.Flow.{Flow}
-use Rattle.jc_base.proofs.PlacedInsnLaws.{few_insns}
+use Rattle.jc_methods.specs.Flow.{flow_of}
+use Rattle.jc_methods.specs.declared.insn.Insn.{Insn}
+use Rattle.jc_methods.specs.declared.insn.Flow.{Flow}
+use Rattle.jc_methods.proofs.PlacedInsnLaws.{few_insns}
 use Rattle.jc_plan.specs.Plan.{lead_probe, out_probes}
 use Rattle.jc_emit.specs.Branching.{early_in, behind_in}
 use Rattle.jc_emit.specs.Sizes.{insn_at, probe_size, early_probe, behind_size}

@@ -1,5 +1,5 @@
 use Rattle.std.proofs.Common.{ℕ, length, ap, arith}
-use Rattle.jc_base.proofs.StartsLaws.{numbers_are}
+use Rattle.jc_methods.proofs.StartsLaws.{numbers_are}
 use Rattle.jc_frames.proofs.MethodLaws.{all_within}
 use Rattle.jc_frames.proofs.method.Method.new.Goals as goal
 

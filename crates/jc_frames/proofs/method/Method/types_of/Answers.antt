@@ -2,8 +2,8 @@ use Rattle.std.proofs.Common.{◌+◌, List, [], ◌∷◌, length, drop, sym, �
 use Rattle.std.proofs.lemmas.List.{drop_all, map-append}
 use Rattle.std.proofs.lemmas.List.Elements.{All-append, All-cons, All-nil}
 use Rattle.jc_frames.specs.declared.method.Value.{Value}
-use Rattle.jc_base.specs.Held.{Held}
-use Rattle.jc_base.proofs.AppendingLaws.{drop_at}
+use Rattle.jc_methods.specs.Held.{Held}
+use Rattle.jc_bytes.proofs.AppendingLaws.{drop_at}
 use Rattle.jc_frames.specs.Frames.{types_of}
 use Rattle.jc_frames.specs.Running.{held_value, held_values, IsUnnumbered}
 use Rattle.jc_frames.proofs.MethodLaws.{behind, one_typed, none_typed, all_typed}

@@ -1,6 +1,6 @@
 use Rattle.std.proofs.Common.{List, map, ◌∙◌, ap}
-use Rattle.jc_base.specs.declared.kind.Kind.{Kind}
-use Rattle.jc_base.specs.Held.{Held, held}
+use Rattle.jc_methods.specs.declared.kind.Kind.{Kind}
+use Rattle.jc_methods.specs.Held.{Held, held}
 use Rattle.jc_frames.specs.Frames.{Before, values_in}
 use Rattle.jc_frames.proofs.running.Running.first.Goals as goal
 

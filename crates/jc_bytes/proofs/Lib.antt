@@ -1,0 +1,15 @@
+pub mod DecoderLaws
+pub mod GrammarLaws
+pub mod CountedLaws
+pub mod ListReadingLaws
+pub mod OneTextLaws
+pub mod ModifiedLaws
+pub mod DescriptorLaws
+pub mod DecidingLaws
+pub mod TestLaws
+pub mod AppendingLaws
+pub mod NameLaws
+pub mod EachLaws
+pub mod ListLaws
+pub mod LeastLaws
+pub mod FirstSeenLaws

@@ -1,0 +1,17 @@
+pub mod Reader
+pub mod Decoder
+pub mod Grammar
+pub mod Parsing
+pub mod ItemForms
+pub mod Counted
+pub mod ByteLists
+pub mod Modified
+pub mod Descriptor
+pub mod DescriptorReading
+pub mod Deciding
+pub mod Names
+pub mod Appending
+pub mod Least
+pub mod FirstSeen
+pub mod PlainLists
+pub mod Texts

@@ -1,0 +1,15 @@
+pub mod InsnFormLaws
+pub mod InsnNumbersLaws
+pub mod PlacedInsnLaws
+pub mod StartsLaws
+pub mod WidenedLaws
+pub mod UsedLaws
+pub mod DescriptorTypesLaws
+pub mod EntryLaws
+pub mod MetNamesLaws
+pub mod EntryStateLaws
+pub mod SeenLaws
+pub mod NumberedLaws
+pub mod SlotsLaws
+pub mod SameLaws
+pub mod ValueTypesLaws

@@ -1,0 +1,14 @@
+pub mod Opcode
+pub mod InsnForm
+pub mod Insn
+pub mod Flow
+pub mod Widened
+pub mod InsnUse
+pub mod WellMade
+pub mod FrameOrder
+pub mod Held
+pub mod DescriptorTypes
+pub mod EntryState
+pub mod Slots
+pub mod ValueTypes
+pub mod Starts

@@ -1,0 +1,190 @@
+//! Files in memory, whose calls fail where it is planned.
+ghost use Rattle.std.specs.Prelude.{◌≡◌, ◌≤◌, [], ◌++◌, None, Some, true, false, IfOk, OnOk, OnErr, Result, Err, option_map, slice_index};
+ghost use Rattle.std.specs.FinMap.{get, insert, empty};
+ghost use Rattle.jc_outside.specs.Outside.{ReadGives, ReadCause, WriteLeaves, WriteCause};
+ghost use Rattle.jc_outside.specs.InMemory.{held, emptied};
+ghost use Rattle.jc_outside.specs.Planned.{is_planned, next_call, count_after};
+
+use crate::planned::{PlannedFaults, front};
+use crate::sink::next_count;
+use crate::{FileFault, Files};
+use jc_bytes::{MOST_READ, Memory};
+use std::alloc::{AllocError, Global};
+use std::collections::BTreeMap;
+use std::marker::Model;
+
+/// The bytes that a path holds.
+fn bytes_at<'a>(files: &'a BTreeMap<String, Vec<u8>>, path: &str) -> Option<&'a [u8]>
+    ensures { option_map (λ bytes. bytes.now) result ≡ get (held files.now) path.now }
+{
+    match files.get(path) {
+        Some(bytes) => Some(bytes.as_slice()),
+        None => None,
+    }
+}
+
+/// Makes a path hold these bytes.
+fn place(
+    alloc: Global,
+    files: &mut BTreeMap<String, Vec<u8>>,
+    path: &str,
+    bytes: &[u8],
+) -> Result<(), AllocError>
+    ensures ok { OnOk result (held files.new ≡ insert (held files.old) path.now bytes.now) }
+    ensures err { OnErr result (held files.new ≡ held files.old) }
+{
+    let path = String::from_str(alloc, path)?;
+    let bytes = Vec::from_slice(alloc, bytes)?;
+    files.insert(path, bytes)?;
+    Ok(())
+}
+
+/// Leaves no byte at a path that holds some.
+fn empty_out(files: &mut BTreeMap<String, Vec<u8>>, path: &str)
+    ensures { held files.new ≡ emptied (held files.old) path.now }
+{
+    if let Some(bytes) = files.get_mut(path) {
+        bytes.clear();
+    }
+}
+
+/// Makes a path hold these bytes, or none of them where memory is refused.
+fn overwrite(
+    alloc: Global,
+    files: &mut BTreeMap<String, Vec<u8>>,
+    path: &str,
+    bytes: &[u8],
+) -> Result<(), AllocError>
+    ensures ok { OnOk result (held files.new ≡ insert (held files.old) path.now bytes.now) }
+    ensures err { OnErr result (held files.new ≡ emptied (held files.old) path.now) }
+{
+    match place(alloc, files, path, bytes) {
+        Ok(()) => Ok(()),
+        Err(refused) => {
+            empty_out(files, path);
+            Err(refused)
+        }
+    }
+}
+
+/// Files in memory. All that they hold is told, and the calls that are to fail are known.
+#[derive(Drop)]
+pub struct MemoryFiles {
+    alloc: Global,
+    files: BTreeMap<String, Vec<u8>>,
+    calls: PlannedFaults,
+    read_faults: u64,
+    write_faults: u64,
+}
+
+impl Model for MemoryFiles {
+    ghost use Rattle.jc_outside.specs.InMemory.{MemoryState, held, state_code};
+
+    ghost Value = { MemoryState };
+
+    ghost coded = { state_code };
+
+    ghost view = { λ m. record {
+      files = held m.files;
+      calls = record { failing = m.calls.failing; made = m.calls.made };
+      read_faults = m.read_faults;
+      write_faults = m.write_faults;
+    } };
+}
+
+impl MemoryFiles {
+    /// No files. The calls of `Files` with these numbers, counted from 1 over all calls on the
+    /// value, are to fail.
+    ///
+    /// # Errors
+    ///
+    /// `Memory` where memory was refused.
+    pub fn new(alloc: Global, failing: &[u32]) -> Result<MemoryFiles, Memory>
+        ensures { IfOk result (λ m. m ≡ record {
+          files = empty;
+          calls = record { failing = failing.now; made = 0 };
+          read_faults = 0;
+          write_faults = 0;
+        }) }
+    {
+        Ok(MemoryFiles {
+            alloc,
+            files: BTreeMap::new(alloc),
+            calls: PlannedFaults::new(alloc, failing)?,
+            read_faults: 0,
+            write_faults: 0,
+        })
+    }
+
+    /// Places a file. This is no call of `Files`, and isn't counted.
+    ///
+    /// # Errors
+    ///
+    /// `Memory` where memory was refused. Then nothing has changed.
+    pub fn with(&mut self, alloc: Global, path: &str, bytes: &[u8]) -> Result<(), Memory>
+        ensures ok { OnOk result (self.new ≡ record self.old { files = insert self.old.files path.now bytes.now }) }
+        ensures err { OnErr result (self.new ≡ self.old) }
+    {
+        place(alloc, &mut self.files, path, bytes)?;
+        Ok(())
+    }
+
+    /// The bytes that a path holds, or None exactly where there is no file.
+    pub fn get(&self, path: &str) -> Option<&[u8]>
+        ensures { option_map (λ bytes. bytes.now) result ≡ get self.now.files path.now }
+    {
+        bytes_at(&self.files, path)
+    }
+}
+
+impl Files for MemoryFiles {
+    ghost contents = { λ m. Some m.files };
+
+    ghost landed = { λ path bytes. bytes };
+
+    ghost read_faults = { λ m. m.read_faults };
+
+    ghost write_faults = { λ m. m.write_faults };
+
+    fn read(&mut self, _alloc: Global, path: &str, into: &mut Vec<u8>) -> Result<(), FileFault>
+        ensures gives { ReadGives (Some self.old.files) path.now into.old.items into.new.items result }
+        ensures cause { ReadCause (Some self.old.files) self.old.read_faults self.new.read_faults result }
+        ensures contents { Some self.new.files ≡ Some self.old.files }
+        ensures write_faults { self.new.write_faults ≡ self.old.write_faults }
+        // Which calls fail.
+        ensures planned { is_planned self.old.calls ≡ true → result ≡ Err FileFault.Failed }
+        ensures unplanned { result ≡ Err FileFault.Failed → is_planned self.old.calls ≡ true }
+        ensures calls { self.new.calls ≡ next_call self.old.calls }
+    {
+        if self.calls.next_fails() {
+            self.read_faults = next_count(self.read_faults);
+            return Err(FileFault::Failed);
+        }
+        let Some(bytes) = bytes_at(&self.files, path) else {
+            return Err(FileFault::Missing);
+        };
+        if bytes.len() > MOST_READ {
+            return Err(FileFault::TooLarge);
+        }
+        into.extend_from_slice(bytes)?;
+        Ok(())
+    }
+
+    fn write(&mut self, path: &str, bytes: &[u8]) -> Result<(), FileFault>
+        ensures leaves { WriteLeaves bytes.now path.now (Some self.old.files) (Some self.new.files) result }
+        ensures cause { WriteCause self.old.write_faults self.new.write_faults result }
+        ensures read_faults { self.new.read_faults ≡ self.old.read_faults }
+        // Which calls fail. Any other fails for want of memory alone.
+        ensures planned { is_planned self.old.calls ≡ true → result ≡ Err FileFault.Failed }
+        ensures calls { self.new.calls ≡ next_call self.old.calls }
+    {
+        let fails = self.calls.next_fails();
+        let part = front(bytes, fails);
+        let written = overwrite(self.alloc, &mut self.files, path, part);
+        if fails || written.is_err() {
+            self.write_faults = next_count(self.write_faults);
+            return Err(FileFault::Failed);
+        }
+        Ok(())
+    }
+}
