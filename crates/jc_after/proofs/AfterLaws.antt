@@ -14,18 +14,18 @@ use Rattle.jc_methods.specs.declared.body.What.TheVariants as whats
 use Rattle.jc_methods.specs.declared.body.Body.{Body}
 use Rattle.jc_bytes.specs.Descriptor.{FieldType, Byte, Char, Double, Float, Int, Long, Short, Boolean, Object, Array, MethodType}
 use Rattle.jc_methods.specs.DescriptorTypes.{field_type_in, method_type_in}
-use Rattle.jc_methods.specs.Flow.{is_test, is_return, inverse_of}
+use Rattle.jc_methods.specs.Flow.{is_conditional_branch, is_return, inverse_of}
 use Rattle.jc_methods.specs.WellMade.{what_used}
 use Rattle.jc_methods.specs.Opcode as opcode
 use Rattle.jc_methods.specs.Insn.{with_places}
 use Rattle.jc_methods.specs.InsnUse.{pool_place, is_of_two_slots}
-use Rattle.jc_methods.specs.Held.{Held, top, uninit, Seen, slots}
+use Rattle.jc_methods.specs.VerificationTypes.{VerificationType, top, uninit, TypeState, slots}
 use Rattle.jc_methods.specs.EntryState.{held_of}
 use Rattle.jc_bytes.proofs.EachLaws.{AllFrom, all_from}
 use Rattle.jc_after.specs.declared.want.Want.{Want}
 use Rattle.jc_after.specs.declared.want.Want.TheVariants as wants
 use Rattle.jc_after.specs.Wants.{is_int, accepts, accepts_all}
-use Rattle.jc_after.specs.Step.{Gives, kind, item, Form, Step, moves, loads, stores, counts, picks, makes, builds, fails, Ground, below, upper, limited, has_form, moved, moved_by, with_stack, is_array, element_of, is_made, without, replaced, given_of, class_built, built_as, apply}
+use Rattle.jc_after.specs.Step.{Gives, kind, item, StackEffect, Step, moves, loads, stores, counts, picks, makes, builds, fails, Ground, below, upper, limited, has_form, moved, moved_by, with_stack, is_array, element_of, is_made, without, replaced, given_of, class_built, built_as, apply}
 use Rattle.jc_after.specs.Table.{Row, table, find, forms_at}
 use Rattle.jc_after.specs.After.{result_of, field_step, static_step, object_step, method_step, member_step, interface_step, dynamic_step, computed_step, constant_step, array_of, array_step, class_step, multi_step, return_op, return_step, simple_step, local_want, local_step, step_of, insn_at, class_in, new_class, ground_of, returns_of, after_of}
 use Rattle.jc_after.specs.Shift.{shifted, slot_of, with_slot, IsImage, led, inverted, HasImages, Straddles, shifted_step, IsPlaceless, IsPlain, CanShift, takes_pair, Images, AfterShifts}
@@ -33,7 +33,7 @@ use Rattle.jc_after.proofs.ShiftLaws.{shift-law}
 
 -- ---- more room on the stack
 
-limit_more : (m n : ℕ) (stack x : List Held) → m ≤ n → limited m stack ≡ Some x → limited n stack ≡ Some x
+limit_more : (m n : ℕ) (stack x : List VerificationType) → m ≤ n → limited m stack ≡ Some x → limited n stack ≡ Some x
 limit_more m n stack x le e = by (nat_le (slots stack) m) refl e
   where
     by : (b : Bool) → nat_le (slots stack) m ≡ b → (if b then Some stack else None) ≡ Some x → limited n stack ≡ Some x
@@ -48,7 +48,7 @@ else_more : {X : Type 0} (b : Bool) (o p : Option X) (x : X) → (o ≡ Some x �
 else_more true o p x f e = e
 else_more false o p x f e = f e
 
-by_more : (m n : ℕ) (fs : List Form) (stack x : List Held) → m ≤ n → moved_by m fs stack ≡ Some x → moved_by n fs stack ≡ Some x
+by_more : (m n : ℕ) (fs : List StackEffect) (stack x : List VerificationType) → m ≤ n → moved_by m fs stack ≡ Some x → moved_by n fs stack ≡ Some x
 by_more m n [] stack x le e = e
 by_more m n (f ∷ fs) stack x le e = by (has_form f stack) (λ g. by_more m n fs stack x le g) e
   where
@@ -56,19 +56,19 @@ by_more m n (f ∷ fs) stack x le e = by (has_form f stack) (λ g. by_more m n f
     by true more e = limit_more m n (moved f stack) x le e
     by false more e = more e
 
-stack_more : (s t : Seen) (o p : Option (List Held)) → ((x : List Held) → o ≡ Some x → p ≡ Some x) → with_stack s o ≡ Some t → with_stack s p ≡ Some t
+stack_more : (s t : TypeState) (o p : Option (List VerificationType)) → ((x : List VerificationType) → o ≡ Some x → p ≡ Some x) → with_stack s o ≡ Some t → with_stack s p ≡ Some t
 stack_more s t None p h e = absurd (none-some _ e)
 stack_more s t (Some x) p h e = ap (with_stack s) (h x refl) ∙ e
 
-pushed_more : (m n : ℕ) (s t : Seen) (stack : List Held) → m ≤ n → with_stack s (limited m stack) ≡ Some t → with_stack s (limited n stack) ≡ Some t
+pushed_more : (m n : ℕ) (s t : TypeState) (stack : List VerificationType) → m ≤ n → with_stack s (limited m stack) ≡ Some t → with_stack s (limited n stack) ≡ Some t
 pushed_more m n s t stack le e = stack_more s t (limited m stack) (limited n stack) (λ x q. limit_more m n stack x le q) e
 
-built_more : (m n : ℕ) (old : Held) (rest : List Held) (given : List Gives) (name : Option (List ℕ)) (s t : Seen) → m ≤ n → built_as m old rest given name s ≡ Some t → built_as n old rest given name s ≡ Some t
+built_more : (m n : ℕ) (old : VerificationType) (rest : List VerificationType) (given : List Gives) (name : Option (List ℕ)) (s t : TypeState) → m ≤ n → built_as m old rest given name s ≡ Some t → built_as n old rest given name s ≡ Some t
 built_more m n old rest given None s t le e = e
 built_more m n old rest given (Some name) s t le e = pushed_more m n (record { locals = map (replaced old name) s.locals; stack = s.stack }) t (map (replaced old name) rest ++ map (given_of []) given) le e
 
 -- a step that has a state after it has the same one where the stack has more slots
-pub more_room : (g : Ground) (n : ℕ) (st : Step) (s t : Seen) → g.most ≤ n → apply g st s ≡ Some t → apply (record g { most = n }) st s ≡ Some t
+pub more_room : (g : Ground) (n : ℕ) (st : Step) (s t : TypeState) → g.most ≤ n → apply g st s ≡ Some t → apply (record g { most = n }) st s ≡ Some t
 more_room g n (moves forms) s t le e = stack_more s t (moved_by g.most forms s.stack) (moved_by n forms s.stack) (λ x q. by_more g.most n forms s.stack x le q) e
 more_room g n (loads k w) s t le e = if_more (accepts w (get_or s.locals k top)) _ _ t (pushed_more g.most n s t (s.stack ++ get_or s.locals k top ∷ []) le) e
 more_room g n (stores k w) s t le e = e
@@ -123,7 +123,7 @@ still_if v b x y p q = record { stays = if_stays v b x y p.stays q.stays; can = 
 still_fails : (v : ℕ) → IsStill v fails
 still_fails v = record { stays = refl; can = tt }
 
-still_moves : (v : ℕ) (forms : List Form) → AllByRecursion IsPlain forms → IsStill v (moves forms)
+still_moves : (v : ℕ) (forms : List StackEffect) → AllByRecursion IsPlain forms → IsStill v (moves forms)
 still_moves v forms p = record { stays = refl; can = p }
 
 still_gives : (v : ℕ) (type : FieldType) (wanted : List Want) → IsStill v (moves (record { wanted = wanted; given = kind (held_of type) ∷ [] } ∷ []))
@@ -195,7 +195,7 @@ still_dynamic v (Some whats.MethodKind) = still_fails v
 still_dynamic v (Some (whats.Computed desc)) = still_fails v
 still_dynamic v None = still_fails v
 
-still_plain : (v : ℕ) (h : Held) (wanted : List Want) → IsPlaceless (kind h) → IsStill v (moves (record { wanted = wanted; given = kind h ∷ [] } ∷ []))
+still_plain : (v : ℕ) (h : VerificationType) (wanted : List Want) → IsPlaceless (kind h) → IsStill v (moves (record { wanted = wanted; given = kind h ∷ [] } ∷ []))
 still_plain v h wanted p = still_moves v _ ((p, tt), tt)
 
 still_computed : (v : ℕ) (type : Option FieldType) → IsStill v (computed_step type)
@@ -270,7 +270,7 @@ plain_gives : Gives → Bool
 plain_gives (kind (uninit at)) = false
 plain_gives g = true
 
-plain_form : Form → Bool
+plain_form : StackEffect → Bool
 plain_form f = list_all plain_gives f.given
 
 plain_row : Row → Bool
@@ -285,7 +285,7 @@ unfolding plain_gives
 gives_fact (kind (uninit at)) e = absurd (true≢false (sym e))
 gives_fact (kind h) e = by h e
   where
-    by : (h : Held) → plain_gives (kind h) ≡ true → IsPlaceless (kind h)
+    by : (h : VerificationType) → plain_gives (kind h) ≡ true → IsPlaceless (kind h)
     by (uninit at) e = absurd (true≢false (sym e))
     by h e = tt
 gives_fact (item k) e = tt
@@ -321,7 +321,7 @@ nulls_invert : AllFrom Inverts opcode.ifnull 2
 unfolding forms_at table inverse_of
 nulls_invert = (refl, (refl, tt))
 
-pub test_inverts : (op : ℕ) → is_test op ≡ true → Inverts op
+pub test_inverts : (op : ℕ) → is_conditional_branch op ≡ true → Inverts op
 test_inverts op test = ⊎_elim
     (λ range. let p = and_parts (nat_le opcode.ifeq op) (nat_le op opcode.if_acmpne) range in
     let low = leb-true opcode.ifeq op p.0 in let high = leb-true op opcode.if_acmpne p.1 in
@@ -365,7 +365,7 @@ module _ (v : ℕ) (uses news : List Use) (returns : Option FieldType) where
       → step_of news returns other ≡ shifted_step v (step_of uses returns insn)
   image_shifts insn other (led to is) same = ap (step_of news returns) is ∙ led_shifts to insn same
   image_shifts insn other (inverted op to elsewhere is test new) same =
-      ap (step_of news returns) new ∙ ap (λ (forms : List Form). moves forms) (test_inverts op test) ∙ ap (λ (x : Insn). shifted_step v (step_of uses returns x)) (sym is)
+      ap (step_of news returns) new ∙ ap (λ (forms : List StackEffect). moves forms) (test_inverts op test) ∙ ap (λ (x : Insn). shifted_step v (step_of uses returns x)) (sym is)
 
 -- ---- which steps can shift
 

@@ -14,12 +14,12 @@ use Rattle.jc_bytes.specs.declared.fail.Memory.{Memory}
 use Rattle.jc_bytes.specs.Descriptor.{FieldType}
 use Rattle.jc_methods.specs.InsnUse.{is_of_two_slots, LocalsWithin}
 use Rattle.jc_methods.specs.WellMade.{what_used}
-use Rattle.jc_methods.specs.Held.{Names, Seen, held, seen, IsNumberedState}
+use Rattle.jc_methods.specs.VerificationTypes.{Names, TypeState, verification_type, type_state, IsNumberedState}
 use Rattle.jc_methods.proofs.SeenLaws.{seen_stays}
 use Rattle.jc_after.specs.declared.effects.Effects.{Effects}
 use Rattle.jc_after.specs.declared.step.Step.{Step as KeptStep}
 use Rattle.jc_after.specs.declared.step.Step.TheVariants as steps
-use Rattle.jc_after.specs.Step.{Form, Step, moves, loads, stores, counts, picks, makes, builds, fails, apply, built, picked, moved_by, with_stack}
+use Rattle.jc_after.specs.Step.{StackEffect, Step, moves, loads, stores, counts, picks, makes, builds, fails, apply, built, picked, moved_by, with_stack}
 use Rattle.jc_after.specs.After.{local_want, step_of, insn_at, ground_of, returns_of, after_of}
 use Rattle.jc_after.specs.Arrays.{array_forms}
 use Rattle.jc_after.specs.Effects.{AreEffects, body_of}
@@ -103,7 +103,7 @@ local_there old e i count x st are at lt counted kept =
     kept_range count old st (subst (InRange count) (sym (kept old are)) (range_there (body_of e).uses (returns_of (body_of e)) count x
     (subst (λ (n : ℕ). LocalsWithin n x) (sym counted) (subst (LocalsWithin (body_of e).max_locals) (same_Some _ _ (sym (slice_get-get_or (body_of e).code i x lt) ∙ at)) (are.body.locals i x lt)))))
 
-pub after_is : (b : Body) (i : ℕ) (s : Seen) (x : Insn) → insn_at b i ≡ Some x → after_of b i s ≡ apply (ground_of b i) (step_of b.uses (returns_of b) x) s
+pub after_is : (b : Body) (i : ℕ) (s : TypeState) (x : Insn) → insn_at b i ≡ Some x → after_of b i s ≡ apply (ground_of b i) (step_of b.uses (returns_of b) x) s
 unfolding after_of
 after_is b i s x at = ap (option_and_then (λ insn. apply (ground_of b i) (step_of b.uses (returns_of b) insn) s)) at
 
@@ -111,11 +111,11 @@ after_is b i s x at = ap (option_and_then (λ insn. apply (ground_of b i) (step_
 
 pub leave_step : (old : Names) (e : Effects) (i : ℕ) (s : State) (x : Insn) (st : KeptStep) (r : Result (Option State) Memory) → AreEffects old e → IsNumberedState (length old) s → insn_at (body_of e) i ≡ Some x
     → ((names : Names) → AreEffects names e → step_in names st ≡ step_of (body_of e).uses (returns_of (body_of e)) x)
-    → IfOk r (λ o. (names : Names) → AreEffects names e → option_map (seen names) o ≡ apply (ground_of (body_of e) i) (step_in names st) (seen names s)) → IfOk r (LeavesAlways old old (body_of e) i s)
+    → IfOk r (λ o. (names : Names) → AreEffects names e → option_map (type_state names) o ≡ apply (ground_of (body_of e) i) (step_in names st) (type_state names s)) → IfOk r (LeavesAlways old old (body_of e) i s)
 leave_step old e i s x st (Err f) are n at kept left = tt
 leave_step old e i s x st (Ok o) are n at kept left = λ more.
     let later = are_later old (old ++ more) e (more, refl) are in
-    left (old ++ more) later ∙ ap₂ (apply (ground_of (body_of e) i)) (kept (old ++ more) later) (seen_stays old more s n) ∙ sym (after_is (body_of e) i (seen old s) x at)
+    left (old ++ more) later ∙ ap₂ (apply (ground_of (body_of e) i)) (kept (old ++ more) later) (seen_stays old more s n) ∙ sym (after_is (body_of e) i (type_state old s) x at)
 
 picking_step : (uses : List Use) (returns : Option FieldType) (x : Insn) → is_picking x ≡ true → step_of uses returns x ≡ picks
 picking_step uses returns (insns.Simple op) e = rw e refl
@@ -135,26 +135,26 @@ picking_step uses returns (insns.Table low default arms) e = absurd (true≢fals
 picking_step uses returns (insns.Lookup default arms) e = absurd (true≢false (sym e))
 
 pub leave_pick : (old new : Names) (b : Body) (i : ℕ) (s : State) (x : Insn) (r : Result (Option State) Memory) → insn_at b i ≡ Some x → is_picking x ≡ true
-    → IfOk r (λ o. (more : Names) → option_map (seen (new ++ more)) o ≡ picked b.max_stack (seen old s)) → IfOk r (LeavesAlways old new b i s)
+    → IfOk r (λ o. (more : Names) → option_map (type_state (new ++ more)) o ≡ picked b.max_stack (type_state old s)) → IfOk r (LeavesAlways old new b i s)
 leave_pick old new b i s x (Err f) at picking left = tt
 leave_pick old new b i s x (Ok o) at picking left = λ more.
-    left more ∙ sym (after_is b i (seen old s) x at ∙ ap (λ (st : Step). apply (ground_of b i) st (seen old s)) (picking_step b.uses (returns_of b) x picking))
+    left more ∙ sym (after_is b i (type_state old s) x at ∙ ap (λ (st : Step). apply (ground_of b i) st (type_state old s)) (picking_step b.uses (returns_of b) x picking))
 
 pub leave_array : (old new : Names) (b : Body) (i elem : ℕ) (s : State) (x : Insn) (r : Result (Option State) Memory) → insn_at b i ≡ Some x → x ≡ insns.NewArray elem
-    → IfOk r (λ o. (more : Names) → option_map (seen (new ++ more)) o ≡ with_stack (seen old s) (moved_by b.max_stack (array_forms elem) (map (held old) s.stack))) → IfOk r (LeavesAlways old new b i s)
+    → IfOk r (λ o. (more : Names) → option_map (type_state (new ++ more)) o ≡ with_stack (type_state old s) (moved_by b.max_stack (array_forms elem) (map (verification_type old) s.stack))) → IfOk r (LeavesAlways old new b i s)
 leave_array old new b i elem s x (Err f) at is left = tt
-leave_array old new b i elem s x (Ok o) at is left = λ more. left more ∙ sym (after_is b i (seen old s) (insns.NewArray elem) (at ∙ ap Some is))
+leave_array old new b i elem s x (Ok o) at is left = λ more. left more ∙ sym (after_is b i (type_state old s) (insns.NewArray elem) (at ∙ ap Some is))
 
 -- ---- steps as they are kept
 
-pub built_there : (e : Effects) (s : State) (st : KeptStep) (F : Names → Form) (place : ℕ) (r : Result (Option State) Memory) → ((names : Names) → step_in names st ≡ builds (F names))
-    → IfOk r (λ o. (names : Names) (p : ℕ) → AreEffects names e → option_map (seen names) o ≡ built (ground_of (body_of e) p) (F names) (seen names s))
-    → IfOk r (λ o. (names : Names) → AreEffects names e → option_map (seen names) o ≡ apply (ground_of (body_of e) place) (step_in names st) (seen names s))
+pub built_there : (e : Effects) (s : State) (st : KeptStep) (F : Names → StackEffect) (place : ℕ) (r : Result (Option State) Memory) → ((names : Names) → step_in names st ≡ builds (F names))
+    → IfOk r (λ o. (names : Names) (p : ℕ) → AreEffects names e → option_map (type_state names) o ≡ built (ground_of (body_of e) p) (F names) (type_state names s))
+    → IfOk r (λ o. (names : Names) → AreEffects names e → option_map (type_state names) o ≡ apply (ground_of (body_of e) place) (step_in names st) (type_state names s))
 built_there e s st F place (Err f) is left = tt
-built_there e s st F place (Ok o) is left = λ names are. left names place are ∙ sym (ap (λ (x : Step). apply (ground_of (body_of e) place) x (seen names s)) (is names))
+built_there e s st F place (Ok o) is left = λ names are. left names place are ∙ sym (ap (λ (x : Step). apply (ground_of (body_of e) place) x (type_state names s)) (is names))
 
-pub moved_there : (e : Effects) (s : State) (st : KeptStep) (F : Names → Form) (place : ℕ) (r : Result (Option State) Memory) → ((names : Names) → step_in names st ≡ moves (F names ∷ []))
-    → IfOk r (λ o. (names : Names) → option_map (seen names) o ≡ with_stack (seen names s) (moved_by (body_of e).max_stack (F names ∷ []) (map (held names) s.stack)))
-    → IfOk r (λ o. (names : Names) → AreEffects names e → option_map (seen names) o ≡ apply (ground_of (body_of e) place) (step_in names st) (seen names s))
+pub moved_there : (e : Effects) (s : State) (st : KeptStep) (F : Names → StackEffect) (place : ℕ) (r : Result (Option State) Memory) → ((names : Names) → step_in names st ≡ moves (F names ∷ []))
+    → IfOk r (λ o. (names : Names) → option_map (type_state names) o ≡ with_stack (type_state names s) (moved_by (body_of e).max_stack (F names ∷ []) (map (verification_type names) s.stack)))
+    → IfOk r (λ o. (names : Names) → AreEffects names e → option_map (type_state names) o ≡ apply (ground_of (body_of e) place) (step_in names st) (type_state names s))
 moved_there e s st F place (Err f) is left = tt
-moved_there e s st F place (Ok o) is left = λ names are. left names ∙ sym (ap (λ (x : Step). apply (ground_of (body_of e) place) x (seen names s)) (is names))
+moved_there e s st F place (Ok o) is left = λ names are. left names ∙ sym (ap (λ (x : Step). apply (ground_of (body_of e) place) x (type_state names s)) (is names))

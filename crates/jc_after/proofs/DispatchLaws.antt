@@ -5,7 +5,7 @@ use Rattle.jc_methods.specs.declared.body.Use.{Use}
 use Rattle.jc_methods.specs.declared.body.What.{What}
 use Rattle.jc_methods.specs.declared.body.What.TheVariants as whats
 use Rattle.jc_bytes.specs.Descriptor.{FieldType, Long, Double, IsFieldDescriptor}
-use Rattle.jc_methods.specs.Held.{Names}
+use Rattle.jc_methods.specs.VerificationTypes.{Names}
 use Rattle.jc_methods.specs.InsnUse.{pool_place, Suits, IsOneSlotConstant, IsTwoSlotConstant, IsOfTwoSlots, IsMemberFor, IsMethod, IsCall, IsClass}
 use Rattle.jc_methods.specs.WellMade.{HasUse, what_used}
 use Rattle.jc_after.specs.declared.effect.Effect.{Effect}

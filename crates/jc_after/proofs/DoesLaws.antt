@@ -8,7 +8,7 @@ use Rattle.jc_bytes.specs.Descriptor.{FieldType, MethodType, IsFieldDescriptor, 
 use Rattle.jc_methods.specs.DescriptorTypes.{field_type_in, method_type_in}
 use Rattle.jc_methods.proofs.DescriptorTypesLaws.{field_again, method_again}
 use Rattle.jc_methods.specs.EntryState.{held_of}
-use Rattle.jc_methods.specs.Held.{Names, Held, held, Grows, IsNumbered}
+use Rattle.jc_methods.specs.VerificationTypes.{Names, VerificationType, verification_type, Grows, IsNumbered}
 use Rattle.jc_methods.specs.ValueTypes.{held_by, Says as SaysType, AllSay as AllSayTypes, SaysReturn}
 use Rattle.jc_methods.proofs.SeenLaws.{held_stays}
 use Rattle.jc_after.specs.declared.want.Want.{Want}
@@ -33,7 +33,7 @@ grown_twice a b c g h = (g.0 ++ h.0, h.1 ∙ ap (λ (l : Names). l ++ h.0) g.1 �
 pub later : {X : Type 0} (f : Names → X) (x : X) (old new : Names) → Grows old new → ((more : Names) → f (old ++ more) ≡ x) → (more : Names) → f (new ++ more) ≡ x
 later f x old new g all more = ap (λ (l : Names). f (l ++ more)) g.1 ∙ ap f (append_assoc old g.0 more) ∙ all (g.0 ++ more)
 
-some_head : (x y : Held) (xs ys : List Held) → (x ∷ xs) ≡ (y ∷ ys) → x ≡ y
+some_head : (x y : VerificationType) (xs ys : List VerificationType) → (x ∷ xs) ≡ (y ∷ ys) → x ≡ y
 some_head x y xs ys e = cc
 
 -- ---- uses
@@ -74,7 +74,7 @@ pub same_wants : (given : List ValueType) (types : List FieldType) → map held_
 same_wants [] [] e = refl
 same_wants (v ∷ given) (t ∷ types) e = ap₂ (λ w ws. w ∷ ws) (ap want_for (some_head (held_by v) (held_of t) (map held_by given) (map held_of types) e)) (same_wants given types (rest (held_by v) (held_of t) (map held_by given) (map held_of types) e))
   where
-    rest : (x y : Held) (xs ys : List Held) → (x ∷ xs) ≡ (y ∷ ys) → xs ≡ ys
+    rest : (x y : VerificationType) (xs ys : List VerificationType) → (x ∷ xs) ≡ (y ∷ ys) → xs ≡ ys
     rest x y xs ys e = cc
 same_wants [] (t ∷ types) e = absurd cc
 same_wants (v ∷ given) [] e = absurd cc
@@ -82,17 +82,17 @@ same_wants (v ∷ given) [] e = absurd cc
 -- ---- values and classes
 
 pub value_says : (desc : List ℕ) (v : ValueType) (want : Want) (k : Kind) (names more : Names) → IsFieldDescriptor desc → ((type : FieldType) → DescribesField desc type → SaysType v type)
-    → want ≡ want_for (held_by v) → held names k ≡ held_by v → IsNumbered (length names) k → value want (held (names ++ more) k) ≡ value_of (field_type_in desc)
+    → want ≡ want_for (held_by v) → verification_type names k ≡ held_by v → IsNumbered (length names) k → value want (verification_type (names ++ more) k) ≡ value_of (field_type_in desc)
 value_says desc v want k names more d says want_is kind_is numbered =
     let said = says d.0 d.1 in
     ap₂ value (want_is ∙ ap want_for said.held_is) (held_stays names more k numbered ∙ kind_is ∙ said.held_is) ∙ ap value_of (sym (field_again desc d.0 d.1))
 
-pub class_says : (n1 n2 n3 : Names) (itself constant : Kind) (array : Option Kind) (h j : Held) (a : Option Held) → Grows n1 n2 → Grows n2 n3 → ((more : Names) → held (n1 ++ more) itself ≡ h)
-    → ((more : Names) → option_map (held (n2 ++ more)) array ≡ a) → ((more : Names) → held (n3 ++ more) constant ≡ j) → (more : Names)
-    → of_class (held (n3 ++ more) itself) (option_map (held (n3 ++ more)) array) (held (n3 ++ more) constant) ≡ of_class h a j
+pub class_says : (n1 n2 n3 : Names) (itself constant : Kind) (array : Option Kind) (h j : VerificationType) (a : Option VerificationType) → Grows n1 n2 → Grows n2 n3 → ((more : Names) → verification_type (n1 ++ more) itself ≡ h)
+    → ((more : Names) → option_map (verification_type (n2 ++ more)) array ≡ a) → ((more : Names) → verification_type (n3 ++ more) constant ≡ j) → (more : Names)
+    → of_class (verification_type (n3 ++ more) itself) (option_map (verification_type (n3 ++ more)) array) (verification_type (n3 ++ more) constant) ≡ of_class h a j
 class_says n1 n2 n3 itself constant array h j a g2 g3 first second third more =
-    let p = later (λ names. held names itself) h n1 n3 (grown_twice n1 n2 n3 g2 g3) first more in
-    let q = later (λ names. option_map (held names) array) a n2 n3 g3 second more in
+    let p = later (λ names. verification_type names itself) h n1 n3 (grown_twice n1 n2 n3 g2 g3) first more in
+    let q = later (λ names. option_map (verification_type names) array) a n2 n3 g3 second more in
     λ i. of_class (p i) (q i) (third more i)
 
 pub says_now : (names : Names) (what : What) (e : Effect) → Says names what e → IsDescribed what → does names e ≡ does_of what
@@ -104,8 +104,8 @@ says_now names what e says d = ap (λ (l : Names). does l e) (sym (nil names)) �
 
 pub call_says : (desc : List ℕ) (given types : List ValueType) (returns : Option ValueType) (wanted : List Want) (result : Option Kind) (build : Bool) (names : Names) → IsMethodDescriptor desc
     → ((type : MethodType) → DescribesMethod desc type → AllSayTypes types type.parameters) → ((type : MethodType) → DescribesMethod desc type → SaysReturn returns type.returns)
-    → given ≡ types → wanted ≡ wants.Reference ∷ map (λ (v : ValueType). want_for (held_by v)) given → option_map (held names) result ≡ option_map held_by returns
-    → call wanted (option_map (held names) result) build ≡ call_of build (method_type_in desc)
+    → given ≡ types → wanted ≡ wants.Reference ∷ map (λ (v : ValueType). want_for (held_by v)) given → option_map (verification_type names) result ≡ option_map held_by returns
+    → call wanted (option_map (verification_type names) result) build ≡ call_of build (method_type_in desc)
 call_says desc given types returns wanted result build names d parameters_say returns_say same w r =
     let said = parameters_say d.0 d.1 in let back = returns_say d.0 d.1 in
     ap₂ (λ ws o. call ws o build)

@@ -5,7 +5,7 @@ use Rattle.jc_methods.specs.declared.kind.Kind.TheVariants as kinds
 use Rattle.jc_methods.specs.declared.kind.State.{State}
 use Rattle.jc_methods.specs.declared.body.Body.{Body}
 use Rattle.jc_bytes.specs.declared.fail.Memory.{Memory}
-use Rattle.jc_methods.specs.Held.{Names, Held, held, object, seen, Grows, IsNumberedState}
+use Rattle.jc_methods.specs.VerificationTypes.{Names, VerificationType, verification_type, object, type_state, Grows, IsNumberedState}
 use Rattle.jc_methods.specs.WellMade.{IsWellMadeOfAnySize, HasUse, what_used}
 use Rattle.jc_after.specs.declared.effects.Effects.{Effects}
 use Rattle.std.proofs.lemmas.Option.{slice_get_within, get_or_from_slice_get, same_Some}
@@ -29,7 +29,7 @@ pub are_later : (old new : Names) (e : Effects) → Grows old new → AreEffects
 are_later old new e g a = record {
   body = a.body;
   uses = all_say_later old new (body_of e).uses e.uses g a.uses;
-  owner = later (λ names. held names e.owner) (object (body_of e).owner) old new g a.owner;
+  owner = later (λ names. verification_type names e.owner) (object (body_of e).owner) old new g a.owner;
   returns = a.returns;
 }
 
@@ -70,10 +70,10 @@ after_whole old new b i s w is (Err e) always = tt
 
 -- the class of the method, which `this` is of when its constructor was called
 pub owner_built : (names : Names) (e : Effects) (place : ℕ) (old : Kind) → AreEffects names e → old ≡ kinds.UninitThis
-    → Some (held names e.owner) ≡ option_map object (class_built (ground_of (body_of e) place) (held names old))
+    → Some (verification_type names e.owner) ≡ option_map object (class_built (ground_of (body_of e) place) (verification_type names old))
 owner_built names e place old are is =
-    let P : Kind → Type 0 = λ k. Some (held names e.owner) ≡ option_map object (class_built (ground_of (body_of e) place) (held names k)) in
-    subst P (sym is) (ap Some (ap (λ (l : Names). held l e.owner) (sym (nil names)) ∙ are.owner []))
+    let P : Kind → Type 0 = λ k. Some (verification_type names e.owner) ≡ option_map object (class_built (ground_of (body_of e) place) (verification_type names k)) in
+    subst P (sym is) (ap Some (ap (λ (l : Names). verification_type l e.owner) (sym (nil names)) ∙ are.owner []))
   where
     nil : (xs : Names) → xs ++ [] ≡ xs
     nil [] = refl
@@ -84,8 +84,8 @@ owner_built names e place old are is =
 pub made_class : (names : Names) (e : Effects) (at made place : ℕ) (x : Insn) (code : List Insn) (effect : Effect) (result : Option Kind) → AreEffects names e
     → slice_get (body_of e).code at ≡ Some (insns.OfClass opcode.new made) → code ≡ (body_of e).code → x ≡ get_or code at x → Some place ≡ pool_place x
     → ((what : What) → what_used (body_of e).uses place ≡ Some what → IsDescribed what → does names effect ≡ does_of what)
-    → ((h constant : Held) (array : Option Held) → does names effect ≡ of_class h array constant → option_map (held names) result ≡ Some h)
-    → option_map (held names) result ≡ Some (object (new_class (body_of e).uses (insn_at (body_of e) at)))
+    → ((h constant : VerificationType) (array : Option VerificationType) → does names effect ≡ of_class h array constant → option_map (verification_type names) result ≡ Some h)
+    → option_map (verification_type names) result ≡ Some (object (new_class (body_of e).uses (insn_at (body_of e) at)))
 made_class names e at made place x code effect result are is same read named kept classed =
     by u.what u.fact u.used
   where
@@ -99,7 +99,7 @@ made_class names e at made place x code effect result are is same read named kep
     u = subst (λ (i : Insn). (p : ℕ) → pool_place i ≡ Some p → HasUse (body_of e).uses p (Suits i)) (get_or_from_slice_get (body_of e).code at (insns.OfClass opcode.new made) (insns.OfClass opcode.new made) is)
         (are.body.uses.by_insns at (insns.OfClass opcode.new made) (slice_get_within (body_of e).code at (insns.OfClass opcode.new made) is)) made refl
 
-    by : (what : What) → IsClass what → what_used (body_of e).uses made ≡ Some what → option_map (held names) result ≡ Some (object (new_class (body_of e).uses (insn_at (body_of e) at)))
+    by : (what : What) → IsClass what → what_used (body_of e).uses made ≡ Some what → option_map (verification_type names) result ≡ Some (object (new_class (body_of e).uses (insn_at (body_of e) at)))
     by (whats.Class name) fits used =
         classed (object name) _ _ (kept (whats.Class name) (ap (what_used (body_of e).uses) place_is ∙ used) tt)
         ∙ ap (λ (w : Option What). Some (object (class_in w))) (sym used) ∙ ap (λ (o : Option Insn). Some (object (new_class (body_of e).uses o))) (sym is)
@@ -119,4 +119,4 @@ made_class names e at made place x code effect result are is same read named kep
 
 pub of_body : (old one new : Names) (c b : Body) (i : ℕ) (s : State) (r : Result (Option State) Memory) → Grows old one → IsNumberedState (length old) s → c ≡ b → IfOk r (LeavesState one new c i s) → IfOk r (LeavesState old new b i s)
 of_body old one new c b i s (Err e) g n same left = tt
-of_body old one new c b i s (Ok o) g n same left = left ∙ ap (after_of c i) (seen_grown old one s g n) ∙ ap (λ (x : Body). after_of x i (seen old s)) same
+of_body old one new c b i s (Ok o) g n same left = left ∙ ap (after_of c i) (seen_grown old one s g n) ∙ ap (λ (x : Body). after_of x i (type_state old s)) same

@@ -4,10 +4,10 @@ use Rattle.std.specs.List.{list_any, AllByRecursion}
 use Rattle.std.proofs.lemmas.List.{length-set, length-map}
 use Rattle.std.proofs.lemmas.Bool.{leb-true}
 use Rattle.std.proofs.lemmas.Option.{none-some, same_Some}
-use Rattle.jc_methods.specs.Held.{Held, top, int, float, double, long, null, uninit_this, object, uninit, Seen, is_pair, slots}
+use Rattle.jc_methods.specs.VerificationTypes.{VerificationType, top, int, float, double, long, null, uninit_this, object, uninit, TypeState, is_pair, slots}
 use Rattle.jc_after.specs.declared.want.Want.TheVariants as wants
 use Rattle.jc_after.specs.Wants.{is_int, accepts, accepts_all}
-use Rattle.jc_after.specs.Step.{Gives, kind, item, Form, Step, moves, loads, stores, counts, picks, makes, builds, fails, Ground, apply, upper, below, last, limited, has_form, moved, moved_by, given_of, cleared, clear_before, put_second, put_local, with_stack, is_array, element_of, without, is_made, class_built, built_as, replaced, same_new}
+use Rattle.jc_after.specs.Step.{Gives, kind, item, StackEffect, Step, moves, loads, stores, counts, picks, makes, builds, fails, Ground, apply, upper, below, last, limited, has_form, moved, moved_by, given_of, cleared, clear_before, put_second, put_local, with_stack, is_array, element_of, without, is_made, class_built, built_as, replaced, same_new}
 use Rattle.jc_after.specs.Shift.{IsPlaceless, IsPlain, CanShift}
 
 pub then_some : {X : Type 0} (b : Bool) (x : Option X) (y : X) → (if b then x else None) ≡ Some y → (b ≡ true) × (x ≡ Some y)
@@ -21,55 +21,55 @@ else_some false x y e = e
 -- ---- a fact of every value
 
 -- holds of every type but that of an object before its constructor
-abbrev OfOthers : (Held → Type 0) → Type 0
-OfOthers P = (h : Held) → IsPlaceless (kind h) → P h
+abbrev OfOthers : (VerificationType → Type 0) → Type 0
+OfOthers P = (h : VerificationType) → IsPlaceless (kind h) → P h
 
-abbrev All : (Held → Type 0) → List Held → Type 0
+abbrev All : (VerificationType → Type 0) → List VerificationType → Type 0
 All P hs = AllByRecursion P hs
 
-module _ (P : Held → Type 0) (others : OfOthers P) where
-  all_take : (n : ℕ) (hs : List Held) → All P hs → All P (take n hs)
+module _ (P : VerificationType → Type 0) (others : OfOthers P) where
+  all_take : (n : ℕ) (hs : List VerificationType) → All P hs → All P (take n hs)
   all_take zero hs all = tt
   all_take (suc n) [] all = tt
   all_take (suc n) (h ∷ hs) all = (all.0, all_take n hs all.1)
 
-  all_drop : (n : ℕ) (hs : List Held) → All P hs → All P (drop n hs)
+  all_drop : (n : ℕ) (hs : List VerificationType) → All P hs → All P (drop n hs)
   all_drop zero hs all = all
   all_drop (suc n) [] all = tt
   all_drop (suc n) (h ∷ hs) all = all_drop n hs all.1
 
-  all_append : (hs js : List Held) → All P hs → All P js → All P (hs ++ js)
+  all_append : (hs js : List VerificationType) → All P hs → All P js → All P (hs ++ js)
   all_append [] js a b = b
   all_append (h ∷ hs) js a b = (a.0, all_append hs js a.1 b)
 
-  all_get : (hs : List Held) (i : ℕ) → All P hs → P (get_or hs i top)
+  all_get : (hs : List VerificationType) (i : ℕ) → All P hs → P (get_or hs i top)
   all_get [] i all = others top tt
   all_get (h ∷ hs) zero all = all.0
   all_get (h ∷ hs) (suc i) all = all_get hs i all.1
 
-  all_set : (hs : List Held) (i : ℕ) (h : Held) → All P hs → P h → All P (set hs i h)
+  all_set : (hs : List VerificationType) (i : ℕ) (h : VerificationType) → All P hs → P h → All P (set hs i h)
   all_set [] i h all p = tt
   all_set (x ∷ hs) zero h all p = (p, all.1)
   all_set (x ∷ hs) (suc i) h all p = (all.0, all_set hs i h all.1 p)
 
-  all_map : (f : Held → Held) → ((h : Held) → P h → P (f h)) → (hs : List Held) → All P hs → All P (map f hs)
+  all_map : (f : VerificationType → VerificationType) → ((h : VerificationType) → P h → P (f h)) → (hs : List VerificationType) → All P hs → All P (map f hs)
   all_map f keeps [] all = tt
   all_map f keeps (h ∷ hs) all = (keeps h all.0, all_map f keeps hs all.1)
 
-  all_given : (operands : List Held) (given : List Gives) → All P operands → AllByRecursion IsPlaceless given → All P (map (given_of operands) given)
+  all_given : (operands : List VerificationType) (given : List Gives) → All P operands → AllByRecursion IsPlaceless given → All P (map (given_of operands) given)
   all_given operands [] all plain = tt
   all_given operands (kind h ∷ given) all plain = (others h plain.0, all_given operands given all plain.1)
   all_given operands (item n ∷ given) all plain = (all_get operands n all, all_given operands given all plain.1)
 
-  all_moved : (f : Form) (stack : List Held) → IsPlain f → All P stack → All P (moved f stack)
+  all_moved : (f : StackEffect) (stack : List VerificationType) → IsPlain f → All P stack → All P (moved f stack)
   all_moved f stack plain all =
       all_append _ _ (all_take (length stack - length f.wanted) stack all)
       (all_given (upper (length f.wanted) stack) f.given (all_drop (length stack - length f.wanted) stack all) plain)
 
-  limited_is : (most : ℕ) (stack x : List Held) → limited most stack ≡ Some x → stack ≡ x
+  limited_is : (most : ℕ) (stack x : List VerificationType) → limited most stack ≡ Some x → stack ≡ x
   limited_is most stack x e = same_Some stack x (then_some (nat_le (slots stack) most) (Some stack) x e).1
 
-  all_by : (most : ℕ) (forms : List Form) (stack x : List Held) → AllByRecursion IsPlain forms → All P stack → moved_by most forms stack ≡ Some x → All P x
+  all_by : (most : ℕ) (forms : List StackEffect) (stack x : List VerificationType) → AllByRecursion IsPlain forms → All P stack → moved_by most forms stack ≡ Some x → All P x
   all_by most [] stack x plain all e = absurd (none-some _ e)
   all_by most (f ∷ forms) stack x plain all e = by (has_form f stack) (λ r. all_by most forms stack x plain.1 all r) e
     where
@@ -77,7 +77,7 @@ module _ (P : Held → Type 0) (others : OfOthers P) where
       by true more e = subst (All P) (limited_is most (moved f stack) x e) (all_moved f stack plain.0 all)
       by false more e = more e
 
-  all_put : (k : ℕ) (h : Held) (hs : List Held) → All P hs → P h → All P (put_local k h hs)
+  all_put : (k : ℕ) (h : VerificationType) (hs : List VerificationType) → All P hs → P h → All P (put_local k h hs)
   all_put k h hs all p = second (is_pair h)
     where
       front : (k : ℕ) → All P (clear_before k hs)
@@ -93,26 +93,26 @@ module _ (P : Held → Type 0) (others : OfOthers P) where
       second false = all_set (clear_before k hs) k h (front k) p
 
   -- of all values of a state
-  pub record AllOf (s : Seen) : Type 0 where
+  pub record AllOf (s : TypeState) : Type 0 where
     pub locals : All P s.locals
     pub stack : All P s.stack
 
-  stack_of : (s t : Seen) (o : Option (List Held)) → All P s.locals → ((x : List Held) → o ≡ Some x → All P x) → with_stack s o ≡ Some t → AllOf t
+  stack_of : (s t : TypeState) (o : Option (List VerificationType)) → All P s.locals → ((x : List VerificationType) → o ≡ Some x → All P x) → with_stack s o ≡ Some t → AllOf t
   stack_of s t None l more e = absurd (none-some _ e)
   stack_of s t (Some x) l more e = subst AllOf (same_Some (record s { stack = x }) t e) (record { locals = l; stack = more x refl })
 
-  if_one : (b : Bool) (x y : Held) → P x → P y → P (if b then x else y)
+  if_one : (b : Bool) (x y : VerificationType) → P x → P y → P (if b then x else y)
   if_one true x y p q = p
   if_one false x y p q = q
 
-  built_all : (most : ℕ) (old : Held) (rest : List Held) (given : List Gives) (name : Option (List ℕ)) (s t : Seen) → AllByRecursion IsPlaceless given → All P rest → AllOf s → built_as most old rest given name s ≡ Some t → AllOf t
+  built_all : (most : ℕ) (old : VerificationType) (rest : List VerificationType) (given : List Gives) (name : Option (List ℕ)) (s t : TypeState) → AllByRecursion IsPlaceless given → All P rest → AllOf s → built_as most old rest given name s ≡ Some t → AllOf t
   built_all most old rest given None s t plain r all e = absurd (none-some _ e)
   built_all most old rest given (Some name) s t plain r all e =
-      let keeps : (h : Held) → P h → P (replaced old name h) = λ h p. if_one (same_new old h) (object name) h (others (object name) tt) p in
+      let keeps : (h : VerificationType) → P h → P (replaced old name h) = λ h p. if_one (same_new old h) (object name) h (others (object name) tt) p in
       stack_of (record { locals = map (replaced old name) s.locals; stack = s.stack }) t _ (all_map (replaced old name) keeps s.locals all.locals)
       (λ x q. subst (All P) (limited_is most _ x q) (all_append _ _ (all_map (replaced old name) keeps rest r) (all_given [] given tt plain))) e
 
-  element_all : (h : Held) → P h → P (element_of h)
+  element_all : (h : VerificationType) → P h → P (element_of h)
   element_all (object name) p = others _ tt
   element_all top p = p
   element_all int p = p
@@ -124,7 +124,7 @@ module _ (P : Held → Type 0) (others : OfOthers P) where
   element_all (uninit at) p = p
 
   -- what a step keeps: the fact of each value, where it holds of the object that a `new` makes
-  pub step_all : (v : ℕ) (g : Ground) (st : Step) (s t : Seen) → CanShift v st → (st ≡ makes → P (uninit g.place)) → AllOf s → apply g st s ≡ Some t → AllOf t
+  pub step_all : (v : ℕ) (g : Ground) (st : Step) (s t : TypeState) → CanShift v st → (st ≡ makes → P (uninit g.place)) → AllOf s → apply g st s ≡ Some t → AllOf t
   step_all v g (moves forms) s t can new all e = stack_of s t (moved_by g.most forms s.stack) all.locals (λ x q. all_by g.most forms s.stack x can all.stack q) e
   step_all v g (loads k w) s t can new all e =
       let h = get_or s.locals k top in
@@ -155,40 +155,40 @@ module _ (P : Held → Type 0) (others : OfOthers P) where
 
 -- ---- the number of local variables
 
-pub same_locals : (s t : Seen) (o : Option (List Held)) → with_stack s o ≡ Some t → s.locals ≡ t.locals
+pub same_locals : (s t : TypeState) (o : Option (List VerificationType)) → with_stack s o ≡ Some t → s.locals ≡ t.locals
 same_locals s t None e = absurd (none-some _ e)
-same_locals s t (Some x) e = ap (λ (u : Seen). u.locals) (same_Some (record s { stack = x }) t e)
+same_locals s t (Some x) e = ap (λ (u : TypeState). u.locals) (same_Some (record s { stack = x }) t e)
 
-pub length_clear : (k : ℕ) (ls : List Held) → length (clear_before k ls) ≡ length ls
+pub length_clear : (k : ℕ) (ls : List VerificationType) → length (clear_before k ls) ≡ length ls
 length_clear zero ls = refl
 length_clear (suc k) ls = length-set ls k (cleared (get_or ls k top))
 
-length_second : (h : Held) (k : ℕ) (ls : List Held) → length (put_second h k ls) ≡ length ls
+length_second : (h : VerificationType) (k : ℕ) (ls : List VerificationType) → length (put_second h k ls) ≡ length ls
 length_second h k ls = by (is_pair h)
   where
     by : (b : Bool) → length (if b then set ls (k + 1) top else ls) ≡ length ls
     by true = length-set ls (k + 1) top
     by false = refl
 
-length_put : (k : ℕ) (h : Held) (ls : List Held) → length (put_local k h ls) ≡ length ls
+length_put : (k : ℕ) (h : VerificationType) (ls : List VerificationType) → length (put_local k h ls) ≡ length ls
 length_put k h ls = length_second h k (set (clear_before k ls) k h) ∙ length-set (clear_before k ls) k h ∙ length_clear k ls
 
-length_built : (most : ℕ) (old : Held) (rest : List Held) (given : List Gives) (name : Option (List ℕ)) (s t : Seen) → built_as most old rest given name s ≡ Some t → length t.locals ≡ length s.locals
+length_built : (most : ℕ) (old : VerificationType) (rest : List VerificationType) (given : List Gives) (name : Option (List ℕ)) (s t : TypeState) → built_as most old rest given name s ≡ Some t → length t.locals ≡ length s.locals
 length_built most old rest given None s t e = absurd (none-some _ e)
 length_built most old rest given (Some name) s t e =
-    ap (λ (l : List Held). length l) (sym (same_locals (record { locals = map (replaced old name) s.locals; stack = s.stack }) t _ e)) ∙ length-map s.locals (replaced old name)
+    ap (λ (l : List VerificationType). length l) (sym (same_locals (record { locals = map (replaced old name) s.locals; stack = s.stack }) t _ e)) ∙ length-map s.locals (replaced old name)
 
-pub step_count : (g : Ground) (st : Step) (s t : Seen) → apply g st s ≡ Some t → length t.locals ≡ length s.locals
-step_count g (moves forms) s t e = ap (λ (l : List Held). length l) (sym (same_locals s t _ e))
-step_count g (loads k w) s t e = ap (λ (l : List Held). length l) (sym (same_locals s t _ (then_some (accepts w (get_or s.locals k top)) _ t e).1))
+pub step_count : (g : Ground) (st : Step) (s t : TypeState) → apply g st s ≡ Some t → length t.locals ≡ length s.locals
+step_count g (moves forms) s t e = ap (λ (l : List VerificationType). length l) (sym (same_locals s t _ e))
+step_count g (loads k w) s t e = ap (λ (l : List VerificationType). length l) (sym (same_locals s t _ (then_some (accepts w (get_or s.locals k top)) _ t e).1))
 step_count g (stores k w) s t e =
     let p = then_some (accepts w (last s.stack)) (Some (record { locals = put_local k (last s.stack) s.locals; stack = below 1 s.stack })) t e in
-    ap (λ (u : Seen). length u.locals) (sym (same_Some _ t p.1)) ∙ length_put k (last s.stack) s.locals
-step_count g (counts k) s t e = ap (λ (u : Seen). length u.locals) (sym (same_Some s t (then_some (is_int (get_or s.locals k top)) (Some s) t e).1))
+    ap (λ (u : TypeState). length u.locals) (sym (same_Some _ t p.1)) ∙ length_put k (last s.stack) s.locals
+step_count g (counts k) s t e = ap (λ (u : TypeState). length u.locals) (sym (same_Some s t (then_some (is_int (get_or s.locals k top)) (Some s) t e).1))
 step_count g picks s t e =
-    ap (λ (l : List Held). length l) (sym (same_locals s t _ (then_some (is_array (get_or (upper 2 s.stack) 0 top) && is_int (get_or (upper 2 s.stack) 1 top)) _ t e).1))
+    ap (λ (l : List VerificationType). length l) (sym (same_locals s t _ (then_some (is_array (get_or (upper 2 s.stack) 0 top) && is_int (get_or (upper 2 s.stack) 1 top)) _ t e).1))
 step_count g makes s t e =
-    ap (λ (l : List Held). length l) (sym (same_locals (record { locals = map (without g.place) s.locals; stack = s.stack }) t _ (else_some (list_any (is_made g.place) s.stack) _ t e)))
+    ap (λ (l : List VerificationType). length l) (sym (same_locals (record { locals = map (without g.place) s.locals; stack = s.stack }) t _ (else_some (list_any (is_made g.place) s.stack) _ t e)))
     ∙ length-map s.locals (without g.place)
 step_count g (builds f) s t e =
     let n = suc (length f.wanted) in let old = get_or (upper n s.stack) 0 top in
@@ -197,17 +197,17 @@ step_count g fails s t e = absurd (none-some _ e)
 
 -- ---- the slots of the stack
 
-slots_take : (n : ℕ) (hs : List Held) → slots (take n hs) ≤ slots hs
+slots_take : (n : ℕ) (hs : List VerificationType) → slots (take n hs) ≤ slots hs
 slots_take zero hs = omega arith
 slots_take (suc n) [] = omega arith
 slots_take (suc n) (h ∷ hs) = let more = slots_take n hs in omega (arith, more)
 
-limit : (most : ℕ) (stack x : List Held) → limited most stack ≡ Some x → slots x ≤ most
+limit : (most : ℕ) (stack x : List VerificationType) → limited most stack ≡ Some x → slots x ≤ most
 limit most stack x e =
     let p = then_some (nat_le (slots stack) most) (Some stack) x e in
-    subst (λ (l : List Held). slots l ≤ most) (same_Some stack x p.1) (leb-true (slots stack) most p.0)
+    subst (λ (l : List VerificationType). slots l ≤ most) (same_Some stack x p.1) (leb-true (slots stack) most p.0)
 
-limit_by : (most : ℕ) (forms : List Form) (stack x : List Held) → moved_by most forms stack ≡ Some x → slots x ≤ most
+limit_by : (most : ℕ) (forms : List StackEffect) (stack x : List VerificationType) → moved_by most forms stack ≡ Some x → slots x ≤ most
 limit_by most [] stack x e = absurd (none-some _ e)
 limit_by most (f ∷ forms) stack x e = by (has_form f stack) (λ r. limit_by most forms stack x r) e
   where
@@ -215,21 +215,21 @@ limit_by most (f ∷ forms) stack x e = by (has_form f stack) (λ r. limit_by mo
     by true more e = limit most (moved f stack) x e
     by false more e = more e
 
-limit_of : (most : ℕ) (s t : Seen) (o : Option (List Held)) → ((x : List Held) → o ≡ Some x → slots x ≤ most) → with_stack s o ≡ Some t → slots t.stack ≤ most
+limit_of : (most : ℕ) (s t : TypeState) (o : Option (List VerificationType)) → ((x : List VerificationType) → o ≡ Some x → slots x ≤ most) → with_stack s o ≡ Some t → slots t.stack ≤ most
 limit_of most s t None more e = absurd (none-some _ e)
-limit_of most s t (Some x) more e = subst (λ (u : Seen). slots u.stack ≤ most) (same_Some (record s { stack = x }) t e) (more x refl)
+limit_of most s t (Some x) more e = subst (λ (u : TypeState). slots u.stack ≤ most) (same_Some (record s { stack = x }) t e) (more x refl)
 
-limit_built : (most : ℕ) (old : Held) (rest : List Held) (given : List Gives) (name : Option (List ℕ)) (s t : Seen) → built_as most old rest given name s ≡ Some t → slots t.stack ≤ most
+limit_built : (most : ℕ) (old : VerificationType) (rest : List VerificationType) (given : List Gives) (name : Option (List ℕ)) (s t : TypeState) → built_as most old rest given name s ≡ Some t → slots t.stack ≤ most
 limit_built most old rest given None s t e = absurd (none-some _ e)
 limit_built most old rest given (Some name) s t e = limit_of most (record { locals = map (replaced old name) s.locals; stack = s.stack }) t _ (λ x q. limit most _ x q) e
 
-pub step_slots : (g : Ground) (st : Step) (s t : Seen) → slots s.stack ≤ g.most → apply g st s ≡ Some t → slots t.stack ≤ g.most
+pub step_slots : (g : Ground) (st : Step) (s t : TypeState) → slots s.stack ≤ g.most → apply g st s ≡ Some t → slots t.stack ≤ g.most
 step_slots g (moves forms) s t le e = limit_of g.most s t (moved_by g.most forms s.stack) (λ x q. limit_by g.most forms s.stack x q) e
 step_slots g (loads k w) s t le e = limit_of g.most s t _ (λ x q. limit g.most _ x q) (then_some (accepts w (get_or s.locals k top)) _ t e).1
 step_slots g (stores k w) s t le e =
     let p = then_some (accepts w (last s.stack)) (Some (record { locals = put_local k (last s.stack) s.locals; stack = below 1 s.stack })) t e in
-    subst (λ (u : Seen). slots u.stack ≤ g.most) (same_Some _ t p.1) (let less = slots_take (length s.stack - 1) s.stack in omega (arith, less, le))
-step_slots g (counts k) s t le e = subst (λ (u : Seen). slots u.stack ≤ g.most) (same_Some s t (then_some (is_int (get_or s.locals k top)) (Some s) t e).1) le
+    subst (λ (u : TypeState). slots u.stack ≤ g.most) (same_Some _ t p.1) (let less = slots_take (length s.stack - 1) s.stack in omega (arith, less, le))
+step_slots g (counts k) s t le e = subst (λ (u : TypeState). slots u.stack ≤ g.most) (same_Some s t (then_some (is_int (get_or s.locals k top)) (Some s) t e).1) le
 step_slots g picks s t le e = limit_of g.most s t _ (λ x q. limit g.most _ x q) (then_some (is_array (get_or (upper 2 s.stack) 0 top) && is_int (get_or (upper 2 s.stack) 1 top)) _ t e).1
 step_slots g makes s t le e =
     limit_of g.most (record { locals = map (without g.place) s.locals; stack = s.stack }) t _ (λ x q. limit g.most _ x q) (else_some (list_any (is_made g.place) s.stack) _ t e)

@@ -22,7 +22,7 @@ use Rattle.jc_methods.specs.DescriptorTypes.{field_type_in, method_type_in}
 use Rattle.jc_methods.specs.Flow.{is_return}
 use Rattle.jc_methods.specs.InsnUse.{is_of_two_slots, LocalsWithin}
 use Rattle.jc_methods.specs.WellMade.{IsKind, IsWellMadeOfAnySize, kind_slots, what_used}
-use Rattle.jc_methods.specs.Held.{Names, Held, top, int, float, double, long, null, uninit_this, object, uninit, held, Seen, seen, slots, IsNumbered}
+use Rattle.jc_methods.specs.VerificationTypes.{Names, VerificationType, top, int, float, double, long, null, uninit_this, object, uninit, verification_type, TypeState, type_state, slots, IsNumbered}
 use Rattle.jc_bytes.proofs.EachLaws.{each_of_all, all_of_each}
 use Rattle.jc_after.specs.declared.want.Want.TheVariants as wants
 use Rattle.jc_after.specs.Step.{Step, moves, loads, stores, counts, picks, makes, builds, fails, apply}
@@ -190,11 +190,11 @@ module _ (uses : List Use) (returns : Option FieldType) where
 -- ---- kinds
 
 -- made by a `new` of the body
-abbrev HeldKind : List Insn → Held → Type 0
+abbrev HeldKind : List Insn → VerificationType → Type 0
 HeldKind code (uninit at) = (place : ℕ) × (slice_get code at ≡ Some (insns.OfClass opcode.new place))
 HeldKind code h = Unit {0}
 
-others : (code : List Insn) (h : Held) → IsPlaceless (kind h) → HeldKind code h
+others : (code : List Insn) (h : VerificationType) → IsPlaceless (kind h) → HeldKind code h
 others code (uninit at) p = elim p [ ]
 others code top p = tt
 others code int p = tt
@@ -205,7 +205,7 @@ others code null p = tt
 others code uninit_this p = tt
 others code (object name) p = tt
 
-kind_held : (code : List Insn) (names : Names) (k : Kind) → IsKind code k → HeldKind code (held names k)
+kind_held : (code : List Insn) (names : Names) (k : Kind) → IsKind code k → HeldKind code (verification_type names k)
 kind_held code names (kinds.Uninit at) p = p
 kind_held code names kinds.Top p = tt
 kind_held code names kinds.Int p = tt
@@ -216,7 +216,7 @@ kind_held code names kinds.Null p = tt
 kind_held code names kinds.UninitThis p = tt
 kind_held code names (kinds.Object n) p = tt
 
-held_kind : (code : List Insn) (names : Names) (k : Kind) → HeldKind code (held names k) → IsKind code k
+held_kind : (code : List Insn) (names : Names) (k : Kind) → HeldKind code (verification_type names k) → IsKind code k
 held_kind code names (kinds.Uninit at) p = p
 held_kind code names kinds.Top p = tt
 held_kind code names kinds.Int p = tt
@@ -227,11 +227,11 @@ held_kind code names kinds.Null p = tt
 held_kind code names kinds.UninitThis p = tt
 held_kind code names (kinds.Object n) p = tt
 
-all_held : (code : List Insn) (names : Names) (ks : List Kind) → All (IsKind code) ks → AllByRecursion (HeldKind code) (map (held names) ks)
-all_held code names ks all = each_of_all (HeldKind code) (held names) ks (λ i d lt. kind_held code names (get_or ks i d) (all i d lt))
+all_held : (code : List Insn) (names : Names) (ks : List Kind) → All (IsKind code) ks → AllByRecursion (HeldKind code) (map (verification_type names) ks)
+all_held code names ks all = each_of_all (HeldKind code) (verification_type names) ks (λ i d lt. kind_held code names (get_or ks i d) (all i d lt))
 
-held_all : (code : List Insn) (names : Names) (ks : List Kind) → AllByRecursion (HeldKind code) (map (held names) ks) → All (IsKind code) ks
-held_all code names ks all = let h = all_of_each (HeldKind code) (held names) ks all in λ i d lt. held_kind code names (get_or ks i d) (h i d lt)
+held_all : (code : List Insn) (names : Names) (ks : List Kind) → AllByRecursion (HeldKind code) (map (verification_type names) ks) → All (IsKind code) ks
+held_all code names ks all = let h = all_of_each (HeldKind code) (verification_type names) ks all in λ i d lt. held_kind code names (get_or ks i d) (h i d lt)
 
 -- ---- numbers
 
@@ -255,7 +255,7 @@ number_within (x ∷ names) (suc n) stays = let less = number_within names n sta
 object_is : (a b : List ℕ) → object a ≡ object b → a ≡ b
 object_is a b e = cc
 
-kind_within : (names : Names) (k : Kind) → ((more : Names) → held (names ++ more) k ≡ held names k) → IsNumbered (length names) k
+kind_within : (names : Names) (k : Kind) → ((more : Names) → verification_type (names ++ more) k ≡ verification_type names k) → IsNumbered (length names) k
 kind_within names (kinds.Object n) stays = number_within names n (λ more. object_is _ _ (stays more))
 kind_within names kinds.Top stays = tt
 kind_within names kinds.Int stays = tt
@@ -266,19 +266,19 @@ kind_within names kinds.Null stays = tt
 kind_within names kinds.UninitThis stays = tt
 kind_within names (kinds.Uninit at) stays = tt
 
-head_is : (x y : Held) (xs ys : List Held) → (x ∷ xs) ≡ (y ∷ ys) → x ≡ y
+head_is : (x y : VerificationType) (xs ys : List VerificationType) → (x ∷ xs) ≡ (y ∷ ys) → x ≡ y
 head_is x y xs ys e = cc
 
-tail_is : (x y : Held) (xs ys : List Held) → (x ∷ xs) ≡ (y ∷ ys) → xs ≡ ys
+tail_is : (x y : VerificationType) (xs ys : List VerificationType) → (x ∷ xs) ≡ (y ∷ ys) → xs ≡ ys
 tail_is x y xs ys e = cc
 
-kinds_within : (names : Names) (ks : List Kind) → ((more : Names) → map (held (names ++ more)) ks ≡ map (held names) ks) → AllByRecursion (IsNumbered (length names)) ks
+kinds_within : (names : Names) (ks : List Kind) → ((more : Names) → map (verification_type (names ++ more)) ks ≡ map (verification_type names) ks) → AllByRecursion (IsNumbered (length names)) ks
 kinds_within names [] stays = tt
 kinds_within names (k ∷ ks) stays = (kind_within names k (λ more. head_is _ _ _ _ (stays more)), kinds_within names ks (λ more. tail_is _ _ _ _ (stays more)))
 
 -- ---- the state that is left
 
-pub insn_of : (b : Body) (i : ℕ) (s t : Seen) → after_of b i s ≡ Some t → (insn : Insn) × (insn_at b i ≡ Some insn) × (apply (ground_of b i) (step_of b.uses (returns_of b) insn) s ≡ Some t)
+pub insn_of : (b : Body) (i : ℕ) (s t : TypeState) → after_of b i s ≡ Some t → (insn : Insn) × (insn_at b i ≡ Some insn) × (apply (ground_of b i) (step_of b.uses (returns_of b) insn) s ≡ Some t)
 unfolding after_of
 insn_of b i s t e = by (insn_at b i) refl e
   where
@@ -288,7 +288,7 @@ insn_of b i s t e = by (insn_at b i) refl e
     by (Some insn) is e = (insn, is, e)
 
 pub leaves : (old new : Names) (b : Body) (i : ℕ) (s : State) (o : Option State) → LeavesAlways old new b i s o → LeavesState old new b i s o
-leaves old new b i s o always = ap (λ (names : Names). option_map (seen names) o) (sym (append-nil new)) ∙ always []
+leaves old new b i s o always = ap (λ (names : Names). option_map (type_state names) o) (sym (append-nil new)) ∙ always []
 
 -- nothing stands before the first local variable
 no_slot : (insn : Insn) → Straddles 0 insn → ⊥
@@ -308,32 +308,32 @@ no_slot (insns.Jump op to) h = h
 no_slot (insns.Table low default arms) h = h
 no_slot (insns.Lookup default arms) h = h
 
-kinds_sum : (names : Names) (ks : List Kind) → slots (map (held names) ks) ≡ sum_by kind_slots ks
+kinds_sum : (names : Names) (ks : List Kind) → slots (map (verification_type names) ks) ≡ sum_by kind_slots ks
 kinds_sum names [] = refl
 kinds_sum names (k ∷ ks) = ap₂ (λ m n. m + n) (width_is names k) (kinds_sum names ks) ∙ sym (sum_by-cons kind_slots k ks)
 
 module _ (old new : Names) (b : Body) (i : ℕ) (s t : State) (w : IsWellMadeOfAnySize b) (is : IsStateOf (length old) b s) (always : LeavesAlways old new b i s (Some t)) where
-  here : after_of b i (seen old s) ≡ Some (seen new t)
+  here : after_of b i (type_state old s) ≡ Some (type_state new t)
   here = sym (leaves old new b i s (Some t) always)
 
-  insn : (x : Insn) × (insn_at b i ≡ Some x) × (apply (ground_of b i) (step_of b.uses (returns_of b) x) (seen old s) ≡ Some (seen new t))
-  insn = insn_of b i (seen old s) (seen new t) here
+  insn : (x : Insn) × (insn_at b i ≡ Some x) × (apply (ground_of b i) (step_of b.uses (returns_of b) x) (type_state old s) ≡ Some (type_state new t))
+  insn = insn_of b i (type_state old s) (type_state new t) here
 
-  all_kinds : AllOf (HeldKind b.code) (others b.code) (seen new t)
-  all_kinds = step_all (HeldKind b.code) (others b.code) 0 (ground_of b i) (step_of b.uses (returns_of b) insn.0) (seen old s) (seen new t)
+  all_kinds : AllOf (HeldKind b.code) (others b.code) (type_state new t)
+  all_kinds = step_all (HeldKind b.code) (others b.code) 0 (ground_of b i) (step_of b.uses (returns_of b) insn.0) (type_state old s) (type_state new t)
       (can_shift 0 b.uses (returns_of b) insn.0 (no_slot insn.0))
       (λ e. let n = new_there b.uses (returns_of b) insn.0 e in (n.0, insn.1 ∙ ap Some n.1))
       (record { locals = all_held b.code old s.locals is.local_kinds; stack = all_held b.code old s.stack is.stack_kinds }) insn.2
 
-  stays : (more : Names) → seen (new ++ more) t ≡ seen new t
+  stays : (more : Names) → type_state (new ++ more) t ≡ type_state new t
   stays more = same_Some _ _ (always more ∙ here)
 
   pub left_of_body : IsStateOf (length new) b t
   left_of_body = record {
-    locals = sym (length-map t.locals (held new)) ∙ step_count (ground_of b i) (step_of b.uses (returns_of b) insn.0) (seen old s) (seen new t) insn.2 ∙ length-map s.locals (held old) ∙ is.locals;
+    locals = sym (length-map t.locals (verification_type new)) ∙ step_count (ground_of b i) (step_of b.uses (returns_of b) insn.0) (type_state old s) (type_state new t) insn.2 ∙ length-map s.locals (verification_type old) ∙ is.locals;
     local_kinds = held_all b.code new t.locals all_kinds.locals;
     stack_kinds = held_all b.code new t.stack all_kinds.stack;
-    numbered = record { locals = kinds_within new t.locals (λ more. ap (λ (u : Seen). u.locals) (stays more)); stack = kinds_within new t.stack (λ more. ap (λ (u : Seen). u.stack) (stays more)) };
+    numbered = record { locals = kinds_within new t.locals (λ more. ap (λ (u : TypeState). u.locals) (stays more)); stack = kinds_within new t.stack (λ more. ap (λ (u : TypeState). u.stack) (stays more)) };
   }
 
   within : LocalsWithin b.max_locals insn.0
@@ -342,11 +342,11 @@ module _ (old new : Names) (b : Body) (i : ℕ) (s t : State) (w : IsWellMadeOfA
 
   pub left_whole : IsWhole b s → IsWhole b t
   left_whole whole =
-      let count : length (map (held old) s.locals) ≡ b.max_locals = length-map s.locals (held old) ∙ is.locals in
+      let count : length (map (verification_type old) s.locals) ≡ b.max_locals = length-map s.locals (verification_type old) ∙ is.locals in
       let second = subst (λ (n : ℕ). HasSecond n (step_of b.uses (returns_of b) insn.0)) (sym count) (second_there b.uses (returns_of b) b.max_locals insn.0 within) in
-      let pairs = step_pairs (ground_of b i) (step_of b.uses (returns_of b) insn.0) (seen old s) (seen new t) second (pairs_of old s.locals whole.pairs) insn.2 in
+      let pairs = step_pairs (ground_of b i) (step_of b.uses (returns_of b) insn.0) (type_state old s) (type_state new t) second (pairs_of old s.locals whole.pairs) insn.2 in
       let before = kinds_sum old s.stack in let stack = whole.stack in
-      let slots_after = step_slots (ground_of b i) (step_of b.uses (returns_of b) insn.0) (seen old s) (seen new t) (omega (arith, before, stack)) insn.2 in
+      let slots_after = step_slots (ground_of b i) (step_of b.uses (returns_of b) insn.0) (type_state old s) (type_state new t) (omega (arith, before, stack)) insn.2 in
       let after = kinds_sum new t.stack in
       record {
         locals = left_of_body.locals;

@@ -4,7 +4,7 @@ use Rattle.std.proofs.lemmas.List.{get_or-drop, map-set, set_past, length-map, d
 use Rattle.jc_methods.specs.declared.kind.Kind.{Kind}
 use Rattle.jc_methods.specs.declared.kind.Kind.TheVariants as kinds
 use Rattle.jc_methods.specs.declared.kind.State.{State}
-use Rattle.jc_methods.specs.Held.{Names, Held, top, held, seen, is_pair}
+use Rattle.jc_methods.specs.VerificationTypes.{Names, VerificationType, top, verification_type, type_state, is_pair}
 use Rattle.jc_after.specs.declared.want.Want.{Want}
 use Rattle.jc_after.specs.declared.want.Want.TheVariants as wants
 use Rattle.jc_after.specs.Wants.{accepts, accepts_all, is_int}
@@ -13,7 +13,7 @@ use Rattle.jc_after.specs.Table.{form}
 use Rattle.jc_after.specs.Shapes.{moved_in}
 use Rattle.jc_after.proofs.MovesLaws.{upper_is, below_is}
 
-pub get_held : (names : Names) (ks : List Kind) (i : ℕ) → get_or (map (held names) ks) i top ≡ held names (get_or ks i kinds.Top)
+pub get_held : (names : Names) (ks : List Kind) (i : ℕ) → get_or (map (verification_type names) ks) i top ≡ verification_type names (get_or ks i kinds.Top)
 get_held names [] i = refl
 get_held names (k ∷ ks) zero = refl
 get_held names (k ∷ ks) (suc i) = get_held names ks i
@@ -26,76 +26,76 @@ read_is [] i y d lt e = absurd (omega (arith, lt))
 read_is (k ∷ ks) zero y d lt e = sym e
 read_is (k ∷ ks) (suc i) y d lt e = read_is ks i y d (omega (arith, lt)) e
 
-pub cleared_there : (names : Names) (ks : List Kind) (slot i : ℕ) (x : Kind) → slot ≡ suc i → held names x ≡ cleared (held names (get_or ks i kinds.Top))
-    → map (held names) (set ks i x) ≡ clear_before slot (map (held names) ks)
+pub cleared_there : (names : Names) (ks : List Kind) (slot i : ℕ) (x : Kind) → slot ≡ suc i → verification_type names x ≡ cleared (verification_type names (get_or ks i kinds.Top))
+    → map (verification_type names) (set ks i x) ≡ clear_before slot (map (verification_type names) ks)
 cleared_there names ks slot i x at e =
-    map-set (held names) ks i x ∙ ap (λ h. set (map (held names) ks) i h) (e ∙ ap cleared (sym (get_held names ks i)))
-    ∙ ap (λ n. clear_before n (map (held names) ks)) (sym at)
+    map-set (verification_type names) ks i x ∙ ap (λ h. set (map (verification_type names) ks) i h) (e ∙ ap cleared (sym (get_held names ks i)))
+    ∙ ap (λ n. clear_before n (map (verification_type names) ks)) (sym at)
 
-pub single_there : (names : Names) (ks : List Kind) (slot : ℕ) (h : Held) → is_pair h ≡ false → map (held names) ks ≡ put_second h slot (map (held names) ks)
+pub single_there : (names : Names) (ks : List Kind) (slot : ℕ) (h : VerificationType) → is_pair h ≡ false → map (verification_type names) ks ≡ put_second h slot (map (verification_type names) ks)
 single_there names ks slot h e = sym (rw e refl)
 
-pub past_there : (names : Names) (ks : List Kind) (slot : ℕ) (h : Held) → length ks ≤ slot + 1 → map (held names) ks ≡ put_second h slot (map (held names) ks)
+pub past_there : (names : Names) (ks : List Kind) (slot : ℕ) (h : VerificationType) → length ks ≤ slot + 1 → map (verification_type names) ks ≡ put_second h slot (map (verification_type names) ks)
 past_there names ks slot h past = by (is_pair h)
   where
-    by : (b : Bool) → map (held names) ks ≡ (if b then set (map (held names) ks) (slot + 1) top else map (held names) ks)
-    by true = sym (set_past (map (held names) ks) (slot + 1) top (let n = length-map ks (held names) in omega (arith, n, past)))
+    by : (b : Bool) → map (verification_type names) ks ≡ (if b then set (map (verification_type names) ks) (slot + 1) top else map (verification_type names) ks)
+    by true = sym (set_past (map (verification_type names) ks) (slot + 1) top (let n = length-map ks (verification_type names) in omega (arith, n, past)))
     by false = refl
 
-pub second_there : (names : Names) (ks : List Kind) (slot : ℕ) (h : Held) → is_pair h ≡ true → map (held names) (set ks (slot + 1) kinds.Top) ≡ put_second h slot (map (held names) ks)
-second_there names ks slot h e = map-set (held names) ks (slot + 1) kinds.Top ∙ sym (rw e refl)
+pub second_there : (names : Names) (ks : List Kind) (slot : ℕ) (h : VerificationType) → is_pair h ≡ true → map (verification_type names) (set ks (slot + 1) kinds.Top) ≡ put_second h slot (map (verification_type names) ks)
+second_there names ks slot h e = map-set (verification_type names) ks (slot + 1) kinds.Top ∙ sym (rw e refl)
 
-pub put_there : (names : Names) (ks before after : List Kind) (slot : ℕ) (k : Kind) → map (held names) before ≡ clear_before slot (map (held names) ks)
-    → map (held names) after ≡ put_second (held names k) slot (map (held names) (set before slot k)) → map (held names) after ≡ put_local slot (held names k) (map (held names) ks)
-put_there names ks before after slot k b a = a ∙ ap (put_second (held names k) slot) (map-set (held names) before slot k ∙ ap (λ hs. set hs slot (held names k)) b)
+pub put_there : (names : Names) (ks before after : List Kind) (slot : ℕ) (k : Kind) → map (verification_type names) before ≡ clear_before slot (map (verification_type names) ks)
+    → map (verification_type names) after ≡ put_second (verification_type names k) slot (map (verification_type names) (set before slot k)) → map (verification_type names) after ≡ put_local slot (verification_type names k) (map (verification_type names) ks)
+put_there names ks before after slot k b a = a ∙ ap (put_second (verification_type names k) slot) (map-set (verification_type names) before slot k ∙ ap (λ hs. set hs slot (verification_type names k)) b)
 
 -- ---- pushes
 
-pub no_operands : (n : ℕ) (stack : List Held) → n ≡ length stack → drop n stack ≡ []
+pub no_operands : (n : ℕ) (stack : List VerificationType) → n ≡ length stack → drop n stack ≡ []
 no_operands n stack e = drop_all n stack (omega (arith, e))
 
 minus_zero : (n : ℕ) → n - 0 ≡ n
 minus_zero n = omega arith
 
-pub upper_none : (stack : List Held) → upper 0 stack ≡ []
+pub upper_none : (stack : List VerificationType) → upper 0 stack ≡ []
 upper_none stack = ap (λ n. drop n stack) (minus_zero (length stack)) ∙ drop_all (length stack) stack (omega arith)
 
-pub below_none : (stack : List Held) → below 0 stack ≡ stack
+pub below_none : (stack : List VerificationType) → below 0 stack ≡ stack
 below_none stack = ap (λ n. take n stack) (minus_zero (length stack)) ∙ take_all (length stack) stack (omega arith)
 
 -- what takes nothing leaves all, and its results
-pub pushed_on : (most : ℕ) (given : List Gives) (stack : List Held) → moved_in most (form [] given) stack ≡ limited most (stack ++ map (given_of []) given)
+pub pushed_on : (most : ℕ) (given : List Gives) (stack : List VerificationType) → moved_in most (form [] given) stack ≡ limited most (stack ++ map (given_of []) given)
 pushed_on most given stack = by (upper 0 stack) (upper_none stack) (below 0 stack) (below_none stack)
   where
-    by : (u : List Held) → u ≡ [] → (b : List Held) → b ≡ stack → (if accepts_all [] u then limited most (b ++ map (given_of u) given) else None) ≡ limited most (stack ++ map (given_of []) given)
+    by : (u : List VerificationType) → u ≡ [] → (b : List VerificationType) → b ≡ stack → (if accepts_all [] u then limited most (b ++ map (given_of u) given) else None) ≡ limited most (stack ++ map (given_of []) given)
     by u e b f = rw (e, f) refl
 
 -- ---- loads and stores
 
-pub load_no : (names : Names) (state : State) (ks : List Kind) (slot most : ℕ) (want : Want) → ks ≡ state.locals → accepts want (held names (get_or ks slot kinds.Top)) ≡ false
-    → None ≡ loaded most slot want (seen names state)
+pub load_no : (names : Names) (state : State) (ks : List Kind) (slot most : ℕ) (want : Want) → ks ≡ state.locals → accepts want (verification_type names (get_or ks slot kinds.Top)) ≡ false
+    → None ≡ loaded most slot want (type_state names state)
 load_no names state ks slot most want same e =
-    let P : List Kind → Type 0 = λ xs. None ≡ loaded most slot want (record { locals = map (held names) xs; stack = map (held names) state.stack }) in
+    let P : List Kind → Type 0 = λ xs. None ≡ loaded most slot want (record { locals = map (verification_type names) xs; stack = map (verification_type names) state.stack }) in
     subst P same (sym (rw (get_held names ks slot, e) refl))
 
-pub load_yes : (names : Names) (state : State) (ks : List Kind) (slot most : ℕ) (want : Want) (o : Option State) → ks ≡ state.locals → accepts want (held names (get_or ks slot kinds.Top)) ≡ true
-    → option_map (seen names) o ≡ with_stack (seen names state) (moved_in most (form [] (kind (held names (get_or ks slot kinds.Top)) ∷ [])) (map (held names) state.stack))
-    → option_map (seen names) o ≡ loaded most slot want (seen names state)
+pub load_yes : (names : Names) (state : State) (ks : List Kind) (slot most : ℕ) (want : Want) (o : Option State) → ks ≡ state.locals → accepts want (verification_type names (get_or ks slot kinds.Top)) ≡ true
+    → option_map (type_state names) o ≡ with_stack (type_state names state) (moved_in most (form [] (kind (verification_type names (get_or ks slot kinds.Top)) ∷ [])) (map (verification_type names) state.stack))
+    → option_map (type_state names) o ≡ loaded most slot want (type_state names state)
 load_yes names state ks slot most want o same e m =
-    let P : List Kind → Type 0 = λ xs. with_stack (record { locals = map (held names) xs; stack = map (held names) state.stack }) (limited most (map (held names) state.stack ++ held names (get_or ks slot kinds.Top) ∷ []))
-    ≡ loaded most slot want (record { locals = map (held names) xs; stack = map (held names) state.stack }) in
-    m ∙ ap (with_stack (seen names state)) (pushed_on most (kind (held names (get_or ks slot kinds.Top)) ∷ []) (map (held names) state.stack))
+    let P : List Kind → Type 0 = λ xs. with_stack (record { locals = map (verification_type names) xs; stack = map (verification_type names) state.stack }) (limited most (map (verification_type names) state.stack ++ verification_type names (get_or ks slot kinds.Top) ∷ []))
+    ≡ loaded most slot want (record { locals = map (verification_type names) xs; stack = map (verification_type names) state.stack }) in
+    m ∙ ap (with_stack (type_state names state)) (pushed_on most (kind (verification_type names (get_or ks slot kinds.Top)) ∷ []) (map (verification_type names) state.stack))
     ∙ subst P same (sym (rw (get_held names ks slot, e) refl))
 
-pub count_no : (names : Names) (state : State) (ks : List Kind) (slot : ℕ) → ks ≡ state.locals → is_int (held names (get_or ks slot kinds.Top)) ≡ false → None ≡ counted slot (seen names state)
+pub count_no : (names : Names) (state : State) (ks : List Kind) (slot : ℕ) → ks ≡ state.locals → is_int (verification_type names (get_or ks slot kinds.Top)) ≡ false → None ≡ counted slot (type_state names state)
 count_no names state ks slot same e =
-    let P : List Kind → Type 0 = λ xs. None ≡ counted slot (record { locals = map (held names) xs; stack = map (held names) state.stack }) in
+    let P : List Kind → Type 0 = λ xs. None ≡ counted slot (record { locals = map (verification_type names) xs; stack = map (verification_type names) state.stack }) in
     subst P same (sym (rw (get_held names ks slot, e) refl))
 
-pub count_yes : (names : Names) (state : State) (ks : List Kind) (slot : ℕ) → ks ≡ state.locals → is_int (held names (get_or ks slot kinds.Top)) ≡ true
-    → Some (seen names state) ≡ counted slot (seen names state)
+pub count_yes : (names : Names) (state : State) (ks : List Kind) (slot : ℕ) → ks ≡ state.locals → is_int (verification_type names (get_or ks slot kinds.Top)) ≡ true
+    → Some (type_state names state) ≡ counted slot (type_state names state)
 count_yes names state ks slot same e =
-    let P : List Kind → Type 0 = λ xs. Some (record { locals = map (held names) xs; stack = map (held names) state.stack }) ≡ counted slot (record { locals = map (held names) xs; stack = map (held names) state.stack }) in
+    let P : List Kind → Type 0 = λ xs. Some (record { locals = map (verification_type names) xs; stack = map (verification_type names) state.stack }) ≡ counted slot (record { locals = map (verification_type names) xs; stack = map (verification_type names) state.stack }) in
     subst P same (sym (rw (get_held names ks slot, e) refl))
 
 pub no_top : (want : Want) → accepts want top ≡ false
@@ -110,27 +110,27 @@ no_top wants.Single = refl
 no_top wants.Pair = refl
 
 -- the value on top
-pub last_is : (names : Names) (ks : List Kind) → 0 < length ks → last (map (held names) ks) ≡ held names (get_or ks (length ks - 1) kinds.Top)
+pub last_is : (names : Names) (ks : List Kind) → 0 < length ks → last (map (verification_type names) ks) ≡ verification_type names (get_or ks (length ks - 1) kinds.Top)
 last_is names ks some =
-    ap (λ hs. get_or hs 0 top) (upper_is names 1 ks) ∙ get_held names (drop (length ks - 1) ks) 0 ∙ ap (held names) (get_or-drop (length ks - 1) ks 0 kinds.Top)
-    ∙ ap (λ n. held names (get_or ks n kinds.Top)) (let P : length ks - 1 + 0 ≡ length ks - 1 = omega arith in P)
+    ap (λ hs. get_or hs 0 top) (upper_is names 1 ks) ∙ get_held names (drop (length ks - 1) ks) 0 ∙ ap (verification_type names) (get_or-drop (length ks - 1) ks 0 kinds.Top)
+    ∙ ap (λ n. verification_type names (get_or ks n kinds.Top)) (let P : length ks - 1 + 0 ≡ length ks - 1 = omega arith in P)
 
-pub store_none : (names : Names) (state : State) (slot : ℕ) (want : Want) → state.stack ≡ [] → None ≡ stored slot want (seen names state)
+pub store_none : (names : Names) (state : State) (slot : ℕ) (want : Want) → state.stack ≡ [] → None ≡ stored slot want (type_state names state)
 store_none names state slot want e =
-    let P : List Kind → Type 0 = λ ks. None ≡ stored slot want (record { locals = map (held names) state.locals; stack = map (held names) ks }) in
+    let P : List Kind → Type 0 = λ ks. None ≡ stored slot want (record { locals = map (verification_type names) state.locals; stack = map (verification_type names) ks }) in
     subst P (sym e) (sym (rw (no_top want) refl))
 
-pub store_no : (names : Names) (state : State) (ks : List Kind) (slot : ℕ) (want : Want) → ks ≡ state.stack → 0 < length ks → accepts want (held names (get_or ks (length ks - 1) kinds.Top)) ≡ false → None ≡ stored slot want (seen names state)
+pub store_no : (names : Names) (state : State) (ks : List Kind) (slot : ℕ) (want : Want) → ks ≡ state.stack → 0 < length ks → accepts want (verification_type names (get_or ks (length ks - 1) kinds.Top)) ≡ false → None ≡ stored slot want (type_state names state)
 store_no names state ks slot want same some e =
-    let P : List Kind → Type 0 = λ xs. None ≡ stored slot want (record { locals = map (held names) state.locals; stack = map (held names) xs }) in
+    let P : List Kind → Type 0 = λ xs. None ≡ stored slot want (record { locals = map (verification_type names) state.locals; stack = map (verification_type names) xs }) in
     subst P same (sym (rw (last_is names ks some, e) refl))
 
 pub store_yes : (names : Names) (state : State) (ks vs : List Kind) (slot : ℕ) (want : Want) (locals below : List Kind) → ks ≡ state.stack → vs ≡ state.locals → 0 < length ks
-    → accepts want (held names (get_or ks (length ks - 1) kinds.Top)) ≡ true → map (held names) locals ≡ put_local slot (held names (get_or ks (length ks - 1) kinds.Top)) (map (held names) vs)
-    → below ≡ take (length ks - 1) ks → Some (seen names (record { locals = locals; stack = below })) ≡ stored slot want (seen names state)
+    → accepts want (verification_type names (get_or ks (length ks - 1) kinds.Top)) ≡ true → map (verification_type names) locals ≡ put_local slot (verification_type names (get_or ks (length ks - 1) kinds.Top)) (map (verification_type names) vs)
+    → below ≡ take (length ks - 1) ks → Some (type_state names (record { locals = locals; stack = below })) ≡ stored slot want (type_state names state)
 store_yes names state ks vs slot want locals below same vars some e l b =
-    let P : List Kind → Type 0 = λ xs. Some (seen names (record { locals = locals; stack = below })) ≡ stored slot want (record { locals = map (held names) state.locals; stack = map (held names) xs }) in
-    let Q : List Kind → Type 0 = λ xs. Some (seen names (record { locals = locals; stack = below })) ≡ stored slot want (record { locals = map (held names) xs; stack = map (held names) ks }) in
+    let P : List Kind → Type 0 = λ xs. Some (type_state names (record { locals = locals; stack = below })) ≡ stored slot want (record { locals = map (verification_type names) state.locals; stack = map (verification_type names) xs }) in
+    let Q : List Kind → Type 0 = λ xs. Some (type_state names (record { locals = locals; stack = below })) ≡ stored slot want (record { locals = map (verification_type names) xs; stack = map (verification_type names) ks }) in
     subst P same (subst Q vars (sym (rw (last_is names ks some, e, below_is names 1 ks, ← l, ← b) refl)))
 
 pub some_items : (ks : List Kind) → (length ks == 0) ≡ false → 0 < length ks

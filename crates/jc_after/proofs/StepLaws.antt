@@ -7,7 +7,7 @@ use Rattle.jc_methods.specs.declared.body.What.TheVariants as whats
 use Rattle.jc_bytes.specs.Descriptor.{FieldType}
 use Rattle.jc_methods.specs.DescriptorTypes.{field_type_in, method_type_in}
 use Rattle.jc_methods.specs.EntryState.{held_of}
-use Rattle.jc_methods.specs.Held.{int, object}
+use Rattle.jc_methods.specs.VerificationTypes.{int, object}
 use Rattle.jc_methods.specs.InsnUse.{IsOneSlotConstant, IsTwoSlotConstant, IsMemberFor, IsMethod, IsCall, IsClass}
 use Rattle.jc_after.specs.declared.want.Want.{Want}
 use Rattle.jc_after.specs.declared.want.Want.TheVariants as wants

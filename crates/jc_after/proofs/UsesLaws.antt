@@ -15,7 +15,7 @@ use Rattle.jc_methods.specs.EntryState.{held_of}
 use Rattle.jc_methods.specs.ValueTypes.{held_by, SaysReturn}
 use Rattle.jc_methods.proofs.DescriptorTypesLaws.{method_again}
 use Rattle.jc_after.specs.After.{return_for, return_op}
-use Rattle.jc_methods.specs.Held.{Names, Held, Grows}
+use Rattle.jc_methods.specs.VerificationTypes.{Names, VerificationType, Grows}
 use Rattle.jc_methods.specs.WellMade.{AreRisingFrom, what_used}
 use Rattle.jc_methods.proofs.UsedLaws.{is_below, past_all, stands, stands_not}
 use Rattle.jc_after.specs.declared.effect.Effect.{Effect}
@@ -51,7 +51,7 @@ says_there names uses each place i what e all lt used is count read =
 
 -- ---- returns
 
-no_result : (h : Held) → None ≡ Some h → ⊥
+no_result : (h : VerificationType) → None ≡ Some h → ⊥
 no_result h e = cc
 
 pub return_some : (desc : List ℕ) (r : Option ValueType) (v : ValueType) (op : ℕ) → IsMethodDescriptor desc → ((type : MethodType) → DescribesMethod desc type → SaysReturn r type.returns) → r ≡ Some v

@@ -11,17 +11,17 @@ use Rattle.jc_bytes.specs.Descriptor.{FieldType, MethodType}
 use Rattle.jc_methods.specs.DescriptorTypes.{field_type_in, method_type_in}
 use Rattle.jc_methods.specs.Flow.{is_return}
 use Rattle.jc_methods.specs.WellMade.{what_used}
-use Rattle.jc_methods.specs.Held.{Held, int, float, double, long, object, Seen}
+use Rattle.jc_methods.specs.VerificationTypes.{VerificationType, int, float, double, long, object, TypeState}
 use Rattle.jc_methods.specs.EntryState.{held_of}
 use Rattle.jc_after.specs.declared.want.Want.{Want}
 use Rattle.jc_after.specs.declared.want.Want.TheVariants as wants
-use Rattle.jc_after.specs.Step.{Gives, kind, Form, Step, moves, loads, stores, counts, picks, makes, builds, fails, Ground, apply}
+use Rattle.jc_after.specs.Step.{Gives, kind, StackEffect, Step, moves, loads, stores, counts, picks, makes, builds, fails, Ground, apply}
 use Rattle.jc_after.specs.Table.{form, gives, takes, turns, forms_at}
 
 -- ---- types of the language
 
 -- The operand for a value of a verification type. Classes aren't compared: any reference will do for any other.
-abbrev pub want_for : Held → Want
+abbrev pub want_for : VerificationType → Want
 want_for int = wants.Int
 want_for float = wants.Float
 want_for long = wants.Long
@@ -50,7 +50,7 @@ field_step op (Some type) =
     else moves (takes (wants.Target ∷ want_of type ∷ []))
 
 -- the arguments, and the result
-abbrev pub call_form : MethodType → Form
+abbrev pub call_form : MethodType → StackEffect
 call_form type = form (map want_of type.parameters) (result_of type.returns)
 
 -- a call without an object
@@ -141,7 +141,7 @@ multi_step _ dims = fails
 -- ---- returns
 
 -- the opcode of the return of a value of a verification type
-abbrev pub return_for : Held → ℕ
+abbrev pub return_for : VerificationType → ℕ
 return_for int = opcode.ireturn
 return_for long = opcode.lreturn
 return_for float = opcode.freturn
@@ -217,5 +217,5 @@ abbrev pub returns_of : Body → Option FieldType
 returns_of b = (method_type_in b.desc).returns
 
 -- the state after the instruction with this number, from the state before it, if there is one
-unfoldable pub after_of : Body → ℕ → Seen → Option Seen
+unfoldable pub after_of : Body → ℕ → TypeState → Option TypeState
 after_of b i s = option_and_then (λ insn. apply (ground_of b i) (step_of b.uses (returns_of b) insn) s) (insn_at b i)

@@ -3,7 +3,7 @@ use Rattle.std.specs.Prelude.{◌≡◌, ℕ, ◌++◌, length, Option, All, opt
 use Rattle.jc_methods.specs.declared.kind.State.{State}
 use Rattle.jc_methods.specs.declared.body.Body.{Body}
 use Rattle.jc_methods.specs.WellMade.{IsKind, IsState}
-use Rattle.jc_methods.specs.Held.{Names, seen, IsNumberedState}
+use Rattle.jc_methods.specs.VerificationTypes.{Names, type_state, IsNumberedState}
 use Rattle.jc_after.specs.After.{after_of}
 
 -- A state of a body: it has each local variable, its objects before their constructors come from a `new` of the
@@ -20,8 +20,8 @@ IsWhole b s = IsState b.code b.max_locals b.max_stack s
 
 -- the state after an instruction, by the names afterwards, or none where there is none
 abbrev pub LeavesState : Names → Names → Body → ℕ → State → Option State → Type 0
-LeavesState old new b i before after = option_map (seen new) after ≡ after_of b i (seen old before)
+LeavesState old new b i before after = option_map (type_state new) after ≡ after_of b i (type_state old before)
 
 -- the same, also when more names are numbered
 abbrev pub LeavesAlways : Names → Names → Body → ℕ → State → Option State → Type 0
-LeavesAlways old new b i before after = (more : Names) → option_map (seen (new ++ more)) after ≡ after_of b i (seen old before)
+LeavesAlways old new b i before after = (more : Names) → option_map (type_state (new ++ more)) after ≡ after_of b i (type_state old before)

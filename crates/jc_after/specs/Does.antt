@@ -6,7 +6,7 @@ use Rattle.jc_methods.specs.declared.body.What.TheVariants as whats
 use Rattle.jc_bytes.specs.Descriptor.{FieldType, MethodType, IsFieldDescriptor, IsMethodDescriptor}
 use Rattle.jc_methods.specs.DescriptorTypes.{field_type_in, method_type_in}
 use Rattle.jc_methods.specs.EntryState.{held_of}
-use Rattle.jc_methods.specs.Held.{Names, Held, int, float, double, long, object, held}
+use Rattle.jc_methods.specs.VerificationTypes.{Names, VerificationType, int, float, double, long, object, verification_type}
 use Rattle.jc_after.specs.declared.want.Want.{Want}
 use Rattle.jc_after.specs.declared.want.Want.TheVariants as wants
 use Rattle.jc_after.specs.declared.effect.Effect.{Effect}
@@ -19,9 +19,9 @@ use Rattle.jc_after.specs.After.{want_of, array_of}
 -- result, which is a constructor's or not, or a class with its arrays and its constant
 pub data Does : Type 0 where
   nothing : Does
-  value : Want → Held → Does
-  call : List Want → Option Held → Bool → Does
-  of_class : Held → Option Held → Held → Does
+  value : Want → VerificationType → Does
+  call : List Want → Option VerificationType → Bool → Does
+  of_class : VerificationType → Option VerificationType → VerificationType → Does
 
 abbrev pub value_of : Option FieldType → Does
 value_of None = nothing
@@ -31,7 +31,7 @@ abbrev pub call_of : Bool → MethodType → Does
 call_of builds type = call (wants.Reference ∷ map want_of type.parameters) (option_map held_of type.returns) builds
 
 -- no Class entry can have a longer name
-abbrev pub arrays_of : List ℕ → Option Held
+abbrev pub arrays_of : List ℕ → Option VerificationType
 arrays_of name = if nat_le (length (array_of name)) 65535 then Some (object (array_of name)) else None
 
 abbrev pub does_of : What → Does
@@ -60,9 +60,9 @@ IsDescribed what = ⊤
 
 abbrev pub does : Names → Effect → Does
 does names effects.Nothing = nothing
-does names (effects.Value want kind) = value want (held names kind)
-does names (effects.Call wanted result builds) = call wanted (option_map (held names) result) builds
-does names (effects.Class itself array constant) = of_class (held names itself) (option_map (held names) array) (held names constant)
+does names (effects.Value want kind) = value want (verification_type names kind)
+does names (effects.Call wanted result builds) = call wanted (option_map (verification_type names) result) builds
+does names (effects.Class itself array constant) = of_class (verification_type names itself) (option_map (verification_type names) array) (verification_type names constant)
 
 -- under these names, and when more were numbered
 abbrev pub Says : Names → What → Effect → Type 0

@@ -5,14 +5,14 @@ use Rattle.jc_methods.specs.declared.body.What.{What}
 use Rattle.jc_methods.specs.declared.insn.Insn.{Insn}
 use Rattle.jc_methods.specs.declared.kind.Kind.{Kind}
 use Rattle.jc_methods.specs.declared.kind.State.{State}
-use Rattle.jc_methods.specs.Held.{Names, object, held, seen}
+use Rattle.jc_methods.specs.VerificationTypes.{Names, object, verification_type, type_state}
 use Rattle.jc_methods.specs.WellMade.{IsWellMadeOfAnySize, what_used}
 use Rattle.jc_after.specs.declared.effect.Effect.{Effect}
 use Rattle.jc_after.specs.declared.effects.Effects.{Effects}
 use Rattle.jc_after.specs.declared.step.Step.{Step as KeptStep}
 use Rattle.jc_after.specs.After.{ground_of, insn_at, new_class, return_op, returns_of, step_of}
 use Rattle.jc_after.specs.Does.{AllSay, IsDescribed, does, does_of}
-use Rattle.jc_after.specs.Step.{Form, built, class_built}
+use Rattle.jc_after.specs.Step.{StackEffect, built, class_built}
 use Rattle.jc_after.specs.Steps.{step_in}
 
 -- the body whose effects they are
@@ -23,7 +23,7 @@ body_of e = e.body.now
 pub record AreEffects (names : Names) (e : Effects) : Type 0 where
   pub body : IsWellMadeOfAnySize (body_of e)
   pub uses : AllSay names (body_of e).uses e.uses
-  pub owner : (more : Names) → held (names ++ more) e.owner ≡ object (body_of e).owner
+  pub owner : (more : Names) → verification_type (names ++ more) e.owner ≡ object (body_of e).owner
   pub returns : e.returns ≡ return_op (returns_of (body_of e))
 
 -- there are names under which they are those of the body
@@ -44,14 +44,14 @@ StepsAs e insn st = (names : Names) → AreEffects names e → step_in names st 
 -- the class of the objects that a `new` makes
 abbrev pub IsClassMade : Effects → ℕ → Option Kind → Type 0
 IsClassMade e at found = (names : Names) → AreEffects names e →
-    option_map (held names) found ≡ Some (object (new_class (body_of e).uses (insn_at (body_of e) at)))
+    option_map (verification_type names) found ≡ Some (object (new_class (body_of e).uses (insn_at (body_of e) at)))
 
 -- the class of an object whose constructor is called, wherever that is
 abbrev pub IsClassBuilt : Effects → Kind → Option Kind → Type 0
 IsClassBuilt e old found = (names : Names) (place : ℕ) → AreEffects names e →
-    option_map (held names) found ≡ option_map object (class_built (ground_of (body_of e) place) (held names old))
+    option_map (verification_type names) found ≡ option_map object (class_built (ground_of (body_of e) place) (verification_type names old))
 
 -- the state after a constructor was called by this form, wherever that is
-abbrev pub IsBuilt : Effects → State → (Names → Form) → Option State → Type 0
+abbrev pub IsBuilt : Effects → State → (Names → StackEffect) → Option State → Type 0
 IsBuilt e before form after = (names : Names) (place : ℕ) → AreEffects names e →
-    option_map (seen names) after ≡ built (ground_of (body_of e) place) (form names) (seen names before)
+    option_map (type_state names) after ≡ built (ground_of (body_of e) place) (form names) (type_state names before)

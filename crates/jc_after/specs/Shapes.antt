@@ -1,18 +1,18 @@
 -- The forms of the table, one for each shape.
 use Rattle.std.specs.Prelude.{ℕ, Bool, true, false, List, [], ◌∷◌, map, Option, Some, None}
-use Rattle.jc_methods.specs.Held.{Names, Held, held, int, float, double, long, null}
+use Rattle.jc_methods.specs.VerificationTypes.{Names, VerificationType, verification_type, int, float, double, long, null}
 use Rattle.jc_after.specs.declared.want.Want.{Want}
 use Rattle.jc_after.specs.declared.want.Want.TheVariants as wants
 use Rattle.jc_after.specs.declared.table.Shape.{Shape}
 use Rattle.jc_after.specs.declared.table.Shape.TheVariants as shapes
 use Rattle.jc_after.specs.declared.form.Give.{Give}
 use Rattle.jc_after.specs.declared.form.Give.TheVariants as given
-use Rattle.jc_after.specs.declared.form.Form.{Form as KeptForm}
-use Rattle.jc_after.specs.Step.{Gives, kind, item, Form, moved_by}
+use Rattle.jc_after.specs.declared.form.StackEffect.{StackEffect as KeptForm}
+use Rattle.jc_after.specs.Step.{Gives, kind, item, StackEffect, moved_by}
 use Rattle.jc_after.specs.Table.{form, one}
 
 -- the form of a shape, if it has one
-abbrev pub forms_of : Shape → List Form
+abbrev pub forms_of : Shape → List StackEffect
 forms_of shapes.No = []
 forms_of shapes.Nothing = one [] []
 forms_of shapes.PushNull = one [] (kind null ∷ [])
@@ -82,7 +82,7 @@ forms_of shapes.Length = one (wants.Reference ∷ []) (kind int ∷ [])
 -- ---- forms as they are kept, under names of classes
 
 abbrev pub gives_of : Names → Give → Gives
-gives_of names (given.Kind k) = kind (held names k)
+gives_of names (given.Kind k) = kind (verification_type names k)
 gives_of names (given.Item n) = item n
 
 -- what is left is one of the operands
@@ -90,18 +90,18 @@ abbrev pub is_item : Give → Bool
 is_item (given.Kind k) = false
 is_item (given.Item n) = true
 
-abbrev pub form_of : Names → List Want → List Give → Form
+abbrev pub form_of : Names → List Want → List Give → StackEffect
 form_of names wanted gives = form wanted (map (gives_of names) gives)
 
-abbrev pub forms_seen : Names → Option KeptForm → List Form
+abbrev pub forms_seen : Names → Option KeptForm → List StackEffect
 forms_seen names None = []
 forms_seen names (Some f) = form_of names f.wants.now f.gives.now ∷ []
 
 -- by this one form
-abbrev pub moved_in : ℕ → Form → List Held → Option (List Held)
+abbrev pub moved_in : ℕ → StackEffect → List VerificationType → Option (List VerificationType)
 moved_in most f stack = moved_by most (f ∷ []) stack
 
 -- by the form that was found, or else by the rest
-abbrev pub chosen : Names → ℕ → List Held → List Form → Option KeptForm → Option (List Held)
+abbrev pub chosen : Names → ℕ → List VerificationType → List StackEffect → Option KeptForm → Option (List VerificationType)
 chosen names most stack rest None = moved_by most rest stack
 chosen names most stack rest (Some f) = moved_in most (form_of names f.wants.now f.gives.now) stack

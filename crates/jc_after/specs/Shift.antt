@@ -6,28 +6,28 @@ use Rattle.jc_methods.specs.declared.insn.Insn.{Insn}
 use Rattle.jc_methods.specs.declared.insn.Insn.TheVariants as insns
 use Rattle.jc_methods.specs.declared.body.Body.{Body}
 use Rattle.jc_methods.specs.WellMade.{what_used}
-use Rattle.jc_methods.specs.Flow.{is_test, inverse_of}
+use Rattle.jc_methods.specs.Flow.{is_conditional_branch, inverse_of}
 use Rattle.jc_methods.specs.Insn.{with_places}
 use Rattle.jc_methods.specs.InsnUse.{pool_place, is_of_two_slots}
-use Rattle.jc_methods.specs.Held.{Held, top, object, uninit, Seen, is_pair}
+use Rattle.jc_methods.specs.VerificationTypes.{VerificationType, top, object, uninit, TypeState, is_pair}
 use Rattle.jc_after.specs.declared.want.Want.{Want}
 use Rattle.jc_after.specs.declared.want.Want.TheVariants as wants
-use Rattle.jc_after.specs.Step.{Gives, kind, Form, Step, moves, loads, stores, counts, builds, Ground, apply}
+use Rattle.jc_after.specs.Step.{Gives, kind, StackEffect, Step, moves, loads, stores, counts, builds, Ground, apply}
 use Rattle.jc_after.specs.After.{insn_at, after_of}
 
 -- ---- states
 
 -- an object that isn't initialized is named by the image of its `new`
-abbrev pub renamed : (ℕ → ℕ) → Held → Held
+abbrev pub renamed : (ℕ → ℕ) → VerificationType → VerificationType
 renamed image (uninit at) = uninit (image at)
 renamed image h = h
 
 -- the array of the class's probes
-abbrev pub probes : Held
+abbrev pub probes : VerificationType
 probes = object (91 ∷ 90 ∷ [])
 
 -- the shifted form of a state: the array of probes stands in local variable v
-abbrev pub shifted : (ℕ → ℕ) → ℕ → Seen → Seen
+abbrev pub shifted : (ℕ → ℕ) → ℕ → TypeState → TypeState
 shifted image v s = record { locals = insert (map (renamed image) s.locals) v probes; stack = map (renamed image) s.stack }
 
 -- ---- instructions
@@ -44,7 +44,7 @@ with_slot v insn = insn
 -- the image of an instruction: it leads elsewhere, and a conditional jump may be inverted
 pub data IsImage (v : ℕ) (insn new : Insn) : Type 0 where
   led : (to : ℕ → ℕ) → new ≡ with_places to (with_slot v insn) → IsImage v insn new
-  inverted : (op to other : ℕ) → insn ≡ insns.Jump op to → IsTrue (is_test op) → new ≡ insns.Jump (inverse_of op) other → IsImage v insn new
+  inverted : (op to other : ℕ) → insn ≡ insns.Jump op to → IsTrue (is_conditional_branch op) → new ≡ insns.Jump (inverse_of op) other → IsImage v insn new
 
 -- the instructions of the one body have images in the other, which uses the same and has room enough
 pub record HasImages (v : ℕ) (image : ℕ → ℕ) (b new : Body) : Type 0 where
@@ -65,7 +65,7 @@ Straddles v (insns.Local op slot) = (is_of_two_slots op ≡ true) × (slot + 1 �
 Straddles v insn = ⊥
 
 -- no long or double stands at v - 1
-abbrev pub StaysWhole : ℕ → Seen → Type 0
+abbrev pub StaysWhole : ℕ → TypeState → Type 0
 StaysWhole v s = (k : ℕ) → k + 1 ≡ v → is_pair (slice_index_or s.locals k top) ≡ false
 
 -- ---- steps
@@ -81,7 +81,7 @@ abbrev pub IsPlaceless : Gives → Type 0
 IsPlaceless (kind (uninit at)) = ⊥
 IsPlaceless _ = ⊤
 
-abbrev pub IsPlain : Form → Type 0
+abbrev pub IsPlain : StackEffect → Type 0
 IsPlain f = AllByRecursion IsPlaceless f.given
 
 abbrev pub takes_pair : Want → Bool
@@ -107,12 +107,12 @@ pub record Images (image : ℕ → ℕ) (g new : Ground) : Type 0 where
 
 -- the shifted step of the shifted state is the shifted state after the step
 abbrev pub StepShifts : Type 0
-StepShifts = (image : ℕ → ℕ) (v : ℕ) (g new : Ground) (st : Step) (s : Seen) →
+StepShifts = (image : ℕ → ℕ) (v : ℕ) (g new : Ground) (st : Step) (s : TypeState) →
     Images image g new → CanShift v st → v ≤ length s.locals → StaysWhole v s →
     apply new (shifted_step v st) (shifted image v s) ≡ option_map (shifted image v) (apply g st s)
 
 -- where an instruction has a state after it, its image has the shifted state after the shifted state
 abbrev pub AfterShifts : Type 0
-AfterShifts = (v : ℕ) (image : ℕ → ℕ) (b new : Body) (i : ℕ) (insn : Insn) (s t : Seen) →
+AfterShifts = (v : ℕ) (image : ℕ → ℕ) (b new : Body) (i : ℕ) (insn : Insn) (s t : TypeState) →
     HasImages v image b new → insn_at b i ≡ Some insn → (Straddles v insn → ⊥) → v ≤ length s.locals → StaysWhole v s →
     after_of b i s ≡ Some t → after_of new (image i) (shifted image v s) ≡ Some (shifted image v t)

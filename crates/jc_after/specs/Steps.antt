@@ -3,7 +3,7 @@ use Rattle.std.specs.Prelude.{◌≢◌, ⊤, ℕ, ◌<◌, Bool, false, ◌&&�
 use Rattle.jc_methods.specs.Opcode as opcode
 use Rattle.jc_methods.specs.declared.insn.Insn.{Insn}
 use Rattle.jc_methods.specs.declared.insn.Insn.TheVariants as insns
-use Rattle.jc_methods.specs.Held.{Names, Held, int, held}
+use Rattle.jc_methods.specs.VerificationTypes.{Names, VerificationType, int, verification_type}
 use Rattle.jc_after.specs.declared.want.Want.{Want}
 use Rattle.jc_after.specs.declared.want.Want.TheVariants as wants
 use Rattle.jc_after.specs.declared.step.Step.{Step as KeptStep}
@@ -14,23 +14,23 @@ use Rattle.jc_after.specs.Does.{Does, value, call, of_class}
 
 -- ---- steps as they are kept
 
-abbrev pub results : Option Held → List Gives
+abbrev pub results : Option VerificationType → List Gives
 results None = []
 results (Some h) = kind h ∷ []
 
 abbrev pub step_in : Names → KeptStep → Step
 step_in names (steps.Opcode op) = moves (forms_at op)
-step_in names (steps.Push k) = moves (gives (held names k))
+step_in names (steps.Push k) = moves (gives (verification_type names k))
 step_in names (steps.Take want) = moves (takes (want ∷ []))
 step_in names (steps.Put want) = moves (takes (wants.Target ∷ want ∷ []))
-step_in names (steps.Turn want k) = moves (turns (want ∷ []) (held names k))
-step_in names (steps.Dimensions count k) = moves (turns (replicate count wants.Int) (held names k))
-step_in names (steps.Call wanted result) = moves (form wanted.now (results (option_map (held names) result)) ∷ [])
+step_in names (steps.Turn want k) = moves (turns (want ∷ []) (verification_type names k))
+step_in names (steps.Dimensions count k) = moves (turns (replicate count wants.Int) (verification_type names k))
+step_in names (steps.Call wanted result) = moves (form wanted.now (results (option_map (verification_type names) result)) ∷ [])
 step_in names (steps.Load slot want) = loads slot want
 step_in names (steps.Store slot want) = stores slot want
 step_in names (steps.Count slot) = counts slot
 step_in names steps.Make = makes
-step_in names (steps.Build wanted result) = builds (form wanted.now (results (option_map (held names) result)))
+step_in names (steps.Build wanted result) = builds (form wanted.now (results (option_map (verification_type names) result)))
 step_in names steps.Fail = fails
 
 -- ---- by what a use does
@@ -48,14 +48,14 @@ abbrev pub object_by : Does → Step
 object_by (call wanted result build) = moves (form wanted (results result) ∷ [])
 object_by _ = fails
 
-abbrev pub field_by : ℕ → Want → Held → Step
+abbrev pub field_by : ℕ → Want → VerificationType → Step
 field_by op want h =
     if nat_eq op opcode.getstatic then moves (gives h)
     else if nat_eq op opcode.putstatic then moves (takes (want ∷ []))
     else if nat_eq op opcode.getfield then moves (turns (wants.Reference ∷ []) h)
     else moves (takes (wants.Target ∷ want ∷ []))
 
-abbrev pub method_by : ℕ → List Want → Option Held → Bool → Step
+abbrev pub method_by : ℕ → List Want → Option VerificationType → Bool → Step
 method_by op wanted result build =
     if nat_eq op opcode.invokestatic then moves (form (drop 1 wanted) (results result) ∷ [])
     else if nat_eq op opcode.invokespecial && build then builds (form (drop 1 wanted) (results result))
@@ -66,7 +66,7 @@ member_by op (value want h) = if nat_le op opcode.putfield then field_by op want
 member_by op (call wanted result build) = if nat_le op opcode.putfield then fails else method_by op wanted result build
 member_by op _ = fails
 
-abbrev pub array_by : Option Held → Step
+abbrev pub array_by : Option VerificationType → Step
 array_by None = fails
 array_by (Some h) = moves (turns (wants.Int ∷ []) h)
 

@@ -1,6 +1,6 @@
 //! New arrays, and elements of arrays of references. They number the names of classes.
 ghost use Rattle.std.specs.Prelude.{◌≡◌, ◌++◌, true, false, map, length, replicate, IfOk, MatchOption, option_map};
-ghost use Rattle.jc_methods.specs.Held.{Names, held, object, seen, Grows, IsNumbered, IsNumberedState};
+ghost use Rattle.jc_methods.specs.VerificationTypes.{Names, verification_type, object, type_state, Grows, IsNumbered, IsNumberedState};
 ghost use Rattle.jc_after.specs.Step.{is_array, is_array_name, element_of, element_name as name_of_elements, picked, with_stack, moved_by};
 ghost use Rattle.jc_after.specs.After.{element_letter as letter_of};
 ghost use Rattle.jc_after.specs.Arrays.{array_forms};
@@ -16,7 +16,7 @@ use std::alloc::Global;
 
 /// An object of the class with this name.
 pub fn object_of(alloc: Global, name: &[u8], names: &mut Names) -> Result<Kind, Memory>
-    ensures kind { IfOk result (λ kind. (more : Names) → held (names.new ++ more) kind ≡ object name.now) }
+    ensures kind { IfOk result (λ kind. (more : Names) → verification_type (names.new ++ more) kind ≡ object name.now) }
     ensures names { Grows names.old names.new }
 {
     Ok(Kind::Object(names.number(alloc, name)?))
@@ -37,8 +37,8 @@ fn element_name(name: &[u8]) -> Option<&[u8]>
 /// An element of an array of references, where it is one.
 fn element_in(alloc: Global, array: Kind, names: &mut Names) -> Result<Option<Kind>, Memory>
     requires { IsNumbered (length names.old) array }
-    ensures element { IfOk result (λ o. MatchOption o (is_array (held names.old array) ≡ false) (λ kind.
-        (is_array (held names.old array) ≡ true) × ((more : Names) → held (names.new ++ more) kind ≡ element_of (held names.old array)))) }
+    ensures element { IfOk result (λ o. MatchOption o (is_array (verification_type names.old array) ≡ false) (λ kind.
+        (is_array (verification_type names.old array) ≡ true) × ((more : Names) → verification_type (names.new ++ more) kind ≡ element_of (verification_type names.old array)))) }
     ensures names { Grows names.old names.new }
 {
     match array {
@@ -62,7 +62,7 @@ pub fn pick(
     names: &mut Names,
 ) -> Result<Option<State>, Memory>
     requires { IsNumberedState (length names.old) state }
-    ensures after { IfOk result (λ o. (more : Names) → option_map (seen (names.new ++ more)) o ≡ picked most (seen names.old state)) }
+    ensures after { IfOk result (λ o. (more : Names) → option_map (type_state (names.new ++ more)) o ≡ picked most (type_state names.old state)) }
     ensures names { Grows names.old names.new }
 {
     let stack = state.stack.as_slice();
@@ -107,8 +107,8 @@ pub fn new_array(
     names: &mut Names,
 ) -> Result<Option<State>, Memory>
     requires { IsNumberedState (length names.old) state }
-    ensures after { IfOk result (λ o. (more : Names) → option_map (seen (names.new ++ more)) o
-        ≡ with_stack (seen names.old state) (moved_by most (array_forms elem) (map (held names.old) state.stack))) }
+    ensures after { IfOk result (λ o. (more : Names) → option_map (type_state (names.new ++ more)) o
+        ≡ with_stack (type_state names.old state) (moved_by most (array_forms elem) (map (verification_type names.old) state.stack))) }
     ensures names { Grows names.old names.new }
 {
     let class = object_of(alloc, &[b'[', element_letter(elem)], names)?;
@@ -126,8 +126,8 @@ pub fn new_arrays(
     class: Kind,
     most: u16,
 ) -> Result<Option<State>, Memory>
-    ensures { IfOk result (λ o. (names : Names) → option_map (seen names) o ≡ with_stack (seen names state)
-        (moved_by most (turns (replicate count wants.Int) (held names class)) (map (held names) state.stack))) }
+    ensures { IfOk result (λ o. (names : Names) → option_map (type_state names) o ≡ with_stack (type_state names state)
+        (moved_by most (turns (replicate count wants.Int) (verification_type names class)) (map (verification_type names) state.stack))) }
 {
     let ints = &INTS[..count as usize];
     Ok(move_state(alloc, state, ints, &[Give::Kind(class)], most)?)

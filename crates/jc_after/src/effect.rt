@@ -2,7 +2,7 @@
 ghost use Rattle.std.specs.Prelude.{◌≡◌, ◌∷◌, ◌++◌, map, IfOk, option_map, codes, bytes_eq};
 ghost use Rattle.jc_bytes.specs.Descriptor.{IsFieldDescriptor, IsMethodDescriptor};
 ghost use Rattle.jc_methods.specs.DescriptorTypes.{field_type_in, method_type_in};
-ghost use Rattle.jc_methods.specs.Held.{Names, held, object, Grows};
+ghost use Rattle.jc_methods.specs.VerificationTypes.{Names, verification_type, object, Grows};
 ghost use Rattle.jc_methods.specs.ValueTypes.{held_by};
 ghost use Rattle.jc_after.specs.After.{array_of as array_name_of, want_for as want_held};
 ghost use Rattle.jc_after.specs.Does.{arrays_of, call_of, does, value, value_of, Says};
@@ -88,7 +88,7 @@ fn result_of(
     returns: Option<ValueType<'_>>,
     names: &mut Names,
 ) -> Result<Option<Kind>, Memory>
-    ensures result { IfOk result (λ o. (more : Names) → option_map (held (names.new ++ more)) o ≡ option_map held_by returns.entry) }
+    ensures result { IfOk result (λ o. (more : Names) → option_map (verification_type (names.new ++ more)) o ≡ option_map held_by returns.entry) }
     ensures names { Grows names.old names.new }
 {
     match returns {
@@ -143,7 +143,7 @@ fn array_name(alloc: Global, name: &[u8]) -> Result<Vec<u8>, Memory>
 
 /// The arrays of a class, where their class can have a name.
 fn array_of(alloc: Global, name: &[u8], names: &mut Names) -> Result<Option<Kind>, Memory>
-    ensures array { IfOk result (λ o. (more : Names) → option_map (held (names.new ++ more)) o ≡ arrays_of name.now) }
+    ensures array { IfOk result (λ o. (more : Names) → option_map (verification_type (names.new ++ more)) o ≡ arrays_of name.now) }
     ensures names { Grows names.old names.new }
 {
     let array = array_name(alloc, name)?;

@@ -31,7 +31,7 @@ pub struct Effects<'a> {
 
 impl<'a> Effects<'a> {
     ghost use Rattle.std.specs.Prelude.{◌≡◌, ◌<◌, ℕ, length, All, IfOk, IfSome, Some, option_map, slice_get};
-    ghost use Rattle.jc_methods.specs.Held.{Names, Grows, held, seen};
+    ghost use Rattle.jc_methods.specs.VerificationTypes.{Names, Grows, verification_type, type_state};
     ghost use Rattle.jc_methods.specs.InsnUse.{pool_place, Suits};
     ghost use Rattle.jc_methods.specs.WellMade.{HasUse, IsKind, IsWellMadeOfAnySize, what_used};
     ghost use Rattle.jc_methods.specs.declared.body.What.{What};
@@ -170,7 +170,7 @@ impl<'a> Effects<'a> {
     ) -> Result<Option<State>, Memory>
         requires read { IsRead self.now }
         requires kinds { All (IsKind (body_of self.now).code) state.now.stack }
-        ensures { IfOk result (IsBuilt self.now state.now (λ names. form wants.now (results (option_map (held names) outcome)))) }
+        ensures { IfOk result (IsBuilt self.now state.now (λ names. form wants.now (results (option_map (verification_type names) outcome)))) }
     {
         match outcome {
             Some(kind) => Ok(self.build(alloc, state, wants, &[Give::Kind(kind)])?),
@@ -189,8 +189,8 @@ impl<'a> Effects<'a> {
         requires read { IsRead self.now }
         requires local { HasLocal (length state.locals) step }
         requires kinds { All (IsKind (body_of self.now).code) state.stack }
-        ensures { IfOk result (λ o. (names : Names) → AreEffects names self.now → option_map (seen names) o
-            ≡ apply_step (ground_of (body_of self.now) place) (step_in names step.entry) (seen names state)) }
+        ensures { IfOk result (λ o. (names : Names) → AreEffects names self.now → option_map (type_state names) o
+            ≡ apply_step (ground_of (body_of self.now) place) (step_in names step.entry) (type_state names state)) }
     {
         let most = self.body.max_stack;
         match step {

@@ -1,6 +1,6 @@
 //! What each shape takes and leaves.
 ghost use Rattle.std.specs.Prelude.{◌≡◌};
-ghost use Rattle.jc_methods.specs.Held.{Names};
+ghost use Rattle.jc_methods.specs.VerificationTypes.{Names};
 ghost use Rattle.jc_after.specs.Shapes.{forms_of, forms_seen};
 
 use crate::Want;
@@ -16,114 +16,114 @@ pub enum Give {
 
 /// The operands that are taken, the top one last, and what is left in their place.
 #[derive(Clone, Copy)]
-pub struct Form {
+pub struct StackEffect {
     pub wants: &'static [Want],
     pub gives: &'static [Give],
 }
 
 /// The form of a shape.
-pub fn form_in(shape: Shape) -> Option<Form>
+pub fn form_in(shape: Shape) -> Option<StackEffect>
     ensures { (names : Names) → forms_seen names result ≡ forms_of shape }
 {
     match shape {
         Shape::No => None,
-        Shape::Nothing => Some(Form {
+        Shape::Nothing => Some(StackEffect {
             wants: &[],
             gives: &[],
         }),
-        Shape::PushNull => Some(Form {
+        Shape::PushNull => Some(StackEffect {
             wants: &[],
             gives: &[Give::Kind(Kind::Null)],
         }),
-        Shape::PushInt => Some(Form {
+        Shape::PushInt => Some(StackEffect {
             wants: &[],
             gives: &[Give::Kind(Kind::Int)],
         }),
-        Shape::PushLong => Some(Form {
+        Shape::PushLong => Some(StackEffect {
             wants: &[],
             gives: &[Give::Kind(Kind::Long)],
         }),
-        Shape::PushFloat => Some(Form {
+        Shape::PushFloat => Some(StackEffect {
             wants: &[],
             gives: &[Give::Kind(Kind::Float)],
         }),
-        Shape::PushDouble => Some(Form {
+        Shape::PushDouble => Some(StackEffect {
             wants: &[],
             gives: &[Give::Kind(Kind::Double)],
         }),
-        Shape::ElementInt => Some(Form {
+        Shape::ElementInt => Some(StackEffect {
             wants: &[Want::Reference, Want::Int],
             gives: &[Give::Kind(Kind::Int)],
         }),
-        Shape::ElementLong => Some(Form {
+        Shape::ElementLong => Some(StackEffect {
             wants: &[Want::Reference, Want::Int],
             gives: &[Give::Kind(Kind::Long)],
         }),
-        Shape::ElementFloat => Some(Form {
+        Shape::ElementFloat => Some(StackEffect {
             wants: &[Want::Reference, Want::Int],
             gives: &[Give::Kind(Kind::Float)],
         }),
-        Shape::ElementDouble => Some(Form {
+        Shape::ElementDouble => Some(StackEffect {
             wants: &[Want::Reference, Want::Int],
             gives: &[Give::Kind(Kind::Double)],
         }),
-        Shape::PutInt => Some(Form {
+        Shape::PutInt => Some(StackEffect {
             wants: &[Want::Reference, Want::Int, Want::Int],
             gives: &[],
         }),
-        Shape::PutLong => Some(Form {
+        Shape::PutLong => Some(StackEffect {
             wants: &[Want::Reference, Want::Int, Want::Long],
             gives: &[],
         }),
-        Shape::PutFloat => Some(Form {
+        Shape::PutFloat => Some(StackEffect {
             wants: &[Want::Reference, Want::Int, Want::Float],
             gives: &[],
         }),
-        Shape::PutDouble => Some(Form {
+        Shape::PutDouble => Some(StackEffect {
             wants: &[Want::Reference, Want::Int, Want::Double],
             gives: &[],
         }),
-        Shape::PutReference => Some(Form {
+        Shape::PutReference => Some(StackEffect {
             wants: &[Want::Reference, Want::Int, Want::Reference],
             gives: &[],
         }),
-        Shape::Pop => Some(Form {
+        Shape::Pop => Some(StackEffect {
             wants: &[Want::Single],
             gives: &[],
         }),
-        Shape::PopTwo => Some(Form {
+        Shape::PopTwo => Some(StackEffect {
             wants: &[Want::Single, Want::Single],
             gives: &[],
         }),
-        Shape::PopPair => Some(Form {
+        Shape::PopPair => Some(StackEffect {
             wants: &[Want::Pair],
             gives: &[],
         }),
-        Shape::Dup => Some(Form {
+        Shape::Dup => Some(StackEffect {
             wants: &[Want::Single],
             gives: &[Give::Item(0), Give::Item(0)],
         }),
-        Shape::DupUnderOne => Some(Form {
+        Shape::DupUnderOne => Some(StackEffect {
             wants: &[Want::Single, Want::Single],
             gives: &[Give::Item(1), Give::Item(0), Give::Item(1)],
         }),
-        Shape::DupUnderTwo => Some(Form {
+        Shape::DupUnderTwo => Some(StackEffect {
             wants: &[Want::Single, Want::Single, Want::Single],
             gives: &[Give::Item(2), Give::Item(0), Give::Item(1), Give::Item(2)],
         }),
-        Shape::DupUnderPair => Some(Form {
+        Shape::DupUnderPair => Some(StackEffect {
             wants: &[Want::Pair, Want::Single],
             gives: &[Give::Item(1), Give::Item(0), Give::Item(1)],
         }),
-        Shape::DupTwo => Some(Form {
+        Shape::DupTwo => Some(StackEffect {
             wants: &[Want::Single, Want::Single],
             gives: &[Give::Item(0), Give::Item(1), Give::Item(0), Give::Item(1)],
         }),
-        Shape::DupPair => Some(Form {
+        Shape::DupPair => Some(StackEffect {
             wants: &[Want::Pair],
             gives: &[Give::Item(0), Give::Item(0)],
         }),
-        Shape::DupTwoUnderOne => Some(Form {
+        Shape::DupTwoUnderOne => Some(StackEffect {
             wants: &[Want::Single, Want::Single, Want::Single],
             gives: &[
                 Give::Item(1),
@@ -133,11 +133,11 @@ pub fn form_in(shape: Shape) -> Option<Form>
                 Give::Item(2),
             ],
         }),
-        Shape::DupPairUnderOne => Some(Form {
+        Shape::DupPairUnderOne => Some(StackEffect {
             wants: &[Want::Single, Want::Pair],
             gives: &[Give::Item(1), Give::Item(0), Give::Item(1)],
         }),
-        Shape::DupTwoUnderTwo => Some(Form {
+        Shape::DupTwoUnderTwo => Some(StackEffect {
             wants: &[Want::Single, Want::Single, Want::Single, Want::Single],
             gives: &[
                 Give::Item(2),
@@ -148,11 +148,11 @@ pub fn form_in(shape: Shape) -> Option<Form>
                 Give::Item(3),
             ],
         }),
-        Shape::DupPairUnderTwo => Some(Form {
+        Shape::DupPairUnderTwo => Some(StackEffect {
             wants: &[Want::Single, Want::Single, Want::Pair],
             gives: &[Give::Item(2), Give::Item(0), Give::Item(1), Give::Item(2)],
         }),
-        Shape::DupTwoUnderPair => Some(Form {
+        Shape::DupTwoUnderPair => Some(StackEffect {
             wants: &[Want::Pair, Want::Single, Want::Single],
             gives: &[
                 Give::Item(1),
@@ -162,143 +162,143 @@ pub fn form_in(shape: Shape) -> Option<Form>
                 Give::Item(2),
             ],
         }),
-        Shape::DupPairUnderPair => Some(Form {
+        Shape::DupPairUnderPair => Some(StackEffect {
             wants: &[Want::Pair, Want::Pair],
             gives: &[Give::Item(1), Give::Item(0), Give::Item(1)],
         }),
-        Shape::Swap => Some(Form {
+        Shape::Swap => Some(StackEffect {
             wants: &[Want::Single, Want::Single],
             gives: &[Give::Item(1), Give::Item(0)],
         }),
-        Shape::TwoInts => Some(Form {
+        Shape::TwoInts => Some(StackEffect {
             wants: &[Want::Int, Want::Int],
             gives: &[Give::Kind(Kind::Int)],
         }),
-        Shape::TwoLongs => Some(Form {
+        Shape::TwoLongs => Some(StackEffect {
             wants: &[Want::Long, Want::Long],
             gives: &[Give::Kind(Kind::Long)],
         }),
-        Shape::TwoFloats => Some(Form {
+        Shape::TwoFloats => Some(StackEffect {
             wants: &[Want::Float, Want::Float],
             gives: &[Give::Kind(Kind::Float)],
         }),
-        Shape::TwoDoubles => Some(Form {
+        Shape::TwoDoubles => Some(StackEffect {
             wants: &[Want::Double, Want::Double],
             gives: &[Give::Kind(Kind::Double)],
         }),
-        Shape::OneInt => Some(Form {
+        Shape::OneInt => Some(StackEffect {
             wants: &[Want::Int],
             gives: &[Give::Kind(Kind::Int)],
         }),
-        Shape::OneLong => Some(Form {
+        Shape::OneLong => Some(StackEffect {
             wants: &[Want::Long],
             gives: &[Give::Kind(Kind::Long)],
         }),
-        Shape::OneFloat => Some(Form {
+        Shape::OneFloat => Some(StackEffect {
             wants: &[Want::Float],
             gives: &[Give::Kind(Kind::Float)],
         }),
-        Shape::OneDouble => Some(Form {
+        Shape::OneDouble => Some(StackEffect {
             wants: &[Want::Double],
             gives: &[Give::Kind(Kind::Double)],
         }),
-        Shape::LongByInt => Some(Form {
+        Shape::LongByInt => Some(StackEffect {
             wants: &[Want::Long, Want::Int],
             gives: &[Give::Kind(Kind::Long)],
         }),
-        Shape::IntToLong => Some(Form {
+        Shape::IntToLong => Some(StackEffect {
             wants: &[Want::Int],
             gives: &[Give::Kind(Kind::Long)],
         }),
-        Shape::IntToFloat => Some(Form {
+        Shape::IntToFloat => Some(StackEffect {
             wants: &[Want::Int],
             gives: &[Give::Kind(Kind::Float)],
         }),
-        Shape::IntToDouble => Some(Form {
+        Shape::IntToDouble => Some(StackEffect {
             wants: &[Want::Int],
             gives: &[Give::Kind(Kind::Double)],
         }),
-        Shape::LongToInt => Some(Form {
+        Shape::LongToInt => Some(StackEffect {
             wants: &[Want::Long],
             gives: &[Give::Kind(Kind::Int)],
         }),
-        Shape::LongToFloat => Some(Form {
+        Shape::LongToFloat => Some(StackEffect {
             wants: &[Want::Long],
             gives: &[Give::Kind(Kind::Float)],
         }),
-        Shape::LongToDouble => Some(Form {
+        Shape::LongToDouble => Some(StackEffect {
             wants: &[Want::Long],
             gives: &[Give::Kind(Kind::Double)],
         }),
-        Shape::FloatToInt => Some(Form {
+        Shape::FloatToInt => Some(StackEffect {
             wants: &[Want::Float],
             gives: &[Give::Kind(Kind::Int)],
         }),
-        Shape::FloatToLong => Some(Form {
+        Shape::FloatToLong => Some(StackEffect {
             wants: &[Want::Float],
             gives: &[Give::Kind(Kind::Long)],
         }),
-        Shape::FloatToDouble => Some(Form {
+        Shape::FloatToDouble => Some(StackEffect {
             wants: &[Want::Float],
             gives: &[Give::Kind(Kind::Double)],
         }),
-        Shape::DoubleToInt => Some(Form {
+        Shape::DoubleToInt => Some(StackEffect {
             wants: &[Want::Double],
             gives: &[Give::Kind(Kind::Int)],
         }),
-        Shape::DoubleToLong => Some(Form {
+        Shape::DoubleToLong => Some(StackEffect {
             wants: &[Want::Double],
             gives: &[Give::Kind(Kind::Long)],
         }),
-        Shape::DoubleToFloat => Some(Form {
+        Shape::DoubleToFloat => Some(StackEffect {
             wants: &[Want::Double],
             gives: &[Give::Kind(Kind::Float)],
         }),
-        Shape::CompareLongs => Some(Form {
+        Shape::CompareLongs => Some(StackEffect {
             wants: &[Want::Long, Want::Long],
             gives: &[Give::Kind(Kind::Int)],
         }),
-        Shape::CompareFloats => Some(Form {
+        Shape::CompareFloats => Some(StackEffect {
             wants: &[Want::Float, Want::Float],
             gives: &[Give::Kind(Kind::Int)],
         }),
-        Shape::CompareDoubles => Some(Form {
+        Shape::CompareDoubles => Some(StackEffect {
             wants: &[Want::Double, Want::Double],
             gives: &[Give::Kind(Kind::Int)],
         }),
-        Shape::TakeInt => Some(Form {
+        Shape::TakeInt => Some(StackEffect {
             wants: &[Want::Int],
             gives: &[],
         }),
-        Shape::TakeLong => Some(Form {
+        Shape::TakeLong => Some(StackEffect {
             wants: &[Want::Long],
             gives: &[],
         }),
-        Shape::TakeFloat => Some(Form {
+        Shape::TakeFloat => Some(StackEffect {
             wants: &[Want::Float],
             gives: &[],
         }),
-        Shape::TakeDouble => Some(Form {
+        Shape::TakeDouble => Some(StackEffect {
             wants: &[Want::Double],
             gives: &[],
         }),
-        Shape::TakeReference => Some(Form {
+        Shape::TakeReference => Some(StackEffect {
             wants: &[Want::Reference],
             gives: &[],
         }),
-        Shape::TakeTwoInts => Some(Form {
+        Shape::TakeTwoInts => Some(StackEffect {
             wants: &[Want::Int, Want::Int],
             gives: &[],
         }),
-        Shape::TakeTwoObjects => Some(Form {
+        Shape::TakeTwoObjects => Some(StackEffect {
             wants: &[Want::Anything, Want::Anything],
             gives: &[],
         }),
-        Shape::TakeObject => Some(Form {
+        Shape::TakeObject => Some(StackEffect {
             wants: &[Want::Anything],
             gives: &[],
         }),
-        Shape::Length => Some(Form {
+        Shape::Length => Some(StackEffect {
             wants: &[Want::Reference],
             gives: &[Give::Kind(Kind::Int)],
         }),

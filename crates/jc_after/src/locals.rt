@@ -1,6 +1,6 @@
 //! Loads and stores of local variables. No class is named, so the clauses hold under all names.
 ghost use Rattle.std.specs.Prelude.{◌≡◌, ◌<◌, length, map, IfOk, option_map};
-ghost use Rattle.jc_methods.specs.Held.{Names, held, seen, is_pair as is_pair_held};
+ghost use Rattle.jc_methods.specs.VerificationTypes.{Names, verification_type, type_state, is_pair as is_pair_held};
 ghost use Rattle.jc_after.specs.Step.{cleared as cleared_held, clear_before as cleared_before, put_second as with_second};
 ghost use Rattle.jc_after.specs.Step.{put_local as with_local, loaded, stored, counted};
 
@@ -14,14 +14,14 @@ use std::alloc::Global;
 
 /// Whether a value takes two slots.
 fn is_pair(kind: Kind) -> bool
-    ensures { (names : Names) → result ≡ is_pair_held (held names kind) }
+    ensures { (names : Names) → result ≡ is_pair_held (verification_type names kind) }
 {
     matches!(kind, Kind::Long | Kind::Double)
 }
 
 /// The type of a local variable once the next one was written: half of a long or a double is no value.
 fn cleared(kind: Kind) -> Kind
-    ensures { (names : Names) → held names result ≡ cleared_held (held names kind) }
+    ensures { (names : Names) → verification_type names result ≡ cleared_held (verification_type names kind) }
 {
     match kind {
         Kind::Long | Kind::Double => Kind::Top,
@@ -38,7 +38,7 @@ fn cleared(kind: Kind) -> Kind
 /// Clears a long or a double that began one local variable before.
 fn clear_before(locals: &mut Vec<Kind>, slot: usize)
     requires { slot < length locals.old.items }
-    ensures locals { (names : Names) → map (held names) locals.new.items ≡ cleared_before slot (map (held names) locals.old.items) }
+    ensures locals { (names : Names) → map (verification_type names) locals.new.items ≡ cleared_before slot (map (verification_type names) locals.old.items) }
     ensures count { length locals.new.items ≡ length locals.old.items }
 {
     if slot == 0 {
@@ -51,7 +51,7 @@ fn clear_before(locals: &mut Vec<Kind>, slot: usize)
 /// Writes the second local variable of a long or a double.
 fn put_second(locals: &mut Vec<Kind>, slot: usize, kind: Kind)
     requires { slot < length locals.old.items }
-    ensures { (names : Names) → map (held names) locals.new.items ≡ with_second (held names kind) slot (map (held names) locals.old.items) }
+    ensures { (names : Names) → map (verification_type names) locals.new.items ≡ with_second (verification_type names kind) slot (map (verification_type names) locals.old.items) }
 {
     if !is_pair(kind) {
         return;
@@ -66,7 +66,7 @@ fn put_second(locals: &mut Vec<Kind>, slot: usize, kind: Kind)
 /// The local variables after a value was stored in one.
 fn put_local(locals: List<Kind>, slot: usize, kind: Kind) -> List<Kind>
     requires { slot < length locals }
-    ensures { (names : Names) → map (held names) result ≡ with_local slot (held names kind) (map (held names) locals) }
+    ensures { (names : Names) → map (verification_type names) result ≡ with_local slot (verification_type names kind) (map (verification_type names) locals) }
 {
     let mut after = locals.into_vec();
     clear_before(&mut after, slot);
@@ -84,7 +84,7 @@ pub fn load(
     most: u16,
 ) -> Result<Option<State>, Memory>
     requires { slot < length state.locals }
-    ensures { IfOk result (λ o. (names : Names) → option_map (seen names) o ≡ loaded most slot want (seen names state)) }
+    ensures { IfOk result (λ o. (names : Names) → option_map (type_state names) o ≡ loaded most slot want (type_state names state)) }
 {
     let kind = state.locals[slot as usize];
     if !accepts(want, kind) {
@@ -96,7 +96,7 @@ pub fn load(
 /// The state with the value on top stored in a local variable.
 pub fn store(state: State, slot: u16, want: Want) -> Option<State>
     requires { slot < length state.locals }
-    ensures { (names : Names) → option_map (seen names) result ≡ stored slot want (seen names state) }
+    ensures { (names : Names) → option_map (type_state names) result ≡ stored slot want (type_state names state) }
 {
     let stack = state.stack.as_slice();
     if stack.is_empty() {
@@ -119,7 +119,7 @@ pub fn store(state: State, slot: u16, want: Want) -> Option<State>
 /// The state after a local variable was added to.
 pub fn count(state: State, slot: u16) -> Option<State>
     requires { slot < length state.locals }
-    ensures { (names : Names) → option_map (seen names) result ≡ counted slot (seen names state) }
+    ensures { (names : Names) → option_map (type_state names) result ≡ counted slot (type_state names state) }
 {
     if !accepts(Want::Int, state.locals[slot as usize]) {
         return None;

@@ -1,7 +1,7 @@
 //! What is taken from the stack and left there. No class is named, so the clauses hold under all names.
 ghost use Rattle.std.specs.Prelude.{◌≡◌, ℕ, map, IfOk, option_map, nat_le};
 ghost use Rattle.std.specs.List.{list_any};
-ghost use Rattle.jc_methods.specs.Held.{Names, held, seen, slots};
+ghost use Rattle.jc_methods.specs.VerificationTypes.{Names, verification_type, type_state, slots};
 ghost use Rattle.jc_after.specs.Step.{given_of, with_stack as put_stack};
 ghost use Rattle.jc_after.specs.Shapes.{gives_of, is_item as is_operand, form_of, moved_in};
 
@@ -28,7 +28,7 @@ fn has_item(gives: &[Give]) -> bool
 
 /// What is left.
 fn given(operands: &[Kind], give: Give) -> Kind
-    ensures { (names : Names) → held names result ≡ given_of (map (held names) operands.now) (gives_of names give) }
+    ensures { (names : Names) → verification_type names result ≡ given_of (map (verification_type names) operands.now) (gives_of names give) }
 {
     match give {
         Give::Kind(kind) => kind,
@@ -45,8 +45,8 @@ fn given(operands: &[Kind], give: Give) -> Kind
 
 /// The operands, or none of them where nothing that is left is one of them.
 fn operands_for(alloc: Global, operands: &[Kind], gives: &[Give]) -> Result<Vec<Kind>, AllocError>
-    ensures { IfOk result (λ kept. (names : Names) → map (given_of (map (held names) kept.items)) (map (gives_of names) gives.now)
-        ≡ map (given_of (map (held names) operands.now)) (map (gives_of names) gives.now)) }
+    ensures { IfOk result (λ kept. (names : Names) → map (given_of (map (verification_type names) kept.items)) (map (gives_of names) gives.now)
+        ≡ map (given_of (map (verification_type names) operands.now)) (map (gives_of names) gives.now)) }
 {
     if has_item(gives) {
         Vec::from_slice(alloc, operands)
@@ -57,7 +57,7 @@ fn operands_for(alloc: Global, operands: &[Kind], gives: &[Give]) -> Result<Vec<
 
 /// Whether so many slots are enough for a stack. A long or a double takes two.
 pub fn is_within(stack: &[Kind], most: u16) -> bool
-    ensures { (names : Names) → result ≡ nat_le (slots (map (held names) stack.now)) most }
+    ensures { (names : Names) → result ≡ nat_le (slots (map (verification_type names) stack.now)) most }
 {
     let mut free = most;
     'counting: for kind in stack {
@@ -79,8 +79,8 @@ pub fn move_stack(
     gives: &[Give],
     most: u16,
 ) -> Result<Option<List<Kind>>, Memory>
-    ensures { IfOk result (λ o. (names : Names) → option_map (map (held names)) o
-        ≡ moved_in most (form_of names wants.now gives.now) (map (held names) stack)) }
+    ensures { IfOk result (λ o. (names : Names) → option_map (map (verification_type names)) o
+        ≡ moved_in most (form_of names wants.now gives.now) (map (verification_type names) stack)) }
 {
     let mut after = stack.into_vec();
     if after.len() < wants.len() {
@@ -109,8 +109,8 @@ pub fn move_state(
     gives: &[Give],
     most: u16,
 ) -> Result<Option<State>, Memory>
-    ensures { IfOk result (λ o. (names : Names) → option_map (seen names) o
-        ≡ put_stack (seen names state) (moved_in most (form_of names wants.now gives.now) (map (held names) state.stack))) }
+    ensures { IfOk result (λ o. (names : Names) → option_map (type_state names) o
+        ≡ put_stack (type_state names state) (moved_in most (form_of names wants.now gives.now) (map (verification_type names) state.stack))) }
 {
     let State { locals, stack } = state;
     match move_stack(alloc, stack, wants, gives, most)? {

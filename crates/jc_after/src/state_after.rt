@@ -1,6 +1,6 @@
 //! The types of values after an instruction.
 ghost use Rattle.std.specs.Prelude.{◌<◌, length, IfOk, IfSome};
-ghost use Rattle.jc_methods.specs.Held.{Grows};
+ghost use Rattle.jc_methods.specs.VerificationTypes.{Grows};
 ghost use Rattle.jc_methods.specs.WellMade.{IsWellMadeOfAnySize};
 ghost use Rattle.jc_after.specs.Answers.{IsStateOf, IsWhole, LeavesState};
 

@@ -1,7 +1,7 @@
 //! What an instruction does to types.
 ghost use Rattle.std.specs.Prelude.{◌≡◌, ◌≢◌, drop, Option, Some, option_map};
 ghost use Rattle.jc_bytes.specs.Descriptor.{FieldType};
-ghost use Rattle.jc_methods.specs.Held.{Names, Held, held};
+ghost use Rattle.jc_methods.specs.VerificationTypes.{Names, VerificationType, verification_type};
 ghost use Rattle.jc_methods.specs.Opcode as opcode;
 ghost use Rattle.jc_after.specs.Does.{does, of_class};
 ghost use Rattle.jc_after.specs.Steps.{step_in, constant_by, static_by, object_by, field_by, method_by, member_by};
@@ -115,7 +115,7 @@ pub fn object_step(effect: &Effect) -> Step<'_>
 
 /// `getstatic` to `putfield`.
 fn field_step<'a>(op: u8, want: Want, kind: Kind) -> Step<'a>
-    ensures { (names : Names) → step_in names result ≡ field_by op want (held names kind) }
+    ensures { (names : Names) → step_in names result ≡ field_by op want (verification_type names kind) }
 {
     if op == opcode::GETSTATIC {
         Step::Push(kind)
@@ -130,7 +130,7 @@ fn field_step<'a>(op: u8, want: Want, kind: Kind) -> Step<'a>
 
 /// `invokevirtual` to `invokestatic`.
 fn method_step(op: u8, wants: &[Want], outcome: Option<Kind>, builds: bool) -> Step<'_>
-    ensures { (names : Names) → step_in names result ≡ method_by op wants.now (option_map (held names) outcome) builds }
+    ensures { (names : Names) → step_in names result ≡ method_by op wants.now (option_map (verification_type names) outcome) builds }
 {
     if op == opcode::INVOKESTATIC {
         Step::Call(without_object(wants), outcome)
@@ -170,7 +170,7 @@ pub fn member_step(op: u8, effect: &Effect) -> Step<'_>
 
 /// `anewarray`.
 fn array_step<'a>(array: Option<Kind>) -> Step<'a>
-    ensures { (names : Names) → step_in names result ≡ array_by (option_map (held names) array) }
+    ensures { (names : Names) → step_in names result ≡ array_by (option_map (verification_type names) array) }
 {
     match array {
         Some(kind) => Step::Turn(Want::Int, kind),
@@ -210,8 +210,8 @@ pub fn multi_step(count: u8, effect: &Effect) -> Step<'_>
 
 /// The class itself, where it is one.
 pub fn class_of(effect: &Effect) -> Option<Kind>
-    ensures { (names : Names) (h constant : Held) (array : Option Held) → does names effect.now ≡ of_class h array constant →
-        option_map (held names) result ≡ Some h }
+    ensures { (names : Names) (h constant : VerificationType) (array : Option VerificationType) → does names effect.now ≡ of_class h array constant →
+        option_map (verification_type names) result ≡ Some h }
 {
     match effect {
         Effect::Class { itself, .. } => Some(*itself),

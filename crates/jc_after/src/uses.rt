@@ -2,7 +2,7 @@
 ghost use Rattle.std.specs.Prelude.{◌≡◌, ◌<◌, ℕ, length, Option, Some, IfOk, slice_index_or};
 ghost use Rattle.jc_bytes.specs.Descriptor.{IsMethodDescriptor};
 ghost use Rattle.jc_methods.specs.DescriptorTypes.{method_type_in};
-ghost use Rattle.jc_methods.specs.Held.{Names, Grows};
+ghost use Rattle.jc_methods.specs.VerificationTypes.{Names, Grows};
 ghost use Rattle.jc_methods.specs.ValueTypes.{held_by};
 ghost use Rattle.jc_methods.specs.WellMade.{AreRisingFrom, what_used};
 ghost use Rattle.jc_methods.specs.declared.body.Use.{Use};

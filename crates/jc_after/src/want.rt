@@ -1,6 +1,6 @@
 //! What instructions ask of their operands.
 ghost use Rattle.std.specs.Prelude.{◌≡◌, ℕ, map};
-ghost use Rattle.jc_methods.specs.Held.{Names, held};
+ghost use Rattle.jc_methods.specs.VerificationTypes.{Names, verification_type};
 ghost use Rattle.jc_after.specs.Wants.{accepts as is_accepted, accepts_all};
 
 use jc_methods::Kind;
@@ -30,7 +30,7 @@ pub enum Want {
 
 /// Whether a value is of the kind that is asked for.
 pub fn accepts(want: Want, kind: Kind) -> bool
-    ensures { (names : Names) → result ≡ is_accepted want (held names kind) }
+    ensures { (names : Names) → result ≡ is_accepted want (verification_type names kind) }
 {
     match want {
         Want::Int => matches!(kind, Kind::Int),
@@ -50,7 +50,7 @@ pub fn accepts(want: Want, kind: Kind) -> bool
 
 /// Whether there are as many operands as are asked for, and each is of its kind.
 pub fn are_accepted(wants: &[Want], operands: &[Kind]) -> bool
-    ensures { (names : Names) → result ≡ accepts_all wants.now (map (held names) operands.now) }
+    ensures { (names : Names) → result ≡ accepts_all wants.now (map (verification_type names) operands.now) }
 {
     if wants.len() != operands.len() {
         return false;

@@ -23,12 +23,14 @@ pub use Rattle.jc_methods.specs.Widened
 pub use Rattle.jc_methods.specs.InsnUse
 pub use Rattle.jc_methods.specs.WellMade
 pub use Rattle.jc_methods.specs.FrameOrder
-pub use Rattle.jc_methods.specs.Held
+pub use Rattle.jc_methods.specs.VerificationTypes
 pub use Rattle.jc_methods.specs.DescriptorTypes
 pub use Rattle.jc_methods.specs.EntryState
 pub use Rattle.jc_methods.specs.Slots
 pub use Rattle.jc_methods.specs.ValueTypes
 pub use Rattle.jc_methods.specs.Starts
+pub use Rattle.jc_methods.specs.ProbeMembers
+pub use Rattle.jc_bytes.specs.Failing
 pub use Rattle.jc_outside.specs.Outside
 pub use Rattle.jc_outside.specs.Planned
 pub use Rattle.jc_outside.specs.InMemory

@@ -13,7 +13,7 @@ pub use jc_methods::{
     Analysed, Arm, Body, Edge, Emitted, Flow, Form, FrameAt, Handler, Insn, Kind, LineAt,
     MethodTypes, Plan, State, Use, ValueType, VarAt, What, a_descriptor_is_read_as_its_type,
     a_method_begins_with_all_its_locals, a_replaced_slot_is_a_mapped_one, entry_state, field_type,
-    form_of, insn_numbers, inverse, is_test, mapped_locals_are_within, method_types,
+    form_of, insn_numbers, inverse, is_conditional_branch, mapped_locals_are_within, method_types,
     more_names_change_nothing, opcode, put_tops, the_wide_form_has_each_image, what_used,
 };
 pub use jc_outside::{

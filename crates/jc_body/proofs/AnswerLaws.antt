@@ -7,7 +7,7 @@ use Rattle.jc_bytes.specs.declared.refusal.RefusalKind.{RefusalKind}
 use Rattle.jc_bytes.specs.declared.refusal.RefusalKind.TheVariants as kinds
 use Rattle.std.specs.List.{IsDistinct}
 use Rattle.std.specs.Str.{bytes_eq}
-use Rattle.jc_methods.specs.Held.{Names, seen_at}
+use Rattle.jc_methods.specs.VerificationTypes.{Names, type_state_at}
 use Rattle.jc_methods.specs.WellMade.{TakeSlots}
 use Rattle.jc_pool.specs.Lookup.{class_name_of}
 use Rattle.jc_pool.specs.Pool.{PoolValue}
@@ -113,8 +113,8 @@ one_parts names c number method coded tables a b distinct p q =
     let lines = p.lines ∙ sym q.lines in
     let vars = p.vars ∙ sym q.vars in
     let kind_vars = p.kind_vars ∙ sym q.kind_vars in
-    let listed = one_list c.pool b.owner method coded (map (seen_at names) a.frames) (map (seen_at names) b.frames)
-    (subst (λ (o : List ℕ). HasFrames c.pool o method coded (map (seen_at names) a.frames)) owner p.frames) q.frames in
+    let listed = one_list c.pool b.owner method coded (map (type_state_at names) a.frames) (map (type_state_at names) b.frames)
+    (subst (λ (o : List ℕ). HasFrames c.pool o method coded (map (type_state_at names) a.frames)) owner p.frames) q.frames in
     let frames = one_numbering names distinct a.frames b.frames p.numbers q.numbers listed in
     let uses = one_uses c.pool (places_used coded.insns coded.items.rows) a.uses b.uses p.uses q.uses in
     λ i. record {

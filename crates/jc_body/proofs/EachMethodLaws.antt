@@ -5,7 +5,7 @@ use Rattle.std.specs.Int.Bits.{bit_and}
 use Rattle.std.specs.Str.{bytes_eq}
 use Rattle.std.proofs.lemmas.Bool.{cases_eq}
 use Rattle.jc_methods.specs.declared.body.Body.{Body}
-use Rattle.jc_methods.specs.Held.{Names, Seen, SeenAt}
+use Rattle.jc_methods.specs.VerificationTypes.{Names, TypeState, TypeStateAt}
 use Rattle.jc_methods.specs.EntryState.{entry_seen}
 use Rattle.jc_bytes.specs.declared.refusal.Refusal.{Refusal}
 use Rattle.jc_bytes.specs.declared.refusal.RefusalKind.{RefusalKind}
@@ -51,7 +51,7 @@ module _ (c : ClassFile) (number : ℕ) (method : Member) (at : slice_get c.meth
   refused kind place reason = inr (inr (record { kind = kind; method = Some number; place = place }, record { method = method; at = at; owner = owner.0; owner_is = owner.1; method_is = refl; reason = reason }))
 
   made : (coded : Coded) → IsCoded c.pool method coded → IsNowhere (HasSubroutine c.pool method) → AreNowhere (faults c.major c.pool owner.0 method)
-      → (tables : Tables) → AreTables c.pool coded.items.attributes tables → (frames : List SeenAt) → HasFrames c.pool owner.0 method coded frames → Answer c number
+      → (tables : Tables) → AreTables c.pool coded.items.attributes tables → (frames : List TypeStateAt) → HasFrames c.pool owner.0 method coded frames → Answer c number
   made coded is_coded no_subroutine no_fault tables are_tables frames has_frames =
       let numbering = some_numbering frames in
       let uses = some_uses c.pool (places_used coded.insns coded.items.rows) in
@@ -115,13 +115,13 @@ module _ (c : ClassFile) (number : ℕ) (method : Member) (at : slice_get c.meth
       by_tables : AreNowhere (map (λ F. F coded) (insn_faults c.major c.pool ++ (row_faults c.pool method ++ table_faults c.pool owner.0 method))) → ((tables : Tables) × AreTables c.pool coded.items.attributes tables) ⊎ ((tables : Tables) → AreTables c.pool coded.items.attributes tables → ⊥) → Answer c number
       by_tables none (inl t) = by_map (each_map c.pool owner.0 method coded entry begins)
         where
-          entry : Seen
+          entry : TypeState
           entry = entry_seen owner.0 is.name.0 is.desc.0 method.flags coded.items.max_locals
 
           begins : BeginsWith c.pool owner.0 method coded entry
           begins = record { name = is.name.0; desc = is.desc.0; name_is = is.name.1; desc_is = is.desc.1; entry_is = refl }
 
-          by_map : ((frames : List SeenAt) × HasFrames c.pool owner.0 method coded frames) ⊎ ((place : ℕ) × BadStackMap c.pool owner.0 method coded place) → Answer c number
+          by_map : ((frames : List TypeStateAt) × HasFrames c.pool owner.0 method coded frames) ⊎ ((place : ℕ) × BadStackMap c.pool owner.0 method coded place) → Answer c number
           by_map (inl f) = let without = coded_without c.major c.pool owner.0 method coded is_coded none in made coded is_coded without.0 without.1 t.0 t.1 f.0 f.1
           by_map (inr bad) = absurd (none.1.1.1.1.1.1.0 bad.0 bad.1)
       by_tables none (inr bad) = absurd (none.1.1.1.1.1.0 0 (record { at = refl; fault = bad }))

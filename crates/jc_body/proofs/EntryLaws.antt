@@ -4,16 +4,16 @@ use Rattle.std.specs.List.{AllByRecursion}
 use Rattle.std.specs.Str.{bytes_eq}
 use Rattle.jc_bytes.specs.Descriptor.{FieldType, Byte, Char, Double, Float, Int, Long, Short, Boolean, Object, Array}
 use Rattle.jc_methods.specs.DescriptorTypes.{method_type_in}
-use Rattle.jc_methods.specs.Held.{Held, top, uninit_this, object}
+use Rattle.jc_methods.specs.VerificationTypes.{VerificationType, top, uninit_this, object}
 use Rattle.jc_methods.specs.EntryState.{spread_one, spread, held_of, is_static, arguments, entry_seen}
 use Rattle.jc_frames.specs.Frames.{Ground}
 use Rattle.jc_frames.specs.WellMade.{HasNew}
 
 module _ (g : Ground) where
-  abbrev Have : List Held → Type 0
+  abbrev Have : List VerificationType → Type 0
   Have = AllByRecursion (HasNew g)
 
-  both_have : (xs ys : List Held) → Have xs → Have ys → Have (xs ++ ys)
+  both_have : (xs ys : List VerificationType) → Have xs → Have ys → Have (xs ++ ys)
   both_have [] ys a b = b
   both_have (x ∷ xs) ys a b = (a.0, both_have xs ys a.1 b)
 

@@ -9,7 +9,7 @@ use Rattle.jc_methods.specs.declared.kind.Kind.TheVariants as kinds
 use Rattle.jc_methods.specs.declared.kind.State.{State}
 use Rattle.jc_methods.specs.declared.body.FrameAt.{FrameAt}
 use Rattle.jc_bytes.specs.Names.{with_name}
-use Rattle.jc_methods.specs.Held.{Names, Held, top, int, float, double, long, null, uninit_this, object, uninit, Seen, SeenAt, held, seen_at, IsNumbered, IsNumberedState, AreNumberedFrames}
+use Rattle.jc_methods.specs.VerificationTypes.{Names, VerificationType, top, int, float, double, long, null, uninit_this, object, uninit, TypeState, TypeStateAt, verification_type, type_state_at, IsNumbered, IsNumberedState, AreNumberedFrames}
 
 -- ---- the number of a name
 
@@ -36,7 +36,7 @@ number_again (x ∷ names) d (suc n) lt =
 
 -- ---- one numbering
 
-abbrev kind_of : Names → Held → Kind
+abbrev kind_of : Names → VerificationType → Kind
 kind_of names top = kinds.Top
 kind_of names int = kinds.Int
 kind_of names float = kinds.Float
@@ -47,14 +47,14 @@ kind_of names uninit_this = kinds.UninitThis
 kind_of names (object name) = kinds.Object (number_of name names)
 kind_of names (uninit at) = kinds.Uninit at
 
-abbrev state_of : Names → Seen → State
+abbrev state_of : Names → TypeState → State
 state_of names s = record { locals = map (kind_of names) s.locals; stack = map (kind_of names) s.stack }
 
-abbrev frame_of : Names → SeenAt → FrameAt
+abbrev frame_of : Names → TypeStateAt → FrameAt
 frame_of names f = record { at = f.at; state = state_of names f.state }
 
 module _ (names : Names) (distinct : IsDistinct bytes_eq names) where
-  kind_again : (k : Kind) → IsNumbered (length names) k → kind_of names (held names k) ≡ k
+  kind_again : (k : Kind) → IsNumbered (length names) k → kind_of names (verification_type names k) ≡ k
   kind_again (kinds.Object n) lt = ap kinds.Object (number_again names distinct n lt)
   kind_again kinds.Top lt = refl
   kind_again kinds.Int lt = refl
@@ -65,32 +65,32 @@ module _ (names : Names) (distinct : IsDistinct bytes_eq names) where
   kind_again kinds.UninitThis lt = refl
   kind_again (kinds.Uninit at) lt = refl
 
-  kinds_again : (ks : List Kind) → AllByRecursion (IsNumbered (length names)) ks → map (kind_of names) (map (held names) ks) ≡ ks
+  kinds_again : (ks : List Kind) → AllByRecursion (IsNumbered (length names)) ks → map (kind_of names) (map (verification_type names) ks) ≡ ks
   kinds_again [] all = refl
   kinds_again (k ∷ ks) all = ap₂ (λ (x : Kind) (xs : List Kind). x ∷ xs) (kind_again k all.0) (kinds_again ks all.1)
 
-  frame_again : (f : FrameAt) → IsNumberedState (length names) f.state → frame_of names (seen_at names f) ≡ f
+  frame_again : (f : FrameAt) → IsNumberedState (length names) f.state → frame_of names (type_state_at names f) ≡ f
   frame_again f n = λ i. record { at = f.at; state = record { locals = kinds_again f.state.locals n.locals i; stack = kinds_again f.state.stack n.stack i } }
 
-  frames_again : (frames : List FrameAt) → AreNumberedFrames (length names) frames → map (frame_of names) (map (seen_at names) frames) ≡ frames
+  frames_again : (frames : List FrameAt) → AreNumberedFrames (length names) frames → map (frame_of names) (map (type_state_at names) frames) ≡ frames
   frames_again [] all = refl
   frames_again (f ∷ frames) all = ap₂ (λ (x : FrameAt) (xs : List FrameAt). x ∷ xs) (frame_again f all.0) (frames_again frames all.1)
 
 -- where no two names are equal, frames that are the same by names are the same by numbers
-pub one_numbering : (names : Names) → IsDistinct bytes_eq names → (a b : List FrameAt) → AreNumberedFrames (length names) a → AreNumberedFrames (length names) b → map (seen_at names) a ≡ map (seen_at names) b → a ≡ b
+pub one_numbering : (names : Names) → IsDistinct bytes_eq names → (a b : List FrameAt) → AreNumberedFrames (length names) a → AreNumberedFrames (length names) b → map (type_state_at names) a ≡ map (type_state_at names) b → a ≡ b
 one_numbering names distinct a b p q same = sym (frames_again names distinct a p) ∙ ap (map (frame_of names)) same ∙ frames_again names distinct b q
 
 -- ---- some numbering
 
-abbrev class_of : Held → List (List ℕ)
+abbrev class_of : VerificationType → List (List ℕ)
 class_of (object name) = name ∷ []
 class_of _ = []
 
-abbrev classes_of : List Held → List (List ℕ)
+abbrev classes_of : List VerificationType → List (List ℕ)
 classes_of [] = []
 classes_of (h ∷ hs) = class_of h ++ classes_of hs
 
-abbrev frame_classes : List SeenAt → List (List ℕ)
+abbrev frame_classes : List TypeStateAt → List (List ℕ)
 frame_classes [] = []
 frame_classes (f ∷ frames) = (classes_of f.state.locals ++ classes_of f.state.stack) ++ frame_classes frames
 
@@ -209,7 +209,7 @@ module _ (names : Names) where
   last_have [] ys all = all
   last_have (x ∷ xs) ys all = last_have xs ys all.1
 
-  held_again : (h : Held) → HasNames (class_of h) → held names (kind_of names h) ≡ h
+  held_again : (h : VerificationType) → HasNames (class_of h) → verification_type names (kind_of names h) ≡ h
   held_again (object name) all = ap object (at_number name names all.0).is
   held_again top all = refl
   held_again int all = refl
@@ -220,7 +220,7 @@ module _ (names : Names) where
   held_again uninit_this all = refl
   held_again (uninit at) all = refl
 
-  numbered : (h : Held) → HasNames (class_of h) → IsNumbered (length names) (kind_of names h)
+  numbered : (h : VerificationType) → HasNames (class_of h) → IsNumbered (length names) (kind_of names h)
   numbered (object name) all = (at_number name names all.0).within
   numbered top all = tt
   numbered int all = tt
@@ -231,15 +231,15 @@ module _ (names : Names) where
   numbered uninit_this all = tt
   numbered (uninit at) all = tt
 
-  each_again : (hs : List Held) → HasNames (classes_of hs) → map (held names) (map (kind_of names) hs) ≡ hs
+  each_again : (hs : List VerificationType) → HasNames (classes_of hs) → map (verification_type names) (map (kind_of names) hs) ≡ hs
   each_again [] all = refl
-  each_again (h ∷ hs) all = ap₂ (λ (x : Held) (xs : List Held). x ∷ xs) (held_again h (first_have (class_of h) (classes_of hs) all)) (each_again hs (last_have (class_of h) (classes_of hs) all))
+  each_again (h ∷ hs) all = ap₂ (λ (x : VerificationType) (xs : List VerificationType). x ∷ xs) (held_again h (first_have (class_of h) (classes_of hs) all)) (each_again hs (last_have (class_of h) (classes_of hs) all))
 
-  each_numbered : (hs : List Held) → HasNames (classes_of hs) → AllByRecursion (IsNumbered (length names)) (map (kind_of names) hs)
+  each_numbered : (hs : List VerificationType) → HasNames (classes_of hs) → AllByRecursion (IsNumbered (length names)) (map (kind_of names) hs)
   each_numbered [] all = tt
   each_numbered (h ∷ hs) all = (numbered h (first_have (class_of h) (classes_of hs) all), each_numbered hs (last_have (class_of h) (classes_of hs) all))
 
-  seen_again : (frames : List SeenAt) → HasNames (frame_classes frames) → map (seen_at names) (map (frame_of names) frames) ≡ frames
+  seen_again : (frames : List TypeStateAt) → HasNames (frame_classes frames) → map (type_state_at names) (map (frame_of names) frames) ≡ frames
   seen_again [] all = refl
   seen_again (f ∷ frames) all =
       let locals = classes_of f.state.locals in
@@ -250,7 +250,7 @@ module _ (names : Names) where
       let rest = seen_again frames (last_have (locals ++ stack) (frame_classes frames) all) in
       λ i. record { at = f.at; state = record { locals = first i; stack = last i } } ∷ rest i
 
-  all_numbered : (frames : List SeenAt) → HasNames (frame_classes frames) → AreNumberedFrames (length names) (map (frame_of names) frames)
+  all_numbered : (frames : List TypeStateAt) → HasNames (frame_classes frames) → AreNumberedFrames (length names) (map (frame_of names) frames)
   all_numbered [] all = tt
   all_numbered (f ∷ frames) all =
       let locals = classes_of f.state.locals in
@@ -261,12 +261,12 @@ module _ (names : Names) where
       )
 
 -- frames by names are those of some frames by numbers
-pub record IsNumbering (frames : List SeenAt) (names : Names) (own : List FrameAt) : Type 0 where
+pub record IsNumbering (frames : List TypeStateAt) (names : Names) (own : List FrameAt) : Type 0 where
   pub distinct : IsDistinct bytes_eq names
-  pub seen_are : map (seen_at names) own ≡ frames
+  pub seen_are : map (type_state_at names) own ≡ frames
   pub numbers : AreNumberedFrames (length names) own
 
-pub some_numbering : (frames : List SeenAt) → (names : Names) × (own : List FrameAt) × IsNumbering frames names own
+pub some_numbering : (frames : List TypeStateAt) → (names : Names) × (own : List FrameAt) × IsNumbering frames names own
 some_numbering frames =
     let names = gathered (frame_classes frames) in
     let there = all_there (frame_classes frames) in (

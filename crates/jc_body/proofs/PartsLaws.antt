@@ -1,7 +1,7 @@
 -- The parts of a body by the table over the offsets, and by the instructions' starts.
 use Rattle.std.proofs.Common.{◌≡◌, ℕ, List, length, map, ◌∙◌, subst}
 use Rattle.jc_methods.specs.declared.body.FrameAt.{FrameAt}
-use Rattle.jc_methods.specs.Held.{Names, seen_at}
+use Rattle.jc_methods.specs.VerificationTypes.{Names, type_state_at}
 use Rattle.jc_pool.specs.Pool.{PoolValue}
 use Rattle.jc_class.specs.declared.class_file.Member.{Member}
 use Rattle.jc_body.specs.StackMap.{HasFrames}
@@ -32,5 +32,5 @@ module _ (coded : Coded) (offsets : Offsets) (numbers : Numbers coded offsets) w
 
 -- the frames in a body, by the name of the class that the body has
 pub frames_by : (names : Names) (pool : PoolValue) (method : Member) (coded : Coded) (owner other : List ℕ) (frames : List FrameAt) → owner ≡ other
-    → HasFrames pool owner method coded (map (seen_at names) frames) → HasFrames pool other method coded (map (seen_at names) frames)
-frames_by names pool method coded owner other frames named has = subst (λ (o : List ℕ). HasFrames pool o method coded (map (seen_at names) frames)) named has
+    → HasFrames pool owner method coded (map (type_state_at names) frames) → HasFrames pool other method coded (map (type_state_at names) frames)
+frames_by names pool method coded owner other frames named has = subst (λ (o : List ℕ). HasFrames pool o method coded (map (type_state_at names) frames)) named has

@@ -3,7 +3,7 @@ use Rattle.std.proofs.Common.{◌≡◌, ◌⊎◌, inl, inr, ℕ, ◌<◌, List
 use Rattle.std.proofs.lemmas.Option.{slice_get-get_or}
 use Rattle.std.specs.List.{IsDistinct}
 use Rattle.std.specs.Str.{bytes_eq}
-use Rattle.jc_methods.specs.Held.{Names}
+use Rattle.jc_methods.specs.VerificationTypes.{Names}
 use Rattle.jc_methods.specs.declared.body.Body.{Body}
 use Rattle.jc_bytes.specs.declared.fail.Fail.{Fail}
 use Rattle.jc_bytes.specs.declared.fail.Fail.TheVariants as fails
@@ -17,7 +17,8 @@ use Rattle.jc_insn.specs.Spells.{IsRefused}
 use Rattle.jc_body.specs.declared.coded.Coded.{Coded}
 use Rattle.jc_body.specs.declared.items.Tables.{Tables}
 use Rattle.jc_body.specs.declared.items.CodeItems.{CodeItems}
-use Rattle.jc_body.specs.Answers.{IsRefusal, IsFrameRefusal, bad_code, Said}
+use Rattle.jc_body.specs.Answers.{IsRefusal, IsFrameRefusal, bad_code}
+use Rattle.jc_bytes.specs.Failing.{Said}
 use Rattle.jc_body.specs.Attributes.{AreTables}
 use Rattle.jc_body.specs.Coded.{HasNoCode, HasItems, IsCoded}
 use Rattle.jc_body.specs.Faults.{HasSubroutine, MalformedTable, TooWide, faults, insn_faults, row_faults, table_faults}

@@ -20,7 +20,7 @@ use Rattle.jc_body.specs.declared.items.Tables.{Tables}
 use Rattle.jc_body.specs.Attributes.{AreTables}
 use Rattle.jc_body.specs.Coded.{HasCode, HasItems, IsCoded}
 use Rattle.jc_body.specs.Faults.{NoSingleCode, MalformedCode, IsStopped, HasSubroutine, InsnAt, IsAstray, MalformedTable, TooWide, faults, insn_faults, row_faults, table_faults}
-use Rattle.jc_methods.specs.Held.{SeenAt}
+use Rattle.jc_methods.specs.VerificationTypes.{TypeStateAt}
 use Rattle.jc_methods.specs.EntryState.{entry_seen}
 use Rattle.jc_bytes.specs.Least.{IsNowhere, IsLeast}
 use Rattle.jc_body.specs.StackMap.{HasFrames, BadStackMap}
@@ -57,7 +57,7 @@ module _ (major : ℕ) (pool : PoolValue) (owner : List ℕ) (method : Member) (
   by_stack_map : IsDecided (BadStackMap pool owner method coded)
   by_stack_map = by (each_map pool owner method coded (entry_seen owner name desc method.flags coded.items.max_locals) (record { name = name; desc = desc; name_is = name_is; desc_is = desc_is; entry_is = refl }))
     where
-      by : ((frames : List SeenAt) × HasFrames pool owner method coded frames) ⊎ ((place : ℕ) × BadStackMap pool owner method coded place) → IsDecided (BadStackMap pool owner method coded)
+      by : ((frames : List TypeStateAt) × HasFrames pool owner method coded frames) ⊎ ((place : ℕ) × BadStackMap pool owner method coded place) → IsDecided (BadStackMap pool owner method coded)
       by (inl has) = inr (λ place bad. apart pool owner method coded has.0 place has.1 bad)
       by (inr bad) = inl (bad.0, least_map pool owner method coded bad.0 bad.1)
 

@@ -5,7 +5,7 @@ use Rattle.jc_methods.specs.declared.insn.Insn.{Insn}
 use Rattle.jc_methods.specs.declared.body.FrameAt.{FrameAt}
 use Rattle.jc_bytes.specs.declared.refusal.Refusal.{Refusal}
 use Rattle.jc_bytes.specs.Least.{IsNowhere, IsLeast}
-use Rattle.jc_methods.specs.Held.{Names, Seen, SeenAt, seen, seen_at, AreNumberedFrames}
+use Rattle.jc_methods.specs.VerificationTypes.{Names, TypeState, TypeStateAt, type_state, type_state_at, AreNumberedFrames}
 use Rattle.jc_methods.specs.EntryState.{entry_seen}
 use Rattle.jc_pool.specs.Lookup.{utf8_of}
 use Rattle.jc_pool.specs.Pool.{PoolValue}
@@ -33,7 +33,7 @@ head_is : {X : Type 0} (x y : X) (xs ys : List X) → x ∷ xs ≡ y ∷ ys → 
 head_is x y xs ys e = cc
 
 -- a method begins in one state
-one_entry : (pool : PoolValue) (owner : List ℕ) (method : Member) (coded : Coded) (a b : Seen) → BeginsWith pool owner method coded a → BeginsWith pool owner method coded b → a ≡ b
+one_entry : (pool : PoolValue) (owner : List ℕ) (method : Member) (coded : Coded) (a b : TypeState) → BeginsWith pool owner method coded a → BeginsWith pool owner method coded b → a ≡ b
 one_entry pool owner method coded a b p q =
     let name : p.name ≡ q.name = same_Some p.name q.name (sym p.name_is ∙ q.name_is) in
     let desc : p.desc ≡ q.desc = same_Some p.desc q.desc (sym p.desc_is ∙ q.desc_is) in
@@ -42,29 +42,29 @@ one_entry pool owner method coded a b p q =
     ∙ ap (λ (d : List ℕ). entry_seen owner q.name d method.flags coded.items.max_locals) desc
     ∙ sym q.entry_is
 
-pub each_map : (pool : PoolValue) (owner : List ℕ) (method : Member) (coded : Coded) (entry : Seen) → BeginsWith pool owner method coded entry
-    → ((frames : List SeenAt) × HasFrames pool owner method coded frames) ⊎ ((place : ℕ) × BadStackMap pool owner method coded place)
+pub each_map : (pool : PoolValue) (owner : List ℕ) (method : Member) (coded : Coded) (entry : TypeState) → BeginsWith pool owner method coded entry
+    → ((frames : List TypeStateAt) × HasFrames pool owner method coded frames) ⊎ ((place : ℕ) × BadStackMap pool owner method coded place)
 each_map pool owner method coded entry begins = by (stack_maps pool coded) refl
   where
     read : (table : List ℕ) → stack_maps pool coded ≡ table ∷ [] → (o : Outcome) → outcome_of (ground_of pool coded) entry table ≡ o
-        → ((frames : List SeenAt) × HasFrames pool owner method coded frames) ⊎ ((place : ℕ) × BadStackMap pool owner method coded place)
+        → ((frames : List TypeStateAt) × HasFrames pool owner method coded frames) ⊎ ((place : ℕ) × BadStackMap pool owner method coded place)
     read table is (stands_for frames) e = inl (frames, record { entry = entry; begins = begins; frames_are = inr (table, is, table_good (ground_of pool coded) entry table frames e) })
     read table is (at_fault place) e = inr (place, inr (record { entry = entry; begins = begins; table = table; is = is; fault = table_bad (ground_of pool coded) entry table place e }))
 
-    by : (tables : List (List ℕ)) → stack_maps pool coded ≡ tables → ((frames : List SeenAt) × HasFrames pool owner method coded frames) ⊎ ((place : ℕ) × BadStackMap pool owner method coded place)
+    by : (tables : List (List ℕ)) → stack_maps pool coded ≡ tables → ((frames : List TypeStateAt) × HasFrames pool owner method coded frames) ⊎ ((place : ℕ) × BadStackMap pool owner method coded place)
     by [] is = inl ([], record { entry = entry; begins = begins; frames_are = inl (is, refl) })
     by (table ∷ []) is = read table is (outcome_of (ground_of pool coded) entry table) refl
     by (first ∷ second ∷ others) is = inr (0, inl (record { at = refl; first = first; second = second; others = others; are = is }))
 
 module _ (pool : PoolValue) (owner : List ℕ) (method : Member) (coded : Coded) where
   -- the same table, read over the same state
-  same_outcome : (table other : List ℕ) (a b : Seen) → stack_maps pool coded ≡ table ∷ [] → stack_maps pool coded ≡ other ∷ [] → BeginsWith pool owner method coded a → BeginsWith pool owner method coded b
+  same_outcome : (table other : List ℕ) (a b : TypeState) → stack_maps pool coded ≡ table ∷ [] → stack_maps pool coded ≡ other ∷ [] → BeginsWith pool owner method coded a → BeginsWith pool owner method coded b
       → outcome_of (ground_of pool coded) a table ≡ outcome_of (ground_of pool coded) b other
   same_outcome table other a b p q begin end =
-      ap (λ (s : Seen). outcome_of (ground_of pool coded) s table) (one_entry pool owner method coded a b begin end)
+      ap (λ (s : TypeState). outcome_of (ground_of pool coded) s table) (one_entry pool owner method coded a b begin end)
       ∙ ap (outcome_of (ground_of pool coded) b) (head_is table other [] [] (sym p ∙ q))
 
-  pub apart : (frames : List SeenAt) (place : ℕ) → HasFrames pool owner method coded frames → BadStackMap pool owner method coded place → ⊥
+  pub apart : (frames : List TypeStateAt) (place : ℕ) → HasFrames pool owner method coded frames → BadStackMap pool owner method coded place → ⊥
   apart frames place h (inl s) = ⊎_elim
       (λ none. none_one (sym none.0 ∙ s.are))
       (λ one. one_two (sym one.1 ∙ s.are))
@@ -77,7 +77,7 @@ module _ (pool : PoolValue) (owner : List ℕ) (method : Member) (coded : Coded)
       ∙ table_fails (ground_of pool coded) f.entry f.table place f.fault)))
       h.frames_are
 
-  pub one_list : (a b : List SeenAt) → HasFrames pool owner method coded a → HasFrames pool owner method coded b → a ≡ b
+  pub one_list : (a b : List TypeStateAt) → HasFrames pool owner method coded a → HasFrames pool owner method coded b → a ≡ b
   one_list a b p q = ⊎_elim
       (λ none. ⊎_elim (λ none'. none.1 ∙ sym none'.1) (λ one. absurd (none_one (sym none.0 ∙ one.1))) q.frames_are)
       (λ one. ⊎_elim (λ none. absurd (none_one (sym none.0 ∙ one.1)))
@@ -117,7 +117,7 @@ no_frames names pool owner method coded name desc frames [] name_is desc_is none
       frames_are = inl (sym are, refl);
     } in
     record {
-      frames_are = subst (λ (l : List FrameAt). HasFrames pool owner method coded (map (seen_at names) l)) (sym none) has;
+      frames_are = subst (λ (l : List FrameAt). HasFrames pool owner method coded (map (type_state_at names) l)) (sym none) has;
       numbers = subst (λ (l : List FrameAt). AreNumberedFrames (length names) l) (sym none) tt;
       no_fault = λ place bad. apart pool owner method coded [] place has bad;
       narrow = nowhere_wide coded narrow;
@@ -142,23 +142,23 @@ module _ (names : Names) (pool : PoolValue) (owner : List ℕ) (method : Member)
 
   abbrev Judged : Option ℕ → Type 0
   Judged found = MatchOption found
-      ((frames : List SeenAt) × StandsFor Here (seen names entry) table frames)
-      (λ place. TableFault Here (seen names entry) table place)
+      ((frames : List TypeStateAt) × StandsFor Here (type_state names entry) table frames)
+      (λ place. TableFault Here (type_state names entry) table place)
 
   pub is_faulty : (found : Option ℕ) (place : ℕ) → found ≡ Some place → Judged found → BadStackMap pool owner method coded place
   is_faulty found place there judged = inr (record {
-    entry = seen names entry;
+    entry = type_state names entry;
     begins = begins.begins;
     table = table;
     is = is;
-    fault = subst (λ (g : Ground). TableFault g (seen names entry) table place) same_ground (subst Judged there judged);
+    fault = subst (λ (g : Ground). TableFault g (type_state names entry) table place) same_ground (subst Judged there judged);
   })
 
-  pub stand_there : (frames : List SeenAt) → StandsFor Here (seen names entry) table frames → HasFrames pool owner method coded frames
+  pub stand_there : (frames : List TypeStateAt) → StandsFor Here (type_state names entry) table frames → HasFrames pool owner method coded frames
   stand_there frames stands = record {
-    entry = seen names entry;
+    entry = type_state names entry;
     begins = begins.begins;
-    frames_are = inr (table, is, subst (λ (g : Ground). StandsFor g (seen names entry) table frames) same_ground stands);
+    frames_are = inr (table, is, subst (λ (g : Ground). StandsFor g (type_state names entry) table frames) same_ground stands);
   }
 
   pub no_fault : (found : Option ℕ) → found ≡ None → Judged found → IsNowhere (BadStackMap pool owner method coded)

@@ -164,22 +164,22 @@ leads_or_not count insn = all_or_not (λ to. to < count) (λ to. below_or_not to
 
 goes_on_or_not : (flow : Flow) → Decided (flow ≡ flows.GoesOn)
 goes_on_or_not flows.GoesOn = inl refl
-goes_on_or_not flows.Tests = inr (λ e. absurd cc)
+goes_on_or_not flows.Branches = inr (λ e. absurd cc)
 goes_on_or_not flows.Jumps = inr (λ e. absurd cc)
 goes_on_or_not flows.Switches = inr (λ e. absurd cc)
 goes_on_or_not flows.Returns = inr (λ e. absurd cc)
 goes_on_or_not flows.Throws = inr (λ e. absurd cc)
 
-tests_or_not : (flow : Flow) → Decided (flow ≡ flows.Tests)
+tests_or_not : (flow : Flow) → Decided (flow ≡ flows.Branches)
 tests_or_not flows.GoesOn = inr (λ e. absurd cc)
-tests_or_not flows.Tests = inl refl
+tests_or_not flows.Branches = inl refl
 tests_or_not flows.Jumps = inr (λ e. absurd cc)
 tests_or_not flows.Switches = inr (λ e. absurd cc)
 tests_or_not flows.Returns = inr (λ e. absurd cc)
 tests_or_not flows.Throws = inr (λ e. absurd cc)
 
 falls_or_not : (insn : Insn) → Decided (FallsThrough insn)
-falls_or_not insn = either_or_not (flow_of insn ≡ flows.GoesOn) (flow_of insn ≡ flows.Tests) (goes_on_or_not (flow_of insn)) (tests_or_not (flow_of insn))
+falls_or_not insn = either_or_not (flow_of insn ≡ flows.GoesOn) (flow_of insn ≡ flows.Branches) (goes_on_or_not (flow_of insn)) (tests_or_not (flow_of insn))
 
 pub astray_or_not : (count number : ℕ) (insn : Insn) → IsAstray count number insn ⊎ (IsAstray count number insn → ⊥)
 astray_or_not count number insn =

@@ -21,7 +21,7 @@ use Rattle.jc_methods.specs.declared.body.What.{What}
 use Rattle.jc_methods.specs.InsnUse.{pool_place}
 use Rattle.jc_methods.specs.WellMade.{HasUse, HasShortTexts, AreRisingFrom, what_used}
 use Rattle.jc_methods.proofs.UsedLaws.{none_below}
-use Rattle.jc_bytes.proofs.TestLaws.{in_map}
+use Rattle.jc_bytes.proofs.BooleanLaws.{in_map}
 use Rattle.jc_pool.specs.Pool.{PoolValue}
 use Rattle.jc_body.specs.declared.items.Row.{Row}
 use Rattle.jc_body.specs.BodyOf.{some_of, insn_places, row_places, places_used, used_at, AreUsesOf}

@@ -33,7 +33,7 @@ use Rattle.jc_body.specs.First.{AreNowhere, NoItem}
 use Rattle.jc_body.specs.Standing.{what_of, what_at, found_in, found_at, HasRightEntry}
 use Rattle.std.specs.List.{AllByRecursion}
 use Rattle.jc_methods.specs.declared.body.FrameAt.{FrameAt}
-use Rattle.jc_methods.specs.Held.{Names, Seen, SeenAt, seen_at}
+use Rattle.jc_methods.specs.VerificationTypes.{Names, TypeState, TypeStateAt, type_state_at}
 use Rattle.jc_methods.specs.WellMade.{AreFramesFrom}
 use Rattle.jc_frames.specs.Table.{StandsFor}
 use Rattle.jc_frames.specs.WellMade.{HasNew}
@@ -161,18 +161,18 @@ bound coded none = by (cases_lt most_slots (length coded.insns * (coded.items.ma
 -- ---- frames
 
 frames_well : (names : Names) (c : ClassFile) (method : Member) (coded : Coded) (owner : List ℕ) (frames : List FrameAt) → AreStarts (length coded.insns) (length coded.items.code) coded.starts
-    → HasFrames c.pool owner method coded (map (seen_at names) frames) → AreFramesFrom 0 coded.insns coded.items.max_locals coded.items.max_stack frames
+    → HasFrames c.pool owner method coded (map (type_state_at names) frames) → AreFramesFrom 0 coded.insns coded.items.max_locals coded.items.max_stack frames
 frames_well names c method coded owner frames starts has = by frames has.frames_are
   where
-    by : (list : List FrameAt) → ((stack_maps c.pool coded ≡ []) × (map (seen_at names) list ≡ [])) ⊎ ((table : List ℕ) × (stack_maps c.pool coded ≡ table ∷ []) × StandsFor (ground_of c.pool coded) has.entry table (map (seen_at names) list))
+    by : (list : List FrameAt) → ((stack_maps c.pool coded ≡ []) × (map (type_state_at names) list ≡ [])) ⊎ ((table : List ℕ) × (stack_maps c.pool coded ≡ table ∷ []) × StandsFor (ground_of c.pool coded) has.entry table (map (type_state_at names) list))
         → AreFramesFrom 0 coded.insns coded.items.max_locals coded.items.max_stack list
     by [] none = tt
     by (f ∷ list) (inl none) = absurd (some_none none.1)
       where
-        some_none : {x : SeenAt} {xs : List SeenAt} → x ∷ xs ≡ [] → ⊥
+        some_none : {x : TypeStateAt} {xs : List TypeStateAt} → x ∷ xs ≡ [] → ⊥
         some_none e = cc
     by (f ∷ list) (inr table) = frames_well_made (ground_of c.pool coded) names has.entry table.0 (f ∷ list) (record { count = starts.one_more; rising = starts.rising })
-        (subst (λ (s : Seen). AllByRecursion (HasNew (ground_of c.pool coded)) s.locals) (sym has.begins.entry_is) (no_new (ground_of c.pool coded) owner has.begins.name has.begins.desc method.flags coded.items.max_locals))
+        (subst (λ (s : TypeState). AllByRecursion (HasNew (ground_of c.pool coded)) s.locals) (sym has.begins.entry_is) (no_new (ground_of c.pool coded) owner has.begins.name has.begins.desc method.flags coded.items.max_locals))
         table.2
 
 -- ---- the whole

@@ -1,11 +1,10 @@
 -- What the steps of reading a body answer.
 use Rattle.std.specs.Prelude.{◌≡◌, ◌⊎◌, ⊤, ℕ, List, length, Some, map}
 use Rattle.jc_bytes.specs.declared.fail.Fail.{Fail}
-use Rattle.jc_bytes.specs.declared.fail.Fail.TheVariants as fails
 use Rattle.jc_bytes.specs.declared.refusal.Refusal.{Refusal}
 use Rattle.jc_bytes.specs.declared.refusal.RefusalKind.TheVariants as kinds
 use Rattle.jc_methods.specs.declared.body.FrameAt.{FrameAt}
-use Rattle.jc_methods.specs.Held.{Names, seen_at, AreNumberedFrames}
+use Rattle.jc_methods.specs.VerificationTypes.{Names, type_state_at, AreNumberedFrames}
 use Rattle.jc_bytes.specs.Least.{IsNowhere}
 use Rattle.jc_pool.specs.Pool.{PoolValue}
 use Rattle.jc_class.specs.declared.class_file.Member.{Member}
@@ -37,7 +36,7 @@ bad_code number place = record { kind = kinds.BadCode; method = Some number; pla
 -- the frames of code that has no fault of its stack map table, and isn't too wide, with classes by their numbers
 pub record AreFramesOf (names : Names) (pool : PoolValue) (owner : List ℕ) (method : Member) (coded : Coded)
     (frames : List FrameAt) : Type 0 where
-  pub frames_are : HasFrames pool owner method coded (map (seen_at names) frames)
+  pub frames_are : HasFrames pool owner method coded (map (type_state_at names) frames)
   pub numbers : AreNumberedFrames (length names) frames
   pub no_fault : IsNowhere (BadStackMap pool owner method coded)
   pub narrow : IsNowhere (TooWide coded)
@@ -48,7 +47,4 @@ IsFrameRefusal pool owner method coded number refusal =
     ((place : ℕ) × (refusal ≡ bad_code number place) × BadStackMap pool owner method coded place)
     ⊎ ((refusal ≡ bad_code number 0) × IsNowhere (BadStackMap pool owner method coded) × TooWide coded 0)
 
--- memory may run out at any time; else the refusal is one of these
-abbrev pub Said : Fail Refusal → (Refusal → Type 0) → Type 0
-Said fails.Memory Fact = ⊤
-Said (fails.Said refusal) Fact = Fact refusal
+

@@ -14,7 +14,7 @@ use Rattle.jc_bytes.specs.declared.refusal.Refusal.{Refusal}
 use Rattle.jc_bytes.specs.declared.refusal.RefusalKind.{RefusalKind}
 use Rattle.jc_bytes.specs.declared.refusal.RefusalKind.TheVariants as kinds
 use Rattle.jc_methods.specs.InsnUse.{pool_place}
-use Rattle.jc_methods.specs.Held.{Names, seen_at, AreNumberedFrames}
+use Rattle.jc_methods.specs.VerificationTypes.{Names, type_state_at, AreNumberedFrames}
 use Rattle.jc_methods.specs.WellMade.{TakeSlots, AreRisingFrom, what_used}
 use Rattle.jc_pool.specs.Lookup.{utf8_of, class_name_of}
 use Rattle.jc_pool.specs.Pool.{PoolValue}
@@ -127,7 +127,7 @@ pub record HasParts (names : Names) (c : ClassFile) (number : ℕ) (method : Mem
   pub lines : body.lines ≡ lines_of (insn_number coded.starts) (length coded.insns) tables.lines
   pub vars : body.vars ≡ vars_in coded tables.vars
   pub kind_vars : body.kind_vars ≡ vars_in coded tables.kind_vars
-  pub frames : HasFrames c.pool body.owner method coded (map (seen_at names) body.frames)
+  pub frames : HasFrames c.pool body.owner method coded (map (type_state_at names) body.frames)
   pub numbers : AreNumberedFrames (length names) body.frames
   pub uses : AreUsesOf c.pool (places_used coded.insns coded.items.rows) body.uses
 

@@ -3,7 +3,8 @@ ghost use Rattle.std.specs.Prelude.{◌≡◌, ◌≤◌, ℕ, List, Some, None,
 ghost use Rattle.jc_bytes.specs.Reader.{most_read};
 ghost use Rattle.jc_body.specs.Coded.{HasNoCode, HasItems, IsCoded};
 ghost use Rattle.jc_insn.specs.Spells.{Spells, IsRefused};
-ghost use Rattle.jc_body.specs.Answers.{IsPresence, IsRefusal, Said};
+ghost use Rattle.jc_body.specs.Answers.{IsPresence, IsRefusal};
+ghost use Rattle.jc_bytes.specs.Failing.{Said};
 
 use crate::attributes::bodies_of;
 use crate::coded::Coded;

@@ -4,7 +4,7 @@ ghost use Rattle.std.specs.List.{IsDistinct};
 ghost use Rattle.std.specs.Str.{bytes_eq};
 ghost use Rattle.jc_methods.specs.declared.body.Body.{Body};
 ghost use Rattle.jc_bytes.specs.declared.refusal.Refusal.{Refusal};
-ghost use Rattle.jc_methods.specs.Held.{Names, Seen, SeenAt};
+ghost use Rattle.jc_methods.specs.VerificationTypes.{Names, TypeState, TypeStateAt};
 ghost use Rattle.jc_pool.specs.Pool.{PoolValue};
 ghost use Rattle.jc_class.specs.declared.class_file.ClassFile.{ClassFile};
 ghost use Rattle.jc_class.specs.declared.class_file.Member.{Member};
@@ -31,12 +31,12 @@ pub fn each_method_has_one_answer()
 
 /// The code of a method has frames or a fault of its stack map table, and only one of these, once.
 pub fn each_stack_map_has_frames_or_a_fault()
-    ensures each { (pool : PoolValue) (owner : List ℕ) (method : Member) (coded : Coded) (entry : Seen)
+    ensures each { (pool : PoolValue) (owner : List ℕ) (method : Member) (coded : Coded) (entry : TypeState)
         → BeginsWith pool owner method coded entry
-        → ((frames : List SeenAt) × HasFrames pool owner method coded frames) ⊎ ((place : ℕ) × BadStackMap pool owner method coded place) }
-    ensures apart { (pool : PoolValue) (owner : List ℕ) (method : Member) (coded : Coded) (frames : List SeenAt) (place : ℕ)
+        → ((frames : List TypeStateAt) × HasFrames pool owner method coded frames) ⊎ ((place : ℕ) × BadStackMap pool owner method coded place) }
+    ensures apart { (pool : PoolValue) (owner : List ℕ) (method : Member) (coded : Coded) (frames : List TypeStateAt) (place : ℕ)
         → HasFrames pool owner method coded frames → BadStackMap pool owner method coded place → ⊥ }
-    ensures one_list { (pool : PoolValue) (owner : List ℕ) (method : Member) (coded : Coded) (a b : List SeenAt)
+    ensures one_list { (pool : PoolValue) (owner : List ℕ) (method : Member) (coded : Coded) (a b : List TypeStateAt)
         → HasFrames pool owner method coded a → HasFrames pool owner method coded b → a ≡ b }
     ensures one_fault { (pool : PoolValue) (owner : List ℕ) (method : Member) (coded : Coded) (a b : ℕ)
         → BadStackMap pool owner method coded a → BadStackMap pool owner method coded b → a ≡ b }

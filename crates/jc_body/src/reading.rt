@@ -1,7 +1,7 @@
 //! Reading the body of a method.
 ghost use Rattle.std.specs.Prelude.{◌≡◌, ◌⊎◌, ◌<◌, ◌≤◌, ◌++◌, ℕ, List as Seq, Some, None, length, map};
 ghost use Rattle.std.specs.Prelude.{IfOk, IfErr, IfSome, MatchOption, MatchResult, All, IsTrue};
-ghost use Rattle.jc_methods.specs.Held.{Names as AllNames, Grows, seen_at, AreNumberedFrames};
+ghost use Rattle.jc_methods.specs.VerificationTypes.{Names as AllNames, Grows, type_state_at, AreNumberedFrames};
 ghost use Rattle.jc_methods.specs.WellMade.{IsCounted, IsWellMade};
 ghost use Rattle.jc_bytes.specs.Reader.{most_read};
 ghost use Rattle.jc_pool.specs.Lookup.{class_name_of};
@@ -16,7 +16,8 @@ ghost use Rattle.jc_body.specs.First.{AreNowhere};
 ghost use Rattle.jc_body.specs.Faults.{ArgumentsOutside, insn_faults, row_faults};
 ghost use Rattle.jc_body.specs.Coded.{HasNoCode, IsCoded};
 ghost use Rattle.jc_body.specs.Numbering.{Numbers};
-ghost use Rattle.jc_body.specs.Answers.{IsRefusal, Said};
+ghost use Rattle.jc_body.specs.Answers.{IsRefusal};
+ghost use Rattle.jc_bytes.specs.Failing.{Said};
 ghost use Rattle.jc_body.specs.BodyOf.{HasPartsWith, IsBody, BodyOf, Bodiless, FaultOf};
 ghost use Rattle.jc_body.specs.Sizes.{HasShortParts, HasSmallParts};
 
@@ -50,7 +51,7 @@ fn assembled(
     requires arguments { IsNowhere (ArgumentsOutside class.now.pool method.now coded) }
     requires offsets { Numbers coded offsets.now }
     ensures parts { (names : AllNames) (owner : Seq ℕ) (frames : Seq Frame) → class_name_of class.now.pool class.now.this_class ≡ Some owner
-        → HasFrames class.now.pool owner method.now coded (map (seen_at names) frames) → AreNumberedFrames (length names) frames
+        → HasFrames class.now.pool owner method.now coded (map (type_state_at names) frames) → AreNumberedFrames (length names) frames
         → IfOk result (HasPartsWith names class.now number method.now coded tables.now frames) }
     ensures texts { IfOk result HasShortParts }
 {

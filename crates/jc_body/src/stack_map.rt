@@ -1,13 +1,14 @@
 //! The stack map table of a method (JVM Specification 4.7.4).
 ghost use Rattle.std.specs.Prelude.{◌≡◌, ◌≤◌, ◌∷◌, [], length, IfOk, IfErr, All};
-ghost use Rattle.jc_methods.specs.Held.{Grows};
+ghost use Rattle.jc_methods.specs.VerificationTypes.{Grows};
 ghost use Rattle.jc_bytes.specs.Least.{IsNowhere};
 ghost use Rattle.jc_bytes.specs.Reader.{most_read};
 ghost use Rattle.jc_class.specs.ClassFormat.{HasText, HasMethodDescriptor};
 ghost use Rattle.jc_body.specs.Coded.{IsCoded};
 ghost use Rattle.jc_body.specs.Faults.{ArgumentsOutside};
 ghost use Rattle.jc_body.specs.StackMap.{stack_maps, IsEntry};
-ghost use Rattle.jc_body.specs.Answers.{AreFramesOf, IsFrameRefusal, Said};
+ghost use Rattle.jc_body.specs.Answers.{AreFramesOf, IsFrameRefusal};
+ghost use Rattle.jc_bytes.specs.Failing.{Said};
 
 use crate::attributes::bodies_of;
 use crate::code::bad_code;

@@ -6,7 +6,7 @@ use Rattle.std.proofs.lemmas.Bool.{eqb-true}
 use Rattle.std.proofs.lemmas.Grind.{flat_map-append}
 use Rattle.std.proofs.lemmas.List.{append-nil, length-map}
 use Rattle.jc_bytes.proofs.AppendingLaws.{joined}
-use Rattle.jc_methods.specs.Held.{Names, SeenAt, seen_at}
+use Rattle.jc_methods.specs.VerificationTypes.{Names, TypeStateAt, type_state_at}
 use Rattle.jc_methods.specs.declared.body.FrameAt.{FrameAt}
 use Rattle.jc_methods.specs.declared.emitted.Emitted.{Emitted}
 use Rattle.jc_class.specs.declared.class_file.Attribute.{Attribute}
@@ -38,7 +38,7 @@ are_places pool starts = record {
 
 -- ---- frames
 
-pub frames_text : (name size : ℕ) (p : Places) (frames : List SeenAt) (none table old mid new : List ℕ) → 0 < length frames → none ≡ []
+pub frames_text : (name size : ℕ) (p : Places) (frames : List TypeStateAt) (none table old mid new : List ℕ) → 0 < length frames → none ≡ []
     → table ≡ none ++ table_text p frames → length table ≡ size → mid ≡ old ++ (short name ++ word size) → new ≡ mid ++ table
     → new ≡ old ++ flat_map attribute_text (frame_attributes name p frames)
 frames_text name size p [] none table old mid new some empty is long head rest = absurd (omega (arith, some))
@@ -48,14 +48,14 @@ frames_text name size p (f ∷ frames) none table old mid new some empty is long
     ∙ ap (λ (l : List ℕ). old ++ attribute_text (attribute name l)) table_is
     ∙ ap (λ (l : List ℕ). old ++ l) (sym (append-nil (attribute_text (attribute name (table_text p (f ∷ frames))))))
 
-pub no_frames : (name : ℕ) (p : Places) (frames : List SeenAt) (old : List ℕ) → length frames ≡ 0
+pub no_frames : (name : ℕ) (p : Places) (frames : List TypeStateAt) (old : List ℕ) → length frames ≡ 0
     → old ≡ old ++ flat_map attribute_text (frame_attributes name p frames)
 no_frames name p [] old none = sym (append-nil old)
 no_frames name p (f ∷ frames) old none = absurd (omega (arith, none))
 
 -- ---- their number
 
-frame_count : (name : ℕ) (p : Places) (frames : List SeenAt) (count : ℕ) → (length frames ≡ 0 → count ≡ 0) → (0 < length frames → count ≡ 1)
+frame_count : (name : ℕ) (p : Places) (frames : List TypeStateAt) (count : ℕ) → (length frames ≡ 0 → count ≡ 0) → (0 < length frames → count ≡ 1)
     → length (frame_attributes name p frames) ≡ count
 frame_count name p [] count none some = sym (none refl)
 frame_count name p (f ∷ frames) count none some = sym (some (omega arith))
@@ -81,10 +81,10 @@ all_text a b c d count t₀ t₁ t₂ t₃ t₄ t₅ is p₁ p₂ p₃ p₄ p₅
 pub attributes_count : (lines vars kind_vars frames_name : ℕ) (p : Places) (e : Emitted) (names : Names) (frames : List FrameAt) (k l m n : ℕ)
     → length e.lines ≤ 65535 * k → 65535 * k < length e.lines + 65535 → length e.vars ≤ 65535 * l → 65535 * l < length e.vars + 65535
     → length e.kind_vars ≤ 65535 * m → 65535 * m < length e.kind_vars + 65535 → (length frames ≡ 0 → n ≡ 0) → (0 < length frames → n ≡ 1)
-    → k + l + m + n ≡ length (attributes_by lines vars kind_vars frames_name p e (map (seen_at names) frames))
+    → k + l + m + n ≡ length (attributes_by lines vars kind_vars frames_name p e (map (type_state_at names) frames))
 attributes_count lines vars kind_vars frames_name p e names frames k l m n p₁ q₁ p₂ q₂ p₃ q₃ none some =
-    let seen = map (seen_at names) frames in
-    let size = length-map frames (seen_at names) in
+    let seen = map (type_state_at names) frames in
+    let size = length-map frames (type_state_at names) in
     let a = table_attributes lines (line_text p.start) e.lines in
     let b = table_attributes vars (var_text p.start) e.vars in
     let d = table_attributes kind_vars (var_text p.start) e.kind_vars in

@@ -1,6 +1,6 @@
 -- Attributes whose names stand at their first places.
 use Rattle.std.proofs.Common.{◌≡◌, ℕ, List, [], ◌∷◌, ◌++◌, refl, sym, ◌∙◌, ap}
-use Rattle.jc_methods.specs.Held.{SeenAt}
+use Rattle.jc_methods.specs.VerificationTypes.{TypeStateAt}
 use Rattle.jc_methods.specs.declared.emitted.Emitted.{Emitted}
 use Rattle.jc_class.specs.declared.class_file.Attribute.{Attribute}
 use Rattle.jc_pool.specs.Pool.{PoolValue}
@@ -23,7 +23,7 @@ named_table : {X : Type 0} (pool : PoolValue) (name : List ℕ) (place : ℕ) (t
 named_table pool name place text [] named = refl
 named_table pool name place text (x ∷ xs) named = ap (λ (n : ℕ). table_attributes n text (x ∷ xs)) (sym (text_found pool name place named))
 
-pub are_named : (pool : PoolValue) (e : Emitted) (places : CodePlaces) (frames_name : ℕ) (frames : List SeenAt) → AreNamed pool e places
+pub are_named : (pool : PoolValue) (e : Emitted) (places : CodePlaces) (frames_name : ℕ) (frames : List TypeStateAt) → AreNamed pool e places
     → attributes_by places.lines places.vars places.kind_vars frames_name (places_of pool e) e frames ≡ code_attributes pool frames_name e frames
 are_named pool e places frames_name frames named =
     let last = frame_attributes frames_name (places_of pool e) frames in

@@ -1,7 +1,7 @@
 -- The text of an instrumented method's Code attribute, from its parts.
 use Rattle.std.proofs.Common.{◌≡◌, ℕ, List, [], ◌∷◌, ◌++◌, length, map, refl, sym, ◌∙◌, ap, arith, length-append}
 use Rattle.std.specs.Prelude.{slice_index}
-use Rattle.jc_methods.specs.Held.{Names, seen_at}
+use Rattle.jc_methods.specs.VerificationTypes.{Names, type_state_at}
 use Rattle.jc_methods.specs.declared.body.FrameAt.{FrameAt}
 use Rattle.jc_methods.specs.declared.body.Handler.{Handler}
 use Rattle.jc_methods.specs.declared.emitted.Emitted.{Emitted}
@@ -32,7 +32,7 @@ pub twin_code_parts : (pool : PoolValue) (e : Emitted) (l : Laid) (names : Names
     → (none sizes coded tabled new : List ℕ) → none ≡ [] → sizes ≡ none ++ (short e.max_stack ++ (short e.max_locals ++ word size))
     → coded ≡ sizes ++ with_place places.method bytes → tabled ≡ coded ++ counted_text (row_text (slice_index starts)) rows
     → new ≡ tabled ++ counted_text attribute_text (attributes_by places.lines places.vars places.kind_vars places.frames
-    (places_by pool (slice_index starts)) e (map (seen_at names) frames))
+    (places_by pool (slice_index starts)) e (map (type_state_at names) frames))
     → new ≡ twin_code pool places.method places.frames names e
 unfolding twin_code
 twin_code_parts pool e l names places frames laid are named starts bytes rows size starts_are bytes_are rows_are size_is none sizes coded tabled new empty head
@@ -46,7 +46,7 @@ twin_code_parts pool e l names places frames laid are named starts bytes rows si
     (tabled_is ∙ ap (λ (f : ℕ → ℕ). coded ++ counted_text (row_text f) rows) offset
     ∙ ap (λ (hs : List Handler). coded ++ counted_text (row_text (offset_in e)) hs) rows_are)
     (new_is ∙ ap (λ (f : ℕ → ℕ). tabled ++ counted_text attribute_text (attributes_by places.lines places.vars places.kind_vars places.frames
-    (places_by pool f) e (map (seen_at names) frames))) offset
+    (places_by pool f) e (map (type_state_at names) frames))) offset
     ∙ ap (λ (fs : List FrameAt). tabled ++ counted_text attribute_text (attributes_by places.lines places.vars places.kind_vars places.frames
-    (places_by pool (offset_in e)) e (map (seen_at names) fs))) are.are
+    (places_by pool (offset_in e)) e (map (type_state_at names) fs))) are.are
     ∙ ap (λ (all : List Attribute). tabled ++ counted_text attribute_text all) (are_named pool e places places.frames (written_frames names e) named))

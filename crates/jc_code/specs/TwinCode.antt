@@ -1,6 +1,6 @@
 -- The text of the Code attribute of an instrumented method.
 use Rattle.std.specs.Prelude.{ℕ, List, ◌++◌, map, codes, if◌then◌else◌, slice_index}
-use Rattle.jc_methods.specs.Held.{Names, SeenAt, seen_at}
+use Rattle.jc_methods.specs.VerificationTypes.{Names, TypeStateAt, type_state_at}
 use Rattle.jc_methods.specs.declared.body.FrameAt.{FrameAt}
 use Rattle.jc_methods.specs.declared.emitted.Emitted.{Emitted}
 use Rattle.jc_pool.specs.Pool.{PoolValue}
@@ -19,8 +19,8 @@ abbrev pub chosen_frames : Emitted → List FrameAt
 chosen_frames e = if is_wide e.code then merged e.frames e.wide_frames else e.frames
 
 -- the same, with classes by their names
-abbrev pub written_frames : Names → Emitted → List SeenAt
-written_frames names e = map (seen_at names) (chosen_frames e)
+abbrev pub written_frames : Names → Emitted → List TypeStateAt
+written_frames names e = map (type_state_at names) (chosen_frames e)
 
 -- ---- places
 
@@ -49,7 +49,7 @@ kind_vars_name = codes "LocalVariableTypeTable"
 -- ---- the attribute
 
 -- The attributes of the code, in this order, each left out where it has no entries; their names stand at these places.
-abbrev pub attributes_by : (lines vars kind_vars frames_name : ℕ) → Places → Emitted → List SeenAt → List Attribute
+abbrev pub attributes_by : (lines vars kind_vars frames_name : ℕ) → Places → Emitted → List TypeStateAt → List Attribute
 attributes_by lines vars kind_vars frames_name p e frames =
     table_attributes lines (line_text p.start) e.lines
     ++ (table_attributes vars (var_text p.start) e.vars
@@ -57,7 +57,7 @@ attributes_by lines vars kind_vars frames_name p e frames =
     ++ frame_attributes frames_name p frames))
 
 -- the same, where the names of the first three stand at their first places
-abbrev pub code_attributes : PoolValue → (frames_name : ℕ) → Emitted → List SeenAt → List Attribute
+abbrev pub code_attributes : PoolValue → (frames_name : ℕ) → Emitted → List TypeStateAt → List Attribute
 code_attributes pool frames_name e frames =
     attributes_by (text_place pool lines_name) (text_place pool vars_name) (text_place pool kind_vars_name) frames_name
     (places_of pool e) e frames

@@ -1,7 +1,7 @@
 //! The attributes of a Code attribute.
 ghost use Rattle.std.specs.Prelude.{◌≡◌, ◌++◌, ℕ, OnOk, length, map, slice_index};
 ghost use Rattle.std.specs.List.{AllByRecursion, flat_map};
-ghost use Rattle.jc_methods.specs.Held.{Names as ClassNames, seen_at};
+ghost use Rattle.jc_methods.specs.VerificationTypes.{Names as ClassNames, type_state_at};
 ghost use Rattle.jc_pool.specs.Adding.{Extends};
 ghost use Rattle.jc_frames.specs.FullFrames.{Places};
 ghost use Rattle.jc_frames.specs.FullTable.{CanBeWritten, HasPlace, named_by_all};
@@ -31,9 +31,9 @@ fn put_frames(
     pool: &mut Pool,
 ) -> Result<(), Memory>
     requires written { CanBeWritten starts.now (length names.now) frames.now }
-    requires stand { AllByRecursion (HasPlace pool.old) (named_by_all (map (seen_at names.now) frames.now)) }
+    requires stand { AllByRecursion (HasPlace pool.old) (named_by_all (map (type_state_at names.now) frames.now)) }
     ensures text { OnOk result (into.new.items ≡ into.old.items ++ flat_map attribute_text
-        (frame_attributes name (places_by pool.old (slice_index starts.now)) (map (seen_at names.now) frames.now))) }
+        (frame_attributes name (places_by pool.old (slice_index starts.now)) (map (type_state_at names.now) frames.now))) }
     ensures kept { OnOk result (pool.new ≡ pool.old) }
     ensures extends { Extends pool.old pool.new }
 {
@@ -55,7 +55,7 @@ fn put_frames(
 /// How many attributes a Code attribute has.
 fn attribute_count(emitted: &Emitted, frames: &[FrameAt]) -> usize
     ensures { (lines vars kind_vars frames_name : ℕ) (p : Places) (names : ClassNames)
-        → result ≡ length (attributes_by lines vars kind_vars frames_name p emitted.now (map (seen_at names) frames.now)) }
+        → result ≡ length (attributes_by lines vars kind_vars frames_name p emitted.now (map (type_state_at names) frames.now)) }
 {
     let tables = part_count(emitted.lines.len()) + part_count(emitted.vars.len());
     let all_tables = tables + part_count(emitted.kind_vars.len());
@@ -81,10 +81,10 @@ pub fn put_attributes(
     pool: &mut Pool,
 ) -> Result<(), Memory>
     requires written { CanBeWritten starts.now (length names.now) frames.now }
-    requires stand { AllByRecursion (HasPlace pool.old) (named_by_all (map (seen_at names.now) frames.now)) }
+    requires stand { AllByRecursion (HasPlace pool.old) (named_by_all (map (type_state_at names.now) frames.now)) }
     ensures text { OnOk result (into.new.items ≡ into.old.items ++ counted_text attribute_text
         (attributes_by places.now.lines places.now.vars places.now.kind_vars places.now.frames
-        (places_by pool.old (slice_index starts.now)) emitted.now (map (seen_at names.now) frames.now))) }
+        (places_by pool.old (slice_index starts.now)) emitted.now (map (type_state_at names.now) frames.now))) }
     ensures kept { OnOk result (pool.new ≡ pool.old) }
     ensures extends { Extends pool.old pool.new }
 {

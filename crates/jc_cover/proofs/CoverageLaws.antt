@@ -6,7 +6,7 @@ use Rattle.std.proofs.lemmas.Option.{slice_get-map}
 use Rattle.jc_bytes.specs.PlainLists.{map_from}
 use Rattle.jc_methods.specs.declared.insn.Insn.{Insn}
 use Rattle.jc_methods.specs.declared.body.Body.{Body}
-use Rattle.jc_bytes.proofs.TestLaws.{stands_in}
+use Rattle.jc_bytes.proofs.BooleanLaws.{stands_in}
 use Rattle.jc_plan.specs.declared.branch.Branch.{Branch}
 use Rattle.jc_plan.specs.Edges.{branches_of, branches}
 use Rattle.jc_plan.specs.Probed.{first_id}

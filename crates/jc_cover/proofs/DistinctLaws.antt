@@ -7,7 +7,7 @@ use Rattle.std.proofs.lemmas.Bool.{eqb-true, eq-eqb, false_from_ne_true}
 use Rattle.std.proofs.lemmas.Map.Views.{Contains-from_any}
 use Rattle.jc_bytes.specs.FirstSeen.{first_seen, IsDistinct}
 use Rattle.jc_bytes.proofs.FirstSeenLaws.{any_first_seen, first_seen_all, first_seen_distinct, first_seen_listed}
-use Rattle.jc_bytes.proofs.TestLaws.{none_in, which_in, first_in, later_in}
+use Rattle.jc_bytes.proofs.BooleanLaws.{none_in, which_in, first_in, later_in}
 use Rattle.jc_plan.specs.Entries.{one_if}
 use Rattle.jc_plan.proofs.CountLaws.{count_cons}
 use Rattle.jc_cover.specs.Counters.{Lined, is_covered_line, line_count}

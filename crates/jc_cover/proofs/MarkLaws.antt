@@ -11,7 +11,7 @@ use Rattle.jc_plan.specs.declared.branch.Branch.{Branch}
 use Rattle.jc_plan.specs.Edges.{place_of, branches_of, branches}
 use Rattle.jc_plan.specs.Probed.{is_probed, id_of}
 use Rattle.jc_bytes.proofs.DecidingLaws.{Decides}
-use Rattle.jc_bytes.proofs.TestLaws.{any_decided}
+use Rattle.jc_bytes.proofs.BooleanLaws.{any_decided}
 use Rattle.jc_plan.proofs.ListedLaws.{lists_from}
 use Rattle.jc_plan.specs.Entries.{one_if}
 use Rattle.jc_plan.proofs.CountLaws.{count_cons}

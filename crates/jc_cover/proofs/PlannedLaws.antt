@@ -16,7 +16,7 @@ use Rattle.jc_plan.specs.declared.branch.Branch.{Branch}
 use Rattle.jc_plan.specs.declared.branch.Way.{Way}
 use Rattle.jc_plan.specs.declared.branch.Way.TheVariants.{Falls, Jumps, Switches, Exits}
 use Rattle.jc_plan.specs.Edges.{place_of, branches_of, branches}
-use Rattle.jc_plan.specs.Marks.{EntersWithin}
+use Rattle.jc_plan.specs.InsnFacts.{EntersWithin}
 use Rattle.jc_plan.specs.Plan.{plan_of}
 use Rattle.jc_plan.specs.Probed.{is_probed, id_of, id_if}
 use Rattle.jc_plan.proofs.FlowLaws.{IsAt, all_at, all_within}

@@ -85,7 +85,7 @@ weigh_arms v land ids (x ∷ xs) =
 pub few_arms : (i : ℕ) (insn : Insn) (flow : Flow) → length (arms_by i insn flow) ≤ 2 + arm_count insn
 few_arms i insn flows.Switches = few_of i insn
 few_arms i insn flows.GoesOn = omega arith
-few_arms i insn flows.Tests = omega arith
+few_arms i insn flows.Branches = omega arith
 few_arms i insn flows.Jumps = omega arith
 few_arms i insn flows.Returns = omega arith
 few_arms i insn flows.Throws = omega arith
@@ -105,7 +105,7 @@ module _ (b : Body) (first v : ℕ) where
   weigh_image : (i : ℕ) (flow : Flow)
       → weigh v (early_part (early_by (probe_of b first) i (old i) flow) i) + weigh v (image_part b first false i (old i) flow) ≤ 11 + 6 * arm_count (old i)
   weigh_image i flows.GoesOn = omega (arith, few_slots b.arg_slots (old i))
-  weigh_image i flows.Tests = omega (arith, weigh_tests i (old i) (late_probe b first i))
+  weigh_image i flows.Branches = omega (arith, weigh_tests i (old i) (late_probe b first i))
   weigh_image i flows.Jumps = omega (arith, weigh_early v (early_by (probe_of b first) i (old i) flows.Jumps) i, same_arms (land_of b first false) (old i))
   weigh_image i flows.Switches =
       omega (

@@ -7,7 +7,7 @@ use Rattle.std.proofs.lemmas.List.Elements.{Contains-append_left, Contains-appen
 use Rattle.jc_bytes.specs.PlainLists.{pieces}
 use Rattle.jc_methods.specs.Flow.{flow_of}
 use Rattle.jc_methods.specs.WellMade.{IsCode, AreFramesFrom}
-use Rattle.jc_methods.specs.Held.{held, seen, object}
+use Rattle.jc_methods.specs.VerificationTypes.{verification_type, type_state, object}
 use Rattle.jc_methods.specs.declared.insn.Flow.{Flow}
 use Rattle.jc_methods.specs.declared.kind.Kind.{Kind}
 use Rattle.jc_methods.specs.declared.kind.State.{State}
@@ -26,17 +26,17 @@ use Rattle.jc_emit.specs.TwinCode.{to_of, arm_place}
 use Rattle.jc_emit.specs.TwinFrames.{state_at, left_by, IsNarrowFrame, AreTwinFrames}
 use Rattle.jc_emit.specs.Items.{lead_of, land_of, image_of}
 use Rattle.jc_emit.specs.Emission.{frame, frame_if, moved_state, has_frame, has_inverse, arm_frame, arm_frames, frames_at}
-use Rattle.jc_emit.proofs.Others.{Arms, Agrees, agrees_first, agrees_rest, arms_by_list, none_some}
+use Rattle.jc_emit.proofs.OthersLaws.{Arms, Agrees, agrees_first, agrees_rest, arms_by_list, none_some}
 use Rattle.jc_emit.proofs.LocalLaws.{next_within}
 use Rattle.jc_emit.proofs.StraddlingLaws.{frame_within}
-use Rattle.jc_emit.proofs.FrameLists.{Rises, rises_from, rises_to, rises_both, rises_pieces, are_rising, in_piece, of_piece, if_listed, listed_if, rises_if}
+use Rattle.jc_emit.proofs.FrameListsLaws.{Rises, rises_from, rises_to, rises_both, rises_pieces, are_rising, in_piece, of_piece, if_listed, listed_if, rises_if}
 use Rattle.jc_methods.specs.declared.insn.Flow.TheVariants as flows
 use Rattle.jc_methods.specs.declared.kind.Kind.TheVariants as kinds
-use Rattle.jc_bytes.proofs.TestLaws.{none_in, which_in, first_in, later_in}
+use Rattle.jc_bytes.proofs.BooleanLaws.{none_in, which_in, first_in, later_in}
 
 -- ---- states
 
-held_moved : (names : List (List ℕ)) (image : ℕ → ℕ) (kind : Kind) → held names (image_kind image kind) ≡ renamed image (held names kind)
+held_moved : (names : List (List ℕ)) (image : ℕ → ℕ) (kind : Kind) → verification_type names (image_kind image kind) ≡ renamed image (verification_type names kind)
 held_moved names image kinds.Top = refl
 held_moved names image kinds.Int = refl
 held_moved names image kinds.Float = refl
@@ -48,17 +48,17 @@ held_moved names image (kinds.Object n) = refl
 held_moved names image (kinds.Uninit i) = refl
 
 pub all_moved : (names : List (List ℕ)) (image : ℕ → ℕ) (xs : List Kind)
-    → map (held names) (map (image_kind image) xs) ≡ map (renamed image) (map (held names) xs)
+    → map (verification_type names) (map (image_kind image) xs) ≡ map (renamed image) (map (verification_type names) xs)
 all_moved names image [] = refl
 all_moved names image (x ∷ xs) = λ k. held_moved names image x k ∷ all_moved names image xs k
 
 -- the state that is written is the shifted one, where the number is that of the class of the array of probes
 pub seen_moved : (names : List (List ℕ)) (v array : ℕ) (image : ℕ → ℕ) (s : State) → slice_index_or names array ([]) ≡ probe_array_class
-    → seen names (shifted_state v array image s) ≡ shifted image v (seen names s)
+    → type_state names (shifted_state v array image s) ≡ shifted image v (type_state names s)
 seen_moved names v array image s e =
     λ k. record {
       locals =
-          (map-insert (held names) (map (image_kind image) s.locals) v (kinds.Object array)
+          (map-insert (verification_type names) (map (image_kind image) s.locals) v (kinds.Object array)
           ∙ ap₂ (λ l c. insert l v (object c)) (all_moved names image s.locals) e) k;
       stack = all_moved names image s.stack k;
     }
@@ -158,9 +158,9 @@ module _ (b : Body) (first : ℕ) (states : List State) (array : ℕ) (names : L
   Asked q s = IsNarrowFrame b first states (image_of b first false) (land_of b first false) (lead_of b first false) q s
 
   abbrev IsGood : FrameAt → Type 0
-  IsGood f = (s : State) × Asked f.at s × (seen names f.state ≡ shifted (image_of b first false) b.arg_slots (seen names s))
+  IsGood f = (s : State) × Asked f.at s × (type_state names f.state ≡ shifted (image_of b first false) b.arg_slots (type_state names s))
 
-  pub seen_is : (s : State) → seen names (moved s) ≡ shifted (image_of b first false) b.arg_slots (seen names s)
+  pub seen_is : (s : State) → type_state names (moved s) ≡ shifted (image_of b first false) b.arg_slots (type_state names s)
   seen_is s = seen_moved names b.arg_slots array (image_of b first false) s named
 
   inverse_asked : (i : ℕ) → i < length b.code → has_inverse b first states array i ≡ true → Asked (lead i) (state_at states i)
@@ -228,10 +228,10 @@ module _ (b : Body) (first : ℕ) (states : List State) (array : ℕ) (names : L
 
   abbrev IsThere : ℕ → State → Type 0
   IsThere q s =
-      (f : FrameAt) × Contains (pieces part (length b.code)) f × (f.at ≡ q) × (seen names f.state ≡ shifted (image_of b first false) b.arg_slots (seen names s))
+      (f : FrameAt) × Contains (pieces part (length b.code)) f × (f.at ≡ q) × (type_state names f.state ≡ shifted (image_of b first false) b.arg_slots (type_state names s))
 
   there : (i : ℕ) (f : FrameAt) (s : State) → i < length b.code → Contains (part i) f → f.state ≡ moved s → IsThere f.at s
-  there i f s lt c e = (f, of_piece part (length b.code) i f lt c, refl, ap (seen names) e ∙ seen_is s)
+  there i f s lt c e = (f, of_piece part (length b.code) i f lt c, refl, ap (type_state names) e ∙ seen_is s)
 
   pub landing : (i : ℕ) → i < length b.code → lands_there i ≡ true → IsThere (land i) (state_at states i)
   landing i lt t =
@@ -250,12 +250,12 @@ module _ (b : Body) (first : ℕ) (states : List State) (array : ℕ) (names : L
           there i (frame (lead i) (moved (state_at states i))) (state_at states i) lt
           (Contains-append_left (lead_frames i) _ _ (listed_if (leads_there i) (frame (lead i) (moved (state_at states i))) (and_from (has_inverse b first states array i) (is_some (lead_probe b first i)) inverse (ap is_some some)))) refl
 
-  late_tests : (i id : ℕ) → late_probe b first i ≡ Some id → flow_of (insn_at b.code i) ≡ flows.Tests
+  late_tests : (i id : ℕ) → late_probe b first i ≡ Some id → flow_of (insn_at b.code i) ≡ flows.Branches
   late_tests i id e = by (flow_of (insn_at b.code i)) e
     where
-      by : (flow : Flow) → late_by (probe_of b first) i (insn_at b.code i) flow ≡ Some id → flow ≡ flows.Tests
+      by : (flow : Flow) → late_by (probe_of b first) i (insn_at b.code i) flow ≡ Some id → flow ≡ flows.Branches
       by flows.GoesOn h = absurd (none_some id h)
-      by flows.Tests h = refl
+      by flows.Branches h = refl
       by flows.Jumps h = absurd (none_some id h)
       by flows.Switches h = absurd (none_some id h)
       by flows.Returns h = absurd (none_some id h)

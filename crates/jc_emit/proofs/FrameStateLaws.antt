@@ -11,15 +11,15 @@ use Rattle.jc_methods.specs.declared.kind.Kind.TheVariants as kinds
 use Rattle.jc_methods.specs.declared.kind.State.{State}
 use Rattle.jc_methods.specs.declared.body.Body.{Body}
 use Rattle.jc_methods.specs.declared.body.FrameAt.{FrameAt}
-use Rattle.jc_methods.specs.Held.{Names, Seen, held, seen, IsNumbered, IsNumberedState, AreNumberedFrames}
+use Rattle.jc_methods.specs.VerificationTypes.{Names, TypeState, verification_type, type_state, IsNumbered, IsNumberedState, AreNumberedFrames}
 use Rattle.jc_methods.specs.WellMade.{IsWellMadeOfAnySize}
-use Rattle.jc_bytes.proofs.TestLaws.{none_in, which_in}
+use Rattle.jc_bytes.proofs.BooleanLaws.{none_in, which_in}
 use Rattle.jc_kinds.specs.Answers.{AreStates}
 use Rattle.jc_emit.specs.TwinFrames.{no_state, state_at}
 use Rattle.jc_emit.specs.Emission.{HasFrameStates}
 use Rattle.jc_emit.proofs.StraddlingLaws.{frame_within}
-use Rattle.jc_emit.proofs.TwinPremises.{frame_found, frames_rise}
-use Rattle.jc_emit.proofs.TwinStates.{frame_state_is}
+use Rattle.jc_emit.proofs.TwinPremisesLaws.{frame_found, frames_rise}
+use Rattle.jc_emit.proofs.TwinStatesLaws.{frame_state_is}
 
 -- ---- names that differ have different numbers
 
@@ -37,7 +37,7 @@ one_number (x ∷ names) (suc m) zero d lm ln e = absurd (unlike_at x names m d.
 one_number (x ∷ names) (suc m) (suc n) d lm ln e = ap suc (one_number names m n d.1 (omega arith) (omega arith) e)
 
 module _ (names : Names) (distinct : IsDistinct bytes_eq names) where
-  one_kind : (k l : Kind) → IsNumbered (length names) k → IsNumbered (length names) l → held names k ≡ held names l → k ≡ l
+  one_kind : (k l : Kind) → IsNumbered (length names) k → IsNumbered (length names) l → verification_type names k ≡ verification_type names l → k ≡ l
   one_kind (kinds.Object m) (kinds.Object n) a c e = ap kinds.Object (one_number names m n distinct a c (cc))
   one_kind kinds.Top kinds.Top a c e = refl
   one_kind kinds.Int kinds.Int a c e = refl
@@ -50,22 +50,22 @@ module _ (names : Names) (distinct : IsDistinct bytes_eq names) where
   one_kind k l a c e = cc
 
   same_kinds : (ks ls : List Kind) → AllByRecursion (IsNumbered (length names)) ks → AllByRecursion (IsNumbered (length names)) ls
-      → map (held names) ks ≡ map (held names) ls → ks ≡ ls
+      → map (verification_type names) ks ≡ map (verification_type names) ls → ks ≡ ls
   same_kinds [] [] a c e = refl
   same_kinds [] (l ∷ ls) a c e = cc
   same_kinds (k ∷ ks) [] a c e = cc
   same_kinds (k ∷ ks) (l ∷ ls) a c e =
-      let first : held names k ≡ held names l = cc in
-      let rest : map (held names) ks ≡ map (held names) ls = cc in
+      let first : verification_type names k ≡ verification_type names l = cc in
+      let rest : map (verification_type names) ks ≡ map (verification_type names) ls = cc in
       let one = one_kind k l a.0 c.0 first in
       let more = same_kinds ks ls a.1 c.1 rest in
       cc
 
   -- so numbered states are equal by the names of classes only where they are equal
-  same_state : (s t : State) → IsNumberedState (length names) s → IsNumberedState (length names) t → seen names s ≡ seen names t → s ≡ t
+  same_state : (s t : State) → IsNumberedState (length names) s → IsNumberedState (length names) t → type_state names s ≡ type_state names t → s ≡ t
   same_state s t a c e =
-      let locals = same_kinds s.locals t.locals a.locals c.locals (ap (λ (x : Seen). x.locals) e) in
-      let stack = same_kinds s.stack t.stack a.stack c.stack (ap (λ (x : Seen). x.stack) e) in
+      let locals = same_kinds s.locals t.locals a.locals c.locals (ap (λ (x : TypeState). x.locals) e) in
+      let stack = same_kinds s.stack t.stack a.stack c.stack (ap (λ (x : TypeState). x.stack) e) in
       λ k. record { locals = locals k; stack = stack k }
 
   numbered_there : (frames : List FrameAt) (f : FrameAt) → AreNumberedFrames (length names) frames → Contains frames f → IsNumberedState (length names) f.state
@@ -80,7 +80,7 @@ module _ (names : Names) (distinct : IsDistinct bytes_eq names) where
       let within = frame_within 0 b.code b.max_locals b.max_stack b.frames made.frames f c in
       let lt : f.at < length states = omega (arith, within, are.count) in
       let at = are.each f.at (state_at states f.at) (slice_get-get_or states f.at no_state lt) in
-      let there = frame_state_is names b f.at (seen names f.state) (frame_found names 0 b.frames f (frames_rise 0 b.code b.max_locals b.max_stack b.frames made.frames) c) in
-      let both : Some (seen names (state_at states f.at)) ≡ Some (seen names f.state) = sym at.is ∙ there in
-      let e : seen names (state_at states f.at) ≡ seen names f.state = cc in
+      let there = frame_state_is names b f.at (type_state names f.state) (frame_found names 0 b.frames f (frames_rise 0 b.code b.max_locals b.max_stack b.frames made.frames) c) in
+      let both : Some (type_state names (state_at states f.at)) ≡ Some (type_state names f.state) = sym at.is ∙ there in
+      let e : type_state names (state_at states f.at) ≡ type_state names f.state = cc in
       same_state (state_at states f.at) f.state at.numbered (numbered_there b.frames f numbered c) e

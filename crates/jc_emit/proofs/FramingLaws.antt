@@ -23,11 +23,11 @@ use Rattle.jc_emit.specs.Items.{segment_size, lead_of, land_of, image_of}
 use Rattle.jc_emit.specs.Emission.{frame, frame_if, moved_state, has_frame, has_inverse, arm_frame, arm_frames, frames_at, is_further, wide_frames_at}
 use Rattle.jc_emit.specs.Placing.{IsTable}
 use Rattle.jc_emit.specs.Framing.{without, id_frames, IsFraming}
-use Rattle.jc_emit.proofs.Built.{length_twin}
+use Rattle.jc_emit.proofs.BuiltLaws.{length_twin}
 use Rattle.jc_emit.proofs.LocalLaws.{next_within}
 use Rattle.jc_emit.proofs.RowLaws.{total_grows}
 use Rattle.jc_emit.proofs.FewLaws.{few_items, few_arms}
-use Rattle.jc_emit.proofs.PlanReads.{length_outs, length_leads, lead_here, outs_here, outs_test, outs_switch}
+use Rattle.jc_emit.proofs.PlanReadsLaws.{length_outs, length_leads, lead_here, outs_here, outs_test, outs_switch}
 use Rattle.jc_emit.proofs.TableLaws.{without_none}
 
 -- ---- lists
@@ -87,7 +87,7 @@ module _ (first : ℕ) (f : Framing) (is : IsFraming first f) where
 
   -- the two branches of a conditional jump
   pub test_read : (code : List Insn) (outs : List (List (Option ℕ))) (i : ℕ) (insn : Insn) (o s : List (Option ℕ)) → code ≡ b.code → insn ≡ get_or code i insn
-      → outs ≡ f.plan.now.out → o ≡ get_or outs i o → i < length b.code → flow_of insn ≡ flows.Tests → s ≡ o → s ≡ None ∷ late_probe b first i ∷ []
+      → outs ≡ f.plan.now.out → o ≡ get_or outs i o → i < length b.code → flow_of insn ≡ flows.Branches → s ≡ o → s ≡ None ∷ late_probe b first i ∷ []
   test_read code outs i insn o s same read same_outs read_outs lt tests is_o =
       let insn_is = insn_read code i insn same read lt in
       is_o ∙ outs_read outs i o same_outs read_outs lt ∙ outs_test b first i (sym (ap flow_of insn_is) ∙ tests)
@@ -113,7 +113,7 @@ module _ (first : ℕ) (f : Framing) (is : IsFraming first f) where
   switch_small i x images s same read lt ids =
       omega (arith, image_small images i x same read lt, arms_small i lt, ap length ids, length-map (arms_at b.code i) (probe_of b first))
 
-  pub next_there : (i : ℕ) → i < length b.code → flow_of (insn_at b.code i) ≡ flows.Tests → i + 1 < length b.code
+  pub next_there : (i : ℕ) → i < length b.code → flow_of (insn_at b.code i) ≡ flows.Branches → i + 1 < length b.code
   next_there i lt tests = next_within b first false is.code i lt (inr tests)
 
   pub state_read : (i : ℕ) (s : State) → i < length b.code → get_or states i s ≡ state_at states i
@@ -133,7 +133,7 @@ module _ (first : ℕ) (f : Framing) (is : IsFraming first f) where
   -- ---- what is put
 
   -- behind a conditional jump without a probe
-  pub behind_none : (i here : ℕ) (s : State) (framed lead further : Bool) → i < length b.code → flow_of (insn_at b.code i) ≡ flows.Tests
+  pub behind_none : (i here : ℕ) (s : State) (framed lead further : Bool) → i < length b.code → flow_of (insn_at b.code i) ≡ flows.Branches
       → None ≡ late_probe b first i → here ≡ image_of b first false i
       → framed ≡ has_frame b first states f.array (i + 1) → lead ≡ is_some (lead_probe b first (i + 1)) → further ≡ not (framed && not lead)
       → frame_if further (frame (here + 1) (moved (without 0 (get_or states (i + 1) s)))) ≡ wide_frames_at b first states f.array i
@@ -147,7 +147,7 @@ module _ (first : ℕ) (f : Framing) (is : IsFraming first f) where
       ∙ ap (λ o. frame_if (is_further b first states f.array i o (flow_of (insn_at b.code i))) (frame (image_of b first false i + 1) (moved (state_behind b states i o)))) none
 
   -- behind one with a probe
-  pub behind_some : (i here id : ℕ) (s : State) (operands : ℕ) → i < length b.code → flow_of (insn_at b.code i) ≡ flows.Tests
+  pub behind_some : (i here id : ℕ) (s : State) (operands : ℕ) → i < length b.code → flow_of (insn_at b.code i) ≡ flows.Branches
       → Some id ≡ late_probe b first i → here ≡ image_of b first false i → operands ≡ operands_of (insn_at b.code i)
       → frame_if true (frame (here + 1) (moved (without operands (get_or states i s)))) ≡ wide_frames_at b first states f.array i
   behind_some i here id s operands lt tests probed place taken =
@@ -158,14 +158,14 @@ module _ (first : ℕ) (f : Framing) (is : IsFraming first f) where
       ∙ ap (λ o. frame_if (is_further b first states f.array i o (flow_of (insn_at b.code i))) (frame (image_of b first false i + 1) (moved (state_behind b states i o)))) probed
 
   -- nothing behind other instructions
-  pub behind_other : (i : ℕ) (flow : Flow) → flow_of (insn_at b.code i) ≡ flow → (flow ≡ flows.Tests → ⊥) → wide_frames_at b first states f.array i ≡ []
+  pub behind_other : (i : ℕ) (flow : Flow) → flow_of (insn_at b.code i) ≡ flow → (flow ≡ flows.Branches → ⊥) → wide_frames_at b first states f.array i ≡ []
   behind_other i flow e other =
       ap (λ fl. frame_if (is_further b first states f.array i (late_probe b first i) fl) (frame (image_of b first false i + 1) (moved (state_behind b states i (late_probe b first i))))) e
       ∙ by flow (late_probe b first i) other
     where
-      by : (fl : Flow) (o : Option ℕ) → (fl ≡ flows.Tests → ⊥)
+      by : (fl : Flow) (o : Option ℕ) → (fl ≡ flows.Branches → ⊥)
           → frame_if (is_further b first states f.array i o fl) (frame (image_of b first false i + 1) (moved (state_behind b states i (late_probe b first i)))) ≡ []
-      by flows.Tests o differs = absurd (differs refl)
+      by flows.Branches o differs = absurd (differs refl)
       by flows.GoesOn None differs = refl
       by flows.GoesOn (Some id) differs = refl
       by flows.Jumps None differs = refl

@@ -6,7 +6,7 @@ use Rattle.jc_methods.specs.Flow.{flow_of, targets_of, FallsThrough}
 use Rattle.jc_methods.specs.DescriptorTypes.{method_type_in, types_from, rest_from}
 use Rattle.jc_methods.specs.declared.insn.Insn.{Insn}
 use Rattle.jc_methods.specs.declared.body.Body.{Body}
-use Rattle.jc_methods.specs.Held.{Names, Held, int, long, object, Seen, seen, seen_at}
+use Rattle.jc_methods.specs.VerificationTypes.{Names, VerificationType, int, long, object, TypeState, type_state, type_state_at}
 use Rattle.jc_methods.specs.EntryState.{entry_of, entry_seen}
 use Rattle.jc_after.specs.Step.{Step, apply}
 use Rattle.jc_after.specs.Table.{table, forms_at}
@@ -15,11 +15,12 @@ use Rattle.jc_after.proofs.ApplyLaws.{after_is}
 use Rattle.jc_kinds.specs.States.{frames_of, frame_at, state_of, after_at}
 use Rattle.jc_kinds.specs.Fits.{FitState, FitsThere}
 use Rattle.jc_kinds.specs.Checked.{Checked, LeadsTo, FallsInto, HasFrame, IsHandlerTarget, NeedsFrame, IsMissing}
-use Rattle.jc_bytes.proofs.TestLaws.{which_in, none_in, first_in}
+use Rattle.jc_bytes.proofs.BooleanLaws.{which_in, none_in, first_in}
 use Rattle.jc_emit.specs.Marks.{push}
 use Rattle.jc_emit.proofs.PlacedLaws.{no_targets}
-use Rattle.jc_emit.proofs.TwinStates.{push_is, state_fits_same, first_state, frame_state_is, next_state, after_there, fit_there}
-use Rattle.jc_emit.specs.Added.{data_name, data_type, init_type, runtime_class, fetch_name, fetch_type, init_code, init_frame, IsInitBody}
+use Rattle.jc_emit.proofs.TwinStatesLaws.{push_is, state_fits_same, first_state, frame_state_is, next_state, after_there, fit_there}
+use Rattle.jc_methods.specs.ProbeMembers.{data_name, data_type, init_type, runtime_class, fetch_name, fetch_type}
+use Rattle.jc_emit.specs.Added.{init_code, init_frame, IsInitBody}
 use Rattle.jc_methods.specs.declared.insn.Insn.TheVariants as insns
 use Rattle.jc_methods.specs.declared.insn.Flow.TheVariants as flows
 use Rattle.jc_methods.specs.declared.body.What.TheVariants as whats
@@ -29,9 +30,9 @@ use Rattle.jc_methods.specs.declared.body.What.TheVariants as whats
 pub record Sound (names : Names) (b : Body) (q : ℕ) : Type 0 where
   pub insn : Insn
   pub stands : insn_at b q ≡ Some insn
-  pub before : Seen
+  pub before : TypeState
   pub state_is : state_of names b q ≡ Some before
-  pub after : Seen
+  pub after : TypeState
   pub after_is : after_of b q before ≡ Some after
   pub next : FallsThrough insn → FitsThere (Some after) (state_of names b (q + 1))
   pub stops : (FallsThrough insn → ⊥) → q + 1 < length b.code → HasFrame b (q + 1)
@@ -84,13 +85,13 @@ module _ (names : Names) (b : Body) (sound : (q : ℕ) → q < length b.code →
 -- ---- the method
 
 module _ (names : Names) (class : List ℕ) (id : ℤ) (count : ℕ) (b : Body) (i : IsInitBody names class id count b) where
-  array : Held
+  array : VerificationType
   array = object data_type
 
-  abbrev on : List Held → Seen
+  abbrev on : List VerificationType → TypeState
   on stack = record { locals = []; stack = stack }
 
-  abbrev N : ℕ → Option Seen
+  abbrev N : ℕ → Option TypeState
   N q = state_of names b q
 
   abbrev code : List Insn
@@ -103,8 +104,8 @@ module _ (names : Names) (class : List ℕ) (id : ℤ) (count : ℕ) (b : Body) 
   framed : (q : ℕ) → frame_at (frames_of names b) q ≡ (if nat_eq 10 q then Some init_frame else None)
   framed q =
       let f = i.frames in
-      ap (λ l. frame_at (map (seen_at names) l) q) f.single
-      ∙ ap (λ k. if nat_eq k q then Some (seen names f.frame.state) else None) f.at
+      ap (λ l. frame_at (map (type_state_at names) l) q) f.single
+      ∙ ap (λ k. if nat_eq k q then Some (type_state names f.frame.state) else None) f.at
       ∙ ap (λ s. if nat_eq 10 q then Some s else None) f.state
 
   has_end : HasFrame b 10
@@ -113,7 +114,7 @@ module _ (names : Names) (class : List ℕ) (id : ℤ) (count : ℕ) (b : Body) 
   returns : returns_of b ≡ (method_type_in init_type).returns
   returns = ap (λ d. (method_type_in d).returns) i.desc
 
-  step : (q : ℕ) (insn : Insn) (st : Step) (s t : Seen) → slice_get code q ≡ Some insn → step_of b.uses (returns_of b) insn ≡ st
+  step : (q : ℕ) (insn : Insn) (st : Step) (s t : TypeState) → slice_get code q ≡ Some insn → step_of b.uses (returns_of b) insn ≡ st
       → apply (record { most = 4; place = q; owner = b.owner; class_at = λ k. new_class b.uses (insn_at b k) }) st s ≡ Some t
       → after_of b q s ≡ Some t
   step q insn st s t here is goes =
@@ -122,11 +123,11 @@ module _ (names : Names) (class : List ℕ) (id : ℤ) (count : ℕ) (b : Body) 
       ∙ ap (λ m. apply (record { most = m; place = q; owner = b.owner; class_at = λ k. new_class b.uses (insn_at b k) }) st s) i.max_stack
       ∙ goes
 
-  next : (q : ℕ) (insn : Insn) (s t : Seen) → slice_get code q ≡ Some insn → FallsThrough insn
+  next : (q : ℕ) (insn : Insn) (s t : TypeState) → slice_get code q ≡ Some insn → FallsThrough insn
       → (if nat_eq 10 (suc q) then Some init_frame else None) ≡ None → N q ≡ Some s → after_of b q s ≡ Some t → N (suc q) ≡ Some t
   next q insn s t here falls none before after = next_state names b q insn s t (framed (suc q) ∙ none) (at q insn here) falls before after
 
-  abbrev A : List Held
+  abbrev A : List VerificationType
   A = object data_type ∷ []
 
   entry_is : entry_of b ≡ on []
@@ -152,7 +153,7 @@ module _ (names : Names) (class : List ℕ) (id : ℤ) (count : ℕ) (b : Body) 
   a4 : after_of b 4 (on []) ≡ Some (on (long ∷ []))
   a4 = step 4 _ (constant_step (Some (whats.Long id))) (on []) (on (long ∷ [])) refl (ap constant_step i.id_is) refl
 
-  abbrev string : Held
+  abbrev string : VerificationType
   string = object (codes "java/lang/String")
 
   a5 : after_of b 5 (on (long ∷ [])) ≡ Some (on (long ∷ string ∷ []))
@@ -214,7 +215,7 @@ module _ (names : Names) (class : List ℕ) (id : ℤ) (count : ℕ) (b : Body) 
   s10 = frame_state_is names b 10 init_frame (framed 10)
 
   -- one that goes on and jumps nowhere
-  going : (q : ℕ) (insn : Insn) (s t : Seen) → slice_get code q ≡ Some insn → flow_of insn ≡ flows.GoesOn → targets_of insn ≡ []
+  going : (q : ℕ) (insn : Insn) (s t : TypeState) → slice_get code q ≡ Some insn → flow_of insn ≡ flows.GoesOn → targets_of insn ≡ []
       → N q ≡ Some s → after_of b q s ≡ Some t → N (q + 1) ≡ Some t → Sound names b q
   going q insn s t here flow none before after behind = record {
     insn = insn;

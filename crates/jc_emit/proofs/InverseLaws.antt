@@ -7,7 +7,7 @@ use Rattle.jc_methods.specs.Flow.{flow_of, inverse_of}
 use Rattle.jc_methods.specs.declared.form.Form.TheVariants as forms
 use Rattle.jc_methods.specs.declared.insn.Insn.TheVariants as insns
 use Rattle.jc_methods.specs.declared.insn.Flow.TheVariants as flows
-use Rattle.jc_emit.proofs.TestForms.{is_jump, not_goto_by, unknown_no_jump}
+use Rattle.jc_emit.proofs.ConditionalBranchLaws.{is_jump, not_goto_by, unknown_no_jump}
 
 -- where it is one, the inverse of the inverse is the opcode
 abbrev is_back : ℕ → Bool
@@ -17,7 +17,7 @@ back_below : (op : ℕ) → op < 202 → is_back op ≡ true
 unfolding form_of inverse_of
 back_below op below = agree_below_at is_back (λ op. true) 202 op refl below
 
-pub twice_inverse : (op to : ℕ) → form_of op ≡ forms.Jump → flow_of (insns.Jump op to) ≡ flows.Tests → inverse_of (inverse_of op) ≡ op
+pub twice_inverse : (op to : ℕ) → form_of op ≡ forms.Jump → flow_of (insns.Jump op to) ≡ flows.Branches → inverse_of (inverse_of op) ≡ op
 twice_inverse op to form test =
     ⊎_elim
     (λ below.
@@ -34,13 +34,13 @@ unfolding form_of inverse_of
 too_below op below = agree_below_at is_test_too (λ op. true) 202 op refl below
 
 -- the inverse of a conditional jump is one
-pub inverse_tests_too : (op to t : ℕ) → form_of op ≡ forms.Jump → flow_of (insns.Jump op to) ≡ flows.Tests
-    → flow_of (insns.Jump (inverse_of op) t) ≡ flows.Tests
+pub inverse_tests_too : (op to t : ℕ) → form_of op ≡ forms.Jump → flow_of (insns.Jump op to) ≡ flows.Branches
+    → flow_of (insns.Jump (inverse_of op) t) ≡ flows.Branches
 inverse_tests_too op to t form test =
     ⊎_elim
     (λ below.
     let yes = and_from (is_jump (form_of op)) (not (nat_eq op 167)) (ap is_jump form) (not_from_false (nat_eq op 167) (not_goto_by (nat_eq op 167) test)) in
     let apart = sym (cond-true (is_jump (form_of op) && not (nat_eq op 167)) (not (nat_eq (inverse_of op) 167)) true yes) ∙ too_below op below in
-    cond-false (nat_eq (inverse_of op) 167) flows.Jumps flows.Tests (not-true (nat_eq (inverse_of op) 167) apart))
+    cond-false (nat_eq (inverse_of op) 167) flows.Jumps flows.Branches (not-true (nat_eq (inverse_of op) 167) apart))
     (λ above. absurd (unknown_no_jump (sym (unknown_beyond op above) ∙ form)))
     (cases_lt op 202)

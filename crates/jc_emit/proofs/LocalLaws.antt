@@ -25,14 +25,14 @@ use Rattle.jc_emit.specs.TwinCode.{to_of, here_or, arm_place}
 use Rattle.jc_emit.specs.Items.{Item, image, probe_array, hop, probe, lead_part, early_part, hop_part, arm_parts, test_part, segment_size, lead_of, land_of, image_of, tests_part, image_part, segment, twin_items}
 use Rattle.jc_emit.specs.Local.{Stands, Lands, Ok, OkImage, AllOk, TestsAlike, TestsInversely, SwitchesAlike, JumpsAlike}
 use Rattle.jc_emit.proofs.PiecesLaws.{HasAt, has_front, has_back, Each, each_append, each_at, each_piece}
-use Rattle.jc_emit.proofs.Built.{length-lead, length-early, length-hop, sized, size_is, size_tests, prelude_at}
-use Rattle.jc_emit.proofs.Told.{lead_at, early_at, main_at}
-use Rattle.jc_emit.proofs.Others.{Arms, Agrees, agrees_here, agrees_rest, are_arms, arm_listed, tests_target, jumps_target, none_some}
+use Rattle.jc_emit.proofs.BuiltLaws.{length-lead, length-early, length-hop, sized, size_is, size_tests, prelude_at}
+use Rattle.jc_emit.proofs.ToldLaws.{lead_at, early_at, main_at}
+use Rattle.jc_emit.proofs.OthersLaws.{Arms, Agrees, agrees_here, agrees_rest, are_arms, arm_listed, tests_target, jumps_target, none_some}
 use Rattle.jc_emit.proofs.InverseLaws.{twice_inverse}
 use Rattle.jc_methods.specs.declared.insn.Insn.TheVariants as insns
 use Rattle.jc_methods.specs.declared.insn.Flow.TheVariants as flows
 use Rattle.jc_methods.proofs.PlacedInsnLaws.{simple_is_no_test}
-use Rattle.jc_bytes.proofs.TestLaws.{none_in, which_in, first_in, later_in}
+use Rattle.jc_bytes.proofs.BooleanLaws.{none_in, which_in, first_in, later_in}
 
 -- ---- conditional jumps
 
@@ -41,7 +41,7 @@ pub record IsJumpOf (insn : Insn) : Type 0 where
   pub to : ℕ
   pub is : insn ≡ insns.Jump op to
 
-pub test_is : (insn : Insn) → flow_of insn ≡ flows.Tests → IsJumpOf insn
+pub test_is : (insn : Insn) → flow_of insn ≡ flows.Branches → IsJumpOf insn
 test_is (insns.Jump op to) e = record { op = op; to = to; is = refl }
 test_is (insns.Simple op) e = absurd (simple_is_no_test op e)
 test_is (insns.Table low default arms) e = cc
@@ -59,7 +59,7 @@ test_is (insns.NewArray elem) e = cc
 test_is (insns.Multi place dims) e = cc
 
 pub one_place : (insn : Insn) (f : ℕ → ℕ) → (targets_of insn ≡ jump_target insn ∷ [])
-    → flow_of insn ≡ flows.Jumps ⊎ flow_of insn ≡ flows.Tests → with_places f insn ≡ with_places (λ to. f (jump_target insn)) insn
+    → flow_of insn ≡ flows.Jumps ⊎ flow_of insn ≡ flows.Branches → with_places f insn ≡ with_places (λ to. f (jump_target insn)) insn
 one_place (insns.Jump op to) f t e = refl
 one_place (insns.Table low default arms) f t e = ⊎_elim (λ h. cc) (λ h. cc) e
 one_place (insns.Lookup default arms) f t e = ⊎_elim (λ h. cc) (λ h. cc) e
@@ -76,16 +76,16 @@ one_place (insns.OfClass op place) f t e = refl
 one_place (insns.NewArray elem) f t e = refl
 one_place (insns.Multi place dims) f t e = refl
 
-pub placed_target : (insn : Insn) (f : ℕ → ℕ) → flow_of insn ≡ flows.Tests → jump_target (with_places f insn) ≡ f (jump_target insn)
+pub placed_target : (insn : Insn) (f : ℕ → ℕ) → flow_of insn ≡ flows.Branches → jump_target (with_places f insn) ≡ f (jump_target insn)
 placed_target insn f e = let j = test_is insn e in subst (λ x. jump_target (with_places f x) ≡ f (jump_target x)) (sym j.is) refl
 
-inverted_placed : (insn : Insn) (t : ℕ) (f : ℕ → ℕ) → flow_of insn ≡ flows.Tests → inverted t (with_places f insn) ≡ inverted t insn
+inverted_placed : (insn : Insn) (t : ℕ) (f : ℕ → ℕ) → flow_of insn ≡ flows.Branches → inverted t (with_places f insn) ≡ inverted t insn
 inverted_placed insn t f e = let j = test_is insn e in subst (λ x. inverted t (with_places f x) ≡ inverted t x) (sym j.is) refl
 
-pub inverted_target : (insn : Insn) (t : ℕ) → flow_of insn ≡ flows.Tests → jump_target (inverted t insn) ≡ t
+pub inverted_target : (insn : Insn) (t : ℕ) → flow_of insn ≡ flows.Branches → jump_target (inverted t insn) ≡ t
 inverted_target insn t e = let j = test_is insn e in subst (λ x. jump_target (inverted t x) ≡ t) (sym j.is) refl
 
-inverted_twice : (insn : Insn) (t l : ℕ) → flow_of insn ≡ flows.Tests → IsWellFormed insn
+inverted_twice : (insn : Insn) (t l : ℕ) → flow_of insn ≡ flows.Branches → IsWellFormed insn
     → inverted t (inverted l insn) ≡ with_places (λ to. t) insn
 inverted_twice insn t l e formed =
     let j = test_is insn e in
@@ -176,7 +176,7 @@ module _ (b : Body) (first : ℕ) (wide : Bool) (is_code : IsCode b.code) where
 
   main_lands : (i : ℕ) (flow : Flow) → early_probe b first i ≡ None → HasAt items (q_of i) (main i flow) → In (q_of i) i None
   main_lands i flows.GoesOn none h = image_lands (q_of i) i _ None refl h.0
-  main_lands i flows.Tests none h = tests_land i (old i) (late_probe b first i) h
+  main_lands i flows.Branches none h = tests_land i (old i) (late_probe b first i) h
   main_lands i flows.Jumps none h = image_lands (q_of i) i _ (early_probe b first i) none h.0
   main_lands i flows.Switches none h = image_lands (q_of i) i _ None refl h.0
   main_lands i flows.Returns none h = image_lands (q_of i) i _ (early_probe b first i) none h.0
@@ -245,7 +245,7 @@ module _ (b : Body) (first : ℕ) (wide : Bool) (is_code : IsCode b.code) where
   pub early_image : (i id : ℕ) (flow : Flow) → early_by (probe_of b first) i (old i) flow ≡ Some id → early_probe b first i ≡ Some id
       → HasAt items (q_of i) (main i flow) → (insn : Insn) × (slice_get items (q_of i) ≡ Some (image insn i (Some id)))
   early_image i id flows.GoesOn e some h = absurd (none_some id e)
-  early_image i id flows.Tests e some h = absurd (none_some id e)
+  early_image i id flows.Branches e some h = absurd (none_some id e)
   early_image i id flows.Jumps e some h = (_, h.0 ∙ ap (λ o. Some (image (with_places (land_of b first wide) (old i)) i o)) some)
   early_image i id flows.Switches e some h = absurd (none_some id e)
   early_image i id flows.Returns e some h = (_, h.0 ∙ ap (λ o. Some (image (old i) i o)) some)
@@ -314,15 +314,15 @@ module _ (b : Body) (first : ℕ) (wide : Bool) (is_code : IsCode b.code) where
   image_fine q i new early flow lt e h ok =
       (lt, h ∙ sym (ap (early_by (probe_of b first) i (old i)) e), subst (OkImage b.code (Some b.arg_slots) (probe_of b first) items q i (old i) new) (sym e) ok)
 
-  late_is : (i : ℕ) (o : Option ℕ) → flow_of (old i) ≡ flows.Tests → late_probe b first i ≡ o → ids (jump i (jump_target (old i))) ≡ o
+  late_is : (i : ℕ) (o : Option ℕ) → flow_of (old i) ≡ flows.Branches → late_probe b first i ≡ o → ids (jump i (jump_target (old i))) ≡ o
   late_is i o e h = sym (ap (late_by (probe_of b first) i (old i)) e) ∙ h
 
-  behind_tests : (i : ℕ) (o : Option ℕ) → flow_of (old i) ≡ flows.Tests → late_probe b first i ≡ o
-      → behind_size b first wide i ≡ wide_by flows.Tests wide + hop_size o + 0
-  behind_tests i o e h = size_tests b first wide i e ∙ ap (λ p. wide_by flows.Tests wide + hop_size p + 0) h
+  behind_tests : (i : ℕ) (o : Option ℕ) → flow_of (old i) ≡ flows.Branches → late_probe b first i ≡ o
+      → behind_size b first wide i ≡ wide_by flows.Branches wide + hop_size o + 0
+  behind_tests i o e h = size_tests b first wide i e ∙ ap (λ p. wide_by flows.Branches wide + hop_size p + 0) h
 
-  plain_fine : (w : Bool) (i : ℕ) → i < length b.code → (e : flow_of (old i) ≡ flows.Tests) → late_probe b first i ≡ None
-      → behind_size b first wide i ≡ wide_by flows.Tests w + 0 + 0
+  plain_fine : (w : Bool) (i : ℕ) → i < length b.code → (e : flow_of (old i) ≡ flows.Branches) → late_probe b first i ≡ None
+      → behind_size b first wide i ≡ wide_by flows.Branches w + 0 + 0
       → HasAt items (q_of i) (test_part w (q_of i) (with_places land (old i)) i (jump_target (old i)) None)
       → Each Fine (q_of i) (test_part w (q_of i) (with_places land (old i)) i (jump_target (old i)) None)
   plain_fine false i lt e none size h =
@@ -330,7 +330,7 @@ module _ (b : Body) (first : ℕ) (wide : Bool) (is_code : IsCode b.code) where
       let within = target_within i lt (tests_target (old i) e) in
       let next = next_lands i (q_of i + 1) lt (inr e) (omega (arith, size)) in
       let alike : Alike i (with_places land (old i)) = record { target = land to; same = one_place (old i) land (tests_target (old i) e) (inr e); jumped = subst (In (land to) to) (sym (late_is i None e none)) (land_lands to within); fell = next.stands } in
-      (image_fine (q_of i) i _ None flows.Tests lt e refl (inl alike), tt)
+      (image_fine (q_of i) i _ None flows.Branches lt e refl (inl alike), tt)
   plain_fine true i lt e none size h =
       let to = jump_target (old i) in
       let within = target_within i lt (tests_target (old i) e) in
@@ -341,11 +341,11 @@ module _ (b : Body) (first : ℕ) (wide : Bool) (is_code : IsCode b.code) where
         jumped = next;
         fell = subst (On (q_of i + 1) to) (sym (late_is i None e none)) (hop_on (q_of i + 1) _ to None h.1.0);
       } in (
-        image_fine (q_of i) i _ None flows.Tests lt e refl (inr inversely),
+        image_fine (q_of i) i _ None flows.Branches lt e refl (inr inversely),
         (subst (λ q. In q to None) (sym (placed_target (old i) land e)) (land_lands to within), tt),
       )
 
-  probed_fine : (w : Bool) (i id : ℕ) → i < length b.code → (e : flow_of (old i) ≡ flows.Tests) → late_probe b first i ≡ Some id
+  probed_fine : (w : Bool) (i id : ℕ) → i < length b.code → (e : flow_of (old i) ≡ flows.Branches) → late_probe b first i ≡ Some id
       → HasAt items (q_of i) (test_part w (q_of i) (inverted (lead (i + 1)) (old i)) i (i + 1) (lead_probe b first (i + 1)) ++ hop_part land (Some id) (jump_target (old i)))
       → Each Fine (q_of i) (test_part w (q_of i) (inverted (lead (i + 1)) (old i)) i (i + 1) (lead_probe b first (i + 1)) ++ hop_part land (Some id) (jump_target (old i)))
   probed_fine false i id lt e some h =
@@ -357,7 +357,7 @@ module _ (b : Body) (first : ℕ) (wide : Bool) (is_code : IsCode b.code) where
         jumped = lead_lands (i + 1) (next_within i lt (inr e));
         fell = subst (On (q_of i + 1) to) (sym (late_is i (Some id) e some)) (late_lands (q_of i + 1) id to h.1.0).stands;
       } in
-      (image_fine (q_of i) i _ None flows.Tests lt e refl (inr inversely), hop_fine (q_of i + 1) id to h.1 within)
+      (image_fine (q_of i) i _ None flows.Branches lt e refl (inr inversely), hop_fine (q_of i + 1) id to h.1 within)
   probed_fine true i id lt e some h =
       let to = jump_target (old i) in
       let within = target_within i lt (tests_target (old i) e) in
@@ -368,14 +368,14 @@ module _ (b : Body) (first : ℕ) (wide : Bool) (is_code : IsCode b.code) where
         jumped = subst (In (q_of i + 2) to) (sym (late_is i (Some id) e some)) (subst (λ q. In q to (Some id)) two (late_lands (q_of i + 1 + 1) id to h.1.1.0));
         fell = hop_on (q_of i + 1) _ (i + 1) (lead_probe b first (i + 1)) h.1.0;
       } in (
-        image_fine (q_of i) i _ None flows.Tests lt e refl (inl alike),
+        image_fine (q_of i) i _ None flows.Branches lt e refl (inl alike),
         (
           subst (λ q. In q (i + 1) (lead_probe b first (i + 1))) (sym (inverted_target (old i) (lead (i + 1)) e)) (lead_lands (i + 1) (next_within i lt (inr e))),
           hop_fine (q_of i + 1 + 1) id to h.1.1 within,
         ),
       )
 
-  tests_fine : (i : ℕ) → i < length b.code → flow_of (old i) ≡ flows.Tests → (o : Option ℕ) → late_probe b first i ≡ o
+  tests_fine : (i : ℕ) → i < length b.code → flow_of (old i) ≡ flows.Branches → (o : Option ℕ) → late_probe b first i ≡ o
       → HasAt items (q_of i) (tests_part b first wide i (old i) o) → Each Fine (q_of i) (tests_part b first wide i (old i) o)
   tests_fine i lt e None none h = plain_fine wide i lt e none (behind_tests i None e none) h
   tests_fine i lt e (Some id) some h = probed_fine wide i id lt e some h
@@ -384,7 +384,7 @@ module _ (b : Body) (first : ℕ) (wide : Bool) (is_code : IsCode b.code) where
       → Each Fine (q_of i) (main i flow)
   main_fine i flows.GoesOn lt e h =
       (image_fine (q_of i) i _ None flows.GoesOn lt e refl (refl, next_lands i (q_of i + 1) lt (inl e) (omega (arith, size_is b first wide i flows.GoesOn e))), tt)
-  main_fine i flows.Tests lt e h = tests_fine i lt e (late_probe b first i) refl h
+  main_fine i flows.Branches lt e h = tests_fine i lt e (late_probe b first i) refl h
   main_fine i flows.Jumps lt e h =
       let to = jump_target (old i) in
       let alike : Jumps i (with_places land (old i)) = record { target = land to; same = one_place (old i) land (jumps_target (old i) e) (inl e); jumped = land_lands to (target_within i lt (jumps_target (old i) e)) } in

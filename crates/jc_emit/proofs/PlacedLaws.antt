@@ -10,11 +10,11 @@ use Rattle.jc_methods.specs.declared.insn.Insn.TheVariants as insns
 use Rattle.jc_methods.specs.declared.insn.Arm.{Arm}
 use Rattle.jc_methods.specs.declared.insn.Flow.{Flow}
 use Rattle.jc_methods.specs.declared.insn.Flow.TheVariants as flows
-use Rattle.jc_bytes.proofs.TestLaws.{which_in, none_in}
+use Rattle.jc_bytes.proofs.BooleanLaws.{which_in, none_in}
 use Rattle.jc_methods.proofs.PlacedInsnLaws.{flow_placed}
 use Rattle.jc_after.specs.Shift.{with_slot}
 use Rattle.jc_emit.specs.Marks.{push}
-use Rattle.jc_emit.proofs.Others.{tests_target}
+use Rattle.jc_emit.proofs.OthersLaws.{tests_target}
 use Rattle.jc_emit.proofs.LocalLaws.{test_is}
 
 -- ---- flow and places
@@ -53,7 +53,7 @@ flow_shifted v (insns.Jump op to) = refl
 flow_shifted v (insns.Table low default arms) = refl
 flow_shifted v (insns.Lookup default arms) = refl
 
-pub not_on_by : (t : Bool) → cond t flows.Jumps flows.Tests ≡ flows.GoesOn → ⊥
+pub not_on_by : (t : Bool) → cond t flows.Jumps flows.Branches ≡ flows.GoesOn → ⊥
 not_on_by true e = cc
 not_on_by false e = cc
 
@@ -91,11 +91,11 @@ places_out f (insns.NewArray elem) e = refl
 places_out f (insns.Multi place dims) e = refl
 places_out f (insns.Jump op to) e = ⊎_elim (λ h. absurd (not_returns (nat_eq op 167) h)) (λ h. absurd (not_throws (nat_eq op 167) h)) e
   where
-    not_returns : (t : Bool) → cond t flows.Jumps flows.Tests ≡ flows.Returns → ⊥
+    not_returns : (t : Bool) → cond t flows.Jumps flows.Branches ≡ flows.Returns → ⊥
     not_returns true e = cc
     not_returns false e = cc
 
-    not_throws : (t : Bool) → cond t flows.Jumps flows.Tests ≡ flows.Throws → ⊥
+    not_throws : (t : Bool) → cond t flows.Jumps flows.Branches ≡ flows.Throws → ⊥
     not_throws true e = cc
     not_throws false e = cc
 places_out f (insns.Table low default arms) e = ⊎_elim (λ h. cc) (λ h. cc) e
@@ -155,7 +155,7 @@ pub no_targets : (insn : Insn) → (flow_of insn ≡ flows.GoesOn) ⊎ ((flow_of
 no_targets (insns.Jump op to) e = absurd (by (nat_eq op 167) e)
   where
     by : (t : Bool)
-        → ((if t then flows.Jumps else flows.Tests) ≡ flows.GoesOn) ⊎ (((if t then flows.Jumps else flows.Tests) ≡ flows.Returns) ⊎ ((if t then flows.Jumps else flows.Tests) ≡ flows.Throws))
+        → ((if t then flows.Jumps else flows.Branches) ≡ flows.GoesOn) ⊎ (((if t then flows.Jumps else flows.Branches) ≡ flows.Returns) ⊎ ((if t then flows.Jumps else flows.Branches) ≡ flows.Throws))
         → ⊥
     by true e = ⊎_elim (λ x. cc) (λ x. ⊎_elim (λ y. cc) (λ y. cc) x) e
     by false e = ⊎_elim (λ x. cc) (λ x. ⊎_elim (λ y. cc) (λ y. cc) x) e
@@ -184,7 +184,7 @@ goto_stops insn f e h =
     differ : flows.Jumps ≡ flows.GoesOn → ⊥
     differ x = cc
 
-    other : flows.Jumps ≡ flows.Tests → ⊥
+    other : flows.Jumps ≡ flows.Branches → ⊥
     other x = cc
 
 pub switch_stops : (insn : Insn) (f : ℕ → ℕ) → flow_of insn ≡ flows.Switches → FallsThrough (with_places f insn) → ⊥
@@ -194,7 +194,7 @@ switch_stops insn f e h =
     differ : flows.Switches ≡ flows.GoesOn → ⊥
     differ x = cc
 
-    other : flows.Switches ≡ flows.Tests → ⊥
+    other : flows.Switches ≡ flows.Branches → ⊥
     other x = cc
 
 -- goto doesn't fall through
@@ -206,13 +206,13 @@ pub only : (to r : ℕ) (P : ℕ → Type 0) → P to → Contains (to ∷ []) r
 only to r P h c = ⊎_elim (λ same. subst P same h) (λ more. absurd (none_in r more)) (which_in to [] r c)
 
 -- where a conditional jump leads when its target is replaced, or when it is inverted
-pub inverse_targets : (insn : Insn) (x : ℕ) → flow_of insn ≡ flows.Tests → targets_of (inverted x insn) ≡ x ∷ []
+pub inverse_targets : (insn : Insn) (x : ℕ) → flow_of insn ≡ flows.Branches → targets_of (inverted x insn) ≡ x ∷ []
 inverse_targets insn x e = let j = test_is insn e in subst (λ o. targets_of (inverted x o) ≡ x ∷ []) (sym j.is) refl
 
-pub placed_targets : (insn : Insn) (f : ℕ → ℕ) → flow_of insn ≡ flows.Tests → targets_of (with_places f insn) ≡ f (jump_target insn) ∷ []
+pub placed_targets : (insn : Insn) (f : ℕ → ℕ) → flow_of insn ≡ flows.Branches → targets_of (with_places f insn) ≡ f (jump_target insn) ∷ []
 placed_targets insn f e = targets_placed f insn ∙ ap (map f) (tests_target insn e)
 
 -- what neither goes on nor tests doesn't fall through
-pub never : (insn : Insn) (flow : Flow) → flow_of insn ≡ flow → (flow ≡ flows.GoesOn → ⊥) → (flow ≡ flows.Tests → ⊥)
+pub never : (insn : Insn) (flow : Flow) → flow_of insn ≡ flow → (flow ≡ flows.GoesOn → ⊥) → (flow ≡ flows.Branches → ⊥)
     → FallsThrough insn → ⊥
 never insn flow e f g h = ⊎_elim (λ x. f (sym e ∙ x)) (λ x. g (sym e ∙ x)) h

@@ -26,10 +26,10 @@ use Rattle.jc_emit.specs.Items.{segment_size, lead_of, land_of, image_of}
 use Rattle.jc_emit.specs.Branching.{early_in, late_in, behind_in, AreSmall}
 use Rattle.jc_emit.specs.Placing.{IsTable, ArePlaces}
 use Rattle.jc_emit.specs.declared.places.Places.{Places}
-use Rattle.jc_emit.proofs.Built.{size_is, size_tests, size_switches}
-use Rattle.jc_emit.proofs.Ends.{lead_none, early_none}
-use Rattle.jc_emit.proofs.Others.{jumps_target}
-use Rattle.jc_emit.proofs.PlanReads.{outs_test, outs_switch}
+use Rattle.jc_emit.proofs.BuiltLaws.{size_is, size_tests, size_switches}
+use Rattle.jc_emit.proofs.EndsLaws.{lead_none, early_none}
+use Rattle.jc_emit.proofs.OthersLaws.{jumps_target}
+use Rattle.jc_emit.proofs.PlanReadsLaws.{outs_test, outs_switch}
 
 -- ---- the probes of an instruction
 
@@ -49,7 +49,7 @@ module _ (b : Body) (first i : ℕ) where
     where
       by : (flow : Flow) → flow_of old ≡ flow → early_in flow outs ≡ early_by (probe_of b first) i old flow
       by flows.GoesOn e = refl
-      by flows.Tests e = refl
+      by flows.Branches e = refl
       by flows.Jumps e =
           ap (λ f. slice_index_or (map (out_probe b first) (branches_by f i (targets_of old))) 0 None) e
           ∙ ap (λ ts. slice_index_or (map (out_probe b first) (map (jump i) ts)) 0 None) (jumps_target old e)
@@ -62,7 +62,7 @@ module _ (b : Body) (first i : ℕ) where
     where
       by : (flow : Flow) → flow_of old ≡ flow → late_in flow outs ≡ late_probe b first i
       by flows.GoesOn e = sym (ap (late_by (probe_of b first) i old) e)
-      by flows.Tests e = ap (λ ids. slice_index_or ids 1 None) (outs_test b first i e)
+      by flows.Branches e = ap (λ ids. slice_index_or ids 1 None) (outs_test b first i e)
       by flows.Jumps e = sym (ap (late_by (probe_of b first) i old) e)
       by flows.Switches e = sym (ap (late_by (probe_of b first) i old) e)
       by flows.Returns e = sym (ap (late_by (probe_of b first) i old) e)
@@ -73,7 +73,7 @@ module _ (b : Body) (first i : ℕ) where
     where
       by : (flow : Flow) → flow_of old ≡ flow → behind_in flow outs ≡ behind_size b first false i
       by flows.GoesOn e = sym (size_is b first false i flows.GoesOn e)
-      by flows.Tests e =
+      by flows.Branches e =
           let late = late_probe b first i in
           ap (sum_by hop_size) (outs_test b first i e)
           ∙ omega (arith, sum_by-cons hop_size None (late ∷ []), sum_by-cons hop_size late ([]), size_tests b first false i e)
@@ -102,7 +102,7 @@ module _ (b : Body) (first : ℕ) where
   few_by : (i : ℕ) (insn : Insn) (flow : Flow) → probe_size (early_by (probe_of b first) i insn flow)
       + (wide_by flow false + hop_size (late_by (probe_of b first) i insn flow) + arm_sizes (probe_of b first) (arms_by i insn flow)) ≤ 10 + 5 * arm_count insn
   few_by i insn flows.GoesOn = omega arith
-  few_by i insn flows.Tests = omega (arith, few_hop (late_by (probe_of b first) i insn flows.Tests))
+  few_by i insn flows.Branches = omega (arith, few_hop (late_by (probe_of b first) i insn flows.Branches))
   few_by i insn flows.Jumps = omega (arith, few_probe (early_by (probe_of b first) i insn flows.Jumps))
   few_by i insn flows.Switches = omega (arith, few_arms (probe_of b first) (branches_of i insn), few_of i insn)
   few_by i insn flows.Returns = omega (arith, few_probe (early_by (probe_of b first) i insn flows.Returns))

@@ -11,7 +11,7 @@ use Rattle.jc_methods.specs.declared.insn.Flow.{Flow}
 use Rattle.jc_methods.specs.declared.insn.Flow.TheVariants as flows
 use Rattle.jc_methods.specs.declared.body.Body.{Body}
 use Rattle.jc_bytes.proofs.FirstSeenLaws.{contains_one}
-use Rattle.jc_bytes.proofs.TestLaws.{none_in, which_in}
+use Rattle.jc_bytes.proofs.BooleanLaws.{none_in, which_in}
 use Rattle.jc_plan.specs.declared.branch.Branch.{Branch}
 use Rattle.jc_plan.specs.declared.branch.Way.TheVariants as ways
 use Rattle.jc_plan.specs.Edges.{sequence, jump, exit, branches_by}
@@ -22,7 +22,7 @@ use Rattle.jc_plan.proofs.ListedLaws.{all_listed}
 use Rattle.jc_emit.specs.Sizes.{insn_at, late_by, late_probe, arms_by, arms_at, hop_size}
 use Rattle.jc_emit.specs.Marks.{Marks, IsProbe, aload, invokestatic, push, image_place, land_place, lead_place}
 use Rattle.jc_emit.specs.TwinCode.{to_of, Sentences, IsTwinCode, ProbedEdge, InProbe, IsWideGoto, IsAdded, HasGotoBehind, HasTest, HasHop, HasArm, HasArms, IsProbeOf, IsProbeIn, arm, probe_place, probe_place_by}
-use Rattle.jc_emit.proofs.Others.{Arms, Agrees, agrees_first, agrees_rest, arms_by_list, at_found, tests_target, jumps_target}
+use Rattle.jc_emit.proofs.OthersLaws.{Arms, Agrees, agrees_first, agrees_rest, arms_by_list, at_found, tests_target, jumps_target}
 
 -- ---- ids
 
@@ -92,14 +92,14 @@ module _ (b : Body) (first : ℕ) (wide : Bool) (code : List Insn) (m : Marks) (
       → IsGoto (probe_place_by b first wide code m image land lead x.way flow i + 4)
   edge_goto i flows.GoesOn x id lt e c some behind =
       absurd (subst (λ z. HasGotoBehind b first wide code m image land lead z.way flows.GoesOn) (sym (contains_one (sequence i) x c)) behind)
-  edge_goto i flows.Tests x id lt e c some behind =
+  edge_goto i flows.Branches x id lt e c some behind =
       ⊎_elim
-      (λ same. absurd (subst (λ z. HasGotoBehind b first wide code m image land lead z.way flows.Tests) (sym same) behind))
+      (λ same. absurd (subst (λ z. HasGotoBehind b first wide code m image land lead z.way flows.Branches) (sym same) behind))
       (λ later.
       let one = subst (λ ts. Contains (map (jump i) ts) x) (tests_target (old i) e) later in
       let same = contains_one (jump i (jump_target (old i))) x one in
       let late : late_probe b first i ≡ Some id = ap (late_by (probe_of b first) i (old i)) e ∙ ap (probe_of b first) same ∙ some in
-      subst (λ z. IsGoto (probe_place_by b first wide code m image land lead z.way flows.Tests i + 4)) same
+      subst (λ z. IsGoto (probe_place_by b first wide code m image land lead z.way flows.Branches i + 4)) same
       (hop_goto _ (jump_target (old i)) (s.jumps.hops i id (lt, e) late)))
       (which_in (sequence i) (map (jump i) (targets_of (old i))) x c)
   edge_goto i flows.Jumps x id lt e c some behind =

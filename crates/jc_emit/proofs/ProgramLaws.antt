@@ -6,39 +6,39 @@ use Rattle.jc_methods.specs.declared.body.Body.{Body}
 use Rattle.jc_methods.specs.declared.body.FrameAt.{FrameAt}
 use Rattle.jc_programs.specs.declared.program.Linked.{Linked}
 use Rattle.jc_programs.specs.declared.program.Program.{Program}
-use Rattle.jc_methods.specs.Held.{Names, SeenAt, seen_at}
+use Rattle.jc_methods.specs.VerificationTypes.{Names, TypeStateAt, type_state_at}
 use Rattle.jc_methods.specs.EntryState.{entry_of}
 use Rattle.jc_methods.specs.WellMade.{IsWellMade}
 use Rattle.jc_after.specs.After.{insn_at, after_of}
 use Rattle.jc_kinds.specs.States.{frame_at, falls_at, or_else, state_of, after_at}
 use Rattle.jc_kinds.specs.Fits.{FitsThere}
 use Rattle.jc_kinds.specs.Checked.{JumpsTo, GoesOnFrom, LeadsTo, NeedsFrame, at_handler, Checked}
-use Rattle.jc_bytes.proofs.TestLaws.{which_in, none_in, first_in, later_in, in_map, of_map}
+use Rattle.jc_bytes.proofs.BooleanLaws.{which_in, none_in, first_in, later_in, in_map, of_map}
 use Rattle.jc_plan.specs.Probed.{probe_count}
 use Rattle.jc_emit.specs.Straddling.{NoneStraddles}
 use Rattle.jc_emit.specs.TwinProgram.{AreSameBodies, AreTwinBodies, IsPair, ArePairs, TwinProgram}
 use Rattle.jc_emit.proofs.InitLaws.{verified as init_verified}
-use Rattle.jc_emit.proofs.TwinChecked.{verified}
+use Rattle.jc_emit.proofs.TwinCheckedLaws.{verified}
 
 -- ---- a body with the same frames under other names
 
-module _ (names new_names : Names) (b : Body) (frames : List FrameAt) (same : map (seen_at new_names) frames ≡ map (seen_at names) b.frames) where
+module _ (names new_names : Names) (b : Body) (frames : List FrameAt) (same : map (type_state_at new_names) frames ≡ map (type_state_at names) b.frames) where
   abbrev new : Body
   new = record b { frames = frames }
 
   moved_frame : (old_names other_names : Names) (olds others : List FrameAt)
-      → map (seen_at other_names) others ≡ map (seen_at old_names) olds → (i : ℕ) → ((f : FrameAt) × Contains olds f × (f.at ≡ i))
+      → map (type_state_at other_names) others ≡ map (type_state_at old_names) olds → (i : ℕ) → ((f : FrameAt) × Contains olds f × (f.at ≡ i))
       → (f : FrameAt) × Contains others f × (f.at ≡ i)
   moved_frame old_names other_names olds others e i h =
-      let m = of_map (seen_at other_names) others (seen_at old_names h.0) (subst (λ l. Contains l (seen_at old_names h.0)) (sym e) (in_map (seen_at old_names) olds h.0 h.1)) in
-      (m.0, m.1, sym (ap (λ (f : SeenAt). f.at) m.2) ∙ h.2)
+      let m = of_map (type_state_at other_names) others (type_state_at old_names h.0) (subst (λ l. Contains l (type_state_at old_names h.0)) (sym e) (in_map (type_state_at old_names) olds h.0 h.1)) in
+      (m.0, m.1, sym (ap (λ (f : TypeStateAt). f.at) m.2) ∙ h.2)
 
   state_same : (i : ℕ) → state_of new_names new i ≡ state_of names b i
   unfolding state_of after_of
   state_same zero = ap (λ l. or_else (frame_at l 0) (Some (entry_of b))) same
   state_same (suc i) =
       ap (λ l. or_else (frame_at l (suc i)) (if falls_at (insn_at b i) then option_and_then (after_of b i) (state_of new_names new i) else None)) same
-      ∙ ap (λ s. or_else (frame_at (map (seen_at names) b.frames) (suc i)) (if falls_at (insn_at b i) then option_and_then (after_of b i) s else None)) (state_same i)
+      ∙ ap (λ s. or_else (frame_at (map (type_state_at names) b.frames) (suc i)) (if falls_at (insn_at b i) then option_and_then (after_of b i) s else None)) (state_same i)
 
   after_same : (i : ℕ) → after_at new_names new i ≡ after_at names b i
   unfolding after_of

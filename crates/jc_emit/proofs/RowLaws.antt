@@ -20,7 +20,7 @@ use Rattle.jc_emit.specs.TwinTables.{moved_row}
 use Rattle.jc_emit.specs.Items.{Item, image, lead_part, early_part, hop_part, arm_parts, test_part, segment_size, lead_of, land_of, image_of, tests_part, image_part, segment, twin_items}
 use Rattle.jc_emit.specs.Local.{OkRow, Holds}
 use Rattle.jc_emit.proofs.PiecesLaws.{Each, each_append, each_at, each_piece}
-use Rattle.jc_emit.proofs.Built.{length-lead, length-early, sized}
+use Rattle.jc_emit.proofs.BuiltLaws.{length-lead, length-early, sized}
 use Rattle.jc_emit.proofs.LocalLaws.{land_lands}
 use Rattle.jc_methods.specs.declared.insn.Flow.TheVariants as flows
 
@@ -69,7 +69,7 @@ module _ (b : Body) (first : ℕ) (wide : Bool) where
 
   main_places : (i : ℕ) (flow : Flow) → Each At (image_of b first wide i) (image_part b first wide i (insn_at b.code i) flow)
   main_places i flows.GoesOn = (refl, tt)
-  main_places i flows.Tests = tests_at i (insn_at b.code i) (late_probe b first i)
+  main_places i flows.Branches = tests_at i (insn_at b.code i) (late_probe b first i)
   main_places i flows.Jumps = (refl, tt)
   main_places i flows.Switches = (refl, arms_no (image_of b first wide i + 1) (arms_at b.code i))
   main_places i flows.Returns = (refl, tt)

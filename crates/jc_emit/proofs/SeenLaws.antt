@@ -11,7 +11,7 @@ use Rattle.jc_emit.specs.TwinTables.{moved_row}
 use Rattle.jc_emit.specs.Local.{OkRow}
 use Rattle.jc_emit.specs.Twin.{Twin}
 use Rattle.jc_emit.specs.Seen.{IsSeen, OkRows}
-use Rattle.jc_emit.proofs.Known.{code_known, marks_known, leads_known, lands_known}
+use Rattle.jc_emit.proofs.KnownLaws.{code_known, marks_known, leads_known, lands_known}
 use Rattle.jc_emit.proofs.LocalLaws.{twin_ok}
 use Rattle.jc_emit.proofs.RowLaws.{row_ok}
 

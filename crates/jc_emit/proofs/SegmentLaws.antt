@@ -33,8 +33,8 @@ use Rattle.jc_emit.specs.Branching.{IsPushed, IsTableOf, early_in, test_image, a
 use Rattle.jc_emit.specs.Placing.{IsTable}
 use Rattle.jc_emit.specs.Writing.{Grows}
 use Rattle.jc_emit.specs.declared.written.Written.{Written}
-use Rattle.jc_emit.proofs.Others.{tests_target}
-use Rattle.jc_emit.proofs.PlanReads.{outs_switch}
+use Rattle.jc_emit.proofs.OthersLaws.{tests_target}
+use Rattle.jc_emit.proofs.PlanReadsLaws.{outs_switch}
 use Rattle.jc_emit.proofs.SwitchLaws.{arms_agree, length_ids, arm_pieces, each_contains, places_agree}
 use Rattle.jc_emit.proofs.WritingLaws.{grows_append}
 
@@ -131,7 +131,7 @@ test_image_is land lands next next' insn None is within e = led_agrees land land
 test_image_is land lands next next' insn (Some id) is within e = ap (λ n. inverted n insn) e
 
 -- the target of a conditional jump is one of the places to which it leads
-pub test_within : (count : ℕ) (insn : Insn) → flow_of insn ≡ flows.Tests → LeadsWithin count insn → jump_target insn < count
+pub test_within : (count : ℕ) (insn : Insn) → flow_of insn ≡ flows.Branches → LeadsWithin count insn → jump_target insn < count
 test_within count insn e within = (subst (AllByRecursion (λ to. to < count)) (tests_target insn e) within).0
 
 pub grows_test : (v : ℕ) (b : Body) (first i : ℕ) (insn new : Insn) (o : Option ℕ) (old mid end : Written)
@@ -194,7 +194,7 @@ main_by v b first at old new flow e grows = subst (λ f. Grows v old new (image_
 
 pub early_pushed : (flow : Flow) (ids : List (Option ℕ)) → ((k : ℕ) → IsPushed (get_or ids k None)) → IsPushed (early_in flow ids)
 early_pushed flows.GoesOn ids each = tt
-early_pushed flows.Tests ids each = tt
+early_pushed flows.Branches ids each = tt
 early_pushed flows.Jumps ids each = each 0
 early_pushed flows.Switches ids each = tt
 early_pushed flows.Returns ids each = each 0

@@ -21,7 +21,7 @@ use Rattle.jc_emit.specs.Sizes.{insn_at, early_by}
 use Rattle.jc_emit.specs.TwinCode.{to_of}
 use Rattle.jc_emit.specs.Items.{Item, image}
 use Rattle.jc_emit.specs.Local.{Lands, Ok, OkImage, AllOk, TestsAlike, unchanged_items}
-use Rattle.jc_emit.proofs.Others.{tests_target, jumps_target, arm_listed}
+use Rattle.jc_emit.proofs.OthersLaws.{tests_target, jumps_target, arm_listed}
 use Rattle.jc_emit.proofs.LocalLaws.{one_place}
 use Rattle.jc_methods.specs.declared.insn.Insn.TheVariants as insns
 use Rattle.jc_methods.specs.declared.insn.Flow.TheVariants as flows
@@ -122,7 +122,7 @@ module _ (code : List Insn) (is_code : IsCode code) where
 
   image_by : (i : ℕ) (flow : Flow) → i < length code → flow_of (old i) ≡ flow → OkImage code None nothing items i i (old i) (old i) flow
   image_by i flows.GoesOn lt e = (refl, lands (i + 1) (next_within i lt (inl e)))
-  image_by i flows.Tests lt e =
+  image_by i flows.Branches lt e =
       let to = jump_target (old i) in
       let alike : TestsAlike code None nothing items i i (old i) (old i) = record {
         target = to;
@@ -146,7 +146,7 @@ module _ (code : List Insn) (is_code : IsCode code) where
 
   none_early : (i : ℕ) (insn : Insn) (flow : Flow) → None ≡ early_by nothing i insn flow
   none_early i insn flows.GoesOn = refl
-  none_early i insn flows.Tests = refl
+  none_early i insn flows.Branches = refl
   none_early i insn flows.Jumps = refl
   none_early i insn flows.Switches = refl
   none_early i insn flows.Returns = refl

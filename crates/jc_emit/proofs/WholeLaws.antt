@@ -5,9 +5,9 @@ use Rattle.jc_methods.specs.declared.body.Body.{Body}
 use Rattle.jc_emit.specs.Marks.{land_place, lead_place}
 use Rattle.jc_emit.specs.TwinCode.{Sentences, IsTwinCode}
 use Rattle.jc_emit.specs.Items.{marks_of_items, insn_of, twin_items, image_of, land_of, lead_of}
-use Rattle.jc_emit.proofs.Ends.{images_are, lands_are, leads_are}
-use Rattle.jc_emit.proofs.Told.{lengths_told, prelude_told, images_told, places_told, jumps_told, switches_told}
-use Rattle.jc_emit.proofs.Others.{nothing_else_told}
+use Rattle.jc_emit.proofs.EndsLaws.{images_are, lands_are, leads_are}
+use Rattle.jc_emit.proofs.ToldLaws.{lengths_told, prelude_told, images_told, places_told, jumps_told, switches_told}
+use Rattle.jc_emit.proofs.OthersLaws.{nothing_else_told}
 
 pub sentences : (b : Body) (first : ℕ) (wide : Bool) (call : ℕ) → IsCode b.code
     → Sentences b first wide (map (insn_of call b.arg_slots) (twin_items b first wide)) (marks_of_items (twin_items b first wide)) (image_of b first wide) (land_of b first wide) (lead_of b first wide) call

@@ -6,7 +6,7 @@ use Rattle.std.proofs.lemmas.List.Elements.{Contains-append_cases}
 use Rattle.jc_bytes.specs.PlainLists.{pieces}
 use Rattle.jc_methods.specs.Flow.{flow_of}
 use Rattle.jc_methods.specs.WellMade.{IsCode, AreFramesFrom, IsWellMadeOfAnySize}
-use Rattle.jc_methods.specs.Held.{seen}
+use Rattle.jc_methods.specs.VerificationTypes.{type_state}
 use Rattle.jc_methods.specs.declared.insn.Flow.{Flow}
 use Rattle.jc_methods.specs.declared.kind.State.{State}
 use Rattle.jc_methods.specs.declared.body.Body.{Body}
@@ -25,15 +25,15 @@ use Rattle.jc_emit.specs.TwinFrames.{state_at, left_by, state_behind, IsFrameBeh
 use Rattle.jc_emit.specs.Items.{own_of, segment_size, lead_of, land_of, image_of, twin_items}
 use Rattle.jc_emit.specs.Emission.{frame, frame_if, moved_state, has_frame, has_inverse, arm_frames, frames_at, is_further, wide_frames_at, emission}
 use Rattle.jc_emit.specs.Twin.{HasFrameAt, IsFurtherFrame, IsEmitted}
-use Rattle.jc_emit.proofs.Built.{size_tests}
-use Rattle.jc_emit.proofs.Ends.{images_are, lands_are, leads_are}
+use Rattle.jc_emit.proofs.BuiltLaws.{size_tests}
+use Rattle.jc_emit.proofs.EndsLaws.{images_are, lands_are, leads_are}
 use Rattle.jc_emit.proofs.LocalLaws.{next_within}
 use Rattle.jc_emit.proofs.RowLaws.{total_grows}
 use Rattle.jc_emit.proofs.WholeLaws.{code_told}
-use Rattle.jc_emit.proofs.FrameLists.{rises_from, rises_pieces, are_rising, rises_within, in_piece, of_piece, if_listed, listed_if, rises_if}
+use Rattle.jc_emit.proofs.FrameListsLaws.{rises_from, rises_pieces, are_rising, rises_within, in_piece, of_piece, if_listed, listed_if, rises_if}
 use Rattle.jc_emit.proofs.FrameLaws.{arms_rise, part_rises, landing, none_is, seen_is, frames_told}
 use Rattle.jc_methods.specs.declared.insn.Flow.TheVariants as flows
-use Rattle.jc_bytes.proofs.TestLaws.{none_in}
+use Rattle.jc_bytes.proofs.BooleanLaws.{none_in}
 
 module _ (b : Body) (first : ℕ) (states : List State) (array : ℕ) (names : List (List ℕ)) (is_code : IsCode b.code) (are_frames : AreFramesFrom 0 b.code b.max_locals b.max_stack b.frames)
     (fit : (f : FrameAt) → Contains b.frames f → state_at states f.at ≡ f.state) (named : slice_index_or names array ([]) ≡ probe_array_class) where
@@ -61,9 +61,9 @@ module _ (b : Body) (first : ℕ) (states : List State) (array : ℕ) (names : L
   abbrev pub wide_frame : ℕ → FrameAt
   wide_frame i = frame (q_of i + 1) (moved (state_behind b states i (late_probe b first i)))
 
-  further_tests : (i : ℕ) (o : Option ℕ) (flow : Flow) → is_further b first states array i o flow ≡ true → flow ≡ flows.Tests
-  further_tests i None flows.Tests h = refl
-  further_tests i (Some id) flows.Tests h = refl
+  further_tests : (i : ℕ) (o : Option ℕ) (flow : Flow) → is_further b first states array i o flow ≡ true → flow ≡ flows.Branches
+  further_tests i None flows.Branches h = refl
+  further_tests i (Some id) flows.Branches h = refl
   further_tests i None flows.GoesOn h = cc
   further_tests i None flows.Jumps h = cc
   further_tests i None flows.Switches h = cc
@@ -86,7 +86,7 @@ module _ (b : Body) (first : ℕ) (states : List State) (array : ℕ) (names : L
 
   -- ---- no frame of the narrow layout stands there
 
-  pub behind_is : (i : ℕ) → flow_of (insn_at b.code i) ≡ flows.Tests → behind_size b first false i ≡ hop_size (late_probe b first i)
+  pub behind_is : (i : ℕ) → flow_of (insn_at b.code i) ≡ flows.Branches → behind_size b first false i ≡ hop_size (late_probe b first i)
   behind_is i e = size_tests b first false i e ∙ omega arith
 
   abbrev lead_part_at : ℕ → List FrameAt
@@ -100,7 +100,7 @@ module _ (b : Body) (first : ℕ) (states : List State) (array : ℕ) (names : L
   abbrev arms_with : ℕ → List Branch → List FrameAt
   arms_with i xs = arm_frames b first states array (q_of i + 1) (moved (left_by (insn_at b.code i) (state_at states i))) xs
 
-  in_own : (i : ℕ) → flow_of (insn_at b.code i) ≡ flows.Tests → (f : FrameAt) → Contains (frames_at b first states array i) f
+  in_own : (i : ℕ) → flow_of (insn_at b.code i) ≡ flows.Branches → (f : FrameAt) → Contains (frames_at b first states array i) f
       → f.at ≡ q_of i + 1 → ⊥
   in_own i e f c at =
       ⊎_elim
@@ -153,8 +153,8 @@ module _ (b : Body) (first : ℕ) (states : List State) (array : ℕ) (names : L
       (λ above. ⊎_elim (λ over. let g = lead_grows (suc j) k (omega arith) in absurd (omega (arith, g, c, d))) (λ le. omega arith) (cases_lt j k))
       (cases_lt k j)
 
-  not_there : (i : ℕ) → flow_of (insn_at b.code i) ≡ flows.Tests → (o : Option ℕ) → late_probe b first i ≡ o
-      → is_further b first states array i o flows.Tests ≡ true → HasFrameAt (q_of i + 1) frames → ⊥
+  not_there : (i : ℕ) → flow_of (insn_at b.code i) ≡ flows.Branches → (o : Option ℕ) → late_probe b first i ≡ o
+      → is_further b first states array i o flows.Branches ≡ true → HasFrameAt (q_of i + 1) frames → ⊥
   not_there i e None none t h =
       let f = h.0 in
       let p = in_piece (frames_at b first states array) (length b.code) f h.1 in
@@ -182,7 +182,7 @@ module _ (b : Body) (first : ℕ) (states : List State) (array : ℕ) (names : L
   Behind q s = IsFrameBehind b first states (image_of b first false) (land_of b first false) (lead_of b first false) 1 q s
 
   abbrev IsSeenAs : FrameAt → State → Type 0
-  IsSeenAs f s = seen names f.state ≡ shifted (image_of b first false) b.arg_slots (seen names s)
+  IsSeenAs f s = type_state names f.state ≡ shifted (image_of b first false) b.arg_slots (type_state names s)
 
   pub each_behind : (f : FrameAt) → Contains (pieces wide (length b.code)) f
       → (s : State) × (Behind f.at s × (HasFrameAt f.at frames → ⊥)) × IsSeenAs f s
@@ -192,12 +192,12 @@ module _ (b : Body) (first : ℕ) (states : List State) (array : ℕ) (names : L
       let h = if_listed (further i) (wide_frame i) f p.listed in
       let e = further_tests i (late_probe b first i) (flow_of (insn_at b.code i)) h.0 in
       let s = state_behind b states i (late_probe b first i) in
-      let t : is_further b first states array i (late_probe b first i) flows.Tests ≡ true = ap (is_further b first states array i (late_probe b first i)) (sym e) ∙ h.0 in
+      let t : is_further b first states array i (late_probe b first i) flows.Branches ≡ true = ap (is_further b first states array i (late_probe b first i)) (sym e) ∙ h.0 in
       subst (λ g. (s : State) × (Behind g.at s × (HasFrameAt g.at frames → ⊥)) × IsSeenAs g s) h.1
       (s, (record { test = i; within = p.within; tests = e; place = refl; state_is = refl }, not_there i e (late_probe b first i) refl t), seen_is b first states array names is_code are_frames fit named s)
 
-  further_is : (i : ℕ) → i < length b.code → flow_of (insn_at b.code i) ≡ flows.Tests → (o : Option ℕ) → late_probe b first i ≡ o
-      → (HasFrameAt (q_of i + 1) frames → ⊥) → is_further b first states array i o flows.Tests ≡ true
+  further_is : (i : ℕ) → i < length b.code → flow_of (insn_at b.code i) ≡ flows.Branches → (o : Option ℕ) → late_probe b first i ≡ o
+      → (HasFrameAt (q_of i + 1) frames → ⊥) → is_further b first states array i o flows.Branches ≡ true
   further_is i lt e None none absent =
       not_from_false (has_frame b first states array (i + 1) && is_none (lead_probe b first (i + 1)))
       (false_from_ne_true (has_frame b first states array (i + 1) && is_none (lead_probe b first (i + 1)))
@@ -222,7 +222,7 @@ module _ (b : Body) (first : ℕ) (states : List State) (array : ℕ) (names : L
         of_piece wide (length b.code) i (wide_frame i) h.within (listed_if (further i) (wide_frame i) t'),
         sym h.place,
         seen_is b first states array names is_code are_frames fit named (state_behind b states i (late_probe b first i))
-            ∙ ap (λ z. shifted (image_of b first false) b.arg_slots (seen names z)) (sym h.state_is),
+            ∙ ap (λ z. shifted (image_of b first false) b.arg_slots (type_state names z)) (sym h.state_is),
       )
 
 -- ---- the whole

@@ -5,7 +5,7 @@ use Rattle.std.proofs.lemmas.Bool.{and_parts, or_left, cases_Bool, cases_lt, not
 use Rattle.jc_bytes.specs.PlainLists.{pieces}
 use Rattle.jc_methods.specs.Flow.{flow_of}
 use Rattle.jc_methods.specs.WellMade.{IsCode, AreFramesFrom, IsWellMadeOfAnySize}
-use Rattle.jc_methods.specs.Held.{Held, held, seen, object, uninit, top, int, float, double, long, null, uninit_this}
+use Rattle.jc_methods.specs.VerificationTypes.{VerificationType, verification_type, type_state, object, uninit, top, int, float, double, long, null, uninit_this}
 use Rattle.jc_methods.specs.declared.kind.State.{State}
 use Rattle.jc_methods.specs.declared.body.Body.{Body}
 use Rattle.jc_methods.specs.declared.body.FrameAt.{FrameAt}
@@ -22,19 +22,19 @@ use Rattle.jc_emit.specs.TwinCode.{to_of, arm_place}
 use Rattle.jc_emit.specs.TwinFrames.{state_at, state_behind, IsNarrowFrame, IsFrame, AreTwinFrames}
 use Rattle.jc_emit.specs.Items.{image_part, insn_of, lead_of, land_of, image_of, twin_items}
 use Rattle.jc_emit.specs.Emission.{has_frame, has_inverse, is_further, frames_at, wide_frames_at, emission, widened_state, widened_frame, AreWidened}
-use Rattle.jc_emit.proofs.Built.{sized}
-use Rattle.jc_emit.proofs.Ends.{image_past}
+use Rattle.jc_emit.proofs.BuiltLaws.{sized}
+use Rattle.jc_emit.proofs.EndsLaws.{image_past}
 use Rattle.jc_emit.proofs.LocalLaws.{next_within}
-use Rattle.jc_emit.proofs.FrameLists.{of_piece, listed_if}
+use Rattle.jc_emit.proofs.FrameListsLaws.{of_piece, listed_if}
 use Rattle.jc_emit.proofs.FrameLaws.{all_moved, landing, none_is, frames_told, seen_is}
 use Rattle.jc_emit.proofs.WideFrameLaws.{each_behind, behind_is, wide_frame}
 use Rattle.jc_emit.proofs.WidenedLaws.{W, lead_is, land_is, arm_places, inside, within_main, behind_end, place_zero, main_test}
 use Rattle.jc_methods.specs.declared.insn.Flow.TheVariants as flows
-use Rattle.jc_bytes.proofs.TestLaws.{none_in}
+use Rattle.jc_bytes.proofs.BooleanLaws.{none_in}
 
 -- ---- states
 
-image_twice : (g f : ℕ → ℕ) (h : Held) → renamed g (renamed f h) ≡ renamed (λ i. g (f i)) h
+image_twice : (g f : ℕ → ℕ) (h : VerificationType) → renamed g (renamed f h) ≡ renamed (λ i. g (f i)) h
 image_twice g f top = refl
 image_twice g f int = refl
 image_twice g f float = refl
@@ -45,28 +45,28 @@ image_twice g f uninit_this = refl
 image_twice g f (object name) = refl
 image_twice g f (uninit i) = refl
 
-images_twice : (g f : ℕ → ℕ) (xs : List Held) → map (renamed g) (map (renamed f) xs) ≡ map (renamed (λ i. g (f i))) xs
+images_twice : (g f : ℕ → ℕ) (xs : List VerificationType) → map (renamed g) (map (renamed f) xs) ≡ map (renamed (λ i. g (f i))) xs
 images_twice g f [] = refl
 images_twice g f (x ∷ xs) = λ k. image_twice g f x k ∷ images_twice g f xs k
 
 -- the state of a frame in the wide code
 seen_widened : (names : List (List ℕ)) (v : ℕ) (place image wide : ℕ → ℕ) (state s : State) → (λ i. place (image i)) ≡ wide
-    → seen names state ≡ shifted image v (seen names s)
-    → seen names (widened_state place state) ≡ shifted wide v (seen names s)
+    → type_state names state ≡ shifted image v (type_state names s)
+    → type_state names (widened_state place state) ≡ shifted wide v (type_state names s)
 seen_widened names v place image wide state s e h =
-    let locals : map (held names) state.locals ≡ insert (map (renamed image) (map (held names) s.locals)) v (object probe_array_class) = ap (λ x. x.locals) h in
-    let stack : map (held names) state.stack ≡ map (renamed image) (map (held names) s.stack) = ap (λ x. x.stack) h in
+    let locals : map (verification_type names) state.locals ≡ insert (map (renamed image) (map (verification_type names) s.locals)) v (object probe_array_class) = ap (λ x. x.locals) h in
+    let stack : map (verification_type names) state.stack ≡ map (renamed image) (map (verification_type names) s.stack) = ap (λ x. x.stack) h in
     λ k. record {
       locals =
           (all_moved names place state.locals
           ∙ ap (map (renamed place)) locals
-          ∙ map-insert (renamed place) (map (renamed image) (map (held names) s.locals)) v (object probe_array_class)
-          ∙ ap (λ l. insert l v (object probe_array_class)) (images_twice place image (map (held names) s.locals) ∙ ap (λ f. map (renamed f) (map (held names) s.locals)) e)) k;
+          ∙ map-insert (renamed place) (map (renamed image) (map (verification_type names) s.locals)) v (object probe_array_class)
+          ∙ ap (λ l. insert l v (object probe_array_class)) (images_twice place image (map (verification_type names) s.locals) ∙ ap (λ f. map (renamed f) (map (verification_type names) s.locals)) e)) k;
       stack =
           (all_moved names place state.stack
           ∙ ap (map (renamed place)) stack
-          ∙ images_twice place image (map (held names) s.stack)
-          ∙ ap (λ f. map (renamed f) (map (held names) s.stack)) e) k;
+          ∙ images_twice place image (map (verification_type names) s.stack)
+          ∙ ap (λ f. map (renamed f) (map (verification_type names) s.stack)) e) k;
     }
 
 module _ (b : Body) (first : ℕ) (states : List State) (array : ℕ) (names : List (List ℕ)) (is_code : IsCode b.code) (are_frames : AreFramesFrom 0 b.code b.max_locals b.max_stack b.frames)
@@ -105,7 +105,7 @@ module _ (b : Body) (first : ℕ) (states : List State) (array : ℕ) (names : L
   images_are = λ k i. image_is i k
 
   -- behind a conditional jump
-  behind_is_two : (i : ℕ) → i < n → flow_of (insn_at b.code i) ≡ flows.Tests
+  behind_is_two : (i : ℕ) → i < n → flow_of (insn_at b.code i) ≡ flows.Branches
       → P (image_of b first false i + 1) ≡ image_of b first true i + 2
   behind_is_two i lt e =
       let place : image_of b first false i + 1 ≡ lead_of b first false i + (probe_size (lead_probe b first i) + (probe_size (early_probe b first i) + 1)) = omega arith in
@@ -135,7 +135,7 @@ module _ (b : Body) (first : ℕ) (states : List State) (array : ℕ) (names : L
     where
       by : (flow : Flow) → Contains (arms_by i (insn_at b.code i) flow) x → flow ≡ flows.Switches
       by flows.GoesOn d = absurd (none_in x d)
-      by flows.Tests d = absurd (none_in x d)
+      by flows.Branches d = absurd (none_in x d)
       by flows.Jumps d = absurd (none_in x d)
       by flows.Switches d = refl
       by flows.Returns d = absurd (none_in x d)
@@ -180,9 +180,9 @@ module _ (b : Body) (first : ℕ) (states : List State) (array : ℕ) (names : L
   }
 
   abbrev Shifted : State → State → Type 0
-  Shifted state s = seen names (widened_state P state) ≡ shifted (image_of b first true) b.arg_slots (seen names s)
+  Shifted state s = type_state names (widened_state P state) ≡ shifted (image_of b first true) b.arg_slots (type_state names s)
 
-  shift : (state s : State) → seen names state ≡ shifted (image_of b first false) b.arg_slots (seen names s) → Shifted state s
+  shift : (state s : State) → type_state names state ≡ shifted (image_of b first false) b.arg_slots (type_state names s) → Shifted state s
   shift state s h = seen_widened names b.arg_slots P (image_of b first false) (image_of b first true) state s images_are h
 
   module _ (frames : List FrameAt) (each_from : (f : FrameAt) → Contains frames f → (g : FrameAt) × (Contains narrow g ⊎ Contains further g) × (f ≡ widened_frame P g))
@@ -191,7 +191,7 @@ module _ (b : Body) (first : ℕ) (states : List State) (array : ℕ) (names : L
     told = frames_told b first states array names is_code are_frames fit named
 
     abbrev IsGood : FrameAt → Type 0
-    IsGood f = (s : State) × Wide f.at s × (seen names f.state ≡ shifted (image_of b first true) b.arg_slots (seen names s))
+    IsGood f = (s : State) × Wide f.at s × (type_state names f.state ≡ shifted (image_of b first true) b.arg_slots (type_state names s))
 
     wide_each : (f : FrameAt) → Contains frames f → IsGood f
     wide_each f c =
@@ -208,13 +208,13 @@ module _ (b : Body) (first : ℕ) (states : List State) (array : ℕ) (names : L
 
     abbrev IsThere : ℕ → State → Type 0
     IsThere q s =
-        (f : FrameAt) × Contains frames f × (f.at ≡ q) × (seen names f.state ≡ shifted (image_of b first true) b.arg_slots (seen names s))
+        (f : FrameAt) × Contains frames f × (f.at ≡ q) × (type_state names f.state ≡ shifted (image_of b first true) b.arg_slots (type_state names s))
 
     carried : (q : ℕ) (s : State) (g : FrameAt) → Contains narrow g ⊎ Contains further g → P g.at ≡ q
-        → seen names g.state ≡ shifted (image_of b first false) b.arg_slots (seen names s) → IsThere q s
+        → type_state names g.state ≡ shifted (image_of b first false) b.arg_slots (type_state names s) → IsThere q s
     carried q s g c e h = (widened_frame P g, every_to g c, e, shift g.state s h)
 
-    behind_there : (i : ℕ) → i < n → flow_of (insn_at b.code i) ≡ flows.Tests → (o : Option ℕ) → late_probe b first i ≡ o
+    behind_there : (i : ℕ) → i < n → flow_of (insn_at b.code i) ≡ flows.Branches → (o : Option ℕ) → late_probe b first i ≡ o
         → IsThere (image_of b first true i + 2) (state_behind b states i o)
     behind_there i lt e o late =
         ⊎_elim
@@ -224,14 +224,14 @@ module _ (b : Body) (first : ℕ) (states : List State) (array : ℕ) (names : L
         carried (image_of b first true i + 2) (state_behind b states i o) g
         (inr (of_piece (wide_frames_at b first states array) n i g lt (listed_if (is_further b first states array i (late_probe b first i) (flow_of (insn_at b.code i))) g t)))
         (behind_is_two i lt e)
-        (seen_is b first states array names is_code are_frames fit named (state_behind b states i (late_probe b first i)) ∙ ap (λ p. shifted (image_of b first false) b.arg_slots (seen names (state_behind b states i p))) late))
+        (seen_is b first states array names is_code are_frames fit named (state_behind b states i (late_probe b first i)) ∙ ap (λ p. shifted (image_of b first false) b.arg_slots (type_state names (state_behind b states i p))) late))
         (λ plain. stands o late plain)
-        (cases_Bool (is_further b first states array i o flows.Tests))
+        (cases_Bool (is_further b first states array i o flows.Branches))
       where
         true_false : true ≡ false → ⊥
         true_false h = cc
 
-        stands : (o : Option ℕ) → late_probe b first i ≡ o → is_further b first states array i o flows.Tests ≡ false
+        stands : (o : Option ℕ) → late_probe b first i ≡ o → is_further b first states array i o flows.Branches ≡ false
             → IsThere (image_of b first true i + 2) (state_behind b states i o)
         stands (Some id) late h = absurd (true_false h)
         stands None late h =

@@ -19,9 +19,9 @@ use Rattle.jc_emit.specs.Marks.{aload, iconst_1, bastore, push}
 use Rattle.jc_methods.specs.Widened.{goto, inverted, widths_by, wide_place, widened_by, widened_from, widened}
 use Rattle.jc_emit.specs.TwinCode.{to_of, here_or, arm_place}
 use Rattle.jc_emit.specs.Items.{Item, insn_of, prelude, probe, lead_part, early_part, hop_part, arm_parts, segment_size, lead_of, land_of, image_of, tests_part, image_part, segment, twin_items}
-use Rattle.jc_emit.proofs.Built.{length-lead, length-early, length-arms, size_is, size_tests, size_switches, sized}
+use Rattle.jc_emit.proofs.BuiltLaws.{length-lead, length-early, length-arms, size_is, size_tests, size_switches, sized}
 use Rattle.jc_emit.proofs.PiecesLaws.{length-pieces}
-use Rattle.jc_emit.proofs.Ends.{lead_none, lead_past}
+use Rattle.jc_emit.proofs.EndsLaws.{lead_none, lead_past}
 use Rattle.jc_emit.proofs.LocalLaws.{test_is}
 use Rattle.jc_emit.proofs.InverseLaws.{inverse_tests_too}
 use Rattle.jc_methods.specs.declared.insn.Insn.TheVariants as insns
@@ -80,13 +80,13 @@ ones_both (x ∷ xs) ys a c = (a.0, ones_both xs ys a.1 c)
 -- ---- instructions
 
 -- an instruction that is no conditional jump, by its flow
-widened_plain : (P : ℕ → ℕ) (r : ℕ) (insn : Insn) (flow : Flow) → flow_of insn ≡ flow → (flow ≡ flows.Tests → ⊥)
+widened_plain : (P : ℕ → ℕ) (r : ℕ) (insn : Insn) (flow : Flow) → flow_of insn ≡ flow → (flow ≡ flows.Branches → ⊥)
     → widened_by P r insn (flow_of insn) ≡ with_places P insn ∷ []
 widened_plain P r insn flow e apart = ap (widened_by P r insn) e ∙ by flow apart
   where
-    by : (flow : Flow) → (flow ≡ flows.Tests → ⊥) → widened_by P r insn flow ≡ with_places P insn ∷ []
+    by : (flow : Flow) → (flow ≡ flows.Branches → ⊥) → widened_by P r insn flow ≡ with_places P insn ∷ []
     by flows.GoesOn h = refl
-    by flows.Tests h = absurd (h refl)
+    by flows.Branches h = absurd (h refl)
     by flows.Jumps h = refl
     by flows.Switches h = refl
     by flows.Returns h = refl
@@ -155,14 +155,14 @@ module _ (b : Body) (first : ℕ) (call : ℕ) (is_code : IsCode b.code) where
   seg_w i = segment b first true i
 
   -- the inverse of a conditional jump is one
-  inverse_flow : (i t : ℕ) → i < n → flow_of (old i) ≡ flows.Tests → flow_of (inverted t (old i)) ≡ flows.Tests
+  inverse_flow : (i t : ℕ) → i < n → flow_of (old i) ≡ flows.Branches → flow_of (inverted t (old i)) ≡ flows.Branches
   inverse_flow i t lt e =
       let j = test_is (old i) e in
       let formed = subst IsWellFormed j.is (is_code.well_formed i (insns.Simple 0) lt) in
       let tests = sym (ap flow_of j.is) ∙ e in
-      subst (λ x. flow_of (inverted t x) ≡ flows.Tests) (sym j.is) (inverse_tests_too j.op j.to t formed tests)
+      subst (λ x. flow_of (inverted t x) ≡ flows.Branches) (sym j.is) (inverse_tests_too j.op j.to t formed tests)
 
-  tests_width : (i : ℕ) → i < n → flow_of (old i) ≡ flows.Tests → (o : Option ℕ)
+  tests_width : (i : ℕ) → i < n → flow_of (old i) ≡ flows.Branches → (o : Option ℕ)
       → widths (code_of (tests_part b first false i (old i) o)) ≡ 1 + (1 + hop_size o + 0)
   tests_width i lt e None = ap (λ f. widths_by f + 0) (flow_placed (land_of b first false) (old i) ∙ e)
   tests_width i lt e (Some id) =
@@ -179,7 +179,7 @@ module _ (b : Body) (first : ℕ) (call : ℕ) (is_code : IsCode b.code) where
   main_width : (i : ℕ) (flow : Flow) → i < n → flow_of (old i) ≡ flow → widths (code_of (main_n i flow)) ≡ 1 + behind_size b first true i
   main_width i flows.GoesOn lt e =
       ap (λ f. widths_by f + 0) (flow_shifted b.arg_slots (old i) ∙ e) ∙ ap (λ k. 1 + k) (sym (size_is b first true i flows.GoesOn e))
-  main_width i flows.Tests lt e = tests_width i lt e (late_probe b first i) ∙ ap (λ k. 1 + k) (sym (size_tests b first true i e))
+  main_width i flows.Branches lt e = tests_width i lt e (late_probe b first i) ∙ ap (λ k. 1 + k) (sym (size_tests b first true i e))
   main_width i flows.Jumps lt e =
       ap (λ f. widths_by f + 0) (flow_placed (land_of b first false) (old i) ∙ e)
       ∙ ap (λ k. 1 + k) (sym (size_is b first true i flows.Jumps e))
@@ -374,7 +374,7 @@ module _ (b : Body) (first : ℕ) (call : ℕ) (is_code : IsCode b.code) where
 
   -- ---- each part
 
-  not_tests_on : flows.GoesOn ≡ flows.Tests → ⊥
+  not_tests_on : flows.GoesOn ≡ flows.Branches → ⊥
   not_tests_on e = cc
 
   push_widened : (P : ℕ → ℕ) (r id : ℕ) → widened_by P r (push id) (flow_of (push id)) ≡ push id ∷ []
@@ -409,23 +409,23 @@ module _ (b : Body) (first : ℕ) (call : ℕ) (is_code : IsCode b.code) where
   early_widened r i (Some id) = probe_widened r id i false
 
   -- conditional jumps
-  same_test : (x : Insn) (t : ℕ) (f g : ℕ → ℕ) → flow_of x ≡ flows.Tests → inverted t (with_places f x) ≡ inverted t (with_places g x)
+  same_test : (x : Insn) (t : ℕ) (f g : ℕ → ℕ) → flow_of x ≡ flows.Branches → inverted t (with_places f x) ≡ inverted t (with_places g x)
   same_test x t f g e = let j = test_is x e in subst (λ y. inverted t (with_places f y) ≡ inverted t (with_places g y)) (sym j.is) refl
 
-  target_widened : (x : Insn) → flow_of x ≡ flows.Tests
+  target_widened : (x : Insn) → flow_of x ≡ flows.Branches
       → W (jump_target (with_places (land_of b first false) x)) ≡ jump_target (with_places (land_of b first true) x)
   target_widened x e =
       let j = test_is x e in subst (λ y. W (jump_target (with_places (land_of b first false) y)) ≡ jump_target (with_places (land_of b first true) y)) (sym j.is) (land_is j.to)
 
-  same_inverse : (x : Insn) (t l k : ℕ) → flow_of x ≡ flows.Tests → inverted t (inverted l x) ≡ inverted t (inverted k x)
+  same_inverse : (x : Insn) (t l k : ℕ) → flow_of x ≡ flows.Branches → inverted t (inverted l x) ≡ inverted t (inverted k x)
   same_inverse x t l k e = let j = test_is x e in subst (λ y. inverted t (inverted l y) ≡ inverted t (inverted k y)) (sym j.is) refl
 
-  inverse_widened : (x : Insn) (i : ℕ) → flow_of x ≡ flows.Tests
+  inverse_widened : (x : Insn) (i : ℕ) → flow_of x ≡ flows.Branches
       → W (jump_target (inverted (lead_n i) x)) ≡ jump_target (inverted (lead_w i) x)
   inverse_widened x i e =
       let j = test_is x e in subst (λ y. W (jump_target (inverted (lead_n i) y)) ≡ jump_target (inverted (lead_w i) y)) (sym j.is) (lead_is i)
 
-  tests_widened : (i : ℕ) → i < n → flow_of (old i) ≡ flows.Tests → (o : Option ℕ)
+  tests_widened : (i : ℕ) → i < n → flow_of (old i) ≡ flows.Branches → (o : Option ℕ)
       → widened_from W (image_of b first true i) (code_of (tests_part b first false i (old i) o)) ≡ code_of (tests_part b first true i (old i) o)
   tests_widened i lt e None =
       let x = with_places (land_of b first false) (old i) in
@@ -441,16 +441,16 @@ module _ (b : Body) (first : ℕ) (call : ℕ) (is_code : IsCode b.code) where
       (ap₂ (λ y t. y ∷ goto t ∷ []) (same_inverse (old i) (r + 2) (lead_n (i + 1)) (lead_w (i + 1)) e) (inverse_widened (old i) (i + 1) e))
       (hop_widened (r + 2) (jump_target (old i)) (Some id))
 
-  jumps_apart : flows.Jumps ≡ flows.Tests → ⊥
+  jumps_apart : flows.Jumps ≡ flows.Branches → ⊥
   jumps_apart e = cc
 
-  switches_apart : flows.Switches ≡ flows.Tests → ⊥
+  switches_apart : flows.Switches ≡ flows.Branches → ⊥
   switches_apart e = cc
 
-  returns_apart : flows.Returns ≡ flows.Tests → ⊥
+  returns_apart : flows.Returns ≡ flows.Branches → ⊥
   returns_apart e = cc
 
-  throws_apart : flows.Throws ≡ flows.Tests → ⊥
+  throws_apart : flows.Throws ≡ flows.Branches → ⊥
   throws_apart e = cc
 
   abbrev narrow_arm : ℕ → ℕ → ℕ
@@ -474,7 +474,7 @@ module _ (b : Body) (first : ℕ) (call : ℕ) (is_code : IsCode b.code) where
       let x = with_slot b.arg_slots (old i) in
       let on = flow_shifted b.arg_slots (old i) ∙ e in
       ap (λ l. l ++ []) (widened_plain W (image_of b first true i) x flows.GoesOn on not_tests_on) ∙ ap (λ y. y ∷ []) (places_on W x on)
-  main_widened i flows.Tests lt e = tests_widened i lt e (late_probe b first i)
+  main_widened i flows.Branches lt e = tests_widened i lt e (late_probe b first i)
   main_widened i flows.Jumps lt e =
       let x = with_places (land_of b first false) (old i) in
       ap (λ l. l ++ []) (widened_plain W (image_of b first true i) x flows.Jumps (flow_placed (land_of b first false) (old i) ∙ e) jumps_apart)
@@ -523,13 +523,13 @@ module _ (b : Body) (first : ℕ) (call : ℕ) (is_code : IsCode b.code) where
       ∙ ap code_of (append_assoc prelude (pieces seg_w k) (seg_w k))
 
   -- behind the conditional jump itself
-  tests_one : (i : ℕ) → i < n → flow_of (old i) ≡ flows.Tests → (o : Option ℕ)
+  tests_one : (i : ℕ) → i < n → flow_of (old i) ≡ flows.Branches → (o : Option ℕ)
       → wide_place (code_of (tests_part b first false i (old i) o)) 1 ≡ 2
   tests_one i lt e None = ap (λ f. widths_by f + 0) (flow_placed (land_of b first false) (old i) ∙ e)
   tests_one i lt e (Some id) =
       ap (λ f. widths_by f + wide_place (code_of (hop_part (land_of b first false) (Some id) (jump_target (old i)))) 0) (inverse_flow i (lead_n (i + 1)) lt e)
 
-  pub main_test : (i : ℕ) → i < n → flow_of (old i) ≡ flows.Tests → wide_place (code_of (main_n i (flow_of (old i)))) 1 ≡ 2
+  pub main_test : (i : ℕ) → i < n → flow_of (old i) ≡ flows.Branches → wide_place (code_of (main_n i (flow_of (old i)))) 1 ≡ 2
   main_test i lt e = ap (λ f. wide_place (code_of (main_n i f)) 1) e ∙ tests_one i lt e (late_probe b first i)
 
 pub widened_is : (b : Body) (first call : ℕ) → IsCode b.code

@@ -1,46 +1,15 @@
 -- The field and the method that instrumentation adds to a class.
-use Rattle.std.specs.Prelude.{◌≡◌, ℕ, ℤ, List, [], ◌∷◌, Some, codes}
-use Rattle.jc_methods.specs.Held.{Names, object, Seen, seen}
+use Rattle.std.specs.Prelude.{◌≡◌, ℕ, ℤ, List, [], ◌∷◌, Some}
+use Rattle.jc_methods.specs.VerificationTypes.{Names, object, TypeState, type_state}
 use Rattle.jc_methods.specs.WellMade.{what_used}
 use Rattle.jc_methods.specs.Opcode as opcode
+use Rattle.jc_methods.specs.ProbeMembers.{data_name, data_type, init_name, init_type, init_flags, runtime_class, fetch_name, fetch_type}
 use Rattle.jc_methods.specs.declared.insn.Insn.{Insn}
 use Rattle.jc_methods.specs.declared.body.Body.{Body}
 use Rattle.jc_methods.specs.declared.body.FrameAt.{FrameAt}
 use Rattle.jc_emit.specs.Marks.{push}
 use Rattle.jc_methods.specs.declared.insn.Insn.TheVariants as insns
 use Rattle.jc_methods.specs.declared.body.What.TheVariants as whats
-
--- ---- names (JVM Specification 4.3, 4.5, 4.6)
-
--- the field that keeps the probe array: private, static, transient and synthetic
-abbrev pub data_name : List ℕ
-data_name = codes "$jacocoData"
-
-abbrev pub data_type : List ℕ
-data_type = codes "[Z"
-
-abbrev pub data_flags : ℕ
-data_flags = 0x108a
-
--- the method that gives the probe array: private, static and synthetic
-abbrev pub init_name : List ℕ
-init_name = codes "$jacocoInit"
-
-abbrev pub init_type : List ℕ
-init_type = codes "()[Z"
-
-abbrev pub init_flags : ℕ
-init_flags = 0x100a
-
--- the method of the runtime class that makes a probe array, or gives the one that it made for the class before
-abbrev pub runtime_class : List ℕ
-runtime_class = codes "org/jacoco/agent/rt/internal/Offline"
-
-abbrev pub fetch_name : List ℕ
-fetch_name = codes "getProbes"
-
-abbrev pub fetch_type : List ℕ
-fetch_type = codes "(JLjava/lang/String;I)[Z"
 
 -- ---- the method's code
 
@@ -81,7 +50,7 @@ abbrev pub init_stack : ℕ
 init_stack = 4
 
 -- the array alone on the stack
-abbrev pub init_frame : Seen
+abbrev pub init_frame : TypeState
 init_frame = record { locals = []; stack = object data_type ∷ [] }
 
 -- one frame, at the last instruction
@@ -89,7 +58,7 @@ pub record HasInitFrame (names : Names) (frames : List FrameAt) : Type 0 where
   pub frame : FrameAt
   pub single : frames ≡ frame ∷ []
   pub at : frame.at ≡ end_place
-  pub state : seen names frame.state ≡ init_frame
+  pub state : type_state names frame.state ≡ init_frame
 
 -- the method of the class with this name and this id, which has so many probes, as a body
 pub record IsInitBody (names : Names) (class : List ℕ) (id : ℤ) (count : ℕ) (b : Body) : Type 0 where

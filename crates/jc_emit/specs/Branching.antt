@@ -20,12 +20,12 @@ early_in _ ids = None
 
 -- the probe of the jump of a conditional jump: the one of its second branch
 abbrev pub late_in : Flow → List (Option ℕ) → Option ℕ
-late_in flows.Tests ids = slice_index_or ids 1 None
+late_in flows.Branches ids = slice_index_or ids 1 None
 late_in _ ids = None
 
 -- how many instructions stand behind the image: a probe and a goto for each probe of a branch
 abbrev pub behind_in : Flow → List (Option ℕ) → ℕ
-behind_in flows.Tests ids = sum_by hop_size ids
+behind_in flows.Branches ids = sum_by hop_size ids
 behind_in flows.Switches ids = sum_by hop_size ids
 behind_in _ ids = 0
 

@@ -1,7 +1,7 @@
 -- The instrumented code of a body before its layout is chosen, and the frames of its wide form: functions of the body.
 use Rattle.std.specs.Prelude.{ℕ, zero, suc, ◌+◌, Bool, true, false, ◌&&◌, ◌||◌, not, List, [], ◌∷◌, ◌++◌, map, length, Option, Some, None, is_some, is_none, nat_eq, if◌then◌else◌, ◌≡◌, ◌⊎◌, slice_index_or, Contains}
 use Rattle.std.specs.List.{list_any}
-use Rattle.jc_methods.specs.Held.{Names}
+use Rattle.jc_methods.specs.VerificationTypes.{Names}
 use Rattle.jc_bytes.specs.PlainLists.{pieces}
 use Rattle.jc_methods.specs.Flow.{flow_of}
 use Rattle.jc_methods.specs.FrameOrder.{RiseFrom}
@@ -71,8 +71,8 @@ module _ (b : Body) (first : ℕ) (states : List State) (array : ℕ) where
 
   -- the wide layout needs a frame behind each conditional jump, where none stands
   abbrev pub is_further : ℕ → Option ℕ → Flow → Bool
-  is_further i None flows.Tests = not (has_frame (i + 1) && is_none (lead_probe b first (i + 1)))
-  is_further i (Some id) flows.Tests = true
+  is_further i None flows.Branches = not (has_frame (i + 1) && is_none (lead_probe b first (i + 1)))
+  is_further i (Some id) flows.Branches = true
   is_further i probe flow = false
 
   abbrev pub wide_frames_at : ℕ → List FrameAt

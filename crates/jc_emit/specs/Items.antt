@@ -122,7 +122,7 @@ module _ (b : Body) (first : ℕ) (wide : Bool) where
   -- the image of i and what stands behind it
   abbrev pub image_part : ℕ → Insn → Flow → List Item
   image_part i insn flows.GoesOn = image (with_slot b.arg_slots insn) i None ∷ []
-  image_part i insn flows.Tests = tests_part i insn (late_probe b first i)
+  image_part i insn flows.Branches = tests_part i insn (late_probe b first i)
   image_part i insn flows.Jumps = image (with_places land_of insn) i (early_probe b first i) ∷ []
   image_part i insn flows.Switches =
       image (with_places (arm_place (probe_of b first) land_of (image_of i + 1) (arms_at b.code i)) insn) i None

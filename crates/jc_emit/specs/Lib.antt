@@ -14,7 +14,7 @@ pub mod Seen
 pub mod Ranks
 pub mod Added
 pub mod TwinProgram
-pub mod Rows
+pub mod WorkedExamples
 pub mod Placing
 pub mod Written
 pub mod Tables

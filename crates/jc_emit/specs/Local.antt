@@ -106,7 +106,7 @@ module _ (code : List Insn) (slot : Option ℕ) (ids : Branch → Option ℕ) (i
   -- the image of an instruction of this flow
   abbrev pub OkImage : (q i : ℕ) → Insn → Insn → Flow → Type 0
   OkImage q i insn new flows.GoesOn = (new ≡ moved_insn slot insn) × Lands (q + 1) (i + 1) (next_due i)
-  OkImage q i insn new flows.Tests = TestsAlike q i insn new ⊎ TestsInversely q i insn new
+  OkImage q i insn new flows.Branches = TestsAlike q i insn new ⊎ TestsInversely q i insn new
   OkImage q i insn new flows.Jumps = JumpsAlike insn new
   OkImage q i insn new flows.Switches = SwitchesAlike i insn new
   OkImage q i insn new flows.Returns = new ≡ insn

@@ -18,7 +18,7 @@ pub record Marks : Type 0 where
 
 -- ---- what stands at a place
 
-pub record Stands (code : List Insn) (m : Marks) (q : ℕ) (insn : Insn) (at : ℕ) (own : Bool) (extra : ℕ) : Type 0 where
+pub record HasInsn (code : List Insn) (m : Marks) (q : ℕ) (insn : Insn) (at : ℕ) (own : Bool) (extra : ℕ) : Type 0 where
   pub insn_is : slice_get code q ≡ Some insn
   pub at_is : slice_get m.at q ≡ Some at
   pub own_is : slice_get m.own q ≡ Some own
@@ -51,10 +51,10 @@ push n =
 -- A probe stands at a place, and belongs to the instruction `at`: the array of probes stands in local variable v, and
 -- true is stored at the index `id` of it.
 pub record IsProbe (code : List Insn) (m : Marks) (v q id at : ℕ) : Type 0 where
-  pub array : Stands code m q (aload v) at false 0
-  pub number : Stands code m (q + 1) (push id) at false 1
-  pub one : Stands code m (q + 2) iconst_1 at false 2
-  pub store : Stands code m (q + 3) bastore at false 3
+  pub array : HasInsn code m q (aload v) at false 0
+  pub number : HasInsn code m (q + 1) (push id) at false 1
+  pub one : HasInsn code m (q + 2) iconst_1 at false 2
+  pub store : HasInsn code m (q + 3) bastore at false 3
 
 -- ---- where instructions of the body stand
 

@@ -25,7 +25,7 @@ early_by probe i insn _ = None
 
 -- the probe of the jump of a conditional jump
 abbrev pub late_by : (Branch → Option ℕ) → ℕ → Insn → Flow → Option ℕ
-late_by probe i insn flows.Tests = probe (jump i (jump_target insn))
+late_by probe i insn flows.Branches = probe (jump i (jump_target insn))
 late_by probe i insn _ = None
 
 -- the same of the instruction at a place, where `first` is the first id of the body
@@ -61,7 +61,7 @@ arm_sizes probe (x ∷ xs) = hop_size (probe x) + arm_sizes probe xs
 
 -- in the wide layout a goto stands behind each conditional jump
 abbrev pub wide_by : Flow → Bool → ℕ
-wide_by flows.Tests true = 1
+wide_by flows.Branches true = 1
 wide_by _ _ = 0
 
 abbrev pub wide_size : Body → Bool → ℕ → ℕ

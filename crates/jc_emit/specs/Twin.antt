@@ -1,6 +1,6 @@
 -- The twin of a body: the same method with its probes.
 use Rattle.std.specs.Prelude.{◌≡◌, ℕ, ◌+◌, Bool, false, List, Some, Contains}
-use Rattle.jc_methods.specs.Held.{Names}
+use Rattle.jc_methods.specs.VerificationTypes.{Names}
 use Rattle.jc_methods.specs.WellMade.{what_used}
 use Rattle.jc_methods.specs.declared.kind.State.{State}
 use Rattle.jc_methods.specs.declared.body.Body.{Body}
@@ -8,7 +8,7 @@ use Rattle.jc_methods.specs.declared.body.FrameAt.{FrameAt}
 use Rattle.jc_methods.specs.declared.body.What.{What}
 use Rattle.jc_methods.specs.declared.body.What.TheVariants as whats
 use Rattle.jc_methods.specs.declared.emitted.Emitted.{Emitted}
-use Rattle.jc_emit.specs.Added.{init_name, init_type}
+use Rattle.jc_methods.specs.ProbeMembers.{init_name, init_type}
 use Rattle.jc_emit.specs.Marks.{Marks, image_place, land_place, lead_place}
 use Rattle.jc_emit.specs.TwinCode.{IsTwinCode}
 use Rattle.jc_emit.specs.TwinTables.{AreMovedTables}

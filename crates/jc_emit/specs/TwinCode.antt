@@ -16,7 +16,7 @@ use Rattle.jc_plan.specs.Edges.{branches}
 use Rattle.jc_plan.specs.Probed.{probe_of}
 use Rattle.jc_plan.specs.Plan.{lead_probe}
 use Rattle.jc_emit.specs.Sizes.{insn_at, early_probe, late_probe, arms_at, hop_size, wide_size, behind_size}
-use Rattle.jc_emit.specs.Marks.{Marks, Stands, IsProbe, astore, invokestatic, image_place, land_place, lead_place}
+use Rattle.jc_emit.specs.Marks.{Marks, HasInsn, IsProbe, astore, invokestatic, image_place, land_place, lead_place}
 
 -- ---- switches
 
@@ -55,22 +55,22 @@ module _ (b : Body) (first : ℕ) (wide : Bool) (code : List Insn) (m : Marks) (
 
   -- an image stands where the images do, belongs to its instruction, and finds nothing more on the stack
   abbrev pub HasImage : ℕ → Insn → Type 0
-  HasImage i insn = Stands code m (image i) insn i true 0
+  HasImage i insn = HasInsn code m (image i) insn i true 0
 
   abbrev pub HasProbe : ℕ → ℕ → ℕ → Type 0
   HasProbe q id at = IsProbe code m b.arg_slots q id at
 
   -- a goto that is no image leads to where jumps to an instruction land, and belongs to that instruction
   abbrev pub HasHop : ℕ → ℕ → Type 0
-  HasHop q to = Stands code m q (goto (land to)) to false 0
+  HasHop q to = HasInsn code m q (goto (land to)) to false 0
 
   -- ---- the prelude
 
   -- The first two instructions fetch the array of probes and put it behind the arguments. They are no images and
   -- belong to the first instruction, and the second one finds the array on the stack.
   pub record Prelude (call : ℕ) : Type 0 where
-    pub fetch : Stands code m 0 (invokestatic call) 0 false 0
-    pub store : Stands code m 1 (astore b.arg_slots) 0 false 1
+    pub fetch : HasInsn code m 0 (invokestatic call) 0 false 0
+    pub store : HasInsn code m 1 (astore b.arg_slots) 0 false 1
 
   -- ---- images
 
@@ -102,7 +102,7 @@ module _ (b : Body) (first : ℕ) (wide : Bool) (code : List Insn) (m : Marks) (
   abbrev pub HasTest : Bool → ℕ → Insn → ℕ → Type 0
   HasTest false i insn on = HasImage i insn
   HasTest true i insn on =
-      HasImage i (inverted (image i + 2) insn) × Stands code m (image i + 1) (goto (jump_target insn)) on false 0
+      HasImage i (inverted (image i + 2) insn) × HasInsn code m (image i + 1) (goto (jump_target insn)) on false 0
 
   -- the place behind a conditional jump
   abbrev pub behind : ℕ → ℕ
@@ -113,13 +113,13 @@ module _ (b : Body) (first : ℕ) (wide : Bool) (code : List Insn) (m : Marks) (
   -- the probe and a goto to where jumps to the target land, both of which belong to the target.
   pub record Jumps : Type 0 where
     pub gotos : (i : ℕ) → Flows i flows.Jumps → HasImage i (with_places land (old i))
-    pub tests : (i : ℕ) → Flows i flows.Tests → late_probe b first i ≡ None
+    pub tests : (i : ℕ) → Flows i flows.Branches → late_probe b first i ≡ None
         → HasTest wide i (with_places land (old i)) (jump_target (old i))
-    pub inverses : (i id : ℕ) → Flows i flows.Tests → late_probe b first i ≡ Some id
+    pub inverses : (i id : ℕ) → Flows i flows.Branches → late_probe b first i ≡ Some id
         → HasTest wide i (inverted (lead (i + 1)) (old i)) (i + 1)
-    pub probes : (i id : ℕ) → Flows i flows.Tests → late_probe b first i ≡ Some id
+    pub probes : (i id : ℕ) → Flows i flows.Branches → late_probe b first i ≡ Some id
         → HasProbe (behind i) id (jump_target (old i))
-    pub hops : (i id : ℕ) → Flows i flows.Tests → late_probe b first i ≡ Some id
+    pub hops : (i id : ℕ) → Flows i flows.Branches → late_probe b first i ≡ Some id
         → HasHop (behind i + 4) (jump_target (old i))
 
   -- ---- switches
@@ -184,7 +184,7 @@ module _ (b : Body) (first : ℕ) (wide : Bool) (code : List Insn) (m : Marks) (
   -- it is the goto behind the probe of a conditional jump or of a switch's target
   abbrev pub HasGotoBehind : Way → Flow → Type 0
   HasGotoBehind (ways.Switches to) flow = ⊤
-  HasGotoBehind (ways.Jumps to) flows.Tests = ⊤
+  HasGotoBehind (ways.Jumps to) flows.Branches = ⊤
   HasGotoBehind way flow = ⊥
 
   pub record IsHop (q : ℕ) : Type 0 where
@@ -196,7 +196,7 @@ module _ (b : Body) (first : ℕ) (wide : Bool) (code : List Insn) (m : Marks) (
   pub record IsWideGoto (q : ℕ) : Type 0 where
     pub layout : wide ≡ true
     pub test : ℕ
-    pub tests : Flows test flows.Tests
+    pub tests : Flows test flows.Branches
     pub place : q ≡ image test + 1
 
   -- what stands there that is no image

@@ -2,7 +2,7 @@
 use Rattle.std.specs.Prelude.{◌≡◌, ◌⊎◌, ℕ, ◌+◌, ◌-◌, ◌<◌, Bool, true, false, List, [], length, take, Option, Some, None, nat_le, ◌&&◌, if◌then◌else◌, slice_index_or, Contains}
 use Rattle.jc_methods.specs.Flow.{flow_of}
 use Rattle.jc_methods.specs.FrameOrder.{RiseFrom}
-use Rattle.jc_methods.specs.Held.{Names, seen}
+use Rattle.jc_methods.specs.VerificationTypes.{Names, type_state}
 use Rattle.jc_methods.specs.Opcode as opcode
 use Rattle.jc_methods.specs.declared.insn.Insn.{Insn}
 use Rattle.jc_methods.specs.declared.kind.State.{State}
@@ -78,7 +78,7 @@ module _ (b : Body) (first : ℕ) (states : List State) (image land lead : ℕ �
   pub record IsFrameBehind (far q : ℕ) (state : State) : Type 0 where
     pub test : ℕ
     pub within : test < length b.code
-    pub tests : flow_of (insn_at b.code test) ≡ flows.Tests
+    pub tests : flow_of (insn_at b.code test) ≡ flows.Branches
     pub place : q ≡ image test + far
     pub state_is : state ≡ state_behind b states test (late_probe b first test)
 
@@ -96,6 +96,6 @@ module _ (b : Body) (first : ℕ) (states : List State) (image land lead : ℕ �
 pub record AreTwinFrames (names new_names : Names) (v : ℕ) (image : ℕ → ℕ) (Asked : ℕ → State → Type 0) (frames : List FrameAt) : Type 0 where
   pub rising : RiseFrom 0 frames
   pub each : (f : FrameAt) → Contains frames f
-      → (state : State) × Asked f.at state × (seen new_names f.state ≡ shifted image v (seen names state))
+      → (state : State) × Asked f.at state × (type_state new_names f.state ≡ shifted image v (type_state names state))
   pub every : (q : ℕ) (state : State) → Asked q state
-      → (f : FrameAt) × Contains frames f × (f.at ≡ q) × (seen new_names f.state ≡ shifted image v (seen names state))
+      → (f : FrameAt) × Contains frames f × (f.at ≡ q) × (type_state new_names f.state ≡ shifted image v (type_state names state))

@@ -2,7 +2,7 @@
 use Rattle.std.specs.Prelude.{◌≡◌, ◌⊎◌, ⊤, ℕ, pos, ◌+◌, List, [], ◌∷◌, ◌++◌, map, Some, None, Contains}
 use Rattle.std.specs.Int.{w64, cast_signed}
 use Rattle.std.specs.List.{sum_by}
-use Rattle.jc_methods.specs.Held.{Names, seen_at}
+use Rattle.jc_methods.specs.VerificationTypes.{Names, type_state_at}
 use Rattle.jc_methods.specs.WellMade.{IsWellMade}
 use Rattle.jc_methods.specs.declared.kind.State.{State}
 use Rattle.jc_methods.specs.declared.body.Body.{Body}
@@ -12,7 +12,8 @@ use Rattle.jc_programs.specs.declared.program.Program.{Program}
 use Rattle.jc_kinds.specs.Answers.{AreStates}
 use Rattle.jc_kinds.specs.Checked.{Checked}
 use Rattle.jc_plan.specs.Probed.{probe_count}
-use Rattle.jc_emit.specs.Added.{data_name, data_type, init_name, IsInitBody}
+use Rattle.jc_methods.specs.ProbeMembers.{data_name, data_type, init_name}
+use Rattle.jc_emit.specs.Added.{IsInitBody}
 use Rattle.jc_emit.specs.Straddling.{NoneStraddles}
 use Rattle.jc_emit.specs.Twin.{Twin}
 
@@ -25,7 +26,7 @@ pub record HasNoAdded (class : Linked) : Type 0 where
 
 -- two bodies are equal, where classes are compared by their names
 pub record IsSameBody (names new_names : Names) (b b' : Body) : Type 0 where
-  pub frames : map (seen_at new_names) b'.frames ≡ map (seen_at names) b.frames
+  pub frames : map (type_state_at new_names) b'.frames ≡ map (type_state_at names) b.frames
   pub others : b' ≡ record b { frames = b'.frames }
 
 abbrev pub AreSameBodies : Names → Names → List Body → List Body → Type 0

@@ -1,6 +1,6 @@
 //! Laws of instrumented code and the kind check.
 ghost use Rattle.std.specs.Prelude.{ℕ, ℤ, List, Contains};
-ghost use Rattle.jc_methods.specs.Held.{Names};
+ghost use Rattle.jc_methods.specs.VerificationTypes.{Names};
 ghost use Rattle.jc_methods.specs.WellMade.{IsWellMadeOfAnySize};
 ghost use Rattle.jc_methods.specs.declared.body.Body.{Body};
 ghost use Rattle.jc_methods.specs.declared.kind.State.{State};

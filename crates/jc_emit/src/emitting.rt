@@ -2,11 +2,12 @@
 ghost use Rattle.std.specs.Prelude.{◌≡◌, ◌⊎◌, ⊤, ℕ, ◌+◌, ◌≤◌};
 ghost use Rattle.std.specs.Prelude.{Some, None, length, IfOk, IfErr, IfSome, MatchResult};
 ghost use Rattle.std.specs.List.{sum_by};
-ghost use Rattle.jc_methods.specs.Held.{Grows, AreNumberedFrames};
+ghost use Rattle.jc_methods.specs.VerificationTypes.{Grows, AreNumberedFrames};
 ghost use Rattle.jc_methods.specs.Insn.{arm_count};
 ghost use Rattle.jc_methods.specs.WellMade.{IsWellMade, IsCounted};
 ghost use Rattle.jc_bytes.specs.declared.refusal.RefusalKind.{RefusalKind as Kind};
-ghost use Rattle.jc_kinds.specs.Answers.{AreStates, Said, refusal_of};
+ghost use Rattle.jc_kinds.specs.Answers.{AreStates, refusal_of};
+ghost use Rattle.jc_bytes.specs.Failing.{Said};
 ghost use Rattle.jc_plan.specs.Plan.{plan_of};
 ghost use Rattle.jc_emit.specs.Emission.{IsArrayNumber, emission};
 ghost use Rattle.jc_emit.specs.Framing.{ArePut};
@@ -22,11 +23,8 @@ use crate::straddling::straddles;
 use crate::tables::{moved_lines, moved_rows, moved_vars};
 use crate::written::Written;
 use jc_bytes::{Fail, List, Memory, Names, Refusal, RefusalKind};
-use jc_methods::{Body, Emitted, Plan, State};
+use jc_methods::{Body, Emitted, PROBE_ARRAY, Plan, State};
 use std::alloc::Global;
-
-/// The name of the class of the array of probes (JVM Specification 4.4.1).
-const PROBE_ARRAY: &[u8] = b"[Z";
 
 /// A refusal of the method.
 fn refusal(body: &Body, kind: RefusalKind, place: u32) -> Refusal

@@ -198,7 +198,7 @@ impl<'a> Framing<'a> {
         ensures { (first : ℕ) → IsFraming first self.now → result ≡ late_probe self.now.body.now first at }
     {
         match self.body.code[at].flow() {
-            Flow::Tests => match self.plan.out[at].as_slice() {
+            Flow::Branches => match self.plan.out[at].as_slice() {
                 [_, id] => *id,
                 _ => None,
             },
@@ -303,7 +303,7 @@ impl<'a> Framing<'a> {
     fn put_behind(&self, alloc: Global, at: usize, frames: &mut Vec<FrameAt>) -> Result<(), Memory>
         requires framing { (first : ℕ) × IsFraming first self.now }
         requires at { at < length self.now.body.now.code }
-        requires tests { flow_of (insn_at self.now.body.now.code at) ≡ flows.Tests }
+        requires tests { flow_of (insn_at self.now.body.now.code at) ≡ flows.Branches }
         ensures { (first : ℕ) → IsFraming first self.now → OnOk result (frames.new.items
             ≡ frames.old.items ++ wide_frames_at self.now.body.now first self.now.states.now self.now.array at) }
     {
@@ -331,7 +331,7 @@ impl<'a> Framing<'a> {
             ≡ frames.old.items ++ wide_frames_at self.now.body.now first self.now.states.now self.now.array at) }
     {
         match self.body.code[at].flow() {
-            Flow::Tests => {
+            Flow::Branches => {
                 self.put_behind(alloc, at, frames)?;
                 Ok(())
             }

@@ -51,7 +51,7 @@ pub(crate) fn jump_target(insn: &Insn) -> u32
 
 /// The conditional jump that jumps exactly where this one doesn't, to this place.
 pub(crate) fn inverted(alloc: Global, insn: &Insn, to: u32) -> Result<Insn, Memory>
-    requires test { flow_of insn.now ≡ flows.Tests }
+    requires test { flow_of insn.now ≡ flows.Branches }
     requires formed { IsWellFormed insn.now }
     ensures { IfOk result (λ image. image ≡ inverted to insn.now) }
 {

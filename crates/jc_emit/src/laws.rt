@@ -1,6 +1,6 @@
 //! Laws of instrumented code.
 ghost use Rattle.std.specs.Prelude.{◌≡◌, ℕ, List, Bool, true, false, Option, Some, None, map, length};
-ghost use Rattle.jc_methods.specs.Held.{Names};
+ghost use Rattle.jc_methods.specs.VerificationTypes.{Names};
 ghost use Rattle.jc_methods.specs.Widened.{widened};
 ghost use Rattle.jc_methods.specs.WellMade.{IsCode, IsHandler, IsWellMadeOfAnySize, what_used};
 ghost use Rattle.jc_methods.specs.declared.body.Body.{Body};

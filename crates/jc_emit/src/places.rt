@@ -62,7 +62,7 @@ pub(crate) fn early_id(flow: Flow, ids: &[Option<u32>]) -> Option<u32>
 {
     match flow {
         Flow::Jumps | Flow::Returns | Flow::Throws => ids.first().copied().unwrap_or(None),
-        Flow::GoesOn | Flow::Tests | Flow::Switches => None,
+        Flow::GoesOn | Flow::Branches | Flow::Switches => None,
     }
 }
 
@@ -71,7 +71,7 @@ pub(crate) fn late_id(flow: Flow, ids: &[Option<u32>]) -> Option<u32>
     ensures { result ≡ late_in flow ids.now }
 {
     match flow {
-        Flow::Tests => ids.get(1).copied().unwrap_or(None),
+        Flow::Branches => ids.get(1).copied().unwrap_or(None),
         Flow::GoesOn | Flow::Jumps | Flow::Switches | Flow::Returns | Flow::Throws => None,
     }
 }
@@ -83,7 +83,7 @@ fn behind_size(flow: Flow, ids: &[Option<u32>]) -> u32
     ensures small { result ≤ 5 * length ids.now }
 {
     match flow {
-        Flow::Tests | Flow::Switches => hop_sizes(ids),
+        Flow::Branches | Flow::Switches => hop_sizes(ids),
         Flow::GoesOn | Flow::Jumps | Flow::Returns | Flow::Throws => 0,
     }
 }

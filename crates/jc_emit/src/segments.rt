@@ -31,7 +31,7 @@ fn test_image(
     insn: &Insn,
     late: Option<u32>,
 ) -> Result<Insn, Memory>
-    requires test { flow_of insn.now ≡ flows.Tests }
+    requires test { flow_of insn.now ≡ flows.Branches }
     requires formed { IsWellFormed insn.now }
     requires next { at + 1 < length places.now.leads.items }
     requires within { LeadsWithin (length places.now.lands.items) insn.now }
@@ -55,7 +55,7 @@ fn put_test(
     insn: &Insn,
     late: Option<u32>,
 ) -> Result<(), Memory>
-    requires test { flow_of insn.now ≡ flows.Tests }
+    requires test { flow_of insn.now ≡ flows.Branches }
     requires formed { IsWellFormed insn.now }
     requires next { at + 1 < length places.now.leads.items }
     requires within { LeadsWithin (length places.now.lands.items) insn.now }
@@ -122,8 +122,8 @@ fn put_main(
             written.put_image(moved(alloc, insn, body.arg_slots)?, at as u32)?;
             Ok(())
         }
-        Flow::Tests => {
-            let late = late_id(Flow::Tests, plan.out[at].as_slice());
+        Flow::Branches => {
+            let late = late_id(Flow::Branches, plan.out[at].as_slice());
             put_test(
                 alloc,
                 written,

@@ -11,7 +11,7 @@ use Rattle.jc_exec.specs.Format.{Block, header, session, class}
 use Rattle.jc_exec.specs.Store.{Store, IsNew}
 use Rattle.jc_bytes.specs.FirstSeen.{first_seen}
 use Rattle.jc_bytes.proofs.FirstSeenLaws.{either_way}
-use Rattle.jc_bytes.proofs.TestLaws.{same_tests}
+use Rattle.jc_bytes.proofs.BooleanLaws.{same_tests}
 use Rattle.jc_exec.specs.Union.{sessions_of, records_of, ids_of, Agrees, IsHitAt, IsMerged, IsUnion}
 
 -- ---- what the blocks hold

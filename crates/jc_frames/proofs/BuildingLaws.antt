@@ -7,7 +7,7 @@ use Rattle.std.specs.List.{AllByRecursion}
 use Rattle.jc_methods.specs.declared.kind.Kind.{Kind}
 use Rattle.jc_methods.specs.declared.kind.Kind.TheVariants as kinds
 use Rattle.jc_methods.specs.EntryState.{spread_one, spread, in_locals}
-use Rattle.jc_methods.specs.Held.{Names, Held, top, held, is_pair, IsNumbered, Grows}
+use Rattle.jc_methods.specs.VerificationTypes.{Names, VerificationType, top, verification_type, is_pair, IsNumbered, Grows}
 use Rattle.jc_methods.proofs.NumberedLaws.{grown_count, number_kept}
 use Rattle.jc_methods.proofs.EntryStateLaws.{tops_held}
 use Rattle.jc_pool.specs.Pool.{PoolValue}
@@ -58,40 +58,40 @@ take_more xs i d lt = ap (λ (k : ℕ). take k xs) (let e : i + 1 ≡ suc i = om
 -- ---- kinds of values
 
 pub kinds_more : (pool : PoolValue) (later : Names) (ks new : List Kind) (vs : List Value) (i : ℕ) (d : Value) (k : Kind) → new ≡ ks ++ k ∷ [] → i < length vs
-    → map (held later) ks ≡ held_values pool later (take i vs) → held later k ≡ held_value pool later (get_or vs i d)
-    → map (held later) new ≡ held_values pool later (take (i + 1) vs)
+    → map (verification_type later) ks ≡ held_values pool later (take i vs) → verification_type later k ≡ held_value pool later (get_or vs i d)
+    → map (verification_type later) new ≡ held_values pool later (take (i + 1) vs)
 kinds_more pool later ks new vs i d k is lt before this =
-    ap (map (held later)) is ∙ map-append (held later) ks (k ∷ [])
-    ∙ ap₂ (λ (a : List Held) (h : Held). a ++ h ∷ []) before this
+    ap (map (verification_type later)) is ∙ map-append (verification_type later) ks (k ∷ [])
+    ∙ ap₂ (λ (a : List VerificationType) (h : VerificationType). a ++ h ∷ []) before this
     ∙ sym (ap (held_values pool later) (take_more vs i d lt) ∙ map-append (held_value pool later) (take i vs) (get_or vs i d ∷ []))
 
 -- ---- in local variables
 
-spread_last : (hs : List Held) (h : Held) → spread (hs ++ h ∷ []) ≡ spread hs ++ spread_one h
+spread_last : (hs : List VerificationType) (h : VerificationType) → spread (hs ++ h ∷ []) ≡ spread hs ++ spread_one h
 spread_last [] h = append-nil (spread_one h)
-spread_last (x ∷ hs) h = ap (λ (l : List Held). spread_one x ++ l) (spread_last hs h) ∙ sym (append_assoc (spread_one x) (spread hs) (spread_one h))
+spread_last (x ∷ hs) h = ap (λ (l : List VerificationType). spread_one x ++ l) (spread_last hs h) ∙ sym (append_assoc (spread_one x) (spread hs) (spread_one h))
 
 seen_more : (names : Names) (ks : List Kind) (i : ℕ) (d : Kind) → i < length ks
-    → spread (map (held names) (take i ks)) ++ spread_one (held names (get_or ks i d)) ≡ spread (map (held names) (take (i + 1) ks))
+    → spread (map (verification_type names) (take i ks)) ++ spread_one (verification_type names (get_or ks i d)) ≡ spread (map (verification_type names) (take (i + 1) ks))
 seen_more names ks i d lt =
-    sym (ap (λ (l : List Kind). spread (map (held names) l)) (take_more ks i d lt) ∙ ap spread (map-append (held names) (take i ks) (get_or ks i d ∷ []))
-    ∙ spread_last (map (held names) (take i ks)) (held names (get_or ks i d)))
+    sym (ap (λ (l : List Kind). spread (map (verification_type names) l)) (take_more ks i d lt) ∙ ap spread (map-append (verification_type names) (take i ks) (get_or ks i d ∷ []))
+    ∙ spread_last (map (verification_type names) (take i ks)) (verification_type names (get_or ks i d)))
 
 pub one_slot : (names : Names) (ks locals new : List Kind) (i : ℕ) (d : Kind) → i < length ks → new ≡ locals ++ get_or ks i d ∷ []
-    → is_pair (held names (get_or ks i d)) ≡ false → map (held names) locals ≡ spread (map (held names) (take i ks))
-    → map (held names) new ≡ spread (map (held names) (take (i + 1) ks))
+    → is_pair (verification_type names (get_or ks i d)) ≡ false → map (verification_type names) locals ≡ spread (map (verification_type names) (take i ks))
+    → map (verification_type names) new ≡ spread (map (verification_type names) (take (i + 1) ks))
 one_slot names ks locals new i d lt is single before =
-    ap (map (held names)) is ∙ map-append (held names) locals (get_or ks i d ∷ [])
-    ∙ ap₂ (λ (a b : List Held). a ++ b) before (sym (spread_single (held names (get_or ks i d)) single))
+    ap (map (verification_type names)) is ∙ map-append (verification_type names) locals (get_or ks i d ∷ [])
+    ∙ ap₂ (λ (a b : List VerificationType). a ++ b) before (sym (spread_single (verification_type names (get_or ks i d)) single))
     ∙ seen_more names ks i d lt
 
 pub two_slots : (names : Names) (ks locals first new : List Kind) (i : ℕ) (d : Kind) → i < length ks → first ≡ locals ++ get_or ks i d ∷ []
-    → new ≡ first ++ kinds.Top ∷ [] → is_pair (held names (get_or ks i d)) ≡ true → map (held names) locals ≡ spread (map (held names) (take i ks))
-    → map (held names) new ≡ spread (map (held names) (take (i + 1) ks))
+    → new ≡ first ++ kinds.Top ∷ [] → is_pair (verification_type names (get_or ks i d)) ≡ true → map (verification_type names) locals ≡ spread (map (verification_type names) (take i ks))
+    → map (verification_type names) new ≡ spread (map (verification_type names) (take (i + 1) ks))
 two_slots names ks locals first new i d lt is more pair before =
-    ap (map (held names)) (more ∙ ap (λ (l : List Kind). l ++ kinds.Top ∷ []) is ∙ append_assoc locals (get_or ks i d ∷ []) (kinds.Top ∷ []))
-    ∙ map-append (held names) locals (get_or ks i d ∷ kinds.Top ∷ [])
-    ∙ ap₂ (λ (a b : List Held). a ++ b) before (sym (spread_pair (held names (get_or ks i d)) pair))
+    ap (map (verification_type names)) (more ∙ ap (λ (l : List Kind). l ++ kinds.Top ∷ []) is ∙ append_assoc locals (get_or ks i d ∷ []) (kinds.Top ∷ []))
+    ∙ map-append (verification_type names) locals (get_or ks i d ∷ kinds.Top ∷ [])
+    ∙ ap₂ (λ (a b : List VerificationType). a ++ b) before (sym (spread_pair (verification_type names (get_or ks i d)) pair))
     ∙ seen_more names ks i d lt
 
 -- ---- the local variables that are left
@@ -101,9 +101,9 @@ tops_numbered count zero = All-nil (IsNumbered count)
 tops_numbered count (suc n) = All-cons (IsNumbered count) kinds.Top (replicate n kinds.Top) tt (tops_numbered count n)
 
 pub with_tops : (names : Names) (ks locals new : List Kind) (count i : ℕ) → length ks ≤ i → new ≡ locals ++ replicate (count - length locals) kinds.Top
-    → map (held names) locals ≡ spread (map (held names) (take i ks)) → map (held names) new ≡ in_locals count (map (held names) ks)
+    → map (verification_type names) locals ≡ spread (map (verification_type names) (take i ks)) → map (verification_type names) new ≡ in_locals count (map (verification_type names) ks)
 with_tops names ks locals new count i le is seen =
-    let all : map (held names) locals ≡ spread (map (held names) ks) = seen ∙ ap (λ (l : List Kind). spread (map (held names) l)) (take_all i ks le) in
-    let long : length locals ≡ length (spread (map (held names) ks)) = sym (length-map locals (held names)) ∙ ap (λ (l : List Held). length l) all in
-    ap (map (held names)) is ∙ map-append (held names) locals (replicate (count - length locals) kinds.Top)
-    ∙ ap₂ (λ (a b : List Held). a ++ b) all (tops_held names (count - length locals) ∙ ap (λ (n : ℕ). replicate (count - n) top) long)
+    let all : map (verification_type names) locals ≡ spread (map (verification_type names) ks) = seen ∙ ap (λ (l : List Kind). spread (map (verification_type names) l)) (take_all i ks le) in
+    let long : length locals ≡ length (spread (map (verification_type names) ks)) = sym (length-map locals (verification_type names)) ∙ ap (λ (l : List VerificationType). length l) all in
+    ap (map (verification_type names)) is ∙ map-append (verification_type names) locals (replicate (count - length locals) kinds.Top)
+    ∙ ap₂ (λ (a b : List VerificationType). a ++ b) all (tops_held names (count - length locals) ∙ ap (λ (n : ℕ). replicate (count - n) top) long)

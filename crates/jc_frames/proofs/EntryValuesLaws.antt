@@ -7,18 +7,18 @@ use Rattle.jc_pool.specs.Pool.{PoolValue}
 use Rattle.jc_frames.specs.declared.method.Value.TheVariants as values
 use Rattle.jc_frames.specs.Running.{held_values}
 use Rattle.jc_frames.proofs.RunningLaws.{take_last}
-use Rattle.jc_methods.specs.Held.{Names, held, Held, top, int, float, double, long, null, uninit_this, object, uninit, is_pair}
+use Rattle.jc_methods.specs.VerificationTypes.{Names, verification_type, VerificationType, top, int, float, double, long, null, uninit_this, object, uninit, is_pair}
 use Rattle.jc_bytes.proofs.AppendingLaws.{drop_at}
 use Rattle.jc_methods.proofs.SeenLaws.{held_top}
 use Rattle.jc_frames.specs.Frames.{without_last_top, trimmed, values_from}
 
 -- `top` at the end goes
-pub trim_top : (xs : List Held) → trimmed (xs ++ top ∷ []) ≡ trimmed xs
+pub trim_top : (xs : List VerificationType) → trimmed (xs ++ top ∷ []) ≡ trimmed xs
 trim_top [] = refl
 trim_top (x ∷ xs) = ap (without_last_top x) (trim_top xs)
 
 -- any other value at the end stays
-pub trim_other : (xs : List Held) (h : Held) → (h ≡ top → ⊥) → trimmed (xs ++ h ∷ []) ≡ xs ++ h ∷ []
+pub trim_other : (xs : List VerificationType) (h : VerificationType) → (h ≡ top → ⊥) → trimmed (xs ++ h ∷ []) ≡ xs ++ h ∷ []
 trim_other [] top other = absurd (other refl)
 trim_other [] int other = refl
 trim_other [] float other = refl
@@ -30,7 +30,7 @@ trim_other [] (object name) other = refl
 trim_other [] (uninit at) other = refl
 trim_other (x ∷ xs) h other = ap (without_last_top x) (trim_other xs h other) ∙ kept x xs
   where
-    kept : (x : Held) (xs : List Held) → without_last_top x (xs ++ h ∷ []) ≡ x ∷ (xs ++ h ∷ [])
+    kept : (x : VerificationType) (xs : List VerificationType) → without_last_top x (xs ++ h ∷ []) ≡ x ∷ (xs ++ h ∷ [])
     kept top [] = refl
     kept top (y ∷ ys) = refl
     kept int ys = refl
@@ -45,29 +45,29 @@ trim_other (x ∷ xs) h other = ap (without_last_top x) (trim_other xs h other) 
 -- ---- from the last local variable on
 
 seen_last : (names : Names) (xs : List Kind) (end : ℕ) → 0 < end → end ≤ length xs
-    → map (held names) (take end xs) ≡ map (held names) (take (end - 1) xs) ++ held names (get_or xs (end - 1) kinds.Top) ∷ []
+    → map (verification_type names) (take end xs) ≡ map (verification_type names) (take (end - 1) xs) ++ verification_type names (get_or xs (end - 1) kinds.Top) ∷ []
 seen_last names xs end some within =
-    ap (map (held names)) (take_last xs end kinds.Top some within) ∙ map-append (held names) (take (end - 1) xs) (get_or xs (end - 1) kinds.Top ∷ [])
+    ap (map (verification_type names)) (take_last xs end kinds.Top some within) ∙ map-append (verification_type names) (take (end - 1) xs) (get_or xs (end - 1) kinds.Top ∷ [])
 
 pub shorter : (names : Names) (xs : List Kind) (end : ℕ) → 0 < end → end ≤ length xs → get_or xs (end - 1) kinds.Top ≡ kinds.Top
-    → trimmed (map (held names) (take end xs)) ≡ trimmed (map (held names) (take (end - 1) xs))
+    → trimmed (map (verification_type names) (take end xs)) ≡ trimmed (map (verification_type names) (take (end - 1) xs))
 shorter names xs end some within is =
     ap trimmed (seen_last names xs end some within)
-    ∙ ap (λ (h : Held). trimmed (map (held names) (take (end - 1) xs) ++ h ∷ [])) (ap (held names) is)
-    ∙ trim_top (map (held names) (take (end - 1) xs))
+    ∙ ap (λ (h : VerificationType). trimmed (map (verification_type names) (take (end - 1) xs) ++ h ∷ [])) (ap (verification_type names) is)
+    ∙ trim_top (map (verification_type names) (take (end - 1) xs))
 
 pub ended : (names : Names) (xs : List Kind) (end : ℕ) → 0 < end → end ≤ length xs → (get_or xs (end - 1) kinds.Top ≡ kinds.Top → ⊥)
-    → trimmed (map (held names) (take end xs)) ≡ map (held names) (take end xs)
+    → trimmed (map (verification_type names) (take end xs)) ≡ map (verification_type names) (take end xs)
 ended names xs end some within other =
     ap trimmed (seen_last names xs end some within)
-    ∙ trim_other (map (held names) (take (end - 1) xs)) (held names (get_or xs (end - 1) kinds.Top)) (λ e. other (held_top names (get_or xs (end - 1) kinds.Top) e))
+    ∙ trim_other (map (verification_type names) (take (end - 1) xs)) (verification_type names (get_or xs (end - 1) kinds.Top)) (λ e. other (held_top names (get_or xs (end - 1) kinds.Top) e))
     ∙ sym (seen_last names xs end some within)
 
 -- ---- from the first local variable on
 
 -- the values so far, and those that are in the rest
-abbrev pub listed_with : Names → List Kind → Bool → List Kind → List Held
-listed_with names ks skips rest = map (held names) ks ++ values_from skips (map (held names) rest)
+abbrev pub listed_with : Names → List Kind → Bool → List Kind → List VerificationType
+listed_with names ks skips rest = map (verification_type names) ks ++ values_from skips (map (verification_type names) rest)
 
 -- the second local variable of a value
 pub skipped : (names : Names) (ks xs : List Kind) (i : ℕ) → i < length xs
@@ -75,19 +75,19 @@ pub skipped : (names : Names) (ks xs : List Kind) (i : ℕ) → i < length xs
 skipped names ks xs i lt = ap (listed_with names ks true) (drop_at xs i kinds.Top lt)
 
 pub listed_one : (names : Names) (ks more xs : List Kind) (i : ℕ) (wide : Bool) → i < length xs
-    → more ≡ ks ++ get_or xs i kinds.Top ∷ [] → wide ≡ is_pair (held names (get_or xs i kinds.Top))
+    → more ≡ ks ++ get_or xs i kinds.Top ∷ [] → wide ≡ is_pair (verification_type names (get_or xs i kinds.Top))
     → listed_with names ks false (drop i xs) ≡ listed_with names more wide (drop (i + 1) xs)
 listed_one names ks more xs i wide lt is pair =
     let k = get_or xs i kinds.Top in
-    let rest = map (held names) (drop (i + 1) xs) in
+    let rest = map (verification_type names) (drop (i + 1) xs) in
     ap (listed_with names ks false) (drop_at xs i kinds.Top lt)
-    ∙ sym (append_assoc (map (held names) ks) (held names k ∷ []) (values_from (is_pair (held names k)) rest))
-    ∙ ap (λ (l : List Held). l ++ values_from (is_pair (held names k)) rest)
-    (sym (ap (map (held names)) is ∙ map-append (held names) ks (k ∷ [])))
-    ∙ ap (λ (b : Bool). map (held names) more ++ values_from b rest) (sym pair)
+    ∙ sym (append_assoc (map (verification_type names) ks) (verification_type names k ∷ []) (values_from (is_pair (verification_type names k)) rest))
+    ∙ ap (λ (l : List VerificationType). l ++ values_from (is_pair (verification_type names k)) rest)
+    (sym (ap (map (verification_type names)) is ∙ map-append (verification_type names) ks (k ∷ [])))
+    ∙ ap (λ (b : Bool). map (verification_type names) more ++ values_from b rest) (sym pair)
 
 -- ---- kinds as values
 
-pub values_wrapped : (pool : PoolValue) (names : Names) (ks : List Kind) → held_values pool names (map values.Of ks) ≡ map (held names) ks
+pub values_wrapped : (pool : PoolValue) (names : Names) (ks : List Kind) → held_values pool names (map values.Of ks) ≡ map (verification_type names) ks
 values_wrapped pool names [] = refl
-values_wrapped pool names (k ∷ ks) = ap (λ (l : List Held). held names k ∷ l) (values_wrapped pool names ks)
+values_wrapped pool names (k ∷ ks) = ap (λ (l : List VerificationType). verification_type names k ∷ l) (values_wrapped pool names ks)

@@ -3,7 +3,7 @@ use Rattle.std.proofs.Common.{◌≡◌, ◌⊎◌, inl, inr, ⊎_elim, ℕ, zer
 use Rattle.std.proofs.lemmas.Bool.{ltb-false, leb-false, le-ltb, lt-leb}
 use Rattle.std.proofs.lemmas.List.Elements.{Contains-append_left, Contains-append_right, Contains-append_cases}
 use Rattle.std.specs.List.{Contains}
-use Rattle.jc_methods.specs.Held.{Held, object, uninit, slots}
+use Rattle.jc_methods.specs.VerificationTypes.{VerificationType, object, uninit, slots}
 use Rattle.jc_methods.specs.Starts.{insn_number}
 use Rattle.jc_bytes.proofs.DecoderLaws.{some_is}
 use Rattle.jc_pool.specs.Lookup.{class_name_of}
@@ -26,7 +26,7 @@ map_none : {X Y : Type 0} (f : X → Y) (o : Option X) → option_map f o ≡ No
 map_none f None e = refl
 map_none f (Some x) e = absurd (none_some (sym e))
 
-if_none : (b : Bool) (h : Held) → (if b then Some h else None) ≡ None → b ≡ false
+if_none : (b : Bool) (h : VerificationType) → (if b then Some h else None) ≡ None → b ≡ false
 if_none true h e = absurd (none_some (sym e))
 if_none false h e = refl
 
@@ -58,18 +58,18 @@ list_names_nothing : (g : Ground) (items : List TypeItem) → types_of g items �
 list_names_nothing g [] e = absurd (none_some (sym e))
 list_names_nothing g (item ∷ items) e = by (λ j. list_names_nothing g items j) (type_of g item) (types_of g items) refl refl e
   where
-    by : (types_of g items ≡ None → SomeNothing g items) → (o : Option Held) (p : Option (List Held)) → type_of g item ≡ o → types_of g items ≡ p → in_front o p ≡ None → SomeNothing g (item ∷ items)
+    by : (types_of g items ≡ None → SomeNothing g items) → (o : Option VerificationType) (p : Option (List VerificationType)) → type_of g item ≡ o → types_of g items ≡ p → in_front o p ≡ None → SomeNothing g (item ∷ items)
     by more None p i j e = (item, (0, omega arith, refl), one_names_nothing g item i)
     by more (Some h) None i j e = let s = more j in (s.0, later item items s.0 s.1, s.2)
     by more (Some h) (Some hs) i j e = absurd (none_some (sym e))
 
-front_none : (o : Option Held) (p : Option (List Held)) → p ≡ None → in_front o p ≡ None
+front_none : (o : Option VerificationType) (p : Option (List VerificationType)) → p ≡ None → in_front o p ≡ None
 front_none None p e = refl
 front_none (Some h) p e = ap (in_front (Some h)) e
 
 nothing_in_list : (g : Ground) (items : List TypeItem) (item : TypeItem) (k : ℕ) → k < length items → get_or items k item ≡ item → NamesNothing g item → types_of g items ≡ None
 nothing_in_list g [] item k lt e n = absurd (omega (arith, lt))
-nothing_in_list g (x ∷ items) item zero lt e n = ap (λ (o : Option Held). in_front o (types_of g items)) (ap (type_of g) e ∙ nothing_is_none g item n)
+nothing_in_list g (x ∷ items) item zero lt e n = ap (λ (o : Option VerificationType). in_front o (types_of g items)) (ap (type_of g) e ∙ nothing_is_none g item n)
 nothing_in_list g (x ∷ items) item (suc k) lt e n = front_none (type_of g x) (types_of g items) (nothing_in_list g items item k (omega (arith, lt)) e n)
 
 some_is_none : (g : Ground) (items : List TypeItem) → SomeNothing g items → types_of g items ≡ None
@@ -99,7 +99,7 @@ no_stack : (g : Ground) (before : Before) (item : FrameItem) → stack_of g item
 no_stack g before (frames.Same delta) e = absurd (none_some (sym e))
 no_stack g before (frames.OneItem delta item) e = by (type_of g item) refl e
   where
-    by : (o : Option Held) → type_of g item ≡ o → in_front o (Some []) ≡ None → FrameFault g before (frames.OneItem delta item)
+    by : (o : Option VerificationType) → type_of g item ≡ o → in_front o (Some []) ≡ None → FrameFault g before (frames.OneItem delta item)
     by None i e = fault_of g before (frames.OneItem delta item) (item, (0, omega arith, refl), one_names_nothing g item i)
     by (Some h) i e = absurd (none_some (sym e))
 no_stack g before (frames.Chop delta count) e = absurd (none_some (sym e))
@@ -113,28 +113,28 @@ pub says_nothing : (g : Ground) (before : Before) (item : FrameItem) → frame_o
 unfolding frame_of
 says_nothing g before item e = by (values_of g before item) (stack_of g item) refl refl e
   where
-    tests : (values stack : List Held) (a b c : Bool) → values_of g before item ≡ Some values → stack_of g item ≡ Some stack → is_start g (offset_of before item) ≡ a → nat_le (slots values) g.max_locals ≡ b → nat_le (slots stack) g.max_stack ≡ c
+    tests : (values stack : List VerificationType) (a b c : Bool) → values_of g before item ≡ Some values → stack_of g item ≡ Some stack → is_start g (offset_of before item) ≡ a → nat_le (slots values) g.max_locals ≡ b → nat_le (slots stack) g.max_stack ≡ c
         → (if a && (b && c) then Some (found g (offset_of before item) values stack) else None) ≡ None → FrameFault g before item
     tests values stack false b c i j ea eb ec e = astray (ltb-false _ _ ea)
     tests values stack true false c i j ea eb ec e = too_many_locals values i (leb-false _ _ eb)
     tests values stack true true false i j ea eb ec e = too_much_stack stack j (leb-false _ _ ec)
     tests values stack true true true i j ea eb ec e = absurd (none_some (sym e))
 
-    by : (o p : Option (List Held)) → values_of g before item ≡ o → stack_of g item ≡ p → found_if g (offset_of before item) o p ≡ None → FrameFault g before item
+    by : (o p : Option (List VerificationType)) → values_of g before item ≡ o → stack_of g item ≡ p → found_if g (offset_of before item) o p ≡ None → FrameFault g before item
     by None p i j e = no_values g before item i
     by (Some values) None i j e = no_stack g before item j
     by (Some values) (Some stack) i j e = tests values stack (is_start g (offset_of before item)) (nat_le (slots values) g.max_locals) (nat_le (slots stack) g.max_stack) i j refl refl refl e
 
 -- ---- and one with a fault says nothing
 
-pub no_first : (g : Ground) (offset : ℕ) (o p : Option (List Held)) → o ≡ None → found_if g offset o p ≡ None
-no_first g offset o p e = ap (λ (x : Option (List Held)). found_if g offset x p) e
+pub no_first : (g : Ground) (offset : ℕ) (o p : Option (List VerificationType)) → o ≡ None → found_if g offset o p ≡ None
+no_first g offset o p e = ap (λ (x : Option (List VerificationType)). found_if g offset x p) e
 
-pub no_second : (g : Ground) (offset : ℕ) (o p : Option (List Held)) → p ≡ None → found_if g offset o p ≡ None
+pub no_second : (g : Ground) (offset : ℕ) (o p : Option (List VerificationType)) → p ≡ None → found_if g offset o p ≡ None
 no_second g offset None p e = refl
 no_second g offset (Some values) p e = ap (found_if g offset (Some values)) e
 
-refused : (g : Ground) (offset : ℕ) (o p : Option (List Held)) → ((values stack : List Held) → o ≡ Some values → p ≡ Some stack → (is_start g offset && fits_slots g values stack) ≡ false) → found_if g offset o p ≡ None
+refused : (g : Ground) (offset : ℕ) (o p : Option (List VerificationType)) → ((values stack : List VerificationType) → o ≡ Some values → p ≡ Some stack → (is_start g offset && fits_slots g values stack) ≡ false) → found_if g offset o p ≡ None
 refused g offset None p test = refl
 refused g offset (Some values) None test = refl
 refused g offset (Some values) (Some stack) test = ap (λ (b : Bool). if b then Some (found g offset values stack) else None) (test values stack refl refl)
@@ -145,7 +145,7 @@ and_right false b e = refl
 
 item_nothing : (g : Ground) (before : Before) (item : FrameItem) → SomeNothing g (items_of item) → found_if g (offset_of before item) (values_of g before item) (stack_of g item) ≡ None
 item_nothing g before (frames.Same delta) s = absurd (omega (arith, s.1.1))
-item_nothing g before (frames.OneItem delta item) s = no_second g (offset_of before (frames.OneItem delta item)) (Some before.values) (in_front (type_of g item) (Some [])) (ap (λ (o : Option Held). in_front o (Some [])) (one s.1.0 s.1.1 s.1.2))
+item_nothing g before (frames.OneItem delta item) s = no_second g (offset_of before (frames.OneItem delta item)) (Some before.values) (in_front (type_of g item) (Some [])) (ap (λ (o : Option VerificationType). in_front o (Some [])) (one s.1.0 s.1.1 s.1.2))
   where
     one : (k : ℕ) → k < length (item ∷ []) → get_or (item ∷ []) k s.0 ≡ s.0 → type_of g item ≡ None
     one zero lt e = ap (type_of g) e ∙ nothing_is_none g s.0 s.2
@@ -174,9 +174,9 @@ fault_says_nothing g before item (too_many_locals values is lt) =
     refused g (offset_of before item) (values_of g before item) (stack_of g item) (λ vs stack i j.
     let same : values ≡ vs = some_is values vs (sym is ∙ i) in
     and_right (is_start g (offset_of before item)) (fits_slots g vs stack)
-    (ap (λ (b : Bool). b && nat_le (slots stack) g.max_stack) (lt-leb (slots vs) g.max_locals (subst (λ (l : List Held). g.max_locals < slots l) same lt))))
+    (ap (λ (b : Bool). b && nat_le (slots stack) g.max_stack) (lt-leb (slots vs) g.max_locals (subst (λ (l : List VerificationType). g.max_locals < slots l) same lt))))
 fault_says_nothing g before item (too_much_stack stack is lt) =
     refused g (offset_of before item) (values_of g before item) (stack_of g item) (λ vs ss i j.
     let same : stack ≡ ss = some_is stack ss (sym is ∙ j) in
     and_right (is_start g (offset_of before item)) (fits_slots g vs ss)
-    (and_right (nat_le (slots vs) g.max_locals) (nat_le (slots ss) g.max_stack) (lt-leb (slots ss) g.max_stack (subst (λ (l : List Held). g.max_stack < slots l) same lt))))
+    (and_right (nat_le (slots vs) g.max_locals) (nat_le (slots ss) g.max_stack) (lt-leb (slots ss) g.max_stack (subst (λ (l : List VerificationType). g.max_stack < slots l) same lt))))

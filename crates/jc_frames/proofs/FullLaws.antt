@@ -8,7 +8,7 @@ use Rattle.jc_bytes.specs.Decoder.{IsBig}
 use Rattle.jc_bytes.specs.Grammar.{times}
 use Rattle.jc_bytes.proofs.AppendingLaws.{big_spells}
 use Rattle.jc_methods.specs.Starts.{insn_number}
-use Rattle.jc_methods.specs.Held.{Held, top, int, float, double, long, null, uninit_this, object, uninit, SeenAt, slots}
+use Rattle.jc_methods.specs.VerificationTypes.{VerificationType, top, int, float, double, long, null, uninit_this, object, uninit, TypeStateAt, slots}
 use Rattle.jc_methods.specs.EntryState.{in_locals}
 use Rattle.jc_frames.specs.declared.items.TypeItem.{TypeItem}
 use Rattle.jc_frames.specs.declared.items.TypeItem.TheVariants as types
@@ -22,7 +22,7 @@ use Rattle.jc_frames.proofs.ValuesLaws.{values_back, few_slots, values_few, trim
 
 -- ---- types
 
-abbrev pub item_of : Places → Held → TypeItem
+abbrev pub item_of : Places → VerificationType → TypeItem
 item_of p top = types.Top
 item_of p int = types.Int
 item_of p float = types.Float
@@ -44,7 +44,7 @@ tag_spells tag few = record { size = refl; value = one tag }
     one x = omega arith
 
 module _ (g : Ground) (p : Places) where
-  type_spelled : (h : Held) → HasPlaces g p h → type_item.Text (type_text p h) (item_of p h)
+  type_spelled : (h : VerificationType) → HasPlaces g p h → type_item.Text (type_text p h) (item_of p h)
   unfolding type_item
   type_spelled top has = (0, 0 ∷ [], [], refl, tag_spells 0 (omega arith), (refl, refl))
   type_spelled int has = (1, 1 ∷ [], [], refl, tag_spells 1 (omega arith), (refl, refl))
@@ -56,7 +56,7 @@ module _ (g : Ground) (p : Places) where
   type_spelled (object name) has = (7, 7 ∷ [], short (p.class name), refl, tag_spells 7 (omega arith), (p.class name, short (p.class name), [], sym (append-nil (short (p.class name))), short_spells (p.class name) has.0, (refl, refl)))
   type_spelled (uninit at) has = (8, 8 ∷ [], short (p.start at), refl, tag_spells 8 (omega arith), (p.start at, short (p.start at), [], sym (append-nil (short (p.start at))), short_spells (p.start at) has.0.few, (refl, refl)))
 
-  times_spelled : (hs : List Held) → AllByRecursion (HasPlaces g p) hs → (times (length hs) type_item).Text (flat_map (type_text p) hs) (map (item_of p) hs)
+  times_spelled : (hs : List VerificationType) → AllByRecursion (HasPlaces g p) hs → (times (length hs) type_item).Text (flat_map (type_text p) hs) (map (item_of p) hs)
   times_spelled [] all = (refl, refl)
   times_spelled (h ∷ hs) all = (
     item_of p h,
@@ -67,10 +67,10 @@ module _ (g : Ground) (p : Places) where
     (map (item_of p) hs, flat_map (type_text p) hs, [], sym (append-nil (flat_map (type_text p) hs)), times_spelled hs all.1, (refl, refl)),
   )
 
-  types_spelled : (hs : List Held) → length hs < 65536 → AllByRecursion (HasPlaces g p) hs → (counted type_item).Text (types_text p hs) (map (item_of p) hs)
+  types_spelled : (hs : List VerificationType) → length hs < 65536 → AllByRecursion (HasPlaces g p) hs → (counted type_item).Text (types_text p hs) (map (item_of p) hs)
   types_spelled hs few all = (length hs, short (length hs), flat_map (type_text p) hs, refl, short_spells (length hs) few, times_spelled hs all)
 
-  type_says : (h : Held) → HasPlaces g p h → type_of g (item_of p h) ≡ Some h
+  type_says : (h : VerificationType) → HasPlaces g p h → type_of g (item_of p h) ≡ Some h
   type_says top has = refl
   type_says int has = refl
   type_says float has = refl
@@ -83,16 +83,16 @@ module _ (g : Ground) (p : Places) where
       ap (λ (k : ℕ). if is_new (slice_get g.code k) then Some (uninit k) else None) has.0.number
       ∙ ap (λ (b : Bool). if b then Some (uninit at) else None) has.1
 
-  types_say : (hs : List Held) → AllByRecursion (HasPlaces g p) hs → types_of g (map (item_of p) hs) ≡ Some hs
+  types_say : (hs : List VerificationType) → AllByRecursion (HasPlaces g p) hs → types_of g (map (item_of p) hs) ≡ Some hs
   types_say [] all = refl
   types_say (h ∷ hs) all = ap₂ (λ o q. in_front o q) (type_says h all.0) (types_say hs all.1)
 
   -- ---- frames
 
-  abbrev pub full_item : ℕ → SeenAt → FrameItem
+  abbrev pub full_item : ℕ → TypeStateAt → FrameItem
   full_item base f = frames.Full (p.start f.at - base) (map (item_of p) (values_in f.state.locals)) (map (item_of p) f.state.stack)
 
-  full_spelled : (base : ℕ) (f : SeenAt) → IsWritable g p f → frame_item.Text (full_text p base f) (full_item base f)
+  full_spelled : (base : ℕ) (f : TypeStateAt) → IsWritable g p f → frame_item.Text (full_text p base f) (full_item base f)
   unfolding frame_item
   full_spelled base f w =
       let delta = p.start f.at - base in
@@ -124,7 +124,7 @@ module _ (g : Ground) (p : Places) where
         ),
       )
 
-  pub says_full : (before : Before) (f : SeenAt) → before.base ≤ p.start f.at → IsWritable g p f
+  pub says_full : (before : Before) (f : TypeStateAt) → before.base ≤ p.start f.at → IsWritable g p f
       → frame_of g before (full_item before.base f) ≡ Some (record { frame = f; next = record { base = p.start f.at + 1; values = values_in f.state.locals } })
   unfolding frame_of
   says_full before f le w =
@@ -133,7 +133,7 @@ module _ (g : Ground) (p : Places) where
       ap (λ (k : ℕ). found_if g k (types_of g (map (item_of p) values)) (types_of g (map (item_of p) f.state.stack))) offset
       ∙ ap₂ (λ o q. found_if g (p.start f.at) o q) (types_say values w.local_places) (types_say f.state.stack w.stack_places)
       ∙ ap (λ (b : Bool). if b then Some (found g (p.start f.at) values f.state.stack) else None) tests
-      ∙ ap₂ (λ (at : ℕ) (locals : List Held). Some (record { frame = record { at = at; state = record { locals = locals; stack = f.state.stack } }; next = record { base = p.start f.at + 1; values = values } })) w.starts.number locals
+      ∙ ap₂ (λ (at : ℕ) (locals : List VerificationType). Some (record { frame = record { at = at; state = record { locals = locals; stack = f.state.stack } }; next = record { base = p.start f.at + 1; values = values } })) w.starts.number locals
     where
       locals : in_locals g.max_locals (values_in f.state.locals) ≡ f.state.locals
       locals = ap (λ (n : ℕ). in_locals n (values_in f.state.locals)) (sym w.locals) ∙ values_back f.state.locals w.paired
@@ -147,7 +147,7 @@ module _ (g : Ground) (p : Places) where
       tests : (is_start g (p.start f.at) && fits_slots g (values_in f.state.locals) f.state.stack) ≡ true
       tests = rw (begins, room, le-leb (slots f.state.stack) g.max_stack w.stack) refl
 
-  each_full : (before : Before) (frames : List SeenAt) → AreRising p before.base frames → AllByRecursion (IsWritable g p) frames → AreFrames g before (length frames) (full_texts p before.base frames) frames
+  each_full : (before : Before) (frames : List TypeStateAt) → AreRising p before.base frames → AllByRecursion (IsWritable g p) frames → AreFrames g before (length frames) (full_texts p before.base frames) frames
   each_full before [] rising each = (refl, refl)
   each_full before (f ∷ frames) rising each =
       let next : Before = record { base = p.start f.at + 1; values = values_in f.state.locals } in (

@@ -4,7 +4,7 @@ use Rattle.std.proofs.lemmas.List.{append-nil, drop_all}
 use Rattle.std.specs.List.{AllByRecursion, flat_map}
 use Rattle.jc_bytes.proofs.AppendingLaws.{drop_at, drop_is, joined}
 use Rattle.jc_methods.specs.FrameOrder.{RiseFrom}
-use Rattle.jc_methods.specs.Held.{Names, Held, held, seen_at}
+use Rattle.jc_methods.specs.VerificationTypes.{Names, VerificationType, verification_type, type_state_at}
 use Rattle.jc_methods.specs.declared.body.FrameAt.{FrameAt}
 use Rattle.jc_methods.specs.declared.kind.Kind.{Kind}
 use Rattle.jc_frames.specs.FullFrames.{Places, full_text, full_texts}
@@ -24,34 +24,34 @@ full_parts old a b c d s u v p q r t = joined old a d (255 ∷ []) (s ++ (u ++ v
 -- ---- in a loop
 
 -- the text of the items that are left completes the text of all of them
-pub kinds_more : (T : Held → List ℕ) (names : Names) (ks : List Kind) (i : ℕ) (d : Kind) (whole now next : List ℕ) → i < length ks
-    → next ≡ now ++ T (held names (get_or ks i d)) → now ++ flat_map T (map (held names) (drop i ks)) ≡ whole
-    → next ++ flat_map T (map (held names) (drop (i + 1) ks)) ≡ whole
+pub kinds_more : (T : VerificationType → List ℕ) (names : Names) (ks : List Kind) (i : ℕ) (d : Kind) (whole now next : List ℕ) → i < length ks
+    → next ≡ now ++ T (verification_type names (get_or ks i d)) → now ++ flat_map T (map (verification_type names) (drop i ks)) ≡ whole
+    → next ++ flat_map T (map (verification_type names) (drop (i + 1) ks)) ≡ whole
 kinds_more T names ks i d whole now next lt is before =
-    let rest = flat_map T (map (held names) (drop (i + 1) ks)) in
-    let h = held names (get_or ks i d) in
+    let rest = flat_map T (map (verification_type names) (drop (i + 1) ks)) in
+    let h = verification_type names (get_or ks i d) in
     ap (λ (l : List ℕ). l ++ rest) is ∙ append_assoc now (T h) rest
-    ∙ ap (λ (l : List Kind). now ++ flat_map T (map (held names) l)) (sym (drop_at ks i d lt)) ∙ before
+    ∙ ap (λ (l : List Kind). now ++ flat_map T (map (verification_type names) l)) (sym (drop_at ks i d lt)) ∙ before
 
-pub kinds_written : (T : Held → List ℕ) (names : Names) (ks : List Kind) (i : ℕ) (whole now : List ℕ) → length ks ≤ i
-    → now ++ flat_map T (map (held names) (drop i ks)) ≡ whole → now ≡ whole
+pub kinds_written : (T : VerificationType → List ℕ) (names : Names) (ks : List Kind) (i : ℕ) (whole now : List ℕ) → length ks ≤ i
+    → now ++ flat_map T (map (verification_type names) (drop i ks)) ≡ whole → now ≡ whole
 kinds_written T names ks i whole now le before =
-    sym (append-nil now) ∙ ap (λ (l : List Kind). now ++ flat_map T (map (held names) l)) (sym (drop_all i ks le)) ∙ before
+    sym (append-nil now) ∙ ap (λ (l : List Kind). now ++ flat_map T (map (verification_type names) l)) (sym (drop_all i ks le)) ∙ before
 
 pub frames_more : (p : Places) (names : Names) (fs : List FrameAt) (i base next_base : ℕ) (f : FrameAt) (whole now next : List ℕ) → i < length fs → f ≡ get_or fs i f
-    → next_base ≡ p.start f.at + 1 → next ≡ now ++ full_text p base (seen_at names f) → now ++ full_texts p base (map (seen_at names) (drop i fs)) ≡ whole
-    → next ++ full_texts p next_base (map (seen_at names) (drop (i + 1) fs)) ≡ whole
+    → next_base ≡ p.start f.at + 1 → next ≡ now ++ full_text p base (type_state_at names f) → now ++ full_texts p base (map (type_state_at names) (drop i fs)) ≡ whole
+    → next ++ full_texts p next_base (map (type_state_at names) (drop (i + 1) fs)) ≡ whole
 frames_more p names fs i base next_base f whole now next lt there after is before =
-    let rest = map (seen_at names) (drop (i + 1) fs) in
+    let rest = map (type_state_at names) (drop (i + 1) fs) in
     ap (λ (n : ℕ). next ++ full_texts p n rest) after
     ∙ ap (λ (l : List ℕ). l ++ full_texts p (p.start f.at + 1) rest) is
-    ∙ append_assoc now (full_text p base (seen_at names f)) (full_texts p (p.start f.at + 1) rest)
-    ∙ ap (λ (l : List FrameAt). now ++ full_texts p base (map (seen_at names) l)) (sym (drop_is fs i f lt there)) ∙ before
+    ∙ append_assoc now (full_text p base (type_state_at names f)) (full_texts p (p.start f.at + 1) rest)
+    ∙ ap (λ (l : List FrameAt). now ++ full_texts p base (map (type_state_at names) l)) (sym (drop_is fs i f lt there)) ∙ before
 
 pub frames_written : (p : Places) (names : Names) (fs : List FrameAt) (i base : ℕ) (whole now : List ℕ) → length fs ≤ i
-    → now ++ full_texts p base (map (seen_at names) (drop i fs)) ≡ whole → now ≡ whole
+    → now ++ full_texts p base (map (type_state_at names) (drop i fs)) ≡ whole → now ≡ whole
 frames_written p names fs i base whole now le before =
-    sym (append-nil now) ∙ ap (λ (l : List FrameAt). now ++ full_texts p base (map (seen_at names) l)) (sym (drop_all i fs le)) ∙ before
+    sym (append-nil now) ∙ ap (λ (l : List FrameAt). now ++ full_texts p base (map (type_state_at names) l)) (sym (drop_all i fs le)) ∙ before
 
 -- ---- offsets that rise
 

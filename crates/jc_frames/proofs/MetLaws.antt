@@ -11,7 +11,7 @@ use Rattle.jc_methods.specs.declared.body.FrameAt.{FrameAt}
 use Rattle.jc_methods.specs.declared.kind.Kind.{Kind}
 use Rattle.jc_methods.specs.declared.kind.Kind.TheVariants as kinds
 use Rattle.jc_methods.specs.EntryState.{spread_one, spread, in_locals}
-use Rattle.jc_methods.specs.Held.{Names, Held, SeenAt, top, int, float, double, long, null, uninit_this, object, uninit, held, seen_at, class_name, class_names, Grows, IsNumbered, AreNumberedFrames}
+use Rattle.jc_methods.specs.VerificationTypes.{Names, VerificationType, TypeStateAt, top, int, float, double, long, null, uninit_this, object, uninit, verification_type, type_state_at, class_name, class_names, Grows, IsNumbered, AreNumberedFrames}
 use Rattle.jc_bytes.specs.Names.{with_name, met}
 use Rattle.jc_methods.proofs.MetNamesLaws.{met_more}
 use Rattle.jc_methods.proofs.SeenLaws.{frames_stay, kinds_stay}
@@ -45,7 +45,7 @@ number_there (x ∷ names) zero lt = refl
 number_there (x ∷ names) (suc n) lt = number_there names n (omega (arith, lt))
 
 -- a numbered kind adds no name
-pub none_met : (names : Names) (k : Kind) → IsNumbered (length names) k → met names (class_name (held names k)) ≡ names
+pub none_met : (names : Names) (k : Kind) → IsNumbered (length names) k → met names (class_name (verification_type names k)) ≡ names
 none_met names (kinds.Object n) lt = known_name names n (get_or names n []) (number_there names n lt)
 none_met names kinds.Top lt = refl
 none_met names kinds.Int lt = refl
@@ -58,18 +58,18 @@ none_met names (kinds.Uninit at) lt = refl
 
 -- ---- more names change no value
 
-list_head : (x y : Held) (xs ys : List Held) → x ∷ xs ≡ y ∷ ys → x ≡ y
+list_head : (x y : VerificationType) (xs ys : List VerificationType) → x ∷ xs ≡ y ∷ ys → x ≡ y
 list_head x y xs ys e = cc
 
 value_stays : (pool : PoolValue) (a b : Names) → Grows a b → (v : Value) → IsNumberedValue (length a) v → held_value pool b v ≡ held_value pool a v
 value_stays pool a b g (values.Of k) n =
-    list_head (held b k) (held a k) [] [] (ap (λ (l : Names). map (held l) (k ∷ [])) g.1 ∙ kinds_stay a g.0 (k ∷ []) (n, tt))
+    list_head (verification_type b k) (verification_type a k) [] [] (ap (λ (l : Names). map (verification_type l) (k ∷ [])) g.1 ∙ kinds_stay a g.0 (k ∷ []) (n, tt))
 value_stays pool a b g (values.ClassAt place) n = refl
 
 pub values_stay : (pool : PoolValue) (a b : Names) → Grows a b → (vs : List Value) → All (IsNumberedValue (length a)) vs → held_values pool b vs ≡ held_values pool a vs
 values_stay pool a b g [] all = refl
 values_stay pool a b g (v ∷ vs) all =
-    ap₂ (λ (h : Held) (hs : List Held). h ∷ hs) (value_stays pool a b g v (all 0 v (omega arith))) (values_stay pool a b g vs (λ k d lt. all (suc k) d (omega (arith, lt))))
+    ap₂ (λ (h : VerificationType) (hs : List VerificationType). h ∷ hs) (value_stays pool a b g v (all 0 v (omega arith))) (values_stay pool a b g vs (λ k d lt. all (suc k) d (omega (arith, lt))))
 
 pub one_more_met : (pool : PoolValue) (old mid new : Names) (vs : List Value) (i : ℕ) (d : Value) → i < length vs → Grows mid new → All (IsNumberedValue (length mid)) (take i vs)
     → mid ≡ met old (class_names (held_values pool mid (take i vs))) → new ≡ met mid (class_name (held_value pool new (get_or vs i d)))
@@ -78,15 +78,15 @@ one_more_met pool old mid new vs i d lt g all before this =
     let v = get_or vs i d in
     let given = held_values pool new (take i vs) in
     this
-    ∙ ap (λ (l : Names). met l (class_name (held_value pool new v))) (before ∙ ap (λ (hs : List Held). met old (class_names hs)) (sym (values_stay pool mid new g (take i vs) all)))
+    ∙ ap (λ (l : Names). met l (class_name (held_value pool new v))) (before ∙ ap (λ (hs : List VerificationType). met old (class_names hs)) (sym (values_stay pool mid new g (take i vs) all)))
     ∙ sym (met_more old (class_names given) (class_name (held_value pool new v)))
     ∙ ap (met old) (ap (λ (l : Names). class_names given ++ l) (sym (append-nil (class_name (held_value pool new v))))
     ∙ sym (flat_map-append class_name given (held_value pool new v ∷ [])))
-    ∙ ap (λ (hs : List Held). met old (class_names hs)) (sym (ap (held_values pool new) (take_more vs i d lt) ∙ map-append (held_value pool new) (take i vs) (v ∷ [])))
+    ∙ ap (λ (hs : List VerificationType). met old (class_names hs)) (sym (ap (held_values pool new) (take_more vs i d lt) ∙ map-append (held_value pool new) (take i vs) (v ∷ [])))
 
 -- ---- the names of a frame
 
-one_in_slots : (h : Held) → class_names (spread_one h) ≡ class_name h
+one_in_slots : (h : VerificationType) → class_names (spread_one h) ≡ class_name h
 one_in_slots top = refl
 one_in_slots int = refl
 one_in_slots float = refl
@@ -97,7 +97,7 @@ one_in_slots uninit_this = refl
 one_in_slots (object name) = refl
 one_in_slots (uninit at) = refl
 
-all_in_slots : (hs : List Held) → class_names (spread hs) ≡ class_names hs
+all_in_slots : (hs : List VerificationType) → class_names (spread hs) ≡ class_names hs
 all_in_slots [] = refl
 all_in_slots (h ∷ hs) = flat_map-append class_name (spread_one h) (spread hs) ∙ ap₂ (λ (a b : Names). a ++ b) (one_in_slots h) (all_in_slots hs)
 
@@ -106,7 +106,7 @@ tops_named zero = refl
 tops_named (suc n) = tops_named n
 
 -- the names are those of the values
-pub names_in_locals : (count : ℕ) (hs : List Held) → class_names (in_locals count hs) ≡ class_names hs
+pub names_in_locals : (count : ℕ) (hs : List VerificationType) → class_names (in_locals count hs) ≡ class_names hs
 names_in_locals count hs =
     let rest = count - length (spread hs) in
     flat_map-append class_name (spread hs) (replicate rest top)
@@ -118,23 +118,23 @@ pub frame_met : (g : Ground) (old mid new : Names) (running : Running) (frame : 
 frame_met g old mid new running frame grows all locals stack =
     stack
     ∙ ap (λ (l : Names). met l (class_names (held_values g.pool new frame.stack.items)))
-    (locals ∙ ap (λ (hs : List Held). met old (class_names hs)) (sym (values_stay g.pool mid new grows running.values.items all)))
+    (locals ∙ ap (λ (hs : List VerificationType). met old (class_names hs)) (sym (values_stay g.pool mid new grows running.values.items all)))
     ∙ sym (met_more old (class_names (held_values g.pool new running.values.items)) (class_names (held_values g.pool new frame.stack.items)))
     ∙ ap (λ (l : Names). met old (l ++ class_names (held_values g.pool new frame.stack.items))) (sym (names_in_locals g.max_locals (held_values g.pool new running.values.items)))
 
 -- ---- the names of all frames
 
 pub frames_met : (old mid new : Names) (frames pushed : List FrameAt) (built : FrameAt) → Grows mid new → AreNumberedFrames (length mid) frames
-    → pushed ≡ frames ++ built ∷ [] → mid ≡ met old (frame_names (map (seen_at mid) frames)) → new ≡ met mid (seen_names (seen_at new built).state)
-    → new ≡ met old (frame_names (map (seen_at new) pushed))
+    → pushed ≡ frames ++ built ∷ [] → mid ≡ met old (frame_names (map (type_state_at mid) frames)) → new ≡ met mid (seen_names (type_state_at new built).state)
+    → new ≡ met old (frame_names (map (type_state_at new) pushed))
 frames_met old mid new frames pushed built grows all is before this =
-    let last = seen_names (seen_at new built).state in
-    let stay : map (seen_at new) frames ≡ map (seen_at mid) frames = ap (λ (l : Names). map (seen_at l) frames) grows.1 ∙ frames_stay mid grows.0 frames all in
-    this ∙ ap (λ (l : Names). met l last) (before ∙ ap (λ (fs : List SeenAt). met old (frame_names fs)) (sym stay))
-    ∙ sym (met_more old (frame_names (map (seen_at new) frames)) last)
-    ∙ ap (met old) (ap (λ (l : Names). frame_names (map (seen_at new) frames) ++ l) (sym (append-nil last))
-    ∙ sym (flat_map-append (λ (f : SeenAt). seen_names f.state) (map (seen_at new) frames) (seen_at new built ∷ [])))
-    ∙ ap (λ (fs : List SeenAt). met old (frame_names fs)) (sym (ap (map (seen_at new)) is ∙ map-append (seen_at new) frames (built ∷ [])))
+    let last = seen_names (type_state_at new built).state in
+    let stay : map (type_state_at new) frames ≡ map (type_state_at mid) frames = ap (λ (l : Names). map (type_state_at l) frames) grows.1 ∙ frames_stay mid grows.0 frames all in
+    this ∙ ap (λ (l : Names). met l last) (before ∙ ap (λ (fs : List TypeStateAt). met old (frame_names fs)) (sym stay))
+    ∙ sym (met_more old (frame_names (map (type_state_at new) frames)) last)
+    ∙ ap (met old) (ap (λ (l : Names). frame_names (map (type_state_at new) frames) ++ l) (sym (append-nil last))
+    ∙ sym (flat_map-append (λ (f : TypeStateAt). seen_names f.state) (map (type_state_at new) frames) (type_state_at new built ∷ [])))
+    ∙ ap (λ (fs : List TypeStateAt). met old (frame_names fs)) (sym (ap (map (type_state_at new)) is ∙ map-append (type_state_at new) frames (built ∷ [])))
 
 -- ---- numbers that are known
 

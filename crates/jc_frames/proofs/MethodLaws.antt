@@ -1,7 +1,7 @@
 -- Offsets of a method's instructions, and the types that frames list.
 use Rattle.std.proofs.Common.{◌≡◌, ℕ, ◌+◌, ◌-◌, ◌<◌, List, [], ◌∷◌, ◌++◌, get_or, All, Option, Some, None, option_map, refl, sym, ◌∙◌, ap, arith, append_assoc}
 use Rattle.std.proofs.lemmas.List.{get_or_default, append-nil}
-use Rattle.jc_methods.specs.Held.{Held}
+use Rattle.jc_methods.specs.VerificationTypes.{VerificationType}
 use Rattle.jc_frames.specs.declared.items.TypeItem.{TypeItem}
 use Rattle.jc_frames.specs.Frames.{Ground, type_of, in_front, types_of}
 use Rattle.jc_frames.specs.WellMade.{AreOffsets}
@@ -19,22 +19,22 @@ all_within insns size starts o is k d lt =
 
 -- ---- types, one by one
 
-abbrev pub behind : List Held → Option (List Held) → Option (List Held)
+abbrev pub behind : List VerificationType → Option (List VerificationType) → Option (List VerificationType)
 behind hs o = option_map (λ more. hs ++ more) o
 
-pub one_typed : (g : Ground) (hs : List Held) (items rest : List TypeItem) (item : TypeItem) (h : Held) → items ≡ item ∷ rest → type_of g item ≡ Some h
+pub one_typed : (g : Ground) (hs : List VerificationType) (items rest : List TypeItem) (item : TypeItem) (h : VerificationType) → items ≡ item ∷ rest → type_of g item ≡ Some h
     → behind hs (types_of g items) ≡ behind (hs ++ h ∷ []) (types_of g rest)
 one_typed g hs items rest item h is says =
-    ap (λ (l : List TypeItem). behind hs (types_of g l)) is ∙ ap (λ (o : Option Held). behind hs (in_front o (types_of g rest))) says ∙ by (types_of g rest)
+    ap (λ (l : List TypeItem). behind hs (types_of g l)) is ∙ ap (λ (o : Option VerificationType). behind hs (in_front o (types_of g rest))) says ∙ by (types_of g rest)
   where
-    by : (o : Option (List Held)) → behind hs (in_front (Some h) o) ≡ behind (hs ++ h ∷ []) o
+    by : (o : Option (List VerificationType)) → behind hs (in_front (Some h) o) ≡ behind (hs ++ h ∷ []) o
     by (Some more) = ap Some (sym (append_assoc hs (h ∷ []) more))
     by None = refl
 
-pub none_typed : (g : Ground) (hs : List Held) (items rest : List TypeItem) (item : TypeItem) → items ≡ item ∷ rest → type_of g item ≡ None
+pub none_typed : (g : Ground) (hs : List VerificationType) (items rest : List TypeItem) (item : TypeItem) → items ≡ item ∷ rest → type_of g item ≡ None
     → behind hs (types_of g items) ≡ None
 none_typed g hs items rest item is none =
-    ap (λ (l : List TypeItem). behind hs (types_of g l)) is ∙ ap (λ (o : Option Held). behind hs (in_front o (types_of g rest))) none
+    ap (λ (l : List TypeItem). behind hs (types_of g l)) is ∙ ap (λ (o : Option VerificationType). behind hs (in_front o (types_of g rest))) none
 
-pub all_typed : (g : Ground) (hs : List Held) (items : List TypeItem) → items ≡ [] → behind hs (types_of g items) ≡ Some hs
+pub all_typed : (g : Ground) (hs : List VerificationType) (items : List TypeItem) → items ≡ [] → behind hs (types_of g items) ≡ Some hs
 all_typed g hs items is = ap (λ (l : List TypeItem). behind hs (types_of g l)) is ∙ ap Some (append-nil hs)

@@ -1,7 +1,7 @@
 -- A pool takes classes or is full at one of them, and in one way.
 use Rattle.std.proofs.Common.{◌≡◌, ◌⊎◌, inl, inr, ℕ, List, [], ◌∷◌, length, slice_index, refl, sym, ◌∙◌, ap, subst, arith}
 use Rattle.std.proofs.lemmas.Bool.{cases_lt}
-use Rattle.jc_methods.specs.Held.{Names}
+use Rattle.jc_methods.specs.VerificationTypes.{Names}
 use Rattle.jc_pool.specs.Adding.{IsFirst, HasClass}
 use Rattle.jc_pool.specs.Lookup.{class_name_of}
 use Rattle.jc_pool.specs.Pool.{PoolValue}

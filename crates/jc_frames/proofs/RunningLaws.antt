@@ -5,7 +5,7 @@ use Rattle.std.proofs.lemmas.Bool.{lt-ltb, le-leb, lt-leb, leb-true, and_parts}
 use Rattle.std.proofs.lemmas.List.{take_all, take-map}
 use Rattle.std.proofs.lemmas.List.Sums.{sum_by-cons, sum_by-take-drop}
 use Rattle.std.specs.List.{sum_by}
-use Rattle.jc_methods.specs.Held.{Names, Held, slots, width}
+use Rattle.jc_methods.specs.VerificationTypes.{Names, VerificationType, slots, width}
 use Rattle.jc_methods.specs.EntryState.{in_locals}
 use Rattle.jc_methods.specs.Starts.{insn_number}
 use Rattle.jc_methods.specs.declared.kind.Kind.TheVariants as kinds
@@ -70,12 +70,12 @@ slots_bounded (v ∷ vs) =
     let c = sum_by-cons value_slots v vs in
     (omega (arith, a, b, c), omega (arith, a, b, c))
 
-pub fits_true : (g : Ground) (vs ss : List Held) (n m a b : ℕ) → n ≡ slots vs → m ≡ slots ss → a ≡ g.max_locals → b ≡ g.max_stack → n ≤ a → nat_le m b ≡ fits_slots g vs ss
+pub fits_true : (g : Ground) (vs ss : List VerificationType) (n m a b : ℕ) → n ≡ slots vs → m ≡ slots ss → a ≡ g.max_locals → b ≡ g.max_stack → n ≤ a → nat_le m b ≡ fits_slots g vs ss
 fits_true g vs ss n m a b en em ea eb le =
     ap₂ (λ (x y : ℕ). nat_le x y) em eb
     ∙ sym (ap (λ (t : Bool). t && nat_le (slots ss) g.max_stack) (le-leb (slots vs) g.max_locals (omega (arith, en, ea, le))))
 
-pub fits_false : (g : Ground) (vs ss : List Held) (n a : ℕ) → n ≡ slots vs → a ≡ g.max_locals → a < n → nat_le n a ≡ fits_slots g vs ss
+pub fits_false : (g : Ground) (vs ss : List VerificationType) (n a : ℕ) → n ≡ slots vs → a ≡ g.max_locals → a < n → nat_le n a ≡ fits_slots g vs ss
 fits_false g vs ss n a en ea lt =
     lt-leb n a lt ∙ sym (ap (λ (t : Bool). t && nat_le (slots ss) g.max_stack) (lt-leb (slots vs) g.max_locals (omega (arith, en, ea, lt))))
 
@@ -94,14 +94,14 @@ unfolding frame_of
 no_values_nothing g before item none = no_first g (offset_of before item) (values_of g before item) (stack_of g item) none
 
 -- what a frame says of its values and its stack, by the two tests
-said : (g : Ground) (before : Before) (item : FrameItem) (vs ss : List Held) (a b : Bool) → values_of g before item ≡ Some vs → stack_of g item ≡ Some ss
+said : (g : Ground) (before : Before) (item : FrameItem) (vs ss : List VerificationType) (a b : Bool) → values_of g before item ≡ Some vs → stack_of g item ≡ Some ss
     → is_start g (offset_of before item) ≡ a → fits_slots g vs ss ≡ b → frame_of g before item ≡ (if a && b then Some (found g (offset_of before item) vs ss) else None)
 unfolding frame_of
 said g before item vs ss a b values stack start fits =
-    ap₂ (λ (o p : Option (List Held)). found_if g (offset_of before item) o p) values stack
+    ap₂ (λ (o p : Option (List VerificationType)). found_if g (offset_of before item) o p) values stack
     ∙ ap₂ (λ (x y : Bool). if x && y then Some (found g (offset_of before item) vs ss) else None) start fits
 
-pub unfit_nothing : (g : Ground) (before : Before) (item : FrameItem) (vs ss : List Held) → values_of g before item ≡ Some vs → stack_of g item ≡ Some ss
+pub unfit_nothing : (g : Ground) (before : Before) (item : FrameItem) (vs ss : List VerificationType) → values_of g before item ≡ Some vs → stack_of g item ≡ Some ss
     → fits_slots g vs ss ≡ false → frame_of g before item ≡ None
 unfit_nothing g before item vs ss values stack unfit = said g before item vs ss (is_start g (offset_of before item)) false values stack refl unfit ∙ by (is_start g (offset_of before item))
   where
@@ -109,7 +109,7 @@ unfit_nothing g before item vs ss values stack unfit = said g before item vs ss 
     by true = refl
     by false = refl
 
-pub frame_says : (g : Ground) (before : Before) (item : FrameItem) (offset at base : ℕ) (vs ss : List Held) → offset ≡ offset_of before item → base ≡ offset + 1
+pub frame_says : (g : Ground) (before : Before) (item : FrameItem) (offset at base : ℕ) (vs ss : List VerificationType) → offset ≡ offset_of before item → base ≡ offset + 1
     → insn_number g.starts offset ≡ at → at < length g.code → values_of g before item ≡ Some vs → stack_of g item ≡ Some ss → fits_slots g vs ss ≡ true
     → frame_of g before item ≡ Some (record {
       frame = record { at = at; state = record { locals = in_locals g.max_locals vs; stack = ss } };
@@ -142,13 +142,13 @@ chopped_values pool names xs new count size le long is =
     ∙ ap (λ (n : ℕ). Some (held_values pool names (take (n - count) xs))) (sym long)
     ∙ ap (λ (l : List Value). Some (held_values pool names l)) (sym is)
 
-pub not_done : (o : Option (List Held)) (done : Bool) (hs : List Held) → o ≡ (if done then Some hs else None) → done ≡ false → o ≡ None
+pub not_done : (o : Option (List VerificationType)) (done : Bool) (hs : List VerificationType) → o ≡ (if done then Some hs else None) → done ≡ false → o ≡ None
 not_done o done hs e d = e ∙ ap (λ (b : Bool). if b then Some hs else None) d
 
-pub is_done : (o : Option (List Held)) (done : Bool) (hs : List Held) → o ≡ (if done then Some hs else None) → done ≡ true → o ≡ Some hs
+pub is_done : (o : Option (List VerificationType)) (done : Bool) (hs : List VerificationType) → o ≡ (if done then Some hs else None) → done ≡ true → o ≡ Some hs
 is_done o done hs e d = e ∙ ap (λ (b : Bool). if b then Some hs else None) d
 
-pub fitting_values : (g : Ground) (pool : PoolValue) (names : Names) (vs : List Value) (ss : List Held) → fits_slots g (held_values pool names vs) ss ≡ true → length vs ≤ g.max_locals
+pub fitting_values : (g : Ground) (pool : PoolValue) (names : Names) (vs : List Value) (ss : List VerificationType) → fits_slots g (held_values pool names vs) ss ≡ true → length vs ≤ g.max_locals
 fitting_values g pool names vs ss fits =
     let test = and_parts (nat_le (slots (held_values pool names vs)) g.max_locals) (nat_le (slots ss) g.max_stack) fits in
     let le = leb-true (slots (held_values pool names vs)) g.max_locals test.0 in

@@ -3,7 +3,7 @@ use Rattle.std.proofs.Common.{◌≡◌, inl, inr, ℕ, zero, suc, ◌+◌, List
 use Rattle.jc_bytes.specs.Decoder.{number_at}
 use Rattle.jc_bytes.specs.Parsing.{Parsed, Good, Bad, item}
 use Rattle.jc_bytes.proofs.GrammarLaws.{good_bad}
-use Rattle.jc_methods.specs.Held.{Seen, SeenAt}
+use Rattle.jc_methods.specs.VerificationTypes.{TypeState, TypeStateAt}
 use Rattle.jc_frames.specs.declared.items.FrameItem.{FrameItem}
 use Rattle.jc_frames.specs.TableReading.{frame_item_at}
 use Rattle.jc_frames.specs.Frames.{Ground, Before, first_before, Found, frame_of}
@@ -12,10 +12,10 @@ use Rattle.jc_bytes.proofs.CountedLaws.{agrees_number}
 use Rattle.jc_frames.proofs.FormLaws.{frame_agrees}
 use Rattle.jc_frames.proofs.FrameLaws.{says_nothing, fault_says_nothing}
 
-pub stands_fault : {frames : List SeenAt} {place : ℕ} → stands_for frames ≡ at_fault place → ⊥
+pub stands_fault : {frames : List TypeStateAt} {place : ℕ} → stands_for frames ≡ at_fault place → ⊥
 stands_fault e = cc
 
-pub stands_is : (a b : List SeenAt) → stands_for a ≡ stands_for b → a ≡ b
+pub stands_is : (a b : List TypeStateAt) → stands_for a ≡ stands_for b → a ≡ b
 stands_is a b e = cc
 
 pub fault_is : (a b : ℕ) → at_fault a ≡ at_fault b → a ≡ b
@@ -55,7 +55,7 @@ cons_nil : {x : ℕ} {xs : List ℕ} → x ∷ xs ≡ [] → ⊥
 cons_nil e = cc
 
 abbrev Good_from : Ground → ℕ → ℕ → Type 0
-Good_from g this n = (before : Before) (bytes : List ℕ) (frames : List SeenAt) → frames_from g this n before bytes ≡ stands_for frames → AreFrames g before n bytes frames
+Good_from g this n = (before : Before) (bytes : List ℕ) (frames : List TypeStateAt) → frames_from g this n before bytes ≡ stands_for frames → AreFrames g before n bytes frames
 
 pub frames_good : (g : Ground) (this n : ℕ) → Good_from g this n
 frames_good g this zero before [] frames e = (refl, sym (stands_is [] frames e))
@@ -74,7 +74,7 @@ frames_good g this (suc n) before bytes frames e = by (frames_good g (this + 1) 
     by more (Good x rest) is e = says more x rest (frame_of g before x) is refl e
     by more (Bad left) is e = absurd (stands_fault (sym e))
 
-pub frames_again : (g : Ground) (this n : ℕ) (before : Before) (bytes : List ℕ) (frames : List SeenAt) → AreFrames g before n bytes frames → frames_from g this n before bytes ≡ stands_for frames
+pub frames_again : (g : Ground) (this n : ℕ) (before : Before) (bytes : List ℕ) (frames : List TypeStateAt) → AreFrames g before n bytes frames → frames_from g this n before bytes ≡ stands_for frames
 frames_again g this zero before bytes frames a = ap at_end a.0 ∙ ap stands_for (sym a.1)
 frames_again g this (suc n) before bytes frames a =
     frame_read g before bytes a.0 a.1 this (frames_from g (this + 1) n) a.4
@@ -111,7 +111,7 @@ frames_fail g this (suc n) before bytes place (inr f) =
 
 -- ---- tables
 
-pub table_good : (g : Ground) (entry : Seen) (table : List ℕ) (frames : List SeenAt) → outcome_of g entry table ≡ stands_for frames → StandsFor g entry table frames
+pub table_good : (g : Ground) (entry : TypeState) (table : List ℕ) (frames : List TypeStateAt) → outcome_of g entry table ≡ stands_for frames → StandsFor g entry table frames
 unfolding outcome_of
 table_good g entry table frames e = by (item (number_at 2) table) refl e
   where
@@ -119,13 +119,13 @@ table_good g entry table frames e = by (item (number_at 2) table) refl e
     by (Good count rest) is e = let t = (agrees_number 2).good table count rest is in record { count = count; front = t.0; rest = rest; parts = t.1; counted = t.2; are = frames_good g 0 count (first_before entry) rest frames e }
     by (Bad left) is e = absurd (stands_fault (sym e))
 
-pub table_again : (g : Ground) (entry : Seen) (table : List ℕ) (frames : List SeenAt) → StandsFor g entry table frames → outcome_of g entry table ≡ stands_for frames
+pub table_again : (g : Ground) (entry : TypeState) (table : List ℕ) (frames : List TypeStateAt) → StandsFor g entry table frames → outcome_of g entry table ≡ stands_for frames
 unfolding outcome_of
 table_again g entry table frames s =
     ap (with_count g entry) (ap (item (number_at 2)) s.parts ∙ (agrees_number 2).again s.front s.rest s.count s.counted)
     ∙ frames_again g 0 s.count (first_before entry) s.rest frames s.are
 
-pub table_bad : (g : Ground) (entry : Seen) (table : List ℕ) (place : ℕ) → outcome_of g entry table ≡ at_fault place → TableFault g entry table place
+pub table_bad : (g : Ground) (entry : TypeState) (table : List ℕ) (place : ℕ) → outcome_of g entry table ≡ at_fault place → TableFault g entry table place
 unfolding outcome_of
 table_bad g entry table place e = by (item (number_at 2) table) refl e
   where
@@ -133,7 +133,7 @@ table_bad g entry table place e = by (item (number_at 2) table) refl e
     by (Good count rest) is e = let t = (agrees_number 2).good table count rest is in inr (record { count = count; front = t.0; rest = rest; parts = t.1; counted = t.2; fault = frames_bad g 0 count (first_before entry) rest place e })
     by (Bad left) is e = inl (record { at = sym (fault_is 0 place e); fault = λ front rest count parts text. good_bad (sym ((agrees_number 2).again front rest count text) ∙ (ap (item (number_at 2)) (sym parts) ∙ is)) })
 
-pub table_fails : (g : Ground) (entry : Seen) (table : List ℕ) (place : ℕ) → TableFault g entry table place → outcome_of g entry table ≡ at_fault place
+pub table_fails : (g : Ground) (entry : TypeState) (table : List ℕ) (place : ℕ) → TableFault g entry table place → outcome_of g entry table ≡ at_fault place
 unfolding outcome_of
 table_fails g entry table place (inl n) = by (item (number_at 2) table) refl
   where

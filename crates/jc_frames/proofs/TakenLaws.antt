@@ -6,7 +6,7 @@ use Rattle.std.specs.HashMap.{HashMap, get}
 use Rattle.std.specs.HashSet.{HashSet, contains}
 use Rattle.std.specs.List.{AllByRecursion, list_any}
 use Rattle.jc_bytes.proofs.AppendingLaws.{drop_at, drop_is}
-use Rattle.jc_methods.specs.Held.{Names, class_name, class_names, held, seen_at}
+use Rattle.jc_methods.specs.VerificationTypes.{Names, class_name, class_names, verification_type, type_state_at}
 use Rattle.jc_methods.specs.declared.body.FrameAt.{FrameAt}
 use Rattle.jc_bytes.specs.declared.fail.Fail.{Fail}
 use Rattle.jc_bytes.specs.declared.fail.Fail.TheVariants as fails
@@ -80,19 +80,19 @@ all_taken old now all left none t = t.takes now (subst (λ (l : Names). TakesCla
 
 -- the next kind's class, and those behind it
 pub kinds_split : (names : Names) (ks : List Kind) (i : ℕ) (d : Kind) → i < length ks
-    → class_names (map (held names) (drop i ks)) ≡ class_name (held names (get_or ks i d)) ++ class_names (map (held names) (drop (i + 1) ks))
-kinds_split names ks i d lt = ap (λ (l : List Kind). class_names (map (held names) l)) (drop_at ks i d lt)
+    → class_names (map (verification_type names) (drop i ks)) ≡ class_name (verification_type names (get_or ks i d)) ++ class_names (map (verification_type names) (drop (i + 1) ks))
+kinds_split names ks i d lt = ap (λ (l : List Kind). class_names (map (verification_type names) l)) (drop_at ks i d lt)
 
-pub kinds_done : (names : Names) (ks : List Kind) (i : ℕ) → length ks ≤ i → class_names (map (held names) (drop i ks)) ≡ []
-kinds_done names ks i le = ap (λ (l : List Kind). class_names (map (held names) l)) (drop_all i ks le)
+pub kinds_done : (names : Names) (ks : List Kind) (i : ℕ) → length ks ≤ i → class_names (map (verification_type names) (drop i ks)) ≡ []
+kinds_done names ks i le = ap (λ (l : List Kind). class_names (map (verification_type names) l)) (drop_all i ks le)
 
 -- the next frame's classes, and those behind them
 pub frames_split : (names : Names) (fs : List FrameAt) (i : ℕ) (f : FrameAt) → i < length fs → f ≡ get_or fs i f
-    → named_by_all (map (seen_at names) (drop i fs)) ≡ named_by (seen_at names f) ++ named_by_all (map (seen_at names) (drop (i + 1) fs))
-frames_split names fs i f lt is = ap (λ (l : List FrameAt). named_by_all (map (seen_at names) l)) (drop_is fs i f lt is)
+    → named_by_all (map (type_state_at names) (drop i fs)) ≡ named_by (type_state_at names f) ++ named_by_all (map (type_state_at names) (drop (i + 1) fs))
+frames_split names fs i f lt is = ap (λ (l : List FrameAt). named_by_all (map (type_state_at names) l)) (drop_is fs i f lt is)
 
-pub frames_done : (names : Names) (fs : List FrameAt) (i : ℕ) → length fs ≤ i → named_by_all (map (seen_at names) (drop i fs)) ≡ []
-frames_done names fs i le = ap (λ (l : List FrameAt). named_by_all (map (seen_at names) l)) (drop_all i fs le)
+pub frames_done : (names : Names) (fs : List FrameAt) (i : ℕ) → length fs ≤ i → named_by_all (map (type_state_at names) (drop i fs)) ≡ []
+frames_done names fs i le = ap (λ (l : List FrameAt). named_by_all (map (type_state_at names) l)) (drop_all i fs le)
 
 -- ---- pools that grow
 

@@ -1,14 +1,14 @@
 -- Frame after frame, a walk finds what the table stands for.
 use Rattle.std.proofs.Common.{◌≡◌, ℕ, zero, suc, ◌+◌, ◌-◌, ◌<◌, ◌≤◌, List, [], ◌∷◌, ◌++◌, length, Option, Some, None, option_map, Result, Ok, Err, IfOk, IsErr, is_ok, Bool, true, false, refl, sym, ◌∙◌, ap, arith, append_assoc}
 use Rattle.std.proofs.lemmas.List.{append-nil}
-use Rattle.jc_methods.specs.Held.{Seen, SeenAt}
+use Rattle.jc_methods.specs.VerificationTypes.{TypeState, TypeStateAt}
 use Rattle.jc_bytes.specs.Decoder.{number_at}
 use Rattle.jc_bytes.specs.Parsing.{Parsed, Good, Bad, item}
 use Rattle.jc_frames.specs.declared.items.FrameItem.{FrameItem}
 use Rattle.jc_frames.specs.TableReading.{frame_item_at}
 use Rattle.jc_frames.specs.Frames.{Ground, Before, first_before, Found, frame_of}
 use Rattle.jc_frames.specs.Table.{Outcome, stands_for, at_fault, behind_frame, at_end, with_found, with_item, frames_from, with_count, outcome_of}
-use Rattle.jc_frames.specs.Walk.{with_rest, read_frame}
+use Rattle.jc_frames.specs.NextFrame.{with_rest, read_frame}
 
 -- ---- one frame
 
@@ -40,7 +40,7 @@ stops g before this more (Good item left) e = by (frame_of g before item) e
 -- ---- all frames
 
 -- the frames so far, and what the rest stands for
-abbrev pub behind_all : List SeenAt → Outcome → Outcome
+abbrev pub behind_all : List TypeStateAt → Outcome → Outcome
 behind_all done (stands_for frames) = stands_for (done ++ frames)
 behind_all done (at_fault place) = at_fault place
 
@@ -48,26 +48,26 @@ none_behind : (o : Outcome) → behind_all [] o ≡ o
 none_behind (stands_for frames) = refl
 none_behind (at_fault place) = refl
 
-one_behind : (done : List SeenAt) (frame : SeenAt) (o : Outcome) → behind_all done (behind_frame frame o) ≡ behind_all (done ++ frame ∷ []) o
+one_behind : (done : List TypeStateAt) (frame : TypeStateAt) (o : Outcome) → behind_all done (behind_frame frame o) ≡ behind_all (done ++ frame ∷ []) o
 one_behind done frame (stands_for frames) = ap stands_for (sym (append_assoc done (frame ∷ []) frames))
 one_behind done frame (at_fault place) = refl
 
 -- with so many of all frames done, the table has the outcome that the rest has
-pub record Walking (g : Ground) (entry : Seen) (table : List ℕ) (count this : ℕ) (done : List SeenAt) (before : Before) (left : List ℕ) : Type 0 where
+pub record Walking (g : Ground) (entry : TypeState) (table : List ℕ) (count this : ℕ) (done : List TypeStateAt) (before : Before) (left : List ℕ) : Type 0 where
   pub same : outcome_of g entry table ≡ behind_all done (frames_from g this (count - this) before left)
 
-pub begins : (g : Ground) (entry : Seen) (table left : List ℕ) (count : ℕ) → item (number_at 2) table ≡ Good count left → Walking g entry table count 0 [] (first_before entry) left
+pub begins : (g : Ground) (entry : TypeState) (table left : List ℕ) (count : ℕ) → item (number_at 2) table ≡ Good count left → Walking g entry table count 0 [] (first_before entry) left
 unfolding outcome_of
 begins g entry table left count is = record {
   same = ap (with_count g entry) is ∙ ap (λ (n : ℕ). frames_from g 0 n (first_before entry) left) (let e : count ≡ count - 0 = omega arith in e)
       ∙ sym (none_behind (frames_from g 0 (count - 0) (first_before entry) left));
 }
 
-pub count_cut : (g : Ground) (entry : Seen) (table left : List ℕ) → item (number_at 2) table ≡ Bad left → outcome_of g entry table ≡ at_fault 0
+pub count_cut : (g : Ground) (entry : TypeState) (table left : List ℕ) → item (number_at 2) table ≡ Bad left → outcome_of g entry table ≡ at_fault 0
 unfolding outcome_of
 count_cut g entry table left is = ap (with_count g entry) is
 
-pub walks_on : (g : Ground) (entry : Seen) (table : List ℕ) (count this : ℕ) (done : List SeenAt) (before : Before) (left rest : List ℕ) (found : Found) → this < count
+pub walks_on : (g : Ground) (entry : TypeState) (table : List ℕ) (count this : ℕ) (done : List TypeStateAt) (before : Before) (left rest : List ℕ) (found : Found) → this < count
     → Walking g entry table count this done before left → read_frame g before (frame_item_at left) ≡ Some (with_rest rest found)
     → Walking g entry table count (this + 1) (done ++ found.frame ∷ []) found.next rest
 walks_on g entry table count this done before left rest found lt w says = record {
@@ -76,25 +76,25 @@ walks_on g entry table count this done before left rest found lt w says = record
       ∙ one_behind done found.frame (frames_from g (this + 1) (count - (this + 1)) found.next rest);
 }
 
-pub stopped : (g : Ground) (entry : Seen) (table : List ℕ) (count this : ℕ) (done : List SeenAt) (before : Before) (left : List ℕ) → this < count
+pub stopped : (g : Ground) (entry : TypeState) (table : List ℕ) (count this : ℕ) (done : List TypeStateAt) (before : Before) (left : List ℕ) → this < count
     → Walking g entry table count this done before left → read_frame g before (frame_item_at left) ≡ None → outcome_of g entry table ≡ at_fault this
 stopped g entry table count this done before left lt w none =
     w.same ∙ ap (λ (n : ℕ). behind_all done (frames_from g this n before left)) (let e : count - this ≡ suc (count - (this + 1)) = omega (arith, lt) in e)
     ∙ ap (behind_all done) (stops g before this (frames_from g (this + 1) (count - (this + 1))) (frame_item_at left) none)
 
 -- behind the last frame
-at_last : (g : Ground) (entry : Seen) (table : List ℕ) (count this : ℕ) (done : List SeenAt) (before : Before) (left : List ℕ) → count ≤ this
+at_last : (g : Ground) (entry : TypeState) (table : List ℕ) (count this : ℕ) (done : List TypeStateAt) (before : Before) (left : List ℕ) → count ≤ this
     → Walking g entry table count this done before left → outcome_of g entry table ≡ behind_all done (at_end left)
 at_last g entry table count this done before left le w =
     w.same ∙ ap (λ (n : ℕ). behind_all done (frames_from g this n before left)) (let e : count - this ≡ zero = omega (arith, le) in e)
 
-pub nothing_left : (g : Ground) (entry : Seen) (table : List ℕ) (count this : ℕ) (done : List SeenAt) (before : Before) (left : List ℕ) → count ≤ this
+pub nothing_left : (g : Ground) (entry : TypeState) (table : List ℕ) (count this : ℕ) (done : List TypeStateAt) (before : Before) (left : List ℕ) → count ≤ this
     → Walking g entry table count this done before left → length left < 1 → outcome_of g entry table ≡ stands_for done
 nothing_left g entry table count this done before [] le w none =
     at_last g entry table count this done before [] le w ∙ ap stands_for (append-nil done)
 nothing_left g entry table count this done before (b ∷ left) le w none = absurd (omega (arith, none))
 
-pub bytes_left : (g : Ground) (entry : Seen) (table : List ℕ) (count this : ℕ) (done : List SeenAt) (before : Before) (left : List ℕ) → count ≤ this
+pub bytes_left : (g : Ground) (entry : TypeState) (table : List ℕ) (count this : ℕ) (done : List TypeStateAt) (before : Before) (left : List ℕ) → count ≤ this
     → Walking g entry table count this done before left → 1 ≤ length left → outcome_of g entry table ≡ at_fault 0
 bytes_left g entry table count this done before [] le w some = absurd (omega (arith, some))
 bytes_left g entry table count this done before (b ∷ left) le w some = at_last g entry table count this done before (b ∷ left) le w

@@ -13,7 +13,7 @@ use Rattle.jc_methods.specs.WellMade.{IsKind, IsState, AreFramesFrom, kind_slots
 use Rattle.jc_frames.specs.FullFrames as full
 use Rattle.jc_methods.specs.Opcode as opcode
 use Rattle.jc_methods.specs.Starts.{insn_number}
-use Rattle.jc_methods.specs.Held.{Names, Held, top, int, float, double, long, null, uninit_this, object, uninit, SeenAt, held, seen_at, is_pair, slots, width}
+use Rattle.jc_methods.specs.VerificationTypes.{Names, VerificationType, top, int, float, double, long, null, uninit_this, object, uninit, TypeStateAt, verification_type, type_state_at, is_pair, slots, width}
 use Rattle.jc_methods.specs.EntryState.{spread_one, spread, in_locals}
 use Rattle.jc_bytes.proofs.DecoderLaws.{some_is}
 use Rattle.jc_pool.specs.Lookup.{class_name_of}
@@ -71,7 +71,7 @@ later_number g o a b lt p q = ⊎_elim (λ less. less) (λ le. absurd (no le)) (
 -- ---- objects that aren't initialized
 
 module _ (g : Ground) where
-  type_new : (item : TypeItem) (h : Held) → type_of g item ≡ Some h → HasNew g h
+  type_new : (item : TypeItem) (h : VerificationType) → type_of g item ≡ Some h → HasNew g h
   type_new types.Top h e = subst (HasNew g) (some_is top h e) tt
   type_new types.Int h e = subst (HasNew g) (some_is int h e) tt
   type_new types.Float h e = subst (HasNew g) (some_is float h e) tt
@@ -90,25 +90,25 @@ module _ (g : Ground) where
       by false is e = absurd (none_some e)
       by true is e = subst (HasNew g) (some_is (uninit (insn_number g.starts offset)) h e) is
 
-  types_new : (items : List TypeItem) (hs : List Held) → types_of g items ≡ Some hs → AllByRecursion (HasNew g) hs
+  types_new : (items : List TypeItem) (hs : List VerificationType) → types_of g items ≡ Some hs → AllByRecursion (HasNew g) hs
   types_new [] hs e = subst (AllByRecursion (HasNew g)) (some_is [] hs e) tt
   types_new (item ∷ items) hs e = by (λ more f. types_new items more f) (type_of g item) (types_of g items) refl refl e
     where
-      by : ((more : List Held) → types_of g items ≡ Some more → AllByRecursion (HasNew g) more) → (o : Option Held) (p : Option (List Held)) → type_of g item ≡ o → types_of g items ≡ p → in_front o p ≡ Some hs → AllByRecursion (HasNew g) hs
+      by : ((more : List VerificationType) → types_of g items ≡ Some more → AllByRecursion (HasNew g) more) → (o : Option VerificationType) (p : Option (List VerificationType)) → type_of g item ≡ o → types_of g items ≡ p → in_front o p ≡ Some hs → AllByRecursion (HasNew g) hs
       by more None p i j e = absurd (none_some e)
       by more (Some h) None i j e = absurd (none_some e)
       by more (Some h) (Some rest) i j e = subst (AllByRecursion (HasNew g)) (some_is (h ∷ rest) hs e) (type_new item h i, more rest j)
 
-  both_new : (a b : List Held) → AllByRecursion (HasNew g) a → AllByRecursion (HasNew g) b → AllByRecursion (HasNew g) (a ++ b)
+  both_new : (a b : List VerificationType) → AllByRecursion (HasNew g) a → AllByRecursion (HasNew g) b → AllByRecursion (HasNew g) (a ++ b)
   both_new [] b p q = q
   both_new (h ∷ a) b p q = (p.0, both_new a b p.1 q)
 
-  take_new : (n : ℕ) (a : List Held) → AllByRecursion (HasNew g) a → AllByRecursion (HasNew g) (take n a)
+  take_new : (n : ℕ) (a : List VerificationType) → AllByRecursion (HasNew g) a → AllByRecursion (HasNew g) (take n a)
   take_new zero a p = tt
   take_new (suc n) [] p = tt
   take_new (suc n) (h ∷ a) p = (p.0, take_new n a p.1)
 
-  values_new : (before : Before) (item : FrameItem) (values : List Held) → AllByRecursion (HasNew g) before.values → values_of g before item ≡ Some values → AllByRecursion (HasNew g) values
+  values_new : (before : Before) (item : FrameItem) (values : List VerificationType) → AllByRecursion (HasNew g) before.values → values_of g before item ≡ Some values → AllByRecursion (HasNew g) values
   values_new before (frames.Same delta) values p e = subst (AllByRecursion (HasNew g)) (some_is before.values values e) p
   values_new before (frames.OneItem delta item) values p e = subst (AllByRecursion (HasNew g)) (some_is before.values values e) p
   values_new before (frames.Chop delta count) values p e = by (nat_le count (length before.values)) e
@@ -118,16 +118,16 @@ module _ (g : Ground) where
       by true e = subst (AllByRecursion (HasNew g)) (some_is _ values e) (take_new (length before.values - count) before.values p)
   values_new before (frames.Append delta added) values p e = by (types_of g added) refl e
     where
-      by : (o : Option (List Held)) → types_of g added ≡ o → option_map (λ more. before.values ++ more) o ≡ Some values → AllByRecursion (HasNew g) values
+      by : (o : Option (List VerificationType)) → types_of g added ≡ o → option_map (λ more. before.values ++ more) o ≡ Some values → AllByRecursion (HasNew g) values
       by None i e = absurd (none_some e)
       by (Some more) i e = subst (AllByRecursion (HasNew g)) (some_is (before.values ++ more) values e) (both_new before.values more p (types_new added more i))
   values_new before (frames.Full delta locals stack) values p e = types_new locals values e
 
-  stack_new : (item : FrameItem) (stack : List Held) → stack_of g item ≡ Some stack → AllByRecursion (HasNew g) stack
+  stack_new : (item : FrameItem) (stack : List VerificationType) → stack_of g item ≡ Some stack → AllByRecursion (HasNew g) stack
   stack_new (frames.Same delta) stack e = subst (AllByRecursion (HasNew g)) (some_is [] stack e) tt
   stack_new (frames.OneItem delta item) stack e = by (type_of g item) refl e
     where
-      by : (o : Option Held) → type_of g item ≡ o → in_front o (Some []) ≡ Some stack → AllByRecursion (HasNew g) stack
+      by : (o : Option VerificationType) → type_of g item ≡ o → in_front o (Some []) ≡ Some stack → AllByRecursion (HasNew g) stack
       by None i e = absurd (none_some e)
       by (Some h) i e = subst (AllByRecursion (HasNew g)) (some_is (h ∷ []) stack e) (type_new item h i, tt)
   stack_new (frames.Chop delta count) stack e = subst (AllByRecursion (HasNew g)) (some_is [] stack e) tt
@@ -138,18 +138,18 @@ module _ (g : Ground) where
   tops_new zero = tt
   tops_new (suc n) = (tt, tops_new n)
 
-  one_new : (h : Held) → HasNew g h → AllByRecursion (HasNew g) (spread_one h)
+  one_new : (h : VerificationType) → HasNew g h → AllByRecursion (HasNew g) (spread_one h)
   one_new h p = by (is_pair h)
     where
       by : (b : Bool) → AllByRecursion (HasNew g) (if b then h ∷ top ∷ [] else h ∷ [])
       by true = (p, (tt, tt))
       by false = (p, tt)
 
-  spread_new : (values : List Held) → AllByRecursion (HasNew g) values → AllByRecursion (HasNew g) (spread values)
+  spread_new : (values : List VerificationType) → AllByRecursion (HasNew g) values → AllByRecursion (HasNew g) (spread values)
   spread_new [] p = tt
   spread_new (h ∷ values) p = both_new (spread_one h) (spread values) (one_new h p.0) (spread_new values p.1)
 
-  locals_new : (n : ℕ) (values : List Held) → AllByRecursion (HasNew g) values → AllByRecursion (HasNew g) (in_locals n values)
+  locals_new : (n : ℕ) (values : List VerificationType) → AllByRecursion (HasNew g) values → AllByRecursion (HasNew g) (in_locals n values)
   locals_new n values p = both_new (spread values) (replicate (n - length (spread values)) top) (spread_new values p) (tops_new (n - length (spread values)))
 
   -- ---- kinds
@@ -176,7 +176,7 @@ module _ (g : Ground) where
       by (insns.Table low default arms) e = absurd (true≢false (sym e))
       by (insns.Lookup default arms) e = absurd (true≢false (sym e))
 
-  kind_new : (names : Names) (k : Kind) → HasNew g (held names k) → IsKind g.code k
+  kind_new : (names : Names) (k : Kind) → HasNew g (verification_type names k) → IsKind g.code k
   kind_new names (kinds.Uninit at) p = new_is (slice_get g.code at) p
   kind_new names kinds.Top p = tt
   kind_new names kinds.Int p = tt
@@ -187,12 +187,12 @@ module _ (g : Ground) where
   kind_new names kinds.UninitThis p = tt
   kind_new names (kinds.Object n) p = tt
 
-  kinds_new : (names : Names) (ks : List Kind) → AllByRecursion (HasNew g) (map (held names) ks) → All (IsKind g.code) ks
+  kinds_new : (names : Names) (ks : List Kind) → AllByRecursion (HasNew g) (map (verification_type names) ks) → All (IsKind g.code) ks
   kinds_new names [] p k d lt = absurd (omega (arith, lt))
   kinds_new names (x ∷ ks) p zero d lt = kind_new names x p.0
   kinds_new names (x ∷ ks) p (suc k) d lt = kinds_new names ks p.1 k d (omega (arith, lt))
 
-  top_begins : (names : Names) (ks : List Kind) → full.BeginsWithTop (map (held names) ks) → BeginsWithTop ks
+  top_begins : (names : Names) (ks : List Kind) → full.BeginsWithTop (map (verification_type names) ks) → BeginsWithTop ks
   top_begins names [] b = b
   top_begins names (kinds.Top ∷ ks) b = refl
   top_begins names (kinds.Int ∷ ks) b = absurd b
@@ -204,7 +204,7 @@ module _ (g : Ground) where
   top_begins names (kinds.Object n ∷ ks) b = absurd b
   top_begins names (kinds.Uninit at ∷ ks) b = absurd b
 
-  pair_kind : (names : Names) (k : Kind) → kind_slots k ≡ 2 → is_pair (held names k) ≡ true
+  pair_kind : (names : Names) (k : Kind) → kind_slots k ≡ 2 → is_pair (verification_type names k) ≡ true
   pair_kind names kinds.Double e = refl
   pair_kind names kinds.Long e = refl
   pair_kind names kinds.Top e = absurd (omega (arith, e))
@@ -215,15 +215,15 @@ module _ (g : Ground) where
   pair_kind names (kinds.Object n) e = absurd (omega (arith, e))
   pair_kind names (kinds.Uninit at) e = absurd (omega (arith, e))
 
-  kinds_paired : (names : Names) (ks : List Kind) → full.ArePaired (map (held names) ks) → ArePaired ks
+  kinds_paired : (names : Names) (ks : List Kind) → full.ArePaired (map (verification_type names) ks) → ArePaired ks
   kinds_paired names [] p = tt
   kinds_paired names (k ∷ ks) p = (λ two. top_begins names ks (p.0 (pair_kind names k two)), kinds_paired names ks p.1)
 
-  kinds_slots : (names : Names) (ks : List Kind) → sum_by kind_slots ks ≡ slots (map (held names) ks)
+  kinds_slots : (names : Names) (ks : List Kind) → sum_by kind_slots ks ≡ slots (map (verification_type names) ks)
   kinds_slots names [] = refl
   kinds_slots names (k ∷ ks) = sum_by-cons kind_slots k ks ∙ ap₂ (λ (a b : ℕ). a + b) (one k) (kinds_slots names ks)
     where
-      one : (k : Kind) → kind_slots k ≡ width (held names k)
+      one : (k : Kind) → kind_slots k ≡ width (verification_type names k)
       one kinds.Top = refl
       one kinds.Int = refl
       one kinds.Float = refl
@@ -238,8 +238,8 @@ module _ (g : Ground) where
 
   -- what a frame that says something is
   record Says (before : Before) (item : FrameItem) (f : Found) : Type 0 where
-    values : List Held
-    stack : List Held
+    values : List VerificationType
+    stack : List VerificationType
     values_are : values_of g before item ≡ Some values
     stack_is : stack_of g item ≡ Some stack
     starts : insn_number g.starts (offset_of before item) < length g.code
@@ -251,7 +251,7 @@ module _ (g : Ground) where
   unfolding frame_of
   says before item f e = by (values_of g before item) (stack_of g item) refl refl e
     where
-      tests : (values stack : List Held) (a b c : Bool) → values_of g before item ≡ Some values → stack_of g item ≡ Some stack → is_start g (offset_of before item) ≡ a → nat_le (slots values) g.max_locals ≡ b → nat_le (slots stack) g.max_stack ≡ c
+      tests : (values stack : List VerificationType) (a b c : Bool) → values_of g before item ≡ Some values → stack_of g item ≡ Some stack → is_start g (offset_of before item) ≡ a → nat_le (slots values) g.max_locals ≡ b → nat_le (slots stack) g.max_stack ≡ c
           → (if a && (b && c) then Some (found g (offset_of before item) values stack) else None) ≡ Some f → Says before item f
       tests values stack false b c i j ea eb ec e = absurd (none_some e)
       tests values stack true false c i j ea eb ec e = absurd (none_some e)
@@ -267,21 +267,21 @@ module _ (g : Ground) where
         is = some_is _ f e;
       }
 
-      by : (o p : Option (List Held)) → values_of g before item ≡ o → stack_of g item ≡ p → found_if g (offset_of before item) o p ≡ Some f → Says before item f
+      by : (o p : Option (List VerificationType)) → values_of g before item ≡ o → stack_of g item ≡ p → found_if g (offset_of before item) o p ≡ Some f → Says before item f
       by None p i j e = absurd (none_some e)
       by (Some values) None i j e = absurd (none_some e)
       by (Some values) (Some stack) i j e = tests values stack (is_start g (offset_of before item)) (nat_le (slots values) g.max_locals) (nat_le (slots stack) g.max_stack) i j refl refl refl e
 
-  frame_made : (names : Names) (values stack : List Held) (f : FrameAt) (at : ℕ) → AllByRecursion (HasNew g) values → AllByRecursion (HasNew g) stack → slots values ≤ g.max_locals → slots stack ≤ g.max_stack
-      → record { at = at; state = record { locals = in_locals g.max_locals values; stack = stack } } ≡ seen_at names f → IsState g.code g.max_locals g.max_stack f.state
+  frame_made : (names : Names) (values stack : List VerificationType) (f : FrameAt) (at : ℕ) → AllByRecursion (HasNew g) values → AllByRecursion (HasNew g) stack → slots values ≤ g.max_locals → slots stack ≤ g.max_stack
+      → record { at = at; state = record { locals = in_locals g.max_locals values; stack = stack } } ≡ type_state_at names f → IsState g.code g.max_locals g.max_stack f.state
   frame_made names values stack f at vn sn few_l few_s e =
-      let l : in_locals g.max_locals values ≡ map (held names) f.state.locals = ap (λ (x : SeenAt). x.state.locals) e in
-      let s : stack ≡ map (held names) f.state.stack = ap (λ (x : SeenAt). x.state.stack) e in
+      let l : in_locals g.max_locals values ≡ map (verification_type names) f.state.locals = ap (λ (x : TypeStateAt). x.state.locals) e in
+      let s : stack ≡ map (verification_type names) f.state.stack = ap (λ (x : TypeStateAt). x.state.stack) e in
       let n = length-append (spread values) (replicate (g.max_locals - length (spread values)) top) in
       let m = length-replicate (g.max_locals - length (spread values)) top in
       let z = spread_slots values in
-      let k = length-map f.state.locals (held names) in
-      let c = ap (λ (x : List Held). length x) l in
+      let k = length-map f.state.locals (verification_type names) in
+      let c = ap (λ (x : List VerificationType). length x) l in
       let t = ap slots s in
       let u = kinds_slots names f.state.stack in
       record {
@@ -298,20 +298,20 @@ module _ (g : Ground) where
   abbrev From : ℕ → ℕ → Type 0
   From first base = (offset : ℕ) → base ≤ offset → insn_number g.starts offset < length g.code → first ≤ insn_number g.starts offset
 
-  head_is : (x y : SeenAt) (xs ys : List SeenAt) → x ∷ xs ≡ y ∷ ys → x ≡ y
+  head_is : (x y : TypeStateAt) (xs ys : List TypeStateAt) → x ∷ xs ≡ y ∷ ys → x ≡ y
   head_is x y xs ys e = cc
 
-  tail_is : (x y : SeenAt) (xs ys : List SeenAt) → x ∷ xs ≡ y ∷ ys → xs ≡ ys
+  tail_is : (x y : TypeStateAt) (xs ys : List TypeStateAt) → x ∷ xs ≡ y ∷ ys → xs ≡ ys
   tail_is x y xs ys e = cc
 
-  nil_cons : {x : SeenAt} {xs : List SeenAt} → x ∷ xs ≡ [] → ⊥
+  nil_cons : {x : TypeStateAt} {xs : List TypeStateAt} → x ∷ xs ≡ [] → ⊥
   nil_cons e = cc
 
-  cons_nil : {x : SeenAt} {xs : List SeenAt} → [] ≡ x ∷ xs → ⊥
+  cons_nil : {x : TypeStateAt} {xs : List TypeStateAt} → [] ≡ x ∷ xs → ⊥
   cons_nil e = cc
 
-  frames_made : (o : AreOffsets (length g.code) g.starts) (names : Names) (first n : ℕ) (before : Before) (bytes : List ℕ) (all : List SeenAt) (frames : List FrameAt) → From first before.base → AllByRecursion (HasNew g) before.values
-      → all ≡ map (seen_at names) frames → AreFrames g before n bytes all → AreFramesFrom first g.code g.max_locals g.max_stack frames
+  frames_made : (o : AreOffsets (length g.code) g.starts) (names : Names) (first n : ℕ) (before : Before) (bytes : List ℕ) (all : List TypeStateAt) (frames : List FrameAt) → From first before.base → AllByRecursion (HasNew g) before.values
+      → all ≡ map (type_state_at names) frames → AreFrames g before n bytes all → AreFramesFrom first g.code g.max_locals g.max_stack frames
   frames_made o names first n before bytes all [] from new is are = tt
   frames_made o names first zero before bytes all (f ∷ frames) from new is are = absurd (cons_nil (sym are.1 ∙ is))
   frames_made o names first (suc n) before bytes all (f ∷ frames) from new is are =
@@ -319,10 +319,10 @@ module _ (g : Ground) where
       let s = says before w.item are.1 w.says in
       let offset = offset_of before w.item in
       let at = insn_number g.starts offset in
-      let here : are.1.frame ≡ seen_at names f = head_is are.1.frame (seen_at names f) are.2 (map (seen_at names) frames) (sym are.3 ∙ is) in
-      let others : are.2 ≡ map (seen_at names) frames = tail_is are.1.frame (seen_at names f) are.2 (map (seen_at names) frames) (sym are.3 ∙ is) in
-      let frame : (found g offset s.values s.stack).frame ≡ seen_at names f = ap (λ (x : Found). x.frame) s.is ∙ here in
-      let same : at ≡ f.at = ap (λ (x : SeenAt). x.at) frame in
+      let here : are.1.frame ≡ type_state_at names f = head_is are.1.frame (type_state_at names f) are.2 (map (type_state_at names) frames) (sym are.3 ∙ is) in
+      let others : are.2 ≡ map (type_state_at names) frames = tail_is are.1.frame (type_state_at names f) are.2 (map (type_state_at names) frames) (sym are.3 ∙ is) in
+      let frame : (found g offset s.values s.stack).frame ≡ type_state_at names f = ap (λ (x : Found). x.frame) s.is ∙ here in
+      let same : at ≡ f.at = ap (λ (x : TypeStateAt). x.at) frame in
       let next : (found g offset s.values s.stack).next ≡ are.1.next = ap (λ (x : Found). x.next) s.is in
       let base : offset + 1 ≡ are.1.next.base = ap (λ (x : Before). x.base) next in
       let values : s.values ≡ are.1.next.values = ap (λ (x : Before). x.values) next in
@@ -340,25 +340,25 @@ module _ (g : Ground) where
 
 pub frames_well_made : FramesAreWellMade
 frames_well_made g names entry table frames o new s =
-    frames_made g o names 0 s.count (first_before entry) s.rest (map (seen_at names) frames) frames (λ offset le inside. omega arith) (in_values (HasNew g) entry.locals new) refl s.are
+    frames_made g o names 0 s.count (first_before entry) s.rest (map (type_state_at names) frames) frames (λ offset le inside. omega arith) (in_values (HasNew g) entry.locals new) refl s.are
 
 -- ---- the arguments
 
 tops_gone : (n : ℕ) → trimmed (replicate n top) ≡ []
 tops_gone zero = refl
-tops_gone (suc n) = ap (λ (t : List Held). Rattle.jc_frames.specs.Frames.without_last_top top t) (tops_gone n)
+tops_gone (suc n) = ap (λ (t : List VerificationType). Rattle.jc_frames.specs.Frames.without_last_top top t) (tops_gone n)
 
-value_not_top : (h : Held) → IsValue h → h ≡ top → ⊥
+value_not_top : (h : VerificationType) → IsValue h → h ≡ top → ⊥
 value_not_top h v e = subst IsValue e v
 
-args_first : (n : ℕ) (arguments : List Held) → AllByRecursion IsValue arguments → values_in (spread arguments ++ replicate n top) ≡ arguments
+args_first : (n : ℕ) (arguments : List VerificationType) → AllByRecursion IsValue arguments → values_in (spread arguments ++ replicate n top) ≡ arguments
 args_first n [] all = ap (values_from false) (tops_gone n)
 args_first n (h ∷ arguments) all = by (is_pair h) refl (args_first n arguments all.1)
   where
     by : (b : Bool) → is_pair h ≡ b → values_in (spread arguments ++ replicate n top) ≡ arguments → values_in (((if b then h ∷ top ∷ [] else h ∷ []) ++ spread arguments) ++ replicate n top) ≡ h ∷ arguments
-    by true is more = pair_values h (spread arguments ++ replicate n top) is ∙ ap (λ (l : List Held). h ∷ l) more
+    by true is more = pair_values h (spread arguments ++ replicate n top) is ∙ ap (λ (l : List VerificationType). h ∷ l) more
     by false is more = ⊎_elim
-        (λ e. e ∙ ap (λ (l : List Held). h ∷ l) more)
+        (λ e. e ∙ ap (λ (l : List VerificationType). h ∷ l) more)
         (λ w. absurd (value_not_top h all.0 w.0))
         (single_values h (spread arguments ++ replicate n top) is)
 

@@ -14,7 +14,7 @@ use Rattle.jc_methods.specs.Opcode as opcode
 use Rattle.jc_methods.specs.declared.kind.Kind.{Kind}
 use Rattle.jc_methods.specs.declared.kind.Kind.TheVariants as kinds
 use Rattle.jc_methods.specs.FrameOrder.{RiseFrom}
-use Rattle.jc_methods.specs.Held.{Names, Held, top, int, float, double, long, null, uninit_this, object, uninit, class_names, held, seen_at, is_pair, slots, width, IsNumberedState, AreNumberedFrames}
+use Rattle.jc_methods.specs.VerificationTypes.{Names, VerificationType, top, int, float, double, long, null, uninit_this, object, uninit, class_names, verification_type, type_state_at, is_pair, slots, width, IsNumberedState, AreNumberedFrames}
 use Rattle.jc_methods.specs.Starts.{insn_number}
 use Rattle.jc_methods.specs.WellMade as made
 use Rattle.jc_pool.specs.Lookup.{class_name_of}
@@ -47,12 +47,12 @@ number_of (start ∷ next ∷ starts) end (suc k) rising lt =
 
 -- ---- kinds
 
-top_begins : (names : Names) (ks : List Kind) → made.BeginsWithTop ks → BeginsWithTop (map (held names) ks)
+top_begins : (names : Names) (ks : List Kind) → made.BeginsWithTop ks → BeginsWithTop (map (verification_type names) ks)
 top_begins names [] b = b
-top_begins names (k ∷ ks) b = subst (λ (k : Kind). BeginsWithTop (map (held names) (k ∷ ks))) (sym b) tt
+top_begins names (k ∷ ks) b = subst (λ (k : Kind). BeginsWithTop (map (verification_type names) (k ∷ ks))) (sym b) tt
 
 module _ (names : Names) where
-  pair_slots : (k : Kind) → is_pair (held names k) ≡ true → made.kind_slots k ≡ 2
+  pair_slots : (k : Kind) → is_pair (verification_type names k) ≡ true → made.kind_slots k ≡ 2
   pair_slots kinds.Double e = refl
   pair_slots kinds.Long e = refl
   pair_slots kinds.Top e = absurd cc
@@ -63,15 +63,15 @@ module _ (names : Names) where
   pair_slots (kinds.Object n) e = absurd cc
   pair_slots (kinds.Uninit at) e = absurd cc
 
-  paired : (ks : List Kind) → made.ArePaired ks → ArePaired (map (held names) ks)
+  paired : (ks : List Kind) → made.ArePaired ks → ArePaired (map (verification_type names) ks)
   paired [] p = tt
   paired (k ∷ ks) p = (λ pair. top_begins names ks (p.0 (pair_slots k pair)), paired ks p.1)
 
-  slots_are : (ks : List Kind) → slots (map (held names) ks) ≡ sum_by made.kind_slots ks
+  slots_are : (ks : List Kind) → slots (map (verification_type names) ks) ≡ sum_by made.kind_slots ks
   slots_are [] = refl
   slots_are (k ∷ ks) = ap₂ (λ (a b : ℕ). a + b) (one k) (slots_are ks) ∙ sym (sum_by-cons made.kind_slots k ks)
     where
-      one : (k : Kind) → width (held names k) ≡ made.kind_slots k
+      one : (k : Kind) → width (verification_type names k) ≡ made.kind_slots k
       one kinds.Top = refl
       one kinds.Int = refl
       one kinds.Float = refl
@@ -93,11 +93,11 @@ module _ (g : Ground) (starts : List ℕ) (p : Places) (count : length starts �
   }
 
   -- an object that isn't initialized has a `new`
-  abbrev MadeThere : Held → Type 0
+  abbrev MadeThere : VerificationType → Type 0
   MadeThere (uninit at) = StartsAt g p at × (is_new (slice_get g.code at) ≡ true)
   MadeThere h = Unit {0}
 
-  made_there : (names : Names) (k : Kind) → made.IsKind g.code k → MadeThere (held names k)
+  made_there : (names : Names) (k : Kind) → made.IsKind g.code k → MadeThere (verification_type names k)
   made_there names (kinds.Uninit at) is = (starts_at at (let lt = slice_get_within g.code at (insn.OfClass opcode.new is.0) is.1 in omega (arith, lt, count)), ap is_new is.1)
   made_there names kinds.Top is = tt
   made_there names kinds.Int is = tt
@@ -108,8 +108,8 @@ module _ (g : Ground) (starts : List ℕ) (p : Places) (count : length starts �
   made_there names kinds.UninitThis is = tt
   made_there names (kinds.Object n) is = tt
 
-  made_all : (names : Names) (ks : List Kind) → All (made.IsKind g.code) ks → AllByRecursion MadeThere (map (held names) ks)
-  made_all names ks all = each_of_all MadeThere (held names) ks (λ k d lt. made_there names (get_or ks k d) (all k d lt))
+  made_all : (names : Names) (ks : List Kind) → All (made.IsKind g.code) ks → AllByRecursion MadeThere (map (verification_type names) ks)
+  made_all names ks all = each_of_all MadeThere (verification_type names) ks (λ k d lt. made_there names (get_or ks k d) (all k d lt))
 
   -- a class has its first place
   place_of : (name : List ℕ) → HasPlace g.pool name → (p.class name < 65536) × (class_name_of g.pool (p.class name) ≡ Some name)
@@ -120,7 +120,7 @@ module _ (g : Ground) (starts : List ℕ) (p : Places) (count : length starts �
       let fits = h.fits in
       (omega (arith, e, w, fits), ap (class_name_of g.pool) e ∙ first.1.stands)
 
-  have_places : (hs : List Held) → AllByRecursion (HasPlace g.pool) (class_names hs) → AllByRecursion MadeThere hs → AllByRecursion (HasPlaces g p) hs
+  have_places : (hs : List VerificationType) → AllByRecursion (HasPlace g.pool) (class_names hs) → AllByRecursion MadeThere hs → AllByRecursion (HasPlaces g p) hs
   have_places [] s m = tt
   have_places (object name ∷ hs) s m = (place_of name s.0, have_places hs s.1 m.1)
   have_places (uninit at ∷ hs) s m = (m.0, have_places hs s m.1)
@@ -135,45 +135,45 @@ module _ (g : Ground) (starts : List ℕ) (p : Places) (count : length starts �
   -- ---- frames
 
   writable : (names : Names) (f : FrameAt) → FitsFull (length starts) (length names) f → made.IsState g.code g.max_locals g.max_stack f.state
-      → AllByRecursion (HasPlace g.pool) (named_by (seen_at names f)) → IsWritable g p (seen_at names f)
+      → AllByRecursion (HasPlace g.pool) (named_by (type_state_at names f)) → IsWritable g p (type_state_at names f)
   writable names f fits state stand =
-      let locals = map (held names) f.state.locals in
-      let both = both_parts (HasPlace g.pool) (class_names (values_in locals)) (class_names (map (held names) f.state.stack)) stand in
+      let locals = map (verification_type names) f.state.locals in
+      let both = both_parts (HasPlace g.pool) (class_names (values_in locals)) (class_names (map (verification_type names) f.state.stack)) stand in
       record {
         within = let lt = fits.at in omega (arith, lt, count);
         starts = starts_at f.at fits.at;
-        locals = length-map f.state.locals (held names) ∙ state.locals;
+        locals = length-map f.state.locals (verification_type names) ∙ state.locals;
         paired = paired names f.state.locals state.pairs;
         stack = let e = slots_are names f.state.stack in let le = state.stack in omega (arith, e, le);
-        few_locals = let e = length-map f.state.locals (held names) in let le = fits.few_locals in omega (arith, e, le);
-        few_stack = let e = length-map f.state.stack (held names) in let le = fits.few_stack in omega (arith, e, le);
+        few_locals = let e = length-map f.state.locals (verification_type names) in let le = fits.few_locals in omega (arith, e, le);
+        few_stack = let e = length-map f.state.stack (verification_type names) in let le = fits.few_stack in omega (arith, e, le);
         local_places = have_places (values_in locals) both.0 (in_values MadeThere locals (made_all names f.state.locals state.local_kinds));
-        stack_places = have_places (map (held names) f.state.stack) both.1 (made_all names f.state.stack state.stack_kinds);
+        stack_places = have_places (map (verification_type names) f.state.stack) both.1 (made_all names f.state.stack state.stack_kinds);
       }
 
   all_writable : (names : Names) (fs : List FrameAt) → AllByRecursion (FitsFull (length starts) (length names)) fs
-      → AllByRecursion (λ f. made.IsState g.code g.max_locals g.max_stack f.state) fs → AllByRecursion (HasPlace g.pool) (named_by_all (map (seen_at names) fs))
-      → AllByRecursion (IsWritable g p) (map (seen_at names) fs)
+      → AllByRecursion (λ f. made.IsState g.code g.max_locals g.max_stack f.state) fs → AllByRecursion (HasPlace g.pool) (named_by_all (map (type_state_at names) fs))
+      → AllByRecursion (IsWritable g p) (map (type_state_at names) fs)
   all_writable names [] fits states stand = tt
   all_writable names (f ∷ fs) fits states stand =
-      let both = both_parts (HasPlace g.pool) (named_by (seen_at names f)) (named_by_all (map (seen_at names) fs)) stand in
+      let both = both_parts (HasPlace g.pool) (named_by (type_state_at names f)) (named_by_all (map (type_state_at names) fs)) stand in
       (writable names f fits.0 states.0 both.0, all_writable names fs fits.1 states.1 both.1)
 
-  rises : (names : Names) (base : ℕ) (fs : List FrameAt) → OffsetsRise starts base fs → AreRising p base (map (seen_at names) fs)
+  rises : (names : Names) (base : ℕ) (fs : List FrameAt) → OffsetsRise starts base fs → AreRising p base (map (type_state_at names) fs)
   rises names base [] r = tt
   rises names base (f ∷ fs) r = (
     (let e = are.start f.at in let le = r.0 in omega (arith, e, le)),
-    subst (λ (n : ℕ). AreRising p (n + 1) (map (seen_at names) fs)) (sym (are.start f.at)) (rises names (get_or starts f.at 0 + 1) fs r.1),
+    subst (λ (n : ℕ). AreRising p (n + 1) (map (type_state_at names) fs)) (sym (are.start f.at)) (rises names (get_or starts f.at 0 + 1) fs r.1),
   )
 
 pub written_back : WrittenFramesReadBack
 written_back g starts names old p entry frames can over takes are =
-    read_back g p entry (map (seen_at names) frames) (record {
-      few = let e = length-map frames (seen_at names) in let le = can.few in omega (arith, e, le);
+    read_back g p entry (map (type_state_at names) frames) (record {
+      few = let e = length-map frames (type_state_at names) in let le = can.few in omega (arith, e, le);
       rising = rises g starts p over.count over.end over.begins can.offsets can.short are names 0 frames
           (offsets_rise starts (length names) can.offsets 0 0 (λ j le lt. omega arith) frames can.rising can.each);
       each = all_writable g starts p over.count over.end over.begins can.offsets can.short are names frames can.each over.states
-          (all_stand old g.pool (named_by_all (map (seen_at names) frames)) takes);
+          (all_stand old g.pool (named_by_all (map (type_state_at names) frames)) takes);
     })
 
 -- ---- frames of a body

@@ -1,7 +1,7 @@
 -- The classes whose numbers are known while states are built.
 use Rattle.std.specs.Prelude.{◌≡◌, ℕ, Some, IfSome, nat_eq, slice_get}
 use Rattle.std.specs.HashMap.{get, HashMap}
-use Rattle.jc_methods.specs.Held.{Names}
+use Rattle.jc_methods.specs.VerificationTypes.{Names}
 use Rattle.jc_pool.specs.Pool.{PoolValue}
 use Rattle.jc_frames.specs.Running.{name_at}
 

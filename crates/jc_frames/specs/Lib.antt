@@ -8,6 +8,6 @@ pub mod ReadBack
 pub mod WellMade
 pub mod Numbering
 pub mod Running
-pub mod Walk
+pub mod NextFrame
 pub mod Building
 pub mod Answers

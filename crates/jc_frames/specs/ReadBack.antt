@@ -3,7 +3,7 @@ use Rattle.std.specs.Prelude.{◌≡◌, ℕ, ◌≤◌, List, [], ◌∷◌, �
 use Rattle.std.specs.List.{AllByRecursion}
 use Rattle.jc_methods.specs.declared.body.FrameAt.{FrameAt}
 use Rattle.jc_methods.specs.declared.insn.Insn.{Insn}
-use Rattle.jc_methods.specs.Held.{AreNumberedFrames, Names, Seen, seen_at}
+use Rattle.jc_methods.specs.VerificationTypes.{AreNumberedFrames, Names, TypeState, type_state_at}
 use Rattle.jc_methods.specs.WellMade.{AreFramesFrom, IsState}
 use Rattle.jc_pool.specs.Pool.{PoolValue}
 use Rattle.jc_frames.specs.Frames.{Ground}
@@ -21,10 +21,10 @@ pub record AreFramesOver (g : Ground) (starts : List ℕ) (frames : List FrameAt
 -- What is written of frames into a pool that takes their classes stands for these frames, whatever the state is in
 -- which the method begins.
 abbrev pub WrittenFramesReadBack : Type 0
-WrittenFramesReadBack = (g : Ground) (starts : List ℕ) (names : Names) (old : PoolValue) (p : Places) (entry : Seen) (frames : List FrameAt)
+WrittenFramesReadBack = (g : Ground) (starts : List ℕ) (names : Names) (old : PoolValue) (p : Places) (entry : TypeState) (frames : List FrameAt)
     → CanBeWritten starts (length names) frames → AreFramesOver g starts frames
-    → TakesClasses old (named_by_all (map (seen_at names) frames)) g.pool → ArePlacesIn g.pool starts p
-    → StandsFor g entry (table_text p (map (seen_at names) frames)) (map (seen_at names) frames)
+    → TakesClasses old (named_by_all (map (type_state_at names) frames)) g.pool → ArePlacesIn g.pool starts p
+    → StandsFor g entry (table_text p (map (type_state_at names) frames)) (map (type_state_at names) frames)
 
 -- the frames of a well made body can be written over instructions whose offsets are numbers of two bytes
 abbrev pub FramesCanBeWritten : Type 0

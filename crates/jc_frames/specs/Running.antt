@@ -2,7 +2,7 @@
 use Rattle.std.specs.Prelude.{◌≡◌, ⊤, ℕ, ◌+◌, ◌<◌, ◌≤◌, ◌^◌, List, [], length, map, unwrap_or}
 use Rattle.std.specs.List.{sum_by}
 use Rattle.jc_methods.specs.declared.kind.Kind.TheVariants as kinds
-use Rattle.jc_methods.specs.Held.{Names, Held, object, held, IsNumbered}
+use Rattle.jc_methods.specs.VerificationTypes.{Names, VerificationType, object, verification_type, IsNumbered}
 use Rattle.jc_methods.specs.EntryState.{in_locals}
 use Rattle.jc_methods.specs.WellMade.{kind_slots}
 use Rattle.jc_pool.specs.Pool.{PoolValue}
@@ -21,11 +21,11 @@ use Rattle.jc_frames.specs.Frames.{Ground, Before, Found}
 abbrev pub name_at : PoolValue → ℕ → List ℕ
 name_at pool place = unwrap_or (class_name_of pool place) []
 
-abbrev pub held_value : PoolValue → Names → Value → Held
-held_value pool names (values.Of kind) = held names kind
+abbrev pub held_value : PoolValue → Names → Value → VerificationType
+held_value pool names (values.Of kind) = verification_type names kind
 held_value pool names (values.ClassAt place) = object (name_at pool place)
 
-abbrev pub held_values : PoolValue → Names → List Value → List Held
+abbrev pub held_values : PoolValue → Names → List Value → List VerificationType
 held_values pool names vs = map (held_value pool names) vs
 
 -- the value has no number of a class

@@ -2,7 +2,7 @@
 use Rattle.std.specs.Prelude.{◌≡◌, ◌≢◌, ◌⊎◌, ℕ, zero, suc, ◌+◌, List, [], ◌∷◌, ◌++◌, Option, Some, None}
 use Rattle.jc_bytes.specs.Decoder.{number_at}
 use Rattle.jc_bytes.specs.Parsing.{Parsed, Good, Bad, item}
-use Rattle.jc_methods.specs.Held.{Seen, SeenAt}
+use Rattle.jc_methods.specs.VerificationTypes.{TypeState, TypeStateAt}
 use Rattle.jc_frames.specs.declared.items.FrameItem.{FrameItem}
 use Rattle.jc_bytes.specs.ItemForms.{number}
 use Rattle.jc_frames.specs.TableForm.{frame_item}
@@ -20,14 +20,14 @@ pub record FrameBefore (g : Ground) (before : Before) (bytes rest : List ℕ) (f
   pub says : frame_of g before item ≡ Some found
 
 -- the bytes are so many frames, one behind the other
-abbrev pub AreFrames : Ground → Before → ℕ → List ℕ → List SeenAt → Type 0
+abbrev pub AreFrames : Ground → Before → ℕ → List ℕ → List TypeStateAt → Type 0
 AreFrames g before zero bytes frames = (bytes ≡ []) × (frames ≡ [])
 AreFrames g before (suc n) bytes frames =
-    (rest : List ℕ) × (found : Found) × (others : List SeenAt)
+    (rest : List ℕ) × (found : Found) × (others : List TypeStateAt)
     × (frames ≡ found.frame ∷ others) × FrameBefore g before bytes rest found × AreFrames g found.next n rest others
 
 -- the table is a count of two bytes, and so many frames
-pub record StandsFor (g : Ground) (entry : Seen) (table : List ℕ) (frames : List SeenAt) : Type 0 where
+pub record StandsFor (g : Ground) (entry : TypeState) (table : List ℕ) (frames : List TypeStateAt) : Type 0 where
   pub count : ℕ
   pub front : List ℕ
   pub rest : List ℕ
@@ -57,7 +57,7 @@ pub record NoCount (table : List ℕ) (place : ℕ) : Type 0 where
   pub fault : (front rest : List ℕ) (count : ℕ) → table ≡ front ++ rest → (number 2).Text front count → ⊥
 
 -- behind the count
-pub record CountedFault (g : Ground) (entry : Seen) (table : List ℕ) (place : ℕ) : Type 0 where
+pub record CountedFault (g : Ground) (entry : TypeState) (table : List ℕ) (place : ℕ) : Type 0 where
   pub count : ℕ
   pub front : List ℕ
   pub rest : List ℕ
@@ -66,17 +66,17 @@ pub record CountedFault (g : Ground) (entry : Seen) (table : List ℕ) (place : 
   pub fault : FaultFrom g (first_before entry) 0 count rest place
 
 -- the table stands for no frames: its first fault is that of the frame with this number, or 0
-abbrev pub TableFault : Ground → Seen → List ℕ → ℕ → Type 0
+abbrev pub TableFault : Ground → TypeState → List ℕ → ℕ → Type 0
 TableFault g entry table place = NoCount table place ⊎ CountedFault g entry table place
 
 -- ---- the same by reading
 
 -- the frames, or the place of the first fault
 pub data Outcome : Type 0 where
-  stands_for : List SeenAt → Outcome
+  stands_for : List TypeStateAt → Outcome
   at_fault : ℕ → Outcome
 
-abbrev pub behind_frame : SeenAt → Outcome → Outcome
+abbrev pub behind_frame : TypeStateAt → Outcome → Outcome
 behind_frame frame (stands_for frames) = stands_for (frame ∷ frames)
 behind_frame frame (at_fault place) = at_fault place
 
@@ -97,11 +97,11 @@ abbrev pub frames_from : Ground → ℕ → ℕ → Before → List ℕ → Outc
 frames_from g this zero before bytes = at_end bytes
 frames_from g this (suc n) before bytes = with_item g before this (frames_from g (this + 1) n) (frame_item_at bytes)
 
-abbrev pub with_count : Ground → Seen → Parsed ℕ → Outcome
+abbrev pub with_count : Ground → TypeState → Parsed ℕ → Outcome
 with_count g entry (Good count rest) = frames_from g 0 count (first_before entry) rest
 with_count g entry (Bad left) = at_fault 0
 
-unfoldable pub outcome_of : Ground → Seen → List ℕ → Outcome
+unfoldable pub outcome_of : Ground → TypeState → List ℕ → Outcome
 outcome_of g entry table = with_count g entry (item (number_at 2) table)
 
 -- the place of the first fault, if there is one

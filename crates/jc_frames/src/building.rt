@@ -1,7 +1,7 @@
 //! The state of a frame, with numbers of class names.
 ghost use Rattle.std.specs.Prelude.{◌≡◌, ◌<◌, ◌≤◌, ◌++◌, ◌-◌, ℕ, length, map, replicate, IfOk, OnOk, Some, All, slice_get};
 ghost use Rattle.jc_methods.specs.EntryState.{spread, in_locals};
-ghost use Rattle.jc_methods.specs.Held.{Names as NameList, class_name, class_names, held, seen_at, Grows, IsNumbered, IsNumberedState};
+ghost use Rattle.jc_methods.specs.VerificationTypes.{Names as NameList, class_name, class_names, verification_type, type_state_at, Grows, IsNumbered, IsNumberedState};
 ghost use Rattle.jc_methods.specs.declared.kind.Kind.TheVariants as kinds;
 ghost use Rattle.jc_bytes.specs.Names.{with_name, met};
 ghost use Rattle.jc_frames.specs.Answers.{seen_names};
@@ -65,7 +65,7 @@ fn kind_of(
     names: &mut Names,
 ) -> Result<Kind, Memory>
     requires { AreKnown pool.now names.old known.old }
-    ensures kind { (later : NameList) → Grows names.new later → IfOk result (λ kind. held later kind ≡ held_value pool.now later value) }
+    ensures kind { (later : NameList) → Grows names.new later → IfOk result (λ kind. verification_type later kind ≡ held_value pool.now later value) }
     ensures numbered { IsNumberedValue (length names.old) value → IfOk result (IsNumbered (length names.new)) }
     ensures met { IsNumberedValue (length names.old) value
         → OnOk result (names.new ≡ met names.old (class_name (held_value pool.now names.new value))) }
@@ -95,7 +95,7 @@ fn kinds_of(
 ) -> Result<Vec<Kind>, Memory>
     requires { AreKnown pool.now names.old known.old }
     ensures kinds { (later : NameList) → Grows names.new later
-        → IfOk result (λ list. map (held later) list.items ≡ held_values pool.now later values.now) }
+        → IfOk result (λ list. map (verification_type later) list.items ≡ held_values pool.now later values.now) }
     ensures numbered { All (IsNumberedValue (length names.old)) values.now
         → IfOk result (λ list. All (IsNumbered (length names.new)) list.items) }
     ensures met { All (IsNumberedValue (length names.old)) values.now
@@ -117,7 +117,7 @@ fn kinds_of(
 /// `Memory` where memory was refused.
 fn locals_of(alloc: Global, kinds: &[Kind], max_locals: u32) -> Result<List<Kind>, Memory>
     ensures seen { (names : NameList)
-        → IfOk result (λ locals. map (held names) locals ≡ in_locals max_locals (map (held names) kinds.now)) }
+        → IfOk result (λ locals. map (verification_type names) locals ≡ in_locals max_locals (map (verification_type names) kinds.now)) }
     ensures numbered { (count : ℕ) → All (IsNumbered count) kinds.now → IfOk result (λ locals. All (IsNumbered count) locals) }
 {
     let mut locals = List::new(alloc);
@@ -146,7 +146,7 @@ pub fn built_frame(
 ) -> Result<FrameAt, Memory>
     requires { AreKnown method.now.pool names.old known.old }
     ensures seen { (later : NameList) → Grows names.new later
-        → IfOk result (λ built. seen_at later built ≡ (found_as method.now later running.now frame.now).frame) }
+        → IfOk result (λ built. type_state_at later built ≡ (found_as method.now later running.now frame.now).frame) }
     ensures numbered { All (IsNumberedValue (length names.old)) running.now.values.items → All IsUnnumbered frame.now.stack.items
         → IfOk result (λ built. IsNumberedState (length names.new) built.state) }
     ensures met { All (IsNumberedValue (length names.old)) running.now.values.items → All IsUnnumbered frame.now.stack.items

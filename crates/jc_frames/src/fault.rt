@@ -1,6 +1,6 @@
 //! Where a StackMapTable is wrong (JVM Specification 4.7.4).
 ghost use Rattle.std.specs.Prelude.{◌≡◌, ◌<◌, ◌≤◌, ◌^◌, ℕ, List, length, IfOk, MatchOption, Some, None};
-ghost use Rattle.jc_methods.specs.Held.{Names, SeenAt, seen};
+ghost use Rattle.jc_methods.specs.VerificationTypes.{Names, TypeStateAt, type_state};
 ghost use Rattle.jc_bytes.specs.Reader.{most_read};
 ghost use Rattle.jc_frames.specs.Frames.{ground};
 ghost use Rattle.jc_frames.specs.Table.{StandsFor, TableFault, outcome_of, fault_of};
@@ -37,14 +37,14 @@ pub fn frame_fault(
     requires offsets { AreOffsets (length code.now) starts.now }
     // The table stands for frames, or has its fault at the place that is given.
     ensures answer { (names : Names) → let g = ground pool.now code.now starts.now (length entry.now.locals) max_stack in
-        IfOk result (λ fault. MatchOption fault ((frames : List SeenAt) × StandsFor g (seen names entry.now) table.now frames)
-        (λ place. TableFault g (seen names entry.now) table.now place)) }
+        IfOk result (λ fault. MatchOption fault ((frames : List TypeStateAt) × StandsFor g (type_state names entry.now) table.now frames)
+        (λ place. TableFault g (type_state names entry.now) table.now place)) }
     // A table that stands for frames has no place, and one with a fault has that of the fault, unless memory runs out.
-    ensures stands { (names : Names) (frames : List SeenAt)
+    ensures stands { (names : Names) (frames : List TypeStateAt)
         → let g = ground pool.now code.now starts.now (length entry.now.locals) max_stack in
-        StandsFor g (seen names entry.now) table.now frames → IfOk result (λ fault. fault ≡ None) }
+        StandsFor g (type_state names entry.now) table.now frames → IfOk result (λ fault. fault ≡ None) }
     ensures faulty { (names : Names) (place : ℕ) → let g = ground pool.now code.now starts.now (length entry.now.locals) max_stack in
-        TableFault g (seen names entry.now) table.now place → IfOk result (λ fault. fault ≡ Some place) }
+        TableFault g (type_state names entry.now) table.now place → IfOk result (λ fault. fault ≡ Some place) }
 {
     found_fault(alloc, table, entry, max_stack, code, starts, pool)
 }
@@ -64,7 +64,7 @@ fn found_fault(
     requires few { length starts.now < 2 ^ 32 }
     requires offsets { AreOffsets (length code.now) starts.now }
     ensures { (names : Names) → let g = ground pool.now code.now starts.now (length entry.now.locals) max_stack in
-        IfOk result (λ fault. fault ≡ fault_of (outcome_of g (seen names entry.now) table.now)) }
+        IfOk result (λ fault. fault ≡ fault_of (outcome_of g (type_state names entry.now) table.now)) }
 {
     let method = Method::new(
         alloc,

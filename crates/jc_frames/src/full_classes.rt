@@ -1,6 +1,6 @@
 //! The classes that full frames name, in a constant pool (JVM Specification 4.4.1, 4.7.4).
 ghost use Rattle.std.specs.Prelude.{◌≡◌, ◌≤◌, All, IfErr, IfOk, OnErr, OnOk, length, map};
-ghost use Rattle.jc_methods.specs.Held.{AreNumberedFrames, IsNumbered, IsNumberedState, class_name, class_names, held, seen_at};
+ghost use Rattle.jc_methods.specs.VerificationTypes.{AreNumberedFrames, IsNumbered, IsNumberedState, class_name, class_names, verification_type, type_state_at};
 ghost use Rattle.jc_pool.specs.Adding.{Extends, HasClass, RefusesFull};
 ghost use Rattle.jc_frames.specs.FullTable.{AreTaken, RefusesClasses, TakesClasses, named_by, named_by_all};
 
@@ -43,8 +43,8 @@ fn take_class_of(
 ) -> Result<(), Fail<PoolFull>>
     requires number { IsNumbered (length names.now) kind }
     requires taken { AreTaken pool.old names.now met.old }
-    ensures classes { OnOk result (TakesClasses pool.old (class_name (held names.now kind)) pool.new) }
-    ensures refused { IfErr result (RefusesClasses pool.old (class_name (held names.now kind)) pool.new) }
+    ensures classes { OnOk result (TakesClasses pool.old (class_name (verification_type names.now kind)) pool.new) }
+    ensures refused { IfErr result (RefusesClasses pool.old (class_name (verification_type names.now kind)) pool.new) }
     ensures taken { OnOk result (AreTaken pool.new names.now met.new) }
     ensures extends { Extends pool.old pool.new }
 {
@@ -69,8 +69,8 @@ fn take_classes_of(
 ) -> Result<(), Fail<PoolFull>>
     requires numbers { All (IsNumbered (length names.now)) kinds.now }
     requires taken { AreTaken pool.old names.now met.old }
-    ensures classes { OnOk result (TakesClasses pool.old (class_names (map (held names.now) kinds.now)) pool.new) }
-    ensures refused { IfErr result (RefusesClasses pool.old (class_names (map (held names.now) kinds.now)) pool.new) }
+    ensures classes { OnOk result (TakesClasses pool.old (class_names (map (verification_type names.now) kinds.now)) pool.new) }
+    ensures refused { IfErr result (RefusesClasses pool.old (class_names (map (verification_type names.now) kinds.now)) pool.new) }
     ensures taken { OnOk result (AreTaken pool.new names.now met.new) }
     ensures extends { Extends pool.old pool.new }
 {
@@ -90,8 +90,8 @@ fn take_classes_in(
 ) -> Result<(), Fail<PoolFull>>
     requires numbers { IsNumberedState (length names.now) frame.now.state }
     requires taken { AreTaken pool.old names.now met.old }
-    ensures classes { OnOk result (TakesClasses pool.old (named_by (seen_at names.now frame.now)) pool.new) }
-    ensures refused { IfErr result (RefusesClasses pool.old (named_by (seen_at names.now frame.now)) pool.new) }
+    ensures classes { OnOk result (TakesClasses pool.old (named_by (type_state_at names.now frame.now)) pool.new) }
+    ensures refused { IfErr result (RefusesClasses pool.old (named_by (type_state_at names.now frame.now)) pool.new) }
     ensures taken { OnOk result (AreTaken pool.new names.now met.new) }
     ensures extends { Extends pool.old pool.new }
 {
@@ -113,8 +113,8 @@ pub fn take_classes(
     pool: &mut Pool,
 ) -> Result<(), Fail<PoolFull>>
     requires { AreNumberedFrames (length names.now) frames.now }
-    ensures classes { OnOk result (TakesClasses pool.old (named_by_all (map (seen_at names.now) frames.now)) pool.new) }
-    ensures refused { IfErr result (RefusesClasses pool.old (named_by_all (map (seen_at names.now) frames.now)) pool.new) }
+    ensures classes { OnOk result (TakesClasses pool.old (named_by_all (map (type_state_at names.now) frames.now)) pool.new) }
+    ensures refused { IfErr result (RefusesClasses pool.old (named_by_all (map (type_state_at names.now) frames.now)) pool.new) }
     ensures extends { Extends pool.old pool.new }
 {
     let mut met = HashSet::new(alloc);

@@ -1,7 +1,7 @@
 //! Writing full frames (JVM Specification 4.7.4).
 ghost use Rattle.std.specs.Prelude.{◌≡◌, ◌<◌, ◌≤◌, ◌++◌, [], All, IfErr, IfOk, OnErr, OnOk, length, map, slice_index, slice_index_or};
 ghost use Rattle.std.specs.List.{AllByRecursion, flat_map};
-ghost use Rattle.jc_methods.specs.Held.{IsNumbered, class_name, class_names, held, seen_at};
+ghost use Rattle.jc_methods.specs.VerificationTypes.{IsNumbered, class_name, class_names, verification_type, type_state_at};
 ghost use Rattle.jc_pool.specs.Adding.{Extends, IsFirst};
 ghost use Rattle.jc_pool.specs.Lookup.{class_name_of};
 ghost use Rattle.jc_frames.specs.FullFrames.{Places, full_text, full_texts, short, table_text, type_text, types_text};
@@ -69,10 +69,10 @@ fn put_kind(
     requires number { IsNumbered (length names.now) kind }
     requires place { IsPlaced (length starts.now) kind }
     requires short { AreShort starts.now }
-    requires stands { AllByRecursion (HasPlace pool.old) (class_name (held names.now kind)) }
+    requires stands { AllByRecursion (HasPlace pool.old) (class_name (verification_type names.now kind)) }
     requires known { AreFirstPlaces pool.old names.now known.old }
     ensures text { (p : Places) → ArePlacesIn pool.old starts.now p
-        → OnOk result (into.new.items ≡ into.old.items ++ type_text p (held names.now kind)) }
+        → OnOk result (into.new.items ≡ into.old.items ++ type_text p (verification_type names.now kind)) }
     ensures known { OnOk result (AreFirstPlaces pool.old names.now known.new) }
     ensures kept { pool.new ≡ pool.old }
 {
@@ -109,10 +109,10 @@ fn put_listed_kinds(
     requires numbers { All (IsNumbered (length names.now)) kinds.now }
     requires places { All (IsPlaced (length starts.now)) kinds.now }
     requires short { AreShort starts.now }
-    requires stand { AllByRecursion (HasPlace pool.old) (class_names (map (held names.now) kinds.now)) }
+    requires stand { AllByRecursion (HasPlace pool.old) (class_names (map (verification_type names.now) kinds.now)) }
     requires known { AreFirstPlaces pool.old names.now known.old }
     ensures text { (p : Places) → ArePlacesIn pool.old starts.now p
-        → OnOk result (into.new.items ≡ into.old.items ++ flat_map (type_text p) (map (held names.now) kinds.now)) }
+        → OnOk result (into.new.items ≡ into.old.items ++ flat_map (type_text p) (map (verification_type names.now) kinds.now)) }
     ensures known { OnOk result (AreFirstPlaces pool.old names.now known.new) }
     ensures kept { pool.new ≡ pool.old }
 {
@@ -136,10 +136,10 @@ fn put_kinds(
     requires numbers { All (IsNumbered (length names.now)) kinds.now }
     requires places { All (IsPlaced (length starts.now)) kinds.now }
     requires short { AreShort starts.now }
-    requires stand { AllByRecursion (HasPlace pool.old) (class_names (map (held names.now) kinds.now)) }
+    requires stand { AllByRecursion (HasPlace pool.old) (class_names (map (verification_type names.now) kinds.now)) }
     requires known { AreFirstPlaces pool.old names.now known.old }
     ensures text { (p : Places) → ArePlacesIn pool.old starts.now p
-        → OnOk result (into.new.items ≡ into.old.items ++ types_text p (map (held names.now) kinds.now)) }
+        → OnOk result (into.new.items ≡ into.old.items ++ types_text p (map (verification_type names.now) kinds.now)) }
     ensures known { OnOk result (AreFirstPlaces pool.old names.now known.new) }
     ensures kept { pool.new ≡ pool.old }
 {
@@ -162,10 +162,10 @@ fn put_frame(
     requires fits { FitsFull (length starts.now) (length names.now) frame.now }
     requires short { AreShort starts.now }
     requires base { base ≤ slice_index starts.now frame.now.at }
-    requires stand { AllByRecursion (HasPlace pool.old) (named_by (seen_at names.now frame.now)) }
+    requires stand { AllByRecursion (HasPlace pool.old) (named_by (type_state_at names.now frame.now)) }
     requires known { AreFirstPlaces pool.old names.now known.old }
     ensures text { (p : Places) → ArePlacesIn pool.old starts.now p
-        → OnOk result (into.new.items ≡ into.old.items ++ full_text p base (seen_at names.now frame.now)) }
+        → OnOk result (into.new.items ≡ into.old.items ++ full_text p base (type_state_at names.now frame.now)) }
     ensures known { OnOk result (AreFirstPlaces pool.old names.now known.new) }
     ensures kept { pool.new ≡ pool.old }
 {
@@ -189,9 +189,9 @@ fn put_frames(
     requires each { AllByRecursion (FitsFull (length starts.now) (length names.now)) frames.now }
     requires short { AreShort starts.now }
     requires rising { OffsetsRise starts.now 0 frames.now }
-    requires stand { AllByRecursion (HasPlace pool.old) (named_by_all (map (seen_at names.now) frames.now)) }
+    requires stand { AllByRecursion (HasPlace pool.old) (named_by_all (map (type_state_at names.now) frames.now)) }
     ensures text { (p : Places) → ArePlacesIn pool.old starts.now p
-        → OnOk result (into.new.items ≡ into.old.items ++ full_texts p 0 (map (seen_at names.now) frames.now)) }
+        → OnOk result (into.new.items ≡ into.old.items ++ full_texts p 0 (map (type_state_at names.now) frames.now)) }
     ensures kept { pool.new ≡ pool.old }
 {
     let mut known = HashMap::new(alloc);
@@ -213,9 +213,9 @@ fn put_table(
     into: &mut Vec<u8>,
 ) -> Result<(), Memory>
     requires written { CanBeWritten starts.now (length names.now) frames.now }
-    requires stand { AllByRecursion (HasPlace pool.old) (named_by_all (map (seen_at names.now) frames.now)) }
+    requires stand { AllByRecursion (HasPlace pool.old) (named_by_all (map (type_state_at names.now) frames.now)) }
     ensures text { (p : Places) → ArePlacesIn pool.old starts.now p
-        → OnOk result (into.new.items ≡ into.old.items ++ table_text p (map (seen_at names.now) frames.now)) }
+        → OnOk result (into.new.items ≡ into.old.items ++ table_text p (map (type_state_at names.now) frames.now)) }
     ensures kept { pool.new ≡ pool.old }
 {
     put_short(into, frames.len() as u16)?;
@@ -245,10 +245,10 @@ pub fn write_full(
     requires { CanBeWritten starts.now (length names.now) frames.now }
     // The text of full frames, with the first place of each class in the new pool.
     ensures text { (p : Places) → ArePlacesIn pool.new starts.now p
-        → OnOk result (into.new.items ≡ into.old.items ++ table_text p (map (seen_at names.now) frames.now)) }
+        → OnOk result (into.new.items ≡ into.old.items ++ table_text p (map (type_state_at names.now) frames.now)) }
     // The pool takes the classes that the frames name, and no others.
-    ensures classes { OnOk result (TakesClasses pool.old (named_by_all (map (seen_at names.now) frames.now)) pool.new) }
-    ensures refused { IfErr result (RefusesClasses pool.old (named_by_all (map (seen_at names.now) frames.now)) pool.new) }
+    ensures classes { OnOk result (TakesClasses pool.old (named_by_all (map (type_state_at names.now) frames.now)) pool.new) }
+    ensures refused { IfErr result (RefusesClasses pool.old (named_by_all (map (type_state_at names.now) frames.now)) pool.new) }
     ensures kept { OnErr result (into.new.items ≡ into.old.items) }
     ensures extends { Extends pool.old pool.new }
 {

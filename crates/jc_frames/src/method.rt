@@ -1,6 +1,6 @@
 //! What the meaning of a table depends on.
 ghost use Rattle.std.specs.Prelude.{◌≡◌, ◌+◌, ◌<◌, ◌≤◌, ◌^◌, length, IfOk, IfSome, IfNone, Some, All, option_map, slice_get};
-ghost use Rattle.jc_methods.specs.Held.{Names};
+ghost use Rattle.jc_methods.specs.VerificationTypes.{Names};
 ghost use Rattle.jc_methods.specs.Starts.{insn_number};
 ghost use Rattle.jc_frames.specs.Frames.{is_new, type_of, types_of};
 ghost use Rattle.jc_frames.specs.Running.{held_value, held_values, IsUnnumbered};

@@ -1,6 +1,6 @@
 //! Reading a StackMapTable (JVM Specification 4.7.4).
 ghost use Rattle.std.specs.Prelude.{◌≡◌, ◌<◌, ◌≤◌, ◌^◌, ℕ, List, length, map, IfOk, IfErr, All};
-ghost use Rattle.jc_methods.specs.Held.{SeenAt, seen, seen_at, Grows, IsNumberedState, AreNumberedFrames};
+ghost use Rattle.jc_methods.specs.VerificationTypes.{TypeStateAt, type_state, type_state_at, Grows, IsNumberedState, AreNumberedFrames};
 ghost use Rattle.jc_bytes.specs.Names.{met};
 ghost use Rattle.jc_bytes.specs.Reader.{most_read};
 ghost use Rattle.jc_methods.specs.WellMade.{IsKind, AreFramesFrom};
@@ -57,19 +57,19 @@ pub fn read_frames(
     requires numbered { IsNumberedState (length names.old) entry.now }
     // The table stands for the frames, whose class numbers are those of names.
     ensures frames { IfOk result (λ frames. StandsFor (ground pool.now code.now starts.now (length entry.now.locals) max_stack)
-        (seen names.old entry.now) table.now (map (seen_at names.new) frames.items)) }
+        (type_state names.old entry.now) table.now (map (type_state_at names.new) frames.items)) }
     ensures numbered { IfOk result (λ frames. AreNumberedFrames (length names.new) frames.items) }
     ensures well_made { All (IsKind code.now) entry.now.locals
         → IfOk result (λ frames. AreFramesFrom 0 code.now (length entry.now.locals) max_stack frames.items) }
     // A refusal says where the table is wrong.
     ensures refused { IfErr result (IsFrameRefusal (ground pool.now code.now starts.now (length entry.now.locals) max_stack)
-        (seen names.old entry.now) table.now) }
+        (type_state names.old entry.now) table.now) }
     // A table that stands for frames isn't refused, and one with a fault is, unless memory runs out.
-    ensures stands { (frames : List SeenAt) → StandsFor (ground pool.now code.now starts.now (length entry.now.locals) max_stack)
-        (seen names.old entry.now) table.now frames → IfErr result (λ e. e ≡ fails.Memory) }
+    ensures stands { (frames : List TypeStateAt) → StandsFor (ground pool.now code.now starts.now (length entry.now.locals) max_stack)
+        (type_state names.old entry.now) table.now frames → IfErr result (λ e. e ≡ fails.Memory) }
     ensures faulty { (place : ℕ) → TableFault (ground pool.now code.now starts.now (length entry.now.locals) max_stack)
-        (seen names.old entry.now) table.now place → IfOk result (λ frames. ⊥) }
-    ensures names { IfOk result (λ frames. names.new ≡ met names.old (frame_names (map (seen_at names.new) frames.items))) }
+        (type_state names.old entry.now) table.now place → IfOk result (λ frames. ⊥) }
+    ensures names { IfOk result (λ frames. names.new ≡ met names.old (frame_names (map (type_state_at names.new) frames.items))) }
     ensures grows { Grows names.old names.new }
 {
     found_frames(alloc, table, entry, max_stack, code, starts, pool, names)
@@ -92,11 +92,11 @@ fn found_frames(
     requires offsets { AreOffsets (length code.now) starts.now }
     requires numbered { IsNumberedState (length names.old) entry.now }
     ensures frames { IfOk result (λ frames. outcome_of (ground pool.now code.now starts.now (length entry.now.locals) max_stack)
-        (seen names.old entry.now) table.now ≡ stands_for (map (seen_at names.new) frames.items)) }
+        (type_state names.old entry.now) table.now ≡ stands_for (map (type_state_at names.new) frames.items)) }
     ensures numbered { IfOk result (λ frames. AreNumberedFrames (length names.new) frames.items) }
     ensures refused { IfErr result (FailsAt (outcome_of (ground pool.now code.now starts.now (length entry.now.locals) max_stack)
-        (seen names.old entry.now) table.now)) }
-    ensures names { IfOk result (λ frames. names.new ≡ met names.old (frame_names (map (seen_at names.new) frames.items))) }
+        (type_state names.old entry.now) table.now)) }
+    ensures names { IfOk result (λ frames. names.new ≡ met names.old (frame_names (map (type_state_at names.new) frames.items))) }
     ensures grows { Grows names.old names.new }
 {
     let method = Method::new(

@@ -2,7 +2,7 @@
 ghost use Rattle.std.specs.Prelude.{◌≡◌, ◌+◌, ◌-◌, ◌*◌, ◌<◌, ◌≤◌, ◌^◌, ◌++◌, ℕ, length, map, take, nat_le, IfOk};
 ghost use Rattle.std.specs.Prelude.{OnOk, IfSome, OnSome, Some, None, All, option_map, if◌then◌else◌};
 ghost use Rattle.std.specs.List.{sum_by};
-ghost use Rattle.jc_methods.specs.Held.{Names, held, seen, is_pair, IsNumbered};
+ghost use Rattle.jc_methods.specs.VerificationTypes.{Names, verification_type, type_state, is_pair, IsNumbered};
 ghost use Rattle.jc_pool.specs.Pool.{PoolValue};
 ghost use Rattle.jc_frames.specs.Frames.{delta_of, values_of, stack_of, types_of, frame_of, fits_slots, first_before, trimmed, values_in};
 ghost use Rattle.jc_frames.specs.FullTable.{IsPlaced};
@@ -95,7 +95,7 @@ impl FrameItem {
 /// Where the values in local variables end: what stands behind is `Top`.
 fn end_of_values(locals: &[Kind]) -> usize
     ensures within { result ≤ length locals.now }
-    ensures trimmed { (names : Names) → trimmed (map (held names) locals.now) ≡ map (held names) (take result locals.now) }
+    ensures trimmed { (names : Names) → trimmed (map (verification_type names) locals.now) ≡ map (verification_type names) (take result locals.now) }
 {
     let mut end = locals.len();
     'trimming: while end > 0 && matches!(locals[end - 1], Kind::Top) {
@@ -106,7 +106,7 @@ fn end_of_values(locals: &[Kind]) -> usize
 
 /// Whether the value takes two slots.
 pub fn is_wide(kind: Kind) -> bool
-    ensures { (names : Names) → result ≡ is_pair (held names kind) }
+    ensures { (names : Names) → result ≡ is_pair (verification_type names kind) }
 {
     matches!(kind, Kind::Long | Kind::Double)
 }
@@ -117,7 +117,7 @@ pub fn is_wide(kind: Kind) -> bool
 ///
 /// `Memory` where memory was refused.
 pub fn kinds_in_locals(alloc: Global, locals: &[Kind]) -> Result<Vec<Kind>, Memory>
-    ensures values { (names : Names) → IfOk result (λ kinds. map (held names) kinds.items ≡ values_in (map (held names) locals.now)) }
+    ensures values { (names : Names) → IfOk result (λ kinds. map (verification_type names) kinds.items ≡ values_in (map (verification_type names) locals.now)) }
     ensures few { IfOk result (λ kinds. length kinds.items ≤ length locals.now) }
     ensures numbered { (count : ℕ) → All (IsNumbered count) locals.now → IfOk result (λ kinds. All (IsNumbered count) kinds.items) }
     ensures placed { (count : ℕ) → All (IsPlaced count) locals.now → IfOk result (λ kinds. All (IsPlaced count) kinds.items) }
@@ -143,7 +143,7 @@ pub fn kinds_in_locals(alloc: Global, locals: &[Kind]) -> Result<Vec<Kind>, Memo
 /// `Memory` where memory was refused.
 fn values_of_locals(alloc: Global, locals: &[Kind]) -> Result<Vec<Value>, Memory>
     ensures values { (pool : PoolValue) (names : Names) → IfOk result (λ values.
-        held_values pool names values.items ≡ values_in (map (held names) locals.now)) }
+        held_values pool names values.items ≡ values_in (map (verification_type names) locals.now)) }
     ensures few { IfOk result (λ values. length values.items ≤ length locals.now) }
     ensures numbered { (count : ℕ) → All (IsNumbered count) locals.now
         → IfOk result (λ values. All (IsNumberedValue count) values.items) }
@@ -165,7 +165,7 @@ impl Running {
     pub fn first(alloc: Global, entry: &State) -> Result<Running, Memory>
         requires { length entry.now.locals < 2 ^ 32 }
         ensures values { (pool : PoolValue) (names : Names)
-            → IfOk result (λ running. before pool names running ≡ first_before (seen names entry.now)) }
+            → IfOk result (λ running. before pool names running ≡ first_before (type_state names entry.now)) }
         ensures running { IfOk result IsRunning }
         ensures numbered { (count : ℕ) → All (IsNumbered count) entry.now.locals
             → IfOk result (λ running. All (IsNumberedValue count) running.values.items) }

@@ -1,11 +1,11 @@
 //! The frames of a table one after the other.
 ghost use Rattle.std.specs.Prelude.{◌≡◌, ◌<◌, ◌^◌, ℕ, IfOk, OnOk, IfSome, OnSome, IfNone, All, option_map};
 ghost use Rattle.jc_bytes.specs.Decoder.{number_at};
-ghost use Rattle.jc_methods.specs.Held.{Names};
+ghost use Rattle.jc_methods.specs.VerificationTypes.{Names};
 ghost use Rattle.jc_bytes.specs.Parsing.{Good, Bad, item};
 ghost use Rattle.jc_frames.specs.Running.{IsUnnumbered, IsNumberedValue, IsRunning, before, found_as};
 ghost use Rattle.jc_frames.specs.TableReading.{frame_item_at};
-ghost use Rattle.jc_frames.specs.Walk.{with_rest, read_frame};
+ghost use Rattle.jc_frames.specs.NextFrame.{with_rest, read_frame};
 
 use crate::method::Method;
 use crate::reading::frame_item;

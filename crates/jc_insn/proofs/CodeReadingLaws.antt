@@ -9,8 +9,8 @@ use Rattle.jc_bytes.specs.declared.refusal.Refusal.{Refusal}
 use Rattle.jc_bytes.specs.declared.refusal.RefusalKind.{RefusalKind}
 use Rattle.jc_bytes.specs.declared.refusal.RefusalKind.TheVariants as kinds
 use Rattle.jc_methods.specs.declared.insn.Insn.{Insn}
-use Rattle.jc_insn.specs.declared.item.Item.{Item}
-use Rattle.jc_insn.specs.declared.item.Item.TheVariants as items
+use Rattle.jc_insn.specs.declared.item.CodeItem.{CodeItem}
+use Rattle.jc_insn.specs.declared.item.CodeItem.TheVariants as items
 use Rattle.jc_insn.specs.Items.{IsItem}
 use Rattle.jc_insn.specs.Reading.{item_at}
 use Rattle.jc_insn.specs.Spells.{SpellsFrom, IsFault, FaultBehind}
@@ -20,7 +20,7 @@ use Rattle.jc_insn.specs.Decoding.{Stops, Refuses, GivesNext}
 use Rattle.jc_insn.proofs.ItemReadingLaws.{reads_item}
 
 -- an item has an opcode
-pub some_bytes : (at : ℕ) (text : List ℕ) (item : Item) → IsItem at text item → 1 ≤ length text
+pub some_bytes : (at : ℕ) (text : List ℕ) (item : CodeItem) → IsItem at text item → 1 ≤ length text
 unfolding IsItem
 some_bytes at text item is = let e = ap length is.parts ∙ length-append is.front is.rest in let one = ap length is.field in omega (arith, e, one)
 
@@ -53,14 +53,14 @@ begins bytes reader code starts left place no_code no_starts = record {
     begin_fault more kind at f = rw no_code (rw (left, place) at f)
 
 -- the item that was read, and the offset behind it
-record Taken (reader after : Reading) (item : Item) : Type 0 where
+record Taken (reader after : Reading) (item : CodeItem) : Type 0 where
   text : List ℕ
   parts : reader.left ≡ text ++ after.left
   is : IsItem reader.place text item
   place : after.place ≡ reader.place + length text
   some : 1 ≤ length text
 
-taken : (reader after : Reading) (item : Item) → item_at reader.place reader.left ≡ Some (item, after.left) → SameEnd reader after → Taken reader after item
+taken : (reader after : Reading) (item : CodeItem) → item_at reader.place reader.left ≡ Some (item, after.left) → SameEnd reader after → Taken reader after item
 taken reader after item read end =
     let t = (reads_item reader.place).takes reader.left item after.left read in
     let e = ap length t.1 ∙ length-append t.0 after.left in

@@ -10,7 +10,7 @@ use Rattle.jc_methods.specs.Starts.{AreStarts, insn_number}
 use Rattle.jc_methods.proofs.PlacedInsnLaws.{same_arms}
 use Rattle.jc_insn.specs.Spells.{SpellsFrom, Spells}
 use Rattle.jc_insn.specs.Decoding.{IsInsnAmong}
-use Rattle.jc_insn.specs.declared.item.Item.TheVariants as items
+use Rattle.jc_insn.specs.declared.item.CodeItem.TheVariants as items
 use Rattle.jc_insn.proofs.CodeReadingLaws.{some_bytes}
 use Rattle.jc_insn.proofs.SpelledInsnLaws.{text_facts}
 use Rattle.jc_insn.proofs.PlacesLaws.{well_formed_with, targets_fit}

@@ -6,7 +6,7 @@ use Rattle.jc_methods.specs.Insn.{arm_count, with_places}
 use Rattle.jc_methods.specs.WellMade.{insns_and_arms}
 use Rattle.jc_methods.specs.Starts.{insn_number}
 use Rattle.jc_methods.proofs.PlacedInsnLaws.{same_arms}
-use Rattle.jc_insn.specs.declared.item.Item.TheVariants as items
+use Rattle.jc_insn.specs.declared.item.CodeItem.TheVariants as items
 use Rattle.jc_insn.specs.Items.{IsItem}
 use Rattle.jc_insn.specs.Spells.{SpellsFrom, Spells}
 use Rattle.jc_insn.proofs.SpelledInsnLaws.{text_facts}

@@ -10,7 +10,7 @@ use Rattle.std.specs.Prelude.{ℤ, FitsSigned}
 use Rattle.std.proofs.lemmas.List.{length-map, get_or-map, append-nil, take_all, map-append}
 use Rattle.std.proofs.lemmas.Grind.{flat_map-append}
 use Rattle.std.proofs.Math.ListN.{drop_of_length-le}
-use Rattle.jc_methods.specs.Flow.{is_test, targets_of}
+use Rattle.jc_methods.specs.Flow.{is_conditional_branch, targets_of}
 use Rattle.std.proofs.Math.Seq.{drop-cons, take-suc}
 use Rattle.std.proofs.lemmas.List.Elements.{All-tail, All-more}
 use Rattle.jc_methods.specs.Insn.{IsWellFormed, with_places, arm_with_place}
@@ -21,8 +21,8 @@ use Rattle.jc_methods.specs.declared.insn.Arm.{Arm}
 use Rattle.jc_methods.proofs.InsnFormLaws.{jump_codes, local_codes}
 
 -- a jump that isn't goto is a conditional one
-pub jump_tests : (op : ℕ) → form_of op ≡ forms.Jump → (op ≡ opcode.goto → ⊥) → is_test op ≡ true
-jump_tests op is other = by (nat_eq op opcode.goto) (is_test op) (ne_eqb op opcode.goto other) (jump_codes op is)
+pub jump_tests : (op : ℕ) → form_of op ≡ forms.Jump → (op ≡ opcode.goto → ⊥) → is_conditional_branch op ≡ true
+jump_tests op is other = by (nat_eq op opcode.goto) (is_conditional_branch op) (ne_eqb op opcode.goto other) (jump_codes op is)
   where
     by : (a b : Bool) → a ≡ false → (a || b) ≡ true → b ≡ true
     by false b differs e = e

@@ -11,18 +11,18 @@ use Rattle.jc_methods.specs.InsnForm.{form_of}
 use Rattle.jc_methods.specs.declared.insn.Insn.{Insn}
 use Rattle.jc_methods.specs.declared.insn.Insn.TheVariants as insns
 use Rattle.jc_bytes.proofs.DecoderLaws.{some_is}
-use Rattle.jc_insn.specs.declared.item.Item.{Item}
-use Rattle.jc_insn.specs.declared.item.Item.TheVariants as items
+use Rattle.jc_insn.specs.declared.item.CodeItem.{CodeItem}
+use Rattle.jc_insn.specs.declared.item.CodeItem.TheVariants as items
 use Rattle.jc_insn.specs.Fields.{nothing, byte, piece, Then}
 use Rattle.jc_insn.specs.Items.{number, padding, key_count, target_of, offsets_in, arms_in, ascending, short_load, short_store, table_operands, lookup_operands, wide_operands, operands, IsItem}
 use Rattle.jc_insn.specs.Reading.{piece_at, push_byte_at, push_short_at, constant_byte_at, constant_short_at, constant2_at, local_at, inc_at, jump_at, wide_jump_at, table_at, lookup_at, member_at, interface_at, dynamic_at, of_class_at, new_array_at, multi_at, wide_local_at, wide_inc_at, wide_operands_at, wide_at, operands_at, item_at}
 use Rattle.jc_insn.proofs.FieldReadingLaws.{IsReadBy, reads_nothing, reads_byte, reads_number, reads_piece, reads_then, reads_if, reads_none}
 
 -- a field, and the item that it makes
-one_number : (n : ℕ) (f : ℕ → Item) → IsReadBy (Then (number n) (λ x. nothing (f x))) (λ left. number_at n left >>= λ p. Some (f p.0, p.1))
+one_number : (n : ℕ) (f : ℕ → CodeItem) → IsReadBy (Then (number n) (λ x. nothing (f x))) (λ left. number_at n left >>= λ p. Some (f p.0, p.1))
 one_number n f = reads_then (number n) (λ x. nothing (f x)) (number_at n) (λ x left. Some (f x, left)) (reads_number n) (λ x. reads_nothing (f x))
 
-one_byte : (f : ℕ → Item) → IsReadBy (Then byte (λ x. nothing (f x))) (λ left. byte_at left >>= λ p. Some (f p.0, p.1))
+one_byte : (f : ℕ → CodeItem) → IsReadBy (Then byte (λ x. nothing (f x))) (λ left. byte_at left >>= λ p. Some (f p.0, p.1))
 one_byte f = reads_then byte (λ x. nothing (f x)) byte_at (λ x left. Some (f x, left)) reads_byte (λ x. reads_nothing (f x))
 
 reads_table : (at : ℕ) → IsReadBy (table_operands at) (table_at at)
@@ -99,9 +99,9 @@ pub not_subroutine : (a : Insn) → items.Insn a ≡ items.Subroutine → ⊥
 not_subroutine a e = cc
 
 -- two items at the front of the same bytes are one
-pub same_item : (at : ℕ) (a b x y : List ℕ) (i j : Item) → IsItem at a i → IsItem at b j → a ++ x ≡ b ++ y → (a ≡ b) × (i ≡ j)
+pub same_item : (at : ℕ) (a b x y : List ℕ) (i j : CodeItem) → IsItem at a i → IsItem at b j → a ++ x ≡ b ++ y → (a ≡ b) × (i ≡ j)
 same_item at a b x y i j p q e =
     let r = reads_item at in
     let same = some_is (i, x) (j, y) (sym (r.again a x i p) ∙ ap (item_at at) e ∙ r.again b y j q) in
-    let rest : x ≡ y = ap (λ (s : Item × List ℕ). s.1) same in
-    (append_cancel_right a b x (e ∙ ap (λ (l : List ℕ). b ++ l) (sym rest)), ap (λ (s : Item × List ℕ). s.0) same)
+    let rest : x ≡ y = ap (λ (s : CodeItem × List ℕ). s.1) same in
+    (append_cancel_right a b x (e ∙ ap (λ (l : List ℕ). b ++ l) (sym rest)), ap (λ (s : CodeItem × List ℕ). s.0) same)

@@ -9,8 +9,8 @@ use Rattle.jc_bytes.specs.declared.refusal.RefusalKind.TheVariants as kinds
 use Rattle.jc_methods.specs.declared.insn.Insn.{Insn}
 use Rattle.jc_methods.specs.Insn.{with_places}
 use Rattle.jc_methods.specs.Starts.{insn_number}
-use Rattle.jc_insn.specs.declared.item.Item.{Item}
-use Rattle.jc_insn.specs.declared.item.Item.TheVariants as items
+use Rattle.jc_insn.specs.declared.item.CodeItem.{CodeItem}
+use Rattle.jc_insn.specs.declared.item.CodeItem.TheVariants as items
 use Rattle.jc_insn.specs.Items.{IsItem}
 use Rattle.jc_insn.specs.Spells.{SpellsFrom, Spells, IsFault, FaultBehind, IsRefused}
 use Rattle.jc_insn.specs.Decoding.{Refuses}
@@ -19,19 +19,19 @@ use Rattle.jc_insn.proofs.CodeReadingLaws.{some_bytes}
 use Rattle.jc_methods.proofs.StartsLaws.{numbers_are}
 
 -- an item isn't in front of no bytes
-no_bytes : (at : ℕ) (bytes text rest : List ℕ) (item : Item) → bytes ≡ [] → bytes ≡ text ++ rest → IsItem at text item → ⊥
+no_bytes : (at : ℕ) (bytes text rest : List ℕ) (item : CodeItem) → bytes ≡ [] → bytes ≡ text ++ rest → IsItem at text item → ⊥
 no_bytes at bytes text rest item none parts is =
     let some = some_bytes at text item is in
     let e = ap length (sym none ∙ parts) ∙ length-append text rest in
     absurd (omega (arith, some, e))
 
 -- two items in front of the same bytes
-record Same (text text' rest rest' : List ℕ) (i j : Item) : Type 0 where
+record Same (text text' rest rest' : List ℕ) (i j : CodeItem) : Type 0 where
   text_is : text ≡ text'
   rest_is : rest ≡ rest'
   item_is : i ≡ j
 
-same_front : (at : ℕ) (bytes text text' rest rest' : List ℕ) (i j : Item) → bytes ≡ text ++ rest → bytes ≡ text' ++ rest' → IsItem at text i
+same_front : (at : ℕ) (bytes text text' rest rest' : List ℕ) (i j : CodeItem) → bytes ≡ text ++ rest → bytes ≡ text' ++ rest' → IsItem at text i
     → IsItem at text' j → Same text text' rest rest' i j
 same_front at bytes text text' rest rest' i j parts parts' is is' =
     let same = same_item at text text' rest rest' i j is is' (sym parts ∙ parts') in

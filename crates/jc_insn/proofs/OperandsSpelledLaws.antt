@@ -15,8 +15,8 @@ use Rattle.jc_methods.specs.declared.form.Form.TheVariants as forms
 use Rattle.jc_methods.specs.InsnForm.{form_of}
 use Rattle.jc_methods.proofs.InsnFormLaws.{local_codes, load_form, store_form, named_forms}
 use Rattle.jc_methods.specs.declared.insn.Insn.TheVariants as insns
-use Rattle.jc_insn.specs.declared.item.Item.{Item}
-use Rattle.jc_insn.specs.declared.item.Item.TheVariants as items
+use Rattle.jc_insn.specs.declared.item.CodeItem.{CodeItem}
+use Rattle.jc_insn.specs.declared.item.CodeItem.TheVariants as items
 use Rattle.jc_insn.specs.Fields.{nothing, byte, piece, Then}
 use Rattle.jc_insn.specs.Items.{number, target_of, in_pieces, offset_in, wide_operands, operands, IsItem}
 use Rattle.jc_insn.specs.Sizes.{is_narrow_inc}
@@ -25,7 +25,7 @@ use Rattle.jc_insn.proofs.ReadBackLaws.{big_short, big_word, signed_byte_back, s
 
 -- ---- fields
 
-pub item_of : (at op : ℕ) (form : Form) (rest : List ℕ) (item : Item) → form_of op ≡ form → operands at form op rest item → IsItem at (op ∷ rest) item
+pub item_of : (at op : ℕ) (form : Form) (rest : List ℕ) (item : CodeItem) → form_of op ≡ form → operands at form op rest item → IsItem at (op ∷ rest) item
 unfolding IsItem
 item_of at op form rest item is behind = record {
   value = op;
@@ -48,15 +48,15 @@ pub piece_then : {Y : Type 0} (n : ℕ) (G : List ℕ → List ℕ → Y → Typ
     → Then (piece n) G (text ++ rest) y
 piece_then n G text rest y size g = record { value = text; front = text; rest = rest; parts = refl; field = (size, refl); behind = g }
 
-pub one_byte : (f : ℕ → Item) (x : ℕ) (item : Item) → item ≡ f x → Then byte (λ v. nothing (f v)) (x ∷ []) item
+pub one_byte : (f : ℕ → CodeItem) (x : ℕ) (item : CodeItem) → item ≡ f x → Then byte (λ v. nothing (f v)) (x ∷ []) item
 one_byte f x item is = byte_then (λ v. nothing (f v)) x [] item (refl, is)
 
 -- a number at the end
-pub one_number : (n : ℕ) (f : ℕ → Item) (x : ℕ) (text : List ℕ) (item : Item) → IsBig n text x → item ≡ f x → Then (number n) (λ v. nothing (f v)) text item
+pub one_number : (n : ℕ) (f : ℕ → CodeItem) (x : ℕ) (text : List ℕ) (item : CodeItem) → IsBig n text x → item ≡ f x → Then (number n) (λ v. nothing (f v)) text item
 one_number n f x text item big is = subst (λ (l : List ℕ). Then (number n) (λ v. nothing (f v)) l item) (append-nil text)
     (number_then n (λ v. nothing (f v)) x text [] item big (refl, is))
 
-pub one_piece : (n : ℕ) (f : List ℕ → Item) (text : List ℕ) (item : Item) → length text ≡ n → item ≡ f text → Then (piece n) (λ v. nothing (f v)) text item
+pub one_piece : (n : ℕ) (f : List ℕ → CodeItem) (text : List ℕ) (item : CodeItem) → length text ≡ n → item ≡ f text → Then (piece n) (λ v. nothing (f v)) text item
 one_piece n f text item size is = subst (λ (l : List ℕ). Then (piece n) (λ v. nothing (f v)) l item) (append-nil text)
     (piece_then n (λ v. nothing (f v)) text [] item size (refl, is))
 

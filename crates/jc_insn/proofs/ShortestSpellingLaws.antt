@@ -16,8 +16,8 @@ use Rattle.jc_methods.specs.declared.insn.Insn.TheVariants as insns
 use Rattle.jc_methods.specs.declared.insn.Arm.{Arm}
 use Rattle.jc_methods.specs.Insn.{IsWellFormed}
 use Rattle.jc_methods.specs.Flow.{targets_of}
-use Rattle.jc_insn.specs.declared.item.Item.{Item}
-use Rattle.jc_insn.specs.declared.item.Item.TheVariants as items
+use Rattle.jc_insn.specs.declared.item.CodeItem.{CodeItem}
+use Rattle.jc_insn.specs.declared.item.CodeItem.TheVariants as items
 use Rattle.jc_insn.specs.Fields.{nothing, byte, piece, Then, only_if}
 use Rattle.jc_insn.specs.Items.{number, target_of, operands, IsItem}
 use Rattle.jc_insn.specs.Writing.{short, signed_byte, difference, push_text, constant_text, jump_text, insn_text, IsNear, IsNearJump, IsInRange}
@@ -25,7 +25,7 @@ use Rattle.jc_insn.proofs.ReadBackLaws.{big_short, signed_byte_back, signed_shor
 use Rattle.jc_insn.proofs.OperandsSpelledLaws.{item_of, byte_then, number_then, one_byte, one_number, one_piece, short_fits, local_is, inc_is}
 use Rattle.jc_insn.proofs.SwitchesSpelledLaws.{ArmFits, table_is, lookup_is}
 
-short_item : (at op : ℕ) (form : Form) (f : ℕ → Item) (x : ℕ) (item : Item) → form_of op ≡ form → x < 65536 → item ≡ f x
+short_item : (at op : ℕ) (form : Form) (f : ℕ → CodeItem) (x : ℕ) (item : CodeItem) → form_of op ≡ form → x < 65536 → item ≡ f x
     → ((text : List ℕ) → Then (number 2) (λ v. nothing (f v)) text item → operands at form op text item) → IsItem at (op ∷ short x) item
 short_item at op form f x item is fits same o = item_of at op form (short x) item is (o (short x) (one_number 2 f x (short x) item (big_short x fits) same))
 

@@ -7,8 +7,8 @@ use Rattle.jc_bytes.specs.declared.refusal.RefusalKind.TheVariants as kinds
 use Rattle.jc_methods.specs.declared.insn.Insn.{Insn}
 use Rattle.jc_methods.specs.Insn.{with_places}
 use Rattle.jc_methods.specs.Starts.{insn_number}
-use Rattle.jc_insn.specs.declared.item.Item.{Item}
-use Rattle.jc_insn.specs.declared.item.Item.TheVariants as items
+use Rattle.jc_insn.specs.declared.item.CodeItem.{CodeItem}
+use Rattle.jc_insn.specs.declared.item.CodeItem.TheVariants as items
 use Rattle.jc_insn.specs.Items.{IsItem}
 use Rattle.jc_insn.specs.Reading.{item_at}
 use Rattle.jc_insn.specs.Spells.{SpellsFrom, Spells, FaultBehind, IsRefused}
@@ -26,7 +26,7 @@ behind_insn : (at : ℕ) (bytes text rest : List ℕ) (insn : Insn) → bytes �
 behind_insn at bytes text rest insn parts is (inl (code, later, spelled)) = inl (insn ∷ code, at ∷ later, (text, rest, later, parts, refl, is, spelled))
 behind_insn at bytes text rest insn parts is (inr (before, kind, place, fault)) = inr (insn ∷ before, kind, place, (text, rest, parts, is, fault))
 
-less_left : (at fuel : ℕ) (bytes text rest : List ℕ) (item : Item) → length bytes ≤ suc fuel → bytes ≡ text ++ rest → IsItem at text item → length rest ≤ fuel
+less_left : (at fuel : ℕ) (bytes text rest : List ℕ) (item : CodeItem) → length bytes ≤ suc fuel → bytes ≡ text ++ rest → IsItem at text item → length rest ≤ fuel
 less_left at fuel bytes text rest item fits parts is = omega (arith, fits, ap length parts, length-append text rest, some_bytes at text item is)
 
 no_item : (at : ℕ) (b : ℕ) (bytes : List ℕ) → item_at at (b ∷ bytes) ≡ None → SpelledOrFault at (b ∷ bytes)
@@ -46,13 +46,13 @@ each_from fuel at [] fits = inl ([], at ∷ [], (refl, refl))
 each_from zero at (b ∷ bytes) fits = absurd (omega (arith, fits))
 each_from (suc fuel) at (b ∷ bytes) fits = by (item_at at (b ∷ bytes)) refl (λ next rest fewer. each_from fuel next rest fewer)
   where
-    by_item : ((next : ℕ) (rest : List ℕ) → length rest ≤ fuel → SpelledOrFault next rest) → (item : Item) (text rest : List ℕ) → b ∷ bytes ≡ text ++ rest
+    by_item : ((next : ℕ) (rest : List ℕ) → length rest ≤ fuel → SpelledOrFault next rest) → (item : CodeItem) (text rest : List ℕ) → b ∷ bytes ≡ text ++ rest
         → IsItem at text item → SpelledOrFault at (b ∷ bytes)
     by_item more (items.Insn insn) text rest parts is = behind_insn at (b ∷ bytes) text rest insn parts is
         (more (at + length text) rest (less_left at fuel (b ∷ bytes) text rest (items.Insn insn) fits parts is))
     by_item more items.Subroutine text rest parts is = inr ([], kinds.Subroutine, at, (refl, (text, rest, parts, is)))
 
-    by : (read : Option (Item × List ℕ)) → item_at at (b ∷ bytes) ≡ read → ((next : ℕ) (rest : List ℕ) → length rest ≤ fuel → SpelledOrFault next rest)
+    by : (read : Option (CodeItem × List ℕ)) → item_at at (b ∷ bytes) ≡ read → ((next : ℕ) (rest : List ℕ) → length rest ≤ fuel → SpelledOrFault next rest)
         → SpelledOrFault at (b ∷ bytes)
     by None stops more = no_item at b bytes stops
     by (Some (item, rest)) read more = let t = (reads_item at).takes (b ∷ bytes) item rest read in by_item more item t.0 rest t.1 t.2

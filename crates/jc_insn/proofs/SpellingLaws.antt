@@ -5,7 +5,7 @@ use Rattle.jc_methods.specs.declared.insn.Insn.{Insn}
 use Rattle.jc_methods.specs.Insn.{with_places}
 use Rattle.jc_methods.specs.Flow.{targets_of}
 use Rattle.jc_methods.specs.Starts.{insn_number}
-use Rattle.jc_insn.specs.declared.item.Item.TheVariants as items
+use Rattle.jc_insn.specs.declared.item.CodeItem.TheVariants as items
 use Rattle.jc_insn.specs.Items.{IsItem}
 use Rattle.jc_insn.specs.Spells.{SpellsFrom, Spells}
 use Rattle.jc_insn.specs.Sizes.{size_of, StartAt}

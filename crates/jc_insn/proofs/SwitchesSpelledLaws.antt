@@ -14,7 +14,7 @@ use Rattle.jc_methods.proofs.InsnFormLaws.{named_forms}
 use Rattle.jc_methods.specs.declared.insn.Insn.TheVariants as insns
 use Rattle.jc_methods.specs.declared.insn.Arm.{Arm}
 use Rattle.jc_methods.specs.Insn.{IsAscending}
-use Rattle.jc_insn.specs.declared.item.Item.TheVariants as items
+use Rattle.jc_insn.specs.declared.item.CodeItem.TheVariants as items
 use Rattle.jc_insn.specs.Fields.{nothing, piece, Then, only_if}
 use Rattle.jc_insn.specs.Items.{padding, key_count, target_of, in_pieces, offset_in, offsets_in, arm_in, arms_in, ascending, table_operands, lookup_operands, operands, IsItem}
 use Rattle.jc_insn.specs.Writing.{word, difference, arm_text, pad_text, last_key, table_text, lookup_text}

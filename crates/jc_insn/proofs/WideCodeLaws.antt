@@ -14,12 +14,12 @@ use Rattle.jc_methods.specs.declared.insn.Insn.TheVariants as insns
 use Rattle.jc_methods.specs.declared.insn.Flow.{Flow}
 use Rattle.jc_methods.specs.declared.insn.Flow.TheVariants as flows
 use Rattle.jc_methods.specs.Insn.{with_places}
-use Rattle.jc_methods.specs.Flow.{targets_of, inverse_of, is_test, flow_of, flow_of_simple}
+use Rattle.jc_methods.specs.Flow.{targets_of, inverse_of, is_conditional_branch, flow_of, flow_of_simple}
 use Rattle.jc_methods.specs.Starts.{insn_number}
 use Rattle.jc_methods.specs.Widened.{widths_by, wide_place, widened_by, widened_from, widened}
 use Rattle.jc_methods.proofs.WidenedLaws.{first_place}
 use Rattle.jc_methods.proofs.PlacedInsnLaws.{flow_placed, simple_is_no_test}
-use Rattle.jc_insn.specs.declared.item.Item.TheVariants as items
+use Rattle.jc_insn.specs.declared.item.CodeItem.TheVariants as items
 use Rattle.jc_insn.specs.Items.{IsItem, target_of, operands}
 use Rattle.jc_insn.specs.Spells.{SpellsFrom, Spells}
 use Rattle.jc_insn.specs.Sizes.{size_of, StartAt}
@@ -37,22 +37,22 @@ use Rattle.jc_insn.proofs.LaidOutLaws.{IsLaidOut, EachFits, each_fits, small_sta
 -- ---- conditional jumps
 
 -- a conditional jump takes eight bytes
-test_size : (at : ℕ) (insn : Insn) → flow_of insn ≡ flows.Tests → size_of at true insn ≡ 8
+test_size : (at : ℕ) (insn : Insn) → flow_of insn ≡ flows.Branches → size_of at true insn ≡ 8
 test_size at (insns.Simple op) e = absurd (simple_is_no_test op e)
 test_size at (insns.Jump op to) e = by (nat_eq op opcode.goto) e
   where
-    by : (b : Bool) → cond b flows.Jumps flows.Tests ≡ flows.Tests → ◌≡◌ {A = ℕ} (cond b 5 8) 8
+    by : (b : Bool) → cond b flows.Jumps flows.Branches ≡ flows.Branches → ◌≡◌ {A = ℕ} (cond b 5 8) 8
     by true e = absurd cc
     by false e = refl
 test_size at insn e = absurd cc
 
 -- what is no conditional jump begins once, and is one instruction
-one_start : (at : ℕ) (flow : Flow) → (flow ≡ flows.Tests → ⊥) → wide_starts_by at flow ≡ at ∷ []
-one_start at flows.Tests other = absurd (other refl)
+one_start : (at : ℕ) (flow : Flow) → (flow ≡ flows.Branches → ⊥) → wide_starts_by at flow ≡ at ∷ []
+one_start at flows.Branches other = absurd (other refl)
 one_start at flow other = refl
 
-one_image : (places : ℕ → ℕ) (here : ℕ) (insn : Insn) (flow : Flow) → (flow ≡ flows.Tests → ⊥) → widened_by places here insn flow ≡ with_places places insn ∷ []
-one_image places here insn flows.Tests other = absurd (other refl)
+one_image : (places : ℕ → ℕ) (here : ℕ) (insn : Insn) (flow : Flow) → (flow ≡ flows.Branches → ⊥) → widened_by places here insn flow ≡ with_places places insn ∷ []
+one_image places here insn flows.Branches other = absurd (other refl)
 one_image places here insn flow other = refl
 
 -- ---- the numbers of the wide form
@@ -63,18 +63,18 @@ some_wide at (insn ∷ code) [] (later, is, more) = absurd cc
 some_wide at (insn ∷ code) (start ∷ starts) s = by (flow_of insn)
   where
     by : (flow : Flow) → 1 ≤ length (wide_starts_by start flow ++ wide_starts code starts)
-    by flows.Tests = omega arith
+    by flows.Branches = omega arith
     by flow = omega arith
 
 -- what begins at the first offset has number 0
 here_by : (at : ℕ) (flow : Flow) (rest : List ℕ) → 1 ≤ length rest → insn_number (wide_starts_by at flow ++ rest) at ≡ 0
-here_by at flows.Tests rest some = rw (eq-eqb at at refl) refl
+here_by at flows.Branches rest some = rw (eq-eqb at at refl) refl
 here_by at flow rest some = first_number at rest some
 
 -- what begins behind an instruction is numbered behind all that stands for it
-behind_by : (at : ℕ) (flow : Flow) (rest : List ℕ) (offset : ℕ) → 1 ≤ length rest → at < offset → (flow ≡ flows.Tests → at + 8 ≤ offset)
+behind_by : (at : ℕ) (flow : Flow) (rest : List ℕ) (offset : ℕ) → 1 ≤ length rest → at < offset → (flow ≡ flows.Branches → at + 8 ≤ offset)
     → insn_number (wide_starts_by at flow ++ rest) offset ≡ widths_by flow + insn_number rest offset
-behind_by at flows.Tests rest offset some above far =
+behind_by at flows.Branches rest offset some above far =
     let beyond : at + 8 ≤ offset = far refl in
     let first = step_in at offset ((at + 3) ∷ rest) (λ e. omega (arith, e, above)) (omega arith) in
     let second = step_in (at + 3) offset rest (λ e. omega (arith, e, beyond)) some in
@@ -106,14 +106,14 @@ wide_start (insn ∷ code) [] long k le = absurd (omega (arith, long))
 wide_start (insn ∷ code) (start ∷ starts) long zero le = by (flow_of insn)
   where
     by : (flow : Flow) → get_or (wide_starts_by start flow ++ wide_starts code starts) 0 0 ≡ start
-    by flows.Tests = refl
+    by flows.Branches = refl
     by flow = refl
 wide_start (insn ∷ code) (start ∷ starts) long (suc k) le = by (flow_of insn) (wide_place code k)
     ∙ wide_start code starts (omega (arith, long)) k (omega (arith, le))
   where
     by : (flow : Flow) (place : ℕ) → get_or (wide_starts_by start flow ++ wide_starts code starts) (widths_by flow + place) 0
         ≡ get_or (wide_starts code starts) place 0
-    by flows.Tests place = let e : 2 + place ≡ suc (suc place) = omega arith in ap (λ (k : ℕ). get_or (start ∷ (start + 3) ∷ wide_starts code starts) k 0) e
+    by flows.Branches place = let e : 2 + place ≡ suc (suc place) = omega arith in ap (λ (k : ℕ). get_or (start ∷ (start + 3) ∷ wide_starts code starts) k 0) e
     by flow place = let e : 1 + place ≡ suc place = omega arith in ap (λ (k : ℕ). get_or (start ∷ wide_starts code starts) k 0) e
 
 -- ---- bytes
@@ -140,7 +140,7 @@ goto_is at to at_fits to_fits =
     (one_number 4 (λ v. items.Insn (insns.Jump opcode.goto (target_of at (cast_signed w32 v)))) (difference at to) (word (difference at to)) item
     (big_word (difference at to) (omega arith)) (ap (λ (t : ℕ). items.Insn (insns.Jump opcode.goto t)) (sym (word_target at to at_fits to_fits))))
 
-inverse_is : (at op : ℕ) → at ≤ 2147483647 → is_test op ≡ true → IsItem at (inverse_of op ∷ short 8) (items.Insn (insns.Jump (inverse_of op) (at + 8)))
+inverse_is : (at op : ℕ) → at ≤ 2147483647 → is_conditional_branch op ≡ true → IsItem at (inverse_of op ∷ short 8) (items.Insn (insns.Jump (inverse_of op) (at + 8)))
 unfolding operands
 inverse_is at op small test =
     let item = items.Insn (insns.Jump (inverse_of op) (at + 8)) in
@@ -154,7 +154,7 @@ wide_jump : (at op to : ℕ) (rest : List ℕ) (code : List Insn) (starts : List
     → to < 4294967296 → SpellsFrom (at + cond b 5 8) rest code starts
     → SpellsFrom at (cond b (opcode.goto_w ∷ word (difference at to)) (inverse_of op ∷ short 8 ++ opcode.goto_w ∷ word (difference (at + 3) to)) ++ rest)
     (cond b (insns.Jump op to ∷ []) (insns.Jump (inverse_of op) (at + 8) ∷ insns.Jump opcode.goto to ∷ []) ++ code)
-    (wide_starts_by at (cond b flows.Jumps flows.Tests) ++ starts)
+    (wide_starts_by at (cond b flows.Jumps flows.Branches) ++ starts)
 wide_jump at op to rest code starts true is small form to_fits more =
     let size = word_size (difference at to) in
     let goto : op ≡ opcode.goto = eqb-true op opcode.goto is in
@@ -218,13 +218,13 @@ module _ (numbers offsets places : ℕ → ℕ) where
   abbrev Leads : Insn → Type 0
   Leads insn = All (λ to. numbers (offsets to) ≡ places to) (targets_of insn)
 
-  image_as : (here at : ℕ) (insn : Insn) → Leads insn → (flow_of insn ≡ flows.Tests → numbers (at + 8) ≡ here + 2)
+  image_as : (here at : ℕ) (insn : Insn) → Leads insn → (flow_of insn ≡ flows.Branches → numbers (at + 8) ≡ here + 2)
       → map (with_places numbers) (spelled_as at (with_places offsets insn)) ≡ widened_by places here insn (flow_of insn)
   image_as here at (insns.Jump op to) leads next = by (nat_eq op opcode.goto) next
     where
-      by : (b : Bool) → (cond b flows.Jumps flows.Tests ≡ flows.Tests → numbers (at + 8) ≡ here + 2)
+      by : (b : Bool) → (cond b flows.Jumps flows.Branches ≡ flows.Branches → numbers (at + 8) ≡ here + 2)
           → map (with_places numbers) (cond b (insns.Jump op (offsets to) ∷ []) (insns.Jump (inverse_of op) (at + 8) ∷ insns.Jump opcode.goto (offsets to) ∷ []))
-          ≡ widened_by places here (insns.Jump op to) (cond b flows.Jumps flows.Tests)
+          ≡ widened_by places here (insns.Jump op to) (cond b flows.Jumps flows.Branches)
       by true next = λ i. insns.Jump op (leads 0 to (omega arith) i) ∷ []
       by false next = λ i. insns.Jump (inverse_of op) (next refl i) ∷ insns.Jump opcode.goto (leads 0 to (omega arith) i) ∷ []
   image_as here at (insns.Simple op) leads next = sym (one_image places here (insns.Simple op) (flow_of_simple op) (simple_is_no_test op))
@@ -244,7 +244,7 @@ module _ (numbers offsets places : ℕ → ℕ) where
       let width = widths_by (flow_of insn) in
       let front = spelled_as start (with_places offsets insn) in
       let next_start = ap (λ (l : List ℕ). get_or l 0 0) later_is ∙ first_start true (at + size_of at true insn) code later more in
-      let next : flow_of insn ≡ flows.Tests → numbers (start + 8) ≡ here + 2 =
+      let next : flow_of insn ≡ flows.Branches → numbers (start + 8) ≡ here + 2 =
       λ test.
       let size = test_size at insn test in
       let there : start + 8 ≡ get_or starts 0 0 = omega (arith, first_is, next_start, size) in

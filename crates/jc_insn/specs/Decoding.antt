@@ -10,8 +10,8 @@ use Rattle.jc_bytes.specs.declared.refusal.RefusalKind.TheVariants as kinds
 use Rattle.jc_methods.specs.declared.insn.Insn.{Insn}
 use Rattle.jc_methods.specs.Insn.{IsWellFormed, arm_count}
 use Rattle.jc_methods.specs.Flow.{targets_of}
-use Rattle.jc_insn.specs.declared.item.Item.{Item}
-use Rattle.jc_insn.specs.declared.item.Item.TheVariants as items
+use Rattle.jc_insn.specs.declared.item.CodeItem.{CodeItem}
+use Rattle.jc_insn.specs.declared.item.CodeItem.TheVariants as items
 use Rattle.jc_insn.specs.Reading.{item_at}
 use Rattle.jc_insn.specs.Spells.{IsRefused}
 
@@ -27,7 +27,7 @@ pub record IsInsnAmong (count : ℕ) (insn : Insn) : Type 0 where
   pub places : All (λ to. to ≤ count) (targets_of insn)
 
 -- the item that stands at an offset stops a decoder: jsr and its like, or no item at all
-abbrev pub Stops : RefusalKind → Option (Item × List ℕ) → Type 0
+abbrev pub Stops : RefusalKind → Option (CodeItem × List ℕ) → Type 0
 Stops kinds.Subroutine read = (rest : List ℕ) × (read ≡ Some (items.Subroutine, rest))
 Stops kinds.BadCode read = read ≡ None
 Stops kind read = ⊥

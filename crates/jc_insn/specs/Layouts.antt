@@ -10,7 +10,7 @@ use Rattle.jc_insn.specs.Spells.{Spells}
 -- Where in the wide layout the instructions begin that stand for one at this offset. The goto_w behind the
 -- inverse of a conditional jump begins three bytes behind it.
 abbrev pub wide_starts_by : ℕ → Flow → List ℕ
-wide_starts_by at flows.Tests = at ∷ (at + 3) ∷ []
+wide_starts_by at flows.Branches = at ∷ (at + 3) ∷ []
 wide_starts_by at _ = at ∷ []
 
 -- Where the instructions of the wide form begin, and then the offset of the end. They follow from the offsets at

@@ -7,7 +7,7 @@ use Rattle.jc_methods.specs.InsnForm.{form_of}
 use Rattle.jc_methods.specs.declared.insn.Insn.{Insn}
 use Rattle.jc_methods.specs.declared.insn.Insn.TheVariants as insns
 use Rattle.jc_methods.specs.Insn.{with_places}
-use Rattle.jc_insn.specs.declared.item.Item.TheVariants as items
+use Rattle.jc_insn.specs.declared.item.CodeItem.TheVariants as items
 use Rattle.jc_insn.specs.Items.{padding, IsItem}
 
 abbrev pub push_size : Form → ℕ

@@ -8,7 +8,7 @@ ghost use Rattle.jc_methods.specs.Starts.{AreStarts};
 ghost use Rattle.jc_insn.specs.Spells.{SpellsFrom, Spells, IsRefused};
 ghost use Rattle.jc_insn.specs.Decoding.{Refuses, GivesNext, IsInsnAmong};
 
-use crate::item::{Item, read_item};
+use crate::item::{CodeItem, read_item};
 use crate::places::all_numbered;
 use jc_bytes::{Fail, List, Reader, Refusal, RefusalKind, Unfit};
 use jc_methods::{Insn, insn_numbers};
@@ -50,8 +50,8 @@ fn next_insn(alloc: Global, reader: &mut Reader<'_>) -> Result<Insn, Fail<Refusa
 {
     let offset = reader.place();
     match read_item(alloc, reader) {
-        Ok(Item::Insn(insn)) => Ok(insn),
-        Ok(Item::Subroutine) => Err(Fail::Said(refused(RefusalKind::Subroutine, offset))),
+        Ok(CodeItem::Insn(insn)) => Ok(insn),
+        Ok(CodeItem::Subroutine) => Err(Fail::Said(refused(RefusalKind::Subroutine, offset))),
         Err(Fail::Memory) => Err(Fail::Memory),
         Err(Fail::Said(Unfit)) => Err(Fail::Said(refused(RefusalKind::BadCode, offset))),
     }

@@ -16,7 +16,7 @@ use std::alloc::Global;
 
 /// What stands at an offset of the code.
 #[derive(Debug, Drop)]
-pub enum Item {
+pub enum CodeItem {
     /// An instruction. The places to which it leads are offsets.
     Insn(Insn),
     /// `jsr`, `jsr_w`, `ret` or `wide ret`.
@@ -24,22 +24,22 @@ pub enum Item {
 }
 
 /// A load, whose local variable stands in the opcode.
-fn short_load(op: u8) -> Item
+fn short_load(op: u8) -> CodeItem
     ensures { result ≡ short_load op }
 {
     let code = op.saturating_sub(opcode::ILOAD_0);
-    Item::Insn(Insn::Local {
+    CodeItem::Insn(Insn::Local {
         op: opcode::ILOAD + code / 4,
         slot: u16::from(code % 4),
     })
 }
 
 /// A store, whose local variable stands in the opcode.
-fn short_store(op: u8) -> Item
+fn short_store(op: u8) -> CodeItem
     ensures { result ≡ short_store op }
 {
     let code = op.saturating_sub(opcode::ISTORE_0);
-    Item::Insn(Insn::Local {
+    CodeItem::Insn(Insn::Local {
         op: opcode::ISTORE + code / 4,
         slot: u16::from(code % 4),
     })
@@ -53,13 +53,13 @@ fn operands(
     at: u32,
     form: Form,
     op: u8,
-) -> Result<Item, Fail<Unfit>>
+) -> Result<CodeItem, Fail<Unfit>>
     requires { reader.old.place + length reader.old.left ≤ most_read }
     ensures gives { Gives (λ item. item) result reader.new.left (operands_at at form op reader.old.left) }
     ensures end { SameEnd reader.old reader.new }
 {
     match form {
-        Form::Simple => Ok(Item::Insn(Insn::Simple(op))),
+        Form::Simple => Ok(CodeItem::Insn(Insn::Simple(op))),
         Form::PushByte => push_byte(reader, op),
         Form::PushShort => push_short(reader, op),
         Form::ConstantByte => constant_byte(reader),
@@ -71,7 +71,7 @@ fn operands(
         Form::Inc => inc(reader),
         Form::Jump => jump(reader, at, op),
         Form::WideJump => wide_jump(reader, at),
-        Form::Subroutine => Ok(Item::Subroutine),
+        Form::Subroutine => Ok(CodeItem::Subroutine),
         Form::Table => table(alloc, reader, at),
         Form::Lookup => lookup(alloc, reader, at),
         Form::Member => member(reader, op),
@@ -87,7 +87,7 @@ fn operands(
 
 /// What stands at the reader's offset.
 #[tactic(auto, unfolding(crate::specs::Reading::item_at))]
-pub fn read_item(alloc: Global, reader: &mut Reader<'_>) -> Result<Item, Fail<Unfit>>
+pub fn read_item(alloc: Global, reader: &mut Reader<'_>) -> Result<CodeItem, Fail<Unfit>>
     requires { reader.old.place + length reader.old.left ≤ most_read }
     ensures gives { Gives (λ item. item) result reader.new.left (item_at reader.old.place reader.old.left) }
     ensures end { SameEnd reader.old reader.new }

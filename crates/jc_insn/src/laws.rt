@@ -1,6 +1,6 @@
 //! Laws of the spelling of code.
 ghost use Rattle.std.specs.Prelude.{◌≡◌, ◌⊎◌, ◌++◌, ◌+◌, ◌≤◌, ℕ, List, length, slice_index};
-ghost use Rattle.jc_insn.specs.declared.item.Item.{Item};
+ghost use Rattle.jc_insn.specs.declared.item.CodeItem.{CodeItem};
 ghost use Rattle.jc_methods.specs.declared.insn.Insn.{Insn};
 ghost use Rattle.jc_bytes.specs.declared.refusal.Refusal.{Refusal};
 ghost use Rattle.jc_methods.specs.Widened.{wide_place};
@@ -10,7 +10,7 @@ ghost use Rattle.jc_insn.specs.Spells.{Spells, IsRefused};
 
 /// No spelling of an item begins another, so what was written is read again, whatever follows it.
 pub fn one_spelling()
-    ensures { (at : ℕ) (a b x y : List ℕ) (i j : Item) → IsItem at a i → IsItem at b j
+    ensures { (at : ℕ) (a b x y : List ℕ) (i j : CodeItem) → IsItem at a i → IsItem at b j
         → a ++ x ≡ b ++ y → (a ≡ b) × (i ≡ j) }
 {}
 

@@ -5,7 +5,7 @@ ghost use Rattle.jc_bytes.specs.Decoder.{Gives, SameEnd, first};
 ghost use Rattle.jc_insn.specs.Items.{padding, key_count, ascending, offset_in, offsets_in, arm_in, arms_in};
 ghost use Rattle.jc_insn.specs.Reading.{piece_at, table_at, lookup_at};
 
-use crate::item::Item;
+use crate::item::CodeItem;
 use crate::operands::target;
 use crate::size::padding;
 use byteorder::{BigEndian, ByteOrder};
@@ -99,7 +99,7 @@ fn key_count(low: i32, high: i32) -> u64
 
 /// `tableswitch` at this offset.
 #[tactic(auto, unfolding(crate::specs::Reading::table_at))]
-pub fn table(alloc: Global, reader: &mut Reader<'_>, at: u32) -> Result<Item, Fail<Unfit>>
+pub fn table(alloc: Global, reader: &mut Reader<'_>, at: u32) -> Result<CodeItem, Fail<Unfit>>
     requires { reader.old.place + length reader.old.left ≤ most_read }
     ensures gives { Gives (λ item. item) result reader.new.left (table_at at reader.old.left) }
     ensures end { SameEnd reader.old reader.new }
@@ -112,7 +112,7 @@ pub fn table(alloc: Global, reader: &mut Reader<'_>, at: u32) -> Result<Item, Fa
         return Err(Fail::Said(Unfit));
     }
     let words = pieces(reader, 4, key_count(low, high))?;
-    Ok(Item::Insn(Insn::Table {
+    Ok(CodeItem::Insn(Insn::Table {
         low,
         default: target(at, default),
         arms: offsets(alloc, at, words)?,
@@ -121,7 +121,7 @@ pub fn table(alloc: Global, reader: &mut Reader<'_>, at: u32) -> Result<Item, Fa
 
 /// `lookupswitch` at this offset.
 #[tactic(auto, unfolding(crate::specs::Reading::lookup_at))]
-pub fn lookup(alloc: Global, reader: &mut Reader<'_>, at: u32) -> Result<Item, Fail<Unfit>>
+pub fn lookup(alloc: Global, reader: &mut Reader<'_>, at: u32) -> Result<CodeItem, Fail<Unfit>>
     requires { reader.old.place + length reader.old.left ≤ most_read }
     ensures gives { Gives (λ item. item) result reader.new.left (lookup_at at reader.old.left) }
     ensures end { SameEnd reader.old reader.new }
@@ -137,7 +137,7 @@ pub fn lookup(alloc: Global, reader: &mut Reader<'_>, at: u32) -> Result<Item, F
     if !is_ascending(&arms) {
         return Err(Fail::Said(Unfit));
     }
-    Ok(Item::Insn(Insn::Lookup {
+    Ok(CodeItem::Insn(Insn::Lookup {
         default: target(at, default),
         arms,
     }))

@@ -5,7 +5,7 @@ use Rattle.jc_methods.specs.declared.body.Body.{Body}
 use Rattle.jc_bytes.specs.declared.fail.Fail.{Fail}
 use Rattle.jc_bytes.specs.declared.fail.Fail.TheVariants as fails
 use Rattle.jc_bytes.specs.declared.refusal.Refusal.{Refusal}
-use Rattle.jc_kinds.specs.Answers.{Said}
+use Rattle.jc_bytes.specs.Failing.{Said}
 
 pub said_more : (P Q : Refusal → Type 0) (e : Fail Refusal) → ((r : Refusal) → P r → Q r) → Said e P → Said e Q
 said_more P Q fails.Memory more said = tt

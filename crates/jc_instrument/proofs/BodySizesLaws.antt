@@ -8,7 +8,7 @@ use Rattle.std.proofs.Math.Nat.{mul-add, mul-one, mul-zero}
 use Rattle.jc_bytes.specs.Counted.{counted}
 use Rattle.jc_bytes.specs.Decoder.{IsBig}
 use Rattle.jc_bytes.specs.Grammar.{Grammar}
-use Rattle.jc_methods.specs.Held.{Names, SeenAt, seen_at}
+use Rattle.jc_methods.specs.VerificationTypes.{Names, TypeStateAt, type_state_at}
 use Rattle.jc_bytes.specs.Reader.{most_read}
 use Rattle.jc_methods.specs.Starts.{insn_number}
 use Rattle.jc_methods.specs.WellMade.{HasSizes, IsWellMade, insns_and_arms}
@@ -172,24 +172,24 @@ kept_few f p xs =
 
 -- ---- frames
 
-frames_few : (g : Ground) (before : Before) (n : ℕ) (bytes : List ℕ) (frames : List SeenAt) → AreFrames g before n bytes frames
+frames_few : (g : Ground) (before : Before) (n : ℕ) (bytes : List ℕ) (frames : List TypeStateAt) → AreFrames g before n bytes frames
     → length frames ≤ length bytes
-frames_few g before zero bytes frames are = let none : length frames ≡ 0 = ap (λ (l : List SeenAt). length l) are.1 in omega (arith, none)
+frames_few g before zero bytes frames are = let none : length frames ≡ 0 = ap (λ (l : List TypeStateAt). length l) are.1 in omega (arith, none)
 frames_few g before (suc n) bytes frames (rest, found, others, parts, here, more) =
-    let count : length frames ≡ length (found.frame ∷ others) = ap (λ (l : List SeenAt). length l) parts in
+    let count : length frames ≡ length (found.frame ∷ others) = ap (λ (l : List TypeStateAt). length l) parts in
     let one = in_two bytes here.front rest here.parts in
     let some = frame_some here.front here.item here.text in
     let behind = frames_few g found.next n rest others more in
     omega (arith, count, one, some, behind)
 
-body_frames_few : (pool : PoolValue) (owner : List ℕ) (method : Member) (coded : Coded) (frames : List SeenAt)
+body_frames_few : (pool : PoolValue) (owner : List ℕ) (method : Member) (coded : Coded) (frames : List TypeStateAt)
     → HasFrames pool owner method coded frames → length frames ≤ attributes_size coded.items.attributes
 body_frames_few pool owner method coded frames has = by has.frames_are
   where
     by : ((stack_maps pool coded ≡ []) × (frames ≡ []))
         ⊎ ((table : List ℕ) × (stack_maps pool coded ≡ table ∷ []) × StandsFor (ground_of pool coded) has.entry table frames)
         → length frames ≤ attributes_size coded.items.attributes
-    by (inl none) = let zero_is : length frames ≡ 0 = ap (λ (l : List SeenAt). length l) none.1 in omega (arith, zero_is)
+    by (inl none) = let zero_is : length frames ≡ 0 = ap (λ (l : List TypeStateAt). length l) none.1 in omega (arith, zero_is)
     by (inr (table, single, stands)) =
         let few = frames_few (ground_of pool coded) (first_before has.entry) stands.count stands.rest frames stands.are in
         let one = in_two table stands.front stands.rest stands.parts in
@@ -266,8 +266,8 @@ module _ (names : Names) (c : ClassFile) (number : ℕ) (method : Member) (b : B
 
   own_frames_few : length b.frames ≤ most_read
   own_frames_few =
-      let same = length-map b.frames (seen_at names) in
-      let few = body_frames_few c.pool b.owner method is.coded (map (seen_at names) b.frames) is.parts.frames in
+      let same = length-map b.frames (type_state_at names) in
+      let few = body_frames_few c.pool b.owner method is.coded (map (type_state_at names) b.frames) is.parts.frames in
       let own = attributes_few in
       omega (arith, same, few, own)
 

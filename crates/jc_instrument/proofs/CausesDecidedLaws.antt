@@ -2,7 +2,7 @@
 use Rattle.std.proofs.Common.{◌≡◌, ◌⊎◌, inl, inr, ℕ, ◌<◌, ◌≤◌, true, ◌++◌, length, get_or, Some, None, slice_get, refl, sym, ◌∙◌, ap, arith}
 use Rattle.std.proofs.lemmas.Bool.{cases_lt}
 use Rattle.std.proofs.lemmas.Option.{same_Some, slice_get_within, slice_get_cases}
-use Rattle.jc_methods.specs.Held.{Names}
+use Rattle.jc_methods.specs.VerificationTypes.{Names}
 use Rattle.jc_methods.specs.declared.body.Body.{Body}
 use Rattle.jc_bytes.specs.declared.refusal.Refusal.{Refusal}
 use Rattle.jc_bytes.specs.declared.refusal.RefusalKind.{RefusalKind}
@@ -18,7 +18,7 @@ use Rattle.jc_body.proofs.AnswerLaws.{bodiless_or_body, bodiless_or_fault, body_
 use Rattle.jc_body.proofs.EachMethodLaws.{Answer, each_answer}
 use Rattle.jc_kinds.specs.Checked.{Checked, FirstMissing, FirstClash}
 use Rattle.jc_kinds.proofs.CheckLaws.{each_verdict, checked_not_missing, checked_not_clash, missing_not_clash}
-use Rattle.jc_emit.specs.Added.{init_name, data_name, runtime_class}
+use Rattle.jc_methods.specs.ProbeMembers.{init_name, data_name, runtime_class}
 use Rattle.jc_instrument.specs.Causes.{unless, of_class, of_method, InMethod}
 use Rattle.jc_instrument.specs.LeftAlone.{has_flag, has_code, is_left_alone}
 use Rattle.jc_instrument.specs.Reasons.{IsOutside, WrongVersion, HasAddedName, SomeAdded, NamesRuntime, HasAdded, IsInstrumented, HasCodeAt, IsInterfaceWithBody, IsFaulty, OfBody, class_causes, interface_causes, code_causes, analysis_causes}

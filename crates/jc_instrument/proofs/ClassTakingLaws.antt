@@ -4,7 +4,7 @@ use Rattle.std.proofs.Math.ListN.{drop_of_length-le}
 use Rattle.std.specs.List.{AllByRecursion}
 use Rattle.std.proofs.lemmas.Grind.{flat_map-append}
 use Rattle.std.proofs.lemmas.List.Concat.{flat_map-cons}
-use Rattle.jc_methods.specs.Held.{Names, SeenAt, seen_at}
+use Rattle.jc_methods.specs.VerificationTypes.{Names, TypeStateAt, type_state_at}
 use Rattle.jc_bytes.specs.declared.fail.Fail.{Fail}
 use Rattle.jc_bytes.specs.declared.fail.Fail.TheVariants as fails
 use Rattle.jc_frames.specs.FullTable.{IsFullAt, RefusesClasses, TakesClasses, named_by, named_by_all}
@@ -20,7 +20,7 @@ classes_entire : (names : Names) → AllByRecursion IsEntire (map class_entry na
 classes_entire [] = tt
 classes_entire (name ∷ names) = (tt, classes_entire names)
 
-pub all_classes_entire : (frames : List SeenAt) → AllByRecursion IsEntire (frame_needs frames)
+pub all_classes_entire : (frames : List TypeStateAt) → AllByRecursion IsEntire (frame_needs frames)
 all_classes_entire frames = classes_entire (named_by_all frames)
 
 pub classes_taken : (old new : PoolValue) (names : Names) → TakesClasses old names new → (places : List ℕ) × TakesEach old (map class_entry names) new places
@@ -47,13 +47,13 @@ classes_refused old new names (fails.Said full) refused = classes_much old new n
 
 -- the classes that one of them names
 abbrev named_in : Names → Probed → Names
-named_in names p = named_by_all (map (seen_at names) (frames_in p))
+named_in names p = named_by_all (map (type_state_at names) (frames_in p))
 
 frames_first : (names : Names) (p : Probed) (probed : List Probed)
     → named_by_all (frames_of names (p ∷ probed)) ≡ named_in names p ++ named_by_all (frames_of names probed)
 frames_first names p probed =
-    ap named_by_all (flat_map-cons (λ (q : Probed). map (seen_at names) (frames_in q)) p probed)
-    ∙ flat_map-append named_by (map (seen_at names) (frames_in p)) (frames_of names probed)
+    ap named_by_all (flat_map-cons (λ (q : Probed). map (type_state_at names) (frames_in q)) p probed)
+    ∙ flat_map-append named_by (map (type_state_at names) (frames_in p)) (frames_of names probed)
 
 pub frames_next : (names : Names) (probed : List Probed) (i : ℕ) (p : Probed) → i < length probed → p ≡ get_or probed i p
     → named_by_all (frames_of names (drop i probed)) ≡ named_in names p ++ named_by_all (frames_of names (drop (i + 1) probed))

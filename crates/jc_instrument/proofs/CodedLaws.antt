@@ -1,7 +1,7 @@
 -- The methods whose instrumented code is made have one Code attribute each.
 use Rattle.std.proofs.Common.{◌≡◌, ℕ, suc, ◌<◌, List, [], ◌∷◌, Some, slice_get, refl, sym, ◌∙◌, ap, subst, arith}
 use Rattle.std.specs.List.{AllByRecursion}
-use Rattle.jc_methods.specs.Held.{Names}
+use Rattle.jc_methods.specs.VerificationTypes.{Names}
 use Rattle.jc_methods.specs.declared.body.Body.{Body}
 use Rattle.jc_bytes.proofs.ListLaws.{all_at}
 use Rattle.jc_pool.specs.Adding.{Extends}
@@ -12,7 +12,7 @@ use Rattle.jc_body.specs.BodyOf.{BodyOf}
 use Rattle.jc_instrument.specs.Bodies.{AreBodies}
 use Rattle.jc_instrument.specs.Members.{AreCoded, IsCoded}
 use Rattle.jc_instrument.specs.Probing.{AreMade}
-use Rattle.jc_instrument.specs.Works.{Work, bodies_of}
+use Rattle.jc_instrument.specs.BodiesWithStates.{BodyWithStates, bodies_of}
 use Rattle.jc_instrument.specs.declared.probed.Probed.{Probed}
 use Rattle.jc_instrument.proofs.TwinMethodLaws.{IsOld, same_code}
 
@@ -29,7 +29,7 @@ module _ (names : Names) (c : ClassFile) (new : PoolValue) (extends : Extends c.
         };
       }
 
-  all_later : (number : ℕ) (works : List Work) (probed : List Probed) → AreMade array works probed
+  all_later : (number : ℕ) (works : List BodyWithStates) (probed : List Probed) → AreMade array works probed
       → ((j : ℕ) (b : Body) → slice_get (bodies_of works) j ≡ Some b → number < b.method) → AllByRecursion (λ q. number < q.method) probed
   all_later number [] [] made later = tt
   all_later number [] (p ∷ probed) made later = absurd made
@@ -39,7 +39,7 @@ module _ (names : Names) (c : ClassFile) (new : PoolValue) (extends : Extends c.
     all_later number works probed made.1 (λ j b at. later (suc j) b at),
   )
 
-  some_coded : (works : List Work) (probed : List Probed) → AreMade array works probed
+  some_coded : (works : List BodyWithStates) (probed : List Probed) → AreMade array works probed
       → ((k : ℕ) (b : Body) → slice_get (bodies_of works) k ≡ Some b → BodyOf names c b.method b)
       → ((i j : ℕ) (a b : Body) → i < j → slice_get (bodies_of works) i ≡ Some a → slice_get (bodies_of works) j ≡ Some b → a.method < b.method)
       → AreCoded new c.methods probed
@@ -55,6 +55,6 @@ module _ (names : Names) (c : ClassFile) (new : PoolValue) (extends : Extends c.
             (λ i j a b less x y. rising (suc i) (suc j) a b (let more : suc i < suc j = omega (arith, less) in more) x y),
       )
 
-  pub are_coded : (works : List Work) (probed : List Probed) → AreMade array works probed → AreBodies names c (bodies_of works)
+  pub are_coded : (works : List BodyWithStates) (probed : List Probed) → AreMade array works probed → AreBodies names c (bodies_of works)
       → AreCoded new c.methods probed
   are_coded works probed made bodies = some_coded works probed made bodies.each bodies.rising

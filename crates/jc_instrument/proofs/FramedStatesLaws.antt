@@ -4,14 +4,14 @@ use Rattle.std.specs.Prelude.{Contains, slice_get, unwrap_or}
 use Rattle.std.proofs.lemmas.Bool.{eq-eqb, eqb-true}
 use Rattle.std.proofs.lemmas.Option.{none-some, same_Some, get_or_from_slice_get, slice_get-get_or}
 use Rattle.jc_methods.specs.FrameOrder.{RiseFrom}
-use Rattle.jc_methods.specs.Held.{Names, seen, AreNumberedFrames, IsNumberedState}
+use Rattle.jc_methods.specs.VerificationTypes.{Names, type_state, AreNumberedFrames, IsNumberedState}
 use Rattle.jc_bytes.specs.PlainLists.{map_from}
 use Rattle.jc_methods.specs.WellMade.{AreFramesFrom, IsState, IsWellMadeOfAnySize}
 use Rattle.jc_methods.specs.declared.body.Body.{Body}
 use Rattle.jc_methods.specs.declared.body.FrameAt.{FrameAt}
 use Rattle.jc_methods.specs.declared.insn.Insn.{Insn}
 use Rattle.jc_methods.specs.declared.kind.State.{State}
-use Rattle.jc_bytes.proofs.TestLaws.{none_in, which_in, first_in, later_in}
+use Rattle.jc_bytes.proofs.BooleanLaws.{none_in, which_in, first_in, later_in}
 use Rattle.jc_class.specs.declared.class_file.ClassFile.{ClassFile}
 use Rattle.jc_kinds.specs.Answers.{AreStates, IsStateAt}
 use Rattle.jc_kinds.specs.Frames.{frame_in}
@@ -21,11 +21,11 @@ use Rattle.jc_plan.proofs.PlanLaws.{mapped_at}
 use Rattle.jc_emit.specs.Emission.{HasFrameStates}
 use Rattle.jc_emit.specs.TwinFrames.{no_state, state_at}
 use Rattle.jc_emit.proofs.StraddlingLaws.{frame_within}
-use Rattle.jc_emit.proofs.TwinPremises.{frame_found, risen, frames_rise}
-use Rattle.jc_emit.proofs.TwinStates.{frame_state_is}
-use Rattle.jc_emit.proofs.PlanReads.{length_map_from}
+use Rattle.jc_emit.proofs.TwinPremisesLaws.{frame_found, risen, frames_rise}
+use Rattle.jc_emit.proofs.TwinStatesLaws.{frame_state_is}
+use Rattle.jc_emit.proofs.PlanReadsLaws.{length_map_from}
 use Rattle.jc_instrument.specs.Bodies.{AreBodies}
-use Rattle.jc_instrument.specs.Works.{Work, bodies_of, AreWorks, IsWork}
+use Rattle.jc_instrument.specs.BodiesWithStates.{BodyWithStates, bodies_of, AreBodiesWithStates, IsBodyWithStates}
 use Rattle.jc_instrument.proofs.WrittenAgainLaws.{from_at}
 use Rattle.jc_instrument.proofs.ListedLaws.{body_at}
 
@@ -97,8 +97,8 @@ module _ (names : Names) (b : Body) (states : List State) (made : IsWellMadeOfAn
       record {
         is =
             ap (state_of names b) (sym f.at)
-            ∙ frame_state_is names b f.frame.at (seen names f.frame.state) (frame_found names 0 b.frames f.frame rises f.listed)
-            ∙ ap (λ (s : State). Some (seen names s)) f.state;
+            ∙ frame_state_is names b f.frame.at (type_state names f.frame.state) (frame_found names 0 b.frames f.frame rises f.listed)
+            ∙ ap (λ (s : State). Some (type_state names s)) f.state;
         numbered = f.numbered;
         well_made = f.well_made;
       }
@@ -124,38 +124,38 @@ module _ (names : Names) (b : Body) (states : List State) (made : IsWellMadeOfAn
 
 -- ---- works
 
-abbrev pub framed_work : Work → Work
+abbrev pub framed_work : BodyWithStates → BodyWithStates
 framed_work w = record { body = w.body; states = framed_states w.body w.states; first = w.first }
 
-pub same_bodies : (works : List Work) → bodies_of (map framed_work works) ≡ bodies_of works
+pub same_bodies : (works : List BodyWithStates) → bodies_of (map framed_work works) ≡ bodies_of works
 same_bodies [] = refl
 same_bodies (w ∷ works) = ap (λ (l : List Body). w.body ∷ l) (same_bodies works)
 
-framed_at : (works : List Work) (i : ℕ) (x : Work) → slice_get (map framed_work works) i ≡ Some x → (w : Work) × (slice_get works i ≡ Some w) × (framed_work w ≡ x)
+framed_at : (works : List BodyWithStates) (i : ℕ) (x : BodyWithStates) → slice_get (map framed_work works) i ≡ Some x → (w : BodyWithStates) × (slice_get works i ≡ Some w) × (framed_work w ≡ x)
 framed_at [] i x at = absurd (none-some x at)
 framed_at (w ∷ works) zero x at = (w, refl, same_Some (framed_work w) x at)
 framed_at (w ∷ works) (suc i) x at = framed_at works i x at
 
-module _ (names : Names) (array : ℕ) (c : ClassFile) (works : List Work) (are : AreWorks names array c works)
+module _ (names : Names) (array : ℕ) (c : ClassFile) (works : List BodyWithStates) (are : AreBodiesWithStates names array c works)
     (made : (i : ℕ) (b : Body) → slice_get (bodies_of works) i ≡ Some b → IsWellMadeOfAnySize b) where
-  numbered_at : (i : ℕ) (w : Work) → slice_get works i ≡ Some w → AreNumberedFrames (length names) w.body.frames
+  numbered_at : (i : ℕ) (w : BodyWithStates) → slice_get works i ≡ Some w → AreNumberedFrames (length names) w.body.frames
   numbered_at i w at = (are.bodies.each i w.body (body_at works i w at)).is.parts.numbers
 
-  pub works_are : AreWorks names array c (map framed_work works)
+  pub works_are : AreBodiesWithStates names array c (map framed_work works)
   works_are = record {
     bodies = subst (AreBodies names c) (sym (same_bodies works)) are.bodies;
     array_is = are.array_is;
     each = λ i x at.
         let w = framed_at works i x at in
         let old = are.each i w.0 w.1 in
-        subst (IsWork names (bodies_of (map framed_work works)) i) w.2 (record {
+        subst (IsBodyWithStates names (bodies_of (map framed_work works)) i) w.2 (record {
           first = old.first ∙ ap (λ (l : List Body). first_id l i) (sym (same_bodies works));
           states = framed_are names w.0.body w.0.states (made i w.0.body (body_at works i w.0 w.1)) (numbered_at i w.0 w.1) old.states;
         });
   }
 
-  pub works_fit : (i : ℕ) (x : Work) → slice_get (map framed_work works) i ≡ Some x → HasFrameStates x.body x.states
+  pub works_fit : (i : ℕ) (x : BodyWithStates) → slice_get (map framed_work works) i ≡ Some x → HasFrameStates x.body x.states
   works_fit i x at =
       let w = framed_at works i x at in
-      subst (λ (y : Work). HasFrameStates y.body y.states) w.2
+      subst (λ (y : BodyWithStates). HasFrameStates y.body y.states) w.2
       (framed_fit names w.0.body w.0.states (made i w.0.body (body_at works i w.0 w.1)) (numbered_at i w.0 w.1) (are.each i w.0 w.1).states)

@@ -8,7 +8,7 @@ use Rattle.std.specs.Bool.{⊤}
 use Rattle.std.specs.List.{flat_map, AllByRecursion}
 use Rattle.std.specs.Prelude.{Contains}
 use Rattle.jc_bytes.proofs.DecoderLaws.{some_is}
-use Rattle.jc_bytes.proofs.TestLaws.{first_in, which_in, none_in}
+use Rattle.jc_bytes.proofs.BooleanLaws.{first_in, which_in, none_in}
 use Rattle.jc_pool.specs.Adding.{IsNowhere, IsPut, Extends, HasUtf8, HasClass, HasString, HasLong, HasSignature, HasMember, IsMemberTag, entry_of_member}
 use Rattle.jc_pool.specs.Lookup.{entry_of, long_of, Signature, signature, Member}
 use Rattle.jc_pool.specs.Pool.{PoolValue}

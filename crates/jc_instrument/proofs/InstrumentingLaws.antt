@@ -9,9 +9,9 @@ use Rattle.jc_pool.specs.Lookup.{class_name_of}
 use Rattle.jc_class.specs.ClassId.{class_id}
 use Rattle.jc_class.specs.ClassText.{ClassText}
 use Rattle.jc_class.specs.declared.class_file.ClassFile.{ClassFile}
-use Rattle.jc_kinds.specs.Answers.{Said}
+use Rattle.jc_bytes.specs.Failing.{Said}
 use Rattle.jc_instrument.specs.Causes.{Cause, IsFirstCause, NoCause, unless}
-use Rattle.jc_instrument.specs.Changing.{IsChanged, changing_causes}
+use Rattle.jc_instrument.specs.Changing.{GetsProbes, changing_causes}
 use Rattle.jc_instrument.specs.InstrumentedFile.{Becomes, IsAsGiven, IsInstrumentedFile}
 use Rattle.jc_instrument.specs.LeftAlone.{is_left_alone}
 use Rattle.jc_instrument.specs.Reasons.{class_causes, interface_causes, code_causes}
@@ -70,7 +70,7 @@ module _ (bytes : List ℕ) (c : ClassFile) (text : ClassText bytes c) (none : N
     becomes = subst (λ (t : Bool). Becomes t bytes c a) (sym stays) given;
   }
 
-  pub changed_made : (a : Instrumented) → is_left_alone c ≡ false → NoCause (interface_causes c) → IsChanged (class_id bytes) c a
+  pub changed_made : (a : Instrumented) → is_left_alone c ≡ false → NoCause (interface_causes c) → GetsProbes (class_id bytes) c a
       → IsInstrumentedFile bytes a
   changed_made a changes no_interface is = record {
     file = c;
@@ -86,7 +86,7 @@ Answer = Result Instrumented (Fail Refusal)
 
 module _ (bytes : List ℕ) (c : ClassFile) (text : ClassText bytes c) (none : NoCause (class_causes c)) (changes : is_left_alone c ≡ false)
     (no_interface : NoCause (interface_causes c)) where
-  pub made_from : (answer : Answer) → IfOk answer (IsChanged (class_id bytes) c) → IfOk answer (IsInstrumentedFile bytes)
+  pub made_from : (answer : Answer) → IfOk answer (GetsProbes (class_id bytes) c) → IfOk answer (IsInstrumentedFile bytes)
   made_from (Ok a) is = changed_made bytes c text none a changes no_interface is
   made_from (Err e) is = tt
 

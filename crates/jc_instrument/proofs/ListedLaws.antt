@@ -2,19 +2,19 @@
 use Rattle.std.proofs.Common.{◌≡◌, ◌⊎◌, inl, inr, ℕ, zero, suc, ◌+◌, ◌-◌, ◌<◌, ◌≤◌, List, [], ◌∷◌, ◌++◌, length, option_map, Some, slice_get, sym, ◌∙◌, ap, subst, arith}
 use Rattle.std.proofs.lemmas.Bool.{cases_order}
 use Rattle.std.proofs.lemmas.Option.{slice_get_within, slice_get-map}
-use Rattle.jc_methods.specs.Held.{Names, Grows}
+use Rattle.jc_methods.specs.VerificationTypes.{Names, Grows}
 use Rattle.jc_methods.specs.declared.body.Body.{Body}
 use Rattle.jc_bytes.proofs.ListLaws.{put_stays, put_last, put_cases, below_or_last, item_at}
 use Rattle.jc_class.specs.declared.class_file.ClassFile.{ClassFile}
 use Rattle.jc_body.specs.BodyOf.{BodyOf, Bodiless}
 use Rattle.jc_instrument.specs.Bodies.{IsListed, AreBodiesBelow}
-use Rattle.jc_instrument.specs.Works.{Work, bodies_of}
+use Rattle.jc_instrument.specs.BodiesWithStates.{BodyWithStates, bodies_of}
 use Rattle.jc_instrument.proofs.OneBodyLaws.{grown_body}
 
 -- ---- an item
 
-pub body_at : (works : List Work) (i : ℕ) (w : Work) → slice_get works i ≡ Some w → slice_get (bodies_of works) i ≡ Some w.body
-body_at works i w stands = slice_get-map (λ (v : Work). v.body) works i ∙ ap (option_map (λ (v : Work). v.body)) stands
+pub body_at : (works : List BodyWithStates) (i : ℕ) (w : BodyWithStates) → slice_get works i ≡ Some w → slice_get (bodies_of works) i ≡ Some w.body
+body_at works i w stands = slice_get-map (λ (v : BodyWithStates). v.body) works i ∙ ap (option_map (λ (v : BodyWithStates). v.body)) stands
 
 -- ---- bodies
 

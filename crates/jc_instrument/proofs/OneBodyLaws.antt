@@ -1,6 +1,6 @@
 -- A method has one body, whatever the names with which it was read.
 use Rattle.std.proofs.Common.{◌≡◌, ℕ, map, Some, sym, ◌∙◌, ap, subst}
-use Rattle.jc_methods.specs.Held.{Names, Grows, seen_at}
+use Rattle.jc_methods.specs.VerificationTypes.{Names, Grows, type_state_at}
 use Rattle.jc_methods.specs.declared.body.Body.{Body}
 use Rattle.jc_methods.proofs.SeenLaws.{frames_stay}
 use Rattle.jc_methods.proofs.NumberedLaws.{grown_count, frames_numbered}
@@ -44,7 +44,7 @@ grown_parts old new c number method coded tables b grows p = record {
   vars = p.vars;
   kind_vars = p.kind_vars;
   frames = subst (HasFrames c.pool b.owner method coded)
-      (sym (ap (λ (names : Names). map (seen_at names) b.frames) grows.1 ∙ frames_stay old grows.0 b.frames p.numbers)) p.frames;
+      (sym (ap (λ (names : Names). map (type_state_at names) b.frames) grows.1 ∙ frames_stay old grows.0 b.frames p.numbers)) p.frames;
   numbers = frames_numbered _ _ b.frames (grown_count old new grows) p.numbers;
   uses = p.uses;
 }

@@ -2,7 +2,7 @@
 use Rattle.std.proofs.Common.{◌≡◌, ℕ, Bool, true, false, List, [], ◌∷◌, ◌++◌, map, Some, refl, sym, ◌∙◌, ap, subst, nat_eq, if◌then◌else◌}
 use Rattle.std.specs.List.{AllZip}
 use Rattle.std.proofs.lemmas.Option.{same_Some}
-use Rattle.jc_methods.specs.Held.{Names, SeenAt}
+use Rattle.jc_methods.specs.VerificationTypes.{Names, TypeStateAt}
 use Rattle.jc_bytes.specs.PlainLists.{map_from}
 use Rattle.jc_bytes.specs.declared.refusal.Refusal.{Refusal}
 use Rattle.jc_pool.specs.Lookup.{class_name_of}
@@ -20,7 +20,7 @@ use Rattle.jc_instrument.specs.LeftAlone.{is_left_alone}
 use Rattle.jc_instrument.specs.Needed.{name_of, needed, needs_of, place_list, signed_id}
 use Rattle.jc_instrument.specs.Refused.{Reason, probe_causes}
 use Rattle.jc_instrument.specs.TwinText.{IsWritten, data_member, init_member, twin_class, twin_method, twin_methods, with_code, work_of}
-use Rattle.jc_instrument.specs.Works.{Work, AreWorks, emitted_of}
+use Rattle.jc_instrument.specs.BodiesWithStates.{BodyWithStates, AreBodiesWithStates, emitted_of}
 use Rattle.jc_instrument.specs.declared.needs.MemberPlaces.{MemberPlaces}
 use Rattle.jc_instrument.specs.declared.whole.Instrumented.{Instrumented}
 use Rattle.jc_instrument.proofs.FullPoolLaws.{one_probe_count}
@@ -32,9 +32,9 @@ use Rattle.jc_instrument.proofs.TwinLaws.{one_places}
 
 -- ---- its methods
 
-module _ (names others : Names) (array other : ℕ) (old : PoolValue) (code code_too : Work → List ℕ)
-    (codes_same : (w x : Work) → IsSameWork names others array other w x → code w ≡ code_too x) where
-  one_method : (number : ℕ) (method : Member) (works more : List Work) → AllZip (IsSameWork names others array other) works more
+module _ (names others : Names) (array other : ℕ) (old : PoolValue) (code code_too : BodyWithStates → List ℕ)
+    (codes_same : (w x : BodyWithStates) → IsSameWork names others array other w x → code w ≡ code_too x) where
+  one_method : (number : ℕ) (method : Member) (works more : List BodyWithStates) → AllZip (IsSameWork names others array other) works more
       → twin_method old code method (work_of number works) ≡ twin_method old code_too method (work_of number more)
   one_method number method [] [] same = refl
   one_method number method [] (x ∷ more) same = absurd same
@@ -49,14 +49,14 @@ module _ (names others : Names) (array other : ℕ) (old : PoolValue) (code code
       by true later = ap (λ (bytes : List ℕ). record method { attributes = map (with_code old bytes) method.attributes }) (codes_same w x same.0)
       by false later = later
 
-  one_methods : (works more : List Work) → AllZip (IsSameWork names others array other) works more → (methods : List Member)
+  one_methods : (works more : List BodyWithStates) → AllZip (IsSameWork names others array other) works more → (methods : List Member)
       → twin_methods old code works methods ≡ twin_methods old code_too more methods
   one_methods works more same methods = λ i. map_from (λ number method. one_method number method works more same i) 0 methods
 
 -- ---- the class
 
-module _ (id : ℕ) (names others : Names) (array other : ℕ) (works more : List Work) (c : ClassFile) where
-  class_same : AreWorks names array c works → AreWorks others other c more → (pool : PoolValue) (places : MemberPlaces)
+module _ (id : ℕ) (names others : Names) (array other : ℕ) (works more : List BodyWithStates) (c : ClassFile) where
+  class_same : AreBodiesWithStates names array c works → AreBodiesWithStates others other c more → (pool : PoolValue) (places : MemberPlaces)
       → twin_class names array c works pool places ≡ twin_class others other c more pool places
   unfolding twin_class
   class_same are too pool places = λ i. record {
@@ -82,7 +82,7 @@ module _ (id : ℕ) (names others : Names) (array other : ℕ) (works more : Lis
 
   pub one_twin : (twin same : ClassFile) → IsWritten id names array works c twin → IsWritten id others other more c same → twin ≡ same
   one_twin twin same a b =
-      let taken = subst (λ (frames : List SeenAt). TakesEach c.pool (needed (name_of c) (signed_id id) frames) b.pool
+      let taken = subst (λ (frames : List TypeStateAt). TakesEach c.pool (needed (name_of c) (signed_id id) frames) b.pool
       (place_list b.places ++ b.takes.class_places)) (sym (same_frames names others array other c works more a.are b.are)) b.takes.takes in
       let one = one_taking (needs_of id names array c works) c.pool a.pool b.pool (place_list a.places ++ a.takes.class_places)
       (place_list b.places ++ b.takes.class_places) a.takes.takes taken in

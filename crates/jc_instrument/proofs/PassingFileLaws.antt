@@ -16,7 +16,7 @@ use Rattle.jc_instrument.specs.LeftAlone.{is_left_alone}
 use Rattle.jc_instrument.specs.ProbedClass.{making_causes}
 use Rattle.jc_instrument.specs.Reasons.{code_causes}
 use Rattle.jc_instrument.specs.RoomCauses.{early_room_causes, HasTooLargeCode, room_causes}
-use Rattle.jc_instrument.specs.Works.{bodies_of}
+use Rattle.jc_instrument.specs.BodiesWithStates.{bodies_of}
 use Rattle.jc_instrument.specs.declared.whole.Instrumented.{Instrumented}
 use Rattle.jc_instrument.proofs.CauseLaws.{none_in_both}
 use Rattle.jc_instrument.proofs.HasRoomLaws.{all_free, has_room}

@@ -3,7 +3,7 @@ use Rattle.std.proofs.Common.{◌≡◌, ℕ, ◌≤◌, Bool, false, List, [], 
 use Rattle.std.specs.Prelude.{slice_get, sum_by}
 use Rattle.std.proofs.lemmas.Option.{slice_get-get_or}
 use Rattle.jc_bytes.specs.ByteLists.{AreBytes}
-use Rattle.jc_methods.specs.Held.{Names, SeenAt}
+use Rattle.jc_methods.specs.VerificationTypes.{Names, TypeStateAt}
 use Rattle.jc_bytes.specs.Reader.{most_read}
 use Rattle.jc_methods.specs.WellMade.{IsWellMadeOfAnySize}
 use Rattle.jc_methods.specs.declared.body.Body.{Body}
@@ -24,7 +24,7 @@ use Rattle.jc_instrument.specs.Reasons.{class_causes, code_causes, interface_cau
 use Rattle.jc_instrument.specs.Refused.{probe_causes}
 use Rattle.jc_instrument.specs.RoomCauses.{room_causes}
 use Rattle.jc_instrument.specs.TwinText.{twin_class, work_of, IsWritten}
-use Rattle.jc_instrument.specs.Works.{Work, bodies_of, emitted_of, AreWorks}
+use Rattle.jc_instrument.specs.BodiesWithStates.{BodyWithStates, bodies_of, emitted_of, AreBodiesWithStates}
 use Rattle.jc_instrument.proofs.DecidedLaws.{none_behind}
 use Rattle.jc_instrument.proofs.FramedStatesLaws.{framed_work, same_bodies, works_are, works_fit}
 use Rattle.jc_instrument.proofs.OneTwinLaws.{one_twin}
@@ -61,7 +61,7 @@ module _ (id : ℕ) (c : ClassFile) (none : NoCause (probe_causes id c)) (change
 -- ---- the class
 
 module _ (bytes : List ℕ) (c : ClassFile) (text : ClassText bytes c) (are_bytes : AreBytes bytes) (size : length bytes ≤ most_read) (id : ℕ)
-    (none : NoCause (code_causes c)) (names : Names) (array : ℕ) (works : List Work) (twin : ClassFile) (w : IsWritten id names array works c twin) where
+    (none : NoCause (code_causes c)) (names : Names) (array : ℕ) (works : List BodyWithStates) (twin : ClassFile) (w : IsWritten id names array works c twin) where
   is : IsClassFile c
   is = class_holds bytes c are_bytes text
 
@@ -77,10 +77,10 @@ module _ (bytes : List ℕ) (c : ClassFile) (text : ClassText bytes c) (are_byte
       (slice_get-get_or (bodies_of works) k d less)
 
   -- the works with the states of the frames
-  abbrev framed : List Work
+  abbrev framed : List BodyWithStates
   framed = map framed_work works
 
-  framed_are : AreWorks names array c framed
+  framed_are : AreBodiesWithStates names array c framed
   framed_are = works_are names array c works w.are made
 
   bodies_same : bodies_of framed ≡ bodies_of works
@@ -91,7 +91,7 @@ module _ (bytes : List ℕ) (c : ClassFile) (text : ClassText bytes c) (are_byte
     are = framed_are;
     pool = w.pool;
     places = w.places;
-    takes = subst (λ (frames : List SeenAt). TakesNeeded c.pool (name_of c) (signed_id id) frames w.pool w.places)
+    takes = subst (λ (frames : List TypeStateAt). TakesNeeded c.pool (name_of c) (signed_id id) frames w.pool w.places)
         (same_frames names names array array c works framed w.are framed_are) w.takes;
     few = w.few;
     is = refl;
@@ -118,7 +118,7 @@ module _ (bytes : List ℕ) (c : ClassFile) (text : ClassText bytes c) (are_byte
     twin_is : IsClassFile (twin_class names array c framed w.pool w.places)
     twin_is = class_holds new_bytes (twin_class names array c framed w.pool w.places) new_are (subst (ClassText new_bytes) twins new_text)
 
-    coded : (number : ℕ) (x : Work) → work_of number framed ≡ Some x → IsWrittenCode w.pool (code_places w.pool w.places) names (emitted_of array x)
+    coded : (number : ℕ) (x : BodyWithStates) → work_of number framed ≡ Some x → IsWrittenCode w.pool (code_places w.pool w.places) names (emitted_of array x)
     unfolding framed_written
     coded number x found =
         let h = work_found number framed x found in

@@ -1,7 +1,7 @@
 -- The instrumented code of a class, or why there is none.
 use Rattle.std.proofs.Common.{◌≡◌, ◌⊎◌, inl, inr, ℕ, ◌<◌, ◌≤◌, Bool, false, List, [], ◌∷◌, ◌++◌, length, refl, sym, ◌∙◌, ap, subst}
 use Rattle.std.proofs.lemmas.Bool.{cases_lt}
-use Rattle.jc_methods.specs.Held.{Names, Grows}
+use Rattle.jc_methods.specs.VerificationTypes.{Names, Grows}
 use Rattle.jc_methods.specs.declared.body.Body.{Body}
 use Rattle.jc_bytes.specs.declared.refusal.Refusal.{Refusal}
 use Rattle.jc_class.specs.declared.class_file.ClassFile.{ClassFile}
@@ -14,7 +14,7 @@ use Rattle.jc_instrument.specs.Probing.{AreProbed, IsFirstTooLong}
 use Rattle.jc_instrument.specs.Reasons.{code_causes}
 use Rattle.jc_instrument.specs.RoomCauses.{HasTooLargeCode, early_room_causes}
 use Rattle.jc_instrument.specs.Steps.{AreCheckedUnder}
-use Rattle.jc_instrument.specs.Works.{IsWork}
+use Rattle.jc_instrument.specs.BodiesWithStates.{IsBodyWithStates}
 use Rattle.jc_instrument.specs.declared.probed.Probed.{Probed}
 use Rattle.jc_instrument.proofs.CauseLaws.{first_behind, first_in_front, none_in_both}
 use Rattle.jc_instrument.proofs.ListedLaws.{grown_bodies}
@@ -61,7 +61,7 @@ module _ (names : Names) (c : ClassFile) (bodies : List Body) (changes : is_left
       are = record {
         bodies = subst (AreBodies new c) (sym a.bodies_are) (grown_bodies names new c (length c.methods) bodies grows is.are);
         array_is = a.array_is;
-        each = λ i w at. subst (λ (l : List Body). IsWork new l i w) (sym a.bodies_are) (a.each i w at);
+        each = λ i w at. subst (λ (l : List Body). IsBodyWithStates new l i w) (sym a.bodies_are) (a.each i w at);
       };
       made = a.made;
       frames = a.frames;

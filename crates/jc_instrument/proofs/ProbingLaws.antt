@@ -6,7 +6,7 @@ use Rattle.std.proofs.lemmas.Bool.{cases_lt}
 use Rattle.std.proofs.lemmas.List.{get_or_past, length-map, length-take-le, map-append, take_all, take_more}
 use Rattle.std.proofs.lemmas.List.Sums.{sum_by-take-le}
 use Rattle.std.proofs.lemmas.Option.{none-some, same_Some, slice_get_within, slice_get-get_or, get_or_from_slice_get}
-use Rattle.jc_methods.specs.Held.{Names, AreNumberedFrames, Grows}
+use Rattle.jc_methods.specs.VerificationTypes.{Names, AreNumberedFrames, Grows}
 use Rattle.jc_bytes.specs.Names.{AreNames}
 use Rattle.jc_methods.specs.declared.body.Body.{Body}
 use Rattle.jc_methods.specs.declared.emitted.Emitted.{Emitted}
@@ -32,7 +32,7 @@ use Rattle.jc_instrument.specs.Analysis.{plans_of, all_probes}
 use Rattle.jc_instrument.specs.Probing.{IsMade, IsMadeOf, work, AreMade, AreProbed, AreShortBelow}
 use Rattle.jc_instrument.specs.RoomCauses.{probed_code}
 use Rattle.jc_instrument.specs.Taking.{frames_in, HasFrames}
-use Rattle.jc_instrument.specs.Works.{Work, bodies_of, IsWork}
+use Rattle.jc_instrument.specs.BodiesWithStates.{BodyWithStates, bodies_of, IsBodyWithStates}
 use Rattle.jc_instrument.specs.declared.probed.Probed.{Probed}
 use Rattle.jc_instrument.proofs.KeptStatesLaws.{states_grown}
 use Rattle.jc_instrument.proofs.PlanningLaws.{first_more}
@@ -98,23 +98,23 @@ one_array old new array other grows are is there =
 -- ---- the bodies so far
 
 -- what is made of a work under these names
-pub record IsMadeUnder (names : Names) (w : Work) (p : Probed) : Type 0 where
+pub record IsMadeUnder (names : Names) (w : BodyWithStates) (p : Probed) : Type 0 where
   pub array : ℕ
   pub array_is : IsArrayNumber names array
   pub made : IsMade array w p
   pub frames : HasFrames (length names) p
 
-abbrev pub AreMadeUnder : Names → List Work → List Probed → Type 0
+abbrev pub AreMadeUnder : Names → List BodyWithStates → List Probed → Type 0
 AreMadeUnder names [] [] = ⊤
 AreMadeUnder names (w ∷ works) (p ∷ probed) = IsMadeUnder names w p × AreMadeUnder names works probed
 AreMadeUnder names _ _ = ⊥
 
 pub record IsProbing (first names : Names) (bodies : List Body) (n : ℕ) (probed : List Probed) : Type 0 where
   pub grows : Grows first names
-  pub works : List Work
+  pub works : List BodyWithStates
   pub bodies_are : bodies_of works ≡ take n bodies
-  pub numbered : (i : ℕ) (w : Work) → slice_get works i ≡ Some w → AreNumberedFrames (length first) w.body.frames
-  pub each : (i : ℕ) (w : Work) → slice_get works i ≡ Some w → IsWork names bodies i w
+  pub numbered : (i : ℕ) (w : BodyWithStates) → slice_get works i ≡ Some w → AreNumberedFrames (length first) w.body.frames
+  pub each : (i : ℕ) (w : BodyWithStates) → slice_get works i ≡ Some w → IsBodyWithStates names bodies i w
   pub made : AreMadeUnder names works probed
   pub short : AreShortBelow bodies n
 
@@ -154,7 +154,7 @@ frames_grown old new p le has = record {
       }) has.each;
 }
 
-all_grown : (old new : Names) (works : List Work) (probed : List Probed) → Grows old new → AreMadeUnder old works probed → AreMadeUnder new works probed
+all_grown : (old new : Names) (works : List BodyWithStates) (probed : List Probed) → Grows old new → AreMadeUnder old works probed → AreMadeUnder new works probed
 all_grown old new [] [] grows made = tt
 all_grown old new [] (p ∷ probed) grows made = absurd made
 all_grown old new (w ∷ works) [] grows made = absurd made
@@ -168,14 +168,14 @@ all_grown old new (w ∷ works) (p ∷ probed) grows made = (
   all_grown old new works probed grows made.1,
 )
 
-made_more : (names : Names) (works : List Work) (probed : List Probed) (w : Work) (p : Probed) → AreMadeUnder names works probed → IsMadeUnder names w p
+made_more : (names : Names) (works : List BodyWithStates) (probed : List Probed) (w : BodyWithStates) (p : Probed) → AreMadeUnder names works probed → IsMadeUnder names w p
     → AreMadeUnder names (works ++ w ∷ []) (probed ++ p ∷ [])
 made_more names [] [] w p made one = (one, tt)
 made_more names [] (q ∷ probed) w p made one = absurd made
 made_more names (x ∷ works) [] w p made one = absurd made
 made_more names (x ∷ works) (q ∷ probed) w p made one = (made.0, made_more names works probed w p made.1 one)
 
-made_count : (names : Names) (works : List Work) (probed : List Probed) → AreMadeUnder names works probed → length works ≡ length probed
+made_count : (names : Names) (works : List BodyWithStates) (probed : List Probed) → AreMadeUnder names works probed → length works ≡ length probed
 made_count names [] [] made = refl
 made_count names [] (p ∷ probed) made = absurd made
 made_count names (w ∷ works) [] made = absurd made
@@ -187,32 +187,32 @@ made_short names b first p of =
     subst (λ (code : List Insn). chosen_length code ≤ 65535)
     (ap (λ (e : Emitted). e.code) of.made.emitted ∙ emission_code b first of.states of.array) (laid_length p.emitted p.laid of.made.laid)
 
-pub work_grown : (old new : Names) (bodies : List Body) (i : ℕ) (w : Work) → Grows old new → AreNumberedFrames (length old) w.body.frames
-    → IsWork old bodies i w → IsWork new bodies i w
+pub work_grown : (old new : Names) (bodies : List Body) (i : ℕ) (w : BodyWithStates) → Grows old new → AreNumberedFrames (length old) w.body.frames
+    → IsBodyWithStates old bodies i w → IsBodyWithStates new bodies i w
 work_grown old new bodies i w grows numbered is = record { first = is.first; states = states_grown old new w.body w.states grows numbered is.states }
 
 module _ (first names more : Names) (bodies : List Body) (n : ℕ) (probed new : List Probed) (b : Body) (p : Probed)
     (numbered : AreNumberedFrames (length first) b.frames) (stands : slice_get bodies n ≡ Some b) (before : IsProbing first names bodies n probed)
     (grows : Grows names more) (of : IsMadeOf more b (first_id bodies n) p) (framed : HasFrames (length more) p) (put : new ≡ probed ++ p ∷ []) where
-  abbrev own : Work
+  abbrev own : BodyWithStates
   own = work b of.states (first_id bodies n)
 
   works_count : length before.works ≡ n
   works_count =
       let within = slice_get_within bodies n b stands in
       let size : length (take n bodies) ≡ n = length-take-le n bodies (omega (arith, within)) in
-      sym (length-map before.works (λ (w : Work). w.body)) ∙ ap (λ (l : List Body). length l) before.bodies_are ∙ size
+      sym (length-map before.works (λ (w : BodyWithStates). w.body)) ∙ ap (λ (l : List Body). length l) before.bodies_are ∙ size
 
-  numbers : (i : ℕ) (w : Work) → (slice_get before.works i ≡ Some w) ⊎ ((i ≡ length before.works) × (own ≡ w)) → AreNumberedFrames (length first) w.body.frames
+  numbers : (i : ℕ) (w : BodyWithStates) → (slice_get before.works i ≡ Some w) ⊎ ((i ≡ length before.works) × (own ≡ w)) → AreNumberedFrames (length first) w.body.frames
   numbers i w (inl there) = before.numbered i w there
-  numbers i w (inr last) = subst (λ (x : Work). AreNumberedFrames (length first) x.body.frames) last.1 numbered
+  numbers i w (inr last) = subst (λ (x : BodyWithStates). AreNumberedFrames (length first) x.body.frames) last.1 numbered
 
-  is_work : (i : ℕ) (w : Work) → (slice_get before.works i ≡ Some w) ⊎ ((i ≡ length before.works) × (own ≡ w)) → IsWork more bodies i w
+  is_work : (i : ℕ) (w : BodyWithStates) → (slice_get before.works i ≡ Some w) ⊎ ((i ≡ length before.works) × (own ≡ w)) → IsBodyWithStates more bodies i w
   is_work i w (inl there) =
       work_grown names more bodies i w grows
       (frames_numbered (length first) (length names) w.body.frames (grown_count first names before.grows) (before.numbered i w there))
       (before.each i w there)
-  is_work i w (inr last) = subst (IsWork more bodies i) last.1 (record {
+  is_work i w (inr last) = subst (IsBodyWithStates more bodies i) last.1 (record {
     first = ap (first_id bodies) (sym (last.0 ∙ works_count));
     states = of.are;
   })
@@ -230,7 +230,7 @@ module _ (first names more : Names) (bodies : List Body) (n : ℕ) (probed new :
   bodies_now : bodies_of (before.works ++ own ∷ []) ≡ take (n + 1) bodies
   bodies_now =
       let less = slice_get_within bodies n b stands in
-      map-append (λ (w : Work). w.body) before.works (own ∷ [])
+      map-append (λ (w : BodyWithStates). w.body) before.works (own ∷ [])
       ∙ ap₂ (λ (l : List Body) (x : Body). l ++ x ∷ []) before.bodies_are (sym (get_or_from_slice_get bodies n b b stands))
       ∙ sym (take_more bodies n b less)
 
@@ -248,7 +248,7 @@ module _ (first names more : Names) (bodies : List Body) (n : ℕ) (probed new :
 
 -- ---- the end
 
-all_made : (old new : Names) (array : ℕ) (works : List Work) (probed : List Probed) → Grows old new → AreNames new → slice_get new array ≡ Some probe_array_class
+all_made : (old new : Names) (array : ℕ) (works : List BodyWithStates) (probed : List Probed) → Grows old new → AreNames new → slice_get new array ≡ Some probe_array_class
     → AreMadeUnder old works probed → AreMade array works probed
 all_made old new array [] [] grows are there made = tt
 all_made old new array [] (p ∷ probed) grows are there made = absurd made
@@ -258,7 +258,7 @@ all_made old new array (w ∷ works) (p ∷ probed) grows are there made = (
   all_made old new array works probed grows are there made.1,
 )
 
-all_framed : (old new : Names) (works : List Work) (probed : List Probed) → Grows old new → AreMadeUnder old works probed → AllByRecursion (HasFrames (length new)) probed
+all_framed : (old new : Names) (works : List BodyWithStates) (probed : List Probed) → Grows old new → AreMadeUnder old works probed → AllByRecursion (HasFrames (length new)) probed
 all_framed old new [] [] grows made = tt
 all_framed old new [] (p ∷ probed) grows made = absurd made
 all_framed old new (w ∷ works) [] grows made = absurd made

@@ -4,7 +4,7 @@ use Rattle.std.specs.Prelude.{unwrap_or}
 use Rattle.std.specs.Option.{MatchOption}
 use Rattle.std.proofs.lemmas.List.Elements.{All-push}
 use Rattle.std.proofs.lemmas.Option.{slice_get_within}
-use Rattle.jc_methods.specs.Held.{Names, Grows}
+use Rattle.jc_methods.specs.VerificationTypes.{Names, Grows}
 use Rattle.jc_methods.specs.WellMade.{IsWellMade}
 use Rattle.jc_methods.specs.declared.body.Body.{Body}
 use Rattle.jc_bytes.specs.declared.fail.Fail.{Fail}

@@ -5,7 +5,7 @@ use Rattle.std.specs.List.{AllByRecursion}
 use Rattle.std.proofs.lemmas.Grind.{flat_map-append}
 use Rattle.std.proofs.lemmas.List.Concat.{flat_map-cons}
 use Rattle.jc_bytes.specs.Grammar.{Grammar}
-use Rattle.jc_methods.specs.Held.{Names, SeenAt}
+use Rattle.jc_methods.specs.VerificationTypes.{Names, TypeStateAt}
 use Rattle.jc_methods.specs.Starts.{insn_number}
 use Rattle.jc_methods.specs.declared.body.Body.{Body}
 use Rattle.jc_methods.specs.declared.body.LineAt.{LineAt}
@@ -34,7 +34,7 @@ use Rattle.jc_instrument.specs.Members.{AreTextPlaces, AreWritable, IsFirstIfAny
 use Rattle.jc_instrument.specs.Needed.{needs_of, place_list, TakesNeeds}
 use Rattle.jc_instrument.specs.Probing.{AreMade}
 use Rattle.jc_instrument.specs.Taking.{HasFrames}
-use Rattle.jc_instrument.specs.Works.{Work, all_frames, bodies_of, emitted_of}
+use Rattle.jc_instrument.specs.BodiesWithStates.{BodyWithStates, all_frames, bodies_of, emitted_of}
 use Rattle.jc_instrument.specs.declared.needs.MemberPlaces.{MemberPlaces}
 use Rattle.jc_instrument.specs.declared.probed.Probed.{Probed}
 use Rattle.jc_instrument.proofs.ContentLaws.{of_content}
@@ -51,7 +51,7 @@ each_placed pool (name ∷ l) (place ∷ places) at few =
     (record { place = place; stands = of_content pool place (class_entry name) at.0; fits = few }, each_placed pool l places at.1 few)
 
 -- each class that is named in the frames
-pub all_placed : (id : ℕ) (names : Names) (array : ℕ) (c : ClassFile) (works : List Work) (pool : PoolValue) (places : MemberPlaces)
+pub all_placed : (id : ℕ) (names : Names) (array : ℕ) (c : ClassFile) (works : List BodyWithStates) (pool : PoolValue) (places : MemberPlaces)
     → TakesNeeds id names array c works pool places → length pool ≤ 65535
     → AllByRecursion (HasPlace pool) (named_by_all (all_frames names array works))
 all_placed id names array c works pool places takes few =
@@ -59,13 +59,13 @@ all_placed id names array c works pool places takes few =
     takes.takes in
     each_placed pool (named_by_all (all_frames names array works)) takes.class_places at.1.1.1.1.1.1.1.1.1.1.1.1 few
 
-pub have_classes : (pool : PoolValue) (names : Names) (array : ℕ) (works : List Work) (probed : List Probed) → AreMade array works probed
+pub have_classes : (pool : PoolValue) (names : Names) (array : ℕ) (works : List BodyWithStates) (probed : List Probed) → AreMade array works probed
     → AllByRecursion (HasPlace pool) (named_by_all (all_frames names array works)) → AllByRecursion (λ p. HaveClasses pool names p.emitted) probed
 have_classes pool names array [] [] made all = tt
 have_classes pool names array [] (p ∷ probed) made all = absurd made
 have_classes pool names array (w ∷ works) [] made all = absurd made
 have_classes pool names array (w ∷ works) (p ∷ probed) made all =
-    let frames : Work → List SeenAt = λ x. written_frames names (emitted_of array x) in
+    let frames : BodyWithStates → List TypeStateAt = λ x. written_frames names (emitted_of array x) in
     let split : named_by_all (all_frames names array (w ∷ works)) ≡ named_by_all (frames w) ++ named_by_all (all_frames names array works) =
     ap named_by_all (flat_map-cons frames w works) ∙ flat_map-append named_by (frames w) (all_frames names array works) in
     let both = both_parts (HasPlace pool) (named_by_all (frames w)) (named_by_all (all_frames names array works))
@@ -110,7 +110,7 @@ table_named old new extends name place make none entries places (inr there) =
 
 module _ (names : Names) (c : ClassFile) (new : PoolValue) (extends : Extends c.pool new) (places : CodePlaces) (at : AreTextPlaces new places)
     (array : ℕ) where
-  pub work_named : (w : Work) → BodyOf names c w.body.method w.body → AreNamed new (emitted_of array w) places
+  pub work_named : (w : BodyWithStates) → BodyOf names c w.body.method w.body → AreNamed new (emitted_of array w) places
   unfolding emission
   work_named w body =
       let b = w.body in
@@ -132,7 +132,7 @@ module _ (names : Names) (c : ClassFile) (new : PoolValue) (extends : Extends c.
             is.tables.kind_vars at.kind_vars (entries_there c.pool kind_vars_name attributes var_table is.tables.kind_vars is.are_tables.kind_vars));
       }
 
-  pub are_named : (works : List Work) (probed : List Probed) → AreMade array works probed
+  pub are_named : (works : List BodyWithStates) (probed : List Probed) → AreMade array works probed
       → ((k : ℕ) (b : Body) → slice_get (bodies_of works) k ≡ Some b → BodyOf names c b.method b) → AllByRecursion (λ p. AreNamed new p.emitted places) probed
   are_named [] [] made each = tt
   are_named [] (p ∷ probed) made each = absurd made
@@ -144,7 +144,7 @@ module _ (names : Names) (c : ClassFile) (new : PoolValue) (extends : Extends c.
 
 -- ---- all together
 
-pub are_writable : (pool : PoolValue) (names : Names) (places : CodePlaces) (array : ℕ) (works : List Work) (probed : List Probed) → AreMade array works probed
+pub are_writable : (pool : PoolValue) (names : Names) (places : CodePlaces) (array : ℕ) (works : List BodyWithStates) (probed : List Probed) → AreMade array works probed
     → AllByRecursion (HasFrames (length names)) probed → AllByRecursion (λ p. HaveClasses pool names p.emitted) probed
     → AllByRecursion (λ p. AreNamed pool p.emitted places) probed → AreWritable pool names places probed
 are_writable pool names places array [] [] made frames classes named = tt

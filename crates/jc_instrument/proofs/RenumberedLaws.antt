@@ -2,7 +2,7 @@
 use Rattle.std.proofs.Common.{◌≡◌, ℕ, ◌+◌, List, [], ◌∷◌, ◌++◌, length, map, refl, ap, ap₂, subst, sym, arith, length-append}
 use Rattle.std.specs.List.{AllByRecursion}
 use Rattle.std.proofs.lemmas.List.{get_or-append-add}
-use Rattle.jc_methods.specs.Held.{Names, Held, object, SeenAt, held, seen_at, IsNumbered, AreNumberedFrames}
+use Rattle.jc_methods.specs.VerificationTypes.{Names, VerificationType, object, TypeStateAt, verification_type, type_state_at, IsNumbered, AreNumberedFrames}
 use Rattle.jc_methods.specs.declared.body.Body.{Body}
 use Rattle.jc_methods.specs.declared.body.FrameAt.{FrameAt}
 use Rattle.jc_methods.specs.declared.kind.Kind.{Kind}
@@ -40,7 +40,7 @@ raised_frames count frames = map (raised_frame count) frames
 module _ (front names : Names) where
   -- ---- they say the same
 
-  held_raised : (k : Kind) → held (front ++ names) (raised (length front) k) ≡ held names k
+  held_raised : (k : Kind) → verification_type (front ++ names) (raised (length front) k) ≡ verification_type names k
   held_raised (kinds.Object n) = ap object (get_or-append-add front names n [])
   held_raised kinds.Top = refl
   held_raised kinds.Int = refl
@@ -51,11 +51,11 @@ module _ (front names : Names) where
   held_raised kinds.UninitThis = refl
   held_raised (kinds.Uninit at) = refl
 
-  kinds_raised : (ks : List Kind) → map (held (front ++ names)) (map (raised (length front)) ks) ≡ map (held names) ks
+  kinds_raised : (ks : List Kind) → map (verification_type (front ++ names)) (map (raised (length front)) ks) ≡ map (verification_type names) ks
   kinds_raised [] = refl
-  kinds_raised (k ∷ ks) = ap₂ (λ (h : Held) (hs : List Held). h ∷ hs) (held_raised k) (kinds_raised ks)
+  kinds_raised (k ∷ ks) = ap₂ (λ (h : VerificationType) (hs : List VerificationType). h ∷ hs) (held_raised k) (kinds_raised ks)
 
-  frame_raised : (f : FrameAt) → seen_at (front ++ names) (raised_frame (length front) f) ≡ seen_at names f
+  frame_raised : (f : FrameAt) → type_state_at (front ++ names) (raised_frame (length front) f) ≡ type_state_at names f
   frame_raised f = λ i. record {
     at =
         f.at;
@@ -63,9 +63,9 @@ module _ (front names : Names) where
   }
 
   frames_raised : (frames : List FrameAt)
-      → map (seen_at (front ++ names)) (raised_frames (length front) frames) ≡ map (seen_at names) frames
+      → map (type_state_at (front ++ names)) (raised_frames (length front) frames) ≡ map (type_state_at names) frames
   frames_raised [] = refl
-  frames_raised (f ∷ frames) = ap₂ (λ (s : SeenAt) (others : List SeenAt). s ∷ others) (frame_raised f) (frames_raised frames)
+  frames_raised (f ∷ frames) = ap₂ (λ (s : TypeStateAt) (others : List TypeStateAt). s ∷ others) (frame_raised f) (frames_raised frames)
 
   -- ---- they are numbers of the names
 

@@ -3,7 +3,7 @@ use Rattle.std.proofs.Common.{◌≡◌, ◌⊎◌, inl, inr, ⊎_elim, ℕ, zer
 use Rattle.std.specs.Prelude.{Contains, slice_get}
 use Rattle.std.proofs.lemmas.Bool.{cases_order}
 use Rattle.std.proofs.lemmas.Option.{same_Some}
-use Rattle.jc_methods.specs.Held.{Names, top, SeenAt, seen_at, held, width}
+use Rattle.jc_methods.specs.VerificationTypes.{Names, top, TypeStateAt, type_state_at, verification_type, width}
 use Rattle.jc_bytes.specs.Least.{IsLeast}
 use Rattle.jc_methods.specs.WellMade.{kind_slots}
 use Rattle.jc_methods.specs.declared.body.Body.{Body}
@@ -12,7 +12,7 @@ use Rattle.jc_methods.specs.declared.kind.Kind.{Kind}
 use Rattle.jc_methods.specs.declared.kind.Kind.TheVariants as variants
 use Rattle.jc_bytes.specs.declared.refusal.Refusal.{Refusal}
 use Rattle.jc_bytes.specs.declared.refusal.RefusalKind.TheVariants as kinds
-use Rattle.jc_bytes.proofs.TestLaws.{which_in, none_in, later_in, first_in}
+use Rattle.jc_bytes.proofs.BooleanLaws.{which_in, none_in, later_in, first_in}
 use Rattle.jc_class.specs.ClassId.{class_id}
 use Rattle.jc_class.specs.declared.class_file.ClassFile.{ClassFile}
 use Rattle.jc_after.proofs.LocalsLaws.{get_held}
@@ -37,39 +37,39 @@ use Rattle.jc_instrument.proofs.SameItemsLaws.{same_code}
 
 -- ---- a long or a double at the last argument
 
-no_frames : {s : SeenAt} {ss : List SeenAt} → s ∷ ss ≡ [] → ⊥
+no_frames : {s : TypeStateAt} {ss : List TypeStateAt} → s ∷ ss ≡ [] → ⊥
 no_frames e = cc
 
 -- a frame of the one list has one of the other that says the same
-seen_there : (names others : Names) (fs gs : List FrameAt) → map (seen_at names) fs ≡ map (seen_at others) gs → (f : FrameAt) → Contains fs f
-    → (g : FrameAt) × Contains gs g × (seen_at others g ≡ seen_at names f)
+seen_there : (names others : Names) (fs gs : List FrameAt) → map (type_state_at names) fs ≡ map (type_state_at others) gs → (f : FrameAt) → Contains fs f
+    → (g : FrameAt) × Contains gs g × (type_state_at others g ≡ type_state_at names f)
 seen_there names others [] gs same f listed = absurd (none_in f listed)
 seen_there names others (x ∷ fs) [] same f listed = absurd (no_frames same)
 seen_there names others (x ∷ fs) (y ∷ gs) same f listed = ⊎_elim
-    (λ here. (y, first_in y gs, sym (same_head same) ∙ ap (seen_at names) here))
+    (λ here. (y, first_in y gs, sym (same_head same) ∙ ap (type_state_at names) here))
     (λ later. let r = seen_there names others fs gs (same_tail same) f later in (r.0, later_in y gs r.0 r.1, r.2))
     (which_in x fs f listed)
 
 -- the slots of the kind of a local variable, by what it holds
-slots_held : (names : Names) (ks : List Kind) (k : ℕ) → width (get_or (map (held names) ks) k top) ≡ kind_slots (get_or ks k variants.Top)
+slots_held : (names : Names) (ks : List Kind) (k : ℕ) → width (get_or (map (verification_type names) ks) k top) ≡ kind_slots (get_or ks k variants.Top)
 slots_held names ks k = ap width (get_held names ks k) ∙ width_is names (get_or ks k variants.Top)
 
-frame_straddles : (names others : Names) (v : ℕ) (f g : FrameAt) → seen_at others g ≡ seen_at names f → FrameStraddles v f → FrameStraddles v g
+frame_straddles : (names others : Names) (v : ℕ) (f g : FrameAt) → type_state_at others g ≡ type_state_at names f → FrameStraddles v f → FrameStraddles v g
 frame_straddles names others v f g same s = (
   s.0,
   s.1,
   sym (slots_held others g.state.locals s.0)
-      ∙ ap (λ (x : SeenAt). width (get_or x.state.locals s.0 top)) same
+      ∙ ap (λ (x : TypeStateAt). width (get_or x.state.locals s.0 top)) same
       ∙ slots_held names f.state.locals s.0
       ∙ s.2,
 )
 
-straddled : (names others : Names) (b : Body) (fs gs : List FrameAt) → map (seen_at names) fs ≡ map (seen_at others) gs → (i : ℕ)
+straddled : (names others : Names) (b : Body) (fs gs : List FrameAt) → map (type_state_at names) fs ≡ map (type_state_at others) gs → (i : ℕ)
     → IsStraddled (record b { frames = fs }) i → IsStraddled (record b { frames = gs }) i
 straddled names others b fs gs same i (inl insn) = inl insn
 straddled names others b fs gs same i (inr frame) =
     let g = seen_there names others fs gs same frame.0 frame.1 in
-    inr (g.0, g.1, ap (λ (x : SeenAt). x.at) g.2 ∙ frame.2, frame_straddles names others b.arg_slots frame.0 g.0 g.2 frame.3)
+    inr (g.0, g.1, ap (λ (x : TypeStateAt). x.at) g.2 ∙ frame.2, frame_straddles names others b.arg_slots frame.0 g.0 g.2 frame.3)
 
 pub same_straddled : (names others : Names) (a b : Body) → AreSame names others a b → (i : ℕ) → IsStraddled a i → IsStraddled b i
 same_straddled names others a b same i s =

@@ -6,7 +6,7 @@ use Rattle.std.proofs.lemmas.Bool.{cases_lt}
 use Rattle.std.proofs.lemmas.List.{get_or_past, length-map}
 use Rattle.std.proofs.lemmas.Option.{same_Some, slice_get-get_or}
 use Rattle.jc_methods.specs.Flow.{flow_of}
-use Rattle.jc_methods.specs.Held.{Names, Seen, SeenAt, held, seen, seen_at}
+use Rattle.jc_methods.specs.VerificationTypes.{Names, TypeState, TypeStateAt, verification_type, type_state, type_state_at}
 use Rattle.jc_bytes.specs.PlainLists.{pieces}
 use Rattle.jc_methods.specs.declared.body.Body.{Body}
 use Rattle.jc_methods.specs.declared.body.FrameAt.{FrameAt}
@@ -82,46 +82,46 @@ same_rest a b first states more array other bare =
 -- ---- states
 
 same_states : (names others : Names) (a b : Body) → AreSame names others a b → (states more : List State) → AreStates names a states
-    → AreStates others b more → (i : ℕ) → seen names (state_at states i) ≡ seen others (state_at more i)
+    → AreStates others b more → (i : ℕ) → type_state names (state_at states i) ≡ type_state others (state_at more i)
 same_states names others a b same states more p q i =
     by (cases_lt i (length states))
   where
     counts : length more ≡ length states
     counts = q.count ∙ ap (λ (x : Body). length x.code) (sym same.rest) ∙ sym p.count
 
-    by : (i < length states) ⊎ (length states ≤ i) → seen names (state_at states i) ≡ seen others (state_at more i)
+    by : (i < length states) ⊎ (length states ≤ i) → type_state names (state_at states i) ≡ type_state others (state_at more i)
     by (inl less) =
         let here = p.each i (state_at states i) (slice_get-get_or states i no_state less) in
         let there = q.each i (state_at more i) (slice_get-get_or more i no_state (let n = counts in omega (arith, less, n))) in
-        same_Some (seen names (state_at states i)) (seen others (state_at more i))
+        same_Some (type_state names (state_at states i)) (type_state others (state_at more i))
         (sym here.is ∙ same_state names others a b same i ∙ there.is)
     by (inr past) =
-        ap (seen names) (get_or_past states i no_state past)
-        ∙ ap (seen others) (sym (get_or_past more i no_state (let n = counts in omega (arith, past, n))))
+        ap (type_state names) (get_or_past states i no_state past)
+        ∙ ap (type_state others) (sym (get_or_past more i no_state (let n = counts in omega (arith, past, n))))
 
--- what a jump or a switch leaves of what is held
-abbrev seen_left : Insn → Seen → Seen
+-- what a jump or a switch leaves of what is verification_type
+abbrev seen_left : Insn → TypeState → TypeState
 seen_left insn s = record { locals = s.locals; stack = take (length s.stack - operands_of insn) s.stack }
 
-left_seen : (names : Names) (insn : Insn) (s : State) → seen names (left_by insn s) ≡ seen_left insn (seen names s)
+left_seen : (names : Names) (insn : Insn) (s : State) → type_state names (left_by insn s) ≡ seen_left insn (type_state names s)
 left_seen names insn s = λ k. record {
-  locals = map (held names) s.locals;
+  locals = map (verification_type names) s.locals;
   stack =
-      (sym (take-map (held names) (length s.stack - operands_of insn) s.stack)
-      ∙ ap (λ (n : ℕ). take (n - operands_of insn) (map (held names) s.stack)) (sym (length-map s.stack (held names)))) k;
+      (sym (take-map (verification_type names) (length s.stack - operands_of insn) s.stack)
+      ∙ ap (λ (n : ℕ). take (n - operands_of insn) (map (verification_type names) s.stack)) (sym (length-map s.stack (verification_type names)))) k;
 }
 
 -- ---- frames
 
 -- a frame stands at the instruction by names, too
 any_seen : (names : Names) (frames : List FrameAt) (i : ℕ)
-    → list_any (λ f. nat_eq f.at i) frames ≡ list_any (λ (s : SeenAt). nat_eq s.at i) (map (seen_at names) frames)
+    → list_any (λ f. nat_eq f.at i) frames ≡ list_any (λ (s : TypeStateAt). nat_eq s.at i) (map (type_state_at names) frames)
 any_seen names [] i = refl
 any_seen names (f ∷ frames) i = ap (λ (t : Bool). nat_eq f.at i || t) (any_seen names frames i)
 
-frame_if_same : (names others : Names) (t u : Bool) (f g : FrameAt) → t ≡ u → seen_at names f ≡ seen_at others g
+frame_if_same : (names others : Names) (t u : Bool) (f g : FrameAt) → t ≡ u → type_state_at names f ≡ type_state_at others g
     → SayTheSame names others (frame_if t f) (frame_if u g)
-frame_if_same names others t u f g tests same = ap (λ (x : Bool). map (seen_at names) (frame_if x f)) tests ∙ by u
+frame_if_same names others t u f g tests same = ap (λ (x : Bool). map (type_state_at names) (frame_if x f)) tests ∙ by u
   where
     by : (x : Bool) → SayTheSame names others (frame_if x f) (frame_if x g)
     by true = λ k. same k ∷ []
@@ -158,7 +158,7 @@ module _ (b : Body) (first : ℕ) (states : List State) (array i : ℕ) where
 
 module _ (names others : Names) (a b : Body) (first : ℕ) (states more : List State) (array other : ℕ) (bare : without_frames a ≡ without_frames b)
     (alike : SayTheSame names others a.frames b.frames) (named : IsArrayNumber names array) (called : IsArrayNumber others other)
-    (all : (i : ℕ) → seen names (state_at states i) ≡ seen others (state_at more i)) where
+    (all : (i : ℕ) → type_state names (state_at states i) ≡ type_state others (state_at more i)) where
   -- ---- places and tests
 
   codes_same : a.code ≡ b.code
@@ -185,7 +185,7 @@ module _ (names others : Names) (a b : Body) (first : ℕ) (states more : List S
   has_frames_same : (i : ℕ) → has_frame a first states array i ≡ has_frame b first more other i
   has_frames_same i =
       any_seen names a.frames i
-      ∙ ap (list_any (λ (s : SeenAt). nat_eq s.at i)) alike
+      ∙ ap (list_any (λ (s : TypeStateAt). nat_eq s.at i)) alike
       ∙ sym (any_seen others b.frames i)
 
   inverses_same : (i : ℕ) → has_inverse a first states array i ≡ has_inverse b first more other i
@@ -194,19 +194,19 @@ module _ (names others : Names) (a b : Body) (first : ℕ) (states more : List S
 
   -- ---- states
 
-  moved_same : (s t : State) → seen names s ≡ seen others t
-      → seen names (moved_state a first states array s) ≡ seen others (moved_state b first more other t)
+  moved_same : (s t : State) → type_state names s ≡ type_state others t
+      → type_state names (moved_state a first states array s) ≡ type_state others (moved_state b first more other t)
   moved_same s t same =
       seen_moved names a.arg_slots array (image_of a first false) s named
       ∙ (λ k. shifted (λ i. images_same i k) ((bare k).arg_slots) (same k))
       ∙ sym (seen_moved others b.arg_slots other (image_of b first false) t called)
 
   -- a frame with such a state
-  frame_same : (p q : ℕ) (s t : State) → p ≡ q → seen names s ≡ seen others t
-      → seen_at names (frame p (moved_state a first states array s)) ≡ seen_at others (frame q (moved_state b first more other t))
+  frame_same : (p q : ℕ) (s t : State) → p ≡ q → type_state names s ≡ type_state others t
+      → type_state_at names (frame p (moved_state a first states array s)) ≡ type_state_at others (frame q (moved_state b first more other t))
   frame_same p q s t place same = λ k. record { at = place k; state = moved_same s t same k }
 
-  left_same : (i : ℕ) → seen names (left a first states array i) ≡ seen others (left b first more other i)
+  left_same : (i : ℕ) → type_state names (left a first states array i) ≡ type_state others (left b first more other i)
   left_same i =
       left_seen names (insn_at a.code i) (state_at states i)
       ∙ (λ k. seen_left (insn_at (codes_same k) i) (all i k))
@@ -214,15 +214,15 @@ module _ (names others : Names) (a b : Body) (first : ℕ) (states more : List S
 
   -- ---- the arms of a switch
 
-  arm_same : (p q : ℕ) (s t : State) (o u : Option ℕ) → p ≡ q → seen names s ≡ seen others t → o ≡ u
+  arm_same : (p q : ℕ) (s t : State) (o u : Option ℕ) → p ≡ q → type_state names s ≡ type_state others t → o ≡ u
       → SayTheSame names others (arm_frame a first states array p s o) (arm_frame b first more other q t u)
-  arm_same p q s t o u place same e = ap (λ (x : Option ℕ). map (seen_at names) (arm_frame a first states array p s x)) e ∙ by u
+  arm_same p q s t o u place same e = ap (λ (x : Option ℕ). map (type_state_at names) (arm_frame a first states array p s x)) e ∙ by u
     where
       by : (x : Option ℕ) → SayTheSame names others (arm_frame a first states array p s x) (arm_frame b first more other q t x)
       by None = refl
       by (Some id) = λ k. record { at = place k; state = same k } ∷ []
 
-  arms_same : (p q : ℕ) (s t : State) → p ≡ q → seen names s ≡ seen others t → (xs : List Branch)
+  arms_same : (p q : ℕ) (s t : State) → p ≡ q → type_state names s ≡ type_state others t → (xs : List Branch)
       → SayTheSame names others (arm_frames a first states array p s xs) (arm_frames b first more other q t xs)
   arms_same p q s t place same [] = refl
   arms_same p q s t place same (x ∷ xs) =
@@ -233,7 +233,7 @@ module _ (names others : Names) (a b : Body) (first : ℕ) (states more : List S
 
   all_arms_same : (i : ℕ) → SayTheSame names others (frames_of_arms a first states array i) (frames_of_arms b first more other i)
   all_arms_same i =
-      ap (λ (code : List Insn). map (seen_at names) (arm_frames a first states array (image_of a first false i + 1)
+      ap (λ (code : List Insn). map (type_state_at names) (arm_frames a first states array (image_of a first false i + 1)
       (moved a first states array i (left a first states array i)) (arms_at code i))) codes_same
       ∙ arms_same (image_of a first false i + 1) (image_of b first false i + 1) (moved a first states array i (left a first states array i))
       (moved b first more other i (left b first more other i)) (λ k. images_same i k + 1)
@@ -263,8 +263,8 @@ module _ (names others : Names) (a b : Body) (first : ℕ) (states more : List S
       (all_arms_same i))
 
   further_same : (i : ℕ) (o : Option ℕ) (flow : Flow) → is_further a first states array i o flow ≡ is_further b first more other i o flow
-  further_same i None flows.Tests = λ k. not (has_frames_same (i + 1) k && is_none (lead_probes_same (i + 1) k))
-  further_same i (Some id) flows.Tests = refl
+  further_same i None flows.Branches = λ k. not (has_frames_same (i + 1) k && is_none (lead_probes_same (i + 1) k))
+  further_same i (Some id) flows.Branches = refl
   further_same i None flows.GoesOn = refl
   further_same i None flows.Jumps = refl
   further_same i None flows.Switches = refl
@@ -281,10 +281,10 @@ module _ (names others : Names) (a b : Body) (first : ℕ) (states more : List S
       (λ k. is_further a first states array i (late_probes_same i k) (flow_of (insn_at (codes_same k) i)))
       ∙ further_same i (late_probe b first i) (flow_of (insn_at b.code i))
 
-  behind_same : (i : ℕ) → seen names (behind a first states array i) ≡ seen others (behind b first more other i)
-  behind_same i = ap (λ (o : Option ℕ). seen names (state_behind a states i o)) (late_probes_same i) ∙ by (late_probe b first i)
+  behind_same : (i : ℕ) → type_state names (behind a first states array i) ≡ type_state others (behind b first more other i)
+  behind_same i = ap (λ (o : Option ℕ). type_state names (state_behind a states i o)) (late_probes_same i) ∙ by (late_probe b first i)
     where
-      by : (o : Option ℕ) → seen names (state_behind a states i o) ≡ seen others (state_behind b more i o)
+      by : (o : Option ℕ) → type_state names (state_behind a states i o) ≡ type_state others (state_behind b more i o)
       by None = all (i + 1)
       by (Some id) = left_same i
 
@@ -301,7 +301,7 @@ module _ (names others : Names) (a b : Body) (first : ℕ) (states more : List S
   all_parts_same : (f g : ℕ → List FrameAt) → ((i : ℕ) → SayTheSame names others (f i) (g i))
       → SayTheSame names others (pieces f (length a.code)) (pieces g (length b.code))
   all_parts_same f g each =
-      ap (λ (code : List Insn). map (seen_at names) (pieces f (length code))) codes_same ∙ pieces_same names others f g each (length b.code)
+      ap (λ (code : List Insn). map (type_state_at names) (pieces f (length code))) codes_same ∙ pieces_same names others f g each (length b.code)
 
   emitted_same : IsSameEmission names others (emission a first states array) (emission b first more other)
   unfolding emission
@@ -323,7 +323,7 @@ same_emission names others a b same first states more array other named called p
 module _ (names others : Names) (e f : Emitted) (same : IsSameEmission names others e f) where
   pub same_written : written_frames names e ≡ written_frames others f
   same_written =
-      ap (λ (x : Emitted). map (seen_at names) (if is_wide x.code then merged e.frames e.wide_frames else e.frames)) same.rest ∙ by (is_wide f.code)
+      ap (λ (x : Emitted). map (type_state_at names) (if is_wide x.code then merged e.frames e.wide_frames else e.frames)) same.rest ∙ by (is_wide f.code)
     where
       by : (wide : Bool) → SayTheSame names others (if wide then merged e.frames e.wide_frames else e.frames)
           (if wide then merged f.frames f.wide_frames else f.frames)
@@ -333,5 +333,5 @@ module _ (names others : Names) (e f : Emitted) (same : IsSameEmission names oth
   pub same_twin_code : (pool : PoolValue) (method frames_name : ℕ) → twin_code pool method frames_name names e ≡ twin_code pool method frames_name others f
   unfolding twin_code
   same_twin_code pool method frames_name =
-      ap₂ (λ (x : Emitted) (frames : List SeenAt). code_text x.max_stack x.max_locals (with_place method (chosen_text x.code))
+      ap₂ (λ (x : Emitted) (frames : List TypeStateAt). code_text x.max_stack x.max_locals (with_place method (chosen_text x.code))
       (counted_text (row_text (offset_in x)) x.handlers) (code_attributes pool frames_name x frames)) same.rest same_written

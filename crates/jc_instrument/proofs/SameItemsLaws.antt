@@ -58,7 +58,7 @@ module _ (b : Body) (first : ℕ) where
 
   same_part : (i : ℕ) (insn : Insn) (flow : Flow) → image_part b first false i insn flow ≡ image_part bare first false i insn flow
   same_part i insn flows.GoesOn = refl
-  same_part i insn flows.Tests =
+  same_part i insn flows.Branches =
       same_tests i insn (late_probe b first i) ∙ (λ k. tests_part bare first false i insn (same_late i k))
   same_part i insn flows.Jumps = λ k. image (with_places (λ j. same_land j k) insn) i (same_early i k) ∷ []
   same_part i insn flows.Switches = λ k.

@@ -4,7 +4,7 @@ use Rattle.std.specs.List.{AllZip}
 use Rattle.std.proofs.lemmas.List.{length-map}
 use Rattle.std.proofs.lemmas.List.Concat.{flat_map-cons}
 use Rattle.std.proofs.lemmas.Option.{same_Some, slice_get-map}
-use Rattle.jc_methods.specs.Held.{Names, SeenAt}
+use Rattle.jc_methods.specs.VerificationTypes.{Names, TypeStateAt}
 use Rattle.jc_methods.specs.declared.body.Body.{Body}
 use Rattle.jc_class.specs.declared.class_file.ClassFile.{ClassFile}
 use Rattle.jc_body.specs.BodyOf.{BodyOf}
@@ -12,7 +12,7 @@ use Rattle.jc_plan.specs.Probed.{first_id}
 use Rattle.jc_code.specs.TwinCode.{written_frames}
 use Rattle.jc_emit.specs.Emission.{emission}
 use Rattle.jc_instrument.specs.SameAnalysis.{without_frames}
-use Rattle.jc_instrument.specs.Works.{Work, AreWorks, all_frames, bodies_of, emitted_of}
+use Rattle.jc_instrument.specs.BodiesWithStates.{BodyWithStates, AreBodiesWithStates, all_frames, bodies_of, emitted_of}
 use Rattle.jc_instrument.proofs.ListedLaws.{body_at}
 use Rattle.jc_instrument.proofs.OneBodyLaws.{same_body}
 use Rattle.jc_instrument.proofs.SameAnalysisLaws.{same_below, same_first}
@@ -20,7 +20,7 @@ use Rattle.jc_verify.proofs.SameBodyLaws.{AreSame}
 use Rattle.jc_instrument.proofs.SameEmissionLaws.{IsSameEmission, same_emission, same_written}
 
 -- the works are of one method, and what is emitted is the same
-pub record IsSameWork (names others : Names) (array other : ℕ) (w x : Work) : Type 0 where
+pub record IsSameWork (names others : Names) (array other : ℕ) (w x : BodyWithStates) : Type 0 where
   pub method : w.body.method ≡ x.body.method
   pub emission : IsSameEmission names others (emitted_of array w) (emitted_of other x)
 
@@ -35,15 +35,15 @@ zip_of_places R (x ∷ xs) (y ∷ ys) count each = (
   zip_of_places R xs ys (omega (arith, count)) (λ i u v p q. each (suc i) u v p q),
 )
 
-bare_at : (works : List Work) (i : ℕ) (w : Work) → slice_get works i ≡ Some w
+bare_at : (works : List BodyWithStates) (i : ℕ) (w : BodyWithStates) → slice_get works i ≡ Some w
     → slice_get (map without_frames (bodies_of works)) i ≡ Some (without_frames w.body)
 bare_at works i w stands = slice_get-map without_frames (bodies_of works) i ∙ ap (option_map without_frames) (body_at works i w stands)
 
-bare_count : (works : List Work) → length (map without_frames (bodies_of works)) ≡ length works
-bare_count works = length-map (bodies_of works) without_frames ∙ length-map works (λ (v : Work). v.body)
+bare_count : (works : List BodyWithStates) → length (map without_frames (bodies_of works)) ≡ length works
+bare_count works = length-map (bodies_of works) without_frames ∙ length-map works (λ (v : BodyWithStates). v.body)
 
-module _ (names others : Names) (array other : ℕ) (c : ClassFile) (works more : List Work) (are : AreWorks names array c works)
-    (too : AreWorks others other c more) where
+module _ (names others : Names) (array other : ℕ) (c : ClassFile) (works more : List BodyWithStates) (are : AreBodiesWithStates names array c works)
+    (too : AreBodiesWithStates others other c more) where
   bodies_same : map without_frames (bodies_of works) ≡ map without_frames (bodies_of more)
   bodies_same = same_below names others c (length c.methods) (bodies_of works) (bodies_of more) are.bodies too.bodies
 
@@ -53,7 +53,7 @@ module _ (names others : Names) (array other : ℕ) (c : ClassFile) (works more 
       ∙ ap (λ (bodies : List Body). first_id bodies i) bodies_same
       ∙ sym (same_first (bodies_of more) i)
 
-  module _ (i : ℕ) (w x : Work) (stands : slice_get works i ≡ Some w) (stands_too : slice_get more i ≡ Some x) where
+  module _ (i : ℕ) (w x : BodyWithStates) (stands : slice_get works i ≡ Some w) (stands_too : slice_get more i ≡ Some x) where
     number_same : w.body.method ≡ x.body.method
     number_same =
         let bare = sym (bare_at works i w stands) ∙ ap (λ (bodies : List Body). slice_get bodies i) bodies_same ∙ bare_at more i x stands_too in
@@ -81,19 +81,19 @@ module _ (names others : Names) (array other : ℕ) (c : ClassFile) (works more 
       zip_of_places (IsSameWork names others array other) works more
       (sym (bare_count works) ∙ ap length bodies_same ∙ bare_count more) work_same
 
-all_written : (names others : Names) (array other : ℕ) (works more : List Work) → AllZip (IsSameWork names others array other) works more
+all_written : (names others : Names) (array other : ℕ) (works more : List BodyWithStates) → AllZip (IsSameWork names others array other) works more
     → all_frames names array works ≡ all_frames others other more
 all_written names others array other [] [] same = refl
 all_written names others array other [] (x ∷ more) same = absurd same
 all_written names others array other (w ∷ works) [] same = absurd same
 all_written names others array other (w ∷ works) (x ∷ more) same =
-    flat_map-cons (λ (v : Work). written_frames names (emitted_of array v)) w works
-    ∙ ap₂ (λ (first : List SeenAt) (rest : List SeenAt). first ++ rest)
+    flat_map-cons (λ (v : BodyWithStates). written_frames names (emitted_of array v)) w works
+    ∙ ap₂ (λ (first : List TypeStateAt) (rest : List TypeStateAt). first ++ rest)
     (same_written names others (emitted_of array w) (emitted_of other x) same.0.emission)
     (all_written names others array other works more same.1)
-    ∙ sym (flat_map-cons (λ (v : Work). written_frames others (emitted_of other v)) x more)
+    ∙ sym (flat_map-cons (λ (v : BodyWithStates). written_frames others (emitted_of other v)) x more)
 
-pub same_frames : (names others : Names) (array other : ℕ) (c : ClassFile) (works more : List Work) → AreWorks names array c works
-    → AreWorks others other c more → all_frames names array works ≡ all_frames others other more
+pub same_frames : (names others : Names) (array other : ℕ) (c : ClassFile) (works more : List BodyWithStates) → AreBodiesWithStates names array c works
+    → AreBodiesWithStates others other c more → all_frames names array works ≡ all_frames others other more
 same_frames names others array other c works more are too =
     all_written names others array other works more (same_works names others array other c works more are too)

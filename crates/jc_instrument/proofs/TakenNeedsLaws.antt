@@ -2,7 +2,7 @@
 use Rattle.std.proofs.Common.{◌≡◌, ℕ, ℤ, ◌+◌, ◌≤◌, List, [], ◌∷◌, ◌++◌, length, map, refl, sym, ◌∙◌, ap, ap₂, subst, arith}
 use Rattle.std.specs.List.{AllByRecursion}
 use Rattle.std.proofs.lemmas.List.Concat.{flat_map-cons}
-use Rattle.jc_methods.specs.Held.{AreNumberedFrames, Names, SeenAt, seen_at}
+use Rattle.jc_methods.specs.VerificationTypes.{AreNumberedFrames, Names, TypeStateAt, type_state_at}
 use Rattle.jc_methods.specs.declared.body.FrameAt.{FrameAt}
 use Rattle.jc_bytes.specs.declared.refusal.Refusal.{Refusal}
 use Rattle.jc_class.specs.declared.class_file.ClassFile.{ClassFile}
@@ -14,7 +14,7 @@ use Rattle.jc_instrument.specs.Needed.{name_of, signed_id, place_list, needed, n
 use Rattle.jc_instrument.specs.Probing.{IsMade, AreMade}
 use Rattle.jc_instrument.specs.RoomCauses.{HasFullPool}
 use Rattle.jc_instrument.specs.Taking.{frames_in, frames_of, HasFrames, HasNumberedFrames, IsFullPool}
-use Rattle.jc_instrument.specs.Works.{Work, AreWorks, emitted_of, all_frames}
+use Rattle.jc_instrument.specs.BodiesWithStates.{BodyWithStates, AreBodiesWithStates, emitted_of, all_frames}
 use Rattle.jc_instrument.specs.declared.needs.MemberPlaces.{MemberPlaces}
 use Rattle.jc_instrument.specs.declared.probed.Probed.{Probed}
 use Rattle.jc_instrument.proofs.TakingLaws.{taken_count}
@@ -23,18 +23,18 @@ use Rattle.jc_instrument.proofs.WritableLaws.{frames_chosen}
 -- ---- frames
 
 -- what is written of the frames of one body
-same_frames : (names : Names) (array : ℕ) (w : Work) (p : Probed) → IsMade array w p → map (seen_at names) (frames_in p) ≡ written_frames names (emitted_of array w)
+same_frames : (names : Names) (array : ℕ) (w : BodyWithStates) (p : Probed) → IsMade array w p → map (type_state_at names) (frames_in p) ≡ written_frames names (emitted_of array w)
 same_frames names array w p made =
-    ap (map (seen_at names)) (frames_chosen p made.laid made.merged ∙ ap chosen_frames made.emitted)
+    ap (map (type_state_at names)) (frames_chosen p made.laid made.merged ∙ ap chosen_frames made.emitted)
 
-pub frames_are : (names : Names) (array : ℕ) (works : List Work) (probed : List Probed) → AreMade array works probed → frames_of names probed ≡ all_frames names array works
+pub frames_are : (names : Names) (array : ℕ) (works : List BodyWithStates) (probed : List Probed) → AreMade array works probed → frames_of names probed ≡ all_frames names array works
 frames_are names array [] [] made = refl
 frames_are names array [] (p ∷ probed) made = absurd made
 frames_are names array (w ∷ works) [] made = absurd made
 frames_are names array (w ∷ works) (p ∷ probed) made =
-    flat_map-cons (λ (q : Probed). map (seen_at names) (frames_in q)) p probed
-    ∙ ap₂ (λ (a : List SeenAt) (b : List SeenAt). a ++ b) (same_frames names array w p made.0) (frames_are names array works probed made.1)
-    ∙ sym (flat_map-cons (λ (x : Work). written_frames names (emitted_of array x)) w works)
+    flat_map-cons (λ (q : Probed). map (type_state_at names) (frames_in q)) p probed
+    ∙ ap₂ (λ (a : List TypeStateAt) (b : List TypeStateAt). a ++ b) (same_frames names array w p made.0) (frames_are names array works probed made.1)
+    ∙ sym (flat_map-cons (λ (x : BodyWithStates). written_frames names (emitted_of array x)) w works)
 
 numbered : (insns names : ℕ) (frames : List FrameAt) → AllByRecursion (FitsFull insns names) frames → AreNumberedFrames names frames
 numbered insns names [] fit = tt
@@ -84,14 +84,14 @@ are_split (a ∷ b ∷ c ∷ d ∷ e ∷ f ∷ g ∷ h ∷ i ∷ []) some = absu
 are_split (a ∷ b ∷ c ∷ d ∷ e ∷ f ∷ g ∷ h ∷ i ∷ j ∷ []) some = absurd (omega (arith, some))
 are_split (a ∷ b ∷ c ∷ d ∷ e ∷ f ∷ g ∷ h ∷ i ∷ j ∷ k ∷ []) some = absurd (omega (arith, some))
 
-pub takes_needed : (old new : PoolValue) (owner : List ℕ) (id : ℤ) (frames : List SeenAt) (places : List ℕ) → TakesEach old (needed owner id frames) new places
+pub takes_needed : (old new : PoolValue) (owner : List ℕ) (id : ℤ) (frames : List TypeStateAt) (places : List ℕ) → TakesEach old (needed owner id frames) new places
     → (members : MemberPlaces) × TakesNeeded old owner id frames new members
 takes_needed old new owner id frames places takes =
     let count = taken_count old new (needed owner id frames) places takes in
     let split = are_split places (omega (arith, count)) in
     (split.members, record { class_places = split.others; takes = subst (TakesEach old (needed owner id frames) new) split.are takes })
 
-pub full_found : (id : ℕ) (names : Names) (array : ℕ) (c : ClassFile) (works : List Work) (r : Refusal) → AreWorks names array c works
+pub full_found : (id : ℕ) (names : Names) (array : ℕ) (c : ClassFile) (works : List BodyWithStates) (r : Refusal) → AreBodiesWithStates names array c works
     → IsFullPool c.pool (needs_of id names array c works) r → HasFullPool id c r
 full_found id names array c works r are full =
     let much = full.much in

@@ -13,7 +13,7 @@ use Rattle.jc_pool.proofs.AddedLaws.{some_utf8, some_naming, some_long}
 use Rattle.jc_pool.proofs.AddedMemberLaws.{some_member}
 use Rattle.jc_pool.proofs.AddingLaws.{utf8_extends, class_extends, has_naming_extends, signature_extends, member_extends, same_extends, extends_more, put_extends}
 use Rattle.jc_instrument.specs.Contents.{Content, text_entry, class_entry, string_entry, long_entry, signature_entry, member_entry, Takes, TakesEach}
-use Rattle.jc_instrument.specs.Taking.{content_of, contents_of, IsTooMuch, RefusesEach}
+use Rattle.jc_instrument.specs.Taking.{content_needed, contents_of, IsTooMuch, RefusesEach}
 use Rattle.jc_instrument.specs.declared.needs.Need.{Need}
 use Rattle.jc_instrument.specs.declared.needs.Need.TheVariants as needs
 use Rattle.jc_instrument.proofs.GrownPoolLaws.{longer}
@@ -126,7 +126,7 @@ module _ (owner : List ℕ) (id : ℤ) where
   all_entire [] = tt
   all_entire (n ∷ list) = (entire n, all_entire list)
     where
-      entire : (n : Need) → IsEntire (content_of owner id n)
+      entire : (n : Need) → IsEntire (content_needed owner id n)
       entire needs.DataName = tt
       entire needs.DataType = tt
       entire needs.InitName = tt
@@ -141,16 +141,16 @@ module _ (owner : List ℕ) (id : ℤ) where
       entire needs.Array = tt
 
   module _ (list : List Need) (i : ℕ) (none : Need) (less : i < length list) where
-    pub next_contents : contents_of owner id (take (i + 1) list) ≡ contents_of owner id (take i list) ++ (content_of owner id (get_or list i none) ∷ [])
+    pub next_contents : contents_of owner id (take (i + 1) list) ≡ contents_of owner id (take i list) ++ (content_needed owner id (get_or list i none) ∷ [])
     next_contents =
         ap (contents_of owner id) (take_more list i none less)
-        ∙ map-append (content_of owner id) (take i list) (get_or list i none ∷ [])
+        ∙ map-append (content_needed owner id) (take i list) (get_or list i none ∷ [])
 
     pub split_contents : contents_of owner id list
-        ≡ contents_of owner id (take i list) ++ (content_of owner id (get_or list i none) ∷ contents_of owner id (drop (suc i) list))
+        ≡ contents_of owner id (take i list) ++ (content_needed owner id (get_or list i none) ∷ contents_of owner id (drop (suc i) list))
     split_contents =
         ap (contents_of owner id) (sym (take-append-drop i list))
-        ∙ map-append (content_of owner id) (take i list) (drop i list)
+        ∙ map-append (content_needed owner id) (take i list) (drop i list)
         ∙ ap (λ (l : List Need). contents_of owner id (take i list) ++ contents_of owner id l) (drop-cons list i none less)
 
 -- ---- the places

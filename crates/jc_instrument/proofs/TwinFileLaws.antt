@@ -5,8 +5,8 @@ use Rattle.std.proofs.lemmas.Bool.{cases_lt, ltb-false}
 use Rattle.std.proofs.lemmas.List.{length-append}
 use Rattle.jc_bytes.proofs.EachLaws.{all_both, all_weaker}
 use Rattle.jc_bytes.specs.Descriptor.{Array, Boolean, IsFieldDescriptor, IsMethodDescriptor}
-use Rattle.jc_methods.specs.Held.{Names}
-use Rattle.jc_emit.specs.Added.{data_name, data_type, init_name, init_type}
+use Rattle.jc_methods.specs.VerificationTypes.{Names}
+use Rattle.jc_methods.specs.ProbeMembers.{data_name, data_type, init_name, init_type}
 use Rattle.jc_pool.specs.Adding.{Extends}
 use Rattle.jc_pool.specs.Pool.{PoolValue}
 use Rattle.jc_pool.specs.declared.index.Naming.TheVariants as naming
@@ -19,7 +19,7 @@ use Rattle.jc_class.specs.declared.class_file.Member.{Member}
 use Rattle.jc_instrument.specs.Changing.{AreShort, AreShortIn, has_too_long, is_too_long}
 use Rattle.jc_instrument.specs.RoomCauses.{IsFull}
 use Rattle.jc_instrument.specs.TwinClass.{AreKeptAttributes, AreKeptMethods, IsSameOutside}
-use Rattle.jc_instrument.specs.Works.{Work}
+use Rattle.jc_instrument.specs.BodiesWithStates.{BodyWithStates}
 
 -- ---- lists of parts
 
@@ -149,7 +149,7 @@ init_described = (
 
 -- ---- the whole
 
-pub twin_is_class : (id : ℕ) (names : Names) (array : ℕ) (works : List Work) (c twin : ClassFile) → IsClassFile c → (IsFull c → ⊥)
+pub twin_is_class : (id : ℕ) (names : Names) (array : ℕ) (works : List BodyWithStates) (c twin : ClassFile) → IsClassFile c → (IsFull c → ⊥)
     → IsSameOutside id names array works c twin → AreShortIn twin.methods → IsClassFile twin
 twin_is_class id names array works c twin is room out short =
     let old = c.pool in

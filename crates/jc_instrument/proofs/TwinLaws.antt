@@ -3,7 +3,7 @@ use Rattle.std.proofs.Common.{◌≡◌, inl, inr, ℕ, ◌+◌, Bool, true, fal
 use Rattle.std.specs.List.{AllByRecursion}
 use Rattle.std.specs.Prelude.{codes}
 use Rattle.std.proofs.lemmas.Slice.Eq.{bytes_eq-Decides}
-use Rattle.jc_methods.specs.Held.{Names}
+use Rattle.jc_methods.specs.VerificationTypes.{Names}
 use Rattle.jc_bytes.specs.PlainLists.{map_from}
 use Rattle.jc_pool.specs.Lookup.{utf8_of}
 use Rattle.jc_pool.specs.Pool.{PoolValue}
@@ -12,16 +12,17 @@ use Rattle.jc_class.specs.declared.class_file.ClassFile.{ClassFile}
 use Rattle.jc_class.specs.declared.class_file.Member.{Member}
 use Rattle.jc_body.specs.Attributes.{is_text, has_name}
 use Rattle.jc_frames.specs.FullTable.{named_by_all}
-use Rattle.jc_emit.specs.Added.{data_name, data_type, init_name, init_type}
+use Rattle.jc_methods.specs.ProbeMembers.{data_name, data_type, init_name, init_type}
 use Rattle.jc_instrument.specs.Analysis.{all_probes}
 use Rattle.jc_code.specs.CodeText.{attribute}
 use Rattle.jc_instrument.specs.Contents.{Content, text_entry, class_entry, string_entry, long_entry, member_entry, IsOfClass}
 use Rattle.jc_code.specs.InitText.{init_text}
 use Rattle.jc_code.specs.TwinCode.{twin_code}
-use Rattle.jc_instrument.specs.Needed.{name_of, signed_id, data_field, fetch_method, place_list, needs_of, TakesNeeds}
+use Rattle.jc_instrument.specs.Needed.{name_of, signed_id, place_list, needs_of, TakesNeeds}
+use Rattle.jc_verify.specs.Written.{data_field, fetch_method}
 use Rattle.jc_instrument.specs.TwinClass.{IsKeptAttribute, AreKeptAttributes, IsKeptMethod, AreKeptMethods, IsDataField, IsInitMethod, IsSameOutside}
 use Rattle.jc_instrument.specs.TwinText.{work_of, with_code, twin_method, twin_methods, data_member, init_member, init_places, twin_class, IsWritten}
-use Rattle.jc_instrument.specs.Works.{Work, bodies_of, emitted_of, all_frames}
+use Rattle.jc_instrument.specs.BodiesWithStates.{BodyWithStates, bodies_of, emitted_of, all_frames}
 use Rattle.jc_instrument.proofs.ContentLaws.{of_content}
 use Rattle.jc_instrument.proofs.GrownPoolLaws.{StandAt, stand_at, pool_grown}
 use Rattle.jc_instrument.specs.declared.needs.MemberPlaces.{MemberPlaces}
@@ -32,7 +33,7 @@ classes_listed : (names : Names) → AllByRecursion IsOfClass (map class_entry n
 classes_listed [] = tt
 classes_listed (name ∷ names) = (tt, classes_listed names)
 
-pub each_listed : (id : ℕ) (names : Names) (array : ℕ) (c : ClassFile) (works : List Work) → AllByRecursion IsOfClass (needs_of id names array c works)
+pub each_listed : (id : ℕ) (names : Names) (array : ℕ) (c : ClassFile) (works : List BodyWithStates) → AllByRecursion IsOfClass (needs_of id names array c works)
 each_listed id names array c works = (
   tt,
   (tt, (tt, (tt, ((omega arith, omega arith), ((omega arith, omega arith), ((omega arith, omega arith), (tt, (tt, (tt, (tt, (tt, classes_listed (named_by_all (all_frames names array works))))))))))))),
@@ -80,8 +81,8 @@ same_kept : (pool : PoolValue) (attributes : List Attribute) → AreKeptAttribut
 same_kept pool [] = tt
 same_kept pool (a ∷ attributes) = ((refl, inl refl), same_kept pool attributes)
 
-module _ (old : PoolValue) (code : Work → List ℕ) where
-  method_kept : (method : Member) (o : Option Work) → IsKeptMethod old method (twin_method old code method o)
+module _ (old : PoolValue) (code : BodyWithStates → List ℕ) where
+  method_kept : (method : Member) (o : Option BodyWithStates) → IsKeptMethod old method (twin_method old code method o)
   method_kept method None = record { flags = refl; name = refl; desc = refl; attributes = same_kept old method.attributes }
   method_kept method (Some w) = record {
     flags = refl;
@@ -90,14 +91,14 @@ module _ (old : PoolValue) (code : Work → List ℕ) where
     attributes = all_kept old (code w) method.attributes;
   }
 
-  methods_kept : (works : List Work) (number : ℕ) (methods : List Member)
+  methods_kept : (works : List BodyWithStates) (number : ℕ) (methods : List Member)
       → AreKeptMethods old methods (map_from (λ number method. twin_method old code method (work_of number works)) number methods)
   methods_kept works number [] = tt
   methods_kept works number (m ∷ methods) = (method_kept m (work_of number works), methods_kept works (number + 1) methods)
 
 -- ---- the whole
 
-module _ (id : ℕ) (names : Names) (array : ℕ) (works : List Work) (c : ClassFile) (pool : PoolValue) (places : MemberPlaces)
+module _ (id : ℕ) (names : Names) (array : ℕ) (works : List BodyWithStates) (c : ClassFile) (pool : PoolValue) (places : MemberPlaces)
     (takes : TakesNeeds id names array c works pool places) where
   abbrev needs : List Content
   needs = needs_of id names array c works
@@ -154,7 +155,7 @@ module _ (id : ℕ) (names : Names) (array : ℕ) (works : List Work) (c : Class
     method_is = method_is;
   }
 
-pub same_outside : (id : ℕ) (names : Names) (array : ℕ) (works : List Work) (c twin : ClassFile) → IsWritten id names array works c twin
+pub same_outside : (id : ℕ) (names : Names) (array : ℕ) (works : List BodyWithStates) (c twin : ClassFile) → IsWritten id names array works c twin
     → IsSameOutside id names array works c twin
 same_outside id names array works c twin w =
     subst (IsSameOutside id names array works c) (sym w.is) (class_kept id names array works c w.pool w.places w.takes)

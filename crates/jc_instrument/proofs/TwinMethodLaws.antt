@@ -2,7 +2,7 @@
 use Rattle.std.proofs.Common.{◌≡◌, ℕ, ◌+◌, Bool, true, false, List, [], ◌∷◌, map, Option, Some, None, nat_eq, refl, sym, ◌∙◌, ap, if◌then◌else◌}
 use Rattle.std.specs.Prelude.{filter, codes}
 use Rattle.std.specs.List.{AllByRecursion}
-use Rattle.jc_methods.specs.Held.{Names}
+use Rattle.jc_methods.specs.VerificationTypes.{Names}
 use Rattle.jc_bytes.specs.PlainLists.{map_from}
 use Rattle.jc_methods.specs.declared.emitted.Emitted.{Emitted}
 use Rattle.jc_pool.specs.Adding.{Extends}
@@ -20,7 +20,7 @@ use Rattle.jc_code.specs.declared.code.CodePlaces.{CodePlaces}
 use Rattle.jc_instrument.specs.Members.{probed_of, put_method, put_methods}
 use Rattle.jc_instrument.specs.Probing.{AreMade, IsMade}
 use Rattle.jc_instrument.specs.TwinText.{twin_method, twin_methods, with_code, work_of}
-use Rattle.jc_instrument.specs.Works.{Work, emitted_of}
+use Rattle.jc_instrument.specs.BodiesWithStates.{BodyWithStates, emitted_of}
 use Rattle.jc_instrument.specs.declared.probed.Probed.{Probed}
 
 -- ---- names in the old pool and in the grown one
@@ -52,7 +52,7 @@ module _ (old new : PoolValue) (extends : Extends old new) where
   abbrev pub IsOld : Member → Type 0
   IsOld m = IsMember (HasText old) (HasMethodDescriptor old) m
 
-  same_method : (code : Work → List ℕ) (m : Member) (o : Option Work) → IsOld m → twin_method new code m o ≡ twin_method old code m o
+  same_method : (code : BodyWithStates → List ℕ) (m : Member) (o : Option BodyWithStates) → IsOld m → twin_method new code m o ≡ twin_method old code m o
   same_method code m None is = refl
   same_method code m (Some w) is =
       ap (λ (l : List Attribute). record m { attributes = l }) (same_attributes (code w) m.attributes is.attributes.each)
@@ -60,20 +60,20 @@ module _ (old new : PoolValue) (extends : Extends old new) where
   -- ---- the written methods
 
   module _ (names : Names) (places : CodePlaces) (array : ℕ) where
-    abbrev code : Work → List ℕ
+    abbrev code : BodyWithStates → List ℕ
     code w = twin_code new places.method places.frames names (emitted_of array w)
 
-    one_made : (m : Member) (w : Work) (p : Probed) → IsMade array w p → put_method new names places m (Some p) ≡ twin_method new code m (Some w)
+    one_made : (m : Member) (w : BodyWithStates) (p : Probed) → IsMade array w p → put_method new names places m (Some p) ≡ twin_method new code m (Some w)
     one_made m w p made =
         ap (λ (e : Emitted). record m { attributes = map (with_code new (twin_code new places.method places.frames names e)) m.attributes }) made.emitted
 
-    either_made : (m : Member) (w : Work) (p : Probed) (t : Bool) (o : Option Work) (q : Option Probed) → IsMade array w p
+    either_made : (m : Member) (w : BodyWithStates) (p : Probed) (t : Bool) (o : Option BodyWithStates) (q : Option Probed) → IsMade array w p
         → put_method new names places m q ≡ twin_method new code m o
         → put_method new names places m (if t then Some p else q) ≡ twin_method new code m (if t then Some w else o)
     either_made m w p true o q made later = one_made m w p made
     either_made m w p false o q made later = later
 
-    method_made : (works : List Work) (probed : List Probed) → AreMade array works probed → (number : ℕ) (m : Member)
+    method_made : (works : List BodyWithStates) (probed : List Probed) → AreMade array works probed → (number : ℕ) (m : Member)
         → put_method new names places m (probed_of number probed) ≡ twin_method new code m (work_of number works)
     method_made [] [] made number m = refl
     method_made [] (p ∷ probed) made number m = absurd made
@@ -83,7 +83,7 @@ module _ (old new : PoolValue) (extends : Extends old new) where
         ∙ either_made m w p (nat_eq w.body.method number) (work_of number works) (probed_of number probed) made.0
         (method_made works probed made.1 number m)
 
-    all_made : (works : List Work) (probed : List Probed) → AreMade array works probed → (i : ℕ) (methods : List Member) → AllByRecursion IsOld methods
+    all_made : (works : List BodyWithStates) (probed : List Probed) → AreMade array works probed → (i : ℕ) (methods : List Member) → AllByRecursion IsOld methods
         → map_from (λ number m. put_method new names places m (probed_of number probed)) i methods
         ≡ map_from (λ number m. twin_method old code m (work_of number works)) i methods
     all_made works probed made i [] are = refl
@@ -91,6 +91,6 @@ module _ (old new : PoolValue) (extends : Extends old new) where
         let head = method_made works probed made i m ∙ same_method code m (work_of i works) are.0 in
         λ t. head t ∷ all_made works probed made (i + 1) methods are.1 t
 
-    pub methods_made : (works : List Work) (probed : List Probed) (methods : List Member) → AreMade array works probed → AllByRecursion IsOld methods
+    pub methods_made : (works : List BodyWithStates) (probed : List Probed) (methods : List Member) → AreMade array works probed → AllByRecursion IsOld methods
         → put_methods new names places probed methods ≡ twin_methods old code works methods
     methods_made works probed methods made are = all_made works probed made 0 methods are

@@ -8,7 +8,7 @@ use Rattle.std.proofs.lemmas.List.Elements.{Contains-append_cases}
 use Rattle.std.proofs.lemmas.List.Sums.{sum_by-cons}
 use Rattle.std.proofs.lemmas.Option.{slice_get_within, slice_get-get_or}
 use Rattle.jc_methods.specs.Flow.{flow_of}
-use Rattle.jc_methods.specs.Held.{Names, IsNumbered, IsNumberedState}
+use Rattle.jc_methods.specs.VerificationTypes.{Names, IsNumbered, IsNumberedState}
 use Rattle.jc_bytes.specs.PlainLists.{pieces}
 use Rattle.jc_methods.specs.WellMade.{IsKind, kind_slots}
 use Rattle.jc_methods.specs.Opcode as opcode
@@ -22,7 +22,7 @@ use Rattle.jc_methods.specs.declared.kind.Kind.TheVariants as kinds
 use Rattle.jc_methods.specs.declared.kind.State.{State}
 use Rattle.jc_bytes.proofs.FirstSeenLaws.{contains_one}
 use Rattle.jc_methods.specs.FrameOrder.{RiseFrom}
-use Rattle.jc_bytes.proofs.TestLaws.{none_in, first_in, later_in}
+use Rattle.jc_bytes.proofs.BooleanLaws.{none_in, first_in, later_in}
 use Rattle.jc_frames.specs.FullTable.{AreRisingOffsets, FitsFull, IsPlaced}
 use Rattle.jc_frames.proofs.BuildingLaws.{by_recursion}
 use Rattle.jc_kinds.specs.Answers.{AreStates, IsStateAt}
@@ -36,8 +36,8 @@ use Rattle.jc_emit.specs.TwinFrames.{no_state, operands_of, state_at, left_by, s
 use Rattle.jc_emit.specs.Items.{insn_of, lead_of, land_of, image_of, segment_size, twin_items}
 use Rattle.jc_emit.specs.Emission.{emission, IsArrayNumber, frame, frame_if, moved_state, has_frame, has_inverse, is_further, arm_frame, arm_frames, frames_at, wide_frames_at}
 use Rattle.jc_emit.specs.Twin.{IsEmitted}
-use Rattle.jc_emit.proofs.Built.{length_twin}
-use Rattle.jc_emit.proofs.FrameLists.{in_piece, if_listed}
+use Rattle.jc_emit.proofs.BuiltLaws.{length_twin}
+use Rattle.jc_emit.proofs.FrameListsLaws.{in_piece, if_listed}
 use Rattle.jc_emit.proofs.RowLaws.{total_grows}
 use Rattle.jc_layout.specs.Layout.{is_wide}
 use Rattle.jc_layout.specs.Merged.{merged}

@@ -6,7 +6,7 @@ use Rattle.std.proofs.lemmas.Bool.{cases_lt, eq-eqb, eqb-true}
 use Rattle.std.proofs.lemmas.Grind.{flat_map-append}
 use Rattle.std.proofs.lemmas.List.Concat.{flat_map-cons}
 use Rattle.std.proofs.lemmas.Option.{none-some, same_Some, slice_get_within}
-use Rattle.jc_methods.specs.Held.{Names}
+use Rattle.jc_methods.specs.VerificationTypes.{Names}
 use Rattle.jc_bytes.specs.PlainLists.{map_from}
 use Rattle.jc_methods.specs.WellMade.{IsWellMadeOfAnySize}
 use Rattle.jc_methods.specs.declared.body.Body.{Body}
@@ -32,7 +32,7 @@ use Rattle.jc_frames.proofs.FullTextLaws.{both_parts}
 use Rattle.jc_kinds.specs.Answers.{AreStates}
 use Rattle.jc_kinds.specs.Checked.{Checked}
 use Rattle.jc_plan.proofs.PlanLaws.{mapped_at}
-use Rattle.jc_emit.specs.Added.{data_type, init_name, init_type}
+use Rattle.jc_methods.specs.ProbeMembers.{data_type, init_name, init_type}
 use Rattle.jc_emit.specs.Emission.{HasFrameStates, IsArrayNumber}
 use Rattle.jc_emit.specs.Straddling.{NoneStraddles}
 use Rattle.jc_emit.proofs.WideFrameLaws.{emitted}
@@ -50,9 +50,10 @@ use Rattle.jc_verify.specs.WrittenCode.{IsWrittenCode}
 use Rattle.jc_instrument.specs.Analysis.{all_probes}
 use Rattle.jc_instrument.specs.Bodies.{IsListed}
 use Rattle.jc_instrument.specs.Contents.{text_entry, class_entry, string_entry, long_entry, member_entry}
-use Rattle.jc_instrument.specs.Needed.{data_field, fetch_method, init_method, name_of, needs_of, place_list, signed_id, TakesNeeds}
+use Rattle.jc_verify.specs.Written.{data_field, fetch_method, init_method}
+use Rattle.jc_instrument.specs.Needed.{name_of, needs_of, place_list, signed_id, TakesNeeds}
 use Rattle.jc_instrument.specs.TwinText.{init_member, init_places, twin_class, twin_method, twin_methods, with_code, work_of, IsWritten}
-use Rattle.jc_instrument.specs.Works.{Work, all_frames, bodies_of, emitted_of, AreWorks}
+use Rattle.jc_instrument.specs.BodiesWithStates.{BodyWithStates, all_frames, bodies_of, emitted_of, AreBodiesWithStates}
 use Rattle.jc_instrument.specs.declared.needs.MemberPlaces.{MemberPlaces}
 use Rattle.jc_instrument.specs.declared.probed.Probed.{Probed}
 use Rattle.jc_instrument.proofs.ContentLaws.{of_content}
@@ -77,12 +78,12 @@ from_at f k (x ∷ xs) (suc i) y at =
 
 -- ---- the work of a method
 
-pub record IsWorkAt (works : List Work) (number : ℕ) (x : Work) : Type 0 where
+pub record IsWorkAt (works : List BodyWithStates) (number : ℕ) (x : BodyWithStates) : Type 0 where
   pub index : ℕ
   pub stands : slice_get works index ≡ Some x
   pub number_is : x.body.method ≡ number
 
-pub work_found : (number : ℕ) (works : List Work) (x : Work) → work_of number works ≡ Some x → IsWorkAt works number x
+pub work_found : (number : ℕ) (works : List BodyWithStates) (x : BodyWithStates) → work_of number works ≡ Some x → IsWorkAt works number x
 work_found number [] x is = absurd (none-some x is)
 work_found number (y ∷ works) x is = by (nat_eq y.body.method number) refl is (λ later. work_found number works x later)
   where
@@ -90,13 +91,13 @@ work_found number (y ∷ works) x is = by (nat_eq y.body.method number) refl is 
         → (work_of number works ≡ Some x → IsWorkAt works number x) → IsWorkAt (y ∷ works) number x
     by true same h more =
         let here = same_Some y x h in
-        record { index = 0; stands = h; number_is = ap (λ (z : Work). z.body.method) (sym here) ∙ eqb-true y.body.method number same }
+        record { index = 0; stands = h; number_is = ap (λ (z : BodyWithStates). z.body.method) (sym here) ∙ eqb-true y.body.method number same }
     by false other h more = let m = more h in record { index = suc m.index; stands = m.stands; number_is = m.number_is }
 
-none_found : (number : ℕ) (works : List Work) → work_of number works ≡ None → IsListed (bodies_of works) number → ⊥
+none_found : (number : ℕ) (works : List BodyWithStates) → work_of number works ≡ None → IsListed (bodies_of works) number → ⊥
 none_found number works none l = at works none l.index l.body l.stands l.number_is
   where
-    at : (works : List Work) → work_of number works ≡ None → (i : ℕ) (b : Body) → slice_get (bodies_of works) i ≡ Some b → b.method ≡ number → ⊥
+    at : (works : List BodyWithStates) → work_of number works ≡ None → (i : ℕ) (b : Body) → slice_get (bodies_of works) i ≡ Some b → b.method ≡ number → ⊥
     at [] none i b stands is = none-some b stands
     at (y ∷ works) none i b stands is = by (nat_eq y.body.method number) refl none (λ later j there. at works later j b there is)
       where
@@ -140,14 +141,14 @@ module _ (old new : PoolValue) (extends : Extends old new) (code : List ℕ) whe
 
 -- ---- the classes of one body's frames
 
-classes_of : (pool : PoolValue) (names : Names) (array : ℕ) (works : List Work) → AllByRecursion (HasPlace pool) (named_by_all (all_frames names array works))
-    → (i : ℕ) (x : Work) → slice_get works i ≡ Some x → HaveClasses pool names (emitted_of array x)
+classes_of : (pool : PoolValue) (names : Names) (array : ℕ) (works : List BodyWithStates) → AllByRecursion (HasPlace pool) (named_by_all (all_frames names array works))
+    → (i : ℕ) (x : BodyWithStates) → slice_get works i ≡ Some x → HaveClasses pool names (emitted_of array x)
 classes_of pool names array [] all i x at = absurd (none-some x at)
 classes_of pool names array (w ∷ works) all i x at = by i at (λ j there. classes_of pool names array works both.1 j x there)
   where
     split : named_by_all (all_frames names array (w ∷ works)) ≡ named_by_all (written_frames names (emitted_of array w)) ++ named_by_all (all_frames names array works)
     split =
-        ap named_by_all (flat_map-cons (λ (y : Work). written_frames names (emitted_of array y)) w works)
+        ap named_by_all (flat_map-cons (λ (y : BodyWithStates). written_frames names (emitted_of array y)) w works)
         ∙ flat_map-append named_by (written_frames names (emitted_of array w)) (all_frames names array works)
 
     both : AllByRecursion (HasPlace pool) (named_by_all (written_frames names (emitted_of array w))) × AllByRecursion (HasPlace pool) (named_by_all (all_frames names array works))
@@ -157,13 +158,13 @@ classes_of pool names array (w ∷ works) all i x at = by i at (λ j there. clas
 
     by : (i : ℕ) → slice_get (w ∷ works) i ≡ Some x → ((j : ℕ) → slice_get works j ≡ Some x → HaveClasses pool names (emitted_of array x))
         → HaveClasses pool names (emitted_of array x)
-    by zero there more = subst (λ (y : Work). HaveClasses pool names (emitted_of array y)) (same_Some w x there) both.0
+    by zero there more = subst (λ (y : BodyWithStates). HaveClasses pool names (emitted_of array y)) (same_Some w x there) both.0
     by (suc j) there more = more j there
 
 -- ---- the frames of one body
 
 -- what is made of a work, whether or not it fits
-abbrev made_of : (array : ℕ) → Work → Probed
+abbrev made_of : (array : ℕ) → BodyWithStates → Probed
 made_of array x = record {
   method = x.body.method;
   emitted = emitted_of array x;
@@ -175,7 +176,7 @@ made_of array x = record {
   merged = merged (emitted_of array x).frames (emitted_of array x).wide_frames;
 }
 
-frames_are : (names : Names) (array : ℕ) (x : Work) → AreStates names x.body x.states → IsArrayNumber names array → IsWellMadeOfAnySize x.body
+frames_are : (names : Names) (array : ℕ) (x : BodyWithStates) → AreStates names x.body x.states → IsArrayNumber names array → IsWellMadeOfAnySize x.body
     → HasFrameStates x.body x.states → chosen_length (emitted_of array x).code ≤ 65535 → (emitted_of array x).max_locals ≤ 65535
     → (emitted_of array x).max_stack ≤ 65535 → AreFrames (emitted_of array x) (length names) (chosen_frames (emitted_of array x))
 frames_are names array x are array_is well fit short locals stack =
@@ -196,12 +197,12 @@ pub record AreSoundBodies (names : Names) (bodies : List Body) : Type 0 where
   pub checked : (i : ℕ) (b : Body) → slice_get bodies i ≡ Some b → Checked names b
   pub none_straddles : (i : ℕ) (b : Body) → slice_get bodies i ≡ Some b → NoneStraddles b
 
-module _ (id : ℕ) (names : Names) (array : ℕ) (works : List Work) (c : ClassFile) (pool : PoolValue) (places : MemberPlaces)
-    (are : AreWorks names array c works) (takes : TakesNeeds id names array c works pool places) (few : length pool ≤ 65535)
-    (is : IsClassFile c) (fits : (i : ℕ) (x : Work) → slice_get works i ≡ Some x → HasFrameStates x.body x.states) (sound : AreSoundBodies names (bodies_of works))
+module _ (id : ℕ) (names : Names) (array : ℕ) (works : List BodyWithStates) (c : ClassFile) (pool : PoolValue) (places : MemberPlaces)
+    (are : AreBodiesWithStates names array c works) (takes : TakesNeeds id names array c works pool places) (few : length pool ≤ 65535)
+    (is : IsClassFile c) (fits : (i : ℕ) (x : BodyWithStates) → slice_get works i ≡ Some x → HasFrameStates x.body x.states) (sound : AreSoundBodies names (bodies_of works))
     (probes : all_probes (bodies_of works) ≤ 32767)
-    (coded : (number : ℕ) (x : Work) → work_of number works ≡ Some x → IsWrittenCode pool (code_places pool places) names (emitted_of array x)) where
-  abbrev code : Work → List ℕ
+    (coded : (number : ℕ) (x : BodyWithStates) → work_of number works ≡ Some x → IsWrittenCode pool (code_places pool places) names (emitted_of array x)) where
+  abbrev code : BodyWithStates → List ℕ
   code w = twin_code pool places.method places.frames names (emitted_of array w)
 
   abbrev count : ℕ
@@ -237,7 +238,7 @@ module _ (id : ℕ) (names : Names) (array : ℕ) (works : List Work) (c : Class
 
   -- ---- a method with code
 
-  module _ (i : ℕ) (x : Work) (stands : slice_get works i ≡ Some x) (own : IsWrittenCode pool (code_places pool places) names (emitted_of array x)) where
+  module _ (i : ℕ) (x : BodyWithStates) (stands : slice_get works i ≡ Some x) (own : IsWrittenCode pool (code_places pool places) names (emitted_of array x)) where
     body : BodyOf names c x.body.method x.body
     body = are.bodies.each i x.body (body_at works i x stands)
 
@@ -389,7 +390,7 @@ module _ (id : ℕ) (names : Names) (array : ℕ) (works : List Work) (c : Class
       ⊎ (IsWrittenAt names c (twin_class names array c works pool places) (code_places pool places) array number new
       ⊎ IsAddedAt (twin_class names array c works pool places) new)
 
-  own_written : (number : ℕ) (m : Member) (o : Option Work) → slice_get c.methods number ≡ Some m → work_of number works ≡ o
+  own_written : (number : ℕ) (m : Member) (o : Option BodyWithStates) → slice_get c.methods number ≡ Some m → work_of number works ≡ o
       → Written number (twin_method c.pool code m o)
   own_written number m None there none =
       inl (subst (λ (l : PoolValue). HasNoCode l m) (sym pool_is) (none_at number m there none))
@@ -424,7 +425,7 @@ module _ (id : ℕ) (names : Names) (array : ℕ) (works : List Work) (c : Class
         added = subst (IsAddedMethod (twin_class names array c works pool places) (name_of c) (signed_id id) count added_places) last.1 added_method;
       }))
 
-methods_so : (names : Names) (array : ℕ) (c : ClassFile) (works : List Work) (pool : PoolValue) (places : MemberPlaces)
+methods_so : (names : Names) (array : ℕ) (c : ClassFile) (works : List BodyWithStates) (pool : PoolValue) (places : MemberPlaces)
     → (twin_class names array c works pool places).methods
     ≡ twin_methods c.pool (λ w. twin_code pool places.method places.frames names (emitted_of array w)) works c.methods
     ++ init_member places (all_probes (bodies_of works)) ∷ []
@@ -432,9 +433,9 @@ unfolding twin_class
 methods_so names array c works pool places = refl
 
 -- each method of the twin class that is written has no code, or its instrumented code, or is the added one
-pub written_methods : (id : ℕ) (names : Names) (array : ℕ) (works : List Work) (c twin : ClassFile) (w : IsWritten id names array works c twin)
-    → IsClassFile c → ((i : ℕ) (x : Work) → slice_get works i ≡ Some x → HasFrameStates x.body x.states) → AreSoundBodies names (bodies_of works) → all_probes (bodies_of works) ≤ 32767
-    → ((number : ℕ) (x : Work) → work_of number works ≡ Some x → IsWrittenCode w.pool (code_places w.pool w.places) names (emitted_of array x))
+pub written_methods : (id : ℕ) (names : Names) (array : ℕ) (works : List BodyWithStates) (c twin : ClassFile) (w : IsWritten id names array works c twin)
+    → IsClassFile c → ((i : ℕ) (x : BodyWithStates) → slice_get works i ≡ Some x → HasFrameStates x.body x.states) → AreSoundBodies names (bodies_of works) → all_probes (bodies_of works) ≤ 32767
+    → ((number : ℕ) (x : BodyWithStates) → work_of number works ≡ Some x → IsWrittenCode w.pool (code_places w.pool w.places) names (emitted_of array x))
     → AreWrittenMethods names c twin (code_places w.pool w.places) array
 written_methods id names array works c twin w is fits sound probes coded =
     subst (λ (t : ClassFile). AreWrittenMethods names c t (code_places w.pool w.places) array) (sym w.is)
@@ -459,11 +460,11 @@ module _ (old : PoolValue) (HasName : ℕ → Type 0) (code : List ℕ) where
       by false is own single more = more single
 
 -- the text of each Code attribute is short, where the twin class is a class file
-pub texts_short : (id : ℕ) (names : Names) (array : ℕ) (works : List Work) (c twin : ClassFile) (w : IsWritten id names array works c twin)
-    → IsClassFile twin → (number : ℕ) (x : Work) → work_of number works ≡ Some x
+pub texts_short : (id : ℕ) (names : Names) (array : ℕ) (works : List BodyWithStates) (c twin : ClassFile) (w : IsWritten id names array works c twin)
+    → IsClassFile twin → (number : ℕ) (x : BodyWithStates) → work_of number works ≡ Some x
     → length (twin_code w.pool w.places.method w.places.frames names (emitted_of array x)) ≤ 4294967295
 texts_short id names array works c twin w is number x found =
-    let code : Work → List ℕ = λ y. twin_code w.pool w.places.method w.places.frames names (emitted_of array y) in
+    let code : BodyWithStates → List ℕ = λ y. twin_code w.pool w.places.method w.places.frames names (emitted_of array y) in
     let h = work_found number works x found in
     let body = w.are.bodies.each h.index x.body (body_at works h.index x h.stands) in
     let m = body.method in
@@ -471,7 +472,7 @@ texts_short id names array works c twin w is number x found =
     let same : 0 + number ≡ number = omega arith in
     let own : slice_get (twin_methods c.pool code works c.methods) number ≡ Some (twin_method c.pool code m (Some x)) =
     mapped_at (λ n method. twin_method c.pool code method (work_of n works)) 0 number c.methods m there
-    ∙ ap (λ (n : ℕ). Some (twin_method c.pool code m (work_of n works))) same ∙ ap (λ (o : Option Work). Some (twin_method c.pool code m o)) found in
+    ∙ ap (λ (n : ℕ). Some (twin_method c.pool code m (work_of n works))) same ∙ ap (λ (o : Option BodyWithStates). Some (twin_method c.pool code m o)) found in
     let among : slice_get twin.methods number ≡ Some (twin_method c.pool code m (Some x)) =
     ap (λ (t : ClassFile). slice_get t.methods number) w.is
     ∙ ap (λ (l : List Member). slice_get l number) (methods_so names array c works w.pool w.places)

@@ -6,7 +6,7 @@ use Rattle.std.proofs.lemmas.Bool.{cases_lt}
 use Rattle.std.proofs.lemmas.List.Sums.{sum_by-cons}
 use Rattle.std.proofs.lemmas.Option.{none-some, same_Some, slice_get_within}
 use Rattle.std.proofs.lemmas.Slice.Eq.{bytes_eq-Decides}
-use Rattle.jc_methods.specs.Held.{Names}
+use Rattle.jc_methods.specs.VerificationTypes.{Names}
 use Rattle.jc_methods.specs.WellMade.{IsWellMadeOfAnySize}
 use Rattle.jc_methods.specs.declared.body.Body.{Body}
 use Rattle.jc_methods.specs.declared.kind.State.{State}
@@ -34,12 +34,13 @@ use Rattle.jc_instrument.proofs.ListedLaws.{body_at}
 use Rattle.jc_instrument.specs.Analysis.{all_probes}
 use Rattle.jc_instrument.specs.Contents.{Content, member_entry, text_entry}
 use Rattle.jc_instrument.specs.Members.{AreTextPlaces, IsFirstIfAny}
-use Rattle.jc_instrument.specs.Needed.{init_method, name_of, needs_of, place_list}
+use Rattle.jc_verify.specs.Written.{init_method}
+use Rattle.jc_instrument.specs.Needed.{name_of, needs_of, place_list}
 use Rattle.jc_instrument.specs.Probing.{AreShortBelow}
 use Rattle.jc_instrument.specs.Room.{NoneLacks}
 use Rattle.jc_instrument.specs.RoomCauses.{probed_code}
 use Rattle.jc_instrument.specs.TwinText.{IsWritten}
-use Rattle.jc_instrument.specs.Works.{Work, bodies_of, emitted_of}
+use Rattle.jc_instrument.specs.BodiesWithStates.{BodyWithStates, bodies_of, emitted_of}
 use Rattle.jc_instrument.specs.declared.needs.MemberPlaces.{MemberPlaces}
 use Rattle.jc_instrument.proofs.ContentLaws.{of_content}
 use Rattle.jc_instrument.proofs.GrownPoolLaws.{StandAt, pool_grown, stand_at}
@@ -158,7 +159,7 @@ emitted_locals b first states array = refl
 
 -- ---- one method
 
-module _ (id : ℕ) (names : Names) (array : ℕ) (c : ClassFile) (works : List Work) (twin : ClassFile) (w : IsWritten id names array works c twin)
+module _ (id : ℕ) (names : Names) (array : ℕ) (c : ClassFile) (works : List BodyWithStates) (twin : ClassFile) (w : IsWritten id names array works c twin)
     (bytes : AllByRecursion HasOnlyBytes c.methods) (room : HasRoom (bodies_of works)) where
   abbrev needs : List Content
   needs = needs_of id names array c works
@@ -181,7 +182,7 @@ module _ (id : ℕ) (names : Names) (array : ℕ) (c : ClassFile) (works : List 
   frames_is : utf8_of w.pool w.places.frames ≡ Some (codes "StackMapTable")
   frames_is = of_content w.pool w.places.frames (text_entry (codes "StackMapTable")) stands.1.1.1.1.1.1.1.1.0
 
-  pub written_code : (i : ℕ) (x : Work) → slice_get works i ≡ Some x → IsWellMadeOfAnySize x.body
+  pub written_code : (i : ℕ) (x : BodyWithStates) → slice_get works i ≡ Some x → IsWellMadeOfAnySize x.body
       → length (twin_code w.pool w.places.method w.places.frames names (emitted_of array x)) ≤ 4294967295
       → IsWrittenCode w.pool places names (emitted_of array x)
   written_code i x at well size =

@@ -16,7 +16,7 @@ abbrev pub changing_causes : (id : ℕ) → ClassFile → List Cause
 changing_causes id c = code_causes c ++ room_causes id c
 
 -- the class with this id has its probes, and none of those causes refuses it
-pub record IsChanged (id : ℕ) (c : ClassFile) (a : Instrumented) : Type 0 where
+pub record GetsProbes (id : ℕ) (c : ClassFile) (a : Instrumented) : Type 0 where
   pub id_is : a.id ≡ id
   pub name : class_name_of c.pool c.this_class ≡ Some a.name
   pub has : HasProbes id c a

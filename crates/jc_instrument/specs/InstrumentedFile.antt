@@ -1,7 +1,7 @@
 -- What a class file becomes that is instrumented, or stays as it is.
 use Rattle.std.specs.Prelude.{◌≡◌, ℕ, Bool, true, false, List, Some}
 use Rattle.jc_bytes.specs.ByteLists.{AreBytes}
-use Rattle.jc_methods.specs.Held.{Names}
+use Rattle.jc_methods.specs.VerificationTypes.{Names}
 use Rattle.jc_pool.specs.Lookup.{class_name_of}
 use Rattle.jc_class.specs.ClassId.{class_id}
 use Rattle.jc_class.specs.ClassText.{ClassText}
@@ -11,7 +11,7 @@ use Rattle.jc_instrument.specs.Causes.{NoCause}
 use Rattle.jc_instrument.specs.LeftAlone.{is_left_alone}
 use Rattle.jc_instrument.specs.Refused.{probe_causes}
 use Rattle.jc_instrument.specs.TwinText.{IsWritten}
-use Rattle.jc_instrument.specs.Works.{Work, bodies_of}
+use Rattle.jc_instrument.specs.BodiesWithStates.{BodyWithStates, bodies_of}
 use Rattle.jc_instrument.specs.declared.whole.Instrumented.{Instrumented}
 
 -- The bytes are the text of the twin class that is written for the class with this id. There are as many probes as the
@@ -19,7 +19,7 @@ use Rattle.jc_instrument.specs.declared.whole.Instrumented.{Instrumented}
 pub record HasProbes (id : ℕ) (c : ClassFile) (a : Instrumented) : Type 0 where
   pub names : Names
   pub array : ℕ
-  pub works : List Work
+  pub works : List BodyWithStates
   pub twin : ClassFile
   pub written : IsWritten id names array works c twin
   pub are_bytes : AreBytes a.bytes

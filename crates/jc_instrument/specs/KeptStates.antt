@@ -1,6 +1,6 @@
 -- The states that are kept of the bodies of a class.
 use Rattle.std.specs.Prelude.{◌≡◌, ℕ, ◌+◌, ◌*◌, List, [], ◌∷◌, ◌++◌, length, Option, Some, None, IfSome, slice_get}
-use Rattle.jc_methods.specs.Held.{Names}
+use Rattle.jc_methods.specs.VerificationTypes.{Names}
 use Rattle.jc_methods.specs.declared.body.Body.{Body}
 use Rattle.jc_methods.specs.declared.kind.State.{State}
 use Rattle.jc_kinds.specs.Answers.{AreStates}

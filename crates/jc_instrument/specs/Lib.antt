@@ -8,7 +8,7 @@ pub mod Steps
 pub mod SameAnalysis
 pub mod Contents
 pub mod GrownPool
-pub mod Works
+pub mod BodiesWithStates
 pub mod Needed
 pub mod TwinText
 pub mod Verified

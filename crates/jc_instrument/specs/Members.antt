@@ -1,7 +1,7 @@
 -- The methods of a class, in which those with instrumented code have it.
 use Rattle.std.specs.Prelude.{◌≡◌, ⊤, ℕ, ◌<◌, List, [], ◌∷◌, length, map, Option, Some, None, nat_eq, slice_get, if◌then◌else◌}
 use Rattle.std.specs.List.{AllByRecursion}
-use Rattle.jc_methods.specs.Held.{Names}
+use Rattle.jc_methods.specs.VerificationTypes.{Names}
 use Rattle.jc_bytes.specs.PlainLists.{map_from}
 use Rattle.jc_pool.specs.Adding.{IsFirst}
 use Rattle.jc_pool.specs.Lookup.{utf8_of}

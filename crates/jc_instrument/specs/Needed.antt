@@ -1,14 +1,15 @@
 -- What the constant pool of an instrumented class has to have, in the order in which it is added.
 use Rattle.std.specs.Prelude.{ℕ, ℤ, List, [], ◌∷◌, ◌++◌, map, unwrap_or, codes}
 use Rattle.std.specs.Int.{w64, cast_signed}
-use Rattle.jc_methods.specs.Held.{Names, SeenAt}
-use Rattle.jc_pool.specs.Lookup.{class_name_of, Member}
+use Rattle.jc_methods.specs.VerificationTypes.{Names, TypeStateAt}
+use Rattle.jc_pool.specs.Lookup.{class_name_of}
 use Rattle.jc_pool.specs.Pool.{PoolValue}
 use Rattle.jc_class.specs.declared.class_file.ClassFile.{ClassFile}
 use Rattle.jc_frames.specs.FullTable.{named_by_all}
-use Rattle.jc_emit.specs.Added.{data_name, data_type, init_name, init_type, runtime_class, fetch_name, fetch_type}
+use Rattle.jc_methods.specs.ProbeMembers.{data_name, data_type, init_name, init_type, runtime_class, fetch_name, fetch_type}
+use Rattle.jc_verify.specs.Written.{data_field, init_method, fetch_method}
 use Rattle.jc_instrument.specs.Contents.{Content, text_entry, class_entry, string_entry, long_entry, member_entry, TakesEach}
-use Rattle.jc_instrument.specs.Works.{Work, all_frames}
+use Rattle.jc_instrument.specs.BodiesWithStates.{BodyWithStates, all_frames}
 use Rattle.jc_instrument.specs.declared.needs.MemberPlaces.{MemberPlaces}
 
 -- the name of the class
@@ -20,17 +21,6 @@ abbrev pub signed_id : ℕ → ℤ
 signed_id id = cast_signed w64 id
 
 -- ---- the added members and what their code names
-
--- the field and the method of the class with this name (JVM Specification 4.4.2: the tag of a field is 9, of a method 10)
-abbrev pub data_field : List ℕ → Member
-data_field owner = record { tag = 9; class = owner; name = data_name; desc = data_type }
-
-abbrev pub init_method : List ℕ → Member
-init_method owner = record { tag = 10; class = owner; name = init_name; desc = init_type }
-
--- the method of the runtime class
-abbrev pub fetch_method : Member
-fetch_method = record { tag = 10; class = runtime_class; name = fetch_name; desc = fetch_type }
 
 -- the names and types of the two members; what code names; the names of two attributes; the constants of the method's code;
 -- and the class of the probe array
@@ -58,23 +48,23 @@ place_list p =
 -- ---- all that is needed
 
 -- the classes that written frames name: of each frame those of the values in local variables, and then those of the stack
-abbrev pub frame_needs : List SeenAt → List Content
+abbrev pub frame_needs : List TypeStateAt → List Content
 frame_needs frames = map class_entry (named_by_all frames)
 
-abbrev pub needed : List ℕ → ℤ → List SeenAt → List Content
+abbrev pub needed : List ℕ → ℤ → List TypeStateAt → List Content
 needed owner id frames = member_needs owner id ++ frame_needs frames
 
 -- what a class with this id needs
-abbrev pub needs_of : (id : ℕ) → Names → (array : ℕ) → ClassFile → List Work → List Content
+abbrev pub needs_of : (id : ℕ) → Names → (array : ℕ) → ClassFile → List BodyWithStates → List Content
 needs_of id names array c works = needed (name_of c) (signed_id id) (all_frames names array works)
 
 -- The pool takes what a class of this name with this id needs, of which these frames are written, and the places of the first
 -- twelve are these.
-pub record TakesNeeded (old : PoolValue) (owner : List ℕ) (id : ℤ) (frames : List SeenAt) (new : PoolValue) (places : MemberPlaces) : Type 0 where
+pub record TakesNeeded (old : PoolValue) (owner : List ℕ) (id : ℤ) (frames : List TypeStateAt) (new : PoolValue) (places : MemberPlaces) : Type 0 where
   pub class_places : List ℕ
   pub takes : TakesEach old (needed owner id frames) new (place_list places ++ class_places)
 
 -- the pool of the class takes what the class needs
-abbrev pub TakesNeeds : (id : ℕ) → Names → (array : ℕ) → ClassFile → List Work → PoolValue → MemberPlaces → Type 0
+abbrev pub TakesNeeds : (id : ℕ) → Names → (array : ℕ) → ClassFile → List BodyWithStates → PoolValue → MemberPlaces → Type 0
 TakesNeeds id names array c works pool places =
     TakesNeeded c.pool (name_of c) (signed_id id) (all_frames names array works) pool places

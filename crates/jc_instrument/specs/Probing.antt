@@ -1,7 +1,7 @@
 -- What is made of the bodies of a class that have room for its probes: their instrumented code, laid out.
 use Rattle.std.specs.Prelude.{◌≡◌, ⊤, ℕ, ◌<◌, ◌≤◌, true, List, [], ◌∷◌, length, Some, slice_get}
 use Rattle.std.specs.List.{AllByRecursion}
-use Rattle.jc_methods.specs.Held.{Names}
+use Rattle.jc_methods.specs.VerificationTypes.{Names}
 use Rattle.jc_methods.specs.declared.body.Body.{Body}
 use Rattle.jc_methods.specs.declared.kind.State.{State}
 use Rattle.jc_bytes.specs.declared.refusal.Refusal.{Refusal}
@@ -15,19 +15,19 @@ use Rattle.jc_code.specs.Given.{IsLaid}
 use Rattle.jc_instrument.specs.Causes.{of_method}
 use Rattle.jc_instrument.specs.RoomCauses.{probed_code}
 use Rattle.jc_instrument.specs.Taking.{HasFrames}
-use Rattle.jc_instrument.specs.Works.{Work, bodies_of, IsWork, emitted_of}
+use Rattle.jc_instrument.specs.BodiesWithStates.{BodyWithStates, bodies_of, IsBodyWithStates, emitted_of}
 use Rattle.jc_instrument.specs.declared.probed.Probed.{Probed}
 
 -- ---- one body
 
 -- the instrumented code of the work's body, where the class of the probe array has this number
-pub record IsMade (array : ℕ) (w : Work) (p : Probed) : Type 0 where
+pub record IsMade (array : ℕ) (w : BodyWithStates) (p : Probed) : Type 0 where
   pub method : p.method ≡ w.body.method
   pub emitted : p.emitted ≡ emitted_of array w
   pub laid : IsLaid p.emitted p.laid
   pub merged : p.laid.wide ≡ true → p.merged ≡ merged p.emitted.frames p.emitted.wide_frames
 
-abbrev pub work : Body → List State → ℕ → Work
+abbrev pub work : Body → List State → ℕ → BodyWithStates
 work b states first = record { body = b; states = states; first = first }
 
 -- what is made of a body with its states under these names
@@ -50,7 +50,7 @@ IsTooLong b first r = IsRefusedAsLarge b.method (chosen_length (probed_code b fi
 -- ---- all bodies
 
 -- the instrumented code of each of the works, in their order
-abbrev pub AreMade : (array : ℕ) → List Work → List Probed → Type 0
+abbrev pub AreMade : (array : ℕ) → List BodyWithStates → List Probed → Type 0
 AreMade array [] [] = ⊤
 AreMade array (w ∷ works) (p ∷ probed) = IsMade array w p × AreMade array works probed
 AreMade array _ _ = ⊥
@@ -63,9 +63,9 @@ AreShortBelow bodies n = (i : ℕ) (b : Body) → i < n → slice_get bodies i �
 pub record AreProbed (names : Names) (bodies : List Body) (probed : List Probed) : Type 0 where
   pub array : ℕ
   pub array_is : IsArrayNumber names array
-  pub works : List Work
+  pub works : List BodyWithStates
   pub bodies_are : bodies_of works ≡ bodies
-  pub each : (i : ℕ) (w : Work) → slice_get works i ≡ Some w → IsWork names bodies i w
+  pub each : (i : ℕ) (w : BodyWithStates) → slice_get works i ≡ Some w → IsBodyWithStates names bodies i w
   pub made : AreMade array works probed
   pub frames : AllByRecursion (HasFrames (length names)) probed
   pub short : AreShortBelow bodies (length bodies)

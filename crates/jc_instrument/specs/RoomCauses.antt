@@ -1,6 +1,6 @@
 -- Why there is no room in a class for its probes.
 use Rattle.std.specs.Prelude.{◌≡◌, ◌⊎◌, ℕ, ◌+◌, ◌<◌, false, List, [], ◌∷◌, ◌++◌, length, map, Some, slice_get}
-use Rattle.jc_methods.specs.Held.{Names}
+use Rattle.jc_methods.specs.VerificationTypes.{Names}
 use Rattle.jc_methods.specs.declared.body.Body.{Body}
 use Rattle.jc_methods.specs.declared.insn.Insn.{Insn}
 use Rattle.jc_bytes.specs.declared.refusal.Refusal.{Refusal}
@@ -16,7 +16,7 @@ use Rattle.jc_instrument.specs.Bodies.{AreBodiesOf}
 use Rattle.jc_instrument.specs.Causes.{Cause, of_class, InMethod}
 use Rattle.jc_instrument.specs.Needed.{TakesNeeds}
 use Rattle.jc_instrument.specs.Reasons.{OfBody}
-use Rattle.jc_instrument.specs.Works.{Work, AreWorks}
+use Rattle.jc_instrument.specs.BodiesWithStates.{BodyWithStates, AreBodiesWithStates}
 use Rattle.jc_instrument.specs.declared.needs.MemberPlaces.{MemberPlaces}
 
 -- ---- the probe array, and the probes
@@ -86,8 +86,8 @@ HasTooLargeCode c = InMethod kinds.CodeTooLarge (IsTooLarge c)
 pub record NeedsTooMuch (id : ℕ) (c : ClassFile) : Type 0 where
   pub names : Names
   pub array : ℕ
-  pub works : List Work
-  pub are : AreWorks names array c works
+  pub works : List BodyWithStates
+  pub are : AreBodiesWithStates names array c works
   pub pool : PoolValue
   pub places : MemberPlaces
   pub takes : TakesNeeds id names array c works pool places

@@ -1,7 +1,7 @@
 -- What the steps answer by which a constant pool takes what an instrumented class needs.
 use Rattle.std.specs.Prelude.{◌≡◌, ⊤, ℕ, ℤ, ◌<◌, List, length, map, codes, if◌then◌else◌}
 use Rattle.std.specs.List.{flat_map}
-use Rattle.jc_methods.specs.Held.{AreNumberedFrames, Names, SeenAt, seen_at}
+use Rattle.jc_methods.specs.VerificationTypes.{AreNumberedFrames, Names, TypeStateAt, type_state_at}
 use Rattle.jc_methods.specs.declared.body.FrameAt.{FrameAt}
 use Rattle.jc_bytes.specs.declared.fail.Fail.{Fail}
 use Rattle.jc_bytes.specs.declared.fail.Fail.TheVariants as fails
@@ -10,31 +10,31 @@ use Rattle.jc_bytes.specs.declared.refusal.RefusalKind.TheVariants as kinds
 use Rattle.jc_pool.specs.Pool.{PoolValue}
 use Rattle.jc_pool.specs.declared.add.PoolFull.{PoolFull}
 use Rattle.jc_code.specs.Given.{AreFrames}
-use Rattle.jc_emit.specs.Added.{data_name, data_type, init_name, init_type}
+use Rattle.jc_methods.specs.ProbeMembers.{data_name, data_type, init_name, init_type}
 use Rattle.jc_instrument.specs.Causes.{of_class}
 use Rattle.jc_instrument.specs.Contents.{Content, text_entry, class_entry, string_entry, long_entry, member_entry, TakesEach}
-use Rattle.jc_instrument.specs.Needed.{data_field, init_method, fetch_method}
+use Rattle.jc_verify.specs.Written.{data_field, init_method, fetch_method}
 use Rattle.jc_instrument.specs.declared.needs.Need.{Need}
 use Rattle.jc_instrument.specs.declared.needs.Need.TheVariants as needs
 use Rattle.jc_instrument.specs.declared.probed.Probed.{Probed}
 
 -- what is needed by the added members of the class with this name and this id
-abbrev pub content_of : (owner : List ℕ) → (id : ℤ) → Need → Content
-content_of owner id needs.DataName = text_entry data_name
-content_of owner id needs.DataType = text_entry data_type
-content_of owner id needs.InitName = text_entry init_name
-content_of owner id needs.InitType = text_entry init_type
-content_of owner id needs.Field = member_entry (data_field owner)
-content_of owner id needs.Method = member_entry (init_method owner)
-content_of owner id needs.Fetch = member_entry fetch_method
-content_of owner id needs.Code = text_entry (codes "Code")
-content_of owner id needs.Frames = text_entry (codes "StackMapTable")
-content_of owner id needs.Id = long_entry id
-content_of owner id needs.Name = string_entry owner
-content_of owner id needs.Array = class_entry data_type
+abbrev pub content_needed : (owner : List ℕ) → (id : ℤ) → Need → Content
+content_needed owner id needs.DataName = text_entry data_name
+content_needed owner id needs.DataType = text_entry data_type
+content_needed owner id needs.InitName = text_entry init_name
+content_needed owner id needs.InitType = text_entry init_type
+content_needed owner id needs.Field = member_entry (data_field owner)
+content_needed owner id needs.Method = member_entry (init_method owner)
+content_needed owner id needs.Fetch = member_entry fetch_method
+content_needed owner id needs.Code = text_entry (codes "Code")
+content_needed owner id needs.Frames = text_entry (codes "StackMapTable")
+content_needed owner id needs.Id = long_entry id
+content_needed owner id needs.Name = string_entry owner
+content_needed owner id needs.Array = class_entry data_type
 
 abbrev pub contents_of : (owner : List ℕ) → (id : ℤ) → List Need → List Content
-contents_of owner id list = map (content_of owner id) list
+contents_of owner id list = map (content_needed owner id) list
 
 -- with all of these the pool would have a count above 65,535 (JVM Specification 4.1)
 pub record IsTooMuch (old : PoolValue) (contents : List Content) : Type 0 where
@@ -60,8 +60,8 @@ abbrev pub frames_in : Probed → List FrameAt
 frames_in p = if p.laid.wide then p.merged else p.emitted.frames
 
 -- those of all methods, with classes by their names
-abbrev pub frames_of : Names → List Probed → List SeenAt
-frames_of names probed = flat_map (λ p. map (seen_at names) (frames_in p)) probed
+abbrev pub frames_of : Names → List Probed → List TypeStateAt
+frames_of names probed = flat_map (λ p. map (type_state_at names) (frames_in p)) probed
 
 -- the classes that the frames of the layout name are numbers of so many names
 abbrev pub HasNumberedFrames : ℕ → Probed → Type 0

@@ -1,6 +1,6 @@
 -- The twin of a class: the same class with its probes, and one more field and method.
 use Rattle.std.specs.Prelude.{◌≡◌, ◌⊎◌, ⊤, ℕ, ℤ, List, [], ◌∷◌, ◌++◌, Some, codes, slice_get}
-use Rattle.jc_methods.specs.Held.{Names}
+use Rattle.jc_methods.specs.VerificationTypes.{Names}
 use Rattle.jc_methods.specs.declared.body.Body.{Body}
 use Rattle.jc_pool.specs.Lookup.{utf8_of, class_name_of, string_of, long_of, member_of}
 use Rattle.jc_pool.specs.Pool.{PoolValue}
@@ -8,13 +8,15 @@ use Rattle.jc_class.specs.declared.class_file.Attribute.{Attribute}
 use Rattle.jc_class.specs.declared.class_file.ClassFile.{ClassFile}
 use Rattle.jc_class.specs.declared.class_file.Member.{Member}
 use Rattle.jc_body.specs.BodyOf.{BodyOfAnySize}
-use Rattle.jc_emit.specs.Added.{InitPlaces, data_name, data_type, data_flags, init_name, init_type, init_flags}
+use Rattle.jc_emit.specs.Added.{InitPlaces}
+use Rattle.jc_methods.specs.ProbeMembers.{data_name, data_type, data_flags, init_name, init_type, init_flags}
 use Rattle.jc_emit.specs.Twin.{Twin}
 use Rattle.jc_instrument.specs.Analysis.{all_probes}
 use Rattle.jc_instrument.specs.GrownPool.{IsGrown}
 use Rattle.jc_code.specs.InitText.{init_text}
-use Rattle.jc_instrument.specs.Needed.{name_of, signed_id, data_field, fetch_method, needs_of}
-use Rattle.jc_instrument.specs.Works.{Work, bodies_of, AreWorks}
+use Rattle.jc_instrument.specs.Needed.{name_of, signed_id, needs_of}
+use Rattle.jc_verify.specs.Written.{data_field, fetch_method}
+use Rattle.jc_instrument.specs.BodiesWithStates.{BodyWithStates, bodies_of, AreBodiesWithStates}
 
 -- ---- what stays
 
@@ -71,7 +73,7 @@ pub record IsInitMethod (pool : PoolValue) (owner : List ℕ) (id : ℤ) (count 
 -- ---- the bodies
 
 -- The twin of a body is the body of the method with its number, whatever the number of its instructions times its slots is.
-pub record HasTwin (names new_names : Names) (twin : ClassFile) (w : Work) : Type 0 where
+pub record HasTwin (names new_names : Names) (twin : ClassFile) (w : BodyWithStates) : Type 0 where
   pub body : Body
   pub is : BodyOfAnySize new_names twin w.body.method body
   pub twin_is : Twin names new_names w.states w.first w.body body
@@ -79,7 +81,7 @@ pub record HasTwin (names new_names : Names) (twin : ClassFile) (w : Work) : Typ
 -- ---- the class
 
 -- Outside of code the two are the same, but for what is needed of the pool, one more field and one more method.
-pub record IsSameOutside (id : ℕ) (names : Names) (array : ℕ) (works : List Work) (c twin : ClassFile) : Type 0 where
+pub record IsSameOutside (id : ℕ) (names : Names) (array : ℕ) (works : List BodyWithStates) (c twin : ClassFile) : Type 0 where
   pub minor : twin.minor ≡ c.minor
   pub major : twin.major ≡ c.major
   pub flags : twin.flags ≡ c.flags
@@ -102,7 +104,7 @@ pub record TwinClass (id : ℕ) (c twin : ClassFile) : Type 0 where
   pub names : Names
   pub new_names : Names
   pub array : ℕ
-  pub works : List Work
-  pub are : AreWorks names array c works
+  pub works : List BodyWithStates
+  pub are : AreBodiesWithStates names array c works
   pub outside : IsSameOutside id names array works c twin
-  pub twins : (i : ℕ) (w : Work) → slice_get works i ≡ Some w → HasTwin names new_names twin w
+  pub twins : (i : ℕ) (w : BodyWithStates) → slice_get works i ≡ Some w → HasTwin names new_names twin w

@@ -1,6 +1,6 @@
 -- The one twin class that is written for a class.
 use Rattle.std.specs.Prelude.{◌≡◌, ℕ, ◌≤◌, List, [], ◌∷◌, ◌++◌, length, map, Option, Some, None, codes, nat_eq, if◌then◌else◌}
-use Rattle.jc_methods.specs.Held.{Names}
+use Rattle.jc_methods.specs.VerificationTypes.{Names}
 use Rattle.jc_bytes.specs.PlainLists.{map_from}
 use Rattle.jc_pool.specs.Pool.{PoolValue}
 use Rattle.jc_class.specs.ClassId.{class_id}
@@ -9,19 +9,20 @@ use Rattle.jc_class.specs.declared.class_file.Attribute.{Attribute}
 use Rattle.jc_class.specs.declared.class_file.ClassFile.{ClassFile}
 use Rattle.jc_class.specs.declared.class_file.Member.{Member}
 use Rattle.jc_body.specs.Attributes.{has_name}
-use Rattle.jc_emit.specs.Added.{InitPlaces, data_flags, init_flags}
+use Rattle.jc_emit.specs.Added.{InitPlaces}
+use Rattle.jc_methods.specs.ProbeMembers.{data_flags, init_flags}
 use Rattle.jc_instrument.specs.Analysis.{all_probes}
 use Rattle.jc_code.specs.CodeText.{attribute}
 use Rattle.jc_code.specs.InitText.{init_text}
 use Rattle.jc_code.specs.TwinCode.{twin_code}
 use Rattle.jc_instrument.specs.Needed.{TakesNeeds}
-use Rattle.jc_instrument.specs.Works.{Work, bodies_of, AreWorks, emitted_of}
+use Rattle.jc_instrument.specs.BodiesWithStates.{BodyWithStates, bodies_of, AreBodiesWithStates, emitted_of}
 use Rattle.jc_instrument.specs.declared.needs.MemberPlaces.{MemberPlaces}
 
 -- ---- a method
 
 -- the work of the method with this number, if it has code
-abbrev pub work_of : ℕ → List Work → Option Work
+abbrev pub work_of : ℕ → List BodyWithStates → Option BodyWithStates
 work_of number [] = None
 work_of number (w ∷ works) = if nat_eq w.body.method number then Some w else work_of number works
 
@@ -29,11 +30,11 @@ work_of number (w ∷ works) = if nat_eq w.body.method number then Some w else w
 abbrev pub with_code : PoolValue → List ℕ → Attribute → Attribute
 with_code pool code a = if has_name pool (codes "Code") a then attribute a.name code else a
 
-abbrev pub twin_method : (old : PoolValue) → (code : Work → List ℕ) → Member → Option Work → Member
+abbrev pub twin_method : (old : PoolValue) → (code : BodyWithStates → List ℕ) → Member → Option BodyWithStates → Member
 twin_method old code method None = method
 twin_method old code method (Some w) = record method { attributes = map (with_code old (code w)) method.attributes }
 
-abbrev pub twin_methods : (old : PoolValue) → (code : Work → List ℕ) → List Work → List Member → List Member
+abbrev pub twin_methods : (old : PoolValue) → (code : BodyWithStates → List ℕ) → List BodyWithStates → List Member → List Member
 twin_methods old code works methods = map_from (λ number method. twin_method old code method (work_of number works)) 0 methods
 
 -- ---- the added members
@@ -56,7 +57,7 @@ init_member p count = record {
 
 -- The class with this pool, in which the members' entries stand at these places: each method with code has its twin's, and the
 -- field and the method go last.
-unfoldable pub twin_class : Names → (array : ℕ) → ClassFile → List Work → PoolValue → MemberPlaces → ClassFile
+unfoldable pub twin_class : Names → (array : ℕ) → ClassFile → List BodyWithStates → PoolValue → MemberPlaces → ClassFile
 twin_class names array c works pool places = record {
   minor = c.minor;
   major = c.major;
@@ -73,8 +74,8 @@ twin_class names array c works pool places = record {
 }
 
 -- the twin class that is written for a class with this id, whose works are these
-pub record IsWritten (id : ℕ) (names : Names) (array : ℕ) (works : List Work) (c twin : ClassFile) : Type 0 where
-  pub are : AreWorks names array c works
+pub record IsWritten (id : ℕ) (names : Names) (array : ℕ) (works : List BodyWithStates) (c twin : ClassFile) : Type 0 where
+  pub are : AreBodiesWithStates names array c works
   pub pool : PoolValue
   pub places : MemberPlaces
   pub takes : TakesNeeds id names array c works pool places
@@ -84,7 +85,7 @@ pub record IsWritten (id : ℕ) (names : Names) (array : ℕ) (works : List Work
 -- the twin class that is written for a class with this id, with classes by their numbers in this list of names
 pub record IsWrittenUnder (id : ℕ) (names : Names) (c twin : ClassFile) : Type 0 where
   pub array : ℕ
-  pub works : List Work
+  pub works : List BodyWithStates
   pub written : IsWritten id names array works c twin
 
 -- the bytes are a class, and the text is that of the twin class that is written for it
@@ -93,7 +94,7 @@ pub record IsTwinText (bytes text : List ℕ) : Type 0 where
   pub file_is : ClassText bytes file
   pub names : Names
   pub array : ℕ
-  pub works : List Work
+  pub works : List BodyWithStates
   pub twin : ClassFile
   pub written : IsWritten (class_id bytes) names array works file twin
   pub text_is : ClassText text twin

@@ -2,7 +2,7 @@
 ghost use Rattle.std.specs.Prelude.{◌≡◌, ◌⊎◌, ◌≤◌, ⊤, length, Some, None, IfOk, IfErr, MatchResult};
 ghost use Rattle.jc_bytes.specs.Reader.{most_read};
 ghost use Rattle.jc_bytes.specs.declared.refusal.Refusal.{Refusal as Reason};
-ghost use Rattle.jc_kinds.specs.Answers.{Said};
+ghost use Rattle.jc_bytes.specs.Failing.{Said};
 ghost use Rattle.jc_instrument.specs.Analysis.{IsAnalysis};
 ghost use Rattle.jc_instrument.specs.Reasons.{AnalysisReason};
 ghost use Rattle.jc_instrument.specs.Steps.{IsAnswer};

@@ -1,11 +1,11 @@
 //! The bodies of a class.
 ghost use Rattle.std.specs.Prelude.{◌<◌, ◌≤◌, ◌+◌, length, All, IfOk, IfErr, OnOk};
-ghost use Rattle.jc_methods.specs.Held.{Grows};
+ghost use Rattle.jc_methods.specs.VerificationTypes.{Grows};
 ghost use Rattle.jc_bytes.specs.Reader.{most_read};
 ghost use Rattle.jc_methods.specs.WellMade.{IsWellMade};
 ghost use Rattle.jc_class.specs.Writable.{IsClassFile};
 ghost use Rattle.jc_class.specs.Sizes.{BodiesWithin};
-ghost use Rattle.jc_kinds.specs.Answers.{Said};
+ghost use Rattle.jc_bytes.specs.Failing.{Said};
 ghost use Rattle.jc_instrument.specs.Bodies.{AreBodies, AreBodiesOf};
 ghost use Rattle.jc_instrument.specs.Causes.{NoCause, IsFirstCause};
 ghost use Rattle.jc_instrument.specs.KeptStates.{places_kept, AreKeptStates};

@@ -1,8 +1,9 @@
 //! The kind check of the bodies of a class.
 ghost use Rattle.std.specs.Prelude.{◌≡◌, ◌+◌, ◌≤◌, length, All, IfOk, IfErr, IfSome, OnOk, OnErr};
-ghost use Rattle.jc_methods.specs.Held.{Grows, AreNumberedFrames};
+ghost use Rattle.jc_methods.specs.VerificationTypes.{Grows, AreNumberedFrames};
 ghost use Rattle.jc_methods.specs.WellMade.{IsWellMade};
-ghost use Rattle.jc_kinds.specs.Answers.{AreStates, IsKindRefusal, Said};
+ghost use Rattle.jc_kinds.specs.Answers.{AreStates, IsKindRefusal};
+ghost use Rattle.jc_bytes.specs.Failing.{Said};
 ghost use Rattle.jc_kinds.specs.Checked.{Checked};
 ghost use Rattle.jc_instrument.specs.KeptStates.{places_of, places_if_kept, places_kept, PutsStates, AreKeptStates};
 ghost use Rattle.jc_instrument.specs.Steps.{IsFrameRefusal, KeepsClash, IsMissingIn};

@@ -25,7 +25,7 @@ fn has_added_name(pool: &Pool, member: &Member) -> bool
     ensures { IsTrue result ↔ HasAddedName pool.now member.now }
 {
     match pool.utf8_at(member.name) {
-        Ok(name) => { name == b"$jacocoInit".as_slice() || name == b"$jacocoData".as_slice() }
+        Ok(name) => { name == INIT_NAME || name == DATA_NAME }
         Err(_) => false,
     }
 }
@@ -41,8 +41,7 @@ fn some_added(pool: &Pool, members: &[Member]) -> bool
 fn names_runtime(pool: &Pool) -> bool
     ensures { IsTrue result ↔ NamesRuntime pool.now }
 {
-    pool.find_class(b"org/jacoco/agent/rt/internal/Offline")
-        .is_some()
+    pool.find_class(RUNTIME_CLASS).is_some()
 }
 
 /// Whether the class is instrumented already.

@@ -1,7 +1,7 @@
 //! Laws of instrumented classes, and of the reasons for which a class file isn't instrumented.
 ghost use Rattle.std.specs.Prelude.{◌≡◌, ℕ, List, Option, Some, None};
 ghost use Rattle.std.specs.List.{AllByRecursion};
-ghost use Rattle.jc_methods.specs.Held.{Names};
+ghost use Rattle.jc_methods.specs.VerificationTypes.{Names};
 ghost use Rattle.jc_bytes.specs.declared.refusal.Refusal.{Refusal};
 ghost use Rattle.jc_pool.specs.Pool.{PoolValue};
 ghost use Rattle.jc_class.specs.declared.class_file.ClassFile.{ClassFile as Class};
@@ -11,7 +11,7 @@ ghost use Rattle.jc_instrument.specs.Reasons.{AnalysisReason};
 ghost use Rattle.jc_instrument.specs.Refused.{Reason, IsAccepted};
 ghost use Rattle.jc_instrument.specs.TwinClass.{IsSameOutside};
 ghost use Rattle.jc_instrument.specs.TwinText.{IsWritten};
-ghost use Rattle.jc_instrument.specs.Works.{Work};
+ghost use Rattle.jc_instrument.specs.BodiesWithStates.{BodyWithStates};
 
 /// A class file that isn't analysed isn't instrumented, for the same reason; so one that is accepted is analysed. What
 /// is accepted has no reason for which it isn't instrumented.
@@ -38,8 +38,8 @@ pub fn each_pool_grows()
 /// One twin class is written of a class with this id, whatever the names with which its bodies are read. Outside of code
 /// it is the class, but for what its pool needs, the field and the method.
 pub fn each_class_has_one_twin()
-    ensures one { (id array other : ℕ) (names others : Names) (works more : List Work) (c twin same : Class)
+    ensures one { (id array other : ℕ) (names others : Names) (works more : List BodyWithStates) (c twin same : Class)
         → IsWritten id names array works c twin → IsWritten id others other more c same → twin ≡ same }
-    ensures outside { (id array : ℕ) (names : Names) (works : List Work) (c twin : Class)
+    ensures outside { (id array : ℕ) (names : Names) (works : List BodyWithStates) (c twin : Class)
         → IsWritten id names array works c twin → IsSameOutside id names array works c twin }
 {}

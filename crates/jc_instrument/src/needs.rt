@@ -4,26 +4,19 @@ ghost use Rattle.std.specs.List.{AllByRecursion};
 ghost use Rattle.jc_bytes.specs.Texts.{IsShortText};
 ghost use Rattle.jc_pool.specs.Adding.{Extends, RefusesFull};
 ghost use Rattle.jc_frames.specs.FullTable.{RefusesClasses, TakesClasses, named_by_all};
-ghost use Rattle.jc_kinds.specs.Answers.{Said};
+ghost use Rattle.jc_bytes.specs.Failing.{Said};
 ghost use Rattle.jc_instrument.specs.Contents.{Takes, TakesEach};
 ghost use Rattle.jc_instrument.specs.Needed.{signed_id, member_needs, needed, place_list, TakesNeeded};
-ghost use Rattle.jc_instrument.specs.Taking.{content_of, frames_in, frames_of, HasNumberedFrames, IsFullPool, RefusesEach};
+ghost use Rattle.jc_instrument.specs.Taking.{content_needed, frames_in, frames_of, HasNumberedFrames, IsFullPool, RefusesEach};
 
 use crate::probed::Probed;
 use jc_bytes::{Fail, Names, Refusal, RefusalKind};
 use jc_frames::take_classes;
-use jc_methods::FrameAt;
+use jc_methods::{
+    DATA_NAME, FETCH_NAME, FETCH_TYPE, FrameAt, INIT_NAME, INIT_TYPE, PROBE_ARRAY, RUNTIME_CLASS,
+};
 use jc_pool::{Pool, PoolFull};
 use std::alloc::Global;
-
-/// The class of the array of probes, and its descriptor.
-const PROBE_ARRAY: &[u8] = b"[Z";
-
-/// The class whose method makes the array.
-const RUNTIME_CLASS: &[u8] = b"org/jacoco/agent/rt/internal/Offline";
-
-/// The descriptor of that method.
-const FETCH_TYPE: &[u8] = b"(JLjava/lang/String;I)[Z";
 
 /// The tag of a Fieldref entry (JVM Specification 4.4, table 4.4-A).
 const FIELD: u8 = 9;
@@ -115,19 +108,19 @@ fn take(
     pool: &mut Pool,
 ) -> Result<u16, Fail<PoolFull>>
     requires { IsShortText owner.now }
-    ensures ok { IfOk result (Takes pool.old (content_of owner.now (signed_id id) need) pool.new) }
-    ensures full { RefusesFull (Takes pool.old (content_of owner.now (signed_id id) need)) result }
+    ensures ok { IfOk result (Takes pool.old (content_needed owner.now (signed_id id) need) pool.new) }
+    ensures full { RefusesFull (Takes pool.old (content_needed owner.now (signed_id id) need)) result }
     ensures extends { Extends pool.old pool.new }
     ensures fits { OnOk result (length pool.new ≤ 65535) }
 {
     match need {
-        Need::DataName => pool.add_utf8(alloc, b"$jacocoData"),
+        Need::DataName => pool.add_utf8(alloc, DATA_NAME),
         Need::DataType => pool.add_utf8(alloc, PROBE_ARRAY),
-        Need::InitName => pool.add_utf8(alloc, b"$jacocoInit"),
-        Need::InitType => pool.add_utf8(alloc, b"()[Z"),
-        Need::Field => pool.add_member(alloc, FIELD, owner, b"$jacocoData", PROBE_ARRAY),
-        Need::Method => pool.add_member(alloc, METHOD, owner, b"$jacocoInit", b"()[Z"),
-        Need::Fetch => pool.add_member(alloc, METHOD, RUNTIME_CLASS, b"getProbes", FETCH_TYPE),
+        Need::InitName => pool.add_utf8(alloc, INIT_NAME),
+        Need::InitType => pool.add_utf8(alloc, INIT_TYPE),
+        Need::Field => pool.add_member(alloc, FIELD, owner, DATA_NAME, PROBE_ARRAY),
+        Need::Method => pool.add_member(alloc, METHOD, owner, INIT_NAME, INIT_TYPE),
+        Need::Fetch => pool.add_member(alloc, METHOD, RUNTIME_CLASS, FETCH_NAME, FETCH_TYPE),
         Need::Code => pool.add_utf8(alloc, b"Code"),
         Need::Frames => pool.add_utf8(alloc, b"StackMapTable"),
         Need::Id => pool.add_long(alloc, id.cast_signed()),

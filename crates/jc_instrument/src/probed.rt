@@ -2,9 +2,10 @@
 ghost use Rattle.std.specs.Option.{ForSome};
 ghost use Rattle.std.specs.Prelude.{◌≡◌, ◌≤◌, ℕ, true, length, All, IfOk, IfErr};
 ghost use Rattle.jc_methods.specs.FrameOrder.{RiseFrom};
-ghost use Rattle.jc_methods.specs.Held.{Grows, AreNumberedFrames};
+ghost use Rattle.jc_methods.specs.VerificationTypes.{Grows, AreNumberedFrames};
 ghost use Rattle.jc_methods.specs.WellMade.{IsWellMade};
-ghost use Rattle.jc_kinds.specs.Answers.{AreStates, Said};
+ghost use Rattle.jc_kinds.specs.Answers.{AreStates};
+ghost use Rattle.jc_bytes.specs.Failing.{Said};
 ghost use Rattle.jc_plan.specs.Plan.{plan_of};
 ghost use Rattle.jc_emit.specs.Placing.{HasPlan};
 ghost use Rattle.jc_emit.specs.Emission.{emission, IsArrayNumber};
@@ -24,11 +25,8 @@ use jc_code::merged_frames;
 use jc_emit::emit;
 use jc_kinds::states;
 use jc_layout::{Laid, layout};
-use jc_methods::{Body, Emitted, FrameAt, Plan, State};
+use jc_methods::{Body, Emitted, FrameAt, PROBE_ARRAY, Plan, State};
 use std::alloc::Global;
-
-/// The name of the class of the array of probes.
-const PROBE_ARRAY: &[u8] = b"[Z";
 
 /// The instrumented code of the body of a method.
 #[derive(Debug, Drop)]

@@ -3,7 +3,7 @@ ghost use Rattle.std.specs.Prelude.{◌≡◌, ◌≤◌, false, All, IfOk, IfEr
 ghost use Rattle.jc_bytes.specs.Reader.{most_read};
 ghost use Rattle.jc_class.specs.Sizes.{BodiesWithin};
 ghost use Rattle.jc_class.specs.Writable.{IsClassFile};
-ghost use Rattle.jc_kinds.specs.Answers.{Said};
+ghost use Rattle.jc_bytes.specs.Failing.{Said};
 ghost use Rattle.jc_instrument.specs.Causes.{IsFirstCause};
 ghost use Rattle.jc_instrument.specs.LeftAlone.{is_left_alone};
 ghost use Rattle.jc_instrument.specs.ProbedClass.{IsProbedClass, making_causes};

@@ -8,10 +8,10 @@ ghost use Rattle.jc_class.specs.ClassFormat.{HasClass};
 ghost use Rattle.jc_class.specs.ClassId.{class_id};
 ghost use Rattle.jc_class.specs.Sizes.{BodiesWithin};
 ghost use Rattle.jc_class.specs.Writable.{IsClassFile};
-ghost use Rattle.jc_kinds.specs.Answers.{Said};
+ghost use Rattle.jc_bytes.specs.Failing.{Said};
 ghost use Rattle.jc_pool.specs.Lookup.{class_name_of};
 ghost use Rattle.jc_instrument.specs.Causes.{IsFirstCause};
-ghost use Rattle.jc_instrument.specs.Changing.{IsChanged, changing_causes, has_too_long, is_too_long};
+ghost use Rattle.jc_instrument.specs.Changing.{GetsProbes, changing_causes, has_too_long, is_too_long};
 ghost use Rattle.jc_instrument.specs.InstrumentedFile.{IsAsGiven, IsInstrumentedFile};
 ghost use Rattle.jc_instrument.specs.LeftAlone.{is_left_alone};
 ghost use Rattle.jc_instrument.specs.Refused.{Reason};
@@ -95,7 +95,7 @@ fn changed(alloc: Global, id: u64, class: ClassFile) -> Result<Instrumented, Fai
     requires class { IsClassFile class }
     requires sizes { All (λ m. BodiesWithin most_read m.attributes) class.methods }
     requires changes { is_left_alone class ≡ false }
-    ensures changed { IfOk result (IsChanged id class) }
+    ensures changed { IfOk result (GetsProbes id class) }
     ensures refused { IfErr result (λ e. Said e (IsFirstCause (changing_causes id class))) }
 {
     let mut names = Names::new(alloc)?;

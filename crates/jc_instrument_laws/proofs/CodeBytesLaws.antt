@@ -29,7 +29,7 @@ use Rattle.jc_insn.specs.Items.{padding, IsItem, operands, wide_operands, table_
 use Rattle.jc_insn.specs.Sizes.{is_narrow_inc}
 use Rattle.jc_insn.specs.Spells.{Spells, SpellsFrom}
 use Rattle.jc_insn.specs.Writing.{short, word, difference, signed_byte, signed_short, push_text, short_code, local_text, inc_text, constant_text, jump_text, arm_text, pad_text, insn_text, code_text}
-use Rattle.jc_insn.specs.declared.item.Item.TheVariants as items
+use Rattle.jc_insn.specs.declared.item.CodeItem.TheVariants as items
 use Rattle.jc_insn.proofs.PlacesLaws.{well_formed_with}
 use Rattle.jc_insn.proofs.ItemReadingLaws.{insn_is, not_subroutine}
 use Rattle.jc_plan.proofs.CountLaws.{each_joined}
@@ -265,7 +265,7 @@ module _ (b : Body) (first : ℕ) (small : AllByRecursion HasByte b.code) where
 
   image_byte : (i : ℕ) (insn : Insn) (flow : Flow) → HasByte insn → AllItems (image_part b first false i insn flow)
   image_byte i insn flows.GoesOn h = (slot_byte b.arg_slots insn h, tt)
-  image_byte i insn flows.Tests h = tests_byte i insn (late_probe b first i) h
+  image_byte i insn flows.Branches h = tests_byte i insn (late_probe b first i) h
   image_byte i insn flows.Jumps h = (places_byte (land_of b first false) insn h, tt)
   image_byte i insn flows.Switches h = (places_byte _ insn h, arms_byte (land_of b first false) (arms_at b.code i))
   image_byte i insn flows.Returns h = (h, tt)

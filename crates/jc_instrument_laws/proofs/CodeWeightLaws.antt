@@ -57,7 +57,7 @@ module _ (b : Body) (first : ℕ) where
   image_weight : (i : ℕ) (insn : Insn) (flow : Flow) → arms_at b.code i ≡ arms_by i insn flow
       → 5 + 7 * arms_size b first i ≤ 5 * weight (image_part b first false i insn flow)
   image_weight i insn flows.GoesOn none = let no_arms = ap (arm_sizes (probe_of b first)) none in omega (arith, no_arms)
-  image_weight i insn flows.Tests none =
+  image_weight i insn flows.Branches none =
       let no_arms = ap (arm_sizes (probe_of b first)) none in
       let some = tests_weight i insn (late_probe b first i) in
       omega (arith, no_arms, some)

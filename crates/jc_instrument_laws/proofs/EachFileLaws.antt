@@ -3,7 +3,7 @@ use Rattle.std.proofs.Common.{◌≡◌, ◌⊎◌, inl, inr, ℕ, ℤ, ◌<◌,
 use Rattle.std.specs.List.{AllByRecursion}
 use Rattle.std.proofs.lemmas.Bool.{cases_lt}
 use Rattle.jc_bytes.specs.ByteLists.{AreBytes}
-use Rattle.jc_methods.specs.Held.{SeenAt}
+use Rattle.jc_methods.specs.VerificationTypes.{TypeStateAt}
 use Rattle.jc_bytes.specs.Reader.{most_read}
 use Rattle.jc_bytes.specs.declared.refusal.Refusal.{Refusal}
 use Rattle.jc_bytes.specs.declared.refusal.RefusalKind.TheVariants as kinds
@@ -25,7 +25,7 @@ use Rattle.jc_instrument.specs.Reasons.{analysis_causes, code_causes, interface_
 use Rattle.jc_instrument.specs.Refused.{Reason}
 use Rattle.jc_instrument.specs.RoomCauses.{HasFullPool, HasTooLargeCode, early_room_causes, room_causes}
 use Rattle.jc_instrument.specs.TwinText.{IsWritten, twin_class}
-use Rattle.jc_instrument.specs.Works.{bodies_of, all_frames}
+use Rattle.jc_instrument.specs.BodiesWithStates.{bodies_of, all_frames}
 use Rattle.jc_instrument.specs.declared.needs.MemberPlaces.{MemberPlaces}
 use Rattle.jc_instrument.specs.declared.whole.Instrumented.{Instrumented}
 use Rattle.jc_instrument.proofs.CauseLaws.{first_behind, first_in_front, none_in_both}
@@ -49,7 +49,7 @@ making c = early_room_causes c ++ (HasTooLargeCode c ∷ [])
 
 -- ---- what is needed of a pool
 
-all_entire : (owner : List ℕ) (id : ℤ) (frames : List SeenAt) → AllByRecursion IsEntire (needed owner id frames)
+all_entire : (owner : List ℕ) (id : ℤ) (frames : List TypeStateAt) → AllByRecursion IsEntire (needed owner id frames)
 all_entire owner id frames = (tt, (tt, (tt, (tt, (tt, (tt, (tt, (tt, (tt, (tt, (tt, (tt, all_classes_entire frames))))))))))))
 
 -- a pool that takes it, whatever its count

@@ -8,7 +8,7 @@ use Rattle.jc_methods.specs.declared.body.Body.{Body}
 use Rattle.jc_methods.specs.declared.body.FrameAt.{FrameAt}
 use Rattle.jc_methods.specs.declared.kind.State.{State}
 use Rattle.jc_bytes.proofs.FirstSeenLaws.{contains_one}
-use Rattle.jc_bytes.proofs.TestLaws.{none_in}
+use Rattle.jc_bytes.proofs.BooleanLaws.{none_in}
 use Rattle.jc_plan.specs.declared.branch.Branch.{Branch}
 use Rattle.jc_plan.specs.Plan.{lead_probe}
 use Rattle.jc_plan.specs.Probed.{probe_of}
@@ -16,7 +16,7 @@ use Rattle.jc_emit.specs.Emission.{emission, frame, frame_if, moved_state, has_f
 use Rattle.jc_emit.specs.Items.{lead_of, land_of, image_of}
 use Rattle.jc_emit.specs.Sizes.{insn_at, late_probe, arms_at, arm_sizes, hop_size}
 use Rattle.jc_emit.specs.TwinFrames.{state_at, left_by, state_behind}
-use Rattle.jc_emit.proofs.FrameLists.{in_piece, if_listed}
+use Rattle.jc_emit.proofs.FrameListsLaws.{in_piece, if_listed}
 use Rattle.jc_layout.specs.Layout.{is_wide}
 use Rattle.jc_layout.specs.Merged.{merged, with_frame}
 use Rattle.jc_layout.proofs.MergedLaws.{merged_cases}

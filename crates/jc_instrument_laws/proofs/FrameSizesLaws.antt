@@ -6,7 +6,7 @@ use Rattle.std.proofs.Math.ListN.{drop_of_length-le}
 use Rattle.std.proofs.lemmas.Bool.{cases_lt}
 use Rattle.std.proofs.lemmas.Grind.{flat_map-append}
 use Rattle.std.proofs.lemmas.List.{take-append-drop, length-drop}
-use Rattle.jc_methods.specs.Held.{Held, top, int, float, double, long, null, uninit_this, object, uninit, SeenAt}
+use Rattle.jc_methods.specs.VerificationTypes.{VerificationType, top, int, float, double, long, null, uninit_this, object, uninit, TypeStateAt}
 use Rattle.jc_class.specs.declared.class_file.Attribute.{Attribute}
 use Rattle.jc_frames.specs.Frames.{trimmed, values_in}
 use Rattle.jc_frames.specs.FullFrames as full
@@ -28,11 +28,11 @@ frame_short_count x = refl
 
 -- ---- frames
 
-values_most : (hs : List Held) → length (values_in hs) ≤ length hs
+values_most : (hs : List VerificationType) → length (values_in hs) ≤ length hs
 values_most hs = let a = trimmed_few hs in let c = values_few false (trimmed hs) in omega (arith, a, c)
 
 module _ (p : full.Places) where
-  type_most : (h : Held) → length (full.type_text p h) ≤ 3
+  type_most : (h : VerificationType) → length (full.type_text p h) ≤ 3
   type_most top = omega arith
   type_most int = omega arith
   type_most float = omega arith
@@ -43,7 +43,7 @@ module _ (p : full.Places) where
   type_most (object name) = let count = frame_short_count (p.class name) in omega (arith, count)
   type_most (uninit at) = let count = frame_short_count (p.start at) in omega (arith, count)
 
-  all_most : (hs : List Held) → length (flat_map (full.type_text p) hs) ≤ 3 * length hs
+  all_most : (hs : List VerificationType) → length (flat_map (full.type_text p) hs) ≤ 3 * length hs
   all_most [] = omega arith
   all_most (h ∷ hs) =
       let one = type_most h in
@@ -51,14 +51,14 @@ module _ (p : full.Places) where
       let both = length-append (full.type_text p h) (flat_map (full.type_text p) hs) in
       omega (arith, one, rest, both)
 
-  types_most : (hs : List Held) → length (full.types_text p hs) ≤ 2 + 3 * length hs
+  types_most : (hs : List VerificationType) → length (full.types_text p hs) ≤ 2 + 3 * length hs
   types_most hs =
       let count = frame_short_count (length hs) in
       let all = all_most hs in
       let both = length-append (full.short (length hs)) (flat_map (full.type_text p) hs) in
       omega (arith, count, all, both)
 
-  frame_most : (base : ℕ) (f : SeenAt) → length (full.full_text p base f) ≤ 7 + 3 * (length f.state.locals + length f.state.stack)
+  frame_most : (base : ℕ) (f : TypeStateAt) → length (full.full_text p base f) ≤ 7 + 3 * (length f.state.locals + length f.state.stack)
   frame_most base f =
       let count = frame_short_count (p.start f.at - base) in
       let values = values_most f.state.locals in
@@ -68,7 +68,7 @@ module _ (p : full.Places) where
       let more = length-append (full.types_text p (values_in f.state.locals)) (full.types_text p f.state.stack) in
       omega (arith, count, values, locals, stack, both, more)
 
-  frames_most : (base most : ℕ) (list : List SeenAt) → AllByRecursion (λ f. length f.state.locals + length f.state.stack ≤ most) list
+  frames_most : (base most : ℕ) (list : List TypeStateAt) → AllByRecursion (λ f. length f.state.locals + length f.state.stack ≤ most) list
       → length (full.full_texts p base list) ≤ length list * (7 + 3 * most)
   frames_most base most [] all = omega arith
   frames_most base most (f ∷ list) all =
@@ -81,7 +81,7 @@ module _ (p : full.Places) where
       let next = ap (λ (n : ℕ). n * (7 + 3 * most)) (let e : suc (length list) ≡ 1 + length list = omega arith in e) in
       omega (arith, one, few, rest, both, split, once, next)
 
-  pub table_most : (most : ℕ) (list : List SeenAt) → AllByRecursion (λ f. length f.state.locals + length f.state.stack ≤ most) list
+  pub table_most : (most : ℕ) (list : List TypeStateAt) → AllByRecursion (λ f. length f.state.locals + length f.state.stack ≤ most) list
       → length (full.table_text p list) ≤ 2 + length list * (7 + 3 * most)
   table_most most list all =
       let count = frame_short_count (length list) in

@@ -5,14 +5,14 @@ use Rattle.std.specs.List.{AllByRecursion}
 use Rattle.std.proofs.lemmas.Bool.{cases_lt}
 use Rattle.std.proofs.lemmas.List.{get_or_past, length-map}
 use Rattle.std.proofs.lemmas.Option.{slice_get-get_or}
-use Rattle.jc_methods.specs.Held.{Names, Held, top, int, float, double, long, null, uninit_this, object, uninit, class_names, held, seen, SeenAt, seen_at}
+use Rattle.jc_methods.specs.VerificationTypes.{Names, VerificationType, top, int, float, double, long, null, uninit_this, object, uninit, class_names, verification_type, type_state, TypeStateAt, type_state_at}
 use Rattle.jc_methods.specs.WellMade.{IsWellMadeOfAnySize}
 use Rattle.jc_methods.specs.declared.body.Body.{Body}
 use Rattle.jc_methods.specs.declared.body.FrameAt.{FrameAt}
 use Rattle.jc_methods.specs.declared.kind.Kind.{Kind}
 use Rattle.jc_methods.specs.declared.kind.Kind.TheVariants as kinds
 use Rattle.jc_methods.specs.declared.kind.State.{State}
-use Rattle.jc_bytes.proofs.TestLaws.{first_in, later_in}
+use Rattle.jc_bytes.proofs.BooleanLaws.{first_in, later_in}
 use Rattle.jc_frames.specs.Frames.{values_in}
 use Rattle.jc_frames.specs.FullTable.{named_by, named_by_all}
 use Rattle.jc_kinds.specs.Answers.{AreStates}
@@ -31,13 +31,13 @@ use Rattle.jc_instrument.proofs.WritableLaws.{slots_above, fewer_taken, put_in_c
 -- ---- values by their kinds
 
 abbrev KindNamed : Names → Kind → Type 0
-KindNamed names k = IsNamed (held names k)
+KindNamed names k = IsNamed (verification_type names k)
 
-to_kinds : (names : Names) (ks : List Kind) → AllNamed (map (held names) ks) → AllByRecursion (KindNamed names) ks
+to_kinds : (names : Names) (ks : List Kind) → AllNamed (map (verification_type names) ks) → AllByRecursion (KindNamed names) ks
 to_kinds names [] all = tt
 to_kinds names (k ∷ ks) all = (all.0, to_kinds names ks all.1)
 
-to_held : (names : Names) (ks : List Kind) → AllByRecursion (KindNamed names) ks → AllNamed (map (held names) ks)
+to_held : (names : Names) (ks : List Kind) → AllByRecursion (KindNamed names) ks → AllNamed (map (verification_type names) ks)
 to_held names [] all = tt
 to_held names (k ∷ ks) all = (all.0, to_held names ks all.1)
 
@@ -77,7 +77,7 @@ module _ (names : Names) (b : Body) (made : IsWellMadeOfAnySize b) (texts : HasT
       by (inl less) =
           let s = state_at states i in
           let is = are.each i s (slice_get-get_or states i no_state less) in
-          let named = state_named names b made texts i (seen names s) is.is in
+          let named = state_named names b made texts i (type_state names s) is.is in
           record {
             locals = let count = is.well_made.locals in omega (arith, count);
             stack = let above = slots_above s.stack in let most = is.well_made.stack in omega (arith, above, most);
@@ -101,11 +101,11 @@ module _ (names : Names) (b : Body) (made : IsWellMadeOfAnySize b) (texts : HasT
       })
 
   -- how many values the frame has, and that its classes have such names
-  pub record IsSmallFrame (f : SeenAt) : Type 0 where
+  pub record IsSmallFrame (f : TypeStateAt) : Type 0 where
     pub count : length f.state.locals + length f.state.stack ≤ b.max_locals + 1 + b.max_stack
     pub named : AreNamed f.state
 
-  small_frame : (f : FrameAt) → IsMoved b first states array f → IsSmallFrame (seen_at names f)
+  small_frame : (f : FrameAt) → IsMoved b first states array f → IsSmallFrame (type_state_at names f)
   small_frame f moved =
       let s = moved.state in
       let is = small s moved.of in
@@ -113,8 +113,8 @@ module _ (names : Names) (b : Body) (made : IsWellMadeOfAnySize b) (texts : HasT
       let images = map (image_kind place) s.locals in
       let locals_is : f.state.locals ≡ insert images b.arg_slots (kinds.Object array) = ap (λ (t : State). t.locals) moved.is in
       let stack_is : f.state.stack ≡ map (image_kind place) s.stack = ap (λ (t : State). t.stack) moved.is in
-      let a = length-map f.state.locals (held names) in
-      let c = length-map f.state.stack (held names) in
+      let a = length-map f.state.locals (verification_type names) in
+      let c = length-map f.state.stack (verification_type names) in
       let d = ap (λ (l : List Kind). length l) locals_is ∙ put_in_count b.arg_slots (kinds.Object array) images in
       let e = ap (λ (l : List Kind). length l) stack_is ∙ length-map s.stack (image_kind place) in
       let g = length-map s.locals (image_kind place) in
@@ -131,7 +131,7 @@ module _ (names : Names) (b : Body) (made : IsWellMadeOfAnySize b) (texts : HasT
       }
 
   small_frames : (frames : List FrameAt) → ((f : FrameAt) → Contains frames f → IsMoved b first states array f)
-      → AllByRecursion IsSmallFrame (map (seen_at names) frames)
+      → AllByRecursion IsSmallFrame (map (type_state_at names) frames)
   small_frames [] each = tt
   small_frames (f ∷ frames) each =
       (small_frame f (each f (first_in f frames)), small_frames frames (λ g c. each g (later_in f frames g c)))
@@ -141,7 +141,7 @@ module _ (names : Names) (b : Body) (made : IsWellMadeOfAnySize b) (texts : HasT
 
   -- ---- the names of classes
 
-  names_texts : (hs : List Held) → AllNamed hs → AllByRecursion IsText (class_names hs)
+  names_texts : (hs : List VerificationType) → AllNamed hs → AllByRecursion IsText (class_names hs)
   names_texts [] all = tt
   names_texts (object name ∷ hs) all = (all.0, names_texts hs all.1)
   names_texts (top ∷ hs) all = names_texts hs all.1
@@ -153,7 +153,7 @@ module _ (names : Names) (b : Body) (made : IsWellMadeOfAnySize b) (texts : HasT
   names_texts (uninit_this ∷ hs) all = names_texts hs all.1
   names_texts (uninit at ∷ hs) all = names_texts hs all.1
 
-  frames_texts : (frames : List SeenAt) → AllByRecursion IsSmallFrame frames → AllByRecursion IsText (named_by_all frames)
+  frames_texts : (frames : List TypeStateAt) → AllByRecursion IsSmallFrame frames → AllByRecursion IsText (named_by_all frames)
   frames_texts [] all = tt
   frames_texts (f ∷ frames) all =
       texts_both (named_by f) (named_by_all frames)

@@ -8,7 +8,7 @@ use Rattle.std.proofs.lemmas.Option.{none-some, same_Some, slice_get_within, get
 use Rattle.jc_bytes.specs.Descriptor.{IsMethodDescriptor}
 use Rattle.jc_methods.specs.DescriptorTypes.{method_type_in}
 use Rattle.jc_methods.specs.EntryState.{spread, in_locals, held_of, this_of, arguments, entry_seen, entry_of}
-use Rattle.jc_methods.specs.Held.{Names, Held, top, uninit_this, object, uninit, is_pair, Seen, SeenAt, seen_at}
+use Rattle.jc_methods.specs.VerificationTypes.{Names, VerificationType, top, uninit_this, object, uninit, is_pair, TypeState, TypeStateAt, type_state_at}
 use Rattle.jc_methods.specs.Starts.{insn_number}
 use Rattle.jc_methods.specs.InsnUse.{pool_place, Suits}
 use Rattle.jc_methods.specs.WellMade.{IsWellMadeOfAnySize, HasUse, what_used}
@@ -37,7 +37,7 @@ tops_named : (n : ℕ) → AllNamed (replicate n top)
 tops_named zero = tt
 tops_named (suc n) = (tt, tops_named n)
 
-spread_named : (values : List Held) → AllNamed values → AllNamed (spread values)
+spread_named : (values : List VerificationType) → AllNamed values → AllNamed (spread values)
 spread_named [] all = tt
 spread_named (h ∷ values) all = by (is_pair h) (spread_named values all.1)
   where
@@ -45,7 +45,7 @@ spread_named (h ∷ values) all = by (is_pair h) (spread_named values all.1)
     by true rest = (all.0, (tt, rest))
     by false rest = (all.0, rest)
 
-locals_named : (count : ℕ) (values : List Held) → AllNamed values → AllNamed (in_locals count values)
+locals_named : (count : ℕ) (values : List VerificationType) → AllNamed values → AllNamed (in_locals count values)
 locals_named count values all =
     named_both (spread values) (replicate (count - length (spread values)) top) (spread_named values all) (tops_named (count - length (spread values)))
 
@@ -69,31 +69,31 @@ entry_named owner name desc flags count o d described =
 
 -- ---- frames
 
-trimmed_named : (hs : List Held) → AllNamed hs → AllNamed (trimmed hs)
+trimmed_named : (hs : List VerificationType) → AllNamed hs → AllNamed (trimmed hs)
 trimmed_named [] all = tt
 trimmed_named (h ∷ hs) all = by h (trimmed hs) all.0 (trimmed_named hs all.1)
   where
-    by : (h : Held) (rest : List Held) → IsNamed h → AllNamed rest → AllNamed (without_last_top h rest)
+    by : (h : VerificationType) (rest : List VerificationType) → IsNamed h → AllNamed rest → AllNamed (without_last_top h rest)
     by top [] named all = tt
     by top (x ∷ rest) named all = (tt, all)
     by h rest named all = (named, all)
 
-from_named : (skips : Bool) (hs : List Held) → AllNamed hs → AllNamed (values_from skips hs)
+from_named : (skips : Bool) (hs : List VerificationType) → AllNamed hs → AllNamed (values_from skips hs)
 from_named skips [] all = tt
 from_named true (h ∷ hs) all = from_named false hs all.1
 from_named false (h ∷ hs) all = (all.0, from_named (is_pair h) hs all.1)
 
-pub values_named : (hs : List Held) → AllNamed hs → AllNamed (values_in hs)
+pub values_named : (hs : List VerificationType) → AllNamed hs → AllNamed (values_in hs)
 values_named hs all = from_named false (trimmed hs) (trimmed_named hs all)
 
-abbrev IfNamed : Option (List Held) → Type 0
-IfNamed o = (hs : List Held) → o ≡ Some hs → AllNamed hs
+abbrev IfNamed : Option (List VerificationType) → Type 0
+IfNamed o = (hs : List VerificationType) → o ≡ Some hs → AllNamed hs
 
-some_named : (hs : List Held) → AllNamed hs → IfNamed (Some hs)
+some_named : (hs : List VerificationType) → AllNamed hs → IfNamed (Some hs)
 some_named hs all js is = subst AllNamed (same_Some hs js is) all
 
 module _ (g : Ground) (read : IsReadPool g.pool) where
-  type_named : (item : TypeItem) (h : Held) → type_of g item ≡ Some h → IsNamed h
+  type_named : (item : TypeItem) (h : VerificationType) → type_of g item ≡ Some h → IsNamed h
   type_named (types.Object place) h is = by (class_name_of g.pool place) refl is
     where
       by : (o : Option (List ℕ)) → class_name_of g.pool place ≡ o → option_map object o ≡ Some h → IsNamed h
@@ -113,7 +113,7 @@ module _ (g : Ground) (read : IsReadPool g.pool) where
   type_named types.Null h is = subst IsNamed (same_Some _ h is) tt
   type_named types.UninitThis h is = subst IsNamed (same_Some _ h is) tt
 
-  front_named : (o : Option Held) (more : Option (List Held)) → ((h : Held) → o ≡ Some h → IsNamed h) → IfNamed more → IfNamed (in_front o more)
+  front_named : (o : Option VerificationType) (more : Option (List VerificationType)) → ((h : VerificationType) → o ≡ Some h → IsNamed h) → IfNamed more → IfNamed (in_front o more)
   front_named (Some h) (Some hs) one all js is = subst AllNamed (same_Some (h ∷ hs) js is) (one h refl, all hs refl)
   front_named (Some h) None one all js is = absurd (none-some js is)
   front_named None more one all js is = absurd (none-some js is)
@@ -132,7 +132,7 @@ module _ (g : Ground) (read : IsReadPool g.pool) where
       by false js is = absurd (none-some js is)
   values_of_named before (frames.Append delta added) all = λ js is. by (types_of g added) (types_named added) js is
     where
-      by : (o : Option (List Held)) → IfNamed o → IfNamed (option_map (λ more. before.values ++ more) o)
+      by : (o : Option (List VerificationType)) → IfNamed o → IfNamed (option_map (λ more. before.values ++ more) o)
       by None more js is = absurd (none-some js is)
       by (Some hs) more js is = subst AllNamed (same_Some _ js is) (named_both before.values hs all (more hs refl))
   values_of_named before (frames.Full delta locals stack) all = types_named locals
@@ -149,7 +149,7 @@ module _ (g : Ground) (read : IsReadPool g.pool) where
     frame : AreNamed f.frame.state
     next : AllNamed f.next.values
 
-  found_named : (offset : ℕ) (values stack : Option (List Held)) (f : Found) → IfNamed values → IfNamed stack
+  found_named : (offset : ℕ) (values stack : Option (List VerificationType)) (f : Found) → IfNamed values → IfNamed stack
       → found_if g offset values stack ≡ Some f → FoundNamed f
   found_named offset (Some values) (Some stack) f v s e = by (is_start g offset && fits_slots g values stack) e
     where
@@ -167,7 +167,7 @@ module _ (g : Ground) (read : IsReadPool g.pool) where
   frame_named before item f all e =
       found_named (offset_of before item) (values_of g before item) (stack_of g item) f (values_of_named before item all) (stack_of_named item) e
 
-  pub frames_named : (before : Before) (n : ℕ) (bytes : List ℕ) (list : List SeenAt) → AllNamed before.values → AreFrames g before n bytes list
+  pub frames_named : (before : Before) (n : ℕ) (bytes : List ℕ) (list : List TypeStateAt) → AllNamed before.values → AreFrames g before n bytes list
       → AllByRecursion (λ f. AreNamed f.state) list
   frames_named before zero bytes list all are = subst (AllByRecursion (λ f. AreNamed f.state)) (sym are.1) tt
   frames_named before (suc n) bytes list all are =
@@ -181,9 +181,9 @@ pub record HasTexts (names : Names) (b : Body) : Type 0 where
   pub owner : IsText b.owner
   pub desc : IsText b.desc
   pub uses : (place : ℕ) (what : What) → what_used b.uses place ≡ Some what → UseNamed what
-  pub frames : AllByRecursion (λ f. AreNamed f.state) (map (seen_at names) b.frames)
+  pub frames : AllByRecursion (λ f. AreNamed f.state) (map (type_state_at names) b.frames)
 
-named_at : (list : List SeenAt) → AllByRecursion (λ f. AreNamed f.state) list → (i : ℕ) (s : Seen) → frame_at list i ≡ Some s → AreNamed s
+named_at : (list : List TypeStateAt) → AllByRecursion (λ f. AreNamed f.state) list → (i : ℕ) (s : TypeState) → frame_at list i ≡ Some s → AreNamed s
 named_at [] all i s e = absurd (none-some s e)
 named_at (f ∷ list) all i s e = by (nat_eq f.at i) e (named_at list all.1 i s)
   where
@@ -233,26 +233,26 @@ module _ (names : Names) (b : Body) (made : IsWellMadeOfAnySize b) (texts : HasT
       subst (λ (x : Insn). (place : ℕ) → pool_place x ≡ Some place → HasUse b.uses place (Suits x)) (get_or_from_slice_get b.code i insn insn stands)
       (made.uses.by_insns i insn (slice_get_within b.code i insn stands))
 
-  after_named : (i : ℕ) (s t : Seen) → AreNamed s → after_of b i s ≡ Some t → AreNamed t
+  after_named : (i : ℕ) (s t : TypeState) → AreNamed s → after_of b i s ≡ Some t → AreNamed t
   after_named i s t all e =
       let insn = insn_of b i s t e in
       step_named (ground_of b i) _ s t (ground_named i) (insn_named b.uses (returns_of b) texts.uses insn.0 (used_by i insn.0 insn.1)) all insn.2
 
-  or_named : (i : ℕ) (other : Option Seen) (s : Seen) → ((t : Seen) → other ≡ Some t → AreNamed t)
+  or_named : (i : ℕ) (other : Option TypeState) (s : TypeState) → ((t : TypeState) → other ≡ Some t → AreNamed t)
       → or_else (frame_at (frames_of names b) i) other ≡ Some s → AreNamed s
   or_named i other s more e = by (frame_at (frames_of names b) i) refl e
     where
-      by : (o : Option Seen) → frame_at (frames_of names b) i ≡ o → or_else o other ≡ Some s → AreNamed s
+      by : (o : Option TypeState) → frame_at (frames_of names b) i ≡ o → or_else o other ≡ Some s → AreNamed s
       by None is e = more s e
       by (Some t) is e = named_at (frames_of names b) texts.frames i s (is ∙ e)
 
-  falls_named : (i : ℕ) (o : Option Seen) (falls : Bool) (t : Seen) → ((s : Seen) → o ≡ Some s → AreNamed s)
+  falls_named : (i : ℕ) (o : Option TypeState) (falls : Bool) (t : TypeState) → ((s : TypeState) → o ≡ Some s → AreNamed s)
       → (if falls then option_and_then (after_of b i) o else None) ≡ Some t → AreNamed t
   falls_named i o false t before e = absurd (none-some t e)
   falls_named i None true t before e = absurd (none-some t e)
   falls_named i (Some s) true t before e = after_named i s t (before s refl) e
 
-  pub state_named : (i : ℕ) (s : Seen) → state_of names b i ≡ Some s → AreNamed s
+  pub state_named : (i : ℕ) (s : TypeState) → state_of names b i ≡ Some s → AreNamed s
   unfolding state_of
   state_named zero s e =
       or_named 0 (Some (entry_of b)) s

@@ -9,7 +9,7 @@ use Rattle.jc_bytes.specs.Descriptor.{FieldType, Byte, Char, Double, Float, Int,
 use Rattle.jc_methods.specs.DescriptorTypes.{field_type_in, method_type_in}
 use Rattle.jc_methods.specs.EntryState.{held_of}
 use Rattle.jc_methods.specs.Flow.{is_return}
-use Rattle.jc_methods.specs.Held.{Held, top, int, float, double, long, null, uninit_this, object, uninit, Seen, is_pair, slots}
+use Rattle.jc_methods.specs.VerificationTypes.{VerificationType, top, int, float, double, long, null, uninit_this, object, uninit, TypeState, is_pair, slots}
 use Rattle.jc_methods.specs.InsnUse.{pool_place, IsOneSlotConstant, IsTwoSlotConstant, IsOfTwoSlots, IsMethod, IsCall, IsClass, IsMemberFor, Suits}
 use Rattle.jc_methods.specs.WellMade.{HasUse, what_used}
 use Rattle.jc_methods.specs.declared.body.Use.{Use}
@@ -21,7 +21,7 @@ use Rattle.jc_methods.specs.Opcode as opcode
 use Rattle.jc_methods.proofs.DescriptorTypesLaws.{field_again, method_again}
 use Rattle.jc_bytes.proofs.OneTextLaws.{both_bytes}
 use Rattle.jc_after.specs.After.{field_step, result_of, call_form, method_step, member_step, interface_step, dynamic_step, computed_step, constant_step, is_array_class, array_of, array_step, class_step, element_letter, multi_step, return_op, simple_step, step_of}
-use Rattle.jc_after.specs.Step.{Gives, kind, item, Form, Step, moves, loads, stores, counts, picks, makes, builds, fails, Ground, apply, upper, below, last, limited, has_form, moved, moved_by, given_of, cleared, clear_before, put_local, with_stack, is_array, element_name, element_of, without, is_made, class_built, built_as, replaced, same_new}
+use Rattle.jc_after.specs.Step.{Gives, kind, item, StackEffect, Step, moves, loads, stores, counts, picks, makes, builds, fails, Ground, apply, upper, below, last, limited, has_form, moved, moved_by, given_of, cleared, clear_before, put_local, with_stack, is_array, element_name, element_of, without, is_made, class_built, built_as, replaced, same_new}
 use Rattle.jc_after.specs.Table.{Row, table, find, forms_at}
 use Rattle.jc_after.specs.Wants.{is_int, accepts, accepts_all}
 use Rattle.jc_after.specs.declared.want.Want.TheVariants as wants
@@ -68,46 +68,46 @@ bytes_by (b ∷ text) is = let p = and_parts (nat_lt b 256) (list_all (λ x. nat
 -- ---- values
 
 -- the class of an object has a name that a pool can take
-abbrev pub IsNamed : Held → Type 0
+abbrev pub IsNamed : VerificationType → Type 0
 IsNamed (object name) = IsText name
 IsNamed h = Unit {0}
 
-abbrev pub AllNamed : List Held → Type 0
+abbrev pub AllNamed : List VerificationType → Type 0
 AllNamed hs = AllByRecursion IsNamed hs
 
-pub record AreNamed (s : Seen) : Type 0 where
+pub record AreNamed (s : TypeState) : Type 0 where
   pub locals : AllNamed s.locals
   pub stack : AllNamed s.stack
 
-pub named_take : (n : ℕ) (hs : List Held) → AllNamed hs → AllNamed (take n hs)
+pub named_take : (n : ℕ) (hs : List VerificationType) → AllNamed hs → AllNamed (take n hs)
 named_take zero hs all = tt
 named_take (suc n) [] all = tt
 named_take (suc n) (h ∷ hs) all = (all.0, named_take n hs all.1)
 
-named_drop : (n : ℕ) (hs : List Held) → AllNamed hs → AllNamed (drop n hs)
+named_drop : (n : ℕ) (hs : List VerificationType) → AllNamed hs → AllNamed (drop n hs)
 named_drop zero hs all = all
 named_drop (suc n) [] all = tt
 named_drop (suc n) (h ∷ hs) all = named_drop n hs all.1
 
-pub named_both : (hs js : List Held) → AllNamed hs → AllNamed js → AllNamed (hs ++ js)
+pub named_both : (hs js : List VerificationType) → AllNamed hs → AllNamed js → AllNamed (hs ++ js)
 named_both [] js a b = b
 named_both (h ∷ hs) js a b = (a.0, named_both hs js a.1 b)
 
-named_get : (hs : List Held) (i : ℕ) → AllNamed hs → IsNamed (get_or hs i top)
+named_get : (hs : List VerificationType) (i : ℕ) → AllNamed hs → IsNamed (get_or hs i top)
 named_get [] i all = tt
 named_get (h ∷ hs) zero all = all.0
 named_get (h ∷ hs) (suc i) all = named_get hs i all.1
 
-named_set : (hs : List Held) (i : ℕ) (h : Held) → AllNamed hs → IsNamed h → AllNamed (set hs i h)
+named_set : (hs : List VerificationType) (i : ℕ) (h : VerificationType) → AllNamed hs → IsNamed h → AllNamed (set hs i h)
 named_set [] i h all named = tt
 named_set (x ∷ hs) zero h all named = (named, all.1)
 named_set (x ∷ hs) (suc i) h all named = (all.0, named_set hs i h all.1 named)
 
-named_map : (f : Held → Held) → ((h : Held) → IsNamed h → IsNamed (f h)) → (hs : List Held) → AllNamed hs → AllNamed (map f hs)
+named_map : (f : VerificationType → VerificationType) → ((h : VerificationType) → IsNamed h → IsNamed (f h)) → (hs : List VerificationType) → AllNamed hs → AllNamed (map f hs)
 named_map f keeps [] all = tt
 named_map f keeps (h ∷ hs) all = (keeps h all.0, named_map f keeps hs all.1)
 
-named_one : (t : Bool) (x y : Held) → IsNamed x → IsNamed y → IsNamed (if t then x else y)
+named_one : (t : Bool) (x y : VerificationType) → IsNamed x → IsNamed y → IsNamed (if t then x else y)
 named_one true x y p q = p
 named_one false x y p q = q
 
@@ -117,7 +117,7 @@ abbrev GivesNamed : Gives → Type 0
 GivesNamed (kind h) = IsNamed h
 GivesNamed (item k) = Unit {0}
 
-abbrev FormNamed : Form → Type 0
+abbrev FormNamed : StackEffect → Type 0
 FormNamed f = AllByRecursion GivesNamed f.given
 
 -- what the step gives are such objects
@@ -130,21 +130,21 @@ pub record GroundNamed (g : Ground) : Type 0 where
   pub owner : IsText g.owner
   pub class_at : (at : ℕ) → IsText (g.class_at at)
 
-given_named : (operands : List Held) (given : List Gives) → AllNamed operands → AllByRecursion GivesNamed given → AllNamed (map (given_of operands) given)
+given_named : (operands : List VerificationType) (given : List Gives) → AllNamed operands → AllByRecursion GivesNamed given → AllNamed (map (given_of operands) given)
 given_named operands [] all named = tt
 given_named operands (kind h ∷ given) all named = (named.0, given_named operands given all named.1)
 given_named operands (item n ∷ given) all named = (named_get operands n all, given_named operands given all named.1)
 
-moved_named : (f : Form) (stack : List Held) → FormNamed f → AllNamed stack → AllNamed (moved f stack)
+moved_named : (f : StackEffect) (stack : List VerificationType) → FormNamed f → AllNamed stack → AllNamed (moved f stack)
 moved_named f stack named all =
     named_both (below (length f.wanted) stack) (map (given_of (upper (length f.wanted) stack)) f.given)
     (named_take (length stack - length f.wanted) stack all)
     (given_named (upper (length f.wanted) stack) f.given (named_drop (length stack - length f.wanted) stack all) named)
 
-limited_is : (most : ℕ) (stack x : List Held) → limited most stack ≡ Some x → stack ≡ x
+limited_is : (most : ℕ) (stack x : List VerificationType) → limited most stack ≡ Some x → stack ≡ x
 limited_is most stack x e = same_Some stack x (then_some (nat_le (slots stack) most) (Some stack) x e).1
 
-by_named : (most : ℕ) (forms : List Form) (stack x : List Held) → AllByRecursion FormNamed forms → AllNamed stack → moved_by most forms stack ≡ Some x
+by_named : (most : ℕ) (forms : List StackEffect) (stack x : List VerificationType) → AllByRecursion FormNamed forms → AllNamed stack → moved_by most forms stack ≡ Some x
     → AllNamed x
 by_named most [] stack x named all e = absurd (none-some x e)
 by_named most (f ∷ forms) stack x named all e = by (has_form f stack) (λ r. by_named most forms stack x named.1 all r) e
@@ -154,7 +154,7 @@ by_named most (f ∷ forms) stack x named all e = by (has_form f stack) (λ r. b
     by true more e = subst AllNamed (limited_is most (moved f stack) x e) (moved_named f stack named.0 all)
     by false more e = more e
 
-put_named : (k : ℕ) (h : Held) (hs : List Held) → AllNamed hs → IsNamed h → AllNamed (put_local k h hs)
+put_named : (k : ℕ) (h : VerificationType) (hs : List VerificationType) → AllNamed hs → IsNamed h → AllNamed (put_local k h hs)
 put_named k h hs all named = second (is_pair h)
   where
     front : (k : ℕ) → AllNamed (clear_before k hs)
@@ -165,7 +165,7 @@ put_named k h hs all named = second (is_pair h)
     second true = named_set (set (clear_before k hs) k h) (k + 1) top (named_set (clear_before k hs) k h (front k) named) tt
     second false = named_set (clear_before k hs) k h (front k) named
 
-stack_named : (s t : Seen) (o : Option (List Held)) → AllNamed s.locals → ((x : List Held) → o ≡ Some x → AllNamed x) → with_stack s o ≡ Some t → AreNamed t
+stack_named : (s t : TypeState) (o : Option (List VerificationType)) → AllNamed s.locals → ((x : List VerificationType) → o ≡ Some x → AllNamed x) → with_stack s o ≡ Some t → AreNamed t
 stack_named s t None locals more e = absurd (none-some t e)
 stack_named s t (Some x) locals more e = subst AreNamed (same_Some (record s { stack = x }) t e) (record { locals = locals; stack = more x refl })
 
@@ -181,7 +181,7 @@ element_text (a ∷ b ∷ rest) t = by (nat_eq b 76)
         record { short = omega (arith, most, short); are = bytes_taken (length rest - 1) rest t.are.1.1 }
     by false = text_rest a (b ∷ rest) t
 
-element_named : (h : Held) → IsNamed h → IsNamed (element_of h)
+element_named : (h : VerificationType) → IsNamed h → IsNamed (element_of h)
 element_named (object name) named = element_text name named
 element_named top named = tt
 element_named int named = tt
@@ -192,7 +192,7 @@ element_named null named = tt
 element_named uninit_this named = tt
 element_named (uninit at) named = tt
 
-class_named : (g : Ground) (old : Held) (name : List ℕ) → GroundNamed g → class_built g old ≡ Some name → IsText name
+class_named : (g : Ground) (old : VerificationType) (name : List ℕ) → GroundNamed g → class_built g old ≡ Some name → IsText name
 class_named g (uninit at) name ground is = subst IsText (same_Some (g.class_at at) name is) (ground.class_at at)
 class_named g uninit_this name ground is = subst IsText (same_Some g.owner name is) ground.owner
 class_named g top name ground is = absurd (none-some name is)
@@ -203,17 +203,17 @@ class_named g long name ground is = absurd (none-some name is)
 class_named g null name ground is = absurd (none-some name is)
 class_named g (object n) name ground is = absurd (none-some name is)
 
-built_named : (most : ℕ) (old : Held) (rest : List Held) (given : List Gives) (o : Option (List ℕ)) (s t : Seen)
+built_named : (most : ℕ) (old : VerificationType) (rest : List VerificationType) (given : List Gives) (o : Option (List ℕ)) (s t : TypeState)
     → ((name : List ℕ) → o ≡ Some name → IsText name)
     → AllByRecursion GivesNamed given → AllNamed rest → AreNamed s → built_as most old rest given o s ≡ Some t → AreNamed t
 built_named most old rest given None s t text named r all e = absurd (none-some t e)
 built_named most old rest given (Some name) s t text named r all e =
-    let keeps : (h : Held) → IsNamed h → IsNamed (replaced old name h) = λ h p. named_one (same_new old h) (object name) h (text name refl) p in
+    let keeps : (h : VerificationType) → IsNamed h → IsNamed (replaced old name h) = λ h p. named_one (same_new old h) (object name) h (text name refl) p in
     stack_named (record { locals = map (replaced old name) s.locals; stack = s.stack }) t _ (named_map (replaced old name) keeps s.locals all.locals)
     (λ x q. subst AllNamed (limited_is most _ x q)
     (named_both _ _ (named_map (replaced old name) keeps rest r) (given_named [] given tt named))) e
 
-pub step_named : (g : Ground) (st : Step) (s t : Seen) → GroundNamed g → StepNamed st → AreNamed s → apply g st s ≡ Some t → AreNamed t
+pub step_named : (g : Ground) (st : Step) (s t : TypeState) → GroundNamed g → StepNamed st → AreNamed s → apply g st s ≡ Some t → AreNamed t
 step_named g (moves forms) s t ground named all e =
     stack_named s t (moved_by g.most forms s.stack) all.locals (λ x q. by_named g.most forms s.stack x named all.stack q) e
 step_named g (loads k w) s t ground named all e =
@@ -252,7 +252,7 @@ named_gives : Gives → Bool
 named_gives (kind (object name)) = false
 named_gives g = true
 
-named_form : Form → Bool
+named_form : StackEffect → Bool
 named_form f = list_all named_gives f.given
 
 named_row : Row → Bool

@@ -11,7 +11,7 @@ use Rattle.std.proofs.lemmas.Option.{none-some, slice_get-get_or}
 use Rattle.jc_bytes.specs.Descriptor.{FieldType, Byte, Char, Double, Float, Int, Long, Short, Boolean, Object, Array}
 use Rattle.jc_methods.specs.DescriptorTypes.{method_type_in}
 use Rattle.jc_methods.specs.EntryState.{spread, held_of, this_of, arguments, entry_of}
-use Rattle.jc_methods.specs.Held.{Names, Held, top, int, float, double, long, null, uninit_this, object, uninit, held, is_pair, Seen, seen, IsNumbered, IsNumberedState, AreNumberedFrames, Grows}
+use Rattle.jc_methods.specs.VerificationTypes.{Names, VerificationType, top, int, float, double, long, null, uninit_this, object, uninit, verification_type, is_pair, TypeState, type_state, IsNumbered, IsNumberedState, AreNumberedFrames, Grows}
 use Rattle.jc_methods.specs.WellMade.{IsKind, IsState, IsWellMadeOfAnySize, IsWellMade}
 use Rattle.jc_methods.specs.declared.body.Body.{Body}
 use Rattle.jc_methods.specs.declared.insn.Insn.{Insn}
@@ -20,7 +20,7 @@ use Rattle.jc_methods.specs.declared.kind.Kind.TheVariants as kinds
 use Rattle.jc_methods.specs.declared.kind.State.{State}
 use Rattle.jc_methods.proofs.EntryLaws.{entry_count}
 use Rattle.jc_methods.proofs.MetNamesLaws.{grows_none, grows_both}
-use Rattle.jc_bytes.proofs.TestLaws.{fails_where}
+use Rattle.jc_bytes.proofs.BooleanLaws.{fails_where}
 use Rattle.jc_methods.proofs.NumberedLaws.{grown_count, number_kept, numbers_kept}
 use Rattle.jc_bytes.proofs.ListLaws.{put_cases}
 use Rattle.jc_after.specs.After.{insn_at, after_of}
@@ -31,27 +31,27 @@ use Rattle.jc_kinds.specs.Answers.{AreStates}
 use Rattle.jc_kinds.specs.Checked.{Checked}
 use Rattle.jc_kinds.specs.Frames.{frame_in}
 use Rattle.jc_kinds.specs.States.{falls_at, state_of, after_at}
-use Rattle.jc_kinds.specs.Walk.{IsKeptAt}
+use Rattle.jc_kinds.specs.StateSequence.{IsKeptAt}
 use Rattle.jc_kinds.proofs.CheckLaws.{falls_into_decided}
 use Rattle.jc_kinds.proofs.FrameLaws.{frame_made, frame_numbered}
 use Rattle.jc_kinds.proofs.GrowLaws.{states_stay}
 use Rattle.jc_kinds.proofs.WalkLaws.{frame_needed, frame_is, entry_is, falls_is, kept_on}
 
--- ---- kinds that say what is held
+-- ---- kinds that say what is verification_type
 
 name_there : (names : Names) (name : List ℕ) (rest : Names) → get_or ((names ++ name ∷ []) ++ rest) (length names) [] ≡ name
 name_there [] name rest = refl
 name_there (x ∷ names) name rest = name_there names name rest
 
 -- a kind that says it, whatever names follow
-record SomeKind (names : Names) (h : Held) : Type 0 where
+record SomeKind (names : Names) (h : VerificationType) : Type 0 where
   new : Names
   grows : Grows names new
   kind : Kind
-  says : (rest : Names) → held (new ++ rest) kind ≡ h
+  says : (rest : Names) → verification_type (new ++ rest) kind ≡ h
   numbered : IsNumbered (length new) kind
 
-some_kind : (names : Names) (h : Held) → SomeKind names h
+some_kind : (names : Names) (h : VerificationType) → SomeKind names h
 some_kind names (object name) = record {
   new = names ++ name ∷ [];
   grows = (name ∷ [], refl);
@@ -68,18 +68,18 @@ some_kind names null = record { new = names; grows = grows_none names; kind = ki
 some_kind names uninit_this = record { new = names; grows = grows_none names; kind = kinds.UninitThis; says = λ rest. refl; numbered = tt }
 some_kind names (uninit at) = record { new = names; grows = grows_none names; kind = kinds.Uninit at; says = λ rest. refl; numbered = tt }
 
-record SomeKinds (names : Names) (hs : List Held) : Type 0 where
+record SomeKinds (names : Names) (hs : List VerificationType) : Type 0 where
   new : Names
   grows : Grows names new
   list : List Kind
-  says : (rest : Names) → map (held (new ++ rest)) list ≡ hs
+  says : (rest : Names) → map (verification_type (new ++ rest)) list ≡ hs
   numbered : AllByRecursion (IsNumbered (length new)) list
 
 -- what follows the later names follows the earlier ones with what was added
 later_names : (old new : Names) (grows : Grows old new) (rest : Names) → new ++ rest ≡ old ++ (grows.0 ++ rest)
 later_names old new grows rest = ap (λ (l : Names). l ++ rest) grows.1 ∙ append_assoc old grows.0 rest
 
-some_kinds : (names : Names) (hs : List Held) → SomeKinds names hs
+some_kinds : (names : Names) (hs : List VerificationType) → SomeKinds names hs
 some_kinds names [] = record { new = names; grows = grows_none names; list = []; says = λ rest. refl; numbered = tt }
 some_kinds names (h ∷ hs) =
     let one = some_kind names h in
@@ -88,20 +88,20 @@ some_kinds names (h ∷ hs) =
       new = others.new;
       grows = grows_both names one.new others.new one.grows others.grows;
       list = one.kind ∷ others.list;
-      says = λ rest. ap₂ (λ (x : Held) (xs : List Held). x ∷ xs)
-          (ap (λ (l : Names). held l one.kind) (later_names one.new others.new others.grows rest) ∙ one.says (others.grows.0 ++ rest))
+      says = λ rest. ap₂ (λ (x : VerificationType) (xs : List VerificationType). x ∷ xs)
+          (ap (λ (l : Names). verification_type l one.kind) (later_names one.new others.new others.grows rest) ∙ one.says (others.grows.0 ++ rest))
           (others.says rest);
       numbered = (number_kept (length one.new) (length others.new) one.kind (grown_count one.new others.new others.grows) one.numbered, others.numbered);
     }
 
-record SomeState (names : Names) (s : Seen) : Type 0 where
+record SomeState (names : Names) (s : TypeState) : Type 0 where
   new : Names
   grows : Grows names new
   state : State
-  says : (rest : Names) → seen (new ++ rest) state ≡ s
+  says : (rest : Names) → type_state (new ++ rest) state ≡ s
   numbered : IsNumberedState (length new) state
 
-some_state : (names : Names) (s : Seen) → SomeState names s
+some_state : (names : Names) (s : TypeState) → SomeState names s
 some_state names s =
     let locals = some_kinds names s.locals in
     let stack = some_kinds locals.new s.stack in
@@ -110,24 +110,24 @@ some_state names s =
       grows = grows_both names locals.new stack.new locals.grows stack.grows;
       state = record { locals = locals.list; stack = stack.list };
       says = λ rest.
-          let says_locals = ap (λ (l : Names). map (held l) locals.list) (later_names locals.new stack.new stack.grows rest)
+          let says_locals = ap (λ (l : Names). map (verification_type l) locals.list) (later_names locals.new stack.new stack.grows rest)
           ∙ locals.says (stack.grows.0 ++ rest) in
           let says_stack = stack.says rest in
           λ i. record { locals = says_locals i; stack = says_stack i };
       numbered = record { locals = numbers_kept (length locals.new) (length stack.new) locals.list (grown_count locals.new stack.new stack.grows) locals.numbered; stack = stack.numbered };
     }
 
-says_now : (names : Names) (s : Seen) (some : SomeState names s) → seen some.new some.state ≡ s
-says_now names s some = ap (λ (l : Names). seen l some.state) (sym (append-nil some.new)) ∙ some.says []
+says_now : (names : Names) (s : TypeState) (some : SomeState names s) → type_state some.new some.state ≡ s
+says_now names s some = ap (λ (l : Names). type_state l some.state) (sym (append-nil some.new)) ∙ some.says []
 
 -- ---- the state in which a method begins
 
 -- no object before its constructor, but for `this`
-abbrev IsOther : Held → Type 0
+abbrev IsOther : VerificationType → Type 0
 IsOther (uninit at) = ⊥
 IsOther h = Unit {0}
 
-both_others : (hs js : List Held) → AllByRecursion IsOther hs → AllByRecursion IsOther js → AllByRecursion IsOther (hs ++ js)
+both_others : (hs js : List VerificationType) → AllByRecursion IsOther hs → AllByRecursion IsOther js → AllByRecursion IsOther (hs ++ js)
 both_others [] js a b = b
 both_others (h ∷ hs) js a b = (a.0, both_others hs js a.1 b)
 
@@ -165,7 +165,7 @@ arguments_other owner name desc flags = by (nat_eq (bit_and flags 0x0008) 0)
     by true = (this_other owner name, types_other (method_type_in desc).parameters)
     by false = types_other (method_type_in desc).parameters
 
-spread_others : (values : List Held) → AllByRecursion IsOther values → AllByRecursion IsOther (spread values)
+spread_others : (values : List VerificationType) → AllByRecursion IsOther values → AllByRecursion IsOther (spread values)
 spread_others [] all = tt
 spread_others (h ∷ values) all = by (is_pair h) (spread_others values all.1)
   where
@@ -176,21 +176,21 @@ spread_others (h ∷ values) all = by (is_pair h) (spread_others values all.1)
 suc_plus : (i : ℕ) → suc i + 1 ≡ suc (i + 1)
 suc_plus i = omega arith
 
-single_paired : (h : Held) (ls : List Held) → is_pair h ≡ false → Paired ls → Paired (h ∷ ls)
+single_paired : (h : VerificationType) (ls : List VerificationType) → is_pair h ≡ false → Paired ls → Paired (h ∷ ls)
 single_paired h ls single pairs zero e = absurd (true≢false (sym e ∙ single))
 single_paired h ls single pairs (suc i) e =
     let p = pairs i e in
     let less = p.0 in
     (omega (arith, less), ap (λ (n : ℕ). get_or (h ∷ ls) n top) (suc_plus i) ∙ p.1)
 
-pair_paired : (h : Held) (ls : List Held) → Paired ls → Paired (h ∷ top ∷ ls)
+pair_paired : (h : VerificationType) (ls : List VerificationType) → Paired ls → Paired (h ∷ top ∷ ls)
 pair_paired h ls pairs zero e = (omega arith, refl)
 pair_paired h ls pairs (suc i) e =
     let p = single_paired top ls refl pairs i e in
     let less = p.0 in
     (omega (arith, less), ap (λ (n : ℕ). get_or (h ∷ top ∷ ls) n top) (suc_plus i) ∙ p.1)
 
-spread_paired : (values rest : List Held) → Paired rest → Paired (spread values ++ rest)
+spread_paired : (values rest : List VerificationType) → Paired rest → Paired (spread values ++ rest)
 spread_paired [] rest pairs = pairs
 spread_paired (h ∷ values) rest pairs = by (is_pair h) refl (spread_paired values rest pairs)
   where
@@ -202,11 +202,11 @@ tops_paired : (n : ℕ) → Paired (replicate n top)
 tops_paired zero i e = absurd (true≢false (sym e))
 tops_paired (suc n) i e = single_paired top (replicate n top) refl (tops_paired n) i e
 
-kinds_made : (code : List Insn) (names : Names) (ks : List Kind) → AllByRecursion IsOther (map (held names) ks) → AllByRecursion (IsKind code) ks
+kinds_made : (code : List Insn) (names : Names) (ks : List Kind) → AllByRecursion IsOther (map (verification_type names) ks) → AllByRecursion (IsKind code) ks
 kinds_made code names [] all = tt
 kinds_made code names (k ∷ ks) all = (one k all.0, kinds_made code names ks all.1)
   where
-    one : (k : Kind) → IsOther (held names k) → IsKind code k
+    one : (k : Kind) → IsOther (verification_type names k) → IsKind code k
     one (kinds.Uninit at) is = absurd is
     one kinds.Top is = tt
     one kinds.Int is = tt
@@ -218,7 +218,7 @@ kinds_made code names (k ∷ ks) all = (one k all.0, kinds_made code names ks al
     one (kinds.Object n) is = tt
 
 module _ (b : Body) (made : IsWellMadeOfAnySize b) where
-  abbrev values : List Held
+  abbrev values : List VerificationType
   values = arguments b.owner b.name b.desc b.flags
 
   entry_others : AllByRecursion IsOther (entry_of b).locals
@@ -233,9 +233,9 @@ module _ (b : Body) (made : IsWellMadeOfAnySize b) where
   unfolding some_state some_kinds
   entry_whole names =
       let some = some_state names (entry_of b) in
-      let says : map (held some.new) some.state.locals ≡ (entry_of b).locals = ap (λ (s : Seen). s.locals) (says_now names (entry_of b) some) in
+      let says : map (verification_type some.new) some.state.locals ≡ (entry_of b).locals = ap (λ (s : TypeState). s.locals) (says_now names (entry_of b) some) in
       record {
-        locals = sym (length-map some.state.locals (held some.new)) ∙ ap (λ (l : List Held). length l) says ∙ entry_count b made;
+        locals = sym (length-map some.state.locals (verification_type some.new)) ∙ ap (λ (l : List VerificationType). length l) says ∙ entry_count b made;
         pairs = of_pairs some.new some.state.locals (subst Paired (sym says) entry_paired);
         stack = omega arith;
         local_kinds = All-from_recursion (IsKind b.code) some.state.locals
@@ -304,7 +304,7 @@ module _ (old : Names) (b : Body) (made : IsWellMade b) (numbered : AreNumberedF
   behind names i s room here none =
       let t = some_of (after_at old b i) (checked.after i (omega (arith, room))) in
       let some = some_state names t.0 in
-      let after : after_of b i (seen names s) ≡ Some t.0 = sym (ap (option_and_then (after_of b i)) here.is) ∙ t.1 in
+      let after : after_of b i (type_state names s) ≡ Some t.0 = sym (ap (option_and_then (after_of b i)) here.is) ∙ t.1 in
       let of_body : IsStateOf (length names) b s = record {
         locals = here.well_made.locals;
         local_kinds = here.well_made.local_kinds;

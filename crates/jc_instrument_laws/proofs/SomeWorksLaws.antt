@@ -4,7 +4,7 @@ use Rattle.std.specs.Prelude.{Option, IsSome}
 use Rattle.std.specs.Option.{option_and_then}
 use Rattle.std.proofs.lemmas.List.{length-map, length-take-le, map-append, take_all, take_more}
 use Rattle.std.proofs.lemmas.Option.{slice_get_within, get_or_from_slice_get}
-use Rattle.jc_methods.specs.Held.{Names, Seen, AreNumberedFrames, Grows}
+use Rattle.jc_methods.specs.VerificationTypes.{Names, TypeState, AreNumberedFrames, Grows}
 use Rattle.jc_methods.specs.EntryState.{entry_of}
 use Rattle.jc_methods.specs.WellMade.{IsWellMade}
 use Rattle.jc_methods.specs.declared.body.Body.{Body}
@@ -21,7 +21,7 @@ use Rattle.jc_plan.specs.Probed.{first_id}
 use Rattle.jc_emit.specs.Shift.{probe_array_class}
 use Rattle.jc_instrument.specs.Bodies.{AreBodies}
 use Rattle.jc_instrument.specs.Probing.{work}
-use Rattle.jc_instrument.specs.Works.{Work, bodies_of, IsWork, AreWorks}
+use Rattle.jc_instrument.specs.BodiesWithStates.{BodyWithStates, bodies_of, IsBodyWithStates, AreBodiesWithStates}
 use Rattle.jc_instrument.proofs.FrameCauseLaws.{each_at}
 use Rattle.jc_instrument.proofs.ListedLaws.{grown_bodies}
 use Rattle.jc_instrument.proofs.ProbingLaws.{nothing_at, work_grown}
@@ -33,10 +33,10 @@ use Rattle.jc_instrument.proofs.WholeLaws.{bodies_numbered}
 record SomeWorks (first : Names) (bodies : List Body) (n : ℕ) : Type 0 where
   names : Names
   grows : Grows first names
-  works : List Work
+  works : List BodyWithStates
   bodies_are : bodies_of works ≡ take n bodies
-  numbered : (i : ℕ) (w : Work) → slice_get works i ≡ Some w → AreNumberedFrames (length first) w.body.frames
-  each : (i : ℕ) (w : Work) → slice_get works i ≡ Some w → IsWork names bodies i w
+  numbered : (i : ℕ) (w : BodyWithStates) → slice_get works i ≡ Some w → AreNumberedFrames (length first) w.body.frames
+  each : (i : ℕ) (w : BodyWithStates) → slice_get works i ≡ Some w → IsBodyWithStates names bodies i w
 
 -- the check is passed under more names
 grown_checked : (old new : Names) (b : Body) → Grows old new → AreNumberedFrames (length old) b.frames → Checked old b → Checked new b
@@ -45,12 +45,12 @@ grown_checked old new b grows numbered checked =
     let back = sym same in
     record {
       none_missing = checked.none_missing;
-      entry = subst (λ (state : ℕ → Option Seen). FitsThere (Some (entry_of b)) (state 0)) back checked.entry;
-      after = λ i less. subst (λ (state : ℕ → Option Seen). IsSome (option_and_then (after_of b i) (state i))) back (checked.after i less);
+      entry = subst (λ (state : ℕ → Option TypeState). FitsThere (Some (entry_of b)) (state 0)) back checked.entry;
+      after = λ i less. subst (λ (state : ℕ → Option TypeState). IsSome (option_and_then (after_of b i) (state i))) back (checked.after i less);
       branches = λ i j leads.
-          subst (λ (state : ℕ → Option Seen). FitsThere (option_and_then (after_of b i) (state i)) (state j)) back (checked.branches i j leads);
+          subst (λ (state : ℕ → Option TypeState). FitsThere (option_and_then (after_of b i) (state i)) (state j)) back (checked.branches i j leads);
       handlers = λ h i guards less.
-          subst (λ (state : ℕ → Option Seen). FitsThere (at_handler b h (state i)) (state h.target)) back (checked.handlers h i guards less);
+          subst (λ (state : ℕ → Option TypeState). FitsThere (at_handler b h (state i)) (state h.target)) back (checked.handlers h i guards less);
     }
 
 module _ (first : Names) (bodies : List Body) (numbered : (i : ℕ) (b : Body) → slice_get bodies i ≡ Some b → AreNumberedFrames (length first) b.frames)
@@ -65,26 +65,26 @@ module _ (first : Names) (bodies : List Body) (numbered : (i : ℕ) (b : Body) �
     still_checked = grown_checked first before.names b before.grows (numbered n b stands) (checked n b stands)
 
     module _ (next : AllStates before.names b (made n b stands) still_numbered still_checked) where
-      abbrev own : Work
+      abbrev own : BodyWithStates
       own = work b next.states (first_id bodies n)
 
       works_count : length before.works ≡ n
       works_count =
           let within = slice_get_within bodies n b stands in
           let size : length (take n bodies) ≡ n = length-take-le n bodies (omega (arith, within)) in
-          sym (length-map before.works (λ (w : Work). w.body)) ∙ ap (λ (l : List Body). length l) before.bodies_are ∙ size
+          sym (length-map before.works (λ (w : BodyWithStates). w.body)) ∙ ap (λ (l : List Body). length l) before.bodies_are ∙ size
 
-      numbers : (i : ℕ) (w : Work) → (slice_get before.works i ≡ Some w) ⊎ ((i ≡ length before.works) × (own ≡ w))
+      numbers : (i : ℕ) (w : BodyWithStates) → (slice_get before.works i ≡ Some w) ⊎ ((i ≡ length before.works) × (own ≡ w))
           → AreNumberedFrames (length first) w.body.frames
       numbers i w (inl there) = before.numbered i w there
-      numbers i w (inr last) = subst (λ (x : Work). AreNumberedFrames (length first) x.body.frames) last.1 (numbered n b stands)
+      numbers i w (inr last) = subst (λ (x : BodyWithStates). AreNumberedFrames (length first) x.body.frames) last.1 (numbered n b stands)
 
-      is_work : (i : ℕ) (w : Work) → (slice_get before.works i ≡ Some w) ⊎ ((i ≡ length before.works) × (own ≡ w)) → IsWork next.names bodies i w
+      is_work : (i : ℕ) (w : BodyWithStates) → (slice_get before.works i ≡ Some w) ⊎ ((i ≡ length before.works) × (own ≡ w)) → IsBodyWithStates next.names bodies i w
       is_work i w (inl there) =
           work_grown before.names next.names bodies i w next.grows
           (frames_numbered (length first) (length before.names) w.body.frames (grown_count first before.names before.grows) (before.numbered i w there))
           (before.each i w there)
-      is_work i w (inr last) = subst (IsWork next.names bodies i) last.1 (record {
+      is_work i w (inr last) = subst (IsBodyWithStates next.names bodies i) last.1 (record {
         first = ap (first_id bodies) (sym (last.0 ∙ works_count));
         states = next.are;
       })
@@ -92,7 +92,7 @@ module _ (first : Names) (bodies : List Body) (numbered : (i : ℕ) (b : Body) �
       bodies_now : bodies_of (before.works ++ own ∷ []) ≡ take (n + 1) bodies
       bodies_now =
           let less = slice_get_within bodies n b stands in
-          map-append (λ (w : Work). w.body) before.works (own ∷ [])
+          map-append (λ (w : BodyWithStates). w.body) before.works (own ∷ [])
           ∙ ap₂ (λ (l : List Body) (x : Body). l ++ x ∷ []) before.bodies_are (sym (get_or_from_slice_get bodies n b b stands))
           ∙ sym (take_more bodies n b less)
 
@@ -127,8 +127,8 @@ module _ (first : Names) (bodies : List Body) (numbered : (i : ℕ) (b : Body) �
 pub record AllWorks (c : ClassFile) (bodies : List Body) : Type 0 where
   pub names : Names
   pub array : ℕ
-  pub works : List Work
-  pub are : AreWorks names array c works
+  pub works : List BodyWithStates
+  pub are : AreBodiesWithStates names array c works
   pub same : bodies_of works ≡ bodies
 
 pub all_works : (c : ClassFile) (all : AllBodies c) → AllWorks c all.bodies
@@ -150,7 +150,7 @@ all_works c all =
         bodies = subst (AreBodies new c) (sym are)
             (grown_bodies all.names new c (length c.methods) bodies (grows_both all.names some.names new some.grows more) all.are);
         array_is = get_or_from_slice_get new (length some.names) probe_array_class [] (put_last some.names probe_array_class);
-        each = λ i w at. subst (λ (l : List Body). IsWork new l i w) (sym are)
+        each = λ i w at. subst (λ (l : List Body). IsBodyWithStates new l i w) (sym are)
             (work_grown some.names new bodies i w more
             (frames_numbered (length all.names) (length some.names) w.body.frames (grown_count all.names some.names some.grows) (some.numbered i w at))
             (some.each i w at));

@@ -10,7 +10,7 @@ use Rattle.std.proofs.lemmas.List.Elements.{recursion_from_All}
 use Rattle.std.proofs.lemmas.Option.{none-some, same_Some, slice_get_within}
 use Rattle.jc_bytes.specs.ByteLists.{AreBytes}
 use Rattle.jc_bytes.specs.Descriptor.{IsMethodDescriptor}
-use Rattle.jc_methods.specs.Held.{Names, SeenAt, seen_at}
+use Rattle.jc_methods.specs.VerificationTypes.{Names, TypeStateAt, type_state_at}
 use Rattle.jc_bytes.specs.Reader.{most_read}
 use Rattle.jc_bytes.specs.PlainLists.{map_from}
 use Rattle.jc_methods.specs.WellMade.{IsWellMade, HasShortTexts, what_used}
@@ -36,7 +36,7 @@ use Rattle.jc_body.specs.Attributes.{has_name}
 use Rattle.jc_body.specs.BodyOf.{BodyOf, places_used}
 use Rattle.jc_body.specs.StackMap.{ground_of, stack_maps, HasFrames}
 use Rattle.jc_plan.proofs.CountLaws.{each_joined, each_mapped}
-use Rattle.jc_emit.specs.Added.{data_name, data_type, init_name, init_type, runtime_class, fetch_name, fetch_type}
+use Rattle.jc_methods.specs.ProbeMembers.{data_name, data_type, init_name, init_type, runtime_class, fetch_name, fetch_type}
 use Rattle.jc_emit.specs.Shift.{probe_array_class}
 use Rattle.jc_layout.specs.Layout.{chosen_length, chosen_text}
 use Rattle.jc_code.specs.CodeText.{attribute}
@@ -50,7 +50,7 @@ use Rattle.jc_instrument.specs.Needed.{name_of, signed_id, needs_of, place_list,
 use Rattle.jc_instrument.specs.Probing.{AreShortBelow}
 use Rattle.jc_instrument.specs.RoomCauses.{HasTooLargeCode, early_room_causes, probed_code}
 use Rattle.jc_instrument.specs.TwinText.{work_of, with_code, twin_method, twin_methods, data_member, init_member, init_places, twin_class, IsWritten}
-use Rattle.jc_instrument.specs.Works.{Work, bodies_of, all_frames, emitted_of}
+use Rattle.jc_instrument.specs.BodiesWithStates.{BodyWithStates, bodies_of, all_frames, emitted_of}
 use Rattle.jc_instrument.specs.declared.needs.MemberPlaces.{MemberPlaces}
 use Rattle.jc_instrument.proofs.BodySizesLaws.{is_well_made, handlers_few, own_lines_few, own_vars_few, own_kind_vars_few}
 use Rattle.jc_instrument_laws.proofs.ClassSpellingLaws.{IsOfBytes, big_bytes_are, class_spelled}
@@ -127,7 +127,7 @@ module _ (bytes : List ℕ) (c : ClassFile) (text : ClassText bytes c) (is : IsC
   all_short : AreShortBelow (bodies_of w.works) (length (bodies_of w.works))
   all_short = subst (λ (l : List Body). AreShortBelow l (length l)) (sym w.same) (short_code c all.bodies of_class none_room.1.1.1.1.1.0)
 
-  module _ (i : ℕ) (x : Work) (at : slice_get w.works i ≡ Some x) where
+  module _ (i : ℕ) (x : BodyWithStates) (at : slice_get w.works i ≡ Some x) where
     abbrev b : Body
     b = x.body
 
@@ -157,7 +157,7 @@ module _ (bytes : List ℕ) (c : ClassFile) (text : ClassText bytes c) (is : IsC
     owner_text : IsText b.owner
     owner_text = record { short = made.of_any_size.sizes.owner; are = class_are c.pool read.each c.this_class b.owner body.is.parts.owner }
 
-    frames_texts : (list : List SeenAt) → HasFrames c.pool b.owner body.method body.is.coded list → AllByRecursion (λ f. AreNamed f.state) list
+    frames_texts : (list : List TypeStateAt) → HasFrames c.pool b.owner body.method body.is.coded list → AllByRecursion (λ f. AreNamed f.state) list
     frames_texts list has = by has.frames_are
       where
         desc_text : IsText has.begins.desc
@@ -191,7 +191,7 @@ module _ (bytes : List ℕ) (c : ClassFile) (text : ClassText bytes c) (is : IsC
       uses = λ place what used. use_named what
           (short_used b.uses (recursion_from_All (λ (u : Use). HasShortTexts u.what) b.uses made.of_any_size.uses.short) place what used)
           (used_bytes c.pool read (places_used body.is.coded.insns body.is.coded.items.rows) b.uses body.is.parts.uses place what used);
-      frames = frames_texts (map (seen_at w.names) b.frames) body.is.parts.frames;
+      frames = frames_texts (map (type_state_at w.names) b.frames) body.is.parts.frames;
     }
 
     few_locals : b.max_locals ≤ 65534
@@ -216,7 +216,7 @@ module _ (bytes : List ℕ) (c : ClassFile) (text : ClassText bytes c) (is : IsC
     text_fits : (pool : PoolValue) (method frames_name : ℕ) → FitsAttribute (twin_code pool method frames_name w.names (emitted_of w.array x))
     text_fits pool method frames_name = record {
       few = written_few w.names b x.first x.states w.array made.bound few_locals few_stack short_here
-          (each_mapped _ (λ (f : SeenAt). length f.state.locals + length f.state.stack ≤ b.max_locals + 1 + b.max_stack)
+          (each_mapped _ (λ (f : TypeStateAt). length f.state.locals + length f.state.stack ≤ b.max_locals + 1 + b.max_stack)
           (written_frames w.names (emitted_of w.array x)) (λ f small. small.count)
           (written_small w.names b made.of_any_size texts x.first x.states w.array (w.are.each i x at).states w.are.array_is array_text))
           (handlers_few w.names c b.method body.method b read few_bytes body.is)
@@ -251,15 +251,15 @@ module _ (bytes : List ℕ) (c : ClassFile) (text : ClassText bytes c) (is : IsC
   methods_fit (m ∷ l) sized of =
       (record { flags = of.0.flags; attributes = given_fits m.attributes sized.0.attributes.each of.0.attributes }, methods_fit l sized.1 of.1)
 
-  module _ (code : Work → List ℕ) (fits : AllByRecursion (λ x. FitsAttribute (code x)) w.works) where
-    found_fits : (works : List Work) → AllByRecursion (λ x. FitsAttribute (code x)) works → (number : ℕ) (x : Work) → work_of number works ≡ Some x
+  module _ (code : BodyWithStates → List ℕ) (fits : AllByRecursion (λ x. FitsAttribute (code x)) w.works) where
+    found_fits : (works : List BodyWithStates) → AllByRecursion (λ x. FitsAttribute (code x)) works → (number : ℕ) (x : BodyWithStates) → work_of number works ≡ Some x
         → FitsAttribute (code x)
     found_fits [] each number x found = absurd (none-some x found)
     found_fits (y ∷ works) each number x found = by (nat_eq y.body.method number) found (found_fits works each.1 number x)
       where
         by : (t : Bool) → (if t then Some y else work_of number works) ≡ Some x → (work_of number works ≡ Some x → FitsAttribute (code x))
             → FitsAttribute (code x)
-        by true here later = subst (λ (z : Work). FitsAttribute (code z)) (same_Some y x here) each.0
+        by true here later = subst (λ (z : BodyWithStates). FitsAttribute (code z)) (same_Some y x here) each.0
         by false there later = later there
 
     put_fits : (put : List ℕ) (l : List Attribute) → FitsAttribute put → AllByRecursion (λ a. FitsAttribute a.body) l
@@ -271,7 +271,7 @@ module _ (bytes : List ℕ) (c : ClassFile) (text : ClassText bytes c) (is : IsC
         by true = fit
         by false = old.0
 
-    method_fits : (m : Member) (o : Option Work) → ((x : Work) → o ≡ Some x → FitsAttribute (code x)) → IsFit m → IsFit (twin_method c.pool code m o)
+    method_fits : (m : Member) (o : Option BodyWithStates) → ((x : BodyWithStates) → o ≡ Some x → FitsAttribute (code x)) → IsFit m → IsFit (twin_method c.pool code m o)
     method_fits m None each fit = fit
     method_fits m (Some x) each fit = record { flags = fit.flags; attributes = put_fits (code x) m.attributes (each x refl) fit.attributes }
 
@@ -299,11 +299,11 @@ module _ (bytes : List ℕ) (c : ClassFile) (text : ClassText bytes c) (is : IsC
 
   -- ---- what the pool takes
 
-  works_texts : (works : List Work) → AllByRecursion (λ x. AllByRecursion IsText (named_by_all (written_frames w.names (emitted_of w.array x)))) works
+  works_texts : (works : List BodyWithStates) → AllByRecursion (λ x. AllByRecursion IsText (named_by_all (written_frames w.names (emitted_of w.array x)))) works
       → AllByRecursion IsText (named_by_all (all_frames w.names w.array works))
   works_texts [] each = tt
   works_texts (x ∷ works) each =
-      let frames : Work → List SeenAt = λ y. written_frames w.names (emitted_of w.array y) in
+      let frames : BodyWithStates → List TypeStateAt = λ y. written_frames w.names (emitted_of w.array y) in
       subst (AllByRecursion IsText)
       (sym (ap named_by_all (flat_map-cons frames x works) ∙ flat_map-append named_by (frames x) (all_frames w.names w.array works)))
       (texts_both (named_by_all (frames x)) (named_by_all (all_frames w.names w.array works)) each.0 (works_texts works each.1))
@@ -395,7 +395,7 @@ module _ (bytes : List ℕ) (c : ClassFile) (text : ClassText bytes c) (is : IsC
     fit : AllByRecursion IsFit twin.methods
     unfolding twin_class
     fit =
-        let code : Work → List ℕ = λ x. twin_code pool places.method places.frames w.names (emitted_of w.array x) in
+        let code : BodyWithStates → List ℕ = λ x. twin_code pool places.method places.frames w.names (emitted_of w.array x) in
         let init = init_fits (init_places places) places.frames places.array (all_probes (bodies_of w.works)) in
         each_joined IsFit (twin_methods c.pool code w.works c.methods) (init_member places (all_probes (bodies_of w.works)) ∷ [])
         (all_fit code (by_index (λ x. FitsAttribute (code x)) w.works (λ i x at. text_fits i x at pool places.method places.frames)) 0 c.methods

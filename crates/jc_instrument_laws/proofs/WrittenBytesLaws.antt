@@ -5,7 +5,7 @@ use Rattle.std.specs.Int.{w16, cast_unsigned}
 use Rattle.std.specs.List.{flat_map, AllByRecursion}
 use Rattle.std.proofs.lemmas.Bool.{leb-true}
 use Rattle.jc_bytes.specs.ByteLists.{AreBytes}
-use Rattle.jc_methods.specs.Held.{Names, Held, top, int, float, double, long, null, uninit_this, object, uninit, SeenAt}
+use Rattle.jc_methods.specs.VerificationTypes.{Names, VerificationType, top, int, float, double, long, null, uninit_this, object, uninit, TypeStateAt}
 use Rattle.jc_methods.specs.InsnForm.{form_of}
 use Rattle.jc_methods.specs.Opcode as opcode
 use Rattle.jc_methods.specs.declared.body.Handler.{Handler}
@@ -76,7 +76,7 @@ unfolding full.short
 frame_short_are x = big_bytes_are 2 x
 
 module _ (p : full.Places) where
-  type_are : (h : Held) → AreBytes (full.type_text p h)
+  type_are : (h : VerificationType) → AreBytes (full.type_text p h)
   type_are top = (omega arith, tt)
   type_are int = (omega arith, tt)
   type_are float = (omega arith, tt)
@@ -87,10 +87,10 @@ module _ (p : full.Places) where
   type_are (object name) = (omega arith, frame_short_are (p.class name))
   type_are (uninit at) = (omega arith, frame_short_are (p.start at))
 
-  types_are : (hs : List Held) → AreBytes (full.types_text p hs)
+  types_are : (hs : List VerificationType) → AreBytes (full.types_text p hs)
   types_are hs = bytes_both (full.short (length hs)) _ (frame_short_are (length hs)) (flat_are (full.type_text p) type_are hs)
 
-  frames_are : (base : ℕ) (list : List SeenAt) → AreBytes (full.full_texts p base list)
+  frames_are : (base : ℕ) (list : List TypeStateAt) → AreBytes (full.full_texts p base list)
   frames_are base [] = tt
   frames_are base (f ∷ list) =
       bytes_both (full.full_text p base f) (full.full_texts p (p.start f.at + 1) list) (
@@ -101,10 +101,10 @@ module _ (p : full.Places) where
       )
       (frames_are (p.start f.at + 1) list)
 
-  pub table_are : (list : List SeenAt) → AreBytes (full.table_text p list)
+  pub table_are : (list : List TypeStateAt) → AreBytes (full.table_text p list)
   table_are list = bytes_both (full.short (length list)) _ (frame_short_are (length list)) (frames_are 0 list)
 
-  map_are : (name : ℕ) (list : List SeenAt) → AllByRecursion (λ a. AreBytes a.body) (frame_attributes name p list)
+  map_are : (name : ℕ) (list : List TypeStateAt) → AllByRecursion (λ a. AreBytes a.body) (frame_attributes name p list)
   map_are name [] = tt
   map_are name (f ∷ list) = (table_are (f ∷ list), tt)
 
@@ -215,7 +215,7 @@ init_fits p frames array count =
     let counted = counted_count 0 attribute_text (stack_map ∷ []) in
     let one_attribute = attribute_count stack_map in
     let places = init_frame_places array (end_offset pushed) in
-    let list : List SeenAt = record { at = end_place; state = init_frame } ∷ [] in
+    let list : List TypeStateAt = record { at = end_place; state = init_frame } ∷ [] in
     let table = table_most places 1 list (omega arith, tt) in
     let alone = length-append (attribute_text stack_map) [] in
     let rest = counted_text attribute_text (stack_map ∷ []) in

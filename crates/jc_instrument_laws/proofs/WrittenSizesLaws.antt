@@ -4,7 +4,7 @@ use Rattle.std.specs.List.{flat_map, AllByRecursion}
 use Rattle.std.proofs.Math.Nat.{add-mul, mul-add, mul_assoc, mul_comm, mul-le-mul, mul-le-mul_right}
 use Rattle.std.proofs.lemmas.Grind.{flat_map-append}
 use Rattle.std.proofs.lemmas.List.{length-map}
-use Rattle.jc_methods.specs.Held.{Names, SeenAt, seen_at}
+use Rattle.jc_methods.specs.VerificationTypes.{Names, TypeStateAt, type_state_at}
 use Rattle.jc_bytes.specs.Reader.{most_read}
 use Rattle.jc_bytes.specs.PlainLists.{total}
 use Rattle.jc_methods.specs.WellMade.{IsBounded}
@@ -76,7 +76,7 @@ table_few name k text each xs most few =
     omega (arith, size, turned, all, most, few)
 
 -- the frames
-frames_few : (name most size : ℕ) (p : full.Places) (frames : List SeenAt) → AllByRecursion (λ f. length f.state.locals + length f.state.stack ≤ most) frames
+frames_few : (name most size : ℕ) (p : full.Places) (frames : List TypeStateAt) → AllByRecursion (λ f. length f.state.locals + length f.state.stack ≤ most) frames
     → length frames * (7 + 3 * most) ≤ size → length (flat_map attribute_text (frame_attributes name p frames)) ≤ 8 + size
 frames_few name most size p [] all few = omega arith
 frames_few name most size p (f ∷ frames) all few =
@@ -192,7 +192,7 @@ module _ (names : Names) (b : Body) (first : ℕ) (states : List State) (array :
         let l = lines_few (text_place pool lines_name) offset in
         let v = vars_few (text_place pool vars_name) offset in
         let k = kind_vars_few (text_place pool kind_vars_name) offset in
-        let same = length-map (chosen_frames e) (seen_at names) in
+        let same = length-map (chosen_frames e) (type_state_at names) in
         let sized : length (written_frames names e) * frame_size ≤ 3990000000 =
         subst (λ (n : ℕ). n * frame_size ≤ 3990000000) (sym same) frames_size in
         let m = frames_few frames_name (b.max_locals + 1 + b.max_stack) 3990000000 (places_of pool e) (written_frames names e) small sized in

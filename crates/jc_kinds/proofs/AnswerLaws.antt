@@ -7,7 +7,7 @@ use Rattle.jc_methods.specs.declared.kind.State.{State}
 use Rattle.jc_methods.specs.declared.body.Handler.{Handler}
 use Rattle.jc_methods.specs.declared.body.Body.{Body}
 use Rattle.jc_methods.specs.declared.body.FrameAt.{FrameAt}
-use Rattle.jc_methods.specs.Held.{Names, Seen, seen, IsNumberedState, AreNumberedFrames, Grows}
+use Rattle.jc_methods.specs.VerificationTypes.{Names, TypeState, type_state, IsNumberedState, AreNumberedFrames, Grows}
 use Rattle.jc_methods.specs.EntryState.{entry_seen, entry_of}
 use Rattle.jc_bytes.specs.Least.{IsNowhere}
 use Rattle.jc_methods.specs.WellMade.{IsHandler, IsState, IsWellMade}
@@ -18,9 +18,9 @@ use Rattle.jc_kinds.specs.Checked.{IsMissing, at_handler, EntryClash, NoAfter, B
 use Rattle.jc_kinds.specs.Answers.{AreStates}
 use Rattle.jc_kinds.specs.First.{IsFirst}
 use Rattle.jc_kinds.specs.Guarded.{IsUnguarded}
-use Rattle.jc_kinds.specs.Walk.{IsKeptEntry, IsFlowClash, IsWalk, IsWalkFrom}
+use Rattle.jc_kinds.specs.StateSequence.{IsKeptEntry, IsFlowClash, IsWalk, IsWalkFrom}
 use Rattle.std.proofs.lemmas.Option.{none-some}
-use Rattle.jc_bytes.proofs.TestLaws.{none_in}
+use Rattle.jc_bytes.proofs.BooleanLaws.{none_in}
 use Rattle.jc_methods.proofs.NumberedLaws.{grown_count, seen_grown, state_numbered, frames_numbered}
 use Rattle.jc_kinds.proofs.CheckLaws.{checked}
 use Rattle.jc_kinds.proofs.FirstLaws.{instead_first, either_first}
@@ -42,12 +42,12 @@ either_way old new b same i lt e = record { within = lt; cause = ⊎_elim flow (
     after = ap (option_and_then (after_of b i)) (same i)
 
     handler : (h : Handler) → FitsThere (at_handler b h (state_of new b i)) (state_of new b h.target) → FitsThere (at_handler b h (state_of old b i)) (state_of old b h.target)
-    handler h fit = subst (λ (t : Option Seen). FitsThere (at_handler b h t) (state_of old b h.target)) (same i) (subst (FitsThere (at_handler b h (state_of new b i))) (same h.target) fit)
+    handler h fit = subst (λ (t : Option TypeState). FitsThere (at_handler b h t) (state_of old b h.target)) (same i) (subst (FitsThere (at_handler b h (state_of new b i))) (same h.target) fit)
 
     flow : IsFlowClash old b i → EntryClash new b i ⊎ (NoAfter new b i ⊎ (BranchClash new b i ⊎ HandlerClash new b i))
     flow (inl w) = inl (w.0, λ fit. w.1 (subst (FitsThere (Some (entry_of b))) (same 0) fit))
     flow (inr (inl none)) = inr (inl (after ∙ none))
-    flow (inr (inr w)) = inr (inr (inl (w.0, w.1, λ fit. w.2 (subst (λ (t : Option Seen). FitsThere t (state_of old b w.0)) after (subst (FitsThere (after_at new b i)) (same w.0) fit)))))
+    flow (inr (inr w)) = inr (inr (inl (w.0, w.1, λ fit. w.2 (subst (λ (t : Option TypeState). FitsThere t (state_of old b w.0)) after (subst (FitsThere (after_at new b i)) (same w.0) fit)))))
 
 other_way : (new old : Names) (b : Body) → ((i : ℕ) → state_of old b i ≡ state_of new b i) → (i : ℕ) → IsClash new b i → IsFlowClash old b i ⊎ HandlerClash old b i
 other_way new old b same i c = by (either_way new old b same i c.within (sides c.cause)).cause
@@ -124,7 +124,7 @@ entry_on old new b s g k = record {
 entry_args : (owner name desc o n d : List ℕ) (flags count : ℕ) → o ≡ owner → n ≡ name → d ≡ desc → entry_seen o n d flags count ≡ entry_seen owner name desc flags count
 entry_args owner name desc o n d flags count p q r = λ i. entry_seen (p i) (q i) (r i) flags count
 
-pub entry_kept : (names : Names) (b : Body) (s : State) (o n d : List ℕ) → o ≡ b.owner → n ≡ b.name → d ≡ b.desc → seen names s ≡ entry_seen o n d b.flags b.max_locals → IsNumberedState (length names) s
+pub entry_kept : (names : Names) (b : Body) (s : State) (o n d : List ℕ) → o ≡ b.owner → n ≡ b.name → d ≡ b.desc → type_state names s ≡ entry_seen o n d b.flags b.max_locals → IsNumberedState (length names) s
     → IsState b.code b.max_locals b.max_stack s → IsKeptEntry names b s
 entry_kept names b s o n d p q r is numbered made = record { is = is ∙ entry_args b.owner b.name b.desc o n d b.flags b.max_locals p q r; numbered = numbered; well_made = made }
 

@@ -12,14 +12,14 @@ use Rattle.jc_methods.specs.declared.kind.State.{State}
 use Rattle.jc_methods.specs.declared.body.FrameAt.{FrameAt}
 use Rattle.jc_methods.specs.declared.body.Body.{Body}
 use Rattle.jc_methods.specs.Flow.{FallsThrough, targets_of}
-use Rattle.jc_methods.specs.Held.{Names, seen, IsNumberedState, AreNumberedFrames, Grows}
+use Rattle.jc_methods.specs.VerificationTypes.{Names, type_state, IsNumberedState, AreNumberedFrames, Grows}
 use Rattle.jc_methods.specs.WellMade.{IsState, IsWellMade}
 use Rattle.jc_after.specs.After.{insn_at, after_of}
 use Rattle.jc_kinds.specs.States.{falls_through}
 use Rattle.jc_kinds.specs.Checking.{branches}
 use Rattle.jc_kinds.specs.Frames.{frame_in}
 use Rattle.jc_after.specs.Answers.{IsStateOf, IsWhole, LeavesState}
-use Rattle.jc_kinds.specs.Walk.{fits_frame, Begins, passes, IsStep, StopsAt, IsKeptEntry, IsWalk}
+use Rattle.jc_kinds.specs.StateSequence.{fits_frame, Begins, passes, IsStep, StopsAt, IsKeptEntry, IsWalk}
 use Rattle.jc_kinds.proofs.CheckLaws.{falls_decided}
 use Rattle.jc_kinds.proofs.FrameLaws.{frame_made, frame_numbered}
 use Rattle.jc_methods.proofs.MetNamesLaws.{grows_none}
@@ -69,9 +69,9 @@ pub insn_is : (b : Body) (i : ℕ) (insn : Insn) → i < length b.code → insn 
 insn_is b i insn lt is = slice_get_read b.code (length b.code) i insn refl lt is
 
 -- the state that an instruction leaves, by the body whose effects were read
-left_is : (old new : Names) (b c : Body) (i : ℕ) (s left : State) (o : Option State) → c ≡ b → LeavesState old new c i s o → o ≡ Some left → after_of b i (seen old s) ≡ Some (seen new left)
+left_is : (old new : Names) (b c : Body) (i : ℕ) (s left : State) (o : Option State) → c ≡ b → LeavesState old new c i s o → o ≡ Some left → after_of b i (type_state old s) ≡ Some (type_state new left)
 left_is old new b c i s left o same leaves is =
-    sym (ap (option_map (seen new)) (sym is) ∙ leaves ∙ ap (λ (d : Body). after_of d i (seen old s)) same)
+    sym (ap (option_map (type_state new)) (sym is) ∙ leaves ∙ ap (λ (d : Body). after_of d i (type_state old s)) same)
 
 left_fits : (b : Body) (code : List Insn) (frames : List FrameAt) (i : ℕ) (left : State) (insn : Insn) (fits : Bool) → code ≡ b.code → frames ≡ b.frames → i < length b.code → insn ≡ get_or code i insn
     → fits ≡ list_all (fits_frame frames left) (branches (Some insn) i) → passes b i left ≡ fits
@@ -85,7 +85,7 @@ stop_made old new b c code frames i s left o insn fits same coded framed lt at l
     inr (left, left_is old new b c i s left o same leaves some, left_fits b code frames i left insn fits coded framed lt at is ∙ misses)
 
 pub none_made : (old new : Names) (b c : Body) (i : ℕ) (s : State) (o : Option State) → c ≡ b → LeavesState old new c i s o → o ≡ None → StopsAt old new b i s
-none_made old new b c i s o same leaves none = inl (sym (ap (option_map (seen new)) (sym none) ∙ leaves ∙ ap (λ (d : Body). after_of d i (seen old s)) same))
+none_made old new b c i s o same leaves none = inl (sym (ap (option_map (type_state new)) (sym none) ∙ leaves ∙ ap (λ (d : Body). after_of d i (type_state old s)) same))
 
 -- what a frame or a state that falls into the place is
 kept_made : (old new : Names) (b : Body) (at : ℕ) (other : State) → IsWellMade b → AreNumberedFrames (length old) b.frames → Grows old new → IsNumberedState (length new) other

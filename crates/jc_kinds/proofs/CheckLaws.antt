@@ -9,7 +9,7 @@ use Rattle.jc_methods.specs.declared.insn.Flow.TheVariants as flows
 use Rattle.jc_methods.specs.declared.body.Body.{Body}
 use Rattle.jc_methods.specs.Flow.{flow_of, FallsThrough, targets_of}
 use Rattle.jc_bytes.specs.Least.{IsNowhere, IsLeast}
-use Rattle.jc_methods.specs.Held.{Names, Seen}
+use Rattle.jc_methods.specs.VerificationTypes.{Names, TypeState}
 use Rattle.jc_methods.specs.EntryState.{entry_of}
 use Rattle.jc_after.specs.After.{insn_at}
 use Rattle.jc_kinds.specs.Fits.{FitsThere, fits_there}
@@ -17,15 +17,15 @@ use Rattle.jc_kinds.specs.States.{goes_on, falls_through, falls_at, state_of, af
 use Rattle.jc_kinds.specs.Checked.{JumpsTo, GoesOnFrom, LeadsTo, FallsInto, HasFrame, IsHandlerTarget, NeedsFrame, IsMissing, at_handler, EntryClash, NoAfter, BranchClash, HandlerClash, IsClash, Checked, FirstMissing, FirstClash}
 use Rattle.jc_kinds.specs.Checking.{branches, guards, falls_into, has_frame, is_jump_target, is_handler_target, needs_frame, is_missing, entry_clash, branch_clash, handler_clash, is_clash, first_from, first_below, Verdict, passes, frame_missing, frame_clash, clash_or_passes, missing_or, verdict_of}
 use Rattle.std.proofs.lemmas.Option.{none-some, same_Some, slice_get_within}
-use Rattle.jc_bytes.proofs.TestLaws.{both, either, neither, instead, fails_where, equal_decided, at_most_decided, below_decided, first_in, later_in, which_in, any_decided, stands_in, place_of, none_decided}
+use Rattle.jc_bytes.proofs.BooleanLaws.{both, either, neither, instead, fails_where, equal_decided, at_most_decided, below_decided, first_in, later_in, which_in, any_decided, stands_in, place_of, none_decided}
 use Rattle.jc_bytes.proofs.LeastLaws.{least_one}
 use Rattle.jc_kinds.proofs.FitsLaws.{there_decided}
 
 -- ---- where control goes
 
-flow_decided : (f : Flow) → Decides (goes_on f) ((f ≡ flows.GoesOn) ⊎ (f ≡ flows.Tests))
+flow_decided : (f : Flow) → Decides (goes_on f) ((f ≡ flows.GoesOn) ⊎ (f ≡ flows.Branches))
 flow_decided flows.GoesOn = record { to = λ h. inl refl; back = λ h. refl }
-flow_decided flows.Tests = record { to = λ h. inr refl; back = λ h. refl }
+flow_decided flows.Branches = record { to = λ h. inr refl; back = λ h. refl }
 flow_decided flows.Jumps = record { to = λ h. absurd (true≢false (sym h)); back = λ h. ⊎_elim (λ e. absurd cc) (λ e. absurd cc) h }
 flow_decided flows.Switches = record { to = λ h. absurd (true≢false (sym h)); back = λ h. ⊎_elim (λ e. absurd cc) (λ e. absurd cc) h }
 flow_decided flows.Returns = record { to = λ h. absurd (true≢false (sym h)); back = λ h. ⊎_elim (λ e. absurd cc) (λ e. absurd cc) h }
@@ -162,7 +162,7 @@ least_clash names b i f = record {
 no_clash : (names : Names) (b : Body) → Found (is_clash names b) 0 (length b.code) None → IsNowhere (IsClash names b)
 no_clash names b f place m = fails_where (clash_decided names b place) (f place (omega arith) m.within) m.cause
 
-there_or : (s t : Option Seen) → ((FitsThere s t → ⊥) → ⊥) → FitsThere s t
+there_or : (s t : Option TypeState) → ((FitsThere s t → ⊥) → ⊥) → FitsThere s t
 there_or s t h = by (fits_there s t) refl
   where
     by : (c : Bool) → fits_there s t ≡ c → FitsThere s t
@@ -179,7 +179,7 @@ checked names b some missing clash = record {
   handlers = λ h i g lt. there_or (at_handler b h (state_of names b i)) (state_of names b h.target) (λ unfit. clash i (record { within = lt; cause = inr (inr (inr (h, g, unfit))) }));
 }
   where
-    after : (i : ℕ) → i < length b.code → (o : Option Seen) → after_at names b i ≡ o → is_some (after_at names b i) ≡ true
+    after : (i : ℕ) → i < length b.code → (o : Option TypeState) → after_at names b i ≡ o → is_some (after_at names b i) ≡ true
     after i lt None e = absurd (clash i (record { within = lt; cause = inr (inl e) }))
     after i lt (Some s) e = ap is_some e
 

@@ -5,7 +5,7 @@ use Rattle.std.specs.Prelude.{codes, bytes_eq}
 use Rattle.std.specs.List.{AllByRecursion}
 use Rattle.jc_bytes.specs.Descriptor.{FieldType, Byte, Char, Double, Float, Int, Long, Short, Boolean, Object, Array}
 use Rattle.jc_methods.specs.DescriptorTypes.{method_type_in}
-use Rattle.jc_methods.specs.Held.{Held, top, int, float, double, long, null, uninit_this, object, uninit, is_pair}
+use Rattle.jc_methods.specs.VerificationTypes.{VerificationType, top, int, float, double, long, null, uninit_this, object, uninit, is_pair}
 use Rattle.jc_methods.specs.EntryState.{spread_one, spread, in_locals, held_of, is_static, arguments}
 use Rattle.jc_methods.proofs.EntryLaws.{argument_slots}
 use Rattle.jc_after.specs.Step.{clear_before, put_local}
@@ -17,7 +17,7 @@ use Rattle.jc_kinds.proofs.StateShiftLaws.{last_single}
 -- ---- fitting
 
 module _ (image : ℕ → ℕ) where
-  null_renamed : (h : Held) → IsNullOrObject h → IsNullOrObject (renamed image h)
+  null_renamed : (h : VerificationType) → IsNullOrObject h → IsNullOrObject (renamed image h)
   null_renamed null p = tt
   null_renamed (object name) p = tt
   null_renamed top p = absurd p
@@ -28,7 +28,7 @@ module _ (image : ℕ → ℕ) where
   null_renamed uninit_this p = absurd p
   null_renamed (uninit at) p = absurd p
 
-  object_renamed : (h : Held) → IsObject h → IsObject (renamed image h)
+  object_renamed : (h : VerificationType) → IsObject h → IsObject (renamed image h)
   object_renamed (object name) p = tt
   object_renamed null p = absurd p
   object_renamed top p = absurd p
@@ -39,18 +39,18 @@ module _ (image : ℕ → ℕ) where
   object_renamed uninit_this p = absurd p
   object_renamed (uninit at) p = absurd p
 
-  fits_renamed : (a b : Held) → Fits a b → Fits (renamed image a) (renamed image b)
+  fits_renamed : (a b : VerificationType) → Fits a b → Fits (renamed image a) (renamed image b)
   fits_renamed a b (inl e) = inl (ap (renamed image) e)
   fits_renamed a b (inr (inl e)) = inr (inl (ap (renamed image) e))
   fits_renamed a b (inr (inr h)) = inr (inr (null_renamed a h.0, object_renamed b h.1))
 
-  each_renamed : (a b : List Held) → FitEach a b → FitEach (map (renamed image) a) (map (renamed image) b)
+  each_renamed : (a b : List VerificationType) → FitEach a b → FitEach (map (renamed image) a) (map (renamed image) b)
   each_renamed [] [] h = tt
   each_renamed [] (y ∷ b) h = absurd h
   each_renamed (x ∷ a) [] h = absurd h
   each_renamed (x ∷ a) (y ∷ b) h = (fits_renamed x y h.0, each_renamed a b h.1)
 
-each_inserted : (v : ℕ) (e : Held) (a b : List Held) → FitEach a b → FitEach (insert a v e) (insert b v e)
+each_inserted : (v : ℕ) (e : VerificationType) (a b : List VerificationType) → FitEach a b → FitEach (insert a v e) (insert b v e)
 each_inserted zero e a b h = (inr (inl refl), h)
 each_inserted (suc v) e [] [] h = (inr (inl refl), tt)
 each_inserted (suc v) e [] (y ∷ b) h = absurd h
@@ -65,26 +65,26 @@ fits_shift image v s t h = record {
 
 -- ---- the state in which a method begins
 
-set_end : (front rest : List Held) (x y : Held) → set (front ++ x ∷ rest) (length front) y ≡ front ++ y ∷ rest
+set_end : (front rest : List VerificationType) (x y : VerificationType) → set (front ++ x ∷ rest) (length front) y ≡ front ++ y ∷ rest
 set_end [] rest x y = refl
-set_end (h ∷ front) rest x y = ap (λ (l : List Held). h ∷ l) (set_end front rest x y)
+set_end (h ∷ front) rest x y = ap (λ (l : List VerificationType). h ∷ l) (set_end front rest x y)
 
-insert_end : (front rest : List Held) (y : Held) → insert (front ++ rest) (length front) y ≡ front ++ y ∷ rest
+insert_end : (front rest : List VerificationType) (y : VerificationType) → insert (front ++ rest) (length front) y ≡ front ++ y ∷ rest
 insert_end [] rest y = refl
-insert_end (h ∷ front) rest y = ap (λ (l : List Held). h ∷ l) (insert_end front rest y)
+insert_end (h ∷ front) rest y = ap (λ (l : List VerificationType). h ∷ l) (insert_end front rest y)
 
-set_same : (l : List Held) (k : ℕ) → set l k (get_or l k top) ≡ l
+set_same : (l : List VerificationType) (k : ℕ) → set l k (get_or l k top) ≡ l
 set_same [] k = refl
 set_same (h ∷ l) zero = refl
-set_same (h ∷ l) (suc k) = ap (λ (t : List Held). h ∷ t) (set_same l k)
+set_same (h ∷ l) (suc k) = ap (λ (t : List VerificationType). h ∷ t) (set_same l k)
 
-clear_nothing : (k : ℕ) (l : List Held) → ((j : ℕ) → j + 1 ≡ k → is_pair (get_or l j top) ≡ false) → clear_before k l ≡ l
+clear_nothing : (k : ℕ) (l : List VerificationType) → ((j : ℕ) → j + 1 ≡ k → is_pair (get_or l j top) ≡ false) → clear_before k l ≡ l
 clear_nothing zero l single = refl
 clear_nothing (suc k) l single =
     ap (λ (b : Bool). set l k (if b then top else get_or l k top)) (single k (omega arith)) ∙ set_same l k
 
 -- no argument is an object that a `new` made
-abbrev Still : (ℕ → ℕ) → Held → Type 0
+abbrev Still : (ℕ → ℕ) → VerificationType → Type 0
 Still image h = renamed image h ≡ h
 
 module _ (image : ℕ → ℕ) where
@@ -115,33 +115,33 @@ module _ (image : ℕ → ℕ) where
       by true c = types_still (method_type_in desc).parameters
       by false c = (this c, types_still (method_type_in desc).parameters)
 
-  one_still : (h : Held) → Still image h → map (renamed image) (spread_one h) ≡ spread_one h
+  one_still : (h : VerificationType) → Still image h → map (renamed image) (spread_one h) ≡ spread_one h
   one_still h e = by (is_pair h)
     where
       by : (b : Bool) → map (renamed image) (if b then h ∷ top ∷ [] else h ∷ []) ≡ (if b then h ∷ top ∷ [] else h ∷ [])
-      by true = ap (λ (x : Held). x ∷ top ∷ []) e
-      by false = ap (λ (x : Held). x ∷ []) e
+      by true = ap (λ (x : VerificationType). x ∷ top ∷ []) e
+      by false = ap (λ (x : VerificationType). x ∷ []) e
 
-  spread_still : (values : List Held) → AllByRecursion (Still image) values → map (renamed image) (spread values) ≡ spread values
+  spread_still : (values : List VerificationType) → AllByRecursion (Still image) values → map (renamed image) (spread values) ≡ spread values
   spread_still [] all = refl
-  spread_still (h ∷ values) all = map-append (renamed image) (spread_one h) (spread values) ∙ ap₂ (λ (a b : List Held). a ++ b) (one_still h all.0) (spread_still values all.1)
+  spread_still (h ∷ values) all = map-append (renamed image) (spread_one h) (spread values) ∙ ap₂ (λ (a b : List VerificationType). a ++ b) (one_still h all.0) (spread_still values all.1)
 
   tops_still : (n : ℕ) → map (renamed image) (replicate n top) ≡ replicate n top
   tops_still zero = refl
-  tops_still (suc n) = ap (λ (l : List Held). top ∷ l) (tops_still n)
+  tops_still (suc n) = ap (λ (l : List VerificationType). top ∷ l) (tops_still n)
 
   -- behind these values
-  stored_behind : (count : ℕ) (values : List Held) → AllByRecursion (Still image) values → length (spread values) ≤ count
+  stored_behind : (count : ℕ) (values : List VerificationType) → AllByRecursion (Still image) values → length (spread values) ≤ count
       → put_local (length (spread values)) probes (in_locals (count + 1) values) ≡ insert (map (renamed image) (in_locals count values)) (length (spread values)) probes
   stored_behind count values all le =
       let front = spread values in
       let room = count - length front in
       let more : count + 1 - length front ≡ suc room = omega (arith, le) in
       ap (λ (n : ℕ). put_local (length front) probes (front ++ replicate n top)) more
-      ∙ ap (λ (l : List Held). set l (length front) probes) (clear_nothing (length front) (front ++ top ∷ replicate room top) (λ j e. last_single values (top ∷ replicate room top) j e))
+      ∙ ap (λ (l : List VerificationType). set l (length front) probes) (clear_nothing (length front) (front ++ top ∷ replicate room top) (λ j e. last_single values (top ∷ replicate room top) j e))
       ∙ set_end front (replicate room top) top probes
       ∙ sym (
-      ap (λ (l : List Held). insert l (length front) probes) (map-append (renamed image) front (replicate room top) ∙ ap₂ (λ (a b : List Held). a ++ b) (spread_still values all) (tops_still room))
+      ap (λ (l : List VerificationType). insert l (length front) probes) (map-append (renamed image) front (replicate room top) ∙ ap₂ (λ (a b : List VerificationType). a ++ b) (spread_still values all) (tops_still room))
       ∙ insert_end front (replicate room top) probes)
 
 pub entry_shifts : EntryShifts

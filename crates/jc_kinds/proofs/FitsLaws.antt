@@ -2,15 +2,15 @@
 use Rattle.std.proofs.Common.{◌≡◌, inl, inr, ℕ, true, false, List, [], ◌∷◌, Option, Some, None, refl, sym, ◌∙◌, ap}
 use Rattle.std.proofs.lemmas.Bool.{eqb-true, eq-eqb, true≢false}
 use Rattle.jc_bytes.proofs.DecidingLaws.{Decides}
-use Rattle.jc_methods.specs.Held.{Held, top, int, float, double, long, null, uninit_this, object, uninit, Seen}
+use Rattle.jc_methods.specs.VerificationTypes.{VerificationType, top, int, float, double, long, null, uninit_this, object, uninit, TypeState}
 use Rattle.jc_after.specs.Wants.{is_int, is_float, is_long, is_double, is_reference}
 use Rattle.jc_kinds.specs.Fits.{IsObject, IsNullOrObject, Fits, FitEach, FitState, FitsThere, is_null, is_uninit_this, is_uninit_at, fits, fit_each, fit_state, fits_there}
-use Rattle.jc_bytes.proofs.TestLaws.{both, instead}
+use Rattle.jc_bytes.proofs.BooleanLaws.{both, instead}
 
 no : {X : Type 0} → false ≡ true → X
 no e = absurd (true≢false (sym e))
 
-int_is : (a : Held) → is_int a ≡ true → a ≡ int
+int_is : (a : VerificationType) → is_int a ≡ true → a ≡ int
 int_is int e = refl
 int_is top e = no e
 int_is float e = no e
@@ -21,7 +21,7 @@ int_is uninit_this e = no e
 int_is (object n) e = no e
 int_is (uninit i) e = no e
 
-float_is : (a : Held) → is_float a ≡ true → a ≡ float
+float_is : (a : VerificationType) → is_float a ≡ true → a ≡ float
 float_is float e = refl
 float_is top e = no e
 float_is int e = no e
@@ -32,7 +32,7 @@ float_is uninit_this e = no e
 float_is (object n) e = no e
 float_is (uninit i) e = no e
 
-double_is : (a : Held) → is_double a ≡ true → a ≡ double
+double_is : (a : VerificationType) → is_double a ≡ true → a ≡ double
 double_is double e = refl
 double_is top e = no e
 double_is int e = no e
@@ -43,7 +43,7 @@ double_is uninit_this e = no e
 double_is (object n) e = no e
 double_is (uninit i) e = no e
 
-long_is : (a : Held) → is_long a ≡ true → a ≡ long
+long_is : (a : VerificationType) → is_long a ≡ true → a ≡ long
 long_is long e = refl
 long_is top e = no e
 long_is int e = no e
@@ -54,7 +54,7 @@ long_is uninit_this e = no e
 long_is (object n) e = no e
 long_is (uninit i) e = no e
 
-null_is : (a : Held) → is_null a ≡ true → a ≡ null
+null_is : (a : VerificationType) → is_null a ≡ true → a ≡ null
 null_is null e = refl
 null_is top e = no e
 null_is int e = no e
@@ -65,7 +65,7 @@ null_is uninit_this e = no e
 null_is (object n) e = no e
 null_is (uninit i) e = no e
 
-this_is : (a : Held) → is_uninit_this a ≡ true → a ≡ uninit_this
+this_is : (a : VerificationType) → is_uninit_this a ≡ true → a ≡ uninit_this
 this_is uninit_this e = refl
 this_is top e = no e
 this_is int e = no e
@@ -76,7 +76,7 @@ this_is null e = no e
 this_is (object n) e = no e
 this_is (uninit i) e = no e
 
-reference_is : (a : Held) → is_reference a ≡ true → IsNullOrObject a
+reference_is : (a : VerificationType) → is_reference a ≡ true → IsNullOrObject a
 reference_is null e = tt
 reference_is (object n) e = tt
 reference_is top e = no e
@@ -87,7 +87,7 @@ reference_is long e = no e
 reference_is uninit_this e = no e
 reference_is (uninit i) e = no e
 
-uninit_is : (at : ℕ) (a : Held) → is_uninit_at at a ≡ true → a ≡ uninit at
+uninit_is : (at : ℕ) (a : VerificationType) → is_uninit_at at a ≡ true → a ≡ uninit at
 uninit_is at (uninit i) e = ap uninit (eqb-true i at e)
 uninit_is at top e = no e
 uninit_is at int e = no e
@@ -98,7 +98,7 @@ uninit_is at null e = no e
 uninit_is at uninit_this e = no e
 uninit_is at (object n) e = no e
 
-fits_to : (a b : Held) → fits a b ≡ true → Fits a b
+fits_to : (a b : VerificationType) → fits a b ≡ true → Fits a b
 fits_to a top e = inl refl
 fits_to a int e = inr (inl (int_is a e))
 fits_to a float e = inr (inl (float_is a e))
@@ -109,7 +109,7 @@ fits_to a uninit_this e = inr (inl (this_is a e))
 fits_to a (object name) e = inr (inr (reference_is a e, tt))
 fits_to a (uninit at) e = inr (inl (uninit_is at a e))
 
-pub fits_itself : (a : Held) → fits a a ≡ true
+pub fits_itself : (a : VerificationType) → fits a a ≡ true
 fits_itself top = refl
 fits_itself int = refl
 fits_itself float = refl
@@ -120,7 +120,7 @@ fits_itself uninit_this = refl
 fits_itself (object name) = refl
 fits_itself (uninit at) = eq-eqb at at refl
 
-object_fits : (a b : Held) → IsNullOrObject a → IsObject b → fits a b ≡ true
+object_fits : (a b : VerificationType) → IsNullOrObject a → IsObject b → fits a b ≡ true
 object_fits null (object name) p q = refl
 object_fits (object n) (object name) p q = refl
 object_fits null top p q = refl
@@ -147,24 +147,24 @@ object_fits long b p q = absurd p
 object_fits uninit_this b p q = absurd p
 object_fits (uninit i) b p q = absurd p
 
-fits_back : (a b : Held) → Fits a b → fits a b ≡ true
+fits_back : (a b : VerificationType) → Fits a b → fits a b ≡ true
 fits_back a b (inl e) = ap (fits a) e
 fits_back a b (inr (inl e)) = sym (ap (fits a) e) ∙ fits_itself a
 fits_back a b (inr (inr h)) = object_fits a b h.0 h.1
 
-pub fits_decided : (a b : Held) → Decides (fits a b) (Fits a b)
+pub fits_decided : (a b : VerificationType) → Decides (fits a b) (Fits a b)
 fits_decided a b = record { to = fits_to a b; back = fits_back a b }
 
-pub each_decided : (a b : List Held) → Decides (fit_each a b) (FitEach a b)
+pub each_decided : (a b : List VerificationType) → Decides (fit_each a b) (FitEach a b)
 each_decided [] [] = record { to = λ h. tt; back = λ h. refl }
 each_decided [] (y ∷ b) = record { to = λ h. no h; back = λ h. absurd h }
 each_decided (x ∷ a) [] = record { to = λ h. no h; back = λ h. absurd h }
 each_decided (x ∷ a) (y ∷ b) = both (fits_decided x y) (each_decided a b)
 
-pub state_decided : (s t : Seen) → Decides (fit_state s t) (FitState s t)
+pub state_decided : (s t : TypeState) → Decides (fit_state s t) (FitState s t)
 state_decided s t = instead (both (each_decided s.locals t.locals) (each_decided s.stack t.stack)) (λ h. record { locals = h.0; stack = h.1 }) (λ h. (h.locals, h.stack))
 
-pub there_decided : (s t : Option Seen) → Decides (fits_there s t) (FitsThere s t)
+pub there_decided : (s t : Option TypeState) → Decides (fits_there s t) (FitsThere s t)
 there_decided (Some s) (Some t) = state_decided s t
 there_decided (Some s) None = record { to = λ h. no h; back = λ h. absurd h }
 there_decided None (Some t) = record { to = λ h. no h; back = λ h. absurd h }

@@ -8,7 +8,7 @@ use Rattle.std.proofs.lemmas.Option.{slice_get_read, slice_get_past, slice_get-g
 use Rattle.std.proofs.Math.Seq.{drop-cons}
 use Rattle.jc_methods.specs.declared.kind.State.{State}
 use Rattle.jc_methods.specs.declared.body.FrameAt.{FrameAt}
-use Rattle.jc_methods.specs.Held.{Names, seen, seen_at, IsNumberedState, AreNumberedFrames}
+use Rattle.jc_methods.specs.VerificationTypes.{Names, type_state, type_state_at, IsNumberedState, AreNumberedFrames}
 use Rattle.jc_methods.specs.WellMade.{IsState, AreFramesFrom}
 use Rattle.jc_methods.specs.declared.insn.Insn.{Insn}
 use Rattle.jc_kinds.specs.States.{frame_at}
@@ -123,11 +123,11 @@ frame_found (f ∷ frames) i = by (nat_eq f.at i) (frame_found frames i)
 
 -- ---- by class names
 
-pub frame_seen : (names : Names) (frames : List FrameAt) (i : ℕ) → frame_at (map (seen_at names) frames) i ≡ option_map (seen names) (frame_in frames i)
+pub frame_seen : (names : Names) (frames : List FrameAt) (i : ℕ) → frame_at (map (type_state_at names) frames) i ≡ option_map (type_state names) (frame_in frames i)
 frame_seen names [] i = refl
 frame_seen names (f ∷ frames) i = by (nat_eq f.at i) (frame_seen names frames i)
   where
-    by : (b : Bool) → frame_at (map (seen_at names) frames) i ≡ option_map (seen names) (frame_in frames i)
-        → cond b (Some (seen names f.state)) (frame_at (map (seen_at names) frames) i) ≡ option_map (seen names) (cond b (Some f.state) (frame_in frames i))
+    by : (b : Bool) → frame_at (map (type_state_at names) frames) i ≡ option_map (type_state names) (frame_in frames i)
+        → cond b (Some (type_state names f.state)) (frame_at (map (type_state_at names) frames) i) ≡ option_map (type_state names) (cond b (Some f.state) (frame_in frames i))
     by true more = refl
     by false more = more

@@ -11,7 +11,7 @@ use Rattle.jc_methods.specs.declared.kind.Kind.TheVariants as kinds
 use Rattle.jc_methods.specs.declared.kind.State.{State}
 use Rattle.jc_methods.specs.declared.body.Handler.{Handler}
 use Rattle.jc_methods.specs.declared.body.Body.{Body}
-use Rattle.jc_methods.specs.Held.{Names, Held, object, held, Seen, seen, AreNumberedFrames, Grows}
+use Rattle.jc_methods.specs.VerificationTypes.{Names, VerificationType, object, verification_type, TypeState, type_state, AreNumberedFrames, Grows}
 use Rattle.jc_bytes.specs.Least.{IsNowhere}
 use Rattle.jc_methods.specs.WellMade.{IsHandler, IsWellMade}
 use Rattle.jc_kinds.specs.Fits.{FitState, FitsThere, fits, fit_each}
@@ -21,8 +21,8 @@ use Rattle.jc_kinds.specs.KindFits.{kind_fits, kinds_fit}
 use Rattle.jc_kinds.specs.Frames.{frame_in}
 use Rattle.jc_kinds.specs.Runs.{kind_at}
 use Rattle.jc_kinds.specs.Guarded.{local_at, column_of, wanted_at, takes_object, catches, frame_catches, IsUnguarded}
-use Rattle.jc_kinds.specs.Walk.{IsKeptAt}
-use Rattle.jc_bytes.proofs.TestLaws.{fails_where}
+use Rattle.jc_kinds.specs.StateSequence.{IsKeptAt}
+use Rattle.jc_bytes.proofs.BooleanLaws.{fails_where}
 use Rattle.jc_methods.proofs.NumberedLaws.{seen_grown}
 use Rattle.jc_kinds.proofs.FitsLaws.{state_decided}
 use Rattle.jc_kinds.proofs.KindFitsLaws.{each_held_fits}
@@ -56,7 +56,7 @@ caught_object b h = by (nat_eq h.class 0) _ _
     by true one other = (one, refl)
     by false one other = (other, refl)
 
-takes_fits : (names : Names) (name : List ℕ) (k : Kind) → fits (object name) (held names k) ≡ takes_object k
+takes_fits : (names : Names) (name : List ℕ) (k : Kind) → fits (object name) (verification_type names k) ≡ takes_object k
 takes_fits names name kinds.Top = refl
 takes_fits names name kinds.Int = refl
 takes_fits names name kinds.Float = refl
@@ -67,10 +67,10 @@ takes_fits names name kinds.UninitThis = refl
 takes_fits names name (kinds.Object n) = refl
 takes_fits names name (kinds.Uninit at) = refl
 
-catches_fits : (names : Names) (name : List ℕ) (stack : List Kind) → fit_each (object name ∷ []) (map (held names) stack) ≡ catches stack
+catches_fits : (names : Names) (name : List ℕ) (stack : List Kind) → fit_each (object name ∷ []) (map (verification_type names) stack) ≡ catches stack
 catches_fits names name [] = refl
-catches_fits names name (k ∷ []) = and-true (fits (object name) (held names k)) ∙ takes_fits names name k
-catches_fits names name (k ∷ l ∷ more) = and_right (fits (object name) (held names k)) false refl
+catches_fits names name (k ∷ []) = and-true (fits (object name) (verification_type names k)) ∙ takes_fits names name k
+catches_fits names name (k ∷ l ∷ more) = and_right (fits (object name) (verification_type names k)) false refl
 
 -- ---- both
 
@@ -84,26 +84,26 @@ module _ (old now : Names) (b : Body) (states : List State) (i : ℕ) (s : State
   unfolding tested
   guarded_decides h f e misses fit =
       let c = caught_object b h in
-      let left : at_handler b h (state_of old b i) ≡ Some (record { locals = map (held now) s.locals; stack = object c.0 ∷ [] }) =
-      ap (at_handler b h) kept.is ∙ ap (λ (x : Held). Some (record { locals = map (held now) s.locals; stack = x ∷ [] })) c.1 in
-      let right : state_of old b h.target ≡ Some (seen now f) =
+      let left : at_handler b h (state_of old b i) ≡ Some (record { locals = map (verification_type now) s.locals; stack = object c.0 ∷ [] }) =
+      ap (at_handler b h) kept.is ∙ ap (λ (x : VerificationType). Some (record { locals = map (verification_type now) s.locals; stack = x ∷ [] })) c.1 in
+      let right : state_of old b h.target ≡ Some (type_state now f) =
       frame_is old b h.target f e ∙ ap Some (sym (seen_grown old now f grown (frame_numbered (length old) b.frames frames h.target f e))) in
-      let both : FitState (record { locals = map (held now) s.locals; stack = object c.0 ∷ [] }) (seen now f) =
-      subst (FitsThere (Some (record { locals = map (held now) s.locals; stack = object c.0 ∷ [] }))) right (subst (λ (t : Option Seen). FitsThere t (state_of old b h.target)) left fit) in
-      fails_where (state_decided (record { locals = map (held now) s.locals; stack = object c.0 ∷ [] }) (seen now f))
+      let both : FitState (record { locals = map (verification_type now) s.locals; stack = object c.0 ∷ [] }) (type_state now f) =
+      subst (FitsThere (Some (record { locals = map (verification_type now) s.locals; stack = object c.0 ∷ [] }))) right (subst (λ (t : Option TypeState). FitsThere t (state_of old b h.target)) left fit) in
+      fails_where (state_decided (record { locals = map (verification_type now) s.locals; stack = object c.0 ∷ [] }) (type_state now f))
       (ap₂ (λ x y. x && y) (sym (each_held_fits now s.locals f.locals)) (catches_fits now c.0 f.stack) ∙ misses) both
 
   guarded_fits : (h : Handler) (f : State) → frame_in b.frames h.target ≡ Some f → tested h f ≡ true → FitsThere (at_handler b h (state_of old b i)) (state_of old b h.target)
   unfolding tested
   guarded_fits h f e holds =
       let c = caught_object b h in
-      let left : at_handler b h (state_of old b i) ≡ Some (record { locals = map (held now) s.locals; stack = object c.0 ∷ [] }) =
-      ap (at_handler b h) kept.is ∙ ap (λ (x : Held). Some (record { locals = map (held now) s.locals; stack = x ∷ [] })) c.1 in
-      let right : state_of old b h.target ≡ Some (seen now f) =
+      let left : at_handler b h (state_of old b i) ≡ Some (record { locals = map (verification_type now) s.locals; stack = object c.0 ∷ [] }) =
+      ap (at_handler b h) kept.is ∙ ap (λ (x : VerificationType). Some (record { locals = map (verification_type now) s.locals; stack = x ∷ [] })) c.1 in
+      let right : state_of old b h.target ≡ Some (type_state now f) =
       frame_is old b h.target f e ∙ ap Some (sym (seen_grown old now f grown (frame_numbered (length old) b.frames frames h.target f e))) in
-      subst (λ (t : Option Seen). FitsThere t (state_of old b h.target)) (sym left)
-      (subst (FitsThere (Some (record { locals = map (held now) s.locals; stack = object c.0 ∷ [] }))) (sym right)
-      ((state_decided (record { locals = map (held now) s.locals; stack = object c.0 ∷ [] }) (seen now f)).to
+      subst (λ (t : Option TypeState). FitsThere t (state_of old b h.target)) (sym left)
+      (subst (FitsThere (Some (record { locals = map (verification_type now) s.locals; stack = object c.0 ∷ [] }))) (sym right)
+      ((state_decided (record { locals = map (verification_type now) s.locals; stack = object c.0 ∷ [] }) (type_state now f)).to
       (ap₂ (λ x y. x && y) (sym (each_held_fits now s.locals f.locals)) (catches_fits now c.0 f.stack) ∙ holds)))
 
   handler_framed : (h : Handler) → Contains b.handlers h → frame_in b.frames h.target ≡ None → ⊥

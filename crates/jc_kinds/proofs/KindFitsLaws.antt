@@ -5,7 +5,7 @@ use Rattle.std.proofs.lemmas.List.{drop_more, drop_all}
 use Rattle.jc_methods.specs.declared.kind.Kind.{Kind}
 use Rattle.jc_methods.specs.declared.kind.Kind.TheVariants as kinds
 use Rattle.jc_methods.specs.declared.kind.State.{State}
-use Rattle.jc_methods.specs.Held.{Names, Held, object, held, seen}
+use Rattle.jc_methods.specs.VerificationTypes.{Names, VerificationType, object, verification_type, type_state}
 use Rattle.jc_kinds.specs.Fits.{fits, fit_each, fit_state}
 use Rattle.jc_kinds.specs.KindFits.{kind_fits, kinds_fit, state_fits}
 
@@ -29,7 +29,7 @@ fit_done ks ws i le same = let le' : length ws ≤ i = omega (arith, le, same) i
 -- ---- under any names
 
 -- a test that takes all objects alike
-alike : (names : Names) (test : Held → Bool) → ((a b : List ℕ) → test (object a) ≡ test (object b)) → (k : Kind) → test (held [] k) ≡ test (held names k)
+alike : (names : Names) (test : VerificationType → Bool) → ((a b : List ℕ) → test (object a) ≡ test (object b)) → (k : Kind) → test (verification_type [] k) ≡ test (verification_type names k)
 alike names test same (kinds.Object n) = same (get_or [] n []) (get_or names n [])
 alike names test same kinds.Top = refl
 alike names test same kinds.Int = refl
@@ -40,7 +40,7 @@ alike names test same kinds.Null = refl
 alike names test same kinds.UninitThis = refl
 alike names test same (kinds.Uninit at) = refl
 
-objects_alike : (w : Kind) (a b : List ℕ) → fits (object a) (held [] w) ≡ fits (object b) (held [] w)
+objects_alike : (w : Kind) (a b : List ℕ) → fits (object a) (verification_type [] w) ≡ fits (object b) (verification_type [] w)
 objects_alike kinds.Top a b = refl
 objects_alike kinds.Int a b = refl
 objects_alike kinds.Float a b = refl
@@ -51,17 +51,17 @@ objects_alike kinds.UninitThis a b = refl
 objects_alike (kinds.Object n) a b = refl
 objects_alike (kinds.Uninit at) a b = refl
 
-wants_alike : (names : Names) (h : Held) (w : Kind) → fits h (held [] w) ≡ fits h (held names w)
+wants_alike : (names : Names) (h : VerificationType) (w : Kind) → fits h (verification_type [] w) ≡ fits h (verification_type names w)
 wants_alike names h w = alike names (fits h) (λ a b. refl) w
 
-pub held_fits : (names : Names) (k w : Kind) → kind_fits k w ≡ fits (held names k) (held names w)
-held_fits names k w = alike names (λ (h : Held). fits h (held [] w)) (objects_alike w) k ∙ wants_alike names (held names k) w
+pub held_fits : (names : Names) (k w : Kind) → kind_fits k w ≡ fits (verification_type names k) (verification_type names w)
+held_fits names k w = alike names (λ (h : VerificationType). fits h (verification_type [] w)) (objects_alike w) k ∙ wants_alike names (verification_type names k) w
 
-pub each_held_fits : (names : Names) (ks ws : List Kind) → kinds_fit ks ws ≡ fit_each (map (held names) ks) (map (held names) ws)
+pub each_held_fits : (names : Names) (ks ws : List Kind) → kinds_fit ks ws ≡ fit_each (map (verification_type names) ks) (map (verification_type names) ws)
 each_held_fits names [] [] = refl
 each_held_fits names [] (w ∷ ws) = refl
 each_held_fits names (k ∷ ks) [] = refl
 each_held_fits names (k ∷ ks) (w ∷ ws) = ap₂ (λ a b. a && b) (held_fits names k w) (each_held_fits names ks ws)
 
-pub state_held_fits : (names : Names) (s t : State) → state_fits s t ≡ fit_state (seen names s) (seen names t)
+pub state_held_fits : (names : Names) (s t : State) → state_fits s t ≡ fit_state (type_state names s) (type_state names t)
 state_held_fits names s t = ap₂ (λ a b. a && b) (each_held_fits names s.locals t.locals) (each_held_fits names s.stack t.stack)

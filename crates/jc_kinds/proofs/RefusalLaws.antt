@@ -7,9 +7,10 @@ use Rattle.jc_bytes.specs.declared.fail.Fail.TheVariants as fails
 use Rattle.jc_bytes.specs.declared.refusal.Refusal.{Refusal}
 use Rattle.jc_bytes.specs.declared.refusal.RefusalKind.{RefusalKind}
 use Rattle.jc_bytes.specs.declared.refusal.RefusalKind.TheVariants as kinds
-use Rattle.jc_methods.specs.Held.{Names}
+use Rattle.jc_methods.specs.VerificationTypes.{Names}
 use Rattle.jc_kinds.specs.Checked.{Checked, FirstMissing, FirstClash}
-use Rattle.jc_kinds.specs.Answers.{IsKindReason, IsKindRefusal, Said, IsAnswer, refusal_of, lacks_frame, has_clash}
+use Rattle.jc_kinds.specs.Answers.{IsKindReason, IsKindRefusal, IsAnswer, refusal_of, lacks_frame, has_clash}
+use Rattle.jc_bytes.specs.Failing.{Said}
 use Rattle.jc_kinds.proofs.CheckLaws.{checked_not_missing, checked_not_clash, missing_not_clash, one_missing, one_clash}
 
 -- ---- refusals

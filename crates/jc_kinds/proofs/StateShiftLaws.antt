@@ -12,10 +12,10 @@ use Rattle.jc_methods.specs.declared.body.FrameAt.{FrameAt}
 use Rattle.jc_methods.specs.declared.kind.Kind.{Kind}
 use Rattle.jc_methods.specs.declared.kind.Kind.TheVariants as kinds
 use Rattle.jc_methods.specs.WellMade.{IsWellMadeOfAnySize, IsState, AreFramesFrom, kind_slots}
-use Rattle.jc_methods.specs.Held.{Names, Held, top, Seen, held, seen, seen_at, is_pair}
+use Rattle.jc_methods.specs.VerificationTypes.{Names, VerificationType, top, TypeState, verification_type, type_state, type_state_at, is_pair}
 use Rattle.jc_methods.specs.EntryState.{spread, arguments, entry_of}
 use Rattle.jc_methods.proofs.EntryLaws.{argument_slots, entry_count}
-use Rattle.jc_bytes.proofs.TestLaws.{first_in, later_in}
+use Rattle.jc_bytes.proofs.BooleanLaws.{first_in, later_in}
 use Rattle.jc_after.specs.After.{insn_at, after_of}
 use Rattle.jc_after.specs.Shift.{StaysWhole}
 use Rattle.jc_after.proofs.AfterLaws.{after_shifts}
@@ -27,20 +27,20 @@ use Rattle.jc_kinds.specs.StateShift.{IsStraddled, StatesStayWhole, StatesShift}
 
 -- ---- each instruction
 
-after_keeps : (b : Body) (i : ℕ) (s t : Seen) → (IsStraddled b i → ⊥) → after_of b i s ≡ Some t → StaysRound b.arg_slots s t
+after_keeps : (b : Body) (i : ℕ) (s t : TypeState) → (IsStraddled b i → ⊥) → after_of b i s ≡ Some t → StaysRound b.arg_slots s t
 after_keeps b i s t free e = after_stays b.arg_slots b i s t (λ insn at straddles. free (inl (insn, at, straddles))) e
 
 -- ---- the state in which a method begins
 
 -- one local variable, and then the others
-front_single : (x : Held) (front rest : List Held) (k : ℕ) → (is_pair x ≡ false) ⊎ (1 ≤ length front) → ((j : ℕ) → j + 1 ≡ length front → is_pair (get_or (front ++ rest) j top) ≡ false)
+front_single : (x : VerificationType) (front rest : List VerificationType) (k : ℕ) → (is_pair x ≡ false) ⊎ (1 ≤ length front) → ((j : ℕ) → j + 1 ≡ length front → is_pair (get_or (front ++ rest) j top) ≡ false)
     → k + 1 ≡ suc (length front) → is_pair (get_or (x ∷ (front ++ rest)) k top) ≡ false
 front_single x front rest zero (inl single) ih e = single
 front_single x front rest zero (inr some) ih e = absurd (omega (arith, some, e))
 front_single x front rest (suc k) other ih e = ih k (omega (arith, e))
 
 -- the last local variable of the arguments isn't the first half of a long or a double
-pub last_single : (values rest : List Held) (k : ℕ) → k + 1 ≡ length (spread values) → is_pair (get_or (spread values ++ rest) k top) ≡ false
+pub last_single : (values rest : List VerificationType) (k : ℕ) → k + 1 ≡ length (spread values) → is_pair (get_or (spread values ++ rest) k top) ≡ false
 last_single [] rest k e = absurd (omega (arith, e))
 last_single (h ∷ values) rest k e = by (λ j f. last_single values rest j f) (is_pair h) refl e
   where
@@ -57,13 +57,13 @@ entry_whole b w k e =
 
 -- ---- frames
 
-pub frame_is : (names : Names) (frames : List FrameAt) (i : ℕ) (s : Seen) → frame_at (map (seen_at names) frames) i ≡ Some s → (f : FrameAt) × Contains frames f × (f.at ≡ i) × (seen names f.state ≡ s)
+pub frame_is : (names : Names) (frames : List FrameAt) (i : ℕ) (s : TypeState) → frame_at (map (type_state_at names) frames) i ≡ Some s → (f : FrameAt) × Contains frames f × (f.at ≡ i) × (type_state names f.state ≡ s)
 frame_is names [] i s e = absurd (none-some _ e)
 frame_is names (f ∷ frames) i s e = by (λ h. frame_is names frames i s h) (nat_eq f.at i) refl e
   where
-    by : (frame_at (map (seen_at names) frames) i ≡ Some s → (g : FrameAt) × Contains frames g × (g.at ≡ i) × (seen names g.state ≡ s)) → (b : Bool) → nat_eq f.at i ≡ b
-        → (if b then Some (seen names f.state) else frame_at (map (seen_at names) frames) i) ≡ Some s → (g : FrameAt) × Contains (f ∷ frames) g × (g.at ≡ i) × (seen names g.state ≡ s)
-    by more true is e = (f, first_in f frames, eqb-true f.at i is, same_Some (seen names f.state) s e)
+    by : (frame_at (map (type_state_at names) frames) i ≡ Some s → (g : FrameAt) × Contains frames g × (g.at ≡ i) × (type_state names g.state ≡ s)) → (b : Bool) → nat_eq f.at i ≡ b
+        → (if b then Some (type_state names f.state) else frame_at (map (type_state_at names) frames) i) ≡ Some s → (g : FrameAt) × Contains (f ∷ frames) g × (g.at ≡ i) × (type_state names g.state ≡ s)
+    by more true is e = (f, first_in f frames, eqb-true f.at i is, same_Some (type_state names f.state) s e)
     by more false is e = let m = more e in (m.0, later_in f frames m.0 m.1, m.2, m.3)
 
 pub frame_state : (first : ℕ) (code : List Insn) (locals stack : ℕ) (frames : List FrameAt) (f : FrameAt) (k : ℕ) → AreFramesFrom first code locals stack frames → k < length frames → get_or frames k f ≡ f → IsState code locals stack f.state
@@ -71,7 +71,7 @@ frame_state first code locals stack [] f k are lt e = absurd (omega (arith, lt))
 frame_state first code locals stack (g ∷ frames) f zero are lt e = subst (λ (x : FrameAt). IsState code locals stack x.state) e are.2
 frame_state first code locals stack (g ∷ frames) f (suc k) are lt e = frame_state (g.at + 1) code locals stack frames f k are.3 (omega (arith, lt)) e
 
-held_single : (names : Names) (k : Kind) → (kind_slots k ≡ 2 → ⊥) → is_pair (held names k) ≡ false
+held_single : (names : Names) (k : Kind) → (kind_slots k ≡ 2 → ⊥) → is_pair (verification_type names k) ≡ false
 held_single names kinds.Top one = refl
 held_single names kinds.Int one = refl
 held_single names kinds.Float one = refl
@@ -85,34 +85,34 @@ held_single names (kinds.Uninit at) one = refl
 -- ---- all states
 
 -- what every state is
-abbrev Fine : Body → Seen → Type 0
+abbrev Fine : Body → TypeState → Type 0
 Fine b s = (length s.locals ≡ b.max_locals) × StaysWhole b.arg_slots s
 
 module _ (names : Names) (b : Body) (w : IsWellMadeOfAnySize b) (free : (i : ℕ) → IsStraddled b i → ⊥) where
-  frame_fine : (i : ℕ) (s : Seen) → frame_at (frames_of names b) i ≡ Some s → Fine b s
+  frame_fine : (i : ℕ) (s : TypeState) → frame_at (frames_of names b) i ≡ Some s → Fine b s
   frame_fine i s e =
       let f = frame_is names b.frames i s e in
       let is = frame_state 0 b.code b.max_locals b.max_stack b.frames f.0 f.1.0 w.frames f.1.1 f.1.2 in
       subst (Fine b) f.3 (
-        length-map f.0.state.locals (held names) ∙ is.locals,
+        length-map f.0.state.locals (verification_type names) ∙ is.locals,
         λ k at. ap is_pair (get_held names f.0.state.locals k) ∙ held_single names (get_or f.0.state.locals k kinds.Top) (λ two. free i (inr (f.0, f.1, f.2, (k, at, two)))),
       )
 
-  or_fine : (i : ℕ) (other : Option Seen) (s : Seen) → ((t : Seen) → other ≡ Some t → Fine b t) → or_else (frame_at (frames_of names b) i) other ≡ Some s → Fine b s
+  or_fine : (i : ℕ) (other : Option TypeState) (s : TypeState) → ((t : TypeState) → other ≡ Some t → Fine b t) → or_else (frame_at (frames_of names b) i) other ≡ Some s → Fine b s
   or_fine i other s more e = by (frame_at (frames_of names b) i) refl e
     where
-      by : (o : Option Seen) → frame_at (frames_of names b) i ≡ o → or_else o other ≡ Some s → Fine b s
+      by : (o : Option TypeState) → frame_at (frames_of names b) i ≡ o → or_else o other ≡ Some s → Fine b s
       by None is e = more s e
       by (Some t) is e = frame_fine i s (is ∙ e)
 
-  after_fine : (i : ℕ) (o : Option Seen) (falls : Bool) (t : Seen) → ((s : Seen) → o ≡ Some s → Fine b s) → (if falls then option_and_then (after_of b i) o else None) ≡ Some t → Fine b t
+  after_fine : (i : ℕ) (o : Option TypeState) (falls : Bool) (t : TypeState) → ((s : TypeState) → o ≡ Some s → Fine b s) → (if falls then option_and_then (after_of b i) o else None) ≡ Some t → Fine b t
   after_fine i o false t before e = absurd (none-some _ e)
   after_fine i None true t before e = absurd (none-some _ e)
   after_fine i (Some s) true t before e =
       let k = after_keeps b i s t (free i) e in let f = before s refl in
       (k.count ∙ f.0, k.whole f.1)
 
-  pub state_fine : (i : ℕ) (s : Seen) → state_of names b i ≡ Some s → Fine b s
+  pub state_fine : (i : ℕ) (s : TypeState) → state_of names b i ≡ Some s → Fine b s
   unfolding state_of
   state_fine zero s e = or_fine 0 (Some (entry_of b)) s (λ t is. subst (Fine b) (same_Some (entry_of b) t is) (entry_count b w, entry_whole b w)) e
   state_fine (suc i) s e =

@@ -9,7 +9,7 @@ use Rattle.jc_methods.specs.declared.kind.State.{State}
 use Rattle.jc_methods.specs.declared.body.Body.{Body}
 use Rattle.jc_methods.specs.Flow.{targets_of}
 use Rattle.jc_methods.specs.InsnUse.{LeadsWithin}
-use Rattle.jc_methods.specs.Held.{Names, Held, Seen, seen, IsNumberedState, AreNumberedFrames, Grows}
+use Rattle.jc_methods.specs.VerificationTypes.{Names, VerificationType, TypeState, type_state, IsNumberedState, AreNumberedFrames, Grows}
 use Rattle.jc_methods.specs.EntryState.{entry_of}
 use Rattle.jc_bytes.specs.Least.{IsNowhere}
 use Rattle.jc_methods.specs.WellMade.{IsState, IsWellMade}
@@ -20,9 +20,9 @@ use Rattle.jc_kinds.specs.Checked.{JumpsTo, LeadsTo, NeedsFrame, IsMissing}
 use Rattle.jc_kinds.specs.Checking.{branches}
 use Rattle.jc_kinds.specs.Frames.{frame_in}
 use Rattle.jc_kinds.specs.KindFits.{state_fits}
-use Rattle.jc_kinds.specs.Walk.{fits_there, fits_frame, Begins, IsStep, StopsAt, IsKeptAt, IsFlowClash, kept_of, IsWalk}
+use Rattle.jc_kinds.specs.StateSequence.{fits_there, fits_frame, Begins, IsStep, StopsAt, IsKeptAt, IsFlowClash, kept_of, IsWalk}
 use Rattle.std.proofs.lemmas.Option.{none-some}
-use Rattle.jc_bytes.proofs.TestLaws.{fails_where, stands_in, first_in, later_in}
+use Rattle.jc_bytes.proofs.BooleanLaws.{fails_where, stands_in, first_in, later_in}
 use Rattle.jc_kinds.proofs.FitsLaws.{fits_itself, state_decided}
 use Rattle.jc_kinds.proofs.CheckLaws.{has_frame_decided, goes_on_decided, falls_into_decided, leads_decided}
 use Rattle.jc_kinds.proofs.KindFitsLaws.{state_held_fits}
@@ -33,18 +33,18 @@ use Rattle.jc_bytes.proofs.ListLaws.{put_cases}
 
 -- ---- states that fit
 
-each_itself : (hs : List Held) → fit_each hs hs ≡ true
+each_itself : (hs : List VerificationType) → fit_each hs hs ≡ true
 each_itself [] = refl
 each_itself (h ∷ hs) = ap (λ (b : Bool). b && fit_each hs hs) (fits_itself h) ∙ each_itself hs
 
-pub state_itself : (s : Seen) → FitState s s
+pub state_itself : (s : TypeState) → FitState s s
 state_itself s = (state_decided s s).to (ap (λ (b : Bool). b && fit_each s.stack s.stack) (each_itself s.locals) ∙ each_itself s.stack)
 
-pub kept_fits : (names : Names) (s t : State) → state_fits s t ≡ true → FitState (seen names s) (seen names t)
-kept_fits names s t e = (state_decided (seen names s) (seen names t)).to (sym (state_held_fits names s t) ∙ e)
+pub kept_fits : (names : Names) (s t : State) → state_fits s t ≡ true → FitState (type_state names s) (type_state names t)
+kept_fits names s t e = (state_decided (type_state names s) (type_state names t)).to (sym (state_held_fits names s t) ∙ e)
 
-pub kept_misfits : (names : Names) (s t : State) → state_fits s t ≡ false → FitState (seen names s) (seen names t) → ⊥
-kept_misfits names s t e = fails_where (state_decided (seen names s) (seen names t)) (sym (state_held_fits names s t) ∙ e)
+pub kept_misfits : (names : Names) (s t : State) → state_fits s t ≡ false → FitState (type_state names s) (type_state names t) → ⊥
+kept_misfits names s t e = fails_where (state_decided (type_state names s) (type_state names t)) (sym (state_held_fits names s t) ∙ e)
 
 -- ---- tests of all items
 
@@ -82,44 +82,44 @@ jump_within b i j places t =
 -- ---- states by frames
 
 module _ (old : Names) (b : Body) where
-  pub frame_is : (j : ℕ) (s : State) → frame_in b.frames j ≡ Some s → state_of old b j ≡ Some (seen old s)
+  pub frame_is : (j : ℕ) (s : State) → frame_in b.frames j ≡ Some s → state_of old b j ≡ Some (type_state old s)
   unfolding state_of
-  frame_is zero s e = ap (λ (o : Option Seen). or_else o (Some (entry_of b))) (frame_seen old b.frames 0 ∙ ap (option_map (seen old)) e)
+  frame_is zero s e = ap (λ (o : Option TypeState). or_else o (Some (entry_of b))) (frame_seen old b.frames 0 ∙ ap (option_map (type_state old)) e)
   frame_is (suc j) s e =
-      ap (λ (o : Option Seen). or_else o (if falls_at (insn_at b j) then option_and_then (after_of b j) (state_of old b j) else None))
-      (frame_seen old b.frames (suc j) ∙ ap (option_map (seen old)) e)
+      ap (λ (o : Option TypeState). or_else o (if falls_at (insn_at b j) then option_and_then (after_of b j) (state_of old b j) else None))
+      (frame_seen old b.frames (suc j) ∙ ap (option_map (type_state old)) e)
 
   pub entry_is : frame_in b.frames 0 ≡ None → state_of old b 0 ≡ Some (entry_of b)
   unfolding state_of
-  entry_is e = ap (λ (o : Option Seen). or_else o (Some (entry_of b))) (frame_seen old b.frames 0 ∙ ap (option_map (seen old)) e)
+  entry_is e = ap (λ (o : Option TypeState). or_else o (Some (entry_of b))) (frame_seen old b.frames 0 ∙ ap (option_map (type_state old)) e)
 
   pub falls_is : (i : ℕ) → frame_in b.frames (suc i) ≡ None → falls_at (insn_at b i) ≡ true → state_of old b (suc i) ≡ after_at old b i
   unfolding state_of
   falls_is i e falls =
-      ap (λ (o : Option Seen). or_else o (if falls_at (insn_at b i) then option_and_then (after_of b i) (state_of old b i) else None))
-      (frame_seen old b.frames (suc i) ∙ ap (option_map (seen old)) e)
+      ap (λ (o : Option TypeState). or_else o (if falls_at (insn_at b i) then option_and_then (after_of b i) (state_of old b i) else None))
+      (frame_seen old b.frames (suc i) ∙ ap (option_map (type_state old)) e)
       ∙ ap (λ (c : Bool). if c then option_and_then (after_of b i) (state_of old b i) else None) falls
 
 -- ---- the first state
 
-pub begins_there : (old : Names) (b : Body) (entry s : State) → seen old entry ≡ entry_of b → Begins b.frames entry (Some s)
-    → (state_of old b 0 ≡ Some (seen old s)) × FitsThere (Some (entry_of b)) (state_of old b 0)
+pub begins_there : (old : Names) (b : Body) (entry s : State) → type_state old entry ≡ entry_of b → Begins b.frames entry (Some s)
+    → (state_of old b 0 ≡ Some (type_state old s)) × FitsThere (Some (entry_of b)) (state_of old b 0)
 begins_there old b entry s is begins = by (frame_in b.frames 0) refl begins.0 begins.1
   where
     by : (o : Option State) → frame_in b.frames 0 ≡ o → fits_there entry o ≡ true → s ≡ unwrap_or o entry
-        → (state_of old b 0 ≡ Some (seen old s)) × FitsThere (Some (entry_of b)) (state_of old b 0)
+        → (state_of old b 0 ≡ Some (type_state old s)) × FitsThere (Some (entry_of b)) (state_of old b 0)
     by None e fits same =
         let here = entry_is old b e in (
-          here ∙ ap Some (sym is ∙ ap (seen old) (sym same)),
+          here ∙ ap Some (sym is ∙ ap (type_state old) (sym same)),
           subst (FitsThere (Some (entry_of b))) (sym here) (state_itself (entry_of b)),
         )
     by (Some f) e fits same =
         let here = frame_is old b 0 f e in (
-          here ∙ ap (λ (t : State). Some (seen old t)) (sym same),
-          subst (FitsThere (Some (entry_of b))) (sym here) (subst (λ (t : Seen). FitState t (seen old f)) is (kept_fits old entry f fits)),
+          here ∙ ap (λ (t : State). Some (type_state old t)) (sym same),
+          subst (FitsThere (Some (entry_of b))) (sym here) (subst (λ (t : TypeState). FitState t (type_state old f)) is (kept_fits old entry f fits)),
         )
 
-pub begins_not : (old : Names) (b : Body) (entry : State) → seen old entry ≡ entry_of b → fits_frame b.frames entry 0 ≡ false → IsFlowClash old b 0
+pub begins_not : (old : Names) (b : Body) (entry : State) → type_state old entry ≡ entry_of b → fits_frame b.frames entry 0 ≡ false → IsFlowClash old b 0
 begins_not old b entry is misses = by (frame_in b.frames 0) refl misses
   where
     by : (o : Option State) → frame_in b.frames 0 ≡ o → fits_there entry o ≡ false → IsFlowClash old b 0
@@ -127,29 +127,29 @@ begins_not old b entry is misses = by (frame_in b.frames 0) refl misses
     by (Some f) e misses = inl (
       refl,
       λ fit.
-          kept_misfits old entry f misses (subst (λ (t : Seen). FitState t (seen old f)) (sym is) (subst (FitsThere (Some (entry_of b))) (frame_is old b 0 f e) fit)),
+          kept_misfits old entry f misses (subst (λ (t : TypeState). FitState t (type_state old f)) (sym is) (subst (FitsThere (Some (entry_of b))) (frame_is old b 0 f e) fit)),
     )
 
 -- ---- one instruction
 
 module _ (old before after : Names) (b : Body) (i : ℕ) (s : State) (made : IsWellMade b) (missing : IsNowhere (IsMissing b)) (grown : Grows old after)
-    (frames : AreNumberedFrames (length old) b.frames) (lt : i < length b.code) (here : state_of old b i ≡ Some (seen before s)) where
-  after_is : after_at old b i ≡ after_of b i (seen before s)
+    (frames : AreNumberedFrames (length old) b.frames) (lt : i < length b.code) (here : state_of old b i ≡ Some (type_state before s)) where
+  after_is : after_at old b i ≡ after_of b i (type_state before s)
   after_is = ap (option_and_then (after_of b i)) here
 
-  frame_later : (j : ℕ) (f : State) → frame_in b.frames j ≡ Some f → state_of old b j ≡ Some (seen after f)
+  frame_later : (j : ℕ) (f : State) → frame_in b.frames j ≡ Some f → state_of old b j ≡ Some (type_state after f)
   frame_later j f e = frame_is old b j f e ∙ ap Some (sym (seen_grown old after f grown (frame_numbered (length old) b.frames frames j f e)))
 
   -- where control goes on the state after the instruction fits
-  leads_there : (left : State) (j : ℕ) → after_at old b i ≡ Some (seen after left) → LeadsTo b i j → fits_frame b.frames left j ≡ true → FitsThere (Some (seen after left)) (state_of old b j)
+  leads_there : (left : State) (j : ℕ) → after_at old b i ≡ Some (type_state after left) → LeadsTo b i j → fits_frame b.frames left j ≡ true → FitsThere (Some (type_state after left)) (state_of old b j)
   leads_there left j is leads fits = by (frame_in b.frames j) refl fits leads
     where
-      by : (o : Option State) → frame_in b.frames j ≡ o → fits_there left o ≡ true → LeadsTo b i j → FitsThere (Some (seen after left)) (state_of old b j)
-      by (Some f) e fits leads = subst (FitsThere (Some (seen after left))) (sym (frame_later j f e)) (kept_fits after left f fits)
+      by : (o : Option State) → frame_in b.frames j ≡ o → fits_there left o ≡ true → LeadsTo b i j → FitsThere (Some (type_state after left)) (state_of old b j)
+      by (Some f) e fits leads = subst (FitsThere (Some (type_state after left))) (sym (frame_later j f e)) (kept_fits after left f fits)
       by None e fits (inl g) =
           let next : j ≡ suc i = g.1 ∙ add-one i in
-          let state : state_of old b j ≡ Some (seen after left) = ap (state_of old b) next ∙ falls_is old b i (sym (ap (frame_in b.frames) next) ∙ e) ((goes_on_decided b i).back g.0) ∙ is in
-          subst (FitsThere (Some (seen after left))) (sym state) (state_itself (seen after left))
+          let state : state_of old b j ≡ Some (type_state after left) = ap (state_of old b) next ∙ falls_is old b i (sym (ap (frame_in b.frames) next) ∙ e) ((goes_on_decided b i).back g.0) ∙ is in
+          subst (FitsThere (Some (type_state after left))) (sym state) (state_itself (type_state after left))
       by None e fits (inr t) = absurd (frame_needed b j missing (jump_within b i j made.of_any_size.code.places t) (inl (i, t)) e)
 
   -- where control goes on with no state that fits
@@ -163,7 +163,7 @@ module _ (old before after : Names) (b : Body) (i : ℕ) (s : State) (made : IsW
         j,
         leads,
         λ fit. kept_misfits after left f misses
-            (subst (λ (t : Option Seen). FitsThere t (Some (seen after f))) (after_is ∙ is) (subst (FitsThere (after_at old b i)) (frame_later j f e) fit)),
+            (subst (λ (t : Option TypeState). FitsThere t (Some (type_state after f))) (after_is ∙ is) (subst (FitsThere (after_at old b i)) (frame_later j f e) fit)),
       ))
 
   -- where it goes on with one
@@ -172,7 +172,7 @@ module _ (old before after : Names) (b : Body) (i : ℕ) (s : State) (made : IsW
   step_passes next entry st (inr (inl none)) = none-some _ (sym none ∙ (after_is ∙ st.after))
   step_passes next entry st (inr (inr (j, leads, unfit))) =
       let is = after_is ∙ st.after in
-      unfit (subst (λ (t : Option Seen). FitsThere t (state_of old b j)) (sym is)
+      unfit (subst (λ (t : Option TypeState). FitsThere t (state_of old b j)) (sym is)
       (leads_there st.left j is leads (all_true (fits_frame b.frames st.left) (branches (insn_at b i) i) j st.fits ((leads_decided b i j).1 leads))))
 
   -- and the next instruction has its state
@@ -182,10 +182,10 @@ module _ (old before after : Names) (b : Body) (i : ℕ) (s : State) (made : IsW
       next_is : next ≡ unwrap_or (frame_in b.frames (suc i)) st.left
       next_is = st.next_is ∙ ap (λ (k : ℕ). unwrap_or (frame_in b.frames k) st.left) (add-one i)
 
-      by : (o : Option State) → frame_in b.frames (suc i) ≡ o → state_of old b (suc i) ≡ Some (seen after next)
-      by (Some f) e = frame_later (suc i) f e ∙ ap (λ (t : State). Some (seen after t)) (sym (next_is ∙ ap (λ (o : Option State). unwrap_or o st.left) e))
+      by : (o : Option State) → frame_in b.frames (suc i) ≡ o → state_of old b (suc i) ≡ Some (type_state after next)
+      by (Some f) e = frame_later (suc i) f e ∙ ap (λ (t : State). Some (type_state after t)) (sym (next_is ∙ ap (λ (o : Option State). unwrap_or o st.left) e))
       by None e = falls_is old b i e (falls (falls_at (insn_at b i)) refl) ∙ after_is ∙ st.after
-          ∙ ap (λ (t : State). Some (seen after t)) (sym (next_is ∙ ap (λ (o : Option State). unwrap_or o st.left) e))
+          ∙ ap (λ (t : State). Some (type_state after t)) (sym (next_is ∙ ap (λ (o : Option State). unwrap_or o st.left) e))
         where
           falls : (c : Bool) → falls_at (insn_at b i) ≡ c → falls_at (insn_at b i) ≡ true
           falls true is = is
@@ -209,7 +209,7 @@ pub record IsWalking (old now : Names) (b : Body) (keeps : Bool) (states : List 
   pub here : i < length b.code → IsKeptAt old now b i state
   pub entry : FitsThere (Some (entry_of b)) (state_of old b 0)
 
-pub walk_begins : (old : Names) (b : Body) (keeps : Bool) (entry s : State) → seen old entry ≡ entry_of b → IsState b.code b.max_locals b.max_stack s → IsNumberedState (length old) s
+pub walk_begins : (old : Names) (b : Body) (keeps : Bool) (entry s : State) → type_state old entry ≡ entry_of b → IsState b.code b.max_locals b.max_stack s → IsNumberedState (length old) s
     → Begins b.frames entry (Some s) → IsWalking old old b keeps [] 0 s
 walk_begins old b keeps entry s is made numbered begins =
     let there = begins_there old b entry s is begins in record {
@@ -275,7 +275,7 @@ walk_ends old now b keeps states i count s all same w = record {
   kept = λ k. w.kept k ∙ all;
 }
 
-pub walk_begins_not : (old : Names) (b : Body) (keeps : Bool) (entry : State) → seen old entry ≡ entry_of b → fits_frame b.frames entry 0 ≡ false → IsWalk old old b keeps 0 []
+pub walk_begins_not : (old : Names) (b : Body) (keeps : Bool) (entry : State) → type_state old entry ≡ entry_of b → fits_frame b.frames entry 0 ≡ false → IsWalk old old b keeps 0 []
 walk_begins_not old b keeps entry is misses = record {
   first = record { within = omega arith; free = λ k less f. absurd (omega (arith, less)); found = λ less. begins_not old b entry is misses };
   each = λ k t e. absurd (none-some _ e);

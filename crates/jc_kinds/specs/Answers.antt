@@ -2,12 +2,12 @@
 use Rattle.std.specs.Prelude.{◌≡◌, ⊤, ℕ, List, length, Some, Result, Ok, Err, slice_get}
 use Rattle.jc_methods.specs.declared.kind.State.{State}
 use Rattle.jc_methods.specs.declared.body.Body.{Body}
+use Rattle.jc_bytes.specs.Failing.{Said}
 use Rattle.jc_bytes.specs.declared.fail.Fail.{Fail}
-use Rattle.jc_bytes.specs.declared.fail.Fail.TheVariants as fails
 use Rattle.jc_bytes.specs.declared.refusal.Refusal.{Refusal}
 use Rattle.jc_bytes.specs.declared.refusal.RefusalKind.{RefusalKind}
 use Rattle.jc_bytes.specs.declared.refusal.RefusalKind.TheVariants as kinds
-use Rattle.jc_methods.specs.Held.{Names, seen, IsNumberedState}
+use Rattle.jc_methods.specs.VerificationTypes.{Names, type_state, IsNumberedState}
 use Rattle.jc_methods.specs.WellMade.{IsState}
 use Rattle.jc_kinds.specs.States.{state_of}
 use Rattle.jc_kinds.specs.Checked.{Checked, FirstMissing, FirstClash}
@@ -15,7 +15,7 @@ use Rattle.jc_kinds.specs.Checked.{Checked, FirstMissing, FirstClash}
 -- The state before an instruction, well made: it has a type for each local variable and room on the stack, and its
 -- class numbers are among the names.
 pub record IsStateAt (names : Names) (b : Body) (i : ℕ) (s : State) : Type 0 where
-  pub is : state_of names b i ≡ Some (seen names s)
+  pub is : state_of names b i ≡ Some (type_state names s)
   pub numbered : IsNumberedState (length names) s
   pub well_made : IsState b.code b.max_locals b.max_stack s
 
@@ -34,11 +34,6 @@ IsKindReason names b kind place = ⊥
 pub record IsKindRefusal (names : Names) (b : Body) (refusal : Refusal) : Type 0 where
   pub method_is : refusal.method ≡ Some b.method
   pub reason : IsKindReason names b refusal.kind refusal.place
-
--- memory may run out at any time; else the refusal is one of these
-abbrev pub Said : Fail Refusal → (Refusal → Type 0) → Type 0
-Said fails.Memory Fact = ⊤
-Said (fails.Said refusal) Fact = Fact refusal
 
 -- the body passes, and what is found is as it should be, or the reason for which it doesn't pass
 abbrev pub IsAnswer : {X : Type 0} → Names → Body → (X → Type 0) → Result X (Fail Refusal) → Type 0

@@ -7,7 +7,7 @@ use Rattle.jc_methods.specs.declared.body.FrameAt.{FrameAt}
 use Rattle.jc_methods.specs.declared.body.Body.{Body}
 use Rattle.jc_methods.specs.Flow.{FallsThrough, targets_of}
 use Rattle.jc_bytes.specs.Least.{IsNowhere, IsLeast}
-use Rattle.jc_methods.specs.Held.{Names, Held, object, Seen}
+use Rattle.jc_methods.specs.VerificationTypes.{Names, VerificationType, object, TypeState}
 use Rattle.jc_methods.specs.EntryState.{entry_of}
 use Rattle.jc_methods.specs.WellMade.{what_used}
 use Rattle.jc_after.specs.After.{insn_at, class_in}
@@ -64,12 +64,12 @@ pub record IsMissing (b : Body) (i : ℕ) : Type 0 where
 -- ---- states that don't fit
 
 -- the one reference on the stack of a handler (JVM Specification 4.10.1.6): of the row's class, or any throwable
-abbrev pub caught : Body → Handler → Held
+abbrev pub caught : Body → Handler → VerificationType
 caught b h = if nat_eq h.class 0 then object (codes "java/lang/Throwable") else object (class_in (what_used b.uses h.class))
 
 -- the local variables, and that reference alone on the stack
-abbrev pub at_handler : Body → Handler → Option Seen → Option Seen
-at_handler b h s = option_map (λ (seen : Seen). record seen { stack = caught b h ∷ [] }) s
+abbrev pub at_handler : Body → Handler → Option TypeState → Option TypeState
+at_handler b h s = option_map (λ (seen : TypeState). record seen { stack = caught b h ∷ [] }) s
 
 -- it is the first instruction, and the state in which the method begins doesn't fit its frame
 abbrev pub EntryClash : Names → Body → ℕ → Type 0

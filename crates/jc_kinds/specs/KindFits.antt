@@ -2,12 +2,12 @@
 use Rattle.std.specs.Prelude.{Bool, false, true, ◌&&◌, List, [], ◌∷◌}
 use Rattle.jc_methods.specs.declared.kind.Kind.{Kind}
 use Rattle.jc_methods.specs.declared.kind.State.{State}
-use Rattle.jc_methods.specs.Held.{held}
+use Rattle.jc_methods.specs.VerificationTypes.{verification_type}
 use Rattle.jc_kinds.specs.Fits.{fits}
 
 -- classes aren't compared, so any list of names will do
 abbrev pub kind_fits : Kind → Kind → Bool
-kind_fits kind want = fits (held [] kind) (held [] want)
+kind_fits kind want = fits (verification_type [] kind) (verification_type [] want)
 
 abbrev pub kinds_fit : List Kind → List Kind → Bool
 kinds_fit [] [] = true

@@ -5,9 +5,9 @@ pub mod Checking
 pub mod Answers
 pub mod KindFits
 pub mod Frames
-pub mod Marks
+pub mod Marking
 pub mod First
 pub mod Runs
 pub mod Guarded
-pub mod Walk
+pub mod StateSequence
 pub mod StateShift

@@ -1,12 +1,13 @@
 //! The kind check of a body.
 ghost use Rattle.std.specs.Prelude.{◌≡◌, ◌≢◌, ◌⊎◌, ⊤, ℕ, [], true, Some, length, IfOk, IfErr, MatchResult};
-ghost use Rattle.jc_methods.specs.Held.{Grows, AreNumberedFrames};
+ghost use Rattle.jc_methods.specs.VerificationTypes.{Grows, AreNumberedFrames};
 ghost use Rattle.jc_methods.specs.WellMade.{IsWellMade};
 ghost use Rattle.jc_bytes.specs.Least.{IsNowhere};
 ghost use Rattle.jc_kinds.specs.Checked.{Checked, IsMissing, FirstMissing, FirstClash};
 ghost use Rattle.jc_kinds.specs.Frames.{AreNumbers};
-ghost use Rattle.jc_kinds.specs.Walk.{IsWalkFrom, IsKeptEntry};
-ghost use Rattle.jc_kinds.specs.Answers.{AreStates, IsKindRefusal, Said, IsAnswer, refusal_of, lacks_frame, has_clash};
+ghost use Rattle.jc_kinds.specs.StateSequence.{IsWalkFrom, IsKeptEntry};
+ghost use Rattle.jc_kinds.specs.Answers.{AreStates, IsKindRefusal, IsAnswer, refusal_of, lacks_frame, has_clash};
+ghost use Rattle.jc_bytes.specs.Failing.{Said};
 
 use crate::frames::frame_numbers;
 use crate::guarded::first_unguarded;

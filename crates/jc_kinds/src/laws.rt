@@ -1,7 +1,7 @@
 //! Laws of the kind check.
 ghost use Rattle.std.specs.Prelude.{◌≡◌, ◌⊎◌, ◌↔◌, ◌≤◌, ◌++◌, ℕ, length, IsTrue};
 ghost use Rattle.jc_methods.specs.declared.body.Body.{Body};
-ghost use Rattle.jc_methods.specs.Held.{Names, Held, AreNumberedFrames};
+ghost use Rattle.jc_methods.specs.VerificationTypes.{Names, VerificationType, AreNumberedFrames};
 ghost use Rattle.jc_kinds.specs.Checked.{Checked, FirstMissing, FirstClash};
 ghost use Rattle.jc_kinds.specs.Checking.{verdict_of, passes, frame_missing, frame_clash};
 ghost use Rattle.jc_kinds.specs.States.{state_of};
@@ -31,7 +31,7 @@ pub fn the_tests_decide()
 pub fn more_names_change_no_state()
     ensures stay { (names more : Names) (b : Body) → AreNumberedFrames (length names) b.frames → (i : ℕ)
         → state_of (names ++ more) b i ≡ state_of names b i }
-    ensures fits { (a b : Held) → IsTrue (fits a b) ↔ Fits a b }
+    ensures fits { (a b : VerificationType) → IsTrue (fits a b) ↔ Fits a b }
 {}
 
 /// Where no long or double stands round the local variable behind the arguments, each state of a body shifts with

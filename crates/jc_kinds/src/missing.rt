@@ -7,7 +7,7 @@ ghost use Rattle.jc_methods.specs.WellMade.{IsWellMade};
 ghost use Rattle.jc_kinds.specs.Checked.{IsMissing, FirstMissing};
 ghost use Rattle.jc_kinds.specs.Checking.{falls_into, needs_frame, is_missing};
 ghost use Rattle.jc_kinds.specs.Frames.{AreNumbers};
-ghost use Rattle.jc_kinds.specs.Marks.{Marks, is_among, leads_to, begins_handler, AreTargets};
+ghost use Rattle.jc_kinds.specs.Marking.{MarksWhere, is_among, leads_to, begins_handler, AreTargets};
 
 use crate::frames::frame_at;
 use jc_bytes::Memory;
@@ -17,7 +17,7 @@ use std::alloc::Global;
 /// Marks places.
 fn mark_each(marks: &mut [bool], places: &[u32])
     requires { All (λ place. place < length marks.old) places.now }
-    ensures { Marks marks.old marks.new (is_among places.now) }
+    ensures { MarksWhere marks.old marks.new (is_among places.now) }
 {
     'marking: for place in places {
         marks[*place as usize] = true;
@@ -27,7 +27,7 @@ fn mark_each(marks: &mut [bool], places: &[u32])
 /// Marks the places to which an instruction may jump.
 fn mark_insn(alloc: Global, insn: &Insn, marks: &mut [bool]) -> Result<(), Memory>
     requires { LeadsWithin (length marks.old) insn.now }
-    ensures { OnOk result (Marks marks.old marks.new (is_among (targets_of insn.now))) }
+    ensures { OnOk result (MarksWhere marks.old marks.new (is_among (targets_of insn.now))) }
 {
     match insn {
         Insn::Jump { to, .. } => {
@@ -46,7 +46,7 @@ fn mark_insn(alloc: Global, insn: &Insn, marks: &mut [bool]) -> Result<(), Memor
 /// Marks the instructions to which others may jump.
 fn mark_targets(alloc: Global, code: &[Insn], marks: &mut [bool]) -> Result<(), Memory>
     requires { All (LeadsWithin (length marks.old)) code.now }
-    ensures { OnOk result (Marks marks.old marks.new (leads_to code.now)) }
+    ensures { OnOk result (MarksWhere marks.old marks.new (leads_to code.now)) }
 {
     'marking: for insn in code {
         mark_insn(alloc, insn, marks)?;
@@ -57,7 +57,7 @@ fn mark_targets(alloc: Global, code: &[Insn], marks: &mut [bool]) -> Result<(), 
 /// Marks the instructions at which handlers begin.
 fn mark_handlers(handlers: &[Handler], marks: &mut [bool])
     requires { All (λ h. h.target < length marks.old) handlers.now }
-    ensures { Marks marks.old marks.new (begins_handler handlers.now) }
+    ensures { MarksWhere marks.old marks.new (begins_handler handlers.now) }
 {
     'marking: for handler in handlers {
         marks[handler.target as usize] = true;

@@ -13,7 +13,7 @@ use Rattle.jc_methods.specs.declared.insn.Insn.TheVariants as insns
 use Rattle.jc_methods.specs.declared.kind.State.{State}
 use Rattle.jc_methods.specs.declared.body.Body.{Body}
 use Rattle.jc_methods.specs.declared.body.Use.{Use}
-use Rattle.jc_insn.specs.declared.item.Item.TheVariants as items
+use Rattle.jc_insn.specs.declared.item.CodeItem.TheVariants as items
 use Rattle.jc_insn.specs.Items.{operands, IsItem}
 use Rattle.jc_insn.specs.Sizes.{StartAt}
 use Rattle.jc_insn.specs.Spells.{SpellsFrom, Spells}

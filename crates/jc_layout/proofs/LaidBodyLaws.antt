@@ -13,7 +13,7 @@ use Rattle.jc_methods.specs.declared.body.VarAt.{VarAt}
 use Rattle.jc_methods.specs.declared.body.Use.{Use}
 use Rattle.jc_methods.specs.declared.body.What.{What}
 use Rattle.jc_methods.specs.declared.emitted.Emitted.{Emitted}
-use Rattle.jc_bytes.proofs.TestLaws.{in_map, of_map}
+use Rattle.jc_bytes.proofs.BooleanLaws.{in_map, of_map}
 use Rattle.jc_insn.specs.Layouts.{laid_code}
 use Rattle.jc_emit.specs.Shift.{probe_array_class}
 use Rattle.jc_emit.specs.Marks.{image_place, land_place, lead_place}
@@ -23,7 +23,7 @@ use Rattle.jc_emit.specs.TwinFrames.{state_at, IsFrame, AreTwinFrames}
 use Rattle.jc_emit.specs.Items.{insn_of, own_of, lead_of, land_of, image_of, marks_of_items, twin_items}
 use Rattle.jc_emit.specs.Emission.{emission, widened_frame, AreWidened}
 use Rattle.jc_emit.specs.Twin.{probe_init, Twin}
-use Rattle.jc_emit.proofs.Ends.{images_are, lands_are, leads_are}
+use Rattle.jc_emit.proofs.EndsLaws.{images_are, lands_are, leads_are}
 use Rattle.jc_emit.proofs.WholeLaws.{code_told}
 use Rattle.jc_emit.proofs.FrameLaws.{frames_told}
 use Rattle.jc_emit.proofs.WidenedLaws.{lead_is, land_is}

@@ -74,7 +74,7 @@ module _ (b : Body) (first : ℕ) (wide : Bool) where
 
   main_behind : (i : ℕ) (flow : Flow) → AllBehind (image_part b first wide i (old i) flow)
   main_behind i flows.GoesOn = (tt, tt)
-  main_behind i flows.Tests = tests_behind i (old i) (late_probe b first i)
+  main_behind i flows.Branches = tests_behind i (old i) (late_probe b first i)
   main_behind i flows.Jumps = (tt, tt)
   main_behind i flows.Switches = (tt, arms_behind (land_of b first wide) (probe_of b first) (arms_at b.code i))
   main_behind i flows.Returns = (tt, tt)

@@ -19,7 +19,7 @@ use Rattle.jc_methods.specs.declared.insn.Flow.{Flow}
 use Rattle.jc_methods.specs.declared.insn.Flow.TheVariants as flows
 use Rattle.jc_methods.specs.declared.body.Body.{Body}
 use Rattle.jc_methods.specs.declared.kind.State.{State}
-use Rattle.jc_bytes.proofs.TestLaws.{none_in, which_in, first_in, later_in}
+use Rattle.jc_bytes.proofs.BooleanLaws.{none_in, which_in, first_in, later_in}
 use Rattle.jc_insn.proofs.PlacesLaws.{well_formed_with}
 use Rattle.jc_plan.specs.declared.branch.Branch.{Branch}
 use Rattle.jc_plan.specs.Edges.{arm, branches_by}
@@ -33,7 +33,7 @@ use Rattle.jc_emit.specs.Items.{Item, init_call, init_store, image, probe_array,
 use Rattle.jc_emit.specs.Local.{Lands, Ok, OkImage}
 use Rattle.jc_emit.proofs.FewLaws.{few_emitted}
 use Rattle.jc_emit.proofs.PlacedLaws.{flow_push, flow_shifted, targets_placed, no_targets, inverse_targets, placed_targets}
-use Rattle.jc_emit.proofs.Others.{jumps_target}
+use Rattle.jc_emit.proofs.OthersLaws.{jumps_target}
 use Rattle.jc_emit.proofs.LocalLaws.{twin_ok}
 use Rattle.jc_layout.proofs.FormedLaws.{inverted_formed, slot_formed, call_formed, store_formed, load_formed, one_formed, put_formed, goto_formed, push_formed}
 
@@ -78,7 +78,7 @@ module _ (b : Body) (first : ℕ) (is_code : IsCode b.code) where
 
   image_formed : (q i : ℕ) (insn : Insn) (flow : Flow) → i < length b.code → Image q i insn flow → IsWellFormed insn
   image_formed q i insn flows.GoesOn lt h = subst IsWellFormed (sym h.0) (slot_formed b.arg_slots (old i) (formed i lt))
-  image_formed q i insn flows.Tests lt h =
+  image_formed q i insn flows.Branches lt h =
       ⊎_elim (λ alike. subst IsWellFormed (sym alike.same) (well_formed_with (λ to. alike.target) (old i) (formed i lt)))
       (λ inverse. subst IsWellFormed (sym inverse.inverse) (inverted_formed inverse.target (old i) (formed i lt))) h
   image_formed q i insn flows.Jumps lt h = subst IsWellFormed (sym h.same) (well_formed_with (λ to. h.target) (old i) (formed i lt))
@@ -120,7 +120,7 @@ module _ (b : Body) (first : ℕ) (is_code : IsCode b.code) where
   image_within q i insn flows.GoesOn e h =
       subst (λ x. Within (targets_of x)) (sym h.0)
       (subst Within (sym (no_targets (with_slot b.arg_slots (old i)) (inl (flow_shifted b.arg_slots (old i) ∙ e)))) tt)
-  image_within q i insn flows.Tests e h =
+  image_within q i insn flows.Branches e h =
       ⊎_elim
       (λ alike. subst (λ x. Within (targets_of x)) (sym alike.same)
       (subst Within (sym (placed_targets (old i) (λ to. alike.target) e)) (lands_within alike.target _ _ alike.jumped, tt)))

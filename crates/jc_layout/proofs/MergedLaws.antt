@@ -11,9 +11,9 @@ use Rattle.jc_methods.specs.declared.insn.Flow.TheVariants as flows
 use Rattle.jc_methods.specs.declared.body.FrameAt.{FrameAt}
 use Rattle.jc_bytes.proofs.FirstSeenLaws.{contains_one}
 use Rattle.jc_methods.specs.FrameOrder.{RiseFrom}
-use Rattle.jc_bytes.proofs.TestLaws.{none_in, which_in, first_in, later_in}
+use Rattle.jc_bytes.proofs.BooleanLaws.{none_in, which_in, first_in, later_in}
 use Rattle.jc_emit.specs.Emission.{widened_frame}
-use Rattle.jc_emit.proofs.TwinPremises.{risen}
+use Rattle.jc_emit.proofs.TwinPremisesLaws.{risen}
 use Rattle.jc_layout.specs.Merged.{with_frame, merged}
 
 -- ---- what is listed
@@ -101,7 +101,7 @@ merged_rises frames (f ∷ others) from r s apart =
 -- ---- in the wide code
 
 some_width : (flow : Flow) → 1 ≤ widths_by flow
-some_width flows.Tests = omega arith
+some_width flows.Branches = omega arith
 some_width flow = omega arith
 
 place_above : (code : List Insn) (k : ℕ) → k ≤ wide_place code k

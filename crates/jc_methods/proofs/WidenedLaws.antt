@@ -38,7 +38,7 @@ next_place (x ∷ code) (suc place) insn is =
 -- ---- images
 
 length_by : (places : ℕ → ℕ) (here : ℕ) (insn : Insn) (flow : Flow) → length (widened_by places here insn flow) ≡ widths_by flow
-length_by places here insn flows.Tests = refl
+length_by places here insn flows.Branches = refl
 length_by places here insn flow = refl
 
 length_from : (places : ℕ → ℕ) (here : ℕ) (code : List Insn) → length (widened_from places here code) ≡ wide_place code (length code)
@@ -79,12 +79,12 @@ image_at places here (x ∷ code) (suc place) insn j is below =
     ∙ ap (λ (h : ℕ). slice_get (widened_by places h insn (flow_of insn)) j) there
 
 one_at_least : (flow : Flow) → 0 < widths_by flow
-one_at_least flows.Tests = omega arith
+one_at_least flows.Branches = omega arith
 one_at_least flow = omega arith
 
-first_same : (places : ℕ → ℕ) (here : ℕ) (insn : Insn) (flow : Flow) → flow ≢ flows.Tests
+first_same : (places : ℕ → ℕ) (here : ℕ) (insn : Insn) (flow : Flow) → flow ≢ flows.Branches
     → slice_get (widened_by places here insn flow) 0 ≡ Some (with_places places insn)
-first_same places here insn flows.Tests other = absurd (other refl)
+first_same places here insn flows.Branches other = absurd (other refl)
 first_same places here insn flow other = refl
 
 pub has_image : (code : List Insn) (place : ℕ) (insn : Insn) → slice_get code place ≡ Some insn → HasImage code place insn

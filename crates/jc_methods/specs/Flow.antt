@@ -16,7 +16,7 @@ flow_of_simple op = if is_return op then flows.Returns else if nat_eq op opcode.
 
 -- goto, or a conditional jump
 abbrev pub flow_of_jump : ℕ → Flow
-flow_of_jump op = if nat_eq op opcode.goto then flows.Jumps else flows.Tests
+flow_of_jump op = if nat_eq op opcode.goto then flows.Jumps else flows.Branches
 
 abbrev pub flow_of : Insn → Flow
 flow_of (insns.Simple op) = flow_of_simple op
@@ -27,7 +27,7 @@ flow_of _ = flows.GoesOn
 
 -- the next instruction may follow
 abbrev pub FallsThrough : Insn → Type 0
-FallsThrough insn = (flow_of insn ≡ flows.GoesOn) ⊎ (flow_of insn ≡ flows.Tests)
+FallsThrough insn = (flow_of insn ≡ flows.GoesOn) ⊎ (flow_of insn ≡ flows.Branches)
 
 -- where the instruction may jump: of a switch the default first, then the arms in their order
 abbrev pub targets_of : Insn → List ℕ
@@ -42,8 +42,8 @@ jump_target (insns.Jump op to) = to
 jump_target _ = 0
 
 -- the opcode of a conditional jump: ifeq to if_acmpne, ifnull and ifnonnull
-abbrev pub is_test : ℕ → Bool
-is_test op = (nat_le opcode.ifeq op && nat_le op opcode.if_acmpne) || (nat_eq op opcode.ifnull || nat_eq op opcode.ifnonnull)
+abbrev pub is_conditional_branch : ℕ → Bool
+is_conditional_branch op = (nat_le opcode.ifeq op && nat_le op opcode.if_acmpne) || (nat_eq op opcode.ifnull || nat_eq op opcode.ifnonnull)
 
 -- the opcode of the conditional jump that jumps exactly where this one doesn't
 unfoldable pub inverse_of : ℕ → ℕ

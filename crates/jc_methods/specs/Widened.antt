@@ -19,7 +19,7 @@ inverted to insn = insn
 
 -- how many instructions stand for one: two for a conditional jump
 abbrev pub widths_by : Flow → ℕ
-widths_by flows.Tests = 2
+widths_by flows.Branches = 2
 widths_by _ = 1
 
 -- The place in the wide form of what stands for the instruction at this place of the code. Behind the end the
@@ -33,7 +33,7 @@ wide_place (insn ∷ code) (suc place) = widths_by (flow_of insn) + wide_place c
 -- to the place two behind its own, past a goto to where the conditional jump leads. `places` gives the new place
 -- of each place.
 abbrev pub widened_by : (ℕ → ℕ) → ℕ → Insn → Flow → List Insn
-widened_by places here insn flows.Tests = inverted (here + 2) insn ∷ goto (places (jump_target insn)) ∷ []
+widened_by places here insn flows.Branches = inverted (here + 2) insn ∷ goto (places (jump_target insn)) ∷ []
 widened_by places here insn flow = with_places places insn ∷ []
 
 abbrev pub widened_from : (ℕ → ℕ) → ℕ → List Insn → List Insn
@@ -54,8 +54,8 @@ HasAt code place insn = slice_get code place ≡ Some insn
 -- What stands in the wide form for the instruction at this place of the code.
 pub record HasImage (code : List Insn) (place : ℕ) (insn : Insn) : Type 0 where
   -- an instruction that is no conditional jump is as it was, but for the places to which it leads
-  pub same : flow_of insn ≢ flows.Tests → HasAt (widened code) (wide_place code place) (with_places (wide_place code) insn)
+  pub same : flow_of insn ≢ flows.Branches → HasAt (widened code) (wide_place code place) (with_places (wide_place code) insn)
   -- a conditional jump is its inverse, leading two places on,
-  pub inverse : flow_of insn ≡ flows.Tests → HasAt (widened code) (wide_place code place) (inverted (wide_place code place + 2) insn)
+  pub inverse : flow_of insn ≡ flows.Branches → HasAt (widened code) (wide_place code place) (inverted (wide_place code place + 2) insn)
   -- with a goto behind it
-  pub jump : flow_of insn ≡ flows.Tests → HasAt (widened code) (wide_place code place + 1) (goto (wide_place code (jump_target insn)))
+  pub jump : flow_of insn ≡ flows.Branches → HasAt (widened code) (wide_place code place + 1) (goto (wide_place code (jump_target insn)))

@@ -13,6 +13,7 @@ mod insn_use;
 mod kind;
 pub mod opcode;
 mod plan;
+mod probe_members;
 mod same;
 mod slots;
 mod starts;
@@ -30,9 +31,12 @@ pub use descriptor_types::{
 pub use emitted::Emitted;
 pub use entry::{entry_state, put_tops};
 pub use form::{Form, form_of};
-pub use insn::{Arm, Flow, Insn, inverse, is_test};
+pub use insn::{Arm, Flow, Insn, inverse, is_conditional_branch};
 pub use kind::{Kind, State};
 pub use plan::{Edge, Plan};
+pub use probe_members::{
+    DATA_NAME, FETCH_NAME, FETCH_TYPE, INIT_NAME, INIT_TYPE, PROBE_ARRAY, RUNTIME_CLASS,
+};
 pub use slots::{a_replaced_slot_is_a_mapped_one, mapped_locals_are_within};
 pub use starts::insn_numbers;
 pub use used::what_used;

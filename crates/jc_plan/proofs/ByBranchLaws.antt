@@ -11,7 +11,7 @@ use Rattle.jc_methods.specs.declared.insn.Insn.{Insn}
 use Rattle.jc_methods.specs.declared.insn.Flow.{Flow}
 use Rattle.jc_methods.specs.declared.insn.Flow.TheVariants as flows
 use Rattle.jc_methods.specs.declared.body.Body.{Body}
-use Rattle.jc_bytes.proofs.TestLaws.{stands_in}
+use Rattle.jc_bytes.proofs.BooleanLaws.{stands_in}
 use Rattle.jc_plan.specs.declared.branch.Branch.{Branch}
 use Rattle.jc_plan.specs.Edges.{branches, jump, arm, exit, branches_of}
 use Rattle.jc_plan.specs.Entries.{goes_on}
@@ -39,7 +39,7 @@ falls insn g = by (flow_of insn) refl g
   where
     by : (flow : Flow) → flow_of insn ≡ flow → goes_on flow ≡ true → FallsThrough insn
     by flows.GoesOn e g = inl e
-    by flows.Tests e g = inr e
+    by flows.Branches e g = inr e
     by flows.Jumps e g = absurd cc
     by flows.Switches e g = absurd cc
     by flows.Returns e g = absurd cc

@@ -3,7 +3,7 @@ use Rattle.std.proofs.Common.{◌≡◌, ⊎_elim, ◌+◌, ◌<◌, ◌≤◌, 
 use Rattle.std.specs.Prelude.{Contains}
 use Rattle.std.specs.List.{count_by, AllByRecursion}
 use Rattle.std.proofs.lemmas.List.Sums.{sum_by-cons, sum_by-append}
-use Rattle.jc_bytes.proofs.TestLaws.{none_in, which_in}
+use Rattle.jc_bytes.proofs.BooleanLaws.{none_in, which_in}
 use Rattle.jc_plan.specs.Entries.{one_if}
 
 -- ---- tests

@@ -16,7 +16,7 @@ use Rattle.jc_methods.specs.declared.body.Handler.{Handler}
 use Rattle.jc_plan.specs.declared.branch.Branch.{Branch}
 use Rattle.jc_plan.specs.Edges.{branches, branches_of}
 use Rattle.jc_plan.specs.Entries.{one_if, entries, leads_to}
-use Rattle.jc_plan.specs.Marks.{enters, EntersWithin}
+use Rattle.jc_plan.specs.InsnFacts.{enters, EntersWithin}
 use Rattle.jc_plan.proofs.PlacesLaws.{same_as_mapped, joins_one}
 use Rattle.jc_plan.proofs.CountLaws.{count_join}
 use Rattle.jc_plan.proofs.FlowLaws.{all_entered, few_branches, few_in_front, length_join, branches_within}

@@ -24,7 +24,7 @@ use Rattle.jc_plan.specs.declared.branch.Way.{Way}
 use Rattle.jc_plan.specs.declared.branch.Way.TheVariants.{Falls}
 use Rattle.jc_plan.specs.Edges.{sequence, jump, arm, branches_by, branches_of, branches}
 use Rattle.jc_plan.specs.Entries.{one_if, leads_to}
-use Rattle.jc_plan.specs.Marks.{enters, EntersWithin}
+use Rattle.jc_plan.specs.InsnFacts.{enters, EntersWithin}
 use Rattle.jc_plan.proofs.CountLaws.{count_cons, count_one, count_join, each_joined}
 
 -- ---- targets
@@ -32,7 +32,7 @@ use Rattle.jc_plan.proofs.CountLaws.{count_cons, count_one, count_join, each_joi
 -- goto and a conditional jump have one target, and what isn't a jump or a switch has none
 abbrev pub HasTargets : Flow → List ℕ → Type 0
 HasTargets flows.GoesOn targets = targets ≡ []
-HasTargets flows.Tests targets = (to : ℕ) × (targets ≡ to ∷ [])
+HasTargets flows.Branches targets = (to : ℕ) × (targets ≡ to ∷ [])
 HasTargets flows.Jumps targets = (to : ℕ) × (targets ≡ to ∷ [])
 HasTargets flows.Switches targets = ⊤
 HasTargets flows.Returns targets = targets ≡ []
@@ -47,7 +47,7 @@ has_targets (insns.Simple op) = by (is_return op) (nat_eq op opcode.athrow)
     by false false = refl
 has_targets (insns.Jump op to) = by (nat_eq op opcode.goto)
   where
-    by : (g : Bool) → HasTargets (cond g flows.Jumps flows.Tests) (to ∷ [])
+    by : (g : Bool) → HasTargets (cond g flows.Jumps flows.Branches) (to ∷ [])
     by true = (to, refl)
     by false = (to, refl)
 has_targets (insns.Table low default arms) = tt
@@ -86,7 +86,7 @@ module _ (k : ℕ) where
 
   pub all_at : (flow : Flow) (targets : List ℕ) → AllByRecursion (IsAt k) (branches_by flow k targets)
   all_at flows.GoesOn targets = (record { at = refl; goes = (refl, refl) }, tt)
-  all_at flows.Tests targets = (record { at = refl; goes = (refl, refl) }, jumps_at targets)
+  all_at flows.Branches targets = (record { at = refl; goes = (refl, refl) }, jumps_at targets)
   all_at flows.Jumps targets = jumps_at targets
   all_at flows.Switches targets = arms_at 0 (first_seen targets)
   all_at flows.Returns targets = (record { at = refl; goes = tt }, tt)
@@ -104,7 +104,7 @@ arms_rise k n (to ∷ targets) = (omega arith, arms_rise k (n + 1) targets)
 
 pub all_rise : (flow : Flow) (k : ℕ) (targets : List ℕ) → HasTargets flow targets → IsRising 0 (branches_by flow k targets)
 all_rise flows.GoesOn k targets has = (omega arith, tt)
-all_rise flows.Tests k targets has = subst (λ (l : List ℕ). IsRising 0 (sequence k ∷ map (jump k) l)) (sym has.1) (omega arith, (omega arith, tt))
+all_rise flows.Branches k targets has = subst (λ (l : List ℕ). IsRising 0 (sequence k ∷ map (jump k) l)) (sym has.1) (omega arith, (omega arith, tt))
 all_rise flows.Jumps k targets has = subst (λ (l : List ℕ). IsRising 0 (map (jump k) l)) (sym has.1) (omega arith, tt)
 all_rise flows.Switches k targets has = arms_rise k 0 (first_seen targets)
 all_rise flows.Returns k targets has = (omega arith, tt)
@@ -134,7 +134,7 @@ length_seen (x ∷ xs) = omega (arith, length_kept (λ y. not (nat_eq x y)) (fir
 
 length_branches : (flow : Flow) (k : ℕ) (targets : List ℕ) → length (branches_by flow k targets) ≤ 1 + length targets
 length_branches flows.GoesOn k targets = omega arith
-length_branches flows.Tests k targets = omega (arith, length_jumps k targets)
+length_branches flows.Branches k targets = omega (arith, length_jumps k targets)
 length_branches flows.Jumps k targets = omega (arith, length_jumps k targets)
 length_branches flows.Switches k targets = omega (arith, length_arms k 0 (first_seen targets), length_seen targets)
 length_branches flows.Returns k targets = omega arith
@@ -219,7 +219,7 @@ count_jump i k to = count_one (enters i) (jump k to) ∙ ap one_if (nat_eq_equiv
 
 entered : (flow : Flow) (i k : ℕ) (targets : List ℕ) → HasTargets flow targets → count_by (enters i) (branches_by flow k targets) ≡ one_if (list_any (nat_eq i) targets)
 entered flows.GoesOn i k targets has = ap (λ (l : List ℕ). one_if (list_any (nat_eq i) l)) (sym has)
-entered flows.Tests i k targets has =
+entered flows.Branches i k targets has =
     subst (λ (l : List ℕ). count_by (enters i) (sequence k ∷ map (jump k) l) ≡ one_if (list_any (nat_eq i) l)) (sym has.1)
     (omega (arith, count_cons (enters i) (sequence k) (jump k has.0 ∷ []), count_jump i k has.0))
 entered flows.Jumps i k targets has =
@@ -272,7 +272,7 @@ module _ (count k : ℕ) where
 
   pub branches_within : (flow : Flow) (targets : List ℕ) → AllByRecursion Below targets → AllByRecursion (EntersWithin count) (branches_by flow k targets)
   branches_within flows.GoesOn targets each = (tt, tt)
-  branches_within flows.Tests targets each = (tt, jumps_within targets each)
+  branches_within flows.Branches targets each = (tt, jumps_within targets each)
   branches_within flows.Jumps targets each = jumps_within targets each
   branches_within flows.Switches targets each = arms_within 0 (first_seen targets) (seen_within Below targets each)
   branches_within flows.Returns targets each = (tt, tt)

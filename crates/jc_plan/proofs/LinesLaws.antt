@@ -10,7 +10,7 @@ use Rattle.jc_plan.specs.declared.branch.Way.{Way}
 use Rattle.jc_plan.specs.declared.branch.Way.TheVariants.{Falls, Jumps, Switches, Exits}
 use Rattle.jc_plan.specs.Entries.{IsLineStart, IsInvocationLine, is_line_start, is_call, calls_from, is_invocation_line, is_fallen_into, is_multi_target}
 use Rattle.jc_plan.specs.Probed.{IsProbedWay, is_probed_way, IsProbed, is_probed}
-use Rattle.jc_bytes.proofs.TestLaws.{none_in, which_in, first_in, later_in}
+use Rattle.jc_bytes.proofs.BooleanLaws.{none_in, which_in, first_in, later_in}
 
 start_found : (lines : List LineAt) (i : ℕ) → is_line_start lines i ≡ true → IsLineStart lines i
 start_found [] i h = absurd cc

@@ -4,7 +4,7 @@ use Rattle.std.specs.Prelude.{slice_get, Contains}
 use Rattle.std.specs.List.{AllByRecursion}
 use Rattle.std.proofs.lemmas.List.Elements.{Contains-append_left, Contains-append_right, Contains-append_cases}
 use Rattle.jc_bytes.specs.PlainLists.{join_from}
-use Rattle.jc_bytes.proofs.TestLaws.{none_in, which_in}
+use Rattle.jc_bytes.proofs.BooleanLaws.{none_in, which_in}
 
 -- ---- joined lists
 

@@ -9,7 +9,7 @@ use Rattle.jc_bytes.specs.PlainLists.{join_from}
 use Rattle.jc_methods.specs.Flow.{flow_of, targets_of}
 use Rattle.jc_methods.specs.declared.insn.Insn.{Insn}
 use Rattle.jc_methods.specs.declared.body.Body.{Body}
-use Rattle.jc_bytes.proofs.TestLaws.{same_tests}
+use Rattle.jc_bytes.proofs.BooleanLaws.{same_tests}
 use Rattle.jc_plan.specs.declared.branch.Branch.{Branch}
 use Rattle.jc_plan.specs.declared.branch.Way.{Way}
 use Rattle.jc_plan.specs.declared.branch.Way.TheVariants.{Falls, Jumps, Switches, Exits}

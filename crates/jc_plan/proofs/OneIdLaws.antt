@@ -12,7 +12,7 @@ use Rattle.jc_methods.specs.declared.insn.Insn.{Insn}
 use Rattle.jc_methods.specs.declared.insn.Flow.{Flow}
 use Rattle.jc_methods.specs.declared.insn.Flow.TheVariants as flows
 use Rattle.jc_methods.specs.declared.body.Body.{Body}
-use Rattle.jc_bytes.proofs.TestLaws.{none_in, which_in, first_in}
+use Rattle.jc_bytes.proofs.BooleanLaws.{none_in, which_in, first_in}
 use Rattle.jc_plan.specs.declared.branch.Branch.{Branch}
 use Rattle.jc_plan.specs.declared.branch.Way.{Way}
 use Rattle.jc_plan.specs.declared.branch.Way.TheVariants.{Falls, Jumps, Switches, Exits}
@@ -179,7 +179,7 @@ module _ (b : Body) where
 
   has_sequence : (flow : Flow) (k : ℕ) (targets : List ℕ) → goes_on flow ≡ true → Contains (branches_by flow k targets) (sequence k)
   has_sequence flows.GoesOn k targets h = first_in (sequence k) []
-  has_sequence flows.Tests k targets h = first_in (sequence k) (map (jump k) targets)
+  has_sequence flows.Branches k targets h = first_in (sequence k) (map (jump k) targets)
   has_sequence flows.Jumps k targets h = absurd cc
   has_sequence flows.Switches k targets h = absurd cc
   has_sequence flows.Returns k targets h = absurd cc

@@ -14,7 +14,7 @@ use Rattle.jc_methods.specs.declared.insn.Flow.TheVariants as flows
 use Rattle.jc_methods.specs.declared.body.Body.{Body}
 use Rattle.jc_methods.specs.declared.body.Handler.{Handler}
 use Rattle.jc_bytes.proofs.FirstSeenLaws.{contains_one, first_seen_distinct, first_seen_listed}
-use Rattle.jc_bytes.proofs.TestLaws.{none_in, which_in, first_in, later_in}
+use Rattle.jc_bytes.proofs.BooleanLaws.{none_in, which_in, first_in, later_in}
 use Rattle.jc_plan.specs.declared.branch.Branch.{Branch}
 use Rattle.jc_plan.specs.declared.branch.Way.{Way}
 use Rattle.jc_plan.specs.declared.branch.Way.TheVariants.{Falls, Jumps, Switches, Exits}
@@ -68,7 +68,7 @@ any_listed i (t ∷ ts) c =
 abbrev HasOne : List ℕ → Type 0
 HasOne ts = (t : ℕ) × (ts ≡ t ∷ [])
 
-tests_one : (insn : Insn) → flow_of insn ≡ flows.Tests → HasOne (targets_of insn)
+tests_one : (insn : Insn) → flow_of insn ≡ flows.Branches → HasOne (targets_of insn)
 tests_one insn e = subst (λ (f : Flow). HasTargets f (targets_of insn)) e (has_targets insn)
 
 jumps_one : (insn : Insn) → flow_of insn ≡ flows.Jumps → HasOne (targets_of insn)
@@ -79,7 +79,7 @@ jumps_one insn e = subst (λ (f : Flow). HasTargets f (targets_of insn)) e (has_
 -- one of the branches of the instruction at i
 pub data IsOf (insn : Insn) (i : ℕ) (x : Branch) : Type 0 where
   a_sequence : goes_on (flow_of insn) ≡ true → sequence i ≡ x → IsOf insn i x
-  a_jump : (to : ℕ) → targets_of insn ≡ to ∷ [] → ((flow_of insn ≡ flows.Tests) ⊎ (flow_of insn ≡ flows.Jumps)) → jump i to ≡ x → IsOf insn i x
+  a_jump : (to : ℕ) → targets_of insn ≡ to ∷ [] → ((flow_of insn ≡ flows.Branches) ⊎ (flow_of insn ≡ flows.Jumps)) → jump i to ≡ x → IsOf insn i x
   an_arm : (number to : ℕ) → flow_of insn ≡ flows.Switches → Contains (targets_of insn) to → Contains (map_from (arm i) 0 (first_seen (targets_of insn))) (arm i number to) → arm i number to ≡ x → IsOf insn i x
   an_exit : ((flow_of insn ≡ flows.Returns) ⊎ (flow_of insn ≡ flows.Throws)) → exit i ≡ x → IsOf insn i x
 
@@ -99,7 +99,7 @@ arm_listed i k (t ∷ ts) x c =
     (λ later. let more = arm_listed i (k + 1) ts x later in let le = more.3 in (more.0, more.1, later_in t ts more.1 more.2, omega (arith, le), more.4))
     (which_in (arm i k t) (map_from (arm i) (k + 1) ts) x c)
 
-jump_is : (insn : Insn) (i : ℕ) (x : Branch) → HasOne (targets_of insn) → ((flow_of insn ≡ flows.Tests) ⊎ (flow_of insn ≡ flows.Jumps)) → Contains (map (jump i) (targets_of insn)) x → IsOf insn i x
+jump_is : (insn : Insn) (i : ℕ) (x : Branch) → HasOne (targets_of insn) → ((flow_of insn ≡ flows.Branches) ⊎ (flow_of insn ≡ flows.Jumps)) → Contains (map (jump i) (targets_of insn)) x → IsOf insn i x
 jump_is insn i x one flow c =
     let l = jump_listed i (targets_of insn) x c in
     let e : one.0 ≡ l.0 = contains_one one.0 l.0 (subst (λ ts. Contains ts l.0) one.1 l.1) in
@@ -110,7 +110,7 @@ is_of insn i x c = by (flow_of insn) refl c
   where
     by : (flow : Flow) → flow_of insn ≡ flow → Contains (branches_by flow i (targets_of insn)) x → IsOf insn i x
     by flows.GoesOn e c = a_sequence (ap goes_on e) (contains_one (sequence i) x c)
-    by flows.Tests e c =
+    by flows.Branches e c =
         ⊎_elim
         (λ same. a_sequence (ap goes_on e) same)
         (λ later. jump_is insn i x (tests_one insn e) (inl e) later)
@@ -284,8 +284,8 @@ same_jump code x y t s r at wx wy = by s.is (subst (λ k. IsOf r.insn k y) (sym 
     not_falls way k (inl e) h = let z : Falls k ≡ Jumps t = h ∙ e in cc
     not_falls way k (inr e) h = let z : Falls k ≡ Switches t = h ∙ e in cc
 
-    not_both : {f : Flow} → (f ≡ flows.Tests) ⊎ (f ≡ flows.Jumps) → f ≡ flows.Switches → ⊥
-    not_both (inl e) h = let z : flows.Tests ≡ flows.Switches = sym e ∙ h in cc
+    not_both : {f : Flow} → (f ≡ flows.Branches) ⊎ (f ≡ flows.Jumps) → f ≡ flows.Switches → ⊥
+    not_both (inl e) h = let z : flows.Branches ≡ flows.Switches = sym e ∙ h in cc
     not_both (inr e) h = let z : flows.Jumps ≡ flows.Switches = sym e ∙ h in cc
 
     by : IsOf s.insn x.at x → IsOf r.insn x.at y → y ≡ x

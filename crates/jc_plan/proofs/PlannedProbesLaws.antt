@@ -16,7 +16,7 @@ use Rattle.jc_plan.specs.Edges.{sequence, jump, arm, exit, branches_by, branches
 use Rattle.jc_plan.specs.Entries.{one_if, goes_on, is_fallen_into, is_multi_target, is_invocation_line}
 use Rattle.jc_plan.specs.Probed.{Position, position_of, is_before, is_probed_way, is_probed, probes_before, id_if}
 use Rattle.jc_plan.specs.Plan.{out_probe}
-use Rattle.jc_plan.specs.Marks.{ids_from}
+use Rattle.jc_plan.specs.InsnFacts.{ids_from}
 use Rattle.jc_plan.proofs.PlacesLaws.{join_from_more}
 use Rattle.jc_plan.proofs.CountLaws.{count_cons, count_join, count_put, count_agree, count_none, each_mapped}
 use Rattle.jc_plan.proofs.FlowLaws.{IsAt, all_at, IsRising, all_rise, has_targets}
@@ -80,7 +80,7 @@ module _ (b : Body) where
   probed_by : (flow : Flow) (k : ℕ) (targets : List ℕ) → is_fallen_into b.code (k + 1) ≡ goes_on flow
       → count_by (is_probed b) (branches_by flow k targets) ≡ count_by (own b) (branches_by flow k targets) + lead (k + 1)
   probed_by flows.GoesOn k targets h = omega (arith, count_cons (is_probed b) (sequence k) [], count_cons (own b) (sequence k) [])
-  probed_by flows.Tests k targets h =
+  probed_by flows.Branches k targets h =
       omega (arith, count_cons (is_probed b) (sequence k) (map (jump k) targets), count_cons (own b) (sequence k) (map (jump k) targets), own_jumps k targets)
   probed_by flows.Jumps k targets h = omega (arith, own_jumps k targets, no_lead (k + 1) h)
   probed_by flows.Switches k targets h = omega (arith, own_arms k 0 (first_seen targets), no_lead (k + 1) h)

@@ -20,7 +20,7 @@ use Rattle.jc_plan.specs.Edges.{branches_of, branches}
 use Rattle.jc_plan.specs.Entries.{one_if, goes_on, is_fallen_into, is_multi_target, is_invocation_line}
 use Rattle.jc_plan.specs.Probed.{Position, position_of, is_before, is_probed_way, is_probed, probes_before, probe_count, id_if}
 use Rattle.jc_plan.specs.Plan.{plan_of, lead_probe, out_probes}
-use Rattle.jc_plan.specs.Marks.{EntersWithin, has_probe, ids_from}
+use Rattle.jc_plan.specs.InsnFacts.{EntersWithin, has_probe, ids_from}
 use Rattle.jc_plan.proofs.PlacesLaws.{mapped_at}
 use Rattle.jc_plan.proofs.CountLaws.{count_cons, count_agree, each_mapped}
 use Rattle.jc_plan.proofs.FlowLaws.{few_branches, branches_within}
@@ -29,9 +29,9 @@ use Rattle.jc_plan.proofs.PlannedProbesLaws.{none_before, behind_lead, out_ids}
 
 -- ---- the instruction in front may go on
 
-falls_through : (flow : Flow) → goes_on flow ≡ true → (flow ≡ flows.GoesOn) ⊎ (flow ≡ flows.Tests)
+falls_through : (flow : Flow) → goes_on flow ≡ true → (flow ≡ flows.GoesOn) ⊎ (flow ≡ flows.Branches)
 falls_through flows.GoesOn h = inl refl
-falls_through flows.Tests h = inr refl
+falls_through flows.Branches h = inr refl
 falls_through flows.Jumps h = absurd cc
 falls_through flows.Switches h = absurd cc
 falls_through flows.Returns h = absurd cc

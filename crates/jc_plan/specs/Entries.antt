@@ -34,7 +34,7 @@ entries b i =
 -- the next instruction may follow: all can fall through but goto, switches, returns and athrow
 abbrev pub goes_on : Flow → Bool
 goes_on flows.GoesOn = true
-goes_on flows.Tests = true
+goes_on flows.Branches = true
 goes_on _ = false
 
 abbrev pub falls_at : Option Insn → Bool

@@ -2,8 +2,8 @@ pub mod Edges
 pub mod Entries
 pub mod Probed
 pub mod Plan
-pub mod Marks
-pub mod Rows
+pub mod InsnFacts
+pub mod WorkedExamples
 pub mod Leading
 pub mod ByBranch
 pub mod Analysed

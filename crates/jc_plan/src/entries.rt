@@ -8,7 +8,7 @@ ghost use Rattle.jc_methods.specs.InsnUse.{LeadsWithin};
 ghost use Rattle.jc_methods.specs.WellMade.{IsHandler, IsWellMadeOfAnySize, insns_and_arms};
 ghost use Rattle.jc_plan.specs.Edges.{branches, branches_of};
 ghost use Rattle.jc_plan.specs.Entries.{one_if, goes_on, entries, is_multi_target};
-ghost use Rattle.jc_plan.specs.Marks.{enters, EntersWithin};
+ghost use Rattle.jc_plan.specs.InsnFacts.{enters, EntersWithin};
 
 use crate::branch::{Branch, Way, put_branches};
 use jc_bytes::Memory;

@@ -7,7 +7,7 @@ ghost use Rattle.jc_methods.specs.WellMade.{IsWellMadeOfAnySize};
 ghost use Rattle.jc_plan.specs.declared.branch.Way.TheVariants.{Falls};
 ghost use Rattle.jc_plan.specs.Edges.{branches_of};
 ghost use Rattle.jc_plan.specs.Entries.{one_if, is_multi_target};
-ghost use Rattle.jc_plan.specs.Marks.{has_probe, ids_from};
+ghost use Rattle.jc_plan.specs.InsnFacts.{has_probe, ids_from};
 ghost use Rattle.jc_plan.specs.Probed.{id_if, is_probed_way};
 ghost use Rattle.jc_plan.specs.Plan.{plan_of};
 

@@ -1,4 +1,4 @@
-pub mod PoolSteps
+pub mod PoolStepsLaws
 pub mod EntryLaws
 pub mod PoolLaws
 pub mod WritingLaws

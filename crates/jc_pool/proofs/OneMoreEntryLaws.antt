@@ -12,7 +12,7 @@ use Rattle.jc_pool.specs.Lookup.{entry_of, utf8_in, utf8_of}
 use Rattle.jc_pool.specs.Adding.{IsFirst, IsNowhere}
 use Rattle.jc_pool.specs.Index.{IsFirstBelow, AreFirsts, Notes, NotesEntry, standing_for, AreStandins, key_in, key_at, slot_key}
 use Rattle.jc_pool.proofs.FirstPlaceLaws.{nothing_more, noted, same_below, first_stays}
-use Rattle.jc_pool.proofs.PoolSteps.{length_slots}
+use Rattle.jc_pool.proofs.PoolStepsLaws.{length_slots}
 
 -- ---- what stands where
 

@@ -8,7 +8,7 @@ use Rattle.jc_report.specs.Split.{split_at_last}
 use Rattle.jc_report.specs.Rows.{row_of, rows_of}
 use Rattle.jc_report.specs.Csv.{header}
 use Rattle.jc_report.specs.Reported.{report_text}
-use Rattle.jc_report.specs.Worked.{unordered, one_line, counted, file_of, half_covered, not_covered, calculator}
+use Rattle.jc_report.specs.WorkedExamples.{unordered, one_line, counted, file_of, half_covered, not_covered, calculator}
 
 pub zero_is_shown : shown (0xc0 ∷ 0x80 ∷ []) ≡ 0 ∷ []
 unfolding shown utf16_chars lib.Utf8.encode

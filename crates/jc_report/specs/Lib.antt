@@ -6,4 +6,4 @@ pub mod Rows
 pub mod Csv
 pub mod Written
 pub mod Reported
-pub mod Worked
+pub mod WorkedExamples

@@ -13,7 +13,7 @@ use Rattle.jc_base.specs.declared.Fail.{Fail}
 use Rattle.jc_base.specs.declared.Fail.TheVariants as fails
 use Rattle.jc_base.specs.declared.Refusal.{Refusal}
 use Rattle.jc_base.proofs.DecoderLaws.{some_is}
-use Rattle.jc_kinds.specs.Answers.{Said}
+use Rattle.jc_base.specs.Failing.{Said}
 use Rattle.jc_instrument.specs.Analysis.{IsAnalysis}
 use Rattle.jc_instrument.specs.Reasons.{AnalysisReason}
 use Rattle.jc_instrument.specs.SameAnalysis.{IsSameAnalysis, without_frames}

@@ -10,25 +10,25 @@ use Rattle.jc_top.specs.declared.status.Fault.TheVariants as fault
 use Rattle.jc_top.specs.Words.{Word}
 use Rattle.jc_top.specs.Command.{report}
 use Rattle.jc_top.specs.ExecData.{IsUnionOf, IsFirstRefused, no_data}
-use Rattle.jc_top.specs.Report.{Item, AreItems, data_texts, class_texts, lines_of, first_clash, csv_of_items}
+use Rattle.jc_top.specs.Report.{ReportedFile, AreItems, data_texts, class_texts, lines_of, first_clash, csv_of_items}
 use Rattle.jc_top.specs.World.{to_file, to_err}
 use Rattle.jc_top.specs.Work.{Answer, Answers, reported, report_refused, report_clashes, refusing}
 use Rattle.jc_top.proofs.ExecDataLaws.{one_union_of, union_of_none, union_or_refused, one_refused, some_union_or_refused}
 use Rattle.jc_top.proofs.ListingLaws.{IsFile}
 use Rattle.jc_top.proofs.ReportLaws.{one_items, some_items, one_clash, no_clash_in_front, none_clashes}
 
-abbrev report_answer : Word → Word → List Word → Store → List Item → Answer
+abbrev report_answer : Word → Word → List Word → Store → List ReportedFile → Answer
 report_answer out name paths store items =
     record { writes = map to_err (lines_of paths items) ++ to_file out (csv_of_items name store.classes items) ∷ []; status = status.Done }
 
 module _ (out name : Word) (exec : Option Word) (paths : List Word) (texts : List (List ℕ)) where
   -- an answer, by what decided it
   pub data ReportAnswer (answer : Answer) : Type 0 where
-    by_items : (store : Store) (items : List Item) → IsUnionOf (data_texts exec texts) store → AreItems (class_texts exec texts) items
+    by_items : (store : Store) (items : List ReportedFile) → IsUnionOf (data_texts exec texts) store → AreItems (class_texts exec texts) items
         → first_clash store.classes items ≡ None → answer ≡ report_answer out name paths store items → ReportAnswer answer
     by_data : (index : ℕ) (path : Word) (refusal : ExecRefusal) → IsFirstRefused (option_to_list exec) (data_texts exec texts) index path refusal
         → answer ≡ refusing path (fault.Exec index refusal) → ReportAnswer answer
-    by_clash : (path : Word) (store : Store) (count : ℕ) (items : List Item) (refusal : ExecRefusal) → exec ≡ Some path → IsUnionOf (data_texts exec texts) store
+    by_clash : (path : Word) (store : Store) (count : ℕ) (items : List ReportedFile) (refusal : ExecRefusal) → exec ≡ Some path → IsUnionOf (data_texts exec texts) store
         → AreItems (take count (class_texts exec texts)) items → first_clash store.classes items ≡ Some refusal
         → answer ≡ refusing path (fault.Exec 0 refusal) → ReportAnswer answer
 
@@ -36,10 +36,10 @@ module _ (out name : Word) (exec : Option Word) (paths : List Word) (texts : Lis
   same_path : (p q : Word) → exec ≡ Some p → exec ≡ Some q → p ≡ q
   same_path p q e f = cc
 
-  same_answer : (s t : Store) (xs ys : List Item) → s ≡ t → xs ≡ ys → report_answer out name paths s xs ≡ report_answer out name paths t ys
+  same_answer : (s t : Store) (xs ys : List ReportedFile) → s ≡ t → xs ≡ ys → report_answer out name paths s xs ≡ report_answer out name paths t ys
   same_answer s t xs ys same_s same_i = ap₂ (report_answer out name paths) same_s same_i
 
-  items_or_clash : (s t : Store) (count : ℕ) (xs ys : List Item) (r : ExecRefusal) → IsUnionOf (data_texts exec texts) s → AreItems (class_texts exec texts) xs
+  items_or_clash : (s t : Store) (count : ℕ) (xs ys : List ReportedFile) (r : ExecRefusal) → IsUnionOf (data_texts exec texts) s → AreItems (class_texts exec texts) xs
       → first_clash s.classes xs ≡ None → IsUnionOf (data_texts exec texts) t → AreItems (take count (class_texts exec texts)) ys
       → first_clash t.classes ys ≡ Some r → ⊥
   items_or_clash s t count xs ys r u p none v q e =
@@ -71,12 +71,12 @@ module _ (out name : Word) (exec : Option Word) (paths : List Word) (texts : Lis
 -- ---- there is an answer
 
 -- where no execution data is named nothing clashes
-data_of_none : (store : Store) (items : List Item) → IsUnionOf [] store → first_clash store.classes items ≡ None
+data_of_none : (store : Store) (items : List ReportedFile) → IsUnionOf [] store → first_clash store.classes items ≡ None
 data_of_none store items u =
     subst (λ (s : Store). first_clash s.classes items ≡ None) (one_union_of [] no_data store union_of_none u) (none_clashes items)
 
 module _ (out name : Word) (paths : List Word) (texts : List (List ℕ)) where
-  with_items : (exec : Option Word) (store : Store) (items : List Item) (clash : Option ExecRefusal) → IsUnionOf (data_texts exec texts) store
+  with_items : (exec : Option Word) (store : Store) (items : List ReportedFile) (clash : Option ExecRefusal) → IsUnionOf (data_texts exec texts) store
       → AreItems (class_texts exec texts) items → first_clash store.classes items ≡ clash → (answer : Answer) × Answers (report out name exec paths) texts answer
   with_items exec store items None u are none = (_, reported store items u are none)
   with_items None store items (Some r) u are clash = absurd (differ (sym (data_of_none store items u) ∙ clash))

@@ -22,7 +22,7 @@ use Rattle.jc_instrument.specs.SameAnalysis.{IsSameAnalysis}
 use Rattle.jc_instrument.proofs.OneReasonLaws.{one_reason}
 use Rattle.jc_instrument.proofs.SameAnalysisLaws.{same_analysis}
 use Rattle.jc_instrument.proofs.EachAnalysisLaws.{each_analysis, analysis_or_reason}
-use Rattle.jc_top.specs.Report.{frameless, Item, refused_class, unchanged_class, changed_class, IsItem, is_refused, is_unchanged, is_changed, AreItems, clash_of, first_clash}
+use Rattle.jc_top.specs.Report.{frameless, ReportedFile, refused_class, unchanged_class, changed_class, IsItem, is_refused, is_unchanged, is_changed, AreItems, clash_of, first_clash}
 use Rattle.jc_top.proofs.ListingLaws.{IsFile}
 
 -- ---- which classes have bodies
@@ -84,12 +84,12 @@ frameless_same : (a b : Analysed) → IsSameAnalysis a b → frameless a ≡ fra
 frameless_same a b same = λ i. record (same.rest i) { bodies = same.bodies i }
 
 -- an item, by what decided it
-data ItemOf (bytes : List ℕ) (item : Item) : Type 0 where
+data ItemOf (bytes : List ℕ) (item : ReportedFile) : Type 0 where
   by_reason : (why : Refusal) → AnalysisReason bytes (Some why) → item ≡ refused_class why → ItemOf bytes item
   by_flags : (a : Analysed) (is : IsAnalysis bytes a) → is_left_alone is.file ≡ true → item ≡ unchanged_class → ItemOf bytes item
   by_code : (a : Analysed) (is : IsAnalysis bytes a) → is_left_alone is.file ≡ false → item ≡ changed_class (frameless a) → ItemOf bytes item
 
-item_of : (bytes : List ℕ) (item : Item) → IsItem bytes item → ItemOf bytes item
+item_of : (bytes : List ℕ) (item : ReportedFile) → IsItem bytes item → ItemOf bytes item
 item_of bytes item (is_refused why reason) = by_reason why reason refl
 item_of bytes item (is_unchanged a is alone) = by_flags a is alone refl
 item_of bytes item (is_changed a is code) = by_code a is code refl
@@ -101,7 +101,7 @@ module _ (bytes : List ℕ) where
       differ : true ≡ false → ⊥
       differ e = cc
 
-  one_item_of : (x y : Item) → ItemOf bytes x → ItemOf bytes y → x ≡ y
+  one_item_of : (x y : ReportedFile) → ItemOf bytes x → ItemOf bytes y → x ≡ y
   one_item_of x y (by_reason why r e) (by_reason other s f) = e ∙ ap refused_class (same_Some why other (one_reason bytes (Some why) (Some other) r s)) ∙ sym f
   one_item_of x y (by_reason why r e) (by_flags a is alone f) = absurd (analysis_or_reason bytes a why is r)
   one_item_of x y (by_reason why r e) (by_code a is code f) = absurd (analysis_or_reason bytes a why is r)
@@ -112,30 +112,30 @@ module _ (bytes : List ℕ) where
   one_item_of x y (by_code a is code e) (by_flags b is' alone f) = absurd (alone_or_not b a is' is alone code)
   one_item_of x y (by_code a is code e) (by_code b is' code' f) = e ∙ ap changed_class (frameless_same a b (same_analysis bytes a b is is')) ∙ sym f
 
-  pub one_item : (x y : Item) → IsItem bytes x → IsItem bytes y → x ≡ y
+  pub one_item : (x y : ReportedFile) → IsItem bytes x → IsItem bytes y → x ≡ y
   one_item x y p q = one_item_of x y (item_of bytes x p) (item_of bytes y q)
 
-  pub item_of_analysis : (a : Analysed) → IsAnalysis bytes a → (item : Item) × IsItem bytes item
+  pub item_of_analysis : (a : Analysed) → IsAnalysis bytes a → (item : ReportedFile) × IsItem bytes item
   item_of_analysis a is = by (is_left_alone is.file) refl
     where
-      by : (t : Bool) → is_left_alone is.file ≡ t → (item : Item) × IsItem bytes item
+      by : (t : Bool) → is_left_alone is.file ≡ t → (item : ReportedFile) × IsItem bytes item
       by true alone = (_, is_unchanged a is alone)
       by false code = (_, is_changed a is code)
 
-  some_item : IsFile bytes → (item : Item) × IsItem bytes item
+  some_item : IsFile bytes → (item : ReportedFile) × IsItem bytes item
   some_item file = ⊎_elim (λ a. item_of_analysis a.0 a.1) (λ r. (_, is_refused r.0 r.1)) (each_analysis bytes file.0 file.1)
 
 -- ---- the class files, in order
 
-pub one_items : (ts : List (List ℕ)) (xs ys : List Item) → AreItems ts xs → AreItems ts ys → xs ≡ ys
+pub one_items : (ts : List (List ℕ)) (xs ys : List ReportedFile) → AreItems ts xs → AreItems ts ys → xs ≡ ys
 one_items [] [] [] p q = refl
 one_items [] [] (y ∷ ys) p q = absurd q
 one_items [] (x ∷ xs) ys p q = absurd p
 one_items (t ∷ ts) [] ys p q = absurd p
 one_items (t ∷ ts) (x ∷ xs) [] p q = absurd q
-one_items (t ∷ ts) (x ∷ xs) (y ∷ ys) p q = ap₂ (λ (i : Item) (is : List Item). i ∷ is) (one_item t x y p.0 q.0) (one_items ts xs ys p.1 q.1)
+one_items (t ∷ ts) (x ∷ xs) (y ∷ ys) p q = ap₂ (λ (i : ReportedFile) (is : List ReportedFile). i ∷ is) (one_item t x y p.0 q.0) (one_items ts xs ys p.1 q.1)
 
-pub some_items : (ts : List (List ℕ)) → AllByRecursion IsFile ts → (items : List Item) × AreItems ts items
+pub some_items : (ts : List (List ℕ)) → AllByRecursion IsFile ts → (items : List ReportedFile) × AreItems ts items
 some_items [] files = ([], tt)
 some_items (t ∷ ts) files =
     let item = some_item t files.0 in
@@ -163,7 +163,7 @@ some_behind (Some t) p r none e = absurd cc
 
 module _ (records : List ClassHits) where
   -- two fronts of the class files in which there is a clash have one
-  pub one_clash : (ts : List (List ℕ)) (m n : ℕ) (xs ys : List Item) (r s : ExecRefusal) → AreItems (take m ts) xs → AreItems (take n ts) ys
+  pub one_clash : (ts : List (List ℕ)) (m n : ℕ) (xs ys : List ReportedFile) (r s : ExecRefusal) → AreItems (take m ts) xs → AreItems (take n ts) ys
       → first_clash records xs ≡ Some r → first_clash records ys ≡ Some s → r ≡ s
   one_clash ts m n [] ys r s p q e f = no_clash e
   one_clash ts m n (x ∷ xs) [] r s p q e f = no_clash f
@@ -177,11 +177,11 @@ module _ (records : List ClassHits) where
   one_clash (t ∷ ts) (suc m) (suc n) (x ∷ xs) (y ∷ ys) r s p q e f =
       let same : x ≡ y = one_item t x y p.0 q.0 in
       first_or_later (clash_of records y) (first_clash records xs) (first_clash records ys) r s
-      (subst (λ (i : Item). option_or (clash_of records i) (first_clash records xs) ≡ Some r) same e) f
+      (subst (λ (i : ReportedFile). option_or (clash_of records i) (first_clash records xs) ≡ Some r) same e) f
       (λ e' f'. one_clash ts m n xs ys r s p.1 q.1 e' f')
 
   -- where there is none at all there is none in front
-  pub no_clash_in_front : (ts : List (List ℕ)) (n : ℕ) (xs ys : List Item) (r : ExecRefusal) → AreItems ts xs → AreItems (take n ts) ys
+  pub no_clash_in_front : (ts : List (List ℕ)) (n : ℕ) (xs ys : List ReportedFile) (r : ExecRefusal) → AreItems ts xs → AreItems (take n ts) ys
       → first_clash records xs ≡ None → first_clash records ys ≡ Some r → ⊥
   no_clash_in_front ts n xs [] r p q none e = no_clash e
   no_clash_in_front [] zero xs (y ∷ ys) r p q none e = q
@@ -195,7 +195,7 @@ module _ (records : List ClassHits) where
       (some_behind (clash_of records y) (first_clash records ys) r (ap (clash_of records) same ∙ nowhere.0) e)
 
 -- without records nothing clashes
-pub none_clashes : (items : List Item) → first_clash [] items ≡ None
+pub none_clashes : (items : List ReportedFile) → first_clash [] items ≡ None
 none_clashes [] = refl
 none_clashes (refused_class why ∷ items) = none_clashes items
 none_clashes (unchanged_class ∷ items) = none_clashes items

@@ -22,7 +22,7 @@ use Rattle.jc_exec.specs.declared.refusal.ExecRefusal.TheVariants.{Conflict}
 use Rattle.jc_instrument.specs.Analysis.{IsAnalysis, IsPlanned}
 use Rattle.jc_instrument.specs.LeftAlone.{is_left_alone}
 use Rattle.jc_instrument.specs.Reasons.{AnalysisReason}
-use Rattle.jc_kinds.specs.Answers.{Said}
+use Rattle.jc_base.specs.Failing.{Said}
 use Rattle.jc_plan.specs.Analysed.{IsAnalysed}
 use Rattle.jc_report.specs.declared.row.Counted.{Counted}
 use Rattle.jc_top.specs.declared.class_report.Looked.{Looked}
@@ -31,7 +31,7 @@ use Rattle.jc_top.specs.declared.class_report.Seen.TheVariants as seens
 use Rattle.jc_top.specs.declared.stop.Stop.{Stop}
 use Rattle.jc_top.specs.declared.stop.Stop.TheVariants as stops
 use Rattle.jc_top.specs.Looks.{write_seen}
-use Rattle.jc_top.specs.Report.{frameless, Item, refused_class, unchanged_class, changed_class, IsItem, is_refused, is_unchanged, is_changed, AreItems, lines_of, changed_of}
+use Rattle.jc_top.specs.Report.{frameless, ReportedFile, refused_class, unchanged_class, changed_class, IsItem, is_refused, is_unchanged, is_changed, AreItems, lines_of, changed_of}
 use Rattle.jc_top.specs.Report.{record_of, fits, clash_with, clash_of, first_clash, first_of_each_id, counted_by, counted_classes}
 use Rattle.jc_top.specs.ReportSteps.{StopsAtClash, seen_as, IsSeen, SeesClass, ClassClashes, FileClashes, IsLooked, KeepsRefused, unless_known, Keeps}
 use Rattle.jc_top.specs.ReportSteps.{IsReportOf, LooksOn, LooksAtAll, FrontClashes}
@@ -123,7 +123,7 @@ same_bits_count (Some c) (Some b) n is many = let same : b.now ≡ c.now.bits = 
 
 -- ---- one item more
 
-lines_more : (ps : List Word) (items : List Item) (p : Word) (item : Item) → length ps ≡ length items
+lines_more : (ps : List Word) (items : List ReportedFile) (p : Word) (item : ReportedFile) → length ps ≡ length items
     → lines_of (ps ++ p ∷ []) (items ++ item ∷ []) ≡ lines_of ps items ++ lines_of (p ∷ []) (item ∷ [])
 lines_more [] [] p item same = refl
 lines_more [] (i ∷ items) p item same = absurd (omega (arith, same))
@@ -133,13 +133,13 @@ lines_more (q ∷ ps) (refused_class why ∷ items) p item same =
 lines_more (q ∷ ps) (unchanged_class ∷ items) p item same = lines_more ps items p item (omega (arith, same))
 lines_more (q ∷ ps) (changed_class a ∷ items) p item same = lines_more ps items p item (omega (arith, same))
 
-changed_more : (xs ys : List Item) → changed_of (xs ++ ys) ≡ changed_of xs ++ changed_of ys
+changed_more : (xs ys : List ReportedFile) → changed_of (xs ++ ys) ≡ changed_of xs ++ changed_of ys
 changed_more [] ys = refl
 changed_more (refused_class why ∷ xs) ys = changed_more xs ys
 changed_more (unchanged_class ∷ xs) ys = changed_more xs ys
 changed_more (changed_class a ∷ xs) ys = ap (λ (l : List Analysed). a ∷ l) (changed_more xs ys)
 
-clash_more : (records : List ClassHits) (xs ys : List Item) → first_clash records (xs ++ ys) ≡ option_or (first_clash records xs) (first_clash records ys)
+clash_more : (records : List ClassHits) (xs ys : List ReportedFile) → first_clash records (xs ++ ys) ≡ option_or (first_clash records xs) (first_clash records ys)
 clash_more records [] ys = refl
 clash_more records (x ∷ xs) ys = by (clash_of records x) (clash_more records xs ys)
   where
@@ -148,7 +148,7 @@ clash_more records (x ∷ xs) ys = by (clash_of records x) (clash_more records x
     by None rest = rest
     by (Some r) rest = refl
 
-pub clash_behind : (records : List ClassHits) (xs : List Item) (item : Item) (o : Option ExecRefusal) → first_clash records xs ≡ None → clash_of records item ≡ o
+pub clash_behind : (records : List ClassHits) (xs : List ReportedFile) (item : ReportedFile) (o : Option ExecRefusal) → first_clash records xs ≡ None → clash_of records item ≡ o
     → first_clash records (xs ++ item ∷ []) ≡ o
 clash_behind records xs item o none is = clash_more records xs (item ∷ []) ∙ rw none (last (clash_of records item) ∙ is)
   where
@@ -156,13 +156,13 @@ clash_behind records xs item o none is = clash_more records xs (item ∷ []) ∙
     last None = refl
     last (Some r) = refl
 
-pub items_more : (ts : List (List ℕ)) (items : List Item) (t : List ℕ) (item : Item) → AreItems ts items → IsItem t item → AreItems (ts ++ t ∷ []) (items ++ item ∷ [])
+pub items_more : (ts : List (List ℕ)) (items : List ReportedFile) (t : List ℕ) (item : ReportedFile) → AreItems ts items → IsItem t item → AreItems (ts ++ t ∷ []) (items ++ item ∷ [])
 items_more [] [] t item are is = (is, tt)
 items_more [] (i ∷ items) t item are is = absurd are
 items_more (u ∷ ts) [] t item are is = absurd are
 items_more (u ∷ ts) (i ∷ items) t item are is = (are.0, items_more ts items t item are.1 is)
 
-pub as_many_items : (ts : List (List ℕ)) (items : List Item) → AreItems ts items → length ts ≡ length items
+pub as_many_items : (ts : List (List ℕ)) (items : List ReportedFile) → AreItems ts items → length ts ≡ length items
 as_many_items [] [] are = refl
 as_many_items [] (i ∷ items) are = absurd are
 as_many_items (t ∷ ts) [] are = absurd are
@@ -207,7 +207,7 @@ same_by records a = same_counted (option_map (λ r. r.bits) (record_of records a
 
 module _ (records : List ClassHits) (path : Word) (bytes : List ℕ) (old new : Looked) where
   -- an item that is no changed class leaves the classes
-  no_class : (items : List Item) (item : Item) → changed_of (item ∷ []) ≡ [] → changed_of (items ++ item ∷ []) ≡ changed_of items
+  no_class : (items : List ReportedFile) (item : ReportedFile) → changed_of (item ∷ []) ≡ [] → changed_of (items ++ item ∷ []) ≡ changed_of items
   no_class items item none = changed_more items (item ∷ []) ∙ ap (λ (l : List Analysed). changed_of items ++ l) none ∙ append-nil (changed_of items)
 
   looks_refused : (why : Refusal) → IsItem bytes (refused_class why) → KeepsRefused path why old new → LooksOn records path bytes old new
@@ -271,7 +271,7 @@ module _ (records : List ClassHits) (path : Word) (bytes : List ℕ) (old new : 
   pub seen_refused : (why : Refusal) → IsSeen records bytes (seens.Refused why) → KeepsRefused path why old new → LooksOn records path bytes old new
   seen_refused why seen keeps = by seen.item seen.is seen.kept
     where
-      by : (item : Item) → IsItem bytes item → seens.Refused why ≡ seen_as records item → LooksOn records path bytes old new
+      by : (item : ReportedFile) → IsItem bytes item → seens.Refused why ≡ seen_as records item → LooksOn records path bytes old new
       by (refused_class other) is kept =
           let same : other ≡ why = cc in looks_refused why (subst (λ (r : Refusal). IsItem bytes (refused_class r)) same is) keeps
       by unchanged_class is kept = absurd cc
@@ -280,7 +280,7 @@ module _ (records : List ClassHits) (path : Word) (bytes : List ℕ) (old new : 
   pub seen_unchanged : IsSeen records bytes seens.Unchanged → new ≡ old → LooksOn records path bytes old new
   seen_unchanged seen keeps = by seen.item seen.is seen.kept
     where
-      by : (item : Item) → IsItem bytes item → seens.Unchanged ≡ seen_as records item → LooksOn records path bytes old new
+      by : (item : ReportedFile) → IsItem bytes item → seens.Unchanged ≡ seen_as records item → LooksOn records path bytes old new
       by (refused_class why) is kept = absurd cc
       by unchanged_class is kept = looks_unchanged is keeps
       by (changed_class a) is kept = absurd cc
@@ -288,7 +288,7 @@ module _ (records : List ClassHits) (path : Word) (bytes : List ℕ) (old new : 
   pub seen_changed : (c : Counted) → IsSeen records bytes (seens.Changed c) → Keeps c old new → LooksOn records path bytes old new
   seen_changed c seen keeps = by seen.item seen.is seen.fits seen.kept
     where
-      by : (item : Item) → IsItem bytes item → clash_of records item ≡ None → seens.Changed c ≡ seen_as records item → LooksOn records path bytes old new
+      by : (item : ReportedFile) → IsItem bytes item → clash_of records item ≡ None → seens.Changed c ≡ seen_as records item → LooksOn records path bytes old new
       by (refused_class why) is fits kept = absurd cc
       by unchanged_class is fits kept = absurd cc
       by (changed_class a) is fits kept =
@@ -347,7 +347,7 @@ looked_refused records bytes why reason = record { item = refused_class why; is 
 
 -- those so far were looked at, and none clashes
 pub record Looking (records : List ClassHits) (paths : List Word) (texts : List (List ℕ)) (looked : Looked) : Type 0 where
-  pub items : List Item
+  pub items : List ReportedFile
   pub are : AreItems texts items
   pub none : first_clash records items ≡ None
   pub report : IsReportOf records paths items looked

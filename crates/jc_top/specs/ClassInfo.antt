@@ -7,7 +7,7 @@ use Rattle.jc_base.specs.declared.Analysed.{Analysed}
 use Rattle.jc_base.specs.declared.Body.{Body}
 use Rattle.jc_base.specs.declared.Fail.{Fail}
 use Rattle.jc_base.specs.declared.Refusal.{Refusal}
-use Rattle.jc_kinds.specs.Answers.{Said}
+use Rattle.jc_base.specs.Failing.{Said}
 use Rattle.jc_plan.specs.Probed.{probe_count}
 use Rattle.jc_instrument.specs.Analysis.{IsAnalysis}
 use Rattle.jc_instrument.specs.Reasons.{AnalysisReason}

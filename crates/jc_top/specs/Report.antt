@@ -37,34 +37,34 @@ abbrev pub frameless : Analysed → Analysed
 frameless a = record a { bodies = map without_frames a.bodies }
 
 -- what a class file is to a report
-pub data Item : Type 0 where
-  refused_class : (why : Refusal) → Item
-  unchanged_class : Item
-  changed_class : (a : Analysed) → Item
+pub data ReportedFile : Type 0 where
+  refused_class : (why : Refusal) → ReportedFile
+  unchanged_class : ReportedFile
+  changed_class : (a : Analysed) → ReportedFile
 
 -- A class file is refused for the reason for which it isn't analysed. Else its class is unchanged where instrumentation
 -- leaves it alone, and changed otherwise.
-pub data IsItem (bytes : List ℕ) : Item → Type 0 where
+pub data IsItem (bytes : List ℕ) : ReportedFile → Type 0 where
   is_refused : (why : Refusal) → AnalysisReason bytes (Some why) → IsItem bytes (refused_class why)
   is_unchanged : (a : Analysed) (is : IsAnalysis bytes a) → is_left_alone is.file ≡ true → IsItem bytes unchanged_class
   is_changed : (a : Analysed) (is : IsAnalysis bytes a) → is_left_alone is.file ≡ false → IsItem bytes (changed_class (frameless a))
 
 -- the class files, in order
-abbrev pub AreItems : List (List ℕ) → List Item → Type 0
+abbrev pub AreItems : List (List ℕ) → List ReportedFile → Type 0
 AreItems [] [] = ⊤
 AreItems [] (item ∷ items) = ⊥
 AreItems (t ∷ ts) [] = ⊥
 AreItems (t ∷ ts) (item ∷ items) = IsItem t item × AreItems ts items
 
 -- a line for each class file that is refused
-abbrev pub lines_of : List Word → List Item → List (List ℕ)
+abbrev pub lines_of : List Word → List ReportedFile → List (List ℕ)
 lines_of [] items = []
 lines_of (p ∷ ps) [] = []
 lines_of (p ∷ ps) (refused_class why ∷ items) = refused_line p why ∷ lines_of ps items
 lines_of (p ∷ ps) (unchanged_class ∷ items) = lines_of ps items
 lines_of (p ∷ ps) (changed_class a ∷ items) = lines_of ps items
 
-abbrev pub changed_of : List Item → List Analysed
+abbrev pub changed_of : List ReportedFile → List Analysed
 changed_of [] = []
 changed_of (refused_class why ∷ items) = changed_of items
 changed_of (unchanged_class ∷ items) = changed_of items
@@ -85,13 +85,13 @@ abbrev pub clash_with : Analysed → Option ClassHits → Option ExecRefusal
 clash_with a None = None
 clash_with a (Some r) = if fits a r then None else Some (Conflict a.id r.name a.name (length r.bits) a.probes)
 
-abbrev pub clash_of : List ClassHits → Item → Option ExecRefusal
+abbrev pub clash_of : List ClassHits → ReportedFile → Option ExecRefusal
 clash_of records (refused_class why) = None
 clash_of records unchanged_class = None
 clash_of records (changed_class a) = clash_with a (record_of records a.id)
 
 -- the clash of the first changed class that has one
-abbrev pub first_clash : List ClassHits → List Item → Option ExecRefusal
+abbrev pub first_clash : List ClassHits → List ReportedFile → Option ExecRefusal
 first_clash records [] = None
 first_clash records (item ∷ items) = option_or (clash_of records item) (first_clash records items)
 
@@ -116,7 +116,7 @@ counted_of hits a = record {
 abbrev pub counted_by : List ClassHits → Analysed → Counted
 counted_by records a = counted_of (option_map (λ r. r.bits) (record_of records a.id)) a
 
-abbrev pub counted_classes : List ClassHits → List Item → List Counted
+abbrev pub counted_classes : List ClassHits → List ReportedFile → List Counted
 counted_classes records items = map (counted_by records) (first_of_each_id (changed_of items))
 
 -- the CSV text of classes in the report of this name
@@ -124,5 +124,5 @@ abbrev pub report_text : Word → List Counted → List ℕ
 report_text name classes = csv_of (rows_of name classes)
 
 -- that of the changed classes
-abbrev pub csv_of_items : Word → List ClassHits → List Item → List ℕ
+abbrev pub csv_of_items : Word → List ClassHits → List ReportedFile → List ℕ
 csv_of_items name records items = report_text name (counted_classes records items)

@@ -19,7 +19,7 @@ use Rattle.jc_top.specs.declared.status.Fault.TheVariants as faults
 use Rattle.jc_top.specs.declared.stop.Stop.{Stop}
 use Rattle.jc_top.specs.declared.stop.Stop.TheVariants as stops
 use Rattle.jc_top.specs.Looks.{write_seen}
-use Rattle.jc_top.specs.Report.{Item, refused_class, unchanged_class, changed_class, IsItem, AreItems, lines_of, changed_of}
+use Rattle.jc_top.specs.Report.{ReportedFile, refused_class, unchanged_class, changed_class, IsItem, AreItems, lines_of, changed_of}
 use Rattle.jc_top.specs.Report.{record_of, clash_with, clash_of, first_clash, counted_by, counted_classes, csv_of_items}
 use Rattle.jc_top.specs.Texts.{refused_line}
 use Rattle.jc_top.specs.Words.{Word}
@@ -46,14 +46,14 @@ StopsAtClash path Why stops.Output = ⊥
 -- ---- one class file
 
 -- what a class file is to a report, and what is kept of it
-abbrev pub seen_as : List ClassHits → Item → Seen
+abbrev pub seen_as : List ClassHits → ReportedFile → Seen
 seen_as records (refused_class why) = seens.Refused why
 seen_as records unchanged_class = seens.Unchanged
 seen_as records (changed_class a) = seens.Changed (counted_by records a)
 
 -- the class file doesn't clash, and this is kept of it
 pub record IsSeen (records : List ClassHits) (bytes : List ℕ) (seen : Seen) : Type 0 where
-  pub item : Item
+  pub item : ReportedFile
   pub is : IsItem bytes item
   pub fits : clash_of records item ≡ None
   pub kept : seen ≡ seen_as records item
@@ -70,7 +70,7 @@ ClassClashes records a (b ∷ bodies) refusal = clash_with a (record_of records 
 
 -- the class file clashes
 abbrev pub FileClashes : List ClassHits → List ℕ → ExecRefusal → Type 0
-FileClashes records bytes refusal = (item : Item) × IsItem bytes item × (clash_of records item ≡ Some refusal)
+FileClashes records bytes refusal = (item : ReportedFile) × IsItem bytes item × (clash_of records item ≡ Some refusal)
 
 -- what is kept of a class file, or the clash that stops the command
 abbrev pub IsLooked : List ClassHits → Option Word → List ℕ → Result Seen Stop → Type 0
@@ -98,7 +98,7 @@ pub record Keeps (c : Counted) (old new : Looked) : Type 0 where
 -- ---- the class files so far
 
 -- the lines, the counted classes and the ids are those of the first class files
-pub record IsReportOf (records : List ClassHits) (paths : List Word) (items : List Item) (looked : Looked) : Type 0 where
+pub record IsReportOf (records : List ClassHits) (paths : List Word) (items : List ReportedFile) (looked : Looked) : Type 0 where
   pub lines : map write_seen looked.lines.items ≡ map to_err (lines_of paths items)
   pub classes : looked.classes.items ≡ counted_classes records items
   pub ids : looked.ids.keys ≡ first_seen (map (λ a. a.id) (changed_of items))
@@ -106,24 +106,24 @@ pub record IsReportOf (records : List ClassHits) (paths : List Word) (items : Li
 -- one class file more was looked at, and it doesn't clash
 abbrev pub LooksOn : List ClassHits → Word → List ℕ → Looked → Looked → Type 0
 LooksOn records path bytes old new =
-    (paths : List Word) (items : List Item) → length paths ≡ length items → IsReportOf records paths items old
-    → (item : Item) × IsItem bytes item × (clash_of records item ≡ None) × IsReportOf records (paths ++ path ∷ []) (items ++ item ∷ []) new
+    (paths : List Word) (items : List ReportedFile) → length paths ≡ length items → IsReportOf records paths items old
+    → (item : ReportedFile) × IsItem bytes item × (clash_of records item ≡ None) × IsReportOf records (paths ++ path ∷ []) (items ++ item ∷ []) new
 
 -- ---- all class files
 
 -- all were looked at, and none clashes
 abbrev pub LooksAtAll : List ClassHits → List Word → List (List ℕ) → Looked → Type 0
 LooksAtAll records paths texts looked =
-    (items : List Item) × AreItems texts items × (first_clash records items ≡ None) × IsReportOf records paths items looked
+    (items : List ReportedFile) × AreItems texts items × (first_clash records items ≡ None) × IsReportOf records paths items looked
 
 -- one of the first so many clashes
 abbrev pub FrontClashes : List ClassHits → List (List ℕ) → ExecRefusal → Type 0
 FrontClashes records texts refusal =
-    (count : ℕ) × (items : List Item) × AreItems (take count texts) items × (first_clash records items ≡ Some refusal)
+    (count : ℕ) × (items : List ReportedFile) × AreItems (take count texts) items × (first_clash records items ≡ Some refusal)
 
 -- the writes of the report, or the clash that stops it
 abbrev pub ReportsWith : (out name : Word) → List ClassHits → Option Word → List Word → List (List ℕ) → Result (Vec Written Global) Stop → Type 0
 ReportsWith out name records path paths texts (Ok writes) =
-    (items : List Item) × AreItems texts items × (first_clash records items ≡ None)
+    (items : List ReportedFile) × AreItems texts items × (first_clash records items ≡ None)
     × (map write_seen writes.items ≡ map to_err (lines_of paths items) ++ to_file out (csv_of_items name records items) ∷ [])
 ReportsWith out name records path paths texts (Err stop) = StopsAtClash path (FrontClashes records texts) stop

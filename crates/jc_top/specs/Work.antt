@@ -16,7 +16,7 @@ use Rattle.jc_base.specs.declared.Refusal.{Refusal}
 use Rattle.jc_top.specs.ClassInfo.{AreListed, RefusedAt}
 use Rattle.jc_top.specs.ExecData.{IsUnionOf, IsFirstRefused, IsFirstRefusedAlone}
 use Rattle.jc_top.specs.ExecInfo.{AreInfo}
-use Rattle.jc_top.specs.Report.{Item, AreItems, data_texts, class_texts, lines_of, first_clash, csv_of_items}
+use Rattle.jc_top.specs.Report.{ReportedFile, AreItems, data_texts, class_texts, lines_of, first_clash, csv_of_items}
 use Rattle.jc_top.specs.Command.{Command, merge, exec_info, class_info, report, instrument, inputs_of, Means, NoForm}
 use Rattle.jc_top.specs.Texts.{usage_text, cannot_read, fault_text}
 use Rattle.jc_top.specs.Instrument.{AreFileWrites}
@@ -83,7 +83,7 @@ pub data Answers : Command → List (List ℕ) → Answer → Type 0 where
       → Answers (class_info paths) texts (refusing path (fault.Class index why))
   -- no record clashes with a class
   reported : {out name : Word} {exec : Option Word} {paths : List Word} {texts : List (List ℕ)}
-      → (store : Store) (items : List Item)
+      → (store : Store) (items : List ReportedFile)
       → IsUnionOf (data_texts exec texts) store → AreItems (class_texts exec texts) items → first_clash store.classes items ≡ None
       → Answers (report out name exec paths) texts
       (record { writes = map to_err (lines_of paths items) ++ to_file out (csv_of_items name store.classes items) ∷ []; status = status.Done })
@@ -94,7 +94,7 @@ pub data Answers : Command → List (List ℕ) → Answer → Type 0 where
       → Answers (report out name exec paths) texts (refusing path (fault.Exec index refusal))
   -- a clash is found among the first so many class files
   report_clashes : {out name path : Word} {paths : List Word} {texts : List (List ℕ)}
-      → (store : Store) (count : ℕ) (items : List Item) (refusal : ExecRefusal)
+      → (store : Store) (count : ℕ) (items : List ReportedFile) (refusal : ExecRefusal)
       → IsUnionOf (data_texts (Some path) texts) store → AreItems (take count (class_texts (Some path) texts)) items
       → first_clash store.classes items ≡ Some refusal
       → Answers (report out name (Some path) paths) texts (refusing path (fault.Exec 0 refusal))

@@ -14,7 +14,7 @@ use Rattle.jc_plan.specs.Edges.{exit, branches_by, branches_of, branches}
 use Rattle.jc_plan.specs.Leading.{IsOneWay}
 use Rattle.jc_plan.specs.Probed.{is_probed, id_of}
 use Rattle.jc_bytes.proofs.FirstSeenLaws.{contains_one}
-use Rattle.jc_bytes.proofs.TestLaws.{none_in, which_in, first_in, later_in}
+use Rattle.jc_bytes.proofs.BooleanLaws.{none_in, which_in, first_in, later_in}
 use Rattle.jc_plan.proofs.ListedLaws.{lists_from}
 use Rattle.jc_plan.proofs.OneWayLaws.{begins_at}
 use Rattle.jc_cover.specs.Covered.{is_hit, Covered}
@@ -55,7 +55,7 @@ module _ (b : Body) where
       by None e c = absurd (none_in y c)
       by (Some flows.Throws) e c = (contains_one (exit i) y c, refl)
       by (Some flows.GoesOn) e c = absurd (none_in y c)
-      by (Some flows.Tests) e c = absurd (none_in y c)
+      by (Some flows.Branches) e c = absurd (none_in y c)
       by (Some flows.Jumps) e c = absurd (none_in y c)
       by (Some flows.Switches) e c = absurd (none_in y c)
       by (Some flows.Returns) e c = absurd (none_in y c)
@@ -102,7 +102,7 @@ module _ (b : Body) where
       by_flow insn flows.Returns c = begins_at insn i y c
       by_flow insn flows.Throws c = begins_at insn i y c
       by_flow insn flows.GoesOn c = absurd (none_in y c)
-      by_flow insn flows.Tests c = absurd (none_in y c)
+      by_flow insn flows.Branches c = absurd (none_in y c)
       by_flow insn flows.Switches c = absurd (none_in y c)
 
       by : (o : Option Insn) → Contains (lone_of i o) y → i ≡ y.at

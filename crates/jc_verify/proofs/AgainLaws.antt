@@ -1,6 +1,6 @@
 -- Each method of a class whose instrumented methods are written passes the kind check.
 use Rattle.std.proofs.Common.{◌⊎◌, inl, inr, ℕ, ℤ, List, subst}
-use Rattle.jc_methods.specs.Held.{Names}
+use Rattle.jc_methods.specs.VerificationTypes.{Names}
 use Rattle.jc_methods.specs.declared.body.Body.{Body}
 use Rattle.jc_methods.specs.declared.kind.State.{State}
 use Rattle.jc_class.specs.declared.class_file.ClassFile.{ClassFile}

@@ -5,7 +5,7 @@ use Rattle.std.proofs.lemmas.List.Elements.{All-take}
 use Rattle.std.proofs.lemmas.List.Sums.{sum_by-take-le}
 use Rattle.std.proofs.lemmas.Option.{none-some, slice_get-get_or}
 use Rattle.jc_methods.specs.Flow.{flow_of, targets_of}
-use Rattle.jc_methods.specs.Held.{Names, seen}
+use Rattle.jc_methods.specs.VerificationTypes.{Names, type_state}
 use Rattle.jc_bytes.specs.PlainLists.{total}
 use Rattle.jc_methods.specs.WellMade.{IsKind, IsState, IsWellMadeOfAnySize, kind_slots}
 use Rattle.jc_methods.specs.declared.insn.Insn.{Insn}
@@ -13,7 +13,7 @@ use Rattle.jc_methods.specs.declared.insn.Flow.{Flow}
 use Rattle.jc_methods.specs.declared.insn.Flow.TheVariants as flows
 use Rattle.jc_methods.specs.declared.kind.State.{State}
 use Rattle.jc_methods.specs.declared.body.Body.{Body}
-use Rattle.jc_bytes.proofs.TestLaws.{none_in}
+use Rattle.jc_bytes.proofs.BooleanLaws.{none_in}
 use Rattle.jc_after.specs.Shift.{StaysWhole}
 use Rattle.jc_kinds.specs.Answers.{AreStates}
 use Rattle.jc_kinds.proofs.StateShiftLaws.{states_whole}
@@ -26,7 +26,7 @@ use Rattle.jc_emit.specs.Sizes.{insn_at, late_by, late_probe, arms_by, arms_at, 
 use Rattle.jc_emit.specs.Straddling.{NoneStraddles}
 use Rattle.jc_emit.specs.TwinCode.{to_of, here_or, arm_place}
 use Rattle.jc_emit.specs.TwinFrames.{no_state, operands_of, state_at, left_by, state_behind, IsOldFrame, IsInverseFrame, IsArmFrame, IsFrameBehind, IsNarrowFrame, IsFrame}
-use Rattle.jc_emit.proofs.Built.{length_twin}
+use Rattle.jc_emit.proofs.BuiltLaws.{length_twin}
 use Rattle.jc_emit.proofs.LocalLaws.{land_lands, lead_lands, next_within, listed_within}
 use Rattle.jc_emit.proofs.RowLaws.{total_grows}
 use Rattle.jc_emit.proofs.StraddlingLaws.{frame_within}
@@ -37,7 +37,7 @@ use Rattle.jc_verify.proofs.TwinItemLaws.{lands_within}
 -- a state of the body, in which no long or double stands round the local variable behind the arguments
 pub record IsStateOf (names : Names) (b : Body) (s : State) : Type 0 where
   pub state : IsState b.code b.max_locals b.max_stack s
-  pub whole : StaysWhole b.arg_slots (seen names s)
+  pub whole : StaysWhole b.arg_slots (type_state names s)
 
 left_state : (names : Names) (b : Body) (insn : Insn) (s : State) → IsStateOf names b s → IsStateOf names b (left_by insn s)
 left_state names b insn s is = record {
@@ -56,8 +56,8 @@ left_state names b insn s is = record {
 
 -- ---- conditional jumps and switches
 
-late_tests : (probe : Branch → Option ℕ) (i id : ℕ) (insn : Insn) (flow : Flow) → late_by probe i insn flow ≡ Some id → flow ≡ flows.Tests
-late_tests probe i id insn flows.Tests is = refl
+late_tests : (probe : Branch → Option ℕ) (i id : ℕ) (insn : Insn) (flow : Flow) → late_by probe i insn flow ≡ Some id → flow ≡ flows.Branches
+late_tests probe i id insn flows.Branches is = refl
 late_tests probe i id insn flows.GoesOn is = absurd (none-some id is)
 late_tests probe i id insn flows.Jumps is = absurd (none-some id is)
 late_tests probe i id insn flows.Switches is = absurd (none-some id is)
@@ -67,7 +67,7 @@ late_tests probe i id insn flows.Throws is = absurd (none-some id is)
 arm_switches : (i : ℕ) (insn : Insn) (flow : Flow) (x : Branch) → Contains (arms_by i insn flow) x → flow ≡ flows.Switches
 arm_switches i insn flows.Switches x c = refl
 arm_switches i insn flows.GoesOn x c = absurd (none_in x c)
-arm_switches i insn flows.Tests x c = absurd (none_in x c)
+arm_switches i insn flows.Branches x c = absurd (none_in x c)
 arm_switches i insn flows.Jumps x c = absurd (none_in x c)
 arm_switches i insn flows.Returns x c = absurd (none_in x c)
 arm_switches i insn flows.Throws x c = absurd (none_in x c)
@@ -97,7 +97,7 @@ module _ (names : Names) (b : Body) (first : ℕ) (states : List State) (well : 
   state_there i lt =
       let count = are.count in
       let is = are.each i (state_at states i) (slice_get-get_or states i no_state (omega (arith, count, lt))) in
-      record { state = is.well_made; whole = (states_whole names b well free i (seen names (state_at states i)) is.is).1 }
+      record { state = is.well_made; whole = (states_whole names b well free i (type_state names (state_at states i)) is.is).1 }
 
   behind_there : (i : ℕ) (o : Option ℕ) → i + 1 < length b.code → IsStateOf names b (state_behind b states i o)
   behind_there i None lt = state_there (i + 1) lt

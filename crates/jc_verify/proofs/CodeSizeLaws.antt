@@ -4,7 +4,7 @@ use Rattle.std.specs.List.{AllByRecursion, flat_map}
 use Rattle.std.proofs.lemmas.Grind.{flat_map-append}
 use Rattle.std.proofs.lemmas.List.{length-map, take-append-drop}
 use Rattle.std.proofs.lemmas.List.Concat.{flat_map-cons}
-use Rattle.jc_methods.specs.Held.{SeenAt}
+use Rattle.jc_methods.specs.VerificationTypes.{TypeStateAt}
 use Rattle.jc_methods.specs.declared.body.LineAt.{LineAt}
 use Rattle.jc_methods.specs.declared.body.VarAt.{VarAt}
 use Rattle.jc_class.specs.declared.class_file.Attribute.{Attribute}
@@ -98,13 +98,13 @@ line_two offset l = two_in (offset l.at) (short l.line)
 var_two : (offset : ℕ → ℕ) (x : VarAt) → 2 ≤ length (var_text offset x)
 var_two offset x = two_in (offset x.start) (short (offset x.end - offset x.start) ++ (short x.name ++ (short x.desc ++ short x.slot)))
 
-frames_few : (name : ℕ) (p : Places) (frames : List SeenAt) → length (frame_attributes name p frames) ≤ 1
+frames_few : (name : ℕ) (p : Places) (frames : List TypeStateAt) → length (frame_attributes name p frames) ≤ 1
 frames_few name p [] = omega arith
 frames_few name p (f ∷ frames) = omega arith
 
 -- ---- all attributes
 
-pub attributes_few : (offset : ℕ → ℕ) (lines vars kind_vars frames_name : ℕ) (p : Places) (ls : List LineAt) (xs ks : List VarAt) (frames : List SeenAt)
+pub attributes_few : (offset : ℕ → ℕ) (lines vars kind_vars frames_name : ℕ) (p : Places) (ls : List LineAt) (xs ks : List VarAt) (frames : List TypeStateAt)
     → length (flat_map attribute_text (table_attributes lines (line_text offset) ls ++ (table_attributes vars (var_text offset) xs
     ++ (table_attributes kind_vars (var_text offset) ks ++ frame_attributes frames_name p frames)))) ≤ 4294967295
     → length (table_attributes lines (line_text offset) ls ++ (table_attributes vars (var_text offset) xs

@@ -4,7 +4,7 @@ use Rattle.std.specs.List.{AllByRecursion, flat_map}
 use Rattle.std.proofs.lemmas.List.{append-nil}
 use Rattle.jc_bytes.proofs.EachLaws.{all_both, all_weaker}
 use Rattle.jc_bytes.specs.Counted.{counted}
-use Rattle.jc_methods.specs.Held.{Names, SeenAt}
+use Rattle.jc_methods.specs.VerificationTypes.{Names, TypeStateAt}
 use Rattle.jc_methods.specs.WellMade.{IsWellMadeOfAnySize}
 use Rattle.jc_methods.specs.declared.body.Body.{Body}
 use Rattle.jc_methods.specs.declared.emitted.Emitted.{Emitted}
@@ -107,7 +107,7 @@ module _ (pool : PoolValue) (places : CodePlaces) (names : Names) (e : Emitted) 
   abbrev offset : ℕ → ℕ
   offset = offset_in e
 
-  abbrev frames : List SeenAt
+  abbrev frames : List TypeStateAt
   frames = written_frames names e
 
   -- the attributes, with their names at the places that are given

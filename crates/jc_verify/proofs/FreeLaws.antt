@@ -3,7 +3,7 @@ use Rattle.std.proofs.Common.{◌≡◌, inl, inr, ℕ, ◌+◌, ◌<◌, ◌≤
 use Rattle.std.specs.Prelude.{slice_get}
 use Rattle.jc_methods.specs.Flow.{FallsThrough}
 use Rattle.jc_methods.specs.InsnUse.{LeadsWithin, LocalsWithin}
-use Rattle.jc_methods.specs.Held.{SeenAt}
+use Rattle.jc_methods.specs.VerificationTypes.{TypeStateAt}
 use Rattle.jc_bytes.specs.Least.{IsNowhere}
 use Rattle.jc_methods.specs.Starts.{insn_number}
 use Rattle.jc_methods.specs.WellMade.{TakeSlots}
@@ -45,7 +45,7 @@ pub record HasSoundParts (pool : PoolValue) (owner : List ℕ) (method : Member)
       → IsRow pool (insn_number coded.starts) (length coded.insns) (length coded.items.code) row
   pub tables : Tables
   pub are_tables : AreTables pool coded.items.attributes tables
-  pub frames : List SeenAt
+  pub frames : List TypeStateAt
   pub has_frames : HasFrames pool owner method coded frames
 
 -- ---- that it has none

@@ -8,13 +8,13 @@ use Rattle.std.proofs.lemmas.Bool.{cases_lt}
 use Rattle.std.proofs.lemmas.Option.{none-some, same_Some, slice_get_within}
 use Rattle.jc_bytes.proofs.DecidingLaws.{method_text_decided}
 use Rattle.jc_methods.proofs.StartsLaws.{number_at, rising}
-use Rattle.jc_bytes.proofs.TestLaws.{stands_in}
+use Rattle.jc_bytes.proofs.BooleanLaws.{stands_in}
 use Rattle.jc_bytes.specs.Deciding.{after_types}
 use Rattle.jc_bytes.specs.DescriptorReading.{after_type, after_brackets, after_name}
 use Rattle.jc_bytes.specs.Descriptor.{Array, Boolean, MethodType, DescribesMethod, IsFieldDescriptor, IsMethodDescriptor}
 use Rattle.jc_methods.specs.EntryState.{entry_seen}
 use Rattle.jc_methods.specs.Flow.{FallsThrough}
-use Rattle.jc_methods.specs.Held.{Names, SeenAt}
+use Rattle.jc_methods.specs.VerificationTypes.{Names, TypeStateAt}
 use Rattle.jc_methods.specs.InsnUse.{LeadsWithin, LocalsWithin, pool_place}
 use Rattle.jc_methods.specs.Starts.{AreStarts}
 use Rattle.jc_methods.specs.WellMade.{TakeSlots, what_used}
@@ -44,7 +44,8 @@ use Rattle.jc_body.specs.declared.items.Tables.{Tables}
 use Rattle.jc_body.proofs.ArgumentLaws.{static_take}
 use Rattle.jc_body.proofs.UsesLaws.{some_uses, insn_place_used}
 use Rattle.jc_kinds.specs.Checked.{Checked}
-use Rattle.jc_emit.specs.Added.{data_name, data_type, end_place, fetch_name, fetch_type, init_code, init_flags, init_frame, init_name, init_stack, init_type, runtime_class, IsInitBody}
+use Rattle.jc_methods.specs.ProbeMembers.{data_name, data_type, fetch_name, fetch_type, init_flags, init_name, init_type, runtime_class}
+use Rattle.jc_emit.specs.Added.{end_place, init_code, init_frame, init_stack, IsInitBody}
 use Rattle.jc_emit.specs.Marks.{push}
 use Rattle.jc_emit.proofs.InitLaws.{verified}
 use Rattle.jc_emit.proofs.PlacedLaws.{flow_push, no_targets}
@@ -175,7 +176,7 @@ module _ (twin : ClassFile) (owner : List ℕ) (id : ℤ) (count : ℕ) (p : Add
   abbrev frame_places : Places
   frame_places = init_frame_places p.array (end_offset (push_count count))
 
-  abbrev frames : List SeenAt
+  abbrev frames : List TypeStateAt
   frames = record { at = end_place; state = init_frame } ∷ []
 
   frame_writable : AreWritable ground frame_places frames

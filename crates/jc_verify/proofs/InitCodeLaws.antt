@@ -12,7 +12,7 @@ use Rattle.jc_methods.specs.Starts.{insn_number}
 use Rattle.jc_methods.specs.declared.form.Form.TheVariants as forms
 use Rattle.jc_methods.specs.declared.insn.Insn.{Insn}
 use Rattle.jc_methods.specs.declared.insn.Insn.TheVariants as insns
-use Rattle.jc_insn.specs.declared.item.Item.TheVariants as items
+use Rattle.jc_insn.specs.declared.item.CodeItem.TheVariants as items
 use Rattle.jc_insn.specs.Items.{IsItem, operands, target_of}
 use Rattle.jc_insn.specs.Spells.{Spells, SpellsFrom}
 use Rattle.jc_insn.specs.Writing.{IsNearJump, difference, insn_text, short}

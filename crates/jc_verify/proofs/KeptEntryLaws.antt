@@ -19,7 +19,7 @@ use Rattle.jc_pool.proofs.KeyPlaceLaws.{has_name}
 use Rattle.jc_pool.proofs.AddedLaws.{entry_kept, utf8_kept}
 use Rattle.jc_pool.proofs.AddedMemberLaws.{member_kept}
 use Rattle.jc_body.specs.Standing.{Found, of_member, of_constant, found_in, found_at, what_of, what_at, EntrySuits, PlaceSuits, HasRightEntry}
-use Rattle.jc_emit.specs.Added.{init_type}
+use Rattle.jc_methods.specs.ProbeMembers.{init_type}
 use Rattle.jc_emit.specs.Marks.{invokestatic}
 use Rattle.jc_emit.specs.Twin.{probe_init}
 use Rattle.jc_verify.specs.Written.{init_method}

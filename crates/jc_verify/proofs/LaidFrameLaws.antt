@@ -4,7 +4,7 @@ use Rattle.std.specs.Prelude.{Contains, slice_get, slice_index}
 use Rattle.std.specs.List.{AllByRecursion}
 use Rattle.std.proofs.lemmas.List.{length-map}
 use Rattle.std.proofs.lemmas.Option.{slice_get_within}
-use Rattle.jc_methods.specs.Held.{Names, IsNumbered, AreNumberedFrames, Seen, SeenAt, seen, seen_at}
+use Rattle.jc_methods.specs.VerificationTypes.{Names, IsNumbered, AreNumberedFrames, TypeState, TypeStateAt, type_state, type_state_at}
 use Rattle.jc_methods.specs.Opcode as opcode
 use Rattle.jc_methods.specs.Starts.{AreStarts}
 use Rattle.jc_methods.specs.WellMade.{IsWellMadeOfAnySize}
@@ -16,7 +16,7 @@ use Rattle.jc_methods.specs.declared.insn.Insn.TheVariants as insns
 use Rattle.jc_methods.specs.declared.kind.Kind.{Kind}
 use Rattle.jc_methods.specs.declared.kind.Kind.TheVariants as kinds
 use Rattle.jc_methods.specs.declared.kind.State.{State}
-use Rattle.jc_bytes.proofs.TestLaws.{first_in, later_in}
+use Rattle.jc_bytes.proofs.BooleanLaws.{first_in, later_in}
 use Rattle.jc_pool.specs.Adding.{IsFirst}
 use Rattle.jc_pool.specs.Lookup.{class_name_of}
 use Rattle.jc_frames.specs.Frames.{Ground, is_new}
@@ -111,14 +111,14 @@ laid_numbered wide names insns e all =
 -- ---- the classes that are named
 
 pub laid_named : (wide : Bool) (names : Names) (e : Emitted)
-    → named_by_all (map (seen_at names) (laid_frames wide e)) ≡ named_by_all (map (seen_at names) (frames_of wide e))
+    → named_by_all (map (type_state_at names) (laid_frames wide e)) ≡ named_by_all (map (type_state_at names) (frames_of wide e))
 laid_named wide names e =
-    ap (λ (l : List FrameAt). named_by_all (map (seen_at names) l)) (laid_are wide e) ∙ all_named_renamed (laid_place wide e.code) names (frames_of wide e)
+    ap (λ (l : List FrameAt). named_by_all (map (type_state_at names) l)) (laid_are wide e) ∙ all_named_renamed (laid_place wide e.code) names (frames_of wide e)
 
 -- ---- the frames of a twin
 
-all_listed : (names : Names) (Fact : SeenAt → Type 0) (frames : List FrameAt) → ((f : FrameAt) → Contains frames f → Fact (seen_at names f))
-    → AllByRecursion Fact (map (seen_at names) frames)
+all_listed : (names : Names) (Fact : TypeStateAt → Type 0) (frames : List FrameAt) → ((f : FrameAt) → Contains frames f → Fact (type_state_at names f))
+    → AllByRecursion Fact (map (type_state_at names) frames)
 all_listed names Fact [] each = tt
 all_listed names Fact (f ∷ frames) each = (each f (first_in f frames), all_listed names Fact frames (λ g c. each g (later_in f frames g c)))
 
@@ -156,7 +156,7 @@ module _ (names : Names) (b : Body) (first : ℕ) (states : List State) (array :
         let there = ap (λ (l : List Insn). slice_get l (image_of b first wide at)) code_is ∙ same_there b first wide call well.code at place (insns.OfClass opcode.new place) is refl in
         (slice_get_within g.code (image_of b first wide at) (insns.OfClass opcode.new place) there, ap is_new there)
 
-    one_fine : (f : FrameAt) → Contains (laid_frames wide (emission b first states array)) f → IsFine g (seen_at names f)
+    one_fine : (f : FrameAt) → Contains (laid_frames wide (emission b first states array)) f → IsFine g (type_state_at names f)
     one_fine f c =
         let asked = (told wide).each f c in
         let good = asked_good names b first states well are fit free wide f.at asked.0 asked.1 in
@@ -166,9 +166,9 @@ module _ (names : Names) (b : Body) (first : ℕ) (states : List State) (array :
         record {
           at = omega (arith, count, below);
           state =
-              subst (λ (t : Seen). IsSayable g.max_locals g.max_stack (HasNewAt g) t) (sym asked.2)
-              (subst (λ (n : ℕ). IsSayable n g.max_stack (HasNewAt g) (shifted (image_of b first wide) b.arg_slots (seen names asked.0))) (sym locals_are)
-              (subst (λ (n : ℕ). IsSayable (b.max_locals + 1) n (HasNewAt g) (shifted (image_of b first wide) b.arg_slots (seen names asked.0))) (sym stack_is) said));
+              subst (λ (t : TypeState). IsSayable g.max_locals g.max_stack (HasNewAt g) t) (sym asked.2)
+              (subst (λ (n : ℕ). IsSayable n g.max_stack (HasNewAt g) (shifted (image_of b first wide) b.arg_slots (type_state names asked.0))) (sym locals_are)
+              (subst (λ (n : ℕ). IsSayable (b.max_locals + 1) n (HasNewAt g) (shifted (image_of b first wide) b.arg_slots (type_state names asked.0))) (sym stack_is) said));
         }
 
     -- they can be said by full frames, where the classes that they name stand in the pool
@@ -176,8 +176,8 @@ module _ (names : Names) (b : Body) (first : ℕ) (states : List State) (array :
         → ((at : ℕ) → p.start at ≡ slice_index g.starts at)
         → ((name : List ℕ) (place : ℕ) → IsFirst (class_name_of g.pool) name place → p.class name ≡ place)
         → g.max_locals ≤ 65535 → g.max_stack ≤ 65535
-        → AllByRecursion (HasPlace g.pool) (named_by_all (map (seen_at names) (frames_of wide (emission b first states array))))
-        → AreWritable g p (map (seen_at names) (laid_frames wide (emission b first states array)))
+        → AllByRecursion (HasPlace g.pool) (named_by_all (map (type_state_at names) (frames_of wide (emission b first states array))))
+        → AreWritable g p (map (type_state_at names) (laid_frames wide (emission b first states array)))
     laid_writable p size starts few start class few_locals few_stack stand =
         are_writable g p size starts few start class few_locals few_stack names (laid_frames wide e) ((told wide).rising)
         (all_listed names (IsFine g) (laid_frames wide e) one_fine)

@@ -105,7 +105,7 @@ module _ (b : Body) (first : ℕ) (states : List State) (array : ℕ) (well : Is
   early_few i insn flow = tt
 
   late_few : (i : ℕ) (insn : Insn) (flow : Flow) → IsFewId (late_by (probe_of b first) i insn flow)
-  late_few i insn flows.Tests = probe_few (jump i (jump_target insn))
+  late_few i insn flows.Branches = probe_few (jump i (jump_target insn))
   late_few i insn flow = tt
 
   -- ---- items
@@ -160,7 +160,7 @@ module _ (b : Body) (first : ℕ) (states : List State) (array : ℕ) (well : Is
 
   image_fits : (i : ℕ) (flow : Flow) → IsInRange (old i) → LocalsWithin b.max_locals (old i) → All_fit (image_part b first false i (old i) flow)
   image_fits i flows.GoesOn h within = (slot_range b.arg_slots b.max_locals (old i) locals within h, tt)
-  image_fits i flows.Tests h within = tests_fit i (old i) (late_probe b first i) h (late_few i (old i) (flow_of (old i)))
+  image_fits i flows.Branches h within = tests_fit i (old i) (late_probe b first i) h (late_few i (old i) (flow_of (old i)))
   image_fits i flows.Jumps h within = (in_range_with (land_of b first false) (old i) h, tt)
   image_fits i flows.Switches h within = (
     in_range_with (arm_place (probe_of b first) (land_of b first false) (image_of b first false i + 1) (arms_at b.code i)) (old i) h,

@@ -15,8 +15,8 @@ use Rattle.jc_emit.specs.Emission.{emission}
 use Rattle.jc_emit.specs.Items.{insn_of, lead_of, land_of, segment_size, twin_items}
 use Rattle.jc_emit.specs.Sizes.{probe_size}
 use Rattle.jc_emit.specs.TwinTables.{moved_row, moved_line, moved_var}
-use Rattle.jc_emit.proofs.Built.{length_twin}
-use Rattle.jc_emit.proofs.Ends.{lead_none}
+use Rattle.jc_emit.proofs.BuiltLaws.{length_twin}
+use Rattle.jc_emit.proofs.EndsLaws.{lead_none}
 use Rattle.jc_emit.proofs.RowLaws.{total_grows}
 
 -- a row leads to instructions, and ends at most at the end

@@ -5,7 +5,7 @@ use Rattle.std.specs.Prelude.{slice_index}
 use Rattle.std.proofs.Math.Bool.{or-true}
 use Rattle.std.proofs.lemmas.Bool.{cases_lt, eq-eqb, lt-ltb}
 use Rattle.jc_bytes.proofs.EachLaws.{all_weaker}
-use Rattle.jc_methods.specs.Held.{Names}
+use Rattle.jc_methods.specs.VerificationTypes.{Names}
 use Rattle.jc_methods.specs.Starts.{insn_number}
 use Rattle.jc_methods.specs.WellMade.{IsLine, IsVar, IsWellMadeOfAnySize}
 use Rattle.jc_methods.specs.declared.body.Body.{Body}

@@ -1,6 +1,6 @@
 -- A method has one body, whatever the names with which it was read and whatever faults it was found to be without.
 use Rattle.std.proofs.Common.{◌≡◌, ℕ, List, map, Some, sym, ◌∙◌, subst}
-use Rattle.jc_methods.specs.Held.{Names, seen_at}
+use Rattle.jc_methods.specs.VerificationTypes.{Names, type_state_at}
 use Rattle.jc_methods.specs.WellMade.{TakeSlots}
 use Rattle.jc_methods.specs.declared.body.Body.{Body}
 use Rattle.jc_class.specs.declared.class_file.ClassFile.{ClassFile}
@@ -58,8 +58,8 @@ same_parts names others c number method coded tables a b p q =
         frames = a.frames;
         uses = uses i;
       };
-      seen = one_list c.pool b.owner method coded (map (seen_at names) a.frames) (map (seen_at others) b.frames)
-          (subst (λ (o : List ℕ). HasFrames c.pool o method coded (map (seen_at names) a.frames)) owner p.frames) q.frames;
+      seen = one_list c.pool b.owner method coded (map (type_state_at names) a.frames) (map (type_state_at others) b.frames)
+          (subst (λ (o : List ℕ). HasFrames c.pool o method coded (map (type_state_at names) a.frames)) owner p.frames) q.frames;
     }
 
 pub same_bodies : (names others : Names) (c : ClassFile) (number : ℕ) (method : Member) (Fs Gs : List Fault) (a b : Body)

@@ -5,7 +5,7 @@ use Rattle.std.proofs.lemmas.List.{map-append, take-append-drop}
 use Rattle.std.proofs.lemmas.Simd.{map-map}
 use Rattle.jc_bytes.specs.Counted.{counted}
 use Rattle.jc_bytes.specs.Grammar.{Grammar}
-use Rattle.jc_methods.specs.Held.{SeenAt}
+use Rattle.jc_methods.specs.VerificationTypes.{TypeStateAt}
 use Rattle.jc_frames.specs.FullFrames.{Places}
 use Rattle.jc_pool.specs.Lookup.{utf8_of}
 use Rattle.jc_pool.specs.Pool.{PoolValue}
@@ -81,7 +81,7 @@ module _ (pool : PoolValue) (name : List ℕ) where
       each (part ∷ parts) = (named.stands, each parts)
 
   -- and so has that of frames
-  pub frames_named : (place : ℕ) (p : Places) (frames : List SeenAt) → utf8_of pool place ≡ Some name
+  pub frames_named : (place : ℕ) (p : Places) (frames : List TypeStateAt) → utf8_of pool place ≡ Some name
       → AllByRecursion (IsNamed pool name) (frame_attributes place p frames)
   frames_named place p [] named = tt
   frames_named place p (f ∷ frames) named = (named, tt)

@@ -15,7 +15,7 @@ use Rattle.jc_after.specs.Shift.{with_slot}
 use Rattle.jc_emit.specs.Items.{Item, insn_of, image_part, image_of, twin_items}
 use Rattle.jc_emit.specs.Sizes.{insn_at}
 use Rattle.jc_emit.proofs.PiecesLaws.{HasAt}
-use Rattle.jc_emit.proofs.Told.{main_at}
+use Rattle.jc_emit.proofs.ToldLaws.{main_at}
 
 -- it goes on, and has no local variable
 pool_goes_on : (v place : ℕ) (insn : Insn) → pool_place insn ≡ Some place → (flow_of insn ≡ flows.GoesOn) × (with_slot v insn ≡ insn)

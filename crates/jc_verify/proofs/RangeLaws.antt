@@ -17,7 +17,7 @@ use Rattle.jc_methods.specs.declared.insn.Arm.{Arm}
 use Rattle.jc_methods.specs.declared.insn.Insn.{Insn}
 use Rattle.jc_methods.specs.declared.insn.Insn.TheVariants as insns
 use Rattle.jc_bytes.proofs.OneTextLaws.{big_below, both_bytes, byte_at}
-use Rattle.jc_insn.specs.declared.item.Item.TheVariants as items
+use Rattle.jc_insn.specs.declared.item.CodeItem.TheVariants as items
 use Rattle.jc_insn.specs.Fields.{Then, byte, nothing, piece}
 use Rattle.jc_insn.specs.Items.{IsItem, arm_in, arms_in, in_pieces, lookup_operands, number, operands, table_operands, wide_operands}
 use Rattle.jc_insn.specs.Spells.{Spells, SpellsFrom}

@@ -3,8 +3,8 @@ use Rattle.std.proofs.Common.{◌≡◌, ◌⊎◌, inl, inr, ℕ, ◌+◌, ◌�
 use Rattle.std.specs.Prelude.{Contains, slice_get, slice_index, ◌≢◌}
 use Rattle.std.specs.Int.Bits.{bit_and}
 use Rattle.std.proofs.lemmas.List.{length-map}
-use Rattle.jc_bytes.proofs.TestLaws.{stands_in, place_of}
-use Rattle.jc_methods.specs.Held.{Names, AreNumberedFrames, Seen, SeenAt, seen_at}
+use Rattle.jc_bytes.proofs.BooleanLaws.{stands_in, place_of}
+use Rattle.jc_methods.specs.VerificationTypes.{Names, AreNumberedFrames, TypeState, TypeStateAt, type_state_at}
 use Rattle.jc_methods.specs.EntryState.{entry_seen}
 use Rattle.jc_methods.specs.InsnUse.{pool_place, LeadsWithin, LocalsWithin}
 use Rattle.jc_methods.specs.Starts.{AreStarts}
@@ -40,7 +40,7 @@ use Rattle.jc_emit.specs.Items.{insn_of, twin_items, image_of}
 use Rattle.jc_emit.specs.Marks.{invokestatic}
 use Rattle.jc_emit.specs.Sizes.{insn_at}
 use Rattle.jc_emit.specs.Twin.{Twin, probe_init}
-use Rattle.jc_emit.proofs.TwinChecked.{verified}
+use Rattle.jc_emit.proofs.TwinCheckedLaws.{verified}
 use Rattle.jc_layout.specs.LaidBody.{laid_body, laid_frames, laid_place}
 use Rattle.jc_layout.specs.Layout.{is_wide}
 use Rattle.jc_layout.proofs.LaidBodyLaws.{laid_twin}
@@ -151,7 +151,7 @@ module _ (names : Names) (c twin : ClassFile) (places : CodePlaces) (array : ℕ
   laid_places = record { class = class_place twin.pool; start = slice_index (written_starts (emission b first states array)) }
 
   -- the state in which the method begins
-  abbrev entry : Seen
+  abbrev entry : TypeState
   entry = entry_seen b.owner b.name b.desc new.flags coded.items.max_locals
 
   name_is : utf8_of twin.pool new.name ≡ Some b.name
@@ -163,51 +163,51 @@ module _ (names : Names) (c twin : ClassFile) (places : CodePlaces) (array : ℕ
   begins : BeginsWith twin.pool b.owner new coded entry
   begins = record { name = b.name; desc = b.desc; name_is = name_is; desc_is = desc_is; entry_is = refl }
 
-  text_same : table_text laid_places (map (seen_at names) laid) ≡ table_text (places_of twin.pool (emission b first states array)) (written_frames names (emission b first states array))
+  text_same : table_text laid_places (map (type_state_at names) laid) ≡ table_text (places_of twin.pool (emission b first states array)) (written_frames names (emission b first states array))
   text_same =
-      ap (λ (l : List FrameAt). table_text laid_places (map (seen_at names) l)) (laid_are wide e)
+      ap (λ (l : List FrameAt). table_text laid_places (map (type_state_at names) l)) (laid_are wide e)
       ∙ table_same (laid_place wide e.code) (places_of twin.pool e) laid_places (λ name. refl) (λ k. offset_at e.code k) names (frames_of wide e)
 
   stands_for : StandsFor ground entry
-      (table_text (places_of twin.pool (emission b first states array)) (written_frames names (emission b first states array))) (map (seen_at names) laid)
+      (table_text (places_of twin.pool (emission b first states array)) (written_frames names (emission b first states array))) (map (type_state_at names) laid)
   stands_for =
-      subst (λ (t : List ℕ). StandsFor ground entry t (map (seen_at names) laid)) text_same
-      (read_back ground laid_places entry (map (seen_at names) laid)
+      subst (λ (t : List ℕ). StandsFor ground entry t (map (type_state_at names) laid)) text_same
+      (read_back ground laid_places entry (map (type_state_at names) laid)
       (laid_writable names b first states array w.source.well_made w.source.states_are w.source.frame_states w.source.none_straddles w.source.array_is
       wide call ground insns_so locals_are stack_is laid_places (length coded.items.code) starts few_bytes (λ k. refl)
       (λ name place first. class_found twin.pool name place first) w.fits.code.locals w.fits.code.stack w.fits.classes))
 
-  no_frames : written_frames names (emission b first states array) ≡ [] → map (seen_at names) laid ≡ []
+  no_frames : written_frames names (emission b first states array) ≡ [] → map (type_state_at names) laid ≡ []
   no_frames none =
-      ap (map (seen_at names)) (laid_are wide e)
+      ap (map (type_state_at names)) (laid_are wide e)
       ∙ by (frames_of wide e) none
     where
-      by : (frames : List FrameAt) → map (seen_at names) frames ≡ [] → map (seen_at names) (map (widened_frame (laid_place wide e.code)) frames) ≡ []
+      by : (frames : List FrameAt) → map (type_state_at names) frames ≡ [] → map (type_state_at names) (map (widened_frame (laid_place wide e.code)) frames) ≡ []
       by [] is = refl
       by (f ∷ frames) is = absurd (some_none is)
         where
-          some_none : {s : SeenAt} {ss : List SeenAt} → s ∷ ss ≡ [] → ⊥
+          some_none : {s : TypeStateAt} {ss : List TypeStateAt} → s ∷ ss ≡ [] → ⊥
           some_none e = cc
 
-  has_frames : HasFrames twin.pool b.owner new coded (map (seen_at names) laid)
+  has_frames : HasFrames twin.pool b.owner new coded (map (type_state_at names) laid)
   has_frames = record {
     entry = entry;
     begins = begins;
     frames_are = by (written_frames names e) refl;
   }
     where
-      by : (frames : List SeenAt) → written_frames names (emission b first states array) ≡ frames
-          → ((stack_maps twin.pool coded ≡ []) × (map (seen_at names) laid ≡ []))
-          ⊎ ((table : List ℕ) × (stack_maps twin.pool coded ≡ table ∷ []) × StandsFor ground entry table (map (seen_at names) laid))
+      by : (frames : List TypeStateAt) → written_frames names (emission b first states array) ≡ frames
+          → ((stack_maps twin.pool coded ≡ []) × (map (type_state_at names) laid ≡ []))
+          ⊎ ((table : List ℕ) × (stack_maps twin.pool coded ≡ table ∷ []) × StandsFor ground entry table (map (type_state_at names) laid))
       by [] is = inl (
-        stack_maps_back twin.pool places names e w.fits.code ∙ ap (λ (l : List SeenAt). map (λ a. a.body) (frame_attributes places.frames (places_of twin.pool e) l)) is,
+        stack_maps_back twin.pool places names e w.fits.code ∙ ap (λ (l : List TypeStateAt). map (λ a. a.body) (frame_attributes places.frames (places_of twin.pool e) l)) is,
         no_frames is,
       )
       by (f ∷ frames) is = inr (
         table_text (places_of twin.pool e) (written_frames names e),
         stack_maps_back twin.pool places names e w.fits.code
-            ∙ ap (λ (l : List SeenAt). map (λ a. a.body) (frame_attributes places.frames (places_of twin.pool e) l)) is
-            ∙ ap (λ (l : List SeenAt). table_text (places_of twin.pool e) l ∷ []) (sym is),
+            ∙ ap (λ (l : List TypeStateAt). map (λ a. a.body) (frame_attributes places.frames (places_of twin.pool e) l)) is
+            ∙ ap (λ (l : List TypeStateAt). table_text (places_of twin.pool e) l ∷ []) (sym is),
         stands_for,
       )
 
@@ -271,7 +271,7 @@ module _ (names : Names) (c twin : ClassFile) (places : CodePlaces) (array : ℕ
         (class_in names c method b states array w.source twin.pool w.pool.extends);
     tables = written_tables e;
     are_tables = are_tables;
-    frames = map (seen_at names) laid;
+    frames = map (type_state_at names) laid;
     has_frames = has_frames;
   }
 

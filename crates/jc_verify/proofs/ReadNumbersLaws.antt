@@ -5,7 +5,7 @@ use Rattle.std.proofs.lemmas.List.{length-map}
 use Rattle.jc_bytes.specs.ByteLists.{AreBytes}
 use Rattle.jc_bytes.specs.Counted.{counted}
 use Rattle.jc_bytes.specs.Grammar.{Grammar}
-use Rattle.jc_methods.specs.Held.{Names}
+use Rattle.jc_methods.specs.VerificationTypes.{Names}
 use Rattle.jc_methods.specs.Starts.{insn_number}
 use Rattle.jc_methods.specs.WellMade.{IsWellMadeOfAnySize}
 use Rattle.jc_methods.specs.declared.body.Body.{Body}

@@ -106,7 +106,7 @@ module _ (b : Body) (first : ℕ) (wide : Bool) (call : ℕ) (is_code : IsCode b
 
     image_right : (q i : ℕ) (insn : Insn) (flow : Flow) → i < length b.code → Image q i insn flow → Named insn
     image_right q i insn flows.GoesOn lt h = subst Named (sym h.0) (slot_right major pool b.arg_slots (old i) (right i lt))
-    image_right q i insn flows.Tests lt h =
+    image_right q i insn flows.Branches lt h =
         ⊎_elim (λ alike. subst Named (sym alike.same) (placed_right major pool (λ to. alike.target) (old i) (right i lt)))
         (λ inverse. subst Named (sym inverse.inverse) (inverted_right major pool inverse.target (old i) (right i lt))) h
     image_right q i insn flows.Jumps lt h = subst Named (sym h.same) (placed_right major pool (λ to. h.target) (old i) (right i lt))

@@ -1,7 +1,7 @@
 -- A body under several lists of names: its frames say the same by names, and so the kind check comes to the same.
 use Rattle.std.proofs.Common.{◌≡◌, ◌⊎◌, inl, inr, ℕ, zero, suc, ◌<◌, List, [], ◌∷◌, length, map, get_or, Option, Some, None, if◌then◌else◌, refl, sym, ◌∙◌, ap, ap₂, subst, arith}
 use Rattle.std.specs.Option.{option_and_then, IsSome}
-use Rattle.jc_methods.specs.Held.{Names, Seen, SeenAt, seen_at, AreNumberedFrames, Grows}
+use Rattle.jc_methods.specs.VerificationTypes.{Names, TypeState, TypeStateAt, type_state_at, AreNumberedFrames, Grows}
 use Rattle.jc_methods.specs.EntryState.{entry_of}
 use Rattle.jc_methods.specs.declared.body.Body.{Body}
 use Rattle.jc_methods.specs.declared.body.FrameAt.{FrameAt}
@@ -15,7 +15,7 @@ use Rattle.jc_kinds.specs.States.{frame_at, falls_at, or_else, state_of, after_a
 -- the bodies are equal but for how their frames number classes, and their frames say the same by names
 pub record AreSame (names others : Names) (a b : Body) : Type 0 where
   pub rest : a ≡ record b { frames = a.frames }
-  pub seen : map (seen_at names) a.frames ≡ map (seen_at others) b.frames
+  pub seen : map (type_state_at names) a.frames ≡ map (type_state_at others) b.frames
 
 pub turned : (names others : Names) (a b : Body) → AreSame names others a b → AreSame others names b a
 turned names others a b same = record { rest = sym (ap (λ (x : Body). record x { frames = b.frames }) same.rest); seen = sym same.seen }
@@ -24,33 +24,33 @@ turned names others a b same = record { rest = sym (ap (λ (x : Body). record x 
 pub grown_same : (old new : Names) (b : Body) → Grows old new → AreNumberedFrames (length old) b.frames → AreSame old new b b
 grown_same old new b grows numbered = record {
   rest = refl;
-  seen = sym (ap (λ (names : Names). map (seen_at names) b.frames) grows.1 ∙ frames_stay old grows.0 b.frames numbered);
+  seen = sym (ap (λ (names : Names). map (type_state_at names) b.frames) grows.1 ∙ frames_stay old grows.0 b.frames numbered);
 }
 
 -- ---- frames
 
-pub same_head : {s t : SeenAt} {ss ts : List SeenAt} → s ∷ ss ≡ t ∷ ts → s ≡ t
+pub same_head : {s t : TypeStateAt} {ss ts : List TypeStateAt} → s ∷ ss ≡ t ∷ ts → s ≡ t
 same_head e = cc
 
-pub same_tail : {s t : SeenAt} {ss ts : List SeenAt} → s ∷ ss ≡ t ∷ ts → ss ≡ ts
+pub same_tail : {s t : TypeStateAt} {ss ts : List TypeStateAt} → s ∷ ss ≡ t ∷ ts → ss ≡ ts
 same_tail e = cc
 
 -- a frame of the one list has one of the other at its instruction
-frame_there : (names others : Names) (fs gs : List FrameAt) → map (seen_at names) fs ≡ map (seen_at others) gs → (k : ℕ) (f : FrameAt) → k < length fs → get_or fs k f ≡ f
+frame_there : (names others : Names) (fs gs : List FrameAt) → map (type_state_at names) fs ≡ map (type_state_at others) gs → (k : ℕ) (f : FrameAt) → k < length fs → get_or fs k f ≡ f
     → (g : FrameAt) × ((j : ℕ) × (j < length gs) × (get_or gs j g ≡ g)) × (g.at ≡ f.at)
 frame_there names others [] gs same k f less is = absurd (omega (arith, less))
 frame_there names others (x ∷ fs) [] same k f less is = absurd (no_frame same)
   where
-    no_frame : {s : SeenAt} {ss : List SeenAt} → s ∷ ss ≡ [] → ⊥
+    no_frame : {s : TypeStateAt} {ss : List TypeStateAt} → s ∷ ss ≡ [] → ⊥
     no_frame e = cc
-frame_there names others (x ∷ fs) (y ∷ gs) same zero f less is = (y, (0, omega arith, refl), sym (ap (λ (s : SeenAt). s.at) (same_head same)) ∙ ap (λ (g : FrameAt). g.at) is)
+frame_there names others (x ∷ fs) (y ∷ gs) same zero f less is = (y, (0, omega arith, refl), sym (ap (λ (s : TypeStateAt). s.at) (same_head same)) ∙ ap (λ (g : FrameAt). g.at) is)
 frame_there names others (x ∷ fs) (y ∷ gs) same (suc k) f less is =
     let found = frame_there names others fs gs (same_tail same) k f (omega (arith, less)) is in
     let within = found.1.1 in
     (found.0, (suc found.1.0, omega (arith, within), found.1.2), found.2)
 
-fit_as : (x y s t : Option Seen) → x ≡ s → y ≡ t → FitsThere x y → FitsThere s t
-fit_as x y s t xs yt fits = subst (λ (o : Option Seen). FitsThere s o) yt (subst (λ (o : Option Seen). FitsThere o y) xs fits)
+fit_as : (x y s t : Option TypeState) → x ≡ s → y ≡ t → FitsThere x y → FitsThere s t
+fit_as x y s t xs yt fits = subst (λ (o : Option TypeState). FitsThere s o) yt (subst (λ (o : Option TypeState). FitsThere o y) xs fits)
 
 -- ---- where control goes doesn't depend on the frames
 
@@ -84,7 +84,7 @@ needs b fs gs j (inr (inr behind)) = inr (inr (behind.0, λ fall. behind.1 (fall
 
 -- ---- the kind check
 
-module _ (names others : Names) (b : Body) (fs gs : List FrameAt) (same : map (seen_at names) fs ≡ map (seen_at others) gs) where
+module _ (names others : Names) (b : Body) (fs gs : List FrameAt) (same : map (type_state_at names) fs ≡ map (type_state_at others) gs) where
   missing : (i : ℕ) → IsMissing (record b { frames = fs }) i → IsMissing (record b { frames = gs }) i
   missing i m = record {
     within = m.within;
@@ -96,19 +96,19 @@ module _ (names others : Names) (b : Body) (fs gs : List FrameAt) (same : map (s
 
   states : (i : ℕ) → state_of names (record b { frames = fs }) i ≡ state_of others (record b { frames = gs }) i
   unfolding state_of after_of
-  states zero = ap (λ (l : List SeenAt). or_else (frame_at l 0) (Some (entry_of b))) same
+  states zero = ap (λ (l : List TypeStateAt). or_else (frame_at l 0) (Some (entry_of b))) same
   states (suc i) =
-      ap₂ (λ (l : List SeenAt) (s : Option Seen). or_else (frame_at l (suc i)) (if falls_at (insn_at b i) then option_and_then (after_of b i) s else None))
+      ap₂ (λ (l : List TypeStateAt) (s : Option TypeState). or_else (frame_at l (suc i)) (if falls_at (insn_at b i) then option_and_then (after_of b i) s else None))
       same (states i)
 
   afters : (i : ℕ) → after_at names (record b { frames = fs }) i ≡ after_at others (record b { frames = gs }) i
   unfolding after_of
-  afters i = ap (λ (s : Option Seen). option_and_then (after_of b i) s) (states i)
+  afters i = ap (λ (s : Option TypeState). option_and_then (after_of b i) s) (states i)
 
 -- each part of the check, from the one list of frames to the other
-module _ (names others : Names) (b : Body) (fs gs : List FrameAt) (same : map (seen_at names) fs ≡ map (seen_at others) gs) where
-  fits_back : (x : Option Seen) (i : ℕ) → (FitsThere x (state_of names (record b { frames = fs }) i) → ⊥) → FitsThere x (state_of others (record b { frames = gs }) i) → ⊥
-  fits_back x i bad fits = bad (subst (λ (o : Option Seen). FitsThere x o) (sym (states names others b fs gs same i)) fits)
+module _ (names others : Names) (b : Body) (fs gs : List FrameAt) (same : map (type_state_at names) fs ≡ map (type_state_at others) gs) where
+  fits_back : (x : Option TypeState) (i : ℕ) → (FitsThere x (state_of names (record b { frames = fs }) i) → ⊥) → FitsThere x (state_of others (record b { frames = gs }) i) → ⊥
+  fits_back x i bad fits = bad (subst (λ (o : Option TypeState). FitsThere x o) (sym (states names others b fs gs same i)) fits)
 
   clash : (i : ℕ) → IsClash names (record b { frames = fs }) i → IsClash others (record b { frames = gs }) i
   clash i c = record { within = c.within; cause = by c.cause }
@@ -139,7 +139,7 @@ module _ (names others : Names) (b : Body) (fs gs : List FrameAt) (same : map (s
   check : Checked names (record b { frames = fs }) → Checked others (record b { frames = gs })
   check c = record {
     none_missing = λ i m. c.none_missing i (missing others names b gs fs (sym same) i m);
-    entry = subst (λ (o : Option Seen). FitsThere (Some (entry_of b)) o) (states names others b fs gs same 0) c.entry;
+    entry = subst (λ (o : Option TypeState). FitsThere (Some (entry_of b)) o) (states names others b fs gs same 0) c.entry;
     after = λ i less. subst IsSome (afters names others b fs gs same i) (c.after i less);
     branches = λ i j way. fit_as _ _ _ _ (afters names others b fs gs same i) (states names others b fs gs same j) (c.branches i j (leads b gs fs i j way));
     handlers = λ h i guard less. fit_as _ _ _ _ (ap (at_handler b h) (states names others b fs gs same i)) (states names others b fs gs same h.target)
@@ -152,7 +152,7 @@ module _ (names others : Names) (b : Body) (fs gs : List FrameAt) (same : map (s
     first = λ before less m. f.first before less (missing others names b gs fs (sym same) before m);
   }
 
-module _ (names others : Names) (b : Body) (fs gs : List FrameAt) (same : map (seen_at names) fs ≡ map (seen_at others) gs) where
+module _ (names others : Names) (b : Body) (fs gs : List FrameAt) (same : map (type_state_at names) fs ≡ map (type_state_at others) gs) where
   first_clash : (i : ℕ) → FirstClash names (record b { frames = fs }) i → FirstClash others (record b { frames = gs }) i
   first_clash i f = (
     λ place m. f.0 place (missing others names b gs fs (sym same) place m),

@@ -6,7 +6,7 @@ use Rattle.std.proofs.lemmas.List.{length-map}
 use Rattle.std.proofs.lemmas.List.Edits.{length-insert}
 use Rattle.std.proofs.lemmas.List.Elements.{recursion_from_All}
 use Rattle.std.proofs.lemmas.List.Sums.{sum_by-cons}
-use Rattle.jc_methods.specs.Held.{Names, Held, top, int, float, double, long, null, uninit_this, object, uninit, held, seen, is_pair, slots, width}
+use Rattle.jc_methods.specs.VerificationTypes.{Names, VerificationType, top, int, float, double, long, null, uninit_this, object, uninit, verification_type, type_state, is_pair, slots, width}
 use Rattle.jc_methods.specs.Opcode as opcode
 use Rattle.jc_methods.specs.WellMade as made
 use Rattle.jc_methods.specs.declared.insn.Insn.{Insn}
@@ -24,12 +24,12 @@ use Rattle.jc_verify.proofs.WritableFrameLaws.{PlacedSo, IsSayable}
 
 -- ---- kinds by the names of classes
 
-begins_held : (names : Names) (ks : List Kind) → made.BeginsWithTop ks → BeginsWithTop (map (held names) ks)
+begins_held : (names : Names) (ks : List Kind) → made.BeginsWithTop ks → BeginsWithTop (map (verification_type names) ks)
 begins_held names [] b = b
-begins_held names (k ∷ ks) b = subst (λ (x : Kind). BeginsWithTop (map (held names) (x ∷ ks))) (sym b) tt
+begins_held names (k ∷ ks) b = subst (λ (x : Kind). BeginsWithTop (map (verification_type names) (x ∷ ks))) (sym b) tt
 
 module _ (names : Names) where
-  pair_slots : (k : Kind) → is_pair (held names k) ≡ true → made.kind_slots k ≡ 2
+  pair_slots : (k : Kind) → is_pair (verification_type names k) ≡ true → made.kind_slots k ≡ 2
   pair_slots kinds.Double e = refl
   pair_slots kinds.Long e = refl
   pair_slots kinds.Top e = absurd (true≢false (sym e))
@@ -40,15 +40,15 @@ module _ (names : Names) where
   pair_slots (kinds.Object n) e = absurd (true≢false (sym e))
   pair_slots (kinds.Uninit at) e = absurd (true≢false (sym e))
 
-  paired_held : (ks : List Kind) → made.ArePaired ks → ArePaired (map (held names) ks)
+  paired_held : (ks : List Kind) → made.ArePaired ks → ArePaired (map (verification_type names) ks)
   paired_held [] p = tt
   paired_held (k ∷ ks) p = (λ pair. begins_held names ks (p.0 (pair_slots k pair)), paired_held ks p.1)
 
-  slots_held : (ks : List Kind) → slots (map (held names) ks) ≡ sum_by made.kind_slots ks
+  slots_held : (ks : List Kind) → slots (map (verification_type names) ks) ≡ sum_by made.kind_slots ks
   slots_held [] = refl
   slots_held (k ∷ ks) = ap₂ (λ (a b : ℕ). a + b) (one k) (slots_held ks) ∙ sym (sum_by-cons made.kind_slots k ks)
     where
-      one : (k : Kind) → width (held names k) ≡ made.kind_slots k
+      one : (k : Kind) → width (verification_type names k) ≡ made.kind_slots k
       one kinds.Top = refl
       one kinds.Int = refl
       one kinds.Float = refl
@@ -59,7 +59,7 @@ module _ (names : Names) where
       one (kinds.Object n) = refl
       one (kinds.Uninit at) = refl
 
-some_width : (h : Held) → 1 ≤ width h
+some_width : (h : VerificationType) → 1 ≤ width h
 some_width top = omega arith
 some_width int = omega arith
 some_width float = omega arith
@@ -70,13 +70,13 @@ some_width uninit_this = omega arith
 some_width (object name) = omega arith
 some_width (uninit at) = omega arith
 
-slots_above : (hs : List Held) → length hs ≤ slots hs
+slots_above : (hs : List VerificationType) → length hs ≤ slots hs
 slots_above [] = omega arith
 slots_above (h ∷ hs) = let a = slots_above hs in let w = some_width h in omega (arith, a, w)
 
 -- ---- one more local variable
 
-begins_kept : (h : Held) (hs others : List Held) → BeginsWithTop (h ∷ hs) → BeginsWithTop (h ∷ others)
+begins_kept : (h : VerificationType) (hs others : List VerificationType) → BeginsWithTop (h ∷ hs) → BeginsWithTop (h ∷ others)
 begins_kept top hs others b = tt
 begins_kept int hs others b = b
 begins_kept float hs others b = b
@@ -88,21 +88,21 @@ begins_kept (object name) hs others b = b
 begins_kept (uninit at) hs others b = b
 
 -- no long or double stands at v - 1
-abbrev IsWholeAt : ℕ → List Held → Type 0
+abbrev IsWholeAt : ℕ → List VerificationType → Type 0
 IsWholeAt v hs = (k : ℕ) → k + 1 ≡ v → is_pair (get_or hs k top) ≡ false
 
-paired_more : (v : ℕ) (h : Held) (hs : List Held) → is_pair h ≡ false → ArePaired hs → IsWholeAt v hs → ArePaired (insert hs v h)
+paired_more : (v : ℕ) (h : VerificationType) (hs : List VerificationType) → is_pair h ≡ false → ArePaired hs → IsWholeAt v hs → ArePaired (insert hs v h)
 paired_more zero h hs single p whole = ((λ e. absurd (true≢false (sym e ∙ single))), p)
 paired_more (suc v) h [] single p whole = ((λ e. absurd (true≢false (sym e ∙ single))), tt)
 paired_more (suc v) h (x ∷ hs) single p whole =
     (λ pair. by v hs (p.0 pair) (λ e. true≢false (sym pair ∙ whole 0 e)), paired_more v h hs single p.1 (λ k e. whole (suc k) (omega (arith, e))))
   where
-    by : (v : ℕ) (hs : List Held) → BeginsWithTop hs → (0 + 1 ≡ suc v → ⊥) → BeginsWithTop (insert hs v h)
+    by : (v : ℕ) (hs : List VerificationType) → BeginsWithTop hs → (0 + 1 ≡ suc v → ⊥) → BeginsWithTop (insert hs v h)
     by zero hs b not = absurd (not refl)
     by (suc v) [] b not = absurd b
     by (suc v) (y ∷ hs) b not = begins_kept y hs (insert hs v h) b
 
-begins_renamed : (f : ℕ → ℕ) (hs : List Held) → BeginsWithTop hs → BeginsWithTop (map (renamed f) hs)
+begins_renamed : (f : ℕ → ℕ) (hs : List VerificationType) → BeginsWithTop hs → BeginsWithTop (map (renamed f) hs)
 begins_renamed f [] b = b
 begins_renamed f (top ∷ hs) b = tt
 begins_renamed f (int ∷ hs) b = b
@@ -114,17 +114,17 @@ begins_renamed f (uninit_this ∷ hs) b = b
 begins_renamed f (object name ∷ hs) b = b
 begins_renamed f (uninit at ∷ hs) b = b
 
-paired_renamed : (f : ℕ → ℕ) (hs : List Held) → ArePaired hs → ArePaired (map (renamed f) hs)
+paired_renamed : (f : ℕ → ℕ) (hs : List VerificationType) → ArePaired hs → ArePaired (map (renamed f) hs)
 paired_renamed f [] p = tt
 paired_renamed f (h ∷ hs) p = (λ pair. begins_renamed f hs (p.0 (sym (pair_renamed f h) ∙ pair)), paired_renamed f hs p.1)
 
-whole_renamed : (f : ℕ → ℕ) (hs : List Held) (k : ℕ) → is_pair (get_or hs k top) ≡ false → is_pair (get_or (map (renamed f) hs) k top) ≡ false
+whole_renamed : (f : ℕ → ℕ) (hs : List VerificationType) (k : ℕ) → is_pair (get_or hs k top) ≡ false → is_pair (get_or (map (renamed f) hs) k top) ≡ false
 whole_renamed f [] k single = single
 whole_renamed f (h ∷ hs) zero single = pair_renamed f h ∙ single
 whole_renamed f (h ∷ hs) (suc k) single = whole_renamed f hs k single
 
-module _ (Fact : Held → Type 0) where
-  all_more : (v : ℕ) (h : Held) (hs : List Held) → Fact h → AllByRecursion Fact hs → AllByRecursion Fact (insert hs v h)
+module _ (Fact : VerificationType → Type 0) where
+  all_more : (v : ℕ) (h : VerificationType) (hs : List VerificationType) → Fact h → AllByRecursion Fact hs → AllByRecursion Fact (insert hs v h)
   all_more zero h hs one all = (one, all)
   all_more (suc v) h [] one all = (one, tt)
   all_more (suc v) h (x ∷ hs) one all = (all.0, all_more v h hs one all.1)
@@ -133,7 +133,7 @@ module _ (Fact : Held → Type 0) where
 
 module _ (names : Names) (code : List Insn) (image : ℕ → ℕ) (Fact : ℕ → Type 0)
     (placed : (at place : ℕ) → slice_get code at ≡ Some (insns.OfClass opcode.new place) → Fact (image at)) where
-  kind_placed : (k : Kind) → made.IsKind code k → PlacedSo Fact (renamed image (held names k))
+  kind_placed : (k : Kind) → made.IsKind code k → PlacedSo Fact (renamed image (verification_type names k))
   kind_placed (kinds.Uninit at) is = placed at is.0 is.1
   kind_placed kinds.Top is = tt
   kind_placed kinds.Int is = tt
@@ -144,19 +144,19 @@ module _ (names : Names) (code : List Insn) (image : ℕ → ℕ) (Fact : ℕ �
   kind_placed kinds.UninitThis is = tt
   kind_placed (kinds.Object n) is = tt
 
-  all_placed : (ks : List Kind) → AllByRecursion (made.IsKind code) ks → AllByRecursion (PlacedSo Fact) (map (renamed image) (map (held names) ks))
+  all_placed : (ks : List Kind) → AllByRecursion (made.IsKind code) ks → AllByRecursion (PlacedSo Fact) (map (renamed image) (map (verification_type names) ks))
   all_placed [] all = tt
   all_placed (k ∷ ks) all = (kind_placed k all.0, all_placed ks all.1)
 
 pub shifted_sayable : (names : Names) (b : Body) (image : ℕ → ℕ) (Fact : ℕ → Type 0) (s : State) → b.arg_slots ≤ b.max_locals
     → ((at place : ℕ) → slice_get b.code at ≡ Some (insns.OfClass opcode.new place) → Fact (image at)) → IsStateOf names b s
-    → IsSayable (b.max_locals + 1) (b.max_stack + 3) Fact (shifted image b.arg_slots (seen names s))
+    → IsSayable (b.max_locals + 1) (b.max_stack + 3) Fact (shifted image b.arg_slots (type_state names s))
 shifted_sayable names b image Fact s room placed is =
-    let hs = map (held names) s.locals in
+    let hs = map (verification_type names) s.locals in
     let rs = map (renamed image) hs in
-    let stack = map (renamed image) (map (held names) s.stack) in
-    let count = length-map hs (renamed image) ∙ length-map s.locals (held names) ∙ is.state.locals in
-    let taken = slots-renamed image (map (held names) s.stack) ∙ slots_held names s.stack in
+    let stack = map (renamed image) (map (verification_type names) s.stack) in
+    let count = length-map hs (renamed image) ∙ length-map s.locals (verification_type names) ∙ is.state.locals in
+    let taken = slots-renamed image (map (verification_type names) s.stack) ∙ slots_held names s.stack in
     let most = is.state.stack in
     let above = slots_above stack in
     record {

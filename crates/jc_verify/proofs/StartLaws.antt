@@ -75,7 +75,7 @@ some_bytes wide at (insn ∷ code) starts (later, is, more) some =
 -- ---- the wide layout
 
 some_width : (flow : Flow) → 1 ≤ widths_by flow
-some_width flows.Tests = omega arith
+some_width flows.Branches = omega arith
 some_width flow = omega arith
 
 -- places rise
@@ -93,13 +93,13 @@ wide_offset (insn ∷ code) [] long k = absurd (omega (arith, long))
 wide_offset (insn ∷ code) (start ∷ starts) long zero = by (flow_of insn)
   where
     by : (flow : Flow) → slice_index (wide_starts_by start flow ++ wide_starts code starts) 0 ≡ start
-    by flows.Tests = refl
+    by flows.Branches = refl
     by flow = refl
 wide_offset (insn ∷ code) (start ∷ starts) long (suc k) = by (flow_of insn) ∙ wide_offset code starts (omega (arith, long)) k
   where
     by : (flow : Flow) → slice_index (wide_starts_by start flow ++ wide_starts code starts) (widths_by flow + wide_place code k)
         ≡ slice_index (wide_starts code starts) (wide_place code k)
-    by flows.Tests =
+    by flows.Branches =
         let next : 2 + wide_place code k ≡ suc (suc (wide_place code k)) = omega arith in
         ap (slice_index (start ∷ (start + 3) ∷ wide_starts code starts)) next
     by flow =

@@ -27,7 +27,7 @@ use Rattle.jc_emit.specs.TwinCode.{to_of}
 use Rattle.jc_emit.specs.Items.{Item, init_call, init_store, image, probe_array, probe_id, probe_one, probe_store, hop, insn_of, twin_items}
 use Rattle.jc_emit.specs.Local.{Stands, Lands, Ok, OkImage}
 use Rattle.jc_emit.proofs.PlacedLaws.{flow_push, flow_shifted, targets_placed, no_targets, inverse_targets, placed_targets, goto_stops, switch_stops, no_fall_goto, never}
-use Rattle.jc_emit.proofs.Others.{jumps_target}
+use Rattle.jc_emit.proofs.OthersLaws.{jumps_target}
 use Rattle.jc_emit.proofs.LocalLaws.{twin_ok}
 use Rattle.jc_layout.proofs.LayableLaws.{branch_of, each_mapped}
 
@@ -159,7 +159,7 @@ module _ (b : Body) (first : ℕ) (wide : Bool) (call : ℕ) (is_code : IsCode b
   image_within q i insn flows.GoesOn e h =
       subst (λ x. Within (targets_of x)) (sym h.0)
       (subst Within (sym (no_targets (with_slot b.arg_slots (old i)) (inl (flow_shifted b.arg_slots (old i) ∙ e)))) tt)
-  image_within q i insn flows.Tests e h =
+  image_within q i insn flows.Branches e h =
       ⊎_elim
       (λ alike. subst (λ x. Within (targets_of x)) (sym alike.same)
       (subst Within (sym (placed_targets (old i) (λ to. alike.target) e)) (lands_within alike.target _ _ alike.jumped, tt)))
@@ -190,7 +190,7 @@ module _ (b : Body) (first : ℕ) (wide : Bool) (call : ℕ) (is_code : IsCode b
 
   image_falls : (q i : ℕ) (insn : Insn) (flow : Flow) → flow_of (old i) ≡ flow → Image q i insn flow → FallsThrough insn → q + 1 < count
   image_falls q i insn flows.GoesOn e h falls = lands_within (q + 1) _ _ h.1
-  image_falls q i insn flows.Tests e h falls =
+  image_falls q i insn flows.Branches e h falls =
       ⊎_elim (λ alike. stands_within (q + 1) _ _ alike.fell) (λ inverse. stands_within (q + 1) _ _ inverse.fell) h
   image_falls q i insn flows.Jumps e h falls = absurd (goto_stops (old i) (λ to. h.target) e (subst FallsThrough h.same falls))
   image_falls q i insn flows.Switches e h falls = absurd (switch_stops (old i) h.place e (subst FallsThrough h.same falls))
@@ -220,7 +220,7 @@ module _ (b : Body) (first : ℕ) (wide : Bool) (call : ℕ) (is_code : IsCode b
 
     image_locals : (q i : ℕ) (insn : Insn) (flow : Flow) → i < length b.code → Image q i insn flow → Among (locals_of insn)
     image_locals q i insn flows.GoesOn lt h = subst (λ x. Among (locals_of x)) (sym h.0) (slot_within b.arg_slots b.max_locals (old i) (locals i (insns.Simple 0) lt))
-    image_locals q i insn flows.Tests lt h =
+    image_locals q i insn flows.Branches lt h =
         ⊎_elim
         (λ alike. subst (λ x. Among (locals_of x)) (sym alike.same) (subst Among (sym (placed_locals (λ to. alike.target) (old i))) (old_locals i lt)))
         (λ inverse. subst (λ x. Among (locals_of x)) (sym inverse.inverse) (subst Among (sym (inverted_locals inverse.target (old i))) (old_locals i lt)))

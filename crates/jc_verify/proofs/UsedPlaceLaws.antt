@@ -6,7 +6,7 @@ use Rattle.std.proofs.lemmas.Bool.{true≢false, eq-eqb}
 use Rattle.std.proofs.lemmas.List.Elements.{Contains-append_cases}
 use Rattle.std.proofs.lemmas.Option.{none-some}
 use Rattle.jc_bytes.proofs.FirstSeenLaws.{contains_one}
-use Rattle.jc_bytes.proofs.TestLaws.{any_decided, equal_decided, none_in, which_in, first_in, later_in}
+use Rattle.jc_bytes.proofs.BooleanLaws.{any_decided, equal_decided, none_in, which_in, first_in, later_in}
 use Rattle.jc_methods.specs.InsnUse.{pool_place}
 use Rattle.jc_methods.specs.WellMade.{what_used}
 use Rattle.jc_methods.specs.declared.body.Use.{Use}

@@ -5,7 +5,7 @@ use Rattle.std.specs.List.{AllByRecursion}
 use Rattle.std.proofs.lemmas.List.{length-map}
 use Rattle.jc_methods.proofs.StartsLaws.{number_at, rising}
 use Rattle.jc_methods.specs.FrameOrder.{RiseFrom}
-use Rattle.jc_methods.specs.Held.{Names, Held, top, int, float, double, long, null, uninit_this, object, uninit, class_names, Seen, SeenAt, slots, seen_at}
+use Rattle.jc_methods.specs.VerificationTypes.{Names, VerificationType, top, int, float, double, long, null, uninit_this, object, uninit, class_names, TypeState, TypeStateAt, slots, type_state_at}
 use Rattle.jc_methods.specs.Starts.{insn_number, AreStarts}
 use Rattle.jc_methods.specs.declared.body.FrameAt.{FrameAt}
 use Rattle.jc_pool.specs.Adding.{IsFirst}
@@ -21,12 +21,12 @@ use Rattle.jc_frames.proofs.ValuesLaws.{in_values}
 -- ---- what a full frame says
 
 -- an object that isn't initialized has this of its place
-abbrev pub PlacedSo : (ℕ → Type 0) → Held → Type 0
+abbrev pub PlacedSo : (ℕ → Type 0) → VerificationType → Type 0
 PlacedSo Fact (uninit at) = Fact at
 PlacedSo Fact h = Unit {0}
 
 -- so many local variables, so many slots, and this of each object that isn't initialized
-pub record IsSayable (max_locals max_stack : ℕ) (Fact : ℕ → Type 0) (t : Seen) : Type 0 where
+pub record IsSayable (max_locals max_stack : ℕ) (Fact : ℕ → Type 0) (t : TypeState) : Type 0 where
   pub locals : length t.locals ≡ max_locals
   pub paired : ArePaired t.locals
   pub stack : slots t.stack ≤ max_stack
@@ -39,7 +39,7 @@ abbrev pub HasNewAt : Ground → ℕ → Type 0
 HasNewAt g at = (at < length g.code) × (is_new (slice_get g.code at) ≡ true)
 
 -- the frame stands at an instruction, and its state can be said
-pub record IsFine (g : Ground) (f : SeenAt) : Type 0 where
+pub record IsFine (g : Ground) (f : TypeStateAt) : Type 0 where
   pub at : f.at < length g.code
   pub state : IsSayable g.max_locals g.max_stack (HasNewAt g) f.state
 
@@ -81,7 +81,7 @@ module _ (g : Ground) (p : Places) (size : ℕ) (starts : AreStarts (length g.co
       let less = class_within g.pool first.0 name first.1.stands in
       (omega (arith, e, less, fits), ap (class_name_of g.pool) e ∙ first.1.stands)
 
-  have_places : (hs : List Held) → AllByRecursion (HasPlace g.pool) (class_names hs) → AllByRecursion (PlacedSo (HasNewAt g)) hs → AllByRecursion (HasPlaces g p) hs
+  have_places : (hs : List VerificationType) → AllByRecursion (HasPlace g.pool) (class_names hs) → AllByRecursion (PlacedSo (HasNewAt g)) hs → AllByRecursion (HasPlaces g p) hs
   have_places [] s m = tt
   have_places (object name ∷ hs) s m = (place_of name s.0, have_places hs s.1 m.1)
   have_places (uninit at ∷ hs) s m = ((starts_at at m.0.0, m.0.1), have_places hs s m.1)
@@ -96,7 +96,7 @@ module _ (g : Ground) (p : Places) (size : ℕ) (starts : AreStarts (length g.co
   -- ---- frames
 
   module _ (few_locals : g.max_locals ≤ 65535) (few_stack : g.max_stack ≤ 65535) where
-    one_writable : (f : SeenAt) → IsFine g f → AllByRecursion (HasPlace g.pool) (named_by f) → IsWritable g p f
+    one_writable : (f : TypeStateAt) → IsFine g f → AllByRecursion (HasPlace g.pool) (named_by f) → IsWritable g p f
     one_writable f fine stand =
         let both = both_parts (HasPlace g.pool) (class_names (values_in f.state.locals)) (class_names f.state.stack) stand in
         record {
@@ -111,7 +111,7 @@ module _ (g : Ground) (p : Places) (size : ℕ) (starts : AreStarts (length g.co
           stack_places = have_places f.state.stack both.1 fine.state.stack_places;
         }
 
-    all_writable : (frames : List SeenAt) → AllByRecursion (IsFine g) frames → AllByRecursion (HasPlace g.pool) (named_by_all frames)
+    all_writable : (frames : List TypeStateAt) → AllByRecursion (IsFine g) frames → AllByRecursion (HasPlace g.pool) (named_by_all frames)
         → AllByRecursion (IsWritable g p) frames
     all_writable [] fine stand = tt
     all_writable (f ∷ frames) fine stand =
@@ -120,7 +120,7 @@ module _ (g : Ground) (p : Places) (size : ℕ) (starts : AreStarts (length g.co
 
     module _ (names : Names) where
       offsets_rise : (from base : ℕ) (frames : List FrameAt) → ((j : ℕ) → from ≤ j → j < length g.code → base ≤ p.start j) → RiseFrom from frames
-          → AllByRecursion (λ f. f.at < length g.code) frames → AreRising p base (map (seen_at names) frames)
+          → AllByRecursion (λ f. f.at < length g.code) frames → AreRising p base (map (type_state_at names) frames)
       offsets_rise from base [] above rises_so within = tt
       offsets_rise from base (f ∷ frames) above rises_so within = (
         above f.at rises_so.0 within.0,
@@ -133,23 +133,23 @@ module _ (g : Ground) (p : Places) (size : ℕ) (starts : AreStarts (length g.co
             rises_so.1 within.1,
       )
 
-      places_of : (frames : List FrameAt) → AllByRecursion (IsFine g) (map (seen_at names) frames) → AllByRecursion (λ f. f.at < length g.code) frames
+      places_of : (frames : List FrameAt) → AllByRecursion (IsFine g) (map (type_state_at names) frames) → AllByRecursion (λ f. f.at < length g.code) frames
       places_of [] fine = tt
       places_of (f ∷ frames) fine = (fine.0.at, places_of frames fine.1)
 
-      pub are_writable : (frames : List FrameAt) → RiseFrom 0 frames → AllByRecursion (IsFine g) (map (seen_at names) frames)
-          → AllByRecursion (HasPlace g.pool) (named_by_all (map (seen_at names) frames)) → AreWritable g p (map (seen_at names) frames)
+      pub are_writable : (frames : List FrameAt) → RiseFrom 0 frames → AllByRecursion (IsFine g) (map (type_state_at names) frames)
+          → AllByRecursion (HasPlace g.pool) (named_by_all (map (type_state_at names) frames)) → AreWritable g p (map (type_state_at names) frames)
       are_writable frames rises_so fine stand =
           let within = places_of frames fine in
           record {
             few =
                 let most = few_frames 0 (length g.code) frames rises_so within (omega arith) in
-                let count = length-map frames (seen_at names) in
+                let count = length-map frames (type_state_at names) in
                 let size_above = above_count (length g.code) (omega arith) in
                 let end = starts.end in
                 omega (arith, most, count, size_above, end, few);
             rising = offsets_rise 0 0 frames (λ j le lt. omega arith) rises_so within;
-            each = all_writable (map (seen_at names) frames) fine stand;
+            each = all_writable (map (type_state_at names) frames) fine stand;
           }
         where
           above_count : (k : ℕ) → k ≤ length g.code → k ≤ get_or g.starts k 0

@@ -26,7 +26,7 @@ use Rattle.jc_body.specs.declared.items.Row.{Row}
 use Rattle.jc_emit.specs.Emission.{emission}
 use Rattle.jc_emit.specs.Items.{insn_of, lead_of, land_of, segment_size, twin_items}
 use Rattle.jc_emit.specs.TwinTables.{moved_row}
-use Rattle.jc_emit.proofs.Built.{length_twin}
+use Rattle.jc_emit.proofs.BuiltLaws.{length_twin}
 use Rattle.jc_emit.proofs.RowLaws.{total_grows}
 use Rattle.jc_layout.specs.LaidBody.{laid_place}
 use Rattle.jc_layout.specs.Layout.{is_wide, chosen_length}

@@ -1,6 +1,6 @@
 -- Methods whose code is read again, and passes the kind check.
 use Rattle.std.specs.Prelude.{◌≡◌, ◌⊎◌, ℕ, ℤ, List, Some, slice_get}
-use Rattle.jc_methods.specs.Held.{Names}
+use Rattle.jc_methods.specs.VerificationTypes.{Names}
 use Rattle.jc_methods.specs.declared.body.Body.{Body}
 use Rattle.jc_methods.specs.declared.kind.State.{State}
 use Rattle.jc_class.specs.declared.class_file.ClassFile.{ClassFile}

@@ -1,6 +1,6 @@
 -- What is read of an instrumented method's code that was written (JVM Specification 4.7.3, 4.7.12 to 4.7.14).
 use Rattle.std.specs.Prelude.{ℕ, ◌-◌, List, map}
-use Rattle.jc_methods.specs.Held.{Names}
+use Rattle.jc_methods.specs.VerificationTypes.{Names}
 use Rattle.jc_methods.specs.declared.body.Handler.{Handler}
 use Rattle.jc_methods.specs.declared.body.LineAt.{LineAt}
 use Rattle.jc_methods.specs.declared.body.VarAt.{VarAt}

@@ -1,6 +1,6 @@
 -- A method whose instrumented code is written into the class: what is given where its bytes are read again.
 use Rattle.std.specs.Prelude.{◌≡◌, ℕ, ℤ, List, [], ◌∷◌, length, Some}
-use Rattle.jc_methods.specs.Held.{Names}
+use Rattle.jc_methods.specs.VerificationTypes.{Names}
 use Rattle.jc_methods.specs.WellMade.{IsWellMadeOfAnySize}
 use Rattle.jc_methods.specs.declared.body.Body.{Body}
 use Rattle.jc_methods.specs.declared.emitted.Emitted.{Emitted}
@@ -14,7 +14,7 @@ use Rattle.jc_body.specs.BodyOf.{IsBody}
 use Rattle.jc_body.specs.Coded.{code_bodies}
 use Rattle.jc_kinds.specs.Answers.{AreStates}
 use Rattle.jc_kinds.specs.Checked.{Checked}
-use Rattle.jc_emit.specs.Added.{data_name, data_type, fetch_name, fetch_type, init_flags, init_name, init_type, runtime_class}
+use Rattle.jc_methods.specs.ProbeMembers.{data_name, data_type, fetch_name, fetch_type, init_flags, init_name, init_type, runtime_class}
 use Rattle.jc_emit.specs.Emission.{emission, HasFrameStates, IsArrayNumber}
 use Rattle.jc_emit.specs.Straddling.{NoneStraddles}
 use Rattle.jc_code.specs.Given.{AreFrames, HaveClasses}

@@ -1,6 +1,6 @@
 //! Laws of instrumented methods that were written.
 ghost use Rattle.std.specs.Prelude.{ℕ, ℤ, List};
-ghost use Rattle.jc_methods.specs.Held.{Names};
+ghost use Rattle.jc_methods.specs.VerificationTypes.{Names};
 ghost use Rattle.jc_methods.specs.declared.body.Body.{Body};
 ghost use Rattle.jc_methods.specs.declared.kind.State.{State};
 ghost use Rattle.jc_class.specs.declared.class_file.ClassFile.{ClassFile};

@@ -1,5 +1,5 @@
 use Rattle.std.proofs.Common.{◌++◌, ◌∷◌, [], ℕ, ap, ◌∙◌}
-use Rattle.jc_methods.specs.Held.{object}
+use Rattle.jc_methods.specs.VerificationTypes.{object}
 use Rattle.jc_after.specs.declared.want.Want.TheVariants as wants
 use Rattle.jc_after.proofs.ArraysLaws.{seen_later, one_given}
 use Rattle.jc_after.proofs.arrays.new_array.Goals as goal

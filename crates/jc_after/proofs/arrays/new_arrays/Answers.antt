@@ -1,5 +1,5 @@
 use Rattle.std.proofs.Common.{◌≡◌, ℕ, zero, suc, ◌≤◌, List, [], ◌∷◌, map, take, replicate, refl, ap, ◌∙◌, arith}
-use Rattle.jc_methods.specs.Held.{held, seen}
+use Rattle.jc_methods.specs.VerificationTypes.{verification_type, type_state}
 use Rattle.jc_after.specs.declared.want.Want.{Want}
 use Rattle.jc_after.specs.declared.want.Want.TheVariants as wants
 use Rattle.jc_after.specs.declared.arrays.TheConstants.{INTS}
@@ -18,5 +18,5 @@ all_ints = refl
 pub returns : goal.returns
 returns c = λ names.
     c.in_ok-move_state.ensures names
-    ∙ ap (λ (l : List Want). with_stack (seen names c.args.state) (moved_by c.args.most (form l (kind (held names c.args.class) ∷ []) ∷ []) (map (held names) c.args.state.stack)))
+    ∙ ap (λ (l : List Want). with_stack (type_state names c.args.state) (moved_by c.args.most (form l (kind (verification_type names c.args.class) ∷ []) ∷ []) (map (verification_type names) c.args.state.stack)))
     (ap (take c.args.count) all_ints ∙ ints_are 255 c.args.count (omega arith))

@@ -1,6 +1,6 @@
 use Rattle.std.proofs.Common.{◌-◌, sym, ◌∙◌, ap, arith, length, map}
 use Rattle.std.proofs.lemmas.List.{length-map, length-drop}
-use Rattle.jc_methods.specs.Held.{held}
+use Rattle.jc_methods.specs.VerificationTypes.{verification_type}
 use Rattle.jc_after.specs.Wants.{accepts_all}
 use Rattle.jc_after.specs.Step.{upper}
 use Rattle.jc_after.proofs.MovesLaws.{all-unequal, upper_slice}
@@ -8,7 +8,7 @@ use Rattle.jc_after.proofs.by_opcode.has_operands.Goals as goal
 
 pub returns-then-stack-wants : goal.returns-then-stack-wants
 returns-then-stack-wants c names =
-    let hs = map (held names) c.args.stack.now in let n = length-map c.args.stack.now (held names) in
+    let hs = map (verification_type names) c.args.stack.now in let n = length-map c.args.stack.now (verification_type names) in
     let m = length-drop (length hs - length c.args.wants.now) hs in let lt = c.if-stack-wants.true in
     sym (all-unequal c.args.wants.now (upper (length c.args.wants.now) hs) (omega arith))
 

@@ -1,7 +1,7 @@
 use Rattle.std.proofs.Common.{List, length, map, ap, ◌∙◌, arith}
 use Rattle.std.proofs.lemmas.List.{length-set}
 use Rattle.jc_methods.specs.declared.kind.Kind.{Kind}
-use Rattle.jc_methods.specs.Held.{held}
+use Rattle.jc_methods.specs.VerificationTypes.{verification_type}
 use Rattle.jc_after.specs.Step.{put_local}
 use Rattle.jc_after.proofs.LocalsLaws.{put_there}
 use Rattle.jc_after.proofs.locals.put_local.Goals as goal
@@ -16,6 +16,6 @@ put_second-requires c =
 
 pub returns : goal.returns
 returns c = λ names.
-    ap (map (held names)) c.from_vec.ensures
+    ap (map (verification_type names)) c.from_vec.ensures
     ∙ put_there names c.into_vec-after.result.items c.clear_before.new.locals.items c.put_second.new.locals.items c.args.slot c.args.kind (c.clear_before.ensures.locals names) (c.put_second.ensures names)
-    ∙ ap (λ (l : List Kind). put_local c.args.slot (held names c.args.kind) (map (held names) l)) c.into_vec-after.ensures
+    ∙ ap (λ (l : List Kind). put_local c.args.slot (verification_type names c.args.kind) (map (verification_type names) l)) c.into_vec-after.ensures

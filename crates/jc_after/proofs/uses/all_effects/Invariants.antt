@@ -1,5 +1,5 @@
 use Rattle.std.proofs.Common.{take}
-use Rattle.jc_methods.specs.Held.{Grows}
+use Rattle.jc_methods.specs.VerificationTypes.{Grows}
 use Rattle.jc_after.specs.Does.{AllSay}
 use Rattle.jc_after.proofs.uses.all_effects.Given as goal
 

@@ -1,7 +1,8 @@
 use Rattle.std.proofs.Common.{◌∙◌, List, ℕ, rules, subst, sym}
 use Rattle.std.proofs.lemmas.Result.{err_from_is_err_and}
 use Rattle.std.proofs.lemmas.Option.{same_Some}
-use Rattle.jc_body.specs.Answers.{IsFrameRefusal, Said}
+use Rattle.jc_body.specs.Answers.{IsFrameRefusal}
+use Rattle.jc_bytes.specs.Failing.{Said}
 use Rattle.jc_body.specs.BodyOf.{HasParts}
 use Rattle.jc_body.specs.First.{AreNowhere}
 use Rattle.jc_body.specs.Faults.{faults}

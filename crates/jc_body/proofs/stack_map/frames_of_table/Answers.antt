@@ -1,5 +1,5 @@
 use Rattle.std.proofs.Common.{map, inl, inr, rules, arith}
-use Rattle.jc_methods.specs.Held.{seen_at}
+use Rattle.jc_methods.specs.VerificationTypes.{type_state_at}
 use Rattle.jc_body.proofs.SizeLaws.{insns_short}
 use Rattle.jc_body.proofs.StackMapLaws.{is_faulty, no_fault, stand_there, few_starts, offsets_of, nowhere_wide}
 use Rattle.jc_body.proofs.stack_map.frames_of_table.Goals as goal
@@ -42,7 +42,7 @@ returns-in-Ok-clause-frames c =
     record {
       frames_are = rw c.from_vec.ensures
           (stand_there c.entry_of.new.names c.args.pool.now c.args.owner.now c.args.method.now c.args.coded.now c.in_ok-entry.entry c.args.table.now c.in_ok-entry.ensures.entry c.requires.table
-          c.deref-3.result.now c.deref-4.result.now c.deref-3.ensures c.deref-4.ensures (map (seen_at c.read_frames.new.names) c.in-Ok.frames.items) stands);
+          c.deref-3.result.now c.deref-4.result.now c.deref-3.ensures c.deref-4.ensures (map (type_state_at c.read_frames.new.names) c.in-Ok.frames.items) stands);
       numbers = rw c.from_vec.ensures c.in-Ok.ensures.numbered;
       no_fault = no_fault c.entry_of.new.names c.args.pool.now c.args.owner.now c.args.method.now c.args.coded.now c.in_ok-entry.entry c.args.table.now c.in_ok-entry.ensures.entry c.requires.table
           c.deref.result.now c.deref-2.result.now c.deref.ensures c.deref-2.ensures

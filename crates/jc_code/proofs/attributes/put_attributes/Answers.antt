@@ -1,7 +1,7 @@
 use Rattle.std.proofs.Common.{◌≡◌, ◌++◌, List, map, ◌∙◌, ap}
 use Rattle.std.specs.Prelude.{slice_index}
 use Rattle.std.specs.List.{flat_map}
-use Rattle.jc_methods.specs.Held.{seen_at}
+use Rattle.jc_methods.specs.VerificationTypes.{type_state_at}
 use Rattle.jc_methods.specs.declared.body.LineAt.{LineAt}
 use Rattle.jc_methods.specs.declared.body.VarAt.{VarAt}
 use Rattle.jc_code.specs.CodeText.{attribute_text, table_attributes, frame_attributes, line_text, var_text}
@@ -13,7 +13,7 @@ pub returns-clause-text : goal.returns-clause-text
 returns-clause-text c =
     let places = c.args.places.now in
     let e = c.args.emitted.now in
-    let seen = map (seen_at c.args.names.now) c.args.frames.now in
+    let seen = map (type_state_at c.args.names.now) c.args.frames.now in
     let offset = slice_index c.args.starts.now in
     let p = places_by c.args.pool.now offset in
     let lines : c.put_line_tables.new.into.items ≡ c.put_short.new.into.items ++ flat_map attribute_text (table_attributes places.lines (line_text offset) e.lines) =

@@ -11,7 +11,7 @@ use Rattle.jc_emit.specs.Branching.{IsPushed, IsTableOf, late_in}
 use Rattle.jc_emit.specs.Items.{image, land_of, tests_part}
 use Rattle.jc_emit.specs.Sizes.{insn_at, early_probe, late_probe}
 use Rattle.jc_emit.specs.Writing.{Grows}
-use Rattle.jc_emit.proofs.PlanReads.{length_outs, outs_here}
+use Rattle.jc_emit.proofs.PlanReadsLaws.{length_outs, outs_here}
 use Rattle.jc_emit.proofs.PlacingLaws.{insn_here, late_read}
 use Rattle.jc_emit.proofs.SegmentLaws.{table_is, led_agrees, leads_at, outs_pushed, main_by}
 use Rattle.jc_emit.proofs.segments.put_main.Goals as goal
@@ -19,13 +19,13 @@ use Rattle.jc_emit.proofs.segments.put_main.Goals as goal
 pub overflow_cast-at : goal.overflow_cast-at
 overflow_cast-at c = omega (arith, c.requires.at, few_insns c.args.body.now.code, c.requires.given.made.code.few)
 
-pub bounds-deref-at-in-Tests : goal.bounds-deref-at-in-Tests
-bounds-deref-at-in-Tests c =
+pub bounds-deref-at-in-Branches : goal.bounds-deref-at-in-Branches
+bounds-deref-at-in-Branches c =
     let plan = c.requires.given.planned in
-    omega (arith, c.requires.at, ap length c.deref-in-Tests.ensures, length_outs c.args.body.now plan.0 c.args.plan.now plan.1)
+    omega (arith, c.requires.at, ap length c.deref-in-Branches.ensures, length_outs c.args.body.now plan.0 c.args.plan.now plan.1)
 
-pub overflow_cast-at-in-Tests : goal.overflow_cast-at-in-Tests
-overflow_cast-at-in-Tests c = omega (arith, c.requires.at, few_insns c.args.body.now.code, c.requires.given.made.code.few)
+pub overflow_cast-at-in-Branches : goal.overflow_cast-at-in-Branches
+overflow_cast-at-in-Branches c = omega (arith, c.requires.at, few_insns c.args.body.now.code, c.requires.given.made.code.few)
 
 pub put_test-requires-clause-pushed : goal.put_test-requires-clause-pushed
 put_test-requires-clause-pushed c =
@@ -34,9 +34,9 @@ put_test-requires-clause-pushed c =
     let at = c.args.at in
     let ids : c.as_slice.result.now ≡ out_probes b plan.0 at (insn_at b.code at) =
     c.as_slice.ensures
-    ∙ c.index-deref-at-in-Tests.is
-    ∙ ap (λ (l : List (List (Option ℕ))). get_or l at c.index-deref-at-in-Tests.result) c.deref-in-Tests.ensures
-    ∙ outs_here b plan.0 c.args.plan.now plan.1 at c.index-deref-at-in-Tests.result c.requires.at in
+    ∙ c.index-deref-at-in-Branches.is
+    ∙ ap (λ (l : List (List (Option ℕ))). get_or l at c.index-deref-at-in-Branches.result) c.deref-in-Branches.ensures
+    ∙ outs_here b plan.0 c.args.plan.now plan.1 at c.index-deref-at-in-Branches.result c.requires.at in
     subst IsPushed (sym (c.late_id-late.ensures ∙ ap (λ (l : List (Option ℕ)). get_or l 1 None) ids))
     (outs_pushed b plan.0 c.args.plan.now plan.1 c.requires.given.next at (insn_at b.code at) 1)
 
@@ -61,8 +61,8 @@ returns-in_ok-put_image-in-GoesOn-clause-code c = λ first plan.
     main_by v b first at old new flows.GoesOn flow
     (subst (λ (i : Insn). Grows v old new (image i at None ∷ [])) moved (c.in_ok-put_image-in-GoesOn.ensures v None))
 
-pub returns-in_ok-put_test-in-Tests-clause-code : goal.returns-in_ok-put_test-in-Tests-clause-code
-returns-in_ok-put_test-in-Tests-clause-code c = λ first plan.
+pub returns-in_ok-put_test-in-Branches-clause-code : goal.returns-in_ok-put_test-in-Branches-clause-code
+returns-in_ok-put_test-in-Branches-clause-code c = λ first plan.
     let b = c.args.body.now in
     let at = c.args.at in
     let v = b.arg_slots in
@@ -71,18 +71,18 @@ returns-in_ok-put_test-in-Tests-clause-code c = λ first plan.
     let insn : c.index-deref-at.result ≡ insn_at b.code at =
     insn_here b.code at c.index-deref-at.result c.index-deref-at.result c.requires.at
     (c.index-deref-at.is ∙ ap (λ (l : List Insn). get_or l at c.index-deref-at.result) c.deref.ensures) in
-    let flow : flow_of (insn_at b.code at) ≡ flows.Tests = ap flow_of (sym insn) ∙ sym c.flow.ensures ∙ c.in-Tests.is in
+    let flow : flow_of (insn_at b.code at) ≡ flows.Branches = ap flow_of (sym insn) ∙ sym c.flow.ensures ∙ c.in-Branches.is in
     let outs = out_probes b first at (insn_at b.code at) in
     let ids : c.as_slice.result.now ≡ outs =
     c.as_slice.ensures
-    ∙ c.index-deref-at-in-Tests.is
-    ∙ ap (λ (l : List (List (Option ℕ))). get_or l at c.index-deref-at-in-Tests.result) c.deref-in-Tests.ensures
-    ∙ outs_here b first c.args.plan.now plan at c.index-deref-at-in-Tests.result c.requires.at in
+    ∙ c.index-deref-at-in-Branches.is
+    ∙ ap (λ (l : List (List (Option ℕ))). get_or l at c.index-deref-at-in-Branches.result) c.deref-in-Branches.ensures
+    ∙ outs_here b first c.args.plan.now plan at c.index-deref-at-in-Branches.result c.requires.at in
     let late : c.late_id-late.result ≡ late_probe b first at =
     c.late_id-late.ensures ∙ ap (λ (l : List (Option ℕ)). get_or l 1 None) ids ∙ ap (λ f. late_in f outs) (sym flow) ∙ late_read b first at in
-    main_by v b first at old new flows.Tests flow
+    main_by v b first at old new flows.Branches flow
     (subst (Grows v old new) (ap₂ (λ (i : Insn) (o : Option ℕ). tests_part b first false at i o) insn late)
-    (c.in_ok-put_test-in-Tests.ensures b first (c.requires.given.placed first plan)))
+    (c.in_ok-put_test-in-Branches.ensures b first (c.requires.given.placed first plan)))
 
 pub returns-in_ok-put_image-in-Jumps-clause-code : goal.returns-in_ok-put_image-in-Jumps-clause-code
 returns-in_ok-put_image-in-Jumps-clause-code c = λ first plan.

@@ -8,7 +8,7 @@ use Rattle.jc_emit.specs.Branching.{IsPushed, early_in}
 use Rattle.jc_emit.specs.Items.{lead_part, early_part, image_part}
 use Rattle.jc_emit.specs.Sizes.{insn_at, early_probe}
 use Rattle.jc_emit.specs.Writing.{Grows}
-use Rattle.jc_emit.proofs.PlanReads.{length_leads, length_outs, lead_here, outs_here}
+use Rattle.jc_emit.proofs.PlanReadsLaws.{length_leads, length_outs, lead_here, outs_here}
 use Rattle.jc_emit.proofs.PlacingLaws.{insn_here, early_read}
 use Rattle.jc_emit.proofs.SegmentLaws.{lead_pushed, outs_pushed, early_pushed}
 use Rattle.jc_emit.proofs.WritingLaws.{grows_append}

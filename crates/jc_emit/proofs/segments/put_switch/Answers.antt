@@ -15,7 +15,7 @@ use Rattle.jc_emit.specs.Items.{image, arm_parts, land_of, image_of}
 use Rattle.jc_emit.specs.Sizes.{insn_at, arms_at}
 use Rattle.jc_emit.specs.TwinCode.{arm_place}
 use Rattle.jc_emit.specs.Writing.{Grows}
-use Rattle.jc_emit.proofs.PlanReads.{length_outs, outs_here}
+use Rattle.jc_emit.proofs.PlanReadsLaws.{length_outs, outs_here}
 use Rattle.jc_emit.proofs.PlacingLaws.{insn_here, few_outs, image_small}
 use Rattle.jc_emit.proofs.SegmentLaws.{table_is, leads_at, targets_at, outs_pushed, switch_ids, switch_image, switch_parts}
 use Rattle.jc_emit.proofs.WritingLaws.{grows_append}

@@ -1,5 +1,5 @@
 use Rattle.std.proofs.Common.{arith}
-use Rattle.jc_exec.proofs.Packing.{low_eight}
+use Rattle.jc_exec.proofs.PackingLaws.{low_eight}
 use Rattle.jc_exec.proofs.write.byte_of.Goals as goal
 
 pub returns-in-len8 : goal.returns-in-len8

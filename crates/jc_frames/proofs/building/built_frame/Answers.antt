@@ -3,7 +3,7 @@ use Rattle.std.specs.List.{AllByRecursion}
 use Rattle.std.proofs.lemmas.List.Elements.{recursion_from_All}
 use Rattle.jc_methods.specs.declared.kind.Kind.{Kind}
 use Rattle.jc_methods.specs.EntryState.{in_locals}
-use Rattle.jc_methods.specs.Held.{Held, SeenAt, class_names, held, IsNumbered}
+use Rattle.jc_methods.specs.VerificationTypes.{VerificationType, TypeStateAt, class_names, verification_type, IsNumbered}
 use Rattle.jc_bytes.specs.Names.{met}
 use Rattle.jc_pool.specs.Pool.{PoolValue}
 use Rattle.jc_frames.specs.declared.method.Value.{Value}
@@ -17,11 +17,11 @@ pub returns-clause-seen : goal.returns-clause-seen
 returns-clause-seen c later grows =
     let values = c.in_ok-values.ensures.kinds later (grows_both c.kinds_of.new.names c.kinds_of-2.new.names later c.in_ok-stack.ensures.grows grows)
     ∙ ap₂ (λ (p : PoolValue) (l : List Value). held_values p later l) c.pool.ensures c.deref.ensures.value in
-    let locals = c.in_ok-locals.ensures.seen later ∙ ap (λ (l : List Kind). in_locals c.max_locals.result (map (held later) l)) c.deref-2.ensures.value
-    ∙ ap₂ (λ (n : ℕ) (l : List Held). in_locals n l) c.max_locals.ensures values in
-    let stack = ap (map (held later)) c.from_vec.ensures ∙ c.in_ok-stack.ensures.kinds later grows
+    let locals = c.in_ok-locals.ensures.seen later ∙ ap (λ (l : List Kind). in_locals c.max_locals.result (map (verification_type later) l)) c.deref-2.ensures.value
+    ∙ ap₂ (λ (n : ℕ) (l : List VerificationType). in_locals n l) c.max_locals.ensures values in
+    let stack = ap (map (verification_type later)) c.from_vec.ensures ∙ c.in_ok-stack.ensures.kinds later grows
     ∙ ap₂ (λ (p : PoolValue) (l : List Value). held_values p later l) c.pool-2.ensures c.deref-3.ensures.value in
-    ap₂ (λ (a b : List Held). let f : SeenAt = record { at = c.args.frame.now.at; state = record { locals = a; stack = b } } in f) locals stack
+    ap₂ (λ (a b : List VerificationType). let f : TypeStateAt = record { at = c.args.frame.now.at; state = record { locals = a; stack = b } } in f) locals stack
 
 pub returns-clause-numbered : goal.returns-clause-numbered
 returns-clause-numbered c values stack =

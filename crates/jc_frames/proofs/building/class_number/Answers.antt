@@ -1,6 +1,6 @@
 use Rattle.std.proofs.Common.{sym, ◌∙◌, ap, subst, Some}
 use Rattle.jc_methods.proofs.MetNamesLaws.{name_grows}
-use Rattle.jc_methods.specs.Held.{Names, Grows}
+use Rattle.jc_methods.specs.VerificationTypes.{Names, Grows}
 use Rattle.jc_frames.specs.Running.{name_at}
 use Rattle.jc_frames.proofs.MetLaws.{known_name, number_known, known_more}
 use Rattle.jc_frames.proofs.building.class_number.Goals as goal

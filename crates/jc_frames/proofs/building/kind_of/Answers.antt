@@ -1,5 +1,5 @@
 use Rattle.std.proofs.Common.{length, sym, ap, subst}
-use Rattle.jc_methods.specs.Held.{object}
+use Rattle.jc_methods.specs.VerificationTypes.{object}
 use Rattle.jc_frames.specs.Running.{name_at, IsNumberedValue}
 use Rattle.jc_frames.specs.declared.method.Value.{Value}
 use Rattle.jc_frames.proofs.MetLaws.{none_met, got, got_later}

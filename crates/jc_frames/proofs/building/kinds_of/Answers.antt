@@ -1,7 +1,7 @@
 use Rattle.std.proofs.Common.{List, length, ◌∙◌, ap}
 use Rattle.std.proofs.lemmas.List.{take_all}
 use Rattle.std.proofs.lemmas.List.Elements.{All-take}
-use Rattle.jc_methods.specs.Held.{class_names, IsNumbered}
+use Rattle.jc_methods.specs.VerificationTypes.{class_names, IsNumbered}
 use Rattle.jc_bytes.specs.Names.{met}
 use Rattle.jc_frames.specs.declared.method.Value.{Value}
 use Rattle.jc_frames.specs.Running.{held_values, IsNumberedValue}

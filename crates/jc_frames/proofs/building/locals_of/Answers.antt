@@ -1,7 +1,7 @@
 use Rattle.std.proofs.Common.{◌-◌, length, replicate, sym, ◌∙◌}
 use Rattle.std.proofs.lemmas.List.Elements.{All-append}
 use Rattle.jc_methods.specs.declared.kind.Kind.TheVariants as kinds
-use Rattle.jc_methods.specs.Held.{IsNumbered}
+use Rattle.jc_methods.specs.VerificationTypes.{IsNumbered}
 use Rattle.jc_frames.proofs.BuildingLaws.{one_at_end, one_slot, two_slots, tops_numbered, with_tops}
 use Rattle.jc_frames.proofs.building.locals_of.Goals as goal
 use Rattle.jc_frames.proofs.building.locals_of.Goals.{then-is_wide+in_ok-push-2, else-is_wide}

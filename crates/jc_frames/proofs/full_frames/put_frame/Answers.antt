@@ -2,7 +2,7 @@ use Rattle.std.proofs.Common.{◌≡◌, ℕ, ◌-◌, List, ◌++◌, length, m
 use Rattle.std.proofs.lemmas.List.Elements.{All-from_recursion}
 use Rattle.std.specs.List.{AllByRecursion}
 use Rattle.jc_methods.specs.declared.kind.Kind.{Kind}
-use Rattle.jc_methods.specs.Held.{Held, class_names, held, seen_at, IsNumbered}
+use Rattle.jc_methods.specs.VerificationTypes.{VerificationType, class_names, verification_type, type_state_at, IsNumbered}
 use Rattle.jc_pool.specs.Pool.{PoolValue}
 use Rattle.jc_frames.specs.Frames.{values_in}
 use Rattle.jc_frames.specs.FullFrames.{full_text, short, types_text}
@@ -35,10 +35,10 @@ pub put_kinds-requires-clause-stand : goal.put_kinds-requires-clause-stand
 put_kinds-requires-clause-stand c =
     let names = c.args.names.now in
     let locals = c.args.frame.now.state.locals in
-    let values : map (held names) c.deref-2.result.now ≡ values_in (map (held names) locals) =
-    ap (map (held names)) c.deref-2.ensures.value ∙ c.in_ok-locals.ensures.values names ∙ ap (λ (l : List Kind). values_in (map (held names) l)) c.deref.ensures in
-    subst (λ (l : List Held). AllByRecursion (HasPlace c.args.pool.now) (class_names l)) (sym values)
-    (both_parts (HasPlace c.args.pool.now) (class_names (values_in (map (held names) locals))) (class_names (map (held names) c.args.frame.now.state.stack)) c.requires.stand).0
+    let values : map (verification_type names) c.deref-2.result.now ≡ values_in (map (verification_type names) locals) =
+    ap (map (verification_type names)) c.deref-2.ensures.value ∙ c.in_ok-locals.ensures.values names ∙ ap (λ (l : List Kind). values_in (map (verification_type names) l)) c.deref.ensures in
+    subst (λ (l : List VerificationType). AllByRecursion (HasPlace c.args.pool.now) (class_names l)) (sym values)
+    (both_parts (HasPlace c.args.pool.now) (class_names (values_in (map (verification_type names) locals))) (class_names (map (verification_type names) c.args.frame.now.state.stack)) c.requires.stand).0
 
 pub put_kinds-requires-2-clause-few : goal.put_kinds-requires-2-clause-few
 put_kinds-requires-2-clause-few c =
@@ -60,10 +60,10 @@ pub put_kinds-requires-2-clause-stand : goal.put_kinds-requires-2-clause-stand
 put_kinds-requires-2-clause-stand c =
     let names = c.args.names.now in
     let state = c.args.frame.now.state in
-    let Stand : PoolValue → List Kind → Type 0 = λ pool l. AllByRecursion (HasPlace pool) (class_names (map (held names) l)) in
+    let Stand : PoolValue → List Kind → Type 0 = λ pool l. AllByRecursion (HasPlace pool) (class_names (map (verification_type names) l)) in
     subst (λ (l : List Kind). Stand c.put_kinds.new.pool l) (sym c.deref-3.ensures)
     (subst (λ (pool : PoolValue). Stand pool state.stack) (sym c.in_ok-put_kinds.ensures.kept)
-    (both_parts (HasPlace c.args.pool.now) (class_names (values_in (map (held names) state.locals))) (class_names (map (held names) state.stack)) c.requires.stand).1)
+    (both_parts (HasPlace c.args.pool.now) (class_names (values_in (map (verification_type names) state.locals))) (class_names (map (verification_type names) state.stack)) c.requires.stand).1)
 
 pub put_kinds-requires-2-clause-known : goal.put_kinds-requires-2-clause-known
 put_kinds-requires-2-clause-known c =
@@ -78,14 +78,14 @@ returns-clause-text c p are =
     let b = c.put_short.new.into.items in
     let m = c.put_kinds.new.into.items in
     let new = c.put_kinds-2.new.into.items in
-    let values : map (held names) c.deref-2.result.now ≡ values_in (map (held names) state.locals) =
-    ap (map (held names)) c.deref-2.ensures.value ∙ c.in_ok-locals.ensures.values names ∙ ap (λ (l : List Kind). values_in (map (held names) l)) c.deref.ensures in
-    let locals : m ≡ b ++ types_text p (values_in (map (held names) state.locals)) = c.in_ok-put_kinds.ensures.text p are ∙ ap (λ (l : List Held). b ++ types_text p l) values in
+    let values : map (verification_type names) c.deref-2.result.now ≡ values_in (map (verification_type names) state.locals) =
+    ap (map (verification_type names)) c.deref-2.ensures.value ∙ c.in_ok-locals.ensures.values names ∙ ap (λ (l : List Kind). values_in (map (verification_type names) l)) c.deref.ensures in
+    let locals : m ≡ b ++ types_text p (values_in (map (verification_type names) state.locals)) = c.in_ok-put_kinds.ensures.text p are ∙ ap (λ (l : List VerificationType). b ++ types_text p l) values in
     let delta : b ≡ a ++ short (p.start c.args.frame.now.at - c.args.base) = c.in_ok-put_short.ensures ∙ ap (λ (n : ℕ). a ++ short (n - c.args.base)) (sym (are.start c.args.frame.now.at)) in
-    let Text : List Kind → Type 0 = λ l. new ≡ m ++ types_text p (map (held names) l) in
-    ok_then (Text c.deref-3.result.now) (new ≡ old ++ full_text p c.args.base (seen_at names c.args.frame.now)) c.put_kinds-2.result
-    (λ e. full_parts old a b m new (short (p.start c.args.frame.now.at - c.args.base)) (types_text p (values_in (map (held names) state.locals)))
-    (types_text p (map (held names) state.stack)) c.in_ok-put_u8.ensures.ok delta locals (subst Text c.deref-3.ensures e))
+    let Text : List Kind → Type 0 = λ l. new ≡ m ++ types_text p (map (verification_type names) l) in
+    ok_then (Text c.deref-3.result.now) (new ≡ old ++ full_text p c.args.base (type_state_at names c.args.frame.now)) c.put_kinds-2.result
+    (λ e. full_parts old a b m new (short (p.start c.args.frame.now.at - c.args.base)) (types_text p (values_in (map (verification_type names) state.locals)))
+    (types_text p (map (verification_type names) state.stack)) c.in_ok-put_u8.ensures.ok delta locals (subst Text c.deref-3.ensures e))
     (c.put_kinds-2.ensures.text p (subst (λ (pool : PoolValue). ArePlacesIn pool c.args.starts.now p) (sym c.in_ok-put_kinds.ensures.kept) are))
 
 pub returns-clause-known : goal.returns-clause-known

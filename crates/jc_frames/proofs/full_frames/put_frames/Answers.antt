@@ -3,7 +3,7 @@ use Rattle.std.proofs.lemmas.List.Elements.{All-from_recursion}
 use Rattle.std.specs.List.{AllByRecursion}
 use Rattle.jc_bytes.proofs.AppendingLaws.{drop_is}
 use Rattle.jc_methods.specs.declared.body.FrameAt.{FrameAt}
-use Rattle.jc_methods.specs.Held.{Names, seen_at}
+use Rattle.jc_methods.specs.VerificationTypes.{Names, type_state_at}
 use Rattle.jc_pool.specs.Pool.{PoolValue}
 use Rattle.jc_frames.specs.FullFrames.{full_texts}
 use Rattle.jc_frames.specs.FullTable.{AreFirstPlaces, ArePlacesIn, FitsFull, HasPlace, OffsetsRise, named_by, named_by_all}
@@ -37,7 +37,7 @@ put_frame-requires-clause-stand c =
     let i = c.writing.frame-index in
     let f = c.frame-item.result in
     let Stand : Names → Type 0 = λ l. AllByRecursion (HasPlace c.writing.pool) l in
-    (both_parts (HasPlace c.writing.pool) (named_by (seen_at names f)) (named_by_all (map (seen_at names) (drop (i + 1) fs)))
+    (both_parts (HasPlace c.writing.pool) (named_by (type_state_at names f)) (named_by_all (map (type_state_at names) (drop (i + 1) fs)))
     (subst Stand (frames_split names fs i f c.writing-test.true c.frame-item.is) c.writing.invariant.stand)).0
 
 pub writing-preserved : goal.writing-preserved
@@ -49,13 +49,13 @@ writing-preserved c =
     let f = c.frame-item.result in
     let kept = c.in_ok-put_frame.ensures.kept in
     let Stand : Names → Type 0 = λ l. AllByRecursion (HasPlace c.writing.pool) l in
-    let rest = named_by_all (map (seen_at names) (drop (i + 1) fs)) in
+    let rest = named_by_all (map (type_state_at names) (drop (i + 1) fs)) in
     record {
-      text = λ p are. frames_more p names fs i c.writing.base (get_or starts f.at 0 + 1) f (c.args.into.now.items ++ full_texts p 0 (map (seen_at names) fs)) c.writing.into.items c.put_frame.new.into.items
+      text = λ p are. frames_more p names fs i c.writing.base (get_or starts f.at 0 + 1) f (c.args.into.now.items ++ full_texts p 0 (map (type_state_at names) fs)) c.writing.into.items c.put_frame.new.into.items
           c.writing-test.true c.frame-item.is (ap (λ (n : ℕ). n + 1) (sym (are.start f.at)))
           (c.in_ok-put_frame.ensures.text p (subst (λ (l : PoolValue). ArePlacesIn l starts p) (sym c.writing.invariant.kept) are)) (c.writing.invariant.text p are);
       rising = (subst (λ (l : List FrameAt). OffsetsRise starts c.writing.base l) (drop_is fs i f c.writing-test.true c.frame-item.is) c.writing.invariant.rising).1;
-      stand = subst (λ (l : PoolValue). AllByRecursion (HasPlace l) rest) (sym kept) (both_parts (HasPlace c.writing.pool) (named_by (seen_at names f)) rest
+      stand = subst (λ (l : PoolValue). AllByRecursion (HasPlace l) rest) (sym kept) (both_parts (HasPlace c.writing.pool) (named_by (type_state_at names f)) rest
           (subst Stand (frames_split names fs i f c.writing-test.true c.frame-item.is) c.writing.invariant.stand)).1;
       known = subst (λ (l : PoolValue). AreFirstPlaces l names c.put_frame.new.known) (sym kept) c.in_ok-put_frame.ensures.known;
       kept = kept ∙ c.writing.invariant.kept;
@@ -63,5 +63,5 @@ writing-preserved c =
 
 pub returns-clause-text : goal.returns-clause-text
 returns-clause-text c p are =
-    frames_written p c.args.names.now c.args.frames.now c.writing.frame-index c.writing.base (c.args.into.now.items ++ full_texts p 0 (map (seen_at c.args.names.now) c.args.frames.now))
+    frames_written p c.args.names.now c.args.frames.now c.writing.frame-index c.writing.base (c.args.into.now.items ++ full_texts p 0 (map (type_state_at c.args.names.now) c.args.frames.now))
     c.writing.into.items c.writing-test.false (c.writing.invariant.text p are)

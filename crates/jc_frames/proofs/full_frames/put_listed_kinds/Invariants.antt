@@ -1,6 +1,6 @@
 use Rattle.std.proofs.Common.{◌≡◌, ◌++◌, map, drop}
 use Rattle.std.specs.List.{AllByRecursion, flat_map}
-use Rattle.jc_methods.specs.Held.{class_names, held}
+use Rattle.jc_methods.specs.VerificationTypes.{class_names, verification_type}
 use Rattle.jc_frames.specs.FullFrames.{Places, type_text}
 use Rattle.jc_frames.specs.FullTable.{AreFirstPlaces, ArePlacesIn, HasPlace}
 use Rattle.jc_frames.proofs.full_frames.put_listed_kinds.Given as goal
@@ -8,8 +8,8 @@ use Rattle.jc_frames.proofs.full_frames.put_listed_kinds.Given as goal
 abbrev pub invariant-writing : goal.invariant-writing
 invariant-writing l = record {
   text : (p : Places) → ArePlacesIn l.fn.pool l.starts p
-      → l.into.items ++ flat_map (type_text p) (map (held l.names) (drop l.kind-index l.kinds)) ≡ l.fn.into.items ++ flat_map (type_text p) (map (held l.names) l.kinds);
-  stand : AllByRecursion (HasPlace l.pool) (class_names (map (held l.names) (drop l.kind-index l.kinds)));
+      → l.into.items ++ flat_map (type_text p) (map (verification_type l.names) (drop l.kind-index l.kinds)) ≡ l.fn.into.items ++ flat_map (type_text p) (map (verification_type l.names) l.kinds);
+  stand : AllByRecursion (HasPlace l.pool) (class_names (map (verification_type l.names) (drop l.kind-index l.kinds)));
   known : AreFirstPlaces l.pool l.names l.known;
   kept : l.pool ≡ l.fn.pool;
 }

@@ -1,7 +1,7 @@
 use Rattle.std.proofs.Common.{◌≡◌, ℕ, ◌++◌, length, map, sym, ◌∙◌, ap, arith}
 use Rattle.std.proofs.lemmas.List.{length-map}
 use Rattle.jc_bytes.proofs.AppendingLaws.{joined}
-use Rattle.jc_methods.specs.Held.{seen_at}
+use Rattle.jc_methods.specs.VerificationTypes.{type_state_at}
 use Rattle.jc_frames.specs.FullFrames.{full_texts, short, table_text}
 use Rattle.jc_frames.proofs.FullTextLaws.{offsets_rise}
 use Rattle.jc_frames.proofs.ResultLaws.{ok_then}
@@ -14,11 +14,11 @@ put_frames-requires-clause-rising c =
 
 pub returns-clause-text : goal.returns-clause-text
 returns-clause-text c p are =
-    let fs = map (seen_at c.args.names.now) c.args.frames.now in
+    let fs = map (type_state_at c.args.names.now) c.args.frames.now in
     let old = c.args.into.now.items in
     let mid = c.put_short.new.into.items in
     let new = c.put_frames.new.into.items in
     let head : mid ≡ old ++ short (length fs) =
-    c.in_ok-put_short.ensures ∙ ap (λ (n : ℕ). old ++ short n) (sym (length-map c.args.frames.now (seen_at c.args.names.now))) in
+    c.in_ok-put_short.ensures ∙ ap (λ (n : ℕ). old ++ short n) (sym (length-map c.args.frames.now (type_state_at c.args.names.now))) in
     ok_then (new ≡ mid ++ full_texts p 0 fs) (new ≡ old ++ table_text p fs) c.put_frames.result
     (λ e. joined old mid new (short (length fs)) (full_texts p 0 fs) head e) (c.put_frames.ensures.text p are)

@@ -1,7 +1,7 @@
 use Rattle.std.proofs.Common.{List, ℕ, ◌++◌, length, map, sym, ◌∙◌, ap, subst}
 use Rattle.jc_bytes.proofs.EachLaws.{all_weaker}
 use Rattle.jc_methods.specs.declared.body.FrameAt.{FrameAt}
-use Rattle.jc_methods.specs.Held.{seen_at, IsNumberedState}
+use Rattle.jc_methods.specs.VerificationTypes.{type_state_at, IsNumberedState}
 use Rattle.jc_pool.specs.Adding.{Extends}
 use Rattle.jc_pool.specs.Pool.{PoolValue}
 use Rattle.jc_frames.specs.FullFrames.{table_text}
@@ -14,11 +14,11 @@ take_classes-requires c =
     all_weaker (FitsFull (length c.args.starts.now) (length c.args.names.now)) (λ (f : FrameAt). IsNumberedState (length c.args.names.now) f.state) (λ f fits. fits.numbered) c.args.frames.now c.requires.each
 
 pub put_table-requires-clause-stand : goal.put_table-requires-clause-stand
-put_table-requires-clause-stand c = all_stand c.args.pool.now c.take_classes.new.pool (named_by_all (map (seen_at c.args.names.now) c.args.frames.now)) c.in_ok-take_classes.ensures.classes
+put_table-requires-clause-stand c = all_stand c.args.pool.now c.take_classes.new.pool (named_by_all (map (type_state_at c.args.names.now) c.args.frames.now)) c.in_ok-take_classes.ensures.classes
 
 pub returns-clause-text : goal.returns-clause-text
 returns-clause-text c p are =
-    let fs = map (seen_at c.args.names.now) c.args.frames.now in
+    let fs = map (type_state_at c.args.names.now) c.args.frames.now in
     c.in_ok-put_bytes.ensures.ok
     ∙ ap (λ (l : List ℕ). c.args.into.now.items ++ l)
     (c.deref.ensures.value ∙ c.in_ok-put_table.ensures.text p (subst (λ (pool : PoolValue). ArePlacesIn pool c.args.starts.now p) c.in_ok-put_table.ensures.kept are)
@@ -26,7 +26,7 @@ returns-clause-text c p are =
 
 pub returns-clause-classes : goal.returns-clause-classes
 returns-clause-classes c =
-    subst (λ (pool : PoolValue). TakesClasses c.args.pool.now (named_by_all (map (seen_at c.args.names.now) c.args.frames.now)) pool) (sym c.in_ok-put_table.ensures.kept) c.in_ok-take_classes.ensures.classes
+    subst (λ (pool : PoolValue). TakesClasses c.args.pool.now (named_by_all (map (type_state_at c.args.names.now) c.args.frames.now)) pool) (sym c.in_ok-put_table.ensures.kept) c.in_ok-take_classes.ensures.classes
 
 pub returns-clause-extends : goal.returns-clause-extends
 returns-clause-extends c = subst (λ (pool : PoolValue). Extends c.args.pool.now pool) (sym c.in_ok-put_table.ensures.kept) c.in_ok-take_classes.ensures.extends

@@ -1,7 +1,7 @@
 use Rattle.std.proofs.Common.{◌+◌, ℕ, List, length, map, refl, sym, ◌∙◌, ap, subst}
 use Rattle.std.proofs.lemmas.List.Elements.{All-from_recursion}
 use Rattle.jc_bytes.specs.Decoder.{number_at}
-use Rattle.jc_methods.specs.Held.{Seen, SeenAt, seen, seen_at, IsNumbered}
+use Rattle.jc_methods.specs.VerificationTypes.{TypeState, TypeStateAt, type_state, type_state_at, IsNumbered}
 use Rattle.jc_bytes.specs.Parsing.{item}
 use Rattle.jc_methods.specs.declared.body.FrameAt.{FrameAt}
 use Rattle.jc_pool.specs.Pool.{PoolValue}
@@ -25,7 +25,7 @@ returns-in_default-clause-refused c =
     let g = ground c.args.pool.now c.args.code.now c.args.starts.now (length c.args.entry.now.locals) c.args.max_stack in (
       0,
       c.bad_frame.ensures,
-      count_cut g (seen c.args.names.now c.args.entry.now) c.args.table.now _
+      count_cut g (type_state c.args.names.now c.args.entry.now) c.args.table.now _
           (ap (item (number_at 2)) (sym c.new-reader.ensures.left) ∙ c.in_default.ensures.none),
     )
 
@@ -39,9 +39,9 @@ reading-init c =
       known = record { at = λ place. rw empty tt };
       grows = grows_none c.args.names.now;
       walking = λ later grows.
-          let At : List FrameAt → Type 0 = λ l. Walking g (seen later c.args.entry.now) c.args.table.now c.in-Some.count 0 (map (seen_at later) l)
+          let At : List FrameAt → Type 0 = λ l. Walking g (type_state later c.args.entry.now) c.args.table.now c.in-Some.count 0 (map (type_state_at later) l)
           (before g.pool later c.in_ok-running.running) c.table_count.new.reader.left in
-          subst At (sym c.new-frames.ensures.items) (begins_by c.in_ok-method.method g is later (seen later c.args.entry.now) c.args.table.now c.in-Some.count c.in_ok-running.running
+          subst At (sym c.new-frames.ensures.items) (begins_by c.in_ok-method.method g is later (type_state later c.args.entry.now) c.args.table.now c.in-Some.count c.in_ok-running.running
           c.new-reader.result.left c.table_count.new.reader.left c.new-reader.ensures.left (c.in_ok-running.ensures.values c.args.pool.now later) c.in-Some.ensures.count);
       values = c.in_ok-running.ensures.numbered (length c.args.names.now) (All-from_recursion (IsNumbered (length c.args.names.now)) c.args.entry.now.locals c.requires.numbered.locals);
       numbered = rw c.new-frames.ensures.items tt;
@@ -55,7 +55,7 @@ returns-in-None-clause-refused c =
     let mid = c.reading.names in
     refusal_at c.args.names.now mid c.args.entry.now g c.args.table.now c.reading.number c.bad_frame-in-None.result c.reading.invariant.grows c.requires.numbered
     (c.bad_frame-in-None.ensures ∙ ap bad_frame c.from.ensures)
-    (stopped_by c.in_ok-method.method g is mid (seen mid c.args.entry.now) c.args.table.now c.in-Some.count c.reading.number (map (seen_at mid) c.reading.frames.items) c.reading.running
+    (stopped_by c.in_ok-method.method g is mid (type_state mid c.args.entry.now) c.args.table.now c.in-Some.count c.reading.number (map (type_state_at mid) c.reading.frames.items) c.reading.running
     c.reading.reader.left _ c.in_ok-frame.field-0 c.reading-test.true (c.reading.invariant.walking mid (grows_none mid)) (c.in_ok-frame.ensures.says mid) c.in-None.is)
 
 pub reading-preserved : goal.reading-preserved
@@ -74,17 +74,17 @@ reading-preserved c =
       running = rw c.in-Some-2.is at running;
       known = let At : PoolValue → Type 0 = λ p. AreKnown p new c.built_frame.new.known in subst At (ap (λ (m : Ground). m.pool) is) built.ensures.known;
       grows = grows_both c.args.names.now mid new inv.grows grown;
-      walking = λ later grows. built_more c.in_ok-method.method g later (seen later c.args.entry.now) c.args.table.now c.in-Some.count (c.reading.number + 1) c.reading.frames.items
+      walking = λ later grows. built_more c.in_ok-method.method g later (type_state later c.args.entry.now) c.args.table.now c.in-Some.count (c.reading.number + 1) c.reading.frames.items
           c.push.new.self.items built.field-0 c.next_frame.new.running c.in-Some-2.frame (before g.pool later c.next_frame.new.running) c.next_frame.new.reader.left is
           c.in_ok-push-in-Some-2.ensures.items (built.ensures.seen later grows)
-          (walks_by c.in_ok-method.method g is later (seen later c.args.entry.now) c.args.table.now c.in-Some.count c.reading.number (map (seen_at later) c.reading.frames.items)
+          (walks_by c.in_ok-method.method g is later (type_state later c.args.entry.now) c.args.table.now c.in-Some.count c.reading.number (map (type_state_at later) c.reading.frames.items)
           c.reading.running c.next_frame.new.running c.reading.reader.left c.next_frame.new.reader.left c.in_ok-frame.field-0 c.in-Some-2.frame c.reading-test.true
           (inv.walking later (grows_both mid new later grown grows)) (c.in_ok-frame.ensures.says later) c.in-Some-2.is);
       values = values_numbered mid new c.next_frame.new.running.values.items grown values;
       numbered = frames_pushed mid new c.reading.frames.items c.push.new.self.items built.field-0 c.in_ok-push-in-Some-2.ensures.items grown inv.numbered
           (built.ensures.numbered values (rw c.in-Some-2.is at stack));
       met = frames_met c.args.names.now mid new c.reading.frames.items c.push.new.self.items built.field-0 grown inv.numbered c.in_ok-push-in-Some-2.ensures.items inv.met
-          (built.ensures.met values (rw c.in-Some-2.is at stack) ∙ ap (λ (x : SeenAt). met mid (seen_names x.state)) (sym (built.ensures.seen new (grows_none new))));
+          (built.ensures.met values (rw c.in-Some-2.is at stack) ∙ ap (λ (x : TypeStateAt). met mid (seen_names x.state)) (sym (built.ensures.seen new (grows_none new))));
     }
 
 pub returns-then-is_ok-clause-refused : goal.returns-then-is_ok-clause-refused
@@ -92,7 +92,7 @@ returns-then-is_ok-clause-refused c =
     let g = ground c.args.pool.now c.args.code.now c.args.starts.now (length c.args.entry.now.locals) c.args.max_stack in
     let mid = c.reading.names in
     refusal_at c.args.names.now mid c.args.entry.now g c.args.table.now 0 c.bad_frame-then-is_ok.result c.reading.invariant.grows c.requires.numbered c.bad_frame-then-is_ok.ensures
-    (bytes_left g (seen mid c.args.entry.now) c.args.table.now c.in-Some.count c.reading.number (map (seen_at mid) c.reading.frames.items) (before g.pool mid c.reading.running)
+    (bytes_left g (type_state mid c.args.entry.now) c.args.table.now c.in-Some.count c.reading.number (map (type_state_at mid) c.reading.frames.items) (before g.pool mid c.reading.running)
     c.reading.reader.left c.reading-test.false (c.reading.invariant.walking mid (grows_none mid))
     (some_left c.u8.result c.is_ok.result (length c.reading.reader.left) c.is_ok.ensures.value c.if-is_ok.true c.u8.ensures.short.1))
 
@@ -100,7 +100,7 @@ pub returns-clause-frames : goal.returns-clause-frames
 returns-clause-frames c =
     let g = ground c.args.pool.now c.args.code.now c.args.starts.now (length c.args.entry.now.locals) c.args.max_stack in
     let mid = c.reading.names in
-    ap (λ (s : Seen). outcome_of g s c.args.table.now) (sym (seen_grown c.args.names.now mid c.args.entry.now c.reading.invariant.grows c.requires.numbered))
-    ∙ nothing_left g (seen mid c.args.entry.now) c.args.table.now c.in-Some.count c.reading.number (map (seen_at mid) c.reading.frames.items) (before g.pool mid c.reading.running)
+    ap (λ (s : TypeState). outcome_of g s c.args.table.now) (sym (seen_grown c.args.names.now mid c.args.entry.now c.reading.invariant.grows c.requires.numbered))
+    ∙ nothing_left g (type_state mid c.args.entry.now) c.args.table.now c.in-Some.count c.reading.number (map (type_state_at mid) c.reading.frames.items) (before g.pool mid c.reading.running)
     c.reading.reader.left c.reading-test.false (c.reading.invariant.walking mid (grows_none mid))
     (none_left c.u8.result c.is_ok.result (length c.reading.reader.left) c.is_ok.ensures.value c.if-is_ok.false c.u8.ensures.short.0)

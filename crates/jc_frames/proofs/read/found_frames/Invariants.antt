@@ -1,5 +1,5 @@
 use Rattle.std.proofs.Common.{◌≡◌, length, map, All}
-use Rattle.jc_methods.specs.Held.{Names, seen, seen_at, Grows, AreNumberedFrames}
+use Rattle.jc_methods.specs.VerificationTypes.{Names, type_state, type_state_at, Grows, AreNumberedFrames}
 use Rattle.jc_bytes.specs.Names.{met}
 use Rattle.jc_frames.specs.Answers.{frame_names}
 use Rattle.jc_frames.specs.Building.{AreKnown}
@@ -14,9 +14,9 @@ invariant-reading l = record {
   known : AreKnown l.pool l.names l.known;
   grows : Grows l.fn.names l.names;
   walking : (later : Names) → Grows l.names later
-      → Walking (ground l.pool l.code l.starts (length l.entry.locals) l.max_stack) (seen later l.entry) l.table l.count l.number (map (seen_at later) l.frames.items)
+      → Walking (ground l.pool l.code l.starts (length l.entry.locals) l.max_stack) (type_state later l.entry) l.table l.count l.number (map (type_state_at later) l.frames.items)
       (before l.pool later l.running) l.reader.left;
   values : All (IsNumberedValue (length l.names)) l.running.values.items;
   numbered : AreNumberedFrames (length l.names) l.frames.items;
-  met : l.names ≡ met l.fn.names (frame_names (map (seen_at l.names) l.frames.items));
+  met : l.names ≡ met l.fn.names (frame_names (map (type_state_at l.names) l.frames.items));
 }

@@ -3,7 +3,7 @@ use Rattle.std.proofs.lemmas.List.{drop_all, append-nil}
 use Rattle.std.proofs.lemmas.List.Elements.{All-take, All-get_or}
 use Rattle.jc_methods.specs.declared.kind.Kind.{Kind}
 use Rattle.jc_methods.specs.declared.kind.Kind.TheVariants as kinds
-use Rattle.jc_methods.specs.Held.{held, IsNumbered}
+use Rattle.jc_methods.specs.VerificationTypes.{verification_type, IsNumbered}
 use Rattle.jc_frames.specs.Frames.{values_from}
 use Rattle.jc_frames.specs.FullTable.{IsPlaced}
 use Rattle.jc_frames.proofs.BuildingLaws.{one_at_end}
@@ -36,8 +36,8 @@ listing-preserved c =
 pub returns-clause-values : goal.returns-clause-values
 returns-clause-values c names =
     let xs = take c.end_of_values.result c.args.locals.now in
-    sym (append-nil (map (held names) c.listing.kinds.items))
-    ∙ ap (λ (l : List Kind). map (held names) c.listing.kinds.items ++ values_from c.listing.skips (map (held names) l)) (sym (drop_all c.listing.kind-index xs c.listing-test.false))
+    sym (append-nil (map (verification_type names) c.listing.kinds.items))
+    ∙ ap (λ (l : List Kind). map (verification_type names) c.listing.kinds.items ++ values_from c.listing.skips (map (verification_type names) l)) (sym (drop_all c.listing.kind-index xs c.listing-test.false))
     ∙ sym (c.listing.invariant.values names)
     ∙ ap (values_from false) (sym (c.end_of_values.ensures.trimmed names))
 

@@ -1,5 +1,5 @@
 use Rattle.std.proofs.Common.{◌≡◌, ◌≤◌, ℕ, false, [], length, drop, All}
-use Rattle.jc_methods.specs.Held.{Names, IsNumbered}
+use Rattle.jc_methods.specs.VerificationTypes.{Names, IsNumbered}
 use Rattle.jc_frames.specs.FullTable.{IsPlaced}
 use Rattle.jc_frames.proofs.EntryValuesLaws.{listed_with}
 use Rattle.jc_frames.proofs.running.kinds_in_locals.Given as goal

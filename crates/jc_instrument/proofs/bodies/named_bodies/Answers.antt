@@ -1,9 +1,9 @@
 use Rattle.std.proofs.Common.{◌≤◌, List, length, sym, subst}
 use Rattle.std.specs.Prelude.{All}
 use Rattle.std.proofs.lemmas.Result.{err_from_is_err_and}
-use Rattle.jc_methods.specs.Held.{AreNumberedFrames}
+use Rattle.jc_methods.specs.VerificationTypes.{AreNumberedFrames}
 use Rattle.jc_methods.specs.declared.body.Body.{Body}
-use Rattle.jc_kinds.specs.Answers.{Said}
+use Rattle.jc_bytes.specs.Failing.{Said}
 use Rattle.jc_kinds.specs.Checked.{Checked}
 use Rattle.jc_instrument.specs.Causes.{IsFirstCause}
 use Rattle.jc_instrument.specs.KeptStates.{AreKeptStates, places_kept}

@@ -1,4 +1,4 @@
-use Rattle.jc_methods.specs.Held.{Grows}
+use Rattle.jc_methods.specs.VerificationTypes.{Grows}
 use Rattle.jc_instrument.specs.Steps.{IsReading}
 use Rattle.jc_instrument.proofs.bodies.read_bodies.Given as goal
 

@@ -3,7 +3,7 @@ use Rattle.std.proofs.lemmas.Result.{err_from_is_err_and}
 use Rattle.jc_pool.proofs.AddingLaws.{extends_more}
 use Rattle.jc_instrument.specs.Contents.{Content, TakesEach}
 use Rattle.jc_instrument.specs.Needed.{signed_id}
-use Rattle.jc_instrument.specs.Taking.{content_of, contents_of, RefusesEach}
+use Rattle.jc_instrument.specs.Taking.{content_needed, contents_of, RefusesEach}
 use Rattle.jc_instrument.specs.declared.needs.Need.{Need}
 use Rattle.jc_instrument.specs.declared.needs.Need.TheVariants as needs
 use Rattle.jc_instrument.specs.declared.needs.TheConstants as constants
@@ -19,7 +19,7 @@ taking-preserved c =
     let owner = c.args.owner.now in
     let id = signed_id c.args.id in
     let i = c.taking.need-index in
-    let need = content_of owner id (get_or list i needs.DataName) in
+    let need = content_needed owner id (get_or list i needs.DataName) in
     let front = contents_of owner id (take i list) in
     let one = takes_one c.taking.pool c.take.new.pool need c.in_ok-place.place c.in_ok-place.ensures.ok in
     let both = takes_both old c.taking.pool c.take.new.pool front (need ∷ []) c.taking.places.items (c.in_ok-place.place ∷ [])
@@ -41,7 +41,7 @@ returns-in_err-place-clause-refused c =
     let p = err_from_is_err_and c.from_residual.result c.from_residual.ensures.1 in
     let rest = drop (suc i) list in
     let here = refused_here old c.taking.pool (contents_of owner id (take i list)) (contents_of owner id rest) c.taking.places.items
-    (content_of owner id (get_or list i needs.DataName)) e (all_entire owner id rest) c.taking.invariant.takes c.in_err-place.ensures.full in
+    (content_needed owner id (get_or list i needs.DataName)) e (all_entire owner id rest) c.taking.invariant.takes c.in_err-place.ensures.full in
     rw (p.1, p.2) (subst (λ (cs : List Content). RefusesEach old cs e) (sym (split_contents owner id list i needs.DataName c.taking-test.true)) here)
 
 pub returns-in_err-place-clause-extends : goal.returns-in_err-place-clause-extends

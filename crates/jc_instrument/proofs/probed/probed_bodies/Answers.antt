@@ -4,7 +4,7 @@ use Rattle.std.proofs.lemmas.Iterator.Consumers.{YieldsList-from_enumerate, Yiel
 use Rattle.std.proofs.lemmas.List.{length_push}
 use Rattle.std.proofs.lemmas.List.FromFn.{length-enumerate_from}
 use Rattle.std.proofs.lemmas.Result.{err_from_is_err_and}
-use Rattle.jc_methods.specs.Held.{AreNumberedFrames, Grows}
+use Rattle.jc_methods.specs.VerificationTypes.{AreNumberedFrames, Grows}
 use Rattle.jc_methods.specs.declared.body.Body.{Body}
 use Rattle.jc_methods.specs.declared.kind.State.{State}
 use Rattle.jc_methods.proofs.MetNamesLaws.{name_grows}

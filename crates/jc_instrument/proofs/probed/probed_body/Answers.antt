@@ -3,7 +3,8 @@ use Rattle.std.proofs.lemmas.Result.{err_from_is_err_and}
 use Rattle.jc_methods.specs.declared.emitted.Emitted.{Emitted}
 use Rattle.jc_methods.specs.declared.insn.Insn.{Insn}
 use Rattle.jc_methods.proofs.NumberedLaws.{grown_count, frames_numbered}
-use Rattle.jc_kinds.specs.Answers.{AreStates, Said}
+use Rattle.jc_kinds.specs.Answers.{AreStates}
+use Rattle.jc_bytes.specs.Failing.{Said}
 use Rattle.jc_layout.specs.Layout.{chosen_length}
 use Rattle.jc_instrument.specs.Probing.{IsRefusedAsLarge}
 use Rattle.jc_instrument.proofs.KeptStatesLaws.{states_grown}

@@ -1,8 +1,8 @@
 use Rattle.std.proofs.Common.{ℕ, List, length, sym, ◌∙◌, ap, subst}
 use Rattle.std.specs.List.{AllByRecursion}
 use Rattle.std.proofs.lemmas.Result.{err_from_is_err_and}
-use Rattle.jc_methods.specs.Held.{SeenAt}
-use Rattle.jc_kinds.specs.Answers.{Said}
+use Rattle.jc_methods.specs.VerificationTypes.{TypeStateAt}
+use Rattle.jc_bytes.specs.Failing.{Said}
 use Rattle.jc_instrument.specs.Contents.{Content}
 use Rattle.jc_instrument.specs.Members.{AreCoded, AreWritable}
 use Rattle.jc_instrument.specs.Needed.{name_of, needed, signed_id, TakesNeeded}
@@ -45,7 +45,7 @@ twin_class-requires-clause-written c =
     let members = c.in_ok-members.members in
     let codes = c.code_places-codes.result in
     let frames = ap (frames_of names) c.deref.ensures ∙ frames_are names p.array p.works probed p.made in
-    let takes = subst (λ (fs : List SeenAt). TakesNeeded class.pool (name_of class) (signed_id id) fs new members) frames
+    let takes = subst (λ (fs : List TypeStateAt). TakesNeeded class.pool (name_of class) (signed_id id) fs new members) frames
     (subst (λ (o : List ℕ). TakesNeeded class.pool o (signed_id id) (frames_of names c.deref.result.now) new members) (sym c.requires.owner)
     c.in_ok-members.ensures.ok) in
     let classes = have_classes new names p.array p.works probed p.made
@@ -72,7 +72,7 @@ returns-clause-twin c =
     let probed = c.args.probed.now.probed in
     let members = c.in_ok-members.members in
     let frames = ap (frames_of names) c.deref.ensures ∙ frames_are names p.array p.works probed p.made in
-    let takes = subst (λ (fs : List SeenAt). TakesNeeded class.pool (name_of class) (signed_id id) fs new members) frames
+    let takes = subst (λ (fs : List TypeStateAt). TakesNeeded class.pool (name_of class) (signed_id id) fs new members) frames
     (subst (λ (o : List ℕ). TakesNeeded class.pool o (signed_id id) (frames_of names c.deref.result.now) new members) (sym c.requires.owner)
     c.in_ok-members.ensures.ok) in
     record {

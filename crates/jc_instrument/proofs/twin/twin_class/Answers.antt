@@ -1,7 +1,7 @@
 use Rattle.std.proofs.Common.{◌++◌, ◌∷◌, [], ◌∙◌, ap}
 use Rattle.jc_code.specs.TwinCode.{twin_code}
 use Rattle.jc_instrument.specs.TwinText.{init_member, twin_class, twin_methods}
-use Rattle.jc_instrument.specs.Works.{emitted_of}
+use Rattle.jc_instrument.specs.BodiesWithStates.{emitted_of}
 use Rattle.jc_instrument.proofs.TwinMethodLaws.{methods_made}
 use Rattle.jc_instrument.proofs.twin.twin_class.Goals as goal
 

@@ -1,9 +1,9 @@
 use Rattle.std.proofs.Common.{inr, ℕ, sym, ◌∙◌, subst}
 use Rattle.std.specs.Prelude.{IfErr, IfOk}
 use Rattle.jc_class.specs.ClassId.{class_id}
-use Rattle.jc_kinds.specs.Answers.{Said}
+use Rattle.jc_bytes.specs.Failing.{Said}
 use Rattle.jc_instrument.specs.Causes.{IsFirstCause}
-use Rattle.jc_instrument.specs.Changing.{IsChanged, changing_causes}
+use Rattle.jc_instrument.specs.Changing.{GetsProbes, changing_causes}
 use Rattle.jc_instrument.proofs.InstrumentingLaws.{class_first, made_from, refused_from}
 use Rattle.jc_instrument.proofs.whole.whole.Goals as goal
 
@@ -17,7 +17,7 @@ returns-clause-made c =
     let class = c.in_ok-class.class in
     made_from c.args.bytes.now class c.in_ok-class.ensures.read c.in_default.ensures (sym c.is_left_alone.ensures ∙ c.if-is_left_alone.false)
     c.in_default-interface_refusal.ensures c.changed.result
-    (subst (λ (id : ℕ). IfOk c.changed.result (IsChanged id class)) c.class_id.ensures c.changed.ensures.changed)
+    (subst (λ (id : ℕ). IfOk c.changed.result (GetsProbes id class)) c.class_id.ensures c.changed.ensures.changed)
 
 pub returns-clause-refused : goal.returns-clause-refused
 returns-clause-refused c =

@@ -3,7 +3,8 @@ use Rattle.jc_bytes.specs.declared.fail.Fail.{Fail}
 use Rattle.jc_bytes.specs.declared.refusal.Refusal.{Refusal}
 use Rattle.jc_bytes.specs.Least.{IsNowhere}
 use Rattle.jc_kinds.specs.Checked.{IsMissing}
-use Rattle.jc_kinds.specs.Answers.{Said, IsKindRefusal}
+use Rattle.jc_bytes.specs.Failing.{Said}
+use Rattle.jc_kinds.specs.Answers.{IsKindRefusal}
 use Rattle.jc_kinds.proofs.MissingLaws.{few_insns}
 use Rattle.jc_kinds.proofs.AnswerLaws.{few_walked, kept_by_rows, same_guard, clash_answered_at, states_answered_all, frames_inside}
 use Rattle.jc_kinds.proofs.RefusalLaws.{clash_refused}

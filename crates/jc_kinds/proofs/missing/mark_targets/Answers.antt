@@ -2,7 +2,7 @@ use Rattle.std.proofs.Common.{refl, length, sym, subst}
 use Rattle.std.proofs.lemmas.List.Elements.{All-get_or}
 use Rattle.jc_methods.specs.InsnUse.{LeadsWithin}
 use Rattle.jc_methods.specs.Flow.{targets_of}
-use Rattle.jc_kinds.specs.Marks.{is_among}
+use Rattle.jc_kinds.specs.Marking.{is_among}
 use Rattle.jc_kinds.proofs.MarkLaws.{marks_none, marks_next, marks_all}
 use Rattle.jc_kinds.proofs.missing.mark_targets.Goals as goal
 

@@ -1,4 +1,4 @@
-use Rattle.jc_kinds.specs.Walk.{fits_frame}
+use Rattle.jc_kinds.specs.StateSequence.{fits_frame}
 use Rattle.jc_kinds.proofs.BranchLaws.{fits_not, fits_all}
 use Rattle.jc_kinds.proofs.walk.fits_branches.Goals as goal
 

@@ -1,5 +1,5 @@
 use Rattle.std.proofs.Common.{◌∙◌, ap}
-use Rattle.jc_kinds.specs.Walk.{fits_there}
+use Rattle.jc_kinds.specs.StateSequence.{fits_there}
 use Rattle.jc_kinds.proofs.walk.fits_frame.Goals as goal
 
 pub returns-in-Some : goal.returns-in-Some

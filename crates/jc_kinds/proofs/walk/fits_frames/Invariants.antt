@@ -1,6 +1,6 @@
 use Rattle.std.proofs.Common.{◌≡◌, drop}
 use Rattle.std.specs.List.{list_all}
-use Rattle.jc_kinds.specs.Walk.{fits_frame}
+use Rattle.jc_kinds.specs.StateSequence.{fits_frame}
 use Rattle.jc_kinds.proofs.walk.fits_frames.Given as goal
 
 -- it fits those so far, so that the others decide

@@ -1,7 +1,7 @@
 use Rattle.std.proofs.Common.{◌∙◌, ap}
 use Rattle.std.specs.List.{list_all}
 use Rattle.jc_methods.specs.Flow.{targets_of}
-use Rattle.jc_kinds.specs.Walk.{fits_frame}
+use Rattle.jc_kinds.specs.StateSequence.{fits_frame}
 use Rattle.jc_kinds.proofs.BranchLaws.{seen_all}
 use Rattle.jc_kinds.proofs.walk.fits_targets.Goals as goal
 

@@ -1,7 +1,7 @@
 use Rattle.std.proofs.Common.{rules, ◌≤◌, ◌++◌, length, subst, ◌∙◌, ap, List}
 use Rattle.jc_methods.specs.declared.kind.State.{State}
 use Rattle.jc_methods.proofs.NumberedLaws.{grown_count, frames_numbered}
-use Rattle.jc_kinds.specs.Walk.{Steps}
+use Rattle.jc_kinds.specs.StateSequence.{Steps}
 use Rattle.jc_kinds.proofs.MissingLaws.{few_insns}
 use Rattle.jc_kinds.proofs.BranchLaws.{first_made, first_not}
 use Rattle.jc_kinds.proofs.WalkLaws.{walk_ends, walk_on, walk_stops}

@@ -1,6 +1,6 @@
 use Rattle.std.proofs.Common.{◌≡◌, ℕ, ◌+◌, get_or, take}
 use Rattle.std.specs.List.{count_by}
-use Rattle.jc_plan.specs.Marks.{enters}
+use Rattle.jc_plan.specs.InsnFacts.{enters}
 use Rattle.jc_plan.proofs.entries.count_branches.Given as goal
 
 -- the entries of the branches so far are counted

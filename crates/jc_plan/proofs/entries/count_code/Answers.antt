@@ -6,7 +6,7 @@ use Rattle.jc_bytes.specs.PlainLists.{join_from}
 use Rattle.jc_methods.specs.declared.insn.Insn.{Insn}
 use Rattle.jc_methods.proofs.PlacedInsnLaws.{few_insns}
 use Rattle.jc_plan.specs.Edges.{branches_of}
-use Rattle.jc_plan.specs.Marks.{enters, EntersWithin}
+use Rattle.jc_plan.specs.InsnFacts.{enters, EntersWithin}
 use Rattle.jc_plan.proofs.CountingLaws.{entered_next, entered_few, enters_within}
 use Rattle.jc_plan.proofs.FlowLaws.{few_targets, few_at}
 use Rattle.jc_plan.proofs.entries.count_code.Goals as goal

@@ -2,7 +2,7 @@ use Rattle.std.proofs.Common.{◌≡◌, ℕ, ◌+◌, get_or, take}
 use Rattle.std.specs.List.{count_by}
 use Rattle.jc_bytes.specs.PlainLists.{join_from}
 use Rattle.jc_plan.specs.Edges.{branches_of}
-use Rattle.jc_plan.specs.Marks.{enters}
+use Rattle.jc_plan.specs.InsnFacts.{enters}
 use Rattle.jc_plan.proofs.entries.count_code.Given as goal
 
 -- the entries by the instructions so far are counted

@@ -1,7 +1,7 @@
 use Rattle.std.proofs.Common.{Bool, Option, ℕ, ◌∷◌, [], ◌++◌, ◌+◌, ap, ◌∙◌}
 use Rattle.jc_plan.specs.Entries.{one_if}
 use Rattle.jc_plan.specs.Probed.{id_if}
-use Rattle.jc_plan.specs.Marks.{has_probe}
+use Rattle.jc_plan.specs.InsnFacts.{has_probe}
 use Rattle.jc_plan.proofs.PlanningLaws.{ids_more, taken_more}
 use Rattle.jc_plan.proofs.planning.out_probes.Goals as goal
 

@@ -1,6 +1,6 @@
 use Rattle.std.proofs.Common.{◌≡◌, ◌+◌, take}
 use Rattle.std.specs.List.{count_by}
-use Rattle.jc_plan.specs.Marks.{has_probe, ids_from}
+use Rattle.jc_plan.specs.InsnFacts.{has_probe, ids_from}
 use Rattle.jc_plan.proofs.planning.out_probes.Given as goal
 
 -- the branches so far have their ids

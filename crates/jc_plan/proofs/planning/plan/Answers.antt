@@ -8,7 +8,7 @@ use Rattle.jc_plan.specs.Edges.{branches_of}
 use Rattle.jc_plan.specs.Entries.{one_if, is_multi_target}
 use Rattle.jc_plan.specs.Probed.{is_probed_way, id_if}
 use Rattle.jc_plan.specs.Plan.{lead_probe, out_probes}
-use Rattle.jc_plan.specs.Marks.{has_probe, ids_from}
+use Rattle.jc_plan.specs.InsnFacts.{has_probe, ids_from}
 use Rattle.jc_plan.proofs.PlacesLaws.{puts_place, maps_one, mapped_at, length_mapped}
 use Rattle.jc_plan.proofs.CountingLaws.{one_most}
 use Rattle.jc_plan.proofs.FlowLaws.{few_targets, few_at, few_of}

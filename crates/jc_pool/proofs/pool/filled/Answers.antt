@@ -1,7 +1,7 @@
 use Rattle.std.proofs.Common.{◌-◌, arith}
 use Rattle.std.proofs.lemmas.Result.{err_from_is_err_and}
 use Rattle.jc_pool.specs.PoolReading.{filled_at}
-use Rattle.jc_pool.proofs.PoolSteps.{fills_more, refuses, is_read, is_pool}
+use Rattle.jc_pool.proofs.PoolStepsLaws.{fills_more, refuses, is_read, is_pool}
 use Rattle.jc_pool.proofs.pool.filled.Goals as goal
 
 pub returns-in_err-entry-clause-gives : goal.returns-in_err-entry-clause-gives

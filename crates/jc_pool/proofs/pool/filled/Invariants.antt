@@ -1,6 +1,6 @@
 use Rattle.std.proofs.Common.{◌-◌, length}
 use Rattle.jc_pool.specs.PoolReading.{filled_at}
-use Rattle.jc_pool.proofs.PoolSteps.{Filling}
+use Rattle.jc_pool.proofs.PoolStepsLaws.{Filling}
 use Rattle.jc_pool.proofs.pool.filled.Given as goal
 
 abbrev pub invariant-filling : goal.invariant-filling

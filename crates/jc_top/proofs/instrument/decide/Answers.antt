@@ -1,5 +1,5 @@
 use Rattle.std.proofs.Common.{ℕ, List, Some, refl, subst}
-use Rattle.jc_kinds.specs.Answers.{Said}
+use Rattle.jc_base.specs.Failing.{Said}
 use Rattle.jc_instrument.specs.InstrumentedFile.{IsInstrumentedFile}
 use Rattle.jc_instrument.specs.Refused.{Reason}
 use Rattle.jc_top.proofs.ReportStepLaws.{said_why}

@@ -1,6 +1,6 @@
 use Rattle.std.proofs.Common.{List, ℕ, ap, subst, ◌∙◌}
 use Rattle.jc_methods.specs.DescriptorTypes.{method_type_in}
-use Rattle.jc_methods.specs.Held.{object}
+use Rattle.jc_methods.specs.VerificationTypes.{object}
 use Rattle.jc_after.specs.After.{return_op}
 use Rattle.jc_after.specs.Does.{AllSay}
 use Rattle.jc_after.proofs.DoesLaws.{all_say_later}

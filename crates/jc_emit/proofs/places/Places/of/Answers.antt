@@ -6,7 +6,7 @@ use Rattle.jc_methods.proofs.PlacedInsnLaws.{few_insns}
 use Rattle.jc_plan.specs.Plan.{lead_probe, out_probes}
 use Rattle.jc_emit.specs.Branching.{early_in, behind_in}
 use Rattle.jc_emit.specs.Sizes.{insn_at, probe_size, early_probe, behind_size}
-use Rattle.jc_emit.proofs.PlanReads.{length_leads, length_outs, lead_here, outs_here}
+use Rattle.jc_emit.proofs.PlanReadsLaws.{length_leads, length_outs, lead_here, outs_here}
 use Rattle.jc_emit.proofs.PlacingLaws.{insn_here, early_read, behind_read, few_outs, lead_small, placed_more, placed_all, small_places}
 use Rattle.jc_emit.proofs.places.Places.of.Goals as goal
 

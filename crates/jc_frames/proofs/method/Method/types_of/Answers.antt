@@ -2,7 +2,7 @@ use Rattle.std.proofs.Common.{◌+◌, List, [], ◌∷◌, length, drop, sym, �
 use Rattle.std.proofs.lemmas.List.{drop_all, map-append}
 use Rattle.std.proofs.lemmas.List.Elements.{All-append, All-cons, All-nil}
 use Rattle.jc_frames.specs.declared.method.Value.{Value}
-use Rattle.jc_methods.specs.Held.{Held}
+use Rattle.jc_methods.specs.VerificationTypes.{VerificationType}
 use Rattle.jc_bytes.proofs.AppendingLaws.{drop_at}
 use Rattle.jc_frames.specs.Frames.{types_of}
 use Rattle.jc_frames.specs.Running.{held_value, held_values, IsUnnumbered}
@@ -30,7 +30,7 @@ typing-preserved c =
           c.typing.invariant.says names
           ∙ one_typed g (held_values g.pool names c.typing.values.items) (drop i items) (drop (i + 1) items) _ (held_value g.pool names c.in-Some.value)
           (drop_at items i _ c.typing-test.true) (said_some (held_value g.pool names) _ c.type_of.result c.in-Some.value (c.type_of.ensures.says names) c.in-Some.is)
-          ∙ ap (λ (hs : List Held). behind hs (types_of g (drop (i + 1) items)))
+          ∙ ap (λ (hs : List VerificationType). behind hs (types_of g (drop (i + 1) items)))
           (sym (ap (held_values g.pool names) pushed ∙ map-append (held_value g.pool names) c.typing.values.items (c.in-Some.value ∷ [])));
       unnumbered = rw pushed (All-append IsUnnumbered c.typing.values.items (c.in-Some.value ∷ []) c.typing.invariant.unnumbered
           (All-cons IsUnnumbered c.in-Some.value [] c.in-Some.ensures.unnumbered (All-nil IsUnnumbered)));

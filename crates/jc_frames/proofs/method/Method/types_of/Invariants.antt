@@ -1,5 +1,5 @@
 use Rattle.std.proofs.Common.{◌≡◌, length, drop, All}
-use Rattle.jc_methods.specs.Held.{Names}
+use Rattle.jc_methods.specs.VerificationTypes.{Names}
 use Rattle.jc_frames.specs.Frames.{types_of}
 use Rattle.jc_frames.specs.Running.{held_values, IsUnnumbered}
 use Rattle.jc_frames.proofs.MethodLaws.{behind}

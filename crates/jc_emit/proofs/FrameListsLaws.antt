@@ -7,7 +7,7 @@ use Rattle.jc_bytes.specs.PlainLists.{pieces}
 use Rattle.jc_methods.specs.declared.body.FrameAt.{FrameAt}
 use Rattle.jc_bytes.proofs.FirstSeenLaws.{contains_one}
 use Rattle.jc_methods.specs.FrameOrder.{RiseFrom}
-use Rattle.jc_bytes.proofs.TestLaws.{none_in, which_in, first_in}
+use Rattle.jc_bytes.proofs.BooleanLaws.{none_in, which_in, first_in}
 use Rattle.jc_emit.specs.Emission.{frame_if}
 
 -- each stands behind the one before it, from a place on and below another

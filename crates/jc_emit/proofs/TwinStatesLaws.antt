@@ -16,7 +16,7 @@ use Rattle.jc_methods.specs.declared.kind.Kind.{Kind}
 use Rattle.jc_methods.specs.declared.kind.State.{State}
 use Rattle.jc_methods.specs.declared.body.Body.{Body}
 use Rattle.jc_methods.specs.declared.body.Use.{Use}
-use Rattle.jc_methods.specs.Held.{Names, Held, top, int, Seen, held, seen, width, slots}
+use Rattle.jc_methods.specs.VerificationTypes.{Names, VerificationType, top, int, TypeState, verification_type, type_state, width, slots}
 use Rattle.jc_methods.specs.EntryState.{entry_of, entry_seen}
 use Rattle.jc_after.specs.Wants.{accepts}
 use Rattle.jc_after.specs.Step.{kind, moves, apply, put_local, with_stack, limited}
@@ -34,10 +34,10 @@ use Rattle.jc_emit.specs.Marks.{push, invokestatic}
 use Rattle.jc_emit.specs.TwinFrames.{state_at}
 use Rattle.jc_emit.specs.Items.{Item, init_call, init_store, probe_array, probe_id, probe_one, probe_store, insn_of, extra_of, probe, lead_of, land_of, image_of, twin_items}
 use Rattle.jc_emit.proofs.PiecesLaws.{HasAt}
-use Rattle.jc_emit.proofs.Built.{prelude_at}
+use Rattle.jc_emit.proofs.BuiltLaws.{prelude_at}
 use Rattle.jc_emit.proofs.StepLaws.{state, moves_one, moves_gives, limited_is, slots-append}
-use Rattle.jc_emit.proofs.TwinPremises.{Premises, stands, images}
-use Rattle.jc_emit.proofs.TwinPlaces.{state_b, no_frame}
+use Rattle.jc_emit.proofs.TwinPremisesLaws.{Premises, stands, images}
+use Rattle.jc_emit.proofs.TwinPlacesLaws.{state_b, no_frame}
 use Rattle.jc_methods.specs.declared.insn.Insn.TheVariants as insns
 use Rattle.jc_methods.specs.declared.insn.Flow.TheVariants as flows
 use Rattle.jc_methods.specs.declared.kind.Kind.TheVariants as kinds
@@ -50,14 +50,14 @@ use Rattle.jc_emit.specs.Sizes as sizes
 
 -- ---- what fits
 
-pub fits_same : (xs : List Held) → FitEach xs xs
+pub fits_same : (xs : List VerificationType) → FitEach xs xs
 fits_same [] = tt
 fits_same (x ∷ xs) = (inr (inl refl), fits_same xs)
 
-pub state_fits_same : (s : Seen) → FitState s s
+pub state_fits_same : (s : TypeState) → FitState s s
 state_fits_same s = record { locals = fits_same s.locals; stack = fits_same s.stack }
 
-fits_on : (a b c : Held) → Fits a b → Fits b c → Fits a c
+fits_on : (a b c : VerificationType) → Fits a b → Fits b c → Fits a c
 fits_on a b c f (inl e) = inl e
 fits_on a b c f (inr (inl e)) = subst (Fits a) e f
 fits_on a b c (inl e) (inr (inr g)) = absurd (no_top (subst IsNullOrObject e g.0))
@@ -67,14 +67,14 @@ fits_on a b c (inl e) (inr (inr g)) = absurd (no_top (subst IsNullOrObject e g.0
 fits_on a b c (inr (inl e)) (inr (inr g)) = inr (inr (subst IsNullOrObject (sym e) g.0, g.1))
 fits_on a b c (inr (inr f)) (inr (inr g)) = inr (inr (f.0, g.1))
 
-pub all_fit_on : (xs ys zs : List Held) → FitEach xs ys → FitEach ys zs → FitEach xs zs
+pub all_fit_on : (xs ys zs : List VerificationType) → FitEach xs ys → FitEach ys zs → FitEach xs zs
 all_fit_on [] [] zs f g = g
 all_fit_on [] (y ∷ ys) zs f g = absurd f
 all_fit_on (x ∷ xs) [] zs f g = absurd f
 all_fit_on (x ∷ xs) (y ∷ ys) [] f g = absurd g
 all_fit_on (x ∷ xs) (y ∷ ys) (z ∷ zs) f g = (fits_on x y z f.0 g.0, all_fit_on xs ys zs f.1 g.1)
 
-pub fit_length : (xs ys : List Held) → FitEach xs ys → length xs ≡ length ys
+pub fit_length : (xs ys : List VerificationType) → FitEach xs ys → length xs ≡ length ys
 fit_length [] [] f = refl
 fit_length [] (y ∷ ys) f = absurd f
 fit_length (x ∷ xs) [] f = absurd f
@@ -82,7 +82,7 @@ fit_length (x ∷ xs) (y ∷ ys) f = ap suc (fit_length xs ys f.1)
 
 -- ---- states by their places
 
-pub frame_state_is : (names : Names) (b : Body) (i : ℕ) (t : Seen) → frame_at (frames_of names b) i ≡ Some t → state_of names b i ≡ Some t
+pub frame_state_is : (names : Names) (b : Body) (i : ℕ) (t : TypeState) → frame_at (frames_of names b) i ≡ Some t → state_of names b i ≡ Some t
 unfolding state_of
 frame_state_is names b zero t e = ap (λ o. or_else o (Some (entry_of b))) e
 frame_state_is names b (suc i) t e =
@@ -92,7 +92,7 @@ pub first_state : (names : Names) (b : Body) → frame_at (frames_of names b) 0 
 unfolding state_of
 first_state names b e = ap (λ o. or_else o (Some (entry_of b))) e
 
-pub next_state : (names : Names) (b : Body) (i : ℕ) (insn : Insn) (s t : Seen) → frame_at (frames_of names b) (suc i) ≡ None
+pub next_state : (names : Names) (b : Body) (i : ℕ) (insn : Insn) (s t : TypeState) → frame_at (frames_of names b) (suc i) ≡ None
     → insn_at b i ≡ Some insn → FallsThrough insn
     → state_of names b i ≡ Some s → after_of b i s ≡ Some t → state_of names b (suc i) ≡ Some t
 unfolding state_of
@@ -103,17 +103,17 @@ next_state names b i insn s t none is falls before after =
     ∙ ap (option_and_then (after_of b i)) before
     ∙ after
 
-pub after_there : (names : Names) (b : Body) (i : ℕ) (s t : Seen) → state_of names b i ≡ Some s → after_of b i s ≡ Some t
+pub after_there : (names : Names) (b : Body) (i : ℕ) (s t : TypeState) → state_of names b i ≡ Some s → after_of b i s ≡ Some t
     → after_at names b i ≡ Some t
 after_there names b i s t before after = ap (option_and_then (after_of b i)) before ∙ after
 
-pub there_fit : (o u : Option Seen) (s t : Seen) → o ≡ Some s → u ≡ Some t → FitsThere o u → FitState s t
+pub there_fit : (o u : Option TypeState) (s t : TypeState) → o ≡ Some s → u ≡ Some t → FitsThere o u → FitState s t
 there_fit o u s t e f h = subst (λ x. FitsThere (Some s) x) f (subst (λ x. FitsThere x u) e h)
 
-pub fit_there : (o : Option Seen) (s t : Seen) → o ≡ Some t → FitState s t → FitsThere (Some s) o
+pub fit_there : (o : Option TypeState) (s t : TypeState) → o ≡ Some t → FitState s t → FitsThere (Some s) o
 fit_there o s t e h = subst (λ x. FitsThere (Some s) x) (sym e) h
 
-is_some_value : (o : Option Seen) → IsSome o → (t : Seen) × (o ≡ Some t)
+is_some_value : (o : Option TypeState) → IsSome o → (t : TypeState) × (o ≡ Some t)
 is_some_value None h = absurd (true≢false (sym h))
 is_some_value (Some t) h = (t, refl)
 
@@ -164,17 +164,17 @@ module _ (names new_names : Names) (states : List State) (first : ℕ) (wide : B
   abbrev old : ℕ → Insn
   old i = sizes.insn_at b.code i
 
-  abbrev moved : Seen → Seen
+  abbrev moved : TypeState → TypeState
   moved s = shifted (image_of b first wide) b.arg_slots s
 
-  abbrev S : ℕ → Seen
-  S i = seen names (state_at states i)
+  abbrev S : ℕ → TypeState
+  S i = type_state names (state_at states i)
 
   -- the state before an instruction of the twin, and its frame
-  abbrev N : ℕ → Option Seen
+  abbrev N : ℕ → Option TypeState
   N q = state_of new_names b' q
 
-  abbrev F : ℕ → Option Seen
+  abbrev F : ℕ → Option TypeState
   F q = frame_at (frames_of new_names b') q
 
   -- ---- the body
@@ -182,13 +182,13 @@ module _ (names new_names : Names) (states : List State) (first : ℕ) (wide : B
   free : (i : ℕ) → IsStraddled b i → ⊥
   free i s = p.free i s
 
-  pub after_b : (i : ℕ) → i < length b.code → (t : Seen) × (after_of b i (S i) ≡ Some t)
+  pub after_b : (i : ℕ) → i < length b.code → (t : TypeState) × (after_of b i (S i) ≡ Some t)
   after_b i lt =
       let t = is_some_value (after_at names b i) (p.checked.after i lt) in
       (t.0, sym (ap (option_and_then (after_of b i)) (state_b names new_names states first wide call b b' p i lt)) ∙ t.1)
 
   -- the state after it
-  abbrev pub A : (i : ℕ) → i < length b.code → Seen
+  abbrev pub A : (i : ℕ) → i < length b.code → TypeState
   A i lt = (after_b i lt).0
 
   pub after_at_b : (i : ℕ) (lt : i < length b.code) → after_at names b i ≡ Some (A i lt)
@@ -204,11 +204,11 @@ module _ (names new_names : Names) (states : List State) (first : ℕ) (wide : B
   entry_low : slots (entry_of b).stack ≤ b.max_stack
   entry_low = omega arith
 
-  slots_held : (ks : List Kind) → slots (map (held names) ks) ≡ sum_by kind_slots ks
+  slots_held : (ks : List Kind) → slots (map (verification_type names) ks) ≡ sum_by kind_slots ks
   slots_held [] = refl
   slots_held (k ∷ ks) = omega (arith, one k, slots_held ks, sum_by-cons kind_slots k ks)
     where
-      one : (k : Kind) → width (held names k) ≡ kind_slots k
+      one : (k : Kind) → width (verification_type names k) ≡ kind_slots k
       one kinds.Long = refl
       one kinds.Double = refl
       one kinds.Top = refl
@@ -219,36 +219,36 @@ module _ (names new_names : Names) (states : List State) (first : ℕ) (wide : B
       one (kinds.Object n) = refl
       one (kinds.Uninit i) = refl
 
-  frame_low : (i : ℕ) (s : Seen) → frame_at (frames_of names b) i ≡ Some s → slots s.stack ≤ b.max_stack
+  frame_low : (i : ℕ) (s : TypeState) → frame_at (frames_of names b) i ≡ Some s → slots s.stack ≤ b.max_stack
   frame_low i s e =
       let f = frame_is names b.frames i s e in
       let is = frame_state 0 b.code b.max_locals b.max_stack b.frames f.0 f.1.0 p.well.frames f.1.1 f.1.2 in
       let low = is.stack in let same = slots_held f.0.state.stack in
-      subst (λ (t : Seen). slots t.stack ≤ b.max_stack) f.3 (omega (arith, low, same))
+      subst (λ (t : TypeState). slots t.stack ≤ b.max_stack) f.3 (omega (arith, low, same))
 
-  after_low : (i : ℕ) (s t : Seen) → slots s.stack ≤ b.max_stack → after_of b i s ≡ Some t → slots t.stack ≤ b.max_stack
+  after_low : (i : ℕ) (s t : TypeState) → slots s.stack ≤ b.max_stack → after_of b i s ≡ Some t → slots t.stack ≤ b.max_stack
   after_low i s t low e =
       let o = step_at b i s t e in
       step_slots (ground_of b i) (step_of b.uses (returns_of b) o.0) s t low o.2
 
-  or_low : (i : ℕ) (other : Option Seen) (s : Seen) → ((t : Seen) → other ≡ Some t → slots t.stack ≤ b.max_stack)
+  or_low : (i : ℕ) (other : Option TypeState) (s : TypeState) → ((t : TypeState) → other ≡ Some t → slots t.stack ≤ b.max_stack)
       → or_else (frame_at (frames_of names b) i) other ≡ Some s → slots s.stack ≤ b.max_stack
   or_low i other s more e = by (frame_at (frames_of names b) i) refl e
     where
-      by : (o : Option Seen) → frame_at (frames_of names b) i ≡ o → or_else o other ≡ Some s → slots s.stack ≤ b.max_stack
+      by : (o : Option TypeState) → frame_at (frames_of names b) i ≡ o → or_else o other ≡ Some s → slots s.stack ≤ b.max_stack
       by None is e = more s e
       by (Some t) is e = frame_low i s (is ∙ e)
 
-  then_low : (i : ℕ) (o : Option Seen) (falls : Bool) (t : Seen) → ((s : Seen) → o ≡ Some s → slots s.stack ≤ b.max_stack)
+  then_low : (i : ℕ) (o : Option TypeState) (falls : Bool) (t : TypeState) → ((s : TypeState) → o ≡ Some s → slots s.stack ≤ b.max_stack)
       → (if falls then option_and_then (after_of b i) o else None) ≡ Some t → slots t.stack ≤ b.max_stack
   then_low i o false t before e = absurd (none-some _ e)
   then_low i None true t before e = absurd (none-some _ e)
   then_low i (Some s) true t before e = after_low i s t (before s refl) e
 
-  state_low : (i : ℕ) (s : Seen) → state_of names b i ≡ Some s → slots s.stack ≤ b.max_stack
+  state_low : (i : ℕ) (s : TypeState) → state_of names b i ≡ Some s → slots s.stack ≤ b.max_stack
   unfolding state_of
   state_low zero s e =
-      or_low 0 (Some (entry_of b)) s (λ t is. subst (λ (x : Seen). slots x.stack ≤ b.max_stack) (same_Some (entry_of b) t is) entry_low) e
+      or_low 0 (Some (entry_of b)) s (λ t is. subst (λ (x : TypeState). slots x.stack ≤ b.max_stack) (same_Some (entry_of b) t is) entry_low) e
   state_low (suc i) s e =
       or_low (suc i) _ s (λ t is. then_low i (state_of names b i) (falls_at (insn_at b i)) t (λ u q. state_low i u q) is) e
 
@@ -265,13 +265,13 @@ module _ (names new_names : Names) (states : List State) (first : ℕ) (wide : B
 
   -- ---- one instruction of the twin
 
-  abbrev Step : ℕ → Item → Seen → Seen → Type 0
+  abbrev Step : ℕ → Item → TypeState → TypeState → Type 0
   Step q x s t = apply (ground_of b' q) (step_of b'.uses (returns_of b') (insn_of call v x)) s ≡ Some t
 
-  pub goes : (q : ℕ) (x : Item) (s t : Seen) → slice_get items q ≡ Some x → Step q x s t → after_of b' q s ≡ Some t
+  pub goes : (q : ℕ) (x : Item) (s t : TypeState) → slice_get items q ≡ Some x → Step q x s t → after_of b' q s ≡ Some t
   goes q x s t here step = after_is b' q s (insn_of call v x) (stands names new_names states first wide call b b' p q x here) ∙ step
 
-  pub next_is : (q : ℕ) (x : Item) (s t : Seen) → slice_get items q ≡ Some x → flow_of (insn_of call v x) ≡ flows.GoesOn → F (q + 1) ≡ None
+  pub next_is : (q : ℕ) (x : Item) (s t : TypeState) → slice_get items q ≡ Some x → flow_of (insn_of call v x) ≡ flows.GoesOn → F (q + 1) ≡ None
       → N q ≡ Some s → after_of b' q s ≡ Some t → N (q + 1) ≡ Some t
   next_is q x s t here flow none before after =
       let up = add-one q in
@@ -280,16 +280,16 @@ module _ (names new_names : Names) (states : List State) (first : ℕ) (wide : B
 
   -- ---- a probe
 
-  abbrev pub with_array : Seen → Seen
+  abbrev pub with_array : TypeState → TypeState
   with_array X = state (moved X).locals ((moved X).stack ++ probes ∷ [])
 
-  abbrev pub with_id : Seen → Seen
+  abbrev pub with_id : TypeState → TypeState
   with_id X = state (moved X).locals (((moved X).stack ++ probes ∷ []) ++ int ∷ [])
 
-  abbrev pub with_one : Seen → Seen
+  abbrev pub with_one : TypeState → TypeState
   with_one X = state (moved X).locals ((((moved X).stack ++ probes ∷ []) ++ int ∷ []) ++ int ∷ [])
 
-  pub record Runs (q : ℕ) (X : Seen) : Type 0 where
+  pub record Runs (q : ℕ) (X : TypeState) : Type 0 where
     pub after0 : after_of b' q (moved X) ≡ Some (with_array X)
     pub state1 : N (q + 1) ≡ Some (with_array X)
     pub after1 : after_of b' (q + 1) (with_array X) ≡ Some (with_id X)
@@ -298,36 +298,36 @@ module _ (names new_names : Names) (states : List State) (first : ℕ) (wide : B
     pub state3 : N (q + 1 + 1 + 1) ≡ Some (with_one X)
     pub after3 : after_of b' (q + 1 + 1 + 1) (with_one X) ≡ Some (moved X)
 
-  moved_low : (X : Seen) → slots X.stack ≤ b.max_stack → slots (moved X).stack ≤ b.max_stack
+  moved_low : (X : TypeState) → slots X.stack ≤ b.max_stack → slots (moved X).stack ≤ b.max_stack
   moved_low X low = let same = slots-renamed (image_of b first wide) X.stack in omega (arith, same, low)
 
-  array_low : (X : Seen) → slots X.stack ≤ b.max_stack → slots (with_array X).stack ≤ b.max_stack + 1
+  array_low : (X : TypeState) → slots X.stack ≤ b.max_stack → slots (with_array X).stack ≤ b.max_stack + 1
   array_low X low = let n = slots-append (moved X).stack (probes ∷ []) in let m = moved_low X low in omega (arith, n, m)
 
-  id_low : (X : Seen) → slots X.stack ≤ b.max_stack → slots (with_id X).stack ≤ b.max_stack + 2
+  id_low : (X : TypeState) → slots X.stack ≤ b.max_stack → slots (with_id X).stack ≤ b.max_stack + 2
   id_low X low = let n = slots-append (with_array X).stack (int ∷ []) in let m = array_low X low in omega (arith, n, m)
 
-  array_step : (q id at : ℕ) (late : Bool) (X : Seen) → slots X.stack ≤ b.max_stack → v ≤ length X.locals
+  array_step : (q id at : ℕ) (late : Bool) (X : TypeState) → slots X.stack ≤ b.max_stack → v ≤ length X.locals
       → Step q (probe_array id at late) (moved X) (with_array X)
   array_step q id at late X low long =
       let most = p.max_stack in let m = array_low X low in let n = length-map X.locals (renamed (image_of b first wide)) in
       let here : get_or (moved X).locals v top ≡ probes = get_or-insert_at (map (renamed (image_of b first wide)) X.locals) v probes top (omega (arith, long, n)) in
-      ap (λ (h : Held). if accepts wants.Anything h then with_stack (moved X) (limited b'.max_stack ((moved X).stack ++ h ∷ [])) else None) here
+      ap (λ (h : VerificationType). if accepts wants.Anything h then with_stack (moved X) (limited b'.max_stack ((moved X).stack ++ h ∷ [])) else None) here
       ∙ ap (with_stack (moved X)) (limited_is b'.max_stack (with_array X).stack (omega (arith, most, m)))
 
-  id_step : (q id at : ℕ) (late : Bool) (X : Seen) → slots X.stack ≤ b.max_stack → Step q (probe_id id at late) (with_array X) (with_id X)
+  id_step : (q id at : ℕ) (late : Bool) (X : TypeState) → slots X.stack ≤ b.max_stack → Step q (probe_id id at late) (with_array X) (with_id X)
   id_step q id at late X low =
       let most = p.max_stack in let m = array_low X low in
       ap (λ st. apply (ground_of b' q) st (with_array X)) (push_is id b'.uses (returns_of b')).0
       ∙ moves_gives (ground_of b' q) int (moved X).locals (with_array X).stack (omega (arith, most, m))
 
-  one_step : (q id at : ℕ) (late : Bool) (X : Seen) → slots X.stack ≤ b.max_stack → Step q (probe_one id at late) (with_id X) (with_one X)
+  one_step : (q id at : ℕ) (late : Bool) (X : TypeState) → slots X.stack ≤ b.max_stack → Step q (probe_one id at late) (with_id X) (with_one X)
   one_step q id at late X low =
       let most = p.max_stack in let m = id_low X low in
       ap (λ st. apply (ground_of b' q) st (with_id X)) (push_is 1 b'.uses (returns_of b')).0
       ∙ moves_gives (ground_of b' q) int (moved X).locals (with_id X).stack (omega (arith, most, m))
 
-  store_step : (q id at : ℕ) (late : Bool) (X : Seen) → slots X.stack ≤ b.max_stack
+  store_step : (q id at : ℕ) (late : Bool) (X : TypeState) → slots X.stack ≤ b.max_stack
       → Step q (probe_store id at late) (with_one X) (moved X)
   unfolding forms_at table
   store_step q id at late X low =
@@ -340,7 +340,7 @@ module _ (names new_names : Names) (states : List State) (first : ℕ) (wide : B
       ∙ moves_one (ground_of b' q) (form (wants.Reference ∷ wants.Int ∷ wants.Int ∷ []) []) (moved X).locals xs (probes ∷ int ∷ int ∷ []) refl refl (omega (arith, most, m, size))
       ∙ ap (λ l. Some (state (moved X).locals l)) end
 
-  pub probe_runs : (q id at : ℕ) (late : Bool) (X : Seen) → HasAt items q (probe id at late) → N q ≡ Some (moved X)
+  pub probe_runs : (q id at : ℕ) (late : Bool) (X : TypeState) → HasAt items q (probe id at late) → N q ≡ Some (moved X)
       → slots X.stack ≤ b.max_stack → v ≤ length X.locals → Runs q X
   probe_runs q id at late X h before low long =
       let none : (k : ℕ) (x : Item) → slice_get items k ≡ Some x → (extra_of x ≡ 0 → ⊥) → F k ≡ None =
@@ -364,10 +364,10 @@ module _ (names new_names : Names) (states : List State) (first : ℕ) (wide : B
   -- ---- the prelude
 
   -- the state in which the twin begins
-  abbrev pub E : Seen
+  abbrev pub E : TypeState
   E = entry_of b'
 
-  abbrev pub E_array : Seen
+  abbrev pub E_array : TypeState
   E_array = state E.locals (probes ∷ [])
 
   entry_same : E ≡ entry_seen b.owner b.name b.desc b.flags (b.max_locals + 1)
@@ -397,7 +397,7 @@ module _ (names new_names : Names) (states : List State) (first : ℕ) (wide : B
   store_array : Step 1 init_store E_array (moved (entry_of b))
   store_array =
       let shifts = entry_shifts (image_of b first wide) b p.well in
-      ap (λ (l : List Held). Some (state l [])) (ap (λ (e : Seen). put_local v probes e.locals) entry_same ∙ shifts)
+      ap (λ (l : List VerificationType). Some (state l [])) (ap (λ (e : TypeState). put_local v probes e.locals) entry_same ∙ shifts)
 
   pub after_1 : after_of b' 1 E_array ≡ Some (moved (entry_of b))
   after_1 = goes 1 init_store E_array (moved (entry_of b)) (prelude_at b first wide).1.0 store_array

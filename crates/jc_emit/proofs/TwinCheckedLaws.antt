@@ -10,7 +10,7 @@ use Rattle.jc_methods.specs.WellMade.{IsHandler, HasUse, IsWellMadeOfAnySize, wh
 use Rattle.jc_methods.specs.declared.kind.State.{State}
 use Rattle.jc_methods.specs.declared.body.Body.{Body}
 use Rattle.jc_methods.specs.declared.body.Handler.{Handler}
-use Rattle.jc_methods.specs.Held.{Names, Held, object, Seen, seen}
+use Rattle.jc_methods.specs.VerificationTypes.{Names, VerificationType, object, TypeState, type_state}
 use Rattle.jc_methods.specs.EntryState.{entry_of}
 use Rattle.jc_after.specs.After.{class_in}
 use Rattle.jc_kinds.specs.States.{state_of, after_at}
@@ -18,7 +18,7 @@ use Rattle.jc_kinds.specs.Fits.{FitEach, FitState, FitsThere}
 use Rattle.jc_kinds.specs.Checked.{LeadsTo, FallsInto, Guards, HasFrame, NeedsFrame, IsMissing, caught, at_handler, Checked}
 use Rattle.jc_kinds.specs.Answers.{AreStates}
 use Rattle.jc_after.specs.Shift.{renamed, shifted}
-use Rattle.jc_bytes.proofs.TestLaws.{none_in, of_map}
+use Rattle.jc_bytes.proofs.BooleanLaws.{none_in, of_map}
 use Rattle.jc_kinds.proofs.EntryShiftLaws.{fits_shift}
 use Rattle.jc_emit.specs.Straddling.{NoneStraddles}
 use Rattle.jc_emit.specs.TwinTables.{moved_row}
@@ -26,12 +26,12 @@ use Rattle.jc_emit.specs.TwinFrames.{state_at}
 use Rattle.jc_emit.specs.Twin.{Twin}
 use Rattle.jc_emit.specs.Items.{insn_of, init_call, init_store, segment, lead_of, land_of, image_of}
 use Rattle.jc_emit.proofs.PiecesLaws.{each_at}
-use Rattle.jc_emit.proofs.Built.{sized, prelude_at}
-use Rattle.jc_emit.proofs.TwinPremises.{Premises, premises, stands, code_long, asked_has, leads_grow, same_use}
-use Rattle.jc_emit.proofs.TwinPlaces.{state_b}
-use Rattle.jc_emit.proofs.TwinStates.{there_fit, fit_there, after_there, all_fit_on, state_fits_same, state_0, state_1, after_0, after_1, E_array}
-use Rattle.jc_emit.proofs.TwinLeads.{framed, landing_frame, all_led, all_landed}
-use Rattle.jc_emit.proofs.TwinSound.{Sound, Near, Fine, segment_fine}
+use Rattle.jc_emit.proofs.BuiltLaws.{sized, prelude_at}
+use Rattle.jc_emit.proofs.TwinPremisesLaws.{Premises, premises, stands, code_long, asked_has, leads_grow, same_use}
+use Rattle.jc_emit.proofs.TwinPlacesLaws.{state_b}
+use Rattle.jc_emit.proofs.TwinStatesLaws.{there_fit, fit_there, after_there, all_fit_on, state_fits_same, state_0, state_1, after_0, after_1, E_array}
+use Rattle.jc_emit.proofs.TwinLeadsLaws.{framed, landing_frame, all_led, all_landed}
+use Rattle.jc_emit.proofs.TwinSoundLaws.{Sound, Near, Fine, segment_fine}
 
 module _ (names new_names : Names) (states : List State) (first : ℕ) (wide : Bool) (call : ℕ) (b b' : Body) (p : Premises names new_names states first wide call b b') where
   abbrev land : ℕ → ℕ
@@ -40,20 +40,20 @@ module _ (names new_names : Names) (states : List State) (first : ℕ) (wide : B
   abbrev lead : ℕ → ℕ
   lead i = lead_of b first wide i
 
-  abbrev moved : Seen → Seen
+  abbrev moved : TypeState → TypeState
   moved s = shifted (image_of b first wide) b.arg_slots s
 
-  abbrev S : ℕ → Seen
-  S i = seen names (state_at states i)
+  abbrev S : ℕ → TypeState
+  S i = type_state names (state_at states i)
 
-  abbrev N : ℕ → Option Seen
+  abbrev N : ℕ → Option TypeState
   N q = state_of new_names b' q
 
   abbrev SoundAt : ℕ → Type 0
   SoundAt q = Sound names new_names states first wide call b b' p q
 
   -- the state behind the call
-  abbrev E1 : Seen
+  abbrev E1 : TypeState
   E1 = E_array names new_names states first wide call b b' p
 
   -- ---- the prelude
@@ -178,7 +178,7 @@ module _ (names new_names : Names) (states : List State) (first : ℕ) (wide : B
       let w = near_piece q i piece.within low high in
       let target = row.target in
       let there = all_landed names new_names states first wide call b b' p g.target target in
-      let s : Seen = record { locals = (S i).locals; stack = caught b g ∷ [] } in
+      let s : TypeState = record { locals = (S i).locals; stack = caught b g ∷ [] } in
       let before : state_of names b i ≡ Some (S i) = state_b names new_names states first wide call b b' p i piece.within in
       let fits : FitState s (S g.target) =
       there_fit (at_handler b g (state_of names b i)) (state_of names b g.target) s (S g.target) (ap (at_handler b g) before) (state_b names new_names states first wide call b b' p g.target target)
@@ -186,11 +186,11 @@ module _ (names new_names : Names) (states : List State) (first : ℕ) (wide : B
       let shifted_fits = fits_shift (image_of b first wide) b.arg_slots s (S g.target) fits in
       let all : FitState (record { locals = w.0.before.locals; stack = caught b g ∷ [] }) (moved (S g.target)) = record {
         locals = all_fit_on w.0.before.locals (moved (S i)).locals (moved (S g.target)).locals w.1 shifted_fits.locals;
-        stack = subst (λ (x : Held). FitEach (x ∷ []) (moved (S g.target)).stack) (caught_stays g) shifted_fits.stack;
+        stack = subst (λ (x : VerificationType). FitEach (x ∷ []) (moved (S g.target)).stack) (caught_stays g) shifted_fits.stack;
       } in
       let mine : at_handler b' (moved_row (lead_of b first wide) (land_of b first wide) g) (N q) ≡ Some (record { locals = w.0.before.locals; stack = caught b g ∷ [] }) =
       ap (at_handler b' (moved_row (lead_of b first wide) (land_of b first wide) g)) w.0.state_is
-      ∙ ap (λ (x : Held). Some (record { locals = w.0.before.locals; stack = x ∷ [] })) (same_caught g o.1) in
+      ∙ ap (λ (x : VerificationType). Some (record { locals = w.0.before.locals; stack = x ∷ [] })) (same_caught g o.1) in
       subst (λ (x : Handler). FitsThere (at_handler b' x (N q)) (N x.target)) (sym e)
       (subst (λ o. FitsThere o (N (land g.target))) (sym mine) (fit_there (N (land g.target)) (record { locals = w.0.before.locals; stack = caught b g ∷ [] }) (moved (S g.target)) there all))
 

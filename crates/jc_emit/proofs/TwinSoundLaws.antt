@@ -10,7 +10,7 @@ use Rattle.jc_methods.specs.declared.insn.Insn.{Insn}
 use Rattle.jc_methods.specs.declared.insn.Flow.{Flow}
 use Rattle.jc_methods.specs.declared.kind.State.{State}
 use Rattle.jc_methods.specs.declared.body.Body.{Body}
-use Rattle.jc_methods.specs.Held.{Names, Seen, seen, slots}
+use Rattle.jc_methods.specs.VerificationTypes.{Names, TypeState, type_state, slots}
 use Rattle.jc_after.specs.Table.{table, forms_at}
 use Rattle.jc_after.specs.After.{insn_at, ground_of, returns_of, after_of}
 use Rattle.jc_kinds.specs.States.{frames_of, frame_at, state_of}
@@ -18,7 +18,7 @@ use Rattle.jc_kinds.specs.Fits.{FitEach, FitsThere}
 use Rattle.jc_kinds.specs.Checked.{JumpsTo, HasFrame}
 use Rattle.jc_after.specs.Shift.{with_slot, shifted}
 use Rattle.jc_after.proofs.ApplyLaws.{after_is}
-use Rattle.jc_bytes.proofs.TestLaws.{which_in, none_in, first_in, later_in, of_map}
+use Rattle.jc_bytes.proofs.BooleanLaws.{which_in, none_in, first_in, later_in, of_map}
 use Rattle.jc_kinds.proofs.EntryShiftLaws.{fits_shift}
 use Rattle.jc_plan.specs.declared.branch.Branch.{Branch}
 use Rattle.jc_plan.specs.Edges.{branches_by}
@@ -33,17 +33,17 @@ use Rattle.jc_emit.specs.TwinCode.{to_of, here_or, arm_place}
 use Rattle.jc_emit.specs.TwinFrames.{state_at, left_by, state_behind}
 use Rattle.jc_emit.specs.Items.{Item, image, probe_array, probe_id, probe_one, probe_store, hop, insn_of, probe, lead_part, early_part, hop_part, arm_parts, test_part, tests_part, lead_of, land_of, image_of, image_part, segment, twin_items}
 use Rattle.jc_emit.proofs.PiecesLaws.{HasAt, has_front, has_back, Each, each_append}
-use Rattle.jc_emit.proofs.Built.{size_is, size_switches, length-lead, length-early, length-hop}
-use Rattle.jc_emit.proofs.Told.{lead_at, early_at, main_at}
-use Rattle.jc_emit.proofs.Others.{Arms, Agrees, agrees_first, agrees_rest, arms_by_list, arm_listed, tests_target}
+use Rattle.jc_emit.proofs.BuiltLaws.{size_is, size_switches, length-lead, length-early, length-hop}
+use Rattle.jc_emit.proofs.ToldLaws.{lead_at, early_at, main_at}
+use Rattle.jc_emit.proofs.OthersLaws.{Arms, Agrees, agrees_first, agrees_rest, arms_by_list, arm_listed, tests_target}
 use Rattle.jc_emit.proofs.InverseLaws.{inverse_tests_too, twice_inverse}
 use Rattle.jc_emit.proofs.LocalLaws.{test_is, placed_target, inverted_target, next_within}
 use Rattle.jc_emit.proofs.StepLaws.{moves_nothing}
-use Rattle.jc_emit.proofs.TestForms.{left_is}
-use Rattle.jc_emit.proofs.TwinPremises.{Premises, stands, code_long, asked_frame, asked_has, frame_asked, old_at, leads_grow}
-use Rattle.jc_emit.proofs.TwinPlaces.{no_frame, narrow, tests_size, asked_piece, arms_switch, arms_are}
-use Rattle.jc_emit.proofs.TwinStates.{fit_there, frame_state_is, next_state, state_fits_same, fits_same, after_b, A, push_is, image_after, S_low, A_low, S_long, goes, next_is, probe_runs, with_array, with_id, with_one}
-use Rattle.jc_emit.proofs.TwinLeads.{slot_flow, placed_flow, framed, fits_branch, landing_frame, led_long, stopped_frame, inverse_frame, wide_frame, all_led, all_landed, all_imaged}
+use Rattle.jc_emit.proofs.ConditionalBranchLaws.{left_is}
+use Rattle.jc_emit.proofs.TwinPremisesLaws.{Premises, stands, code_long, asked_frame, asked_has, frame_asked, old_at, leads_grow}
+use Rattle.jc_emit.proofs.TwinPlacesLaws.{no_frame, narrow, tests_size, asked_piece, arms_switch, arms_are}
+use Rattle.jc_emit.proofs.TwinStatesLaws.{fit_there, frame_state_is, next_state, state_fits_same, fits_same, after_b, A, push_is, image_after, S_low, A_low, S_long, goes, next_is, probe_runs, with_array, with_id, with_one}
+use Rattle.jc_emit.proofs.TwinLeadsLaws.{slot_flow, placed_flow, framed, fits_branch, landing_frame, led_long, stopped_frame, inverse_frame, wide_frame, all_led, all_landed, all_imaged}
 use Rattle.jc_methods.specs.declared.insn.Insn.TheVariants as insns
 use Rattle.jc_methods.specs.declared.insn.Flow.TheVariants as flows
 use Rattle.jc_emit.specs.Sizes as sizes
@@ -67,19 +67,19 @@ module _ (names new_names : Names) (states : List State) (first : ℕ) (wide : B
   abbrev old : ℕ → Insn
   old i = sizes.insn_at b.code i
 
-  abbrev moved : Seen → Seen
+  abbrev moved : TypeState → TypeState
   moved s = shifted (image_of b first wide) b.arg_slots s
 
-  abbrev S : ℕ → Seen
-  S i = seen names (state_at states i)
+  abbrev S : ℕ → TypeState
+  S i = type_state names (state_at states i)
 
-  abbrev N : ℕ → Option Seen
+  abbrev N : ℕ → Option TypeState
   N q = state_of new_names b' q
 
-  abbrev F : ℕ → Option Seen
+  abbrev F : ℕ → Option TypeState
   F q = frame_at (frames_of new_names b') q
 
-  abbrev After : (i : ℕ) → i < length b.code → Seen
+  abbrev After : (i : ℕ) → i < length b.code → TypeState
   After i lt = A names new_names states first wide call b b' p i lt
 
   -- ---- what is shown of each place
@@ -87,26 +87,26 @@ module _ (names new_names : Names) (states : List State) (first : ℕ) (wide : B
   pub record Sound (q : ℕ) : Type 0 where
     pub insn : Insn
     pub stands : insn_at b' q ≡ Some insn
-    pub before : Seen
+    pub before : TypeState
     pub state_is : N q ≡ Some before
-    pub after : Seen
+    pub after : TypeState
     pub after_is : after_of b' q before ≡ Some after
     pub next : FallsThrough insn → FitsThere (Some after) (N (q + 1))
     pub stops : (FallsThrough insn → ⊥) → q + 1 < length b'.code → HasFrame b' (q + 1)
     pub jumps : (r : ℕ) → Contains (targets_of insn) r → HasFrame b' r × FitsThere (Some after) (N r)
 
   -- the local variables there fit those before the instruction to whose part it belongs
-  abbrev pub Near : ℕ → Seen → Type 0
+  abbrev pub Near : ℕ → TypeState → Type 0
   Near i s = FitEach s.locals (moved (S i)).locals
 
   abbrev pub Fine : ℕ → ℕ → Item → Type 0
   Fine i q x = (w : Sound q) × Near i w.before
 
-  same_fits : (o : Option Seen) (s : Seen) → o ≡ Some s → FitsThere (Some s) o
+  same_fits : (o : Option TypeState) (s : TypeState) → o ≡ Some s → FitsThere (Some s) o
   same_fits o s e = fit_there o s s e (state_fits_same s)
 
   -- one that goes on
-  going : (i q : ℕ) (x : Item) (s t : Seen) → slice_get items q ≡ Some x → flow_of (insn_of call v x) ≡ flows.GoesOn → N q ≡ Some s
+  going : (i q : ℕ) (x : Item) (s t : TypeState) → slice_get items q ≡ Some x → flow_of (insn_of call v x) ≡ flows.GoesOn → N q ≡ Some s
       → after_of b' q s ≡ Some t → FitsThere (Some t) (N (q + 1)) → Near i s → Fine i q x
   going i q x s t here flow before after next near = (
     record {
@@ -123,7 +123,7 @@ module _ (names new_names : Names) (states : List State) (first : ℕ) (wide : B
     near,
   )
 
-  probe_fine : (i q id at : ℕ) (late : Bool) (X : Seen) → HasAt items q (probe id at late) → N q ≡ Some (moved X)
+  probe_fine : (i q id at : ℕ) (late : Bool) (X : TypeState) → HasAt items q (probe id at late) → N q ≡ Some (moved X)
       → slots X.stack ≤ b.max_stack → v ≤ length X.locals → Near i (moved X)
       → FitsThere (Some (moved X)) (N (q + 1 + 1 + 1 + 1)) → Each (Fine i) q (probe id at late)
   probe_fine i q id at late X h before low long near last =
@@ -142,7 +142,7 @@ module _ (names new_names : Names) (states : List State) (first : ℕ) (wide : B
       )
 
   -- a goto that is no image
-  goto_after : (q to at : ℕ) (due : Option ℕ) (X : Seen) → slice_get items q ≡ Some (hop to at due) → slots X.stack ≤ b.max_stack
+  goto_after : (q to at : ℕ) (due : Option ℕ) (X : TypeState) → slice_get items q ≡ Some (hop to at due) → slots X.stack ≤ b.max_stack
       → after_of b' q (moved X) ≡ Some (moved X)
   unfolding forms_at table
   goto_after q to at due X here low =
@@ -150,7 +150,7 @@ module _ (names new_names : Names) (states : List State) (first : ℕ) (wide : B
       goes names new_names states first wide call b b' p q (hop to at due) (moved X) (moved X) here
       (moves_nothing (ground_of b' q) (moved X).locals (moved X).stack (omega (arith, most, same, low)))
 
-  hop_fine : (i q to at : ℕ) (due : Option ℕ) (X : Seen) → slice_get items q ≡ Some (hop to at due) → N q ≡ Some (moved X)
+  hop_fine : (i q to at : ℕ) (due : Option ℕ) (X : TypeState) → slice_get items q ≡ Some (hop to at due) → N q ≡ Some (moved X)
       → slots X.stack ≤ b.max_stack → Near i (moved X)
       → HasFrame b' to × FitsThere (Some (moved X)) (N to) → (q + 1 < length b'.code → HasFrame b' (q + 1)) → Fine i q (hop to at due)
   hop_fine i q to at due X here before low near there stop = (
@@ -169,7 +169,7 @@ module _ (names new_names : Names) (states : List State) (first : ℕ) (wide : B
   )
 
   -- a probe and the goto behind it
-  hop_part_fine : (i q id to : ℕ) (X : Seen) → HasAt items q (hop_part (land_of b first wide) (Some id) to) → N q ≡ Some (moved X)
+  hop_part_fine : (i q id to : ℕ) (X : TypeState) → HasAt items q (hop_part (land_of b first wide) (Some id) to) → N q ≡ Some (moved X)
       → slots X.stack ≤ b.max_stack → v ≤ length X.locals → Near i (moved X)
       → HasFrame b' (land to) × FitsThere (Some (moved X)) (N (land to)) → (q + 5 < length b'.code → HasFrame b' (q + 5))
       → Each (Fine i) q (hop_part (land_of b first wide) (Some id) to)
@@ -219,17 +219,17 @@ module _ (names new_names : Names) (states : List State) (first : ℕ) (wide : B
 
   -- ---- the state that a conditional jump or a switch leaves
 
-  left : (i : ℕ) (lt : i < length b.code) → (flow_of (old i) ≡ flows.Tests) ⊎ (flow_of (old i) ≡ flows.Switches)
-      → After i lt ≡ seen names (left_by (old i) (state_at states i))
+  left : (i : ℕ) (lt : i < length b.code) → (flow_of (old i) ≡ flows.Branches) ⊎ (flow_of (old i) ≡ flows.Switches)
+      → After i lt ≡ type_state names (left_by (old i) (state_at states i))
   left i lt e =
       left_is names (ground_of b i) b.uses (returns_of b) (old i) (state_at states i) (After i lt) (p.well.code.well_formed i (insns.Simple 0) lt) e
       (sym (after_is b i (S i) (old i) (old_at names new_names states first wide call b b' p i lt)) ∙ (after_b names new_names states first wide call b b' p i lt).1)
 
-  left_near : (i : ℕ) (lt : i < length b.code) → (flow_of (old i) ≡ flows.Tests) ⊎ (flow_of (old i) ≡ flows.Switches)
+  left_near : (i : ℕ) (lt : i < length b.code) → (flow_of (old i) ≡ flows.Branches) ⊎ (flow_of (old i) ≡ flows.Switches)
       → Near i (moved (After i lt))
   left_near i lt e = subst (λ s. Near i (moved s)) (sym (left i lt e)) (fits_same (moved (S i)).locals)
 
-  left_long : (i : ℕ) (lt : i < length b.code) → (flow_of (old i) ≡ flows.Tests) ⊎ (flow_of (old i) ≡ flows.Switches)
+  left_long : (i : ℕ) (lt : i < length b.code) → (flow_of (old i) ≡ flows.Branches) ⊎ (flow_of (old i) ≡ flows.Switches)
       → v ≤ length (After i lt).locals
   left_long i lt e = subst (λ s. v ≤ length s.locals) (sym (left i lt e)) (S_long names new_names states first wide call b b' p i lt)
 
@@ -260,22 +260,22 @@ module _ (names new_names : Names) (states : List State) (first : ℕ) (wide : B
 
   -- a conditional jump that leads elsewhere, and falls through
   testing : (i : ℕ) (lt : i < length b.code) (new : Insn) (to : ℕ) → slice_get items (q_of i) ≡ Some (image new i None)
-      → flow_of new ≡ flows.Tests → targets_of new ≡ to ∷ []
+      → flow_of new ≡ flows.Branches → targets_of new ≡ to ∷ []
       → FitsThere (Some (moved (After i lt))) (N (q_of i + 1)) → HasFrame b' to × FitsThere (Some (moved (After i lt))) (N to)
       → Fine i (q_of i) (image new i None)
   testing i lt new to here flow one next there =
       leading i lt new None here (λ falls. next) (λ halts. absurd (halts (inr flow)))
       (λ r c. only to r (λ k. HasFrame b' k × FitsThere (Some (moved (After i lt))) (N k)) there (subst (λ l. Contains l r) one c))
 
-  inverse_flow : (i x : ℕ) → i < length b.code → flow_of (old i) ≡ flows.Tests → flow_of (inverse_jump x (old i)) ≡ flows.Tests
+  inverse_flow : (i x : ℕ) → i < length b.code → flow_of (old i) ≡ flows.Branches → flow_of (inverse_jump x (old i)) ≡ flows.Branches
   inverse_flow i x lt e =
       let j = test_is (old i) e in
       let good = subst IsWellFormed j.is (p.well.code.well_formed i (insns.Simple 0) lt) in
-      subst (λ o. flow_of (inverse_jump x o) ≡ flows.Tests) (sym j.is) (inverse_tests_too j.op j.to x good (subst (λ o. flow_of o ≡ flows.Tests) j.is e))
+      subst (λ o. flow_of (inverse_jump x o) ≡ flows.Branches) (sym j.is) (inverse_tests_too j.op j.to x good (subst (λ o. flow_of o ≡ flows.Branches) j.is e))
 
   -- the image is a conditional jump, so control falls to the place behind it
   behind_image : (i : ℕ) (lt : i < length b.code) (new : Insn) → slice_get items (q_of i) ≡ Some (image new i None)
-      → flow_of new ≡ flows.Tests → F (q_of i + 1) ≡ None → N (q_of i + 1) ≡ Some (moved (After i lt))
+      → flow_of new ≡ flows.Branches → F (q_of i + 1) ≡ None → N (q_of i + 1) ≡ Some (moved (After i lt))
   behind_image i lt new here flow none =
       let up = add-one (q_of i) in
       ap N up
@@ -283,10 +283,10 @@ module _ (names new_names : Names) (states : List State) (first : ℕ) (wide : B
       (all_imaged names new_names states first wide call b b' p i lt) (image_after names new_names states first wide call b b' p i lt)
 
   -- no frame stands behind a conditional jump of the narrow layout
-  none_behind : (i : ℕ) → flow_of (old i) ≡ flows.Tests → wide ≡ false → q_of i + 1 < lead (suc i) → F (q_of i + 1) ≡ None
+  none_behind : (i : ℕ) → flow_of (old i) ≡ flows.Branches → wide ≡ false → q_of i + 1 < lead (suc i) → F (q_of i + 1) ≡ None
   none_behind i e w high = by (F (q_of i + 1)) refl
     where
-      by : (o : Option Seen) → F (q_of i + 1) ≡ o → o ≡ None
+      by : (o : Option TypeState) → F (q_of i + 1) ≡ o → o ≡ None
       by None h = refl
       by (Some t) h =
           let a = frame_asked names new_names states first wide call b b' p (q_of i + 1) t h in
@@ -294,18 +294,18 @@ module _ (names new_names : Names) (states : List State) (first : ℕ) (wide : B
           (λ back. ⊎_elim (λ s. absurd (no_switch (sym e ∙ s))) (λ x. absurd (differ (sym w ∙ x))) back.1)
           (asked_piece names new_names states first wide call b b' p i (q_of i + 1) a.0 (omega arith) high a.1)
         where
-          no_switch : flows.Tests ≡ flows.Switches → ⊥
+          no_switch : flows.Branches ≡ flows.Switches → ⊥
           no_switch x = cc
 
           differ : false ≡ true → ⊥
           differ x = cc
 
-  to_target : (i : ℕ) (lt : i < length b.code) → flow_of (old i) ≡ flows.Tests
+  to_target : (i : ℕ) (lt : i < length b.code) → flow_of (old i) ≡ flows.Branches
       → HasFrame b' (land (jump_target (old i))) × FitsThere (Some (moved (After i lt))) (N (land (jump_target (old i))))
   to_target i lt e =
       target_jump i (jump_target (old i)) lt (subst (λ l. Contains l (jump_target (old i))) (sym (tests_target (old i) e)) (first_in (jump_target (old i)) ([])))
 
-  to_next : (i id : ℕ) (lt : i < length b.code) → flow_of (old i) ≡ flows.Tests → late_probe b first i ≡ Some id
+  to_next : (i id : ℕ) (lt : i < length b.code) → flow_of (old i) ≡ flows.Branches → late_probe b first i ≡ Some id
       → HasFrame b' (lead (suc i)) × FitsThere (Some (moved (After i lt))) (N (lead (suc i)))
   to_next i id lt e some = (
     asked_has names new_names states first wide call b b' p (lead (suc i)) (state_at states (suc i)) (inverse_frame names new_names states first wide call b b' p i id lt some),
@@ -313,24 +313,24 @@ module _ (names new_names : Names) (states : List State) (first : ℕ) (wide : B
   )
 
   -- behind the goto of the wide layout
-  to_behind : (i : ℕ) (lt : i < length b.code) → flow_of (old i) ≡ flows.Tests → wide ≡ true → HasFrame b' (q_of i + 2)
+  to_behind : (i : ℕ) (lt : i < length b.code) → flow_of (old i) ≡ flows.Branches → wide ≡ true → HasFrame b' (q_of i + 2)
   to_behind i lt e w =
       asked_has names new_names states first wide call b b' p (q_of i + 2) (state_behind b states i (late_probe b first i)) (wide_frame names new_names states first wide call b b' p i lt e w)
 
-  state_left : (i id : ℕ) (lt : i < length b.code) → flow_of (old i) ≡ flows.Tests → wide ≡ true → late_probe b first i ≡ Some id
+  state_left : (i id : ℕ) (lt : i < length b.code) → flow_of (old i) ≡ flows.Branches → wide ≡ true → late_probe b first i ≡ Some id
       → N (q_of i + 2) ≡ Some (moved (After i lt))
   state_left i id lt e w some =
-      frame_state_is new_names b' (q_of i + 2) (moved (seen names (state_behind b states i (late_probe b first i))))
+      frame_state_is new_names b' (q_of i + 2) (moved (type_state names (state_behind b states i (late_probe b first i))))
       (asked_frame names new_names states first wide call b b' p (q_of i + 2) (state_behind b states i (late_probe b first i)) (wide_frame names new_names states first wide call b b' p i lt e w))
-      ∙ ap (λ o. Some (moved (seen names (state_behind b states i o)))) some
+      ∙ ap (λ o. Some (moved (type_state names (state_behind b states i o)))) some
       ∙ ap (λ s. Some (moved s)) (sym (left i lt (inl e)))
 
-  plain_fine : (w : Bool) (i : ℕ) (lt : i < length b.code) → wide ≡ w → (e : flow_of (old i) ≡ flows.Tests) → late_probe b first i ≡ None
+  plain_fine : (w : Bool) (i : ℕ) (lt : i < length b.code) → wide ≡ w → (e : flow_of (old i) ≡ flows.Branches) → late_probe b first i ≡ None
       → HasAt items (q_of i) (test_part w (q_of i) (with_places (land_of b first wide) (old i)) i (jump_target (old i)) None)
       → Each (Fine i) (q_of i) (test_part w (q_of i) (with_places (land_of b first wide) (old i)) i (jump_target (old i)) None)
   plain_fine false i lt w e none h =
       let size = tests_size names new_names states first wide call b b' p i None e none in
-      let one = ap (wide_by flows.Tests) w in
+      let one = ap (wide_by flows.Branches) w in
       let place : lead (suc i) ≡ q_of i + 1 = omega (arith, size, one) in (
         testing i lt (with_places (land_of b first wide) (old i)) (land (jump_target (old i))) h.0 (placed_flow (old i) (land_of b first wide) e) (placed_targets (old i) (land_of b first wide) e)
             (subst (λ k. FitsThere (Some (moved (After i lt))) (N k)) place (lead_target i lt (inr e))) (to_target i lt e),
@@ -338,12 +338,12 @@ module _ (names new_names : Names) (states : List State) (first : ℕ) (wide : B
       )
   plain_fine true i lt w e none h =
       let size = tests_size names new_names states first wide call b b' p i None e none in
-      let one = ap (wide_by flows.Tests) w in
+      let one = ap (wide_by flows.Branches) w in
       let place : lead (suc i) ≡ q_of i + 2 = omega (arith, size, one) in
       let new = inverse_jump (q_of i + 2) (with_places (land_of b first wide) (old i)) in
       let placed = placed_flow (old i) (land_of b first wide) e in
       let j = test_is (old i) e in
-      let flow : flow_of new ≡ flows.Tests = subst (λ o. flow_of (inverse_jump (q_of i + 2) (with_places (land_of b first wide) o)) ≡ flows.Tests) (sym j.is) (subst (λ o. flow_of (inverse_jump (q_of i + 2) o) ≡ flows.Tests) j.is (inverse_flow i (q_of i + 2) lt e)) in
+      let flow : flow_of new ≡ flows.Branches = subst (λ o. flow_of (inverse_jump (q_of i + 2) (with_places (land_of b first wide) o)) ≡ flows.Branches) (sym j.is) (subst (λ o. flow_of (inverse_jump (q_of i + 2) o) ≡ flows.Branches) j.is (inverse_flow i (q_of i + 2) lt e)) in
       let to = jump_target (with_places (land_of b first wide) (old i)) in
       let to_is : to ≡ land (jump_target (old i)) = placed_target (old i) (land_of b first wide) e in
       let hop_here = h.1.0 in
@@ -359,13 +359,13 @@ module _ (names new_names : Names) (states : List State) (first : ℕ) (wide : B
         ),
       )
 
-  probed_fine : (w : Bool) (i id : ℕ) (lt : i < length b.code) → wide ≡ w → (e : flow_of (old i) ≡ flows.Tests)
+  probed_fine : (w : Bool) (i id : ℕ) (lt : i < length b.code) → wide ≡ w → (e : flow_of (old i) ≡ flows.Branches)
       → late_probe b first i ≡ Some id
       → HasAt items (q_of i) (test_part w (q_of i) (inverse_jump (lead (i + 1)) (old i)) i (i + 1) (lead_probe b first (i + 1)) ++ hop_part (land_of b first wide) (Some id) (jump_target (old i)))
       → Each (Fine i) (q_of i) (test_part w (q_of i) (inverse_jump (lead (i + 1)) (old i)) i (i + 1) (lead_probe b first (i + 1)) ++ hop_part (land_of b first wide) (Some id) (jump_target (old i)))
   probed_fine false i id lt w e some h =
       let size = tests_size names new_names states first wide call b b' p i (Some id) e some in
-      let one = ap (wide_by flows.Tests) w in
+      let one = ap (wide_by flows.Branches) w in
       let up : lead (suc i) ≡ lead (i + 1) = ap lead (sym (add-one i)) in
       let new = inverse_jump (lead (i + 1)) (old i) in
       let flow = inverse_flow i (lead (i + 1)) lt e in
@@ -379,16 +379,16 @@ module _ (names new_names : Names) (states : List State) (first : ℕ) (wide : B
       )
   probed_fine true i id lt w e some h =
       let size = tests_size names new_names states first wide call b b' p i (Some id) e some in
-      let one = ap (wide_by flows.Tests) w in
+      let one = ap (wide_by flows.Branches) w in
       let up : lead (suc i) ≡ lead (i + 1) = ap lead (sym (add-one i)) in
       let inner = inverse_jump (lead (i + 1)) (old i) in
       let new = inverse_jump (q_of i + 2) inner in
       let inner_flow = inverse_flow i (lead (i + 1)) lt e in
       let j = test_is (old i) e in
       let good = subst IsWellFormed j.is (p.well.code.well_formed i (insns.Simple 0) lt) in
-      let old_flow : flow_of (insns.Jump j.op j.to) ≡ flows.Tests = subst (λ o. flow_of o ≡ flows.Tests) j.is e in
+      let old_flow : flow_of (insns.Jump j.op j.to) ≡ flows.Branches = subst (λ o. flow_of o ≡ flows.Branches) j.is e in
       let back : new ≡ insns.Jump j.op (q_of i + 2) = ap (λ o. inverse_jump (q_of i + 2) (inverse_jump (lead (i + 1)) o)) j.is ∙ ap (λ op. insns.Jump op (q_of i + 2)) (twice_inverse j.op j.to good old_flow) in
-      let flow : flow_of new ≡ flows.Tests = ap flow_of back ∙ old_flow in
+      let flow : flow_of new ≡ flows.Branches = ap flow_of back ∙ old_flow in
       let to = jump_target inner in
       let to_is : to ≡ lead (i + 1) = inverted_target (old i) (lead (i + 1)) e in
       let hop_here = h.1.0 in
@@ -408,7 +408,7 @@ module _ (names new_names : Names) (states : List State) (first : ℕ) (wide : B
         ),
       )
 
-  tests_fine : (i : ℕ) (lt : i < length b.code) → flow_of (old i) ≡ flows.Tests → (o : Option ℕ) → late_probe b first i ≡ o
+  tests_fine : (i : ℕ) (lt : i < length b.code) → flow_of (old i) ≡ flows.Branches → (o : Option ℕ) → late_probe b first i ≡ o
       → HasAt items (q_of i) (tests_part b first wide i (old i) o) → Each (Fine i) (q_of i) (tests_part b first wide i (old i) o)
   tests_fine i lt e None none h = plain_fine wide i lt refl e none h
   tests_fine i lt e (Some id) some h = probed_fine wide i id lt refl e some h
@@ -424,7 +424,7 @@ module _ (names new_names : Names) (states : List State) (first : ℕ) (wide : B
       let s = left_by (old i) (state_at states i) in
       let a = narrow names new_names states first wide call b b' p (whole i (to_of x)) s (inr (inr (record { switch = i; branch = x; id = id; within = lt; listed = c; probed = some; place = refl; state_is = refl }))) in (
         asked_has names new_names states first wide call b b' p (whole i (to_of x)) s a,
-        frame_state_is new_names b' (whole i (to_of x)) (moved (seen names s)) (asked_frame names new_names states first wide call b b' p (whole i (to_of x)) s a)
+        frame_state_is new_names b' (whole i (to_of x)) (moved (type_state names s)) (asked_frame names new_names states first wide call b b' p (whole i (to_of x)) s a)
             ∙ ap (λ t. Some (moved t)) (sym (left i lt (inr (arms_switch names new_names states first wide call b b' p i x c)))),
       )
 
@@ -512,13 +512,13 @@ module _ (names new_names : Names) (states : List State) (first : ℕ) (wide : B
 
   -- ---- all images
 
-  alone : (i : ℕ) (lt : i < length b.code) (flow : Flow) → flow_of (old i) ≡ flow → (flow ≡ flows.GoesOn → ⊥) → (flow ≡ flows.Tests → ⊥)
+  alone : (i : ℕ) (lt : i < length b.code) (flow : Flow) → flow_of (old i) ≡ flow → (flow ≡ flows.GoesOn → ⊥) → (flow ≡ flows.Branches → ⊥)
       → q_of i + 1 ≡ lead (suc i) → q_of i + 1 < length b'.code → HasFrame b' (q_of i + 1)
   alone i lt flow e f g place short =
       subst (HasFrame b') (sym place) (stopped i lt (never (old i) flow e f g) (subst (λ k. k < length b'.code) place short))
 
   exit_fine : (i : ℕ) (lt : i < length b.code) (flow : Flow) → flow_of (old i) ≡ flow → ((flow ≡ flows.Returns) ⊎ (flow ≡ flows.Throws))
-      → (flow ≡ flows.GoesOn → ⊥) → (flow ≡ flows.Tests → ⊥) → q_of i + 1 ≡ lead (suc i)
+      → (flow ≡ flows.GoesOn → ⊥) → (flow ≡ flows.Branches → ⊥) → q_of i + 1 ≡ lead (suc i)
       → slice_get items (q_of i) ≡ Some (image (old i) i (early_probe b first i))
       → Fine i (q_of i) (image (old i) i (early_probe b first i))
   exit_fine i lt flow e which f g place here =
@@ -535,7 +535,7 @@ module _ (names new_names : Names) (states : List State) (first : ℕ) (wide : B
             (λ r c. absurd (none_in r (subst (λ l. Contains l r) (no_targets (with_slot v (old i)) (inl flow)) c))),
         tt,
       )
-  main_fine i flows.Tests lt e h = tests_fine i lt e (late_probe b first i) refl h
+  main_fine i flows.Branches lt e h = tests_fine i lt e (late_probe b first i) refl h
   main_fine i flows.Jumps lt e h =
       let size = size_is b first wide i flows.Jumps e in
       let new = with_places (land_of b first wide) (old i) in

@@ -27,13 +27,13 @@ use Rattle.jc_methods.specs.Widened.{inverted}
 use Rattle.jc_emit.specs.TwinCode.{to_of, here_or, arm_place, probe_place, probe_place_by, probe_owner, probe_owner_by, ProbedEdge, InProbe, IsHop, IsWideGoto, NothingElse, HasProbe, HasArm, HasArms, HasGotoBehind}
 use Rattle.jc_emit.specs.Items.{marks_of_items, Item, init_call, hop, insn_of, own_of, probe, lead_part, early_part, hop_part, arm_parts, test_part, segment_size, lead_of, land_of, image_of, tests_part, image_part, segment, twin_items}
 use Rattle.jc_emit.proofs.PiecesLaws.{HasAt, has_front, Each, each_append, each_at, each_piece}
-use Rattle.jc_emit.proofs.Built.{length-lead, length-early, length-hop, length-test, sized}
-use Rattle.jc_emit.proofs.Ends.{lead_none}
-use Rattle.jc_emit.proofs.Told.{item_stands, main_at, places_told, jumps_told, switches_told}
+use Rattle.jc_emit.proofs.BuiltLaws.{length-lead, length-early, length-hop, length-test, sized}
+use Rattle.jc_emit.proofs.EndsLaws.{lead_none}
+use Rattle.jc_emit.proofs.ToldLaws.{item_stands, main_at, places_told, jumps_told, switches_told}
 use Rattle.jc_methods.specs.declared.insn.Insn.TheVariants as insns
 use Rattle.jc_methods.specs.declared.insn.Flow.TheVariants as flows
 use Rattle.jc_methods.proofs.PlacedInsnLaws.{simple_is_no_test}
-use Rattle.jc_bytes.proofs.TestLaws.{none_in, which_in, first_in, later_in}
+use Rattle.jc_bytes.proofs.BooleanLaws.{none_in, which_in, first_in, later_in}
 
 pub none_some : (id : ℕ) → None ≡ Some id → ⊥
 none_some id e = cc
@@ -49,7 +49,7 @@ not_jumps_by true u e = cc
 not_jumps_by false true e = cc
 not_jumps_by false false e = cc
 
-pub tests_target : (insn : Insn) → flow_of insn ≡ flows.Tests → targets_of insn ≡ jump_target insn ∷ []
+pub tests_target : (insn : Insn) → flow_of insn ≡ flows.Branches → targets_of insn ≡ jump_target insn ∷ []
 tests_target (insns.Jump op to) e = refl
 tests_target (insns.Simple op) e = absurd (simple_is_no_test op e)
 tests_target (insns.Table low default arms) e = cc
@@ -133,7 +133,7 @@ arms_by_list b i = by (flow_of (insn_at b.code i)) refl
   where
     by : (flow : Flow) → flow_of (insn_at b.code i) ≡ flow → Arms i (arms_by i (insn_at b.code i) flow)
     by flows.GoesOn e = tt
-    by flows.Tests e = tt
+    by flows.Branches e = tt
     by flows.Jumps e = tt
     by flows.Switches e =
         subst (λ f. Arms i (branches_by f i (targets_of (insn_at b.code i)))) (sym e) (are_arms i 0 (first_seen (targets_of (insn_at b.code i))) (first_seen_distinct (targets_of (insn_at b.code i))))
@@ -254,14 +254,14 @@ module _ (b : Body) (first : ℕ) (wide : Bool) (call : ℕ) (is_code : IsCode b
   edge_has i flows.GoesOn x id lt e c some =
       let same = contains_one (sequence i) x c in
       subst (λ z. Has (place_by z.way flows.GoesOn i) id (owner_by z.way flows.GoesOn i) × (z.at ≡ i)) same (sequence_has i id lt (ap (probe_of b first) same ∙ some), refl)
-  edge_has i flows.Tests x id lt e c some =
+  edge_has i flows.Branches x id lt e c some =
       ⊎_elim
-      (λ same. subst (λ z. Has (place_by z.way flows.Tests i) id (owner_by z.way flows.Tests i) × (z.at ≡ i)) same (sequence_has i id lt (ap (probe_of b first) same ∙ some), refl))
+      (λ same. subst (λ z. Has (place_by z.way flows.Branches i) id (owner_by z.way flows.Branches i) × (z.at ≡ i)) same (sequence_has i id lt (ap (probe_of b first) same ∙ some), refl))
       (λ later.
       let one = subst (λ ts. Contains (map (jump i) ts) x) (tests_target (old i) e) later in
       let same = contains_one (jump i (jump_target (old i))) x one in
       let late : late_probe b first i ≡ Some id = ap (late_by (probe_of b first) i (old i)) e ∙ ap (probe_of b first) same ∙ some in
-      subst (λ z. Has (place_by z.way flows.Tests i) id (owner_by z.way flows.Tests i) × (z.at ≡ i)) same ((jumps_told b first wide call).probes i id (lt, e) late, refl))
+      subst (λ z. Has (place_by z.way flows.Branches i) id (owner_by z.way flows.Branches i) × (z.at ≡ i)) same ((jumps_told b first wide call).probes i id (lt, e) late, refl))
       (which_in (sequence i) (map (jump i) (targets_of (old i))) x c)
   edge_has i flows.Jumps x id lt e c some =
       let one = subst (λ ts. Contains (map (jump i) ts) x) (jumps_target (old i) e) c in
@@ -324,7 +324,7 @@ module _ (b : Body) (first : ℕ) (wide : Bool) (call : ℕ) (is_code : IsCode b
   -- the probe of a fall-through
   sequence_listed : (flow : Flow) (j : ℕ) (ts : List ℕ) → goes_on flow ≡ true → Contains (branches_by flow j ts) (sequence j)
   sequence_listed flows.GoesOn j ts h = first_in (sequence j) ([])
-  sequence_listed flows.Tests j ts h = first_in (sequence j) (map (jump j) ts)
+  sequence_listed flows.Branches j ts h = first_in (sequence j) (map (jump j) ts)
   sequence_listed flows.Jumps j ts h = cc
   sequence_listed flows.Switches j ts h = cc
   sequence_listed flows.Returns j ts h = cc
@@ -350,7 +350,7 @@ module _ (b : Body) (first : ℕ) (wide : Bool) (call : ℕ) (is_code : IsCode b
       → early_by (probe_of b first) i (old i) flow ≡ Some id
       → (x : Branch) × Contains (branches_by flow i (targets_of (old i))) x × (probe_of b first x ≡ Some id) × (land i ≡ place_by x.way flow i) × (x.at ≡ i)
   early_edge i flows.GoesOn id lt e h = absurd (none_some id h)
-  early_edge i flows.Tests id lt e h = absurd (none_some id h)
+  early_edge i flows.Branches id lt e h = absurd (none_some id h)
   early_edge i flows.Jumps id lt e h =
       (jump i (jump_target (old i)), subst (λ ts. Contains (map (jump i) ts) (jump i (jump_target (old i)))) (sym (jumps_target (old i) e)) (first_in (jump i (jump_target (old i))) ([])), h, refl, refl)
   early_edge i flows.Switches id lt e h = absurd (none_some id h)
@@ -365,13 +365,13 @@ module _ (b : Body) (first : ℕ) (wide : Bool) (call : ℕ) (is_code : IsCode b
       probe_roles (land i) id i false edge (x.3 ∙ ap (λ k. place_by x.0.way (flow_of (old k)) k) (sym x.4))
 
   -- conditional jumps
-  test_roles : (w : Bool) → wide ≡ w → (i : ℕ) (insn : Insn) (on : ℕ) (due : Option ℕ) → i < length b.code → flow_of (old i) ≡ flows.Tests
+  test_roles : (w : Bool) → wide ≡ w → (i : ℕ) (insn : Insn) (on : ℕ) (due : Option ℕ) → i < length b.code → flow_of (old i) ≡ flows.Branches
       → HasAt items (image_at i) (test_part w (image_at i) insn i on due) → Each Role (image_at i) (test_part w (image_at i) insn i on due)
   test_roles false is i insn on due lt e h = (own_role (image_at i) _ h.0 refl, tt)
   test_roles true is i insn on due lt e h =
       (own_role (image_at i) _ h.0 refl, (inr (inr (inr (inr (record { layout = is; test = i; tests = (lt, e); place = refl })))), tt))
 
-  tests_roles : (i : ℕ) → i < length b.code → flow_of (old i) ≡ flows.Tests → (o : Option ℕ) → late_probe b first i ≡ o
+  tests_roles : (i : ℕ) → i < length b.code → flow_of (old i) ≡ flows.Branches → (o : Option ℕ) → late_probe b first i ≡ o
       → HasAt items (image_at i) (tests_part b first wide i (old i) o) → Each Role (image_at i) (tests_part b first wide i (old i) o)
   tests_roles i lt e None none h = test_roles wide refl i (with_places land (old i)) (jump_target (old i)) None lt e h
   tests_roles i lt e (Some id) some h =
@@ -381,8 +381,8 @@ module _ (b : Body) (first : ℕ) (wide : Bool) (call : ℕ) (is_code : IsCode b
       let x = jump i (jump_target (old i)) in
       let listed = later_in (sequence i) (map (jump i) (targets_of (old i))) x (subst (λ ts. Contains (map (jump i) ts) x) (sym (tests_target (old i) e)) (first_in x ([]))) in
       let probed : probe_of b first x ≡ Some id = sym (ap (late_by (probe_of b first) i (old i)) e) ∙ some in
-      let edge = edge_of i flows.Tests x id lt e listed probed in
-      let same : wide_size b wide i ≡ wide_by flows.Tests wide = ap (λ f. wide_by f wide) e in
+      let edge = edge_of i flows.Branches x id lt e listed probed in
+      let same : wide_size b wide i ≡ wide_by flows.Branches wide = ap (λ f. wide_by f wide) e in
       let there : image_at i + length part ≡ image_at i + 1 + wide_size b wide i = omega (arith, long, same) in
       each_append Role (image_at i) part more
       (test_roles wide refl i (inverted (lead (i + 1)) (old i)) (i + 1) (lead_probe b first (i + 1)) lt e (has_front items (image_at i) part more h))
@@ -414,7 +414,7 @@ module _ (b : Body) (first : ℕ) (wide : Bool) (call : ℕ) (is_code : IsCode b
   main_roles : (i : ℕ) (flow : Flow) → i < length b.code → flow_of (old i) ≡ flow
       → HasAt items (image_at i) (image_part b first wide i (old i) flow) → Each Role (image_at i) (image_part b first wide i (old i) flow)
   main_roles i flows.GoesOn lt e h = (own_role (image_at i) _ h.0 refl, tt)
-  main_roles i flows.Tests lt e h = tests_roles i lt e (late_probe b first i) refl h
+  main_roles i flows.Branches lt e h = tests_roles i lt e (late_probe b first i) refl h
   main_roles i flows.Jumps lt e h = (own_role (image_at i) _ h.0 refl, tt)
   main_roles i flows.Switches lt e h =
       (own_role (image_at i) _ h.0 refl, arm_roles i lt e (image_at i + 1) (arms_at b.code i) (λ y c. c) (are_arms_at i e) (λ y c. refl))

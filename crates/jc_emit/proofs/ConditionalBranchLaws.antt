@@ -5,13 +5,13 @@ use Rattle.std.proofs.lemmas.List.{take-map, length-map}
 use Rattle.jc_methods.specs.InsnForm.{form_of}
 use Rattle.jc_methods.proofs.InsnFormLaws.{unknown_beyond}
 use Rattle.jc_methods.specs.declared.form.Form.{Form}
-use Rattle.jc_methods.specs.Flow.{flow_of, is_test}
+use Rattle.jc_methods.specs.Flow.{flow_of, is_conditional_branch}
 use Rattle.jc_methods.specs.Insn.{IsWellFormed}
 use Rattle.jc_methods.specs.declared.insn.Insn.{Insn}
 use Rattle.jc_methods.specs.declared.kind.State.{State}
 use Rattle.jc_methods.specs.declared.body.Use.{Use}
 use Rattle.jc_bytes.specs.Descriptor.{FieldType}
-use Rattle.jc_methods.specs.Held.{Names, Seen, held, seen}
+use Rattle.jc_methods.specs.VerificationTypes.{Names, TypeState, verification_type, type_state}
 use Rattle.jc_after.specs.declared.want.Want.{Want}
 use Rattle.jc_after.specs.Step.{Ground, moves, apply, below}
 use Rattle.jc_after.specs.Table.{one, table, forms_at}
@@ -31,7 +31,7 @@ is_jump forms.Jump = true
 is_jump _ = false
 
 abbrev tests_by : ℕ → Bool
-tests_by op = cond (is_jump (form_of op) && not (nat_eq op 167)) (is_test op) true
+tests_by op = cond (is_jump (form_of op) && not (nat_eq op 167)) (is_conditional_branch op) true
 
 tests_below : (op : ℕ) → op < 202 → tests_by op ≡ true
 unfolding form_of
@@ -40,20 +40,20 @@ tests_below op below = agree_below_at tests_by (λ op. true) 202 op refl below
 pub unknown_no_jump : forms.Unknown ≡ forms.Jump → ⊥
 unknown_no_jump e = cc
 
-pub not_goto_by : (t : Bool) → cond t flows.Jumps flows.Tests ≡ flows.Tests → t ≡ false
+pub not_goto_by : (t : Bool) → cond t flows.Jumps flows.Branches ≡ flows.Branches → t ≡ false
 not_goto_by true e = cc
 not_goto_by false e = refl
 
-goto_by : (t : Bool) → cond t flows.Jumps flows.Tests ≡ flows.Jumps → t ≡ true
+goto_by : (t : Bool) → cond t flows.Jumps flows.Branches ≡ flows.Jumps → t ≡ true
 goto_by true e = refl
 goto_by false e = cc
 
-pub test_op : (op to : ℕ) → form_of op ≡ forms.Jump → flow_of (insns.Jump op to) ≡ flows.Tests → is_test op ≡ true
+pub test_op : (op to : ℕ) → form_of op ≡ forms.Jump → flow_of (insns.Jump op to) ≡ flows.Branches → is_conditional_branch op ≡ true
 test_op op to form test =
     ⊎_elim
     (λ below.
     let yes = and_from (is_jump (form_of op)) (not (nat_eq op 167)) (ap is_jump form) (not_from_false (nat_eq op 167) (not_goto_by (nat_eq op 167) test)) in
-    sym (cond-true (is_jump (form_of op) && not (nat_eq op 167)) (is_test op) true yes) ∙ tests_below op below)
+    sym (cond-true (is_jump (form_of op) && not (nat_eq op 167)) (is_conditional_branch op) true yes) ∙ tests_below op below)
     (λ above. absurd (unknown_no_jump (sym (unknown_beyond op above) ∙ form)))
     (cases_lt op 202)
 
@@ -126,7 +126,7 @@ and_parts : (a b : Bool) → (a && b) ≡ true → (a ≡ true) × (b ≡ true)
 and_parts true b h = (refl, h)
 and_parts false b h = cc
 
-test_takes : (op : ℕ) → is_test op ≡ true → Takes op
+test_takes : (op : ℕ) → is_conditional_branch op ≡ true → Takes op
 test_takes op test = ⊎_elim
     (λ range. let p = and_parts (nat_le 153 op) (nat_le op 166) range in
     let low = leb-true 153 op p.0 in let high = leb-true op 166 p.1 in
@@ -140,30 +140,30 @@ test_takes op test = ⊎_elim
 -- ---- the states that they leave
 
 below_seen : (names : Names) (n : ℕ) (s : State)
-    → below n (seen names s).stack ≡ (seen names (record { locals = s.locals; stack = take (length s.stack - n) s.stack })).stack
+    → below n (type_state names s).stack ≡ (type_state names (record { locals = s.locals; stack = take (length s.stack - n) s.stack })).stack
 below_seen names n s =
-    ap (λ (k : ℕ). take (k - n) (map (held names) s.stack)) (length-map s.stack (held names))
-    ∙ take-map (held names) (length s.stack - n) s.stack
+    ap (λ (k : ℕ). take (k - n) (map (verification_type names) s.stack)) (length-map s.stack (verification_type names))
+    ∙ take-map (verification_type names) (length s.stack - n) s.stack
 
-taken : (names : Names) (g : Ground) (ws : List Want) (n : ℕ) (s : State) (t : Seen) → length ws ≡ n
-    → apply g (moves (one ws [])) (seen names s) ≡ Some t
-    → t ≡ seen names (record { locals = s.locals; stack = take (length s.stack - n) s.stack })
+taken : (names : Names) (g : Ground) (ws : List Want) (n : ℕ) (s : State) (t : TypeState) → length ws ≡ n
+    → apply g (moves (one ws [])) (type_state names s) ≡ Some t
+    → t ≡ type_state names (record { locals = s.locals; stack = take (length s.stack - n) s.stack })
 taken names g ws n s t len e =
-    takes_only g ws (seen names s) t e
-    ∙ ap (λ (k : ℕ). state (map (held names) s.locals) (below k (map (held names) s.stack))) len
-    ∙ ap (state (map (held names) s.locals)) (below_seen names n s)
+    takes_only g ws (type_state names s) t e
+    ∙ ap (λ (k : ℕ). state (map (verification_type names) s.locals) (below k (map (verification_type names) s.stack))) len
+    ∙ ap (state (map (verification_type names) s.locals)) (below_seen names n s)
 
 -- the state after a conditional jump or a switch is the one that it leaves
-pub left_is : (names : Names) (g : Ground) (uses : List Use) (returns : Option FieldType) (insn : Insn) (s : State) (t : Seen)
-    → IsWellFormed insn → flow_of insn ≡ flows.Tests ⊎ flow_of insn ≡ flows.Switches
-    → apply g (step_of uses returns insn) (seen names s) ≡ Some t → t ≡ seen names (left_by insn s)
+pub left_is : (names : Names) (g : Ground) (uses : List Use) (returns : Option FieldType) (insn : Insn) (s : State) (t : TypeState)
+    → IsWellFormed insn → flow_of insn ≡ flows.Branches ⊎ flow_of insn ≡ flows.Switches
+    → apply g (step_of uses returns insn) (type_state names s) ≡ Some t → t ≡ type_state names (left_by insn s)
 unfolding forms_at table
 left_is names g uses returns (insns.Jump op to) s t good (inl e) h =
     let k = test_takes op (test_op op to good e) in
-    taken names g k.wanted (operands_by op) s t k.count (ap (λ fs. apply g (moves fs) (seen names s)) (sym k.forms_are) ∙ h)
+    taken names g k.wanted (operands_by op) s t k.count (ap (λ fs. apply g (moves fs) (type_state names s)) (sym k.forms_are) ∙ h)
 left_is names g uses returns (insns.Jump op to) s t good (inr e) h = absurd (no_switch (nat_eq op 167) e)
   where
-    no_switch : (b : Bool) → cond b flows.Jumps flows.Tests ≡ flows.Switches → ⊥
+    no_switch : (b : Bool) → cond b flows.Jumps flows.Branches ≡ flows.Switches → ⊥
     no_switch true e = cc
     no_switch false e = cc
 left_is names g uses returns (insns.Table low default arms) s t good e h = taken names g (wants.Int ∷ []) 1 s t refl h
@@ -171,13 +171,13 @@ left_is names g uses returns (insns.Lookup default arms) s t good e h = taken na
 left_is names g uses returns (insns.Simple op) s t good e h = absurd (no_simple e)
   where
     by : (a b : Bool)
-        → cond a flows.Returns (cond b flows.Throws flows.GoesOn) ≡ flows.Tests ⊎ cond a flows.Returns (cond b flows.Throws flows.GoesOn) ≡ flows.Switches
+        → cond a flows.Returns (cond b flows.Throws flows.GoesOn) ≡ flows.Branches ⊎ cond a flows.Returns (cond b flows.Throws flows.GoesOn) ≡ flows.Switches
         → ⊥
     by true b e = ⊎_elim (λ x. cc) (λ x. cc) e
     by false true e = ⊎_elim (λ x. cc) (λ x. cc) e
     by false false e = ⊎_elim (λ x. cc) (λ x. cc) e
 
-    no_simple : flow_of (insns.Simple op) ≡ flows.Tests ⊎ flow_of (insns.Simple op) ≡ flows.Switches → ⊥
+    no_simple : flow_of (insns.Simple op) ≡ flows.Branches ⊎ flow_of (insns.Simple op) ≡ flows.Switches → ⊥
     no_simple e = by (nat_le 172 op && nat_le op 177) (nat_eq op 191) e
 left_is names g uses returns (insns.Push op value) s t good e h = absurd (⊎_elim (λ x. cc) (λ x. cc) e)
 left_is names g uses returns (insns.Local op slot) s t good e h = absurd (⊎_elim (λ x. cc) (λ x. cc) e)

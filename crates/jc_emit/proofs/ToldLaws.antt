@@ -13,13 +13,13 @@ use Rattle.jc_plan.specs.declared.branch.Branch.{Branch}
 use Rattle.jc_plan.specs.Probed.{probe_of}
 use Rattle.jc_plan.specs.Plan.{lead_probe}
 use Rattle.jc_emit.specs.Sizes.{insn_at, early_probe, late_probe, arms_at, hop_size, wide_by, wide_size}
-use Rattle.jc_emit.specs.Marks.{Marks, Stands, IsProbe, iconst_1, bastore}
+use Rattle.jc_emit.specs.Marks.{Marks, HasInsn, IsProbe, iconst_1, bastore}
 use Rattle.jc_methods.specs.Widened.{goto, inverted}
 use Rattle.jc_emit.specs.TwinCode.{to_of, Prelude, Images, Places, Jumps, Switches, Lengths, HasTest, HasProbe, HasHop, HasArm, HasArms}
 use Rattle.jc_emit.specs.Items.{Item, marks_of_items, image, hop, insn_of, at_of, own_of, extra_of, probe, lead_part, early_part, hop_part, arm_parts, test_part, segment_size, lead_of, land_of, image_of, tests_part, image_part, twin_items, probe_array, probe_id, probe_one, probe_store, init_call, init_store}
 use Rattle.jc_emit.proofs.PiecesLaws.{HasAt, has_front, has_back}
-use Rattle.jc_emit.proofs.Images.{trues_counted}
-use Rattle.jc_emit.proofs.Built.{length-lead, length-early, length-hop, length-test, own_twin, segment_at, prelude_at}
+use Rattle.jc_emit.proofs.ImagesLaws.{trues_counted}
+use Rattle.jc_emit.proofs.BuiltLaws.{length-lead, length-early, length-hop, length-test, own_twin, segment_at, prelude_at}
 use Rattle.jc_methods.specs.declared.insn.Flow.TheVariants as flows
 
 mapped : {B : Type 0} (f : Item → B) (items : List Item) (q : ℕ) (x : Item) → slice_get items q ≡ Some x
@@ -27,7 +27,7 @@ mapped : {B : Type 0} (f : Item → B) (items : List Item) (q : ℕ) (x : Item) 
 mapped f items q x h = slice_get-map f items q ∙ ap (option_map f) h
 
 pub item_stands : (call v : ℕ) (items : List Item) (q : ℕ) (x : Item) → slice_get items q ≡ Some x
-    → Stands (map (insn_of call v) items) (marks_of_items items) q (insn_of call v x) (at_of x) (own_of x) (extra_of x)
+    → HasInsn (map (insn_of call v) items) (marks_of_items items) q (insn_of call v x) (at_of x) (own_of x) (extra_of x)
 item_stands call v items q x h = record {
   insn_is = mapped (insn_of call v) items q x h;
   at_is = mapped at_of items q x h;
@@ -57,7 +57,7 @@ module _ (b : Body) (first : ℕ) (wide : Bool) (call : ℕ) where
   abbrev old : ℕ → Insn
   old i = insn_at b.code i
 
-  stands : (q : ℕ) (x : Item) → slice_get items q ≡ Some x → Stands code m q (insn_of call b.arg_slots x) (at_of x) (own_of x) (extra_of x)
+  stands : (q : ℕ) (x : Item) → slice_get items q ≡ Some x → HasInsn code m q (insn_of call b.arg_slots x) (at_of x) (own_of x) (extra_of x)
   stands q x h = item_stands call b.arg_slots items q x h
 
   probe_stands : (q id at : ℕ) (late : Bool) → HasAt items q (probe id at late) → IsProbe code m b.arg_slots q id at
@@ -67,8 +67,8 @@ module _ (b : Body) (first : ℕ) (wide : Bool) (call : ℕ) where
       record {
         array = stands q (probe_array id at late) h.0;
         number = stands (q + 1) (probe_id id at late) h.1.0;
-        one = subst (λ k. Stands code m k iconst_1 at false 2) two (stands (q + 1 + 1) (probe_one id at late) h.1.1.0);
-        store = subst (λ k. Stands code m k bastore at false 3) three (stands (q + 1 + 1 + 1) (probe_store id at late) h.1.1.1.0);
+        one = subst (λ k. HasInsn code m k iconst_1 at false 2) two (stands (q + 1 + 1) (probe_one id at late) h.1.1.0);
+        store = subst (λ k. HasInsn code m k bastore at false 3) three (stands (q + 1 + 1 + 1) (probe_store id at late) h.1.1.1.0);
       }
 
   -- ---- the parts of what belongs to an instruction
@@ -103,23 +103,23 @@ module _ (b : Body) (first : ℕ) (wide : Bool) (call : ℕ) where
   test_stands true i insn on due h =
       (stands (image_at i) (image (inverted (image_at i + 2) insn) i None) h.0, stands (image_at i + 1) (hop (jump_target insn) on due) h.1.0)
 
-  pub plain_test : (i : ℕ) → i < length b.code → flow_of (old i) ≡ flows.Tests → late_probe b first i ≡ None
+  pub plain_test : (i : ℕ) → i < length b.code → flow_of (old i) ≡ flows.Branches → late_probe b first i ≡ None
       → HasAt items (image_at i) (test_part wide (image_at i) (with_places land (old i)) i (jump_target (old i)) None)
-  plain_test i lt e none = subst (λ o. HasAt items (image_at i) (tests_part b first wide i (old i) o)) none (main_by i flows.Tests lt e)
+  plain_test i lt e none = subst (λ o. HasAt items (image_at i) (tests_part b first wide i (old i) o)) none (main_by i flows.Branches lt e)
 
   abbrev inverse_part : ℕ → List Item
   inverse_part i = test_part wide (image_at i) (inverted (lead (i + 1)) (old i)) i (i + 1) (lead_probe b first (i + 1))
 
-  pub probed_test : (i id : ℕ) → i < length b.code → flow_of (old i) ≡ flows.Tests → late_probe b first i ≡ Some id
+  pub probed_test : (i id : ℕ) → i < length b.code → flow_of (old i) ≡ flows.Branches → late_probe b first i ≡ Some id
       → HasAt items (image_at i) (inverse_part i ++ hop_part land (Some id) (jump_target (old i)))
   probed_test i id lt e some =
-      subst (λ o. HasAt items (image_at i) (tests_part b first wide i (old i) o)) some (main_by i flows.Tests lt e)
+      subst (λ o. HasAt items (image_at i) (tests_part b first wide i (old i) o)) some (main_by i flows.Branches lt e)
 
-  pub hop_at : (i id : ℕ) → i < length b.code → flow_of (old i) ≡ flows.Tests → late_probe b first i ≡ Some id
+  pub hop_at : (i id : ℕ) → i < length b.code → flow_of (old i) ≡ flows.Branches → late_probe b first i ≡ Some id
       → HasAt items (image_at i + 1 + wide_size b wide i) (hop_part land (Some id) (jump_target (old i)))
   hop_at i id lt e some =
       let long = length-test wide (image_at i) (inverted (lead (i + 1)) (old i)) i (i + 1) (lead_probe b first (i + 1)) in
-      let same : wide_size b wide i ≡ wide_by flows.Tests wide = ap (λ f. wide_by f wide) e in
+      let same : wide_size b wide i ≡ wide_by flows.Branches wide = ap (λ f. wide_by f wide) e in
       let place : image_at i + length (inverse_part i) ≡ image_at i + 1 + wide_size b wide i = omega (arith, long, same) in
       subst (λ k. HasAt items k (hop_part land (Some id) (jump_target (old i)))) place
       (has_back items (image_at i) (inverse_part i) _ (probed_test i id lt e some))
@@ -130,7 +130,7 @@ module _ (b : Body) (first : ℕ) (wide : Bool) (call : ℕ) where
   hop_stands q id to h =
       let four : q + 1 + 1 + 1 + 1 ≡ q + 4 = omega arith in (
         probe_stands q id to true (has_front items q (probe id to true) (hop (land to) to None ∷ []) h),
-        subst (λ k. Stands code m k (goto (land to)) to false 0) four (stands (q + 1 + 1 + 1 + 1) (hop (land to) to None) h.1.1.1.1.0),
+        subst (λ k. HasInsn code m k (goto (land to)) to false 0) four (stands (q + 1 + 1 + 1 + 1) (hop (land to) to None) h.1.1.1.1.0),
       )
 
   -- ---- switches

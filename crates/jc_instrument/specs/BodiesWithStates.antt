@@ -1,7 +1,7 @@
 -- The bodies of a class with what their instrumented code is made of.
 use Rattle.std.specs.Prelude.{◌≡◌, ℕ, List, map, Some, slice_get}
 use Rattle.std.specs.List.{flat_map}
-use Rattle.jc_methods.specs.Held.{Names, SeenAt}
+use Rattle.jc_methods.specs.VerificationTypes.{Names, TypeStateAt}
 use Rattle.jc_methods.specs.declared.body.Body.{Body}
 use Rattle.jc_methods.specs.declared.emitted.Emitted.{Emitted}
 use Rattle.jc_methods.specs.declared.kind.State.{State}
@@ -13,30 +13,30 @@ use Rattle.jc_code.specs.TwinCode.{written_frames}
 use Rattle.jc_instrument.specs.Bodies.{AreBodies}
 
 -- a body, the states before its instructions, and its first id
-pub record Work : Type 0 where
+pub record BodyWithStates : Type 0 where
   pub body : Body
   pub states : List State
   pub first : ℕ
 
-abbrev pub bodies_of : List Work → List Body
+abbrev pub bodies_of : List BodyWithStates → List Body
 bodies_of works = map (λ w. w.body) works
 
 -- the states are those of the body with this number, and its first id counts the probed edges of the bodies in front of it
-pub record IsWork (names : Names) (bodies : List Body) (number : ℕ) (w : Work) : Type 0 where
+pub record IsBodyWithStates (names : Names) (bodies : List Body) (number : ℕ) (w : BodyWithStates) : Type 0 where
   pub first : w.first ≡ first_id bodies number
   pub states : AreStates names w.body w.states
 
 -- one for each body of the class, in their order; `array` is the number of the class of the probe array
-pub record AreWorks (names : Names) (array : ℕ) (c : ClassFile) (works : List Work) : Type 0 where
+pub record AreBodiesWithStates (names : Names) (array : ℕ) (c : ClassFile) (works : List BodyWithStates) : Type 0 where
   pub bodies : AreBodies names c (bodies_of works)
   pub array_is : IsArrayNumber names array
-  pub each : (i : ℕ) (w : Work) → slice_get works i ≡ Some w → IsWork names (bodies_of works) i w
+  pub each : (i : ℕ) (w : BodyWithStates) → slice_get works i ≡ Some w → IsBodyWithStates names (bodies_of works) i w
 
 -- ---- what is written of a body
 
-abbrev pub emitted_of : (array : ℕ) → Work → Emitted
+abbrev pub emitted_of : (array : ℕ) → BodyWithStates → Emitted
 emitted_of array w = emission w.body w.first w.states array
 
 -- the frames of the layouts of all bodies, in their order, with classes by their names
-abbrev pub all_frames : Names → (array : ℕ) → List Work → List SeenAt
+abbrev pub all_frames : Names → (array : ℕ) → List BodyWithStates → List TypeStateAt
 all_frames names array works = flat_map (λ w. written_frames names (emitted_of array w)) works

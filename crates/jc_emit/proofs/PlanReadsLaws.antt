@@ -16,7 +16,7 @@ use Rattle.jc_plan.specs.Plan.{plan_of, lead_probe, out_probe, out_probes}
 use Rattle.jc_plan.proofs.PlacesLaws.{length_mapped}
 use Rattle.jc_plan.proofs.PlanLaws.{lead_read, out_read}
 use Rattle.jc_emit.specs.Sizes.{insn_at, late_by, late_probe, arms_by, arms_at}
-use Rattle.jc_emit.proofs.Others.{tests_target}
+use Rattle.jc_emit.proofs.OthersLaws.{tests_target}
 
 pub length_map_from : {X Y : Type 0} (f : ℕ → X → Y) (k : ℕ) (xs : List X) → length (map_from f k xs) ≡ length xs
 length_map_from f k [] = refl
@@ -48,15 +48,15 @@ module _ (b : Body) (first i : ℕ) where
   outs_by flow e = ap (λ f. map (out_probe b first) (branches_by f i (targets_of old))) e
 
   -- a conditional jump has two branches
-  pub outs_test : flow_of old ≡ flows.Tests → out_probes b first i old ≡ None ∷ late_probe b first i ∷ []
+  pub outs_test : flow_of old ≡ flows.Branches → out_probes b first i old ≡ None ∷ late_probe b first i ∷ []
   outs_test e =
       let late : late_probe b first i ≡ probe_of b first (jump i (jump_target old)) = ap (late_by (probe_of b first) i old) e in
-      outs_by flows.Tests e
-      ∙ ap (λ ts. map (out_probe b first) (branches_by flows.Tests i ts)) (tests_target old e)
+      outs_by flows.Branches e
+      ∙ ap (λ ts. map (out_probe b first) (branches_by flows.Branches i ts)) (tests_target old e)
       ∙ ap (λ o. None ∷ o ∷ []) (sym late)
 
-  pub late_other : (flow : Flow) → flow_of old ≡ flow → (flow ≡ flows.Tests → ⊥) → late_probe b first i ≡ None
-  late_other flows.Tests e other = absurd (other refl)
+  pub late_other : (flow : Flow) → flow_of old ≡ flow → (flow ≡ flows.Branches → ⊥) → late_probe b first i ≡ None
+  late_other flows.Branches e other = absurd (other refl)
   late_other flows.GoesOn e other = ap (late_by (probe_of b first) i old) e
   late_other flows.Jumps e other = ap (late_by (probe_of b first) i old) e
   late_other flows.Switches e other = ap (late_by (probe_of b first) i old) e
@@ -77,7 +77,7 @@ module _ (b : Body) (first i : ℕ) where
   pub arms_other : (flow : Flow) → flow_of old ≡ flow → (flow ≡ flows.Switches → ⊥) → arms_at b.code i ≡ []
   arms_other flows.Switches e other = absurd (other refl)
   arms_other flows.GoesOn e other = ap (arms_by i old) e
-  arms_other flows.Tests e other = ap (arms_by i old) e
+  arms_other flows.Branches e other = ap (arms_by i old) e
   arms_other flows.Jumps e other = ap (arms_by i old) e
   arms_other flows.Returns e other = ap (arms_by i old) e
   arms_other flows.Throws e other = ap (arms_by i old) e

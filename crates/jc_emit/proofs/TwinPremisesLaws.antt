@@ -17,13 +17,13 @@ use Rattle.jc_methods.specs.declared.kind.State.{State}
 use Rattle.jc_methods.specs.declared.body.Body.{Body}
 use Rattle.jc_methods.specs.declared.body.FrameAt.{FrameAt}
 use Rattle.jc_methods.specs.declared.body.What.{What}
-use Rattle.jc_methods.specs.Held.{Names, Seen, seen, seen_at}
+use Rattle.jc_methods.specs.VerificationTypes.{Names, TypeState, type_state, type_state_at}
 use Rattle.jc_kinds.specs.States.{frames_of, frame_at}
 use Rattle.jc_kinds.specs.Checked.{Checked, HasFrame}
 use Rattle.jc_kinds.specs.Answers.{AreStates}
 use Rattle.jc_kinds.proofs.StateShiftLaws.{frame_is}
 use Rattle.jc_after.specs.Shift.{with_slot, shifted, IsImage, led, inverted, HasImages}
-use Rattle.jc_bytes.proofs.TestLaws.{which_in, none_in}
+use Rattle.jc_bytes.proofs.BooleanLaws.{which_in, none_in}
 use Rattle.jc_methods.specs.FrameOrder.{RiseFrom}
 use Rattle.jc_plan.specs.Probed.{probe_of}
 use Rattle.jc_plan.specs.Plan.{lead_probe}
@@ -35,14 +35,14 @@ use Rattle.jc_emit.specs.Twin.{Twin, IsSameMethod, probe_init, KeepsUses}
 use Rattle.jc_emit.specs.Straddling.{NoneStraddles}
 use Rattle.jc_emit.specs.Items.{Item, insn_of, image, segment_size, lead_of, land_of, image_of, test_part, image_part, twin_items}
 use Rattle.jc_emit.proofs.PiecesLaws.{HasAt}
-use Rattle.jc_emit.proofs.Built.{length_twin}
-use Rattle.jc_emit.proofs.Ends.{image_past}
+use Rattle.jc_emit.proofs.BuiltLaws.{length_twin}
+use Rattle.jc_emit.proofs.EndsLaws.{image_past}
 use Rattle.jc_emit.proofs.RowLaws.{total_grows}
-use Rattle.jc_emit.proofs.Told.{main_by, plain_test, probed_test}
-use Rattle.jc_emit.proofs.Known.{code_known, images_known, lands_known, leads_known}
+use Rattle.jc_emit.proofs.ToldLaws.{main_by, plain_test, probed_test}
+use Rattle.jc_emit.proofs.KnownLaws.{code_known, images_known, lands_known, leads_known}
 use Rattle.jc_emit.proofs.LocalLaws.{test_is}
 use Rattle.jc_emit.proofs.InverseLaws.{twice_inverse}
-use Rattle.jc_emit.proofs.TestForms.{test_op}
+use Rattle.jc_emit.proofs.ConditionalBranchLaws.{test_op}
 use Rattle.jc_methods.specs.declared.form.Form.TheVariants as forms
 use Rattle.jc_methods.specs.declared.insn.Insn.TheVariants as insns
 use Rattle.jc_methods.specs.declared.insn.Flow.TheVariants as flows
@@ -149,16 +149,16 @@ risen from (g ∷ frames) f r c =
     (which_in g frames f c)
 
 pub frame_found : (names : Names) (from : ℕ) (frames : List FrameAt) (f : FrameAt) → RiseFrom from frames → Contains frames f
-    → frame_at (map (seen_at names) frames) f.at ≡ Some (seen names f.state)
+    → frame_at (map (type_state_at names) frames) f.at ≡ Some (type_state names f.state)
 frame_found names from [] f r c = absurd (none_in f c)
 frame_found names from (g ∷ frames) f r c =
     by (λ later. frame_found names (g.at + 1) frames f r.1 later) (nat_eq g.at f.at) refl
   where
-    by : (Contains frames f → frame_at (map (seen_at names) frames) f.at ≡ Some (seen names f.state)) → (t : Bool) → nat_eq g.at f.at ≡ t
-        → (if t then Some (seen names g.state) else frame_at (map (seen_at names) frames) f.at) ≡ Some (seen names f.state)
+    by : (Contains frames f → frame_at (map (type_state_at names) frames) f.at ≡ Some (type_state names f.state)) → (t : Bool) → nat_eq g.at f.at ≡ t
+        → (if t then Some (type_state names g.state) else frame_at (map (type_state_at names) frames) f.at) ≡ Some (type_state names f.state)
     by more true is =
         let e = eqb-true g.at f.at is in
-        ⊎_elim (λ same. ap (λ (x : FrameAt). Some (seen names x.state)) same)
+        ⊎_elim (λ same. ap (λ (x : FrameAt). Some (type_state names x.state)) same)
         (λ later. let le = risen (g.at + 1) frames f r.1 later in absurd (omega (arith, e, le)))
         (which_in g frames f c)
     by more false is =
@@ -187,7 +187,7 @@ module _ (names new_names : Names) (states : List State) (first : ℕ) (wide : B
   old i = insn_at b.code i
 
   -- the shifted form of a state
-  abbrev pub moved : Seen → Seen
+  abbrev pub moved : TypeState → TypeState
   moved s = shifted (image_of b first wide) b.arg_slots s
 
   -- ---- instructions of the twin
@@ -236,30 +236,30 @@ module _ (names new_names : Names) (states : List State) (first : ℕ) (wide : B
       → Image i (old i)
   same_image i early h at = (old i, stands (q_of i) _ at, led (λ x. x) (sym (with_same (with_slot v (old i)) ∙ no_locals v (old i) h)))
 
-  no_test : flows.Tests ≡ flows.GoesOn → ⊥
+  no_test : flows.Branches ≡ flows.GoesOn → ⊥
   no_test e = cc
 
   -- a conditional jump, by its opcode and its target
-  test_good : (i : ℕ) → i < length b.code → (e : flow_of (old i) ≡ flows.Tests)
-      → (form_of (test_is (old i) e).op ≡ forms.Jump) × (flow_of (insns.Jump (test_is (old i) e).op (test_is (old i) e).to) ≡ flows.Tests)
+  test_good : (i : ℕ) → i < length b.code → (e : flow_of (old i) ≡ flows.Branches)
+      → (form_of (test_is (old i) e).op ≡ forms.Jump) × (flow_of (insns.Jump (test_is (old i) e).op (test_is (old i) e).to) ≡ flows.Branches)
   test_good i lt e =
       let j = test_is (old i) e in
-      (subst IsWellFormed j.is (p.well.code.well_formed i (insns.Simple 0) lt), subst (λ x. flow_of x ≡ flows.Tests) j.is e)
+      (subst IsWellFormed j.is (p.well.code.well_formed i (insns.Simple 0) lt), subst (λ x. flow_of x ≡ flows.Branches) j.is e)
 
-  inverse_image : (i : ℕ) → i < length b.code → flow_of (old i) ≡ flows.Tests → (new : Insn) (to : ℕ)
+  inverse_image : (i : ℕ) → i < length b.code → flow_of (old i) ≡ flows.Branches → (new : Insn) (to : ℕ)
       → slice_get items (q_of i) ≡ Some (image new i None)
       → ((op place : ℕ) → old i ≡ insns.Jump op place → new ≡ insns.Jump (inverse_of op) to) → Image i (old i)
   inverse_image i lt e new to at is =
       let j = test_is (old i) e in let good = test_good i lt e in
       (new, stands (q_of i) _ at, inverted j.op j.to to j.is (test_op j.op j.to good.0 good.1) (is j.op j.to j.is))
 
-  plain_by : (w : Bool) (i : ℕ) → i < length b.code → flow_of (old i) ≡ flows.Tests
+  plain_by : (w : Bool) (i : ℕ) → i < length b.code → flow_of (old i) ≡ flows.Branches
       → HasAt items (q_of i) (test_part w (q_of i) (with_places land (old i)) i (jump_target (old i)) None) → Image i (old i)
-  plain_by false i lt e h = plain_image i land None (goes_not (old i) flows.Tests e no_test) h.0
+  plain_by false i lt e h = plain_image i land None (goes_not (old i) flows.Branches e no_test) h.0
   plain_by true i lt e h =
       inverse_image i lt e (inverse_jump (q_of i + 2) (with_places land (old i))) (q_of i + 2) h.0 (λ op place is. ap (λ x. inverse_jump (q_of i + 2) (with_places land x)) is)
 
-  probed_by : (w : Bool) (i : ℕ) → i < length b.code → flow_of (old i) ≡ flows.Tests → (rest : List Item)
+  probed_by : (w : Bool) (i : ℕ) → i < length b.code → flow_of (old i) ≡ flows.Branches → (rest : List Item)
       → HasAt items (q_of i) (test_part w (q_of i) (inverse_jump (lead (i + 1)) (old i)) i (i + 1) (lead_probe b first (i + 1)) ++ rest)
       → Image i (old i)
   probed_by false i lt e rest h =
@@ -273,14 +273,14 @@ module _ (names new_names : Names) (states : List State) (first : ℕ) (wide : B
       ∙ sym (ap (λ x. with_places (λ (y : ℕ). q_of i + 2) (with_slot v x)) j.is) in
       (new, stands (q_of i) _ h.0, led (λ (x : ℕ). q_of i + 2) back)
 
-  test_image : (i : ℕ) → i < length b.code → flow_of (old i) ≡ flows.Tests → (o : Option ℕ) → late_probe b first i ≡ o → Image i (old i)
+  test_image : (i : ℕ) → i < length b.code → flow_of (old i) ≡ flows.Branches → (o : Option ℕ) → late_probe b first i ≡ o → Image i (old i)
   test_image i lt e None none = plain_by wide i lt e (plain_test b first wide call i lt e none)
   test_image i lt e (Some id) some = probed_by wide i lt e _ (probed_test b first wide call i id lt e some)
 
   image_is : (i : ℕ) → i < length b.code → (flow : Flow) → flow_of (old i) ≡ flow
       → HasAt items (q_of i) (image_part b first wide i (old i) flow) → Image i (old i)
   image_is i lt flows.GoesOn e h = (with_slot v (old i), stands (q_of i) _ h.0, led (λ x. x) (sym (with_same (with_slot v (old i)))))
-  image_is i lt flows.Tests e h = test_image i lt e (late_probe b first i) refl
+  image_is i lt flows.Branches e h = test_image i lt e (late_probe b first i) refl
   image_is i lt flows.Jumps e h = plain_image i land (early_probe b first i) (goes_not (old i) flows.Jumps e (λ x. cc)) h.0
   image_is i lt flows.Switches e h =
       plain_image i (arm_place (probe_of b first) land (q_of i + 1) (arms_at b.code i)) None (goes_not (old i) flows.Switches e (λ x. cc)) h.0
@@ -325,17 +325,17 @@ module _ (names new_names : Names) (states : List State) (first : ℕ) (wide : B
   abbrev pub Asked : ℕ → State → Type 0
   Asked q s = IsFrame b first states (image_of b first wide) (land_of b first wide) (lead_of b first wide) wide q s
 
-  pub asked_frame : (q : ℕ) (s : State) → Asked q s → frame_at (frames_of new_names b') q ≡ Some (moved (seen names s))
+  pub asked_frame : (q : ℕ) (s : State) → Asked q s → frame_at (frames_of new_names b') q ≡ Some (moved (type_state names s))
   asked_frame q s a =
       let f = p.frames.every q s a in
-      subst (λ k. frame_at (frames_of new_names b') k ≡ Some (moved (seen names s))) f.2
+      subst (λ k. frame_at (frames_of new_names b') k ≡ Some (moved (type_state names s))) f.2
       (frame_found new_names 0 b'.frames f.0 p.frames.rising f.1 ∙ ap Some f.3)
 
   pub asked_has : (q : ℕ) (s : State) → Asked q s → HasFrame b' q
   asked_has q s a = let f = p.frames.every q s a in (f.0, f.1, f.2)
 
-  pub frame_asked : (q : ℕ) (t : Seen) → frame_at (frames_of new_names b') q ≡ Some t
-      → (s : State) × Asked q s × (t ≡ moved (seen names s))
+  pub frame_asked : (q : ℕ) (t : TypeState) → frame_at (frames_of new_names b') q ≡ Some t
+      → (s : State) × Asked q s × (t ≡ moved (type_state names s))
   frame_asked q t e =
       let f = frame_is new_names b'.frames q t e in
       let g = p.frames.each f.0 f.1 in

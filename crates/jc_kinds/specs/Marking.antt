@@ -1,4 +1,4 @@
--- Marks at instructions that need a frame.
+-- MarksWhere at instructions that need a frame.
 use Rattle.std.specs.Prelude.{◌≡◌, ℕ, ◌<◌, Bool, false, ◌||◌, List, length, nat_eq, slice_index_or}
 use Rattle.std.specs.List.{list_any}
 use Rattle.jc_methods.specs.declared.insn.Insn.{Insn}
@@ -11,7 +11,7 @@ abbrev pub is_marked : List Bool → ℕ → Bool
 is_marked marks j = slice_index_or marks j false
 
 -- the places that pass the test are marked beside those that were
-pub record Marks (old new : List Bool) (test : ℕ → Bool) : Type 0 where
+pub record MarksWhere (old new : List Bool) (test : ℕ → Bool) : Type 0 where
   pub size : length new ≡ length old
   pub each : (j : ℕ) → j < length old → is_marked new j ≡ (is_marked old j || test j)
 

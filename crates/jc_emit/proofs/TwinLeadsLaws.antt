@@ -9,7 +9,7 @@ use Rattle.jc_methods.specs.declared.insn.Flow.{Flow}
 use Rattle.jc_methods.specs.declared.kind.State.{State}
 use Rattle.jc_methods.specs.declared.body.Body.{Body}
 use Rattle.jc_methods.specs.declared.body.FrameAt.{FrameAt}
-use Rattle.jc_methods.specs.Held.{Names, Seen, seen, slots}
+use Rattle.jc_methods.specs.VerificationTypes.{Names, TypeState, type_state, slots}
 use Rattle.jc_methods.specs.EntryState.{entry_of}
 use Rattle.jc_after.specs.After.{after_of}
 use Rattle.jc_kinds.specs.States.{frames_of, frame_at, state_of, after_at}
@@ -27,12 +27,12 @@ use Rattle.jc_emit.specs.Marks.{astore}
 use Rattle.jc_emit.specs.TwinFrames.{state_at, state_behind, IsFrame}
 use Rattle.jc_emit.specs.Items.{Item, init_store, image, probe_store, insn_of, test_part, lead_part, early_part, lead_of, land_of, image_of, twin_items}
 use Rattle.jc_emit.proofs.PiecesLaws.{HasAt}
-use Rattle.jc_emit.proofs.Built.{size_is, prelude_at}
-use Rattle.jc_emit.proofs.Told.{lead_at, early_at, main_at, main_by, plain_test}
+use Rattle.jc_emit.proofs.BuiltLaws.{size_is, prelude_at}
+use Rattle.jc_emit.proofs.ToldLaws.{lead_at, early_at, main_at, main_by, plain_test}
 use Rattle.jc_emit.proofs.LocalLaws.{test_is, early_image}
-use Rattle.jc_emit.proofs.TwinPremises.{Premises, stands, asked_frame, frame_asked, old_at}
-use Rattle.jc_emit.proofs.TwinPlaces.{state_b, no_frame, narrow, behind, tests_size, asked_front}
-use Rattle.jc_emit.proofs.TwinStates.{first_state, with_one, state_fits_same, fit_length, frame_state_is, next_state, there_fit, after_b, A, after_at_b, image_after, S_low, A_low, S_long, next_is, probe_runs, after_1, state_1, E_array}
+use Rattle.jc_emit.proofs.TwinPremisesLaws.{Premises, stands, asked_frame, frame_asked, old_at}
+use Rattle.jc_emit.proofs.TwinPlacesLaws.{state_b, no_frame, narrow, behind, tests_size, asked_front}
+use Rattle.jc_emit.proofs.TwinStatesLaws.{first_state, with_one, state_fits_same, fit_length, frame_state_is, next_state, there_fit, after_b, A, after_at_b, image_after, S_low, A_low, S_long, next_is, probe_runs, after_1, state_1, E_array}
 use Rattle.jc_methods.specs.declared.insn.Insn.TheVariants as insns
 use Rattle.jc_methods.specs.declared.insn.Flow.TheVariants as flows
 use Rattle.jc_emit.specs.Sizes as sizes
@@ -56,9 +56,9 @@ slot_flow v (insns.Jump op to) e = e
 slot_flow v (insns.Table low default arms) e = e
 slot_flow v (insns.Lookup default arms) e = e
 
-pub placed_flow : (insn : Insn) (f : ℕ → ℕ) → flow_of insn ≡ flows.Tests → flow_of (with_places f insn) ≡ flows.Tests
+pub placed_flow : (insn : Insn) (f : ℕ → ℕ) → flow_of insn ≡ flows.Branches → flow_of (with_places f insn) ≡ flows.Branches
 placed_flow insn f e =
-    let j = test_is insn e in subst (λ x. flow_of (with_places f x) ≡ flows.Tests) (sym j.is) (subst (λ x. flow_of x ≡ flows.Tests) j.is e)
+    let j = test_is insn e in subst (λ x. flow_of (with_places f x) ≡ flows.Branches) (sym j.is) (subst (λ x. flow_of x ≡ flows.Branches) j.is e)
 
 module _ (names new_names : Names) (states : List State) (first : ℕ) (wide : Bool) (call : ℕ) (b b' : Body) (p : Premises names new_names states first wide call b b') where
   abbrev v : ℕ
@@ -79,19 +79,19 @@ module _ (names new_names : Names) (states : List State) (first : ℕ) (wide : B
   abbrev old : ℕ → Insn
   old i = sizes.insn_at b.code i
 
-  abbrev moved : Seen → Seen
+  abbrev moved : TypeState → TypeState
   moved s = shifted (image_of b first wide) b.arg_slots s
 
-  abbrev S : ℕ → Seen
-  S i = seen names (state_at states i)
+  abbrev S : ℕ → TypeState
+  S i = type_state names (state_at states i)
 
-  abbrev N : ℕ → Option Seen
+  abbrev N : ℕ → Option TypeState
   N q = state_of new_names b' q
 
-  abbrev F : ℕ → Option Seen
+  abbrev F : ℕ → Option TypeState
   F q = frame_at (frames_of new_names b') q
 
-  abbrev After : (i : ℕ) → i < length b.code → Seen
+  abbrev After : (i : ℕ) → i < length b.code → TypeState
   After i lt = A names new_names states first wide call b b' p i lt
 
   abbrev Asked : ℕ → State → Type 0
@@ -135,7 +135,7 @@ module _ (names new_names : Names) (states : List State) (first : ℕ) (wide : B
   no_old : (i : ℕ) → F (land i) ≡ None → frame_at (frames_of names b) i ≡ None
   no_old i none = by (frame_at (frames_of names b) i) refl
     where
-      by : (o : Option Seen) → frame_at (frames_of names b) i ≡ o → o ≡ None
+      by : (o : Option TypeState) → frame_at (frames_of names b) i ≡ o → o ≡ None
       by None e = refl
       by (Some t) e =
           let f = frame_is names b.frames i t e in
@@ -143,7 +143,7 @@ module _ (names new_names : Names) (states : List State) (first : ℕ) (wide : B
           absurd (none-some _ (sym none ∙ asked_frame names new_names states first wide call b b' p (land i) a.0 a.1))
 
   -- a frame in front of an image has the state before the instruction
-  frame_front : (i q : ℕ) (t : Seen) → lead i ≤ q → q ≤ q_of i → F q ≡ Some t → t ≡ moved (S i)
+  frame_front : (i q : ℕ) (t : TypeState) → lead i ≤ q → q ≤ q_of i → F q ≡ Some t → t ≡ moved (S i)
   frame_front i q t low high e =
       let a = frame_asked names new_names states first wide call b b' p q t e in
       a.2 ∙ ap moved (asked_front names new_names states first wide call b b' p i q a.0 low high a.1)
@@ -151,7 +151,7 @@ module _ (names new_names : Names) (states : List State) (first : ℕ) (wide : B
   -- ---- where fall-throughs lead
 
   pub record Led (j : ℕ) : Type 0 where
-    pub before : Seen
+    pub before : TypeState
     pub state_is : N (lead j) ≡ Some (moved before)
     pub fits : FitState before (S j)
     pub low : slots before.stack ≤ b.max_stack
@@ -182,13 +182,13 @@ module _ (names new_names : Names) (states : List State) (first : ℕ) (wide : B
   pub led_by_frame : (j : ℕ) (s : State) → j < length b.code → Asked (lead j) s → Led j
   led_by_frame j s lt a =
       led_by_state j lt
-      (frame_state_is new_names b' (lead j) (moved (seen names s)) (asked_frame names new_names states first wide call b b' p (lead j) s a)
+      (frame_state_is new_names b' (lead j) (moved (type_state names s)) (asked_frame names new_names states first wide call b b' p (lead j) s a)
       ∙ ap (λ t. Some (moved t)) (asked_front names new_names states first wide call b b' p j (lead j) s (omega arith) (omega arith) a))
 
   -- by falling
   led_by_fall : (i q : ℕ) (x : Item) (lt : i < length b.code) → suc i < length b.code → FallsThrough (old i) → slice_get items q ≡ Some x
       → FallsThrough (insn_of call v x) → suc q ≡ lead (suc i)
-      → (s : Seen) → N q ≡ Some s → after_of b' q s ≡ Some (moved (After i lt)) → Led (suc i)
+      → (s : TypeState) → N q ≡ Some s → after_of b' q s ≡ Some (moved (After i lt)) → Led (suc i)
   led_by_fall i q x lt within falls here item_falls place s before after = by (F (lead (suc i))) refl
     where
       next : frame_at (frames_of names b) (suc i) ≡ None → After i lt ≡ S (suc i)
@@ -197,7 +197,7 @@ module _ (names new_names : Names) (states : List State) (first : ℕ) (wide : B
           (sym (next_state names b i (old i) (S i) (After i lt) none (old_at names new_names states first wide call b b' p i lt) falls (state_of_b i lt) (after_b names new_names states first wide call b b' p i lt).1)
           ∙ state_of_b (suc i) within)
 
-      by : (o : Option Seen) → F (lead (suc i)) ≡ o → Led (suc i)
+      by : (o : Option TypeState) → F (lead (suc i)) ≡ o → Led (suc i)
       by (Some t) e =
           led_by_state (suc i) within
           (frame_state_is new_names b' (lead (suc i)) t e ∙ ap Some (frame_front (suc i) (lead (suc i)) t (omega arith) (omega arith) e))
@@ -226,7 +226,7 @@ module _ (names new_names : Names) (states : List State) (first : ℕ) (wide : B
       → N (land i) ≡ Some (moved (S i))
   landed_by i lt l carried = by (F (land i)) refl
     where
-      by : (o : Option Seen) → F (land i) ≡ o → N (land i) ≡ Some (moved (S i))
+      by : (o : Option TypeState) → F (land i) ≡ o → N (land i) ≡ Some (moved (S i))
       by (Some t) e = frame_state_is new_names b' (land i) t e ∙ ap Some (frame_front i (land i) t (omega arith) (omega arith) e)
       by None e = carried e ∙ ap (λ t. Some (moved t)) (l.same (no_old i e))
 
@@ -280,7 +280,7 @@ module _ (names new_names : Names) (states : List State) (first : ℕ) (wide : B
 
   no_goes : (insn : Insn) (flow : Flow) → flow_of insn ≡ flow → (FallsThrough insn → ⊥) → goes_on flow ≡ false
   no_goes insn flows.GoesOn e stops = absurd (stops (inl e))
-  no_goes insn flows.Tests e stops = absurd (stops (inr e))
+  no_goes insn flows.Branches e stops = absurd (stops (inr e))
   no_goes insn flows.Jumps e stops = refl
   no_goes insn flows.Switches e stops = refl
   no_goes insn flows.Returns e stops = refl
@@ -308,7 +308,7 @@ module _ (names new_names : Names) (states : List State) (first : ℕ) (wide : B
       (narrow names new_names states first wide call b b' p (lead (i + 1)) (state_at states (i + 1)) (inr (inl (record { test = i; id = id; within = lt; probed = some; place = refl; state_is = refl }))))
 
   -- behind a conditional jump of the wide layout
-  pub wide_frame : (i : ℕ) → i < length b.code → flow_of (old i) ≡ flows.Tests → wide ≡ true
+  pub wide_frame : (i : ℕ) → i < length b.code → flow_of (old i) ≡ flows.Branches → wide ≡ true
       → Asked (q_of i + 2) (state_behind b states i (late_probe b first i))
   wide_frame i lt e w =
       behind names new_names states first wide call b b' p (q_of i + 2) (state_behind b states i (late_probe b first i)) w (record { test = i; within = lt; tests = e; place = refl; state_is = refl })
@@ -322,23 +322,23 @@ module _ (names new_names : Names) (states : List State) (first : ℕ) (wide : B
       stopped : (FallsThrough (old i) → ⊥) → Led (suc i)
       stopped stops = let a = stopped_frame i lt within stops in led_by_frame (suc i) a.0 within a.1
 
-      never : (flow : Flow) → flow_of (old i) ≡ flow → (flow ≡ flows.GoesOn → ⊥) → (flow ≡ flows.Tests → ⊥) → FallsThrough (old i) → ⊥
+      never : (flow : Flow) → flow_of (old i) ≡ flow → (flow ≡ flows.GoesOn → ⊥) → (flow ≡ flows.Branches → ⊥) → FallsThrough (old i) → ⊥
       never flow e f g h = ⊎_elim (λ x. f (sym e ∙ x)) (λ x. g (sym e ∙ x)) h
 
-      plain : (w : Bool) → wide ≡ w → flow_of (old i) ≡ flows.Tests → late_probe b first i ≡ None
+      plain : (w : Bool) → wide ≡ w → flow_of (old i) ≡ flows.Branches → late_probe b first i ≡ None
           → HasAt items (q_of i) (test_part w (q_of i) (with_places land (old i)) i (jump_target (old i)) None) → Led (suc i)
       plain false w e none h =
           let size = tests_size names new_names states first wide call b b' p i None e none in
-          let one = ap (wide_by flows.Tests) w in
+          let one = ap (wide_by flows.Branches) w in
           let place : suc (q_of i) ≡ lead (suc i) = omega (arith, size, one) in
           led_by_fall i (q_of i) (image (with_places land (old i)) i None) lt within (inr e) h.0 (inr (placed_flow (old i) land e)) place (moved (S i)) there on
       plain true w e none h =
           let size = tests_size names new_names states first wide call b b' p i None e none in
-          let one = ap (wide_by flows.Tests) w in
+          let one = ap (wide_by flows.Branches) w in
           let place : q_of i + 2 ≡ lead (suc i) = omega (arith, size, one) in
           led_by_frame (suc i) (state_behind b states i (late_probe b first i)) within (subst (λ k. Asked k (state_behind b states i (late_probe b first i))) place (wide_frame i lt e w))
 
-      tests : (o : Option ℕ) → late_probe b first i ≡ o → flow_of (old i) ≡ flows.Tests → Led (suc i)
+      tests : (o : Option ℕ) → late_probe b first i ≡ o → flow_of (old i) ≡ flows.Branches → Led (suc i)
       tests None none e = plain wide refl e none (plain_test b first wide call i lt e none)
       tests (Some id) some e = led_by_frame (suc i) (state_at states (suc i)) within (inverse_frame i id lt some)
 
@@ -348,7 +348,7 @@ module _ (names new_names : Names) (states : List State) (first : ℕ) (wide : B
           let size = size_is b first wide i flows.GoesOn e in
           let place : suc (q_of i) ≡ lead (suc i) = omega (arith, size) in
           led_by_fall i (q_of i) (image (with_slot v (old i)) i None) lt within (inl e) h.0 (inl (slot_flow v (old i) e)) place (moved (S i)) there on
-      by flows.Tests e = tests (late_probe b first i) refl e
+      by flows.Branches e = tests (late_probe b first i) refl e
       by flows.Jumps e = stopped (never flows.Jumps e (λ x. cc) (λ x. cc))
       by flows.Switches e = stopped (never flows.Switches e (λ x. cc) (λ x. cc))
       by flows.Returns e = stopped (never flows.Returns e (λ x. cc) (λ x. cc))
@@ -365,7 +365,7 @@ module _ (names new_names : Names) (states : List State) (first : ℕ) (wide : B
       some : 0 < length b.code
       some = let s = p.well.code.some in omega (arith, s)
 
-      by : (o : Option Seen) → F (lead 0) ≡ o → Led 0
+      by : (o : Option TypeState) → F (lead 0) ≡ o → Led 0
       by (Some t) e =
           led_by_state 0 some (frame_state_is new_names b' (lead 0) t e ∙ ap Some (frame_front 0 (lead 0) t (omega arith) (omega arith) e))
       by None e = record {

@@ -14,14 +14,14 @@ use Rattle.jc_plan.specs.declared.branch.Branch.{Branch}
 use Rattle.jc_plan.specs.Probed.{probe_of}
 use Rattle.jc_plan.specs.Plan.{lead_probe}
 use Rattle.jc_emit.specs.Sizes.{insn_at, early_probe, late_probe, arms_at, probe_size, hop_size, wide_by, wide_size}
-use Rattle.jc_emit.specs.Marks.{Marks, Stands, IsProbe, iconst_1, bastore, image_place, land_place, lead_place}
+use Rattle.jc_emit.specs.Marks.{Marks, HasInsn, IsProbe, iconst_1, bastore, image_place, land_place, lead_place}
 use Rattle.jc_methods.specs.Widened.{goto, inverted}
 use Rattle.jc_emit.specs.TwinCode.{to_of, Sentences, IsTwinCode, HasTest, HasArm, HasArms}
 use Rattle.jc_emit.specs.Items.{marks_of_items, Item, hop, insn_of, at_of, own_of, extra_of, prelude, probe, lead_part, early_part, hop_part, arm_parts, test_part, segment_size, lead_of, land_of, image_of, tests_part, image_part, segment, twin_items}
 use Rattle.jc_emit.proofs.PiecesLaws.{HasAt, Each, each_append, each_piece, has_whole}
-use Rattle.jc_emit.proofs.Images.{trues, trues_counted, image_behind}
-use Rattle.jc_emit.proofs.Built.{length-lead, length-early, length-hop, length-test, length_twin, sized}
-use Rattle.jc_emit.proofs.Ends.{image_past}
+use Rattle.jc_emit.proofs.ImagesLaws.{trues, trues_counted, image_behind}
+use Rattle.jc_emit.proofs.BuiltLaws.{length-lead, length-early, length-hop, length-test, length_twin, sized}
+use Rattle.jc_emit.proofs.EndsLaws.{image_past}
 use Rattle.jc_methods.specs.declared.insn.Flow.TheVariants as flows
 
 -- what is left of a number that something was taken off
@@ -136,13 +136,13 @@ module _ (b : Body) (first : ℕ) (wide : Bool) (call : ℕ) (code : List Insn) 
 
   -- the item stands at the place
   abbrev Here : ℕ → Item → Type 0
-  Here q x = Stands code m q (insn_of call b.arg_slots x) (at_of x) (own_of x) (extra_of x)
+  Here q x = HasInsn code m q (insn_of call b.arg_slots x) (at_of x) (own_of x) (extra_of x)
 
   probe_here : (q id at : ℕ) (late : Bool) → IsProbe code m b.arg_slots q id at → Each Here q (probe id at late)
   probe_here q id at late p =
       let two : q + 2 ≡ q + 1 + 1 = omega arith in
       let three : q + 3 ≡ q + 1 + 1 + 1 = omega arith in
-      (p.array, (p.number, (subst (λ k. Stands code m k iconst_1 at false 2) two p.one, (subst (λ k. Stands code m k bastore at false 3) three p.store, tt))))
+      (p.array, (p.number, (subst (λ k. HasInsn code m k iconst_1 at false 2) two p.one, (subst (λ k. HasInsn code m k bastore at false 3) three p.store, tt))))
 
   lead_part_here : (q i : ℕ) (o : Option ℕ) → ((id : ℕ) → o ≡ Some id → IsProbe code m b.arg_slots q id i) → Each Here q (lead_part o i)
   lead_part_here q i None h = tt
@@ -152,7 +152,7 @@ module _ (b : Body) (first : ℕ) (wide : Bool) (call : ℕ) (code : List Insn) 
   early_part_here q i None h = tt
   early_part_here q i (Some id) h = probe_here q id i false (h id refl)
 
-  hop_here : (q id to : ℕ) → IsProbe code m b.arg_slots q id to → Stands code m (q + 4) (goto (land to)) to false 0
+  hop_here : (q id to : ℕ) → IsProbe code m b.arg_slots q id to → HasInsn code m (q + 4) (goto (land to)) to false 0
       → Each Here q (hop_part land (Some id) to)
   hop_here q id to p h =
       let four : q + 4 ≡ q + 4 = refl in
@@ -175,13 +175,13 @@ module _ (b : Body) (first : ℕ) (wide : Bool) (call : ℕ) (code : List Insn) 
   test_here false i insn on due h = (h, tt)
   test_here true i insn on due h = (h.0, (h.1, tt))
 
-  tests_here : (i : ℕ) → i < n → flow_of (old i) ≡ flows.Tests → (o : Option ℕ) → late_probe b first i ≡ o
+  tests_here : (i : ℕ) → i < n → flow_of (old i) ≡ flows.Branches → (o : Option ℕ) → late_probe b first i ≡ o
       → Each Here (image_at i) (tests_part b first wide i (old i) o)
   tests_here i lt e None none = test_here wide i (with_places land (old i)) (jump_target (old i)) None (known.jumps.tests i (lt, e) none)
   tests_here i lt e (Some id) some =
       let part = test_part wide (image_at i) (inverted (lead (i + 1)) (old i)) i (i + 1) (lead_probe b first (i + 1)) in
       let long = length-test wide (image_at i) (inverted (lead (i + 1)) (old i)) i (i + 1) (lead_probe b first (i + 1)) in
-      let same : wide_size b wide i ≡ wide_by flows.Tests wide = ap (λ f. wide_by f wide) e in
+      let same : wide_size b wide i ≡ wide_by flows.Branches wide = ap (λ f. wide_by f wide) e in
       let place : image_at i + 1 + wide_size b wide i ≡ image_at i + length part = omega (arith, long, same) in
       each_append Here (image_at i) part (hop_part land (Some id) (jump_target (old i)))
       (test_here wide i (inverted (lead (i + 1)) (old i)) (i + 1) (lead_probe b first (i + 1)) (known.jumps.inverses i id (lt, e) some))
@@ -190,7 +190,7 @@ module _ (b : Body) (first : ℕ) (wide : Bool) (call : ℕ) (code : List Insn) 
 
   main_here : (i : ℕ) (flow : Flow) → i < n → flow_of (old i) ≡ flow → Each Here (image_at i) (image_part b first wide i (old i) flow)
   main_here i flows.GoesOn lt e = (known.images.plain i (lt, e), tt)
-  main_here i flows.Tests lt e = tests_here i lt e (late_probe b first i) refl
+  main_here i flows.Branches lt e = tests_here i lt e (late_probe b first i) refl
   main_here i flows.Jumps lt e = (known.jumps.gotos i (lt, e), tt)
   main_here i flows.Switches lt e =
       (known.switches.images i (lt, e), arms_here (image_at i + 1) (arms_at b.code i) (known.switches.arms i (lt, e)))

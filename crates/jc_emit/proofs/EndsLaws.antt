@@ -16,14 +16,14 @@ use Rattle.jc_plan.proofs.ByBranchLaws.{last_parts}
 use Rattle.jc_emit.specs.Sizes.{insn_at, early_by, early_probe, late_by, arms_by, probe_size, hop_size, arm_sizes, wide_by}
 use Rattle.jc_emit.specs.Marks.{image_place, land_place, lead_place}
 use Rattle.jc_emit.specs.Items.{own_of, segment_size, lead_of, land_of, image_of, twin_items}
-use Rattle.jc_emit.proofs.Images.{image_behind}
-use Rattle.jc_emit.proofs.Built.{own_twin, length_twin, image_is}
+use Rattle.jc_emit.proofs.ImagesLaws.{image_behind}
+use Rattle.jc_emit.proofs.BuiltLaws.{own_twin, length_twin, image_is}
 use Rattle.jc_methods.specs.declared.insn.Insn.TheVariants as insns
 use Rattle.jc_methods.specs.declared.insn.Flow.TheVariants as flows
 
 no_sequence_by : (insn : Insn) (flow : Flow) → flow_of insn ≡ flow → (FallsThrough insn → ⊥) → goes_on flow ≡ false
 no_sequence_by insn flows.GoesOn e h = absurd (h (inl e))
-no_sequence_by insn flows.Tests e h = absurd (h (inr e))
+no_sequence_by insn flows.Branches e h = absurd (h (inr e))
 no_sequence_by insn flows.Jumps e h = refl
 no_sequence_by insn flows.Switches e h = refl
 no_sequence_by insn flows.Returns e h = refl

@@ -4,7 +4,7 @@ use Rattle.std.specs.List.{list_all}
 use Rattle.jc_methods.specs.declared.kind.State.{State}
 use Rattle.jc_methods.specs.declared.body.FrameAt.{FrameAt}
 use Rattle.jc_methods.specs.declared.body.Body.{Body}
-use Rattle.jc_methods.specs.Held.{Names, seen, IsNumberedState, Grows}
+use Rattle.jc_methods.specs.VerificationTypes.{Names, type_state, IsNumberedState, Grows}
 use Rattle.jc_methods.specs.EntryState.{entry_of}
 use Rattle.jc_methods.specs.WellMade.{IsState}
 use Rattle.jc_after.specs.After.{insn_at, after_of}
@@ -35,7 +35,7 @@ passes b i left = list_all (fits_frame b.frames left) (branches (insn_at b i) i)
 -- the state after an instruction, and that before the next one
 pub record IsStep (old new : Names) (b : Body) (i : ℕ) (s next : State) : Type 0 where
   pub left : State
-  pub after : after_of b i (seen old s) ≡ Some (seen new left)
+  pub after : after_of b i (type_state old s) ≡ Some (type_state new left)
   pub fits : passes b i left ≡ true
   pub next_is : next ≡ unwrap_or (frame_in b.frames (i + 1)) left
   pub numbered : IsNumberedState (length new) next
@@ -43,7 +43,7 @@ pub record IsStep (old new : Names) (b : Body) (i : ℕ) (s next : State) : Type
 
 -- the state after an instruction isn't there, or doesn't fit where one of its branches leads
 abbrev pub StopsAt : Names → Names → Body → ℕ → State → Type 0
-StopsAt old new b i s = (after_of b i (seen old s) ≡ None) ⊎ ((left : State) × (after_of b i (seen old s) ≡ Some (seen new left)) × (passes b i left ≡ false))
+StopsAt old new b i s = (after_of b i (type_state old s) ≡ None) ⊎ ((left : State) × (after_of b i (type_state old s) ≡ Some (type_state new left)) × (passes b i left ≡ false))
 
 abbrev pub Steps : Names → Names → Body → ℕ → State → Option State → Type 0
 Steps old new b i s None = StopsAt old new b i s
@@ -51,13 +51,13 @@ Steps old new b i s (Some next) = IsStep old new b i s next
 
 -- the state before an instruction under earlier names, kept under later ones
 pub record IsKeptAt (old new : Names) (b : Body) (i : ℕ) (s : State) : Type 0 where
-  pub is : state_of old b i ≡ Some (seen new s)
+  pub is : state_of old b i ≡ Some (type_state new s)
   pub numbered : IsNumberedState (length new) s
   pub well_made : IsState b.code b.max_locals b.max_stack s
 
 -- the state in which a method begins
 pub record IsKeptEntry (names : Names) (b : Body) (s : State) : Type 0 where
-  pub is : seen names s ≡ entry_of b
+  pub is : type_state names s ≡ entry_of b
   pub numbered : IsNumberedState (length names) s
   pub well_made : IsState b.code b.max_locals b.max_stack s
 

@@ -17,7 +17,7 @@ use Rattle.jc_methods.specs.Widened.{inverted}
 use Rattle.jc_emit.specs.TwinCode.{to_of}
 use Rattle.jc_emit.specs.Items.{Item, own_of, prelude, lead_part, early_part, hop_part, arm_parts, test_part, segment_size, lead_of, land_of, image_of, tests_part, image_part, segment, twin_items}
 use Rattle.jc_emit.proofs.PiecesLaws.{HasAt, has_piece, length-pieces}
-use Rattle.jc_emit.proofs.Images.{trues, trues-append, image_in_front, image_behind}
+use Rattle.jc_emit.proofs.ImagesLaws.{trues, trues-append, image_in_front, image_behind}
 use Rattle.jc_methods.specs.declared.insn.Flow.TheVariants as flows
 
 -- ---- sizes
@@ -40,7 +40,7 @@ length-arms land ids (x ∷ xs) =
     omega (arith, length-append (hop_part land (ids x) (to_of x)) (arm_parts land ids xs), length-hop land (ids x) (to_of x), length-arms land ids xs)
 
 pub length-test : (wide : Bool) (q : ℕ) (insn : Insn) (i on : ℕ) (due : Option ℕ)
-    → length (test_part wide q insn i on due) ≡ 1 + wide_by flows.Tests wide
+    → length (test_part wide q insn i on due) ≡ 1 + wide_by flows.Branches wide
 length-test false q insn i on due = refl
 length-test true q insn i on due = refl
 
@@ -90,7 +90,7 @@ module _ (b : Body) (first : ℕ) (wide : Bool) where
   pub size_is : (i : ℕ) (flow : Flow) → flow_of (old i) ≡ flow → behind i ≡ behind_by i flow
   size_is i flow e = ap (behind_by i) e
 
-  pub size_tests : (i : ℕ) → flow_of (old i) ≡ flows.Tests → behind i ≡ wide_by flows.Tests wide + hop_size (late_probe b first i) + 0
+  pub size_tests : (i : ℕ) → flow_of (old i) ≡ flows.Branches → behind i ≡ wide_by flows.Branches wide + hop_size (late_probe b first i) + 0
   size_tests i e = ap (λ f. wide_by f wide + hop_size (late_probe b first i) + arm_sizes (probe_of b first) (arms_by i (old i) f)) e
 
   pub size_switches : (i : ℕ) → flow_of (old i) ≡ flows.Switches → behind i ≡ 0 + 0 + arm_sizes (probe_of b first) (arms_at b.code i)
@@ -98,7 +98,7 @@ module _ (b : Body) (first : ℕ) (wide : Bool) where
       ap (λ f. wide_by f wide + hop_size (late_by (probe_of b first) i (old i) f) + arm_sizes (probe_of b first) (arms_at b.code i)) e
 
   length-tests : (i : ℕ) (insn : Insn) (o : Option ℕ)
-      → length (tests_part b first wide i insn o) ≡ 1 + (wide_by flows.Tests wide + hop_size o + 0)
+      → length (tests_part b first wide i insn o) ≡ 1 + (wide_by flows.Branches wide + hop_size o + 0)
   length-tests i insn None =
       omega (arith, length-test wide (image_of b first wide i) (with_places (land_of b first wide) insn) i (jump_target insn) None)
   length-tests i insn (Some id) =
@@ -109,7 +109,7 @@ module _ (b : Body) (first : ℕ) (wide : Bool) where
 
   length-main : (i : ℕ) (flow : Flow) → flow_of (old i) ≡ flow → length (main i flow) ≡ 1 + behind i
   length-main i flows.GoesOn e = ap (λ k. 1 + k) (sym (size_is i flows.GoesOn e))
-  length-main i flows.Tests e = length-tests i (old i) (late_probe b first i) ∙ ap (λ k. 1 + k) (sym (size_tests i e))
+  length-main i flows.Branches e = length-tests i (old i) (late_probe b first i) ∙ ap (λ k. 1 + k) (sym (size_tests i e))
   length-main i flows.Jumps e = ap (λ k. 1 + k) (sym (size_is i flows.Jumps e))
   length-main i flows.Switches e =
       let l = length-arms (land_of b first wide) (probe_of b first) (arms_at b.code i) in
@@ -145,7 +145,7 @@ module _ (b : Body) (first : ℕ) (wide : Bool) where
 
   own_main : (i : ℕ) (flow : Flow) → trues (map own_of (main i flow)) ≡ 1
   own_main i flows.GoesOn = refl
-  own_main i flows.Tests = own_tests i (old i) (late_probe b first i)
+  own_main i flows.Branches = own_tests i (old i) (late_probe b first i)
   own_main i flows.Jumps = refl
   own_main i flows.Switches = ap suc (plain_arms (land_of b first wide) (probe_of b first) (arms_at b.code i))
   own_main i flows.Returns = refl
@@ -177,7 +177,7 @@ module _ (b : Body) (first : ℕ) (wide : Bool) where
 
   first_main : (i : ℕ) (flow : Flow) → image_place (map own_of (main i flow)) 0 ≡ 0
   first_main i flows.GoesOn = refl
-  first_main i flows.Tests = first_tests i (old i) (late_probe b first i)
+  first_main i flows.Branches = first_tests i (old i) (late_probe b first i)
   first_main i flows.Jumps = refl
   first_main i flows.Switches = refl
   first_main i flows.Returns = refl

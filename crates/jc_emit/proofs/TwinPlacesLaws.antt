@@ -9,7 +9,7 @@ use Rattle.jc_methods.specs.declared.insn.Flow.{Flow}
 use Rattle.jc_methods.specs.declared.kind.State.{State}
 use Rattle.jc_methods.specs.declared.body.Body.{Body}
 use Rattle.jc_methods.specs.declared.body.FrameAt.{FrameAt}
-use Rattle.jc_methods.specs.Held.{Names, Seen, seen}
+use Rattle.jc_methods.specs.VerificationTypes.{Names, TypeState, type_state}
 use Rattle.jc_methods.specs.EntryState.{entry_of}
 use Rattle.jc_after.specs.After.{after_of}
 use Rattle.jc_kinds.specs.States.{frames_of, frame_at, falls_at, or_else, state_of}
@@ -22,14 +22,14 @@ use Rattle.jc_emit.specs.TwinCode.{to_of, arm_place}
 use Rattle.jc_emit.specs.TwinFrames.{no_state, state_at, state_behind, IsFrameBehind, IsNarrowFrame, IsFrame}
 use Rattle.jc_emit.specs.Items.{Item, lead_of, land_of, image_of, twin_items, extra_of}
 use Rattle.jc_emit.specs.Local.{Lands, IsBehind, early_of, IsNoHop}
-use Rattle.jc_emit.proofs.Built.{size_tests, size_switches}
-use Rattle.jc_emit.proofs.Others.{Arms, Agrees, agrees_first, agrees_rest, arms_by_list, none_some as none_id}
-use Rattle.jc_emit.proofs.Told.{main_by, hop_at}
+use Rattle.jc_emit.proofs.BuiltLaws.{size_tests, size_switches}
+use Rattle.jc_emit.proofs.OthersLaws.{Arms, Agrees, agrees_first, agrees_rest, arms_by_list, none_some as none_id}
+use Rattle.jc_emit.proofs.ToldLaws.{main_by, hop_at}
 use Rattle.jc_emit.proofs.StraddlingLaws.{frame_within}
 use Rattle.jc_emit.proofs.LocalLaws.{land_lands, lead_lands, late_lands, arms_land, next_within, listed_within}
-use Rattle.jc_emit.proofs.TwinPremises.{Premises, frame_found, frame_asked, leads_grow, frames_rise}
+use Rattle.jc_emit.proofs.TwinPremisesLaws.{Premises, frame_found, frame_asked, leads_grow, frames_rise}
 use Rattle.jc_methods.specs.declared.insn.Flow.TheVariants as flows
-use Rattle.jc_bytes.proofs.TestLaws.{none_in, which_in}
+use Rattle.jc_bytes.proofs.BooleanLaws.{none_in, which_in}
 use Rattle.jc_after.specs.After as after
 
 module _ (names new_names : Names) (states : List State) (first : ℕ) (wide : Bool) (call : ℕ) (b b' : Body) (p : Premises names new_names states first wide call b b') where
@@ -49,8 +49,8 @@ module _ (names new_names : Names) (states : List State) (first : ℕ) (wide : B
   old i = insn_at b.code i
 
   -- the state before an instruction of the body
-  abbrev pub S : ℕ → Seen
-  S i = seen names (state_at states i)
+  abbrev pub S : ℕ → TypeState
+  S i = type_state names (state_at states i)
 
   abbrev Asked : ℕ → State → Type 0
   Asked q s = IsFrame b first states (image_of b first wide) (land_of b first wide) (lead_of b first wide) wide q s
@@ -90,10 +90,10 @@ module _ (names new_names : Names) (states : List State) (first : ℕ) (wide : B
       let n = p.are.count in
       (p.are.each i (state_at states i) (slice_get-get_or states i no_state (omega (arith, n, lt)))).is
 
-  pub frame_old : (f : FrameAt) → Contains b.frames f → frame_at (frames_of names b) f.at ≡ Some (seen names f.state)
+  pub frame_old : (f : FrameAt) → Contains b.frames f → frame_at (frames_of names b) f.at ≡ Some (type_state names f.state)
   frame_old f c = frame_found names 0 b.frames f (frames_rise 0 b.code b.max_locals b.max_stack b.frames p.well.frames) c
 
-  frame_state_by : (i : ℕ) (t : Seen) → frame_at (frames_of names b) i ≡ Some t → state_of names b i ≡ Some t
+  frame_state_by : (i : ℕ) (t : TypeState) → frame_at (frames_of names b) i ≡ Some t → state_of names b i ≡ Some t
   unfolding state_of
   frame_state_by zero t e = ap (λ o. or_else o (Some (entry_of b))) e
   frame_state_by (suc i) t e =
@@ -102,18 +102,18 @@ module _ (names new_names : Names) (states : List State) (first : ℕ) (wide : B
   pub within_old : (f : FrameAt) → Contains b.frames f → f.at < length b.code
   within_old f c = frame_within 0 b.code b.max_locals b.max_stack b.frames p.well.frames f c
 
-  pub state_old : (f : FrameAt) → Contains b.frames f → seen names f.state ≡ S f.at
+  pub state_old : (f : FrameAt) → Contains b.frames f → type_state names f.state ≡ S f.at
   state_old f c =
-      same_Some (seen names f.state) (S f.at) (sym (frame_state_by f.at (seen names f.state) (frame_old f c)) ∙ state_b f.at (within_old f c))
+      same_Some (type_state names f.state) (S f.at) (sym (frame_state_by f.at (type_state names f.state) (frame_old f c)) ∙ state_b f.at (within_old f c))
 
   -- ---- flows
 
-  late_tests : (i id : ℕ) → late_probe b first i ≡ Some id → flow_of (old i) ≡ flows.Tests
+  late_tests : (i id : ℕ) → late_probe b first i ≡ Some id → flow_of (old i) ≡ flows.Branches
   late_tests i id e = by (flow_of (old i)) e
     where
-      by : (flow : Flow) → late_by (probe_of b first) i (old i) flow ≡ Some id → flow ≡ flows.Tests
+      by : (flow : Flow) → late_by (probe_of b first) i (old i) flow ≡ Some id → flow ≡ flows.Branches
       by flows.GoesOn h = absurd (none_id id h)
-      by flows.Tests h = refl
+      by flows.Branches h = refl
       by flows.Jumps h = absurd (none_id id h)
       by flows.Switches h = absurd (none_id id h)
       by flows.Returns h = absurd (none_id id h)
@@ -124,7 +124,7 @@ module _ (names new_names : Names) (states : List State) (first : ℕ) (wide : B
     where
       by : (flow : Flow) → Contains (arms_by i (old i) flow) x → flow ≡ flows.Switches
       by flows.GoesOn h = absurd (none_in x h)
-      by flows.Tests h = absurd (none_in x h)
+      by flows.Branches h = absurd (none_in x h)
       by flows.Jumps h = absurd (none_in x h)
       by flows.Switches h = refl
       by flows.Returns h = absurd (none_in x h)
@@ -146,8 +146,8 @@ module _ (names new_names : Names) (states : List State) (first : ℕ) (wide : B
       (λ ge. ⊎_elim (λ above. let g = total_up (suc j) i (omega arith) in absurd (omega (arith, g, a, e))) (λ le. omega (arith, ge, le)) (cases_lt j i))
       (cases_lt i j)
 
-  pub tests_size : (i : ℕ) (o : Option ℕ) → flow_of (old i) ≡ flows.Tests → late_probe b first i ≡ o
-      → lead (suc i) ≡ q_of i + 1 + (wide_by flows.Tests wide + hop_size o)
+  pub tests_size : (i : ℕ) (o : Option ℕ) → flow_of (old i) ≡ flows.Branches → late_probe b first i ≡ o
+      → lead (suc i) ≡ q_of i + 1 + (wide_by flows.Branches wide + hop_size o)
   tests_size i o e h =
       let size = size_tests b first wide i e in
       let same = ap hop_size h in
@@ -187,7 +187,7 @@ module _ (names new_names : Names) (states : List State) (first : ℕ) (wide : B
   -- in front of the image, or at it, the state before the instruction; behind it only the wide layout and switches
   -- have frames
   abbrev pub Front : ℕ → ℕ → State → Type 0
-  Front i q s = (q ≤ q_of i) × (seen names s ≡ S i)
+  Front i q s = (q ≤ q_of i) × (type_state names s ≡ S i)
 
   abbrev pub Back : ℕ → ℕ → Type 0
   Back i q = (q_of i < q) × ((flow_of (old i) ≡ flows.Switches) ⊎ (wide ≡ true))
@@ -199,11 +199,11 @@ module _ (names new_names : Names) (states : List State) (first : ℕ) (wide : B
       by (inl (inl o)) =
           let f = o.frame in let at = o.place in
           let same : f.at ≡ i = one_piece f.at i q (omega (arith, at)) (omega (arith, at)) low high in
-          inl (subst (λ k. q ≤ q_of k) same (omega (arith, at)), ap (seen names) o.state_is ∙ state_old f o.listed ∙ ap S same)
+          inl (subst (λ k. q ≤ q_of k) same (omega (arith, at)), ap (type_state names) o.state_is ∙ state_old f o.listed ∙ ap S same)
       by (inl (inr (inl o))) =
           let at = o.place in let up = leads_up o.test in
           let same : suc o.test ≡ i = one_piece (suc o.test) i q (omega (arith, at, up)) (omega (arith, at, up)) low high in
-          inl (subst (λ k. q ≤ q_of k) same (omega (arith, at, up)), ap (seen names) o.state_is ∙ ap S (add-one o.test) ∙ ap S same)
+          inl (subst (λ k. q ≤ q_of k) same (omega (arith, at, up)), ap (type_state names) o.state_is ∙ ap S (add-one o.test) ∙ ap S same)
       by (inl (inr (inr o))) =
           let at = o.place in
           let w = arm_in o.switch o.branch o.id o.listed o.probed in
@@ -212,22 +212,22 @@ module _ (names new_names : Names) (states : List State) (first : ℕ) (wide : B
           inr (subst (λ k. q_of k < q) same (omega (arith, at, left)), inl (ap (λ k. flow_of (old k)) (sym same) ∙ arms_switch o.switch o.branch o.listed))
       by (inr (w, o)) = behind_at (late_probe b first o.test) refl
         where
-          one : wide_by flows.Tests wide ≡ 1
-          one = ap (wide_by flows.Tests) w
+          one : wide_by flows.Branches wide ≡ 1
+          one = ap (wide_by flows.Branches) w
 
           behind_at : (late : Option ℕ) → late_probe b first o.test ≡ late → Front i q s ⊎ Back i q
           behind_at None none =
               let size = tests_size o.test None o.tests none in
               let at = o.place in
               let same : suc o.test ≡ i = one_piece (suc o.test) i q (omega (arith, at, size, one)) (omega (arith, at, size, one)) low high in
-              inl (subst (λ k. q ≤ q_of k) same (omega (arith, at, size, one)), ap (seen names) (o.state_is ∙ ap (state_behind b states o.test) none) ∙ ap S (add-one o.test) ∙ ap S same)
+              inl (subst (λ k. q ≤ q_of k) same (omega (arith, at, size, one)), ap (type_state names) (o.state_is ∙ ap (state_behind b states o.test) none) ∙ ap S (add-one o.test) ∙ ap S same)
           behind_at (Some id) some =
               let size = tests_size o.test (Some id) o.tests some in
               let at = o.place in
               let same : o.test ≡ i = one_piece o.test i q (omega (arith, at)) (omega (arith, at, size, one)) low high in
               inr (subst (λ k. q_of k < q) same (omega (arith, at)), inr w)
 
-  pub asked_front : (i q : ℕ) (s : State) → lead i ≤ q → q ≤ q_of i → Asked q s → seen names s ≡ S i
+  pub asked_front : (i q : ℕ) (s : State) → lead i ≤ q → q ≤ q_of i → Asked q s → type_state names s ≡ S i
   asked_front i q s low high a =
       ⊎_elim (λ f. f.1) (λ c. let over = c.0 in absurd (omega (arith, high, over))) (asked_piece i q s low (omega (arith, high)) a)
 
@@ -261,8 +261,8 @@ module _ (names new_names : Names) (states : List State) (first : ℕ) (wide : B
           (to_of o.branch, probe_of b first o.branch, subst (λ k. Lands b.code (Some b.arg_slots) (probe_of b first) items k (to_of o.branch) (probe_of b first o.branch)) (sym o.place) there)
       by (inr (w, o)) = behind_at (late_probe b first o.test) refl
         where
-          one : wide_by flows.Tests wide ≡ 1
-          one = ap (wide_by flows.Tests) w
+          one : wide_by flows.Branches wide ≡ 1
+          one = ap (wide_by flows.Branches) w
 
           behind_at : (late : Option ℕ) → late_probe b first o.test ≡ late → In q
           behind_at None none =
@@ -282,7 +282,7 @@ module _ (names new_names : Names) (states : List State) (first : ℕ) (wide : B
   pub no_frame : (q : ℕ) (x : Item) → slice_get items q ≡ Some x → (Landing x → ⊥) → frame_at (frames_of new_names b') q ≡ None
   no_frame q x here not = by (frame_at (frames_of new_names b') q) refl
     where
-      by : (o : Option Seen) → frame_at (frames_of new_names b') q ≡ o → o ≡ None
+      by : (o : Option TypeState) → frame_at (frames_of new_names b') q ≡ o → o ≡ None
       by None e = refl
       by (Some t) e =
           let a = frame_asked names new_names states first wide call b b' p q t e in

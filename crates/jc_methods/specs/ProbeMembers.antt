@@ -1,0 +1,33 @@
+-- The field and the method that instrumentation adds to a class, and the method that they call, by their names and types (JVM
+-- Specification 4.3, 4.5, 4.6).
+use Rattle.std.specs.Prelude.{ℕ, List, codes}
+
+-- the field that keeps the probe array: private, static, transient and synthetic
+abbrev pub data_name : List ℕ
+data_name = codes "$jacocoData"
+
+abbrev pub data_type : List ℕ
+data_type = codes "[Z"
+
+abbrev pub data_flags : ℕ
+data_flags = 0x108a
+
+-- the method that gives the probe array: private, static and synthetic
+abbrev pub init_name : List ℕ
+init_name = codes "$jacocoInit"
+
+abbrev pub init_type : List ℕ
+init_type = codes "()[Z"
+
+abbrev pub init_flags : ℕ
+init_flags = 0x100a
+
+-- the method of the runtime class that makes a probe array, or gives the one that it made for the class before
+abbrev pub runtime_class : List ℕ
+runtime_class = codes "org/jacoco/agent/rt/internal/Offline"
+
+abbrev pub fetch_name : List ℕ
+fetch_name = codes "getProbes"
+
+abbrev pub fetch_type : List ℕ
+fetch_type = codes "(JLjava/lang/String;I)[Z"
