@@ -13,8 +13,8 @@ use crate::step::{
 };
 use crate::uses::{all_effects, effect_at, return_opcode};
 use crate::want::are_accepted;
-use jc_bytes::{List, Memory, Names};
-use jc_methods::{Body, Insn, Kind, State, TryClone, opcode};
+use jc_bytes::{List, Memory, Names, TryClone};
+use jc_methods::{Body, Insn, Kind, State, opcode};
 use std::alloc::Global;
 
 /// What the instructions of a body do to types, with each descriptor read once.

@@ -46,5 +46,3 @@ abbrev pub IsFrameRefusal : PoolValue → List ℕ → Member → Coded → ℕ 
 IsFrameRefusal pool owner method coded number refusal =
     ((place : ℕ) × (refusal ≡ bad_code number place) × BadStackMap pool owner method coded place)
     ⊎ ((refusal ≡ bad_code number 0) × IsNowhere (BadStackMap pool owner method coded) × TooWide coded 0)
-
-

@@ -6,8 +6,8 @@ ghost use Rattle.jc_layout.specs.Merged.{merged as merged_list};
 ghost use Rattle.jc_code.specs.Merging.{other_first};
 ghost use Rattle.jc_code.specs.TwinCode.{chosen_frames};
 
-use jc_bytes::{List, Memory};
-use jc_methods::{Emitted, FrameAt, TryClone};
+use jc_bytes::{List, Memory, TryClone};
+use jc_methods::{Emitted, FrameAt};
 use std::alloc::Global;
 
 /// Whether the first of the other frames comes next.

@@ -7,8 +7,8 @@ ghost use Rattle.jc_cover.specs.Sums.{insns_weight};
 
 use crate::coverage::Count;
 use crate::sums::branch_count;
-use jc_bytes::{List, Memory};
-use jc_methods::{LineAt, first_seen};
+use jc_bytes::{List, Memory, first_seen};
+use jc_methods::LineAt;
 use std::alloc::{AllocError, Global};
 
 /// The lines of the instructions of a class, in the order of the instructions.

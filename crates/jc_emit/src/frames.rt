@@ -14,8 +14,8 @@ ghost use Rattle.jc_emit.specs.Emission.{frames_at, wide_frames_at, arm_frames};
 ghost use Rattle.jc_emit.specs.Framing.{IsMadeWithin, without, AreFramed, id_frames, IsFraming};
 
 use crate::places::{Places, hop_size};
-use jc_bytes::{List, Memory};
-use jc_methods::{Body, Flow, FrameAt, Insn, Kind, Plan, State, TryClone, opcode};
+use jc_bytes::{List, Memory, TryClone};
+use jc_methods::{Body, Flow, FrameAt, Insn, Kind, Plan, State, opcode};
 use std::alloc::Global;
 
 /// A type, where an object without a constructor's call is named by the image of its `new`.

@@ -9,8 +9,8 @@ ghost use Rattle.jc_methods.specs.Widened.{inverted};
 ghost use Rattle.jc_methods.specs.declared.insn.Flow.TheVariants as flows;
 ghost use Rattle.jc_after.specs.Shift.{slot_of, with_slot};
 
-use jc_bytes::{List, Memory};
-use jc_methods::{Arm, Insn, TryClone, inverse};
+use jc_bytes::{List, Memory, TryClone};
+use jc_methods::{Arm, Insn, inverse};
 use std::alloc::Global;
 
 /// The local variable that is in the place of one of the method: one behind the arguments goes up by one.

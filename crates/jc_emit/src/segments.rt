@@ -18,8 +18,8 @@ use crate::image::{inverted, jump_target, led, moved};
 use crate::places::{Places, early_id, late_id};
 use crate::switches::{put_arms, set_arms};
 use crate::written::Written;
-use jc_bytes::Memory;
-use jc_methods::{Body, Flow, Insn, Plan, TryClone};
+use jc_bytes::{Memory, TryClone};
+use jc_methods::{Body, Flow, Insn, Plan};
 use std::alloc::Global;
 
 /// The image of a conditional jump: with a probe of its jump the inverse, which leads to where the

@@ -5,6 +5,7 @@ ghost use Rattle.jc_instrument.specs.Reasons.{IsOutside, HasAddedName, SomeAdded
 
 use jc_bytes::{Refusal, RefusalKind};
 use jc_class::{ClassFile, Member};
+use jc_methods::{DATA_NAME, INIT_NAME, RUNTIME_CLASS};
 use jc_pool::Pool;
 
 /// The least major version that is taken.

@@ -15,8 +15,8 @@ ghost use Rattle.jc_kinds.specs.StateSequence.{fits_frame, Begins, Steps, IsKept
 use crate::fits::fits_state;
 use crate::frames::frame_at;
 use jc_after::Effects;
-use jc_bytes::{Memory, Names};
-use jc_methods::{Body, FrameAt, Insn, State, TryClone};
+use jc_bytes::{Memory, Names, TryClone};
+use jc_methods::{Body, FrameAt, Insn, State};
 use std::alloc::Global;
 
 /// Whether a state fits the frame at an instruction, if one stands there.
