@@ -7,4 +7,3 @@ pub mod Answers
 pub mod Front
 pub mod Adding
 pub mod Writing
-pub mod SlowUnion
