@@ -14,7 +14,7 @@ use Rattle.jc_exec.specs.declared.hits.ClassHits.{ClassHits}
 use Rattle.jc_exec.specs.declared.refusal.ExecRefusal.{ExecRefusal}
 use Rattle.jc_exec.specs.Adding.{Entries, over, Merges, Puts, RefusesMerging, GivesMerged, MergesInto}
 use Rattle.jc_exec.specs.Answers.{IsConflict, RefusesRecord, SaysOnly, conflict_of}
-use Rattle.jc_exec.specs.Store.{IsSmall, classes_of, Keyed, IsNew}
+use Rattle.jc_exec.specs.Store.{IsSmall, IsWritableClass, classes_of, Keyed, IsNew}
 use Rattle.jc_exec.specs.Union.{agree, either_hits, with_record}
 use Rattle.jc_exec.proofs.RecordBitsLaws.{small_either, agree_apart, apart_agree}
 
@@ -292,6 +292,11 @@ at_is_found (e ∷ es) c (suc k) keyed lt is =
 
 pub there_is_found : (id : ℕ) (es : Entries) (c : ClassHits) → Keyed es → Contains (classes_of es) c → c.id ≡ id → lookup (nat_eq id) es ≡ Some c
 there_is_found id es c keyed there same = ap (λ (n : ℕ). lookup (nat_eq n) es) (sym same) ∙ at_is_found es c there.0 keyed there.1 there.2
+
+-- what a look-up answers fits the format
+pub got_fits : (r : Option (Bor ClassHits)) (id : ℕ) (es : Entries) → Keyed es → option_copied r ≡ lookup (nat_eq id) es → IfSome r (λ c. IsWritableClass c.now)
+got_fits None id es keyed is = tt
+got_fits (Some c) id es keyed is = let f = found id es c.now keyed (sym is) in (f.small, f.text)
 
 -- what a look-up answers
 pub got : (r : Option (Bor ClassHits)) (id : ℕ) (es : Entries) → Keyed es → option_copied r ≡ lookup (nat_eq id) es → IfSome r (λ c. Contains (classes_of es) c.now × (c.now.id ≡ id))

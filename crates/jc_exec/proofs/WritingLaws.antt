@@ -13,10 +13,10 @@ use Rattle.jc_bytes.specs.Modified.{IsModified}
 use Rattle.jc_exec.specs.declared.hits.ClassHits.{ClassHits}
 use Rattle.jc_exec.specs.declared.session.Session.{Session}
 use Rattle.jc_exec.specs.Format.{Block, header, session, class, header_text, bit, unpack, IsPacked, IsCount, IsTime, IsSessionBlock, IsClassBlock, AreBlocks, Blocks}
-use Rattle.jc_exec.specs.Store.{Store, IsSmall, IsWritable}
+use Rattle.jc_exec.specs.Store.{Store, IsSmall, IsWritable, IsWritableClass}
 use Rattle.jc_exec.specs.Union.{IsUnion}
 use Rattle.jc_exec.specs.Refusing.{blocks_of, OneOfEachId}
-use Rattle.jc_exec.specs.Writing.{low_first, pack, packed, id_text, size_text, shortest, count_text, time_text, class_text, session_text, by_dump, is_hit, exec_text, IsWritableClass, FitsFormat, written}
+use Rattle.jc_exec.specs.Writing.{low_first, pack, packed, id_text, size_text, shortest, count_text, time_text, class_text, session_text, by_dump, is_hit, exec_text, FitsFormat, written}
 use Rattle.jc_exec.proofs.UnionLaws.{all_filter}
 use Rattle.jc_exec.proofs.SessionLaws.{all_by_dump}
 use Rattle.jc_exec.proofs.StoringLaws.{own_union, one_filter}

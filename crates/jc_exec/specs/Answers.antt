@@ -1,5 +1,5 @@
 -- What a refusal of execution data says, and where it is given.
-use Rattle.std.specs.Prelude.{◌≡◌, ⊤, ℕ, List, length, Contains}
+use Rattle.std.specs.Prelude.{◌≡◌, ⊤, false, ℕ, List, length, Contains}
 use Rattle.jc_bytes.specs.declared.fail.Fail.{Fail}
 use Rattle.jc_bytes.specs.declared.fail.Fail.TheVariants as fails
 use Rattle.jc_exec.specs.declared.hits.ClassHits.{ClassHits}
@@ -7,7 +7,7 @@ use Rattle.jc_exec.specs.declared.refusal.ExecRefusal.{ExecRefusal}
 use Rattle.jc_exec.specs.declared.refusal.ExecRefusal.TheVariants.{BadExec, OtherVersion, Conflict}
 use Rattle.jc_exec.specs.Refusing.{Refused, bad_exec, other_version, conflict, FirstRefusal}
 use Rattle.jc_exec.specs.Store.{Store}
-use Rattle.jc_exec.specs.Union.{Agrees}
+use Rattle.jc_exec.specs.Union.{Agrees, fits}
 
 -- the reason that a refusal says
 abbrev pub why_of : ExecRefusal → Refused
@@ -33,9 +33,20 @@ pub record IsConflict (classes : List ClassHits) (there hits : ClassHits) : Type
   pub same_id : there.id ≡ hits.id
   pub differs : Agrees there hits → ⊥
 
--- the name and the number of probes that are there, and then those of the record
+-- the refusal of a class of this id, name and number of probes: the name and the number of probes of the record that is
+-- there, and then those of the class
+abbrev pub conflict_with : ClassHits → ℕ → List ℕ → ℕ → ExecRefusal
+conflict_with there id name count = Conflict id there.name name (length there.bits) count
+
+-- why a record doesn't fit a class of this id, name and number of probes; want of memory may come at any time
+abbrev pub RefusesClass : ClassHits → ℕ → List ℕ → ℕ → Fail ExecRefusal → Type 0
+RefusesClass there id name count fails.Memory = ⊤
+RefusesClass there id name count (fails.Said refusal) =
+    (fits there name count ≡ false) × (refusal ≡ conflict_with there id name count)
+
+-- the same of another record
 abbrev pub conflict_of : ClassHits → ClassHits → Refused
-conflict_of there hits = conflict hits.id there.name hits.name (length there.bits) (length hits.bits)
+conflict_of there hits = why_of (conflict_with there hits.id hits.name (length hits.bits))
 
 -- why the record is not added to these; want of memory may come at any time
 abbrev pub RefusesRecord : Fail ExecRefusal → List ClassHits → ClassHits → Type 0

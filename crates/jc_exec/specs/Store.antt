@@ -16,6 +16,10 @@ pub record IsSmall (c : ClassHits) : Type 0 where
   pub name : length c.name < 65536
   pub bits : length c.bits < 65536
 
+-- its name fits too, so the record may be added to a store
+abbrev pub IsWritableClass : ClassHits → Type 0
+IsWritableClass c = IsSmall c × IsModified c.name
+
 -- the session's id and times fit the format
 pub record IsWritable (s : Session) : Type 0 where
   pub size : length s.id < 65536

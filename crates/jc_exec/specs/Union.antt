@@ -63,8 +63,12 @@ either_bits [] ys = []
 either_bits (x ∷ xs) [] = x ∷ xs
 either_bits (x ∷ xs) (y ∷ ys) = (x || y) ∷ either_bits xs ys
 
+-- the record has the name, and so many probes
+abbrev pub fits : ClassHits → List ℕ → ℕ → Bool
+fits c name count = bytes_eq c.name name && nat_eq (length c.bits) count
+
 abbrev pub agree : ClassHits → ClassHits → Bool
-agree c d = bytes_eq c.name d.name && nat_eq (length c.bits) (length d.bits)
+agree c d = fits c d.name (length d.bits)
 
 -- a record with the bits of another of its id
 abbrev pub either_hits : ClassHits → ClassHits → ClassHits

@@ -4,11 +4,10 @@ use Rattle.std.specs.Prelude.{true, List, [], ◌∷◌, ◌++◌, length, take,
 use Rattle.std.specs.List.{AllByRecursion, flat_map, list_any}
 use Rattle.std.specs.Int.{w64, cast_unsigned}
 use Rattle.byteorder.specs.Endian.{big_bytes}
-use Rattle.jc_bytes.specs.Modified.{IsModified}
 use Rattle.jc_exec.specs.declared.hits.ClassHits.{ClassHits}
 use Rattle.jc_exec.specs.declared.session.Session.{Session}
 use Rattle.jc_exec.specs.Format.{header_text}
-use Rattle.jc_exec.specs.Store.{Store, IsSmall, IsWritable}
+use Rattle.jc_exec.specs.Store.{Store, IsWritable, IsWritableClass}
 
 -- the number whose bits these are, the lowest first
 abbrev pub low_first : List Bool → ℕ
@@ -82,10 +81,6 @@ abbrev pub exec_text : Store → List ℕ
 exec_text store = header_text ++ (flat_map session_text (by_dump store.sessions) ++ flat_map class_text (filter is_hit store.classes))
 
 -- ---- what is written is read
-
--- the record's numbers and its name fit the format
-abbrev pub IsWritableClass : ClassHits → Type 0
-IsWritableClass c = IsSmall c × IsModified c.name
 
 -- what the store holds fits the format
 pub record FitsFormat (store : Store) : Type 0 where

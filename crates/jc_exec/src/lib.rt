@@ -17,6 +17,7 @@ pub use laws::{
     one_answer_to_each_text, one_list_of_each_text, one_union_of_each_list, sessions_by_dump,
     union_block_by_block, what_is_written_is_read,
 };
+pub use merge::check_fits;
 pub use refusal::ExecRefusal;
 pub use session::Session;
 pub use store::ExecStore;

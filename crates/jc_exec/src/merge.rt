@@ -1,11 +1,11 @@
 //! Records of one id, merged.
-ghost use Rattle.std.specs.Prelude.{◌≡◌, ◌≤◌, nat_eq, length, IfOk, IfErr, OnOk, OnErr, MatchResult};
+ghost use Rattle.std.specs.Prelude.{◌≡◌, ◌≤◌, true, nat_eq, length, IfOk, IfErr, OnOk, OnErr, MatchResult};
 ghost use Rattle.indexmap.specs.IndexMap.{insert_entry};
 ghost use Rattle.jc_bytes.specs.Modified.{IsModified};
 ghost use Rattle.jc_exec.specs.Adding.{Merges, Puts, over, MergesInto, GivesMerged, RefusesMerging};
-ghost use Rattle.jc_exec.specs.Answers.{why_of, conflict_of, RefusesRecord};
+ghost use Rattle.jc_exec.specs.Answers.{RefusesClass, conflict_with, RefusesRecord};
 ghost use Rattle.jc_exec.specs.Store.{IsSmall, Keyed, classes_of};
-ghost use Rattle.jc_exec.specs.Union.{agree, either_bits, either_hits};
+ghost use Rattle.jc_exec.specs.Union.{fits, agree, either_bits, either_hits};
 
 use crate::store::Records;
 use crate::{ClassHits, ExecRefusal};
@@ -23,26 +23,64 @@ fn or_bits(bits: &mut [bool], others: &[bool])
     }
 }
 
-/// Whether two records have the same name, and as many probes.
-fn agrees(there: &ClassHits, hits: &ClassHits) -> bool
-    ensures { result ≡ agree there.now hits.now }
+/// Whether a record has this name, and so many probes.
+fn fits(there: &ClassHits, name: &[u8], count: u32) -> bool
+    ensures { result ≡ fits there.now name.now count }
 {
-    there.name.as_slice() == hits.name.as_slice() && there.bits.len() == hits.bits.len()
+    there.name.as_slice() == name && there.bits.len() == count as usize
 }
 
-/// The refusal of a record over the one that is there.
-fn conflict(alloc: Global, there: &ClassHits, hits: &ClassHits) -> Result<ExecRefusal, AllocError>
-    requires there { IsSmall there.now }
-    requires hits { IsSmall hits.now }
-    ensures { IfOk result (λ refusal. why_of refusal ≡ conflict_of there.now hits.now) }
+/// The refusal of a class over the record of its id that is there.
+fn conflict(
+    alloc: Global,
+    there: &ClassHits,
+    id: u64,
+    name: &[u8],
+    count: u32,
+) -> Result<ExecRefusal, AllocError>
+    requires { IsSmall there.now }
+    ensures { IfOk result (λ refusal. refusal ≡ conflict_with there.now id name.now count) }
 {
     Ok(ExecRefusal::Conflict {
-        id: hits.id,
+        id,
         first: Bytes::copy_of(alloc, &there.name)?,
-        second: Bytes::copy_of(alloc, &hits.name)?,
+        second: Bytes::copy_of(alloc, name)?,
         first_count: there.bits.len() as u32,
-        second_count: hits.bits.len() as u32,
+        second_count: count,
     })
+}
+
+/// Checks that a record is one of a class of its id with this name and so many probes.
+///
+/// # Errors
+///
+/// `Conflict`, exactly where the record has another name or another number of probes: those of the
+/// record first, then those of the class. `Memory`, where memory is refused.
+pub fn check_fits(
+    alloc: Global,
+    there: &ClassHits,
+    id: u64,
+    name: &[u8],
+    count: u32,
+) -> Result<(), Fail<ExecRefusal>>
+    requires { IsSmall there.now }
+    ensures fits { IfOk result (λ _. fits there.now name.now count ≡ true) }
+    ensures refused { IfErr result (RefusesClass there.now id name.now count) }
+{
+    if !fits(there, name, count) {
+        return Err(Fail::Said(conflict(alloc, there, id, name, count)?));
+    }
+    Ok(())
+}
+
+/// Checks that two records of one id agree.
+fn check_agree(alloc: Global, there: &ClassHits, hits: &ClassHits) -> Result<(), Fail<ExecRefusal>>
+    requires there { IsSmall there.now }
+    requires hits { IsSmall hits.now }
+    ensures agree { IfOk result (λ _. agree there.now hits.now ≡ true) }
+    ensures refused { IfErr result (RefusesMerging there.now hits.now) }
+{
+    check_fits(alloc, there, hits.id, &hits.name, hits.bits.len() as u32)
 }
 
 /// Sets the bits of the record that are set in the other.
@@ -65,9 +103,7 @@ fn merge_into(
     requires hits { IsSmall hits.now }
     ensures { MergesInto result there.old there.new hits.now }
 {
-    if !agrees(there, hits) {
-        return Err(Fail::Said(conflict(alloc, there, hits)?));
-    }
+    check_agree(alloc, there, hits)?;
     join(alloc, there, hits);
     Ok(())
 }
@@ -94,9 +130,7 @@ fn merged(
     requires same_id { there.now.id ≡ hits.id }
     ensures { MatchResult result (GivesMerged there.now hits) (RefusesMerging there.now hits) }
 {
-    if !agrees(there, &hits) {
-        return Err(Fail::Said(conflict(alloc, there, &hits)?));
-    }
+    check_agree(alloc, there, &hits)?;
     join(alloc, &mut hits, there);
     Ok(hits)
 }

@@ -1,6 +1,6 @@
 //! The union of execution data.
 ghost use Rattle.std.specs.Prelude.{◌≡◌, ◌≤◌, ◌++◌, [], ◌∷◌, length, List, Contains, IfOk, IfErr, IfSome, IsSomeAnd};
-ghost use Rattle.std.specs.Prelude.{IsErrAnd, OnOk, OnErr, MatchResult};
+ghost use Rattle.std.specs.Prelude.{All, IsErrAnd, OnOk, OnErr, MatchResult};
 ghost use Rattle.jc_bytes.specs.Modified.{IsModified};
 ghost use Rattle.jc_bytes.specs.Reader.{most_read};
 ghost use Rattle.jc_exec.specs.declared.hits.ClassHits.{ClassHits};
@@ -10,7 +10,7 @@ ghost use Rattle.jc_exec.specs.Answers.{Refuses, SaysOnly, IsConflict, conflict_
 ghost use Rattle.jc_exec.specs.Format.{Block, class, Blocks};
 ghost use Rattle.jc_exec.specs.Front.{Fits, block_of};
 ghost use Rattle.jc_exec.specs.Refusing.{Refused, blocks_of, FirstRefusal};
-ghost use Rattle.jc_exec.specs.Store.{Store, IsWritable, Keyed};
+ghost use Rattle.jc_exec.specs.Store.{Store, IsWritable, IsWritableClass, Keyed};
 ghost use Rattle.jc_exec.specs.Union.{IsUnion, ReadsOn};
 ghost use Rattle.jc_exec.specs.Writing.{exec_text};
 
@@ -123,6 +123,9 @@ impl ExecStore {
 
         // The record is the only one of its id.
         ensures only { (c : ClassHits) → Contains self.now.classes c → c.id ≡ id → IsSomeAnd result (λ d. d.now ≡ c) }
+
+        // It has at most 65,535 probes and a name in modified UTF-8, so that it may be handed to `add`.
+        ensures fits { IfSome result (λ c. IsWritableClass c.now) }
     {
         self.records.get(&id)
     }
@@ -136,7 +139,10 @@ impl ExecStore {
 
     /// The records, in the order in which their ids were first seen.
     pub fn classes(&self) -> &[ClassHits]
-        ensures { result.now ≡ self.now.classes }
+        ensures classes { result.now ≡ self.now.classes }
+
+        // Each has at most 65,535 probes and a name in modified UTF-8, so that it may be handed to `add`.
+        ensures fits { All IsWritableClass result.now }
     {
         self.records.values().as_slice()
     }

@@ -1,7 +1,7 @@
 use Rattle.std.proofs.Common.{◌≡◌, Contains, IfSome, IsSomeAnd, subst}
 use Rattle.jc_exec.specs.declared.hits.ClassHits.{ClassHits}
 use Rattle.jc_exec.specs.Store.{Store}
-use Rattle.jc_exec.proofs.RecordLaws.{got, got_only}
+use Rattle.jc_exec.proofs.RecordLaws.{got, got_only, got_fits}
 use Rattle.jc_exec.proofs.store.ExecStore.get.Goals as goal
 
 pub returns-clause-found : goal.returns-clause-found
@@ -13,3 +13,6 @@ pub returns-clause-only : goal.returns-clause-only
 returns-clause-only c =
     subst (λ (s : Store). (x : ClassHits) → Contains s.classes x → x.id ≡ c.args.id → IsSomeAnd c.get.result (λ d. d.now ≡ x)) c.self.view_is
     (got_only c.get.result c.args.id c.self.inside.records.entries c.self.invariant.1 c.get.ensures.value)
+
+pub returns-clause-fits : goal.returns-clause-fits
+returns-clause-fits c = got_fits c.get.result c.args.id c.self.inside.records.entries c.self.invariant.1 c.get.ensures.value
