@@ -3,4 +3,3 @@ mod SplitLaws
 mod OrderLaws
 mod RowLaws
 mod CsvLaws
-mod WorkedLaws

@@ -5,5 +5,3 @@ pub mod Order
 pub mod Rows
 pub mod Csv
 pub mod Written
-pub mod Reported
-pub mod WorkedExamples
