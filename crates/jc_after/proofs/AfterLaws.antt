@@ -25,7 +25,7 @@ use Rattle.jc_bytes.proofs.EachLaws.{AllFrom, all_from}
 use Rattle.jc_after.specs.declared.want.Want.{Want}
 use Rattle.jc_after.specs.declared.want.Want.TheVariants as wants
 use Rattle.jc_after.specs.Wants.{is_int, accepts, accepts_all}
-use Rattle.jc_after.specs.Step.{Gives, kind, item, StackEffect, Step, moves, loads, stores, counts, picks, makes, builds, fails, Ground, below, upper, limited, has_form, moved, moved_by, with_stack, is_array, element_of, is_made, without, replaced, given_of, class_built, built_as, apply}
+use Rattle.jc_after.specs.Step.{Gives, kind, item, StackEffect, Step, moves, loads, stores, counts, picks, makes, builds, fails, Ground, below, upper, last, put_local, limited, has_form, moved, moved_by, with_stack, is_array, element_of, is_made, without, replaced, given_of, class_built, built_as, apply}
 use Rattle.jc_after.specs.Table.{Row, table, find, forms_at}
 use Rattle.jc_after.specs.After.{result_of, field_step, static_step, object_step, method_step, member_step, interface_step, dynamic_step, computed_step, constant_step, array_of, array_step, class_step, multi_step, return_op, return_step, simple_step, local_want, local_step, step_of, insn_at, class_in, new_class, ground_of, returns_of, after_of}
 use Rattle.jc_after.specs.Shift.{shifted, slot_of, with_slot, IsImage, led, inverted, HasImages, Straddles, shifted_step, IsPlaceless, IsPlain, CanShift, takes_pair, Images, AfterShifts}
@@ -71,8 +71,9 @@ built_more m n old rest given (Some name) s t le e = pushed_more m n (record { l
 pub more_room : (g : Ground) (n : ℕ) (st : Step) (s t : TypeState) → g.most ≤ n → apply g st s ≡ Some t → apply (record g { most = n }) st s ≡ Some t
 more_room g n (moves forms) s t le e = stack_more s t (moved_by g.most forms s.stack) (moved_by n forms s.stack) (λ x q. by_more g.most n forms s.stack x le q) e
 more_room g n (loads k w) s t le e = if_more (accepts w (get_or s.locals k top)) _ _ t (pushed_more g.most n s t (s.stack ++ get_or s.locals k top ∷ []) le) e
-more_room g n (stores k w) s t le e = e
-more_room g n (counts k) s t le e = e
+more_room g n (stores k w) s t le e =
+    let h = last s.stack in if_more (accepts w h) _ _ t (pushed_more g.most n (record { locals = put_local k h s.locals; stack = s.stack }) t (below 1 s.stack) le) e
+more_room g n (counts k) s t le e = if_more (is_int (get_or s.locals k top)) _ _ t (pushed_more g.most n s t s.stack le) e
 more_room g n picks s t le e =
     let array = get_or (upper 2 s.stack) 0 top in
     if_more (is_array array && is_int (get_or (upper 2 s.stack) 1 top)) _ _ t (pushed_more g.most n s t (below 2 s.stack ++ element_of array ∷ []) le) e

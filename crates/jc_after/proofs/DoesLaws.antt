@@ -15,7 +15,7 @@ use Rattle.jc_after.specs.declared.want.Want.{Want}
 use Rattle.jc_after.specs.declared.want.Want.TheVariants as wants
 use Rattle.jc_after.specs.declared.effect.Effect.{Effect}
 use Rattle.jc_after.specs.After.{want_for, want_of}
-use Rattle.jc_after.specs.Does.{call, value, of_class, does, does_of, IsDescribed, Says, AllSay, call_of, value_of}
+use Rattle.jc_after.specs.Does.{call, value, of_class, does, does_of, IsDescribed, Says, SaysThere, call_of, value_of}
 
 -- ---- growth
 
@@ -41,32 +41,11 @@ some_head x y xs ys e = cc
 pub says_later : (old new : Names) (what : What) (e : Effect) → Grows old new → Says old what e → Says new what e
 says_later old new what e g says more d = later (λ names. does names e) (does_of what) old new g (λ m. says m d) more
 
-pub all_say_later : (old new : Names) (uses : List Use) (each : List Effect) → Grows old new → AllSay old uses each → AllSay new uses each
-all_say_later old new [] [] g all = tt
-all_say_later old new (u ∷ uses) (e ∷ each) g all = (says_later old new u.what e g all.0, all_say_later old new uses each g all.1)
-all_say_later old new [] (e ∷ each) g all = elim all [ ]
-all_say_later old new (u ∷ uses) [] g all = elim all [ ]
-
-pub all_say_push : (names : Names) (uses : List Use) (each : List Effect) (u : Use) (e : Effect) → AllSay names uses each → Says names u.what e → AllSay names (uses ++ u ∷ []) (each ++ e ∷ [])
-all_say_push names [] [] u e all says = (says, tt)
-all_say_push names (v ∷ uses) (f ∷ each) u e all says = (all.0, all_say_push names uses each u e all.1 says)
-all_say_push names [] (f ∷ each) u e all says = elim all [ ]
-all_say_push names (v ∷ uses) [] u e all says = elim all [ ]
-
-pub all_say_count : (names : Names) (uses : List Use) (each : List Effect) → AllSay names uses each → length each ≡ length uses
-all_say_count names [] [] all = refl
-all_say_count names (u ∷ uses) (e ∷ each) all = ap suc (all_say_count names uses each all.1)
-all_say_count names [] (e ∷ each) all = elim all [ ]
-all_say_count names (u ∷ uses) [] all = elim all [ ]
-
-pub all_say_at : (names : Names) (uses : List Use) (each : List Effect) (i : ℕ) (u : Use) (e : Effect) → AllSay names uses each → i < length uses → Says names (get_or uses i u).what (get_or each i e)
-all_say_at names [] each i u e all lt = absurd (omega (arith, lt))
-all_say_at names (v ∷ uses) (f ∷ each) zero u e all lt = all.0
-all_say_at names (v ∷ uses) (f ∷ each) (suc i) u e all lt = all_say_at names uses each i u e all.1 (omega (arith, lt))
-all_say_at names (v ∷ uses) [] i u e all lt = elim all [ ]
-
-pub all_say_same : (names : Names) (us uses : List Use) (es each : List Effect) → us ≡ uses → es ≡ each → AllSay names uses each → AllSay names us es
-all_say_same names us uses es each p q all = subst (λ (u : List Use). AllSay names u es) (sym p) (subst (λ (e : List Effect). AllSay names uses e) (sym q) all)
+pub there_later : (old new : Names) (what : Option What) (e : Option Effect) → Grows old new → SaysThere old what e → SaysThere new what e
+there_later old new None None g says = tt
+there_later old new (Some what) (Some e) g says = says_later old new what e g says
+there_later old new None (Some e) g says = elim says [ ]
+there_later old new (Some what) None g says = elim says [ ]
 
 -- ---- calls
 

@@ -22,7 +22,8 @@ use Rattle.jc_after.specs.After.{after_of, class_in, insn_at, new_class, ground_
 use Rattle.jc_after.specs.Step.{class_built}
 use Rattle.jc_after.specs.Answers.{IsStateOf, IsWhole, LeavesState, LeavesAlways}
 use Rattle.jc_after.specs.Effects.{AreEffects, body_of}
-use Rattle.jc_after.proofs.DoesLaws.{later, all_say_later}
+use Rattle.jc_after.proofs.DoesLaws.{later}
+use Rattle.jc_after.proofs.UsesLaws.{all_say_later}
 use Rattle.jc_after.proofs.LeaveLaws.{leaves, left_of_body, left_whole}
 
 pub are_later : (old new : Names) (e : Effects) → Grows old new → AreEffects old e → AreEffects new e

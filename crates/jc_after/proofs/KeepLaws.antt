@@ -131,12 +131,13 @@ module _ (P : VerificationType → Type 0) (others : OfOthers P) where
       stack_of s t _ all.locals (λ x q. subst (All P) (limited_is g.most _ x q) (all_append s.stack _ all.stack (all_get s.locals k all.locals, tt)))
       (then_some (accepts w h) (with_stack s (limited g.most (s.stack ++ h ∷ []))) t e).1
   step_all v g (stores k w) s t can new all e =
-      let p = then_some (accepts w (last s.stack)) (Some (record { locals = put_local k (last s.stack) s.locals; stack = below 1 s.stack })) t e in
-      subst AllOf (same_Some _ t p.1) (record {
-        locals = all_put k (last s.stack) s.locals all.locals (all_get (upper 1 s.stack) 0 (all_drop (length s.stack - 1) s.stack all.stack));
-        stack = all_take (length s.stack - 1) s.stack all.stack;
-      })
-  step_all v g (counts k) s t can new all e = subst AllOf (same_Some s t (then_some (is_int (get_or s.locals k top)) (Some s) t e).1) all
+      let h = last s.stack in
+      stack_of (record { locals = put_local k h s.locals; stack = s.stack }) t _
+      (all_put k h s.locals all.locals (all_get (upper 1 s.stack) 0 (all_drop (length s.stack - 1) s.stack all.stack)))
+      (λ x q. subst (All P) (limited_is g.most _ x q) (all_take (length s.stack - 1) s.stack all.stack))
+      (then_some (accepts w h) _ t e).1
+  step_all v g (counts k) s t can new all e =
+      stack_of s t _ all.locals (λ x q. subst (All P) (limited_is g.most _ x q) all.stack) (then_some (is_int (get_or s.locals k top)) _ t e).1
   step_all v g picks s t can new all e =
       let array = get_or (upper 2 s.stack) 0 top in
       stack_of s t _ all.locals
@@ -182,9 +183,9 @@ pub step_count : (g : Ground) (st : Step) (s t : TypeState) → apply g st s ≡
 step_count g (moves forms) s t e = ap (λ (l : List VerificationType). length l) (sym (same_locals s t _ e))
 step_count g (loads k w) s t e = ap (λ (l : List VerificationType). length l) (sym (same_locals s t _ (then_some (accepts w (get_or s.locals k top)) _ t e).1))
 step_count g (stores k w) s t e =
-    let p = then_some (accepts w (last s.stack)) (Some (record { locals = put_local k (last s.stack) s.locals; stack = below 1 s.stack })) t e in
-    ap (λ (u : TypeState). length u.locals) (sym (same_Some _ t p.1)) ∙ length_put k (last s.stack) s.locals
-step_count g (counts k) s t e = ap (λ (u : TypeState). length u.locals) (sym (same_Some s t (then_some (is_int (get_or s.locals k top)) (Some s) t e).1))
+    let h = last s.stack in
+    ap (λ (l : List VerificationType). length l) (sym (same_locals (record { locals = put_local k h s.locals; stack = s.stack }) t _ (then_some (accepts w h) _ t e).1)) ∙ length_put k h s.locals
+step_count g (counts k) s t e = ap (λ (l : List VerificationType). length l) (sym (same_locals s t _ (then_some (is_int (get_or s.locals k top)) _ t e).1))
 step_count g picks s t e =
     ap (λ (l : List VerificationType). length l) (sym (same_locals s t _ (then_some (is_array (get_or (upper 2 s.stack) 0 top) && is_int (get_or (upper 2 s.stack) 1 top)) _ t e).1))
 step_count g makes s t e =
@@ -196,11 +197,6 @@ step_count g (builds f) s t e =
 step_count g fails s t e = absurd (none-some _ e)
 
 -- ---- the slots of the stack
-
-slots_take : (n : ℕ) (hs : List VerificationType) → slots (take n hs) ≤ slots hs
-slots_take zero hs = omega arith
-slots_take (suc n) [] = omega arith
-slots_take (suc n) (h ∷ hs) = let more = slots_take n hs in omega (arith, more)
 
 limit : (most : ℕ) (stack x : List VerificationType) → limited most stack ≡ Some x → slots x ≤ most
 limit most stack x e =
@@ -227,9 +223,9 @@ pub step_slots : (g : Ground) (st : Step) (s t : TypeState) → slots s.stack �
 step_slots g (moves forms) s t le e = limit_of g.most s t (moved_by g.most forms s.stack) (λ x q. limit_by g.most forms s.stack x q) e
 step_slots g (loads k w) s t le e = limit_of g.most s t _ (λ x q. limit g.most _ x q) (then_some (accepts w (get_or s.locals k top)) _ t e).1
 step_slots g (stores k w) s t le e =
-    let p = then_some (accepts w (last s.stack)) (Some (record { locals = put_local k (last s.stack) s.locals; stack = below 1 s.stack })) t e in
-    subst (λ (u : TypeState). slots u.stack ≤ g.most) (same_Some _ t p.1) (let less = slots_take (length s.stack - 1) s.stack in omega (arith, less, le))
-step_slots g (counts k) s t le e = subst (λ (u : TypeState). slots u.stack ≤ g.most) (same_Some s t (then_some (is_int (get_or s.locals k top)) (Some s) t e).1) le
+    let h = last s.stack in
+    limit_of g.most (record { locals = put_local k h s.locals; stack = s.stack }) t _ (λ x q. limit g.most _ x q) (then_some (accepts w h) _ t e).1
+step_slots g (counts k) s t le e = limit_of g.most s t _ (λ x q. limit g.most _ x q) (then_some (is_int (get_or s.locals k top)) _ t e).1
 step_slots g picks s t le e = limit_of g.most s t _ (λ x q. limit g.most _ x q) (then_some (is_array (get_or (upper 2 s.stack) 0 top) && is_int (get_or (upper 2 s.stack) 1 top)) _ t e).1
 step_slots g makes s t le e =
     limit_of g.most (record { locals = map (without g.place) s.locals; stack = s.stack }) t _ (λ x q. limit g.most _ x q) (else_some (list_any (is_made g.place) s.stack) _ t e)

@@ -1,10 +1,10 @@
 -- Local variables and values on top of the stack, by what they hold.
-use Rattle.std.proofs.Common.{◌≡◌, ℕ, zero, suc, ◌+◌, ◌-◌, ◌<◌, ◌≤◌, ◌==◌, Bool, true, false, List, [], ◌∷◌, ◌++◌, length, map, take, drop, Option, Some, None, option_map, if◌then◌else◌, refl, sym, ap, ◌∙◌, subst, arith, get_or, set}
+use Rattle.std.proofs.Common.{◌≡◌, ℕ, zero, suc, ◌+◌, ◌-◌, ◌<◌, ◌≤◌, ◌==◌, Bool, true, false, List, [], ◌∷◌, ◌++◌, length, map, take, drop, Option, Some, None, option_map, if◌then◌else◌, refl, sym, ap, ◌∙◌, subst, arith, get_or, set, nat_le}
 use Rattle.std.proofs.lemmas.List.{get_or-drop, map-set, set_past, length-map, drop_all, take_all}
 use Rattle.jc_methods.specs.declared.kind.Kind.{Kind}
 use Rattle.jc_methods.specs.declared.kind.Kind.TheVariants as kinds
 use Rattle.jc_methods.specs.declared.kind.State.{State}
-use Rattle.jc_methods.specs.VerificationTypes.{Names, VerificationType, top, verification_type, type_state, is_pair}
+use Rattle.jc_methods.specs.VerificationTypes.{Names, VerificationType, top, verification_type, type_state, is_pair, slots}
 use Rattle.jc_after.specs.declared.want.Want.{Want}
 use Rattle.jc_after.specs.declared.want.Want.TheVariants as wants
 use Rattle.jc_after.specs.Wants.{accepts, accepts_all, is_int}
@@ -87,16 +87,23 @@ load_yes names state ks slot most want o same e m =
     m ∙ ap (with_stack (type_state names state)) (pushed_on most (kind (verification_type names (get_or ks slot kinds.Top)) ∷ []) (map (verification_type names) state.stack))
     ∙ subst P same (sym (rw (get_held names ks slot, e) refl))
 
-pub count_no : (names : Names) (state : State) (ks : List Kind) (slot : ℕ) → ks ≡ state.locals → is_int (verification_type names (get_or ks slot kinds.Top)) ≡ false → None ≡ counted slot (type_state names state)
-count_no names state ks slot same e =
-    let P : List Kind → Type 0 = λ xs. None ≡ counted slot (record { locals = map (verification_type names) xs; stack = map (verification_type names) state.stack }) in
+pub count_no : (names : Names) (state : State) (ks : List Kind) (slot most : ℕ) → ks ≡ state.locals → is_int (verification_type names (get_or ks slot kinds.Top)) ≡ false → None ≡ counted most slot (type_state names state)
+count_no names state ks slot most same e =
+    let P : List Kind → Type 0 = λ xs. None ≡ counted most slot (record { locals = map (verification_type names) xs; stack = map (verification_type names) state.stack }) in
     subst P same (sym (rw (get_held names ks slot, e) refl))
 
-pub count_yes : (names : Names) (state : State) (ks : List Kind) (slot : ℕ) → ks ≡ state.locals → is_int (verification_type names (get_or ks slot kinds.Top)) ≡ true
-    → Some (type_state names state) ≡ counted slot (type_state names state)
-count_yes names state ks slot same e =
-    let P : List Kind → Type 0 = λ xs. Some (record { locals = map (verification_type names) xs; stack = map (verification_type names) state.stack }) ≡ counted slot (record { locals = map (verification_type names) xs; stack = map (verification_type names) state.stack }) in
-    subst P same (sym (rw (get_held names ks slot, e) refl))
+-- the stack has too many slots
+pub count_past : (names : Names) (state : State) (ks : List Kind) (slot most : ℕ) → ks ≡ state.locals → is_int (verification_type names (get_or ks slot kinds.Top)) ≡ true
+    → nat_le (slots (map (verification_type names) state.stack)) most ≡ false → None ≡ counted most slot (type_state names state)
+count_past names state ks slot most same e past =
+    let P : List Kind → Type 0 = λ xs. None ≡ counted most slot (record { locals = map (verification_type names) xs; stack = map (verification_type names) state.stack }) in
+    subst P same (sym (rw (get_held names ks slot, e, past) refl))
+
+pub count_yes : (names : Names) (state : State) (ks : List Kind) (slot most : ℕ) → ks ≡ state.locals → is_int (verification_type names (get_or ks slot kinds.Top)) ≡ true
+    → nat_le (slots (map (verification_type names) state.stack)) most ≡ true → Some (type_state names state) ≡ counted most slot (type_state names state)
+count_yes names state ks slot most same e fits =
+    let P : List Kind → Type 0 = λ xs. Some (record { locals = map (verification_type names) xs; stack = map (verification_type names) state.stack }) ≡ counted most slot (record { locals = map (verification_type names) xs; stack = map (verification_type names) state.stack }) in
+    subst P same (sym (rw (get_held names ks slot, e, fits) refl))
 
 pub no_top : (want : Want) → accepts want top ≡ false
 no_top wants.Int = refl
@@ -115,23 +122,32 @@ last_is names ks some =
     ap (λ hs. get_or hs 0 top) (upper_is names 1 ks) ∙ get_held names (drop (length ks - 1) ks) 0 ∙ ap (verification_type names) (get_or-drop (length ks - 1) ks 0 kinds.Top)
     ∙ ap (λ n. verification_type names (get_or ks n kinds.Top)) (let P : length ks - 1 + 0 ≡ length ks - 1 = omega arith in P)
 
-pub store_none : (names : Names) (state : State) (slot : ℕ) (want : Want) → state.stack ≡ [] → None ≡ stored slot want (type_state names state)
-store_none names state slot want e =
-    let P : List Kind → Type 0 = λ ks. None ≡ stored slot want (record { locals = map (verification_type names) state.locals; stack = map (verification_type names) ks }) in
+pub store_none : (names : Names) (state : State) (slot most : ℕ) (want : Want) → state.stack ≡ [] → None ≡ stored most slot want (type_state names state)
+store_none names state slot most want e =
+    let P : List Kind → Type 0 = λ ks. None ≡ stored most slot want (record { locals = map (verification_type names) state.locals; stack = map (verification_type names) ks }) in
     subst P (sym e) (sym (rw (no_top want) refl))
 
-pub store_no : (names : Names) (state : State) (ks : List Kind) (slot : ℕ) (want : Want) → ks ≡ state.stack → 0 < length ks → accepts want (verification_type names (get_or ks (length ks - 1) kinds.Top)) ≡ false → None ≡ stored slot want (type_state names state)
-store_no names state ks slot want same some e =
-    let P : List Kind → Type 0 = λ xs. None ≡ stored slot want (record { locals = map (verification_type names) state.locals; stack = map (verification_type names) xs }) in
+pub store_no : (names : Names) (state : State) (ks : List Kind) (slot most : ℕ) (want : Want) → ks ≡ state.stack → 0 < length ks → accepts want (verification_type names (get_or ks (length ks - 1) kinds.Top)) ≡ false
+    → None ≡ stored most slot want (type_state names state)
+store_no names state ks slot most want same some e =
+    let P : List Kind → Type 0 = λ xs. None ≡ stored most slot want (record { locals = map (verification_type names) state.locals; stack = map (verification_type names) xs }) in
     subst P same (sym (rw (last_is names ks some, e) refl))
 
-pub store_yes : (names : Names) (state : State) (ks vs : List Kind) (slot : ℕ) (want : Want) (locals below : List Kind) → ks ≡ state.stack → vs ≡ state.locals → 0 < length ks
-    → accepts want (verification_type names (get_or ks (length ks - 1) kinds.Top)) ≡ true → map (verification_type names) locals ≡ put_local slot (verification_type names (get_or ks (length ks - 1) kinds.Top)) (map (verification_type names) vs)
-    → below ≡ take (length ks - 1) ks → Some (type_state names (record { locals = locals; stack = below })) ≡ stored slot want (type_state names state)
-store_yes names state ks vs slot want locals below same vars some e l b =
-    let P : List Kind → Type 0 = λ xs. Some (type_state names (record { locals = locals; stack = below })) ≡ stored slot want (record { locals = map (verification_type names) state.locals; stack = map (verification_type names) xs }) in
-    let Q : List Kind → Type 0 = λ xs. Some (type_state names (record { locals = locals; stack = below })) ≡ stored slot want (record { locals = map (verification_type names) xs; stack = map (verification_type names) ks }) in
-    subst P same (subst Q vars (sym (rw (last_is names ks some, e, below_is names 1 ks, ← l, ← b) refl)))
+-- what is below the value on top has too many slots
+pub store_past : (names : Names) (state : State) (ks : List Kind) (slot most : ℕ) (want : Want) → ks ≡ state.stack → 0 < length ks → accepts want (verification_type names (get_or ks (length ks - 1) kinds.Top)) ≡ true
+    → nat_le (slots (map (verification_type names) (take (length ks - 1) ks))) most ≡ false → None ≡ stored most slot want (type_state names state)
+store_past names state ks slot most want same some e past =
+    let P : List Kind → Type 0 = λ xs. None ≡ stored most slot want (record { locals = map (verification_type names) state.locals; stack = map (verification_type names) xs }) in
+    subst P same (sym (rw (last_is names ks some, e, below_is names 1 ks, past) refl))
+
+pub store_yes : (names : Names) (state : State) (ks vs : List Kind) (slot most : ℕ) (want : Want) (locals below : List Kind) → ks ≡ state.stack → vs ≡ state.locals → 0 < length ks
+    → accepts want (verification_type names (get_or ks (length ks - 1) kinds.Top)) ≡ true → nat_le (slots (map (verification_type names) (take (length ks - 1) ks))) most ≡ true
+    → map (verification_type names) locals ≡ put_local slot (verification_type names (get_or ks (length ks - 1) kinds.Top)) (map (verification_type names) vs)
+    → below ≡ take (length ks - 1) ks → Some (type_state names (record { locals = locals; stack = below })) ≡ stored most slot want (type_state names state)
+store_yes names state ks vs slot most want locals below same vars some e fits l b =
+    let P : List Kind → Type 0 = λ xs. Some (type_state names (record { locals = locals; stack = below })) ≡ stored most slot want (record { locals = map (verification_type names) state.locals; stack = map (verification_type names) xs }) in
+    let Q : List Kind → Type 0 = λ xs. Some (type_state names (record { locals = locals; stack = below })) ≡ stored most slot want (record { locals = map (verification_type names) xs; stack = map (verification_type names) ks }) in
+    subst P same (subst Q vars (sym (rw (last_is names ks some, e, below_is names 1 ks, fits, ← l, ← b) refl)))
 
 pub some_items : (ks : List Kind) → (length ks == 0) ≡ false → 0 < length ks
 some_items [] e = absurd cc

@@ -193,9 +193,9 @@ pub step_pairs : (g : Ground) (st : Step) (s t : TypeState) → HasSecond (lengt
 step_pairs g (moves forms) s t room pairs e = subst Paired (same_locals s t _ e) pairs
 step_pairs g (loads k w) s t room pairs e = subst Paired (same_locals s t _ (then_some (accepts w (get_or s.locals k top)) _ t e).1) pairs
 step_pairs g (stores k w) s t room pairs e =
-    let p = then_some (accepts w (last s.stack)) (Some (record { locals = put_local k (last s.stack) s.locals; stack = below 1 s.stack })) t e in
-    subst Paired (ap (λ (u : TypeState). u.locals) (same_Some _ t p.1)) (put_pairs k (last s.stack) s.locals (λ wide. room (pair-taken (λ n. n) w (last s.stack) p.0 wide)) pairs)
-step_pairs g (counts k) s t room pairs e = subst Paired (ap (λ (u : TypeState). u.locals) (same_Some s t (then_some (is_int (get_or s.locals k top)) (Some s) t e).1)) pairs
+    let h = last s.stack in let p = then_some (accepts w h) _ t e in
+    subst Paired (same_locals (record { locals = put_local k h s.locals; stack = s.stack }) t _ p.1) (put_pairs k h s.locals (λ wide. room (pair-taken (λ n. n) w h p.0 wide)) pairs)
+step_pairs g (counts k) s t room pairs e = subst Paired (same_locals s t _ (then_some (is_int (get_or s.locals k top)) _ t e).1) pairs
 step_pairs g picks s t room pairs e =
     subst Paired (same_locals s t _ (then_some (is_array (get_or (upper 2 s.stack) 0 top) && is_int (get_or (upper 2 s.stack) 1 top)) _ t e).1) pairs
 step_pairs g makes s t room pairs e =

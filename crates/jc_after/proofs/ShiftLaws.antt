@@ -7,7 +7,7 @@ use Rattle.jc_after.specs.declared.want.Want.{Want}
 use Rattle.jc_after.specs.declared.want.Want.TheVariants as wants
 use Rattle.jc_methods.specs.VerificationTypes.{VerificationType, top, int, float, double, long, null, uninit_this, object, uninit, TypeState, width, is_pair, slots}
 use Rattle.jc_after.specs.Wants.{accepts, accepts_all}
-use Rattle.jc_after.specs.Step.{Gives, kind, item, StackEffect, moves, loads, stores, counts, picks, picked, makes, builds, fails, Ground, apply, is_array, element_of, given_of, limited, below, upper, has_form, moved, moved_by, cleared, clear_before, put_second, put_local, with_stack, last, loaded, is_made, without, same_new, replaced, built_as, class_built}
+use Rattle.jc_after.specs.Step.{Gives, kind, item, StackEffect, moves, loads, stores, counts, picks, picked, makes, builds, fails, Ground, apply, is_array, element_of, given_of, limited, below, upper, has_form, moved, moved_by, cleared, clear_before, put_second, put_local, with_stack, last, loaded, stored, counted, is_made, without, same_new, replaced, built_as, class_built}
 use Rattle.jc_after.specs.Shift.{renamed, probes, shifted, slot_of, IsPlaceless, IsPlain, CanShift, StaysWhole, StepShifts, takes_pair}
 
 module _ (f : ℕ → ℕ) where
@@ -282,7 +282,8 @@ module _ (f : ℕ → ℕ) where
   pub counts-shifted : (v k : ℕ) (g : Ground) (s : TypeState) → v ≤ length s.locals →
       apply g (counts (slot_of v k)) (shifted f v s) ≡ option_map (shifted f v) (apply g (counts k) s)
   counts-shifted v k g s le = let h = get_or s.locals k top in
-      rw (read-shifted v k s le, accepts-renamed f wants.Int h) (none-map (shifted f v) (accepts wants.Int h) (Some s))
+      rw (read-shifted v k s le, accepts-renamed f wants.Int h, limited-renamed f g.most s.stack, with-shifted f v s (limited g.most s.stack))
+      (none-map (shifted f v) (accepts wants.Int h) (with_stack s (limited g.most s.stack)))
 
   last-renamed : (stack : List VerificationType) → last (map q stack) ≡ q (last stack)
   last-renamed stack = ap (λ l. get_or l 0 top) (upper-renamed f 1 stack) ∙ get-renamed f (upper 1 stack) 0
@@ -325,9 +326,12 @@ module _ (f : ℕ → ℕ) where
           ap (λ l. insert l v probes) (put-renamed k h s.locals)
 
       by : (b : Bool) → accepts w (last s.stack) ≡ b →
-          (if b then Some (record { locals = put_local (slot_of v k) (q (last s.stack)) (insert (map q s.locals) v probes); stack = map q (below 1 s.stack) }) else None)
-          ≡ option_map (shifted f v) (if b then Some (record { locals = put_local k (last s.stack) s.locals; stack = below 1 s.stack }) else None)
-      by true a = ap (λ (l : List VerificationType). let t : TypeState = record { locals = l; stack = map q (below 1 s.stack) } in Some t) (placed a)
+          (if b then with_stack (record (shifted f v s) { locals = put_local (slot_of v k) (q (last s.stack)) (insert (map q s.locals) v probes) }) (limited g.most (map q (below 1 s.stack))) else None)
+          ≡ option_map (shifted f v) (if b then with_stack (record s { locals = put_local k (last s.stack) s.locals }) (limited g.most (below 1 s.stack)) else None)
+      by true a =
+          ap (λ (l : List VerificationType). with_stack (record (shifted f v s) { locals = l }) (limited g.most (map q (below 1 s.stack)))) (placed a)
+          ∙ ap (with_stack (shifted f v (record s { locals = put_local k (last s.stack) s.locals }))) (limited-renamed f g.most (below 1 s.stack))
+          ∙ with-shifted f v (record s { locals = put_local k (last s.stack) s.locals }) (limited g.most (below 1 s.stack))
       by false a = refl
 
   -- ---- `new`
@@ -451,8 +455,10 @@ shift-law image v g new (moves forms) s im can le whole =
     ap (λ m. with_stack (shifted image v s) (moved_by m forms (map (renamed image) s.stack))) im.most ∙ moves-shifted image v g forms s can
 shift-law image v g new (loads k w) s im can le whole =
     ap (λ m. loaded m (slot_of v k) w (shifted image v s)) im.most ∙ loads-shifted image v k g w s le
-shift-law image v g new (stores k w) s im can le whole = stores-shifted image v k g w s can le whole
-shift-law image v g new (counts k) s im can le whole = counts-shifted image v k g s le
+shift-law image v g new (stores k w) s im can le whole =
+    ap (λ m. stored m (slot_of v k) w (shifted image v s)) im.most ∙ stores-shifted image v k g w s can le whole
+shift-law image v g new (counts k) s im can le whole =
+    ap (λ m. counted m (slot_of v k) (shifted image v s)) im.most ∙ counts-shifted image v k g s le
 shift-law image v g new picks s im can le whole = ap (λ m. picked m (shifted image v s)) im.most ∙ picks-shifted image v g s
 shift-law image v g new makes s im can le whole = makes-shifted image im.apart v g new s im.place im.most
 shift-law image v g new (builds form) s im can le whole = builds-shifted image im.apart v g new form s im.classes im.owner im.most can

@@ -1,12 +1,11 @@
--- The entry for a place, and what it does to types.
-use Rattle.std.proofs.Common.{◌≡◌, ⊎_elim, ℕ, ◌+◌, ◌<◌, Bool, true, false, List, [], ◌∷◌, ◌++◌, length, get_or, take, Option, Some, None, option_map, nat_eq, refl, sym, ap, subst, ◌∙◌}
-use Rattle.std.proofs.lemmas.Bool.{cases_lt, eqb-true, eqb-false}
-use Rattle.std.specs.List.Sorted.{IsPartitionPoint}
+-- What the entries do to types, by their places.
+use Rattle.std.proofs.Common.{◌≡◌, ℕ, Bool, true, false, cond, Bor, List, [], ◌∷◌, ◌++◌, Option, Some, None, option_map, is_some, nat_eq, refl, sym, ap, subst, ◌∙◌}
+use Rattle.std.specs.Prelude.{IsSome, option_copied}
+use Rattle.std.specs.HashMap.{HashMap, get}
+use Rattle.std.proofs.lemmas.Bool.{eqb-true, true≢false}
+use Rattle.std.proofs.lemmas.Option.{none-some, same_Some}
 use Rattle.jc_methods.specs.declared.body.Use.{Use}
 use Rattle.jc_methods.specs.declared.body.What.{What}
-use Rattle.jc_methods.specs.declared.body.What.TheVariants as whats
-use Rattle.std.proofs.lemmas.List.{take_more, get_or_default}
-use Rattle.std.proofs.lemmas.Option.{none-some, same_Some}
 use Rattle.jc_methods.specs.declared.value_type.ValueType.{ValueType}
 use Rattle.jc_methods.specs.Opcode as opcode
 use Rattle.jc_bytes.specs.Descriptor.{FieldType, MethodType, IsMethodDescriptor, DescribesMethod}
@@ -16,38 +15,99 @@ use Rattle.jc_methods.specs.ValueTypes.{held_by, SaysReturn}
 use Rattle.jc_methods.proofs.DescriptorTypesLaws.{method_again}
 use Rattle.jc_after.specs.After.{return_for, return_op}
 use Rattle.jc_methods.specs.VerificationTypes.{Names, VerificationType, Grows}
-use Rattle.jc_methods.specs.WellMade.{AreRisingFrom, what_used}
-use Rattle.jc_methods.proofs.UsedLaws.{is_below, past_all, stands, stands_not}
+use Rattle.jc_methods.specs.WellMade.{what_used}
 use Rattle.jc_after.specs.declared.effect.Effect.{Effect}
-use Rattle.jc_after.specs.Does.{Says, AllSay}
-use Rattle.jc_after.proofs.DoesLaws.{all_say_at, all_say_later, all_say_push}
+use Rattle.jc_after.specs.Does.{Says, SaysThere, AllSay}
+use Rattle.jc_after.proofs.DoesLaws.{there_later}
 
-abbrev Halves : List Use → ℕ → ℕ → Type 0
-Halves uses place middle = IsPartitionPoint (λ u. is_below place u ≡ true) (λ u. is_below place u ≡ false) uses middle
+-- ---- one entry more
 
-pub position_within : (uses : List Use) (place middle : ℕ) (used : (what : What) × (what_used uses place ≡ Some what)) → Halves uses place middle → middle < length uses
-position_within uses place middle used halves =
-    ⊎_elim (λ lt. lt) (λ past. absurd (none-some _ (past_all uses place middle halves past ∙ used.1))) (cases_lt middle (length uses))
-
-pub position_used : (uses : List Use) (place middle : ℕ) (used : (what : What) × (what_used uses place ≡ Some what)) → AreRisingFrom 0 uses → Halves uses place middle
-    → (d : Use) → what_used uses place ≡ Some (get_or uses middle d).what
-position_used uses place middle used rising halves d =
-    let lt = position_within uses place middle used halves in
-    by lt (get_or_default uses middle d (get_or uses middle d) lt) (nat_eq (get_or uses middle d).place place) refl
+-- what stands at a place, with an entry behind the others: the first one says it
+used_before : (uses : List Use) (u : Use) (place : ℕ) (what : What) → what_used uses place ≡ Some what → what_used (uses ++ u ∷ []) place ≡ Some what
+used_before [] u place what e = absurd (none-some what e)
+used_before (v ∷ uses) u place what e = by (nat_eq v.place place) (used_before uses u place what) e
   where
-    by : middle < length uses → get_or uses middle d ≡ get_or uses middle (get_or uses middle d) → (b : Bool) → nat_eq (get_or uses middle d).place place ≡ b → what_used uses place ≡ Some (get_or uses middle d).what
-    by lt is true e = sym (stands uses place middle (get_or uses middle d) rising lt is (eqb-true (get_or uses middle d).place place e))
-    by lt is false e = absurd (none-some _ (stands_not uses place middle (get_or uses middle d) rising halves lt is (eqb-false (get_or uses middle d).place place e) ∙ used.1))
+    by : (b : Bool) → (what_used uses place ≡ Some what → what_used (uses ++ u ∷ []) place ≡ Some what) → cond b (Some v.what) (what_used uses place) ≡ Some what
+        → cond b (Some v.what) (what_used (uses ++ u ∷ []) place) ≡ Some what
+    by true more e = e
+    by false more e = more e
 
-no_use : Use
-no_use = record { place = 0; what = whats.Float }
+used_last : (uses : List Use) (u : Use) (place : ℕ) → what_used uses place ≡ None → what_used (uses ++ u ∷ []) place ≡ cond (nat_eq u.place place) (Some u.what) None
+used_last [] u place e = refl
+used_last (v ∷ uses) u place e = by (nat_eq v.place place) (used_last uses u place) e
+  where
+    by : (b : Bool) → (what_used uses place ≡ None → what_used (uses ++ u ∷ []) place ≡ cond (nat_eq u.place place) (Some u.what) None) → cond b (Some v.what) (what_used uses place) ≡ None
+        → cond b (Some v.what) (what_used (uses ++ u ∷ []) place) ≡ cond (nat_eq u.place place) (Some u.what) None
+    by true more e = absurd (none-some v.what (sym e))
+    by false more e = more e
 
--- what stands at the place is what the entry at the position says
-pub says_there : (names : Names) (uses : List Use) (each : List Effect) (place i : ℕ) (what : What) (e : Effect) → AllSay names uses each → i < length uses
-    → ((d : Use) → what_used uses place ≡ Some (get_or uses i d).what) → what_used uses place ≡ Some what → length each ≡ length uses → e ≡ get_or each i e → Says names what e
-says_there names uses each place i what e all lt used is count read =
-    let same : (get_or uses i no_use).what ≡ what = same_Some _ _ (sym (used no_use) ∙ is) in
-    subst (λ (f : Effect). Says names what f) (sym read) (subst (λ (w : What). Says names w (get_or each i e)) same (all_say_at names uses each i no_use e all lt))
+-- where something is said of a place, something stands there, and where nothing is, nothing does
+said_some : (names : Names) (o : Option What) (p : Option Effect) → SaysThere names o p → is_some p ≡ true → (what : What) × (o ≡ Some what)
+said_some names (Some what) p says is = (what, refl)
+said_some names None (Some f) says is = elim says [ ]
+said_some names None None says is = absurd (true≢false (sym is))
+
+said_none : (names : Names) (o : Option What) (p : Option Effect) → SaysThere names o p → is_some p ≡ false → o ≡ None
+said_none names None p says is = refl
+said_none names (Some what) None says is = elim says [ ]
+said_none names (Some what) (Some f) says is = absurd (true≢false is)
+
+module _ {S : Type 0} where
+  pub none_said : (names : Names) (effects : HashMap ℕ Effect S) → effects.entries ≡ [] → AllSay names [] effects
+  none_said names effects empty = record { there = λ place. rw empty tt }
+
+  pub all_say_later : (old new : Names) (uses : List Use) (effects : HashMap ℕ Effect S) → Grows old new → AllSay old uses effects → AllSay new uses effects
+  all_say_later old new uses effects g all = record { there = λ place. there_later old new (what_used uses place) (get nat_eq effects place) g (all.there place) }
+
+  -- an entry for a place of an earlier one
+  pub said_before : (names : Names) (uses : List Use) (effects : HashMap ℕ Effect S) (u : Use) → AllSay names uses effects → is_some (get nat_eq effects u.place) ≡ true
+      → AllSay names (uses ++ u ∷ []) effects
+  said_before names uses effects u all is = record { there = λ place. by place (what_used uses place) refl (all.there place) }
+    where
+      by : (place : ℕ) (o : Option What) → what_used uses place ≡ o → SaysThere names o (get nat_eq effects place) → SaysThere names (what_used (uses ++ u ∷ []) place) (get nat_eq effects place)
+      by place (Some what) used says = subst (λ (o : Option What). SaysThere names o (get nat_eq effects place)) (sym (used_before uses u place what used)) says
+      by place None used says = subst (λ (o : Option What). SaysThere names o (get nat_eq effects place)) (sym (used_last uses u place used)) (at (nat_eq u.place place) refl)
+        where
+          at : (b : Bool) → nat_eq u.place place ≡ b → SaysThere names (cond b (Some u.what) None) (get nat_eq effects place)
+          at false apart = says
+          at true same =
+              let there = said_some names (what_used uses u.place) (get nat_eq effects u.place) (all.there u.place) is in
+              absurd (none-some there.0 (sym used ∙ ap (what_used uses) (sym (eqb-true u.place place same)) ∙ there.1))
+
+  -- the first entry for its place
+  pub said_more : (names : Names) (uses : List Use) (effects new : HashMap ℕ Effect S) (u : Use) (e : Effect) → AllSay names uses effects → Says names u.what e
+      → is_some (get nat_eq effects u.place) ≡ false → ((q : ℕ) → get nat_eq new q ≡ cond (nat_eq u.place q) (Some e) (get nat_eq effects q)) → AllSay names (uses ++ u ∷ []) new
+  said_more names uses effects new u e all says none updates =
+      record { there = λ place. subst (SaysThere names (what_used (uses ++ u ∷ []) place)) (sym (updates place)) (at place (nat_eq u.place place) refl) }
+    where
+      at : (place : ℕ) (b : Bool) → nat_eq u.place place ≡ b → SaysThere names (what_used (uses ++ u ∷ []) place) (cond b (Some e) (get nat_eq effects place))
+      at place true same =
+          let is = eqb-true u.place place same in
+          let nothing = said_none names (what_used uses place) (get nat_eq effects place) (all.there place) (ap (λ (n : ℕ). is_some (get nat_eq effects n)) (sym is) ∙ none) in
+          subst (λ (o : Option What). SaysThere names o (Some e)) (sym (used_last uses u place nothing ∙ ap (λ (b : Bool). cond b (Some u.what) None) same)) says
+      at place false apart = by (what_used uses place) refl (all.there place)
+        where
+          by : (o : Option What) → what_used uses place ≡ o → SaysThere names o (get nat_eq effects place) → SaysThere names (what_used (uses ++ u ∷ []) place) (get nat_eq effects place)
+          by (Some what) used h = subst (λ (o : Option What). SaysThere names o (get nat_eq effects place)) (sym (used_before uses u place what used)) h
+          by None used h =
+              subst (λ (o : Option What). SaysThere names o (get nat_eq effects place)) (sym (used_last uses u place used ∙ ap (λ (b : Bool). cond b (Some u.what) None) apart)) h
+
+  -- what is said of a place where something stands
+  pub said_there : (names : Names) (uses : List Use) (effects : HashMap ℕ Effect S) (place : ℕ) (what : What) → AllSay names uses effects → what_used uses place ≡ Some what
+      → (e : Effect) × (get nat_eq effects place ≡ Some e) × Says names what e
+  said_there names uses effects place what all used = by (get nat_eq effects place) refl (subst (λ (o : Option What). SaysThere names o (get nat_eq effects place)) used (all.there place))
+    where
+      by : (p : Option Effect) → get nat_eq effects place ≡ p → SaysThere names (Some what) p → (e : Effect) × (get nat_eq effects place ≡ Some e) × Says names what e
+      by (Some e) is says = (e, is, says)
+      by None is says = elim says [ ]
+
+-- what a look finds that lends a value
+pub lent_some : (r : Option (Bor Effect)) (e : Effect) → option_copied r ≡ Some e → IsSome r
+lent_some (Some b) e is = tt
+lent_some None e is = absurd (none-some e is)
+
+pub lent_is : (r : Option (Bor Effect)) (b : Bor Effect) (e : Effect) → r ≡ Some b → option_copied r ≡ Some e → b.now ≡ e
+lent_is r b e there is = same_Some b.now e (ap option_copied (sym there) ∙ is)
 
 -- ---- returns
 
@@ -71,11 +131,3 @@ return_none desc r d says is =
     by : (o : Option FieldType) → None ≡ option_map held_of o → opcode.return ≡ return_op o
     by None f = refl
     by (Some t) f = absurd (no_result (held_of t) f)
-
--- one more use
-pub said_more : (old new : Names) (uses : List Use) (each after : List Effect) (i : ℕ) (d : Use) (what : What) (e : Effect) → AllSay old (take i uses) each → Grows old new → i < length uses
-    → what ≡ (get_or uses i d).what → Says new what e → after ≡ each ++ e ∷ [] → AllSay new (take (i + 1) uses) after
-said_more old new uses each after i d what e all g lt is says pushed =
-    let more : take (i + 1) uses ≡ take i uses ++ get_or uses i d ∷ [] = take_more uses i d lt in
-    subst (AllSay new (take (i + 1) uses)) (sym pushed) (subst (λ (us : List Use). AllSay new us (each ++ e ∷ [])) (sym more)
-    (all_say_push new (take i uses) each (get_or uses i d) e (all_say_later old new (take i uses) each g all) (subst (λ (w : What). Says new w e) is says)))

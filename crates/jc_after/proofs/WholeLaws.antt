@@ -70,8 +70,8 @@ stored_whole : (v k : ℕ) (g : Ground) (w : Want) (s t : TypeState) → CanShif
     → StaysWhole v t
 stored_whole v k g w s t can whole e j at =
     let h = last s.stack in
-    let p = then_some (accepts w h) (Some (record { locals = put_local k h s.locals; stack = below 1 s.stack })) t e in
-    let l : put_local k h s.locals ≡ t.locals = ap (λ (u : TypeState). u.locals) (same_Some _ _ p.1) in
+    let p = then_some (accepts w h) _ t e in
+    let l : put_local k h s.locals ≡ t.locals = same_locals (record { locals = put_local k h s.locals; stack = s.stack }) t _ p.1 in
     let single : j ≡ k → is_pair h ≡ false = λ same.
     false_from_ne_true _ (λ wide. can (pair-taken (λ n. n) w h p.0 wide) (ap (λ (n : ℕ). n + 1) (sym same) ∙ at)) in
     subst (λ (ls : List VerificationType). IsSingle ls j) l (put_keeps k j h s.locals single (whole j at))
@@ -89,7 +89,7 @@ step_whole v g (loads k w) s t can e whole =
     same_whole v s t (same_locals s t _ (then_some (accepts w (get_or s.locals k top)) _ t e).1) whole
 step_whole v g (stores k w) s t can e whole = stored_whole v k g w s t can whole e
 step_whole v g (counts k) s t can e whole =
-    same_whole v s t (ap (λ (u : TypeState). u.locals) (same_Some s t (then_some (is_int (get_or s.locals k top)) (Some s) t e).1)) whole
+    same_whole v s t (same_locals s t _ (then_some (is_int (get_or s.locals k top)) _ t e).1) whole
 step_whole v g picks s t can e whole =
     let array = get_or (upper 2 s.stack) 0 top in let index = get_or (upper 2 s.stack) 1 top in
     same_whole v s t (same_locals s t _ (then_some (is_array array && is_int index) _ t e).1) whole

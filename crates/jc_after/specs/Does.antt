@@ -1,11 +1,13 @@
 -- What one thing that a body uses does to types, read once and kept under numbers of class names.
-use Rattle.std.specs.Prelude.{◌≡◌, ⊤, ℕ, ◌++◌, Bool, false, List, [], ◌∷◌, length, map, Option, Some, None, option_map, nat_le, codes, bytes_eq, if◌then◌else◌}
+use Rattle.std.specs.Prelude.{◌≡◌, ⊤, ℕ, ◌++◌, Bool, false, List, [], ◌∷◌, length, map, Option, Some, None, option_map, nat_le, codes, bytes_eq, nat_eq, if◌then◌else◌}
+use Rattle.std.specs.HashMap.{HashMap, get}
 use Rattle.jc_methods.specs.declared.body.Use.{Use}
 use Rattle.jc_methods.specs.declared.body.What.{What}
 use Rattle.jc_methods.specs.declared.body.What.TheVariants as whats
 use Rattle.jc_bytes.specs.Descriptor.{FieldType, MethodType, IsFieldDescriptor, IsMethodDescriptor}
 use Rattle.jc_methods.specs.DescriptorTypes.{field_type_in, method_type_in}
 use Rattle.jc_methods.specs.EntryState.{held_of}
+use Rattle.jc_methods.specs.WellMade.{what_used}
 use Rattle.jc_methods.specs.VerificationTypes.{Names, VerificationType, int, float, double, long, object, verification_type}
 use Rattle.jc_after.specs.declared.want.Want.{Want}
 use Rattle.jc_after.specs.declared.want.Want.TheVariants as wants
@@ -68,8 +70,12 @@ does names (effects.Class itself array constant) = of_class (verification_type n
 abbrev pub Says : Names → What → Effect → Type 0
 Says names what effect = (more : Names) → IsDescribed what → does (names ++ more) effect ≡ does_of what
 
--- one for each use, in their order
-abbrev pub AllSay : Names → List Use → List Effect → Type 0
-AllSay names [] [] = ⊤
-AllSay names (u ∷ uses) (e ∷ each) = Says names u.what e × AllSay names uses each
-AllSay names _ _ = ⊥
+-- the same of what stands at a place, or nothing where nothing does
+abbrev pub SaysThere : Names → Option What → Option Effect → Type 0
+SaysThere names None None = ⊤
+SaysThere names (Some what) (Some effect) = Says names what effect
+SaysThere names _ _ = ⊥
+
+-- by place, whatever the order of the entries is
+pub record AllSay {S : Type 0} (names : Names) (uses : List Use) (effects : HashMap ℕ Effect S) : Type 0 where
+  pub there : (place : ℕ) → SaysThere names (what_used uses place) (get nat_eq effects place)

@@ -9,6 +9,7 @@ use Rattle.jc_methods.specs.WellMade.{what_used}
 use Rattle.jc_methods.specs.Flow.{is_conditional_branch, inverse_of}
 use Rattle.jc_methods.specs.Insn.{with_places}
 use Rattle.jc_methods.specs.InsnUse.{pool_place, is_of_two_slots}
+use Rattle.jc_methods.specs.Slots.{with_slots}
 use Rattle.jc_methods.specs.VerificationTypes.{VerificationType, top, object, uninit, TypeState, is_pair}
 use Rattle.jc_after.specs.declared.want.Want.{Want}
 use Rattle.jc_after.specs.declared.want.Want.TheVariants as wants
@@ -36,10 +37,9 @@ shifted image v s = record { locals = insert (map (renamed image) s.locals) v pr
 abbrev pub slot_of : ℕ → ℕ → ℕ
 slot_of v k = if nat_lt k v then k else k + 1
 
+-- the instruction, with the local variable that it names shifted
 abbrev pub with_slot : ℕ → Insn → Insn
-with_slot v (insns.Local op slot) = insns.Local op (slot_of v slot)
-with_slot v (insns.Inc slot by) = insns.Inc (slot_of v slot) by
-with_slot v insn = insn
+with_slot v insn = with_slots (slot_of v) insn
 
 -- the image of an instruction: it leads elsewhere, and a conditional jump may be inverted
 pub data IsImage (v : ℕ) (insn new : Insn) : Type 0 where

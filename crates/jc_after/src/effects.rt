@@ -11,18 +11,19 @@ use crate::step::{
     Step, class_of, class_step, constant_step, is_aaload, local_step, member_step, multi_step,
     object_step, simple_step, static_step,
 };
-use crate::uses::{all_effects, effect_at, return_opcode};
+use crate::uses::{all_effects, return_opcode};
 use crate::want::are_accepted;
-use jc_bytes::{List, Memory, Names, TryClone};
+use jc_bytes::{Memory, Names, TryClone};
 use jc_methods::{Body, Insn, Kind, State, opcode};
 use std::alloc::Global;
+use std::collections::HashMap;
 
 /// What the instructions of a body do to types, with each descriptor read once.
 #[derive(Debug, Drop)]
 pub struct Effects<'a> {
     body: &'a Body,
-    /// One for each of the body's uses, in their order.
-    uses: List<Effect>,
+    /// Those of the body's uses, by their places in the pool.
+    uses: HashMap<u16, Effect>,
     /// An object of the body's class.
     owner: Kind,
     /// The opcode of the method's returns.
@@ -73,7 +74,7 @@ impl<'a> Effects<'a> {
         requires used { (what : What) × (what_used (body_of self.now).uses place ≡ Some what) }
         ensures { DoesAt self.now place result.now }
     {
-        effect_at(&self.body.uses, &self.uses, place)
+        self.uses.get(&place).unwrap()
     }
 
     /// What an instruction does to types.
@@ -209,8 +210,8 @@ impl<'a> Effects<'a> {
             ),
             Step::Call(wants, None) => move_state(alloc, state, wants, &[], most),
             Step::Load(slot, want) => load(alloc, state, slot, want, most),
-            Step::Store(slot, want) => Ok(store(state, slot, want)),
-            Step::Count(slot) => Ok(count(state, slot)),
+            Step::Store(slot, want) => Ok(store(state, slot, want, most)),
+            Step::Count(slot) => Ok(count(state, slot, most)),
             Step::Make => make(alloc, state, place, most),
             Step::Build(wants, outcome) => self.build_with(alloc, &state, wants, outcome),
             Step::Fail => Ok(None),
@@ -271,7 +272,8 @@ impl<'a> Effects<'a> {
     }
 
     /// The types after the instruction with this number, where it may be reached with the types before it. There
-    /// are none exactly where an operand is missing or of another kind, where the stack hasn't slots enough, or
+    /// are none exactly where an operand is missing or of another kind, where the stack would have more slots than
+    /// `max_stack` after it (JVM Specification 4.9.2), whichever the instruction is and however many it had before, or
     /// where one of the other rules of the instruction is broken.
     ///
     /// # Errors

@@ -6,7 +6,7 @@ ghost use Rattle.jc_after.specs.Step.{put_local as with_local, loaded, stored, c
 
 use crate::Want;
 use crate::form::Give;
-use crate::moves::move_state;
+use crate::moves::{is_within, move_state};
 use crate::want::accepts;
 use jc_bytes::{List, Memory};
 use jc_methods::{Kind, State};
@@ -94,9 +94,9 @@ pub fn load(
 }
 
 /// The state with the value on top stored in a local variable.
-pub fn store(state: State, slot: u16, want: Want) -> Option<State>
+pub fn store(state: State, slot: u16, want: Want, most: u16) -> Option<State>
     requires { slot < length state.locals }
-    ensures { (names : Names) → option_map (type_state names) result ≡ stored slot want (type_state names state) }
+    ensures { (names : Names) → option_map (type_state names) result ≡ stored most slot want (type_state names state) }
 {
     let stack = state.stack.as_slice();
     if stack.is_empty() {
@@ -105,6 +105,9 @@ pub fn store(state: State, slot: u16, want: Want) -> Option<State>
     let base = stack.len() - 1;
     let kind = stack[base];
     if !accepts(want, kind) {
+        return None;
+    }
+    if !is_within(&stack[..base], most) {
         return None;
     }
     let State { locals, stack } = state;
@@ -117,11 +120,14 @@ pub fn store(state: State, slot: u16, want: Want) -> Option<State>
 }
 
 /// The state after a local variable was added to.
-pub fn count(state: State, slot: u16) -> Option<State>
+pub fn count(state: State, slot: u16, most: u16) -> Option<State>
     requires { slot < length state.locals }
-    ensures { (names : Names) → option_map (type_state names) result ≡ counted slot (type_state names state) }
+    ensures { (names : Names) → option_map (type_state names) result ≡ counted most slot (type_state names state) }
 {
     if !accepts(Want::Int, state.locals[slot as usize]) {
+        return None;
+    }
+    if !is_within(&state.stack, most) {
         return None;
     }
     Some(state)

@@ -9,8 +9,10 @@ use jc_bytes::{Memory, Names};
 use jc_methods::{Body, State};
 use std::alloc::Global;
 
-/// The types after an instruction of a body (JVM Specification 4.10.1.9). For many instructions of one body
-/// `Effects` reads each descriptor once.
+/// The types after an instruction of a body (JVM Specification 4.10.1.9). There are none exactly where an operand is
+/// missing or of another kind, where the stack would have more slots than `max_stack` after the instruction, whichever it
+/// is and however many it had before, or where one of the other rules of the instruction is broken. For many instructions
+/// of one body `Effects` reads each descriptor once.
 ///
 /// # Errors
 ///

@@ -1,51 +1,52 @@
 //! What the things that a body uses do to types.
-ghost use Rattle.std.specs.Prelude.{◌≡◌, ◌<◌, ℕ, length, Option, Some, IfOk, slice_index_or};
+ghost use Rattle.std.specs.Prelude.{◌≡◌, ◌∷◌, ◌++◌, [], List as Seq, IfOk, OnOk};
 ghost use Rattle.jc_bytes.specs.Descriptor.{IsMethodDescriptor};
 ghost use Rattle.jc_methods.specs.DescriptorTypes.{method_type_in};
 ghost use Rattle.jc_methods.specs.VerificationTypes.{Names, Grows};
 ghost use Rattle.jc_methods.specs.ValueTypes.{held_by};
-ghost use Rattle.jc_methods.specs.WellMade.{AreRisingFrom, what_used};
 ghost use Rattle.jc_methods.specs.declared.body.Use.{Use};
-ghost use Rattle.jc_methods.specs.declared.body.What.{What};
 ghost use Rattle.jc_after.specs.After.{return_for, return_op};
-ghost use Rattle.jc_after.specs.Does.{AllSay, Says};
+ghost use Rattle.jc_after.specs.Does.{AllSay};
 
 use crate::effect::{Effect, effect_of};
-use jc_bytes::{List, Memory, Names};
+use jc_bytes::{Memory, Names};
 use jc_methods::{Use, ValueType, method_types, opcode};
 use std::alloc::Global;
+use std::collections::HashMap;
 
-/// Where the entry for a place stands.
-fn position_of(uses: &[Use], place: u16) -> usize
-    requires rising { AreRisingFrom 0 uses.now }
-    requires used { (what : What) × (what_used uses.now place ≡ Some what) }
-    ensures within { result < length uses.now }
-    ensures used { (d : Use) → what_used uses.now place ≡ Some (slice_index_or uses.now result d).what }
+/// Reads what one more use does to types, unless an earlier one is for its place.
+fn add_effect(
+    alloc: Global,
+    entry: &Use,
+    effects: &mut HashMap<u16, Effect>,
+    names: &mut Names,
+) -> Result<(), Memory>
+    ensures effects { (uses : Seq Use) → AllSay names.old uses effects.old
+        → OnOk result (AllSay names.new (uses ++ entry.now ∷ []) effects.new) }
+    ensures names { Grows names.old names.new }
 {
-    uses.partition_point(|entry| entry.place < place)
+    if effects.contains_key(&entry.place) {
+        return Ok(());
+    }
+    let effect = effect_of(alloc, &entry.what, names)?;
+    effects.insert(entry.place, effect)?;
+    Ok(())
 }
 
-/// What the entry for a place does to types.
-pub fn effect_at<'e>(uses: &[Use], effects: &'e [Effect], place: u16) -> &'e Effect
-    requires rising { AreRisingFrom 0 uses.now }
-    requires used { (what : What) × (what_used uses.now place ≡ Some what) }
-    requires count { length effects.now ≡ length uses.now }
-    ensures { (names : Names) (what : What) → AllSay names uses.now effects.now → what_used uses.now place ≡ Some what →
-        Says names what result.now }
-{
-    &effects[position_of(uses, place)]
-}
-
-/// What each of the uses does to types.
-pub fn all_effects(alloc: Global, uses: &[Use], names: &mut Names) -> Result<List<Effect>, Memory>
+/// What each of the uses does to types, by its place in the pool. They may stand in any order.
+pub fn all_effects(
+    alloc: Global,
+    uses: &[Use],
+    names: &mut Names,
+) -> Result<HashMap<u16, Effect>, Memory>
     ensures effects { IfOk result (λ effects. AllSay names.new uses.now effects) }
     ensures names { Grows names.old names.new }
 {
-    let mut effects = Vec::new(alloc);
+    let mut effects = HashMap::new(alloc);
     'reading: for entry in uses {
-        effects.push(effect_of(alloc, &entry.what, names)?)?;
+        add_effect(alloc, entry, &mut effects, names)?;
     }
-    Ok(List::from_vec(effects))
+    Ok(effects)
 }
 
 /// The opcode of the return of a value.

@@ -15,6 +15,7 @@ pub use Rattle.jc_bytes.specs.Least
 pub use Rattle.jc_bytes.specs.FirstSeen
 pub use Rattle.jc_bytes.specs.PlainLists
 pub use Rattle.jc_bytes.specs.Texts
+pub use Rattle.jc_bytes.specs.Failing
 pub use Rattle.jc_methods.specs.Opcode
 pub use Rattle.jc_methods.specs.InsnForm
 pub use Rattle.jc_methods.specs.Insn
@@ -30,7 +31,12 @@ pub use Rattle.jc_methods.specs.Slots
 pub use Rattle.jc_methods.specs.ValueTypes
 pub use Rattle.jc_methods.specs.Starts
 pub use Rattle.jc_methods.specs.ProbeMembers
-pub use Rattle.jc_bytes.specs.Failing
 pub use Rattle.jc_outside.specs.Outside
 pub use Rattle.jc_outside.specs.Planned
 pub use Rattle.jc_outside.specs.InMemory
+pub use Rattle.jc_programs.specs.Turns
+pub use Rattle.jc_programs.specs.Throwables
+pub use Rattle.jc_programs.specs.Members
+pub use Rattle.jc_programs.specs.Narrowing
+pub use Rattle.jc_programs.specs.Entries
+pub use Rattle.jc_programs.specs.Probes

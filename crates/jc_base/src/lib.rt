@@ -2,21 +2,105 @@
 //! texts outside, and programs.
 #![tactic(auto)]
 
-pub use jc_bytes::{
-    Bytes, Fail, ItemReader, List, MOST_READ, Memory, Names, Reader, Refusal, RefusalKind, Short,
-    TryClone, Unfit, argument_slots, behind, byte_item, clone_each, counted,
-    each_descriptor_has_one_type, first_seen, first_unit, is_field_descriptor,
-    is_method_descriptor, is_modified, is_void, not_a_class, piece_item, put_bytes, put_u8,
-    put_u16, put_u32, put_u64, slots_of_parameters, split_type, u16_item, u32_item,
-};
-pub use jc_methods::{
-    Analysed, Arm, Body, Edge, Emitted, Flow, Form, FrameAt, Handler, Insn, Kind, LineAt,
-    MethodTypes, Plan, State, Use, ValueType, VarAt, What, a_descriptor_is_read_as_its_type,
-    a_method_begins_with_all_its_locals, a_replaced_slot_is_a_mapped_one, entry_state, field_type,
-    form_of, insn_numbers, inverse, is_conditional_branch, mapped_locals_are_within, method_types,
-    more_names_change_nothing, opcode, put_tops, the_wide_form_has_each_image, what_used,
-};
-pub use jc_outside::{
-    FileFault, Files, HostFiles, HostSink, MemoryFiles, MemorySink, Sink, SinkFault,
-};
-pub use jc_programs::{Linked, ProbeInit, Program, StaticField};
+pub use jc_bytes::Bytes;
+pub use jc_bytes::Fail;
+pub use jc_bytes::ItemReader;
+pub use jc_bytes::List;
+pub use jc_bytes::MOST_READ;
+pub use jc_bytes::Memory;
+pub use jc_bytes::Names;
+pub use jc_bytes::Reader;
+pub use jc_bytes::Refusal;
+pub use jc_bytes::RefusalKind;
+pub use jc_bytes::Short;
+pub use jc_bytes::TryClone;
+pub use jc_bytes::Unfit;
+pub use jc_bytes::argument_slots;
+pub use jc_bytes::behind;
+pub use jc_bytes::byte_item;
+pub use jc_bytes::clone_each;
+pub use jc_bytes::counted;
+pub use jc_bytes::each_descriptor_has_one_type;
+pub use jc_bytes::first_seen;
+pub use jc_bytes::first_unit;
+pub use jc_bytes::is_field_descriptor;
+pub use jc_bytes::is_method_descriptor;
+pub use jc_bytes::is_modified;
+pub use jc_bytes::is_void;
+pub use jc_bytes::not_a_class;
+pub use jc_bytes::piece_item;
+pub use jc_bytes::put_bytes;
+pub use jc_bytes::put_u8;
+pub use jc_bytes::put_u16;
+pub use jc_bytes::put_u32;
+pub use jc_bytes::put_u64;
+pub use jc_bytes::slots_of_parameters;
+pub use jc_bytes::split_type;
+pub use jc_bytes::u16_item;
+pub use jc_bytes::u32_item;
+pub use jc_methods::Analysed;
+pub use jc_methods::Arm;
+pub use jc_methods::Body;
+pub use jc_methods::DATA_NAME;
+pub use jc_methods::Edge;
+pub use jc_methods::Emitted;
+pub use jc_methods::FETCH_NAME;
+pub use jc_methods::FETCH_TYPE;
+pub use jc_methods::Flow;
+pub use jc_methods::Form;
+pub use jc_methods::FrameAt;
+pub use jc_methods::Handler;
+pub use jc_methods::INIT_NAME;
+pub use jc_methods::INIT_TYPE;
+pub use jc_methods::Insn;
+pub use jc_methods::Kind;
+pub use jc_methods::LineAt;
+pub use jc_methods::MethodTypes;
+pub use jc_methods::PROBE_ARRAY;
+pub use jc_methods::Plan;
+pub use jc_methods::RUNTIME_CLASS;
+pub use jc_methods::State;
+pub use jc_methods::Use;
+pub use jc_methods::ValueType;
+pub use jc_methods::VarAt;
+pub use jc_methods::What;
+pub use jc_methods::a_descriptor_is_read_as_its_type;
+pub use jc_methods::a_method_begins_with_all_its_locals;
+pub use jc_methods::a_replaced_slot_is_a_mapped_one;
+pub use jc_methods::entry_state;
+pub use jc_methods::field_type;
+pub use jc_methods::form_of;
+pub use jc_methods::insn_numbers;
+pub use jc_methods::inverse;
+pub use jc_methods::is_conditional_branch;
+pub use jc_methods::mapped_locals_are_within;
+pub use jc_methods::method_types;
+pub use jc_methods::more_names_change_nothing;
+pub use jc_methods::opcode;
+pub use jc_methods::put_tops;
+pub use jc_methods::the_wide_form_has_each_image;
+pub use jc_outside::FileFault;
+pub use jc_outside::Files;
+pub use jc_outside::HostFiles;
+pub use jc_outside::HostSink;
+pub use jc_outside::MemoryFiles;
+pub use jc_outside::MemorySink;
+pub use jc_outside::Sink;
+pub use jc_outside::SinkFault;
+pub use jc_programs::Case;
+pub use jc_programs::CaseEnd;
+pub use jc_programs::End;
+pub use jc_programs::Entry;
+pub use jc_programs::HitSet;
+pub use jc_programs::Linked;
+pub use jc_programs::ProbeInit;
+pub use jc_programs::ProbeSink;
+pub use jc_programs::Program;
+pub use jc_programs::RunPlan;
+pub use jc_programs::Schedule;
+pub use jc_programs::StaticEnd;
+pub use jc_programs::StaticField;
+pub use jc_programs::ThreadLine;
+pub use jc_programs::Thrown;
+pub use jc_programs::Value;
+pub use jc_programs::a_class_extends_the_classes_of_its_line;

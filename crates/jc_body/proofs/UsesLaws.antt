@@ -19,14 +19,51 @@ use Rattle.jc_methods.specs.declared.insn.Insn.{Insn}
 use Rattle.jc_methods.specs.declared.body.Use.{Use}
 use Rattle.jc_methods.specs.declared.body.What.{What}
 use Rattle.jc_methods.specs.InsnUse.{pool_place}
-use Rattle.jc_methods.specs.WellMade.{HasUse, HasShortTexts, AreRisingFrom, what_used}
-use Rattle.jc_methods.proofs.UsedLaws.{none_below}
+use Rattle.jc_methods.specs.WellMade.{HasUse, HasShortTexts, entries_for, what_used}
 use Rattle.jc_bytes.proofs.BooleanLaws.{in_map}
 use Rattle.jc_pool.specs.Pool.{PoolValue}
 use Rattle.jc_body.specs.declared.items.Row.{Row}
-use Rattle.jc_body.specs.BodyOf.{some_of, insn_places, row_places, places_used, used_at, AreUsesOf}
+use Rattle.jc_body.specs.BodyOf.{some_of, insn_places, row_places, places_used, used_at, AreRisingFrom, AreUsesOf}
 use Rattle.jc_body.specs.Used.{use_of, uses_of}
 use Rattle.jc_body.specs.Standing.{what_at}
+
+-- ---- entries whose places rise
+
+-- no place is below the first
+above : (first : ℕ) (uses : List Use) → AreRisingFrom first uses → (j : ℕ) (d : Use) → j < length uses → first ≤ (get_or uses j d).place
+above first [] rising j d inside = absurd (omega (arith, inside))
+above first (u ∷ us) rising zero d inside = rising.0
+above first (u ∷ us) rising (suc j) d inside = let behind = above (u.place + 1) us rising.1 j d (omega (arith, inside)) in omega (arith, behind, rising.0)
+
+-- what stands at the place of an entry is what that entry says
+pub entry_used : (first : ℕ) (uses : List Use) → AreRisingFrom first uses → (j : ℕ) (d : Use) → j < length uses → what_used uses (get_or uses j d).place ≡ Some (get_or uses j d).what
+entry_used first [] rising j d inside = absurd (omega (arith, inside))
+entry_used first (u ∷ us) rising zero d inside = rw (eq-eqb u.place u.place refl) refl
+entry_used first (u ∷ us) rising (suc j) d inside =
+    let behind = above (u.place + 1) us rising.1 j d (omega (arith, inside)) in
+    rw (ne_eqb u.place (get_or us j d).place (λ same. omega (arith, behind, same))) (entry_used (u.place + 1) us rising.1 j d (omega (arith, inside)))
+
+-- nothing is known of a place below the first
+none_below : (first : ℕ) (uses : List Use) → AreRisingFrom first uses → (place : ℕ) → place < first → what_used uses place ≡ None
+none_below first [] rising place less = refl
+none_below first (u ∷ us) rising place less =
+    rw (ne_eqb u.place place (λ same. omega (arith, rising.0, less, same))) (none_below (u.place + 1) us rising.1 place (omega (arith, rising.0, less)))
+
+-- and no entry is for it
+none_for : (first : ℕ) (uses : List Use) → AreRisingFrom first uses → (place : ℕ) → place < first → length (entries_for uses place) ≡ 0
+none_for first [] rising place less = refl
+none_for first (u ∷ us) rising place less =
+    rw (ne_eqb u.place place (λ same. omega (arith, rising.0, less, same))) (none_for (u.place + 1) us rising.1 place (omega (arith, rising.0, less)))
+
+-- a place at which something is known to stand has one entry
+one_for : (first : ℕ) (uses : List Use) (place : ℕ) (what : What) → AreRisingFrom first uses → what_used uses place ≡ Some what → length (entries_for uses place) ≡ 1
+one_for first [] place what rising used = absurd (none-some what used)
+one_for first (u ∷ us) place what rising used = by (nat_eq u.place place) refl used (one_for (u.place + 1) us place what rising.1)
+  where
+    by : (b : Bool) → nat_eq u.place place ≡ b → cond b (Some u.what) (what_used us place) ≡ Some what → (what_used us place ≡ Some what → length (entries_for us place) ≡ 1)
+        → length (cond b (u ∷ entries_for us place) (entries_for us place)) ≡ 1
+    by true here used behind = ap suc (none_for (u.place + 1) us rising.1 place (let same = eqb-true u.place place here in omega (arith, same)))
+    by false there used behind = behind used
 
 -- ---- the places of one instruction or row more
 
@@ -276,9 +313,13 @@ contains_filter p xs x pass c = at xs c.0 c.1 c.2
 pub has_use : (pool : PoolValue) (places : List ℕ) (uses : List Use) (place : ℕ) (what : What) (Fact : What → Type 0) → AreUsesOf pool places uses → Contains places place → what_at pool place ≡ Some what → Fact what → HasUse uses place Fact
 has_use pool places uses place what Fact are c is fact = record {
   what = what;
-  used = are.each place ∙ ap (λ (b : Bool). cond b (what_at pool place) None) (list_any-from_Contains nat_eq_equiv place places c) ∙ is;
+  used = used;
+  one = one_for 0 uses place what are.rising used;
   fact = fact;
 }
+  where
+    used : what_used uses place ≡ Some what
+    used = are.each place ∙ ap (λ (b : Bool). cond b (what_at pool place) None) (list_any-from_Contains nat_eq_equiv place places c) ∙ is
 
 pub insn_place_used : (insns : List Insn) (rows : List Row) (insn : Insn) (place : ℕ) → Contains insns insn → pool_place insn ≡ Some place → Contains (places_used insns rows) place
 insn_place_used insns rows insn place c is = Contains-append_left (insn_places insns) (row_places rows) place

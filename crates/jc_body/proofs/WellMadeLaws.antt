@@ -136,7 +136,6 @@ module _ (c : ClassFile) (coded : Coded) (uses : List Use) (are : AreUsesOf c.po
 
   are_uses : (method : Member) → IsFree c method coded → All (λ u. HasShortTexts u.what) uses → AreUses coded.insns (map (handler_of (insn_number coded.starts)) coded.items.rows) uses
   are_uses method free short = record {
-    rising = are.rising;
     by_insns = λ k d lt. insn_use (get_or coded.insns k d) (Contains-get_or coded.insns k d lt) (right k d lt);
     by_handlers = All-map (λ (h : Handler). h.class ≢ 0 → HasUse uses h.class IsClass) (handler_of (insn_number coded.starts)) coded.items.rows
         (λ k d lt. row_use (get_or coded.items.rows k d) (Contains-get_or coded.items.rows k d lt) (rows k d lt).class);

@@ -1,5 +1,5 @@
 -- The body of a method, or why it has none (JVM Specification 4.7.3).
-use Rattle.std.specs.Prelude.{◌≡◌, ◌+◌, ℕ, Bool, ◌&&◌, ◌||◌, not, List, [], ◌∷◌, ◌++◌, length, map}
+use Rattle.std.specs.Prelude.{◌≡◌, ⊤, ◌+◌, ◌≤◌, ℕ, Bool, ◌&&◌, ◌||◌, not, List, [], ◌∷◌, ◌++◌, length, map}
 use Rattle.std.specs.Prelude.{filter, Option, Some, None, nat_lt, nat_eq, slice_get, if◌then◌else◌}
 use Rattle.std.specs.List.{flat_map, list_any}
 use Rattle.jc_methods.specs.declared.body.Body.{Body}
@@ -15,7 +15,7 @@ use Rattle.jc_bytes.specs.declared.refusal.RefusalKind.{RefusalKind}
 use Rattle.jc_bytes.specs.declared.refusal.RefusalKind.TheVariants as kinds
 use Rattle.jc_methods.specs.InsnUse.{pool_place}
 use Rattle.jc_methods.specs.VerificationTypes.{Names, type_state_at, AreNumberedFrames}
-use Rattle.jc_methods.specs.WellMade.{TakeSlots, AreRisingFrom, what_used}
+use Rattle.jc_methods.specs.WellMade.{TakeSlots, what_used}
 use Rattle.jc_pool.specs.Lookup.{utf8_of, class_name_of}
 use Rattle.jc_pool.specs.Pool.{PoolValue}
 use Rattle.jc_class.specs.declared.class_file.ClassFile.{ClassFile}
@@ -102,6 +102,11 @@ places_used insns rows = insn_places insns ++ row_places rows
 -- what is used at a place: what stands there, if an instruction or a row uses it
 abbrev pub used_at : PoolValue → List ℕ → ℕ → Option What
 used_at pool places place = if list_any (nat_eq place) places then what_at pool place else None
+
+-- no two entries are for one place: the places rise, from one on
+abbrev pub AreRisingFrom : ℕ → List Use → Type 0
+AreRisingFrom first [] = ⊤
+AreRisingFrom first (u ∷ uses) = (first ≤ u.place) × AreRisingFrom (u.place + 1) uses
 
 -- one entry for each place that is used, in rising order, with what stands there
 pub record AreUsesOf (pool : PoolValue) (places : List ℕ) (uses : List Use) : Type 0 where

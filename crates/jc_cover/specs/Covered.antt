@@ -4,10 +4,13 @@ use Rattle.std.specs.Prelude.{slice_index_or, option_and_then, length, Contains}
 use Rattle.jc_bytes.specs.PlainLists.{map_from}
 use Rattle.jc_methods.specs.declared.insn.Insn.{Insn}
 use Rattle.jc_methods.specs.declared.body.Body.{Body}
+use Rattle.jc_programs.specs.declared.program.Program.{Program}
+use Rattle.jc_programs.specs.declared.program.Linked.{Linked}
 use Rattle.jc_plan.specs.declared.branch.Branch.{Branch}
 use Rattle.jc_plan.specs.Edges.{branches_of, branches}
 use Rattle.jc_plan.specs.Leading.{LeadsTo}
 use Rattle.jc_plan.specs.Probed.{is_probed, id_of, first_id}
+use Rattle.jc_plan.specs.ClassEdges.{ClassEdge, ProgramEdge, in_its_class}
 use Rattle.jc_cover.specs.declared.coverage.Coverage.{Coverage}
 
 -- ---- hits
@@ -53,6 +56,20 @@ CoveredInsn b first hits i = (x : Branch) × (x.at ≡ i) × Covered b first hit
 pub data CoveredByRule (b : Body) (first : ℕ) (hits : List Bool) : Branch → Type 0 where
   by_probe : (x : Branch) → Contains (branches b.code) x → HasHit b first hits x → CoveredByRule b first hits x
   by_next : (x y : Branch) → Contains (branches b.code) x → LeadsOn b x y → CoveredByRule b first hits y → CoveredByRule b first hits x
+
+-- ---- in a class and in a program
+
+-- an edge of the body with this number is covered, by hits of the class's probes
+pub record IsCovered (bodies : List Body) (hits : List Bool) (e : ClassEdge) : Type 0 where
+  pub body : Body
+  pub stands : slice_get bodies e.body ≡ Some body
+  pub covered : Covered body (first_id bodies e.body) hits e.branch
+
+-- an edge of the class at this place is, by the hits of each class
+pub record IsProgramCovered (program : Program) (hits : List (List Bool)) (e : ProgramEdge) : Type 0 where
+  pub class : Linked
+  pub stands : slice_get program.classes e.class ≡ Some class
+  pub covered : IsCovered class.bodies (slice_index_or hits e.class []) (in_its_class e)
 
 -- ---- the coverage of a class
 

@@ -1,11 +1,13 @@
 -- What covered edges say of edges that were taken, whoever took them: one walk, a run, or many of them.
-use Rattle.std.specs.Prelude.{◌≡◌, ℕ, ◌<◌, false, Contains}
+use Rattle.std.specs.Prelude.{◌≡◌, ℕ, ◌<◌, ◌↔◌, Bool, false, List, Some, Contains, IsTrue, slice_get}
 use Rattle.jc_methods.specs.declared.body.Body.{Body}
 use Rattle.jc_methods.specs.declared.body.Handler.{Handler}
 use Rattle.jc_plan.specs.declared.branch.Branch.{Branch}
 use Rattle.jc_plan.specs.Edges.{branches}
 use Rattle.jc_plan.specs.Leading.{LeadsTo}
 use Rattle.jc_plan.specs.Probed.{is_probed}
+use Rattle.jc_plan.specs.ClassEdges.{ClassEdge, edge_in, IsClassEdge, HasId}
+use Rattle.jc_cover.specs.Covered.{is_hit, IsCovered}
 
 -- the instruction is the first one, or a handler, or a taken edge leads to it
 pub data CameTo (b : Body) (Took : Branch → Type 0) (i : ℕ) : Type 0 where
@@ -24,3 +26,39 @@ pub record AreFollowed (b : Body) (Took : Branch → ℕ → Type 0) : Type 0 wh
   pub listed : (x : Branch) (left : ℕ) → Took x left → Contains (branches b.code) x
   pub next : (x : Branch) (left : ℕ) → Took x left → is_probed b x ≡ false
       → (y : Branch) × (later : ℕ) × (later < left) × LeadsTo x y.at × Took y later
+
+-- ---- in a class, by the numbers of its bodies
+
+-- the edges of the body with this number, of those of the class
+abbrev pub in_body : ℕ → (ClassEdge → Type 0) → Branch → Type 0
+in_body n Fact x = Fact (edge_in n x)
+
+abbrev pub AreEnteredInClass : List Body → (ClassEdge → Type 0) → (ClassEdge → Type 0) → Type 0
+AreEnteredInClass bodies Took Reached = (n : ℕ) (b : Body) → slice_get bodies n ≡ Some b → AreEntered b (in_body n Took) (in_body n Reached)
+
+abbrev pub AreFollowedInClass : List Body → (ClassEdge → ℕ → Type 0) → Type 0
+AreFollowedInClass bodies Took = (n : ℕ) (b : Body) → slice_get bodies n ≡ Some b → AreFollowed b (λ x left. Took (edge_in n x) left)
+
+-- it was taken when some number of turns was left
+abbrev pub TookSometime : (ClassEdge → ℕ → Type 0) → ClassEdge → Type 0
+TookSometime Took e = (left : ℕ) × Took e left
+
+-- an edge like these has a probe of the id
+abbrev pub IsIdOf : List Body → (ClassEdge → Type 0) → ℕ → Type 0
+IsIdOf bodies Fact id = (e : ClassEdge) × HasId bodies e id × Fact e
+
+-- Chains are sound, whoever took and reached edges of the class: where something came to each reached edge, and each hit is
+-- the id of a reached edge, each covered edge is reached.
+abbrev pub CoversReached : List Body → (ClassEdge → Type 0) → (ClassEdge → Type 0) → List Bool → Type 0
+CoversReached bodies Took Reached hits =
+    AreEnteredInClass bodies Took Reached → ((id : ℕ) → IsTrue (is_hit hits id) → IsIdOf bodies Reached id)
+    → (e : ClassEdge) → IsCovered bodies hits e → Reached e
+
+-- Chains are exact: where something came to each taken edge, behind each taken edge without a probe another one was taken,
+-- and the hits are exactly the ids of the taken edges, exactly the taken edges are covered.
+abbrev pub CoversTaken : List Body → (ClassEdge → ℕ → Type 0) → List Bool → Type 0
+CoversTaken bodies Took hits =
+    AreEnteredInClass bodies (TookSometime Took) (TookSometime Took) → AreFollowedInClass bodies Took
+    → ((e : ClassEdge) → TookSometime Took e → IsClassEdge bodies e)
+    → ((id : ℕ) → IsTrue (is_hit hits id) ↔ IsIdOf bodies (TookSometime Took) id)
+    → (e : ClassEdge) → IsCovered bodies hits e ↔ TookSometime Took e

@@ -2,7 +2,7 @@
 use Rattle.std.proofs.Common.{◌≡◌, inl, inr, ⊎_elim, ℕ, ℤ, zero, suc, ◌+◌, ◌<◌, List, [], ◌∷◌, length, map, Option, Some, None, is_some, refl, sym, ap, ◌∙◌, subst, arith, add-one, nat_eq, if◌then◌else◌}
 use Rattle.std.specs.Prelude.{slice_get, Contains, ◌≢◌, codes}
 use Rattle.std.proofs.lemmas.Option.{slice_get_within, same_Some}
-use Rattle.jc_methods.specs.Flow.{flow_of, targets_of, FallsThrough}
+use Rattle.jc_methods.specs.Flow.{flow_of, targets_of, FallsThrough, FallsInto}
 use Rattle.jc_methods.specs.DescriptorTypes.{method_type_in, types_from, rest_from}
 use Rattle.jc_methods.specs.declared.insn.Insn.{Insn}
 use Rattle.jc_methods.specs.declared.body.Body.{Body}
@@ -14,7 +14,7 @@ use Rattle.jc_after.specs.After.{insn_at, new_class, ground_of, returns_of, memb
 use Rattle.jc_after.proofs.ApplyLaws.{after_is}
 use Rattle.jc_kinds.specs.States.{frames_of, frame_at, state_of, after_at}
 use Rattle.jc_kinds.specs.Fits.{FitState, FitsThere}
-use Rattle.jc_kinds.specs.Checked.{Checked, LeadsTo, FallsInto, HasFrame, IsHandlerTarget, NeedsFrame, IsMissing}
+use Rattle.jc_kinds.specs.Checked.{Checked, LeadsTo, HasFrame, IsHandlerTarget, NeedsFrame, IsMissing}
 use Rattle.jc_bytes.proofs.BooleanLaws.{which_in, none_in, first_in}
 use Rattle.jc_emit.specs.Marks.{push}
 use Rattle.jc_emit.proofs.PlacedLaws.{no_targets}

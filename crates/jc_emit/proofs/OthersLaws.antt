@@ -6,7 +6,7 @@ use Rattle.std.proofs.lemmas.Option.{slice_get-get_or, slice_get_within}
 use Rattle.std.proofs.lemmas.List.{length-map}
 use Rattle.jc_bytes.specs.PlainLists.{map_from}
 use Rattle.jc_bytes.specs.FirstSeen.{first_seen, IsDistinct}
-use Rattle.jc_methods.specs.Flow.{flow_of, targets_of, is_return, jump_target}
+use Rattle.jc_methods.specs.Flow.{flow_of, targets_of, is_return, jump_target, falls_at, goes_on, is_fallen_into}
 use Rattle.jc_methods.specs.Insn.{with_places}
 use Rattle.jc_methods.specs.WellMade.{IsCode}
 use Rattle.jc_methods.specs.declared.insn.Insn.{Insn}
@@ -16,7 +16,7 @@ use Rattle.jc_plan.specs.declared.branch.Way.{Way}
 use Rattle.jc_plan.specs.declared.branch.Way.TheVariants as ways
 use Rattle.jc_plan.specs.declared.branch.Branch.{Branch}
 use Rattle.jc_plan.specs.Edges.{sequence, jump, arm, exit, branches_by, branches_of, branches}
-use Rattle.jc_plan.specs.Entries.{falls_at, goes_on, is_fallen_into, is_multi_target, is_invocation_line}
+use Rattle.jc_plan.specs.Entries.{is_multi_target, is_invocation_line}
 use Rattle.jc_plan.specs.Probed.{probe_of, id_if}
 use Rattle.jc_plan.specs.Plan.{lead_probe}
 use Rattle.jc_bytes.proofs.FirstSeenLaws.{contains_one, first_seen_distinct}

@@ -9,10 +9,11 @@ use Rattle.jc_programs.specs.declared.program.Program.{Program}
 use Rattle.jc_methods.specs.VerificationTypes.{Names, TypeStateAt, type_state_at}
 use Rattle.jc_methods.specs.EntryState.{entry_of}
 use Rattle.jc_methods.specs.WellMade.{IsWellMade}
+use Rattle.jc_methods.specs.Flow.{falls_at, GoesOnFrom}
 use Rattle.jc_after.specs.After.{insn_at, after_of}
-use Rattle.jc_kinds.specs.States.{frame_at, falls_at, or_else, state_of, after_at}
+use Rattle.jc_kinds.specs.States.{frame_at, or_else, state_of, after_at}
 use Rattle.jc_kinds.specs.Fits.{FitsThere}
-use Rattle.jc_kinds.specs.Checked.{JumpsTo, GoesOnFrom, LeadsTo, NeedsFrame, at_handler, Checked}
+use Rattle.jc_kinds.specs.Checked.{JumpsTo, LeadsTo, NeedsFrame, at_handler, Checked}
 use Rattle.jc_bytes.proofs.BooleanLaws.{which_in, none_in, first_in, later_in, in_map, of_map}
 use Rattle.jc_plan.specs.Probed.{probe_count}
 use Rattle.jc_emit.specs.Straddling.{NoneStraddles}

@@ -4,7 +4,7 @@ use Rattle.std.specs.Prelude.{Contains, codes, ◌≢◌}
 use Rattle.std.proofs.lemmas.Bool.{cases_lt, eqb-false}
 use Rattle.std.proofs.lemmas.Option.{slice_get-get_or, slice_get_within, same_Some}
 use Rattle.std.proofs.lemmas.List.Elements.{All-contains}
-use Rattle.jc_methods.specs.Flow.{targets_of, FallsThrough}
+use Rattle.jc_methods.specs.Flow.{targets_of, FallsThrough, FallsInto}
 use Rattle.jc_methods.specs.InsnUse.{IsClass}
 use Rattle.jc_methods.specs.WellMade.{IsHandler, HasUse, IsWellMadeOfAnySize, what_used}
 use Rattle.jc_methods.specs.declared.kind.State.{State}
@@ -15,7 +15,7 @@ use Rattle.jc_methods.specs.EntryState.{entry_of}
 use Rattle.jc_after.specs.After.{class_in}
 use Rattle.jc_kinds.specs.States.{state_of, after_at}
 use Rattle.jc_kinds.specs.Fits.{FitEach, FitState, FitsThere}
-use Rattle.jc_kinds.specs.Checked.{LeadsTo, FallsInto, Guards, HasFrame, NeedsFrame, IsMissing, caught, at_handler, Checked}
+use Rattle.jc_kinds.specs.Checked.{LeadsTo, Guards, HasFrame, NeedsFrame, IsMissing, caught, at_handler, Checked}
 use Rattle.jc_kinds.specs.Answers.{AreStates}
 use Rattle.jc_after.specs.Shift.{renamed, shifted}
 use Rattle.jc_bytes.proofs.BooleanLaws.{none_in, of_map}

@@ -3,7 +3,7 @@ use Rattle.std.proofs.Common.{◌≡◌, inl, inr, ⊎_elim, ℕ, zero, suc, ◌
 use Rattle.std.proofs.lemmas.Option.{none-some, same_Some}
 use Rattle.std.specs.Prelude.{slice_get, Contains}
 use Rattle.jc_methods.specs.Insn.{with_places}
-use Rattle.jc_methods.specs.Flow.{flow_of, FallsThrough, jump_target}
+use Rattle.jc_methods.specs.Flow.{flow_of, FallsThrough, jump_target, GoesOnFrom, FallsInto, goes_on, falls_at}
 use Rattle.jc_methods.specs.declared.insn.Insn.{Insn}
 use Rattle.jc_methods.specs.declared.insn.Flow.{Flow}
 use Rattle.jc_methods.specs.declared.kind.State.{State}
@@ -14,12 +14,12 @@ use Rattle.jc_methods.specs.EntryState.{entry_of}
 use Rattle.jc_after.specs.After.{after_of}
 use Rattle.jc_kinds.specs.States.{frames_of, frame_at, state_of, after_at}
 use Rattle.jc_kinds.specs.Fits.{FitState}
-use Rattle.jc_kinds.specs.Checked.{GoesOnFrom, LeadsTo, FallsInto, HasFrame, NeedsFrame}
+use Rattle.jc_kinds.specs.Checked.{LeadsTo, HasFrame, NeedsFrame}
 use Rattle.jc_kinds.specs.Checking.{has_frame}
 use Rattle.jc_after.specs.Shift.{with_slot, shifted}
 use Rattle.jc_kinds.proofs.CheckLaws.{has_frame_decided}
 use Rattle.jc_kinds.proofs.StateShiftLaws.{frame_is}
-use Rattle.jc_plan.specs.Entries.{is_multi_target, is_invocation_line, goes_on, falls_at}
+use Rattle.jc_plan.specs.Entries.{is_multi_target, is_invocation_line}
 use Rattle.jc_plan.specs.Probed.{id_if, probes_before}
 use Rattle.jc_plan.specs.Plan.{lead_probe}
 use Rattle.jc_emit.specs.Sizes.{early_probe, late_probe, probe_size, wide_by}

@@ -3,7 +3,7 @@ use Rattle.std.proofs.Common.{◌≡◌, ◌⊎◌, inl, inr, ⊎_elim, ℕ, zer
 use Rattle.std.specs.Prelude.{slice_get, Contains}
 use Rattle.std.proofs.lemmas.Bool.{cases_lt}
 use Rattle.std.proofs.lemmas.Option.{slice_get-get_or, same_Some}
-use Rattle.jc_methods.specs.Flow.{flow_of, targets_of, jump_target}
+use Rattle.jc_methods.specs.Flow.{flow_of, targets_of, jump_target, falls_at}
 use Rattle.jc_methods.specs.declared.insn.Insn.{Insn}
 use Rattle.jc_methods.specs.declared.insn.Flow.{Flow}
 use Rattle.jc_methods.specs.declared.kind.State.{State}
@@ -12,7 +12,7 @@ use Rattle.jc_methods.specs.declared.body.FrameAt.{FrameAt}
 use Rattle.jc_methods.specs.VerificationTypes.{Names, TypeState, type_state}
 use Rattle.jc_methods.specs.EntryState.{entry_of}
 use Rattle.jc_after.specs.After.{after_of}
-use Rattle.jc_kinds.specs.States.{frames_of, frame_at, falls_at, or_else, state_of}
+use Rattle.jc_kinds.specs.States.{frames_of, frame_at, or_else, state_of}
 use Rattle.jc_plan.specs.declared.branch.Branch.{Branch}
 use Rattle.jc_plan.specs.Edges.{branches_by}
 use Rattle.jc_plan.specs.Probed.{probe_of}

@@ -7,7 +7,7 @@ use Rattle.std.specs.Prelude.{slice_get, IsSome}
 use Rattle.std.proofs.lemmas.Bool.{leb-true}
 use Rattle.std.proofs.lemmas.List.{length-map}
 use Rattle.std.proofs.lemmas.List.Edits.{get_or-insert_at}
-use Rattle.jc_methods.specs.Flow.{flow_of, FallsThrough}
+use Rattle.jc_methods.specs.Flow.{flow_of, FallsThrough, falls_at}
 use Rattle.jc_methods.specs.DescriptorTypes.{types_from, rest_from}
 use Rattle.jc_bytes.specs.Descriptor.{FieldType}
 use Rattle.jc_methods.specs.WellMade.{kind_slots}
@@ -22,11 +22,11 @@ use Rattle.jc_after.specs.Wants.{accepts}
 use Rattle.jc_after.specs.Step.{kind, moves, apply, put_local, with_stack, limited}
 use Rattle.jc_after.specs.Table.{form, one, table, forms_at}
 use Rattle.jc_after.specs.After.{insn_at, ground_of, returns_of, step_of, member_step, after_of}
-use Rattle.jc_kinds.specs.States.{frames_of, frame_at, falls_at, or_else, state_of, after_at}
+use Rattle.jc_kinds.specs.States.{frames_of, frame_at, or_else, state_of, after_at}
 use Rattle.jc_kinds.specs.Fits.{Fits, IsNullOrObject, FitEach, FitState, FitsThere}
 use Rattle.jc_after.specs.Shift.{renamed, probes, shifted}
 use Rattle.jc_kinds.specs.StateShift.{IsStraddled}
-use Rattle.jc_kinds.proofs.CheckLaws.{falls_decided}
+use Rattle.jc_methods.proofs.FlowLaws.{falls_decided}
 use Rattle.jc_kinds.proofs.StateShiftLaws.{state_fine, states_shift, frame_is, frame_state}
 use Rattle.jc_kinds.proofs.EntryShiftLaws.{entry_shifts}
 use Rattle.jc_emit.proofs.StateLaws.{slots-renamed}
@@ -397,7 +397,8 @@ module _ (names new_names : Names) (states : List State) (first : ℕ) (wide : B
   store_array : Step 1 init_store E_array (moved (entry_of b))
   store_array =
       let shifts = entry_shifts (image_of b first wide) b p.well in
-      ap (λ (l : List VerificationType). Some (state l [])) (ap (λ (e : TypeState). put_local v probes e.locals) entry_same ∙ shifts)
+      ap (with_stack (record E_array { locals = put_local v probes E_array.locals })) (limited_is b'.max_stack [] (omega arith))
+      ∙ ap (λ (l : List VerificationType). Some (state l [])) (ap (λ (e : TypeState). put_local v probes e.locals) entry_same ∙ shifts)
 
   pub after_1 : after_of b' 1 E_array ≡ Some (moved (entry_of b))
   after_1 = goes 1 init_store E_array (moved (entry_of b)) (prelude_at b first wide).1.0 store_array

@@ -20,7 +20,8 @@ use Rattle.jc_class.specs.declared.class_file.ClassFile.{ClassFile}
 use Rattle.jc_class.proofs.FirstBadLaws.{each_text}
 use Rattle.jc_class.proofs.WritableLaws.{class_holds}
 use Rattle.jc_kinds.specs.Checked.{Checked}
-use Rattle.jc_instrument.specs.Analysis.{super_name_of, plans_of, all_probes, all_insns_and_arms, IsAnalysis}
+use Rattle.jc_plan.specs.Analysed.{plans_of, all_probes, all_insns_and_arms}
+use Rattle.jc_instrument.specs.Analysis.{super_name_of, IsAnalysis}
 use Rattle.jc_instrument.specs.Bodies.{AreBodiesUnless, AreBodiesOf}
 use Rattle.jc_instrument.specs.Causes.{IsFirstCause, NoCause, unless}
 use Rattle.jc_instrument.specs.LeftAlone.{is_left_alone}
@@ -87,7 +88,7 @@ module _ (bytes : List ℕ) (c : ClassFile) (text : ClassText bytes c) (is : IsC
             interfaces = interfaces.1;
           };
           bodies = are;
-          planned = record { well_made = made; few = few; plans = refl; probes = refl };
+          analysed = record { well_made = made; few = few; plans = refl; probes = refl };
         },
       )
 

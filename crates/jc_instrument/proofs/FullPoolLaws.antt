@@ -3,7 +3,7 @@ use Rattle.std.proofs.Common.{◌≡◌, ◌++◌, ◌∙◌, ℕ, List, length,
 use Rattle.jc_methods.specs.VerificationTypes.{Names, TypeStateAt}
 use Rattle.jc_pool.specs.Pool.{PoolValue}
 use Rattle.jc_class.specs.declared.class_file.ClassFile.{ClassFile}
-use Rattle.jc_instrument.specs.Analysis.{all_probes}
+use Rattle.jc_plan.specs.Analysed.{all_probes}
 use Rattle.jc_instrument.specs.Causes.{Never}
 use Rattle.jc_instrument.specs.Contents.{TakesEach}
 use Rattle.jc_instrument.specs.Needed.{name_of, needed, needs_of, place_list, signed_id}

@@ -9,7 +9,7 @@ use Rattle.jc_methods.specs.declared.body.Body.{Body}
 use Rattle.jc_plan.specs.Edges.{branches}
 use Rattle.jc_plan.specs.Probed.{is_probed, probe_count, first_id}
 use Rattle.jc_plan.proofs.FlowLaws.{few_branches}
-use Rattle.jc_instrument.specs.Analysis.{all_probes, all_insns_and_arms}
+use Rattle.jc_plan.specs.Analysed.{all_probes, all_insns_and_arms}
 
 abbrev size : Body → ℕ
 size b = insns_and_arms b.code

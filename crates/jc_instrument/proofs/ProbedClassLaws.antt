@@ -5,7 +5,7 @@ use Rattle.jc_methods.specs.VerificationTypes.{Names, Grows}
 use Rattle.jc_methods.specs.declared.body.Body.{Body}
 use Rattle.jc_bytes.specs.declared.refusal.Refusal.{Refusal}
 use Rattle.jc_class.specs.declared.class_file.ClassFile.{ClassFile}
-use Rattle.jc_instrument.specs.Analysis.{all_probes}
+use Rattle.jc_plan.specs.Analysed.{all_probes}
 use Rattle.jc_instrument.specs.Bodies.{AreBodies, AreBodiesUnless, AreBodiesOf}
 use Rattle.jc_instrument.specs.Causes.{Cause, IsFirstCause, NoCause}
 use Rattle.jc_instrument.specs.LeftAlone.{is_left_alone}

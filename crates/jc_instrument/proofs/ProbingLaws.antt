@@ -28,7 +28,7 @@ use Rattle.jc_layout.specs.Layable.{IsLayable}
 use Rattle.jc_layout.specs.Layout.{chosen_length}
 use Rattle.jc_layout.proofs.LayableLaws.{all_formed, all_within, few_in}
 use Rattle.jc_code.proofs.LaidLaws.{laid_length}
-use Rattle.jc_instrument.specs.Analysis.{plans_of, all_probes}
+use Rattle.jc_plan.specs.Analysed.{plans_of, all_probes}
 use Rattle.jc_instrument.specs.Probing.{IsMade, IsMadeOf, work, AreMade, AreProbed, AreShortBelow}
 use Rattle.jc_instrument.specs.RoomCauses.{probed_code}
 use Rattle.jc_instrument.specs.Taking.{frames_in, HasFrames}

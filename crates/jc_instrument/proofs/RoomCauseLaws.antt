@@ -20,7 +20,7 @@ use Rattle.jc_after.proofs.MovesLaws.{width_is}
 use Rattle.jc_kinds.specs.StateShift.{FrameStraddles, IsStraddled}
 use Rattle.jc_plan.specs.Probed.{first_id}
 use Rattle.jc_layout.specs.Layout.{chosen_length}
-use Rattle.jc_instrument.specs.Analysis.{all_probes}
+use Rattle.jc_plan.specs.Analysed.{all_probes}
 use Rattle.jc_instrument.specs.Bodies.{AreBodiesUnless, AreBodiesOf}
 use Rattle.jc_instrument.specs.Causes.{of_class, unless}
 use Rattle.jc_instrument.specs.LeftAlone.{is_left_alone}

@@ -24,7 +24,7 @@ use Rattle.jc_kinds.specs.StateShift.{FrameStraddles, IsStraddled}
 use Rattle.jc_emit.specs.Straddling.{NoneStraddles}
 use Rattle.jc_layout.specs.Layout.{chosen_length}
 use Rattle.jc_plan.specs.Probed.{first_id}
-use Rattle.jc_instrument.specs.Analysis.{all_probes}
+use Rattle.jc_plan.specs.Analysed.{all_probes}
 use Rattle.jc_instrument.specs.Bodies.{AreBodiesOf}
 use Rattle.jc_instrument.specs.Causes.{Never, of_class, of_method, InMethod}
 use Rattle.jc_instrument.specs.Probing.{AreShortBelow, IsFirstTooLong}

@@ -11,7 +11,7 @@ use Rattle.jc_bytes.proofs.ListLaws.{below_or_last}
 use Rattle.jc_class.specs.declared.class_file.ClassFile.{ClassFile}
 use Rattle.jc_kinds.specs.StateShift.{IsStraddled}
 use Rattle.jc_emit.specs.Straddling.{IsFirstStraddling}
-use Rattle.jc_instrument.specs.Analysis.{all_probes}
+use Rattle.jc_plan.specs.Analysed.{all_probes}
 use Rattle.jc_instrument.specs.Bodies.{AreBodies, AreBodiesUnless, AreBodiesOf}
 use Rattle.jc_instrument.specs.Causes.{Cause, Never, IsFirstCause, NoCause, FirstCause, InMethod}
 use Rattle.jc_instrument.specs.LeftAlone.{is_left_alone}

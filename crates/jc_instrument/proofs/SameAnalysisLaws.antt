@@ -19,7 +19,8 @@ use Rattle.jc_plan.specs.Probed.{is_probed_way, Position, position_of, is_before
 use Rattle.jc_plan.specs.declared.branch.Branch.{Branch}
 use Rattle.jc_plan.specs.declared.branch.Way.{Way}
 use Rattle.jc_plan.specs.declared.branch.Way.TheVariants.{Falls, Jumps, Switches, Exits}
-use Rattle.jc_instrument.specs.Analysis.{IsAnalysis, Describes, plans_of, all_probes}
+use Rattle.jc_plan.specs.Analysed.{plans_of, all_probes}
+use Rattle.jc_instrument.specs.Analysis.{IsAnalysis, Describes}
 use Rattle.jc_instrument.specs.Bodies.{AreBodiesBelow, AreBodiesUnless, AreBodiesOf}
 use Rattle.jc_instrument.specs.LeftAlone.{is_left_alone}
 use Rattle.jc_instrument.specs.SameAnalysis.{without_frames, IsSameAnalysis}
@@ -177,4 +178,4 @@ same_analysis bytes a b p q =
     let same = one_class_of bytes p.file q.file p.text q.text in
     same_of_file bytes q.file a b (subst (λ (c : ClassFile). Describes bytes c a) same p.described)
     (subst (λ (c : ClassFile). AreBodiesOf c a.bodies) same p.bodies)
-    p.planned.plans p.planned.probes q.described q.bodies q.planned.plans q.planned.probes
+    p.analysed.plans p.analysed.probes q.described q.bodies q.analysed.plans q.analysed.probes

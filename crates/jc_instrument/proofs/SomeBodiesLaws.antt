@@ -18,7 +18,7 @@ use Rattle.jc_body.specs.BodyOf.{BodyOf, Bodiless, FaultOf}
 use Rattle.jc_body.proofs.EachMethodLaws.{Answer, each_answer}
 use Rattle.jc_kinds.specs.Checked.{Checked, FirstMissing, FirstClash}
 use Rattle.jc_kinds.proofs.CheckLaws.{each_verdict}
-use Rattle.jc_instrument.specs.Analysis.{all_insns_and_arms}
+use Rattle.jc_plan.specs.Analysed.{all_insns_and_arms}
 use Rattle.jc_instrument.specs.Bodies.{AreBodiesBelow, AreBodies}
 use Rattle.jc_instrument.specs.Causes.{NoCause, of_method}
 use Rattle.jc_instrument.specs.Reasons.{IsFaulty, OfBody, code_causes}

@@ -13,7 +13,7 @@ use Rattle.jc_class.specs.declared.class_file.Member.{Member}
 use Rattle.jc_body.specs.Attributes.{is_text, has_name}
 use Rattle.jc_frames.specs.FullTable.{named_by_all}
 use Rattle.jc_methods.specs.ProbeMembers.{data_name, data_type, init_name, init_type}
-use Rattle.jc_instrument.specs.Analysis.{all_probes}
+use Rattle.jc_plan.specs.Analysed.{all_probes}
 use Rattle.jc_code.specs.CodeText.{attribute}
 use Rattle.jc_instrument.specs.Contents.{Content, text_entry, class_entry, string_entry, long_entry, member_entry, IsOfClass}
 use Rattle.jc_code.specs.InitText.{init_text}

@@ -5,16 +5,16 @@ use Rattle.std.specs.List.{list_any}
 use Rattle.std.specs.Option.{option_and_then}
 use Rattle.std.proofs.lemmas.Bool.{cases_lt}
 use Rattle.std.proofs.lemmas.Option.{none-some, same_Some, slice_get_within, get_or_from_slice_get}
-use Rattle.jc_methods.specs.WellMade.{HasShortTexts, AreRisingFrom}
+use Rattle.jc_methods.specs.WellMade.{HasShortTexts}
 use Rattle.jc_methods.specs.declared.body.Use.{Use}
 use Rattle.jc_methods.specs.declared.body.What.{What}
 use Rattle.jc_methods.specs.declared.body.What.TheVariants as whats
-use Rattle.jc_methods.proofs.UsedLaws.{entry_used}
 use Rattle.jc_pool.specs.declared.constant.ConstText.{ConstText}
 use Rattle.jc_pool.specs.declared.constant.ConstText.TheVariants as constants
 use Rattle.jc_pool.specs.Lookup.{Member as PoolMember, member_of, class_name_of, const_of}
 use Rattle.jc_pool.specs.Pool.{PoolValue}
-use Rattle.jc_body.specs.BodyOf.{AreUsesOf}
+use Rattle.jc_body.specs.BodyOf.{AreRisingFrom, AreUsesOf}
+use Rattle.jc_body.proofs.UsesLaws.{entry_used}
 use Rattle.jc_body.specs.Sizes.{IsOfShortTexts}
 use Rattle.jc_body.specs.Standing.{Found, of_member, of_class, of_constant, found_in, found_at, what_of_member, what_of_constant, what_of, what_at}
 use Rattle.jc_instrument.proofs.PoolTextLaws.{IsReadPool, class_short, member_short, none_past}

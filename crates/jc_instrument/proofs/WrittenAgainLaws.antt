@@ -47,7 +47,7 @@ use Rattle.jc_code.specs.declared.init.AddedPlaces.{AddedPlaces}
 use Rattle.jc_verify.specs.Again.{IsAddedAt, IsWrittenAt, AreWrittenMethods}
 use Rattle.jc_verify.specs.Written.{IsAddedMethod, IsWrittenMethod}
 use Rattle.jc_verify.specs.WrittenCode.{IsWrittenCode}
-use Rattle.jc_instrument.specs.Analysis.{all_probes}
+use Rattle.jc_plan.specs.Analysed.{all_probes}
 use Rattle.jc_instrument.specs.Bodies.{IsListed}
 use Rattle.jc_instrument.specs.Contents.{text_entry, class_entry, string_entry, long_entry, member_entry}
 use Rattle.jc_verify.specs.Written.{data_field, fetch_method, init_method}

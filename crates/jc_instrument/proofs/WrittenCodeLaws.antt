@@ -31,7 +31,7 @@ use Rattle.jc_verify.proofs.ReadBytesLaws.{HasOnlyBytes}
 use Rattle.jc_verify.proofs.ReadNumbersLaws.{body_short}
 use Rattle.jc_verify.proofs.WrittenCodeLaws.{written_code as code_written}
 use Rattle.jc_instrument.proofs.ListedLaws.{body_at}
-use Rattle.jc_instrument.specs.Analysis.{all_probes}
+use Rattle.jc_plan.specs.Analysed.{all_probes}
 use Rattle.jc_instrument.specs.Contents.{Content, member_entry, text_entry}
 use Rattle.jc_instrument.specs.Members.{AreTextPlaces, IsFirstIfAny}
 use Rattle.jc_verify.specs.Written.{init_method}

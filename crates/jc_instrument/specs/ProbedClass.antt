@@ -3,7 +3,7 @@ use Rattle.std.specs.Prelude.{◌≡◌, ℕ, List, [], ◌∷◌, ◌++◌, len
 use Rattle.std.specs.List.{AllByRecursion}
 use Rattle.jc_methods.specs.VerificationTypes.{Names}
 use Rattle.jc_class.specs.declared.class_file.ClassFile.{ClassFile}
-use Rattle.jc_instrument.specs.Analysis.{all_probes}
+use Rattle.jc_plan.specs.Analysed.{all_probes}
 use Rattle.jc_instrument.specs.Causes.{Cause, NoCause}
 use Rattle.jc_instrument.specs.Probing.{AreMade}
 use Rattle.jc_instrument.specs.Reasons.{code_causes}

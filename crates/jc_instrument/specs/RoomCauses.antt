@@ -11,7 +11,7 @@ use Rattle.jc_plan.specs.Probed.{first_id}
 use Rattle.jc_emit.specs.Items.{insn_of, twin_items}
 use Rattle.jc_emit.specs.Straddling.{IsFirstStraddling}
 use Rattle.jc_layout.specs.Layout.{chosen_length}
-use Rattle.jc_instrument.specs.Analysis.{all_probes}
+use Rattle.jc_plan.specs.Analysed.{all_probes}
 use Rattle.jc_instrument.specs.Bodies.{AreBodiesOf}
 use Rattle.jc_instrument.specs.Causes.{Cause, of_class, InMethod}
 use Rattle.jc_instrument.specs.Needed.{TakesNeeds}

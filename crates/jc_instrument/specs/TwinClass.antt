@@ -11,7 +11,7 @@ use Rattle.jc_body.specs.BodyOf.{BodyOfAnySize}
 use Rattle.jc_emit.specs.Added.{InitPlaces}
 use Rattle.jc_methods.specs.ProbeMembers.{data_name, data_type, data_flags, init_name, init_type, init_flags}
 use Rattle.jc_emit.specs.Twin.{Twin}
-use Rattle.jc_instrument.specs.Analysis.{all_probes}
+use Rattle.jc_plan.specs.Analysed.{all_probes}
 use Rattle.jc_instrument.specs.GrownPool.{IsGrown}
 use Rattle.jc_code.specs.InitText.{init_text}
 use Rattle.jc_instrument.specs.Needed.{name_of, signed_id, needs_of}

@@ -11,7 +11,7 @@ use Rattle.jc_class.specs.declared.class_file.Member.{Member}
 use Rattle.jc_body.specs.Attributes.{has_name}
 use Rattle.jc_emit.specs.Added.{InitPlaces}
 use Rattle.jc_methods.specs.ProbeMembers.{data_flags, init_flags}
-use Rattle.jc_instrument.specs.Analysis.{all_probes}
+use Rattle.jc_plan.specs.Analysed.{all_probes}
 use Rattle.jc_code.specs.CodeText.{attribute}
 use Rattle.jc_code.specs.InitText.{init_text}
 use Rattle.jc_code.specs.TwinCode.{twin_code}

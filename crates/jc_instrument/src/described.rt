@@ -6,7 +6,8 @@ ghost use Rattle.jc_class.specs.ClassFormat.{HasClass, HasSuper};
 ghost use Rattle.jc_class.specs.Writable.{IsClassFile};
 ghost use Rattle.jc_pool.specs.Lookup.{class_name_of};
 ghost use Rattle.jc_bytes.specs.Reader.{most_read};
-ghost use Rattle.jc_instrument.specs.Analysis.{super_name_of, plans_of, all_probes, all_insns_and_arms, Describes, IsPlanned};
+ghost use Rattle.jc_plan.specs.Analysed.{plans_of, all_probes, all_insns_and_arms, IsAnalysed};
+ghost use Rattle.jc_instrument.specs.Analysis.{super_name_of, Describes};
 
 use crate::plans::{Planned, plans_of};
 use crate::size::are_short;
@@ -75,7 +76,7 @@ pub fn described(
     requires few { length bodies ≤ 65535 }
     ensures described { IfOk result (Describes bytes.now class.now) }
     ensures bodies { IfOk result (λ a. a.bodies ≡ bodies) }
-    ensures planned { IfOk result IsPlanned }
+    ensures analysed { IfOk result IsAnalysed }
 {
     let pool = &class.pool;
     let Planned { plans, probes } = bounded_plans(alloc, &bodies)?;

@@ -2,7 +2,7 @@
 ghost use Rattle.std.specs.Prelude.{◌≡◌, ◌≤◌, All, IfOk};
 ghost use Rattle.jc_bytes.specs.Reader.{most_read};
 ghost use Rattle.jc_methods.specs.WellMade.{IsWellMade};
-ghost use Rattle.jc_instrument.specs.Analysis.{plans_of, all_probes, all_insns_and_arms};
+ghost use Rattle.jc_plan.specs.Analysed.{plans_of, all_probes, all_insns_and_arms};
 
 use jc_bytes::{List, Memory};
 use jc_methods::{Body, Plan};

@@ -14,7 +14,7 @@ ghost use Rattle.jc_layout.specs.Layable.{IsLayable};
 ghost use Rattle.jc_layout.specs.Layout.{chosen_length};
 ghost use Rattle.jc_layout.specs.Merged.{merged};
 ghost use Rattle.jc_code.specs.Given.{IsLaid};
-ghost use Rattle.jc_instrument.specs.Analysis.{plans_of, all_probes};
+ghost use Rattle.jc_plan.specs.Analysed.{plans_of, all_probes};
 ghost use Rattle.jc_instrument.specs.KeptStates.{AreKeptStates};
 ghost use Rattle.jc_instrument.specs.Probing.{IsMadeOf, IsTooLong, IsRefusedAsLarge, AreProbed, IsFirstTooLong};
 ghost use Rattle.jc_instrument.specs.Taking.{HasFrames};

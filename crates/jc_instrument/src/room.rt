@@ -1,7 +1,7 @@
 //! Whether a class has room for its probes, as far as this is known before its code is made.
 ghost use Rattle.std.specs.Prelude.{◌≡◌, ◌≤◌, ◌↔◌, ◌∷◌, [], false, All, IsTrue, length};
 ghost use Rattle.jc_methods.specs.WellMade.{IsWellMade, IsCounted};
-ghost use Rattle.jc_instrument.specs.Analysis.{all_probes};
+ghost use Rattle.jc_plan.specs.Analysed.{all_probes};
 ghost use Rattle.jc_instrument.specs.Bodies.{AreBodiesOf};
 ghost use Rattle.jc_instrument.specs.Causes.{FirstCause, of_class as class_refusal_of};
 ghost use Rattle.jc_instrument.specs.LeftAlone.{is_left_alone};

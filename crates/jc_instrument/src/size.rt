@@ -3,7 +3,7 @@ ghost use Rattle.std.specs.Prelude.{◌≡◌, ◌≤◌, ◌+◌, ◌<◌, ◌�
 ghost use Rattle.jc_methods.specs.Insn.{arm_count};
 ghost use Rattle.jc_bytes.specs.Reader.{most_read};
 ghost use Rattle.jc_methods.specs.WellMade.{IsWellMade, insns_and_arms};
-ghost use Rattle.jc_instrument.specs.Analysis.{all_insns_and_arms};
+ghost use Rattle.jc_plan.specs.Analysed.{all_insns_and_arms};
 
 use jc_bytes::MOST_READ;
 use jc_methods::{Body, Insn};

@@ -3,7 +3,7 @@ ghost use Rattle.std.specs.Prelude.{◌≡◌, ◌≤◌, ℕ, List as Seq, IfOk
 ghost use Rattle.jc_pool.specs.Adding.{Extends};
 ghost use Rattle.jc_pool.specs.Pool.{PoolValue};
 ghost use Rattle.jc_class.specs.Writable.{IsClassFile};
-ghost use Rattle.jc_instrument.specs.Analysis.{all_probes};
+ghost use Rattle.jc_plan.specs.Analysed.{all_probes};
 ghost use Rattle.jc_instrument.specs.Members.{AreCoded, AreTextPlaces, AreWritable, IsFirstIfAny};
 ghost use Rattle.jc_bytes.specs.Failing.{Said};
 ghost use Rattle.jc_bytes.specs.Texts.{IsShortText};

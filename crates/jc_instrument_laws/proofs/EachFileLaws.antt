@@ -15,7 +15,7 @@ use Rattle.jc_class.specs.Writable.{IsClassFile}
 use Rattle.jc_class.specs.declared.class_file.ClassFile.{ClassFile}
 use Rattle.jc_class.proofs.FirstBadLaws.{each_text}
 use Rattle.jc_class.proofs.WritableLaws.{class_holds}
-use Rattle.jc_instrument.specs.Analysis.{all_probes}
+use Rattle.jc_plan.specs.Analysed.{all_probes}
 use Rattle.jc_instrument.specs.Bodies.{AreBodiesOf}
 use Rattle.jc_instrument.specs.Causes.{Cause, Never, IsFirstCause, NoCause, unless, of_class}
 use Rattle.jc_instrument.specs.InstrumentedFile.{Becomes, IsInstrumentedFile}

@@ -17,6 +17,7 @@ use Rattle.jc_methods.specs.declared.body.What.{What}
 use Rattle.jc_methods.specs.declared.body.What.TheVariants as whats
 use Rattle.jc_methods.specs.declared.insn.Insn.{Insn}
 use Rattle.jc_methods.specs.declared.insn.Insn.TheVariants as insns
+use Rattle.jc_methods.specs.Flow.{falls_at}
 use Rattle.jc_pool.specs.Lookup.{class_name_of}
 use Rattle.jc_after.specs.After.{class_in, new_class, insn_at, ground_of, returns_of, after_of}
 use Rattle.jc_after.proofs.LeaveLaws.{insn_of}
@@ -26,7 +27,7 @@ use Rattle.jc_frames.specs.declared.items.FrameItem.{FrameItem}
 use Rattle.jc_frames.specs.declared.items.FrameItem.TheVariants as frames
 use Rattle.jc_frames.specs.declared.items.TypeItem.{TypeItem}
 use Rattle.jc_frames.specs.declared.items.TypeItem.TheVariants as types
-use Rattle.jc_kinds.specs.States.{frames_of, frame_at, falls_at, or_else, state_of}
+use Rattle.jc_kinds.specs.States.{frames_of, frame_at, or_else, state_of}
 use Rattle.jc_instrument_laws.proofs.NamedStepsLaws.{AllNamed, AreNamed, IsNamed, GroundNamed, UseNamed, insn_named, method_named, named_both, named_take, no_text, step_named}
 use Rattle.jc_instrument_laws.proofs.PoolSpellingLaws.{IsText}
 use Rattle.jc_instrument.proofs.PoolTextLaws.{IsReadPool, class_are, class_short}

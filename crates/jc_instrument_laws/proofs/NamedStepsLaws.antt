@@ -221,12 +221,13 @@ step_named g (loads k w) s t ground named all e =
     stack_named s t _ all.locals (λ x q. subst AllNamed (limited_is g.most _ x q) (named_both s.stack _ all.stack (named_get s.locals k all.locals, tt)))
     (then_some (accepts w h) (with_stack s (limited g.most (s.stack ++ h ∷ []))) t e).1
 step_named g (stores k w) s t ground named all e =
-    let p = then_some (accepts w (last s.stack)) (Some (record { locals = put_local k (last s.stack) s.locals; stack = below 1 s.stack })) t e in
-    subst AreNamed (same_Some _ t p.1) (record {
-      locals = put_named k (last s.stack) s.locals all.locals (named_get (upper 1 s.stack) 0 (named_drop (length s.stack - 1) s.stack all.stack));
-      stack = named_take (length s.stack - 1) s.stack all.stack;
-    })
-step_named g (counts k) s t ground named all e = subst AreNamed (same_Some s t (then_some (is_int (get_or s.locals k top)) (Some s) t e).1) all
+    let h = last s.stack in
+    stack_named (record { locals = put_local k h s.locals; stack = s.stack }) t _
+    (put_named k h s.locals all.locals (named_get (upper 1 s.stack) 0 (named_drop (length s.stack - 1) s.stack all.stack)))
+    (λ x q. subst AllNamed (limited_is g.most _ x q) (named_take (length s.stack - 1) s.stack all.stack))
+    (then_some (accepts w h) _ t e).1
+step_named g (counts k) s t ground named all e =
+    stack_named s t _ all.locals (λ x q. subst AllNamed (limited_is g.most _ x q) all.stack) (then_some (is_int (get_or s.locals k top)) _ t e).1
 step_named g picks s t ground named all e =
     let array = get_or (upper 2 s.stack) 0 top in
     stack_named s t _ all.locals

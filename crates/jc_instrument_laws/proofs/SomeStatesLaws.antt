@@ -18,6 +18,7 @@ use Rattle.jc_methods.specs.declared.insn.Insn.{Insn}
 use Rattle.jc_methods.specs.declared.kind.Kind.{Kind}
 use Rattle.jc_methods.specs.declared.kind.Kind.TheVariants as kinds
 use Rattle.jc_methods.specs.declared.kind.State.{State}
+use Rattle.jc_methods.specs.Flow.{falls_at}
 use Rattle.jc_methods.proofs.EntryLaws.{entry_count}
 use Rattle.jc_methods.proofs.MetNamesLaws.{grows_none, grows_both}
 use Rattle.jc_bytes.proofs.BooleanLaws.{fails_where}
@@ -30,9 +31,9 @@ use Rattle.jc_after.proofs.PairLaws.{Paired, of_pairs}
 use Rattle.jc_kinds.specs.Answers.{AreStates}
 use Rattle.jc_kinds.specs.Checked.{Checked}
 use Rattle.jc_kinds.specs.Frames.{frame_in}
-use Rattle.jc_kinds.specs.States.{falls_at, state_of, after_at}
+use Rattle.jc_kinds.specs.States.{state_of, after_at}
 use Rattle.jc_kinds.specs.StateSequence.{IsKeptAt}
-use Rattle.jc_kinds.proofs.CheckLaws.{falls_into_decided}
+use Rattle.jc_methods.proofs.FlowLaws.{falls_into_decided}
 use Rattle.jc_kinds.proofs.FrameLaws.{frame_made, frame_numbered}
 use Rattle.jc_kinds.proofs.GrowLaws.{states_stay}
 use Rattle.jc_kinds.proofs.WalkLaws.{frame_needed, frame_is, entry_is, falls_is, kept_on}

@@ -41,7 +41,7 @@ use Rattle.jc_emit.specs.Shift.{probe_array_class}
 use Rattle.jc_layout.specs.Layout.{chosen_length, chosen_text}
 use Rattle.jc_code.specs.CodeText.{attribute}
 use Rattle.jc_code.specs.TwinCode.{twin_code, written_frames}
-use Rattle.jc_instrument.specs.Analysis.{all_probes}
+use Rattle.jc_plan.specs.Analysed.{all_probes}
 use Rattle.jc_instrument.specs.Bodies.{AreBodiesOf}
 use Rattle.jc_instrument.specs.Causes.{NoCause}
 use Rattle.jc_instrument.specs.Changing.{AreShort, AreShortIn}

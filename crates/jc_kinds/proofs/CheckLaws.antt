@@ -3,49 +3,26 @@ use Rattle.std.proofs.Common.{◌≡◌, ◌⊎◌, inl, inr, ⊎_elim, ℕ, zer
 use Rattle.std.proofs.lemmas.Bool.{cases_lt, true≢false}
 use Rattle.std.specs.List.{Contains, list_any}
 use Rattle.jc_bytes.proofs.DecidingLaws.{Decides}
+use Rattle.jc_methods.proofs.FlowLaws.{falls_decided, falls_into_decided}
 use Rattle.jc_methods.specs.declared.insn.Insn.{Insn}
 use Rattle.jc_methods.specs.declared.insn.Flow.{Flow}
 use Rattle.jc_methods.specs.declared.insn.Flow.TheVariants as flows
 use Rattle.jc_methods.specs.declared.body.Body.{Body}
-use Rattle.jc_methods.specs.Flow.{flow_of, FallsThrough, targets_of}
+use Rattle.jc_methods.specs.Flow.{flow_of, FallsThrough, targets_of, goes_on, falls_through, falls_at, GoesOnFrom, FallsInto}
 use Rattle.jc_bytes.specs.Least.{IsNowhere, IsLeast}
 use Rattle.jc_methods.specs.VerificationTypes.{Names, TypeState}
 use Rattle.jc_methods.specs.EntryState.{entry_of}
 use Rattle.jc_after.specs.After.{insn_at}
 use Rattle.jc_kinds.specs.Fits.{FitsThere, fits_there}
-use Rattle.jc_kinds.specs.States.{goes_on, falls_through, falls_at, state_of, after_at}
-use Rattle.jc_kinds.specs.Checked.{JumpsTo, GoesOnFrom, LeadsTo, FallsInto, HasFrame, IsHandlerTarget, NeedsFrame, IsMissing, at_handler, EntryClash, NoAfter, BranchClash, HandlerClash, IsClash, Checked, FirstMissing, FirstClash}
-use Rattle.jc_kinds.specs.Checking.{branches, guards, falls_into, has_frame, is_jump_target, is_handler_target, needs_frame, is_missing, entry_clash, branch_clash, handler_clash, is_clash, first_from, first_below, Verdict, passes, frame_missing, frame_clash, clash_or_passes, missing_or, verdict_of}
+use Rattle.jc_kinds.specs.States.{state_of, after_at}
+use Rattle.jc_kinds.specs.Checked.{JumpsTo, LeadsTo, HasFrame, IsHandlerTarget, NeedsFrame, IsMissing, at_handler, EntryClash, NoAfter, BranchClash, HandlerClash, IsClash, Checked, FirstMissing, FirstClash}
+use Rattle.jc_kinds.specs.Checking.{branches, guards, has_frame, is_jump_target, is_handler_target, needs_frame, is_missing, entry_clash, branch_clash, handler_clash, is_clash, first_from, first_below, Verdict, passes, frame_missing, frame_clash, clash_or_passes, missing_or, verdict_of}
 use Rattle.std.proofs.lemmas.Option.{none-some, same_Some, slice_get_within}
 use Rattle.jc_bytes.proofs.BooleanLaws.{both, either, neither, instead, fails_where, equal_decided, at_most_decided, below_decided, first_in, later_in, which_in, any_decided, stands_in, place_of, none_decided}
 use Rattle.jc_bytes.proofs.LeastLaws.{least_one}
 use Rattle.jc_kinds.proofs.FitsLaws.{there_decided}
 
 -- ---- where control goes
-
-flow_decided : (f : Flow) → Decides (goes_on f) ((f ≡ flows.GoesOn) ⊎ (f ≡ flows.Branches))
-flow_decided flows.GoesOn = record { to = λ h. inl refl; back = λ h. refl }
-flow_decided flows.Branches = record { to = λ h. inr refl; back = λ h. refl }
-flow_decided flows.Jumps = record { to = λ h. absurd (true≢false (sym h)); back = λ h. ⊎_elim (λ e. absurd cc) (λ e. absurd cc) h }
-flow_decided flows.Switches = record { to = λ h. absurd (true≢false (sym h)); back = λ h. ⊎_elim (λ e. absurd cc) (λ e. absurd cc) h }
-flow_decided flows.Returns = record { to = λ h. absurd (true≢false (sym h)); back = λ h. ⊎_elim (λ e. absurd cc) (λ e. absurd cc) h }
-flow_decided flows.Throws = record { to = λ h. absurd (true≢false (sym h)); back = λ h. ⊎_elim (λ e. absurd cc) (λ e. absurd cc) h }
-
-pub falls_decided : (insn : Insn) → Decides (falls_through insn) (FallsThrough insn)
-falls_decided insn = flow_decided (flow_of insn)
-
-pub goes_on_decided : (b : Body) (i : ℕ) → Decides (falls_at (insn_at b i)) (GoesOnFrom b i)
-goes_on_decided b i = by (insn_at b i) refl
-  where
-    by : (o : Option Insn) → insn_at b i ≡ o → Decides (falls_at o) (GoesOnFrom b i)
-    by None is = record { to = λ h. absurd (true≢false (sym h)); back = λ g. absurd (none-some _ (sym is ∙ g.stands)) }
-    by (Some insn) is = instead (falls_decided insn) (λ f. record { insn = insn; stands = is; falls = f }) (λ g. subst FallsThrough (same_Some g.insn insn (sym g.stands ∙ is)) g.falls)
-
-pub falls_into_decided : (b : Body) (j : ℕ) → Decides (falls_into b j) (FallsInto b j)
-falls_into_decided b zero = record { to = λ h. absurd (true≢false (sym h)); back = λ f. let e = f.1 in absurd (omega (arith, e)) }
-falls_into_decided b (suc i) = instead (goes_on_decided b i)
-    (λ g. (i, omega arith, g))
-    (λ f. let e = f.1 in let same : f.0 ≡ i = omega (arith, e) in subst (GoesOnFrom b) same f.2)
 
 target_decided : (j : ℕ) (insn : Insn) → Decides (list_any (nat_eq j) (targets_of insn)) (Contains (targets_of insn) j)
 target_decided j insn = instead (any_decided (nat_eq j) (λ k. j ≡ k) (λ k. equal_decided j k) (targets_of insn))

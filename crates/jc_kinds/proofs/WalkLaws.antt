@@ -7,7 +7,7 @@ use Rattle.std.proofs.lemmas.List.{length_push, append-nil}
 use Rattle.std.proofs.lemmas.List.Elements.{All-contains, All-from_recursion}
 use Rattle.jc_methods.specs.declared.kind.State.{State}
 use Rattle.jc_methods.specs.declared.body.Body.{Body}
-use Rattle.jc_methods.specs.Flow.{targets_of}
+use Rattle.jc_methods.specs.Flow.{targets_of, falls_at}
 use Rattle.jc_methods.specs.InsnUse.{LeadsWithin}
 use Rattle.jc_methods.specs.VerificationTypes.{Names, VerificationType, TypeState, type_state, IsNumberedState, AreNumberedFrames, Grows}
 use Rattle.jc_methods.specs.EntryState.{entry_of}
@@ -15,7 +15,7 @@ use Rattle.jc_bytes.specs.Least.{IsNowhere}
 use Rattle.jc_methods.specs.WellMade.{IsState, IsWellMade}
 use Rattle.jc_after.specs.After.{insn_at, after_of}
 use Rattle.jc_kinds.specs.Fits.{FitState, FitsThere, fits, fit_each}
-use Rattle.jc_kinds.specs.States.{falls_at, or_else, state_of, after_at}
+use Rattle.jc_kinds.specs.States.{or_else, state_of, after_at}
 use Rattle.jc_kinds.specs.Checked.{JumpsTo, LeadsTo, NeedsFrame, IsMissing}
 use Rattle.jc_kinds.specs.Checking.{branches}
 use Rattle.jc_kinds.specs.Frames.{frame_in}
@@ -24,7 +24,8 @@ use Rattle.jc_kinds.specs.StateSequence.{fits_there, fits_frame, Begins, IsStep,
 use Rattle.std.proofs.lemmas.Option.{none-some}
 use Rattle.jc_bytes.proofs.BooleanLaws.{fails_where, stands_in, first_in, later_in}
 use Rattle.jc_kinds.proofs.FitsLaws.{fits_itself, state_decided}
-use Rattle.jc_kinds.proofs.CheckLaws.{has_frame_decided, goes_on_decided, falls_into_decided, leads_decided}
+use Rattle.jc_methods.proofs.FlowLaws.{goes_on_decided, falls_into_decided}
+use Rattle.jc_kinds.proofs.CheckLaws.{has_frame_decided, leads_decided}
 use Rattle.jc_kinds.proofs.KindFitsLaws.{state_held_fits}
 use Rattle.jc_kinds.proofs.FrameLaws.{frame_seen, frame_found, frame_numbered}
 use Rattle.jc_methods.proofs.MetNamesLaws.{grows_none, grows_both}

@@ -4,12 +4,12 @@ use Rattle.std.specs.List.{list_any}
 use Rattle.jc_methods.specs.declared.insn.Insn.{Insn}
 use Rattle.jc_methods.specs.declared.body.Handler.{Handler}
 use Rattle.jc_methods.specs.declared.body.Body.{Body}
-use Rattle.jc_methods.specs.Flow.{targets_of}
+use Rattle.jc_methods.specs.Flow.{targets_of, falls_at}
 use Rattle.jc_methods.specs.VerificationTypes.{Names}
 use Rattle.jc_methods.specs.EntryState.{entry_of}
 use Rattle.jc_after.specs.After.{insn_at}
 use Rattle.jc_kinds.specs.Fits.{fits_there}
-use Rattle.jc_kinds.specs.States.{state_of, after_at, falls_at}
+use Rattle.jc_kinds.specs.States.{state_of, after_at}
 use Rattle.jc_kinds.specs.Checked.{at_handler}
 
 -- ---- where control goes
@@ -24,10 +24,6 @@ branches insn i = if falls_at insn then (i + 1) ∷ targets_at insn else targets
 abbrev pub guards : Handler → ℕ → Bool
 guards h i = nat_le h.start i && nat_lt i h.end
 
-abbrev pub falls_into : Body → ℕ → Bool
-falls_into b zero = false
-falls_into b (suc i) = falls_at (insn_at b i)
-
 -- ---- frames
 
 abbrev pub has_frame : Body → ℕ → Bool
@@ -40,7 +36,7 @@ abbrev pub is_handler_target : Body → ℕ → Bool
 is_handler_target b j = list_any (λ h. nat_eq h.target j) b.handlers
 
 abbrev pub needs_frame : Body → ℕ → Bool
-needs_frame b j = is_jump_target b j || (is_handler_target b j || (not (nat_eq j 0) && not (falls_into b j)))
+needs_frame b j = is_jump_target b j || (is_handler_target b j || (not (nat_eq j 0) && not (is_fallen_into b.code j)))
 
 abbrev pub is_missing : Body → ℕ → Bool
 is_missing b i = needs_frame b i && not (has_frame b i)

@@ -1,11 +1,11 @@
 //! Instructions that need a stack map frame (JVM Specification 4.10.1.6).
 ghost use Rattle.std.specs.Prelude.{◌≡◌, ◌<◌, length, All, IfOk, OnOk, MatchOption};
-ghost use Rattle.jc_methods.specs.Flow.{targets_of};
+ghost use Rattle.jc_methods.specs.Flow.{targets_of, is_fallen_into};
 ghost use Rattle.jc_methods.specs.InsnUse.{LeadsWithin};
 ghost use Rattle.jc_bytes.specs.Least.{IsNowhere};
 ghost use Rattle.jc_methods.specs.WellMade.{IsWellMade};
 ghost use Rattle.jc_kinds.specs.Checked.{IsMissing, FirstMissing};
-ghost use Rattle.jc_kinds.specs.Checking.{falls_into, needs_frame, is_missing};
+ghost use Rattle.jc_kinds.specs.Checking.{needs_frame, is_missing};
 ghost use Rattle.jc_kinds.specs.Frames.{AreNumbers};
 ghost use Rattle.jc_kinds.specs.Marking.{MarksWhere, is_among, leads_to, begins_handler, AreTargets};
 
@@ -78,7 +78,7 @@ fn marks_of(alloc: Global, body: &Body) -> Result<Vec<bool>, Memory>
 /// Whether control may fall into an instruction from the one before it.
 fn falls_into(body: &Body, at: usize) -> bool
     requires { at < length body.now.code }
-    ensures { result ≡ falls_into body.now at }
+    ensures { result ≡ is_fallen_into body.now.code at }
 {
     at != 0 && body.code[at - 1].falls_through()
 }

@@ -1,14 +1,13 @@
 //! The states before the instructions, one after the other (JVM Specification 4.10.1.6).
 ghost use Rattle.std.specs.Prelude.{◌≡◌, ◌<◌, ◌++◌, [], true, length, IfOk, OnOk, Some, unwrap_or, if◌then◌else◌};
 ghost use Rattle.std.specs.List.{list_all};
-ghost use Rattle.jc_methods.specs.Flow.{targets_of};
+ghost use Rattle.jc_methods.specs.Flow.{targets_of, falls_through};
 ghost use Rattle.jc_methods.specs.VerificationTypes.{Grows, IsNumberedState, AreNumberedFrames};
 ghost use Rattle.jc_bytes.specs.Least.{IsNowhere};
 ghost use Rattle.jc_methods.specs.WellMade.{IsWellMade, IsState};
 ghost use Rattle.jc_after.specs.Effects.{AreEffects, body_of};
 ghost use Rattle.jc_kinds.specs.Checked.{IsMissing};
 ghost use Rattle.jc_kinds.specs.Checking.{branches};
-ghost use Rattle.jc_kinds.specs.States.{falls_through};
 ghost use Rattle.jc_kinds.specs.Frames.{frame_in, AreNumbers};
 ghost use Rattle.jc_kinds.specs.StateSequence.{fits_frame, Begins, Steps, IsKeptEntry, listed, kept_of, IsWalk};
 

@@ -1,5 +1,5 @@
 -- A well made body: what every call that takes a body relies on (JVM Specification 4.7.3, 4.9).
-use Rattle.std.specs.Prelude.{◌≡◌, ◌≢◌, ⊤, ℕ, ◌+◌, ◌*◌, ◌<◌, ◌≤◌, List, [], ◌∷◌, ◌++◌, length, Option, None, Some, All, slice_get, nat_eq, if◌then◌else◌}
+use Rattle.std.specs.Prelude.{◌≡◌, ◌≢◌, ⊤, ℕ, ◌+◌, ◌*◌, ◌<◌, ◌≤◌, List, [], ◌∷◌, ◌++◌, length, filter, Option, None, Some, All, slice_get, nat_eq, if◌then◌else◌}
 use Rattle.std.specs.Int.Bits.{bit_and}
 use Rattle.std.specs.List.{sum_by}
 use Rattle.jc_bytes.specs.Descriptor.{MethodType, DescribesMethod, parameter_slots}
@@ -93,20 +93,20 @@ AreFramesFrom first code max_locals max_stack (f ∷ frames) =
 
 -- ---- what is used
 
--- what stands at a place, by the entry that is for it
+-- what stands at a place, by the first entry that is for it
 abbrev pub what_used : List Use → ℕ → Option What
 what_used [] place = None
 what_used (u ∷ uses) place = if nat_eq u.place place then Some u.what else what_used uses place
 
--- no two entries are for one place: the places rise, from one on
-abbrev pub AreRisingFrom : ℕ → List Use → Type 0
-AreRisingFrom first [] = ⊤
-AreRisingFrom first (u ∷ uses) = (first ≤ u.place) × AreRisingFrom (u.place + 1) uses
+-- the entries that are for a place
+abbrev pub entries_for : List Use → ℕ → List Use
+entries_for uses place = filter (λ u. nat_eq u.place place) uses
 
--- there is an entry for the place, and the fact holds of what stands there
+-- there is one entry for the place, wherever it is listed, and the fact holds of what stands there
 pub record HasUse (uses : List Use) (place : ℕ) (Fact : What → Type 0) : Type 0 where
   pub what : What
   pub used : what_used uses place ≡ Some what
+  pub one : length (entries_for uses place) ≡ 1
   pub fact : Fact what
 
 -- each text fits into a Utf8 entry (JVM Specification 4.4.7)
@@ -118,8 +118,8 @@ HasShortTexts (whats.Class name) = IsShortText name
 HasShortTexts (whats.Computed desc) = IsShortText desc
 HasShortTexts what = ⊤
 
+-- each place that an instruction or a row uses has one entry, of the kind that is needed
 pub record AreUses (code : List Insn) (handlers : List Handler) (uses : List Use) : Type 0 where
-  pub rising : AreRisingFrom 0 uses
   pub by_insns : All (λ insn. (place : ℕ) → pool_place insn ≡ Some place → HasUse uses place (Suits insn)) code
   pub by_handlers : All (λ h. h.class ≢ 0 → HasUse uses h.class IsClass) handlers
   pub short : All (λ u. HasShortTexts u.what) uses

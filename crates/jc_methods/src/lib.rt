@@ -18,7 +18,6 @@ mod same;
 mod slots;
 mod starts;
 mod targets;
-mod used;
 mod value_type;
 mod widened;
 
@@ -39,6 +38,5 @@ pub use probe_members::{
 };
 pub use slots::{a_replaced_slot_is_a_mapped_one, mapped_locals_are_within};
 pub use starts::insn_numbers;
-pub use used::what_used;
 pub use value_type::{MethodTypes, ValueType, field_type, method_types};
 pub use widened::the_wide_form_has_each_image;

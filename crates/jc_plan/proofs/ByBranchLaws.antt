@@ -5,16 +5,16 @@ use Rattle.std.specs.List.{sum_by}
 use Rattle.std.proofs.lemmas.List.{take_all}
 use Rattle.std.proofs.lemmas.Bool.{cases_order}
 use Rattle.std.proofs.lemmas.Option.{slice_get-map, slice_get_within, same_Some, none-some}
-use Rattle.jc_methods.specs.Flow.{flow_of, FallsThrough}
+use Rattle.jc_methods.specs.Flow.{flow_of, FallsThrough, goes_on}
 use Rattle.jc_methods.specs.WellMade.{IsCode}
 use Rattle.jc_methods.specs.declared.insn.Insn.{Insn}
 use Rattle.jc_methods.specs.declared.insn.Flow.{Flow}
 use Rattle.jc_methods.specs.declared.insn.Flow.TheVariants as flows
 use Rattle.jc_methods.specs.declared.body.Body.{Body}
+use Rattle.jc_methods.proofs.FlowLaws.{falls_decided}
 use Rattle.jc_bytes.proofs.BooleanLaws.{stands_in}
 use Rattle.jc_plan.specs.declared.branch.Branch.{Branch}
 use Rattle.jc_plan.specs.Edges.{branches, jump, arm, exit, branches_of}
-use Rattle.jc_plan.specs.Entries.{goes_on}
 use Rattle.jc_plan.specs.Probed.{is_probed, id_of, probe_count, first_id, probe_of}
 use Rattle.jc_plan.specs.Analysed.{IsAnalysed, class_plan}
 use Rattle.jc_methods.specs.declared.analysed.Analysed.{Analysed}
@@ -34,23 +34,12 @@ last_parts (x ∷ code) (suc i) insn h e =
     let rest = last_parts code i insn h (omega arith) in
     (x ∷ rest.0, λ k. x ∷ rest.1 k)
 
-falls : (insn : Insn) → goes_on (flow_of insn) ≡ true → FallsThrough insn
-falls insn g = by (flow_of insn) refl g
-  where
-    by : (flow : Flow) → flow_of insn ≡ flow → goes_on flow ≡ true → FallsThrough insn
-    by flows.GoesOn e g = inl e
-    by flows.Branches e g = inr e
-    by flows.Jumps e g = absurd cc
-    by flows.Switches e g = absurd cc
-    by flows.Returns e g = absurd cc
-    by flows.Throws e g = absurd cc
-
 -- behind an instruction that goes on stands another
 pub goes_within : (code : List Insn) (i : ℕ) (insn : Insn) → IsCode code → slice_get code i ≡ Some insn → goes_on (flow_of insn) ≡ true → i + 1 < length code
 goes_within code i insn is h g =
     let within = slice_get_within code i insn h in
     ⊎_elim
-    (λ last. let parts = last_parts code i insn h last in absurd (is.ends parts.0 insn parts.1 (falls insn g)))
+    (λ last. let parts = last_parts code i insn h last in absurd (is.ends parts.0 insn parts.1 ((falls_decided insn).to g)))
     (λ apart. ⊎_elim (λ lt. lt) (λ lt. absurd (omega (arith, within, lt))) apart)
     (cases_order (i + 1) (length code))
 

@@ -14,3 +14,5 @@ pub mod PlanLaws
 pub mod OneWayLaws
 pub mod ByBranchLaws
 pub mod MappedLaws
+pub mod ChosenLaws
+pub mod ClassEdgesLaws

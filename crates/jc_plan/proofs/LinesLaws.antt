@@ -5,10 +5,11 @@ use Rattle.std.proofs.lemmas.Bool.{and_parts, and_from, or_cases, or_left, or_ri
 use Rattle.jc_methods.specs.declared.insn.Insn.{Insn}
 use Rattle.jc_methods.specs.declared.body.Body.{Body}
 use Rattle.jc_methods.specs.declared.body.LineAt.{LineAt}
+use Rattle.jc_methods.specs.Flow.{is_fallen_into}
 use Rattle.jc_plan.specs.declared.branch.Branch.{Branch}
 use Rattle.jc_plan.specs.declared.branch.Way.{Way}
 use Rattle.jc_plan.specs.declared.branch.Way.TheVariants.{Falls, Jumps, Switches, Exits}
-use Rattle.jc_plan.specs.Entries.{IsLineStart, IsInvocationLine, is_line_start, is_call, calls_from, is_invocation_line, is_fallen_into, is_multi_target}
+use Rattle.jc_plan.specs.Entries.{IsLineStart, IsInvocationLine, is_line_start, is_call, calls_from, is_invocation_line, is_multi_target}
 use Rattle.jc_plan.specs.Probed.{IsProbedWay, is_probed_way, IsProbed, is_probed}
 use Rattle.jc_bytes.proofs.BooleanLaws.{none_in, which_in, first_in, later_in}
 

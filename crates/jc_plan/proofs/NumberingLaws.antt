@@ -6,7 +6,7 @@ use Rattle.std.proofs.lemmas.Bool.{ltb-true, lt-ltb, false_from_ne_true, cases_l
 use Rattle.std.proofs.lemmas.List.{length-take-le}
 use Rattle.std.proofs.lemmas.Option.{slice_get-get_or}
 use Rattle.jc_bytes.specs.PlainLists.{join_from}
-use Rattle.jc_methods.specs.Flow.{flow_of, targets_of}
+use Rattle.jc_methods.specs.Flow.{flow_of, targets_of, goes_on, is_fallen_into}
 use Rattle.jc_methods.specs.declared.insn.Insn.{Insn}
 use Rattle.jc_methods.specs.declared.body.Body.{Body}
 use Rattle.jc_bytes.proofs.BooleanLaws.{same_tests}
@@ -14,7 +14,6 @@ use Rattle.jc_plan.specs.declared.branch.Branch.{Branch}
 use Rattle.jc_plan.specs.declared.branch.Way.{Way}
 use Rattle.jc_plan.specs.declared.branch.Way.TheVariants.{Falls, Jumps, Switches, Exits}
 use Rattle.jc_plan.specs.Edges.{branches_of, branches}
-use Rattle.jc_plan.specs.Entries.{goes_on, is_fallen_into}
 use Rattle.jc_plan.specs.Probed.{Position, position_by, position_of, is_before, is_probed_way, is_probed, probes_before}
 use Rattle.jc_plan.proofs.PlacesLaws.{join_from_split}
 use Rattle.jc_plan.proofs.CountLaws.{count_join, count_agree, count_none, each_mapped}

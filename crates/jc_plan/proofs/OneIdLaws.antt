@@ -7,7 +7,7 @@ use Rattle.std.proofs.lemmas.List.{take_all}
 use Rattle.std.proofs.lemmas.List.Elements.{Contains-append_right}
 use Rattle.std.proofs.lemmas.Option.{slice_get-get_or}
 use Rattle.jc_bytes.specs.PlainLists.{join_from}
-use Rattle.jc_methods.specs.Flow.{flow_of, targets_of}
+use Rattle.jc_methods.specs.Flow.{flow_of, targets_of, goes_on, is_fallen_into}
 use Rattle.jc_methods.specs.declared.insn.Insn.{Insn}
 use Rattle.jc_methods.specs.declared.insn.Flow.{Flow}
 use Rattle.jc_methods.specs.declared.insn.Flow.TheVariants as flows
@@ -17,7 +17,7 @@ use Rattle.jc_plan.specs.declared.branch.Branch.{Branch}
 use Rattle.jc_plan.specs.declared.branch.Way.{Way}
 use Rattle.jc_plan.specs.declared.branch.Way.TheVariants.{Falls, Jumps, Switches, Exits}
 use Rattle.jc_plan.specs.Edges.{sequence, jump, branches_by, branches_of, branches}
-use Rattle.jc_plan.specs.Entries.{one_if, goes_on, is_fallen_into, is_multi_target, is_invocation_line}
+use Rattle.jc_plan.specs.Entries.{one_if, is_multi_target, is_invocation_line}
 use Rattle.jc_plan.specs.Probed.{Position, position_by, position_of, is_probed_way, is_probed, probes_before, probe_count, id_of, IsUsed}
 use Rattle.jc_plan.proofs.CountLaws.{count_cons}
 use Rattle.jc_plan.proofs.FlowLaws.{IsAt, GoesFrom, all_at, IsRising, all_rise, has_targets}

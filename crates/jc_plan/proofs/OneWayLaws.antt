@@ -7,7 +7,7 @@ use Rattle.std.proofs.lemmas.List.Sums.{sum_by-cons}
 use Rattle.std.proofs.lemmas.Option.{same_Some, none-some}
 use Rattle.jc_bytes.specs.PlainLists.{map_from}
 use Rattle.jc_bytes.specs.FirstSeen.{first_seen, IsDistinct}
-use Rattle.jc_methods.specs.Flow.{flow_of, targets_of}
+use Rattle.jc_methods.specs.Flow.{flow_of, targets_of, goes_on, falls_at, is_fallen_into}
 use Rattle.jc_methods.specs.declared.insn.Insn.{Insn}
 use Rattle.jc_methods.specs.declared.insn.Flow.{Flow}
 use Rattle.jc_methods.specs.declared.insn.Flow.TheVariants as flows
@@ -19,7 +19,7 @@ use Rattle.jc_plan.specs.declared.branch.Branch.{Branch}
 use Rattle.jc_plan.specs.declared.branch.Way.{Way}
 use Rattle.jc_plan.specs.declared.branch.Way.TheVariants.{Falls, Jumps, Switches, Exits}
 use Rattle.jc_plan.specs.Edges.{place_of, sequence, jump, arm, exit, branches_by, branches_of, branches}
-use Rattle.jc_plan.specs.Entries.{one_if, leads_to, entries, goes_on, falls_at, is_fallen_into, is_multi_target, is_invocation_line}
+use Rattle.jc_plan.specs.Entries.{one_if, leads_to, entries, is_multi_target, is_invocation_line}
 use Rattle.jc_plan.specs.Probed.{is_probed, is_probed_way, id_of, probe_count, first_id}
 use Rattle.jc_plan.specs.Leading.{LeadsTo, IsOneWay}
 use Rattle.jc_plan.proofs.ListedLaws.{listed_from}
@@ -65,13 +65,13 @@ any_listed i (t ∷ ts) c =
 
 -- ---- what jumps has one target
 
-abbrev HasOne : List ℕ → Type 0
+abbrev pub HasOne : List ℕ → Type 0
 HasOne ts = (t : ℕ) × (ts ≡ t ∷ [])
 
-tests_one : (insn : Insn) → flow_of insn ≡ flows.Branches → HasOne (targets_of insn)
+pub tests_one : (insn : Insn) → flow_of insn ≡ flows.Branches → HasOne (targets_of insn)
 tests_one insn e = subst (λ (f : Flow). HasTargets f (targets_of insn)) e (has_targets insn)
 
-jumps_one : (insn : Insn) → flow_of insn ≡ flows.Jumps → HasOne (targets_of insn)
+pub jumps_one : (insn : Insn) → flow_of insn ≡ flows.Jumps → HasOne (targets_of insn)
 jumps_one insn e = subst (λ (f : Flow). HasTargets f (targets_of insn)) e (has_targets insn)
 
 -- ---- which branches an instruction has

@@ -4,7 +4,7 @@ use Rattle.std.specs.List.{count_by, AllByRecursion}
 use Rattle.std.proofs.lemmas.Bool.{lt-ltb, le-ltb}
 use Rattle.jc_bytes.specs.PlainLists.{map_from, join_from}
 use Rattle.jc_bytes.specs.FirstSeen.{first_seen}
-use Rattle.jc_methods.specs.Flow.{flow_of, targets_of}
+use Rattle.jc_methods.specs.Flow.{flow_of, targets_of, goes_on, is_fallen_into}
 use Rattle.jc_methods.specs.declared.insn.Insn.{Insn}
 use Rattle.jc_methods.specs.declared.insn.Flow.{Flow}
 use Rattle.jc_methods.specs.declared.insn.Flow.TheVariants as flows
@@ -13,7 +13,7 @@ use Rattle.jc_plan.specs.declared.branch.Branch.{Branch}
 use Rattle.jc_plan.specs.declared.branch.Way.{Way}
 use Rattle.jc_plan.specs.declared.branch.Way.TheVariants.{Falls, Jumps, Switches, Exits}
 use Rattle.jc_plan.specs.Edges.{sequence, jump, arm, exit, branches_by, branches_of, branches}
-use Rattle.jc_plan.specs.Entries.{one_if, goes_on, is_fallen_into, is_multi_target, is_invocation_line}
+use Rattle.jc_plan.specs.Entries.{one_if, is_multi_target, is_invocation_line}
 use Rattle.jc_plan.specs.Probed.{Position, position_of, is_before, is_probed_way, is_probed, probes_before, id_if}
 use Rattle.jc_plan.specs.Plan.{out_probe}
 use Rattle.jc_plan.specs.InsnFacts.{ids_from}

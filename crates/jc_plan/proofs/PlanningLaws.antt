@@ -6,18 +6,19 @@ use Rattle.std.proofs.lemmas.List.{take_more, take_all}
 use Rattle.std.proofs.lemmas.List.Elements.{All-get_or}
 use Rattle.std.proofs.lemmas.List.Sums.{count_by-le-length, sum_by_more}
 use Rattle.jc_bytes.specs.PlainLists.{map_from, numbers_from, places}
-use Rattle.jc_methods.specs.Flow.{flow_of, targets_of}
+use Rattle.jc_methods.specs.Flow.{flow_of, targets_of, goes_on, is_fallen_into}
 use Rattle.jc_methods.specs.InsnUse.{LeadsWithin}
 use Rattle.jc_methods.specs.WellMade.{IsCode}
 use Rattle.jc_methods.specs.declared.insn.Insn.{Insn}
 use Rattle.jc_methods.specs.declared.insn.Flow.{Flow}
 use Rattle.jc_methods.specs.declared.insn.Flow.TheVariants as flows
 use Rattle.jc_methods.specs.declared.body.Body.{Body}
+use Rattle.jc_methods.proofs.FlowLaws.{falls_decided}
 use Rattle.jc_plan.specs.declared.branch.Branch.{Branch}
 use Rattle.jc_plan.specs.declared.branch.Way.{Way}
 use Rattle.jc_plan.specs.declared.branch.Way.TheVariants.{Falls, Jumps, Switches, Exits}
 use Rattle.jc_plan.specs.Edges.{branches_of, branches}
-use Rattle.jc_plan.specs.Entries.{one_if, goes_on, is_fallen_into, is_multi_target, is_invocation_line}
+use Rattle.jc_plan.specs.Entries.{one_if, is_multi_target, is_invocation_line}
 use Rattle.jc_plan.specs.Probed.{Position, position_of, is_before, is_probed_way, is_probed, probes_before, probe_count, id_if}
 use Rattle.jc_plan.specs.Plan.{plan_of, lead_probe, out_probes}
 use Rattle.jc_plan.specs.InsnFacts.{EntersWithin, has_probe, ids_from}
@@ -28,14 +29,6 @@ use Rattle.jc_plan.proofs.NumberingLaws.{own_by, own, fallen_next, in_front, bef
 use Rattle.jc_plan.proofs.PlannedProbesLaws.{none_before, behind_lead, out_ids}
 
 -- ---- the instruction in front may go on
-
-falls_through : (flow : Flow) → goes_on flow ≡ true → (flow ≡ flows.GoesOn) ⊎ (flow ≡ flows.Branches)
-falls_through flows.GoesOn h = inl refl
-falls_through flows.Branches h = inr refl
-falls_through flows.Jumps h = absurd cc
-falls_through flows.Switches h = absurd cc
-falls_through flows.Returns h = absurd cc
-falls_through flows.Throws h = absurd cc
 
 -- nothing falls out of the end of the code
 no_end : (code : List Insn) → IsCode code → is_fallen_into code (length code) ≡ false
@@ -55,7 +48,7 @@ no_end code c = by (length code) refl (get_last code (length code - 1) (let some
         sym (take_all (length code - 1 + 1) code (omega arith)) ∙ take_more code (length code - 1) x lt ∙ ap (λ (z : Insn). take (length code - 1) code ++ z ∷ []) (sym is) in
         ap (is_fallen_into code) e
         ∙ fallen_next code (length code - 1) x lt is
-        ∙ false_from_ne_true (goes_on (flow_of x)) (λ h. c.ends (take (length code - 1) code) x all (falls_through (flow_of x) h))
+        ∙ false_from_ne_true (goes_on (flow_of x)) (λ h. c.ends (take (length code - 1) code) x all ((falls_decided x).to h))
 
 -- ---- marks of multi-targets
 

@@ -1,4 +1,6 @@
 pub mod Edges
+pub mod Chosen
+pub mod ClassEdges
 pub mod Entries
 pub mod Probed
 pub mod Plan

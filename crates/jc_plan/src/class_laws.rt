@@ -1,11 +1,13 @@
 //! Laws of the probes of a class, and of edges without probes.
-ghost use Rattle.std.specs.Prelude.{◌≡◌, false, ◌<◌, IsTrue, Contains, ℕ, List, Some, slice_get};
+ghost use Rattle.std.specs.Prelude.{◌≡◌, true, false, ◌<◌, IsTrue, Contains, ℕ, List, Some, slice_get};
 ghost use Rattle.jc_methods.specs.WellMade.{IsCode};
 ghost use Rattle.jc_methods.specs.declared.analysed.Analysed.{Analysed};
 ghost use Rattle.jc_methods.specs.declared.body.Body.{Body};
 ghost use Rattle.jc_methods.specs.declared.insn.Insn.{Insn};
 ghost use Rattle.jc_plan.specs.declared.branch.Branch.{Branch};
-ghost use Rattle.jc_plan.specs.Edges.{branches, branches_of};
+ghost use Rattle.jc_plan.specs.Edges.{place_of, branches, branches_of};
+ghost use Rattle.jc_plan.specs.Chosen.{Outcome, condition, chosen, onward};
+ghost use Rattle.jc_plan.specs.ClassEdges.{ClassEdge, HasId};
 ghost use Rattle.jc_plan.specs.Probed.{probe_of, first_id, id_of, is_probed};
 ghost use Rattle.jc_plan.specs.Leading.{LeadsTo, IsOneWay};
 ghost use Rattle.jc_plan.specs.Analysed.{IsAnalysed};
@@ -18,6 +20,23 @@ pub fn each_id_is_of_one_body()
         → slice_get bodies n ≡ Some c → Contains (branches b.code) x → Contains (branches c.code) y
         → IsTrue (is_probed b x) → IsTrue (is_probed c y)
         → id_of b (first_id bodies m) x ≡ id_of c (first_id bodies n) y → m ≡ n }
+{}
+
+/// No two edges of a class have a probe of one id.
+pub fn each_id_is_of_one_edge()
+    ensures { (bodies : List Body) (e f : ClassEdge) (id : ℕ) → HasId bodies e id → HasId bodies f id → e ≡ f }
+{}
+
+/// How a turn at an instruction comes out chooses one of its branches [`listed`], which leads where control goes on
+/// [`leads`] (JVM Specification 6.5). A condition that holds chooses another branch than one that doesn't, also where both
+/// lead to the next instruction [`apart`].
+pub fn each_outcome_chooses_a_branch()
+    ensures listed { (b : Body) (i : ℕ) (insn : Insn) (outcome : Outcome) (x : Branch) → slice_get b.code i ≡ Some insn
+        → chosen i insn outcome ≡ Some x → Contains (branches b.code) x }
+    ensures leads { (i : ℕ) (insn : Insn) (outcome : Outcome) (x : Branch) → chosen i insn outcome ≡ Some x
+        → (x.at ≡ i) × (place_of x.way ≡ onward i insn outcome) }
+    ensures apart { (i : ℕ) (insn : Insn) (x y : Branch) → chosen i insn (condition true) ≡ Some x
+        → chosen i insn (condition false) ≡ Some y → x ≡ y → ⊥ }
 {}
 
 /// An edge without a probe is the one way to the instruction where it leads.

@@ -3,11 +3,11 @@ ghost use Rattle.std.specs.Prelude.{◌≡◌, ◌+◌, ◌*◌, ◌<◌, ◌≤
 ghost use Rattle.std.specs.Prelude.{replicate, slice_index, IfOk, OnOk, nat_eq, nat_le, ◌&&◌, ◌||◌};
 ghost use Rattle.std.specs.List.{count_by};
 ghost use Rattle.jc_bytes.specs.PlainLists.{places};
-ghost use Rattle.jc_methods.specs.Flow.{flow_of, targets_of};
+ghost use Rattle.jc_methods.specs.Flow.{flow_of, targets_of, goes_on};
 ghost use Rattle.jc_methods.specs.InsnUse.{LeadsWithin};
 ghost use Rattle.jc_methods.specs.WellMade.{IsHandler, IsWellMadeOfAnySize, insns_and_arms};
 ghost use Rattle.jc_plan.specs.Edges.{branches, branches_of};
-ghost use Rattle.jc_plan.specs.Entries.{one_if, goes_on, entries, is_multi_target};
+ghost use Rattle.jc_plan.specs.Entries.{one_if, entries, is_multi_target};
 ghost use Rattle.jc_plan.specs.InsnFacts.{enters, EntersWithin};
 
 use crate::branch::{Branch, Way, put_branches};

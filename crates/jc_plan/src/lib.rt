@@ -12,7 +12,8 @@ mod planning;
 pub use branch::{Branch, Way, put_branches};
 pub use class_laws::{
     each_analysed_class_is_planned, each_branch_is_planned,
-    each_edge_without_a_probe_is_the_one_way, each_id_is_of_one_body,
+    each_edge_without_a_probe_is_the_one_way, each_id_is_of_one_body, each_id_is_of_one_edge,
+    each_outcome_chooses_a_branch,
 };
 pub use edge_list::edges;
 pub use laws::{

@@ -11,7 +11,7 @@ use Rattle.jc_base.specs.declared.Body.{Body}
 use Rattle.jc_base.specs.declared.Plan.{Plan}
 use Rattle.jc_plan.specs.Plan.{plan_of}
 use Rattle.jc_plan.specs.Probed.{probe_count, first_id}
-use Rattle.jc_instrument.specs.Analysis.{IsPlanned}
+use Rattle.jc_plan.specs.Analysed.{IsAnalysed}
 use Rattle.jc_top.specs.ClassInfo.{method_text, method_line}
 
 module _ {X Y : Type 0} (f : ℕ → X → Y) where
@@ -26,7 +26,7 @@ module _ {X Y : Type 0} (f : ℕ → X → Y) where
       let there : k + 1 + i ≡ k + suc i = omega arith in
       map_from_at (k + 1) xs i x y (omega (arith, less)) ∙ ap (λ n. f n (get_or xs i x)) there
 
-module _ (a : Analysed) (planned : IsPlanned a) where
+module _ (a : Analysed) (planned : IsAnalysed a) where
   pub as_many_plans : length a.plans ≡ length a.bodies
   as_many_plans = ap length planned.plans ∙ map_from_length (λ i b. plan_of b (first_id a.bodies i)) 0 a.bodies
 

@@ -19,7 +19,7 @@ use Rattle.jc_base.proofs.FirstSeenLaws.{seen-append, seen_anew, any_first_seen}
 use Rattle.jc_exec.specs.declared.hits.ClassHits.{ClassHits}
 use Rattle.jc_exec.specs.declared.refusal.ExecRefusal.{ExecRefusal}
 use Rattle.jc_exec.specs.declared.refusal.ExecRefusal.TheVariants.{Conflict}
-use Rattle.jc_instrument.specs.Analysis.{IsAnalysis, IsPlanned}
+use Rattle.jc_instrument.specs.Analysis.{IsAnalysis}
 use Rattle.jc_instrument.specs.LeftAlone.{is_left_alone}
 use Rattle.jc_instrument.specs.Reasons.{AnalysisReason}
 use Rattle.jc_base.specs.Failing.{Said}
@@ -42,9 +42,6 @@ use Rattle.jc_top.proofs.EachLaws.{zipped_at, AtPlace}
 use Rattle.jc_top.proofs.FramelessLaws.{same_counted}
 use Rattle.jc_top.proofs.ReportLaws.{left_alone_has_none, changed_has_some}
 use Rattle.jc_top.proofs.WriteLaws.{map_take_more}
-
-pub as_analysed : (a : Analysed) → IsPlanned a → IsAnalysed a
-as_analysed a planned = record { well_made = planned.well_made; plans = planned.plans; probes = planned.probes; few = planned.few }
 
 -- ---- the record of an id
 

@@ -2,7 +2,7 @@
 ghost use Rattle.std.specs.Prelude.{◌≡◌, ◌≤◌, ◌<◌, ◌^◌, ◌++◌, All, length, IfOk, OnOk, string_bytes};
 ghost use Rattle.std.specs.List.{AllZip, flat_map};
 ghost use Rattle.jc_base.specs.Reader.{most_read};
-ghost use Rattle.jc_instrument.specs.Analysis.{IsPlanned};
+ghost use Rattle.jc_plan.specs.Analysed.{IsAnalysed};
 ghost use Rattle.jc_top.specs.Command.{class_info};
 ghost use Rattle.jc_top.specs.ClassInfo.{class_end, class_line, class_text};
 ghost use Rattle.jc_top.specs.ClassInfo.{method_end, method_start, method_text, method_line, IsListing};
@@ -66,7 +66,7 @@ fn method_text(alloc: Global, body: &Body, probes: u32) -> Result<Vec<u8>, Alloc
 
 /// Puts the lines of a class's bodies at the end.
 fn put_methods(alloc: Global, text: &mut Vec<u8>, class: &Analysed) -> Result<(), AllocError>
-    requires { IsPlanned class.now }
+    requires { IsAnalysed class.now }
     ensures { OnOk result (text.new.items ≡ text.old.items ++ flat_map method_line class.now.bodies) }
 {
     let mut first = 0;
@@ -81,7 +81,7 @@ fn put_methods(alloc: Global, text: &mut Vec<u8>, class: &Analysed) -> Result<()
 
 /// The lines of a class.
 fn class_text(alloc: Global, class: &Analysed) -> Result<Vec<u8>, Memory>
-    requires { IsPlanned class.now }
+    requires { IsAnalysed class.now }
     ensures { IfOk result (λ text. text.items ≡ class_text class.now) }
 {
     let mut text = class_line(alloc, class)?;

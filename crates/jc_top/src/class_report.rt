@@ -4,7 +4,7 @@ ghost use Rattle.std.specs.List.{AllZip};
 ghost use Rattle.jc_base.specs.Reader.{most_read};
 ghost use Rattle.jc_exec.specs.declared.hits.ClassHits.{ClassHits};
 ghost use Rattle.jc_exec.specs.declared.refusal.ExecRefusal.TheVariants.{Conflict as conflict};
-ghost use Rattle.jc_instrument.specs.Analysis.{IsPlanned};
+ghost use Rattle.jc_plan.specs.Analysed.{IsAnalysed};
 ghost use Rattle.jc_top.specs.Report.{counted_of, counted_by};
 ghost use Rattle.jc_top.specs.Report.{fits, record_of, clash_with};
 ghost use Rattle.jc_top.specs.ReportSteps.{data_records, data_path, StopsAtClash, ClassClashes, IsLooked, IsSeen, SeesClass};
@@ -145,7 +145,7 @@ fn record_of<'a, 'd>(
 
 /// The class with its counters, by these hits, or by none.
 fn counted(alloc: Global, class: Analysed, hits: Option<&[bool]>) -> Result<Counted, Memory>
-    requires planned { IsPlanned class }
+    requires analysed { IsAnalysed class }
     requires hits { IfSome hits (λ hits. length hits.now ≡ class.probes) }
     ensures { IfOk result (λ c. c ≡ counted_of (option_map (λ hits. hits.now) hits.entry) class) }
 {
@@ -177,7 +177,7 @@ fn counted_by<'a>(
     exec_data: Option<&Data<'a>>,
     class: Analysed,
 ) -> Result<Counted, Stop<'a>>
-    requires { IsPlanned class }
+    requires { IsAnalysed class }
     ensures counted { IfOk result (λ c. c ≡ counted_by (data_records exec_data.entry) class) }
     ensures fit { IfOk result (λ _. clash_with class (record_of (data_records exec_data.entry) class.id) ≡ None) }
     ensures clash { IfErr result (StopsAtClash (data_path exec_data.entry)
@@ -193,7 +193,7 @@ fn seen_class<'a>(
     exec_data: Option<&Data<'a>>,
     class: Analysed,
 ) -> Result<Seen, Stop<'a>>
-    requires { IsPlanned class }
+    requires { IsAnalysed class }
     ensures seen { IfOk result (SeesClass (data_records exec_data.entry) class class.bodies) }
     ensures clash { IfErr result (StopsAtClash (data_path exec_data.entry)
         (ClassClashes (data_records exec_data.entry) class class.bodies)) }

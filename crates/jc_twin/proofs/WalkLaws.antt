@@ -1,6 +1,7 @@
 -- Walks of one body.
-use Rattle.std.proofs.Common.{◌≡◌, ◌⊎◌, inl, inr, ⊎_elim, ℕ, ◌+◌, Bool, true, false, List, [], ◌∷◌, Option, Some, None, refl, sym, ap, ◌∙◌, subst, zero-add}
-use Rattle.std.specs.Prelude.{slice_get, option_map, Contains, IsTrue}
+use Rattle.std.proofs.Common.{◌≡◌, ◌⊎◌, inl, inr, ⊎_elim, ℕ, suc, ◌+◌, ◌<◌, Bool, true, false, List, [], ◌∷◌, ◌++◌, Option, Some, None, refl, sym, ap, ◌∙◌, subst, zero-add, arith}
+use Rattle.std.specs.Prelude.{slice_get, option_map, Contains}
+use Rattle.std.proofs.lemmas.Bool.{true≢false}
 use Rattle.std.specs.List.{flat_map}
 use Rattle.std.proofs.lemmas.List.Elements.{Contains-append_right, Contains-append_cases}
 use Rattle.std.proofs.lemmas.Option.{same_Some, none-some}
@@ -11,14 +12,13 @@ use Rattle.jc_methods.specs.declared.insn.Flow.TheVariants as flows
 use Rattle.jc_methods.specs.declared.body.Body.{Body}
 use Rattle.jc_plan.specs.declared.branch.Branch.{Branch}
 use Rattle.jc_plan.specs.Edges.{exit, branches_by, branches_of, branches}
-use Rattle.jc_plan.specs.Leading.{IsOneWay}
-use Rattle.jc_plan.specs.Probed.{is_probed, id_of}
+use Rattle.jc_plan.specs.Leading.{LeadsTo}
+use Rattle.jc_plan.specs.Probed.{is_probed}
 use Rattle.jc_bytes.proofs.FirstSeenLaws.{contains_one}
 use Rattle.jc_bytes.proofs.BooleanLaws.{none_in, which_in, first_in, later_in}
 use Rattle.jc_plan.proofs.ListedLaws.{lists_from}
 use Rattle.jc_plan.proofs.OneWayLaws.{begins_at}
-use Rattle.jc_cover.specs.Covered.{is_hit, Covered}
-use Rattle.jc_cover.proofs.ChainLaws.{covered_unprobed}
+use Rattle.jc_cover.specs.Followed.{CameTo, began, caught as came_caught, led}
 use Rattle.jc_twin.specs.Walks.{Walk, cut, returns, throws, takes, caught, flow_at, IsWalkFrom, EndedByReturn, NeverThrown, thrown_by, thrown_edges, taken, stood, lone_by, lone_of, lone_edges, reached}
 
 flat_cases : {X Y : Type 0} (f : X → List Y) (xs : List X) (y : Y) → Contains (flat_map f xs) y → (x : X) × Contains xs x × Contains (f x) y
@@ -79,7 +79,7 @@ module _ (b : Body) where
       (Contains-append_cases (thrown_edges b i) (taken b row.target rest) y c)
 
   -- it stood where the edge begins
-  taken_stood : (i : ℕ) (w : Walk) (y : Branch) → IsWalkFrom b i w → Contains (taken b i w) y → Contains (stood i w) y.at
+  pub taken_stood : (i : ℕ) (w : Walk) (y : Branch) → IsWalkFrom b i w → Contains (taken b i w) y → Contains (stood i w) y.at
   taken_stood i cut y is c = absurd (none_in y c)
   taken_stood i returns y is c = subst (Contains (i ∷ [])) (ap (λ z. z.at) (contains_one (exit i) y c)) (first_in i [])
   taken_stood i throws y is c = subst (Contains (i ∷ [])) (ap (λ z. z.at) (thrown_is i y c).0) (first_in i [])
@@ -117,75 +117,96 @@ module _ (b : Body) where
       (λ lone. let f = flat_cases (lone_edges b) (stood 0 w) y lone in subst (Contains (stood 0 w)) (lone_at f.0 y f.2) f.1)
       (Contains-append_cases (taken b 0 w) (flat_map (lone_edges b) (stood 0 w)) y c)
 
-  pub took_stood : (w : Walk) (y : Branch) → IsWalkFrom b 0 w → Contains (taken b 0 w) y → Contains (stood 0 w) y.at
-  took_stood w y is c = taken_stood 0 w y is c
+  -- ---- what came to an instruction
 
-  -- ---- back over an edge without a probe
+  pub came_more : (P Q : Branch → Type 0) → ((x : Branch) → P x → Q x) → (t : ℕ) → CameTo b P t → CameTo b Q t
+  came_more P Q more t (began e) = began e
+  came_more P Q more t (came_caught row c e) = came_caught row c e
+  came_more P Q more t (led x c leads p) = led x c leads (more x p)
 
-  module _ (x : Branch) (t : ℕ) (one : IsOneWay b x t) where
-    -- a walk that stood there began there or took the one way in
-    arrived : (i : ℕ) (w : Walk) → IsWalkFrom b i w → Contains (stood i w) t → (i ≡ t) ⊎ Contains (taken b i w) x
-    arrived i cut is c = inl (contains_one i t c)
-    arrived i returns is c = inl (contains_one i t c)
-    arrived i throws is c = inl (contains_one i t c)
-    arrived i (takes y to rest) is c =
-        ⊎_elim
-        (λ here. inl here)
-        (λ later.
-        ⊎_elim
-        (λ there.
-        let same : y ≡ x = one.single y is.0 (is.2 ∙ ap Some there) in
-        inr (subst (λ z. Contains (z ∷ taken b to rest) x) (sym same) (first_in x (taken b to rest))))
-        (λ took. inr (later_in y (taken b to rest) x took))
-        (arrived to rest is.3 later))
-        (which_in i (stood to rest) t c)
-    arrived i (caught row rest) is c =
-        ⊎_elim
-        (λ here. inl here)
-        (λ later.
-        ⊎_elim
-        (λ there. absurd (one.no_handler row is.1 there))
-        (λ took. inr (Contains-append_right (thrown_edges b i) (taken b row.target rest) x took))
-        (arrived row.target rest is.4 later))
-        (which_in i (stood row.target rest) t c)
+  -- a walk that stood there began there, or came there by an edge that it took or as a handler
+  arrived : (t i : ℕ) (w : Walk) → IsWalkFrom b i w → Contains (stood i w) t → (i ≡ t) ⊎ CameTo b (λ x. Contains (taken b i w) x) t
+  arrived t i cut is c = inl (contains_one i t c)
+  arrived t i returns is c = inl (contains_one i t c)
+  arrived t i throws is c = inl (contains_one i t c)
+  arrived t i (takes y to rest) is c =
+      ⊎_elim
+      (λ here. inl here)
+      (λ later.
+      ⊎_elim
+      (λ there. inr (led y is.0 (is.2 ∙ ap Some there) (first_in y (taken b to rest))))
+      (λ came. inr (came_more (λ x. Contains (taken b to rest) x) (λ x. Contains (y ∷ taken b to rest) x) (λ x took. later_in y (taken b to rest) x took) t came))
+      (arrived t to rest is.3 later))
+      (which_in i (stood to rest) t c)
+  arrived t i (caught row rest) is c =
+      ⊎_elim
+      (λ here. inl here)
+      (λ later.
+      ⊎_elim
+      (λ there. inr (came_caught row is.1 there))
+      (λ came. inr (came_more (λ x. Contains (taken b row.target rest) x) (λ x. Contains (thrown_edges b i ++ taken b row.target rest) x) (λ x took. Contains-append_right (thrown_edges b i) (taken b row.target rest) x took) t came))
+      (arrived t row.target rest is.4 later))
+      (which_in i (stood row.target rest) t c)
 
-    pub came_by : (w : Walk) → IsWalkFrom b 0 w → Contains (stood 0 w) t → Contains (taken b 0 w) x
-    came_by w is c = ⊎_elim (λ here. absurd (one.not_first (sym here))) (λ took. took) (arrived 0 w is c)
+  pub came_there : (t : ℕ) (w : Walk) → IsWalkFrom b 0 w → Contains (stood 0 w) t → CameTo b (λ x. Contains (taken b 0 w) x) t
+  came_there t w is c = ⊎_elim (λ here. began (sym here)) (λ came. came) (arrived t 0 w is c)
 
   -- ---- forward, where nothing was thrown
 
-  module _ (first : ℕ) (hits : List Bool) where
-    -- each probed edge among these is hit
-    abbrev pub AreHit : List Branch → Type 0
-    AreHit edges = (y : Branch) → Contains edges y → is_probed b y ≡ true → IsTrue (is_hit hits (id_of b first y))
+  -- how many edges a walk takes before it returns
+  abbrev pub edges_left : Walk → ℕ
+  edges_left (takes x to rest) = suc (edges_left rest)
+  edges_left _ = 0
 
-    covered_by_probe : (y : Branch) → Contains (branches b.code) y → is_probed b y ≡ true → IsTrue (is_hit hits (id_of b first y)) → Covered b first hits y
-    covered_by_probe y listed probed hit = ([], (listed, (probed, hit)))
+  -- the walk took the edge when it had so many edges more to take
+  abbrev pub TookWith : ℕ → Walk → Branch → ℕ → Type 0
+  TookWith i cut y left = ⊥
+  TookWith i returns y left = (exit i ≡ y) × (left ≡ 0)
+  TookWith i throws y left = ⊥
+  TookWith i (takes x to rest) y left = ((x ≡ y) × (left ≡ suc (edges_left rest))) ⊎ TookWith to rest y left
+  TookWith i (caught row rest) y left = ⊥
 
-    -- the next edge that it took
-    next_taken : (i : ℕ) (w : Walk) → IsWalkFrom b i w → EndedByReturn w → NeverThrown w → (y : Branch) × Contains (taken b i w) y × (y.at ≡ i)
-    next_taken i cut is ended never = absurd ended
-    next_taken i returns is ended never = (exit i, first_in (exit i) [], refl)
-    next_taken i throws is ended never = absurd ended
-    next_taken i (takes x to rest) is ended never = (x, first_in x (taken b to rest), is.1)
-    next_taken i (caught row rest) is ended never = absurd never
+  pub took_with : (i : ℕ) (w : Walk) (y : Branch) → EndedByReturn w → NeverThrown w → Contains (taken b i w) y → (left : ℕ) × TookWith i w y left
+  took_with i cut y ended never c = absurd ended
+  took_with i returns y ended never c = (0, contains_one (exit i) y c, refl)
+  took_with i throws y ended never c = absurd ended
+  took_with i (takes x to rest) y ended never c =
+      ⊎_elim
+      (λ same. (suc (edges_left rest), inl (same, refl)))
+      (λ later. let more = took_with to rest y ended never later in (more.0, inr more.1))
+      (which_in x (taken b to rest) y c)
+  took_with i (caught row rest) y ended never c = absurd never
 
-    pub taken_covered : (i : ℕ) (w : Walk) → IsWalkFrom b i w → EndedByReturn w → NeverThrown w → AreHit (taken b i w) → (x : Branch) → Contains (taken b i w) x → Covered b first hits x
-    taken_covered i cut is ended never hit x c = absurd ended
-    taken_covered i throws is ended never hit x c = absurd ended
-    taken_covered i (caught row rest) is ended never hit x c = absurd never
-    taken_covered i returns is ended never hit x c =
-        let same = contains_one (exit i) x c in
-        subst (Covered b first hits) same
-        (covered_by_probe (exit i) (exit_listed i flows.Returns (inl refl) is) refl (hit (exit i) (first_in (exit i) []) refl))
-    taken_covered i (takes y to rest) is ended never hit x c =
-        ⊎_elim
-        (λ same. subst (Covered b first hits) same (by (taken_covered to rest is.3 ended never (λ z d. hit z (later_in y (taken b to rest) z d))) (is_probed b y) refl))
-        (λ later. taken_covered to rest is.3 ended never (λ z d. hit z (later_in y (taken b to rest) z d)) x later)
-        (which_in y (taken b to rest) x c)
-      where
-        by : ((z : Branch) → Contains (taken b to rest) z → Covered b first hits z) → (p : Bool) → is_probed b y ≡ p → Covered b first hits y
-        by behind true e = covered_by_probe y is.0 e (hit y (first_in y (taken b to rest)) e)
-        by behind false e =
-            let next = next_taken to rest is.3 ended never in
-            (covered_unprobed b first hits y to is.0 e is.2).1 (next.0, next.2, behind next.0 next.1)
+  pub with_took : (i : ℕ) (w : Walk) (y : Branch) (left : ℕ) → TookWith i w y left → Contains (taken b i w) y
+  with_took i cut y left took = absurd took
+  with_took i returns y left took = subst (Contains (exit i ∷ [])) took.0 (first_in (exit i) [])
+  with_took i throws y left took = absurd took
+  with_took i (takes x to rest) y left took =
+      ⊎_elim
+      (λ here. subst (Contains (x ∷ taken b to rest)) here.0 (first_in x (taken b to rest)))
+      (λ later. later_in x (taken b to rest) y (with_took to rest y left later))
+      took
+  with_took i (caught row rest) y left took = absurd took
+
+  -- the next edge that it took
+  next_taken : (i : ℕ) (w : Walk) → IsWalkFrom b i w → EndedByReturn w → NeverThrown w → (y : Branch) × TookWith i w y (edges_left w) × (y.at ≡ i)
+  next_taken i cut is ended never = absurd ended
+  next_taken i returns is ended never = (exit i, (refl, refl), refl)
+  next_taken i throws is ended never = absurd ended
+  next_taken i (takes x to rest) is ended never = (x, inl (refl, refl), is.1)
+  next_taken i (caught row rest) is ended never = absurd never
+
+  pub followed : (i : ℕ) (w : Walk) (x : Branch) (left : ℕ) → IsWalkFrom b i w → EndedByReturn w → NeverThrown w → TookWith i w x left → is_probed b x ≡ false
+      → (y : Branch) × (later : ℕ) × (later < left) × LeadsTo x y.at × TookWith i w y later
+  followed i cut x left is ended never took none = absurd took
+  followed i returns x left is ended never took none = absurd (true≢false (ap (is_probed b) took.0 ∙ none))
+  followed i throws x left is ended never took none = absurd took
+  followed i (takes z to rest) x left is ended never took none =
+      ⊎_elim
+      (λ here.
+      let next = next_taken to rest is.3 ended never in
+      let less : edges_left rest < left = let e = here.1 in omega (arith, e) in
+      (next.0, edges_left rest, less, subst (λ (v : Branch). LeadsTo v next.0.at) here.0 (is.2 ∙ ap Some (sym next.2)), inr next.1))
+      (λ there. let more = followed to rest x left is.3 ended never there none in (more.0, more.1, more.2, more.3, inr more.4))
+      took
+  followed i (caught row rest) x left is ended never took none = absurd took

@@ -11,8 +11,9 @@ use Rattle.jc_methods.specs.declared.body.Handler.{Handler}
 use Rattle.jc_plan.specs.declared.branch.Branch.{Branch}
 use Rattle.jc_plan.specs.Edges.{exit, branches_of, branches}
 use Rattle.jc_plan.specs.Leading.{LeadsTo}
-use Rattle.jc_plan.specs.Probed.{probe_of, first_id}
-use Rattle.jc_cover.specs.Covered.{is_hit, Covered}
+use Rattle.jc_plan.specs.ClassEdges.{ClassEdge}
+use Rattle.jc_cover.specs.Covered.{is_hit, IsCovered}
+use Rattle.jc_cover.specs.Followed.{IsIdOf}
 
 -- ---- walks
 
@@ -114,11 +115,6 @@ pub record ClassWalk : Type 0 where
   pub body : ℕ
   pub walk : Walk
 
--- an edge of the body with this number
-pub record ClassEdge : Type 0 where
-  pub body : ℕ
-  pub edge : Branch
-
 module _ (bodies : List Body) where
   abbrev pub IsClassWalk : ClassWalk → Type 0
   IsClassWalk w = (b : Body) × (slice_get bodies w.body ≡ Some b) × IsWalk b w.walk
@@ -133,7 +129,7 @@ module _ (bodies : List Body) where
     pub same_body : by.body ≡ e.body
     pub body : Body
     pub stands : slice_get bodies e.body ≡ Some body
-    pub took : Contains (taken body 0 by.walk) e.edge
+    pub took : Contains (taken body 0 by.walk) e.branch
 
   -- it is a reached edge of one of the walks
   pub record IsReached (walks : List ClassWalk) (e : ClassEdge) : Type 0 where
@@ -142,19 +138,7 @@ module _ (bodies : List Body) where
     pub same_body : by.body ≡ e.body
     pub body : Body
     pub stands : slice_get bodies e.body ≡ Some body
-    pub reaches : Contains (reached body 0 by.walk) e.edge
-
-  -- the edge has a probe of this id
-  pub record HasId (e : ClassEdge) (id : ℕ) : Type 0 where
-    pub body : Body
-    pub stands : slice_get bodies e.body ≡ Some body
-    pub listed : Contains (branches body.code) e.edge
-    pub probe : probe_of body (first_id bodies e.body) e.edge ≡ Some id
-
-  pub record IsCovered (hits : List Bool) (e : ClassEdge) : Type 0 where
-    pub body : Body
-    pub stands : slice_get bodies e.body ≡ Some body
-    pub covered : Covered body (first_id bodies e.body) hits e.edge
+    pub reaches : Contains (reached body 0 by.walk) e.branch
 
   -- ---- the law
 
@@ -162,8 +146,8 @@ module _ (bodies : List Body) where
   abbrev pub ChainsAreSound : Type 0
   ChainsAreSound =
       (walks : List ClassWalk) (hits : List Bool) → AreWalks walks
-      → ((id : ℕ) → IsTrue (is_hit hits id) → (e : ClassEdge) × HasId e id × IsReached walks e)
-      → (e : ClassEdge) → IsCovered hits e → IsReached walks e
+      → ((id : ℕ) → IsTrue (is_hit hits id) → IsIdOf bodies (IsReached walks) id)
+      → (e : ClassEdge) → IsCovered bodies hits e → IsReached walks e
 
   -- where all walks ended by a return and none was thrown, and the hits are exactly the ids of the edges that they took,
   -- the covered edges are exactly those that they took
@@ -171,5 +155,5 @@ module _ (bodies : List Body) where
   ChainsAreExact =
       (walks : List ClassWalk) (hits : List Bool) → AreWalks walks
       → ((w : ClassWalk) → Contains walks w → EndedByReturn w.walk × NeverThrown w.walk)
-      → ((id : ℕ) → IsTrue (is_hit hits id) ↔ ((e : ClassEdge) × HasId e id × IsTaken walks e))
-      → (e : ClassEdge) → IsCovered hits e ↔ IsTaken walks e
+      → ((id : ℕ) → IsTrue (is_hit hits id) ↔ IsIdOf bodies (IsTaken walks) id)
+      → (e : ClassEdge) → IsCovered bodies hits e ↔ IsTaken walks e

@@ -6,11 +6,12 @@ use Rattle.jc_methods.specs.EntryState.{entry_of}
 use Rattle.jc_methods.specs.declared.body.Body.{Body}
 use Rattle.jc_methods.specs.declared.body.FrameAt.{FrameAt}
 use Rattle.jc_methods.specs.declared.body.Handler.{Handler}
+use Rattle.jc_methods.specs.Flow.{GoesOnFrom, FallsInto, falls_at}
 use Rattle.jc_methods.proofs.SeenLaws.{frames_stay}
 use Rattle.jc_after.specs.After.{insn_at, after_of}
-use Rattle.jc_kinds.specs.Checked.{JumpsTo, GoesOnFrom, LeadsTo, FallsInto, Guards, NeedsFrame, IsMissing, at_handler, EntryClash, NoAfter, BranchClash, HandlerClash, IsClash, Checked, FirstMissing, FirstClash}
+use Rattle.jc_kinds.specs.Checked.{JumpsTo, LeadsTo, Guards, NeedsFrame, IsMissing, at_handler, EntryClash, NoAfter, BranchClash, HandlerClash, IsClash, Checked, FirstMissing, FirstClash}
 use Rattle.jc_kinds.specs.Fits.{FitsThere}
-use Rattle.jc_kinds.specs.States.{frame_at, falls_at, or_else, state_of, after_at}
+use Rattle.jc_kinds.specs.States.{frame_at, or_else, state_of, after_at}
 
 -- the bodies are equal but for how their frames number classes, and their frames say the same by names
 pub record AreSame (names others : Names) (a b : Body) : Type 0 where

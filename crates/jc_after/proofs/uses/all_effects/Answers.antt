@@ -1,11 +1,15 @@
-use Rattle.std.proofs.Common.{ap}
+use Rattle.std.proofs.Common.{List, take, sym, subst, ap, ◌∙◌, ◌∷◌, [], ◌++◌}
+use Rattle.std.proofs.lemmas.List.{take_more}
 use Rattle.jc_methods.specs.declared.body.Use.{Use}
+use Rattle.jc_after.specs.Does.{AllSay}
 use Rattle.jc_after.proofs.DoesLaws.{grown_twice}
-use Rattle.jc_after.proofs.UsesLaws.{said_more}
 use Rattle.jc_after.proofs.uses.all_effects.Goals as goal
 
 pub reading-preserved : goal.reading-preserved
-reading-preserved c = record {
-  said = said_more c.reading.names c.effect_of.new.names c.args.uses.now c.reading.effects.items _ c.reading.entry-index c.entry-item.result c.entry-item.result.what c.in_ok-effect_of.field-0 c.reading.invariant.said c.effect_of.ensures.names c.reading-test.true (ap (λ (u : Use). u.what) c.entry-item.is) c.in_ok-effect_of.ensures.says c.in_ok-push.ensures.items;
-  grown = grown_twice _ _ _ c.reading.invariant.grown c.effect_of.ensures.names;
-}
+reading-preserved c =
+    let i = c.reading.entry-index in let uses = c.args.uses.now in let u = c.entry-item.result in
+    let more = take_more uses i u c.reading-test.true ∙ ap (λ (v : Use). take i uses ++ v ∷ []) (sym c.entry-item.is) in
+    record {
+      said = subst (λ (us : List Use). AllSay c.add_effect.new.names us c.add_effect.new.effects) (sym more) (c.in_ok-add_effect.ensures.effects (take i uses) c.reading.invariant.said);
+      grown = grown_twice _ _ _ c.reading.invariant.grown c.add_effect.ensures.names;
+    }

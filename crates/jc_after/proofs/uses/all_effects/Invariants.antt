@@ -5,6 +5,6 @@ use Rattle.jc_after.proofs.uses.all_effects.Given as goal
 
 abbrev pub invariant-reading : goal.invariant-reading
 invariant-reading l = record {
-  said : AllSay l.names (take l.entry-index l.uses) l.effects.items;
+  said : AllSay l.names (take l.entry-index l.uses) l.effects;
   grown : Grows l.fn.names l.names;
 }

@@ -4,7 +4,7 @@ use Rattle.std.proofs.lemmas.Result.{err_from_is_err_and}
 use Rattle.jc_methods.specs.VerificationTypes.{AreNumberedFrames}
 use Rattle.jc_methods.specs.declared.body.Body.{Body}
 use Rattle.jc_bytes.specs.Failing.{Said}
-use Rattle.jc_instrument.specs.Analysis.{all_probes}
+use Rattle.jc_plan.specs.Analysed.{all_probes}
 use Rattle.jc_instrument.specs.Bodies.{AreBodiesOf}
 use Rattle.jc_instrument.specs.Causes.{IsFirstCause}
 use Rattle.jc_instrument.specs.KeptStates.{AreKeptStates}

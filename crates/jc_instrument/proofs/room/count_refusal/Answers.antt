@@ -1,6 +1,6 @@
 use Rattle.std.proofs.Common.{◌≤◌, inl, inr, sym, ◌∙◌, arith}
 use Rattle.std.proofs.lemmas.Bool.{true≢false}
-use Rattle.jc_instrument.specs.Analysis.{all_probes}
+use Rattle.jc_plan.specs.Analysed.{all_probes}
 use Rattle.jc_instrument.proofs.RoomLaws.{few_members, few_probes}
 use Rattle.jc_instrument.proofs.room.count_refusal.Goals as goal
 

@@ -1,6 +1,7 @@
 use Rattle.std.proofs.Common.{◌≡◌, map}
 use Rattle.jc_bytes.specs.PlainLists.{numbers_from}
-use Rattle.jc_plan.specs.Entries.{is_fallen_into, is_multi_target}
+use Rattle.jc_methods.specs.Flow.{is_fallen_into}
+use Rattle.jc_plan.specs.Entries.{is_multi_target}
 use Rattle.jc_plan.proofs.entries.multi_targets.Given as goal
 
 -- the instructions so far are marked, and whether the next one is fallen into is known

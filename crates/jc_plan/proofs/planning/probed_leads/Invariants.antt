@@ -1,7 +1,7 @@
 use Rattle.std.proofs.Common.{◌≡◌, map}
 use Rattle.jc_bytes.specs.PlainLists.{numbers_from}
+use Rattle.jc_methods.specs.Flow.{is_fallen_into}
 use Rattle.jc_plan.specs.declared.branch.Way.TheVariants.{Falls}
-use Rattle.jc_plan.specs.Entries.{is_fallen_into}
 use Rattle.jc_plan.specs.Probed.{is_probed_way}
 use Rattle.jc_plan.proofs.planning.probed_leads.Given as goal
 

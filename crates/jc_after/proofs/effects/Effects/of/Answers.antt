@@ -3,7 +3,7 @@ use Rattle.jc_methods.specs.DescriptorTypes.{method_type_in}
 use Rattle.jc_methods.specs.VerificationTypes.{object}
 use Rattle.jc_after.specs.After.{return_op}
 use Rattle.jc_after.specs.Does.{AllSay}
-use Rattle.jc_after.proofs.DoesLaws.{all_say_later}
+use Rattle.jc_after.proofs.UsesLaws.{all_say_later}
 use Rattle.jc_after.proofs.effects.Effects.of.Goals as goal
 
 pub returns-clause-effects : goal.returns-clause-effects
