@@ -14,6 +14,8 @@ pub mod RowLaws
 pub mod UnchangedLaws
 pub mod StraddlingLaws
 pub mod SeenLaws
+pub mod OneMarksLaws
+pub mod EdgeIdLaws
 pub mod FrameListsLaws
 pub mod FrameLaws
 pub mod WideFrameLaws
@@ -32,6 +34,7 @@ pub mod TwinCheckedLaws
 pub mod InitLaws
 pub mod TwinBodyLaws
 pub mod ProgramLaws
+pub mod SeenProgramLaws
 pub mod FewLaws
 pub mod PlanReadsLaws
 pub mod TableLaws

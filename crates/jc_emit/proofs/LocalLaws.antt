@@ -1,5 +1,5 @@
 -- The twin that the function gives goes on where it should, at each of its instructions.
-use Rattle.std.proofs.Common.{◌≡◌, ◌⊎◌, inl, inr, ⊎_elim, ℕ, ◌+◌, ◌<◌, Bool, true, false, List, [], ◌∷◌, ◌++◌, length, Option, Some, None, refl, sym, ap, ◌∙◌, subst, arith, add-one, zero-add}
+use Rattle.std.proofs.Common.{◌≡◌, ◌⊎◌, inl, inr, ⊎_elim, ℕ, zero, suc, ◌+◌, ◌<◌, Bool, true, false, List, [], ◌∷◌, ◌++◌, map, length, Option, Some, None, refl, sym, ap, ◌∙◌, subst, arith, add-one, zero-add}
 use Rattle.std.specs.Prelude.{slice_get, Contains}
 use Rattle.std.specs.List.{AllByRecursion}
 use Rattle.std.proofs.lemmas.Bool.{cases_lt}
@@ -13,7 +13,7 @@ use Rattle.jc_methods.specs.declared.insn.Insn.{Insn}
 use Rattle.jc_methods.specs.declared.insn.Flow.{Flow}
 use Rattle.jc_methods.specs.declared.body.Body.{Body}
 use Rattle.jc_plan.specs.declared.branch.Branch.{Branch}
-use Rattle.jc_plan.specs.Edges.{sequence, jump, branches_by}
+use Rattle.jc_plan.specs.Edges.{place_of, sequence, jump, branches_by}
 use Rattle.jc_plan.specs.Probed.{probe_of}
 use Rattle.jc_plan.specs.Plan.{lead_probe}
 use Rattle.jc_bytes.proofs.FirstSeenLaws.{first_seen_listed, first_seen_distinct}
@@ -23,11 +23,11 @@ use Rattle.jc_emit.specs.Sizes.{insn_at, early_by, early_probe, late_by, late_pr
 use Rattle.jc_methods.specs.Widened.{inverted}
 use Rattle.jc_emit.specs.TwinCode.{to_of, here_or, arm_place}
 use Rattle.jc_emit.specs.Items.{Item, image, probe_array, hop, probe, lead_part, early_part, hop_part, arm_parts, test_part, segment_size, lead_of, land_of, image_of, tests_part, image_part, segment, twin_items}
-use Rattle.jc_emit.specs.Local.{Stands, Lands, Ok, OkImage, AllOk, TestsAlike, TestsInversely, SwitchesAlike, JumpsAlike}
+use Rattle.jc_emit.specs.Local.{Stands, Lands, Ok, OkImage, IsOfEdgeTo, AllOk, TestsAlike, TestsInversely, SwitchesAlike, JumpsAlike}
 use Rattle.jc_emit.proofs.PiecesLaws.{HasAt, has_front, has_back, Each, each_append, each_at, each_piece}
 use Rattle.jc_emit.proofs.BuiltLaws.{length-lead, length-early, length-hop, sized, size_is, size_tests, prelude_at}
 use Rattle.jc_emit.proofs.ToldLaws.{lead_at, early_at, main_at}
-use Rattle.jc_emit.proofs.OthersLaws.{Arms, Agrees, agrees_here, agrees_rest, are_arms, arm_listed, tests_target, jumps_target, none_some}
+use Rattle.jc_emit.proofs.OthersLaws.{Arms, arm_way, Agrees, agrees_here, agrees_rest, arm_listed, tests_target, jumps_target, none_some, found_at, sequence_listed, fallen_before, arms_is, are_arms_at}
 use Rattle.jc_emit.proofs.InverseLaws.{twice_inverse}
 use Rattle.jc_methods.specs.declared.insn.Insn.TheVariants as insns
 use Rattle.jc_methods.specs.declared.insn.Flow.TheVariants as flows
@@ -220,16 +220,51 @@ module _ (b : Body) (first : ℕ) (wide : Bool) (is_code : IsCode b.code) where
   pub target_within : (i : ℕ) → i < length b.code → targets_of (old i) ≡ jump_target (old i) ∷ [] → jump_target (old i) < length b.code
   target_within i lt e = (subst (λ ts. AllByRecursion (λ to. to < length b.code) ts) e (is_code.places i (insns.Simple 0) lt)).0
 
+  -- ---- which edges have a probe behind them
+
+  abbrev To : ℕ → ℕ → Type 0
+  To id at = IsOfEdgeTo b.code (Some b.arg_slots) (probe_of b first) items id at
+
+  edge_to : (i id to : ℕ) (flow : Flow) (x : Branch) → i < length b.code → flow_of (old i) ≡ flow
+      → Contains (branches_by flow i (targets_of (old i))) x → ids x ≡ Some id → place_of x.way ≡ Some to → To id to
+  edge_to i id to flow x lt e c some leads =
+      record { of_branch = record { branch = x; listed = found_at b first wide 0 is_code i flow x lt e c; has_id = some }; leads = leads }
+
+  sequence_to : (i id : ℕ) → i < length b.code → lead_probe b first i ≡ Some id → To id i
+  sequence_to zero id lt some = absurd (none_some id some)
+  sequence_to (suc j) id lt some =
+      let within : j < length b.code = omega arith in
+      let up : j + 1 ≡ suc j = add-one j in
+      edge_to j id (suc j) (flow_of (old j)) (sequence j) within refl
+      (sequence_listed b first wide 0 is_code (flow_of (old j)) j (targets_of (old j)) (fallen_before b first wide 0 is_code j id within some))
+      (ap (lead_probe b first) up ∙ some) (ap Some up)
+
+  late_is : (i : ℕ) (o : Option ℕ) → flow_of (old i) ≡ flows.Branches → late_probe b first i ≡ o → ids (jump i (jump_target (old i))) ≡ o
+  late_is i o e h = sym (ap (late_by (probe_of b first) i (old i)) e) ∙ h
+
+  jump_to : (i id : ℕ) → i < length b.code → flow_of (old i) ≡ flows.Branches → late_probe b first i ≡ Some id → To id (jump_target (old i))
+  jump_to i id lt e some =
+      let x = jump i (jump_target (old i)) in
+      let listed = later_in (sequence i) (map (jump i) (targets_of (old i))) x (subst (λ ts. Contains (map (jump i) ts) x) (sym (tests_target (old i) e)) (first_in x ([]))) in
+      edge_to i id (jump_target (old i)) flows.Branches x lt e listed (late_is i (Some id) e some) refl
+
+  arm_to : (i id : ℕ) (x : Branch) → i < length b.code → flow_of (old i) ≡ flows.Switches → Contains (arms_at b.code i) x → ids x ≡ Some id
+      → To id (to_of x)
+  arm_to i id x lt e c some =
+      edge_to i id (to_of x) flows.Switches x lt e (subst (λ l. Contains l x) (arms_is b first wide 0 is_code i e) c) some
+      (ap place_of (arm_way i (arms_at b.code i) (are_arms_at b first wide 0 is_code i e) x c))
+
   -- ---- probes
 
-  late_fine : (q id at : ℕ) (rest : List Item) → HasAt items q (probe id at true ++ rest) → On (q + 1 + 1 + 1 + 1) at None
+  late_fine : (q id at : ℕ) (rest : List Item) → To id at → HasAt items q (probe id at true ++ rest) → On (q + 1 + 1 + 1 + 1) at None
       → Each Fine q (probe id at true)
-  late_fine q id at rest h on = ((tt, h.1.0), ((tt, h.1.1.0), ((tt, h.1.1.1.0), ((tt, on), tt))))
+  late_fine q id at rest to h on = ((to, h.1.0), ((to, h.1.1.0), ((to, h.1.1.1.0), ((to, on), tt))))
 
-  hop_fine : (q id to : ℕ) → HasAt items q (hop_part land (Some id) to) → to < length b.code → Each Fine q (hop_part land (Some id) to)
-  hop_fine q id to h lt =
+  hop_fine : (q id to : ℕ) → To id to → HasAt items q (hop_part land (Some id) to) → to < length b.code
+      → Each Fine q (hop_part land (Some id) to)
+  hop_fine q id to edge h lt =
       each_append Fine q (probe id to true) (hop (land to) to None ∷ [])
-      (late_fine q id to (hop (land to) to None ∷ []) h (hop_on (q + 1 + 1 + 1 + 1) (land to) to None h.1.1.1.1.0))
+      (late_fine q id to (hop (land to) to None ∷ []) edge h (hop_on (q + 1 + 1 + 1 + 1) (land to) to None h.1.1.1.1.0))
       (land_lands to lt, tt)
 
   lead_fine : (i : ℕ) → i < length b.code → Each Fine (lead i) (lead_part (lead_probe b first i) i)
@@ -239,7 +274,7 @@ module _ (b : Body) (first : ℕ) (wide : Bool) (is_code : IsCode b.code) where
       by None none h = tt
       by (Some id) some h =
           let e : land i ≡ lead i + 1 + 1 + 1 + 1 = ap (λ o. lead i + probe_size o) some ∙ omega arith in
-          ((tt, h.1.0), ((tt, h.1.1.0), ((tt, h.1.1.1.0), ((tt, subst (λ q. On q i None) e (land_lands i lt).stands), tt))))
+          late_fine (lead i) id i ([]) (sequence_to i id lt some) h (subst (λ q. On q i None) e (land_lands i lt).stands)
 
   -- the image behind an early probe
   pub early_image : (i id : ℕ) (flow : Flow) → early_by (probe_of b first) i (old i) flow ≡ Some id → early_probe b first i ≡ Some id
@@ -291,20 +326,21 @@ module _ (b : Body) (first : ℕ) (wide : Bool) (is_code : IsCode b.code) where
       (which_in y xs x c)
 
   arms_fine : (here : ℕ) (xs : List Branch) → HasAt items here (arm_parts land (probe_of b first) xs)
-      → ((x : Branch) → Contains xs x → to_of x < length b.code) → Each Fine here (arm_parts land (probe_of b first) xs)
-  arms_fine here [] h within = tt
-  arms_fine here (x ∷ xs) h within =
+      → ((x : Branch) → Contains xs x → to_of x < length b.code)
+      → ((x : Branch) (id : ℕ) → Contains xs x → ids x ≡ Some id → To id (to_of x)) → Each Fine here (arm_parts land (probe_of b first) xs)
+  arms_fine here [] h within edges = tt
+  arms_fine here (x ∷ xs) h within edges =
       let o = hop_part land (probe_of b first x) (to_of x) in
       each_append Fine here o (arm_parts land (probe_of b first) xs)
-      (part (probe_of b first x) (has_front items here o _ h))
+      (part (probe_of b first x) refl (has_front items here o _ h))
       (subst (λ k. Each Fine (here + k) (arm_parts land (probe_of b first) xs)) (sym (length-hop land (probe_of b first x) (to_of x)))
       (arms_fine (here + hop_size (probe_of b first x)) xs
       (subst (λ k. HasAt items (here + k) (arm_parts land (probe_of b first) xs)) (length-hop land (probe_of b first x) (to_of x)) (has_back items here o _ h))
-      (λ z d. within z (later_in x xs z d))))
+      (λ z d. within z (later_in x xs z d)) (λ z id d. edges z id (later_in x xs z d))))
     where
-      part : (o : Option ℕ) → HasAt items here (hop_part land o (to_of x)) → Each Fine here (hop_part land o (to_of x))
-      part None h = tt
-      part (Some id) h = hop_fine here id (to_of x) h (within x (first_in x xs))
+      part : (o : Option ℕ) → ids x ≡ o → HasAt items here (hop_part land o (to_of x)) → Each Fine here (hop_part land o (to_of x))
+      part None e h = tt
+      part (Some id) e h = hop_fine here id (to_of x) (edges x id (first_in x xs) e) h (within x (first_in x xs))
 
   -- ---- images
 
@@ -313,9 +349,6 @@ module _ (b : Body) (first : ℕ) (wide : Bool) (is_code : IsCode b.code) where
       → OkImage b.code (Some b.arg_slots) (probe_of b first) items q i (old i) new flow → Fine q (image new i early)
   image_fine q i new early flow lt e h ok =
       (lt, h ∙ sym (ap (early_by (probe_of b first) i (old i)) e), subst (OkImage b.code (Some b.arg_slots) (probe_of b first) items q i (old i) new) (sym e) ok)
-
-  late_is : (i : ℕ) (o : Option ℕ) → flow_of (old i) ≡ flows.Branches → late_probe b first i ≡ o → ids (jump i (jump_target (old i))) ≡ o
-  late_is i o e h = sym (ap (late_by (probe_of b first) i (old i)) e) ∙ h
 
   behind_tests : (i : ℕ) (o : Option ℕ) → flow_of (old i) ≡ flows.Branches → late_probe b first i ≡ o
       → behind_size b first wide i ≡ wide_by flows.Branches wide + hop_size o + 0
@@ -357,7 +390,7 @@ module _ (b : Body) (first : ℕ) (wide : Bool) (is_code : IsCode b.code) where
         jumped = lead_lands (i + 1) (next_within i lt (inr e));
         fell = subst (On (q_of i + 1) to) (sym (late_is i (Some id) e some)) (late_lands (q_of i + 1) id to h.1.0).stands;
       } in
-      (image_fine (q_of i) i _ None flows.Branches lt e refl (inr inversely), hop_fine (q_of i + 1) id to h.1 within)
+      (image_fine (q_of i) i _ None flows.Branches lt e refl (inr inversely), hop_fine (q_of i + 1) id to (jump_to i id lt e some) h.1 within)
   probed_fine true i id lt e some h =
       let to = jump_target (old i) in
       let within = target_within i lt (tests_target (old i) e) in
@@ -371,7 +404,7 @@ module _ (b : Body) (first : ℕ) (wide : Bool) (is_code : IsCode b.code) where
         image_fine (q_of i) i _ None flows.Branches lt e refl (inl alike),
         (
           subst (λ q. In q (i + 1) (lead_probe b first (i + 1))) (sym (inverted_target (old i) (lead (i + 1)) e)) (lead_lands (i + 1) (next_within i lt (inr e))),
-          hop_fine (q_of i + 1 + 1) id to h.1.1 within,
+          hop_fine (q_of i + 1 + 1) id to (jump_to i id lt e some) h.1.1 within,
         ),
       )
 
@@ -390,19 +423,16 @@ module _ (b : Body) (first : ℕ) (wide : Bool) (is_code : IsCode b.code) where
       let alike : Jumps i (with_places land (old i)) = record { target = land to; same = one_place (old i) land (jumps_target (old i) e) (inl e); jumped = land_lands to (target_within i lt (jumps_target (old i) e)) } in
       (image_fine (q_of i) i _ (early_probe b first i) flows.Jumps lt e (ap (early_by (probe_of b first) i (old i)) e) alike, tt)
   main_fine i flows.Switches lt e h =
-      let list = arms_by_flow i e in
+      let list = arms_is b first wide 0 is_code i e in
       let within : (x : Branch) → Contains (arms_at b.code i) x → to_of x < length b.code = λ x c. listed_within i lt x (subst (λ l. Contains l x) list c) in
       let alike : Switches i (with_places (arm_place (probe_of b first) land (q_of i + 1) (arms_at b.code i)) (old i)) = record {
         place = arm_place (probe_of b first) land (q_of i + 1) (arms_at b.code i);
         same = refl;
         each = λ x c. arms_land i (arm_place (probe_of b first) land (q_of i + 1) (arms_at b.code i)) (q_of i + 1) (arms_at b.code i)
-            (subst (Arms i) (sym list) (are_arms i 0 (first_seen (targets_of (old i))) (first_seen_distinct (targets_of (old i))))) (λ y d. refl) h.1 within x
+            (are_arms_at b first wide 0 is_code i e) (λ y d. refl) h.1 within x
             (subst (λ l. Contains l x) (sym list) (subst (λ f. Contains (branches_by f i (targets_of (old i))) x) e c));
       } in
-      (image_fine (q_of i) i _ None flows.Switches lt e refl alike, arms_fine (q_of i + 1) (arms_at b.code i) h.1 within)
-    where
-      arms_by_flow : (i : ℕ) → flow_of (old i) ≡ flows.Switches → arms_at b.code i ≡ branches_by flows.Switches i (targets_of (old i))
-      arms_by_flow i e = ap (λ f. arms_by i (old i) f) e ∙ ap (λ f. branches_by f i (targets_of (old i))) e
+      (image_fine (q_of i) i _ None flows.Switches lt e refl alike, arms_fine (q_of i + 1) (arms_at b.code i) h.1 within (λ x id c some. arm_to i id x lt e c some))
   main_fine i flows.Returns lt e h =
       (image_fine (q_of i) i _ (early_probe b first i) flows.Returns lt e (ap (early_by (probe_of b first) i (old i)) e) refl, tt)
   main_fine i flows.Throws lt e h =
@@ -422,7 +452,7 @@ module _ (b : Body) (first : ℕ) (wide : Bool) (is_code : IsCode b.code) where
   all_fine : Each Fine 0 items
   unfolding twin_items
   all_fine =
-      (refl, (start_lands, each_piece Fine (segment b first wide) (segment_size b first wide) (sized b first wide) 2 (length b.code) (λ i lt. segment_fine i lt)))
+      ((refl, refl), (start_lands, each_piece Fine (segment b first wide) (segment_size b first wide) (sized b first wide) 2 (length b.code) (λ i lt. segment_fine i lt)))
 
   pub twin_ok : AllOk b.code (Some b.arg_slots) (probe_of b first) items
   twin_ok = record {

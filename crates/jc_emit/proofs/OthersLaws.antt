@@ -103,6 +103,11 @@ pub are_arms : (i k : ℕ) (ts : List ℕ) → IsDistinct ts → Arms i (map_fro
 are_arms i k [] d = tt
 are_arms i k (t ∷ ts) d = ((λ y c e. d.0 (to_of y) (arm_listed i (k + 1) ts y c) e), refl, refl, are_arms i (k + 1) ts d.1)
 
+pub arm_way : (i : ℕ) (xs : List Branch) → Arms i xs → (x : Branch) → Contains xs x → x.way ≡ ways.Switches (to_of x)
+arm_way i [] arms x c = absurd (none_in x c)
+arm_way i (y ∷ xs) arms x c =
+    ⊎_elim (λ same. subst (λ z. z.way ≡ ways.Switches (to_of z)) same arms.2) (λ later. arm_way i xs arms.3 x later) (which_in y xs x c)
+
 -- each branch's place by the whole list is the one by this part of it, which begins at `here`
 abbrev pub Agrees : (ids : Branch → Option ℕ) (land : ℕ → ℕ) → (whole : ℕ → ℕ) → ℕ → List Branch → Type 0
 Agrees ids land whole here xs = (y : Branch) → Contains xs y → whole (to_of y) ≡ arm_place ids land here xs (to_of y)
@@ -179,7 +184,7 @@ module _ (b : Body) (first : ℕ) (wide : Bool) (call : ℕ) (is_code : IsCode b
 
   -- ---- which branches there are
 
-  insn_found : (i : ℕ) → i < length b.code → slice_get b.code i ≡ Some (old i)
+  pub insn_found : (i : ℕ) → i < length b.code → slice_get b.code i ≡ Some (old i)
   insn_found i lt = slice_get-get_or b.code i (insns.Simple 0) lt
 
   -- a branch of an instruction of the body
@@ -201,7 +206,7 @@ module _ (b : Body) (first : ℕ) (wide : Bool) (call : ℕ) (is_code : IsCode b
         listed = subst (λ insn. Contains (branches_of l.place insn) x) same (subst (λ k. Contains (branches_of k l.item) x) e l.listed);
       }
 
-  found_at : (i : ℕ) (flow : Flow) (x : Branch) → i < length b.code → flow_of (old i) ≡ flow
+  pub found_at : (i : ℕ) (flow : Flow) (x : Branch) → i < length b.code → flow_of (old i) ≡ flow
       → Contains (branches_by flow i (targets_of (old i))) x → Contains (branches b.code) x
   found_at i flow x lt e c =
       lists_from branches_of 0 b.code x (record {
@@ -241,10 +246,10 @@ module _ (b : Body) (first : ℕ) (wide : Bool) (call : ℕ) (is_code : IsCode b
   abbrev arm_at : ℕ → ℕ → ℕ
   arm_at i to = arm_place (probe_of b first) land (image_at i + 1) (arms_at b.code i) to
 
-  arms_is : (i : ℕ) → flow_of (old i) ≡ flows.Switches → arms_at b.code i ≡ map_from (arm i) 0 (first_seen (targets_of (old i)))
+  pub arms_is : (i : ℕ) → flow_of (old i) ≡ flows.Switches → arms_at b.code i ≡ map_from (arm i) 0 (first_seen (targets_of (old i)))
   arms_is i e = ap (λ f. arms_by i (old i) f) e ∙ ap (λ f. branches_by f i (targets_of (old i))) e
 
-  are_arms_at : (i : ℕ) → flow_of (old i) ≡ flows.Switches → Arms i (arms_at b.code i)
+  pub are_arms_at : (i : ℕ) → flow_of (old i) ≡ flows.Switches → Arms i (arms_at b.code i)
   are_arms_at i e =
       subst (Arms i) (sym (arms_is i e)) (are_arms i 0 (first_seen (targets_of (old i))) (first_seen_distinct (targets_of (old i))))
 
@@ -322,7 +327,7 @@ module _ (b : Body) (first : ℕ) (wide : Bool) (call : ℕ) (is_code : IsCode b
   edge_of i flow x id lt e c some = record { branch = x; listed = found_at i flow x lt e c; id = id; probed = some }
 
   -- the probe of a fall-through
-  sequence_listed : (flow : Flow) (j : ℕ) (ts : List ℕ) → goes_on flow ≡ true → Contains (branches_by flow j ts) (sequence j)
+  pub sequence_listed : (flow : Flow) (j : ℕ) (ts : List ℕ) → goes_on flow ≡ true → Contains (branches_by flow j ts) (sequence j)
   sequence_listed flows.GoesOn j ts h = first_in (sequence j) ([])
   sequence_listed flows.Branches j ts h = first_in (sequence j) (map (jump j) ts)
   sequence_listed flows.Jumps j ts h = cc
@@ -330,7 +335,7 @@ module _ (b : Body) (first : ℕ) (wide : Bool) (call : ℕ) (is_code : IsCode b
   sequence_listed flows.Returns j ts h = cc
   sequence_listed flows.Throws j ts h = cc
 
-  fallen_before : (j id : ℕ) → j < length b.code → lead_probe b first (suc j) ≡ Some id → goes_on (flow_of (old j)) ≡ true
+  pub fallen_before : (j id : ℕ) → j < length b.code → lead_probe b first (suc j) ≡ Some id → goes_on (flow_of (old j)) ≡ true
   fallen_before j id lt some =
       let t = if_some (is_fallen_into b.code (suc j) && (is_multi_target b (suc j) || is_invocation_line b (suc j))) _ id some in
       sym (ap falls_at (insn_found j lt))

@@ -22,7 +22,7 @@ use Rattle.jc_plan.proofs.ListedLaws.{all_listed}
 use Rattle.jc_emit.specs.Sizes.{insn_at, late_by, late_probe, arms_by, arms_at, hop_size}
 use Rattle.jc_emit.specs.Marks.{Marks, IsProbe, aload, invokestatic, push, image_place, land_place, lead_place}
 use Rattle.jc_emit.specs.TwinCode.{to_of, Sentences, IsTwinCode, ProbedEdge, InProbe, IsWideGoto, IsAdded, HasGotoBehind, HasTest, HasHop, HasArm, HasArms, IsProbeOf, IsProbeIn, arm, probe_place, probe_place_by}
-use Rattle.jc_emit.proofs.OthersLaws.{Arms, Agrees, agrees_first, agrees_rest, arms_by_list, at_found, tests_target, jumps_target}
+use Rattle.jc_emit.proofs.OthersLaws.{Arms, arm_way, Agrees, agrees_first, agrees_rest, arms_by_list, at_found, tests_target, jumps_target}
 
 -- ---- ids
 
@@ -44,7 +44,7 @@ same_number : (n k : ℕ) → push n ≡ push k → n ≡ k
 same_number n k e = sym (number_pushed n) ∙ ap number_of e ∙ number_pushed k
 
 -- an edge that has an id is probed, and the id is its own
-probed_is : (b : Body) (first id : ℕ) (x : Branch) → probe_of b first x ≡ Some id → (is_probed b x ≡ true) × (id_of b first x ≡ id)
+pub probed_is : (b : Body) (first id : ℕ) (x : Branch) → probe_of b first x ≡ Some id → (is_probed b x ≡ true) × (id_of b first x ≡ id)
 probed_is b first id x e = by (is_probed b x) refl e
   where
     by : (t : Bool) → is_probed b x ≡ t → id_if t (id_of b first x) ≡ Some id → (is_probed b x ≡ true) × (id_of b first x ≡ id)
@@ -109,14 +109,9 @@ module _ (b : Body) (first : ℕ) (wide : Bool) (code : List Insn) (m : Marks) (
   edge_goto i flows.Switches x id lt e c some behind =
       let arms = arms_by_list b i in
       let listed : Contains (arms_at b.code i) x = subst (λ f. Contains (arms_by i (old i) f) x) (sym e) (subst (λ f. Contains (branches_by f i (targets_of (old i))) x) (sym e) c) in
-      let way = way_is i (arms_at b.code i) arms x listed in
+      let way = arm_way i (arms_at b.code i) arms x listed in
       subst (λ w. IsGoto (probe_place_by b first wide code m image land lead w flows.Switches i + 4)) (sym way)
       (arms_goto i (arm b first wide code m image land lead i) (image i + 1) (arms_at b.code i) arms (λ y d. refl) (s.switches.arms i (lt, e)) x id listed some)
-    where
-      way_is : (i : ℕ) (xs : List Branch) → Arms i xs → (x : Branch) → Contains xs x → x.way ≡ ways.Switches (to_of x)
-      way_is i [] arms x c = absurd (none_in x c)
-      way_is i (y ∷ xs) arms x c =
-          ⊎_elim (λ same. subst (λ z. z.way ≡ ways.Switches (to_of z)) same arms.2) (λ later. way_is i xs arms.3 x later) (which_in y xs x c)
   edge_goto i flows.Returns x id lt e c some behind =
       absurd (subst (λ z. HasGotoBehind b first wide code m image land lead z.way flows.Returns) (sym (contains_one (exit i) x c)) behind)
   edge_goto i flows.Throws x id lt e c some behind =

@@ -90,7 +90,7 @@ module _ (code : List Insn) (slot : Option ℕ) (ids : Branch → Option ℕ) (i
 
   falls : (q : ℕ) (x y : Item) → slice_get items q ≡ Some x → own_of x ≡ false → slice_get items (after_place q x) ≡ Some y
       → height y < height x
-  falls q init_call y h own k = follows (q + 1) init_store y (13 + early 0) (all.ok q init_call h) k (omega arith)
+  falls q init_call y h own k = follows (q + 1) init_store y (13 + early 0) (all.ok q init_call h).1 k (omega arith)
   falls q init_store y h own k = omega (arith, lands_below (q + 1) 0 None y (all.ok q init_store h) k)
   falls q (image insn at e) y h own k = cc
   falls q (probe_array id at late) y h own k =

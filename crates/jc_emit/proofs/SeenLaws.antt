@@ -1,19 +1,25 @@
 -- A twin is seen from each of its instructions.
-use Rattle.std.proofs.Common.{◌≡◌, ℕ, suc, Bool, List, [], ◌∷◌, map, length, Some, sym, ap, ap₂, ◌∙◌, subst, arith}
+use Rattle.std.proofs.Common.{◌≡◌, ℕ, suc, ◌+◌, List, [], ◌∷◌, map, length, Some, None, refl, sym, ap, ap₂, ◌∙◌, subst, arith}
 use Rattle.std.specs.Prelude.{All}
-use Rattle.jc_methods.specs.WellMade.{IsCode, IsHandler, IsWellMadeOfAnySize}
+use Rattle.std.proofs.lemmas.List.{map-id}
+use Rattle.jc_bytes.specs.PlainLists.{map_from}
+use Rattle.jc_methods.specs.VerificationTypes.{Names}
+use Rattle.jc_methods.specs.WellMade.{IsHandler, IsWellMadeOfAnySize, what_used}
+use Rattle.jc_methods.specs.declared.insn.Insn.{Insn}
 use Rattle.jc_methods.specs.declared.kind.State.{State}
 use Rattle.jc_methods.specs.declared.body.Body.{Body}
 use Rattle.jc_methods.specs.declared.body.Handler.{Handler}
 use Rattle.jc_plan.specs.Probed.{probe_of}
-use Rattle.jc_emit.specs.Items.{twin_items, lead_of, land_of}
+use Rattle.jc_emit.specs.Items.{image, insn_of, twin_items, lead_of, land_of}
 use Rattle.jc_emit.specs.TwinTables.{moved_row}
-use Rattle.jc_emit.specs.Local.{OkRow}
+use Rattle.jc_emit.specs.Local.{OkRow, no_ids, unchanged_items}
 use Rattle.jc_emit.specs.Twin.{Twin}
-use Rattle.jc_emit.specs.Seen.{IsSeen, OkRows}
+use Rattle.jc_emit.specs.Seen.{IsSeen, IsSeenUnchanged, unchanged_marks, OkRows}
+use Rattle.jc_emit.specs.TwinProgram.{IsSameBody}
 use Rattle.jc_emit.proofs.KnownLaws.{code_known, marks_known, leads_known, lands_known}
 use Rattle.jc_emit.proofs.LocalLaws.{twin_ok}
 use Rattle.jc_emit.proofs.RowLaws.{row_ok}
+use Rattle.jc_emit.proofs.UnchangedLaws.{unchanged_ok, unchanged_row}
 
 first_of_all : {X : Type 0} (P : X → Type 0) (x : X) (xs : List X) → All P (x ∷ xs) → P x
 first_of_all P x xs all = all 0 x (omega arith)
@@ -21,11 +27,12 @@ first_of_all P x xs all = all 0 x (omega arith)
 rest_of_all : {X : Type 0} (P : X → Type 0) (x : X) (xs : List X) → All P (x ∷ xs) → All P xs
 rest_of_all P x xs all = λ k d lt. all (suc k) d (omega arith)
 
-rows_ok : (b : Body) (first : ℕ) (wide : Bool) → IsCode b.code → (hs : List Handler) → All (IsHandler (length b.code)) hs
-    → OkRows (OkRow b.code (Some b.arg_slots) (probe_of b first) (twin_items b first wide)) hs (map (moved_row (lead_of b first wide) (land_of b first wide)) hs)
-rows_ok b first wide is_code [] all = tt
-rows_ok b first wide is_code (h ∷ hs) all =
-    (row_ok b first wide is_code h (first_of_all (IsHandler (length b.code)) h hs all), rows_ok b first wide is_code hs (rest_of_all (IsHandler (length b.code)) h hs all))
+-- rows of which each is kept by what becomes of it
+rows_kept : (Kept : Handler → Handler → Type 0) (Is : Handler → Type 0) (new : Handler → Handler) → ((h : Handler) → Is h → Kept h (new h))
+    → (hs : List Handler) → All Is hs → OkRows Kept hs (map new hs)
+rows_kept Kept Is new kept [] all = tt
+rows_kept Kept Is new kept (h ∷ hs) all =
+    (kept h (first_of_all Is h hs all), rows_kept Kept Is new kept hs (rest_of_all Is h hs all))
 
 pub seen : (names new_names : List (List ℕ)) (states : List State) (first : ℕ) (b b' : Body) → IsWellMadeOfAnySize b
     → (t : Twin names new_names states first b b') → IsSeen first b b' t.marks
@@ -37,10 +44,51 @@ seen names new_names states first b b' well t =
     record {
       items = twin_items b first t.wide;
       call = t.call;
+      calls = t.calls;
+      method = t.method;
+      uses = t.uses;
       code = code_known b first t.wide t.call b'.code t.marks well.code t.code;
       at = ap (λ m. m.at) marks;
       own = ap (λ m. m.own) marks;
       extra = ap (λ m. m.extra) marks;
       ok = twin_ok b first t.wide well.code;
-      rows = subst (OkRows (OkRow b.code (Some b.arg_slots) (probe_of b first) (twin_items b first t.wide)) b.handlers) (sym rows) (rows_ok b first t.wide well.code b.handlers well.handlers);
+      rows = subst (OkRows (OkRow b.code (Some b.arg_slots) (probe_of b first) (twin_items b first t.wide)) b.handlers) (sym rows)
+          (rows_kept (OkRow b.code (Some b.arg_slots) (probe_of b first) (twin_items b first t.wide)) (IsHandler (length b.code)) (moved_row (lead_of b first t.wide) (land_of b first t.wide))
+          (row_ok b first t.wide well.code) b.handlers well.handlers);
+      max_stack = t.max_stack;
+      max_locals = t.max_locals;
+    }
+
+-- ---- an unchanged body
+
+same_insns : (code : List Insn) (i v : ℕ) → map (insn_of 0 v) (map_from (λ k insn. image insn k None) i code) ≡ code
+same_insns [] i v = refl
+same_insns (insn ∷ code) i v = λ k. insn ∷ same_insns code (i + 1) v k
+
+pub unchanged_seen : (names new_names : Names) (b b' : Body) → IsWellMadeOfAnySize b → IsSameBody names new_names b b'
+    → IsSeenUnchanged b b' (unchanged_marks b)
+unchanged_seen names new_names b b' well same =
+    let is = same.others in
+    record {
+      items = unchanged_items b.code;
+      call = 0;
+      calls = tt;
+      method = record {
+        method = ap (λ (x : Body). x.method) is;
+        owner = ap (λ (x : Body). x.owner) is;
+        name = ap (λ (x : Body). x.name) is;
+        desc = ap (λ (x : Body). x.desc) is;
+        flags = ap (λ (x : Body). x.flags) is;
+        arg_slots = ap (λ (x : Body). x.arg_slots) is;
+      };
+      uses = λ place what used. ap (λ (x : Body). what_used x.uses place) is ∙ used;
+      code = ap (λ (x : Body). x.code) is ∙ sym (same_insns b.code 0 b.arg_slots);
+      at = refl;
+      own = refl;
+      extra = refl;
+      ok = unchanged_ok b.code well.code;
+      rows = subst (OkRows (OkRow b.code None no_ids (unchanged_items b.code)) b.handlers) (map-id b.handlers ∙ sym (ap (λ (x : Body). x.handlers) is))
+          (rows_kept (OkRow b.code None no_ids (unchanged_items b.code)) (IsHandler (length b.code)) (λ h. h) (unchanged_row b.code well.code) b.handlers well.handlers);
+      max_stack = ap (λ (x : Body). x.max_stack) is;
+      max_locals = ap (λ (x : Body). x.max_locals) is;
     }

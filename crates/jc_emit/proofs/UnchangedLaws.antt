@@ -3,15 +3,17 @@ use Rattle.std.proofs.Common.{◌≡◌, inl, inr, ⊎_elim, ℕ, zero, suc, ◌
 use Rattle.std.specs.Prelude.{slice_get, Contains}
 use Rattle.std.specs.List.{AllByRecursion}
 use Rattle.std.proofs.lemmas.Bool.{cases_lt}
+use Rattle.std.proofs.lemmas.List.{map-id}
 use Rattle.std.proofs.lemmas.Option.{slice_get-get_or, slice_get_within}
 use Rattle.jc_bytes.specs.PlainLists.{map_from}
 use Rattle.jc_bytes.specs.FirstSeen.{first_seen}
 use Rattle.jc_methods.specs.Flow.{flow_of, targets_of, FallsThrough, jump_target}
 use Rattle.jc_methods.specs.Insn.{with_places, arm_with_place}
-use Rattle.jc_methods.specs.WellMade.{IsCode}
+use Rattle.jc_methods.specs.WellMade.{IsCode, IsHandler}
 use Rattle.jc_methods.specs.declared.insn.Insn.{Insn}
 use Rattle.jc_methods.specs.declared.insn.Arm.{Arm}
 use Rattle.jc_methods.specs.declared.insn.Flow.{Flow}
+use Rattle.jc_methods.specs.declared.body.Handler.{Handler}
 use Rattle.jc_plan.specs.declared.branch.Branch.{Branch}
 use Rattle.jc_plan.specs.Edges.{branches_by}
 use Rattle.jc_bytes.proofs.FirstSeenLaws.{first_seen_listed}
@@ -19,8 +21,8 @@ use Rattle.jc_plan.proofs.ListedLaws.{all_listed}
 use Rattle.jc_plan.proofs.ByBranchLaws.{last_parts}
 use Rattle.jc_emit.specs.Sizes.{insn_at, early_by}
 use Rattle.jc_emit.specs.TwinCode.{to_of}
-use Rattle.jc_emit.specs.Items.{Item, image}
-use Rattle.jc_emit.specs.Local.{Lands, Ok, OkImage, AllOk, TestsAlike, unchanged_items}
+use Rattle.jc_emit.specs.Items.{Item, image, at_of}
+use Rattle.jc_emit.specs.Local.{Lands, Ok, OkImage, AllOk, OkRow, Holds, TestsAlike, no_ids, unchanged_items}
 use Rattle.jc_emit.proofs.OthersLaws.{tests_target, jumps_target, arm_listed}
 use Rattle.jc_emit.proofs.LocalLaws.{one_place}
 use Rattle.jc_methods.specs.declared.insn.Insn.TheVariants as insns
@@ -30,14 +32,10 @@ arms_same : (arms : List Arm) → map (arm_with_place (λ to. to)) arms ≡ arms
 arms_same [] = refl
 arms_same (a ∷ arms) = λ k. a ∷ arms_same arms k
 
-numbers_same : (xs : List ℕ) → map (λ to. to) xs ≡ xs
-numbers_same [] = refl
-numbers_same (x ∷ xs) = λ k. x ∷ numbers_same xs k
-
 -- each place stays
 places_same : (insn : Insn) → with_places (λ to. to) insn ≡ insn
 places_same (insns.Jump op to) = refl
-places_same (insns.Table low default arms) = ap (insns.Table low default) (numbers_same arms)
+places_same (insns.Table low default arms) = ap (insns.Table low default) (map-id arms)
 places_same (insns.Lookup default arms) = ap (insns.Lookup default) (arms_same arms)
 places_same (insns.Simple op) = refl
 places_same (insns.Push op value) = refl
@@ -51,9 +49,6 @@ places_same (insns.Dynamic place) = refl
 places_same (insns.OfClass op place) = refl
 places_same (insns.NewArray elem) = refl
 places_same (insns.Multi place dims) = refl
-
-no_ids : Branch → Option ℕ
-no_ids x = None
 
 abbrev item : ℕ → Insn → Item
 item i insn = image insn i None
@@ -88,11 +83,8 @@ module _ (code : List Insn) (is_code : IsCode code) where
   abbrev old : ℕ → Insn
   old i = insn_at code i
 
-  abbrev nothing : Branch → Option ℕ
-  nothing x = None
-
   abbrev In : ℕ → ℕ → Option ℕ → Type 0
-  In q at due = Lands code None nothing items q at due
+  In q at due = Lands code None no_ids items q at due
 
   lands : (i : ℕ) → i < length code → In i i None
   lands i lt = record {
@@ -120,11 +112,11 @@ module _ (code : List Insn) (is_code : IsCode code) where
   target_within : (i : ℕ) → i < length code → targets_of (old i) ≡ jump_target (old i) ∷ [] → jump_target (old i) < length code
   target_within i lt e = (subst (λ ts. AllByRecursion (λ to. to < length code) ts) e (is_code.places i (insns.Simple 0) lt)).0
 
-  image_by : (i : ℕ) (flow : Flow) → i < length code → flow_of (old i) ≡ flow → OkImage code None nothing items i i (old i) (old i) flow
+  image_by : (i : ℕ) (flow : Flow) → i < length code → flow_of (old i) ≡ flow → OkImage code None no_ids items i i (old i) (old i) flow
   image_by i flows.GoesOn lt e = (refl, lands (i + 1) (next_within i lt (inl e)))
   image_by i flows.Branches lt e =
       let to = jump_target (old i) in
-      let alike : TestsAlike code None nothing items i i (old i) (old i) = record {
+      let alike : TestsAlike code None no_ids items i i (old i) (old i) = record {
         target = to;
         same = sym (places_same (old i)) ∙ one_place (old i) (λ to. to) (tests_target (old i) e) (inr e);
         jumped = lands to (target_within i lt (tests_target (old i) e));
@@ -144,7 +136,7 @@ module _ (code : List Insn) (is_code : IsCode code) where
   image_by i flows.Returns lt e = refl
   image_by i flows.Throws lt e = refl
 
-  none_early : (i : ℕ) (insn : Insn) (flow : Flow) → None ≡ early_by nothing i insn flow
+  none_early : (i : ℕ) (insn : Insn) (flow : Flow) → None ≡ early_by no_ids i insn flow
   none_early i insn flows.GoesOn = refl
   none_early i insn flows.Branches = refl
   none_early i insn flows.Jumps = refl
@@ -152,14 +144,29 @@ module _ (code : List Insn) (is_code : IsCode code) where
   none_early i insn flows.Returns = refl
   none_early i insn flows.Throws = refl
 
-  pub unchanged_ok : AllOk code None nothing items
+  pub unchanged_ok : AllOk code None no_ids items
   unchanged_ok = record { ok = each; start = lands 0 is_code.some }
     where
-      each : (q : ℕ) (x : Item) → slice_get items q ≡ Some x → Ok code None nothing items q x
+      each : (q : ℕ) (x : Item) → slice_get items q ≡ Some x → Ok code None no_ids items q x
       each q x h =
           let got = item_got 0 q code x h in
           let within = slice_get_within code q got.0 got.1 in
           let found = slice_get-get_or code q (insns.Simple 0) within in
           let same : got.0 ≡ old q = cc in
           let e : image (old q) q None ≡ x = sym (got.2 ∙ ap (λ j. image got.0 j None) (zero-add q) ∙ ap (λ y. image y q None) same) in
-          subst (Ok code None nothing items q) e (within, none_early q (old q) (flow_of (old q)), image_by q (flow_of (old q)) within refl)
+          subst (Ok code None no_ids items q) e (within, none_early q (old q) (flow_of (old q)), image_by q (flow_of (old q)) within refl)
+
+  -- ---- exception rows
+
+  place_is : (q i : ℕ) (insn : Insn) (early : Option ℕ) → slice_get items q ≡ Some (image insn i early) → i ≡ q
+  place_is q i insn early h = ap at_of (item_got 0 q code (image insn i early) h).2 ∙ zero-add q
+
+  -- each row stays
+  pub unchanged_row : (h : Handler) → IsHandler (length code) h → OkRow code None no_ids items h h
+  unchanged_row h is = record {
+    class = refl;
+    holds = λ q i insn early found.
+        let e = place_is q i insn early found in
+        (λ held. subst (Holds h) (sym e) held, λ held. subst (Holds h) e held);
+    target = lands h.target is.target;
+  }

@@ -14,6 +14,7 @@ pub mod Seen
 pub mod Ranks
 pub mod Added
 pub mod TwinProgram
+pub mod SeenProgram
 pub mod WorkedExamples
 pub mod Placing
 pub mod Written

@@ -7,7 +7,7 @@ use Rattle.jc_methods.specs.declared.insn.Insn.{Insn}
 use Rattle.jc_methods.specs.declared.insn.Flow.{Flow}
 use Rattle.jc_methods.specs.declared.body.Handler.{Handler}
 use Rattle.jc_plan.specs.declared.branch.Branch.{Branch}
-use Rattle.jc_plan.specs.Edges.{sequence, jump, branches_of}
+use Rattle.jc_plan.specs.Edges.{place_of, sequence, jump, branches_of, branches}
 use Rattle.jc_after.specs.Shift.{with_slot}
 use Rattle.jc_emit.specs.Sizes.{insn_at, early_by}
 use Rattle.jc_methods.specs.Widened.{inverted}
@@ -35,6 +35,14 @@ due_of (probe_one id at late) = late_id id late
 due_of (probe_store id at late) = late_id id late
 due_of (hop to at due) = due
 due_of _ = None
+
+-- the id of the probe of which it is an instruction
+abbrev pub id_in : Item → Option ℕ
+id_in (probe_array id at late) = Some id
+id_in (probe_id id at late) = Some id
+id_in (probe_one id at late) = Some id
+id_in (probe_store id at late) = Some id
+id_in _ = None
 
 -- the id that was hit for the edge that comes next
 abbrev pub early_of : Item → Option ℕ
@@ -116,9 +124,21 @@ module _ (code : List Insn) (slot : Option ℕ) (ids : Branch → Option ℕ) (i
   abbrev pub early_at : ℕ → Option ℕ
   early_at i = early_by ids i (insn_at code i) (flow_of (insn_at code i))
 
-  -- a probe in front of its instruction is the one of its edge
+  -- some branch of the body has the id
+  pub record IsOfBranch (id : ℕ) : Type 0 where
+    pub branch : Branch
+    pub listed : Contains (branches code) branch
+    pub has_id : ids branch ≡ Some id
+
+  -- some branch of the body has the id, and it leads to the instruction
+  pub record IsOfEdgeTo (id at : ℕ) : Type 0 where
+    pub of_branch : IsOfBranch id
+    pub leads : place_of of_branch.branch.way ≡ Some at
+
+  -- a probe behind its edge is one of an edge that leads to the instruction, and a probe in front of its instruction the
+  -- one of the instruction's edge
   abbrev pub IsOfEdge : (id at : ℕ) → Bool → Type 0
-  IsOfEdge id at true = ⊤
+  IsOfEdge id at true = IsOfEdgeTo id at
   IsOfEdge id at false = early_at at ≡ Some id
 
   abbrev pub OkStore : (q id at : ℕ) → Bool → Type 0
@@ -126,7 +146,7 @@ module _ (code : List Insn) (slot : Option ℕ) (ids : Branch → Option ℕ) (i
   OkStore q id at false = (insn : Insn) × (slice_get items (q + 1) ≡ Some (image insn at (Some id)))
 
   abbrev pub Ok : ℕ → Item → Type 0
-  Ok q init_call = slice_get items (q + 1) ≡ Some init_store
+  Ok q init_call = (q ≡ 0) × (slice_get items (q + 1) ≡ Some init_store)
   Ok q init_store = Lands (q + 1) 0 None
   Ok q (image new i early) =
       (i < length code) × (early ≡ early_at i) × OkImage q i (insn_at code i) new (flow_of (insn_at code i))
@@ -155,6 +175,10 @@ module _ (code : List Insn) (slot : Option ℕ) (ids : Branch → Option ℕ) (i
     pub holds : (q i : ℕ) (insn : Insn) (early : Option ℕ) → slice_get items q ≡ Some (image insn i early)
         → Holds new q ↔ Holds h i
     pub target : Lands new.target h.target None
+
+-- an unchanged body has no probe
+abbrev pub no_ids : Branch → Option ℕ
+no_ids x = None
 
 -- the items of an unchanged body: each instruction is its own image
 abbrev pub unchanged_items : List Insn → List Item

@@ -104,7 +104,12 @@ DifferInName (c ∷ classes) = ((other : Linked) → Contains classes other → 
 abbrev pub AreChecked : Names → List Linked → Type 0
 AreChecked names classes = (c : Linked) → Contains classes c → (b : Body) → Contains c.bodies b → IsWellMade b × Checked names b
 
+-- The owner of each body is its class: the method that the prelude of its twin calls is one of that class.
+abbrev pub AreOwned : List Linked → Type 0
+AreOwned classes = (c : Linked) → Contains classes c → (b : Body) → Contains c.bodies b → b.owner ≡ c.name
+
 pub record TwinProgram (p p' : Program) : Type 0 where
   pub checked : AreChecked p.names p.classes
+  pub owned : AreOwned p.classes
   pub differ : DifferInName p.classes
   pub pairs : ArePairs p.names p'.names p.classes p'.classes

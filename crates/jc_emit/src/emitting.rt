@@ -1,9 +1,10 @@
 //! The instrumented code of a method.
 ghost use Rattle.std.specs.Prelude.{◌≡◌, ◌⊎◌, ⊤, ℕ, ◌+◌, ◌≤◌};
-ghost use Rattle.std.specs.Prelude.{Some, None, length, IfOk, IfErr, IfSome, MatchResult};
+ghost use Rattle.std.specs.Prelude.{Some, None, length, IfOk, OnOk, IfErr, IfSome, MatchResult};
 ghost use Rattle.std.specs.List.{sum_by};
 ghost use Rattle.jc_methods.specs.VerificationTypes.{Grows, AreNumberedFrames};
 ghost use Rattle.jc_methods.specs.Insn.{arm_count};
+ghost use Rattle.jc_bytes.specs.Names.{with_name};
 ghost use Rattle.jc_methods.specs.WellMade.{IsWellMade, IsCounted};
 ghost use Rattle.jc_bytes.specs.declared.refusal.RefusalKind.{RefusalKind as Kind};
 ghost use Rattle.jc_kinds.specs.Answers.{AreStates, refusal_of};
@@ -13,6 +14,7 @@ ghost use Rattle.jc_emit.specs.Emission.{IsArrayNumber, emission};
 ghost use Rattle.jc_emit.specs.Framing.{ArePut};
 ghost use Rattle.jc_emit.specs.Placing.{HasPlan};
 ghost use Rattle.jc_emit.specs.Refusing.{IsEmitRefusal, IsTaken, HasRoom};
+ghost use Rattle.jc_emit.specs.Shift.{probe_array_class};
 ghost use Rattle.jc_emit.specs.Straddling.{IsEmitReason};
 ghost use Rattle.jc_emit.specs.Twin.{IsEmitted};
 
@@ -118,7 +120,7 @@ fn instrumented(
 /// # Errors
 ///
 /// `Memory` where memory was refused, or where `[Z` is new and the list has 4,294,967,295 names. Then `names`
-/// may have one name more.
+/// may have `[Z` as one name more.
 ///
 /// `Said`, of the body's method, the first of these that applies; `names` is as it was:
 /// - `StraddlingLocal` where an instruction reads or writes a long or a double in the last local variable of
@@ -150,6 +152,11 @@ pub fn emit(
         → MatchResult result (λ _. ⊥) (λ e. (e ≡ Fail.Memory) ⊎ (e ≡ Fail.Said (refusal_of body.now kind place))) }
     ensures taken { IsTaken body.now → MatchResult result (λ _. ⊤) (λ e. e ≡ Fail.Memory) }
     ensures names { Grows names.old names.new }
+    // The class of the array of probes has a number afterwards, and no other name is new.
+    ensures added { OnOk result (names.new ≡ with_name names.old probe_array_class) }
+    // After a refusal the names are as they were. Where memory runs out they may have this one name more.
+    ensures kept { IfErr result (λ e. (names.new ≡ names.old)
+        ⊎ ((e ≡ Fail.Memory) × (names.new ≡ with_name names.old probe_array_class))) }
 {
     if let Some(refusal) = refused(body) {
         return Err(Fail::Said(refusal));

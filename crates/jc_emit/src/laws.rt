@@ -1,5 +1,5 @@
 //! Laws of instrumented code.
-ghost use Rattle.std.specs.Prelude.{◌≡◌, ℕ, List, Bool, true, false, Option, Some, None, map, length};
+ghost use Rattle.std.specs.Prelude.{◌≡◌, ℕ, ◌+◌, ◌<◌, ◌≤◌, List, Bool, true, false, Option, Some, None, map, length, slice_get};
 ghost use Rattle.jc_methods.specs.VerificationTypes.{Names};
 ghost use Rattle.jc_methods.specs.Widened.{widened};
 ghost use Rattle.jc_methods.specs.WellMade.{IsCode, IsHandler, IsWellMadeOfAnySize, what_used};
@@ -9,13 +9,14 @@ ghost use Rattle.jc_methods.specs.declared.body.Handler.{Handler};
 ghost use Rattle.jc_methods.specs.declared.insn.Insn.{Insn};
 ghost use Rattle.jc_methods.specs.declared.kind.State.{State};
 ghost use Rattle.jc_plan.specs.declared.branch.Branch.{Branch};
-ghost use Rattle.jc_plan.specs.Probed.{probe_of};
+ghost use Rattle.jc_plan.specs.Probed.{probe_of, probe_count};
 ghost use Rattle.jc_emit.specs.Emission.{emission, HasFrameStates, IsArrayNumber, AreWidened};
 ghost use Rattle.jc_emit.specs.Items.{Item, own_of, insn_of, twin_items, image_of, land_of, lead_of, marks_of_items};
-ghost use Rattle.jc_emit.specs.Local.{AllOk, OkRow, unchanged_items};
+ghost use Rattle.jc_emit.specs.Local.{AllOk, OkRow, IsOfBranch, id_in, no_ids, unchanged_items};
 ghost use Rattle.jc_emit.specs.Marks.{Marks, IsProbe, image_place, land_place, lead_place};
 ghost use Rattle.jc_emit.specs.Ranks.{IsRanked};
-ghost use Rattle.jc_emit.specs.Seen.{IsSeen};
+ghost use Rattle.jc_emit.specs.Seen.{IsSeen, IsSeenUnchanged, unchanged_marks};
+ghost use Rattle.jc_emit.specs.TwinProgram.{IsSameBody};
 ghost use Rattle.jc_emit.specs.Twin.{Twin, IsEmitted};
 ghost use Rattle.jc_emit.specs.TwinBody.{twin_body};
 ghost use Rattle.jc_emit.specs.TwinCode.{IsTwinCode, IsProbeIn};
@@ -69,15 +70,37 @@ pub fn each_row_is_kept()
         (moved_row (lead_of b first wide) (land_of b first wide) h) }
 {}
 
-/// An unchanged body goes on where it should, at each of its instructions.
+/// An unchanged body goes on where it should, at each of its instructions, and so do its exception rows.
 pub fn each_unchanged_body_goes_on()
-    ensures { (code : List Insn) → IsCode code → AllOk code None (λ (x : Branch). None) (unchanged_items code) }
+    ensures items { (code : List Insn) → IsCode code → AllOk code None no_ids (unchanged_items code) }
+    ensures rows { (code : List Insn) → IsCode code → (h : Handler) → IsHandler (length code) h
+        → OkRow code None no_ids (unchanged_items code) h h }
 {}
 
-/// A twin is seen from each of its instructions: each goes on where it should, and the exception rows are kept.
+/// A twin is seen from each of its instructions: each goes on where it should, and the exception rows are kept. So is
+/// a body of an unchanged class.
 pub fn each_twin_is_seen()
-    ensures { (names new_names : Names) (states : List State) (first : ℕ) (b b' : Body) → IsWellMadeOfAnySize b
+    ensures twin { (names new_names : Names) (states : List State) (first : ℕ) (b b' : Body) → IsWellMadeOfAnySize b
         → (t : Twin names new_names states first b b') → IsSeen first b b' t.marks }
+    ensures unchanged { (names new_names : Names) (b b' : Body) → IsWellMadeOfAnySize b
+        → IsSameBody names new_names b b' → IsSeenUnchanged b b' (unchanged_marks b) }
+{}
+
+/// Twins of one body that are one body have the same marks, whatever their layouts are. So what is said of the
+/// instructions of a twin depends on the two bodies and the first id alone.
+pub fn each_twin_has_its_marks()
+    ensures { (names new_names others new_others : Names) (states other_states : List State) (first : ℕ) (b b' : Body)
+        → IsWellMadeOfAnySize b → (t : Twin names new_names states first b b')
+        → (u : Twin others new_others other_states first b b') → t.marks ≡ u.marks }
+{}
+
+/// The id of each probe is that of a branch of the body, the id of a probe behind its edge too; so it is among the ids of
+/// the body.
+pub fn each_probe_is_of_a_branch()
+    ensures branch { (code : List Insn) (slot : Option ℕ) (ids : Branch → Option ℕ) (items : List Item) → AllOk code slot ids items
+        → (q id : ℕ) (x : Item) → slice_get items q ≡ Some x → id_in x ≡ Some id → IsOfBranch code slot ids items id }
+    ensures within { (first : ℕ) (b b' : Body) (m : Marks) → (s : IsSeen first b b' m) → (q id : ℕ) (x : Item)
+        → slice_get s.items q ≡ Some x → id_in x ≡ Some id → (first ≤ id) × (id < first + probe_count b) }
 {}
 
 /// What goes on where it should comes to an image soon.

@@ -7,6 +7,7 @@ mod frames;
 mod image;
 mod laws;
 mod places;
+mod programs;
 mod segments;
 mod straddling;
 mod switches;
@@ -17,8 +18,9 @@ pub use checks::{each_init_is_verified, each_twin_is_verified, each_twin_program
 pub use emitting::emit;
 pub use laws::{
     each_body_has_a_twin, each_emission_is_told, each_image_comes_soon, each_image_stands,
-    each_probe_is_once, each_row_is_kept, each_twin_goes_on, each_twin_is_known, each_twin_is_seen,
-    each_twin_is_told, each_unchanged_body_goes_on, each_wide_frame_is_told,
-    each_wide_twin_is_wide,
+    each_probe_is_of_a_branch, each_probe_is_once, each_row_is_kept, each_twin_goes_on,
+    each_twin_has_its_marks, each_twin_is_known, each_twin_is_seen, each_twin_is_told,
+    each_unchanged_body_goes_on, each_wide_frame_is_told, each_wide_twin_is_wide,
 };
+pub use programs::{each_body_is_owned, each_body_is_seen, each_class_has_its_pair};
 pub use straddling::straddles;

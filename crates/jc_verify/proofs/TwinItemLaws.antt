@@ -198,7 +198,7 @@ module _ (b : Body) (first : ℕ) (wide : Bool) (call : ℕ) (is_code : IsCode b
   image_falls q i insn flows.Throws e h falls = absurd (never (old i) flows.Throws e (λ x. cc) (λ x. cc) (subst FallsThrough h falls))
 
   item_falls : (q : ℕ) (x : Item) → Fine q x → FallsThrough (new x) → q + 1 < count
-  item_falls q init_call h falls = slice_get_within items (q + 1) init_store h
+  item_falls q init_call h falls = slice_get_within items (q + 1) init_store h.1
   item_falls q init_store h falls = lands_within (q + 1) 0 None h
   item_falls q (image insn i early) h falls = image_falls q i insn (flow_of (old i)) refl h.2 falls
   item_falls q (probe_array id at late) h falls = slice_get_within items (q + 1) (probe_id id at late) h.1

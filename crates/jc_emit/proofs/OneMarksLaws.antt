@@ -1,0 +1,114 @@
+-- Two twins of one body with one code have the same marks, whatever their layouts are.
+use Rattle.std.proofs.Common.{◌≡◌, ⊎_elim, ℕ, zero, suc, ◌+◌, ◌<◌, Bool, true, false, List, [], ◌∷◌, ◌++◌, map, length, None, refl, sym, ap, ap₂, ◌∙◌, arith}
+use Rattle.std.proofs.lemmas.Bool.{cases_lt}
+use Rattle.std.proofs.lemmas.List.{length-map, get_or_past}
+use Rattle.jc_bytes.specs.PlainLists.{pieces, total}
+use Rattle.jc_methods.specs.Flow.{flow_of}
+use Rattle.jc_methods.specs.VerificationTypes.{Names}
+use Rattle.jc_methods.specs.Insn.{with_places}
+use Rattle.jc_methods.specs.WellMade.{IsWellMadeOfAnySize}
+use Rattle.jc_methods.specs.declared.insn.Insn.{Insn}
+use Rattle.jc_methods.specs.declared.insn.Insn.TheVariants as insns
+use Rattle.jc_methods.specs.declared.insn.Flow.{Flow}
+use Rattle.jc_methods.specs.declared.insn.Flow.TheVariants as flows
+use Rattle.jc_methods.specs.declared.body.Body.{Body}
+use Rattle.jc_methods.specs.declared.kind.State.{State}
+use Rattle.jc_plan.specs.Probed.{probe_of}
+use Rattle.jc_plan.specs.Plan.{lead_probe}
+use Rattle.jc_emit.specs.Sizes.{insn_at, early_probe, arms_at, probe_size, wide_by}
+use Rattle.jc_emit.specs.TwinCode.{arm_place}
+use Rattle.jc_emit.specs.Items.{Item, image, insn_of, marks_of_items, prelude, lead_part, early_part, arm_parts, segment_size, lead_of, land_of, image_of, image_part, segment, twin_items}
+use Rattle.jc_emit.specs.Twin.{Twin}
+use Rattle.jc_emit.proofs.BuiltLaws.{length_twin}
+use Rattle.jc_emit.proofs.KnownLaws.{code_known, marks_known}
+
+none_narrow : (flow : Flow) → wide_by flow false ≡ 0
+none_narrow flows.GoesOn = refl
+none_narrow flows.Branches = refl
+none_narrow flows.Jumps = refl
+none_narrow flows.Switches = refl
+none_narrow flows.Returns = refl
+none_narrow flows.Throws = refl
+
+none_in_front : (f : ℕ → ℕ) (n : ℕ) → total f n ≡ 0 → (i : ℕ) → i < n → f i ≡ 0
+none_in_front f zero e i lt = absurd (omega arith)
+none_in_front f (suc n) e i lt =
+    ⊎_elim (λ below. none_in_front f n (omega (arith, e)) i below)
+    (λ above. let same : i ≡ n = omega arith in ap f same ∙ omega (arith, e))
+    (cases_lt i n)
+
+module _ (b : Body) (first : ℕ) where
+  abbrev old : ℕ → Insn
+  old i = insn_at b.code i
+
+  abbrev size : Bool → ℕ → ℕ
+  size wide i = segment_size b first wide i
+
+  -- how many instructions more the wide layout has
+  abbrev more : ℕ → ℕ
+  more i = wide_by (flow_of (old i)) true
+
+  size_more : (i : ℕ) → size true i ≡ size false i + more i
+  size_more i = omega (arith, none_narrow (flow_of (old i)))
+
+  total_more : (n : ℕ) → total (size true) n ≡ total (size false) n + total more n
+  total_more zero = refl
+  total_more (suc n) = omega (arith, total_more n, size_more n)
+
+  -- the layouts have as many instructions only where there is no conditional jump
+  module _ (none : total more (length b.code) ≡ 0) where
+    none_more : (i : ℕ) → more i ≡ 0
+    none_more i =
+        ⊎_elim (λ below. none_in_front more (length b.code) none i below)
+        (λ above. ap (λ insn. wide_by (flow_of insn) true) (get_or_past b.code i (insns.Simple 0) above))
+        (cases_lt i (length b.code))
+
+    sizes_same : size true ≡ size false
+    sizes_same = λ k i. (let e : size true i ≡ size false i = omega (arith, size_more i, none_more i) in e) k
+
+    lands_same : land_of b first true ≡ land_of b first false
+    lands_same = λ k i. 2 + total (sizes_same k) i + probe_size (lead_probe b first i)
+
+    image_same : (i : ℕ) → image_of b first true i ≡ image_of b first false i
+    image_same i = λ k. lands_same k i + probe_size (early_probe b first i)
+
+    part_same : (i : ℕ) (flow : Flow) → flow_of (old i) ≡ flow → image_part b first true i (old i) flow ≡ image_part b first false i (old i) flow
+    part_same i flows.GoesOn e = refl
+    part_same i flows.Branches e = absurd (omega (arith, none_more i, ap (λ f. wide_by f true) e))
+    part_same i flows.Jumps e = ap (λ (land : ℕ → ℕ). image (with_places land (old i)) i (early_probe b first i) ∷ []) lands_same
+    part_same i flows.Switches e =
+        ap₂ (λ (land : ℕ → ℕ) (q : ℕ). image (with_places (arm_place (probe_of b first) land (q + 1) (arms_at b.code i)) (old i)) i None ∷ arm_parts land (probe_of b first) (arms_at b.code i))
+        lands_same (image_same i)
+    part_same i flows.Returns e = refl
+    part_same i flows.Throws e = refl
+
+    segment_same : (i : ℕ) → segment b first true i ≡ segment b first false i
+    segment_same i =
+        ap (λ part. lead_part (lead_probe b first i) i ++ (early_part (early_probe b first i) i ++ part)) (part_same i (flow_of (old i)) refl)
+
+    items_same : twin_items b first true ≡ twin_items b first false
+    unfolding twin_items
+    items_same = λ k. prelude ++ pieces (λ i. segment_same i k) (length b.code)
+
+  -- one code in both layouts
+  both_layouts : (code : List Insn) (call other : ℕ) → code ≡ map (insn_of call b.arg_slots) (twin_items b first true)
+      → code ≡ map (insn_of other b.arg_slots) (twin_items b first false) → twin_items b first true ≡ twin_items b first false
+  both_layouts code call other wide narrow =
+      let long = ap length wide ∙ length-map (twin_items b first true) (insn_of call b.arg_slots) ∙ length_twin b first true in
+      let short = ap length narrow ∙ length-map (twin_items b first false) (insn_of other b.arg_slots) ∙ length_twin b first false in
+      items_same (omega (arith, long, short, total_more (length b.code)))
+
+  one_items : (w u : Bool) (code : List Insn) (call other : ℕ) → code ≡ map (insn_of call b.arg_slots) (twin_items b first w)
+      → code ≡ map (insn_of other b.arg_slots) (twin_items b first u) → twin_items b first w ≡ twin_items b first u
+  one_items true true code call other e f = refl
+  one_items true false code call other e f = both_layouts code call other e f
+  one_items false true code call other e f = sym (both_layouts code other call f e)
+  one_items false false code call other e f = refl
+
+pub one_marks : (names new_names others new_others : Names) (states other_states : List State) (first : ℕ) (b b' : Body) → IsWellMadeOfAnySize b
+    → (t : Twin names new_names states first b b') (u : Twin others new_others other_states first b b') → t.marks ≡ u.marks
+one_marks names new_names others new_others states other_states first b b' well t u =
+    marks_known b first t.wide t.call b'.code t.marks well.code t.code
+    ∙ ap marks_of_items
+    (one_items b first t.wide u.wide b'.code t.call u.call (code_known b first t.wide t.call b'.code t.marks well.code t.code) (code_known b first u.wide u.call b'.code u.marks well.code u.code))
+    ∙ sym (marks_known b first u.wide u.call b'.code u.marks well.code u.code)
