@@ -1,5 +1,5 @@
 -- The methods of an instrumented class file pass the kind check.
-use Rattle.std.proofs.Common.{◌≡◌, ℕ, ◌≤◌, Bool, true, false, List, [], ◌∷◌, ◌++◌, length, refl, sym, ◌∙◌, subst, true≢false}
+use Rattle.std.proofs.Common.{◌≡◌, ℕ, ◌≤◌, Bool, true, false, List, [], ◌∷◌, ◌++◌, length, map, refl, sym, ◌∙◌, subst, true≢false}
 use Rattle.jc_bytes.specs.ByteLists.{AreBytes}
 use Rattle.jc_bytes.specs.Reader.{most_read}
 use Rattle.jc_class.specs.ClassId.{class_id}
@@ -16,11 +16,14 @@ use Rattle.jc_instrument.specs.LeftAlone.{is_left_alone}
 use Rattle.jc_instrument.specs.ProbedClass.{making_causes}
 use Rattle.jc_instrument.specs.Reasons.{code_causes}
 use Rattle.jc_instrument.specs.RoomCauses.{early_room_causes, HasTooLargeCode, room_causes}
+use Rattle.jc_instrument.specs.TwinText.{twin_class}
 use Rattle.jc_instrument.specs.BodiesWithStates.{bodies_of}
 use Rattle.jc_instrument.specs.declared.whole.Instrumented.{Instrumented}
 use Rattle.jc_instrument.proofs.CauseLaws.{none_in_both}
+use Rattle.jc_instrument.proofs.FramedStatesLaws.{framed_work}
 use Rattle.jc_instrument.proofs.HasRoomLaws.{all_free, has_room}
-use Rattle.jc_instrument.proofs.PassingLaws.{all_checked, class_passes, no_code_cause, no_room_cause}
+use Rattle.jc_instrument.proofs.PassingLaws.{all_checked, class_passes, no_code_cause, no_room_cause, twins, works_written}
+use Rattle.jc_instrument.proofs.WrittenAgainLaws.{AreWrittenWorks}
 use Rattle.jc_instrument.proofs.WrittenCodeLaws.{HasRoom}
 
 module _ (bytes : List ℕ) (a : Instrumented) (are : AreBytes bytes) (size : length bytes ≤ most_read) (is : IsInstrumentedFile bytes a)
@@ -51,6 +54,15 @@ module _ (bytes : List ℕ) (a : Instrumented) (are : AreBytes bytes) (size : le
 
   room : HasRoom (bodies_of has.works)
   room = has_room c (bodies_of has.works) holds changes of_class none_making
+
+  -- its works are written, and make the class
+  pub file_works : AreWrittenWorks (class_id bytes) has.names has.array (map framed_work has.works) is.file has.written.pool has.written.places
+  file_works =
+      works_written bytes c is.text are size (class_id bytes) no_code has.names has.array has.works has.twin has.written a.bytes has.are_bytes has.text room
+      (all_free c (bodies_of has.works) holds changes of_class none_making)
+
+  pub file_class : has.twin ≡ twin_class has.names has.array is.file (map framed_work has.works) has.written.pool has.written.places
+  file_class = twins bytes c is.text are size (class_id bytes) no_code has.names has.array has.works has.twin has.written
 
   twin_passes : EachPassesAgain has.twin
   twin_passes =

@@ -33,7 +33,7 @@ use Rattle.jc_instrument.proofs.ListedLaws.{body_at}
 use Rattle.jc_instrument.proofs.SameWorksLaws.{same_frames}
 use Rattle.jc_instrument.proofs.SomeBodiesLaws.{made_well, passes}
 use Rattle.jc_instrument.proofs.TextSizesLaws.{class_size, method_size}
-use Rattle.jc_instrument.proofs.WrittenAgainLaws.{AreSoundBodies, texts_short, work_found, written_methods}
+use Rattle.jc_instrument.proofs.WrittenAgainLaws.{AreSoundBodies, AreWrittenWorks, texts_short, work_found, written_methods}
 use Rattle.jc_instrument.proofs.WrittenCodeLaws.{HasRoom, code_places, written_code}
 
 -- ---- causes
@@ -77,7 +77,7 @@ module _ (bytes : List ℕ) (c : ClassFile) (text : ClassText bytes c) (are_byte
       (slice_get-get_or (bodies_of works) k d less)
 
   -- the works with the states of the frames
-  abbrev framed : List BodyWithStates
+  abbrev pub framed : List BodyWithStates
   framed = map framed_work works
 
   framed_are : AreBodiesWithStates names array c framed
@@ -97,7 +97,7 @@ module _ (bytes : List ℕ) (c : ClassFile) (text : ClassText bytes c) (are_byte
     is = refl;
   }
 
-  twins : twin ≡ twin_class names array c framed w.pool w.places
+  pub twins : twin ≡ twin_class names array c framed w.pool w.places
   twins = one_twin id names names array array works framed c twin (twin_class names array c framed w.pool w.places) w framed_written
 
   module _ (new_bytes : List ℕ) (new_are : AreBytes new_bytes) (new_text : ClassText new_bytes twin) (room : HasRoom (bodies_of works))
@@ -125,6 +125,19 @@ module _ (bytes : List ℕ) (c : ClassFile) (text : ClassText bytes c) (are_byte
         written_code id names array c framed (twin_class names array c framed w.pool w.places) framed_written
         (class_bytes bytes c are_bytes text) framed_room h.index x h.stands (sound.well_made h.index x.body (body_at framed h.index x h.stands))
         (texts_short id names array framed c (twin_class names array c framed w.pool w.places) framed_written twin_is number x found)
+
+    pub works_written : AreWrittenWorks id names array framed c w.pool w.places
+    unfolding framed_written
+    works_written = record {
+      is = is;
+      are = framed_are;
+      takes = framed_written.takes;
+      few = w.few;
+      fits = works_fit names array c works w.are made;
+      sound = sound;
+      probes = framed_room.probes;
+      coded = coded;
+    }
 
     pub class_passes : EachPassesAgain twin
     unfolding framed_written

@@ -1,5 +1,5 @@
 -- A body under further names in front of its own: each class number rises by how many there are.
-use Rattle.std.proofs.Common.{◌≡◌, ℕ, ◌+◌, List, [], ◌∷◌, ◌++◌, length, map, refl, ap, ap₂, subst, sym, arith, length-append}
+use Rattle.std.proofs.Common.{◌≡◌, ℕ, ◌+◌, List, [], ◌∷◌, ◌++◌, length, map, refl, ap, ap₂, arith, length-append}
 use Rattle.std.specs.List.{AllByRecursion}
 use Rattle.std.proofs.lemmas.List.{get_or-append-add}
 use Rattle.jc_methods.specs.VerificationTypes.{Names, VerificationType, object, TypeStateAt, verification_type, type_state_at, IsNumbered, AreNumberedFrames}
@@ -9,11 +9,9 @@ use Rattle.jc_methods.specs.declared.kind.Kind.{Kind}
 use Rattle.jc_methods.specs.declared.kind.Kind.TheVariants as kinds
 use Rattle.jc_methods.specs.declared.kind.State.{State}
 use Rattle.jc_class.specs.declared.class_file.ClassFile.{ClassFile}
-use Rattle.jc_class.specs.declared.class_file.Member.{Member}
-use Rattle.jc_body.specs.BodyOf.{HasParts, BodyOf}
-use Rattle.jc_body.specs.StackMap.{HasFrames}
-use Rattle.jc_body.specs.declared.coded.Coded.{Coded}
-use Rattle.jc_body.specs.declared.items.Tables.{Tables}
+use Rattle.jc_body.specs.BodyOf.{BodyOf}
+use Rattle.jc_body.specs.Faults.{faults}
+use Rattle.jc_instrument.proofs.OneBodyLaws.{reframed}
 
 -- ---- raised numbers
 
@@ -102,38 +100,10 @@ module _ (front names : Names) where
   abbrev pub raised_body : Body → Body
   raised_body b = record b { frames = raised_frames (length front) b.frames }
 
-  raised_parts : (c : ClassFile) (number : ℕ) (method : Member) (coded : Coded) (tables : Tables) (b : Body)
-      → HasParts names c number method coded tables b → HasParts (front ++ names) c number method coded tables (raised_body b)
-  raised_parts c number method coded tables b p = record {
-    number_is = p.number_is;
-    owner = p.owner;
-    name = p.name;
-    desc = p.desc;
-    flags = p.flags;
-    arg_slots = p.arg_slots;
-    max_stack = p.max_stack;
-    max_locals = p.max_locals;
-    code = p.code;
-    handlers = p.handlers;
-    lines = p.lines;
-    vars = p.vars;
-    kind_vars = p.kind_vars;
-    frames = subst (HasFrames c.pool b.owner method coded) (sym (frames_raised b.frames)) p.frames;
-    numbers = all_raised b.frames p.numbers;
-    uses = p.uses;
-  }
-
   pub renumbered : (c : ClassFile) (number : ℕ) (b : Body) → BodyOf names c number b → BodyOf (front ++ names) c number (raised_body b)
   renumbered c number b body = record {
     method = body.method;
     at = body.at;
-    is = record {
-      coded = body.is.coded;
-      is = body.is.is;
-      no_subroutine = body.is.no_subroutine;
-      no_fault = body.is.no_fault;
-      tables = body.is.tables;
-      are_tables = body.is.are_tables;
-      parts = raised_parts c number body.method body.is.coded body.is.tables b body.is.parts;
-    };
+    is = reframed names (front ++ names) c number body.method (faults c.major c.pool b.owner body.method) b (raised_frames (length front) b.frames)
+        (frames_raised b.frames) (all_raised b.frames body.is.parts.numbers) body.is;
   }

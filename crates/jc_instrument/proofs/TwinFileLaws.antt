@@ -5,7 +5,6 @@ use Rattle.std.proofs.lemmas.Bool.{cases_lt, ltb-false}
 use Rattle.std.proofs.lemmas.List.{length-append}
 use Rattle.jc_bytes.proofs.EachLaws.{all_both, all_weaker}
 use Rattle.jc_bytes.specs.Descriptor.{Array, Boolean, IsFieldDescriptor, IsMethodDescriptor}
-use Rattle.jc_methods.specs.VerificationTypes.{Names}
 use Rattle.jc_methods.specs.ProbeMembers.{data_name, data_type, init_name, init_type}
 use Rattle.jc_pool.specs.Adding.{Extends}
 use Rattle.jc_pool.specs.Pool.{PoolValue}
@@ -16,10 +15,10 @@ use Rattle.jc_class.specs.Writable.{AreCounted, IsAttribute, IsClassFile, IsMemb
 use Rattle.jc_class.specs.declared.class_file.Attribute.{Attribute}
 use Rattle.jc_class.specs.declared.class_file.ClassFile.{ClassFile}
 use Rattle.jc_class.specs.declared.class_file.Member.{Member}
+use Rattle.jc_instrument.specs.Contents.{Content}
 use Rattle.jc_instrument.specs.Changing.{AreShort, AreShortIn, has_too_long, is_too_long}
 use Rattle.jc_instrument.specs.RoomCauses.{IsFull}
-use Rattle.jc_instrument.specs.TwinClass.{AreKeptAttributes, AreKeptMethods, IsSameOutside}
-use Rattle.jc_instrument.specs.BodiesWithStates.{BodyWithStates}
+use Rattle.jc_instrument.specs.SameOutside.{AreKeptAttributes, AreKeptMethods, IsSameOutside}
 
 -- ---- lists of parts
 
@@ -149,9 +148,9 @@ init_described = (
 
 -- ---- the whole
 
-pub twin_is_class : (id : ℕ) (names : Names) (array : ℕ) (works : List BodyWithStates) (c twin : ClassFile) → IsClassFile c → (IsFull c → ⊥)
-    → IsSameOutside id names array works c twin → AreShortIn twin.methods → IsClassFile twin
-twin_is_class id names array works c twin is room out short =
+pub twin_is_class : (id : ℕ) (needs : List Content) (count : ℕ) (c twin : ClassFile) → IsClassFile c → (IsFull c → ⊥)
+    → IsSameOutside id needs count c twin → AreShortIn twin.methods → IsClassFile twin
+twin_is_class id needs count c twin is room out short =
     let old = c.pool in
     let new = twin.pool in
     let more = out.pool.extends in

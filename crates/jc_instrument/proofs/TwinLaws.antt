@@ -20,7 +20,7 @@ use Rattle.jc_code.specs.InitText.{init_text}
 use Rattle.jc_code.specs.TwinCode.{twin_code}
 use Rattle.jc_instrument.specs.Needed.{name_of, signed_id, place_list, needs_of, TakesNeeds}
 use Rattle.jc_verify.specs.Written.{data_field, fetch_method}
-use Rattle.jc_instrument.specs.TwinClass.{IsKeptAttribute, AreKeptAttributes, IsKeptMethod, AreKeptMethods, IsDataField, IsInitMethod, IsSameOutside}
+use Rattle.jc_instrument.specs.SameOutside.{IsKeptAttribute, AreKeptAttributes, IsKeptMethod, AreKeptMethods, IsDataField, IsInitMethod, IsSameOutside}
 use Rattle.jc_instrument.specs.TwinText.{work_of, with_code, twin_method, twin_methods, data_member, init_member, init_places, twin_class, IsWritten}
 use Rattle.jc_instrument.specs.BodiesWithStates.{BodyWithStates, bodies_of, emitted_of, all_frames}
 use Rattle.jc_instrument.proofs.ContentLaws.{of_content}
@@ -134,7 +134,7 @@ module _ (id : ℕ) (names : Names) (array : ℕ) (works : List BodyWithStates) 
     array_is = of_content pool places.array (class_entry data_type) at.1.1.1.1.1.1.1.1.1.1.1.0;
   }
 
-  class_kept : IsSameOutside id names array works c (twin_class names array c works pool places)
+  class_kept : IsSameOutside id (needs_of id names array c works) (all_probes (bodies_of works)) c (twin_class names array c works pool places)
   unfolding twin_class
   class_kept = record {
     minor = refl;
@@ -156,6 +156,6 @@ module _ (id : ℕ) (names : Names) (array : ℕ) (works : List BodyWithStates) 
   }
 
 pub same_outside : (id : ℕ) (names : Names) (array : ℕ) (works : List BodyWithStates) (c twin : ClassFile) → IsWritten id names array works c twin
-    → IsSameOutside id names array works c twin
+    → IsSameOutside id (needs_of id names array c works) (all_probes (bodies_of works)) c twin
 same_outside id names array works c twin w =
-    subst (IsSameOutside id names array works c) (sym w.is) (class_kept id names array works c w.pool w.places w.takes)
+    subst (IsSameOutside id (needs_of id names array c works) (all_probes (bodies_of works)) c) (sym w.is) (class_kept id names array works c w.pool w.places w.takes)

@@ -197,12 +197,24 @@ pub record AreSoundBodies (names : Names) (bodies : List Body) : Type 0 where
   pub checked : (i : ℕ) (b : Body) → slice_get bodies i ≡ Some b → Checked names b
   pub none_straddles : (i : ℕ) (b : Body) → slice_get bodies i ≡ Some b → NoneStraddles b
 
+-- The works of a class, whose pool takes what the class needs: each body is sound and has the states of its frames, there are few
+-- probes, and the code of each can be written.
+pub record AreWrittenWorks (id : ℕ) (names : Names) (array : ℕ) (works : List BodyWithStates) (c : ClassFile) (pool : PoolValue) (places : MemberPlaces) : Type 0 where
+  pub is : IsClassFile c
+  pub are : AreBodiesWithStates names array c works
+  pub takes : TakesNeeds id names array c works pool places
+  pub few : length pool ≤ 65535
+  pub fits : (i : ℕ) (x : BodyWithStates) → slice_get works i ≡ Some x → HasFrameStates x.body x.states
+  pub sound : AreSoundBodies names (bodies_of works)
+  pub probes : all_probes (bodies_of works) ≤ 32767
+  pub coded : (number : ℕ) (x : BodyWithStates) → work_of number works ≡ Some x → IsWrittenCode pool (code_places pool places) names (emitted_of array x)
+
 module _ (id : ℕ) (names : Names) (array : ℕ) (works : List BodyWithStates) (c : ClassFile) (pool : PoolValue) (places : MemberPlaces)
     (are : AreBodiesWithStates names array c works) (takes : TakesNeeds id names array c works pool places) (few : length pool ≤ 65535)
     (is : IsClassFile c) (fits : (i : ℕ) (x : BodyWithStates) → slice_get works i ≡ Some x → HasFrameStates x.body x.states) (sound : AreSoundBodies names (bodies_of works))
     (probes : all_probes (bodies_of works) ≤ 32767)
     (coded : (number : ℕ) (x : BodyWithStates) → work_of number works ≡ Some x → IsWrittenCode pool (code_places pool places) names (emitted_of array x)) where
-  abbrev code : BodyWithStates → List ℕ
+  abbrev pub code : BodyWithStates → List ℕ
   code w = twin_code pool places.method places.frames names (emitted_of array w)
 
   abbrev count : ℕ
@@ -257,7 +269,7 @@ module _ (id : ℕ) (names : Names) (array : ℕ) (works : List BodyWithStates) 
         coded_texts c.pool pool extends (code x) m.attributes (member_named x.body.method m there)
         ∙ ap (map (λ b. code x)) (ap (code_bodies c.pool) same ∙ body.is.is.items.code.single)
 
-    written_at : (m : Member) → slice_get c.methods x.body.method ≡ Some m
+    pub written_at : (m : Member) → slice_get c.methods x.body.method ≡ Some m
         → IsWrittenMethod names c (twin_class names array c works pool places) (code_places pool places) array m (twin_method c.pool code m (Some x)) x.body x.states x.first
     unfolding twin_class
     written_at m there = record {
@@ -286,7 +298,7 @@ module _ (id : ℕ) (names : Names) (array : ℕ) (works : List BodyWithStates) 
 
   -- ---- a method without code
 
-  none_at : (number : ℕ) (m : Member) → slice_get c.methods number ≡ Some m → work_of number works ≡ None → HasNoCode pool m
+  pub none_at : (number : ℕ) (m : Member) → slice_get c.methods number ≡ Some m → work_of number works ≡ None → HasNoCode pool m
   none_at number m there none = by (are.bodies.all number (slice_get_within c.methods number m there))
     where
       by : Bodiless c number ⊎ IsListed (bodies_of works) number → HasNoCode pool m
@@ -298,7 +310,7 @@ module _ (id : ℕ) (names : Names) (array : ℕ) (works : List BodyWithStates) 
 
   -- ---- the added method
 
-  abbrev added_places : AddedPlaces
+  abbrev pub added_places : AddedPlaces
   added_places = record {
     field = places.field;
     id = places.id;
@@ -357,7 +369,7 @@ module _ (id : ℕ) (names : Names) (array : ℕ) (works : List BodyWithStates) 
       own : Attribute
       own = attribute places.code (init_text (init_places places) places.frames places.array (all_probes (bodies_of works)))
 
-  added_method : IsAddedMethod (twin_class names array c works pool places) (name_of c) (signed_id id) (all_probes (bodies_of works)) added_places
+  pub added_method : IsAddedMethod (twin_class names array c works pool places) (name_of c) (signed_id id) (all_probes (bodies_of works)) added_places
       (init_member places (all_probes (bodies_of works)))
   unfolding twin_class
   added_method = record {
@@ -425,12 +437,27 @@ module _ (id : ℕ) (names : Names) (array : ℕ) (works : List BodyWithStates) 
         added = subst (IsAddedMethod (twin_class names array c works pool places) (name_of c) (signed_id id) count added_places) last.1 added_method;
       }))
 
-methods_so : (names : Names) (array : ℕ) (c : ClassFile) (works : List BodyWithStates) (pool : PoolValue) (places : MemberPlaces)
+pub methods_so : (names : Names) (array : ℕ) (c : ClassFile) (works : List BodyWithStates) (pool : PoolValue) (places : MemberPlaces)
     → (twin_class names array c works pool places).methods
     ≡ twin_methods c.pool (λ w. twin_code pool places.method places.frames names (emitted_of array w)) works c.methods
     ++ init_member places (all_probes (bodies_of works)) ∷ []
 unfolding twin_class
 methods_so names array c works pool places = refl
+
+-- the method with a number has its instrumented code, if it has any
+pub method_there : (names : Names) (array : ℕ) (c : ClassFile) (works : List BodyWithStates) (pool : PoolValue) (places : MemberPlaces) (number : ℕ) (m : Member)
+    → slice_get c.methods number ≡ Some m
+    → slice_get (twin_class names array c works pool places).methods number
+    ≡ Some (twin_method c.pool (λ w. twin_code pool places.method places.frames names (emitted_of array w)) m (work_of number works))
+method_there names array c works pool places number m there =
+    let code : BodyWithStates → List ℕ = λ y. twin_code pool places.method places.frames names (emitted_of array y) in
+    let same : 0 + number ≡ number = omega arith in
+    let own : slice_get (twin_methods c.pool code works c.methods) number ≡ Some (twin_method c.pool code m (work_of number works)) =
+    mapped_at (λ n method. twin_method c.pool code method (work_of n works)) 0 number c.methods m there
+    ∙ ap (λ (n : ℕ). Some (twin_method c.pool code m (work_of n works))) same in
+    ap (λ (l : List Member). slice_get l number) (methods_so names array c works pool places)
+    ∙ put_stays (twin_methods c.pool code works c.methods) (init_member places (all_probes (bodies_of works)))
+    (twin_method c.pool code m (work_of number works)) number own
 
 -- each method of the twin class that is written has no code, or its instrumented code, or is the added one
 pub written_methods : (id : ℕ) (names : Names) (array : ℕ) (works : List BodyWithStates) (c twin : ClassFile) (w : IsWritten id names array works c twin)
@@ -469,13 +496,9 @@ texts_short id names array works c twin w is number x found =
     let body = w.are.bodies.each h.index x.body (body_at works h.index x h.stands) in
     let m = body.method in
     let there : slice_get c.methods number ≡ Some m = ap (slice_get c.methods) (sym h.number_is) ∙ body.at in
-    let same : 0 + number ≡ number = omega arith in
-    let own : slice_get (twin_methods c.pool code works c.methods) number ≡ Some (twin_method c.pool code m (Some x)) =
-    mapped_at (λ n method. twin_method c.pool code method (work_of n works)) 0 number c.methods m there
-    ∙ ap (λ (n : ℕ). Some (twin_method c.pool code m (work_of n works))) same ∙ ap (λ (o : Option BodyWithStates). Some (twin_method c.pool code m o)) found in
     let among : slice_get twin.methods number ≡ Some (twin_method c.pool code m (Some x)) =
     ap (λ (t : ClassFile). slice_get t.methods number) w.is
-    ∙ ap (λ (l : List Member). slice_get l number) (methods_so names array c works w.pool w.places)
-    ∙ put_stays (twin_methods c.pool code works c.methods) (init_member w.places (all_probes (bodies_of works))) (twin_method c.pool code m (Some x)) number own in
+    ∙ method_there names array c works w.pool w.places number m there
+    ∙ ap (λ (o : Option BodyWithStates). Some (twin_method c.pool code m o)) found in
     let member = all_at (IsMember (HasText twin.pool) (HasMethodDescriptor twin.pool)) twin.methods number (twin_method c.pool code m (Some x)) is.methods.each among in
     code_short c.pool (HasText twin.pool) (code x) body.is.is.items.bytes m.attributes member.attributes.each body.is.is.items.code.single

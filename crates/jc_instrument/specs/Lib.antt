@@ -12,7 +12,7 @@ pub mod BodiesWithStates
 pub mod Needed
 pub mod TwinText
 pub mod Verified
-pub mod TwinClass
+pub mod SameOutside
 pub mod RoomCauses
 pub mod Room
 pub mod Refused

@@ -3,8 +3,6 @@ use Rattle.std.specs.Prelude.{◌≡◌, ℕ, ◌≤◌, List, [], ◌∷◌, �
 use Rattle.jc_methods.specs.VerificationTypes.{Names}
 use Rattle.jc_bytes.specs.PlainLists.{map_from}
 use Rattle.jc_pool.specs.Pool.{PoolValue}
-use Rattle.jc_class.specs.ClassId.{class_id}
-use Rattle.jc_class.specs.ClassText.{ClassText}
 use Rattle.jc_class.specs.declared.class_file.Attribute.{Attribute}
 use Rattle.jc_class.specs.declared.class_file.ClassFile.{ClassFile}
 use Rattle.jc_class.specs.declared.class_file.Member.{Member}
@@ -87,14 +85,3 @@ pub record IsWrittenUnder (id : ℕ) (names : Names) (c twin : ClassFile) : Type
   pub array : ℕ
   pub works : List BodyWithStates
   pub written : IsWritten id names array works c twin
-
--- the bytes are a class, and the text is that of the twin class that is written for it
-pub record IsTwinText (bytes text : List ℕ) : Type 0 where
-  pub file : ClassFile
-  pub file_is : ClassText bytes file
-  pub names : Names
-  pub array : ℕ
-  pub works : List BodyWithStates
-  pub twin : ClassFile
-  pub written : IsWritten (class_id bytes) names array works file twin
-  pub text_is : ClassText text twin

@@ -5,13 +5,15 @@ ghost use Rattle.jc_methods.specs.VerificationTypes.{Names};
 ghost use Rattle.jc_bytes.specs.declared.refusal.Refusal.{Refusal};
 ghost use Rattle.jc_pool.specs.Pool.{PoolValue};
 ghost use Rattle.jc_class.specs.declared.class_file.ClassFile.{ClassFile as Class};
+ghost use Rattle.jc_instrument.specs.Analysis.{all_probes};
 ghost use Rattle.jc_instrument.specs.Contents.{Content, TakesEach, IsOfClass};
 ghost use Rattle.jc_instrument.specs.GrownPool.{IsGrown};
+ghost use Rattle.jc_instrument.specs.Needed.{needs_of};
 ghost use Rattle.jc_instrument.specs.Reasons.{AnalysisReason};
 ghost use Rattle.jc_instrument.specs.Refused.{Reason, IsAccepted};
-ghost use Rattle.jc_instrument.specs.TwinClass.{IsSameOutside};
+ghost use Rattle.jc_instrument.specs.SameOutside.{IsSameOutside};
 ghost use Rattle.jc_instrument.specs.TwinText.{IsWritten};
-ghost use Rattle.jc_instrument.specs.BodiesWithStates.{BodyWithStates};
+ghost use Rattle.jc_instrument.specs.BodiesWithStates.{BodyWithStates, bodies_of};
 
 /// A class file that isn't analysed isn't instrumented, for the same reason; so one that is accepted is analysed. What
 /// is accepted has no reason for which it isn't instrumented.
@@ -41,5 +43,5 @@ pub fn each_class_has_one_twin()
     ensures one { (id array other : ℕ) (names others : Names) (works more : List BodyWithStates) (c twin same : Class)
         → IsWritten id names array works c twin → IsWritten id others other more c same → twin ≡ same }
     ensures outside { (id array : ℕ) (names : Names) (works : List BodyWithStates) (c twin : Class)
-        → IsWritten id names array works c twin → IsSameOutside id names array works c twin }
+        → IsWritten id names array works c twin → IsSameOutside id (needs_of id names array c works) (all_probes (bodies_of works)) c twin }
 {}

@@ -406,7 +406,7 @@ module _ (bytes : List ℕ) (c : ClassFile) (text : ClassText bytes c) (is : IsC
     unfolding twin_class
     twin_text =
         class_spelled twin
-        (twin_is_class id w.names w.array w.works c twin is room (same_outside id w.names w.array w.works c twin written) (short_in twin.methods fit))
+        (twin_is_class id (needs_of id w.names w.array c w.works) (all_probes (bodies_of w.works)) c twin is room (same_outside id w.names w.array w.works c twin written) (short_in twin.methods fit))
         (record {
           minor = given.minor;
           major = given.major;

@@ -29,7 +29,7 @@ write_class-requires c =
     let class = c.args.class in
     let w = c.in_ok-twin.ensures.twin in
     let none = c.in_ok-probed.ensures.probed.no_cause in
-    twin_is_class c.args.id _ w.array w.works class c.in_ok-twin.twin c.requires.class
+    twin_is_class c.args.id _ _ class c.in_ok-twin.twin c.requires.class
     (λ full. none.1.1.1.1.1.1.0 _ (record { full = full; refusal = refl }))
     (same_outside c.args.id _ w.array w.works class c.in_ok-twin.twin w.written)
     (are_short c.in_ok-twin.twin.methods (sym (ap (list_any has_too_long) c.deref-2.ensures) ∙ sym c.some_too_long.ensures ∙ c.if-some_too_long.false))

@@ -1,22 +1,17 @@
--- The twin of a class: the same class with its probes, and one more field and method.
-use Rattle.std.specs.Prelude.{◌≡◌, ◌⊎◌, ⊤, ℕ, ℤ, List, [], ◌∷◌, ◌++◌, Some, codes, slice_get}
-use Rattle.jc_methods.specs.VerificationTypes.{Names}
-use Rattle.jc_methods.specs.declared.body.Body.{Body}
+-- What stays of a class that gets its probes, and what is added to it.
+use Rattle.std.specs.Prelude.{◌≡◌, ◌⊎◌, ⊤, ℕ, ℤ, List, [], ◌∷◌, ◌++◌, Some, codes}
 use Rattle.jc_pool.specs.Lookup.{utf8_of, class_name_of, string_of, long_of, member_of}
 use Rattle.jc_pool.specs.Pool.{PoolValue}
 use Rattle.jc_class.specs.declared.class_file.Attribute.{Attribute}
 use Rattle.jc_class.specs.declared.class_file.ClassFile.{ClassFile}
 use Rattle.jc_class.specs.declared.class_file.Member.{Member}
-use Rattle.jc_body.specs.BodyOf.{BodyOfAnySize}
 use Rattle.jc_emit.specs.Added.{InitPlaces}
 use Rattle.jc_methods.specs.ProbeMembers.{data_name, data_type, data_flags, init_name, init_type, init_flags}
-use Rattle.jc_emit.specs.Twin.{Twin}
-use Rattle.jc_plan.specs.Analysed.{all_probes}
+use Rattle.jc_instrument.specs.Contents.{Content}
 use Rattle.jc_instrument.specs.GrownPool.{IsGrown}
 use Rattle.jc_code.specs.InitText.{init_text}
-use Rattle.jc_instrument.specs.Needed.{name_of, signed_id, needs_of}
+use Rattle.jc_instrument.specs.Needed.{name_of, signed_id}
 use Rattle.jc_verify.specs.Written.{data_field, fetch_method}
-use Rattle.jc_instrument.specs.BodiesWithStates.{BodyWithStates, bodies_of, AreBodiesWithStates}
 
 -- ---- what stays
 
@@ -70,18 +65,11 @@ pub record IsInitMethod (pool : PoolValue) (owner : List ℕ) (id : ℤ) (count 
   pub frames_are : utf8_of pool frames ≡ Some (codes "StackMapTable")
   pub array_is : class_name_of pool array ≡ Some data_type
 
--- ---- the bodies
-
--- The twin of a body is the body of the method with its number, whatever the number of its instructions times its slots is.
-pub record HasTwin (names new_names : Names) (twin : ClassFile) (w : BodyWithStates) : Type 0 where
-  pub body : Body
-  pub is : BodyOfAnySize new_names twin w.body.method body
-  pub twin_is : Twin names new_names w.states w.first w.body body
-
 -- ---- the class
 
--- Outside of code the two are the same, but for what is needed of the pool, one more field and one more method.
-pub record IsSameOutside (id : ℕ) (names : Names) (array : ℕ) (works : List BodyWithStates) (c twin : ClassFile) : Type 0 where
+-- Outside of code the two are the same, but for these needs of the pool, one more field, and one more method, which gives the
+-- array of so many probes of the class with this id.
+pub record IsSameOutside (id : ℕ) (needs : List Content) (count : ℕ) (c twin : ClassFile) : Type 0 where
   pub minor : twin.minor ≡ c.minor
   pub major : twin.major ≡ c.major
   pub flags : twin.flags ≡ c.flags
@@ -89,7 +77,7 @@ pub record IsSameOutside (id : ℕ) (names : Names) (array : ℕ) (works : List 
   pub super_class : twin.super_class ≡ c.super_class
   pub interfaces : twin.interfaces ≡ c.interfaces
   pub attributes : twin.attributes ≡ c.attributes
-  pub pool : IsGrown c.pool twin.pool (needs_of id names array c works)
+  pub pool : IsGrown c.pool twin.pool needs
   pub field : Member
   pub fields : twin.fields ≡ c.fields ++ field ∷ []
   pub field_is : IsDataField twin.pool field
@@ -97,14 +85,4 @@ pub record IsSameOutside (id : ℕ) (names : Names) (array : ℕ) (works : List 
   pub method : Member
   pub methods : twin.methods ≡ kept ++ method ∷ []
   pub kept_are : AreKeptMethods c.pool c.methods kept
-  pub method_is : IsInitMethod twin.pool (name_of c) (signed_id id) (all_probes (bodies_of works)) method
-
--- the twin of a class with this id
-pub record TwinClass (id : ℕ) (c twin : ClassFile) : Type 0 where
-  pub names : Names
-  pub new_names : Names
-  pub array : ℕ
-  pub works : List BodyWithStates
-  pub are : AreBodiesWithStates names array c works
-  pub outside : IsSameOutside id names array works c twin
-  pub twins : (i : ℕ) (w : BodyWithStates) → slice_get works i ≡ Some w → HasTwin names new_names twin w
+  pub method_is : IsInitMethod twin.pool (name_of c) (signed_id id) count method
