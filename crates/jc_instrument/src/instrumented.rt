@@ -5,7 +5,7 @@ ghost use Rattle.jc_methods.specs.VerificationTypes.{Names};
 ghost use Rattle.jc_bytes.specs.declared.refusal.Refusal.{Refusal};
 ghost use Rattle.jc_pool.specs.Pool.{PoolValue};
 ghost use Rattle.jc_class.specs.declared.class_file.ClassFile.{ClassFile as Class};
-ghost use Rattle.jc_instrument.specs.Analysis.{all_probes};
+ghost use Rattle.jc_plan.specs.Analysed.{all_probes};
 ghost use Rattle.jc_instrument.specs.Contents.{Content, TakesEach, IsOfClass};
 ghost use Rattle.jc_instrument.specs.GrownPool.{IsGrown};
 ghost use Rattle.jc_instrument.specs.Needed.{needs_of};

@@ -15,3 +15,6 @@ pub mod WrittenBytesLaws
 pub mod ReadClassLaws
 pub mod TwinSpellingLaws
 pub mod EachFileLaws
+pub mod TwinBodiesLaws
+pub mod AddedBodyLaws
+pub mod TwinClassLaws

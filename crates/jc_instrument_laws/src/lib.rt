@@ -3,4 +3,4 @@
 
 mod laws;
 
-pub use laws::each_class_file_becomes_one;
+pub use laws::{each_changed_file_is_a_twin_class, each_class_file_becomes_one};

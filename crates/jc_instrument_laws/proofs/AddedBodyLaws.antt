@@ -1,0 +1,73 @@
+-- The body of the added method, under names that have a number for the class of the probe array.
+use Rattle.std.proofs.Common.{◌≡◌, ◌⊎◌, inl, inr, ℕ, ℤ, ◌<◌, ◌≤◌, List, [], ◌∷◌, length, map, refl, sym, ◌∙◌, ap, arith}
+use Rattle.std.proofs.lemmas.Bool.{cases_lt}
+use Rattle.std.proofs.lemmas.List.{get_or_past}
+use Rattle.jc_methods.specs.VerificationTypes.{AreNumberedFrames, Names, object, type_state_at}
+use Rattle.jc_methods.specs.declared.body.Body.{Body}
+use Rattle.jc_methods.specs.declared.body.FrameAt.{FrameAt}
+use Rattle.jc_methods.specs.declared.kind.Kind.TheVariants as kinds
+use Rattle.jc_class.specs.declared.class_file.ClassFile.{ClassFile}
+use Rattle.jc_class.specs.declared.class_file.Member.{Member}
+use Rattle.jc_body.specs.BodyOf.{IsBodyOfAnySize}
+use Rattle.jc_body.specs.Faults.{faults_of_any_size}
+use Rattle.jc_code.specs.declared.init.AddedPlaces.{AddedPlaces}
+use Rattle.jc_emit.specs.Added.{end_place, IsInitBody}
+use Rattle.jc_emit.specs.Emission.{IsArrayNumber}
+use Rattle.jc_verify.specs.Written.{IsAddedMethod}
+use Rattle.jc_verify.proofs.InitAgainLaws.{init_body, init_is, init_is_body, init_names}
+use Rattle.jc_instrument.proofs.OneBodyLaws.{reframed}
+
+-- the number is one of the names
+array_within : (names : Names) (array : ℕ) → IsArrayNumber names array → array < length names
+array_within names array is = by (cases_lt array (length names))
+  where
+    by : (array < length names) ⊎ (length names ≤ array) → array < length names
+    by (inl within) = within
+    by (inr past) = let none = ap (λ (name : List ℕ). length name) (sym (get_or_past names array [] past) ∙ is) in absurd (omega (arith, none))
+
+module _ (names : Names) (array : ℕ) (array_is : IsArrayNumber names array) (twin : ClassFile) (owner : List ℕ) (id : ℤ) (count : ℕ) (p : AddedPlaces)
+    (method : Member) (w : IsAddedMethod twin owner id count p method) (number : ℕ) where
+  -- its one frame has the array on the stack
+  abbrev frames : List FrameAt
+  frames = record { at = end_place; state = record { locals = []; stack = kinds.Object array ∷ [] } } ∷ []
+
+  abbrev old : Body
+  old = init_body twin owner id count p method w number
+
+  abbrev pub added_body : Body
+  added_body = record (init_body twin owner id count p method w number) { frames = frames }
+
+  frames_same : map (type_state_at names) frames ≡ map (type_state_at (init_names twin owner id count p method w)) old.frames
+  frames_same = λ i. record { at = end_place; state = record { locals = []; stack = object (array_is i) ∷ [] } } ∷ []
+
+  numbered : AreNumberedFrames (length names) frames
+  numbered = (record { locals = tt; stack = (array_within names array array_is, tt) }, tt)
+
+  pub added_is_body : IsBodyOfAnySize names twin number method added_body
+  added_is_body =
+      reframed (init_names twin owner id count p method w) names twin number method (faults_of_any_size twin.major twin.pool owner method) old frames frames_same numbered
+      (init_is_body twin owner id count p method w number)
+
+  pub added_init : IsInitBody names owner id count added_body
+  added_init =
+      let is = init_is twin owner id count p method w number in
+      record {
+        places = is.places;
+        owner = is.owner;
+        name = is.name;
+        desc = is.desc;
+        flags = is.flags;
+        arg_slots = is.arg_slots;
+        max_stack = is.max_stack;
+        max_locals = is.max_locals;
+        code = is.code;
+        handlers = is.handlers;
+        lines = is.lines;
+        vars = is.vars;
+        kind_vars = is.kind_vars;
+        frames = record { frame = _; single = refl; at = refl; state = λ i. record { locals = []; stack = object (array_is i) ∷ [] } };
+        field_is = is.field_is;
+        id_is = is.id_is;
+        name_is = is.name_is;
+        fetch_is = is.fetch_is;
+      }
