@@ -5,4 +5,3 @@ pub mod Followed
 pub mod Planned
 pub mod Sums
 pub mod Lines
-pub mod WorkedExamples

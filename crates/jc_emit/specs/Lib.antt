@@ -15,7 +15,6 @@ pub mod Ranks
 pub mod Added
 pub mod TwinProgram
 pub mod SeenProgram
-pub mod WorkedExamples
 pub mod Placing
 pub mod Written
 pub mod Tables

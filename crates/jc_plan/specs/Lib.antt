@@ -5,7 +5,6 @@ pub mod Entries
 pub mod Probed
 pub mod Plan
 pub mod InsnFacts
-pub mod WorkedExamples
 pub mod Leading
 pub mod ByBranch
 pub mod Analysed

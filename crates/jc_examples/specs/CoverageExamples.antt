@@ -5,7 +5,7 @@ use Rattle.jc_methods.specs.Opcode as opcode
 use Rattle.jc_methods.specs.declared.insn.Insn.TheVariants as insns
 use Rattle.jc_methods.specs.declared.body.LineAt.{LineAt}
 use Rattle.jc_methods.specs.declared.body.Body.{Body}
-use Rattle.jc_plan.specs.WorkedExamples.{nop, iconst_1, iconst_2, imul, ireturn, areturn, return, iload, aload, line_at, body, abs}
+use Rattle.jc_examples.specs.BodyExamples.{nop, iconst_1, iconst_2, imul, ireturn, areturn, return, iload, aload, line_at, body, abs}
 use Rattle.jc_cover.specs.Marking.{coverage_of}
 use Rattle.jc_cover.specs.Counters.{counters_of}
 use Rattle.jc_cover.specs.declared.coverage.Count.{Count}
