@@ -103,7 +103,7 @@ module _ {S : Type 0} where
 
 -- what a look finds that lends a value
 pub lent_some : (r : Option (Bor Effect)) (e : Effect) → option_copied r ≡ Some e → IsSome r
-lent_some (Some b) e is = tt
+lent_some (Some b) e is = refl
 lent_some None e is = absurd (none-some e is)
 
 pub lent_is : (r : Option (Bor Effect)) (b : Bor Effect) (e : Effect) → r ≡ Some b → option_copied r ≡ Some e → b.now ≡ e

@@ -1,5 +1,5 @@
 -- What an instruction chooses is one of its branches.
-use Rattle.std.proofs.Common.{◌≡◌, ◌⊎◌, inl, inr, ⊎_elim, ℕ, ℤ, zero, suc, ◌+◌, Bool, true, false, cond, not, ◌&&◌, List, [], ◌∷◌, map, length, Option, Some, None, refl, sym, ap, ◌∙◌, subst, arith, nat_eq, get_or}
+use Rattle.std.proofs.Common.{◌≡◌, ◌⊎◌, inl, inr, ⊎_elim, ℕ, ℤ, zero, suc, ◌+◌, Bool, true, false, cond, not, ◌&&◌, List, [], ◌∷◌, map, length, Option, Some, None, refl, sym, ap, ◌∙◌, subst, arith, nat_eq, get_or, zero-add}
 use Rattle.std.specs.Prelude.{slice_get, Contains, int_lt, int_le, unsigned_abs, ◌-ℤ◌}
 use Rattle.std.specs.List.{position_or_len}
 use Rattle.std.proofs.lemmas.Bool.{eqb-true, eqb-false}
@@ -45,16 +45,17 @@ in_or_default (x ∷ xs) (suc n) d =
 
 arm_listed : (default : ℕ) (arms : List Arm) (k : ℤ) → Contains (default ∷ map (λ (a : Arm). a.to) arms) (lookup_target default arms k)
 arm_listed default [] k = first_in default []
-arm_listed default (a ∷ arms) k = by (int_le a.key k && int_le k a.key)
+arm_listed default (a ∷ arms) k = by (int_le a.key k && int_le k a.key) (arm_listed default arms k)
   where
-    by : (b : Bool) → Contains (default ∷ a.to ∷ map (λ (b : Arm). b.to) arms) (cond b a.to (lookup_target default arms k))
-    by true = later_in default (a.to ∷ map (λ (b : Arm). b.to) arms) a.to (first_in a.to (map (λ (b : Arm). b.to) arms))
-    by false =
-        let to = lookup_target default arms k in
+    by : (b : Bool) → Contains (default ∷ map (λ (b : Arm). b.to) arms) (lookup_target default arms k) → Contains (default ∷ a.to ∷ map (λ (b : Arm). b.to) arms) (cond b a.to (lookup_target default arms k))
+    by true c = later_in default (a.to ∷ map (λ (b : Arm). b.to) arms) a.to (first_in a.to (map (λ (b : Arm). b.to) arms))
+    by false c =
         ⊎_elim
         (λ same. subst (Contains (default ∷ a.to ∷ map (λ (b : Arm). b.to) arms)) same (first_in default (a.to ∷ map (λ (b : Arm). b.to) arms)))
-        (λ later. later_in default (a.to ∷ map (λ (b : Arm). b.to) arms) to (later_in a.to (map (λ (b : Arm). b.to) arms) to later))
-        (which_in default (map (λ (b : Arm). b.to) arms) to (arm_listed default arms k))
+        (λ later.
+        later_in default (a.to ∷ map (λ (b : Arm). b.to) arms) (lookup_target default arms k)
+        (later_in a.to (map (λ (b : Arm). b.to) arms) (lookup_target default arms k) later))
+        (which_in default (map (λ (b : Arm). b.to) arms) (lookup_target default arms k) c)
 
 -- a key leads to one of the switch's targets
 key_listed : (insn : Insn) → flow_of insn ≡ flows.Switches → (k : ℤ) → Contains (targets_of insn) (key_target insn k)
@@ -83,19 +84,20 @@ key_listed insn flow k = absurd (other flow)
 -- the arm to a target has the target's place among the distinct ones
 arm_in : (i k : ℕ) (targets : List ℕ) (to : ℕ) → Contains targets to → Contains (map_from (arm i) k targets) (arm i (k + position_or_len (nat_eq to) targets) to)
 arm_in i k [] to c = absurd (none_in to c)
-arm_in i k (t ∷ targets) to c = by (nat_eq to t) refl
+arm_in i k (t ∷ targets) to c = by (nat_eq to t) refl (arm_in i (k + 1) targets to)
   where
-    by : (b : Bool) → nat_eq to t ≡ b → Contains (arm i k t ∷ map_from (arm i) (k + 1) targets) (arm i (k + cond (not b) (1 + position_or_len (nat_eq to) targets) 0) to)
-    by true e =
+    by : (b : Bool) → nat_eq to t ≡ b → (Contains targets to → Contains (map_from (arm i) (k + 1) targets) (arm i (k + 1 + position_or_len (nat_eq to) targets) to))
+        → Contains (arm i k t ∷ map_from (arm i) (k + 1) targets) (arm i (k + cond (not b) (1 + position_or_len (nat_eq to) targets) 0) to)
+    by true e behind =
         let here : k ≡ k + 0 = omega arith in
         subst (Contains (arm i k t ∷ map_from (arm i) (k + 1) targets)) (λ j. arm i (here j) (sym (eqb-true to t e) j)) (first_in (arm i k t) (map_from (arm i) (k + 1) targets))
-    by false e =
+    by false e behind =
         let there : k + 1 + position_or_len (nat_eq to) targets ≡ k + (1 + position_or_len (nat_eq to) targets) = omega arith in
-        let x = arm i (k + 1 + position_or_len (nat_eq to) targets) to in
         ⊎_elim
         (λ same. absurd (eqb-false to t e (sym same)))
-        (λ later. subst (Contains (arm i k t ∷ map_from (arm i) (k + 1) targets)) (ap (λ n. arm i n to) there)
-        (later_in (arm i k t) (map_from (arm i) (k + 1) targets) x (arm_in i (k + 1) targets to later)))
+        (λ later.
+        subst (Contains (arm i k t ∷ map_from (arm i) (k + 1) targets)) (ap (λ n. arm i n to) there)
+        (later_in (arm i k t) (map_from (arm i) (k + 1) targets) (arm i (k + 1 + position_or_len (nat_eq to) targets) to) (behind later)))
         (which_in t targets to c)
 
 -- ---- branches
@@ -120,7 +122,8 @@ chosen_in insn i outcome x e = by (flow_of insn) refl outcome e
     by flows.Jumps flow one_way e = subst (Lists insn i flows.Jumps) (same_Some (jump i (jump_target insn)) x e) (jumps (inr flow) (jumps_one insn flow))
     by flows.Switches flow (key k) e =
         subst (Lists insn i flows.Switches) (same_Some (arm_to i (targets_of insn) (key_target insn k)) x e)
-        (arm_in i 0 (first_seen (targets_of insn)) (key_target insn k) (first_seen_all (targets_of insn) (key_target insn k) (key_listed insn flow k)))
+        (subst (λ (n : ℕ). Contains (map_from (arm i) 0 (first_seen (targets_of insn))) (arm i n (key_target insn k))) (zero-add (position_or_len (nat_eq (key_target insn k)) (first_seen (targets_of insn))))
+        (arm_in i 0 (first_seen (targets_of insn)) (key_target insn k) (first_seen_all (targets_of insn) (key_target insn k) (key_listed insn flow k))))
     by flows.Returns flow one_way e = subst (Lists insn i flows.Returns) (same_Some (exit i) x e) (first_in (exit i) [])
     by flows.Throws flow one_way e = subst (Lists insn i flows.Throws) (same_Some (exit i) x e) (first_in (exit i) [])
     by flow is outcome e = absurd cc
@@ -153,8 +156,8 @@ chosen_leads i insn outcome x e = by (flow_of insn) outcome e
 pub condition_chooses : (i : ℕ) (insn : Insn) (x y : Branch) → chosen i insn (condition true) ≡ Some x → chosen i insn (condition false) ≡ Some y → x ≡ y → ⊥
 condition_chooses i insn x y p q same = by (flow_of insn) p q
   where
-    apart : 1 ≡ 0 → ⊥
-    apart e = absurd (omega (arith, e))
+    apart : suc zero ≡ zero → ⊥
+    apart e = omega (arith, e)
 
     by : (flow : Flow) → chosen_by flow i insn (condition true) ≡ Some x → chosen_by flow i insn (condition false) ≡ Some y → ⊥
     by flows.Branches p q =
