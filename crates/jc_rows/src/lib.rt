@@ -1,0 +1,8 @@
+//! What no row of the programs `vectors_..` can say: real files and texts, and files and writers that behave otherwise than
+//! those in memory.
+#![tactic(auto)]
+
+#[cfg(test)]
+mod fakes;
+#[cfg(test)]
+mod real;
