@@ -23,7 +23,7 @@ use Rattle.jc_after.proofs.ShiftLaws.{map-insert}
 use Rattle.jc_emit.specs.Shift.{shifted_state, image_kind, probe_array_class}
 use Rattle.jc_emit.specs.Sizes.{insn_at, late_by, late_probe, arms_at, probe_size, hop_size, arm_sizes}
 use Rattle.jc_emit.specs.TwinCode.{to_of, arm_place}
-use Rattle.jc_emit.specs.TwinFrames.{state_at, left_by, IsNarrowFrame, AreTwinFrames}
+use Rattle.jc_emit.specs.TwinFrames.{state_at, left_by, IsNarrowFrame, IsFrame, AreTwinFrames}
 use Rattle.jc_emit.specs.Items.{lead_of, land_of, image_of}
 use Rattle.jc_emit.specs.Emission.{frame, frame_if, moved_state, has_frame, has_inverse, arm_frame, arm_frames, frames_at}
 use Rattle.jc_emit.proofs.OthersLaws.{Arms, Agrees, agrees_first, agrees_rest, arms_by_list, none_some}
@@ -301,3 +301,19 @@ module _ (b : Body) (first : ℕ) (states : List State) (array : ℕ) (names : L
 
   pub frames_told : AreTwinFrames names names b.arg_slots (image_of b first false) Asked (pieces part (length b.code))
   frames_told = record { rising = all_rise; each = each_good; every = every_there }
+
+  -- so they are the frames of the narrow layout
+  pub layout_told : AreTwinFrames names names b.arg_slots (image_of b first false) (IsFrame b first states (image_of b first false) (land_of b first false) (lead_of b first false) false) (pieces part (length b.code))
+  layout_told = record {
+    rising = all_rise;
+    each = λ f c. let good = each_good f c in (good.0, inl good.1, good.2);
+    every = λ q s asked. by q s asked;
+  }
+    where
+      false_true : false ≡ true → ⊥
+      false_true e = cc
+
+      by : (q : ℕ) (s : State) → IsFrame b first states (image_of b first false) (land_of b first false) (lead_of b first false) false q s
+          → (f : FrameAt) × Contains (pieces part (length b.code)) f × (f.at ≡ q) × (type_state names f.state ≡ shifted (image_of b first false) b.arg_slots (type_state names s))
+      by q s (inl asked) = every_there q s asked
+      by q s (inr wide) = absurd (false_true wide.layout)

@@ -16,10 +16,10 @@ use Rattle.jc_plan.specs.declared.branch.Branch.{Branch}
 use Rattle.jc_plan.specs.Edges.{place_of, sequence, jump, branches_by}
 use Rattle.jc_plan.specs.Probed.{probe_of}
 use Rattle.jc_plan.specs.Plan.{lead_probe}
-use Rattle.jc_bytes.proofs.FirstSeenLaws.{first_seen_listed, first_seen_distinct}
+use Rattle.jc_bytes.proofs.FirstSeenLaws.{first_seen_listed}
 use Rattle.jc_plan.proofs.ListedLaws.{all_listed}
 use Rattle.jc_plan.proofs.ByBranchLaws.{last_parts}
-use Rattle.jc_emit.specs.Sizes.{insn_at, early_by, early_probe, late_by, late_probe, arms_by, arms_at, probe_size, hop_size, wide_by, behind_size}
+use Rattle.jc_emit.specs.Sizes.{insn_at, early_by, early_probe, late_by, late_probe, arms_at, probe_size, hop_size, wide_by, behind_size}
 use Rattle.jc_methods.specs.Widened.{inverted}
 use Rattle.jc_emit.specs.TwinCode.{to_of, here_or, arm_place}
 use Rattle.jc_emit.specs.Items.{Item, image, probe_array, hop, probe, lead_part, early_part, hop_part, arm_parts, test_part, segment_size, lead_of, land_of, image_of, tests_part, image_part, segment, twin_items}

@@ -17,7 +17,7 @@ use Rattle.jc_plan.specs.Probed.{probe_of}
 use Rattle.jc_plan.specs.Plan.{lead_probe}
 use Rattle.jc_emit.specs.Sizes.{insn_at, early_probe, arms_at, probe_size, wide_by}
 use Rattle.jc_emit.specs.TwinCode.{arm_place}
-use Rattle.jc_emit.specs.Items.{Item, image, insn_of, marks_of_items, prelude, lead_part, early_part, arm_parts, segment_size, lead_of, land_of, image_of, image_part, segment, twin_items}
+use Rattle.jc_emit.specs.Items.{image, insn_of, marks_of_items, prelude, lead_part, early_part, arm_parts, segment_size, land_of, image_of, image_part, segment, twin_items}
 use Rattle.jc_emit.specs.Twin.{Twin}
 use Rattle.jc_emit.proofs.BuiltLaws.{length_twin}
 use Rattle.jc_emit.proofs.KnownLaws.{code_known, marks_known}

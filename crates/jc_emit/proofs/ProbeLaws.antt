@@ -13,7 +13,6 @@ use Rattle.jc_methods.specs.declared.body.Body.{Body}
 use Rattle.jc_bytes.proofs.FirstSeenLaws.{contains_one}
 use Rattle.jc_bytes.proofs.BooleanLaws.{none_in, which_in}
 use Rattle.jc_plan.specs.declared.branch.Branch.{Branch}
-use Rattle.jc_plan.specs.declared.branch.Way.TheVariants as ways
 use Rattle.jc_plan.specs.Edges.{sequence, jump, exit, branches_by}
 use Rattle.jc_plan.specs.Probed.{probe_of, id_if, is_probed, id_of}
 use Rattle.jc_plan.proofs.OneIdLaws.{one_edge}
@@ -152,9 +151,9 @@ module _ (b : Body) (first : ℕ) (wide : Bool) (code : List Insn) (m : Marks) (
 
   in_prelude : (q id at : ℕ) → q < 2 → IsProbe code m b.arg_slots q id at → ⊥
   in_prelude zero id at lt p =
-      let e = same_Some (invokestatic call) (aload b.arg_slots) (sym s.prelude.fetch.insn_is ∙ p.array.insn_is) in cc
+      let e = same_Some (invokestatic call) (aload b.arg_slots) (sym s.prelude.first_insns.0.insn_is ∙ p.array.insn_is) in cc
   in_prelude (suc zero) id at lt p =
-      let e = same_Some 1 0 (sym s.prelude.store.extra_is ∙ p.array.extra_is) in omega (arith, e)
+      let e = same_Some 1 0 (sym s.prelude.first_insns.1.0.extra_is ∙ p.array.extra_is) in omega (arith, e)
   in_prelude (suc (suc q)) id at lt p = omega (arith, lt)
 
   -- how many values a probe has pushed tells which of its instructions this is
@@ -175,8 +174,8 @@ module _ (b : Body) (first : ℕ) (wide : Bool) (code : List Insn) (m : Marks) (
       let here : q ≡ place i.edge.branch = omega (arith, there, first_step) in
       record {
         edge = i.edge;
-        id_is = same_number i.edge.id id (same_Some (push i.edge.id) (push id)
-            (sym k.number.insn_is ∙ sym (ap (λ x. slice_get code (x + 1)) here) ∙ p.number.insn_is));
+        id_is = same_number i.edge.id id (sym k.pushes ∙ same_Some k.pusher p.pusher
+            (sym k.number.insn_is ∙ sym (ap (λ x. slice_get code (x + 1)) here) ∙ p.number.insn_is) ∙ p.pushes);
         place = here;
         owner = same_Some at _ (sym p.array.at_is ∙ ap (slice_get m.at) here ∙ k.array.at_is);
       }

@@ -1,7 +1,7 @@
 -- A twin is seen from each of its instructions.
 use Rattle.std.proofs.Common.{◌≡◌, ℕ, suc, ◌+◌, List, [], ◌∷◌, map, length, Some, None, refl, sym, ap, ap₂, ◌∙◌, subst, arith}
-use Rattle.std.specs.Prelude.{All}
-use Rattle.std.proofs.lemmas.List.{map-id}
+use Rattle.std.specs.Prelude.{All, slice_get}
+use Rattle.std.proofs.lemmas.List.{map-id, length-map}
 use Rattle.jc_bytes.specs.PlainLists.{map_from}
 use Rattle.jc_methods.specs.VerificationTypes.{Names}
 use Rattle.jc_methods.specs.WellMade.{IsHandler, IsWellMadeOfAnySize, what_used}
@@ -10,22 +10,40 @@ use Rattle.jc_methods.specs.declared.kind.State.{State}
 use Rattle.jc_methods.specs.declared.body.Body.{Body}
 use Rattle.jc_methods.specs.declared.body.Handler.{Handler}
 use Rattle.jc_plan.specs.Probed.{probe_of}
-use Rattle.jc_emit.specs.Items.{image, insn_of, twin_items, lead_of, land_of}
+use Rattle.jc_emit.specs.Items.{Item, init_call, init_store, image, probe_array, probe_id, probe_one, probe_store, hop, insn_of, twin_items, lead_of, land_of}
 use Rattle.jc_emit.specs.TwinTables.{moved_row}
 use Rattle.jc_emit.specs.Local.{OkRow, no_ids, unchanged_items}
 use Rattle.jc_emit.specs.Twin.{Twin}
-use Rattle.jc_emit.specs.Seen.{IsSeen, IsSeenUnchanged, unchanged_marks, OkRows}
+use Rattle.jc_emit.specs.Seen.{IsSeen, IsSeenUnchanged, IsInsnOf, AreInsnsOf, unchanged_marks, OkRows}
 use Rattle.jc_emit.specs.TwinProgram.{IsSameBody}
 use Rattle.jc_emit.proofs.KnownLaws.{code_known, marks_known, leads_known, lands_known}
+use Rattle.jc_emit.proofs.ToldLaws.{mapped}
 use Rattle.jc_emit.proofs.LocalLaws.{twin_ok}
 use Rattle.jc_emit.proofs.RowLaws.{row_ok}
-use Rattle.jc_emit.proofs.UnchangedLaws.{unchanged_ok, unchanged_row}
+use Rattle.jc_emit.proofs.UnchangedLaws.{unchanged_ok, unchanged_plain, unchanged_row}
 
 first_of_all : {X : Type 0} (P : X → Type 0) (x : X) (xs : List X) → All P (x ∷ xs) → P x
 first_of_all P x xs all = all 0 x (omega arith)
 
 rest_of_all : {X : Type 0} (P : X → Type 0) (x : X) (xs : List X) → All P (x ∷ xs) → All P xs
 rest_of_all P x xs all = λ k d lt. all (suc k) d (omega arith)
+
+insn_is : (call v : ℕ) (x : Item) → IsInsnOf call v x (insn_of call v x)
+insn_is call v init_call = refl
+insn_is call v init_store = refl
+insn_is call v (image insn at early) = refl
+insn_is call v (probe_array id at late) = refl
+insn_is call v (probe_id id at late) = refl
+insn_is call v (probe_one id at late) = refl
+insn_is call v (probe_store id at late) = refl
+insn_is call v (hop to at due) = refl
+
+-- code that is that of the items has the instruction of each
+insns_of : (call v : ℕ) (items : List Item) (code : List Insn) → code ≡ map (insn_of call v) items → AreInsnsOf call v items code
+insns_of call v items code is = record {
+  count = ap length is ∙ length-map items (insn_of call v);
+  each = λ q x h. (insn_of call v x, ap (λ l. slice_get l q) is ∙ mapped (insn_of call v) items q x h, insn_is call v x);
+}
 
 -- rows of which each is kept by what becomes of it
 rows_kept : (Kept : Handler → Handler → Type 0) (Is : Handler → Type 0) (new : Handler → Handler) → ((h : Handler) → Is h → Kept h (new h))
@@ -47,10 +65,11 @@ seen names new_names states first b b' well t =
       calls = t.calls;
       method = t.method;
       uses = t.uses;
-      code = code_known b first t.wide t.call b'.code t.marks well.code t.code;
+      code = insns_of t.call b.arg_slots (twin_items b first t.wide) b'.code (code_known b first t.wide t.call b'.code t.marks well.code t.code);
       at = ap (λ m. m.at) marks;
       own = ap (λ m. m.own) marks;
       extra = ap (λ m. m.extra) marks;
+      plain = tt;
       ok = twin_ok b first t.wide well.code;
       rows = subst (OkRows (OkRow b.code (Some b.arg_slots) (probe_of b first) (twin_items b first t.wide)) b.handlers) (sym rows)
           (rows_kept (OkRow b.code (Some b.arg_slots) (probe_of b first) (twin_items b first t.wide)) (IsHandler (length b.code)) (moved_row (lead_of b first t.wide) (land_of b first t.wide))
@@ -82,10 +101,11 @@ unchanged_seen names new_names b b' well same =
         arg_slots = ap (λ (x : Body). x.arg_slots) is;
       };
       uses = λ place what used. ap (λ (x : Body). what_used x.uses place) is ∙ used;
-      code = ap (λ (x : Body). x.code) is ∙ sym (same_insns b.code 0 b.arg_slots);
+      code = insns_of 0 b.arg_slots (unchanged_items b.code) b'.code (ap (λ (x : Body). x.code) is ∙ sym (same_insns b.code 0 b.arg_slots));
       at = refl;
       own = refl;
       extra = refl;
+      plain = unchanged_plain b.code;
       ok = unchanged_ok b.code well.code;
       rows = subst (OkRows (OkRow b.code None no_ids (unchanged_items b.code)) b.handlers) (map-id b.handlers ∙ sym (ap (λ (x : Body). x.handlers) is))
           (rows_kept (OkRow b.code None no_ids (unchanged_items b.code)) (IsHandler (length b.code)) (λ h. h) (unchanged_row b.code well.code) b.handlers well.handlers);

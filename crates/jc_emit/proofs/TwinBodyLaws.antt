@@ -17,7 +17,7 @@ use Rattle.jc_emit.specs.Emission.{frames_at, emission}
 use Rattle.jc_emit.specs.Twin.{probe_init, Twin}
 use Rattle.jc_emit.specs.TwinBody.{call_use, twin_body}
 use Rattle.jc_emit.proofs.WholeLaws.{code_told}
-use Rattle.jc_emit.proofs.FrameLaws.{frames_told}
+use Rattle.jc_emit.proofs.FrameLaws.{layout_told}
 use Rattle.jc_emit.proofs.WideFrameLaws.{at_own, tables}
 
 module _ (b : Body) (call : ℕ) (fresh : what_used b.uses call ≡ None) where
@@ -49,7 +49,7 @@ has_twin b first states array call names well fit named fresh = record {
   tables = tables b first states array names well fit named;
   frames =
       at_own b first states array names well fit named (λ image land lead. AreTwinFrames names names b.arg_slots image (IsFrame b first states image land lead false) (pieces (frames_at b first states array) (length b.code)))
-      (frames_told b first states array names well.code well.frames fit named);
+      (layout_told b first states array names well.code well.frames fit named);
   max_stack = refl;
   max_locals = refl;
 }

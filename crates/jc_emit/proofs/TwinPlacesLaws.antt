@@ -1,5 +1,5 @@
 -- Where frames of a twin stand, and which states they have.
-use Rattle.std.proofs.Common.{◌≡◌, ◌⊎◌, inl, inr, ⊎_elim, ℕ, zero, suc, ◌+◌, ◌<◌, ◌≤◌, Bool, true, false, List, [], ◌∷◌, length, Option, Some, None, refl, sym, ap, ◌∙◌, subst, arith, add-one, if◌then◌else◌, option_and_then}
+use Rattle.std.proofs.Common.{◌≡◌, ◌⊎◌, inl, inr, ⊎_elim, ℕ, zero, suc, ◌+◌, ◌<◌, ◌≤◌, Bool, true, List, [], ◌∷◌, length, Option, Some, None, refl, sym, ap, ◌∙◌, subst, arith, add-one, if◌then◌else◌, option_and_then}
 use Rattle.std.specs.Prelude.{slice_get, Contains}
 use Rattle.std.proofs.lemmas.Bool.{cases_lt}
 use Rattle.std.proofs.lemmas.Option.{slice_get-get_or, same_Some}
@@ -65,23 +65,14 @@ module _ (names new_names : Names) (states : List State) (first : ℕ) (wide : B
   Framed w q s = IsFrame b first states (image_of b first wide) (land_of b first wide) (lead_of b first wide) w q s
 
   which_frame : (w : Bool) (q : ℕ) (s : State) → Framed w q s → Narrow q s ⊎ ((w ≡ true) × Behind q s)
-  which_frame false q s a = inl a
-  which_frame true q s (inl a) = inl a
-  which_frame true q s (inr a) = inr (refl, a)
-
-  narrow_by : (w : Bool) (q : ℕ) (s : State) → Narrow q s → Framed w q s
-  narrow_by false q s a = a
-  narrow_by true q s a = inl a
+  which_frame w q s (inl a) = inl a
+  which_frame w q s (inr a) = inr (a.layout, a.behind)
 
   pub narrow : (q : ℕ) (s : State) → Narrow q s → Asked q s
-  narrow q s a = narrow_by wide q s a
-
-  behind_by : (w : Bool) (q : ℕ) (s : State) → w ≡ true → Behind q s → Framed w q s
-  behind_by true q s e a = inr a
-  behind_by false q s e a = cc
+  narrow q s a = inl a
 
   pub behind : (q : ℕ) (s : State) → wide ≡ true → Behind q s → Asked q s
-  behind q s e a = behind_by wide q s e a
+  behind q s e a = inr (record { behind = a; layout = e })
 
   -- ---- the states of the body
 

@@ -1,5 +1,5 @@
 -- An unchanged body goes on where it should: each instruction is its own image.
-use Rattle.std.proofs.Common.{◌≡◌, inl, inr, ⊎_elim, ℕ, zero, suc, ◌+◌, ◌<◌, List, [], ◌∷◌, map, length, Option, Some, None, refl, sym, ap, ◌∙◌, subst, arith, zero-add}
+use Rattle.std.proofs.Common.{◌≡◌, inl, inr, ⊎_elim, ℕ, zero, suc, ◌+◌, ◌<◌, true, List, [], ◌∷◌, map, length, Option, Some, None, refl, sym, ap, ◌∙◌, subst, arith, zero-add}
 use Rattle.std.specs.Prelude.{slice_get, Contains}
 use Rattle.std.specs.List.{AllByRecursion}
 use Rattle.std.proofs.lemmas.Bool.{cases_lt}
@@ -14,14 +14,13 @@ use Rattle.jc_methods.specs.declared.insn.Insn.{Insn}
 use Rattle.jc_methods.specs.declared.insn.Arm.{Arm}
 use Rattle.jc_methods.specs.declared.insn.Flow.{Flow}
 use Rattle.jc_methods.specs.declared.body.Handler.{Handler}
-use Rattle.jc_plan.specs.declared.branch.Branch.{Branch}
 use Rattle.jc_plan.specs.Edges.{branches_by}
 use Rattle.jc_bytes.proofs.FirstSeenLaws.{first_seen_listed}
 use Rattle.jc_plan.proofs.ListedLaws.{all_listed}
 use Rattle.jc_plan.proofs.ByBranchLaws.{last_parts}
 use Rattle.jc_emit.specs.Sizes.{insn_at, early_by}
 use Rattle.jc_emit.specs.TwinCode.{to_of}
-use Rattle.jc_emit.specs.Items.{Item, image, at_of}
+use Rattle.jc_emit.specs.Items.{Item, image, at_of, own_of}
 use Rattle.jc_emit.specs.Local.{Lands, Ok, OkImage, AllOk, OkRow, Holds, TestsAlike, no_ids, unchanged_items}
 use Rattle.jc_emit.proofs.OthersLaws.{tests_target, jumps_target, arm_listed}
 use Rattle.jc_emit.proofs.LocalLaws.{one_place}
@@ -75,6 +74,10 @@ item_got i (suc k) (y ∷ code) x h =
     let more = item_got (i + 1) k code x h in
     let e : i + 1 + k ≡ i + suc k = omega arith in
     (more.0, more.1, more.2 ∙ ap (λ j. image more.0 j None) e)
+
+-- there are images alone
+pub unchanged_plain : (code : List Insn) (q : ℕ) (x : Item) → slice_get (unchanged_items code) q ≡ Some x → own_of x ≡ true
+unchanged_plain code q x h = ap own_of (item_got 0 q code x h).2
 
 module _ (code : List Insn) (is_code : IsCode code) where
   abbrev items : List Item

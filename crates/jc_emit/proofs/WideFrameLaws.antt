@@ -31,7 +31,7 @@ use Rattle.jc_emit.proofs.LocalLaws.{next_within}
 use Rattle.jc_emit.proofs.RowLaws.{total_grows}
 use Rattle.jc_emit.proofs.WholeLaws.{code_told}
 use Rattle.jc_emit.proofs.FrameListsLaws.{rises_from, rises_pieces, are_rising, rises_within, in_piece, of_piece, if_listed, listed_if, rises_if}
-use Rattle.jc_emit.proofs.FrameLaws.{arms_rise, part_rises, landing, none_is, seen_is, frames_told}
+use Rattle.jc_emit.proofs.FrameLaws.{arms_rise, part_rises, landing, none_is, seen_is, layout_told}
 use Rattle.jc_methods.specs.declared.insn.Flow.TheVariants as flows
 use Rattle.jc_bytes.proofs.BooleanLaws.{none_in}
 
@@ -272,7 +272,7 @@ module _ (b : Body) (first : ℕ) (states : List State) (array : ℕ) (names : L
     tables = tables;
     frames =
         at_own (λ image land lead. AreTwinFrames names names b.arg_slots image (IsFrame b first states image land lead false) (pieces (frames_at b first states array) (length b.code)))
-        (frames_told b first states array names well.code well.frames fit named);
+        (layout_told b first states array names well.code well.frames fit named);
     wide_frames =
         at_own (λ image land lead. AreTwinFrames names names b.arg_slots image (IsFurtherFrame b first states (emission b first states array)) (pieces (wide_frames_at b first states array) (length b.code)))
         (record {

@@ -203,7 +203,7 @@ module _ (b : Body) (first : ℕ) (states : List State) (array : ℕ) (names : L
         (λ more.
         let h = each_behind b first states array names is_code are_frames fit named g more in
         let o = h.1.0 in
-        (h.0, inr (record { test = o.test; within = o.within; tests = o.tests; place = ap P o.place ∙ behind_is_two o.test o.within o.tests; state_is = o.state_is }), shift g.state h.0 h.2))
+        (h.0, inr (record { behind = record { test = o.test; within = o.within; tests = o.tests; place = ap P o.place ∙ behind_is_two o.test o.within o.tests; state_is = o.state_is }; layout = refl }), shift g.state h.0 h.2))
         from.1)
 
     abbrev IsThere : ℕ → State → Type 0
@@ -249,7 +249,8 @@ module _ (b : Body) (first : ℕ) (states : List State) (array : ℕ) (names : L
         let from = to_narrow q s o in
         let here = told.every from.place s from.asked in
         carried q s here.0 (inl here.1) (ap P here.2 ∙ from.is) here.3
-    wide_every q s (inr o) =
+    wide_every q s (inr w) =
+        let o = w.behind in
         let there = behind_there o.test o.within o.tests (late_probe b first o.test) refl in
         subst (λ z. IsThere q z) (sym o.state_is) (subst (λ k. IsThere k (state_behind b states o.test (late_probe b first o.test))) (sym o.place) there)
 

@@ -10,8 +10,8 @@ use Rattle.jc_plan.specs.declared.branch.Branch.{Branch}
 use Rattle.jc_plan.specs.Probed.{probe_of}
 use Rattle.jc_plan.specs.Plan.{lead_probe}
 use Rattle.jc_after.specs.Shift.{with_slot}
-use Rattle.jc_emit.specs.Sizes.{insn_at, early_probe, late_probe, arms_at, probe_size, behind_size}
-use Rattle.jc_emit.specs.Marks.{Marks, aload, astore, invokestatic, iconst_1, bastore, push}
+use Rattle.jc_emit.specs.Sizes.{insn_at, early_probe, late_probe, arms_at, probe_size, is_wide, behind_size}
+use Rattle.jc_emit.specs.Marks.{Marks, aload, astore, invokestatic, iconst_1, bastore, push, prelude_size}
 use Rattle.jc_methods.specs.Widened.{goto, inverted}
 use Rattle.jc_emit.specs.TwinCode.{to_of, arm_place}
 use Rattle.jc_methods.specs.declared.insn.Flow.TheVariants as flows
@@ -92,7 +92,7 @@ abbrev pub arm_parts : (land : ℕ → ℕ) → (Branch → Option ℕ) → List
 arm_parts land ids [] = []
 arm_parts land ids (x ∷ xs) = hop_part land (ids x) (to_of x) ++ arm_parts land ids xs
 
--- a conditional jump; in the wide layout its inverse and a goto
+-- a conditional jump; where it is wide its inverse and a goto
 abbrev pub test_part : Bool → (q : ℕ) → Insn → (i on : ℕ) → (due : Option ℕ) → List Item
 test_part false q insn i on due = image insn i None ∷ []
 test_part true q insn i on due = image (inverted (q + 2) insn) i None ∷ hop (jump_target insn) on due ∷ []
@@ -104,7 +104,7 @@ module _ (b : Body) (first : ℕ) (wide : Bool) where
 
   -- where fall-throughs into i lead, where jumps to i land, and where its image stands
   abbrev pub lead_of : ℕ → ℕ
-  lead_of i = 2 + total segment_size i
+  lead_of i = prelude_size + total segment_size i
 
   abbrev pub land_of : ℕ → ℕ
   land_of i = lead_of i + probe_size (lead_probe b first i)
@@ -114,9 +114,9 @@ module _ (b : Body) (first : ℕ) (wide : Bool) where
 
   -- a conditional jump with its probe, or without one
   abbrev pub tests_part : ℕ → Insn → Option ℕ → List Item
-  tests_part i insn None = test_part wide (image_of i) (with_places land_of insn) i (jump_target insn) None
+  tests_part i insn None = test_part (is_wide wide i) (image_of i) (with_places land_of insn) i (jump_target insn) None
   tests_part i insn (Some id) =
-      test_part wide (image_of i) (inverted (lead_of (i + 1)) insn) i (i + 1) (lead_probe b first (i + 1))
+      test_part (is_wide wide i) (image_of i) (inverted (lead_of (i + 1)) insn) i (i + 1) (lead_probe b first (i + 1))
       ++ hop_part land_of (Some id) (jump_target insn)
 
   -- the image of i and what stands behind it

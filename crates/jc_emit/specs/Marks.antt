@@ -1,5 +1,5 @@
 -- What is said of each instruction of an instrumented method, and where those stand that the method had.
-use Rattle.std.specs.Prelude.{◌≡◌, ℕ, zero, suc, ◌+◌, ◌-◌, Bool, true, false, List, [], ◌∷◌, Some, pos, nat_le, if◌then◌else◌, slice_get}
+use Rattle.std.specs.Prelude.{◌≡◌, ℕ, zero, suc, ◌+◌, ◌-◌, Bool, true, false, List, [], ◌∷◌, Some, pos, nat_le, if◌then◌else◌, length, slice_get}
 use Rattle.jc_methods.specs.Opcode as opcode
 use Rattle.jc_methods.specs.declared.insn.Insn.{Insn}
 use Rattle.jc_methods.specs.declared.insn.Insn.TheVariants as insns
@@ -48,11 +48,26 @@ push n =
     else if nat_le n 127 then insns.Push opcode.bipush (pos n)
     else insns.Push opcode.sipush (pos n)
 
+-- the instruction pushes the id
+abbrev pub Pushes : Insn → ℕ → Type 0
+Pushes insn id = insn ≡ push id
+
+-- The prelude: its instructions in order, each with how many values the ones in front of it have put on the stack. The
+-- method with this place in the pool gives the array of probes, and it is stored in local variable v.
+abbrev pub prelude_insns : (call v : ℕ) → List (Insn × ℕ)
+prelude_insns call v = (invokestatic call, 0) ∷ (astore v, 1) ∷ []
+
+-- how many instructions it has
+abbrev pub prelude_size : ℕ
+prelude_size = length (prelude_insns 0 0)
+
 -- A probe stands at a place, and belongs to the instruction `at`: the array of probes stands in local variable v, and
 -- true is stored at the index `id` of it.
 pub record IsProbe (code : List Insn) (m : Marks) (v q id at : ℕ) : Type 0 where
   pub array : HasInsn code m q (aload v) at false 0
-  pub number : HasInsn code m (q + 1) (push id) at false 1
+  pub pusher : Insn
+  pub pushes : Pushes pusher id
+  pub number : HasInsn code m (q + 1) pusher at false 1
   pub one : HasInsn code m (q + 2) iconst_1 at false 2
   pub store : HasInsn code m (q + 3) bastore at false 3
 

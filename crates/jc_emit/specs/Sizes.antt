@@ -59,13 +59,18 @@ abbrev pub arm_sizes : (Branch → Option ℕ) → List Branch → ℕ
 arm_sizes probe [] = 0
 arm_sizes probe (x ∷ xs) = hop_size (probe x) + arm_sizes probe xs
 
--- in the wide layout a goto stands behind each conditional jump
+-- Which conditional jumps are wide, each by its place, is told by the layout: in the wide layout each is, and in the narrow
+-- layout none is.
+abbrev pub is_wide : Bool → ℕ → Bool
+is_wide wide i = wide
+
+-- a goto stands behind a wide conditional jump
 abbrev pub wide_by : Flow → Bool → ℕ
 wide_by flows.Branches true = 1
 wide_by _ _ = 0
 
 abbrev pub wide_size : Body → Bool → ℕ → ℕ
-wide_size b wide i = wide_by (flow_of (insn_at b.code i)) wide
+wide_size b wide i = wide_by (flow_of (insn_at b.code i)) (is_wide wide i)
 
 -- what stands behind the image of an instruction and belongs to it
 abbrev pub behind_size : Body → ℕ → Bool → ℕ → ℕ

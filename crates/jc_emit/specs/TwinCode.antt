@@ -15,8 +15,8 @@ use Rattle.jc_plan.specs.declared.branch.Way.TheVariants as ways
 use Rattle.jc_plan.specs.Edges.{branches}
 use Rattle.jc_plan.specs.Probed.{probe_of}
 use Rattle.jc_plan.specs.Plan.{lead_probe}
-use Rattle.jc_emit.specs.Sizes.{insn_at, early_probe, late_probe, arms_at, hop_size, wide_size, behind_size}
-use Rattle.jc_emit.specs.Marks.{Marks, HasInsn, IsProbe, astore, invokestatic, image_place, land_place, lead_place}
+use Rattle.jc_emit.specs.Sizes.{insn_at, early_probe, late_probe, arms_at, hop_size, is_wide, wide_size, behind_size}
+use Rattle.jc_emit.specs.Marks.{Marks, HasInsn, IsProbe, prelude_insns, prelude_size, image_place, land_place, lead_place}
 
 -- ---- switches
 
@@ -66,11 +66,14 @@ module _ (b : Body) (first : ℕ) (wide : Bool) (code : List Insn) (m : Marks) (
 
   -- ---- the prelude
 
-  -- The first two instructions fetch the array of probes and put it behind the arguments. They are no images and
-  -- belong to the first instruction, and the second one finds the array on the stack.
+  -- The instructions of the prelude stand one behind the other. They are no images and belong to the first instruction.
+  abbrev pub HasPrelude : ℕ → List (Insn × ℕ) → Type 0
+  HasPrelude q [] = ⊤
+  HasPrelude q (x ∷ xs) = HasInsn code m q x.0 0 false x.1 × HasPrelude (q + 1) xs
+
+  -- The twin begins with them: they fetch the array of probes and put it behind the arguments.
   pub record Prelude (call : ℕ) : Type 0 where
-    pub fetch : HasInsn code m 0 (invokestatic call) 0 false 0
-    pub store : HasInsn code m 1 (astore b.arg_slots) 0 false 1
+    pub first_insns : HasPrelude 0 (prelude_insns call b.arg_slots)
 
   -- ---- images
 
@@ -91,13 +94,12 @@ module _ (b : Body) (first : ℕ) (wide : Bool) (code : List Insn) (m : Marks) (
   pub record Places : Type 0 where
     pub early : (i id : ℕ) → i < length b.code → early_probe b first i ≡ Some id → HasProbe (land i) id i
     pub leads : (i id : ℕ) → i < length b.code → lead_probe b first i ≡ Some id → HasProbe (lead i) id i
-    pub first_place : lead 0 ≡ 2
+    pub first_place : lead 0 ≡ prelude_size
     pub next_place : (i : ℕ) → i < length b.code → lead (i + 1) ≡ image i + 1 + behind_size b first wide i
 
   -- ---- jumps
 
-  -- A conditional jump is the image of its instruction. In the wide layout, where the offset of a conditional jump
-  -- might not fit, the image is its inverse, which leads to the place two behind it, and directly behind it stands a
+  -- A conditional jump is the image of its instruction. Where it is wide, as its offset might not fit, the image is its inverse, which leads to the place two behind it, and directly behind it stands a
   -- goto to where the jump leads, which belongs to the instruction to which it leads on.
   abbrev pub HasTest : Bool → ℕ → Insn → ℕ → Type 0
   HasTest false i insn on = HasImage i insn
@@ -114,9 +116,9 @@ module _ (b : Body) (first : ℕ) (wide : Bool) (code : List Insn) (m : Marks) (
   pub record Jumps : Type 0 where
     pub gotos : (i : ℕ) → Flows i flows.Jumps → HasImage i (with_places land (old i))
     pub tests : (i : ℕ) → Flows i flows.Branches → late_probe b first i ≡ None
-        → HasTest wide i (with_places land (old i)) (jump_target (old i))
+        → HasTest (is_wide wide i) i (with_places land (old i)) (jump_target (old i))
     pub inverses : (i id : ℕ) → Flows i flows.Branches → late_probe b first i ≡ Some id
-        → HasTest wide i (inverted (lead (i + 1)) (old i)) (i + 1)
+        → HasTest (is_wide wide i) i (inverted (lead (i + 1)) (old i)) (i + 1)
     pub probes : (i id : ℕ) → Flows i flows.Branches → late_probe b first i ≡ Some id
         → HasProbe (behind i) id (jump_target (old i))
     pub hops : (i id : ℕ) → Flows i flows.Branches → late_probe b first i ≡ Some id
@@ -192,10 +194,10 @@ module _ (b : Body) (first : ℕ) (wide : Bool) (code : List Insn) (m : Marks) (
     pub with_goto : HasGotoBehind edge.branch.way (flow_of (old edge.branch.at))
     pub place : q ≡ probe_place edge.branch + 4
 
-  -- it is the goto behind a conditional jump of the wide layout
+  -- it is the goto behind a wide conditional jump
   pub record IsWideGoto (q : ℕ) : Type 0 where
-    pub layout : wide ≡ true
     pub test : ℕ
+    pub layout : is_wide wide test ≡ true
     pub tests : Flows test flows.Branches
     pub place : q ≡ image test + 1
 
@@ -208,7 +210,7 @@ module _ (b : Body) (first : ℕ) (wide : Bool) (code : List Insn) (m : Marks) (
   -- no probe is told.
   pub record NothingElse : Type 0 where
     pub probes : (e : ProbedEdge) → HasProbe (probe_place e.branch) e.id (probe_owner e.branch)
-    pub others : (q : ℕ) → q < length code → (q < 2) ⊎ ((slice_get m.own q ≡ Some true) ⊎ IsAdded q)
+    pub others : (q : ℕ) → q < length code → (q < prelude_size) ⊎ ((slice_get m.own q ≡ Some true) ⊎ IsAdded q)
 
   -- A probe with this id, which stands at q and belongs to `at`, is that of a probed edge.
   pub record IsProbeOf (q id at : ℕ) : Type 0 where

@@ -9,6 +9,10 @@ use jc_bytes::Memory;
 use jc_methods::{Body, Flow, Plan};
 use std::alloc::Global;
 
+/// How many instructions stand in front of what belongs to the first one: the call that fetches the array of
+/// probes, and the store.
+const PRELUDE_SIZE: u32 = 2;
+
 /// Where the instructions of an instrumented method stand: one entry for each instruction of the method,
 /// and one for its end.
 #[derive(Drop)]
@@ -140,7 +144,7 @@ impl Places {
         ensures small { IfOk result AreSmall }
     {
         let mut places = Places::with_room(alloc, body.code.len() + 1)?;
-        let mut here = 2;
+        let mut here = PRELUDE_SIZE;
         'placing: for (at, insn) in body.code.iter().enumerate() {
             let flow = insn.flow();
             let ids = plan.out[at].as_slice();

@@ -25,7 +25,7 @@ use Rattle.jc_emit.specs.Emission.{emission, widened_frame, AreWidened}
 use Rattle.jc_emit.specs.Twin.{probe_init, Twin}
 use Rattle.jc_emit.proofs.EndsLaws.{images_are, lands_are, leads_are}
 use Rattle.jc_emit.proofs.WholeLaws.{code_told}
-use Rattle.jc_emit.proofs.FrameLaws.{frames_told}
+use Rattle.jc_emit.proofs.FrameLaws.{layout_told}
 use Rattle.jc_emit.proofs.WidenedLaws.{lead_is, land_is}
 use Rattle.jc_emit.proofs.WideTwinLaws.{widened_frames}
 use Rattle.jc_emit.proofs.WideFrameLaws.{emitted}
@@ -91,7 +91,7 @@ module _ (b : Body) (first : ℕ) (states : List State) (array : ℕ) (names : L
 
   narrow_frames : Frames false (emission b first states array).frames
   unfolding emission
-  narrow_frames = frames_told b first states array names well.code well.frames fit named
+  narrow_frames = layout_told b first states array names well.code well.frames fit named
 
   laid_told : (wide : Bool) → Frames wide (laid_frames wide (emission b first states array))
   laid_told false = narrow_frames

@@ -185,6 +185,9 @@ module _ (names : Names) (b : Body) (first : ℕ) (states : List State) (well : 
 
   pub asked_good : (wide : Bool) (q : ℕ) (s : State)
       → IsFrame b first states (image_of b first wide) (land_of b first wide) (lead_of b first wide) wide q s → IsGood wide q s
-  asked_good false q s h = narrow_good false q s h
-  asked_good true q s (inl h) = narrow_good true q s h
-  asked_good true q s (inr h) = behind_good q s h
+  asked_good wide q s (inl h) = narrow_good wide q s h
+  asked_good true q s (inr h) = behind_good q s h.behind
+  asked_good false q s (inr h) = absurd (false_true h.layout)
+    where
+      false_true : false ≡ true → ⊥
+      false_true e = cc

@@ -30,7 +30,7 @@ use Rattle.jc_emit.specs.Items.{insn_of, image_of, land_of, lead_of, twin_items}
 use Rattle.jc_emit.specs.Shift.{image_kind}
 use Rattle.jc_emit.specs.Straddling.{NoneStraddles}
 use Rattle.jc_emit.specs.TwinFrames.{IsFrame, AreTwinFrames}
-use Rattle.jc_emit.proofs.FrameLaws.{frames_told}
+use Rattle.jc_emit.proofs.FrameLaws.{layout_told}
 use Rattle.jc_emit.proofs.WideTwinLaws.{widened_frames}
 use Rattle.jc_layout.specs.LaidBody.{laid_frames, laid_place, with_call}
 use Rattle.jc_layout.specs.Merged.{merged}
@@ -140,7 +140,7 @@ module _ (names : Names) (b : Body) (first : ℕ) (states : List State) (array :
 
   narrow_told : Told false (emission b first states array).frames
   unfolding emission
-  narrow_told = frames_told b first states array names well.code well.frames fit array_is
+  narrow_told = layout_told b first states array names well.code well.frames fit array_is
 
   told : (wide : Bool) → Told wide (laid_frames wide (emission b first states array))
   told false = narrow_told
