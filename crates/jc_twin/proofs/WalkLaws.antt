@@ -168,7 +168,7 @@ module _ (b : Body) where
 
   pub took_with : (i : ℕ) (w : Walk) (y : Branch) → EndedByReturn w → NeverThrown w → Contains (taken b i w) y → (left : ℕ) × TookWith i w y left
   took_with i cut y ended never c = absurd ended
-  took_with i returns y ended never c = (0, contains_one (exit i) y c, refl)
+  took_with i returns y ended never c = (0, (contains_one (exit i) y c, refl))
   took_with i throws y ended never c = absurd ended
   took_with i (takes x to rest) y ended never c =
       ⊎_elim
