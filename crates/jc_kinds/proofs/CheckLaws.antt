@@ -5,10 +5,8 @@ use Rattle.std.specs.List.{Contains, list_any}
 use Rattle.jc_bytes.proofs.DecidingLaws.{Decides}
 use Rattle.jc_methods.proofs.FlowLaws.{falls_decided, falls_into_decided}
 use Rattle.jc_methods.specs.declared.insn.Insn.{Insn}
-use Rattle.jc_methods.specs.declared.insn.Flow.{Flow}
-use Rattle.jc_methods.specs.declared.insn.Flow.TheVariants as flows
 use Rattle.jc_methods.specs.declared.body.Body.{Body}
-use Rattle.jc_methods.specs.Flow.{flow_of, FallsThrough, targets_of, goes_on, falls_through, falls_at, GoesOnFrom, FallsInto}
+use Rattle.jc_methods.specs.Flow.{FallsThrough, targets_of, falls_through}
 use Rattle.jc_bytes.specs.Least.{IsNowhere, IsLeast}
 use Rattle.jc_methods.specs.VerificationTypes.{Names, TypeState}
 use Rattle.jc_methods.specs.EntryState.{entry_of}
