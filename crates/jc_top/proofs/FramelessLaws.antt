@@ -16,8 +16,8 @@ use Rattle.jc_plan.specs.Probed.{is_probed_way, is_probed, is_before, position_o
 use Rattle.jc_plan.specs.declared.branch.Branch.{Branch}
 use Rattle.jc_plan.specs.declared.branch.Way.{Way}
 use Rattle.jc_plan.specs.declared.branch.Way.TheVariants.{Falls, Jumps, Switches, Exits}
-use Rattle.jc_top.specs.Report.{counted_of}
 use Rattle.jc_top.specs.Report.{frameless}
+use Rattle.jc_top.specs.ReportSteps.{counted_of}
 
 -- ---- probes
 

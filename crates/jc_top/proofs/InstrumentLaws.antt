@@ -14,9 +14,9 @@ use Rattle.jc_top.specs.declared.output.Write.{Write as Written}
 use Rattle.jc_top.specs.Instrument.{Decision, refused_file, accepted_file, IsDecision, file_writes, AreFileWrites}
 use Rattle.jc_top.specs.Looks.{IsDecided, write_seen, Puts}
 use Rattle.jc_top.specs.Words.{Word, words_of}
+use Rattle.jc_top.specs.Work.{IsFile}
 use Rattle.jc_top.specs.World.{Write}
 use Rattle.jc_top.proofs.EachLaws.{zipped_at, AtPlace}
-use Rattle.jc_top.proofs.ListingLaws.{IsFile}
 use Rattle.jc_top.proofs.WriteLaws.{map_take_more}
 
 -- ---- one file
@@ -31,7 +31,7 @@ one_decision bytes (accepted_file a) (refused_file s) p q = absurd (file_or_reas
 one_decision bytes (accepted_file a) (accepted_file b) p q = ap accepted_file (one_file bytes a b p q)
 
 some_decision : (bytes : List ℕ) → IsFile bytes → (d : Decision) × IsDecision bytes d
-some_decision bytes file = ⊎_elim (λ a. (accepted_file a.0, a.1)) (λ r. (refused_file r.0, r.1)) (each_file bytes file.0 file.1)
+some_decision bytes file = ⊎_elim (λ a. (accepted_file a.0, a.1)) (λ r. (refused_file r.0, r.1)) (each_file bytes file.are_bytes file.short)
 
 -- ---- lists of files
 

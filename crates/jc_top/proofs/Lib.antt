@@ -12,6 +12,7 @@ pub mod MergeLaws
 pub mod MethodLaws
 pub mod InfoLaws
 pub mod FramelessLaws
+pub mod CountedLaws
 pub mod ReportLaws
 pub mod ReportStepLaws
 pub mod ReportRunLaws

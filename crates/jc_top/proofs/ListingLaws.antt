@@ -5,8 +5,6 @@ use Rattle.std.specs.List.{AllByRecursion, AllZip, flat_map}
 use Rattle.std.proofs.lemmas.List.Concat.{flat_map-cons}
 use Rattle.std.proofs.lemmas.Slice.Zip.{AllZip-long}
 use Rattle.std.specs.declared.alloc.Global.{Global}
-use Rattle.jc_base.specs.ByteLists.{AreBytes}
-use Rattle.jc_base.specs.Reader.{most_read}
 use Rattle.jc_base.specs.declared.Analysed.{Analysed}
 use Rattle.jc_base.specs.declared.Body.{Body}
 use Rattle.jc_base.specs.declared.Fail.{Fail}
@@ -29,7 +27,7 @@ use Rattle.jc_top.specs.ClassInfo.{class_line, method_line, class_text, Listing,
 use Rattle.jc_top.specs.Command.{class_info}
 use Rattle.jc_top.specs.Looks.{write_seen}
 use Rattle.jc_top.specs.World.{Write, to_out}
-use Rattle.jc_top.specs.Work.{Answers, listed, class_refused, refusing}
+use Rattle.jc_top.specs.Work.{IsFile, Answers, listed, class_refused, refusing}
 use Rattle.jc_top.specs.Outcome.{class_stop, AnswersWith}
 use Rattle.jc_top.proofs.EachLaws.{zipped_at, AtPlace}
 
@@ -57,10 +55,6 @@ listing_of : (bytes : List ℕ) (l : Listing) → Lists bytes l → ListingOf by
 listing_of bytes l (analysed a is) = by_analysis a is refl
 listing_of bytes l (refused why is) = by_reason why is refl
 
--- bytes that a file holds and that are read
-abbrev pub IsFile : List ℕ → Type 0
-IsFile bytes = AreBytes bytes × (length bytes ≤ most_read)
-
 module _ (bytes : List ℕ) where
   one_listing_of : (a b : Listing) → ListingOf bytes a → ListingOf bytes b → a ≡ b
   one_listing_of a b (by_analysis x is e) (by_analysis y is' f) = e ∙ ap prints (same_text x y (same_analysis bytes x y is is')) ∙ sym f
@@ -72,7 +66,7 @@ module _ (bytes : List ℕ) where
   one_listing a b p q = one_listing_of a b (listing_of bytes a p) (listing_of bytes b q)
 
   some_listing : IsFile bytes → (l : Listing) × Lists bytes l
-  some_listing file = ⊎_elim (λ a. (_, analysed a.0 a.1)) (λ r. (_, refused r.0 r.1)) (each_analysis bytes file.0 file.1)
+  some_listing file = ⊎_elim (λ a. (_, analysed a.0 a.1)) (λ r. (_, refused r.0 r.1)) (each_analysis bytes file.are_bytes file.short)
 
 text_is : (a b : List ℕ) → prints a ≡ prints b → a ≡ b
 text_is a b e = cc

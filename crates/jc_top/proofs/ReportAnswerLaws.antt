@@ -1,25 +1,27 @@
 -- The answer of a report is one.
-use Rattle.std.proofs.Common.{◌≡◌, ⊎_elim, ℕ, zero, suc, List, [], ◌∷◌, ◌++◌, length, take, drop, map, Option, None, Some, refl, sym, ◌∙◌, ap₂, subst, arith}
+use Rattle.std.proofs.Common.{◌≡◌, ⊎_elim, ℕ, zero, suc, List, [], ◌∷◌, ◌++◌, length, take, drop, map, Option, None, Some, refl, sym, ◌∙◌, ap, ap₂, subst, arith}
 use Rattle.std.specs.Option.{option_to_list}
 use Rattle.std.specs.List.{AllByRecursion}
 use Rattle.std.proofs.lemmas.List.{take_all}
 use Rattle.jc_exec.specs.declared.refusal.ExecRefusal.{ExecRefusal}
 use Rattle.jc_exec.specs.Store.{Store}
+use Rattle.jc_report.specs.declared.row.Counted.{Counted}
 use Rattle.jc_top.specs.declared.status.Status.TheVariants as status
 use Rattle.jc_top.specs.declared.status.Fault.TheVariants as fault
 use Rattle.jc_top.specs.Words.{Word}
 use Rattle.jc_top.specs.Command.{report}
 use Rattle.jc_top.specs.ExecData.{IsUnionOf, IsFirstRefused, no_data}
-use Rattle.jc_top.specs.Report.{ReportedFile, AreItems, data_texts, class_texts, lines_of, first_clash, csv_of_items}
+use Rattle.jc_top.specs.Report.{ReportedFile, AreItems, data_texts, class_texts, lines_of, changed_of, first_clash, first_of_each_id, AreCountedItems, report_text}
+use Rattle.jc_top.specs.ReportSteps.{counted_classes}
 use Rattle.jc_top.specs.World.{to_file, to_err}
-use Rattle.jc_top.specs.Work.{Answer, Answers, reported, report_refused, report_clashes, refusing}
+use Rattle.jc_top.specs.Work.{IsFile, Answer, Answers, reported, report_refused, report_clashes, refusing}
+use Rattle.jc_top.proofs.CountedLaws.{are_counted, all_counted}
 use Rattle.jc_top.proofs.ExecDataLaws.{one_union_of, union_of_none, union_or_refused, one_refused, some_union_or_refused}
-use Rattle.jc_top.proofs.ListingLaws.{IsFile}
 use Rattle.jc_top.proofs.ReportLaws.{one_items, some_items, one_clash, no_clash_in_front, none_clashes}
 
 abbrev report_answer : Word → Word → List Word → Store → List ReportedFile → Answer
 report_answer out name paths store items =
-    record { writes = map to_err (lines_of paths items) ++ to_file out (csv_of_items name store.classes items) ∷ []; status = status.Done }
+    record { writes = map to_err (lines_of paths items) ++ to_file out (report_text name (counted_classes store.classes items)) ∷ []; status = status.Done }
 
 module _ (out name : Word) (exec : Option Word) (paths : List Word) (texts : List (List ℕ)) where
   -- an answer, by what decided it
@@ -31,6 +33,15 @@ module _ (out name : Word) (exec : Option Word) (paths : List Word) (texts : Lis
     by_clash : (path : Word) (store : Store) (count : ℕ) (items : List ReportedFile) (refusal : ExecRefusal) → exec ≡ Some path → IsUnionOf (data_texts exec texts) store
         → AreItems (take count (class_texts exec texts)) items → first_clash store.classes items ≡ Some refusal
         → answer ≡ refusing path (fault.Exec 0 refusal) → ReportAnswer answer
+
+  -- the answer of a report is made of the classes with the counters that marking gives
+  pub reported_so : (store : Store) (items : List ReportedFile) (counted : List Counted) → IsUnionOf (data_texts exec texts) store → AreItems (class_texts exec texts) items
+      → first_clash store.classes items ≡ None → AreCountedItems store.classes items counted
+      → ReportAnswer (record { writes = map to_err (lines_of paths items) ++ to_file out (report_text name counted) ∷ []; status = status.Done })
+  reported_so store items counted u are none count =
+      by_items store items u are none
+      (ap (λ (cs : List Counted). let a : Answer = record { writes = map to_err (lines_of paths items) ++ to_file out (report_text name cs) ∷ []; status = status.Done } in a)
+      (all_counted store.classes (first_of_each_id (changed_of items)) counted count))
 
   -- two paths of one file of execution data
   same_path : (p q : Word) → exec ≡ Some p → exec ≡ Some q → p ≡ q
@@ -78,7 +89,8 @@ data_of_none store items u =
 module _ (out name : Word) (paths : List Word) (texts : List (List ℕ)) where
   with_items : (exec : Option Word) (store : Store) (items : List ReportedFile) (clash : Option ExecRefusal) → IsUnionOf (data_texts exec texts) store
       → AreItems (class_texts exec texts) items → first_clash store.classes items ≡ clash → (answer : Answer) × Answers (report out name exec paths) texts answer
-  with_items exec store items None u are none = (_, reported store items u are none)
+  with_items exec store items None u are none =
+      (_, reported store items (counted_classes store.classes items) u are none (are_counted store.classes (first_of_each_id (changed_of items))))
   with_items None store items (Some r) u are clash = absurd (differ (sym (data_of_none store items u) ∙ clash))
     where
       differ : None ≡ Some r → ⊥

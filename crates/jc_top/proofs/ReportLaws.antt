@@ -22,8 +22,8 @@ use Rattle.jc_instrument.specs.SameAnalysis.{IsSameAnalysis}
 use Rattle.jc_instrument.proofs.OneReasonLaws.{one_reason}
 use Rattle.jc_instrument.proofs.SameAnalysisLaws.{same_analysis}
 use Rattle.jc_instrument.proofs.EachAnalysisLaws.{each_analysis, analysis_or_reason}
+use Rattle.jc_top.specs.Work.{IsFile}
 use Rattle.jc_top.specs.Report.{frameless, ReportedFile, refused_class, unchanged_class, changed_class, IsItem, is_refused, is_unchanged, is_changed, AreItems, clash_of, first_clash}
-use Rattle.jc_top.proofs.ListingLaws.{IsFile}
 
 -- ---- which classes have bodies
 
@@ -123,7 +123,7 @@ module _ (bytes : List ℕ) where
       by false code = (_, is_changed a is code)
 
   some_item : IsFile bytes → (item : ReportedFile) × IsItem bytes item
-  some_item file = ⊎_elim (λ a. item_of_analysis a.0 a.1) (λ r. (_, is_refused r.0 r.1)) (each_analysis bytes file.0 file.1)
+  some_item file = ⊎_elim (λ a. item_of_analysis a.0 a.1) (λ r. (_, is_refused r.0 r.1)) (each_analysis bytes file.are_bytes file.short)
 
 -- ---- the class files, in order
 

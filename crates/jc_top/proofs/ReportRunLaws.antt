@@ -1,6 +1,7 @@
 -- The reads of a report, and its answers.
-use Rattle.std.proofs.Common.{◌≡◌, inl, inr, ℕ, List, [], ◌∷◌, ◌++◌, map, Option, None, Some, Result, Ok, Err, Vec, Bor, refl, sym, ◌∙◌, ap, subst, arith}
+use Rattle.std.proofs.Common.{◌≡◌, inl, inr, ℕ, suc, List, [], ◌∷◌, ◌++◌, map, Option, None, Some, Result, Ok, Err, Vec, Bor, refl, sym, ◌∙◌, ap, subst, arith}
 use Rattle.std.proofs.lemmas.List.{map-append}
+use Rattle.std.proofs.lemmas.List.Elements.{All-cons}
 use Rattle.std.specs.declared.alloc.Global.{Global}
 use Rattle.jc_base.proofs.DecoderLaws.{some_is}
 use Rattle.jc_base.specs.declared.Fail.{Fail}
@@ -10,7 +11,7 @@ use Rattle.jc_exec.specs.Answers.{Refuses}
 use Rattle.jc_exec.specs.Store.{Store}
 use Rattle.jc_exec.specs.declared.hits.ClassHits.{ClassHits}
 use Rattle.jc_exec.specs.declared.refusal.ExecRefusal.{ExecRefusal}
-use Rattle.jc_top.specs.Report.{report_text}
+use Rattle.jc_top.specs.Report.{changed_of, first_of_each_id, report_text}
 use Rattle.jc_top.specs.declared.class_report.Looked.{Looked}
 use Rattle.jc_top.specs.declared.output.Write.{Write as Written}
 use Rattle.jc_top.specs.declared.output.Write.TheVariants as written
@@ -23,10 +24,11 @@ use Rattle.jc_top.specs.Words.{Word}
 use Rattle.jc_top.specs.Command.{report}
 use Rattle.jc_top.specs.ExecData.{IsUnionOf, no_data}
 use Rattle.jc_top.specs.Looks.{write_seen}
-use Rattle.jc_top.specs.ReportSteps.{LooksAtAll, ReportsWith}
-use Rattle.jc_top.specs.Work.{Holds, CantRead, AreRead, StopsAt, Answers, reported, report_refused, report_clashes, refusing}
+use Rattle.jc_top.specs.ReportSteps.{counted_classes, LooksAtAll, ReportsWith}
+use Rattle.jc_top.specs.Work.{IsFile, AreFiles, Holds, CantRead, AreRead, StopsAt, Answers, reported, report_refused, report_clashes, refusing}
 use Rattle.jc_top.specs.World.{Write, to_file}
 use Rattle.jc_top.specs.Outcome.{ReadStops, ReadOne, ReadAll, exec_stop, AnswersWith, Prepares}
+use Rattle.jc_top.proofs.CountedLaws.{are_counted}
 use Rattle.jc_top.proofs.ExecDataLaws.{union_of_none}
 
 -- ---- reading
@@ -38,6 +40,9 @@ nothing_read (Some m) = tt
 held : (k : Option FileMap) (m : FileMap) (path t : Word) → k ≡ Some m → WhereTold k (λ n. Holds n path t) → Holds m path t
 held None m path t is told = absurd cc
 held (Some n) m path t is told = subst (λ (l : FileMap). Holds l path t) (some_is n m is) told
+
+pub both_files : (path : Word) (paths : List Word) (t : List ℕ) (ts : List (List ℕ)) → IsFile t → AreFiles paths ts → AreFiles (path ∷ paths) (t ∷ ts)
+both_files path paths t ts file files = record { count = ap suc files.count; each = All-cons IsFile t ts file files.each }
 
 pub both_read : (k : Option FileMap) (path : Word) (paths : List Word) (t : List ℕ) (ts : List (List ℕ)) → WhereTold k (λ m. Holds m path t)
     → WhereTold k (λ m. AreRead m paths ts) → WhereTold k (λ m. AreRead m (path ∷ paths) (t ∷ ts))
@@ -135,7 +140,7 @@ pub answers_none : (out name : Word) (paths : List Word) (texts : List (List ℕ
     → ReportsWith out name [] None paths texts r → AnswersWith (report out name None paths) texts r
 answers_none out name paths texts (Ok writes) (items, are, none, is) =
     subst (λ (ws : List Write). Answers (report out name None paths) texts (record { writes = ws; status = status.Done })) (sym is)
-    (reported no_data items union_of_none are none)
+    (reported no_data items (counted_classes [] items) union_of_none are none (are_counted [] (first_of_each_id (changed_of items))))
 answers_none out name paths texts (Err stops.Memory) stop = tt
 answers_none out name paths texts (Err (stops.Refused file fault)) stop = absurd (no_path file.now stop.1)
 answers_none out name paths texts (Err (stops.Read p)) stop = absurd stop
@@ -146,7 +151,7 @@ pub answers_data : (out name path : Word) (paths : List Word) (text : List ℕ) 
     → IsUnionOf (text ∷ []) store → ReportsWith out name store.classes (Some path) paths texts r → AnswersWith (report out name (Some path) paths) (text ∷ texts) r
 answers_data out name path paths text texts store (Ok writes) union (items, are, none, is) =
     subst (λ (ws : List Write). Answers (report out name (Some path) paths) (text ∷ texts) (record { writes = ws; status = status.Done })) (sym is)
-    (reported store items union are none)
+    (reported store items (counted_classes store.classes items) union are none (are_counted store.classes (first_of_each_id (changed_of items))))
 answers_data out name path paths text texts store (Err stops.Memory) union stop = tt
 answers_data out name path paths text texts store (Err (stops.Refused file fault)) union (refusal, same, is, (count, items, are, clash)) =
     let path_is : path ≡ file.now = some_is path file.now same in

@@ -44,7 +44,7 @@ quiet_writes command texts answer (informed lines info) quiet done = all_out lin
 quiet_writes command texts answer (exec_info_refused index path refusal is) quiet done = absurd (no_refusal (faults.Exec index refusal) done)
 quiet_writes command texts answer (listed lines are) quiet done = all_out lines
 quiet_writes command texts answer (class_refused index path why is) quiet done = absurd (no_refusal (faults.Class index why) done)
-quiet_writes command texts answer (reported store items union are none) quiet done = absurd quiet
+quiet_writes command texts answer (reported store items counted union are none count) quiet done = absurd quiet
 quiet_writes command texts answer (report_refused index path refusal is) quiet done = absurd quiet
 quiet_writes command texts answer (report_clashes store count items refusal union are clash) quiet done = absurd quiet
 quiet_writes command texts answer (instrumented writes are) quiet done = absurd quiet
@@ -81,7 +81,7 @@ abbrev Prepared : Command → List Written → List (List ℕ) → Type 0
 Prepared command writes texts = Answers command texts (record { writes = map write_seen writes; status = status.Done })
 
 prepared_writing : (contents : Option FileMap) (command : Command) (writes : List Written) (P : List Write → Type 0) → P (map write_seen writes) → Read contents command (Prepared command writes) → Writing contents command P
-prepared_writing contents command writes P made read = (read.0, read.1, (map write_seen writes, read.2, made))
+prepared_writing contents command writes P made read = (read.0, read.1, read.2, (map write_seen writes, read.3, made))
 
 module _ (landed : Landed) (command : Command) (k0 k1 : Option FileMap) (same_k : k1 ≡ k0) (o err : Option (List ℕ)) (r0 r1 w0 w1 n e : ℕ) (same_w : w1 ≡ w0) where
   made_on : (new : World) (f' : Counts) (writes : Vec Written Global) (r : Result (Unit {0}) Stop) → Prepares k0 command r0 r1 (Ok writes)
@@ -129,11 +129,11 @@ told_at (Some n) m P is told = subst P (some_is n m is) told
 answer_is_work : (words : List Word) (command : Command) (k : Option FileMap) (answer : Answer) → Means words command → Read k command (λ texts. Answers command texts answer)
     → WhereTold k (λ m. IsWork words m (record { reads = inputs_of command; writes = answer.writes; status = answer.status }))
 answer_is_work words command None answer means read = tt
-answer_is_work words command (Some m) answer means read = answered means read.1 read.2
+answer_is_work words command (Some m) answer means read = answered means read.2 read.3
 
 answer_ends : (words : List Word) (command : Command) (k : Option FileMap) (answer : Answer) → Means words command → Read k command (λ texts. Answers command texts answer) → WhereTold k (λ m. WorkEnds words m answer.status)
 answer_ends words command None answer means read = tt
-answer_ends words command (Some m) answer means read = (_, answered means read.1 read.2, refl)
+answer_ends words command (Some m) answer means read = (_, answered means read.2 read.3, refl)
 
 unread_ends : (words : List Word) (command : Command) (k : Option FileMap) (path : Word) (r r' : ℕ) → Means words command → ReadsStop k (inputs_of command) path r r' → Rises r r' ⊎ ToldEnds words k status.ReadFault
 unread_ends words command k path r r' means stop = by stop.0
@@ -151,9 +151,9 @@ done_cause landed words command means old new f f' ran = record {
   means = means;
   writes = ran.1;
   silent = λ quiet.
-      ap (λ (w : World). w.err) ran.1.2.2
-      ∙ all_silent landed old ran.1.2.0
-      (quiet_writes command ran.1.0 (record { writes = ran.1.2.0; status = status.Done }) ran.1.2.1 quiet refl);
+      ap (λ (w : World). w.err) ran.1.3.2
+      ∙ all_silent landed old ran.1.3.0
+      (quiet_writes command ran.1.0 (record { writes = ran.1.3.0; status = status.Done }) ran.1.3.1 quiet refl);
   counts = ran.0;
 }
 
@@ -171,28 +171,28 @@ module _ (landed : Landed) (words : List Word) (command : Command) (means : Mean
   abbrev Broke : Stop → Type 0
   Broke stop = Writing old.contents command (λ ws. StopsIn landed old ws (FailsAs stop f g) mid)
 
-  broken_answer : (stop : Stop) (broke : Broke stop) → Answers command broke.0 (record { writes = broke.2.2.done ++ broke.2.2.failed ∷ broke.2.2.behind; status = status.Done })
-  broken_answer stop broke = subst (λ (ws : List Write). Answers command broke.0 (record { writes = ws; status = status.Done })) broke.2.2.parts broke.2.1
+  broken_answer : (stop : Stop) (broke : Broke stop) → Answers command broke.0 (record { writes = broke.3.2.done ++ broke.3.2.failed ∷ broke.3.2.behind; status = status.Done })
+  broken_answer stop broke = subst (λ (ws : List Write). Answers command broke.0 (record { writes = ws; status = status.Done })) broke.3.2.parts broke.3.1
 
   abbrev broken_off : (stop : Stop) → Broke stop → BreaksOff landed words old f
   broken_off stop broke =
-      let writes : List Write = broke.2.2.done ++ broke.2.2.failed ∷ broke.2.2.behind in
+      let writes : List Write = broke.3.2.done ++ broke.3.2.failed ∷ broke.3.2.behind in
       let answer : Answer = record { writes = writes; status = status.Done } in
       record {
         command = command;
         means = means;
-        done = broke.2.2.done;
-        failed = broke.2.2.failed;
-        behind = broke.2.2.behind;
-        read = (broke.0, broke.1, broken_answer stop broke);
-        work = answer_is_work words command old.contents answer means (broke.0, broke.1, broken_answer stop broke);
+        done = broke.3.2.done;
+        failed = broke.3.2.failed;
+        behind = broke.3.2.behind;
+        read = (broke.0, broke.1, broke.2, broken_answer stop broke);
+        work = answer_is_work words command old.contents answer means (broke.0, broke.1, broke.2, broken_answer stop broke);
         counts = g;
-        fails = broke.2.2.which.1;
+        fails = broke.3.2.which.1;
         stands = mid;
-        broken = broke.2.2.broken;
+        broken = broke.3.2.broken;
         silent = λ quiet.
-            stopped_silent landed old mid f g broke.2.2.done broke.2.2.behind broke.2.2.failed
-            (quiet_writes command broke.0 answer (broken_answer stop broke) quiet refl) broke.2.2.broken broke.2.2.which.1;
+            stopped_silent landed old mid f g broke.3.2.done broke.3.2.behind broke.3.2.failed
+            (quiet_writes command broke.0 answer (broken_answer stop broke) quiet refl) broke.3.2.broken broke.3.2.which.1;
       }
 
   file_text : (path : List ℕ) (v : Write) → IsFileWrite path v → broken_text v ≡ cannot_write path
@@ -201,7 +201,7 @@ module _ (landed : Landed) (words : List Word) (command : Command) (means : Mean
   output_text : (v : Write) → IsTextWrite v → broken_text v ≡ cannot_write_output
   output_text v is = ⊎_elim (λ out. ap broken_text out) (λ err. ap broken_text err) is.1
 
-  unwritten : (stop : Stop) (broke : Broke stop) (text : List ℕ) → broken_text broke.2.2.failed ≡ text → Says text mid.err err' g.errs e'
+  unwritten : (stop : Stop) (broke : Broke stop) (text : List ℕ) → broken_text broke.3.2.failed ≡ text → Says text mid.err err' g.errs e'
       → Of (λ v v' c c'. IsUnwritten landed words v v' c c')
   unwritten stop broke text names says = record {
     breaks_off = broken_off stop broke;
@@ -259,8 +259,8 @@ module _ (landed : Landed) (words : List Word) (command : Command) (means : Mean
         reads = ap (λ (c : Counts). c.reads) ran.0;
         message = says_here (fault_text file.now fault) ran.1 (ap (λ (c : Counts). c.errs) ran.0) says;
       }
-  said_cause (stops.Write p) ran other says = unwritten (stops.Write p) ran (cannot_write p.now) (file_text p.now ran.2.2.failed ran.2.2.which.0) says
-  said_cause stops.Output ran other says = unwritten stops.Output ran cannot_write_output (output_text ran.2.2.failed ran.2.2.which.0) says
+  said_cause (stops.Write p) ran other says = unwritten (stops.Write p) ran (cannot_write p.now) (file_text p.now ran.3.2.failed ran.3.2.which.0) says
+  said_cause stops.Output ran other says = unwritten stops.Output ran cannot_write_output (output_text ran.3.2.failed ran.3.2.which.0) says
 
   pub stop_cause : (stop : Stop) (s : Status) → Ran stop → Reports stop mid.err err' g.errs e' s → Of (λ v v' c c'. Cause landed words v v' c c' s)
   stop_cause stop s ran (inl memory) = subst (λ (t : Status). Of (λ v v' c c'. Cause landed words v v' c c' t)) (sym memory.0) (stands stop ran memory.1 memory.2)
@@ -303,7 +303,7 @@ module _ (landed : Landed) (words : List Word) (old new : World) (f f' : Counts)
 
   -- the work ends so, or a read failed, or memory was refused
   cause_ends : (s : Status) → Cause landed words old new f f' s → WhereTold old.contents (λ m. WorkEnds words m (work_end s)) ⊎ ((Rose f.reads f'.reads × (s ≡ status.ReadFault)) ⊎ (s ≡ status.Memory))
-  cause_ends status.Done cause = inl (answer_ends words cause.command old.contents (record { writes = cause.writes.2.0; status = status.Done }) cause.means (cause.writes.0, cause.writes.1, cause.writes.2.1))
+  cause_ends status.Done cause = inl (answer_ends words cause.command old.contents (record { writes = cause.writes.3.0; status = status.Done }) cause.means (cause.writes.0, cause.writes.1, cause.writes.2, cause.writes.3.1))
   cause_ends (status.Refused fault) cause = inl cause.work
   cause_ends status.Usage cause = inl (told_map old.contents (λ m. Unit {0}) (λ m. WorkEnds words m status.Usage) (λ m u. (_, usage cause.no_form, refl)) (anything old.contents))
     where
@@ -366,9 +366,9 @@ module _ (landed : Landed) (words : List Word) (new : World) (f f' : Counts) (ou
 
   does_work : (k : Option FileMap) (s : Status) → Cause landed words (world k out err) new f f' s → NoneRose f f' → s ≢ status.Memory → DoesWork landed words (world k out err) new s
   does_work None s cause quiet other = tt
-  does_work (Some m) status.Done cause quiet other = (_, answered cause.means cause.writes.1 cause.writes.2.1, refl, cause.writes.2.2)
+  does_work (Some m) status.Done cause quiet other = (_, answered cause.means cause.writes.2 cause.writes.3.1, refl, cause.writes.3.2)
   does_work (Some m) (status.Refused fault) cause quiet other =
-      (_, answered cause.means cause.read.1 cause.read.2, refl, only_said landed words (world (Some m) out err) new f f' (fault_text cause.file fault) cause.kept cause.message quiet)
+      (_, answered cause.means cause.read.2 cause.read.3, refl, only_said landed words (world (Some m) out err) new f f' (fault_text cause.file fault) cause.kept cause.message quiet)
   does_work (Some m) status.Usage cause quiet other = (_, usage cause.no_form, refl, only_said landed words (world (Some m) out err) new f f' usage_text cause.kept cause.message quiet)
   does_work (Some m) status.ReadFault cause quiet other = unread_work m cause quiet
   does_work (Some m) status.WriteFault cause quiet other =

@@ -19,7 +19,7 @@ use Rattle.jc_top.specs.Words.{Word, in_folder}
 use Rattle.jc_top.specs.Command.{Command, merge, exec_info, class_info, report, instrument, inputs_of, Means, NoForm}
 use Rattle.jc_top.specs.Texts.{usage_text, cannot_read}
 use Rattle.jc_top.specs.World.{Write, to_file, to_out, to_err}
-use Rattle.jc_top.specs.Work.{Holds, IsNoFile, CantRead, AreRead, StopsAt, Answer, Answers, merged, merge_refused, informed, exec_info_refused, listed, class_refused, reported, report_refused, report_clashes, instrumented, refusing, Work, IsWork, usage, unreadable, answered, WorkEnds}
+use Rattle.jc_top.specs.Work.{IsFile, Holds, IsNoFile, CantRead, AreRead, StopsAt, Answer, Answers, merged, merge_refused, informed, exec_info_refused, listed, class_refused, reported, report_refused, report_clashes, instrumented, refusing, Work, IsWork, usage, unreadable, answered, WorkEnds}
 use Rattle.jc_base.specs.declared.Refusal.{Refusal}
 use Rattle.jc_top.specs.ClassInfo.{AreListed, RefusedAt}
 use Rattle.jc_top.specs.ExecData.{IsUnionOf, IsFirstRefused, IsFirstRefusedAlone}
@@ -27,9 +27,9 @@ use Rattle.jc_top.specs.ExecInfo.{AreInfo}
 use Rattle.jc_top.specs.Instrument.{AreFileWrites}
 use Rattle.jc_top.proofs.ExecDataLaws.{one_union_of, union_or_refused, one_refused, some_union_or_refused, data_or_refused, one_refused_alone, some_data_or_refused}
 use Rattle.jc_top.proofs.InfoLaws.{one_info, info_is_data, data_has_info}
-use Rattle.jc_top.proofs.ListingLaws.{IsFile, one_list, listed_or_refused, one_refusal, some_list}
+use Rattle.jc_top.proofs.ListingLaws.{one_list, listed_or_refused, one_refusal, some_list}
 use Rattle.jc_top.proofs.InstrumentLaws.{one_writes, some_writes}
-use Rattle.jc_top.proofs.ReportAnswerLaws.{ReportAnswer, by_items, by_data, by_clash, one_report_answer, some_report_answer, files_behind}
+use Rattle.jc_top.proofs.ReportAnswerLaws.{ReportAnswer, by_data, by_clash, one_report_answer, some_report_answer, reported_so, files_behind}
 use Rattle.jc_top.proofs.CommandLaws.{one_command, command_or_none}
 
 -- ---- reading
@@ -56,8 +56,8 @@ bytes_or_none (Some found) bytes is are none = none (subst AreBytes (sym (some_i
 -- a file that is read can be
 holds_can : (m : FileMap) (path bytes : List ℕ) → Holds m path bytes → CantRead m path → ⊥
 holds_can m path bytes holds (inl missing) = some_none (sym holds.there ∙ missing)
-holds_can m path bytes holds (inr (inl long)) = long_or_short (get m path) bytes holds.there holds.short long
-holds_can m path bytes holds (inr (inr none)) = bytes_or_none (get m path) bytes holds.there holds.are_bytes none
+holds_can m path bytes holds (inr (inl long)) = long_or_short (get m path) bytes holds.there holds.file.short long
+holds_can m path bytes holds (inr (inr none)) = bytes_or_none (get m path) bytes holds.there holds.file.are_bytes none
 
 tail_of : {a b : Word} (xs ys : List Word) → (a ∷ xs) ≡ (b ∷ ys) → (a ≡ b) × (xs ≡ ys)
 tail_of xs ys e = (cc, cc)
@@ -145,7 +145,8 @@ answer_of command texts answer (informed lines info) = inl (lines, info, refl)
 answer_of command texts answer (exec_info_refused index path refusal is) = inr (index, path, refusal, is, refl)
 answer_of command texts answer (listed lines are) = inl (lines, are, refl)
 answer_of command texts answer (class_refused index path why is) = inr (index, path, why, is, refl)
-answer_of command texts answer (reported store items union are none) = by_items store items union are none refl
+answer_of command texts answer (reported {out = out} {name = name} {exec = exec} {paths = paths} store items counted union are none count) =
+    reported_so out name exec paths texts store items counted union are none count
 answer_of command texts answer (report_refused index path refusal is) = by_data index path refusal is refl
 answer_of command texts answer (report_clashes {path = path} store count items refusal union are clash) =
     by_clash path store count items refusal refl union are clash refl
@@ -262,7 +263,7 @@ can_or_cannot m path = by (get m path) refl
       where
         sized : (most_read < length bytes) ⊎ (length bytes ≤ most_read) → AreBytes bytes ⊎ (AreBytes bytes → ⊥) → ((bytes : List ℕ) × Holds m path bytes) ⊎ CantRead m path
         sized (inl long) which = inr (inr (inl (subst IsLong (sym is) long)))
-        sized (inr short) (inl are) = inl (bytes, record { there = is; are_bytes = are; short = short })
+        sized (inr short) (inl are) = inl (bytes, record { there = is; file = record { are_bytes = are; short = short } })
         sized (inr short) (inr none) = inr (inr (inr (subst IsNoFile (sym is) none)))
 
 reads_on : (m : FileMap) (paths : List Word) → ((texts : List (List ℕ)) × AreRead m paths texts) ⊎ ((front : List Word) × (path : Word) × StopsAt m paths front path)
@@ -285,7 +286,7 @@ all_files : (m : FileMap) (paths : List Word) (texts : List (List ℕ)) → AreR
 all_files m [] [] read = tt
 all_files m [] (t ∷ ts) read = absurd read
 all_files m (p ∷ ps) [] read = absurd read
-all_files m (p ∷ ps) (t ∷ ts) read = ((read.0.are_bytes, read.0.short), all_files m ps ts read.1)
+all_files m (p ∷ ps) (t ∷ ts) read = (read.0.file, all_files m ps ts read.1)
 
 some_answer : (command : Command) (texts : List (List ℕ)) (m : FileMap) → AreRead m (inputs_of command) texts → (answer : Answer) × Answers command texts answer
 some_answer (merge out inputs) texts m read = ⊎_elim (λ union. (_, merged union.0 union.1)) (λ refused. (_, merge_refused refused.0 refused.1 refused.2 refused.3)) (some_union_or_refused inputs texts)

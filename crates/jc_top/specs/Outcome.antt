@@ -1,12 +1,11 @@
 -- What the steps of a command give, told or not.
-use Rattle.std.specs.Prelude.{◌≡◌, ◌≢◌, ◌⊎◌, ◌≤◌, ⊤, ℕ, List, [], ◌∷◌, ◌++◌, length, map, Option, Some, Result, Ok, Err, Vec}
+use Rattle.std.specs.Prelude.{◌≡◌, ◌≢◌, ◌⊎◌, ◌≤◌, ⊤, ℕ, List, [], ◌∷◌, ◌++◌, map, Option, Some, Result, Ok, Err, Vec}
 use Rattle.std.specs.Borrow.{Bor}
 use Rattle.std.specs.declared.alloc.Global.{Global}
 use Rattle.jc_base.specs.declared.Fail.{Fail}
 use Rattle.jc_base.specs.declared.Fail.TheVariants as fails
 use Rattle.jc_base.specs.declared.FileFault.{FileFault}
 use Rattle.jc_base.specs.declared.FileFault.TheVariants as file_faults
-use Rattle.jc_base.specs.Reader.{most_read}
 use Rattle.jc_base.specs.Outside.{FileMap, WhereTold, Rose}
 use Rattle.jc_exec.specs.declared.refusal.ExecRefusal.{ExecRefusal}
 use Rattle.jc_top.specs.declared.status.Status.{Status}
@@ -24,7 +23,7 @@ use Rattle.jc_top.specs.Command.{Command, inputs_of, HasNoErrLine, Means, NoForm
 use Rattle.jc_top.specs.Looks.{command_seen, write_seen}
 use Rattle.jc_top.specs.World.{World, Counts, NoneRose, Write, to_file, to_out, to_err, Landed, after, Broken, TextBroken, StopsIn, grown}
 use Rattle.jc_top.specs.Texts.{cannot_read, cannot_write, cannot_write_output, fault_text, usage_text}
-use Rattle.jc_top.specs.Work.{Holds, CantRead, AreRead, StopsAt, Answers, refusing, IsWork, WorkEnds, DoesWork}
+use Rattle.jc_top.specs.Work.{IsFile, AreFiles, Holds, CantRead, AreRead, StopsAt, Answers, refusing, IsWork, WorkEnds, DoesWork}
 
 -- ---- words
 
@@ -47,7 +46,7 @@ read_stop file_faults.Missing path = stops.Read path
 read_stop file_faults.TooLarge path = stops.Read path
 
 abbrev pub ReadOne : Option FileMap → List ℕ → ℕ → ℕ → Result (List ℕ) Stop → Type 0
-ReadOne contents path old new (Ok bytes) = (new ≡ old) × (length bytes ≤ most_read) × WhereTold contents (λ m. Holds m path bytes)
+ReadOne contents path old new (Ok bytes) = (new ≡ old) × IsFile bytes × WhereTold contents (λ m. Holds m path bytes)
 ReadOne contents path old new (Err stops.Memory) = new ≡ old
 ReadOne contents path old new (Err (stops.Read p)) = (p.now ≡ path) × ReadStops contents (λ m. CantRead m path) old new
 ReadOne contents path old new (Err (stops.Write p)) = ⊥
@@ -70,7 +69,7 @@ ReadsStop contents paths path old new =
 
 -- the paths were read, or the first that couldn't be stops
 abbrev pub ReadAll : Option FileMap → List Word → ℕ → ℕ → Result (Vec (List ℕ) Global) Stop → Type 0
-ReadAll contents paths old new (Ok texts) = (new ≡ old) × WhereTold contents (λ m. AreRead m paths texts.items)
+ReadAll contents paths old new (Ok texts) = (new ≡ old) × AreFiles paths texts.items × WhereTold contents (λ m. AreRead m paths texts.items)
 ReadAll contents paths old new (Err stops.Memory) = new ≡ old
 ReadAll contents paths old new (Err (stops.Read p)) = ReadsStop contents paths p.now old new
 ReadAll contents paths old new (Err (stops.Write p)) = ⊥
@@ -97,9 +96,11 @@ AnswersWith command texts (Err (stops.Read p)) = ⊥
 AnswersWith command texts (Err (stops.Write p)) = ⊥
 AnswersWith command texts (Err stops.Output) = ⊥
 
--- what was read of the inputs, which is what they hold where that is told, and what is made of it
+-- What was read of the inputs, and what is made of it. There is one text of each input, of at most 67,108,864 bytes; where
+-- contents are told, it is what the input holds.
 abbrev pub Read : Option FileMap → Command → (List (List ℕ) → Type 0) → Type 0
-Read contents command P = (texts : List (List ℕ)) × WhereTold contents (λ m. AreRead m (inputs_of command) texts) × P texts
+Read contents command P =
+    (texts : List (List ℕ)) × AreFiles (inputs_of command) texts × WhereTold contents (λ m. AreRead m (inputs_of command) texts) × P texts
 
 abbrev pub Prepares : Option FileMap → Command → ℕ → ℕ → Result (Vec Written Global) Stop → Type 0
 Prepares contents command old new (Ok writes) =

@@ -1,16 +1,17 @@
 -- What the command `report` makes of execution data and of class files (JaCoCo's documentation on coverage counters).
-use Rattle.std.specs.Prelude.{◌≡◌, ⊤, ℕ, Bool, true, false, not, ◌&&◌, List, [], ◌∷◌, length, map, filter, take, drop, nat_eq, bytes_eq}
+use Rattle.std.specs.Prelude.{◌≡◌, ⊤, ℕ, Bool, true, false, not, List, [], ◌∷◌, length, map, filter, take, drop, nat_eq}
 use Rattle.std.specs.Prelude.{Option, Some, None, option_map, option_to_list, if◌then◌else◌}
 use Rattle.std.specs.Option.{option_or}
 use Rattle.std.specs.List.{find}
 use Rattle.jc_base.specs.declared.Analysed.{Analysed}
 use Rattle.jc_base.specs.declared.Refusal.{Refusal}
 use Rattle.jc_cover.specs.Counters.{counters_of}
-use Rattle.jc_cover.specs.Covered.{hits_or_none}
-use Rattle.jc_cover.specs.Marking.{coverage_of}
+use Rattle.jc_cover.specs.Covered.{hits_or_none, TellsCovered}
+use Rattle.jc_cover.specs.declared.coverage.Coverage.{Coverage}
 use Rattle.jc_exec.specs.declared.hits.ClassHits.{ClassHits}
 use Rattle.jc_exec.specs.declared.refusal.ExecRefusal.{ExecRefusal}
-use Rattle.jc_exec.specs.declared.refusal.ExecRefusal.TheVariants.{Conflict}
+use Rattle.jc_exec.specs.Answers.{conflict_with}
+use Rattle.jc_exec.specs.Union.{fits}
 use Rattle.jc_instrument.specs.Analysis.{IsAnalysis}
 use Rattle.jc_instrument.specs.LeftAlone.{is_left_alone}
 use Rattle.jc_instrument.specs.Reasons.{AnalysisReason}
@@ -76,14 +77,10 @@ changed_of (changed_class a ∷ items) = a ∷ changed_of items
 abbrev pub record_of : List ClassHits → ℕ → Option ClassHits
 record_of records id = find (λ r. nat_eq r.id id) records
 
--- the record has the name of the class, and as many probes
-abbrev pub fits : Analysed → ClassHits → Bool
-fits a r = bytes_eq r.name a.name && nat_eq (length r.bits) a.probes
-
--- the record of the id of a class with another name or another count
+-- the record of the id of a class with another name or another number of probes
 abbrev pub clash_with : Analysed → Option ClassHits → Option ExecRefusal
 clash_with a None = None
-clash_with a (Some r) = if fits a r then None else Some (Conflict a.id r.name a.name (length r.bits) a.probes)
+clash_with a (Some r) = if fits r a.name a.probes then None else Some (conflict_with r a.id a.name a.probes)
 
 abbrev pub clash_of : List ClassHits → ReportedFile → Option ExecRefusal
 clash_of records (refused_class why) = None
@@ -102,27 +99,38 @@ abbrev pub first_of_each_id : List Analysed → List Analysed
 first_of_each_id [] = []
 first_of_each_id (a ∷ classes) = a ∷ filter (λ b. not (nat_eq a.id b.id)) (first_of_each_id classes)
 
--- the class with its counters, by these hits, or by none
-abbrev pub counted_of : Option (List Bool) → Analysed → Counted
-counted_of hits a = record {
+-- the class with the counters of this coverage
+abbrev pub counted_with : Analysed → Coverage → Counted
+counted_with a coverage = record {
   id = a.id;
   name = a.name;
   super_name = a.super_name;
   interfaces = a.interfaces;
-  counters = counters_of a.bodies (coverage_of a.bodies (hits_or_none hits));
+  counters = counters_of a.bodies coverage;
 }
 
--- the same by the hits of its record
-abbrev pub counted_by : List ClassHits → Analysed → Counted
-counted_by records a = counted_of (option_map (λ r. r.bits) (record_of records a.id)) a
+-- The class with its counters, by these hits, or by none: they are the counters of the coverage that tells which edges
+-- chains of edges cover.
+pub record IsCounted (hits : Option (List Bool)) (a : Analysed) (c : Counted) : Type 0 where
+  pub coverage : Coverage
+  pub tells : TellsCovered a.bodies (hits_or_none hits) coverage
+  pub counted : c ≡ counted_with a coverage
 
-abbrev pub counted_classes : List ClassHits → List ReportedFile → List Counted
-counted_classes records items = map (counted_by records) (first_of_each_id (changed_of items))
+-- the hits of the record of the class, if there is one
+abbrev pub hits_of : List ClassHits → Analysed → Option (List Bool)
+hits_of records a = option_map (λ r. r.bits) (record_of records a.id)
+
+-- the classes with their counters, each by the hits of its record
+abbrev pub AreCounted : List ClassHits → List Analysed → List Counted → Type 0
+AreCounted records [] [] = ⊤
+AreCounted records [] (c ∷ counted) = ⊥
+AreCounted records (a ∷ classes) [] = ⊥
+AreCounted records (a ∷ classes) (c ∷ counted) = IsCounted (hits_of records a) a c × AreCounted records classes counted
 
 -- the CSV text of classes in the report of this name
 abbrev pub report_text : Word → List Counted → List ℕ
 report_text name classes = csv_of (rows_of name classes)
 
--- that of the changed classes
-abbrev pub csv_of_items : Word → List ClassHits → List ReportedFile → List ℕ
-csv_of_items name records items = report_text name (counted_classes records items)
+-- the changed classes of the items, the first of each id, with their counters
+abbrev pub AreCountedItems : List ClassHits → List ReportedFile → List Counted → Type 0
+AreCountedItems records items counted = AreCounted records (first_of_each_id (changed_of items)) counted

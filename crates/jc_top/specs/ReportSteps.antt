@@ -1,5 +1,6 @@
 -- What the steps of a report give.
-use Rattle.std.specs.Prelude.{◌≡◌, ⊤, ℕ, Bool, List, [], ◌∷◌, ◌++◌, length, map, take, nat_eq, Option, Some, None, Result, Ok, Err, Vec, if◌then◌else◌}
+use Rattle.std.specs.Prelude.{◌≡◌, ⊤, ℕ, Bool, List, [], ◌∷◌, ◌++◌, length, map, take, nat_eq, Option, Some, None, Result, Ok, Err}
+use Rattle.std.specs.Prelude.{Vec, if◌then◌else◌}
 use Rattle.std.specs.Borrow.{Bor}
 use Rattle.std.specs.List.{list_any}
 use Rattle.std.specs.declared.alloc.Global.{Global}
@@ -9,6 +10,8 @@ use Rattle.jc_base.specs.declared.Body.{Body}
 use Rattle.jc_base.specs.declared.Refusal.{Refusal}
 use Rattle.jc_exec.specs.declared.hits.ClassHits.{ClassHits}
 use Rattle.jc_exec.specs.declared.refusal.ExecRefusal.{ExecRefusal}
+use Rattle.jc_cover.specs.Covered.{hits_or_none}
+use Rattle.jc_cover.specs.Marking.{coverage_of}
 use Rattle.jc_report.specs.declared.row.Counted.{Counted}
 use Rattle.jc_top.specs.declared.class_report.Data.{Data}
 use Rattle.jc_top.specs.declared.class_report.Looked.{Looked}
@@ -20,7 +23,7 @@ use Rattle.jc_top.specs.declared.stop.Stop.{Stop}
 use Rattle.jc_top.specs.declared.stop.Stop.TheVariants as stops
 use Rattle.jc_top.specs.Looks.{write_seen}
 use Rattle.jc_top.specs.Report.{ReportedFile, refused_class, unchanged_class, changed_class, IsItem, AreItems, lines_of, changed_of}
-use Rattle.jc_top.specs.Report.{record_of, clash_with, clash_of, first_clash, counted_by, counted_classes, csv_of_items}
+use Rattle.jc_top.specs.Report.{record_of, hits_of, clash_with, clash_of, first_clash, first_of_each_id, counted_with, report_text}
 use Rattle.jc_top.specs.Texts.{refused_line}
 use Rattle.jc_top.specs.Words.{Word}
 use Rattle.jc_top.specs.World.{to_file, to_err}
@@ -42,6 +45,19 @@ StopsAtClash path Why (stops.Refused file fault) = (refusal : ExecRefusal) × (p
 StopsAtClash path Why (stops.Read p) = ⊥
 StopsAtClash path Why (stops.Write p) = ⊥
 StopsAtClash path Why stops.Output = ⊥
+
+-- ---- the counters of a class
+
+-- the class with its counters, as its coverage is found by marking
+abbrev pub counted_of : Option (List Bool) → Analysed → Counted
+counted_of hits a = counted_with a (coverage_of a.bodies (hits_or_none hits))
+
+-- the same by the hits of its record
+abbrev pub counted_by : List ClassHits → Analysed → Counted
+counted_by records a = counted_of (hits_of records a) a
+
+abbrev pub counted_classes : List ClassHits → List ReportedFile → List Counted
+counted_classes records items = map (counted_by records) (first_of_each_id (changed_of items))
 
 -- ---- one class file
 
@@ -125,5 +141,5 @@ FrontClashes records texts refusal =
 abbrev pub ReportsWith : (out name : Word) → List ClassHits → Option Word → List Word → List (List ℕ) → Result (Vec Written Global) Stop → Type 0
 ReportsWith out name records path paths texts (Ok writes) =
     (items : List ReportedFile) × AreItems texts items × (first_clash records items ≡ None)
-    × (map write_seen writes.items ≡ map to_err (lines_of paths items) ++ to_file out (csv_of_items name records items) ∷ [])
+    × (map write_seen writes.items ≡ map to_err (lines_of paths items) ++ to_file out (report_text name (counted_classes records items)) ∷ [])
 ReportsWith out name records path paths texts (Err stop) = StopsAtClash path (FrontClashes records texts) stop

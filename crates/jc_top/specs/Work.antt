@@ -1,5 +1,6 @@
 -- The work of a command: what it reads and writes, and how it ends, where the files are told.
-use Rattle.std.specs.Prelude.{◌≡◌, ◌⊎◌, ◌≤◌, ⊤, ℕ, List, [], ◌∷◌, ◌++◌, length, map, take, Option, Some, None, option_to_list}
+use Rattle.std.specs.Prelude.{◌≡◌, ◌⊎◌, ◌≤◌, ⊤, ℕ, List, [], ◌∷◌, ◌++◌, length, map, take, All}
+use Rattle.std.specs.Prelude.{Option, Some, None, option_to_list}
 use Rattle.std.specs.FinMap.{get}
 use Rattle.jc_base.specs.ByteLists.{AreBytes}
 use Rattle.jc_base.specs.Reader.{most_read}
@@ -16,7 +17,8 @@ use Rattle.jc_base.specs.declared.Refusal.{Refusal}
 use Rattle.jc_top.specs.ClassInfo.{AreListed, RefusedAt}
 use Rattle.jc_top.specs.ExecData.{IsUnionOf, IsFirstRefused, IsFirstRefusedAlone}
 use Rattle.jc_top.specs.ExecInfo.{AreInfo}
-use Rattle.jc_top.specs.Report.{ReportedFile, AreItems, data_texts, class_texts, lines_of, first_clash, csv_of_items}
+use Rattle.jc_report.specs.declared.row.Counted.{Counted}
+use Rattle.jc_top.specs.Report.{ReportedFile, AreItems, data_texts, class_texts, lines_of, first_clash, AreCountedItems, report_text}
 use Rattle.jc_top.specs.Command.{Command, merge, exec_info, class_info, report, instrument, inputs_of, Means, NoForm}
 use Rattle.jc_top.specs.Texts.{usage_text, cannot_read, fault_text}
 use Rattle.jc_top.specs.Instrument.{AreFileWrites}
@@ -24,11 +26,20 @@ use Rattle.jc_top.specs.World.{World, Write, to_file, to_out, to_err, Landed, af
 
 -- ---- reading
 
--- the path holds these numbers, each of them is a byte, and they aren't too many
-pub record Holds (m : FileMap) (path bytes : List ℕ) : Type 0 where
-  pub there : get m path ≡ Some bytes
+-- these numbers may be what is read of a file: each of them is a byte, and they aren't too many
+pub record IsFile (bytes : List ℕ) : Type 0 where
   pub are_bytes : AreBytes bytes
   pub short : length bytes ≤ most_read
+
+-- as many texts as paths, and each may be what is read of a file
+pub record AreFiles (paths : List Word) (texts : List (List ℕ)) : Type 0 where
+  pub count : length texts ≡ length paths
+  pub each : All IsFile texts
+
+-- the path holds these bytes
+pub record Holds (m : FileMap) (path bytes : List ℕ) : Type 0 where
+  pub there : get m path ≡ Some bytes
+  pub file : IsFile bytes
 
 -- numbers of which one is 256 or more are the contents of no file
 abbrev pub IsNoFile : Option (List ℕ) → Type 0
@@ -83,10 +94,11 @@ pub data Answers : Command → List (List ℕ) → Answer → Type 0 where
       → Answers (class_info paths) texts (refusing path (fault.Class index why))
   -- no record clashes with a class
   reported : {out name : Word} {exec : Option Word} {paths : List Word} {texts : List (List ℕ)}
-      → (store : Store) (items : List ReportedFile)
+      → (store : Store) (items : List ReportedFile) (counted : List Counted)
       → IsUnionOf (data_texts exec texts) store → AreItems (class_texts exec texts) items → first_clash store.classes items ≡ None
+      → AreCountedItems store.classes items counted
       → Answers (report out name exec paths) texts
-      (record { writes = map to_err (lines_of paths items) ++ to_file out (csv_of_items name store.classes items) ∷ []; status = status.Done })
+      (record { writes = map to_err (lines_of paths items) ++ to_file out (report_text name counted) ∷ []; status = status.Done })
   -- the file of execution data is refused
   report_refused : {out name : Word} {exec : Option Word} {paths : List Word} {texts : List (List ℕ)}
       → (index : ℕ) (path : Word) (refusal : ExecRefusal)

@@ -1,25 +1,23 @@
 //! The class files of a report.
-ghost use Rattle.std.specs.Prelude.{◌≡◌, ◌≤◌, List, length, option_map, false, Some, None, All, IfSome, IfOk, IfErr, OnOk};
+ghost use Rattle.std.specs.Prelude.{◌≡◌, ◌≤◌, List, length, option_map, Some, None, All, IfSome, IfOk, IfErr, OnOk};
 ghost use Rattle.std.specs.List.{AllZip};
 ghost use Rattle.jc_base.specs.Reader.{most_read};
 ghost use Rattle.jc_exec.specs.declared.hits.ClassHits.{ClassHits};
-ghost use Rattle.jc_exec.specs.declared.refusal.ExecRefusal.TheVariants.{Conflict as conflict};
+ghost use Rattle.jc_exec.specs.Store.{IsWritableClass};
 ghost use Rattle.jc_plan.specs.Analysed.{IsAnalysed};
-ghost use Rattle.jc_top.specs.Report.{counted_of, counted_by};
-ghost use Rattle.jc_top.specs.Report.{fits, record_of, clash_with};
-ghost use Rattle.jc_top.specs.ReportSteps.{data_records, data_path, StopsAtClash, ClassClashes, IsLooked, IsSeen, SeesClass};
+ghost use Rattle.jc_top.specs.Report.{record_of, clash_with};
+ghost use Rattle.jc_top.specs.ReportSteps.{counted_of, counted_by, data_records, data_path, StopsAtClash, ClassClashes, IsLooked, IsSeen, SeesClass};
 ghost use Rattle.jc_top.specs.ReportSteps.{KeepsRefused, Keeps, LooksOn, LooksAtAll, FrontClashes};
 ghost use Rattle.jc_top.specs.Words.{Word, words_of};
 
-use crate::Fault;
 use crate::each::each_answer;
 use crate::message::refused_line;
 use crate::output::Write;
-use crate::stop::Stop;
+use crate::stop::{Stop, exec_stop};
 use indexmap::IndexSet;
 use jc_base::{Analysed, Bytes, Fail, Memory, Refusal};
 use jc_cover::{counters, covered};
-use jc_exec::{ClassHits, ExecRefusal, ExecStore};
+use jc_exec::{ClassHits, ExecStore, check_fits};
 use jc_instrument::analyse;
 use jc_report::Counted;
 use std::alloc::Global;
@@ -55,49 +53,10 @@ enum Seen {
     Changed(Counted),
 }
 
-/// Whether a record has the name of a class, and as many probes.
-fn fits(class: &Analysed, class_hits: &ClassHits) -> bool
-    ensures { result ≡ fits class.now class_hits.now }
-{
-    class_hits.name.as_slice() == class.name.as_slice()
-        && class_hits.bits.len() == class.probes as usize
-}
-
-/// The refusal of execution data in which the record of a class's id doesn't fit it. A record of more than
-/// 4,294,967,295 probes, which none is, counts as want of memory.
-fn conflict(alloc: Global, class: &Analysed, class_hits: &ClassHits) -> Result<ExecRefusal, Memory>
-    ensures { IfOk result (λ refusal. refusal
-        ≡ conflict class.now.id class_hits.now.name class.now.name (length class_hits.now.bits) class.now.probes) }
-{
-    let Ok(first_count) = u32::try_from(class_hits.bits.len()) else {
-        return Err(Memory);
-    };
-    Ok(ExecRefusal::Conflict {
-        id: class.id,
-        first: Bytes::copy_of(alloc, &class_hits.name)?,
-        second: Bytes::copy_of(alloc, &class.name)?,
-        first_count,
-        second_count: class.probes,
-    })
-}
-
-/// How a class whose record doesn't fit it stops the command.
-fn clash<'a>(alloc: Global, path: &'a str, class: &Analysed, class_hits: &ClassHits) -> Stop<'a>
-    requires { fits class.now class_hits.now ≡ false }
-    ensures { StopsAtClash (Some path.entry.now) (λ refusal. clash_with class.now (Some class_hits.now) ≡ Some refusal) result }
-{
-    match conflict(alloc, class, class_hits) {
-        Ok(refusal) => Stop::Refused {
-            file: path,
-            fault: Fault::Exec { path: 0, refusal },
-        },
-        Err(_) => Stop::Memory,
-    }
-}
-
 /// The record of a class in the execution data of a file, if there is one.
 fn record_in<'a, 'd>(exec_data: &'d Data<'a>, class: &Analysed) -> Option<&'d ClassHits>
-    ensures { option_map (λ r. r.now) result ≡ record_of exec_data.entry.now.store.classes class.now.id }
+    ensures found { option_map (λ r. r.now) result ≡ record_of exec_data.entry.now.store.classes class.now.id }
+    ensures writable { IfSome result (λ r. IsWritableClass r.now) }
 {
     exec_data.store.get(class.id)
 }
@@ -109,6 +68,7 @@ fn fitting<'a, 'd>(
     class: &Analysed,
     class_hits: Option<&'d ClassHits>,
 ) -> Result<Option<&'d ClassHits>, Stop<'a>>
+    requires { IfSome class_hits (λ r. IsWritableClass r.now) }
     ensures same { IfOk result (λ r. r ≡ class_hits.entry) }
     ensures fit { IfOk result (λ _. clash_with class.now (option_map (λ r. r.now) class_hits.entry) ≡ None) }
     ensures clash { IfErr result (StopsAtClash (Some path.entry.now)
@@ -116,13 +76,10 @@ fn fitting<'a, 'd>(
 {
     match class_hits {
         None => Ok(None),
-        Some(known) => {
-            if fits(class, known) {
-                Ok(Some(known))
-            } else {
-                Err(clash(alloc, path, class, known))
-            }
-        }
+        Some(known) => match check_fits(alloc, known, class.id, &class.name, class.probes) {
+            Ok(()) => Ok(Some(known)),
+            Err(fail) => Err(exec_stop(fail, 0, path)),
+        },
     }
 }
 

@@ -2,6 +2,9 @@
 //! the two texts of the machine.
 #![tactic(auto)]
 
+ghost use Rattle.std.specs.Prelude.{◌≡◌};
+ghost use Rattle.jcov.specs.ExitStatus.{exit_status};
+
 use jc_base::{HostFiles, HostSink};
 use jc_top::{Status, run_tool};
 use std::alloc::AllocError;
@@ -25,7 +28,9 @@ fn words(rt: &(impl rt::Env + AllocGlobal)) -> Result<Vec<String>, AllocError> {
 }
 
 /// The exit status: 0 to 5, in the order of the variants.
-fn exit_status(status: Status) -> u8 {
+fn exit_status(status: Status) -> u8
+    ensures { result ≡ exit_status status }
+{
     match status {
         Status::Done => 0,
         Status::Refused(_) => 1,

@@ -1,6 +1,6 @@
 use Rattle.std.proofs.Common.{List, Bool, Option, ◌∙◌, ap}
-use Rattle.jc_top.specs.Report.{record_of, counted_of}
-use Rattle.jc_top.specs.ReportSteps.{data_records}
+use Rattle.jc_top.specs.Report.{record_of}
+use Rattle.jc_top.specs.ReportSteps.{counted_of, data_records}
 use Rattle.jc_top.proofs.ReportStepLaws.{same_bits_count, fit_count, record_hits}
 use Rattle.jc_top.proofs.class_report.counted_by.Goals as goal
 

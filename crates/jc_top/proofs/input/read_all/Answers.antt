@@ -1,12 +1,11 @@
-use Rattle.std.proofs.Common.{◌≤◌, ◌+◌, ◌∷◌, [], ℕ, All, List, Option, String, take, length, Ok, Err, sym, ◌∙◌, ap, subst}
+use Rattle.std.proofs.Common.{◌+◌, ◌∷◌, [], ℕ, All, List, Option, String, string_bytes, take, length, Ok, Err, sym, ◌∙◌, ap, subst, arith}
 use Rattle.std.proofs.lemmas.Result.{err_from_is_err_and}
-use Rattle.std.proofs.lemmas.List.{take_all, length-append}
+use Rattle.std.proofs.lemmas.List.{take_all, length-append, length-map}
 use Rattle.std.proofs.lemmas.List.Elements.{All-push}
-use Rattle.jc_base.specs.Reader.{most_read}
 use Rattle.jc_base.specs.Outside.{FileMap, WhereTold}
 use Rattle.std.specs.declared.alloc.Global.{Global}
 use Rattle.jc_top.specs.Words.{Word, words_of}
-use Rattle.jc_top.specs.Work.{AreRead, Holds}
+use Rattle.jc_top.specs.Work.{IsFile, AreRead, Holds}
 use Rattle.jc_top.specs.Outcome.{ReadOne}
 use Rattle.jc_top.proofs.InputLaws.{told_more, read_stops_all}
 use Rattle.jc_top.proofs.input.read_all.Goals as goal
@@ -29,11 +28,21 @@ reading-preserved g c =
       read = subst (λ (ts : List (List ℕ)). WhereTold (F.contents c.args.files.now) (λ m. AreRead m (words_of (take (c.reading.path-index + 1) c.args.paths.now)) ts)) (sym texts)
           (told_more c.args.paths.now c.reading.path-index c.path-item.result c.reading-test.true c.path-item.is (F.contents c.args.files.now) c.reading.texts.items c.in_ok-text.text c.reading.invariant.read holds);
       each = ap length texts ∙ length-append c.reading.texts.items (c.in_ok-text.text ∷ []) ∙ ap (λ (n : ℕ). n + 1) c.reading.invariant.each;
-      short = subst (All (λ (t : List ℕ). length t ≤ most_read)) (sym texts) (All-push (λ (t : List ℕ). length t ≤ most_read) c.reading.texts.items c.in_ok-text.text c.reading.invariant.short gave.1);
+      files = subst (All IsFile) (sym texts) (All-push IsFile c.reading.texts.items c.in_ok-text.text c.reading.invariant.files gave.1);
       contents = c.in_ok-text.ensures.contents ∙ c.reading.invariant.contents;
       read_faults = gave.0 ∙ c.reading.invariant.read_faults;
       write_faults = c.in_ok-text.ensures.write_faults ∙ c.reading.invariant.write_faults;
     }
 
 pub returns-clause-gives : goal.returns-clause-gives
-returns-clause-gives g c = (c.reading.invariant.read_faults, subst (λ (paths : List (String Global)). WhereTold (g.F.Files.contents c.args.files.now) (λ m. AreRead m (words_of paths) c.reading.texts.items)) (take_all c.reading.path-index c.args.paths.now c.reading-test.false) c.reading.invariant.read)
+returns-clause-gives g c = (
+  c.reading.invariant.read_faults,
+  record {
+    count = omega (arith, c.reading.invariant.each, c.reading-test.false, length-map c.args.paths.now string_bytes);
+    each = c.reading.invariant.files;
+  },
+  subst (λ (paths : List (String Global)). WhereTold (g.F.Files.contents c.args.files.now) (λ m. AreRead m (words_of paths) c.reading.texts.items)) (take_all c.reading.path-index c.args.paths.now c.reading-test.false) c.reading.invariant.read,
+)
+
+pub returns-clause-short : goal.returns-clause-short
+returns-clause-short g c = λ k d lt. (c.reading.invariant.files k d lt).short

@@ -10,4 +10,4 @@ returns-clause-gives g c = λ dest is.
     let writes = map write_seen c.in_ok-all_writes.field-0.items in
     let texts = c.in_ok-texts.texts.items in
     let in_dest = subst (λ (targets : List Word). AreFileWrites targets (words_of c.args.paths.now) texts writes) is c.in_ok-all_writes.ensures in
-    (c.in_ok-texts.ensures.gives.0, (texts, c.in_ok-texts.ensures.gives.1, instrumented writes in_dest))
+    (c.in_ok-texts.ensures.gives.0, (texts, c.in_ok-texts.ensures.gives.1, c.in_ok-texts.ensures.gives.2, instrumented writes in_dest))

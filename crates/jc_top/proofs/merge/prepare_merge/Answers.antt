@@ -13,5 +13,6 @@ returns-in_err-texts-clause-gives g c =
 
 pub returns-clause-gives : goal.returns-clause-gives
 returns-clause-gives g c =
-    command_prepares (g.F.Files.contents c.args.files.now) (merge c.args.destfile.now (words_of c.args.inputs.now)) c.in_ok-texts.texts.items (g.F.Files.read_faults c.args.files.now) (g.F.Files.read_faults c.read_all.new.files) c.merged.result c.in_ok-texts.ensures.gives.0 c.in_ok-texts.ensures.gives.1
+    command_prepares (g.F.Files.contents c.args.files.now) (merge c.args.destfile.now (words_of c.args.inputs.now)) c.in_ok-texts.texts.items (g.F.Files.read_faults c.args.files.now) (g.F.Files.read_faults c.read_all.new.files) c.merged.result c.in_ok-texts.ensures.gives.0
+    c.in_ok-texts.ensures.gives.1 c.in_ok-texts.ensures.gives.2
     (subst (λ (ts : List (List ℕ)). AnswersWith (merge c.args.destfile.now (words_of c.args.inputs.now)) ts c.merged.result) c.deref.ensures.value c.merged.ensures)

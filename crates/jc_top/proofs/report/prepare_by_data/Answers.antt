@@ -6,7 +6,7 @@ use Rattle.jc_top.specs.Words.{words_of}
 use Rattle.jc_top.specs.Outcome.{ReadAll, AnswersWith}
 use Rattle.jc_top.specs.Work.{AreRead}
 use Rattle.jc_top.proofs.ReadLaws.{command_prepares}
-use Rattle.jc_top.proofs.ReportRunLaws.{both_read, data_stops, files_stop}
+use Rattle.jc_top.proofs.ReportRunLaws.{both_files, both_read, data_stops, files_stop}
 use Rattle.jc_top.proofs.report.prepare_by_data.Goals as goal
 
 pub returns-in_err-bytes-clause-gives : goal.returns-in_err-bytes-clause-gives
@@ -37,7 +37,7 @@ returns-clause-gives g c =
     let read = c.in_ok-bytes.ensures.gives in
     let both : (c.deref.result.now ∷ ts) ≡ (t ∷ ts) = λ i. c.deref.ensures i ∷ ts in
     command_prepares k command (t ∷ ts) (g.F.Files.read_faults c.args.files.now) (g.F.Files.read_faults c.read_all.new.files) c.reported_by_data.result
-    (c.in_ok-texts.ensures.gives.0 ∙ read.0)
+    (c.in_ok-texts.ensures.gives.0 ∙ read.0) (both_files c.args.exec.now paths t ts read.1 c.in_ok-texts.ensures.gives.1)
     (both_read k c.args.exec.now paths t ts read.2
-    (subst (λ (l : Option FileMap). WhereTold l (λ m. AreRead m paths ts)) c.in_ok-bytes.ensures.contents c.in_ok-texts.ensures.gives.1))
+    (subst (λ (l : Option FileMap). WhereTold l (λ m. AreRead m paths ts)) c.in_ok-bytes.ensures.contents c.in_ok-texts.ensures.gives.2))
     (subst (λ (l : List (List ℕ)). AnswersWith command l c.reported_by_data.result) both c.reported_by_data.ensures)

@@ -15,5 +15,6 @@ pub returns-clause-gives : goal.returns-clause-gives
 returns-clause-gives g c =
     let command = report c.args.out.now c.args.name.now None (words_of c.args.paths.now) in
     command_prepares (g.F.Files.contents c.args.files.now) command c.in_ok-texts.texts.items (g.F.Files.read_faults c.args.files.now) (g.F.Files.read_faults c.read_all.new.files)
-    c.reported_without_data.result c.in_ok-texts.ensures.gives.0 c.in_ok-texts.ensures.gives.1
+    c.reported_without_data.result c.in_ok-texts.ensures.gives.0
+    c.in_ok-texts.ensures.gives.1 c.in_ok-texts.ensures.gives.2
     c.reported_without_data.ensures

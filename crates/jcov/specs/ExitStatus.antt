@@ -1,0 +1,13 @@
+-- The exit status of the program.
+use Rattle.std.specs.Prelude.{ℕ}
+use Rattle.jc_top.specs.declared.status.Status.{Status}
+use Rattle.jc_top.specs.declared.status.Status.TheVariants.{Done, Refused, Usage, ReadFault, WriteFault, Memory}
+
+-- 0 where all was written, and else the number of what ended the run
+abbrev pub exit_status : Status → ℕ
+exit_status Done = 0
+exit_status (Refused fault) = 1
+exit_status Usage = 2
+exit_status ReadFault = 3
+exit_status WriteFault = 4
+exit_status Memory = 5
