@@ -1,0 +1,183 @@
+//! Code: decoded, and encoded again.
+ghost use Rattle.std.specs.Prelude.{◌≤◌, ◌<◌, ◌≡◌, All, IsTrue, false, length, slice_index};
+ghost use Rattle.jc_base.specs.Flow.{targets_of};
+ghost use Rattle.jc_base.specs.Insn.{with_places};
+ghost use Rattle.jc_insn.specs.Decoding.{IsInsnAmong};
+ghost use Rattle.jc_insn.specs.Sizes.{StartAt};
+ghost use Rattle.jc_insn.specs.Writing.{AllNear, IsNearJump};
+
+use crate::bytes::{put_bytes, spelled};
+use crate::insns::{has_few_arms, is_wide, of_opcode, put_insn};
+use crate::readers::put_refusal;
+use crate::words::numbers;
+use crate::wrong::{Wrong, unknown};
+use jc_base::{Fail, Insn};
+use jc_insn::{Decoded, decode, encode, size_of};
+use std::alloc::{AllocError, Global};
+use std::fmt::Write;
+
+/// Puts each instruction behind its offset, and the offset of the end.
+fn put_decoded(out: &mut String, decoded: &Decoded) -> Result<(), AllocError> {
+    let starts = decoded.starts.as_slice();
+    for (insn, start) in decoded.code.as_slice().iter().zip(starts) {
+        write!(out, "{start} ")?;
+        put_insn(out, insn)?;
+        out.push_str(", ")?;
+    }
+    match starts.last() {
+        Some(end) => write!(out, "end {end}"),
+        None => out.push_str("no end"),
+    }
+}
+
+/// Decodes the bytes, keeps their code, and puts it.
+fn read<'a>(
+    alloc: Global,
+    code: &mut Vec<Insn>,
+    text: &[&'a str],
+    out: &mut String,
+) -> Result<(), Wrong<'a>> {
+    let bytes = spelled(alloc, text)?;
+    match decode(alloc, &bytes) {
+        Ok(decoded) => {
+            put_decoded(out, &decoded)?;
+            *code = decoded.code.into_vec();
+        }
+        Err(Fail::Said(refusal)) => {
+            put_refusal(out, &refusal)?;
+            code.clear();
+        }
+        Err(Fail::Memory) => return Err(Wrong::Memory),
+    }
+    Ok(())
+}
+
+/// Whether instructions begin at these offsets in a layout, the first at this one, and end at the last.
+fn start_at(wide: bool, at: u32, code: &[Insn], starts: &[u32]) -> bool
+    ensures { IsTrue result → StartAt wide at code.now starts.now }
+{
+    match code {
+        [] => matches!(starts, [end] if *end == at),
+        [insn, code @ ..] => {
+            if !has_few_arms(insn) {
+                return false;
+            }
+            match (starts, at.checked_add(size_of(insn, at, wide))) {
+                ([start, later @ ..], Some(next)) => *start == at
+                    && start_at(wide, next, code, later),
+                _ => false,
+            }
+        }
+    }
+}
+
+/// Whether the instruction at this offset has room in two bytes for its jump, if it is one.
+fn is_near(insn: &Insn, at: u32, starts: &[u32]) -> bool
+    ensures { IsTrue result → IsNearJump at (with_places (slice_index starts.now) insn.now) }
+{
+    match insn {
+        Insn::Jump { to, .. } => match starts.get(*to as usize) {
+            Some(to) => {
+                let (at, to) = (u64::from(at), u64::from(*to));
+                to < at + 32768 && at <= to + 32768
+            }
+            None => false,
+        },
+        _ => true,
+    }
+}
+
+/// Whether each instruction has room in two bytes for its jump, where they begin at these offsets.
+fn all_near(code: &[Insn], begins: &[u32], starts: &[u32]) -> bool
+    ensures { IsTrue result → AllNear (slice_index starts.now) code.now begins.now }
+{
+    match code {
+        [] => true,
+        [insn, code @ ..] => match begins {
+            [] => true,
+            [at, later @ ..] => is_near(insn, *at, starts) && all_near(code, later, starts),
+        },
+    }
+}
+
+/// Whether the code ends at an offset that `encode` takes.
+fn ends_low(code: &[Insn], starts: &[u32]) -> bool
+    ensures { IsTrue result → slice_index starts.now (length code.now) ≤ 2147483647 }
+{
+    match starts.get(code.len()) {
+        Some(end) => *end <= 2_147_483_647,
+        None => false,
+    }
+}
+
+/// Whether each jump leads to an instruction of the code.
+fn leads_inside(code: &[Insn], count: u32) -> bool
+    ensures { IsTrue result → All (λ insn. All (λ to. to < count) (targets_of insn)) code.now }
+{
+    code.iter().all(|insn| insn.leads_within(count))
+}
+
+/// Whether these are the offsets of the instructions and of the end in a layout in which each jump has room.
+fn are_laid(code: &[Insn], starts: &[u32], wide: bool) -> bool
+    ensures starts { IsTrue result → StartAt wide 0 code.now starts.now }
+    ensures end { IsTrue result → slice_index starts.now (length code.now) ≤ 2147483647 }
+    ensures near { IsTrue result → wide ≡ false → AllNear (slice_index starts.now) code.now starts.now }
+{
+    start_at(wide, 0, code, starts)
+        && (ends_low(code, starts) && (wide || all_near(code, starts, starts)))
+}
+
+/// Puts the bytes of code whose instructions begin at these offsets in a layout.
+fn put_encoded(
+    alloc: Global,
+    code: &[Insn],
+    starts: &[u32],
+    wide: bool,
+    out: &mut String,
+) -> Result<(), Wrong<'static>>
+    requires { All (IsInsnAmong (length code.now)) code.now }
+{
+    if code.len() > 65535 || !leads_inside(code, code.len() as u32) {
+        return Err(Wrong::Line("a jump to no instruction"));
+    }
+    if !are_laid(code, starts, wide) {
+        return Err(Wrong::Line("other offsets"));
+    }
+    let mut bytes = Vec::new(alloc);
+    encode(alloc, code, starts, wide, &mut bytes)?;
+    put_bytes(out, &bytes)?;
+    Ok(())
+}
+
+/// Decodes the bytes, and puts the bytes of their code in a layout.
+fn encoded<'a>(
+    alloc: Global,
+    layout: &'a str,
+    starts: &'a str,
+    text: &[&'a str],
+    out: &mut String,
+) -> Result<(), Wrong<'a>> {
+    let wide = is_wide(layout)?;
+    let starts = numbers(alloc, starts)?;
+    let bytes = spelled(alloc, text)?;
+    match decode(alloc, &bytes) {
+        Ok(decoded) => put_encoded(alloc, decoded.code.as_slice(), &starts, wide, out),
+        Err(Fail::Said(refusal)) => Ok(put_refusal(out, &refusal)?),
+        Err(Fail::Memory) => Err(Wrong::Memory),
+    }
+}
+
+/// What a call answers.
+pub fn answer<'a>(
+    alloc: Global,
+    code: &mut Vec<Insn>,
+    words: &[&'a str],
+    out: &mut String,
+) -> Result<(), Wrong<'a>> {
+    match words {
+        ["decode", text @ ..] => read(alloc, code, text, out),
+        ["encode", layout, starts, text @ ..] => encoded(alloc, layout, starts, text, out),
+        [call, op] => of_opcode(call, op, out),
+        words => Err(unknown(words)),
+    }
+}
