@@ -14,7 +14,7 @@ use Rattle.jc_bytes.specs.declared.refusal.RefusalKind.TheVariants as kinds
 use Rattle.jc_bytes.proofs.ListLaws.{below_or_last}
 use Rattle.jc_class.specs.declared.class_file.ClassFile.{ClassFile}
 use Rattle.jc_body.specs.BodyOf.{BodyOf, Bodiless, FaultOf}
-use Rattle.jc_body.specs.Answers as bodies
+use Rattle.jc_bytes.specs.Failing.{Said}
 use Rattle.jc_body.proofs.AnswerLaws.{Why, subroutine, fault, why, bodiless_or_fault, body_or_fault, one_fault}
 use Rattle.jc_instrument.specs.Bodies.{IsListed, AreBodiesBelow, AreBodies}
 use Rattle.jc_instrument.specs.Causes.{IsFirstCause, of_method, InMethod}
@@ -118,10 +118,10 @@ fault_read old new c n bodies bad kept r kept_is before f other = subst (λ (o :
     }
     found (Some s) first = first
 
-pub fault_kept : (old new : Names) (c : ClassFile) (n : ℕ) (reading : Reading) (kept : Option Refusal) (e : Fail Refusal) → bodies.Said e (FaultOf c n) → IsKept reading.bad kinds.Subroutine e kept
+pub fault_kept : (old new : Names) (c : ClassFile) (n : ℕ) (reading : Reading) (kept : Option Refusal) (e : Fail Refusal) → Said e (FaultOf c n) → IsKept reading.bad kinds.Subroutine e kept
     → IsReading old c n reading → IsReading new c (n + 1) (record reading { bad = kept })
 fault_kept old new c n reading kept e said k before =
-    fault_read old new c n reading.bodies reading.bad kept k.refusal k.new_is before (subst (λ (f : Fail Refusal). bodies.Said f (FaultOf c n)) k.fail_is said) k.other
+    fault_read old new c n reading.bodies reading.bad kept k.refusal k.new_is before (subst (λ (f : Fail Refusal). Said f (FaultOf c n)) k.fail_is said) k.other
 
 -- ---- the end
 
