@@ -1,7 +1,7 @@
 //! Instructions, and what each does and uses.
 ghost use Rattle.std.specs.Prelude.{◌≤◌, IsTrue};
 ghost use Rattle.jc_base.specs.Insn.{arm_count};
-ghost use Rattle.jc_base.specs.Outside.{most_read};
+ghost use Rattle.jc_base.specs.Reader.{most_read};
 
 use crate::words::number;
 use crate::wrong::{Wrong, unknown};
