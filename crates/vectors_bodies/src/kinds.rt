@@ -1,0 +1,129 @@
+//! The states of a body.
+ghost use Rattle.std.specs.Prelude.{◌<◌, length, All, IsTrue};
+ghost use Rattle.jc_base.specs.VerificationTypes.{IsNumbered};
+ghost use Rattle.jc_base.specs.WellMade.{IsKind, IsWellMadeOfAnySize};
+ghost use Rattle.jc_after.specs.Answers.{IsStateOf};
+
+use crate::bodies::body_of;
+use crate::insns::name_of;
+use crate::problem::Problem;
+use crate::states::{put_state, state_of, states_text};
+use jc_after::after;
+use jc_base::{Body, Insn, Kind, Names, State, opcode};
+use jc_kinds::{check_body, states};
+use std::alloc::Global;
+
+/// The state before each instruction of the method with this number.
+pub fn all_states(alloc: Global, class: &[u8], method: u32) -> Result<String, Problem<'static>> {
+    let mut names = Names::new(alloc)?;
+    let body = body_of(alloc, class, method, &mut names)?;
+    let found = states(alloc, &body, &mut names)?;
+    Ok(states_text(alloc, &found, &names)?)
+}
+
+/// Whether the method with this number passes the kind check.
+pub fn check(alloc: Global, class: &[u8], method: u32) -> Result<String, Problem<'static>> {
+    let mut names = Names::new(alloc)?;
+    let body = body_of(alloc, class, method, &mut names)?;
+    check_body(alloc, &body, &mut names)?;
+    Ok(format!(in alloc; "passes")?)
+}
+
+/// Whether an object before its constructor comes from a `new` of the code.
+fn is_kind(code: &[Insn], kind: Kind) -> bool
+    ensures { IsTrue result → IsKind code.now kind }
+{
+    match kind {
+        Kind::Uninit(at) => match code.get(at as usize) {
+            Some(Insn::OfClass { op, .. }) => *op == opcode::NEW,
+            _ => false,
+        },
+        _ => true,
+    }
+}
+
+/// Whether a class is among so many.
+fn is_numbered(count: u32, kind: Kind) -> bool
+    ensures { IsTrue result → IsNumbered count kind }
+{
+    match kind {
+        Kind::Object(number) => number < count,
+        _ => true,
+    }
+}
+
+/// Whether each object before its constructor comes from a `new` of the code.
+fn are_kinds(code: &[Insn], kinds: &[Kind]) -> bool
+    ensures { IsTrue result → All (IsKind code.now) kinds.now }
+{
+    kinds.iter().all(|kind| is_kind(code, *kind))
+}
+
+/// Whether each class is among so many.
+fn are_numbered(count: u32, kinds: &[Kind]) -> bool
+    ensures { IsTrue result → All (IsNumbered count) kinds.now }
+{
+    kinds.iter().all(|kind| is_numbered(count, *kind))
+}
+
+/// Whether the state has the body's local variables, and its objects come from the body, with classes among so many.
+#[tactic(auto, using(crate::proofs::StateLaws::state_numbered))]
+fn is_state_of(body: &Body, state: &State, count: u32) -> bool
+    ensures { IsTrue result → IsStateOf count body.now state.now }
+{
+    state.locals.len() == usize::from(body.max_locals)
+        && are_kinds(&body.code, &state.locals)
+        && are_kinds(&body.code, &state.stack)
+        && are_numbered(count, &state.locals)
+        && are_numbered(count, &state.stack)
+}
+
+/// Whether the instruction with this number has this mnemonic.
+fn is_named(code: &[Insn], at: u32, name: &str) -> bool
+    ensures { IsTrue result → at < length code.now }
+{
+    match code.get(at as usize) {
+        Some(insn) => name_of(insn) == name,
+        None => false,
+    }
+}
+
+/// The state after an instruction of a body, in words.
+fn next_state(
+    alloc: Global,
+    body: &Body,
+    at: u32,
+    state: &State,
+    names: &mut Names,
+) -> Result<String, Problem<'static>>
+    requires made { IsWellMadeOfAnySize body.now }
+    requires place { at < length body.now.code }
+{
+    if !is_state_of(body, state, names.len()) {
+        return Err(Problem::Missing("state of the body"));
+    }
+    let mut text = String::new(alloc);
+    match after(alloc, state, body, at, names)? {
+        Some(next) => put_state(&mut text, &next, names)?,
+        None => text.push_str("no state")?,
+    }
+    Ok(text)
+}
+
+/// The state after an instruction of the method with this number, which has this mnemonic, where the state before it is
+/// the one that words say.
+pub fn state_after<'a>(
+    alloc: Global,
+    class: &[u8],
+    method: u32,
+    (at, name): (u32, &'a str),
+    words: &[&'a str],
+) -> Result<String, Problem<'a>> {
+    let mut names = Names::new(alloc)?;
+    let body = body_of(alloc, class, method, &mut names)?;
+    if !is_named(&body.code, at, name) {
+        return Err(Problem::Word(name));
+    }
+    let state = state_of(alloc, words, &mut names)?;
+    next_state(alloc, &body, at, &state, &mut names)
+}
