@@ -1,4 +1,6 @@
 //! Laws of the types after an instruction.
+//!
+//! [`a_step_shifts`] is the promise of this crate; the other is a step, which the crates above cite too.
 ghost use Rattle.std.specs.Prelude.{◌≡◌, ◌<◌, ℕ, List, length};
 ghost use Rattle.jc_after.specs.Step.{fails};
 ghost use Rattle.jc_after.specs.After.{array_of, array_step};

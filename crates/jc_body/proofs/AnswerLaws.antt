@@ -19,7 +19,7 @@ use Rattle.jc_body.specs.Coded.{HasNoCode}
 use Rattle.jc_body.specs.Attributes.{AreTables}
 use Rattle.jc_body.specs.Faults.{HasSubroutine, OfCode, faults, insn_faults, row_faults, table_faults}
 use Rattle.jc_bytes.specs.Least.{IsNowhere, IsLeast}
-use Rattle.jc_body.specs.First.{Fault, IsFirst, AreNowhere}
+use Rattle.jc_body.specs.First.{Fault, IsFirstFault, AreNowhere}
 use Rattle.jc_body.specs.BodyOf.{places_used, HasParts, IsBody, BodyOf, Bodiless, IsReason, FaultOf}
 use Rattle.jc_body.specs.StackMap.{HasFrames}
 use Rattle.jc_body.proofs.FramesByNamesLaws.{one_numbering}
@@ -35,7 +35,7 @@ use Rattle.jc_body.proofs.UsesLaws.{one_uses}
 -- a reason is a subroutine instruction, or else the first fault
 pub data Why (major : ℕ) (pool : PoolValue) (owner : List ℕ) (method : Member) (kind : RefusalKind) (place : ℕ) : Type 0 where
   subroutine : kind ≡ kinds.Subroutine → IsLeast (HasSubroutine pool method) place → Why major pool owner method kind place
-  fault : kind ≡ kinds.BadCode → IsNowhere (HasSubroutine pool method) → IsFirst (faults major pool owner method) place → Why major pool owner method kind place
+  fault : kind ≡ kinds.BadCode → IsNowhere (HasSubroutine pool method) → IsFirstFault (faults major pool owner method) place → Why major pool owner method kind place
 
 pub why : (major : ℕ) (pool : PoolValue) (owner : List ℕ) (method : Member) (kind : RefusalKind) (place : ℕ) → IsReason major pool owner method kind place → Why major pool owner method kind place
 why major pool owner method kinds.Subroutine place r = subroutine refl r

@@ -11,7 +11,7 @@ use Rattle.jc_body.specs.CodeForm.{IsCodeText}
 use Rattle.jc_body.specs.Coded.{IsBodiless, HasNoCode, HasCode, HasItems, IsCoded, code_bodies}
 use Rattle.jc_body.specs.Faults.{NoSingleCode, MalformedCode, IsStopped, OfCode}
 use Rattle.jc_bytes.specs.Least.{IsNowhere, IsLeast}
-use Rattle.jc_body.specs.First.{Fault, IsFirst, AreNowhere}
+use Rattle.jc_body.specs.First.{Fault, IsFirstFault, AreNowhere}
 use Rattle.jc_body.proofs.FormLaws.{one_code_text}
 
 one_of : {x y : List ℕ} (l : List (List ℕ)) → l ≡ x ∷ [] → l ≡ y ∷ [] → x ≡ y
@@ -84,7 +84,7 @@ module _ (pool : PoolValue) (method : Member) where
     pub nowhere_of_code : (F : Coded → Fault) → IsNowhere (F coded) → IsNowhere (OfCode pool method F)
     nowhere_of_code F none p o = none p (subst (λ (c : Coded). F c p) (one_coded o.coded coded o.is is) o.fault)
 
-    pub first_of_code : (Fs : List (Coded → Fault)) (p : ℕ) → IsFirst (map (λ F. F coded) Fs) p → IsFirst (map (OfCode pool method) Fs) p
+    pub first_of_code : (Fs : List (Coded → Fault)) (p : ℕ) → IsFirstFault (map (λ F. F coded) Fs) p → IsFirstFault (map (OfCode pool method) Fs) p
     first_of_code [] p a = a
     first_of_code (F ∷ Fs) p (inl a) = inl (least_of_code F p a)
     first_of_code (F ∷ Fs) p (inr a) = inr (nowhere_of_code F a.0, first_of_code Fs p a.1)

@@ -26,7 +26,7 @@ use Rattle.jc_body.specs.CodeForm.{IsCodeText}
 use Rattle.jc_body.specs.Coded.{HasCode, HasItems, IsCoded, code_bodies}
 use Rattle.jc_body.specs.Faults.{NoSingleCode, HasSubroutine, faults, insn_faults, row_faults, table_faults}
 use Rattle.jc_bytes.specs.Least.{IsNowhere}
-use Rattle.jc_body.specs.First.{IsFirst, AreNowhere}
+use Rattle.jc_body.specs.First.{IsFirstFault, AreNowhere}
 use Rattle.jc_body.specs.BodyOf.{BodyOf, Bodiless, IsReason, FaultOf, handler_of, lines_of, vars_of, places_used}
 use Rattle.jc_body.specs.StackMap.{BeginsWith, HasFrames, BadStackMap}
 use Rattle.jc_body.proofs.FramesByNamesLaws.{some_numbering}
@@ -126,7 +126,7 @@ module _ (c : ClassFile) (number : ℕ) (method : Member) (at : slice_get c.meth
           by_map (inr bad) = absurd (none.1.1.1.1.1.1.0 bad.0 bad.1)
       by_tables none (inr bad) = absurd (none.1.1.1.1.1.0 0 (record { at = refl; fault = bad }))
 
-      by : ((place : ℕ) × IsFirst (map (λ F. F coded) (insn_faults c.major c.pool ++ (row_faults c.pool method ++ table_faults c.pool owner.0 method))) place) ⊎ AreNowhere (map (λ F. F coded) (insn_faults c.major c.pool ++ (row_faults c.pool method ++ table_faults c.pool owner.0 method))) → Answer c number
+      by : ((place : ℕ) × IsFirstFault (map (λ F. F coded) (insn_faults c.major c.pool ++ (row_faults c.pool method ++ table_faults c.pool owner.0 method))) place) ⊎ AreNowhere (map (λ F. F coded) (insn_faults c.major c.pool ++ (row_faults c.pool method ++ table_faults c.pool owner.0 method))) → Answer c number
       by (inl first) = refused kinds.BadCode first.0 (coded_reason c.major c.pool owner.0 method coded is_coded first.0 first.1)
       by (inr none) = by_tables none (tables_or_none c.pool coded.items.attributes)
 

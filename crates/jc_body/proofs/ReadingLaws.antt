@@ -23,7 +23,7 @@ use Rattle.jc_body.specs.Attributes.{AreTables}
 use Rattle.jc_body.specs.Coded.{HasNoCode, HasItems, IsCoded}
 use Rattle.jc_body.specs.Faults.{HasSubroutine, MalformedTable, TooWide, faults, insn_faults, row_faults, table_faults}
 use Rattle.jc_bytes.specs.Least.{IsNowhere}
-use Rattle.jc_body.specs.First.{Fault, IsFirst, AreNowhere, FirstFault}
+use Rattle.jc_body.specs.First.{Fault, IsFirstFault, AreNowhere, FirstFault}
 use Rattle.jc_body.specs.BodyOf.{IsBody, BodyOf, Bodiless, FaultOf}
 use Rattle.jc_body.specs.Sizes.{HasSmallParts}
 use Rattle.jc_body.specs.StackMap.{BadStackMap}
@@ -42,7 +42,7 @@ module _ (major : ℕ) (pool : PoolValue) (owner : List ℕ) (method : Member) (
   abbrev Back : List Fault
   Back = map (λ F. F coded) (table_faults pool owner method)
 
-  refusal : (r : Refusal) (place : ℕ) → r ≡ bad_code number place → IsFirst (Front ++ Back) place → IsRefusal major pool owner method number r
+  refusal : (r : Refusal) (place : ℕ) → r ≡ bad_code number place → IsFirstFault (Front ++ Back) place → IsRefusal major pool owner method number r
   refusal r place is_bad first = subst (IsRefusal major pool owner method number) (sym is_bad) (record { method_is = refl; reason = coded_reason major pool owner method coded is place first })
 
   pub front_refusal : (r : Refusal) (found : Option ℕ) (place : ℕ) → found ≡ Some place → r ≡ bad_code number place → FirstFault Front found → IsRefusal major pool owner method number r

@@ -24,7 +24,7 @@ use Rattle.jc_methods.specs.VerificationTypes.{TypeStateAt}
 use Rattle.jc_methods.specs.EntryState.{entry_seen}
 use Rattle.jc_bytes.specs.Least.{IsNowhere, IsLeast}
 use Rattle.jc_body.specs.StackMap.{HasFrames, BadStackMap}
-use Rattle.jc_body.specs.First.{IsFirst, AreNowhere}
+use Rattle.jc_body.specs.First.{IsFirstFault, AreNowhere}
 use Rattle.jc_body.specs.Standing.{HasRightEntry}
 use Rattle.jc_body.specs.BodyOf.{IsReason}
 use Rattle.jc_body.proofs.OrderLaws.{IsDecided, AreDecided, at_zero}
@@ -140,7 +140,7 @@ module _ (major : ℕ) (pool : PoolValue) (owner : List ℕ) (method : Member) w
   malformed_reason bytes code fault =
       ((λ place s. is_of_form pool method s.items s.has 0 fault), inr (is_single pool method bytes code, inl (at_zero (MalformedCode pool method) fault)))
 
-  pub coded_reason : (coded : Coded) → IsCoded pool method coded → (place : ℕ) → IsFirst (map (λ F. F coded) (insn_faults major pool ++ (row_faults pool method ++ table_faults pool owner method))) place → IsReason major pool owner method kinds.BadCode place
+  pub coded_reason : (coded : Coded) → IsCoded pool method coded → (place : ℕ) → IsFirstFault (map (λ F. F coded) (insn_faults major pool ++ (row_faults pool method ++ table_faults pool owner method))) place → IsReason major pool owner method kinds.BadCode place
   coded_reason coded is place first = (
     goes_on pool method coded is kinds.Subroutine,
     inr (

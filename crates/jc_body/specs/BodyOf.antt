@@ -30,7 +30,7 @@ use Rattle.jc_body.specs.declared.coded.Coded.{Coded}
 use Rattle.jc_body.specs.Coded.{IsCoded, HasNoCode}
 use Rattle.jc_body.specs.Faults.{HasSubroutine, faults, faults_of_any_size}
 use Rattle.jc_bytes.specs.Least.{IsNowhere, IsLeast}
-use Rattle.jc_body.specs.First.{Fault, IsFirst, AreNowhere}
+use Rattle.jc_body.specs.First.{Fault, IsFirstFault, AreNowhere}
 use Rattle.jc_body.specs.StackMap.{HasFrames}
 use Rattle.jc_body.specs.Standing.{what_at}
 
@@ -182,7 +182,7 @@ pub record Bodiless (c : ClassFile) (number : ℕ) : Type 0 where
 abbrev pub IsReason : ℕ → PoolValue → List ℕ → Member → RefusalKind → ℕ → Type 0
 IsReason major pool owner method kinds.Subroutine place = IsLeast (HasSubroutine pool method) place
 IsReason major pool owner method kinds.BadCode place =
-    IsNowhere (HasSubroutine pool method) × IsFirst (faults major pool owner method) place
+    IsNowhere (HasSubroutine pool method) × IsFirstFault (faults major pool owner method) place
 IsReason major pool owner method kind place = ⊥
 
 -- why the method with this number has no body

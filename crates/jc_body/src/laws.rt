@@ -1,4 +1,6 @@
 //! Laws of the bodies of methods.
+//!
+//! [`each_method_has_one_answer`] is the promise of this crate; the other is a step, which the crates above cite too.
 ghost use Rattle.std.specs.Prelude.{◌≡◌, ◌<◌, ◌⊎◌, ℕ, List, length};
 ghost use Rattle.std.specs.List.{IsDistinct};
 ghost use Rattle.std.specs.Str.{bytes_eq};

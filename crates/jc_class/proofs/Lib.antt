@@ -6,5 +6,6 @@ pub mod WritingLaws
 pub mod NamedLaws
 pub mod OneClassLaws
 pub mod FirstBadLaws
+pub mod ReadClassLaws
 pub mod WritableLaws
 pub mod SizesLaws

@@ -1,4 +1,6 @@
 //! Laws of the text of class files.
+//!
+//! [`each_text_is_read_or_refused`] is the promise of this crate; the other is a step, which the crates above cite too.
 ghost use Rattle.std.specs.Prelude.{◌≡◌, ◌⊎◌, ℕ, List};
 ghost use Rattle.jc_bytes.specs.ByteLists.{AreBytes};
 ghost use Rattle.jc_class.specs.ClassText.{ClassText, FirstBad};

@@ -44,8 +44,8 @@ other_is_no_text text (Some t) apart = by (bytes_eq t text) (λ e. (bytes_eq-Dec
 first_found : (found : ℕ → Option (List ℕ)) (text : List ℕ) (size place : ℕ) → place < size → IsFirst found text place
     → first_from (λ k. is_text text (found k)) 0 size ≡ place
 first_found found text size place lt first =
-    found_from (λ k. is_text text (found k)) size 0 place (omega arith) (omega (arith, lt)) (same_is_text text (found place) first.stands)
-    (λ k less. other_is_no_text text (found k) (first.before k less))
+    found_from (λ k. is_text text (found k)) size 0 place (omega arith) (omega (arith, lt)) (same_is_text text (found place) first.there)
+    (λ k less. other_is_no_text text (found k) (first.first k less))
 
 -- ---- entries
 
@@ -58,9 +58,9 @@ text_within pool place text there = elim (cases_lt place (length pool)) [
 
 pub text_found : (pool : PoolValue) (text : List ℕ) (place : ℕ) → IsFirst (utf8_of pool) text place → text_place pool text ≡ place
 unfolding text_place
-text_found pool text place first = first_found (utf8_of pool) text (length pool) place (text_within pool place text first.stands) first
+text_found pool text place first = first_found (utf8_of pool) text (length pool) place (text_within pool place text first.there) first
 
 pub class_found : (pool : PoolValue) (name : List ℕ) (place : ℕ) → IsFirst (class_name_of pool) name place → class_place pool name ≡ place
 unfolding class_place
 class_found pool name place first =
-    first_found (class_name_of pool) name (length pool) place (class_within pool place name first.stands) first
+    first_found (class_name_of pool) name (length pool) place (class_within pool place name first.there) first

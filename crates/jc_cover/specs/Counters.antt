@@ -70,17 +70,17 @@ abbrev pub line_of : List LineAt → ℕ → Option ℕ
 line_of lines i = line_number (best_line i None lines)
 
 -- The entry has the greatest start that isn't past the instruction, and is the last in the table among those of equal
--- starts. `place` is its place in the table.
-pub record IsLineEntry (lines : List LineAt) (i place : ℕ) (line : LineAt) : Type 0 where
-  pub listed : slice_get lines place ≡ Some line
+-- starts. `index` is its index in the table.
+pub record IsLineEntry (lines : List LineAt) (i index : ℕ) (line : LineAt) : Type 0 where
+  pub listed : slice_get lines index ≡ Some line
   pub not_past : line.at ≤ i
   pub greatest : (other : ℕ) (entry : LineAt) → slice_get lines other ≡ Some entry → entry.at ≤ i
-      → (entry.at < line.at) ⊎ ((entry.at ≡ line.at) × (other ≤ place))
+      → (entry.at < line.at) ⊎ ((entry.at ≡ line.at) × (other ≤ index))
 
 -- the line of an instruction is that of this entry; it has none where no entry starts at it or before it
 abbrev pub IsLineOf : List LineAt → ℕ → Option ℕ → Type 0
-IsLineOf lines i (Some number) = (place : ℕ) × (line : LineAt) × IsLineEntry lines i place line × (line.line ≡ number)
-IsLineOf lines i None = (place : ℕ) (line : LineAt) → slice_get lines place ≡ Some line → line.at ≤ i → ⊥
+IsLineOf lines i (Some number) = (index : ℕ) × (line : LineAt) × IsLineEntry lines i index line × (line.line ≡ number)
+IsLineOf lines i None = (index : ℕ) (line : LineAt) → slice_get lines index ≡ Some line → line.at ≤ i → ⊥
 
 -- an instruction with a line: the line's number, and whether the instruction is covered
 pub record Lined : Type 0 where

@@ -15,7 +15,7 @@ use Rattle.jc_cover.specs.declared.planned.PlannedBranch.{PlannedBranch}
 
 -- ---- branches with their probes
 
--- what a plan says of the branch at the place `k` among those of its instruction
+-- what a plan says of the branch at the index `k` among those of its instruction
 abbrev pub read_branch : Plan → ℕ → Branch → PlannedBranch
 read_branch plan k x = record { to = place_of x.way; probe = planned plan x k }
 

@@ -1,4 +1,6 @@
 //! Laws of coverage and of counters.
+//!
+//! [`each_chain_follows_the_rule`] is the promise of this crate; the others are steps, which the crates above cite too.
 ghost use Rattle.std.specs.Prelude.{◌≡◌, ◌↔◌, ℕ, All, ◌+◌, ◌-◌, ◌*◌, ◌≤◌, ◌<◌, Bool, false, map, List, Option, Some, IsTrue};
 ghost use Rattle.std.specs.Prelude.{slice_get, Contains, length, slice_index_or};
 ghost use Rattle.std.specs.List.{sum_by, flat_map};

@@ -1,4 +1,6 @@
 //! Laws of instrumented code.
+//!
+//! [`each_twin_is_seen`] is the promise of this crate; the others are steps, which the crates above cite too.
 ghost use Rattle.std.specs.Prelude.{◌≡◌, ℕ, ◌+◌, ◌<◌, ◌≤◌, List, Bool, true, false, Option, Some, None, map, length, slice_get};
 ghost use Rattle.jc_methods.specs.VerificationTypes.{Names};
 ghost use Rattle.jc_methods.specs.Widened.{widened};
@@ -22,6 +24,15 @@ ghost use Rattle.jc_emit.specs.TwinBody.{twin_body};
 ghost use Rattle.jc_emit.specs.TwinCode.{IsTwinCode, IsProbeIn};
 ghost use Rattle.jc_emit.specs.TwinFrames.{IsFrame, AreTwinFrames};
 ghost use Rattle.jc_emit.specs.TwinTables.{moved_row};
+
+/// A twin is seen from each of its instructions: each goes on where it should, and the exception rows are kept. So is
+/// a body of an unchanged class.
+pub fn each_twin_is_seen()
+    ensures twin { (names new_names : Names) (states : List State) (first : ℕ) (b b' : Body) → IsWellMadeOfAnySize b
+        → (t : Twin names new_names states first b b') → IsSeen first b b' t.marks }
+    ensures unchanged { (names new_names : Names) (b b' : Body) → IsWellMadeOfAnySize b
+        → IsSameBody names new_names b b' → IsSeenUnchanged b b' (unchanged_marks b) }
+{}
 
 /// The places that the own instructions tell are those of the function.
 pub fn each_image_stands()
@@ -75,15 +86,6 @@ pub fn each_unchanged_body_goes_on()
     ensures items { (code : List Insn) → IsCode code → AllOk code None no_ids (unchanged_items code) }
     ensures rows { (code : List Insn) → IsCode code → (h : Handler) → IsHandler (length code) h
         → OkRow code None no_ids (unchanged_items code) h h }
-{}
-
-/// A twin is seen from each of its instructions: each goes on where it should, and the exception rows are kept. So is
-/// a body of an unchanged class.
-pub fn each_twin_is_seen()
-    ensures twin { (names new_names : Names) (states : List State) (first : ℕ) (b b' : Body) → IsWellMadeOfAnySize b
-        → (t : Twin names new_names states first b b') → IsSeen first b b' t.marks }
-    ensures unchanged { (names new_names : Names) (b b' : Body) → IsWellMadeOfAnySize b
-        → IsSameBody names new_names b b' → IsSeenUnchanged b b' (unchanged_marks b) }
 {}
 
 /// Twins of one body that are one body have the same marks, whatever their layouts are. So what is said of the

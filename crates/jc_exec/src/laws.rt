@@ -1,4 +1,6 @@
 //! Laws over the definitions of execution data. These functions have no code.
+//!
+//! [`one_answer_to_each_text`] is the promise of this crate; the others are steps, which the crates above cite too.
 ghost use Rattle.std.specs.Prelude.{◌≡◌, ◌↔◌, ◌⊎◌, ℕ, [], ◌∷◌, List, Some};
 ghost use Rattle.jc_exec.specs.declared.session.Session.{Session};
 ghost use Rattle.jc_exec.specs.Format.{Block, header, Blocks};
@@ -6,6 +8,16 @@ ghost use Rattle.jc_exec.specs.Store.{Store};
 ghost use Rattle.jc_exec.specs.Refusing.{Refused, blocks_of, FirstRefusal, IsTaken, IsRefused, OneOfEachId};
 ghost use Rattle.jc_exec.specs.Union.{IsUnion, union_of};
 ghost use Rattle.jc_exec.specs.Writing.{by_dump, IsByDump, FitsFormat, written, exec_text};
+
+/// Over a store with one record of each id, each text is execution data whose blocks have a union
+/// with the store, or a block of it is the first that is not taken. No text is both, over any
+/// store, and it is refused for one reason at most.
+pub fn one_answer_to_each_text()
+    ensures each { (before : Store) (text : List ℕ) → OneOfEachId before.classes → IsTaken before text ⊎ IsRefused before text }
+    ensures apart { (before : Store) (text : List ℕ) (why : Refused) → IsTaken before text → FirstRefusal before text why → ⊥ }
+    ensures one_reason { (before : Store) (text : List ℕ) (a b : Refused) → FirstRefusal before text a
+        → FirstRefusal before text b → a ≡ b }
+{}
 
 /// A text is execution data of one list of blocks at most.
 pub fn one_list_of_each_text()
@@ -22,16 +34,6 @@ pub fn one_union_of_each_list()
 pub fn union_block_by_block()
     ensures { (blocks : List Block) (s : Store)
         → (union_of (record { sessions = []; classes = [] }) blocks ≡ Some s) ↔ IsUnion blocks s }
-{}
-
-/// Over a store with one record of each id, each text is execution data whose blocks have a union
-/// with the store, or a block of it is the first that is not taken. No text is both, over any
-/// store, and it is refused for one reason at most.
-pub fn one_answer_to_each_text()
-    ensures each { (before : Store) (text : List ℕ) → OneOfEachId before.classes → IsTaken before text ⊎ IsRefused before text }
-    ensures apart { (before : Store) (text : List ℕ) (why : Refused) → IsTaken before text → FirstRefusal before text why → ⊥ }
-    ensures one_reason { (before : Store) (text : List ℕ) (a b : Refused) → FirstRefusal before text a
-        → FirstRefusal before text b → a ≡ b }
 {}
 
 /// Sessions are written by the time of their dump, those of one time in their order; and no other

@@ -1,8 +1,9 @@
 -- A pool takes classes or is full at one of them, and in one way.
-use Rattle.std.proofs.Common.{◌≡◌, ◌⊎◌, inl, inr, ℕ, List, [], ◌∷◌, length, slice_index, refl, sym, ◌∙◌, ap, subst, arith}
+use Rattle.std.proofs.Common.{◌≡◌, ◌⊎◌, inl, inr, ℕ, List, [], ◌∷◌, length, slice_index, Some, refl, sym, ◌∙◌, ap, subst, arith}
 use Rattle.std.proofs.lemmas.Bool.{cases_lt}
+use Rattle.jc_bytes.proofs.LeastLaws.{least_one}
 use Rattle.jc_methods.specs.VerificationTypes.{Names}
-use Rattle.jc_pool.specs.Adding.{IsFirst, HasClass}
+use Rattle.jc_pool.specs.Adding.{HasClass, IsFirst}
 use Rattle.jc_pool.specs.Lookup.{class_name_of}
 use Rattle.jc_pool.specs.Pool.{PoolValue}
 use Rattle.jc_pool.proofs.AddedLaws.{one_naming, some_naming}
@@ -43,19 +44,13 @@ each_taking old (name ∷ names) = let some = some_naming naming.Class old name 
 
 -- ---- first places
 
-one_place : (pool : PoolValue) (name : List ℕ) (a b : ℕ) → IsFirst (class_name_of pool) name a → IsFirst (class_name_of pool) name b → a ≡ b
-one_place pool name a b p q = elim (cases_lt a b) [
-  | inl less ↦ absurd (q.before a less p.stands)
-  | inr no_less ↦ elim (cases_lt b a) [ inl more ↦ absurd (p.before b more q.stands) | inr no_more ↦ omega (arith, no_less, no_more) ]
-]
-
 found_place : (pool : PoolValue) (name : List ℕ) (place : ℕ) → IsFirst (class_name_of pool) name place → (some_naming naming.Class pool name).1 ≡ place
 found_place pool name place first = by (some_naming naming.Class pool name)
   where
     by : (some : (new : PoolValue) × (at : ℕ) × HasClass pool name new at) → some.1 ≡ place
     by some = elim some.2 [
-      | inl has ↦ one_place pool name some.1 place has.0 first
-      | inr put ↦ absurd (put.0 place first.stands)
+      | inl has ↦ least_one (λ at. class_name_of pool at ≡ Some name) some.1 place has.0 first
+      | inr put ↦ absurd (put.0 place first.there)
     ]
 
 pub some_places : (pool : PoolValue) (starts : List ℕ) → (p : Places) × ArePlacesIn pool starts p

@@ -116,9 +116,9 @@ module _ (g : Ground) (starts : List ℕ) (p : Places) (count : length starts �
   place_of name h =
       let first = first_of g.pool name h in
       let e = are.class name first.0 first.1 in
-      let w = class_within g.pool first.0 name first.1.stands in
+      let w = class_within g.pool first.0 name first.1.there in
       let fits = h.fits in
-      (omega (arith, e, w, fits), ap (class_name_of g.pool) e ∙ first.1.stands)
+      (omega (arith, e, w, fits), ap (class_name_of g.pool) e ∙ first.1.there)
 
   have_places : (hs : List VerificationType) → AllByRecursion (HasPlace g.pool) (class_names hs) → AllByRecursion MadeThere hs → AllByRecursion (HasPlaces g p) hs
   have_places [] s m = tt

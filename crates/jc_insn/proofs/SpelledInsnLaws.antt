@@ -18,7 +18,7 @@ use Rattle.jc_methods.specs.Insn.{IsWellFormed, IsAscending, arm_count}
 use Rattle.jc_insn.specs.declared.item.CodeItem.TheVariants as items
 use Rattle.jc_insn.specs.Fields.{nothing, byte, piece, Then, only_if}
 use Rattle.jc_insn.specs.Items.{number, padding, key_count, target_of, in_pieces, offset_in, offsets_in, arm_in, arms_in, ascending, table_operands, lookup_operands, wide_operands, operands, IsItem}
-use Rattle.jc_insn.specs.Sizes.{size_of, push_size, local_size, is_narrow_inc, IsLeast, IsJump}
+use Rattle.jc_insn.specs.Sizes.{size_of, push_size, local_size, is_narrow_inc, IsShortest, IsJump}
 use Rattle.jc_insn.proofs.TextSizesLaws.{same_size}
 use Rattle.jc_insn.proofs.ItemReadingLaws.{insn_is, not_subroutine}
 use Rattle.jc_insn.proofs.OperandsSpelledLaws.{true_test, le_true, true_le}
@@ -283,8 +283,8 @@ text_facts at text insn is =
     }
 
 -- no spelling is shorter than the size
-pub is_least : (at : ℕ) (insn : Insn) (size : ℕ) → size ≡ size_of at false insn → IsLeast at insn size
-is_least at insn size is = λ places spelled text same small item.
+pub is_shortest : (at : ℕ) (insn : Insn) (size : ℕ) → size ≡ size_of at false insn → IsShortest at insn size
+is_shortest at insn size is = λ places spelled text same small item.
     let f = text_facts at text spelled item in
     let h = f.least small in
     let e : size_of at false spelled ≡ size = sym (same_size places at false spelled) ∙ ap (size_of at false) same ∙ sym is in

@@ -49,8 +49,8 @@ IsJump (insns.Jump op to) = ⊤
 IsJump insn = ⊥
 
 -- no bytes that spell the instruction at this offset, wherever it leads, are fewer
-abbrev pub IsLeast : ℕ → Insn → ℕ → Type 0
-IsLeast at insn size =
+abbrev pub IsShortest : ℕ → Insn → ℕ → Type 0
+IsShortest at insn size =
     (places : ℕ → ℕ) (spelled : Insn) (text : List ℕ) → with_places places spelled ≡ insn → All (λ b. b < 256) text
     → IsItem at text (items.Insn spelled) → size ≤ length text
 

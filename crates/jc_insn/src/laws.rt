@@ -1,4 +1,6 @@
 //! Laws of the spelling of code.
+//!
+//! [`each_code_is_spelled_or_refused`] is the promise of this crate; the others are steps, which the crates above cite too.
 ghost use Rattle.std.specs.Prelude.{◌≡◌, ◌⊎◌, ◌++◌, ◌+◌, ◌≤◌, ℕ, List, length, slice_index};
 ghost use Rattle.jc_insn.specs.declared.item.CodeItem.{CodeItem};
 ghost use Rattle.jc_methods.specs.declared.insn.Insn.{Insn};
@@ -7,6 +9,15 @@ ghost use Rattle.jc_methods.specs.Widened.{wide_place};
 ghost use Rattle.jc_insn.specs.Layouts.{wide_starts};
 ghost use Rattle.jc_insn.specs.Items.{IsItem};
 ghost use Rattle.jc_insn.specs.Spells.{Spells, IsRefused};
+
+/// Bytes spell instructions or are refused, never both, and for one reason.
+pub fn each_code_is_spelled_or_refused()
+    ensures each { (bytes : List ℕ) → ((code : List Insn) × (starts : List ℕ) × Spells bytes code starts)
+        ⊎ ((r : Refusal) × IsRefused bytes r) }
+    ensures apart { (bytes : List ℕ) (code : List Insn) (starts : List ℕ) (r : Refusal) → Spells bytes code starts
+        → IsRefused bytes r → ⊥ }
+    ensures one_fault { (bytes : List ℕ) (r s : Refusal) → IsRefused bytes r → IsRefused bytes s → r ≡ s }
+{}
 
 /// No spelling of an item begins another, so what was written is read again, whatever follows it.
 pub fn one_spelling()
@@ -24,13 +35,4 @@ pub fn one_code()
 pub fn each_image_begins_where_its_instruction_does()
     ensures { (code : List Insn) (starts : List ℕ) (place : ℕ) → length starts ≡ length code + 1 → place ≤ length code
         → slice_index (wide_starts code starts) (wide_place code place) ≡ slice_index starts place }
-{}
-
-/// Bytes spell instructions or are refused, never both, and for one reason.
-pub fn each_code_is_spelled_or_refused()
-    ensures each { (bytes : List ℕ) → ((code : List Insn) × (starts : List ℕ) × Spells bytes code starts)
-        ⊎ ((r : Refusal) × IsRefused bytes r) }
-    ensures apart { (bytes : List ℕ) (code : List Insn) (starts : List ℕ) (r : Refusal) → Spells bytes code starts
-        → IsRefused bytes r → ⊥ }
-    ensures one_fault { (bytes : List ℕ) (r s : Refusal) → IsRefused bytes r → IsRefused bytes s → r ≡ s }
 {}

@@ -3,7 +3,7 @@ ghost use Rattle.std.specs.Prelude.{◌≡◌, ◌≤◌, true, nat_lt, if◌the
 ghost use Rattle.jc_bytes.specs.Reader.{most_read};
 ghost use Rattle.jc_methods.specs.Insn.{arm_count};
 ghost use Rattle.jc_insn.specs.Items.{padding};
-ghost use Rattle.jc_insn.specs.Sizes.{push_size, local_size, is_narrow_inc, jump_size, size_of, IsJump, IsLeast};
+ghost use Rattle.jc_insn.specs.Sizes.{push_size, local_size, is_narrow_inc, jump_size, size_of, IsJump, IsShortest};
 
 use jc_methods::{Form, Insn, form_of, opcode};
 
@@ -101,7 +101,7 @@ pub fn size_of(insn: &Insn, at: u32, wide: bool) -> u32
     requires { arm_count insn.now ≤ most_read }
     ensures size { result ≡ size_of at wide insn.now }
     // No spelling is shorter, but for jumps of the wide layout.
-    ensures least { (wide ≡ true → IsJump insn.now → ⊥) → IsLeast at insn.now result }
+    ensures shortest { (wide ≡ true → IsJump insn.now → ⊥) → IsShortest at insn.now result }
 {
     by_form(insn, at, wide)
 }

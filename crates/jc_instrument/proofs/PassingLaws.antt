@@ -10,13 +10,13 @@ use Rattle.jc_methods.specs.declared.body.Body.{Body}
 use Rattle.jc_class.specs.ClassText.{ClassText}
 use Rattle.jc_class.specs.Writable.{IsClassFile}
 use Rattle.jc_class.specs.declared.class_file.ClassFile.{ClassFile}
+use Rattle.jc_class.proofs.ReadClassLaws.{class_read}
 use Rattle.jc_class.proofs.WritableLaws.{class_holds}
 use Rattle.jc_kinds.specs.Checked.{Checked}
 use Rattle.jc_emit.specs.Straddling.{NoneStraddles}
 use Rattle.jc_verify.specs.Again.{EachPassesAgain}
 use Rattle.jc_verify.specs.WrittenCode.{IsWrittenCode}
 use Rattle.jc_verify.proofs.AgainLaws.{each_passes}
-use Rattle.jc_verify.proofs.ReadBytesLaws.{class_bytes}
 use Rattle.jc_instrument.specs.Causes.{Cause, NoCause, unless}
 use Rattle.jc_instrument.specs.LeftAlone.{is_left_alone}
 use Rattle.jc_instrument.specs.Needed.{name_of, signed_id, TakesNeeded}
@@ -123,7 +123,7 @@ module _ (bytes : List ℕ) (c : ClassFile) (text : ClassText bytes c) (are_byte
     coded number x found =
         let h = work_found number framed x found in
         written_code id names array c framed (twin_class names array c framed w.pool w.places) framed_written
-        (class_bytes bytes c are_bytes text) framed_room h.index x h.stands (sound.well_made h.index x.body (body_at framed h.index x h.stands))
+        (class_read bytes c are_bytes text).methods framed_room h.index x h.stands (sound.well_made h.index x.body (body_at framed h.index x h.stands))
         (texts_short id names array framed c (twin_class names array c framed w.pool w.places) framed_written twin_is number x found)
 
     pub works_written : AreWrittenWorks id names array framed c w.pool w.places

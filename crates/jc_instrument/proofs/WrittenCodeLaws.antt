@@ -27,7 +27,7 @@ use Rattle.jc_code.specs.TwinCode.{kind_vars_name, lines_name, twin_code, vars_n
 use Rattle.jc_code.specs.declared.code.CodePlaces.{CodePlaces}
 use Rattle.jc_code.proofs.FirstPlaceLaws.{text_found}
 use Rattle.jc_verify.specs.WrittenCode.{IsWrittenCode}
-use Rattle.jc_verify.proofs.ReadBytesLaws.{HasOnlyBytes}
+use Rattle.jc_class.proofs.ReadClassLaws.{IsOfBytes}
 use Rattle.jc_verify.proofs.ReadNumbersLaws.{body_short}
 use Rattle.jc_verify.proofs.WrittenCodeLaws.{written_code as code_written}
 use Rattle.jc_instrument.proofs.ListedLaws.{body_at}
@@ -69,7 +69,7 @@ other_text text o other = λ is.
 first_there : (found : ℕ → Option (List ℕ)) (text : List ℕ) (more from : ℕ) → ((k : ℕ) → k < from → found k ≢ Some text)
     → found (from + more) ≡ Some text → (place : ℕ) × IsFirst found text place
 first_there found text zero from none at =
-    let here : from + 0 ≡ from = omega arith in (from, record { stands = sym (ap found here) ∙ at; before = none })
+    let here : from + 0 ≡ from = omega arith in (from, record { there = sym (ap found here) ∙ at; first = none })
 first_there found text (suc more) from none at =
     by (is_text text (found from)) refl (λ here. first_there found text more (from + 1) (next here) (ap found again ∙ at))
   where
@@ -85,7 +85,7 @@ first_there found text (suc more) from none at =
 
     by : (t : Bool) → is_text text (found from) ≡ t → (found from ≢ Some text → (place : ℕ) × IsFirst found text place)
         → (place : ℕ) × IsFirst found text place
-    by true is rest = (from, record { stands = text_is text (found from) is; before = none })
+    by true is rest = (from, record { there = text_is text (found from) is; first = none })
     by false is rest = rest (other_text text (found from) is)
 
 first_if_any : (pool : PoolValue) (text : List ℕ) → IsFirstIfAny pool text (text_place pool text)
@@ -160,7 +160,7 @@ emitted_locals b first states array = refl
 -- ---- one method
 
 module _ (id : ℕ) (names : Names) (array : ℕ) (c : ClassFile) (works : List BodyWithStates) (twin : ClassFile) (w : IsWritten id names array works c twin)
-    (bytes : AllByRecursion HasOnlyBytes c.methods) (room : HasRoom (bodies_of works)) where
+    (bytes : AllByRecursion IsOfBytes c.methods) (room : HasRoom (bodies_of works)) where
   abbrev needs : List Content
   needs = needs_of id names array c works
 
@@ -189,7 +189,7 @@ module _ (id : ℕ) (names : Names) (array : ℕ) (c : ClassFile) (works : List 
       let b = x.body in
       let there = body_at works i x at in
       let body : BodyOf names c b.method b = w.are.bodies.each i b there in
-      let only = all_at HasOnlyBytes c.methods b.method body.method bytes body.at in
+      let only = (all_at IsOfBytes c.methods b.method body.method bytes body.at).attributes in
       let first = (w.are.each i x at).first in
       let ids = ids_among (bodies_of works) i b there in
       let few = room.probes in

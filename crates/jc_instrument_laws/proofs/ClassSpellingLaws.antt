@@ -23,6 +23,7 @@ use Rattle.jc_class.specs.declared.class_file.Attribute.{Attribute}
 use Rattle.jc_class.specs.declared.class_file.ClassFile.{ClassFile}
 use Rattle.jc_class.specs.declared.class_file.Member.{Member}
 use Rattle.jc_class.proofs.NamedLaws.{class_put}
+use Rattle.jc_class.proofs.ReadClassLaws.{IsOfBytes}
 use Rattle.jc_instrument.proofs.PoolTextLaws.{no_class_past}
 
 -- ---- bytes
@@ -185,11 +186,6 @@ module _ (pool : PoolValue) (few : length pool ≤ 65535) where
     record { name = text_fits a.name all.0.name.0 all.0.name.1; size = all.0.size; are = are.0 },
     plain_attributes l all.1 are.1,
   )
-
--- the flags of a member are a number of two bytes, and the texts of its attributes are of bytes
-pub record IsOfBytes (m : Member) : Type 0 where
-  pub flags : m.flags < 65536
-  pub attributes : AllByRecursion (λ a. AreBytes a.body) m.attributes
 
 module _ (pool : PoolValue) (few : length pool ≤ 65535) (HasDescriptor : ℕ → Type 0)
     (fits : (place : ℕ) → HasDescriptor place → place < 65536) where

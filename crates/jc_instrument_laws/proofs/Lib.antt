@@ -12,7 +12,7 @@ pub mod NamedFramesLaws
 pub mod WrittenSizesLaws
 pub mod CodeBytesLaws
 pub mod WrittenBytesLaws
-pub mod ReadClassLaws
+pub mod ReadCodeLaws
 pub mod TwinSpellingLaws
 pub mod EachFileLaws
 pub mod TwinBodiesLaws

@@ -53,7 +53,7 @@ use Rattle.jc_instrument.specs.TwinText.{work_of, with_code, twin_method, twin_m
 use Rattle.jc_instrument.specs.BodiesWithStates.{BodyWithStates, bodies_of, all_frames, emitted_of}
 use Rattle.jc_instrument.specs.declared.needs.MemberPlaces.{MemberPlaces}
 use Rattle.jc_instrument.proofs.BodySizesLaws.{is_well_made, handlers_few, own_lines_few, own_vars_few, own_kind_vars_few}
-use Rattle.jc_instrument_laws.proofs.ClassSpellingLaws.{IsOfBytes, big_bytes_are, class_spelled}
+use Rattle.jc_instrument_laws.proofs.ClassSpellingLaws.{big_bytes_are, class_spelled}
 use Rattle.jc_instrument_laws.proofs.CodeBytesLaws.{HasByte, spelled_byte, text_are}
 use Rattle.jc_instrument_laws.proofs.NamedFramesLaws.{texts_both, written_small, written_texts}
 use Rattle.jc_instrument_laws.proofs.NamedStatesLaws.{HasTexts, entry_named, frames_named, values_named}
@@ -62,7 +62,8 @@ use Rattle.jc_instrument_laws.proofs.PoolSpellingLaws.{IsPlain, IsSpelledLong, I
 use Rattle.jc_instrument.proofs.PoolTextLaws.{IsReadPool, class_are, class_pool, class_short, utf8_are, utf8_short}
 use Rattle.jc_instrument.proofs.ListedLaws.{body_at}
 use Rattle.jc_instrument.proofs.ProbingLaws.{emission_code}
-use Rattle.jc_instrument_laws.proofs.ReadClassLaws.{IsReadClass, AreReadItems, class_read, code_read, id_below, items_read}
+use Rattle.jc_instrument_laws.proofs.ReadCodeLaws.{AreReadItems, code_read, id_below, items_read}
+use Rattle.jc_class.proofs.ReadClassLaws.{IsOfBytes, IsReadClass, class_read}
 use Rattle.jc_instrument.proofs.RoomDecidedLaws.{has_local_room, has_stack_room, short_code}
 use Rattle.jc_instrument.proofs.SomeBodiesLaws.{AllBodies}
 use Rattle.jc_instrument_laws.proofs.SomeWorksLaws.{AllWorks}

@@ -1,4 +1,6 @@
 //! What becomes of a class file.
+//!
+//! [`each_class_file_becomes_one`] is the promise of this crate; the other is a step, which the crates above cite too.
 ghost use Rattle.std.specs.Prelude.{◌≡◌, ◌≤◌, ◌⊎◌, ℕ, List, length, Some, true};
 ghost use Rattle.jc_bytes.specs.ByteLists.{AreBytes};
 ghost use Rattle.jc_bytes.specs.Reader.{most_read};

@@ -16,7 +16,7 @@ use Rattle.jc_kinds.specs.Fits.{FitsThere}
 use Rattle.jc_kinds.specs.States.{state_of, after_at}
 use Rattle.jc_kinds.specs.Checked.{IsMissing, at_handler, EntryClash, NoAfter, BranchClash, HandlerClash, IsClash, Checked, FirstClash}
 use Rattle.jc_kinds.specs.Answers.{AreStates}
-use Rattle.jc_kinds.specs.First.{IsFirst}
+use Rattle.jc_kinds.specs.First.{IsFirstOrBound}
 use Rattle.jc_kinds.specs.Guarded.{IsUnguarded}
 use Rattle.jc_kinds.specs.StateSequence.{IsKeptEntry, IsFlowClash, IsWalk, IsWalkFrom}
 use Rattle.std.proofs.lemmas.Option.{none-some}
@@ -77,8 +77,8 @@ unguarded_row states frames hs slots i (inr (slot, lt, u)) = some_row hs u.handl
 
 module _ (old new : Names) (b : Body) (keeps : Bool) (count : ℕ) (states : List State) (result : ℕ) (made : IsWellMade b) (missing : IsNowhere (IsMissing b)) (grown : Grows old new)
     (frames : AreNumberedFrames (length old) b.frames) (walk : IsWalk old new b keeps count states) (rows : b.handlers ≢ [] → keeps ≡ true)
-    (guarded : IsFirst (IsUnguarded states b.frames b.handlers b.max_locals) count result) where
-  first_clash : IsFirst (λ i. IsFlowClash old b i ⊎ HandlerClash old b i) (length b.code) result
+    (guarded : IsFirstOrBound (IsUnguarded states b.frames b.handlers b.max_locals) count result) where
+  first_clash : IsFirstOrBound (λ i. IsFlowClash old b i ⊎ HandlerClash old b i) (length b.code) result
   first_clash = either_first (length b.code) count result walk.first (instead_first count result
       (λ i lt u. let s = there i lt (unguarded_row states b.frames b.handlers b.max_locals i u) in unguarded_clashes old new b states i s.0 made missing grown frames s.1 (walk.each i s.0 s.1) u)
       (λ i lt u. let s = there i lt (some_row b.handlers u.0 u.1.row) in clash_unguarded old new b states i s.0 made missing grown frames s.1 (walk.each i s.0 s.1) u)
@@ -141,20 +141,20 @@ kept_by_rows old new b keeps count states kept handlers rows same framed w some 
 
 -- the place was looked for in what the body and the walk have
 pub same_guard : (b : Body) (states kept : List State) (frames : List FrameAt) (handlers : List Handler) (slots count place : ℕ) → kept ≡ states → frames ≡ b.frames → handlers ≡ b.handlers → slots ≡ b.max_locals
-    → IsFirst (IsUnguarded kept frames handlers slots) count place → IsFirst (IsUnguarded states b.frames b.handlers b.max_locals) count place
+    → IsFirstOrBound (IsUnguarded kept frames handlers slots) count place → IsFirstOrBound (IsUnguarded states b.frames b.handlers b.max_locals) count place
 same_guard b states kept frames handlers slots count place p q r t first =
-    subst (λ (ks : List State). IsFirst (IsUnguarded ks b.frames b.handlers b.max_locals) count place) p
-    (subst (λ (fs : List FrameAt). IsFirst (IsUnguarded kept fs b.handlers b.max_locals) count place) q
-    (subst (λ (hs : List Handler). IsFirst (IsUnguarded kept frames hs b.max_locals) count place) r
-    (subst (λ (n : ℕ). IsFirst (IsUnguarded kept frames handlers n) count place) t first)))
+    subst (λ (ks : List State). IsFirstOrBound (IsUnguarded ks b.frames b.handlers b.max_locals) count place) p
+    (subst (λ (fs : List FrameAt). IsFirstOrBound (IsUnguarded kept fs b.handlers b.max_locals) count place) q
+    (subst (λ (hs : List Handler). IsFirstOrBound (IsUnguarded kept frames hs b.max_locals) count place) r
+    (subst (λ (n : ℕ). IsFirstOrBound (IsUnguarded kept frames handlers n) count place) t first)))
 
 pub clash_answered_at : (old new : Names) (b : Body) (keeps : Bool) (count : ℕ) (states : List State) (place : ℕ) → IsWellMade b → IsNowhere (IsMissing b) → AreNumberedFrames (length old) b.frames
-    → IsWalkFrom old new b keeps count states → (b.handlers ≢ [] → keeps ≡ true) → IsFirst (IsUnguarded states b.frames b.handlers b.max_locals) count place → place < length b.code → FirstClash new b place
+    → IsWalkFrom old new b keeps count states → (b.handlers ≢ [] → keeps ≡ true) → IsFirstOrBound (IsUnguarded states b.frames b.handlers b.max_locals) count place → place < length b.code → FirstClash new b place
 clash_answered_at old new b keeps count states place made missing numbered w rows first lt =
     clash_found w.base new b keeps count states place made missing w.grown (frames_numbered (length old) (length w.base) b.frames (grown_count old w.base w.before) numbered) w.walk rows first lt
 
 pub states_answered_all : (old new : Names) (b : Body) (keeps : Bool) (count : ℕ) (states : List State) (place : ℕ) → IsWellMade b → IsNowhere (IsMissing b) → AreNumberedFrames (length old) b.frames
-    → IsWalkFrom old new b keeps count states → (b.handlers ≢ [] → keeps ≡ true) → IsFirst (IsUnguarded states b.frames b.handlers b.max_locals) count place → length b.code ≤ place
+    → IsWalkFrom old new b keeps count states → (b.handlers ≢ [] → keeps ≡ true) → IsFirstOrBound (IsUnguarded states b.frames b.handlers b.max_locals) count place → length b.code ≤ place
     → Checked new b × (keeps ≡ true → AreStates new b states)
 states_answered_all old new b keeps count states place made missing numbered w rows first all =
     all_checked w.base new b keeps count states place made missing w.grown (frames_numbered (length old) (length w.base) b.frames (grown_count old w.base w.before) numbered) w.walk rows first all

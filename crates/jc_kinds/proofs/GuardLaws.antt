@@ -12,7 +12,7 @@ use Rattle.jc_methods.specs.declared.body.Handler.{Handler}
 use Rattle.jc_methods.specs.declared.body.FrameAt.{FrameAt}
 use Rattle.jc_bytes.proofs.ListLaws.{below_or_last}
 use Rattle.jc_kinds.specs.KindFits.{kind_fits}
-use Rattle.jc_kinds.specs.First.{IsFirst}
+use Rattle.jc_kinds.specs.First.{IsFirstOrBound}
 use Rattle.jc_kinds.specs.Frames.{frame_in}
 use Rattle.jc_kinds.specs.Runs.{kind_at, IsFirstUnfit}
 use Rattle.jc_kinds.specs.Guarded.{column_of, local_at, wanted_at, frame_catches, IsGuarded, IsUncaught, IsUnfitInColumn, IsUnfitInRow, IsUnguarded}
@@ -21,13 +21,13 @@ use Rattle.jc_kinds.proofs.FirstLaws.{none_first, instead_first, either_first}
 -- ---- one row
 
 -- the row's handler takes what is caught
-pub caught_row : (frames : List FrameAt) (h : Handler) (bound : ℕ) → frame_catches (frame_in frames h.target) ≡ true → IsFirst (IsUncaught frames (h ∷ [])) bound bound
+pub caught_row : (frames : List FrameAt) (h : Handler) (bound : ℕ) → frame_catches (frame_in frames h.target) ≡ true → IsFirstOrBound (IsUncaught frames (h ∷ [])) bound bound
 caught_row frames h bound takes = none_first bound (λ i u.
     let same : h ≡ u.handler = contains_one h u.handler u.row in
     both_ways (frame_catches (frame_in frames h.target)) (ap (λ (x : Handler). frame_catches (frame_in frames x.target)) same ∙ u.uncaught) takes)
 
 -- the bound is in front of the row
-pub row_behind : (frames : List FrameAt) (h : Handler) (bound : ℕ) → bound ≤ h.start → IsFirst (IsUncaught frames (h ∷ [])) bound bound
+pub row_behind : (frames : List FrameAt) (h : Handler) (bound : ℕ) → bound ≤ h.start → IsFirstOrBound (IsUncaught frames (h ∷ [])) bound bound
 row_behind frames h bound behind = record {
   within = omega arith;
   free = λ i lt u. let same : h ≡ u.handler = contains_one h u.handler u.row in let s = u.guarded.start in let e = ap (λ (x : Handler). x.start) same in omega (arith, lt, behind, s, e);
@@ -35,7 +35,7 @@ row_behind frames h bound behind = record {
 }
 
 -- the row's handler doesn't
-pub uncaught_row : (frames : List FrameAt) (h : Handler) (bound : ℕ) → h.start < h.end → h.start < bound → frame_catches (frame_in frames h.target) ≡ false → IsFirst (IsUncaught frames (h ∷ [])) bound h.start
+pub uncaught_row : (frames : List FrameAt) (h : Handler) (bound : ℕ) → h.start < h.end → h.start < bound → frame_catches (frame_in frames h.target) ≡ false → IsFirstOrBound (IsUncaught frames (h ∷ [])) bound h.start
 uncaught_row frames h bound some lt unfit = record {
   within = omega (arith, lt);
   free = λ i less u. let same : h ≡ u.handler = contains_one h u.handler u.row in let s = u.guarded.start in let e = ap (λ (x : Handler). x.start) same in omega (arith, less, s, e);
@@ -43,7 +43,7 @@ uncaught_row frames h bound some lt unfit = record {
 }
 
 -- the row guards nothing below the bound
-pub row_outside : (column : List Kind) (h : Handler) (want : Kind) (bound last : ℕ) → (last ≡ h.end) ⊎ (last ≡ bound) → last ≤ h.end → last ≤ bound → last ≤ h.start → IsFirst (IsUnfitInRow column h want) bound bound
+pub row_outside : (column : List Kind) (h : Handler) (want : Kind) (bound last : ℕ) → (last ≡ h.end) ⊎ (last ≡ bound) → last ≤ h.end → last ≤ bound → last ≤ h.start → IsFirstOrBound (IsUnfitInRow column h want) bound bound
 row_outside column h want bound last which le le' none = record {
   within = omega arith;
   free = λ i lt u. let s = u.guarded.start in let e = u.guarded.end in ⊎_elim (λ q. omega (arith, q, s, e, none)) (λ q. omega (arith, q, s, lt, none)) which;
@@ -52,17 +52,17 @@ row_outside column h want bound last which le le' none = record {
 
 -- the first place of the row's range below the bound
 pub row_first : (column : List Kind) (h : Handler) (want : Kind) (bound last first result : ℕ) → (last ≡ h.end) ⊎ (last ≡ bound) → last ≤ h.end → last ≤ bound
-    → IsFirstUnfit column want h.start last first → (first < last → result ≡ first) → (last ≤ first → result ≡ bound) → IsFirst (IsUnfitInRow column h want) bound result
+    → IsFirstUnfit column want h.start last first → (first < last → result ≡ first) → (last ≤ first → result ≡ bound) → IsFirstOrBound (IsUnfitInRow column h want) bound result
 row_first column h want bound last first result which le le' unfit early late = ⊎_elim found none (cases_lt first last)
   where
-    found : first < last → IsFirst (IsUnfitInRow column h want) bound result
+    found : first < last → IsFirstOrBound (IsUnfitInRow column h want) bound result
     found lt = let is = early lt in record {
       within = omega (arith, is, lt, le');
       free = λ i less u. both_ways (kind_fits (kind_at column i) want) u.unfit (unfit.fitting i u.guarded.start (omega (arith, less, is)));
       found = λ less. subst (IsUnfitInRow column h want) (sym is) (record { guarded = record { start = unfit.from; end = omega (arith, lt, le) }; unfit = unfit.unfit lt });
     }
 
-    none : last ≤ first → IsFirst (IsUnfitInRow column h want) bound result
+    none : last ≤ first → IsFirstOrBound (IsUnfitInRow column h want) bound result
     none ge = let is = late ge in record {
       within = omega (arith, is);
       free = λ i less u. let e = u.guarded.end in
@@ -81,10 +81,10 @@ abbrev pub row_at : List Handler → ℕ → Handler
 row_at hs i = get_or hs i no_row
 
 pub next_uncaught : (frames : List FrameAt) (hs : List Handler) (i bound middle result : ℕ) → i < length hs
-    → IsFirst (IsUncaught frames (take i hs)) bound middle → IsFirst (IsUncaught frames (row_at hs i ∷ [])) middle result → IsFirst (IsUncaught frames (take (i + 1) hs)) bound result
+    → IsFirstOrBound (IsUncaught frames (take i hs)) bound middle → IsFirstOrBound (IsUncaught frames (row_at hs i ∷ [])) middle result → IsFirstOrBound (IsUncaught frames (take (i + 1) hs)) bound result
 next_uncaught frames hs i bound middle result lt old new =
     let h = row_at hs i in
-    subst (λ (l : List Handler). IsFirst (IsUncaught frames l) bound result) (sym (take_more hs i no_row lt))
+    subst (λ (l : List Handler). IsFirstOrBound (IsUncaught frames l) bound result) (sym (take_more hs i no_row lt))
     (instead_first bound result
     (λ j less e. ⊎_elim
     (λ u. record { handler = u.handler; row = Contains-append_left (take i hs) (h ∷ []) u.handler u.row; guarded = u.guarded; uncaught = u.uncaught })
@@ -97,11 +97,11 @@ next_uncaught frames hs i bound middle result lt old new =
     (either_first bound middle result old new))
 
 pub next_unfit : (column : List Kind) (frames : List FrameAt) (slot : ℕ) (hs : List Handler) (i bound middle result : ℕ) → i < length hs
-    → IsFirst (IsUnfitInColumn column frames slot (take i hs)) bound middle → IsFirst (IsUnfitInRow column (row_at hs i) (wanted_at slot (frame_in frames (row_at hs i).target))) middle result
-    → IsFirst (IsUnfitInColumn column frames slot (take (i + 1) hs)) bound result
+    → IsFirstOrBound (IsUnfitInColumn column frames slot (take i hs)) bound middle → IsFirstOrBound (IsUnfitInRow column (row_at hs i) (wanted_at slot (frame_in frames (row_at hs i).target))) middle result
+    → IsFirstOrBound (IsUnfitInColumn column frames slot (take (i + 1) hs)) bound result
 next_unfit column frames slot hs i bound middle result lt old new =
     let h = row_at hs i in
-    subst (λ (l : List Handler). IsFirst (IsUnfitInColumn column frames slot l) bound result) (sym (take_more hs i no_row lt))
+    subst (λ (l : List Handler). IsFirstOrBound (IsUnfitInColumn column frames slot l) bound result) (sym (take_more hs i no_row lt))
     (instead_first bound result
     (λ j less e. ⊎_elim
     (λ u. record { handler = u.handler; row = Contains-append_left (take i hs) (h ∷ []) u.handler u.row; guarded = u.guarded; unfit = u.unfit })
@@ -118,19 +118,19 @@ next_unfit column frames slot hs i bound middle result lt old new =
 
 -- ---- all rows
 
-pub no_rows_uncaught : (frames : List FrameAt) (bound : ℕ) → IsFirst (IsUncaught frames []) bound bound
+pub no_rows_uncaught : (frames : List FrameAt) (bound : ℕ) → IsFirstOrBound (IsUncaught frames []) bound bound
 no_rows_uncaught frames bound = none_first bound (λ i u. none_in u.handler u.row)
 
-pub no_rows_unfit : (column : List Kind) (frames : List FrameAt) (slot bound : ℕ) → IsFirst (IsUnfitInColumn column frames slot []) bound bound
+pub no_rows_unfit : (column : List Kind) (frames : List FrameAt) (slot bound : ℕ) → IsFirstOrBound (IsUnfitInColumn column frames slot []) bound bound
 no_rows_unfit column frames slot bound = none_first bound (λ i u. none_in u.handler u.row)
 
 -- ---- one local variable more
 
-pub no_slots : (states : List State) (frames : List FrameAt) (hs : List Handler) (bound result : ℕ) → IsFirst (IsUncaught frames hs) bound result → IsFirst (IsUnguarded states frames hs 0) bound result
+pub no_slots : (states : List State) (frames : List FrameAt) (hs : List Handler) (bound result : ℕ) → IsFirstOrBound (IsUncaught frames hs) bound result → IsFirstOrBound (IsUnguarded states frames hs 0) bound result
 no_slots states frames hs bound result first = instead_first bound result (λ i lt u. inl u) (λ i lt e. ⊎_elim (λ u. u) (λ u. let none = u.1 in absurd (omega (arith, none))) e) first
 
-pub next_slot : (states : List State) (frames : List FrameAt) (hs : List Handler) (slot bound middle result : ℕ) → IsFirst (IsUnguarded states frames hs slot) bound middle
-    → IsFirst (IsUnfitInColumn (column_of states slot) frames slot hs) middle result → IsFirst (IsUnguarded states frames hs (slot + 1)) bound result
+pub next_slot : (states : List State) (frames : List FrameAt) (hs : List Handler) (slot bound middle result : ℕ) → IsFirstOrBound (IsUnguarded states frames hs slot) bound middle
+    → IsFirstOrBound (IsUnfitInColumn (column_of states slot) frames slot hs) middle result → IsFirstOrBound (IsUnguarded states frames hs (slot + 1)) bound result
 next_slot states frames hs slot bound middle result old new =
     instead_first bound result
     (λ i lt e. ⊎_elim
@@ -160,5 +160,5 @@ fit_next states slot start at want s lt is fits before = λ k from less.
     (below_or_last at k less)
 
 -- any type fits Top
-pub top_fits : (column : List Kind) (h : Handler) (want : Kind) (bound : ℕ) → want ≡ kinds.Top → IsFirst (IsUnfitInRow column h want) bound bound
+pub top_fits : (column : List Kind) (h : Handler) (want : Kind) (bound : ℕ) → want ≡ kinds.Top → IsFirstOrBound (IsUnfitInRow column h want) bound bound
 top_fits column h want bound top = none_first bound (λ i u. both_ways (kind_fits (kind_at column i) want) u.unfit (ap (kind_fits (kind_at column i)) top))

@@ -11,7 +11,7 @@ use Rattle.jc_after.specs.After.{insn_at, after_of}
 use Rattle.jc_kinds.specs.States.{state_of}
 use Rattle.jc_kinds.specs.Checked.{EntryClash, NoAfter, BranchClash}
 use Rattle.jc_kinds.specs.Checking.{branches}
-use Rattle.jc_kinds.specs.First.{IsFirst}
+use Rattle.jc_kinds.specs.First.{IsFirstOrBound}
 use Rattle.jc_kinds.specs.Frames.{frame_in}
 use Rattle.jc_kinds.specs.KindFits.{state_fits}
 
@@ -76,7 +76,7 @@ kept_of false s = []
 
 -- the first instruction at which this is so, and the states before those in front of it, where states are kept
 pub record IsWalk (old new : Names) (b : Body) (keeps : Bool) (count : ℕ) (states : List State) : Type 0 where
-  pub first : IsFirst (IsFlowClash old b) (length b.code) count
+  pub first : IsFirstOrBound (IsFlowClash old b) (length b.code) count
   pub each : (i : ℕ) (s : State) → slice_get states i ≡ Some s → IsKeptAt old new b i s
   pub kept : keeps ≡ true → length states ≡ count
 

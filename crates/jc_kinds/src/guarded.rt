@@ -1,7 +1,7 @@
 //! The first instruction whose local variables don't fit a handler that guards it (JVM Specification 4.10.1.6).
 //! The work is in proportion to the local variables times the instructions and the rows together.
 ghost use Rattle.std.specs.Prelude.{◌≡◌, ◌≢◌, ◌<◌, ◌≤◌, false, true, [], ◌∷◌, length, All, IfOk};
-ghost use Rattle.jc_kinds.specs.First.{IsFirst};
+ghost use Rattle.jc_kinds.specs.First.{IsFirstOrBound};
 ghost use Rattle.jc_kinds.specs.Frames.{frame_in, AreNumbers};
 ghost use Rattle.jc_kinds.specs.Runs.{AreEnds, IsFirstUnfit};
 ghost use Rattle.jc_kinds.specs.Guarded.{column_of, local_at, wanted_at, catches, frame_catches};
@@ -39,7 +39,7 @@ fn frame_catches(frames: &[FrameAt], numbers: &[u32], target: u32) -> bool
 fn first_uncaught(frames: &[FrameAt], numbers: &[u32], handlers: &[Handler], bound: usize) -> usize
     requires rows { All (λ h. h.start < h.end) handlers.now }
     requires numbers { AreNumbers frames.now (length numbers.now) numbers.now }
-    ensures { IsFirst (IsUncaught frames.now handlers.now) bound result }
+    ensures { IsFirstOrBound (IsUncaught frames.now handlers.now) bound result }
 {
     let mut first = bound;
     'catching: for handler in handlers {
@@ -53,7 +53,7 @@ fn first_uncaught(frames: &[FrameAt], numbers: &[u32], handlers: &[Handler], bou
 fn first_in_range(frames: &[FrameAt], numbers: &[u32], handler: Handler, bound: usize) -> usize
     requires row { handler.start < handler.end }
     requires numbers { AreNumbers frames.now (length numbers.now) numbers.now }
-    ensures { IsFirst (IsUncaught frames.now (handler ∷ [])) bound result }
+    ensures { IsFirstOrBound (IsUncaught frames.now (handler ∷ [])) bound result }
 {
     let start = handler.start as usize;
     if start < bound && !frame_catches(frames, numbers, handler.target) {
@@ -109,7 +109,7 @@ fn first_in_row(
     requires bound { bound ≤ length column.now }
     requires tight { AreEnds false column.now 0 tight.now }
     requires loose { AreEnds true column.now 0 loose.now }
-    ensures { IsFirst (IsUnfitInRow column.now handler want) bound result }
+    ensures { IsFirstOrBound (IsUnfitInRow column.now handler want) bound result }
 {
     let start = handler.start as usize;
     let end = handler.end as usize;
@@ -136,7 +136,7 @@ fn first_in_column(
     requires tight { AreEnds false column.now 0 tight.now }
     requires loose { AreEnds true column.now 0 loose.now }
     requires numbers { AreNumbers frames.now (length numbers.now) numbers.now }
-    ensures { IsFirst (IsUnfitInColumn column.now frames.now slot handlers.now) bound result }
+    ensures { IsFirstOrBound (IsUnfitInColumn column.now frames.now slot handlers.now) bound result }
 {
     let mut first = bound;
     'looking: for handler in handlers {
@@ -160,7 +160,7 @@ fn first_by_runs(
     requires small { length states.now < 4294967296 }
     requires bound { bound ≤ length states.now }
     requires numbers { AreNumbers frames.now (length numbers.now) numbers.now }
-    ensures { IfOk result (IsFirst (IsUnfitInColumn (column_of states.now slot) frames.now slot handlers.now) bound) }
+    ensures { IfOk result (IsFirstOrBound (IsUnfitInColumn (column_of states.now slot) frames.now slot handlers.now) bound) }
 {
     let column = column_of(alloc, states, slot)?;
     let tight = run_ends(alloc, false, &column)?;
@@ -187,7 +187,7 @@ fn first_in_states(states: &[State], slot: usize, start: usize, end: usize, want
 /// The first instruction that a row guards whose type of a local variable isn't the one that is wanted, or the bound.
 fn first_by_row(states: &[State], handler: Handler, slot: usize, want: Kind, bound: usize) -> usize
     requires bound { bound ≤ length states.now }
-    ensures { IsFirst (IsUnfitInRow (column_of states.now slot) handler want) bound result }
+    ensures { IsFirstOrBound (IsUnfitInRow (column_of states.now slot) handler want) bound result }
 {
     if want.is_same(Kind::Top) {
         return bound;
@@ -216,7 +216,7 @@ fn first_by_rows(
 ) -> usize
     requires bound { bound ≤ length states.now }
     requires numbers { AreNumbers frames.now (length numbers.now) numbers.now }
-    ensures { IsFirst (IsUnfitInColumn (column_of states.now slot) frames.now slot handlers.now) bound result }
+    ensures { IsFirstOrBound (IsUnfitInColumn (column_of states.now slot) frames.now slot handlers.now) bound result }
 {
     let mut first = bound;
     'looking: for handler in handlers {
@@ -254,7 +254,7 @@ fn first_in_slot(
     requires small { length states.now < 4294967296 }
     requires bound { bound ≤ length states.now }
     requires numbers { AreNumbers frames.now (length numbers.now) numbers.now }
-    ensures { IfOk result (IsFirst (IsUnfitInColumn (column_of states.now slot) frames.now slot handlers.now) bound) }
+    ensures { IfOk result (IsFirstOrBound (IsUnfitInColumn (column_of states.now slot) frames.now slot handlers.now) bound) }
 {
     if few {
         return Ok(first_by_rows(states, frames, numbers, handlers, slot, bound));
@@ -277,7 +277,7 @@ fn first_of_states(
     requires small { length states.now < 4294967296 }
     requires rows { All (λ h. h.start < h.end) handlers.now }
     requires numbers { AreNumbers frames.now (length numbers.now) numbers.now }
-    ensures { IfOk result (IsFirst (IsUnguarded states.now frames.now handlers.now slots) (length states.now)) }
+    ensures { IfOk result (IsFirstOrBound (IsUnguarded states.now frames.now handlers.now slots) (length states.now)) }
 {
     let few = guard_few(handlers, states.len().saturating_mul(LOOKS));
     let mut first = first_uncaught(frames, numbers, handlers, states.len());
@@ -306,7 +306,7 @@ pub fn first_unguarded(
     requires states { handlers.now ≢ [] → length states.now ≡ count }
     requires rows { All (λ h. h.start < h.end) handlers.now }
     requires numbers { AreNumbers frames.now (length numbers.now) numbers.now }
-    ensures { IfOk result (IsFirst (IsUnguarded states.now frames.now handlers.now slots) count) }
+    ensures { IfOk result (IsFirstOrBound (IsUnguarded states.now frames.now handlers.now slots) count) }
 {
     if handlers.is_empty() {
         return Ok(count);

@@ -1,4 +1,6 @@
 //! Laws of the kind check.
+//!
+//! [`each_body_passes_or_is_refused`] is the promise of this crate; the others are steps, which the crates above cite too.
 ghost use Rattle.std.specs.Prelude.{◌≡◌, ◌⊎◌, ◌↔◌, ◌≤◌, ◌++◌, ℕ, length, IsTrue};
 ghost use Rattle.jc_methods.specs.declared.body.Body.{Body};
 ghost use Rattle.jc_methods.specs.VerificationTypes.{Names, VerificationType, AreNumberedFrames};

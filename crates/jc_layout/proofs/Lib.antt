@@ -2,6 +2,7 @@ pub mod LayoutLaws
 pub mod OffsetLaws
 pub mod ChoiceLaws
 pub mod FormedLaws
+pub mod ItemTargetsLaws
 pub mod LayableLaws
 pub mod MergedLaws
 pub mod LaidCodeLaws

@@ -1,4 +1,6 @@
 //! Laws of layouts.
+//!
+//! [`each_laid_body_has_a_twin`] is the promise of this crate; the others are steps, which the crates above cite too.
 ghost use Rattle.std.specs.Prelude.{◌≡◌, ◌<◌, ◌^◌, ℕ, Bool, List, Some};
 ghost use Rattle.jc_methods.specs.VerificationTypes.{Names};
 ghost use Rattle.jc_methods.specs.WellMade.{IsWellMadeOfAnySize, what_used};
@@ -17,6 +19,17 @@ ghost use Rattle.jc_layout.specs.LaidBody.{with_place, laid_body};
 ghost use Rattle.jc_layout.specs.Layable.{IsLayable};
 ghost use Rattle.jc_layout.specs.Layout.{starts_of, IsChosen, is_wide, chosen_text};
 
+/// The body that stands in a layout of the instrumented code is a twin of the body, in either
+/// layout, where the method that the prelude calls has its place in the pool and what the body uses
+/// stays.
+pub fn each_laid_body_has_a_twin()
+    ensures { (b : Body) (first : ℕ) (states : List State) (array : ℕ) (names : Names) (wide : Bool) (call : ℕ) (uses : List Use)
+        → IsWellMadeOfAnySize b → HasFrameStates b states → IsArrayNumber names array
+        → what_used uses call ≡ Some (probe_init b.owner)
+        → ((place : ℕ) (what : What) → what_used b.uses place ≡ Some what → what_used uses place ≡ Some what)
+        → Twin names names states first b (laid_body b (emission b first states array) wide call uses) }
+{}
+
 /// In each layout there is one list of offsets at which the instructions begin, whatever padding
 /// switches need, and one layout is chosen.
 pub fn each_layout_is_chosen()
@@ -30,17 +43,6 @@ pub fn each_layout_is_chosen()
 pub fn each_emission_can_be_laid()
     ensures { (b : Body) (first : ℕ) (states : List State) (array : ℕ) → IsWellMadeOfAnySize b
         → IsLayable (emission b first states array).code }
-{}
-
-/// The body that stands in a layout of the instrumented code is a twin of the body, in either
-/// layout, where the method that the prelude calls has its place in the pool and what the body uses
-/// stays.
-pub fn each_laid_body_has_a_twin()
-    ensures { (b : Body) (first : ℕ) (states : List State) (array : ℕ) (names : Names) (wide : Bool) (call : ℕ) (uses : List Use)
-        → IsWellMadeOfAnySize b → HasFrameStates b states → IsArrayNumber names array
-        → what_used uses call ≡ Some (probe_init b.owner)
-        → ((place : ℕ) (what : What) → what_used b.uses place ≡ Some what → what_used uses place ≡ Some what)
-        → Twin names names states first b (laid_body b (emission b first states array) wide call uses) }
 {}
 
 /// The bytes of a layout of the instrumented code, with the place in the pool of the method that the

@@ -10,7 +10,7 @@ no_probe None = None
 no_probe (Some probe) = probe
 
 -- A sequence has its probe in front of the instruction to which it leads, and another branch has it at its own
--- instruction, at its place `k` among the branches of that instruction.
+-- instruction, at its index `k` among the branches of that instruction.
 abbrev pub planned_by : Way → Plan → ℕ → ℕ → Option ℕ
 planned_by (Falls to) plan at k = no_probe (slice_get plan.lead to)
 planned_by _ plan at k = no_probe (option_and_then (λ out. slice_get out k) (slice_get plan.out at))

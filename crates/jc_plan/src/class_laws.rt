@@ -1,4 +1,6 @@
 //! Laws of the probes of a class, and of edges without probes.
+//!
+//! [`each_id_is_of_one_edge`] is the promise of this module; the others are steps, which the crates above cite too.
 ghost use Rattle.std.specs.Prelude.{◌≡◌, true, false, ◌<◌, IsTrue, Contains, ℕ, List, Some, slice_get};
 ghost use Rattle.jc_methods.specs.WellMade.{IsCode};
 ghost use Rattle.jc_methods.specs.declared.analysed.Analysed.{Analysed};
@@ -14,17 +16,17 @@ ghost use Rattle.jc_plan.specs.Analysed.{IsAnalysed};
 ghost use Rattle.jc_plan.specs.Plan.{plan_of};
 ghost use Rattle.jc_plan.specs.ByBranch.{planned};
 
+/// No two edges of a class have a probe of one id.
+pub fn each_id_is_of_one_edge()
+    ensures { (bodies : List Body) (e f : ClassEdge) (id : ℕ) → HasId bodies e id → HasId bodies f id → e ≡ f }
+{}
+
 /// No two bodies of a class have a probe of one id. `m` and `n` are the numbers of the bodies.
 pub fn each_id_is_of_one_body()
     ensures { (bodies : List Body) (m n : ℕ) (b c : Body) (x y : Branch) → slice_get bodies m ≡ Some b
         → slice_get bodies n ≡ Some c → Contains (branches b.code) x → Contains (branches c.code) y
         → IsTrue (is_probed b x) → IsTrue (is_probed c y)
         → id_of b (first_id bodies m) x ≡ id_of c (first_id bodies n) y → m ≡ n }
-{}
-
-/// No two edges of a class have a probe of one id.
-pub fn each_id_is_of_one_edge()
-    ensures { (bodies : List Body) (e f : ClassEdge) (id : ℕ) → HasId bodies e id → HasId bodies f id → e ≡ f }
 {}
 
 /// How a turn at an instruction comes out chooses one of its branches [`listed`], which leads where control goes on
@@ -44,7 +46,7 @@ pub fn each_edge_without_a_probe_is_the_one_way()
     ensures { (b : Body) (x : Branch) (i : ℕ) → Contains (branches b.code) x → is_probed b x ≡ false → LeadsTo x i → IsOneWay b x i }
 {}
 
-/// What a plan says of a branch of the body is its probe; `k` is the place of the branch among those of its
+/// What a plan says of a branch of the body is its probe; `k` is the index of the branch among those of its
 /// instruction.
 pub fn each_branch_is_planned()
     ensures { (b : Body) (first i k : ℕ) (insn : Insn) (x : Branch) → IsCode b.code → slice_get b.code i ≡ Some insn

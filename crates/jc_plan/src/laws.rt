@@ -1,4 +1,6 @@
 //! Laws of edges and probes.
+//!
+//! [`each_id_is_its_own`] is the promise of this crate; the others are steps, which the crates above cite too.
 ghost use Rattle.std.specs.Prelude.{◌≡◌, ◌+◌, ◌<◌, ◌≤◌, ◌↔◌, IsTrue, Contains, ℕ, List, Some, length, slice_get};
 ghost use Rattle.jc_bytes.specs.FirstSeen.{first_seen, IsDistinct};
 ghost use Rattle.jc_methods.specs.declared.body.Body.{Body};
@@ -8,6 +10,18 @@ ghost use Rattle.jc_plan.specs.Entries.{IsInvocationLine, is_invocation_line};
 ghost use Rattle.jc_plan.specs.Probed.{probe_count, id_of, IsProbed, is_probed, position_of, is_before, IsUsed};
 ghost use Rattle.jc_methods.specs.declared.insn.Insn.{Insn};
 ghost use Rattle.jc_plan.specs.Plan.{plan_of, lead_probe, out_probes};
+
+/// The ids of a body's probes are its own: they rise with the positions, no two probed edges have one id, and the ids
+/// are exactly those from the first on, as many as there are probed edges.
+pub fn each_id_is_its_own()
+    ensures rising { (b : Body) (first : ℕ) (x y : Branch) → Contains (branches b.code) x → IsTrue (is_probed b x)
+        → IsTrue (is_before (position_of x) (position_of y)) → id_of b first x < id_of b first y }
+    ensures single { (b : Body) (first : ℕ) (x y : Branch) → Contains (branches b.code) x → Contains (branches b.code) y
+        → IsTrue (is_probed b x) → IsTrue (is_probed b y) → id_of b first x ≡ id_of b first y → x ≡ y }
+    ensures within { (b : Body) (first : ℕ) (x : Branch) → Contains (branches b.code) x → IsTrue (is_probed b x)
+        → (first ≤ id_of b first x) × (id_of b first x < first + probe_count b) }
+    ensures no_gap { (b : Body) (first id : ℕ) → first ≤ id → id < first + probe_count b → IsUsed b first id }
+{}
 
 /// The ids of a body end where those of the next one begin.
 pub fn each_plan_is_one()
@@ -27,18 +41,6 @@ pub fn each_line_is_tested()
 /// The test for a probed edge gives true exactly at one.
 pub fn each_way_is_tested()
     ensures { (b : Body) (x : Branch) → IsTrue (is_probed b x) ↔ IsProbed b x }
-{}
-
-/// The ids of a body's probes are its own: they rise with the positions, no two probed edges have one id, and the ids
-/// are exactly those from the first on, as many as there are probed edges.
-pub fn each_id_is_its_own()
-    ensures rising { (b : Body) (first : ℕ) (x y : Branch) → Contains (branches b.code) x → IsTrue (is_probed b x)
-        → IsTrue (is_before (position_of x) (position_of y)) → id_of b first x < id_of b first y }
-    ensures single { (b : Body) (first : ℕ) (x y : Branch) → Contains (branches b.code) x → Contains (branches b.code) y
-        → IsTrue (is_probed b x) → IsTrue (is_probed b y) → id_of b first x ≡ id_of b first y → x ≡ y }
-    ensures within { (b : Body) (first : ℕ) (x : Branch) → Contains (branches b.code) x → IsTrue (is_probed b x)
-        → (first ≤ id_of b first x) × (id_of b first x < first + probe_count b) }
-    ensures no_gap { (b : Body) (first id : ℕ) → first ≤ id → id < first + probe_count b → IsUsed b first id }
 {}
 
 /// No two branches of a body have one position.

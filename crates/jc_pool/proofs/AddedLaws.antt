@@ -59,7 +59,7 @@ put_stands old new e place put = (λ i. entry_of (put.grown i) (put.last i)) ∙
 -- what is asked for is found at the place
 pub added_there : {X : Type 0} (found : PoolValue → ℕ → Option X) (what : X) (old : PoolValue) (Put : PoolValue → ℕ → Type 0) (new : PoolValue) (place : ℕ)
     → (Put new place → found new place ≡ Some what) → Adds found what old Put new place → found new place ≡ Some what
-added_there found what old Put new place there (inl has) = ap (λ (l : PoolValue). found l place) has.1 ∙ has.0.stands
+added_there found what old Put new place there (inl has) = ap (λ (l : PoolValue). found l place) has.1 ∙ has.0.there
 added_there found what old Put new place there (inr put) = there put.1
 
 pub utf8_there : (old new : PoolValue) (text : List ℕ) (place : ℕ) → HasUtf8 old text new place → utf8_of new place ≡ Some text
@@ -104,8 +104,8 @@ module _ {X : Type 0} (found : PoolValue → ℕ → Option X) (what : X) (old :
     (one : (new other : PoolValue) (place at : ℕ) → Put new place → Put other at → AreOne new other place at) where
   pub one_added : (new other : PoolValue) (place at : ℕ) → Adds found what old Put new place → Adds found what old Put other at → AreOne new other place at
   one_added new other place at (inl p) (inl q) = record { pool = p.1 ∙ sym q.1; place_is = one_first (found old) what place at p.0 q.0 }
-  one_added new other place at (inl p) (inr q) = absurd (q.0 place p.0.stands)
-  one_added new other place at (inr p) (inl q) = absurd (p.0 at q.0.stands)
+  one_added new other place at (inl p) (inr q) = absurd (q.0 place p.0.there)
+  one_added new other place at (inr p) (inl q) = absurd (p.0 at q.0.there)
   one_added new other place at (inr p) (inr q) = one new other place at p.1 q.1
 
 -- where the entry alone is put
@@ -140,7 +140,7 @@ module _ {X : Type 0} (same : X → X → Bool) (tells : (x y : X) → Decides (
   searched found x (suc end) = elim (searched found x end) [
     | inl first ↦ inl first
     | inr none ↦ elim (decide (found end) x) [
-      | inl here ↦ inl (end, record { stands = here; before = none })
+      | inl here ↦ inl (end, record { there = here; first = none })
       | inr other ↦ inr (λ p less. elim (cases_lt p end) [
         | inl below ↦ none p below
         | inr last ↦ (let is : p ≡ end = omega (arith, less, last) in λ there. other (ap found (sym is) ∙ there))
@@ -190,10 +190,10 @@ class_within pool place name there = elim (cases_lt place (length pool)) [ inl l
 slot_keeps_first : (old : PoolValue) (slot : Option Entry) (name : List ℕ) (place : ℕ) → ((text : List ℕ) → (slot >>= utf8_in) ≡ Some text → IsNowhere (utf8_of old) text)
     → IsFirst (class_name_of old) name place → IsFirst (class_name_of (old ++ slot ∷ [])) name place
 unfolding utf8_of
-slot_keeps_first old slot name place fresh first = record { stands = naming_kept naming.Class old (old ++ slot ∷ []) name place (slot ∷ [], refl) first.stands; before = none }
+slot_keeps_first old slot name place fresh first = record { there = naming_kept naming.Class old (old ++ slot ∷ []) name place (slot ∷ [], refl) first.there; first = none }
   where
     named : (m : ℕ) × (entry_of old place ≡ Some (entry.Class m)) × (utf8_of old m ≡ Some name)
-    named = has_name naming.Class old place name first.stands
+    named = has_name naming.Class old place name first.there
 
     behind : (n : ℕ) → length old ≤ n → utf8_of (old ++ slot ∷ []) n ≡ Some name → ⊥
     behind n past there = elim (cases_lt (length old) n) [
@@ -205,9 +205,9 @@ slot_keeps_first old slot name place fresh first = record { stands = naming_kept
     none : (earlier : ℕ) → earlier < place → class_name_of (old ++ slot ∷ []) earlier ≢ Some name
     none earlier less there =
         let n = has_name naming.Class (old ++ slot ∷ []) earlier name there in
-        let inside : earlier < length old = (let within = class_within old place name first.stands in omega (arith, less, within)) in
+        let inside : earlier < length old = (let within = class_within old place name first.there in omega (arith, less, within)) in
         elim (cases_lt n.0 (length old)) [
-          | inl below ↦ first.before earlier less (is_named naming.Class old earlier n.0 name (sym (entry_stays old (slot ∷ []) earlier inside) ∙ n.1) (sym (utf8_stays old (slot ∷ []) n.0 below) ∙ n.2))
+          | inl below ↦ first.first earlier less (is_named naming.Class old earlier n.0 name (sym (entry_stays old (slot ∷ []) earlier inside) ∙ n.1) (sym (utf8_stays old (slot ∷ []) n.0 below) ∙ n.2))
           | inr past ↦ behind n.0 past n.2
         ]
 

@@ -4,16 +4,14 @@ use Rattle.std.proofs.lemmas.Bool.{cases_lt}
 use Rattle.std.proofs.lemmas.Option.{none-some}
 use borrow.Author.Count.{below_more}
 use Rattle.jc_bytes.proofs.DecoderLaws.{some_is}
+use Rattle.jc_bytes.proofs.LeastLaws.{least_one}
 use Rattle.jc_pool.specs.Adding.{IsFirst, IsNowhere}
 use Rattle.jc_pool.specs.Index.{IsFirstBelow, AreFirsts, Notes}
 
 module _ {X : Type 0} where
   -- there is one first place
   pub one_first : (found : ℕ → Option X) (x : X) (p q : ℕ) → IsFirst found x p → IsFirst found x q → p ≡ q
-  one_first found x p q a b = elim (cases_lt p q) [
-    | inl less ↦ absurd (b.before p less a.stands)
-    | inr no_less ↦ elim (cases_lt q p) [ inl more ↦ absurd (a.before q more b.stands) | inr no_more ↦ omega (arith, no_less, no_more) ]
-  ]
+  one_first found x p q a b = least_one (λ at. found at ≡ Some x) p q a b
 
   -- ---- one place more
 
@@ -40,7 +38,7 @@ module _ {X : Type 0} where
           (further found end y (old y) (λ there none. other.0 (sym (some_is x y (sym at ∙ there)))) (firsts y))
       by (inr this) =
           let none : IsFirstBelow end found y None = subst (IsFirstBelow end found y) (ap old this.0 ∙ fresh.0) (firsts y) in
-          subst (IsFirstBelow (end + 1) found y) (sym this.1) (omega arith, record { stands = at ∙ ap Some (sym this.0); before = none })
+          subst (IsFirstBelow (end + 1) found y) (sym this.1) (omega arith, record { there = at ∙ ap Some (sym this.0); first = none })
 
   -- the place that is answered is the first
   pub noted_first : (found : ℕ → Option X) (end : ℕ) (old new : X → Option ℕ) (x : X) (first : ℕ) → found end ≡ Some x → Notes old new x end first → AreFirsts end found old → IsFirst found x first
@@ -48,14 +46,14 @@ module _ {X : Type 0} where
       let is : IsFirstBelow end found x (Some first) = subst (IsFirstBelow end found x) known.0 (firsts x) in is.1
   noted_first found end old new x first at (inr fresh) firsts =
       let none : IsFirstBelow end found x None = subst (IsFirstBelow end found x) fresh.0 (firsts x) in
-      subst (IsFirst found x) (sym fresh.1) (record { stands = at; before = none })
+      subst (IsFirst found x) (sym fresh.1) (record { there = at; first = none })
 
   -- ---- what is found elsewhere
 
   first_same : (found other : ℕ → Option X) (end : ℕ) (x : X) (p : ℕ) → ((q : ℕ) → q < end → other q ≡ found q) → p < end → IsFirst found x p → IsFirst other x p
   first_same found other end x p same less is = record {
-    stands = same p less ∙ is.stands;
-    before = λ q earlier there. is.before q earlier (sym (same q (omega (arith, earlier, less))) ∙ there);
+    there = same p less ∙ is.there;
+    first = λ q earlier there. is.first q earlier (sym (same q (omega (arith, earlier, less))) ∙ there);
   }
 
   -- only what is found below the end matters
@@ -70,7 +68,7 @@ module _ {X : Type 0} where
   pub first_stays : (found other : ℕ → Option X) (end : ℕ) (x : X) (p : ℕ) → ((q : ℕ) → q < end → other q ≡ found q) → ((q : ℕ) → end ≤ q → found q ≡ None) → IsFirst found x p → IsFirst other x p
   first_stays found other end x p same past is = elim (cases_lt p end) [
     | inl less ↦ first_same found other end x p same less is
-    | inr behind ↦ absurd (none-some x (sym (past p behind) ∙ is.stands))
+    | inr behind ↦ absurd (none-some x (sym (past p behind) ∙ is.there))
   ]
 
   -- ---- the whole table

@@ -31,8 +31,8 @@ pub record AreAsOne {X K : Type 0} (found : ℕ → Option X) (what : X) (keyed 
 module _ {X K : Type 0} (found : ℕ → Option X) (what : X) (keyed : ℕ → Option K) (k : K) (as_one : AreAsOne found what keyed k) where
   pub first_as_one : (place : ℕ) → IsFirst keyed k place → IsFirst found what place
   first_as_one place is = record {
-    stands = as_one.of_key place is.stands;
-    before = λ earlier less there. is.before earlier less (as_one.to_key earlier there);
+    there = as_one.of_key place is.there;
+    first = λ earlier less there. is.first earlier less (as_one.to_key earlier there);
   }
 
   pub nowhere_as_one : IsNowhere keyed k → IsNowhere found what
@@ -131,10 +131,10 @@ module _ (pool : PoolValue) (firsts : List ℕ) (text : List ℕ) (at : ℕ) (st
   stands_text name same = by (utf8_of pool name) refl
     where
       by : (r : Option (List ℕ)) → utf8_of pool name ≡ r → utf8_of pool name ≡ Some text
-      by None is = ap (utf8_of pool) (sym (standins.others name is) ∙ same) ∙ first.stands
+      by None is = ap (utf8_of pool) (sym (standins.others name is) ∙ same) ∙ first.there
       by (Some t) is =
-          let stands : utf8_of pool at ≡ Some t = ap (utf8_of pool) (sym same) ∙ (standins.found_there name t (within name t is) is).stands in
-          is ∙ sym stands ∙ first.stands
+          let stands : utf8_of pool at ≡ Some t = ap (utf8_of pool) (sym same) ∙ (standins.found_there name t (within name t is) is).there in
+          is ∙ sym stands ∙ first.there
 
   pub naming_as_one : (kind : Naming) → AreAsOne (naming_of kind pool) text (key_at firsts pool) (key_naming kind at)
   naming_as_one kind = record {

@@ -95,8 +95,8 @@ module _ {X : Type 0} (f : Entry → Option X) where
     where
       last : (x : X) → read_off (pool ++ slot ∷ []) (length pool) ≡ Some x → IsFirst (read_off (pool ++ slot ∷ [])) x (length pool)
       last x there = record {
-        stands = there;
-        before = λ earlier less found. fresh x (sym (slot_put pool slot) ∙ there) earlier (sym (stays pool (slot ∷ []) earlier less) ∙ found);
+        there = there;
+        first = λ earlier less found. fresh x (sym (slot_put pool slot) ∙ there) earlier (sym (stays pool (slot ∷ []) earlier less) ∙ found);
       }
 
       here : (x : X) (place : ℕ) → place ≡ length pool → read_off (pool ++ slot ∷ []) place ≡ Some x → IsFirst (read_off (pool ++ slot ∷ [])) x (standing_for firsts place)

@@ -1,5 +1,7 @@
 -- What is found in a constant pool, and what is put behind its entries (JVM Specification 4.4).
-use Rattle.std.specs.Prelude.{◌≡◌, ◌≢◌, ◌⊎◌, ◌==◌, if◌then◌else◌, ℕ, ℤ, ◌<◌, ◌≤◌, List, ◌++◌, length, Option, Some, Result, Err}
+use Rattle.std.specs.Prelude.{◌≡◌, ◌⊎◌, ◌==◌, if◌then◌else◌, ℕ, ℤ, ◌<◌, ◌≤◌, List, ◌++◌, length, Option, Some, Result, Err}
+use Rattle.jc_bytes.specs.Least.{IsLeast}
+use Rattle.jc_bytes.specs.Least as least
 use Rattle.jc_bytes.specs.declared.fail.Fail.{Fail}
 use Rattle.jc_bytes.specs.declared.fail.Fail.TheVariants as fails
 use Rattle.jc_pool.specs.declared.add.PoolFull.{PoolFull}
@@ -11,13 +13,12 @@ use Rattle.jc_pool.specs.Lookup.{utf8_of, class_name_of, string_of, integer_of, 
 -- ---- places
 
 -- the first place at which this is found
-pub record IsFirst {X : Type 0} (found : ℕ → Option X) (what : X) (place : ℕ) : Type 0 where
-  pub stands : found place ≡ Some what
-  pub before : (earlier : ℕ) → earlier < place → found earlier ≢ Some what
+abbrev pub IsFirst : {X : Type 0} → (ℕ → Option X) → X → ℕ → Type 0
+IsFirst found what place = IsLeast (λ at. found at ≡ Some what) place
 
 -- this is found at no place
 abbrev pub IsNowhere : {X : Type 0} → (ℕ → Option X) → X → Type 0
-IsNowhere found what = (place : ℕ) → found place ≢ Some what
+IsNowhere found what = least.IsNowhere (λ at. found at ≡ Some what)
 
 -- ---- entries
 

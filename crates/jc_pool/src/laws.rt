@@ -1,4 +1,6 @@
 //! Laws of the grammar of constant pools.
+//!
+//! [`one_reading`] is the promise of this crate; the others are steps, which the crates above cite too.
 ghost use Rattle.std.specs.Prelude.{◌≡◌, ◌⊎◌, ◌++◌, ℕ, ℤ, List, Some};
 ghost use Rattle.jc_pool.specs.Pool.{PoolValue};
 ghost use Rattle.jc_bytes.specs.ByteLists.{AreBytes};

@@ -30,7 +30,7 @@ use Rattle.jc_emit.proofs.BuiltLaws.{length_twin}
 use Rattle.jc_emit.proofs.LocalLaws.{land_lands, lead_lands, next_within, listed_within}
 use Rattle.jc_emit.proofs.RowLaws.{total_grows}
 use Rattle.jc_emit.proofs.StraddlingLaws.{frame_within}
-use Rattle.jc_verify.proofs.TwinItemLaws.{lands_within}
+use Rattle.jc_layout.proofs.ItemTargetsLaws.{lands_within}
 
 -- ---- states of a body
 
@@ -121,10 +121,10 @@ module _ (names : Names) (b : Body) (first : ℕ) (states : List State) (well : 
     IsGood q s = (q < count) × IsStateOf names b s
 
     land_below : (i : ℕ) → i < length b.code → land i < count
-    land_below i lt = lands_within b first wide 0 well.code (land i) i None (land_lands b first wide well.code i lt)
+    land_below i lt = lands_within b first wide 0 (land i) i None (land_lands b first wide well.code i lt)
 
     lead_below : (i : ℕ) → i < length b.code → lead i < count
-    lead_below i lt = lands_within b first wide 0 well.code (lead i) i _ (lead_lands b first wide well.code i lt)
+    lead_below i lt = lands_within b first wide 0 (lead i) i _ (lead_lands b first wide well.code i lt)
 
     next_lead : (i : ℕ) → lead (i + 1) ≡ image i + 1 + behind_size b first wide i
     next_lead i = let e : i + 1 ≡ suc i = omega arith in ap (λ (k : ℕ). 2 + total (segment_size b first wide) k) e ∙ omega arith

@@ -3,7 +3,6 @@ pub mod EntriesLaws
 pub mod StartLaws
 pub mod LandLaws
 pub mod OffsetLaws
-pub mod ReadBytesLaws
 pub mod RangeLaws
 pub mod NamedLaws
 pub mod LaidRangeLaws

@@ -78,7 +78,7 @@ module _ (pool : PoolValue) (name : List ℕ) where
     where
       each : (parts : List (List X)) → AllByRecursion (IsNamed pool name) (map (λ part. attribute place (counted_text text part)) parts)
       each [] = tt
-      each (part ∷ parts) = (named.stands, each parts)
+      each (part ∷ parts) = (named.there, each parts)
 
   -- and so has that of frames
   pub frames_named : (place : ℕ) (p : Places) (frames : List TypeStateAt) → utf8_of pool place ≡ Some name

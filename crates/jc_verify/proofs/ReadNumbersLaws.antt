@@ -41,7 +41,7 @@ use Rattle.jc_layout.specs.Layout.{chosen_length, chosen_starts, chosen_text, is
 use Rattle.jc_verify.specs.WrittenCode.{HasShortNumbers, IsShortVar}
 use Rattle.jc_verify.proofs.LaidRangeLaws.{chosen_spelled}
 use Rattle.jc_verify.proofs.RangeLaws.{code_range}
-use Rattle.jc_verify.proofs.ReadBytesLaws.{HasBytes, attribute_bytes, counted_hold}
+use Rattle.jc_class.proofs.ReadClassLaws.{HasBytes, attribute_bytes, counted_hold}
 
 -- ---- lists
 

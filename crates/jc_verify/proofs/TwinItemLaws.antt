@@ -1,13 +1,11 @@
 -- The instructions of a twin lead to instructions of it, and use its local variables.
-use Rattle.std.proofs.Common.{◌≡◌, ⊎_elim, inl, inr, ℕ, zero, suc, ◌+◌, ◌<◌, ◌≤◌, Bool, true, false, List, [], ◌∷◌, map, length, Option, Some, None, refl, sym, ap, ◌∙◌, subst, arith, All, nat_lt, nat_le, if◌then◌else◌, cond, pos}
-use Rattle.std.specs.Prelude.{slice_get, Contains}
+use Rattle.std.proofs.Common.{◌≡◌, ⊎_elim, ℕ, zero, suc, ◌+◌, ◌<◌, ◌≤◌, Bool, true, false, List, [], ◌∷◌, map, length, Some, None, refl, sym, subst, arith, All, nat_lt, nat_le, if◌then◌else◌, cond, pos}
+use Rattle.std.specs.Prelude.{slice_get}
 use Rattle.std.specs.List.{AllByRecursion}
 use Rattle.std.proofs.lemmas.Bool.{cond_both}
 use Rattle.std.proofs.lemmas.Option.{none-some, same_Some, slice_get_within}
 use Rattle.jc_bytes.proofs.EachLaws.{all_weaker}
-use Rattle.jc_bytes.proofs.FirstSeenLaws.{first_seen_all}
-use Rattle.jc_bytes.specs.FirstSeen.{first_seen}
-use Rattle.jc_methods.specs.Flow.{flow_of, targets_of, FallsThrough}
+use Rattle.jc_methods.specs.Flow.{flow_of, FallsThrough}
 use Rattle.jc_methods.specs.Insn.{with_places}
 use Rattle.jc_methods.specs.InsnUse.{LeadsWithin, LocalsWithin, is_of_two_slots, locals_of}
 use Rattle.jc_methods.specs.WellMade.{IsCode}
@@ -17,19 +15,15 @@ use Rattle.jc_methods.specs.declared.insn.Insn.TheVariants as insns
 use Rattle.jc_methods.specs.declared.insn.Flow.{Flow}
 use Rattle.jc_methods.specs.declared.insn.Flow.TheVariants as flows
 use Rattle.jc_methods.specs.declared.body.Body.{Body}
-use Rattle.jc_plan.specs.declared.branch.Branch.{Branch}
-use Rattle.jc_plan.specs.Edges.{branches_by}
 use Rattle.jc_plan.specs.Probed.{probe_of}
 use Rattle.jc_after.specs.Shift.{slot_of, with_slot}
 use Rattle.jc_emit.specs.Marks.{push}
 use Rattle.jc_emit.specs.Sizes.{insn_at}
-use Rattle.jc_emit.specs.TwinCode.{to_of}
 use Rattle.jc_emit.specs.Items.{Item, init_call, init_store, image, probe_array, probe_id, probe_one, probe_store, hop, insn_of, twin_items}
-use Rattle.jc_emit.specs.Local.{Stands, Lands, Ok, OkImage}
-use Rattle.jc_emit.proofs.PlacedLaws.{flow_push, flow_shifted, targets_placed, no_targets, inverse_targets, placed_targets, goto_stops, switch_stops, no_fall_goto, never}
-use Rattle.jc_emit.proofs.OthersLaws.{jumps_target}
+use Rattle.jc_emit.specs.Local.{Ok, OkImage}
+use Rattle.jc_emit.proofs.PlacedLaws.{goto_stops, switch_stops, no_fall_goto, never}
 use Rattle.jc_emit.proofs.LocalLaws.{twin_ok}
-use Rattle.jc_layout.proofs.LayableLaws.{branch_of, each_mapped}
+use Rattle.jc_layout.proofs.ItemTargetsLaws.{stands_within, lands_within, item_within}
 
 -- ---- mapped lists
 
@@ -132,66 +126,12 @@ module _ (b : Body) (first : ℕ) (wide : Bool) (call : ℕ) (is_code : IsCode b
   abbrev pub Fine : ℕ → Item → Type 0
   Fine q x = Ok b.code (Some b.arg_slots) (probe_of b first) items q x
 
-  stands_within : (q at : ℕ) (due : Option ℕ) → Stands b.code (Some b.arg_slots) (probe_of b first) items q at due → q < count
-  stands_within q at due h = slice_get_within items q h.item h.here
-
-  pub lands_within : (q at : ℕ) (due : Option ℕ) → Lands b.code (Some b.arg_slots) (probe_of b first) items q at due → q < count
-  lands_within q at due h = stands_within q at due h.stands
-
-  -- ---- jumps
-
-  abbrev Within : List ℕ → Type 0
-  Within ts = AllByRecursion (λ to. to < count) ts
-
-  switch_within : (i : ℕ) (place : ℕ → ℕ) → flow_of (old i) ≡ flows.Switches
-      → ((x : Branch) → Contains (branches_by (flow_of (old i)) i (targets_of (old i))) x
-      → Lands b.code (Some b.arg_slots) (probe_of b first) items (place (to_of x)) (to_of x) (probe_of b first x))
-      → Within (targets_of (with_places place (old i)))
-  switch_within i place e each =
-      subst Within (sym (targets_placed place (old i)))
-      (each_mapped place (λ to. to < count) (targets_of (old i))
-      (λ t c.
-      let x = branch_of i 0 (first_seen (targets_of (old i))) t (first_seen_all (targets_of (old i)) t c) in
-      let listed = subst (λ f. Contains (branches_by f i (targets_of (old i))) x.0) (sym e) x.1 in
-      subst (λ to. place to < count) x.2 (lands_within (place (to_of x.0)) (to_of x.0) (probe_of b first x.0) (each x.0 listed))))
-
-  image_within : (q i : ℕ) (insn : Insn) (flow : Flow) → flow_of (old i) ≡ flow → Image q i insn flow → Within (targets_of insn)
-  image_within q i insn flows.GoesOn e h =
-      subst (λ x. Within (targets_of x)) (sym h.0)
-      (subst Within (sym (no_targets (with_slot b.arg_slots (old i)) (inl (flow_shifted b.arg_slots (old i) ∙ e)))) tt)
-  image_within q i insn flows.Branches e h =
-      ⊎_elim
-      (λ alike. subst (λ x. Within (targets_of x)) (sym alike.same)
-      (subst Within (sym (placed_targets (old i) (λ to. alike.target) e)) (lands_within alike.target _ _ alike.jumped, tt)))
-      (λ inverse. subst (λ x. Within (targets_of x)) (sym inverse.inverse)
-      (subst Within (sym (inverse_targets (old i) inverse.target e)) (lands_within inverse.target _ _ inverse.jumped, tt)))
-      h
-  image_within q i insn flows.Jumps e h =
-      subst (λ x. Within (targets_of x)) (sym h.same)
-      (subst Within (sym (targets_placed (λ to. h.target) (old i) ∙ ap (map (λ (to : ℕ). h.target)) (jumps_target (old i) e)))
-      (lands_within h.target _ _ h.jumped, tt))
-  image_within q i insn flows.Switches e h = subst (λ x. Within (targets_of x)) (sym h.same) (switch_within i h.place e h.each)
-  image_within q i insn flows.Returns e h =
-      subst (λ x. Within (targets_of x)) (sym h) (subst Within (sym (no_targets (old i) (inr (inl e)))) tt)
-  image_within q i insn flows.Throws e h =
-      subst (λ x. Within (targets_of x)) (sym h) (subst Within (sym (no_targets (old i) (inr (inr e)))) tt)
-
-  item_within : (q : ℕ) (x : Item) → Fine q x → LeadsWithin count (new x)
-  item_within q init_call h = tt
-  item_within q init_store h = tt
-  item_within q (image insn i early) h = image_within q i insn (flow_of (old i)) refl h.2
-  item_within q (probe_array id at late) h = tt
-  item_within q (probe_id id at late) h = subst Within (sym (no_targets (push id) (inl (flow_push id)))) tt
-  item_within q (probe_one id at late) h = tt
-  item_within q (probe_store id at late) h = tt
-  item_within q (hop to at due) h = (lands_within to at due h, tt)
-
   -- ---- what falls through
 
   image_falls : (q i : ℕ) (insn : Insn) (flow : Flow) → flow_of (old i) ≡ flow → Image q i insn flow → FallsThrough insn → q + 1 < count
-  image_falls q i insn flows.GoesOn e h falls = lands_within (q + 1) _ _ h.1
+  image_falls q i insn flows.GoesOn e h falls = lands_within b first wide call (q + 1) _ _ h.1
   image_falls q i insn flows.Branches e h falls =
-      ⊎_elim (λ alike. stands_within (q + 1) _ _ alike.fell) (λ inverse. stands_within (q + 1) _ _ inverse.fell) h
+      ⊎_elim (λ alike. stands_within b first wide call (q + 1) _ _ alike.fell) (λ inverse. stands_within b first wide call (q + 1) _ _ inverse.fell) h
   image_falls q i insn flows.Jumps e h falls = absurd (goto_stops (old i) (λ to. h.target) e (subst FallsThrough h.same falls))
   image_falls q i insn flows.Switches e h falls = absurd (switch_stops (old i) h.place e (subst FallsThrough h.same falls))
   image_falls q i insn flows.Returns e h falls = absurd (never (old i) flows.Returns e (λ x. cc) (λ x. cc) (subst FallsThrough h falls))
@@ -199,12 +139,12 @@ module _ (b : Body) (first : ℕ) (wide : Bool) (call : ℕ) (is_code : IsCode b
 
   item_falls : (q : ℕ) (x : Item) → Fine q x → FallsThrough (new x) → q + 1 < count
   item_falls q init_call h falls = slice_get_within items (q + 1) init_store h.1
-  item_falls q init_store h falls = lands_within (q + 1) 0 None h
+  item_falls q init_store h falls = lands_within b first wide call (q + 1) 0 None h
   item_falls q (image insn i early) h falls = image_falls q i insn (flow_of (old i)) refl h.2 falls
   item_falls q (probe_array id at late) h falls = slice_get_within items (q + 1) (probe_id id at late) h.1
   item_falls q (probe_id id at late) h falls = slice_get_within items (q + 1) (probe_one id at late) h.1
   item_falls q (probe_one id at late) h falls = slice_get_within items (q + 1) (probe_store id at late) h.1
-  item_falls q (probe_store id at true) h falls = stands_within (q + 1) at None h.1
+  item_falls q (probe_store id at true) h falls = stands_within b first wide call (q + 1) at None h.1
   item_falls q (probe_store id at false) h falls = slice_get_within items (q + 1) (image h.1.0 at (Some id)) h.1.1
   item_falls q (hop to at due) h falls = absurd (no_fall_goto to falls)
 
@@ -252,7 +192,7 @@ module _ (b : Body) (first : ℕ) (wide : Bool) (call : ℕ) (is_code : IsCode b
       subst (Fact q) found.2 (each q found.0 ((twin_ok b first wide is_code).ok q found.0 found.1))
 
   pub leads : (q : ℕ) (insn : Insn) → slice_get (map new items) q ≡ Some insn → LeadsWithin count insn
-  leads q insn at = each_insn (λ q insn. LeadsWithin count insn) item_within q insn at
+  leads q insn at = each_insn (λ q insn. LeadsWithin count insn) (item_within b first wide call) q insn at
 
   pub falls : (q : ℕ) (insn : Insn) → slice_get (map new items) q ≡ Some insn → FallsThrough insn → q + 1 < count
   falls q insn at = each_insn (λ q insn. FallsThrough insn → q + 1 < count) item_falls q insn at

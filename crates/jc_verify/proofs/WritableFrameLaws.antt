@@ -78,8 +78,8 @@ module _ (g : Ground) (p : Places) (size : ℕ) (starts : AreStarts (length g.co
       let first = first_of g.pool name h in
       let e = class name first.0 first.1 in
       let fits = h.fits in
-      let less = class_within g.pool first.0 name first.1.stands in
-      (omega (arith, e, less, fits), ap (class_name_of g.pool) e ∙ first.1.stands)
+      let less = class_within g.pool first.0 name first.1.there in
+      (omega (arith, e, less, fits), ap (class_name_of g.pool) e ∙ first.1.there)
 
   have_places : (hs : List VerificationType) → AllByRecursion (HasPlace g.pool) (class_names hs) → AllByRecursion (PlacedSo (HasNewAt g)) hs → AllByRecursion (HasPlaces g p) hs
   have_places [] s m = tt

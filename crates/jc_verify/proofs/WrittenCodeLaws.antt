@@ -20,7 +20,7 @@ use Rattle.jc_code.specs.TwinCode.{twin_code}
 use Rattle.jc_code.specs.declared.code.CodePlaces.{CodePlaces}
 use Rattle.jc_verify.specs.WrittenCode.{IsWrittenCode, frames_name}
 use Rattle.jc_verify.proofs.LandLaws.{locals_are}
-use Rattle.jc_verify.proofs.ReadBytesLaws.{HasBytes}
+use Rattle.jc_class.proofs.ReadClassLaws.{HasBytes}
 use Rattle.jc_verify.proofs.ReadNumbersLaws.{is_spelled}
 
 -- the names and the method stand in the pool, and the sizes fit

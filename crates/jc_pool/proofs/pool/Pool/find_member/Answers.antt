@@ -12,6 +12,6 @@ returns-clause-none c =
 
 pub returns-then-is_member_there-clause-first : goal.returns-then-is_member_there-clause-first
 returns-then-is_member_there-clause-first c = record {
-  stands = c.is_member_there.ensures.0 c.if-is_member_there.true;
-  before = λ earlier less. c.finding.invariant earlier less;
+  there = c.is_member_there.ensures.0 c.if-is_member_there.true;
+  first = λ earlier less. c.finding.invariant earlier less;
 }
