@@ -31,6 +31,7 @@ pub use Rattle.jc_methods.specs.Slots
 pub use Rattle.jc_methods.specs.ValueTypes
 pub use Rattle.jc_methods.specs.Starts
 pub use Rattle.jc_methods.specs.ProbeMembers
+pub use Rattle.jc_outside.specs.Folder
 pub use Rattle.jc_outside.specs.Outside
 pub use Rattle.jc_outside.specs.Planned
 pub use Rattle.jc_outside.specs.InMemory

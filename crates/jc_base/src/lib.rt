@@ -83,6 +83,7 @@ pub use jc_outside::FileFault;
 pub use jc_outside::Files;
 pub use jc_outside::HostFiles;
 pub use jc_outside::HostSink;
+pub use jc_outside::MOST_PART;
 pub use jc_outside::MemoryFiles;
 pub use jc_outside::MemorySink;
 pub use jc_outside::Sink;

@@ -1,1 +1,3 @@
+pub mod FolderLaws
 pub mod HeldLaws
+pub mod PartLaws

@@ -1,3 +1,4 @@
+pub mod Folder
 pub mod Outside
 pub mod Planned
 pub mod InMemory

@@ -1,9 +1,13 @@
 -- Files and texts outside, and what a call does to them.
-use Rattle.std.specs.Prelude.{◌≡◌, ◌≢◌, ◌⊎◌, ◌<◌, ◌≤◌, ℕ, List, ◌++◌, length, Option, None, Some, Result, Ok, Err, ⊤}
+use Rattle.std.specs.Prelude.{◌≡◌, ◌≢◌, ◌⊎◌, ◌↔◌, ◌<◌, ◌≤◌, ◌+◌, ℕ, Bool, false, List, ◌++◌, length, take, drop, map, filter, Option, None, Some, Result, Ok, Err, String, Vec, string_bytes, ⊤}
+use Rattle.std.specs.declared.alloc.Global.{Global}
 use Rattle.std.specs.Ordering.{nat_cmp}
-use Rattle.std.specs.FinMap.{FinMap, get, insert}
+use Rattle.std.specs.FinMap.{FinMap, get, insert, keys}
 use Rattle.std.specs.Cmp.Lexicographic.{slice_cmp}
+use Rattle.std.specs.List.{AllPass}
+use Rattle.std.specs.List.Sorted.{IsStrictlySortedBy}
 use Rattle.jc_bytes.specs.Reader.{most_read}
+use Rattle.jc_outside.specs.Folder.{front_of, is_class_file}
 use Rattle.jc_outside.specs.declared.files.FileFault.{FileFault}
 use Rattle.jc_outside.specs.declared.files.FileFault.TheVariants as faults
 use Rattle.jc_outside.specs.declared.sink.SinkFault.{SinkFault}
@@ -32,26 +36,80 @@ WhereTold (Some m) P = P m
 
 -- ---- reading
 
+-- what a read that failed leaves of what was there, and what its fault says of the file
+abbrev pub FaultLeaves : Option FileMap → List ℕ → List ℕ → List ℕ → FileFault → Type 0
+FaultLeaves contents path old new faults.Failed = Begins old new
+FaultLeaves contents path old new faults.Missing = Begins old new × WhereTold contents (λ m. get m path ≡ None)
+FaultLeaves contents path old new faults.TooLarge = Begins old new × WhereTold contents (λ m. IsLong (get m path))
+FaultLeaves contents path old new faults.Memory = Begins old new
+
 -- what a read appends to what was there
 abbrev pub ReadGives : Option FileMap → List ℕ → List ℕ → List ℕ → Result Unit FileFault → Type 0
 ReadGives contents path old new (Ok _) = (bytes : List ℕ) × (new ≡ old ++ bytes) × (length bytes ≤ most_read) × WhereTold contents (λ m. get m path ≡ Some bytes)
-ReadGives contents path old new (Err faults.Failed) = Begins old new
-ReadGives contents path old new (Err faults.Missing) = Begins old new × WhereTold contents (λ m. get m path ≡ None)
-ReadGives contents path old new (Err faults.TooLarge) = Begins old new × WhereTold contents (λ m. IsLong (get m path))
-ReadGives contents path old new (Err faults.Memory) = Begins old new
+ReadGives contents path old new (Err fault) = FaultLeaves contents path old new fault
 
 -- where contents aren't told, a file that is missing or too large counts as a fault
 abbrev pub RoseOrTold : Option FileMap → ℕ → ℕ → Type 0
 RoseOrTold None old new = (old ≤ new) × Rose old new
 RoseOrTold (Some m) old new = new ≡ old
 
+-- when the count of reads that failed rises with a fault
+abbrev pub FaultCause : Option FileMap → ℕ → ℕ → FileFault → Type 0
+FaultCause contents old new faults.Failed = (old ≤ new) × Rose old new
+FaultCause contents old new faults.Missing = RoseOrTold contents old new
+FaultCause contents old new faults.TooLarge = RoseOrTold contents old new
+FaultCause contents old new faults.Memory = new ≡ old
+
 -- when the count of reads that failed rises
 abbrev pub ReadCause : Option FileMap → ℕ → ℕ → Result Unit FileFault → Type 0
-ReadCause contents old new (Err faults.Failed) = (old ≤ new) × Rose old new
-ReadCause contents old new (Err faults.Missing) = RoseOrTold contents old new
-ReadCause contents old new (Err faults.TooLarge) = RoseOrTold contents old new
-ReadCause contents old new (Err faults.Memory) = new ≡ old
 ReadCause contents old new (Ok _) = new ≡ old
+ReadCause contents old new (Err fault) = FaultCause contents old new fault
+
+-- ---- reading a part
+
+-- the bytes are those of the file at the 65,536 places from a place on, and the file has ended where no byte stands behind them
+pub record IsPartOf (file : List ℕ) (from : ℕ) (part : List ℕ) (ended : Bool) : Type 0 where
+  pub short : length file ≤ most_read
+  pub bytes : part ≡ take 65536 (drop from file)
+  pub longer : (ended ≡ false) ↔ (from + 65536 < length file)
+
+-- a part of the file at the path: where more bytes follow, it is whole, and isn't the last that a file may have
+pub record IsFilePart (contents : Option FileMap) (path : List ℕ) (from : ℕ) (part : List ℕ) (ended : Bool) : Type 0 where
+  pub few : length part ≤ 65536
+  pub whole : ended ≡ false → length part ≡ 65536
+  pub last : ended ≡ false → from + 65536 < most_read
+  pub told : WhereTold contents (λ m. (file : List ℕ) × (get m path ≡ Some file) × IsPartOf file from part ended)
+
+-- what reading a part appends to what was there
+abbrev pub PartGives : Option FileMap → List ℕ → ℕ → List ℕ → List ℕ → Result Bool FileFault → Type 0
+PartGives contents path from old new (Ok ended) = (part : List ℕ) × (new ≡ old ++ part) × IsFilePart contents path from part ended
+PartGives contents path from old new (Err fault) = FaultLeaves contents path old new fault
+
+-- when the count of reads that failed rises
+abbrev pub PartCause : Option FileMap → ℕ → ℕ → Result Bool FileFault → Type 0
+PartCause contents old new (Ok _) = new ≡ old
+PartCause contents old new (Err fault) = FaultCause contents old new fault
+
+-- ---- listing
+
+-- the paths of a folder's class files, in the order of their bytes, each once: where contents are told, of those that stand there
+pub record IsListing (contents : Option FileMap) (folder : List ℕ) (paths : List (List ℕ)) : Type 0 where
+  pub sorted : IsStrictlySortedBy (slice_cmp nat_cmp) paths
+  pub own : AllPass (is_class_file (front_of folder)) paths
+  pub told : WhereTold contents (λ m. paths ≡ filter (is_class_file (front_of folder)) (keys m))
+
+-- what a listing gives
+abbrev pub ListGives : Option FileMap → List ℕ → Result (Vec (String Global) Global) FileFault → Type 0
+ListGives contents folder (Ok paths) = IsListing contents folder (map string_bytes paths.items)
+ListGives contents folder (Err _) = ⊤
+
+-- a listing answers no other fault, and the count rises where it failed
+abbrev pub ListCause : ℕ → ℕ → Result (Vec (String Global) Global) FileFault → Type 0
+ListCause old new (Ok _) = new ≡ old
+ListCause old new (Err faults.Failed) = (old ≤ new) × Rose old new
+ListCause old new (Err faults.Missing) = ⊥
+ListCause old new (Err faults.TooLarge) = ⊥
+ListCause old new (Err faults.Memory) = new ≡ old
 
 -- ---- writing
 

@@ -1,6 +1,6 @@
 //! The files outside, as the tool sees them.
-ghost use Rattle.std.specs.Prelude.{◌≡◌, ℕ, List, Option};
-ghost use Rattle.jc_outside.specs.Outside.{FileMap, ReadGives, ReadCause, WriteLeaves, WriteCause};
+ghost use Rattle.std.specs.Prelude.{◌≡◌, ◌%◌, ◌<◌, ℕ, List, Option};
+ghost use Rattle.jc_outside.specs.Outside.{FileMap, ReadGives, ReadCause, PartGives, PartCause, ListGives, ListCause, WriteLeaves, WriteCause};
 
 use std::alloc::{AllocError, Global};
 
@@ -28,6 +28,9 @@ impl From<AllocError> for FileFault {
     }
 }
 
+/// The most bytes that one call of `read_part` appends.
+pub const MOST_PART: usize = 65_536;
+
 /// Files by path. Two paths that differ as texts name two files.
 pub trait Files {
     /// What the paths hold, where that is told.
@@ -51,6 +54,35 @@ pub trait Files {
     fn read(&mut self, alloc: Global, path: &str, into: &mut Vec<u8>) -> Result<(), FileFault>
         ensures gives { ReadGives (contents self.old) path.now into.old.items into.new.items result }
         ensures cause { ReadCause (contents self.old) (read_faults self.old) (read_faults self.new) result }
+        ensures contents { contents self.new ≡ contents self.old }
+        ensures write_faults { write_faults self.new ≡ write_faults self.old };
+
+    /// Appends the bytes of the file at `path` to `into` that stand at the 65,536 places from
+    /// `from` on, as many as there are. The answer is false exactly where the file is longer.
+    ///
+    /// The errors are those of `read`, and have its causes. After an error `into` begins with what
+    /// it held. Behind the last part of a file of 67,108,864 bytes the answer is never false.
+    fn read_part(
+        &mut self,
+        alloc: Global,
+        path: &str,
+        from: u64,
+        into: &mut Vec<u8>,
+    ) -> Result<bool, FileFault>
+        requires aligned { from % 65536 ≡ 0 }
+        requires within { from < 67108864 }
+        ensures gives { PartGives (contents self.old) path.now from into.old.items into.new.items result }
+        ensures cause { PartCause (contents self.old) (read_faults self.old) (read_faults self.new) result }
+        ensures contents { contents self.new ≡ contents self.old }
+        ensures write_faults { write_faults self.new ≡ write_faults self.old };
+
+    /// The paths of the folder's own plain files whose names end with `.class`, in the order of
+    /// their bytes. Each is the folder's path, a `/` unless that path ends with one, and the name.
+    ///
+    /// `Missing` and `TooLarge` never come, and `Failed` only where `read_faults` rose in this call.
+    fn list(&mut self, alloc: Global, folder: &str) -> Result<Vec<String>, FileFault>
+        ensures gives { ListGives (contents self.old) folder.now result }
+        ensures cause { ListCause (read_faults self.old) (read_faults self.new) result }
         ensures contents { contents self.new ≡ contents self.old }
         ensures write_faults { write_faults self.new ≡ write_faults self.old };
 

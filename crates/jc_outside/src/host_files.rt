@@ -1,18 +1,20 @@
 //! The files of the machine, of which nothing is told.
-ghost use Rattle.std.specs.Prelude.{None, []};
-ghost use Rattle.jc_outside.specs.Outside.{ReadGives};
+ghost use Rattle.std.specs.Prelude.{◌≡◌, ◌≤◌, ◌<◌, ◌+◌, ◌%◌, None, false, IfOk, OnOk, length};
+ghost use Rattle.jc_outside.specs.Outside.{Begins, FaultCause, ReadGives, PartGives};
 
+use crate::host_folder::list_folder;
 use crate::sink::next_count;
-use crate::{FileFault, Files, SinkFault};
+use crate::{FileFault, Files, MOST_PART, SinkFault};
 use jc_bytes::MOST_READ;
 use std::alloc::Global;
-use std::io::{Read, Write};
+use std::io::{Read, Seek, SeekFrom, Write};
 use std::path::Path;
 use std::{fs, rt};
 
 /// The files of the runtime. What they hold isn't told; this is the trusted edge.
 ///
-/// A path that is missing counts as a failed read. `write` makes the folders on the path.
+/// A path that is missing counts as a failed read, and so does a folder with a class file whose
+/// name is no text. `write` makes the folders on the path.
 #[derive(Drop)]
 pub struct HostFiles<'a, R> {
     rt: &'a R,
@@ -29,38 +31,83 @@ impl<'a, R> HostFiles<'a, R> {
             write_faults: 0,
         }
     }
+
+    /// Counts a read that failed, unless for want of memory, and answers its fault.
+    fn count(&mut self, fault: FileFault) -> FileFault
+        ensures same { result ≡ fault }
+        ensures read_faults { FaultCause None self.old.read_faults self.new.read_faults fault }
+        ensures write_faults { self.new.write_faults ≡ self.old.write_faults }
+    {
+        match fault {
+            FileFault::Memory => {}
+            _ => self.read_faults = next_count(self.read_faults),
+        }
+        fault
+    }
 }
 
-/// Appends what the reader gives, piece by piece. Each turn takes at least a byte, or is the last,
-/// and no byte is taken past 67,108,864.
-fn read_on<F: Read>(file: &mut F, into: &mut Vec<u8>) -> Result<(), FileFault>
-    ensures { ReadGives None [] into.old.items into.new.items result }
+/// Appends what the reader gives, piece by piece, at most so many bytes, and answers whether it gave
+/// no more. Each turn takes at least a byte, or is the last.
+pub fn read_on<F: Read>(file: &mut F, most: usize, into: &mut Vec<u8>) -> Result<bool, FileFault>
+    ensures appended { Begins into.old.items into.new.items }
+    ensures few { OnOk result (length into.new.items ≤ length into.old.items + most) }
+    ensures whole { IfOk result (λ ended. ended ≡ false → length into.new.items ≡ length into.old.items + most) }
 {
     let mut piece = [0; 16384];
-    let mut taken = 0;
-    'reading: for _ in 0..=MOST_READ {
+    let mut room = most;
+    'reading: for _ in 0..=most {
         let Ok(count) = file.read(&mut piece) else {
             return Err(FileFault::Failed);
         };
         if count == 0 {
-            return Ok(());
+            return Ok(true);
         }
-        taken += count;
-        if taken > MOST_READ {
-            return Err(FileFault::TooLarge);
+        into.extend_from_slice(&piece[..count.min(room)])?;
+        if count > room {
+            return Ok(false);
         }
-        into.extend_from_slice(&piece[..count])?;
+        room -= count;
     }
-    Err(FileFault::TooLarge)
+    Err(FileFault::Failed)
 }
 
+/// Appends the bytes of a file.
 fn read_file<R: rt::Files>(rt: &R, path: &str, into: &mut Vec<u8>) -> Result<(), FileFault>
     ensures { ReadGives None path.now into.old.items into.new.items result }
 {
     let Ok(mut file) = fs::open(rt, path) else {
         return Err(FileFault::Failed);
     };
-    read_on(&mut file, into)
+    if read_on(&mut file, MOST_READ, into)? {
+        Ok(())
+    } else {
+        Err(FileFault::TooLarge)
+    }
+}
+
+/// Appends the bytes of a file at the 65,536 places from a place on, as many as there are, and
+/// answers whether it ends there.
+fn read_file_from<R: rt::Files>(
+    rt: &R,
+    path: &str,
+    from: u64,
+    into: &mut Vec<u8>,
+) -> Result<bool, FileFault>
+    requires aligned { from % 65536 ≡ 0 }
+    requires within { from < 67108864 }
+    ensures { PartGives None path.now from into.old.items into.new.items result }
+{
+    let Ok(mut file) = fs::open(rt, path) else {
+        return Err(FileFault::Failed);
+    };
+    if file.seek(SeekFrom::Start(from)).is_err() {
+        return Err(FileFault::Failed);
+    }
+    let ended = read_on(&mut file, MOST_PART, into)?;
+    if !ended && from as usize + MOST_PART == MOST_READ {
+        return Err(FileFault::TooLarge);
+    }
+    Ok(ended)
 }
 
 /// Writes all of the bytes. A write that takes nothing of them is a fault.
@@ -99,12 +146,31 @@ impl<'a, R: rt::Files> Files for HostFiles<'a, R> {
     ghost write_faults = { λ files. files.write_faults };
 
     fn read(&mut self, _alloc: Global, path: &str, into: &mut Vec<u8>) -> Result<(), FileFault> {
-        let outcome = read_file(self.rt, path, into);
-        match outcome {
-            Ok(()) | Err(FileFault::Memory) => {}
-            Err(_) => self.read_faults = next_count(self.read_faults),
+        match read_file(self.rt, path, into) {
+            Ok(()) => Ok(()),
+            Err(fault) => Err(self.count(fault)),
         }
-        outcome
+    }
+
+    fn read_part(
+        &mut self,
+        _alloc: Global,
+        path: &str,
+        from: u64,
+        into: &mut Vec<u8>,
+    ) -> Result<bool, FileFault> {
+        match read_file_from(self.rt, path, from, into) {
+            Ok(ended) => Ok(ended),
+            Err(fault) => Err(self.count(fault)),
+        }
+    }
+
+    fn list(&mut self, alloc: Global, folder: &str) -> Result<Vec<String>, FileFault> {
+        match list_folder(self.rt, alloc, folder) {
+            Ok(paths) => Ok(paths),
+            Err(FileFault::Memory) => Err(FileFault::Memory),
+            Err(_) => Err(self.count(FileFault::Failed)),
+        }
     }
 
     fn write(&mut self, path: &str, bytes: &[u8]) -> Result<(), FileFault> {

@@ -1,13 +1,18 @@
 //! Files in memory, whose calls fail where it is planned.
-ghost use Rattle.std.specs.Prelude.{◌≡◌, ◌≤◌, [], ◌++◌, None, Some, true, false, IfOk, OnOk, OnErr, Result, Err, option_map, slice_index};
-ghost use Rattle.std.specs.FinMap.{get, insert, empty};
-ghost use Rattle.jc_outside.specs.Outside.{ReadGives, ReadCause, WriteLeaves, WriteCause};
+ghost use Rattle.std.specs.Prelude.{◌≡◌, ◌≤◌, ◌<◌, ◌%◌, [], ◌++◌, map, filter, take, drop, string_bytes, None, Some, true, false, IfOk, OnOk, OnErr, Result, Err, option_map, slice_index};
+ghost use Rattle.std.specs.Cmp.Lexicographic.{slice_cmp};
+ghost use Rattle.std.specs.FinMap.{get, insert, empty, keys};
+ghost use Rattle.std.specs.List.Sorted.{IsStrictlySortedBy};
+ghost use Rattle.std.specs.Ordering.{nat_cmp};
+ghost use Rattle.jc_outside.specs.Folder.{front_of, is_class_file};
+ghost use Rattle.jc_outside.specs.Outside.{ReadGives, ReadCause, PartGives, PartCause, ListGives, ListCause, WriteLeaves, WriteCause};
 ghost use Rattle.jc_outside.specs.InMemory.{held, emptied};
 ghost use Rattle.jc_outside.specs.Planned.{is_planned, next_call, count_after};
 
+use crate::folder::{is_class_file, make_front, put_last};
 use crate::planned::{PlannedFaults, front};
 use crate::sink::next_count;
-use crate::{FileFault, Files};
+use crate::{FileFault, Files, MOST_PART};
 use jc_bytes::{MOST_READ, Memory};
 use std::alloc::{AllocError, Global};
 use std::collections::BTreeMap;
@@ -65,6 +70,32 @@ fn overwrite(
             Err(refused)
         }
     }
+}
+
+/// The bytes of a file at the 65,536 places from a place on, as many as there are.
+fn part_of(file: &[u8], from: u64) -> &[u8]
+    ensures { result.now ≡ take 65536 (drop from file.now) }
+{
+    let rest = &file[(from as usize).min(file.len())..];
+    &rest[..MOST_PART.min(rest.len())]
+}
+
+/// The paths of class files, with this before the name, in their order.
+fn class_files(
+    alloc: Global,
+    files: &BTreeMap<String, Vec<u8>>,
+    front: &str,
+) -> Result<Vec<String>, AllocError>
+    ensures told { IfOk result (λ paths. map string_bytes paths.items ≡ filter (is_class_file front.now) (keys (held files.now))) }
+    ensures sorted { IfOk result (λ paths. IsStrictlySortedBy (slice_cmp nat_cmp) (map string_bytes paths.items)) }
+{
+    let mut paths = Vec::new(alloc);
+    'listing: for path in files.keys() {
+        if is_class_file(front.as_bytes(), path.as_bytes()) {
+            put_last(&mut paths, String::from_str(alloc, path.as_str())?)?;
+        }
+    }
+    Ok(paths)
 }
 
 /// Files in memory. All that they hold is told, and the calls that are to fail are known.
@@ -168,6 +199,57 @@ impl Files for MemoryFiles {
         }
         into.extend_from_slice(bytes)?;
         Ok(())
+    }
+
+    fn read_part(
+        &mut self,
+        _alloc: Global,
+        path: &str,
+        from: u64,
+        into: &mut Vec<u8>,
+    ) -> Result<bool, FileFault>
+        requires aligned { from % 65536 ≡ 0 }
+        requires within { from < 67108864 }
+        ensures gives { PartGives (Some self.old.files) path.now from into.old.items into.new.items result }
+        ensures cause { PartCause (Some self.old.files) self.old.read_faults self.new.read_faults result }
+        ensures contents { Some self.new.files ≡ Some self.old.files }
+        ensures write_faults { self.new.write_faults ≡ self.old.write_faults }
+        // Which calls fail.
+        ensures planned { is_planned self.old.calls ≡ true → result ≡ Err FileFault.Failed }
+        ensures unplanned { result ≡ Err FileFault.Failed → is_planned self.old.calls ≡ true }
+        ensures calls { self.new.calls ≡ next_call self.old.calls }
+    {
+        if self.calls.next_fails() {
+            self.read_faults = next_count(self.read_faults);
+            return Err(FileFault::Failed);
+        }
+        let Some(bytes) = bytes_at(&self.files, path) else {
+            return Err(FileFault::Missing);
+        };
+        let len = bytes.len() as u64;
+        if len > MOST_READ as u64 {
+            return Err(FileFault::TooLarge);
+        }
+        into.extend_from_slice(part_of(bytes, from))?;
+        Ok(len <= from + MOST_PART as u64)
+    }
+
+    fn list(&mut self, alloc: Global, folder: &str) -> Result<Vec<String>, FileFault>
+        ensures gives { ListGives (Some self.old.files) folder.now result }
+        ensures cause { ListCause self.old.read_faults self.new.read_faults result }
+        ensures contents { Some self.new.files ≡ Some self.old.files }
+        ensures write_faults { self.new.write_faults ≡ self.old.write_faults }
+        // Which calls fail.
+        ensures planned { is_planned self.old.calls ≡ true → result ≡ Err FileFault.Failed }
+        ensures unplanned { result ≡ Err FileFault.Failed → is_planned self.old.calls ≡ true }
+        ensures calls { self.new.calls ≡ next_call self.old.calls }
+    {
+        if self.calls.next_fails() {
+            self.read_faults = next_count(self.read_faults);
+            return Err(FileFault::Failed);
+        }
+        let front = make_front(alloc, folder)?;
+        Ok(class_files(alloc, &self.files, front.as_str())?)
     }
 
     fn write(&mut self, path: &str, bytes: &[u8]) -> Result<(), FileFault>

@@ -1,12 +1,94 @@
 //! Files and texts of the machine, in the folder that the tests run in.
+ghost use Rattle.std.specs.Prelude.{◌≡◌, ◌<◌, ◌%◌};
 
 use jc_base::{FileFault, Files, HostFiles, HostSink, MOST_READ, Sink, SinkFault};
 use std::alloc::Global;
+use std::os::unix::fs::symlink;
 use std::test::Fail;
 use std::{fs, io};
 
 /// The folder of the files that are written and read.
 const FILES: &str = "jc_rows_files";
+
+/// The folder that is listed.
+const LISTED: &str = "jc_rows_listed";
+
+#[test]
+fn class_files_of_a_folder_are_listed(rt: HostRuntime) -> Result<(), Fail> {
+    let alloc = rt.alloc();
+    let _ = fs::remove_dir_all(&rt, LISTED);
+    fs::create_dir_all(&rt, "jc_rows_listed/sub.class")?;
+    for path in [
+        "jc_rows_listed/b.class",
+        "jc_rows_listed/B$1.class",
+        "jc_rows_listed/B.class",
+        "jc_rows_listed/a.txt",
+        "jc_rows_listed/sub.class/C.class",
+    ] {
+        fs::write(&rt, path, "")?;
+    }
+    // What a link leads to is no file of the folder's own.
+    symlink(&rt, "b.class", "jc_rows_listed/link.class")?;
+    let mut files = HostFiles::new(&rt);
+    let listed = files.list(alloc, LISTED);
+    let again = files.list(alloc, "jc_rows_listed/");
+    let missing = files.list(alloc, "jc_rows_listed/none");
+    let no_folder = files.list(alloc, "jc_rows_listed/b.class");
+    assert!(rt; is_listing(&listed) && is_listing(&again));
+    assert!(rt; matches!(missing, Err(FileFault::Failed)));
+    assert!(rt; matches!(no_folder, Err(FileFault::Failed)));
+    fs::remove_dir_all(&rt, LISTED)?;
+    Ok(())
+}
+
+/// Whether a listing is that of the folder above.
+fn is_listing(listed: &Result<Vec<String>, FileFault>) -> bool {
+    let wanted = [
+        "jc_rows_listed/B$1.class",
+        "jc_rows_listed/B.class",
+        "jc_rows_listed/b.class",
+    ];
+    match listed {
+        Ok(paths) => paths.iter().map(|path| path.as_str()).eq(wanted),
+        Err(_) => false,
+    }
+}
+
+/// The folder of the file that is read in parts.
+const PARTS: &str = "jc_rows_parts";
+
+/// What reading a part of a file answers, and how many bytes it gives.
+fn part_length(rt: &HostRuntime, path: &str, from: u64) -> (Result<bool, FileFault>, usize)
+    requires aligned { from % 65536 ≡ 0 }
+    requires within { from < 67108864 }
+{
+    let mut into = Vec::new(rt.alloc());
+    let answer = HostFiles::new(rt).read_part(rt.alloc(), path, from, &mut into);
+    (answer, into.len())
+}
+
+#[test]
+fn files_are_read_in_parts(rt: HostRuntime) -> Result<(), Fail> {
+    let _ = fs::remove_dir_all(&rt, PARTS);
+    fs::create_dir_all(&rt, PARTS)?;
+    let path = "jc_rows_parts/a";
+    let missing = part_length(&rt, path, 0);
+    make_zeros(&rt, path, 65536)?;
+    let whole = [part_length(&rt, path, 0), part_length(&rt, path, 65536)];
+    make_zeros(&rt, path, 65537)?;
+    let more = [part_length(&rt, path, 0), part_length(&rt, path, 65536)];
+    make_zeros(&rt, path, MOST_READ as u64)?;
+    let largest = part_length(&rt, path, 67_043_328);
+    make_zeros(&rt, path, MOST_READ as u64 + 1)?;
+    let (too_large, _) = part_length(&rt, path, 67_043_328);
+    assert_eq!(rt; missing, (Err(FileFault::Failed), 0));
+    assert_eq!(rt; whole, [(Ok(true), 65536), (Ok(true), 0)]);
+    assert_eq!(rt; more, [(Ok(false), 65536), (Ok(true), 1)]);
+    assert_eq!(rt; largest, (Ok(true), 65536));
+    assert_eq!(rt; too_large, Err(FileFault::TooLarge));
+    fs::remove_dir_all(&rt, PARTS)?;
+    Ok(())
+}
 
 /// The folder of a text.
 const TEXTS: &str = "jc_rows_texts";

@@ -18,7 +18,7 @@ use Rattle.jc_base.specs.declared.Refusal.{Refusal}
 use Rattle.jc_base.proofs.FirstSeenLaws.{seen-append, seen_anew, any_first_seen}
 use Rattle.jc_exec.specs.declared.hits.ClassHits.{ClassHits}
 use Rattle.jc_exec.specs.declared.refusal.ExecRefusal.{ExecRefusal}
-use Rattle.jc_exec.specs.Answers.{RefusesClass, conflict_with}
+use Rattle.jc_exec.specs.Answers.{conflict_with}
 use Rattle.jc_exec.specs.Union.{fits}
 use Rattle.jc_instrument.specs.Analysis.{IsAnalysis}
 use Rattle.jc_instrument.specs.LeftAlone.{is_left_alone}
@@ -32,7 +32,6 @@ use Rattle.jc_top.specs.declared.class_report.Seen.TheVariants as seens
 use Rattle.jc_top.specs.declared.stop.Stop.{Stop}
 use Rattle.jc_top.specs.declared.stop.Stop.TheVariants as stops
 use Rattle.jc_top.specs.Looks.{write_seen}
-use Rattle.jc_top.specs.Outcome.{exec_stop}
 use Rattle.jc_top.specs.Report.{frameless, ReportedFile, refused_class, unchanged_class, changed_class, IsItem, is_refused, is_unchanged, is_changed, AreItems, lines_of, changed_of}
 use Rattle.jc_top.specs.Report.{record_of, clash_with, clash_of, first_clash, first_of_each_id}
 use Rattle.jc_top.specs.ReportSteps.{counted_by, counted_classes, StopsAtClash, seen_as, IsSeen, SeesClass, ClassClashes, FileClashes, IsLooked, KeepsRefused, unless_known, Keeps}
@@ -92,16 +91,6 @@ pub found_same : (o : Option ClassHits) (found : Option (Bor ClassHits)) (r : Re
     → IfOk r (λ x. x ≡ found) → IfOk r (λ x. option_map (λ c. c.now) x ≡ o)
 found_same o found (Ok x) is same = ap (option_map (λ (c : Bor ClassHits). c.now)) same ∙ is
 found_same o found (Err stop) is same = tt
-
--- a record that fits its class doesn't clash with it
-pub fit_is_no_clash : (a : Analysed) (r : ClassHits) → fits r a.name a.probes ≡ true → clash_with a (Some r) ≡ None
-fit_is_no_clash a r fit = rw fit refl
-
--- one that doesn't stops the command
-pub misfit_stops : (path : Bor Word) (a : Analysed) (r : ClassHits) (fail : Fail ExecRefusal) → RefusesClass r a.id a.name a.probes fail
-    → StopsAtClash (Some path.now) (λ refusal. clash_with a (Some r) ≡ Some refusal) (exec_stop fail 0 path)
-misfit_stops path a r fails.Memory why = tt
-misfit_stops path a r (fails.Said refusal) why = (refusal, refl, refl, rw why.0 (ap (λ (e : ExecRefusal). Some e) (sym why.1)))
 
 -- what a record that fits says of its count
 pub fit_count : (a : Analysed) (o : Option ClassHits) (r : Option (Bor ClassHits)) → option_map (λ c. c.now) r ≡ o → clash_with a o ≡ None

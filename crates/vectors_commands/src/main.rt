@@ -3,6 +3,7 @@
 //! they are.
 #![tactic(auto)]
 
+mod asked;
 mod input;
 mod outcome;
 mod recorder;
@@ -29,6 +30,7 @@ fn obey<'a>(
     match words {
         ["run", words @ ..] => Ok(run::run(rt, alloc, setup, words)?),
         ["show" | "text" | "compare" | "keep", ..] => shown::answer(alloc, setup, words),
+        ["list" | "part", ..] => asked::answer(alloc, setup, words),
         words => input::answer(alloc, setup, words),
     }
 }

@@ -1,5 +1,5 @@
 //! Files in memory that tell which paths were written.
-ghost use Rattle.jc_base.specs.Outside.{ReadGives, ReadCause, WriteLeaves, WriteCause};
+ghost use Rattle.jc_base.specs.Outside.{ReadGives, ReadCause, PartGives, PartCause, ListGives, ListCause, WriteLeaves, WriteCause};
 
 use jc_base::{FileFault, Files, MemoryFiles};
 use std::alloc::{AllocError, Global};
@@ -46,6 +46,20 @@ impl Files for Recorder {
 
     fn read(&mut self, alloc: Global, path: &str, into: &mut Vec<u8>) -> Result<(), FileFault> {
         self.inner.read(alloc, path, into)
+    }
+
+    fn read_part(
+        &mut self,
+        alloc: Global,
+        path: &str,
+        from: u64,
+        into: &mut Vec<u8>,
+    ) -> Result<bool, FileFault> {
+        self.inner.read_part(alloc, path, from, into)
+    }
+
+    fn list(&mut self, alloc: Global, folder: &str) -> Result<Vec<String>, FileFault> {
+        self.inner.list(alloc, folder)
     }
 
     fn write(&mut self, path: &str, bytes: &[u8]) -> Result<(), FileFault> {
