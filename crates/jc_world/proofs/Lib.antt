@@ -1,0 +1,3 @@
+pub mod ArithmeticLaws
+pub mod BeginLaws
+pub mod TurnLaws
