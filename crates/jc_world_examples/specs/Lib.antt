@@ -1,0 +1,3 @@
+pub mod ProgramExamples
+pub mod InsnExamples
+pub mod EdgeExamples
