@@ -1,0 +1,2 @@
+mod CategoryLaws
+mod OperandLaws

@@ -1,0 +1,4 @@
+pub mod Operands
+pub mod Descriptions
+pub mod Categories
+pub mod Narrowings

@@ -1,0 +1,2 @@
+mod ArgumentLaws
+mod EntryLaws

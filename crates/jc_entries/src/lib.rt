@@ -1,0 +1,7 @@
+//! The methods with which threads begin.
+#![tactic(auto)]
+
+mod arguments;
+mod entries;
+
+pub use entries::entry;

@@ -1,0 +1,2 @@
+mod StoredLaws
+mod FieldLaws
