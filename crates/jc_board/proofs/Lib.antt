@@ -1,0 +1,8 @@
+mod BitLaws
+mod ClosingLaws
+mod CopyingLaws
+mod HitSetLaws
+mod PartLaws
+mod PlaceLaws
+mod StepLaws
+mod ViewLaws

@@ -1,0 +1,49 @@
+-- Two probes have two places.
+use Rattle.std.proofs.Common.{◌≡◌, ℕ, zero, suc, ◌+◌, ◌*◌, ◌/◌, ◌%◌, ◌^◌, ◌<◌, ◌≤◌, List, [], ◌∷◌, length, ap, refl, ◌∙◌, arith, div-add-mod'}
+use Rattle.std.proofs.Math.Nat.{one-mul, mod-eq_of_lt}
+use Rattle.std.proofs.lemmas.Nat.{pow_below}
+use Rattle.std.specs.Prelude.{slice_index}
+use Rattle.jc_programs.specs.Probes.{words_for, words_of, first_word, InRange, word_at}
+
+within_class : (n i : ℕ) → i < n → i / 64 < words_for n
+within_class n i h = omega (arith, div-add-mod' i 64, div-add-mod' (n + 63) 64)
+
+-- the words of class c lie in front of those of the classes behind it
+pub word_below : (counts : List ℕ) (c i : ℕ) → InRange counts c i → word_at counts c i < words_of counts
+word_below [] c i h = absurd (omega (arith, h.0))
+word_below (n ∷ ns) zero i h = omega (arith, within_class n i h.1)
+word_below (n ∷ ns) (suc c) i h = omega (arith, word_below ns c i (omega (arith, h.0), h.1))
+
+pub same_place : (counts : List ℕ) (c i d j : ℕ) → InRange counts c i → InRange counts d j → word_at counts c i ≡ word_at counts d j → i % 64 ≡ j % 64 → (c ≡ d) × (i ≡ j)
+same_place [] c i d j h k w b = absurd (omega (arith, h.0))
+same_place (n ∷ ns) zero i zero j h k w b = (refl, omega (arith, w, b, div-add-mod' i 64, div-add-mod' j 64))
+same_place (n ∷ ns) zero i (suc d) j h k w b = absurd (omega (arith, w, within_class n i h.1))
+same_place (n ∷ ns) (suc c) i zero j h k w b = absurd (omega (arith, w, within_class n j k.1))
+same_place (n ∷ ns) (suc c) i (suc d) j h k w b =
+    let e = same_place ns c i d j (omega (arith, h.0), h.1) (omega (arith, k.0), k.1) (omega (arith, w)) b in
+    (ap suc e.0, e.1)
+
+pub mask_is : (k : ℕ) → k < 64 → 1 * 2 ^ k % 18446744073709551616 ≡ 2 ^ k
+mask_is k h = ap (λ n. n % 18446744073709551616) (one-mul (2 ^ k)) ∙ mod-eq_of_lt (pow_below k 64 h)
+
+next_word : (counts : List ℕ) (c : ℕ) → c < length counts → first_word counts (suc c) ≡ first_word counts c + words_for (slice_index counts c)
+next_word [] c h = absurd (omega (arith, h))
+next_word (n ∷ []) zero h = omega arith
+next_word (n ∷ m ∷ ns) zero h = omega arith
+next_word (n ∷ ns) (suc c) h = omega (arith, next_word ns c (omega (arith, h)))
+
+pub first_word_more : (counts : List ℕ) (c : ℕ) → c < length counts → first_word counts (c + 1) ≡ first_word counts c + (slice_index counts c + 63) / 64
+first_word_more counts c h = ap (first_word counts) (omega arith) ∙ next_word counts c h
+
+pub first_word_first : (counts : List ℕ) → first_word counts 0 ≡ 0
+first_word_first [] = refl
+first_word_first (n ∷ ns) = refl
+
+pub first_word_last : (counts : List ℕ) → first_word counts (length counts) ≡ words_of counts
+first_word_last [] = refl
+first_word_last (n ∷ ns) = omega (arith, first_word_last ns)
+
+pub class_below : (counts : List ℕ) (c : ℕ) → c < length counts → first_word counts c + (slice_index counts c + 63) / 64 ≤ words_of counts
+class_below [] c h = absurd (omega (arith, h))
+class_below (n ∷ ns) zero h = omega arith
+class_below (n ∷ ns) (suc c) h = omega (arith, class_below ns c (omega (arith, h)))

@@ -1,0 +1,10 @@
+//! The probes of the classes of a program in words that threads share.
+#![tactic(auto)]
+
+mod board;
+mod closing;
+mod layout;
+mod seat;
+mod steps;
+
+pub use board::{Board, Seat};

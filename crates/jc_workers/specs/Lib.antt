@@ -1,0 +1,3 @@
+pub mod ClaimRule
+pub mod Claims
+pub mod Nowhere

@@ -1,0 +1,12 @@
+//! Workers that run the cases of a plan beside each other.
+#![tactic(auto)]
+
+mod claim_steps;
+mod claims;
+mod drawn;
+mod gate;
+mod sink;
+
+pub use claims::{Claims, Drawer};
+pub use gate::{Gate, OpenGate};
+pub use sink::{Place, SeatSink};
