@@ -1,0 +1,25 @@
+-- Instrumented code of a body whose first probe has the id 0.
+use Rattle.std.specs.Prelude.{◌≡◌, ℕ, List}
+use Rattle.jc_code.specs.Given.{AreFrames, IsLaid}
+use Rattle.jc_code.specs.TwinCode.{chosen_frames}
+use Rattle.jc_layout.specs.declared.layouts.Laid.{Laid}
+use Rattle.jc_methods.specs.VerificationTypes.{Names}
+use Rattle.jc_methods.specs.declared.body.Body.{Body}
+use Rattle.jc_methods.specs.declared.emitted.Emitted.{Emitted}
+use Rattle.jc_methods.specs.declared.kind.State.{State}
+use Rattle.jc_kinds.specs.Answers.{AreStates}
+use Rattle.jc_emit.specs.Emission.{IsArrayNumber, emission}
+use Rattle.jc_emit.specs.Twin.{IsEmitted}
+
+-- this is the instrumented code of the body with its states
+pub record IsInstrumented (names : Names) (b : Body) (e : Emitted) : Type 0 where
+  pub states : List State
+  pub are : AreStates names b states
+  pub array : ℕ
+  pub array_is : IsArrayNumber names array
+  pub made : e ≡ emission b 0 states array
+  pub told : IsEmitted names names states 0 b e
+
+-- in its layout the frames can be written, which name classes of which there are so many
+pub record FitsInLayout (names : ℕ) (e : Emitted) : Type 0 where
+  pub frames : (l : Laid) → IsLaid e l → AreFrames e names (chosen_frames e)
