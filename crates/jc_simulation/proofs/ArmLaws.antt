@@ -28,17 +28,20 @@ module _ (place : ℕ → ℕ) (Leads : ℕ → ℕ → Type 0) where
   by_test true x y x' y' h k = h
   by_test false x y x' y' h k = k
 
-  matched : (d : ℕ) (arms : List Arm) (key : ℤ) → All d (map (λ (a : Arm). a.to) arms) → Leads (lookup_target d arms key) (lookup_target (place d) (map (arm_with_place place) arms) key)
+  matched : (d : ℕ) (arms : List Arm) (key : ℤ) → All d (map (λ (a : Arm). a.to) arms)
+      → Leads (lookup_target d arms key) (lookup_target (place d) (map (arm_with_place place) arms) key)
   matched d [] key h = h d (first_in d [])
   matched d (a ∷ arms) key h =
-      by_test (int_le a.key key && int_le key a.key) a.to (lookup_target d arms key) (place a.to) (lookup_target (place d) (map (arm_with_place place) arms) key)
+      by_test (int_le a.key key && int_le key a.key) a.to (lookup_target d arms key) (place a.to)
+      (lookup_target (place d) (map (arm_with_place place) arms) key)
       (h a.to (later_in d (a.to ∷ map (λ (x : Arm). x.to) arms) a.to (first_in a.to (map (λ (x : Arm). x.to) arms))))
       (matched d arms key (fewer d a.to (map (λ (x : Arm). x.to) arms) h))
 
 pub index_arm : (low : ℤ) (d : ℕ) (arms : List ℕ) (key : ℤ) (place : ℕ → ℕ) (Leads : ℕ → ℕ → Type 0)
     → ((to : ℕ) → Contains (d ∷ arms) to → Leads to (place to)) → Leads (table_target low d arms key) (table_target low (place d) (map place arms) key)
 index_arm low d arms key place Leads h =
-    by_test place Leads (int_lt key low) d (slice_index_or arms (unsigned_abs (key -ℤ low)) d) (place d) (slice_index_or (map place arms) (unsigned_abs (key -ℤ low)) (place d))
+    by_test place Leads (int_lt key low) d (slice_index_or arms (unsigned_abs (key -ℤ low)) d) (place d)
+    (slice_index_or (map place arms) (unsigned_abs (key -ℤ low)) (place d))
     (h d (first_in d arms)) (indexed place Leads d arms (unsigned_abs (key -ℤ low)) h)
 
 pub match_arm : (d : ℕ) (arms : List Arm) (key : ℤ) (place : ℕ → ℕ) (Leads : ℕ → ℕ → Type 0)

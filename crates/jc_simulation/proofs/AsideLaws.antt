@@ -30,7 +30,8 @@ use Rattle.jc_simulation.proofs.FrameLaws.{location, result_is, twin_insn}
 -- ---- the instructions of probes
 
 -- a number is pushed
-small : (r : Program) (at : Location) (s : Shared) (f : Frame) (n : ℕ) → n ≤ 5 → perform (operation_of r at (insns.Simple (opcode.iconst_0 + n))) s f ≡ goes_with s f (int (pos n) ∷ f.stack)
+small : (r : Program) (at : Location) (s : Shared) (f : Frame) (n : ℕ) → n ≤ 5
+    → perform (operation_of r at (insns.Simple (opcode.iconst_0 + n))) s f ≡ goes_with s f (int (pos n) ∷ f.stack)
 unfolding operation_of perform effect constant
 small r at s f zero le = refl
 small r at s f (suc zero) le = refl
@@ -40,20 +41,25 @@ small r at s f (suc (suc (suc (suc zero)))) le = refl
 small r at s f (suc (suc (suc (suc (suc zero))))) le = refl
 small r at s f (suc (suc (suc (suc (suc (suc n)))))) le = absurd (omega arith)
 
-medium : (r : Program) (at : Location) (s : Shared) (f : Frame) (op n : ℕ) → perform (operation_of r at (insns.Push op (pos n))) s f ≡ goes_with s f (int (pos n) ∷ f.stack)
+medium : (r : Program) (at : Location) (s : Shared) (f : Frame) (op n : ℕ)
+    → perform (operation_of r at (insns.Push op (pos n))) s f ≡ goes_with s f (int (pos n) ∷ f.stack)
 unfolding operation_of perform
 medium r at s f op n = refl
 
-pub pushes_number : (r : Program) (at : Location) (s : Shared) (f : Frame) (n : ℕ) → perform (operation_of r at (push n)) s f ≡ goes_with s f (int (pos n) ∷ f.stack)
+pub pushes_number : (r : Program) (at : Location) (s : Shared) (f : Frame) (n : ℕ)
+    → perform (operation_of r at (push n)) s f ≡ goes_with s f (int (pos n) ∷ f.stack)
 pushes_number r at s f n = by (nat_le n 5) (nat_le n 127) refl
   where
     by : (a b : Bool) → nat_le n 5 ≡ a
-        → perform (operation_of r at (if a then insns.Simple (opcode.iconst_0 + n) else if b then insns.Push opcode.bipush (pos n) else insns.Push opcode.sipush (pos n))) s f ≡ goes_with s f (int (pos n) ∷ f.stack)
+        → perform (operation_of r at
+        (if a then insns.Simple (opcode.iconst_0 + n) else if b then insns.Push opcode.bipush (pos n) else insns.Push opcode.sipush (pos n))) s f
+        ≡ goes_with s f (int (pos n) ∷ f.stack)
     by true b e = small r at s f n (leb-true n 5 e)
     by false true e = medium r at s f opcode.bipush n
     by false false e = medium r at s f opcode.sipush n
 
-loads_array : (r : Program) (at : Location) (s : Shared) (f : Frame) (v : ℕ) → perform (operation_of r at (aload v)) s f ≡ by_load reference_type (slice_index_or f.locals v None) s f
+loads_array : (r : Program) (at : Location) (s : Shared) (f : Frame) (v : ℕ)
+    → perform (operation_of r at (aload v)) s f ≡ by_load reference_type (slice_index_or f.locals v None) s f
 unfolding operation_of perform
 loads_array r at s f v = refl
 
@@ -98,10 +104,12 @@ module _ (p p' : Program) (sides : Entry → Side) where
     -- at an item
     abbrev to_item : (g : Frame) (y : Item) → g.method ≡ f'.method → slice_get t.items g.place ≡ Some y → at_of y ≡ f.place → g.stack ≡ pushed_of a y ++ f.stack
         → SameLocals a t.slot f.locals g.locals y → SameFrame p p' sides f g
-    to_item g y m h at st ls = record { one = record { method = m ∙ o.method; side = o.side; entered = o.entered }; item = y; here = h; at = at; stack = st; locals = ls }
+    to_item g y m h at st ls =
+        record { one = record { method = m ∙ o.method; side = o.side; entered = o.entered }; item = y; here = h; at = at; stack = st; locals = ls }
 
     -- where both go on
-    abbrev to_stand : (g : Frame) (q i : ℕ) (due : Option ℕ) (h : Stands t.body.code t.slot t.ids t.items q i due) → g.method ≡ f'.method → g.place ≡ q → f.place ≡ i → g.stack ≡ f.stack
+    abbrev to_stand : (g : Frame) (q i : ℕ) (due : Option ℕ) (h : Stands t.body.code t.slot t.ids t.items q i due) → g.method ≡ f'.method → g.place ≡ q
+        → f.place ≡ i → g.stack ≡ f.stack
         → ((y : Item) → SameLocals a t.slot f.locals g.locals y) → SameFrame p p' sides f g
     to_stand g q i due h m at old st ls =
         to_item g h.item m (ap (slice_get t.items) at ∙ h.here) (h.at_is ∙ sym old) (st ∙ ap (λ l. l ++ f.stack) (sym (none_pushed a t q i due h))) (ls h.item)
@@ -110,7 +118,8 @@ module _ (p p' : Program) (sides : Entry → Side) where
     done : (x : Item) (insn : Insn) → slice_get t.twin.code f'.place ≡ Some insn → result_of p' s' f' ≡ perform (operation_of p' here_at insn) s' f'
     done x insn h = result_is p' s' f' f.method f'.place t.new t.twin insn o.method refl o.side.new_is o.side.twin_is h
 
-    pub aside_turn : (x : Item) → slice_get t.items f'.place ≡ Some x → own_of x ≡ false → (x ≡ init_call → ⊥) → IsOk x → at_of x ≡ f.place → f'.stack ≡ pushed_of a x ++ f.stack
+    pub aside_turn : (x : Item) → slice_get t.items f'.place ≡ Some x → own_of x ≡ false → (x ≡ init_call → ⊥) → IsOk x → at_of x ≡ f.place
+        → f'.stack ≡ pushed_of a x ++ f.stack
         → SameLocals a t.slot f.locals f'.locals x → (v : ℕ) → t.slot ≡ Some v → Alone f f' x s' (result_of p' s' f')
     aside_turn init_call h own other ok at st ls v e = absurd (other refl)
     aside_turn init_store h own other ok at st ls v e =
@@ -120,8 +129,11 @@ module _ (p p' : Program) (sides : Entry → Side) where
         let g = record f' { place = f'.place + 1; stack = f.stack; locals = put_local slot a f'.locals } in
         record {
           frame = g;
-          is = inl (done init_store c.0 c.1 ∙ ap (λ i. perform (operation_of p' here_at i) s' f') c.2 ∙ stores_it p' here_at s' f' slot ∙ ap (λ l. by_store reference_type slot l s' f') st);
-          same = to_stand g (f'.place + 1) 0 None ok.stands refl refl (sym at) refl (λ y. stores_array a t.slot slot f.locals f'.locals init_store y same refl ls);
+          is =
+              inl (done init_store c.0 c.1 ∙ ap (λ i. perform (operation_of p' here_at i) s' f') c.2 ∙ stores_it p' here_at s' f' slot
+              ∙ ap (λ l. by_store reference_type slot l s' f') st);
+          same =
+              to_stand g (f'.place + 1) 0 None ok.stands refl refl (sym at) refl (λ y. stores_array a t.slot slot f.locals f'.locals init_store y same refl ls);
           to = refl;
         }
     aside_turn (image insn i early) h own other ok at st ls v e = absurd (true≢false own)
@@ -136,7 +148,9 @@ module _ (p p' : Program) (sides : Entry → Side) where
               done (probe_array id i late) c.0 c.1 ∙ ap (λ i. perform (operation_of p' here_at i) s' f') c.2 ∙ loads_array p' here_at s' f' slot
               ∙ ap (λ l. by_load reference_type l s' f') (reads_array a t.slot slot f.locals f'.locals (probe_array id i late) same tt ls)
               );
-          same = to_item g (probe_id id i late) refl ok.1 at (ap (λ l. a ∷ l) st) (moves_on a t.slot f.locals f'.locals (probe_array id i late) (probe_id id i late) tt ls);
+          same =
+              to_item g (probe_id id i late) refl ok.1 at (ap (λ l. a ∷ l) st)
+              (moves_on a t.slot f.locals f'.locals (probe_array id i late) (probe_id id i late) tt ls);
           to = refl;
         }
     aside_turn (probe_id id i late) h own other ok at st ls v e =
@@ -145,7 +159,9 @@ module _ (p p' : Program) (sides : Entry → Side) where
         record {
           frame = g;
           is = inl (done (probe_id id i late) c.0 c.1 ∙ ap (λ i. perform (operation_of p' here_at i) s' f') c.2 ∙ pushes_number p' here_at s' f' id);
-          same = to_item g (probe_one id i late) refl ok.1 at (ap (λ l. int (pos id) ∷ l) st) (moves_on a t.slot f.locals f'.locals (probe_id id i late) (probe_one id i late) tt ls);
+          same =
+              to_item g (probe_one id i late) refl ok.1 at (ap (λ l. int (pos id) ∷ l) st)
+              (moves_on a t.slot f.locals f'.locals (probe_id id i late) (probe_one id i late) tt ls);
           to = refl;
         }
     aside_turn (probe_one id i late) h own other ok at st ls v e =
@@ -154,7 +170,9 @@ module _ (p p' : Program) (sides : Entry → Side) where
         record {
           frame = g;
           is = inl (done (probe_one id i late) c.0 c.1 ∙ ap (λ i. perform (operation_of p' here_at i) s' f') c.2 ∙ pushes_number p' here_at s' f' 1);
-          same = to_item g (probe_store id i late) refl ok.1 at (ap (λ l. int (pos 1) ∷ l) st) (moves_on a t.slot f.locals f'.locals (probe_one id i late) (probe_store id i late) tt ls);
+          same =
+              to_item g (probe_store id i late) refl ok.1 at (ap (λ l. int (pos 1) ∷ l) st)
+              (moves_on a t.slot f.locals f'.locals (probe_one id i late) (probe_store id i late) tt ls);
           to = refl;
         }
     aside_turn (probe_store id i late) h own other ok at st ls v e =
@@ -171,7 +189,8 @@ module _ (p p' : Program) (sides : Entry → Side) where
           to = refl;
         }
       where
-        by : (late : Bool) → OkStore t.body.code t.slot t.ids t.items f'.place id i late → i ≡ f.place → ((y : Item) → SameLocals a t.slot f.locals f'.locals y) → SameFrame p p' sides f (next_with f' f.stack)
+        by : (late : Bool) → OkStore t.body.code t.slot t.ids t.items f'.place id i late → i ≡ f.place
+            → ((y : Item) → SameLocals a t.slot f.locals f'.locals y) → SameFrame p p' sides f (next_with f' f.stack)
         by true h at ls = to_stand (next_with f' f.stack) (f'.place + 1) i None h refl refl (sym at) refl ls
         by false h at ls = to_item (next_with f' f.stack) (image h.0 i (Some id)) refl h.1 at refl (ls (image h.0 i (Some id)))
     aside_turn (hop to i due) h own other ok at st ls v e =

@@ -61,9 +61,11 @@ module _ (p p' : Program) (sides : Entry → Side) (are : AreSides p p' sides) w
   abbrev values : Linked → List Value
   values c = map first_value c.statics
 
-  statics_by : (class : ℕ) (c new : Linked) → slice_get p'.classes class ≡ Some new → IsPair p.names p'.names c new → SameStatics (extra_in (class_at p' class)) class (values c) (values new)
+  statics_by : (class : ℕ) (c new : Linked) → slice_get p'.classes class ≡ Some new → IsPair p.names p'.names c new
+      → SameStatics (extra_in (class_at p' class)) class (values c) (values new)
   statics_by class c new there (inl pair) =
-      subst (λ o. SameStatics o class (values c) (values new)) (sym (ap extra_in there ∙ ap (λ b. if b then Some (count_in new.probes) else None) (unchanged_declares p.names p'.names c new pair)))
+      subst (λ o. SameStatics o class (values c) (values new))
+      (sym (ap extra_in there ∙ ap (λ b. if b then Some (count_in new.probes) else None) (unchanged_declares p.names p'.names c new pair)))
       (ap (map first_value) pair.statics)
   statics_by class c new there (inr pair) =
       subst (λ o. SameStatics o class (values c) (values new))
@@ -78,7 +80,8 @@ module _ (p p' : Program) (sides : Entry → Side) (are : AreSides p p' sides) w
       (read_past values p'.classes class none ∙ sym (read_past values p.classes class e))
   statics_at class (Some c) e =
       let n = are.pair class c e in
-      subst₂ (λ a b. SameStatics (extra_in (class_at p' class)) class a b) (sym (read_there values p.classes class c e)) (sym (read_there values p'.classes class n.0 n.1)) (statics_by class c n.0 n.1 n.2)
+      subst₂ (λ a b. SameStatics (extra_in (class_at p' class)) class a b) (sym (read_there values p.classes class c e))
+      (sym (read_there values p'.classes class n.0 n.1)) (statics_by class c n.0 n.1 n.2)
 
   pub begin_shared : SameShared p p' sides (first_shared p) (first_shared p')
   begin_shared = record {
@@ -103,7 +106,8 @@ argument_slots Boolean n e = refl
 argument_slots (Object name) n e = refl
 argument_slots (Array component) n e = refl
 
-arguments_slots : (types : List FieldType) (numbers : List ℤ) → are_arguments types numbers ≡ true → length (spread_values (argument_values types numbers)) ≡ sum_by slots_of types
+arguments_slots : (types : List FieldType) (numbers : List ℤ) → are_arguments types numbers ≡ true
+    → length (spread_values (argument_values types numbers)) ≡ sum_by slots_of types
 arguments_slots [] [] e = refl
 arguments_slots [] (n ∷ numbers) e = cc
 arguments_slots (type ∷ types) [] e = cc
@@ -118,7 +122,9 @@ arguments_slots (type ∷ types) (n ∷ numbers) e =
 -- ---- entries
 
 entry_fits : (thread : ThreadLine) (b : Body) → is_entry thread b ≡ true → are_arguments (method_type_in b.desc).parameters thread.args ≡ true
-entry_fits thread b e = last_of (is_static b.flags) (bytes_eq b.name thread.method) (not (bytes_eq b.name init_name)) (are_arguments (method_type_in b.desc).parameters thread.args) e
+entry_fits thread b e =
+    last_of (is_static b.flags) (bytes_eq b.name thread.method) (not (bytes_eq b.name init_name))
+    (are_arguments (method_type_in b.desc).parameters thread.args) e
   where
     last_of : (w x y z : Bool) → (w && (x && (y && z))) ≡ true → z ≡ true
     last_of w x y z h = (and_parts y z (and_parts x (y && z) (and_parts w (x && (y && z)) h).1).1).1
@@ -159,9 +165,12 @@ entry_there p thread entry e =
 module _ (names new_names : Names) (thread : ThreadLine) where
   entry_same : (b b' : Body) → b'.flags ≡ b.flags → b'.name ≡ b.name → b'.desc ≡ b.desc → is_entry thread b' ≡ is_entry thread b
   entry_same b b' flags name desc =
-      ap (λ x. is_static x && (bytes_eq b'.name thread.method && (not (bytes_eq b'.name init_name) && are_arguments (method_type_in b'.desc).parameters thread.args))) flags
-      ∙ ap (λ x. is_static b.flags && (bytes_eq x thread.method && (not (bytes_eq x init_name) && are_arguments (method_type_in b'.desc).parameters thread.args))) name
-      ∙ ap (λ x. is_static b.flags && (bytes_eq b.name thread.method && (not (bytes_eq b.name init_name) && are_arguments (method_type_in x).parameters thread.args))) desc
+      ap (λ x. is_static x && (bytes_eq b'.name thread.method
+      && (not (bytes_eq b'.name init_name) && are_arguments (method_type_in b'.desc).parameters thread.args))) flags
+      ∙ ap (λ x. is_static b.flags && (bytes_eq x thread.method
+      && (not (bytes_eq x init_name) && are_arguments (method_type_in b'.desc).parameters thread.args))) name
+      ∙ ap (λ x. is_static b.flags && (bytes_eq b.name thread.method
+      && (not (bytes_eq b.name init_name) && are_arguments (method_type_in x).parameters thread.args))) desc
 
   same_entries : (bodies others : List Body) → AreSameBodies names new_names bodies others → map (is_entry thread) others ≡ map (is_entry thread) bodies
   same_entries [] [] are = refl
@@ -169,7 +178,8 @@ module _ (names new_names : Names) (thread : ThreadLine) where
   same_entries (b ∷ bodies) [] are = absurd are
   same_entries (b ∷ bodies) (o ∷ others) are =
       let is = are.0.others in
-      ap₂ (λ x l. x ∷ l) (entry_same b o (ap (λ (x : Body). x.flags) is) (ap (λ (x : Body). x.name) is) (ap (λ (x : Body). x.desc) is)) (same_entries bodies others are.1)
+      ap₂ (λ x l. x ∷ l) (entry_same b o (ap (λ (x : Body). x.flags) is) (ap (λ (x : Body). x.name) is) (ap (λ (x : Body). x.desc) is))
+      (same_entries bodies others are.1)
 
   twin_entries : (first : ℕ) (bodies others : List Body) (added : Body) → AreTwinBodies names new_names first bodies others added
       → map (is_entry thread) others ≡ map (is_entry thread) bodies ++ is_entry thread added ∷ []
@@ -182,7 +192,8 @@ module _ (names new_names : Names) (thread : ThreadLine) where
   -- the added method is no entry
   no_entry : (b : Body) → b.name ≡ init_name → is_entry thread b ≡ false
   no_entry b e =
-      ap (λ x. is_static b.flags && (bytes_eq b.name thread.method && (not x && are_arguments (method_type_in b.desc).parameters thread.args))) (name_again b.name init_name e)
+      ap (λ x. is_static b.flags && (bytes_eq b.name thread.method && (not x && are_arguments (method_type_in b.desc).parameters thread.args)))
+      (name_again b.name init_name e)
       ∙ both (is_static b.flags) (bytes_eq b.name thread.method)
     where
       both : (x y : Bool) → (x && (y && false)) ≡ false
@@ -213,7 +224,8 @@ module _ (p p' : Program) (sides : Entry → Side) (are : AreSides p p' sides) w
       ∙ by (class_named p thread.class) refl
     where
       by : (o : Option ℕ) → class_named p thread.class ≡ o
-          → option_and_then (λ (class : ℕ). option_and_then (entry_in thread class) (class_at p' class)) o ≡ option_and_then (λ (class : ℕ). option_and_then (entry_in thread class) (class_at p class)) o
+          → option_and_then (λ (class : ℕ). option_and_then (entry_in thread class) (class_at p' class)) o
+          ≡ option_and_then (λ (class : ℕ). option_and_then (entry_in thread class) (class_at p class)) o
       by None e = refl
       by (Some k) e =
           let c = class_there p thread.class k e in
@@ -232,12 +244,16 @@ module _ (p p' : Program) (sides : Entry → Side) (are : AreSides p p' sides) w
       by None e = let s = (subst (OkStart (sides m).body.code (sides m).slot (sides m).ids (sides m).items) e side.ok.start).stands in (s.item, s.here, s.at_is)
       by (Some v) e = (init_call, subst (OkStart (sides m).body.code (sides m).slot (sides m).ids (sides m).items) e side.ok.start, refl)
 
-  thread_same : (thread : ThreadLine) (entry : Entry) → IsThere p thread entry → SameThread p p' sides (first_thread p entry thread.args) (first_thread p' entry thread.args)
+  thread_same : (thread : ThreadLine) (entry : Entry) → IsThere p thread entry
+      → SameThread p p' sides (first_thread p entry thread.args) (first_thread p' entry thread.args)
   thread_same thread entry there =
       subst₂ (SameThread p p' sides)
-      (sym (ap (thread_for entry thread.args) side.class_is ∙ ap (λ o. elim o [ None ↦ stuck entry 0 | Some b ↦ thread_in entry thread.args t.class b ]) side.body_is))
-      (sym (ap (thread_for entry thread.args) side.new_is ∙ ap (λ o. elim o [ None ↦ stuck entry 0 | Some b ↦ thread_in entry thread.args t.new b ]) side.twin_is))
-      (subst (λ b. SameThread p p' sides (thread_in entry thread.args t.class t.body) (if b then running (first_frame entry t.twin thread.args) [] else stuck entry 0)) (sym (enterable_same p p' entry t side))
+      (sym (ap (thread_for entry thread.args) side.class_is
+      ∙ ap (λ o. elim o [ None ↦ stuck entry 0 | Some b ↦ thread_in entry thread.args t.class b ]) side.body_is))
+      (sym (ap (thread_for entry thread.args) side.new_is
+      ∙ ap (λ o. elim o [ None ↦ stuck entry 0 | Some b ↦ thread_in entry thread.args t.new b ]) side.twin_is))
+      (subst (λ b. SameThread p p' sides (thread_in entry thread.args t.class t.body)
+      (if b then running (first_frame entry t.twin thread.args) [] else stuck entry 0)) (sym (enterable_same p p' entry t side))
       (by (is_enterable t.class t.body) refl))
     where
       side : IsSide p p' entry (sides entry)
@@ -266,23 +282,27 @@ module _ (p p' : Program) (sides : Entry → Side) (are : AreSides p p' sides) w
           ∙ sym (static_slots t.body.flags t.body.arg_slots t.body.desc side.well.arguments static)
 
       by : (b : Bool) → is_enterable t.class t.body ≡ b
-          → SameThread p p' sides (if b then running (first_frame entry t.body thread.args) [] else stuck entry 0) (if b then running (first_frame entry t.twin thread.args) [] else stuck entry 0)
+          → SameThread p p' sides (if b then running (first_frame entry t.body thread.args) [] else stuck entry 0)
+          (if b then running (first_frame entry t.twin thread.args) [] else stuck entry 0)
       by true e =
           let needs = entered_static t.class t.body e in
           inl (
-            subst (λ d. SameFrame p p' sides (first_frame entry t.body thread.args) (new_frame entry (locals_for t.twin.max_locals (argument_values (method_type_in d).parameters thread.args)))) (sym side.same.desc)
+            subst (λ d. SameFrame p p' sides (first_frame entry t.body thread.args)
+                (new_frame entry (locals_for t.twin.max_locals (argument_values (method_type_in d).parameters thread.args)))) (sym side.same.desc)
                 (enters_same p p' sides entry side needs.1 (argument_values (method_type_in t.body.desc).parameters thread.args) (short needs.0)),
             tt,
           )
       by false e = let x = starts entry side in record { same = refl; side = side; item = x.0; here = x.1; at = x.2 }
 
-  threads_same : (threads : List ThreadLine) (entries : List Entry) → AreEntries p threads entries → SameThreads p p' sides (first_threads p threads entries) (first_threads p' threads entries)
+  threads_same : (threads : List ThreadLine) (entries : List Entry) → AreEntries p threads entries
+      → SameThreads p p' sides (first_threads p threads entries) (first_threads p' threads entries)
   threads_same [] [] h = tt
   threads_same [] (e ∷ entries) h = absurd h
   threads_same (t ∷ threads) [] h = absurd h
   threads_same (t ∷ threads) (e ∷ entries) h = (thread_same t e (entry_there p t e h.0), threads_same threads entries h.1)
 
-  pub begin_together : (threads : List ThreadLine) (entries : List Entry) → AreEntries p threads entries → Mid p p' sides (begin p threads entries) (begin p' threads entries)
+  pub begin_together : (threads : List ThreadLine) (entries : List Entry) → AreEntries p threads entries
+      → Mid p p' sides (begin p threads entries) (begin p' threads entries)
   unfolding begin
   begin_together threads entries h = record { shared = begin_shared p p' sides are; threads = threads_same threads entries h }
 
@@ -300,8 +320,10 @@ module _ (p p' : Program) (sides : Entry → Side) (are : AreSides p p' sides) w
   new_entries [] (e ∷ entries) h = absurd h
   new_entries (t ∷ threads) [] h = absurd h
   new_entries (t ∷ threads) (e ∷ entries) h =
-      ap (λ o. elim o [ None ↦ entries_of p' threads | Some x ↦ x ∷ entries_of p' threads ]) (entry_alike t ∙ h.0) ∙ ap (λ l. e ∷ l) (new_entries threads entries h.1)
+      ap (λ o. elim o [ None ↦ entries_of p' threads | Some x ↦ x ∷ entries_of p' threads ]) (entry_alike t ∙ h.0)
+      ∙ ap (λ l. e ∷ l) (new_entries threads entries h.1)
 
   pub case_together : (case : Case) (entries : List Entry) → AreEntries p case.threads entries → Mid p p' sides (begin_case p case) (begin_case p' case)
   case_together case entries h =
-      subst₂ (λ a b. Mid p p' sides (begin p case.threads a) (begin p' case.threads b)) (sym (entries_are case.threads entries h)) (sym (new_entries case.threads entries h)) (begin_together case.threads entries h)
+      subst₂ (λ a b. Mid p p' sides (begin p case.threads a) (begin p' case.threads b)) (sym (entries_are case.threads entries h))
+      (sym (new_entries case.threads entries h)) (begin_together case.threads entries h)

@@ -14,7 +14,8 @@ others_stay : (x y : ℕ) (xs : List ℕ) → Contains xs y → nat_eq x y ≡ f
 others_stay x y [] c e = absurd (none_in y c)
 others_stay x y (z ∷ xs) c e = by (λ later. others_stay x y xs later e) (nat_eq x z) refl
   where
-    by : (Contains xs y → Contains (filter (λ w. not (nat_eq x w)) xs) y) → (b : Bool) → nat_eq x z ≡ b → Contains (cond (not b) (z ∷ filter (λ w. not (nat_eq x w)) xs) (filter (λ w. not (nat_eq x w)) xs)) y
+    by : (Contains xs y → Contains (filter (λ w. not (nat_eq x w)) xs) y) → (b : Bool) → nat_eq x z ≡ b
+        → Contains (cond (not b) (z ∷ filter (λ w. not (nat_eq x w)) xs) (filter (λ w. not (nat_eq x w)) xs)) y
     by go true q = ⊎_elim (λ same. let no : true ≡ false = sym q ∙ ap (nat_eq x) same ∙ e in cc) go (which_in z xs y c)
     by go false q = ⊎_elim
         (λ same. subst (Contains (z ∷ filter (λ w. not (nat_eq x w)) xs)) same (first_in z (filter (λ w. not (nat_eq x w)) xs)))
@@ -26,7 +27,8 @@ seen_there [] y c = absurd (none_in y c)
 seen_there (x ∷ xs) y c = by (seen_there xs y) (nat_eq x y) refl
   where
     by : (Contains xs y → Contains (first_seen xs) y) → (b : Bool) → nat_eq x y ≡ b → Contains (x ∷ filter (λ z. not (nat_eq x z)) (first_seen xs)) y
-    by go true q = subst (Contains (x ∷ filter (λ z. not (nat_eq x z)) (first_seen xs))) (eqb-true x y q) (first_in x (filter (λ z. not (nat_eq x z)) (first_seen xs)))
+    by go true q =
+        subst (Contains (x ∷ filter (λ z. not (nat_eq x z)) (first_seen xs))) (eqb-true x y q) (first_in x (filter (λ z. not (nat_eq x z)) (first_seen xs)))
     by go false q = ⊎_elim
         (λ same. let no : nat_eq x y ≡ true = ap (nat_eq x) (sym same) ∙ eq-eqb x x refl in cc)
         (λ later. later_in x (filter (λ z. not (nat_eq x z)) (first_seen xs)) y (others_stay x y (first_seen xs) (go later) q))
@@ -39,5 +41,6 @@ arm_there i n (y ∷ xs) to c = ⊎_elim
     (λ later. let h = arm_there i (n + 1) xs to later in (h.0, later_in (arm i n y) (map_from (arm i) (n + 1) xs) h.0 h.1, h.2))
     (which_in y xs to c)
 
-pub target_branch : (i : ℕ) (targets : List ℕ) (to : ℕ) → Contains targets to → (x : Branch) × Contains (map_from (arm i) 0 (first_seen targets)) x × (to_of x ≡ to)
+pub target_branch : (i : ℕ) (targets : List ℕ) (to : ℕ) → Contains targets to
+    → (x : Branch) × Contains (map_from (arm i) 0 (first_seen targets)) x × (to_of x ≡ to)
 target_branch i targets to c = arm_there i 0 (first_seen targets) to (seen_there targets to c)

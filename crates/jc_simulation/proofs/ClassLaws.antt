@@ -87,7 +87,8 @@ found_last test xs y all e h = by (test y) refl
 module _ (names new_names : Names) (c new : Linked) where
   -- ---- fields
 
-  pub statics_found : IsPair names new_names c new → (name desc : List ℕ) (k : ℕ) → static_named c.statics name desc ≡ Some k → static_named new.statics name desc ≡ Some k
+  pub statics_found : IsPair names new_names c new → (name desc : List ℕ) (k : ℕ) → static_named c.statics name desc ≡ Some k
+      → static_named new.statics name desc ≡ Some k
   statics_found (inl pair) name desc k h = ap (λ l. static_named l name desc) pair.statics ∙ h
   statics_found (inr pair) name desc k h =
       static_place new.statics name desc
@@ -99,15 +100,22 @@ module _ (names new_names : Names) (c new : Linked) where
   statics_missing (inl pair) name desc h = inl (ap (λ l. static_named l name desc) pair.statics ∙ h)
   statics_missing (inr pair) name desc h = ⊎_elim
       (λ none. inl (static_place new.statics name desc ∙ none))
-      (λ last. inr (length (map field_key c.statics), static_place new.statics name desc ∙ last.0, name_again name data_name (sym (same_name data_name name (and_parts (bytes_eq data_name name) (bytes_eq data_type desc) last.1).0))))
+      (λ last. inr (
+        length (map field_key c.statics),
+        static_place new.statics name desc
+            ∙ last.0,
+        name_again name data_name (sym (same_name data_name name (and_parts (bytes_eq data_name name) (bytes_eq data_type desc) last.1).0)),
+      ))
       (found_last (fits_key name desc) (map field_key c.statics) (field_key data_static) (map field_key new.statics)
       (ap (map field_key) pair.statics ∙ map_append field_key c.statics data_static) (sym (static_place c.statics name desc) ∙ h))
 
   -- ---- methods
 
-  pub methods_found : IsPair names new_names c new → (name desc : List ℕ) (k : ℕ) → method_named c.bodies name desc ≡ Some k → method_named new.bodies name desc ≡ Some k
+  pub methods_found : IsPair names new_names c new → (name desc : List ℕ) (k : ℕ) → method_named c.bodies name desc ≡ Some k
+      → method_named new.bodies name desc ≡ Some k
   methods_found (inl pair) name desc k h =
-      method_place new.bodies name desc ∙ ap (place (fits_key name desc)) (same_keys names new_names c.bodies new.bodies pair.bodies) ∙ sym (method_place c.bodies name desc) ∙ h
+      method_place new.bodies name desc ∙ ap (place (fits_key name desc)) (same_keys names new_names c.bodies new.bodies pair.bodies)
+      ∙ sym (method_place c.bodies name desc) ∙ h
   methods_found (inr pair) name desc k h =
       method_place new.bodies name desc
       ∙ found_before (fits_key name desc) (map body_key c.bodies) (body_key pair.added ∷ []) (map body_key new.bodies) k
@@ -122,7 +130,8 @@ module _ (names new_names : Names) (c new : Linked) where
   pub methods_missing : IsPair names new_names c new → (name desc : List ℕ) → method_named c.bodies name desc ≡ None
       → (method_named new.bodies name desc ≡ None) ⊎ FindsAdded name desc
   methods_missing (inl pair) name desc h =
-      inl (method_place new.bodies name desc ∙ ap (place (fits_key name desc)) (same_keys names new_names c.bodies new.bodies pair.bodies) ∙ sym (method_place c.bodies name desc) ∙ h)
+      inl (method_place new.bodies name desc ∙ ap (place (fits_key name desc)) (same_keys names new_names c.bodies new.bodies pair.bodies)
+      ∙ sym (method_place c.bodies name desc) ∙ h)
   methods_missing (inr pair) name desc h = ⊎_elim
       (λ none. inl (method_place new.bodies name desc ∙ none))
       (λ last. inr (record { pair = pair; found = method_place new.bodies name desc ∙ last.0 ∙ ap Some (length-map c.bodies body_key); fits = last.1 }))
@@ -131,14 +140,17 @@ module _ (names new_names : Names) (c new : Linked) where
 
 -- ---- classes
 
-pub class_same : (p p' : Program) → map (λ (c : Linked). c.name) p'.classes ≡ map (λ (c : Linked). c.name) p.classes → (name : List ℕ) → class_named p' name ≡ class_named p name
+pub class_same : (p p' : Program) → map (λ (c : Linked). c.name) p'.classes ≡ map (λ (c : Linked). c.name) p.classes → (name : List ℕ)
+    → class_named p' name ≡ class_named p name
 class_same p p' e name = class_place p' name ∙ ap (place (λ n. bytes_eq n name)) e ∙ sym (class_place p name)
   where
     class_place : (r : Program) (name : List ℕ) → class_named r name ≡ place (λ n. bytes_eq n name) (map (λ (c : Linked). c.name) r.classes)
     class_place r name = position_place (λ (c : Linked). bytes_eq c.name name) r.classes ∙ place-map (λ (c : Linked). c.name) (λ n. bytes_eq n name) r.classes
 
-pub class_there : (p : Program) (name : List ℕ) (k : ℕ) → class_named p name ≡ Some k → (c : Linked) × (slice_get p.classes k ≡ Some c) × (bytes_eq c.name name ≡ true)
-class_there p name k h = place_there (λ (c : Linked). bytes_eq c.name name) p.classes k (sym (position_place (λ (c : Linked). bytes_eq c.name name) p.classes) ∙ h)
+pub class_there : (p : Program) (name : List ℕ) (k : ℕ) → class_named p name ≡ Some k
+    → (c : Linked) × (slice_get p.classes k ≡ Some c) × (bytes_eq c.name name ≡ true)
+class_there p name k h =
+    place_there (λ (c : Linked). bytes_eq c.name name) p.classes k (sym (position_place (λ (c : Linked). bytes_eq c.name name) p.classes) ∙ h)
 
 pub static_there : (c : Linked) (name desc : List ℕ) (k : ℕ) → static_named c.statics name desc ≡ Some k → (f : StaticField) × (slice_get c.statics k ≡ Some f)
 static_there c name desc k h =
@@ -152,10 +164,12 @@ method_there c name desc k h =
 
 -- ---- a class by its own name
 
-differ_at : (classes : List Linked) → DifferInName classes → (j k : ℕ) (c d : Linked) → j < k → slice_get classes j ≡ Some c → slice_get classes k ≡ Some d → d.name ≡ c.name → ⊥
+differ_at : (classes : List Linked) → DifferInName classes → (j k : ℕ) (c d : Linked) → j < k → slice_get classes j ≡ Some c
+    → slice_get classes k ≡ Some d → d.name ≡ c.name → ⊥
 differ_at [] differ j k c d lt e h same = absurd (none-some c e)
 differ_at (x ∷ classes) differ j zero c d lt e h same = absurd (omega arith)
-differ_at (x ∷ classes) differ zero (suc k) c d lt e h same = let is : x ≡ c = cc in differ.0 d (stands_in classes k d h) (same ∙ ap (λ (y : Linked). y.name) (sym is))
+differ_at (x ∷ classes) differ zero (suc k) c d lt e h same =
+    let is : x ≡ c = cc in differ.0 d (stands_in classes k d h) (same ∙ ap (λ (y : Linked). y.name) (sym is))
 differ_at (x ∷ classes) differ (suc j) (suc k) c d lt e h same = differ_at classes differ.1 j k c d (omega arith) e h same
 
 pub class_again : (p : Program) → DifferInName p.classes → (k : ℕ) (c : Linked) → slice_get p.classes k ≡ Some c → class_named p c.name ≡ Some k
@@ -167,19 +181,22 @@ class_again p differ k c e =
 -- ---- the added members
 
 -- no field of the original is `$jacocoData`, so the added one is found
-pub data_found : (names new_names : Names) (c new : Linked) → IsChangedPair names new_names c new → static_named new.statics data_name data_type ≡ Some (length c.statics)
+pub data_found : (names new_names : Names) (c new : Linked) → IsChangedPair names new_names c new
+    → static_named new.statics data_name data_type ≡ Some (length c.statics)
 data_found names new_names c new pair =
     position_place (fits_field data_name data_type) new.statics
     ∙ ap (place (fits_field data_name data_type)) pair.statics
     ∙ place_last (fits_field data_name data_type) c.statics data_static
     (place_none (fits_field data_name data_type) c.statics
-    (λ k f e. ap (λ b. b && bytes_eq f.desc data_type) (other_name f.name data_name (λ same. pair.none_added.statics f (stands_in c.statics k f e) (inr same)))))
+    (λ k f e. ap (λ b. b && bytes_eq f.desc data_type)
+    (other_name f.name data_name (λ same. pair.none_added.statics f (stands_in c.statics k f e) (inr same)))))
   where
     fits_field : List ℕ → List ℕ → StaticField → Bool
     fits_field name desc f = bytes_eq f.name name && bytes_eq f.desc desc
 
 -- and no method is `$jacocoInit`
-pub init_found : (names new_names : Names) (c new : Linked) (pair : IsChangedPair names new_names c new) → method_named new.bodies init_name init_type ≡ Some (length c.bodies)
+pub init_found : (names new_names : Names) (c new : Linked) (pair : IsChangedPair names new_names c new)
+    → method_named new.bodies init_name init_type ≡ Some (length c.bodies)
 init_found names new_names c new pair =
     method_place new.bodies init_name init_type
     ∙ ap (place (fits_key init_name init_type)) (twin_keys names new_names 0 c.bodies new.bodies pair.added pair.bodies)
@@ -190,7 +207,8 @@ init_found names new_names c new pair =
     missing =
         position_place (λ (b : Body). bytes_eq b.name init_name && bytes_eq b.desc init_type) c.bodies
         ∙ place_none (λ (b : Body). bytes_eq b.name init_name && bytes_eq b.desc init_type) c.bodies
-        (λ k b e. ap (λ x. x && bytes_eq b.desc init_type) (other_name b.name init_name (λ same. pair.none_added.bodies b (stands_in c.bodies k b e) (inl same))))
+        (λ k b e. ap (λ x. x && bytes_eq b.desc init_type)
+        (other_name b.name init_name (λ same. pair.none_added.bodies b (stands_in c.bodies k b e) (inl same))))
 
     fits : fits_key init_name init_type (body_key pair.added) ≡ true
     fits = and_from _ _ (name_again pair.added.name init_name pair.added_is.name) (name_again pair.added.desc init_type pair.added_is.desc)
@@ -206,14 +224,18 @@ declares_key c = any-map body_key (λ (k : Key). is_init_name k.name) c.bodies
 
 pub original_declares : (names new_names : Names) (c new : Linked) → IsPair names new_names c new → declares_init c ≡ false
 original_declares names new_names c new (inl pair) =
-    none_at (λ (b : Body). is_init_name b.name) c.bodies (λ k b e. other_name b.name init_name (λ same. pair.none_added.bodies b (stands_in c.bodies k b e) same))
+    none_at (λ (b : Body). is_init_name b.name) c.bodies
+    (λ k b e. other_name b.name init_name (λ same. pair.none_added.bodies b (stands_in c.bodies k b e) same))
 original_declares names new_names c new (inr pair) =
-    none_at (λ (b : Body). is_init_name b.name) c.bodies (λ k b e. other_name b.name init_name (λ same. pair.none_added.bodies b (stands_in c.bodies k b e) (inl same)))
+    none_at (λ (b : Body). is_init_name b.name) c.bodies
+    (λ k b e. other_name b.name init_name (λ same. pair.none_added.bodies b (stands_in c.bodies k b e) (inl same)))
 
 pub unchanged_declares : (names new_names : Names) (c new : Linked) → IsUnchangedPair names new_names c new → declares_init new ≡ false
 unchanged_declares names new_names c new pair =
     declares_key new ∙ ap (list_any (λ (k : Key). is_init_name k.name)) (same_keys names new_names c.bodies new.bodies pair.bodies)
     ∙ sym (declares_key c) ∙ original_declares names new_names c new (inl pair)
 
-pub changed_declares : (names new_names : Names) (c new : Linked) (pair : IsChangedPair names new_names c new) → slice_get new.bodies (length c.bodies) ≡ Some pair.added → declares_init new ≡ true
-changed_declares names new_names c new pair e = any_at (λ (b : Body). is_init_name b.name) new.bodies (length c.bodies) pair.added e (name_again pair.added.name init_name pair.added_is.name)
+pub changed_declares : (names new_names : Names) (c new : Linked) (pair : IsChangedPair names new_names c new)
+    → slice_get new.bodies (length c.bodies) ≡ Some pair.added → declares_init new ≡ true
+changed_declares names new_names c new pair e =
+    any_at (λ (b : Body). is_init_name b.name) new.bodies (length c.bodies) pair.added e (name_again pair.added.name init_name pair.added_is.name)

@@ -108,7 +108,8 @@ values_end a (v ∷ values) = by (is_pair v) refl (spread_values values) (values
 
 -- ---- the arguments of a static method
 
-pub static_slots : (flags slots : ℕ) (desc : List ℕ) → TakeSlots flags desc slots → is_static flags ≡ true → slots ≡ sum_by slots_of (method_type_in desc).parameters
+pub static_slots : (flags slots : ℕ) (desc : List ℕ) → TakeSlots flags desc slots → is_static flags ≡ true
+    → slots ≡ sum_by slots_of (method_type_in desc).parameters
 static_slots flags count desc t s =
     t.static_slots (eqb-false (bit_and flags 0x0008) 0 (not-true (nat_eq (bit_and flags 0x0008) 0) s))
     ∙ sym (ap (λ (m : MethodType). sum_by slots_of m.parameters) (method_again desc t.type t.described))
@@ -134,11 +135,13 @@ module _ (p p' : Program) (sides : Entry → Side) where
         here = here;
         at = at;
         stack = ap (λ l. l ++ []) (sym none);
-        locals = new_locals a t.slot t.body.max_locals t.twin.max_locals t.body.arg_slots (spread_values values) item side.max_locals short (values_end a values)
+        locals =
+            new_locals a t.slot t.body.max_locals t.twin.max_locals t.body.arg_slots (spread_values values) item side.max_locals short (values_end a values)
             (λ v e. let first = (side.changed v e).slot in let fit = side.well.arguments_fit in (first, omega (arith, first, fit))) new;
       }
 
-      by : (o : Option ℕ) → t.slot ≡ o → SameFrame p p' sides (new_frame m (locals_for t.body.max_locals values)) (new_frame m (locals_for t.twin.max_locals values))
+      by : (o : Option ℕ) → t.slot ≡ o
+          → SameFrame p p' sides (new_frame m (locals_for t.body.max_locals values)) (new_frame m (locals_for t.twin.max_locals values))
       by None e =
           let start = subst (OkStart t.body.code t.slot t.ids t.items) e side.ok.start in
           let s = start.stands in

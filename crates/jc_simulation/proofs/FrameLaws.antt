@@ -28,16 +28,19 @@ use Rattle.jc_simulation.proofs.OperationLaws.{alike}
 
 -- ---- the body of a method
 
-pub body_is : (r : Program) (m : Entry) (c : Linked) (b : Body) → slice_get r.classes m.class ≡ Some c → slice_get c.bodies m.method ≡ Some b → body_of r m ≡ Some b
+pub body_is : (r : Program) (m : Entry) (c : Linked) (b : Body) → slice_get r.classes m.class ≡ Some c → slice_get c.bodies m.method ≡ Some b
+    → body_of r m ≡ Some b
 body_is r m c b e h = ap (option_and_then (λ (x : Linked). slice_get x.bodies m.method)) e ∙ h
 
-pub init_is : (r : Program) (m : Entry) (c : Linked) (b : Body) → slice_get r.classes m.class ≡ Some c → slice_get c.bodies m.method ≡ Some b → is_init_method r m ≡ is_init_name b.name
+pub init_is : (r : Program) (m : Entry) (c : Linked) (b : Body) → slice_get r.classes m.class ≡ Some c → slice_get c.bodies m.method ≡ Some b
+    → is_init_method r m ≡ is_init_name b.name
 init_is r m c b e h = ap named_init (body_is r m c b e h)
 
 abbrev pub location : Entry → ℕ → Linked → Body → Location
 location m place c b = record { class = m.class; linked = c; body = b; place = place }
 
-pub located_is : (r : Program) (m : Entry) (place : ℕ) (c : Linked) (b : Body) (insn : Insn) → slice_get r.classes m.class ≡ Some c → slice_get c.bodies m.method ≡ Some b
+pub located_is : (r : Program) (m : Entry) (place : ℕ) (c : Linked) (b : Body) (insn : Insn) → slice_get r.classes m.class ≡ Some c
+    → slice_get c.bodies m.method ≡ Some b
     → slice_get b.code place ≡ Some insn → located r m place ≡ Some (record { at = location m place c b; insn = insn })
 located_is r m place c b insn e h k =
     ap (option_and_then (λ (x : Linked). located_in_class m.class place x (slice_get x.bodies m.method))) e
@@ -56,9 +59,11 @@ module _ (p p' : Program) (sides : Entry → Side) where
   frame_at f place ls st = record { method = f.method; place = place; locals = ls; stack = st }
 
   -- both go on, with these local variables and one stack
-  pub arrives : (f f' : Frame) → OneMethod p p' sides f f' → (q i : ℕ) → GoesOnAt (sides f.method) q i → (old : Item) → IsBehind old → (ls ls' : List (Option Value))
+  pub arrives : (f f' : Frame) → OneMethod p p' sides f f' → (q i : ℕ) → GoesOnAt (sides f.method) q i → (old : Item) → IsBehind old
+      → (ls ls' : List (Option Value))
       → SameLocals (array_of (sides f.method) f.method.class) (sides f.method).slot ls ls' old → (st : List Value)
-      → SameFrame p p' sides (record { method = f.method; place = i; locals = ls; stack = st }) (record { method = f'.method; place = q; locals = ls'; stack = st })
+      → SameFrame p p' sides (record { method = f.method; place = i; locals = ls; stack = st })
+      (record { method = f'.method; place = q; locals = ls'; stack = st })
   arrives f f' o q i h old b ls ls' same st = record {
     one = record { method = o.method; side = o.side; entered = o.entered };
     item = h.1.item;
@@ -88,7 +93,8 @@ module _ (p p' : Program) (sides : Entry → Side) where
       by true h = absurd (other (same_some x init_call (sym here ∙ ap (slice_get (sides m).items) (eqb-true q 0 h) ∙ start)))
       by false h = refl
 
-  module _ (are : AreSides p p' sides) (f f' : Frame) (new : Insn) (early : Option ℕ) (o : AtImage p p' sides f f' new early) (s s' : Shared) (ss : SameShared p p' sides s s') where
+  module _ (are : AreSides p p' sides) (f f' : Frame) (new : Insn) (early : Option ℕ) (o : AtImage p p' sides f f' new early)
+      (s s' : Shared) (ss : SameShared p p' sides s s') where
     abbrev t : Side
     t = sides f.method
 

@@ -60,17 +60,20 @@ unfolding types_from
 data_type_is = refl
 
 -- dup, pop and ifnonnull of null or of a probe array
-dups : (r : Program) (at : Location) (s : Shared) (f : Frame) (found : Bool) (class count : ℕ) (st : List Value) → f.stack ≡ null_or found (probes class count) ∷ st
+dups : (r : Program) (at : Location) (s : Shared) (f : Frame) (found : Bool) (class count : ℕ) (st : List Value)
+    → f.stack ≡ null_or found (probes class count) ∷ st
     → perform (operation_of r at (insns.Simple opcode.dup)) s f ≡ goes_with s f (null_or found (probes class count) ∷ null_or found (probes class count) ∷ st)
 unfolding operation_of perform effect moves_of
 dups r at s f true class count st e = ap (λ l. by_effect (effect 89 l) s (record f { stack = l })) e
 dups r at s f false class count st e = ap (λ l. by_effect (effect 89 l) s (record f { stack = l })) e
 
-pops : (r : Program) (at : Location) (s : Shared) (f : Frame) (st : List Value) → f.stack ≡ null ∷ st → perform (operation_of r at (insns.Simple opcode.pop)) s f ≡ goes_with s f st
+pops : (r : Program) (at : Location) (s : Shared) (f : Frame) (st : List Value) → f.stack ≡ null ∷ st
+    → perform (operation_of r at (insns.Simple opcode.pop)) s f ≡ goes_with s f st
 unfolding operation_of perform effect moves_of
 pops r at s f st e = ap (λ l. by_effect (effect 87 l) s (record f { stack = l })) e
 
-asks : (r : Program) (at : Location) (s : Shared) (f : Frame) (found : Bool) (class count to : ℕ) (st : List Value) → f.stack ≡ null_or found (probes class count) ∷ st
+asks : (r : Program) (at : Location) (s : Shared) (f : Frame) (found : Bool) (class count to : ℕ) (st : List Value)
+    → f.stack ≡ null_or found (probes class count) ∷ st
     → perform (operation_of r at (insns.Jump opcode.ifnonnull to)) s f ≡ goes s (record f { place = if found then to else f.place + 1; stack = st })
 unfolding operation_of perform test_of
 asks r at s f true class count to st e = ap (λ l. by_test (test_of 199 l) to s f) e
@@ -94,7 +97,8 @@ module _ (p p' : Program) (sides : Entry → Side) where
   Stepped s s' f' class init step r = Steps s s' f' class init step r ⊎ ((r ≡ leaves (Some (probes class init.count))) × (step ≡ gives_back))
 
   module _ (are : AreSides p p' sides) (m : Entry) (side : IsSide p p' m (sides m)) (v : ℕ) (c : IsChanged p p' (sides m) v)
-      (s s' : Shared) (ss : SameShared p p' sides s s') (f' : Frame) (is_init : f'.method ≡ record { class = m.class; method = length (sides m).class.bodies }) where
+      (s s' : Shared) (ss : SameShared p p' sides s s') (f' : Frame)
+      (is_init : f'.method ≡ record { class = m.class; method = length (sides m).class.bodies }) where
     abbrev t : Side
     t = sides m
 
@@ -124,9 +128,12 @@ module _ (p p' : Program) (sides : Entry → Side) where
 
     -- what the instruction at its place does
     run : (q : ℕ) (insn : Insn) → f'.place ≡ q → slice_get code q ≡ Some insn → result_of p' s' f' ≡ perform (operation_of p' (at q) insn) s' f'
-    run q insn e h = result_is p' s' f' (record { class = k; method = length t.class.bodies }) q t.new b insn is_init e side.new_is c.added_at (ap (λ (l : List Insn). slice_get l q) i.code ∙ h)
+    run q insn e h =
+        result_is p' s' f' (record { class = k; method = length t.class.bodies }) q t.new b insn is_init e side.new_is c.added_at
+        (ap (λ (l : List Insn). slice_get l q) i.code ∙ h)
 
-    next : (step to : InitStep) (r : Result) (after : Shared) (st : List Value) → f'.place ≡ step_place step → r ≡ goes after (next_with f' st) → step_place step + 1 ≡ step_place to
+    next : (step to : InitStep) (r : Result) (after : Shared) (st : List Value) → f'.place ≡ step_place step → r ≡ goes after (next_with f' st)
+        → step_place step + 1 ≡ step_place to
         → SameShared p p' sides s after → st ≡ step_stack k init to → Stepped s s' f' k init step r
     next step to r after st e is more h same = inl (record {
       after = after;
@@ -207,17 +214,20 @@ module _ (p p' : Program) (sides : Entry → Side) where
     unfolding operation_of perform
     fetches_it q st e =
         ap (λ o. perform (member_operation opcode.invokestatic (at q) p' o) s' f') i.fetch_is
-        ∙ ap (λ x. perform (if x then init_call (at q) (is_fetch runtime_class fetch_name fetch_type) (init_of (at q)) else method_entered (at q) p' (callee_named p' runtime_class fetch_name fetch_type)) s' f') (named q)
+        ∙ ap (λ x. perform (if x then init_call (at q) (is_fetch runtime_class fetch_name fetch_type) (init_of (at q)) else method_entered (at q) p'
+        (callee_named p' runtime_class fetch_name fetch_type)) s' f') (named q)
         ∙ ap (λ o. perform (init_call (at q) true o) s' f') (init_is_there q)
         ∙ ap (λ l. by_fetch k init l s' f') e
-        ∙ ap (λ x. if x && (nat_eq k k && int_equal (pos init.count) (pos init.count)) then goes_with s' f' (array ∷ st) else gets_stuck) (equal_self (cast_signed w64 init.id))
+        ∙ ap (λ x. if x && (nat_eq k k && int_equal (pos init.count) (pos init.count)) then goes_with s' f' (array ∷ st) else gets_stuck)
+        (equal_self (cast_signed w64 init.id))
         ∙ ap (λ x. if x && int_equal (pos init.count) (pos init.count) then goes_with s' f' (array ∷ st) else gets_stuck) (eq-eqb k k refl)
         ∙ ap (λ x. if x then goes_with s' f' (array ∷ st) else gets_stuck) (equal_self (pos init.count))
 
     returns_it : (q : ℕ) (st : List Value) → f'.stack ≡ array ∷ st → perform (operation_of p' (at q) (insns.Simple opcode.areturn)) s' f' ≡ leaves (Some array)
     unfolding operation_of perform
     returns_it q st e =
-        ap (by_return reference_type (method_type_in b.desc).returns) e ∙ ap (λ x. leaves (Some x)) (returned_array (method_type_in b.desc).returns k init.count)
+        ap (by_return reference_type (method_type_in b.desc).returns) e
+        ∙ ap (λ x. leaves (Some x)) (returned_array (method_type_in b.desc).returns k init.count)
 
     -- ---- a turn
 
@@ -227,7 +237,8 @@ module _ (p p' : Program) (sides : Entry → Side) where
         next reads_field (doubles found.0) _ s' (null_or found.0 array ∷ []) e
         (run 0 _ e refl ∙ gets_it 0 ∙ ap (λ o. by_get o s' f') found.1 ∙ ap (λ l. goes_with s' f' (null_or found.0 array ∷ l)) st) refl ss refl
     init_turn (doubles found) e st =
-        next (doubles found) (asks_null found) _ s' (null_or found array ∷ null_or found array ∷ []) e (run 1 _ e refl ∙ dups p' (at 1) s' f' found k init.count [] st) refl ss refl
+        next (doubles found) (asks_null found) _ s' (null_or found array ∷ null_or found array ∷ []) e
+        (run 1 _ e refl ∙ dups p' (at 1) s' f' found k init.count [] st) refl ss refl
     init_turn (asks_null true) e st = inl (record {
       after = s';
       frame = record f' { place = 10; stack = array ∷ [] };
@@ -243,14 +254,17 @@ module _ (p p' : Program) (sides : Entry → Side) where
         next (asks_null false) clears _ s' (null ∷ []) e (run 2 _ e refl ∙ asks p' (at 2) s' f' false k init.count 10 (null ∷ []) st) refl ss refl
     init_turn clears e st = next clears wants_id _ s' [] e (run 3 _ e refl ∙ pops p' (at 3) s' f' [] st) refl ss refl
     init_turn wants_id e st =
-        next wants_id wants_text _ s' (long (cast_signed w64 init.id) ∷ []) e (run 4 _ e refl ∙ pushes_id 4 ∙ ap (λ l. goes_with s' f' (long (cast_signed w64 init.id) ∷ l)) st) refl ss refl
+        next wants_id wants_text _ s' (long (cast_signed w64 init.id) ∷ []) e
+        (run 4 _ e refl ∙ pushes_id 4 ∙ ap (λ l. goes_with s' f' (long (cast_signed w64 init.id) ∷ l)) st) refl ss refl
     init_turn wants_text e st =
-        next wants_text wants_count _ s' (text k ∷ long (cast_signed w64 init.id) ∷ []) e (run 5 _ e refl ∙ pushes_text 5 ∙ ap (λ l. goes_with s' f' (text k ∷ l)) st) refl ss refl
+        next wants_text wants_count _ s' (text k ∷ long (cast_signed w64 init.id) ∷ []) e
+        (run 5 _ e refl ∙ pushes_text 5 ∙ ap (λ l. goes_with s' f' (text k ∷ l)) st) refl ss refl
     init_turn wants_count e st =
         next wants_count fetches_array _ s' (int (pos init.count) ∷ text k ∷ long (cast_signed w64 init.id) ∷ []) e
         (run 6 _ e refl ∙ pushes_number p' (at 6) s' f' init.count ∙ ap (λ l. goes_with s' f' (int (pos init.count) ∷ l)) st) refl ss refl
     init_turn fetches_array e st = next fetches_array keeps_array _ s' (array ∷ []) e (run 7 _ e refl ∙ fetches_it 7 [] st) refl ss refl
-    init_turn keeps_array e st = next keeps_array writes_field _ s' (array ∷ array ∷ []) e (run 8 _ e refl ∙ dups p' (at 8) s' f' true k init.count [] st) refl ss refl
+    init_turn keeps_array e st =
+        next keeps_array writes_field _ s' (array ∷ array ∷ []) e (run 8 _ e refl ∙ dups p' (at 8) s' f' true k init.count [] st) refl ss refl
     init_turn writes_field e st =
         next writes_field gives_back _ (record s' { statics = with_static s'.statics field array }) (array ∷ []) e
         (run 9 _ e refl ∙ puts_it 9 ∙ ap (λ l. by_put field (Array Boolean) l s' f') st) refl

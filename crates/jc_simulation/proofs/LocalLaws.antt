@@ -71,9 +71,11 @@ module _ (array : Value) where
   moves_on (Some v) ls ls' item to b h = record { room = h.room; held = h.held; around = h.around; ready = λ d. h.ready b; narrow = h.narrow; apart = h.apart }
 
   -- in the prelude nothing is known of the local variable of the probe array
-  pub stays_unready : (slot : Option ℕ) (ls ls' : Locals) (item to : Item) → (IsBehind to → ⊥) → SameLocals array slot ls ls' item → SameLocals array slot ls ls' to
+  pub stays_unready : (slot : Option ℕ) (ls ls' : Locals) (item to : Item) → (IsBehind to → ⊥) → SameLocals array slot ls ls' item
+      → SameLocals array slot ls ls' to
   stays_unready None ls ls' item to b h = h
-  stays_unready (Some v) ls ls' item to b h = record { room = h.room; held = h.held; around = h.around; ready = λ d. absurd (b d); narrow = h.narrow; apart = h.apart }
+  stays_unready (Some v) ls ls' item to b h =
+      record { room = h.room; held = h.held; around = h.around; ready = λ d. absurd (b d); narrow = h.narrow; apart = h.apart }
 
   -- a probe reads the array
   pub reads_array : (slot : Option ℕ) (v : ℕ) (ls ls' : Locals) (item : Item) → slot ≡ Some v → IsBehind item → SameLocals array slot ls ls' item

@@ -118,13 +118,17 @@ module _ (p p' : Program) (sides : Entry → Side) (are : AreSides p p' sides) (
       → Both (declared_field op at k name desc o) (declared_field op at' k name desc (static_named new.statics name desc))
   own_declared go op k c new name desc there pair (Some f) e =
       let found = static_there c name desc f e in
-      let is : IsField p p' sides (record { class = k; field = f }) = record { class = c; class_is = there; within = slice_get_within c.statics f found.0 found.1 } in
-      subst (λ o. Both (declared_field op at k name desc (Some f)) (declared_field op at' k name desc o)) (sym (statics_found p.names p'.names c new pair name desc f e))
-      (subst (λ b. Both (declared_field op at k name desc (Some f)) (if b then field_operation op (record { class = k; field = f }) (field_type_in desc) else outside)) (sym (may_field k name))
+      let is : IsField p p' sides (record { class = k; field = f }) =
+      record { class = c; class_is = there; within = slice_get_within c.statics f found.0 found.1 } in
+      subst (λ o. Both (declared_field op at k name desc (Some f)) (declared_field op at' k name desc o))
+      (sym (statics_found p.names p'.names c new pair name desc f e))
+      (subst (λ b. Both (declared_field op at k name desc (Some f))
+      (if b then field_operation op (record { class = k; field = f }) (field_type_in desc) else outside)) (sym (may_field k name))
       (both_if (may_name_field at k name) _ _ _ _ (own_access go op (record { class = k; field = f }) is (field_type_in desc)) refl))
   own_declared go op k c new name desc there pair None e = ⊎_elim
       (λ none. ap (declared_field op at' k name desc) none)
-      (λ last. ap (declared_field op at' k name desc) last.1 ∙ ap (λ b. if b then field_operation op (record { class = k; field = last.0 }) (field_type_in desc) else outside) (no_data k name last.2))
+      (λ last. ap (declared_field op at' k name desc) last.1
+      ∙ ap (λ b. if b then field_operation op (record { class = k; field = last.0 }) (field_type_in desc) else outside) (no_data k name last.2))
       (statics_missing p.names p'.names c new pair name desc e)
 
   own_linked : Go → (op : ℕ) (class name desc : List ℕ) → (o : Option ℕ) → class_named p class ≡ o
@@ -133,7 +137,8 @@ module _ (p p' : Program) (sides : Entry → Side) (are : AreSides p p' sides) (
   own_linked go op class name desc (Some k) e =
       let c = class_there p class k e in
       let n = are.pair k c.0 c.1 in
-      subst₂ (λ a b. Both (declared_field op at k name desc (option_and_then (λ (x : Linked). static_named x.statics name desc) a)) (declared_field op at' k name desc (option_and_then (λ (x : Linked). static_named x.statics name desc) b)))
+      subst₂ (λ a b. Both (declared_field op at k name desc (option_and_then (λ (x : Linked). static_named x.statics name desc) a))
+      (declared_field op at' k name desc (option_and_then (λ (x : Linked). static_named x.statics name desc) b)))
       (sym c.1) (sym n.1)
       (own_declared go op k c.0 n.0 name desc c.1 n.2 (static_named c.0.statics name desc) refl)
 
@@ -180,7 +185,9 @@ module _ (p p' : Program) (sides : Entry → Side) (are : AreSides p p' sides) (
       ∙ by (nat_eq m.class k) refl
     where
       declares : declares_init new ≡ true
-      declares = any_at (λ (b : Body). is_init_name b.name) new.bodies (length c.bodies) pair.added (are.added c new pair) (name_again pair.added.name init_name pair.added_is.name)
+      declares =
+          any_at (λ (b : Body). is_init_name b.name) new.bodies (length c.bodies) pair.added (are.added c new pair)
+          (name_again pair.added.name init_name pair.added_is.name)
 
       in_class : m.class ≡ k → (o : Option ℕ) → t.slot ≡ o → nat_eq q 0 ≡ false
       in_class same None e =
@@ -192,12 +199,14 @@ module _ (p p' : Program) (sides : Entry → Side) (are : AreSides p p' sides) (
       by true h = ap (λ b. b && true) (in_class (eqb-true m.class k h) t.slot refl)
       by false h = and_false (nat_eq q 0)
 
-  own_method : Go → (k : ℕ) (c new : Linked) (name desc : List ℕ) → slice_get p.classes k ≡ Some c → slice_get p'.classes k ≡ Some new → IsPair p.names p'.names c new
+  own_method : Go → (k : ℕ) (c new : Linked) (name desc : List ℕ) → slice_get p.classes k ≡ Some c → slice_get p'.classes k ≡ Some new
+      → IsPair p.names p'.names c new
       → (o : Option ℕ) → method_named c.bodies name desc ≡ o
       → Both (method_entered at p (option_map (λ (j : ℕ). record { class = k; method = j }) o)) (method_entered at' p' (method_in name desc k new))
   own_method go k c new name desc there there' pair (Some j) e =
       let b = method_there c name desc j e in
-      subst (λ o. Both (class_entered at (record { class = k; method = j }) (class_at p k)) (method_entered at' p' (option_map (λ (j : ℕ). record { class = k; method = j }) o)))
+      subst (λ o. Both (class_entered at (record { class = k; method = j }) (class_at p k))
+      (method_entered at' p' (option_map (λ (j : ℕ). record { class = k; method = j }) o)))
       (sym (methods_found p.names p'.names c new pair name desc j e))
       (own_entered go (record { class = k; method = j }) (are.side (record { class = k; method = j }) c b.0 there b.1))
   own_method go k c new name desc there there' pair None e = ⊎_elim
@@ -219,14 +228,17 @@ module _ (p p' : Program) (sides : Entry → Side) (are : AreSides p p' sides) (
   own_named go class name desc (Some k) e =
       let c = class_there p class k e in
       let n = are.pair k c.0 c.1 in
-      subst₂ (λ a b. Both (method_entered at p (option_and_then (method_in name desc k) a)) (method_entered at' p' (option_and_then (method_in name desc k) b))) (sym c.1) (sym n.1)
+      subst₂ (λ a b. Both (method_entered at p (option_and_then (method_in name desc k) a))
+      (method_entered at' p' (option_and_then (method_in name desc k) b))) (sym c.1) (sym n.1)
       (own_method go k c.0 n.0 name desc c.1 n.1 n.2 (method_named c.0.bodies name desc) refl)
 
   own_static : Go → (class name desc : List ℕ) → Both (static_call at p class name desc) (static_call at' p' class name desc)
   own_static go class name desc =
       subst₂ (λ a b. Both (if a then init_call at (is_fetch class name desc) (init_of at) else method_entered at p (callee_named p class name desc))
-      (if b then init_call at' (is_fetch class name desc) (init_of at') else method_entered at' p' (callee_named p' class name desc))) (sym no_init) (sym no_init')
-      (subst (λ o. Both (method_entered at p (callee_named p class name desc)) (method_entered at' p' (option_and_then (λ (k : ℕ). option_and_then (method_in name desc k) (class_at p' k)) o)))
+      (if b then init_call at' (is_fetch class name desc) (init_of at') else method_entered at' p' (callee_named p' class name desc))) (sym no_init)
+      (sym no_init')
+      (subst (λ o. Both (method_entered at p (callee_named p class name desc))
+      (method_entered at' p' (option_and_then (λ (k : ℕ). option_and_then (method_in name desc k) (class_at p' k)) o)))
       (sym (class_same p p' are.names class))
       (own_named go class name desc (class_named p class) refl))
 
@@ -242,14 +254,17 @@ module _ (p p' : Program) (sides : Entry → Side) (are : AreSides p p' sides) (
 
   own_virtual : Go → (class name desc : List ℕ) → Both (virtual_call at class name desc) (virtual_call at' class name desc)
   own_virtual go class name desc =
-      subst₂ (λ a b. Both (if not a && (bytes_eq class (codes "java/io/PrintStream") && bytes_eq name (codes "println")) then print_operation (printed_by desc) else outside)
-      (if not b && (bytes_eq class (codes "java/io/PrintStream") && bytes_eq name (codes "println")) then print_operation (printed_by desc) else outside)) (sym no_init) (sym no_init')
+      subst₂ (λ a b. Both (if not a && (bytes_eq class (codes "java/io/PrintStream") && bytes_eq name (codes "println")) then print_operation
+      (printed_by desc) else outside)
+      (if not b && (bytes_eq class (codes "java/io/PrintStream") && bytes_eq name (codes "println")) then print_operation (printed_by desc) else outside))
+      (sym no_init) (sym no_init')
       (both_if (bytes_eq class (codes "java/io/PrintStream") && bytes_eq name (codes "println")) _ _ _ _ (own_print go (printed_by desc)) refl)
 
   own_special : Go → (class name desc : List ℕ) → Both (special_call at class name desc) (special_call at' class name desc)
   own_special go class name desc =
       subst₂ (λ a b. Both (if not a && (bytes_eq name (codes "<init>") && bytes_eq desc (codes "()V")) then build_operation (made_class class) else outside)
-      (if not b && (bytes_eq name (codes "<init>") && bytes_eq desc (codes "()V")) then build_operation (made_class class) else outside)) (sym no_init) (sym no_init')
+      (if not b && (bytes_eq name (codes "<init>") && bytes_eq desc (codes "()V")) then build_operation (made_class class) else outside)) (sym no_init)
+      (sym no_init')
       (both_if (bytes_eq name (codes "<init>") && bytes_eq desc (codes "()V")) _ _ _ _ (own_build go (made_class class)) refl)
 
   own_call : Go → (op : ℕ) (class name desc : List ℕ) → Both (call_named op at p class name desc) (call_named op at' p' class name desc)

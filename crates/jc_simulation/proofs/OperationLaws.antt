@@ -77,7 +77,9 @@ two_slots op e = by (nat_eq op 21 || nat_eq op 54) (nat_eq op 22 || nat_eq op 55
     rest true e = cc
     rest false e = cc
 
-    by : (a b : Bool) → (nat_eq op 22 || nat_eq op 55) ≡ b → (if a then Some int_type else if b then Some long_type else if nat_eq op 25 || nat_eq op 58 then Some reference_type else None) ≡ Some long_type → is_of_two_slots op ≡ true
+    by : (a b : Bool) → (nat_eq op 22 || nat_eq op 55) ≡ b
+        → (if a then Some int_type else if b then Some long_type else if nat_eq op 25 || nat_eq op 58 then Some reference_type else None) ≡ Some long_type
+        → is_of_two_slots op ≡ true
     by true b q e = cc
     by false true q e = long_or (nat_eq op 22) (nat_eq op 24) (nat_eq op 55) (nat_eq op 57) q
     by false false q e = absurd (rest (nat_eq op 25 || nat_eq op 58) e)
@@ -154,8 +156,10 @@ module _ (p p' : Program) (sides : Entry → Side) (are : AreSides p p' sides) (
   simple_return op h = by (loads_array op) (stores_array op) (is_return op) refl refl h
     where
       by : (a b c : Bool) → loads_array op ≡ a → stores_array op ≡ b → c ≡ true
-          → Both (if a then read_operation (elements_of op) else if b then write_operation (elements_of (op - 33)) else if c then return_operation op t.body else if nat_eq op 190 then measures else if nat_eq op 191 then throws_top else computes op)
-          (if a then read_operation (elements_of op) else if b then write_operation (elements_of (op - 33)) else if c then return_operation op t.twin else if nat_eq op 190 then measures else if nat_eq op 191 then throws_top else computes op)
+          → Both (if a then read_operation (elements_of op) else if b then write_operation (elements_of (op - 33)) else if c then return_operation op t.body
+          else if nat_eq op 190 then measures else if nat_eq op 191 then throws_top else computes op)
+          (if a then read_operation (elements_of op) else if b then write_operation (elements_of (op - 33)) else if c then return_operation op t.twin
+          else if nat_eq op 190 then measures else if nat_eq op 191 then throws_top else computes op)
       by true b c x y z = absurd (apart 46 53 172 177 op (omega arith) x h)
       by false true c x y z = absurd (apart 79 86 172 177 op (omega arith) y h)
       by false false true x y z = own_return op
@@ -166,8 +170,10 @@ module _ (p p' : Program) (sides : Entry → Side) (are : AreSides p p' sides) (
   simple_throw op r h = by (loads_array op) (stores_array op) (is_return op) (nat_eq op 190) (nat_eq op 191) refl refl r refl h
     where
       by : (a b c d e : Bool) → loads_array op ≡ a → stores_array op ≡ b → c ≡ false → nat_eq op 190 ≡ d → e ≡ true
-          → Both (if a then read_operation (elements_of op) else if b then write_operation (elements_of (op - 33)) else if c then return_operation op t.body else if d then measures else if e then throws_top else computes op)
-          (if a then read_operation (elements_of op) else if b then write_operation (elements_of (op - 33)) else if c then return_operation op t.twin else if d then measures else if e then throws_top else computes op)
+          → Both (if a then read_operation (elements_of op) else if b then write_operation
+          (elements_of (op - 33)) else if c then return_operation op t.body else if d then measures else if e then throws_top else computes op)
+          (if a then read_operation (elements_of op) else if b then write_operation
+          (elements_of (op - 33)) else if c then return_operation op t.twin else if d then measures else if e then throws_top else computes op)
       by true b c d e x y z u w = absurd (apart_one 46 53 191 op (omega arith) x h)
       by false true c d e x y z u w = absurd (apart_one 79 86 191 op (omega arith) y h)
       by false false true d e x y z u w = cc
@@ -180,8 +186,10 @@ module _ (p p' : Program) (sides : Entry → Side) (are : AreSides p p' sides) (
   simple_on go op r h = by (loads_array op) (stores_array op) (is_return op) (nat_eq op 190) (nat_eq op 191) r h
     where
       by : (a b c d e : Bool) → c ≡ false → e ≡ false
-          → Both (if a then read_operation (elements_of op) else if b then write_operation (elements_of (op - 33)) else if c then return_operation op t.body else if d then measures else if e then throws_top else computes op)
-          (if a then read_operation (elements_of op) else if b then write_operation (elements_of (op - 33)) else if c then return_operation op t.twin else if d then measures else if e then throws_top else computes op)
+          → Both (if a then read_operation (elements_of op) else if b then write_operation
+          (elements_of (op - 33)) else if c then return_operation op t.body else if d then measures else if e then throws_top else computes op)
+          (if a then read_operation (elements_of op) else if b then write_operation
+          (elements_of (op - 33)) else if c then return_operation op t.twin else if d then measures else if e then throws_top else computes op)
       by true b c d e z w = own_read go (elements_of op)
       by false true c d e z w = own_write go (elements_of (op - 33))
       by false false true d e z w = cc
@@ -200,7 +208,8 @@ module _ (p p' : Program) (sides : Entry → Side) (are : AreSides p p' sides) (
   own_constant : Go → (o : Option What) → Both (constant_operation at o) (constant_operation at' o)
   own_constant go (Some (whats.Int value)) = (refl, go)
   own_constant go (Some whats.Text) =
-      subst₂ (λ a b. Both (if is_some a then pushes (Value.text m.class) else outside) (if is_some b then pushes (Value.text m.class) else outside)) (sym none_of) (sym none_of') refl
+      subst₂ (λ a b. Both (if is_some a then pushes (Value.text m.class) else outside) (if is_some b then pushes (Value.text m.class) else outside))
+      (sym none_of) (sym none_of') refl
   own_constant go _ = refl
 
   own_long : Go → (o : Option What) → Both (long_operation o) (long_operation o)
@@ -274,7 +283,8 @@ module _ (p p' : Program) (sides : Entry → Side) (are : AreSides p p' sides) (
   alike_simple op false true e d h = led (simple_operation op at) (insns.Simple op) h (simple_throw op e d)
   alike_simple op false false e d h = led (simple_operation op at) (insns.Simple op) (moved (insns.Simple op) h) (simple_on (go_on (insns.Simple op) h) op e d)
 
-  alike_jump : (op to : ℕ) (b : Bool) → IsWellFormed (insns.Jump op to) → nat_eq op opcode.goto ≡ b → IsOk (insns.Jump op to) (if b then flows.Jumps else flows.Branches)
+  alike_jump : (op to : ℕ) (b : Bool) → IsWellFormed (insns.Jump op to) → nat_eq op opcode.goto ≡ b
+      → IsOk (insns.Jump op to) (if b then flows.Jumps else flows.Branches)
       → Both (if b then jumps to else tests op to) (operation_of p' at' new)
   unfolding operation_of
   alike_jump op to true well e h =
@@ -302,13 +312,18 @@ module _ (p p' : Program) (sides : Entry → Side) (are : AreSides p p' sides) (
   leads : (insn : Insn) (targets : List ℕ) (h : SwitchesAlike t.body.code t.slot t.ids t.items i insn new)
       → branches_of i insn ≡ map_from (arm i) 0 (first_seen targets) → (to : ℕ) → Contains targets to → GoesOnAt t (h.place to) to
   leads insn targets h e to c =
-      let b = target_branch i targets to c in
-      (t.ids b.0, subst (λ k. Stands t.body.code t.slot t.ids t.items (h.place k) k (t.ids b.0)) b.2 (h.each b.0 (subst (λ l. Contains l b.0) (sym e) b.1)).stands)
+      let b = target_branch i targets to c in (
+        t.ids b.0,
+        subst (λ k. Stands t.body.code t.slot t.ids t.items (h.place k) k (t.ids b.0)) b.2
+            (h.each b.0 (subst (λ l. Contains l b.0) (sym e) b.1)).stands,
+      )
 
-  alike_of : (insn : Insn) → slice_get t.body.code i ≡ Some insn → IsWellFormed insn → IsOk insn (flow_of insn) → Both (operation_of p at insn) (operation_of p' at' new)
+  alike_of : (insn : Insn) → slice_get t.body.code i ≡ Some insn → IsWellFormed insn → IsOk insn (flow_of insn)
+      → Both (operation_of p at insn) (operation_of p' at' new)
   unfolding operation_of
   alike_of (insns.Simple op) here well h = alike_simple op (is_return op) (nat_eq op opcode.athrow) refl refl h
-  alike_of (insns.Push op value) here well h = led (pushes (int value)) (insns.Push op value) (moved (insns.Push op value) h) (refl, go_on (insns.Push op value) h)
+  alike_of (insns.Push op value) here well h =
+      led (pushes (int value)) (insns.Push op value) (moved (insns.Push op value) h) (refl, go_on (insns.Push op value) h)
   alike_of (insns.Local op k) here well h =
       led (local_operation op k) (insns.Local op (twin_slot t.slot k)) (moved (insns.Local op k) h) (own_local (go_on (insns.Local op k) h) op k here)
   alike_of (insns.Inc k by) here well h = led (counts k by) (insns.Inc (twin_slot t.slot k) by) (moved (insns.Inc k by) h) (refl, go_on (insns.Inc k by) h)
@@ -330,7 +345,8 @@ module _ (p p' : Program) (sides : Entry → Side) (are : AreSides p p' sides) (
       led (class_operation op (what_at at place)) (insns.OfClass op place) (moved (insns.OfClass op place) h)
       (subst (λ o. Both (class_operation op (what_at at place)) (class_operation op o)) (sym (what_same (insns.OfClass op place) place here refl))
       (own_class (go_on (insns.OfClass op place) h) op (what_at at place)))
-  alike_of (insns.NewArray elem) here well h = led (array_operation elem) (insns.NewArray elem) (moved (insns.NewArray elem) h) (own_array (go_on (insns.NewArray elem) h) elem)
+  alike_of (insns.NewArray elem) here well h =
+      led (array_operation elem) (insns.NewArray elem) (moved (insns.NewArray elem) h) (own_array (go_on (insns.NewArray elem) h) elem)
   alike_of (insns.Multi place dims) here well h = led outside (insns.Multi place dims) (moved (insns.Multi place dims) h) refl
   alike_of (insns.Jump op to) here well h = alike_jump op to (nat_eq op opcode.goto) well refl h
   alike_of (insns.Table low default arms) here well h =

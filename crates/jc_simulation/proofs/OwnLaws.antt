@@ -180,7 +180,8 @@ module _ (p p' : Program) (sides : Entry → Side) where
     own_number : Go → (e : Element) (o : Option ℤ) (k : ℕ) (st : List Value) → Both (write_number e o k st s f) (write_number e o k st s' f')
     own_number h e None k st = tt
     own_number h e (Some x) k st =
-        subst (λ heap. Both (goes_with (record s { heap = slice_set s.heap k (with_element e x) }) f st) (goes_with (record s' { heap = slice_set heap k (with_element e x) }) f' st)) (sym ss.heap)
+        subst (λ heap. Both (goes_with (record s { heap = slice_set s.heap k (with_element e x) }) f st)
+        (goes_with (record s' { heap = slice_set heap k (with_element e x) }) f' st)) (sym ss.heap)
         (stored h (slice_set s.heap k (with_element e x)) st)
 
     own_write : Go → (r : Found) (v : Value) (k : ℕ) (st : List Value) → Both (write_found r v k st s f) (write_found r v k st s' f')
@@ -190,16 +191,20 @@ module _ (p p' : Program) (sides : Entry → Side) where
 
     own_probe : Go → (class : ℕ) (index : Option ℕ) (v : Value) (st : List Value) → Both (by_probe class index v st f) (by_probe class index v st f')
     own_probe h class None (int x) st = refl
-    own_probe h class (Some id) (int x) st = both_if (nat_eq (cast_unsigned w32 x % 2) 0) gets_stuck gets_stuck (hits class id (next_with f st)) (hits class id (next_with f' st)) tt (on_next h st)
+    own_probe h class (Some id) (int x) st =
+        both_if (nat_eq (cast_unsigned w32 x % 2) 0) gets_stuck gets_stuck (hits class id (next_with f st)) (hits class id (next_with f' st)) tt (on_next h st)
     own_probe h class index v st = tt
 
-    own_to : Go → (types : List FieldType) (v : Value) (i : ℤ) (x : Value) (st : List Value) → Both (write_to types v i x st s f) (write_to types v i x st s' f')
+    own_to : Go → (types : List FieldType) (v : Value) (i : ℤ) (x : Value) (st : List Value)
+        → Both (write_to types v i x st s f) (write_to types v i x st s' f')
     own_to h types null i x st = refl
     own_to h types (object k) i x st =
-        subst (λ heap. Both (write_found (find_element types s.heap (object k) i) x k st s f) (write_found (find_element types heap (object k) i) x k st s' f')) (sym ss.heap)
+        subst (λ heap. Both (write_found (find_element types s.heap (object k) i) x k st s f)
+        (write_found (find_element types heap (object k) i) x k st s' f')) (sym ss.heap)
         (own_write h (find_element types s.heap (object k) i) x k st)
     own_to h types (probes class count) i x st =
-        both_if (has_elements types Boolean) (by_probe class (index_within i count) x st f) (by_probe class (index_within i count) x st f') gets_stuck gets_stuck
+        both_if (has_elements types Boolean) (by_probe class (index_within i count) x st f)
+        (by_probe class (index_within i count) x st f') gets_stuck gets_stuck
         (own_probe h class (index_within i count) x st) tt
     own_to h types v i x st = tt
 
@@ -211,8 +216,10 @@ module _ (p p' : Program) (sides : Entry → Side) where
     own_made : Go → (words : ℕ) (x : HeapObject) (st : List Value) → Both (made words x st s f) (made words x st s' f')
     own_made h words x st =
         subst (λ heap. Both (made words x st s f)
-        (if has_room heap words then goes_with (record s' { heap = heap ++ x ∷ [] }) f' (object (length heap) ∷ st) else raises thrown.OutOfMemoryError)) (sym ss.heap)
-        (both_if (has_room s.heap words) (goes_with (record s { heap = s.heap ++ x ∷ [] }) f (object (length s.heap) ∷ st)) (goes_with (record s' { heap = s.heap ++ x ∷ [] }) f' (object (length s.heap) ∷ st))
+        (if has_room heap words then goes_with (record s' { heap = heap ++ x ∷ [] }) f' (object (length heap) ∷ st) else raises thrown.OutOfMemoryError))
+        (sym ss.heap)
+        (both_if (has_room s.heap words) (goes_with (record s { heap = s.heap ++ x ∷ [] }) f (object (length s.heap) ∷ st))
+        (goes_with (record s' { heap = s.heap ++ x ∷ [] }) f' (object (length s.heap) ∷ st))
         (raises thrown.OutOfMemoryError) (raises thrown.OutOfMemoryError) (stored h (s.heap ++ x ∷ []) (object (length s.heap) ∷ st)) refl)
 
     makes_array_alike : Go → (element : FieldType) (st : List Value) → Both (by_make_array element st s f) (by_make_array element st s' f')
@@ -227,7 +234,8 @@ module _ (p p' : Program) (sides : Entry → Side) where
     measures_alike : Go → (st : List Value) → Both (by_measure st s f) (by_measure st s' f')
     measures_alike h (null ∷ st) = refl
     measures_alike h (object k ∷ st) =
-        subst (λ heap. Both (measured (slice_get s.heap k) st s f) (measured (slice_get heap k) st s' f')) (sym ss.heap) (own_measured h (slice_get s.heap k) st)
+        subst (λ heap. Both (measured (slice_get s.heap k) st s f) (measured (slice_get heap k) st s' f')) (sym ss.heap)
+        (own_measured h (slice_get s.heap k) st)
     measures_alike h _ = tt
 
     -- ---- throwables and printing
@@ -247,15 +255,18 @@ module _ (p p' : Program) (sides : Entry → Side) where
 
     throws_alike : (st : List Value) → Both (by_throw st s) (by_throw st s')
     throws_alike (null ∷ st) = refl
-    throws_alike (v ∷ st) = subst (λ heap. Both (thrown_up (thrown_of s.heap v) v) (thrown_up (thrown_of heap v) v)) (sym ss.heap) (own_up (thrown_of s.heap v) v)
+    throws_alike (v ∷ st) =
+        subst (λ heap. Both (thrown_up (thrown_of s.heap v) v) (thrown_up (thrown_of heap v) v)) (sym ss.heap) (own_up (thrown_of s.heap v) v)
     throws_alike [] = tt
 
     own_print : Go → (line : List ℕ) (v : Value) (st : List Value) → Both (by_print line v st s f) (by_print line v st s' f')
     own_print h line null st = refl
     own_print h line print_stream st =
         subst (λ output. Both (by_print line print_stream st s f)
-        (if nat_le (length output + (length line + 1)) most_printed then goes_with (record s' { output = output ++ (line ++ 10 ∷ []) }) f' st else gets_stuck)) (sym ss.output)
-        (both_if (nat_le (length s.output + (length line + 1)) most_printed) (goes_with (record s { output = s.output ++ (line ++ 10 ∷ []) }) f st) (goes_with (record s' { output = s.output ++ (line ++ 10 ∷ []) }) f' st)
+        (if nat_le (length output + (length line + 1)) most_printed then goes_with
+        (record s' { output = output ++ (line ++ 10 ∷ []) }) f' st else gets_stuck)) (sym ss.output)
+        (both_if (nat_le (length s.output + (length line + 1)) most_printed) (goes_with (record s { output = s.output ++ (line ++ 10 ∷ []) }) f st)
+        (goes_with (record s' { output = s.output ++ (line ++ 10 ∷ []) }) f' st)
         gets_stuck gets_stuck (printed h (s.output ++ (line ++ 10 ∷ [])) st) tt)
     own_print h line v st = tt
 
@@ -268,7 +279,8 @@ module _ (p p' : Program) (sides : Entry → Side) where
 
     -- ---- local variables
 
-    own_load : Go → (c : ComputationalType) (v : Option Value) (st : List Value) → Both (by_load c v s (record f { stack = st })) (by_load c v s' (record f' { stack = st }))
+    own_load : Go → (c : ComputationalType) (v : Option Value) (st : List Value)
+        → Both (by_load c v s (record f { stack = st })) (by_load c v s' (record f' { stack = st }))
     own_load h c None st = tt
     own_load h c (Some v) st =
         both_if (is_of c v) (goes_with s f (v ∷ st)) (goes_with s' f' (v ∷ st)) gets_stuck gets_stuck (going h (v ∷ st)) tt
@@ -299,7 +311,8 @@ module _ (p p' : Program) (sides : Entry → Side) where
     own_store h c k off (v ∷ st) = by (is_of c v) refl
       where
         by : (b : Bool) → is_of c v ≡ b
-            → Both (if b then goes s (moved f (f.place + 1) (put_local k v f.locals) st) else gets_stuck) (if b then goes s' (moved f' (f'.place + 1) (put_local (twin_slot t.slot k) v f'.locals) st) else gets_stuck)
+            → Both (if b then goes s (moved f (f.place + 1) (put_local k v f.locals) st) else gets_stuck)
+            (if b then goes s' (moved f' (f'.place + 1) (put_local (twin_slot t.slot k) v f'.locals) st) else gets_stuck)
         by false e = tt
         by true e = (
           ss,
@@ -311,7 +324,8 @@ module _ (p p' : Program) (sides : Entry → Side) where
         → Both (by_count k by v s (record f { stack = st })) (by_count (twin_slot t.slot k) by v s' (record f' { stack = st }))
     own_count h k by (Some (int x)) st = (
       ss,
-      on (f'.place + 1) (f.place + 1) h (slice_set f.locals k (Some (int (int_wrapping_add w32 x by)))) (slice_set f'.locals (twin_slot t.slot k) (Some (int (int_wrapping_add w32 x by))))
+      on (f'.place + 1) (f.place + 1) h (slice_set f.locals k (Some (int (int_wrapping_add w32 x by))))
+          (slice_set f'.locals (twin_slot t.slot k) (Some (int (int_wrapping_add w32 x by))))
           (sets_local a t.slot f.locals f'.locals (image new f.place early) o.locals k (int (int_wrapping_add w32 x by)) refl) st,
     )
     own_count h k by _ st = tt
@@ -338,7 +352,8 @@ module _ (p p' : Program) (sides : Entry → Side) where
     own_inverse target to h h' None = tt
     own_inverse target to h h' (Some x) = (ss, by x.jumps)
       where
-        by : (b : Bool) → SameFrame p p' sides (at_place f (if b then to else f.place + 1) x.stack) (at_place f' (if not b then target else f'.place + 1) x.stack)
+        by : (b : Bool)
+            → SameFrame p p' sides (at_place f (if b then to else f.place + 1) x.stack) (at_place f' (if not b then target else f'.place + 1) x.stack)
         by true = on_to (f'.place + 1) to h' x.stack
         by false = on_to target (f.place + 1) h x.stack
 
@@ -360,7 +375,8 @@ module _ (p p' : Program) (sides : Entry → Side) where
         let size = ss.counts at.class field.class field.class_is in
         let lt : at.field < length (values_of s at.class) = omega arith in
         both_if (is_of_type type v)
-        (goes_with (record s { statics = with_static s.statics at (stored_as type v) }) f st) (goes_with (record s' { statics = with_static s'.statics at (stored_as type v) }) f' st)
+        (goes_with (record s { statics = with_static s.statics at (stored_as type v) }) f st)
+        (goes_with (record s' { statics = with_static s'.statics at (stored_as type v) }) f' st)
         gets_stuck gets_stuck
         (puts_same p p' sides s s' at (stored_as type v) lt ss, on_next h st) tt
 
@@ -376,9 +392,11 @@ module _ (p p' : Program) (sides : Entry → Side) where
         → Both (by_call callee n r f) (by_call callee (sides callee).twin.max_locals r f')
     own_call callee ps n c h None fit = tt
     own_call callee ps n c h (Some x) fit = (
-      subst (λ m. SameFrame p p' sides (new_frame callee (locals_for m x.values)) (new_frame callee (locals_for (sides callee).twin.max_locals x.values))) (sym c.locals_are)
+      subst (λ m. SameFrame p p' sides (new_frame callee (locals_for m x.values)) (new_frame callee (locals_for (sides callee).twin.max_locals x.values)))
+          (sym c.locals_are)
           (enters_same p p' sides callee c.side c.entered x.values
-          (fit ∙ ap (sum_by slots_of) c.parameters_are ∙ sym (static_slots (sides callee).body.flags (sides callee).body.arg_slots (sides callee).body.desc c.side.well.arguments c.static))),
+          (fit ∙ ap (sum_by slots_of) c.parameters_are
+          ∙ sym (static_slots (sides callee).body.flags (sides callee).body.arg_slots (sides callee).body.desc c.side.well.arguments c.static))),
       record { one = record { method = o.one.method; side = o.one.side; entered = o.one.entered }; insn = new; early = early; here = o.here; next = h; stack = refl; locals = o.locals },
     )
 
@@ -399,21 +417,24 @@ module _ (p p' : Program) (sides : Entry → Side) where
 
     pub performed : (op op' : Operation) → Alike t f'.place f.place op op' → SameResult (perform op s f) (perform op' s' f')
     unfolding perform
-    performed (pushes v) op' h = led (pushes v) op' (pushes v) h.0 (over (λ st. Both (goes_with s f (v ∷ f.stack)) (goes_with s' f' (v ∷ st))) (going h.1 (v ∷ f.stack)))
+    performed (pushes v) op' h =
+        led (pushes v) op' (pushes v) h.0 (over (λ st. Both (goes_with s f (v ∷ f.stack)) (goes_with s' f' (v ∷ st))) (going h.1 (v ∷ f.stack)))
     performed (computes op) op' h =
         led (computes op) op' (computes op) h.0
         (over (λ st. Both (by_effect (effect op f.stack) s f) (by_effect (effect op st) s' (with_stack f' st))) (own_effect h.1 (effect op f.stack) f.stack))
     performed (loads c k) op' h =
         led (loads c k) op' (loads c (twin_slot t.slot k)) h.0
         (subst (λ r. Both (by_load c (slice_index_or f.locals k None) s f) (by_load c r s' f')) (sym (read_is k))
-        (over (λ st. Both (by_load c (slice_index_or f.locals k None) s f) (by_load c (slice_index_or f.locals k None) s' (with_stack f' st))) (own_load h.1 c (slice_index_or f.locals k None) f.stack)))
+        (over (λ st. Both (by_load c (slice_index_or f.locals k None) s f) (by_load c (slice_index_or f.locals k None) s' (with_stack f' st)))
+        (own_load h.1 c (slice_index_or f.locals k None) f.stack)))
     performed (stores c k) op' h =
         led (stores c k) op' (stores c (twin_slot t.slot k)) h.0
         (over (λ st. Both (by_store c k f.stack s f) (by_store c (twin_slot t.slot k) st s' f')) (own_store h.2 c k h.1 f.stack))
     performed (counts k by) op' h =
         led (counts k by) op' (counts (twin_slot t.slot k) by) h.0
         (subst (λ r. Both (by_count k by (slice_index_or f.locals k None) s f) (by_count (twin_slot t.slot k) by r s' f')) (sym (read_is k))
-        (over (λ st. Both (by_count k by (slice_index_or f.locals k None) s f) (by_count (twin_slot t.slot k) by (slice_index_or f.locals k None) s' (with_stack f' st)))
+        (over (λ st. Both (by_count k by (slice_index_or f.locals k None) s f)
+        (by_count (twin_slot t.slot k) by (slice_index_or f.locals k None) s' (with_stack f' st)))
         (own_count h.1 k by (slice_index_or f.locals k None) f.stack)))
     performed (tests op to) op' (target, inl h) =
         led (tests op to) op' (tests op target) h.0
@@ -421,21 +442,27 @@ module _ (p p' : Program) (sides : Entry → Side) where
     performed (tests op to) op' (target, inr h) =
         led (tests op to) op' (tests (inverse_of op) target) h.0
         (over (λ st. Both (by_test (test_of op f.stack) to s f) (by_test (test_of (inverse_of op) st) target s' f'))
-        (subst (λ r. Both (by_test (test_of op f.stack) to s f) (by_test r target s' f')) (sym (inverse_tests op h.1 f.stack)) (own_inverse target to h.2 h.3 (test_of op f.stack))))
+        (subst (λ r. Both (by_test (test_of op f.stack) to s f) (by_test r target s' f')) (sym (inverse_tests op h.1 f.stack))
+        (own_inverse target to h.2 h.3 (test_of op f.stack))))
     performed (jumps to) op' h =
         led (jumps to) op' (jumps h.0) h.1 (ss, over (λ st. SameFrame p p' sides (at_place f to f.stack) (at_place f' h.0 st)) (on_to h.0 to h.2 f.stack))
     performed (indexes low d arms) op' h =
         led (indexes low d arms) op' (indexes low (h.0 d) (map h.0 arms)) h.1
         (over (λ st. Both (by_switch (table_target low d arms) f.stack s f) (by_switch (table_target low (h.0 d) (map h.0 arms)) st s' f'))
-        (own_switch (table_target low d arms) (table_target low (h.0 d) (map h.0 arms)) (λ key. index_arm low d arms key h.0 (λ to to'. GoesOnAt t to' to) h.2) f.stack))
+        (own_switch (table_target low d arms) (table_target low (h.0 d) (map h.0 arms))
+        (λ key. index_arm low d arms key h.0 (λ to to'. GoesOnAt t to' to) h.2) f.stack))
     performed (matches d arms) op' h =
         led (matches d arms) op' (matches (h.0 d) (map (arm_with_place h.0) arms)) h.1
         (over (λ st. Both (by_switch (lookup_target d arms) f.stack s f) (by_switch (lookup_target (h.0 d) (map (arm_with_place h.0) arms)) st s' f'))
-        (own_switch (lookup_target d arms) (lookup_target (h.0 d) (map (arm_with_place h.0) arms)) (λ key. match_arm d arms key h.0 (λ to to'. GoesOnAt t to' to) h.2) f.stack))
-    performed (reads types) op' h = led (reads types) op' (reads types) h.0 (over (λ st. Both (by_read types f.stack s f) (by_read types st s' f')) (reads_alike h.1 types f.stack))
-    performed (writes types) op' h = led (writes types) op' (writes types) h.0 (over (λ st. Both (by_write types f.stack s f) (by_write types st s' f')) (writes_alike h.1 types f.stack))
+        (own_switch (lookup_target d arms) (lookup_target (h.0 d) (map (arm_with_place h.0) arms))
+        (λ key. match_arm d arms key h.0 (λ to to'. GoesOnAt t to' to) h.2) f.stack))
+    performed (reads types) op' h =
+        led (reads types) op' (reads types) h.0 (over (λ st. Both (by_read types f.stack s f) (by_read types st s' f')) (reads_alike h.1 types f.stack))
+    performed (writes types) op' h =
+        led (writes types) op' (writes types) h.0 (over (λ st. Both (by_write types f.stack s f) (by_write types st s' f')) (writes_alike h.1 types f.stack))
     performed (makes_array element) op' h =
-        led (makes_array element) op' (makes_array element) h.0 (over (λ st. Both (by_make_array element f.stack s f) (by_make_array element st s' f')) (makes_array_alike h.1 element f.stack))
+        led (makes_array element) op' (makes_array element) h.0
+        (over (λ st. Both (by_make_array element f.stack s f) (by_make_array element st s' f')) (makes_array_alike h.1 element f.stack))
     performed measures op' h = led measures op' measures h.0 (over (λ st. Both (by_measure f.stack s f) (by_measure st s' f')) (measures_alike h.1 f.stack))
     performed (gets at type) op' h =
         let size = ss.counts at.class h.1.class h.1.class_is in
@@ -443,17 +470,24 @@ module _ (p p' : Program) (sides : Entry → Side) where
         let lt : at.field < length (values_of s at.class) = omega arith in
         led (gets at type) op' (gets at type) h.0
         (subst (λ r. Both (by_get (static_at s.statics at) s f) (by_get r s' f')) (sym (reads_same p p' sides s s' at lt ss))
-        (over (λ st. Both (by_get (static_at s.statics at) s f) (by_get (static_at s.statics at) s' (with_stack f' st))) (own_get h.2 (static_at s.statics at) f.stack)))
-    performed (puts at type) op' h = led (puts at type) op' (puts at type) h.0 (over (λ st. Both (by_put at type f.stack s f) (by_put at type st s' f')) (own_put h.2 at h.1 type f.stack))
+        (over (λ st. Both (by_get (static_at s.statics at) s f) (by_get (static_at s.statics at) s' (with_stack f' st)))
+        (own_get h.2 (static_at s.statics at) f.stack)))
+    performed (puts at type) op' h =
+        led (puts at type) op' (puts at type) h.0 (over (λ st. Both (by_put at type f.stack s f) (by_put at type st s' f')) (own_put h.2 at h.1 type f.stack))
     performed (invokes callee ps n) op' h =
         led (invokes callee ps n) op' (invokes callee ps (sides callee).twin.max_locals) h.0
-        (over (λ st. Both (by_call callee n (taken_for ps f.stack) f) (by_call callee (sides callee).twin.max_locals (taken_for ps st) f')) (own_call callee ps n h.1 h.2 (taken_for ps f.stack) (taken_fits ps f.stack)))
+        (over (λ st. Both (by_call callee n (taken_for ps f.stack) f) (by_call callee (sides callee).twin.max_locals (taken_for ps st) f'))
+        (own_call callee ps n h.1 h.2 (taken_for ps f.stack) (taken_fits ps f.stack)))
     performed (makes c) op' h =
-        led (makes c) op' (makes c) h.0 (over (λ st. Both (made 1 (throwable c) f.stack s f) (made 1 (throwable c) st s' f')) (own_made h.1 1 (throwable c) f.stack))
-    performed (builds c) op' h = led (builds c) op' (builds c) h.0 (over (λ st. Both (by_build c f.stack s f) (by_build c st s' f')) (builds_alike h.1 c f.stack))
-    performed (prints k) op' h = led (prints k) op' (prints k) h.0 (over (λ st. Both (by_println k f.stack s f) (by_println k st s' f')) (prints_alike h.1 k f.stack))
+        led (makes c) op' (makes c) h.0
+        (over (λ st. Both (made 1 (throwable c) f.stack s f) (made 1 (throwable c) st s' f')) (own_made h.1 1 (throwable c) f.stack))
+    performed (builds c) op' h =
+        led (builds c) op' (builds c) h.0 (over (λ st. Both (by_build c f.stack s f) (by_build c st s' f')) (builds_alike h.1 c f.stack))
+    performed (prints k) op' h =
+        led (prints k) op' (prints k) h.0 (over (λ st. Both (by_println k f.stack s f) (by_println k st s' f')) (prints_alike h.1 k f.stack))
     performed (fetches class init) op' h = absurd h
-    performed (returns c type) op' h = led (returns c type) op' (returns c type) h (over (λ st. Both (by_return c type f.stack) (by_return c type st)) (own_return c type f.stack))
+    performed (returns c type) op' h =
+        led (returns c type) op' (returns c type) h (over (λ st. Both (by_return c type f.stack) (by_return c type st)) (own_return c type f.stack))
     performed returns_nothing op' h = led returns_nothing op' returns_nothing h refl
     performed throws_top op' h = led throws_top op' throws_top h (over (λ st. Both (by_throw f.stack s) (by_throw st s')) (throws_alike f.stack))
     performed outside op' h = led outside op' outside h tt

@@ -31,7 +31,8 @@ module _ (p p' : Program) (sides : Entry → Side) where
 
   counted_more : (r : Program) (f : Frame) (fs : List Frame) → is_init_method r f.method ≡ false → counted_frames r (f ∷ fs) ≡ suc (counted_frames r fs)
   counted_more r f fs e =
-      ap (λ b. length (if not b then f ∷ filter (λ (g : Frame). not (is_init_method r g.method)) fs else filter (λ (g : Frame). not (is_init_method r g.method)) fs)) e
+      ap (λ b. length (if not b then f
+      ∷ filter (λ (g : Frame). not (is_init_method r g.method)) fs else filter (λ (g : Frame). not (is_init_method r g.method)) fs)) e
 
   waits_counted : (fs fs' : List Frame) → SameWaits p p' sides fs fs' → counted_frames p' fs' ≡ counted_frames p fs
   waits_counted [] [] w = refl
@@ -40,7 +41,8 @@ module _ (p p' : Program) (sides : Entry → Side) where
   waits_counted [] (f' ∷ fs') w = absurd w
   waits_counted (f ∷ fs) [] w = absurd w
 
-  overflow_same : (m m' : Entry) → is_init_method p m ≡ false → is_init_method p' m' ≡ false → (f f' : Frame) (fs fs' : List Frame) → OneMethod p p' sides f f' → SameWaits p p' sides fs fs'
+  overflow_same : (m m' : Entry) → is_init_method p m ≡ false → is_init_method p' m' ≡ false → (f f' : Frame) (fs fs' : List Frame)
+      → OneMethod p p' sides f f' → SameWaits p p' sides fs fs'
       → overflows p' m' (f' ∷ fs') ≡ overflows p m (f ∷ fs)
   overflow_same m m' e e' f f' fs fs' o w =
       ap₂ (λ b n. not b && nat_le 128 n) (e' ∙ sym e)
@@ -64,14 +66,16 @@ module _ (p p' : Program) (sides : Entry → Side) where
 
   -- ---- the results of one own turn
 
-  module _ (s s' : Shared) (ss : SameShared p p' sides s s') (f f' : Frame) (fs fs' : List Frame) (new : Insn) (early : Option ℕ) (o : AtImage p p' sides f f' new early) (w : SameWaits p p' sides fs fs') where
+  module _ (s s' : Shared) (ss : SameShared p p' sides s s') (f f' : Frame) (fs fs' : List Frame)
+      (new : Insn) (early : Option ℕ) (o : AtImage p p' sides f f' new early) (w : SameWaits p p' sides fs fs') where
     abbrev Both : Result → Result → Type 0
     Both r r' = SameAfter p p' sides (after_result p r s f fs) (after_result p' r' s' f' fs')
 
     raised_same : (c : Thrown) → SameAfter p p' sides (thrown_in p (placed c s) (f ∷ fs)) (thrown_in p' (placed c s') (f' ∷ fs'))
     raised_same c = thrown_same p p' sides (placed c s) (placed c s') (placed_same p p' sides s s' ss c) f f' fs fs' new early o w
 
-    both_if : (b : Bool) (x y x' y' : After) → SameAfter p p' sides x x' → SameAfter p p' sides y y' → SameAfter p p' sides (if b then x else y) (if b then x' else y')
+    both_if : (b : Bool) (x y x' y' : After) → SameAfter p p' sides x x' → SameAfter p p' sides y y'
+        → SameAfter p p' sides (if b then x else y) (if b then x' else y')
     both_if true x y x' y' h k = h
     both_if false x y x' y' h k = k
 
@@ -80,15 +84,19 @@ module _ (p p' : Program) (sides : Entry → Side) where
     after_same (hits class id g) (hits class' id' g') h = record { shared = ss; thread = inl (h, w) }
     after_same (calls m ls g) (calls m' ls' g') h =
         let one = h.0.one in
-        subst (λ b. SameAfter p p' sides (if overflows p m (f ∷ fs) then thrown_in p (placed thrown.StackOverflowError s) (f ∷ fs) else after (running (new_frame m ls) (g ∷ fs)) s)
+        subst (λ b. SameAfter p p' sides
+        (if overflows p m (f ∷ fs) then thrown_in p (placed thrown.StackOverflowError s) (f ∷ fs) else after (running (new_frame m ls) (g ∷ fs)) s)
         (if b then thrown_in p' (placed thrown.StackOverflowError s') (f' ∷ fs') else after (running (new_frame m' ls') (g' ∷ fs')) s'))
-        (sym (overflow_same m m' (old_no_init (new_frame m ls) (new_frame m' ls') one) (new_no_init (new_frame m ls) (new_frame m' ls') one) f f' fs fs' o.one w))
+        (sym (overflow_same m m' (old_no_init (new_frame m ls) (new_frame m' ls') one)
+        (new_no_init (new_frame m ls) (new_frame m' ls') one) f f' fs fs' o.one w))
         (both_if (overflows p m (f ∷ fs)) _ _ _ _ (raised_same thrown.StackOverflowError) (record { shared = ss; thread = inl (h.0, (h.1, w)) }))
     after_same (leaves v) (leaves v') h =
         subst (λ x. SameAfter p p' sides (after (left v fs) s) (after (left x fs') s')) (sym h) (record { shared = ss; thread = left_same v fs fs' w })
     after_same (raises c) (raises c') h =
         subst (λ x. SameAfter p p' sides (thrown_in p (placed c s) (f ∷ fs)) (thrown_in p' (placed x s') (f' ∷ fs'))) (sym h) (raised_same c)
     after_same (throws c v) (throws c' v') h =
-        thrown_same p p' sides (record { thrown = c; value = v; shared = s }) (record { thrown = c'; value = v'; shared = s' }) (record { thrown = h.0; value = h.1; shared = ss }) f f' fs fs' new early o w
-    after_same gets_stuck gets_stuck h = record { shared = ss; thread = record { same = o.one.method; side = o.one.side; item = image new f.place early; here = o.here; at = refl } }
+        thrown_same p p' sides (record { thrown = c; value = v; shared = s }) (record { thrown = c'; value = v'; shared = s' })
+        (record { thrown = h.0; value = h.1; shared = ss }) f f' fs fs' new early o w
+    after_same gets_stuck gets_stuck h =
+        record { shared = ss; thread = record { same = o.one.method; side = o.one.side; item = image new f.place early; here = o.here; at = refl } }
     after_same _ _ h = absurd h

@@ -17,8 +17,10 @@ module _ {X : Type 0} (p : X → Bool) where
 
   next_found : (n m : ℕ) → cond (nat_lt (suc n) (suc m)) (Some (suc n)) None ≡ option_map suc (cond (nat_lt n m) (Some n) None)
   next_found n m = ⊎_elim
-      (λ lt. cond-true (nat_lt (suc n) (suc m)) (Some (suc n)) None (lt-ltb (suc n) (suc m) (omega arith)) ∙ sym (ap (option_map suc) (cond-true (nat_lt n m) (Some n) None (lt-ltb n m lt))))
-      (λ le. cond-false (nat_lt (suc n) (suc m)) (Some (suc n)) None (le-ltb (suc n) (suc m) (omega arith)) ∙ sym (ap (option_map suc) (cond-false (nat_lt n m) (Some n) None (le-ltb n m le))))
+      (λ lt. cond-true (nat_lt (suc n) (suc m)) (Some (suc n)) None (lt-ltb (suc n) (suc m) (omega arith))
+      ∙ sym (ap (option_map suc) (cond-true (nat_lt n m) (Some n) None (lt-ltb n m lt))))
+      (λ le. cond-false (nat_lt (suc n) (suc m)) (Some (suc n)) None (le-ltb (suc n) (suc m) (omega arith))
+      ∙ sym (ap (option_map suc) (cond-false (nat_lt n m) (Some n) None (le-ltb n m le))))
       (cases_lt n m)
 
   pub position_place : (xs : List X) → position p xs ≡ place p xs
@@ -26,8 +28,12 @@ module _ {X : Type 0} (p : X → Bool) where
   position_place (x ∷ xs) = by (position_place xs) (p x) refl
     where
       by : position p xs ≡ place p xs → (b : Bool) → p x ≡ b → position p (x ∷ xs) ≡ cond b (Some 0) (option_map suc (place p xs))
-      by go true e = ap (λ n. cond (nat_lt n (length (x ∷ xs))) (Some n) None) (length_cons x xs true e) ∙ cond-true (nat_lt 0 (length (x ∷ xs))) (Some 0) None (lt-ltb 0 (length (x ∷ xs)) (omega arith))
-      by go false e = ap (λ n. cond (nat_lt n (length (x ∷ xs))) (Some n) None) (length_cons x xs false e) ∙ next_found (position_or_len p xs) (length xs) ∙ ap (option_map suc) go
+      by go true e =
+          ap (λ n. cond (nat_lt n (length (x ∷ xs))) (Some n) None) (length_cons x xs true e)
+          ∙ cond-true (nat_lt 0 (length (x ∷ xs))) (Some 0) None (lt-ltb 0 (length (x ∷ xs)) (omega arith))
+      by go false e =
+          ap (λ n. cond (nat_lt n (length (x ∷ xs))) (Some n) None) (length_cons x xs false e) ∙ next_found (position_or_len p xs) (length xs)
+          ∙ ap (option_map suc) go
 
   -- what stands there
   pub place_there : (xs : List X) (k : ℕ) → place p xs ≡ Some k → (x : X) × (slice_get xs k ≡ Some x) × (p x ≡ true)
@@ -38,7 +44,8 @@ module _ {X : Type 0} (p : X → Bool) where
       later None k e = absurd (none-some k e)
       later (Some j) k e = (j, refl, sym (same_Some (suc j) k e))
 
-      by : ((j : ℕ) → place p xs ≡ Some j → (y : X) × (slice_get xs j ≡ Some y) × (p y ≡ true)) → (b : Bool) → p x ≡ b → cond b (Some 0) (option_map suc (place p xs)) ≡ Some k → (y : X) × (slice_get (x ∷ xs) k ≡ Some y) × (p y ≡ true)
+      by : ((j : ℕ) → place p xs ≡ Some j → (y : X) × (slice_get xs j ≡ Some y) × (p y ≡ true)) → (b : Bool) → p x ≡ b
+          → cond b (Some 0) (option_map suc (place p xs)) ≡ Some k → (y : X) × (slice_get (x ∷ xs) k ≡ Some y) × (p y ≡ true)
       by go true q e = (x, ap (slice_get (x ∷ xs)) (sym (same_Some 0 k e)), q)
       by go false q e =
           let l = later (place p xs) k e in
@@ -54,7 +61,8 @@ module _ {X : Type 0} (p : X → Bool) where
       later None u h e = absurd (none-some k e)
       later (Some j) u h e = ap (option_map suc) (h j refl) ∙ e
 
-      by : ((j : ℕ) → place p xs ≡ Some j → place p (xs ++ ys) ≡ Some j) → (b : Bool) → cond b (Some 0) (option_map suc (place p xs)) ≡ Some k → cond b (Some 0) (option_map suc (place p (xs ++ ys))) ≡ Some k
+      by : ((j : ℕ) → place p xs ≡ Some j → place p (xs ++ ys) ≡ Some j) → (b : Bool) → cond b (Some 0) (option_map suc (place p xs)) ≡ Some k
+          → cond b (Some 0) (option_map suc (place p (xs ++ ys))) ≡ Some k
       by go true e = e
       by go false e = later (place p xs) (place p (xs ++ ys)) go e
 
@@ -70,7 +78,9 @@ module _ {X : Type 0} (p : X → Bool) where
       up true n = refl
       up false n = refl
 
-      by : (place p xs ≡ None → place p (xs ++ y ∷ []) ≡ cond (p y) (Some (length xs)) None) → (b : Bool) → cond b (Some 0) (option_map suc (place p xs)) ≡ None → cond b (Some 0) (option_map suc (place p (xs ++ y ∷ []))) ≡ cond (p y) (Some (length (x ∷ xs))) None
+      by : (place p xs ≡ None → place p (xs ++ y ∷ []) ≡ cond (p y) (Some (length xs)) None) → (b : Bool)
+          → cond b (Some 0) (option_map suc (place p xs)) ≡ None
+          → cond b (Some 0) (option_map suc (place p (xs ++ y ∷ []))) ≡ cond (p y) (Some (length (x ∷ xs))) None
       by go true e = absurd (none-some 0 (sym e))
       by go false e = ap (option_map suc) (go (none (place p xs) e)) ∙ up (p y) (length xs)
 

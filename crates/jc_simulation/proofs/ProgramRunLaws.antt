@@ -24,7 +24,8 @@ use Rattle.jc_simulation.proofs.RunLaws as runs
 
 -- ---- runs
 
-module _ (p p' : Program) (marks : Entry → Marks) (t : TwinProgram p p') (are : AreMarks p p' marks) (case : Case) (entries : List Entry) (h : AreEntries p case.threads entries) where
+module _ (p p' : Program) (marks : Entry → Marks) (t : TwinProgram p p') (are : AreMarks p p' marks)
+    (case : Case) (entries : List Entry) (h : AreEntries p case.threads entries) where
   begins : Mid p p' (sides p p' t marks are) (begin_case p case) (begin_case p' case)
   begins = case_together p p' (sides p p' t marks are) (are_sides p p' t marks are) case entries h
 
@@ -34,22 +35,28 @@ module _ (p p' : Program) (marks : Entry → Marks) (t : TwinProgram p p') (are 
       record {
         turns = s.0;
         spread = s.1;
-        same = λ others is. (runs.spread_same p p' (sides p p' t marks are) marks (are_sides p p' t marks are) (are_told p p' t marks are) q others (begin_case p case) (begin_case p' case) begins is).same;
-        short = λ others is. (runs.spread_same p p' (sides p p' t marks are) marks (are_sides p p' t marks are) (are_told p p' t marks are) q others (begin_case p case) (begin_case p' case) begins is).short;
+        same =
+            λ others is. (runs.spread_same p p' (sides p p' t marks are) marks (are_sides p p' t marks are) (are_told p p' t marks are) q others
+            (begin_case p case) (begin_case p' case) begins is).same;
+        short =
+            λ others is. (runs.spread_same p p' (sides p p' t marks are) marks (are_sides p p' t marks are) (are_told p p' t marks are) q others
+            (begin_case p case) (begin_case p' case) begins is).short;
       }
 
 pub runs_are_same : RunsAreSame
 runs_are_same p p' marks t are case entries h turns =
     let s = sides p p' t marks are in
     together_same p p' s marks (are_sides p p' t marks are) (are_told p p' t marks are) _ _
-    (runs.same_run p p' s marks (are_sides p p' t marks are) (are_told p p' t marks are) turns (begin_case p case) (begin_case p' case) (begins p p' marks t are case entries h))
+    (runs.same_run p p' s marks (are_sides p p' t marks are) (are_told p p' t marks are) turns (begin_case p case) (begin_case p' case)
+    (begins p p' marks t are case entries h))
 
 pub schedules_are_kept : SchedulesAreKept
 schedules_are_kept p p' marks t are case entries h q = spreads p p' marks t are case entries h q
 
 pub probe_turns_are_few : ProbeTurnsAreFew
 probe_turns_are_few p p' marks t are case entries h k turns =
-    runs.few_probe_turns p p' (sides p p' t marks are) marks (are_sides p p' t marks are) (are_told p p' t marks are) k turns (begin_case p case) (begin_case p' case) (begins p p' marks t are case entries h)
+    runs.few_probe_turns p p' (sides p p' t marks are) marks (are_sides p p' t marks are) (are_told p p' t marks are) k turns (begin_case p case)
+    (begin_case p' case) (begins p p' marks t are case entries h)
 
 -- ---- one turn
 
@@ -85,14 +92,19 @@ module _ (p p' : Program) (t : TwinProgram p p') where
       same_body x y e = cc
 
       by_body : (c : Linked) → slice_get p.classes m.class ≡ Some c → (o : Option Body) → slice_get c.bodies m.method ≡ o → Has m
-      by_body c e None k = (no_marks, λ d b h j. absurd (none-some b (sym k ∙ ap (λ (x : Linked). slice_get x.bodies m.method) (same_class c d (sym e ∙ h)) ∙ j)))
+      by_body c e None k =
+          (no_marks, λ d b h j. absurd (none-some b (sym k ∙ ap (λ (x : Linked). slice_get x.bodies m.method) (same_class c d (sym e ∙ h)) ∙ j)))
       by_body c e (Some b) k =
           let s = body_seen p p' t m.class m.method c b e k in (
             s.2,
             λ d x h j.
                 let class = same_class c d (sym e ∙ h) in
-                let body = same_body b x (sym k ∙ ap (λ (y : Linked). slice_get y.bodies m.method) class ∙ j) in
-                (s.0, s.1, subst (λ z. IsSeenAt p p' m.class m.method d s.0 z s.1 s.2) body (subst (λ z. IsSeenAt p p' m.class m.method z s.0 b s.1 s.2) class s.3)),
+                let body = same_body b x (sym k ∙ ap (λ (y : Linked). slice_get y.bodies m.method) class ∙ j) in (
+                  s.0,
+                  s.1,
+                  subst (λ z. IsSeenAt p p' m.class m.method d s.0 z s.1 s.2) body
+                      (subst (λ z. IsSeenAt p p' m.class m.method z s.0 b s.1 s.2) class s.3),
+                ),
           )
 
       by : (o : Option Linked) → slice_get p.classes m.class ≡ o → Has m

@@ -53,7 +53,8 @@ pub idle : (r : Program) (w : World) (t : ℕ) → runs w t ≡ false → step r
 unfolding step
 idle r w t h = idle_at r w t (slice_get w.threads t) refl h
 
-step_at : (r : Program) (w : World) (t : ℕ) (x : Thread) → slice_get w.threads t ≡ Some x → slice_get (step r w t).threads t ≡ Some (turn_of r w.shared x).thread
+step_at : (r : Program) (w : World) (t : ℕ) (x : Thread) → slice_get w.threads t ≡ Some x
+    → slice_get (step r w t).threads t ≡ Some (turn_of r w.shared x).thread
 unfolding step
 step_at r w t x e = ap (λ o. slice_get (step_of r w t o).threads t) e ∙ get_set w.threads t x (turn_of r w.shared x).thread e
 
@@ -79,7 +80,8 @@ module _ (p' : Program) (marks : Entry → Marks) where
   pub kept_append : (xs ys : List ℕ) (w : World) → kept p' marks w (xs ++ ys) ≡ kept p' marks w xs ++ kept p' marks (run_from p' w xs) ys
   kept_append [] ys w = refl
   kept_append (k ∷ xs) ys w =
-      ap (turn_if p' marks (is_kept p' marks w k) k) (kept_append xs ys (step p' w k)) ∙ turn_append (is_kept p' marks w k) k (kept p' marks (step p' w k) xs) (kept p' marks (run_from p' w (k ∷ xs)) ys)
+      ap (turn_if p' marks (is_kept p' marks w k) k) (kept_append xs ys (step p' w k))
+      ∙ turn_append (is_kept p' marks w k) k (kept p' marks (step p' w k) xs) (kept p' marks (run_from p' w (k ∷ xs)) ys)
 
   -- the lead behind one turn
   next_lead : (w : World) (t n : ℕ) → IsLead p' marks w t (suc n) → IsLead p' marks (step p' w t) t n
@@ -89,7 +91,8 @@ module _ (p' : Program) (marks : Entry → Marks) where
   pub lead_kept : (n t : ℕ) (w : World) → IsLead p' marks w t n → kept p' marks w (replicate n t ++ (t ∷ [])) ≡ t ∷ []
   lead_kept zero t w l = ap (λ b. turn_if p' marks b t []) l.comes
   lead_kept (suc n) t w l =
-      ap (λ b. turn_if p' marks b t (kept p' marks (step p' w t) (replicate n t ++ (t ∷ [])))) (l.none_before 0 (omega arith)) ∙ lead_kept n t (step p' w t) (next_lead w t n l)
+      ap (λ b. turn_if p' marks b t (kept p' marks (step p' w t) (replicate n t ++ (t ∷ [])))) (l.none_before 0 (omega arith))
+      ∙ lead_kept n t (step p' w t) (next_lead w t n l)
 
 module _ (p p' : Program) (sides : Entry → Side) (marks : Entry → Marks) (are : AreSides p p' sides) (told : AreMarksOf p p' marks sides) where
   abbrev Pair : World → World → Type 0
@@ -158,7 +161,8 @@ module _ (p p' : Program) (sides : Entry → Side) (marks : Entry → Marks) (ar
     runs_on : runs (step p' w' t) t ≡ true
     falls : rank_of (step p' w' t) t < rank_of w' t
 
-  nearer_at : (w w' : World) (t : ℕ) → Pair w w' → (o o' : Option Thread) → slice_get w'.threads t ≡ o' → SameOne o o' → runs_at o' ≡ true → keeps_at p' marks o' ≡ false → Nearer w' t
+  nearer_at : (w w' : World) (t : ℕ) → Pair w w' → (o o' : Option Thread) → slice_get w'.threads t ≡ o' → SameOne o o' → runs_at o' ≡ true
+      → keeps_at p' marks o' ≡ false → Nearer w' t
   nearer_at w w' t h None None e s r n = absurd (true≢false (sym r))
   nearer_at w w' t h (Some x) (Some x') e s r n =
       let a = aside_thread p p' sides marks are told w.shared w'.shared h.shared x x' s r n in
@@ -199,7 +203,8 @@ module _ (p p' : Program) (sides : Entry → Side) (marks : Entry → Marks) (ar
       let is = rank_top p p' sides f f' fs' h.0 in
       omega (arith, small, is)
   thread_small s s' ss (running f fs) (running f' fs') (inr i) =
-      let is : thread_rank p p' sides (running f' fs') ≡ inside_rank p p' sides f'.place fs' = ap (λ b. frames_rank p p' sides b f' fs') (inside_named p p' sides are s s' ss f f' fs fs' i) in
+      let is : thread_rank p p' sides (running f' fs') ≡ inside_rank p p' sides f'.place fs' =
+      ap (λ b. frames_rank p p' sides b f' fs') (inside_named p p' sides are s s' ss f f' fs fs' i) in
       let small = inside_small f'.place fs' in
       omega (arith, is, small)
   thread_small s s' ss x (returned v) h = omega arith
@@ -220,7 +225,8 @@ module _ (p p' : Program) (sides : Entry → Side) (marks : Entry → Marks) (ar
 
   -- ---- the turns in front of a kept one
 
-  lead_by : (n : ℕ) (w w' : World) (t : ℕ) → Pair w w' → runs w' t ≡ true → rank_of w' t ≤ n → (b : Bool) → is_kept p' marks w' t ≡ b → (k : ℕ) × IsLead p' marks w' t k
+  lead_by : (n : ℕ) (w w' : World) (t : ℕ) → Pair w w' → runs w' t ≡ true → rank_of w' t ≤ n → (b : Bool) → is_kept p' marks w' t ≡ b
+      → (k : ℕ) × IsLead p' marks w' t k
   lead_by n w w' t h r le true e = (0, record { comes = e; none_before = λ k lt. absurd (omega arith) })
   lead_by zero w w' t h r le false e = let lower = (nearer w w' t h r e).falls in absurd (omega (arith, lower, le))
   lead_by (suc n) w w' t h r le false e =
@@ -229,7 +235,8 @@ module _ (p p' : Program) (sides : Entry → Side) (marks : Entry → Marks) (ar
       let more = lead_by n w (step p' w' t) t (aside_pair w w' t h e) a.runs_on (omega (arith, lower, le)) (is_kept p' marks (step p' w' t) t) refl in
       (suc more.0, record { comes = more.1.comes; none_before = before e more.1 })
     where
-      before : is_kept p' marks w' t ≡ false → {k : ℕ} → IsLead p' marks (step p' w' t) t k → (j : ℕ) → j < suc k → is_kept p' marks (run_from p' w' (replicate j t)) t ≡ false
+      before : is_kept p' marks w' t ≡ false → {k : ℕ} → IsLead p' marks (step p' w' t) t k → (j : ℕ) → j < suc k
+          → is_kept p' marks (run_from p' w' (replicate j t)) t ≡ false
       before e l zero lt = e
       before e l (suc j) lt = l.none_before j (omega arith)
 
@@ -245,7 +252,9 @@ module _ (p p' : Program) (sides : Entry → Side) (marks : Entry → Marks) (ar
 
   -- a turn of the original, and the turns for it
   pub lead_run : (w w' : World) (t n : ℕ) → Pair w w' → IsLead p' marks w' t n → Pair (step p w t) (run_from p' w' (replicate n t ++ (t ∷ [])))
-  lead_run w w' t n h l = subst (λ q. Pair (run_from p w q) (run_from p' w' (replicate n t ++ (t ∷ [])))) (lead_kept p' marks n t w' l) (same_run (replicate n t ++ (t ∷ [])) w w' h)
+  lead_run w w' t n h l =
+      subst (λ q. Pair (run_from p w q) (run_from p' w' (replicate n t ++ (t ∷ [])))) (lead_kept p' marks n t w' l)
+      (same_run (replicate n t ++ (t ∷ [])) w w' h)
 
   idle_same : (w w' : World) (t : ℕ) → Pair w w' → runs w' t ≡ false → step p w t ≡ w
   idle_same w w' t h e = idle p w t (sym (worlds_run w w' t h) ∙ e)
@@ -257,7 +266,8 @@ module _ (p p' : Program) (sides : Entry → Side) (marks : Entry → Marks) (ar
   abbrev OneSpread : World → ℕ → List ℕ → List ℕ → Bool → Type 0
   OneSpread w t q turns b =
       elim b [
-        | true ↦ (n : ℕ) × (rest : List ℕ) × IsLead p' marks w t n × (turns ≡ replicate n t ++ (t ∷ rest)) × IsSpread p' marks (run_from p' w (replicate n t ++ (t ∷ []))) q rest
+        | true ↦ (n : ℕ) × (rest : List ℕ) × IsLead p' marks w t n × (turns ≡ replicate n t ++ (t ∷ rest))
+            × IsSpread p' marks (run_from p' w (replicate n t ++ (t ∷ []))) q rest
         | false ↦ IsSpread p' marks w q turns
       ]
 
@@ -281,7 +291,8 @@ module _ (p p' : Program) (sides : Entry → Side) (marks : Entry → Marks) (ar
   spread_same [] turns w w' h s = record { same = ap (λ l. run_from p w (kept p' marks w' l)) s; short = let e = ap length s in omega (arith, e) }
   spread_same (t ∷ q) turns w w' h s = by (runs w' t) refl s (λ rest v v' k m. spread_same q rest v v' k m)
     where
-      by : (b : Bool) → runs w' t ≡ b → OneSpread w' t q turns b → ((rest : List ℕ) (v v' : World) → Pair v v' → Spread v' q rest → Spreads q rest v v') → Spreads (t ∷ q) turns w w'
+      by : (b : Bool) → runs w' t ≡ b → OneSpread w' t q turns b → ((rest : List ℕ) (v v' : World) → Pair v v' → Spread v' q rest → Spreads q rest v v')
+          → Spreads (t ∷ q) turns w w'
       by true e (n, rest, lead, is, more) go =
           let front = replicate n t ++ (t ∷ []) in
           let v' = run_from p' w' front in
@@ -306,7 +317,8 @@ module _ (p p' : Program) (sides : Entry → Side) (marks : Entry → Marks) (ar
 
   -- ---- few turns in a row aren't kept
 
-  row_small : (k t : ℕ) (w w' : World) (n : ℕ) → Pair w w' → n + rank_of w' t ≤ 17 → (its now on : Bool) → nat_eq k t ≡ its → is_kept p' marks w' k ≡ now → runs w' k ≡ on
+  row_small : (k t : ℕ) (w w' : World) (n : ℕ) → Pair w w' → n + rank_of w' t ≤ 17 → (its now on : Bool) → nat_eq k t ≡ its → is_kept p' marks w' k ≡ now
+      → runs w' k ≡ on
       → row_behind p' marks its now on n + rank_of (step p' w' k) t ≤ 17
   row_small k t w w' n h le false now on e e' e'' =
       let same : rank_of (step p' w' k) t ≡ rank_of w' t = ap option_rank (step_other p' w' k t (eqb-false k t e)) in

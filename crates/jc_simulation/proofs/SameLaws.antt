@@ -53,7 +53,8 @@ none_past (x ∷ xs) zero e = absurd (none-some x (sym e))
 none_past (x ∷ xs) (suc k) e = let more = none_past xs k e in omega (arith, more)
 
 -- a class of the twin at a place where the program has none
-pub no_class : (p p' : Program) (sides : Entry → Side) → AreSides p p' sides → (class : ℕ) → slice_get p.classes class ≡ None → slice_get p'.classes class ≡ None
+pub no_class : (p p' : Program) (sides : Entry → Side) → AreSides p p' sides → (class : ℕ) → slice_get p.classes class ≡ None
+    → slice_get p'.classes class ≡ None
 no_class p p' sides are class e = slice_get_past p'.classes class (let n = are.count in let m = none_past p.classes class e in omega (arith, n, m))
 
 module _ (p p' : Program) (sides : Entry → Side) where
@@ -106,9 +107,11 @@ module _ (p p' : Program) (sides : Entry → Side) where
     -- ---- threads
 
     module _ (s s' : Shared) (ss : SameShared p p' sides s s') where
-      running_same : (f f' : Frame) (fs fs' : List Frame) → SameThread p p' sides (running f fs) (running f' fs') → spec.SameThread p' marks (running f fs) (running f' fs')
+      running_same : (f f' : Frame) (fs fs' : List Frame) → SameThread p p' sides (running f fs) (running f' fs')
+          → spec.SameThread p' marks (running f fs) (running f' fs')
       running_same f f' fs fs' (inl h) =
-          subst (λ b. spec.SameFrames p' marks (f ∷ fs) (frames_of b f' fs')) (sym (new_no_init p p' sides f f' h.0.one)) (frame_same f f' h.0, waits_same fs fs' h.1)
+          subst (λ b. spec.SameFrames p' marks (f ∷ fs) (frames_of b f' fs')) (sym (new_no_init p p' sides f f' h.0.one))
+          (frame_same f f' h.0, waits_same fs fs' h.1)
       running_same f f' fs fs' (inr i) =
           subst₂ (λ b l. spec.SameFrames p' marks (f ∷ fs) (frames_of b f' l)) (sym (inside_named p p' sides are s s' ss f f' fs fs' i)) (sym i.waiting)
           (frame_same f i.below i.base, waits_same fs i.rest i.waits)
@@ -141,15 +144,19 @@ module _ (p p' : Program) (sides : Entry → Side) where
     -- ---- static fields
 
     -- the added field is a `$jacocoData`
-    is_added : (class : ℕ) (c new : Linked) → slice_get p'.classes class ≡ Some new → IsChangedPair p.names p'.names c new → is_data p' class (length c.statics) ≡ true
+    is_added : (class : ℕ) (c new : Linked) → slice_get p'.classes class ≡ Some new → IsChangedPair p.names p'.names c new
+        → is_data p' class (length c.statics) ≡ true
     is_added class c new there pair =
-        ap (is_data_in (length c.statics)) there ∙ ap (λ l. is_named_data (slice_get l (length c.statics))) pair.statics ∙ ap is_named_data (last_is c.statics data_static)
+        ap (is_data_in (length c.statics)) there ∙ ap (λ l. is_named_data (slice_get l (length c.statics))) pair.statics
+        ∙ ap is_named_data (last_is c.statics data_static)
         ∙ name_again data_name data_name refl
 
     module _ (s s' : Shared) (ss : SameShared p p' sides s s') where
       -- the values of a class, by how it is changed
-      values_same : (o : Option ℕ) (class field : ℕ) → extra_in (class_at p' class) ≡ o → (length (values_of s class) ≡ field → o ≡ None) → slice_get (values_of s' class) field ≡ slice_get (values_of s class) field
-      values_same None class field e h = let same = subst (λ o. SameStatics o class (values_of s class) (values_of s' class)) e (ss.statics class) in ap (λ l. slice_get l field) same
+      values_same : (o : Option ℕ) (class field : ℕ) → extra_in (class_at p' class) ≡ o → (length (values_of s class) ≡ field → o ≡ None)
+          → slice_get (values_of s' class) field ≡ slice_get (values_of s class) field
+      values_same None class field e h =
+          let same = subst (λ o. SameStatics o class (values_of s class) (values_of s' class)) e (ss.statics class) in ap (λ l. slice_get l field) same
       values_same (Some n) class field e h =
           let same = subst (λ o. SameStatics o class (values_of s class) (values_of s' class)) e (ss.statics class) in
           ap (λ l. slice_get l field) same.1 ∙ one_more (values_of s class) field (null_or same.0 (probes class n)) (λ last. none-some n (sym (h (sym last))))
@@ -161,9 +168,11 @@ module _ (p p' : Program) (sides : Entry → Side) where
           by None e = values_same None class field (ap extra_in (no_class p p' sides are class e)) (λ last. refl)
           by (Some c) e = by_pair (are.pair class c e)
             where
-              by_pair : (new : Linked) × (slice_get p'.classes class ≡ Some new) × IsPair p.names p'.names c new → slice_get (values_of s' class) field ≡ slice_get (values_of s class) field
+              by_pair : (new : Linked) × (slice_get p'.classes class ≡ Some new) × IsPair p.names p'.names c new
+                  → slice_get (values_of s' class) field ≡ slice_get (values_of s class) field
               by_pair (new, there, inl pair) =
-                  values_same None class field (ap extra_in there ∙ ap (λ b. if b then Some (count_in new.probes) else None) (unchanged_declares p.names p'.names c new pair)) (λ last. refl)
+                  values_same None class field (ap extra_in there
+                  ∙ ap (λ b. if b then Some (count_in new.probes) else None) (unchanged_declares p.names p'.names c new pair)) (λ last. refl)
               by_pair (new, there, inr pair) =
                   values_same (extra_in (class_at p' class)) class field refl
                   (λ last. absurd (true≢false (sym (is_added class c new there pair) ∙ ap (is_data p' class) (sym (ss.counts class c e) ∙ last) ∙ other)))

@@ -62,10 +62,12 @@ set_up (suc v) (suc j) (y ∷ ls) e x le = ap (λ l. y ∷ l) (set_up v j ls e x
 pub get-shifted : (v j : ℕ) (ls : Locals) (e : Option Value) → v ≤ length ls → slice_get (insert ls v e) (twin_slot (Some v) j) ≡ slice_get ls j
 get-shifted v j ls e le = ap (λ k. slice_get (insert ls v e) k) (shifted-up v j) ∙ get_up v j ls e le
 
-pub read-shifted : (v j : ℕ) (ls : Locals) (e : Option Value) → v ≤ length ls → slice_index_or (insert ls v e) (twin_slot (Some v) j) None ≡ slice_index_or ls j None
+pub read-shifted : (v j : ℕ) (ls : Locals) (e : Option Value) → v ≤ length ls
+    → slice_index_or (insert ls v e) (twin_slot (Some v) j) None ≡ slice_index_or ls j None
 read-shifted v j ls e le = ap (λ k. slice_index_or (insert ls v e) k None) (shifted-up v j) ∙ read_up v j ls e le
 
-pub set-shifted : (v j : ℕ) (ls : Locals) (e x : Option Value) → v ≤ length ls → slice_set (insert ls v e) (twin_slot (Some v) j) x ≡ insert (slice_set ls j x) v e
+pub set-shifted : (v j : ℕ) (ls : Locals) (e x : Option Value) → v ≤ length ls
+    → slice_set (insert ls v e) (twin_slot (Some v) j) x ≡ insert (slice_set ls j x) v e
 set-shifted v j ls e x le = ap (λ k. slice_set (insert ls v e) k x) (shifted-up v j) ∙ set_up v j ls e x le
 
 -- the local variable of the probe array itself
@@ -128,7 +130,8 @@ no_pair_before : (j k : ℕ) (ls : Locals) → has_pair ls k ≡ false → has_p
 no_pair_before zero k ls h = h
 no_pair_before (suc i) k ls h = ap (λ l. has_pair l k) (cleared_before i ls) ∙ no_pair_cleared (has_pair ls i) i k ls h
 
-no_pair_at : (b : Bool) (x : Value) (i k : ℕ) (ls : Locals) → is_pair x ≡ b → (b ≡ true → i ≡ k → ⊥) → has_pair ls k ≡ false → has_pair (slice_set ls i (Some x)) k ≡ false
+no_pair_at : (b : Bool) (x : Value) (i k : ℕ) (ls : Locals) → is_pair x ≡ b → (b ≡ true → i ≡ k → ⊥) → has_pair ls k ≡ false
+    → has_pair (slice_set ls i (Some x)) k ≡ false
 no_pair_at true x i k ls e other h = no_pair_other ls i k (Some x) (other refl) h
 no_pair_at false x i k ls e other h = no_pair_set ls i k (Some x) e h
 
@@ -166,7 +169,8 @@ up_next v k other = ⊎_elim
     below : (v k : ℕ) → k < v → (suc k ≡ v → ⊥) → suc k < v
     below v k lt other = ⊎_elim (λ l. l) (λ le. absurd (other (omega arith))) (cases_lt (suc k) v)
 
-module _ (v : ℕ) (ls : Locals) (e : Option Value) (le : v ≤ length ls) (narrow : is_pair_there e ≡ false) (apart : (k : ℕ) → v ≡ suc k → has_pair ls k ≡ false) where
+module _ (v : ℕ) (ls : Locals) (e : Option Value) (le : v ≤ length ls) (narrow : is_pair_there e ≡ false)
+    (apart : (k : ℕ) → v ≡ suc k → has_pair ls k ≡ false) where
   before_at : (k : ℕ) → (b : Bool) → nat_eq (suc k) v ≡ b → clear_before (up v (suc k)) (insert ls v e) ≡ insert (clear_before (suc k) ls) v e
   before_at k true q =
       let same : suc k ≡ v = eqb-true (suc k) v q in
@@ -192,7 +196,8 @@ module _ (v : ℕ) (ls : Locals) (e : Option Value) (le : v ≤ length ls) (narr
   before_up zero = before_zero v refl
   before_up (suc k) = before_at k (nat_eq (suc k) v) refl
 
-  after_up : (b : Bool) (j : ℕ) (l2 : Locals) → v ≤ length l2 → (b ≡ true → j + 1 ≡ v → ⊥) → cleared b (up v j + 1) (insert l2 v e) ≡ insert (cleared b (j + 1) l2) v e
+  after_up : (b : Bool) (j : ℕ) (l2 : Locals) → v ≤ length l2 → (b ≡ true → j + 1 ≡ v → ⊥)
+      → cleared b (up v j + 1) (insert l2 v e) ≡ insert (cleared b (j + 1) l2) v e
   after_up false j l2 room other = refl
   after_up true j l2 room other =
       let n : up v j + 1 ≡ up v (j + 1) = omega (arith, up_next v j (λ q. other refl (omega arith)), ap (up v) (add-one j)) in
@@ -210,7 +215,8 @@ module _ (v : ℕ) (ls : Locals) (e : Option Value) (le : v ≤ length ls) (narr
       ∙ sym (ap (λ l. insert l v e) (cleared_behind j x (slice_set l1 j (Some x))))
 
   -- a value is put into a local variable and into that of the twin, but for a long right in front of the probe array
-  pub put-shifted : (j : ℕ) (x : Value) → (is_pair x ≡ true → j + 1 ≡ v → ⊥) → put_local (twin_slot (Some v) j) x (insert ls v e) ≡ insert (put_local j x ls) v e
+  pub put-shifted : (j : ℕ) (x : Value) → (is_pair x ≡ true → j + 1 ≡ v → ⊥)
+      → put_local (twin_slot (Some v) j) x (insert ls v e) ≡ insert (put_local j x ls) v e
   put-shifted j x other = ap (λ k. put_local k x (insert ls v e)) (shifted-up v j) ∙ put_up j x other
 
 -- ---- the array is put into its local variable
@@ -218,14 +224,16 @@ module _ (v : ℕ) (ls : Locals) (e : Option Value) (le : v ≤ length ls) (narr
 read_front : (v k : ℕ) (ls : Locals) (e : Option Value) → k < v → v ≤ length ls → slice_index_or (insert ls v e) k None ≡ slice_index_or ls k None
 read_front v k ls e lt le = ap (λ j. slice_index_or (insert ls v e) j None) (sym (up-below v k lt)) ∙ read_up v k ls e le
 
-pub put_own : (v : ℕ) (ls : Locals) (e : Option Value) (x : Value) → v ≤ length ls → is_pair x ≡ false → ((k : ℕ) → v ≡ suc k → has_pair ls k ≡ false) → put_local v x (insert ls v e) ≡ insert ls v (Some x)
+pub put_own : (v : ℕ) (ls : Locals) (e : Option Value) (x : Value) → v ≤ length ls → is_pair x ≡ false → ((k : ℕ) → v ≡ suc k → has_pair ls k ≡ false)
+    → put_local v x (insert ls v e) ≡ insert ls v (Some x)
 put_own zero ls e x le n apart = cleared_behind 0 x (Some x ∷ ls) ∙ ap (λ b. cleared b 1 (Some x ∷ ls)) n
 put_own (suc k) ls e x le n apart =
     let there = insert ls (suc k) e in
     cleared_behind (suc k) x (slice_set (clear_before (suc k) there) (suc k) (Some x))
     ∙ ap (λ b. cleared b (suc k + 1) (slice_set (clear_before (suc k) there) (suc k) (Some x))) n
     ∙ ap (λ l. slice_set l (suc k) (Some x))
-    (cleared_before k there ∙ ap (λ o. cleared (is_pair_there o) k there) (read_front (suc k) k ls e (omega arith) le) ∙ ap (λ b. cleared b k there) (apart k refl))
+    (cleared_before k there ∙ ap (λ o. cleared (is_pair_there o) k there) (read_front (suc k) k ls e (omega arith) le)
+    ∙ ap (λ b. cleared b k there) (apart k refl))
     ∙ set_own (suc k) ls e (Some x) le
 
 -- ---- the local variables of a new frame

@@ -126,7 +126,10 @@ module _ (p p' : Program) (sides : Entry → Side) where
       (k.0, ap (λ l. slice_get l (length xs)) k.1 ∙ get_behind xs (null_or k.0 (probes c n)))
 
   pub puts_extra : (s s' : Shared) (c n : ℕ) (found : Bool) → extra_in (class_at p' c) ≡ Some n → SameShared p p' sides s s'
-      → SameShared p p' sides s (record s' { statics = with_static s'.statics (record { class = c; field = length (values_of s c) }) (null_or found (probes c n)) })
+      → SameShared p p' sides s (record s' {
+        statics = with_static s'.statics (record { class = c; field = length (values_of s c) })
+            (null_or found (probes c n));
+      })
   puts_extra s s' c n found e h =
       let xs = values_of s c in let xs' = values_of s' c in
       let k = subst (λ o. Kept o c xs xs') e (h.statics c) in
@@ -139,7 +142,8 @@ module _ (p p' : Program) (sides : Entry → Side) where
         output = h.output;
         raised = h.raised;
         statics = λ d. by_right s.statics s'.statics c d (extra_in (class_at p' d)) (slice_set xs' (length xs) (null_or found (probes c n))) some' (h.statics d)
-            (λ same. subst (λ j. Kept (extra_in (class_at p' j)) j (slice_index_or s.statics j []) (slice_set xs' (length xs) (null_or found (probes c n)))) same
+            (λ same. subst (λ j. Kept (extra_in (class_at p' j)) j (slice_index_or s.statics j [])
+            (slice_set xs' (length xs) (null_or found (probes c n)))) same
             (subst (λ o. Kept o c xs (slice_set xs' (length xs) (null_or found (probes c n)))) (sym e) (found, written)))
             (nat_eq c d) refl;
         counts = h.counts;
@@ -150,6 +154,7 @@ module _ (p p' : Program) (sides : Entry → Side) where
           → (b : Bool) → nat_eq c d ≡ b → Kept o d (slice_index_or ss d []) (slice_index_or (slice_set ss' c ys') d [])
       by_right ss ss' c d o ys' some' h here true q =
           let same = eqb-true c d q in
-          subst (λ b. Kept o d (slice_index_or ss d []) b) (sym (at_same ss' c ys' some') ∙ ap (λ k. slice_index_or (slice_set ss' c ys') k []) same) (here same)
+          subst (λ b. Kept o d (slice_index_or ss d []) b) (sym (at_same ss' c ys' some') ∙ ap (λ k. slice_index_or (slice_set ss' c ys') k []) same)
+          (here same)
       by_right ss ss' c d o ys' some' h here false q =
           subst (λ b. Kept o d (slice_index_or ss d []) b) (sym (at_other ss' c d ys' (eqb-false c d q))) h

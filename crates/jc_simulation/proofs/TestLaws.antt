@@ -44,7 +44,8 @@ by_references true a b stack e = ap (λ x. tested x stack) e
 by_references false a b stack e = refl
 
 reference_tests : (j k : ℕ) → Differs j k → (stack : List Value) → reference_test k stack ≡ negated (reference_test j stack)
-reference_tests j k h (b ∷ a ∷ stack) = by_references (is_reference a && is_reference b) (agrees k (is_same a b)) (agrees j (is_same a b)) stack (h (is_same a b))
+reference_tests j k h (b ∷ a ∷ stack) =
+    by_references (is_reference a && is_reference b) (agrees k (is_same a b)) (agrees j (is_same a b)) stack (h (is_same a b))
 reference_tests j k h _ = refl
 
 null_tests : (j k : ℕ) → Differs j k → (stack : List Value) → null_test k stack ≡ negated (null_test j stack)

@@ -42,7 +42,8 @@ true_holds h i k = and_from _ _ (le-leb h.start i k.0) (lt-ltb i h.end k.1)
 module _ (p p' : Program) (sides : Entry → Side) where
   -- ---- handlers
 
-  module _ (m : Entry) (side : IsSide p p' m (sides m)) (q i : ℕ) (new : Insn) (early : Option ℕ) (here : slice_get (sides m).items q ≡ Some (image new i early)) (c : Thrown) where
+  module _ (m : Entry) (side : IsSide p p' m (sides m)) (q i : ℕ) (new : Insn) (early : Option ℕ)
+      (here : slice_get (sides m).items q ≡ Some (image new i early)) (c : Thrown) where
     abbrev t : Side
     t = sides m
 
@@ -57,7 +58,8 @@ module _ (p p' : Program) (sides : Entry → Side) where
         ap (λ k. if nat_eq k 0 then true else is_named_in c (class_in (what_used t.twin.uses k))) ok.class ∙ by (nat_eq h.class 0) refl
       where
         by : (b : Bool) → nat_eq h.class 0 ≡ b
-            → (if b then true else is_named_in c (class_in (what_used t.twin.uses h.class))) ≡ (if b then true else is_named_in c (class_in (what_used t.body.uses h.class)))
+            → (if b then true else is_named_in c (class_in (what_used t.twin.uses h.class)))
+            ≡ (if b then true else is_named_in c (class_in (what_used t.body.uses h.class)))
         by true e = refl
         by false e =
             let u = use_of (eqb-false h.class 0 e) in
@@ -67,7 +69,8 @@ module _ (p p' : Program) (sides : Entry → Side) where
     handles_same h r ok use_of =
         and_twice (nat_le r.start q) (nat_lt q r.end) (catches t.twin r c)
         ∙ ap₂ (λ a b. a && b)
-        (same_tests _ _ (λ e. true_holds h i ((ok.holds q i new early here).0 (holds_true r q e))) (λ e. true_holds r q ((ok.holds q i new early here).1 (holds_true h i e))))
+        (same_tests _ _ (λ e. true_holds h i ((ok.holds q i new early here).0 (holds_true r q e)))
+        (λ e. true_holds r q ((ok.holds q i new early here).1 (holds_true h i e))))
         (catches_same h r ok use_of)
         ∙ sym (and_twice (nat_le h.start i) (nat_lt i h.end) (catches t.body h c))
 
@@ -96,7 +99,8 @@ module _ (p p' : Program) (sides : Entry → Side) where
   -- ---- unwinding
 
   module _ (c : Thrown) (v : Value) where
-    caught_by : (f f' : Frame) (fs fs' : List Frame) (others others' : Thread) (new : Insn) (early : Option ℕ) (o : AtImage p p' sides f f' new early) → SameWaits p p' sides fs fs'
+    caught_by : (f f' : Frame) (fs fs' : List Frame) (others others' : Thread) (new : Insn) (early : Option ℕ) (o : AtImage p p' sides f f' new early)
+        → SameWaits p p' sides fs fs'
         → SameThread p p' sides others others' → (h h' : Option Handler) → SameHandler f.method o.one.side f'.place f.place new early o.here c h h'
         → SameThread p p' sides (caught h v f fs others) (caught h' v f' fs' others')
     caught_by f f' fs fs' x x' new early o w rest None None same = rest
@@ -112,7 +116,9 @@ module _ (p p' : Program) (sides : Entry → Side) where
         let side = o.one.side in
         let t = sides f.method in
         let old = ap (option_and_then (handler_in f.place c)) (body_is p f.method t.class t.body side.class_is side.body_is) in
-        let twin = ap (λ m. option_and_then (handler_in f'.place c) (body_of p' m)) o.one.method ∙ ap (option_and_then (handler_in f'.place c)) (body_is p' f.method t.new t.twin side.new_is side.twin_is) in
+        let twin =
+        ap (λ m. option_and_then (handler_in f'.place c) (body_of p' m)) o.one.method
+        ∙ ap (option_and_then (handler_in f'.place c)) (body_is p' f.method t.new t.twin side.new_is side.twin_is) in
         subst₂ (λ h h'. SameThread p p' sides (caught h v f fs (unwound p c v fs)) (caught h' v f' fs' (unwound p' c v fs'))) (sym old) (sym twin)
         (caught_by f f' fs fs' (unwound p c v fs) (unwound p' c v fs') new early o w rest (handler_in f.place c t.body) (handler_in f'.place c t.twin)
         (handler_same f.method side f'.place f.place new early o.here c))
@@ -120,7 +126,8 @@ module _ (p p' : Program) (sides : Entry → Side) where
     pub unwound_same : (fs fs' : List Frame) → SameWaits p p' sides fs fs' → SameThread p p' sides (unwound p c v fs) (unwound p' c v fs')
     unwound_same [] [] w = refl
     unwound_same (f ∷ fs) (f' ∷ fs') w =
-        unwound_top f f' fs fs' w.0.insn w.0.early (record { one = w.0.one; here = w.0.here; stack = w.0.stack; locals = w.0.locals }) w.1 (unwound_same fs fs' w.1)
+        unwound_top f f' fs fs' w.0.insn w.0.early (record { one = w.0.one; here = w.0.here; stack = w.0.stack; locals = w.0.locals }) w.1
+        (unwound_same fs fs' w.1)
     unwound_same [] (f' ∷ fs') w = absurd w
     unwound_same (f ∷ fs) [] w = absurd w
 
@@ -136,16 +143,35 @@ module _ (p p' : Program) (sides : Entry → Side) where
     no_memory = record { thrown = refl; value = refl; shared = ss }
 
     abbrev made_in : Thrown → Shared → Raised
-    made_in c u = if has_room u.heap 1 then record { thrown = c; value = object (length u.heap); shared = record u { heap = u.heap ++ throwable c ∷ [] } } else out_of_memory u
+    made_in c u =
+        if has_room u.heap 1 then record {
+          thrown = c;
+          value = object
+              (length u.heap);
+          shared = record u { heap = u.heap ++ throwable c ∷ [] };
+        } else out_of_memory u
 
     made_same : (c : Thrown) → SameRaised (made_in c s) (made_in c s')
     made_same c =
-        subst (λ heap. SameRaised (made_in c s) (if has_room heap 1 then record { thrown = c; value = object (length heap); shared = record s' { heap = heap ++ throwable c ∷ [] } } else out_of_memory s')) (sym ss.heap)
+        subst (λ heap. SameRaised (made_in c s)
+        (if has_room heap 1 then record {
+          thrown = c;
+          value = object
+              (length heap);
+          shared = record s' { heap = heap ++ throwable c ∷ [] };
+        } else out_of_memory s')) (sym ss.heap)
         (by (has_room s.heap 1))
       where
-        by : (b : Bool) → SameRaised (if b then record { thrown = c; value = object (length s.heap); shared = record s { heap = s.heap ++ throwable c ∷ [] } } else out_of_memory s)
+        by : (b : Bool)
+            → SameRaised (if b then record {
+              thrown = c;
+              value = object
+                  (length s.heap);
+              shared = record s { heap = s.heap ++ throwable c ∷ [] };
+            } else out_of_memory s)
             (if b then record { thrown = c; value = object (length s.heap); shared = record s' { heap = s.heap ++ throwable c ∷ [] } } else out_of_memory s')
-        by true = record { thrown = refl; value = refl; shared = record { heap = refl; output = ss.output; raised = ss.raised; statics = ss.statics; counts = ss.counts } }
+        by true =
+            record { thrown = refl; value = refl; shared = record { heap = refl; output = ss.output; raised = ss.raised; statics = ss.statics; counts = ss.counts } }
         by false = no_memory
 
     pub placed_same : (c : Thrown) → SameRaised (placed c s) (placed c s')
@@ -158,7 +184,8 @@ module _ (p p' : Program) (sides : Entry → Side) where
     pub shared : SameShared p p' sides a.shared a'.shared
     pub thread : SameThread p p' sides a.thread a'.thread
 
-  pub thrown_same : (x x' : Raised) → SameRaised x x' → (f f' : Frame) (fs fs' : List Frame) (new : Insn) (early : Option ℕ) → AtImage p p' sides f f' new early → SameWaits p p' sides fs fs'
+  pub thrown_same : (x x' : Raised) → SameRaised x x' → (f f' : Frame) (fs fs' : List Frame) (new : Insn) (early : Option ℕ)
+      → AtImage p p' sides f f' new early → SameWaits p p' sides fs fs'
       → SameAfter (thrown_in p x (f ∷ fs)) (thrown_in p' x' (f' ∷ fs'))
   thrown_same x x' h f f' fs fs' new early o w = record {
     shared = record { heap = h.shared.heap; output = h.shared.output; raised = refl; statics = h.shared.statics; counts = h.shared.counts };

@@ -114,11 +114,14 @@ module _ (p p' : Program) (sides : Entry → Side) where
         let before = rank_top f f' fs' h in
         let behind = rank_top f a.frame fs' a.same in
         ⊎_elim
-        (λ e. subst (λ x. AsideTurned (running f fs) (running f' fs') (after_result p' x s' f' fs')) (sym e) (record { shared = ss; thread = inl (a.same, w); falls = omega (arith, lower, before, behind) }))
-        (λ e. subst (λ x. AsideTurned (running f fs) (running f' fs') (after_result p' x s' f' fs')) (sym e.2) (record { shared = ss; thread = inl (a.same, w); falls = omega (arith, lower, before, behind) }))
+        (λ e. subst (λ x. AsideTurned (running f fs) (running f' fs') (after_result p' x s' f' fs')) (sym e)
+        (record { shared = ss; thread = inl (a.same, w); falls = omega (arith, lower, before, behind) }))
+        (λ e. subst (λ x. AsideTurned (running f fs) (running f' fs') (after_result p' x s' f' fs')) (sym e.2)
+        (record { shared = ss; thread = inl (a.same, w); falls = omega (arith, lower, before, behind) }))
         a.is
 
-    plain_turned : (f f' : Frame) (fs fs' : List Frame) (h : SameFrame p p' sides f f') → SameWaits p p' sides fs fs' → own_of h.item ≡ false → (h.item ≡ init_call → ⊥)
+    plain_turned : (f f' : Frame) (fs fs' : List Frame) (h : SameFrame p p' sides f f') → SameWaits p p' sides fs fs' → own_of h.item ≡ false
+        → (h.item ≡ init_call → ⊥)
         → AsideTurned (running f fs) (running f' fs') (after_result p' (result_of p' s' f') s' f' fs')
     plain_turned f f' fs fs' h w aside other =
         let slot = in_changed f f' h aside in
@@ -150,7 +153,8 @@ module _ (p p' : Program) (sides : Entry → Side) where
       not_in_init = ap is_init_name h.one.side.same.name ∙ h.one.side.named
 
       class_is : class_named p' t.body.owner ≡ Some f.method.class
-      class_is = ap (class_named p') h.one.side.owner ∙ class_same p p' are.names t.class.name ∙ class_again p are.differ f.method.class t.class h.one.side.class_is
+      class_is =
+          ap (class_named p') h.one.side.owner ∙ class_same p p' are.names t.class.name ∙ class_again p are.differ f.method.class t.class h.one.side.class_is
 
       enterable : is_enterable t.new b ≡ true
       enterable =
@@ -174,7 +178,8 @@ module _ (p p' : Program) (sides : Entry → Side) where
       unfolding operation_of
       operation =
           ap (member_operation opcode.invokestatic here_at p') c.calls
-          ∙ ap (λ x. if x then profile.init_call here_at (is_fetch t.body.owner init_name init_type) (init_of here_at) else method_entered here_at p' (callee_named p' t.body.owner init_name init_type)) not_in_init
+          ∙ ap (λ x. if x then profile.init_call here_at (is_fetch t.body.owner init_name init_type) (init_of here_at) else method_entered here_at p'
+          (callee_named p' t.body.owner init_name init_type)) not_in_init
           ∙ ap (method_entered here_at p') called
           ∙ ap (class_entered here_at e) h.one.side.new_is
           ∙ ap (body_entered here_at e t.new) c.added_at
@@ -210,7 +215,8 @@ module _ (p p' : Program) (sides : Entry → Side) where
         ap (λ b. frames_rank b g (f' ∷ fs')) named ∙ ap (λ m. 12 + early_size (sides m).body.code (sides m).ids 0 - 0) h.one.method ∙ omega arith in
         subst (λ r. AsideTurned (running f fs) (running f' fs') (after_result p' r s' f' fs')) (sym (enters_init f f' h call slot.0 c))
         (subst (λ b. AsideTurned (running f fs) (running f' fs')
-        (if not b && nat_le 128 (counted_frames p' (f' ∷ fs')) then thrown_in p' (placed thrown.StackOverflowError s') (f' ∷ fs') else after (running g (f' ∷ fs')) s')) (sym named)
+        (if not b && nat_le 128 (counted_frames p' (f' ∷ fs')) then thrown_in p' (placed thrown.StackOverflowError s') (f' ∷ fs') else after
+        (running g (f' ∷ fs')) s')) (sym named)
         (record {
           shared = ss;
           thread = inr (record {
@@ -245,7 +251,8 @@ module _ (p p' : Program) (sides : Entry → Side) where
       pub inside_named : is_init_method p' f'.method ≡ true
       inside_named = ap (is_init_method p') i.method ∙ init_named f i.below i.base i.at_call base_changed.0 change
 
-      inside_rank_is : (g : Frame) (step : InitStep) → g.method ≡ f'.method → g.place ≡ step_place step → thread_rank (running g fs') ≡ 12 + early_size under.body.code under.ids 0 - step_place step
+      inside_rank_is : (g : Frame) (step : InitStep) → g.method ≡ f'.method → g.place ≡ step_place step
+          → thread_rank (running g fs') ≡ 12 + early_size under.body.code under.ids 0 - step_place step
       inside_rank_is g step m e =
           ap (λ b. frames_rank b g fs') (ap (is_init_method p') m ∙ inside_named)
           ∙ ap (λ l. inside_rank g.place l) i.waiting
@@ -264,9 +271,11 @@ module _ (p p' : Program) (sides : Entry → Side) where
       turned : Stepped p p' sides s s' f' f.method.class i.init i.step (result_of p' s' f')
       turned =
           subst (λ x. Stepped p p' sides s s' f' f.method.class x i.step (result_of p' s' f')) which_init
-          (init_turn p p' sides are f.method i.base.one.side base_changed.0 change s s' ss f' i.method i.step i.place (i.stack ∙ ap (λ x. step_stack f.method.class x i.step) (sym which_init)))
+          (init_turn p p' sides are f.method i.base.one.side base_changed.0 change s s' ss f' i.method i.step i.place
+          (i.stack ∙ ap (λ x. step_stack f.method.class x i.step) (sym which_init)))
 
-      goes_turned : (r : Result) → Steps p p' sides s s' f' f.method.class i.init i.step r → AsideTurned (running f fs) (running f' fs') (after_result p' r s' f' fs')
+      goes_turned : (r : Result) → Steps p p' sides s s' f' f.method.class i.init i.step r
+          → AsideTurned (running f fs) (running f' fs') (after_result p' r s' f' fs')
       goes_turned r k =
           let before = inside_rank_is f' i.step refl i.place in
           let behind = inside_rank_is k.frame k.next k.method k.place in
@@ -309,7 +318,8 @@ module _ (p p' : Program) (sides : Entry → Side) where
             (subst (λ y. SameLocals (array_of under f.method.class) under.slot f.locals i.below.locals y) i.at_call i.base.locals);
       }
 
-      leaves_turned : (r : Result) → r ≡ leaves (Some (probes f.method.class i.init.count)) → i.step ≡ gives_back → AsideTurned (running f fs) (running f' fs') (after_result p' r s' f' fs')
+      leaves_turned : (r : Result) → r ≡ leaves (Some (probes f.method.class i.init.count)) → i.step ≡ gives_back
+          → AsideTurned (running f fs) (running f' fs') (after_result p' r s' f' fs')
       leaves_turned r e last =
           let before = inside_rank_is f' i.step refl i.place in
           let behind = rank_top f back i.rest below_goes in
@@ -322,7 +332,8 @@ module _ (p p' : Program) (sides : Entry → Side) where
 
     -- ---- a frame that stands at no image
 
-    pub aside_turned : (f f' : Frame) (fs fs' : List Frame) (h : SameFrame p p' sides f f') → SameWaits p p' sides fs fs' → (x : Item) → h.item ≡ x → own_of x ≡ false
+    pub aside_turned : (f f' : Frame) (fs fs' : List Frame) (h : SameFrame p p' sides f f') → SameWaits p p' sides fs fs' → (x : Item) → h.item ≡ x
+        → own_of x ≡ false
         → AsideTurned (running f fs) (running f' fs') (after_result p' (result_of p' s' f') s' f' fs')
     aside_turned f f' fs fs' h w init_call e aside = calls_turned f f' fs fs' h w e
     aside_turned f f' fs fs' h w init_store e aside = plain_turned f f' fs fs' h w (ap own_of e) (λ q. apart (sym e ∙ q))
@@ -353,7 +364,8 @@ module _ (p p' : Program) (sides : Entry → Side) where
 
     -- ---- an own turn
 
-    pub own_turned : (f f' : Frame) (fs fs' : List Frame) (h : SameFrame p p' sides f f') → SameWaits p p' sides fs fs' → (insn : Insn) (at : ℕ) (early : Option ℕ) → h.item ≡ image insn at early
+    pub own_turned : (f f' : Frame) (fs fs' : List Frame) (h : SameFrame p p' sides f f') → SameWaits p p' sides fs fs'
+        → (insn : Insn) (at : ℕ) (early : Option ℕ) → h.item ≡ image insn at early
         → SameAfter p p' sides (after_result p (result_of p s f) s f fs) (after_result p' (result_of p' s' f') s' f' fs')
     own_turned f f' fs fs' h w insn at early e =
         let t = sides f.method in

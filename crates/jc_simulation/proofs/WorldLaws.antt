@@ -39,15 +39,18 @@ module _ (p p' : Program) (sides : Entry → Side) (marks : Entry → Marks) (ar
     ThreadTurned true x x' = SameAfter p p' sides (turn_of p s x) (turn_of p' s' x')
     ThreadTurned false x x' = SameShared p p' sides s (turn_of p' s' x').shared × SameThread p p' sides x (turn_of p' s' x').thread
 
-    frame_turned : (f f' : Frame) (fs fs' : List Frame) (h : SameFrame p p' sides f f') → SameWaits p p' sides fs fs' → (x : Item) → h.item ≡ x → (b : Bool) → own_of x ≡ b
+    frame_turned : (f f' : Frame) (fs fs' : List Frame) (h : SameFrame p p' sides f f') → SameWaits p p' sides fs fs' → (x : Item) → h.item ≡ x
+        → (b : Bool) → own_of x ≡ b
         → ThreadTurned b (running f fs) (running f' fs')
     frame_turned f f' fs fs' h w (image insn at early) e true own = own_turned p p' sides are s s' ss f f' fs fs' h w insn at early e
     frame_turned f f' fs fs' h w x e true own = cc
     frame_turned f f' fs fs' h w x e false own = let a = aside_turned p p' sides are s s' ss f f' fs fs' h w x e own in (a.shared, a.thread)
 
-    running_turned : (f f' : Frame) (fs fs' : List Frame) → SameThread p p' sides (running f fs) (running f' fs') → ThreadTurned (keeps p' marks (running f' fs')) (running f fs) (running f' fs')
+    running_turned : (f f' : Frame) (fs fs' : List Frame) → SameThread p p' sides (running f fs) (running f' fs')
+        → ThreadTurned (keeps p' marks (running f' fs')) (running f fs) (running f' fs')
     running_turned f f' fs fs' (inl h) =
-        subst (λ b. ThreadTurned b (running f fs) (running f' fs')) (sym (keeps_top f f' fs' h.0)) (frame_turned f f' fs fs' h.0 h.1 h.0.item refl (own_of h.0.item) refl)
+        subst (λ b. ThreadTurned b (running f fs) (running f' fs')) (sym (keeps_top f f' fs' h.0))
+        (frame_turned f f' fs fs' h.0 h.1 h.0.item refl (own_of h.0.item) refl)
     running_turned f f' fs fs' (inr i) =
         let a = inside_turned p p' sides are s s' ss f f' fs fs' i in
         subst (λ b. ThreadTurned b (running f fs) (running f' fs')) (sym (keeps_inside f f' fs fs' i)) (a.shared, a.thread)
@@ -101,7 +104,8 @@ module _ (p p' : Program) (sides : Entry → Side) (marks : Entry → Marks) (ar
   same_get [] (x' ∷ xs') h k = absurd h
   same_get (x ∷ xs) [] h k = absurd h
 
-  same_set : (xs xs' : List Thread) → SameThreads p p' sides xs xs' → (k : ℕ) (y y' : Thread) → SameThread p p' sides y y' → SameThreads p p' sides (slice_set xs k y) (slice_set xs' k y')
+  same_set : (xs xs' : List Thread) → SameThreads p p' sides xs xs' → (k : ℕ) (y y' : Thread) → SameThread p p' sides y y'
+      → SameThreads p p' sides (slice_set xs k y) (slice_set xs' k y')
   same_set [] [] h k y y' s = tt
   same_set (x ∷ xs) (x' ∷ xs') h zero y y' s = (s, h.1)
   same_set (x ∷ xs) (x' ∷ xs') h (suc k) y y' s = (h.0, same_set xs xs' h.1 k y y' s)
@@ -122,7 +126,11 @@ module _ (p p' : Program) (sides : Entry → Side) (marks : Entry → Marks) (ar
     unfolding step
     turned_by true x x' e a =
         subst (λ v. Mid p p' sides v (with_after t w' (turn_of p' w'.shared x'))) (sym (ap (step_of p w t) e))
-        (record { shared = a.shared; threads = same_set w.threads w'.threads h.threads t (turn_of p w.shared x).thread (turn_of p' w'.shared x').thread a.thread })
+        (record {
+          shared = a.shared;
+          threads = same_set w.threads w'.threads h.threads t (turn_of p w.shared x).thread
+              (turn_of p' w'.shared x').thread a.thread;
+        })
     turned_by false x x' e a = record { shared = a.0; threads = same_set_right w.threads w'.threads h.threads t x (turn_of p' w'.shared x').thread e a.1 }
 
     none_turned : (b : Bool) → slice_get w.threads t ≡ None → Mid p p' sides (step_if b p w t) w'
@@ -130,7 +138,8 @@ module _ (p p' : Program) (sides : Entry → Side) (marks : Entry → Marks) (ar
     none_turned true e = subst (λ v. Mid p p' sides v w') (sym (ap (step_of p w t) e)) h
     none_turned false e = h
 
-    turned_at : (o o' : Option Thread) → slice_get w.threads t ≡ o → SameOption o o' → Mid p p' sides (step_if (keeps_at p' marks o') p w t) (step_of p' w' t o')
+    turned_at : (o o' : Option Thread) → slice_get w.threads t ≡ o → SameOption o o'
+        → Mid p p' sides (step_if (keeps_at p' marks o') p w t) (step_of p' w' t o')
     turned_at None None e same = none_turned false e
     turned_at (Some x) (Some x') e same = turned_by (keeps p' marks x') x x' e (thread_turned w.shared w'.shared h.shared x x' same)
     turned_at None (Some x') e same = absurd same

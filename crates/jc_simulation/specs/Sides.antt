@@ -80,7 +80,8 @@ pub record IsSide (p p' : Program) (method : Entry) (t : Side) : Type 0 where
 -- the methods of a program beside those of its twin
 pub record AreSides (p p' : Program) (sides : Entry → Side) : Type 0 where
   pub count : length p'.classes ≡ length p.classes
-  pub pair : (class : ℕ) (c : Linked) → slice_get p.classes class ≡ Some c → (new : Linked) × (slice_get p'.classes class ≡ Some new) × IsPair p.names p'.names c new
+  pub pair : (class : ℕ) (c : Linked) → slice_get p.classes class ≡ Some c
+      → (new : Linked) × (slice_get p'.classes class ≡ Some new) × IsPair p.names p'.names c new
   pub added : (c new : Linked) (pair : IsChangedPair p.names p'.names c new) → slice_get new.bodies (length c.bodies) ≡ Some pair.added
   pub names : map (λ (c : Linked). c.name) p'.classes ≡ map (λ (c : Linked). c.name) p.classes
   pub differ : DifferInName p.classes

@@ -1,1 +1,1 @@
-mod FitExampleLaws
+pub mod FitExampleLaws
