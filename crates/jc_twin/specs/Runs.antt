@@ -1,0 +1,34 @@
+-- What is said of the runs of a program, of its twin, and of one case.
+use Rattle.std.specs.Prelude.{ℕ, ◌≤◌, List}
+use Rattle.jc_programs.specs.declared.program.Program.{Program}
+use Rattle.jc_programs.specs.declared.run_plan.Case.{Case}
+use Rattle.jc_programs.specs.declared.run_end.Entry.{Entry}
+use Rattle.jc_programs.specs.Entries.{AreEntries}
+use Rattle.jc_emit.specs.Marks.{Marks}
+use Rattle.jc_emit.specs.TwinProgram.{TwinProgram}
+use Rattle.jc_world.specs.Begin.{begin_case}
+use Rattle.jc_world.specs.Run.{run}
+use Rattle.jc_simulation.specs.Marking.{AreMarks}
+use Rattle.jc_simulation.specs.Kept.{row}
+use Rattle.jc_simulation.specs.Same.{Same}
+use Rattle.jc_simulation.specs.Laws.{kept_of, IsKeptBySpread}
+
+-- where the one program is the twin of the other, and the threads of the case have entries; `marks` says of each instruction of
+-- the twin what it is, which the two programs tell
+abbrev pub ForTwins : (before after : Program) → Case → ((Entry → Marks) → Type 0) → Type 0
+ForTwins before after case Law = (marks : Entry → Marks) → TwinProgram before after → AreMarks before after marks
+    → (entries : List Entry) → AreEntries before case.threads entries → Law marks
+
+-- the run of the twin leaves what the run of the original under its kept turns leaves
+abbrev pub SameRun : (before after : Program) → Case → Type 0
+SameRun before after case = ForTwins before after case
+    (λ marks. (turns : List ℕ) → Same after marks (run before case (kept_of after marks case turns)) (run after case turns))
+
+-- each list of turns of the original is the kept part of one of the twin, which is at most 18 times as long
+abbrev pub EachSchedule : (before after : Program) → Case → Type 0
+EachSchedule before after case = ForTwins before after case (λ marks. (turns : List ℕ) → IsKeptBySpread before after marks case turns)
+
+-- a thread of the twin takes at most 17 probe turns in a row
+abbrev pub FewProbeTurns : (before after : Program) → Case → Type 0
+FewProbeTurns before after case = ForTwins before after case
+    (λ marks. (t : ℕ) (turns : List ℕ) → row after marks (begin_case after case) t turns 0 ≤ 17)
