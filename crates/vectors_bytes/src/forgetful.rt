@@ -24,6 +24,20 @@ impl Files for Forgetful {
         self.inner.read(alloc, path, into)
     }
 
+    fn read_part(
+        &mut self,
+        alloc: Global,
+        path: &str,
+        from: u64,
+        into: &mut Vec<u8>,
+    ) -> Result<bool, FileFault> {
+        self.inner.read_part(alloc, path, from, into)
+    }
+
+    fn list(&mut self, alloc: Global, folder: &str) -> Result<Vec<String>, FileFault> {
+        self.inner.list(alloc, folder)
+    }
+
     fn write(&mut self, path: &str, _bytes: &[u8]) -> Result<(), FileFault> {
         self.inner.write(path, &[])
     }
