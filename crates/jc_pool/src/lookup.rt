@@ -4,7 +4,7 @@ ghost use Rattle.jc_bytes.specs.Descriptor.{IsFieldDescriptor, IsMethodDescripto
 ghost use Rattle.jc_bytes.specs.Modified.{IsModified};
 ghost use Rattle.jc_bytes.specs.Texts.{IsShortText};
 ghost use Rattle.jc_pool.specs.Adding.{IsFirst, IsNowhere};
-ghost use Rattle.jc_pool.specs.Lookup.{utf8_of, class_name_of, signature_of, const_in, const_of};
+ghost use Rattle.jc_pool.specs.Lookup.{utf8_of, class_name_of, string_of, signature_of, const_in, const_of};
 ghost use Rattle.jc_pool.specs.Lookup.{member, judged_member, HasShortTexts, ref_of, dynamic_of, ref_in, reference_of, member_of};
 
 use crate::entry::Entry;
@@ -118,6 +118,25 @@ impl Pool {
     {
         match self.entry(place) {
             Some(Entry::Class { name }) => self.utf8_at(*name),
+            _ => Err(BadIndex),
+        }
+    }
+
+    /// The text of the String entry at a place: the bytes of the Utf8 entry that it names (JVM
+    /// Specification 4.4.3). They need not be modified UTF-8.
+    ///
+    /// # Errors
+    ///
+    /// `BadIndex` exactly where no String entry stands at the place, or no Utf8 entry at the place
+    /// that it names.
+    #[tactic(auto, unfolding(crate::specs::Lookup::string_of))]
+    pub fn string_at(&self, place: u16) -> Result<&[u8], BadIndex>
+        ensures text { IfOk result (λ text. string_of self.now place ≡ Some text.now) }
+        ensures size { IfOk result (λ text. IsShortText text.now) }
+        ensures bad { IsErr result ↔ (string_of self.now place ≡ None) }
+    {
+        match self.entry(place) {
+            Some(Entry::String { text }) => self.utf8_at(*text),
             _ => Err(BadIndex),
         }
     }
