@@ -112,6 +112,7 @@ pub fn named_bodies(
     ensures states { IfOk result (λ named. AreKeptStates names.new named.bodies named.states) }
     ensures few { IfOk result (λ named. places_kept named.bodies named.states ≤ room) }
     ensures refused { IfErr result (λ e. Said e (IsFirstCause (code_causes class.now))) }
+    ensures grows { Grows names.old names.new }
 {
     let bodies = read_bodies(alloc, class, names)?;
     let states = check_bodies(alloc, &bodies, room, names)?;

@@ -14,8 +14,8 @@ const OLDEST: u16 = 50;
 /// The greatest major version that is taken.
 const NEWEST: u16 = 61;
 
-/// Whether the major version is none that is taken.
-fn is_wrong_version(major: u16) -> bool
+/// Whether the major version is none that is taken: below 50 or above 61 (JVM Specification 4.1, table 4.1-A).
+pub fn is_wrong_version(major: u16) -> bool
     ensures { IsTrue result ↔ IsOutside major }
 {
     major < OLDEST || major > NEWEST

@@ -21,6 +21,8 @@ mod twin;
 mod whole;
 
 pub use analysis::analyse;
+pub use bodies::{NamedBodies, named_bodies};
+pub use class::is_wrong_version;
 pub use instrumented::{
     each_class_has_one_reason, each_class_has_one_twin, each_pool_grows, reasons_are_in_order,
 };
