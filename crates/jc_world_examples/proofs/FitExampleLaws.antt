@@ -128,9 +128,12 @@ abs_is_program = record {
     record {
       bodies = All-from_recursion (IsProgramBody (codes "[Z" ∷ [])) (abs ∷ []) (record { well_made = abs_made; checked = passes_checked (codes "[Z" ∷ []) abs (omega arith) abs_verdict; numbered = (record { locals = (tt, tt); stack = tt }, tt) }, tt);
       statics = All-from_recursion IsStatic [] tt;
+      few_bodies = omega arith;
+      few_statics = omega arith;
     },
     tt,
   );
+  few = omega arith;
   distinct = (tt, tt);
 }
 
@@ -188,11 +191,13 @@ unfolding types_from
 inc_static = record {
   bodies = All-from_recursion (IsProgramBody (codes "[Z" ∷ [])) (inc ∷ []) (record { well_made = inc_made; checked = passes_checked (codes "[Z" ∷ []) inc (omega arith) inc_verdict; numbered = tt }, tt);
   statics = All-from_recursion IsStatic (record { name = codes "x"; desc = codes "I"; first = pos 0 } ∷ []) (refl, tt);
+  few_bodies = omega arith;
+  few_statics = omega arith;
 }
 
 pub inc_is_program : IsProgram inc_program
 unfolding IsDistinct
-inc_is_program = record { classes = All-from_recursion (IsLinked (codes "[Z" ∷ [])) inc_program.classes (inc_static, tt); distinct = (tt, tt) }
+inc_is_program = record { classes = All-from_recursion (IsLinked (codes "[Z" ∷ [])) inc_program.classes (inc_static, tt); few = omega arith; distinct = (tt, tt) }
 
 inc_entries : AreEntries inc_program (inc_thread ∷ inc_thread ∷ []) (record { class = 0; method = 0 } ∷ record { class = 0; method = 0 } ∷ [])
 unfolding entry_of types_from rest_from
@@ -379,9 +384,12 @@ probed_is_program = record {
         (record { well_made = init_made; checked = passes_checked (codes "[Z" ∷ []) (init a_name (pos 7) 2) (omega arith) init_verdict; numbered = (record { locals = tt; stack = (omega arith, tt) }, tt) }, tt),
       );
       statics = All-from_recursion IsStatic (record { name = codes "$jacocoData"; desc = codes "[Z"; first = pos 0 } ∷ []) (probed_data, tt);
+      few_bodies = omega arith;
+      few_statics = omega arith;
     },
     tt,
   );
+  few = omega arith;
   distinct = (tt, tt);
 }
 
@@ -446,9 +454,12 @@ wide_is_program = record {
     record {
       bodies = All-from_recursion (IsProgramBody (codes "[Z" ∷ [])) (wide ∷ []) (record { well_made = wide_made; checked = passes_checked (codes "[Z" ∷ []) wide (omega arith) wide_verdict; numbered = (record { locals = tt; stack = (tt, tt) }, tt) }, tt);
       statics = All-from_recursion IsStatic [] tt;
+      few_bodies = omega arith;
+      few_statics = omega arith;
     },
     tt,
   );
+  few = omega arith;
   distinct = (tt, tt);
 }
 
