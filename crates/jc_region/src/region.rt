@@ -1,6 +1,6 @@
 //! Blocks of words.
-ghost use Rattle.std.specs.Prelude.{◌≡◌, ◌↔◌, ◌+◌, ◌-◌, ◌<◌, ◌≤◌, [], ◌∷◌, ◌++◌, length, take, drop, replicate, IsTrue, IsNone, slice_index_or, IfOk, IfNone, IfSome, OnSome};
-ghost use Rattle.jc_region.specs.Blocks.{IsLive, words_in, words_at, with_word, with_block};
+ghost use Rattle.std.specs.Prelude.{◌≡◌, ◌↔◌, ◌+◌, ◌<◌, ◌≤◌, [], ◌++◌, length, take, drop, replicate, IsNone, slice_index_or, IfOk, IfNone, IfSome, OnSome};
+ghost use Rattle.jc_region.specs.Blocks.{IsBlock, IsLive, words_in, words_at, with_word, with_block};
 
 use jc_bytes::Memory;
 use std::alloc::Global;
@@ -17,7 +17,8 @@ pub struct Block {
 #[derive(Drop)]
 pub struct Region {
     words: Vec<u64>,
-    lens: Vec<u32>,
+    ends: Vec<u32>,
+    count: u32,
     used: u32,
 }
 
@@ -41,16 +42,6 @@ fn clear(words: &mut [u64], from: usize, count: usize)
     words[from..from + count].fill(0);
 }
 
-/// Writes the length of a block where it begins, and 0 at its other places.
-fn mark(lens: &mut [u32], from: usize, len: u32)
-    requires some { 0 < len }
-    requires room { from + len ≤ length lens.old }
-    ensures { lens.new ≡ take from lens.old ++ (len ∷ (replicate (len - 1) 0 ++ drop (from + len) lens.old)) }
-{
-    lens[from..from + len as usize].fill(0);
-    lens[from] = len;
-}
-
 impl Region {
     /// No block, and room for `n` words. No later call takes memory.
     ///
@@ -62,7 +53,8 @@ impl Region {
     {
         Ok(Region {
             words: vec![in alloc; 0; n as usize]?,
-            lens: vec![in alloc; 0; n as usize]?,
+            ends: vec![in alloc; 0; n as usize]?,
+            count: 0,
             used: 0,
         })
     }
@@ -74,17 +66,25 @@ impl Region {
         self.used
     }
 
-    /// Whether there is such a block.
-    pub fn is_live(&self, block: Block) -> bool
-        ensures { IsTrue result ↔ ((0 < block.len) × IsLive self.now.blocks block.at block.len) }
+    /// How many blocks there are.
+    pub fn count(&self) -> u32
+        ensures { result ≡ length self.now.blocks }
     {
-        if block.len == 0 {
-            return false;
-        }
-        if self.used <= block.at {
-            return false;
-        }
-        self.lens[block.at as usize] == block.len
+        self.count
+    }
+
+    /// The block with a number, counted from 0 in the order in which they were made.
+    pub fn block(&self, number: u32) -> Block
+        requires { number < length self.now.blocks }
+        ensures { IsBlock self.now.blocks result.at result.len number }
+    {
+        let end = self.ends[number as usize];
+        let at = if number == 0 {
+            0
+        } else {
+            self.ends[number as usize - 1]
+        };
+        Block { at, len: end - at }
     }
 
     /// A new block of `len` words, all 0, behind the others, which stay as they are. `None` exactly where no room is
@@ -101,8 +101,9 @@ impl Region {
         }
         let at = self.used;
         clear(&mut self.words, at as usize, len as usize);
-        mark(&mut self.lens, at as usize, len);
         self.used = at + len;
+        self.ends[self.count as usize] = at + len;
+        self.count += 1;
         Some(Block { at, len })
     }
 
@@ -128,6 +129,7 @@ impl Region {
     pub fn reset(&mut self)
         ensures { self.new ≡ record self.old { blocks = [] } }
     {
+        self.count = 0;
         self.used = 0;
     }
 }

@@ -1,10 +1,10 @@
 use Rattle.std.proofs.Common.{◌≡◌, ℕ, ◌+◌, List, ◌++◌, length, take, drop, replicate, refl, arith, ◌∙◌, ap, sym}
 use Rattle.std.proofs.lemmas.List.{with_items_is}
-use Rattle.std.specs.Vec.{with_items}
+use Rattle.std.specs.Vec.{with_item, with_items}
 use Rattle.jc_region.specs.declared.region.Region.TheInside.{Inside}
 use Rattle.jc_region.specs.Blocks.{Blocks, words_in, with_block}
 use Rattle.jc_region.specs.Places.{IsSound, blocks_of}
-use Rattle.jc_region.proofs.InsideLaws.{used_is, marking, Grown, grown_sound, grown_blocks}
+use Rattle.jc_region.proofs.InsideLaws.{used_is, count_below, Grown, grown_sound, grown_blocks}
 use Rattle.jc_region.proofs.region.Region.alloc.Goals as goal
 
 -- the room and the words of the view
@@ -29,16 +29,27 @@ returns-clause-room c =
 pub returns-clause-place : goal.returns-clause-place
 returns-clause-place c = ap (λ n. record { at = n; len = c.args.len }) (sym (words_is c.self.inside c.args.self.now c.self.invariant c.self.view_is))
 
-grown : (c : goal.After-self-3-1) → Grown c.self.inside (record { words = with_items c.self.inside.words c.clear.new.words; lens = with_items c.self.inside.lens c.mark.new.lens; used = c.self.inside.used + c.args.len }) c.args.len
+pub index_mut-requires : goal.index_mut-requires
+index_mut-requires c = omega (arith, count_below c.self.inside c.self.invariant, c.if-len-self.false, c.self.invariant.as_many, c.requires, c.len.ensures)
+
+pub overflow_add-self-2 : goal.overflow_add-self-2
+overflow_add-self-2 c = omega (arith, count_below c.self.inside c.self.invariant, c.if-len-self.false, c.self.invariant.few, c.requires, c.len.ensures)
+
+grown : (c : goal.After-self-4-1) → Grown c.self.inside (record {
+  words = with_items c.self.inside.words c.clear.new.words;
+  ends = with_item c.self.inside.ends c.self.inside.count (c.self.inside.used + c.args.len);
+  count = c.self.inside.count + 1;
+  used = c.self.inside.used + c.args.len;
+}) c.args.len
 grown c =
     let used = c.self.inside.used in
     let len = c.args.len in
     record {
       used = refl;
+      count = refl;
       words = with_items_is c.self.inside.words c.clear.new.words (c.clear.auto.words ∙ c.deref_mut.ensures.len)
           ∙ (c.clear.ensures ∙ ap (λ (ws : List ℕ). take used ws ++ (replicate len 0 ++ drop (used + len) ws)) c.deref_mut.ensures.value);
-      lens = with_items_is c.self.inside.lens c.mark.new.lens (c.mark.auto.lens ∙ c.deref_mut-2.ensures.len)
-          ∙ (c.mark.ensures ∙ ap (λ (ls : List ℕ). take used ls ++ (marking len ++ drop (used + len) ls)) c.deref_mut-2.ensures.value);
+      ends = refl;
       some = c.requires;
       room = omega arith;
     }
