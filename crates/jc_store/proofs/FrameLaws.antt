@@ -10,6 +10,7 @@ use Rattle.jc_store.specs.declared.cell.Cell.TheVariants.{Empty}
 use Rattle.jc_store.specs.declared.frame.Frame.TheInside.{Inside}
 use Rattle.jc_store.specs.Cells.{held, on_stack}
 use Rattle.jc_store.specs.Frames.{frame_of, IsFrame}
+use Rattle.jc_store.proofs.ReadLaws.{got_mapped}
 
 -- ---- a list from its end
 
@@ -19,27 +20,12 @@ put_front xs n x less = ap reverse (take_more_set xs n x less) ∙ reverse-appen
 cut_front : {X : Type 0} (xs : List X) (n count : ℕ) → n ≤ length xs → reverse (take (n - count) xs) ≡ drop count (reverse (take n xs))
 cut_front xs n count most = same_lists _ _ (search (rules, places, length-reverse)) (λ k d less. grind (arith, places, get_or-reverse, length-reverse))
 
-pub got : {X : Type 0} (xs : List X) (i : ℕ) (d : X) → i < length xs → slice_get xs i ≡ Some (slice_index_or xs i d)
-got [] i d less = absurd (omega arith)
-got (x ∷ xs) zero d less = refl
-got (x ∷ xs) (suc i) d less = got xs i d (omega arith)
-
-pub past : {X : Type 0} (xs : List X) (i : ℕ) → length xs ≤ i → slice_get xs i ≡ None
-past [] i most = refl
-past (x ∷ xs) zero most = absurd (omega arith)
-past (x ∷ xs) (suc i) most = past xs i (omega arith)
-
-got_mapped : {X Y : Type 0} (f : X → Y) (xs : List X) (i : ℕ) (d : X) → i < length xs → slice_get (map f xs) i ≡ Some (f (slice_index_or xs i d))
-got_mapped f [] i d less = absurd (omega arith)
-got_mapped f (x ∷ xs) zero d less = refl
-got_mapped f (x ∷ xs) (suc i) d less = got_mapped f xs i d (omega arith)
-
 -- ---- a frame
 
 abbrev pub frame_with : Entry → ℕ → List (Option Value) → List Value → Frame
 frame_with method place locals stack = record { method = method; place = place; locals = locals; stack = stack }
 
-pub pushed : (f : Inside) (cells : List Cell) (c : Cell) → IsFrame f → f.locals + f.height < 1004 → cells ≡ slice_set f.cells.items (f.locals + f.height) c
+pub pushed : (f : Inside) (cells : List Cell) (c : Cell) → IsFrame f → f.locals + f.height < 1006 → cells ≡ slice_set f.cells.items (f.locals + f.height) c
     → frame_with f.method f.place (map held (take f.locals cells)) (map on_stack (reverse (take (f.height + 1) (drop f.locals cells)))) ≡ record (frame_of f) { stack = on_stack c ∷ (frame_of f).stack }
 pushed f cells c sound room set =
     let locals : take f.locals cells ≡ take f.locals f.cells.items = ap (take f.locals) set ∙ take-set-le f.locals f.cells.items (f.locals + f.height) c (omega arith) in

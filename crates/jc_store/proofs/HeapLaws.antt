@@ -20,7 +20,8 @@ use Rattle.jc_region.specs.Blocks.{Blocks, words_in, IsBlock, IsLive, number_at,
 use Rattle.jc_store.specs.declared.element.Element.{Element}
 use Rattle.jc_store.specs.declared.element.Element.TheVariants as elements
 use Rattle.jc_store.specs.declared.heap.HeapObject.TheVariants as tolds
-use Rattle.jc_store.specs.Heaps.{element_type, element_at, number_in, class_in, object_with, object_of, objects_of, lengths_of, AreObjects, IsHeap, shown_as, HasElement, HasIntElement, element_in, with_number, with_element_at}
+use Rattle.jc_store.specs.Heaps.{element_type, element_at, number_in, class_in, object_with, object_of, objects_of, object_at, AreObjects, IsHeap, TellsOf, HasElement, HasIntElement, element_in, with_number, with_element_at}
+use Rattle.jc_store.proofs.ReadLaws.{got_mapped}
 
 -- ---- blocks by their places
 
@@ -51,9 +52,25 @@ long_there [] k len there = absurd there
 long_there (b ∷ blocks) zero len there = there
 long_there (b ∷ blocks) (suc k) len there = long_there blocks k len there
 
-pub live_long : (blocks : List (List ℕ)) (at len : ℕ) → AreObjects blocks → IsLive blocks at len → length (words_at blocks at) ≡ len
-live_long blocks at len all live =
-    ap (λ k. length (slice_index_or blocks k [])) (numbered blocks at len live.0 all live.1) ∙ long_there blocks live.0 len live.1.there
+-- the words of the block with a number, by the place where it begins
+pub words_is : (blocks : List (List ℕ)) (at len k : ℕ) → AreObjects blocks → IsBlock blocks at len k → words_at blocks at ≡ slice_index_or blocks k []
+words_is blocks at len k all block = ap (λ n. slice_index_or blocks n []) (numbered blocks at len k all block)
+
+pub block_long : (blocks : List (List ℕ)) (at len k : ℕ) → IsBlock blocks at len k → length (slice_index_or blocks k []) ≡ len
+block_long blocks at len k block = long_there blocks k len block.there
+
+pub block_some : (blocks : List (List ℕ)) (at len k : ℕ) → AreObjects blocks → IsBlock blocks at len k → 0 < len
+block_some blocks at len k all block = some_there blocks k all block.there
+  where
+    some_there : (bs : List (List ℕ)) (n : ℕ) → AreObjects bs → IsSomeAnd (slice_get bs n) (λ b. length b ≡ len) → 0 < len
+    some_there [] n each there = absurd there
+    some_there (b ∷ bs) zero each there = omega (arith, nonempty b each.0, there)
+    some_there (b ∷ bs) (suc n) each there = some_there bs n each.1 there
+
+pub object_is : (blocks : List (List ℕ)) (k : ℕ) → object_at (map object_of blocks) k ≡ object_of (slice_index_or blocks k [])
+object_is [] k = refl
+object_is (b ∷ blocks) zero = refl
+object_is (b ∷ blocks) (suc k) = object_is blocks k
 
 pub heap_words-objects : (blocks : List (List ℕ)) → AreObjects blocks → heap_words (map object_of blocks) ≡ words_in blocks
 heap_words-objects [] all = refl
@@ -61,18 +78,43 @@ heap_words-objects (b ∷ blocks) all = omega (arith, all.0, heap_words-objects 
 
 -- ---- what is told of an object
 
-pub array_shown : (words : List ℕ) (len : ℕ) (e : Element) → length words ≡ len → 0 < len → Some (element_type e) ≡ element_at (slice_index_or words 0 0) → shown_as (tolds.Array e (len - 1)) (object_of words)
-array_shown [] len e size some is = absurd (omega arith)
-array_shown (head ∷ words) len e size some is =
+array_told : (words : List ℕ) (len : ℕ) (e : Element) → length words ≡ len → 0 < len → Some (element_type e) ≡ element_at (slice_index_or words 0 0) → TellsOf (Some (tolds.Array e (len - 1))) (Some (object_of words))
+array_told [] len e size some is = absurd (omega arith)
+array_told (head ∷ words) len e size some is =
     let count : length (map (number_in (element_type e)) words) ≡ len - 1 = omega (arith, length-map words (number_in (element_type e)), size) in
-    let P : Option FieldType → Type 0 = λ o. shown_as (tolds.Array e (len - 1)) (object_with o head words) in
-    subst P is (refl, count)
+    let P : Option FieldType → Type 0 = λ o. TellsOf (Some (tolds.Array e (len - 1))) (Some (object_with o head words)) in
+    subst P is (map (number_in (element_type e)) words, refl, count)
 
-pub throwable_shown : (words : List ℕ) (len : ℕ) → length words ≡ len → 0 < len → None ≡ element_at (slice_index_or words 0 0) → shown_as (tolds.Throwable (class_in (slice_index_or words 0 0))) (object_of words)
-throwable_shown [] len size some is = absurd (omega arith)
-throwable_shown (head ∷ words) len size some is =
-    let P : Option FieldType → Type 0 = λ o. shown_as (tolds.Throwable (class_in head)) (object_with o head words) in
+throwable_told : (words : List ℕ) (len : ℕ) → length words ≡ len → 0 < len → None ≡ element_at (slice_index_or words 0 0) → TellsOf (Some (tolds.Throwable (class_in (slice_index_or words 0 0)))) (Some (object_of words))
+throwable_told [] len size some is = absurd (omega arith)
+throwable_told (head ∷ words) len size some is =
+    let P : Option FieldType → Type 0 = λ o. TellsOf (Some (tolds.Throwable (class_in head))) (Some (object_with o head words)) in
     subst P is refl
+
+there_is : (blocks : List (List ℕ)) (at len k : ℕ) → IsBlock blocks at len k → slice_get (map object_of blocks) k ≡ Some (object_of (slice_index_or blocks k []))
+there_is blocks at len k block = got_mapped object_of blocks k [] (inside blocks k block.there)
+  where
+    inside : (bs : List (List ℕ)) (n : ℕ) → IsSomeAnd (slice_get bs n) (λ b. length b ≡ len) → n < length bs
+    inside [] n there = absurd there
+    inside (b ∷ bs) zero there = omega arith
+    inside (b ∷ bs) (suc n) there = omega (arith, inside bs n there)
+
+pub tells_array : (blocks : List (List ℕ)) (at len k head : ℕ) (e : Element) → AreObjects blocks → IsBlock blocks at len k → head ≡ slice_index_or (words_at blocks at) 0 0 → Some (element_type e) ≡ element_at head
+    → TellsOf (Some (tolds.Array e (len - 1))) (slice_get (map object_of blocks) k)
+tells_array blocks at len k head e all block read is =
+    let words = slice_index_or blocks k [] in
+    let first : head ≡ slice_index_or words 0 0 = read ∙ ap (λ ws. slice_index_or ws 0 0) (words_is blocks at len k all block) in
+    subst (TellsOf (Some (tolds.Array e (len - 1)))) (sym (there_is blocks at len k block))
+    (array_told words len e (block_long blocks at len k block) (block_some blocks at len k all block) (is ∙ ap element_at first))
+
+pub tells_throwable : (blocks : List (List ℕ)) (at len k head : ℕ) → AreObjects blocks → IsBlock blocks at len k → head ≡ slice_index_or (words_at blocks at) 0 0 → None ≡ element_at head
+    → TellsOf (Some (tolds.Throwable (class_in head))) (slice_get (map object_of blocks) k)
+tells_throwable blocks at len k head all block read is =
+    let words = slice_index_or blocks k [] in
+    let first : head ≡ slice_index_or words 0 0 = read ∙ ap (λ ws. slice_index_or ws 0 0) (words_is blocks at len k all block) in
+    subst (TellsOf (Some (tolds.Throwable (class_in head)))) (sym (there_is blocks at len k block))
+    (subst (λ h. TellsOf (Some (tolds.Throwable (class_in h))) (Some (object_of words))) (sym first)
+    (throwable_told words len (block_long blocks at len k block) (block_some blocks at len k all block) (is ∙ ap element_at first)))
 
 -- ---- a new object
 
@@ -117,7 +159,6 @@ objects-append (b ∷ blocks) block all one = (all.0, objects-append blocks bloc
 pub record Makes (heap heap' : Blocks) (object : HeapObject) : Type 0 where
   pub sound : IsHeap heap'
   pub objects : objects_of heap' ≡ objects_of heap ++ object ∷ []
-  pub lengths : lengths_of heap' ≡ lengths_of heap ++ words_of object ∷ []
 
 makes : (heap heap' : Blocks) (block : List ℕ) (object : HeapObject) → IsHeap heap → heap'.most ≡ heap.most → heap'.blocks ≡ heap.blocks ++ block ∷ []
     → object_of block ≡ object → words_of object ≡ length block → Makes heap heap' object
@@ -126,7 +167,6 @@ makes heap heap' block object sound most blocks is words =
     record {
       sound = record { most = most ∙ sound.most; objects = subst AreObjects (sym blocks) all };
       objects = ap (map object_of) blocks ∙ (map-append object_of heap.blocks (block ∷ []) ∙ ap (λ o. map object_of heap.blocks ++ o ∷ []) is);
-      lengths = ap (map length) blocks ∙ (map-append length heap.blocks (block ∷ []) ∙ ap (λ n. map length heap.blocks ++ n ∷ []) (sym words));
     }
 
 zero_number : (type : FieldType) → number_in type 0 ≡ pos 0
@@ -250,31 +290,27 @@ objects_at [] k all some = absurd (omega arith)
 objects_at (b ∷ blocks) zero all some = all.0
 objects_at (b ∷ blocks) (suc k) all some = objects_at blocks k all.1 some
 
-same_lengths : (blocks : List (List ℕ)) (k : ℕ) (block : List ℕ) → length block ≡ length (slice_index_or blocks k []) → map length (slice_set blocks k block) ≡ map length blocks
-same_lengths [] k block same = refl
-same_lengths (b ∷ blocks) zero block same = ap (λ n. n ∷ map length blocks) same
-same_lengths (b ∷ blocks) (suc k) block same = ap (λ ns. length b ∷ ns) (same_lengths blocks k block same)
-
 -- an element is another number, and nothing else is
-pub record Sets (heap heap' : Blocks) (at i : ℕ) (n : ℤ) : Type 0 where
+pub record Sets (heap heap' : Blocks) (k i : ℕ) (n : ℤ) : Type 0 where
   pub sound : IsHeap heap'
-  pub objects : objects_of heap' ≡ with_element_at heap at i n
-  pub lengths : lengths_of heap' ≡ lengths_of heap
+  pub objects : objects_of heap' ≡ with_element_at (objects_of heap) k i n
 
-pub sets : (heap heap' : Blocks) (at : ℕ) (t : FieldType) (i word : ℕ) (n : ℤ) → IsHeap heap → HasElement (object_of (words_at heap.blocks at)) t i → number_in t word ≡ n
-    → heap' ≡ with_word heap at (i + 1) word → Sets heap heap' at i n
-sets heap heap' at t i word n sound has is set =
-    let words = words_at heap.blocks at in
-    let some : 0 < length words = omega (arith, element_within words t i has) in
-    let new : object_of (slice_set words (i + 1) word) ≡ with_number (object_of words) i n = element_set words t i word n has is in
+pub sets : (heap heap' : Blocks) (at len k : ℕ) (t : FieldType) (i word : ℕ) (n : ℤ) → IsHeap heap → IsBlock heap.blocks at len k → HasElement (object_at (objects_of heap) k) t i → number_in t word ≡ n
+    → heap' ≡ with_word heap at (i + 1) word → Sets heap heap' k i n
+sets heap heap' at len k t i word n sound block has is set =
+    let words = slice_index_or heap.blocks k [] in
+    let there : HasElement (object_of words) t i = subst (λ o. HasElement o t i) (object_is heap.blocks k) has in
+    let some : 0 < length words = omega (arith, element_within words t i there) in
+    let new : object_of (slice_set words (i + 1) word) ≡ with_number (object_of words) i n = element_set words t i word n there is in
     let one : words_of (object_of (slice_set words (i + 1) word)) ≡ length (slice_set words (i + 1) word) =
-    ap words_of new ∙ (same_words (object_of words) i n ∙ (objects_at heap.blocks (number_at heap.blocks at) sound.objects some ∙ sym (length-set words (i + 1) word))) in
-    let P : Blocks → Type 0 = λ h. Sets heap h at i n in
-    subst P (sym set) (record {
-      sound = record { most = sound.most; objects = set_objects heap.blocks (number_at heap.blocks at) (slice_set words (i + 1) word) sound.objects one };
-      objects = map-set object_of heap.blocks (number_at heap.blocks at) (slice_set words (i + 1) word)
-          ∙ ap (slice_set (map object_of heap.blocks) (number_at heap.blocks at)) new;
-      lengths = same_lengths heap.blocks (number_at heap.blocks at) (slice_set words (i + 1) word) (length-set words (i + 1) word);
+    ap words_of new ∙ (same_words (object_of words) i n ∙ (objects_at heap.blocks k sound.objects some ∙ sym (length-set words (i + 1) word))) in
+    let here : with_word heap at (i + 1) word ≡ record heap { blocks = slice_set heap.blocks k (slice_set words (i + 1) word) } =
+    ap (λ m. record heap { blocks = slice_set heap.blocks m (slice_set (slice_index_or heap.blocks m []) (i + 1) word) }) (numbered heap.blocks at len k sound.objects block) in
+    let P : Blocks → Type 0 = λ h. Sets heap h k i n in
+    subst P (sym (set ∙ here)) (record {
+      sound = record { most = sound.most; objects = set_objects heap.blocks k (slice_set words (i + 1) word) sound.objects one };
+      objects = map-set object_of heap.blocks k (slice_set words (i + 1) word)
+          ∙ (ap (slice_set (map object_of heap.blocks) k) new ∙ ap (λ o. slice_set (map object_of heap.blocks) k (with_number o i n)) (sym (object_is heap.blocks k)));
     })
 
 -- an array of another type than long is one of some type, of which numbers are ints
@@ -282,6 +318,18 @@ pub int_element : (object : HeapObject) (i : ℕ) → HasIntElement object i →
 int_element (array Long elements) i has = absurd has
 int_element (array type elements) i has = (type, (refl, has), λ word. refl)
 int_element (throwable c) i has = absurd has
+
+-- an element there is
+pub element_there : (blocks : List (List ℕ)) (k : ℕ) (t : FieldType) (i : ℕ) → HasElement (object_at (map object_of blocks) k) t i → (k < length blocks) × (i + 1 < length (slice_index_or blocks k []))
+element_there [] k t i has = absurd has
+element_there (b ∷ blocks) zero t i has = let first : 0 < length (b ∷ blocks) = omega arith in (first, element_within b t i has)
+element_there (b ∷ blocks) (suc k) t i has =
+    let rest : (k < length blocks) × (i + 1 < length (slice_index_or blocks k [])) = element_there blocks k t i has in
+    let more : suc k < length (b ∷ blocks) = omega (arith, rest.0) in
+    (more, rest.1)
+
+pub index_within : (blocks : List (List ℕ)) (at len k : ℕ) (t : FieldType) (i : ℕ) → IsBlock blocks at len k → HasElement (object_at (map object_of blocks) k) t i → i + 1 < len
+index_within blocks at len k t i block has = omega (arith, (element_there blocks k t i has).1, block_long blocks at len k block)
 
 -- ---- numbers in words
 
@@ -311,6 +359,3 @@ int_element_value elements.Char words i word wrong has read = ap int (ap (λ n. 
 int_element_value elements.Byte words i word wrong has read = ap int (ap (λ n. cast_signed w32 (n % 2 ^ 32)) read ∙ sym (element_is words Byte i has))
 int_element_value elements.Short words i word wrong has read = ap int (ap (λ n. cast_signed w32 (n % 2 ^ 32)) read ∙ sym (element_is words Short i has))
 int_element_value elements.Int words i word wrong has read = ap int (ap (λ n. cast_signed w32 (n % 2 ^ 32)) read ∙ sym (element_is words Int i has))
-
-pub array_words : (type : FieldType) (n : ℕ) → words_of (array type (replicate n (pos 0))) ≡ n + 1
-array_words type n = ap (λ m. m + 1) (integers-length n)

@@ -1,2 +1,3 @@
-mod FrameLaws
+mod ReadLaws
 mod HeapLaws
+mod FrameLaws

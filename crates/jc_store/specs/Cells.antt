@@ -3,7 +3,6 @@ use Rattle.std.specs.Prelude.{Option, Some, None}
 use Rattle.jc_store.specs.declared.cell.Cell.{Cell}
 use Rattle.jc_store.specs.declared.cell.Cell.TheVariants as cells
 use Rattle.jc_world.specs.Values.{Value, int, long, null, object, memory_error, print_stream, probes, text}
-use Rattle.jc_store.specs.Values.{block_number}
 
 -- in a cell of the operand stack, each of which has a value
 abbrev pub on_stack : Cell → Value
@@ -11,7 +10,7 @@ on_stack cells.Empty = null
 on_stack (cells.Int x) = int x
 on_stack (cells.Long x) = long x
 on_stack cells.Null = null
-on_stack (cells.Object b) = object (block_number b)
+on_stack (cells.Object k) = object k
 on_stack cells.MemoryError = memory_error
 on_stack cells.PrintStream = print_stream
 on_stack (cells.Probes class count) = probes class count

@@ -6,7 +6,7 @@ use Rattle.jc_bytes.specs.Descriptor.{FieldType, Byte, Char, Int, Long, Short, B
 use Rattle.jc_programs.specs.declared.run_end.Thrown.{Thrown}
 use Rattle.jc_programs.specs.declared.run_end.Thrown.TheVariants.{Throwable}
 use Rattle.jc_programs.specs.Throwables.{throwables}
-use Rattle.jc_region.specs.Blocks.{Blocks, number_at, words_at}
+use Rattle.jc_region.specs.Blocks.{Blocks}
 use Rattle.jc_store.specs.declared.element.Element.{Element}
 use Rattle.jc_store.specs.declared.element.Element.TheVariants as elements
 use Rattle.jc_store.specs.declared.heap.HeapObject as told
@@ -54,10 +54,6 @@ object_of (head ∷ words) = object_with (element_at head) head words
 abbrev pub objects_of : Blocks → List HeapObject
 objects_of heap = map object_of heap.blocks
 
--- how many words each block has; so where each begins
-abbrev pub lengths_of : Blocks → List ℕ
-lengths_of heap = map length heap.blocks
-
 -- each block has as many words as its object takes
 abbrev pub AreObjects : List (List ℕ) → Type 0
 AreObjects [] = ⊤
@@ -67,11 +63,17 @@ pub record IsHeap (heap : Blocks) : Type 0 where
   pub most : heap.most ≡ most_words
   pub objects : AreObjects heap.blocks
 
--- what is told of an object: its class, or the type and the number of its elements
-abbrev pub shown_as : told.HeapObject → HeapObject → Type 0
-shown_as (tolds.Array element count) (array type elements) = (type ≡ element_type element) × (length elements ≡ count)
-shown_as (tolds.Throwable c) (throwable d) = d ≡ c
-shown_as _ _ = ⊥
+-- What is told of what stands there: the class of a throwable, or the type and the number of an array's elements. Nothing
+-- is told exactly where nothing stands.
+abbrev pub TellsOf : Option told.HeapObject → Option HeapObject → Type 0
+TellsOf None there = there ≡ None
+TellsOf (Some (tolds.Array element count)) there =
+    (elements : List ℤ) × (there ≡ Some (array (element_type element) elements)) × (length elements ≡ count)
+TellsOf (Some (tolds.Throwable c)) there = there ≡ Some (throwable c)
+
+-- the object with a number
+abbrev pub object_at : List HeapObject → ℕ → HeapObject
+object_at heap k = slice_index_or heap k (throwable Throwable)
 
 -- it is an array of elements of the type, and has one with this number
 abbrev pub HasElement : HeapObject → FieldType → ℕ → Type 0
@@ -93,6 +95,6 @@ HasIntElement (array Long elements) i = ⊥
 HasIntElement (array type elements) i = i < length elements
 HasIntElement (throwable c) i = ⊥
 
--- the objects with a number as an element of the array in the block that begins at a place
-abbrev pub with_element_at : Blocks → ℕ → ℕ → ℤ → List HeapObject
-with_element_at heap at i n = slice_set (objects_of heap) (number_at heap.blocks at) (with_number (object_of (words_at heap.blocks at)) i n)
+-- the objects with a number as an element of one of them
+abbrev pub with_element_at : List HeapObject → ℕ → ℕ → ℤ → List HeapObject
+with_element_at heap k i n = slice_set heap k (with_number (object_at heap k) i n)

@@ -1,3 +1,4 @@
+pub mod Codes
 pub mod Values
 pub mod Cells
 pub mod Frames

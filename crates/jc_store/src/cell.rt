@@ -4,7 +4,6 @@ ghost use Rattle.jc_store.specs.Values.{value_of};
 ghost use Rattle.jc_store.specs.Cells.{held, on_stack};
 
 use crate::value::Value;
-use jc_region::Block;
 
 /// A value, or nothing.
 #[derive(Clone, Copy, Debug, PartialEq, Eq)]
@@ -13,7 +12,7 @@ pub enum Cell {
     Int(i32),
     Long(i64),
     Null,
-    Object(Block),
+    Object(u32),
     MemoryError,
     PrintStream,
     Probes { class: u32, count: u32 },
@@ -30,7 +29,7 @@ impl Cell {
             Value::Int(x) => Cell::Int(x),
             Value::Long(x) => Cell::Long(x),
             Value::Null => Cell::Null,
-            Value::Object(block) => Cell::Object(block),
+            Value::Object(number) => Cell::Object(number),
             Value::MemoryError => Cell::MemoryError,
             Value::PrintStream => Cell::PrintStream,
             Value::Probes { class, count } => Cell::Probes { class, count },
@@ -56,7 +55,7 @@ impl Cell {
             Cell::Empty | Cell::Null => Value::Null,
             Cell::Int(x) => Value::Int(x),
             Cell::Long(x) => Value::Long(x),
-            Cell::Object(block) => Value::Object(block),
+            Cell::Object(number) => Value::Object(number),
             Cell::MemoryError => Value::MemoryError,
             Cell::PrintStream => Value::PrintStream,
             Cell::Probes { class, count } => Value::Probes { class, count },

@@ -10,8 +10,9 @@ use std::alloc::Global;
 use std::marker::Model;
 
 /// The most local variables and operands that a frame has room for: the slots of the widest method that the machine
-/// executes.
-pub const MOST_CELLS: usize = 1004;
+/// executes, and two more. No instruction leaves more than two operands more than it found, so a frame whose values are
+/// at most those slots has room for what any instruction leaves.
+pub const MOST_CELLS: usize = 1006;
 
 /// A frame (JVM Specification 2.6), in cells that are taken once.
 #[derive(Drop)]
@@ -64,7 +65,7 @@ impl Frame {
 
     /// The frame of a method that is called: so many local variables without a value, and no operands.
     pub fn enter(&mut self, method: Entry, locals: u16)
-        requires { locals ≤ 1004 }
+        requires { locals ≤ 1006 }
         ensures { self.new ≡ record { method = method; place = 0; locals = replicate locals None; stack = [] } }
     {
         self.method = method;
@@ -110,22 +111,22 @@ impl Frame {
     }
 
     /// The value that begins in a local variable, if one does. There is none past the last.
-    pub fn local(&self, slot: u16) -> Option<Value>
+    pub fn local(&self, slot: usize) -> Option<Value>
         ensures { option_map value_of result ≡ slice_index_or self.now.locals slot None }
     {
-        if slot as usize >= self.locals {
+        if slot >= self.locals {
             return None;
         }
-        self.cells[slot as usize].value()
+        self.cells[slot].value()
     }
 
     /// Puts a value into a local variable, or empties it. Nothing changes past the last.
-    pub fn set_local(&mut self, slot: u16, value: Option<Value>)
+    pub fn set_local(&mut self, slot: usize, value: Option<Value>)
         ensures { self.new ≡ record self.old { locals = slice_set self.old.locals slot (option_map value_of value) } }
     {
-        if (slot as usize) < self.locals {
+        if slot < self.locals {
             let cell = Cell::of_local(value);
-            self.cells[slot as usize] = cell;
+            self.cells[slot] = cell;
         }
     }
 
@@ -142,7 +143,7 @@ impl Frame {
 
     /// Puts a value on the operand stack.
     pub fn push(&mut self, value: Value)
-        requires { length self.old.locals + length self.old.stack < 1004 }
+        requires { length self.old.locals + length self.old.stack < 1006 }
         ensures { self.new ≡ record self.old { stack = value_of value ∷ self.old.stack } }
     {
         let top = self.locals + self.height;

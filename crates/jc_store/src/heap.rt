@@ -1,22 +1,21 @@
 //! The heap.
-ghost use Rattle.std.specs.Prelude.{◌≡◌, ◌↔◌, ◌+◌, ◌<◌, ◌^◌, ◌%◌, [], ◌∷◌, ◌++◌, pos, IsTrue, IsSome, IfSome, IfOk, IfNone, replicate, slice_index_or};
-ghost use Rattle.jc_region.specs.Blocks.{IsLive, words_at, words_in};
-ghost use Rattle.jc_world.specs.Heap.{has_room, array, throwable};
+ghost use Rattle.std.specs.Prelude.{◌≡◌, ◌↔◌, ◌+◌, ◌<◌, ◌^◌, ◌%◌, [], ◌∷◌, ◌++◌, pos, length, replicate, slice_get, IsTrue, IsSome, IfSome, IfOk, IfNone, OnSome};
 ghost use Rattle.std.specs.Int.{w32, cast_signed};
 ghost use Rattle.jc_bytes.specs.Descriptor.{Long};
+ghost use Rattle.jc_world.specs.Heap.{has_room, array, throwable};
 ghost use Rattle.jc_world.specs.Arrays.{element_value};
 ghost use Rattle.jc_store.specs.Values.{value_of};
-ghost use Rattle.jc_store.specs.Heaps.{element_type, object_of, objects_of, shown_as, HasElement, HasIntElement, element_in, with_element_at, lengths_of};
+ghost use Rattle.jc_store.specs.Heaps.{element_type, TellsOf, object_at, HasElement, HasIntElement, element_in, with_element_at};
 
 use crate::element::{Element, class_number, class_of_number};
 use crate::value::Value;
 use jc_bytes::Memory;
 use jc_programs::Thrown;
-use jc_region::{Block, Region};
+use jc_region::Region;
 use std::alloc::Global;
 use std::marker::Model;
 
-/// What stands in a block of the heap.
+/// What stands in the heap.
 #[derive(Clone, Copy, Debug, PartialEq, Eq)]
 pub enum HeapObject {
     /// An array of so many elements.
@@ -32,13 +31,19 @@ pub struct Heap {
 }
 
 impl Model for Heap {
-    ghost use Rattle.jc_region.specs.Blocks.{Blocks};
+    ghost use Rattle.std.specs.Prelude.{List};
+    ghost use Rattle.jc_world.specs.Heap as world;
 
-    ghost Value = { Blocks };
+    ghost Value = { List world.HeapObject };
 
-    ghost use Rattle.jc_store.specs.Heaps.{IsHeap};
+    ghost use Rattle.std.specs.Coded.{codes};
+    ghost use Rattle.jc_store.specs.Codes.{field_type_code};
 
-    ghost view = { λ h. h.region };
+    ghost coded = { Prim.hlevel (codes, field_type_code) };
+
+    ghost use Rattle.jc_store.specs.Heaps.{objects_of, IsHeap};
+
+    ghost view = { λ h. objects_of h.region };
 
     ghost invariant = { λ h. IsHeap h.region };
 }
@@ -47,13 +52,13 @@ impl Model for Heap {
 const MOST_WORDS: u32 = 1_000_000;
 
 impl Heap {
-    /// A heap without objects.
+    /// A heap without objects. No later call takes memory.
     ///
     /// # Errors
     ///
     /// `Memory` where memory was refused.
     pub fn new(alloc: Global) -> Result<Heap, Memory>
-        ensures { IfOk result (λ heap. objects_of heap ≡ []) }
+        ensures { IfOk result (λ heap. heap ≡ []) }
     {
         Ok(Heap {
             region: Region::with_words(alloc, MOST_WORDS)?,
@@ -62,19 +67,19 @@ impl Heap {
 
     /// No object is left.
     pub fn reset(&mut self)
-        ensures { objects_of self.new ≡ [] }
+        ensures { self.new ≡ [] }
     {
         self.region.reset();
     }
 
-    /// What stands in a block, if the heap has such a block.
-    pub fn object(&self, block: Block) -> Option<HeapObject>
-        ensures live { IsSome result ↔ ((0 < block.len) × IsLive self.now.blocks block.at block.len) }
-        ensures object { IfSome result (λ object. shown_as object (object_of (words_at self.now.blocks block.at))) }
+    /// The object with a number, if the heap has one.
+    pub fn object(&self, number: u32) -> Option<HeapObject>
+        ensures { TellsOf result (slice_get self.now number) }
     {
-        if !self.region.is_live(block) {
+        if number >= self.region.count() {
             return None;
         }
+        let block = self.region.block(number);
         let head = self.region.get(block, 0);
         match Element::of_code(head) {
             Some(element) => Some(HeapObject::Array {
@@ -85,42 +90,41 @@ impl Heap {
         }
     }
 
-    /// A new array of so many elements, which are 0, behind the other objects. `None` exactly where no room is left for
-    /// it, and then nothing changed.
-    pub fn make_array(&mut self, element: Element, count: u32) -> Option<Block>
+    /// A new array of so many elements, which are 0, behind the other objects, and its number. `None` exactly where no
+    /// room is left for it, and then nothing changed.
+    pub fn make_array(&mut self, element: Element, count: u32) -> Option<u32>
         requires { count < 2 ^ 31 }
-        ensures room { IsSome result ↔ IsTrue (has_room (objects_of self.old) (count + 1)) }
-        ensures made { IfSome result (λ _. objects_of self.new ≡ objects_of self.old ++ array (element_type element) (replicate count (pos 0)) ∷ []) }
-        ensures place { IfSome result (λ block. block ≡ record { at = words_in self.old.blocks; len = count + 1 }) }
-        ensures places { IfSome result (λ _. lengths_of self.new ≡ lengths_of self.old ++ (count + 1) ∷ []) }
+        ensures room { IsSome result ↔ IsTrue (has_room self.old (count + 1)) }
+        ensures made { OnSome result (self.new ≡ self.old ++ array (element_type element) (replicate count (pos 0)) ∷ []) }
+        ensures number { IfSome result (λ number. number ≡ length self.old) }
         ensures none { IfNone result (self.new ≡ self.old) }
     {
+        let number = self.region.count();
         let block = self.region.alloc(count + 1)?;
         self.region.set(block, 0, element.code());
-        Some(block)
+        Some(number)
     }
 
-    /// A new throwable behind the other objects. `None` exactly where no room is left for it, and then nothing changed.
-    pub fn make_throwable(&mut self, thrown: Thrown) -> Option<Block>
-        ensures room { IsSome result ↔ IsTrue (has_room (objects_of self.old) 1) }
-        ensures made { IfSome result (λ _. objects_of self.new ≡ objects_of self.old ++ throwable thrown ∷ []) }
-        ensures place { IfSome result (λ block. block ≡ record { at = words_in self.old.blocks; len = 1 }) }
-        ensures places { IfSome result (λ _. lengths_of self.new ≡ lengths_of self.old ++ 1 ∷ []) }
+    /// A new throwable behind the other objects, and its number. `None` exactly where no room is left for it, and then
+    /// nothing changed.
+    pub fn make_throwable(&mut self, thrown: Thrown) -> Option<u32>
+        ensures room { IsSome result ↔ IsTrue (has_room self.old 1) }
+        ensures made { OnSome result (self.new ≡ self.old ++ throwable thrown ∷ []) }
+        ensures number { IfSome result (λ number. number ≡ length self.old) }
         ensures none { IfNone result (self.new ≡ self.old) }
     {
+        let number = self.region.count();
         let block = self.region.alloc(1)?;
         self.region.set(block, 0, class_number(thrown) + 16);
-        Some(block)
+        Some(number)
     }
 
-    /// Element `i` of an array.
-    pub fn element(&self, block: Block, element: Element, i: u32) -> Value
-        requires live { IsLive self.now.blocks block.at block.len }
-        requires element { HasElement (object_of (words_at self.now.blocks block.at)) (element_type element) i }
-        ensures { value_of result ≡ element_value (element_type element) (element_in (object_of (words_at self.now.blocks block.at)) i) }
+    /// Element `i` of the array with a number.
+    pub fn element(&self, number: u32, element: Element, i: u32) -> Value
+        requires { HasElement (object_at self.now number) (element_type element) i }
+        ensures { value_of result ≡ element_value (element_type element) (element_in (object_at self.now number) i) }
     {
-        // Read, so that it is known to be a number of 32 bits.
-        let _count = block.len;
+        let block = self.region.block(number);
         let word = self.region.get(block, i + 1);
         match element {
             Element::Long => Value::Long(word.cast_signed()),
@@ -129,27 +133,21 @@ impl Heap {
     }
 
     /// Makes a number element `i` of an array of another type than long. All else stays as it is.
-    pub fn set_int(&mut self, block: Block, i: u32, number: i32)
-        requires live { IsLive self.old.blocks block.at block.len }
-        requires element { HasIntElement (object_of (words_at self.old.blocks block.at)) i }
-        ensures objects { objects_of self.new ≡ with_element_at self.old block.at i number }
-        ensures places { lengths_of self.new ≡ lengths_of self.old }
+    pub fn set_int(&mut self, number: u32, i: u32, value: i32)
+        requires { HasIntElement (object_at self.old number) i }
+        ensures { self.new ≡ with_element_at self.old number i value }
     {
-        // Read, so that it is known to be a number of 32 bits.
-        let _count = block.len;
-        self.region.set(block, i + 1, number.cast_unsigned() as u64);
+        let block = self.region.block(number);
+        self.region.set(block, i + 1, value.cast_unsigned() as u64);
     }
 
     /// Makes a number element `i` of an array of longs. All else stays as it is.
-    pub fn set_long(&mut self, block: Block, i: u32, number: i64)
-        requires live { IsLive self.old.blocks block.at block.len }
-        requires element { HasElement (object_of (words_at self.old.blocks block.at)) Long i }
-        ensures objects { objects_of self.new ≡ with_element_at self.old block.at i number }
-        ensures places { lengths_of self.new ≡ lengths_of self.old }
+    pub fn set_long(&mut self, number: u32, i: u32, value: i64)
+        requires { HasElement (object_at self.old number) Long i }
+        ensures { self.new ≡ with_element_at self.old number i value }
     {
-        // Read, so that it is known to be a number of 32 bits.
-        let _count = block.len;
-        self.region.set(block, i + 1, number.cast_unsigned());
+        let block = self.region.block(number);
+        self.region.set(block, i + 1, value.cast_unsigned());
     }
 }
 

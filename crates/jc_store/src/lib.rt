@@ -10,4 +10,4 @@ mod value;
 pub use element::Element;
 pub use frame::{Frame, MOST_CELLS};
 pub use heap::{Heap, HeapObject};
-pub use value::{ComputationalType, Value};
+pub use value::Value;

@@ -1,21 +1,22 @@
-use Rattle.std.proofs.Common.{◌≡◌, ◌+◌, [], ◌∷◌, ◌++◌, IsTrue, replicate, pos, refl, ◌∙◌, ap, sym, subst}
+use Rattle.std.proofs.Common.{◌≡◌, ◌+◌, List, [], ◌∷◌, ◌++◌, IsTrue, length, replicate, pos, refl, ◌∙◌, ap, sym, subst}
+use Rattle.std.proofs.lemmas.List.{length-map}
 use Rattle.jc_region.specs.Blocks.{Blocks, words_in, with_block, with_word}
-use Rattle.jc_world.specs.Heap.{array, has_room}
-use Rattle.jc_store.specs.Heaps.{element_type, objects_of, lengths_of}
-use Rattle.jc_store.proofs.HeapLaws.{Makes, array_made, array_words, full, roomy, live_made, first_set, is_none_some}
+use Rattle.jc_world.specs.Heap.{HeapObject, array, has_room}
+use Rattle.jc_store.specs.Heaps.{element_type, object_of}
+use Rattle.jc_store.proofs.HeapLaws.{Makes, array_made, full, roomy, live_made, first_set, is_none_some}
 use Rattle.jc_store.proofs.heap.Heap.make_array.Goals as goal
 
 pub returns-in_err-block-clause-room : goal.returns-in_err-block-clause-room
 returns-in_err-block-clause-room c = (
   λ some. absurd (is_none_some _ c.from_residual.ensures some),
   λ room.
-      let before = subst (λ (h : Blocks). IsTrue (has_room (objects_of h) (c.args.count + 1))) (sym c.self.view_is) room in
+      let before = subst (λ (h : List HeapObject). IsTrue (has_room h (c.args.count + 1))) (sym c.self.view_is) room in
       absurd (full c.self.inside.region (c.args.count + 1) c.self.invariant (c.in_err-block.ensures.room.0 refl) before),
 )
 
 pub returns-clause-room : goal.returns-clause-room
 returns-clause-room c = (
-  λ some. subst (λ (h : Blocks). IsTrue (has_room (objects_of h) (c.args.count + 1))) c.self.view_is
+  λ some. subst (λ (h : List HeapObject). IsTrue (has_room h (c.args.count + 1))) c.self.view_is
       (roomy c.self.inside.region (c.args.count + 1) c.self.invariant (λ less. let wrong = c.in_ok-block.ensures.room.1 less in absurd (cc))),
   λ room. refl,
 )
@@ -35,8 +36,7 @@ pub invariant_of-self-2 : goal.invariant_of-self-2
 invariant_of-self-2 c = (made c).sound
 
 pub returns-clause-made : goal.returns-clause-made
-returns-clause-made c = (made c).objects ∙ ap (λ (h : Blocks). objects_of h ++ array (element_type c.args.element) (replicate c.args.count (pos 0)) ∷ []) c.self.view_is
+returns-clause-made c = (made c).objects ∙ ap (λ (h : List HeapObject). h ++ array (element_type c.args.element) (replicate c.args.count (pos 0)) ∷ []) c.self.view_is
 
-pub returns-clause-places : goal.returns-clause-places
-returns-clause-places c =
-    (made c).lengths ∙ (ap (λ m. lengths_of c.self.inside.region ++ m ∷ []) (array_words (element_type c.args.element) c.args.count) ∙ ap (λ (h : Blocks). lengths_of h ++ (c.args.count + 1) ∷ []) c.self.view_is)
+pub returns-clause-number : goal.returns-clause-number
+returns-clause-number c = c.count-number.ensures ∙ (sym (length-map c.self.inside.region.blocks object_of) ∙ ap length c.self.view_is)

@@ -1,7 +1,8 @@
-use Rattle.std.proofs.Common.{◌≡◌, ◌+◌, [], ◌∷◌, ◌++◌, IsTrue, refl, ◌∙◌, ap, sym, subst}
+use Rattle.std.proofs.Common.{◌≡◌, ◌+◌, List, [], ◌∷◌, ◌++◌, IsTrue, length, refl, ◌∙◌, ap, sym, subst}
+use Rattle.std.proofs.lemmas.List.{length-map}
 use Rattle.jc_region.specs.Blocks.{Blocks, words_in, with_block, with_word}
-use Rattle.jc_world.specs.Heap.{throwable, has_room}
-use Rattle.jc_store.specs.Heaps.{objects_of, lengths_of}
+use Rattle.jc_world.specs.Heap.{HeapObject, throwable, has_room}
+use Rattle.jc_store.specs.Heaps.{object_of}
 use Rattle.jc_store.proofs.HeapLaws.{Makes, throwable_made, full, roomy, live_made, first_set, is_none_some}
 use Rattle.jc_store.proofs.heap.Heap.make_throwable.Goals as goal
 
@@ -9,19 +10,19 @@ pub returns-in_err-block-clause-room : goal.returns-in_err-block-clause-room
 returns-in_err-block-clause-room c = (
   λ some. absurd (is_none_some _ c.from_residual.ensures some),
   λ room.
-      let before = subst (λ (h : Blocks). IsTrue (has_room (objects_of h) (1))) (sym c.self.view_is) room in
-      absurd (full c.self.inside.region (1) c.self.invariant (c.in_err-block.ensures.room.0 refl) before),
+      let before = subst (λ (h : List HeapObject). IsTrue (has_room h 1)) (sym c.self.view_is) room in
+      absurd (full c.self.inside.region 1 c.self.invariant (c.in_err-block.ensures.room.0 refl) before),
 )
 
 pub returns-clause-room : goal.returns-clause-room
 returns-clause-room c = (
-  λ some. subst (λ (h : Blocks). IsTrue (has_room (objects_of h) (1))) c.self.view_is
-      (roomy c.self.inside.region (1) c.self.invariant (λ less. let wrong = c.in_ok-block.ensures.room.1 less in absurd (cc))),
+  λ some. subst (λ (h : List HeapObject). IsTrue (has_room h 1)) c.self.view_is
+      (roomy c.self.inside.region 1 c.self.invariant (λ less. let wrong = c.in_ok-block.ensures.room.1 less in absurd (cc))),
   λ room. refl,
 )
 
 pub set-requires-clause-live : goal.set-requires-clause-live
-set-requires-clause-live c = live_made c.self.inside.region c.alloc.new.self c.in_ok-block.block (1) c.in_ok-block.ensures.block c.in_ok-block.ensures.place
+set-requires-clause-live c = live_made c.self.inside.region c.alloc.new.self c.in_ok-block.block 1 c.in_ok-block.ensures.block c.in_ok-block.ensures.place
 
 made : (c : goal.After-set) → Makes c.self.inside.region c.set.new.self (throwable c.args.thrown)
 made c =
@@ -35,7 +36,7 @@ pub invariant_of-self-2 : goal.invariant_of-self-2
 invariant_of-self-2 c = (made c).sound
 
 pub returns-clause-made : goal.returns-clause-made
-returns-clause-made c = (made c).objects ∙ ap (λ (h : Blocks). objects_of h ++ throwable c.args.thrown ∷ []) c.self.view_is
+returns-clause-made c = (made c).objects ∙ ap (λ (h : List HeapObject). h ++ throwable c.args.thrown ∷ []) c.self.view_is
 
-pub returns-clause-places : goal.returns-clause-places
-returns-clause-places c = (made c).lengths ∙ ap (λ (h : Blocks). lengths_of h ++ 1 ∷ []) c.self.view_is
+pub returns-clause-number : goal.returns-clause-number
+returns-clause-number c = c.count-number.ensures ∙ (sym (length-map c.self.inside.region.blocks object_of) ∙ ap length c.self.view_is)

@@ -1,15 +1,28 @@
-use Rattle.std.proofs.Common.{rules, ◌≡◌, ◌-◌, true, ◌∙◌, ap, subst}
-use Rattle.jc_region.specs.Blocks.{Blocks, words_at}
+use Rattle.std.proofs.Common.{◌≡◌, ◌-◌, List, Some, slice_get, slice_index_or, arith, ◌∙◌, ap, sym, subst}
+use Rattle.jc_programs.specs.declared.run_end.Thrown.TheVariants.{Throwable}
+use Rattle.jc_programs.specs.Throwables.{throwables}
+use Rattle.jc_world.specs.Heap.{HeapObject, throwable}
 use Rattle.jc_store.specs.declared.heap.HeapObject.TheVariants as tolds
-use Rattle.jc_store.specs.Heaps.{element_at, object_of, shown_as}
-use Rattle.jc_store.proofs.HeapLaws.{array_shown, live_long}
+use Rattle.jc_store.specs.Heaps.{class_in, TellsOf}
+use Rattle.jc_store.proofs.HeapLaws.{block_some, tells_array, tells_throwable}
 use Rattle.jc_store.proofs.heap.Heap.object.Goals as goal
 
-pub returns-in-Some-clause-object : goal.returns-in-Some-clause-object
-returns-in-Some-clause-object c =
-    let heap = c.self.inside.region in
-    let yes : c.is_live.result ≡ true = search rules in
-    let live = c.is_live.ensures.0 yes in
-    let words = words_at heap.blocks c.args.block.at in
-    let shown = array_shown words c.args.block.len c.in-Some.element (live_long heap.blocks c.args.block.at c.args.block.len c.self.invariant.objects live.1) live.0 (c.in-Some.ensures ∙ ap element_at c.get-head.ensures) in
-    subst (λ (h : Blocks). shown_as (tolds.Array c.in-Some.element (c.args.block.len - 1)) (object_of (words_at h.blocks c.args.block.at))) c.self.view_is shown
+pub get-head-requires-clause-within : goal.get-head-requires-clause-within
+get-head-requires-clause-within c =
+    block_some c.self.inside.region.blocks c.block-block.result.at c.block-block.result.len c.args.number c.self.invariant.objects c.block-block.ensures
+
+pub overflow_sub-result : goal.overflow_sub-result
+overflow_sub-result c =
+    let some = block_some c.self.inside.region.blocks c.block-block.result.at c.block-block.result.len c.args.number c.self.invariant.objects c.block-block.ensures in
+    omega (arith, some)
+
+pub returns-in-Some : goal.returns-in-Some
+returns-in-Some c =
+    let told = tells_array c.self.inside.region.blocks c.block-block.result.at c.block-block.result.len c.args.number c.get-head.result c.in-Some.element c.self.invariant.objects c.block-block.ensures c.get-head.ensures c.in-Some.ensures in
+    subst (λ (h : List HeapObject). TellsOf (Some (tolds.Array c.in-Some.element (c.block-block.result.len - 1))) (slice_get h c.args.number)) c.self.view_is told
+
+pub returns-in-None : goal.returns-in-None
+returns-in-None c =
+    let told = tells_throwable c.self.inside.region.blocks c.block-block.result.at c.block-block.result.len c.args.number c.get-head.result c.self.invariant.objects c.block-block.ensures c.get-head.ensures c.in-None.ensures in
+    let named : class_in c.get-head.result ≡ c.class_of_number.result = ap (λ n. slice_index_or throwables n Throwable) (sym c.saturating_sub.ensures) ∙ sym c.class_of_number.ensures in
+    ap (λ (h : List HeapObject). slice_get h c.args.number) (sym c.self.view_is) ∙ (told ∙ ap (λ d. Some (throwable d)) named)
