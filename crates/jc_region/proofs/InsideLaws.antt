@@ -47,6 +47,11 @@ begins_below r k sound less =
     let here : begin_of 0 (used_ends r) k < slice_index_or (used_ends r) k 0 = (begins_before 0 r.used (used_ends r) k sound.ends (omega (arith, ends_count r sound))).1 in
     omega (arith, here, end_is r k less)
 
+pub ends_below : (r : Inside) (k : ℕ) → IsSound r → k < r.count → slice_index_or r.ends.items k 0 ≤ r.used
+ends_below r k sound less =
+    let here : slice_index_or (used_ends r) k 0 ≤ r.used = (begins_before 0 r.used (used_ends r) k sound.ends (omega (arith, ends_count r sound))).2 in
+    omega (arith, here, end_is r k less)
+
 pub block_at : (r : Inside) (at len k : ℕ) → IsSound r → k < r.count → at ≡ begin_of 0 (used_ends r) k → len ≡ slice_index_or r.ends.items k 0 - at → IsBlock (blocks_of r).blocks at len k
 block_at r at len k sound less begin long =
     let there : IsBlock (blocks_of r).blocks (begin_of 0 (used_ends r) k - 0) (slice_index_or (used_ends r) k 0 - begin_of 0 (used_ends r) k) k =

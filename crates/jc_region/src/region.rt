@@ -76,7 +76,8 @@ impl Region {
     /// The block with a number, counted from 0 in the order in which they were made.
     pub fn block(&self, number: u32) -> Block
         requires { number < length self.now.blocks }
-        ensures { IsBlock self.now.blocks result.at result.len number }
+        ensures block { IsBlock self.now.blocks result.at result.len number }
+        ensures within { result.at + result.len ≤ self.now.most }
     {
         let end = self.ends[number as usize];
         let at = if number == 0 {

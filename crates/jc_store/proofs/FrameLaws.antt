@@ -25,7 +25,7 @@ cut_front xs n count most = same_lists _ _ (search (rules, places, length-revers
 abbrev pub frame_with : Entry → ℕ → List (Option Value) → List Value → Frame
 frame_with method place locals stack = record { method = method; place = place; locals = locals; stack = stack }
 
-pub pushed : (f : Inside) (cells : List Cell) (c : Cell) → IsFrame f → f.locals + f.height < 1006 → cells ≡ slice_set f.cells.items (f.locals + f.height) c
+pub pushed : (f : Inside) (cells : List Cell) (c : Cell) → IsFrame f → f.locals + f.height < 1010 → cells ≡ slice_set f.cells.items (f.locals + f.height) c
     → frame_with f.method f.place (map held (take f.locals cells)) (map on_stack (reverse (take (f.height + 1) (drop f.locals cells)))) ≡ record (frame_of f) { stack = on_stack c ∷ (frame_of f).stack }
 pushed f cells c sound room set =
     let locals : take f.locals cells ≡ take f.locals f.cells.items = ap (take f.locals) set ∙ take-set-le f.locals f.cells.items (f.locals + f.height) c (omega arith) in

@@ -13,7 +13,7 @@ abbrev pub frame_of : Inside → world.Frame
 frame_of f =
     record { method = f.method; place = f.place; locals = map held (take f.locals f.cells.items); stack = map on_stack (stack_cells f) }
 
--- the cells are two more than the widest method has slots, and those of the frame are among them
+-- the cells are six more than the widest method has slots, and those of the frame are among them
 pub record IsFrame (f : Inside) : Type 0 where
-  pub cells : length f.cells.items ≡ 1006
-  pub within : f.locals + f.height ≤ 1006
+  pub cells : length f.cells.items ≡ 1010
+  pub within : f.locals + f.height ≤ 1010

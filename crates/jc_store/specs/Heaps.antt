@@ -71,6 +71,11 @@ TellsOf (Some (tolds.Array element count)) there =
     (elements : List ℤ) × (there ≡ Some (array (element_type element) elements)) × (length elements ≡ count)
 TellsOf (Some (tolds.Throwable c)) there = there ≡ Some (throwable c)
 
+-- an array has fewer elements than the heap has words
+abbrev pub HasFewElements : told.HeapObject → Type 0
+HasFewElements (tolds.Array element count) = count < most_words
+HasFewElements (tolds.Throwable c) = ⊤
+
 -- the object with a number
 abbrev pub object_at : List HeapObject → ℕ → HeapObject
 object_at heap k = slice_index_or heap k (throwable Throwable)

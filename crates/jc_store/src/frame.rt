@@ -10,9 +10,9 @@ use std::alloc::Global;
 use std::marker::Model;
 
 /// The most local variables and operands that a frame has room for: the slots of the widest method that the machine
-/// executes, and two more. No instruction leaves more than two operands more than it found, so a frame whose values are
-/// at most those slots has room for what any instruction leaves.
-pub const MOST_CELLS: usize = 1006;
+/// executes, and six more. No instruction pushes more than six operands, so a frame whose values are at most those slots
+/// has room for what any instruction pushes.
+pub const MOST_CELLS: usize = 1010;
 
 /// A frame (JVM Specification 2.6), in cells that are taken once.
 #[derive(Drop)]
@@ -65,7 +65,7 @@ impl Frame {
 
     /// The frame of a method that is called: so many local variables without a value, and no operands.
     pub fn enter(&mut self, method: Entry, locals: u16)
-        requires { locals ≤ 1006 }
+        requires { locals ≤ 1010 }
         ensures { self.new ≡ record { method = method; place = 0; locals = replicate locals None; stack = [] } }
     {
         self.method = method;
@@ -143,7 +143,7 @@ impl Frame {
 
     /// Puts a value on the operand stack.
     pub fn push(&mut self, value: Value)
-        requires { length self.old.locals + length self.old.stack < 1006 }
+        requires { length self.old.locals + length self.old.stack < 1010 }
         ensures { self.new ≡ record self.old { stack = value_of value ∷ self.old.stack } }
     {
         let top = self.locals + self.height;

@@ -5,7 +5,7 @@ ghost use Rattle.jc_bytes.specs.Descriptor.{Long};
 ghost use Rattle.jc_world.specs.Heap.{has_room, array, throwable};
 ghost use Rattle.jc_world.specs.Arrays.{element_value};
 ghost use Rattle.jc_store.specs.Values.{value_of};
-ghost use Rattle.jc_store.specs.Heaps.{element_type, TellsOf, object_at, HasElement, HasIntElement, element_in, with_element_at};
+ghost use Rattle.jc_store.specs.Heaps.{element_type, TellsOf, HasFewElements, object_at, HasElement, HasIntElement, element_in, with_element_at};
 
 use crate::element::{Element, class_number, class_of_number};
 use crate::value::Value;
@@ -74,7 +74,8 @@ impl Heap {
 
     /// The object with a number, if the heap has one.
     pub fn object(&self, number: u32) -> Option<HeapObject>
-        ensures { TellsOf result (slice_get self.now number) }
+        ensures told { TellsOf result (slice_get self.now number) }
+        ensures few { IfSome result HasFewElements }
     {
         if number >= self.region.count() {
             return None;

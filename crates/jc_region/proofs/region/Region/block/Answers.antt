@@ -4,7 +4,7 @@ use Rattle.jc_region.specs.declared.region.Region.TheInside.{Inside}
 use Rattle.jc_region.specs.Blocks.{Blocks, IsBlock}
 use Rattle.jc_region.specs.Places.{IsSound, blocks_of, used_ends}
 use Rattle.jc_region.proofs.PlaceLaws.{begin_of}
-use Rattle.jc_region.proofs.InsideLaws.{count_is, begins_below, block_at}
+use Rattle.jc_region.proofs.InsideLaws.{count_is, begins_below, ends_below, block_at}
 use Rattle.jc_region.proofs.region.Region.block.Goals as goal
 use Rattle.jc_region.proofs.region.Region.block.Goals.{then-number-eq0, else-number-eq0}
 
@@ -43,8 +43,14 @@ overflow_sub-result c =
     let less = below c.self.inside c.args.self.now c.args.number c.self.invariant c.self.view_is c.requires in
     omega (arith, begins c, ends c, begins_below c.self.inside c.args.number c.self.invariant less)
 
-pub returns : goal.returns
-returns c =
+pub returns-clause-block : goal.returns-clause-block
+returns-clause-block c =
     let less = below c.self.inside c.args.self.now c.args.number c.self.invariant c.self.view_is c.requires in
     subst (λ (r : Blocks). IsBlock r.blocks c.if-number-eq0.at (c.index-end.result.now - c.if-number-eq0.at) c.args.number) c.self.view_is
     (block_at c.self.inside c.if-number-eq0.at _ c.args.number c.self.invariant less (begins c) (ap (λ n. n - c.if-number-eq0.at) (ends c)))
+
+pub returns-clause-within : goal.returns-clause-within
+returns-clause-within c =
+    let less = below c.self.inside c.args.self.now c.args.number c.self.invariant c.self.view_is c.requires in
+    let last = ends_below c.self.inside c.args.number c.self.invariant less in
+    omega (arith, begins c, ends c, begins_below c.self.inside c.args.number c.self.invariant less, last, c.self.invariant.within, ap (λ (r : Blocks). r.most) c.self.view_is)
