@@ -1,0 +1,9 @@
+pub mod ListedLaws
+pub mod Behind
+pub mod Leaves
+pub mod Reaching
+pub mod Ends
+pub mod OneWork
+pub mod Prefix
+pub mod NoFault
+pub mod AnsweredLaws

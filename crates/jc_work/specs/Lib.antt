@@ -1,0 +1,10 @@
+pub mod Texts
+pub mod Step
+pub mod Part
+pub mod Ending
+pub mod OneWay
+pub mod Prefix
+pub mod Folders
+pub mod Seen
+pub mod Stopping
+pub mod Answered

@@ -1,0 +1,89 @@
+//! Reading the inputs of a command.
+ghost use Rattle.std.specs.Prelude.{◌≡◌, ◌≤◌, ◌++◌, ◌∷◌, [], All, length, map, IfOk, OnOk, string_bytes};
+ghost use Rattle.jc_bytes.specs.ByteLists.{AreBytes};
+ghost use Rattle.jc_bytes.specs.Reader.{most_read};
+ghost use Rattle.jc_work.specs.Part.{reading, listing, reading_all};
+ghost use Rattle.jc_work.specs.Ending.{DoesFiles};
+ghost use Rattle.jc_work.specs.Seen.{words_of, stop_seen, read_stop};
+
+use crate::stop::Stop;
+use jc_bytes::{Bytes, Memory};
+use jc_outside::{FileFault, Files};
+use std::alloc::Global;
+
+/// How a read that failed stops a command.
+fn read_stop<'a>(fault: FileFault, path: &'a str) -> Stop<'a>
+    ensures { result ≡ read_stop fault path.entry }
+{
+    match fault {
+        FileFault::Memory => Stop::Memory,
+        FileFault::Failed | FileFault::Missing | FileFault::TooLarge => Stop::Read(path),
+    }
+}
+
+/// What is kept as bytes is bytes.
+fn are_bytes(bytes: &[u8])
+    ensures { AreBytes bytes.now }
+{}
+
+/// The bytes of the file at a path.
+pub fn read_one<'a, F: Files>(
+    alloc: Global,
+    files: &mut F,
+    path: &'a str,
+) -> Result<Bytes, Stop<'a>>
+    ensures does { DoesFiles F.landed (reading path.entry.now) (λ bytes. bytes) stop_seen (F.contents files.old) (F.contents files.new)
+        (F.read_faults files.old) (F.read_faults files.new) (F.write_faults files.old) (F.write_faults files.new) result }
+    ensures short { IfOk result (λ bytes. length bytes ≤ most_read) }
+{
+    let mut bytes = Vec::new(alloc);
+    match files.read(alloc, path, &mut bytes) {
+        Ok(()) => {
+            are_bytes(bytes.as_slice());
+            Ok(Bytes::from_vec(bytes))
+        }
+        Err(fault) => Err(read_stop(fault, path)),
+    }
+}
+
+/// Puts a text last.
+fn keep(texts: &mut Vec<Bytes>, text: Bytes) -> Result<(), Memory>
+    ensures { OnOk result (texts.new.items ≡ texts.old.items ++ text ∷ []) }
+{
+    texts.push(text)?;
+    Ok(())
+}
+
+/// The bytes of the files at the paths, in order.
+pub fn read_all<'a, F: Files>(
+    alloc: Global,
+    files: &mut F,
+    paths: &'a [String],
+) -> Result<Vec<Bytes>, Stop<'a>>
+    ensures does { DoesFiles F.landed (reading_all (words_of paths.entry.now)) (λ texts. texts.items) stop_seen (F.contents files.old) (F.contents files.new)
+        (F.read_faults files.old) (F.read_faults files.new) (F.write_faults files.old) (F.write_faults files.new) result }
+    ensures each { IfOk result (λ texts. length texts.items ≡ length paths.entry.now) }
+    ensures short { IfOk result (λ texts. All (λ t. length t ≤ most_read) texts.items) }
+{
+    let mut texts = Vec::new(alloc);
+    'reading: for path in paths {
+        let text = read_one(alloc, files, path.as_str())?;
+        keep(&mut texts, text)?;
+    }
+    Ok(texts)
+}
+
+/// The paths of the class files of a folder's own.
+pub fn list_folder<'a, F: Files>(
+    alloc: Global,
+    files: &mut F,
+    folder: &'a str,
+) -> Result<Vec<String>, Stop<'a>>
+    ensures { DoesFiles F.landed (listing folder.entry.now) (λ paths. map string_bytes paths.items) stop_seen (F.contents files.old) (F.contents files.new)
+        (F.read_faults files.old) (F.read_faults files.new) (F.write_faults files.old) (F.write_faults files.new) result }
+{
+    match files.list(alloc, folder) {
+        Ok(paths) => Ok(paths),
+        Err(fault) => Err(read_stop(fault, folder)),
+    }
+}

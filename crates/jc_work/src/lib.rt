@@ -1,0 +1,16 @@
+//! The work of a command: the calls that it makes outside, the parts that it is made of, and how it ends.
+#![tactic(auto)]
+
+mod fault_text;
+mod input;
+mod message;
+mod output;
+mod status;
+mod stop;
+
+pub use fault_text::class_refusal_text;
+pub use input::{list_folder, read_all, read_one};
+pub use message::{report, report_usage};
+pub use output::{Write, keep, put_err, put_out, write_all, write_file};
+pub use status::{Fault, Status};
+pub use stop::{Stop, class_stop, exec_stop};

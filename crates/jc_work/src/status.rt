@@ -1,0 +1,30 @@
+//! How a run of the tool ends.
+
+use jc_bytes::Refusal;
+use jc_exec::ExecRefusal;
+
+/// How a run of the tool ended. The exit statuses are 0 to 5 in the order of the variants.
+#[derive(Debug, Drop, PartialEq, Eq)]
+pub enum Status {
+    /// All was written.
+    Done,
+    /// An input is refused.
+    Refused(Fault),
+    /// The words are of no stated form.
+    Usage,
+    /// A file couldn't be read, is missing, or is too large.
+    ReadFault,
+    /// A file or a text couldn't be written.
+    WriteFault,
+    /// Memory was refused.
+    Memory,
+}
+
+/// What is wrong with an input.
+#[derive(Debug, Drop, PartialEq, Eq)]
+pub enum Fault {
+    /// The execution data of the input at this index in the list of inputs is refused.
+    Exec { path: u32, refusal: ExecRefusal },
+    /// The class file at this index in the list of inputs is refused.
+    Class { path: u32, refusal: Refusal },
+}
