@@ -7,3 +7,4 @@ pub mod OneWork
 pub mod Prefix
 pub mod NoFault
 pub mod AnsweredLaws
+pub mod CauseLaws

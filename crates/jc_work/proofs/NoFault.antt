@@ -18,7 +18,7 @@ rose_twice a b c (le, rose) (inr (le', inl more)) = inl (omega (arith, le, more)
 
 module _ (old new : World) (f f' : Counts) where
   -- the last message moves the count of `err` alone
-  only_errs : (message : Option (List ℕ)) → SaysLast message old new f f' → (f'.reads ≡ f.reads) × (f'.writes ≡ f.writes) × (f'.outs ≡ f.outs) × ((f'.errs ≡ f.errs) ⊎ Rises f.errs f'.errs)
+  pub only_errs : (message : Option (List ℕ)) → SaysLast message old new f f' → (f'.reads ≡ f.reads) × (f'.writes ≡ f.writes) × (f'.outs ≡ f.outs) × ((f'.errs ≡ f.errs) ⊎ Rises f.errs f'.errs)
   only_errs None (same, is) = (ap (λ (c : Counts). c.reads) same, ap (λ (c : Counts). c.writes) same, ap (λ (c : Counts). c.outs) same, inl (ap (λ (c : Counts). c.errs) same))
   only_errs (Some text) says = by says.said
     where

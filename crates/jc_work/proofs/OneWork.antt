@@ -41,7 +41,7 @@ pub same_end : (X : Type 0) (a b : End) (o : Outcome X) → o ≡ stops a → o 
 unfolding end_or
 same_end X a b o p q = ap (end_or a) (sym p ∙ q)
 
-gives_or_stops : {X : Type 0} (x : X) (e : End) → gives x ≡ stops e → ⊥
+pub gives_or_stops : {X : Type 0} (x : X) (e : End) → gives x ≡ stops e → ⊥
 unfolding is_gives
 gives_or_stops x e is = subst is_gives is tt
 
@@ -250,7 +250,7 @@ same_want : {X : Type 0} (a b : Call) (o : Outcome X) → o ≡ wants a → o �
 unfolding call_or
 same_want a b o p q = ap (call_or a) (sym q ∙ p)
 
-not_over : {X : Type 0} (o : Outcome X) (call : Call) → IsOver o → o ≡ wants call → ⊥
+pub not_over : {X : Type 0} (o : Outcome X) (call : Call) → IsOver o → o ≡ wants call → ⊥
 not_over o call over is = subst (λ (k : Outcome _). IsOver k) is over
 
 pub one_writing : (landed : Landed) (w : World) (write : Write) → OneWay landed (writing write) w

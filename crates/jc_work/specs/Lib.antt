@@ -4,6 +4,7 @@ pub mod Part
 pub mod Ending
 pub mod OneWay
 pub mod Prefix
+pub mod Causes
 pub mod Folders
 pub mod Seen
 pub mod Stopping

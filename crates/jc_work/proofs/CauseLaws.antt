@@ -1,0 +1,175 @@
+-- Each status has its cause.
+use Rattle.std.proofs.Common.{◌≡◌, ◌⊎◌, ◌<◌, ◌≤◌, ℕ, List, [], ◌∷◌, ◌++◌, Option, None, Some, inl, inr, refl, sym, ◌∙◌, ap, subst, arith}
+use Rattle.jc_outside.specs.Outside.{Rose}
+use Rattle.jc_work.specs.declared.status.Fault.{Fault}
+use Rattle.jc_work.specs.declared.status.Status.{Status}
+use Rattle.jc_work.specs.declared.status.Status.TheVariants as status
+use Rattle.jc_work.specs.Step.{Word, World, Counts, Rises, Landed, Write, to_file, to_out, to_err, Call, to_read, to_list, to_write, Step, has_read, has_no, has_listed, has_written, call_of, Fit, after, Broken, CountRose}
+use Rattle.jc_work.specs.Part.{End, done, refused, misused, unread, unwritten, unprinted, status_of, message_of, failure, Outcome, wants, gives, stops, Part, Command, giving, ending, deciding, reading, listing, writing, reading_all, writing_all, ◌>>=◌}
+use Rattle.jc_work.specs.Ending.{CameTo, Began, BrokeOff, SaysLast, IsWhole, IsCut, IsOutOfMemory, Ends, NoneRose}
+use Rattle.jc_work.specs.OneWay.{IsTold, OneWay, Work, IsWork, GoesOn}
+use Rattle.jc_work.specs.Folders.{is_folder, paths_of, all_paths, files_of, once}
+use Rattle.jc_work.specs.Answered.{Answer, answering, preparing, making_all, answered}
+use Rattle.jc_work.specs.Causes.{IsOwnEnd, HasOwnEnds, EndedSo, RoseFor, IsReadCall, IsWriteCall, CallFailed, Cause, WorkFailed}
+use Rattle.jc_work.proofs.OneWork.{gives_or_stops, same_end, not_over}
+use Rattle.jc_work.proofs.Prefix.{one_work, on_work}
+use Rattle.jc_work.proofs.NoFault.{only_errs, all_made}
+
+-- ---- ends of its own
+
+own_then : {X Y : Type 0} (p : Part X) (q : X → Part Y) → HasOwnEnds p → ((x : X) → HasOwnEnds (q x)) → HasOwnEnds (p >>= q)
+own_then p q first second steps end (inl within) = first steps end within
+own_then p q first second steps end (inr h) = second h.value h.behind end h.goes_on
+
+own_giving : {X : Type 0} (x : X) → HasOwnEnds (giving x)
+own_giving x [] end is = absurd (gives_or_stops x end (sym is))
+own_giving x (s ∷ ss) end is = absurd is
+
+pub own_deciding : {X : Type 0} (Is : X → Type 0) (Stops : End → Type 0) → ((end : End) → Stops end → IsOwnEnd end) → HasOwnEnds (deciding Is Stops)
+own_deciding Is Stops own [] end is = own end is
+own_deciding Is Stops own (s ∷ ss) end is = absurd is
+
+own_done : HasOwnEnds (ending {X = ⊥} done)
+own_done [] end is = subst IsOwnEnd (same_end ⊥ done end (stops end) is refl) tt
+own_done (s ∷ ss) end is = absurd is
+
+own_reading : (path : Word) → HasOwnEnds (reading path)
+own_reading path [] end is = absurd (not_over (stops end) (to_read path) tt is)
+own_reading path (has_read p b ∷ []) end is = absurd (gives_or_stops b end (sym is.1))
+own_reading path (has_no p ∷ []) end is = subst IsOwnEnd (same_end (List ℕ) (unread path) end (stops end) is.1 refl) tt
+own_reading path (has_read p b ∷ s ∷ ss) end is = absurd is
+own_reading path (has_no p ∷ s ∷ ss) end is = absurd is
+own_reading path (has_listed f ps ∷ ss) end is = absurd is
+own_reading path (has_written v ∷ ss) end is = absurd is
+
+own_listing : (folder : Word) → HasOwnEnds (listing folder)
+own_listing folder [] end is = absurd (not_over (stops end) (to_list folder) tt is)
+own_listing folder (has_listed f ps ∷ []) end is = absurd (gives_or_stops ps end (sym is.1))
+own_listing folder (has_listed f ps ∷ s ∷ ss) end is = absurd is
+own_listing folder (has_read p b ∷ ss) end is = absurd is
+own_listing folder (has_no p ∷ ss) end is = absurd is
+own_listing folder (has_written v ∷ ss) end is = absurd is
+
+own_writing : (write : Write) → HasOwnEnds (writing write)
+own_writing write [] end is = absurd (not_over (stops end) (to_write write) tt is)
+own_writing write (has_written v ∷ []) end is = absurd (gives_or_stops tt end (sym is.1))
+own_writing write (has_written v ∷ s ∷ ss) end is = absurd is
+own_writing write (has_read p b ∷ ss) end is = absurd is
+own_writing write (has_no p ∷ ss) end is = absurd is
+own_writing write (has_listed f ps ∷ ss) end is = absurd is
+
+pub own_reading_all : (paths : List Word) → HasOwnEnds (reading_all paths)
+own_reading_all [] = own_giving []
+own_reading_all (path ∷ paths) =
+    own_then (reading path) _ (own_reading path) (λ text. own_then (reading_all paths) _ (own_reading_all paths) (λ texts. own_giving (text ∷ texts)))
+
+pub own_writing_all : (writes : List Write) → HasOwnEnds (writing_all writes)
+own_writing_all [] = own_giving tt
+own_writing_all (write ∷ writes) = own_then (writing write) _ (own_writing write) (λ _. own_writing_all writes)
+
+pub own_answered : (inputs : List Word) (Answers : List (List ℕ) → Answer → Type 0) → ((texts : List (List ℕ)) (end : End) → Answers texts (stops end) → IsOwnEnd end)
+    → HasOwnEnds (answered inputs Answers)
+own_answered inputs Answers own =
+    own_then (preparing inputs Answers) making_all
+    (own_then (reading_all inputs) (λ texts. answering (Answers texts)) (own_reading_all inputs)
+    (λ texts. own_deciding (λ writes. Answers texts (gives writes)) (λ end. Answers texts (stops end)) (own texts)))
+    (λ writes. own_then (writing_all writes) (λ _. ending {X = ⊥} done) (own_writing_all writes) (λ _. own_done))
+
+-- ---- counts
+
+rises_more : (a b c : ℕ) → Rises a b → (c ≡ b) ⊎ Rises b c → Rises a c
+rises_more a b c rises (inl same) = subst (λ (n : ℕ). Rises a n) (sym same) rises
+rises_more a b c (le, rose) (inr (le', inr last)) = (omega (arith, le, le'), inr last)
+rises_more a b c (le, rose) (inr (le', inl more)) = (omega (arith, le, le'), inl (omega (arith, le, more)))
+
+pub rose_for : (call : Call) (f g f' : Counts) → CountRose call f g → (f'.reads ≡ g.reads) × (f'.writes ≡ g.writes) × (f'.outs ≡ g.outs) × ((f'.errs ≡ g.errs) ⊎ Rises g.errs f'.errs) → RoseFor call f f'
+rose_for (to_read path) f g f' rose kept = rises_more f.reads g.reads f'.reads rose.0 (inl kept.0)
+rose_for (to_list folder) f g f' rose kept = rises_more f.reads g.reads f'.reads rose.0 (inl kept.0)
+rose_for (to_write (to_file path bytes)) f g f' rose kept = rises_more f.writes g.writes f'.writes rose.0 (inl kept.1)
+rose_for (to_write (to_out text)) f g f' rose kept = rises_more f.outs g.outs f'.outs rose.0 (inl kept.2)
+rose_for (to_write (to_err text)) f g f' rose kept = rises_more f.errs g.errs f'.errs rose.0 kept.3
+
+-- ---- the cause
+
+module _ (landed : Landed) (command : Command) (old new : World) (f f' : Counts) where
+  ended_so : (end : End) (stands : World) → CameTo landed command old stands (stops end) → SaysLast (message_of end) stands new f f' → IsOwnEnd end → Cause landed command old new f f' (status_of end)
+  ended_so done stands came says own = (says.0, subst (λ (w : World). CameTo landed command old w (stops done)) (sym says.1) came)
+  ended_so (refused fault line) stands came says own = (line, record { stands = stands; came = came; says = says })
+  ended_so misused stands came says own = record { stands = stands; came = came; says = says }
+  ended_so (unread path) stands came says own = inl (path, record { stands = stands; came = came; says = says })
+  ended_so (unwritten path) stands came says own = absurd own
+  ended_so unprinted stands came says own = absurd own
+
+  cut_so : (end : End) (stands : World) (at : Counts) (b : BrokeOff landed command old stands f at end) → SaysLast (message_of end) stands new at f' → Cause landed command old new f f' (status_of end)
+  cut_so end stands at b says =
+      subst (λ (e : End). Cause landed command old new f f' (status_of e)) (sym b.is)
+      (by b.call b.came b.rose b.broken (subst (λ (e : End). SaysLast (message_of e) stands new at f') b.is says))
+    where
+      failed : (call : Call) (Is : Call → Type 0) → Is call → CameTo landed command old b.stands (wants call) → CountRose call f at → Broken landed b.stands call stands → SaysLast (message_of (failure call)) stands new at f'
+          → CallFailed landed command old new f f' Is
+      failed call Is is came rose broken says = record {
+        call = call;
+        is = is;
+        before = b.stands;
+        came = came;
+        stands = stands;
+        broken = broken;
+        at = at;
+        only = rose;
+        rose = rose_for call f at f' rose (only_errs stands new at f' (message_of (failure call)) says);
+        says = says;
+      }
+
+      by : (call : Call) → CameTo landed command old b.stands (wants call) → CountRose call f at → Broken landed b.stands call stands → SaysLast (message_of (failure call)) stands new at f'
+          → Cause landed command old new f f' (status_of (failure call))
+      by (to_read path) came rose broken says = inr (failed (to_read path) IsReadCall tt came rose broken says)
+      by (to_list folder) came rose broken says = inr (failed (to_list folder) IsReadCall tt came rose broken says)
+      by (to_write (to_file path bytes)) came rose broken says = failed (to_write (to_file path bytes)) IsWriteCall tt came rose broken says
+      by (to_write (to_out text)) came rose broken says = failed (to_write (to_out text)) IsWriteCall tt came rose broken says
+      by (to_write (to_err text)) came rose broken says = failed (to_write (to_err text)) IsWriteCall tt came rose broken says
+
+  -- each status has its cause, where the command ends by itself in no failed write
+  pub cause : (s : Status) → HasOwnEnds command → Ends landed command old new f f' s → Cause landed command old new f f' s
+  cause s own (inl e) =
+      subst (λ (t : Status). Cause landed command old new f f' t) (sym e.is) (ended_so e.end e.stands e.came e.says (own e.came.steps e.end e.came.comes))
+  cause s own (inr (inl e)) = subst (λ (t : Status). Cause landed command old new f f' t) (sym e.is) (cut_so e.end e.stands e.at e.broke_off e.says)
+  cause s own (inr (inr e)) =
+      subst (λ (t : Status). Cause landed command old new f f' t) (sym e.is) (subst (λ (t : Status). IsOutOfMemory landed command old new f f' t) e.is e)
+
+  -- ---- by the work
+
+  -- where contents are told a run ends as the work does, or a call of the work failed, or memory was refused
+  pub ends_or_fails : (s : Status) → OneWay landed command old → (work : Work) → IsWork landed command old work → Ends landed command old new f f' s
+      → (s ≡ status_of work.end) ⊎ (WorkFailed work f f' ⊎ (s ≡ status.Memory))
+  ends_or_fails s way work is (inl e) =
+      let mine : Work = record { steps = e.came.steps; end = e.end } in
+      inl (e.is ∙ ap (λ (v : Work). status_of v.end) (one_work landed command old way mine work (e.came.comes, e.came.fit) is))
+  ends_or_fails s way work is (inr (inl e)) =
+      let b = e.broke_off in
+      let (step, rest, whole, called) = on_work landed command old way work is b.came.steps b.call b.came.comes b.came.fit in
+      let rose = rose_for b.call f e.at f' b.rose (only_errs e.stands new e.at f' (message_of e.end) e.says) in
+      inr (inl (record {
+        front = b.came.steps;
+        step = step;
+        behind = rest;
+        parts = whole;
+        rose = subst (λ (k : Call). RoseFor k f f') (sym called) rose;
+      }))
+  ends_or_fails s way work is (inr (inr e)) = inr (inr e.is)
+
+  -- where no count rose it ends as the work does, or memory was refused
+  pub ends_so : (s : Status) → OneWay landed command old → (work : Work) → IsWork landed command old work → Ends landed command old new f f' s → NoneRose f f'
+      → (s ≡ status_of work.end) ⊎ (s ≡ status.Memory)
+  ends_so s way work is ends none = by (ends_or_fails s way work is ends)
+    where
+      rose_not : (call : Call) → RoseFor call f f' → ⊥
+      rose_not (to_read path) rose = none.reads rose.1
+      rose_not (to_list folder) rose = none.reads rose.1
+      rose_not (to_write (to_file path bytes)) rose = none.writes rose.1
+      rose_not (to_write (to_out text)) rose = none.outs rose.1
+      rose_not (to_write (to_err text)) rose = none.errs rose.1
+
+      by : (s ≡ status_of work.end) ⊎ (WorkFailed work f f' ⊎ (s ≡ status.Memory)) → (s ≡ status_of work.end) ⊎ (s ≡ status.Memory)
+      by (inl so) = inl so
+      by (inr (inl failed)) = absurd (rose_not (call_of failed.step) failed.rose)
+      by (inr (inr memory)) = inr memory
