@@ -1,2 +1,6 @@
 mod StoredLaws
 mod FieldLaws
+mod PlaceLaws
+mod CorrespondLaws
+mod SiteLaws
+mod TypeLaws

@@ -1,2 +1,5 @@
 pub mod Types
 pub mod Shown
+pub mod Prepared
+pub mod Places
+pub mod Sites

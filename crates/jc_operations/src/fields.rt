@@ -13,7 +13,7 @@ use jc_methods::{ValueType, field_type, opcode};
 
 /// The computational type of the values of a type, and how an int among them is narrowed. The machine has no
 /// floats and no doubles.
-fn stored_of(value: ValueType<'_>) -> Option<(ComputationalType, Narrowing)>
+pub fn stored_of(value: ValueType<'_>) -> Option<(ComputationalType, Narrowing)>
     ensures { result ≡ stored_of value.entry }
 {
     match value {

@@ -2,14 +2,22 @@
 #![tactic(auto)]
 
 mod calls;
+mod code;
 mod constants;
 mod elements;
 mod fields;
+mod index;
 mod locals;
 mod methods;
 mod operation;
+mod places;
+mod prepared;
+mod rows;
 mod simple;
+mod site;
+mod switches;
 mod throwables;
+mod types;
 
 pub use calls::{special_call, virtual_call};
 pub use constants::{constant_operation, long_operation};
@@ -17,5 +25,9 @@ pub use fields::{field_operation, is_print_stream};
 pub use locals::local_operation;
 pub use methods::{is_enterable, is_init_name, most_frame_slots};
 pub use operation::{ComputationalType, ElementTypes, Operation, PrimitiveType, Printed};
+pub use prepared::{
+    Catches, FirstValue, PreparedClass, PreparedMethod, PreparedProgram, PreparedRow,
+};
 pub use simple::{array_operation, simple_operation};
-pub use throwables::{build_operation, make_operation};
+pub use switches::{lookup_target, switch_target, table_target};
+pub use throwables::{build_operation, extends, make_operation};

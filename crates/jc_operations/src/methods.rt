@@ -69,8 +69,7 @@ fn is_plain(class: &Linked, body: &Body, most: u32) -> bool
 /// Whether a thread may enter a method of a class. `most` is the most slots that a method of the class may
 /// have.
 pub fn is_enterable(class: &Linked, body: &Body, most: u32) -> bool
-    requires { most_frame_slots class.now ≡ most }
-    ensures { result ≡ is_enterable class.now body.now }
+    ensures { most_frame_slots class.now ≡ most → result ≡ is_enterable class.now body.now }
 {
     is_plain(class, body, most) && !is_synchronized(body)
 }

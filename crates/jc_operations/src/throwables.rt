@@ -1,6 +1,6 @@
 //! Classes of throwables by their names.
 ghost use Rattle.std.specs.Prelude.{◌≡◌, find, bytes_eq};
-ghost use Rattle.jc_programs.specs.Throwables.{name_of, thrown_named};
+ghost use Rattle.jc_programs.specs.Throwables.{name_of, thrown_named, line_of, is_named_in};
 ghost use Rattle.jc_world.specs.Profile.{made_class, make_operation, build_operation};
 ghost use Rattle.jc_operations.specs.Shown.{Shows};
 
@@ -47,6 +47,95 @@ fn name_of(class: Thrown) -> &'static [u8]
         Thrown::StackOverflowError => b"java/lang/StackOverflowError",
         Thrown::OutOfMemoryError => b"java/lang/OutOfMemoryError",
     }
+}
+
+/// The class and its superclasses, from the class up.
+fn line_of(class: Thrown) -> &'static [Thrown]
+    ensures { result.now ≡ line_of class }
+{
+    match class {
+        Thrown::Throwable => &[Thrown::Throwable],
+        Thrown::Exception => &[Thrown::Exception, Thrown::Throwable],
+        Thrown::Error => &[Thrown::Error, Thrown::Throwable],
+        Thrown::RuntimeException => &[
+            Thrown::RuntimeException,
+            Thrown::Exception,
+            Thrown::Throwable,
+        ],
+        Thrown::ArithmeticException => &[
+            Thrown::ArithmeticException,
+            Thrown::RuntimeException,
+            Thrown::Exception,
+            Thrown::Throwable,
+        ],
+        Thrown::IllegalArgumentException => &[
+            Thrown::IllegalArgumentException,
+            Thrown::RuntimeException,
+            Thrown::Exception,
+            Thrown::Throwable,
+        ],
+        Thrown::IllegalStateException => &[
+            Thrown::IllegalStateException,
+            Thrown::RuntimeException,
+            Thrown::Exception,
+            Thrown::Throwable,
+        ],
+        Thrown::NullPointerException => &[
+            Thrown::NullPointerException,
+            Thrown::RuntimeException,
+            Thrown::Exception,
+            Thrown::Throwable,
+        ],
+        Thrown::NegativeArraySizeException => &[
+            Thrown::NegativeArraySizeException,
+            Thrown::RuntimeException,
+            Thrown::Exception,
+            Thrown::Throwable,
+        ],
+        Thrown::ArrayStoreException => &[
+            Thrown::ArrayStoreException,
+            Thrown::RuntimeException,
+            Thrown::Exception,
+            Thrown::Throwable,
+        ],
+        Thrown::IndexOutOfBoundsException => &[
+            Thrown::IndexOutOfBoundsException,
+            Thrown::RuntimeException,
+            Thrown::Exception,
+            Thrown::Throwable,
+        ],
+        Thrown::ArrayIndexOutOfBoundsException => &[
+            Thrown::ArrayIndexOutOfBoundsException,
+            Thrown::IndexOutOfBoundsException,
+            Thrown::RuntimeException,
+            Thrown::Exception,
+            Thrown::Throwable,
+        ],
+        Thrown::VirtualMachineError => &[
+            Thrown::VirtualMachineError,
+            Thrown::Error,
+            Thrown::Throwable,
+        ],
+        Thrown::StackOverflowError => &[
+            Thrown::StackOverflowError,
+            Thrown::VirtualMachineError,
+            Thrown::Error,
+            Thrown::Throwable,
+        ],
+        Thrown::OutOfMemoryError => &[
+            Thrown::OutOfMemoryError,
+            Thrown::VirtualMachineError,
+            Thrown::Error,
+            Thrown::Throwable,
+        ],
+    }
+}
+
+/// Whether the class is the other one, or one of its superclasses is.
+pub fn extends(class: Thrown, other: Thrown) -> bool
+    ensures { result ≡ is_named_in class (name_of other) }
+{
+    line_of(class).iter().any(|above| *above == other)
 }
 
 /// Whether a class of throwables has a name.
