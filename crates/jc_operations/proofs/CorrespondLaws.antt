@@ -2,6 +2,7 @@
 use Rattle.std.proofs.Common.{◌≡◌, ⊎_elim, ℕ, suc, ◌+◌, ◌<◌, ◌≤◌, List, [], ◌∷◌, ◌++◌, length, map, get_or, Option, Some, None, refl, sym, ap, ap₂, ◌∙◌, subst, subst₂, length-append, arith}
 use Rattle.std.specs.List.{slice_get}
 use Rattle.std.proofs.lemmas.Option.{slice_get_read, slice_get_within, none-some, same_Some}
+use Rattle.std.proofs.lemmas.List.{get_or_default}
 use Rattle.jc_bytes.proofs.ListLaws.{item_at, put_cases}
 use Rattle.jc_operations.specs.Prepared.{Correspond}
 
@@ -26,6 +27,9 @@ module _ {X Y : Type 0} (R : ℕ → X → Y → Type 0) (xs : List X) where
             subst (λ (m : ℕ). R m z w) (sym place) (subst₂ (λ (u : X) (v : Y). R n u v) (sym this) last.1 r))
         (put_cases ys y w i put);
   }
+
+  pub built_next : (n : ℕ) (ys : List Y) (d : X) (y : Y) → n < length xs → R n (get_or xs n d) y → BuiltTo n ys → BuiltTo (n + 1) (ys ++ y ∷ [])
+  built_next n ys d y h r b = built_more n ys (get_or xs n d) y h (get_or_default xs n d (get_or xs n d) h) r b
 
   pub built_all : (n : ℕ) (ys : List Y) → length xs ≤ n → n ≤ length xs → BuiltTo n ys → Correspond R xs ys
   built_all n ys h g b = record { length_is = b.length_is ∙ (omega arith); each = b.each }

@@ -4,3 +4,5 @@ mod PlaceLaws
 mod CorrespondLaws
 mod SiteLaws
 mod TypeLaws
+mod ThrownLaws
+mod FirstValueLaws

@@ -3,3 +3,4 @@ pub mod Shown
 pub mod Prepared
 pub mod Places
 pub mod Sites
+pub mod FirstValues

@@ -11,6 +11,7 @@ mod locals;
 mod methods;
 mod operation;
 mod places;
+mod prepare;
 mod prepared;
 mod rows;
 mod simple;

@@ -8,6 +8,7 @@ ghost use Rattle.jc_world.specs.Begin.{first_value};
 ghost use Rattle.jc_world.specs.Programs.{IsStatic};
 ghost use Rattle.jc_operations.specs.Types.{computational, return_narrowing};
 ghost use Rattle.jc_operations.specs.Prepared.{value_of};
+ghost use Rattle.jc_operations.specs.FirstValues.{value_by, FitsLetter};
 
 use crate::fields::stored_of;
 use crate::{ComputationalType, FirstValue};
@@ -55,15 +56,26 @@ pub fn return_narrowing(returns: Option<ValueType<'_>>) -> Narrowing
     }
 }
 
+/// The first value of a static field, by the first letter of its descriptor.
+fn first_by(letter: u8, first: i64) -> FirstValue
+    requires { FitsLetter letter first }
+    ensures { value_of result ≡ value_by letter first }
+{
+    match letter {
+        b'L' | b'[' | b')' => FirstValue::Null,
+        b'J' => FirstValue::Long(first),
+        _ => FirstValue::Int(first as i32),
+    }
+}
+
 /// The first value of a static field.
 fn first_value(field: &StaticField) -> FirstValue
     requires { IsStatic field.now }
     ensures { value_of result ≡ first_value field.now }
 {
-    match field.desc.as_slice().first() {
-        None | Some(b'L' | b'[' | b')') => FirstValue::Null,
-        Some(b'J') => FirstValue::Long(field.first),
-        Some(_) => FirstValue::Int(field.first as i32),
+    match field.desc.as_slice() {
+        [] => FirstValue::Null,
+        [letter, ..] => first_by(*letter, field.first),
     }
 }
 
