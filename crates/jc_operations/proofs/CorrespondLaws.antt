@@ -59,3 +59,13 @@ same_map f g (x ∷ xs) (y ∷ ys) made = ap₂ (λ z zs. z ∷ zs) (made.each 0
   length_is = let e = made.length_is in omega (arith, e);
   each = λ i u v e h. made.each (suc i) u v e h;
 }))
+
+-- what is made of what is made of the items
+pub through : {X Y Z : Type 0} (R : ℕ → X → Y → Type 0) (S : ℕ → X → Z → Type 0) (xs : List X) (ys : List Y) (zs : List Z) → Correspond R xs ys
+    → Correspond (λ i y z. (x : X) → R i x y → S i x z) ys zs → Correspond S xs zs
+through R S xs ys zs first second = record {
+  length_is = second.length_is ∙ first.length_is;
+  each = λ i x z at made.
+      let y = item_at ys i (subst (λ (m : ℕ). i < m) second.length_is (slice_get_within zs i z made)) in
+      second.each i y.0 z y.1 made x (first.each i x y.0 at y.1);
+}

@@ -6,3 +6,5 @@ mod SiteLaws
 mod TypeLaws
 mod ThrownLaws
 mod FirstValueLaws
+mod CodeLaws
+pub mod PrepareLaws

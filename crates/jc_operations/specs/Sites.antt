@@ -1,21 +1,24 @@
 -- What is known of the method whose instructions are looked at.
-use Rattle.std.specs.Prelude.{◌≡◌, ℕ, ◌<◌, ◌^◌, length, Some}
+use Rattle.std.specs.Prelude.{◌≡◌, ℕ, ◌<◌, ◌^◌, length, Some, All}
 use Rattle.jc_methods.specs.declared.insn.Insn.{Insn}
 use Rattle.jc_methods.specs.declared.body.Body.{Body}
 use Rattle.jc_methods.specs.declared.body.What.{What}
 use Rattle.jc_methods.specs.DescriptorTypes.{method_type_in}
 use Rattle.jc_methods.specs.InsnUse.{pool_place, Suits}
+use Rattle.jc_methods.specs.WellMade.{IsWellMade}
 use Rattle.jc_programs.specs.declared.program.Program.{Program}
 use Rattle.jc_programs.specs.declared.program.Linked.{Linked}
 use Rattle.jc_programs.specs.Members.{class_at}
 use Rattle.jc_world.specs.Methods.{most_frame_slots}
 use Rattle.jc_world.specs.Profile.{Location, in_init, init_of}
+use Rattle.jc_world.specs.Programs.{IsStatic}
+use Rattle.jc_operations.specs.declared.prepared.PreparedClass.{PreparedClass}
 use Rattle.jc_operations.specs.declared.index.ClassIndex.{ClassIndex}
 use Rattle.jc_operations.specs.declared.index.ProgramIndex.{ProgramIndex}
 use Rattle.jc_operations.specs.declared.site.Site.{Site}
 use Rattle.jc_operations.specs.Types.{return_narrowing}
 use Rattle.jc_operations.specs.Places.{same_member, same_name, class_has, is_method, is_static_field, ArePlaces, what_in, AreWhats}
-use Rattle.jc_operations.specs.Prepared.{Correspond}
+use Rattle.jc_operations.specs.Prepared.{Correspond, IsPreparedClass}
 
 -- a method's number and a field's number are numbers of four bytes
 pub record HasFewMembers (c : Linked) : Type 0 where
@@ -39,6 +42,15 @@ pub record IsClassAt (program : Program) (class : ℕ) (index : ClassIndex) : Ty
   pub linked : Linked
   pub class_is : class_at program class ≡ Some linked
   pub indexed : IsClassIndex class linked index
+
+-- the bodies of the class are well made, and its static fields have values of their types
+pub record IsMade (index : ClassIndex) : Type 0 where
+  pub bodies : All IsWellMade index.linked.now.bodies
+  pub statics : All IsStatic index.linked.now.statics
+
+-- it is what becomes of the class
+abbrev pub IsPreparedFrom : Program → ℕ → ClassIndex → PreparedClass → Type 0
+IsPreparedFrom program class index prepared = (linked : Linked) → IsClassIndex class linked index → IsPreparedClass program class linked prepared
 
 -- it is of the method in which the instruction stands
 pub record IsSite (program : Program) (at : Location) (site : Site) : Type 0 where

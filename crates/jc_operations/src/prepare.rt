@@ -1,13 +1,12 @@
 //! Programs are prepared.
-ghost use Rattle.std.specs.Prelude.{◌≡◌, ℕ, All, IfOk};
+ghost use Rattle.std.specs.Prelude.{◌≡◌, ℕ, ◌<◌, ◌^◌, length, All, IfOk};
 ghost use Rattle.jc_methods.specs.WellMade.{IsWellMade};
-ghost use Rattle.jc_methods.specs.declared.body.Body.{Body};
 ghost use Rattle.jc_programs.specs.declared.program.Program.{Program};
 ghost use Rattle.jc_programs.specs.declared.program.Linked.{Linked};
 ghost use Rattle.jc_world.specs.Profile.{Location, init_of};
-ghost use Rattle.jc_world.specs.Programs.{IsStatic, IsProgram};
-ghost use Rattle.jc_operations.specs.Prepared.{Correspond, IsPreparedMethod, IsPreparedClass, IsPrepared};
-ghost use Rattle.jc_operations.specs.Sites.{IsClassIndex, IsIndex};
+ghost use Rattle.jc_world.specs.Programs.{IsProgram};
+ghost use Rattle.jc_operations.specs.Prepared.{Correspond, IsPreparedMethod, IsPrepared};
+ghost use Rattle.jc_operations.specs.Sites.{IsClassIndex, IsIndex, IsMade, IsPreparedFrom};
 
 use crate::code::operations;
 use crate::index::{ClassIndex, ProgramIndex};
@@ -65,4 +64,77 @@ fn prepared_method<'a>(
         is_enterable: is_enterable(members.linked, body, members.most),
         rows,
     })
+}
+
+/// The methods of the class with a number.
+fn prepared_methods<'a>(
+    alloc: Global,
+    index: &ProgramIndex<'a>,
+    class: u32,
+    members: &ClassIndex<'a>,
+) -> Result<List<PreparedMethod>, Memory>
+    requires { All IsWellMade members.now.linked.now.bodies }
+    ensures { (program : Program) (linked : Linked) → IsIndex program index.now → IsClassIndex class linked members.now
+        → IfOk result (λ methods. Correspond (IsPreparedMethod program class linked) linked.bodies methods) }
+{
+    let bodies = members.linked.bodies.as_slice();
+    let mut methods = List::new(alloc);
+    'preparing: for body in bodies {
+        methods.push(prepared_method(alloc, index, class, members, body)?)?;
+    }
+    Ok(methods)
+}
+
+/// The class with a number.
+fn prepared_class<'a>(
+    alloc: Global,
+    index: &ProgramIndex<'a>,
+    class: u32,
+    members: &ClassIndex<'a>,
+) -> Result<PreparedClass, Memory>
+    requires { IsMade members.now }
+    ensures { (program : Program) → IsIndex program index.now → IfOk result (λ prepared. IsPreparedFrom program class members.now prepared) }
+{
+    let methods = prepared_methods(alloc, index, class, members)?;
+    let statics = first_values(alloc, members.linked.statics.as_slice())?;
+    Ok(PreparedClass {
+        methods,
+        statics,
+        probes: members.linked.probes,
+    })
+}
+
+/// The classes of a program.
+fn prepared_classes(
+    alloc: Global,
+    index: &ProgramIndex<'_>,
+) -> Result<List<PreparedClass>, Memory>
+    requires few { length index.now.classes < 2 ^ 32 }
+    requires made { All IsMade index.now.classes }
+    ensures { (program : Program) → IsIndex program index.now
+        → IfOk result (λ classes. Correspond (IsPreparedFrom program) index.now.classes classes) }
+{
+    let all = index.classes.as_slice();
+    let mut classes = List::new(alloc);
+    'preparing: for members in all {
+        let class = classes.len() as u32;
+        classes.push(prepared_class(alloc, index, class, members)?)?;
+    }
+    Ok(classes)
+}
+
+impl PreparedProgram {
+    /// What each instruction of a program is, so that no turn of a thread looks anything up by name.
+    ///
+    /// # Errors
+    ///
+    /// `Memory` where memory was refused.
+    pub fn of(alloc: Global, program: &Program) -> Result<PreparedProgram, Memory>
+        requires { IsProgram program.now }
+        ensures { IfOk result (λ prepared. IsPrepared program.now prepared) }
+    {
+        let index = ProgramIndex::of(alloc, program)?;
+        let classes = prepared_classes(alloc, &index)?;
+        Ok(PreparedProgram { classes })
+    }
 }
