@@ -8,3 +8,5 @@ mod ThrownLaws
 mod FirstValueLaws
 mod CodeLaws
 pub mod PrepareLaws
+pub mod SwitchLaws
+pub mod InvokedLaws

@@ -4,3 +4,4 @@ pub mod Prepared
 pub mod Places
 pub mod Sites
 pub mod FirstValues
+pub mod Invoked

@@ -23,10 +23,21 @@ pub fn lookup_target(default: u32, arms: &[Arm], key: i32) -> u32
     requires { IsAscending arms.now }
     ensures { result ≡ lookup_target default arms.now key }
 {
-    match arms.binary_search_by_key(&key, |arm| arm.key) {
-        Ok(found) => arms[found].to,
-        Err(_) => default,
+    let mut low = 0;
+    let mut high = arms.len();
+    'searching: while low < high {
+        let middle = low + (high - low) / 2;
+        let arm = arms[middle];
+        if arm.key == key {
+            return arm.to;
+        }
+        if key < arm.key {
+            high = middle;
+        } else {
+            low = middle + 1;
+        }
     }
+    default
 }
 
 /// Where a switch leads with a key; 0 for another instruction.
