@@ -1,5 +1,5 @@
 -- A turn of the twin alone, inside one frame: the store of the prelude, probes and gotos that are no images.
-use Rattle.std.proofs.Common.{◌≡◌, ◌⊎◌, inl, inr, ℕ, zero, suc, pos, ◌+◌, ◌<◌, ◌≤◌, Bool, true, false, List, [], ◌∷◌, ◌++◌, Option, Some, None, nat_le, refl, sym, ap, ◌∙◌, arith, if◌then◌else◌}
+use Rattle.std.proofs.Common.{◌≡◌, ℕ, zero, suc, pos, ◌+◌, ◌<◌, ◌≤◌, Bool, true, false, List, [], ◌∷◌, ◌++◌, Option, Some, None, nat_le, refl, sym, ap, ◌∙◌, arith, if◌then◌else◌}
 use Rattle.std.specs.Prelude.{slice_get, slice_index_or}
 use Rattle.std.proofs.lemmas.Bool.{lt-ltb, leb-true, true≢false}
 use Rattle.jc_methods.specs.Opcode as opcode
@@ -13,7 +13,7 @@ use Rattle.jc_emit.specs.Marks.{push, aload, astore, bastore}
 use Rattle.jc_emit.specs.Ranks.{after_place}
 use Rattle.jc_methods.specs.Widened.{goto}
 use Rattle.jc_world.specs.Values.{Value, int, probes, reference_type}
-use Rattle.jc_world.specs.World.{Frame, Shared}
+use Rattle.jc_world.specs.World.{Frame, Shared, Hit}
 use Rattle.jc_world.specs.Results.{Result, goes, hits, next_with, goes_with}
 use Rattle.jc_world.specs.Locals.{by_load, by_store, put_local}
 use Rattle.jc_world.specs.Arrays.{by_probe, by_write}
@@ -23,6 +23,7 @@ use Rattle.jc_world.specs.Profile.{Location, operation_of}
 use Rattle.jc_world.specs.Perform.{perform}
 use Rattle.jc_world.specs.Step.{result_of}
 use Rattle.jc_simulation.specs.Sides.{Side, array_of, count_in}
+use Rattle.jc_simulation.specs.Probes.{hit_of}
 use Rattle.jc_simulation.specs.Mid.{pushed_of, SameLocals, OneMethod, SameFrame}
 use Rattle.jc_simulation.proofs.LocalLaws.{none_pushed, moves_on, reads_array, stores_array}
 use Rattle.jc_simulation.proofs.FrameLaws.{location, result_is, twin_insn}
@@ -80,11 +81,20 @@ hits_it : (s : Shared) (f : Frame) (class count id : ℕ) (st : List Value) → 
     → by_write (Byte ∷ Boolean ∷ []) (int (pos 1) ∷ int (pos id) ∷ probes class count ∷ st) s f ≡ hits class id (next_with f st)
 hits_it s f class count id st lt = ap (λ b. by_probe class (if b then Some id else None) (int (pos 1)) st f) (lt-ltb id count lt)
 
+-- what the twin's instruction comes to where it goes on alone: the last one of a probe hits it
+abbrev pub aside_result : Item → (class : ℕ) → Shared → Frame → Result
+aside_result (probe_store id at late) class s g = hits class id g
+aside_result _ class s g = goes s g
+
+abbrev pub aside_hits : Item → (class : ℕ) → List Hit
+aside_hits (probe_store id at late) class = hit_of class id ∷ []
+aside_hits _ class = []
+
 module _ (p p' : Program) (sides : Entry → Side) where
   -- the twin alone goes on inside its frame
   pub record Alone (f f' : Frame) (x : Item) (s' : Shared) (r : Result) : Type 0 where
     pub frame : Frame
-    pub is : (r ≡ goes s' frame) ⊎ ((class : ℕ) × (id : ℕ) × (r ≡ hits class id frame))
+    pub is : r ≡ aside_result x f.method.class s' frame
     pub same : SameFrame p p' sides f frame
     pub to : frame.place ≡ after_place f'.place x
 
@@ -130,8 +140,8 @@ module _ (p p' : Program) (sides : Entry → Side) where
         record {
           frame = g;
           is =
-              inl (done init_store c.0 c.1 ∙ ap (λ i. perform (operation_of p' here_at i) s' f') c.2 ∙ stores_it p' here_at s' f' slot
-              ∙ ap (λ l. by_store reference_type slot l s' f') st);
+              done init_store c.0 c.1 ∙ ap (λ i. perform (operation_of p' here_at i) s' f') c.2 ∙ stores_it p' here_at s' f' slot
+              ∙ ap (λ l. by_store reference_type slot l s' f') st;
           same =
               to_stand g (f'.place + 1) 0 None ok.stands refl refl (sym at) refl (λ y. stores_array a t.slot slot f.locals f'.locals init_store y same refl ls);
           to = refl;
@@ -144,10 +154,9 @@ module _ (p p' : Program) (sides : Entry → Side) where
         let g = next_with f' (a ∷ f'.stack) in
         record {
           frame = g;
-          is = inl (
+          is =
               done (probe_array id i late) c.0 c.1 ∙ ap (λ i. perform (operation_of p' here_at i) s' f') c.2 ∙ loads_array p' here_at s' f' slot
-              ∙ ap (λ l. by_load reference_type l s' f') (reads_array a t.slot slot f.locals f'.locals (probe_array id i late) same tt ls)
-              );
+              ∙ ap (λ l. by_load reference_type l s' f') (reads_array a t.slot slot f.locals f'.locals (probe_array id i late) same tt ls);
           same =
               to_item g (probe_id id i late) refl ok.1 at (ap (λ l. a ∷ l) st)
               (moves_on a t.slot f.locals f'.locals (probe_array id i late) (probe_id id i late) tt ls);
@@ -158,7 +167,7 @@ module _ (p p' : Program) (sides : Entry → Side) where
         let g = next_with f' (int (pos id) ∷ f'.stack) in
         record {
           frame = g;
-          is = inl (done (probe_id id i late) c.0 c.1 ∙ ap (λ i. perform (operation_of p' here_at i) s' f') c.2 ∙ pushes_number p' here_at s' f' id);
+          is = done (probe_id id i late) c.0 c.1 ∙ ap (λ i. perform (operation_of p' here_at i) s' f') c.2 ∙ pushes_number p' here_at s' f' id;
           same =
               to_item g (probe_one id i late) refl ok.1 at (ap (λ l. int (pos id) ∷ l) st)
               (moves_on a t.slot f.locals f'.locals (probe_id id i late) (probe_one id i late) tt ls);
@@ -169,7 +178,7 @@ module _ (p p' : Program) (sides : Entry → Side) where
         let g = next_with f' (int (pos 1) ∷ f'.stack) in
         record {
           frame = g;
-          is = inl (done (probe_one id i late) c.0 c.1 ∙ ap (λ i. perform (operation_of p' here_at i) s' f') c.2 ∙ pushes_number p' here_at s' f' 1);
+          is = done (probe_one id i late) c.0 c.1 ∙ ap (λ i. perform (operation_of p' here_at i) s' f') c.2 ∙ pushes_number p' here_at s' f' 1;
           same =
               to_item g (probe_store id i late) refl ok.1 at (ap (λ l. int (pos 1) ∷ l) st)
               (moves_on a t.slot f.locals f'.locals (probe_one id i late) (probe_store id i late) tt ls);
@@ -184,7 +193,7 @@ module _ (p p' : Program) (sides : Entry → Side) where
         ∙ hits_it s' f' f.method.class (count_in t.new.probes) id f.stack ((o.side.changed v e).within f'.place id (probe_store id i late) h refl) in
         record {
           frame = g;
-          is = inr (f.method.class, id, is);
+          is = is;
           same = by late ok.1 at (λ y. moves_on a t.slot f.locals f'.locals (probe_store id i late) y tt ls);
           to = refl;
         }
@@ -198,7 +207,7 @@ module _ (p p' : Program) (sides : Entry → Side) where
         let g = record f' { place = to } in
         record {
           frame = g;
-          is = inl (done (hop to i due) c.0 c.1 ∙ ap (λ i. perform (operation_of p' here_at i) s' f') c.2 ∙ jumps_to p' here_at s' f' to);
+          is = done (hop to i due) c.0 c.1 ∙ ap (λ i. perform (operation_of p' here_at i) s' f') c.2 ∙ jumps_to p' here_at s' f' to;
           same = to_stand g to i due ok.stands refl refl (sym at) st (λ y. moves_on a t.slot f.locals f'.locals (hop to i due) y tt ls);
           to = refl;
         }

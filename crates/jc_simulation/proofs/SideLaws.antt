@@ -121,6 +121,8 @@ module _ (p p' : Program) (t : TwinProgram p p') (marks : Entry → Marks) (are 
                 within = λ q id x here h. within first pair (each_within first b b' (marks m) seen q id x here h).1;
               };
               unchanged = λ e. absurd (none-some b.arg_slots (sym e));
+              ids_are = λ v e. refl;
+              no_ids_are = λ e. absurd (none-some b.arg_slots (sym e));
             },
             record { at = seen.at; own = seen.own; extra = seen.extra },
           ),
@@ -159,6 +161,8 @@ module _ (p p' : Program) (t : TwinProgram p p') (marks : Entry → Marks) (are 
               max_locals = seen.max_locals;
               changed = λ v e. absurd (none-some v e);
               unchanged = λ e. record { pair = pair; declares = unchanged_declares p.names p'.names c new pair };
+              ids_are = λ v e. absurd (none-some v e);
+              no_ids_are = λ e. refl;
             },
             record { at = seen.at; own = seen.own; extra = seen.extra },
           ),

@@ -2,6 +2,7 @@
 use Rattle.std.proofs.Common.{◌≡◌, inl, inr, ⊎_elim, ℕ, ◌+◌, ◌-◌, ◌<◌, ◌≤◌, Bool, true, false, not, ◌&&◌, ◌||◌, List, [], ◌∷◌, ◌++◌, Option, Some, None, option_map, nat_eq, nat_lt, nat_le, refl, sym, ap, ap₂, ◌∙◌, subst, subst₂, arith, if◌then◌else◌}
 use Rattle.std.specs.Prelude.{slice_get, option_and_then}
 use Rattle.std.proofs.lemmas.Bool.{eq-eqb, true≢false}
+use Rattle.std.proofs.lemmas.Option.{same_Some}
 use Rattle.jc_methods.specs.Opcode as opcode
 use Rattle.jc_methods.specs.DescriptorTypes.{types_from, method_type_in}
 use Rattle.jc_methods.specs.ProbeMembers.{init_name, init_type}
@@ -14,7 +15,7 @@ use Rattle.jc_programs.specs.declared.run_end.Entry.{Entry}
 use Rattle.jc_programs.specs.declared.run_end.Thrown.TheVariants as thrown
 use Rattle.jc_programs.specs.Members.{class_named, class_at}
 use Rattle.jc_emit.specs.Items.{Item, init_call, init_store, image, probe_array, probe_id, probe_one, probe_store, hop, at_of, own_of}
-use Rattle.jc_emit.specs.Local.{Ok}
+use Rattle.jc_emit.specs.Local.{Ok, due_of, early_of}
 use Rattle.jc_emit.specs.Seen.{IsPlain}
 use Rattle.jc_plan.specs.Probed.{probe_count}
 use Rattle.std.specs.List.{sum_by}
@@ -29,6 +30,7 @@ use Rattle.jc_world.specs.Profile.{Location, in_init, init_of, may_name_method, 
 use Rattle.jc_world.specs.Profile as profile
 use Rattle.jc_world.specs.Step.{is_init_method, counted_frames, new_frame, After, after, placed, thrown_in, result_of, after_result}
 use Rattle.jc_simulation.specs.Sides.{Side, count_in, array_of, IsChanged, AreSides}
+use Rattle.jc_simulation.specs.Probes.{hit_of, item_hit, Passes, nothing, a_late_one, an_early_one, place_hit, frame_hit, due_in, early_in}
 use Rattle.jc_simulation.specs.Mid.{pushed_of, SameLocals, SameFrame, SameWaits, InitStep, reads_field, doubles, asks_null, clears, wants_id, wants_text, wants_count, fetches_array, keeps_array, writes_field, gives_back, step_place, step_stack, init_method, Inside, SameShared, SameThread}
 use Rattle.jc_simulation.proofs.LocalLaws.{stays_unready}
 use Rattle.jc_simulation.proofs.MemberLaws.{enter_by}
@@ -37,7 +39,7 @@ use Rattle.jc_simulation.proofs.OwnLaws.{AtImage}
 use Rattle.jc_simulation.proofs.FrameLaws.{location, result_is, init_is, twin_insn, own_result}
 use Rattle.jc_simulation.proofs.ThrowLaws.{SameAfter}
 use Rattle.jc_simulation.proofs.OwnTurnLaws.{new_no_init, after_same}
-use Rattle.jc_simulation.proofs.AsideLaws.{Alone, aside_turn}
+use Rattle.jc_simulation.proofs.AsideLaws.{aside_result, aside_hits, Alone, aside_turn}
 use Rattle.jc_simulation.proofs.InitLaws.{or_true, Steps, Stepped, init_turn}
 
 -- the added method has no parameters
@@ -88,6 +90,50 @@ module _ (p p' : Program) (sides : Entry → Side) where
       ap (λ b. frames_rank b f' fs') (new_no_init p p' sides f f' h.one)
       ∙ ap (λ m. rank_at (sides m) (slice_get (sides m).items f'.place)) h.one.method ∙ ap (rank_at (sides f.method)) h.here
 
+  pub hit_top : (id_by : Item → Option ℕ) (f f' : Frame) (h : SameFrame p p' sides f f')
+      → frame_hit p' sides id_by (is_init_method p' f'.method) f' ≡ option_map (hit_of f.method.class) (id_by h.item)
+  hit_top id_by f f' h =
+      ap (λ b. frame_hit p' sides id_by b f') (new_no_init p p' sides f f' h.one)
+      ∙ ap (λ m. place_hit p' sides id_by m f'.place) h.one.method ∙ ap (item_hit id_by f.method.class) h.here
+
+  -- what the twin alone hits between an item and the next one
+  abbrev Between : (class : ℕ) → Item → Item → Type 0
+  Between class x y =
+      Passes (option_map (hit_of class) (due_of x)) (option_map (hit_of class) (early_of x)) (aside_hits x class)
+      (option_map (hit_of class) (due_of y)) (option_map (hit_of class) (early_of y))
+
+  same_item : (t : Side) (q : ℕ) (y z : Item) → slice_get t.items q ≡ Some y → slice_get t.items q ≡ Some z → y ≡ z
+  same_item t q y z e h = same_Some y z (sym e ∙ h)
+
+  -- the next item owes what this one does
+  quiet : (class : ℕ) (x y z : Item) → y ≡ z → due_of z ≡ due_of x → early_of z ≡ early_of x → aside_hits x class ≡ [] → Between class x y
+  quiet class x y z same due early none =
+      nothing none (ap (λ i. option_map (hit_of class) (due_of i)) same ∙ ap (option_map (hit_of class)) due)
+      (ap (λ i. option_map (hit_of class) (early_of i)) same ∙ ap (option_map (hit_of class)) early)
+
+  item_passes : (t : Side) (class q : ℕ) (x y : Item) → Ok t.body.code t.slot t.ids t.items q x → own_of x ≡ false → (x ≡ init_call → ⊥)
+      → slice_get t.items (after_place q x) ≡ Some y → Between class x y
+  item_passes t class q init_call y ok own other e = absurd (other refl)
+  item_passes t class q init_store y ok own other e =
+      quiet class init_store y ok.stands.item (same_item t (q + 1) y ok.stands.item e ok.stands.here) ok.stands.due_is ok.stands.no_early refl
+  item_passes t class q (image insn at early) y ok own other e = absurd (true≢false own)
+  item_passes t class q (probe_array id at late) y ok own other e =
+      quiet class (probe_array id at late) y (probe_id id at late) (same_item t (q + 1) y (probe_id id at late) e ok.1) refl refl refl
+  item_passes t class q (probe_id id at late) y ok own other e =
+      quiet class (probe_id id at late) y (probe_one id at late) (same_item t (q + 1) y (probe_one id at late) e ok.1) refl refl refl
+  item_passes t class q (probe_one id at late) y ok own other e =
+      quiet class (probe_one id at late) y (probe_store id at late) (same_item t (q + 1) y (probe_store id at late) e ok.1) refl refl refl
+  item_passes t class q (probe_store id at true) y ok own other e =
+      let same = same_item t (q + 1) y ok.1.item e ok.1.here in
+      a_late_one (hit_of class id) refl refl (ap (λ i. option_map (hit_of class) (due_of i)) same ∙ ap (option_map (hit_of class)) ok.1.due_is)
+      (ap (λ i. option_map (hit_of class) (early_of i)) same ∙ ap (option_map (hit_of class)) ok.1.no_early)
+  item_passes t class q (probe_store id at false) y ok own other e =
+      let same = same_item t (q + 1) y (image ok.1.0 at (Some id)) e ok.1.1 in
+      an_early_one (hit_of class id) refl (ap (λ i. option_map (hit_of class) (due_of i)) same) refl
+      (ap (λ i. option_map (hit_of class) (early_of i)) same)
+  item_passes t class q (hop to at due) y ok own other e =
+      quiet class (hop to at due) y ok.stands.item (same_item t to y ok.stands.item e ok.stands.here) ok.stands.due_is ok.stands.no_early refl
+
   -- the item of a frame that isn't changed is an image
   in_changed : (f f' : Frame) (h : SameFrame p p' sides f f') → own_of h.item ≡ false → (v : ℕ) × ((sides f.method).slot ≡ Some v)
   in_changed f f' h aside = by (sides f.method).slot refl
@@ -102,30 +148,47 @@ module _ (p p' : Program) (sides : Entry → Side) where
       pub shared : SameShared p p' sides s a.shared
       pub thread : SameThread p p' sides x a.thread
       pub falls : thread_rank a.thread < thread_rank x'
+      pub passes : Passes (due_in p' sides x') (early_in p' sides x') a.hits (due_in p' sides a.thread) (early_in p' sides a.thread)
 
     -- ---- inside one frame
 
-    alone_turned : (f f' : Frame) (fs fs' : List Frame) (h : SameFrame p p' sides f f') → SameWaits p p' sides fs fs' → own_of h.item ≡ false
+    alone_after : (x : Item) (class : ℕ) (g f' : Frame) (fs' : List Frame)
+        → after_result p' (aside_result x class s' g) s' f' fs' ≡ record { thread = running g fs'; shared = s'; hits = aside_hits x class }
+    alone_after init_call class g f' fs' = refl
+    alone_after init_store class g f' fs' = refl
+    alone_after (image insn at early) class g f' fs' = refl
+    alone_after (probe_array id at late) class g f' fs' = refl
+    alone_after (probe_id id at late) class g f' fs' = refl
+    alone_after (probe_one id at late) class g f' fs' = refl
+    alone_after (probe_store id at late) class g f' fs' = refl
+    alone_after (hop to at due) class g f' fs' = refl
+
+    alone_turned : (f f' : Frame) (fs fs' : List Frame) (h : SameFrame p p' sides f f') → SameWaits p p' sides fs fs' → own_of h.item ≡ false → (h.item ≡ init_call → ⊥)
         → (r : Result) → Alone p p' sides f f' h.item s' r → AsideTurned (running f fs) (running f' fs') (after_result p' r s' f' fs')
-    alone_turned f f' fs fs' h w aside r a =
+    alone_turned f f' fs fs' h w aside other r a =
         let t = sides f.method in
         let to : slice_get t.items (after_place f'.place h.item) ≡ Some a.same.item = ap (slice_get t.items) (sym a.to) ∙ a.same.here in
         let lower = h.one.side.ranked.falls f'.place h.item a.same.item h.here aside to in
         let before = rank_top f f' fs' h in
         let behind = rank_top f a.frame fs' a.same in
-        ⊎_elim
-        (λ e. subst (λ x. AsideTurned (running f fs) (running f' fs') (after_result p' x s' f' fs')) (sym e)
-        (record { shared = ss; thread = inl (a.same, w); falls = omega (arith, lower, before, behind) }))
-        (λ e. subst (λ x. AsideTurned (running f fs) (running f' fs') (after_result p' x s' f' fs')) (sym e.2)
-        (record { shared = ss; thread = inl (a.same, w); falls = omega (arith, lower, before, behind) }))
-        a.is
+        subst (AsideTurned (running f fs) (running f' fs')) (sym (ap (λ x. after_result p' x s' f' fs') a.is ∙ alone_after h.item f.method.class a.frame f' fs'))
+        (record {
+          shared = ss;
+          thread = inl (a.same, w);
+          falls = omega (arith, lower, before, behind);
+          passes = subst₂ (λ d e. Passes d e (aside_hits h.item f.method.class) (due_in p' sides (running a.frame fs')) (early_in p' sides (running a.frame fs')))
+              (sym (hit_top due_of f f' h)) (sym (hit_top early_of f f' h))
+              (subst₂ (λ d e. Passes (option_map (hit_of f.method.class) (due_of h.item)) (option_map (hit_of f.method.class) (early_of h.item))
+              (aside_hits h.item f.method.class) d e) (sym (hit_top due_of f a.frame a.same)) (sym (hit_top early_of f a.frame a.same))
+              (item_passes t f.method.class f'.place h.item a.same.item (h.one.side.ok.ok f'.place h.item h.here) aside other to));
+        })
 
     plain_turned : (f f' : Frame) (fs fs' : List Frame) (h : SameFrame p p' sides f f') → SameWaits p p' sides fs fs' → own_of h.item ≡ false
         → (h.item ≡ init_call → ⊥)
         → AsideTurned (running f fs) (running f' fs') (after_result p' (result_of p' s' f') s' f' fs')
     plain_turned f f' fs fs' h w aside other =
         let slot = in_changed f f' h aside in
-        alone_turned f f' fs fs' h w aside (result_of p' s' f')
+        alone_turned f f' fs fs' h w aside other (result_of p' s' f')
         (aside_turn p p' sides f f' h.one s' h.item h.here aside other (h.one.side.ok.ok f'.place h.item h.here) h.at h.stack h.locals slot.0 slot.1)
 
     -- ---- the call of `$jacocoInit`
@@ -234,6 +297,8 @@ module _ (p p' : Program) (sides : Entry → Side) where
             stack = refl;
           });
           falls = omega (arith, before, at_call, behind);
+          passes = nothing refl (ap (λ b. frame_hit p' sides due_of b g) named ∙ sym (hit_top due_of f f' h ∙ ap (λ x. option_map (hit_of f.method.class) (due_of x)) call))
+              (ap (λ b. frame_hit p' sides early_of b g) named ∙ sym (hit_top early_of f f' h ∙ ap (λ x. option_map (hit_of f.method.class) (early_of x)) call));
         }))
 
     -- ---- inside of `$jacocoInit`
@@ -258,6 +323,9 @@ module _ (p p' : Program) (sides : Entry → Side) where
           ∙ ap (λ l. inside_rank g.place l) i.waiting
           ∙ ap (λ x. 12 + early_size (sides x).body.code (sides x).ids 0 - g.place) i.base.one.method
           ∙ ap (λ x. 12 + early_size under.body.code under.ids 0 - x) e
+
+      pub inside_none : (id_by : Item → Option ℕ) (g : Frame) → g.method ≡ f'.method → frame_hit p' sides id_by (is_init_method p' g.method) g ≡ None
+      inside_none id_by g m = ap (λ b. frame_hit p' sides id_by b g) (ap (is_init_method p') m ∙ inside_named)
 
       init_same : (x y : ProbeInit) → Some x ≡ Some y → x ≡ y
       init_same x y e = cc
@@ -299,6 +367,7 @@ module _ (p p' : Program) (sides : Entry → Side) where
               stack = k.stack;
             });
             falls = omega (arith, before, behind, small, more);
+            passes = nothing refl (inside_none due_of k.frame k.method ∙ sym (inside_none due_of f' refl)) (inside_none early_of k.frame k.method ∙ sym (inside_none early_of f' refl));
           })
 
       abbrev array_same : probes f.method.class i.init.count ≡ array_of under f.method.class
@@ -325,7 +394,13 @@ module _ (p p' : Program) (sides : Entry → Side) where
           let behind = rank_top f back i.rest below_goes in
           let ten : step_place i.step ≡ 10 = ap step_place last in
           subst₂ (λ x l. AsideTurned (running f fs) (running f' fs') (after_result p' x s' f' l)) (sym e) (sym i.waiting)
-          (record { shared = ss; thread = inl (below_goes, i.waits); falls = omega (arith, before, behind, ten) })
+          (record {
+            shared = ss;
+            thread = inl (below_goes, i.waits);
+            falls = omega (arith, before, behind, ten);
+            passes = nothing refl (hit_top due_of f back below_goes ∙ sym (inside_none due_of f' refl))
+                (hit_top early_of f back below_goes ∙ sym (inside_none early_of f' refl));
+          })
 
       pub inside_turned : AsideTurned (running f fs) (running f' fs') (after_result p' (result_of p' s' f') s' f' fs')
       inside_turned = ⊎_elim (λ k. goes_turned (result_of p' s' f') k) (λ k. leaves_turned (result_of p' s' f') k.0 k.1) turned

@@ -4,4 +4,5 @@ pub mod Spread
 pub mod Same
 pub mod Sides
 pub mod Mid
+pub mod Probes
 pub mod Laws

@@ -7,8 +7,9 @@ use Rattle.jc_programs.specs.declared.program.Linked.{Linked}
 use Rattle.jc_programs.specs.declared.program.ProbeInit.{ProbeInit}
 use Rattle.jc_programs.specs.declared.run_end.Entry.{Entry}
 use Rattle.jc_plan.specs.declared.branch.Branch.{Branch}
+use Rattle.jc_plan.specs.Probed.{first_id, probe_of}
 use Rattle.jc_emit.specs.Items.{Item, at_of, own_of, extra_of}
-use Rattle.jc_emit.specs.Local.{AllOk, OkRow, Stands, id_in}
+use Rattle.jc_emit.specs.Local.{AllOk, OkRow, Stands, id_in, no_ids}
 use Rattle.jc_emit.specs.Marks.{Marks}
 use Rattle.jc_emit.specs.Ranks.{IsRanked}
 use Rattle.jc_emit.specs.Seen.{OkRows, IsPlain, AreInsnsOf, with_more}
@@ -76,6 +77,9 @@ pub record IsSide (p p' : Program) (method : Entry) (t : Side) : Type 0 where
   pub max_locals : t.twin.max_locals ≡ with_more t.slot 1 t.body.max_locals
   pub changed : (v : ℕ) → t.slot ≡ Some v → IsChanged p p' t v
   pub unchanged : t.slot ≡ None → IsUnchanged p p' t
+  -- the ids of a changed class are those of its probes, and an unchanged one has none
+  pub ids_are : (v : ℕ) → t.slot ≡ Some v → t.ids ≡ probe_of t.body (first_id t.class.bodies method.method)
+  pub no_ids_are : t.slot ≡ None → t.ids ≡ no_ids
 
 -- the methods of a program beside those of its twin
 pub record AreSides (p p' : Program) (sides : Entry → Side) : Type 0 where
