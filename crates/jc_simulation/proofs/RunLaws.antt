@@ -26,12 +26,12 @@ set_back [] k x e = refl
 set_back (z ∷ ts) zero x e = let same : z ≡ x = cc in ap (λ y. y ∷ ts) (sym same)
 set_back (z ∷ ts) (suc k) x e = ap (λ l. z ∷ l) (set_back ts k x e)
 
-get_set : (ts : List Thread) (k : ℕ) (x y : Thread) → slice_get ts k ≡ Some x → slice_get (slice_set ts k y) k ≡ Some y
+pub get_set : (ts : List Thread) (k : ℕ) (x y : Thread) → slice_get ts k ≡ Some x → slice_get (slice_set ts k y) k ≡ Some y
 get_set [] k x y e = absurd (none-some x e)
 get_set (z ∷ ts) zero x y e = refl
 get_set (z ∷ ts) (suc k) x y e = get_set ts k x y e
 
-get_other : (ts : List Thread) (k t : ℕ) (y : Thread) → (k ≡ t → ⊥) → slice_get (slice_set ts k y) t ≡ slice_get ts t
+pub get_other : (ts : List Thread) (k t : ℕ) (y : Thread) → (k ≡ t → ⊥) → slice_get (slice_set ts k y) t ≡ slice_get ts t
 get_other [] k t y apart = refl
 get_other (z ∷ ts) zero zero y apart = absurd (apart refl)
 get_other (z ∷ ts) zero (suc t) y apart = refl
@@ -53,12 +53,12 @@ pub idle : (r : Program) (w : World) (t : ℕ) → runs w t ≡ false → step r
 unfolding step
 idle r w t h = idle_at r w t (slice_get w.threads t) refl h
 
-step_at : (r : Program) (w : World) (t : ℕ) (x : Thread) → slice_get w.threads t ≡ Some x
+pub step_at : (r : Program) (w : World) (t : ℕ) (x : Thread) → slice_get w.threads t ≡ Some x
     → slice_get (step r w t).threads t ≡ Some (turn_of r w.shared x).thread
 unfolding step
 step_at r w t x e = ap (λ o. slice_get (step_of r w t o).threads t) e ∙ get_set w.threads t x (turn_of r w.shared x).thread e
 
-step_other : (r : Program) (w : World) (k t : ℕ) → (k ≡ t → ⊥) → slice_get (step r w k).threads t ≡ slice_get w.threads t
+pub step_other : (r : Program) (w : World) (k t : ℕ) → (k ≡ t → ⊥) → slice_get (step r w k).threads t ≡ slice_get w.threads t
 unfolding step
 step_other r w k t apart = by (slice_get w.threads k)
   where
