@@ -6,3 +6,8 @@ pub mod GoodLaws
 pub mod EdgeLaws
 pub mod CameLaws
 pub mod StayLaws
+pub mod LandLaws
+pub mod MarkLaws
+pub mod OwnMoveLaws
+pub mod RunMarkLaws
+pub mod BeginLaws

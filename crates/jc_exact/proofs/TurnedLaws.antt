@@ -65,7 +65,7 @@ sequence_listed b i insn here e = chosen_listed b i insn one_way (sequence i) he
 
 -- ---- where instructions lead
 
-next_onward : (insn : Insn) (i : ℕ) (st : List Value) → flow_of insn ≡ flows.GoesOn → onward i insn (outcome_of insn st) ≡ Some (i + 1)
+pub next_onward : (insn : Insn) (i : ℕ) (st : List Value) → flow_of insn ≡ flows.GoesOn → onward i insn (outcome_of insn st) ≡ Some (i + 1)
 next_onward (insns.Simple op) i st e = ap (λ w. onward_by w i (insns.Simple op) one_way) e
 next_onward (insns.Push op value) i st e = refl
 next_onward (insns.Local op slot) i st e = refl
@@ -86,13 +86,13 @@ next_onward (insns.Jump op to) i st e = absurd (by (nat_eq op opcode.goto) e)
 next_onward (insns.Table low default arms) i st e = cc
 next_onward (insns.Lookup default arms) i st e = cc
 
-test_onward : (op to i : ℕ) (st : List Value) (t : Tested) → nat_eq op opcode.goto ≡ false → test_of op st ≡ Some t
+pub test_onward : (op to i : ℕ) (st : List Value) (t : Tested) → nat_eq op opcode.goto ≡ false → test_of op st ≡ Some t
     → onward i (insns.Jump op to) (outcome_of (insns.Jump op to) st) ≡ Some (if t.jumps then to else i + 1)
 test_onward op to i st t e h =
     ap (λ b. onward_by (if b then flows.Jumps else flows.Branches) i (insns.Jump op to) (if b then one_way else outcome_of_test (test_of op st))) e
     ∙ ap (λ o. onward_by flows.Branches i (insns.Jump op to) (outcome_of_test o)) h
 
-goto_onward : (op to i : ℕ) (st : List Value) → nat_eq op opcode.goto ≡ true → onward i (insns.Jump op to) (outcome_of (insns.Jump op to) st) ≡ Some to
+pub goto_onward : (op to i : ℕ) (st : List Value) → nat_eq op opcode.goto ≡ true → onward i (insns.Jump op to) (outcome_of (insns.Jump op to) st) ≡ Some to
 goto_onward op to i st e =
     ap (λ b. onward_by (if b then flows.Jumps else flows.Branches) i (insns.Jump op to) (if b then one_way else outcome_of_test (test_of op st))) e
 
