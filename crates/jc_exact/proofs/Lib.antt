@@ -11,3 +11,5 @@ pub mod MarkLaws
 pub mod OwnMoveLaws
 pub mod RunMarkLaws
 pub mod BeginLaws
+pub mod CaseLaws
+pub mod ExactLaws

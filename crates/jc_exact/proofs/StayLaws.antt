@@ -52,6 +52,22 @@ module _ (p : Program) where
   taken_with (t ∷ turns) w e n (inl h) = Contains-append_left (turn_edges p w t) (taken_from p (step p w t) turns) e h.0
   taken_with (t ∷ turns) w e n (inr h) = Contains-append_right (turn_edges p w t) (taken_from p (step p w t) turns) e (taken_with turns (step p w t) e n h)
 
+  -- an edge of this frame's instruction is taken, with fewer turns left
+  pub record IsLeft (w : World) (turns : List ℕ) (f : Frame) : Type 0 where
+    pub branch : Branch
+    pub at : branch.at ≡ f.place
+    pub later : ℕ
+    pub fewer : later < length turns
+    pub taken : TakenWith w turns (edge_of f.method branch) later
+
+  -- behind the edge another one is taken, where it leads
+  pub record IsFollowed (w : World) (turns : List ℕ) (e : ProgramEdge) (left : ℕ) : Type 0 where
+    pub branch : Branch
+    pub later : ℕ
+    pub fewer : later < left
+    pub leads : LeadsTo e.branch branch.at
+    pub taken : TakenWith w turns (record { class = e.class; body = e.body; branch = branch }) later
+
   -- a thread that is stuck stays so
   stuck_stays : (turns : List ℕ) (w : World) (t : ℕ) (m : Entry) (q : ℕ) → slice_get w.threads t ≡ Some (stuck m q)
       → slice_get (run_from p w turns).threads t ≡ Some (stuck m q)
@@ -192,18 +208,10 @@ module _ (p : Program) (no_init : HasNoInit p) where
 
   -- ---- runs
 
-  -- an edge of this frame's instruction is taken, with fewer turns left
-  pub record IsLeft (w : World) (turns : List ℕ) (f : Frame) : Type 0 where
-    pub branch : Branch
-    pub at : branch.at ≡ f.place
-    pub later : ℕ
-    pub fewer : later < length turns
-    pub taken : TakenWith p w turns (edge_of f.method branch) later
-
-  then_left : (w : World) (t : ℕ) (turns : List ℕ) (f : Frame) → IsLeft (step p w t) turns f → IsLeft w (t ∷ turns) f
+  then_left : (w : World) (t : ℕ) (turns : List ℕ) (f : Frame) → IsLeft p (step p w t) turns f → IsLeft p w (t ∷ turns) f
   then_left w t turns f l = let lt = l.fewer in record { branch = l.branch; at = l.at; later = l.later; fewer = omega (arith, lt); taken = inr l.taken }
 
-  same_left : (w : World) (turns : List ℕ) (f g : Frame) → g.method ≡ f.method → g.place ≡ f.place → IsLeft w turns g → IsLeft w turns f
+  same_left : (w : World) (turns : List ℕ) (f g : Frame) → g.method ≡ f.method → g.place ≡ f.place → IsLeft p w turns g → IsLeft p w turns f
   same_left w turns f g m q l = record {
     branch = l.branch;
     at = l.at ∙ q;
@@ -220,7 +228,7 @@ module _ (p : Program) (no_init : HasNoInit p) where
   shared_is w t x e = ap (λ o. (step_of p w t o).shared) e
 
   pub each_leaves : (turns : List ℕ) (w : World) → IsGoodWorld p w → HaveReturned (run_from p w turns).threads → (run_from p w turns).shared.raised ≡ false
-      → (t : ℕ) (x : Thread) → slice_get w.threads t ≡ Some x → (f : Frame) → Contains (frames_in x) f → IsLeft w turns f
+      → (t : ℕ) (x : Thread) → slice_get w.threads t ≡ Some x → (f : Frame) → Contains (frames_in x) f → IsLeft p w turns f
   each_leaves [] w g r calm t x e f c = absurd (by x (returned_at p w.threads t x r e) c)
     where
       by : (x : Thread) → HasReturned x → Contains (frames_in x) f → ⊥
@@ -231,8 +239,8 @@ module _ (p : Program) (no_init : HasNoInit p) where
   each_leaves (k ∷ turns) w g r calm t x e f c =
       by (λ y q h d. each_leaves turns (step p w k) (step_good p no_init w k g) r calm t y q h d) (nat_eq k t) refl
     where
-      own : ((y : Thread) → slice_get (step p w k).threads t ≡ Some y → (h : Frame) → Contains (frames_in y) h → IsLeft (step p w k) turns h)
-          → k ≡ t → Stays f (thread_edges p w.shared (Some x)) (turn_of p w.shared x) → IsLeft w (k ∷ turns) f
+      own : ((y : Thread) → slice_get (step p w k).threads t ≡ Some y → (h : Frame) → Contains (frames_in y) h → IsLeft p (step p w k) turns h)
+          → k ≡ t → Stays f (thread_edges p w.shared (Some x)) (turn_of p w.shared x) → IsLeft p w (k ∷ turns) f
       own again same (takes y at here) = record {
         branch = y;
         at = at;
@@ -252,31 +260,24 @@ module _ (p : Program) (no_init : HasNoInit p) where
           (stuck_stays p turns (step p w k) t m q
           (ap (λ j. slice_get (step p w j).threads t) same ∙ step_at p w t x e ∙ ap Some is)))
 
-      by : ((y : Thread) → slice_get (step p w k).threads t ≡ Some y → (h : Frame) → Contains (frames_in y) h → IsLeft (step p w k) turns h)
-          → (b : Bool) → nat_eq k t ≡ b → IsLeft w (k ∷ turns) f
+      by : ((y : Thread) → slice_get (step p w k).threads t ≡ Some y → (h : Frame) → Contains (frames_in y) h → IsLeft p (step p w k) turns h)
+          → (b : Bool) → nat_eq k t ≡ b → IsLeft p w (k ∷ turns) f
       by again true h = own again (eqb-true k t h) (thread_stays w.shared x g.statics (get_each (IsGood p) w.threads t x g.threads e) f c)
       by again false h = then_left w k turns f (again x (step_other p w k t (eqb-false k t h) ∙ e) f c)
 
   -- ---- behind each edge that doesn't leave its method another one is taken
 
-  pub record IsFollowed (w : World) (turns : List ℕ) (e : ProgramEdge) (left : ℕ) : Type 0 where
-    pub branch : Branch
-    pub later : ℕ
-    pub fewer : later < left
-    pub leads : LeadsTo e.branch branch.at
-    pub taken : TakenWith p w turns (record { class = e.class; body = e.body; branch = branch }) later
-
-  then_followed : (w : World) (t : ℕ) (turns : List ℕ) (e : ProgramEdge) (left : ℕ) → IsFollowed (step p w t) turns e left → IsFollowed w (t ∷ turns) e left
+  then_followed : (w : World) (t : ℕ) (turns : List ℕ) (e : ProgramEdge) (left : ℕ) → IsFollowed p (step p w t) turns e left → IsFollowed p w (t ∷ turns) e left
   then_followed w t turns e left h = record { branch = h.branch; later = h.later; fewer = h.fewer; leads = h.leads; taken = inr h.taken }
 
   pub followed : (turns : List ℕ) (w : World) → IsGoodWorld p w → HaveReturned (run_from p w turns).threads → (run_from p w turns).shared.raised ≡ false
-      → (e : ProgramEdge) (left : ℕ) → (LeadsOut e.branch → ⊥) → TakenWith p w turns e left → IsFollowed w turns e left
+      → (e : ProgramEdge) (left : ℕ) → (LeadsOut e.branch → ⊥) → TakenWith p w turns e left → IsFollowed p w turns e left
   followed [] w g r calm e left on h = absurd h
   followed (k ∷ turns) w g r calm e left on (inr h) =
       then_followed w k turns e left (followed turns (step p w k) (step_good p no_init w k g) r calm e left on h)
   followed (k ∷ turns) w g r calm e left on (inl h) = by (slice_get w.threads k) refl h.0
     where
-      behind : (x : Thread) → slice_get w.threads k ≡ Some x → Follows e (turn_of p w.shared x) → IsFollowed w (k ∷ turns) e left
+      behind : (x : Thread) → slice_get w.threads k ≡ Some x → Follows e (turn_of p w.shared x) → IsFollowed p w (k ∷ turns) e left
       behind x l (comes f y is j among m leads) =
           let n = each_leaves turns (step p w k) (step_good p no_init w k g) r calm k (turn_of p w.shared x).thread (step_at p w k x l) j among in
           let same : edge_of j.method n.branch ≡ record { class = e.class; body = e.body; branch = n.branch } =
@@ -290,6 +291,6 @@ module _ (p : Program) (no_init : HasNoInit p) where
           }
       behind x l (ends f y is out) = absurd (on (ap (λ (z : ProgramEdge). z.branch.way) is ∙ out))
 
-      by : (o : Option Thread) → slice_get w.threads k ≡ o → Contains (thread_edges p w.shared o) e → IsFollowed w (k ∷ turns) e left
+      by : (o : Option Thread) → slice_get w.threads k ≡ o → Contains (thread_edges p w.shared o) e → IsFollowed p w (k ∷ turns) e left
       by None l c = absurd (none_in e c)
       by (Some x) l c = behind x l (thread_follows w.shared x g.statics (get_each (IsGood p) w.threads k x g.threads l) e c)
