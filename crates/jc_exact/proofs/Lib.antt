@@ -13,3 +13,4 @@ pub mod RunMarkLaws
 pub mod BeginLaws
 pub mod CaseLaws
 pub mod ExactLaws
+pub mod ReportedLaws
