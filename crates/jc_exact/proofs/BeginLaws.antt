@@ -17,17 +17,16 @@ use Rattle.jc_programs.specs.Members.{class_at}
 use Rattle.jc_plan.specs.ClassEdges.{ProgramEdge}
 use Rattle.jc_cover.specs.Followed.{began}
 use Rattle.jc_emit.specs.Local.{early_of}
-use Rattle.jc_world.specs.Values.{Value}
-use Rattle.jc_world.specs.World.{Frame, Thread, running, returned, threw, stuck, Hit, World}
+use Rattle.jc_world.specs.World.{Frame, Thread, running, returned, threw, stuck}
 use Rattle.jc_world.specs.Methods.{is_enterable}
-use Rattle.jc_world.specs.Begin.{number_value, first_of, first_value, first_statics, argument_values, first_frame, thread_in, thread_for, first_thread, first_threads, begin, entries_of, begin_case}
-use Rattle.jc_simulation.specs.Sides.{Side, IsSide}
+use Rattle.jc_world.specs.Begin.{number_value, first_of, first_value, argument_values, first_frame, thread_in, thread_for, first_threads, begin, entries_of, begin_case}
+use Rattle.jc_simulation.specs.Sides.{Side}
 use Rattle.jc_simulation.specs.Mid.{SameThread, SameThreads, Mid}
-use Rattle.jc_simulation.specs.Probes.{hit_of, item_hit, place_hit, due_in, early_in}
+use Rattle.jc_simulation.specs.Probes.{hit_of, item_hit, place_hit}
 use Rattle.jc_exact.proofs.ValueLaws.{All, InStatics, locals_all}
-use Rattle.jc_exact.proofs.GoodLaws.{IsOther, HasNoInit, others, IsGood, IsGoodWorld}
+use Rattle.jc_exact.proofs.GoodLaws.{IsOther, HasNoInit, IsGood, IsGoodWorld}
 use Rattle.jc_exact.proofs.CameLaws.{ThreadCame, WorldCame}
-use Rattle.jc_exact.proofs.MarkLaws.{IsIn, AreMarked}
+use Rattle.jc_exact.proofs.MarkLaws.{AreMarked}
 use Rattle.jc_exact.proofs.OwnMoveLaws.{IsCalm, calm_at, start_calm}
 
 -- ---- threads

@@ -1,13 +1,12 @@
 -- Something came to each instruction that has a turn: it is the first one, a handler, or an edge that was taken leads there.
-use Rattle.std.proofs.Common.{◌≡◌, ◌⊎◌, inl, inr, ⊎_elim, ℕ, ◌+◌, Bool, true, false, List, [], ◌∷◌, ◌++◌, Option, Some, None, refl, sym, ap, ◌∙◌, subst, cond, if◌then◌else◌}
-use Rattle.std.specs.Prelude.{⊤, slice_get, slice_set, Contains, find, option_and_then}
+use Rattle.std.proofs.Common.{◌≡◌, ◌⊎◌, inl, inr, ⊎_elim, ℕ, ◌+◌, Bool, true, false, List, [], ◌∷◌, Option, Some, None, refl, sym, ap, ◌∙◌, subst, cond, if◌then◌else◌}
+use Rattle.std.specs.Prelude.{⊤, slice_get, Contains, find, option_and_then}
 use Rattle.std.specs.List.{AllByRecursion, flat_map}
 use Rattle.std.proofs.lemmas.List.Elements.{Contains-append_left, Contains-append_right, Contains-append_cases}
 use Rattle.std.proofs.lemmas.Option.{none-some, same_Some}
-use Rattle.jc_bytes.proofs.BooleanLaws.{first_in, later_in, which_in, none_in, stands_in}
+use Rattle.jc_bytes.proofs.BooleanLaws.{first_in, later_in, which_in, none_in}
 use Rattle.jc_bytes.proofs.FirstSeenLaws.{contains_one}
 use Rattle.jc_methods.specs.Flow.{flow_of}
-use Rattle.jc_methods.specs.declared.insn.Insn.{Insn}
 use Rattle.jc_methods.specs.declared.insn.Flow.{Flow}
 use Rattle.jc_methods.specs.declared.insn.Flow.TheVariants as flows
 use Rattle.jc_methods.specs.declared.body.Body.{Body}
@@ -25,15 +24,15 @@ use Rattle.jc_cover.specs.Followed.{CameTo, began, caught as came_caught, led}
 use Rattle.jc_world.specs.Values.{Value}
 use Rattle.jc_world.specs.World.{Frame, Thread, running, returned, threw, stuck, Shared, World}
 use Rattle.jc_world.specs.Results.{Result, goes, hits, calls, leaves, raises, throws, gets_stuck}
-use Rattle.jc_world.specs.Step.{LocatedInsn, located, result_of, handler_in, handler_of, caught, unwound, Raised, placed, overflows, new_frame, given_back, left, After, after, thrown_in, after_result, turn_of, with_after, step_of, step}
+use Rattle.jc_world.specs.Step.{LocatedInsn, located, result_of, handler_in, handler_of, caught, unwound, overflows, new_frame, given_back, left, After, after, after_result, turn_of, step_of, step}
 use Rattle.jc_world.specs.Run.{run_from}
 use Rattle.jc_world.specs.Taken.{edge_of, edges_of, call_edges, thread_edges, turn_edges, taken_from, one_edge, edge_stood, edges_stood, reached_from}
 use Rattle.jc_simulation.proofs.FrameLaws.{body_is}
 use Rattle.jc_exact.proofs.ValueLaws.{InStatics, set_each}
 use Rattle.jc_exact.proofs.ResultLaws.{InFrame}
-use Rattle.jc_exact.proofs.TurnedLaws.{sequence_listed, Turned, Standing, stands}
-use Rattle.jc_exact.proofs.GoodLaws.{IsOther, HasNoInit, get_each, turned_here, nowhere, IsAtCall, IsGoodWait, AreGoodWaits, IsGood, IsGoodWorld, step_good, run_good}
-use Rattle.jc_exact.proofs.EdgeLaws.{IsEdgeAt, chosen_at, call_at, exit_at, Went, went, came_back, edges_among, frames_in, no_edges}
+use Rattle.jc_exact.proofs.TurnedLaws.{Turned, stands}
+use Rattle.jc_exact.proofs.GoodLaws.{IsOther, HasNoInit, get_each, turned_here, nowhere, IsAtCall, AreGoodWaits, IsGood, IsGoodWorld, step_good}
+use Rattle.jc_exact.proofs.EdgeLaws.{IsEdgeAt, chosen_at, call_at, went, came_back, edges_among, no_edges}
 
 -- ---- lists
 
@@ -133,8 +132,7 @@ module _ (p : Program) (no_init : HasNoInit p) (Took : ProgramEdge → Type 0) w
     result_came : (i : LocatedInsn) → located p f.method f.place ≡ Some i → (r : Result) → result_of p s f ≡ r → Turned IsOther i.insn s f r
         → ThreadCame (after_result p r s f fs).thread
     result_came i e (goes s' g) h t =
-        let w = went p no_init s f fs i e s' g h t in
-        (
+        let w = went p no_init s f fs i e s' g h t in (
           subst (λ m. CameAt m g.place) (sym w.method)
               (led_to f w.branch g.place (chosen_at p f i _ w.branch e w.chosen_is) w.leads
               (took (edge_of f.method w.branch) (subst (λ l. Contains l (edge_of f.method w.branch)) (sym w.edges) (first_in (edge_of f.method w.branch) [])))),
@@ -142,8 +140,7 @@ module _ (p : Program) (no_init : HasNoInit p) (Took : ProgramEdge → Type 0) w
         )
     result_came i e (hits class id g) h t = absurd t.1
     result_came i e (calls callee locals g) h t =
-        if_came (overflows p callee (f ∷ fs)) _ (after (running (new_frame callee locals) (g ∷ fs)) s) (unwound_came _ _ (f ∷ fs) (came, others))
-        (
+        if_came (overflows p callee (f ∷ fs)) _ (after (running (new_frame callee locals) (g ∷ fs)) s) (unwound_came _ _ (f ∷ fs) (came, others)) (
           λ c b j k. began refl,
           (subst (λ m. CameAt m g.place) (sym t.method) (subst (CameAt f.method) (sym t.place) came), others),
         )

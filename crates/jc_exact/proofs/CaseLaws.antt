@@ -1,7 +1,7 @@
 -- The hits of one case, and the edges of the original's run under its kept turns.
-use Rattle.std.proofs.Common.{◌≡◌, ◌⊎◌, inl, inr, ⊎_elim, ℕ, zero, suc, Bool, true, false, List, [], ◌∷◌, Option, Some, None, option_map, refl, sym, ap, ◌∙◌, subst}
-use Rattle.std.specs.Prelude.{⊤, slice_get, Contains}
-use Rattle.std.specs.List.{AllByRecursion, flat_map}
+use Rattle.std.proofs.Common.{◌≡◌, inl, inr, ⊎_elim, ℕ, false, List, [], ◌∷◌, Option, Some, None, option_map, refl, sym, ap, ◌∙◌, subst}
+use Rattle.std.specs.Prelude.{slice_get, Contains}
+use Rattle.std.specs.List.{flat_map}
 use Rattle.std.proofs.lemmas.Bool.{true≢false}
 use Rattle.std.proofs.lemmas.Option.{none-some, same_Some, slice_get-get_or}
 use Rattle.jc_bytes.proofs.BooleanLaws.{first_in, stands_in}
@@ -15,34 +15,32 @@ use Rattle.jc_programs.specs.declared.program.Program.{Program}
 use Rattle.jc_programs.specs.declared.program.Linked.{Linked}
 use Rattle.jc_programs.specs.declared.run_plan.Case.{Case}
 use Rattle.jc_programs.specs.declared.run_end.Entry.{Entry}
-use Rattle.jc_programs.specs.Members.{class_at}
 use Rattle.jc_programs.specs.Entries.{AreEntries}
-use Rattle.jc_plan.specs.declared.branch.Branch.{Branch}
 use Rattle.jc_plan.specs.Edges.{jump, exit}
 use Rattle.jc_plan.specs.Probed.{first_id, probe_of}
-use Rattle.jc_plan.specs.Chosen.{one_way, chosen_by, chosen}
+use Rattle.jc_plan.specs.Chosen.{one_way, chosen_by}
 use Rattle.jc_plan.specs.ClassEdges.{ProgramEdge}
 use Rattle.jc_emit.specs.Items.{Item, init_call, init_store, image, probe_array, probe_id, probe_one, probe_store, hop, at_of}
-use Rattle.jc_emit.specs.Local.{Ok, early_of}
+use Rattle.jc_emit.specs.Local.{early_of}
 use Rattle.jc_emit.specs.Marks.{Marks}
 use Rattle.jc_emit.specs.Sizes.{insn_at, early_by}
-use Rattle.jc_world.specs.World.{Frame, Thread, running, returned, threw, stuck, Hit, World}
+use Rattle.jc_world.specs.World.{Thread, running, returned, threw, stuck, Hit, World}
 use Rattle.jc_world.specs.Methods.{is_init_name, declares_init}
 use Rattle.jc_world.specs.Begin.{begin_case}
-use Rattle.jc_world.specs.Run.{run_from, run}
-use Rattle.jc_world.specs.Step.{LocatedInsn, located}
+use Rattle.jc_world.specs.Run.{run}
+use Rattle.jc_world.specs.Step.{located}
 use Rattle.jc_world.specs.Taken.{edge_of, edges_of, one_edge, edge_stood, edges_stood, taken_from, reached_from}
 use Rattle.jc_simulation.specs.Laws.{kept_of}
 use Rattle.jc_simulation.specs.Sides.{Side, IsSide, AreSides, AreMarksOf}
 use Rattle.jc_simulation.specs.Mid.{SameThread, SameThreads, Mid}
 use Rattle.jc_simulation.specs.Probes.{hit_of, item_hit, place_hit, due_in, early_in}
 use Rattle.jc_simulation.proofs.BeginLaws.{case_together}
-use Rattle.jc_simulation.proofs.FrameLaws.{location, located_is}
+use Rattle.jc_simulation.proofs.FrameLaws.{located_is}
 use Rattle.jc_simulation.proofs.RunLaws.{same_run}
 use Rattle.jc_simulation.proofs.TurnLaws.{hit_top, inside_none}
 use Rattle.jc_simulation.proofs.WorldLaws.{SameOption, same_get}
 use Rattle.jc_exact.specs.Exact.{HasReturned, HaveReturned, IsChangedAt, EndsWell}
-use Rattle.jc_exact.proofs.GoodLaws.{HasNoInit, get_each, IsGoodWorld, run_good}
+use Rattle.jc_exact.proofs.GoodLaws.{HasNoInit, get_each}
 use Rattle.jc_exact.proofs.CameLaws.{flat_in, EdgeCame, run_came, taken_came, stood_came, reached_parts, taken_reached, stood_reached}
 use Rattle.jc_exact.proofs.MarkLaws.{IsIn, probe_in, IsProbeOf, AreMarked}
 use Rattle.jc_exact.proofs.RunMarkLaws.{run_marked}
@@ -84,17 +82,23 @@ module _ (p p' : Program) (sides : Entry → Side) (marks : Entry → Marks) (ar
   early_edge : (m : Entry) (i id : ℕ) (insn : Insn) (flow : Flow) → flow_of insn ≡ flow → early_by (sides m).ids i insn flow ≡ Some id
       → (e : ProgramEdge) × Contains (one_edge m i insn flow) e × (probe_in p' sides e ≡ Some (hit_of m.class id))
   early_edge m i id insn flows.Jumps e h =
-      let x = jump i (jump_target insn) in
-      (edge_of m x, subst (λ o. Contains (edges_of m o) (edge_of m x)) (sym (ap (λ w. chosen_by w i insn one_way) e)) (first_in (edge_of m x) []),
-      ap (option_map (hit_of m.class)) h)
+      let x = jump i (jump_target insn) in (
+        edge_of m x,
+        subst (λ o. Contains (edges_of m o) (edge_of m x)) (sym (ap (λ w. chosen_by w i insn one_way) e)) (first_in (edge_of m x) []),
+        ap (option_map (hit_of m.class)) h,
+      )
   early_edge m i id insn flows.Returns e h =
-      let x = exit i in
-      (edge_of m x, subst (λ o. Contains (edges_of m o) (edge_of m x)) (sym (ap (λ w. chosen_by w i insn one_way) e)) (first_in (edge_of m x) []),
-      ap (option_map (hit_of m.class)) h)
+      let x = exit i in (
+        edge_of m x,
+        subst (λ o. Contains (edges_of m o) (edge_of m x)) (sym (ap (λ w. chosen_by w i insn one_way) e)) (first_in (edge_of m x) []),
+        ap (option_map (hit_of m.class)) h,
+      )
   early_edge m i id insn flows.Throws e h =
-      let x = exit i in
-      (edge_of m x, subst (λ o. Contains (edges_of m o) (edge_of m x)) (sym (ap (λ w. chosen_by w i insn one_way) e)) (first_in (edge_of m x) []),
-      ap (option_map (hit_of m.class)) h)
+      let x = exit i in (
+        edge_of m x,
+        subst (λ o. Contains (edges_of m o) (edge_of m x)) (sym (ap (λ w. chosen_by w i insn one_way) e)) (first_in (edge_of m x) []),
+        ap (option_map (hit_of m.class)) h,
+      )
   early_edge m i id insn flows.GoesOn e h = absurd (none-some id h)
   early_edge m i id insn flows.Branches e h = absurd (none-some id h)
   early_edge m i id insn flows.Switches e h = absurd (none-some id h)
@@ -109,8 +113,7 @@ module _ (p p' : Program) (sides : Entry → Side) (marks : Entry → Marks) (ar
       let ok = side.ok.ok q' (image new at (Some id)) here in
       let insn = insn_at t.body.code at in
       let s = early_edge m at id insn (flow_of insn) refl (sym ok.1) in
-      let there = located_is p m at t.class t.body insn side.class_is side.body_is (slice_get-get_or t.body.code at (insns.Simple 0) ok.0) in
-      (
+      let there = located_is p m at t.class t.body insn side.class_is side.body_is (slice_get-get_or t.body.code at (insns.Simple 0) ok.0) in (
         s.0,
         subst (λ n. Contains (edge_stood m n (located p m n)) s.0) e (subst (λ o. Contains (edge_stood m at o) s.0) (sym there) s.1),
         s.2 ∙ k,

@@ -1,8 +1,7 @@
 -- The edges of one turn: where they begin, and where the thread stands behind them.
-use Rattle.std.proofs.Common.{◌≡◌, ◌⊎◌, inl, inr, ⊎_elim, ℕ, ◌+◌, Bool, true, false, List, [], ◌∷◌, Option, Some, None, refl, sym, ap, ap₂, ◌∙◌, subst, if◌then◌else◌}
-use Rattle.std.specs.Prelude.{⊤, slice_get, Contains, find, option_and_then}
-use Rattle.std.specs.List.{AllByRecursion}
-use Rattle.std.proofs.lemmas.Option.{none-some, same_Some}
+use Rattle.std.proofs.Common.{◌≡◌, ◌⊎◌, inl, inr, ⊎_elim, ℕ, Bool, true, false, List, [], ◌∷◌, Option, Some, None, refl, sym, ap, ◌∙◌, subst, if◌then◌else◌}
+use Rattle.std.specs.Prelude.{slice_get, Contains}
+use Rattle.std.proofs.lemmas.Option.{none-some}
 use Rattle.jc_bytes.proofs.BooleanLaws.{first_in, later_in, which_in, none_in}
 use Rattle.jc_bytes.proofs.FirstSeenLaws.{contains_one}
 use Rattle.jc_methods.specs.Flow.{flow_of}
@@ -11,25 +10,21 @@ use Rattle.jc_methods.specs.declared.insn.Flow.{Flow}
 use Rattle.jc_methods.specs.declared.insn.Flow.TheVariants as flows
 use Rattle.jc_methods.specs.declared.body.Body.{Body}
 use Rattle.jc_programs.specs.declared.program.Program.{Program}
-use Rattle.jc_programs.specs.declared.program.Linked.{Linked}
 use Rattle.jc_programs.specs.declared.run_end.Entry.{Entry}
-use Rattle.jc_programs.specs.declared.run_end.Thrown.{Thrown}
 use Rattle.jc_plan.specs.declared.branch.Branch.{Branch}
-use Rattle.jc_plan.specs.Edges.{place_of, sequence, exit, branches}
+use Rattle.jc_plan.specs.Edges.{sequence, exit, branches}
 use Rattle.jc_plan.specs.Leading.{LeadsTo}
 use Rattle.jc_plan.specs.Chosen.{Outcome, one_way, chosen_by, chosen, onward_by, onward}
 use Rattle.jc_plan.specs.ClassEdges.{ProgramEdge}
 use Rattle.jc_plan.proofs.ChosenLaws.{chosen_listed, chosen_leads}
 use Rattle.jc_world.specs.Values.{Value}
-use Rattle.jc_world.specs.World.{Frame, Thread, running, returned, threw, stuck, Shared, World}
+use Rattle.jc_world.specs.World.{Frame, Thread, running, Shared}
 use Rattle.jc_world.specs.Results.{Result, goes, hits, calls, leaves, raises, throws, gets_stuck}
 use Rattle.jc_world.specs.Perform.{perform}
 use Rattle.jc_world.specs.Step.{LocatedInsn, located, operation_at, result_of}
-use Rattle.jc_world.specs.Taken.{outcome_of, edge_of, edges_of, is_throw, call_edges, edges_by, edges_at, thread_edges, one_edge, edge_stood, edges_stood}
-use Rattle.jc_exact.proofs.ValueLaws.{InStatics}
-use Rattle.jc_exact.proofs.ResultLaws.{InFrame}
-use Rattle.jc_exact.proofs.TurnedLaws.{chosen_there, sequence_listed, MayThrow, Turned, Standing, stands}
-use Rattle.jc_exact.proofs.GoodLaws.{IsOther, HasNoInit, turned_here, nowhere, IsAtCall, IsGoodWait, AreGoodWaits}
+use Rattle.jc_world.specs.Taken.{outcome_of, edge_of, edges_of, is_throw, call_edges, edges_by, edges_at, thread_edges}
+use Rattle.jc_exact.proofs.TurnedLaws.{chosen_there, sequence_listed, Turned}
+use Rattle.jc_exact.proofs.GoodLaws.{IsOther, HasNoInit, IsAtCall, AreGoodWaits}
 
 -- ---- throws
 

@@ -1,5 +1,5 @@
 -- Covered edges of a plan: sound, and exact where each case ended well.
-use Rattle.std.proofs.Common.{◌≡◌, ◌⊎◌, inl, inr, ⊎_elim, ◌↔◌, ℕ, ◌<◌, Bool, true, false, List, [], ◌∷◌, Option, Some, None, option_map, refl, sym, ap, ◌∙◌, subst}
+use Rattle.std.proofs.Common.{◌≡◌, ◌↔◌, ℕ, Bool, false, List, [], Option, Some, None, option_map, sym, ap, ◌∙◌, subst}
 use Rattle.std.specs.Prelude.{slice_get, slice_index_or, Contains, IsTrue}
 use Rattle.std.proofs.lemmas.Bool.{true≢false}
 use Rattle.std.proofs.lemmas.Option.{none-some, same_Some}
@@ -10,30 +10,24 @@ use Rattle.jc_programs.specs.declared.program.Linked.{Linked}
 use Rattle.jc_programs.specs.declared.run_plan.Case.{Case}
 use Rattle.jc_programs.specs.declared.run_plan.RunPlan.{RunPlan}
 use Rattle.jc_programs.specs.declared.run_end.Entry.{Entry}
-use Rattle.jc_programs.specs.Members.{class_at}
 use Rattle.jc_plan.specs.declared.branch.Branch.{Branch}
-use Rattle.jc_plan.specs.declared.branch.Way.TheVariants.{Exits}
 use Rattle.jc_plan.specs.Edges.{branches}
-use Rattle.jc_plan.specs.Probed.{first_id, is_probed_way, is_probed, probe_of}
-use Rattle.jc_plan.specs.ClassEdges.{ClassEdge, edge_in, IsClassEdge, HasId, ProgramEdge, in_its_class, edge_of_class, IsProgramEdge}
+use Rattle.jc_plan.specs.Probed.{is_probed_way, is_probed}
+use Rattle.jc_plan.specs.ClassEdges.{ClassEdge, edge_in, IsClassEdge, ProgramEdge, in_its_class, edge_of_class, IsProgramEdge}
 use Rattle.jc_emit.specs.Marks.{Marks}
-use Rattle.jc_emit.specs.TwinProgram.{TwinProgram}
 use Rattle.jc_cover.specs.Covered.{is_hit, IsCovered, IsProgramCovered}
-use Rattle.jc_cover.specs.Followed.{CameTo, AreEnteredInClass, AreFollowedInClass, in_body, TookSometime, IsIdOf}
+use Rattle.jc_cover.specs.Followed.{AreEnteredInClass, AreFollowedInClass, TookSometime, IsIdOf}
 use Rattle.jc_cover.proofs.FollowedLaws.{class_reached, class_taken}
 use Rattle.jc_world.specs.World.{Hit}
 use Rattle.jc_world.specs.Begin.{begin_case}
-use Rattle.jc_world.specs.Taken.{taken_from, reached_from}
-use Rattle.jc_simulation.specs.Marking.{AreMarks}
 use Rattle.jc_simulation.specs.Laws.{kept_of}
 use Rattle.jc_simulation.specs.Sides.{Side, AreSides, AreMarksOf}
 use Rattle.jc_simulation.specs.Probes.{hit_of}
 use Rattle.jc_simulation.proofs.ProgramRunLaws.{have_sides}
 use Rattle.jc_exact.specs.Exact.{IsChangedAt, HaveEntries, OfSomeCase, OfEachCase, Took, Reached, HasHit, EndsWell, TellHits, IsExact, ExactEdges}
-use Rattle.jc_exact.proofs.GoodLaws.{IsGoodWorld}
 use Rattle.jc_exact.proofs.CameLaws.{EdgeCame, taken_reached}
-use Rattle.jc_exact.proofs.StayLaws.{LeadsOut, TakenWith, with_taken, taken_with, IsFollowed, followed}
-use Rattle.jc_exact.proofs.MarkLaws.{probe_in, IsProbeOf}
+use Rattle.jc_exact.proofs.StayLaws.{TakenWith, with_taken, taken_with, IsFollowed, followed}
+use Rattle.jc_exact.proofs.MarkLaws.{probe_in}
 use Rattle.jc_exact.proofs.BeginLaws.{begin_good}
 use Rattle.jc_exact.proofs.CaseLaws.{no_init, ids_are, hit_reached, hit_taken, taken_hit, both_returned, both_calm, reached_came}
 
@@ -108,8 +102,7 @@ module _ (p p' : Program) (sides : Entry → Side) (marks : Entry → Marks) (ar
         let body = is.edge.body in
         let stands : slice_get c.bodies e.body ≡ Some body = ap (λ (x : Linked). slice_get x.bodies e.body) (sym same) ∙ is.edge.stands in
         let there = ap (slice_get p.classes) parts.0 ∙ class_is in
-        let ids = ids_are p p' sides marks are told m (subst (IsChangedAt p') (sym parts.0) changed) c body there stands in
-        (
+        let ids = ids_are p p' sides marks are told m (subst (IsChangedAt p') (sym parts.0) changed) c body there stands in (
           in_its_class e,
           record { body = body; stands = stands; listed = is.edge.listed; probe = ap (λ (f : Branch → Option ℕ). f e.branch) (sym ids) ∙ parts.1 },
           subst (λ j. Fact (record { class = j; body = e.body; branch = e.branch })) parts.0 fact,

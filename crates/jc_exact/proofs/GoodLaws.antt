@@ -1,11 +1,10 @@
 -- Worlds of a program without probes: no value of theirs is a probe array, and frames that wait stand at calls.
-use Rattle.std.proofs.Common.{◌≡◌, ⊎_elim, ℕ, zero, suc, Bool, true, false, List, [], ◌∷◌, ◌++◌, length, Option, Some, None, refl, sym, ap, ◌∙◌, subst, if◌then◌else◌}
-use Rattle.std.specs.Prelude.{⊤, slice_get, slice_set, option_and_then, ◌&&◌, bytes_eq}
+use Rattle.std.proofs.Common.{◌≡◌, ℕ, zero, suc, Bool, true, false, List, [], ◌∷◌, ◌++◌, length, Option, Some, None, refl, sym, ap, ◌∙◌, subst, if◌then◌else◌}
+use Rattle.std.specs.Prelude.{⊤, slice_get, ◌&&◌, bytes_eq}
 use Rattle.std.specs.List.{AllByRecursion}
 use Rattle.std.proofs.lemmas.Option.{none-some, same_Some}
 use Rattle.jc_methods.specs.Flow.{flow_of}
 use Rattle.jc_methods.specs.ProbeMembers.{init_type}
-use Rattle.jc_methods.specs.declared.insn.Insn.{Insn}
 use Rattle.jc_methods.specs.declared.insn.Flow.TheVariants as flows
 use Rattle.jc_methods.specs.declared.body.Body.{Body}
 use Rattle.jc_methods.specs.declared.body.Handler.{Handler}
@@ -15,18 +14,18 @@ use Rattle.jc_programs.specs.declared.program.ProbeInit.{ProbeInit}
 use Rattle.jc_programs.specs.declared.run_end.Entry.{Entry}
 use Rattle.jc_programs.specs.declared.run_end.Thrown.{Thrown}
 use Rattle.jc_programs.specs.declared.run_end.Thrown.TheVariants as thrown
-use Rattle.jc_world.specs.Values.{Value, int, long, null, object, memory_error, print_stream, probes, text}
+use Rattle.jc_world.specs.Values.{Value, object, probes}
 use Rattle.jc_world.specs.Heap.{throwable, has_room}
 use Rattle.jc_world.specs.World.{Frame, Thread, running, returned, threw, stuck, Shared, World}
 use Rattle.jc_world.specs.Methods.{is_init_name}
-use Rattle.jc_world.specs.Profile.{Location, init_of}
+use Rattle.jc_world.specs.Profile.{init_of}
 use Rattle.jc_world.specs.Perform.{perform}
 use Rattle.jc_world.specs.Results.{Result, goes, hits, calls, leaves, raises, throws, gets_stuck}
-use Rattle.jc_world.specs.Step.{LocatedInsn, located, operation_at, result_of, handler_of, caught, unwound, Raised, out_of_memory, placed, overflows, new_frame, given_back, left, After, after, thrown_in, after_result, turn_of, with_after, step_of, step}
+use Rattle.jc_world.specs.Step.{LocatedInsn, located, operation_at, result_of, handler_of, caught, unwound, Raised, out_of_memory, placed, overflows, new_frame, given_back, left, After, after, thrown_in, after_result, turn_of, step_of, step}
 use Rattle.jc_world.specs.Run.{run_from}
-use Rattle.jc_exact.proofs.ValueLaws.{HoldsOfOthers, InSlot, InSlots, InStatics, set_each}
+use Rattle.jc_exact.proofs.ValueLaws.{HoldsOfOthers, InSlot, InStatics, set_each}
 use Rattle.jc_exact.proofs.ResultLaws.{InFrame}
-use Rattle.jc_exact.proofs.TurnedLaws.{Turned, turned, Standing, stands}
+use Rattle.jc_exact.proofs.TurnedLaws.{Turned, turned, stands}
 
 -- no probe array
 abbrev pub IsOther : Value → Type 0

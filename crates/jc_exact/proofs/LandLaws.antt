@@ -1,25 +1,22 @@
 -- Where the twin lands with the image of an instruction, by the branch that the instruction takes.
-use Rattle.std.proofs.Common.{◌≡◌, ◌⊎◌, inl, inr, ⊎_elim, ℕ, ◌+◌, ◌<◌, Bool, true, false, not, List, [], ◌∷◌, map, Option, Some, None, nat_eq, refl, sym, ap, ◌∙◌, subst, if◌then◌else◌}
-use Rattle.std.specs.Prelude.{⊤, slice_get, Contains}
-use Rattle.std.proofs.lemmas.Bool.{true≢false}
+use Rattle.std.proofs.Common.{◌≡◌, ◌⊎◌, inl, inr, ℕ, ◌+◌, Bool, true, false, not, List, Option, Some, None, nat_eq, refl, sym, ap, ◌∙◌, subst, if◌then◌else◌}
+use Rattle.std.specs.Prelude.{slice_get, Contains}
 use Rattle.std.proofs.lemmas.Option.{none-some, same_Some}
 use Rattle.jc_methods.specs.Opcode as opcode
-use Rattle.jc_methods.specs.Flow.{flow_of, is_return, targets_of, jump_target, inverse_of, is_conditional_branch}
+use Rattle.jc_methods.specs.Flow.{flow_of, is_return, jump_target, inverse_of}
 use Rattle.jc_methods.specs.Insn.{IsWellFormed, with_places}
 use Rattle.jc_methods.specs.Slots.{with_slots}
 use Rattle.jc_methods.specs.declared.insn.Insn.{Insn}
 use Rattle.jc_methods.specs.declared.insn.Insn.TheVariants as insns
 use Rattle.jc_methods.specs.declared.insn.Flow.{Flow}
 use Rattle.jc_methods.specs.declared.insn.Flow.TheVariants as flows
-use Rattle.jc_methods.specs.declared.insn.Arm.{Arm}
-use Rattle.jc_methods.specs.declared.body.Body.{Body}
 use Rattle.jc_plan.specs.declared.branch.Branch.{Branch}
-use Rattle.jc_plan.specs.Edges.{sequence, jump, branches_of, branches}
-use Rattle.jc_plan.specs.Chosen.{Outcome, one_way, condition, key, key_target, arm_to, table_target, lookup_target, chosen_by, chosen, onward_by, onward}
+use Rattle.jc_plan.specs.Edges.{sequence, jump, branches_of}
+use Rattle.jc_plan.specs.Chosen.{Outcome, one_way, condition, key, chosen_by, chosen, onward_by, onward}
 use Rattle.jc_plan.proofs.ChosenLaws.{chosen_listed, chosen_leads}
 use Rattle.jc_plan.proofs.OneWayLaws.{standing}
 use Rattle.jc_emit.specs.Items.{Item}
-use Rattle.jc_emit.specs.Local.{Stands, Lands, due_of, early_of, moved_insn, TestsAlike, TestsInversely, SwitchesAlike, JumpsAlike, OkImage}
+use Rattle.jc_emit.specs.Local.{Stands, due_of, early_of, moved_insn, TestsAlike, TestsInversely, JumpsAlike, OkImage}
 use Rattle.jc_emit.specs.Sizes.{early_by}
 use Rattle.jc_emit.specs.TwinCode.{to_of}
 use Rattle.jc_emit.proofs.ConditionalBranchLaws.{test_op}

@@ -1,5 +1,5 @@
 -- What hits of a twin have to do with edges that the original took: what one turn of a thread changes.
-use Rattle.std.proofs.Common.{◌≡◌, ◌⊎◌, inl, inr, ⊎_elim, ℕ, zero, suc, List, [], ◌∷◌, ◌++◌, Option, Some, None, option_map, refl, sym, ap, ◌∙◌, subst}
+use Rattle.std.proofs.Common.{◌≡◌, ◌⊎◌, inl, inr, ⊎_elim, ℕ, zero, suc, List, [], ◌∷◌, ◌++◌, Option, Some, None, option_map, sym, ap, ◌∙◌, subst}
 use Rattle.std.specs.Prelude.{slice_get, slice_set, Contains}
 use Rattle.std.proofs.lemmas.List.Elements.{Contains-append_left, Contains-append_right, Contains-append_cases}
 use Rattle.std.proofs.lemmas.Option.{none-some, same_Some}
@@ -12,7 +12,7 @@ use Rattle.jc_world.specs.World.{Thread, Hit, World}
 use Rattle.jc_world.specs.Step.{After, with_after}
 use Rattle.jc_simulation.specs.Sides.{Side}
 use Rattle.jc_simulation.specs.Probes.{hit_of, Passes, nothing, a_late_one, an_early_one, due_in, early_in}
-use Rattle.jc_simulation.proofs.RunLaws.{get_set, get_other}
+use Rattle.jc_simulation.proofs.RunLaws.{get_set}
 
 -- ---- threads of which something is so
 

@@ -1,16 +1,15 @@
 -- Which operations the instructions of each flow are.
-use Rattle.std.proofs.Common.{◌≡◌, ◌⊎◌, inl, inr, ℕ, ℤ, ◌+◌, ◌-◌, ◌<◌, Bool, true, false, not, ◌&&◌, ◌||◌, List, [], ◌∷◌, Option, Some, None, option_map, nat_eq, nat_lt, nat_le, is_some, refl, sym, ap, ◌∙◌, subst, arith, if◌then◌else◌, codes}
+use Rattle.std.proofs.Common.{◌≡◌, ℕ, ◌-◌, ◌<◌, Bool, true, false, not, ◌&&◌, List, [], ◌∷◌, Option, Some, None, nat_eq, nat_lt, nat_le, is_some, refl, arith, if◌then◌else◌, codes}
 use Rattle.std.specs.Prelude.{⊤, slice_get, bytes_eq, option_and_then}
 use Rattle.std.proofs.lemmas.Bool.{leb-true, eqb-true, and_parts}
-use Rattle.jc_bytes.specs.Descriptor.{FieldType, Byte, Char, Int, Long, Short, Boolean}
+use Rattle.jc_bytes.specs.Descriptor.{FieldType}
 use Rattle.jc_methods.specs.Opcode as opcode
 use Rattle.jc_methods.specs.Flow.{flow_of, is_return}
-use Rattle.jc_methods.specs.DescriptorTypes.{field_type_in, method_type_in}
+use Rattle.jc_methods.specs.DescriptorTypes.{field_type_in}
 use Rattle.jc_methods.specs.declared.insn.Insn.{Insn}
 use Rattle.jc_methods.specs.declared.insn.Insn.TheVariants as insns
 use Rattle.jc_methods.specs.declared.insn.Flow.{Flow}
 use Rattle.jc_methods.specs.declared.insn.Flow.TheVariants as flows
-use Rattle.jc_methods.specs.declared.insn.Arm.{Arm}
 use Rattle.jc_methods.specs.declared.body.Body.{Body}
 use Rattle.jc_methods.specs.declared.body.What.{What}
 use Rattle.jc_methods.specs.declared.body.What.TheVariants as whats
@@ -21,9 +20,9 @@ use Rattle.jc_programs.specs.declared.run_end.Entry.{Entry}
 use Rattle.jc_programs.specs.declared.run_end.Thrown.{Thrown}
 use Rattle.jc_programs.specs.Members.{class_named, class_at, static_named}
 use Rattle.jc_world.specs.Methods.{is_enterable}
-use Rattle.jc_world.specs.Values.{Value, int, long, probes, ComputationalType, int_type, long_type, reference_type, computational_type}
-use Rattle.jc_world.specs.Operations.{FieldAt, Printed, Operation, pushes, computes, loads, stores, counts, tests, jumps, indexes, matches, reads, writes, makes_array, measures, gets, puts, invokes, makes, builds, prints, fetches, returns, returns_nothing, throws_top, outside}
-use Rattle.jc_world.specs.Profile.{Location, in_init, init_of, what_at, constant_operation, long_operation, may_name_field, field_operation, declared_field, linked_field, is_print_stream, field_named, may_name_method, callee_named, entered_if, body_entered, class_entered, method_entered, is_fetch, init_call, static_call, printed_by, print_operation, virtual_call, made_class, build_operation, special_call, call_named, member_operation, make_operation, class_operation, array_operation, elements_of, read_operation, write_operation, return_operation, simple_operation, local_type, load_operation, store_operation, local_operation, operation_of}
+use Rattle.jc_world.specs.Values.{Value, probes, ComputationalType, computational_type}
+use Rattle.jc_world.specs.Operations.{FieldAt, Printed, Operation, pushes, computes, tests, jumps, indexes, matches, measures, returns, returns_nothing, throws_top, outside}
+use Rattle.jc_world.specs.Profile.{Location, in_init, init_of, what_at, constant_operation, long_operation, may_name_field, field_operation, declared_field, linked_field, is_print_stream, field_named, may_name_method, callee_named, entered_if, body_entered, class_entered, method_entered, is_fetch, init_call, static_call, printed_by, print_operation, made_class, build_operation, call_named, member_operation, make_operation, class_operation, array_operation, elements_of, read_operation, write_operation, return_operation, simple_operation, local_type, load_operation, store_operation, local_operation, operation_of}
 use Rattle.jc_exact.proofs.ValueLaws.{HoldsOfOthers}
 use Rattle.jc_exact.proofs.ResultLaws.{Pushed}
 

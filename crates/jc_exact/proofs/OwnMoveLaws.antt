@@ -1,5 +1,5 @@
 -- A kept turn: the probe of each edge that it takes was hit beforehand, or is owed behind it.
-use Rattle.std.proofs.Common.{◌≡◌, ◌⊎◌, inl, inr, ⊎_elim, ℕ, ◌+◌, ◌<◌, Bool, true, false, List, [], ◌∷◌, ◌++◌, length, Option, Some, None, option_map, refl, sym, ap, ap₂, ◌∙◌, subst, subst₂, cond, if◌then◌else◌}
+use Rattle.std.proofs.Common.{◌≡◌, ◌⊎◌, inl, inr, ⊎_elim, ℕ, ◌+◌, Bool, true, false, List, [], ◌∷◌, Option, Some, None, option_map, refl, sym, ap, ◌∙◌, subst, cond, if◌then◌else◌}
 use Rattle.std.specs.Prelude.{⊤, slice_get, Contains, find, option_and_then}
 use Rattle.std.specs.List.{AllByRecursion}
 use Rattle.std.proofs.lemmas.Option.{none-some, same_Some, get_or_from_slice_get, slice_get-get_or}
@@ -16,35 +16,33 @@ use Rattle.jc_programs.specs.declared.run_end.Entry.{Entry}
 use Rattle.jc_programs.specs.declared.run_end.Thrown.{Thrown}
 use Rattle.jc_programs.specs.declared.run_end.Thrown.TheVariants as thrown
 use Rattle.jc_programs.specs.Members.{body_of}
-use Rattle.jc_plan.specs.declared.branch.Branch.{Branch}
 use Rattle.jc_plan.specs.Edges.{sequence, exit}
 use Rattle.jc_plan.specs.Chosen.{onward}
 use Rattle.jc_plan.specs.ClassEdges.{ProgramEdge}
 use Rattle.jc_emit.specs.Items.{Item, init_call, image}
-use Rattle.jc_emit.specs.Local.{Stands, Lands, Ok, OkImage, OkStart, OkRow, due_of, early_of}
+use Rattle.jc_emit.specs.Local.{Ok, OkImage, OkStart, OkRow, due_of, early_of}
 use Rattle.jc_emit.specs.Seen.{OkRows}
 use Rattle.jc_emit.specs.Sizes.{insn_at, early_by}
 use Rattle.jc_world.specs.Values.{Value}
-use Rattle.jc_world.specs.World.{Frame, Thread, running, returned, threw, stuck, Shared, Hit}
+use Rattle.jc_world.specs.World.{Frame, Thread, running, stuck, Shared, Hit}
 use Rattle.jc_world.specs.Results.{Result, goes, hits, calls, leaves, raises, throws, gets_stuck}
 use Rattle.jc_world.specs.Profile.{operation_of}
 use Rattle.jc_world.specs.Perform.{perform}
 use Rattle.jc_world.specs.Step.{LocatedInsn, located, result_of, is_init_method, handler_in, handler_of, caught, unwound, Raised, placed, overflows, new_frame, given_back, left, After, after, thrown_in, after_result}
-use Rattle.jc_world.specs.Taken.{outcome_of, edge_of, call_edges, edges_by, thread_edges}
+use Rattle.jc_world.specs.Taken.{outcome_of, edge_of, call_edges, thread_edges}
 use Rattle.jc_simulation.specs.Sides.{Side, IsSide, AreSides}
-use Rattle.jc_simulation.specs.Mid.{OneMethod, SameFrame, SameWait, SameWaits, SameShared}
+use Rattle.jc_simulation.specs.Mid.{OneMethod, SameFrame, SameWaits, SameShared}
 use Rattle.jc_simulation.specs.Probes.{hit_of, item_hit, place_hit, frame_hit, due_in, early_in}
 use Rattle.jc_simulation.proofs.FrameLaws.{body_is, location, located_is, result_is, twin_insn, own_result}
 use Rattle.jc_simulation.proofs.OwnLaws.{SameResult, AtImage}
 use Rattle.jc_simulation.proofs.OwnTurnLaws.{new_no_init}
-use Rattle.jc_simulation.proofs.TurnLaws.{hit_top}
 use Rattle.jc_exact.proofs.ValueLaws.{HoldsOfOthers, InSlot, InStatics}
 use Rattle.jc_exact.proofs.ResultLaws.{InFrame}
 use Rattle.jc_exact.proofs.TurnedLaws.{Turned, turned}
-use Rattle.jc_exact.proofs.GoodLaws.{IsOther, HasNoInit, turned_here, IsAtCall, AreGoodWaits}
+use Rattle.jc_exact.proofs.GoodLaws.{IsOther, HasNoInit, turned_here, AreGoodWaits}
 use Rattle.jc_exact.proofs.EdgeLaws.{Went, went, Stopped, at_throw, elsewhere, stopped, called, came_back}
 use Rattle.jc_exact.proofs.CameLaws.{insn_there}
-use Rattle.jc_exact.proofs.LandLaws.{Onto, onto}
+use Rattle.jc_exact.proofs.LandLaws.{onto}
 use Rattle.jc_exact.proofs.MarkLaws.{probe_in, IsProbeOf, Owes}
 
 -- ---- any values

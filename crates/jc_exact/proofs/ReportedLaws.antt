@@ -1,9 +1,9 @@
 -- Counted instructions and branches, by the law of covered edges.
-use Rattle.std.proofs.Common.{◌≡◌, ◌⊎◌, inl, inr, ⊎_elim, ◌↔◌, ℕ, suc, ◌+◌, ◌<◌, ◌≤◌, Bool, true, false, List, [], ◌∷◌, ◌++◌, length, map, Option, Some, None, refl, sym, ap, ◌∙◌, subst, arith, append_assoc}
+use Rattle.std.proofs.Common.{◌≡◌, ◌⊎◌, inl, inr, ⊎_elim, ◌↔◌, ℕ, ◌≤◌, Bool, List, [], ◌∷◌, ◌++◌, length, map, Option, Some, None, refl, sym, ap, ◌∙◌, subst, arith}
 use Rattle.std.specs.Prelude.{slice_get, slice_index_or, Contains, IsTrue}
 use Rattle.std.specs.List.{flat_map}
 use Rattle.std.proofs.lemmas.List.Elements.{Contains-append_right}
-use Rattle.std.proofs.lemmas.Option.{none-some, same_Some, slice_get-get_or}
+use Rattle.std.proofs.lemmas.Option.{same_Some, slice_get-get_or}
 use Rattle.jc_bytes.proofs.BooleanLaws.{first_in, none_in, stands_in}
 use Rattle.jc_bytes.proofs.FirstSeenLaws.{contains_one}
 use Rattle.jc_methods.specs.Flow.{flow_of, targets_of}
@@ -18,7 +18,7 @@ use Rattle.jc_programs.specs.declared.run_plan.RunPlan.{RunPlan}
 use Rattle.jc_programs.specs.declared.run_end.Entry.{Entry}
 use Rattle.jc_programs.specs.Turns.{turns_in}
 use Rattle.jc_plan.specs.declared.branch.Branch.{Branch}
-use Rattle.jc_plan.specs.Edges.{jump, branches_by, branches_of, branches}
+use Rattle.jc_plan.specs.Edges.{jump, branches_by, branches_of}
 use Rattle.jc_plan.specs.Probed.{first_id}
 use Rattle.jc_plan.specs.Chosen.{one_way, chosen}
 use Rattle.jc_plan.specs.ClassEdges.{ProgramEdge, in_its_class}
@@ -27,23 +27,22 @@ use Rattle.jc_plan.proofs.OneWayLaws.{jumps_one, begins_at}
 use Rattle.jc_emit.specs.Marks.{Marks}
 use Rattle.jc_emit.specs.TwinProgram.{TwinProgram}
 use Rattle.jc_cover.specs.declared.coverage.Coverage.{Coverage}
-use Rattle.jc_cover.specs.Covered.{values_of, value_at, Covered, CoveredInsn, IsCovered, IsProgramCovered, TellsCovered}
+use Rattle.jc_cover.specs.Covered.{values_of, value_at, Covered, IsCovered, IsProgramCovered, TellsCovered}
 use Rattle.jc_cover.specs.Counters.{is_covered, counters_of}
 use Rattle.jc_cover.proofs.OneCoverageLaws.{one_coverage, insn_told}
-use Rattle.jc_world.specs.World.{Frame, Thread, running, returned, threw, stuck, Hit, World}
+use Rattle.jc_world.specs.World.{Thread, running, returned, threw, stuck, World}
 use Rattle.jc_world.specs.Begin.{begin_case}
 use Rattle.jc_world.specs.Run.{run_from, run, IsHit}
 use Rattle.jc_world.specs.Step.{LocatedInsn, located, step}
-use Rattle.jc_world.specs.Taken.{edge_of, edges_of, one_edge, edge_stood, edges_stood, turn_edges, taken_from, reached_from}
+use Rattle.jc_world.specs.Taken.{edge_of, edges_of, one_edge, edge_stood, edges_stood, turn_edges, taken_from}
 use Rattle.jc_simulation.specs.Marking.{AreMarks}
-use Rattle.jc_simulation.specs.Laws.{kept_of}
 use Rattle.jc_simulation.proofs.ProgramRunLaws.{have_sides}
 use Rattle.jc_simulation.proofs.RunLaws.{run_append}
 use Rattle.jc_exact.specs.Exact.{HaveReturned, IsChangedAt, HaveEntries, OfSomeCase, OfEachCase, Took, Reached, HasHit, EndsWell, TellHits, IsExact}
 use Rattle.jc_exact.specs.Reported.{branch_edge, kept_in, WasTaken, IsNext, WasExecuted, IsNextInsn, HadTurn, AllEndWell, TellsTaken, IsReported, ReportedEdges}
 use Rattle.jc_exact.proofs.GoodLaws.{run_good}
 use Rattle.jc_exact.proofs.CameLaws.{flat_cases, insn_there, reached_parts}
-use Rattle.jc_exact.proofs.StayLaws.{taken_with, IsLeft, each_leaves}
+use Rattle.jc_exact.proofs.StayLaws.{taken_with, each_leaves}
 use Rattle.jc_exact.proofs.BeginLaws.{begin_good}
 use Rattle.jc_exact.proofs.CaseLaws.{no_init, both_returned, both_calm}
 use Rattle.jc_exact.proofs.ExactLaws.{plan_exact}
@@ -216,8 +215,7 @@ module _ (p p' : Program) (marks : Entry → Marks) (twin : TwinProgram p p') (a
       insn_exact : (n i : ℕ) (b : Body) (insn : Insn) (values : List Bool) → slice_get c.bodies n ≡ Some b → slice_get b.code i ≡ Some insn
           → values_of coverage n i ≡ Some values → IsTrue (is_covered values) ↔ WasExecuted p p' marks plan class n i
       insn_exact n i b insn values e h v =
-          let law = insn_told c.bodies bits coverage n i b insn values told e h v in
-          (
+          let law = insn_told c.bodies bits coverage n i b insn values told e h v in (
             λ t. let k = law.0 t in (k.0, k.1, (branch_taken n b k.0 e).0 k.2),
             λ w. law.1 (w.0, w.1, (branch_taken n b w.0 e).1 w.2),
           )
@@ -245,9 +243,16 @@ module _ (p p' : Program) (marks : Entry → Marks) (twin : TwinProgram p p') (a
           h.thread (running h.frame h.waiting) h.runs h.frame (first_in h.frame h.waiting) in
           let edge : edge_of h.frame.method l.branch ≡ branch_edge class n l.branch = ap (λ m. edge_of m l.branch) h.method in
           let took = taken_behind p h.front back w (edge_of h.frame.method l.branch)
-          (taken_with p back (run_from p w h.front) (edge_of h.frame.method l.branch) l.later l.taken) in
-          (l.branch, l.at ∙ h.at, (h.case, h.listed, subst (λ z. Contains (taken_from p w (kept_in p p' marks plan h.case)) z) edge
-          (subst (λ z. Contains (taken_from p w z) (edge_of h.frame.method l.branch)) (sym h.turns) took)))
+          (taken_with p back (run_from p w h.front) (edge_of h.frame.method l.branch) l.later l.taken) in (
+            l.branch,
+            l.at ∙ h.at,
+            (
+              h.case,
+              h.listed,
+              subst (λ z. Contains (taken_from p w (kept_in p p' marks plan h.case)) z) edge
+                  (subst (λ z. Contains (taken_from p w z) (edge_of h.frame.method l.branch)) (sym h.turns) took),
+            ),
+          )
 
       same_counters : (other : Coverage) → TellsTaken p p' marks plan class c.bodies other → counters_of c.bodies coverage ≡ counters_of c.bodies other
       same_counters other t =

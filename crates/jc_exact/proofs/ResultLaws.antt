@@ -1,5 +1,5 @@
 -- What the result of a turn says of its frame: where it goes on, what it keeps, and which values it has.
-use Rattle.std.proofs.Common.{◌≡◌, ℕ, ℤ, pos, negsuc, ◌+◌, ◌-◌, ◌%◌, Bool, true, false, ◌&&◌, List, [], ◌∷◌, ◌++◌, drop, length, replicate, Option, Some, None, nat_eq, nat_le, nat_lt, refl, sym, ap, subst, if◌then◌else◌}
+use Rattle.std.proofs.Common.{◌≡◌, ℕ, ℤ, pos, negsuc, ◌+◌, ◌-◌, ◌%◌, Bool, true, false, ◌&&◌, List, [], ◌∷◌, ◌++◌, drop, length, replicate, Option, Some, None, nat_eq, nat_le, nat_lt, refl, if◌then◌else◌}
 use Rattle.std.specs.Prelude.{⊤, slice_get, slice_set, slice_index_or}
 use Rattle.std.specs.Int.{w32, int_wrapping_add, cast_unsigned}
 use Rattle.std.specs.Fmt.{signed_decimal}
@@ -22,7 +22,7 @@ use Rattle.jc_world.specs.Locals.{by_load, by_store, by_count, put_local}
 use Rattle.jc_world.specs.Jumps.{Tested, agrees, tested, zero_test, int_test, reference_test, null_test, test_of, by_test, by_switch}
 use Rattle.jc_world.specs.Arrays.{index_within, Element, Found, found, fails, unsuited, find_element, element_value, read_found, by_read, element_number, with_element, write_number, write_found, by_probe, write_to, by_write, has_elements, by_make_array, measured, by_measure}
 use Rattle.jc_world.specs.Statics.{static_at, with_static, by_get, by_put, is_of_type}
-use Rattle.jc_world.specs.Calls.{Arguments, taken_for, locals_for, by_call, by_return, returned_as}
+use Rattle.jc_world.specs.Calls.{Arguments, taken_for, by_call, by_return, returned_as}
 use Rattle.jc_world.specs.Objects.{made, built, thrown_of, by_build, thrown_up, by_throw, most_printed, by_print, boolean_text, by_println, is_fetched, by_fetch}
 use Rattle.jc_world.specs.Perform.{by_effect, perform}
 use Rattle.jc_exact.proofs.ValueLaws.{HoldsOfOthers, InSlot, All, InSlots, InStatics, append_all, drop_all, read_slot, static_there, static_set, set_slot, put_slot, locals_all, Given, given, element_holds, stored_holds, InEffect, effect_in}

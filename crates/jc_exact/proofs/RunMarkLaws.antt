@@ -1,25 +1,22 @@
 -- What hits of a twin's run have to do with the edges of the original's run under the kept turns.
-use Rattle.std.proofs.Common.{◌≡◌, ◌⊎◌, inl, inr, ⊎_elim, ℕ, zero, suc, Bool, true, false, List, [], ◌∷◌, ◌++◌, Option, Some, None, option_map, refl, sym, ap, ◌∙◌, subst, append_assoc}
-use Rattle.std.specs.Prelude.{⊤, slice_get, Contains}
+use Rattle.std.proofs.Common.{◌≡◌, inl, inr, ℕ, Bool, true, false, List, [], ◌∷◌, ◌++◌, Option, Some, None, option_map, refl, sym, ap, ◌∙◌, subst, append_assoc}
+use Rattle.std.specs.Prelude.{slice_get}
 use Rattle.std.proofs.lemmas.Bool.{true≢false}
 use Rattle.std.proofs.lemmas.List.{append-nil}
-use Rattle.std.proofs.lemmas.Option.{none-some, same_Some}
-use Rattle.jc_bytes.proofs.BooleanLaws.{none_in}
-use Rattle.jc_methods.specs.declared.insn.Insn.{Insn}
 use Rattle.jc_programs.specs.declared.program.Program.{Program}
 use Rattle.jc_programs.specs.declared.run_end.Entry.{Entry}
 use Rattle.jc_plan.specs.ClassEdges.{ProgramEdge}
 use Rattle.jc_emit.specs.Items.{Item, init_call, init_store, image, probe_array, probe_id, probe_one, probe_store, hop, at_of, own_of}
 use Rattle.jc_emit.specs.Local.{due_of, early_of}
 use Rattle.jc_emit.specs.Marks.{Marks}
-use Rattle.jc_world.specs.World.{Frame, Thread, running, returned, threw, stuck, Shared, Hit, World}
-use Rattle.jc_world.specs.Step.{result_of, After, after_result, turn_of, with_after, step_of, step}
+use Rattle.jc_world.specs.World.{Frame, Thread, running, returned, threw, stuck, Shared, World}
+use Rattle.jc_world.specs.Step.{result_of, after_result, turn_of, step_of, step}
 use Rattle.jc_world.specs.Run.{run_from}
 use Rattle.jc_world.specs.Taken.{thread_edges, turn_edges, taken_from}
 use Rattle.jc_simulation.specs.Kept.{is_running, keeps, keeps_at, is_kept, turn_if, kept, step_if}
 use Rattle.jc_simulation.specs.Sides.{Side, array_of, AreSides, AreMarksOf}
 use Rattle.jc_simulation.specs.Mid.{pushed_of, SameLocals, SameFrame, SameWaits, SameShared, SameThread, Mid}
-use Rattle.jc_simulation.specs.Probes.{hit_of, Passes, nothing, due_in, early_in}
+use Rattle.jc_simulation.specs.Probes.{hit_of, nothing, due_in, early_in}
 use Rattle.jc_simulation.proofs.OwnLaws.{AtImage}
 use Rattle.jc_simulation.proofs.TurnLaws.{hit_top}
 use Rattle.jc_simulation.proofs.WorldLaws.{keeps_top, keeps_inside, aside_thread, SameOption, same_get, one_turn}

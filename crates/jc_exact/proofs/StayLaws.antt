@@ -1,10 +1,8 @@
 -- In a run in which each thread returns and nothing is raised, each instruction at which a frame stands takes an edge.
-use Rattle.std.proofs.Common.{◌≡◌, ◌⊎◌, inl, inr, ⊎_elim, ℕ, zero, suc, ◌+◌, ◌<◌, Bool, true, false, List, [], ◌∷◌, ◌++◌, length, Option, Some, None, nat_eq, refl, sym, ap, ◌∙◌, subst, arith, if◌then◌else◌}
-use Rattle.std.specs.Prelude.{⊤, slice_get, Contains}
-use Rattle.std.specs.List.{AllByRecursion}
+use Rattle.std.proofs.Common.{◌≡◌, ◌⊎◌, inl, inr, ⊎_elim, ℕ, ◌<◌, Bool, true, false, List, [], ◌∷◌, length, Option, Some, None, nat_eq, refl, sym, ap, ◌∙◌, subst, arith, if◌then◌else◌}
+use Rattle.std.specs.Prelude.{slice_get, Contains}
 use Rattle.std.proofs.lemmas.Bool.{true≢false, eqb-true, eqb-false}
 use Rattle.std.proofs.lemmas.List.Elements.{Contains-append_left, Contains-append_right, Contains-append_cases}
-use Rattle.std.proofs.lemmas.Option.{none-some, same_Some}
 use Rattle.jc_bytes.proofs.BooleanLaws.{first_in, later_in, which_in, none_in}
 use Rattle.jc_bytes.proofs.FirstSeenLaws.{contains_one}
 use Rattle.jc_programs.specs.declared.program.Program.{Program}
@@ -18,7 +16,7 @@ use Rattle.jc_plan.proofs.ChosenLaws.{chosen_leads}
 use Rattle.jc_world.specs.Values.{Value}
 use Rattle.jc_world.specs.World.{Frame, Thread, running, returned, threw, stuck, Shared, World}
 use Rattle.jc_world.specs.Results.{Result, goes, hits, calls, leaves, raises, throws, gets_stuck}
-use Rattle.jc_world.specs.Step.{LocatedInsn, located, result_of, Raised, placed, overflows, new_frame, given_back, left, After, after, thrown_in, after_result, turn_of, step_of, step}
+use Rattle.jc_world.specs.Step.{LocatedInsn, located, result_of, overflows, new_frame, given_back, left, After, after, after_result, turn_of, step_of, step}
 use Rattle.jc_world.specs.Run.{run_from}
 use Rattle.jc_world.specs.Taken.{edge_of, call_edges, thread_edges, turn_edges, taken_from}
 use Rattle.jc_simulation.proofs.RunLaws.{step_at, step_other}
@@ -26,8 +24,8 @@ use Rattle.jc_exact.specs.Exact.{HasReturned, HaveReturned}
 use Rattle.jc_exact.proofs.ValueLaws.{InStatics}
 use Rattle.jc_exact.proofs.ResultLaws.{InFrame}
 use Rattle.jc_exact.proofs.TurnedLaws.{Turned}
-use Rattle.jc_exact.proofs.GoodLaws.{IsOther, HasNoInit, get_each, turned_here, nowhere, AreGoodWaits, IsGood, IsGoodWorld, step_good, run_raised}
-use Rattle.jc_exact.proofs.EdgeLaws.{Went, went, Stopped, at_throw, elsewhere, stopped, called, came_back, frames_in, no_edges}
+use Rattle.jc_exact.proofs.GoodLaws.{IsOther, HasNoInit, get_each, turned_here, nowhere, IsGood, IsGoodWorld, step_good, run_raised}
+use Rattle.jc_exact.proofs.EdgeLaws.{went, Stopped, at_throw, elsewhere, stopped, called, came_back, frames_in, no_edges}
 
 -- an edge that leaves the method
 abbrev pub LeadsOut : Branch → Type 0

@@ -1,9 +1,9 @@
 -- One turn at an instruction: which branch it takes, and where that leads.
-use Rattle.std.proofs.Common.{◌≡◌, ◌⊎◌, inl, inr, ℕ, ℤ, ◌+◌, Bool, true, false, List, [], ◌∷◌, map, Option, Some, None, nat_eq, refl, sym, ap, ◌∙◌, subst, if◌then◌else◌}
+use Rattle.std.proofs.Common.{◌≡◌, ◌⊎◌, inl, inr, ℕ, ℤ, ◌+◌, Bool, true, false, List, Option, Some, None, nat_eq, refl, sym, ap, ◌∙◌, subst, if◌then◌else◌}
 use Rattle.std.specs.Prelude.{⊤, slice_get, option_and_then, Contains}
 use Rattle.std.proofs.lemmas.Option.{none-some, same_Some}
 use Rattle.jc_methods.specs.Opcode as opcode
-use Rattle.jc_methods.specs.Flow.{flow_of, jump_target}
+use Rattle.jc_methods.specs.Flow.{flow_of}
 use Rattle.jc_methods.specs.declared.insn.Insn.{Insn}
 use Rattle.jc_methods.specs.declared.insn.Insn.TheVariants as insns
 use Rattle.jc_methods.specs.declared.insn.Flow.{Flow}
@@ -18,19 +18,19 @@ use Rattle.jc_programs.specs.Members.{class_at}
 use Rattle.jc_plan.specs.declared.branch.Branch.{Branch}
 use Rattle.jc_plan.specs.Edges.{branches, sequence}
 use Rattle.jc_plan.specs.Leading.{LeadsTo}
-use Rattle.jc_plan.specs.Chosen.{Outcome, one_way, condition, key, table_target, lookup_target, chosen_by, chosen, onward_by, onward}
+use Rattle.jc_plan.specs.Chosen.{Outcome, one_way, condition, key, chosen_by, chosen, onward_by, onward}
 use Rattle.jc_plan.proofs.ChosenLaws.{chosen_listed, chosen_leads}
-use Rattle.jc_world.specs.Values.{Value, int, probes}
+use Rattle.jc_world.specs.Values.{Value, probes}
 use Rattle.jc_world.specs.World.{Frame, Shared}
 use Rattle.jc_world.specs.Operations.{Operation, pushes, computes, loads, stores, counts, tests, jumps, indexes, matches, reads, writes, makes_array, measures, gets, puts, invokes, makes, builds, prints, fetches, returns, returns_nothing, throws_top, outside}
 use Rattle.jc_world.specs.Results.{Result, goes, hits, calls, leaves, raises, throws, gets_stuck}
 use Rattle.jc_world.specs.Jumps.{Tested, test_of}
 use Rattle.jc_world.specs.Profile.{Location, init_of, operation_of}
 use Rattle.jc_world.specs.Perform.{perform}
-use Rattle.jc_world.specs.Step.{LocatedInsn, located_in_body, located_in_class, located, operation_at, result_of}
-use Rattle.jc_world.specs.Taken.{outcome_of_test, outcome_of_key, outcome_of}
+use Rattle.jc_world.specs.Step.{LocatedInsn, located_in_body, located_in_class, located}
+use Rattle.jc_world.specs.Taken.{outcome_of_test, outcome_of}
 use Rattle.jc_exact.proofs.ValueLaws.{HoldsOfOthers, InSlot, InSlots, InStatics}
-use Rattle.jc_exact.proofs.ResultLaws.{Leads, MayRaise, IsReturn, IsCall, InFrame, Went, Called, Comes, comes}
+use Rattle.jc_exact.proofs.ResultLaws.{Leads, MayRaise, IsReturn, IsCall, InFrame, Went, Comes, comes}
 use Rattle.jc_exact.proofs.OperationLaws.{IsPlain, IsExit, IsTest, IsSwitch, IsGoto, Does, does}
 
 -- ---- branches

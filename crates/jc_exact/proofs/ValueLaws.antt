@@ -1,5 +1,5 @@
 -- What holds of the values of a world, where it holds of all values but probe arrays.
-use Rattle.std.proofs.Common.{◌≡◌, ℕ, zero, suc, ℤ, pos, ◌+◌, ◌-◌, Bool, true, false, ◌&&◌, List, [], ◌∷◌, ◌++◌, drop, length, replicate, Option, Some, None, nat_eq, nat_le, nat_lt, refl, sym, ap, subst, cond, if◌then◌else◌, int_lt, int_le, ◌-ℤ◌}
+use Rattle.std.proofs.Common.{ℕ, zero, suc, ℤ, pos, ◌+◌, ◌-◌, Bool, true, false, ◌&&◌, List, [], ◌∷◌, ◌++◌, drop, length, replicate, Option, Some, None, nat_eq, nat_le, nat_lt, if◌then◌else◌, int_le, ◌-ℤ◌}
 use Rattle.std.specs.Prelude.{⊤, slice_get, slice_set, slice_index_or}
 use Rattle.std.specs.List.{AllByRecursion}
 use Rattle.jc_bytes.specs.Descriptor.{FieldType, Byte, Char, Double, Float, Int, Long, Short, Boolean, Object, Array}
@@ -8,7 +8,7 @@ use Rattle.jc_programs.specs.declared.run_end.Thrown.TheVariants as thrown
 use Rattle.jc_world.specs.Values.{Value, int, long, null, object, memory_error, print_stream, probes, text, is_pair, stored_as}
 use Rattle.jc_world.specs.Effects.{Effect, Move, gives, unfit, when, int_for, long_for, constant, moves_of, moved, results_at, stand_categories, divided, int_bits, int_pair, long_pair, long_shift, int_single, long_single, single, pair, has_one_operand, effect}
 use Rattle.jc_world.specs.Effects as effects
-use Rattle.jc_world.specs.Locals.{is_pair_there, clear_before, clear_behind, put_local}
+use Rattle.jc_world.specs.Locals.{is_pair_there, clear_before, put_local}
 use Rattle.jc_world.specs.Arrays.{element_value}
 use Rattle.jc_world.specs.Operations.{FieldAt}
 use Rattle.jc_world.specs.Statics.{static_at, with_static, is_of_type}

@@ -1,5 +1,5 @@
 -- What covered edges say of edges that were taken: of a program, its twin, the cases of a plan, and turns for each.
-use Rattle.std.specs.Prelude.{◌≡◌, ◌⊎◌, ⊤, ℕ, ◌↔◌, Bool, true, false, List, [], Some, IsTrue, slice_get, slice_index_or, Contains}
+use Rattle.std.specs.Prelude.{◌≡◌, ⊤, ℕ, ◌↔◌, Bool, true, false, List, [], Some, IsTrue, slice_get, slice_index_or, Contains}
 use Rattle.std.specs.List.{AllByRecursion}
 use Rattle.jc_programs.specs.declared.program.Program.{Program}
 use Rattle.jc_programs.specs.declared.program.Linked.{Linked}

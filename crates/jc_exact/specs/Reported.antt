@@ -1,5 +1,5 @@
 -- What a report may say of programs that ran: of the instructions and branches that its counters count as covered.
-use Rattle.std.specs.Prelude.{◌≡◌, ◌⊎◌, ℕ, ◌≤◌, ◌↔◌, Bool, List, [], ◌∷◌, ◌++◌, length, Option, Some, None, IsTrue, slice_get, slice_index_or, Contains}
+use Rattle.std.specs.Prelude.{◌≡◌, ◌⊎◌, ℕ, ◌≤◌, ◌↔◌, Bool, List, [], ◌∷◌, ◌++◌, length, Some, IsTrue, slice_get, slice_index_or, Contains}
 use Rattle.std.specs.List.{flat_map}
 use Rattle.jc_methods.specs.declared.insn.Insn.{Insn}
 use Rattle.jc_methods.specs.declared.body.Body.{Body}
@@ -19,8 +19,7 @@ use Rattle.jc_cover.specs.declared.coverage.Coverage.{Coverage}
 use Rattle.jc_cover.specs.Covered.{HasShape, values_of, value_at, TellsCovered}
 use Rattle.jc_cover.specs.Counters.{is_covered, counters_of}
 use Rattle.jc_world.specs.World.{Frame, running}
-use Rattle.jc_world.specs.Begin.{begin_case}
-use Rattle.jc_world.specs.Run.{run_from, run, IsHit}
+use Rattle.jc_world.specs.Run.{run, IsHit}
 use Rattle.jc_world.specs.Taken.{taken, edges_stood}
 use Rattle.jc_simulation.specs.Marking.{AreMarks}
 use Rattle.jc_simulation.specs.Laws.{kept_of}

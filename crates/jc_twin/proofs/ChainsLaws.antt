@@ -9,7 +9,7 @@ use Rattle.jc_plan.specs.declared.branch.Branch.{Branch}
 use Rattle.jc_plan.specs.Edges.{branches}
 use Rattle.jc_plan.specs.ClassEdges.{ClassEdge, edge_in, IsClassEdge}
 use Rattle.jc_cover.specs.Covered.{is_hit, IsCovered}
-use Rattle.jc_cover.specs.Followed.{CameTo, AreEntered, AreFollowed, AreEnteredInClass, AreFollowedInClass, in_body, TookSometime, IsIdOf}
+use Rattle.jc_cover.specs.Followed.{CameTo, AreEnteredInClass, AreFollowedInClass, in_body, TookSometime, IsIdOf}
 use Rattle.jc_cover.proofs.FollowedLaws.{class_reached, class_taken}
 use Rattle.jc_twin.specs.Walks.{EndedByReturn, NeverThrown, taken, stood, lone_edges, reached, IsWalk, ClassWalk, AreWalks, IsTaken, IsReached, ChainsAreSound, ChainsAreExact}
 use Rattle.jc_twin.proofs.WalkLaws.{taken_listed, taken_stood, reached_stood, came_more, came_there, TookWith, took_with, with_took, followed}

@@ -1,0 +1,5 @@
+use Rattle.jc_exact.proofs.ExactLaws.{exact_edges}
+use Rattle.jc_twin.proofs.exact.exact_edges.Goals as goal
+
+pub returns : goal.returns
+returns c = exact_edges c.args.before.now c.args.after.now c.args.plan.now

@@ -1,0 +1,5 @@
+use Rattle.jc_exact.proofs.ReportedLaws.{reported_edges}
+use Rattle.jc_twin.proofs.exact.reported_edges.Goals as goal
+
+pub returns : goal.returns
+returns c = reported_edges c.args.before.now c.args.after.now c.args.plan.now
