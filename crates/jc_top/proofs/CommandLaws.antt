@@ -7,7 +7,9 @@ use Rattle.std.specs.Str.{bytes_eq}
 use Rattle.std.proofs.lemmas.Slice.Eq.{bytes_eq-Decides}
 use Rattle.jc_base.proofs.DecoderLaws.{chosen, guard_some, some_is}
 use Rattle.std.specs.declared.alloc.Global.{Global}
-use Rattle.jc_top.specs.Words.{Word, words_of, Use, use_words, Call, call_words, Scan, with_use, scan, is_value, is_option, is_relative, are_distinct, components, is_component}
+use Rattle.jc_work.specs.Step.{Word}
+use Rattle.jc_work.specs.Seen.{words_of}
+use Rattle.jc_top.specs.Words.{Use, use_words, Call, call_words, Scan, with_use, scan, is_value, is_option, is_relative, are_distinct, components, is_component}
 use Rattle.jc_top.specs.Command.{Command, merge, exec_info, class_info, exec_info_call, class_info_call, AreFiles, merge_some, exec_info_some, class_info_some, report_some, instrument_some, IsCallOf, inputs_of, Means, NoForm}
 use Rattle.jc_top.specs.Command.{are_files, decide, decide_merge, decide_exec_info, decide_class_info, decide_report, decide_instrument, decide_scan, command_of, destfile, dest_option}
 use Rattle.jc_top.proofs.InstrumentWordsLaws.{instrument_decided, instrument_chosen}

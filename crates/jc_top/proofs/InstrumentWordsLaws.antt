@@ -5,7 +5,8 @@ use Rattle.std.proofs.lemmas.Slice.Eq.{bytes_eq-Decides}
 use Rattle.std.specs.List.{list_all}
 use Rattle.std.specs.Str.{bytes_eq}
 use Rattle.jc_base.proofs.DecoderLaws.{guard_some, some_is}
-use Rattle.jc_top.specs.Words.{Word, Use, is_value, is_relative, in_folder, are_distinct}
+use Rattle.jc_work.specs.Step.{Word}
+use Rattle.jc_top.specs.Words.{Use, is_value, is_relative, in_folder, are_distinct}
 use Rattle.jc_top.specs.Command.{Command, instrument, instrument_call, dest_option, AreInstrumentWords, IsCallOf, instrument_some}
 use Rattle.jc_top.specs.Command.{are_instrument_words, decide_instrument}
 use Rattle.jc_top.proofs.ReportWordsLaws.{all_by_recursion, list_all_of, cons_not_nil, chosen_some}

@@ -9,8 +9,10 @@ use Rattle.std.proofs.lemmas.Slice.Eq.{bytes_eq-Decides}
 use Rattle.std.proofs.lemmas.List.{map-append}
 use Rattle.std.proofs.lemmas.List.Folds.{list_all-append}
 use Rattle.std.specs.declared.alloc.Global.{Global}
-use Rattle.jc_top.specs.Words.{Word, words_of, with_first, components, is_component, are_distinct}
-use Rattle.jc_top.proofs.WriteLaws.{map_take_more, map_parts}
+use Rattle.jc_work.specs.Step.{Word}
+use Rattle.jc_work.specs.Seen.{words_of}
+use Rattle.jc_top.specs.Words.{with_first, components, is_component, are_distinct}
+use Rattle.jc_work.proofs.ListLaws.{map_take_more, map_parts}
 
 -- ---- parts of a path
 

@@ -9,7 +9,8 @@ use Rattle.std.proofs.lemmas.Slice.Eq.{bytes_eq-Decides}
 use Rattle.jc_base.proofs.DecoderLaws.{guard_some, some_is}
 use Rattle.jc_top.specs.declared.words.Use.{Use as Used}
 use Rattle.jc_top.specs.Looks.{use_of}
-use Rattle.jc_top.specs.Words.{Word, Use, use_words, uses_of, scan, is_option, is_value, is_file, are_distinct}
+use Rattle.jc_work.specs.Step.{Word}
+use Rattle.jc_top.specs.Words.{Use, use_words, uses_of, scan, is_option, is_value, is_file, are_distinct}
 use Rattle.jc_top.specs.Command.{Command, report, report_call, csv, name_option, exec_option, default_name, AreReportWords, IsCallOf, report_some}
 use Rattle.jc_top.specs.Command.{first_use, are_report_words, decide_options, decide_report}
 

@@ -4,20 +4,29 @@ use Rattle.std.specs.List.{AllByRecursion}
 use Rattle.std.specs.declared.alloc.Global.{Global}
 use Rattle.jc_base.proofs.DecoderLaws.{some_is}
 use Rattle.jc_base.specs.Outside.{FileMap, WhereTold, Rose}
-use Rattle.jc_top.specs.declared.status.Status.{Status}
-use Rattle.jc_top.specs.declared.status.Status.TheVariants as status
-use Rattle.jc_top.specs.declared.status.Fault.{Fault}
-use Rattle.jc_top.specs.declared.status.Fault.TheVariants as faults
-use Rattle.jc_top.specs.declared.output.Write.{Write as Written}
-use Rattle.jc_top.specs.declared.stop.Stop.{Stop}
-use Rattle.jc_top.specs.declared.stop.Stop.TheVariants as stops
-use Rattle.jc_top.specs.Words.{Word}
+use Rattle.jc_work.specs.declared.status.Status.{Status}
+use Rattle.jc_work.specs.declared.status.Status.TheVariants as status
+use Rattle.jc_work.specs.declared.status.Fault.{Fault}
+use Rattle.jc_work.specs.declared.status.Fault.TheVariants as faults
+use Rattle.jc_work.specs.declared.output.Write.{Write as Written}
+use Rattle.jc_work.specs.declared.stop.Stop.{Stop}
+use Rattle.jc_work.specs.declared.stop.Stop.TheVariants as stops
+use Rattle.jc_work.specs.Step.{Word}
 use Rattle.jc_top.specs.Command.{Command, inputs_of, HasNoErrLine, Means, NoForm}
 use Rattle.jc_top.specs.Texts.{usage_text, cannot_read, cannot_write, cannot_write_output, fault_text}
-use Rattle.jc_top.specs.Looks.{write_seen}
-use Rattle.jc_top.specs.World.{World, world, Counts, counts, NoneRose, Write, to_file, to_out, to_err, Landed, after, after_write, grown, Broken, StopsIn}
-use Rattle.jc_top.specs.Work.{StopsAt, Answer, Answers, merged, merge_refused, informed, exec_info_refused, listed, class_refused, reported, report_refused, report_clashes, instrumented, refusing, IsWork, usage, unreadable, answered, WorkEnds, DoesWork}
-use Rattle.jc_top.specs.Outcome.{Rises, ReadStops, ReadsStop, Read, Prepares, FailsFor, FailsAs, WroteAll, IsFileWrite, IsTextWrite, Writing, Runs, Says, Reports, message_of, status_of}
+use Rattle.jc_work.specs.Seen.{write_seen}
+use Rattle.jc_work.specs.Step.{World, world, Counts, counts, Write, to_file, to_out, to_err, Landed, after, after_write, grown, Broken}
+use Rattle.jc_work.specs.Ending.{NoneRose}
+use Rattle.jc_top.specs.World.{StopsIn}
+use Rattle.jc_top.specs.Work.{StopsAt, Answers, IsWork, usage, unreadable, answered, WorkEnds, DoesWork}
+use Rattle.jc_work.specs.Answered.{Answer, refusing}
+use Rattle.jc_exec_commands.specs.Merge.{merged, merge_refused}
+use Rattle.jc_exec_commands.specs.ExecInfo.{informed, exec_info_refused}
+use Rattle.jc_class_commands.specs.ClassInfo.{listed, class_refused}
+use Rattle.jc_class_commands.specs.Report.{reported, report_refused, report_clashes}
+use Rattle.jc_class_commands.specs.Instrument.{instrumented}
+use Rattle.jc_work.specs.Step.{Rises}
+use Rattle.jc_top.specs.Outcome.{ReadStops, ReadsStop, Read, Prepares, FailsFor, FailsAs, WroteAll, IsFileWrite, IsTextWrite, Writing, Runs, Says, Reports, message_of, status_of}
 use Rattle.jc_top.specs.Outcome.{Kept, BreaksOff, ToldEnds, IsUnread, broken_text, IsUnwritten, IsOutOfMemory, Cause, IsOrMemory, Ends}
 use Rattle.jc_top.proofs.WorkLaws.{one_ending}
 

@@ -12,24 +12,32 @@ use Rattle.jc_exec.specs.Store.{Store}
 use Rattle.jc_exec.specs.Writing.{exec_text}
 use Rattle.std.proofs.lemmas.Bool.{cases_lt}
 use Rattle.std.proofs.lemmas.List.{length-map}
-use Rattle.jc_top.specs.declared.status.Status.{Status}
-use Rattle.jc_top.specs.declared.status.Status.TheVariants as status
-use Rattle.jc_top.specs.declared.status.Fault.TheVariants as fault
-use Rattle.jc_top.specs.Words.{Word, in_folder}
+use Rattle.jc_work.specs.declared.status.Status.{Status}
+use Rattle.jc_work.specs.declared.status.Status.TheVariants as status
+use Rattle.jc_work.specs.declared.status.Fault.TheVariants as fault
+use Rattle.jc_work.specs.Step.{Word}
+use Rattle.jc_top.specs.Words.{in_folder}
 use Rattle.jc_top.specs.Command.{Command, merge, exec_info, class_info, report, instrument, inputs_of, Means, NoForm}
 use Rattle.jc_top.specs.Texts.{usage_text, cannot_read}
-use Rattle.jc_top.specs.World.{Write, to_file, to_out, to_err}
-use Rattle.jc_top.specs.Work.{IsFile, Holds, IsNoFile, CantRead, AreRead, StopsAt, Answer, Answers, merged, merge_refused, informed, exec_info_refused, listed, class_refused, reported, report_refused, report_clashes, instrumented, refusing, Work, IsWork, usage, unreadable, answered, WorkEnds}
+use Rattle.jc_work.specs.Step.{Write, to_file, to_out, to_err}
+use Rattle.jc_work.specs.Step.{IsFile}
+use Rattle.jc_top.specs.Work.{Holds, IsNoFile, CantRead, AreRead, StopsAt, Answers, Work, IsWork, usage, unreadable, answered, WorkEnds}
+use Rattle.jc_work.specs.Answered.{Answer, refusing}
+use Rattle.jc_exec_commands.specs.Merge.{merged, merge_refused}
+use Rattle.jc_exec_commands.specs.ExecInfo.{informed, exec_info_refused}
+use Rattle.jc_class_commands.specs.ClassInfo.{listed, class_refused}
+use Rattle.jc_class_commands.specs.Report.{reported, report_refused, report_clashes}
+use Rattle.jc_class_commands.specs.Instrument.{instrumented}
 use Rattle.jc_base.specs.declared.Refusal.{Refusal}
-use Rattle.jc_top.specs.ClassInfo.{AreListed, RefusedAt}
-use Rattle.jc_top.specs.ExecData.{IsUnionOf, IsFirstRefused, IsFirstRefusedAlone}
-use Rattle.jc_top.specs.ExecInfo.{AreInfo}
-use Rattle.jc_top.specs.Instrument.{AreFileWrites}
-use Rattle.jc_top.proofs.ExecDataLaws.{one_union_of, union_or_refused, one_refused, some_union_or_refused, data_or_refused, one_refused_alone, some_data_or_refused}
-use Rattle.jc_top.proofs.InfoLaws.{one_info, info_is_data, data_has_info}
-use Rattle.jc_top.proofs.ListingLaws.{one_list, listed_or_refused, one_refusal, some_list}
-use Rattle.jc_top.proofs.InstrumentLaws.{one_writes, some_writes}
-use Rattle.jc_top.proofs.ReportAnswerLaws.{ReportAnswer, by_data, by_clash, one_report_answer, some_report_answer, reported_so, files_behind}
+use Rattle.jc_class_commands.specs.ClassInfo.{AreListed, RefusedAt}
+use Rattle.jc_exec_commands.specs.ExecData.{IsUnionOf, IsFirstRefused, IsFirstRefusedAlone}
+use Rattle.jc_exec_commands.specs.ExecInfo.{AreInfo}
+use Rattle.jc_class_commands.specs.Instrument.{AreFileWrites}
+use Rattle.jc_exec_commands.proofs.ExecDataLaws.{one_union_of, union_or_refused, one_refused, some_union_or_refused, data_or_refused, one_refused_alone, some_data_or_refused}
+use Rattle.jc_exec_commands.proofs.InfoLaws.{one_info, info_is_data, data_has_info}
+use Rattle.jc_class_commands.proofs.ListingLaws.{one_list, listed_or_refused, one_refusal, some_list}
+use Rattle.jc_class_commands.proofs.InstrumentLaws.{one_writes, some_writes}
+use Rattle.jc_class_commands.proofs.ReportAnswerLaws.{ReportAnswer, by_data, by_clash, one_report_answer, some_report_answer, reported_so, files_behind}
 use Rattle.jc_top.proofs.CommandLaws.{one_command, command_or_none}
 
 -- ---- reading

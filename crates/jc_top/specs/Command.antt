@@ -2,7 +2,8 @@
 use Rattle.std.specs.Prelude.{◌≡◌, ◌≢◌, ⊤, Bool, ◌&&◌, IsTrue, List, [], ◌∷◌, ◌++◌, map, codes, Option, Some, None, option_to_list, unwrap_or, if◌then◌else◌}
 use Rattle.std.specs.List.{AllByRecursion, list_all}
 use Rattle.std.specs.Str.{bytes_eq}
-use Rattle.jc_top.specs.Words.{Word, Use, Call, Scan, call_words, uses_of, is_value, is_file, is_relative, in_folder, are_distinct, scan}
+use Rattle.jc_work.specs.Step.{Word}
+use Rattle.jc_top.specs.Words.{Use, Call, Scan, call_words, uses_of, is_value, is_file, is_relative, in_folder, are_distinct, scan}
 
 pub data Command : Type 0 where
   -- writes the union of the execution data in the inputs

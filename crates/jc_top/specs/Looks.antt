@@ -7,14 +7,15 @@ use Rattle.jc_top.specs.declared.words.Front.{Front}
 use Rattle.jc_top.specs.declared.words.Front.TheVariants as fronts
 use Rattle.jc_top.specs.declared.command.Command.{Command as Called}
 use Rattle.jc_top.specs.declared.command.Command.TheVariants as commands
-use Rattle.jc_top.specs.declared.instrument.Decided.{Decided}
-use Rattle.jc_top.specs.declared.instrument.Decided.TheVariants as decided
-use Rattle.jc_top.specs.declared.output.Write.{Write as Written}
-use Rattle.jc_top.specs.declared.output.Write.TheVariants as writes
-use Rattle.jc_top.specs.Words.{Use, Scan, words_of, in_folder, scan, with_use}
+use Rattle.jc_class_commands.specs.declared.instrument.Decided.{Decided}
+use Rattle.jc_class_commands.specs.declared.instrument.Decided.TheVariants as decided
+use Rattle.jc_work.specs.declared.output.Write.{Write as Written}
+use Rattle.jc_work.specs.declared.output.Write.TheVariants as writes
+use Rattle.jc_top.specs.Words.{Use, Scan, in_folder, scan, with_use}
+use Rattle.jc_work.specs.Seen.{words_of}
 use Rattle.jc_top.specs.Command.{Command, merge, exec_info, class_info, report, instrument}
-use Rattle.jc_top.specs.Instrument.{IsDecision, refused_file, accepted_file}
-use Rattle.jc_top.specs.World.{Write, to_file, to_out, to_err}
+use Rattle.jc_class_commands.specs.Instrument.{IsDecision, refused_file, accepted_file}
+use Rattle.jc_work.specs.Step.{Write, to_file, to_out, to_err}
 
 abbrev pub use_of : Used → Use
 use_of u = record { option = u.option.now; value = u.value.now }

@@ -1,7 +1,8 @@
 //! The commands, and the words that each is called by.
 ghost use Rattle.std.specs.Prelude.{◌≡◌, ◌<◌, ◌^◌, ℕ, List, length, map, Option, Ok, Err, Some, None, IfOk, IfSome};
 ghost use Rattle.std.specs.Option.{option_map};
-ghost use Rattle.jc_top.specs.Words.{Word, words_of};
+ghost use Rattle.jc_work.specs.Step.{Word};
+ghost use Rattle.jc_work.specs.Seen.{words_of};
 ghost use Rattle.jc_top.specs.Command.{inputs_of, decide, decide_merge, decide_exec_info, decide_class_info, decide_report, decide_instrument};
 ghost use Rattle.jc_top.specs.Looks.{scan_of, command_seen, HasTargets};
 ghost use Rattle.jc_top.specs.Outcome.{CommandRead};

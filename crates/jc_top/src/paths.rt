@@ -2,7 +2,8 @@
 ghost use Rattle.std.specs.Prelude.{◌≡◌, ◌++◌, ◌∷◌, [], Bool, IfOk, map, not, string_bytes};
 ghost use Rattle.std.specs.List.{list_all, list_any};
 ghost use Rattle.std.specs.Str.{bytes_eq};
-ghost use Rattle.jc_top.specs.Words.{components, is_component, is_value, is_file, is_relative, in_folder, are_distinct, words_of};
+ghost use Rattle.jc_top.specs.Words.{components, is_component, is_value, is_file, is_relative, in_folder, are_distinct};
+ghost use Rattle.jc_work.specs.Seen.{words_of};
 
 use crate::words::is_value;
 use indexmap::IndexSet;

@@ -2,7 +2,8 @@
 ghost use Rattle.std.specs.Prelude.{◌≡◌, ◌∷◌, ◌++◌, IfOk, map};
 ghost use Rattle.std.specs.Option.{option_map, option_to_list};
 ghost use Rattle.std.specs.List.{list_all};
-ghost use Rattle.jc_top.specs.Words.{is_value, are_distinct, words_of};
+ghost use Rattle.jc_top.specs.Words.{is_value, are_distinct};
+ghost use Rattle.jc_work.specs.Seen.{words_of};
 ghost use Rattle.jc_top.specs.Command.{first_use, are_report_words};
 ghost use Rattle.jc_top.specs.Looks.{use_of};
 

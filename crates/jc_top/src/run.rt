@@ -1,10 +1,11 @@
 //! The top call, which does all that the program does.
 ghost use Rattle.std.specs.Prelude.{◌≡◌, ◌<◌, ◌^◌, ℕ, List, Option, length};
 ghost use Rattle.jc_base.specs.Outside.{FileMap};
-ghost use Rattle.jc_top.specs.Words.{Word, words_of};
+ghost use Rattle.jc_work.specs.Step.{Word};
+ghost use Rattle.jc_work.specs.Seen.{words_of};
 ghost use Rattle.jc_top.specs.Command.{inputs_of};
 ghost use Rattle.jc_top.specs.Looks.{command_seen, HasTargets};
-ghost use Rattle.jc_top.specs.World.{world, counts};
+ghost use Rattle.jc_work.specs.Step.{world, counts};
 ghost use Rattle.jc_top.specs.Work.{Work, IsWork};
 ghost use Rattle.jc_top.specs.Outcome.{Prepares, Runs, Ends};
 

@@ -1,7 +1,8 @@
 //! The words of the command line, cut into uses of options and files by their looks alone.
 ghost use Rattle.std.specs.Prelude.{◌≡◌, IfOk, length};
 ghost use Rattle.std.specs.Option.{option_map};
-ghost use Rattle.jc_top.specs.Words.{words_of, is_value, is_option, scan};
+ghost use Rattle.jc_work.specs.Seen.{words_of};
+ghost use Rattle.jc_top.specs.Words.{is_value, is_option, scan};
 ghost use Rattle.jc_top.specs.Looks.{scan_of, FrontIs};
 
 use jc_base::Memory;

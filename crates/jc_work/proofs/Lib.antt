@@ -8,3 +8,4 @@ pub mod Prefix
 pub mod NoFault
 pub mod AnsweredLaws
 pub mod CauseLaws
+pub mod ListLaws

@@ -1,5 +1,5 @@
 -- What the code's values stand for.
-use Rattle.std.specs.Prelude.{ℕ, List, map, Option, Some, None, String, string_bytes}
+use Rattle.std.specs.Prelude.{◌≡◌, ◌++◌, ℕ, List, map, Option, Some, None, String, string_bytes}
 use Rattle.std.specs.Borrow.{Bor}
 use Rattle.std.specs.declared.alloc.Global.{Global}
 use Rattle.jc_outside.specs.declared.files.FileFault.{FileFault}
@@ -34,3 +34,11 @@ read_stop file_faults.Memory path = stops.Memory
 read_stop file_faults.Failed path = stops.Read path
 read_stop file_faults.Missing path = stops.Read path
 read_stop file_faults.TooLarge path = stops.Read path
+
+-- these writes were put last
+abbrev pub Puts : List Written → List Write → List Written → Type 0
+Puts old more new = map write_seen new ≡ map write_seen old ++ more
+
+-- the lines were put last, each as one write on `out`
+abbrev pub Prints : List Written → List (List ℕ) → List Written → Type 0
+Prints old lines new = map write_seen new ≡ map write_seen old ++ map to_out lines

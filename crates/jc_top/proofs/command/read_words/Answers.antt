@@ -1,7 +1,8 @@
 use Rattle.std.proofs.Common.{Option, option_map, string_bytes, arith, sym, ◌∙◌, ap, subst}
 use Rattle.std.specs.Option.{IfSome}
 use Rattle.jc_top.specs.declared.command.Command.{Command as Called}
-use Rattle.jc_top.specs.Words.{Word, words_of}
+use Rattle.jc_work.specs.Step.{Word}
+use Rattle.jc_work.specs.Seen.{words_of}
 use Rattle.jc_top.specs.Command.{decide}
 use Rattle.jc_top.specs.Looks.{scan_of, command_seen, HasTargets}
 use Rattle.jc_top.proofs.CommandLaws.{no_name, not_cut, not_decided, is_decided, few_inputs}

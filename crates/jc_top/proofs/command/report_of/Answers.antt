@@ -3,7 +3,7 @@ use Rattle.std.proofs.lemmas.Bool.Decides.{nat_tests}
 use Rattle.std.proofs.lemmas.List.{length-map}
 use Rattle.std.specs.Option.{option_map}
 use Rattle.jc_top.specs.declared.words.Use.{Use as Used}
-use Rattle.jc_top.specs.Words.{words_of}
+use Rattle.jc_work.specs.Seen.{words_of}
 use Rattle.jc_top.specs.Command.{report, decide_report}
 use Rattle.jc_top.specs.Looks.{use_of}
 use Rattle.jc_top.proofs.ReportWordsLaws.{report_taken, report_left}

@@ -1,5 +1,6 @@
 use Rattle.std.proofs.Common.{◌≡◌, map, take}
-use Rattle.jc_top.specs.Words.{in_folder, words_of}
+use Rattle.jc_top.specs.Words.{in_folder}
+use Rattle.jc_work.specs.Seen.{words_of}
 use Rattle.jc_top.proofs.paths.all_in_folder.Given as goal
 
 -- the paths so far are those in the folder

@@ -5,7 +5,8 @@ use Rattle.std.proofs.lemmas.Iterator.Consumers.{YieldsList-from_chain, YieldsLi
 use Rattle.std.proofs.lemmas.List.{map-append, length_push}
 use Rattle.std.specs.List.{list_any}
 use Rattle.std.specs.Str.{bytes_eq}
-use Rattle.jc_top.specs.Words.{Word, are_distinct}
+use Rattle.jc_work.specs.Step.{Word}
+use Rattle.jc_top.specs.Words.{are_distinct}
 use Rattle.jc_top.proofs.PathLaws.{seen_twice, seen_once}
 use Rattle.jc_top.proofs.paths.are_all_distinct.Goals as goal
 

@@ -1,7 +1,8 @@
 use Rattle.std.proofs.Common.{sym, ◌∙◌, ap}
 use Rattle.std.proofs.lemmas.List.{take_all}
 use Rattle.std.specs.List.{list_all}
-use Rattle.jc_top.specs.Words.{is_relative, words_of}
+use Rattle.jc_top.specs.Words.{is_relative}
+use Rattle.jc_work.specs.Seen.{words_of}
 use Rattle.jc_top.proofs.PathLaws.{all_on, all_stop}
 use Rattle.jc_top.proofs.paths.are_relative.Goals as goal
 

@@ -1,7 +1,8 @@
 use Rattle.std.proofs.Common.{sym, ◌∙◌, ap}
 use Rattle.std.proofs.lemmas.List.{take_all}
 use Rattle.std.specs.List.{list_all}
-use Rattle.jc_top.specs.Words.{is_value, words_of}
+use Rattle.jc_top.specs.Words.{is_value}
+use Rattle.jc_work.specs.Seen.{words_of}
 use Rattle.jc_top.proofs.PathLaws.{all_on, all_stop}
 use Rattle.jc_top.proofs.paths.are_values.Goals as goal
 

@@ -1,7 +1,7 @@
 use Rattle.std.proofs.Common.{◌≡◌, false, take}
 use Rattle.std.specs.List.{list_any}
 use Rattle.std.specs.Str.{bytes_eq}
-use Rattle.jc_top.specs.Words.{words_of}
+use Rattle.jc_work.specs.Seen.{words_of}
 use Rattle.jc_top.proofs.paths.is_among.Given as goal
 
 -- the word is none of those so far

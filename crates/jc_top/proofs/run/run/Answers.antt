@@ -1,8 +1,9 @@
 use Rattle.std.proofs.Common.{List, subst, map}
 use Rattle.std.proofs.lemmas.Result.{err_from_is_err_and}
-use Rattle.jc_top.specs.declared.output.Write.{Write as Written}
-use Rattle.jc_top.specs.Looks.{command_seen, write_seen}
-use Rattle.jc_top.specs.World.{world, counts}
+use Rattle.jc_work.specs.declared.output.Write.{Write as Written}
+use Rattle.jc_top.specs.Looks.{command_seen}
+use Rattle.jc_work.specs.Seen.{write_seen}
+use Rattle.jc_work.specs.Step.{world, counts}
 use Rattle.jc_top.specs.Outcome.{WroteAll}
 use Rattle.jc_top.proofs.RunLaws.{runs_on, run_stops}
 use Rattle.jc_top.proofs.run.run.Goals as goal

@@ -1,6 +1,6 @@
-use Rattle.jc_top.specs.Words.{words_of}
+use Rattle.jc_work.specs.Seen.{words_of}
 use Rattle.jc_top.specs.Looks.{command_seen}
-use Rattle.jc_top.specs.World.{world, counts}
+use Rattle.jc_work.specs.Step.{world, counts}
 use Rattle.jc_top.proofs.RunLaws.{done_ends, stop_ends, usage_ends, memory_ends}
 use Rattle.jc_top.proofs.run.run_tool.Goals as goal
 

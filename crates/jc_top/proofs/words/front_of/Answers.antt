@@ -1,5 +1,6 @@
 use Rattle.std.proofs.Common.{length, string_bytes, sym, ◌∙◌, ap, arith}
-use Rattle.jc_top.specs.Words.{words_of, is_option}
+use Rattle.jc_work.specs.Seen.{words_of}
+use Rattle.jc_top.specs.Words.{is_option}
 use Rattle.jc_top.proofs.CommandLaws.{scan_lacks, scan_uses, scan_files, scan_no_words, no_words}
 use Rattle.jc_top.proofs.words.front_of.Goals as goal
 

@@ -1,5 +1,6 @@
 use Rattle.std.proofs.Common.{◌≡◌, map, length}
-use Rattle.jc_top.specs.Words.{scan, words_of}
+use Rattle.jc_top.specs.Words.{scan}
+use Rattle.jc_work.specs.Seen.{words_of}
 use Rattle.jc_top.specs.Looks.{use_of}
 use Rattle.jc_top.proofs.CommandLaws.{behind}
 use Rattle.jc_top.proofs.words.scan_words.Given as goal

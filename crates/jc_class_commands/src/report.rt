@@ -1,0 +1,160 @@
+//! The command `report`.
+ghost use Rattle.std.specs.Prelude.{◌≡◌, ◌≤◌, ◌<◌, ◌^◌, ◌∷◌, ◌++◌, [], All, Some, None, length, map, option_map, IfOk};
+ghost use Rattle.jc_base.specs.Reader.{most_read};
+ghost use Rattle.jc_class_commands.specs.Report.{report_text};
+ghost use Rattle.jc_class_commands.specs.ReportSteps.{data_records, data_path, ReportsWith};
+ghost use Rattle.jc_work.specs.Seen.{words_of};
+ghost use Rattle.jc_work.specs.Answered.{AnswersWith};
+
+use crate::class_report::{Data, Looked, look_at_all};
+use crate::exec_info::data_of;
+use crate::input::{read_all, read_one};
+use crate::output::Write;
+use crate::stop::{Stop, exec_stop};
+use jc_base::{Bytes, Files, Memory};
+use jc_report::{Counted, csv_text, rows};
+use std::alloc::Global;
+use std::marker::Sync;
+use std::thread::Threads;
+
+/// The CSV text of classes.
+fn csv_of(alloc: Global, name: &str, classes: &[Counted]) -> Result<Vec<u8>, Memory>
+    ensures { IfOk result (λ text. text.items ≡ report_text name.now classes.now) }
+{
+    let rows = rows(alloc, name.as_bytes(), classes)?;
+    csv_text(alloc, &rows)
+}
+
+/// The lines, and behind them the write of the report.
+fn with_file<'a>(
+    lines: Vec<Write<'a>>,
+    path: &'a str,
+    bytes: Vec<u8>,
+) -> Result<Vec<Write<'a>>, Memory>
+    ensures { IfOk result (λ writes. writes.items ≡ lines.entry.items ++ Write.File path.entry bytes ∷ []) }
+{
+    let mut writes = lines;
+    writes.push(Write::File { path, bytes })?;
+    Ok(writes)
+}
+
+/// The writes of a report of class files.
+fn reported<'a, R: Threads + Sync>(
+    rt: &R,
+    alloc: Global,
+    out: &'a str,
+    name: &str,
+    exec_data: Option<&Data<'a>>,
+    paths: &[String],
+    texts: Vec<Bytes>,
+) -> Result<Vec<Write<'a>>, Stop<'a>>
+    requires each { length texts.items ≡ length paths.now }
+    requires short { All (λ t. length t ≤ most_read) texts.items }
+    ensures { ReportsWith out.entry.now name.now (data_records exec_data.entry) (data_path exec_data.entry)
+        (words_of paths.now) texts.items result }
+{
+    let looked = look_at_all(rt, alloc, exec_data, paths, texts)?;
+    let bytes = csv_of(alloc, name, &looked.classes)?;
+    Ok(with_file(looked.lines, out, bytes)?)
+}
+
+/// The writes of a report without execution data.
+fn reported_without_data<'a, R: Threads + Sync>(
+    rt: &R,
+    alloc: Global,
+    out: &'a str,
+    name: &str,
+    paths: &[String],
+    texts: Vec<Bytes>,
+) -> Result<Vec<Write<'a>>, Stop<'a>>
+    requires each { length texts.items ≡ length paths.now }
+    requires short { All (λ t. length t ≤ most_read) texts.items }
+    ensures { AnswersWith (report out.entry.now name.now None (words_of paths.now)) texts.items result }
+{
+    reported(rt, alloc, out, name, None, paths, texts)
+}
+
+/// The writes of a report by the execution data of a file.
+fn reported_by_data<'a, R: Threads + Sync>(
+    rt: &R,
+    alloc: Global,
+    out: &'a str,
+    name: &str,
+    exec: &'a str,
+    bytes: &[u8],
+    paths: &[String],
+    texts: Vec<Bytes>,
+) -> Result<Vec<Write<'a>>, Stop<'a>>
+    requires exec_short { length bytes.now ≤ most_read }
+    requires each { length texts.items ≡ length paths.now }
+    requires short { All (λ t. length t ≤ most_read) texts.items }
+    ensures { AnswersWith (report out.entry.now name.now (Some exec.entry.now) (words_of paths.now)) (bytes.now ∷ texts.items) result }
+{
+    match data_of(alloc, bytes) {
+        Ok(store) => {
+            let exec_data = Data { path: exec, store };
+            reported(rt, alloc, out, name, Some(&exec_data), paths, texts)
+        }
+        Err(fail) => Err(exec_stop(fail, 0, exec)),
+    }
+}
+
+/// Reads the class files, and makes the writes of a report without execution data.
+fn prepare_without_data<'a, R: Threads + Sync, F: Files>(
+    rt: &R,
+    alloc: Global,
+    files: &mut F,
+    out: &'a str,
+    name: &str,
+    paths: &'a [String],
+) -> Result<Vec<Write<'a>>, Stop<'a>>
+    ensures gives { Prepares (F.contents files.old) (report out.entry.now name.now None (words_of paths.entry.now))
+        (F.read_faults files.old) (F.read_faults files.new) result }
+    ensures contents { F.contents files.new ≡ F.contents files.old }
+    ensures write_faults { F.write_faults files.new ≡ F.write_faults files.old }
+{
+    let texts = read_all(alloc, files, paths)?;
+    reported_without_data(rt, alloc, out, name, paths, texts)
+}
+
+/// Reads the execution data and the class files, and makes the writes of a report.
+fn prepare_by_data<'a, R: Threads + Sync, F: Files>(
+    rt: &R,
+    alloc: Global,
+    files: &mut F,
+    out: &'a str,
+    name: &str,
+    exec: &'a str,
+    paths: &'a [String],
+) -> Result<Vec<Write<'a>>, Stop<'a>>
+    ensures gives { Prepares (F.contents files.old) (report out.entry.now name.now (Some exec.entry.now) (words_of paths.entry.now))
+        (F.read_faults files.old) (F.read_faults files.new) result }
+    ensures contents { F.contents files.new ≡ F.contents files.old }
+    ensures write_faults { F.write_faults files.new ≡ F.write_faults files.old }
+{
+    let bytes = read_one(alloc, files, exec)?;
+    let texts = read_all(alloc, files, paths)?;
+    reported_by_data(rt, alloc, out, name, exec, &bytes, paths, texts)
+}
+
+/// The writes of `report --csv OUT [--name NAME] [--exec IN] CLASSFILE..`.
+pub fn prepare_report<'a, R: Threads + Sync, F: Files>(
+    rt: &R,
+    alloc: Global,
+    files: &mut F,
+    out: &'a str,
+    name: &str,
+    exec: Option<&'a str>,
+    paths: &'a [String],
+) -> Result<Vec<Write<'a>>, Stop<'a>>
+    ensures gives { Prepares (F.contents files.old)
+        (report out.entry.now name.now (option_map (λ w. w.now) exec.entry) (words_of paths.entry.now))
+        (F.read_faults files.old) (F.read_faults files.new) result }
+    ensures contents { F.contents files.new ≡ F.contents files.old }
+    ensures write_faults { F.write_faults files.new ≡ F.write_faults files.old }
+{
+    match exec {
+        None => prepare_without_data(rt, alloc, files, out, name, paths),
+        Some(exec) => prepare_by_data(rt, alloc, files, out, name, exec, paths),
+    }
+}

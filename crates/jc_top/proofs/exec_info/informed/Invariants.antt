@@ -1,8 +1,0 @@
-use Rattle.std.proofs.Common.{take}
-use Rattle.jc_top.specs.Words.{words_of}
-use Rattle.jc_top.proofs.InfoLaws.{InfoOf}
-use Rattle.jc_top.proofs.exec_info.informed.Given as goal
-
--- the files so far have their lines
-abbrev pub invariant-informing : goal.invariant-informing
-invariant-informing l = InfoOf (words_of (take l.index l.paths)) (take l.index l.texts) l.writes.items
