@@ -20,7 +20,7 @@ use Rattle.jc_instrument.proofs.SameAnalysisLaws.{same_analysis}
 use Rattle.jc_instrument.proofs.EachAnalysisLaws.{each_analysis, analysis_or_reason}
 use Rattle.jc_work.specs.declared.output.Write.{Write as Written}
 use Rattle.jc_work.specs.declared.output.Write.TheVariants as written
-use Rattle.jc_work.specs.declared.status.Status.TheVariants as status
+use Rattle.jc_work.specs.Part.{gives}
 use Rattle.jc_work.specs.declared.status.Fault.TheVariants as fault
 use Rattle.jc_work.specs.Step.{Word}
 use Rattle.jc_work.specs.Seen.{words_of}
@@ -28,7 +28,7 @@ use Rattle.jc_class_commands.specs.ClassInfo.{class_line, method_line, class_tex
 use Rattle.jc_work.specs.Seen.{write_seen}
 use Rattle.jc_work.specs.Step.{Write, to_out}
 use Rattle.jc_work.specs.Step.{IsFile}
-use Rattle.jc_class_commands.specs.ClassInfo.{listed, class_refused}
+use Rattle.jc_class_commands.specs.ClassInfo.{ListAnswers, listed, class_refused}
 use Rattle.jc_work.specs.Answered.{refusing}
 use Rattle.jc_work.specs.Stopping.{class_stop}
 use Rattle.jc_work.specs.Answered.{AnswersWith}
@@ -177,13 +177,13 @@ more_lines texts writes more i t text so_far within at is grows = record {
 listing_stops : (words : List (String Global)) (texts : List (List ℕ)) (writes : List Written) (i : ℕ) (w : String Global) (t : List ℕ)
     → (fail : Fail Refusal) (file : Bor (List ℕ)) → length words ≡ length texts → LinesOf (take i texts) writes → i < length texts
     → t ≡ get_or texts i t → w ≡ get_or words i w → file.now ≡ string_bytes w → Said fail (λ r. Lists t (refuses r))
-    → AnswersWith (class_info (words_of words)) texts (Err (class_stop fail i file))
+    → AnswersWith (ListAnswers (words_of words) texts) (Err (class_stop fail i file))
 listing_stops words texts writes i w t fails.Memory file same so_far within text word path reason = tt
 listing_stops words texts writes i w t (fails.Said why) file same so_far within text word path reason =
     let counted : 0 + i ≡ i = omega arith in
     let at : string_bytes w ≡ get_or (words_of words) i (string_bytes w) =
     ap string_bytes word ∙ sym (get_or-map string_bytes words i w (string_bytes w) (omega (arith, same, within))) in
-    subst (λ (p : Word). Answers (class_info (words_of words)) texts (refusing p (fault.Class i why))) (sym path)
+    subst (λ (p : Word). ListAnswers (words_of words) texts (refusing p (fault.Class i why))) (sym path)
     (class_refused i (string_bytes w) why (subst (λ (n : ℕ). RefusedAt 0 (words_of words) texts n (string_bytes w) why) counted
     (refused_here 0 (words_of words) texts so_far.lines i (string_bytes w) t why (length-map words string_bytes ∙ same) within
     so_far.listed text at reason)))
@@ -203,13 +203,13 @@ module _ (texts : List (List ℕ)) (answers : List (Result (Vec ℕ Global) (Fai
 
   -- the file is the first that is refused
   pub listing_refused : (words : List (String Global)) (w : String Global) (fail : Fail Refusal) (file : Bor (List ℕ)) → length words ≡ length texts
-      → answer ≡ Err fail → w ≡ get_or words index w → file.now ≡ string_bytes w → AnswersWith (class_info (words_of words)) texts (Err (class_stop fail index file))
+      → answer ≡ Err fail → w ≡ get_or words index w → file.now ≡ string_bytes w → AnswersWith (ListAnswers (words_of words) texts) (Err (class_stop fail index file))
   listing_refused words w fail file same is word path =
       let at : w ≡ get_or words n w = word ∙ ap (λ (k : ℕ). get_or words k w) place.index_is in
-      subst (λ (k : ℕ). AnswersWith (class_info (words_of words)) texts (Err (class_stop fail k file))) (sym place.index_is)
+      subst (λ (k : ℕ). AnswersWith (ListAnswers (words_of words) texts) (Err (class_stop fail k file))) (sym place.index_is)
       (listing_stops words texts writes n w own.0 fail file same so_far within own.1 at path (subst (IsListing own.0) is own.2))
 
-pub listing_done : (words : List Word) (texts : List (List ℕ)) (writes : Vec Written Global) (i : ℕ) → LinesOf (take i texts) writes.items → length texts ≤ i → AnswersWith (class_info words) texts (Ok writes)
+pub listing_done : (words : List Word) (texts : List (List ℕ)) (writes : Vec Written Global) (i : ℕ) → LinesOf (take i texts) writes.items → length texts ≤ i → AnswersWith (ListAnswers words texts) (Ok writes)
 listing_done words texts writes i so_far all =
-    subst (λ (ws : List Write). Answers (class_info words) texts (record { writes = ws; status = status.Done })) (sym so_far.writes_are)
+    subst (λ (ws : List Write). ListAnswers words texts (gives ws)) (sym so_far.writes_are)
     (listed so_far.lines (subst (λ (ts : List (List ℕ)). AreListed ts so_far.lines) (take_all i texts all) so_far.listed))

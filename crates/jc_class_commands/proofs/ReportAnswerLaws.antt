@@ -6,7 +6,7 @@ use Rattle.std.proofs.lemmas.List.{take_all}
 use Rattle.jc_exec.specs.declared.refusal.ExecRefusal.{ExecRefusal}
 use Rattle.jc_exec.specs.Store.{Store}
 use Rattle.jc_report.specs.declared.row.Counted.{Counted}
-use Rattle.jc_work.specs.declared.status.Status.TheVariants as status
+use Rattle.jc_work.specs.Part.{gives}
 use Rattle.jc_work.specs.declared.status.Fault.TheVariants as fault
 use Rattle.jc_work.specs.Step.{Word}
 use Rattle.jc_exec_commands.specs.ExecData.{IsUnionOf, IsFirstRefused, no_data}
@@ -15,14 +15,14 @@ use Rattle.jc_class_commands.specs.ReportSteps.{counted_classes}
 use Rattle.jc_work.specs.Step.{to_file, to_err}
 use Rattle.jc_work.specs.Step.{IsFile}
 use Rattle.jc_work.specs.Answered.{Answer, refusing}
-use Rattle.jc_class_commands.specs.Report.{reported, report_refused, report_clashes}
+use Rattle.jc_class_commands.specs.Report.{ReportAnswers, reported, report_refused, report_clashes}
 use Rattle.jc_class_commands.proofs.CountedLaws.{are_counted, all_counted}
 use Rattle.jc_exec_commands.proofs.ExecDataLaws.{one_union_of, union_of_none, union_or_refused, one_refused, some_union_or_refused}
 use Rattle.jc_class_commands.proofs.ReportLaws.{one_items, some_items, one_clash, no_clash_in_front, none_clashes}
 
 abbrev report_answer : Word → Word → List Word → Store → List ReportedFile → Answer
 report_answer out name paths store items =
-    record { writes = map to_err (lines_of paths items) ++ to_file out (report_text name (counted_classes store.classes items)) ∷ []; status = status.Done }
+    gives (map to_err (lines_of paths items) ++ to_file out (report_text name (counted_classes store.classes items)) ∷ [])
 
 module _ (out name : Word) (exec : Option Word) (paths : List Word) (texts : List (List ℕ)) where
   -- an answer, by what decided it
@@ -38,10 +38,10 @@ module _ (out name : Word) (exec : Option Word) (paths : List Word) (texts : Lis
   -- the answer of a report is made of the classes with the counters that marking gives
   pub reported_so : (store : Store) (items : List ReportedFile) (counted : List Counted) → IsUnionOf (data_texts exec texts) store → AreItems (class_texts exec texts) items
       → first_clash store.classes items ≡ None → AreCountedItems store.classes items counted
-      → ReportAnswer (record { writes = map to_err (lines_of paths items) ++ to_file out (report_text name counted) ∷ []; status = status.Done })
+      → ReportAnswer (gives (map to_err (lines_of paths items) ++ to_file out (report_text name counted) ∷ []))
   reported_so store items counted u are none count =
       by_items store items u are none
-      (ap (λ (cs : List Counted). let a : Answer = record { writes = map to_err (lines_of paths items) ++ to_file out (report_text name cs) ∷ []; status = status.Done } in a)
+      (ap (λ (cs : List Counted). let a : Answer = gives (map to_err (lines_of paths items) ++ to_file out (report_text name cs) ∷ []) in a)
       (all_counted store.classes (first_of_each_id (changed_of items)) counted count))
 
   -- two paths of one file of execution data
@@ -89,7 +89,7 @@ data_of_none store items u =
 
 module _ (out name : Word) (paths : List Word) (texts : List (List ℕ)) where
   with_items : (exec : Option Word) (store : Store) (items : List ReportedFile) (clash : Option ExecRefusal) → IsUnionOf (data_texts exec texts) store
-      → AreItems (class_texts exec texts) items → first_clash store.classes items ≡ clash → (answer : Answer) × Answers (report out name exec paths) texts answer
+      → AreItems (class_texts exec texts) items → first_clash store.classes items ≡ clash → (answer : Answer) × ReportAnswers out name exec paths texts answer
   with_items exec store items None u are none =
       (_, reported store items (counted_classes store.classes items) u are none (are_counted store.classes (first_of_each_id (changed_of items))))
   with_items None store items (Some r) u are clash = absurd (differ (sym (data_of_none store items u) ∙ clash))
@@ -99,10 +99,10 @@ module _ (out name : Word) (paths : List Word) (texts : List (List ℕ)) where
   with_items (Some path) store items (Some r) u are clash =
       let all = take_all (length (class_texts (Some path) texts)) (class_texts (Some path) texts) (omega arith) in (
         _,
-        report_clashes store (length (class_texts (Some path) texts)) items r u (subst (λ (ts : List (List ℕ)). AreItems ts items) (sym all) are) clash,
+        report_clashes path store (length (class_texts (Some path) texts)) items r refl u (subst (λ (ts : List (List ℕ)). AreItems ts items) (sym all) are) clash,
       )
 
-  pub some_report_answer : (exec : Option Word) → AllByRecursion IsFile (class_texts exec texts) → (answer : Answer) × Answers (report out name exec paths) texts answer
+  pub some_report_answer : (exec : Option Word) → AllByRecursion IsFile (class_texts exec texts) → (answer : Answer) × ReportAnswers out name exec paths texts answer
   some_report_answer exec files =
       ⊎_elim (λ union. let items = some_items (class_texts exec texts) files in with_items exec union.0 items.0 (first_clash union.0.classes items.0) union.1 items.1 refl)
       (λ refused. (_, report_refused refused.0 refused.1 refused.2 refused.3)) (some_union_or_refused (option_to_list exec) (data_texts exec texts))

@@ -4,18 +4,14 @@ ghost use Rattle.std.specs.List.{AllZip, flat_map};
 ghost use Rattle.jc_base.specs.Reader.{most_read};
 ghost use Rattle.jc_plan.specs.Analysed.{IsAnalysed};
 ghost use Rattle.jc_class_commands.specs.ClassInfo.{class_end, class_line, class_text};
-ghost use Rattle.jc_class_commands.specs.ClassInfo.{method_end, method_start, method_text, method_line, IsListing};
+ghost use Rattle.jc_class_commands.specs.ClassInfo.{method_end, method_start, method_text, method_line, IsListing, ListAnswers};
 ghost use Rattle.jc_work.specs.Seen.{words_of};
-ghost use Rattle.jc_work.specs.Answered.{AnswersWith};
-ghost use Rattle.jc_work.specs.Stopping.{class_stop};
+ghost use Rattle.jc_work.specs.Answered.{AnswersWith, Prepares};
 
-use crate::Fault;
 use crate::each::each_answer;
-use crate::input::read_all;
-use crate::output::{Write, keep};
-use crate::stop::Stop;
 use jc_base::{Analysed, Body, Bytes, Fail, Files, Memory, Refusal};
 use jc_instrument::analyse;
+use jc_work::{Stop, Write, class_stop, keep, read_all};
 use std::alloc::{AllocError, Global};
 use std::marker::Sync;
 use std::thread::Threads;
@@ -89,19 +85,6 @@ fn class_text(alloc: Global, class: &Analysed) -> Result<Vec<u8>, Memory>
     Ok(text)
 }
 
-/// How a class file that is refused stops the command.
-fn refused<'a>(fail: Fail<Refusal>, path: u32, file: &'a str) -> Stop<'a>
-    ensures { result ≡ class_stop fail path file.entry }
-{
-    match fail {
-        Fail::Memory => Stop::Memory,
-        Fail::Said(refusal) => {
-            let fault = Fault::Class { path, refusal };
-            Stop::Refused { file, fault }
-        }
-    }
-}
-
 /// The lines of a class file, or why it is refused.
 fn listing(alloc: Global, bytes: &[u8]) -> Result<Vec<u8>, Fail<Refusal>>
     requires { length bytes.now ≤ most_read }
@@ -138,14 +121,14 @@ fn listings<'a, R: Threads + Sync>(
     requires few { length paths.now < 2 ^ 32 }
     requires each { length texts.items ≡ length paths.now }
     requires short { All (λ t. length t ≤ most_read) texts.items }
-    ensures { AnswersWith (class_info (words_of paths.entry.now)) texts.items result }
+    ensures { AnswersWith (ListAnswers (words_of paths.entry.now) texts.items) result }
 {
     let answers = all_listings(rt, alloc, texts)?;
     let mut writes = Vec::new(alloc);
     'listing: for (index, answer) in answers.into_iter().enumerate() {
         match answer {
             Ok(text) => keep(&mut writes, text)?,
-            Err(fail) => return Err(refused(fail, index as u32, paths[index].as_str())),
+            Err(fail) => return Err(class_stop(fail, index as u32, paths[index].as_str())),
         }
     }
     Ok(writes)
@@ -159,10 +142,8 @@ pub fn prepare_class_info<'a, R: Threads + Sync, F: Files>(
     paths: &'a [String],
 ) -> Result<Vec<Write<'a>>, Stop<'a>>
     requires { length paths.now < 2 ^ 32 }
-    ensures gives { Prepares (F.contents files.old) (class_info (words_of paths.entry.now))
-        (F.read_faults files.old) (F.read_faults files.new) result }
-    ensures contents { F.contents files.new ≡ F.contents files.old }
-    ensures write_faults { F.write_faults files.new ≡ F.write_faults files.old }
+    ensures { Prepares F.landed (words_of paths.entry.now) (ListAnswers (words_of paths.entry.now)) (F.contents files.old) (F.contents files.new)
+        (F.read_faults files.old) (F.read_faults files.new) (F.write_faults files.old) (F.write_faults files.new) result }
 {
     let texts = read_all(alloc, files, paths)?;
     listings(rt, alloc, paths, texts)

@@ -12,15 +12,14 @@ ghost use Rattle.jc_work.specs.Step.{Word};
 ghost use Rattle.jc_work.specs.Seen.{words_of};
 
 use crate::each::each_answer;
-use crate::message::refused_line;
-use crate::output::Write;
-use crate::stop::{Stop, exec_stop};
+use crate::lines::refused_line;
 use indexmap::IndexSet;
 use jc_base::{Analysed, Bytes, Fail, Memory, Refusal};
 use jc_cover::{counters, covered};
 use jc_exec::{ClassHits, ExecStore, check_fits};
 use jc_instrument::analyse;
 use jc_report::Counted;
+use jc_work::{Stop, Write, exec_stop};
 use std::alloc::Global;
 use std::marker::Sync;
 use std::thread::Threads;

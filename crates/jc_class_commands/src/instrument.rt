@@ -2,20 +2,18 @@
 ghost use Rattle.std.specs.Prelude.{◌≡◌, ◌≤◌, All, length, map, IfOk, OnOk};
 ghost use Rattle.std.specs.List.{AllZip};
 ghost use Rattle.jc_base.specs.Reader.{most_read};
-ghost use Rattle.jc_class_commands.specs.Instrument.{Decision, refused_file, accepted_file, IsDecision, file_writes, AreFileWrites};
+ghost use Rattle.jc_class_commands.specs.Instrument.{Decision, refused_file, accepted_file, IsDecision, file_writes, AreFileWrites, InstrumentAnswers};
 ghost use Rattle.jc_class_commands.specs.Instrument.{IsDecided};
+ghost use Rattle.jc_work.specs.Answered.{Prepares};
 ghost use Rattle.jc_work.specs.Seen.{write_seen, Puts};
 ghost use Rattle.jc_work.specs.Step.{Word};
 ghost use Rattle.jc_work.specs.Seen.{words_of};
-ghost use Rattle.jc_top.specs.Words.{in_folder};
 
 use crate::each::each_answer;
-use crate::input::read_all;
-use crate::message::{accepted_line, refused_line};
-use crate::output::Write;
-use crate::stop::Stop;
+use crate::lines::{accepted_line, refused_line};
 use jc_base::{Bytes, Fail, Files, Memory, Refusal};
 use jc_instrument::{Instrumented, instrument};
+use jc_work::{Stop, Write, read_all};
 use std::alloc::Global;
 use std::marker::Sync;
 use std::thread::Threads;
@@ -155,12 +153,8 @@ pub fn prepare_instrument<'a, R: Threads + Sync, F: Files>(
     targets: &'a [String],
 ) -> Result<Vec<Write<'a>>, Stop<'a>>
     requires { length targets.now ≡ length paths.now }
-    // The paths are those of the files in a folder.
-    ensures gives { (dest : Word) → words_of targets.entry.now ≡ map (in_folder dest) (words_of paths.entry.now)
-        → Prepares (F.contents files.old) (instrument dest (words_of paths.entry.now))
-        (F.read_faults files.old) (F.read_faults files.new) result }
-    ensures contents { F.contents files.new ≡ F.contents files.old }
-    ensures write_faults { F.write_faults files.new ≡ F.write_faults files.old }
+    ensures { Prepares F.landed (words_of paths.entry.now) (InstrumentAnswers (words_of targets.entry.now) (words_of paths.entry.now)) (F.contents files.old) (F.contents files.new)
+        (F.read_faults files.old) (F.read_faults files.new) (F.write_faults files.old) (F.write_faults files.new) result }
 {
     let texts = read_all(alloc, files, paths)?;
     Ok(all_writes(rt, alloc, targets, paths, texts)?)

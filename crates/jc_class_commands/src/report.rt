@@ -1,18 +1,16 @@
 //! The command `report`.
-ghost use Rattle.std.specs.Prelude.{◌≡◌, ◌≤◌, ◌<◌, ◌^◌, ◌∷◌, ◌++◌, [], All, Some, None, length, map, option_map, IfOk};
+ghost use Rattle.std.specs.Prelude.{◌≡◌, ◌≤◌, ◌<◌, ◌^◌, ◌∷◌, ◌++◌, [], All, Some, None, length, map, option_map, option_to_list, IfOk};
 ghost use Rattle.jc_base.specs.Reader.{most_read};
-ghost use Rattle.jc_class_commands.specs.Report.{report_text};
+ghost use Rattle.jc_class_commands.specs.Report.{report_text, ReportAnswers};
 ghost use Rattle.jc_class_commands.specs.ReportSteps.{data_records, data_path, ReportsWith};
 ghost use Rattle.jc_work.specs.Seen.{words_of};
-ghost use Rattle.jc_work.specs.Answered.{AnswersWith};
+ghost use Rattle.jc_work.specs.Answered.{AnswersWith, Prepares};
 
 use crate::class_report::{Data, Looked, look_at_all};
-use crate::exec_info::data_of;
-use crate::input::{read_all, read_one};
-use crate::output::Write;
-use crate::stop::{Stop, exec_stop};
 use jc_base::{Bytes, Files, Memory};
+use jc_exec_commands::data_of;
 use jc_report::{Counted, csv_text, rows};
+use jc_work::{Stop, Write, exec_stop, read_all, read_one};
 use std::alloc::Global;
 use std::marker::Sync;
 use std::thread::Threads;
@@ -69,7 +67,7 @@ fn reported_without_data<'a, R: Threads + Sync>(
 ) -> Result<Vec<Write<'a>>, Stop<'a>>
     requires each { length texts.items ≡ length paths.now }
     requires short { All (λ t. length t ≤ most_read) texts.items }
-    ensures { AnswersWith (report out.entry.now name.now None (words_of paths.now)) texts.items result }
+    ensures { AnswersWith (ReportAnswers out.entry.now name.now None (words_of paths.now) texts.items) result }
 {
     reported(rt, alloc, out, name, None, paths, texts)
 }
@@ -88,7 +86,7 @@ fn reported_by_data<'a, R: Threads + Sync>(
     requires exec_short { length bytes.now ≤ most_read }
     requires each { length texts.items ≡ length paths.now }
     requires short { All (λ t. length t ≤ most_read) texts.items }
-    ensures { AnswersWith (report out.entry.now name.now (Some exec.entry.now) (words_of paths.now)) (bytes.now ∷ texts.items) result }
+    ensures { AnswersWith (ReportAnswers out.entry.now name.now (Some exec.entry.now) (words_of paths.now) (bytes.now ∷ texts.items)) result }
 {
     match data_of(alloc, bytes) {
         Ok(store) => {
@@ -108,10 +106,8 @@ fn prepare_without_data<'a, R: Threads + Sync, F: Files>(
     name: &str,
     paths: &'a [String],
 ) -> Result<Vec<Write<'a>>, Stop<'a>>
-    ensures gives { Prepares (F.contents files.old) (report out.entry.now name.now None (words_of paths.entry.now))
-        (F.read_faults files.old) (F.read_faults files.new) result }
-    ensures contents { F.contents files.new ≡ F.contents files.old }
-    ensures write_faults { F.write_faults files.new ≡ F.write_faults files.old }
+    ensures { Prepares F.landed (words_of paths.entry.now) (ReportAnswers out.entry.now name.now None (words_of paths.entry.now)) (F.contents files.old) (F.contents files.new)
+        (F.read_faults files.old) (F.read_faults files.new) (F.write_faults files.old) (F.write_faults files.new) result }
 {
     let texts = read_all(alloc, files, paths)?;
     reported_without_data(rt, alloc, out, name, paths, texts)
@@ -127,10 +123,8 @@ fn prepare_by_data<'a, R: Threads + Sync, F: Files>(
     exec: &'a str,
     paths: &'a [String],
 ) -> Result<Vec<Write<'a>>, Stop<'a>>
-    ensures gives { Prepares (F.contents files.old) (report out.entry.now name.now (Some exec.entry.now) (words_of paths.entry.now))
-        (F.read_faults files.old) (F.read_faults files.new) result }
-    ensures contents { F.contents files.new ≡ F.contents files.old }
-    ensures write_faults { F.write_faults files.new ≡ F.write_faults files.old }
+    ensures { Prepares F.landed (exec.entry.now ∷ words_of paths.entry.now) (ReportAnswers out.entry.now name.now (Some exec.entry.now) (words_of paths.entry.now)) (F.contents files.old) (F.contents files.new)
+        (F.read_faults files.old) (F.read_faults files.new) (F.write_faults files.old) (F.write_faults files.new) result }
 {
     let bytes = read_one(alloc, files, exec)?;
     let texts = read_all(alloc, files, paths)?;
@@ -147,11 +141,8 @@ pub fn prepare_report<'a, R: Threads + Sync, F: Files>(
     exec: Option<&'a str>,
     paths: &'a [String],
 ) -> Result<Vec<Write<'a>>, Stop<'a>>
-    ensures gives { Prepares (F.contents files.old)
-        (report out.entry.now name.now (option_map (λ w. w.now) exec.entry) (words_of paths.entry.now))
-        (F.read_faults files.old) (F.read_faults files.new) result }
-    ensures contents { F.contents files.new ≡ F.contents files.old }
-    ensures write_faults { F.write_faults files.new ≡ F.write_faults files.old }
+    ensures { Prepares F.landed (option_to_list (option_map (λ w. w.now) exec.entry) ++ words_of paths.entry.now) (ReportAnswers out.entry.now name.now (option_map (λ w. w.now) exec.entry) (words_of paths.entry.now)) (F.contents files.old) (F.contents files.new)
+        (F.read_faults files.old) (F.read_faults files.new) (F.write_faults files.old) (F.write_faults files.new) result }
 {
     match exec {
         None => prepare_without_data(rt, alloc, files, out, name, paths),

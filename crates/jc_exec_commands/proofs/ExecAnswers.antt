@@ -9,18 +9,14 @@ use Rattle.jc_work.specs.Part.{End, gives, stops}
 use Rattle.jc_work.specs.OneWay.{IsOver}
 use Rattle.jc_work.specs.Answered.{Answer, refusing, OneAnswer, HasOneAnswer}
 use Rattle.jc_work.specs.Causes.{IsOwnEnd}
-use Rattle.jc_work.proofs.OneWork.{same_end, gives_or_stops}
+use Rattle.jc_work.proofs.AnsweredLaws.{as_many_texts}
+use Rattle.jc_work.proofs.CauseLaws.{own_refusing}
+use Rattle.jc_work.proofs.OneWork.{gives_or_stops}
 use Rattle.jc_exec_commands.specs.ExecData.{IsUnionOf, IsFirstRefused, IsFirstRefusedAlone}
 use Rattle.jc_exec_commands.specs.ExecInfo.{AreInfo, InfoAnswers, informed, exec_info_refused}
 use Rattle.jc_exec_commands.specs.Merge.{MergeAnswers, merged, merge_refused}
 use Rattle.jc_exec_commands.proofs.ExecDataLaws.{one_union_of, union_or_refused, one_refused, some_union_or_refused, data_or_refused, one_refused_alone, some_data_or_refused}
 use Rattle.jc_exec_commands.proofs.InfoLaws.{one_info, info_is_data, data_has_info}
-
-pub as_many_texts : (paths : List Word) (texts : List (List ℕ)) → AreTexts paths texts → length paths ≡ length texts
-as_many_texts [] [] are = refl
-as_many_texts [] (t ∷ ts) are = absurd are
-as_many_texts (p ∷ ps) [] are = absurd are
-as_many_texts (p ∷ ps) (t ∷ ts) are = let rest = as_many_texts ps ts are.1 in omega (arith, rest)
 
 -- ---- merge
 
@@ -53,6 +49,10 @@ module _ (out : Word) (inputs : List Word) (texts : List (List ℕ)) where
     where
       of : (a : Answer) → IsOver a → MergeAnswers out inputs texts a → OneAnswer (MergeAnswers out inputs texts)
       of a over is = record { answer = a; over = over; holds = is; only = λ b other. one_merge b a (merge_answer b other) (merge_answer a is) }
+
+pub merge_own : (out : Word) (inputs : List Word) (texts : List (List ℕ)) (end : End) → MergeAnswers out inputs texts (stops end) → IsOwnEnd end
+merge_own out inputs texts end is =
+    ⊎_elim (λ p. absurd (gives_or_stops _ end (sym p.2))) (λ p. own_refusing p.1 (fault.Exec p.0 p.2) end p.4) (merge_answer out inputs texts (stops end) is)
 
 pub merge_has_one : (out : Word) (inputs : List Word) → HasOneAnswer inputs (MergeAnswers out inputs)
 merge_has_one out inputs texts are = some_merge out inputs texts
@@ -88,6 +88,10 @@ module _ (paths : List Word) (texts : List (List ℕ)) where
     where
       of : (a : Answer) → IsOver a → InfoAnswers paths texts a → OneAnswer (InfoAnswers paths texts)
       of a over is = record { answer = a; over = over; holds = is; only = λ b other. one_info_answer b a (info_answer b other) (info_answer a is) }
+
+pub info_own : (paths : List Word) (texts : List (List ℕ)) (end : End) → InfoAnswers paths texts (stops end) → IsOwnEnd end
+info_own paths texts end is =
+    ⊎_elim (λ p. absurd (gives_or_stops _ end (sym p.2))) (λ p. own_refusing p.1 (fault.Exec p.0 p.2) end p.4) (info_answer paths texts (stops end) is)
 
 pub info_has_one : (paths : List Word) → HasOneAnswer paths (InfoAnswers paths)
 info_has_one paths texts are = some_info paths texts are

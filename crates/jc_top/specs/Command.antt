@@ -1,5 +1,5 @@
 -- The commands, and the words that each is called by.
-use Rattle.std.specs.Prelude.{◌≡◌, ◌≢◌, ⊤, Bool, ◌&&◌, IsTrue, List, [], ◌∷◌, ◌++◌, map, codes, Option, Some, None, option_to_list, unwrap_or, if◌then◌else◌}
+use Rattle.std.specs.Prelude.{◌≡◌, ◌≢◌, Bool, ◌&&◌, IsTrue, List, [], ◌∷◌, ◌++◌, map, codes, Option, Some, None, option_to_list, unwrap_or, if◌then◌else◌}
 use Rattle.std.specs.List.{AllByRecursion, list_all}
 use Rattle.std.specs.Str.{bytes_eq}
 use Rattle.jc_work.specs.Step.{Word}
@@ -24,14 +24,6 @@ inputs_of (exec_info paths) = paths
 inputs_of (class_info paths) = paths
 inputs_of (report out name exec paths) = option_to_list exec ++ paths
 inputs_of (instrument dest paths) = paths
-
--- the command writes no line on `err`
-abbrev pub HasNoErrLine : Command → Type 0
-HasNoErrLine (merge destfile inputs) = ⊤
-HasNoErrLine (exec_info paths) = ⊤
-HasNoErrLine (class_info paths) = ⊤
-HasNoErrLine (report out name exec paths) = ⊥
-HasNoErrLine (instrument dest paths) = ⊥
 
 abbrev pub destfile : Word
 destfile = codes "--destfile"

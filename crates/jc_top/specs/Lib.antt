@@ -1,13 +1,4 @@
 pub mod Words
 pub mod Command
-pub mod Texts
-pub mod ExecData
-pub mod ExecInfo
-pub mod ClassInfo
-pub mod Report
-pub mod World
-pub mod Instrument
-pub mod Work
 pub mod Looks
-pub mod Outcome
-pub mod ReportSteps
+pub mod Work

@@ -1,21 +1,19 @@
 -- What a clause sees of words that were cut, and of a command.
-use Rattle.std.specs.Prelude.{◌≡◌, ⊤, ◌<◌, ◌++◌, ℕ, List, [], length, map, String, Some, None, option_map}
+use Rattle.std.specs.Prelude.{◌≡◌, ⊤, ◌<◌, ◌++◌, ℕ, List, [], length, map, String, Some, None, option_map, Result, Ok, Err}
 use Rattle.std.specs.declared.alloc.Global.{Global}
 use Rattle.jc_top.specs.declared.words.Use.{Use as Used}
 use Rattle.jc_top.specs.declared.words.Scanned.{Scanned}
 use Rattle.jc_top.specs.declared.words.Front.{Front}
 use Rattle.jc_top.specs.declared.words.Front.TheVariants as fronts
+use Rattle.jc_base.specs.declared.Fail.{Fail}
+use Rattle.jc_base.specs.declared.Fail.TheVariants as fails
+use Rattle.jc_top.specs.declared.command.Usage.{Usage}
 use Rattle.jc_top.specs.declared.command.Command.{Command as Called}
 use Rattle.jc_top.specs.declared.command.Command.TheVariants as commands
-use Rattle.jc_class_commands.specs.declared.instrument.Decided.{Decided}
-use Rattle.jc_class_commands.specs.declared.instrument.Decided.TheVariants as decided
-use Rattle.jc_work.specs.declared.output.Write.{Write as Written}
-use Rattle.jc_work.specs.declared.output.Write.TheVariants as writes
 use Rattle.jc_top.specs.Words.{Use, Scan, in_folder, scan, with_use}
+use Rattle.jc_work.specs.Step.{Word}
 use Rattle.jc_work.specs.Seen.{words_of}
-use Rattle.jc_top.specs.Command.{Command, merge, exec_info, class_info, report, instrument}
-use Rattle.jc_class_commands.specs.Instrument.{IsDecision, refused_file, accepted_file}
-use Rattle.jc_work.specs.Step.{Write, to_file, to_out, to_err}
+use Rattle.jc_top.specs.Command.{Command, merge, exec_info, class_info, report, instrument, Means, NoForm}
 
 abbrev pub use_of : Used → Use
 use_of u = record { option = u.option.now; value = u.value.now }
@@ -45,20 +43,8 @@ HasTargets (commands.ClassInfo paths) = ⊤
 HasTargets (commands.Report out name exec paths) = ⊤
 HasTargets (commands.Instrument dest paths targets) = words_of targets.items ≡ map (in_folder dest.now) (words_of paths.now)
 
--- what comes of a class file with these bytes
-abbrev pub IsDecided : List ℕ → Decided → Type 0
-IsDecided bytes (decided.Accepted class) = IsDecision bytes (accepted_file class)
-IsDecided bytes (decided.Refused own why) = (own ≡ bytes) × IsDecision bytes (refused_file why)
-
-abbrev pub write_seen : Written → Write
-write_seen (writes.File path bytes) = to_file path.now bytes.items
-write_seen (writes.Out text) = to_out text.items
-write_seen (writes.Err text) = to_err text.items
-
--- these writes were put last
-abbrev pub Puts : List Written → List Write → List Written → Type 0
-Puts old more new = map write_seen new ≡ map write_seen old ++ more
-
--- the lines were put last, each as one write on `out`
-abbrev pub Prints : List Written → List (List ℕ) → List Written → Type 0
-Prints old lines new = map write_seen new ≡ map write_seen old ++ map to_out lines
+-- what reading the words gives
+abbrev pub CommandRead : List Word → Result Called (Fail Usage) → Type 0
+CommandRead words (Ok command) = Means words (command_seen command)
+CommandRead words (Err (fails.Said usage)) = NoForm words
+CommandRead words (Err fails.Memory) = ⊤

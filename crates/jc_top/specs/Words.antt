@@ -1,14 +1,8 @@
 -- The words of the command line: the command's name, uses of its options, and files.
-use Rattle.std.specs.Prelude.{ℕ, Bool, true, false, not, List, [], ◌∷◌, ◌++◌, map, codes, string_bytes, Option, Some, None, if◌then◌else◌, String, nat_eq, ◌&&◌, option_map}
+use Rattle.std.specs.Prelude.{ℕ, Bool, true, false, not, List, [], ◌∷◌, ◌++◌, codes, Option, Some, None, if◌then◌else◌, nat_eq, ◌&&◌, option_map}
 use Rattle.std.specs.List.{ends_with, flat_map, list_all, list_any}
 use Rattle.std.specs.Str.{bytes_eq}
-use Rattle.std.specs.declared.alloc.Global.{Global}
-
-abbrev pub Word : Type 0
-Word = List ℕ
-
-abbrev pub words_of : List (String Global) → List Word
-words_of words = map string_bytes words
+use Rattle.jc_work.specs.Step.{Word}
 
 -- neither empty nor begins with `-`
 abbrev pub is_value : Word → Bool

@@ -1,11 +1,9 @@
 //! The commands, and the words that each is called by.
 ghost use Rattle.std.specs.Prelude.{◌≡◌, ◌<◌, ◌^◌, ℕ, List, length, map, Option, Ok, Err, Some, None, IfOk, IfSome};
 ghost use Rattle.std.specs.Option.{option_map};
-ghost use Rattle.jc_work.specs.Step.{Word};
 ghost use Rattle.jc_work.specs.Seen.{words_of};
 ghost use Rattle.jc_top.specs.Command.{inputs_of, decide, decide_merge, decide_exec_info, decide_class_info, decide_report, decide_instrument};
-ghost use Rattle.jc_top.specs.Looks.{scan_of, command_seen, HasTargets};
-ghost use Rattle.jc_top.specs.Outcome.{CommandRead};
+ghost use Rattle.jc_top.specs.Looks.{scan_of, command_seen, HasTargets, CommandRead};
 
 use crate::paths::{
     all_in_folder, are_all_distinct, are_distinct, are_relative, are_values, is_among,

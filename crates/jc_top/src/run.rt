@@ -1,25 +1,18 @@
 //! The top call, which does all that the program does.
-ghost use Rattle.std.specs.Prelude.{◌≡◌, ◌<◌, ◌^◌, ℕ, List, Option, length};
-ghost use Rattle.jc_base.specs.Outside.{FileMap};
-ghost use Rattle.jc_work.specs.Step.{Word};
-ghost use Rattle.jc_work.specs.Seen.{words_of};
+ghost use Rattle.std.specs.Prelude.{◌≡◌, ◌<◌, ◌^◌, length};
+ghost use Rattle.jc_work.specs.Step.{world, counts};
+ghost use Rattle.jc_work.specs.Ending.{Ran, Ends};
+ghost use Rattle.jc_work.specs.Seen.{words_of, stop_seen};
+ghost use Rattle.jc_work.specs.Answered.{Prepares};
 ghost use Rattle.jc_top.specs.Command.{inputs_of};
 ghost use Rattle.jc_top.specs.Looks.{command_seen, HasTargets};
-ghost use Rattle.jc_work.specs.Step.{world, counts};
-ghost use Rattle.jc_top.specs.Work.{Work, IsWork};
-ghost use Rattle.jc_top.specs.Outcome.{Prepares, Runs, Ends};
+ghost use Rattle.jc_top.specs.Work.{answers_of, work_of, the_work};
 
-use crate::Status;
-use crate::class_info::prepare_class_info;
 use crate::command::{Command, Usage, read_words};
-use crate::exec_info::prepare_exec_info;
-use crate::instrument::prepare_instrument;
-use crate::merge::prepare_merge;
-use crate::message::{USAGE, report, say};
-use crate::output::{Write, write_all};
-use crate::report::prepare_report;
-use crate::stop::Stop;
 use jc_base::{Fail, Files, Sink};
+use jc_class_commands::{prepare_class_info, prepare_instrument, prepare_report};
+use jc_exec_commands::{prepare_exec_info, prepare_merge};
+use jc_work::{Status, Stop, Write, report, report_usage, write_all};
 use std::alloc::Global;
 use std::marker::Sync;
 use std::thread::Threads;
@@ -33,9 +26,8 @@ fn prepare<'a, R: Threads + Sync, F: Files>(
 ) -> Result<Vec<Write<'a>>, Stop<'a>>
     requires few { length (inputs_of (command_seen command.now)) < 2 ^ 32 }
     requires targets { HasTargets command.now }
-    ensures gives { Prepares (F.contents files.old) (command_seen command.entry.now) (F.read_faults files.old) (F.read_faults files.new) result }
-    ensures contents { F.contents files.new ≡ F.contents files.old }
-    ensures write_faults { F.write_faults files.new ≡ F.write_faults files.old }
+    ensures { Prepares F.landed (inputs_of (command_seen command.entry.now)) (answers_of (command_seen command.entry.now)) (F.contents files.old) (F.contents files.new)
+        (F.read_faults files.old) (F.read_faults files.new) (F.write_faults files.old) (F.write_faults files.new) result }
 {
     match command {
         Command::Merge { destfile, inputs } => prepare_merge(alloc, files, destfile, inputs),
@@ -64,7 +56,7 @@ fn run<'a, R: Threads + Sync, F: Files, O: Sink, E: Sink>(
 ) -> Result<(), Stop<'a>>
     requires few { length (inputs_of (command_seen command.now)) < 2 ^ 32 }
     requires targets { HasTargets command.now }
-    ensures { Runs F.landed (command_seen command.entry.now)
+    ensures { Ran F.landed (work_of (command_seen command.entry.now)) stop_seen
         (world (F.contents files.old) (O.told out.old) (E.told err.old))
         (world (F.contents files.new) (O.told out.new) (E.told err.new))
         (counts (F.read_faults files.old) (F.write_faults files.old) (O.faults out.old) (E.faults err.old))
@@ -87,18 +79,10 @@ fn run<'a, R: Threads + Sync, F: Files, O: Sink, E: Sink>(
 /// each other one with its probes, whose number is in its line on `out`. `classinfo`, `report` and `instrument` look at
 /// the class files in threads, which `rt` starts.
 ///
-/// Where the contents of `files` are told, no count of faults rose and memory wasn't refused, the writes and the
-/// status are those of the work of the words. What each status says:
-///
-/// - `Done`: no count moved, and all was written.
-/// - `Refused`: an input is refused, which the message names. It comes exactly where the work ends so and no read
-///   failed. No count but that of `err` moved, and nothing was written but the message.
-/// - `Usage`: the words are of no stated form. Nothing was written but the usage text.
-/// - `ReadFault`: an input can't be read, which the message names. It comes only where the count of reads that failed
-///   rose, or where the work ends so. Nothing was written but the message.
-/// - `WriteFault`: a write failed, the count of what it goes to rose, and the message names where it goes. The
-///   writes in front of it were made, and of it a prefix.
-/// - `Memory`: nothing was written, or the writes broke off as at `WriteFault`. There is no message.
+/// All of this is the work of the words, which the contract names: the calls that they ask for, one after the other, and the
+/// end. A run makes all of them, and says the message of the end; or first ones of them up to one that fails, whose count rose
+/// and whose path the message names; or first ones of them until memory is refused, and then says nothing. What each status
+/// says, and what stands then, is in the laws of this crate.
 pub fn run_tool<R: Threads + Sync, F: Files, O: Sink, E: Sink>(
     rt: &R,
     alloc: Global,
@@ -107,7 +91,7 @@ pub fn run_tool<R: Threads + Sync, F: Files, O: Sink, E: Sink>(
     out: &mut O,
     err: &mut E,
 ) -> Status
-    ensures { Ends F.landed (words_of words.now)
+    ensures { Ends F.landed (the_work (words_of words.now))
         (world (F.contents files.old) (O.told out.old) (E.told err.old))
         (world (F.contents files.new) (O.told out.new) (E.told err.new))
         (counts (F.read_faults files.old) (F.write_faults files.old) (O.faults out.old) (E.faults err.old))
@@ -116,19 +100,10 @@ pub fn run_tool<R: Threads + Sync, F: Files, O: Sink, E: Sink>(
     let command = match read_words(alloc, words) {
         Ok(command) => command,
         Err(Fail::Memory) => return Status::Memory,
-        Err(Fail::Said(Usage)) => {
-            say(err, USAGE);
-            return Status::Usage;
-        }
+        Err(Fail::Said(Usage)) => return report_usage(err),
     };
     match run(rt, alloc, files, out, err, &command) {
         Ok(()) => Status::Done,
         Err(stop) => report(alloc, err, stop),
     }
 }
-
-/// Each list of words and contents has one work.
-pub fn each_command_has_one_work()
-    ensures one { (words : List Word) (m : FileMap) (v w : Work) → IsWork words m v → IsWork words m w → v ≡ w }
-    ensures some { (words : List Word) (m : FileMap) → (work : Work) × IsWork words m work }
-{}

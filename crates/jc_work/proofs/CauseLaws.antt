@@ -7,9 +7,10 @@ use Rattle.jc_work.specs.declared.status.Status.TheVariants as status
 use Rattle.jc_work.specs.Step.{Word, World, Counts, Rises, Landed, Write, to_file, to_out, to_err, Call, to_read, to_list, to_write, Step, has_read, has_no, has_listed, has_written, call_of, Fit, after, Broken, CountRose}
 use Rattle.jc_work.specs.Part.{End, done, refused, misused, unread, unwritten, unprinted, status_of, message_of, failure, Outcome, wants, gives, stops, Part, Command, giving, ending, deciding, reading, listing, writing, reading_all, writing_all, ◌>>=◌}
 use Rattle.jc_work.specs.Ending.{CameTo, Began, BrokeOff, SaysLast, IsWhole, IsCut, IsOutOfMemory, Ends, NoneRose}
+use Rattle.jc_work.specs.Texts.{fault_text}
 use Rattle.jc_work.specs.OneWay.{IsTold, OneWay, Work, IsWork, GoesOn}
 use Rattle.jc_work.specs.Folders.{is_folder, paths_of, all_paths, files_of, once}
-use Rattle.jc_work.specs.Answered.{Answer, answering, preparing, making_all, answered}
+use Rattle.jc_work.specs.Answered.{Answer, refusing, answering, preparing, making_all, answered}
 use Rattle.jc_work.specs.Causes.{IsOwnEnd, HasOwnEnds, EndedSo, RoseFor, IsReadCall, IsWriteCall, CallFailed, Cause, WorkFailed}
 use Rattle.jc_work.proofs.OneWork.{gives_or_stops, same_end, not_over}
 use Rattle.jc_work.proofs.Prefix.{one_work, on_work}
@@ -74,6 +75,10 @@ own_answered inputs Answers own =
     (own_then (reading_all inputs) (λ texts. answering (Answers texts)) (own_reading_all inputs)
     (λ texts. own_deciding (λ writes. Answers texts (gives writes)) (λ end. Answers texts (stops end)) (own texts)))
     (λ writes. own_then (writing_all writes) (λ _. ending {X = ⊥} done) (own_writing_all writes) (λ _. own_done))
+
+-- a refusal is an end of the command's own
+pub own_refusing : (path : Word) (fault : Fault) (end : End) → stops end ≡ refusing path fault → IsOwnEnd end
+own_refusing path fault end is = subst IsOwnEnd (same_end (List Write) (refused fault (fault_text path fault)) end (stops end) is refl) tt
 
 -- ---- counts
 

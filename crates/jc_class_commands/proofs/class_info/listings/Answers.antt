@@ -32,7 +32,7 @@ returns-in-Err g c =
     let item : ℕ × Result (Vec ℕ Global) (Fail Refusal) = (c.in-Some.index, c.in-Some.answer) in
     let turn = YieldsList-turn (YieldsList-from_enumerate (YieldsList-from_vec answers (cc) (search rules)) (cc))
     c.listing.yielded c.listing.index-iterator c.listing.yielded_by c.next.result c.next.new.self item c.in-Some.is c.next.ensures.steps in
-    rw c.refused.ensures
+    rw c.class_stop.ensures
     (listing_refused c.args.texts.items answers c.in_ok-answers.ensures.each c.listing.writes.items n c.in-Some.index c.in-Some.answer c.listing.invariant
     (at_place answers n c.in-Some.index c.in-Some.answer turn.0 turn.1) c.args.paths.now c.index-paths-index.result c.in-Err.fail c.as_str.result
     (sym c.requires.each) c.in-Err.is c.index-paths-index.is c.as_str.ensures.value)

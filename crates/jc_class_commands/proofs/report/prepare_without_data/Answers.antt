@@ -1,19 +1,18 @@
 use Rattle.std.proofs.Common.{None}
 use Rattle.std.proofs.lemmas.Result.{err_from_is_err_and}
-use Rattle.jc_work.specs.Seen.{words_of}
-use Rattle.jc_class_commands.proofs.ReadLaws.{command_stops, command_prepares}
+use Rattle.jc_work.specs.Answered.{AnswersWith}
+use Rattle.jc_work.specs.Seen.{words_of, stop_seen}
+use Rattle.jc_work.proofs.AnsweredLaws.{prepared, unprepared}
+use Rattle.jc_class_commands.specs.Report.{ReportAnswers}
 use Rattle.jc_class_commands.proofs.report.prepare_without_data.Goals as goal
 
-pub returns-in_err-texts-clause-gives : goal.returns-in_err-texts-clause-gives
-returns-in_err-texts-clause-gives g c =
+pub returns-in_err-texts : goal.returns-in_err-texts
+returns-in_err-texts g c out err outs errs =
     let p = err_from_is_err_and c.from_residual.result c.from_residual.ensures.1 in
-    rw (p.1, p.2) (command_stops (g.F.Files.contents c.args.files.now) (report c.args.out.now c.args.name.now None (words_of c.args.paths.now))
-    (g.F.Files.read_faults c.args.files.now) (g.F.Files.read_faults c.read_all.new.files) c.in_err-texts.field-0.0 c.in_err-texts.ensures.gives)
+    rw (p.1, p.2) (unprepared g.F.Files.landed (words_of c.args.paths.now) (ReportAnswers c.args.out.now c.args.name.now None (words_of c.args.paths.now)) _ _ _ _
+    (stop_seen c.in_err-texts.field-0.0) (c.in_err-texts.ensures.does out err outs errs))
 
-pub returns-clause-gives : goal.returns-clause-gives
-returns-clause-gives g c =
-    let command = report c.args.out.now c.args.name.now None (words_of c.args.paths.now) in
-    command_prepares (g.F.Files.contents c.args.files.now) command c.in_ok-texts.texts.items (g.F.Files.read_faults c.args.files.now) (g.F.Files.read_faults c.read_all.new.files)
-    c.reported_without_data.result c.in_ok-texts.ensures.gives.0
-    c.in_ok-texts.ensures.gives.1 c.in_ok-texts.ensures.gives.2
-    c.reported_without_data.ensures
+pub returns : goal.returns
+returns g c out err outs errs =
+    prepared g.F.Files.landed (words_of c.args.paths.now) (ReportAnswers c.args.out.now c.args.name.now None (words_of c.args.paths.now)) _ _ _ _
+    c.in_ok-texts.texts.items c.reported_without_data.result (c.in_ok-texts.ensures.does out err outs errs) c.reported_without_data.ensures

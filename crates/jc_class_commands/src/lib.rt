@@ -1,0 +1,13 @@
+//! The commands on class files: what they read, and what they write of it.
+#![tactic(auto)]
+
+mod class_info;
+mod class_report;
+mod each;
+mod instrument;
+mod lines;
+mod report;
+
+pub use class_info::prepare_class_info;
+pub use instrument::prepare_instrument;
+pub use report::prepare_report;
