@@ -7,9 +7,9 @@ use Rattle.jc_work.specs.Step.{Word, AreTexts, Write, to_out}
 use Rattle.jc_work.specs.Part.{End, gives, stops}
 use Rattle.jc_work.specs.OneWay.{IsOver}
 use Rattle.jc_work.specs.Answered.{Answer, refusing, OneAnswer, HasOneAnswer}
-use Rattle.jc_work.specs.Causes.{IsOwnEnd}
+use Rattle.jc_work.specs.Causes.{IsRefusal}
 use Rattle.jc_work.proofs.AnsweredLaws.{as_many_texts, all_files}
-use Rattle.jc_work.proofs.CauseLaws.{own_refusing}
+use Rattle.jc_work.proofs.CauseLaws.{is_refusal}
 use Rattle.jc_work.proofs.OneWork.{gives_or_stops}
 use Rattle.jc_class_commands.specs.ClassInfo.{AreListed, RefusedAt, ListAnswers, listed, class_refused}
 use Rattle.jc_class_commands.specs.Instrument.{AreFileWrites, InstrumentAnswers, instrumented}
@@ -53,9 +53,9 @@ module _ (paths : List Word) (texts : List (List ℕ)) where
 pub list_has_one : (paths : List Word) → HasOneAnswer paths (ListAnswers paths)
 list_has_one paths texts are = some_listing_answer paths texts are
 
-pub list_own : (paths : List Word) (texts : List (List ℕ)) (end : End) → ListAnswers paths texts (stops end) → IsOwnEnd end
-list_own paths texts end is =
-    ⊎_elim (λ p. absurd (gives_or_stops _ end (sym p.2))) (λ p. own_refusing p.1 (fault.Class p.0 p.2) end p.4) (list_answer paths texts (stops end) is)
+pub list_refuses : (paths : List Word) (texts : List (List ℕ)) (end : End) → ListAnswers paths texts (stops end) → IsRefusal end
+list_refuses paths texts end is =
+    ⊎_elim (λ p. absurd (gives_or_stops _ end (sym p.2))) (λ p. is_refusal p.1 (fault.Class p.0 p.2) end p.4) (list_answer paths texts (stops end) is)
 
 -- ---- report
 
@@ -65,10 +65,10 @@ module _ (out name : Word) (exec : Option Word) (paths : List Word) (texts : Lis
   report_answer_of answer (report_refused index path refusal is) = by_data index path refusal is refl
   report_answer_of answer (report_clashes path store count items refusal is union are clash) = by_clash path store count items refusal is union are clash refl
 
-  own_report : (end : End) → ReportAnswer out name exec paths texts (stops end) → IsOwnEnd end
+  own_report : (end : End) → ReportAnswer out name exec paths texts (stops end) → IsRefusal end
   own_report end (by_items store items union are none is) = absurd (gives_or_stops _ end (sym is))
-  own_report end (by_data index path refusal are is) = own_refusing path (fault.Exec index refusal) end is
-  own_report end (by_clash path store count items refusal named union are clash is) = own_refusing path (fault.Exec 0 refusal) end is
+  own_report end (by_data index path refusal are is) = is_refusal path (fault.Exec index refusal) end is
+  own_report end (by_clash path store count items refusal named union are clash is) = is_refusal path (fault.Exec 0 refusal) end is
 
   some_report : AreTexts (option_to_list exec ++ paths) texts → OneAnswer (ReportAnswers out name exec paths texts)
   some_report are =
@@ -87,8 +87,8 @@ module _ (out name : Word) (exec : Option Word) (paths : List Word) (texts : Lis
 pub report_has_one : (out name : Word) (exec : Option Word) (paths : List Word) → HasOneAnswer (option_to_list exec ++ paths) (ReportAnswers out name exec paths)
 report_has_one out name exec paths texts are = some_report out name exec paths texts are
 
-pub report_own : (out name : Word) (exec : Option Word) (paths : List Word) (texts : List (List ℕ)) (end : End) → ReportAnswers out name exec paths texts (stops end) → IsOwnEnd end
-report_own out name exec paths texts end is = own_report out name exec paths texts end (report_answer_of out name exec paths texts (stops end) is)
+pub report_refuses : (out name : Word) (exec : Option Word) (paths : List Word) (texts : List (List ℕ)) (end : End) → ReportAnswers out name exec paths texts (stops end) → IsRefusal end
+report_refuses out name exec paths texts end is = own_report out name exec paths texts end (report_answer_of out name exec paths texts (stops end) is)
 
 -- ---- instrument
 
@@ -112,11 +112,11 @@ module _ (targets paths : List Word) (texts : List (List ℕ)) where
         only = λ b other. one_instrument b (gives made.0) (instrument_answer b other) (instrument_answer (gives made.0) (instrumented made.0 made.1));
       }
 
-  own_instrument : (end : End) → InstrumentAnswer (stops end) → IsOwnEnd end
+  own_instrument : (end : End) → InstrumentAnswer (stops end) → IsRefusal end
   own_instrument end p = absurd (gives_or_stops p.0 end (sym p.2))
 
 pub instrument_has_one : (targets paths : List Word) → length targets ≡ length paths → HasOneAnswer paths (InstrumentAnswers targets paths)
 instrument_has_one targets paths same texts are = some_instrument targets paths texts same are
 
-pub instrument_own : (targets paths : List Word) (texts : List (List ℕ)) (end : End) → InstrumentAnswers targets paths texts (stops end) → IsOwnEnd end
-instrument_own targets paths texts end is = own_instrument targets paths texts end (instrument_answer targets paths texts (stops end) is)
+pub instrument_refuses : (targets paths : List Word) (texts : List (List ℕ)) (end : End) → InstrumentAnswers targets paths texts (stops end) → IsRefusal end
+instrument_refuses targets paths texts end is = own_instrument targets paths texts end (instrument_answer targets paths texts (stops end) is)

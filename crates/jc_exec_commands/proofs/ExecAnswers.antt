@@ -8,9 +8,9 @@ use Rattle.jc_work.specs.Step.{Word, AreTexts, to_file, to_out}
 use Rattle.jc_work.specs.Part.{End, gives, stops}
 use Rattle.jc_work.specs.OneWay.{IsOver}
 use Rattle.jc_work.specs.Answered.{Answer, refusing, OneAnswer, HasOneAnswer}
-use Rattle.jc_work.specs.Causes.{IsOwnEnd}
+use Rattle.jc_work.specs.Causes.{IsRefusal}
 use Rattle.jc_work.proofs.AnsweredLaws.{as_many_texts}
-use Rattle.jc_work.proofs.CauseLaws.{own_refusing}
+use Rattle.jc_work.proofs.CauseLaws.{is_refusal}
 use Rattle.jc_work.proofs.OneWork.{gives_or_stops}
 use Rattle.jc_exec_commands.specs.ExecData.{IsUnionOf, IsFirstRefused, IsFirstRefusedAlone}
 use Rattle.jc_exec_commands.specs.ExecInfo.{AreInfo, InfoAnswers, informed, exec_info_refused}
@@ -50,9 +50,9 @@ module _ (out : Word) (inputs : List Word) (texts : List (List ℕ)) where
       of : (a : Answer) → IsOver a → MergeAnswers out inputs texts a → OneAnswer (MergeAnswers out inputs texts)
       of a over is = record { answer = a; over = over; holds = is; only = λ b other. one_merge b a (merge_answer b other) (merge_answer a is) }
 
-pub merge_own : (out : Word) (inputs : List Word) (texts : List (List ℕ)) (end : End) → MergeAnswers out inputs texts (stops end) → IsOwnEnd end
-merge_own out inputs texts end is =
-    ⊎_elim (λ p. absurd (gives_or_stops _ end (sym p.2))) (λ p. own_refusing p.1 (fault.Exec p.0 p.2) end p.4) (merge_answer out inputs texts (stops end) is)
+pub merge_refuses : (out : Word) (inputs : List Word) (texts : List (List ℕ)) (end : End) → MergeAnswers out inputs texts (stops end) → IsRefusal end
+merge_refuses out inputs texts end is =
+    ⊎_elim (λ p. absurd (gives_or_stops _ end (sym p.2))) (λ p. is_refusal p.1 (fault.Exec p.0 p.2) end p.4) (merge_answer out inputs texts (stops end) is)
 
 pub merge_has_one : (out : Word) (inputs : List Word) → HasOneAnswer inputs (MergeAnswers out inputs)
 merge_has_one out inputs texts are = some_merge out inputs texts
@@ -89,9 +89,9 @@ module _ (paths : List Word) (texts : List (List ℕ)) where
       of : (a : Answer) → IsOver a → InfoAnswers paths texts a → OneAnswer (InfoAnswers paths texts)
       of a over is = record { answer = a; over = over; holds = is; only = λ b other. one_info_answer b a (info_answer b other) (info_answer a is) }
 
-pub info_own : (paths : List Word) (texts : List (List ℕ)) (end : End) → InfoAnswers paths texts (stops end) → IsOwnEnd end
-info_own paths texts end is =
-    ⊎_elim (λ p. absurd (gives_or_stops _ end (sym p.2))) (λ p. own_refusing p.1 (fault.Exec p.0 p.2) end p.4) (info_answer paths texts (stops end) is)
+pub info_refuses : (paths : List Word) (texts : List (List ℕ)) (end : End) → InfoAnswers paths texts (stops end) → IsRefusal end
+info_refuses paths texts end is =
+    ⊎_elim (λ p. absurd (gives_or_stops _ end (sym p.2))) (λ p. is_refusal p.1 (fault.Exec p.0 p.2) end p.4) (info_answer paths texts (stops end) is)
 
 pub info_has_one : (paths : List Word) → HasOneAnswer paths (InfoAnswers paths)
 info_has_one paths texts are = some_info paths texts are

@@ -8,77 +8,115 @@ use Rattle.jc_work.specs.Step.{Word, World, Counts, Rises, Landed, Write, to_fil
 use Rattle.jc_work.specs.Part.{End, done, refused, misused, unread, unwritten, unprinted, status_of, message_of, failure, Outcome, wants, gives, stops, Part, Command, giving, ending, deciding, reading, listing, writing, reading_all, writing_all, ◌>>=◌}
 use Rattle.jc_work.specs.Ending.{CameTo, Began, BrokeOff, SaysLast, IsWhole, IsCut, IsOutOfMemory, Ends, NoneRose}
 use Rattle.jc_work.specs.Texts.{fault_text}
-use Rattle.jc_work.specs.OneWay.{IsTold, OneWay, Work, IsWork, GoesOn}
-use Rattle.jc_work.specs.Folders.{is_folder, paths_of, all_paths, files_of, once}
+use Rattle.jc_work.specs.OneWay.{OneWay, Work, IsWork, writes_of}
 use Rattle.jc_work.specs.Answered.{Answer, refusing, answering, preparing, making_all, answered}
-use Rattle.jc_work.specs.Causes.{IsOwnEnd, HasOwnEnds, EndedSo, RoseFor, IsReadCall, IsWriteCall, CallFailed, Cause, WorkFailed}
+use Rattle.jc_work.specs.Causes.{IsOwnEnd, IsRefusal, EndsIn, HasOwnEnds, EndedSo, RoseFor, IsReadCall, IsWriteCall, CallFailed, Cause, WorkFailed}
 use Rattle.jc_work.proofs.OneWork.{gives_or_stops, same_end, not_over}
-use Rattle.jc_work.proofs.Prefix.{one_work, on_work}
+use Rattle.jc_work.proofs.Prefix.{one_work, on_work, writes-append}
 use Rattle.jc_work.proofs.NoFault.{only_errs, all_made}
 
--- ---- ends of its own
+-- ---- ends
 
-own_then : {X Y : Type 0} (p : Part X) (q : X → Part Y) → HasOwnEnds p → ((x : X) → HasOwnEnds (q x)) → HasOwnEnds (p >>= q)
-own_then p q first second steps end (inl within) = first steps end within
-own_then p q first second steps end (inr h) = second h.value h.behind end h.goes_on
+module _ (Is : End → Type 0) where
+  pub ends_then : {X Y : Type 0} (p : Part X) (q : X → Part Y) → EndsIn Is p → ((x : X) → EndsIn Is (q x)) → EndsIn Is (p >>= q)
+  ends_then p q first second steps end (inl within) = first steps end within
+  ends_then p q first second steps end (inr h) = second h.value h.behind end h.goes_on
 
-own_giving : {X : Type 0} (x : X) → HasOwnEnds (giving x)
-own_giving x [] end is = absurd (gives_or_stops x end (sym is))
-own_giving x (s ∷ ss) end is = absurd is
+  ends_giving : {X : Type 0} (x : X) → EndsIn Is (giving x)
+  ends_giving x [] end is = absurd (gives_or_stops x end (sym is))
+  ends_giving x (s ∷ ss) end is = absurd is
 
-pub own_deciding : {X : Type 0} (Is : X → Type 0) (Stops : End → Type 0) → ((end : End) → Stops end → IsOwnEnd end) → HasOwnEnds (deciding Is Stops)
-own_deciding Is Stops own [] end is = own end is
-own_deciding Is Stops own (s ∷ ss) end is = absurd is
+  pub ends_deciding : {X : Type 0} (So : X → Type 0) (Stops : End → Type 0) → ((end : End) → Stops end → Is end) → EndsIn Is (deciding So Stops)
+  ends_deciding So Stops own [] end is = own end is
+  ends_deciding So Stops own (s ∷ ss) end is = absurd is
 
-own_done : HasOwnEnds (ending {X = ⊥} done)
-own_done [] end is = subst IsOwnEnd (same_end ⊥ done end (stops end) is refl) tt
-own_done (s ∷ ss) end is = absurd is
+  pub ends_ending : (e : End) → Is e → EndsIn Is (ending {X = ⊥} e)
+  ends_ending e so [] end is = subst Is (same_end ⊥ e end (stops end) is refl) so
+  ends_ending e so (s ∷ ss) end is = absurd is
 
-own_reading : (path : Word) → HasOwnEnds (reading path)
-own_reading path [] end is = absurd (not_over (stops end) (to_read path) tt is)
-own_reading path (has_read p b ∷ []) end is = absurd (gives_or_stops b end (sym is.1))
-own_reading path (has_no p ∷ []) end is = subst IsOwnEnd (same_end (List ℕ) (unread path) end (stops end) is.1 refl) tt
-own_reading path (has_read p b ∷ s ∷ ss) end is = absurd is
-own_reading path (has_no p ∷ s ∷ ss) end is = absurd is
-own_reading path (has_listed f ps ∷ ss) end is = absurd is
-own_reading path (has_written v ∷ ss) end is = absurd is
+  module _ (unread_is : (path : Word) → Is (unread path)) where
+    ends_reading : (path : Word) → EndsIn Is (reading path)
+    ends_reading path [] end is = absurd (not_over (stops end) (to_read path) tt is)
+    ends_reading path (has_read p b ∷ []) end is = absurd (gives_or_stops b end (sym is.1))
+    ends_reading path (has_no p ∷ []) end is = subst Is (same_end (List ℕ) (unread path) end (stops end) is.1 refl) (unread_is path)
+    ends_reading path (has_read p b ∷ s ∷ ss) end is = absurd is
+    ends_reading path (has_no p ∷ s ∷ ss) end is = absurd is
+    ends_reading path (has_listed f ps ∷ ss) end is = absurd is
+    ends_reading path (has_written v ∷ ss) end is = absurd is
 
-own_listing : (folder : Word) → HasOwnEnds (listing folder)
-own_listing folder [] end is = absurd (not_over (stops end) (to_list folder) tt is)
-own_listing folder (has_listed f ps ∷ []) end is = absurd (gives_or_stops ps end (sym is.1))
-own_listing folder (has_listed f ps ∷ s ∷ ss) end is = absurd is
-own_listing folder (has_read p b ∷ ss) end is = absurd is
-own_listing folder (has_no p ∷ ss) end is = absurd is
-own_listing folder (has_written v ∷ ss) end is = absurd is
+    pub ends_reading_all : (paths : List Word) → EndsIn Is (reading_all paths)
+    ends_reading_all [] = ends_giving []
+    ends_reading_all (path ∷ paths) =
+        ends_then (reading path) _ (ends_reading path) (λ text. ends_then (reading_all paths) _ (ends_reading_all paths) (λ texts. ends_giving (text ∷ texts)))
 
-own_writing : (write : Write) → HasOwnEnds (writing write)
-own_writing write [] end is = absurd (not_over (stops end) (to_write write) tt is)
-own_writing write (has_written v ∷ []) end is = absurd (gives_or_stops tt end (sym is.1))
-own_writing write (has_written v ∷ s ∷ ss) end is = absurd is
-own_writing write (has_read p b ∷ ss) end is = absurd is
-own_writing write (has_no p ∷ ss) end is = absurd is
-own_writing write (has_listed f ps ∷ ss) end is = absurd is
+  ends_writing : (write : Write) → EndsIn Is (writing write)
+  ends_writing write [] end is = absurd (not_over (stops end) (to_write write) tt is)
+  ends_writing write (has_written v ∷ []) end is = absurd (gives_or_stops tt end (sym is.1))
+  ends_writing write (has_written v ∷ s ∷ ss) end is = absurd is
+  ends_writing write (has_read p b ∷ ss) end is = absurd is
+  ends_writing write (has_no p ∷ ss) end is = absurd is
+  ends_writing write (has_listed f ps ∷ ss) end is = absurd is
 
-pub own_reading_all : (paths : List Word) → HasOwnEnds (reading_all paths)
-own_reading_all [] = own_giving []
-own_reading_all (path ∷ paths) =
-    own_then (reading path) _ (own_reading path) (λ text. own_then (reading_all paths) _ (own_reading_all paths) (λ texts. own_giving (text ∷ texts)))
+  pub ends_writing_all : (writes : List Write) → EndsIn Is (writing_all writes)
+  ends_writing_all [] = ends_giving tt
+  ends_writing_all (write ∷ writes) = ends_then (writing write) _ (ends_writing write) (λ _. ends_writing_all writes)
 
-pub own_writing_all : (writes : List Write) → HasOwnEnds (writing_all writes)
-own_writing_all [] = own_giving tt
-own_writing_all (write ∷ writes) = own_then (writing write) _ (own_writing write) (λ _. own_writing_all writes)
+  pub ends_answered : (inputs : List Word) (Answers : List (List ℕ) → Answer → Type 0) → Is done → ((path : Word) → Is (unread path))
+      → ((texts : List (List ℕ)) (end : End) → Answers texts (stops end) → Is end) → EndsIn Is (answered inputs Answers)
+  ends_answered inputs Answers done_is unread_is own =
+      ends_then (preparing inputs Answers) making_all
+      (ends_then (reading_all inputs) (λ texts. answering (Answers texts)) (ends_reading_all unread_is inputs)
+      (λ texts. ends_deciding (λ writes. Answers texts (gives writes)) (λ end. Answers texts (stops end)) (own texts)))
+      (λ writes. ends_then (writing_all writes) (λ _. ending {X = ⊥} done) (ends_writing_all writes) (λ _. ends_ending done done_is))
 
-pub own_answered : (inputs : List Word) (Answers : List (List ℕ) → Answer → Type 0) → ((texts : List (List ℕ)) (end : End) → Answers texts (stops end) → IsOwnEnd end)
-    → HasOwnEnds (answered inputs Answers)
-own_answered inputs Answers own =
-    own_then (preparing inputs Answers) making_all
-    (own_then (reading_all inputs) (λ texts. answering (Answers texts)) (own_reading_all inputs)
-    (λ texts. own_deciding (λ writes. Answers texts (gives writes)) (λ end. Answers texts (stops end)) (own texts)))
-    (λ writes. own_then (writing_all writes) (λ _. ending {X = ⊥} done) (own_writing_all writes) (λ _. own_done))
+-- ---- steps without a write
 
--- a refusal is an end of the command's own
-pub own_refusing : (path : Word) (fault : Fault) (end : End) → stops end ≡ refusing path fault → IsOwnEnd end
-own_refusing path fault end is = subst IsOwnEnd (same_end (List Write) (refused fault (fault_text path fault)) end (stops end) is refl) tt
+abbrev WritesNone : {X : Type 0} → Part X → Type 0
+WritesNone part = (steps : List Step) (o : Outcome _) → part steps o → writes_of steps ≡ []
+
+none_giving : {X : Type 0} (x : X) → WritesNone (giving x)
+none_giving x [] o is = refl
+none_giving x (s ∷ ss) o is = absurd is
+
+none_deciding : {X : Type 0} (So : X → Type 0) (Stops : End → Type 0) → WritesNone (deciding So Stops)
+none_deciding So Stops [] o is = refl
+none_deciding So Stops (s ∷ ss) (wants call) is = absurd is
+none_deciding So Stops (s ∷ ss) (gives x) is = absurd is
+none_deciding So Stops (s ∷ ss) (stops end) is = absurd is
+
+none_reading : (path : Word) → WritesNone (reading path)
+none_reading path [] o is = refl
+none_reading path (has_read p b ∷ []) o is = refl
+none_reading path (has_no p ∷ []) o is = refl
+none_reading path (has_read p b ∷ s ∷ ss) o is = absurd is
+none_reading path (has_no p ∷ s ∷ ss) o is = absurd is
+none_reading path (has_listed f ps ∷ ss) o is = absurd is
+none_reading path (has_written v ∷ ss) o is = absurd is
+
+none_then : {X Y : Type 0} (p : Part X) (q : X → Part Y) → WritesNone p → ((x : X) → WritesNone (q x)) → WritesNone (p >>= q)
+none_then p q first second steps (wants call) (inl within) = first steps (wants call) within
+none_then p q first second steps (gives y) (inl within) = absurd within
+none_then p q first second steps (stops end) (inl within) = first steps (stops end) within
+none_then p q first second steps o (inr h) =
+    ap writes_of h.parts ∙ writes-append h.front h.behind ∙ ap (λ (ws : List Write). ws ++ writes_of h.behind) (first h.front (gives h.value) h.over)
+    ∙ second h.value h.behind o h.goes_on
+
+none_reading_all : (paths : List Word) → WritesNone (reading_all paths)
+none_reading_all [] = none_giving []
+none_reading_all (path ∷ paths) = none_then (reading path) _ (none_reading path) (λ text. none_then (reading_all paths) _ (none_reading_all paths) (λ texts. none_giving (text ∷ texts)))
+
+-- a command that reads and decides before it writes has written nothing where it ends otherwise than done
+pub done_or_none : (inputs : List Word) (Answers : List (List ℕ) → Answer → Type 0) (steps : List Step) (end : End) → answered inputs Answers steps (stops end)
+    → (end ≡ done) ⊎ (writes_of steps ≡ [])
+done_or_none inputs Answers steps end (inl within) =
+    inr (none_then (reading_all inputs) (λ texts. answering (Answers texts)) (none_reading_all inputs)
+    (λ texts. none_deciding (λ writes. Answers texts (gives writes)) (λ e. Answers texts (stops e))) steps (stops end) within)
+done_or_none inputs Answers steps end (inr h) =
+    inl (ends_then (λ e. e ≡ done) (writing_all h.value) (λ _. ending {X = ⊥} done) (ends_writing_all (λ e. e ≡ done) h.value) (λ _. ends_ending (λ e. e ≡ done) done refl)
+    h.behind end h.goes_on)
+
+pub is_refusal : (path : Word) (fault : Fault) (end : End) → stops end ≡ refusing path fault → IsRefusal end
+is_refusal path fault end is = subst IsRefusal (same_end (List Write) (refused fault (fault_text path fault)) end (stops end) is refl) tt
 
 -- ---- counts
 

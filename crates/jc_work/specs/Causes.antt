@@ -19,8 +19,21 @@ IsOwnEnd (unread path) = ⊤
 IsOwnEnd (unwritten path) = ⊥
 IsOwnEnd unprinted = ⊥
 
+-- an input is refused
+abbrev pub IsRefusal : End → Type 0
+IsRefusal done = ⊥
+IsRefusal (refused fault line) = ⊤
+IsRefusal misused = ⊥
+IsRefusal (unread path) = ⊥
+IsRefusal (unwritten path) = ⊥
+IsRefusal unprinted = ⊥
+
+-- the part ends the command in such ends alone
+abbrev pub EndsIn : {X : Type 0} → (End → Type 0) → Part X → Type 0
+EndsIn Is part = (steps : List Step) (end : End) → part steps (stops end) → Is end
+
 abbrev pub HasOwnEnds : {X : Type 0} → Part X → Type 0
-HasOwnEnds part = (steps : List Step) (end : End) → part steps (stops end) → IsOwnEnd end
+HasOwnEnds part = EndsIn IsOwnEnd part
 
 -- ---- what a status says
 

@@ -1,0 +1,13 @@
+use Rattle.jc_work.specs.declared.status.Status.TheVariants as status
+use Rattle.jc_work.proofs.CauseLaws.{cause}
+use Rattle.jc_top.specs.Work.{the_work}
+use Rattle.jc_top.proofs.WorkLaws.{own_ends, misused_none, no_form_ends}
+use Rattle.jc_top.proofs.laws.usage_comes_for_words_of_no_form.Goals as goal
+
+pub returns-clause-only : goal.returns-clause-only
+returns-clause-only c landed words old new f g ends =
+    let so = cause landed (the_work words) old new f g status.Usage (own_ends words) ends in
+    misused_none words so.came.steps so.came.comes
+
+pub returns-clause-always : goal.returns-clause-always
+returns-clause-always c landed words old new f g s none ends = no_form_ends landed words none old new f g s ends

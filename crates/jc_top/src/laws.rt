@@ -1,0 +1,68 @@
+//! Laws of every run of the tool, over the definitions alone.
+ghost use Rattle.std.specs.Prelude.{◌≡◌, ◌≢◌, ◌⊎◌, [], ℕ, List};
+ghost use Rattle.jc_work.specs.declared.status.Status.{Status};
+ghost use Rattle.jc_work.specs.declared.status.Status.TheVariants as status;
+ghost use Rattle.jc_work.specs.Step.{Word, World, Counts, Landed, Step, after};
+ghost use Rattle.jc_work.specs.Part.{End, done, misused, status_of, message_of, stops};
+ghost use Rattle.jc_work.specs.Ending.{NoneRose, SaysLast, Ends};
+ghost use Rattle.jc_work.specs.OneWay.{IsTold, Work, IsWork, writes_of};
+ghost use Rattle.jc_work.specs.Prefix.{LeavesFront};
+ghost use Rattle.jc_work.specs.Causes.{Cause, WorkFailed};
+ghost use Rattle.jc_top.specs.Command.{NoForm};
+ghost use Rattle.jc_top.specs.Work.{the_work};
+
+/// Words and told contents have exactly one work: the steps that they ask for, and an end.
+pub fn words_have_one_work()
+    ensures some { (landed : Landed) (words : List Word) (w : World) → IsTold w → (work : Work) × IsWork landed (the_work words) w work }
+    ensures one { (landed : Landed) (words : List Word) (w : World) (a b : Work) → IsTold w
+        → IsWork landed (the_work words) w a → IsWork landed (the_work words) w b → a ≡ b }
+{}
+
+/// Each status has its cause, which says too what stands then, and what `err` holds.
+///
+/// - `Done`: no count moved, and all steps were made.
+/// - `Refused`: all steps were made, and the work ends so, with the message of the refusal.
+/// - `Usage`: the same of words of no stated form.
+/// - `ReadFault`: the path that the work wants next is missing or too large, as is told; or a read failed, and its count rose.
+/// - `WriteFault`: a write failed, its count rose, and it was made in part.
+/// - `Memory`: some first steps were made, or the call behind them failed too. Nothing is said.
+pub fn each_status_has_its_cause()
+    ensures { (landed : Landed) (words : List Word) (old new : World) (f g : Counts) (s : Status)
+        → Ends landed (the_work words) old new f g s → Cause landed (the_work words) old new f g s }
+{}
+
+/// Where contents are told a run ends as its work does, or a call of the work failed, or memory was refused.
+///
+/// Where no count rose, it ends as the work does or for want of memory; and if memory wasn't refused either, all steps of the
+/// work were made, and the message of its end was said.
+pub fn each_run_ends_as_its_work()
+    ensures ends { (landed : Landed) (words : List Word) (old new : World) (f g : Counts) (s : Status) (work : Work) → IsTold old
+        → IsWork landed (the_work words) old work → Ends landed (the_work words) old new f g s
+        → (s ≡ status_of work.end) ⊎ (WorkFailed work f g ⊎ (s ≡ status.Memory)) }
+    ensures completes { (landed : Landed) (words : List Word) (old new : World) (f g : Counts) (s : Status) (work : Work) → IsTold old
+        → IsWork landed (the_work words) old work → Ends landed (the_work words) old new f g s → NoneRose f g
+        → (s ≡ status_of work.end) ⊎ (s ≡ status.Memory) }
+    ensures makes { (landed : Landed) (words : List Word) (old new : World) (f g : Counts) (s : Status) (work : Work) → IsTold old
+        → IsWork landed (the_work words) old work → Ends landed (the_work words) old new f g s → NoneRose f g → s ≢ status.Memory
+        → (s ≡ status_of work.end) × SaysLast (message_of work.end) (after landed old work.steps) new f g }
+{}
+
+/// But for its last message a run leaves what first writes of its work leave, the last of them perhaps in part: also where a
+/// count rose or memory was refused.
+pub fn each_run_leaves_a_front_of_its_work()
+    ensures { (landed : Landed) (words : List Word) (old new : World) (f g : Counts) (s : Status) (work : Work) → IsTold old
+        → IsWork landed (the_work words) old work → Ends landed (the_work words) old new f g s → LeavesFront landed old (writes_of work.steps) new }
+{}
+
+/// Usage comes exactly where the words are of no stated form, but for want of memory.
+pub fn usage_comes_for_words_of_no_form()
+    ensures only { (landed : Landed) (words : List Word) (old new : World) (f g : Counts)
+        → Ends landed (the_work words) old new f g status.Usage → NoForm words }
+    ensures always { (landed : Landed) (words : List Word) (old new : World) (f g : Counts) (s : Status) → NoForm words
+        → Ends landed (the_work words) old new f g s → (s ≡ status.Usage) ⊎ (s ≡ status.Memory) }
+{}
+
+/// A command that isn't done at its end has written nothing but the message: it refuses its inputs before its first write.
+pub fn a_command_that_refuses_has_written_nothing()
+    ensures { (words : List Word) (steps : List Step) (end : End) → the_work words steps (stops end) → (end ≡ done) ⊎ (writes_of steps ≡ []) }
+{}
