@@ -7,6 +7,7 @@ mod constants;
 mod elements;
 mod fields;
 mod index;
+mod laws;
 mod locals;
 mod methods;
 mod operation;
@@ -23,6 +24,10 @@ mod types;
 pub use calls::{special_call, virtual_call};
 pub use constants::{constant_operation, long_operation};
 pub use fields::{field_operation, is_print_stream};
+pub use laws::{
+    each_call_is_of_a_method_that_may_be_entered, each_switch_goes_where_the_instruction_leads,
+    static_fields_begin_with_what_is_prepared,
+};
 pub use locals::local_operation;
 pub use methods::{is_enterable, is_init_name, most_frame_slots};
 pub use operation::{ComputationalType, ElementTypes, Operation, PrimitiveType, Printed};
