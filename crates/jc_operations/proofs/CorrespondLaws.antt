@@ -21,10 +21,10 @@ module _ {X Y : Type 0} (R : ℕ → X → Y → Type 0) (xs : List X) where
     each = λ i z w at put. ⊎_elim
         (λ before. b.each i z w at before)
         (λ last.
-            let place : i ≡ n = last.0 ∙ b.length_is in
-            let here : slice_get xs n ≡ Some x = slice_get_read xs (length xs) n x refl h is in
-            let this : z ≡ x = same_Some z x (sym (subst (λ (m : ℕ). slice_get xs m ≡ Some z) place at) ∙ here) in
-            subst (λ (m : ℕ). R m z w) (sym place) (subst₂ (λ (u : X) (v : Y). R n u v) (sym this) last.1 r))
+        let place : i ≡ n = last.0 ∙ b.length_is in
+        let here : slice_get xs n ≡ Some x = slice_get_read xs (length xs) n x refl h is in
+        let this : z ≡ x = same_Some z x (sym (subst (λ (m : ℕ). slice_get xs m ≡ Some z) place at) ∙ here) in
+        subst (λ (m : ℕ). R m z w) (sym place) (subst₂ (λ (u : X) (v : Y). R n u v) (sym this) last.1 r))
         (put_cases ys y w i put);
   }
 

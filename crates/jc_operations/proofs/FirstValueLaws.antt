@@ -1,5 +1,5 @@
 -- The first letter of a descriptor decides what the first value of a static field is.
-use Rattle.std.proofs.Common.{◌≡◌, ℕ, zero, suc, ◌<◌, ◌≤◌, length, drop, ℤ, Bool, true, false, ◌||◌, ◌&&◌, List, [], ◌∷◌, ◌++◌, Option, Some, None, nat_eq, refl, sym, ap, ◌∙◌, subst, arith, pos, negsuc, if◌then◌else◌}
+use Rattle.std.proofs.Common.{◌≡◌, ℕ, zero, suc, ◌<◌, ◌≤◌, length, drop, ℤ, Bool, true, false, ◌||◌, ◌&&◌, List, [], ◌∷◌, ◌++◌, Some, nat_eq, refl, sym, ap, ◌∙◌, subst, arith, pos, negsuc, if◌then◌else◌}
 use Rattle.std.specs.Prelude.{slice_index_or, ◌≤ℤ◌, int_le, T}
 use Rattle.std.specs.Int.Signed.{le_z_yes}
 use Rattle.std.proofs.lemmas.Int.{ints, to_z-of_z}
@@ -7,9 +7,9 @@ use mir.Val.{SFits, of_z, to_z}
 use mir.Syntax.{w64}
 use Rattle.std.proofs.lemmas.Bool.{eqb-true}
 use Rattle.jc_bytes.specs.Descriptor.{FieldType, Byte, Char, Double, Float, Int, Long, Short, Boolean, Object, Array}
-use Rattle.jc_methods.specs.DescriptorTypes.{Standing, before, naming, behind, base_type, in_arrays, next_standing, ending, types_from, front_of, field_type_in}
+use Rattle.jc_methods.specs.DescriptorTypes.{before, naming, behind, base_type, in_arrays, types_from, front_of, field_type_in}
 use Rattle.jc_world.specs.Values.{Value, int, long, null}
-use Rattle.jc_world.specs.Begin.{number_value, first_of}
+use Rattle.jc_world.specs.Begin.{first_of}
 use Rattle.jc_world.specs.Programs.{IsFirstOf}
 use Rattle.jc_operations.specs.FirstValues.{value_by, FitsLetter}
 

@@ -1,5 +1,5 @@
 -- What an instruction calls, and where a switch leads.
-use Rattle.std.proofs.Common.{◌≡◌, ℕ, ◌-◌, Bool, true, false, ◌&&◌, ◌||◌, not, cond, List, [], ◌∷◌, Option, Some, None, is_some, nat_eq, nat_le, nat_lt, refl, sym, ap, ◌∙◌, subst}
+use Rattle.std.proofs.Common.{◌≡◌, ℕ, ◌-◌, Bool, true, false, ◌&&◌, not, cond, List, [], ◌∷◌, Option, Some, None, is_some, nat_eq, nat_le, nat_lt, refl, ap, subst}
 use Rattle.std.specs.Prelude.{ℤ, slice_get, ⊤}
 use Rattle.jc_bytes.specs.Descriptor.{FieldType, Byte, Char, Int, Long, Short, Boolean}
 use Rattle.jc_methods.specs.Opcode as opcode
@@ -10,22 +10,22 @@ use Rattle.jc_methods.specs.declared.insn.Arm.{Arm}
 use Rattle.jc_methods.specs.declared.body.Body.{Body}
 use Rattle.jc_methods.specs.declared.body.What.{What}
 use Rattle.jc_methods.specs.declared.body.What.TheVariants as whats
-use Rattle.jc_methods.specs.DescriptorTypes.{field_type_in, method_type_in}
+use Rattle.jc_methods.specs.DescriptorTypes.{field_type_in}
 use Rattle.jc_plan.specs.Chosen.{key_target}
 use Rattle.jc_programs.specs.declared.program.Program.{Program}
 use Rattle.jc_programs.specs.declared.program.Linked.{Linked}
 use Rattle.jc_programs.specs.declared.program.ProbeInit.{ProbeInit}
 use Rattle.jc_programs.specs.declared.run_end.Entry.{Entry}
 use Rattle.jc_programs.specs.declared.run_end.Thrown.{Thrown}
-use Rattle.jc_programs.specs.Members.{class_named, class_at, static_named}
+use Rattle.jc_programs.specs.Members.{class_named, class_at}
 use Rattle.jc_world.specs.Methods.{is_enterable}
-use Rattle.jc_world.specs.Values.{Value, int, ComputationalType, computational_type}
+use Rattle.jc_world.specs.Values.{Value, ComputationalType, computational_type}
 use Rattle.jc_world.specs.World.{Frame, Shared}
 use Rattle.jc_world.specs.Jumps.{by_switch}
 use Rattle.jc_world.specs.Perform.{perform}
 use Rattle.jc_world.specs.Step.{LocatedInsn, operation_at, located}
-use Rattle.jc_world.specs.Operations.{FieldAt, Printed, Operation, pushes, computes, loads, stores, counts, tests, jumps, indexes, matches, reads, writes, makes_array, measures, gets, puts, invokes, makes, builds, prints, fetches, returns, returns_nothing, throws_top, outside}
-use Rattle.jc_world.specs.Profile.{Location, in_init, init_of, what_at, constant_operation, long_operation, may_name_field, field_operation, declared_field, linked_field, is_print_stream, field_named, may_name_method, callee_named, enters, entered_if, body_entered, class_entered, method_entered, is_fetch, init_call, static_call, printed_by, print_operation, virtual_call, made_class, build_operation, special_call, call_named, member_operation, make_operation, class_operation, array_operation, elements_of, read_operation, write_operation, return_operation, simple_operation, local_type, load_operation, store_operation, local_operation, operation_of}
+use Rattle.jc_world.specs.Operations.{FieldAt, Printed, Operation, pushes, computes, tests, jumps, indexes, matches, makes_array, measures, gets, puts, invokes, returns, returns_nothing, throws_top, outside}
+use Rattle.jc_world.specs.Profile.{Location, in_init, init_of, what_at, constant_operation, long_operation, may_name_field, field_operation, declared_field, linked_field, is_print_stream, field_named, may_name_method, callee_named, entered_if, body_entered, class_entered, method_entered, is_fetch, init_call, printed_by, print_operation, made_class, build_operation, call_named, member_operation, make_operation, class_operation, array_operation, elements_of, read_operation, write_operation, return_operation, simple_operation, local_type, load_operation, store_operation, local_operation, operation_of}
 use Rattle.jc_operations.specs.declared.operation.Operation.{Operation as ShownOperation}
 use Rattle.jc_operations.specs.declared.operation.Operation.TheVariants as shown
 use Rattle.jc_operations.specs.Shown.{Shows}
@@ -79,7 +79,7 @@ module _ (program : Program) where
   call_fine : (op : ℕ) (at : Location) (class name desc : List ℕ) → Fine (call_named op at program class name desc)
   call_fine op at class name desc =
       either (nat_eq op opcode.invokestatic) _ _
-          (either (in_init at) _ _ (init_fine at (is_fetch class name desc) (init_of at)) (method_fine at (callee_named program class name desc)))
+      (either (in_init at) _ _ (init_fine at (is_fetch class name desc) (init_of at)) (method_fine at (callee_named program class name desc)))
       (either (nat_eq op opcode.invokevirtual) _ _ (either _ (print_operation (printed_by desc)) outside (print_fine (printed_by desc)) tt)
       (either (nat_eq op opcode.invokespecial) _ outside (either _ (build_operation (made_class class)) outside (build_fine (made_class class)) tt) tt))
 

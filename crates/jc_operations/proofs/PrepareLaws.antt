@@ -4,8 +4,7 @@ use Rattle.std.specs.Prelude.{All, slice_index_or}
 use Rattle.std.specs.Borrow.{Bor}
 use Rattle.std.specs.List.{slice_get}
 use Rattle.std.specs.Option.{option_map, option_and_then}
-use Rattle.std.proofs.lemmas.Option.{slice_get-get_or, slice_get_within, get_or_from_slice_get, slice_get_past, same_Some}
-use Rattle.std.proofs.lemmas.List.{get_or_past}
+use Rattle.std.proofs.lemmas.Option.{slice_get-get_or, get_or_from_slice_get}
 use Rattle.jc_methods.specs.WellMade.{IsWellMade}
 use Rattle.jc_methods.specs.declared.insn.Insn.{Insn}
 use Rattle.jc_methods.specs.declared.body.Body.{Body}
@@ -14,15 +13,13 @@ use Rattle.jc_programs.specs.declared.program.Program.{Program}
 use Rattle.jc_programs.specs.declared.program.Linked.{Linked}
 use Rattle.jc_programs.specs.declared.run_end.Entry.{Entry}
 use Rattle.jc_programs.specs.declared.run_end.Thrown.{Thrown}
-use Rattle.jc_programs.specs.Members.{class_at, body_of}
-use Rattle.jc_world.specs.Values.{Value}
+use Rattle.jc_programs.specs.Members.{body_of}
 use Rattle.jc_world.specs.Programs.{IsStatic, IsProgram, IsLinked}
 use Rattle.jc_world.specs.Begin.{first_value, first_statics}
 use Rattle.jc_world.specs.World.{Frame}
-use Rattle.jc_world.specs.Operations.{Operation, outside}
+use Rattle.jc_world.specs.Operations.{outside}
 use Rattle.jc_world.specs.Step.{located_in_body, located_in_class, located, operation_at, handles, handler_in, handler_of}
 use Rattle.jc_world.proofs.BeginLaws.{all_at}
-use Rattle.jc_operations.specs.declared.index.ClassIndex.{ClassIndex}
 use Rattle.jc_operations.specs.declared.index.ProgramIndex.{ProgramIndex}
 use Rattle.jc_operations.specs.declared.operation.Operation.{Operation as ShownOperation}
 use Rattle.jc_operations.specs.declared.operation.Operation.TheVariants as shown
@@ -102,17 +99,17 @@ module _ (program : Program) (method : Entry) (m : PreparedMethod) (is : IsMetho
   handled place c (h ∷ handlers) (r ∷ rows) made =
       let row : IsRow is.body 0 h r = made.each 0 h r refl refl in
       let others : Correspond (IsRow is.body) handlers rows = record {
-            length_is = let e = made.length_is in omega (arith, e);
-            each = λ i u v e g. let w = made.each (suc i) u v e g in record { start = w.start; end = w.end; target = w.target; catches = w.catches };
-          } in
+        length_is = let e = made.length_is in omega (arith, e);
+        each = λ i u v e g. let w = made.each (suc i) u v e g in record { start = w.start; end = w.end; target = w.target; catches = w.catches };
+      } in
       let test : row_handles place c r ≡ handles is.body place c h =
-            ap₂ (λ x y. nat_le x place && y) row.start (ap₂ (λ x y. nat_lt place x && y) row.end (row.catches c)) in
+      ap₂ (λ x y. nat_le x place && y) row.start (ap₂ (λ x y. nat_lt place x && y) row.end (row.catches c)) in
       by (row_handles place c r) refl (handles is.body place c h) refl test row.target (handled place c handlers rows others)
     where
       by : (x : Bool) → row_handles place c r ≡ x → (y : Bool) → handles is.body place c h ≡ y → row_handles place c r ≡ handles is.body place c h → r.target ≡ h.target
           → handling rows place c ≡ option_map (λ (row : Handler). row.target) (find (handles is.body place c) handlers)
           → option_map (λ (row : PreparedRow). row.target) (cond (row_handles place c r) (Some r) (find (row_handles place c) rows))
-            ≡ option_map (λ (row : Handler). row.target) (cond (handles is.body place c h) (Some h) (find (handles is.body place c) handlers))
+          ≡ option_map (λ (row : Handler). row.target) (cond (handles is.body place c h) (Some h) (find (handles is.body place c) handlers))
       by true e true g same target rest = rw (e, g) (ap Some target)
       by false e false g same target rest = rw (e, g) rest
       by true e false g same target rest = absurd (cc)
@@ -124,8 +121,8 @@ module _ (program : Program) (method : Entry) (m : PreparedMethod) (is : IsMetho
   handler_at place c frame e g =
       handled place c is.body.handlers m.rows is.prepared.rows
       ∙ sym (
-        ap (λ (o : Option Body). option_map (λ (row : Handler). row.target) (option_and_then (handler_in frame.place c) o)) (ap (body_of program) e ∙ body_is)
-        ∙ ap (λ (p : ℕ). option_map (λ (row : Handler). row.target) (handler_in p c is.body)) g)
+      ap (λ (o : Option Body). option_map (λ (row : Handler). row.target) (option_and_then (handler_in frame.place c) o)) (ap (body_of program) e ∙ body_is)
+      ∙ ap (λ (p : ℕ). option_map (λ (row : Handler). row.target) (handler_in p c is.body)) g)
 
 -- ---- the classes
 

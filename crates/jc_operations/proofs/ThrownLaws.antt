@@ -5,7 +5,7 @@ use Rattle.std.specs.Str.{bytes_eq}
 use Rattle.std.proofs.lemmas.Slice.Eq.{bytes_eq-Decides}
 use Rattle.jc_programs.specs.declared.run_end.Thrown.{Thrown}
 use Rattle.jc_programs.specs.declared.run_end.Thrown.TheVariants.{Throwable, Exception, Error, RuntimeException, ArithmeticException, IllegalArgumentException, IllegalStateException, NullPointerException, NegativeArraySizeException, ArrayStoreException, IndexOutOfBoundsException, ArrayIndexOutOfBoundsException, VirtualMachineError, StackOverflowError, OutOfMemoryError}
-use Rattle.jc_programs.specs.Throwables.{name_of, throwables, thrown_named, line_of, is_named_in}
+use Rattle.jc_programs.specs.Throwables.{name_of, throwables, thrown_named, superclass, upward, line_of, is_named_in}
 
 module _ {X : Type 0} (p : X → Bool) where
   passes : (b : Bool) (x y : X) (rest : Option X) → p y ≡ b → cond b (Some y) rest ≡ Some x → (rest ≡ Some x → p x ≡ true) → p x ≡ true
@@ -74,4 +74,44 @@ named_caught name d e c =
 pub unnamed_caught : (name : List ℕ) → thrown_named name ≡ None → (c : Thrown) → is_named_in c name ≡ false
 unnamed_caught name e c =
     none_any (λ (x : Thrown). bytes_eq (name_of x) name) (line_of c)
-        (λ d. none_passes (λ (x : Thrown). bytes_eq (name_of x) name) throwables (place d) d e (stands d))
+    (λ d. none_passes (λ (x : Thrown). bytes_eq (name_of x) name) throwables (place d) d e (stands d))
+
+-- one of so many classes of the line is the other one
+abbrev pub named_above : ℕ → Option Thrown → Thrown → Bool
+named_above n line other = list_any (λ (d : Thrown). bytes_eq (name_of d) (name_of other)) (upward n line)
+
+named_back : (d : Thrown) → thrown_named (name_of d) ≡ Some d
+named_back Throwable = refl
+named_back Exception = refl
+named_back Error = refl
+named_back RuntimeException = refl
+named_back ArithmeticException = refl
+named_back IllegalArgumentException = refl
+named_back IllegalStateException = refl
+named_back NullPointerException = refl
+named_back NegativeArraySizeException = refl
+named_back ArrayStoreException = refl
+named_back IndexOutOfBoundsException = refl
+named_back ArrayIndexOutOfBoundsException = refl
+named_back VirtualMachineError = refl
+named_back StackOverflowError = refl
+named_back OutOfMemoryError = refl
+
+same_name : (c d : Thrown) → bytes_eq (name_of c) (name_of d) ≡ true → c ≡ d
+same_name c d e =
+    let names : name_of c ≡ name_of d = (bytes_eq-Decides (name_of c) (name_of d)).0 e in
+    let found : Some c ≡ Some d = sym (named_back c) ∙ ap thrown_named names ∙ named_back d in cc
+
+pub above_same : (n left : ℕ) (line : Option Thrown) (c other : Thrown) → left ≡ suc n → line ≡ Some c → c ≡ other → named_above left line other ≡ true
+above_same n left line c other e g same =
+    ap (λ k. named_above k line other) e ∙ ap (λ l. named_above (suc n) l other) g
+    ∙ ap (λ b. b || named_above n (superclass c) other) ((bytes_eq-Decides (name_of c) (name_of other)).1 (ap name_of same))
+
+pub above_other : (n left : ℕ) (line : Option Thrown) (c other : Thrown) → left ≡ suc n → line ≡ Some c → (c ≡ other → ⊥) → named_above left line other ≡ named_above n (superclass c) other
+above_other n left line c other e g differ =
+    ap (λ k. named_above k line other) e ∙ ap (λ l. named_above (suc n) l other) g
+    ∙ ap (λ b. b || named_above n (superclass c) other) (by (bytes_eq (name_of c) (name_of other)) refl)
+  where
+    by : (b : Bool) → bytes_eq (name_of c) (name_of other) ≡ b → bytes_eq (name_of c) (name_of other) ≡ false
+    by false q = q
+    by true q = absurd (differ (same_name c other q))

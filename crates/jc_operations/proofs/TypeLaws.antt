@@ -32,7 +32,6 @@ says_at values types i v type all there here = record {
       ∙ slice_get-map held_of types i ∙ ap (option_map held_of) here);
 }
 
-
 pub kinds_are : (values : List ValueType) (types : List FieldType) (kinds : List (Option ComputationalType)) → AllSay values types → Correspond IsKindOf values kinds
     → map (option_map computational) kinds ≡ map computational_type types
 kinds_are values types kinds all made = same_map computational_type (option_map computational) types kinds (record {

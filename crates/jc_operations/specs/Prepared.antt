@@ -1,5 +1,5 @@
 -- A program prepared for the machine.
-use Rattle.std.specs.Prelude.{◌≡◌, ℕ, ◌<◌, Bool, true, false, ◌&&◌, List, length, map, Option, Some, None, nat_le, nat_lt, slice_get, slice_index_or, find}
+use Rattle.std.specs.Prelude.{◌≡◌, ℕ, Bool, true, false, ◌&&◌, List, length, map, Option, Some, nat_le, nat_lt, slice_get, slice_index_or, find}
 use Rattle.std.specs.Option.{option_map}
 use Rattle.jc_methods.specs.declared.insn.Insn.{Insn}
 use Rattle.jc_methods.specs.declared.body.Handler.{Handler}

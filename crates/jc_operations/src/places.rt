@@ -49,11 +49,11 @@ pub fn method_places(alloc: Global, bodies: &[Body]) -> Result<Members<'_>, Memo
     'noting: while number > 0 {
         number -= 1;
         let body = &bodies[number];
-        let member = Member {
+        let method = Member {
             name: body.name.as_slice(),
             desc: body.desc.as_slice(),
         };
-        places.insert(member, number as u32)?;
+        places.insert(method, number as u32)?;
     }
     Ok(places)
 }

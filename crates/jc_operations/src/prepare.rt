@@ -105,10 +105,7 @@ fn prepared_class<'a>(
 }
 
 /// The classes of a program.
-fn prepared_classes(
-    alloc: Global,
-    index: &ProgramIndex<'_>,
-) -> Result<List<PreparedClass>, Memory>
+fn prepared_classes(alloc: Global, index: &ProgramIndex<'_>) -> Result<List<PreparedClass>, Memory>
     requires few { length index.now.classes < 2 ^ 32 }
     requires made { All IsMade index.now.classes }
     ensures { (program : Program) → IsIndex program index.now

@@ -109,9 +109,7 @@ impl PreparedRow {
 fn first_row(rows: &[PreparedRow], place: u32, thrown: Thrown) -> Option<PreparedRow>
     ensures { result ≡ find (row_handles place thrown) rows.now }
 {
-    rows.iter()
-        .copied()
-        .find(|row| row.handles(place, thrown))
+    rows.iter().copied().find(|row| row.handles(place, thrown))
 }
 
 impl PreparedMethod {

@@ -14,6 +14,7 @@ ghost use Rattle.jc_world.specs.Operations.{tests, jumps};
 ghost use Rattle.jc_operations.specs.Shown.{Shows};
 ghost use Rattle.jc_operations.specs.Sites.{IsClassIndex, IsSite, UsesFit};
 
+use crate::Operation;
 use crate::calls::{special_call, virtual_call};
 use crate::constants::{constant_operation, long_operation};
 use crate::fields::{field_operation, is_print_stream};
@@ -23,7 +24,6 @@ use crate::methods::{is_enterable, is_init_name};
 use crate::places::{Whats, what_at};
 use crate::simple::{array_operation, simple_operation};
 use crate::throwables::make_operation;
-use crate::Operation;
 use jc_effects::Narrowing;
 use jc_methods::{DATA_NAME, FETCH_NAME, FETCH_TYPE, Insn, RUNTIME_CLASS, What, opcode};
 use jc_programs::{Entry, ProbeInit};
@@ -141,13 +141,7 @@ impl<'a, 'i> Site<'a, 'i> {
     }
 
     /// `getstatic` or `putstatic` of the static field that the class with a number declares.
-    fn declared_field(
-        &self,
-        op: u8,
-        class: u32,
-        named: Named<'a>,
-        field: Option<u32>,
-    ) -> Operation
+    fn declared_field(&self, op: u8, class: u32, named: Named<'a>, field: Option<u32>) -> Operation
         requires { IsFieldDescriptor named.desc.now }
         ensures { (program : Program) (at : Location) → IsSite program at self.now
             → Shows result (declared_field op at class named.entry.name.now named.entry.desc.now field) }

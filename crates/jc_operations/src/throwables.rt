@@ -1,6 +1,6 @@
 //! Classes of throwables by their names.
 ghost use Rattle.std.specs.Prelude.{◌≡◌, find, bytes_eq};
-ghost use Rattle.jc_programs.specs.Throwables.{name_of, thrown_named, line_of, is_named_in};
+ghost use Rattle.jc_programs.specs.Throwables.{name_of, thrown_named, superclass, is_named_in};
 ghost use Rattle.jc_world.specs.Profile.{made_class, make_operation, build_operation};
 ghost use Rattle.jc_operations.specs.Shown.{Shows};
 
@@ -26,6 +26,9 @@ const THROWABLES: [Thrown; 15] = [
     Thrown::OutOfMemoryError,
 ];
 
+/// The most classes in a line from a class up to Throwable.
+const MOST_LINE: u32 = 5;
+
 /// The name of a class of throwables.
 fn name_of(class: Thrown) -> &'static [u8]
     ensures { result.now ≡ name_of class }
@@ -49,85 +52,24 @@ fn name_of(class: Thrown) -> &'static [u8]
     }
 }
 
-/// The class and its superclasses, from the class up.
-fn line_of(class: Thrown) -> &'static [Thrown]
-    ensures { result.now ≡ line_of class }
+/// The superclass of a class, if it has one.
+fn superclass(class: Thrown) -> Option<Thrown>
+    ensures { result ≡ superclass class }
 {
     match class {
-        Thrown::Throwable => &[Thrown::Throwable],
-        Thrown::Exception => &[Thrown::Exception, Thrown::Throwable],
-        Thrown::Error => &[Thrown::Error, Thrown::Throwable],
-        Thrown::RuntimeException => &[
-            Thrown::RuntimeException,
-            Thrown::Exception,
-            Thrown::Throwable,
-        ],
-        Thrown::ArithmeticException => &[
-            Thrown::ArithmeticException,
-            Thrown::RuntimeException,
-            Thrown::Exception,
-            Thrown::Throwable,
-        ],
-        Thrown::IllegalArgumentException => &[
-            Thrown::IllegalArgumentException,
-            Thrown::RuntimeException,
-            Thrown::Exception,
-            Thrown::Throwable,
-        ],
-        Thrown::IllegalStateException => &[
-            Thrown::IllegalStateException,
-            Thrown::RuntimeException,
-            Thrown::Exception,
-            Thrown::Throwable,
-        ],
-        Thrown::NullPointerException => &[
-            Thrown::NullPointerException,
-            Thrown::RuntimeException,
-            Thrown::Exception,
-            Thrown::Throwable,
-        ],
-        Thrown::NegativeArraySizeException => &[
-            Thrown::NegativeArraySizeException,
-            Thrown::RuntimeException,
-            Thrown::Exception,
-            Thrown::Throwable,
-        ],
-        Thrown::ArrayStoreException => &[
-            Thrown::ArrayStoreException,
-            Thrown::RuntimeException,
-            Thrown::Exception,
-            Thrown::Throwable,
-        ],
-        Thrown::IndexOutOfBoundsException => &[
-            Thrown::IndexOutOfBoundsException,
-            Thrown::RuntimeException,
-            Thrown::Exception,
-            Thrown::Throwable,
-        ],
-        Thrown::ArrayIndexOutOfBoundsException => &[
-            Thrown::ArrayIndexOutOfBoundsException,
-            Thrown::IndexOutOfBoundsException,
-            Thrown::RuntimeException,
-            Thrown::Exception,
-            Thrown::Throwable,
-        ],
-        Thrown::VirtualMachineError => &[
-            Thrown::VirtualMachineError,
-            Thrown::Error,
-            Thrown::Throwable,
-        ],
-        Thrown::StackOverflowError => &[
-            Thrown::StackOverflowError,
-            Thrown::VirtualMachineError,
-            Thrown::Error,
-            Thrown::Throwable,
-        ],
-        Thrown::OutOfMemoryError => &[
-            Thrown::OutOfMemoryError,
-            Thrown::VirtualMachineError,
-            Thrown::Error,
-            Thrown::Throwable,
-        ],
+        Thrown::Throwable => None,
+        Thrown::Exception | Thrown::Error => Some(Thrown::Throwable),
+        Thrown::RuntimeException => Some(Thrown::Exception),
+        Thrown::ArithmeticException
+        | Thrown::IllegalArgumentException
+        | Thrown::IllegalStateException
+        | Thrown::NullPointerException
+        | Thrown::NegativeArraySizeException
+        | Thrown::ArrayStoreException
+        | Thrown::IndexOutOfBoundsException => Some(Thrown::RuntimeException),
+        Thrown::ArrayIndexOutOfBoundsException => Some(Thrown::IndexOutOfBoundsException),
+        Thrown::VirtualMachineError => Some(Thrown::Error),
+        Thrown::StackOverflowError | Thrown::OutOfMemoryError => Some(Thrown::VirtualMachineError),
     }
 }
 
@@ -135,7 +77,21 @@ fn line_of(class: Thrown) -> &'static [Thrown]
 pub fn extends(class: Thrown, other: Thrown) -> bool
     ensures { result ≡ is_named_in class (name_of other) }
 {
-    line_of(class).iter().any(|above| *above == other)
+    let mut left = MOST_LINE;
+    let mut line = Some(class);
+    'rising: while left > 0 {
+        left -= 1;
+        match line {
+            None => return false,
+            Some(above) => {
+                if above == other {
+                    return true;
+                }
+                line = superclass(above);
+            }
+        }
+    }
+    false
 }
 
 /// Whether a class of throwables has a name.

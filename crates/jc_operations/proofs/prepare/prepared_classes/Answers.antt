@@ -1,6 +1,5 @@
 use Rattle.std.proofs.Common.{◌≡◌, ◌+◌, ◌∷◌, [], ℕ, List, length, length-append, sym, ap, ◌∙◌, subst}
 use Rattle.jc_operations.specs.declared.index.ClassIndex.{ClassIndex}
-use Rattle.jc_operations.specs.declared.prepared.PreparedClass.{PreparedClass}
 use Rattle.jc_operations.specs.Prepared.{Correspond}
 use Rattle.jc_operations.specs.Sites.{IsMade, IsPreparedFrom}
 use Rattle.jc_operations.proofs.CorrespondLaws.{BuiltTo, built_more, built_all}
@@ -18,13 +17,13 @@ preparing-preserved c =
       λ program index.
           subst (BuiltTo (IsPreparedFrom program) c.as_slice-all.result.now (c.preparing.members-index + 1)) (sym c.in_ok-push.ensures.ok)
           (built_more (IsPreparedFrom program) c.as_slice-all.result.now c.preparing.members-index c.preparing.classes c.members-item.result c.in_ok-prepared_class.field-0
-              c.preparing-test.true c.members-item.is
-              (subst (λ (k : ℕ). IsPreparedFrom program k c.members-item.result c.in_ok-prepared_class.field-0) number (c.in_ok-prepared_class.ensures program index))
-              (c.preparing.invariant.1 program index)),
+          c.preparing-test.true c.members-item.is
+          (subst (λ (k : ℕ). IsPreparedFrom program k c.members-item.result c.in_ok-prepared_class.field-0) number (c.in_ok-prepared_class.ensures program index))
+          (c.preparing.invariant.1 program index)),
     )
 
 pub returns : goal.returns
 returns c = λ program index.
     subst (λ (all : List ClassIndex). Correspond (IsPreparedFrom program) all c.preparing.classes) c.as_slice-all.ensures
     (built_all (IsPreparedFrom program) c.as_slice-all.result.now c.preparing.members-index c.preparing.classes c.preparing-test.false c.preparing.auto.members-index-end
-        (c.preparing.invariant.1 program index))
+    (c.preparing.invariant.1 program index))

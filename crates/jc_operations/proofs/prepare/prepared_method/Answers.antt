@@ -1,6 +1,5 @@
-use Rattle.std.proofs.Common.{◌≡◌, ◌<◌, ℕ, List, length, map, Option, sym, ap, ◌∙◌, subst, refl, arith}
-use Rattle.std.specs.Option.{option_map}
-use Rattle.jc_bytes.specs.Descriptor.{FieldType, MethodType, DescribesMethod}
+use Rattle.std.proofs.Common.{◌≡◌, ◌<◌, ℕ, List, length, map, sym, ap, ◌∙◌, subst, refl}
+use Rattle.jc_bytes.specs.Descriptor.{MethodType, DescribesMethod}
 use Rattle.jc_methods.specs.declared.insn.Insn.{Insn}
 use Rattle.jc_methods.specs.declared.body.Body.{Body}
 use Rattle.jc_methods.specs.declared.body.Handler.{Handler}
@@ -13,7 +12,7 @@ use Rattle.jc_programs.specs.declared.program.Linked.{Linked}
 use Rattle.jc_world.specs.Methods.{is_init_name, is_enterable, most_frame_slots}
 use Rattle.jc_world.specs.Profile.{Location}
 use Rattle.jc_world.specs.Values.{computational_type}
-use Rattle.jc_operations.specs.Types.{computational, return_narrowing}
+use Rattle.jc_operations.specs.Types.{return_narrowing}
 use Rattle.jc_operations.specs.Places.{AreWhats}
 use Rattle.jc_operations.specs.Prepared.{Correspond, ShowsInsn, IsRow}
 use Rattle.jc_operations.proofs.CodeLaws.{few_insns}
@@ -44,7 +43,7 @@ returns c = λ program linked i index members.
           }));
       parameters =
           c.in_ok-parameters.ensures type.parameters
-              (subst (λ (values : List ValueType). AllSay values type.parameters) (sym c.as_slice-5.ensures) (c.in_ok-types.ensures.parameters type given))
+          (subst (λ (values : List ValueType). AllSay values type.parameters) (sym c.as_slice-5.ensures) (c.in_ok-types.ensures.parameters type given))
           ∙ ap (λ (t : MethodType). map computational_type t.parameters) (sym type_is);
       max_locals = refl;
       is_init = named;

@@ -1,4 +1,3 @@
-use Rattle.std.proofs.Common.{◌≡◌}
 use Rattle.jc_programs.specs.declared.program.Program.{Program}
 use Rattle.jc_programs.specs.declared.program.Linked.{Linked}
 use Rattle.jc_operations.specs.Prepared.{IsPreparedMethod}

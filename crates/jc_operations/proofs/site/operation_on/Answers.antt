@@ -1,4 +1,4 @@
-use Rattle.std.proofs.Common.{◌≡◌, Some, sym, ap, ◌∙◌, subst}
+use Rattle.std.proofs.Common.{◌≡◌, Some, subst}
 use Rattle.jc_methods.specs.declared.body.What.{What}
 use Rattle.jc_methods.specs.declared.body.What.TheVariants as whats
 use Rattle.jc_world.specs.Profile.{class_operation}

@@ -1,6 +1,5 @@
-use Rattle.std.proofs.Common.{◌≡◌, ℕ, ◌+◌, ◌-◌, ◌/◌, ◌<◌, ◌≤◌, length, List, Some, sym, ap, ◌∙◌, arith, rules, ℤ, pos, ◌<ℤ◌, to_z, of_z, w32}
+use Rattle.std.proofs.Common.{◌≡◌, ℕ, ◌+◌, ◌-◌, ◌/◌, ◌<◌, length, List, sym, ap, ◌∙◌, arith, rules, pos, ◌<ℤ◌, to_z, of_z, w32}
 use Rattle.std.specs.Prelude.{slice_index_or}
-use Rattle.std.specs.List.{slice_get}
 use mir.Val.{SFits}
 use Rattle.std.proofs.lemmas.Int.{ints, to_z-of_z}
 use Rattle.std.proofs.lemmas.Option.{slice_get-get_or}

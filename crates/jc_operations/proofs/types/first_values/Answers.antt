@@ -7,4 +7,4 @@ use Rattle.jc_operations.proofs.types.first_values.Goals as goal
 pub returns : goal.returns
 returns c =
     same_map first_value value_of c.args.statics.now c.preparing.values
-        (built_all IsFirstValue c.args.statics.now c.preparing.field-index c.preparing.values c.preparing-test.false c.preparing.auto.field-index-end c.preparing.invariant)
+    (built_all IsFirstValue c.args.statics.now c.preparing.field-index c.preparing.values c.preparing-test.false c.preparing.auto.field-index-end c.preparing.invariant)

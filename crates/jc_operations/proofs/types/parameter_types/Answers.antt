@@ -7,9 +7,9 @@ pub preparing-preserved : goal.preparing-preserved
 preparing-preserved c =
     subst (BuiltTo IsKindOf c.args.values.now (c.preparing.value-index + 1)) (sym c.in_ok-push.ensures.ok)
     (built_next IsKindOf c.args.values.now c.preparing.value-index c.preparing.kinds _ c.parameter_type.result c.preparing-test.true
-        c.parameter_type.ensures c.preparing.invariant)
+    c.parameter_type.ensures c.preparing.invariant)
 
 pub returns : goal.returns
 returns c = λ types all.
     kinds_are c.args.values.now types c.preparing.kinds all
-        (built_all IsKindOf c.args.values.now c.preparing.value-index c.preparing.kinds c.preparing-test.false c.preparing.auto.value-index-end c.preparing.invariant)
+    (built_all IsKindOf c.args.values.now c.preparing.value-index c.preparing.kinds c.preparing-test.false c.preparing.auto.value-index-end c.preparing.invariant)

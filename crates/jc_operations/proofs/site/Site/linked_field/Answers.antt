@@ -9,4 +9,4 @@ returns-in-Some c = λ program at site.
     let desc = c.args.named.desc.now in
     subst (λ (o : Option ℕ). Shows c.declared_field.result (linked_field c.args.op at program name desc o)) (sym c.in-Some.is)
     (subst (λ (o : Option ℕ). Shows c.declared_field.result (declared_field c.args.op at c.in-Some.class name desc o)) (c.static_in-field.ensures program at site)
-        (c.declared_field.ensures program at site))
+    (c.declared_field.ensures program at site))

@@ -10,4 +10,4 @@ returns-in-Some-class_at c = λ program at site place.
     let k = c.in-Some-class_at.ensures program site.index in
     subst (λ (o : Option Entry). Shows c.body_entered.result (method_entered at program o)) (sym c.in-Some.is)
     (subst (λ (o : Option Linked). Shows c.body_entered.result (class_entered at c.in-Some.callee o)) (sym k.class_is)
-        (c.body_entered.ensures program at c.in-Some.callee.class k.linked site place k.indexed))
+    (c.body_entered.ensures program at c.in-Some.callee.class k.linked site place k.indexed))
