@@ -1,0 +1,20 @@
+-- What an instruction finds at an index of an object, as the code tells it.
+use Rattle.std.specs.Prelude.{◌≡◌, ℕ, ℤ, ◌<◌, List, length, Some, slice_get}
+use Rattle.jc_bytes.specs.Descriptor.{FieldType}
+use Rattle.jc_programs.specs.declared.run_end.Thrown.TheVariants as thrown
+use Rattle.jc_world.specs.Heap.{HeapObject, array}
+use Rattle.jc_world.specs.Arrays as arrays
+use Rattle.jc_store.specs.Heaps.{element_type}
+use Rattle.jc_perform.specs.declared.arrays.Found.{Found}
+use Rattle.jc_perform.specs.declared.arrays.Found.TheVariants as founds
+
+-- an element of an array of the type
+abbrev pub HasElementAt : List HeapObject → ℕ → FieldType → ℕ → Type 0
+HasElementAt heap number type index = (elements : List ℤ) × (slice_get heap number ≡ Some (array type elements)) × (index < length elements)
+
+abbrev pub Finds : Found → List HeapObject → ℕ → arrays.Found → Type 0
+Finds (founds.Within element index) heap number there =
+    (elements : List ℤ) × (slice_get heap number ≡ Some (array (element_type element) elements)) × (index < length elements)
+    × (there ≡ arrays.found (record { element = element_type element; elements = elements; index = index }))
+Finds founds.Outside heap number there = there ≡ arrays.fails thrown.ArrayIndexOutOfBoundsException
+Finds founds.Unsuited heap number there = there ≡ arrays.unsuited
