@@ -1,1 +1,3 @@
 mod TwinExampleLaws
+mod DivExampleLaws
+mod PremiseExampleLaws

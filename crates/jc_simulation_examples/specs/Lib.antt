@@ -1,1 +1,2 @@
 pub mod SimulationExamples
+pub mod CoverageExamples

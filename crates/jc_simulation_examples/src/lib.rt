@@ -4,6 +4,8 @@
 //! class has it already, and a probe takes 4.
 #![tactic(auto)]
 
+mod coverage;
+
 ghost use Rattle.std.specs.Prelude.{◌≡◌, [], ◌∷◌, ◌++◌, replicate};
 ghost use Rattle.jc_programs.specs.Turns.{turns_of};
 ghost use Rattle.jc_programs.specs.declared.run_plan.Schedule.TheVariants as schedules;
@@ -15,6 +17,8 @@ ghost use Rattle.jc_emit.specs.TwinProgram.{TwinProgram};
 ghost use Rattle.jc_world_examples.specs.ProgramExamples.{abs_program, probed_abs_program, inc_program, probed_inc_program};
 ghost use Rattle.jc_simulation_examples.specs.SimulationExamples.{inc_marks, one_inc, one_begun, two_begun};
 ghost use Rattle.jc_simulation_examples.specs.SimulationExamples.{probed_nothing_program, nothing_marks, nothing_begun};
+
+pub use coverage::{worked_coverage, worked_stop, worked_throw};
 
 /// Of the 22 turns of one thread, five are kept. Of two threads that race through `$jacocoInit`, ten turns are kept, of each
 /// thread in turn; one after the other they keep five each.
