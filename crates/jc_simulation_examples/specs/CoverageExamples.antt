@@ -20,7 +20,7 @@ use Rattle.jc_simulation.specs.Laws.{kept_of}
 use Rattle.jc_exact.specs.Exact.{HaveEntries, TellHits}
 use Rattle.jc_exact.specs.Reported.{AllEndWell}
 use Rattle.jc_world_examples.specs.EdgeExamples.{NumberedEdge, numbered}
-use Rattle.jc_world_examples.specs.ProgramExamples.{program, method, probed_class, prelude, probe, init_use, one_thread, case, inc_thread, a_name, m_name}
+use Rattle.jc_world_examples.specs.ProgramExamples.{program, method, probed_class, prelude, probe, init_use, one_thread, case, inc_thread, a_name, m_name, r_name}
 
 -- the edges that the original takes and reaches under the kept turns, and what the twin hits
 abbrev pub edges_taken : Program → Program → (Entry → Marks) → Case → List NumberedEdge
@@ -88,3 +88,16 @@ div_case = one_thread m_name (codes "div") (pos 1 ∷ pos 0 ∷ []) 20
 
 abbrev pub stopped_inc : ℕ → Case
 stopped_inc turns = case (inc_thread ∷ []) (schedules.Robin turns)
+
+-- ---- R: r of 1, which calls itself once
+
+abbrev pub r_marks : Entry → Marks
+r_marks method = record {
+  at = 0 ∷ 0 ∷ 0 ∷ 1 ∷ 6 ∷ 6 ∷ 6 ∷ 6 ∷ 6 ∷ 2 ∷ 3 ∷ 4 ∷ 5 ∷ 6 ∷ 6 ∷ 6 ∷ 6 ∷ 6 ∷ 6 ∷ 6 ∷ 6 ∷ 6 ∷ [];
+  own = false ∷ false ∷ true ∷ true ∷ false ∷ false ∷ false ∷ false ∷ false ∷ true ∷ true ∷ true ∷ true ∷ false ∷ false ∷ false ∷ false ∷ false
+      ∷ false ∷ false ∷ false ∷ true ∷ [];
+  extra = 0 ∷ 1 ∷ 0 ∷ 0 ∷ 0 ∷ 1 ∷ 2 ∷ 3 ∷ 0 ∷ 0 ∷ 0 ∷ 0 ∷ 0 ∷ 0 ∷ 1 ∷ 2 ∷ 3 ∷ 0 ∷ 1 ∷ 2 ∷ 3 ∷ 0 ∷ [];
+}
+
+abbrev pub r_case : ℕ → Case
+r_case turns = one_thread r_name (codes "r") (pos 1 ∷ []) turns

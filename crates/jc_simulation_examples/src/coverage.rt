@@ -6,9 +6,9 @@ ghost use Rattle.jc_emit.specs.TwinProgram.{TwinProgram};
 ghost use Rattle.jc_world.specs.Run.{run};
 ghost use Rattle.jc_world.specs.World.{threw};
 ghost use Rattle.jc_world_examples.specs.EdgeExamples.{edge};
-ghost use Rattle.jc_world_examples.specs.ProgramExamples.{abs, abs_program, probed_abs_program, div, div_program, hit, inc, inc_program, probed_inc_program};
+ghost use Rattle.jc_world_examples.specs.ProgramExamples.{abs, abs_program, probed_abs_program, div, div_program, hit, inc, inc_program, probed_inc_program, r_program, probed_r_program};
 ghost use Rattle.jc_simulation_examples.specs.SimulationExamples.{inc_marks};
-ghost use Rattle.jc_simulation_examples.specs.CoverageExamples.{MeetsPremises, abs_case, abs_hits, abs_marks, abs_plan, covered_in, div_case, div_marks, edges_reached, edges_taken, hits_in, probed_div_program, stopped_inc};
+ghost use Rattle.jc_simulation_examples.specs.CoverageExamples.{MeetsPremises, abs_case, abs_hits, abs_marks, abs_plan, covered_in, div_case, div_marks, edges_reached, edges_taken, hits_in, probed_div_program, r_case, r_marks, stopped_inc};
 
 /// The premises can be met: a plan of one case that returns. The branches that are covered are those that were taken.
 pub fn worked_coverage()
@@ -36,4 +36,12 @@ pub fn worked_stop()
         ≡ edge 0 0 ∷ edge 1 0 ∷ edge 2 0 ∷ edge 3 0 ∷ edge 4 0 ∷ [] }
     ensures covered { covered_in inc (true ∷ []) ≡ ((true ∷ []) ∷ (true ∷ []) ∷ (true ∷ []) ∷ (true ∷ []) ∷ (true ∷ []) ∷ []) ∷ [] }
     ensures none { hits_in probed_inc_program (stopped_inc 20) ≡ [] }
+{}
+
+/// A call takes its edge when its method returns. Behind 19 turns the method is entered, and the call has taken none.
+pub fn worked_call()
+    ensures entered { edges_taken r_program probed_r_program r_marks (r_case 19) ≡ edge 0 0 ∷ edge 1 0 ∷ edge 2 0 ∷ edge 3 0 ∷ edge 4 0 ∷ [] }
+    ensures returned { edges_taken r_program probed_r_program r_marks (r_case 60)
+        ≡ edge 0 0 ∷ edge 1 0 ∷ edge 2 0 ∷ edge 3 0 ∷ edge 4 0 ∷ edge 0 0 ∷ edge 1 1 ∷ edge 6 0 ∷ edge 5 0 ∷ edge 6 0 ∷ [] }
+    ensures hits { hits_in probed_r_program (r_case 60) ≡ hit 0 2 ∷ hit 0 1 ∷ hit 0 2 ∷ hit 0 0 ∷ [] }
 {}

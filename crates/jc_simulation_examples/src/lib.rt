@@ -18,7 +18,7 @@ ghost use Rattle.jc_world_examples.specs.ProgramExamples.{abs_program, probed_ab
 ghost use Rattle.jc_simulation_examples.specs.SimulationExamples.{inc_marks, one_inc, one_begun, two_begun};
 ghost use Rattle.jc_simulation_examples.specs.SimulationExamples.{probed_nothing_program, nothing_marks, nothing_begun};
 
-pub use coverage::{worked_coverage, worked_stop, worked_throw};
+pub use coverage::{worked_call, worked_coverage, worked_stop, worked_throw};
 
 /// Of the 22 turns of one thread, five are kept. Of two threads that race through `$jacocoInit`, ten turns are kept, of each
 /// thread in turn; one after the other they keep five each.
