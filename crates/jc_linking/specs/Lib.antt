@@ -1,0 +1,6 @@
+pub mod Linking
+pub mod Pairs
+pub mod ProbeInits
+pub mod SameProgram
+pub mod Statics
+pub mod Steps
