@@ -1,0 +1,5 @@
+use Rattle.jc_link_laws.proofs.TwinLinkLaws.{twin_program}
+use Rattle.jc_link_laws.proofs.laws.twins_link.Goals as goal
+
+pub returns : goal.returns
+returns c = twin_program c.args.originals.now c.args.written.now

@@ -1,0 +1,28 @@
+//! Laws of instrumented class files that are linked.
+ghost use Rattle.std.specs.Prelude.{◌≤◌, ℕ, List, length};
+ghost use Rattle.std.specs.List.{AllByRecursion};
+ghost use Rattle.jc_bytes.specs.ByteLists.{AreBytes};
+ghost use Rattle.jc_bytes.specs.Reader.{most_read};
+ghost use Rattle.jc_programs.specs.declared.program.Program.{Program};
+ghost use Rattle.jc_emit.specs.TwinProgram.{TwinProgram};
+ghost use Rattle.jc_instrument.specs.InstrumentedFile.{IsInstrumentedFile};
+ghost use Rattle.jc_instrument.specs.declared.whole.Instrumented.{Instrumented};
+ghost use Rattle.jc_linking.specs.Linking.{IsProgramOf};
+ghost use Rattle.jc_link_laws.specs.TwinFiles.{AreWrittenOf, HasConstants, IsShortFile, IsWrittenOf};
+
+use jc_bytes::Bytes;
+
+/// Where accepted files are linked to a program, and what was written of them is linked to a program in the same order,
+/// the texts of twins of the changed ones and the unchanged ones as they are, the second program is a twin of the first.
+/// Of a changed file each static field's ConstantValue attribute has to name a place of the constant pool, as it does in
+/// each class file (JVM Specification 4.7.2): a place behind the pool could name what the twin's pool has more.
+pub fn twins_link(originals: &[Bytes], written: &[Bytes])
+    ensures { (p : Program) (q : Program) → AllByRecursion IsShortFile originals.now → AllByRecursion AreBytes written.now
+        → AreWrittenOf originals.now written.now → IsProgramOf originals.now p → IsProgramOf written.now q → TwinProgram p q }
+{}
+
+/// What an accepted file becomes that is instrumented is what is written of it.
+pub fn each_instrumented_file_is_written()
+    ensures { (bytes : List ℕ) (a : Instrumented) → AreBytes bytes → length bytes ≤ most_read → HasConstants bytes
+        → IsInstrumentedFile bytes a → IsWrittenOf bytes a.bytes }
+{}
