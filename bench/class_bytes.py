@@ -6,6 +6,10 @@
 The lines of METHODS make a class file (JVM Specification 4.1), which is printed in hexadecimal digits:
 
     class NAME MAJOR
+    flags FLAGS             the flags of the class, 0x21 without this line
+    extends NAME            its superclass, java/lang/Object without this line
+    field FLAGS NAME DESCRIPTOR CONSTANT..     a field with a ConstantValue for each constant, where `raw:HEX` is its bytes
+    probes ID COUNT         the field and the method by which an instrumented class asks for its probe array
     method FLAGS NAME DESCRIPTOR MAX_STACK MAX_LOCALS
     MNEMONIC OPERANDS       the next instruction of the method
     frame AT TYPES | TYPES  a stack map frame: its instruction, the local variables, and the stack
@@ -18,7 +22,8 @@ least key and the targets, and `lookupswitch` its default and `KEY:TARGET`s. Wha
 as its class and name with the descriptor, as `B.f:(I)V`, a class by its name, and a constant as `int:7`, `long:7`,
 `float:0`, `double:0`, `string:x`, `class:A`, `handle:B.f:()V`, `type:()V` or `dynamic:f:I`. A type of a frame is
 `top`, `int`, `float`, `double`, `long`, `null`, `uninitializedThis`, `class:NAME` or `uninitialized:AT`, and a long or a
-double in local variables stands for both of its own. Frames are written in full, and `pad N` puts N `nop`s.
+double in local variables stands for both of its own. Frames are written in full, and `pad N` puts N `nop`s. Instructions on local
+variables are wide where they have to be.
 """
 import struct
 import sys
@@ -104,6 +109,32 @@ class Pool:
         raise ValueError("unknown constant " + text)
 
 
+class Field:
+    """A field, with the constants of its ConstantValue attributes."""
+
+    def __init__(self, words):
+        self.flags, self.name, self.desc, self.constants = int(words[0], 0), words[1], words[2], words[3:]
+
+    def value(self, pool, word):
+        return bytes.fromhex(word[4:]) if word.startswith("raw:") else u2(pool.constant(word))
+
+    def member(self, pool):
+        values = b"".join(attribute(pool, "ConstantValue", self.value(pool, word)) for word in self.constants)
+        return u2(self.flags) + u2(pool.utf8(self.name)) + u2(pool.utf8(self.desc)) + u2(len(self.constants)) + values
+
+
+def probe_array(name, number, count):
+    """The field and the method by which the class gets its probe array: `number` is its id, and `count` says its probes."""
+    push = "iconst_%d" % count if count < 6 else ("bipush %d" if count < 128 else "sipush %d") % count
+    lines = ["getstatic %s.$jacocoData:[Z" % name, "dup", "ifnonnull 10", "pop", "ldc2_w long:%s" % number, "ldc_w string:" + name]
+    lines += [push, "invokestatic org/jacoco/agent/rt/internal/Offline.getProbes:(JLjava/lang/String;I)[Z", "dup"]
+    lines += ["putstatic %s.$jacocoData:[Z" % name, "areturn"]
+    method = Method(["0x100A", "$jacocoInit", "()[Z", "4", "0"])
+    method.insns = [line.split() for line in lines]
+    method.frames = [["10", "|", "class:[Z"]]
+    return Field(["0x108A", "$jacocoData", "[Z"]), method
+
+
 class Method:
     """A method: its instructions, as lists of a mnemonic and operands, and its tables."""
 
@@ -111,6 +142,12 @@ class Method:
         self.flags, self.max_stack, self.max_locals = int(words[0], 0), int(words[3]), int(words[4])
         self.name, self.desc = words[1], words[2]
         self.insns, self.frames, self.handlers, self.lines = [], [], [], []
+
+    def is_wide(self, name, operands):
+        """Whether an instruction on a local variable needs its wide form (JVM Specification 6.5, wide)."""
+        if name == "iinc":
+            return int(operands[0]) > 255 or not -128 <= int(operands[1]) <= 127
+        return len(operands) == 1 and 0x15 <= OPCODES[name] <= 0x3A and int(operands[0]) > 255
 
     def size(self, insn, at):
         """The length of an instruction at an offset."""
@@ -122,6 +159,8 @@ class Method:
             return 5
         if name == "multianewarray":
             return 4
+        if self.is_wide(name, operands):
+            return 6 if name == "iinc" else 4
         if name in ("bipush", "ldc", "newarray") or (len(operands) == 1 and 0x15 <= OPCODES[name] <= 0x3A):
             return 2
         return 3 if operands else 1
@@ -153,6 +192,8 @@ class Method:
             return op + u1(pool.constant(operands[0]))
         if name in ("ldc_w", "ldc2_w"):
             return op + u2(pool.constant(operands[0]))
+        if self.is_wide(name, operands):
+            return u1(0xC4) + op + u2(int(operands[0])) + (struct.pack(">h", int(operands[1])) if name == "iinc" else b"")
         if name == "iinc":
             return op + u1(int(operands[0])) + struct.pack(">b", int(operands[1]))
         if name == "newarray":
@@ -219,13 +260,21 @@ def attribute(pool, name, body):
 
 def class_bytes(lines, pool=None):
     """The class file that lines make; `pool` has its constant pool afterwards."""
-    pool, name, major, methods = pool or Pool(), "A", 52, []
+    pool, name, major, methods, fields, flags, extended, probes = pool or Pool(), "A", 52, [], [], 0x21, "java/lang/Object", None
     for line in lines:
         words = line.split()
         if not words or words[0].startswith("#"):
             continue
         if words[0] == "class":
             name, major = words[1], int(words[2])
+        elif words[0] == "flags":
+            flags = int(words[1], 0)
+        elif words[0] == "extends":
+            extended = words[1]
+        elif words[0] == "field":
+            fields.append(Field(words[1:]))
+        elif words[0] == "probes":
+            probes = probe_array(name, words[1], int(words[2]))
         elif words[0] == "method":
             methods.append(Method(words[1:]))
         elif words[0] == "pad":
@@ -234,10 +283,14 @@ def class_bytes(lines, pool=None):
             {"frame": methods[-1].frames, "handler": methods[-1].handlers, "line": methods[-1].lines}[words[0]].append(words[1:])
         else:
             methods[-1].insns.append(words)
-    this, above = pool.of_class(name), pool.of_class("java/lang/Object")
-    members = b"".join(method.member(pool) for method in methods)
+    if probes:
+        fields.append(probes[0])
+        methods.append(probes[1])
+    this, above = pool.of_class(name), pool.of_class(extended)
+    members = u2(len(fields)) + b"".join(field.member(pool) for field in fields)
+    members += u2(len(methods)) + b"".join(method.member(pool) for method in methods)
     head = b"\xca\xfe\xba\xbe" + u2(0) + u2(major) + u2(pool.count) + pool.text
-    return head + u2(0x21) + u2(this) + u2(above) + u2(0) + u2(0) + u2(len(methods)) + members + u2(0)
+    return head + u2(flags) + u2(this) + u2(above) + u2(0) + members + u2(0)
 
 
 if __name__ == "__main__":
