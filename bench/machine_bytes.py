@@ -74,7 +74,7 @@ class Method:
         random = self.random
         self.fuel = self.new_slot("int", "bipush %d" % random.randrange(2, 25))
         for kind in random.choices(["int", "long", *("class:" + name for name in ARRAYS)], k=random.randrange(1, 5)):
-            if kind.startswith("class:") and random.random() < 0.05:
+            if kind.startswith("class:") and random.random() < 0.05 and not self.program.calm:
                 self.new_slot(kind, "aconst_null")
             else:
                 self.new_slot(kind)
@@ -195,6 +195,8 @@ class Method:
         """Pushes a value of a type: from a slot, a static field or an array, or a new one."""
         slots = [slot for slot, each in enumerate(self.slots) if each == kind and slot != getattr(self, "fuel", None)]
         fields = [(owner, name, desc) for owner, name, desc in self.program.fields if kind_of(desc) == kind and name != "fuel"]
+        if self.program.calm and kind[0] == "c":
+            fields = []
         chance = self.random.random()
         if slots and chance < 0.45:
             self.emit(letter_of(kind) + "load", self.random.choice(slots))
@@ -204,7 +206,7 @@ class Method:
             self.constant()
         elif kind == "long":
             self.long_constant()
-        elif kind == "null" or self.random.random() < 0.03:
+        elif kind == "null" or self.random.random() < 0.03 and not self.program.calm:
             self.emit("aconst_null")
         elif kind[6:] in ARRAYS:
             self.array_made(kind[6:])
@@ -215,7 +217,9 @@ class Method:
 
     def array_made(self, desc):
         chance = self.random.random()
-        if chance < 0.01:
+        if self.program.calm:
+            self.emit("bipush", self.random.randrange(8, 20))
+        elif chance < 0.01:
             self.emit("ldc", "int:%d" % self.random.choice([-1, -2147483648, 1000000000, 2147483647]))
         else:
             self.emit("bipush", self.random.choice([1, 3, 8, 8, 8, 8, 16, 16, 40, 0]))
@@ -260,7 +264,7 @@ class Method:
         if len(self.stack) > 5 or sum(2 if each == "long" else 1 for each in self.stack) > 8:
             return self.drop()
         actions = [self.pushes, self.pushes, self.computes, self.computes, self.computes, self.moves, self.stores, self.stores]
-        actions += [self.branches, self.branches, self.loops, self.switches, self.elements, self.elements, self.prints, self.calls, self.counts]
+        actions += [self.branches, self.branches, self.loops, self.switches, self.elements, self.elements, self.prints, self.calls, self.calls, self.counts]
         actions += [self.leaves, self.heads_here, self.drop]
         return self.random.choice(actions)()
 
@@ -291,7 +295,7 @@ class Method:
         if chance < 0.5:
             name = self.random.choice(BINARY)
             self.need(kind, kind)
-            if name in ("div", "rem") and self.random.random() < 0.8:
+            if name in ("div", "rem") and (self.program.calm or self.random.random() < 0.8):
                 self.emit(letter + "const_1")
                 self.push(kind)
                 self.emit(letter + "or")
@@ -454,7 +458,7 @@ class Method:
             self.emit("arraylength")
             return self.took(1, "int")
         self.value("int")
-        if self.random.random() < 0.9:
+        if self.program.calm or self.random.random() < 0.9:
             self.emit("bipush", 7)
             self.push("int")
             self.emit("iand")
@@ -482,7 +486,7 @@ class Method:
             self.stack.pop()
             self.emit("pop")
         else:
-            self.emit(*(["aconst_null"] if self.random.random() < 0.02 else ["getstatic", out]))
+            self.emit(*(["aconst_null"] if self.random.random() < 0.02 and not self.program.calm else ["getstatic", out]))
             self.push(stream)
             if desc != "()V":
                 self.value("long" if desc == "(J)V" else "int")
@@ -511,15 +515,15 @@ class Method:
     def may_call(self, method):
         name = method[1]
         if name == "over":
-            return self.random.random() < 0.15
-        return name == "deep" or name[0] == "m" and int(name[1:]) > int(self.name[1:])
+            return self.random.random() < 0.15 and not self.program.calm
+        return name in ("deep", "empty") or name[0] == "m" and int(name[1:]) > int(self.name[1:])
 
     def leaves(self):
         """A return, a throw, or nothing of both."""
         chance = self.random.random()
-        if chance < 0.25:
+        if chance < 0.12:
             self.returns()
-        elif chance < 0.4:
+        elif chance < 0.2 and not self.program.calm:
             if not self.stack or not self.stack[-1].startswith("class:java/lang/"):
                 self.value("class:java/lang/" + self.random.choice(THROWN))
             self.emit("athrow")
@@ -598,22 +602,26 @@ def forget(slots, slot):
 
 
 class Program:
-    """The classes of one program: their names, static fields and methods, and the lines of each."""
+    """The classes of one program: their names, static fields and methods, and the lines of each. Where it is calm nothing
+    is thrown."""
 
-    def __init__(self, random, name, size):
+    def __init__(self, random, name, size, calm=False):
         self.random = random
-        self.names = [name] + ([name + "B"] if random.random() < 0.4 else [])
-        self.fields, self.methods, self.firsts = [(name, "fuel", "I")], [], {}
+        self.names, self.calm = [name] + ([name + "B"] if random.random() < 0.4 else []), calm
+        self.fields, self.methods = [(name, "fuel", "I")], []
         for owner in self.names:
             for k in range(random.randrange(2, 7)):
                 desc = random.choice(["Z", "B", "S", "C", "I", "I", "J", "J", *ARRAYS])
                 self.fields.append((owner, "f%d" % k, desc))
         for k in range(random.randrange(1, 5)):
             types = random.choices(["I", "I", "J", "I", "B", "C", "S", "Z"] + (["[I", "[J"] if k else []), k=random.randrange(0, 4))
-            result = random.choice(["V", "I", "I", "J", "Z", "B", "S", "C", "[I"])
+            result = random.choice(["V", "I", "I", "J", "Z", "B", "S", "C", "I" if calm else "[I"])
             owner = self.names[0] if k == 0 else random.choice(self.names)
             self.methods.append((owner, "m%d" % k, "(%s)%s" % ("".join(types), result), types, result))
         self.methods += [(self.names[-1], "deep", "(IJ)I", ["I", "J"], "I"), (self.names[-1], "over", "(J)J", ["J"], "J")]
+        self.methods.append((name, "empty", "()V", [], "V"))
+        if random.random() < 0.03:
+            self.methods.append((name, "far", "(I)I", ["I"], "I"))
         self.sizes = size
 
     def lines(self, owner):
@@ -627,6 +635,10 @@ class Program:
                 lines += self.deep(owner)
             elif name == "over":
                 lines += self.over(owner)
+            elif name == "empty":
+                lines += ["method 0x9 empty ()V 0 0", "return", "line 0 2"]
+            elif name == "far":
+                lines += self.far(owner)
             else:
                 size = self.random.randrange(self.sizes // 4, self.sizes)
                 lines += Method(self.random, owner, (name, desc, types, result), self, size).make()
@@ -635,7 +647,7 @@ class Program:
     def first(self, name, desc):
         """The ConstantValue of a static field."""
         if name == "fuel":
-            return " int:%d" % self.random.randrange(3, 40)
+            return " int:%d" % self.random.choice([self.random.randrange(3, 40), self.random.randrange(40, 150)])
         if desc[0] == "[" or self.random.random() < 0.6:
             return ""
         bits = {"Z": 1, "B": 8, "S": 16, "C": 16, "I": 32, "J": 64}[desc]
@@ -647,6 +659,12 @@ class Program:
         body = ["iload_0", "ifgt 4", "iconst_m1", "ireturn", "iload_0", "iconst_1", "isub", "lload_1", "lconst_1", "ladd"]
         body += ["invokestatic %s.deep:(IJ)I" % owner, "iload_0", "ixor", "ireturn", "frame 4 int long |", "line 0 3", "line 4 5", "line 10 6"]
         return ["method 0x9 deep (IJ)I 5 3", *body]
+
+    def far(self, owner):
+        """A method with jumps that need the wide layout once it has probes: they pass 32,720 `nop`s."""
+        body = ["iload_0", "ifeq 32728", "iload_0", "iconst_3", "if_icmpgt 32728", "iinc 0 1", "iload_0", "tableswitch 32730 1 32728 32728 32730 8"]
+        body += ["pad 32720", "iload_0", "ireturn", "iconst_2", "ireturn"]
+        return ["method 0x9 far (I)I 3 1", *body, "frame 8 int |", "frame 32728 int |", "frame 32730 int |"]
 
     def over(self, owner):
         """A method that calls itself without end."""

@@ -23,7 +23,7 @@ def entries(program):
     if isinstance(program, machine_source.Program):
         return [(owner, name, types) for owner, name, _, types in program.methods if not any(each.endswith("]") for each in types)]
     methods = program.methods
-    return [(owner, name, types) for owner, name, _, types, _ in methods if name[0] == "m" and not any(each[0] == "[" for each in types)]
+    return [(owner, name, types) for owner, name, _, types, _ in methods if (name[0] == "m" or name == "empty") and not any(each[0] == "[" for each in types)]
 
 
 def thread_line(program, entry):
@@ -31,10 +31,10 @@ def thread_line(program, entry):
     return " ".join(["thread %s.%s" % (owner, name)] + [str(number) for number in program.arguments(types)])
 
 
-def schedule(chance, threads):
-    """A schedule of some hundred or thousand turns."""
-    turns = int(10 ** chance.uniform(0.5, 3.6))
-    form = chance.choice(["list", "robin", "seed"])
+def schedule(chance, threads, calm):
+    """A schedule of some hundred or thousand turns, and mostly of more where the program is calm, so that its threads end."""
+    turns = 30000 if calm and chance.random() < 0.95 else int(10 ** chance.uniform(0.5, 3.6))
+    form = chance.choice(["list", "robin", "seed"] if turns < 30000 else ["robin", "seed"])
     if form == "list":
         turns, numbers = min(turns, 1500), []
         while len(numbers) < turns:
@@ -52,7 +52,7 @@ def plan(chance, program, threads):
     for _ in range(4):
         count = chance.randrange(1, threads + 1)
         lines = [thread_line(program, chance.choice(found)) for _ in range(count)]
-        text += "\n".join(["case", *lines, schedule(chance, count)]) + "\n"
+        text += "\n".join(["case", *lines, schedule(chance, count, program.calm)]) + "\n"
     return text
 
 
@@ -63,13 +63,14 @@ def main():
     sources, lines = [], []
     for k in range(count):
         chance, name = random.Random("%d %d" % (seed, k)), "P%05d" % k
+        calm = chance.random() < (0.5 if threads else 0.35)
         if k % 2:
-            program = machine_bytes.Program(chance, name, chance.choice([40, 120, 240]))
+            program = machine_bytes.Program(chance, name, chance.choice([40, 120, 240]), calm)
             for owner in program.names:
                 with open("%s/%s.class" % (folder, owner), "wb") as file:
                     file.write(class_bytes.class_bytes(program.lines(owner)))
         else:
-            program = machine_source.Program(chance, name, chance.choice([6, 12, 24]))
+            program = machine_source.Program(chance, name, chance.choice([6, 12, 24]), calm)
             sources.append("%s/source/%s.java" % (folder, name))
             with open(sources[-1], "w", encoding="utf-8") as file:
                 file.write(program.source())

@@ -24,7 +24,7 @@ class Method:
         head = "    static %s %s(%s) throws Throwable {" % (self.result, self.name, ", ".join("%s %s" % (kind, name) for name, kind in self.locals))
         lines = [head, "        if (%s.fuel-- <= 0) return%s;" % (self.program.names[0], "" if self.result == "void" else " " + self.plain(self.result))]
         if self.name == "m0":
-            lines.insert(1, "        %s.fuel = %d;" % (self.program.names[0], random.randrange(20, 120)))
+            lines.insert(1, "        %s.fuel = %d;" % (self.program.names[0], random.randrange(50, 500)))
             for owner, name, kind in self.program.fields:
                 if kind.endswith("]") and random.random() < 0.9:
                     lines.append("        %s.%s = new %s[%d];" % (owner, name, kind[:-2], random.randrange(4, 12)))
@@ -80,6 +80,8 @@ class Method:
         names, chance = self.names(kind), self.random.random()
         if names and chance < 0.4:
             return self.random.choice(names)
+        if self.program.calm:
+            return "new %s[%d]" % (kind[:-2], self.random.randrange(8, 20))
         if chance < 0.43:
             return "null"
         if chance < 0.44:
@@ -94,7 +96,7 @@ class Method:
         if chance < 0.38:
             return "%s %s %s" % (self.atom(kind, depth), self.random.choice("+ - * & | ^".split()), self.atom(self.random.choice(["int", kind]), depth))
         if chance < 0.45:
-            divisor = self.random.choice(["%s", "(%s | 1)", "(%s | 1)", "(%s | 4)"]) % self.atom(self.random.choice(["int", kind]), depth)
+            divisor = self.random.choice(["(%s | 1)" if self.program.calm else "%s", "(%s | 1)", "(%s | 1)", "(%s | 4)"]) % self.atom(self.random.choice(["int", kind]), depth)
             return "%s %s %s" % (self.atom(kind, depth), self.random.choice("/%"), divisor)
         if chance < 0.57:
             return "%s %s %s" % (self.atom(kind, depth), self.random.choice("<< >> >>>".split()), self.atom(self.random.choice(["int", "long"]), depth))
@@ -118,13 +120,17 @@ class Method:
             return self.atom(kind, depth)
         if kind == "int" and self.random.random() < 0.3:
             return found[0] + ".length"
-        return "%s[%s%s]" % (found[0], self.atom("int", depth), self.random.choice([" & 3", " & 3", " & 1", " & 1", " & 7", ""]))
+        return "%s[%s%s]" % (found[0], self.atom("int", depth), self.mask())
+
+    def mask(self):
+        """What keeps an index mostly in range."""
+        return self.random.choice([" & 3", " & 3", " & 1", " & 1", " & 7", " & 5" if self.program.calm else ""])
 
     def call(self, kind, depth):
         later = [method for method in self.program.methods if method[2] == kind and method[1] > self.name]
         if self.random.random() < 0.3 and kind == "int":
             return "%s.r(%s & 31, %s)" % (self.program.names[-1], self.atom("int", depth), self.atom("long", depth))
-        if self.random.random() < 0.1 and kind == "long":
+        if self.random.random() < 0.1 and kind == "long" and not self.program.calm:
             return "%s.s(%s)" % (self.program.names[-1], self.atom("long", depth))
         if not later:
             return self.atom(kind, depth)
@@ -160,7 +166,7 @@ class Method:
 
     def statement(self, indent):
         pad = "    " * indent
-        simple = [self.assign, self.assign, self.assign, self.show, self.show, self.step]
+        simple = [self.assign, self.assign, self.assign, self.show, self.show, self.step, self.invoke]
         nested = [self.branch, self.branch, self.loop, self.choice, self.guarded, self.end]
         made = self.random.choice(simple if self.depth > 2 or self.random.random() < 0.5 else nested)(indent)
         return made if isinstance(made, list) else [pad + made]
@@ -169,12 +175,12 @@ class Method:
         found = self.array()
         if found and self.random.random() < 0.3:
             operator = self.random.choice(["=", "=", "+=", "<<=", "^=", "|="]) if found[1] != "boolean" else "="
-            return "%s[%s%s] %s %s;" % (found[0], self.atom("int", 1), self.random.choice([" & 3", " & 3", " & 1", " & 1", " & 7", ""]), operator, self.value(found[1], 2))
+            return "%s[%s%s] %s %s;" % (found[0], self.atom("int", 1), self.mask(), operator, self.value(found[1], 2))
         places = [(name, kind) for name, kind in self.locals if name[0] != "i"]
         places += [("%s.%s" % (owner, name), kind) for owner, name, kind in self.program.fields if name != "fuel" and name[0] != "K"]
         name, kind = self.random.choice(places)
         if kind in DESCRIPTORS and kind != "boolean" and self.random.random() < 0.3:
-            return "%s %s= %s;" % (name, self.random.choice("+ - * / % & | ^ << >> >>>".split()), self.atom(self.random.choice(["int", "long"]), 2))
+            return "%s %s= %s;" % (name, self.random.choice(("+ - * & | ^ << >> >>>" + ("" if self.program.calm else " / %")).split()), self.atom(self.random.choice(["int", "long"]), 2))
         return "%s = %s;" % (name, self.value(kind, 3))
 
     def step(self, indent):
@@ -184,6 +190,13 @@ class Method:
     def show(self, indent):
         kind = self.random.choice(["int", "int", "long", "boolean", "", "byte"])
         return "System.out.println(%s);" % ("(int) " + self.value("byte", 1)[7:] if kind == "byte" else ("%s" if kind == "boolean" else "(" + kind + ") (%s)") % self.value(kind, 2) if kind else "")
+
+    def invoke(self, indent):
+        later = [method for method in self.program.methods if method[1] > self.name]
+        if not later:
+            return self.show(indent)
+        owner, name, _, types = self.random.choice(later)
+        return "%s.%s(%s);" % (owner, name, ", ".join(self.value(each, 1) for each in types))
 
     def branch(self, indent):
         pad = "    " * indent
@@ -195,7 +208,7 @@ class Method:
     def loop(self, indent):
         pad, random = "    " * indent, self.random
         self.loops += 1
-        name, fuel = "L%d" % self.loops, "%s.fuel-- > 0" % self.program.names[0]
+        name, fuel = "L%d" % self.loops, "n%d++ < %d && %s.fuel-- > 0" % (self.loops, random.randrange(1, 7), self.program.names[0])
         counter, condition = "i%d" % self.loops, self.value("boolean", 2)
         form = random.choice(["for", "for", "while", "do"])
         known = len(self.locals)
@@ -204,7 +217,7 @@ class Method:
             head = "%s: for (int %s = %s; %s < %d && %s; %s++) {" % (name, counter, random.randrange(-2, 3), counter, random.randrange(1, 12), fuel, counter)
         else:
             head = "%s: while (%s && (%s)) {" % (name, fuel, condition) if form == "while" else "%s: do {" % name
-        lines = [pad + head, *self.block(indent + 1, 4)]
+        lines = ["%sint n%s = 0;" % (pad, name[1:]), pad + head, *self.block(indent + 1, 4)]
         if random.random() < 0.4:
             lines.append("%s    if (%s) %s %s;" % (pad, self.value("boolean", 2), random.choice(["break", "continue"]), name))
         lines += self.block(indent + 1, 2)
@@ -241,27 +254,29 @@ class Method:
         return lines + [pad + "}"]
 
     def end(self, indent):
-        if self.random.random() < 0.5:
-            return "if (%s) throw new %s();" % (self.value("boolean", 3), self.random.choice(THROWN))
-        return "if (%s) return%s;" % (self.value("boolean", 3), "" if self.result == "void" else " " + self.value(self.result, 2))
+        condition = " && ".join("(%s)" % self.value("boolean", 2) for _ in range(3))
+        if self.random.random() < 0.5 and not self.program.calm:
+            return "if (%s) throw new %s();" % (condition, self.random.choice(THROWN))
+        return "if (%s) return%s;" % (condition, "" if self.result == "void" else " " + self.value(self.result, 2))
 
 
 class Program:
-    """The classes of one program, and their source."""
+    """The classes of one program, and their source. Where it is calm nothing is thrown."""
 
-    def __init__(self, random, name, size):
-        self.random, self.size = random, size
+    def __init__(self, random, name, size, calm=False):
+        self.random, self.size, self.calm = random, size, calm
         self.names = [name] + ([name + "B"] if random.random() < 0.4 else [])
         self.fields, self.methods = [(name, "fuel", "int")], []
         for owner in self.names:
             for k in range(random.randrange(2, 6)):
-                kind = random.choice(["int", "int", "long", "long", "byte", "short", "char", "boolean", "int[]", "long[]", "byte[]", "char[]", "short[]", "boolean[]"])
+                arrays = [] if calm else ["int[]", "long[]", "byte[]", "char[]", "short[]", "boolean[]"]
+                kind = random.choice(["int", "int", "long", "long", "byte", "short", "char", "boolean", *arrays])
                 self.fields.append((owner, "f%d" % k, kind))
         if random.random() < 0.5:
             self.fields.append((self.names[-1], "K", "int"))
         for k in range(random.randrange(1, 5)):
             types = random.choices(["int", "int", "long", "byte", "char", "boolean", "short", *(["int[]"] if k else [])], k=random.randrange(0, 4))
-            result = random.choice(["void", "int", "int", "long", "boolean", "byte", "char", "short", "int[]"])
+            result = random.choice(["void", "int", "int", "long", "boolean", "byte", "char", "short", "int" if calm else "int[]"])
             self.methods.append((self.names[0] if k == 0 else random.choice(self.names), "m%d" % k, result, types))
 
     def source(self):
