@@ -3,6 +3,7 @@
 
     bench/machine_rows.py           writes crates/vectors_machine/stdin and stdout
     bench/machine_rows.py check     compares the rows with what bench/slow_machine.py answers
+    bench/machine_rows.py java DIR  compares those of one thread that ends with the Java machine; DIR has the compiled Machine.java
 
 The lines of machine-rows.txt:
 
@@ -17,9 +18,12 @@ printed. Of a text of more than 4,000 bytes the length and the last 40 bytes are
 """
 import os
 import re
+import subprocess
 import sys
+import tempfile
 
 import class_bytes
+import class_reader
 import slow_machine
 
 HERE = os.path.dirname(os.path.abspath(__file__))
@@ -134,8 +138,50 @@ def rows(items):
             yield "hits " + item.words, item.hits
 
 
+# ---- the Java machine
+
+
+def is_plain(row):
+    """Whether a row has one case of one thread, which ends, over classes that aren't instrumented."""
+    odd = re.search(r"stuck|running|no entry|^long|^same|^class", row.text)
+    return not odd and row.plan.count("thread") == 1 and not row.hits and not any(name.endswith("'") for name in row.names)
+
+
+def by_java(harness, rows):
+    """What the Java machine prints of rows over the same files, which aren't verified: many have methods that it would refuse."""
+    with tempfile.TemporaryDirectory() as folder:
+        names = []
+        for file in rows[0].files:
+            names.append(class_reader.ClassFile(bytes.fromhex(file)).name)
+            with open("%s/%s.class" % (folder, names[-1].replace("/", "-")), "wb") as out:
+                out.write(bytes.fromhex(file))
+        with open(folder + "/list", "w", encoding="utf-8") as out:
+            for number, row in enumerate(rows):
+                out.write(" ".join(["r%d" % number, *(name + ".class" for name in names if "/" not in name)]) + "\n")
+                with open("%s/r%d.plan" % (folder, number), "w", encoding="utf-8") as plan_file:
+                    plan_file.write(row.plan)
+        words = ["java", "-Xint", "-Xmx64m", "-XX:+UseSerialGC", "-XX:+UnlockDiagnosticVMOptions", "-XX:-BytecodeVerificationRemote"]
+        ran = subprocess.run([*words, "-cp", harness, "Machine", folder], capture_output=True, text=True, check=True)
+        return re.split(r"^program \S+\n", ran.stdout, flags=re.M)[1:]
+
+
+def compare_java(harness, rows):
+    groups, counts = {}, {"alike": 0, "not loaded": 0, "other": 0}
+    for row in filter(is_plain, rows):
+        groups.setdefault(tuple(row.names), []).append(row)
+    for group in groups.values():
+        for row, text in zip(group, by_java(harness, group)):
+            kind = "not loaded" if "no run" in text else "alike" if shortened(text) == row.text else "other"
+            counts[kind] += 1
+            if kind == "other":
+                print("%s\n    %s" % (row.line, shortened(text)))
+    print("; ".join("%s: %d" % pair for pair in counts.items()))
+
+
 def main():
     items = read(HERE + "/machine-rows.txt")
+    if sys.argv[1:2] == ["java"]:
+        return compare_java(sys.argv[2], [item for item in items if isinstance(item, Row)])
     if sys.argv[1:] == ["check"]:
         bad = [(item, item.slow()) for item in items if isinstance(item, Row) and item.slow() != (item.text, item.hits)]
         for item, slow in bad:
@@ -148,6 +194,7 @@ def main():
         file.writelines(line + "\n" for line, _ in lines)
     with open(CRATE + "/stdout", "w", encoding="utf-8") as file:
         file.writelines(line + ("\n" if answer is None else " = %s\n" % answer) for line, answer in lines)
+    return None
 
 
 if __name__ == "__main__":
