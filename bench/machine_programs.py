@@ -14,7 +14,7 @@ import subprocess
 import sys
 
 import class_bytes
-import machine_bytes
+import machine_classes
 import machine_source
 
 
@@ -65,7 +65,7 @@ def main():
         chance, name = random.Random("%d %d" % (seed, k)), "P%05d" % k
         calm = chance.random() < (0.5 if threads else 0.35)
         if k % 2:
-            program = machine_bytes.Program(chance, name, chance.choice([40, 120, 240]), calm)
+            program = machine_classes.Program(chance, name, chance.choice([40, 120, 240]), calm)
             for owner in program.names:
                 with open("%s/%s.class" % (folder, owner), "wb") as file:
                     file.write(class_bytes.class_bytes(program.lines(owner)))

@@ -13,8 +13,10 @@ The lines of machine-rows.txt:
 
 A case is its threads, joined by ` & `, and ` @ SCHEDULE`, without which it is `robin 100`. `22*0` in a schedule is 22
 times 0. A text is the lines that are printed behind `case K`, joined by ` | `, and by ` & ` where they are ends of threads,
-which lack `thread T`. HITS has, for each class with probes, its name and 1 for each probe that is hit, 0 for each other, as `A:01`. `-` is an empty line that is
-printed. Of a text of more than 4,000 bytes the length and the last 40 bytes are told, as `long LENGTH BYTES`. Two instructions have short forms: `out` is `getstatic` of the print stream, and `println I` a call on it.
+which lack `thread T`. `-` is an empty line that is printed. Of a text of more than 4,000 bytes the length and the last 40
+bytes are told, as `long LENGTH BYTES`. HITS has, for each class with probes, its name, and 1 for each probe that is hit and 0
+for each other, as `A:01`. Two instructions have short forms: `out` is `getstatic` of the print stream, and `println I` a call
+on it.
 """
 import os
 import re
@@ -25,6 +27,7 @@ import tempfile
 import class_bytes
 import class_reader
 import slow_machine
+import slow_programs
 
 HERE = os.path.dirname(os.path.abspath(__file__))
 CRATE = os.path.dirname(HERE) + "/crates/vectors_machine"
@@ -76,13 +79,13 @@ class Row:
 
     def slow(self):
         """What the slow program answers: the text, and the hits."""
-        program = slow_machine.Program([bytes.fromhex(file) for file in self.files])
+        program = slow_programs.Program([bytes.fromhex(file) for file in self.files])
         if self.text.startswith("class "):
             return self.text, ""
-        refusal = slow_machine.clash(program)
+        refusal = slow_programs.clash(program)
         if refusal:
             return refusal, ""
-        cases = slow_machine.plan_cases(self.plan)
+        cases = slow_programs.plan_cases(self.plan)
         lines = [line for case in cases for line in case.threads if not program.entry(line)]
         if lines:
             return "no entry in line %d" % lines[0].line, ""

@@ -96,7 +96,8 @@ class Method:
         if chance < 0.38:
             return "%s %s %s" % (self.atom(kind, depth), self.random.choice("+ - * & | ^".split()), self.atom(self.random.choice(["int", kind]), depth))
         if chance < 0.45:
-            divisor = self.random.choice(["(%s | 1)" if self.program.calm else "%s", "(%s | 1)", "(%s | 1)", "(%s | 4)"]) % self.atom(self.random.choice(["int", kind]), depth)
+            form = self.random.choice(["(%s | 1)" if self.program.calm else "%s", "(%s | 1)", "(%s | 1)", "(%s | 4)"])
+            divisor = form % self.atom(self.random.choice(["int", kind]), depth)
             return "%s %s %s" % (self.atom(kind, depth), self.random.choice("/%"), divisor)
         if chance < 0.57:
             return "%s %s %s" % (self.atom(kind, depth), self.random.choice("<< >> >>>".split()), self.atom(self.random.choice(["int", "long"]), depth))
@@ -180,7 +181,8 @@ class Method:
         places += [("%s.%s" % (owner, name), kind) for owner, name, kind in self.program.fields if name != "fuel" and name[0] != "K"]
         name, kind = self.random.choice(places)
         if kind in DESCRIPTORS and kind != "boolean" and self.random.random() < 0.3:
-            return "%s %s= %s;" % (name, self.random.choice(("+ - * & | ^ << >> >>>" + ("" if self.program.calm else " / %")).split()), self.atom(self.random.choice(["int", "long"]), 2))
+            operators = "+ - * & | ^ << >> >>>" + ("" if self.program.calm else " / %")
+            return "%s %s= %s;" % (name, self.random.choice(operators.split()), self.atom(self.random.choice(["int", "long"]), 2))
         return "%s = %s;" % (name, self.value(kind, 3))
 
     def step(self, indent):
@@ -189,7 +191,11 @@ class Method:
 
     def show(self, indent):
         kind = self.random.choice(["int", "int", "long", "boolean", "", "byte"])
-        return "System.out.println(%s);" % ("(int) " + self.value("byte", 1)[7:] if kind == "byte" else ("%s" if kind == "boolean" else "(" + kind + ") (%s)") % self.value(kind, 2) if kind else "")
+        if kind == "":
+            return "System.out.println();"
+        if kind == "byte":
+            return "System.out.println((int) %s);" % self.value("byte", 1)[7:]
+        return "System.out.println(%s);" % ("%s" if kind == "boolean" else "(" + kind + ") (%s)") % self.value(kind, 2)
 
     def invoke(self, indent):
         later = [method for method in self.program.methods if method[1] > self.name]
@@ -226,7 +232,8 @@ class Method:
 
     def choice(self, indent):
         pad, random = "    " * indent, self.random
-        keys = random.sample([0, 1, 2, 3, 4, 5], random.randrange(1, 5)) if random.random() < 0.6 else random.sample([-1000, -1, 0, 7, 99, 65536, 2147483647], 3)
+        dense = random.random() < 0.6
+        keys = random.sample(range(6), random.randrange(1, 5)) if dense else random.sample([-1000, -1, 0, 7, 99, 65536, 2147483647], 3)
         lines = ["%sswitch ((int) %s%s) {" % (pad, self.atom("int", 2), " & 7" if max(keys) < 6 else "")]
         for key in keys:
             lines += ["%s    case %d:" % (pad, key), *self.block(indent + 2, 2)]

@@ -22,6 +22,7 @@ import sys
 
 import class_reader
 import slow_machine
+import slow_programs
 
 ENDING = {"goto", "tableswitch", "lookupswitch", "athrow", *class_reader.RETURNS}
 INVERSE = {"ifnull": "ifnonnull", "ifnonnull": "ifnull"}
@@ -121,7 +122,7 @@ class Twin:
         self.body, self.probes, self.wide = body, probes, wide
         self.slots = sum(2 if kind in "JD" else 1 for kind in class_reader.parameters(body.desc)[0]) + (0 if body.flags & 8 else 1)
         self.code, self.own, self.at, self.extra, self.lead, self.land = [], [], [], [], [], []
-        self.put(["invokestatic", owner, slow_machine.INIT, "()[Z"], False, 0, 0)
+        self.put(["invokestatic", owner, slow_programs.INIT, "()[Z"], False, 0, 0)
         self.put(["astore", self.slots], False, 0, 1)
         for i, insn in enumerate(body.code):
             self.lead.append(len(self.code))
@@ -210,7 +211,7 @@ class Pair:
                 first = self.probes[c, k].next
                 if self.twins[c, k].differs(new.bodies[k]):
                     self.faults.append("%s.%s: another body" % (old.name, body.name))
-            if (slow_machine.wrapped(old.file.id, 64), first) != new.probes or len(new.bodies) != len(old.bodies) + 1:
+            if (slow_programs.wrapped(old.file.id, 64), first) != new.probes or len(new.bodies) != len(old.bodies) + 1:
                 self.faults.append("%s: other probes" % old.name)
 
     # -- turns
@@ -397,9 +398,9 @@ class Comparison:
         self.counts = dict.fromkeys(["programs", "cases", "turns", "kept", "clean", "edges", "longest"], 0)
 
     def program(self, name, files):
-        read = lambda folder: slow_machine.Program([slow_machine.contents("%s/%s" % (folder, file)) for file in files])
+        read = lambda folder: slow_programs.Program([slow_machine.contents("%s/%s" % (folder, file)) for file in files])
         pair = Pair(read(self.folder), read(self.instrumented))
-        cases = slow_machine.plan_cases(slow_machine.contents("%s/%s.plan" % (self.folder, name)).decode())
+        cases = slow_programs.plan_cases(slow_machine.contents("%s/%s.plan" % (self.folder, name)).decode())
         hits, reached, taken, clean, text = set(), set(), set(), True, []
         for number, case in enumerate(cases, 1):
             new, kept, most = pair.run(case, case.turns())
