@@ -98,7 +98,8 @@ impl<'a> ProgramIndex<'a> {
 
     /// The class with a number.
     pub fn class_at(&self, class: u32) -> Option<&ClassIndex<'a>>
-        ensures { (program : Program) → IsIndex program self.now → MatchOption result (class_at program class ≡ None) (λ index. IsClassAt program class index.now) }
+        ensures { (program : Program) → IsIndex program self.now
+            → MatchOption result (class_at program class ≡ None) (λ index. IsClassAt program class index.now) }
     {
         self.classes.as_slice().get(class as usize)
     }
