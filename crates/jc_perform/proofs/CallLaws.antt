@@ -10,7 +10,8 @@ use Rattle.jc_operations.specs.declared.operation.ComputationalType as kinds
 use Rattle.jc_operations.specs.Types.{computational}
 use Rattle.jc_perform.specs.Parameters.{AreParameters, is_argument, with_slots}
 
-pub count_of_parameters : (types : List FieldType) (parameters : List (Option kinds.ComputationalType)) → AreParameters types parameters → length parameters ≡ length types
+pub count_of_parameters : (types : List FieldType) (parameters : List (Option kinds.ComputationalType)) → AreParameters types parameters
+    → length parameters ≡ length types
 count_of_parameters types parameters are =
     sym (length-map parameters (option_map computational)) ∙ (ap length are ∙ length-map types computational_type)
 
@@ -20,15 +21,22 @@ drop_none : (n : ℕ) → drop {A = Value} n [] ≡ []
 drop_none zero = refl
 drop_none (suc n) = refl
 
-drop_next : (stack rest : List Value) (n : ℕ) (v : Value) → drop n stack ≡ v ∷ rest → (rest ≡ drop (suc n) stack) × (slice_get stack n ≡ Some v) × (reverse (take (suc n) stack) ≡ v ∷ reverse (take n stack)) × (suc n ≤ length stack)
+drop_next : (stack rest : List Value) (n : ℕ) (v : Value) → drop n stack ≡ v ∷ rest
+    → (rest ≡ drop (suc n) stack) × (slice_get stack n ≡ Some v) × (reverse (take (suc n) stack) ≡ v ∷ reverse (take n stack)) × (suc n ≤ length stack)
 drop_next [] rest n v is = absurd (cc (drop_none n))
 drop_next (x ∷ stack) rest zero v is =
     let tail : rest ≡ stack = cc in
     let head : x ≡ v = cc in
     (tail, ap Some head, ap (λ y. y ∷ []) head, omega arith)
 drop_next (x ∷ stack) rest (suc n) v is =
-    let inner : (rest ≡ drop (suc n) stack) × (slice_get stack n ≡ Some v) × (reverse (take (suc n) stack) ≡ v ∷ reverse (take n stack)) × (suc n ≤ length stack) = drop_next stack rest n v is in
-    (inner.0, inner.1, reverse_onto (take (suc n) stack) x [] ∙ (ap (λ vs. vs ++ x ∷ []) inner.2 ∙ ap (λ vs. v ∷ vs) (sym (reverse_onto (take n stack) x []))), omega (arith, inner.3))
+    let inner : (rest ≡ drop (suc n) stack) × (slice_get stack n ≡ Some v) × (reverse (take (suc n) stack) ≡ v ∷ reverse (take n stack))
+    × (suc n ≤ length stack) = drop_next stack rest n v is in (
+      inner.0,
+      inner.1,
+      reverse_onto (take (suc n) stack) x []
+          ∙ (ap (λ vs. vs ++ x ∷ []) inner.2 ∙ ap (λ vs. v ∷ vs) (sym (reverse_onto (take n stack) x []))),
+      omega (arith, inner.3),
+    )
 
 -- the argument in front of others, if what is left of the stack has one
 abbrev front : FieldType → List Value → List Value → Option Arguments
@@ -42,7 +50,8 @@ pub record TakenFor (stack : List Value) (n : ℕ) (a : Arguments) : Type 0 wher
   pub count : n ≤ length stack
 
 -- one argument more, in front
-taken_before : (type : FieldType) (stack : List Value) (a b : Arguments) (n : ℕ) (rest : List Value) → b.rest ≡ rest → TakenFor stack n b → argument_before type (Some b) ≡ Some a → TakenFor stack (suc n) a
+taken_before : (type : FieldType) (stack : List Value) (a b : Arguments) (n : ℕ) (rest : List Value) → b.rest ≡ rest → TakenFor stack n b
+    → argument_before type (Some b) ≡ Some a → TakenFor stack (suc n) a
 taken_before type stack a b n [] left taken is = absurd (cc (ap (λ vs. front type b.values vs) left))
 taken_before type stack a b n (v ∷ rest) left taken is = by (is_of_type type v) (ap (λ vs. front type b.values vs) (sym left) ∙ is)
   where
@@ -56,7 +65,8 @@ taken_before type stack a b n (v ∷ rest) left taken is = by (is_of_type type v
         let P : Arguments → Type 0 = λ d. TakenFor stack (suc n) d in
         subst P same (record { values = ap (λ vs. v ∷ vs) taken.values ∙ sym next.2; rest = next.0; count = next.3 })
 
-taken_next : (type : FieldType) (stack : List Value) (a : Arguments) (n : ℕ) (others : Option Arguments) → ((b : Arguments) → others ≡ Some b → TakenFor stack n b) → argument_before type others ≡ Some a → TakenFor stack (suc n) a
+taken_next : (type : FieldType) (stack : List Value) (a : Arguments) (n : ℕ) (others : Option Arguments)
+    → ((b : Arguments) → others ≡ Some b → TakenFor stack n b) → argument_before type others ≡ Some a → TakenFor stack (suc n) a
 taken_next type stack a n None each is = absurd (cc)
 taken_next type stack a n (Some b) each is = taken_before type stack a b n b.rest refl (each b refl) is
 
@@ -88,19 +98,23 @@ none_below [] n is = refl
 none_below (x ∷ stack) zero is = absurd (cc)
 none_below (x ∷ stack) (suc n) is = none_below stack n is
 
-fit_front : (type : FieldType) (stack values rest : List Value) (p : Option ComputationalType) (n : ℕ) → p ≡ computational_type type → drop n stack ≡ rest → is_argument (slice_get stack n) p ≡ is_some (front type values rest)
+fit_front : (type : FieldType) (stack values rest : List Value) (p : Option ComputationalType) (n : ℕ) → p ≡ computational_type type
+    → drop n stack ≡ rest → is_argument (slice_get stack n) p ≡ is_some (front type values rest)
 fit_front type stack values [] p n kind left = ap (λ v. is_argument v p) (none_below stack n left)
 fit_front type stack values (v ∷ rest) p n kind left =
     ap (λ o. is_argument o p) (drop_next stack rest n v left).1 ∙ (argument_is type p v kind ∙ sym (some_front type values rest v))
 
-fit_before : (type : FieldType) (stack : List Value) (p : Option ComputationalType) (n : ℕ) (others : Option Arguments) → p ≡ computational_type type → ((b : Arguments) → others ≡ Some b → TakenFor stack n b)
+fit_before : (type : FieldType) (stack : List Value) (p : Option ComputationalType) (n : ℕ) (others : Option Arguments)
+    → p ≡ computational_type type → ((b : Arguments) → others ≡ Some b → TakenFor stack n b)
     → (is_some others && is_argument (slice_get stack n) p) ≡ is_some (argument_before type others)
 fit_before type stack p n None kind each = refl
 fit_before type stack p n (Some b) kind each = fit_front type stack b.values b.rest p n kind (sym (each b refl).rest)
 
-pub fit_step : (type : FieldType) (types : List FieldType) (stack : List Value) (p : Option ComputationalType) (n : ℕ) → p ≡ computational_type type → n ≡ length types
+pub fit_step : (type : FieldType) (types : List FieldType) (stack : List Value) (p : Option ComputationalType) (n : ℕ)
+    → p ≡ computational_type type → n ≡ length types
     → (is_some (taken_for types stack) && is_argument (slice_get stack n) p) ≡ is_some (taken_for (type ∷ types) stack)
-fit_step type types stack p n kind count = fit_before type stack p n (taken_for types stack) kind (λ b there. subst (λ m. TakenFor stack m b) (sym count) (taken_is types stack b there))
+fit_step type types stack p n kind count =
+    fit_before type stack p n (taken_for types stack) kind (λ b there. subst (λ m. TakenFor stack m b) (sym count) (taken_is types stack b there))
 
 -- the items behind the first one, as a pattern gives them
 abbrev pub behind : {X : Type 0} → List X → List X
@@ -114,9 +128,11 @@ pub behind-cons : {X : Type 0} (x : X) (xs : List X) → behind (x ∷ xs) ≡ x
 behind-cons x xs = let less : length (x ∷ xs) - 1 ≡ length xs = omega arith in ap (λ n. take n xs) less ∙ take_all xs
 
 -- the operand for the first parameter, below those for the others
-pub fit_first : (ps : List (Option kinds.ComputationalType)) (types : List FieldType) (stack : List Value) (peeked : Option Value) (others first : Bool) → 1 ≤ length ps
+pub fit_first : (ps : List (Option kinds.ComputationalType)) (types : List FieldType) (stack : List Value) (peeked : Option Value)
+    (others first : Bool) → 1 ≤ length ps
     → peeked ≡ slice_get stack (length (behind ps)) → ((ts : List FieldType) → AreParameters ts (behind ps) → others ≡ is_some (taken_for ts stack))
-    → first ≡ is_argument peeked (option_map computational (slice_index_or ps 0 None)) → AreParameters types ps → (others && first) ≡ is_some (taken_for types stack)
+    → first ≡ is_argument peeked (option_map computational (slice_index_or ps 0 None)) → AreParameters types ps
+    → (others && first) ≡ is_some (taken_for types stack)
 fit_first [] types stack peeked others first some read each is are = absurd (omega arith)
 fit_first (p ∷ ps) [] stack peeked others first some read each is are = absurd (cc)
 fit_first (p ∷ ps) (type ∷ types) stack peeked others first some read each is are =
@@ -142,7 +158,8 @@ one_more (x ∷ stack) zero v read = let same : x ≡ v = cc in ap (λ y. y ∷ 
 one_more (x ∷ stack) (suc n) v read =
     reverse_onto (take (suc n) stack) x [] ∙ (ap (λ vs. vs ++ x ∷ []) (one_more stack n v read) ∙ ap (λ vs. v ∷ vs) (sym (reverse_onto (take n stack) x [])))
 
-pub next_value : (stack : List Value) (count : ℕ) (v : Value) → (count ≡ 0 → ⊥) → Some v ≡ slice_get stack (count - 1) → reverse (take count stack) ≡ v ∷ reverse (take (count - 1) stack)
+pub next_value : (stack : List Value) (count : ℕ) (v : Value) → (count ≡ 0 → ⊥) → Some v ≡ slice_get stack (count - 1)
+    → reverse (take count stack) ≡ v ∷ reverse (take (count - 1) stack)
 next_value stack zero v some read = absurd (some refl)
 next_value stack (suc n) v some read =
     let less : suc n - 1 ≡ n = omega arith in
@@ -152,28 +169,35 @@ some_slots : (v : Value) → 0 < length (spread_value v)
 some_slots (long x) = omega arith
 some_slots _ = omega arith
 
-pub slots_left : (stack : List Value) (count slot : ℕ) (v : Value) → (count ≡ 0 → ⊥) → Some v ≡ slice_get stack (count - 1) → slot + length (spread_values (reverse (take count stack))) ≤ 1004
+pub slots_left : (stack : List Value) (count slot : ℕ) (v : Value) → (count ≡ 0 → ⊥) → Some v ≡ slice_get stack (count - 1)
+    → slot + length (spread_values (reverse (take count stack))) ≤ 1004
     → (slot < 1004) × (slot + length (spread_value v) + length (spread_values (reverse (take (count - 1) stack))) ≤ 1004)
 slots_left stack count slot v some read room =
     let all : length (spread_values (reverse (take count stack))) ≡ length (spread_value v) + length (spread_values (reverse (take (count - 1) stack))) =
-    ap (λ vs. length (spread_values vs)) (next_value stack count v some read) ∙ length-append (spread_value v) (spread_values (reverse (take (count - 1) stack))) in
+    ap (λ vs. length (spread_values vs)) (next_value stack count v some read)
+    ∙ length-append (spread_value v) (spread_values (reverse (take (count - 1) stack))) in
     let first : slot < 1004 = omega (arith, all, some_slots v) in
     let rest : slot + length (spread_value v) + length (spread_values (reverse (take (count - 1) stack))) ≤ 1004 = omega (arith, all) in
     (first, rest)
 
-pub with_slots-append : (xs ys locals : List (Option Value)) (from : ℕ) → with_slots locals from (xs ++ ys) ≡ with_slots (with_slots locals from xs) (from + length xs) ys
+pub with_slots-append : (xs ys locals : List (Option Value)) (from : ℕ)
+    → with_slots locals from (xs ++ ys) ≡ with_slots (with_slots locals from xs) (from + length xs) ys
 with_slots-append [] ys locals from = ap (λ n. with_slots locals n ys) (omega arith)
 with_slots-append (x ∷ xs) ys locals from =
     with_slots-append xs ys (slice_set locals from x) (from + 1) ∙ ap (λ n. with_slots (with_slots (slice_set locals from x) (from + 1) xs) n ys) (omega arith)
 
-pub slots_after : (stack : List Value) (count slot next : ℕ) (v : Value) (locals : List (Option Value)) → (count ≡ 0 → ⊥) → Some v ≡ slice_get stack (count - 1) → next ≡ slot + length (spread_value v)
-    → with_slots (with_slots locals slot (spread_value v)) next (spread_values (reverse (take (count - 1) stack))) ≡ with_slots locals slot (spread_values (reverse (take count stack)))
+pub slots_after : (stack : List Value) (count slot next : ℕ) (v : Value) (locals : List (Option Value)) → (count ≡ 0 → ⊥)
+    → Some v ≡ slice_get stack (count - 1) → next ≡ slot + length (spread_value v)
+    → with_slots (with_slots locals slot (spread_value v)) next (spread_values (reverse (take (count - 1) stack)))
+    ≡ with_slots locals slot (spread_values (reverse (take count stack)))
 slots_after stack count slot next v locals some read place =
     let others = spread_values (reverse (take (count - 1) stack)) in
     ap (λ n. with_slots (with_slots locals slot (spread_value v)) n others) place
-    ∙ (sym (with_slots-append (spread_value v) others locals slot) ∙ ap (λ vs. with_slots locals slot (spread_values vs)) (sym (next_value stack count v some read)))
+    ∙ (sym (with_slots-append (spread_value v) others locals slot)
+    ∙ ap (λ vs. with_slots locals slot (spread_values vs)) (sym (next_value stack count v some read)))
 
-filled : (xs before : List (Option Value)) (n from : ℕ) → length before ≡ from → length xs ≤ n → with_slots (before ++ replicate n None) from xs ≡ before ++ (xs ++ replicate (n - length xs) None)
+filled : (xs before : List (Option Value)) (n from : ℕ) → length before ≡ from → length xs ≤ n
+    → with_slots (before ++ replicate n None) from xs ≡ before ++ (xs ++ replicate (n - length xs) None)
 filled [] before n from at few = ap (λ m. before ++ replicate m None) (omega arith)
 filled (x ∷ xs) before zero from at few = absurd (omega arith)
 filled (x ∷ xs) before (suc n) from at few =
@@ -186,5 +210,6 @@ filled (x ∷ xs) before (suc n) from at few =
     ∙ (filled xs (before ++ x ∷ []) n (from + 1) long fewer
     ∙ (append_assoc before (x ∷ []) (xs ++ replicate (n - length xs) None) ∙ ap (λ m. before ++ (x ∷ (xs ++ replicate m None))) (sym left)))
 
-pub locals_are : (max_locals : ℕ) (values : List Value) → length (spread_values values) ≤ max_locals → with_slots (replicate max_locals None) 0 (spread_values values) ≡ locals_for max_locals values
+pub locals_are : (max_locals : ℕ) (values : List Value) → length (spread_values values) ≤ max_locals
+    → with_slots (replicate max_locals None) 0 (spread_values values) ≡ locals_for max_locals values
 locals_are max_locals values few = filled (spread_values values) [] max_locals 0 refl few

@@ -17,7 +17,8 @@ pub record Begun (statics : List (Vec kept.Value)) (classes : List PreparedClass
   pub so_far : statics_of (take i statics) ≡ first_statics_of (take i classes)
   pub as_many : map length (statics_of statics) ≡ counts classes
 
-pub as_many_classes : (statics : List (Vec kept.Value)) (classes : List PreparedClass) → map length (statics_of statics) ≡ counts classes → length statics ≡ length classes
+pub as_many_classes : (statics : List (Vec kept.Value)) (classes : List PreparedClass) → map length (statics_of statics) ≡ counts classes
+    → length statics ≡ length classes
 as_many_classes [] [] same = refl
 as_many_classes [] (c ∷ classes) same = absurd (cc)
 as_many_classes (v ∷ statics) [] same = absurd (cc)
@@ -25,7 +26,8 @@ as_many_classes (v ∷ statics) (c ∷ classes) same =
     let rest : map length (statics_of statics) ≡ counts classes = cc in
     ap suc (as_many_classes statics classes rest)
 
-pub as_many_at : (statics : List (Vec kept.Value)) (classes : List PreparedClass) (i : ℕ) (v : Vec kept.Value) (c : PreparedClass) → map length (statics_of statics) ≡ counts classes → i < length classes
+pub as_many_at : (statics : List (Vec kept.Value)) (classes : List PreparedClass) (i : ℕ) (v : Vec kept.Value) (c : PreparedClass)
+    → map length (statics_of statics) ≡ counts classes → i < length classes
     → v ≡ slice_index_or statics i v → c ≡ slice_index_or classes i c → length v.items ≡ length c.statics
 as_many_at statics [] i v c same less there here = absurd (omega arith)
 as_many_at [] (d ∷ classes) i v c same less there here = absurd (cc)
@@ -36,19 +38,24 @@ as_many_at (w ∷ statics) (d ∷ classes) (suc i) v c same less there here =
     let rest : map length (statics_of statics) ≡ counts classes = cc in
     as_many_at statics classes i v c rest (omega arith) there here
 
-same_counts : (statics : List (Vec kept.Value)) (i : ℕ) (v w : Vec kept.Value) → v ≡ slice_index_or statics i v → length w.items ≡ length v.items → map length (statics_of (slice_set statics i w)) ≡ map length (statics_of statics)
+same_counts : (statics : List (Vec kept.Value)) (i : ℕ) (v w : Vec kept.Value) → v ≡ slice_index_or statics i v
+    → length w.items ≡ length v.items → map length (statics_of (slice_set statics i w)) ≡ map length (statics_of statics)
 same_counts [] i v w there same = refl
 same_counts (u ∷ statics) zero v w there same =
-    ap (λ n. n ∷ map length (statics_of statics)) (length-map w.items value_of ∙ (same ∙ (ap (λ (x : Vec kept.Value). length x.items) there ∙ sym (length-map u.items value_of))))
+    ap (λ n. n ∷ map length (statics_of statics)) (length-map w.items value_of
+    ∙ (same ∙ (ap (λ (x : Vec kept.Value). length x.items) there ∙ sym (length-map u.items value_of))))
 same_counts (u ∷ statics) (suc i) v w there same = ap (λ ns. length (map value_of u.items) ∷ ns) (same_counts statics i v w there same)
 
-take_one_more : (classes : List PreparedClass) (i : ℕ) (c : PreparedClass) → i < length classes → c ≡ slice_index_or classes i c → take (suc i) classes ≡ take i classes ++ c ∷ []
+take_one_more : (classes : List PreparedClass) (i : ℕ) (c : PreparedClass) → i < length classes → c ≡ slice_index_or classes i c
+    → take (suc i) classes ≡ take i classes ++ c ∷ []
 take_one_more [] i c less here = absurd (omega arith)
 take_one_more (d ∷ classes) zero c less here = ap (λ e. e ∷ []) (sym here)
 take_one_more (d ∷ classes) (suc i) c less here = ap (λ cs. d ∷ cs) (take_one_more classes i c (omega arith) here)
 
-pub begun_more : (statics : List (Vec kept.Value)) (classes : List PreparedClass) (i : ℕ) (v : Vec kept.Value) (c : PreparedClass) (new : List kept.Value) → Begun statics classes i → i < length classes
-    → v ≡ slice_index_or statics i v → c ≡ slice_index_or classes i c → length new ≡ vec_len v → length new ≡ length v.items → map value_of new ≡ map first_value_of c.statics
+pub begun_more : (statics : List (Vec kept.Value)) (classes : List PreparedClass) (i : ℕ) (v : Vec kept.Value) (c : PreparedClass)
+    (new : List kept.Value) → Begun statics classes i → i < length classes
+    → v ≡ slice_index_or statics i v → c ≡ slice_index_or classes i c → length new ≡ vec_len v → length new ≡ length v.items
+    → map value_of new ≡ map first_value_of c.statics
     → Begun (slice_set statics i (with_items v new)) classes (i + 1)
 begun_more statics classes i v c new begun less there here long same first =
     let inside : i < length statics = omega (arith, as_many_classes statics classes begun.as_many) in

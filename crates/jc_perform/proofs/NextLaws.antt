@@ -1,5 +1,5 @@
 -- What came of an operation, from what came of its kind.
-use Rattle.std.proofs.Common.{◌≡◌, refl, ◌∙◌, ap, sym, subst}
+use Rattle.std.proofs.Common.{◌≡◌, ◌∙◌, ap, sym, subst}
 use Rattle.jc_world.specs.World as world
 use Rattle.jc_world.specs.Operations as operations
 use Rattle.jc_world.specs.Perform.{perform}
@@ -7,27 +7,10 @@ use Rattle.jc_operations.specs.declared.operation.Operation.{Operation}
 use Rattle.jc_operations.specs.Shown.{Shows}
 use Rattle.jc_perform.specs.declared.next.Next.{Next}
 use Rattle.jc_perform.specs.declared.next.Next.TheVariants as nexts
-use Rattle.jc_perform.specs.Nexts.{result_of, KeepsFrame, KeepsShared, Settles, ComesTo}
+use Rattle.jc_perform.specs.Nexts.{result_of, Settles, ComesTo}
 
-pub settled_kept : (next : Next) (f f' : world.Frame) → Settles next f f' → KeepsFrame next f f'
-settled_kept nexts.Goes f f' settles = tt
-settled_kept (nexts.Hits class id) f f' settles = tt
-settled_kept (nexts.Calls callee) f f' settles = absurd settles
-settled_kept (nexts.Leaves v) f f' settles = settles
-settled_kept (nexts.Raises thrown) f f' settles = settles
-settled_kept (nexts.Throws thrown v) f f' settles = settles
-settled_kept nexts.Stuck f f' settles = settles
-
-pub same_shared : (next : Next) (s : world.Shared) → KeepsShared next s s
-same_shared nexts.Goes s = tt
-same_shared (nexts.Hits class id) s = refl
-same_shared (nexts.Calls callee) s = refl
-same_shared (nexts.Leaves v) s = refl
-same_shared (nexts.Raises thrown) s = refl
-same_shared (nexts.Throws thrown v) s = refl
-same_shared nexts.Stuck s = refl
-
-settled : (next : Next) (s s' : world.Shared) (f f' : world.Frame) (d : operations.Operation) → Settles next f f' → result_of next s' f' ≡ perform d s f → ComesTo next s' f' d s f
+settled : (next : Next) (s s' : world.Shared) (f f' : world.Frame) (d : operations.Operation) → Settles next f f'
+    → result_of next s' f' ≡ perform d s f → ComesTo next s' f' d s f
 settled nexts.Goes s s' f f' d settles is = is
 settled (nexts.Hits class id) s s' f f' d settles is = is
 settled (nexts.Calls callee) s s' f f' d settles is = absurd settles
@@ -37,12 +20,9 @@ settled (nexts.Throws thrown v) s s' f f' d settles is = is
 settled nexts.Stuck s s' f f' d settles is = is
 
 -- the operation of the definition is this one
-pub comes : (next : Next) (s s' : world.Shared) (f f' : world.Frame) (d e : operations.Operation) → d ≡ e → Settles next f f' → result_of next s' f' ≡ perform e s f → ComesTo next s' f' d s f
+pub comes : (next : Next) (s s' : world.Shared) (f f' : world.Frame) (d e : operations.Operation) → d ≡ e → Settles next f f'
+    → result_of next s' f' ≡ perform e s f → ComesTo next s' f' d s f
 comes next s s' f f' d e same settles is = settled next s s' f f' d settles (is ∙ ap (λ o. perform o s f) (sym same))
-
--- what the definition performs is this
-pub comes_to : (next : Next) (s s' : world.Shared) (f f' : world.Frame) (d : operations.Operation) → Settles next f f' → result_of next s' f' ≡ perform d s f → ComesTo next s' f' d s f
-comes_to next s s' f f' d settles is = settled next s s' f f' d settles is
 
 -- what is shown of an operation that is another is shown of that
 pub shown : (o p : Operation) (d : operations.Operation) → o ≡ p → Shows o d → Shows p d

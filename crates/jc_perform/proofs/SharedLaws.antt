@@ -11,11 +11,14 @@ use Rattle.jc_store.specs.Values.{value_of}
 abbrev pub values_in : Vec kept.Value → List Value
 values_in c = map value_of c.items
 
-pub static_set : (statics : List (Vec kept.Value)) (class field : ℕ) (v : kept.Value) (values : Vec kept.Value) (new : List kept.Value) → class < length statics → length new ≡ vec_len values → values ≡ slice_index_or statics class values → new ≡ slice_set values.items field v
-    → map values_in (slice_set statics class (with_items values new)) ≡ slice_set (map values_in statics) class (slice_set (slice_index_or (map values_in statics) class []) field (value_of v))
+pub static_set : (statics : List (Vec kept.Value)) (class field : ℕ) (v : kept.Value) (values : Vec kept.Value) (new : List kept.Value)
+    → class < length statics → length new ≡ vec_len values → values ≡ slice_index_or statics class values → new ≡ slice_set values.items field v
+    → map values_in (slice_set statics class (with_items values new))
+    ≡ slice_set (map values_in statics) class (slice_set (slice_index_or (map values_in statics) class []) field (value_of v))
 static_set statics class field v values new less long read set =
     let put : values_in (with_items values new) ≡ slice_set (values_in values) field (value_of v) =
     ap (map value_of) (with_items_is values new long ∙ set) ∙ map-set value_of values.items field v in
-    let there : slice_index_or (map values_in statics) class [] ≡ values_in values = get_or-map values_in statics class values [] less ∙ ap values_in (sym read) in
+    let there : slice_index_or (map values_in statics) class [] ≡ values_in values = get_or-map values_in statics class values [] less
+    ∙ ap values_in (sym read) in
     map-set values_in statics class (with_items values new)
     ∙ ap (slice_set (map values_in statics) class) (put ∙ ap (λ vs. slice_set vs field (value_of v)) (sym there))

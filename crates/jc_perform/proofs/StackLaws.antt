@@ -47,7 +47,8 @@ are_on_top a b d e p q r t stack first second third fourth one two three four = 
   fourth = fourth_is e t stack fourth four;
 }
 
-pub got_or : (peeked : Option kept.Value) (stack : List Value) (k : ℕ) → option_map value_of peeked ≡ slice_get stack k → value_of (unwrap_or peeked kepts.Null) ≡ slice_index_or stack k null
+pub got_or : (peeked : Option kept.Value) (stack : List Value) (k : ℕ) → option_map value_of peeked ≡ slice_get stack k
+    → value_of (unwrap_or peeked kepts.Null) ≡ slice_index_or stack k null
 got_or None [] k read = refl
 got_or None (v ∷ stack) zero read = absurd (cc)
 got_or None (v ∷ stack) (suc k) read = got_or None stack k read
@@ -62,7 +63,8 @@ moved_one [] stack some = absurd (omega arith)
 moved_one (k ∷ places) stack some = ap (λ ks. slice_index_or stack k null ∷ results_at ks stack) (behind-cons k places)
 
 -- two references on top, and whether they are one
-pub tells : (same : Bool) (stack : List Value) (a b : Value) → Some b ≡ slice_get stack 0 → Some a ≡ slice_get stack 1 → same ≡ is_same a b → TellsSame same stack
+pub tells : (same : Bool) (stack : List Value) (a b : Value) → Some b ≡ slice_get stack 0 → Some a ≡ slice_get stack 1 → same ≡ is_same a b
+    → TellsSame same stack
 tells same [] a b first second is = tt
 tells same (x ∷ []) a b first second is = tt
 tells same (x ∷ y ∷ stack) a b first second is =
@@ -91,7 +93,8 @@ top_two (x ∷ stack) a b first second =
     let same : x ≡ a = cc in
     ap (λ v. v ∷ stack) same ∙ ap (λ vs. a ∷ vs) (top_one stack b second)
 
-pub top_three : (stack : List Value) (a b d : Value) → Some a ≡ slice_get stack 0 → Some b ≡ slice_get stack 1 → Some d ≡ slice_get stack 2 → stack ≡ a ∷ b ∷ d ∷ drop 3 stack
+pub top_three : (stack : List Value) (a b d : Value) → Some a ≡ slice_get stack 0 → Some b ≡ slice_get stack 1 → Some d ≡ slice_get stack 2
+    → stack ≡ a ∷ b ∷ d ∷ drop 3 stack
 top_three [] a b d first second third = absurd (cc)
 top_three (x ∷ stack) a b d first second third =
     let same : x ≡ a = cc in

@@ -141,7 +141,8 @@ fn write_long(number: u32, index: u32, value: Value, shared: &mut Shared, frame:
     requires element { HasElementAt shared.old.heap number fields.Long index }
     ensures result { (elements : List ℤ) → slice_get shared.old.heap number ≡ Some (array fields.Long elements)
         → result_of result shared.new frame.new
-        ≡ write_number (record { element = fields.Long; elements = elements; index = index }) (element_number fields.Long (value_of value)) number (drop 3 frame.old.stack) shared.old frame.old }
+        ≡ write_number (record { element = fields.Long; elements = elements; index = index })
+        (element_number fields.Long (value_of value)) number (drop 3 frame.old.stack) shared.old frame.old }
     ensures kept { Settles result frame.old frame.new }
     ensures shared_kept { KeepsShared result shared.old shared.new }
 {
@@ -167,7 +168,8 @@ fn write_int(
     requires element { HasElementAt shared.old.heap number (element_type element) index }
     ensures result { (elements : List ℤ) → slice_get shared.old.heap number ≡ Some (array (element_type element) elements)
         → result_of result shared.new frame.new
-        ≡ write_number (record { element = element_type element; elements = elements; index = index }) (element_number (element_type element) (value_of value)) number (drop 3 frame.old.stack) shared.old frame.old }
+        ≡ write_number (record { element = element_type element; elements = elements; index = index })
+        (element_number (element_type element) (value_of value)) number (drop 3 frame.old.stack) shared.old frame.old }
     ensures kept { Settles result frame.old frame.new }
     ensures shared_kept { KeepsShared result shared.old shared.new }
 {
@@ -191,7 +193,8 @@ fn write_object(
 ) -> Next
     requires { frame.old.place + 1 < 2 ^ 32 }
     ensures result { result_of result shared.new frame.new
-        ≡ write_found (find_element (element_types types) shared.old.heap (values.object number) index) (value_of value) number (drop 3 frame.old.stack) shared.old frame.old }
+        ≡ write_found (find_element (element_types types) shared.old.heap (values.object number) index) (value_of value) number
+        (drop 3 frame.old.stack) shared.old frame.old }
     ensures kept { Settles result frame.old frame.new }
     ensures shared_kept { KeepsShared result shared.old shared.new }
 {
@@ -217,9 +220,9 @@ fn write_probe(
 ) -> Next
     requires { frame.old.place + 1 < 2 ^ 32 }
     ensures result { (s : world.Shared) → result_of result s frame.new
-        ≡ (if has_elements (element_types types) fields.Boolean then by_probe class (index_within index count) (value_of value) (drop 3 frame.old.stack) frame.old else gets_stuck) }
+        ≡ (if has_elements (element_types types) fields.Boolean then by_probe class (index_within index count) (value_of value)
+        (drop 3 frame.old.stack) frame.old else gets_stuck) }
     ensures kept { Settles result frame.old frame.new }
-    ensures no_move { (s s' : world.Shared) → s' ≡ s → KeepsShared result s s' }
 {
     if !has_element(types, Element::Boolean) {
         return Next::Stuck;

@@ -1,12 +1,12 @@
 //! Calls and returns (JVM Specification 2.6.4, 2.11.8; 6.5, invokestatic, ireturn, lreturn, areturn).
 ghost use Rattle.std.specs.Prelude.{◌≡◌, ◌+◌, ◌<◌, ◌≤◌, List, Option, Some, length, take, reverse, is_some, option_map};
 ghost use Rattle.jc_bytes.specs.Descriptor.{FieldType};
-ghost use Rattle.jc_world.specs.World.{Shared, Frame};
+ghost use Rattle.jc_world.specs.World.{Shared};
 ghost use Rattle.jc_world.specs.Calls.{Arguments, taken_for, spread_value, spread_values, locals_for, by_return};
 ghost use Rattle.jc_world.specs.Step.{new_frame};
 ghost use Rattle.jc_operations.specs.Types.{computational, return_narrowing};
 ghost use Rattle.jc_store.specs.Values.{value_of};
-ghost use Rattle.jc_perform.specs.Nexts.{result_of, Settles, KeepsShared};
+ghost use Rattle.jc_perform.specs.Nexts.{result_of, Settles};
 ghost use Rattle.jc_perform.specs.Parameters.{AreParameters, is_argument, with_slots};
 
 use crate::Next;
@@ -83,7 +83,8 @@ pub fn enter_callee(
     parameters: &[Option<ComputationalType>],
     max_locals: u16,
 )
-    requires fit { (types : List FieldType) × (a : Arguments) × AreParameters types parameters.now × (taken_for types caller.old.stack ≡ Some a) × (length (spread_values a.values) ≤ max_locals) }
+    requires fit { (types : List FieldType) × (a : Arguments) × AreParameters types parameters.now
+        × (taken_for types caller.old.stack ≡ Some a) × (length (spread_values a.values) ≤ max_locals) }
     requires few { max_locals ≤ 1004 }
     ensures caller { (types : List FieldType) (a : Arguments) → AreParameters types parameters.now → taken_for types caller.old.stack ≡ Some a
         → caller.new ≡ record caller.old { stack = a.rest } }
@@ -99,8 +100,7 @@ pub fn enter_callee(
 pub fn return_top(kind: ComputationalType, narrowing: Narrowing, frame: &Frame) -> Next
     ensures result { (type : Option FieldType) (s : Shared) → return_narrowing type ≡ narrowing
         → result_of result s frame.now ≡ by_return (computational kind) type frame.now.stack }
-    ensures kept { (f f' : Frame) → f' ≡ f → Settles result f f' }
-    ensures shared_kept { (s s' : Shared) → s' ≡ s → KeepsShared result s s' }
+    ensures kept { Settles result frame.now frame.now }
 {
     let Some(value) = frame.peek(0) else {
         return Next::Stuck;

@@ -3,6 +3,7 @@ ghost use Rattle.std.specs.Prelude.{◌≡◌, ◌+◌, ◌<◌, ◌≤◌, ◌^
 ghost use Rattle.jc_world.specs.World.{Shared};
 ghost use Rattle.jc_world.specs.Effects.{effect, results_at};
 ghost use Rattle.jc_world.specs.Perform.{by_effect};
+ghost use Rattle.jc_effects.specs.Descriptions.{effect_on};
 ghost use Rattle.jc_store.specs.Values.{value_of};
 ghost use Rattle.jc_perform.specs.Nexts.{result_of, Settles};
 ghost use Rattle.jc_perform.specs.Tops.{operand_at};
@@ -41,6 +42,23 @@ fn move_operands(frame: &mut Frame, taken: usize, places: &[u8])
     }
 }
 
+/// What the instruction with an opcode does with the operands on top, if it reads and writes the operand stack alone.
+fn effect_on_top(frame: &Frame, op: u8) -> Effect
+    ensures { effect_on result frame.now.stack ≡ effect op frame.now.stack }
+{
+    let first = frame.peek(0);
+    let second = frame.peek(1);
+    let third = frame.peek(2);
+    let fourth = frame.peek(3);
+    effect(
+        op,
+        operand(first),
+        operand(second),
+        operand(third),
+        operand(fourth),
+    )
+}
+
 /// Executes the instruction with an opcode, if it reads and writes the operand stack alone.
 pub fn compute(frame: &mut Frame, op: u8) -> Next
     requires place { frame.old.place + 1 < 2 ^ 32 }
@@ -48,17 +66,7 @@ pub fn compute(frame: &mut Frame, op: u8) -> Next
     ensures result { (s : Shared) → result_of result s frame.new ≡ by_effect (effect op frame.old.stack) s frame.old }
     ensures kept { Settles result frame.old frame.new }
 {
-    let first = frame.peek(0);
-    let second = frame.peek(1);
-    let third = frame.peek(2);
-    let fourth = frame.peek(3);
-    match effect(
-        op,
-        operand(first),
-        operand(second),
-        operand(third),
-        operand(fourth),
-    ) {
+    match effect_on_top(frame, op) {
         Effect::Int { taken, value } => {
             replace(frame, taken as usize, Value::Int(value));
             Next::Goes

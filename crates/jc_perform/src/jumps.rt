@@ -30,7 +30,8 @@ pub fn jump(frame: &mut Frame, to: u32) -> Next
 
 /// Whether the two references on top are one.
 fn is_one_on_top(first: Option<Value>, second: Option<Value>) -> bool
-    ensures { (stack : List values.Value) → option_map value_of first ≡ slice_get stack 0 → option_map value_of second ≡ slice_get stack 1 → TellsSame result stack }
+    ensures { (stack : List values.Value) → option_map value_of first ≡ slice_get stack 0 → option_map value_of second ≡ slice_get stack 1
+        → TellsSame result stack }
 {
     let Some(b) = first else {
         return false;

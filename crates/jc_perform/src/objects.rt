@@ -83,8 +83,7 @@ pub fn build(class: Thrown, shared: &Shared, frame: &mut Frame) -> Next
 /// Throws the throwable on top; null becomes an exception of its own.
 pub fn throw_top(shared: &Shared, frame: &Frame) -> Next
     ensures result { result_of result shared.now frame.now ≡ by_throw frame.now.stack shared.now }
-    ensures kept { (f f' : world.Frame) → f' ≡ f → Settles result f f' }
-    ensures shared_kept { (s s' : world.Shared) → s' ≡ s → KeepsShared result s s' }
+    ensures kept { Settles result frame.now frame.now }
 {
     let Some(value) = frame.peek(0) else {
         return Next::Stuck;

@@ -18,7 +18,8 @@ use jc_store::Frame;
 pub fn get(class: u32, field: u32, shared: &Shared, frame: &mut Frame) -> Next
     requires place { frame.old.place + 1 < 2 ^ 32 }
     requires room { length frame.old.locals + length frame.old.stack ≤ 1004 }
-    ensures result { result_of result shared.now frame.new ≡ by_get (static_at shared.now.statics (record { class = class; field = field })) shared.now frame.old }
+    ensures result { result_of result shared.now frame.new
+        ≡ by_get (static_at shared.now.statics (record { class = class; field = field })) shared.now frame.old }
     ensures kept { Settles result frame.old frame.new }
 {
     match shared.static_value(class, field) {

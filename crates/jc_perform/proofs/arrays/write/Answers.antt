@@ -13,6 +13,10 @@ pub returns-in-Probes-clause-result : goal.returns-in-Probes-clause-result
 returns-in-Probes-clause-result c =
     let f = c.args.frame.now in
     let s = c.args.shared.now in
-    let shape = top_three f.stack (value_of c.in-Some.value) (int c.in-Int.index) (probes c.in-Probes.class c.in-Probes.count) c.in-Some.ensures (ap (λ v. Some (value_of v)) (sym c.in-Int.is) ∙ c.in-Some-peek.ensures) (ap (λ v. Some (value_of v)) (sym c.in-Probes.is) ∙ c.in-Some-peek-2.ensures) in
+    let shape = top_three f.stack (value_of c.in-Some.value) (int c.in-Int.index)
+    (probes c.in-Probes.class c.in-Probes.count) c.in-Some.ensures (ap (λ v. Some (value_of v)) (sym c.in-Int.is)
+    ∙ c.in-Some-peek.ensures) (ap (λ v. Some (value_of v)) (sym c.in-Probes.is) ∙ c.in-Some-peek-2.ensures) in
     let fits : FitsSigned w32 c.in-Int.index = search rules in
-    c.write_probe.ensures.result s ∙ ap (λ i. write_to (element_types c.args.types) (probes c.in-Probes.class c.in-Probes.count) i (value_of c.in-Some.value) (drop 3 f.stack) s f) (to_z-of_z w32 c.in-Int.index fits) ∙ sym (ap (λ (st : List Value). by_write (element_types c.args.types) st s f) shape)
+    c.write_probe.ensures.result s
+    ∙ ap (λ i. write_to (element_types c.args.types) (probes c.in-Probes.class c.in-Probes.count) i (value_of c.in-Some.value)
+    (drop 3 f.stack) s f) (to_z-of_z w32 c.in-Int.index fits) ∙ sym (ap (λ (st : List Value). by_write (element_types c.args.types) st s f) shape)

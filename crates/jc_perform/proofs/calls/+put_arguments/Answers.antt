@@ -8,7 +8,8 @@ use Rattle.jc_perform.proofs.CallLaws.{slots_left, slots_after}
 use Rattle.jc_perform.proofs.calls.+put_arguments.Goals as goal
 
 pub put_argument-next-requires : goal.put_argument-next-requires
-put_argument-next-requires t c = (slots_left c.args.caller.now.stack c.args.count c.args.slot (value_of c.in-Some.value) c.if-count-eq0.false c.in-Some.ensures c.requires.room).0
+put_argument-next-requires t c =
+    (slots_left c.args.caller.now.stack c.args.count c.args.slot (value_of c.in-Some.value) c.if-count-eq0.false c.in-Some.ensures c.requires.room).0
 
 pub put_arguments-requires : goal.put_arguments-requires
 put_arguments-requires t c =
@@ -21,4 +22,6 @@ returns t c =
     let others = spread_values (reverse (take (c.args.count - 1) c.args.caller.now.stack)) in
     c.put_arguments.ensures
     ∙ (ap (λ (g : Frame). record g { locals = with_slots g.locals c.put_argument-next.result others }) c.put_argument-next.ensures.put
-    ∙ ap (λ (ls : List (Option Value)). record f { locals = ls }) (slots_after c.args.caller.now.stack c.args.count c.args.slot c.put_argument-next.result (value_of c.in-Some.value) f.locals c.if-count-eq0.false c.in-Some.ensures c.put_argument-next.ensures.next))
+    ∙ ap (λ (ls : List (Option Value)). record f { locals = ls })
+    (slots_after c.args.caller.now.stack c.args.count c.args.slot c.put_argument-next.result
+    (value_of c.in-Some.value) f.locals c.if-count-eq0.false c.in-Some.ensures c.put_argument-next.ensures.next))

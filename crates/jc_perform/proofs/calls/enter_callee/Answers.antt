@@ -10,7 +10,8 @@ use Rattle.jc_perform.proofs.CallLaws.{count_of_parameters, TakenFor, taken_is, 
 use Rattle.jc_perform.proofs.calls.enter_callee.Goals as goal
 
 -- the arguments are as many values as there are parameters
-taken : (types : List FieldType) (ps : List (Option ComputationalType)) (stack : List Value) (a : Arguments) → AreParameters types ps → taken_for types stack ≡ Some a → TakenFor stack (length ps) a
+taken : (types : List FieldType) (ps : List (Option ComputationalType)) (stack : List Value) (a : Arguments) → AreParameters types ps
+    → taken_for types stack ≡ Some a → TakenFor stack (length ps) a
 taken types ps stack a are is = subst (λ n. TakenFor stack n a) (sym (count_of_parameters types ps are)) (taken_is types stack a is)
 
 pub put_arguments-requires-clause-there : goal.put_arguments-requires-clause-there
@@ -26,7 +27,8 @@ put_arguments-requires-clause-room c =
 
 pub returns-clause-caller : goal.returns-clause-caller
 returns-clause-caller c = λ types a are is.
-    c.cut.ensures ∙ ap (λ (vs : List Value). record c.args.caller.now { stack = vs }) (sym (taken types c.args.parameters.now c.args.caller.now.stack a are is).rest)
+    c.cut.ensures ∙ ap (λ (vs : List Value). record c.args.caller.now { stack = vs })
+    (sym (taken types c.args.parameters.now c.args.caller.now.stack a are is).rest)
 
 pub returns-clause-callee : goal.returns-clause-callee
 returns-clause-callee c = λ types a are is.
@@ -34,7 +36,8 @@ returns-clause-callee c = λ types a are is.
     let stack = c.args.caller.now.stack in
     let mine = (taken types c.args.parameters.now stack a are is).values in
     let theirs = (taken fit.0 c.args.parameters.now stack fit.1 fit.2 fit.3).values in
-    let few : length (spread_values a.values) ≤ c.args.max_locals = omega (arith, fit.4, ap (λ (vs : List Value). length (spread_values vs)) (mine ∙ sym theirs)) in
+    let few : length (spread_values a.values) ≤ c.args.max_locals =
+    omega (arith, fit.4, ap (λ (vs : List Value). length (spread_values vs)) (mine ∙ sym theirs)) in
     c.put_arguments.ensures
     ∙ (ap (λ (g : Frame). record g { locals = with_slots g.locals 0 (spread_values (reverse (take (length c.args.parameters.now) stack))) }) c.enter.ensures
     ∙ ap (λ (ls : List (Option Value)). new_frame c.args.callee ls)

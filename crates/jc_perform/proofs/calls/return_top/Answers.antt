@@ -14,7 +14,8 @@ kept_whole : (v : Value) → stored_as Int v ≡ v
 kept_whole (int x) = refl
 kept_whole _ = refl
 
-returned : (narrowing : Narrowing) (v r : Value) (type : Option FieldType) → ((t : FieldType) → narrowing_of t ≡ narrowing → r ≡ stored_as t v) → return_narrowing type ≡ narrowing → r ≡ returned_as type v
+returned : (narrowing : Narrowing) (v r : Value) (type : Option FieldType)
+    → ((t : FieldType) → narrowing_of t ≡ narrowing → r ≡ stored_as t v) → return_narrowing type ≡ narrowing → r ≡ returned_as type v
 returned narrowing v r None each is = each Int is ∙ kept_whole v
 returned narrowing v r (Some t) each is = each t is
 
@@ -27,4 +28,5 @@ returns-clause-result c = λ type s is.
     let v = value_of c.in-Some.value in
     let fits : is_of (computational c.args.kind) v ≡ true = search rules in
     ap (λ (r : Value). leaves (Some r)) (returned c.args.narrowing v (value_of c.stored.result) type c.stored.ensures is)
-    ∙ sym (ap (λ (st : List Value). by_return (computational c.args.kind) type st) (top_one stack v c.in-Some.ensures) ∙ taken (is_of (computational c.args.kind) v) _ gets_stuck fits)
+    ∙ sym (ap (λ (st : List Value). by_return (computational c.args.kind) type st) (top_one stack v c.in-Some.ensures)
+    ∙ taken (is_of (computational c.args.kind) v) _ gets_stuck fits)

@@ -12,7 +12,8 @@ returns-in-len1-up t c =
     let f = c.args.frame.now in
     let places = c.args.places.now in
     let others = results_at (behind places) f.stack in
-    let top : value_of c.unwrap_or-value.result ≡ slice_index_or f.stack (slice_index_or places 0 0) null = ap value_of c.unwrap_or-value.ensures ∙ got_or c.peek.result f.stack (slice_index_or places 0 0) c.peek.ensures in
+    let top : value_of c.unwrap_or-value.result ≡ slice_index_or f.stack (slice_index_or places 0 0) null =
+    ap value_of c.unwrap_or-value.ensures ∙ got_or c.peek.result f.stack (slice_index_or places 0 0) c.peek.ensures in
     c.push.ensures
     ∙ (ap (λ (g : Frame). record g { stack = value_of c.unwrap_or-value.result ∷ g.stack }) c.move_operands.ensures
     ∙ (ap (λ (v : Value). record f { stack = v ∷ (others ++ drop c.args.taken f.stack) }) top

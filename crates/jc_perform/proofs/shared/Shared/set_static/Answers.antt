@@ -10,6 +10,11 @@ pub returns-then-class-len : goal.returns-then-class-len
 returns-then-class-len c =
     let inside = c.self.inside in
     let less : c.args.class < length inside.statics.items = search rules in
-    let put = static_set inside.statics.items c.args.class c.args.field c.args.value c.index_mut.result.now c.set_value.new.values less (c.set_value.auto.values ∙ c.as_mut_slice.ensures.len) c.index_mut.ensures.value (c.set_value.ensures ∙ ap (λ vs. slice_set vs c.args.field c.args.value) c.as_mut_slice.ensures.value) in
+    let put = static_set inside.statics.items c.args.class c.args.field c.args.value c.index_mut.result.now c.set_value.new.values less
+    (c.set_value.auto.values ∙ c.as_mut_slice.ensures.len) c.index_mut.ensures.value (c.set_value.ensures
+    ∙ ap (λ vs. slice_set vs c.args.field c.args.value) c.as_mut_slice.ensures.value) in
     ap (λ ss. record (shared_of inside) { statics = ss }) put
-    ∙ ap (λ (s : world.Shared). record s { statics = with_static s.statics (record { class = c.args.class; field = c.args.field }) (value_of c.args.value) }) c.self.view_is
+    ∙ ap (λ (s : world.Shared). record s {
+      statics =
+          with_static s.statics (record { class = c.args.class; field = c.args.field }) (value_of c.args.value);
+    }) c.self.view_is
