@@ -44,7 +44,8 @@ end_is r k less = get_or-take r.count r.ends.items k 0 less
 
 pub begins_below : (r : Inside) (k : ℕ) → IsSound r → k < r.count → begin_of 0 (used_ends r) k < slice_index_or r.ends.items k 0
 begins_below r k sound less =
-    let here : begin_of 0 (used_ends r) k < slice_index_or (used_ends r) k 0 = (begins_before 0 r.used (used_ends r) k sound.ends (omega (arith, ends_count r sound))).1 in
+    let here : begin_of 0 (used_ends r) k < slice_index_or (used_ends r) k 0 =
+    (begins_before 0 r.used (used_ends r) k sound.ends (omega (arith, ends_count r sound))).1 in
     omega (arith, here, end_is r k less)
 
 pub ends_below : (r : Inside) (k : ℕ) → IsSound r → k < r.count → slice_index_or r.ends.items k 0 ≤ r.used
@@ -52,7 +53,8 @@ ends_below r k sound less =
     let here : slice_index_or (used_ends r) k 0 ≤ r.used = (begins_before 0 r.used (used_ends r) k sound.ends (omega (arith, ends_count r sound))).2 in
     omega (arith, here, end_is r k less)
 
-pub block_at : (r : Inside) (at len k : ℕ) → IsSound r → k < r.count → at ≡ begin_of 0 (used_ends r) k → len ≡ slice_index_or r.ends.items k 0 - at → IsBlock (blocks_of r).blocks at len k
+pub block_at : (r : Inside) (at len k : ℕ) → IsSound r → k < r.count → at ≡ begin_of 0 (used_ends r) k
+    → len ≡ slice_index_or r.ends.items k 0 - at → IsBlock (blocks_of r).blocks at len k
 block_at r at len k sound less begin long =
     let there : IsBlock (blocks_of r).blocks (begin_of 0 (used_ends r) k - 0) (slice_index_or (used_ends r) k 0 - begin_of 0 (used_ends r) k) k =
     block_between 0 r.used (used_ends r) r.words.items k sound.ends (omega (arith, sound.within)) (omega (arith, ends_count r sound)) in
@@ -63,21 +65,24 @@ block_at r at len k sound less begin long =
 
 -- ---- a word
 
-pub word_is : (r : Inside) (at len i : ℕ) → IsSound r → IsLive (blocks_of r).blocks at len → i < len → slice_index_or r.words.items (at + i) 0 ≡ slice_index_or (words_at (blocks_of r).blocks at) i 0
+pub word_is : (r : Inside) (at len i : ℕ) → IsSound r → IsLive (blocks_of r).blocks at len → i < len
+    → slice_index_or r.words.items (at + i) 0 ≡ slice_index_or (words_at (blocks_of r).blocks at) i 0
 word_is r at len i sound live less =
     let it : Lies (lens_of r) r.words.items at len live.0 = lies_in r at len sound live in
     sym (ap (λ k. slice_index_or (slice_index_or (blocks_of r).blocks k []) i 0) it.number
     ∙ (ap (λ ws. slice_index_or ws i 0) it.words ∙ (get_or-take len (drop at r.words.items) i 0 less ∙ get_or-drop at r.words.items i 0)))
 
 pub set_is : (r : Inside) (at len i word : ℕ) → IsSound r → IsLive (blocks_of r).blocks at len → i < len →
-    cut (lens_of r) (slice_set r.words.items (at + i) word) ≡ slice_set (blocks_of r).blocks (number_at (blocks_of r).blocks at) (slice_set (words_at (blocks_of r).blocks at) i word)
+    cut (lens_of r) (slice_set r.words.items (at + i) word)
+    ≡ slice_set (blocks_of r).blocks (number_at (blocks_of r).blocks at) (slice_set (words_at (blocks_of r).blocks at) i word)
 set_is r at len i word sound live less =
     let it : Lies (lens_of r) r.words.items at len live.0 = lies_in r at len sound live in
     cut-set (lens_of r) r.words.items at len live.0 i word (positive r sound) (few r sound) live.1 less
     ∙ ap (λ k. slice_set (blocks_of r).blocks k (slice_set (slice_index_or (blocks_of r).blocks k []) i word)) (sym it.number)
 
 pub set_blocks : (r r' : Inside) (at len i word : ℕ) → IsSound r → IsLive (blocks_of r).blocks at len → i < len
-    → r'.words.items ≡ slice_set r.words.items (at + i) word → r'.ends.items ≡ r.ends.items → r'.count ≡ r.count → blocks_of r' ≡ with_word (blocks_of r) at i word
+    → r'.words.items ≡ slice_set r.words.items (at + i) word → r'.ends.items ≡ r.ends.items → r'.count ≡ r.count
+    → blocks_of r' ≡ with_word (blocks_of r) at i word
 set_blocks r r' at len i word sound live less words ends count =
     let same : lens_of r' ≡ lens_of r = ap (λ n. lengths_from 0 (take n r'.ends.items)) count ∙ ap (λ ls. lengths_from 0 (take r.count ls)) ends in
     ap (λ n. record { most = n; blocks = cut (lens_of r') r'.words.items }) (ap length words ∙ length-set r.words.items (at + i) word)
@@ -91,9 +96,17 @@ zeros-length n = length-replicate n 0
 
 filled-length : (used len : ℕ) (ws zs : List ℕ) → used + len ≤ length ws → length zs ≡ len → length (take used ws ++ (zs ++ drop (used + len) ws)) ≡ length ws
 filled-length used len ws zs room long =
-    omega (arith, length-append (take used ws) (zs ++ drop (used + len) ws), length-append zs (drop (used + len) ws), length-take-le used ws (omega arith), length-drop (used + len) ws)
+    omega (
+      arith,
+      length-append (take used ws) (zs ++ drop (used + len) ws),
+      length-append zs (drop (used + len) ws),
+      length-take-le used ws
+          (omega arith),
+      length-drop (used + len) ws,
+    )
 
-filled_part : (used len : ℕ) (ws zs : List ℕ) → used + len ≤ length ws → length zs ≡ len → take len (drop used (take used ws ++ (zs ++ drop (used + len) ws))) ≡ zs
+filled_part : (used len : ℕ) (ws zs : List ℕ) → used + len ≤ length ws → length zs ≡ len
+    → take len (drop used (take used ws ++ (zs ++ drop (used + len) ws))) ≡ zs
 filled_part used len ws zs room long =
     ap (take len) (drop_at (take used ws) (zs ++ drop (used + len) ws) used (length-take-le used ws (omega arith)))
     ∙ take_at zs (drop (used + len) ws) len long
@@ -126,7 +139,8 @@ pub grown_sound : (r r' : Inside) (len : ℕ) → IsSound r → Grown r r' len �
 grown_sound r r' len sound g =
     let long : length r'.words.items ≡ length r.words.items = grown-words r r' len g in
     let ends : length r'.ends.items ≡ length r.ends.items = ap length g.ends ∙ length-set r.ends.items r.count (r.used + len) in
-    let all : AreEnds 0 (used_ends r ++ (r.used + len) ∷ []) (r.used + len) = ends-append 0 r.used (r.used + len) (used_ends r) sound.ends (omega (arith, g.some)) in
+    let all : AreEnds 0 (used_ends r ++ (r.used + len) ∷ []) (r.used + len) =
+    ends-append 0 r.used (r.used + len) (used_ends r) sound.ends (omega (arith, g.some)) in
     let P : ℕ → Type 0 = λ n. AreEnds 0 (used_ends r') n in
     record {
       within = omega (arith, g.used, g.room, long);

@@ -48,7 +48,8 @@ pub ends-append : (at last next : ℕ) (ends : List ℕ) → AreEnds at ends las
 ends-append at last next [] all less = let first : at < next = omega (arith, all) in (first, refl)
 ends-append at last next (end ∷ ends) all less = (all.0, ends-append end last next ends all.1 less)
 
-pub lengths_from-append : (at last next : ℕ) (ends : List ℕ) → AreEnds at ends last → lengths_from at (ends ++ next ∷ []) ≡ lengths_from at ends ++ (next - last) ∷ []
+pub lengths_from-append : (at last next : ℕ) (ends : List ℕ) → AreEnds at ends last
+    → lengths_from at (ends ++ next ∷ []) ≡ lengths_from at ends ++ (next - last) ∷ []
 lengths_from-append at last next [] all = ap (λ m. (next - m) ∷ []) all
 lengths_from-append at last next (end ∷ ends) all = ap (λ ls. (end - at) ∷ ls) (lengths_from-append end last next ends all.1)
 
@@ -61,14 +62,16 @@ begin_later : (end at : ℕ) (ends : List ℕ) (k : ℕ) → begin_of at (end �
 begin_later end at ends zero = refl
 begin_later end at ends (suc k) = refl
 
-pub begins_before : (at last : ℕ) (ends : List ℕ) (k : ℕ) → AreEnds at ends last → k < length ends → (at ≤ begin_of at ends k) × (begin_of at ends k < slice_index_or ends k 0) × (slice_index_or ends k 0 ≤ last)
+pub begins_before : (at last : ℕ) (ends : List ℕ) (k : ℕ) → AreEnds at ends last → k < length ends
+    → (at ≤ begin_of at ends k) × (begin_of at ends k < slice_index_or ends k 0) × (slice_index_or ends k 0 ≤ last)
 begins_before at last [] k all less = absurd (omega arith)
 begins_before at last (end ∷ ends) zero all less =
     let most : end ≤ last = omega (arith, few_ends end last ends all.1) in
     let here : at ≤ at = omega arith in
     (here, all.0, most)
 begins_before at last (end ∷ ends) (suc k) all less =
-    let rest : (end ≤ begin_of end ends k) × (begin_of end ends k < slice_index_or ends k 0) × (slice_index_or ends k 0 ≤ last) = begins_before end last ends k all.1 (omega arith) in
+    let rest : (end ≤ begin_of end ends k) × (begin_of end ends k < slice_index_or ends k 0) × (slice_index_or ends k 0 ≤ last) =
+    begins_before end last ends k all.1 (omega arith) in
     let same : begin_of at (end ∷ ends) (suc k) ≡ begin_of end ends k = begin_later end at ends k in
     let first : at ≤ begin_of at (end ∷ ends) (suc k) = omega (arith, all.0, rest.0, same) in
     let second : begin_of at (end ∷ ends) (suc k) < slice_index_or ends k 0 = omega (arith, rest.1, same) in
@@ -89,7 +92,8 @@ block_between at last (end ∷ ends) ws (suc k) all room less =
     let same : begin_of at (end ∷ ends) (suc k) ≡ begin_of end ends k = begin_later end at ends k in
     record {
       before = omega (arith, first, inner.before, later, same, all.0);
-      there = subst (λ m. IsSomeAnd (slice_get (cut (lengths_from end ends) (drop (end - at) ws)) k) (λ block. length block ≡ slice_index_or ends k 0 - m)) (sym same) inner.there;
+      there = subst (λ m. IsSomeAnd (slice_get (cut (lengths_from end ends) (drop (end - at) ws)) k)
+          (λ block. length block ≡ slice_index_or ends k 0 - m)) (sym same) inner.there;
     }
 
 -- ---- one block more
@@ -118,14 +122,16 @@ pub record Lies (ns ws : List ℕ) (at len k : ℕ) : Type 0 where
   pub words : slice_index_or (cut ns ws) k [] ≡ take len (drop at ws)
   pub within : at + len ≤ total ns
 
-lies_first : (n : ℕ) (ns ws : List ℕ) (at len : ℕ) → ArePositive (n ∷ ns) → total (n ∷ ns) ≤ length ws → 0 ≡ at → length (take n ws) ≡ len → Lies (n ∷ ns) ws at len 0
+lies_first : (n : ℕ) (ns ws : List ℕ) (at len : ℕ) → ArePositive (n ∷ ns) → total (n ∷ ns) ≤ length ws → 0 ≡ at → length (take n ws) ≡ len
+    → Lies (n ∷ ns) ws at len 0
 lies_first n ns ws zero len all few here long =
     let first : length (take n ws) ≡ n = length-take-le n ws (omega arith) in
     let same : n ≡ len = sym first ∙ long in
     record { number = refl; words = ap (λ m. take m ws) same; within = omega arith }
 lies_first n ns ws (suc at) len all few here long = absurd (omega arith)
 
-lies_later : (n : ℕ) (ns ws : List ℕ) (at len k : ℕ) → ArePositive (n ∷ ns) → total (n ∷ ns) ≤ length ws → n ≤ at → Lies ns (drop n ws) (at - n) len k → Lies (n ∷ ns) ws at len (suc k)
+lies_later : (n : ℕ) (ns ws : List ℕ) (at len k : ℕ) → ArePositive (n ∷ ns) → total (n ∷ ns) ≤ length ws → n ≤ at
+    → Lies ns (drop n ws) (at - n) len k → Lies (n ∷ ns) ws at len (suc k)
 lies_later n ns ws zero len k all few behind rest = absurd (omega (arith, all.0))
 lies_later n ns ws (suc at) len k all few behind rest =
     let first : length (take n ws) ≡ n = length-take-le n ws (omega arith) in
@@ -143,7 +149,8 @@ lies (n ∷ ns) ws at len zero all few block = lies_first n ns ws at len all few
 lies (n ∷ ns) ws at len (suc k) all few block =
     let first : length (take n ws) ≡ n = length-take-le n ws (omega arith) in
     let before : length (take n ws) + words_in (take k (cut ns (drop n ws))) ≡ at = block.before in
-    lies_later n ns ws at len k all few (omega arith) (lies ns (drop n ws) (at - n) len k all.1 (omega (arith, length-drop n ws)) (record { before = omega arith; there = block.there }))
+    lies_later n ns ws at len k all few (omega arith)
+    (lies ns (drop n ws) (at - n) len k all.1 (omega (arith, length-drop n ws)) (record { before = omega arith; there = block.there }))
 
 pub cut-set : (ns ws : List ℕ) (at len k i word : ℕ) → ArePositive ns → total ns ≤ length ws → IsBlock (cut ns ws) at len k → i < len →
     cut ns (slice_set ws (at + i) word) ≡ slice_set (cut ns ws) k (slice_set (slice_index_or (cut ns ws) k []) i word)
@@ -160,8 +167,10 @@ cut-set (n ∷ ns) ws at len (suc k) i word all few block less =
     let before : length (take n ws) + words_in (take k (cut ns (drop n ws))) ≡ at = block.before in
     let place : at + i ≡ n + (at - n + i) = omega arith in
     let below : take n (slice_set ws (at + i) word) ≡ take n ws = take-set-le n ws (at + i) word (omega arith) in
-    let rest : drop n (slice_set ws (at + i) word) ≡ slice_set (drop n ws) (at - n + i) word = ap (λ m. drop n (slice_set ws m word)) place ∙ drop-set-add n ws (at - n + i) word in
+    let rest : drop n (slice_set ws (at + i) word) ≡ slice_set (drop n ws) (at - n + i) word = ap (λ m. drop n (slice_set ws m word)) place
+    ∙ drop-set-add n ws (at - n + i) word in
     let inner : IsBlock (cut ns (drop n ws)) (at - n) len k = record { before = omega arith; there = block.there } in
-    let others : cut ns (slice_set (drop n ws) (at - n + i) word) ≡ slice_set (cut ns (drop n ws)) k (slice_set (slice_index_or (cut ns (drop n ws)) k []) i word) =
+    let others : cut ns (slice_set (drop n ws) (at - n + i) word)
+    ≡ slice_set (cut ns (drop n ws)) k (slice_set (slice_index_or (cut ns (drop n ws)) k []) i word) =
     cut-set ns (drop n ws) (at - n) len k i word all.1 (omega (arith, length-drop n ws)) inner less in
     rw (below, rest, others) refl

@@ -26,25 +26,30 @@ abbrev pub frame_with : Entry → ℕ → List (Option Value) → List Value →
 frame_with method place locals stack = record { method = method; place = place; locals = locals; stack = stack }
 
 pub pushed : (f : Inside) (cells : List Cell) (c : Cell) → IsFrame f → f.locals + f.height < 1010 → cells ≡ slice_set f.cells.items (f.locals + f.height) c
-    → frame_with f.method f.place (map held (take f.locals cells)) (map on_stack (reverse (take (f.height + 1) (drop f.locals cells)))) ≡ record (frame_of f) { stack = on_stack c ∷ (frame_of f).stack }
+    → frame_with f.method f.place (map held (take f.locals cells)) (map on_stack (reverse (take (f.height + 1) (drop f.locals cells))))
+    ≡ record (frame_of f) { stack = on_stack c ∷ (frame_of f).stack }
 pushed f cells c sound room set =
-    let locals : take f.locals cells ≡ take f.locals f.cells.items = ap (take f.locals) set ∙ take-set-le f.locals f.cells.items (f.locals + f.height) c (omega arith) in
+    let locals : take f.locals cells ≡ take f.locals f.cells.items = ap (take f.locals) set
+    ∙ take-set-le f.locals f.cells.items (f.locals + f.height) c (omega arith) in
     let long : f.height < length (drop f.locals f.cells.items) = omega (arith, length-drop f.locals f.cells.items, sound.cells) in
     let stack : reverse (take (f.height + 1) (drop f.locals cells)) ≡ c ∷ reverse (take f.height (drop f.locals f.cells.items)) =
     ap (λ cs. reverse (take (f.height + 1) (drop f.locals cs))) set
-    ∙ (ap (λ cs. reverse (take (f.height + 1) cs)) (drop-set-add f.locals f.cells.items f.height c) ∙ put_front (drop f.locals f.cells.items) f.height c long) in
+    ∙ (ap (λ cs. reverse (take (f.height + 1) cs)) (drop-set-add f.locals f.cells.items f.height c)
+    ∙ put_front (drop f.locals f.cells.items) f.height c long) in
     ap (λ ls. frame_with f.method f.place (map held ls) (map on_stack (reverse (take (f.height + 1) (drop f.locals cells))))) locals
     ∙ ap (λ cs. frame_with f.method f.place (map held (take f.locals f.cells.items)) (map on_stack cs)) stack
 
 pub cut : (f : Inside) (count : ℕ) → IsFrame f
-    → frame_with f.method f.place (map held (take f.locals f.cells.items)) (map on_stack (reverse (take (f.height - count) (drop f.locals f.cells.items)))) ≡ record (frame_of f) { stack = drop count (frame_of f).stack }
+    → frame_with f.method f.place (map held (take f.locals f.cells.items))
+    (map on_stack (reverse (take (f.height - count) (drop f.locals f.cells.items)))) ≡ record (frame_of f) { stack = drop count (frame_of f).stack }
 cut f count sound =
     let most : f.height ≤ length (drop f.locals f.cells.items) = omega (arith, length-drop f.locals f.cells.items, sound.cells, sound.within) in
     ap (frame_with f.method f.place (map held (take f.locals f.cells.items)))
     (ap (map on_stack) (cut_front (drop f.locals f.cells.items) f.height count most)
     ∙ sym (drop-map on_stack count (reverse (take f.height (drop f.locals f.cells.items)))))
 
-pub peeked : (f : Inside) (depth : ℕ) (d : Cell) → IsFrame f → depth < f.height → Some (on_stack (slice_index_or f.cells.items (f.locals + f.height - 1 - depth) d)) ≡ slice_get (frame_of f).stack depth
+pub peeked : (f : Inside) (depth : ℕ) (d : Cell) → IsFrame f → depth < f.height
+    → Some (on_stack (slice_index_or f.cells.items (f.locals + f.height - 1 - depth) d)) ≡ slice_get (frame_of f).stack depth
 peeked f depth d sound less =
     let cells = take f.height (drop f.locals f.cells.items) in
     let most : f.height ≤ length (drop f.locals f.cells.items) = omega (arith, length-drop f.locals f.cells.items, sound.cells, sound.within) in
@@ -61,20 +66,23 @@ pub height_is : (f : Inside) → IsFrame f → length (frame_of f).stack ≡ f.h
 height_is f sound =
     let cells = take f.height (drop f.locals f.cells.items) in
     length-map (reverse cells) on_stack
-    ∙ (length-reverse cells ∙ length-take-le f.height (drop f.locals f.cells.items) (omega (arith, length-drop f.locals f.cells.items, sound.cells, sound.within)))
+    ∙ (length-reverse cells ∙ length-take-le f.height (drop f.locals f.cells.items)
+    (omega (arith, length-drop f.locals f.cells.items, sound.cells, sound.within)))
 
 pub locals_is : (f : Inside) → IsFrame f → length (frame_of f).locals ≡ f.locals
 locals_is f sound = length-map (take f.locals f.cells.items) held ∙ length-take-le f.locals f.cells.items (omega (arith, sound.cells, sound.within))
 
 pub local_set : (f : Inside) (cells : List Cell) (slot : ℕ) (c : Cell) → IsFrame f → slot < f.locals → cells ≡ slice_set f.cells.items slot c
-    → frame_with f.method f.place (map held (take f.locals cells)) (map on_stack (reverse (take f.height (drop f.locals cells)))) ≡ record (frame_of f) { locals = slice_set (frame_of f).locals slot (held c) }
+    → frame_with f.method f.place (map held (take f.locals cells)) (map on_stack (reverse (take f.height (drop f.locals cells))))
+    ≡ record (frame_of f) { locals = slice_set (frame_of f).locals slot (held c) }
 local_set f cells slot c sound less set =
     let locals : map held (take f.locals cells) ≡ slice_set (map held (take f.locals f.cells.items)) slot (held c) =
     ap (λ cs. map held (take f.locals cs)) set
     ∙ (ap (map held) (take-set-below f.locals f.cells.items slot c less) ∙ map-set held (take f.locals f.cells.items) slot c) in
     let stack : drop f.locals cells ≡ drop f.locals f.cells.items = ap (drop f.locals) set ∙ drop-set-lt f.locals f.cells.items slot c less in
     ap (λ ls. frame_with f.method f.place ls (map on_stack (reverse (take f.height (drop f.locals cells))))) locals
-    ∙ ap (λ cs. frame_with f.method f.place (slice_set (map held (take f.locals f.cells.items)) slot (held c)) (map on_stack (reverse (take f.height cs)))) stack
+    ∙ ap (λ cs. frame_with f.method f.place (slice_set (map held (take f.locals f.cells.items)) slot (held c))
+    (map on_stack (reverse (take f.height cs)))) stack
 
 held-empties : (n : ℕ) → map held (replicate n Empty) ≡ replicate n None
 held-empties zero = refl

@@ -78,20 +78,23 @@ heap_words-objects (b ∷ blocks) all = omega (arith, all.0, heap_words-objects 
 
 -- ---- what is told of an object
 
-array_told : (words : List ℕ) (len : ℕ) (e : Element) → length words ≡ len → 0 < len → Some (element_type e) ≡ element_at (slice_index_or words 0 0) → TellsOf (Some (tolds.Array e (len - 1))) (Some (object_of words))
+array_told : (words : List ℕ) (len : ℕ) (e : Element) → length words ≡ len → 0 < len
+    → Some (element_type e) ≡ element_at (slice_index_or words 0 0) → TellsOf (Some (tolds.Array e (len - 1))) (Some (object_of words))
 array_told [] len e size some is = absurd (omega arith)
 array_told (head ∷ words) len e size some is =
     let count : length (map (number_in (element_type e)) words) ≡ len - 1 = omega (arith, length-map words (number_in (element_type e)), size) in
     let P : Option FieldType → Type 0 = λ o. TellsOf (Some (tolds.Array e (len - 1))) (Some (object_with o head words)) in
     subst P is (map (number_in (element_type e)) words, refl, count)
 
-throwable_told : (words : List ℕ) (len : ℕ) → length words ≡ len → 0 < len → None ≡ element_at (slice_index_or words 0 0) → TellsOf (Some (tolds.Throwable (class_in (slice_index_or words 0 0)))) (Some (object_of words))
+throwable_told : (words : List ℕ) (len : ℕ) → length words ≡ len → 0 < len → None ≡ element_at (slice_index_or words 0 0)
+    → TellsOf (Some (tolds.Throwable (class_in (slice_index_or words 0 0)))) (Some (object_of words))
 throwable_told [] len size some is = absurd (omega arith)
 throwable_told (head ∷ words) len size some is =
     let P : Option FieldType → Type 0 = λ o. TellsOf (Some (tolds.Throwable (class_in head))) (Some (object_with o head words)) in
     subst P is refl
 
-there_is : (blocks : List (List ℕ)) (at len k : ℕ) → IsBlock blocks at len k → slice_get (map object_of blocks) k ≡ Some (object_of (slice_index_or blocks k []))
+there_is : (blocks : List (List ℕ)) (at len k : ℕ) → IsBlock blocks at len k
+    → slice_get (map object_of blocks) k ≡ Some (object_of (slice_index_or blocks k []))
 there_is blocks at len k block = got_mapped object_of blocks k [] (inside blocks k block.there)
   where
     inside : (bs : List (List ℕ)) (n : ℕ) → IsSomeAnd (slice_get bs n) (λ b. length b ≡ len) → n < length bs
@@ -99,7 +102,8 @@ there_is blocks at len k block = got_mapped object_of blocks k [] (inside blocks
     inside (b ∷ bs) zero there = omega arith
     inside (b ∷ bs) (suc n) there = omega (arith, inside bs n there)
 
-pub tells_array : (blocks : List (List ℕ)) (at len k head : ℕ) (e : Element) → AreObjects blocks → IsBlock blocks at len k → head ≡ slice_index_or (words_at blocks at) 0 0 → Some (element_type e) ≡ element_at head
+pub tells_array : (blocks : List (List ℕ)) (at len k head : ℕ) (e : Element) → AreObjects blocks → IsBlock blocks at len k
+    → head ≡ slice_index_or (words_at blocks at) 0 0 → Some (element_type e) ≡ element_at head
     → TellsOf (Some (tolds.Array e (len - 1))) (slice_get (map object_of blocks) k)
 tells_array blocks at len k head e all block read is =
     let words = slice_index_or blocks k [] in
@@ -107,7 +111,8 @@ tells_array blocks at len k head e all block read is =
     subst (TellsOf (Some (tolds.Array e (len - 1)))) (sym (there_is blocks at len k block))
     (array_told words len e (block_long blocks at len k block) (block_some blocks at len k all block) (is ∙ ap element_at first))
 
-pub tells_throwable : (blocks : List (List ℕ)) (at len k head : ℕ) → AreObjects blocks → IsBlock blocks at len k → head ≡ slice_index_or (words_at blocks at) 0 0 → None ≡ element_at head
+pub tells_throwable : (blocks : List (List ℕ)) (at len k head : ℕ) → AreObjects blocks → IsBlock blocks at len k
+    → head ≡ slice_index_or (words_at blocks at) 0 0 → None ≡ element_at head
     → TellsOf (Some (tolds.Throwable (class_in head))) (slice_get (map object_of blocks) k)
 tells_throwable blocks at len k head all block read is =
     let words = slice_index_or blocks k [] in
@@ -126,7 +131,8 @@ number_last (b ∷ blocks) block all =
     number_later b (blocks ++ block ∷ []) (length b + words_in blocks) (omega arith)
     ∙ ap suc (ap (number_at (blocks ++ block ∷ [])) inner ∙ number_last blocks block all.1)
 
-got_last : (blocks : List (List ℕ)) (block : List ℕ) (len : ℕ) → length block ≡ len → IsSomeAnd (slice_get (blocks ++ block ∷ []) (length blocks)) (λ b. length b ≡ len)
+got_last : (blocks : List (List ℕ)) (block : List ℕ) (len : ℕ) → length block ≡ len
+    → IsSomeAnd (slice_get (blocks ++ block ∷ []) (length blocks)) (λ b. length b ≡ len)
 got_last [] block len size = size
 got_last (b ∷ blocks) block len size = got_last blocks block len size
 
@@ -229,13 +235,15 @@ roomy heap n sound wrong = by (cases_lt heap.most (words_in heap.blocks + n))
 
 -- ---- a block that was made, and its first word
 
-pub live_made : (heap heap' : Blocks) (b : Block) (len : ℕ) → heap' ≡ with_block heap len → b ≡ record { at = words_in heap.blocks; len = len } → IsLive heap'.blocks b.at b.len
+pub live_made : (heap heap' : Blocks) (b : Block) (len : ℕ) → heap' ≡ with_block heap len
+    → b ≡ record { at = words_in heap.blocks; len = len } → IsLive heap'.blocks b.at b.len
 live_made heap heap' b len new place =
     let P : Blocks → Type 0 = λ h. IsLive h.blocks b.at b.len in
     let Q : Block → Type 0 = λ c. IsLive (with_block heap len).blocks c.at c.len in
     subst P (sym new) (subst Q (sym place) (live_last heap len))
 
-pub first_set : (heap h h' : Blocks) (b : Block) (len word : ℕ) → h ≡ with_block heap len → b ≡ record { at = words_in heap.blocks; len = len } → h' ≡ with_word h b.at 0 word
+pub first_set : (heap h h' : Blocks) (b : Block) (len word : ℕ) → h ≡ with_block heap len
+    → b ≡ record { at = words_in heap.blocks; len = len } → h' ≡ with_word h b.at 0 word
     → h' ≡ with_word (with_block heap len) (words_in heap.blocks) 0 word
 first_set heap h h' b len word new place set =
     set ∙ (ap (λ x. with_word x b.at 0 word) new ∙ ap (λ (c : Block). with_word (with_block heap len) c.at 0 word) place)
@@ -258,12 +266,14 @@ pub element_within : (words : List ℕ) (t : FieldType) (i : ℕ) → HasElement
 element_within [] t i has = absurd has
 element_within (head ∷ words) t i has = omega (arith, (elements_with (element_at head) head words t i has).0)
 
-pub element_is : (words : List ℕ) (t : FieldType) (i : ℕ) → HasElement (object_of words) t i → element_in (object_of words) i ≡ number_in t (slice_index_or words (i + 1) 0)
+pub element_is : (words : List ℕ) (t : FieldType) (i : ℕ) → HasElement (object_of words) t i
+    → element_in (object_of words) i ≡ number_in t (slice_index_or words (i + 1) 0)
 element_is [] t i has = absurd has
 element_is (head ∷ words) t i has =
     (elements_with (element_at head) head words t i has).1 ∙ ap (λ n. number_in t (slice_index_or (head ∷ words) n 0)) (sym (add-one i))
 
-set_with : (o : Option FieldType) (head : ℕ) (words : List ℕ) (t : FieldType) (i word : ℕ) (n : ℤ) → HasElement (object_with o head words) t i → number_in t word ≡ n
+set_with : (o : Option FieldType) (head : ℕ) (words : List ℕ) (t : FieldType) (i word : ℕ) (n : ℤ)
+    → HasElement (object_with o head words) t i → number_in t word ≡ n
     → object_with o head (slice_set words i word) ≡ with_number (object_with o head words) i n
 set_with None head words t i word n has is = absurd has
 set_with (Some type) head words t i word n has is =
@@ -280,12 +290,14 @@ same_words : (object : HeapObject) (i : ℕ) (n : ℤ) → words_of (with_number
 same_words (array type elements) i n = omega (arith, length-set elements i n)
 same_words (throwable c) i n = refl
 
-set_objects : (blocks : List (List ℕ)) (k : ℕ) (block : List ℕ) → AreObjects blocks → words_of (object_of block) ≡ length block → AreObjects (slice_set blocks k block)
+set_objects : (blocks : List (List ℕ)) (k : ℕ) (block : List ℕ) → AreObjects blocks → words_of (object_of block) ≡ length block
+    → AreObjects (slice_set blocks k block)
 set_objects [] k block all one = tt
 set_objects (b ∷ blocks) zero block all one = (one, all.1)
 set_objects (b ∷ blocks) (suc k) block all one = (all.0, set_objects blocks k block all.1 one)
 
-objects_at : (blocks : List (List ℕ)) (k : ℕ) → AreObjects blocks → 0 < length (slice_index_or blocks k []) → words_of (object_of (slice_index_or blocks k [])) ≡ length (slice_index_or blocks k [])
+objects_at : (blocks : List (List ℕ)) (k : ℕ) → AreObjects blocks → 0 < length (slice_index_or blocks k [])
+    → words_of (object_of (slice_index_or blocks k [])) ≡ length (slice_index_or blocks k [])
 objects_at [] k all some = absurd (omega arith)
 objects_at (b ∷ blocks) zero all some = all.0
 objects_at (b ∷ blocks) (suc k) all some = objects_at blocks k all.1 some
@@ -295,7 +307,8 @@ pub record Sets (heap heap' : Blocks) (k i : ℕ) (n : ℤ) : Type 0 where
   pub sound : IsHeap heap'
   pub objects : objects_of heap' ≡ with_element_at (objects_of heap) k i n
 
-pub sets : (heap heap' : Blocks) (at len k : ℕ) (t : FieldType) (i word : ℕ) (n : ℤ) → IsHeap heap → IsBlock heap.blocks at len k → HasElement (object_at (objects_of heap) k) t i → number_in t word ≡ n
+pub sets : (heap heap' : Blocks) (at len k : ℕ) (t : FieldType) (i word : ℕ) (n : ℤ) → IsHeap heap → IsBlock heap.blocks at len k
+    → HasElement (object_at (objects_of heap) k) t i → number_in t word ≡ n
     → heap' ≡ with_word heap at (i + 1) word → Sets heap heap' k i n
 sets heap heap' at len k t i word n sound block has is set =
     let words = slice_index_or heap.blocks k [] in
@@ -305,22 +318,26 @@ sets heap heap' at len k t i word n sound block has is set =
     let one : words_of (object_of (slice_set words (i + 1) word)) ≡ length (slice_set words (i + 1) word) =
     ap words_of new ∙ (same_words (object_of words) i n ∙ (objects_at heap.blocks k sound.objects some ∙ sym (length-set words (i + 1) word))) in
     let here : with_word heap at (i + 1) word ≡ record heap { blocks = slice_set heap.blocks k (slice_set words (i + 1) word) } =
-    ap (λ m. record heap { blocks = slice_set heap.blocks m (slice_set (slice_index_or heap.blocks m []) (i + 1) word) }) (numbered heap.blocks at len k sound.objects block) in
+    ap (λ m. record heap { blocks = slice_set heap.blocks m (slice_set (slice_index_or heap.blocks m []) (i + 1) word) })
+    (numbered heap.blocks at len k sound.objects block) in
     let P : Blocks → Type 0 = λ h. Sets heap h k i n in
     subst P (sym (set ∙ here)) (record {
       sound = record { most = sound.most; objects = set_objects heap.blocks k (slice_set words (i + 1) word) sound.objects one };
       objects = map-set object_of heap.blocks k (slice_set words (i + 1) word)
-          ∙ (ap (slice_set (map object_of heap.blocks) k) new ∙ ap (λ o. slice_set (map object_of heap.blocks) k (with_number o i n)) (sym (object_is heap.blocks k)));
+          ∙ (ap (slice_set (map object_of heap.blocks) k) new
+          ∙ ap (λ o. slice_set (map object_of heap.blocks) k (with_number o i n)) (sym (object_is heap.blocks k)));
     })
 
 -- an array of another type than long is one of some type, of which numbers are ints
-pub int_element : (object : HeapObject) (i : ℕ) → HasIntElement object i → (t : FieldType) × HasElement object t i × ((word : ℕ) → number_in t word ≡ cast_signed w32 (word % 2 ^ 32))
+pub int_element : (object : HeapObject) (i : ℕ) → HasIntElement object i
+    → (t : FieldType) × HasElement object t i × ((word : ℕ) → number_in t word ≡ cast_signed w32 (word % 2 ^ 32))
 int_element (array Long elements) i has = absurd has
 int_element (array type elements) i has = (type, (refl, has), λ word. refl)
 int_element (throwable c) i has = absurd has
 
 -- an element there is
-pub element_there : (blocks : List (List ℕ)) (k : ℕ) (t : FieldType) (i : ℕ) → HasElement (object_at (map object_of blocks) k) t i → (k < length blocks) × (i + 1 < length (slice_index_or blocks k []))
+pub element_there : (blocks : List (List ℕ)) (k : ℕ) (t : FieldType) (i : ℕ) → HasElement (object_at (map object_of blocks) k) t i
+    → (k < length blocks) × (i + 1 < length (slice_index_or blocks k []))
 element_there [] k t i has = absurd has
 element_there (b ∷ blocks) zero t i has = let first : 0 < length (b ∷ blocks) = omega arith in (first, element_within b t i has)
 element_there (b ∷ blocks) (suc k) t i has =
@@ -328,7 +345,8 @@ element_there (b ∷ blocks) (suc k) t i has =
     let more : suc k < length (b ∷ blocks) = omega (arith, rest.0) in
     (more, rest.1)
 
-pub index_within : (blocks : List (List ℕ)) (at len k : ℕ) (t : FieldType) (i : ℕ) → IsBlock blocks at len k → HasElement (object_at (map object_of blocks) k) t i → i + 1 < len
+pub index_within : (blocks : List (List ℕ)) (at len k : ℕ) (t : FieldType) (i : ℕ) → IsBlock blocks at len k
+    → HasElement (object_at (map object_of blocks) k) t i → i + 1 < len
 index_within blocks at len k t i block has = omega (arith, (element_there blocks k t i has).1, block_long blocks at len k block)
 
 -- ---- numbers in words
@@ -345,13 +363,16 @@ int_back x fits =
     let small : cast_unsigned w32 x % 2 ^ 32 ≡ cast_unsigned w32 x = omega (arith, bits) in
     ap (cast_signed w32) small ∙ to_z-of_z w32 x fits
 
-pub long_element : (e : Element) (words : List ℕ) (i word : ℕ) → e ≡ elements.Long → HasElement (object_of words) (element_type e) i → word ≡ slice_index_or words (i + 1) 0
+pub long_element : (e : Element) (words : List ℕ) (i word : ℕ) → e ≡ elements.Long → HasElement (object_of words) (element_type e) i
+    → word ≡ slice_index_or words (i + 1) 0
     → long (cast_signed w64 word) ≡ element_value (element_type e) (element_in (object_of words) i)
 long_element e words i word is has read =
-    let P : Element → Type 0 = λ x. HasElement (object_of words) (element_type x) i → long (cast_signed w64 word) ≡ element_value (element_type x) (element_in (object_of words) i) in
+    let P : Element → Type 0 = λ x. HasElement (object_of words) (element_type x) i
+    → long (cast_signed w64 word) ≡ element_value (element_type x) (element_in (object_of words) i) in
     subst P (sym is) (λ there. ap long (ap (cast_signed w64) read ∙ sym (element_is words Long i there))) has
 
-pub int_element_value : (e : Element) (words : List ℕ) (i word : ℕ) → (e ≡ elements.Long → ⊥) → HasElement (object_of words) (element_type e) i → word ≡ slice_index_or words (i + 1) 0
+pub int_element_value : (e : Element) (words : List ℕ) (i word : ℕ) → (e ≡ elements.Long → ⊥)
+    → HasElement (object_of words) (element_type e) i → word ≡ slice_index_or words (i + 1) 0
     → int (cast_signed w32 (word % 2 ^ 32)) ≡ element_value (element_type e) (element_in (object_of words) i)
 int_element_value elements.Long words i word wrong has read = absurd (wrong refl)
 int_element_value elements.Boolean words i word wrong has read = ap int (ap (λ n. cast_signed w32 (n % 2 ^ 32)) read ∙ sym (element_is words Boolean i has))

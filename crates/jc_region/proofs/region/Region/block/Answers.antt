@@ -29,7 +29,8 @@ begins c =
     let less = below c.self.inside c.args.self.now c.args.number c.self.invariant c.self.view_is c.requires in
     elim c.if-number-eq0.branch [
       | then-number-eq0 w ↦ w.at-is ∙ sym (ap (begin_of 0 (used_ends c.self.inside)) w.if-number-eq0.true)
-      | else-number-eq0 w ↦ w.at-is ∙ (w.index.ensures ∙ (get_or_default c.self.inside.ends.items (c.args.number - 1) _ 0 (omega (arith, less, c.self.invariant.counted))
+      | else-number-eq0 w ↦ w.at-is ∙ (w.index.ensures
+          ∙ (get_or_default c.self.inside.ends.items (c.args.number - 1) _ 0 (omega (arith, less, c.self.invariant.counted))
           ∙ begins_later c.self.inside c.args.number w.if-number-eq0.false less))
     ]
 
@@ -53,4 +54,13 @@ pub returns-clause-within : goal.returns-clause-within
 returns-clause-within c =
     let less = below c.self.inside c.args.self.now c.args.number c.self.invariant c.self.view_is c.requires in
     let last = ends_below c.self.inside c.args.number c.self.invariant less in
-    omega (arith, begins c, ends c, begins_below c.self.inside c.args.number c.self.invariant less, last, c.self.invariant.within, ap (λ (r : Blocks). r.most) c.self.view_is)
+    omega (
+      arith,
+      begins c,
+      ends c,
+      begins_below c.self.inside c.args.number c.self.invariant less,
+      last,
+      c.self.invariant.within,
+      ap
+          (λ (r : Blocks). r.most) c.self.view_is,
+    )

@@ -14,7 +14,13 @@ pub returns : goal.returns
 returns c =
     let live = subst (λ (r : Blocks). IsLive r.blocks c.args.block.at c.args.block.len) (sym c.self.view_is) c.requires.live in
     let inside : Inside =
-    record { words = with_item c.self.inside.words (c.args.block.at + c.args.i) c.args.word; ends = c.self.inside.ends; count = c.self.inside.count; used = c.self.inside.used } in
+    record {
+      words = with_item c.self.inside.words (c.args.block.at + c.args.i) c.args.word;
+      ends = c.self.inside.ends;
+      count =
+          c.self.inside.count;
+      used = c.self.inside.used;
+    } in
     let words : inside.words.items ≡ slice_set c.self.inside.words.items (c.args.block.at + c.args.i) c.args.word = refl in
     let ends : inside.ends.items ≡ c.self.inside.ends.items = refl in
     let count : inside.count ≡ c.self.inside.count = refl in

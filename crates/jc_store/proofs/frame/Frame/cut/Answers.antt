@@ -7,5 +7,6 @@ use Rattle.jc_store.proofs.frame.Frame.cut.Goals as goal
 pub returns : goal.returns
 returns c =
     let f = c.self.inside in
-    ap (λ n. frame_with f.method f.place (map held (take f.locals f.cells.items)) (map on_stack (reverse (take n (drop f.locals f.cells.items))))) c.saturating_sub-self-inside.ensures
+    ap (λ n. frame_with f.method f.place (map held (take f.locals f.cells.items))
+    (map on_stack (reverse (take n (drop f.locals f.cells.items))))) c.saturating_sub-self-inside.ensures
     ∙ (cut f c.args.count c.self.invariant ∙ ap (λ (v : Frame). record v { stack = drop c.args.count v.stack }) c.self.view_is)

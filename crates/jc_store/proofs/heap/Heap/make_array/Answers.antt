@@ -22,13 +22,15 @@ returns-clause-room c = (
 )
 
 pub set-requires-clause-live : goal.set-requires-clause-live
-set-requires-clause-live c = live_made c.self.inside.region c.alloc.new.self c.in_ok-block.block (c.args.count + 1) c.in_ok-block.ensures.block c.in_ok-block.ensures.place
+set-requires-clause-live c = live_made c.self.inside.region c.alloc.new.self c.in_ok-block.block
+    (c.args.count + 1) c.in_ok-block.ensures.block c.in_ok-block.ensures.place
 
 made : (c : goal.After-set) → Makes c.self.inside.region c.set.new.self (array (element_type c.args.element) (replicate c.args.count (pos 0)))
 made c =
     let heap = c.self.inside.region in
     let after : c.set.new.self ≡ with_word (with_block heap (c.args.count + 1)) (words_in heap.blocks) 0 c.code.result =
-    first_set heap c.alloc.new.self c.set.new.self c.in_ok-block.block (c.args.count + 1) c.code.result c.in_ok-block.ensures.block c.in_ok-block.ensures.place c.set.ensures in
+    first_set heap c.alloc.new.self c.set.new.self c.in_ok-block.block
+    (c.args.count + 1) c.code.result c.in_ok-block.ensures.block c.in_ok-block.ensures.place c.set.ensures in
     let P : Blocks → Type 0 = λ h. Makes heap h (array (element_type c.args.element) (replicate c.args.count (pos 0))) in
     subst P (sym after) (array_made heap c.args.count c.code.result (element_type c.args.element) c.self.invariant c.code.ensures)
 
@@ -36,7 +38,8 @@ pub invariant_of-self-2 : goal.invariant_of-self-2
 invariant_of-self-2 c = (made c).sound
 
 pub returns-clause-made : goal.returns-clause-made
-returns-clause-made c = (made c).objects ∙ ap (λ (h : List HeapObject). h ++ array (element_type c.args.element) (replicate c.args.count (pos 0)) ∷ []) c.self.view_is
+returns-clause-made c = (made c).objects
+    ∙ ap (λ (h : List HeapObject). h ++ array (element_type c.args.element) (replicate c.args.count (pos 0)) ∷ []) c.self.view_is
 
 pub returns-clause-number : goal.returns-clause-number
 returns-clause-number c = c.count-number.ensures ∙ (sym (length-map c.self.inside.region.blocks object_of) ∙ ap length c.self.view_is)

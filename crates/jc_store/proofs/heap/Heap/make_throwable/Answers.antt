@@ -28,7 +28,8 @@ made : (c : goal.After-set) → Makes c.self.inside.region c.set.new.self (throw
 made c =
     let heap = c.self.inside.region in
     let after : c.set.new.self ≡ with_word (with_block heap 1) (words_in heap.blocks) 0 (c.class_number.result + 16) =
-    first_set heap c.alloc.new.self c.set.new.self c.in_ok-block.block 1 (c.class_number.result + 16) c.in_ok-block.ensures.block c.in_ok-block.ensures.place c.set.ensures in
+    first_set heap c.alloc.new.self c.set.new.self c.in_ok-block.block 1
+    (c.class_number.result + 16) c.in_ok-block.ensures.block c.in_ok-block.ensures.place c.set.ensures in
     let P : Blocks → Type 0 = λ h. Makes heap h (throwable c.args.thrown) in
     subst P (sym after) (throwable_made heap c.class_number.result c.args.thrown c.self.invariant c.class_number.ensures.class)
 

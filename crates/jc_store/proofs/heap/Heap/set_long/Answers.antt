@@ -11,8 +11,10 @@ after : (c : goal.After-set) → Sets c.self.inside.region c.set.new.self c.args
 after c =
     let heap = c.self.inside.region in
     let has = subst (λ (h : List HeapObject). HasElement (object_at h c.args.number) Long c.args.i) (sym c.self.view_is) c.requires in
-    sets heap c.set.new.self c.block-block.result.at c.block-block.result.len c.args.number Long c.args.i c.cast_unsigned.result c.args.value c.self.invariant c.block-block.ensures.block has
-    (ap (cast_signed w64) (c.cast_unsigned.ensures ∙ ap (cast_unsigned w64) (to_z-of_z w64 c.args.value c.ranges.value)) ∙ to_z-of_z w64 c.args.value c.ranges.value) c.set.ensures
+    sets heap c.set.new.self c.block-block.result.at c.block-block.result.len c.args.number Long c.args.i c.cast_unsigned.result
+    c.args.value c.self.invariant c.block-block.ensures.block has
+    (ap (cast_signed w64) (c.cast_unsigned.ensures ∙ ap (cast_unsigned w64) (to_z-of_z w64 c.args.value c.ranges.value))
+    ∙ to_z-of_z w64 c.args.value c.ranges.value) c.set.ensures
 
 pub invariant_of-self : goal.invariant_of-self
 invariant_of-self c = (after c).sound
