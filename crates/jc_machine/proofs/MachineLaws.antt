@@ -1,0 +1,132 @@
+-- The world in memory, and the turn of one of its threads.
+use Rattle.std.proofs.Common.{◌≡◌, ℕ, zero, suc, ◌<◌, ◌≤◌, List, [], ◌∷◌, length, take, Some, refl, sym, ap, ◌∙◌, subst, arith, slice_get, slice_set}
+use Rattle.std.proofs.Common.{slice_index_or}
+use Rattle.std.specs.List.{AllByRecursion}
+use Rattle.std.proofs.lemmas.List.{append-nil, length-take-le, get_or-take}
+use Rattle.std.proofs.Math.Seq.{take-set-lt}
+use Rattle.jc_programs.specs.declared.program.Program.{Program}
+use Rattle.jc_programs.specs.declared.run_end.End.{End}
+use Rattle.jc_programs.specs.declared.run_end.End.TheVariants as ends
+use Rattle.jc_operations.specs.Prepared.{IsPrepared}
+use Rattle.std.proofs.lemmas.Option.{slice_get-get_or}
+use Rattle.jc_world.specs.Programs.{IsProgram}
+use Rattle.jc_world.specs.World.{Thread, running, Shared, Hit, World}
+use Rattle.jc_world.specs.Step.{turn_of, with_after, step_of, step}
+use Rattle.jc_world.specs.CaseEnds.{ends_in}
+use Rattle.jc_world.specs.Laws.{IsOver}
+use Rattle.jc_world.specs.Fits.{FitsThread, FitsWorld, IsProbe}
+use Rattle.jc_world.proofs.TurnLaws.{ended_stays}
+use Rattle.jc_world_laws.proofs.StaticLaws.{get_each}
+use Rattle.jc_world_laws.proofs.WorldLaws.{step_fits, step_hits}
+use Rattle.jc_machine.specs.declared.world.World.TheInside.{Inside}
+use Rattle.jc_machine.specs.declared.thread_turn.ThreadTurn.{ThreadTurn}
+use Rattle.jc_machine.specs.Threads.{ThreadFrames, thread_of, threads_of}
+use Rattle.jc_machine.specs.Turned.{without_hits, alone, after_of, hits_in}
+use Rattle.jc_machine.specs.Machines.{Machine, world_of, Fits}
+use Rattle.jc_machine.specs.Kept.{machine_of, IsMachine}
+use Rattle.jc_machine.proofs.ThreadLaws.{length-threads_of, thread_at, threads_of-set, ends_are}
+
+-- ---- worlds that fit
+
+-- what was hit has no part in it
+pub unhit_fits : (program : Program) (w : World) → FitsWorld program w → FitsWorld program (without_hits w)
+unhit_fits program w fits = record { statics = fits.statics; threads = fits.threads; there = fits.there }
+
+-- a thread of a world that fits
+pub alone_fits : (program : Program) (w : World) (t : ℕ) (frames : ThreadFrames) → FitsWorld program w
+    → slice_get w.threads t ≡ Some (running frames.top frames.waiting) → FitsWorld program (alone w.shared frames)
+alone_fits program w t frames fits at = record {
+  statics = fits.statics;
+  threads = (get_each (FitsThread program w.shared.heap) w.threads t (running frames.top frames.waiting) fits.threads at, tt);
+  there = fits.there;
+}
+
+-- a machine that has the world behind a turn
+pub next_fits : (program : Program) (m next : Machine) (t : ℕ) → IsProgram program → Fits program m → world_of next ≡ without_hits (step program (world_of m) t)
+    → next.prepared ≡ m.prepared → next.fields ≡ m.fields → Fits program next
+next_fits program m next t p fits is prepared fields = record {
+  prepared = subst (IsPrepared program) (sym prepared) fits.prepared;
+  fields = fields ∙ fits.fields;
+  world = subst (FitsWorld program) (sym is) (unhit_fits program (step program (world_of m) t) (step_fits program (world_of m) t p fits.world));
+}
+
+-- what a turn hits is a probe
+pub hits_probes : (program : Program) (m : Machine) (t : ℕ) (hit : Hit) → IsProgram program → Fits program m → hit ∷ [] ≡ (step program (world_of m) t).hits
+    → IsProbe program hit
+hits_probes program m t hit p fits is = (subst (AllByRecursion (IsProbe program)) (sym is) (step_hits program (world_of m) t p fits.world tt)).0
+
+-- ---- the threads
+
+there : {X : Type 0} (xs : List X) (k : ℕ) → k < length xs → (x : X) × (slice_get xs k ≡ Some x)
+there [] k less = absurd (omega arith)
+there (x ∷ xs) zero less = (x, refl)
+there (x ∷ xs) (suc k) less = there xs k (omega arith)
+
+over : (e : End) (f : ThreadFrames) → (e ≡ ends.Running → ⊥) → IsOver (thread_of e f)
+over ends.Running f not = absurd (not refl)
+over ends.Stuck f not = tt
+over (ends.Returned v) f not = tt
+over (ends.Threw c) f not = tt
+
+module _ (w : Inside) (is : IsMachine w) where
+  in_front : length (take w.count w.ends) ≡ w.count
+  in_front = length-take-le w.count w.ends (omega (arith, is.ends, is.few))
+
+  few_ends : length (take w.count w.ends) ≤ length w.stacks.items
+  few_ends = omega (arith, in_front, is.stacks, is.few)
+
+  pub counted : length (machine_of w).threads ≡ w.count
+  counted = length-threads_of (take w.count w.ends) w.stacks.items few_ends ∙ in_front
+
+  pub ends_there : ends_in (world_of (machine_of w)) ≡ take w.count w.ends
+  ends_there = ends_are (take w.count w.ends) w.stacks.items few_ends
+
+  module _ (t : ℕ) (less : t < length (machine_of w).threads) where
+    below : t < w.count
+    below = omega (arith, less, counted)
+
+    pub thread_below : t < 8
+    thread_below = omega (arith, below, is.few)
+
+    at : (e : End) → slice_index_or w.ends t ends.Running ≡ e → (f : ThreadFrames) → slice_get w.stacks.items t ≡ Some f
+        → slice_get (machine_of w).threads t ≡ Some (thread_of e f)
+    at e e_is f f_at =
+        let e_at : slice_get (take w.count w.ends) t ≡ Some e =
+        slice_get-get_or (take w.count w.ends) t ends.Running (omega (arith, below, in_front))
+        ∙ ap Some (get_or-take w.count w.ends t ends.Running below ∙ e_is) in
+        thread_at (take w.count w.ends) w.stacks.items t e f e_at f_at
+
+    pub runs_at : (frames : ThreadFrames) → slice_index_or w.ends t ends.Running ≡ ends.Running → frames ≡ slice_index_or w.stacks.items t frames
+        → slice_get (machine_of w).threads t ≡ Some (running frames.top frames.waiting)
+    runs_at frames running_is frames_is =
+        at ends.Running running_is frames (slice_get-get_or w.stacks.items t frames (omega (arith, below, is.stacks, is.few)) ∙ ap Some (sym frames_is))
+
+    -- a thread that doesn't run stays
+    pub idle : (program : Program) → (slice_index_or w.ends t ends.Running ≡ ends.Running → ⊥)
+        → step program (world_of (machine_of w)) t ≡ world_of (machine_of w)
+    idle program not =
+        let f = there w.stacks.items t (omega (arith, below, is.stacks, is.few)) in
+        let e = slice_index_or w.ends t ends.Running in
+        ended_stays program (world_of (machine_of w)) t (thread_of e f.0) (at e refl f.0 f.1) (over e f.0 not)
+
+    -- the world with the turn of a thread that runs
+    module _ (program : Program) (frames : ThreadFrames) (running_is : slice_index_or w.ends t ends.Running ≡ ends.Running)
+        (frames_is : frames ≡ slice_index_or w.stacks.items t frames)
+        (turn : ThreadTurn) (next : ThreadFrames) (s : Shared) (turned : after_of turn next s ≡ turn_of program w.shared (running frames.top frames.waiting))
+      where
+        moved : step program (world_of (machine_of w)) t ≡ with_after t (world_of (machine_of w)) (after_of turn next s)
+        unfolding step
+        moved =
+            ap (step_of program (world_of (machine_of w)) t) (runs_at frames running_is frames_is)
+            ∙ ap (with_after t (world_of (machine_of w))) (sym turned)
+
+        pub step_world : record { threads = threads_of (take w.count (slice_set w.ends t turn.end)) (slice_set w.stacks.items t next); shared = s; hits = [] }
+            ≡ without_hits (step program (world_of (machine_of w)) t)
+        step_world =
+            ap (λ (ts : List Thread). record { threads = ts; shared = s; hits = [] })
+            (ap (λ es. threads_of es (slice_set w.stacks.items t next)) (take-set-lt w.count w.ends t turn.end below)
+            ∙ threads_of-set (take w.count w.ends) w.stacks.items t turn.end next (omega (arith, below, in_front)) few_ends)
+            ∙ sym (ap without_hits moved)
+
+        pub step_hits_are : hits_in turn.hit ≡ (step program (world_of (machine_of w)) t).hits
+        step_hits_are = sym (append-nil (hits_in turn.hit)) ∙ sym (ap (λ (x : World). x.hits) moved)

@@ -1,0 +1,35 @@
+use Rattle.std.proofs.Common.{List, sym, ap, ◌∙◌, subst}
+use Rattle.jc_programs.specs.declared.run_plan.ThreadLine.{ThreadLine}
+use Rattle.jc_operations.specs.declared.prepared.PreparedClass.{PreparedClass}
+use Rattle.jc_operations.specs.Prepared.{IsPrepared}
+use Rattle.jc_perform.specs.Contents.{first_shared}
+use Rattle.jc_world.specs.Begin.{first_threads}
+use Rattle.jc_machine.specs.Machines.{Machine}
+use Rattle.jc_machine.proofs.BeginLaws.{world_begins, machine_begins}
+use Rattle.jc_machine.proofs.world.World.begin.Goals as goal
+
+pub returns-clause-world : goal.returns-clause-world
+returns-clause-world c =
+    let program = c.args.program.now in
+    let is = subst (IsPrepared program) (sym (ap (λ (m : Machine). m.prepared) c.begin_threads.ensures)) c.in_ok-prepared.ensures in
+    world_begins program c.args.case.now c.args.entries.now c.begin_threads.new.self is
+    (ap (λ (m : Machine). m.threads) c.begin_threads.ensures ∙ ap (λ (ts : List ThreadLine). first_threads program ts c.args.entries.now) c.as_slice-2.ensures)
+    (ap (λ (m : Machine). m.shared) c.begin_threads.ensures
+    ∙ (c.shared.view_is ∙
+    (c.in_ok-shared.ensures
+    ∙ (ap (λ (classes : List PreparedClass). first_shared classes) c.as_slice.ensures
+    ∙ sym (ap (λ (m : Machine). first_shared m.prepared.classes) c.begin_threads.ensures)))))
+
+pub returns-clause-fits : goal.returns-clause-fits
+returns-clause-fits c =
+    let program = c.args.program.now in
+    let is = subst (IsPrepared program) (sym (ap (λ (m : Machine). m.prepared) c.begin_threads.ensures)) c.in_ok-prepared.ensures in
+    machine_begins program c.args.case.now c.args.entries.now c.begin_threads.new.self c.requires.program c.requires.entries is
+    (ap (λ (m : Machine). m.fields) c.begin_threads.ensures ∙ c.in_ok-integral_fields.ensures)
+    (world_begins program c.args.case.now c.args.entries.now c.begin_threads.new.self is
+    (ap (λ (m : Machine). m.threads) c.begin_threads.ensures ∙ ap (λ (ts : List ThreadLine). first_threads program ts c.args.entries.now) c.as_slice-2.ensures)
+    (ap (λ (m : Machine). m.shared) c.begin_threads.ensures
+    ∙ (c.shared.view_is ∙
+    (c.in_ok-shared.ensures
+    ∙ (ap (λ (classes : List PreparedClass). first_shared classes) c.as_slice.ensures
+    ∙ sym (ap (λ (m : Machine). first_shared m.prepared.classes) c.begin_threads.ensures))))))

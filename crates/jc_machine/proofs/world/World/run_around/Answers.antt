@@ -1,0 +1,26 @@
+use Rattle.std.proofs.Common.{◌≡◌, ℕ, ◌+◌, ◌-◌, ◌%◌, List, ◌∷◌, length, ap, ◌∙◌, subst}
+use Rattle.jc_programs.specs.Turns.{turns_around}
+use Rattle.jc_machine.specs.Machines.{world_of}
+use Rattle.jc_machine.proofs.RunLaws.{Underway, one_more, next_around}
+use Rattle.jc_machine.proofs.world.World.run_around.Goals as goal
+
+pub turning-preserved : goal.turning-preserved
+turning-preserved g c =
+    let program = c.args.program.now in
+    let threads = length c.args.self.now.threads in
+    let all = turns_around threads 0 c.args.turns in
+    let k = c.turning.k in
+    let t = k % c.thread_count-threads.result in
+    let left = turns_around threads (k + 1) (c.args.turns - (k + 1)) in
+    let split : turns_around threads k (c.args.turns - k) ≡ t ∷ left =
+    next_around threads k c.args.turns t c.turning-test.true (ap (λ n. k % n) c.thread_count-threads.ensures.count) in
+    let u = c.turning.invariant.underway in
+    record {
+      underway = one_more program (world_of c.args.self.now) all (g.S.ProbeSink.hits c.args.sink.now) (world_of c.turning.self) t left
+          (g.S.ProbeSink.hits c.turning.sink)
+          (subst (λ (ts : List ℕ). Underway program (world_of c.args.self.now) all (g.S.ProbeSink.hits c.args.sink.now) (world_of c.turning.self) ts
+          (g.S.ProbeSink.hits c.turning.sink)) split u)
+          (world_of c.turn.new.self) (g.S.ProbeSink.hits c.turn.new.sink) c.turn.ensures.world c.turn.ensures.hits;
+      fits = c.turn.ensures.fits;
+      counts = c.turn.ensures.counts ∙ c.turning.invariant.counts;
+    }

@@ -1,0 +1,24 @@
+use Rattle.std.proofs.Common.{◌≡◌, ℕ, ◌+◌, List, ◌∷◌, drop, length, slice_index_or, ◌∙◌, subst, rules}
+use Rattle.jc_machine.specs.Machines.{world_of}
+use Rattle.jc_machine.proofs.RunLaws.{Underway, one_more, next_listed}
+use Rattle.jc_machine.proofs.world.World.run_listed.Goals as goal
+
+pub turning-preserved : goal.turning-preserved
+turning-preserved g c =
+    let program = c.args.program.now in
+    let threads = length c.args.self.now.threads in
+    let all = c.args.turns.now in
+    let k = c.turning.t-index in
+    let left = drop (k + 1) all in
+    let read : c.from.result ≡ slice_index_or all k 0 = search rules in
+    let split : drop k all ≡ c.from.result ∷ left = next_listed all k c.from.result c.turning-test.true read in
+    let u = c.turning.invariant.underway in
+    record {
+      underway = one_more program (world_of c.args.self.now) all (g.S.ProbeSink.hits c.args.sink.now) (world_of c.turning.self) c.from.result left
+          (g.S.ProbeSink.hits c.turning.sink)
+          (subst (λ (ts : List ℕ). Underway program (world_of c.args.self.now) all (g.S.ProbeSink.hits c.args.sink.now) (world_of c.turning.self) ts
+          (g.S.ProbeSink.hits c.turning.sink)) split u)
+          (world_of c.turn.new.self) (g.S.ProbeSink.hits c.turn.new.sink) c.turn.ensures.world c.turn.ensures.hits;
+      fits = c.turn.ensures.fits;
+      counts = c.turn.ensures.counts ∙ c.turning.invariant.counts;
+    }

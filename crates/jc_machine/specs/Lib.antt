@@ -1,0 +1,10 @@
+pub mod Hits
+pub mod Turned
+pub mod Room
+pub mod Threads
+pub mod Stacks
+pub mod IntegralFields
+pub mod StaticEnds
+pub mod Machines
+pub mod Kept
+pub mod FirstThreads

@@ -1,0 +1,20 @@
+//! The machine: the world of a case, its turns and its runs.
+#![tactic(auto)]
+
+mod calling;
+mod case_ends;
+mod first_threads;
+mod integral_fields;
+mod running;
+mod runs;
+mod seen;
+mod sink;
+mod thread_stack;
+mod thread_turn;
+mod throwing;
+mod turns;
+mod world;
+
+pub use jc_entries::entry;
+pub use sink::BitSink;
+pub use world::World;
