@@ -1,8 +1,11 @@
 pub mod ChangedPairLaws
+pub mod FoundPairLaws
+pub mod FoundProbesLaws
 pub mod InitProbesLaws
 pub mod KeptStaticsLaws
 pub mod MovedCodeLaws
 pub mod MovedTwinLaws
+pub mod SomeProgramLaws
 pub mod TwinLinkLaws
 pub mod TwinPairLaws
 pub mod WrittenFileLaws

@@ -1,5 +1,5 @@
 //! Laws of instrumented class files that are linked.
-ghost use Rattle.std.specs.Prelude.{◌≤◌, ℕ, List, length};
+ghost use Rattle.std.specs.Prelude.{◌≤◌, ◌⊎◌, ℕ, List, length};
 ghost use Rattle.std.specs.List.{AllByRecursion};
 ghost use Rattle.jc_bytes.specs.ByteLists.{AreBytes};
 ghost use Rattle.jc_bytes.specs.Reader.{most_read};
@@ -7,7 +7,8 @@ ghost use Rattle.jc_programs.specs.declared.program.Program.{Program};
 ghost use Rattle.jc_emit.specs.TwinProgram.{TwinProgram};
 ghost use Rattle.jc_instrument.specs.InstrumentedFile.{IsInstrumentedFile};
 ghost use Rattle.jc_instrument.specs.declared.whole.Instrumented.{Instrumented};
-ghost use Rattle.jc_linking.specs.Linking.{IsProgramOf};
+ghost use Rattle.jc_linking.specs.Linking.{IsProgramOf, IsLinkRefusal};
+ghost use Rattle.jc_linking.specs.declared.link_refusal.LinkRefusal.{LinkRefusal};
 ghost use Rattle.jc_link_laws.specs.TwinFiles.{AreWrittenOf, HasConstants, IsShortFile, IsWrittenOf};
 
 use jc_bytes::Bytes;
@@ -25,4 +26,11 @@ pub fn twins_link(originals: &[Bytes], written: &[Bytes])
 pub fn each_instrumented_file_is_written()
     ensures { (bytes : List ℕ) (a : Instrumented) → AreBytes bytes → length bytes ≤ most_read → HasConstants bytes
         → IsInstrumentedFile bytes a → IsWrittenOf bytes a.bytes }
+{}
+
+/// Class files, each of at most 67,108,864 bytes, have a program or a reason for which they have none. They never have
+/// both: see [`jc_linking::files_have_a_program_or_one_refusal`].
+pub fn files_have_a_program_or_a_refusal()
+    ensures { (files : List (List ℕ)) → AllByRecursion IsShortFile files
+        → ((p : Program) × IsProgramOf files p) ⊎ ((r : LinkRefusal) × IsLinkRefusal files r) }
 {}

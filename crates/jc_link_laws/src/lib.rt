@@ -3,4 +3,4 @@
 
 mod laws;
 
-pub use laws::{each_instrumented_file_is_written, twins_link};
+pub use laws::{each_instrumented_file_is_written, files_have_a_program_or_a_refusal, twins_link};

@@ -5,5 +5,6 @@ pub mod OneRefusalLaws
 pub mod PairedLaws
 mod PairsLaws
 pub mod ProbeInitLaws
+pub mod SameCodeLaws
 pub mod SameLinkedLaws
 mod SingleLaws

@@ -1,14 +1,17 @@
-//! Rows of calls on run plans whose answers are known from the format.
+//! Rows of calls on run plans and programs whose answers are known from the format and from the JVM Specification.
 //!
 //! Each line of the standard input is a call, and is printed with its answer. The words behind `plan` spell the text
-//! of a plan, one behind the other: `|` is LF, `~` is CR and `_` is a space, and `3*x` is three times `x`. Empty lines,
-//! and lines that begin with `#`, are printed as they are.
+//! of a plan, one behind the other: `|` is LF, `~` is CR and `_` is a space, and `3*x` is three times `x`. The words
+//! behind `link` are class files in hexadecimal digits. Empty lines, and lines that begin with `#`, are printed as they
+//! are.
 #![tactic(auto)]
 
 mod plans;
+mod programs;
 mod texts;
 
 use plans::put_plan;
+use programs::put_link;
 use std::alloc::{AllocError, Global};
 use std::io;
 use texts::spelled;
@@ -20,6 +23,7 @@ fn put_answer(alloc: Global, words: &[&str], out: &mut String) -> Result<(), All
             let text = spelled(alloc, text)?;
             put_plan(alloc, &text, out)
         }
+        ["link", files @ ..] => put_link(alloc, files, out),
         _ => out.push_str("no call"),
     }
 }
