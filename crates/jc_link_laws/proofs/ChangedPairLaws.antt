@@ -300,7 +300,7 @@ module _ (original written : List ℕ) (are : AreBytes original) (are_new : AreB
       (added_is.code ∙ ap (init_code added_is.places) (sym count_is))
       ∙ ap Some (name_is ∙ sym name_new)
 
-  probes_new : n.probes ≡ Some (record { id = id; count = sum_by probe_count l.bodies })
+  pub probes_new : n.probes ≡ Some (record { id = id; count = sum_by probe_count l.bodies })
   probes_new = one_probes t.pool n.name n.bodies (Some (record { id = id; count = sum_by probe_count l.bodies })) n.probes (record {
     body = moved.last;
     first = last_first;

@@ -5,6 +5,8 @@ pub mod InitProbesLaws
 pub mod KeptStaticsLaws
 pub mod MovedCodeLaws
 pub mod MovedTwinLaws
+pub mod SecondLinkingLaws
+pub mod SecondReasonLaws
 pub mod SomeProgramLaws
 pub mod TwinLinkLaws
 pub mod TwinPairLaws

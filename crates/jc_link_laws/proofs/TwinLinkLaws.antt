@@ -92,7 +92,7 @@ differ (c ∷ classes) none = (
 
 -- ---- the pairs
 
-pair : (names new_names : Names) (original text : List ℕ) (l n : Linked) → AreBytes original → AreBytes text → IsWrittenOf original text
+pub pair : (names new_names : Names) (original text : List ℕ) (l n : Linked) → AreBytes original → AreBytes text → IsWrittenOf original text
     → IsLinkedClass names original l → IsLinkedClass new_names text n → IsPair names new_names l n
 pair names new_names original text l n are are_new (inl twin) p q = inr (changed_pair original text are are_new twin names new_names l n p q)
 pair names new_names original text l n are are_new (inr same) p q =

@@ -1,1 +1,2 @@
+pub mod SecondLinking
 pub mod TwinFiles

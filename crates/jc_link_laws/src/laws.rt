@@ -9,6 +9,7 @@ ghost use Rattle.jc_instrument.specs.InstrumentedFile.{IsInstrumentedFile};
 ghost use Rattle.jc_instrument.specs.declared.whole.Instrumented.{Instrumented};
 ghost use Rattle.jc_linking.specs.Linking.{IsProgramOf, IsLinkRefusal};
 ghost use Rattle.jc_linking.specs.declared.link_refusal.LinkRefusal.{LinkRefusal};
+ghost use Rattle.jc_link_laws.specs.SecondLinking.{IsSecondRefusal};
 ghost use Rattle.jc_link_laws.specs.TwinFiles.{AreWrittenOf, HasConstants, IsShortFile, IsWrittenOf};
 
 use jc_bytes::Bytes;
@@ -33,4 +34,13 @@ pub fn each_instrumented_file_is_written()
 pub fn files_have_a_program_or_a_refusal()
     ensures { (files : List (List ℕ)) → AllByRecursion IsShortFile files
         → ((p : Program) × IsProgramOf files p) ⊎ ((r : LinkRefusal) × IsLinkRefusal files r) }
+{}
+
+/// Where accepted files are linked to a program, and what was written of them isn't linked, a method of a twin has more
+/// instructions times slots than the bound that [`jc_body::read_body`] has, as its new instructions and slots count too,
+/// or two changed classes have one id. Nothing else refuses it.
+pub fn twins_fail_to_link_by_size_or_by_id()
+    ensures { (originals written : List (List ℕ)) (p : Program) (r : LinkRefusal) → AllByRecursion IsShortFile originals
+        → AllByRecursion AreBytes written → AreWrittenOf originals written → IsProgramOf originals p → IsLinkRefusal written r
+        → IsSecondRefusal originals written r }
 {}
