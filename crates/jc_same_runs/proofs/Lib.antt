@@ -1,0 +1,5 @@
+pub mod ListLaws
+pub mod LookupLaws
+pub mod OperationLaws
+pub mod StepLaws
+pub mod TextLaws

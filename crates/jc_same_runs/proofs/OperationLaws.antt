@@ -1,0 +1,123 @@
+-- What an instruction of a program without frames does.
+use Rattle.std.proofs.Common.{◌≡◌, ℕ, ℤ, Bool, true, false, ◌&&◌, not, List, [], ◌∷◌, map, Option, None, Some, option_map, option_and_then, bytes_eq, nat_eq, refl, ap, sym, ◌∙◌, if◌then◌else◌}
+use Rattle.std.proofs.lemmas.Option.{slice_get-map}
+use Rattle.std.specs.List.{slice_get}
+use Rattle.jc_methods.specs.declared.body.Body.{Body}
+use Rattle.jc_methods.specs.declared.body.What.{What}
+use Rattle.jc_methods.specs.declared.body.What.TheVariants as whats
+use Rattle.jc_methods.specs.declared.insn.Insn.{Insn}
+use Rattle.jc_methods.specs.declared.insn.Insn.TheVariants as insns
+use Rattle.jc_methods.specs.Opcode as opcode
+use Rattle.jc_programs.specs.declared.program.Program.{Program}
+use Rattle.jc_programs.specs.declared.program.Linked.{Linked}
+use Rattle.jc_programs.specs.declared.program.ProbeInit.{ProbeInit}
+use Rattle.jc_programs.specs.declared.run_end.Entry.{Entry}
+use Rattle.jc_programs.specs.Members.{class_named, class_at, static_named}
+use Rattle.jc_world.specs.Methods.{is_enterable}
+use Rattle.jc_world.specs.Operations.{Operation, outside, pushes}
+use Rattle.jc_world.specs.Values as value
+use Rattle.jc_world.specs.Profile.{Location, in_init, init_of, what_at, declared_field, linked_field, is_print_stream, field_named, callee_named, may_name_method, entered_if, body_entered, class_entered, method_entered, is_fetch, init_call, static_call, virtual_call, special_call, call_named, member_operation, operation_of}
+use Rattle.jc_same_runs.specs.Frameless.{frameless_body, frameless_class, frameless}
+use Rattle.jc_same_runs.proofs.LookupLaws.{same_class_named, same_class_at, same_body_at, same_callee, same_declares, same_enterable}
+
+-- the same place in the class without frames
+abbrev pub frameless_at : Location → Location
+frameless_at at = record { class = at.class; linked = frameless_class at.linked; body = frameless_body at.body; place = at.place }
+
+module _ (p : Program) (at : Location) where
+  -- ---- fields
+
+  same_declared : (op k : ℕ) (name desc : List ℕ) (o : Option Linked)
+      → declared_field op (frameless_at at) k name desc (option_and_then (λ (c : Linked). static_named c.statics name desc) (option_map frameless_class o))
+      ≡ declared_field op at k name desc (option_and_then (λ (c : Linked). static_named c.statics name desc) o)
+  same_declared op k name desc None = refl
+  same_declared op k name desc (Some c) = by (static_named c.statics name desc)
+    where
+      by : (f : Option ℕ) → declared_field op (frameless_at at) k name desc f ≡ declared_field op at k name desc f
+      by None = refl
+      by (Some f) = refl
+
+  same_linked : (op : ℕ) (name desc : List ℕ) (o : Option ℕ) → linked_field op (frameless_at at) (frameless p) name desc o ≡ linked_field op at p name desc o
+  same_linked op name desc None = refl
+  same_linked op name desc (Some k) =
+      ap (λ (o : Option Linked). declared_field op (frameless_at at) k name desc (option_and_then (λ (c : Linked). static_named c.statics name desc) o)) (same_class_at p k)
+      ∙ same_declared op k name desc (class_at p k)
+
+  same_field : (op : ℕ) (class name desc : List ℕ) → field_named op (frameless_at at) (frameless p) class name desc ≡ field_named op at p class name desc
+  same_field op class name desc =
+      ap (λ (o : Operation). if is_print_stream op class name desc then pushes value.print_stream else o)
+      (ap (linked_field op (frameless_at at) (frameless p) name desc) (same_class_named p class) ∙ same_linked op name desc (class_named p class))
+
+  -- ---- calls
+
+  same_body_entered : (method : Entry) (c : Linked) (o : Option Body) → body_entered (frameless_at at) method (frameless_class c) (option_map frameless_body o) ≡ body_entered at method c o
+  same_body_entered method c None = refl
+  same_body_entered method c (Some b) =
+      ap (λ (e : Bool). entered_if (e && may_name_method at method.class b.name) method (frameless_body b)) (same_enterable c b) ∙ by (is_enterable c b && may_name_method at method.class b.name)
+    where
+      by : (e : Bool) → entered_if e method (frameless_body b) ≡ entered_if e method b
+      by true = refl
+      by false = refl
+
+  same_entered : (o : Option Entry) → method_entered (frameless_at at) (frameless p) o ≡ method_entered at p o
+  same_entered None = refl
+  same_entered (Some method) = ap (class_entered (frameless_at at) method) (same_class_at p method.class) ∙ by (class_at p method.class)
+    where
+      by : (o : Option Linked) → class_entered (frameless_at at) method (option_map frameless_class o) ≡ class_entered at method o
+      by None = refl
+      by (Some c) = ap (body_entered (frameless_at at) method (frameless_class c)) (same_body_at c method.method) ∙ same_body_entered method c (slice_get c.bodies method.method)
+
+  same_static : (class name desc : List ℕ) → static_call (frameless_at at) (frameless p) class name desc ≡ static_call at p class name desc
+  same_static class name desc =
+      ap (λ (o : Operation). if in_init at then init_call (frameless_at at) (is_fetch class name desc) (init_of at) else o)
+      (ap (method_entered (frameless_at at) (frameless p)) (same_callee p class name desc) ∙ same_entered (callee_named p class name desc))
+      ∙ ap (λ (i : Operation). if in_init at then i else method_entered at p (callee_named p class name desc)) (by (is_fetch class name desc) (init_of at))
+    where
+      by : (b : Bool) (i : Option ProbeInit) → init_call (frameless_at at) b i ≡ init_call at b i
+      by true None = refl
+      by true (Some init) = refl
+      by false None = refl
+      by false (Some init) = refl
+
+  same_call : (op : ℕ) (class name desc : List ℕ) → call_named op (frameless_at at) (frameless p) class name desc ≡ call_named op at p class name desc
+  same_call op class name desc =
+      ap (λ (o : Operation). if nat_eq op opcode.invokestatic then o
+      else if nat_eq op opcode.invokevirtual then virtual_call at class name desc
+      else if nat_eq op opcode.invokespecial then special_call at class name desc
+      else outside)
+      (same_static class name desc)
+
+  same_member : (op : ℕ) (o : Option What) → member_operation op (frameless_at at) (frameless p) o ≡ member_operation op at p o
+  same_member op None = refl
+  same_member op (Some (whats.Field class name desc)) = same_field op class name desc
+  same_member op (Some (whats.Method class name desc)) = same_call op class name desc
+  same_member op (Some (whats.Call name desc)) = refl
+  same_member op (Some (whats.Class name)) = refl
+  same_member op (Some (whats.Int n)) = refl
+  same_member op (Some (whats.Long n)) = refl
+  same_member op (Some whats.Float) = refl
+  same_member op (Some whats.Double) = refl
+  same_member op (Some whats.Text) = refl
+  same_member op (Some whats.Handle) = refl
+  same_member op (Some whats.MethodKind) = refl
+  same_member op (Some (whats.Computed desc)) = refl
+
+  -- ---- all instructions
+
+  pub same_operation : (i : Insn) → operation_of (frameless p) (frameless_at at) i ≡ operation_of p at i
+  unfolding operation_of
+  same_operation (insns.Simple op) = refl
+  same_operation (insns.Push op n) = refl
+  same_operation (insns.Local op slot) = refl
+  same_operation (insns.Inc slot by) = refl
+  same_operation (insns.Constant place) = refl
+  same_operation (insns.Constant2 place) = refl
+  same_operation (insns.Member op place) = same_member op (what_at at place)
+  same_operation (insns.Interface place count) = refl
+  same_operation (insns.Dynamic place) = refl
+  same_operation (insns.OfClass op place) = refl
+  same_operation (insns.NewArray elem) = refl
+  same_operation (insns.Multi place dims) = refl
+  same_operation (insns.Jump op to) = refl
+  same_operation (insns.Table low default arms) = refl
+  same_operation (insns.Lookup default arms) = refl

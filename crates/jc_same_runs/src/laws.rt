@@ -1,0 +1,19 @@
+//! A law of the runs of equal programs.
+ghost use Rattle.std.specs.Prelude.{◌≡◌, ℕ, List};
+ghost use Rattle.jc_programs.specs.declared.program.Program.{Program};
+ghost use Rattle.jc_programs.specs.declared.run_plan.Case.{Case};
+ghost use Rattle.jc_programs.specs.declared.run_plan.RunPlan.{RunPlan};
+ghost use Rattle.jc_programs.specs.declared.run_plan.ThreadLine.{ThreadLine};
+ghost use Rattle.jc_programs.specs.Entries.{entry_of};
+ghost use Rattle.jc_world.specs.CaseText.{case_texts};
+ghost use Rattle.jc_world.specs.Run.{run, hits_of};
+ghost use Rattle.jc_same_runs.specs.Frameless.{frameless};
+
+/// Programs that are equal but for the frames of their bodies and for the names of the classes in them have the same entries,
+/// and each case runs alike: the world after any turns is the same, and so are the texts of cases and the hits of a plan.
+pub fn equal_programs_run_alike()
+    ensures entry { (p q : Program) (thread : ThreadLine) → frameless p ≡ frameless q → entry_of p thread ≡ entry_of q thread }
+    ensures world { (p q : Program) (case : Case) (turns : List ℕ) → frameless p ≡ frameless q → run p case turns ≡ run q case turns }
+    ensures text { (p q : Program) (k : ℕ) (cases : List Case) → frameless p ≡ frameless q → case_texts p k cases ≡ case_texts q k cases }
+    ensures hits { (p q : Program) (plan : RunPlan) → frameless p ≡ frameless q → hits_of p plan ≡ hits_of q plan }
+{}
