@@ -10,7 +10,8 @@ mod words;
 
 pub use jc_work::{Fault, Status};
 pub use laws::{
-    a_command_that_refuses_has_written_nothing, each_run_ends_as_its_work, each_run_leaves_a_front_of_its_work,
-    each_status_has_its_cause, usage_comes_for_words_of_no_form, words_have_one_work,
+    a_command_that_refuses_has_written_nothing, each_run_ends_as_its_work,
+    each_run_leaves_a_front_of_its_work, each_status_has_its_cause,
+    usage_comes_for_words_of_no_form, words_have_one_work,
 };
 pub use run::run_tool;

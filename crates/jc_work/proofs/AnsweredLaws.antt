@@ -98,17 +98,22 @@ module _ (landed : Landed) (inputs : List Word) (Answers : List (List ℕ) → A
   pub prepared : (old mid : World) (f g : Counts) (texts : List (List ℕ)) (r : Result (Vec Written Global) Stop)
       → (g ≡ f) × CameTo landed (reading_all inputs) old mid (gives texts) → AnswersWith (Answers texts) r
       → Does landed (preparing inputs Answers) (λ writes. map write_seen writes.items) stop_seen old mid f g r
-  prepared old mid f g texts (Ok writes) (same, came) is =
-      (same, came_then landed (reading_all inputs) (λ ts. answering (Answers ts)) old texts mid mid (gives (map write_seen writes.items)) came
-      (was_decided landed (λ ws. Answers texts (gives ws)) (λ end. Answers texts (stops end)) mid (map write_seen writes.items) is))
+  prepared old mid f g texts (Ok writes) (same, came) is = (
+    same,
+    came_then landed (reading_all inputs) (λ ts. answering (Answers ts)) old texts mid mid (gives (map write_seen writes.items)) came
+        (was_decided landed (λ ws. Answers texts (gives ws)) (λ end. Answers texts (stops end)) mid (map write_seen writes.items) is),
+  )
   prepared old mid f g texts (Err stop) (same, came) is = by (stop_seen stop) is
     where
       by : (o : Option End) → EndsSo (Answers texts) o → Stops landed (preparing inputs Answers) old mid f g o
       by None none =
           (same, began_then landed (reading_all inputs) (λ ts. answering (Answers ts)) old texts mid mid came (record { steps = []; begun = inl refl; fit = tt; stand = refl }))
       by (Some end) so =
-          inl (same, came_then landed (reading_all inputs) (λ ts. answering (Answers ts)) old texts mid mid (stops end) came
-          (was_ended landed (λ ws. Answers texts (gives ws)) (λ e. Answers texts (stops e)) mid end so))
+          inl (
+            same,
+            came_then landed (reading_all inputs) (λ ts. answering (Answers ts)) old texts mid mid (stops end) came
+                (was_ended landed (λ ws. Answers texts (gives ws)) (λ e. Answers texts (stops e)) mid end so),
+          )
 
   -- an input couldn't be read, or memory was refused
   pub unprepared : (old mid : World) (f g : Counts) (stop : Option End) → Stops landed (reading_all inputs) old mid f g stop → Stops landed (preparing inputs Answers) old mid f g stop
@@ -135,9 +140,11 @@ first_unread landed path paths old mid f g stop stopped = stops_first landed (re
 module _ (landed : Landed) (path : Word) (paths : List Word) (old mid new : World) (f g h : Counts) where
   pub both_read : (t : List ℕ) (ts : List (List ℕ)) → (g ≡ f) × CameTo landed (reading path) old mid (gives t) → (h ≡ g) × CameTo landed (reading_all paths) mid new (gives ts)
       → (h ≡ f) × CameTo landed (reading_all (path ∷ paths)) old new (gives (t ∷ ts))
-  both_read t ts (same, came) (same', came') =
-      (same' ∙ same, came_then landed (reading path) (λ x. reading_all paths >>= λ xs. giving (x ∷ xs)) old t mid new (gives (t ∷ ts)) came
-      (came_then landed (reading_all paths) (λ xs. giving (t ∷ xs)) mid ts new new (gives (t ∷ ts)) came' (record { steps = []; comes = refl; begun = inl refl; fit = tt; stand = refl })))
+  both_read t ts (same, came) (same', came') = (
+    same' ∙ same,
+    came_then landed (reading path) (λ x. reading_all paths >>= λ xs. giving (x ∷ xs)) old t mid new (gives (t ∷ ts)) came
+        (came_then landed (reading_all paths) (λ xs. giving (t ∷ xs)) mid ts new new (gives (t ∷ ts)) came' (record { steps = []; comes = refl; begun = inl refl; fit = tt; stand = refl })),
+  )
 
   pub others_unread : (t : List ℕ) (stop : Option End) → (g ≡ f) × CameTo landed (reading path) old mid (gives t) → Stops landed (reading_all paths) mid new g h stop
       → Stops landed (reading_all (path ∷ paths)) old new f h stop

@@ -156,4 +156,3 @@ pub fn fault_text(alloc: Global, file: &str, fault: &Fault) -> Result<Vec<u8>, A
         Fault::Class { refusal, .. } => Ok(class_refusal_text(alloc, file, *refusal)?.into_bytes()),
     }
 }
-

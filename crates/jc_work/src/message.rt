@@ -6,9 +6,9 @@ ghost use Rattle.jc_work.specs.Ending.{SaysErr, ReportsErr};
 ghost use Rattle.jc_work.specs.Seen.{stop_seen};
 ghost use Rattle.jc_work.specs.Stopping.{message_seen, status_seen};
 
+use crate::Status;
 use crate::fault_text::fault_text;
 use crate::stop::Stop;
-use crate::Status;
 use jc_outside::Sink;
 use std::alloc::{AllocError, Global};
 

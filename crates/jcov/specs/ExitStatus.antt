@@ -1,7 +1,7 @@
 -- The exit status of the program.
 use Rattle.std.specs.Prelude.{ℕ}
-use Rattle.jc_top.specs.declared.status.Status.{Status}
-use Rattle.jc_top.specs.declared.status.Status.TheVariants.{Done, Refused, Usage, ReadFault, WriteFault, Memory}
+use Rattle.jc_top.specs.declared.Status.{Status}
+use Rattle.jc_top.specs.declared.Status.TheVariants.{Done, Refused, Usage, ReadFault, WriteFault, Memory}
 
 -- 0 where all was written, and else the number of what ended the run
 abbrev pub exit_status : Status → ℕ

@@ -6,5 +6,8 @@ use Rattle.jc_work.proofs.message.report_usage.Goals as goal
 pub returns : goal.returns
 returns g c contents out reads writes outs =
     let E = g.E.Sink in
-    inr (refl, subst (λ (t : List ℕ). Says t (world contents out (E.told c.args.err.now)) (world contents out (E.told c.say.new.err))
-    (counts reads writes outs (E.faults c.args.err.now)) (counts reads writes outs (E.faults c.say.new.err))) c.as_bytes.ensures.value (c.say.ensures contents out reads writes outs))
+    inr (
+      refl,
+      subst (λ (t : List ℕ). Says t (world contents out (E.told c.args.err.now)) (world contents out (E.told c.say.new.err))
+          (counts reads writes outs (E.faults c.args.err.now)) (counts reads writes outs (E.faults c.say.new.err))) c.as_bytes.ensures.value (c.say.ensures contents out reads writes outs),
+    )
