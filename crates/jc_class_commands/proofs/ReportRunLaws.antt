@@ -62,6 +62,7 @@ answers_none out name paths texts (Err (stops.Refused file fault)) stop = absurd
 answers_none out name paths texts (Err (stops.Read p)) stop = absurd stop
 answers_none out name paths texts (Err (stops.Write p)) stop = absurd stop
 answers_none out name paths texts (Err stops.Output) stop = absurd stop
+answers_none out name paths texts (Err (stops.Clash fault line)) stop = absurd stop
 
 pub answers_data : (out name path : Word) (paths : List Word) (text : List ℕ) (texts : List (List ℕ)) (store : Store) (r : Result (Vec Written Global) Stop)
     → IsUnionOf (text ∷ []) store → ReportsWith out name store.classes (Some path) paths texts r → AnswersWith (ReportAnswers out name (Some path) paths (text ∷ texts)) r
@@ -77,6 +78,7 @@ answers_data out name path paths text texts store (Err (stops.Refused file fault
 answers_data out name path paths text texts store (Err (stops.Read p)) union stop = absurd stop
 answers_data out name path paths text texts store (Err (stops.Write p)) union stop = absurd stop
 answers_data out name path paths text texts store (Err stops.Output) union stop = absurd stop
+answers_data out name path paths text texts store (Err (stops.Clash fault line)) union stop = absurd stop
 
 pub answers_refused : (out name : Word) (path : Bor Word) (paths : List Word) (text : List ℕ) (texts : List (List ℕ)) (fail : Fail ExecRefusal)
     → Refuses fail no_data text → AnswersWith (ReportAnswers out name (Some path.now) paths (text ∷ texts)) (Err (exec_stop fail 0 path))

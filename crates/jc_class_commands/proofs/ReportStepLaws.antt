@@ -332,6 +332,7 @@ stops_for path P Q f (stops.Refused file fault) stop = (stop.0, stop.1, stop.2, 
 stops_for path P Q f (stops.Read p) stop = absurd stop
 stops_for path P Q f (stops.Write p) stop = absurd stop
 stops_for path P Q f stops.Output stop = absurd stop
+stops_for path P Q f (stops.Clash fault line) stop = absurd stop
 
 pub looked_class : (records : List ClassHits) (path : Option Word) (bytes : List ℕ) (a : Analysed) → IsAnalysis bytes a → (r : Result Seen Stop)
     → IfOk r (SeesClass records a a.bodies) → IfErr r (StopsAtClash path (ClassClashes records a a.bodies)) → IsLooked records path bytes r

@@ -45,6 +45,7 @@ StopsAtClash path Why (stops.Refused file fault) = (refusal : ExecRefusal) × (p
 StopsAtClash path Why (stops.Read p) = ⊥
 StopsAtClash path Why (stops.Write p) = ⊥
 StopsAtClash path Why stops.Output = ⊥
+StopsAtClash path Why (stops.Clash fault line) = ⊥
 
 -- ---- the counters of a class
 

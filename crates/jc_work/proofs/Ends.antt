@@ -64,3 +64,4 @@ reports_said (stops.Read path) text old new f f' is says = inr (refl, says_last 
 reports_said (stops.Write path) text old new f f' is says = inr (refl, says_last text (cannot_write path.now) old new f f' is says)
 reports_said stops.Output text old new f f' is says = inr (refl, says_last text cannot_write_output old new f f' is says)
 reports_said (stops.Refused file fault) text old new f f' is says = inr (refl, says_last text (fault_text file.now fault) old new f f' is says)
+reports_said (stops.Clash fault line) text old new f f' is says = inr (refl, says_last text line.items old new f f' is says)

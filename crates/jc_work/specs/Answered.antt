@@ -19,8 +19,11 @@ abbrev pub Answer : Type 0
 Answer = Outcome (List Write)
 
 -- the file is refused, and its line says why
+abbrev pub refusal_of : Word → Fault → End
+refusal_of file fault = refused fault (fault_text file fault)
+
 abbrev pub refusing : Word → Fault → Answer
-refusing file fault = stops (refused fault (fault_text file fault))
+refusing file fault = stops (refusal_of file fault)
 
 -- Of all texts that may be read of the inputs there is one answer.
 pub record OneAnswer (Is : Answer → Type 0) : Type 0 where

@@ -27,6 +27,7 @@ stop_seen (stops.Read path) = Some (unread path.now)
 stop_seen (stops.Write path) = Some (unwritten path.now)
 stop_seen stops.Output = Some unprinted
 stop_seen (stops.Refused file fault) = Some (refused fault (fault_text file.now fault))
+stop_seen (stops.Clash fault line) = Some (refused fault line.items)
 
 -- how a read that failed stops a command
 abbrev pub read_stop : FileFault → Bor (List ℕ) → Stop

@@ -31,6 +31,7 @@ message_seen (stops.Read path) = Some (cannot_read path.now)
 message_seen (stops.Write path) = Some (cannot_write path.now)
 message_seen stops.Output = Some cannot_write_output
 message_seen (stops.Refused file fault) = Some (fault_text file.now fault)
+message_seen (stops.Clash fault line) = Some line.items
 
 abbrev pub status_seen : Stop → Status
 status_seen stops.Memory = status.Memory
@@ -38,3 +39,4 @@ status_seen (stops.Read path) = status.ReadFault
 status_seen (stops.Write path) = status.WriteFault
 status_seen stops.Output = status.WriteFault
 status_seen (stops.Refused file fault) = status.Refused fault
+status_seen (stops.Clash fault line) = status.Refused fault

@@ -96,9 +96,25 @@ by_method file kind place (Some method) = in_method_text file kind method place
 abbrev pub class_refusal_text : List ℕ → Refusal → List ℕ
 class_refusal_text file refusal = by_method file (kind_text refusal.kind) refusal.place refusal.method
 
+-- ---- run plans that are refused
+
+abbrev pub bad_plan_text : List ℕ → ℕ → List ℕ
+bad_plan_text file line = file ++ (codes ": bad plan in line " ++ (decimal line ++ codes "\n"))
+
+abbrev pub no_entry_text : List ℕ → ℕ → List ℕ
+no_entry_text file line = file ++ (codes ": no entry in line " ++ (decimal line ++ codes "\n"))
+
 -- ---- inputs that are refused
 
--- an input that is refused, by its path and what is wrong with it
+-- a file that has something in common with another
+abbrev pub shared_text : List ℕ → List ℕ → List ℕ
+shared_text file what = file ++ (codes ": one class " ++ (what ++ codes "\n"))
+
+-- a file that is refused, by its path and what is wrong with it
 abbrev pub fault_text : List ℕ → Fault → List ℕ
 fault_text file (faults.Exec path refusal) = exec_refusal_text file refusal
+fault_text file (faults.Plan line) = bad_plan_text file line
 fault_text file (faults.Class path refusal) = class_refusal_text file refusal
+fault_text file (faults.SameName first second) = shared_text file (codes "name")
+fault_text file (faults.SameId first second) = shared_text file (codes "id")
+fault_text file (faults.NoEntry line) = no_entry_text file line

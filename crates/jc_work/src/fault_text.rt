@@ -3,6 +3,7 @@ ghost use Rattle.std.specs.Prelude.{◌≡◌, string_bytes, IfOk};
 ghost use Rattle.jc_work.specs.Texts.{bad_exec_text, version_start, version_line, other_version_text};
 ghost use Rattle.jc_work.specs.Texts.{conflict_start, first_count_text, second_count_text, conflict_text, exec_refusal_text};
 ghost use Rattle.jc_work.specs.Texts.{kind_text, placed_text, in_method_text, class_refusal_text, fault_text};
+ghost use Rattle.jc_work.specs.Texts.{bad_plan_text, no_entry_text, shared_text};
 
 use crate::Fault;
 use jc_bytes::{Refusal, RefusalKind};
@@ -147,12 +148,37 @@ pub fn class_refusal_text(alloc: Global, file: &str, refusal: Refusal) -> Result
     }
 }
 
-/// Why an input is refused.
+/// A run plan that is refused, by its first line that doesn't fit.
+fn bad_plan_text(alloc: Global, file: &str, line: u32) -> Result<String, AllocError>
+    ensures { IfOk result (λ text. string_bytes text ≡ bad_plan_text file.now line) }
+{
+    format!(in alloc; "{file}: bad plan in line {line}\n")
+}
+
+/// A thread of a run plan that has no method to begin with, by its line.
+fn no_entry_text(alloc: Global, file: &str, line: u32) -> Result<String, AllocError>
+    ensures { IfOk result (λ text. string_bytes text ≡ no_entry_text file.now line) }
+{
+    format!(in alloc; "{file}: no entry in line {line}\n")
+}
+
+/// A file that has its class name, or the id of its probes, in common with another.
+fn shared_text(alloc: Global, file: &str, what: &str) -> Result<String, AllocError>
+    ensures { IfOk result (λ text. string_bytes text ≡ shared_text file.now what.now) }
+{
+    format!(in alloc; "{file}: one class {what}\n")
+}
+
+/// Why a file is refused. A line that names two files has more: see [`crate::Stop::Clash`].
 pub fn fault_text(alloc: Global, file: &str, fault: &Fault) -> Result<Vec<u8>, AllocError>
     ensures { IfOk result (λ text. text.items ≡ fault_text file.now fault.now) }
 {
     match fault {
         Fault::Exec { refusal, .. } => exec_refusal_text(alloc, file, refusal),
+        Fault::Plan { line } => Ok(bad_plan_text(alloc, file, *line)?.into_bytes()),
         Fault::Class { refusal, .. } => Ok(class_refusal_text(alloc, file, *refusal)?.into_bytes()),
+        Fault::SameName { .. } => Ok(shared_text(alloc, file, "name")?.into_bytes()),
+        Fault::SameId { .. } => Ok(shared_text(alloc, file, "id")?.into_bytes()),
+        Fault::NoEntry { line } => Ok(no_entry_text(alloc, file, *line)?.into_bytes()),
     }
 }

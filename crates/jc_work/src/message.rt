@@ -56,6 +56,7 @@ fn message(alloc: Global, stop: &Stop<'_>) -> Result<Option<Vec<u8>>, AllocError
         Stop::Write(path) => Ok(Some(cannot_write(alloc, path)?.into_bytes())),
         Stop::Output => Ok(Some(Vec::from_slice(alloc, b"cannot write output\n")?)),
         Stop::Refused { file, fault } => Ok(Some(fault_text(alloc, file, fault)?)),
+        Stop::Clash { line, .. } => Ok(Some(Vec::from_slice(alloc, line)?)),
     }
 }
 
@@ -68,6 +69,7 @@ fn status_of(stop: Stop<'_>) -> Status
         Stop::Read(_) => Status::ReadFault,
         Stop::Write(_) | Stop::Output => Status::WriteFault,
         Stop::Refused { fault, .. } => Status::Refused(fault),
+        Stop::Clash { fault, line: _line } => Status::Refused(fault),
     }
 }
 

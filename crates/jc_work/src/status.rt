@@ -25,6 +25,14 @@ pub enum Status {
 pub enum Fault {
     /// The execution data of the input at this index in the list of inputs is refused.
     Exec { path: u32, refusal: ExecRefusal },
+    /// The run plan is refused: this line is the first that doesn't fit.
+    Plan { line: u32 },
     /// The class file at this index in the list of inputs is refused.
     Class { path: u32, refusal: Refusal },
+    /// The files at these indices in the list of inputs are of one class name.
+    SameName { first: u32, second: u32 },
+    /// The probes of the files at these indices in the list of inputs are of one class id.
+    SameId { first: u32, second: u32 },
+    /// The thread of this line of the run plan has no method to begin with.
+    NoEntry { line: u32 },
 }

@@ -19,6 +19,8 @@ pub enum Stop<'a> {
     Output,
     /// The file at the path is refused.
     Refused { file: &'a str, fault: Fault },
+    /// Two files don't go together, as the line says that names both.
+    Clash { fault: Fault, line: Vec<u8> },
 }
 
 impl<'a> From<Memory> for Stop<'a> {

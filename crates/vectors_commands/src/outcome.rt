@@ -11,7 +11,17 @@ pub fn status_text(alloc: Global, status: &Status) -> Result<String, AllocError>
         Status::Refused(Fault::Exec { path, .. }) => {
             format!(in alloc; "refused: execution data {path}")
         }
+        Status::Refused(Fault::Plan { line }) => format!(in alloc; "refused: plan at line {line}"),
         Status::Refused(Fault::Class { path, .. }) => format!(in alloc; "refused: class {path}"),
+        Status::Refused(Fault::SameName { first, second }) => {
+            format!(in alloc; "refused: class names {first} and {second}")
+        }
+        Status::Refused(Fault::SameId { first, second }) => {
+            format!(in alloc; "refused: class ids {first} and {second}")
+        }
+        Status::Refused(Fault::NoEntry { line }) => {
+            format!(in alloc; "refused: no entry at line {line}")
+        }
         Status::Usage => "usage".to_string(alloc),
         Status::ReadFault => "read fault".to_string(alloc),
         Status::WriteFault => "write fault".to_string(alloc),

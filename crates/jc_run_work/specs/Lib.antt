@@ -1,0 +1,3 @@
+pub mod RunStore
+pub mod PairTexts
+pub mod RunAnswers
