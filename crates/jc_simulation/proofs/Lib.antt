@@ -20,5 +20,8 @@ pub mod WorldLaws
 pub mod RunLaws
 pub mod SameLaws
 pub mod BeginLaws
+pub mod RunItemLaws
 pub mod SideLaws
+pub mod TogetherLaws
+pub mod ApartLaws
 pub mod ProgramRunLaws

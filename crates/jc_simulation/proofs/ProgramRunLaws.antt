@@ -16,9 +16,12 @@ use Rattle.jc_world.specs.Begin.{begin_case}
 use Rattle.jc_simulation.specs.Marking.{AreMarks}
 use Rattle.jc_simulation.specs.Laws.{HaveMarks, HaveOneMarks, HaveSides, CasesBeginTogether, TurnsStayTogether, TogetherIsSame, RunsAreSame, IsKeptBySpread, SchedulesAreKept, ProbeTurnsAreFew}
 use Rattle.jc_simulation.specs.Mid.{Mid}
+use Rattle.jc_simulation.specs.Together.{EachBeginsTogether, EachTurnKeeps}
+use Rattle.jc_simulation.proofs.ApartLaws.{together_mid}
 use Rattle.jc_simulation.proofs.BeginLaws.{case_together}
 use Rattle.jc_simulation.proofs.SameLaws.{together_same}
 use Rattle.jc_simulation.proofs.SideLaws.{sides, are_sides, are_told}
+use Rattle.jc_simulation.proofs.TogetherLaws.{mid_together}
 use Rattle.jc_simulation.proofs.WorldLaws.{one_turn}
 use Rattle.jc_simulation.proofs.RunLaws as runs
 
@@ -71,6 +74,17 @@ turns_stay_together p p' marks s t are told w w' k h = one_turn p p' s marks are
 
 pub together_is_same : TogetherIsSame
 together_is_same p p' marks s t are told w w' h = together_same p p' s marks are told w w' h
+
+-- in terms of the two programs: worlds in which a case begins are together, and those behind a turn are
+pub begins_together : EachBeginsTogether
+begins_together p p' marks t told case entries h =
+    let s = have_sides p p' marks t told in
+    mid_together p p' s.0 marks s.1 s.2 _ _ (case_together p p' s.0 s.1 case entries h)
+
+pub turns_keep_together : EachTurnKeeps
+turns_keep_together p p' marks t told w w' k fits fits' h =
+    let s = have_sides p p' marks t told in
+    mid_together p p' s.0 marks s.1 s.2 _ _ (one_turn p p' s.0 marks s.1 s.2 k w w' (together_mid p p' s.0 marks s.1 s.2 w w' fits fits' h))
 
 -- ---- marks
 

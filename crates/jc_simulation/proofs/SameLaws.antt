@@ -37,13 +37,13 @@ pushed_off a (hop to at due) st = refl
 
 -- ---- one more behind a list
 
-one_more : (xs : List Value) (k : ℕ) (x : Value) → (k ≡ length xs → ⊥) → slice_get (xs ++ (x ∷ [])) k ≡ slice_get xs k
+pub one_more : {X : Type 0} (xs : List X) (k : ℕ) (x : X) → (k ≡ length xs → ⊥) → slice_get (xs ++ (x ∷ [])) k ≡ slice_get xs k
 one_more [] zero x apart = absurd (apart refl)
 one_more [] (suc k) x apart = refl
 one_more (y ∷ xs) zero x apart = refl
 one_more (y ∷ xs) (suc k) x apart = one_more xs k x (λ e. apart (ap suc e))
 
-last_is : {X : Type 0} (xs : List X) (x : X) → slice_get (xs ++ (x ∷ [])) (length xs) ≡ Some x
+pub last_is : {X : Type 0} (xs : List X) (x : X) → slice_get (xs ++ (x ∷ [])) (length xs) ≡ Some x
 last_is [] x = refl
 last_is (y ∷ xs) x = last_is xs x
 
@@ -144,7 +144,7 @@ module _ (p p' : Program) (sides : Entry → Side) where
     -- ---- static fields
 
     -- the added field is a `$jacocoData`
-    is_added : (class : ℕ) (c new : Linked) → slice_get p'.classes class ≡ Some new → IsChangedPair p.names p'.names c new
+    pub is_added : (class : ℕ) (c new : Linked) → slice_get p'.classes class ≡ Some new → IsChangedPair p.names p'.names c new
         → is_data p' class (length c.statics) ≡ true
     is_added class c new there pair =
         ap (is_data_in (length c.statics)) there ∙ ap (λ l. is_named_data (slice_get l (length c.statics))) pair.statics

@@ -22,6 +22,7 @@ use Rattle.jc_emit.proofs.SeenProgramLaws.{classes_alike, class_pair, added_last
 use Rattle.jc_world.specs.Methods.{is_init_name}
 use Rattle.jc_simulation.specs.Marking.{AreMarks}
 use Rattle.jc_simulation.specs.Sides.{Side, count_in, IsSide, AreSides, AreTold, AreMarksOf}
+use Rattle.jc_simulation.proofs.RunItemLaws.{twin_runs, plain_runs, seen_items}
 use Rattle.jc_simulation.proofs.ClassLaws.{other_name, original_declares, unchanged_declares, changed_declares}
 
 -- ---- where there is no method
@@ -88,7 +89,9 @@ module _ (p p' : Program) (t : TwinProgram p p') (marks : Entry → Marks) (are 
     twin_side : IsSeenTwin p.names p'.names c new m.method b b' (marks m) → (s : Side) × Facts m s
     twin_side s =
         let first = first_id c.bodies m.method in
-        let seen = s.seen in
+        let states = s.twin.states in
+        let t = s.twin.twin in
+        let seen = seen_items p.names p'.names states first b b' well t in
         let pair = s.pair in
         let added = (added_last p.names p'.names c new pair).0 in (
           record { class = c; new = new; body = b; twin = b'; slot = Some b.arg_slots; ids = probe_of b first; items = seen.items; call = seen.call },
@@ -118,13 +121,18 @@ module _ (p p' : Program) (t : TwinProgram p p') (marks : Entry → Marks) (are 
                 added_at = added;
                 declares = changed_declares p.names p'.names c new pair added;
                 calls = seen.calls;
-                within = λ q id x here h. within first pair (each_within first b b' (marks m) seen q id x here h).1;
+                within = λ q id x here h. within first pair (each_within first b b' t.marks seen q id x here h).1;
               };
               unchanged = λ e. absurd (none-some b.arg_slots (sym e));
               ids_are = λ v e. refl;
               no_ids_are = λ e. absurd (none-some b.arg_slots (sym e));
+              runs = twin_runs b first t.wide;
             },
-            record { at = seen.at; own = seen.own; extra = seen.extra },
+            record {
+              at = ap (λ z. z.at) s.marks ∙ seen.at;
+              own = ap (λ z. z.own) s.marks ∙ seen.own;
+              extra = ap (λ z. z.extra) s.marks ∙ seen.extra;
+            },
           ),
         )
       where
@@ -163,6 +171,7 @@ module _ (p p' : Program) (t : TwinProgram p p') (marks : Entry → Marks) (are 
               unchanged = λ e. record { pair = pair; declares = unchanged_declares p.names p'.names c new pair };
               ids_are = λ v e. absurd (none-some v e);
               no_ids_are = λ e. refl;
+              runs = plain_runs seen.items seen.plain;
             },
             record { at = seen.at; own = seen.own; extra = seen.extra },
           ),

@@ -231,7 +231,7 @@ module _ (p p' : Program) (sides : Entry → Side) where
           ap (λ q. not (is_init_name b.name) || (nat_eq q 0 && nat_eq f.method.class f.method.class)) first
           ∙ ap (λ x. not (is_init_name b.name) || x) (eq-eqb f.method.class f.method.class refl) ∙ or_true (not (is_init_name b.name))
 
-      called : callee_named p' t.body.owner init_name init_type ≡ Some e
+      pub called : callee_named p' t.body.owner init_name init_type ≡ Some e
       called =
           ap (option_and_then (λ (k : ℕ). option_and_then (method_in init_name init_type k) (class_at p' k))) class_is
           ∙ ap (option_and_then (method_in init_name init_type f.method.class)) h.one.side.new_is

@@ -16,6 +16,7 @@ use Rattle.jc_emit.specs.Seen.{OkRows, IsPlain, AreInsnsOf, with_more}
 use Rattle.jc_emit.specs.Twin.{IsSameMethod, KeepsUses, probe_init}
 use Rattle.jc_emit.specs.TwinProgram.{IsPair, IsChangedPair, IsUnchangedPair, DifferInName}
 use Rattle.jc_world.specs.Values.{Value, probes}
+use Rattle.jc_simulation.specs.ProbeRuns.{AreRuns}
 use Rattle.jc_world.specs.Methods.{is_init_name, declares_init}
 
 -- the two bodies with their classes, and what the twin is made of: the local variable of the probe array, the ids of the
@@ -80,6 +81,8 @@ pub record IsSide (p p' : Program) (method : Entry) (t : Side) : Type 0 where
   -- the ids of a changed class are those of its probes, and an unchanged one has none
   pub ids_are : (v : ℕ) → t.slot ≡ Some v → t.ids ≡ probe_of t.body (first_id t.class.bodies method.method)
   pub no_ids_are : t.slot ≡ None → t.ids ≡ no_ids
+  -- the instructions of the prelude and of each probe stand one behind the other
+  pub runs : AreRuns t.items
 
 -- the methods of a program beside those of its twin
 pub record AreSides (p p' : Program) (sides : Entry → Side) : Type 0 where

@@ -5,6 +5,7 @@
 #![tactic(auto)]
 
 ghost use Rattle.jc_simulation.specs.Laws.{CasesBeginTogether, HaveMarks, HaveOneMarks, HaveSides, ProbeTurnsAreFew, RunsAreSame, SchedulesAreKept, TogetherIsSame, TurnsStayTogether};
+ghost use Rattle.jc_simulation.specs.Together.{EachBeginsTogether, EachTurnKeeps};
 
 /// A run of a twin leaves the same output, heap, static fields and ends of threads as the run of the original under the kept
 /// turns, and the frames of running threads are the same up to the instruction that is next, the local variable of the probe
@@ -40,4 +41,11 @@ pub fn each_turn_keeps_worlds_together()
     ensures begin { CasesBeginTogether }
     ensures turn { TurnsStayTogether }
     ensures same { TogetherIsSame }
+{}
+
+/// The same in terms of the two programs. Two worlds are together where they look the same, each field of a probe array holds null
+/// or the array of its class, and each frame of the twin has what the prelude, a probe or `$jacocoInit` has made so far.
+pub fn each_turn_keeps_what_probes_made()
+    ensures begin { EachBeginsTogether }
+    ensures turn { EachTurnKeeps }
 {}

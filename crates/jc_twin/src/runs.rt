@@ -1,4 +1,5 @@
 //! The laws of runs.
+ghost use Rattle.jc_simulation.specs.Together.{BeginsTogether, OneTurn};
 ghost use Rattle.jc_twin.specs.Runs.{EachSchedule, FewProbeTurns, SameRun};
 
 use jc_programs::{Case, Program};
@@ -20,4 +21,14 @@ pub fn each_schedule(before: &Program, after: &Program, case: &Case)
 /// last one.
 pub fn few_probe_turns(before: &Program, after: &Program, case: &Case)
     ensures { FewProbeTurns before.now after.now case.now }
+{}
+
+/// One turn of a thread, of which runs are made. Two worlds are together where they look the same, each field of a probe array
+/// holds null or the array of its class, and each frame of the twin has what the prelude, a probe or `$jacocoInit` has made so far:
+/// what these pushed, and the array in its local variable behind the prelude, in front of which no long begins. Where `after` is
+/// the twin of `before`, a turn that is kept, of both worlds, and a probe turn, of the twin's world alone, leave them together. The
+/// worlds in which a case begins are together.
+pub fn one_turn(before: &Program, after: &Program)
+    ensures begin { BeginsTogether before.now after.now }
+    ensures turn { OneTurn before.now after.now }
 {}
