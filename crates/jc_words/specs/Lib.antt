@@ -1,0 +1,10 @@
+pub mod Words
+pub mod Forms
+pub mod Paths
+pub mod Numbers
+pub mod Scan
+pub mod Looks
+pub mod Commands
+pub mod Decide
+pub mod Seen
+pub mod Outcome

@@ -1,0 +1,37 @@
+-- The words behind the program's name: uses of options, perhaps `--`, and files.
+use Rattle.std.specs.Prelude.{ℕ, Bool, true, false, not, ◌==◌, List, [], ◌∷◌, ◌++◌, Option, map, string_bytes, String, find, option_map, if◌then◌else◌}
+use Rattle.std.specs.List.{flat_map}
+use Rattle.std.specs.Str.{bytes_eq}
+use Rattle.std.specs.declared.alloc.Global.{Global}
+
+abbrev pub Word : Type 0
+Word = List ℕ
+
+abbrev pub words_of : List (String Global) → List Word
+words_of words = map string_bytes words
+
+-- neither empty nor begins with `-`
+abbrev pub is_plain : Word → Bool
+is_plain [] = false
+is_plain (x ∷ xs) = not (x == 45)
+
+-- one use of an option: `--name value`, or, joined, `--name=value`
+pub record Use : Type 0 where
+  pub name : Word
+  pub value : Word
+  pub joined : Bool
+
+abbrev pub use_words : Use → List Word
+use_words u = if u.joined then (45 ∷ 45 ∷ (u.name ++ 61 ∷ u.value)) ∷ [] else (45 ∷ 45 ∷ u.name) ∷ u.value ∷ []
+
+-- perhaps `--`, and the files
+abbrev pub tail_words : Bool → List Word → List Word
+tail_words dash files = if dash then (45 ∷ 45 ∷ []) ∷ files else files
+
+-- the words behind the command's name
+abbrev pub rest_words : List Use → Bool → List Word → List Word
+rest_words uses dash files = flat_map use_words uses ++ tail_words dash files
+
+-- what an option is given
+abbrev pub value_of : List Use → Word → Option Word
+value_of uses name = option_map (λ u. u.value) (find (λ u. bytes_eq u.name name) uses)

@@ -1,0 +1,15 @@
+//! The words of the command line: the command that they call, or that they are of no stated form.
+#![tactic(auto)]
+
+mod call;
+mod command;
+mod name;
+mod number;
+mod paths;
+mod read;
+mod scan;
+
+pub use command::{Command, Given};
+pub use name::CommandName;
+pub use paths::{FileWord, in_folder};
+pub use read::{Usage, each_list_of_words_calls_one_command, read_words};

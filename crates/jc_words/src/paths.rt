@@ -1,0 +1,176 @@
+//! Paths among the words.
+ghost use Rattle.std.specs.Prelude.{◌≡◌, ◌++◌, IfOk, map, string_bytes};
+ghost use Rattle.std.specs.Option.{option_map};
+ghost use Rattle.std.specs.List.{list_all, list_any};
+ghost use Rattle.std.specs.Str.{bytes_eq};
+ghost use Rattle.jc_words.specs.Words.{words_of};
+ghost use Rattle.jc_words.specs.Paths.{components, ends_with_slash, file_text, in_folder, is_component, is_relative, path_options, path_values, targets_in, are_distinct};
+ghost use Rattle.jc_words.specs.Looks.{file_view, used_view};
+
+use crate::scan::Used;
+use indexmap::IndexSet;
+use jc_bytes::Memory;
+use std::alloc::{AllocError, Global};
+
+/// A file, or a folder, which stands for files in it.
+#[derive(Clone, Copy, Debug, PartialEq, Eq)]
+pub enum FileWord<'a> {
+    /// The path of a file: a word that doesn't end with `/`.
+    Plain(&'a str),
+    /// The path of a folder: a word without the `/` at its end.
+    Folder(&'a str),
+}
+
+/// What a word among the files stands for.
+pub fn file_word<'a>(word: &'a str) -> FileWord<'a>
+    ensures { file_view result ≡ file_text word.entry.now }
+{
+    match word.strip_suffix("/") {
+        Some(path) => FileWord::Folder(path),
+        None => FileWord::Plain(word),
+    }
+}
+
+/// Whether the bytes are neither empty nor `.` nor `..`.
+fn is_component(bytes: &[u8]) -> bool
+    ensures { result ≡ is_component bytes.now }
+{
+    match bytes {
+        [] => false,
+        [a] => *a != b'.',
+        [a, b] => !(*a == b'.' && *b == b'.'),
+        _ => true,
+    }
+}
+
+/// Whether each part between slashes is a name.
+fn are_components(bytes: &[u8]) -> bool
+    ensures { result ≡ list_all is_component (components bytes.now) }
+{
+    let mut rest = bytes;
+    'parts: while let Some(end) = rest.iter().position(|b| *b == b'/') {
+        if !is_component(&rest[..end]) {
+            return false;
+        }
+        rest = &rest[end + 1..];
+    }
+    is_component(rest)
+}
+
+/// Whether the path of a file or folder leads to no other folder.
+fn is_relative(word: &str) -> bool
+    ensures { result ≡ is_relative word.now }
+{
+    match file_word(word) {
+        FileWord::Plain(path) => are_components(path.as_bytes()),
+        FileWord::Folder(path) => are_components(path.as_bytes()),
+    }
+}
+
+/// Whether the path of each is so.
+pub fn all_relative(files: &[String]) -> bool
+    ensures { result ≡ list_all (λ f. is_relative (string_bytes f)) files.now }
+{
+    files.iter().all(|f| is_relative(f.as_str()))
+}
+
+/// The path of a file in a folder.
+pub fn in_folder(alloc: Global, folder: &str, path: &str) -> Result<String, AllocError>
+    ensures { IfOk result (λ target. string_bytes target ≡ in_folder folder.now path.now) }
+{
+    if folder.as_bytes().ends_with(b"/") {
+        format!(in alloc; "{folder}{path}")
+    } else {
+        format!(in alloc; "{folder}/{path}")
+    }
+}
+
+/// Whether a word ends with `/`.
+fn ends_with_slash(word: &str) -> bool
+    ensures { result ≡ ends_with_slash word.now }
+{
+    word.as_bytes().ends_with(b"/")
+}
+
+/// The paths in a folder, if there is one, of the files that are no folders.
+pub fn targets_in(
+    alloc: Global,
+    dest: Option<&str>,
+    files: &[String],
+) -> Result<Vec<String>, AllocError>
+    ensures { IfOk result (λ targets. words_of targets.items ≡ targets_in (option_map (λ w. w.now) dest.entry) (words_of files.now)) }
+{
+    let mut targets = Vec::new(alloc);
+    let Some(dest) = dest else {
+        return Ok(targets);
+    };
+    'joining: for file in files {
+        if !ends_with_slash(file.as_str()) {
+            targets.push(in_folder(alloc, dest, file.as_str())?)?;
+        }
+    }
+    Ok(targets)
+}
+
+/// Whether the value of an option is the path of a file.
+fn is_path_option(name: &str) -> bool
+    ensures { result ≡ list_any (bytes_eq name.now) path_options }
+{
+    match name {
+        "plan" | "destfile" | "csv" | "exec" => true,
+        _ => false,
+    }
+}
+
+/// Puts words behind paths.
+fn put_words<'t>(paths: &mut Vec<&'t str>, words: &'t [String]) -> Result<(), Memory>
+    ensures { IfOk result (λ _. map (λ p. p.now) paths.new.items ≡ map (λ p. p.now) paths.old.items ++ words_of words.entry.now) }
+{
+    'putting: for word in words {
+        paths.push(word.as_str())?;
+    }
+    Ok(())
+}
+
+/// Puts the values that are paths behind paths.
+fn put_values<'t>(paths: &mut Vec<&'t str>, uses: &[Used<'t>]) -> Result<(), Memory>
+    ensures { IfOk result (λ _. map (λ p. p.now) paths.new.items ≡ map (λ p. p.now) paths.old.items ++ path_values (map used_view uses.now)) }
+{
+    'putting: for used in uses {
+        if is_path_option(used.name) {
+            paths.push(used.value)?;
+        }
+    }
+    Ok(())
+}
+
+/// The paths that words name: the files, the values that are paths, and these paths of the files in a folder.
+pub fn named_paths<'t>(
+    alloc: Global,
+    uses: &[Used<'t>],
+    files: &'t [String],
+    targets: &'t [String],
+) -> Result<Vec<&'t str>, Memory>
+    ensures { IfOk result (λ paths. map (λ p. p.now) paths.items
+        ≡ words_of files.entry.now ++ (path_values (map used_view uses.now) ++ words_of targets.entry.now)) }
+{
+    let mut paths = Vec::new(alloc);
+    put_words(&mut paths, files)?;
+    put_values(&mut paths, uses)?;
+    put_words(&mut paths, targets)?;
+    Ok(paths)
+}
+
+/// Whether no two of the texts are equal.
+pub fn are_distinct(alloc: Global, texts: &[&str]) -> Result<bool, Memory>
+    ensures { IfOk result (λ distinct. distinct ≡ are_distinct (map (λ t. t.now) texts.now)) }
+{
+    let mut seen = IndexSet::new(alloc);
+    'seeing: for text in texts {
+        let (_, is_new) = seen.insert_full(*text)?;
+        if !is_new {
+            return Ok(false);
+        }
+    }
+    Ok(true)
+}
