@@ -1,9 +1,8 @@
 -- The command that words call, by their parts and by tests.
-use Rattle.std.proofs.Common.{◌≡◌, ◌≢◌, ◌∙◌, ap, ap₂, sym, subst, refl, ℕ, ◌+◌, ◌*◌, ◌-◌, ◌≤◌, ◌<◌, Bool, true, false, not, ◌&&◌, ◌||◌, cond, nat_eq, nat_le, List, [], ◌∷◌, ◌++◌, map, length, Option, Some, None, arith, codes, true≢false, append_assoc, ◌⊎◌, inl, inr, unwrap_or, if◌then◌else◌}
+use Rattle.std.proofs.Common.{◌≡◌, ◌≢◌, ◌∙◌, ap, ap₂, sym, subst, refl, ℕ, ◌≤◌, Bool, true, false, ◌||◌, cond, List, [], ◌∷◌, ◌++◌, map, length, Option, Some, None, arith, codes, true≢false, ◌⊎◌, inl, inr, unwrap_or, if◌then◌else◌}
 use Rattle.std.proofs.lemmas.Slice.Eq.{bytes_eq-Decides}
 use Rattle.std.proofs.lemmas.List.{append-nil, length-map, length-append}
-use Rattle.std.proofs.lemmas.Bool.Decides.{nat_tests}
-use Rattle.std.specs.List.{fold, flat_map, list_any, list_all, IsDistinct}
+use Rattle.std.specs.List.{flat_map, list_any, list_all}
 use Rattle.std.specs.Str.{bytes_eq}
 use Rattle.jc_words.specs.declared.name.CommandName.{CommandName}
 use Rattle.jc_words.specs.declared.name.CommandName.TheVariants.{Instrument, Run, Merge, Report, ExecInfo, ClassInfo, Cover}
@@ -13,7 +12,7 @@ use Rattle.jc_words.specs.Paths.{FileText, file_text, path_of, are_relative, nam
 use Rattle.jc_words.specs.Numbers.{IsNumber, number_up_to}
 use Rattle.jc_words.specs.Scan.{Scan, scan}
 use Rattle.jc_words.specs.Commands.{Called, instrument, run, merge, report, exec_info, class_info, cover, cover_sample, default_name, IsWorkers, IsStated, IsCallOf, files_of, Means, by_call, by_sample, sample_use, NoForm}
-use Rattle.jc_words.specs.Decide.{is_call, is_some_file, is_stated, Values, values_of, workers_in, instrument_with, run_with, merge_with, report_with, cover_with, command_with, sample_of, sample_in, decide_call, decide_sample, decide_scan, decide_named, command_of}
+use Rattle.jc_words.specs.Decide.{is_call, is_some_file, is_stated, values_of, workers_in, instrument_with, run_with, merge_with, report_with, cover_with, command_with, sample_of, sample_in, decide_sample, decide_scan, decide_named, command_of}
 use Rattle.jc_words.proofs.BoolLaws.{and-parts, both_true}
 use Rattle.jc_words.proofs.PathLaws.{distinct_holds, distinct_passes}
 use Rattle.jc_words.proofs.ScanLaws.{SpellsIf, is_name, scan_finds, scan_ends, scan_spells}
@@ -21,7 +20,7 @@ use Rattle.jc_words.proofs.NumberLaws.{number_is, number_found}
 
 -- ---- the tests of a form decide it
 
-call_holds : (options : List Word) (s : Scan) → is_call options s ≡ true → IsCall options s.uses s.files
+pub call_holds : (options : List Word) (s : Scan) → is_call options s ≡ true → IsCall options s.uses s.files
 call_holds options s h =
     let a = and-parts (list_all (λ u. list_any (bytes_eq u.name) options) s.uses) _ h in
     let b = and-parts (are_distinct (map (λ u. u.name) s.uses)) _ a.1 in
@@ -128,7 +127,7 @@ module _ (c : Call) where
 
 -- ---- names
 
-name_is : (word : Word) (name : CommandName) → named word ≡ Some name → word ≡ text_of name
+pub name_is : (word : Word) (name : CommandName) → named word ≡ Some name → word ≡ text_of name
 name_is word name e = first (bytes_eq word (codes "instrument")) (bytes_eq word (codes "run")) (bytes_eq word (codes "merge")) (bytes_eq word (codes "report")) (bytes_eq word (codes "execinfo")) (bytes_eq word (codes "classinfo")) (bytes_eq word (codes "cover")) refl refl refl refl refl refl refl e
   where
     is : (text : Word) (this : CommandName) → bytes_eq word text ≡ true → text_of this ≡ text → Some this ≡ Some name → word ≡ text_of name

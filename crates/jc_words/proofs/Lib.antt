@@ -4,3 +4,6 @@ pub mod PathLaws
 pub mod FormLaws
 pub mod NumberLaws
 pub mod CommandLaws
+pub mod WalkLaws
+pub mod ReaderLaws
+pub mod ReadLaws

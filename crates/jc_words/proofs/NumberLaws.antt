@@ -1,9 +1,9 @@
 -- Decimal numbers, decided digit by digit.
-use Rattle.std.proofs.Common.{◌≡◌, ◌∙◌, ap, ap₂, sym, subst, refl, ℕ, ◌+◌, ◌*◌, ◌-◌, ◌≤◌, ◌<◌, Bool, true, false, not, ◌&&◌, cond, nat_eq, nat_le, List, [], ◌∷◌, Option, Some, None, arith, true≢false}
+use Rattle.std.proofs.Common.{◌≡◌, ap, sym, subst, refl, ℕ, ◌≤◌, Bool, true, false, not, ◌&&◌, cond, nat_eq, nat_le, [], ◌∷◌, Some, None, arith, true≢false}
 use Rattle.std.proofs.lemmas.Bool.Decides.{nat_tests}
 use Rattle.std.specs.List.{fold, list_all}
 use Rattle.jc_words.specs.Words.{Word}
-use Rattle.jc_words.specs.Numbers.{is_digit, one_more_digit, is_decimal, decimal_value, IsNumber, digits_up_to, number_up_to}
+use Rattle.jc_words.specs.Numbers.{is_digit, one_more_digit, IsNumber, digits_up_to, number_up_to}
 use Rattle.jc_words.proofs.BoolLaws.{and-parts, both_true}
 
 le_test : (a b : ℕ) → nat_le a b ≡ true → a ≤ b

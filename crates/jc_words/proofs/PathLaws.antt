@@ -1,17 +1,15 @@
 -- Paths among the words: their parts, and that they differ.
-use Rattle.std.proofs.Common.{◌≡◌, ℕ, zero, suc, ◌+◌, ◌<◌, ◌≤◌, Bool, true, false, not, ◌&&◌, ◌||◌, cond, List, [], ◌∷◌, ◌++◌, length, take, drop, get_or, map, Some, None, Bor, ◌-◌, ◌≢◌, codes, position, nat_eq, String, string_bytes, refl, sym, ◌∙◌, ap, ap₂, arith, append_assoc}
-use Rattle.std.specs.List.{ends_with, filter, list_all, list_any, position_or_len, AllByRecursion, IsDistinct}
+use Rattle.std.proofs.Common.{◌≡◌, ℕ, zero, suc, ◌+◌, ◌<◌, ◌≤◌, Bool, true, false, not, ◌&&◌, ◌||◌, cond, List, [], ◌∷◌, ◌++◌, length, take, drop, get_or, map, Some, None, Bor, ◌-◌, ◌≢◌, codes, position, nat_eq, refl, sym, ◌∙◌, ap, ap₂, arith, append_assoc}
+use Rattle.std.specs.List.{filter, list_all, list_any, position_or_len, AllByRecursion, IsDistinct}
 use Rattle.std.specs.Cmp.Lexicographic.{same_text}
 use Rattle.std.specs.Str.{bytes_eq}
 use Rattle.std.proofs.lemmas.Bool.{and_right, or_right}
 use Rattle.std.proofs.lemmas.List.Quantifiers.{position-Some}
 use Rattle.std.proofs.lemmas.List.Sums.{fails_before_first}
 use Rattle.std.proofs.lemmas.Slice.Eq.{bytes_eq-Decides}
-use Rattle.std.proofs.lemmas.Bool.Decides.{Decides-eqb}
 use Rattle.std.proofs.lemmas.List.{map-append, append-nil, take_all, take_more, take-append-drop}
-use Rattle.std.specs.declared.alloc.Global.{Global}
-use Rattle.jc_words.specs.Words.{Word, Use, words_of}
-use Rattle.jc_words.specs.Paths.{with_first, components, is_component, are_distinct, in_folder, ends_with_slash, is_path_use, path_values}
+use Rattle.jc_words.specs.Words.{Word}
+use Rattle.jc_words.specs.Paths.{with_first, components, is_component, are_distinct, ends_with_slash}
 use Rattle.jc_words.proofs.BoolLaws.{and-parts, both_true, either-false}
 
 -- ---- parts of a path

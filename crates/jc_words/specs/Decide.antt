@@ -1,5 +1,5 @@
 -- The command that words call, decided by tests.
-use Rattle.std.specs.Prelude.{ℕ, Bool, true, false, not, ◌&&◌, List, [], ◌∷◌, map, codes, Option, Some, None, option_map, unwrap_or, if◌then◌else◌}
+use Rattle.std.specs.Prelude.{ℕ, Bool, true, false, ◌&&◌, List, [], ◌∷◌, map, codes, Option, Some, None, unwrap_or, if◌then◌else◌}
 use Rattle.std.specs.List.{list_all, list_any}
 use Rattle.std.specs.Str.{bytes_eq}
 use Rattle.jc_words.specs.declared.name.CommandName.{CommandName}
@@ -34,6 +34,7 @@ pub record Values : Type 0 where
   pub workers : Option Word
   pub name : Option Word
   pub exec : Option Word
+  pub sample : Option Word
   pub files : List Word
 
 abbrev pub values_of : List Use → List Word → Values
@@ -45,6 +46,7 @@ values_of uses files = record {
   workers = value_of uses (codes "workers");
   name = value_of uses (codes "name");
   exec = value_of uses (codes "exec");
+  sample = value_of uses (codes "sample");
   files = files;
 }
 
@@ -99,6 +101,24 @@ sample_in Merge s = None
 sample_in Report s = None
 sample_in ExecInfo s = None
 sample_in ClassInfo s = None
+
+-- `--sample` stands alone, with a value that is neither empty nor begins with `-`
+abbrev pub is_sample_of : List Use → Bool → List Word → Bool
+is_sample_of (u ∷ []) false [] = bytes_eq u.name (codes "sample") && is_plain u.value
+is_sample_of _ _ _ = false
+
+abbrev pub is_sample : CommandName → Scan → Bool
+is_sample Cover s = is_sample_of s.uses s.dash s.files
+is_sample Instrument s = false
+is_sample Run s = false
+is_sample Merge s = false
+is_sample Report s = false
+is_sample ExecInfo s = false
+is_sample ClassInfo s = false
+
+abbrev pub methods_in : Option Word → Option ℕ
+methods_in None = None
+methods_in (Some text) = number_up_to 1000 text
 
 abbrev pub decide_call : CommandName → Scan → Option Called
 decide_call name s = if is_stated name s then command_with name (values_of s.uses s.files) else None

@@ -1,5 +1,5 @@
 -- The commands, by their names, and the form of the words behind each.
-use Rattle.std.specs.Prelude.{◌≢◌, ℕ, Bool, List, [], ◌∷◌, map, codes, Option, Some, None, IsTrue, if◌then◌else◌}
+use Rattle.std.specs.Prelude.{◌≢◌, Bool, List, [], ◌∷◌, map, codes, Option, Some, None, IsTrue, if◌then◌else◌}
 use Rattle.std.specs.List.{list_all, list_any, IsDistinct}
 use Rattle.std.specs.Str.{bytes_eq}
 use Rattle.jc_words.specs.declared.name.CommandName.{CommandName}

@@ -8,3 +8,6 @@ pub mod Commands
 pub mod Decide
 pub mod Seen
 pub mod Outcome
+pub mod Reader
+pub mod Taken
+pub mod Reads

@@ -1,5 +1,5 @@
 -- What a clause sees of words that were cut, and of files.
-use Rattle.std.specs.Prelude.{ℕ, List, map}
+use Rattle.std.specs.Prelude.{map}
 use Rattle.jc_words.specs.declared.scan.Look.{Look}
 use Rattle.jc_words.specs.declared.scan.Look.TheVariants as look
 use Rattle.jc_words.specs.declared.scan.Used.{Used}

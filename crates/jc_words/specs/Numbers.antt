@@ -1,5 +1,5 @@
 -- Decimal numbers without sign and leading zero.
-use Rattle.std.specs.Prelude.{◌≡◌, ◌≤◌, ◌+◌, ◌-◌, ◌*◌, ℕ, Bool, true, false, not, ◌&&◌, List, [], ◌∷◌, Option, Some, None, nat_eq, nat_le, IsTrue, if◌then◌else◌}
+use Rattle.std.specs.Prelude.{◌≡◌, ◌≤◌, ◌+◌, ◌-◌, ◌*◌, ℕ, Bool, false, not, ◌&&◌, [], ◌∷◌, Option, Some, None, nat_eq, nat_le, IsTrue, if◌then◌else◌}
 use Rattle.std.specs.List.{fold, list_all}
 use Rattle.jc_words.specs.Words.{Word}
 

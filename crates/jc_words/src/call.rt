@@ -51,7 +51,7 @@ fn once(uses: &[Used<'_>]) -> bool
 }
 
 /// Whether a word is neither empty nor begins with `-`.
-fn is_plain(word: &str) -> bool
+pub fn is_plain(word: &str) -> bool
     ensures { result ≡ is_plain word.now }
 {
     !matches!(word.as_bytes(), [] | [b'-', ..])

@@ -2,7 +2,7 @@
 ghost use Rattle.std.specs.Prelude.{◌≡◌, IfOk, map};
 ghost use Rattle.std.specs.Option.{option_map};
 ghost use Rattle.jc_words.specs.Paths.{file_text};
-ghost use Rattle.jc_words.specs.Decide.{command_with, cover_with, instrument_with, merge_with, name_in, report_with, run_with, workers_in};
+ghost use Rattle.jc_words.specs.Decide.{command_with, cover_with, instrument_with, merge_with, methods_in, name_in, report_with, run_with, workers_in};
 ghost use Rattle.jc_words.specs.Looks.{file_view};
 ghost use Rattle.jc_words.specs.Seen.{command_seen, given_seen, text_seen};
 
@@ -73,6 +73,7 @@ pub struct Given<'a> {
     pub workers: Option<&'a str>,
     pub name: Option<&'a str>,
     pub exec: Option<&'a str>,
+    pub sample: Option<&'a str>,
     pub files: Vec<&'a str>,
 }
 
@@ -89,6 +90,19 @@ fn workers_in(given: Option<&str>) -> Option<u32>
     match given {
         Some(text) => number_up_to(MOST_WORKERS, text),
         None => Some(1),
+    }
+}
+
+/// The most methods of the generated class.
+const MOST_METHODS: u32 = 1000;
+
+/// The number from 1 to 1000 that is given.
+pub fn methods_in(given: Option<&str>) -> Option<u32>
+    ensures { result ≡ methods_in (text_seen given.entry) }
+{
+    match given {
+        Some(text) => number_up_to(MOST_METHODS, text),
+        None => None,
     }
 }
 

@@ -7,6 +7,7 @@ mod name;
 mod number;
 mod paths;
 mod read;
+mod reader;
 mod scan;
 
 pub use command::{Command, Given};

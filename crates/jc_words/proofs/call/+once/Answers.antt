@@ -1,4 +1,4 @@
-use Rattle.std.proofs.Common.{◌≡◌, ◌∙◌, sym}
+use Rattle.std.proofs.Common.{◌∙◌, sym}
 use Rattle.jc_words.proofs.FormLaws.{once_twice, once_first}
 use Rattle.jc_words.proofs.call.+once.Goals as goal
 

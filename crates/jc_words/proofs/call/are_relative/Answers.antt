@@ -1,4 +1,4 @@
-use Rattle.std.proofs.Common.{◌≡◌, ◌∙◌, ap, sym, refl, not, ◌||◌, string_bytes, String, List, ℕ, Bool}
+use Rattle.std.proofs.Common.{◌∙◌, ap, sym, not, ◌||◌, string_bytes, String, List, ℕ, Bool}
 use Rattle.std.specs.declared.alloc.Global.{Global}
 use Rattle.std.specs.List.{list_all}
 use Rattle.jc_words.specs.Words.{words_of}

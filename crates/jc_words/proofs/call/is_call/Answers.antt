@@ -1,4 +1,4 @@
-use Rattle.std.proofs.Common.{◌≡◌, ◌∙◌, ap, sym, refl, string_bytes, List, ℕ, String}
+use Rattle.std.proofs.Common.{◌∙◌, sym, string_bytes, List, ℕ, String}
 use Rattle.std.specs.declared.alloc.Global.{Global}
 use Rattle.jc_words.specs.Forms.{options_of}
 use Rattle.jc_words.specs.Looks.{used_view}

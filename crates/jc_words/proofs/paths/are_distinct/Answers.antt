@@ -1,4 +1,4 @@
-use Rattle.std.proofs.Common.{◌≡◌, ◌∙◌, ap, sym, refl, get_or, Bor, List, ℕ, [], not, ◌++◌, ◌∷◌, if◌then◌else◌}
+use Rattle.std.proofs.Common.{◌∙◌, sym, refl, get_or, Bor, []}
 use Rattle.std.proofs.lemmas.List.{get_or_default}
 use Rattle.std.proofs.lemmas.Bool.{not-false, not-true}
 use Rattle.jc_words.specs.Words.{Word}

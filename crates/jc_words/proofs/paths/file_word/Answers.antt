@@ -1,4 +1,4 @@
-use Rattle.std.proofs.Common.{◌≡◌, ◌∙◌, ap, sym, refl}
+use Rattle.std.proofs.Common.{refl}
 use Rattle.jc_words.proofs.PathLaws.{no_slash_behind}
 use Rattle.jc_words.proofs.paths.file_word.Goals as goal
 

@@ -1,4 +1,4 @@
-use Rattle.std.proofs.Common.{◌≡◌, ◌++◌, map, take}
+use Rattle.std.proofs.Common.{◌≡◌, ◌++◌, take}
 use Rattle.jc_words.specs.Words.{words_of}
 use Rattle.jc_words.proofs.PathLaws.{texts}
 use Rattle.jc_words.proofs.paths.put_words.Given as goal

@@ -1,8 +1,7 @@
-use Rattle.std.proofs.Common.{◌≡◌, ◌∙◌, ◌+◌, ◌++◌, ◌∷◌, [], ap, ap₂, sym, Option, true, false, length, map, drop, None, Some, List, option_map, arith, rules}
+use Rattle.std.proofs.Common.{◌∙◌, ◌+◌, ap, ap₂, sym, Option, true, false, length, map, drop, Some, option_map}
 use Rattle.std.proofs.lemmas.List.{map-append}
 use Rattle.std.proofs.Math.Seq.{drop-length}
 use Rattle.std.specs.String.{string_bytes}
-use Rattle.jc_words.specs.Words.{Word}
 use Rattle.jc_words.specs.Looks.{used_view}
 use Rattle.jc_words.specs.Scan.{Scan, scan}
 use Rattle.jc_words.proofs.ScanLaws.{prepend, slice_range-drop, words_from, no_words_from, step_dashes, step_other, step_named, step_joined, step_value, end_pending, end_none}

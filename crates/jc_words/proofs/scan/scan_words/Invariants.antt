@@ -1,4 +1,4 @@
-use Rattle.std.proofs.Common.{◌≡◌, List, map, drop, option_map, None}
+use Rattle.std.proofs.Common.{◌≡◌, map, drop, option_map, None}
 use Rattle.std.specs.String.{string_bytes}
 use Rattle.jc_words.specs.Looks.{used_view}
 use Rattle.jc_words.specs.Scan.{scan}
