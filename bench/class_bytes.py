@@ -9,7 +9,8 @@ The lines of METHODS make a class file (JVM Specification 4.1), which is printed
 <<<<<<< HEAD
     flags FLAGS             the flags of the class, 0x21 without this line
     extends NAME            its superclass, java/lang/Object without this line
-    field FLAGS NAME DESCRIPTOR CONSTANT..     a field with a ConstantValue for each constant, where `raw:HEX` is its bytes
+    field FLAGS NAME DESCRIPTOR CONSTANT..     a field with a ConstantValue attribute for each constant
+    constant CONSTANT       a further one of the last field; `bytes:` and digits stand for what an attribute holds
     probes ID COUNT         the field and the method by which an instrumented class asks for its probe array
 =======
     field FLAGS NAME DESCRIPTOR
@@ -120,12 +121,10 @@ class Field:
     def __init__(self, words):
         self.flags, self.name, self.desc, self.constants = int(words[0], 0), words[1], words[2], words[3:]
 
-    def value(self, pool, word):
-        return bytes.fromhex(word[4:]) if word.startswith("raw:") else u2(pool.constant(word))
-
     def member(self, pool):
-        values = b"".join(attribute(pool, "ConstantValue", self.value(pool, word)) for word in self.constants)
-        return u2(self.flags) + u2(pool.utf8(self.name)) + u2(pool.utf8(self.desc)) + u2(len(self.constants)) + values
+        names = u2(self.flags) + u2(pool.utf8(self.name)) + u2(pool.utf8(self.desc))
+        held = [bytes.fromhex(word[6:]) if word.startswith("bytes:") else u2(pool.constant(word)) for word in self.constants]
+        return names + u2(len(held)) + b"".join(attribute(pool, "ConstantValue", body) for body in held)
 
 
 def probe_array(name, number, count):
@@ -295,6 +294,8 @@ def class_bytes(lines, pool=None):
             extended = words[1]
         elif words[0] == "field":
             fields.append(Field(words[1:]))
+        elif words[0] == "constant":
+            fields[-1].constants.append(words[1])
         elif words[0] == "probes":
             probes = probe_array(name, words[1], int(words[2]))
 =======
