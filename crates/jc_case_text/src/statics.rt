@@ -16,7 +16,12 @@ fn value_end(alloc: Global, value: i64) -> Result<String, AllocError>
 }
 
 /// `static CLASS.FIELD VALUE`.
-fn static_line(alloc: Global, class: &[u8], field: &[u8], end: &StaticEnd) -> Result<Vec<u8>, AllocError>
+fn static_line(
+    alloc: Global,
+    class: &[u8],
+    field: &[u8],
+    end: &StaticEnd,
+) -> Result<Vec<u8>, AllocError>
     ensures { IfOk result (λ text. text.items ≡ static_line class.now field.now end.now) }
 {
     let value = value_end(alloc, end.value)?;
