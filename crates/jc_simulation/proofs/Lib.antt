@@ -23,5 +23,6 @@ pub mod BeginLaws
 pub mod RunItemLaws
 pub mod SideLaws
 pub mod TogetherLaws
+pub mod PushedLaws
 pub mod ApartLaws
 pub mod ProgramRunLaws
