@@ -36,6 +36,7 @@ impl World {
         ensures world { world_of self.new ≡ without_hits (run_from program.now (world_of self.old) turns.now) }
         ensures hits { Gained (S.hits sink.old) (run_from program.now (world_of self.old) turns.now).hits (S.hits sink.new) }
         ensures counts { S.counts sink.new ≡ S.counts sink.old }
+        ensures threads { length self.new.threads ≡ length self.old.threads }
         ensures fits { Fits program.now self.new }
     {
         'turning: for t in turns {
@@ -52,6 +53,7 @@ impl World {
         ensures hits { Gained (S.hits sink.old) (run_from program.now (world_of self.old) (turns_around (length self.old.threads) 0 turns)).hits
             (S.hits sink.new) }
         ensures counts { S.counts sink.new ≡ S.counts sink.old }
+        ensures threads { length self.new.threads ≡ length self.old.threads }
         ensures fits { Fits program.now self.new }
     {
         let threads = self.thread_count();
@@ -69,6 +71,7 @@ impl World {
         ensures hits { Gained (S.hits sink.old) (run_from program.now (world_of self.old) (turns_drawn (length self.old.threads) seed turns)).hits
             (S.hits sink.new) }
         ensures counts { S.counts sink.new ≡ S.counts sink.old }
+        ensures threads { length self.new.threads ≡ length self.old.threads }
         ensures fits { Fits program.now self.new }
     {
         let threads = self.thread_count();
@@ -89,6 +92,7 @@ impl World {
         ensures hits { Gained (S.hits sink.old) (run_from program.now (world_of self.old) (turns_of (length self.old.threads) schedule.now)).hits
             (S.hits sink.new) }
         ensures counts { S.counts sink.new ≡ S.counts sink.old }
+        ensures threads { length self.new.threads ≡ length self.old.threads }
         ensures fits { Fits program.now self.new }
     {
         match schedule {

@@ -42,6 +42,7 @@ impl World {
         ensures world { world_of self.new ≡ without_hits (step program.now (world_of self.old) thread) }
         ensures hits { Gained (S.hits sink.old) (step program.now (world_of self.old) thread).hits (S.hits sink.new) }
         ensures counts { S.counts sink.new ≡ S.counts sink.old }
+        ensures threads { length self.new.threads ≡ length self.old.threads }
         ensures fits { Fits program.now self.new }
     {
         if let Some(hit) = self.step(program, thread) {

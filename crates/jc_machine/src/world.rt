@@ -77,6 +77,7 @@ impl World {
         requires case { IsCase case.now }
         requires entries { AreEntries program.now case.now.threads entries.now }
         ensures world { IfOk result (λ world. world_of world ≡ begin program.now case.now.threads entries.now) }
+        ensures threads { IfOk result (λ world. length world.threads ≡ length case.now.threads) }
         ensures fits { IfOk result (λ world. Fits program.now world) }
     {
         let prepared = PreparedProgram::of(alloc, program)?;
@@ -115,6 +116,7 @@ impl World {
         requires entries { AreEntries program.now case.now.threads entries.now }
         requires fits { Fits program.now self.old }
         ensures world { world_of self.new ≡ begin program.now case.now.threads entries.now }
+        ensures threads { length self.new.threads ≡ length case.now.threads }
         ensures fits { Fits program.now self.new }
     {
         self.shared.reset(self.prepared.classes.as_slice());

@@ -1,10 +1,11 @@
-use Rattle.std.proofs.Common.{List, sym, ap, ◌∙◌, subst}
+use Rattle.std.proofs.Common.{List, length, sym, ap, ◌∙◌, subst}
 use Rattle.jc_programs.specs.declared.run_plan.ThreadLine.{ThreadLine}
 use Rattle.jc_operations.specs.declared.prepared.PreparedClass.{PreparedClass}
 use Rattle.jc_operations.specs.Prepared.{IsPrepared}
 use Rattle.jc_perform.specs.Contents.{first_shared}
 use Rattle.jc_world.specs.Begin.{first_threads}
 use Rattle.jc_machine.specs.Machines.{Machine}
+use Rattle.jc_machine.proofs.FirstLaws.{as_many_entries, length-first_threads}
 use Rattle.jc_machine.proofs.BeginLaws.{world_begins, machine_begins}
 use Rattle.jc_machine.proofs.world.World.begin.Goals as goal
 
@@ -33,3 +34,11 @@ returns-clause-fits c =
     (c.in_ok-shared.ensures
     ∙ (ap (λ (classes : List PreparedClass). first_shared classes) c.as_slice.ensures
     ∙ sym (ap (λ (m : Machine). first_shared m.prepared.classes) c.begin_threads.ensures))))))
+
+pub returns-clause-threads : goal.returns-clause-threads
+returns-clause-threads c =
+    let program = c.args.program.now in
+    let threads = c.args.case.now.threads in
+    ap (λ (m : Machine). length m.threads) c.begin_threads.ensures
+    ∙ (ap (λ (ts : List ThreadLine). length (first_threads program ts c.args.entries.now)) c.as_slice-2.ensures
+    ∙ length-first_threads program threads c.args.entries.now (as_many_entries program threads c.args.entries.now c.requires.entries))

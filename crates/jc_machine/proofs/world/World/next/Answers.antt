@@ -6,6 +6,7 @@ use Rattle.jc_perform.specs.Contents.{first_shared}
 use Rattle.jc_world.specs.Begin.{first_threads}
 use Rattle.jc_machine.specs.Machines.{Machine, Fits}
 use Rattle.jc_machine.specs.Kept.{machine_of}
+use Rattle.jc_machine.proofs.FirstLaws.{as_many_entries, length-first_threads}
 use Rattle.jc_machine.proofs.BeginLaws.{world_begins, machine_begins, as_many_statics}
 use Rattle.jc_machine.proofs.world.World.next.Goals as goal
 
@@ -37,3 +38,11 @@ returns-clause-fits c =
     (ap (λ (m : Machine). m.shared) c.begin_threads.ensures
     ∙ (c.reset.ensures ∙ (ap (λ (classes : List PreparedClass). first_shared classes) c.as_slice.ensures
     ∙ sym (ap (λ (m : Machine). first_shared m.prepared.classes) c.begin_threads.ensures)))))
+
+pub returns-clause-threads : goal.returns-clause-threads
+returns-clause-threads c =
+    let program = c.args.program.now in
+    let threads = c.args.case.now.threads in
+    ap (λ (m : Machine). length m.threads) c.begin_threads.ensures
+    ∙ (ap (λ (ts : List ThreadLine). length (first_threads program ts c.args.entries.now)) c.as_slice-2.ensures
+    ∙ length-first_threads program threads c.args.entries.now (as_many_entries program threads c.args.entries.now c.requires.entries))

@@ -1,5 +1,8 @@
-use Rattle.std.proofs.Common.{ℕ, List, sym, subst}
+use Rattle.std.proofs.Common.{ℕ, List, length, sym, ap, ◌∙◌, subst}
 use Rattle.jc_programs.specs.Probes.{InRange}
+use Rattle.jc_world.specs.World.{World}
+use Rattle.jc_machine.specs.Machines.{world_of}
+use Rattle.jc_machine.proofs.HitLaws.{step_threads}
 use Rattle.jc_machine.proofs.MachineLaws.{next_fits, hits_probes}
 use Rattle.jc_machine.proofs.ProbeLaws.{probe_within}
 use Rattle.jc_machine.proofs.world.World.turn.Goals as goal
@@ -22,3 +25,11 @@ pub returns-in_default-clause-fits : goal.returns-in_default-clause-fits
 returns-in_default-clause-fits g c =
     next_fits c.args.program.now c.args.self.now c.step.new.self c.args.thread c.requires.program c.requires.fits c.step.ensures.world c.step.ensures.prepared
     c.step.ensures.fields
+
+pub returns-in-Some-clause-threads : goal.returns-in-Some-clause-threads
+returns-in-Some-clause-threads g c =
+    ap (λ (w : World). length w.threads) c.step.ensures.world ∙ step_threads c.args.program.now (world_of c.args.self.now) c.args.thread
+
+pub returns-in_default-clause-threads : goal.returns-in_default-clause-threads
+returns-in_default-clause-threads g c =
+    ap (λ (w : World). length w.threads) c.step.ensures.world ∙ step_threads c.args.program.now (world_of c.args.self.now) c.args.thread
