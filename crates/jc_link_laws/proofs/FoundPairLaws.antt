@@ -116,7 +116,7 @@ module _ {X K : Type 0} (key : X → Option K) (same_or_not : (j k : K) → OrNo
   pub key_pair : ((a : ℕ) × (b : ℕ) × IsFirstPair (HaveOne key items) a b) ⊎ NoPair (HaveOne key items)
   key_pair = first_pair (HaveOne key items) have_or_not (length items) (λ a b h. slice_get_within items b h.b h.second_is)
 
-texts_or_not : (j k : List ℕ) → OrNot (j ≡ k)
+pub texts_or_not : (j k : List ℕ) → OrNot (j ≡ k)
 texts_or_not j k = by (true_or_not (bytes_eq j k))
   where
     by : OrNot (bytes_eq j k ≡ true) → OrNot (j ≡ k)

@@ -1,12 +1,11 @@
 -- What a class's added method asks for is found, or it has none that asks.
-use Rattle.std.proofs.Common.{◌≡◌, ◌⊎◌, inl, inr, ℕ, ℤ, ◌<◌, ◌≤◌, ◌^◌, Bool, true, false, List, Option, Some, None, bytes_eq, int_eq, refl, sym, ◌∙◌, ap, subst, arith}
+use Rattle.std.proofs.Common.{◌≡◌, ◌⊎◌, inl, inr, ℕ, ℤ, ◌<◌, ◌≤◌, ◌^◌, Bool, true, false, List, Option, Some, None, int_eq, refl, sym, ◌∙◌, ap, subst, arith}
 use Rattle.std.specs.Int.{w64, cast_signed, cast_unsigned}
 use Rattle.std.specs.Bool.{Decides}
 use Rattle.std.proofs.lemmas.Bool.{cases_lt}
 use Rattle.std.proofs.lemmas.Bool.Decides.{Decides-int_eq}
 use Rattle.std.proofs.lemmas.Int.{of_z-to_z}
 use Rattle.std.proofs.lemmas.Option.{none-some, same_Some}
-use Rattle.std.proofs.lemmas.Slice.Eq.{bytes_eq-Decides}
 use Rattle.jc_methods.specs.ProbeMembers.{data_name, data_type, runtime_class, fetch_name, fetch_type}
 use Rattle.jc_methods.specs.WellMade.{what_used}
 use Rattle.jc_methods.specs.declared.body.Body.{Body}
@@ -23,6 +22,7 @@ use Rattle.jc_linking.specs.ProbeInits.{places_of, asked_in, NamesMembers, AsksF
 use Rattle.jc_linking.specs.declared.probe_inits.Asked.{Asked}
 use Rattle.jc_linking.proofs.ProbeInitLaws.{asks_meant, Meant, meant_asks, none_asked}
 use Rattle.jc_linking.proofs.SameCodeLaws.{code_decided}
+use Rattle.jc_link_laws.proofs.FoundPairLaws.{texts_or_not}
 
 -- ---- facts
 
@@ -40,9 +40,6 @@ both : (A B : Type 0) → OrNot A → OrNot B → OrNot (A × B)
 both A B (inl a) (inl b) = inl (a, b)
 both A B (inl a) (inr never) = inr (λ p. never p.1)
 both A B (inr never) b = inr (λ p. never p.0)
-
-texts_or_not : (j k : List ℕ) → OrNot (j ≡ k)
-texts_or_not j k = decided (bytes_eq j k) (j ≡ k) (bytes_eq-Decides j k)
 
 -- ---- what stands at a place
 

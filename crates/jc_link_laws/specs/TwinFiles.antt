@@ -1,8 +1,9 @@
 -- The files of instrumented classes, beside the files from which they were made.
-use Rattle.std.specs.Prelude.{◌≡◌, ◌⊎◌, ⊤, ℕ, ◌<◌, ◌≤◌, true, List, [], ◌∷◌, length, Some, Contains}
+use Rattle.std.specs.Prelude.{◌≡◌, ◌⊎◌, ⊤, ℕ, ◌<◌, ◌≤◌, true, List, [], ◌∷◌, length, Some, Contains, codes}
 use Rattle.jc_bytes.specs.ByteLists.{AreBytes}
 use Rattle.jc_bytes.specs.Reader.{most_read}
 use Rattle.jc_methods.specs.EntryState.{is_static}
+use Rattle.jc_pool.specs.Lookup.{utf8_of}
 use Rattle.jc_pool.specs.Pool.{PoolValue}
 use Rattle.jc_class.specs.ClassText.{ClassText}
 use Rattle.jc_class.specs.declared.class_file.ClassFile.{ClassFile}
@@ -17,9 +18,11 @@ use Rattle.jc_linking.specs.Statics.{constant_place}
 abbrev pub NamesPlace : PoolValue → Member → Type 0
 NamesPlace pool field = (place : ℕ) → constant_place pool field.attributes ≡ Some place → place < length pool
 
--- That of each static field is. What a twin class needs stands behind these places.
+-- That of each static field of type long is. What a twin class needs stands behind these places, and may be a Long, but no
+-- Integer.
 abbrev pub NamePlaces : ClassFile → Type 0
-NamePlaces c = (field : Member) → Contains c.fields field → is_static field.flags ≡ true → NamesPlace c.pool field
+NamePlaces c =
+    (field : Member) → Contains c.fields field → is_static field.flags ≡ true → utf8_of c.pool field.desc ≡ Some (codes "J") → NamesPlace c.pool field
 
 -- the class of the bytes is such a one
 pub record HasConstants (bytes : List ℕ) : Type 0 where

@@ -16,8 +16,9 @@ use jc_bytes::Bytes;
 
 /// Where accepted files are linked to a program, and what was written of them is linked to a program in the same order,
 /// the texts of twins of the changed ones and the unchanged ones as they are, the second program is a twin of the first.
-/// Of a changed file each static field's ConstantValue attribute has to name a place of the constant pool, as it does in
-/// each class file (JVM Specification 4.7.2): a place behind the pool could name what the twin's pool has more.
+/// Of a changed file the ConstantValue attribute of each static field of type long has to name a place of the constant
+/// pool, as it does in each class file (JVM Specification 4.7.2): a place behind the pool could be that of the class's id
+/// in the twin's pool.
 pub fn twins_link(originals: &[Bytes], written: &[Bytes])
     ensures { (p : Program) (q : Program) → AllByRecursion IsShortFile originals.now → AllByRecursion AreBytes written.now
         → AreWrittenOf originals.now written.now → IsProgramOf originals.now p → IsProgramOf written.now q → TwinProgram p q }

@@ -8,11 +8,10 @@ ghost use Rattle.jc_methods.specs.ValueTypes.{Says};
 ghost use Rattle.jc_world.specs.Programs.{IsFirstOf, IsStatic};
 ghost use Rattle.jc_effects.specs.Narrowings.{narrowing_of};
 ghost use Rattle.jc_programs.specs.Narrowing.{narrowed};
-ghost use Rattle.jc_pool.specs.Lookup.{utf8_of};
 ghost use Rattle.jc_body.specs.Attributes.{bodies_of, has_name};
 ghost use Rattle.jc_class.specs.ClassFormat.{HasText, HasFieldDescriptor};
 ghost use Rattle.jc_class.specs.Writable.{IsClassFile, IsMember};
-ghost use Rattle.jc_linking.specs.Statics.{constant_place, first_number, has_clinit, int_at, is_clinit, long_at, number_at, place_in, single, static_with, statics_of};
+ghost use Rattle.jc_linking.specs.Statics.{as_static, constant_place, first_number, has_clinit, int_at, is_clinit, long_at, number_at, place_in, single, statics_of};
 
 use jc_bytes::{Bytes, List, Memory};
 use jc_class::{Attribute, ClassFile, Member};
@@ -132,7 +131,7 @@ fn first_number(pool: &Pool, desc: &[u8], attributes: &[Attribute]) -> i64
 fn static_field(alloc: Global, pool: &Pool, field: &Member) -> Result<StaticField, Memory>
     requires { IsMember (HasText pool.now) (HasFieldDescriptor pool.now) field.now }
     ensures fits { IfOk result IsStatic }
-    ensures field { IfOk result (λ f. static_with pool.now field.now (utf8_of pool.now field.now.name) (utf8_of pool.now field.now.desc) ≡ f ∷ []) }
+    ensures field { IfOk result (λ f. as_static pool.now field.now ≡ f ∷ []) }
 {
     let name = pool.utf8_at(field.name).unwrap_or(&[]);
     let desc = pool.utf8_at(field.desc).unwrap_or(&[]);
