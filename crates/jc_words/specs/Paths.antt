@@ -1,5 +1,6 @@
 -- Paths among the words.
-use Rattle.std.specs.Prelude.{◌-◌, ℕ, Bool, true, false, not, ◌&&◌, ◌||◌, List, [], ◌∷◌, ◌++◌, length, take, map, codes, nat_eq, Option, Some, None, if◌then◌else◌}
+use Rattle.std.specs.Prelude.{◌-◌, ℕ, Bool, true, false, not, ◌&&◌, ◌||◌, List, []}
+use Rattle.std.specs.Prelude.{◌∷◌, ◌++◌, length, take, map, codes, nat_eq, Option, Some, None, if◌then◌else◌}
 use Rattle.std.specs.List.{ends_with, filter, list_all, list_any}
 use Rattle.std.specs.Str.{bytes_eq}
 use Rattle.jc_words.specs.declared.name.CommandName.{CommandName}

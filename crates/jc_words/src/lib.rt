@@ -10,7 +10,6 @@ mod read;
 mod reader;
 mod scan;
 
-pub use command::{Command, Given};
-pub use name::CommandName;
+pub use command::Command;
 pub use paths::{FileWord, in_folder};
 pub use read::{Usage, each_list_of_words_calls_one_command, read_words};

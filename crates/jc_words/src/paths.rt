@@ -4,7 +4,8 @@ ghost use Rattle.std.specs.Option.{option_map};
 ghost use Rattle.std.specs.List.{list_all, list_any};
 ghost use Rattle.std.specs.Str.{bytes_eq};
 ghost use Rattle.jc_words.specs.Words.{words_of};
-ghost use Rattle.jc_words.specs.Paths.{components, ends_with_slash, file_text, in_folder, is_component, is_relative, path_options, path_values, targets_in, are_distinct};
+ghost use Rattle.jc_words.specs.Paths.{components, ends_with_slash, file_text, in_folder, is_component};
+ghost use Rattle.jc_words.specs.Paths.{is_relative, path_options, path_values, targets_in, are_distinct};
 ghost use Rattle.jc_words.specs.Looks.{file_view, used_view};
 
 use crate::scan::Used;
