@@ -1,1 +1,4 @@
 mod ClaimLaws
+mod NumberLaws
+mod RanLaws
+mod CaseLaws

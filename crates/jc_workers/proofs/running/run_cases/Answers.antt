@@ -1,0 +1,30 @@
+use Rattle.std.proofs.Common.{◌≡◌, length, arith, sym, ap, ap₂, ◌∙◌, subst, subst₂}
+use Rattle.jc_programs.specs.declared.run_plan.RunPlan.{RunPlan}
+use Rattle.jc_programs.specs.declared.run_end.CaseEnd.{CaseEnd}
+use Rattle.jc_workers.specs.Cases.{case_at, end_under, ends_under, HitBy, AreHits}
+use Rattle.jc_workers.specs.Drawing.{AllDrew}
+use Rattle.jc_workers.proofs.CaseLaws.{then_ok, ends_in_order, hits_of_all}
+use Rattle.jc_workers.proofs.running.run_cases.Goals as goal
+
+pub collect-requires-clause-gave : goal.collect-requires-clause-gave
+collect-requires-clause-gave g c =
+    let runner = c.in_ok-runner.runner in
+    let gave = c.in_ok-gave.gave in
+    let cases : c.len-cases.result ≡ length runner.plan.now.cases = c.len-cases.ensures ∙ sym (ap (λ (p : RunPlan). length p.cases) c.in_ok-runner.ensures.1) in (
+      omega (arith, c.in_ok-gave.ensures.0, c.in_ok-turns.ensures.turns.1, c.requires.workers.0),
+      subst (λ n. AllDrew {E = CaseEnd} c.args.board.now.table c.in_ok-claims.claims.table n (λ k. end_under runner.program.now (case_at runner.plan.now k))
+          (HitBy runner.program.now runner.plan.now) gave.items) cases c.in_ok-gave.ensures.1,
+    )
+
+pub returns-clause-ends : goal.returns-clause-ends
+returns-clause-ends g c =
+    let runner = c.in_ok-runner.runner in
+    then_ok c.collect.result _ _ c.collect.ensures.ends
+    (λ r h. ends_in_order runner.program.now runner.plan.now r.0.items h ∙ ap₂ ends_under c.in_ok-runner.ensures.0 c.in_ok-runner.ensures.1)
+
+pub returns-clause-hits : goal.returns-clause-hits
+returns-clause-hits g c =
+    let runner = c.in_ok-runner.runner in
+    then_ok c.collect.result _ _ c.collect.ensures.seat
+    (λ r h. subst₂ (λ program plan. AreHits program plan r.1.hits) c.in_ok-runner.ensures.0 c.in_ok-runner.ensures.1
+    (hits_of_all runner.program.now runner.plan.now r.1.hits h.2))

@@ -1,0 +1,83 @@
+//! The results of the workers, put together.
+ghost use Rattle.std.specs.Prelude.{◌≡◌, ℕ, ◌+◌, ◌*◌, ◌<◌, [], length, Contains, IfOk, Some, None, replicate, slice_get, vec_len};
+ghost use Rattle.std.specs.List.{filter_map};
+ghost use Rattle.jc_workers.specs.Ran.{HitsOf, AreEnds};
+ghost use Rattle.jc_workers.specs.Drawing.{AllDrew};
+
+use crate::pool::Drew;
+use crate::runner::CaseRunner;
+use crate::{Claims, Drawer};
+use jc_board::{Board, Seat};
+use jc_bytes::Memory;
+use std::alloc::Global;
+
+// So many ends, of which none is there.
+fn no_ends<E: Drop>(alloc: Global, cases: usize) -> Result<Vec<Option<E>>, Memory>
+    ensures { IfOk result (λ v. v.items ≡ replicate cases None) }
+{
+    let mut ends = Vec::with_capacity(alloc, cases)?;
+    'making: for _ in 0..cases {
+        ends.push(None)?;
+    }
+    Ok(ends)
+}
+
+// Puts the ends of a worker at their places.
+fn place<C: CaseRunner>(_runner: &C, ends: &mut Vec<Option<C::End>>, mut done: Vec<(usize, C::End)>)
+where
+    C::End: Drop,
+    requires { (k : ℕ) (e : C.End) → Contains done.items (k, e) → (k < vec_len ends.old) × (e ≡ C.end_of _runner.now k) }
+    ensures len { vec_len ends.new ≡ vec_len ends.old }
+    ensures kept { (k : ℕ) → slice_get ends.old.items k ≡ Some (Some (C.end_of _runner.now k)) → slice_get ends.new.items k ≡ Some (Some (C.end_of _runner.now k)) }
+    ensures placed { (k : ℕ) (e : C.End) → Contains done.items (k, e) → slice_get ends.new.items k ≡ Some (Some (C.end_of _runner.now k)) }
+{
+    'placing: while let Some((case, end)) = done.pop() {
+        ends[case] = Some(end);
+    }
+}
+
+// The ends that are there.
+fn all_ends<E: Drop>(alloc: Global, ends: Vec<Option<E>>) -> Result<Vec<E>, Memory>
+    ensures { IfOk result (λ v. v.items ≡ filter_map (λ end. end) ends.items) }
+{
+    let mut all = Vec::with_capacity(alloc, ends.len())?;
+    'taking: for end in ends {
+        if let Some(end) = end {
+            all.push(end)?;
+        }
+    }
+    Ok(all)
+}
+
+/// Joins the seats and the drawers, and puts the ends in the order of the cases.
+pub fn collect<C: CaseRunner>(
+    alloc: Global,
+    runner: &C,
+    board: &Board,
+    claims: Claims,
+    mut seat: Seat,
+    mut drawer: Drawer,
+    mut gave: Vec<Result<Drew<C::End>, Memory>>,
+) -> Result<(Vec<C::End>, Seat), Memory>
+where
+    C::End: Drop,
+    requires gave { (0 < vec_len gave) × AllDrew board.now.table claims.table (C.cases runner.now) (C.end_of runner.now) (C.hits runner.now) gave.items }
+    requires seat { (seat.table ≡ board.now.table) × (seat.hits ≡ []) × (seat.part + 2048 * vec_len gave ≡ 65536) }
+    requires drawer { (drawer.table ≡ claims.table) × (drawer.numbers ≡ []) × (drawer.budget ≡ 0) × (claims.budget ≡ vec_len gave * (C.cases runner.now + 1)) }
+    ensures ends { IfOk result (λ r. AreEnds (C.cases runner.now) (C.end_of runner.now) r.0.items) }
+    ensures seat { IfOk result (λ r. (r.1.table ≡ board.now.table) × (r.1.part ≡ 65536) × HitsOf (C.cases runner.now) (C.hits runner.now) (λ _. Unit {0}) r.1.hits) }
+{
+    let mut ends = no_ends(alloc, runner.case_count())?;
+    'joining: while let Some(result) = gave.pop() {
+        let Drew {
+            ends: done,
+            seat: other,
+            drawer: drew,
+        } = result?;
+        seat.join(board, other);
+        drawer.join(&claims, drew);
+        place(runner, &mut ends, done);
+    }
+    claims.close(drawer);
+    Ok((all_ends(alloc, ends)?, seat))
+}

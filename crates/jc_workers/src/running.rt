@@ -1,0 +1,92 @@
+//! The cases of a plan on workers.
+ghost use Rattle.std.specs.Prelude.{◌≡◌, ◌+◌, ◌*◌, ◌<◌, ◌≤◌, [], length, IfOk, vec_len};
+ghost use Rattle.jc_programs.specs.Turns.{IsRunPlan};
+ghost use Rattle.jc_world.specs.Programs.{IsProgram};
+ghost use Rattle.jc_machine.specs.Hits.{probe_counts};
+ghost use Rattle.jc_workers.specs.Cases.{HaveEntries, IsRunnable, case_at, end_under, ends_under, HitBy, AreHits};
+ghost use Rattle.jc_workers.specs.Drawing.{AreTurns, AllDrew};
+
+use crate::plan_runner::PlanRunner;
+use crate::pool::{Drew, Turn, deal, take_turn};
+use crate::results::collect;
+use crate::{Claims, Gate};
+use jc_board::{Board, Seat};
+use jc_bytes::Memory;
+use jc_programs::{CaseEnd, Program, RunPlan};
+use std::alloc::Global;
+use std::marker::Sync;
+use std::thread;
+use std::thread::Threads;
+
+/// The turns of all workers, each in a thread of its own where one can be started.
+fn take_turns<R: Threads + Sync, G: Gate + Sync>(
+    rt: &R,
+    alloc: Global,
+    runner: &PlanRunner<'_>,
+    cases: usize,
+    gate: &G,
+    board: &Board,
+    claims: &Claims,
+    turns: Vec<Turn>,
+) -> Result<Vec<Result<Drew<CaseEnd>, Memory>>, Memory>
+    requires turns { AreTurns board.now.table claims.now.table (cases + 1) turns.items }
+    requires runner { IsRunnable runner.now.program.now runner.now.plan.now runner.now.entries.items }
+    requires cases { (cases ≡ length runner.now.plan.now.cases) × (cases ≤ 256) }
+    requires counts { board.now.counts ≡ probe_counts runner.now.program.now }
+    ensures { IfOk result (λ gave. (vec_len gave ≡ vec_len turns)
+        × AllDrew board.now.table claims.now.table cases (λ k. end_under runner.now.program.now (case_at runner.now.plan.now k)) (HitBy runner.now.program.now runner.now.plan.now) gave.items) }
+{
+    Ok(thread::map_vec(
+        rt,
+        turns,
+        &|turn| take_turn(alloc, runner, cases, gate, board, claims, turn),
+    )?)
+}
+
+/// Runs the cases of a plan on so many workers. Each worker has one world for all its cases, draws the next case where it has
+/// ended one, and calls `gate.pass` once when it begins a case, whose number counts from 1. Where a thread can't be started the
+/// caller does its work.
+///
+/// The ends come in the plan's order, whatever worker ran the case and whenever. The seat that comes back has the whole part and
+/// exactly the hits of all cases.
+///
+/// # Errors
+///
+/// `Memory` where memory was refused. The seat is gone then.
+pub fn run_cases<R: Threads + Sync, G: Gate + Sync>(
+    rt: &R,
+    alloc: Global,
+    program: &Program,
+    plan: &RunPlan,
+    workers: u32,
+    gate: &G,
+    board: &Board,
+    seat: Seat,
+) -> Result<(Vec<CaseEnd>, Seat), Memory>
+    requires program { IsProgram program.now }
+    requires plan { IsRunPlan plan.now }
+    requires entries { HaveEntries program.now plan.now }
+    requires workers { (1 ≤ workers) × (workers ≤ 16) }
+    requires board { board.now.counts ≡ probe_counts program.now }
+    requires seat { (seat.table ≡ board.now.table) × (seat.part ≡ 65536) × (seat.hits ≡ []) }
+    ensures ends { IfOk result (λ r. r.0.items ≡ ends_under program.now plan.now) }
+    ensures part { IfOk result (λ r. (r.1.table ≡ board.now.table) × (r.1.part ≡ 65536)) }
+    ensures hits { IfOk result (λ r. AreHits program.now plan.now r.1.hits) }
+{
+    let mut seat = seat;
+    let workers = workers as usize;
+    let cases = plan.cases.len();
+    let runner = PlanRunner::new(alloc, program, plan)?;
+    let (claims, mut drawer) = Claims::new(alloc, workers as u64 * (cases as u64 + 1))?;
+    let turns = deal(
+        alloc,
+        cases,
+        board,
+        &claims,
+        &mut seat,
+        &mut drawer,
+        workers,
+    )?;
+    let gave = take_turns(rt, alloc, &runner, cases, gate, board, &claims, turns)?;
+    collect(alloc, &runner, board, claims, seat, drawer, gave)
+}
