@@ -6,16 +6,11 @@
 The lines of METHODS make a class file (JVM Specification 4.1), which is printed in hexadecimal digits:
 
     class NAME MAJOR
-<<<<<<< HEAD
     flags FLAGS             the flags of the class, 0x21 without this line
     extends NAME            its superclass, java/lang/Object without this line
     field FLAGS NAME DESCRIPTOR CONSTANT..     a field with a ConstantValue attribute for each constant
     constant CONSTANT       a further one of the last field; `bytes:` and digits stand for what an attribute holds
     probes ID COUNT         the field and the method by which an instrumented class asks for its probe array
-=======
-    field FLAGS NAME DESCRIPTOR
-    constant CONSTANT       a ConstantValue attribute of the last field; `bytes:` and digits stand for what it holds
->>>>>>> 2cca98e (Files have a program or a refusal; link by jc_link, with rows)
     method FLAGS NAME DESCRIPTOR MAX_STACK MAX_LOCALS
     MNEMONIC OPERANDS       the next instruction of the method
     frame AT TYPES | TYPES  a stack map frame: its instruction, the local variables, and the stack
@@ -258,36 +253,19 @@ class Method:
         return names + u2(1) + attribute(pool, "Code", self.code(pool)) if self.insns else names + u2(0)
 
 
-class Field:
-    """A field: its ConstantValue attributes, as words."""
-
-    def __init__(self, words):
-        self.flags, self.name, self.desc, self.constants = int(words[0], 0), words[1], words[2], []
-
-    def member(self, pool):
-        names = u2(self.flags) + u2(pool.utf8(self.name)) + u2(pool.utf8(self.desc))
-        held = [bytes.fromhex(word[6:]) if word.startswith("bytes:") else u2(pool.constant(word)) for word in self.constants]
-        return names + u2(len(held)) + b"".join(attribute(pool, "ConstantValue", body) for body in held)
-
-
 def attribute(pool, name, body):
     return u2(pool.utf8(name)) + u4(len(body)) + body
 
 
 def class_bytes(lines, pool=None):
     """The class file that lines make; `pool` has its constant pool afterwards."""
-<<<<<<< HEAD
     pool, name, major, methods, fields, flags, extended, probes = pool or Pool(), "A", 52, [], [], 0x21, "java/lang/Object", None
-=======
-    pool, name, major, fields, methods = pool or Pool(), "A", 52, [], []
->>>>>>> 2cca98e (Files have a program or a refusal; link by jc_link, with rows)
     for line in lines:
         words = line.split()
         if not words or words[0].startswith("#"):
             continue
         if words[0] == "class":
             name, major = words[1], int(words[2])
-<<<<<<< HEAD
         elif words[0] == "flags":
             flags = int(words[1], 0)
         elif words[0] == "extends":
@@ -298,12 +276,6 @@ def class_bytes(lines, pool=None):
             fields[-1].constants.append(words[1])
         elif words[0] == "probes":
             probes = probe_array(name, words[1], int(words[2]))
-=======
-        elif words[0] == "field":
-            fields.append(Field(words[1:]))
-        elif words[0] == "constant":
-            fields[-1].constants.append(words[1])
->>>>>>> 2cca98e (Files have a program or a refusal; link by jc_link, with rows)
         elif words[0] == "method":
             methods.append(Method(words[1:]))
         elif words[0] == "pad":
@@ -312,7 +284,6 @@ def class_bytes(lines, pool=None):
             {"frame": methods[-1].frames, "handler": methods[-1].handlers, "line": methods[-1].lines}[words[0]].append(words[1:])
         else:
             methods[-1].insns.append(words)
-<<<<<<< HEAD
     if probes:
         fields.append(probes[0])
         methods.append(probes[1])
@@ -321,13 +292,6 @@ def class_bytes(lines, pool=None):
     members += u2(len(methods)) + b"".join(method.member(pool) for method in methods)
     head = b"\xca\xfe\xba\xbe" + u2(0) + u2(major) + u2(pool.count) + pool.text
     return head + u2(flags) + u2(this) + u2(above) + u2(0) + members + u2(0)
-=======
-    this, above = pool.of_class(name), pool.of_class("java/lang/Object")
-    variables = b"".join(field.member(pool) for field in fields)
-    members = b"".join(method.member(pool) for method in methods)
-    head = b"\xca\xfe\xba\xbe" + u2(0) + u2(major) + u2(pool.count) + pool.text
-    return head + u2(0x21) + u2(this) + u2(above) + u2(0) + u2(len(fields)) + variables + u2(len(methods)) + members + u2(0)
->>>>>>> 2cca98e (Files have a program or a refusal; link by jc_link, with rows)
 
 
 if __name__ == "__main__":
