@@ -1,0 +1,155 @@
+//! Runs of the cases of a plan.
+ghost use Rattle.std.specs.Prelude.{◌≡◌, ◌≤◌, length, All, IfOk};
+ghost use Rattle.jc_programs.specs.Entries.{AreEntries};
+ghost use Rattle.jc_programs.specs.Probes.{counts_of};
+ghost use Rattle.jc_programs.specs.Turns.{AreThreads, IsCase, IsRunPlan};
+ghost use Rattle.jc_world.specs.Programs.{IsProgram};
+ghost use Rattle.jc_machine.specs.Hits.{count_in, probe_counts};
+ghost use Rattle.jc_machine.specs.Machines.{Fits};
+
+use crate::case_text::put_case;
+use crate::stop::Stop;
+use jc_machine::{BitSink, World, entry};
+use jc_programs::{Case, Entry, ProbeInit, Program, RunPlan, ThreadLine};
+use std::alloc::{AllocError, Global};
+
+/// How many probes there are.
+fn count_of(probes: Option<ProbeInit>) -> u32
+    ensures { result ≡ count_in probes }
+{
+    match probes {
+        Some(probes) => probes.count,
+        None => 0,
+    }
+}
+
+/// How many probes each class has.
+pub fn counts(alloc: Global, program: &Program) -> Result<Vec<u32>, AllocError>
+    ensures { IfOk result (λ counts. counts.items ≡ probe_counts program.now) }
+{
+    let mut counts = Vec::new(alloc);
+    'counting: for class in program.classes.as_slice() {
+        counts.push(count_of(class.probes))?;
+    }
+    Ok(counts)
+}
+
+/// The methods with which the threads begin.
+#[tactic(auto, using(crate::proofs::CaseLaws::one_entry_more))]
+fn entries(
+    alloc: Global,
+    program: &Program,
+    threads: &[ThreadLine],
+) -> Result<Vec<Entry>, Stop<'static>>
+    requires program { IsProgram program.now }
+    ensures { IfOk result (λ entries. AreEntries program.now threads.now entries.items) }
+{
+    let mut entries = Vec::new(alloc);
+    'looking: for thread in threads {
+        match entry(program, thread) {
+            Some(entry) => entries.push(entry)?,
+            None => return Err(Stop::NoEntry(thread.line)),
+        }
+    }
+    Ok(entries)
+}
+
+/// Runs a case that has begun, and puts its text.
+fn run_case(
+    alloc: Global,
+    program: &Program,
+    world: &mut World,
+    case: &Case,
+    number: u32,
+    sink: &mut BitSink,
+    text: &mut String,
+) -> Result<(), AllocError>
+    requires program { IsProgram program.now }
+    requires fits { Fits program.now world.old }
+    requires threads { AreThreads (length world.old.threads) case.now.schedule }
+    requires counts { counts_of sink.old ≡ probe_counts program.now }
+    ensures fits { Fits program.now world.new }
+    ensures counts { counts_of sink.new ≡ probe_counts program.now }
+{
+    world.run(program, &case.schedule, sink);
+    match world.end(alloc) {
+        Ok(end) => put_case(program, number, &end, text),
+        Err(_) => Err(AllocError),
+    }
+}
+
+/// Runs the first case, whose world is answered.
+#[tactic(auto, using(crate::proofs::CaseLaws::begun_threads))]
+fn run_first(
+    alloc: Global,
+    program: &Program,
+    case: &Case,
+    sink: &mut BitSink,
+    text: &mut String,
+) -> Result<World, Stop<'static>>
+    requires program { IsProgram program.now }
+    requires case { IsCase case.now }
+    requires counts { counts_of sink.old ≡ probe_counts program.now }
+    ensures fits { IfOk result (λ world. Fits program.now world) }
+    ensures counts { counts_of sink.new ≡ probe_counts program.now }
+{
+    let entries = entries(alloc, program, &case.threads)?;
+    let mut world = World::begin(alloc, program, case, &entries)?;
+    run_case(alloc, program, &mut world, case, 1, sink, text)?;
+    Ok(world)
+}
+
+/// Runs a later case in the world of the one before.
+#[tactic(auto, using(crate::proofs::CaseLaws::begun_threads))]
+fn run_next(
+    alloc: Global,
+    program: &Program,
+    world: &mut World,
+    case: &Case,
+    number: u32,
+    sink: &mut BitSink,
+    text: &mut String,
+) -> Result<(), Stop<'static>>
+    requires program { IsProgram program.now }
+    requires case { IsCase case.now }
+    requires fits { Fits program.now world.old }
+    requires counts { counts_of sink.old ≡ probe_counts program.now }
+    ensures fits { Fits program.now world.new }
+    ensures counts { counts_of sink.new ≡ probe_counts program.now }
+{
+    let entries = entries(alloc, program, &case.threads)?;
+    world.next(program, case, &entries);
+    run_case(alloc, program, world, case, number, sink, text)?;
+    Ok(())
+}
+
+/// Runs the cases: the first in a new world, and each other in the same one.
+pub fn run_cases(
+    alloc: Global,
+    program: &Program,
+    plan: &RunPlan,
+    sink: &mut BitSink,
+    text: &mut String,
+) -> Result<(), Stop<'static>>
+    requires program { IsProgram program.now }
+    requires plan { IsRunPlan plan.now }
+    requires counts { counts_of sink.old ≡ probe_counts program.now }
+    ensures { counts_of sink.new ≡ probe_counts program.now }
+{
+    let [first, others @ ..] = plan.cases.as_slice() else {
+        return Ok(());
+    };
+    let mut world = run_first(alloc, program, first, sink, text)?;
+    'running: for (before, case) in others.iter().enumerate() {
+        run_next(
+            alloc,
+            program,
+            &mut world,
+            case,
+            before as u32 + 2,
+            sink,
+            text,
+        )?;
+    }
+    Ok(())
+}
