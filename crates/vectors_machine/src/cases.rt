@@ -7,11 +7,12 @@ ghost use Rattle.jc_world.specs.Programs.{IsProgram};
 ghost use Rattle.jc_machine.specs.Hits.{count_in, probe_counts};
 ghost use Rattle.jc_machine.specs.Machines.{Fits};
 
-use crate::case_text::put_case;
 use crate::stop::Stop;
+use jc_case_text::case_text;
 use jc_machine::{BitSink, World, entry};
-use jc_programs::{Case, Entry, ProbeInit, Program, RunPlan, ThreadLine};
+use jc_programs::{Case, CaseEnd, Entry, ProbeInit, Program, RunPlan, ThreadLine};
 use std::alloc::{AllocError, Global};
+use std::str;
 
 /// How many probes there are.
 fn count_of(probes: Option<ProbeInit>) -> u32
@@ -54,6 +55,20 @@ fn entries(
     Ok(entries)
 }
 
+/// Puts the text of a case.
+fn put_case(
+    alloc: Global,
+    program: &Program,
+    number: u32,
+    end: &CaseEnd,
+    text: &mut String,
+) -> Result<(), AllocError> {
+    match case_text(alloc, number, end, program) {
+        Ok(bytes) => text.push_str(str::from_utf8(&bytes).unwrap_or("?")),
+        Err(_) => Err(AllocError),
+    }
+}
+
 /// Runs a case that has begun, and puts its text.
 fn run_case(
     alloc: Global,
@@ -73,7 +88,7 @@ fn run_case(
 {
     world.run(program, &case.schedule, sink);
     match world.end(alloc) {
-        Ok(end) => put_case(program, number, &end, text),
+        Ok(end) => put_case(alloc, program, number, &end, text),
         Err(_) => Err(AllocError),
     }
 }

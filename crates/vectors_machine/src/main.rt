@@ -8,7 +8,6 @@
 #![tactic(auto)]
 
 mod calls;
-mod case_text;
 mod cases;
 mod shown;
 mod stop;
