@@ -1,0 +1,163 @@
+#!/usr/bin/env python3
+"""Looks up in the files what the documents name, and fails where something isn't there.
+
+docs/check.py          prints each name that isn't there, by page and line
+
+- A link leads to a file, and behind `#` to a heading of that page.
+- A link whose text is names in backquotes leads to a file that declares them, or in which they are clauses.
+- Each other name in backquotes stands somewhere in the repository; each name of a crate is that of one.
+- ARCHITECTURE.md: the files, calls and clauses of the promises; the crates, what each stands on and the longest chain, by
+  crates.txt; the counts of must-fail edits.
+"""
+import glob
+import os
+import re
+import sys
+from functools import cache
+
+TOP = os.path.dirname(os.path.dirname(os.path.abspath(__file__)))
+PAGES = ["README.md"] + sorted(os.path.relpath(page, TOP) for page in glob.glob(os.path.join(TOP, "docs", "*.md")))
+# Where a name may stand.
+SOURCES = ("crates/*/src/**/*.rt", "crates/*/specs/**/*.antt", "crates/*/proofs/**/*.antt", "crates/*/std*", "bench/*", "examples/**/*", "docs/*.py", "crates.txt")
+wrong = []
+
+
+@cache
+def read(path):
+    with open(os.path.join(TOP, path), encoding="utf-8") as it:
+        return it.read()
+
+
+def files(*patterns):
+    for pattern in patterns:
+        for path in glob.glob(os.path.join(TOP, pattern), recursive=True):
+            if os.path.isfile(path):
+                yield os.path.relpath(path, TOP)
+
+
+def is_there(path):
+    return os.path.exists(os.path.join(TOP, path))
+
+
+@cache
+def anchors(page):
+    heads = re.findall(r"^#+ (.*)$", read(page), re.M)
+    return {re.sub(r"[^\w\- ]", "", head.lower()).replace(" ", "-") for head in heads}
+
+
+@cache
+def declared(path):
+    """What a file declares: its items and clauses, or the definitions and lemmas in it."""
+    text = read(path)
+    if path.endswith(".rt"):
+        names = re.findall(r"\b(?:fn|struct|enum|trait|type|const)\s+(\w+)", text)
+        return set(names + re.findall(r"\b(?:ensures|requires)\s+(\w+)\s*\{", text))
+    return set(re.findall(r"^\s*(?:(?:pub|abbrev|unfoldable|record|data) )*(\S+)\s*[:({]", text, re.M))
+
+
+def names_in(text):
+    return re.findall(r"`([A-Za-z_][\w:$]*)`", text)
+
+
+def wants(where, name, paths):
+    """The last part of a name is declared in one of the files."""
+    if not any(name.split("::")[-1] in declared(path) for path in paths if is_there(path)):
+        wrong.append(f"{where}: `{name}` isn't declared in {', '.join(paths)}")
+
+
+def check_links(page, where, line):
+    for text, target in re.findall(r"\[([^][]*)\]\(([^()\s]+)\)", line):
+        if "://" in target:
+            continue
+        path, _, anchor = target.partition("#")
+        path = os.path.normpath(os.path.join(os.path.dirname(page), path)) if path else page
+        if not is_there(path):
+            wrong.append(f"{where}: no file {path}")
+        elif anchor and anchor not in anchors(path):
+            wrong.append(f"{where}: no heading #{anchor} in {path}")
+        elif path.endswith((".rt", ".antt")):
+            for name in names_in(text):
+                wants(where, name, [path])
+
+
+def check_names(where, line, words, crates):
+    for name in names_in(line):
+        parts = [part for part in re.split(r"::", name) if part]
+        if any("_" in part or re.search(r"[a-z][A-Z]", part) for part in parts) and not all(part in words for part in parts):
+            wrong.append(f"{where}: `{name}` stands nowhere")
+    for name in re.findall(r"\b(?:jc|vectors)_\w+", line):
+        if name not in crates and name not in words:
+            wrong.append(f"{where}: no crate {name}")
+
+
+def rows(page, heading):
+    """The rows of the table behind a heading, each with its line's number."""
+    lines = read(page).split("\n")
+    for number in range(lines.index(heading) + 1, len(lines)):
+        if lines[number].startswith("## "):
+            return
+        if lines[number].startswith("| "):
+            yield f"{page}:{number + 1}", [cell.strip() for cell in lines[number].strip("| ").split(" | ")]
+
+
+def check_promises(page):
+    for where, cells in list(rows(page, "## Where each promise stands"))[1:]:
+        paths, folder = [], ""
+        for path in re.findall(r"[\w/]+\.rt|\w+/src(?![\w/])", cells[1]):
+            folder = os.path.dirname(path) or folder
+            paths.append("crates/" + path if "/" in path else f"crates/{folder}/{path}")
+        for path in paths:
+            if not is_there(path):
+                wrong.append(f"{where}: no file {path}")
+        paths = [each for path in paths for each in ([path] if path.endswith(".rt") else files(path + "/*.rt"))]
+        specs = [f"crates/{os.path.relpath(paths[0], 'crates').split('/')[0]}/{each}" for each in re.findall(r"specs/\w+\.antt", cells[2])]
+        for name in names_in(re.sub(r"\[`[^][]*\]\([^()]*\)", "", cells[2])):
+            wants(where, name, paths + specs)
+
+
+def check_crates(page):
+    stands = {name.strip(): on.split() for name, _, on in (line.partition(":") for line in read("crates.txt").splitlines())}
+    told = set()
+    for where, cells in list(rows(page, "## Crates"))[1:]:
+        for name in re.findall(r"\w+", cells[0]):
+            told.add(name)
+            on = set(re.findall(r"\w+", cells[2]))
+            if name not in stands:
+                wrong.append(f"{where}: {name} isn't in crates.txt")
+            elif "," not in cells[0] and on != set(stands[name]):
+                wrong.append(f"{where}: {name} stands on {', '.join(stands[name])}")
+    wrong.extend(f"{page}: no row of the crate {name}" for name in stands if name not in told)
+
+    @cache
+    def chain(name):
+        return max((chain(on) for on in stands[name] if on in stands), key=len, default=[]) + [name]
+
+    longest = re.search(r"The longest chain .*?: (.*?)\.", read(page)).group(1).split(", ")
+    if len(longest) != max(len(chain(name)) for name in stands) or any(a not in stands[b] for a, b in zip(longest, longest[1:])):
+        wrong.append(f"{page}: a longest chain is {', '.join(max((chain(name) for name in stands), key=len))}")
+
+
+def check_edits(page):
+    told = {cells[0]: cells[1:] for _, cells in rows(page, "## Must-fail edits")}
+    for crate in sorted({path.split("/")[1] for path in files("crates/*/must-fail/*.edit")} | {path.split("/")[2] for path in files("bench/must-fail/*/*.edit")}):
+        counts = [str(len(list(files(f"{folder}/*.edit")))) for folder in (f"crates/{crate}/must-fail", f"bench/must-fail/{crate}")]
+        if told.get(crate) != counts:
+            wrong.append(f"{page}: {crate} has {' and '.join(counts)} must-fail edits")
+
+
+def main():
+    crates = {os.path.basename(path) for path in glob.glob(os.path.join(TOP, "crates", "*"))}
+    words = set(re.findall(r"[\w$]+", " ".join(read(path) + " " + path for path in files(*SOURCES) if not path.endswith((".class", ".exec")))))
+    for page in PAGES:
+        for number, line in enumerate(read(page).split("\n"), 1):
+            where = f"{page}:{number}"
+            check_links(page, where, line)
+            check_names(where, line, words, crates)
+    page = "docs/ARCHITECTURE.md"
+    check_promises(page)
+    check_crates(page)
+    check_edits(page)
+    sys.exit("\n".join(wrong) if wrong else 0)
+
+
+main()
