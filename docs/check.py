@@ -5,7 +5,7 @@ docs/check.py          prints each name that isn't there, by page and line
 
 - A link leads to a file, and behind `#` to a heading of that page.
 - A link whose text is names in backquotes leads to a file that declares them, or in which they are clauses.
-- Each other name in backquotes stands somewhere in the repository; each name of a crate is that of one.
+- Each other name in backquotes stands somewhere in the repository; each name of a crate is that of one; each path is there.
 - ARCHITECTURE.md: the files, calls and clauses of the promises; the crates, what each stands on and the longest chain, by
   crates.txt; the counts of must-fail edits.
 """
@@ -90,6 +90,14 @@ def check_names(where, line, words, crates):
             wrong.append(f"{where}: no crate {name}")
 
 
+def check_paths(where, line):
+    """A path in backquotes that begins with a folder of the repository, or stands behind the name of its crate."""
+    told = re.findall(r"`((?:crates|bench|docs|examples)/[\w./-]+)`", line)
+    told += [f"crates/{path}" for path in re.findall(r"`((?:jc_|vectors_|jcov/)[\w.]*/[\w./-]+)`", line)]
+    told += [f"crates/{crate}/{path}" for crate, path in re.findall(r"\b((?:jc|vectors)_\w+) \(?`((?:specs|src|proofs)/[\w./]+)`", line)]
+    wrong.extend(f"{where}: no file {path}" for path in told if not is_there(path) and "NAME" not in path and "/out/" not in path)
+
+
 def rows(page, heading):
     """The rows of the table behind a heading, each with its line's number."""
     lines = read(page).split("\n")
@@ -153,6 +161,7 @@ def main():
             where = f"{page}:{number}"
             check_links(page, where, line)
             check_names(where, line, words, crates)
+            check_paths(where, line)
     page = "docs/ARCHITECTURE.md"
     check_promises(page)
     check_crates(page)
