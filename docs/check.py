@@ -6,7 +6,7 @@ docs/check.py          prints each name that isn't there, by page and line
 - A link leads to a file, and behind `#` to a heading of that page.
 - A link whose text is names in backquotes leads to a file that declares them, or in which they are clauses.
 - Each other name in backquotes stands somewhere in the repository; each name of a crate is that of one; each path is there.
-- ARCHITECTURE.md: the files, calls and clauses of the promises; the crates, what each stands on and the longest chain, by
+- README.md: the calls and clauses of the promises. ARCHITECTURE.md: their files too; the crates, what each stands on and the longest chain, by
   crates.txt; the counts of must-fail edits.
 """
 import glob
@@ -123,6 +123,17 @@ def check_promises(page):
             wants(where, name, paths + specs)
 
 
+def check_readme():
+    """Calls are functions of some crate, and their clauses are clauses of their files, or definitions."""
+    specs = list(files("crates/*/specs/*.antt"))
+    for where, (_, calls, clauses) in list(rows("README.md", "## What is proved"))[1:]:
+        lasts = [name.split("::")[-1] for name in names_in(calls)]
+        sources = [path for path in files("crates/*/src/*.rt") if declared(path) & set(lasts)]
+        for name in lasts + names_in(clauses):
+            if not any(name in declared(path) for path in sources + specs):
+                wrong.append(f"{where}: `{name}` isn't declared")
+
+
 def check_crates(page):
     stands = {name.strip(): on.split() for name, _, on in (line.partition(":") for line in read("crates.txt").splitlines())}
     told = set()
@@ -164,6 +175,7 @@ def main():
             check_paths(where, line)
     page = "docs/ARCHITECTURE.md"
     check_promises(page)
+    check_readme()
     check_crates(page)
     check_edits(page)
     sys.exit("\n".join(wrong) if wrong else 0)
