@@ -1,6 +1,6 @@
 #!/bin/sh
 # bench/must-fail.sh NAME.. tries the wrong bodies of bench/must-fail/NAME, which the gate leaves out, each on a copy of the repository.
-# The prover has to refuse each: run it for a crate whose code or contract changed, and write its last line into docs/BENCHMARKS.md.
+# The prover has to refuse each: run it for a crate whose code or contract changed.
 set -e
 top=$(cd "$(dirname "$0")/.." && pwd)
 copy=$(mktemp -d)

@@ -8,6 +8,7 @@ docs/check.py          prints each name that isn't there, by page and line
 - Each other name in backquotes stands somewhere in the repository; each name of a crate is that of one; each path is there.
 - README.md: the calls and clauses of the promises. ARCHITECTURE.md: their files too; the crates, what each stands on and the longest chain, by
   crates.txt; the counts of must-fail edits.
+- The text that a must-fail edit changes stands once in its file.
 """
 import glob
 import os
@@ -159,9 +160,13 @@ def check_crates(page):
 def check_edits(page):
     told = {cells[0]: cells[1:] for _, cells in rows(page, "## Must-fail edits")}
     for crate in sorted({path.split("/")[1] for path in files("crates/*/must-fail/*.edit")} | {path.split("/")[2] for path in files("bench/must-fail/*/*.edit")}):
-        counts = [str(len(list(files(f"{folder}/*.edit")))) for folder in (f"crates/{crate}/must-fail", f"bench/must-fail/{crate}")]
-        if told.get(crate) != counts:
-            wrong.append(f"{page}: {crate} has {' and '.join(counts)} must-fail edits")
+        folders = [list(files(f"{folder}/*.edit")) for folder in (f"crates/{crate}/must-fail", f"bench/must-fail/{crate}")]
+        if told.get(crate) != [str(len(edits)) for edits in folders]:
+            wrong.append(f"{page}: {crate} has {' and '.join(str(len(edits)) for edits in folders)} must-fail edits")
+        for path in folders[0] + folders[1]:
+            file, old = re.match(r"file: (\S+)\nold: (.*?)\nnew: ", read(path), re.S).groups()
+            if not is_there(f"crates/{crate}/{file}") or read(f"crates/{crate}/{file}").count(old.rstrip("\n")) != 1:
+                wrong.append(f"{path}: its text isn't once in {file}")
 
 
 def main():
