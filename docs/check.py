@@ -19,7 +19,8 @@ from functools import cache
 TOP = os.path.dirname(os.path.dirname(os.path.abspath(__file__)))
 PAGES = ["README.md"] + sorted(os.path.relpath(page, TOP) for page in glob.glob(os.path.join(TOP, "docs", "*.md")))
 # Where a name may stand.
-SOURCES = ("crates/*/src/**/*.rt", "crates/*/specs/**/*.antt", "crates/*/proofs/**/*.antt", "crates/*/std*", "bench/*", "examples/**/*", "docs/*.py", "crates.txt")
+CODE = ("crates/*/src/**/*.rt", "crates/*/specs/**/*.antt", "crates/*/proofs/**/*.antt")
+SOURCES = CODE + ("crates/*/std*", "bench/*", "examples/**/*", "docs/*.py", "crates.txt")
 wrong = []
 
 
@@ -67,6 +68,7 @@ def wants(where, name, paths):
 
 
 def check_links(page, where, line):
+    """A link leads to a file or a heading that is there, and one on names to a file that declares them."""
     for text, target in re.findall(r"\[([^][]*)\]\(([^()\s]+)\)", line):
         if "://" in target:
             continue
@@ -82,6 +84,7 @@ def check_links(page, where, line):
 
 
 def check_names(where, line, words, crates):
+    """A name in backquotes that has an underscore, or a capital inside, stands somewhere."""
     for name in names_in(line):
         parts = [part for part in re.split(r"::", name) if part]
         if any("_" in part or re.search(r"[a-z][A-Z]", part) for part in parts) and not all(part in words for part in parts):
@@ -110,6 +113,7 @@ def rows(page, heading):
 
 
 def check_promises(page):
+    """The files of each promise are there, and declare its calls and clauses."""
     for where, cells in list(rows(page, "## Where each promise stands"))[1:]:
         paths, folder = [], ""
         for path in re.findall(r"[\w/]+\.rt|\w+/src(?![\w/])", cells[1]):
@@ -136,6 +140,7 @@ def check_readme():
 
 
 def check_crates(page):
+    """Each crate has a row, with what it stands on, and the longest chain is one."""
     stands = {name.strip(): on.split() for name, _, on in (line.partition(":") for line in read("crates.txt").splitlines())}
     told = set()
     for where, cells in list(rows(page, "## Crates"))[1:]:
@@ -158,8 +163,10 @@ def check_crates(page):
 
 
 def check_edits(page):
+    """The counts of must-fail edits are told, and what each changes is there."""
     told = {cells[0]: cells[1:] for _, cells in rows(page, "## Must-fail edits")}
-    for crate in sorted({path.split("/")[1] for path in files("crates/*/must-fail/*.edit")} | {path.split("/")[2] for path in files("bench/must-fail/*/*.edit")}):
+    tried = {path.split("/")[1] for path in files("crates/*/must-fail/*.edit")}
+    for crate in sorted(tried | {path.split("/")[2] for path in files("bench/must-fail/*/*.edit")}):
         folders = [list(files(f"{folder}/*.edit")) for folder in (f"crates/{crate}/must-fail", f"bench/must-fail/{crate}")]
         if told.get(crate) != [str(len(edits)) for edits in folders]:
             wrong.append(f"{page}: {crate} has {' and '.join(str(len(edits)) for edits in folders)} must-fail edits")
