@@ -6,8 +6,8 @@ docs/check.py          prints each name that isn't there, by page and line
 - A link leads to a file, and behind `#` to a heading of that page.
 - A link whose text is names in backquotes leads to a file that declares them, or in which they are clauses.
 - Each other name in backquotes stands somewhere in the repository; each name of a crate is that of one; each path is there.
-- README.md: the calls and clauses of the promises. ARCHITECTURE.md: their files too; the crates, what each stands on and the longest chain, by
-  crates.txt; the counts of must-fail edits.
+- README.md: the calls and clauses of the promises. ARCHITECTURE.md: their files too; the crates, what each stands on and the longest
+  chain, by crates.txt.
 - The text that a must-fail edit changes stands once in its file.
 """
 import glob
@@ -162,18 +162,13 @@ def check_crates(page):
         wrong.append(f"{page}: a longest chain is {', '.join(max((chain(name) for name in stands), key=len))}")
 
 
-def check_edits(page):
-    """The counts of must-fail edits are told, and what each changes is there."""
-    told = {cells[0]: cells[1:] for _, cells in rows(page, "## Must-fail edits")}
-    tried = {path.split("/")[1] for path in files("crates/*/must-fail/*.edit")}
-    for crate in sorted(tried | {path.split("/")[2] for path in files("bench/must-fail/*/*.edit")}):
-        folders = [list(files(f"{folder}/*.edit")) for folder in (f"crates/{crate}/must-fail", f"bench/must-fail/{crate}")]
-        if told.get(crate) != [str(len(edits)) for edits in folders]:
-            wrong.append(f"{page}: {crate} has {' and '.join(str(len(edits)) for edits in folders)} must-fail edits")
-        for path in folders[0] + folders[1]:
-            file, old = re.match(r"file: (\S+)\nold: (.*?)\nnew: ", read(path), re.S).groups()
-            if not is_there(f"crates/{crate}/{file}") or read(f"crates/{crate}/{file}").count(old.rstrip("\n")) != 1:
-                wrong.append(f"{path}: its text isn't once in {file}")
+def check_edits():
+    """The text that each must-fail edit changes is there, once."""
+    for path in files("crates/*/must-fail/*.edit", "bench/must-fail/*/*.edit"):
+        crate = path.split("/")[-3 if path.startswith("crates") else -2]
+        file, old = re.match(r"file: (\S+)\nold: (.*?)\nnew: ", read(path), re.S).groups()
+        if not is_there(f"crates/{crate}/{file}") or read(f"crates/{crate}/{file}").count(old.rstrip("\n")) != 1:
+            wrong.append(f"{path}: its text isn't once in {file}")
 
 
 def main():
@@ -189,7 +184,7 @@ def main():
     check_promises(page)
     check_readme()
     check_crates(page)
-    check_edits(page)
+    check_edits()
     sys.exit("\n".join(wrong) if wrong else 0)
 
 
