@@ -1,0 +1,3 @@
+pub mod DistinctLaws
+pub mod PartLaws
+pub mod CoverRunLaws

@@ -1,0 +1,3 @@
+pub mod CoverWork
+pub mod CoverRun
+pub mod Headline
