@@ -1,3 +1,5 @@
 pub mod DistinctLaws
 pub mod PartLaws
 pub mod CoverRunLaws
+pub mod WriteLaws
+pub mod OriginalLaws
