@@ -15,7 +15,7 @@
 --   stopped; and exactly what was executed is covered where each thread of each case returned, and nothing was thrown.
 -- * Each class file that is refused stands in the folder as it was read, unless its path is that of the execution data or of the
 --   report too, and its line, which says why, is on `err`.
-use Rattle.std.specs.Prelude.{◌≡◌, ◌≢◌, ⊤, ℕ, ◌+◌, Bool, true, false, List, [], ◌∷◌, ◌++◌, Option, Some, None, Contains, slice_index_or}
+use Rattle.std.specs.Prelude.{◌≡◌, ◌≢◌, ◌↔◌, ⊤, ℕ, ◌+◌, ◌<◌, Bool, true, false, List, [], ◌∷◌, ◌++◌, Option, Some, None, Contains, IsTrue, slice_get, slice_index_or}
 use Rattle.std.specs.FinMap.{get}
 use Rattle.std.specs.List.{AllByRecursion}
 use Rattle.jc_programs.specs.declared.program.Program.{Program}
@@ -30,7 +30,7 @@ use Rattle.jc_emit.specs.TwinProgram.{TwinProgram}
 use Rattle.jc_instrument.specs.Refused.{IsChanged}
 use Rattle.jc_exec.specs.Writing.{exec_text}
 use Rattle.jc_cover.specs.declared.coverage.Coverage.{Coverage}
-use Rattle.jc_cover.specs.Covered.{TellsCovered}
+use Rattle.jc_cover.specs.Covered.{is_hit, TellsCovered}
 use Rattle.jc_cover.specs.Counters.{counters_of}
 use Rattle.jc_report.specs.declared.row.Counted.{Counted}
 use Rattle.jc_world.specs.CaseText.{case_texts}
@@ -40,7 +40,6 @@ use Rattle.jc_world.specs.World.{Hit}
 use Rattle.jc_simulation.specs.Marking.{AreMarks}
 use Rattle.jc_simulation.specs.Same.{Same}
 use Rattle.jc_simulation.specs.Laws.{kept_of}
-use Rattle.jc_exact.specs.Exact.{TellHits}
 use Rattle.jc_exact.specs.Reported.{IsReported}
 use Rattle.jc_linking.specs.Linking.{IsProgramOf}
 use Rattle.jc_link_laws.specs.TwinFiles.{HasConstants}
@@ -154,7 +153,8 @@ pub record Headline (landed : Landed) (c : Cover) (old new : World) (r : CoverRu
       → Same after marks (run before case (kept_of after marks case (turns_in case))) (run after case (turns_in case))
   -- the written data is the union of the probes passed
   pub written_data : c.exec ≢ c.csv → HoldsFile new c.exec (exec_text (run_store after r.plan))
-  pub passed : TellHits (IsHit after r.plan) (bits_of after r.plan)
+  pub passed : (class id : ℕ) (n : Linked) (init : ProbeInit) → slice_get after.classes class ≡ Some n → n.probes ≡ Some init → id < init.count
+      → IsTrue (is_hit (slice_index_or (bits_of after r.plan) class []) id) ↔ IsHit after r.plan (record { class = class; id = id })
   -- what is reported was executed or next in a stopped thread, and exactly what was executed where all returned and nothing was thrown
   pub rows : List Counted
   pub reports : HoldsFile new c.csv (report_text c.name rows)
