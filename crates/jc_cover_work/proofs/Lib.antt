@@ -6,3 +6,5 @@ pub mod OriginalLaws
 pub mod EntryLaws
 pub mod RunMeaningLaws
 pub mod HitLaws
+pub mod FactLaws
+pub mod RowLaws

@@ -103,7 +103,7 @@ class_at names (x ∷ files) (k ∷ classes) are (suc i) l at = class_at names f
 
 -- ---- an accepted file
 
-accepted_of : (original text : List ℕ) → IsWrittenOf original text → IsAccepted original
+pub accepted_of : (original text : List ℕ) → IsWrittenOf original text → IsAccepted original
 accepted_of original text (inl twin) = twin.changed.0
 accepted_of original text (inr same) = same.0.0
 
