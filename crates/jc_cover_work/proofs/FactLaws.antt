@@ -1,5 +1,5 @@
 -- A file of a report, the class that is linked of it, and that of what was written of it.
-use Rattle.std.proofs.Common.{◌≡◌, ◌⊎◌, inl, inr, ℕ, ◌+◌, Bool, true, false, ◌||◌, bytes_eq, List, [], ◌∷◌, ◌++◌, map, Some, None, Contains, refl, sym, ◌∙◌, ap, subst}
+use Rattle.std.proofs.Common.{◌≡◌, ◌⊎◌, inl, inr, ℕ, ◌+◌, Bool, true, false, ◌||◌, List, [], ◌∷◌, ◌++◌, map, Some, Contains, refl, sym, ◌∙◌, ap, subst}
 use Rattle.std.specs.List.{AllByRecursion, list_any, sum_by}
 use Rattle.std.proofs.lemmas.Bool.{or_left, or_right}
 use Rattle.std.proofs.lemmas.Option.{same_Some}
@@ -18,7 +18,7 @@ use Rattle.jc_class.specs.declared.class_file.ClassFile.{ClassFile}
 use Rattle.jc_class.proofs.FirstBadLaws.{one_class_of}
 use Rattle.jc_plan.specs.Probed.{probe_count}
 use Rattle.jc_pool.specs.Lookup.{class_name_of}
-use Rattle.jc_emit.specs.TwinProgram.{AreTwinBodies, IsChangedPair}
+use Rattle.jc_emit.specs.TwinProgram.{AreTwinBodies}
 use Rattle.jc_instrument.specs.Analysis.{IsAnalysis}
 use Rattle.jc_instrument.specs.Bodies.{AreBodies, AreBodiesUnless}
 use Rattle.jc_instrument.specs.Causes.{Cause, NoCause}

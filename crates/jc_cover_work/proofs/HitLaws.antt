@@ -1,21 +1,20 @@
 -- Hits of a plan, and lists of bits that tell them.
-use Rattle.std.proofs.Common.{◌≡◌, ◌⊎◌, inl, inr, ◌↔◌, ℕ, zero, suc, ◌+◌, ◌<◌, ◌≤◌, Bool, true, false, cond, ◌||◌, ◌&&◌, nat_eq, List, [], ◌∷◌, map, length, Option, None, Some, Contains, refl, sym, ◌∙◌, ap, ap₂, subst, arith}
+use Rattle.std.proofs.Common.{◌≡◌, ◌⊎◌, inl, inr, ◌↔◌, ℕ, zero, suc, ◌+◌, ◌<◌, ◌≤◌, Bool, true, false, ◌||◌, ◌&&◌, nat_eq, List, [], ◌∷◌, map, Some, Contains, refl, sym, ◌∙◌, ap, subst, arith}
 use Rattle.std.specs.Prelude.{slice_get, slice_index_or, IsTrue}
-use Rattle.std.specs.List.{flat_map, list_any, range_with_len}
+use Rattle.std.specs.List.{range_with_len}
 use Rattle.std.proofs.lemmas.Bool.{cases_lt, and_parts, and_from, or_cases, or_left, or_right, eqb-true, eq-eqb}
 use Rattle.std.proofs.lemmas.Option.{none-some, same_Some}
 use Rattle.jc_bytes.proofs.BooleanLaws.{first_in, later_in, which_in, none_in}
 use Rattle.jc_programs.specs.declared.program.Program.{Program}
 use Rattle.jc_programs.specs.declared.program.Linked.{Linked}
 use Rattle.jc_programs.specs.declared.program.ProbeInit.{ProbeInit}
-use Rattle.jc_programs.specs.declared.run_plan.Case.{Case}
 use Rattle.jc_programs.specs.declared.run_plan.RunPlan.{RunPlan}
 use Rattle.jc_cover.specs.Covered.{is_hit}
 use Rattle.jc_exact.specs.Exact.{TellHits}
 use Rattle.jc_exact.proofs.CameLaws.{flat_cases, flat_in}
 use Rattle.jc_world.specs.Run.{IsHit, case_hits, hits_of}
 use Rattle.jc_world.specs.World.{Hit}
-use Rattle.jc_run_work.specs.RunStore.{is_hit_in, hit_record}
+use Rattle.jc_run_work.specs.RunStore.{is_hit_in}
 use Rattle.jc_cover_work.specs.Headline.{bits_with, bits_from, bits_of}
 
 -- ---- a hit in a list

@@ -8,3 +8,4 @@ pub mod RunMeaningLaws
 pub mod HitLaws
 pub mod FactLaws
 pub mod RowLaws
+pub mod HeadlineLaws

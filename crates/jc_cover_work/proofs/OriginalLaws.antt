@@ -26,7 +26,7 @@ use Rattle.jc_linking.specs.Linking.{AreLinkedClasses, IsFirstRefused, IsLinkedC
 use Rattle.jc_linking.specs.Pairs.{HaveOneId, HaveOneName, IsFirstPair, id_of}
 use Rattle.jc_linking.specs.declared.link_refusal.LinkRefusal.{LinkRefusal}
 use Rattle.jc_linking.proofs.LinkingLaws.{no_reason}
-use Rattle.jc_link_laws.specs.TwinFiles.{AreWrittenOf, IsShortFile, IsWrittenOf, IsWrittenTwin}
+use Rattle.jc_link_laws.specs.TwinFiles.{AreWrittenOf, IsShortFile, IsWrittenOf}
 use Rattle.jc_link_laws.proofs.SecondLinkingLaws.{same_name}
 use Rattle.jc_link_laws.proofs.SomeProgramLaws.{program_or_reason}
 use Rattle.jc_link_laws.proofs.TwinPairLaws.{no_probes, none_added}

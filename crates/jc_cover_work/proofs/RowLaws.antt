@@ -1,7 +1,7 @@
 -- The rows of the report: their counters are those of the edges that the hits of a plan cover.
-use Rattle.std.proofs.Common.{◌≡◌, ◌⊎◌, inl, inr, ◌↔◌, ℕ, zero, suc, ◌+◌, ◌<◌, ◌≤◌, Bool, true, false, cond, not, nat_eq, List, [], ◌∷◌, map, take, length, Option, None, Some, Contains, refl, sym, ◌∙◌, ap, subst, arith}
-use Rattle.std.specs.Prelude.{slice_get, slice_index_or, IsTrue, filter, option_map}
-use Rattle.std.specs.List.{find, sum_by, range_with_len}
+use Rattle.std.proofs.Common.{◌≡◌, ◌⊎◌, inl, inr, ℕ, zero, suc, ◌+◌, ◌<◌, Bool, true, false, cond, not, nat_eq, List, [], ◌∷◌, map, length, Option, None, Some, Contains, refl, sym, ◌∙◌, ap, subst, arith}
+use Rattle.std.specs.Prelude.{slice_get, slice_index_or, filter, option_map}
+use Rattle.std.specs.List.{sum_by}
 use Rattle.std.proofs.Math.Seq.{take-length}
 use Rattle.std.proofs.lemmas.Bool.{eq-eqb, eqb-true}
 use Rattle.std.proofs.lemmas.Option.{none-some, same_Some, slice_get_within}
@@ -21,21 +21,17 @@ use Rattle.jc_plan.proofs.OneWayLaws.{firsts_rise}
 use Rattle.jc_emit.specs.Marks.{Marks}
 use Rattle.jc_emit.specs.TwinProgram.{TwinProgram}
 use Rattle.jc_cover.specs.declared.coverage.Coverage.{Coverage}
-use Rattle.jc_cover.specs.declared.coverage.Counters.{Counters}
-use Rattle.jc_cover.specs.Counters.{counters_of}
-use Rattle.jc_cover.specs.Covered.{is_hit, hits_or_none, IsChain, Covered, TellsCovered}
+use Rattle.jc_cover.specs.Covered.{is_hit, IsChain, Covered, TellsCovered}
 use Rattle.jc_cover.specs.Marking.{coverage_of}
 use Rattle.jc_cover.proofs.CoverageLaws.{tells}
 use Rattle.jc_exec.specs.declared.hits.ClassHits.{ClassHits}
 use Rattle.jc_report.specs.declared.row.Counted.{Counted}
-use Rattle.jc_instrument.specs.SameAnalysis.{without_frames}
 use Rattle.jc_linking.specs.Pairs.{HaveOneId, NoPair, id_of as class_id_of}
 use Rattle.jc_world.specs.Methods.{declares_init}
 use Rattle.jc_world.specs.Run.{hits_of}
 use Rattle.jc_world.specs.World.{Hit}
 use Rattle.jc_simulation.specs.Marking.{AreMarks}
 use Rattle.jc_exact.specs.Exact.{HaveEntries}
-use Rattle.jc_exact.specs.Reported.{IsReported}
 use Rattle.jc_exact.proofs.ReportedLaws.{reported_edges}
 use Rattle.jc_class_commands.specs.Report.{ReportedFile, refused_class, unchanged_class, changed_class, changed_of, record_of, first_of_each_id, hits_of as hits_in, frameless}
 use Rattle.jc_class_commands.specs.ReportSteps.{counted_of, counted_by}
@@ -72,12 +68,15 @@ tells_there bodies hits others coverage same t = record {
   shape = t.shape;
   values =
       λ n i k b insn x at insn_at branch_at.
-          let v = t.values n i k b insn x at insn_at branch_at in
-          let here = λ (y : Branch) (listed : Contains (branches b.code) y) (probed : is_probed b y ≡ true). same (id_of b (first_id bodies n) y) (ids_below bodies n b y at listed probed) in
-          (v.0, v.1, (
-            λ e. covered_there b (first_id bodies n) hits others here x (v.2.0 e),
-            λ c. v.2.1 (covered_there b (first_id bodies n) others hits (λ y listed probed. sym (here y listed probed)) x c),
-          ));
+      let v = t.values n i k b insn x at insn_at branch_at in
+      let here = λ (y : Branch) (listed : Contains (branches b.code) y) (probed : is_probed b y ≡ true). same (id_of b (first_id bodies n) y) (ids_below bodies n b y at listed probed) in (
+        v.0,
+        v.1,
+        (
+          λ e. covered_there b (first_id bodies n) hits others here x (v.2.0 e),
+          λ c. v.2.1 (covered_there b (first_id bodies n) others hits (λ y listed probed. sym (here y listed probed)) x c),
+        ),
+      );
 }
 
 -- ---- ids of changed classes
@@ -286,6 +285,10 @@ module _ (before after : Program) (marks : Entry → Marks) (plan : RunPlan) (tw
       by unchanged_class f later = here false f (map (counted_by records) (changed_of items)) later
       by (changed_class a) f later =
           let e : k + 0 ≡ k = omega arith in
-          here true f.declares (counted_by records a ∷ map (counted_by records) (changed_of items))
-          (counted_by records a, map (counted_by records) (changed_of items), refl,
-          row_there k l n a (ap (slice_get before.classes) (sym e) ∙ ls_at zero l refl) (ap (slice_get after.classes) (sym e) ∙ ns_at zero n refl) f, later)
+          here true f.declares (counted_by records a ∷ map (counted_by records) (changed_of items)) (
+            counted_by records a,
+            map (counted_by records) (changed_of items),
+            refl,
+            row_there k l n a (ap (slice_get before.classes) (sym e) ∙ ls_at zero l refl) (ap (slice_get after.classes) (sym e) ∙ ns_at zero n refl) f,
+            later,
+          )

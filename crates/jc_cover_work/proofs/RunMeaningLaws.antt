@@ -1,12 +1,11 @@
 -- What a run of `cover` that is done means, where files read back as they were written.
-use Rattle.std.proofs.Common.{◌≡◌, ◌≢◌, ℕ, List, [], ◌∷◌, ◌++◌, map, Option, None, Some, Contains, refl, sym, ◌∙◌, ap, subst, append-nil}
+use Rattle.std.proofs.Common.{◌≡◌, ◌≢◌, ℕ, List, [], ◌∷◌, ◌++◌, map, Option, None, Some, Contains, sym, ◌∙◌, ap, subst, append-nil}
 use Rattle.std.specs.FinMap.{get, insert}
 use Rattle.std.specs.List.{AllByRecursion}
 use Rattle.jc_bytes.specs.ByteLists.{AreBytes}
 use Rattle.jc_outside.specs.Outside.{FileMap}
 use Rattle.jc_programs.specs.declared.program.Program.{Program}
 use Rattle.jc_programs.specs.declared.run_plan.Case.{Case}
-use Rattle.jc_programs.specs.declared.run_plan.ThreadLine.{ThreadLine}
 use Rattle.jc_programs.specs.declared.run_end.Entry.{Entry}
 use Rattle.jc_programs.specs.Entries.{AreEntries}
 use Rattle.jc_programs.specs.Turns.{turns_in}
@@ -25,7 +24,7 @@ use Rattle.jc_simulation.specs.Laws.{kept_of}
 use Rattle.jc_simulation.proofs.BeginLaws.{entry_alike}
 use Rattle.jc_simulation.proofs.ProgramRunLaws.{have_marks, have_sides, runs_are_same}
 use Rattle.jc_same_runs.proofs.TextLaws.{same_texts}
-use Rattle.jc_work.specs.Step.{Word, World, Write, to_file, to_out, IsRead, Told}
+use Rattle.jc_work.specs.Step.{Word, World, to_file, to_out, Told}
 use Rattle.jc_class_commands.specs.Instrument.{Decision, refused_file, accepted_file}
 use Rattle.jc_class_commands.specs.Report.{report_text}
 use Rattle.jc_run_work.specs.RunStore.{run_store, threads_of, first_without}
@@ -62,7 +61,7 @@ module _ (c : Cover) (old new : World) (m : FileMap) (told : old.contents ≡ So
   pub twin : Program
   twin = r.links.0
 
-  store_is : run_store r.program r.plan ≡ run_store twin r.plan
+  pub store_is : run_store r.program r.plan ≡ run_store twin r.plan
   unfolding twin
   store_is = ap (λ (p : Program). run_store p r.plan) r.links.2 ∙ same_store r.links.0 r.plan
 
@@ -154,11 +153,11 @@ module _ (c : Cover) (old new : World) (m : FileMap) (told : old.contents ≡ So
     pub written_of : AreWrittenOf (texts_in (accepted r.looked)) (all_written r.looked)
     written_of = all_written_of r.paths r.read r.looked r.looked_at short_read constants
 
-    are : AllByRecursion AreBytes (all_written r.looked)
-    are = subst (λ (l : List (List ℕ)). AllByRecursion AreBytes l) back (bytes_files _ (targets c.dest r.looked) r.written r.read_back)
+    pub are_written : AllByRecursion AreBytes (all_written r.looked)
+    are_written = subst (λ (l : List (List ℕ)). AllByRecursion AreBytes l) back (bytes_files _ (targets c.dest r.looked) r.written r.read_back)
 
     found : (p : Program) × IsProgramOf (texts_in (accepted r.looked)) p
-    found = original_program (texts_in (accepted r.looked)) (all_written r.looked) twin short are written_of instrumented
+    found = original_program (texts_in (accepted r.looked)) (all_written r.looked) twin short are_written written_of instrumented
 
     pub original : Program
     original = found.0
@@ -168,7 +167,7 @@ module _ (c : Cover) (old new : World) (m : FileMap) (told : old.contents ≡ So
     originals = found.1
 
     pub twins : TwinProgram original twin
-    twins = twin_program (texts_in (accepted r.looked)) (all_written r.looked) original twin short are written_of originals instrumented
+    twins = twin_program (texts_in (accepted r.looked)) (all_written r.looked) original twin short are_written written_of originals instrumented
 
     pub marks : Entry → Marks
     marks = (have_marks original twin twins).0

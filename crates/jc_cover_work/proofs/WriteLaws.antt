@@ -1,5 +1,5 @@
 -- What the writes of `cover` leave, where files read back as they were written.
-use Rattle.std.proofs.Common.{◌≡◌, ◌≢◌, ℕ, Bool, true, false, cond, List, [], ◌∷◌, ◌++◌, map, Option, None, Some, option_map, unwrap_or, refl, sym, ◌∙◌, ap, subst, append_assoc, append-nil}
+use Rattle.std.proofs.Common.{◌≡◌, ◌≢◌, ℕ, Bool, true, false, cond, List, [], ◌∷◌, ◌++◌, map, Option, Some, option_map, unwrap_or, refl, sym, ◌∙◌, ap, subst, append_assoc, append-nil}
 use Rattle.std.specs.List.{AllByRecursion}
 use Rattle.std.proofs.lemmas.Slice.Eq.{bytes_eq-Decides}
 use Rattle.std.proofs.lemmas.Map.Text.{is_eq-slice_cmp}
@@ -7,7 +7,7 @@ use Rattle.std.proofs.lemmas.Cmp.{nat_list_cmp_total}
 use Rattle.std.specs.Str.{bytes_eq}
 use Rattle.std.specs.FinMap.{get, insert, get-insert}
 use Rattle.jc_outside.specs.Outside.{FileMap}
-use Rattle.jc_work.specs.Step.{Word, World, Landed, Write, to_file, to_out, to_err, after_write, grown, IsRead}
+use Rattle.jc_work.specs.Step.{Word, World, Landed, Write, to_file, to_out, to_err, after_write, grown}
 use Rattle.jc_work.specs.Prefix.{after_writes}
 use Rattle.jc_class_commands.specs.Instrument.{Decision, refused_file, accepted_file, file_writes}
 use Rattle.jc_cover_work.specs.CoverWork.{LookedFile, in_folder, all_file_writes, accepted, kept_if, paths_in, targets}

@@ -43,11 +43,14 @@ use Rattle.jc_simulation.specs.Laws.{kept_of}
 use Rattle.jc_exact.specs.Reported.{IsReported}
 use Rattle.jc_linking.specs.Linking.{IsProgramOf}
 use Rattle.jc_link_laws.specs.TwinFiles.{HasConstants}
-use Rattle.jc_work.specs.Step.{Word, World, Landed, Write, to_file, to_out, to_err, Told}
+use Rattle.jc_work.specs.declared.status.Status.TheVariants as status
+use Rattle.jc_work.specs.Ending.{Ends}
+use Rattle.jc_work.specs.OneWay.{IsTold}
+use Rattle.jc_work.specs.Step.{Word, World, Counts, Landed, Write, to_file, to_out, to_err, Told}
 use Rattle.jc_class_commands.specs.Instrument.{Decision, refused_file, accepted_file}
 use Rattle.jc_class_commands.specs.Report.{report_text}
 use Rattle.jc_run_work.specs.RunStore.{hit_record, run_store}
-use Rattle.jc_cover_work.specs.CoverWork.{Cover, LookedFile, in_folder, all_file_writes, accepted, texts_in}
+use Rattle.jc_cover_work.specs.CoverWork.{Cover, LookedFile, in_folder, all_file_writes, accepted, texts_in, cover_work}
 use Rattle.jc_cover_work.specs.CoverRun.{CoverRun}
 
 -- ---- premises
@@ -162,3 +165,8 @@ pub record Headline (landed : Landed) (c : Cover) (old new : World) (r : CoverRu
   -- each refused class is copied unchanged, and its reason is printed
   pub copied : AllByRecursion (λ l. IsCopied c new l l.decision) r.looked
   pub reasons : (t : List ℕ) → old.err ≡ Some t → new.err ≡ Some (t ++ err_text (all_file_writes c.dest r.looked))
+
+-- Where contents are told, each run of `cover` that is done is one of which the headline holds, if constants stand where they should.
+abbrev pub HeadlineOf : Landed → Type 0
+HeadlineOf landed = (c : Cover) (old new : World) (f f' : Counts) → IsTold old → Ends landed (cover_work c) old new f f' status.Done
+    → (r : CoverRun landed c old new) × (AllByRecursion NamesConstants (texts_in (accepted r.looked)) → Headline landed c old new r)

@@ -1,13 +1,26 @@
 //! Laws of the work of `cover`.
-ghost use Rattle.jc_work.specs.Step.{World, Landed};
-ghost use Rattle.jc_work.specs.Part.{done, stops};
-ghost use Rattle.jc_work.specs.Ending.{CameTo};
+ghost use Rattle.std.specs.Prelude.{◌≡◌, ℕ, List};
+ghost use Rattle.jc_work.specs.Step.{World, Counts, Landed};
+ghost use Rattle.jc_work.specs.Ending.{Ends};
+ghost use Rattle.jc_work.specs.declared.status.Status.TheVariants as status;
 ghost use Rattle.jc_cover_work.specs.CoverWork.{Cover, cover_work};
 ghost use Rattle.jc_cover_work.specs.CoverRun.{CoverRun};
-ghost use Rattle.jc_cover_work.specs.Headline.{Headline};
+ghost use Rattle.jc_cover_work.specs.Headline.{HeadlineOf};
 
-/// A run of `cover` that is done read, made and wrote what a [`CoverRun`] says: text and execution data are those of the program
+/// A run of `cover` that is done read, made and wrote what a `CoverRun` says: text and execution data are those of the program
 /// that is linked from the very bytes that were read back, whatever a path holds after a write.
-pub fn a_cover_is_done_by_what_was_read_back()
-    ensures { (landed : Landed) (c : Cover) (old new : World) → CameTo landed (cover_work c) old new (stops done) → CoverRun landed c old new }
+pub fn what_was_read_back_runs()
+    ensures { (landed : Landed) (c : Cover) (old new : World) (f f' : Counts) → Ends landed (cover_work c) old new f f' status.Done
+        → CoverRun landed c old new }
+{}
+
+/// THE HEADLINE. Of accepted classes each case of the instrumented files prints and leaves what the originals give under its
+/// schedule without probe turns. The written data is the union of the probes passed. Every instruction and branch that is reported
+/// was executed, or is next in a stopped thread, and exactly what was executed is reported where every thread returned and nothing
+/// was thrown. Every refused class is copied unchanged, and its reason is printed.
+///
+/// It is said of each run of `cover` that is done, where contents are told and a file reads back as it was written, and where the
+/// ConstantValue attributes of static fields of changed classes name places of their constant pools (JVM Specification 4.7.2).
+pub fn instrumented_classes_do_what_their_originals_do()
+    ensures { (landed : Landed) → ((path bytes : List ℕ) → landed path bytes ≡ bytes) → HeadlineOf landed }
 {}

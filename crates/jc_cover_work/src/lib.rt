@@ -1,6 +1,7 @@
-//! The work of the command `cover`, and what it means.
+//! The work of the command `cover`, and what it means: [`instrumented_classes_do_what_their_originals_do`] is the promise of this
+//! repository.
 #![tactic(auto)]
 
 mod laws;
 
-pub use laws::a_cover_is_done_by_what_was_read_back;
+pub use laws::{instrumented_classes_do_what_their_originals_do, what_was_read_back_runs};
