@@ -59,7 +59,7 @@ use Rattle.jc_cover_work.specs.CoverRun.{CoverRun}
 abbrev pub as_written : Landed
 as_written path bytes = bytes
 
--- The ConstantValue attribute of each static field of a changed class names a place of the constant pool, as it does in each
+-- The ConstantValue attribute of each static field of type long of a changed class names a place of the constant pool, as it does in each
 -- class file (JVM Specification 4.7.2). Else the pool of its twin could have a constant there, with which the field would begin.
 abbrev pub NamesConstants : List ℕ → Type 0
 NamesConstants bytes = IsChanged bytes → HasConstants bytes

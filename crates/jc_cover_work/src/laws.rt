@@ -20,7 +20,7 @@ pub fn what_was_read_back_runs()
 /// was thrown. Every refused class is copied unchanged, and its reason is printed.
 ///
 /// It is said of each run of `cover` that is done, where contents are told and a file reads back as it was written, and where the
-/// ConstantValue attributes of static fields of changed classes name places of their constant pools (JVM Specification 4.7.2).
+/// ConstantValue attributes of static fields of type long of changed classes name places of their constant pools (JVM Specification 4.7.2).
 pub fn instrumented_classes_do_what_their_originals_do()
     ensures { (landed : Landed) → ((path bytes : List ℕ) → landed path bytes ≡ bytes) → HeadlineOf landed }
 {}
