@@ -1,5 +1,6 @@
 -- The cases of a plan, and the methods with which their threads begin.
-use Rattle.std.proofs.Common.{◌≡◌, ℕ, suc, ◌+◌, ◌<◌, List, [], ◌∷◌, ◌++◌, length, map, take, Option, Some, None, option_map, refl, sym, ap, ap₂, ◌∙◌, subst, arith, slice_get, slice_index_or}
+use Rattle.std.proofs.Common.{◌≡◌, ℕ, suc, ◌+◌, ◌<◌, List, [], ◌∷◌, ◌++◌, length, map, take}
+use Rattle.std.proofs.Common.{Option, Some, None, option_map, refl, sym, ap, ap₂, ◌∙◌, subst, arith, slice_get, slice_index_or}
 use Rattle.std.specs.Prelude.{Contains, IfOk, Result, Ok, Err}
 use Rattle.std.proofs.lemmas.List.{length-map, get_or_default, take_more}
 use Rattle.std.proofs.lemmas.List.Elements.{Contains-get_or}
@@ -40,7 +41,8 @@ module _ (program : Program) where
       by_entry (Some x) rest = ap (λ l. x ∷ l) rest
 
   -- the threads up to one, and that one, whose entry is this
-  pub entries_more : (threads : List ThreadLine) (k : ℕ) (d : ThreadLine) (o : Option Entry) → k < length threads → o ≡ entry_of program (slice_index_or threads k d)
+  pub entries_more : (threads : List ThreadLine) (k : ℕ) (d : ThreadLine) (o : Option Entry) → k < length threads
+      → o ≡ entry_of program (slice_index_or threads k d)
       → entries_of program (take (k + 1) threads) ≡ entries_of program (take k threads) ++ elim o [ None ↦ [] | Some x ↦ x ∷ [] ]
   entries_more threads k d o lt is =
       ap (entries_of program) (take_more threads k d lt)
@@ -51,7 +53,8 @@ module _ (program : Program) where
   pub begins : (case : Case) (entries : List Entry) → AreEntries program case.threads entries → begin program case.threads entries ≡ begin_case program case
   begins case entries h = ap (begin program case.threads) (sym (entries_are case.threads entries h))
 
-  pub as_many_threads : (m : Machine) (threads : List ThreadLine) (entries : List Entry) → AreEntries program threads entries → world_of m ≡ begin program threads entries
+  pub as_many_threads : (m : Machine) (threads : List ThreadLine) (entries : List Entry) → AreEntries program threads entries
+      → world_of m ≡ begin program threads entries
       → length m.threads ≡ length threads
   unfolding begin
   as_many_threads m threads entries h is =
@@ -83,8 +86,10 @@ module _ (program : Program) (plan : RunPlan) (entries : List (List Entry)) (r :
   pub entries_at : (e : List Entry) → AreEntries program (case_at plan k).threads (slice_index_or entries k e)
   entries_at e =
       let of = λ (case : Case). entries_of program case.threads in
-      let at : slice_get (map of plan.cases) k ≡ Some (of (case_at plan k)) = slice_get-map of plan.cases k ∙ ap (option_map of) (slice_get-get_or plan.cases k no_case lt) in
-      let is : slice_index_or entries k e ≡ of (case_at plan k) = ap (λ l. slice_index_or l k e) r.entries_are ∙ get_or_from_slice_get (map of plan.cases) k (of (case_at plan k)) e at in
+      let at : slice_get (map of plan.cases) k ≡ Some (of (case_at plan k)) =
+      slice_get-map of plan.cases k ∙ ap (option_map of) (slice_get-get_or plan.cases k no_case lt) in
+      let is : slice_index_or entries k e ≡ of (case_at plan k) =
+      ap (λ l. slice_index_or l k e) r.entries_are ∙ get_or_from_slice_get (map of plan.cases) k (of (case_at plan k)) e at in
       let have = r.have_entries (case_at plan k) has_case in
       subst (AreEntries program (case_at plan k).threads) (sym (entries_are program (case_at plan k).threads have.0 have.1) ∙ sym is) have.1
 
@@ -107,7 +112,8 @@ module _ (program : Program) (plan : RunPlan) where
   pub hits_of_all : (hits : List (ℕ × ℕ)) → HitsOf (length plan.cases) (HitBy program plan) (λ _. Unit {0}) hits → AreHits program plan hits
   hits_of_all hits h class id = (
     λ there. let t = h.by class id there in (case_at plan t.0, Contains-get_or plan.cases t.0 no_case t.1, t.3),
-    λ hit. h.all hit.1.0 class id hit.1.1 tt (subst (λ c. Contains (case_hits program c) (record { class = class; id = id })) (sym (get_or_default plan.cases hit.1.0 no_case hit.0 hit.1.1 ∙ hit.1.2)) hit.2),
+    λ hit. h.all hit.1.0 class id hit.1.1 tt (subst (λ c. Contains (case_hits program c) (record { class = class; id = id }))
+        (sym (get_or_default plan.cases hit.1.0 no_case hit.0 hit.1.1 ∙ hit.1.2)) hit.2),
   )
 
 -- ---- results

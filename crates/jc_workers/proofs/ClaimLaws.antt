@@ -1,5 +1,6 @@
 -- Each step of a drawer keeps the rule of the claims.
-use Rattle.std.proofs.Common.{◌≡◌, ℕ, zero, suc, ◌+◌, ◌-◌, ◌%◌, ◌^◌, ◌<◌, ◌≤◌, List, [], ◌∷◌, ◌++◌, length, set, sym, ap, refl, subst, arith, length-set, length-append}
+use Rattle.std.proofs.Common.{◌≡◌, ℕ, zero, suc, ◌+◌, ◌-◌, ◌%◌, ◌^◌, ◌<◌, ◌≤◌, List}
+use Rattle.std.proofs.Common.{[], ◌∷◌, ◌++◌, length, set, sym, ap, refl, subst, arith, length-set, length-append}
 use Rattle.std.proofs.lemmas.Bool.Decides.{nat_tests}
 use Rattle.std.specs.Prelude.{Contains, slice_index}
 use Rattle.std.proofs.lemmas.List.{get_or-set_same}
@@ -51,7 +52,8 @@ below_once x n h = grind (arith, nat_tests)
 
 module _ {S : Type 0} where
   -- a number is drawn
-  pub draw_keeps : (all slots id : ℕ) (me : Me S Drawn) → 0 < me.0.budget → Allows (λ (s : State S Drawn). IsKept all s.words s.views) slots id me 0 (λ n. (n + 1) % 2 ^ 64) (Draws me)
+  pub draw_keeps : (all slots id : ℕ) (me : Me S Drawn) → 0 < me.0.budget
+      → Allows (λ (s : State S Drawn). IsKept all s.words s.views) slots id me 0 (λ n. (n + 1) % 2 ^ 64) (Draws me)
   draw_keeps all slots id me some_budget s k homes there small =
       let n = slice_index s.words 0 in
       let now = drawn (me.0.numbers ++ n ∷ []) (me.0.budget - 1) in
@@ -64,14 +66,33 @@ module _ {S : Type 0} where
           some_word = omega (arith, k.some_word, length-set s.words 0 (n + 1));
           fits = k.fits;
           budgets = omega (arith, get_or-set_same s.words 0 (n + 1) 0 k.some_word, total-set (λ v. v.budget) s.views id me.0 now there, k.budgets, some_budget);
-          once = λ x. omega (arith, ap (once_below x) (get_or-set_same s.words 0 (n + 1) 0 k.some_word), once_more x n, total-set (λ v. times x v.numbers) s.views id me.0 now there, k.once x, times-append x me.0.numbers (n ∷ []));
-          count = omega (arith, get_or-set_same s.words 0 (n + 1) 0 k.some_word, total-set (λ v. length v.numbers) s.views id me.0 now there, k.count, length-append me.0.numbers (n ∷ []));
+          once = λ x. omega (
+            arith,
+            ap (once_below x) (get_or-set_same s.words 0 (n + 1) 0 k.some_word),
+            once_more x n,
+            total-set (λ v. times x v.numbers)
+                s.views id me.0 now there,
+            k.once x,
+            times-append x me.0.numbers (n ∷ []),
+          );
+          count = omega (
+            arith,
+            get_or-set_same s.words 0 (n + 1) 0 k.some_word,
+            total-set (λ v. length v.numbers) s.views id me.0 now there,
+            k.count,
+            length-append me.0.numbers (n ∷ []),
+          );
         }),
-        record { gained = refl; above = λ y h. below_once y n (omega (arith, contains_times me.0.numbers y h, term_le (λ v. times y v.numbers) s.views id me.0 there, k.once y)) },
+        record {
+          gained = refl;
+          above = λ y h. below_once y n
+              (omega (arith, contains_times me.0.numbers y h, term_le (λ v. times y v.numbers) s.views id me.0 there, k.once y));
+        },
       )
 
 -- a budget is given to a new drawer
-pub split_keeps : (all : ℕ) (words : List ℕ) (views : List Drawn) (id amount : ℕ) (v : Drawn) → amount ≤ v.budget → IsKept all words views → get_elem? views id ≡ some v
+pub split_keeps : (all : ℕ) (words : List ℕ) (views : List Drawn) (id amount : ℕ) (v : Drawn) → amount ≤ v.budget → IsKept all words views
+    → get_elem? views id ≡ some v
     → IsKept all words (set views id (without_budget amount v) ++ drawn [] amount ∷ [])
 split_keeps all words views id amount v enough k there =
     let left = without_budget amount v in
@@ -80,12 +101,24 @@ split_keeps all words views id amount v enough k there =
       some_word = k.some_word;
       fits = k.fits;
       budgets = omega (arith, total-append (λ w. w.budget) (set views id left) (new ∷ []), total-set (λ w. w.budget) views id v left there, k.budgets, enough);
-      once = λ x. omega (arith, total-append (λ w. times x w.numbers) (set views id left) (new ∷ []), total-set (λ w. times x w.numbers) views id v left there, k.once x);
-      count = omega (arith, total-append (λ w. length w.numbers) (set views id left) (new ∷ []), total-set (λ w. length w.numbers) views id v left there, k.count);
+      once = λ x. omega (
+        arith,
+        total-append (λ w. times x w.numbers) (set views id left) (new ∷ []),
+        total-set (λ w. times x w.numbers) views id v left
+            there,
+        k.once x,
+      );
+      count = omega (
+        arith,
+        total-append (λ w. length w.numbers) (set views id left) (new ∷ []),
+        total-set (λ w. length w.numbers) views id v left there,
+        k.count,
+      );
     }
 
 -- a drawer is taken in
-pub join_keeps : (all : ℕ) (words : List ℕ) (views : List Drawn) (id other : ℕ) (v w : Drawn) → IsKept all words views → get_elem? views id ≡ some v → get_elem? (set views id (joined v w)) other ≡ some w
+pub join_keeps : (all : ℕ) (words : List ℕ) (views : List Drawn) (id other : ℕ) (v w : Drawn) → IsKept all words views → get_elem? views id ≡ some v
+    → get_elem? (set views id (joined v w)) other ≡ some w
     → IsKept all words (set (set views id (joined v w)) other (drawn [] 0))
 join_keeps all words views id other v w k there yonder =
     let both = joined v w in
@@ -95,12 +128,25 @@ join_keeps all words views id other v w k there yonder =
       some_word = k.some_word;
       fits = k.fits;
       budgets = omega (arith, total-set (λ u. u.budget) views id v both there, total-set (λ u. u.budget) half other w spent yonder, k.budgets);
-      once = λ x. omega (arith, total-set (λ u. times x u.numbers) views id v both there, total-set (λ u. times x u.numbers) half other w spent yonder, times-append x v.numbers w.numbers, k.once x);
-      count = omega (arith, total-set (λ u. length u.numbers) views id v both there, total-set (λ u. length u.numbers) half other w spent yonder, length-append v.numbers w.numbers, k.count);
+      once = λ x. omega (
+        arith,
+        total-set (λ u. times x u.numbers) views id v both there,
+        total-set (λ u. times x u.numbers) half other w spent yonder,
+        times-append x v.numbers w.numbers,
+        k.once x,
+      );
+      count = omega (
+        arith,
+        total-set (λ u. length u.numbers) views id v both there,
+        total-set (λ u. length u.numbers) half other w spent yonder,
+        length-append v.numbers w.numbers,
+        k.count,
+      );
     }
 
 -- a drawer that has all the budget, drawn or not, has every number below the word, once
-pub closes : {S : Type 0} (all : ℕ) (words : List ℕ) (slots : List S) (id : ℕ) (v : Drawn) → Final (Seen (λ (s : State S Drawn). IsKept all s.words s.views) id v) words slots
+pub closes : {S : Type 0} (all : ℕ) (words : List ℕ) (slots : List S) (id : ℕ) (v : Drawn)
+    → Final (Seen (λ (s : State S Drawn). IsKept all s.words s.views) id v) words slots
     → length v.numbers + v.budget ≡ all → (n : ℕ) × AreThoseBelow n v.numbers
 closes all words slots id v f whole =
     let k = f.1.0 in
@@ -109,5 +155,14 @@ closes all words slots id v f whole =
     let gone = drawn [] 0 in
     let budgets = term_le (λ u. u.budget) views id v there in
     let counts = term_le (λ u. length u.numbers) views id v there in
-    let no_more : total (λ u. length u.numbers) (set views id gone) ≡ 0 = omega (arith, total-set (λ u. length u.numbers) views id v gone there, k.count, k.budgets, budgets, counts, whole) in
-    (slice_index f.0.words 0, λ x. omega (arith, total_le (λ u. times x u.numbers) (λ u. length u.numbers) (λ u. times_le x u.numbers) (set views id gone), no_more, total-set (λ u. times x u.numbers) views id v gone there, k.once x))
+    let no_more : total (λ u. length u.numbers) (set views id gone) ≡ 0 =
+    omega (arith, total-set (λ u. length u.numbers) views id v gone there, k.count, k.budgets, budgets, counts, whole) in (
+      slice_index f.0.words 0,
+      λ x. omega (
+        arith,
+        total_le (λ u. times x u.numbers) (λ u. length u.numbers) (λ u. times_le x u.numbers) (set views id gone),
+        no_more,
+        total-set (λ u. times x u.numbers) views id v gone there,
+        k.once x,
+      ),
+    )

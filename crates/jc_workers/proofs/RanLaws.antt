@@ -24,10 +24,13 @@ module _ (cases : ℕ) (Ran Now : ℕ → Type 0) (to : (k : ℕ) → k < cases 
   same_hits hit_by hits h = record { by = λ c i x. let t = h.by c i x in (t.0, t.1, to t.0 t.1 t.2, t.3); all = λ k c i lt r. h.all k c i lt (from k lt r) }
 
 -- one case more
-module _ (cases : ℕ) (Ran Now : ℕ → Type 0) (n : ℕ) (there : n < cases) (to : (k : ℕ) → k < cases → Ran k → Now k) (from : (k : ℕ) → k < cases → Now k → Ran k ⊎ (k ≡ n)) (now : Now n) where
-  pub more_ends : {E : Type 0} (end_of : ℕ → E) (ends : List (ℕ × E)) (e : E) → e ≡ end_of n → EndsOf cases end_of Ran ends → EndsOf cases end_of Now (ends ++ (n, e) ∷ [])
+module _ (cases : ℕ) (Ran Now : ℕ → Type 0) (n : ℕ) (there : n < cases) (to : (k : ℕ) → k < cases → Ran k → Now k)
+    (from : (k : ℕ) → k < cases → Now k → Ran k ⊎ (k ≡ n)) (now : Now n) where
+  pub more_ends : {E : Type 0} (end_of : ℕ → E) (ends : List (ℕ × E)) (e : E) → e ≡ end_of n → EndsOf cases end_of Ran ends
+      → EndsOf cases end_of Now (ends ++ (n, e) ∷ [])
   more_ends {E} end_of ends e is old = record {
-    each = λ k x h. ⊎_elim (λ was. old.each k x was) (λ new. let t = only k x new in (subst (λ m. m < cases) (sym t.0) there, t.1 ∙ is ∙ ap end_of (sym t.0))) (Contains-append_cases ends ((n, e) ∷ []) (k, x) h);
+    each = λ k x h. ⊎_elim (λ was. old.each k x was) (λ new. let t = only k x new
+        in (subst (λ m. m < cases) (sym t.0) there, t.1 ∙ is ∙ ap end_of (sym t.0))) (Contains-append_cases ends ((n, e) ∷ []) (k, x) h);
     all = λ k lt r. ⊎_elim
         (λ was. Contains-append_left ends ((n, e) ∷ []) (k, end_of k) (old.all k lt was))
         (λ same. Contains-append_right ends ((n, e) ∷ []) (k, end_of k) (0, omega arith, λ j. (sym same j, (is ∙ ap end_of (sym same)) j)))
@@ -55,7 +58,8 @@ module _ (cases : ℕ) (Ran Now : ℕ → Type 0) (n : ℕ) (there : n < cases) 
   }
 
 -- the hits of two sets of cases
-pub both_hits : (cases : ℕ) (hit_by : ℕ → ℕ → ℕ → Type 0) (Ran Other Now : ℕ → Type 0) (hits more : List (ℕ × ℕ)) → ((k : ℕ) → k < cases → Ran k → Now k) → ((k : ℕ) → k < cases → Other k → Now k) → ((k : ℕ) → k < cases → Now k → Ran k ⊎ Other k)
+pub both_hits : (cases : ℕ) (hit_by : ℕ → ℕ → ℕ → Type 0) (Ran Other Now : ℕ → Type 0) (hits more : List (ℕ × ℕ)) → ((k : ℕ) → k < cases → Ran k → Now k)
+    → ((k : ℕ) → k < cases → Other k → Now k) → ((k : ℕ) → k < cases → Now k → Ran k ⊎ Other k)
     → HitsOf cases hit_by Ran hits → HitsOf cases hit_by Other more → HitsOf cases hit_by Now (hits ++ more)
 both_hits cases hit_by Ran Other Now hits more to other from a b = record {
   by = λ c i h. ⊎_elim
@@ -69,7 +73,8 @@ both_hits cases hit_by Ran Other Now hits more to other from a b = record {
 }
 
 -- where each end is there, the ends that are there are all ends
-pub all_there : {E : Type 0} (end_of : ℕ → E) (ends : List (Option E)) → ((k : ℕ) → k < length ends → slice_get ends k ≡ Some (Some (end_of k))) → AreEnds (length ends) end_of (filter_map (λ e. e) ends)
+pub all_there : {E : Type 0} (end_of : ℕ → E) (ends : List (Option E)) → ((k : ℕ) → k < length ends → slice_get ends k ≡ Some (Some (end_of k)))
+    → AreEnds (length ends) end_of (filter_map (λ e. e) ends)
 all_there end_of [] h = record { count = refl; each = λ k lt. absurd (omega (arith, lt)) }
 all_there {E} end_of (o ∷ os) h =
     let rest = all_there (λ k. end_of (suc k)) os (λ k lt. h (suc k) (omega (arith, lt))) in
@@ -81,18 +86,23 @@ all_there {E} end_of (o ∷ os) h =
     some_is : (x y : Option E) → Some x ≡ Some y → x ≡ y
     some_is x y e = cc
 
-    step : AreEnds (length os) (λ k. end_of (suc k)) (filter_map (λ e. e) os) → (k : ℕ) → k < length (Some (end_of 0) ∷ os) → slice_get (end_of 0 ∷ filter_map (λ e. e) os) k ≡ Some (end_of k)
+    step : AreEnds (length os) (λ k. end_of (suc k)) (filter_map (λ e. e) os) → (k : ℕ) → k < length (Some (end_of 0) ∷ os)
+        → slice_get (end_of 0 ∷ filter_map (λ e. e) os) k ≡ Some (end_of k)
     step rest zero lt = refl
     step rest (suc k) lt = rest.each k (omega (arith, lt))
 
 -- an end that is there is taken
-pub filtered_some : {E : Type 0} (ends : List (Option E)) (o : Option E) (e : E) (all now : List E) → o ≡ Some e → all ≡ filter_map (λ x. x) ends → now ≡ all ++ e ∷ [] → now ≡ filter_map (λ x. x) (ends ++ o ∷ [])
+pub filtered_some : {E : Type 0} (ends : List (Option E)) (o : Option E) (e : E) (all now : List E) → o ≡ Some e → all ≡ filter_map (λ x. x) ends
+    → now ≡ all ++ e ∷ [] → now ≡ filter_map (λ x. x) (ends ++ o ∷ [])
 filtered_some {E} ends o e all now is was new =
-    new ∙ ap (λ (l : List E). l ++ e ∷ []) was ∙ sym (filter_map-append (λ (x : Option E). x) ends (Some e ∷ [])) ∙ ap (λ (x : Option E). filter_map (λ (y : Option E). y) (ends ++ x ∷ [])) (sym is)
+    new ∙ ap (λ (l : List E). l ++ e ∷ []) was ∙ sym (filter_map-append (λ (x : Option E). x) ends (Some e ∷ []))
+    ∙ ap (λ (x : Option E). filter_map (λ (y : Option E). y) (ends ++ x ∷ [])) (sym is)
 
-pub filtered_none : {E : Type 0} (ends : List (Option E)) (o : Option E) (all : List E) → o ≡ None → all ≡ filter_map (λ x. x) ends → all ≡ filter_map (λ x. x) (ends ++ o ∷ [])
+pub filtered_none : {E : Type 0} (ends : List (Option E)) (o : Option E) (all : List E) → o ≡ None → all ≡ filter_map (λ x. x) ends
+    → all ≡ filter_map (λ x. x) (ends ++ o ∷ [])
 filtered_none {E} ends o all is was =
-    was ∙ sym (append-nil (filter_map (λ (y : Option E). y) ends)) ∙ sym (filter_map-append (λ (x : Option E). x) ends (None ∷ [])) ∙ ap (λ (x : Option E). filter_map (λ (y : Option E). y) (ends ++ x ∷ [])) (sym is)
+    was ∙ sym (append-nil (filter_map (λ (y : Option E). y) ends)) ∙ sym (filter_map-append (λ (x : Option E). x) ends (None ∷ []))
+    ∙ ap (λ (x : Option E). filter_map (λ (y : Option E). y) (ends ++ x ∷ [])) (sym is)
 
 module _ {A : Type 0} where
   set_same : (l : List A) (n : ℕ) (a : A) → n < length l → slice_get (set l n a) n ≡ Some a
@@ -113,7 +123,8 @@ pub put_end : {E : Type 0} (end_of : ℕ → E) (ends : List (Option E)) (n k : 
 put_end {E} end_of ends n k e lt is (inr same) =
     subst (λ m. slice_get (set ends n (Some e)) m ≡ Some (Some (end_of m))) (sym same) (set_same ends n (Some e) lt ∙ ap (λ (x : E). Some (Some x)) is)
 put_end {E} end_of ends n k e lt is (inl was) = elim (ℕ_discrete k n) as (λ _. slice_get (set ends n (Some e)) k ≡ Some (Some (end_of k))) [
-  | yes same ↦ subst (λ m. slice_get (set ends n (Some e)) m ≡ Some (Some (end_of m))) (sym same) (set_same ends n (Some e) lt ∙ ap (λ (x : E). Some (Some x)) is)
+  | yes same ↦ subst (λ m. slice_get (set ends n (Some e)) m ≡ Some (Some (end_of m))) (sym same)
+      (set_same ends n (Some e) lt ∙ ap (λ (x : E). Some (Some x)) is)
   | no ne ↦ set_other ends n k (Some e) ne ∙ was
 ]
 

@@ -11,15 +11,18 @@ abbrev pub Passed : ℕ → List ℕ → Type 0
 Passed cases numbers = (y : ℕ) × Contains numbers y × (cases ≤ y)
 
 abbrev pub IsTurn : TableId → TableId → ℕ → Turn → Type 0
-IsTurn board claims budget t = (t.seat.table ≡ board) × (t.seat.hits ≡ []) × (t.seat.part ≡ 2048) × (t.drawer.table ≡ claims) × (t.drawer.numbers ≡ []) × (t.drawer.budget ≡ budget)
+IsTurn board claims budget t = (t.seat.table ≡ board) × (t.seat.hits ≡ []) × (t.seat.part ≡ 2048) × (t.drawer.table ≡ claims) × (t.drawer.numbers ≡ [])
+    × (t.drawer.budget ≡ budget)
 
 abbrev pub AreTurns : TableId → TableId → ℕ → List Turn → Type 0
 AreTurns board claims budget turns = (w : ℕ) (t : Turn) → w < length turns → IsTurn board claims budget (slice_index_or turns w t)
 
 -- it ran the cases whose numbers it drew, and went on to a number that is no case
 abbrev pub DidDraw : {E : Type 0} → TableId → TableId → (cases : ℕ) → (ℕ → E) → (ℕ → ℕ → ℕ → Type 0) → Drew E → Type 0
-DidDraw board claims cases end_of hits d = (d.seat.table ≡ board) × (d.seat.part ≡ 2048) × (d.drawer.table ≡ claims) × (length d.drawer.numbers + d.drawer.budget ≡ cases + 1) × Passed cases d.drawer.numbers
+DidDraw board claims cases end_of hits d = (d.seat.table ≡ board) × (d.seat.part ≡ 2048) × (d.drawer.table ≡ claims)
+    × (length d.drawer.numbers + d.drawer.budget ≡ cases + 1) × Passed cases d.drawer.numbers
     × EndsOf cases end_of (Contains d.drawer.numbers) d.ends.items × HitsOf cases hits (Contains d.drawer.numbers) d.seat.hits
 
 abbrev pub AllDrew : {E : Type 0} → TableId → TableId → (cases : ℕ) → (ℕ → E) → (ℕ → ℕ → ℕ → Type 0) → List (Result (Drew E) Memory) → Type 0
-AllDrew {E} board claims cases end_of hits gave = (w : ℕ) (d : Result (Drew E) Memory) → w < length gave → IfOk (slice_index_or gave w d) (DidDraw board claims cases end_of hits)
+AllDrew {E} board claims cases end_of hits gave = (w : ℕ) (d : Result (Drew E) Memory) → w < length gave
+    → IfOk (slice_index_or gave w d) (DidDraw board claims cases end_of hits)

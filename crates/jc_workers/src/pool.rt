@@ -44,7 +44,8 @@ where
     requires cases { (cases ≡ C.cases runner.now) × (cases ≤ 256) }
     requires counts { board.now.counts ≡ C.counts runner.now }
     ensures seat { IfOk result (λ d. (d.seat.table ≡ P.table) × (d.seat.part ≡ P.part)) }
-    ensures drawer { IfOk result (λ d. (d.drawer.table ≡ claims.now.table) × (length d.drawer.numbers + d.drawer.budget ≡ cases + 1) × Passed cases d.drawer.numbers) }
+    ensures drawer { IfOk result (λ d. (d.drawer.table ≡ claims.now.table) × (length d.drawer.numbers + d.drawer.budget ≡ cases + 1)
+        × Passed cases d.drawer.numbers) }
     ensures ends { IfOk result (λ d. EndsOf cases (C.end_of runner.now) (Contains d.drawer.numbers) d.ends.items) }
     ensures hits { IfOk result (λ d. HitsOf cases (C.hits runner.now) (Contains d.drawer.numbers) d.seat.hits) }
 {

@@ -28,7 +28,8 @@ where
     C::End: Drop,
     requires { (k : ℕ) (e : C.End) → Contains done.items (k, e) → (k < vec_len ends.old) × (e ≡ C.end_of _runner.now k) }
     ensures len { vec_len ends.new ≡ vec_len ends.old }
-    ensures kept { (k : ℕ) → slice_get ends.old.items k ≡ Some (Some (C.end_of _runner.now k)) → slice_get ends.new.items k ≡ Some (Some (C.end_of _runner.now k)) }
+    ensures kept { (k : ℕ) → slice_get ends.old.items k ≡ Some (Some (C.end_of _runner.now k))
+        → slice_get ends.new.items k ≡ Some (Some (C.end_of _runner.now k)) }
     ensures placed { (k : ℕ) (e : C.End) → Contains done.items (k, e) → slice_get ends.new.items k ≡ Some (Some (C.end_of _runner.now k)) }
 {
     'placing: while let Some((case, end)) = done.pop() {
@@ -65,7 +66,8 @@ where
     requires seat { (seat.table ≡ board.now.table) × (seat.hits ≡ []) × (seat.part + 2048 * vec_len gave ≡ 65536) }
     requires drawer { (drawer.table ≡ claims.table) × (drawer.numbers ≡ []) × (drawer.budget ≡ 0) × (claims.budget ≡ vec_len gave * (C.cases runner.now + 1)) }
     ensures ends { IfOk result (λ r. AreEnds (C.cases runner.now) (C.end_of runner.now) r.0.items) }
-    ensures seat { IfOk result (λ r. (r.1.table ≡ board.now.table) × (r.1.part ≡ 65536) × HitsOf (C.cases runner.now) (C.hits runner.now) (λ _. Unit {0}) r.1.hits) }
+    ensures seat { IfOk result (λ r. (r.1.table ≡ board.now.table) × (r.1.part ≡ 65536)
+        × HitsOf (C.cases runner.now) (C.hits runner.now) (λ _. Unit {0}) r.1.hits) }
 {
     let mut ends = no_ends(alloc, runner.case_count())?;
     'joining: while let Some(result) = gave.pop() {

@@ -34,7 +34,8 @@ fn take_turns<R: Threads + Sync, G: Gate + Sync>(
     requires cases { (cases ≡ length runner.now.plan.now.cases) × (cases ≤ 256) }
     requires counts { board.now.counts ≡ probe_counts runner.now.program.now }
     ensures { IfOk result (λ gave. (vec_len gave ≡ vec_len turns)
-        × AllDrew board.now.table claims.now.table cases (λ k. end_under runner.now.program.now (case_at runner.now.plan.now k)) (HitBy runner.now.program.now runner.now.plan.now) gave.items) }
+        × AllDrew board.now.table claims.now.table cases (λ k. end_under runner.now.program.now (case_at runner.now.plan.now k))
+        (HitBy runner.now.program.now runner.now.plan.now) gave.items) }
 {
     Ok(thread::map_vec(
         rt,

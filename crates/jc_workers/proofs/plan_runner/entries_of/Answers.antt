@@ -11,9 +11,12 @@ entering-preserved c =
     let program = c.args.program.now in
     let threads = c.args.threads.now in
     let k = c.entering.thread-index in
-    let more = entries_more program threads k c.thread-item.result c.entry.result c.entering-test.true (c.entry.ensures ∙ ap (entry_of program) c.thread-item.is) in
+    let more = entries_more program threads k c.thread-item.result c.entry.result c.entering-test.true
+    (c.entry.ensures ∙ ap (entry_of program) c.thread-item.is) in
     let with : Option Entry → List Entry = λ o. entries_of program (take k threads) ++ elim o [ None ↦ [] | Some x ↦ x ∷ [] ] in
     elim c.match-entry.branch [
-      | in-Some+in_ok-push w ↦ w.entries-is ∙ (w.in_ok-push.ensures.ok ∙ (ap (λ l. l ++ w.in-Some.method ∷ []) c.entering.invariant ∙ (ap with (sym w.in-Some.is) ∙ sym more)))
-      | in_default w ↦ w.entries-is ∙ (c.entering.invariant ∙ (sym (append-nil (entries_of program (take k threads))) ∙ (ap with (sym w.in_default.is) ∙ sym more)))
+      | in-Some+in_ok-push w ↦ w.entries-is ∙ (w.in_ok-push.ensures.ok
+          ∙ (ap (λ l. l ++ w.in-Some.method ∷ []) c.entering.invariant ∙ (ap with (sym w.in-Some.is) ∙ sym more)))
+      | in_default w ↦ w.entries-is ∙ (c.entering.invariant ∙ (sym (append-nil (entries_of program (take k threads)))
+          ∙ (ap with (sym w.in_default.is) ∙ sym more)))
     ]

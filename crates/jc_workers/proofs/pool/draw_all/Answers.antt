@@ -31,9 +31,11 @@ drawing-preserved g c =
       inr (k, subst (λ (l : List ℕ). Contains l k) (sym new) (has_new numbers k), high),
       subst (λ (l : List ℕ). EndsOf cases end_of (Contains l) c.push.new.self.items) (sym new)
           (rw c.in_ok-push.ensures.items
-          (more_ends cases (Contains numbers) (Contains (numbers ++ k ∷ [])) k there (λ n _ h. has_old numbers k n h) (λ n _ h. has_one numbers k n h) (has_new numbers k) end_of c.drawing.ends.items c.in_ok-end.end run.end i.5)),
+          (more_ends cases (Contains numbers) (Contains (numbers ++ k ∷ [])) k there (λ n _ h. has_old numbers k n h) (λ n _ h. has_one numbers k n h)
+          (has_new numbers k) end_of c.drawing.ends.items c.in_ok-end.end run.end i.5)),
       subst (λ (l : List ℕ). HitsOf cases hit_by (Contains l) c.run.new.sink.seat.hits) (sym new)
-          (more_hits cases (Contains numbers) (Contains (numbers ++ k ∷ [])) k there (λ n _ h. has_old numbers k n h) (λ n _ h. has_one numbers k n h) (has_new numbers k) hit_by c.drawing.sink.seat.hits _ i.6 run.gained run.kept run.others),
+          (more_hits cases (Contains numbers) (Contains (numbers ++ k ∷ [])) k there (λ n _ h. has_old numbers k n h) (λ n _ h. has_one numbers k n h)
+          (has_new numbers k) hit_by c.drawing.sink.seat.hits _ i.6 run.gained run.kept run.others),
       run.world,
     )
 
@@ -42,14 +44,22 @@ returns-clause-drawer g c =
     let i = c.drawing.invariant in
     let n = c.args.cases in
     elim c.drawing-test.branch [
-      | else-drawing-test w ↦ subst (λ (d : DrawerSeen). (d.table ≡ c.args.claims.now.table) × (length d.numbers + d.budget ≡ n + 1) × Passed n d.numbers) (sym w.drawer-is)
-          (i.1, omega (arith, i.2, i.3), ⊎_elim (λ z. absurd (omega (arith, z, w.drawing-test.false))) (λ t. (t.0, t.1, omega (arith, t.2, w.drawing-test.false))) i.4)
+      | else-drawing-test w ↦ subst (λ (d : DrawerSeen). (d.table ≡ c.args.claims.now.table) × (length d.numbers + d.budget ≡ n + 1) × Passed n d.numbers)
+          (sym w.drawer-is) (
+            i.1,
+            omega (arith, i.2, i.3),
+            ⊎_elim (λ z. absurd (omega (arith, z, w.drawing-test.false)))
+                (λ t. (t.0, t.1, omega (arith, t.2, w.drawing-test.false))) i.4,
+          )
       | then-drawing-test+then-number-cases w ↦
           let k = w.draw-number.result in
           let numbers = c.drawing.drawer.numbers in
           let new = w.draw-number.ensures.numbers in
-          subst (λ (d : DrawerSeen). (d.table ≡ c.args.claims.now.table) × (length d.numbers + d.budget ≡ n + 1) × Passed n d.numbers) (sym w.drawer-is)
-          (w.draw-number.ensures.claims ∙ i.1, omega (arith, ap length new, length-append numbers (k ∷ []), i.3, i.2, w.draw-number.ensures.budget), (k, subst (λ (l : List ℕ). Contains l k) (sym new) (has_new numbers k), w.if-number-cases.true))
+          subst (λ (d : DrawerSeen). (d.table ≡ c.args.claims.now.table) × (length d.numbers + d.budget ≡ n + 1) × Passed n d.numbers) (sym w.drawer-is) (
+            w.draw-number.ensures.claims ∙ i.1,
+            omega (arith, ap length new, length-append numbers (k ∷ []), i.3, i.2, w.draw-number.ensures.budget),
+            (k, subst (λ (l : List ℕ). Contains l k) (sym new) (has_new numbers k), w.if-number-cases.true),
+          )
     ]
 
 -- the last number is no case
@@ -62,10 +72,13 @@ returns-clause-ends g c =
     let end_of = g.C.CaseRunner.end_of c.args.runner.now in
     let numbers = c.drawing.drawer.numbers in
     elim c.drawing-test.branch [
-      | else-drawing-test w ↦ subst (λ (l : List ℕ). EndsOf cases end_of (Contains l) c.drawing.ends.items) (sym (ap (λ (d : DrawerSeen). d.numbers) w.drawer-is)) c.drawing.invariant.5
+      | else-drawing-test w ↦ subst (λ (l : List ℕ). EndsOf cases end_of (Contains l) c.drawing.ends.items)
+          (sym (ap (λ (d : DrawerSeen). d.numbers) w.drawer-is)) c.drawing.invariant.5
       | then-drawing-test+then-number-cases w ↦ let k = w.draw-number.result in
-          subst (λ (l : List ℕ). EndsOf cases end_of (Contains l) c.drawing.ends.items) (sym (ap (λ (d : DrawerSeen). d.numbers) w.drawer-is ∙ w.draw-number.ensures.numbers))
-          (same_ends cases (Contains numbers) (Contains (numbers ++ k ∷ [])) (λ n _ h. has_old numbers k n h) (λ n low h. past cases numbers k n w.if-number-cases.true low h) end_of c.drawing.ends.items c.drawing.invariant.5)
+          subst (λ (l : List ℕ). EndsOf cases end_of (Contains l) c.drawing.ends.items)
+          (sym (ap (λ (d : DrawerSeen). d.numbers) w.drawer-is ∙ w.draw-number.ensures.numbers))
+          (same_ends cases (Contains numbers) (Contains (numbers ++ k ∷ [])) (λ n _ h. has_old numbers k n h)
+          (λ n low h. past cases numbers k n w.if-number-cases.true low h) end_of c.drawing.ends.items c.drawing.invariant.5)
     ]
 
 pub returns-clause-hits : goal.returns-clause-hits
@@ -76,8 +89,11 @@ returns-clause-hits g c =
     let seat = sym c.into_seat-seat.ensures.seat in
     subst (λ (s : SeatSeen). HitsOf cases hit_by (Contains c.drawing-test.drawer.numbers) s.hits) seat
     (elim c.drawing-test.branch as (λ _. HitsOf cases hit_by (Contains c.drawing-test.drawer.numbers) c.drawing.sink.seat.hits) [
-      | else-drawing-test w ↦ subst (λ (l : List ℕ). HitsOf cases hit_by (Contains l) c.drawing.sink.seat.hits) (sym (ap (λ (d : DrawerSeen). d.numbers) w.drawer-is)) c.drawing.invariant.6
+      | else-drawing-test w ↦ subst (λ (l : List ℕ). HitsOf cases hit_by (Contains l) c.drawing.sink.seat.hits)
+          (sym (ap (λ (d : DrawerSeen). d.numbers) w.drawer-is)) c.drawing.invariant.6
       | then-drawing-test+then-number-cases w ↦ let k = w.draw-number.result in
-          subst (λ (l : List ℕ). HitsOf cases hit_by (Contains l) c.drawing.sink.seat.hits) (sym (ap (λ (d : DrawerSeen). d.numbers) w.drawer-is ∙ w.draw-number.ensures.numbers))
-          (same_hits cases (Contains numbers) (Contains (numbers ++ k ∷ [])) (λ n _ h. has_old numbers k n h) (λ n low h. past cases numbers k n w.if-number-cases.true low h) hit_by c.drawing.sink.seat.hits c.drawing.invariant.6)
+          subst (λ (l : List ℕ). HitsOf cases hit_by (Contains l) c.drawing.sink.seat.hits)
+          (sym (ap (λ (d : DrawerSeen). d.numbers) w.drawer-is ∙ w.draw-number.ensures.numbers))
+          (same_hits cases (Contains numbers) (Contains (numbers ++ k ∷ [])) (λ n _ h. has_old numbers k n h)
+          (λ n low h. past cases numbers k n w.if-number-cases.true low h) hit_by c.drawing.sink.seat.hits c.drawing.invariant.6)
     ])

@@ -1,4 +1,5 @@
-use Rattle.std.proofs.Common.{ℕ, zero, suc, ◌≡◌, ◌+◌, ◌*◌, ◌<◌, List, [], ◌∷◌, ◌++◌, length, vec_len, arith, refl, ap, sym, ◌∙◌, subst, get_or, inl, inr, ⊎_elim, Result, length-append}
+use Rattle.std.proofs.Common.{ℕ, zero, suc, ◌≡◌, ◌+◌, ◌*◌, ◌<◌, List, [], ◌∷◌, ◌++◌, length}
+use Rattle.std.proofs.Common.{vec_len, arith, refl, ap, sym, ◌∙◌, subst, get_or, inl, inr, ⊎_elim, Result, length-append}
 use Rattle.std.proofs.lemmas.List.{length-replicate}
 use Rattle.std.proofs.lemmas.List.Elements.{Contains-append_left, Contains-append_right, Contains-append_cases}
 use Rattle.std.specs.Prelude.{IfOk, Contains, Option, None}
@@ -29,7 +30,8 @@ joining-init g c =
     let none : (k : ℕ) → Contains c.args.drawer.numbers k → ⊥ = λ k h. nothing k (subst (λ (l : List ℕ). Contains l k) i.drawer.1 h) in (
       i.seat.0,
       i.seat.2,
-      subst (λ (hs : List (ℕ × ℕ)). HitsOf cases (g.C.CaseRunner.hits c.args.runner.now) (Contains c.args.drawer.numbers) hs) (sym i.seat.1) (no_hits cases (g.C.CaseRunner.hits c.args.runner.now) (Contains c.args.drawer.numbers) none),
+      subst (λ (hs : List (ℕ × ℕ)). HitsOf cases (g.C.CaseRunner.hits c.args.runner.now) (Contains c.args.drawer.numbers) hs) (sym i.seat.1)
+          (no_hits cases (g.C.CaseRunner.hits c.args.runner.now) (Contains c.args.drawer.numbers) none),
       i.gave.1,
       i.drawer.0,
       omega (arith, ap length i.drawer.1, i.drawer.2, i.drawer.3),
@@ -39,17 +41,28 @@ joining-init g c =
     )
 
 -- the last worker of the list
-did : (g : Over) (c : In_ok-done g) → DidDraw c.args.board.now.table c.args.claims.table (g.C.CaseRunner.cases c.args.runner.now) (g.C.CaseRunner.end_of c.args.runner.now) (g.C.CaseRunner.hits c.args.runner.now) c.in_ok-done.field-0
+did : (g : Over) (c : In_ok-done g) → DidDraw c.args.board.now.table c.args.claims.table (g.C.CaseRunner.cases c.args.runner.now)
+    (g.C.CaseRunner.end_of c.args.runner.now) (g.C.CaseRunner.hits c.args.runner.now) c.in_ok-done.field-0
 did g c =
     let xs = c.pop.new.self.items in
     let r = c.in-Some.result in
-    let Did : Drew g.row.C-End.Denot → Type 0 = DidDraw c.args.board.now.table c.args.claims.table (g.C.CaseRunner.cases c.args.runner.now) (g.C.CaseRunner.end_of c.args.runner.now) (g.C.CaseRunner.hits c.args.runner.now) in
-    let All : List (Result (Drew g.row.C-End.Denot) Memory) → Type 0 = AllDrew c.args.board.now.table c.args.claims.table (g.C.CaseRunner.cases c.args.runner.now) (g.C.CaseRunner.end_of c.args.runner.now) (g.C.CaseRunner.hits c.args.runner.now) in
+    let Did : Drew g.row.C-End.Denot → Type 0 = DidDraw c.args.board.now.table c.args.claims.table (g.C.CaseRunner.cases c.args.runner.now)
+    (g.C.CaseRunner.end_of c.args.runner.now) (g.C.CaseRunner.hits c.args.runner.now) in
+    let All : List (Result (Drew g.row.C-End.Denot) Memory) → Type 0 = AllDrew c.args.board.now.table c.args.claims.table
+    (g.C.CaseRunner.cases c.args.runner.now) (g.C.CaseRunner.end_of c.args.runner.now) (g.C.CaseRunner.hits c.args.runner.now) in
     let all = subst All c.in-Some.ensures.items c.joining.invariant.3 in
-    subst (λ (x : Result (Drew g.row.C-End.Denot) Memory). IfOk x Did) (at_end xs r r ∙ c.in_ok-done.was) (all (length xs) r (omega (arith, length-append xs (r ∷ []))))
+    subst (λ (x : Result (Drew g.row.C-End.Denot) Memory). IfOk x Did) (at_end xs r r ∙ c.in_ok-done.was)
+    (all (length xs) r (omega (arith, length-append xs (r ∷ []))))
 
 fewer : (g : Over) (c : In_ok-done g) → vec_len c.joining.gave ≡ vec_len c.pop.new.self + 1
-fewer g c = omega (arith, c.joining.gave.ok.0, c.pop.new.self.ok.0, ap length c.in-Some.ensures.items, length-append c.pop.new.self.items (c.in-Some.result ∷ []))
+fewer g c = omega (
+  arith,
+  c.joining.gave.ok.0,
+  c.pop.new.self.ok.0,
+  ap length c.in-Some.ensures.items,
+  length-append c.pop.new.self.items
+      (c.in-Some.result ∷ []),
+)
 
 pub join-requires : goal.join-requires
 join-requires g c = let d = did g (goal.at.join-requires g c).In_ok-done in record { board = (c.joining.invariant.0, d.0) }
@@ -84,7 +97,8 @@ joining-preserved g c =
       omega (arith, c.join.ensures.part, d.1, i.1, less),
       subst (λ (x : List ℕ × List (ℕ × ℕ)). HitsOf cases hit_by (Contains x.0) x.1) (λ j. (sym nums j, sym c.join.ensures.hits j)) hits,
       λ w x lt. subst (λ (r : Result (Drew g.row.C-End.Denot) Memory). IfOk r (DidDraw c.args.board.now.table c.args.claims.table cases end_of hit_by))
-          (ap (λ l. get_or l w x) c.in-Some.ensures.items ∙ in_front xs c.in-Some.result x w lt) (i.3 w x (omega (arith, lt, less, c.pop.new.self.ok.0, c.joining.gave.ok.0))),
+          (ap (λ l. get_or l w x) c.in-Some.ensures.items ∙ in_front xs c.in-Some.result x w lt)
+          (i.3 w x (omega (arith, lt, less, c.pop.new.self.ok.0, c.joining.gave.ok.0))),
       c.join-in-Some.ensures.claims ∙ i.4,
       omega (arith, ap length nums, length-append olds news, c.join-in-Some.ensures.budget, d.3, i.5, product),
       inr (d.4.0, subst (λ (l : List ℕ). Contains l d.4.0) (sym nums) (Contains-append_right olds news d.4.0 d.4.1), d.4.2),
@@ -117,11 +131,16 @@ returns-clause-ends g c =
     let ends = c.joining.ends.items in
     let len : length ends ≡ cases = omega (arith, i.7, c.joining.ends.ok.0) in
     let there = all_there end_of ends (λ k lt. i.8 k (omega (arith, lt, len)) (drawn g at k (omega (arith, lt, len)))) in
-    subst (λ (n : ℕ). AreEnds n end_of c.in_ok-all_ends.field-0.items) len (subst (λ (l : List g.row.C-End.Denot). AreEnds (length ends) end_of l) (sym c.in_ok-all_ends.ensures) there)
+    subst (λ (n : ℕ). AreEnds n end_of c.in_ok-all_ends.field-0.items) len
+    (subst (λ (l : List g.row.C-End.Denot). AreEnds (length ends) end_of l) (sym c.in_ok-all_ends.ensures) there)
 
 pub returns-clause-seat : goal.returns-clause-seat
 returns-clause-seat g c =
     let at = (goal.at.returns-clause-seat g c).After-close in
     let none = c.in_default.ensures.cases.0 in
-    let i = c.joining.invariant in
-    (i.0, omega (arith, i.1, none), same_hits (g.C.CaseRunner.cases c.args.runner.now) (Contains c.joining.drawer.numbers) (λ _. Unit {0}) (λ k _ _. tt) (λ k lt _. drawn g at k lt) (g.C.CaseRunner.hits c.args.runner.now) c.joining.seat.hits i.2)
+    let i = c.joining.invariant in (
+      i.0,
+      omega (arith, i.1, none),
+      same_hits (g.C.CaseRunner.cases c.args.runner.now) (Contains c.joining.drawer.numbers) (λ _. Unit {0}) (λ k _ _. tt)
+          (λ k lt _. drawn g at k lt) (g.C.CaseRunner.hits c.args.runner.now) c.joining.seat.hits i.2,
+    )

@@ -10,7 +10,8 @@ pub collect-requires-clause-gave : goal.collect-requires-clause-gave
 collect-requires-clause-gave g c =
     let runner = c.in_ok-runner.runner in
     let gave = c.in_ok-gave.gave in
-    let cases : c.len-cases.result ≡ length runner.plan.now.cases = c.len-cases.ensures ∙ sym (ap (λ (p : RunPlan). length p.cases) c.in_ok-runner.ensures.1) in (
+    let cases : c.len-cases.result ≡ length runner.plan.now.cases =
+    c.len-cases.ensures ∙ sym (ap (λ (p : RunPlan). length p.cases) c.in_ok-runner.ensures.1) in (
       omega (arith, c.in_ok-gave.ensures.0, c.in_ok-turns.ensures.turns.1, c.requires.workers.0),
       subst (λ n. AllDrew {E = CaseEnd} c.args.board.now.table c.in_ok-claims.claims.table n (λ k. end_under runner.program.now (case_at runner.plan.now k))
           (HitBy runner.program.now runner.plan.now) gave.items) cases c.in_ok-gave.ensures.1,
