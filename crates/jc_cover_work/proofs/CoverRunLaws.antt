@@ -36,30 +36,30 @@ no_link_end looked written end = by end.0 end.2
 
 module _ (landed : Landed) (c : Cover) where
   -- the writes behind the execution data
-  abbrev last_part : RunPlan → Program → List ℕ → Command
+  abbrev pub last_part : RunPlan → Program → List ℕ → Command
   last_part plan program csv = do
     writing (to_file c.csv csv)
     writing (to_out (case_texts program 1 plan.cases))
     ending done
 
-  abbrev report_part : RunPlan → List LookedFile → Program → Command
+  abbrev pub report_part : RunPlan → List LookedFile → Program → Command
   report_part plan looked program = do
     writing (to_file c.exec (exec_text (run_store program plan)))
     csv ← deciding (IsReportText c.name (run_store program plan) (texts_in (accepted looked))) (IsClashEnd c.exec (run_store program plan) (texts_in (accepted looked)))
     last_part plan program csv
 
-  abbrev entry_part : RunPlan → List LookedFile → Program → Command
+  abbrev pub entry_part : RunPlan → List LookedFile → Program → Command
   entry_part plan looked program = do
     deciding (HaveEntries program plan) (IsEntryEnd c.plan program plan)
     report_part plan looked program
 
-  abbrev run_part : RunPlan → List LookedFile → Command
+  abbrev pub run_part : RunPlan → List LookedFile → Command
   run_part plan looked = do
     written ← reading_all (targets c.dest looked)
     program ← deciding (IsRunProgram written) (IsLinkEnd looked written)
     entry_part plan looked program
 
-  abbrev look_part : List ℕ → List Word → List (List ℕ) → Command
+  abbrev pub look_part : List ℕ → List Word → List (List ℕ) → Command
   look_part plan_text paths read = do
     plan ← deciding (IsPlanText plan_text) (IsPlanEnd c.plan plan_text)
     looked ← instrumenting c.dest paths read

@@ -9,3 +9,4 @@ pub mod HitLaws
 pub mod FactLaws
 pub mod RowLaws
 pub mod HeadlineLaws
+pub mod OneCoverLaws

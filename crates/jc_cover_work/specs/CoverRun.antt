@@ -10,7 +10,7 @@ use Rattle.jc_work.specs.Step.{Word, World, Landed, to_file, to_out, IsRead}
 use Rattle.jc_work.specs.Prefix.{after_writes}
 use Rattle.jc_run_work.specs.RunAnswers.{IsRunProgram}
 use Rattle.jc_run_work.specs.RunStore.{run_store}
-use Rattle.jc_cover_work.specs.CoverWork.{Cover, LookedFile, AreLooked, all_file_writes, accepted, texts_in, targets, HaveEntries, IsReportText}
+use Rattle.jc_cover_work.specs.CoverWork.{Cover, LookedFile, AreLooked, all_file_writes, accepted_texts, targets, HaveEntries, IsReportText}
 
 -- the paths hold these bytes, in order
 abbrev pub AreRead : Option FileMap → List Word → List (List ℕ) → Type 0
@@ -52,7 +52,7 @@ pub record CoverRun (landed : Landed) (c : Cover) (old new : World) : Type 0 whe
   pub entries : HaveEntries program plan tt
   -- the report on the accepted originals
   pub csv : List ℕ
-  pub report : IsReportText c.name (run_store program plan) (texts_in (accepted looked)) csv
+  pub report : IsReportText c.name (run_store program plan) (accepted_texts looked) csv
   -- all writes: the files with their lines, the execution data, the report, and what the cases printed
   pub stands : new ≡ after_writes landed old (all_file_writes c.dest looked
       ++ (to_file c.exec (exec_text (run_store program plan)) ∷ to_file c.csv csv ∷ to_out (case_texts program 1 plan.cases) ∷ []))

@@ -14,7 +14,8 @@ use Rattle.jc_linking.specs.declared.link_refusal.LinkRefusal.TheVariants as ref
 use Rattle.jc_world.specs.CaseText.{case_texts}
 use Rattle.jc_work.specs.declared.status.Fault.TheVariants as fault
 use Rattle.jc_work.specs.Step.{Word, Write, to_file, to_out}
-use Rattle.jc_work.specs.Part.{End, done, refused, Part, Command, giving, ending, deciding, making, reading, writing, reading_all, writing_all, ◌>>=◌, ◌>>◌}
+use Rattle.jc_work.specs.Part.{End, done, refused, Part, Command, giving, ending, deciding, making, ◌>>=◌, ◌>>◌}
+use Rattle.jc_work.specs.Part.{reading, writing, reading_all, writing_all}
 use Rattle.jc_work.specs.Answered.{refusal_of}
 use Rattle.jc_work.specs.Folders.{is_folder, files_of}
 use Rattle.jc_class_commands.specs.Instrument.{Decision, refused_file, accepted_file, IsDecision, file_writes}
@@ -78,6 +79,10 @@ paths_in ls = map (λ l. l.file) ls
 abbrev pub texts_in : List LookedFile → List (List ℕ)
 texts_in ls = map (λ l. l.bytes) ls
 
+-- the bytes of the accepted files, as they were read
+abbrev pub accepted_texts : List LookedFile → List (List ℕ)
+accepted_texts looked = texts_in (accepted looked)
+
 -- the paths to which the accepted files were written
 abbrev pub targets : (dest : Word) → List LookedFile → List Word
 targets dest looked = map (in_folder dest) (paths_in (accepted looked))
@@ -107,7 +112,8 @@ abbrev pub EndsAmongAll : List LookedFile → (written : List (List ℕ)) → Li
 EndsAmongAll looked written (refusals.Class index why) end = end ≡ refusal_of (path_of looked index) (fault.Class (place_of looked index) why)
 EndsAmongAll looked written (refusals.SameName first second) end =
     (name : List ℕ) × HasName written first name
-    × (end ≡ refused (fault.SameName (place_of looked first) (place_of looked second)) (same_name_text (path_of looked first) (path_of looked second) name))
+    × (end ≡ refused (fault.SameName (place_of looked first) (place_of looked second))
+    (same_name_text (path_of looked first) (path_of looked second) name))
 EndsAmongAll looked written (refusals.SameId first second) end =
     (id : ℕ) × HasId written first id
     × (end ≡ refused (fault.SameId (place_of looked first) (place_of looked second)) (same_id_text (path_of looked first) (path_of looked second) id))
@@ -122,7 +128,9 @@ HaveEntries program plan _ = first_without program (threads_of plan) ≡ None
 
 -- a thread has none: the first is named, by its line
 abbrev pub IsEntryEnd : (path : Word) → Program → RunPlan → End → Type 0
-IsEntryEnd path program plan end = (thread : ThreadLine) × (first_without program (threads_of plan) ≡ Some thread) × (end ≡ refusal_of path (fault.NoEntry thread.line))
+IsEntryEnd path program plan end =
+    (thread : ThreadLine) × (first_without program (threads_of plan) ≡ Some thread)
+    × (end ≡ refusal_of path (fault.NoEntry thread.line))
 
 -- ---- the report
 
@@ -161,7 +169,7 @@ cover_work c = do
   deciding (HaveEntries program plan) (IsEntryEnd c.plan program plan)
   writing (to_file c.exec (exec_text (run_store program plan)))
   -- the report is on the originals
-  csv ← deciding (IsReportText c.name (run_store program plan) (texts_in (accepted looked))) (IsClashEnd c.exec (run_store program plan) (texts_in (accepted looked)))
+  csv ← deciding (IsReportText c.name (run_store program plan) (accepted_texts looked)) (IsClashEnd c.exec (run_store program plan) (accepted_texts looked))
   writing (to_file c.csv csv)
   writing (to_out (case_texts program 1 plan.cases))
   ending done

@@ -15,7 +15,8 @@
 --   stopped; and exactly what was executed is covered where each thread of each case returned, and nothing was thrown.
 -- * Each class file that is refused stands in the folder as it was read, unless its path is that of the execution data or of the
 --   report too, and its line, which says why, is on `err`.
-use Rattle.std.specs.Prelude.{◌≡◌, ◌≢◌, ◌↔◌, ⊤, ℕ, ◌+◌, ◌<◌, Bool, true, false, List, [], ◌∷◌, ◌++◌, Option, Some, None, Contains, IsTrue, slice_get, slice_index_or}
+use Rattle.std.specs.Prelude.{◌≡◌, ◌≢◌, ◌↔◌, ⊤, ℕ, ◌+◌, ◌<◌, Bool, true, false, List, [], ◌∷◌, ◌++◌}
+use Rattle.std.specs.Prelude.{Option, Some, None, Contains, IsTrue, slice_get, slice_index_or}
 use Rattle.std.specs.FinMap.{get}
 use Rattle.std.specs.List.{AllByRecursion}
 use Rattle.jc_programs.specs.declared.program.Program.{Program}
@@ -50,7 +51,7 @@ use Rattle.jc_work.specs.Step.{Word, World, Counts, Landed, Write, to_file, to_o
 use Rattle.jc_class_commands.specs.Instrument.{Decision, refused_file, accepted_file}
 use Rattle.jc_class_commands.specs.Report.{report_text}
 use Rattle.jc_run_work.specs.RunStore.{hit_record, run_store}
-use Rattle.jc_cover_work.specs.CoverWork.{Cover, LookedFile, in_folder, all_file_writes, accepted, texts_in, cover_work}
+use Rattle.jc_cover_work.specs.CoverWork.{Cover, LookedFile, in_folder, all_file_writes, accepted_texts, cover_work}
 use Rattle.jc_cover_work.specs.CoverRun.{CoverRun}
 
 -- ---- premises
@@ -81,7 +82,9 @@ HoldsFile w path bytes = Told w.contents (λ m. get m path ≡ Some bytes)
 
 -- a refused file stands in the folder as it was read, unless a later write went to its path
 abbrev pub IsCopied : Cover → World → LookedFile → Decision → Type 0
-IsCopied c new l (refused_file why) = in_folder c.dest l.file ≢ c.exec → in_folder c.dest l.file ≢ c.csv → HoldsFile new (in_folder c.dest l.file) l.bytes
+IsCopied c new l (refused_file why) =
+    in_folder c.dest l.file ≢ c.exec → in_folder c.dest l.file ≢ c.csv
+    → HoldsFile new (in_folder c.dest l.file) l.bytes
 IsCopied c new l (accepted_file a) = ⊤
 
 -- what writes put on `out`, and on `err`
@@ -143,7 +146,7 @@ module _ (before after : Program) (marks : Entry → Marks) (plan : RunPlan) whe
 pub record Headline (landed : Landed) (c : Cover) (old new : World) (r : CoverRun landed c old new) : Type 0 where
   -- the two programs
   pub before : Program
-  pub originals : IsProgramOf (texts_in (accepted r.looked)) before
+  pub originals : IsProgramOf (accepted_texts r.looked) before
   pub after : Program
   pub instrumented : IsProgramOf (all_written r.looked) after
   pub twins : TwinProgram before after
@@ -169,4 +172,4 @@ pub record Headline (landed : Landed) (c : Cover) (old new : World) (r : CoverRu
 -- Where contents are told, each run of `cover` that is done is one of which the headline holds, if constants stand where they should.
 abbrev pub HeadlineOf : Landed → Type 0
 HeadlineOf landed = (c : Cover) (old new : World) (f f' : Counts) → IsTold old → Ends landed (cover_work c) old new f f' status.Done
-    → (r : CoverRun landed c old new) × (AllByRecursion NamesConstants (texts_in (accepted r.looked)) → Headline landed c old new r)
+    → (r : CoverRun landed c old new) × (AllByRecursion NamesConstants (accepted_texts r.looked) → Headline landed c old new r)

@@ -2,10 +2,22 @@
 ghost use Rattle.std.specs.Prelude.{◌≡◌, ℕ, List};
 ghost use Rattle.jc_work.specs.Step.{World, Counts, Landed};
 ghost use Rattle.jc_work.specs.Ending.{Ends};
+ghost use Rattle.jc_work.specs.OneWay.{IsTold, Work, IsWork};
 ghost use Rattle.jc_work.specs.declared.status.Status.TheVariants as status;
 ghost use Rattle.jc_cover_work.specs.CoverWork.{Cover, cover_work};
 ghost use Rattle.jc_cover_work.specs.CoverRun.{CoverRun};
 ghost use Rattle.jc_cover_work.specs.Headline.{HeadlineOf};
+
+use jc_link::each_text_is_a_plan_or_has_a_first_unfit_line;
+
+/// What is asked of `cover` and told contents have exactly one work: its steps, and an end.
+pub fn cover_has_one_work()
+    ensures some { (landed : Landed) (c : Cover) (w : World) → IsTold w → (work : Work) × IsWork landed (cover_work c) w work }
+    ensures one { (landed : Landed) (c : Cover) (w : World) (a b : Work) → IsTold w → IsWork landed (cover_work c) w a
+        → IsWork landed (cover_work c) w b → a ≡ b }
+{
+    each_text_is_a_plan_or_has_a_first_unfit_line();
+}
 
 /// A run of `cover` that is done read, made and wrote what a `CoverRun` says: text and execution data are those of the program
 /// that is linked from the very bytes that were read back, whatever a path holds after a write.

@@ -4,4 +4,6 @@
 
 mod laws;
 
-pub use laws::{instrumented_classes_do_what_their_originals_do, what_was_read_back_runs};
+pub use laws::{
+    cover_has_one_work, instrumented_classes_do_what_their_originals_do, what_was_read_back_runs,
+};
