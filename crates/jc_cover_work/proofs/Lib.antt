@@ -10,3 +10,4 @@ pub mod FactLaws
 pub mod RowLaws
 pub mod HeadlineLaws
 pub mod OneCoverLaws
+pub mod OwnEndLaws

@@ -2,6 +2,7 @@
 ghost use Rattle.std.specs.Prelude.{◌≡◌, ℕ, List};
 ghost use Rattle.jc_work.specs.Step.{World, Counts, Landed};
 ghost use Rattle.jc_work.specs.Ending.{Ends};
+ghost use Rattle.jc_work.specs.Causes.{HasOwnEnds};
 ghost use Rattle.jc_work.specs.OneWay.{IsTold, Work, IsWork};
 ghost use Rattle.jc_work.specs.declared.status.Status.TheVariants as status;
 ghost use Rattle.jc_cover_work.specs.CoverWork.{Cover, cover_work};
@@ -18,6 +19,11 @@ pub fn cover_has_one_work()
 {
     each_text_is_a_plan_or_has_a_first_unfit_line();
 }
+
+/// By itself `cover` is done, refuses an input, or can't read a file. Else a call failed, or memory was refused.
+pub fn cover_ends_by_itself()
+    ensures { (c : Cover) → HasOwnEnds (cover_work c) }
+{}
 
 /// A run of `cover` that is done read, made and wrote what a `CoverRun` says: text and execution data are those of the program
 /// that is linked from the very bytes that were read back, whatever a path holds after a write.
