@@ -34,7 +34,7 @@ no_link_end looked written end = by end.0 end.2
 
 -- ---- `cover`
 
-module _ (landed : Landed) (c : Cover) where
+module _ (c : Cover) where
   -- the writes behind the execution data
   abbrev pub last_part : RunPlan → Program → List ℕ → Command
   last_part plan program csv = do
@@ -65,12 +65,13 @@ module _ (landed : Landed) (c : Cover) where
     looked ← instrumenting c.dest paths read
     run_part plan looked
 
+module _ (landed : Landed) (c : Cover) where
   -- what stands behind the writes of the files
   abbrev Leaves : RunPlan → Program → List ℕ → World → World → Type 0
   Leaves plan program csv w new =
       new ≡ after_writes landed w (to_file c.exec (exec_text (run_store program plan)) ∷ to_file c.csv csv ∷ to_out (case_texts program 1 plan.cases) ∷ [])
 
-  last_over : (plan : RunPlan) (program : Program) (text : List ℕ) (w : World) (steps : List Step) → last_part plan program text steps (stops done) → Fit landed w steps
+  last_over : (plan : RunPlan) (program : Program) (text : List ℕ) (w : World) (steps : List Step) → last_part c plan program text steps (stops done) → Fit landed w steps
       → after landed w steps ≡ after_writes landed w (to_file c.csv text ∷ to_out (case_texts program 1 plan.cases) ∷ [])
   last_over plan program text w steps is fits =
       let csv = to_file c.csv text in
@@ -85,7 +86,7 @@ module _ (landed : Landed) (c : Cover) where
       no_more [] v is = refl
       no_more (s ∷ ss) v is = absurd is
 
-  report_over : (plan : RunPlan) (looked : List LookedFile) (program : Program) (w : World) (steps : List Step) → report_part plan looked program steps (stops done) → Fit landed w steps
+  report_over : (plan : RunPlan) (looked : List LookedFile) (program : Program) (w : World) (steps : List Step) → report_part c plan looked program steps (stops done) → Fit landed w steps
       → (csv : List ℕ) × IsReportText c.name (run_store program plan) (texts_in (accepted looked)) csv × Leaves plan program csv w (after landed w steps)
   report_over plan looked program w steps is fits =
       let store = run_store program plan in
@@ -101,7 +102,7 @@ module _ (landed : Landed) (c : Cover) where
       let last = last_over plan program b.value w' b.behind b.next (subst (λ (v : World). Fit landed v b.behind) left b.fits') in
       (b.value, so, a.stands ∙ ap (λ (v : World). after landed v a.behind) made ∙ b.stands ∙ ap (λ (v : World). after landed v b.behind) left ∙ last)
 
-  entry_over : (plan : RunPlan) (looked : List LookedFile) (program : Program) (w : World) (steps : List Step) → entry_part plan looked program steps (stops done) → Fit landed w steps
+  entry_over : (plan : RunPlan) (looked : List LookedFile) (program : Program) (w : World) (steps : List Step) → entry_part c plan looked program steps (stops done) → Fit landed w steps
       → HaveEntries program plan tt × ((csv : List ℕ) × IsReportText c.name (run_store program plan) (texts_in (accepted looked)) csv × Leaves plan program csv w (after landed w steps))
   entry_over plan looked program w steps is fits =
       let Is = HaveEntries program plan in
@@ -123,7 +124,7 @@ module _ (landed : Landed) (c : Cover) where
     report : IsReportText c.name (run_store program plan) (texts_in (accepted looked)) csv
     stands : Leaves plan program csv w new
 
-  run_over : (plan : RunPlan) (looked : List LookedFile) (w : World) (steps : List Step) → run_part plan looked steps (stops done) → Fit landed w steps → Ran plan looked w (after landed w steps)
+  run_over : (plan : RunPlan) (looked : List LookedFile) (w : World) (steps : List Step) → run_part c plan looked steps (stops done) → Fit landed w steps → Ran plan looked w (after landed w steps)
   run_over plan looked w steps is fits =
       let a = both landed (reading_all (targets c.dest looked)) _ w steps (stops done) (through (reading_all (targets c.dest looked)) _ steps (quiet_reading_all (targets c.dest looked)) is) fits in
       let (back, left) = reading_all_over landed w (targets c.dest looked) a.value a.front a.first a.fits in
@@ -156,10 +157,10 @@ module _ (landed : Landed) (c : Cover) where
 
   module _ (old : World) (plan_text : List ℕ) (plan_read : IsRead old.contents c.plan plan_text) where
     instrument_over : (paths : List Word) (distinct : AreDistinct paths) (read : List (List ℕ)) (files_read : AreRead old.contents paths read) (plan : RunPlan) (is_plan : IsPlanText plan_text plan) (steps : List Step)
-        → (instrumenting c.dest paths read >>= (λ looked. run_part plan looked)) steps (stops done) → Fit landed old steps → Run old (after landed old steps)
+        → (instrumenting c.dest paths read >>= (λ looked. run_part c plan looked)) steps (stops done) → Fit landed old steps → Run old (after landed old steps)
     instrument_over paths distinct read files_read plan is_plan steps is fits =
         let part = instrumenting c.dest paths read in
-        let h = both landed part (λ looked. run_part plan looked) old steps (stops done) (through part (λ looked. run_part plan looked) steps (quiet_instrumenting c.dest paths read) is) fits in
+        let h = both landed part (λ looked. run_part c plan looked) old steps (stops done) (through part (λ looked. run_part c plan looked) steps (quiet_instrumenting c.dest paths read) is) fits in
         let (looked_at, made) = instrumenting_over landed old c.dest paths read h.value h.front h.first h.fits in
         let w = after_writes landed old (all_file_writes c.dest h.value) in
         let ran = run_over plan h.value w h.behind h.next (subst (λ (v : World). Fit landed v h.behind) made h.fits') in
@@ -186,27 +187,27 @@ module _ (landed : Landed) (c : Cover) where
           stands = sym (after_writes-append old (all_file_writes c.dest h.value) behind);
         })
 
-    look_over : (paths : List Word) (distinct : AreDistinct paths) (read : List (List ℕ)) (files_read : AreRead old.contents paths read) (steps : List Step) → look_part plan_text paths read steps (stops done) → Fit landed old steps → Run old (after landed old steps)
+    look_over : (paths : List Word) (distinct : AreDistinct paths) (read : List (List ℕ)) (files_read : AreRead old.contents paths read) (steps : List Step) → look_part c plan_text paths read steps (stops done) → Fit landed old steps → Run old (after landed old steps)
     look_over paths distinct read files_read steps is fits =
         let Is = IsPlanText plan_text in
         let Ends = IsPlanEnd c.plan plan_text in
-        let rest = λ (plan : RunPlan). instrumenting c.dest paths read >>= (λ looked. run_part plan looked) in
+        let rest = λ (plan : RunPlan). instrumenting c.dest paths read >>= (λ looked. run_part c plan looked) in
         let e = both landed (deciding Is Ends) rest old steps (stops done) (through (deciding Is Ends) rest steps (quiet_deciding Is Ends (λ end. not_refused _ _ end.2)) is) fits in
         let (is_plan, left) = deciding_over landed old Is Ends e.value e.front e.first in
         moved old (after landed old e.behind) (after landed old steps) (e.stands ∙ ap (λ (v : World). after landed v e.behind) left)
         (instrument_over paths distinct read files_read e.value is_plan e.behind e.next (subst (λ (v : World). Fit landed v e.behind) left e.fits'))
 
-    read_over : (paths : List Word) (distinct : AreDistinct paths) (steps : List Step) → (reading_all paths >>= (λ read. look_part plan_text paths read)) steps (stops done) → Fit landed old steps → Run old (after landed old steps)
+    read_over : (paths : List Word) (distinct : AreDistinct paths) (steps : List Step) → (reading_all paths >>= (λ read. look_part c plan_text paths read)) steps (stops done) → Fit landed old steps → Run old (after landed old steps)
     read_over paths distinct steps is fits =
-        let rest = λ (read : List (List ℕ)). look_part plan_text paths read in
+        let rest = λ (read : List (List ℕ)). look_part c plan_text paths read in
         let d = both landed (reading_all paths) rest old steps (stops done) (through (reading_all paths) rest steps (quiet_reading_all paths) is) fits in
         let (files_read, left) = reading_all_over landed old paths d.value d.front d.first d.fits in
         moved old (after landed old d.behind) (after landed old steps) (d.stands ∙ ap (λ (v : World). after landed v d.behind) left)
         (look_over paths distinct d.value files_read d.behind d.next (subst (λ (v : World). Fit landed v d.behind) left d.fits'))
 
-    list_over : (steps : List Step) → (files_of c.files >>= (λ paths. reading_all paths >>= (λ read. look_part plan_text paths read))) steps (stops done) → Fit landed old steps → Run old (after landed old steps)
+    list_over : (steps : List Step) → (files_of c.files >>= (λ paths. reading_all paths >>= (λ read. look_part c plan_text paths read))) steps (stops done) → Fit landed old steps → Run old (after landed old steps)
     list_over steps is fits =
-        let rest = λ (paths : List Word). reading_all paths >>= (λ read. look_part plan_text paths read) in
+        let rest = λ (paths : List Word). reading_all paths >>= (λ read. look_part c plan_text paths read) in
         let b = both landed (files_of c.files) rest old steps (stops done) (through (files_of c.files) rest steps (quiet_files c.files) is) fits in
         let (distinct, left) = files_over landed old c.files b.value b.front b.first b.fits in
         moved old (after landed old b.behind) (after landed old steps) (b.stands ∙ ap (λ (v : World). after landed v b.behind) left)
@@ -215,7 +216,7 @@ module _ (landed : Landed) (c : Cover) where
   -- for every `landed`, what ran is what was read back
   pub cover_ran : (old new : World) → CameTo landed (cover_work c) old new (stops done) → CoverRun landed c old new
   cover_ran old new came =
-      let rest = λ (plan_text : List ℕ). files_of c.files >>= (λ paths. reading_all paths >>= (λ read. look_part plan_text paths read)) in
+      let rest = λ (plan_text : List ℕ). files_of c.files >>= (λ paths. reading_all paths >>= (λ read. look_part c plan_text paths read)) in
       let a = both landed (reading c.plan) rest old came.steps (stops done) (through (reading c.plan) rest came.steps (quiet_reading c.plan) came.comes) came.fit in
       let (plan_read, left) = reading_over landed old c.plan a.value a.front a.first a.fits in
       moved old (after landed old a.behind) new (came.stand ∙ a.stands ∙ ap (λ (v : World). after landed v a.behind) left)

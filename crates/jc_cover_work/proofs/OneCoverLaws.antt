@@ -232,12 +232,12 @@ module _ (name exec : Word) (store : Store) (texts : List (List ℕ)) where
 -- ---- the work
 
 module _ (laws : PlansAreOne) (landed : Landed) (c : Cover) where
-  has_last : (plan : RunPlan) (program : Program) (csv : List ℕ) → HasOne landed (last_part landed c plan program csv)
+  has_last : (plan : RunPlan) (program : Program) (csv : List ℕ) → HasOne landed (last_part c plan program csv)
   has_last plan program csv =
       has_then landed (writing (to_file c.csv csv)) _ (λ w told. one_writing landed w (to_file c.csv csv))
       (λ _. has_then landed (writing (to_out (case_texts program 1 plan.cases))) _ (λ w told. one_writing landed w (to_out (case_texts program 1 plan.cases))) (λ _ w told. one_ending landed w done))
 
-  has_report : (plan : RunPlan) (looked : List LookedFile) (program : Program) → AllByRecursion IsFile (texts_in (accepted looked)) → HasOne landed (report_part landed c plan looked program)
+  has_report : (plan : RunPlan) (looked : List LookedFile) (program : Program) → AllByRecursion IsFile (texts_in (accepted looked)) → HasOne landed (report_part c plan looked program)
   has_report plan looked program files =
       let store = run_store program plan in
       let exec = to_file c.exec (exec_text store) in
@@ -245,18 +245,18 @@ module _ (laws : PlansAreOne) (landed : Landed) (c : Cover) where
       (λ _. has_then landed (deciding (IsReportText c.name store (texts_in (accepted looked))) (IsClashEnd c.exec store (texts_in (accepted looked)))) _
       (λ w told. one_deciding landed w _ _ (reports c.name c.exec store (texts_in (accepted looked)) files)) (λ csv. has_last plan program csv))
 
-  has_entry : (plan : RunPlan) (looked : List LookedFile) (program : Program) → AllByRecursion IsFile (texts_in (accepted looked)) → HasOne landed (entry_part landed c plan looked program)
+  has_entry : (plan : RunPlan) (looked : List LookedFile) (program : Program) → AllByRecursion IsFile (texts_in (accepted looked)) → HasOne landed (entry_part c plan looked program)
   has_entry plan looked program files =
       has_then landed (deciding (HaveEntries program plan) (IsEntryEnd c.plan program plan)) _ (λ w told. one_deciding landed w _ _ (begins c.plan program plan)) (λ _. has_report plan looked program files)
 
   has_link : (plan : RunPlan) (looked : List LookedFile) (written : List (List ℕ)) → AllByRecursion IsFile (texts_in (accepted looked)) → AllByRecursion IsShortFile written
-      → HasOne landed (deciding (IsRunProgram written) (IsLinkEnd looked written) >>= (λ program. entry_part landed c plan looked program))
+      → HasOne landed (deciding (IsRunProgram written) (IsLinkEnd looked written) >>= (λ program. entry_part c plan looked program))
   has_link plan looked written files short =
       has_then landed (deciding (IsRunProgram written) (IsLinkEnd looked written)) _ (λ w told. one_deciding landed w _ _ (links looked written short)) (λ program. has_entry plan looked program files)
 
-  has_run : (plan : RunPlan) (looked : List LookedFile) → AllByRecursion IsFile (texts_in (accepted looked)) → HasOne landed (run_part landed c plan looked)
+  has_run : (plan : RunPlan) (looked : List LookedFile) → AllByRecursion IsFile (texts_in (accepted looked)) → HasOne landed (run_part c plan looked)
   has_run plan looked files =
-      has_then_if landed (reading_all (targets c.dest looked)) (λ written. deciding (IsRunProgram written) (IsLinkEnd looked written) >>= (λ program. entry_part landed c plan looked program))
+      has_then_if landed (reading_all (targets c.dest looked)) (λ written. deciding (IsRunProgram written) (IsLinkEnd looked written) >>= (λ program. entry_part c plan looked program))
       (has_reading_all landed (targets c.dest looked))
       (λ w steps written over fits. has_link plan looked written files (short_texts written (all_files (targets c.dest looked) written (texts_read landed w (targets c.dest looked) steps written over fits))))
 
@@ -265,24 +265,24 @@ module _ (laws : PlansAreOne) (landed : Landed) (c : Cover) where
       has_then landed (making (AreLooked paths read)) _ (λ w told. one_deciding landed w (AreLooked paths read) never (looks paths read are))
       (λ looked. has_then landed (writing_all (all_file_writes c.dest looked)) _ (has_writing_all landed (all_file_writes c.dest looked)) (λ _ w told. one_giving landed w looked))
 
-  has_looked : (paths : List Word) (read : List (List ℕ)) (plan : RunPlan) → AreTexts paths read → HasOne landed (instrumenting c.dest paths read >>= (λ looked. run_part landed c plan looked))
+  has_looked : (paths : List Word) (read : List (List ℕ)) (plan : RunPlan) → AreTexts paths read → HasOne landed (instrumenting c.dest paths read >>= (λ looked. run_part c plan looked))
   has_looked paths read plan are =
-      has_then_if landed (instrumenting c.dest paths read) (λ looked. run_part landed c plan looked) (has_instrumenting paths read are)
+      has_then_if landed (instrumenting c.dest paths read) (λ looked. run_part c plan looked) (has_instrumenting paths read are)
       (λ w steps looked over fits.
       has_run plan looked (file_texts (texts_in (accepted looked)) (all_short paths read looked (instrumenting_over landed w c.dest paths read looked steps over fits).0 (short_texts read (all_files paths read are)))))
 
-  has_look : (text : List ℕ) (paths : List Word) (read : List (List ℕ)) → AreTexts paths read → HasOne landed (look_part landed c text paths read)
+  has_look : (text : List ℕ) (paths : List Word) (read : List (List ℕ)) → AreTexts paths read → HasOne landed (look_part c text paths read)
   has_look text paths read are =
-      has_then landed (deciding (IsPlanText text) (IsPlanEnd c.plan text)) (λ plan. instrumenting c.dest paths read >>= (λ looked. run_part landed c plan looked))
+      has_then landed (deciding (IsPlanText text) (IsPlanEnd c.plan text)) (λ plan. instrumenting c.dest paths read >>= (λ looked. run_part c plan looked))
       (λ w told. one_deciding landed w _ _ (plans laws c.plan text)) (λ plan. has_looked paths read plan are)
 
-  has_read : (text : List ℕ) (paths : List Word) → HasOne landed (reading_all paths >>= (λ read. look_part landed c text paths read))
+  has_read : (text : List ℕ) (paths : List Word) → HasOne landed (reading_all paths >>= (λ read. look_part c text paths read))
   has_read text paths =
-      has_then_if landed (reading_all paths) (λ read. look_part landed c text paths read) (has_reading_all landed paths)
+      has_then_if landed (reading_all paths) (λ read. look_part c text paths read) (has_reading_all landed paths)
       (λ w steps read over fits. has_look text paths read (texts_read landed w paths steps read over fits))
 
   pub has_cover : HasOne landed (cover_work c)
   has_cover =
-      has_then landed (reading c.plan) (λ text. files_of c.files >>= (λ paths. reading_all paths >>= (λ read. look_part landed c text paths read)))
+      has_then landed (reading c.plan) (λ text. files_of c.files >>= (λ paths. reading_all paths >>= (λ read. look_part c text paths read)))
       (λ w told. one_reading landed w c.plan told)
-      (λ text. has_then landed (files_of c.files) (λ paths. reading_all paths >>= (λ read. look_part landed c text paths read)) (has_files landed c.files) (λ paths. has_read text paths))
+      (λ text. has_then landed (files_of c.files) (λ paths. reading_all paths >>= (λ read. look_part c text paths read)) (has_files landed c.files) (λ paths. has_read text paths))

@@ -74,30 +74,30 @@ own_instrumenting dest paths read =
     (λ l. ends_then IsOwnEnd (writing_all (all_file_writes dest l)) _ (ends_writing_all IsOwnEnd (all_file_writes dest l)) (λ u. own_giving l))
 
 module _ (c : Cover) where
-  own_last : (plan : RunPlan) (program : Program) (csv : List ℕ) → Own (last_part (λ path bytes. bytes) c plan program csv)
+  own_last : (plan : RunPlan) (program : Program) (csv : List ℕ) → Own (last_part c plan program csv)
   own_last plan program csv =
       ends_then IsOwnEnd (writing (to_file c.csv csv)) _ (own_writing (to_file c.csv csv))
       (λ _. ends_then IsOwnEnd (writing (to_out (case_texts program 1 plan.cases))) _ (own_writing (to_out (case_texts program 1 plan.cases))) (λ _. ends_ending IsOwnEnd done tt))
 
-  own_report : (plan : RunPlan) (looked : List LookedFile) (program : Program) → Own (report_part (λ path bytes. bytes) c plan looked program)
+  own_report : (plan : RunPlan) (looked : List LookedFile) (program : Program) → Own (report_part c plan looked program)
   own_report plan looked program =
       let store = run_store program plan in
       ends_then IsOwnEnd (writing (to_file c.exec (exec_text store))) _ (own_writing (to_file c.exec (exec_text store)))
       (λ _. ends_then IsOwnEnd (deciding (IsReportText c.name store (accepted_texts looked)) (IsClashEnd c.exec store (accepted_texts looked))) _
       (ends_deciding IsOwnEnd _ _ (λ end is. own_refused _ _ end is.2)) (λ csv. own_last plan program csv))
 
-  own_entry : (plan : RunPlan) (looked : List LookedFile) (program : Program) → Own (entry_part (λ path bytes. bytes) c plan looked program)
+  own_entry : (plan : RunPlan) (looked : List LookedFile) (program : Program) → Own (entry_part c plan looked program)
   own_entry plan looked program =
       ends_then IsOwnEnd (deciding (HaveEntries program plan) (IsEntryEnd c.plan program plan)) _ (ends_deciding IsOwnEnd _ _ (λ end is. own_refused _ _ end is.2))
       (λ _. own_report plan looked program)
 
-  own_run : (plan : RunPlan) (looked : List LookedFile) → Own (run_part (λ path bytes. bytes) c plan looked)
+  own_run : (plan : RunPlan) (looked : List LookedFile) → Own (run_part c plan looked)
   own_run plan looked =
       ends_then IsOwnEnd (reading_all (targets c.dest looked)) _ (own_reading_all (targets c.dest looked))
       (λ written. ends_then IsOwnEnd (deciding (IsRunProgram written) (IsLinkEnd looked written)) _
       (ends_deciding IsOwnEnd _ _ (own_link_end looked written)) (λ program. own_entry plan looked program))
 
-  own_look : (text : List ℕ) (paths : List Word) (read : List (List ℕ)) → Own (look_part (λ path bytes. bytes) c text paths read)
+  own_look : (text : List ℕ) (paths : List Word) (read : List (List ℕ)) → Own (look_part c text paths read)
   own_look text paths read =
       ends_then IsOwnEnd (deciding (IsPlanText text) (IsPlanEnd c.plan text)) _ (ends_deciding IsOwnEnd _ _ (λ end is. own_refused _ _ end is.2))
       (λ plan. ends_then IsOwnEnd (instrumenting c.dest paths read) _ (own_instrumenting c.dest paths read) (λ looked. own_run plan looked))
