@@ -1,0 +1,17 @@
+use Rattle.jc_work.proofs.NoFault.{does_work}
+use Rattle.jc_work.proofs.Prefix.{ends_front}
+use Rattle.jc_cover_work.specs.CoverWork.{cover_work}
+use Rattle.jc_cover_work.proofs.OneCoverLaws.{PlansAreOne, has_cover}
+use Rattle.jc_cover_work.proofs.laws.each_cover_ends_as_its_work.Goals as goal
+
+pub returns-clause-makes : goal.returns-clause-makes
+returns-clause-makes c landed cover old new f g s work told is ends none not =
+    let laws = c.each_text_is_a_plan_or_has_a_first_unfit_line.ensures in
+    let plans : PlansAreOne = record { each = laws.each; apart = laws.apart; one_plan = laws.one_plan; one_line = laws.one_line } in
+    does_work landed (cover_work cover) old new f g s (has_cover plans landed cover old told) work is ends none not
+
+pub returns-clause-leaves : goal.returns-clause-leaves
+returns-clause-leaves c landed cover old new f g s work told is ends =
+    let laws = c.each_text_is_a_plan_or_has_a_first_unfit_line.ensures in
+    let plans : PlansAreOne = record { each = laws.each; apart = laws.apart; one_plan = laws.one_plan; one_line = laws.one_line } in
+    ends_front landed (cover_work cover) old new f g s told (has_cover plans landed cover old told) work is ends
