@@ -1,9 +1,9 @@
 #!/usr/bin/env python3
-"""Lists each file of definitions by the first line of its comment, counts the must-fail edits of each crate, and puts both into
-ARCHITECTURE.md.
+"""Puts into ARCHITECTURE.md what the files give: what each crate stands on, the counts of must-fail edits, and the list of the files
+of definitions, each by the first line of its comment.
 
-docs/definitions.py          writes the list and the table
-docs/definitions.py --check  fails where they aren't those that the files give
+docs/definitions.py          writes them
+docs/definitions.py --check  fails where the page has others
 """
 import glob
 import os
@@ -28,9 +28,22 @@ def sentence(path):
 
 
 def crates():
-    """The crates in the order of crates.txt."""
+    """The crates in the order of crates.txt, and what each stands on."""
     with open(os.path.join(TOP, "crates.txt"), encoding="utf-8") as it:
-        return [line.split(":")[0].strip() for line in it if line.strip() and not line.startswith("#")]
+        lines = [line.partition(":") for line in it if line.strip() and not line.startswith("#")]
+    return {name.strip(): on.split() for name, _, on in lines}
+
+
+def with_bases(page):
+    """The page with what each crate stands on in its row."""
+    stands, lines = crates(), page.split("\n")
+    for number in range(lines.index("## Crates"), lines.index("## Words used here")):
+        cells = lines[number].split(" | ")
+        name = cells[0].lstrip("| ")
+        if name in stands:
+            cells[2] = ", ".join(on if on in stands else f"`{on}`" for on in stands[name])
+            lines[number] = " | ".join(cells)
+    return "\n".join(lines)
 
 
 def listing():
@@ -67,7 +80,7 @@ def put(page, marks, text):
 
 def main():
     page = open(PAGE, encoding="utf-8").read()
-    new = put(put(page, DEFINITIONS, listing()), EDITS, table())
+    new = with_bases(put(put(page, DEFINITIONS, listing()), EDITS, table()))
     if "--check" in sys.argv[1:]:
         sys.exit(0 if new == page else "docs/ARCHITECTURE.md: run docs/definitions.py")
     with open(PAGE, "w", encoding="utf-8") as it:
