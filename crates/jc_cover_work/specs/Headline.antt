@@ -1,4 +1,4 @@
--- THE HEADLINE: what instrumented classes did in a run of `cover`, and what is written of it, is what the original classes do.
+-- The headline: what instrumented classes did in a run of `cover`, and what is written of it, is what the original classes do.
 --
 -- The words of the record `Headline` below:
 --

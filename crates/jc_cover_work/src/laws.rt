@@ -48,10 +48,10 @@ pub fn what_was_read_back_runs()
         → CoverRun landed c old new }
 {}
 
-/// THE HEADLINE. Of accepted classes each case of the instrumented files prints and leaves what the originals give under its
+/// The headline. Of accepted classes each case of the instrumented files prints and leaves what the originals give under its
 /// schedule without probe turns. The written data is the union of the probes passed. Every instruction and branch that is reported
-/// was executed, or is next in a stopped thread, and exactly what was executed is reported where every thread returned and nothing
-/// was thrown. Every refused class is copied unchanged, and its reason is printed.
+/// was executed, or is, instructions alone, next in a stopped thread, and exactly what was executed is reported where every thread
+/// returned and nothing was thrown. Every refused class is copied unchanged, and its reason is printed.
 ///
 /// It is said of each run of `cover` that is done, where contents are told and a file reads back as it was written, and where the
 /// ConstantValue attributes of static fields of type long of changed classes name places of their constant pools (JVM Specification 4.7.2).
