@@ -1,82 +1,45 @@
 -- Threads one after the other, up to the first without a method to begin with.
-use Rattle.std.proofs.Common.{◌≡◌, ℕ, ◌+◌, ◌<◌, ◌≤◌, Bool, true, false, not, is_some, List, [], ◌∷◌, ◌++◌, map, length, take, drop, get_or, Option, None, Some, refl, sym, ◌∙◌, ap, subst, arith, cond, append_assoc, append-nil}
+use Rattle.std.proofs.Common.{◌≡◌, ℕ, ◌+◌, ◌<◌, ◌≤◌, Bool, true, false, not, is_some, List, [], ◌∷◌, ◌++◌, length, drop, get_or, Option, None, Some, option_map, Contains, refl, sym, ◌∙◌, ap, subst, arith, cond, append_assoc, append-nil, drop-cons, add-one}
 use Rattle.std.specs.List.{find, flat_map}
-use Rattle.std.proofs.lemmas.Grind.{flat_map-append}
-use Rattle.std.proofs.lemmas.List.{take_more, take_all, take-append-drop}
+use Rattle.std.proofs.lemmas.List.{drop_all}
 use Rattle.std.proofs.lemmas.List.Concat.{flat_map-cons}
-use Rattle.jc_bytes.specs.declared.fail.Fail.{Fail}
-use Rattle.jc_bytes.specs.declared.fail.Fail.TheVariants as fails
-use Rattle.jc_bytes.specs.Failing.{Said}
 use Rattle.jc_programs.specs.declared.program.Program.{Program}
 use Rattle.jc_programs.specs.declared.run_end.Entry.{Entry}
 use Rattle.jc_programs.specs.declared.run_plan.Case.{Case}
+use Rattle.jc_programs.specs.declared.run_plan.RunPlan.{RunPlan}
 use Rattle.jc_programs.specs.declared.run_plan.ThreadLine.{ThreadLine}
 use Rattle.jc_programs.specs.Entries.{entry_of, AreEntries}
-use Rattle.jc_run_work.specs.RunStore.{lacks_entry, first_without}
-use Rattle.jc_run_parts.specs.Beginnings.{IsFirstLine, AreCaseEntries}
+use Rattle.jc_run_work.specs.RunStore.{lacks_entry, first_without, threads_of}
+use Rattle.jc_run_parts.specs.Beginnings.{line_of}
+
+abbrev pub threads_in : List Case → List ThreadLine
+threads_in cases = flat_map (λ (c : Case). c.threads) cases
 
 module _ (program : Program) where
-  -- a thread with an entry lacks none
-  skipped : (thread : ThreadLine) (e : Entry) (threads : List ThreadLine) → entry_of program thread ≡ Some e → first_without program (thread ∷ threads) ≡ first_without program threads
-  skipped thread e threads is = ap (λ (o : Option Entry). cond (not (is_some o)) (Some thread) (first_without program threads)) is
+  -- the first that lacks an entry is among those that are left
+  abbrev pub Left : List ThreadLine → List ThreadLine → Type 0
+  Left threads left = first_without program threads ≡ first_without program left
 
-  -- threads that have entries are passed over
-  pub passed : (front behind : List ThreadLine) (es : List Entry) → AreEntries program front es → first_without program (front ++ behind) ≡ first_without program behind
-  passed [] behind [] are = refl
-  passed [] behind (e ∷ es) are = absurd are
-  passed (t ∷ front) behind [] are = absurd are
-  passed (t ∷ front) behind (e ∷ es) are = skipped t e (front ++ behind) are.0 ∙ passed front behind es are.1
+  -- ---- threads
 
-  found_first : (thread : ThreadLine) (threads : List ThreadLine) → entry_of program thread ≡ None → first_without program (thread ∷ threads) ≡ Some thread
-  found_first thread threads is = ap (λ (o : Option Entry). cond (not (is_some o)) (Some thread) (first_without program threads)) is
+  module _ (threads : List ThreadLine) (i : ℕ) (t : ThreadLine) (within : i < length threads) (is : t ≡ get_or threads i t) where
+    here : drop i threads ≡ t ∷ drop (i + 1) threads
+    here = drop-cons threads i t within ∙ ap (λ (n : ℕ). get_or threads i t ∷ drop n threads) (sym (add-one i)) ∙ ap (λ (u : ThreadLine). u ∷ drop (i + 1) threads) (sym is)
 
-  entries_more : (threads : List ThreadLine) (es : List Entry) (t : ThreadLine) (e : Entry) → AreEntries program threads es → entry_of program t ≡ Some e → AreEntries program (threads ++ t ∷ []) (es ++ e ∷ [])
-  entries_more [] [] t e are is = (is, tt)
-  entries_more [] (f ∷ es) t e are is = absurd are
-  entries_more (s ∷ threads) [] t e are is = absurd are
-  entries_more (s ∷ threads) (f ∷ es) t e are is = (are.0, entries_more threads es t e are.1 is)
+    pub thread_passed : (e : Option Entry) → e ≡ entry_of program t → is_some e ≡ true → Left threads (drop i threads) → Left threads (drop (i + 1) threads)
+    thread_passed e same some left =
+        left ∙ ap (first_without program) here
+        ∙ ap (λ (b : Bool). cond (not b) (Some t) (first_without program (drop (i + 1) threads))) (ap is_some (sym same) ∙ some)
 
-  -- ---- the threads of one case
+    pub thread_lacking : (e : Option Entry) → e ≡ entry_of program t → is_some e ≡ false → Left threads (drop i threads) → Some t.line ≡ option_map line_of (first_without program threads)
+    thread_lacking e same none left =
+        sym (ap (option_map line_of) (left ∙ ap (first_without program) here
+        ∙ ap (λ (b : Bool). cond (not b) (Some t) (first_without program (drop (i + 1) threads))) (ap is_some (sym same) ∙ none)))
 
-  module _ (threads : List ThreadLine) (i : ℕ) (t : ThreadLine) (within : i < length threads) (is : t ≡ get_or threads i t) (es : List Entry) (so_far : AreEntries program (take i threads) es) where
-    pub entry_put : (new : List Entry) (e : Entry) → entry_of program t ≡ Some e → new ≡ es ++ e ∷ [] → AreEntries program (take (i + 1) threads) new
-    entry_put new e found grows =
-        let more : take (i + 1) threads ≡ take i threads ++ t ∷ [] = take_more threads i t within ∙ ap (λ (u : ThreadLine). take i threads ++ u ∷ []) (sym is) in
-        subst (λ (ts : List ThreadLine). AreEntries program ts new) (sym more)
-        (subst (AreEntries program (take i threads ++ t ∷ [])) (sym grows) (entries_more (take i threads) es t e so_far found))
-
-    pub entry_lacking : entry_of program t ≡ None → IsFirstLine program threads t.line
-    entry_lacking none =
-        let parts : threads ≡ take i threads ++ t ∷ drop (i + 1) threads = parts_at in
-        (t, ap (first_without program) parts ∙ passed (take i threads) (t ∷ drop (i + 1) threads) es so_far ∙ found_first t (drop (i + 1) threads) none, refl)
-      where
-        parts_at : threads ≡ take i threads ++ t ∷ drop (i + 1) threads
-        parts_at =
-            sym (take-append-drop (i + 1) threads)
-            ∙ ap (λ (ys : List ThreadLine). ys ++ drop (i + 1) threads) (take_more threads i t within ∙ ap (λ (u : ThreadLine). take i threads ++ u ∷ []) (sym is))
-            ∙ append_assoc (take i threads) (t ∷ []) (drop (i + 1) threads)
-
-  pub all_have : (threads : List ThreadLine) (i : ℕ) (es : List Entry) → length threads ≤ i → AreEntries program (take i threads) es → AreEntries program threads es
-  all_have threads i es all so_far = subst (λ (ts : List ThreadLine). AreEntries program ts es) (take_all i threads all) so_far
+  pub none_left : (threads : List ThreadLine) (i : ℕ) → length threads ≤ i → Left threads (drop i threads) → None ≡ option_map line_of (first_without program threads)
+  none_left threads i all left = sym (ap (option_map line_of) (left ∙ ap (first_without program) (drop_all i threads all)))
 
   -- ---- cases
-
-  abbrev pub threads_in : List Case → List ThreadLine
-  threads_in cases = flat_map (λ (c : Case). c.threads) cases
-
-  cases_passed : (cases : List Case) (behind : List ThreadLine) (ess : List (List Entry)) → AreCaseEntries program cases ess
-      → first_without program (threads_in cases ++ behind) ≡ first_without program behind
-  cases_passed [] behind [] are = refl
-  cases_passed [] behind (es ∷ ess) are = absurd are
-  cases_passed (c ∷ cases) behind [] are = absurd are
-  cases_passed (c ∷ cases) behind (es ∷ ess) are =
-      ap (λ (ts : List ThreadLine). first_without program (ts ++ behind)) (flat_map-cons (λ (x : Case). x.threads) c cases)
-      ∙ ap (first_without program) (append_assoc c.threads (threads_in cases) behind)
-      ∙ passed c.threads (threads_in cases ++ behind) es are.0 ∙ cases_passed cases behind ess are.1
-
-  -- where each case has entries no thread lacks one
-  pub none_lacks : (cases : List Case) (ess : List (List Entry)) → AreCaseEntries program cases ess → first_without program (threads_in cases) ≡ None
-  none_lacks cases ess are = ap (first_without program) (sym (append-nil (threads_in cases))) ∙ cases_passed cases [] ess are
 
   found_in_front : (xs ys : List ThreadLine) (t : ThreadLine) → first_without program xs ≡ Some t → first_without program (xs ++ ys) ≡ Some t
   found_in_front [] ys t is = absurd (nothing is)
@@ -90,34 +53,70 @@ module _ (program : Program) where
       by true rest e = e
       by false rest e = rest e
 
-  cases_more : (cases : List Case) (ess : List (List Entry)) (c : Case) (es : List Entry) → AreCaseEntries program cases ess → AreEntries program c.threads es
-      → AreCaseEntries program (cases ++ c ∷ []) (ess ++ es ∷ [])
-  cases_more [] [] c es are is = (is, tt)
-  cases_more [] (fs ∷ ess) c es are is = absurd are
-  cases_more (d ∷ cases) [] c es are is = absurd are
-  cases_more (d ∷ cases) (fs ∷ ess) c es are is = (are.0, cases_more cases ess c es are.1 is)
+  none_in_front : (xs ys : List ThreadLine) → first_without program xs ≡ None → first_without program (xs ++ ys) ≡ first_without program ys
+  none_in_front [] ys is = refl
+  none_in_front (x ∷ xs) ys is = by (lacks_entry program x) (none_in_front xs ys) is
+    where
+      nothing : Some x ≡ None → ⊥
+      nothing e = cc
 
-  module _ (cases : List Case) (i : ℕ) (c : Case) (within : i < length cases) (is : c ≡ get_or cases i c) (ess : List (List Entry)) (so_far : AreCaseEntries program (take i cases) ess) where
-    pub case_put : (new : List (List Entry)) (es : List Entry) → AreEntries program c.threads es → new ≡ ess ++ es ∷ [] → AreCaseEntries program (take (i + 1) cases) new
-    case_put new es found grows =
-        let more : take (i + 1) cases ≡ take i cases ++ c ∷ [] = take_more cases i c within ∙ ap (λ (d : Case). take i cases ++ d ∷ []) (sym is) in
-        subst (λ (cs : List Case). AreCaseEntries program cs new) (sym more)
-        (subst (AreCaseEntries program (take i cases ++ c ∷ [])) (sym grows) (cases_more (take i cases) ess c es so_far found))
+      by : (b : Bool) → (first_without program xs ≡ None → first_without program (xs ++ ys) ≡ first_without program ys)
+          → cond b (Some x) (first_without program xs) ≡ None → cond b (Some x) (first_without program (xs ++ ys)) ≡ first_without program ys
+      by true rest e = absurd (nothing e)
+      by false rest e = rest e
 
-    pub case_lacking : (line : ℕ) → IsFirstLine program c.threads line → IsFirstLine program (threads_in cases) line
-    case_lacking line (t, first, line_is) = (t, ap (first_without program) parts_at ∙ cases_passed (take i cases) (c.threads ++ threads_in (drop (i + 1) cases)) ess so_far ∙ found_in_front c.threads (threads_in (drop (i + 1) cases)) t first, line_is)
+  module _ (cases : List Case) (i : ℕ) (c : Case) (within : i < length cases) (is : c ≡ get_or cases i c) where
+    behind : threads_in (drop i cases) ≡ c.threads ++ threads_in (drop (i + 1) cases)
+    behind =
+        ap threads_in (drop-cons cases i c within ∙ ap (λ (n : ℕ). get_or cases i c ∷ drop n cases) (sym (add-one i)) ∙ ap (λ (d : Case). d ∷ drop (i + 1) cases) (sym is))
+        ∙ flat_map-cons (λ (x : Case). x.threads) c (drop (i + 1) cases)
+
+    pub case_passed : None ≡ option_map line_of (first_without program c.threads) → Left (threads_in cases) (threads_in (drop i cases)) → Left (threads_in cases) (threads_in (drop (i + 1) cases))
+    case_passed none left =
+        left ∙ ap (first_without program) behind ∙ none_in_front c.threads (threads_in (drop (i + 1) cases)) (by (first_without program c.threads) none)
       where
-        parts_at : threads_in cases ≡ threads_in (take i cases) ++ (c.threads ++ threads_in (drop (i + 1) cases))
-        parts_at =
-            ap threads_in (sym (take-append-drop (i + 1) cases)
-            ∙ ap (λ (ys : List Case). ys ++ drop (i + 1) cases) (take_more cases i c within ∙ ap (λ (d : Case). take i cases ++ d ∷ []) (sym is))
-            ∙ append_assoc (take i cases) (c ∷ []) (drop (i + 1) cases))
-            ∙ flat_map-append (λ (x : Case). x.threads) (take i cases) (c ∷ drop (i + 1) cases)
-            ∙ ap (λ (ts : List ThreadLine). threads_in (take i cases) ++ ts) (flat_map-cons (λ (x : Case). x.threads) c (drop (i + 1) cases))
+        by : (o : Option ThreadLine) → None ≡ option_map line_of o → o ≡ None
+        by None e = refl
+        by (Some t) e = cc
 
-    pub said_lacking : (fail : Fail ℕ) → Said fail (IsFirstLine program c.threads) → Said fail (IsFirstLine program (threads_in cases))
-    said_lacking fails.Memory said = tt
-    said_lacking (fails.Said line) said = case_lacking line said
+    pub case_lacking : (line : ℕ) → Some line ≡ option_map line_of (first_without program c.threads) → Left (threads_in cases) (threads_in (drop i cases))
+        → Some line ≡ option_map line_of (first_without program (threads_in cases))
+    case_lacking line some left = by (first_without program c.threads) refl some
+      where
+        by : (o : Option ThreadLine) → first_without program c.threads ≡ o → Some line ≡ option_map line_of o → Some line ≡ option_map line_of (first_without program (threads_in cases))
+        by None same e = cc
+        by (Some t) same e = e ∙ sym (ap (option_map line_of) (left ∙ ap (first_without program) behind ∙ found_in_front c.threads (threads_in (drop (i + 1) cases)) t same))
 
-  pub all_cases : (cases : List Case) (i : ℕ) (ess : List (List Entry)) → length cases ≤ i → AreCaseEntries program (take i cases) ess → AreCaseEntries program cases ess
-  all_cases cases i ess all so_far = subst (λ (cs : List Case). AreCaseEntries program cs ess) (take_all i cases all) so_far
+  pub no_case_left : (cases : List Case) (i : ℕ) → length cases ≤ i → Left (threads_in cases) (threads_in (drop i cases)) → None ≡ option_map line_of (first_without program (threads_in cases))
+  no_case_left cases i all left = sym (ap (option_map line_of) (left ∙ ap (λ (cs : List Case). first_without program (threads_in cs)) (drop_all i cases all)))
+
+  -- ---- where no thread lacks one
+
+  tail_none : (x : ThreadLine) (xs : List ThreadLine) → first_without program (x ∷ xs) ≡ None → (e : Entry) × (entry_of program x ≡ Some e) × (first_without program xs ≡ None)
+  tail_none x xs is = by (entry_of program x) refl is
+    where
+      nothing : Some x ≡ None → ⊥
+      nothing e = cc
+
+      by : (o : Option Entry) → entry_of program x ≡ o → cond (not (is_some o)) (Some x) (first_without program xs) ≡ None → (e : Entry) × (entry_of program x ≡ Some e) × (first_without program xs ≡ None)
+      by None same e = absurd (nothing e)
+      by (Some entry) same e = (entry, same, e)
+
+  all_entries : (threads : List ThreadLine) → first_without program threads ≡ None → (entries : List Entry) × AreEntries program threads entries
+  all_entries [] is = ([], tt)
+  all_entries (t ∷ threads) is =
+      let (e, found, rest) = tail_none t threads is in
+      let (es, are) = all_entries threads rest in
+      (e ∷ es, (found, are))
+
+  front_none : (xs ys : List ThreadLine) → first_without program (xs ++ ys) ≡ None → first_without program xs ≡ None
+  front_none [] ys is = refl
+  front_none (x ∷ xs) ys is = by (lacks_entry program x) (front_none xs ys) is
+    where
+      nothing : Some x ≡ None → ⊥
+      nothing e = cc
+
+      by : (b : Bool) → (first_without program (xs ++ ys) ≡ None → first_without program xs ≡ None)
+          → cond b (Some x) (first_without program (xs ++ ys)) ≡ None → cond b (Some x) (first_without program xs) ≡ None
+      by true rest e = absurd (nothing e)
+      by false rest e = rest e

@@ -1,2 +1,3 @@
 pub mod BeginningLaws
+pub mod ClashLaws
 pub mod HitStoreLaws

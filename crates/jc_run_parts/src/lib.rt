@@ -3,7 +3,9 @@
 #![tactic(auto)]
 
 mod beginnings;
+mod clash;
 mod records;
 
-pub use beginnings::all_entries;
+pub use beginnings::line_without_entry;
+pub use clash::link_stop;
 pub use records::hit_store;
