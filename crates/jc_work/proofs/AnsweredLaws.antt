@@ -1,19 +1,20 @@
 -- A command that reads, decides and then writes has one work, and functions that do its parts do the whole.
-use Rattle.std.proofs.Common.{◌≡◌, ◌⊎◌, ℕ, Bool, true, false, List, [], ◌∷◌, ◌++◌, map, Option, None, Some, Result, Ok, Err, Vec, length, inl, inr, refl, sym, ◌∙◌, ap, subst, arith}
+use Rattle.std.proofs.Common.{◌≡◌, ℕ, List, [], ◌∷◌, ◌++◌, map, Option, None, Some, Result, Ok, Err, Vec, length, inl, inr, refl, sym, ◌∙◌, subst, arith}
 use Rattle.std.specs.List.{AllByRecursion}
 use Rattle.std.specs.declared.alloc.Global.{Global}
 use Rattle.jc_work.specs.declared.output.Write.{Write as Written}
 use Rattle.jc_work.specs.declared.stop.Stop.{Stop}
-use Rattle.jc_work.specs.Step.{Word, IsFile, AreTexts, World, Counts, Landed, Write, to_read, to_list, to_write, Step, has_read, has_no, has_listed, has_written, Fit, after, IsRead}
-use Rattle.jc_work.specs.Part.{End, done, unread, Outcome, wants, gives, stops, Part, Command, giving, ending, deciding, reading, listing, reading_all, writing_all, Hands, ◌>>=◌}
-use Rattle.jc_work.specs.Ending.{CameTo, Began, BrokeOff, Stops, Does, Ran}
-use Rattle.jc_work.specs.OneWay.{IsOver, OneWay, HasOne, OneDecision}
-use Rattle.jc_work.specs.Folders.{is_folder, paths_of, all_paths, files_of, once}
+use Rattle.jc_work.specs.Step.{Word, IsFile, AreTexts, World, Counts, Landed, Write, to_read, Step, has_read, has_no, has_listed, has_written, Fit, after}
+use Rattle.jc_work.specs.Part.{End, done, unread, wants, gives, stops, Part, giving, ending, reading, reading_all, writing_all, ◌>>=◌}
+use Rattle.jc_work.specs.Ending.{CameTo, Stops, Does, Ran}
+use Rattle.jc_work.specs.OneWay.{IsOver, HasOne, OneDecision}
+use Rattle.jc_paths.specs.Paths.{FileText, plain, folder}
+use Rattle.jc_work.specs.Folders.{paths_of, all_paths, files_of, once}
 use Rattle.jc_work.specs.Seen.{write_seen, stop_seen}
 use Rattle.jc_work.specs.Answered.{Answer, OneAnswer, HasOneAnswer, answering, preparing, making_all, answered, EndsSo, AnswersWith}
 use Rattle.jc_work.proofs.Behind.{fit_front, fit_behind, came_then, began_then, stops_first, stops_then}
 use Rattle.jc_work.proofs.OneWork.{one_giving, one_ending, one_deciding, one_listing, has_then, has_then_if, has_reading_all, has_writing_all, same_value, not_gives}
-use Rattle.jc_work.proofs.Reaching.{was_decided, was_ended, reached_start, reached_next, reached_stop, ran_last}
+use Rattle.jc_work.proofs.Reaching.{was_decided, was_ended, reached_start, reached_next, ran_last}
 
 -- ---- what was read
 
@@ -48,18 +49,18 @@ texts_read landed w (p ∷ ps) steps read is fits =
 -- ---- the files that words name
 
 module _ (landed : Landed) where
-  has_paths : (b : Bool) (word : Word) → HasOne landed (paths_of b word)
-  has_paths true word = λ w told. one_listing landed w _ told
-  has_paths false word = λ w told. one_giving landed w _
+  has_paths : (file : FileText) → HasOne landed (paths_of file)
+  has_paths (plain path) = λ w told. one_giving landed w _
+  has_paths (folder path) = λ w told. one_listing landed w _ told
 
-  has_all_paths : (words : List Word) → HasOne landed (all_paths words)
+  has_all_paths : (files : List FileText) → HasOne landed (all_paths files)
   has_all_paths [] = λ w told. one_giving landed w []
-  has_all_paths (word ∷ words) =
-      has_then landed (paths_of (is_folder word) word) _ (has_paths (is_folder word) word)
-      (λ paths. has_then landed (all_paths words) _ (has_all_paths words) (λ more w told. one_giving landed w (paths ++ more)))
+  has_all_paths (file ∷ files) =
+      has_then landed (paths_of file) _ (has_paths file)
+      (λ paths. has_then landed (all_paths files) _ (has_all_paths files) (λ more w told. one_giving landed w (paths ++ more)))
 
-  pub has_files : (words : List Word) → HasOne landed (files_of words)
-  has_files words = has_then landed (all_paths words) _ (has_all_paths words) (λ paths w told. one_giving landed w (once [] paths))
+  pub has_files : (files : List FileText) → HasOne landed (files_of files)
+  has_files files = has_then landed (all_paths files) _ (has_all_paths files) (λ paths w told. one_giving landed w (once [] paths))
 
 -- ---- what is decided
 

@@ -1,8 +1,7 @@
 -- One part behind the other: what the two do together.
-use Rattle.std.proofs.Common.{◌≡◌, ◌⊎◌, ℕ, List, [], ◌∷◌, ◌++◌, Option, None, Some, Ok, Err, inl, inr, refl, sym, ◌∙◌, ap, subst, append_assoc, append-nil}
-use Rattle.jc_outside.specs.Outside.{FileMap}
-use Rattle.jc_work.specs.Step.{World, Counts, Landed, Step, call_of, after, after_step, Fit, Gave}
-use Rattle.jc_work.specs.Part.{End, Outcome, wants, gives, stops, Part, Begun, Hands, IsWithin, ◌>>=◌}
+use Rattle.std.proofs.Common.{◌≡◌, List, [], ◌∷◌, ◌++◌, Option, None, Some, inl, inr, refl, sym, ◌∙◌, ap, subst, append_assoc, append-nil}
+use Rattle.jc_work.specs.Step.{World, Counts, Landed, Step, call_of, after, after_step, Fit}
+use Rattle.jc_work.specs.Part.{End, Outcome, wants, gives, stops, Part, Begun, ◌>>=◌}
 use Rattle.jc_work.specs.Ending.{CameTo, Began, BrokeOff, Stops}
 
 -- ---- steps, one list behind the other

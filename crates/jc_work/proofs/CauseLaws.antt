@@ -1,19 +1,19 @@
 -- Each status has its cause.
-use Rattle.std.proofs.Common.{◌≡◌, ◌⊎◌, ◌<◌, ◌≤◌, ℕ, List, [], ◌∷◌, ◌++◌, Option, None, Some, inl, inr, refl, sym, ◌∙◌, ap, subst, arith}
-use Rattle.jc_outside.specs.Outside.{Rose}
+use Rattle.std.proofs.Common.{◌≡◌, ◌⊎◌, ℕ, List, [], ◌∷◌, inl, inr, refl, sym, ◌∙◌, ap, subst, arith}
 use Rattle.jc_work.specs.declared.status.Fault.{Fault}
 use Rattle.jc_work.specs.declared.status.Status.{Status}
 use Rattle.jc_work.specs.declared.status.Status.TheVariants as status
-use Rattle.jc_work.specs.Step.{Word, World, Counts, Rises, Landed, Write, to_file, to_out, to_err, Call, to_read, to_list, to_write, Step, has_read, has_no, has_listed, has_written, call_of, Fit, after, Broken, CountRose}
-use Rattle.jc_work.specs.Part.{End, done, refused, misused, unread, unwritten, unprinted, status_of, message_of, failure, Outcome, wants, gives, stops, Part, Command, giving, ending, deciding, reading, listing, writing, reading_all, writing_all, ◌>>=◌}
-use Rattle.jc_work.specs.Ending.{CameTo, Began, BrokeOff, SaysLast, IsWhole, IsCut, IsOutOfMemory, Ends, NoneRose}
+use Rattle.jc_work.specs.Step.{Word, World, Counts, Rises, Landed, Write, to_file, to_out, to_err, Call, to_read, to_list, to_write, Step, has_read, has_no, has_listed, has_written, call_of, Broken, CountRose}
+use Rattle.jc_work.specs.Part.{End, done, refused, misused, unread, unwritten, unprinted, status_of, message_of, failure, wants, gives, stops, Part, Command, giving, ending, deciding, reading, writing, reading_all, writing_all, ◌>>=◌}
+use Rattle.jc_work.specs.Ending.{CameTo, BrokeOff, SaysLast, IsOutOfMemory, Ends, NoneRose}
 use Rattle.jc_work.specs.Texts.{fault_text}
 use Rattle.jc_work.specs.OneWay.{OneWay, Work, IsWork, writes_of}
 use Rattle.jc_work.specs.Answered.{Answer, refusing, answering, preparing, making_all, answered}
-use Rattle.jc_work.specs.Causes.{IsOwnEnd, IsRefusal, EndsIn, HasOwnEnds, EndedSo, RoseFor, IsReadCall, IsWriteCall, CallFailed, Cause, WorkFailed}
+use Rattle.jc_work.specs.Causes.{IsOwnEnd, IsRefusal, EndsIn, HasOwnEnds, RoseFor, IsReadCall, IsWriteCall, CallFailed, Cause, WorkFailed}
 use Rattle.jc_work.proofs.OneWork.{gives_or_stops, same_end, not_over}
-use Rattle.jc_work.proofs.Prefix.{one_work, on_work, writes-append}
-use Rattle.jc_work.proofs.NoFault.{only_errs, all_made}
+use Rattle.jc_work.proofs.Prefix.{one_work, on_work}
+use Rattle.jc_work.proofs.NoWrites.{none_preparing}
+use Rattle.jc_work.proofs.NoFault.{only_errs}
 
 -- ---- ends
 
@@ -22,7 +22,7 @@ module _ (Is : End → Type 0) where
   ends_then p q first second steps end (inl within) = first steps end within
   ends_then p q first second steps end (inr h) = second h.value h.behind end h.goes_on
 
-  ends_giving : {X : Type 0} (x : X) → EndsIn Is (giving x)
+  pub ends_giving : {X : Type 0} (x : X) → EndsIn Is (giving x)
   ends_giving x [] end is = absurd (gives_or_stops x end (sym is))
   ends_giving x (s ∷ ss) end is = absurd is
 
@@ -35,7 +35,7 @@ module _ (Is : End → Type 0) where
   ends_ending e so (s ∷ ss) end is = absurd is
 
   module _ (unread_is : (path : Word) → Is (unread path)) where
-    ends_reading : (path : Word) → EndsIn Is (reading path)
+    pub ends_reading : (path : Word) → EndsIn Is (reading path)
     ends_reading path [] end is = absurd (not_over (stops end) (to_read path) tt is)
     ends_reading path (has_read p b ∷ []) end is = absurd (gives_or_stops b end (sym is.1))
     ends_reading path (has_no p ∷ []) end is = subst Is (same_end (List ℕ) (unread path) end (stops end) is.1 refl) (unread_is path)
@@ -69,48 +69,13 @@ module _ (Is : End → Type 0) where
       (λ texts. ends_deciding (λ writes. Answers texts (gives writes)) (λ end. Answers texts (stops end)) (own texts)))
       (λ writes. ends_then (writing_all writes) (λ _. ending {X = ⊥} done) (ends_writing_all writes) (λ _. ends_ending done done_is))
 
--- ---- steps without a write
-
-abbrev WritesNone : {X : Type 0} → Part X → Type 0
-WritesNone part = (steps : List Step) (o : Outcome _) → part steps o → writes_of steps ≡ []
-
-none_giving : {X : Type 0} (x : X) → WritesNone (giving x)
-none_giving x [] o is = refl
-none_giving x (s ∷ ss) o is = absurd is
-
-none_deciding : {X : Type 0} (So : X → Type 0) (Stops : End → Type 0) → WritesNone (deciding So Stops)
-none_deciding So Stops [] o is = refl
-none_deciding So Stops (s ∷ ss) (wants call) is = absurd is
-none_deciding So Stops (s ∷ ss) (gives x) is = absurd is
-none_deciding So Stops (s ∷ ss) (stops end) is = absurd is
-
-none_reading : (path : Word) → WritesNone (reading path)
-none_reading path [] o is = refl
-none_reading path (has_read p b ∷ []) o is = refl
-none_reading path (has_no p ∷ []) o is = refl
-none_reading path (has_read p b ∷ s ∷ ss) o is = absurd is
-none_reading path (has_no p ∷ s ∷ ss) o is = absurd is
-none_reading path (has_listed f ps ∷ ss) o is = absurd is
-none_reading path (has_written v ∷ ss) o is = absurd is
-
-none_then : {X Y : Type 0} (p : Part X) (q : X → Part Y) → WritesNone p → ((x : X) → WritesNone (q x)) → WritesNone (p >>= q)
-none_then p q first second steps (wants call) (inl within) = first steps (wants call) within
-none_then p q first second steps (gives y) (inl within) = absurd within
-none_then p q first second steps (stops end) (inl within) = first steps (stops end) within
-none_then p q first second steps o (inr h) =
-    ap writes_of h.parts ∙ writes-append h.front h.behind ∙ ap (λ (ws : List Write). ws ++ writes_of h.behind) (first h.front (gives h.value) h.over)
-    ∙ second h.value h.behind o h.goes_on
-
-none_reading_all : (paths : List Word) → WritesNone (reading_all paths)
-none_reading_all [] = none_giving []
-none_reading_all (path ∷ paths) = none_then (reading path) _ (none_reading path) (λ text. none_then (reading_all paths) _ (none_reading_all paths) (λ texts. none_giving (text ∷ texts)))
+-- ---- what is written
 
 -- a command that reads and decides before it writes has written nothing where it ends otherwise than done
 pub done_or_none : (inputs : List Word) (Answers : List (List ℕ) → Answer → Type 0) (steps : List Step) (end : End) → answered inputs Answers steps (stops end)
     → (end ≡ done) ⊎ (writes_of steps ≡ [])
 done_or_none inputs Answers steps end (inl within) =
-    inr (none_then (reading_all inputs) (λ texts. answering (Answers texts)) (none_reading_all inputs)
-    (λ texts. none_deciding (λ writes. Answers texts (gives writes)) (λ e. Answers texts (stops e))) steps (stops end) within)
+    inr (none_preparing inputs Answers steps (stops end) within)
 done_or_none inputs Answers steps end (inr h) =
     inl (ends_then (λ e. e ≡ done) (writing_all h.value) (λ _. ending {X = ⊥} done) (ends_writing_all (λ e. e ≡ done) h.value) (λ _. ends_ending (λ e. e ≡ done) done refl)
     h.behind end h.goes_on)

@@ -1,17 +1,17 @@
 -- How a run ends, by what it did before its last message.
-use Rattle.std.proofs.Common.{◌≡◌, ◌⊎◌, ℕ, List, Option, None, Some, Result, Ok, Err, inl, inr, refl, sym, ◌∙◌, ap, subst}
+use Rattle.std.proofs.Common.{◌≡◌, ℕ, List, Option, None, Some, Ok, Err, inl, inr, refl, sym, ◌∙◌, ap, subst}
 use Rattle.jc_work.specs.declared.status.Status.{Status}
 use Rattle.jc_work.specs.declared.status.Status.TheVariants as status
 use Rattle.jc_outside.specs.Outside.{FileMap, PutLeaves, PutCause}
 use Rattle.jc_outside.specs.declared.sink.SinkFault.{SinkFault}
-use Rattle.jc_work.specs.Step.{World, world, Counts, counts, Landed, grown}
-use Rattle.jc_work.specs.Part.{End, done, message_of, stops, Part, Command}
+use Rattle.jc_work.specs.Step.{World, world, Counts, counts, Landed}
+use Rattle.jc_work.specs.Part.{End, done, message_of, stops, Command}
 use Rattle.jc_work.specs.declared.stop.Stop.{Stop}
 use Rattle.jc_work.specs.declared.stop.Stop.TheVariants as stops
 use Rattle.jc_work.specs.Seen.{stop_seen}
 use Rattle.jc_work.specs.Stopping.{message_seen, status_seen}
 use Rattle.jc_work.specs.Texts.{cannot_read, cannot_write, cannot_write_output, fault_text}
-use Rattle.jc_work.specs.Ending.{CameTo, Began, BrokeOff, Stops, Says, SaysLast, Reports, IsWhole, IsCut, IsOutOfMemory, Ends}
+use Rattle.jc_work.specs.Ending.{CameTo, Began, BrokeOff, Stops, Says, SaysLast, Reports, Ends}
 
 module _ (landed : Landed) (command : Command) (old : World) (f : Counts) where
   pub ends_done : (new : World) (f' : Counts) → f' ≡ f → CameTo landed command old new (stops done) → Ends landed command old new f f' status.Done

@@ -1,17 +1,16 @@
 -- One call outside, and what it means for the part that makes it.
-use Rattle.std.proofs.Common.{◌≡◌, ◌⊎◌, ◌≤◌, ℕ, List, [], ◌∷◌, ◌++◌, length, Option, None, Some, option_map, map, Result, Ok, Err, Vec, String, string_bytes, Bor, inl, inr, refl, sym, ◌∙◌, ap, subst}
+use Rattle.std.proofs.Common.{◌≡◌, ◌≤◌, ℕ, List, [], ◌∷◌, length, Option, None, Some, option_map, map, Ok, Err, Vec, String, string_bytes, Bor, inl, inr, refl, sym, ap, subst}
 use Rattle.std.specs.FinMap.{get, insert}
 use Rattle.std.specs.declared.alloc.Global.{Global}
 use Rattle.jc_outside.specs.declared.files.FileFault.{FileFault}
 use Rattle.jc_outside.specs.declared.files.FileFault.TheVariants as faults
 use Rattle.jc_outside.specs.declared.sink.SinkFault.{SinkFault}
-use Rattle.jc_work.specs.declared.stop.Stop.{Stop}
 use Rattle.jc_bytes.specs.ByteLists.{AreBytes}
 use Rattle.jc_bytes.specs.Reader.{most_read}
-use Rattle.jc_outside.specs.Outside.{ListGives, ListCause, FileMap, IsLong, WhereTold, Begins, ReadGives, ReadCause, RoseOrTold, WriteLeaves, WriteCause, PutLeaves, PutCause}
-use Rattle.jc_work.specs.Step.{Rises, World, world, Counts, counts, Landed, Write, to_file, to_out, to_err, Call, to_read, to_list, to_write, Step, has_read, has_no, has_listed, has_written, after_write, grown, Broken, FileBroken, TextBroken, CountRose, CantRead, Told}
-use Rattle.jc_work.specs.Part.{End, failure, unread, Outcome, wants, gives, stops, Part, reading, listing, writing}
-use Rattle.jc_work.specs.Ending.{CameTo, Began, BrokeOff, Stops}
+use Rattle.jc_outside.specs.Outside.{ListGives, ListCause, FileMap, WhereTold, ReadGives, ReadCause, WriteLeaves, WriteCause, PutLeaves, PutCause}
+use Rattle.jc_work.specs.Step.{Rises, World, world, Counts, counts, Landed, Write, to_file, to_out, to_err, Call, to_read, to_list, to_write, has_read, has_no, has_listed, has_written, after_write, grown, Broken, FileBroken, TextBroken, CountRose, CantRead, Told}
+use Rattle.jc_work.specs.Part.{failure, unread, wants, gives, Part, reading, listing, writing}
+use Rattle.jc_work.specs.Ending.{CameTo, Stops}
 use Rattle.jc_work.specs.Seen.{stop_seen, read_stop}
 
 -- ---- a write

@@ -7,5 +7,9 @@ pub mod OneWork
 pub mod Prefix
 pub mod NoFault
 pub mod AnsweredLaws
+pub mod NoWrites
 pub mod CauseLaws
 pub mod ListLaws
+pub mod FileLaws
+pub mod FolderLaws
+pub mod OnceLaws

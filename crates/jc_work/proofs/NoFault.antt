@@ -1,14 +1,13 @@
 -- With no count risen and memory not refused all steps were made.
-use Rattle.std.proofs.Common.{◌≡◌, ◌≢◌, ◌⊎◌, ◌<◌, ◌≤◌, ℕ, List, Option, None, Some, inl, inr, refl, sym, ◌∙◌, ap, subst, arith}
+use Rattle.std.proofs.Common.{◌≡◌, ◌≢◌, ◌⊎◌, ℕ, List, Option, None, Some, inl, inr, sym, ◌∙◌, ap, subst, arith}
 use Rattle.jc_work.specs.declared.status.Status.{Status}
 use Rattle.jc_work.specs.declared.status.Status.TheVariants as status
-use Rattle.jc_outside.specs.Outside.{FileMap, Rose}
-use Rattle.jc_work.specs.Step.{Rises, World, world, Counts, Landed, Write, to_file, to_out, to_err, Call, to_read, to_list, to_write, after, grown, Broken, CountRose}
-use Rattle.jc_work.specs.Part.{End, status_of, message_of, Command}
-use Rattle.jc_work.specs.Ending.{Says, SaysLast, IsWhole, IsCut, IsOutOfMemory, Ends, NoneRose}
-use Rattle.jc_work.specs.OneWay.{IsTold, OneWay, Work, IsWork}
-use Rattle.jc_work.proofs.OneWork.{same_end}
-use Rattle.jc_work.proofs.Prefix.{some_work, one_work}
+use Rattle.jc_outside.specs.Outside.{Rose}
+use Rattle.jc_work.specs.Step.{Rises, World, world, Counts, Landed, to_file, to_out, to_err, Call, to_read, to_list, to_write, after, grown, Broken, CountRose}
+use Rattle.jc_work.specs.Part.{status_of, message_of, Command}
+use Rattle.jc_work.specs.Ending.{SaysLast, IsWhole, IsCut, Ends, NoneRose}
+use Rattle.jc_work.specs.OneWay.{OneWay, Work, IsWork}
+use Rattle.jc_work.proofs.Prefix.{one_work}
 
 -- a count that rose, and perhaps once more
 rose_twice : (a b c : ℕ) → Rises a b → (c ≡ b) ⊎ Rises b c → Rose a c

@@ -1,15 +1,15 @@
 -- In a world whose contents are told a command has exactly one work, and a run that is cut off made first steps of it.
-use Rattle.std.proofs.Common.{◌≡◌, ◌≢◌, ◌⊎◌, ◌<◌, ◌≤◌, ℕ, List, [], ◌∷◌, ◌++◌, length, Option, None, Some, Ok, Err, inl, inr, refl, sym, ◌∙◌, ap, subst, append_assoc, append-nil, arith, unwrap_or, option_map}
+use Rattle.std.proofs.Common.{◌≡◌, ◌⊎◌, ◌<◌, ◌≤◌, ℕ, List, [], ◌∷◌, ◌++◌, length, Option, None, Some, inl, inr, refl, sym, ◌∙◌, ap, subst, append_assoc, arith, unwrap_or, option_map}
 use Rattle.std.proofs.lemmas.Bool.{cases_lt}
 use Rattle.std.specs.FinMap.{get, insert}
 use Rattle.jc_bytes.specs.ByteLists.{AreBytes}
 use Rattle.jc_bytes.specs.Reader.{most_read}
-use Rattle.jc_outside.specs.Outside.{IsListing, FileMap, IsLong, WhereTold}
-use Rattle.jc_work.specs.Step.{Word, World, Counts, Landed, Write, to_file, to_out, to_err, Call, to_read, to_list, to_write, Step, has_read, has_no, has_listed, has_written, call_of, after, after_step, after_write, Fit, Gave, IsRead, CantRead, IsNoFile, Told}
-use Rattle.jc_work.specs.Part.{End, Outcome, wants, gives, stops, Part, Command, Begun, Hands, IsWithin, ◌>>=◌, giving, ending, deciding, reading, listing, writing, reading_all, writing_all, unread}
-use Rattle.jc_work.specs.OneWay.{IsOver, IsTold, GoesOn, OneWay, OneDecision, HasOne, Work, IsWork}
+use Rattle.jc_outside.specs.Outside.{IsListing, FileMap, IsLong}
+use Rattle.jc_work.specs.Step.{Word, World, Landed, Write, to_file, to_out, to_err, Call, to_read, to_list, to_write, Step, has_read, has_no, has_listed, has_written, call_of, after, after_write, Fit, Gave, IsRead, CantRead, IsNoFile, Told}
+use Rattle.jc_work.specs.Part.{End, Outcome, wants, gives, stops, Part, Hands, ◌>>=◌, giving, ending, deciding, reading, listing, writing, reading_all, writing_all, unread}
+use Rattle.jc_work.specs.OneWay.{IsOver, IsTold, GoesOn, OneWay, OneDecision, HasOne}
 use Rattle.jc_work.proofs.ListedLaws.{listed, is_listing}
-use Rattle.jc_work.proofs.Behind.{after-append, fit-append, fit_front, fit_behind, over_then}
+use Rattle.jc_work.proofs.Behind.{fit-append, fit_front, fit_behind, over_then}
 
 -- ---- outcomes
 

@@ -1,15 +1,14 @@
 -- What a run left, by the work of the command in a world that is told.
-use Rattle.std.proofs.Common.{◌≡◌, ◌≢◌, ◌⊎◌, ◌<◌, ◌≤◌, ℕ, List, [], ◌∷◌, ◌++◌, Option, None, Some, inl, inr, refl, sym, ◌∙◌, ap, subst, append_assoc, append-nil, arith}
+use Rattle.std.proofs.Common.{◌≡◌, ◌⊎◌, ℕ, List, [], ◌∷◌, ◌++◌, Option, None, Some, inl, inr, refl, sym, ◌∙◌, ap, subst, append_assoc}
 use Rattle.jc_work.specs.declared.status.Fault.{Fault}
 use Rattle.jc_work.specs.declared.status.Status.{Status}
 use Rattle.jc_work.specs.declared.status.Status.TheVariants as status
-use Rattle.jc_outside.specs.Outside.{FileMap, Rose, WhereTold}
-use Rattle.jc_work.specs.Step.{Word, Rises, World, world, Counts, Landed, Write, to_file, to_out, to_err, Call, to_read, to_list, to_write, Step, has_read, has_no, has_listed, has_written, call_of, after, after_step, after_write, Fit, Gave, IsRead, CantRead, Told, Broken, CountRose, grown}
-use Rattle.jc_work.specs.Part.{End, done, refused, misused, unread, unwritten, unprinted, status_of, message_of, failure, Outcome, wants, gives, stops, Part, Command, Begun}
-use Rattle.jc_work.specs.Ending.{CameTo, Began, BrokeOff, Says, SaysLast, IsWhole, IsCut, IsOutOfMemory, Ends}
-use Rattle.jc_work.specs.OneWay.{IsOver, IsTold, GoesOn, OneWay, HasOne, Work, IsWork, writes_of}
+use Rattle.jc_work.specs.Step.{Word, Rises, World, world, Counts, Landed, Write, to_file, to_out, to_err, Call, to_read, to_list, to_write, Step, has_read, has_no, has_listed, has_written, call_of, after, after_write, Fit, Broken, CountRose, grown}
+use Rattle.jc_work.specs.Part.{End, done, refused, misused, unread, unwritten, unprinted, status_of, message_of, failure, Outcome, wants, gives, stops, Command, Begun}
+use Rattle.jc_work.specs.Ending.{CameTo, Began, BrokeOff, SaysLast, IsWhole, IsCut, IsOutOfMemory, Ends}
+use Rattle.jc_work.specs.OneWay.{IsOver, IsTold, GoesOn, OneWay, Work, IsWork, writes_of}
 use Rattle.jc_work.specs.Prefix.{after_writes, IsFront, LeavesFront}
-use Rattle.jc_work.proofs.Behind.{after-append, fit_front, fit_behind}
+use Rattle.jc_work.proofs.Behind.{fit_front, fit_behind}
 use Rattle.jc_work.proofs.OneWork.{same_gave, same_end, other}
 
 -- ---- writes among steps

@@ -1,9 +1,9 @@
 -- How far a part has come: whatever comes of the rest, from here, comes of the whole.
-use Rattle.std.proofs.Common.{◌≡◌, ◌⊎◌, ℕ, List, [], ◌∷◌, ◌++◌, Option, None, Some, Result, Ok, Err, inl, inr, refl, sym, ◌∙◌, ap, subst, append_assoc, append-nil, map, drop, get_or, length, ◌+◌, ◌<◌, ◌≤◌, arith, drop-cons, add-one}
+use Rattle.std.proofs.Common.{◌≡◌, ℕ, List, [], ◌∷◌, ◌++◌, Option, None, Some, Result, Ok, Err, inl, inr, refl, sym, ◌∙◌, ap, subst, append_assoc, append-nil, map, drop, get_or, length, ◌+◌, ◌<◌, ◌≤◌, drop-cons, add-one}
 use Rattle.std.proofs.lemmas.List.{drop_all}
-use Rattle.jc_work.specs.Step.{Word, World, Counts, Landed, Write, to_file, to_out, to_err, Call, to_read, to_list, to_write, Step, after}
-use Rattle.jc_work.specs.Part.{End, done, refused, misused, unread, unwritten, unprinted, failure, Outcome, wants, gives, stops, Part, Command, giving, ending, deciding, reading, reading_all, writing, writing_all, ◌>>=◌}
-use Rattle.jc_work.specs.Ending.{CameTo, Began, BrokeOff, Stops, Does, Ran}
+use Rattle.jc_work.specs.Step.{Word, World, Counts, Landed, Write, to_file, to_out, to_err, Call, to_read, to_list, to_write}
+use Rattle.jc_work.specs.Part.{End, done, refused, misused, unread, unwritten, unprinted, failure, gives, stops, Part, Command, giving, ending, deciding, reading, reading_all, writing, writing_all, ◌>>=◌}
+use Rattle.jc_work.specs.Ending.{CameTo, Stops, Does, Ran}
 use Rattle.jc_work.proofs.Behind.{came_then, stops_first, stops_then}
 
 pub record Reached {X Y : Type 0} (landed : Landed) (part : Part Y) (rest : Part X) (glue : X → Y) (old now : World) (f g : Counts) : Type 0 where

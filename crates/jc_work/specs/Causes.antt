@@ -1,6 +1,5 @@
 -- What each status says of a run, and what a run that broke off leaves of the work.
-use Rattle.std.specs.Prelude.{◌≡◌, ◌⊎◌, ⊤, ℕ, List, ◌∷◌, ◌++◌, Option, None, Some}
-use Rattle.jc_work.specs.declared.status.Fault.{Fault}
+use Rattle.std.specs.Prelude.{◌≡◌, ◌⊎◌, ⊤, ℕ, List, ◌∷◌, ◌++◌}
 use Rattle.jc_work.specs.declared.status.Status.{Status}
 use Rattle.jc_work.specs.declared.status.Status.TheVariants as status
 use Rattle.jc_work.specs.Step.{Word, World, Counts, Rises, Landed, to_file, to_out, to_err, Call, to_read, to_list, to_write, Step, call_of, Broken, CountRose}

@@ -3,7 +3,7 @@ use Rattle.std.specs.Prelude.{◌≡◌, ◌⊎◌, ℕ, List, Option, None, Som
 use Rattle.jc_work.specs.declared.status.Status.{Status}
 use Rattle.jc_work.specs.declared.status.Status.TheVariants as status
 use Rattle.jc_outside.specs.Outside.{FileMap, Rose}
-use Rattle.jc_work.specs.Step.{World, world, Counts, counts, Landed, Call, to_write, to_err, Step, grown, TextBroken, after, Fit, Broken, CountRose}
+use Rattle.jc_work.specs.Step.{World, world, Counts, counts, Landed, Call, to_write, to_err, Step, grown, after, Fit, Broken, CountRose}
 use Rattle.jc_work.specs.Part.{End, done, status_of, message_of, failure, Outcome, wants, gives, stops, Part, Command, Begun}
 
 -- ---- how far a part came

@@ -1,5 +1,5 @@
 -- What a part comes to in a world whose contents are told, where no call fails and no memory is refused.
-use Rattle.std.specs.Prelude.{◌≡◌, ◌⊎◌, ⊤, ℕ, List, [], ◌∷◌, ◌++◌, Option, Some}
+use Rattle.std.specs.Prelude.{◌≡◌, ⊤, List, [], ◌∷◌, ◌++◌, Some}
 use Rattle.jc_outside.specs.Outside.{FileMap}
 use Rattle.jc_work.specs.Step.{World, Landed, Write, Call, Step, has_written, call_of, Fit}
 use Rattle.jc_work.specs.Part.{End, Outcome, wants, gives, stops, Part, Command, deciding}

@@ -1,5 +1,5 @@
 -- A command is written as parts, one behind the other: each says what it has come to after some steps.
-use Rattle.std.specs.Prelude.{◌≡◌, ◌⊎◌, ⊤, ℕ, List, [], ◌∷◌, ◌++◌, Option, None, Some}
+use Rattle.std.specs.Prelude.{◌≡◌, ◌⊎◌, ℕ, List, [], ◌∷◌, ◌++◌, Option, None, Some}
 use Rattle.jc_work.specs.declared.status.Fault.{Fault}
 use Rattle.jc_work.specs.declared.status.Status.{Status}
 use Rattle.jc_work.specs.declared.status.Status.TheVariants as status

@@ -15,6 +15,9 @@ use Rattle.jc_work.specs.Part.{End, refused, unread, unwritten, unprinted}
 abbrev pub words_of : List (String Global) → List Word
 words_of words = map string_bytes words
 
+abbrev pub texts_of : List (Bor (List ℕ)) → List Word
+texts_of texts = map (λ (t : Bor (List ℕ)). t.now) texts
+
 abbrev pub write_seen : Written → Write
 write_seen (writes.File path bytes) = to_file path.now bytes.items
 write_seen (writes.Out text) = to_out text.items

@@ -1,5 +1,5 @@
 -- The texts that the tool prints. Each line ends with a line feed.
-use Rattle.std.specs.Prelude.{ℕ, ◌^◌, ◌-◌, List, [], ◌++◌, codes, Option, None, Some, Bool, true, false}
+use Rattle.std.specs.Prelude.{ℕ, ◌^◌, ◌-◌, List, [], ◌++◌, codes, Option, None, Some, false}
 use Rattle.std.specs.Fmt.{decimal, digits, format_spec, padded_integral}
 use Rattle.jc_bytes.specs.declared.refusal.Refusal.{Refusal}
 use Rattle.jc_bytes.specs.declared.refusal.RefusalKind.{RefusalKind}
@@ -106,11 +106,12 @@ no_entry_text file line = file ++ (codes ": no entry in line " ++ (decimal line 
 
 -- ---- inputs that are refused
 
--- a file that has something in common with another
+-- a file that has something in common with another that isn't named
 abbrev pub shared_text : List ℕ → List ℕ → List ℕ
 shared_text file what = file ++ (codes ": one class " ++ (what ++ codes "\n"))
 
--- a file that is refused, by its path and what is wrong with it
+-- A file that is refused, by its path and what is wrong with it. No end of a command has such a line of two files of one
+-- class name or of one class id: theirs names both files.
 abbrev pub fault_text : List ℕ → Fault → List ℕ
 fault_text file (faults.Exec path refusal) = exec_refusal_text file refusal
 fault_text file (faults.Plan line) = bad_plan_text file line

@@ -162,14 +162,15 @@ fn no_entry_text(alloc: Global, file: &str, line: u32) -> Result<String, AllocEr
     format!(in alloc; "{file}: no entry in line {line}\n")
 }
 
-/// A file that has its class name, or the id of its probes, in common with another.
+/// A file that has its class name, or the id of its probes, in common with another that isn't named.
 fn shared_text(alloc: Global, file: &str, what: &str) -> Result<String, AllocError>
     ensures { IfOk result (λ text. string_bytes text ≡ shared_text file.now what.now) }
 {
     format!(in alloc; "{file}: one class {what}\n")
 }
 
-/// Why a file is refused. A line that names two files has more: see [`crate::Stop::Clash`].
+/// Why a file is refused. No command is stopped by `SameName` or `SameId` with a line from here, which would name one file
+/// of the two: [`crate::Stop::Clash`] brings the line that names both.
 pub fn fault_text(alloc: Global, file: &str, fault: &Fault) -> Result<Vec<u8>, AllocError>
     ensures { IfOk result (λ text. text.items ≡ fault_text file.now fault.now) }
 {

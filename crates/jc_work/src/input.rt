@@ -4,7 +4,7 @@ ghost use Rattle.jc_bytes.specs.ByteLists.{AreBytes};
 ghost use Rattle.jc_bytes.specs.Reader.{most_read};
 ghost use Rattle.jc_work.specs.Part.{reading, listing, reading_all};
 ghost use Rattle.jc_work.specs.Ending.{DoesFiles};
-ghost use Rattle.jc_work.specs.Seen.{words_of, stop_seen, read_stop};
+ghost use Rattle.jc_work.specs.Seen.{words_of, texts_of, stop_seen, read_stop};
 
 use crate::stop::Stop;
 use jc_bytes::{Bytes, Memory};
@@ -54,20 +54,31 @@ fn keep(texts: &mut Vec<Bytes>, text: Bytes) -> Result<(), Memory>
     Ok(())
 }
 
+/// The paths, as texts.
+pub fn as_texts<'a>(alloc: Global, paths: &'a [String]) -> Result<Vec<&'a str>, Memory>
+    ensures { IfOk result (λ texts. texts_of texts.items ≡ words_of paths.entry.now) }
+{
+    let mut texts = Vec::with_capacity(alloc, paths.len())?;
+    'naming: for path in paths {
+        texts.push(path.as_str())?;
+    }
+    Ok(texts)
+}
+
 /// The bytes of the files at the paths, in order.
 pub fn read_all<'a, F: Files>(
     alloc: Global,
     files: &mut F,
-    paths: &'a [String],
+    paths: &[&'a str],
 ) -> Result<Vec<Bytes>, Stop<'a>>
-    ensures does { DoesFiles F.landed (reading_all (words_of paths.entry.now)) (λ texts. texts.items) stop_seen (F.contents files.old) (F.contents files.new)
+    ensures does { DoesFiles F.landed (reading_all (texts_of paths.entry.now)) (λ texts. texts.items) stop_seen (F.contents files.old) (F.contents files.new)
         (F.read_faults files.old) (F.read_faults files.new) (F.write_faults files.old) (F.write_faults files.new) result }
     ensures each { IfOk result (λ texts. length texts.items ≡ length paths.entry.now) }
     ensures short { IfOk result (λ texts. All (λ t. length t ≤ most_read) texts.items) }
 {
     let mut texts = Vec::new(alloc);
     'reading: for path in paths {
-        let text = read_one(alloc, files, path.as_str())?;
+        let text = read_one(alloc, files, path)?;
         keep(&mut texts, text)?;
     }
     Ok(texts)

@@ -2,6 +2,7 @@
 #![tactic(auto)]
 
 mod fault_text;
+mod folders;
 mod input;
 mod message;
 mod output;
@@ -9,7 +10,8 @@ mod status;
 mod stop;
 
 pub use fault_text::class_refusal_text;
-pub use input::{list_folder, read_all, read_one};
+pub use folders::list_files;
+pub use input::{as_texts, list_folder, read_all, read_one};
 pub use message::{report, report_usage};
 pub use output::{Write, keep, put_err, put_out, write_all, write_file};
 pub use status::{Fault, Status};

@@ -20,18 +20,20 @@ pub enum Status {
     Memory,
 }
 
-/// What is wrong with an input.
+/// What is wrong with an input. Class files are counted alone, from 0, in the order in which they are read: neither the
+/// plan nor the file of execution data of `--exec` has a place among them, and a folder's files each have their own.
 #[derive(Debug, Drop, PartialEq, Eq)]
 pub enum Fault {
-    /// The execution data of the input at this index in the list of inputs is refused.
+    /// The execution data of the input at this index is refused: of the inputs of `merge` and `execinfo`, or, at 0, the file
+    /// of `--exec`.
     Exec { path: u32, refusal: ExecRefusal },
     /// The run plan is refused: this line is the first that doesn't fit.
     Plan { line: u32 },
-    /// The class file at this index in the list of inputs is refused.
+    /// The class file at this index among the class files is refused.
     Class { path: u32, refusal: Refusal },
-    /// The files at these indices in the list of inputs are of one class name.
+    /// The files at these indices among the class files are of one class name.
     SameName { first: u32, second: u32 },
-    /// The probes of the files at these indices in the list of inputs are of one class id.
+    /// The probes of the files at these indices among the class files are of one class id.
     SameId { first: u32, second: u32 },
     /// The thread of this line of the run plan has no method to begin with.
     NoEntry { line: u32 },

@@ -17,9 +17,9 @@ pub enum Stop<'a> {
     Write(&'a str),
     /// A text couldn't be written.
     Output,
-    /// The file at the path is refused.
+    /// The file at the path is refused. The fault is one of this file alone: neither `SameName` nor `SameId`.
     Refused { file: &'a str, fault: Fault },
-    /// Two files don't go together, as the line says that names both.
+    /// Two files don't go together, `SameName` or `SameId`, as the line says that names both.
     Clash { fault: Fault, line: Vec<u8> },
 }
 
