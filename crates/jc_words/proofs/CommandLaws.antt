@@ -8,7 +8,8 @@ use Rattle.jc_words.specs.declared.name.CommandName.{CommandName}
 use Rattle.jc_words.specs.declared.name.CommandName.TheVariants.{Instrument, Run, Merge, Report, ExecInfo, ClassInfo, Cover}
 use Rattle.jc_words.specs.Words.{Word, Use, is_plain, use_words, tail_words, rest_words, value_of}
 use Rattle.jc_words.specs.Forms.{IsCall, Call, text_of, named, options_of, call_words}
-use Rattle.jc_words.specs.Paths.{FileText, file_text, path_of, are_relative, named_paths, are_distinct}
+use Rattle.jc_paths.specs.Paths.{FileText, file_text, path_of}
+use Rattle.jc_words.specs.Paths.{are_relative, named_paths, are_distinct}
 use Rattle.jc_words.specs.Numbers.{IsNumber, number_up_to}
 use Rattle.jc_words.specs.Scan.{Scan, scan}
 use Rattle.jc_words.specs.Commands.{Called, instrument, run, merge, report, exec_info, class_info, cover, cover_sample, default_name, IsWorkers, IsStated, IsCallOf, files_of, Means, by_call, by_sample, sample_use, NoForm}

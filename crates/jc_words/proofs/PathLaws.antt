@@ -1,7 +1,6 @@
 -- Paths among the words: their parts, and that they differ.
-use Rattle.std.proofs.Common.{◌≡◌, ℕ, zero, suc, ◌+◌, ◌<◌, ◌≤◌, Bool, true, false, not, ◌&&◌, ◌||◌, cond, List, [], ◌∷◌, ◌++◌, length, take, drop, get_or, map, Some, None, Bor, ◌-◌, ◌≢◌, codes, position, nat_eq, refl, sym, ◌∙◌, ap, ap₂, arith, append_assoc}
+use Rattle.std.proofs.Common.{◌≡◌, ℕ, zero, suc, ◌+◌, ◌<◌, ◌≤◌, Bool, true, false, not, ◌&&◌, ◌||◌, cond, List, [], ◌∷◌, ◌++◌, length, take, drop, get_or, map, Some, None, Bor, position, nat_eq, refl, sym, ◌∙◌, ap, ap₂, arith, append_assoc}
 use Rattle.std.specs.List.{filter, list_all, list_any, position_or_len, AllByRecursion, IsDistinct}
-use Rattle.std.specs.Cmp.Lexicographic.{same_text}
 use Rattle.std.specs.Str.{bytes_eq}
 use Rattle.std.proofs.lemmas.Bool.{and_right, or_right}
 use Rattle.std.proofs.lemmas.List.Quantifiers.{position-Some}
@@ -9,7 +8,7 @@ use Rattle.std.proofs.lemmas.List.Sums.{fails_before_first}
 use Rattle.std.proofs.lemmas.Slice.Eq.{bytes_eq-Decides}
 use Rattle.std.proofs.lemmas.List.{map-append, append-nil, take_all, take_more, take-append-drop}
 use Rattle.jc_words.specs.Words.{Word}
-use Rattle.jc_words.specs.Paths.{with_first, components, is_component, are_distinct, ends_with_slash}
+use Rattle.jc_words.specs.Paths.{with_first, components, is_component, are_distinct}
 use Rattle.jc_words.proofs.BoolLaws.{and-parts, both_true, either-false}
 
 -- ---- parts of a path
@@ -51,18 +50,6 @@ pub parts_end : (whole : Bool) (bytes : Word) → whole ≡ list_all is_componen
 parts_end whole bytes so_far none =
     let long : length bytes ≤ position_or_len (λ b. nat_eq b 47) bytes = grind (arith) in
     sym (so_far ∙ ap (list_all is_component) (one_part bytes (λ k below. fails_before_first (λ b. nat_eq b 47) bytes k 0 (omega (arith, below, long)))) ∙ and_true (is_component bytes))
-
--- ---- a slash at the end
-
-slash_behind : (w : Word) → ends_with_slash w ≡ true → w ≡ take (length w - 1) w ++ codes "/"
-slash_behind w h = sym (take-append-drop (length w - 1) w) ∙ ap (λ (l : Word). take (length w - 1) w ++ l) (sym (same_text (codes "/") (drop (length w - 1) w) (sym h)))
-
-pub no_slash_behind : (w : Word) → ((front : Word) → w ≢ front ++ codes "/") → ends_with_slash w ≡ false
-no_slash_behind w never = by (ends_with_slash w) refl
-  where
-    by : (b : Bool) → ends_with_slash w ≡ b → b ≡ false
-    by true e = absurd (never (take (length w - 1) w) (slash_behind w e))
-    by false e = refl
 
 -- ---- words that differ
 

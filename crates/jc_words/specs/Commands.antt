@@ -5,7 +5,8 @@ use Rattle.std.specs.Str.{bytes_eq}
 use Rattle.jc_words.specs.declared.name.CommandName.TheVariants.{Instrument, Run, Merge, Report, ExecInfo, ClassInfo, Cover}
 use Rattle.jc_words.specs.Words.{Word, Use, use_words, value_of}
 use Rattle.jc_words.specs.Forms.{IsCall, Call, options_of, call_words}
-use Rattle.jc_words.specs.Paths.{FileText, file_text, path_of, are_relative, named_paths}
+use Rattle.jc_paths.specs.Paths.{FileText, file_text, path_of}
+use Rattle.jc_words.specs.Paths.{are_relative, named_paths}
 use Rattle.jc_words.specs.Numbers.{IsNumber}
 
 pub data Called : Type 0 where

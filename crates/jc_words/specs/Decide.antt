@@ -6,7 +6,8 @@ use Rattle.jc_words.specs.declared.name.CommandName.{CommandName}
 use Rattle.jc_words.specs.declared.name.CommandName.TheVariants.{Instrument, Run, Merge, Report, ExecInfo, ClassInfo, Cover}
 use Rattle.jc_words.specs.Words.{Word, Use, is_plain, value_of}
 use Rattle.jc_words.specs.Forms.{options_of, named}
-use Rattle.jc_words.specs.Paths.{file_text, are_relative, named_paths, are_distinct}
+use Rattle.jc_paths.specs.Paths.{file_text}
+use Rattle.jc_words.specs.Paths.{are_relative, named_paths, are_distinct}
 use Rattle.jc_words.specs.Numbers.{number_up_to}
 use Rattle.jc_words.specs.Scan.{Scan, scan}
 use Rattle.jc_words.specs.Commands.{Called, instrument, run, merge, report, exec_info, class_info, cover, cover_sample, default_name}

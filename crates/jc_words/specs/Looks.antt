@@ -1,13 +1,10 @@
--- What a clause sees of words that were cut, and of files.
+-- What a clause sees of words that were cut.
 use Rattle.std.specs.Prelude.{map}
 use Rattle.jc_words.specs.declared.scan.Look.{Look}
 use Rattle.jc_words.specs.declared.scan.Look.TheVariants as look
 use Rattle.jc_words.specs.declared.scan.Used.{Used}
 use Rattle.jc_words.specs.declared.scan.Scanned.{Scanned}
-use Rattle.jc_words.specs.declared.paths.FileWord.{FileWord}
-use Rattle.jc_words.specs.declared.paths.FileWord.TheVariants as file_words
 use Rattle.jc_words.specs.Words.{Use, words_of}
-use Rattle.jc_words.specs.Paths.{FileText, plain, folder}
 use Rattle.jc_words.specs.Scan.{Kind, Scan, dashes, named, joined, other}
 
 abbrev pub look_kind : Look → Kind
@@ -21,7 +18,3 @@ used_view u = record { name = u.name.now; value = u.value.now; joined = u.joined
 
 abbrev pub scan_view : Scanned → Scan
 scan_view s = record { uses = map used_view s.uses.items; dash = s.dash; files = words_of s.files.now }
-
-abbrev pub file_view : FileWord → FileText
-file_view (file_words.Plain path) = plain path.now
-file_view (file_words.Folder path) = folder path.now

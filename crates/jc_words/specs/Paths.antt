@@ -1,27 +1,12 @@
 -- Paths among the words.
-use Rattle.std.specs.Prelude.{◌-◌, ℕ, Bool, true, false, not, ◌&&◌, ◌||◌, List, []}
-use Rattle.std.specs.Prelude.{◌∷◌, ◌++◌, length, take, map, codes, nat_eq, Option, Some, None, if◌then◌else◌}
-use Rattle.std.specs.List.{ends_with, filter, list_all, list_any}
+use Rattle.std.specs.Prelude.{ℕ, Bool, true, false, not, ◌&&◌, ◌||◌, List, []}
+use Rattle.std.specs.Prelude.{◌∷◌, ◌++◌, map, codes, nat_eq, Option, Some, None, if◌then◌else◌}
+use Rattle.std.specs.List.{filter, list_all, list_any}
 use Rattle.std.specs.Str.{bytes_eq}
+use Rattle.jc_paths.specs.Paths.{ends_with_slash, file_text, path_of, in_folder}
 use Rattle.jc_words.specs.declared.name.CommandName.{CommandName}
 use Rattle.jc_words.specs.declared.name.CommandName.TheVariants.{Instrument, Run, Merge, Report, ExecInfo, ClassInfo, Cover}
 use Rattle.jc_words.specs.Words.{Word, Use, value_of}
-
-abbrev pub ends_with_slash : Word → Bool
-ends_with_slash word = ends_with nat_eq word (codes "/")
-
--- a file, or, by a word that ends with `/`, a folder, which stands for files in it
-pub data FileText : Type 0 where
-  plain : Word → FileText
-  folder : Word → FileText
-
--- the path of a folder is the text before the last `/`
-abbrev pub file_text : Word → FileText
-file_text word = if ends_with_slash word then folder (take (length word - 1) word) else plain word
-
-abbrev pub path_of : FileText → Word
-path_of (plain path) = path
-path_of (folder path) = path
 
 -- the parts of a path, with a `/` between each and the next
 abbrev pub with_first : ℕ → List Word → List Word
@@ -56,10 +41,6 @@ wants_relative Cover = true
 
 abbrev pub are_relative : CommandName → List Word → Bool
 are_relative name files = not (wants_relative name) || list_all is_relative files
-
--- the path of a file in a folder: a `/` stands between the two, unless the folder's path ends with one
-abbrev pub in_folder : (dir path : Word) → Word
-in_folder dir path = if ends_with_slash dir then dir ++ path else dir ++ (codes "/" ++ path)
 
 -- the options whose values are paths of files
 abbrev pub path_options : List Word

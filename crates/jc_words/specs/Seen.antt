@@ -7,7 +7,7 @@ use Rattle.jc_words.specs.declared.command.Given.{Given}
 use Rattle.jc_words.specs.Words.{Word}
 use Rattle.jc_words.specs.Commands.{Called, instrument, run, merge, report, exec_info, class_info, cover, cover_sample}
 use Rattle.jc_words.specs.Decide.{Values}
-use Rattle.jc_words.specs.Looks.{file_view}
+use Rattle.jc_paths.specs.Looks.{file_view}
 
 abbrev pub text_seen : Option (Bor (List ℕ)) → Option Word
 text_seen o = option_map (λ (w : Bor (List ℕ)). w.now) o

@@ -1,14 +1,8 @@
 -- The words behind the program's name: uses of options, perhaps `--`, and files.
-use Rattle.std.specs.Prelude.{ℕ, Bool, false, not, ◌==◌, List, [], ◌∷◌, ◌++◌, Option, map, string_bytes, String, find, option_map, if◌then◌else◌}
+pub use Rattle.jc_paths.specs.Paths.{Word, words_of}
+use Rattle.std.specs.Prelude.{Bool, false, not, ◌==◌, List, [], ◌∷◌, ◌++◌, Option, find, option_map, if◌then◌else◌}
 use Rattle.std.specs.List.{flat_map}
 use Rattle.std.specs.Str.{bytes_eq}
-use Rattle.std.specs.declared.alloc.Global.{Global}
-
-abbrev pub Word : Type 0
-Word = List ℕ
-
-abbrev pub words_of : List (String Global) → List Word
-words_of words = map string_bytes words
 
 -- neither empty nor begins with `-`
 abbrev pub is_plain : Word → Bool

@@ -1,15 +1,15 @@
 //! The commands, as what their options are given and their files make them.
 ghost use Rattle.std.specs.Prelude.{◌≡◌, IfOk, map};
 ghost use Rattle.std.specs.Option.{option_map};
-ghost use Rattle.jc_words.specs.Paths.{file_text};
+ghost use Rattle.jc_paths.specs.Paths.{file_text};
 ghost use Rattle.jc_words.specs.Decide.{command_with, cover_with, instrument_with, merge_with, methods_in, name_in, report_with, run_with, workers_in};
-ghost use Rattle.jc_words.specs.Looks.{file_view};
+ghost use Rattle.jc_paths.specs.Looks.{file_view};
 ghost use Rattle.jc_words.specs.Seen.{command_seen, given_seen, text_seen};
 
 use crate::name::CommandName;
 use crate::number::number_up_to;
-use crate::paths::{FileWord, file_word};
 use jc_bytes::Memory;
+use jc_paths::{FileWord, file_word};
 use std::alloc::Global;
 
 /// A command that the words call, with its paths and texts borrowed from them.

@@ -11,5 +11,5 @@ mod reader;
 mod scan;
 
 pub use command::Command;
-pub use paths::{FileWord, in_folder};
+pub use jc_paths::FileWord;
 pub use read::{Usage, each_list_of_words_calls_one_command, read_words};

@@ -4,33 +4,14 @@ ghost use Rattle.std.specs.Option.{option_map};
 ghost use Rattle.std.specs.List.{list_all, list_any};
 ghost use Rattle.std.specs.Str.{bytes_eq};
 ghost use Rattle.jc_words.specs.Words.{words_of};
-ghost use Rattle.jc_words.specs.Paths.{components, ends_with_slash, file_text, in_folder, is_component};
-ghost use Rattle.jc_words.specs.Paths.{is_relative, path_options, path_values, targets_in, are_distinct};
-ghost use Rattle.jc_words.specs.Looks.{file_view, used_view};
+ghost use Rattle.jc_words.specs.Paths.{components, is_component, is_relative, path_options, path_values, targets_in, are_distinct};
+ghost use Rattle.jc_words.specs.Looks.{used_view};
 
 use crate::scan::Used;
 use indexmap::IndexSet;
 use jc_bytes::Memory;
+use jc_paths::{FileWord, ends_with_slash, file_word, in_folder};
 use std::alloc::{AllocError, Global};
-
-/// A file, or a folder, which stands for files in it.
-#[derive(Clone, Copy, Debug, PartialEq, Eq)]
-pub enum FileWord<'a> {
-    /// The path of a file: a word that doesn't end with `/`.
-    Plain(&'a str),
-    /// The path of a folder: a word without the `/` at its end.
-    Folder(&'a str),
-}
-
-/// What a word among the files stands for.
-pub fn file_word<'a>(word: &'a str) -> FileWord<'a>
-    ensures { file_view result ≡ file_text word.entry.now }
-{
-    match word.strip_suffix("/") {
-        Some(path) => FileWord::Folder(path),
-        None => FileWord::Plain(word),
-    }
-}
 
 /// Whether the bytes are neither empty nor `.` nor `..`.
 fn is_component(bytes: &[u8]) -> bool
@@ -73,24 +54,6 @@ pub fn all_relative(files: &[String]) -> bool
     ensures { result ≡ list_all (λ f. is_relative (string_bytes f)) files.now }
 {
     files.iter().all(|f| is_relative(f.as_str()))
-}
-
-/// The path of a file in a folder.
-pub fn in_folder(alloc: Global, folder: &str, path: &str) -> Result<String, AllocError>
-    ensures { IfOk result (λ target. string_bytes target ≡ in_folder folder.now path.now) }
-{
-    if folder.as_bytes().ends_with(b"/") {
-        format!(in alloc; "{folder}{path}")
-    } else {
-        format!(in alloc; "{folder}/{path}")
-    }
-}
-
-/// Whether a word ends with `/`.
-fn ends_with_slash(word: &str) -> bool
-    ensures { result ≡ ends_with_slash word.now }
-{
-    word.as_bytes().ends_with(b"/")
 }
 
 /// The paths in a folder, if there is one, of the files that are no folders.

@@ -1,6 +1,6 @@
 use Rattle.std.proofs.Common.{◌≡◌, map, take}
-use Rattle.jc_words.specs.Paths.{file_text}
-use Rattle.jc_words.specs.Looks.{file_view}
+use Rattle.jc_paths.specs.Paths.{file_text}
+use Rattle.jc_paths.specs.Looks.{file_view}
 use Rattle.jc_words.specs.Seen.{texts_seen}
 use Rattle.jc_words.proofs.command.file_words.Given as goal
 

@@ -1,7 +1,7 @@
 use Rattle.std.proofs.Common.{◌≡◌, map, take, not}
 use Rattle.std.specs.List.{filter}
 use Rattle.jc_words.specs.Words.{words_of}
-use Rattle.jc_words.specs.Paths.{ends_with_slash, in_folder}
+use Rattle.jc_paths.specs.Paths.{ends_with_slash, in_folder}
 use Rattle.jc_words.proofs.paths.targets_in.Given as goal
 
 -- the paths so far are those of the files so far
