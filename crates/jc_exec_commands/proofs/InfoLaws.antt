@@ -1,5 +1,5 @@
 -- What is printed of execution data, file after file.
-use Rattle.std.proofs.Common.{◌≡◌, ℕ, ◌+◌, ◌<◌, ◌≤◌, List, [], ◌∷◌, ◌++◌, length, take, get_or, map, Ok, Err, Vec, Bor, String, string_bytes, refl, sym, ◌∙◌, ap, subst, arith, append_assoc}
+use Rattle.std.proofs.Common.{◌≡◌, ℕ, ◌+◌, ◌<◌, ◌≤◌, List, [], ◌∷◌, ◌++◌, length, take, get_or, map, Ok, Err, Vec, Bor, refl, sym, ◌∙◌, ap, subst, arith, append_assoc}
 use Rattle.std.proofs.lemmas.List.{append-nil, take_more, take_all, map-append}
 use Rattle.std.specs.List.{AllByRecursion}
 use Rattle.std.specs.declared.alloc.Global.{Global}
@@ -15,7 +15,7 @@ use Rattle.jc_exec_commands.specs.ExecData.{IsUnionOf, IsInput, no_data}
 use Rattle.jc_exec_commands.specs.ExecInfo.{file_lines, AreInfo}
 use Rattle.jc_work.specs.Seen.{write_seen}
 use Rattle.jc_work.specs.Step.{Word}
-use Rattle.jc_work.specs.Seen.{words_of}
+use Rattle.jc_work.specs.Seen.{texts_of}
 use Rattle.jc_work.specs.Step.{Write, to_out}
 use Rattle.jc_exec_commands.specs.ExecInfo.{InfoAnswers, informed, exec_info_refused}
 use Rattle.jc_work.specs.Answered.{AnswersWith}
@@ -67,19 +67,18 @@ pub record InfoOf (paths : List Word) (texts : List (List ℕ)) (writes : List W
   pub writes_are : map write_seen writes ≡ map to_out lines
   pub info : AreInfo paths texts lines
 
-pub info_start : (words : List (String Global)) (texts : List (List ℕ)) (writes : List Written) → writes ≡ []
-    → InfoOf (words_of (take 0 words)) (take 0 texts) writes
-info_start words texts writes none = record { lines = []; writes_are = ap (map write_seen) none; info = refl }
+pub info_start : (files : List (Bor (List ℕ))) (texts : List (List ℕ)) (writes : List Written) → writes ≡ []
+    → InfoOf (texts_of (take 0 files)) (take 0 texts) writes
+info_start files texts writes none = record { lines = []; writes_are = ap (map write_seen) none; info = refl }
 
-pub info_on : (words : List (String Global)) (texts : List (List ℕ)) (i : ℕ) (w : String Global) (t : List ℕ) (file : Bor (List ℕ)) (store : Store)
-    (old new : List Written) → length texts ≡ length words → i < length texts → t ≡ get_or texts i t → w ≡ get_or words i w
-    → file.now ≡ string_bytes w
-    → InfoOf (words_of (take i words)) (take i texts) old → IsUnionOf (t ∷ []) store
+pub info_on : (files : List (Bor (List ℕ))) (texts : List (List ℕ)) (i : ℕ) (file : Bor (List ℕ)) (t : List ℕ) (store : Store)
+    (old new : List Written) → length texts ≡ length files → i < length texts → t ≡ get_or texts i t → file ≡ get_or files i file
+    → InfoOf (texts_of (take i files)) (take i texts) old → IsUnionOf (t ∷ []) store
     → map write_seen new ≡ map write_seen old ++ map to_out (file_lines file.now store)
-    → InfoOf (words_of (take (i + 1) words)) (take (i + 1) texts) new
-info_on words texts i w t file store old new same within text word path so_far union grows =
-    let paths : words_of (take (i + 1) words) ≡ words_of (take i words) ++ file.now ∷ [] = map_take_more string_bytes words i w
-    (omega (arith, same, within)) word ∙ ap (λ (p : Word). words_of (take i words) ++ p ∷ []) (sym path) in
+    → InfoOf (texts_of (take (i + 1) files)) (take (i + 1) texts) new
+info_on files texts i file t store old new same within text is so_far union grows =
+    let paths : texts_of (take (i + 1) files) ≡ texts_of (take i files) ++ file.now ∷ [] =
+    map_take_more (λ (w : Bor (List ℕ)). w.now) files i file (omega (arith, same, within)) is in
     let more : take (i + 1) texts ≡ take i texts ++ t ∷ [] = take_more texts i t within ∙ ap (λ (u : List ℕ). take i texts ++ u ∷ []) (sym text) in
     record {
       lines = so_far.lines ++ file_lines file.now store;
@@ -87,27 +86,27 @@ info_on words texts i w t file store old new same within text word path so_far u
           grows ∙ ap (λ (ws : List Write). ws ++ map to_out (file_lines file.now store)) so_far.writes_are
           ∙ sym (map-append to_out so_far.lines (file_lines file.now store));
       info = subst (λ (ps : List Word). AreInfo ps (take (i + 1) texts) (so_far.lines ++ file_lines file.now store)) (sym paths)
-          (subst (λ (ts : List (List ℕ)). AreInfo (words_of (take i words) ++ file.now ∷ []) ts (so_far.lines ++ file_lines file.now store)) (sym more)
-          (info_more (words_of (take i words)) (take i texts) so_far.lines file.now t store so_far.info union));
+          (subst (λ (ts : List (List ℕ)). AreInfo (texts_of (take i files) ++ file.now ∷ []) ts (so_far.lines ++ file_lines file.now store)) (sym more)
+          (info_more (texts_of (take i files)) (take i texts) so_far.lines file.now t store so_far.info union));
     }
 
-pub info_end : (words : List (String Global)) (texts : List (List ℕ)) (i : ℕ) (writes : Vec Written Global) → length texts ≡ length words
-    → length texts ≤ i → InfoOf (words_of (take i words)) (take i texts) writes.items → AnswersWith (InfoAnswers (words_of words) texts) (Ok writes)
-info_end words texts i writes same all so_far =
-    let paths : words_of (take i words) ≡ words_of words = ap words_of (take_all i words (omega (arith, same, all))) in
-    subst (λ (ws : List Write). InfoAnswers (words_of words) texts (gives ws)) (sym so_far.writes_are)
+pub info_end : (files : List (Bor (List ℕ))) (texts : List (List ℕ)) (i : ℕ) (writes : Vec Written Global) → length texts ≡ length files
+    → length texts ≤ i → InfoOf (texts_of (take i files)) (take i texts) writes.items → AnswersWith (InfoAnswers (texts_of files) texts) (Ok writes)
+info_end files texts i writes same all so_far =
+    let paths : texts_of (take i files) ≡ texts_of files = ap texts_of (take_all i files (omega (arith, same, all))) in
+    subst (λ (ws : List Write). InfoAnswers (texts_of files) texts (gives ws)) (sym so_far.writes_are)
     (informed so_far.lines
     (subst (λ (ps : List Word). AreInfo ps texts so_far.lines) paths
-    (subst (λ (ts : List (List ℕ)). AreInfo (words_of (take i words)) ts so_far.lines) (take_all i texts all) so_far.info)))
+    (subst (λ (ts : List (List ℕ)). AreInfo (texts_of (take i files)) ts so_far.lines) (take_all i texts all) so_far.info)))
 
-pub info_stops : (words : List (String Global)) (texts : List (List ℕ)) (i : ℕ) (t : List ℕ) (writes : List Written) (fail : Fail ExecRefusal)
-    (file : Bor (List ℕ)) → IsInput (words_of words) texts i file.now t → InfoOf (words_of (take i words)) (take i texts) writes
+pub info_stops : (files : List (Bor (List ℕ))) (texts : List (List ℕ)) (i : ℕ) (t : List ℕ) (writes : List Written) (fail : Fail ExecRefusal)
+    (file : Bor (List ℕ)) → IsInput (texts_of files) texts i file.now t → InfoOf (texts_of (take i files)) (take i texts) writes
     → Refuses fail no_data t
-    → AnswersWith (InfoAnswers (words_of words) texts) (Err (exec_stop fail i file))
-info_stops words texts i t writes fails.Memory file input so_far refuses = tt
-info_stops words texts i t writes (fails.Said refusal) file input so_far refuses =
+    → AnswersWith (InfoAnswers (texts_of files) texts) (Err (exec_stop fail i file))
+info_stops files texts i t writes fails.Memory file input so_far refuses = tt
+info_stops files texts i t writes (fails.Said refusal) file input so_far refuses =
     exec_info_refused i file.now refusal
-    (record { text = t; input = input; before = info_is_data (words_of (take i words)) (take i texts) so_far.lines so_far.info; refused = refuses })
+    (record { text = t; input = input; before = info_is_data (texts_of (take i files)) (take i texts) so_far.lines so_far.info; refused = refuses })
 
 -- one file alone
 pub data_read : (bytes : List ℕ) (old new : Store) → old ≡ no_data → ReadsOn bytes old new → IsUnionOf (bytes ∷ []) new

@@ -1,5 +1,5 @@
 -- Inputs of execution data, read into a store one after the other.
-use Rattle.std.proofs.Common.{◌≡◌, ℕ, ◌+◌, ◌<◌, ◌≤◌, List, [], ◌∷◌, ◌++◌, length, take, get_or, map, Result, Ok, Err, IfOk, IfErr, Vec, Bor, String, string_bytes, refl, sym, ◌∙◌, ap, subst, arith}
+use Rattle.std.proofs.Common.{◌≡◌, ℕ, ◌+◌, ◌<◌, ◌≤◌, List, [], ◌∷◌, ◌++◌, length, take, get_or, map, Result, Ok, Err, IfOk, IfErr, Vec, Bor, refl, sym, ◌∙◌, ap, subst, arith}
 use Rattle.std.proofs.lemmas.List.{take_more, take_all, get_or-map, get_or_default}
 use Rattle.std.specs.declared.alloc.Global.{Global}
 use Rattle.jc_base.specs.declared.Fail.{Fail}
@@ -17,7 +17,7 @@ use Rattle.jc_work.specs.declared.stop.Stop.TheVariants as stops
 use Rattle.jc_exec_commands.specs.ExecData.{IsUnionOf, IsInput}
 use Rattle.jc_work.specs.Seen.{write_seen}
 use Rattle.jc_work.specs.Step.{Word}
-use Rattle.jc_work.specs.Seen.{words_of}
+use Rattle.jc_work.specs.Seen.{texts_of}
 use Rattle.jc_work.specs.Step.{Write, to_file}
 use Rattle.jc_exec_commands.specs.Merge.{MergeAnswers, merged, merge_refused}
 use Rattle.jc_work.specs.Answered.{AnswersWith}
@@ -36,21 +36,21 @@ merge_on texts i t old new within is so_far reads =
 pub merge_end : (texts : List (List ℕ)) (i : ℕ) (store : Store) → length texts ≤ i → IsUnionOf (take i texts) store → IsUnionOf texts store
 merge_end texts i store all u = subst (λ (l : List (List ℕ)). IsUnionOf l store) (take_all i texts all) u
 
--- the input at a index of the loop
-pub input_at : (words : List (String Global)) (texts : List (List ℕ)) (i : ℕ) (w : String Global) (t : List ℕ) (file : Bor (List ℕ))
-    → length texts ≡ length words → i < length texts → t ≡ get_or texts i t → w ≡ get_or words i w → file.now ≡ string_bytes w
-    → IsInput (words_of words) texts i file.now t
-input_at words texts i w t file same within text word path = record {
+-- the input at an index of the loop
+pub input_at : (inputs : List (Bor (List ℕ))) (texts : List (List ℕ)) (i : ℕ) (d : Bor (List ℕ)) (t : List ℕ)
+    → length texts ≡ length inputs → i < length texts → t ≡ get_or texts i t
+    → IsInput (texts_of inputs) texts i (get_or inputs i d).now t
+input_at inputs texts i d t same within text = record {
   within = within;
-  path_is = path ∙ ap string_bytes word ∙ sym (get_or-map string_bytes words i w [] (omega (arith, same, within)));
+  path_is = sym (get_or-map (λ (w : Bor (List ℕ)). w.now) inputs i d [] (omega (arith, same, within)));
   text_is = text ∙ get_or_default texts i t [] within;
 }
 
-pub merge_stops : (words : List (String Global)) (texts : List (List ℕ)) (i : ℕ) (t : List ℕ) (store : Store) (fail : Fail ExecRefusal)
-    (file : Bor (List ℕ)) → IsInput (words_of words) texts i file.now t → IsUnionOf (take i texts) store → Refuses fail store t
-    → (out : Word) → AnswersWith (MergeAnswers out (words_of words) texts) (Err (exec_stop fail i file))
-merge_stops words texts i t store fails.Memory file input so_far refuses out = tt
-merge_stops words texts i t store (fails.Said refusal) file input so_far refuses out =
+pub merge_stops : (inputs : List (Bor (List ℕ))) (texts : List (List ℕ)) (i : ℕ) (t : List ℕ) (store : Store) (fail : Fail ExecRefusal)
+    (file : Bor (List ℕ)) → IsInput (texts_of inputs) texts i file.now t → IsUnionOf (take i texts) store → Refuses fail store t
+    → (out : Word) → AnswersWith (MergeAnswers out (texts_of inputs) texts) (Err (exec_stop fail i file))
+merge_stops inputs texts i t store fails.Memory file input so_far refuses out = tt
+merge_stops inputs texts i t store (fails.Said refusal) file input so_far refuses out =
     merge_refused i file.now refusal (record { text = t; input = input; store = store; before = so_far; refused = refuses })
 
 pub merge_writes : (destfile : Bor (List ℕ)) (inputs : List Word) (texts : List (List ℕ)) (store : Store) (v : Vec ℕ Global)

@@ -6,7 +6,7 @@ ghost use Rattle.jc_exec.specs.Answers.{Refuses};
 ghost use Rattle.jc_exec_commands.specs.ExecData.{IsUnionOf, no_data};
 ghost use Rattle.jc_exec_commands.specs.ExecInfo.{file_line, times_text, session_line, hits_text, record_start, record_line, file_lines, InfoAnswers};
 ghost use Rattle.jc_work.specs.Seen.{Prints};
-ghost use Rattle.jc_work.specs.Seen.{words_of};
+ghost use Rattle.jc_work.specs.Seen.{texts_of};
 ghost use Rattle.jc_work.specs.Answered.{AnswersWith, Prepares};
 
 use jc_base::{Bytes, Fail, Files, Memory};
@@ -131,17 +131,17 @@ pub fn data_of(alloc: Global, bytes: &[u8]) -> Result<ExecStore, Fail<ExecRefusa
 /// The lines of the files, in order.
 fn informed<'a>(
     alloc: Global,
-    paths: &'a [String],
+    paths: &[&'a str],
     texts: &[Bytes],
 ) -> Result<Vec<Write<'a>>, Stop<'a>>
     requires few { length paths.now < 2 ^ 32 }
     requires each { length texts.now ≡ length paths.now }
     requires short { All (λ t. length t ≤ most_read) texts.now }
-    ensures { AnswersWith (InfoAnswers (words_of paths.entry.now) texts.now) result }
+    ensures { AnswersWith (InfoAnswers (texts_of paths.entry.now) texts.now) result }
 {
     let mut writes = Vec::new(alloc);
     'informing: for index in 0..texts.len() {
-        let path = paths[index].as_str();
+        let path = paths[index];
         match data_of(alloc, &texts[index]) {
             Ok(store) => put_file(alloc, &mut writes, path, &store)?,
             Err(fail) => return Err(exec_stop(fail, index as u32, path)),
@@ -154,10 +154,10 @@ fn informed<'a>(
 pub fn prepare_exec_info<'a, F: Files>(
     alloc: Global,
     files: &mut F,
-    paths: &'a [String],
+    paths: &[&'a str],
 ) -> Result<Vec<Write<'a>>, Stop<'a>>
     requires { length paths.now < 2 ^ 32 }
-    ensures { Prepares F.landed (words_of paths.entry.now) (InfoAnswers (words_of paths.entry.now)) (F.contents files.old) (F.contents files.new)
+    ensures { Prepares F.landed (texts_of paths.entry.now) (InfoAnswers (texts_of paths.entry.now)) (F.contents files.old) (F.contents files.new)
         (F.read_faults files.old) (F.read_faults files.new) (F.write_faults files.old) (F.write_faults files.new) result }
 {
     let texts = read_all(alloc, files, paths)?;

@@ -3,7 +3,7 @@ ghost use Rattle.std.specs.Prelude.{◌≡◌, ◌≤◌, ◌<◌, ◌^◌, [], 
 ghost use Rattle.jc_base.specs.Reader.{most_read};
 ghost use Rattle.jc_exec_commands.specs.ExecData.{IsUnionOf};
 ghost use Rattle.jc_work.specs.Step.{Word};
-ghost use Rattle.jc_work.specs.Seen.{words_of};
+ghost use Rattle.jc_work.specs.Seen.{texts_of};
 ghost use Rattle.jc_work.specs.Answered.{AnswersWith, Prepares};
 ghost use Rattle.jc_exec_commands.specs.Merge.{MergeAnswers};
 
@@ -13,18 +13,18 @@ use jc_work::{Stop, Write, exec_stop, read_all};
 use std::alloc::Global;
 
 /// The union of the execution data in the texts of the inputs, in order.
-fn union_of<'a>(alloc: Global, inputs: &'a [String], texts: &[Bytes]) -> Result<ExecStore, Stop<'a>>
+fn union_of<'a>(alloc: Global, inputs: &[&'a str], texts: &[Bytes]) -> Result<ExecStore, Stop<'a>>
     requires few { length inputs.now < 2 ^ 32 }
     requires each { length texts.now ≡ length inputs.now }
     requires short { All (λ t. length t ≤ most_read) texts.now }
     ensures union { IfOk result (λ store. IsUnionOf texts.now store) }
-    ensures refused { (out : Word) → IfErr result (λ stop. AnswersWith (MergeAnswers out (words_of inputs.entry.now) texts.now) (Err stop)) }
+    ensures refused { (out : Word) → IfErr result (λ stop. AnswersWith (MergeAnswers out (texts_of inputs.entry.now) texts.now) (Err stop)) }
 {
     let mut store = ExecStore::new(alloc)?;
     'merging: for index in 0..texts.len() {
         match store.read(alloc, &texts[index]) {
             Ok(()) => {}
-            Err(fail) => return Err(exec_stop(fail, index as u32, inputs[index].as_str())),
+            Err(fail) => return Err(exec_stop(fail, index as u32, inputs[index])),
         }
     }
     Ok(store)
@@ -46,13 +46,13 @@ fn one_write<'a>(alloc: Global, write: Write<'a>) -> Result<Vec<Write<'a>>, Stop
 fn merged<'a>(
     alloc: Global,
     destfile: &'a str,
-    inputs: &'a [String],
+    inputs: &[&'a str],
     texts: &[Bytes],
 ) -> Result<Vec<Write<'a>>, Stop<'a>>
     requires few { length inputs.now < 2 ^ 32 }
     requires each { length texts.now ≡ length inputs.now }
     requires short { All (λ t. length t ≤ most_read) texts.now }
-    ensures { AnswersWith (MergeAnswers destfile.entry.now (words_of inputs.entry.now) texts.now) result }
+    ensures { AnswersWith (MergeAnswers destfile.entry.now (texts_of inputs.entry.now) texts.now) result }
 {
     let store = union_of(alloc, inputs, texts)?;
     let bytes = store.write(alloc)?;
@@ -70,10 +70,10 @@ pub fn prepare_merge<'a, F: Files>(
     alloc: Global,
     files: &mut F,
     destfile: &'a str,
-    inputs: &'a [String],
+    inputs: &[&'a str],
 ) -> Result<Vec<Write<'a>>, Stop<'a>>
     requires { length inputs.now < 2 ^ 32 }
-    ensures { Prepares F.landed (words_of inputs.entry.now) (MergeAnswers destfile.entry.now (words_of inputs.entry.now)) (F.contents files.old) (F.contents files.new)
+    ensures { Prepares F.landed (texts_of inputs.entry.now) (MergeAnswers destfile.entry.now (texts_of inputs.entry.now)) (F.contents files.old) (F.contents files.new)
         (F.read_faults files.old) (F.read_faults files.new) (F.write_faults files.old) (F.write_faults files.new) result }
 {
     let texts = read_all(alloc, files, inputs)?;

@@ -1,5 +1,5 @@
 use Rattle.std.proofs.lemmas.Result.{err_from_is_err_and}
-use Rattle.jc_work.specs.Seen.{words_of}
+use Rattle.jc_work.specs.Seen.{texts_of}
 use Rattle.jc_exec_commands.proofs.MergeLaws.{merge_writes}
 use Rattle.jc_exec_commands.proofs.merge.merged.Goals as goal
 
@@ -9,4 +9,4 @@ returns-in_err-store c =
     rw (p.1, p.2) (c.in_err-store.ensures.refused c.args.destfile.now)
 
 pub returns : goal.returns
-returns c = merge_writes c.args.destfile (words_of c.args.inputs.now) c.args.texts.now c.in_ok-store.store c.in_ok-bytes.bytes c.one_write.result c.in_ok-store.ensures.union c.in_ok-bytes.ensures.text c.one_write.ensures.ok c.one_write.ensures.err
+returns c = merge_writes c.args.destfile (texts_of c.args.inputs.now) c.args.texts.now c.in_ok-store.store c.in_ok-bytes.bytes c.one_write.result c.in_ok-store.ensures.union c.in_ok-bytes.ensures.text c.one_write.ensures.ok c.one_write.ensures.err

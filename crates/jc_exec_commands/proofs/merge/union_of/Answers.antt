@@ -1,8 +1,11 @@
-use Rattle.std.proofs.Common.{ℕ, List, subst}
+use Rattle.std.proofs.Common.{ℕ, List, [], Bor, get_or, subst}
 use Rattle.jc_exec.specs.Answers.{Refuses}
 use Rattle.jc_exec.specs.Union.{ReadsOn}
 use Rattle.jc_exec_commands.proofs.MergeLaws.{merge_on, merge_stops, input_at}
 use Rattle.jc_exec_commands.proofs.merge.union_of.Goals as goal
+
+abbrev nothing : Bor (List ℕ)
+nothing = record { ref_ptr = (0, 0); now = [] }
 
 pub merging-preserved : goal.merging-preserved
 merging-preserved c = merge_on c.args.texts.now c.merging.index c.index-texts-index.result c.merging.store c.read.new.self c.merging-test.true c.index-texts-index.is c.merging.invariant
@@ -10,6 +13,6 @@ merging-preserved c = merge_on c.args.texts.now c.merging.index c.index-texts-in
 
 pub returns-in-Err-clause-refused : goal.returns-in-Err-clause-refused
 returns-in-Err-clause-refused c = λ out.
-    let input = input_at c.args.inputs.now c.args.texts.now c.merging.index c.index-inputs-index.result c.index-texts-index.result c.as_str.result c.requires.each c.merging-test.true c.index-texts-index.is c.index-inputs-index.is c.as_str.ensures.value in
-    rw c.exec_stop.ensures (merge_stops c.args.inputs.now c.args.texts.now c.merging.index c.index-texts-index.result c.merging.store c.in-Err.fail c.as_str.result input c.merging.invariant
+    let input = input_at c.args.inputs.now c.args.texts.now c.merging.index nothing c.index-texts-index.result c.requires.each c.merging-test.true c.index-texts-index.is in
+    rw c.exec_stop.ensures (merge_stops c.args.inputs.now c.args.texts.now c.merging.index c.index-texts-index.result c.merging.store c.in-Err.fail (get_or c.args.inputs.now c.merging.index nothing) input c.merging.invariant
     (subst (λ (t : List ℕ). Refuses c.in-Err.fail c.merging.store t) c.deref.ensures c.in-Err.ensures.refused) out)
