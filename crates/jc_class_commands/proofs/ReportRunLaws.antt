@@ -1,12 +1,10 @@
 -- The reads of a report, and its answers.
-use Rattle.std.proofs.Common.{◌≡◌, inl, inr, ℕ, suc, List, [], ◌∷◌, ◌++◌, map, Option, None, Some, Result, Ok, Err, Vec, Bor, refl, sym, ◌∙◌, ap, subst, arith}
+use Rattle.std.proofs.Common.{◌≡◌, ℕ, List, [], ◌∷◌, ◌++◌, map, Option, None, Some, Result, Ok, Err, Vec, Bor, refl, sym, ◌∙◌, ap, subst, arith}
 use Rattle.std.proofs.lemmas.List.{map-append}
-use Rattle.std.proofs.lemmas.List.Elements.{All-cons}
 use Rattle.std.specs.declared.alloc.Global.{Global}
 use Rattle.jc_base.proofs.DecoderLaws.{some_is}
 use Rattle.jc_base.specs.declared.Fail.{Fail}
 use Rattle.jc_base.specs.declared.Fail.TheVariants as fails
-use Rattle.jc_base.specs.Outside.{FileMap, WhereTold}
 use Rattle.jc_exec.specs.Answers.{Refuses}
 use Rattle.jc_exec.specs.Store.{Store}
 use Rattle.jc_exec.specs.declared.hits.ClassHits.{ClassHits}
@@ -24,7 +22,6 @@ use Rattle.jc_work.specs.Step.{Word}
 use Rattle.jc_exec_commands.specs.ExecData.{IsUnionOf, no_data}
 use Rattle.jc_work.specs.Seen.{write_seen}
 use Rattle.jc_class_commands.specs.ReportSteps.{counted_classes, LooksAtAll, ReportsWith}
-use Rattle.jc_work.specs.Step.{IsFile}
 use Rattle.jc_class_commands.specs.Report.{ReportAnswers, reported, report_refused, report_clashes}
 use Rattle.jc_work.specs.Answered.{refusing}
 use Rattle.jc_work.specs.Step.{Write, to_file}

@@ -24,7 +24,6 @@ use Rattle.jc_instrument.specs.Analysis.{IsAnalysis}
 use Rattle.jc_instrument.specs.LeftAlone.{is_left_alone}
 use Rattle.jc_instrument.specs.Reasons.{AnalysisReason}
 use Rattle.jc_base.specs.Failing.{Said}
-use Rattle.jc_plan.specs.Analysed.{IsAnalysed}
 use Rattle.jc_report.specs.declared.row.Counted.{Counted}
 use Rattle.jc_class_commands.specs.declared.class_report.Looked.{Looked}
 use Rattle.jc_class_commands.specs.declared.class_report.Seen.{Seen}

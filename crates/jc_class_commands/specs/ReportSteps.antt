@@ -16,6 +16,7 @@ use Rattle.jc_report.specs.declared.row.Counted.{Counted}
 use Rattle.jc_class_commands.specs.declared.class_report.Data.{Data}
 use Rattle.jc_class_commands.specs.declared.class_report.Looked.{Looked}
 use Rattle.jc_class_commands.specs.declared.class_report.Seen.{Seen}
+use Rattle.jc_class_commands.specs.declared.report.ExecInput.{ExecInput}
 use Rattle.jc_class_commands.specs.declared.class_report.Seen.TheVariants as seens
 use Rattle.jc_work.specs.declared.output.Write.{Write as Written}
 use Rattle.jc_work.specs.declared.status.Fault.TheVariants as faults
@@ -33,6 +34,15 @@ use Rattle.jc_work.specs.Step.{to_file, to_err}
 abbrev pub data_records : Option (Bor Data) → List ClassHits
 data_records None = []
 data_records (Some d) = d.now.store.classes
+
+-- the path of the execution data, if a file of it is named, and the text that was read of it
+abbrev pub exec_path : Option ExecInput → Option Word
+exec_path None = None
+exec_path (Some e) = Some e.path.now
+
+abbrev pub exec_texts : Option ExecInput → List (List ℕ)
+exec_texts None = []
+exec_texts (Some e) = e.bytes ∷ []
 
 abbrev pub data_path : Option (Bor Data) → Option Word
 data_path None = None

@@ -9,9 +9,10 @@ ghost use Rattle.jc_work.specs.Seen.{words_of};
 ghost use Rattle.jc_work.specs.Answered.{AnswersWith, Prepares};
 
 use crate::each::each_answer;
+use crate::inputs::read_files;
 use jc_base::{Analysed, Body, Bytes, Fail, Files, Memory, Refusal};
 use jc_instrument::analyse;
-use jc_work::{Stop, Write, class_stop, keep, read_all};
+use jc_work::{Stop, Write, class_stop, keep};
 use std::alloc::{AllocError, Global};
 use std::marker::Sync;
 use std::thread::Threads;
@@ -145,6 +146,6 @@ pub fn prepare_class_info<'a, R: Threads + Sync, F: Files>(
     ensures { Prepares F.landed (words_of paths.entry.now) (ListAnswers (words_of paths.entry.now)) (F.contents files.old) (F.contents files.new)
         (F.read_faults files.old) (F.read_faults files.new) (F.write_faults files.old) (F.write_faults files.new) result }
 {
-    let texts = read_all(alloc, files, paths)?;
+    let texts = read_files(alloc, files, paths)?;
     listings(rt, alloc, paths, texts)
 }

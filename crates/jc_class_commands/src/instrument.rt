@@ -10,10 +10,11 @@ ghost use Rattle.jc_work.specs.Step.{Word};
 ghost use Rattle.jc_work.specs.Seen.{words_of};
 
 use crate::each::each_answer;
+use crate::inputs::read_files;
 use crate::lines::{accepted_line, refused_line};
 use jc_base::{Bytes, Fail, Files, Memory, Refusal};
 use jc_instrument::{Instrumented, instrument};
-use jc_work::{Stop, Write, read_all};
+use jc_work::{Stop, Write};
 use std::alloc::Global;
 use std::marker::Sync;
 use std::thread::Threads;
@@ -156,6 +157,6 @@ pub fn prepare_instrument<'a, R: Threads + Sync, F: Files>(
     ensures { Prepares F.landed (words_of paths.entry.now) (InstrumentAnswers (words_of targets.entry.now) (words_of paths.entry.now)) (F.contents files.old) (F.contents files.new)
         (F.read_faults files.old) (F.read_faults files.new) (F.write_faults files.old) (F.write_faults files.new) result }
 {
-    let texts = read_all(alloc, files, paths)?;
+    let texts = read_files(alloc, files, paths)?;
     Ok(all_writes(rt, alloc, targets, paths, texts)?)
 }

@@ -4,10 +4,11 @@
 mod class_info;
 mod class_report;
 mod each;
+mod inputs;
 mod instrument;
 mod lines;
 mod report;
 
 pub use class_info::prepare_class_info;
 pub use instrument::prepare_instrument;
-pub use report::prepare_report;
+pub use report::{ExecInput, prepare_report};

@@ -1,19 +1,27 @@
 //! The command `report`.
-ghost use Rattle.std.specs.Prelude.{◌≡◌, ◌≤◌, ◌<◌, ◌^◌, ◌∷◌, ◌++◌, [], All, Some, None, length, map, option_map, option_to_list, IfOk};
+ghost use Rattle.std.specs.Prelude.{◌≡◌, ◌≤◌, ◌<◌, ◌^◌, ◌∷◌, ◌++◌, [], All, Some, None, length, map, IfOk, IfSome};
 ghost use Rattle.jc_base.specs.Reader.{most_read};
 ghost use Rattle.jc_class_commands.specs.Report.{report_text, ReportAnswers};
-ghost use Rattle.jc_class_commands.specs.ReportSteps.{data_records, data_path, ReportsWith};
+ghost use Rattle.jc_class_commands.specs.ReportSteps.{data_records, data_path, exec_path, exec_texts, ReportsWith};
 ghost use Rattle.jc_work.specs.Seen.{words_of};
 ghost use Rattle.jc_work.specs.Answered.{AnswersWith, Prepares};
 
 use crate::class_report::{Data, Looked, look_at_all};
+use crate::inputs::read_files;
 use jc_base::{Bytes, Files, Memory};
 use jc_exec_commands::data_of;
 use jc_report::{Counted, csv_text, rows};
-use jc_work::{Stop, Write, exec_stop, read_all, read_one};
+use jc_work::{Stop, Write, exec_stop};
 use std::alloc::Global;
 use std::marker::Sync;
 use std::thread::Threads;
+
+/// The execution data of a report, and the file that it was read from.
+#[derive(Drop)]
+pub struct ExecInput<'a> {
+    pub path: &'a str,
+    pub bytes: Bytes,
+}
 
 /// The CSV text of classes.
 fn csv_of(alloc: Global, name: &str, classes: &[Counted]) -> Result<Vec<u8>, Memory>
@@ -97,55 +105,41 @@ fn reported_by_data<'a, R: Threads + Sync>(
     }
 }
 
-/// Reads the class files, and makes the writes of a report without execution data.
-fn prepare_without_data<'a, R: Threads + Sync, F: Files>(
+/// The writes of a report, of what was read.
+fn reported_of<'a, R: Threads + Sync>(
     rt: &R,
     alloc: Global,
-    files: &mut F,
     out: &'a str,
     name: &str,
-    paths: &'a [String],
+    exec: Option<ExecInput<'a>>,
+    paths: &[String],
+    texts: Vec<Bytes>,
 ) -> Result<Vec<Write<'a>>, Stop<'a>>
-    ensures { Prepares F.landed (words_of paths.entry.now) (ReportAnswers out.entry.now name.now None (words_of paths.entry.now)) (F.contents files.old) (F.contents files.new)
-        (F.read_faults files.old) (F.read_faults files.new) (F.write_faults files.old) (F.write_faults files.new) result }
+    requires exec_short { IfSome exec (λ e. length e.bytes ≤ most_read) }
+    requires each { length texts.items ≡ length paths.now }
+    requires short { All (λ t. length t ≤ most_read) texts.items }
+    ensures { AnswersWith (ReportAnswers out.entry.now name.now (exec_path exec.entry) (words_of paths.now) (exec_texts exec.entry ++ texts.items)) result }
 {
-    let texts = read_all(alloc, files, paths)?;
-    reported_without_data(rt, alloc, out, name, paths, texts)
+    match exec {
+        None => reported_without_data(rt, alloc, out, name, paths, texts),
+        Some(exec) => reported_by_data(rt, alloc, out, name, exec.path, &exec.bytes, paths, texts),
+    }
 }
 
-/// Reads the execution data and the class files, and makes the writes of a report.
-fn prepare_by_data<'a, R: Threads + Sync, F: Files>(
-    rt: &R,
-    alloc: Global,
-    files: &mut F,
-    out: &'a str,
-    name: &str,
-    exec: &'a str,
-    paths: &'a [String],
-) -> Result<Vec<Write<'a>>, Stop<'a>>
-    ensures { Prepares F.landed (exec.entry.now ∷ words_of paths.entry.now) (ReportAnswers out.entry.now name.now (Some exec.entry.now) (words_of paths.entry.now)) (F.contents files.old) (F.contents files.new)
-        (F.read_faults files.old) (F.read_faults files.new) (F.write_faults files.old) (F.write_faults files.new) result }
-{
-    let bytes = read_one(alloc, files, exec)?;
-    let texts = read_all(alloc, files, paths)?;
-    reported_by_data(rt, alloc, out, name, exec, &bytes, paths, texts)
-}
-
-/// The writes of `report --csv OUT [--name NAME] [--exec IN] CLASSFILE..`.
+/// The writes of `report --csv OUT [--name NAME] [--exec IN] FILE..`, where the execution data of IN has been read.
 pub fn prepare_report<'a, R: Threads + Sync, F: Files>(
     rt: &R,
     alloc: Global,
     files: &mut F,
     out: &'a str,
     name: &str,
-    exec: Option<&'a str>,
+    exec: Option<ExecInput<'a>>,
     paths: &'a [String],
 ) -> Result<Vec<Write<'a>>, Stop<'a>>
-    ensures { Prepares F.landed (option_to_list (option_map (λ w. w.now) exec.entry) ++ words_of paths.entry.now) (ReportAnswers out.entry.now name.now (option_map (λ w. w.now) exec.entry) (words_of paths.entry.now)) (F.contents files.old) (F.contents files.new)
+    requires { IfSome exec (λ e. length e.bytes ≤ most_read) }
+    ensures { Prepares F.landed (words_of paths.entry.now) (λ read. ReportAnswers out.entry.now name.now (exec_path exec.entry) (words_of paths.entry.now) (exec_texts exec.entry ++ read)) (F.contents files.old) (F.contents files.new)
         (F.read_faults files.old) (F.read_faults files.new) (F.write_faults files.old) (F.write_faults files.new) result }
 {
-    match exec {
-        None => prepare_without_data(rt, alloc, files, out, name, paths),
-        Some(exec) => prepare_by_data(rt, alloc, files, out, name, exec, paths),
-    }
+    let texts = read_files(alloc, files, paths)?;
+    reported_of(rt, alloc, out, name, exec, paths, texts)
 }

@@ -1,6 +1,4 @@
-use Rattle.std.proofs.Common.{ℕ, List, subst}
 use Rattle.std.proofs.lemmas.Result.{err_from_is_err_and}
-use Rattle.jc_work.specs.Answered.{AnswersWith}
 use Rattle.jc_work.specs.Seen.{words_of, stop_seen}
 use Rattle.jc_work.proofs.AnsweredLaws.{prepared, unprepared}
 use Rattle.jc_class_commands.specs.ClassInfo.{ListAnswers}

@@ -1,0 +1,25 @@
+//! Reading class files.
+ghost use Rattle.std.specs.Prelude.{◌≡◌, ◌≤◌, All, length, IfOk};
+ghost use Rattle.jc_base.specs.Reader.{most_read};
+ghost use Rattle.jc_work.specs.Part.{reading_all};
+ghost use Rattle.jc_work.specs.Ending.{DoesFiles};
+ghost use Rattle.jc_work.specs.Seen.{words_of, stop_seen};
+
+use jc_base::{Bytes, Files};
+use jc_work::{Stop, as_texts, read_all};
+use std::alloc::Global;
+
+/// The bytes of the class files at the paths, in order.
+pub fn read_files<'a, F: Files>(
+    alloc: Global,
+    files: &mut F,
+    paths: &'a [String],
+) -> Result<Vec<Bytes>, Stop<'a>>
+    ensures does { DoesFiles F.landed (reading_all (words_of paths.entry.now)) (λ texts. texts.items) stop_seen (F.contents files.old) (F.contents files.new)
+        (F.read_faults files.old) (F.read_faults files.new) (F.write_faults files.old) (F.write_faults files.new) result }
+    ensures each { IfOk result (λ texts. length texts.items ≡ length paths.entry.now) }
+    ensures short { IfOk result (λ texts. All (λ t. length t ≤ most_read) texts.items) }
+{
+    let named = as_texts(alloc, paths)?;
+    read_all(alloc, files, &named)
+}
