@@ -1,15 +1,14 @@
 -- Threads one after the other, up to the first without a method to begin with.
-use Rattle.std.proofs.Common.{◌≡◌, ℕ, ◌+◌, ◌<◌, ◌≤◌, Bool, true, false, not, is_some, List, [], ◌∷◌, ◌++◌, length, drop, get_or, Option, None, Some, option_map, Contains, refl, sym, ◌∙◌, ap, subst, arith, cond, append_assoc, append-nil, drop-cons, add-one}
-use Rattle.std.specs.List.{find, flat_map}
+use Rattle.std.proofs.Common.{◌≡◌, ℕ, ◌+◌, ◌<◌, ◌≤◌, Bool, true, false, not, is_some, List, [], ◌∷◌, ◌++◌, length, drop, get_or, Option, None, Some, option_map, refl, sym, ◌∙◌, ap, cond, drop-cons, add-one}
+use Rattle.std.specs.List.{flat_map}
 use Rattle.std.proofs.lemmas.List.{drop_all}
 use Rattle.std.proofs.lemmas.List.Concat.{flat_map-cons}
 use Rattle.jc_programs.specs.declared.program.Program.{Program}
 use Rattle.jc_programs.specs.declared.run_end.Entry.{Entry}
 use Rattle.jc_programs.specs.declared.run_plan.Case.{Case}
-use Rattle.jc_programs.specs.declared.run_plan.RunPlan.{RunPlan}
 use Rattle.jc_programs.specs.declared.run_plan.ThreadLine.{ThreadLine}
 use Rattle.jc_programs.specs.Entries.{entry_of, AreEntries}
-use Rattle.jc_run_work.specs.RunStore.{lacks_entry, first_without, threads_of}
+use Rattle.jc_run_work.specs.RunStore.{lacks_entry, first_without}
 use Rattle.jc_run_parts.specs.Beginnings.{line_of}
 
 abbrev pub threads_in : List Case → List ThreadLine
@@ -53,7 +52,7 @@ module _ (program : Program) where
       by true rest e = e
       by false rest e = rest e
 
-  none_in_front : (xs ys : List ThreadLine) → first_without program xs ≡ None → first_without program (xs ++ ys) ≡ first_without program ys
+  pub none_in_front : (xs ys : List ThreadLine) → first_without program xs ≡ None → first_without program (xs ++ ys) ≡ first_without program ys
   none_in_front [] ys is = refl
   none_in_front (x ∷ xs) ys is = by (lacks_entry program x) (none_in_front xs ys) is
     where
@@ -102,14 +101,14 @@ module _ (program : Program) where
       by None same e = absurd (nothing e)
       by (Some entry) same e = (entry, same, e)
 
-  all_entries : (threads : List ThreadLine) → first_without program threads ≡ None → (entries : List Entry) × AreEntries program threads entries
+  pub all_entries : (threads : List ThreadLine) → first_without program threads ≡ None → (entries : List Entry) × AreEntries program threads entries
   all_entries [] is = ([], tt)
   all_entries (t ∷ threads) is =
       let (e, found, rest) = tail_none t threads is in
       let (es, are) = all_entries threads rest in
       (e ∷ es, (found, are))
 
-  front_none : (xs ys : List ThreadLine) → first_without program (xs ++ ys) ≡ None → first_without program xs ≡ None
+  pub front_none : (xs ys : List ThreadLine) → first_without program (xs ++ ys) ≡ None → first_without program xs ≡ None
   front_none [] ys is = refl
   front_none (x ∷ xs) ys is = by (lacks_entry program x) (front_none xs ys) is
     where

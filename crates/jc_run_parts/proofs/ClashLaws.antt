@@ -1,10 +1,6 @@
 -- Files that are no program, and one of them alone.
-use Rattle.std.proofs.Common.{◌≡◌, ℕ, zero, suc, ◌+◌, ◌<◌, ◌≤◌, List, [], ◌∷◌, map, length, get_or, slice_get, slice_index_or, Option, None, Some, String, string_bytes, refl, sym, ◌∙◌, ap, ap₂, subst, arith}
-use Rattle.std.proofs.lemmas.List.{get_or-map, length-map}
-use Rattle.std.specs.declared.alloc.Global.{Global}
-use Rattle.jc_bytes.specs.declared.fail.Fail.{Fail}
-use Rattle.jc_bytes.specs.declared.fail.Fail.TheVariants as fails
-use Rattle.jc_bytes.specs.Failing.{Said}
+use Rattle.std.proofs.Common.{◌≡◌, ℕ, zero, suc, ◌<◌, List, [], ◌∷◌, length, get_or, slice_get, slice_index_or, Option, None, Some, Bor, refl, sym, subst, arith}
+use Rattle.std.proofs.lemmas.List.{get_or-map}
 use Rattle.jc_methods.specs.VerificationTypes.{Names}
 use Rattle.jc_programs.specs.declared.program.Program.{Program}
 use Rattle.jc_programs.specs.declared.program.Linked.{Linked}
@@ -12,12 +8,12 @@ use Rattle.jc_programs.specs.declared.program.ProbeInit.{ProbeInit}
 use Rattle.jc_linking.specs.declared.link_refusal.LinkRefusal.{LinkRefusal}
 use Rattle.jc_linking.specs.declared.link_refusal.LinkRefusal.TheVariants as refusals
 use Rattle.jc_linking.specs.Linking.{IsLinkedClass, AreLinkedClasses, IsProgramOf, IsLinkRefusal, refused, one_name, one_id}
-use Rattle.jc_linking.specs.Pairs.{HaveOne, IsFirstPair}
+use Rattle.jc_linking.specs.Pairs.{HaveOne}
 use Rattle.jc_linking.proofs.LinkingLaws.{linked_count}
 use Rattle.jc_run_work.specs.RunAnswers.{path_at, HasName, HasId}
 use Rattle.jc_work.specs.Part.{End}
 use Rattle.jc_run_parts.specs.Clash.{StopsAs, LinkStops}
-use Rattle.jc_work.specs.Seen.{words_of}
+use Rattle.jc_work.specs.Seen.{texts_of}
 
 -- ---- indices
 
@@ -89,9 +85,13 @@ module _ (files : List (List ℕ)) (index : ℕ) (less : index < length files) (
     id_is = refl;
   }
 
+-- a path of no index
+abbrev pub no_path : Bor (List ℕ)
+no_path = record { ref_ptr = (0, 0); now = [] }
+
 -- the path of an index
-pub path_is : (paths : List (String Global)) (i : ℕ) (w : String Global) (path : List ℕ) → i < length paths → w ≡ get_or paths i w → path ≡ string_bytes w → path_at (words_of paths) i ≡ path
-path_is paths i w path less is named = get_or-map string_bytes paths i w [] less ∙ ap string_bytes (sym is) ∙ sym named
+pub path_is : (paths : List (Bor (List ℕ))) (i : ℕ) (d : Bor (List ℕ)) → i < length paths → path_at (texts_of paths) i ≡ (get_or paths i d).now
+path_is paths i d less = get_or-map (λ (p : Bor (List ℕ)). p.now) paths i d [] less
 
 pub stops_so : (paths : List (List ℕ)) (files : List (List ℕ)) (r : LinkRefusal) (o : Option End) → IsLinkRefusal files r → StopsAs paths files r o → LinkStops paths files o
 stops_so paths files r None is so = tt

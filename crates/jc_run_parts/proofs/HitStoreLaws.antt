@@ -1,7 +1,7 @@
 -- Records of classes with probes, one after the other.
-use Rattle.std.proofs.Common.{◌≡◌, ◌≢◌, ◌⊎◌, inl, inr, ℕ, zero, suc, ◌+◌, ◌<◌, ◌≤◌, Bool, List, [], ◌∷◌, ◌++◌, map, length, take, drop, get_or, Option, None, Some, option_map, slice_get, slice_index_or, All, refl, sym, ◌∙◌, ap, subst, arith, append_assoc, append-nil}
+use Rattle.std.proofs.Common.{◌≡◌, ◌≢◌, ℕ, ◌+◌, ◌<◌, Bool, List, [], ◌∷◌, ◌++◌, map, length, take, drop, get_or, Option, None, Some, option_map, slice_get, slice_index_or, refl, sym, ◌∙◌, ap, subst, arith, append_assoc, append-nil}
 use Rattle.std.specs.List.{AllByRecursion}
-use Rattle.std.proofs.lemmas.List.{take_more, take_all, take-append-drop, length-take-le, length-append, length-map, get_or-map}
+use Rattle.std.proofs.lemmas.List.{take_more, take-append-drop, length-take-le, length-append, length-map, get_or-map}
 use Rattle.jc_exec.specs.declared.hits.ClassHits.{ClassHits}
 use Rattle.jc_exec.specs.Format.{Block, class}
 use Rattle.jc_exec.specs.Refusing.{OneOfEachId, blocks_of}
@@ -11,7 +11,7 @@ use Rattle.jc_exec.proofs.StoringLaws.{own_union}
 use Rattle.jc_exec.proofs.UnionLaws.{union_class, one_union}
 use Rattle.jc_programs.specs.declared.program.Linked.{Linked}
 use Rattle.jc_programs.specs.declared.program.ProbeInit.{ProbeInit}
-use Rattle.jc_linking.specs.Pairs.{HaveOne, HaveOneId, NoPair, id_of}
+use Rattle.jc_linking.specs.Pairs.{HaveOneId, NoPair, id_of}
 use Rattle.jc_run_parts.specs.HitStore.{set_record, with_set, set_records, count_of, counts_in, AddsLast}
 
 -- ---- one record

@@ -1,3 +1,4 @@
 pub mod BeginningLaws
 pub mod ClashLaws
 pub mod HitStoreLaws
+pub mod PlanLaws

@@ -1,3 +1,4 @@
 pub mod Beginnings
 pub mod Clash
 pub mod HitStore
+pub mod PlanStops

@@ -5,7 +5,7 @@ ghost use Rattle.jc_bytes.specs.Reader.{most_read};
 ghost use Rattle.jc_linking.specs.Linking.{IsProgramOf, IsLinkRefusal};
 ghost use Rattle.jc_run_work.specs.PairTexts.{pair_start, same_name_text, same_id_text};
 ghost use Rattle.jc_run_parts.specs.Clash.{StopsAs, LinkStops, id_end};
-ghost use Rattle.jc_work.specs.Seen.{words_of, stop_seen};
+ghost use Rattle.jc_work.specs.Seen.{texts_of, stop_seen};
 
 use jc_bytes::{Bytes, Fail, Memory};
 use jc_linking::{LinkRefusal, link};
@@ -70,7 +70,7 @@ fn alone(alloc: Global, files: &[Bytes], index: u32) -> Result<Program, Memory>
 fn name_stop<'a>(
     alloc: Global,
     files: &[Bytes],
-    paths: &'a [String],
+    paths: &[&'a str],
     first: u32,
     second: u32,
 ) -> Result<Stop<'a>, Memory>
@@ -78,13 +78,13 @@ fn name_stop<'a>(
     requires second { second < length files.now }
     requires each { length files.now ≡ length paths.now }
     requires short { All (λ t. length t ≤ most_read) files.now }
-    ensures { IfOk result (λ stop. StopsAs (words_of paths.entry.now) files.now (LinkRefusal.SameName first second) (stop_seen stop)) }
+    ensures { IfOk result (λ stop. StopsAs (texts_of paths.entry.now) files.now (LinkRefusal.SameName first second) (stop_seen stop)) }
 {
     let program = alone(alloc, files, first)?;
     let line = same_name_text(
         alloc,
-        paths[first as usize].as_str(),
-        paths[second as usize].as_str(),
+        paths[first as usize],
+        paths[second as usize],
         &program.classes[0].name,
     )?;
     let fault = Fault::SameName { first, second };
@@ -95,7 +95,7 @@ fn name_stop<'a>(
 fn id_stop<'a>(
     alloc: Global,
     files: &[Bytes],
-    paths: &'a [String],
+    paths: &[&'a str],
     first: u32,
     second: u32,
 ) -> Result<Stop<'a>, Memory>
@@ -103,7 +103,7 @@ fn id_stop<'a>(
     requires second { second < length files.now }
     requires each { length files.now ≡ length paths.now }
     requires short { All (λ t. length t ≤ most_read) files.now }
-    ensures { IfOk result (λ stop. StopsAs (words_of paths.entry.now) files.now (LinkRefusal.SameId first second) (stop_seen stop)) }
+    ensures { IfOk result (λ stop. StopsAs (texts_of paths.entry.now) files.now (LinkRefusal.SameId first second) (stop_seen stop)) }
 {
     let program = alone(alloc, files, first)?;
     let class = &program.classes[0];
@@ -112,8 +112,8 @@ fn id_stop<'a>(
     };
     let line = same_id_text(
         alloc,
-        paths[first as usize].as_str(),
-        paths[second as usize].as_str(),
+        paths[first as usize],
+        paths[second as usize],
         init.id,
     )?;
     let fault = Fault::SameId { first, second };
@@ -126,16 +126,16 @@ fn refusal_stop<'a>(
     alloc: Global,
     refusal: LinkRefusal,
     files: &[Bytes],
-    paths: &'a [String],
+    paths: &[&'a str],
 ) -> Stop<'a>
     requires refused { IsLinkRefusal files.now refusal }
     requires each { length files.now ≡ length paths.now }
     requires short { All (λ t. length t ≤ most_read) files.now }
-    ensures { LinkStops (words_of paths.entry.now) files.now (stop_seen result) }
+    ensures { LinkStops (texts_of paths.entry.now) files.now (stop_seen result) }
 {
     match refusal {
         LinkRefusal::Class { index, refusal } => {
-            class_stop(Fail::Said(refusal), index, paths[index as usize].as_str())
+            class_stop(Fail::Said(refusal), index, paths[index as usize])
         }
         LinkRefusal::SameName { first, second } => {
             match name_stop(alloc, files, paths, first, second) {
@@ -158,12 +158,12 @@ pub fn link_stop<'a>(
     alloc: Global,
     fail: Fail<LinkRefusal>,
     files: &[Bytes],
-    paths: &'a [String],
+    paths: &[&'a str],
 ) -> Stop<'a>
     requires refused { Said fail (IsLinkRefusal files.now) }
     requires each { length files.now ≡ length paths.now }
     requires short { All (λ t. length t ≤ most_read) files.now }
-    ensures { LinkStops (words_of paths.entry.now) files.now (stop_seen result) }
+    ensures { LinkStops (texts_of paths.entry.now) files.now (stop_seen result) }
 {
     match fail {
         Fail::Memory => Stop::Memory,

@@ -1,12 +1,10 @@
-use Rattle.std.proofs.Common.{◌≡◌, ◌<◌, List, ℕ, length, sym, ◌∙◌, ap, subst, arith}
-use Rattle.jc_linking.specs.declared.link_refusal.LinkRefusal.{LinkRefusal}
+use Rattle.std.proofs.Common.{◌<◌, List, ℕ, length, sym, ap, subst, arith}
 use Rattle.jc_linking.specs.declared.link_refusal.LinkRefusal.TheVariants as refusals
 use Rattle.jc_linking.specs.Linking.{IsLinkRefusal}
 use Rattle.jc_work.specs.declared.status.Fault.TheVariants as fault
-use Rattle.jc_work.specs.Part.{End, refused}
-use Rattle.jc_work.specs.Seen.{words_of, stop_seen}
+use Rattle.jc_work.specs.Part.{refused}
 use Rattle.jc_work.specs.Texts.{fault_text}
-use Rattle.jc_run_parts.proofs.ClashLaws.{are_within, path_is, stops_so}
+use Rattle.jc_run_parts.proofs.ClashLaws.{are_within, no_path, path_is}
 use Rattle.jc_run_parts.proofs.clash.refusal_stop.Goals as goal
 
 pub name_stop-requires-clause-first : goal.name_stop-requires-clause-first
@@ -35,5 +33,5 @@ returns-in-Class c =
     let r = refusals.Class w.index w.refusal in
     let is = subst (IsLinkRefusal c.args.files.now) w.is c.requires.refused in
     let less : w.index < length c.args.paths.now = (let inside = are_within c.args.files.now r is in omega (arith, inside, c.requires.each)) in
-    let path = path_is c.args.paths.now w.index c.index-paths-index.result c.as_str.result.now less c.index-paths-index.is c.as_str.ensures.value in
+    let path = path_is c.args.paths.now w.index no_path less in
     rw c.class_stop.ensures (r, is, ap (λ (p : List ℕ). refused (fault.Class w.index w.refusal) (fault_text p (fault.Class w.index w.refusal))) (sym path))
