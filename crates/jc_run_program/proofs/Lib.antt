@@ -1,0 +1,4 @@
+pub mod EntryLaws
+pub mod FitLaws
+pub mod HitLaws
+pub mod TextLaws

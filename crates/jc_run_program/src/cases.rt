@@ -1,0 +1,58 @@
+//! Running the cases of a plan.
+ghost use Rattle.std.specs.Prelude.{◌≡◌, ◌≤◌, ◌↔◌, ℕ, Contains, IfOk};
+ghost use Rattle.jc_machine.specs.Hits.{probe_counts};
+ghost use Rattle.jc_programs.specs.Probes.{counts_of, IsHit};
+ghost use Rattle.jc_programs.specs.Turns.{IsRunPlan};
+ghost use Rattle.jc_workers.specs.Cases.{HaveEntries, ends_under};
+ghost use Rattle.jc_world.specs.Programs.{IsProgram};
+ghost use Rattle.jc_world.specs.Run.{IsHit as IsHitBy};
+
+use jc_board::Board;
+use jc_bytes::Memory;
+use jc_programs::{CaseEnd, HitSet, Program, RunPlan};
+use jc_workers::{Gate, run_cases};
+use std::alloc::Global;
+use std::marker::Sync;
+use std::thread::Threads;
+
+/// How many probes each class has.
+fn probe_counts(alloc: Global, program: &Program) -> Result<Vec<u32>, Memory>
+    ensures { IfOk result (λ counts. counts.items ≡ probe_counts program.now) }
+{
+    let mut counts = Vec::new(alloc);
+    'counting: for class in program.classes.as_slice() {
+        counts.push(class.probes.map_or(0, |init| init.count))?;
+    }
+    Ok(counts)
+}
+
+/// What the cases of a plan leave, and which probes they hit.
+pub struct Outcome {
+    pub ends: Vec<CaseEnd>,
+    pub hits: HitSet,
+}
+
+/// Runs the cases of a plan on so many workers.
+pub fn run_plan<R: Threads + Sync, G: Gate + Sync>(
+    rt: &R,
+    alloc: Global,
+    program: &Program,
+    plan: &RunPlan,
+    workers: u32,
+    gate: &G,
+) -> Result<Outcome, Memory>
+    requires program { IsProgram program.now }
+    requires plan { IsRunPlan plan.now }
+    requires entries { HaveEntries program.now plan.now }
+    requires workers { (1 ≤ workers) × (workers ≤ 16) }
+    ensures ends { IfOk result (λ o. o.ends.items ≡ ends_under program.now plan.now) }
+    ensures counts { IfOk result (λ o. counts_of o.hits ≡ probe_counts program.now) }
+    ensures hits { IfOk result (λ o. (class id : ℕ) → IsHit o.hits class id ↔ IsHitBy program.now plan.now (record { class = class; id = id })) }
+{
+    let counts = probe_counts(alloc, program)?;
+    let mut hits = HitSet::new(alloc, &counts)?;
+    let (board, seat) = Board::new(alloc, &counts)?;
+    let (ends, seat) = run_cases(rt, alloc, program, plan, workers, gate, &board, seat)?;
+    board.close(seat, &mut hits);
+    Ok(Outcome { ends, hits })
+}
