@@ -1,5 +1,5 @@
 -- The answers to the items of a list, at their places.
-use Rattle.std.proofs.Common.{◌≡◌, ℕ, zero, suc, ◌<◌, List, [], ◌∷◌, length, get_or, refl, sym, ◌∙◌, ap, subst, arith}
+use Rattle.std.proofs.Common.{◌≡◌, ℕ, zero, suc, ◌<◌, List, [], ◌∷◌, length, get_or, map, Result, Ok, IfOk, refl, sym, ◌∙◌, ap, subst, arith}
 use Rattle.std.specs.List.{AllZip, enumerate_from}
 use Rattle.std.proofs.lemmas.List.FromFn.{length-enumerate_from, get_or-enumerate_from}
 
@@ -12,6 +12,21 @@ module _ {X Y : Type 0} (R : X → Y → Type 0) where
   zipped_at (x ∷ xs) [] i y zip within is = absurd zip
   zipped_at (x ∷ xs) (z ∷ ys) zero y zip within is = (x, refl, subst (R x) (sym is) zip.0)
   zipped_at (x ∷ xs) (z ∷ ys) (suc i) y zip within is = zipped_at xs ys i y zip.1 (omega (arith, within)) is
+
+  -- what stands at one place of both
+  pub zipped_pair : (xs : List X) (ys : List Y) (i : ℕ) (x : X) (y : Y) → AllZip R xs ys → i < length ys → x ≡ get_or xs i x → y ≡ get_or ys i y → R x y
+  zipped_pair [] [] i x y zip within x_is y_is = absurd (omega (arith, within))
+  zipped_pair [] (z ∷ ys) i x y zip within x_is y_is = absurd zip
+  zipped_pair (w ∷ xs) [] i x y zip within x_is y_is = absurd zip
+  zipped_pair (w ∷ xs) (z ∷ ys) zero x y zip within x_is y_is = subst (λ (v : X). R v y) (sym x_is) (subst (R w) (sym y_is) zip.0)
+  zipped_pair (w ∷ xs) (z ∷ ys) (suc i) x y zip within x_is y_is = zipped_pair xs ys i x y zip.1 (omega (arith, within)) x_is y_is
+
+-- what holds of each answer holds where all are there
+pub each_ok : {X Y : Type 0} (E : Type 0) (R : X → Y → Type 0) (xs : List X) (ys : List Y) → AllZip (λ x (u : Result Y E). IfOk u (R x)) xs (map Ok ys) → AllZip R xs ys
+each_ok E R [] [] zip = tt
+each_ok E R [] (y ∷ ys) zip = absurd zip
+each_ok E R (x ∷ xs) [] zip = absurd zip
+each_ok E R (x ∷ xs) (y ∷ ys) zip = (zip.0, each_ok E R xs ys zip.1)
 
 -- the answer that an enumeration gives next stands at its place
 pub record AtPlace {Y : Type 0} (ys : List Y) (n index : ℕ) (y : Y) : Type 0 where

@@ -1,8 +1,8 @@
 -- What is made of class files that are instrumented is one list of writes.
-use Rattle.std.proofs.Common.{◌≡◌, ⊎_elim, ℕ, ◌+◌, ◌<◌, ◌≤◌, List, [], ◌∷◌, ◌++◌, length, take, get_or, map, Some, Result, Ok, IfOk, refl, sym, ◌∙◌, ap, ap₂, subst, arith, append_assoc, String, string_bytes}
+use Rattle.std.proofs.Common.{◌≡◌, ⊎_elim, ℕ, ◌+◌, ◌<◌, ◌≤◌, List, [], ◌∷◌, ◌++◌, length, take, get_or, map, Some, Result, Ok, Err, IfOk, MatchResult, Vec, refl, sym, ◌∙◌, ap, ap₂, subst, arith, min, append_assoc, String, string_bytes}
 use Rattle.std.proofs.lemmas.List.{append-nil, take_more, take_all}
-use Rattle.std.proofs.lemmas.Slice.Zip.{AllZip-long}
-use Rattle.std.specs.List.{AllByRecursion, AllZip}
+use Rattle.std.proofs.lemmas.Slice.Zip.{AllZip-long, length-zip, get_or-zip}
+use Rattle.std.specs.List.{AllByRecursion, AllZip, zip}
 use Rattle.std.specs.declared.alloc.Global.{Global}
 use Rattle.jc_base.specs.declared.Memory.{Memory}
 use Rattle.jc_base.specs.declared.Refusal.{Refusal}
@@ -12,13 +12,13 @@ use Rattle.jc_instrument.proofs.RoomCauseLaws.{one_reason}
 use Rattle.jc_class_commands.specs.declared.instrument.Decided.{Decided}
 use Rattle.jc_work.specs.declared.output.Write.{Write as Written}
 use Rattle.jc_class_commands.specs.Instrument.{Decision, refused_file, accepted_file, IsDecision, file_writes, AreFileWrites}
-use Rattle.jc_class_commands.specs.Instrument.{IsDecided}
+use Rattle.jc_class_commands.specs.Instrument.{decision_seen}
 use Rattle.jc_work.specs.Seen.{write_seen, Puts}
 use Rattle.jc_work.specs.Step.{Word}
 use Rattle.jc_work.specs.Seen.{words_of}
 use Rattle.jc_work.specs.Step.{IsFile}
 use Rattle.jc_work.specs.Step.{Write}
-use Rattle.jc_class_commands.proofs.EachLaws.{zipped_at, AtPlace}
+use Rattle.jc_class_commands.proofs.EachLaws.{zipped_pair, each_ok, AtPlace}
 use Rattle.jc_work.proofs.ListLaws.{map_take_more}
 
 -- ---- one file
@@ -60,6 +60,18 @@ some_writes (p ∷ ps) (f ∷ fs) (t ∷ ts) same each files =
     let rest = some_writes ps fs ts (omega (arith, same)) (omega (arith, each)) files.1 in
     (file_writes p f t own.0 ++ rest.0, (own.0, rest.0, own.1, refl, rest.1))
 
+-- ---- what was decided
+
+-- where each answer is there, all are
+pub all_decided : (texts : List (List ℕ)) (r : Result (Vec Decided Global) Memory) (answers : List (Result Decided Memory)) (Fails : Memory → Type 0)
+    → AllZip (λ t u. IfOk u (λ d. IsDecision t (decision_seen d))) texts answers
+    → MatchResult r (λ all. (ds : List Decided) × (answers ≡ map Ok ds) × (all.items ≡ ds)) Fails → IfOk r (λ all. AllZip (λ t d. IsDecision t (decision_seen d)) texts all.items)
+all_decided texts (Ok all) answers Fails each (ds, same, items) =
+    let Decides : List ℕ → Decided → Type 0 = λ t d. IsDecision t (decision_seen d) in
+    let Answers : List ℕ → Result Decided Memory → Type 0 = λ t u. IfOk u (Decides t) in
+    subst (AllZip Decides texts) (sym items) (each_ok Memory Decides texts ds (subst (AllZip Answers texts) same each))
+all_decided texts (Err e) answers Fails each fails = tt
+
 -- ---- one file after the other
 
 writes_more : (ps fs : List Word) (ts : List (List ℕ)) (ws : List Write) (p f : Word) (t : List ℕ) (d : Decision) → AreFileWrites ps fs ts ws → IsDecision t d
@@ -99,22 +111,26 @@ module _ (targets paths : List (String Global)) (texts : List (List ℕ)) where
       (subst (AreFileWrites (words_of (take i targets) ++ target_path ∷ []) (words_of (take i paths) ++ file ∷ []) (take i texts ++ t ∷ [])) (sym puts) more)))
 
   -- one more file, by what was decided of it
-  pub decided_written : (answers : List (Result Decided Memory)) (i index : ℕ) (answer : Result Decided Memory) (decided : Decided)
+  pub decided_written : (all : List Decided) (i index : ℕ) (decided : Decided) (t : List ℕ)
       → (target path : String Global) (target_path file : List ℕ) (old new : List Written)
-      → AllZip (λ t r. IfOk r (IsDecided t)) texts answers → length targets ≡ length paths → length texts ≡ length paths
-      → AtPlace answers i index answer → answer ≡ Ok decided → target ≡ get_or targets index target → path ≡ get_or paths index path
+      → AllZip (λ u d. IsDecision u (decision_seen d)) texts all → length targets ≡ length paths → length texts ≡ length paths
+      → AtPlace (zip all texts) i index (decided, t) → target ≡ get_or targets index target → path ≡ get_or paths index path
       → target_path ≡ string_bytes target → file ≡ string_bytes path → AreWrittenFirst i old
-      → ((t : List ℕ) → IsDecided t decided → (d : Decision) × IsDecision t d × Puts old (file_writes target_path file t d) new)
-      → AreWrittenFirst (i + 1) new
-  decided_written answers i index answer decided target path target_path file old new
-      are as_many each place is target_is path_is named_target named_path so_far puts =
-      let Answers : List ℕ → Result Decided Memory → Type 0 = λ t r. IfOk r (IsDecided t) in
-      let own = zipped_at Answers texts answers i answer are place.within place.at in
-      let within : i < length texts = let long = AllZip-long Answers texts answers are in omega (arith, place.within, long) in
+      → Puts old (file_writes target_path file t (decision_seen decided)) new → AreWrittenFirst (i + 1) new
+  decided_written all i index decided t target path target_path file old new
+      are as_many each place target_is path_is named_target named_path so_far puts =
+      let Decides : List ℕ → Decided → Type 0 = λ u d. IsDecision u (decision_seen d) in
+      let long = AllZip-long Decides texts all are in
+      let zipped : i < min (length all) (length texts) = subst (λ (n : ℕ). i < n) (length-zip all texts) place.within in
+      let within : i < length texts = omega (arith, zipped) in
+      let decided_within : i < length all = omega (arith, within, long) in
+      let both = place.at ∙ get_or-zip all texts i (decided, t) decided_within within in
+      let text_is : t ≡ get_or texts i t = ap (λ (p : Decided × List ℕ). p.1) both in
+      let own = zipped_pair Decides texts all i t decided are decided_within text_is (ap (λ (p : Decided × List ℕ). p.0) both) in
       let at_target = target_is ∙ ap (λ (k : ℕ). get_or targets k target) place.index_is in
       let at_path = path_is ∙ ap (λ (k : ℕ). get_or paths k path) place.index_is in
-      file_written i target path own.0 target_path file old new (omega (arith, within, as_many, each)) (omega (arith, within, each)) within
-      at_target at_path own.1 named_target named_path so_far (puts own.0 (subst (Answers own.0) is own.2))
+      file_written i target path t target_path file old new (omega (arith, within, as_many, each)) (omega (arith, within, each)) within
+      at_target at_path text_is named_target named_path so_far (decision_seen decided, own, puts)
 
   pub all_written : (i : ℕ) (writes : List Written) → length targets ≤ i → length paths ≤ i → length texts ≤ i → AreWrittenFirst i writes
       → AreFileWrites (words_of targets) (words_of paths) texts (map write_seen writes)

@@ -29,6 +29,11 @@ abbrev pub file_writes : (target file : Word) (bytes : List ℕ) → Decision �
 file_writes target file bytes (refused_file why) = to_file target bytes ∷ to_err (refused_line file why) ∷ []
 file_writes target file bytes (accepted_file a) = to_file target a.bytes ∷ to_out (accepted_line file a.changed a.probes) ∷ []
 
+-- the line of a file
+abbrev pub decided_line : (file : Word) → Decision → List ℕ
+decided_line file (refused_file why) = refused_line file why
+decided_line file (accepted_file a) = accepted_line file a.changed a.probes
+
 -- ---- class files
 
 -- the writes of the class files, in order, by the paths to which they are written, their own paths and their bytes
@@ -47,7 +52,6 @@ pub data InstrumentAnswers (targets paths : List Word) (texts : List (List ℕ))
 
 -- ---- what the code decides
 
--- what comes of a class file with these bytes
-abbrev pub IsDecided : List ℕ → Decided → Type 0
-IsDecided bytes (decided.Accepted class) = IsDecision bytes (accepted_file class)
-IsDecided bytes (decided.Refused own why) = (own ≡ bytes) × IsDecision bytes (refused_file why)
+abbrev pub decision_seen : Decided → Decision
+decision_seen (decided.Accepted class) = accepted_file class
+decision_seen (decided.Refused why) = refused_file why

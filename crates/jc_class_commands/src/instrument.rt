@@ -2,120 +2,104 @@
 ghost use Rattle.std.specs.Prelude.{◌≡◌, ◌≤◌, All, length, map, IfOk, OnOk};
 ghost use Rattle.std.specs.List.{AllZip};
 ghost use Rattle.jc_base.specs.Reader.{most_read};
-ghost use Rattle.jc_class_commands.specs.Instrument.{Decision, refused_file, accepted_file, IsDecision, file_writes, AreFileWrites, InstrumentAnswers};
-ghost use Rattle.jc_class_commands.specs.Instrument.{IsDecided};
+ghost use Rattle.jc_class_commands.specs.Instrument.{IsDecision, decided_line, file_writes, AreFileWrites, InstrumentAnswers, decision_seen};
 ghost use Rattle.jc_work.specs.Answered.{Prepares};
 ghost use Rattle.jc_work.specs.Seen.{write_seen, Puts};
-ghost use Rattle.jc_work.specs.Step.{Word};
 ghost use Rattle.jc_work.specs.Seen.{words_of};
 
-use crate::each::each_answer;
 use crate::inputs::read_files;
 use crate::lines::{accepted_line, refused_line};
 use jc_base::{Bytes, Fail, Files, Memory, Refusal};
 use jc_instrument::{Instrumented, instrument};
 use jc_work::{Stop, Write};
+use rayon::prelude::*;
 use std::alloc::Global;
 use std::marker::Sync;
 use std::thread::Threads;
 
 /// What comes of a class file.
 #[derive(Drop)]
-enum Decided {
+pub enum Decided {
     /// It has probes, or its class stays as it is.
     Accepted(Instrumented),
-    /// It is refused: its bytes are those that were read.
-    Refused { bytes: Bytes, refusal: Refusal },
+    /// It is refused, and stays as it was read.
+    Refused(Refusal),
 }
 
 /// Decides what comes of the class file with these bytes.
-fn decide(alloc: Global, bytes: Bytes) -> Result<Decided, Memory>
-    requires { length bytes ≤ most_read }
-    ensures { IfOk result (IsDecided bytes) }
+fn decide(alloc: Global, bytes: &Bytes) -> Result<Decided, Memory>
+    requires { length bytes.now ≤ most_read }
+    ensures { IfOk result (λ d. IsDecision bytes.now (decision_seen d)) }
 {
-    match instrument(alloc, &bytes) {
+    match instrument(alloc, bytes) {
         Ok(class) => Ok(Decided::Accepted(class)),
         Err(Fail::Memory) => Err(Memory),
-        Err(Fail::Said(refusal)) => Ok(Decided::Refused { bytes, refusal }),
+        Err(Fail::Said(refusal)) => Ok(Decided::Refused(refusal)),
     }
 }
 
-/// Decides what comes of each class file, in order.
-fn decide_all<R: Threads + Sync>(
+/// Decides what comes of each class file, in order. The work is shared among as many threads as the machine has processors.
+/// It fails only where memory is refused.
+pub fn decide_all<R: Threads + Sync>(
     rt: &R,
     alloc: Global,
-    texts: Vec<Bytes>,
-) -> Result<Vec<Result<Decided, Memory>>, Memory>
-    requires { All (λ t. length t ≤ most_read) texts.items }
-    ensures each { IfOk result (λ answers. AllZip (λ t r. IfOk r (IsDecided t)) texts.items answers.items) }
-    ensures len { IfOk result (λ answers. length answers.items ≡ length texts.items) }
+    texts: &[Bytes],
+) -> Result<Vec<Decided>, Memory>
+    requires { All (λ t. length t ≤ most_read) texts.now }
+    ensures { IfOk result (λ all. AllZip (λ t d. IsDecision t (decision_seen d)) texts.now all.items) }
 {
-    let answer = |bytes: Bytes| -> Result<Decided, Memory>
-        requires { length bytes ≤ most_read }
-        ensures { IfOk result (IsDecided bytes) }
+    let answer = |bytes: &Bytes| -> Result<Decided, Memory>
+        requires { length bytes.now ≤ most_read }
+        ensures { IfOk result (λ d. IsDecision bytes.now (decision_seen d)) }
     { decide(alloc, bytes) };
-    each_answer(rt, alloc, texts, answer)
+    texts
+        .par_iter()
+        .with_min_len(1)
+        .map(answer)
+        .collect::<Result<Vec<_>, Memory>>(rt, alloc)?
 }
 
-/// Puts last the write of a class file that is accepted, and behind it its line.
-fn put_accepted<'a>(
-    alloc: Global,
-    writes: &mut Vec<Write<'a>>,
-    target: &'a str,
-    path: &str,
-    class: Instrumented,
-) -> Result<(), Memory>
-    ensures { OnOk result ((bytes : Word)
-        → Puts writes.old.items (file_writes target.entry.now path.now bytes (accepted_file class)) writes.new.items) }
+/// The line of a class file: how many probes it has, that it stays as it is, or why it is refused.
+pub fn decided_line(alloc: Global, path: &str, decided: &Decided) -> Result<Vec<u8>, Memory>
+    ensures { IfOk result (λ line. line.items ≡ decided_line path.now (decision_seen decided.now)) }
 {
-    let text = accepted_line(alloc, path, class.changed, class.probes)?;
-    let bytes = class.bytes.into_vec();
-    writes.push(Write::File {
-        path: target,
-        bytes,
-    })?;
-    writes.push(Write::Out { text })?;
-    Ok(())
+    match decided {
+        Decided::Accepted(class) => { Ok(accepted_line(alloc, path, class.changed, class.probes)?) }
+        Decided::Refused(refusal) => Ok(refused_line(alloc, path, *refusal)?),
+    }
 }
 
-/// Puts last the write of a class file that is refused, as it was read, and behind it its line.
-fn put_refused<'a>(
-    alloc: Global,
-    writes: &mut Vec<Write<'a>>,
-    target: &'a str,
-    path: &str,
-    bytes: Bytes,
-    refusal: Refusal,
-) -> Result<(), Memory>
-    ensures { OnOk result (Puts writes.old.items (file_writes target.entry.now path.now bytes (refused_file refusal)) writes.new.items) }
-{
-    let text = refused_line(alloc, path, refusal)?;
-    let bytes = bytes.into_vec();
-    writes.push(Write::File {
-        path: target,
-        bytes,
-    })?;
-    writes.push(Write::Err { text })?;
-    Ok(())
-}
-
-/// Puts last the writes of a class file.
+/// Puts last the write of a class file, which stays as it was read where it is refused, and behind it its line.
 fn put_file<'a>(
     alloc: Global,
     writes: &mut Vec<Write<'a>>,
     target: &'a str,
     path: &str,
+    bytes: Bytes,
     decided: Decided,
 ) -> Result<(), Memory>
-    ensures { (bytes : Word) → IsDecided bytes decided → OnOk result ((d : Decision) × IsDecision bytes d
-        × Puts writes.old.items (file_writes target.entry.now path.now bytes d) writes.new.items) }
+    ensures { OnOk result (Puts writes.old.items (file_writes target.entry.now path.now bytes (decision_seen decided)) writes.new.items) }
 {
+    let text = decided_line(alloc, path, &decided)?;
     match decided {
-        Decided::Accepted(class) => put_accepted(alloc, writes, target, path, class),
-        Decided::Refused { bytes, refusal } => {
-            put_refused(alloc, writes, target, path, bytes, refusal)
+        Decided::Accepted(class) => {
+            let bytes = class.bytes.into_vec();
+            writes.push(Write::File {
+                path: target,
+                bytes,
+            })?;
+            writes.push(Write::Out { text })?;
+        }
+        Decided::Refused(_) => {
+            let bytes = bytes.into_vec();
+            writes.push(Write::File {
+                path: target,
+                bytes,
+            })?;
+            writes.push(Write::Err { text })?;
         }
     }
+    Ok(())
 }
 
 /// The writes of the class files, in order.
@@ -131,15 +115,16 @@ fn all_writes<'a, R: Threads + Sync>(
     requires short { All (λ t. length t ≤ most_read) texts.items }
     ensures { IfOk result (λ writes. AreFileWrites (words_of targets.entry.now) (words_of paths.now) texts.items (map write_seen writes.items)) }
 {
-    let answers = decide_all(rt, alloc, texts)?;
+    let all = decide_all(rt, alloc, &texts)?;
     let mut writes = Vec::new(alloc);
-    'instrumenting: for (index, answer) in answers.into_iter().enumerate() {
+    'instrumenting: for (index, (decided, bytes)) in all.into_iter().zip(texts).enumerate() {
         put_file(
             alloc,
             &mut writes,
             targets[index].as_str(),
             paths[index].as_str(),
-            answer?,
+            bytes,
+            decided,
         )?;
     }
     Ok(writes)

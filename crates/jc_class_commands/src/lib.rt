@@ -10,5 +10,5 @@ mod lines;
 mod report;
 
 pub use class_info::prepare_class_info;
-pub use instrument::prepare_instrument;
+pub use instrument::{Decided, decide_all, decided_line, prepare_instrument};
 pub use report::{ExecInput, prepare_report};

@@ -1,4 +1,4 @@
-use Rattle.std.proofs.Common.{ℕ, List, Some, refl, subst}
+use Rattle.std.proofs.Common.{ℕ, List, Some, subst}
 use Rattle.jc_base.specs.Failing.{Said}
 use Rattle.jc_instrument.specs.InstrumentedFile.{IsInstrumentedFile}
 use Rattle.jc_instrument.specs.Refused.{Reason}
@@ -13,4 +13,4 @@ returns-in-Err-Said c =
     let fail = c.in-Err-Said.field-0 in
     let why = c.in-Err-Said.refusal in
     let said = subst (λ (b : List ℕ). Said fail (λ r. Reason b (Some r))) c.deref.ensures c.in-Err-Said.ensures.refused in
-    (refl, said_why fail why (λ r. Reason c.args.bytes (Some r)) (cc) said)
+    said_why fail why (λ r. Reason c.args.bytes.now (Some r)) (cc) said
