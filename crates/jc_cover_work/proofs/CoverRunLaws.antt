@@ -15,7 +15,7 @@ use Rattle.jc_work.specs.Folders.{files_of}
 use Rattle.jc_work.specs.Prefix.{after_writes}
 use Rattle.jc_run_work.specs.RunAnswers.{IsPlanEnd, IsRunProgram}
 use Rattle.jc_run_work.specs.RunStore.{run_store}
-use Rattle.jc_cover_work.specs.CoverWork.{Cover, LookedFile, all_file_writes, accepted, texts_in, targets, EndsAmongAll, IsLinkEnd, HaveEntries, IsEntryEnd, IsReportText, IsClashEnd, instrumenting, cover_work}
+use Rattle.jc_cover_work.specs.CoverWork.{Cover, LookedFile, all_file_writes, accepted, texts_in, targets, EndsAmongAll, IsLinkEnd, HaveEntries, IsEntryEnd, IsReportText, IsClashEnd, instrumenting, running, cover_work}
 use Rattle.jc_cover_work.specs.CoverRun.{AreRead, AreDistinct, CoverRun}
 use Rattle.jc_cover_work.proofs.PartLaws.{IsDone, quiet_reading, quiet_writing, quiet_deciding, quiet_reading_all, quiet_files, quiet_instrumenting, both, through, deciding_over, reading_over, writing_over, reading_all_over, files_over, instrumenting_over}
 
@@ -53,17 +53,11 @@ module _ (c : Cover) where
     deciding (HaveEntries program plan) (IsEntryEnd c.plan program plan)
     report_part plan looked program
 
-  abbrev pub run_part : RunPlan → List LookedFile → Command
-  run_part plan looked = do
-    written ← reading_all (targets c.dest looked)
-    program ← deciding (IsRunProgram written) (IsLinkEnd looked written)
-    entry_part plan looked program
-
   abbrev pub look_part : List ℕ → List Word → List (List ℕ) → Command
   look_part plan_text paths read = do
     plan ← deciding (IsPlanText plan_text) (IsPlanEnd c.plan plan_text)
     looked ← instrumenting c.dest paths read
-    run_part plan looked
+    running c plan looked
 
 module _ (landed : Landed) (c : Cover) where
   -- what stands behind the writes of the files
@@ -124,7 +118,7 @@ module _ (landed : Landed) (c : Cover) where
     report : IsReportText c.name (run_store program plan) (texts_in (accepted looked)) csv
     stands : Leaves plan program csv w new
 
-  run_over : (plan : RunPlan) (looked : List LookedFile) (w : World) (steps : List Step) → run_part c plan looked steps (stops done) → Fit landed w steps → Ran plan looked w (after landed w steps)
+  run_over : (plan : RunPlan) (looked : List LookedFile) (w : World) (steps : List Step) → running c plan looked steps (stops done) → Fit landed w steps → Ran plan looked w (after landed w steps)
   run_over plan looked w steps is fits =
       let a = both landed (reading_all (targets c.dest looked)) _ w steps (stops done) (through (reading_all (targets c.dest looked)) _ steps (quiet_reading_all (targets c.dest looked)) is) fits in
       let (back, left) = reading_all_over landed w (targets c.dest looked) a.value a.front a.first a.fits in
@@ -157,10 +151,10 @@ module _ (landed : Landed) (c : Cover) where
 
   module _ (old : World) (plan_text : List ℕ) (plan_read : IsRead old.contents c.plan plan_text) where
     instrument_over : (paths : List Word) (distinct : AreDistinct paths) (read : List (List ℕ)) (files_read : AreRead old.contents paths read) (plan : RunPlan) (is_plan : IsPlanText plan_text plan) (steps : List Step)
-        → (instrumenting c.dest paths read >>= (λ looked. run_part c plan looked)) steps (stops done) → Fit landed old steps → Run old (after landed old steps)
+        → (instrumenting c.dest paths read >>= (λ looked. running c plan looked)) steps (stops done) → Fit landed old steps → Run old (after landed old steps)
     instrument_over paths distinct read files_read plan is_plan steps is fits =
         let part = instrumenting c.dest paths read in
-        let h = both landed part (λ looked. run_part c plan looked) old steps (stops done) (through part (λ looked. run_part c plan looked) steps (quiet_instrumenting c.dest paths read) is) fits in
+        let h = both landed part (λ looked. running c plan looked) old steps (stops done) (through part (λ looked. running c plan looked) steps (quiet_instrumenting c.dest paths read) is) fits in
         let (looked_at, made) = instrumenting_over landed old c.dest paths read h.value h.front h.first h.fits in
         let w = after_writes landed old (all_file_writes c.dest h.value) in
         let ran = run_over plan h.value w h.behind h.next (subst (λ (v : World). Fit landed v h.behind) made h.fits') in
@@ -191,7 +185,7 @@ module _ (landed : Landed) (c : Cover) where
     look_over paths distinct read files_read steps is fits =
         let Is = IsPlanText plan_text in
         let Ends = IsPlanEnd c.plan plan_text in
-        let rest = λ (plan : RunPlan). instrumenting c.dest paths read >>= (λ looked. run_part c plan looked) in
+        let rest = λ (plan : RunPlan). instrumenting c.dest paths read >>= (λ looked. running c plan looked) in
         let e = both landed (deciding Is Ends) rest old steps (stops done) (through (deciding Is Ends) rest steps (quiet_deciding Is Ends (λ end. not_refused _ _ end.2)) is) fits in
         let (is_plan, left) = deciding_over landed old Is Ends e.value e.front e.first in
         moved old (after landed old e.behind) (after landed old steps) (e.stands ∙ ap (λ (v : World). after landed v e.behind) left)

@@ -5,8 +5,9 @@ use Rattle.std.specs.Str.{bytes_eq}
 use Rattle.std.proofs.lemmas.List.{append_cancel_left}
 use Rattle.std.proofs.lemmas.Slice.Eq.{bytes_eq-Decides}
 use Rattle.jc_work.specs.Step.{Word}
-use Rattle.jc_work.specs.Folders.{once, is_folder}
-use Rattle.jc_cover_work.specs.CoverWork.{LookedFile, AreLooked, in_folder, paths_in}
+use Rattle.jc_paths.specs.Paths.{ends_with_slash, in_folder}
+use Rattle.jc_work.specs.Folders.{once}
+use Rattle.jc_cover_work.specs.CoverWork.{LookedFile, AreLooked, paths_in}
 use Rattle.jc_cover_work.specs.CoverRun.{IsNone, AreDistinct}
 
 true_or_false : true ≡ false → ⊥
@@ -42,7 +43,7 @@ distinct_once seen (p ∷ ps) = by (was_seen seen p) (distinct_once seen ps) (no
     by false old new = new
 
 one_target : (dest p q : Word) → in_folder dest p ≡ in_folder dest q → p ≡ q
-one_target dest p q e = by (is_folder dest) e
+one_target dest p q e = by (ends_with_slash dest) e
   where
     by : (b : Bool) → cond b (dest ++ p) (dest ++ (codes "/" ++ p)) ≡ cond b (dest ++ q) (dest ++ (codes "/" ++ q)) → p ≡ q
     by true same = append_cancel_left dest p q same

@@ -45,8 +45,8 @@ use Rattle.jc_run_work.specs.PairTexts.{same_name_text, same_id_text}
 use Rattle.jc_run_work.specs.RunAnswers.{HasName, HasId, IsPlanEnd, IsRunProgram}
 use Rattle.jc_run_work.specs.RunStore.{threads_of, first_without, run_store}
 use Rattle.jc_run_work.proofs.StoreLaws.{same_frameless}
-use Rattle.jc_cover_work.specs.CoverWork.{Cover, LookedFile, AreLooked, all_file_writes, accepted, texts_in, targets, place_of, path_of, EndsAmongAll, IsLinkEnd, HaveEntries, IsEntryEnd, IsReportText, IsClashEnd, instrumenting, cover_work}
-use Rattle.jc_cover_work.proofs.CoverRunLaws.{last_part, report_part, entry_part, run_part, look_part}
+use Rattle.jc_cover_work.specs.CoverWork.{Cover, LookedFile, AreLooked, all_file_writes, accepted, texts_in, targets, place_of, path_of, EndsAmongAll, IsLinkEnd, HaveEntries, IsEntryEnd, IsReportText, IsClashEnd, instrumenting, running, cover_work}
+use Rattle.jc_cover_work.proofs.CoverRunLaws.{last_part, report_part, entry_part, look_part}
 use Rattle.jc_cover_work.proofs.OriginalLaws.{all_short, class_at}
 use Rattle.jc_cover_work.proofs.PartLaws.{instrumenting_over}
 
@@ -254,7 +254,7 @@ module _ (laws : PlansAreOne) (landed : Landed) (c : Cover) where
   has_link plan looked written files short =
       has_then landed (deciding (IsRunProgram written) (IsLinkEnd looked written)) _ (λ w told. one_deciding landed w _ _ (links looked written short)) (λ program. has_entry plan looked program files)
 
-  has_run : (plan : RunPlan) (looked : List LookedFile) → AllByRecursion IsFile (texts_in (accepted looked)) → HasOne landed (run_part c plan looked)
+  has_run : (plan : RunPlan) (looked : List LookedFile) → AllByRecursion IsFile (texts_in (accepted looked)) → HasOne landed (running c plan looked)
   has_run plan looked files =
       has_then_if landed (reading_all (targets c.dest looked)) (λ written. deciding (IsRunProgram written) (IsLinkEnd looked written) >>= (λ program. entry_part c plan looked program))
       (has_reading_all landed (targets c.dest looked))
@@ -265,15 +265,15 @@ module _ (laws : PlansAreOne) (landed : Landed) (c : Cover) where
       has_then landed (making (AreLooked paths read)) _ (λ w told. one_deciding landed w (AreLooked paths read) never (looks paths read are))
       (λ looked. has_then landed (writing_all (all_file_writes c.dest looked)) _ (has_writing_all landed (all_file_writes c.dest looked)) (λ _ w told. one_giving landed w looked))
 
-  has_looked : (paths : List Word) (read : List (List ℕ)) (plan : RunPlan) → AreTexts paths read → HasOne landed (instrumenting c.dest paths read >>= (λ looked. run_part c plan looked))
+  has_looked : (paths : List Word) (read : List (List ℕ)) (plan : RunPlan) → AreTexts paths read → HasOne landed (instrumenting c.dest paths read >>= (λ looked. running c plan looked))
   has_looked paths read plan are =
-      has_then_if landed (instrumenting c.dest paths read) (λ looked. run_part c plan looked) (has_instrumenting paths read are)
+      has_then_if landed (instrumenting c.dest paths read) (λ looked. running c plan looked) (has_instrumenting paths read are)
       (λ w steps looked over fits.
       has_run plan looked (file_texts (texts_in (accepted looked)) (all_short paths read looked (instrumenting_over landed w c.dest paths read looked steps over fits).0 (short_texts read (all_files paths read are)))))
 
   has_look : (text : List ℕ) (paths : List Word) (read : List (List ℕ)) → AreTexts paths read → HasOne landed (look_part c text paths read)
   has_look text paths read are =
-      has_then landed (deciding (IsPlanText text) (IsPlanEnd c.plan text)) (λ plan. instrumenting c.dest paths read >>= (λ looked. run_part c plan looked))
+      has_then landed (deciding (IsPlanText text) (IsPlanEnd c.plan text)) (λ plan. instrumenting c.dest paths read >>= (λ looked. running c plan looked))
       (λ w told. one_deciding landed w _ _ (plans laws c.plan text)) (λ plan. has_looked paths read plan are)
 
   has_read : (text : List ℕ) (paths : List Word) → HasOne landed (reading_all paths >>= (λ read. look_part c text paths read))

@@ -1,5 +1,5 @@
 -- The ends to which `cover` comes by itself: it is done, an input is refused, or a file can't be read.
-use Rattle.std.proofs.Common.{◌≡◌, ℕ, Bool, true, false, List, [], ◌∷◌, ◌++◌, inl, sym, subst}
+use Rattle.std.proofs.Common.{◌≡◌, ℕ, List, [], ◌∷◌, ◌++◌, inl, sym, subst}
 use Rattle.jc_programs.specs.declared.program.Program.{Program}
 use Rattle.jc_programs.specs.declared.run_plan.RunPlan.{RunPlan}
 use Rattle.jc_exec.specs.Writing.{exec_text}
@@ -11,14 +11,15 @@ use Rattle.jc_work.specs.declared.status.Fault.{Fault}
 use Rattle.jc_work.specs.Step.{Word, Write, to_file, to_out, to_list, has_read, has_no, has_listed, has_written}
 use Rattle.jc_work.specs.Part.{End, done, refused, stops, Part, giving, deciding, making, never}
 use Rattle.jc_work.specs.Part.{reading, listing, writing, reading_all, writing_all}
-use Rattle.jc_work.specs.Folders.{all_paths, paths_of, files_of, once, is_folder}
+use Rattle.jc_paths.specs.Paths.{FileText, plain, folder}
+use Rattle.jc_work.specs.Folders.{all_paths, paths_of, files_of, once}
 use Rattle.jc_work.specs.Causes.{IsOwnEnd, EndsIn, HasOwnEnds}
 use Rattle.jc_work.proofs.CauseLaws.{ends_then, ends_deciding, ends_ending, ends_reading_all, ends_writing_all}
 use Rattle.jc_work.proofs.OneWork.{gives_or_stops, not_over}
 use Rattle.jc_run_work.specs.RunAnswers.{IsPlanEnd, IsRunProgram}
 use Rattle.jc_run_work.specs.RunStore.{run_store}
-use Rattle.jc_cover_work.specs.CoverWork.{Cover, LookedFile, AreLooked, all_file_writes, accepted_texts, targets, EndsAmongAll, IsLinkEnd, HaveEntries, IsEntryEnd, IsReportText, IsClashEnd, instrumenting, cover_work}
-use Rattle.jc_cover_work.proofs.CoverRunLaws.{last_part, report_part, entry_part, run_part, look_part}
+use Rattle.jc_cover_work.specs.CoverWork.{Cover, LookedFile, AreLooked, all_file_writes, accepted_texts, targets, EndsAmongAll, IsLinkEnd, HaveEntries, IsEntryEnd, IsReportText, IsClashEnd, instrumenting, running, cover_work}
+use Rattle.jc_cover_work.proofs.CoverRunLaws.{last_part, report_part, entry_part, look_part}
 
 abbrev Own : {X : Type 0} → Part X → Type 0
 Own part = EndsIn IsOwnEnd part
@@ -47,26 +48,25 @@ own_reading path steps end is = own_reading_all (path ∷ []) steps end (inl is)
 own_writing : (write : Write) → Own (writing write)
 own_writing write steps end is = ends_writing_all IsOwnEnd (write ∷ []) steps end (inl is)
 
-own_listing : (folder : Word) → Own (listing folder)
-own_listing folder [] end is = absurd (not_over (stops end) (to_list folder) tt is)
-own_listing folder (has_listed f ps ∷ []) end is = absurd (gives_or_stops ps end (sym is.1))
-own_listing folder (has_listed f ps ∷ s ∷ ss) end is = absurd is
-own_listing folder (has_read p b ∷ ss) end is = absurd is
-own_listing folder (has_no p ∷ ss) end is = absurd is
-own_listing folder (has_written v ∷ ss) end is = absurd is
+own_listing : (path : Word) → Own (listing path)
+own_listing path [] end is = absurd (not_over (stops end) (to_list path) tt is)
+own_listing path (has_listed f ps ∷ []) end is = absurd (gives_or_stops ps end (sym is.1))
+own_listing path (has_listed f ps ∷ s ∷ ss) end is = absurd is
+own_listing path (has_read p b ∷ ss) end is = absurd is
+own_listing path (has_no p ∷ ss) end is = absurd is
+own_listing path (has_written v ∷ ss) end is = absurd is
 
-own_paths : (b : Bool) (word : Word) → Own (paths_of b word)
-own_paths true word = own_listing _
-own_paths false word = own_giving _
+own_paths : (file : FileText) → Own (paths_of file)
+own_paths (plain path) = own_giving _
+own_paths (folder path) = own_listing _
 
-own_all_paths : (words : List Word) → Own (all_paths words)
+own_all_paths : (files : List FileText) → Own (all_paths files)
 own_all_paths [] = own_giving []
-own_all_paths (w ∷ ws) =
-    ends_then IsOwnEnd (paths_of (is_folder w) w) _ (own_paths (is_folder w) w)
-    (λ ps. ends_then IsOwnEnd (all_paths ws) _ (own_all_paths ws) (λ more. own_giving (ps ++ more)))
+own_all_paths (f ∷ fs) =
+    ends_then IsOwnEnd (paths_of f) _ (own_paths f) (λ ps. ends_then IsOwnEnd (all_paths fs) _ (own_all_paths fs) (λ more. own_giving (ps ++ more)))
 
-own_files : (words : List Word) → Own (files_of words)
-own_files words = ends_then IsOwnEnd (all_paths words) _ (own_all_paths words) (λ ps. own_giving (once [] ps))
+own_files : (files : List FileText) → Own (files_of files)
+own_files files = ends_then IsOwnEnd (all_paths files) _ (own_all_paths files) (λ ps. own_giving (once [] ps))
 
 own_instrumenting : (dest : Word) (paths : List Word) (read : List (List ℕ)) → Own (instrumenting dest paths read)
 own_instrumenting dest paths read =
@@ -91,7 +91,7 @@ module _ (c : Cover) where
       ends_then IsOwnEnd (deciding (HaveEntries program plan) (IsEntryEnd c.plan program plan)) _ (ends_deciding IsOwnEnd _ _ (λ end is. own_refused _ _ end is.2))
       (λ _. own_report plan looked program)
 
-  own_run : (plan : RunPlan) (looked : List LookedFile) → Own (run_part c plan looked)
+  own_run : (plan : RunPlan) (looked : List LookedFile) → Own (running c plan looked)
   own_run plan looked =
       ends_then IsOwnEnd (reading_all (targets c.dest looked)) _ (own_reading_all (targets c.dest looked))
       (λ written. ends_then IsOwnEnd (deciding (IsRunProgram written) (IsLinkEnd looked written)) _

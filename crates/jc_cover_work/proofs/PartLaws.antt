@@ -1,8 +1,9 @@
 -- What a part of `cover` did that is over, and parts that don't end a command as done.
-use Rattle.std.proofs.Common.{◌≡◌, ℕ, List, [], ◌∷◌, ◌++◌, Bool, true, false, inl, inr, refl, sym, ◌∙◌, ap, subst}
+use Rattle.std.proofs.Common.{◌≡◌, ℕ, List, [], ◌∷◌, ◌++◌, inl, inr, refl, sym, ◌∙◌, ap, subst}
 use Rattle.jc_work.specs.Step.{Word, World, Landed, Write, to_read, to_list, to_write, Step, has_read, has_no, has_listed, has_written, Fit, after, after_write, IsRead}
 use Rattle.jc_work.specs.Part.{End, done, refused, misused, unread, unwritten, unprinted, Outcome, wants, gives, stops, Part, giving, deciding, making, never, reading, listing, writing, reading_all, writing_all, Hands, ◌>>=◌}
-use Rattle.jc_work.specs.Folders.{all_paths, paths_of, files_of, once, is_folder}
+use Rattle.jc_paths.specs.Paths.{FileText, plain, folder}
+use Rattle.jc_work.specs.Folders.{all_paths, paths_of, files_of, once}
 use Rattle.jc_work.specs.Prefix.{after_writes}
 use Rattle.jc_work.proofs.Behind.{after-append, fit_front, fit_behind}
 use Rattle.jc_work.proofs.OneWork.{same_value, not_gives}
@@ -44,13 +45,13 @@ quiet_reading path (has_no p ∷ s ∷ ss) is = is
 quiet_reading path (has_listed f ps ∷ ss) is = is
 quiet_reading path (has_written v ∷ ss) is = is
 
-quiet_listing : (folder : Word) → Quiet (listing folder)
-quiet_listing folder [] is = not_done (wants (to_list folder)) is (λ e. e)
-quiet_listing folder (has_listed f ps ∷ []) is = not_done (gives ps) is.1 (λ e. e)
-quiet_listing folder (has_listed f ps ∷ s ∷ ss) is = is
-quiet_listing folder (has_read p b ∷ ss) is = is
-quiet_listing folder (has_no p ∷ ss) is = is
-quiet_listing folder (has_written v ∷ ss) is = is
+quiet_listing : (path : Word) → Quiet (listing path)
+quiet_listing path [] is = not_done (wants (to_list path)) is (λ e. e)
+quiet_listing path (has_listed f ps ∷ []) is = not_done (gives ps) is.1 (λ e. e)
+quiet_listing path (has_listed f ps ∷ s ∷ ss) is = is
+quiet_listing path (has_read p b ∷ ss) is = is
+quiet_listing path (has_no p ∷ ss) is = is
+quiet_listing path (has_written v ∷ ss) is = is
 
 pub quiet_writing : (write : Write) → Quiet (writing write)
 quiet_writing write [] is = not_done (wants (to_write write)) is (λ e. e)
@@ -76,16 +77,16 @@ pub quiet_writing_all : (writes : List Write) → Quiet (writing_all writes)
 quiet_writing_all [] = quiet_giving tt
 quiet_writing_all (w ∷ ws) = quiet_then (writing w) _ (quiet_writing w) (λ u. quiet_writing_all ws)
 
-quiet_paths : (b : Bool) (word : Word) → Quiet (paths_of b word)
-quiet_paths true word = quiet_listing _
-quiet_paths false word = quiet_giving _
+quiet_paths : (file : FileText) → Quiet (paths_of file)
+quiet_paths (plain path) = quiet_giving _
+quiet_paths (folder path) = quiet_listing _
 
-quiet_all_paths : (words : List Word) → Quiet (all_paths words)
+quiet_all_paths : (files : List FileText) → Quiet (all_paths files)
 quiet_all_paths [] = quiet_giving []
-quiet_all_paths (w ∷ ws) = quiet_then (paths_of (is_folder w) w) _ (quiet_paths (is_folder w) w) (λ ps. quiet_then (all_paths ws) _ (quiet_all_paths ws) (λ more. quiet_giving (ps ++ more)))
+quiet_all_paths (f ∷ fs) = quiet_then (paths_of f) _ (quiet_paths f) (λ ps. quiet_then (all_paths fs) _ (quiet_all_paths fs) (λ more. quiet_giving (ps ++ more)))
 
-pub quiet_files : (words : List Word) → Quiet (files_of words)
-quiet_files words = quiet_then (all_paths words) _ (quiet_all_paths words) (λ ps. quiet_giving (once [] ps))
+pub quiet_files : (files : List FileText) → Quiet (files_of files)
+quiet_files files = quiet_then (all_paths files) _ (quiet_all_paths files) (λ ps. quiet_giving (once [] ps))
 
 pub quiet_instrumenting : (dest : Word) (paths : List Word) (read : List (List ℕ)) → Quiet (instrumenting dest paths read)
 quiet_instrumenting dest paths read =
@@ -116,13 +117,13 @@ module _ (landed : Landed) (w : World) where
   reading_over path text (has_listed p b ∷ ss) is fits = absurd is
   reading_over path text (has_written v ∷ ss) is fits = absurd is
 
-  listing_over : (folder : Word) (ps : List Word) (steps : List Step) → listing folder steps (gives ps) → Left steps
-  listing_over folder ps [] is = absurd (not_gives ps (wants (to_list folder)) is tt)
-  listing_over folder ps (has_listed f qs ∷ []) is = refl
-  listing_over folder ps (has_listed f qs ∷ s ∷ ss) is = absurd is
-  listing_over folder ps (has_read p b ∷ ss) is = absurd is
-  listing_over folder ps (has_no p ∷ ss) is = absurd is
-  listing_over folder ps (has_written v ∷ ss) is = absurd is
+  listing_over : (path : Word) (ps : List Word) (steps : List Step) → listing path steps (gives ps) → Left steps
+  listing_over path ps [] is = absurd (not_gives ps (wants (to_list path)) is tt)
+  listing_over path ps (has_listed f qs ∷ []) is = refl
+  listing_over path ps (has_listed f qs ∷ s ∷ ss) is = absurd is
+  listing_over path ps (has_read p b ∷ ss) is = absurd is
+  listing_over path ps (has_no p ∷ ss) is = absurd is
+  listing_over path ps (has_written v ∷ ss) is = absurd is
 
   pub writing_over : (write : Write) (u : Unit {0}) (steps : List Step) → writing write steps (gives u) → after landed w steps ≡ after_write landed w write
   writing_over write u [] is = absurd (not_gives u (wants (to_write write)) is tt)
@@ -132,9 +133,9 @@ module _ (landed : Landed) (w : World) where
   writing_over write u (has_no p ∷ ss) is = absurd is
   writing_over write u (has_listed f ps ∷ ss) is = absurd is
 
-  paths_over : (b : Bool) (word : Word) (ps : List Word) (steps : List Step) → paths_of b word steps (gives ps) → Left steps
-  paths_over true word ps steps is = listing_over _ ps steps is
-  paths_over false word ps steps is = (giving_over _ ps steps is).1
+  paths_over : (file : FileText) (ps : List Word) (steps : List Step) → paths_of file steps (gives ps) → Left steps
+  paths_over (plain path) ps steps is = (giving_over _ ps steps is).1
+  paths_over (folder path) ps steps is = listing_over _ ps steps is
 
 -- a part behind another: where the second begins, and what each did
 pub record Both {X Y : Type 0} (landed : Landed) (p : Part X) (q : X → Part Y) (w : World) (steps : List Step) (o : Outcome Y) : Type 0 where
@@ -189,21 +190,21 @@ module _ (landed : Landed) where
       let rest = writing_all_over (after_write landed w v) vs u a.behind a.next (subst (λ (x : World). Fit landed x a.behind) made a.fits') in
       a.stands ∙ ap (λ (x : World). after landed x a.behind) made ∙ rest
 
-  all_paths_over : (w : World) (words ps : List Word) (steps : List Step) → all_paths words steps (gives ps) → Fit landed w steps → after landed w steps ≡ w
+  all_paths_over : (w : World) (files : List FileText) (ps : List Word) (steps : List Step) → all_paths files steps (gives ps) → Fit landed w steps → after landed w steps ≡ w
   all_paths_over w [] ps steps is fits = (giving_over landed w [] ps steps is).1
-  all_paths_over w (word ∷ words) ps steps is fits =
-      let a = both landed (paths_of (is_folder word) word) _ w steps (gives ps) (handed (paths_of (is_folder word) word) _ steps ps is) fits in
-      let left = paths_over landed w (is_folder word) word a.value a.front a.first in
+  all_paths_over w (file ∷ files) ps steps is fits =
+      let a = both landed (paths_of file) _ w steps (gives ps) (handed (paths_of file) _ steps ps is) fits in
+      let left = paths_over landed w file a.value a.front a.first in
       let fits' = subst (λ (v : World). Fit landed v a.behind) left a.fits' in
-      let b = both landed (all_paths words) _ w a.behind (gives ps) (handed (all_paths words) _ a.behind ps a.next) fits' in
-      let left' = all_paths_over w words b.value b.front b.first b.fits in
+      let b = both landed (all_paths files) _ w a.behind (gives ps) (handed (all_paths files) _ a.behind ps a.next) fits' in
+      let left' = all_paths_over w files b.value b.front b.first b.fits in
       let left'' = (giving_over landed (after landed w b.front) (a.value ++ b.value) ps b.behind b.next).1 in
       a.stands ∙ ap (λ (v : World). after landed v a.behind) left ∙ b.stands ∙ left'' ∙ left'
 
-  pub files_over : (w : World) (words ps : List Word) (steps : List Step) → files_of words steps (gives ps) → Fit landed w steps → AreDistinct ps × (after landed w steps ≡ w)
-  files_over w words ps steps is fits =
-      let a = both landed (all_paths words) _ w steps (gives ps) (handed (all_paths words) _ steps ps is) fits in
-      let left = all_paths_over w words a.value a.front a.first a.fits in
+  pub files_over : (w : World) (files : List FileText) (ps : List Word) (steps : List Step) → files_of files steps (gives ps) → Fit landed w steps → AreDistinct ps × (after landed w steps ≡ w)
+  files_over w files ps steps is fits =
+      let a = both landed (all_paths files) _ w steps (gives ps) (handed (all_paths files) _ steps ps is) fits in
+      let left = all_paths_over w files a.value a.front a.first a.fits in
       let (same, left') = giving_over landed (after landed w a.front) (once [] a.value) ps a.behind a.next in
       (subst AreDistinct (sym same) (distinct_once [] a.value), a.stands ∙ left' ∙ left)
 

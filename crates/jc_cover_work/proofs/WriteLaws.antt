@@ -7,10 +7,11 @@ use Rattle.std.proofs.lemmas.Cmp.{nat_list_cmp_total}
 use Rattle.std.specs.Str.{bytes_eq}
 use Rattle.std.specs.FinMap.{get, insert, get-insert}
 use Rattle.jc_outside.specs.Outside.{FileMap}
+use Rattle.jc_paths.specs.Paths.{in_folder}
 use Rattle.jc_work.specs.Step.{Word, World, Landed, Write, to_file, to_out, to_err, after_write, grown}
 use Rattle.jc_work.specs.Prefix.{after_writes}
 use Rattle.jc_class_commands.specs.Instrument.{Decision, refused_file, accepted_file, file_writes}
-use Rattle.jc_cover_work.specs.CoverWork.{LookedFile, in_folder, all_file_writes, accepted, kept_if, paths_in, targets}
+use Rattle.jc_cover_work.specs.CoverWork.{LookedFile, all_file_writes, accepted, kept_if, paths_in, targets}
 use Rattle.jc_cover_work.specs.CoverRun.{AreRead, IsNone, AreDistinct}
 use Rattle.jc_cover_work.specs.Headline.{as_written, written_bytes, all_written, out_text, err_text}
 

@@ -1,5 +1,6 @@
 -- What the command `cover` does: it instruments class files, runs the instrumented ones, and reports on the original ones.
-use Rattle.std.specs.Prelude.{◌≡◌, ℕ, ◌+◌, List, [], ◌∷◌, ◌++◌, codes, map, Some, None, slice_index_or, if◌then◌else◌}
+use Rattle.std.specs.Prelude.{◌≡◌, ℕ, ◌+◌, List, [], ◌∷◌, ◌++◌, map, Some, None, slice_index_or}
+use Rattle.jc_paths.specs.Paths.{FileText, in_folder}
 use Rattle.jc_programs.specs.declared.program.Program.{Program}
 use Rattle.jc_programs.specs.declared.run_plan.RunPlan.{RunPlan}
 use Rattle.jc_programs.specs.declared.run_plan.ThreadLine.{ThreadLine}
@@ -17,7 +18,7 @@ use Rattle.jc_work.specs.Step.{Word, Write, to_file, to_out}
 use Rattle.jc_work.specs.Part.{End, done, refused, Part, Command, giving, ending, deciding, making, ◌>>=◌, ◌>>◌}
 use Rattle.jc_work.specs.Part.{reading, writing, reading_all, writing_all}
 use Rattle.jc_work.specs.Answered.{refusal_of}
-use Rattle.jc_work.specs.Folders.{is_folder, files_of}
+use Rattle.jc_work.specs.Folders.{files_of}
 use Rattle.jc_class_commands.specs.Instrument.{Decision, refused_file, accepted_file, IsDecision, file_writes}
 use Rattle.jc_class_commands.specs.Report.{ReportedFile, AreItems, first_clash, AreCountedItems, report_text}
 use Rattle.jc_class_commands.specs.ReportSteps.{FrontClashes}
@@ -36,12 +37,8 @@ pub record Cover : Type 0 where
   -- where the report goes, and its name
   pub csv : Word
   pub name : Word
-  -- files, and folders of class files
-  pub files : List Word
-
--- the path of a file in a folder: a `/` stands between the two, unless the folder's path ends with one
-abbrev pub in_folder : (folder path : Word) → Word
-in_folder folder path = if is_folder folder then folder ++ path else folder ++ (codes "/" ++ path)
+  -- class files, and folders of class files
+  pub files : List FileText
 
 -- ---- class files that were looked at
 
@@ -156,13 +153,9 @@ instrumenting dest paths read = do
   writing_all (all_file_writes dest looked)
   giving looked
 
-abbrev pub cover_work : Cover → Command
-cover_work c = do
-  plan_text ← reading c.plan
-  paths ← files_of c.files
-  read ← reading_all paths
-  plan ← deciding (IsPlanText plan_text) (IsPlanEnd c.plan plan_text)
-  looked ← instrumenting c.dest paths read
+-- the last part, of files that were looked at and written: runs the accepted ones, and reports
+abbrev pub running : Cover → RunPlan → (looked : List LookedFile) → Command
+running c plan looked = do
   -- what runs is what is read back
   written ← reading_all (targets c.dest looked)
   program ← deciding (IsRunProgram written) (IsLinkEnd looked written)
@@ -173,3 +166,18 @@ cover_work c = do
   writing (to_file c.csv csv)
   writing (to_out (case_texts program 1 plan.cases))
   ending done
+
+-- the part behind the text of the plan and the paths of the files: reads and instruments the files, and then runs them
+abbrev pub covering : Cover → (plan_text : List ℕ) → (paths : List Word) → Command
+covering c plan_text paths = do
+  read ← reading_all paths
+  plan ← deciding (IsPlanText plan_text) (IsPlanEnd c.plan plan_text)
+  looked ← instrumenting c.dest paths read
+  running c plan looked
+
+-- The whole: it reads the plan and lists the files before it goes on to them.
+abbrev pub cover_work : Cover → Command
+cover_work c = do
+  plan_text ← reading c.plan
+  paths ← files_of c.files
+  covering c plan_text paths

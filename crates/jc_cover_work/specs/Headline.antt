@@ -19,6 +19,7 @@ use Rattle.std.specs.Prelude.{◌≡◌, ◌≢◌, ◌↔◌, ⊤, ℕ, ◌+◌
 use Rattle.std.specs.Prelude.{Option, Some, None, Contains, IsTrue, slice_get, slice_index_or}
 use Rattle.std.specs.FinMap.{get}
 use Rattle.std.specs.List.{AllByRecursion}
+use Rattle.jc_paths.specs.Paths.{in_folder}
 use Rattle.jc_programs.specs.declared.program.Program.{Program}
 use Rattle.jc_programs.specs.declared.program.Linked.{Linked}
 use Rattle.jc_programs.specs.declared.program.ProbeInit.{ProbeInit}
@@ -51,7 +52,7 @@ use Rattle.jc_work.specs.Step.{Word, World, Counts, Landed, Write, to_file, to_o
 use Rattle.jc_class_commands.specs.Instrument.{Decision, refused_file, accepted_file}
 use Rattle.jc_class_commands.specs.Report.{report_text}
 use Rattle.jc_run_work.specs.RunStore.{hit_record, run_store}
-use Rattle.jc_cover_work.specs.CoverWork.{Cover, LookedFile, in_folder, all_file_writes, accepted_texts, cover_work}
+use Rattle.jc_cover_work.specs.CoverWork.{Cover, LookedFile, all_file_writes, accepted_texts, cover_work}
 use Rattle.jc_cover_work.specs.CoverRun.{CoverRun}
 
 -- ---- premises
