@@ -1,0 +1,4 @@
+pub mod AppendLaws
+pub mod AcceptedLaws
+pub mod FileLaws
+pub mod LookedLaws

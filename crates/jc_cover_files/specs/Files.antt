@@ -1,0 +1,47 @@
+-- What functions did that look at class files and write what comes of them.
+use Rattle.std.specs.Prelude.{◌≡◌, ℕ, List, map, Result, Ok, Err, Vec}
+use Rattle.std.specs.declared.alloc.Global.{Global}
+use Rattle.jc_work.specs.declared.stop.Stop.{Stop}
+use Rattle.jc_paths.specs.Paths.{in_folder}
+use Rattle.jc_work.specs.Step.{Word, World, Counts, Landed}
+use Rattle.jc_work.specs.Part.{gives, writing_all}
+use Rattle.jc_work.specs.Ending.{CameTo, Stops}
+use Rattle.jc_work.specs.Seen.{stop_seen}
+use Rattle.jc_class_commands.specs.Instrument.{Decision}
+use Rattle.jc_cover_work.specs.CoverWork.{LookedFile, AreLooked, all_file_writes, paths_in, texts_in, places_from, instrumenting}
+
+-- ---- the part `instrumenting`
+
+-- It is over, and handed on these files: these are the places of the accepted ones.
+pub record Instrumented (landed : Landed) (dest : Word) (paths : List Word) (read : List (List ℕ)) (old new : World) (f f' : Counts) (places : List ℕ) : Type 0 where
+  pub looked : List LookedFile
+  pub looked_at : AreLooked paths read looked
+  pub same : f' ≡ f
+  pub came : CameTo landed (instrumenting dest paths read) old new (gives looked)
+  pub accepted : places ≡ places_from 0 looked
+
+-- what a function did that does the part, and answers with the places of the accepted files
+abbrev pub Instruments : Landed → (dest : Word) → (paths : List Word) → (read : List (List ℕ)) → (old new : World) → (f f' : Counts)
+    → Result (Vec ℕ Global) Stop → Type 0
+Instruments landed dest paths read old new f f' (Ok places) = Instrumented landed dest paths read old new f f' places.items
+Instruments landed dest paths read old new f f' (Err stop) = Stops landed (instrumenting dest paths read) old new f f' (stop_seen stop)
+
+-- ---- the writes of files that were looked at
+
+-- the lists have of each file, in order, the path to which it is written, its own path, its bytes, and what comes of it
+pub record AreOf (dest : Word) (looked : List LookedFile) (written_to paths : List Word) (texts : List (List ℕ)) (decisions : List Decision) : Type 0 where
+  pub targets_are : written_to ≡ map (λ l. in_folder dest l.file) looked
+  pub paths_are : paths ≡ paths_in looked
+  pub texts_are : texts ≡ texts_in looked
+  pub decisions_are : decisions ≡ map (λ l. l.decision) looked
+
+-- all were made, and these are the places of the accepted files
+pub record Written (landed : Landed) (dest : Word) (looked : List LookedFile) (old new : World) (f f' : Counts) (places : List ℕ) : Type 0 where
+  pub same : f' ≡ f
+  pub came : CameTo landed (writing_all (all_file_writes dest looked)) old new (gives tt)
+  pub accepted : places ≡ places_from 0 looked
+
+-- what a function did that makes them, and answers with the places of the accepted files
+abbrev pub WritesFiles : Landed → (dest : Word) → List LookedFile → (old new : World) → (f f' : Counts) → Result (Vec ℕ Global) Stop → Type 0
+WritesFiles landed dest looked old new f f' (Ok places) = Written landed dest looked old new f f' places.items
+WritesFiles landed dest looked old new f f' (Err stop) = Stops landed (writing_all (all_file_writes dest looked)) old new f f' (stop_seen stop)
