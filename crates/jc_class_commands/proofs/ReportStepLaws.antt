@@ -1,5 +1,5 @@
 -- The class files of a report are looked at one after the other.
-use Rattle.std.proofs.Common.{◌≡◌, ◌≢◌, ℕ, zero, suc, ◌+◌, ◌<◌, ◌≤◌, Bool, true, false, not, cond, ◌||◌, List, [], ◌∷◌, ◌++◌, length, take, get_or, map, filter, Option, None, Some, Result, Ok, Err, IfOk, IfErr, Bor, Contains, nat_eq, option_map, String, string_bytes, refl, sym, ◌∙◌, ap, subst, arith}
+use Rattle.std.proofs.Common.{◌≡◌, ◌≢◌, ℕ, zero, suc, ◌+◌, ◌<◌, ◌≤◌, Bool, true, false, not, cond, ◌||◌, List, [], ◌∷◌, ◌++◌, length, take, get_or, map, filter, Option, None, Some, Result, Ok, Err, IfOk, IfErr, Bor, Contains, nat_eq, option_map, refl, sym, ◌∙◌, ap, subst, arith}
 use Rattle.std.specs.List.{AllZip, find, list_any}
 use Rattle.std.specs.Option.{option_or, IfSome, IsSomeAnd}
 use Rattle.std.specs.Cmp.{nat_eq_equiv}
@@ -8,7 +8,6 @@ use Rattle.std.specs.Str.{bytes_eq}
 use Rattle.std.proofs.lemmas.List.{append-nil, map-append, take_more, take_all, length-map, length-take}
 use Rattle.std.proofs.lemmas.List.Elements.{filter-append}
 use Rattle.std.proofs.lemmas.Slice.Zip.{AllZip-long}
-use Rattle.std.specs.declared.alloc.Global.{Global}
 use Rattle.jc_base.specs.FirstSeen.{first_seen, seen_behind}
 use Rattle.jc_base.specs.declared.Analysed.{Analysed}
 use Rattle.jc_base.specs.declared.Body.{Body}
@@ -37,7 +36,7 @@ use Rattle.jc_class_commands.specs.ReportSteps.{counted_by, counted_classes, Sto
 use Rattle.jc_class_commands.specs.ReportSteps.{IsReportOf, LooksOn, LooksAtAll, FrontClashes}
 use Rattle.jc_class_commands.specs.Lines.{refused_line}
 use Rattle.jc_work.specs.Step.{Word}
-use Rattle.jc_work.specs.Seen.{words_of}
+use Rattle.jc_work.specs.Seen.{texts_of}
 use Rattle.jc_work.specs.Step.{Write, to_err}
 use Rattle.jc_class_commands.proofs.EachLaws.{zipped_at, AtPlace}
 use Rattle.jc_class_commands.proofs.FramelessLaws.{same_counted}
@@ -345,32 +344,38 @@ looked_refused records bytes why reason = record { item = refused_class why; is 
 -- ---- all class files
 
 -- those so far were looked at, and none clashes
+-- what is read of a list at an index is there
+pub read_at : {X : Type 0} (xs : List X) (i : ℕ) (d : X) → get_or xs i d ≡ get_or xs i (get_or xs i d)
+read_at [] i d = refl
+read_at (x ∷ xs) zero d = refl
+read_at (x ∷ xs) (suc i) d = read_at xs i d
+
 pub record Looking (records : List ClassHits) (paths : List Word) (texts : List (List ℕ)) (looked : Looked) : Type 0 where
   pub items : List ReportedFile
   pub are : AreItems texts items
   pub none : first_clash records items ≡ None
   pub report : IsReportOf records paths items looked
 
-pub looking_none : (records : List ClassHits) (paths : List (String Global)) (texts : List (List ℕ)) (looked : Looked) → looked.lines.items ≡ [] → looked.classes.items ≡ []
-    → looked.ids.keys ≡ [] → Looking records (words_of (take 0 paths)) (take 0 texts) looked
+pub looking_none : (records : List ClassHits) (paths : List (Bor Word)) (texts : List (List ℕ)) (looked : Looked) → looked.lines.items ≡ [] → looked.classes.items ≡ []
+    → looked.ids.keys ≡ [] → Looking records (texts_of (take 0 paths)) (take 0 texts) looked
 looking_none records paths texts looked lines classes keys =
     record { items = []; are = tt; none = refl; report = record { lines = ap (map write_seen) lines; classes = classes; ids = keys } }
 
-module _ (records : List ClassHits) (words : List (String Global)) (texts : List (List ℕ)) (i : ℕ) (t : List ℕ) (old : Looked)
+module _ (records : List ClassHits) (words : List (Bor Word)) (texts : List (List ℕ)) (i : ℕ) (t : List ℕ) (old : Looked)
     (same : length texts ≡ length words) (within : i < length texts) (text : t ≡ get_or texts i t)
-    (so_far : Looking records (words_of (take i words)) (take i texts) old) where
+    (so_far : Looking records (texts_of (take i words)) (take i texts) old) where
   longer : take (i + 1) texts ≡ take i texts ++ t ∷ []
   longer = take_more texts i t within ∙ ap (λ (u : List ℕ). take i texts ++ u ∷ []) (sym text)
 
-  looking_on : (w : String Global) (path : Word) (new : Looked) → w ≡ get_or words i w → path ≡ string_bytes w
-      → LooksOn records path t old new → Looking records (words_of (take (i + 1) words)) (take (i + 1) texts) new
+  looking_on : (w : Bor Word) (path : Word) (new : Looked) → w ≡ get_or words i w → path ≡ w.now
+      → LooksOn records path t old new → Looking records (texts_of (take (i + 1) words)) (take (i + 1) texts) new
   looking_on w path new word path_is looks =
       let many = as_many_items (take i texts) so_far.items so_far.are in
-      let short : length (words_of (take i words)) ≡ length so_far.items =
-      omega (arith, length-map (take i words) string_bytes, length-take i words, length-take i texts, many, same) in
-      let step = looks (words_of (take i words)) so_far.items short so_far.report in
-      let more : words_of (take (i + 1) words) ≡ words_of (take i words) ++ path ∷ [] =
-      map_take_more string_bytes words i w (omega (arith, same, within)) word ∙ ap (λ (p : Word). words_of (take i words) ++ p ∷ []) (sym path_is) in
+      let short : length (texts_of (take i words)) ≡ length so_far.items =
+      omega (arith, length-map (take i words) (λ (b : Bor Word). b.now), length-take i words, length-take i texts, many, same) in
+      let step = looks (texts_of (take i words)) so_far.items short so_far.report in
+      let more : texts_of (take (i + 1) words) ≡ texts_of (take i words) ++ path ∷ [] =
+      map_take_more (λ (b : Bor Word). b.now) words i w (omega (arith, same, within)) word ∙ ap (λ (p : Word). texts_of (take i words) ++ p ∷ []) (sym path_is) in
       record {
         items = so_far.items ++ step.0 ∷ [];
         are =
@@ -389,19 +394,19 @@ module _ (records : List ClassHits) (words : List (String Global)) (texts : List
     clash_behind records so_far.items clash.0 (Some refusal) so_far.none clash.2,
   )
 
-module _ (records : List ClassHits) (data_path : Option Word) (words : List (String Global)) (texts : List (List ℕ))
+module _ (records : List ClassHits) (data_path : Option Word) (words : List (Bor Word)) (texts : List (List ℕ))
     (answers : List (Result Seen Stop)) (are : AllZip (IsLooked records data_path) texts answers) (n index : ℕ) (answer : Result Seen Stop)
     (old : Looked) (same : length texts ≡ length words) (place : AtPlace answers n index answer)
-    (so_far : Looking records (words_of (take n words)) (take n texts) old) where
+    (so_far : Looking records (texts_of (take n words)) (take n texts) old) where
   own : (t : List ℕ) × (t ≡ get_or texts n t) × IsLooked records data_path t answer
   own = zipped_at (IsLooked records data_path) texts answers n answer are place.within place.at
 
   within : n < length texts
   within = let long = AllZip-long (IsLooked records data_path) texts answers are in omega (arith, place.within, long)
 
-  pub looked_on : (seen : Seen) (w : String Global) (path : Word) (new : Looked) → answer ≡ Ok seen → w ≡ get_or words index w
-      → path ≡ string_bytes w → ((bytes : Word) → IsSeen records bytes seen → LooksOn records path bytes old new)
-      → Looking records (words_of (take (n + 1) words)) (take (n + 1) texts) new
+  pub looked_on : (seen : Seen) (w : Bor Word) (path : Word) (new : Looked) → answer ≡ Ok seen → w ≡ get_or words index w
+      → path ≡ w.now → ((bytes : Word) → IsSeen records bytes seen → LooksOn records path bytes old new)
+      → Looking records (texts_of (take (n + 1) words)) (take (n + 1) texts) new
   looked_on seen w path new is word path_is looks =
       let at : w ≡ get_or words n w = word ∙ ap (λ (k : ℕ). get_or words k w) place.index_is in
       let seen_is = subst (IsLooked records data_path own.0) is own.2 in
@@ -412,11 +417,11 @@ module _ (records : List ClassHits) (data_path : Option Word) (words : List (Str
       stops_for data_path (FileClashes records own.0) (FrontClashes records texts)
       (front_clashes records words texts n own.0 old same within own.1 so_far) stop (subst (IsLooked records data_path own.0) is own.2)
 
-pub looked_at_all : (records : List ClassHits) (words : List (String Global)) (texts : List (List ℕ)) (i : ℕ) (looked : Looked) → length texts ≡ length words
-    → length texts ≤ i → Looking records (words_of (take i words)) (take i texts) looked → LooksAtAll records (words_of words) texts looked
+pub looked_at_all : (records : List ClassHits) (words : List (Bor Word)) (texts : List (List ℕ)) (i : ℕ) (looked : Looked) → length texts ≡ length words
+    → length texts ≤ i → Looking records (texts_of (take i words)) (take i texts) looked → LooksAtAll records (texts_of words) texts looked
 looked_at_all records words texts i looked same all so_far = (
   so_far.items,
   subst (λ (ts : List (List ℕ)). AreItems ts so_far.items) (take_all i texts all) so_far.are,
   so_far.none,
-  subst (λ (ws : List (String Global)). IsReportOf records (words_of ws) so_far.items looked) (take_all i words (omega (arith, all, same))) so_far.report,
+  subst (λ (ws : List (Bor Word)). IsReportOf records (texts_of ws) so_far.items looked) (take_all i words (omega (arith, all, same))) so_far.report,
 )

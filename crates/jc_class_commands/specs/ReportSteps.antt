@@ -154,3 +154,9 @@ ReportsWith out name records path paths texts (Ok writes) =
     (items : List ReportedFile) × AreItems texts items × (first_clash records items ≡ None)
     × (map write_seen writes.items ≡ map to_err (lines_of paths items) ++ to_file out (report_text name (counted_classes records items)) ∷ [])
 ReportsWith out name records path paths texts (Err stop) = StopsAtClash path (FrontClashes records texts) stop
+
+-- the CSV text of class files in the report of this name, or the clash that stops it
+abbrev pub CountsFiles : (name : Word) → List ClassHits → Option Word → List (List ℕ) → Result (Vec ℕ Global) Stop → Type 0
+CountsFiles name records path texts (Ok csv) =
+    (items : List ReportedFile) × AreItems texts items × (first_clash records items ≡ None) × (csv.items ≡ report_text name (counted_classes records items))
+CountsFiles name records path texts (Err stop) = StopsAtClash path (FrontClashes records texts) stop

@@ -9,7 +9,7 @@ ghost use Rattle.jc_class_commands.specs.Report.{record_of, clash_with};
 ghost use Rattle.jc_class_commands.specs.ReportSteps.{counted_of, counted_by, data_records, data_path, StopsAtClash, ClassClashes, IsLooked, IsSeen, SeesClass};
 ghost use Rattle.jc_class_commands.specs.ReportSteps.{KeepsRefused, Keeps, LooksOn, LooksAtAll, FrontClashes};
 ghost use Rattle.jc_work.specs.Step.{Word};
-ghost use Rattle.jc_work.specs.Seen.{words_of};
+ghost use Rattle.jc_work.specs.Seen.{texts_of};
 
 use crate::each::each_answer;
 use crate::lines::refused_line;
@@ -239,12 +239,12 @@ pub fn look_at_all<'a, R: Threads + Sync>(
     rt: &R,
     alloc: Global,
     exec_data: Option<&Data<'a>>,
-    paths: &[String],
+    paths: &[&str],
     texts: Vec<Bytes>,
 ) -> Result<Looked<'a>, Stop<'a>>
     requires each { length texts.items ≡ length paths.now }
     requires short { All (λ t. length t ≤ most_read) texts.items }
-    ensures all { IfOk result (LooksAtAll (data_records exec_data.entry) (words_of paths.now) texts.items) }
+    ensures all { IfOk result (LooksAtAll (data_records exec_data.entry) (texts_of paths.now) texts.items) }
     ensures clash { IfErr result (StopsAtClash (data_path exec_data.entry) (FrontClashes (data_records exec_data.entry) texts.items)) }
 {
     let answers = look_at_each(rt, alloc, exec_data, texts)?;
@@ -254,7 +254,7 @@ pub fn look_at_all<'a, R: Threads + Sync>(
         ids: IndexSet::new(alloc),
     };
     'looking: for (index, answer) in answers.into_iter().enumerate() {
-        keep_seen(alloc, &mut looked, paths[index].as_str(), answer?)?;
+        keep_seen(alloc, &mut looked, paths[index], answer?)?;
     }
     Ok(looked)
 }

@@ -10,5 +10,6 @@ mod lines;
 mod report;
 
 pub use class_info::prepare_class_info;
+pub use class_report::Data;
 pub use instrument::{Decided, decide_all, decided_line, prepare_instrument};
-pub use report::{ExecInput, prepare_report};
+pub use report::{ExecInput, csv_of_files, prepare_report};

@@ -2,7 +2,7 @@
 ghost use Rattle.std.specs.Prelude.{◌≡◌, ◌≤◌, ◌<◌, ◌^◌, ◌∷◌, ◌++◌, [], All, Some, None, length, map, IfOk, IfSome};
 ghost use Rattle.jc_base.specs.Reader.{most_read};
 ghost use Rattle.jc_class_commands.specs.Report.{report_text, ReportAnswers};
-ghost use Rattle.jc_class_commands.specs.ReportSteps.{data_records, data_path, exec_path, exec_texts, ReportsWith};
+ghost use Rattle.jc_class_commands.specs.ReportSteps.{data_records, data_path, exec_path, exec_texts, CountsFiles, ReportsWith};
 ghost use Rattle.jc_work.specs.Seen.{words_of};
 ghost use Rattle.jc_work.specs.Answered.{AnswersWith, Prepares};
 
@@ -11,7 +11,7 @@ use crate::inputs::read_files;
 use jc_base::{Bytes, Files, Memory};
 use jc_exec_commands::data_of;
 use jc_report::{Counted, csv_text, rows};
-use jc_work::{Stop, Write, exec_stop};
+use jc_work::{Stop, Write, as_texts, exec_stop};
 use std::alloc::Global;
 use std::marker::Sync;
 use std::thread::Threads;
@@ -59,9 +59,31 @@ fn reported<'a, R: Threads + Sync>(
     ensures { ReportsWith out.entry.now name.now (data_records exec_data.entry) (data_path exec_data.entry)
         (words_of paths.now) texts.items result }
 {
-    let looked = look_at_all(rt, alloc, exec_data, paths, texts)?;
+    let names = as_texts(alloc, paths)?;
+    let looked = look_at_all(rt, alloc, exec_data, &names, texts)?;
     let bytes = csv_of(alloc, name, &looked.classes)?;
     Ok(with_file(looked.lines, out, bytes)?)
+}
+
+/// The CSV text of class files, given by their paths and their bytes, by execution data. A class file that is refused has no
+/// row, and no line is made of it.
+///
+/// It stops where memory is refused, and where a record of the execution data clashes with a class: the stop then names the
+/// file of the execution data, as the first input.
+pub fn csv_of_files<'a, R: Threads + Sync>(
+    rt: &R,
+    alloc: Global,
+    name: &str,
+    exec_data: &Data<'a>,
+    paths: &[&str],
+    texts: Vec<Bytes>,
+) -> Result<Vec<u8>, Stop<'a>>
+    requires each { length texts.items ≡ length paths.now }
+    requires short { All (λ t. length t ≤ most_read) texts.items }
+    ensures { CountsFiles name.now exec_data.entry.now.store.classes (Some exec_data.entry.now.path.now) texts.items result }
+{
+    let looked = look_at_all(rt, alloc, Some(exec_data), paths, texts)?;
+    Ok(csv_of(alloc, name, &looked.classes)?)
 }
 
 /// The writes of a report without execution data.

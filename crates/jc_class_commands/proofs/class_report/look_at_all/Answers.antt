@@ -1,4 +1,4 @@
-use Rattle.std.proofs.Common.{rules, ℕ, Result, length}
+use Rattle.std.proofs.Common.{rules, refl, ℕ, Result, length}
 use Rattle.std.proofs.lemmas.Iterator.Adapters.{YieldsList-from_vec}
 use Rattle.std.proofs.lemmas.Iterator.Consumers.{YieldsList-from_enumerate, YieldsList-turn}
 use Rattle.std.proofs.lemmas.List.{length_push}
@@ -7,7 +7,7 @@ use Rattle.jc_class_commands.specs.declared.class_report.Seen.{Seen}
 use Rattle.jc_work.specs.declared.stop.Stop.{Stop}
 use Rattle.jc_class_commands.specs.ReportSteps.{data_records, data_path}
 use Rattle.jc_class_commands.proofs.EachLaws.{at_place}
-use Rattle.jc_class_commands.proofs.ReportStepLaws.{looked_on, looked_stops}
+use Rattle.jc_class_commands.proofs.ReportStepLaws.{looked_on, looked_stops, read_at}
 use Rattle.jc_class_commands.proofs.class_report.look_at_all.Goals as goal
 
 pub returns-in_err-answer-clause-clash : goal.returns-in_err-answer-clause-clash
@@ -33,5 +33,5 @@ looking-preserved g c =
     rw (length_push c.looking.yielded item)
     (looked_on (data_records c.args.exec_data) (data_path c.args.exec_data) c.args.paths.now c.args.texts.items answers c.in_ok-answers.ensures.each n
     c.in-Some.index c.in-Some.answer c.looking.looked c.requires.each (at_place answers n c.in-Some.index c.in-Some.answer turn.0 turn.1) c.looking.invariant
-    c.in_ok-answer.field-0 c.index-paths-index.result c.as_str.result.now c.keep_seen.new.looked c.in_ok-answer.was c.index-paths-index.is c.as_str.ensures.value
+    c.in_ok-answer.field-0 _ _ c.keep_seen.new.looked c.in_ok-answer.was (read_at c.args.paths.now c.in-Some.index _) refl
     (λ bytes is. c.in_ok-keep_seen.ensures (data_records c.args.exec_data) bytes is))
