@@ -8,6 +8,8 @@ docs/check.py          prints each name that isn't there, by page and line
 - Each other name in backquotes stands somewhere in the repository; each name of a crate is that of one; each path is there.
 - README.md: the calls and clauses of the promises. ARCHITECTURE.md: their files too; the crates, what each stands on and the longest
   chain, by crates.txt.
+- docs/callers: the code behind the words `From FILE:`, FILE in backquotes, stands in that file word for word, and all Rust code
+  of these pages is so.
 - The text that a must-fail edit changes stands once in its file.
 """
 import glob
@@ -17,7 +19,7 @@ import sys
 from functools import cache
 
 TOP = os.path.dirname(os.path.dirname(os.path.abspath(__file__)))
-PAGES = ["README.md"] + sorted(os.path.relpath(page, TOP) for page in glob.glob(os.path.join(TOP, "docs", "*.md")))
+PAGES = ["README.md"] + sorted(os.path.relpath(page, TOP) for page in glob.glob(os.path.join(TOP, "docs", "**", "*.md"), recursive=True))
 # Where a name may stand.
 CODE = ("crates/*/src/**/*.rt", "crates/*/specs/**/*.antt", "crates/*/proofs/**/*.antt")
 SOURCES = CODE + ("crates/*/std*", "bench/*", "examples/**/*", "docs/*.py", "crates.txt")
@@ -162,6 +164,18 @@ def check_crates(page):
         wrong.append(f"{page}: a longest chain is {', '.join(max((chain(name) for name in stands), key=len))}")
 
 
+def check_code(page):
+    """Each piece of code of a page for callers is from a file, and stands in it."""
+    text = read(page)
+    for found in re.finditer(r"^```rust\n(.*?)^```$", text, re.M | re.S):
+        where = f"{page}:{text.count(chr(10), 0, found.start()) + 1}"
+        source = re.search(r"^From `([^`\n]+)`:\n\n\Z", text[:found.start()], re.M)
+        if not source:
+            wrong.append(f"{where}: no file is named for this code")
+        elif not is_there(source.group(1)) or found.group(1) not in read(source.group(1)):
+            wrong.append(f"{where}: this code doesn't stand in {source.group(1)}")
+
+
 def check_edits():
     """The text that each must-fail edit changes is there, once."""
     for path in files("crates/*/must-fail/*.edit", "bench/must-fail/*/*.edit"):
@@ -180,6 +194,9 @@ def main():
             check_links(page, where, line)
             check_names(where, line, words, crates)
             check_paths(where, line)
+    for page in PAGES:
+        if page.startswith("docs/callers/"):
+            check_code(page)
     page = "docs/ARCHITECTURE.md"
     check_promises(page)
     check_readme()
