@@ -4,8 +4,8 @@
 # programs, the execution data probe by probe and the rows of the reports are compared. JaCoCo's filters are off but for the
 # synthetic one, which jcov has too.
 # usage: bench/cover.sh [JCOV]      JCOV: the built program; else the one of crates/jcov/out
-# SEEDS names the seeds, else 1 to 3. COUNT says how many programs each makes (100). With SLOW=1 the programs are instrumented and
-# reported by jcov and run by bench/slow_machine.py, in place of `jcov cover`.
+# SEEDS names the seeds, else 1 to 3. COUNT says how many programs each makes (100), and WORKERS how many workers run them (1). With
+# SLOW=1 the programs are instrumented and reported by jcov and run by bench/slow_machine.py, in place of `jcov cover`.
 set -e
 here=$(cd "$(dirname "$0")" && pwd)
 . "$here/jcov-path.sh"
@@ -23,9 +23,9 @@ by_jcov() {
     while read -r name files; do
         echo "program $name"
         (cd made && "$jcov" cover --dest ../out --plan "$name.plan" --destfile "../out/$name.exec" --csv "../out/$name.csv" --name R \
-            $files 2>> ../refusals) > printed
+            ${WORKERS:+--workers "$WORKERS"} $files 2>> ../refusals) > printed || echo "cover of $name: status $?" >&2
         grep -E '^(instrumented|unchanged) ' printed >> lines || true
-        grep -vE '^(instrumented|unchanged) ' printed
+        grep -vE '^(instrumented|unchanged) ' printed || true
     done < made/list > texts
     "$jcov" merge --destfile ours.exec out/*.exec
     cat out/*.csv | grep -v '^GROUP,' | sort > ours.csv

@@ -13,6 +13,7 @@ here=$(cd "$(dirname "$0")" && pwd)
 folder=$(mktemp -d)
 trap 'rm -rf "$folder"' EXIT
 cd "$folder"
+failed=0
 javac -encoding UTF-8 -d harness "$here/Machine.java"
 for seed in ${SEEDS:-1 2 3 4}; do
     rm -rf made
@@ -24,9 +25,10 @@ for seed in ${SEEDS:-1 2 3 4}; do
     else
         (cd made && while read -r name files; do
             echo "program $name"
-            "$jcov" run --plan "$name.plan" --destfile hits $files
+            "$jcov" run --plan "$name.plan" --destfile hits $files || echo "run of $name: status $?" >&2
         done < list) > ours
     fi
     echo "seed $seed"
-    python3 "$here/compare_texts.py" theirs ours
+    python3 "$here/compare_texts.py" theirs ours || failed=1
 done
+exit "$failed"

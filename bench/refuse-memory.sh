@@ -4,7 +4,8 @@
 #
 # A library loaded in front of the C library's `malloc` and `realloc` refuses the Nth call, for
 # N from 1 on, until a run has fewer than N calls. Each run has to end with status 5, nothing on
-# `out` and `err` and all files as before, or as the run does in which nothing is refused.
+# `out` and `err` and all files as before, or as the run does in which nothing is refused. `cover`
+# writes on its way: with status 5 it may leave first ones of its writes.
 set -e
 . "$(dirname "$0")/jcov-path.sh"
 folder=$(mktemp -d)
@@ -63,22 +64,34 @@ cc -O2 -shared -fPIC -o refuse.so refuse.c -ldl
 # A run in the folder `run`, which has the inputs: its status, both texts, and all files afterwards.
 mkdir run
 run() {
-    rm -rf run/o run/d reached
+    rm -rf run/o run/d run/r reached
     status=0
     (cd run && REFUSED_CALL=$1 REFUSED_MARK=$folder/reached LD_PRELOAD=$folder/refuse.so exec "$jcov" $words >../out 2>../err) || status=$?
     files=$(cd run && find . -type f | sort | xargs cksum)
     shown="status $status, out $(cksum < out), err $(cksum < err), files $files"
 }
 
+# Whether a run left first ones of the writes of the usual run.
+is_front() {
+    cmp -s -n "$(wc -c < out)" out usual-out && cmp -s -n "$(wc -c < err)" err usual-err || return 1
+    for file in $(cd run && find o d r -type f 2> /dev/null); do
+        [ "$(cksum < "run/$file")" = "$(cksum < "usual/$file")" ] || return 1
+    done
+}
+
 # One list of words: each allocation refused in turn.
 try_words() {
     words=$1
-    rm -rf run/o run/d
+    rm -rf run/o run/d run/r
     before=$(cd run && find . -type f | sort | xargs cksum)
     run 0
     usual=$shown
     usual_status=$status
-    memory=0 same=0 other=0
+    rm -rf usual
+    cp -R run usual
+    cp out usual-out
+    cp err usual-err
+    memory=0 front=0 same=0 other=0
     number=1
     while :; do
         run "$number"
@@ -87,13 +100,15 @@ try_words() {
             same=$((same + 1))
         elif [ "$status" -eq 5 ] && [ ! -s out ] && [ ! -s err ] && [ "$files" = "$before" ]; then
             memory=$((memory + 1))
+        elif [ "$status" -eq 5 ] && [ "${words#cover}" != "$words" ] && is_front; then
+            front=$((front + 1))
         else
             other=$((other + 1))
             echo "  allocation $number: $shown"
         fi
         number=$((number + 1))
     done
-    echo "jcov $words: usual status $usual_status; $((number - 1)) allocations; status 5 and nothing written $memory times, as usual $same times, anything else $other times"
+    echo "jcov $words: usual status $usual_status; $((number - 1)) allocations; status 5 and nothing written $memory times, status 5 behind first writes $front times, as usual $same times, anything else $other times"
     [ "$other" -eq 0 ] || failed=1
 }
 
@@ -126,6 +141,8 @@ pool = utf8(b"D") + bytes.fromhex("070001") + utf8(b"java/lang/Object") + bytes.
 code = bytes.fromhex("00070000000d0000000000000001b100000000")
 method = bytes.fromhex("0009000500060001") + code
 open("D.class", "wb").write(bytes.fromhex("cafebabe000000340008") + pool + bytes.fromhex("00210002000400000000" + "0001") + method + bytes.fromhex("0000"))
+open("p.txt", "w").write("case\nthread D.f\nthread D.f\nschedule robin 40\n" * 3)
+open("none.txt", "w").write("case\nthread D.none\nschedule robin 40\n")
 PY
 )
 
@@ -147,4 +164,12 @@ try_words "report --csv o --exec a.exec D.class"
 try_words "report --csv o D.class a.exec"
 try_words "instrument --dest d D.class A.class"
 try_words "instrument --dest d a.exec D.class"
+try_words "run --plan p.txt --destfile o D.class"
+try_words "run --plan p.txt --destfile o --workers 2 D.class"
+try_words "run --plan a.exec --destfile o D.class"
+try_words "run --plan none.txt --destfile o A.class D.class"
+try_words "cover --dest d --plan p.txt --destfile o --csv r D.class A.class a.exec"
+try_words "cover --dest d --plan p.txt --destfile o --csv r --workers 2 D.class"
+try_words "cover --dest d --plan none.txt --destfile o --csv r D.class"
+try_words "cover --sample 2"
 exit "$failed"

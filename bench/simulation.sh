@@ -3,7 +3,8 @@
 # schedules of up to eight threads. bench/slow_twin.py works out the kept turns, the worlds of both and the edges taken, and says
 # what it compares. `jcov report` over its hits has to give its rows, and `jcov run` its texts and its hits.
 # usage: bench/simulation.sh [JCOV]      JCOV: the built program; else the one of crates/jcov/out
-# SEEDS names the seeds, else 1 and 2. COUNT says how many programs each makes (100). WITHOUT_RUN=1 leaves `jcov run` out.
+# SEEDS names the seeds, else 1 and 2. COUNT says how many programs each makes (100), and WORKERS how many workers run them (1).
+# WITHOUT_RUN=1 leaves `jcov run` out.
 set -e
 here=$(cd "$(dirname "$0")" && pwd)
 . "$here/jcov-path.sh"
@@ -24,7 +25,8 @@ for seed in ${SEEDS:-1 2}; do
     [ -z "$WITHOUT_RUN" ] || continue
     while read -r name files; do
         echo "program $name"
-        (cd out && "$jcov" run --plan "../made/$name.plan" --destfile "$name.exec" $files)
+        (cd out && "$jcov" run --plan "../made/$name.plan" --destfile "$name.exec" ${WORKERS:+--workers "$WORKERS"} $files) ||
+            echo "run of $name: status $?" >&2
     done < made/list > texts
     python3 "$here/compare_texts.py" made/texts texts || failed=1
     # Records without a hit aren't written, so the union of the runs' data is the file of hits.
