@@ -5,3 +5,4 @@ pub mod FitReportLaws
 pub mod FitCoverLaws
 pub mod NeedLaws
 pub mod DoneCoverLaws
+pub mod FewSlotsLaws

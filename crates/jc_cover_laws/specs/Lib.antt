@@ -1,1 +1,2 @@
 pub mod FitCover
+pub mod FewSlots
