@@ -1,19 +1,20 @@
 -- Parts that come to what they can, by their steps.
-use Rattle.std.proofs.Common.{◌≡◌, ℕ, Bool, true, false, List, [], ◌∷◌, ◌++◌, Some, inl, inr, refl, sym, subst}
+use Rattle.std.proofs.Common.{◌≡◌, ℕ, List, [], ◌∷◌, ◌++◌, Some, inl, inr, refl, sym, subst}
 use Rattle.std.specs.List.{flat_map}
 use Rattle.std.proofs.lemmas.List.Concat.{flat_map-cons}
 use Rattle.jc_outside.specs.Outside.{FileMap, IsListing}
+use Rattle.jc_paths.specs.Paths.{FileText, plain, folder}
 use Rattle.jc_work.specs.Step.{Word, World, Landed, Write, has_read, has_listed, has_written, after_write, IsRead}
 use Rattle.jc_work.specs.Part.{done, gives, stops, giving, ending, making, never, reading, listing, writing, reading_all, writing_all}
 use Rattle.jc_work.specs.Ending.{CameTo}
-use Rattle.jc_work.specs.Folders.{is_folder, unslashed, once, paths_of, all_paths, files_of}
+use Rattle.jc_work.specs.Folders.{once, paths_of, all_paths, files_of}
 use Rattle.jc_work.specs.Prefix.{after_writes}
 use Rattle.jc_work.proofs.Behind.{came_then}
 use Rattle.jc_work.proofs.ListedLaws.{listed, is_listing}
 use Rattle.jc_work.proofs.Reaching.{was_decided}
 use Rattle.jc_cover_work.specs.CoverWork.{LookedFile, AreLooked, all_file_writes, instrumenting}
 use Rattle.jc_cover_work.specs.CoverRun.{AreRead}
-use Rattle.jc_cover_laws.specs.FitCover.{paths_by, named_paths}
+use Rattle.jc_cover_laws.specs.FitCover.{named_by, named_paths}
 
 module _ (landed : Landed) where
   pub was_given : {X : Type 0} (w : World) (x : X) → CameTo landed (giving x) w w (gives x)
@@ -61,29 +62,29 @@ module _ (landed : Landed) where
   -- ---- folders
 
   module _ (w : World) (m : FileMap) (told : w.contents ≡ Some m) where
-    was_listed : (folder : Word) → CameTo landed (listing folder) w w (gives (listed m folder))
-    was_listed folder = record {
-      steps = has_listed folder (listed m folder) ∷ [];
+    was_listed : (path : Word) → CameTo landed (listing path) w w (gives (listed m path))
+    was_listed path = record {
+      steps = has_listed path (listed m path) ∷ [];
       comes = (refl, refl);
-      begun = inr ([], has_listed folder (listed m folder), refl, refl);
-      fit = (subst (λ c. IsListing c folder (listed m folder)) (sym told) (is_listing m folder), tt);
+      begun = inr ([], has_listed path (listed m path), refl, refl);
+      fit = (subst (λ c. IsListing c path (listed m path)) (sym told) (is_listing m path), tt);
       stand = refl;
     }
 
-    were_paths : (b : Bool) (word : Word) → CameTo landed (paths_of b word) w w (gives (paths_by m b word))
-    were_paths true word = was_listed (unslashed word)
-    were_paths false word = was_given w (word ∷ [])
+    were_paths : (file : FileText) → CameTo landed (paths_of file) w w (gives (named_by m file))
+    were_paths (plain path) = was_given w (path ∷ [])
+    were_paths (folder path) = was_listed path
 
-    were_named : (words : List Word) → CameTo landed (all_paths words) w w (gives (flat_map (λ (word : Word). paths_by m (is_folder word) word) words))
+    were_named : (files : List FileText) → CameTo landed (all_paths files) w w (gives (flat_map (named_by m) files))
     were_named [] = was_given w []
-    were_named (word ∷ words) =
-        let here = paths_by m (is_folder word) word in
-        let more = flat_map (λ (word : Word). paths_by m (is_folder word) word) words in
-        subst (λ (l : List Word). CameTo landed (all_paths (word ∷ words)) w w (gives l)) (sym (flat_map-cons (λ (word : Word). paths_by m (is_folder word) word) word words))
-        (came_then landed (paths_of (is_folder word) word) _ w here w w (gives (here ++ more)) (were_paths (is_folder word) word)
-        (came_then landed (all_paths words) _ w more w w (gives (here ++ more)) (were_named words) (was_given w (here ++ more))))
+    were_named (file ∷ files) =
+        let here = named_by m file in
+        let more = flat_map (named_by m) files in
+        subst (λ (l : List Word). CameTo landed (all_paths (file ∷ files)) w w (gives l)) (sym (flat_map-cons (named_by m) file files))
+        (came_then landed (paths_of file) _ w here w w (gives (here ++ more)) (were_paths file)
+        (came_then landed (all_paths files) _ w more w w (gives (here ++ more)) (were_named files) (was_given w (here ++ more))))
 
-    pub were_files : (words : List Word) → CameTo landed (files_of words) w w (gives (named_paths m words))
-    were_files words =
-        let all = flat_map (λ (word : Word). paths_by m (is_folder word) word) words in
-        came_then landed (all_paths words) _ w all w w (gives (once [] all)) (were_named words) (was_given w (once [] all))
+    pub were_files : (files : List FileText) → CameTo landed (files_of files) w w (gives (named_paths m files))
+    were_files files =
+        let all = flat_map (named_by m) files in
+        came_then landed (all_paths files) _ w all w w (gives (once [] all)) (were_named files) (was_given w (once [] all))

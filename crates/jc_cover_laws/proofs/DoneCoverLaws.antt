@@ -3,6 +3,7 @@ use Rattle.std.proofs.Common.{◌≡◌, ℕ, List, [], ◌∷◌, map, Option, 
 use Rattle.std.specs.List.{AllByRecursion}
 use Rattle.jc_bytes.specs.ByteLists.{AreBytes}
 use Rattle.jc_outside.specs.Outside.{FileMap}
+use Rattle.jc_paths.specs.Paths.{in_folder}
 use Rattle.jc_programs.specs.declared.program.Program.{Program}
 use Rattle.jc_programs.specs.declared.run_plan.RunPlan.{RunPlan}
 use Rattle.jc_emit.specs.TwinProgram.{TwinProgram}
@@ -24,10 +25,10 @@ use Rattle.jc_work.proofs.Prefix.{done_means}
 use Rattle.jc_run_work.specs.RunAnswers.{IsPlanEnd, IsRunProgram}
 use Rattle.jc_run_work.specs.RunStore.{threads_of, first_without}
 use Rattle.jc_run_work.proofs.StoreLaws.{same_without}
-use Rattle.jc_cover_work.specs.CoverWork.{Cover, LookedFile, AreLooked, in_folder, all_file_writes, accepted_texts, targets, EndsAmongAll, IsLinkEnd, HaveEntries, IsEntryEnd, instrumenting, cover_work}
+use Rattle.jc_cover_work.specs.CoverWork.{Cover, LookedFile, AreLooked, all_file_writes, accepted_texts, targets, EndsAmongAll, IsLinkEnd, HaveEntries, IsEntryEnd, instrumenting, running, cover_work}
 use Rattle.jc_cover_work.specs.CoverRun.{AreRead, AreDistinct}
 use Rattle.jc_cover_work.specs.Headline.{as_written, NamesConstants, all_written}
-use Rattle.jc_cover_work.proofs.CoverRunLaws.{report_part, entry_part, run_part, look_part}
+use Rattle.jc_cover_work.proofs.CoverRunLaws.{report_part, entry_part, look_part}
 use Rattle.jc_cover_work.proofs.DistinctLaws.{distinct_targets, looked_files}
 use Rattle.jc_cover_work.proofs.OriginalLaws.{all_written_of, all_short, original_program}
 use Rattle.jc_cover_work.proofs.PartLaws.{IsDone, quiet_reading, quiet_deciding, quiet_reading_all, quiet_files, quiet_instrumenting, both, through, deciding_over, reading_over, reading_all_over, files_over, instrumenting_over}
@@ -164,7 +165,7 @@ module _ (c : Cover) (old : World) (m : FileMap) (told : old.contents ≡ Some m
           let (links, left) = deciding_over as_written filled (IsRunProgram read_back) (IsLinkEnd looked read_back) b.value b.front b.first in
           entry_fits read_back back b.value links b.behind b.next (subst (λ (v : World). Fit as_written v b.behind) left b.fits')
 
-      run_fits : (steps : List Step) → run_part c plan looked steps (stops done) → Fit as_written filled steps → IsFitCover c old
+      run_fits : (steps : List Step) → running c plan looked steps (stops done) → Fit as_written filled steps → IsFitCover c old
       run_fits steps is fits =
           let all = reading_all (targets c.dest looked) in
           let rest = λ (written : List (List ℕ)). deciding (IsRunProgram written) (IsLinkEnd looked written) >>= (λ program. entry_part c plan looked program) in
@@ -172,11 +173,11 @@ module _ (c : Cover) (old : World) (m : FileMap) (told : old.contents ≡ Some m
           let (back, left) = reading_all_over as_written filled (targets c.dest looked) a.value a.front a.first a.fits in
           link_fits a.value back a.behind a.next (subst (λ (v : World). Fit as_written v a.behind) left a.fits')
 
-    instrument_fits : (steps : List Step) → (instrumenting c.dest paths read >>= (λ looked. run_part c plan looked)) steps (stops done) → Fit as_written old steps → IsFitCover c old
+    instrument_fits : (steps : List Step) → (instrumenting c.dest paths read >>= (λ looked. running c plan looked)) steps (stops done) → Fit as_written old steps → IsFitCover c old
     instrument_fits steps is fits =
         let part = instrumenting c.dest paths read in
-        let h = both as_written part (λ looked. run_part c plan looked) old steps (stops done)
-        (through part (λ looked. run_part c plan looked) steps (quiet_instrumenting c.dest paths read) is) fits in
+        let h = both as_written part (λ looked. running c plan looked) old steps (stops done)
+        (through part (λ looked. running c plan looked) steps (quiet_instrumenting c.dest paths read) is) fits in
         let (looked_at, made) = instrumenting_over as_written old c.dest paths read h.value h.front h.first h.fits in
         run_fits h.value looked_at h.behind h.next (subst (λ (v : World). Fit as_written v h.behind) made h.fits')
 
@@ -186,7 +187,7 @@ module _ (c : Cover) (old : World) (m : FileMap) (told : old.contents ≡ Some m
     look_fits distinct read files_read steps is fits =
         let Is = IsPlanText plan_text in
         let End = IsPlanEnd c.plan plan_text in
-        let rest = λ (plan : RunPlan). instrumenting c.dest paths read >>= (λ looked. run_part c plan looked) in
+        let rest = λ (plan : RunPlan). instrumenting c.dest paths read >>= (λ looked. running c plan looked) in
         let e = both as_written (deciding Is End) rest old steps (stops done)
         (through (deciding Is End) rest steps (quiet_deciding Is End (λ end. not_refused _ _ end.2)) is) fits in
         let (is_plan, left) = deciding_over as_written old Is End e.value e.front e.first in

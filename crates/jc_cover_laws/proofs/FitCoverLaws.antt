@@ -4,6 +4,7 @@ use Rattle.std.specs.Prelude.{slice_get}
 use Rattle.std.specs.List.{AllByRecursion}
 use Rattle.jc_bytes.specs.ByteLists.{AreBytes}
 use Rattle.jc_outside.specs.Outside.{FileMap}
+use Rattle.jc_paths.specs.Paths.{in_folder}
 use Rattle.jc_programs.specs.declared.program.Program.{Program}
 use Rattle.jc_emit.specs.TwinProgram.{TwinProgram}
 use Rattle.jc_exec.specs.Store.{Store}
@@ -31,10 +32,10 @@ use Rattle.jc_class_commands.proofs.ReportLaws.{some_items}
 use Rattle.jc_run_work.specs.RunAnswers.{IsPlanEnd, IsRunProgram}
 use Rattle.jc_run_work.specs.RunStore.{threads_of, run_store}
 use Rattle.jc_run_work.proofs.StoreLaws.{same_store, same_without}
-use Rattle.jc_cover_work.specs.CoverWork.{Cover, in_folder, all_file_writes, accepted_texts, targets, IsLinkEnd, HaveEntries, IsEntryEnd, IsReportText, IsClashEnd, instrumenting, cover_work}
+use Rattle.jc_cover_work.specs.CoverWork.{Cover, all_file_writes, accepted_texts, targets, IsLinkEnd, HaveEntries, IsEntryEnd, IsReportText, IsClashEnd, instrumenting, running, cover_work}
 use Rattle.jc_cover_work.specs.CoverRun.{AreRead, AreDistinct, CoverRun}
 use Rattle.jc_cover_work.specs.Headline.{as_written, all_written}
-use Rattle.jc_cover_work.proofs.CoverRunLaws.{report_part, run_part, look_part}
+use Rattle.jc_cover_work.proofs.CoverRunLaws.{report_part, look_part}
 use Rattle.jc_cover_work.proofs.DistinctLaws.{distinct_targets, looked_files}
 use Rattle.jc_cover_work.proofs.FactLaws.{facts_of}
 use Rattle.jc_cover_work.proofs.HeadlineLaws.{headline}
@@ -184,7 +185,7 @@ module _ (c : Cover) (old : World) (fit : IsFitCover c old) where
       (came_then as_written (writing (to_file c.csv csv)) _ w tt v last (stops done) (was_written as_written w (to_file c.csv csv))
       (came_then as_written (writing out) _ v tt last last (stops done) (was_written as_written v out) (was_done as_written last))))
 
-  came_run : CameTo as_written (run_part c fit.plan fit.looked) filled last (stops done)
+  came_run : CameTo as_written (running c fit.plan fit.looked) filled last (stops done)
   came_run =
       came_then as_written (reading_all (targets c.dest fit.looked)) _ filled written filled last (stops done) (were_read as_written filled (targets c.dest fit.looked) written back)
       (came_then as_written (deciding (IsRunProgram written) (IsLinkEnd fit.looked written)) _ filled program filled last (stops done)

@@ -8,9 +8,10 @@ use Rattle.jc_instrument.specs.InstrumentedFile.{Becomes, IsInstrumentedFile}
 use Rattle.jc_instrument.specs.LeftAlone.{is_left_alone}
 use Rattle.jc_instrument.specs.declared.whole.Instrumented.{Instrumented}
 use Rattle.jc_link_laws.specs.TwinFiles.{IsShortFile}
+use Rattle.jc_paths.specs.Paths.{in_folder}
 use Rattle.jc_work.specs.Step.{Word}
 use Rattle.jc_class_commands.specs.Instrument.{Decision, refused_file, accepted_file, IsDecision}
-use Rattle.jc_cover_work.specs.CoverWork.{LookedFile, AreLooked, in_folder, accepted, kept_if, paths_in, targets}
+use Rattle.jc_cover_work.specs.CoverWork.{LookedFile, AreLooked, accepted, kept_if, paths_in, targets}
 use Rattle.jc_cover_work.specs.CoverRun.{AreRead}
 use Rattle.jc_cover_work.specs.Headline.{written_bytes, all_written}
 use Rattle.jc_cover_work.proofs.WriteLaws.{Stand, stored}

@@ -1,10 +1,11 @@
 -- What is enough for a run of `cover` to be done.
-use Rattle.std.specs.Prelude.{◌≡◌, ◌≢◌, ◌≤◌, ℕ, Bool, true, false, List, [], ◌∷◌, Some, filter, length}
+use Rattle.std.specs.Prelude.{◌≡◌, ◌≢◌, ◌≤◌, ℕ, List, [], ◌∷◌, Some, filter, length}
 use Rattle.std.specs.FinMap.{keys}
 use Rattle.std.specs.List.{AllByRecursion, flat_map}
 use Rattle.jc_bytes.specs.Reader.{most_read}
 use Rattle.jc_outside.specs.Folder.{front_of, is_class_file}
 use Rattle.jc_outside.specs.Outside.{FileMap}
+use Rattle.jc_paths.specs.Paths.{FileText, plain, folder}
 use Rattle.jc_programs.specs.declared.program.Program.{Program}
 use Rattle.jc_programs.specs.declared.run_plan.RunPlan.{RunPlan}
 use Rattle.jc_link.specs.Plans.{IsPlanText}
@@ -16,7 +17,7 @@ use Rattle.jc_work.specs.declared.status.Status.TheVariants as status
 use Rattle.jc_work.specs.Step.{Word, World, Counts, Landed, IsRead}
 use Rattle.jc_work.specs.Part.{done}
 use Rattle.jc_work.specs.Ending.{Ends, NoneRose}
-use Rattle.jc_work.specs.Folders.{is_folder, unslashed, once}
+use Rattle.jc_work.specs.Folders.{once}
 use Rattle.jc_work.specs.OneWay.{Work, IsWork}
 use Rattle.jc_cover_work.specs.CoverWork.{Cover, LookedFile, AreLooked, accepted_texts, HaveEntries, cover_work}
 use Rattle.jc_cover_work.specs.CoverRun.{AreRead, CoverRun}
@@ -24,14 +25,14 @@ use Rattle.jc_cover_work.specs.Headline.{NamesConstants, all_written, Headline}
 
 -- ---- the files that are named
 
--- the paths of a word: those of a folder's class files, in the order of their bytes, or the word itself
-abbrev pub paths_by : FileMap → Bool → Word → List Word
-paths_by m true word = filter (is_class_file (front_of (unslashed word))) (keys m)
-paths_by m false word = word ∷ []
+-- the path of a file, or those of a folder's class files, in the order of their bytes
+abbrev pub named_by : FileMap → FileText → List Word
+named_by m (plain path) = path ∷ []
+named_by m (folder path) = filter (is_class_file (front_of path)) (keys m)
 
--- the paths that the words name; a path that has come before is dropped
-abbrev pub named_paths : FileMap → List Word → List Word
-named_paths m words = once [] (flat_map (λ (word : Word). paths_by m (is_folder word) word) words)
+-- those of all; a path that has come before is dropped
+abbrev pub named_paths : FileMap → List FileText → List Word
+named_paths m files = once [] (flat_map (named_by m) files)
 
 -- ---- what is enough
 
@@ -83,9 +84,9 @@ abbrev pub FitCoversAreDone : Landed → Type 0
 FitCoversAreDone landed = (c : Cover) (old new : World) (f f' : Counts) (s : Status) (fit : IsFitCover c old) → Ends landed (cover_work c) old new f f' s
     → NoneRose f f' → s ≢ status.Memory → (s ≡ status.Done) × HasHeadline landed c old new fit
 
--- ConstantValue attributes of files that words name, and that aren't refused, name places of their constant pools
-abbrev pub HaveConstants : FileMap → List Word → Type 0
-HaveConstants m words = (read : List (List ℕ)) (looked : List LookedFile) → AreRead (Some m) (named_paths m words) read → AreLooked (named_paths m words) read looked
+-- ConstantValue attributes of those of the files that aren't refused name places of their constant pools
+abbrev pub HaveConstants : FileMap → List FileText → Type 0
+HaveConstants m files = (read : List (List ℕ)) (looked : List LookedFile) → AreRead (Some m) (named_paths m files) read → AreLooked (named_paths m files) read looked
     → AllByRecursion NamesConstants (accepted_texts looked)
 
 -- nothing less is enough: each run that is done is one of a cover that fits, if constants stand where they should
