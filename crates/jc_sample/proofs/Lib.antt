@@ -1,0 +1,12 @@
+pub mod PieceLaws
+pub mod FileLaws
+pub mod PlanLaws
+pub mod BytesLaws
+pub mod OneFileLaws
+pub mod CounterLaws
+pub mod OneSampleLaws
+pub mod OwnEndLaws
+pub mod LineLaws
+pub mod OutLaws
+pub mod LineTextLaws
+pub mod RecordLaws

@@ -1,0 +1,4 @@
+pub mod SampleFile
+pub mod SamplePlan
+pub mod SampleWork
+pub mod Seen
