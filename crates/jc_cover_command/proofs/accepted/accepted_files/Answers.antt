@@ -1,0 +1,19 @@
+use Rattle.std.proofs.Common.{◌≡◌, ◌∙◌, ℕ, List, [], ◌∷◌, map, refl, ap, sym}
+use Rattle.std.specs.Borrow.{Bor}
+use Rattle.std.proofs.lemmas.Simd.{map-map}
+use Rattle.jc_paths.specs.Paths.{in_folder}
+use Rattle.jc_cover_work.specs.CoverWork.{LookedFile}
+use Rattle.jc_cover_command.proofs.AcceptedLaws.{are_accepted}
+use Rattle.jc_cover_command.proofs.accepted.accepted_files.Goals as goal
+
+as_items : (texts : List (List ℕ)) → map (λ (t : List ℕ). t) texts ≡ texts
+as_items [] = refl
+as_items (t ∷ texts) = ap (λ (ts : List (List ℕ)). t ∷ ts) (as_items texts)
+
+pub returns : goal.returns
+returns c dest looked paths targets texts places =
+    let now = λ (t : Bor (List ℕ)). t.now in
+    are_accepted dest looked _ c.args.texts.items c.requires.few c.requires.short texts places
+    (c.in_ok-paths.ensures now (λ l. l.file) looked paths (c.deref.ensures.value ∙ places))
+    (c.in_ok-targets.ensures now (λ l. in_folder dest l.file) looked (targets ∙ map-map (in_folder dest) (λ (l : LookedFile). l.file) looked) (c.deref-2.ensures.value ∙ places))
+    (sym (as_items c.in_ok-texts.texts.items) ∙ c.in_ok-texts.ensures (λ t. t) (λ l. l.bytes) looked (as_items c.args.texts.items ∙ texts) (c.deref-3.ensures.value ∙ places))

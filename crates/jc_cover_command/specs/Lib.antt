@@ -1,0 +1,4 @@
+pub mod Deciding
+pub mod Accepted
+pub mod CoverSeen
+pub mod Placed

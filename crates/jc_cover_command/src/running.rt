@@ -1,0 +1,49 @@
+//! The accepted files as they are read back.
+ghost use Rattle.std.specs.Prelude.{◌≤◌, List};
+ghost use Rattle.jc_paths.specs.Paths.{FileText};
+ghost use Rattle.jc_programs.specs.Turns.{IsRunPlan};
+ghost use Rattle.jc_cover_work.specs.CoverWork.{LookedFile, running};
+ghost use Rattle.jc_cover_command.specs.Accepted.{AreAccepted, AreWhole};
+ghost use Rattle.jc_cover_command.specs.CoverSeen.{cover_seen};
+ghost use Rattle.jc_cover_command.specs.Deciding.{RanAside};
+ghost use Rattle.jc_work.specs.Seen.{stop_seen};
+
+use crate::accepted::Accepted;
+use crate::entries::check_entries;
+use crate::linking::program_of;
+use crate::results::write_results;
+use crate::words::CoverWords;
+use jc_outside::{Files, Sink};
+use jc_programs::RunPlan;
+use jc_run_program::run_program;
+use jc_work::{Stop, read_all};
+use jc_workers::Gate;
+use std::alloc::Global;
+use std::marker::Sync;
+use std::thread::Threads;
+
+/// Reads back the accepted files, runs their program, and writes what comes of it.
+pub fn run_accepted<'a, R: Threads + Sync, F: Files, O: Sink, G: Gate + Sync>(
+    rt: &R,
+    alloc: Global,
+    files: &mut F,
+    out: &mut O,
+    gate: &G,
+    words: &CoverWords<'a>,
+    plan: &RunPlan,
+    accepted: Accepted<'a>,
+) -> Result<(), Stop<'a>>
+    requires workers { (1 ≤ words.now.workers) × (words.now.workers ≤ 16) }
+    requires plan { IsRunPlan plan.now }
+    requires whole { AreWhole accepted }
+    ensures { (named : List FileText) (looked : List LookedFile) → AreAccepted words.entry.now.dest.now looked accepted.entry
+        → RanAside F.landed (running (cover_seen words.entry.now named) plan.now looked) stop_seen (F.contents files.old) (F.contents files.new)
+        (O.told out.old) (O.told out.new) (F.read_faults files.old) (F.read_faults files.new) (F.write_faults files.old) (F.write_faults files.new)
+        (O.faults out.old) (O.faults out.new) result }
+{
+    let written = read_all(alloc, files, &accepted.targets)?;
+    let program = program_of(alloc, &accepted, &written)?;
+    check_entries(words.plan, &program, plan)?;
+    let ran = run_program(rt, alloc, &program, plan, words.workers, gate)?;
+    write_results(rt, alloc, files, out, words, accepted, ran)
+}

@@ -1,0 +1,18 @@
+//! What the words of `cover` say.
+
+/// What the words of `cover` say, but for its files.
+#[derive(Clone, Copy)]
+pub struct CoverWords<'a> {
+    /// The folder to which the class files are written.
+    pub dest: &'a str,
+    /// The file of the run plan.
+    pub plan: &'a str,
+    /// The file to which the execution data goes.
+    pub destfile: &'a str,
+    /// The file to which the report goes.
+    pub csv: &'a str,
+    /// The name of the report.
+    pub name: &'a str,
+    /// How many threads run cases.
+    pub workers: u32,
+}
