@@ -144,7 +144,7 @@ pub record IsReportText (name : Word) (store : Store) (texts : List (List ℕ)) 
 abbrev pub IsClashEnd : (exec : Word) → Store → (texts : List (List ℕ)) → End → Type 0
 IsClashEnd exec store texts end = (refusal : ExecRefusal) × FrontClashes store.classes texts refusal × (end ≡ refusal_of exec (fault.Exec 0 refusal))
 
--- ---- the work
+-- ---- the work: `cover_work`, at the end, is the whole, which goes on as `covering`, and this as `running`
 
 -- looks at the files, and writes each into the folder, with its line
 abbrev pub instrumenting : (dest : Word) → (paths : List Word) → (read : List (List ℕ)) → Part (List LookedFile)
@@ -153,7 +153,7 @@ instrumenting dest paths read = do
   writing_all (all_file_writes dest looked)
   giving looked
 
--- the last part, of files that were looked at and written: runs the accepted ones, and reports
+-- behind the writes of the files: reads back and runs the accepted ones, and reports
 abbrev pub running : Cover → RunPlan → (looked : List LookedFile) → Command
 running c plan looked = do
   -- what runs is what is read back
@@ -167,7 +167,7 @@ running c plan looked = do
   writing (to_out (case_texts program 1 plan.cases))
   ending done
 
--- the part behind the text of the plan and the paths of the files: reads and instruments the files, and then runs them
+-- behind the text of the plan and the paths of the files: reads the files, instruments and writes each, and then runs them
 abbrev pub covering : Cover → (plan_text : List ℕ) → (paths : List Word) → Command
 covering c plan_text paths = do
   read ← reading_all paths
@@ -175,7 +175,7 @@ covering c plan_text paths = do
   looked ← instrumenting c.dest paths read
   running c plan looked
 
--- The whole: it reads the plan and lists the files before it goes on to them.
+-- reads the plan, lists the files, and covers
 abbrev pub cover_work : Cover → Command
 cover_work c = do
   plan_text ← reading c.plan
