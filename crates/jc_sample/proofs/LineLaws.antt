@@ -1,5 +1,5 @@
 -- What the steps of a sample decide, one behind the other.
-use Rattle.std.proofs.Common.{◌≡◌, inl, ℕ, ◌<◌, ◌≤◌, List, [], ◌∷◌, length, Option, None, Some, Result, Ok, Err, option_map, refl, sym, ◌∙◌, ap, subst}
+use Rattle.std.proofs.Common.{◌≡◌, inl, ℕ, ◌≤◌, List, [], ◌∷◌, length, Option, None, Some, Result, Ok, Err, option_map, refl, sym, ◌∙◌, ap, subst}
 use Rattle.jc_bytes.specs.Reader.{most_read}
 use Rattle.jc_bytes.specs.declared.refusal.Refusal.{Refusal}
 use Rattle.jc_programs.specs.declared.program.Program.{Program}
@@ -13,7 +13,7 @@ use Rattle.jc_linking.specs.Linking.{IsProgramOf, LinkReason}
 use Rattle.jc_same_runs.specs.Frameless.{frameless}
 use Rattle.jc_work.specs.declared.status.Fault.TheVariants as fault
 use Rattle.jc_work.specs.declared.stop.Stop.{Stop}
-use Rattle.jc_work.specs.Part.{End, unread, gives, stops, Part, giving, deciding, ◌>>=◌}
+use Rattle.jc_work.specs.Part.{End, gives, stops, Part, giving, deciding, ◌>>=◌}
 use Rattle.jc_work.specs.Answered.{refusal_of}
 use Rattle.jc_work.specs.Seen.{stop_seen}
 use Rattle.jc_work.proofs.Behind.{over_then}
@@ -23,7 +23,7 @@ use Rattle.jc_run_work.specs.RunStore.{threads_of, first_without, run_store}
 use Rattle.jc_run_work.proofs.StoreLaws.{same_store, same_without}
 use Rattle.jc_sample.specs.SampleFile.{sample_file}
 use Rattle.jc_sample.specs.SamplePlan.{sample_plan}
-use Rattle.jc_sample.specs.SampleWork.{sample_path, IsRefusedEnd, IsReadable, IsUnreadEnd, IsUnlinkedEnd, HaveEntries, IsEntryEnd, AreCounters, IsClashEnd, sample_text, linking, counting, running, sample_line}
+use Rattle.jc_sample.specs.SampleWork.{sample_path, IsRefusedEnd, IsReadable, IsLongEnd, IsUnlinkedEnd, HaveEntries, IsEntryEnd, AreCounters, IsClashEnd, sample_text, linking, counting, running, sample_line}
 use Rattle.jc_sample.specs.Seen.{EndsAtOnce, Decides}
 
 -- ---- one part behind the other
@@ -47,17 +47,13 @@ module _ {X Y : Type 0} (p : Part X) (q : X → Part Y) where
 -- ---- linking
 
 module _ (bytes : List ℕ) where
-  -- too many bytes
-  pub too_long : most_read < length bytes → EndsAtOnce (linking bytes) (Some (unread sample_path))
-  too_long more = inl (more, refl)
-
   pub is_linked : length bytes ≤ most_read → (p : Program) → IsProgramOf (bytes ∷ []) p → linking bytes [] (gives (frameless p))
   is_linked short p of =
-      over_then (deciding (IsReadable bytes) (IsUnreadEnd bytes)) (λ _. deciding (IsRunProgram (bytes ∷ [])) (IsUnlinkedEnd bytes)) tt [] [] (gives (frameless p)) short (p, of, refl)
+      over_then (deciding (IsReadable bytes) (IsLongEnd bytes)) (λ _. deciding (IsRunProgram (bytes ∷ [])) (IsUnlinkedEnd bytes)) tt [] [] (gives (frameless p)) short (p, of, refl)
 
   pub isn't_linked : length bytes ≤ most_read → (why : Refusal) → LinkReason bytes (Some why) → EndsAtOnce (linking bytes) (Some (refusal_of sample_path (fault.Class 0 why)))
   isn't_linked short why reason =
-      over_then (deciding (IsReadable bytes) (IsUnreadEnd bytes)) (λ _. deciding (IsRunProgram (bytes ∷ [])) (IsUnlinkedEnd bytes)) tt [] []
+      over_then (deciding (IsReadable bytes) (IsLongEnd bytes)) (λ _. deciding (IsRunProgram (bytes ∷ [])) (IsUnlinkedEnd bytes)) tt [] []
       (stops (refusal_of sample_path (fault.Class 0 why))) short (why, reason, refl)
 
 -- ---- entries

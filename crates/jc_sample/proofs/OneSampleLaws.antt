@@ -9,6 +9,7 @@ use Rattle.jc_programs.specs.declared.program.Program.{Program}
 use Rattle.jc_programs.specs.declared.run_plan.RunPlan.{RunPlan}
 use Rattle.jc_programs.specs.declared.run_plan.ThreadLine.{ThreadLine}
 use Rattle.jc_exec.specs.Store.{Store}
+use Rattle.jc_class.specs.ClassText.{not_a_class}
 use Rattle.jc_instrument.specs.InstrumentedFile.{IsInstrumentedFile, Becomes}
 use Rattle.jc_instrument.specs.LeftAlone.{is_left_alone}
 use Rattle.jc_instrument.specs.Refused.{Reason}
@@ -23,7 +24,7 @@ use Rattle.jc_link_laws.proofs.SomeProgramLaws.{program_or_reason}
 use Rattle.jc_same_runs.specs.Frameless.{frameless}
 use Rattle.jc_work.specs.declared.status.Fault.TheVariants as fault
 use Rattle.jc_work.specs.Step.{Landed, Step, IsFile, Fit, World, to_out}
-use Rattle.jc_work.specs.Part.{End, done, unread, Outcome, wants, gives, stops, ending, deciding, writing, ◌>>=◌}
+use Rattle.jc_work.specs.Part.{End, done, Outcome, wants, gives, stops, ending, deciding, writing, ◌>>=◌}
 use Rattle.jc_work.specs.Answered.{refusal_of}
 use Rattle.jc_work.specs.OneWay.{IsOver, OneDecision, HasOne}
 use Rattle.jc_work.proofs.OneWork.{one_giving, one_ending, one_deciding, one_writing, has_then, has_then_if}
@@ -32,7 +33,7 @@ use Rattle.jc_run_work.specs.RunStore.{threads_of, first_without, run_store}
 use Rattle.jc_run_work.proofs.StoreLaws.{same_frameless}
 use Rattle.jc_sample.specs.SampleFile.{sample_file}
 use Rattle.jc_sample.specs.SamplePlan.{sample_plan}
-use Rattle.jc_sample.specs.SampleWork.{sample_path, IsRefusedEnd, IsReadable, IsUnreadEnd, IsUnlinkedEnd, HaveEntries, IsEntryEnd, AreCounters, IsClashEnd, sample_text, linking, counting, running, sample_line, sample_work}
+use Rattle.jc_sample.specs.SampleWork.{sample_path, IsRefusedEnd, IsReadable, IsLongEnd, IsUnlinkedEnd, HaveEntries, IsEntryEnd, AreCounters, IsClashEnd, sample_text, linking, counting, running, sample_line, sample_work}
 use Rattle.jc_sample.proofs.BytesLaws.{sample_bytes, sample_short}
 use Rattle.jc_sample.proofs.CounterLaws.{one_counters, one_clash, counters_or_clash, some_counters}
 use Rattle.jc_sample.proofs.OneFileLaws.{alone_refused, refuses_alone}
@@ -80,13 +81,13 @@ written_bytes bytes are a is = by (is_left_alone is.file) is.becomes
 
 -- ---- the program
 
-reads : (bytes : List ℕ) → OneDecision (IsReadable bytes) (IsUnreadEnd bytes)
+reads : (bytes : List ℕ) → OneDecision (IsReadable bytes) (IsLongEnd bytes)
 reads bytes =
-    decides (IsReadable bytes) (IsUnreadEnd bytes) (λ x y is is'. refl) (λ e f p q. p.1 ∙ sym q.1) (λ x e is ends. (let more = ends.0 in omega (arith, is, more)))
+    decides (IsReadable bytes) (IsLongEnd bytes) (λ x y is is'. refl) (λ e f p q. p.1 ∙ sym q.1) (λ x e is ends. (let more = ends.0 in omega (arith, is, more)))
     (by (cases_lt most_read (length bytes)))
   where
-    by : (most_read < length bytes) ⊎ (length bytes ≤ most_read) → ((x : Unit {0}) × IsReadable bytes x) ⊎ ((e : End) × IsUnreadEnd bytes e)
-    by (inl more) = inr (unread sample_path, (more, refl))
+    by : (most_read < length bytes) ⊎ (length bytes ≤ most_read) → ((x : Unit {0}) × IsReadable bytes x) ⊎ ((e : End) × IsLongEnd bytes e)
+    by (inl more) = inr (refusal_of sample_path (fault.Class 0 (not_a_class most_read)), (more, refl))
     by (inr few) = inl (tt, few)
 
 links : (bytes : List ℕ) → AreBytes bytes → length bytes ≤ most_read → OneDecision (IsRunProgram (bytes ∷ [])) (IsUnlinkedEnd bytes)
@@ -131,10 +132,10 @@ module _ (landed : Landed) (n : ℕ) (within : n ≤ 1000) where
 
   has_linking : (a : Instrumented) → IsInstrumentedFile (sample_file n) a → HasOne landed (linking a.bytes)
   has_linking a is =
-      has_then_if landed (deciding (IsReadable a.bytes) (IsUnreadEnd a.bytes)) (λ _. deciding (IsRunProgram (a.bytes ∷ [])) (IsUnlinkedEnd a.bytes))
+      has_then_if landed (deciding (IsReadable a.bytes) (IsLongEnd a.bytes)) (λ _. deciding (IsRunProgram (a.bytes ∷ [])) (IsUnlinkedEnd a.bytes))
       (λ w told. one_deciding landed w _ _ (reads a.bytes)) behind
     where
-      behind : (w : World) (steps : List Step) (x : Unit {0}) → deciding (IsReadable a.bytes) (IsUnreadEnd a.bytes) steps (gives x) → Fit landed w steps
+      behind : (w : World) (steps : List Step) (x : Unit {0}) → deciding (IsReadable a.bytes) (IsLongEnd a.bytes) steps (gives x) → Fit landed w steps
           → HasOne landed (deciding (IsRunProgram (a.bytes ∷ [])) (IsUnlinkedEnd a.bytes))
       behind w [] x short fits v told = one_deciding landed v _ _ (links a.bytes (written_bytes (sample_file n) (sample_bytes n within) a is) short)
       behind w (s ∷ ss) x none fits v told = absurd none

@@ -12,7 +12,7 @@ use Rattle.jc_run_work.specs.RunAnswers.{IsRunProgram}
 use Rattle.jc_run_work.specs.RunStore.{run_store}
 use Rattle.jc_sample.specs.SampleFile.{sample_file}
 use Rattle.jc_sample.specs.SamplePlan.{sample_plan}
-use Rattle.jc_sample.specs.SampleWork.{IsRefusedEnd, IsReadable, IsUnreadEnd, IsUnlinkedEnd, HaveEntries, IsEntryEnd, sample_text, linking, counting, running, sample_line, sample_work}
+use Rattle.jc_sample.specs.SampleWork.{IsRefusedEnd, IsReadable, IsLongEnd, IsUnlinkedEnd, HaveEntries, IsEntryEnd, sample_text, linking, counting, running, sample_line, sample_work}
 
 -- ---- its own ends
 
@@ -24,7 +24,7 @@ own_writing write steps end is = ends_writing_all IsOwnEnd (write ∷ []) steps 
 
 own_linking : (bytes : List ℕ) → HasOwnEnds (linking bytes)
 own_linking bytes =
-    ends_then IsOwnEnd (deciding (IsReadable bytes) (IsUnreadEnd bytes)) _ (ends_deciding IsOwnEnd _ _ (λ end is. subst IsOwnEnd (sym is.1) tt))
+    ends_then IsOwnEnd (deciding (IsReadable bytes) (IsLongEnd bytes)) _ (ends_deciding IsOwnEnd _ _ (λ end is. own_refused _ _ end is.1))
     (λ _. ends_deciding IsOwnEnd (IsRunProgram (bytes ∷ [])) (IsUnlinkedEnd bytes) (λ end is. own_refused _ _ end is.2))
 
 module _ (n : ℕ) where
@@ -67,7 +67,7 @@ then_stays p q first next steps o (inr h) =
 
 linking_stays : (bytes : List ℕ) → MakesNoStep (linking bytes)
 linking_stays bytes =
-    then_stays (deciding (IsReadable bytes) (IsUnreadEnd bytes)) _ (deciding_stays _ _) (λ _. deciding_stays (IsRunProgram (bytes ∷ [])) (IsUnlinkedEnd bytes))
+    then_stays (deciding (IsReadable bytes) (IsLongEnd bytes)) _ (deciding_stays _ _) (λ _. deciding_stays (IsRunProgram (bytes ∷ [])) (IsUnlinkedEnd bytes))
 
 module _ (n : ℕ) where
   running_stays : (probes : ℕ) (program : Program) → MakesNoStep (running n probes program)

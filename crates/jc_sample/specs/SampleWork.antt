@@ -12,6 +12,7 @@ use Rattle.jc_exec.specs.declared.refusal.ExecRefusal.{ExecRefusal}
 use Rattle.jc_instrument.specs.Analysis.{IsAnalysis}
 use Rattle.jc_instrument.specs.InstrumentedFile.{IsInstrumentedFile}
 use Rattle.jc_instrument.specs.Refused.{Reason}
+use Rattle.jc_class.specs.ClassText.{not_a_class}
 use Rattle.jc_cover.specs.Counters.{counters_of}
 use Rattle.jc_cover.specs.Covered.{hits_or_none, TellsCovered}
 use Rattle.jc_cover.specs.declared.coverage.Count.{Count}
@@ -20,7 +21,7 @@ use Rattle.jc_cover.specs.declared.coverage.Coverage.{Coverage}
 use Rattle.jc_linking.specs.Linking.{LinkReason}
 use Rattle.jc_work.specs.declared.status.Fault.TheVariants as fault
 use Rattle.jc_work.specs.Step.{Word, to_out}
-use Rattle.jc_work.specs.Part.{End, done, unread, Part, Command, giving, ending, deciding, writing, ◌>>=◌, ◌>>◌}
+use Rattle.jc_work.specs.Part.{End, done, Part, Command, giving, ending, deciding, writing, ◌>>=◌, ◌>>◌}
 use Rattle.jc_work.specs.Answered.{refusal_of}
 use Rattle.jc_class_commands.specs.Report.{record_of, hits_of, clash_with}
 use Rattle.jc_run_work.specs.RunAnswers.{IsRunProgram}
@@ -42,9 +43,9 @@ IsRefusedEnd bytes end = (why : Refusal) × Reason bytes (Some why) × (end ≡ 
 abbrev pub IsReadable : List ℕ → Unit {0} → Type 0
 IsReadable bytes _ = length bytes ≤ most_read
 
--- they are too many
-abbrev pub IsUnreadEnd : List ℕ → End → Type 0
-IsUnreadEnd bytes end = (most_read < length bytes) × (end ≡ unread sample_path)
+-- they are too many: the class file is refused where reading would end
+abbrev pub IsLongEnd : List ℕ → End → Type 0
+IsLongEnd bytes end = (most_read < length bytes) × (end ≡ refusal_of sample_path (fault.Class 0 (not_a_class most_read)))
 
 -- the class isn't linked
 abbrev pub IsUnlinkedEnd : List ℕ → End → Type 0
@@ -100,7 +101,7 @@ sample_text methods probes cases c = sizes_text methods probes cases ++ (instruc
 -- the program of the instrumented class
 abbrev pub linking : List ℕ → Part Program
 linking bytes = do
-  deciding (IsReadable bytes) (IsUnreadEnd bytes)
+  deciding (IsReadable bytes) (IsLongEnd bytes)
   deciding (IsRunProgram (bytes ∷ [])) (IsUnlinkedEnd bytes)
 
 -- the counters are those of the class before probes were put in

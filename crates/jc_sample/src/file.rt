@@ -19,9 +19,9 @@ const UTF8: u8 = 1;
 const CLASS: u8 = 7;
 
 /// The flags of the class, and of each method (JVM Specification 4.1, 4.6).
-const PUBLIC_AND_SUPER: u16 = 0x0021;
+const CLASS_FLAGS: u16 = 0x0021;
 
-const PUBLIC_AND_STATIC: u16 = 0x0009;
+const METHOD_FLAGS: u16 = 0x0009;
 
 /// The place of the first method's name in the constant pool; the others follow.
 const FIRST_NAME: u16 = 8;
@@ -139,7 +139,7 @@ fn put_method(into: &mut Vec<u8>, number: u16) -> Result<(), Memory>
     requires { number < 1000 }
     ensures { OnOk result (into.new.items ≡ into.old.items ++ method_text number) }
 {
-    put_short(into, PUBLIC_AND_STATIC)?;
+    put_short(into, METHOD_FLAGS)?;
     put_short(into, FIRST_NAME + number)?;
     put_short(into, 7)?;
     put_short(into, 1)?;
@@ -178,7 +178,7 @@ fn put_file_head(alloc: Global, into: &mut Vec<u8>, methods: u16) -> Result<(), 
 fn put_class_head(into: &mut Vec<u8>) -> Result<(), Memory>
     ensures { OnOk result (into.new.items ≡ into.old.items ++ class_head) }
 {
-    put_short(into, PUBLIC_AND_SUPER)?;
+    put_short(into, CLASS_FLAGS)?;
     put_short(into, 2)?;
     put_short(into, 4)?;
     put_short(into, 0)?;

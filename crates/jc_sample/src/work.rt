@@ -17,7 +17,7 @@ use crate::coverage::{PATH, file_counters};
 use crate::file::sample_file;
 use crate::line::sample_text;
 use crate::plan::sample_plan;
-use jc_bytes::{Bytes, Fail, MOST_READ, Memory};
+use jc_bytes::{Bytes, Fail, MOST_READ, Memory, not_a_class};
 use jc_instrument::{Instrumented, instrument};
 use jc_linking::{LinkRefusal, link};
 use jc_outside::Sink;
@@ -55,14 +55,15 @@ fn one_file(alloc: Global, bytes: Bytes) -> Result<Vec<Bytes>, Memory>
     Ok(files)
 }
 
-/// The program of the class file alone.
+/// The program of the class file alone. One that is too large to be read is refused where reading would end.
 fn linked<'a>(alloc: Global, bytes: Bytes) -> Result<Program, Stop<'a>>
     ensures linked { Decides (linking bytes) frameless result }
     ensures program { IfOk result IsProgram }
     ensures fits { IfOk result FitRecords }
 {
     if bytes.len() > MOST_READ {
-        return Err(Stop::Read(PATH));
+        let refusal = not_a_class(MOST_READ as u32);
+        return Err(class_stop(Fail::Said(refusal), 0, PATH));
     }
     are_bytes(&bytes);
     let files = one_file(alloc, bytes)?;
@@ -123,9 +124,8 @@ fn run_sample<'a, R: Threads + Sync, G: Gate + Sync>(
 ///
 /// # Errors
 ///
-/// `Memory` where memory was refused. Else what ends the commands where a class file is refused, is too large or isn't
-/// linked, where a thread has no method to begin with, or where a record of execution data clashes with a class. Nothing of
-/// this class does.
+/// `Memory` where memory was refused. Else `Refused`, as the commands end where a class file isn't instrumented or isn't linked,
+/// where a thread has no method to begin with, or where a record of execution data clashes with a class.
 pub fn sample_line<'a, R: Threads + Sync, G: Gate + Sync>(
     rt: &R,
     alloc: Global,

@@ -19,4 +19,4 @@ returns-in-Err-Said-Class-clause-linked c =
     let same : c.deref-2.result.now ≡ c.args.bytes ∷ [] = c.deref-2.ensures.value ∙ c.in_ok-files.ensures in
     let short : length c.args.bytes ≤ most_read = omega (arith, c.if-len-gt-MOST_READ.false, c.len.ensures) in
     let why = said_reason c.args.bytes c.deref-2.result.now w.field-0 w.field-0-0 w.field-0-0-0 w.refusal same w.field-0-is w.field-0-0-is w.ensures.refused in
-    rw c.class_stop.ensures (isn't_linked c.args.bytes short w.refusal why)
+    rw c.class_stop-in-Err-Said-Class.ensures (isn't_linked c.args.bytes short w.refusal why)
