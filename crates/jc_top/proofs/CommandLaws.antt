@@ -1,250 +1,125 @@
--- The command that the words call, by their parts and by tests.
-use Rattle.std.proofs.Common.{◌≡◌, ◌⊎◌, inl, inr, ◌≤◌, ◌<◌, ◌^◌, Bool, true, false, not, cond, ◌&&◌, List, [], ◌∷◌, ◌++◌, Option, None, Some, option_map, length, nat_eq, arith, codes, String, string_bytes, refl, sym, ◌∙◌, ap, ap₂, subst, append_assoc}
-use Rattle.std.proofs.lemmas.Bool.{and_parts, not-true}
-use Rattle.std.proofs.lemmas.List.{append-nil, length-map}
-use Rattle.std.specs.List.{ends_with, flat_map, list_all}
-use Rattle.std.specs.Str.{bytes_eq}
-use Rattle.std.proofs.lemmas.Slice.Eq.{bytes_eq-Decides}
-use Rattle.jc_base.proofs.DecoderLaws.{chosen, guard_some, some_is}
+-- A command lists, then prepares, then writes, and then reports: how it ends by how each of these did.
+use Rattle.std.proofs.Common.{◌≡◌, ◌⊎◌, ℕ, List, [], map, Option, Some, Result, Ok, Err, Vec, inl, inr, refl, subst}
 use Rattle.std.specs.declared.alloc.Global.{Global}
-use Rattle.jc_work.specs.Step.{Word}
-use Rattle.jc_work.specs.Seen.{words_of}
-use Rattle.jc_top.specs.Words.{Use, use_words, Call, call_words, Scan, with_use, scan, is_value, is_option, is_relative, are_distinct, components, is_component}
-use Rattle.jc_top.specs.Command.{Command, merge, exec_info, class_info, exec_info_call, class_info_call, AreFiles, merge_some, exec_info_some, class_info_some, report_some, instrument_some, IsCallOf, inputs_of, Means, NoForm}
-use Rattle.jc_top.specs.Command.{are_files, decide, decide_merge, decide_exec_info, decide_class_info, decide_report, decide_instrument, decide_scan, command_of, destfile, dest_option}
-use Rattle.jc_top.proofs.InstrumentWordsLaws.{instrument_decided, instrument_chosen}
-use Rattle.jc_top.proofs.ReportWordsLaws.{all_by_recursion, list_all_of, cons_not_nil, chosen_some, report_decided, report_scan, report_chosen}
+use Rattle.jc_paths.specs.Paths.{FileText}
+use Rattle.jc_words.specs.Commands.{Called, Means, NoForm}
+use Rattle.jc_work.specs.declared.output.Write.{Write as Written}
+use Rattle.jc_work.specs.declared.status.Status.{Status}
+use Rattle.jc_work.specs.declared.status.Status.TheVariants as status
+use Rattle.jc_work.specs.declared.stop.Stop.{Stop}
+use Rattle.jc_work.specs.Step.{Word, World, Counts, Landed}
+use Rattle.jc_work.specs.Part.{End, done, misused, gives, stops, Part, Command, deciding, ending, writing_all, ◌>>=◌}
+use Rattle.jc_work.specs.Ending.{CameTo, Began, BrokeOff, Stops, Does, Reports, Ends}
+use Rattle.jc_work.specs.Folders.{files_of}
+use Rattle.jc_work.specs.Answered.{Answer, preparing, making_all, answered}
+use Rattle.jc_work.specs.Seen.{write_seen, stop_seen}
+use Rattle.jc_work.proofs.Behind.{came_then, began_then, broke_then, stops_first}
+use Rattle.jc_work.proofs.Ends.{ends_done, ends_stopped}
+use Rattle.jc_work.proofs.Reaching.{reached_start, ran_last, was_decided, was_ended}
+use Rattle.jc_top.specs.Completes.{Completes}
+use Rattle.jc_top.specs.Work.{on_files, work_of, IsUsage, the_work}
 
--- ---- a scan spells the words
+-- ---- one part in front of a command
 
-abbrev spelled : Scan → List Word
-spelled s = flat_map use_words s.uses ++ s.files
+module _ {X : Type 0} (landed : Landed) (p : Part X) (q : X → Command) (old : World) (f : Counts) where
+  -- the part is over, and the command behind it ended so
+  pub ends_behind : (x : X) (mid new : World) (g f' : Counts) (s : Status) → (g ≡ f) × CameTo landed p old mid (gives x) → Ends landed (q x) mid new g f' s
+      → Ends landed (p >>= q) old new f f' s
+  ends_behind x mid new g f' s (same, came) ends = by (subst (λ (c : Counts). Ends landed (q x) mid new c f' s) same ends)
+    where
+      far : ((f' ≡ f) × Began landed (q x) mid new) ⊎ ((end : End) × BrokeOff landed (q x) mid new f f' end)
+          → ((f' ≡ f) × Began landed (p >>= q) old new) ⊎ ((end : End) × BrokeOff landed (p >>= q) old new f f' end)
+      far (inl (kept, began)) = inl (kept, began_then landed p q old x mid new came began)
+      far (inr (end, broke)) = inr (end, broke_then landed p q old x mid new f f' end came broke)
 
-scan_spells : (words : List Word) (s : Scan) → scan words ≡ Some s → words ≡ spelled s
-unfolding scan
-scan_spells [] s e = let same = some_is (record { uses = []; files = [] }) s e in ap spelled same
-scan_spells (w ∷ []) s e = elim (chosen (is_option w) None (Some (record { uses = []; files = w ∷ [] })) (Some s) e) [
-  | inl h ↦ absurd (none h.1)
-  | inr h ↦ ap spelled (some_is (record { uses = []; files = w ∷ [] }) s h.1)
-]
-  where
-    none : None ≡ Some s → ⊥
-    none e = cc
-scan_spells (w ∷ v ∷ rest) s e = elim (chosen (is_option w) (with_use (record { option = w; value = v }) (scan rest)) (Some (record { uses = []; files = w ∷ v ∷ rest })) (Some s) e) [
-  | inl h ↦ used (scan rest) (λ t is. scan_spells rest t is) h.1
-  | inr h ↦ ap spelled (some_is (record { uses = []; files = w ∷ v ∷ rest }) s h.1)
-]
-  where
-    used : (o : Option Scan) → ((t : Scan) → o ≡ Some t → rest ≡ spelled t) → with_use (record { option = w; value = v }) o ≡ Some s → (w ∷ v ∷ rest) ≡ spelled s
-    used None spells e = absurd cc
-    used (Some t) spells e = ap (λ (l : List Word). w ∷ v ∷ l) (spells t refl) ∙ ap spelled (some_is (record { uses = record { option = w; value = v } ∷ t.uses; files = t.files }) s e)
+      by : Ends landed (q x) mid new f f' s → Ends landed (p >>= q) old new f f' s
+      by (inl e) = inl (record { end = e.end; stands = e.stands; came = came_then landed p q old x mid e.stands (stops e.end) came e.came; is = e.is; says = e.says })
+      by (inr (inl e)) =
+          inr (inl (record { end = e.end; stands = e.stands; at = e.at; broke_off = broke_then landed p q old x mid e.stands f e.at e.end came e.broke_off; is = e.is; says = e.says }))
+      by (inr (inr e)) = inr (inr (record { is = e.is; far = far e.far }))
 
--- ---- what a decision says of the call
+  -- the part stopped the command
+  pub ends_before : (mid new : World) (g f' : Counts) (stop : Option End) (s : Status) → Stops landed p old mid f g stop → Reports stop mid new g f' s → Ends landed (p >>= q) old new f f' s
+  ends_before mid new g f' stop s stopped reports = ends_stopped landed (p >>= q) old f stop mid new g f' s (stops_first landed p q old mid f g stop stopped) reports
 
-files_are : (test : Word → Bool) (ws : List Word) → are_files test ws ≡ true → AreFiles test ws
-files_are test ws e = let parts = and_parts (list_all test ws) (are_distinct ws) e in record { each = all_by_recursion test ws parts.0; distinct = parts.1 }
+-- ---- nothing was done
 
-files_pass : (test : Word → Bool) (ws : List Word) → AreFiles test ws → are_files test ws ≡ true
-files_pass test ws files = rw (list_all_of test ws files.each, files.distinct) refl
+-- memory was refused at once
+pub memory_ends : (landed : Landed) (command : Command) (w : World) (f : Counts) → Ends landed command w w f f status.Memory
+memory_ends landed command w f = inr (inr (record { is = refl; far = inl (refl, record { steps = []; begun = inl refl; fit = tt; stand = refl }) }))
 
-merge_decided : (uses : List Use) (files : List Word) (command : Command) → decide_merge uses files ≡ Some command → IsCallOf (record { command = codes "merge"; uses = uses; files = files }) command
-merge_decided [] files command e = absurd cc
-merge_decided (u ∷ []) [] command e = absurd cc
-merge_decided (u ∷ []) (input ∷ inputs) command e =
-    let test = guard_some (bytes_eq u.option destfile && are_files is_value (u.value ∷ input ∷ inputs)) (Some (merge u.value (input ∷ inputs))) command e in
-    let parts = and_parts (bytes_eq u.option destfile) (are_files is_value (u.value ∷ input ∷ inputs)) test.0 in
-    let same : u.option ≡ destfile = (bytes_eq-Decides u.option destfile).0 parts.0 in
-    subst (IsCallOf (record { command = codes "merge"; uses = u ∷ []; files = input ∷ inputs })) (some_is (merge u.value (input ∷ inputs)) command test.1)
-    (subst (λ (w : Word). IsCallOf (record { command = codes "merge"; uses = record { option = w; value = u.value } ∷ []; files = input ∷ inputs }) (merge u.value (input ∷ inputs))) (sym same)
-    (merge_some u.value (input ∷ inputs) cons_not_nil (files_are is_value (u.value ∷ input ∷ inputs) parts.1)))
-merge_decided (u ∷ v ∷ uses) files command e = absurd cc
+-- ---- writes
 
-exec_info_decided : (uses : List Use) (files : List Word) (command : Command) → decide_exec_info uses files ≡ Some command → IsCallOf (record { command = codes "execinfo"; uses = uses; files = files }) command
-exec_info_decided [] [] command e = absurd cc
-exec_info_decided [] (path ∷ paths) command e =
-    let test = guard_some (are_files is_value (path ∷ paths)) (Some (exec_info (path ∷ paths))) command e in
-    subst (IsCallOf (exec_info_call (path ∷ paths))) (some_is (exec_info (path ∷ paths)) command test.1) (exec_info_some (path ∷ paths) cons_not_nil (files_are is_value (path ∷ paths) test.0))
-exec_info_decided (u ∷ uses) files command e = absurd cc
+module _ (landed : Landed) (made writes : List Written) (same : made ≡ writes) (old mid : World) (f g : Counts) where
+  -- the writes were made
+  pub wrote_all : (g ≡ f) × CameTo landed (writing_all (map write_seen made)) old mid (gives tt) → Ends landed (making_all (map write_seen writes)) old mid f g status.Done
+  wrote_all does = subst (λ (ws : List Written). Ends landed (making_all (map write_seen ws)) old mid f g status.Done) same (ends_done landed (making_all (map write_seen made)) old f mid g all.0 all.1)
+    where
+      all : (g ≡ f) × CameTo landed (making_all (map write_seen made)) old mid (stops done)
+      all = ran_last landed (making_all (map write_seen made)) old old f f (writing_all (map write_seen made)) (reached_start landed (making_all (map write_seen made)) old f) (λ (stop : Stop). stop_seen stop) mid g (Ok (tt {0})) does
 
-class_info_decided : (uses : List Use) (files : List Word) (command : Command) → decide_class_info uses files ≡ Some command → IsCallOf (record { command = codes "classinfo"; uses = uses; files = files }) command
-class_info_decided [] [] command e = absurd cc
-class_info_decided [] (path ∷ paths) command e =
-    let test = guard_some (are_files is_relative (path ∷ paths)) (Some (class_info (path ∷ paths))) command e in
-    subst (IsCallOf (class_info_call (path ∷ paths))) (some_is (class_info (path ∷ paths)) command test.1) (class_info_some (path ∷ paths) cons_not_nil (files_are is_relative (path ∷ paths) test.0))
-class_info_decided (u ∷ uses) files command e = absurd cc
+  -- a write failed
+  pub wrote_some : (new : World) (f' : Counts) (stop : Option End) (s : Status) → Stops landed (writing_all (map write_seen made)) old mid f g stop → Reports stop mid new g f' s
+      → Ends landed (making_all (map write_seen writes)) old new f f' s
+  wrote_some new f' stop s stopped reports =
+      subst (λ (ws : List Written). Ends landed (making_all (map write_seen ws)) old new f f' s) same
+      (ends_before landed (writing_all (map write_seen made)) (λ _. ending {X = ⊥} done) old f mid new g f' stop s stopped reports)
 
--- a decision by the command's name
-named : (words : List Word) (name rest_name : Word) (rest : List Word) (s : Scan) (command : Command) → bytes_eq name rest_name ≡ true → words ≡ name ∷ rest → scan rest ≡ Some s → IsCallOf (record { command = rest_name; uses = s.uses; files = s.files }) command → Means words command
-named words name rest_name rest s command test parts is stated =
-    let same : name ≡ rest_name = (bytes_eq-Decides name rest_name).0 test in
-    record { call = record { command = rest_name; uses = s.uses; files = s.files }; spelled = parts ∙ ap₂ (λ (n : Word) (l : List Word). n ∷ l) same (scan_spells rest s is); stated = stated }
+-- ---- a command that reads, decides and then writes
 
--- the decision behind the first names
-abbrev instrument_or_none : Word → Scan → Option Command
-instrument_or_none name s = cond (bytes_eq name (codes "instrument")) (decide_instrument s.uses s.files) None
+module _ (landed : Landed) (inputs : List Word) (Answers : List (List ℕ) → Answer → Type 0) (old mid new : World) (f g f' : Counts) where
+  pub completed : (prepared : Result (Vec Written Global) Stop) (s : Status) → Does landed (preparing inputs Answers) (λ writes. map write_seen writes.items) stop_seen old mid f g prepared
+      → Completes landed prepared mid new g f' s → Ends landed (answered inputs Answers) old new f f' s
+  completed (Ok writes) s does completes =
+      ends_behind landed (preparing inputs Answers) making_all old f (map write_seen writes.items) mid new g f' s does completes
+  completed (Err stop) s does completes = ends_before landed (preparing inputs Answers) making_all old f mid new g f' (stop_seen stop) s does completes
 
-abbrev report_or_instrument : Word → Scan → Option Command
-report_or_instrument name s = cond (bytes_eq name (codes "report")) (decide_report s.uses s.files) (instrument_or_none name s)
+-- the same of equal paths
+pub ends_same : (landed : Landed) (Answers : List Word → List Word → List (List ℕ) → Answer → Type 0) (ts ts' ps ps' : List Word) → ts ≡ ts' → ps ≡ ps' → (old new : World) (f f' : Counts) (s : Status)
+    → Ends landed (answered ps (Answers ts ps)) old new f f' s → Ends landed (answered ps' (Answers ts' ps')) old new f f' s
+ends_same landed Answers ts ts' ps ps' same_ts same_ps old new f f' s ends =
+    subst (λ (l : List Word). Ends landed (answered l (Answers ts' l)) old new f f' s) same_ps
+    (subst (λ (l : List Word). Ends landed (answered ps (Answers l ps)) old new f f' s) same_ts ends)
 
-abbrev class_info_or_report : Word → Scan → Option Command
-class_info_or_report name s = cond (bytes_eq name (codes "classinfo")) (decide_class_info s.uses s.files) (report_or_instrument name s)
+-- the same of equal files or paths
+pub ends_on : {A : Type 0} (landed : Landed) (work : A → Command) (x y : A) → x ≡ y → (old new : World) (f f' : Counts) (s : Status) → Ends landed (work x) old new f f' s
+    → Ends landed (work y) old new f f' s
+ends_on {A} landed work x y same old new f f' s ends = subst (λ (z : A). Ends landed (work z) old new f f' s) same ends
 
-abbrev other_than_merge : Word → Scan → Option Command
-other_than_merge name s = cond (bytes_eq name (codes "execinfo")) (decide_exec_info s.uses s.files) (class_info_or_report name s)
+-- ---- a command on files
 
-pub decided : (words : List Word) (command : Command) → command_of words ≡ Some command → Means words command
-decided [] command e = absurd cc
-decided (name ∷ rest) command e = by (scan rest) refl e
-  where
-    by : (o : Option Scan) → scan rest ≡ o → decide_scan name o ≡ Some command → Means (name ∷ rest) command
-    by None is e = absurd cc
-    by (Some s) is e = elim (chosen (bytes_eq name (codes "merge")) (decide_merge s.uses s.files) (other_than_merge name s) (Some command) e) [
-      | inl merges ↦ named (name ∷ rest) name (codes "merge") rest s command merges.0 refl is (merge_decided s.uses s.files command merges.1)
-      | inr other ↦ elim (chosen (bytes_eq name (codes "execinfo")) (decide_exec_info s.uses s.files) (class_info_or_report name s) (Some command) other.1) [
-        | inl infos ↦ named (name ∷ rest) name (codes "execinfo") rest s command infos.0 refl is (exec_info_decided s.uses s.files command infos.1)
-        | inr others ↦ elim (chosen (bytes_eq name (codes "classinfo")) (decide_class_info s.uses s.files) (report_or_instrument name s) (Some command) others.1) [
-          | inl lists ↦ named (name ∷ rest) name (codes "classinfo") rest s command lists.0 refl is (class_info_decided s.uses s.files command lists.1)
-          | inr behind ↦ elim (chosen (bytes_eq name (codes "report")) (decide_report s.uses s.files) (instrument_or_none name s) (Some command) behind.1) [
-            | inl reports ↦ named (name ∷ rest) name (codes "report") rest s command reports.0 refl is (report_decided s.uses s.files command reports.1)
-            | inr last ↦
-                let test = guard_some (bytes_eq name (codes "instrument")) (decide_instrument s.uses s.files) command last.1 in
-                named (name ∷ rest) name (codes "instrument") rest s command test.0 refl is (instrument_decided s.uses s.files command test.1)
-          ]
-        ]
-      ]
-    ]
+module _ (landed : Landed) (files : List FileText) (Answers : List Word → List (List ℕ) → Answer → Type 0) (old : World) (f : Counts) where
+  -- the files were listed, and their command ended so
+  pub listed_ends : (paths : List Word) (mid new : World) (g f' : Counts) (s : Status) → (g ≡ f) × CameTo landed (files_of files) old mid (gives paths)
+      → Ends landed (answered paths (Answers paths)) mid new g f' s → Ends landed (on_files files Answers) old new f f' s
+  listed_ends paths mid new g f' s came ends = ends_behind landed (files_of files) (λ ps. answered ps (Answers ps)) old f paths mid new g f' s came ends
 
-value_no_option : (word : Word) → is_value word ≡ true → is_option word ≡ false
-value_no_option [] plain = absurd cc
-value_no_option (a ∷ []) plain = refl
-value_no_option (a ∷ b ∷ rest) plain = rw (not-true (nat_eq a 45) plain) refl
+  pub unlisted_ends : (mid new : World) (g f' : Counts) (stop : Option End) (s : Status) → Stops landed (files_of files) old mid f g stop → Reports stop mid new g f' s
+      → Ends landed (on_files files Answers) old new f f' s
+  unlisted_ends mid new g f' stop s stopped reports = ends_before landed (files_of files) (λ ps. answered ps (Answers ps)) old f mid new g f' stop s stopped reports
 
-pub scan_files : (w : Word) (rest : List Word) → is_option w ≡ false → scan (w ∷ rest) ≡ Some (record { uses = []; files = w ∷ rest })
-unfolding scan
-scan_files w [] no_option = rw no_option refl
-scan_files w (v ∷ rest) no_option = rw no_option refl
+-- ---- the words
 
--- one use of an option in front of files
-use_scan : (option value file : Word) (files : List Word) → is_option option ≡ true → is_value file ≡ true
-    → scan (option ∷ value ∷ file ∷ files) ≡ Some (record { uses = record { option = option; value = value } ∷ []; files = file ∷ files })
-unfolding scan
-use_scan option value file files is plain =
-    rw is (ap (with_use (record { option = option; value = value })) (scan_files file files (value_no_option file plain)))
+module _ (landed : Landed) (words : List Word) (old new : World) (f f' : Counts) (s : Status) where
+  -- the words call the command, which ended so
+  pub called_ends : (command : Called) → Means words command → Ends landed (work_of command) old new f f' s → Ends landed (the_work words) old new f f' s
+  called_ends command means ends =
+      ends_behind landed (deciding (Means words) (IsUsage words)) work_of old f command old new f f' s
+      (refl, was_decided landed (Means words) (IsUsage words) old command means) ends
 
-found : (words : List Word) (call : Call) (command : Command) → words ≡ call_words call → IsCallOf call command → command_of words ≡ Some command
-found words call command spelled (merge_some out [] some files) = absurd (some refl)
-found words call command spelled (merge_some out (input ∷ inputs) some files) =
-    ap command_of spelled ∙ ap (decide_scan (codes "merge")) (use_scan destfile out input inputs refl files.each.1.0)
-    ∙ chosen_some (are_files is_value (out ∷ input ∷ inputs)) (merge out (input ∷ inputs)) (files_pass is_value (out ∷ input ∷ inputs) files)
-found words call command spelled (exec_info_some [] some files) = absurd (some refl)
-found words call command spelled (exec_info_some (path ∷ paths) some files) =
-    ap command_of spelled ∙ ap (decide_scan (codes "execinfo")) (scan_files path paths (value_no_option path files.each.0))
-    ∙ chosen_some (are_files is_value (path ∷ paths)) (exec_info (path ∷ paths)) (files_pass is_value (path ∷ paths) files)
-found words call command spelled (class_info_some [] some files) = absurd (some refl)
-found words call command spelled (class_info_some (path ∷ paths) some files) =
-    let value = (and_parts (is_value path) (list_all is_component (components path)) files.each.0).0 in
-    ap command_of spelled ∙ ap (decide_scan (codes "classinfo")) (scan_files path paths (value_no_option path value))
-    ∙ chosen_some (are_files is_relative (path ∷ paths)) (class_info (path ∷ paths)) (files_pass is_relative (path ∷ paths) files)
-found words call command spelled (report_some out name exec [] some files) = absurd (some refl)
-found words call command spelled (report_some out name exec (path ∷ paths) some are) =
-    let value = (and_parts (is_value path) (not (ends_with nat_eq path (codes "/"))) are.files.0).0 in
-    ap command_of spelled
-    ∙ ap (decide_scan (codes "report")) (report_scan out name exec (path ∷ paths) (scan_files path paths (value_no_option path value)))
-    ∙ report_chosen out name exec path paths are
-found words call command spelled (instrument_some dest [] some are) = absurd (some refl)
-found words call command spelled (instrument_some dest (path ∷ paths) some are) =
-    let value = (and_parts (is_value path) (list_all is_component (components path)) are.files.0).0 in
-    ap command_of spelled ∙ ap (decide_scan (codes "instrument")) (use_scan dest_option dest path paths refl value)
-    ∙ instrument_chosen dest path paths are
+  -- the words are of no stated form
+  pub usage_ends : NoForm words → Reports (Some misused) old new f f' s → Ends landed (the_work words) old new f f' s
+  usage_ends none reports =
+      ends_before landed (deciding (Means words) (IsUsage words)) work_of old f old new f f' (Some misused) s
+      (inl (refl, was_ended landed (Means words) (IsUsage words) old misused (none, refl))) reports
 
-pub means_found : (words : List Word) (command : Command) → Means words command → command_of words ≡ Some command
-means_found words command means = found words means.call command means.spelled means.stated
+-- ---- a command that a call ran
 
--- words call one command
-pub one_command : (words : List Word) (a b : Command) → Means words a → Means words b → a ≡ b
-one_command words a b p q = some_is a b (sym (means_found words a p) ∙ means_found words b q)
+module _ (landed : Landed) (command : Command) (old mid : World) (f g : Counts) where
+  -- it is done
+  pub ran_done : (g ≡ f) × CameTo landed command old mid (stops done) → Ends landed command old mid f g status.Done
+  ran_done (same, came) = ends_done landed command old f mid g same came
 
-pub no_command : (words : List Word) → command_of words ≡ None → NoForm words
-no_command words none command means = never (command_of words) none (means_found words command means)
-  where
-    never : (o : Option Command) → o ≡ None → o ≡ Some command → ⊥
-    never o e f = cc
-
--- words call a command, or none
-pub command_or_none : (words : List Word) → ((command : Command) × Means words command) ⊎ NoForm words
-command_or_none words = by (command_of words) refl
-  where
-    by : (o : Option Command) → command_of words ≡ o → ((command : Command) × Means words command) ⊎ NoForm words
-    by (Some command) is = inl (command, decided words command is)
-    by None is = inr (no_command words is)
-
--- ---- a scan, use by use
-
--- uses in front of a scan
-abbrev pub behind : List Use → Option Scan → Option Scan
-behind front o = option_map {T = Scan} (λ s. record { uses = front ++ s.uses; files = s.files }) o
-
-behind_use : (front : List Use) (u : Use) (o : Option Scan) → behind front (with_use u o) ≡ behind (front ++ u ∷ []) o
-behind_use front u None = refl
-behind_use front u (Some s) = ap (λ (us : List Use). let o : Option Scan = Some (record { uses = us; files = s.files }) in o) (sym (append_assoc front (u ∷ []) s.uses))
-
-pub scan_lacks : (w : Word) → is_option w ≡ true → scan (w ∷ []) ≡ None
-unfolding scan
-scan_lacks w test = rw test refl
-
-pub scan_uses : (w v : Word) (rest : List Word) → is_option w ≡ true → scan (w ∷ v ∷ rest) ≡ with_use (record { option = w; value = v }) (scan rest)
-unfolding scan
-scan_uses w v rest test = rw test refl
-
-pub scan_start : (words : List Word) → scan words ≡ behind [] (scan words)
-scan_start words = by (scan words)
-  where
-    by : (o : Option Scan) → o ≡ behind [] o
-    by None = refl
-    by (Some s) = refl
-
-pub scan_on : (whole : Option Scan) (front : List Use) (u : Use) (mid rest : Option Scan) → whole ≡ behind front mid → mid ≡ with_use u rest → whole ≡ behind (front ++ u ∷ []) rest
-scan_on whole front u mid rest so_far is = so_far ∙ ap (behind front) is ∙ behind_use front u rest
-
-pub scan_ends : (whole : Option Scan) (front : List Use) (files : List Word) (mid : Option Scan) → whole ≡ behind front mid → mid ≡ Some (record { uses = []; files = files }) → Some (record { uses = front; files = files }) ≡ whole
-scan_ends whole front files mid so_far is = sym (so_far ∙ ap (behind front) is ∙ ap (λ (us : List Use). let o : Option Scan = Some (record { uses = us; files = files }) in o) (append-nil front))
-
-pub scan_stops : (whole : Option Scan) (front : List Use) (mid : Option Scan) → whole ≡ behind front mid → mid ≡ None → None ≡ whole
-scan_stops whole front mid so_far is = sym (so_far ∙ ap (behind front) is)
-
-pub no_words : (words : List (String Global)) → length words ≡ 0 → words_of words ≡ []
-no_words [] none = refl
-no_words (w ∷ words) none = absurd (omega (arith, none))
-
-pub scan_no_words : (words : List (String Global)) → length words ≡ 0 → scan (words_of words) ≡ Some (record { uses = []; files = words_of words })
-unfolding scan
-scan_no_words [] none = refl
-scan_no_words (w ∷ words) none = absurd (omega (arith, none))
-
--- ---- the command of words that were cut
-
-pub no_name : (words : List (String Global)) → length words ≡ 0 → NoForm (words_of words)
-no_name words none = no_command (words_of words) (ap command_of (no_words words none))
-
-pub not_cut : (words : List Word) (name : Word) (rest : List Word) → words ≡ name ∷ rest → None ≡ scan rest → NoForm words
-not_cut words name rest parts none = no_command words (ap command_of parts ∙ ap (decide_scan name) (sym none))
-
-pub not_decided : (words : List Word) (name : Word) (rest : List Word) (s : Scan) → words ≡ name ∷ rest → Some s ≡ scan rest → None ≡ decide name s → NoForm words
-not_decided words name rest s parts cut none = no_command words (ap command_of parts ∙ ap (decide_scan name) (sym cut) ∙ sym none)
-
-pub is_decided : (words : List Word) (name : Word) (rest : List Word) (s : Scan) (command : Command) → words ≡ name ∷ rest → Some s ≡ scan rest → Some command ≡ decide name s → Means words command
-is_decided words name rest s command parts cut found = decided words command (ap command_of parts ∙ ap (decide_scan name) (sym cut) ∙ sym found)
-
--- a command has fewer inputs than words
-few_of : (words : List Word) (call : Call) (command : Command) → words ≡ call_words call → IsCallOf call command → length (inputs_of command) ≤ length words
-few_of words call command spelled (merge_some out inputs some files) = omega (arith, ap length spelled)
-few_of words call command spelled (exec_info_some paths some files) = omega (arith, ap length spelled)
-few_of words call command spelled (class_info_some paths some files) = omega (arith, ap length spelled)
-few_of words call command spelled (report_some out None None paths some are) = omega (arith, ap length spelled)
-few_of words call command spelled (report_some out (Some name) None paths some are) = omega (arith, ap length spelled)
-few_of words call command spelled (report_some out None (Some exec) paths some are) = omega (arith, ap length spelled)
-few_of words call command spelled (report_some out (Some name) (Some exec) paths some are) = omega (arith, ap length spelled)
-few_of words call command spelled (instrument_some dest paths some are) = omega (arith, ap length spelled)
-
-pub few_inputs : (words : List (String Global)) (command : Command) → Means (words_of words) command → length words < 2 ^ 32 → length (inputs_of command) < 2 ^ 32
-few_inputs words command means bound = let few = few_of (words_of words) means.call command means.spelled means.stated in omega (arith, few, bound, length-map words string_bytes)
+  -- it was stopped
+  pub ran_stopped : (new : World) (f' : Counts) (stop : Option End) (s : Status) → Stops landed command old mid f g stop → Reports stop mid new g f' s → Ends landed command old new f f' s
+  ran_stopped new f' stop s stopped reports = ends_stopped landed command old f stop mid new g f' s stopped reports

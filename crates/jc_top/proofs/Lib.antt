@@ -1,6 +1,6 @@
-pub mod PathLaws
-pub mod ReportWordsLaws
-pub mod InstrumentWordsLaws
 pub mod CommandLaws
+pub mod FirstWriteLaws
 pub mod WorkLaws
+pub mod BoundLaws
 pub mod RunLaws
+pub mod SampleLaws

@@ -1,40 +1,42 @@
--- The work of a command is that of the words that call it.
-use Rattle.std.proofs.Common.{◌≡◌, ◌⊎◌, ℕ, List, [], Option, None, Some, Result, Ok, Err, inl, inr, refl}
-use Rattle.jc_work.specs.declared.status.Status.{Status}
-use Rattle.jc_work.specs.declared.status.Status.TheVariants as status
-use Rattle.jc_work.specs.declared.stop.Stop.{Stop}
-use Rattle.jc_work.specs.Step.{Word, World, Counts, Landed}
-use Rattle.jc_work.specs.Part.{End, done, misused, gives, stops, deciding, ◌>>=◌}
-use Rattle.jc_work.specs.Ending.{CameTo, Stops, Reports, Ran, Ends}
-use Rattle.jc_work.specs.Seen.{stop_seen}
-use Rattle.jc_work.proofs.Behind.{came_then, stops_then}
-use Rattle.jc_work.proofs.Ends.{ends_done, ends_stopped}
-use Rattle.jc_work.proofs.Reaching.{was_decided}
-use Rattle.jc_top.specs.Command.{Command, Means, NoForm}
-use Rattle.jc_top.specs.Work.{work_of, IsUsage, the_work}
+-- The ends to which `run` comes by what it answers.
+use Rattle.std.proofs.Common.{◌≡◌, ℕ, List, ◌∷◌, Option, None, Some, inl, inr, refl, sym, ◌∙◌, subst}
+use Rattle.jc_programs.specs.declared.program.Program.{Program}
+use Rattle.jc_programs.specs.declared.run_plan.RunPlan.{RunPlan}
+use Rattle.jc_programs.specs.declared.run_plan.ThreadLine.{ThreadLine}
+use Rattle.jc_linking.specs.declared.link_refusal.LinkRefusal.{LinkRefusal}
+use Rattle.jc_linking.specs.declared.link_refusal.LinkRefusal.TheVariants as refusals
+use Rattle.jc_run_work.specs.RunAnswers.{EndsAs, IsLinkEnd, RunAnswers, run_answer}
+use Rattle.jc_run_work.specs.RunStore.{threads_of, first_without}
+use Rattle.jc_work.specs.declared.status.Fault.{Fault}
+use Rattle.jc_work.specs.declared.status.Fault.TheVariants as fault
+use Rattle.jc_work.specs.Step.{Word, Write}
+use Rattle.jc_work.specs.Part.{End, refused, stops}
+use Rattle.jc_work.specs.Answered.{HasOneAnswer}
+use Rattle.jc_work.specs.Causes.{IsRefusal}
+use Rattle.jc_work.proofs.OneWork.{gives_or_stops, same_end}
+use Rattle.jc_work.proofs.CauseLaws.{is_refusal}
 
-module _ (landed : Landed) (words : List Word) (old : World) (f : Counts) where
-  -- the words call the command, which goes on from here
-  module _ (command : Command) (means : Means words command) where
-    called : CameTo landed (deciding (Means words) (IsUsage words)) old old (gives command)
-    called = was_decided landed (Means words) (IsUsage words) old command means
+-- of what is read there is one answer of `run`
+abbrev pub RunsAnswerOnce : Type 0
+RunsAnswerOnce = (plan exec : Word) (paths : List Word) (text : List ℕ) → HasOneAnswer paths (λ read. RunAnswers plan exec paths (text ∷ read))
 
-    pub done_ends : (new : World) (f' : Counts) → (f' ≡ f) × CameTo landed (work_of command) old new (stops done) → Ends landed (the_work words) old new f f' status.Done
-    done_ends new f' (same, came) =
-        ends_done landed (the_work words) old f new f' same (came_then landed (deciding (Means words) (IsUsage words)) work_of old command old new (stops done) called came)
+refused_so : (f : Fault) (line : List ℕ) (end : End) → end ≡ refused f line → IsRefusal end
+refused_so f line end is = subst IsRefusal (sym is) tt
 
-    pub stop_ends : (mid new : World) (g f' : Counts) (stop : Option End) (s : Status) → Stops landed (work_of command) old mid f g stop → Reports stop mid new g f' s
-        → Ends landed (the_work words) old new f f' s
-    stop_ends mid new g f' stop s stopped reports =
-        ends_stopped landed (the_work words) old f stop mid new g f' s
-        (stops_then landed (deciding (Means words) (IsUsage words)) work_of old command old mid f f g stop refl called stopped) reports
+module _ (plan exec : Word) (paths : List Word) (text : List ℕ) (read : List (List ℕ)) where
+  link_refuses : (end : End) → IsLinkEnd paths read end → IsRefusal end
+  link_refuses end is = by is.0 is.2
+    where
+      by : (r : LinkRefusal) → EndsAs paths read r end → IsRefusal end
+      by (refusals.Class index why) so = refused_so _ _ end so
+      by (refusals.SameName first second) so = refused_so _ _ end so.2
+      by (refusals.SameId first second) so = refused_so _ _ end so.2
 
-  -- the words are of no stated form
-  pub usage_ends : (new : World) (f' : Counts) (s : Status) → NoForm words → Reports (Some misused) old new f f' s → Ends landed (the_work words) old new f f' s
-  usage_ends new f' s none reports =
-      ends_stopped landed (the_work words) old f (Some misused) old new f f' s
-      (inl (refl, record { steps = []; comes = inl (none, refl); begun = inl refl; fit = tt; stand = refl })) reports
+  answer_refuses : (p : RunPlan) (program : Program) (o : Option ThreadLine) (end : End) → stops end ≡ run_answer plan exec p program o → IsRefusal end
+  answer_refuses p program None end is = absurd (gives_or_stops _ end (sym is))
+  answer_refuses p program (Some thread) end is = is_refusal plan (fault.NoEntry thread.line) end is
 
-  -- memory was refused at once
-  pub memory_ends : Ends landed (the_work words) old old f f status.Memory
-  memory_ends = inr (inr (record { is = refl; far = inl (refl, record { steps = []; begun = inl refl; fit = tt; stand = refl }) }))
+  pub run_refuses : (end : End) → RunAnswers plan exec paths (text ∷ read) (stops end) → IsRefusal end
+  run_refuses end (inr (e, is, same)) = refused_so _ _ end (same_end (List Write) end e (stops end) refl same ∙ is.2)
+  run_refuses end (inl (p, is, inr (e, link, same))) = subst IsRefusal (sym (same_end (List Write) end e (stops end) refl same)) (link_refuses e link)
+  run_refuses end (inl (p, is, inl (program, made, same))) = answer_refuses p program (first_without program (threads_of p)) end same

@@ -1,64 +1,112 @@
 -- The work of words over told contents is one, and ends by itself in no failed write.
-use Rattle.std.proofs.Common.{◌≡◌, ◌⊎◌, inl, inr, ℕ, List, [], ◌∷◌, ◌++◌, map, refl, sym, ◌∙◌, ap, subst}
+use Rattle.std.proofs.Common.{◌≡◌, ◌⊎◌, inl, inr, ℕ, List, [], ◌∷◌, ◌++◌, Option, None, Some, map, refl, sym, ◌∙◌, ap, subst}
 use Rattle.std.proofs.lemmas.List.{length-map}
+use Rattle.jc_paths.specs.Paths.{FileText, in_folder}
+use Rattle.jc_words.specs.Commands.{Called, instrument, run, merge, report, exec_info, class_info, cover, cover_sample, Means, NoForm}
+use Rattle.jc_words.proofs.CommandLaws.{one_command, some_or_none}
 use Rattle.jc_work.specs.declared.status.Status.{Status}
 use Rattle.jc_work.specs.declared.status.Status.TheVariants as status
-use Rattle.jc_work.specs.Step.{Word, World, Counts, Landed, Call, Step}
-use Rattle.jc_work.specs.Part.{End, done, refused, misused, unread, unwritten, unprinted, status_of, Outcome, wants, gives, stops, deciding, ◌>>=◌}
+use Rattle.jc_work.specs.Step.{Word, IsFile, World, Counts, Landed, Call, Step}
+use Rattle.jc_work.specs.Part.{End, done, refused, misused, unread, unwritten, unprinted, status_of, Outcome, wants, gives, stops, Part, Command, deciding, reading, ◌>>=◌}
 use Rattle.jc_work.specs.Ending.{Ends}
+use Rattle.jc_work.specs.Folders.{files_of}
 use Rattle.jc_work.specs.OneWay.{IsOver, HasOne, OneDecision, writes_of}
-use Rattle.jc_work.specs.Answered.{HasOneAnswer}
+use Rattle.jc_work.specs.Answered.{Answer, HasOneAnswer, answered}
 use Rattle.jc_work.specs.Causes.{IsOwnEnd, IsRefusal, EndsIn, HasOwnEnds}
-use Rattle.jc_work.proofs.OneWork.{has_then, one_deciding, same_end}
-use Rattle.jc_work.proofs.AnsweredLaws.{has_answered}
-use Rattle.jc_work.proofs.CauseLaws.{ends_then, ends_deciding, ends_answered, done_or_none}
+use Rattle.jc_work.proofs.OneWork.{has_then, has_then_if, one_deciding, one_reading}
+use Rattle.jc_work.proofs.AnsweredLaws.{file_read, has_answered, has_files}
+use Rattle.jc_work.proofs.CauseLaws.{ends_then, ends_deciding, ends_reading, ends_answered, done_or_none}
+use Rattle.jc_work.proofs.FileLaws.{ends_files, none_files}
+use Rattle.jc_work.proofs.NoWrites.{WritesNone, none_deciding, none_reading}
+use Rattle.jc_work.proofs.Prefix.{writes-append}
 use Rattle.jc_exec_commands.proofs.ExecAnswers.{merge_has_one, merge_refuses, info_has_one, info_refuses}
+use Rattle.jc_exec_commands.specs.Merge.{MergeAnswers}
+use Rattle.jc_exec_commands.specs.ExecInfo.{InfoAnswers}
+use Rattle.jc_class_commands.specs.ClassInfo.{ListAnswers}
+use Rattle.jc_class_commands.specs.Instrument.{InstrumentAnswers}
+use Rattle.jc_class_commands.specs.Report.{ReportAnswers}
 use Rattle.jc_class_commands.proofs.ClassAnswers.{list_has_one, list_refuses, report_has_one, report_refuses, instrument_has_one, instrument_refuses}
-use Rattle.jc_top.specs.Words.{in_folder}
-use Rattle.jc_top.specs.Command.{Command, merge, exec_info, class_info, report, instrument, inputs_of, Means, NoForm}
-use Rattle.jc_top.specs.Work.{answers_of, work_of, IsUsage, the_work}
-use Rattle.jc_top.proofs.CommandLaws.{one_command, command_or_none}
+use Rattle.jc_run_work.specs.RunAnswers.{RunAnswers}
+use Rattle.jc_cover_work.proofs.OneCoverLaws.{PlansAreOne, has_cover}
+use Rattle.jc_cover_work.proofs.OwnEndLaws.{cover_ends}
+use Rattle.jc_top.specs.Work.{on_files, reporting, work_of, IsUsage, the_work}
+use Rattle.jc_top.specs.FirstWrite.{DecidesFirst, DecideFirst}
+use Rattle.jc_sample.proofs.OneSampleLaws.{has_sample}
+use Rattle.jc_top.specs.Bounds.{IsBounded}
+use Rattle.jc_top.proofs.BoundLaws.{means_bounded}
+use Rattle.jc_top.proofs.SampleLaws.{ends_sample, last_sample, sample_or_nothing}
+use Rattle.jc_top.proofs.RunLaws.{RunsAnswerOnce, run_refuses}
+use Rattle.jc_top.proofs.FirstWriteLaws.{WritesLast, last_answered, last_then, reads_files, reads_reading, reads_deciding}
+
+-- ---- answers
+
+abbrev instrument_answers : Word → List Word → List (List ℕ) → Answer → Type 0
+instrument_answers dest paths = InstrumentAnswers (map (in_folder dest) paths) paths
+
+abbrev report_answers : (csv name : Word) → Option Word → List (List ℕ) → List Word → List (List ℕ) → Answer → Type 0
+report_answers csv name exec texts paths read = ReportAnswers csv name exec paths (texts ++ read)
+
+abbrev run_answers : (plan destfile : Word) → List ℕ → List Word → List (List ℕ) → Answer → Type 0
+run_answers plan destfile text paths read = RunAnswers plan destfile paths (text ∷ read)
+
+abbrev running : (plan destfile : Word) → List FileText → List ℕ → Command
+running plan destfile files text = on_files files (run_answers plan destfile text)
 
 -- ---- one work
 
-has_one_answer : (command : Command) → HasOneAnswer (inputs_of command) (answers_of command)
-has_one_answer (merge destfile inputs) = merge_has_one destfile inputs
-has_one_answer (exec_info paths) = info_has_one paths
-has_one_answer (class_info paths) = list_has_one paths
-has_one_answer (report out name exec paths) = report_has_one out name exec paths
-has_one_answer (instrument dest paths) = instrument_has_one (map (in_folder dest) paths) paths (length-map paths (in_folder dest))
-
 -- the words call one command, or they are of no stated form
 one_meaning : (words : List Word) → OneDecision (Means words) (IsUsage words)
-one_meaning words = by (command_or_none words)
+one_meaning words = by (some_or_none words)
   where
-    by : ((command : Command) × Means words command) ⊎ NoForm words → OneDecision (Means words) (IsUsage words)
+    by : ((command : Called) × Means words command) ⊎ NoForm words → OneDecision (Means words) (IsUsage words)
     by (inl (command, means)) = record { decision = gives command; over = tt; holds = means; only = only }
       where
-        only : (o : Outcome Command) → IsOver o → deciding (Means words) (IsUsage words) [] o → o ≡ gives command
+        only : (o : Outcome Called) → IsOver o → deciding (Means words) (IsUsage words) [] o → o ≡ gives command
         only (wants call) over is = absurd over
-        only (gives other) over is = ap (λ (c : Command). gives c) (one_command words other command is means)
+        only (gives other) over is = ap (λ (c : Called). gives c) (one_command words other command is means)
         only (stops end) over is = absurd (is.0 command means)
     by (inr none) = record { decision = stops misused; over = tt; holds = (none, refl); only = only }
       where
-        only : (o : Outcome Command) → IsOver o → deciding (Means words) (IsUsage words) [] o → o ≡ stops misused
+        only : (o : Outcome Called) → IsOver o → deciding (Means words) (IsUsage words) [] o → o ≡ stops misused
         only (wants call) over is = absurd over
         only (gives other) over is = absurd (none other is)
         only (stops end) over is = ap (λ (e : End). stops e) is.1
 
-pub has_the_work : (landed : Landed) (words : List Word) → HasOne landed (the_work words)
-has_the_work landed words =
-    has_then landed (deciding (Means words) (IsUsage words)) work_of (λ w told. one_deciding landed w (Means words) (IsUsage words) (one_meaning words))
-    (λ command. has_answered landed (inputs_of command) (answers_of command) (has_one_answer command))
+meant : (words : List Word) (command : Called) (front : List Step) → deciding (Means words) (IsUsage words) front (gives command) → Means words command
+meant words command [] means = means
+meant words command (step ∷ front) means = absurd means
+
+module _ (landed : Landed) where
+  has_on_files : (files : List FileText) (Answers : List Word → List (List ℕ) → Answer → Type 0) → ((paths : List Word) → HasOneAnswer paths (Answers paths)) → HasOne landed (on_files files Answers)
+  has_on_files files Answers one =
+      has_then landed (files_of files) (λ paths. answered paths (Answers paths)) (has_files landed files) (λ paths. has_answered landed paths (Answers paths) (one paths))
+
+  -- behind a file that was read
+  has_behind : (path : Word) (q : List ℕ → Command) → ((text : List ℕ) → IsFile text → HasOne landed (q text)) → HasOne landed (reading path >>= q)
+  has_behind path q one =
+      has_then_if landed (reading path) q (λ w told. one_reading landed w path told) (λ w steps text read fits. one text (file_read landed w path text steps read fits))
+
+  module _ (runs : RunsAnswerOnce) (plans : PlansAreOne) where
+    has_work : (command : Called) → IsBounded command → HasOne landed (work_of command)
+    has_work (instrument dest files) bounded =
+        has_on_files files (instrument_answers dest) (λ paths. instrument_has_one (map (in_folder dest) paths) paths (length-map paths (in_folder dest)))
+    has_work (run plan destfile workers files) bounded = has_behind plan (running plan destfile files) (λ text file. has_on_files files (run_answers plan destfile text) (λ paths. runs plan destfile paths text))
+    has_work (merge destfile inputs) bounded = has_answered landed inputs (MergeAnswers destfile inputs) (merge_has_one destfile inputs)
+    has_work (report csv name None files) bounded = has_on_files files (report_answers csv name None []) (λ paths. report_has_one csv name None paths)
+    has_work (report csv name (Some exec) files) bounded =
+        has_behind exec (λ text. reporting csv name (Some exec) (text ∷ []) files) (λ text file. has_on_files files (report_answers csv name (Some exec) (text ∷ [])) (λ paths read are. report_has_one csv name (Some exec) paths (text ∷ read) (file, are)))
+    has_work (exec_info inputs) bounded = has_answered landed inputs (InfoAnswers inputs) (info_has_one inputs)
+    has_work (class_info files) bounded = has_on_files files ListAnswers list_has_one
+    has_work (cover dest plan destfile csv workers name files) bounded =
+        has_cover plans landed (record { dest = dest; plan = plan; exec = destfile; csv = csv; name = name; files = files })
+    has_work (cover_sample methods) bounded = has_sample landed methods bounded.1
+
+    pub has_the_work : (words : List Word) → HasOne landed (the_work words)
+    has_the_work words =
+        has_then_if landed (deciding (Means words) (IsUsage words)) work_of (λ w told. one_deciding landed w (Means words) (IsUsage words) (one_meaning words))
+        (λ w steps command over fits. has_work command (means_bounded words command (meant words command steps over)))
 
 -- ---- ends
-
-refuses : (command : Command) (texts : List (List ℕ)) (end : End) → answers_of command texts (stops end) → IsRefusal end
-refuses (merge destfile inputs) texts end is = merge_refuses destfile inputs texts end is
-refuses (exec_info paths) texts end is = info_refuses paths texts end is
-refuses (class_info paths) texts end is = list_refuses paths texts end is
-refuses (report out name exec paths) texts end is = report_refuses out name exec paths texts end is
-refuses (instrument dest paths) texts end is = instrument_refuses (map (in_folder dest) paths) paths texts end is
 
 -- an end of a command
 abbrev IsCommandEnd : End → Type 0
@@ -85,9 +133,28 @@ command_own (unread path) is = tt
 command_own (unwritten path) is = absurd is
 command_own unprinted is = absurd is
 
-work_ends : (command : Command) → EndsIn IsCommandEnd (work_of command)
-work_ends command =
-    ends_answered IsCommandEnd (inputs_of command) (answers_of command) tt (λ path. tt) (λ texts end is. of_refusal end (refuses command texts end is))
+ends_on_files : (files : List FileText) (Answers : List Word → List (List ℕ) → Answer → Type 0)
+    → ((paths : List Word) (texts : List (List ℕ)) (end : End) → Answers paths texts (stops end) → IsRefusal end) → EndsIn IsCommandEnd (on_files files Answers)
+ends_on_files files Answers refuses =
+    ends_then IsCommandEnd (files_of files) (λ paths. answered paths (Answers paths)) (ends_files IsCommandEnd files)
+    (λ paths. ends_answered IsCommandEnd paths (Answers paths) tt (λ path. tt) (λ texts end is. of_refusal end (refuses paths texts end is)))
+
+ends_behind : (path : Word) (q : List ℕ → Command) → ((text : List ℕ) → EndsIn IsCommandEnd (q text)) → EndsIn IsCommandEnd (reading path >>= q)
+ends_behind path q own = ends_then IsCommandEnd (reading path) q (ends_reading IsCommandEnd (λ path. tt) path) own
+
+work_ends : (command : Called) → EndsIn IsCommandEnd (work_of command)
+work_ends (instrument dest files) = ends_on_files files (instrument_answers dest) (λ paths. instrument_refuses (map (in_folder dest) paths) paths)
+work_ends (run plan destfile workers files) =
+    ends_behind plan (running plan destfile files) (λ text. ends_on_files files (run_answers plan destfile text) (λ paths. run_refuses plan destfile paths text))
+work_ends (merge destfile inputs) = ends_answered IsCommandEnd inputs (MergeAnswers destfile inputs) tt (λ path. tt) (λ texts end is. of_refusal end (merge_refuses destfile inputs texts end is))
+work_ends (report csv name None files) = ends_on_files files (report_answers csv name None []) (report_refuses csv name None)
+work_ends (report csv name (Some exec) files) =
+    ends_behind exec (λ text. reporting csv name (Some exec) (text ∷ []) files) (λ text. ends_on_files files (report_answers csv name (Some exec) (text ∷ [])) (λ paths read. report_refuses csv name (Some exec) paths (text ∷ read)))
+work_ends (exec_info inputs) = ends_answered IsCommandEnd inputs (InfoAnswers inputs) tt (λ path. tt) (λ texts end is. of_refusal end (info_refuses inputs texts end is))
+work_ends (class_info files) = ends_on_files files ListAnswers list_refuses
+work_ends (cover dest plan destfile csv workers name files) =
+    cover_ends IsCommandEnd tt (λ fault line. tt) (λ path. tt) (record { dest = dest; plan = plan; exec = destfile; csv = csv; name = name; files = files })
+work_ends (cover_sample methods) = ends_sample IsCommandEnd tt (λ fault line. tt) methods
 
 usage_own : (words : List Word) (end : End) → IsUsage words end → IsOwnEnd end
 usage_own words end is = subst IsOwnEnd (sym is.1) tt
@@ -97,17 +164,62 @@ own_ends words =
     ends_then IsOwnEnd (deciding (Means words) (IsUsage words)) work_of (ends_deciding IsOwnEnd (Means words) (IsUsage words) (usage_own words))
     (λ command steps end is. command_own end (work_ends command steps end is))
 
--- words that end otherwise than done have written nothing
-pub done_or_nothing : (words : List Word) (steps : List Step) (end : End) → the_work words steps (stops end) → (end ≡ done) ⊎ (writes_of steps ≡ [])
-done_or_nothing words [] end (inl within) = inr refl
-done_or_nothing words (step ∷ steps) end (inl within) = absurd within
-done_or_nothing words steps end (inr h) = by h.front h.behind h.parts h.over (done_or_none (inputs_of h.value) (answers_of h.value) h.behind end h.goes_on)
+-- ---- commands that decide first
+
+-- the command is done at its end, or has written nothing
+abbrev DoneOrNothing : Command → Type 0
+DoneOrNothing command = (steps : List Step) (end : End) → command steps (stops end) → (end ≡ done) ⊎ (writes_of steps ≡ [])
+
+nothing_before : {X : Type 0} (p : Part X) (q : X → Command) → WritesNone p → ((x : X) (front : List Step) → p front (gives x) → DoneOrNothing (q x))
+    → DoneOrNothing (p >>= q)
+nothing_before p q none or steps end (inl within) = inr (none steps (stops end) within)
+nothing_before p q none or steps end (inr h) = by (or h.value h.front h.over h.behind end h.goes_on)
   where
-    by : (front behind : List Step) → steps ≡ front ++ behind → deciding (Means words) (IsUsage words) front (gives h.value) → (end ≡ done) ⊎ (writes_of behind ≡ [])
-        → (end ≡ done) ⊎ (writes_of steps ≡ [])
-    by [] behind same is (inl finished) = inl finished
-    by [] behind same is (inr none) = inr (ap writes_of same ∙ none)
-    by (step ∷ front) behind same is so = absurd is
+    by : (end ≡ done) ⊎ (writes_of h.behind ≡ []) → (end ≡ done) ⊎ (writes_of steps ≡ [])
+    by (inl finished) = inl finished
+    by (inr nothing) =
+        inr (ap writes_of h.parts ∙ writes-append h.front h.behind ∙ ap (λ ws. ws ++ writes_of h.behind) (none h.front (gives h.value) h.over) ∙ nothing)
+
+nothing_on_files : (files : List FileText) (Answers : List Word → List (List ℕ) → Answer → Type 0) → DoneOrNothing (on_files files Answers)
+nothing_on_files files Answers = nothing_before (files_of files) (λ paths. answered paths (Answers paths)) (none_files files) (λ paths front over. done_or_none paths (Answers paths))
+
+work_or_nothing : (command : Called) → DecidesFirst command → DoneOrNothing (work_of command)
+work_or_nothing (instrument dest files) first = nothing_on_files files (instrument_answers dest)
+work_or_nothing (run plan destfile workers files) first =
+    nothing_before (reading plan) (running plan destfile files) (none_reading plan) (λ text front over. nothing_on_files files (run_answers plan destfile text))
+work_or_nothing (merge destfile inputs) first = done_or_none inputs (MergeAnswers destfile inputs)
+work_or_nothing (report csv name None files) first = nothing_on_files files (report_answers csv name None [])
+work_or_nothing (report csv name (Some exec) files) first = nothing_before (reading exec) (λ text. reporting csv name (Some exec) (text ∷ []) files) (none_reading exec) (λ text front over. nothing_on_files files (report_answers csv name (Some exec) (text ∷ [])))
+work_or_nothing (exec_info inputs) first = done_or_none inputs (InfoAnswers inputs)
+work_or_nothing (class_info files) first = nothing_on_files files ListAnswers
+work_or_nothing (cover dest plan destfile csv workers name files) first = absurd first
+work_or_nothing (cover_sample methods) first = sample_or_nothing methods
+
+-- words that end otherwise than done have written nothing
+pub done_or_nothing : (words : List Word) → DecideFirst words → DoneOrNothing (the_work words)
+done_or_nothing words first =
+    nothing_before (deciding (Means words) (IsUsage words)) work_of (none_deciding (Means words) (IsUsage words))
+    (λ command front over. work_or_nothing command (first command (meant words command front over)))
+
+last_on_files : (files : List FileText) (Answers : List Word → List (List ℕ) → Answer → Type 0) → WritesLast (on_files files Answers)
+last_on_files files Answers = last_then (files_of files) (λ paths. answered paths (Answers paths)) (none_files files) (reads_files files) (λ paths front over. last_answered paths (Answers paths))
+
+last_work : (command : Called) → DecidesFirst command → WritesLast (work_of command)
+last_work (instrument dest files) first = last_on_files files (instrument_answers dest)
+last_work (run plan destfile workers files) first =
+    last_then (reading plan) (running plan destfile files) (none_reading plan) (reads_reading plan) (λ text front over. last_on_files files (run_answers plan destfile text))
+last_work (merge destfile inputs) first = last_answered inputs (MergeAnswers destfile inputs)
+last_work (report csv name None files) first = last_on_files files (report_answers csv name None [])
+last_work (report csv name (Some exec) files) first = last_then (reading exec) (λ text. reporting csv name (Some exec) (text ∷ []) files) (none_reading exec) (reads_reading exec) (λ text front over. last_on_files files (report_answers csv name (Some exec) (text ∷ [])))
+last_work (exec_info inputs) first = last_answered inputs (InfoAnswers inputs)
+last_work (class_info files) first = last_on_files files ListAnswers
+last_work (cover dest plan destfile csv workers name files) first = absurd first
+last_work (cover_sample methods) first = last_sample methods
+
+pub last_the_work : (words : List Word) → DecideFirst words → WritesLast (the_work words)
+last_the_work words first =
+    last_then (deciding (Means words) (IsUsage words)) work_of (none_deciding (Means words) (IsUsage words)) (reads_deciding (Means words) (IsUsage words))
+    (λ command front over. last_work command (first command (meant words command front over)))
 
 -- ---- usage
 

@@ -1,4 +1,4 @@
-pub mod Words
-pub mod Command
-pub mod Looks
 pub mod Work
+pub mod Completes
+pub mod FirstWrite
+pub mod Bounds

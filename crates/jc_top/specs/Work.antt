@@ -1,33 +1,52 @@
 -- The work of words: that of the command that they call.
-use Rattle.std.specs.Prelude.{◌≡◌, ℕ, List, map}
-use Rattle.jc_work.specs.Step.{Word, Write}
-use Rattle.jc_work.specs.Part.{End, misused, Part, deciding, ◌>>=◌}
-use Rattle.jc_work.specs.Answered.{Answer, preparing, answered}
+use Rattle.std.specs.Prelude.{◌≡◌, ℕ, List, [], ◌∷◌, ◌++◌, Option, None, Some, map}
+use Rattle.jc_paths.specs.Paths.{FileText, in_folder}
+use Rattle.jc_words.specs.Commands.{Called, instrument, run, merge, report, exec_info, class_info, cover, cover_sample, Means, NoForm}
+use Rattle.jc_work.specs.Step.{Word}
+use Rattle.jc_work.specs.Part.{End, misused, Command, deciding, reading, ◌>>=◌}
+use Rattle.jc_work.specs.Folders.{files_of}
+use Rattle.jc_work.specs.Answered.{Answer, answered}
 use Rattle.jc_exec_commands.specs.Merge.{MergeAnswers}
 use Rattle.jc_exec_commands.specs.ExecInfo.{InfoAnswers}
 use Rattle.jc_class_commands.specs.ClassInfo.{ListAnswers}
 use Rattle.jc_class_commands.specs.Report.{ReportAnswers}
 use Rattle.jc_class_commands.specs.Instrument.{InstrumentAnswers}
-use Rattle.jc_top.specs.Words.{in_folder}
-use Rattle.jc_top.specs.Command.{Command, merge, exec_info, class_info, report, instrument, inputs_of, Means, NoForm}
+use Rattle.jc_run_work.specs.RunAnswers.{RunAnswers}
+use Rattle.jc_cover_work.specs.CoverWork.{cover_work}
+use Rattle.jc_sample.specs.SampleWork.{sample_work}
 
--- what the command makes of what it read of its inputs
-abbrev pub answers_of : Command → List (List ℕ) → Answer → Type 0
-answers_of (merge destfile inputs) = MergeAnswers destfile inputs
-answers_of (exec_info paths) = InfoAnswers paths
-answers_of (class_info paths) = ListAnswers paths
-answers_of (report out name exec paths) = ReportAnswers out name exec paths
-answers_of (instrument dest paths) = InstrumentAnswers (map (in_folder dest) paths) paths
+-- the files that the words name are read, and what they answer is written
+abbrev pub on_files : List FileText → (List Word → List (List ℕ) → Answer → Type 0) → Command
+on_files files Answers = do
+  paths ← files_of files
+  answered paths (Answers paths)
 
-abbrev pub work_of : Command → Part ⊥
-work_of command = answered (inputs_of command) (answers_of command)
+-- a report by these texts of execution data
+abbrev pub reporting : (csv name : Word) → Option Word → List (List ℕ) → List FileText → Command
+reporting csv name exec texts files = on_files files (λ paths read. ReportAnswers csv name exec paths (texts ++ read))
+
+abbrev pub work_of : Called → Command
+work_of (instrument dest files) = on_files files (λ paths. InstrumentAnswers (map (in_folder dest) paths) paths)
+work_of (run plan destfile workers files) = do
+  text ← reading plan
+  on_files files (λ paths read. RunAnswers plan destfile paths (text ∷ read))
+work_of (merge destfile inputs) = answered inputs (MergeAnswers destfile inputs)
+work_of (report csv name None files) = reporting csv name None [] files
+work_of (report csv name (Some exec) files) = do
+  text ← reading exec
+  reporting csv name (Some exec) (text ∷ []) files
+work_of (exec_info inputs) = answered inputs (InfoAnswers inputs)
+work_of (class_info files) = on_files files ListAnswers
+work_of (cover dest plan destfile csv workers name files) =
+    cover_work (record { dest = dest; plan = plan; exec = destfile; csv = csv; name = name; files = files })
+work_of (cover_sample methods) = sample_work methods
 
 -- the words are of no stated form, and the command ends as misused
 abbrev pub IsUsage : List Word → End → Type 0
 IsUsage words end = NoForm words × (end ≡ misused)
 
 -- all that the words ask for
-abbrev pub the_work : List Word → Part ⊥
+abbrev pub the_work : List Word → Command
 the_work words = do
   command ← deciding (Means words) (IsUsage words)
   work_of command

@@ -8,15 +8,22 @@ ghost use Rattle.jc_work.specs.Ending.{NoneRose, SaysLast, Ends};
 ghost use Rattle.jc_work.specs.OneWay.{IsTold, Work, IsWork, writes_of};
 ghost use Rattle.jc_work.specs.Prefix.{LeavesFront};
 ghost use Rattle.jc_work.specs.Causes.{Cause, WorkFailed};
-ghost use Rattle.jc_top.specs.Command.{NoForm};
+ghost use Rattle.jc_words.specs.Commands.{NoForm};
+ghost use Rattle.jc_top.specs.FirstWrite.{DecideFirst, WritesBegun};
 ghost use Rattle.jc_top.specs.Work.{the_work};
+
+use jc_link::each_text_is_a_plan_or_has_a_first_unfit_line;
+use jc_run_command::a_run_has_an_answer;
 
 /// Words and told contents have exactly one work: the steps that they ask for, and an end.
 pub fn words_have_one_work()
     ensures some { (landed : Landed) (words : List Word) (w : World) → IsTold w → (work : Work) × IsWork landed (the_work words) w work }
     ensures one { (landed : Landed) (words : List Word) (w : World) (a b : Work) → IsTold w
         → IsWork landed (the_work words) w a → IsWork landed (the_work words) w b → a ≡ b }
-{}
+{
+    a_run_has_an_answer();
+    each_text_is_a_plan_or_has_a_first_unfit_line();
+}
 
 /// Each status has its cause, which says too what stands then, and what `err` holds.
 ///
@@ -45,14 +52,20 @@ pub fn each_run_ends_as_its_work()
     ensures makes { (landed : Landed) (words : List Word) (old new : World) (f g : Counts) (s : Status) (work : Work) → IsTold old
         → IsWork landed (the_work words) old work → Ends landed (the_work words) old new f g s → NoneRose f g → s ≢ status.Memory
         → (s ≡ status_of work.end) × SaysLast (message_of work.end) (after landed old work.steps) new f g }
-{}
+{
+    a_run_has_an_answer();
+    each_text_is_a_plan_or_has_a_first_unfit_line();
+}
 
 /// But for its last message a run leaves what first writes of its work leave, the last of them perhaps in part: also where a
 /// count rose or memory was refused.
 pub fn each_run_leaves_a_front_of_its_work()
     ensures { (landed : Landed) (words : List Word) (old new : World) (f g : Counts) (s : Status) (work : Work) → IsTold old
         → IsWork landed (the_work words) old work → Ends landed (the_work words) old new f g s → LeavesFront landed old (writes_of work.steps) new }
-{}
+{
+    a_run_has_an_answer();
+    each_text_is_a_plan_or_has_a_first_unfit_line();
+}
 
 /// Usage comes exactly where the words are of no stated form, but for want of memory.
 pub fn usage_comes_for_words_of_no_form()
@@ -62,7 +75,16 @@ pub fn usage_comes_for_words_of_no_form()
         → Ends landed (the_work words) old new f g s → (s ≡ status.Usage) ⊎ (s ≡ status.Memory) }
 {}
 
-/// A command that isn't done at its end has written nothing but the message: it refuses its inputs before its first write.
-pub fn a_command_that_refuses_has_written_nothing()
-    ensures { (words : List Word) (steps : List Step) (end : End) → the_work words steps (stops end) → (end ≡ done) ⊎ (writes_of steps ≡ []) }
+/// A command other than `cover` that isn't done at its end has written nothing but the message: it refuses its inputs before its
+/// first write.
+pub fn a_command_but_cover_that_refuses_has_written_nothing()
+    ensures { (words : List Word) (steps : List Step) (end : End) → DecideFirst words → the_work words steps (stops end)
+        → (end ≡ done) ⊎ (writes_of steps ≡ []) }
+{}
+
+/// Where a command other than `cover` ends for want of memory, files and texts are as they were, or all inputs were read and what to
+/// write was decided: what stands then was made by first ones of these writes, the last of them perhaps in part.
+pub fn want_of_memory_leaves_what_was_or_first_writes()
+    ensures { (landed : Landed) (words : List Word) (old new : World) (f g : Counts) → DecideFirst words
+        → Ends landed (the_work words) old new f g status.Memory → (new ≡ old) ⊎ WritesBegun landed (the_work words) old new }
 {}

@@ -6,7 +6,7 @@ ghost use Rattle.std.specs.Prelude.{◌≡◌};
 ghost use Rattle.jcov.specs.ExitStatus.{exit_status};
 
 use jc_base::{HostFiles, HostSink};
-use jc_top::{Status, run_tool};
+use jc_top::{OpenGate, Status, run_tool};
 use std::alloc::AllocError;
 use std::io::ErrorKind;
 use std::process::ExitCode;
@@ -50,6 +50,7 @@ fn main(rt: HostRuntime) -> ExitCode {
             &mut HostFiles::new(&rt),
             &mut HostSink::new(rt.stdout()),
             &mut HostSink::new(rt.stderr()),
+            &OpenGate,
         ),
         Err(_) => Status::Memory,
     };

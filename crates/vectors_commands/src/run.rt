@@ -4,7 +4,7 @@ use crate::outcome::{put_lines, status_text};
 use crate::recorder::Recorder;
 use crate::setup::{Plan, Setup};
 use jc_base::{Memory, MemorySink};
-use jc_top::{Status, run_tool};
+use jc_top::{OpenGate, Status, run_tool};
 use std::alloc::{AllocError, Global};
 use std::marker::Sync;
 use std::thread::Threads;
@@ -50,6 +50,7 @@ fn call(
         &mut outside.files,
         &mut outside.out,
         &mut outside.err,
+        &OpenGate,
     ))
 }
 

@@ -1,14 +1,24 @@
 use Rattle.jc_work.proofs.CauseLaws.{ends_or_fails, ends_so}
 use Rattle.jc_work.proofs.NoFault.{does_work}
+use Rattle.jc_cover_work.proofs.OneCoverLaws.{PlansAreOne}
 use Rattle.jc_top.specs.Work.{the_work}
 use Rattle.jc_top.proofs.WorkLaws.{has_the_work}
 use Rattle.jc_top.proofs.laws.each_run_ends_as_its_work.Goals as goal
 
 pub returns-clause-ends : goal.returns-clause-ends
-returns-clause-ends c landed words old new f g s work told is ends = ends_or_fails landed (the_work words) old new f g s (has_the_work landed words old told) work is ends
+returns-clause-ends c landed words old new f g s work told is ends =
+    let laws = c.each_text_is_a_plan_or_has_a_first_unfit_line.ensures in
+    let plans : PlansAreOne = record { each = laws.each; apart = laws.apart; one_plan = laws.one_plan; one_line = laws.one_line } in
+    ends_or_fails landed (the_work words) old new f g s (has_the_work landed c.a_run_has_an_answer.ensures plans words old told) work is ends
 
 pub returns-clause-completes : goal.returns-clause-completes
-returns-clause-completes c landed words old new f g s work told is ends none = ends_so landed (the_work words) old new f g s (has_the_work landed words old told) work is ends none
+returns-clause-completes c landed words old new f g s work told is ends none =
+    let laws = c.each_text_is_a_plan_or_has_a_first_unfit_line.ensures in
+    let plans : PlansAreOne = record { each = laws.each; apart = laws.apart; one_plan = laws.one_plan; one_line = laws.one_line } in
+    ends_so landed (the_work words) old new f g s (has_the_work landed c.a_run_has_an_answer.ensures plans words old told) work is ends none
 
 pub returns-clause-makes : goal.returns-clause-makes
-returns-clause-makes c landed words old new f g s work told is ends none not = does_work landed (the_work words) old new f g s (has_the_work landed words old told) work is ends none not
+returns-clause-makes c landed words old new f g s work told is ends none not =
+    let laws = c.each_text_is_a_plan_or_has_a_first_unfit_line.ensures in
+    let plans : PlansAreOne = record { each = laws.each; apart = laws.apart; one_plan = laws.one_plan; one_line = laws.one_line } in
+    does_work landed (the_work words) old new f g s (has_the_work landed c.a_run_has_an_answer.ensures plans words old told) work is ends none not

@@ -1,0 +1,28 @@
+use Rattle.std.proofs.Common.{[], ap, map, refl}
+use Rattle.jc_paths.specs.Looks.{file_view}
+use Rattle.jc_work.specs.Seen.{words_of, stop_seen}
+use Rattle.jc_class_commands.specs.ClassInfo.{ListAnswers}
+use Rattle.jc_top.proofs.CommandLaws.{completed, ends_same, listed_ends, unlisted_ends}
+use Rattle.jc_top.proofs.commands.class_info.Goals as goal
+
+pub returns-in-Err : goal.returns-in-Err
+returns-in-Err g c =
+    let F = g.F.Files in
+    let O = g.O.Sink in
+    let E = g.E.Sink in
+    unlisted_ends F.landed (map file_view c.args.words.now) ListAnswers _ _ _ _ _ _ (stop_seen c.in-Err.stop) c.report.result
+    (c.in-Err.ensures.does (O.told c.args.out.now) (E.told c.args.err.now) (O.faults c.args.out.now) (E.faults c.args.err.now))
+    (c.report.ensures (F.contents c.list_files.new.files) (O.told c.args.out.now) (F.read_faults c.list_files.new.files) (F.write_faults c.list_files.new.files) (O.faults c.args.out.now))
+
+pub returns : goal.returns
+returns g c =
+    let F = g.F.Files in
+    let O = g.O.Sink in
+    let E = g.E.Sink in
+    let paths = words_of c.in-Ok.paths.items in
+    let listed = words_of c.deref.result.now in
+    listed_ends F.landed (map file_view c.args.words.now) ListAnswers _ _ paths _ _ _ _ c.complete.result
+    (c.in-Ok.ensures.does (O.told c.args.out.now) (E.told c.args.err.now) (O.faults c.args.out.now) (E.faults c.args.err.now))
+    (ends_same F.landed (λ _. ListAnswers) [] [] listed paths refl (ap words_of c.deref.ensures.value) _ _ _ _ c.complete.result
+    (completed F.landed listed (ListAnswers listed) _ _ _ _ _ _ c.prepare_class_info-prepared.result c.complete.result
+    (c.prepare_class_info-prepared.ensures (O.told c.args.out.now) (E.told c.args.err.now) (O.faults c.args.out.now) (E.faults c.args.err.now)) c.complete.ensures))

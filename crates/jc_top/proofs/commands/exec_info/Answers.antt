@@ -1,0 +1,12 @@
+use Rattle.jc_work.specs.Seen.{texts_of}
+use Rattle.jc_exec_commands.specs.ExecInfo.{InfoAnswers}
+use Rattle.jc_top.proofs.CommandLaws.{completed}
+use Rattle.jc_top.proofs.commands.exec_info.Goals as goal
+
+pub returns : goal.returns
+returns g c =
+    let O = g.O.Sink in
+    let E = g.E.Sink in
+    let inputs = texts_of c.args.inputs.now in
+    completed g.F.Files.landed inputs (InfoAnswers inputs) _ _ _ _ _ _ c.prepare_exec_info-prepared.result c.complete.result
+    (c.prepare_exec_info-prepared.ensures (O.told c.args.out.now) (E.told c.args.err.now) (O.faults c.args.out.now) (E.faults c.args.err.now)) c.complete.ensures

@@ -1,5 +1,0 @@
-use Rattle.jc_top.proofs.WorkLaws.{done_or_nothing}
-use Rattle.jc_top.proofs.laws.a_command_that_refuses_has_written_nothing.Goals as goal
-
-pub returns : goal.returns
-returns c words steps end comes = done_or_nothing words steps end comes

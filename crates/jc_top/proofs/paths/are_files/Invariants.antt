@@ -1,9 +1,0 @@
-use Rattle.std.proofs.Common.{◌≡◌, true, take}
-use Rattle.std.specs.List.{list_all}
-use Rattle.jc_top.specs.Words.{is_file}
-use Rattle.jc_work.specs.Seen.{words_of}
-use Rattle.jc_top.proofs.paths.are_files.Given as goal
-
--- the words so far are such values
-abbrev pub invariant-testing : goal.invariant-testing
-invariant-testing l = list_all is_file (words_of (take l.word-index l.words)) ≡ true

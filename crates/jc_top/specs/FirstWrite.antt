@@ -1,0 +1,34 @@
+-- What is left by a command that reads and decides before it writes.
+use Rattle.std.specs.Prelude.{◌≡◌, ⊤, List, [], ◌++◌, map}
+use Rattle.jc_words.specs.Commands.{Called, instrument, run, merge, report, exec_info, class_info, cover, cover_sample, Means}
+use Rattle.jc_work.specs.Step.{Word, World, Landed, Write, Step, has_written, Fit}
+use Rattle.jc_work.specs.Part.{done, stops, Command}
+use Rattle.jc_work.specs.OneWay.{writes_of}
+use Rattle.jc_work.specs.Prefix.{IsFront}
+
+-- the command reads all of its inputs and decides what to write before it writes: `cover` alone reads back what it has written
+abbrev pub DecidesFirst : Called → Type 0
+DecidesFirst (instrument dest files) = ⊤
+DecidesFirst (run plan destfile workers files) = ⊤
+DecidesFirst (merge destfile inputs) = ⊤
+DecidesFirst (report csv name exec files) = ⊤
+DecidesFirst (exec_info inputs) = ⊤
+DecidesFirst (class_info files) = ⊤
+DecidesFirst (cover dest plan destfile csv workers name files) = ⊥
+DecidesFirst (cover_sample methods) = ⊤
+
+-- so does the command that the words call, if they call one
+abbrev pub DecideFirst : List Word → Type 0
+DecideFirst words = (command : Called) → Means words command → DecidesFirst command
+
+abbrev pub as_steps : List Write → List Step
+as_steps writes = map (λ w. has_written w) writes
+
+-- All inputs were read, in these steps, and these writes decided on. First ones of them were made, the last perhaps in part.
+pub record WritesBegun (landed : Landed) (command : Command) (old new : World) : Type 0 where
+  pub reads : List Step
+  pub writes : List Write
+  pub none : writes_of reads ≡ []
+  pub fit : Fit landed old reads
+  pub decided : command (reads ++ as_steps writes) (stops done)
+  pub front : IsFront landed old writes new
