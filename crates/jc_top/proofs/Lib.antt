@@ -4,3 +4,4 @@ pub mod WorkLaws
 pub mod BoundLaws
 pub mod RunLaws
 pub mod SampleLaws
+pub mod HeadlineLaws

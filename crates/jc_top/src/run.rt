@@ -7,6 +7,7 @@ ghost use Rattle.jc_words.specs.Words.{words_of};
 ghost use Rattle.jc_work.specs.Step.{world, counts};
 ghost use Rattle.jc_work.specs.Ending.{Ends};
 ghost use Rattle.jc_top.specs.Bounds.{IsBounded};
+ghost use Rattle.jc_top.specs.CoverHeadline.{KeepsHeadline};
 ghost use Rattle.jc_top.specs.Work.{work_of, the_work};
 
 use crate::commands::{class_info, cover, cover_sample, exec_info, instrument, merge, report, run};
@@ -95,8 +96,8 @@ fn run_command<R: Threads + Sync, F: Files, O: Sink, E: Sink, G: Gate + Sync>(
 /// - `cover --dest DIR --plan PLAN --destfile OUT --csv CSV [--workers N] [--name NAME] FILE..`, or `cover --sample N`
 ///
 /// where options stand in any order in front of the files, and a FILE that ends with `/` stands for the class files of the folder
-/// of that path. A command first lists the folders and reads its inputs, then refuses what is wrong with them, and then
-/// writes; `cover` alone reads back what it has written, and may refuse then. The first failure ends a command and decides the
+/// of that path. A command reads its plan or execution data, lists the folders and reads the files. Then it refuses
+/// what is wrong with them, and then writes; `cover` alone reads back what it has written, and may refuse then. The first failure ends a command and decides the
 /// status; its message goes to `err`, and a failure of that last message changes nothing. Want of memory prints no message.
 ///
 /// A class file that `instrument`, `report` or `cover` refuses is no failure. `report` begins its writes with a line on `err`
@@ -108,8 +109,14 @@ fn run_command<R: Threads + Sync, F: Files, O: Sink, E: Sink, G: Gate + Sync>(
 /// All of this is the work of the words, which the contract names: the calls that they ask for, one after the other, and the
 /// end. A run makes all of them, and says the message of the end; or first ones of them up to one that fails, whose count rose,
 /// and says that the file at its path couldn't be read or written, or, of `out` and `err`, that output couldn't be; or first
-/// ones of them until memory is refused, and then says nothing. What each status says, and what stands then, is in the laws of
-/// this crate.
+/// ones of them until memory is refused, and then says nothing [`work`]. What each status says, and what stands then, is in the
+/// laws of this crate.
+///
+/// Of `cover` the headline holds, where it is done and contents are told and read back as they were written [`headline`]: each
+/// case of the instrumented files prints and leaves what the originals give under its schedule without the turns of probes, the
+/// written data is the union of the probes passed, every reported instruction and branch was executed, or is, instructions
+/// alone, next in a stopped thread, and every refused class is copied unchanged. It is done exactly where its plan and class
+/// files fit, no call fails and memory isn't refused: see [`jc_cover_laws::each_fit_cover_is_done`].
 pub fn run_tool<R: Threads + Sync, F: Files, O: Sink, E: Sink, G: Gate + Sync>(
     rt: &R,
     alloc: Global,
@@ -124,6 +131,9 @@ pub fn run_tool<R: Threads + Sync, F: Files, O: Sink, E: Sink, G: Gate + Sync>(
         (world (F.contents files.new) (O.told out.new) (E.told err.new))
         (counts (F.read_faults files.old) (F.write_faults files.old) (O.faults out.old) (E.faults err.old))
         (counts (F.read_faults files.new) (F.write_faults files.new) (O.faults out.new) (E.faults err.new)) result }
+    ensures headline { KeepsHeadline F.landed (words_of words.now)
+        (world (F.contents files.old) (O.told out.old) (E.told err.old))
+        (world (F.contents files.new) (O.told out.new) (E.told err.new)) result }
 {
     match read_command(alloc, words) {
         Ok(command) => run_command(rt, alloc, files, out, err, gate, &command),

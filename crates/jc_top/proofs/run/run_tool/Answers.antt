@@ -1,20 +1,28 @@
 use Rattle.jc_words.specs.Words.{words_of}
 use Rattle.jc_words.specs.Seen.{command_seen}
 use Rattle.jc_top.proofs.CommandLaws.{called_ends, usage_ends, memory_ends}
+use Rattle.jc_top.proofs.HeadlineLaws.{keeps_headline}
 use Rattle.jc_top.specs.Work.{the_work}
 use Rattle.jc_top.proofs.run.run_tool.Goals as goal
 
 pub returns-in-Ok : goal.returns-in-Ok
-returns-in-Ok g c = record { work = called_ends g.F.Files.landed (words_of c.args.words.now) _ _ _ _ c.run_command.result (command_seen c.in-Ok.command) c.in-Ok.ensures.read c.run_command.ensures }
+returns-in-Ok g c =
+    let words = words_of c.args.words.now in
+    let ends = called_ends g.F.Files.landed words _ _ _ _ c.run_command.result (command_seen c.in-Ok.command) c.in-Ok.ensures.read c.run_command.ensures in
+    record { work = ends; headline = keeps_headline g.F.Files.landed words _ _ _ _ c.run_command.result ends }
 
 pub returns-in-Err-Memory : goal.returns-in-Err-Memory
-returns-in-Err-Memory g c = record { work = memory_ends g.F.Files.landed (the_work (words_of c.args.words.now)) _ _ }
+returns-in-Err-Memory g c =
+    let words = words_of c.args.words.now in
+    let ends = memory_ends g.F.Files.landed (the_work words) _ _ in
+    record { work = ends; headline = keeps_headline g.F.Files.landed words _ _ _ _ _ ends }
 
 pub returns-in-Err-Said : goal.returns-in-Err-Said
 returns-in-Err-Said g c =
     let F = g.F.Files in
     let O = g.O.Sink in
+    let words = words_of c.args.words.now in
     let none = rw c.in-Err-Said.field-0-is at c.in-Err-Said.ensures.read in
-    let ends = usage_ends F.landed (words_of c.args.words.now) _ _ _ _ c.report_usage.result none
+    let ends = usage_ends F.landed words _ _ _ _ c.report_usage.result none
     (c.report_usage.ensures (F.contents c.args.files.now) (O.told c.args.out.now) (F.read_faults c.args.files.now) (F.write_faults c.args.files.now) (O.faults c.args.out.now)) in
-    record { work = ends }
+    record { work = ends; headline = keeps_headline F.landed words _ _ _ _ c.report_usage.result ends }
