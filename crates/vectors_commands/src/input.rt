@@ -1,7 +1,7 @@
 //! Lines that set up a run: files and planned faults.
 
 use crate::setup::{Plan, Setup};
-use crate::spelling::{Wrong, number, numbers, spelled};
+use crate::spelling::{Wrong, lined, number, numbers, spelled};
 use jc_base::Fail;
 use std::alloc::Global;
 
@@ -86,6 +86,10 @@ pub fn answer<'a>(
         ["file", path, bytes @ ..] => {
             let bytes = spelled(alloc, bytes)?;
             Ok(setup.place(alloc, path, bytes)?)
+        }
+        ["lines", path, words @ ..] => {
+            let text = lined(alloc, words)?;
+            Ok(setup.place(alloc, path, text)?)
         }
         ["more", path, bytes @ ..] => extend(alloc, setup, path, bytes),
         ["replace", path, at, bytes @ ..] => replace(alloc, setup, path, at, bytes),
