@@ -84,7 +84,7 @@ impl Files for Forgetful {
 const RECORD: &[u8] = b"\x01\xc0\xc0\x10\x07\x11\0\0\0\0\0\0\0\x01\0\x01A\x03\x05";
 
 /// Words, which spaces part.
-fn words(alloc: Global, line: &str) -> Result<Vec<String>, AllocError> {
+pub fn words(alloc: Global, line: &str) -> Result<Vec<String>, AllocError> {
     let mut words = Vec::new(alloc);
     for word in line.split_whitespace() {
         words.push(String::from_str(alloc, word)?)?;

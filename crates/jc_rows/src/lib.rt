@@ -5,4 +5,6 @@
 #[cfg(test)]
 mod fakes;
 #[cfg(test)]
+mod kept;
+#[cfg(test)]
 mod real;
