@@ -11,4 +11,6 @@ mod runs;
 #[cfg(test)]
 mod told;
 #[cfg(test)]
+mod tool;
+#[cfg(test)]
 mod work;

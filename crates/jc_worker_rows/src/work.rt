@@ -44,7 +44,7 @@ const CASE: &str = "case\nthread C.inc\nschedule robin 22\n";
 const MOST: usize = 1_000_000;
 
 /// The class file.
-fn class_file(alloc: Global) -> Result<Bytes, Fail> {
+pub fn class_file(alloc: Global) -> Result<Bytes, Fail> {
     let mut bytes = Vec::new(alloc);
     for part in CLASS {
         bytes.extend_from_slice(&hex::decode(alloc, part)?)?;
@@ -73,7 +73,7 @@ pub fn program(rt: &impl Abort, alloc: Global) -> Result<Program, Fail>
 }
 
 /// The text of the plan.
-fn plan_text(alloc: Global) -> Result<String, AllocError> {
+pub fn plan_text(alloc: Global) -> Result<String, AllocError> {
     let mut text = String::new(alloc);
     for _ in 0..CASES {
         text.push_str(CASE)?;
