@@ -102,7 +102,9 @@ fn what_lands_is_what_the_files_say(rt: HostRuntime) -> Result<(), Fail> {
     let mut sink = MemorySink::new(alloc, &[])?;
     let mut out = MemorySink::new(alloc, &[])?;
     let words = words(alloc, "merge --destfile o a.exec")?;
-    let status = run_tool(&rt, alloc, &words, &mut files, &mut out, &mut sink, &OpenGate);
+    let status = run_tool(
+        &rt, alloc, &words, &mut files, &mut out, &mut sink, &OpenGate,
+    );
     let left = files.inner.get("o") == Some([].as_slice());
     assert!(rt; matches!(status, Status::Done) && left);
     Ok(())
