@@ -70,8 +70,12 @@ listed code x c =
       at = all_listed (IsAt l.place) (branches_of l.place l.item) x (all_at l.place (flow_of l.item) (targets_of l.item)) here;
     }
 
+-- the probe of such a branch stands at the branch's own instruction
+abbrev HasOwnPosition : Way → Type 0
+HasOwnPosition way = (at number : ℕ) → position_by way at number ≡ record { at = at; number = 1 + number }
+
 -- a sequence, or a branch whose probe stands at its own instruction
-way_cases : (way : Way) → ((to : ℕ) × (way ≡ Falls to)) ⊎ ((at number : ℕ) → position_by way at number ≡ record { at = at; number = 1 + number })
+way_cases : (way : Way) → ((to : ℕ) × (way ≡ Falls to)) ⊎ HasOwnPosition way
 way_cases (Falls to) = inl (to, refl)
 way_cases (Jumps to) = inr (λ at number. refl)
 way_cases (Switches to) = inr (λ at number. refl)
@@ -91,13 +95,13 @@ module _ (code : List Insn) where
       let t0 = t.0 in
       same_branch x y (omega (arith, e, i, j, s0, t0)) (s.1 ∙ sym t.1) (v ∙ ap Falls e ∙ sym w)
 
-  one_falls : (x y : Branch) (a : ℕ) → x.way ≡ Falls a → ((at number : ℕ) → position_by y.way at number ≡ record { at = at; number = 1 + number }) → position_of x ≡ position_of y → ⊥
+  one_falls : (x y : Branch) (a : ℕ) → x.way ≡ Falls a → HasOwnPosition y.way → position_of x ≡ position_of y → ⊥
   one_falls x y a v w p =
       let q : 0 ≡ 1 + y.number = ap (λ (z : Position). z.number) (sym (ap (λ (z : Way). position_by z x.at x.number) v) ∙ p ∙ w y.at y.number) in
       omega (arith, q)
 
-  both_own : (x y : Branch) (l : Listed code x) (m : Listed code y) → ((at number : ℕ) → position_by x.way at number ≡ record { at = at; number = 1 + number })
-      → ((at number : ℕ) → position_by y.way at number ≡ record { at = at; number = 1 + number }) → position_of x ≡ position_of y → x ≡ y
+  both_own : (x y : Branch) (l : Listed code x) (m : Listed code y) → HasOwnPosition x.way → HasOwnPosition y.way
+      → position_of x ≡ position_of y → x ≡ y
   both_own x y l m v w p =
       let q = sym (v x.at x.number) ∙ p ∙ w y.at y.number in
       let at : x.at ≡ y.at = ap (λ (z : Position). z.at) q in
@@ -171,7 +175,7 @@ module _ (b : Body) where
   own_is_probed (Switches to) h = h
   own_is_probed Exits h = h
 
-  own_position : (way : Way) → own_by b way ≡ true → (at number : ℕ) → position_by way at number ≡ record { at = at; number = 1 + number }
+  own_position : (way : Way) → own_by b way ≡ true → HasOwnPosition way
   own_position (Falls to) h at number = absurd cc
   own_position (Jumps to) h at number = refl
   own_position (Switches to) h at number = refl
@@ -228,6 +232,10 @@ module _ (b : Body) where
         count = before_next b i insn lt is ∙ sym e;
       }
 
+  -- how many ids come before that of the fall-through out of an instruction
+  abbrev in_front_of_next : ℕ → Insn → ℕ
+  in_front_of_next i insn = in_front b i + count_by (own b) (branches_of i insn)
+
   find : (i : ℕ) → i ≤ length b.code → (n : ℕ) → n < in_front b i → Found n
   find zero le n lt = absurd (omega (arith, lt))
   find (suc i) le n lt = here (get_some b.code i (omega arith)) (find i (omega arith) n)
@@ -251,8 +259,7 @@ module _ (b : Body) where
           (cases_lt n (in_front b i))
         where
           lead : (t : Bool) → is_probed_way b (Falls (i + 1)) ≡ t → i < length b.code → slice_get b.code i ≡ Some x
-              → in_front b i + count_by (own b) (branches_of i x) ≤ n
-              → n < in_front b i + count_by (own b) (branches_of i x) + one_if (is_probed_way b (Falls (i + 1))) → Found n
+              → in_front_of_next i x ≤ n → n < in_front_of_next i x + one_if (is_probed_way b (Falls (i + 1))) → Found n
           lead true probed inside stands le high = let a : one_if (is_probed_way b (Falls (i + 1))) ≡ 1 = ap one_if probed in found_lead i n x inside stands is probed (omega (arith, le, high, a))
           lead false probed inside stands le high = let a : one_if (is_probed_way b (Falls (i + 1))) ≡ 0 = ap one_if probed in absurd (omega (arith, le, high, a))
 

@@ -10,7 +10,7 @@ ghost use Rattle.jc_plan.specs.declared.branch.Branch.{Branch};
 ghost use Rattle.jc_plan.specs.Edges.{place_of, branches, branches_of};
 ghost use Rattle.jc_plan.specs.Chosen.{Outcome, condition, chosen, onward};
 ghost use Rattle.jc_plan.specs.ClassEdges.{ClassEdge, HasId};
-ghost use Rattle.jc_plan.specs.Probed.{probe_of, first_id, id_of, is_probed};
+ghost use Rattle.jc_plan.specs.Probed.{probe_of, first_id, id_of, is_probed, IsUsed};
 ghost use Rattle.jc_plan.specs.Leading.{LeadsTo, IsOneWay};
 ghost use Rattle.jc_plan.specs.Analysed.{IsAnalysed};
 ghost use Rattle.jc_plan.specs.Plan.{plan_of};
@@ -23,10 +23,8 @@ pub fn each_id_is_of_one_edge()
 
 /// No two bodies of a class have a probe of one id. `m` and `n` are the numbers of the bodies.
 pub fn each_id_is_of_one_body()
-    ensures { (bodies : List Body) (m n : ℕ) (b c : Body) (x y : Branch) → slice_get bodies m ≡ Some b
-        → slice_get bodies n ≡ Some c → Contains (branches b.code) x → Contains (branches c.code) y
-        → IsTrue (is_probed b x) → IsTrue (is_probed c y)
-        → id_of b (first_id bodies m) x ≡ id_of c (first_id bodies n) y → m ≡ n }
+    ensures { (bodies : List Body) (m n id : ℕ) (b c : Body) → slice_get bodies m ≡ Some b → slice_get bodies n ≡ Some c
+        → IsUsed b (first_id bodies m) id → IsUsed c (first_id bodies n) id → m ≡ n }
 {}
 
 /// How a turn at an instruction comes out chooses one of its branches [`listed`], which leads where control goes on
