@@ -298,6 +298,14 @@ module _ (b : Body) (first : ℕ) (wide : Bool) (is_code : IsCode b.code) where
 
   -- ---- switches
 
+  -- what stands at the arm places of these branches
+  abbrev arms_of : List Branch → List Item
+  arms_of xs = arm_parts land (probe_of b first) xs
+
+  -- each leads to an instruction of the body
+  abbrev AreWithin : List Branch → Type 0
+  AreWithin xs = (x : Branch) → Contains xs x → to_of x < length b.code
+
   pub listed_within : (i : ℕ) → i < length b.code → (x : Branch) → Contains (branches_by flows.Switches i (targets_of (old i))) x
       → to_of x < length b.code
   listed_within i lt x c =
@@ -309,8 +317,7 @@ module _ (b : Body) (first : ℕ) (wide : Bool) (is_code : IsCode b.code) where
   arm_lands here x (Some id) h lt = late_lands here id (to_of x) h.0
 
   pub arms_land : (i : ℕ) (whole : ℕ → ℕ) (here : ℕ) (xs : List Branch) → Arms i xs → Agrees ids land whole here xs
-      → HasAt items here (arm_parts land (probe_of b first) xs)
-      → ((x : Branch) → Contains xs x → to_of x < length b.code) → (x : Branch) → Contains xs x → In (whole (to_of x)) (to_of x) (ids x)
+      → HasAt items here (arms_of xs) → AreWithin xs → (x : Branch) → Contains xs x → In (whole (to_of x)) (to_of x) (ids x)
   arms_land i whole here [] arms a h within x c = absurd (none_in x c)
   arms_land i whole here (y ∷ xs) arms a h within x c =
       let part = hop_part land (probe_of b first y) (to_of y) in
@@ -325,9 +332,8 @@ module _ (b : Body) (first : ℕ) (wide : Bool) (is_code : IsCode b.code) where
       (λ z d. within z (later_in y xs z d)) x later)
       (which_in y xs x c)
 
-  arms_fine : (here : ℕ) (xs : List Branch) → HasAt items here (arm_parts land (probe_of b first) xs)
-      → ((x : Branch) → Contains xs x → to_of x < length b.code)
-      → ((x : Branch) (id : ℕ) → Contains xs x → ids x ≡ Some id → To id (to_of x)) → Each Fine here (arm_parts land (probe_of b first) xs)
+  arms_fine : (here : ℕ) (xs : List Branch) → HasAt items here (arms_of xs) → AreWithin xs
+      → ((x : Branch) (id : ℕ) → Contains xs x → ids x ≡ Some id → To id (to_of x)) → Each Fine here (arms_of xs)
   arms_fine here [] h within edges = tt
   arms_fine here (x ∷ xs) h within edges =
       let o = hop_part land (probe_of b first x) (to_of x) in
@@ -344,9 +350,13 @@ module _ (b : Body) (first : ℕ) (wide : Bool) (is_code : IsCode b.code) where
 
   -- ---- images
 
+  -- the image of an instruction of this flow is what it should be
+  abbrev FineImage : (q i : ℕ) → Insn → Flow → Type 0
+  FineImage q i new flow = OkImage b.code (Some b.arg_slots) (probe_of b first) items q i (old i) new flow
+
   image_fine : (q i : ℕ) (new : Insn) (early : Option ℕ) (flow : Flow) → i < length b.code → flow_of (old i) ≡ flow
       → early ≡ early_by (probe_of b first) i (old i) flow
-      → OkImage b.code (Some b.arg_slots) (probe_of b first) items q i (old i) new flow → Fine q (image new i early)
+      → FineImage q i new flow → Fine q (image new i early)
   image_fine q i new early flow lt e h ok =
       (lt, h ∙ sym (ap (early_by (probe_of b first) i (old i)) e), subst (OkImage b.code (Some b.arg_slots) (probe_of b first) items q i (old i) new) (sym e) ok)
 
@@ -354,10 +364,21 @@ module _ (b : Body) (first : ℕ) (wide : Bool) (is_code : IsCode b.code) where
       → behind_size b first wide i ≡ wide_by flows.Branches wide + hop_size o + 0
   behind_tests i o e h = size_tests b first wide i e ∙ ap (λ p. wide_by flows.Branches wide + hop_size p + 0) h
 
+  -- a conditional jump without a probe, and one with a probe
+  abbrev plain_test : Bool → ℕ → List Item
+  plain_test w i = test_part w (q_of i) (with_places land (old i)) i (jump_target (old i)) None
+
+  abbrev probed_test : Bool → (i id : ℕ) → List Item
+  probed_test w i id =
+      test_part w (q_of i) (inverted (lead (i + 1)) (old i)) i (i + 1) (lead_probe b first (i + 1))
+      ++ hop_part land (Some id) (jump_target (old i))
+
+  -- where these items stand at q, each of them is what it should be
+  abbrev AreFineAt : ℕ → List Item → Type 0
+  AreFineAt q xs = HasAt items q xs → Each Fine q xs
+
   plain_fine : (w : Bool) (i : ℕ) → i < length b.code → (e : flow_of (old i) ≡ flows.Branches) → late_probe b first i ≡ None
-      → behind_size b first wide i ≡ wide_by flows.Branches w + 0 + 0
-      → HasAt items (q_of i) (test_part w (q_of i) (with_places land (old i)) i (jump_target (old i)) None)
-      → Each Fine (q_of i) (test_part w (q_of i) (with_places land (old i)) i (jump_target (old i)) None)
+      → behind_size b first wide i ≡ wide_by flows.Branches w + 0 + 0 → AreFineAt (q_of i) (plain_test w i)
   plain_fine false i lt e none size h =
       let to = jump_target (old i) in
       let within = target_within i lt (tests_target (old i) e) in
@@ -379,8 +400,7 @@ module _ (b : Body) (first : ℕ) (wide : Bool) (is_code : IsCode b.code) where
       )
 
   probed_fine : (w : Bool) (i id : ℕ) → i < length b.code → (e : flow_of (old i) ≡ flows.Branches) → late_probe b first i ≡ Some id
-      → HasAt items (q_of i) (test_part w (q_of i) (inverted (lead (i + 1)) (old i)) i (i + 1) (lead_probe b first (i + 1)) ++ hop_part land (Some id) (jump_target (old i)))
-      → Each Fine (q_of i) (test_part w (q_of i) (inverted (lead (i + 1)) (old i)) i (i + 1) (lead_probe b first (i + 1)) ++ hop_part land (Some id) (jump_target (old i)))
+      → AreFineAt (q_of i) (probed_test w i id)
   probed_fine false i id lt e some h =
       let to = jump_target (old i) in
       let within = target_within i lt (tests_target (old i) e) in
@@ -424,7 +444,7 @@ module _ (b : Body) (first : ℕ) (wide : Bool) (is_code : IsCode b.code) where
       (image_fine (q_of i) i _ (early_probe b first i) flows.Jumps lt e (ap (early_by (probe_of b first) i (old i)) e) alike, tt)
   main_fine i flows.Switches lt e h =
       let list = arms_is b first wide 0 is_code i e in
-      let within : (x : Branch) → Contains (arms_at b.code i) x → to_of x < length b.code = λ x c. listed_within i lt x (subst (λ l. Contains l x) list c) in
+      let within : AreWithin (arms_at b.code i) = λ x c. listed_within i lt x (subst (λ l. Contains l x) list c) in
       let alike : Switches i (with_places (arm_place (probe_of b first) land (q_of i + 1) (arms_at b.code i)) (old i)) = record {
         place = arm_place (probe_of b first) land (q_of i + 1) (arms_at b.code i);
         same = refl;

@@ -4,7 +4,6 @@ use Rattle.std.proofs.lemmas.Bool.{cases_lt}
 use Rattle.std.proofs.lemmas.List.{length-map, get_or_past}
 use Rattle.jc_bytes.specs.PlainLists.{pieces, total}
 use Rattle.jc_methods.specs.Flow.{flow_of}
-use Rattle.jc_methods.specs.VerificationTypes.{Names}
 use Rattle.jc_methods.specs.Insn.{with_places}
 use Rattle.jc_methods.specs.WellMade.{IsWellMadeOfAnySize}
 use Rattle.jc_methods.specs.declared.insn.Insn.{Insn}
@@ -12,13 +11,13 @@ use Rattle.jc_methods.specs.declared.insn.Insn.TheVariants as insns
 use Rattle.jc_methods.specs.declared.insn.Flow.{Flow}
 use Rattle.jc_methods.specs.declared.insn.Flow.TheVariants as flows
 use Rattle.jc_methods.specs.declared.body.Body.{Body}
-use Rattle.jc_methods.specs.declared.kind.State.{State}
 use Rattle.jc_plan.specs.Probed.{probe_of}
 use Rattle.jc_plan.specs.Plan.{lead_probe}
 use Rattle.jc_emit.specs.Sizes.{insn_at, early_probe, arms_at, probe_size, wide_by}
+use Rattle.jc_emit.specs.Marks.{Marks}
 use Rattle.jc_emit.specs.TwinCode.{arm_place}
 use Rattle.jc_emit.specs.Items.{image, insn_of, marks_of_items, prelude, lead_part, early_part, arm_parts, segment_size, land_of, image_of, image_part, segment, twin_items}
-use Rattle.jc_emit.specs.Twin.{Twin}
+use Rattle.jc_emit.specs.Twin.{AreTwinMarks}
 use Rattle.jc_emit.proofs.BuiltLaws.{length_twin}
 use Rattle.jc_emit.proofs.KnownLaws.{code_known, marks_known}
 
@@ -105,10 +104,14 @@ module _ (b : Body) (first : ℕ) where
   one_items false true code call other e f = sym (both_layouts code other call f e)
   one_items false false code call other e f = refl
 
-pub one_marks : (names new_names others new_others : Names) (states other_states : List State) (first : ℕ) (b b' : Body) → IsWellMadeOfAnySize b
-    → (t : Twin names new_names states first b b') (u : Twin others new_others other_states first b b') → t.marks ≡ u.marks
-one_marks names new_names others new_others states other_states first b b' well t u =
-    marks_known b first t.wide t.call b'.code t.marks well.code t.code
+pub one_marks : (first : ℕ) (b b' : Body) (m n : Marks) → IsWellMadeOfAnySize b → AreTwinMarks first b b' m → AreTwinMarks first b b' n
+    → m ≡ n
+one_marks first b b' m n well of_one of_other =
+    let t = of_one.twin in
+    let u = of_other.twin in
+    of_one.marks
+    ∙ marks_known b first t.wide t.call b'.code t.marks well.code t.code
     ∙ ap marks_of_items
     (one_items b first t.wide u.wide b'.code t.call u.call (code_known b first t.wide t.call b'.code t.marks well.code t.code) (code_known b first u.wide u.call b'.code u.marks well.code u.code))
     ∙ sym (marks_known b first u.wide u.call b'.code u.marks well.code u.code)
+    ∙ sym of_other.marks

@@ -13,6 +13,7 @@ use Rattle.jc_methods.specs.declared.body.Body.{Body}
 use Rattle.jc_bytes.proofs.FirstSeenLaws.{contains_one}
 use Rattle.jc_bytes.proofs.BooleanLaws.{none_in, which_in}
 use Rattle.jc_plan.specs.declared.branch.Branch.{Branch}
+use Rattle.jc_plan.specs.declared.branch.Way.{Way}
 use Rattle.jc_plan.specs.Edges.{sequence, jump, exit, branches_by}
 use Rattle.jc_plan.specs.Probed.{probe_of, id_if, is_probed, id_of}
 use Rattle.jc_plan.proofs.OneIdLaws.{one_edge}
@@ -69,8 +70,12 @@ module _ (b : Body) (first : ℕ) (wide : Bool) (code : List Insn) (m : Marks) (
   hop_goto : (q to : ℕ) → HasHop b first wide code m image land lead q to → IsGoto q
   hop_goto q to h = (land to, h.insn_is)
 
+  -- the arm places of these branches stand there
+  abbrev HasArmsAt : ℕ → List Branch → Type 0
+  HasArmsAt here xs = HasArms b first wide code m image land lead here xs
+
   arms_goto : (i : ℕ) (whole : ℕ → ℕ) (here : ℕ) (xs : List Branch) → Arms i xs → Agrees (probe_of b first) land whole here xs
-      → HasArms b first wide code m image land lead here xs → (x : Branch) (id : ℕ) → Contains xs x → probe_of b first x ≡ Some id
+      → HasArmsAt here xs → (x : Branch) (id : ℕ) → Contains xs x → probe_of b first x ≡ Some id
       → IsGoto (whole (to_of x) + 4)
   arms_goto i whole here [] arms a h x id c some = absurd (none_in x c)
   arms_goto i whole here (y ∷ xs) arms a h x id c some =
@@ -84,39 +89,45 @@ module _ (b : Body) (first : ℕ) (wide : Bool) (code : List Insn) (m : Marks) (
       arms_goto i whole (here + hop_size (probe_of b first y)) xs arms.3 (agrees_rest (probe_of b first) land whole here y xs arms.0 a) h.1 x id later some)
       (which_in y xs x c)
 
+  -- the probe of such a branch has a goto behind it
+  abbrev HasGoto : Way → Flow → Type 0
+  HasGoto way flow = HasGotoBehind b first wide code m image land lead way flow
+
+  abbrev place_by : Way → Flow → ℕ → ℕ
+  place_by way flow i = probe_place_by b first wide code m image land lead way flow i
+
   -- the goto behind a probe that has one
   edge_goto : (i : ℕ) (flow : Flow) (x : Branch) (id : ℕ) → i < length b.code → flow_of (old i) ≡ flow
-      → Contains (branches_by flow i (targets_of (old i))) x → probe_of b first x ≡ Some id
-      → HasGotoBehind b first wide code m image land lead x.way flow
-      → IsGoto (probe_place_by b first wide code m image land lead x.way flow i + 4)
+      → Contains (branches_by flow i (targets_of (old i))) x → probe_of b first x ≡ Some id → HasGoto x.way flow
+      → IsGoto (place_by x.way flow i + 4)
   edge_goto i flows.GoesOn x id lt e c some behind =
-      absurd (subst (λ z. HasGotoBehind b first wide code m image land lead z.way flows.GoesOn) (sym (contains_one (sequence i) x c)) behind)
+      absurd (subst (λ z. HasGoto z.way flows.GoesOn) (sym (contains_one (sequence i) x c)) behind)
   edge_goto i flows.Branches x id lt e c some behind =
       ⊎_elim
-      (λ same. absurd (subst (λ z. HasGotoBehind b first wide code m image land lead z.way flows.Branches) (sym same) behind))
+      (λ same. absurd (subst (λ z. HasGoto z.way flows.Branches) (sym same) behind))
       (λ later.
       let one = subst (λ ts. Contains (map (jump i) ts) x) (tests_target (old i) e) later in
       let same = contains_one (jump i (jump_target (old i))) x one in
       let late : late_probe b first i ≡ Some id = ap (late_by (probe_of b first) i (old i)) e ∙ ap (probe_of b first) same ∙ some in
-      subst (λ z. IsGoto (probe_place_by b first wide code m image land lead z.way flows.Branches i + 4)) same
+      subst (λ z. IsGoto (place_by z.way flows.Branches i + 4)) same
       (hop_goto _ (jump_target (old i)) (s.jumps.hops i id (lt, e) late)))
       (which_in (sequence i) (map (jump i) (targets_of (old i))) x c)
   edge_goto i flows.Jumps x id lt e c some behind =
       let one = subst (λ ts. Contains (map (jump i) ts) x) (jumps_target (old i) e) c in
       let same = contains_one (jump i (jump_target (old i))) x one in
-      absurd (subst (λ z. HasGotoBehind b first wide code m image land lead z.way flows.Jumps) (sym same) behind)
+      absurd (subst (λ z. HasGoto z.way flows.Jumps) (sym same) behind)
   edge_goto i flows.Switches x id lt e c some behind =
       let arms = arms_by_list b i in
       let listed : Contains (arms_at b.code i) x = subst (λ f. Contains (arms_by i (old i) f) x) (sym e) (subst (λ f. Contains (branches_by f i (targets_of (old i))) x) (sym e) c) in
       let way = arm_way i (arms_at b.code i) arms x listed in
-      subst (λ w. IsGoto (probe_place_by b first wide code m image land lead w flows.Switches i + 4)) (sym way)
+      subst (λ w. IsGoto (place_by w flows.Switches i + 4)) (sym way)
       (arms_goto i (arm b first wide code m image land lead i) (image i + 1) (arms_at b.code i) arms (λ y d. refl) (s.switches.arms i (lt, e)) x id listed some)
   edge_goto i flows.Returns x id lt e c some behind =
-      absurd (subst (λ z. HasGotoBehind b first wide code m image land lead z.way flows.Returns) (sym (contains_one (exit i) x c)) behind)
+      absurd (subst (λ z. HasGoto z.way flows.Returns) (sym (contains_one (exit i) x c)) behind)
   edge_goto i flows.Throws x id lt e c some behind =
-      absurd (subst (λ z. HasGotoBehind b first wide code m image land lead z.way flows.Throws) (sym (contains_one (exit i) x c)) behind)
+      absurd (subst (λ z. HasGoto z.way flows.Throws) (sym (contains_one (exit i) x c)) behind)
 
-  behind_edge : (e : Edge) → HasGotoBehind b first wide code m image land lead e.branch.way (flow_of (old e.branch.at))
+  behind_edge : (e : Edge) → HasGoto e.branch.way (flow_of (old e.branch.at))
       → IsGoto (place e.branch + 4)
   behind_edge e behind =
       let a = at_found b first wide call is_code e.branch e.listed in

@@ -175,9 +175,9 @@ module _ (p p' : Program) (t : TwinProgram p p') where
       → IsSeenTwin p.names p'.names class new number b b' m ⊎ IsSeenSame p.names p'.names class new b b' m
       → IsSeenTwin p.names p'.names class new number b b' n ⊎ IsSeenSame p.names p'.names class new b b' n → m ≡ n
   marks_alike number class new b b' m n well (inl x) (inl y) =
-      x.marks
-      ∙ one_marks p.names p'.names p.names p'.names x.twin.states y.twin.states (first_id class.bodies number) b b' well x.twin.twin y.twin.twin
-      ∙ sym y.marks
+      one_marks (first_id class.bodies number) b b' m n well
+      (record { names = p.names; new_names = p'.names; states = x.twin.states; twin = x.twin.twin; marks = x.marks })
+      (record { names = p.names; new_names = p'.names; states = y.twin.states; twin = y.twin.twin; marks = y.marks })
   marks_alike number class new b b' m n well (inl x) (inr y) = absurd (not_both class new x.pair y.pair)
   marks_alike number class new b b' m n well (inr x) (inl y) = absurd (not_both class new y.pair x.pair)
   marks_alike number class new b b' m n well (inr x) (inr y) = x.marks ∙ sym y.marks

@@ -1,19 +1,17 @@
 -- Each well made body has a twin.
-use Rattle.std.proofs.Common.{◌≡◌, ℕ, Bool, true, false, List, [], ◌∷◌, length, Some, None, nat_eq, if◌then◌else◌, refl, sym, ap, ◌∙◌}
+use Rattle.std.proofs.Common.{◌≡◌, ℕ, Bool, true, false, List, ◌∷◌, length, Some, None, nat_eq, if◌then◌else◌, refl, sym, ap, ◌∙◌}
 use Rattle.std.proofs.lemmas.Option.{none-some}
 use Rattle.std.proofs.lemmas.Bool.{eq-eqb, eqb-true}
-use Rattle.std.specs.Prelude.{Contains, slice_index_or}
 use Rattle.jc_bytes.specs.PlainLists.{pieces}
+use Rattle.jc_methods.specs.VerificationTypes.{Names}
 use Rattle.jc_methods.specs.WellMade.{IsWellMadeOfAnySize, what_used}
 use Rattle.jc_methods.specs.declared.kind.State.{State}
 use Rattle.jc_methods.specs.declared.body.Body.{Body}
-use Rattle.jc_methods.specs.declared.body.FrameAt.{FrameAt}
 use Rattle.jc_methods.specs.declared.body.Use.{Use}
 use Rattle.jc_methods.specs.declared.body.What.{What}
-use Rattle.jc_emit.specs.Shift.{probe_array_class}
-use Rattle.jc_emit.specs.TwinFrames.{state_at, IsFrame, AreTwinFrames}
+use Rattle.jc_emit.specs.TwinFrames.{IsFrame, AreTwinFrames}
 use Rattle.jc_emit.specs.Items.{marks_of_items, twin_items}
-use Rattle.jc_emit.specs.Emission.{frames_at, emission}
+use Rattle.jc_emit.specs.Emission.{frames_at, emission, HasFrameStates, IsArrayNumber}
 use Rattle.jc_emit.specs.Twin.{probe_init, Twin}
 use Rattle.jc_emit.specs.TwinBody.{call_use, twin_body}
 use Rattle.jc_emit.proofs.WholeLaws.{code_told}
@@ -34,22 +32,22 @@ module _ (b : Body) (call : ℕ) (fresh : what_used b.uses call ≡ None) where
       by true same = absurd (none-some _ (sym (ap (what_used b.uses) (sym (eqb-true call place same)) ∙ fresh) ∙ used))
       by false other = used
 
-pub has_twin : (b : Body) (first : ℕ) (states : List State) (array call : ℕ) (names : List (List ℕ)) → IsWellMadeOfAnySize b
-    → ((f : FrameAt) → Contains b.frames f → state_at states f.at ≡ f.state) → slice_index_or names array ([]) ≡ probe_array_class
-    → what_used b.uses call ≡ None → Twin names names states first b (twin_body b first states array call)
-unfolding twin_body emission
-has_twin b first states array call names well fit named fresh = record {
-  marks = marks_of_items (twin_items b first false);
-  wide = false;
-  call = call;
-  method = record { method = refl; owner = refl; name = refl; desc = refl; flags = refl; arg_slots = refl };
-  calls = calls b call fresh;
-  uses = keeps b call fresh;
-  code = code_told b first false call well.code;
-  tables = tables b first states array names well fit named;
-  frames =
-      at_own b first states array names well fit named (λ image land lead. AreTwinFrames names names b.arg_slots image (IsFrame b first states image land lead false) (pieces (frames_at b first states array) (length b.code)))
-      (layout_told b first states array names well.code well.frames fit named);
-  max_stack = refl;
-  max_locals = refl;
-}
+module _ (b : Body) (first : ℕ) (states : List State) (array call : ℕ) (names : Names) where
+  pub has_twin : IsWellMadeOfAnySize b → HasFrameStates b states → IsArrayNumber names array → what_used b.uses call ≡ None
+      → Twin names names states first b (twin_body b first states array call)
+  unfolding twin_body emission
+  has_twin well fit named fresh = record {
+    marks = marks_of_items (twin_items b first false);
+    wide = false;
+    call = call;
+    method = record { method = refl; owner = refl; name = refl; desc = refl; flags = refl; arg_slots = refl };
+    calls = calls b call fresh;
+    uses = keeps b call fresh;
+    code = code_told b first false call well.code;
+    tables = tables b first states array names well fit named;
+    frames =
+        at_own b first states array names well fit named (λ image land lead. AreTwinFrames names names b.arg_slots image (IsFrame b first states image land lead false) (pieces (frames_at b first states array) (length b.code)))
+        (layout_told b first states array names well.code well.frames fit named);
+    max_stack = refl;
+    max_locals = refl;
+  }

@@ -260,9 +260,18 @@ module _ (b : Body) (first : ℕ) (states : List State) (array : ℕ) (names : L
       (subst (λ f. P (image_of b first false) f (lead_place b first (own_list b first))) (sym lands)
       (subst (λ f. P f (land_place b first (own_list b first)) (lead_place b first (own_list b first))) (sym images) h))
 
-  pub tables : AreMovedTables b (lead_place b first (own_list b first)) (land_place b first (own_list b first)) (map (moved_row (lead_of b first false) (land_of b first false)) b.handlers) (map (moved_line (land_of b first false)) b.lines) (map (moved_var b.arg_slots (land_of b first false)) b.vars) (map (moved_var b.arg_slots (land_of b first false)) b.kind_vars)
+  -- the tables that the function gives are moved to these places
+  abbrev AreTablesAt : (lead land : ℕ → ℕ) → Type 0
+  AreTablesAt lead land =
+      AreMovedTables b lead land
+      (map (moved_row (lead_of b first false) (land_of b first false)) b.handlers)
+      (map (moved_line (land_of b first false)) b.lines)
+      (map (moved_var b.arg_slots (land_of b first false)) b.vars)
+      (map (moved_var b.arg_slots (land_of b first false)) b.kind_vars)
+
+  pub tables : AreTablesAt (lead_place b first (own_list b first)) (land_place b first (own_list b first))
   tables =
-      at_own (λ image land lead. AreMovedTables b lead land (map (moved_row (lead_of b first false) (land_of b first false)) b.handlers) (map (moved_line (land_of b first false)) b.lines) (map (moved_var b.arg_slots (land_of b first false)) b.vars) (map (moved_var b.arg_slots (land_of b first false)) b.kind_vars))
+      at_own (λ image land lead. AreTablesAt lead land)
       (record { handlers_are = refl; lines_are = refl; vars_are = refl; kind_vars_are = refl })
 
   pub emitted : IsEmitted names names states first b (emission b first states array)

@@ -1,11 +1,11 @@
 -- The frames of the wide layout are those of a twin.
-use Rattle.std.proofs.Common.{◌≡◌, ◌⊎◌, inl, inr, ⊎_elim, ℕ, ◌+◌, ◌-◌, ◌<◌, true, false, ◌&&◌, List, [], ◌∷◌, map, length, Option, Some, None, refl, sym, ap, ap₂, ◌∙◌, subst, arith, add-one}
+use Rattle.std.proofs.Common.{◌≡◌, ◌⊎◌, inl, inr, ⊎_elim, ℕ, ◌+◌, ◌-◌, ◌<◌, true, false, ◌&&◌, List, [], ◌∷◌, map, length, Bool, Option, Some, None, refl, sym, ap, ap₂, ◌∙◌, subst, arith, add-one}
 use Rattle.std.specs.Prelude.{Contains, insert, is_none, slice_index_or}
 use Rattle.std.proofs.lemmas.Bool.{and_parts, or_left, cases_Bool, cases_lt, not-false}
 use Rattle.jc_bytes.specs.PlainLists.{pieces}
 use Rattle.jc_methods.specs.Flow.{flow_of}
 use Rattle.jc_methods.specs.WellMade.{IsCode, AreFramesFrom, IsWellMadeOfAnySize}
-use Rattle.jc_methods.specs.VerificationTypes.{VerificationType, verification_type, type_state, object, uninit, top, int, float, double, long, null, uninit_this}
+use Rattle.jc_methods.specs.VerificationTypes.{Names, VerificationType, verification_type, type_state, object, uninit, top, int, float, double, long, null, uninit_this}
 use Rattle.jc_methods.specs.declared.kind.State.{State}
 use Rattle.jc_methods.specs.declared.body.Body.{Body}
 use Rattle.jc_methods.specs.declared.body.FrameAt.{FrameAt}
@@ -21,7 +21,7 @@ use Rattle.jc_emit.specs.Sizes.{insn_at, late_probe, early_probe, arms_by, arms_
 use Rattle.jc_emit.specs.TwinCode.{to_of, arm_place}
 use Rattle.jc_emit.specs.TwinFrames.{state_at, state_behind, IsNarrowFrame, IsFrame, AreTwinFrames}
 use Rattle.jc_emit.specs.Items.{image_part, insn_of, lead_of, land_of, image_of, twin_items}
-use Rattle.jc_emit.specs.Emission.{has_frame, has_inverse, is_further, frames_at, wide_frames_at, emission, widened_state, widened_frame, AreWidened}
+use Rattle.jc_emit.specs.Emission.{has_frame, has_inverse, is_further, frames_at, wide_frames_at, emission, widened_state, widened_frame, HasFrameStates, IsArrayNumber, AreFramesInLayout, AreWidened}
 use Rattle.jc_emit.proofs.BuiltLaws.{sized}
 use Rattle.jc_emit.proofs.EndsLaws.{image_past}
 use Rattle.jc_emit.proofs.LocalLaws.{next_within}
@@ -49,10 +49,13 @@ images_twice : (g f : ℕ → ℕ) (xs : List VerificationType) → map (renamed
 images_twice g f [] = refl
 images_twice g f (x ∷ xs) = λ k. image_twice g f x k ∷ images_twice g f xs k
 
+-- the first state is the shifted form of the second one, by the names of classes
+abbrev IsShifted : Names → (v : ℕ) → (image : ℕ → ℕ) → (state s : State) → Type 0
+IsShifted names v image state s = type_state names state ≡ shifted image v (type_state names s)
+
 -- the state of a frame in the wide code
-seen_widened : (names : List (List ℕ)) (v : ℕ) (place image wide : ℕ → ℕ) (state s : State) → (λ i. place (image i)) ≡ wide
-    → type_state names state ≡ shifted image v (type_state names s)
-    → type_state names (widened_state place state) ≡ shifted wide v (type_state names s)
+seen_widened : (names : Names) (v : ℕ) (place image wide : ℕ → ℕ) (state s : State) → (λ i. place (image i)) ≡ wide
+    → IsShifted names v image state s → IsShifted names v wide (widened_state place state) s
 seen_widened names v place image wide state s e h =
     let locals : map (verification_type names) state.locals ≡ insert (map (renamed image) (map (verification_type names) s.locals)) v (object probe_array_class) = ap (λ x. x.locals) h in
     let stack : map (verification_type names) state.stack ≡ map (renamed image) (map (verification_type names) s.stack) = ap (λ x. x.stack) h in
@@ -120,8 +123,11 @@ module _ (b : Body) (first : ℕ) (states : List State) (array : ℕ) (names : L
   abbrev Wide : ℕ → State → Type 0
   Wide q s = IsFrame b first states (image_of b first true) (land_of b first true) (lead_of b first true) true q s
 
-  arm_is : (i : ℕ) → i < n → flow_of (insn_at b.code i) ≡ flows.Switches → (to : ℕ)
-      → P (arm_place (probe_of b first) (land_of b first false) (image_of b first false i + 1) (arms_at b.code i) to) ≡ arm_place (probe_of b first) (land_of b first true) (image_of b first true i + 1) (arms_at b.code i) to
+  -- the arm place of a target of the switch, in either layout
+  abbrev arm_in : Bool → (i to : ℕ) → ℕ
+  arm_in wide i to = arm_place (probe_of b first) (land_of b first wide) (image_of b first wide i + 1) (arms_at b.code i) to
+
+  arm_is : (i : ℕ) → i < n → flow_of (insn_at b.code i) ≡ flows.Switches → (to : ℕ) → P (arm_in false i to) ≡ arm_in true i to
   arm_is i lt e to =
       let z : image_of b first false i + 1 ≡ image_of b first false i + 1 + 0 = omega arith in
       let y : image_of b first true i + 1 + 0 ≡ image_of b first true i + 1 = omega arith in
@@ -174,7 +180,7 @@ module _ (b : Body) (first : ℕ) (states : List State) (array : ℕ) (names : L
     is = lead_is b first 0 is_code (o.test + 1) ∙ sym o.place;
   }
   to_narrow q s (inr (inr o)) = record {
-    place = arm_place (probe_of b first) (land_of b first false) (image_of b first false o.switch + 1) (arms_at b.code o.switch) (to_of o.branch);
+    place = arm_in false o.switch (to_of o.branch);
     asked = inr (inr (record { switch = o.switch; branch = o.branch; id = o.id; within = o.within; listed = o.listed; probed = o.probed; place = refl; state_is = o.state_is }));
     is = arm_is o.switch o.within (arms_switch o.switch o.branch o.listed) (to_of o.branch) ∙ sym o.place;
   }
@@ -257,10 +263,9 @@ module _ (b : Body) (first : ℕ) (states : List State) (array : ℕ) (names : L
     pub wide_told : RiseFrom 0 frames → AreTwinFrames names names b.arg_slots (image_of b first true) Wide frames
     wide_told rising = record { rising = rising; each = wide_each; every = wide_every }
 
-pub widened_frames : (b : Body) (first : ℕ) (states : List State) (array : ℕ) (names : List (List ℕ)) → IsWellMadeOfAnySize b
-    → ((f : FrameAt) → Contains b.frames f → state_at states f.at ≡ f.state) → slice_index_or names array ([]) ≡ probe_array_class
-    → (frames : List FrameAt) → AreWidened (emission b first states array) frames
-    → AreTwinFrames names names b.arg_slots (image_of b first true) (IsFrame b first states (image_of b first true) (land_of b first true) (lead_of b first true) true) frames
-unfolding emission twin_items
-widened_frames b first states array names well fit named frames w =
-    wide_told b first states array names well.code well.frames fit named frames w.each w.every w.rising
+module _ (b : Body) (first : ℕ) (states : List State) (array : ℕ) (names : Names) where
+  pub widened_frames : IsWellMadeOfAnySize b → HasFrameStates b states → IsArrayNumber names array
+      → (frames : List FrameAt) → AreWidened (emission b first states array) frames → AreFramesInLayout names states first b true frames
+  unfolding emission twin_items
+  widened_frames well fit named frames w =
+      wide_told b first states array names well.code well.frames fit named frames w.each w.every w.rising

@@ -281,9 +281,13 @@ module _ (b : Body) (first : ℕ) (call : ℕ) (is_code : IsCode b.code) where
       ∙ place_in_front (code_of (lead_part (lead_probe b first i) i)) (code_of rest) (probe_size (lead_probe b first i)) (omega (arith, long))
       ∙ ones_place (code_of (lead_part (lead_probe b first i) i)) (probe_size (lead_probe b first i)) (lead_ones (lead_probe b first i) i)
 
+  -- a place so far behind the probes in front of the image, counted from the first of them
+  abbrev behind_probes : (i far : ℕ) → ℕ
+  behind_probes i far = probe_size (lead_probe b first i) + (probe_size (early_probe b first i) + far)
+
   -- at the image, and behind it
   pub within_main : (i k : ℕ)
-      → wide_place (code_of (seg_n i)) (probe_size (lead_probe b first i) + (probe_size (early_probe b first i) + k)) ≡ probe_size (lead_probe b first i) + (probe_size (early_probe b first i) + wide_place (code_of (main_n i (flow_of (old i)))) k)
+      → wide_place (code_of (seg_n i)) (behind_probes i k) ≡ behind_probes i (wide_place (code_of (main_n i (flow_of (old i)))) k)
   within_main i k =
       let a = lead_part (lead_probe b first i) i in
       let c = early_part (early_probe b first i) i in
@@ -347,30 +351,45 @@ module _ (b : Body) (first : ℕ) (call : ℕ) (is_code : IsCode b.code) where
   abbrev wide_rest : List Branch → ℕ → ℕ → ℕ
   wide_rest xs to h = arm_place (probe_of b first) (land_of b first true) h xs to
 
+  -- the arm places that are counted from q of the narrow code are those that are counted from r of the wide code
+  abbrev AreArmsAlike : List Branch → (to q r : ℕ) → Type 0
+  AreArmsAlike xs to q r = narrow_rest xs to q ≡ wide_rest xs to r
+
+  -- a place so far behind the image of a switch
+  abbrev behind_n : (i far : ℕ) → ℕ
+  behind_n i far = image_of b first false i + 1 + far
+
+  abbrev behind_w : (i far : ℕ) → ℕ
+  behind_w i far = image_of b first true i + 1 + far
+
+  either_is : (t : Bool) (a c a' c' : ℕ) → W a ≡ a' → W c ≡ c' → W (cond t a c) ≡ cond t a' c'
+  either_is true a c a' c' e f = e
+  either_is false a c a' c' e f = f
+
   pub arm_places : (i : ℕ) → i < n → flow_of (old i) ≡ flows.Switches → (k : ℕ) (xs : List Branch)
       → k + arm_sizes (probe_of b first) xs ≤ arm_sizes (probe_of b first) (arms_at b.code i) → (to : ℕ)
-      → W (arm_place (probe_of b first) (land_of b first false) (image_of b first false i + 1 + k) xs to) ≡ arm_place (probe_of b first) (land_of b first true) (image_of b first true i + 1 + k) xs to
+      → AreArmsAlike xs to (behind_n i k) (behind_w i k)
   arm_places i lt e k [] le to = land_is to
-  arm_places i lt e k (x ∷ xs) le to = by (arm_places i lt e (k + hop_size (probe_of b first x)) xs (omega arith) to) (nat_eq (to_of x) to)
+  arm_places i lt e k (x ∷ xs) le to =
+      let size = hop_size (probe_of b first x) in
+      either_is (nat_eq (to_of x) to)
+      (here_or (probe_of b first x) (behind_n i k) (land_n to))
+      (arm_place (probe_of b first) (land_of b first false) (behind_n i k + size) xs to)
+      (here_or (probe_of b first x) (behind_w i k) (land_w to))
+      (wide_rest xs to (behind_w i k + size))
+      (one (probe_of b first x))
+      (later size (arm_places i lt e (k + size) xs (omega arith) to))
     where
-      one : (o : Option ℕ)
-          → W (here_or o (image_of b first false i + 1 + k) (land_n to)) ≡ here_or o (image_of b first true i + 1 + k) (land_w to)
+      one : (o : Option ℕ) → W (here_or o (behind_n i k) (land_n to)) ≡ here_or o (behind_w i k) (land_w to)
       one None = land_is to
       one (Some id) = arm_at i k lt e (omega arith)
 
-      later : narrow_rest xs to (image_of b first false i + 1 + (k + hop_size (probe_of b first x))) ≡ wide_rest xs to (image_of b first true i + 1 + (k + hop_size (probe_of b first x)))
-          → narrow_rest xs to (image_of b first false i + 1 + k + hop_size (probe_of b first x)) ≡ wide_rest xs to (image_of b first true i + 1 + k + hop_size (probe_of b first x))
-      later more =
-          let narrow : image_of b first false i + 1 + k + hop_size (probe_of b first x) ≡ image_of b first false i + 1 + (k + hop_size (probe_of b first x)) = omega arith in
-          let wide : image_of b first true i + 1 + (k + hop_size (probe_of b first x)) ≡ image_of b first true i + 1 + k + hop_size (probe_of b first x) = omega arith in
+      later : (size : ℕ) → AreArmsAlike xs to (behind_n i (k + size)) (behind_w i (k + size))
+          → AreArmsAlike xs to (behind_n i k + size) (behind_w i k + size)
+      later size more =
+          let narrow : behind_n i k + size ≡ behind_n i (k + size) = omega arith in
+          let wide : behind_w i (k + size) ≡ behind_w i k + size = omega arith in
           ap (narrow_rest xs to) narrow ∙ more ∙ ap (wide_rest xs to) wide
-
-      by : narrow_rest xs to (image_of b first false i + 1 + (k + hop_size (probe_of b first x))) ≡ wide_rest xs to (image_of b first true i + 1 + (k + hop_size (probe_of b first x)))
-          → (t : Bool)
-          → W (cond t (here_or (probe_of b first x) (image_of b first false i + 1 + k) (land_n to)) (arm_place (probe_of b first) (land_of b first false) (image_of b first false i + 1 + k + hop_size (probe_of b first x)) xs to))
-          ≡ cond t (here_or (probe_of b first x) (image_of b first true i + 1 + k) (land_w to)) (arm_place (probe_of b first) (land_of b first true) (image_of b first true i + 1 + k + hop_size (probe_of b first x)) xs to)
-      by more true = one (probe_of b first x)
-      by more false = later more
 
   -- ---- each part
 

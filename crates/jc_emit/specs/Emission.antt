@@ -2,6 +2,7 @@
 use Rattle.std.specs.Prelude.{ℕ, zero, suc, ◌+◌, Bool, true, false, ◌&&◌, ◌||◌, not, List, [], ◌∷◌, ◌++◌, map, length, Option, Some, None, is_some, is_none, nat_eq, if◌then◌else◌, ◌≡◌, ◌⊎◌, slice_index_or, Contains}
 use Rattle.std.specs.List.{list_any}
 use Rattle.jc_methods.specs.VerificationTypes.{Names}
+use Rattle.jc_methods.specs.WellMade.{IsWellMadeOfAnySize}
 use Rattle.jc_bytes.specs.PlainLists.{pieces}
 use Rattle.jc_methods.specs.Flow.{flow_of}
 use Rattle.jc_methods.specs.FrameOrder.{RiseFrom}
@@ -17,7 +18,7 @@ use Rattle.jc_emit.specs.Shift.{probe_array_class, shifted_state, image_kind}
 use Rattle.jc_emit.specs.Sizes.{insn_at, late_probe, arms_at, hop_size}
 use Rattle.jc_methods.specs.Widened.{wide_place}
 use Rattle.jc_emit.specs.TwinTables.{moved_row, moved_line, moved_var}
-use Rattle.jc_emit.specs.TwinFrames.{state_at, left_by, state_behind}
+use Rattle.jc_emit.specs.TwinFrames.{state_at, left_by, state_behind, IsFrame, AreTwinFrames}
 use Rattle.jc_emit.specs.Items.{Item, insn_of, at_of, own_of, extra_of, lead_of, land_of, image_of, twin_items}
 use Rattle.jc_methods.specs.declared.insn.Flow.TheVariants as flows
 
@@ -28,6 +29,13 @@ HasFrameStates b states = (f : FrameAt) → Contains b.frames f → state_at sta
 -- the number is that of the class of the array of probes
 abbrev pub IsArrayNumber : Names → ℕ → Type 0
 IsArrayNumber names array = slice_index_or names array [] ≡ probe_array_class
+
+-- what instrumented code is made from: a well made body, the states of its frames, and the number of the class of the array
+-- of probes
+pub record CanEmit (b : Body) (states : List State) (names : Names) (array : ℕ) : Type 0 where
+  pub well_made : IsWellMadeOfAnySize b
+  pub frame_states : HasFrameStates b states
+  pub array_is : IsArrayNumber names array
 
 abbrev pub frame : ℕ → State → FrameAt
 frame at state = record { at = at; state = state }
@@ -98,6 +106,12 @@ module _ (b : Body) (first : ℕ) (states : List State) (array : ℕ) where
     max_stack = b.max_stack + 3;
     max_locals = b.max_locals + 1;
   }
+
+-- the frames of the code that the function gives, in the narrow or the wide layout
+abbrev pub AreFramesInLayout : Names → List State → (first : ℕ) → Body → (wide : Bool) → List FrameAt → Type 0
+AreFramesInLayout names states first b wide frames =
+    AreTwinFrames names names b.arg_slots (image_of b first wide)
+    (IsFrame b first states (image_of b first wide) (land_of b first wide) (lead_of b first wide) wide) frames
 
 -- ---- the frames of the wide form of the code
 

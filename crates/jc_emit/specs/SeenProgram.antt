@@ -32,3 +32,8 @@ pub record IsSeenAt (p p' : Program) (place number : ℕ) (class new : Linked) (
   pub new_body_at : slice_get new.bodies number ≡ Some b'
   pub owner : b.owner ≡ class.name
   pub seen : IsSeenTwin p.names p'.names class new number b b' m ⊎ IsSeenSame p.names p'.names class new b b' m
+
+-- the body with this number of the class at this place is seen beside one of the second program
+abbrev pub IsSeenInTwin : (p p' : Program) → (place number : ℕ) → (class : Linked) → Body → Type 0
+IsSeenInTwin p p' place number class b =
+    (new : Linked) × (b' : Body) × (m : Marks) × IsSeenAt p p' place number class new b b' m

@@ -56,6 +56,14 @@ pub record Twin (names new_names : Names) (states : List State) (first : ℕ) (b
   pub max_stack : b'.max_stack ≡ b.max_stack + 3
   pub max_locals : b'.max_locals ≡ b.max_locals + 1
 
+-- the second body is a twin of the first one, and this is said of each of its instructions
+pub record AreTwinMarks (first : ℕ) (b b' : Body) (m : Marks) : Type 0 where
+  pub names : Names
+  pub new_names : Names
+  pub states : List State
+  pub twin : Twin names new_names states first b b'
+  pub marks : m ≡ twin.marks
+
 -- ---- before the layout is chosen
 
 abbrev pub marks_of : Emitted → Marks

@@ -12,17 +12,16 @@ ghost use Rattle.jc_methods.specs.declared.insn.Insn.{Insn};
 ghost use Rattle.jc_methods.specs.declared.kind.State.{State};
 ghost use Rattle.jc_plan.specs.declared.branch.Branch.{Branch};
 ghost use Rattle.jc_plan.specs.Probed.{probe_of, probe_count};
-ghost use Rattle.jc_emit.specs.Emission.{emission, HasFrameStates, IsArrayNumber, AreWidened};
+ghost use Rattle.jc_emit.specs.Emission.{emission, HasFrameStates, IsArrayNumber, CanEmit, AreFramesInLayout, AreWidened};
 ghost use Rattle.jc_emit.specs.Items.{Item, own_of, insn_of, twin_items, image_of, land_of, lead_of, marks_of_items};
 ghost use Rattle.jc_emit.specs.Local.{AllOk, OkRow, IsOfBranch, id_in, no_ids, unchanged_items};
 ghost use Rattle.jc_emit.specs.Marks.{Marks, IsProbe, image_place, land_place, lead_place};
 ghost use Rattle.jc_emit.specs.Ranks.{IsRanked};
 ghost use Rattle.jc_emit.specs.Seen.{IsSeen, IsSeenUnchanged, unchanged_marks};
 ghost use Rattle.jc_emit.specs.TwinProgram.{IsSameBody};
-ghost use Rattle.jc_emit.specs.Twin.{Twin, IsEmitted};
+ghost use Rattle.jc_emit.specs.Twin.{Twin, AreTwinMarks, IsEmitted};
 ghost use Rattle.jc_emit.specs.TwinBody.{twin_body};
 ghost use Rattle.jc_emit.specs.TwinCode.{IsTwinCode, IsProbeIn};
-ghost use Rattle.jc_emit.specs.TwinFrames.{IsFrame, AreTwinFrames};
 ghost use Rattle.jc_emit.specs.TwinTables.{moved_row};
 
 /// A twin is seen from each of its instructions: each goes on where it should, and the exception rows are kept. So is
@@ -91,9 +90,8 @@ pub fn each_unchanged_body_goes_on()
 /// Twins of one body that are one body have the same marks, whatever their layouts are. So what is said of the
 /// instructions of a twin depends on the two bodies and the first id alone.
 pub fn each_twin_has_its_marks()
-    ensures { (names new_names others new_others : Names) (states other_states : List State) (first : ℕ) (b b' : Body)
-        → IsWellMadeOfAnySize b → (t : Twin names new_names states first b b')
-        → (u : Twin others new_others other_states first b b') → t.marks ≡ u.marks }
+    ensures { (first : ℕ) (b b' : Body) (m n : Marks) → IsWellMadeOfAnySize b → AreTwinMarks first b b' m
+        → AreTwinMarks first b b' n → m ≡ n }
 {}
 
 /// The id of each probe is that of a branch of the body, the id of a probe behind its edge too; so it is among the ids of
@@ -125,16 +123,14 @@ pub fn each_wide_twin_is_wide()
 
 /// The frames of the narrow layout and the further ones, in the wide code, are the frames of a twin in the wide layout.
 pub fn each_wide_frame_is_told()
-    ensures { (b : Body) (first : ℕ) (states : List State) (array : ℕ) (names : Names) → IsWellMadeOfAnySize b
-        → HasFrameStates b states → IsArrayNumber names array
+    ensures { (b : Body) (first : ℕ) (states : List State) (array : ℕ) (names : Names) → CanEmit b states names array
         → (frames : List FrameAt) → AreWidened (emission b first states array) frames
-        → AreTwinFrames names names b.arg_slots (image_of b first true)
-        (IsFrame b first states (image_of b first true) (land_of b first true) (lead_of b first true) true) frames }
+        → AreFramesInLayout names states first b true frames }
 {}
 
 /// Each well made body has a twin in the narrow layout, where the method that it calls has a place of its own in the pool.
 pub fn each_body_has_a_twin()
-    ensures { (b : Body) (first : ℕ) (states : List State) (array call : ℕ) (names : Names) → IsWellMadeOfAnySize b
-        → HasFrameStates b states → IsArrayNumber names array → what_used b.uses call ≡ None
+    ensures { (b : Body) (first : ℕ) (states : List State) (array call : ℕ) (names : Names) → CanEmit b states names array
+        → what_used b.uses call ≡ None
         → Twin names names states first b (twin_body b first states array call) }
 {}

@@ -7,7 +7,7 @@ ghost use Rattle.jc_programs.specs.declared.program.Linked.{Linked};
 ghost use Rattle.jc_programs.specs.declared.program.Program.{Program};
 ghost use Rattle.jc_plan.specs.Probed.{probe_count, first_id};
 ghost use Rattle.jc_emit.specs.Marks.{Marks};
-ghost use Rattle.jc_emit.specs.SeenProgram.{IsSeenAt};
+ghost use Rattle.jc_emit.specs.SeenProgram.{IsSeenAt, IsSeenInTwin};
 ghost use Rattle.jc_emit.specs.TwinProgram.{AreOwned, IsChangedPair, IsPair, TwinProgram};
 
 /// Each body of a program is seen beside one of its twin: beside the twin of the body, whose first id is told by the
@@ -15,7 +15,7 @@ ghost use Rattle.jc_emit.specs.TwinProgram.{AreOwned, IsChangedPair, IsPair, Twi
 pub fn each_body_is_seen()
     ensures seen { (p p' : Program) → TwinProgram p p' → (place number : ℕ) (class : Linked) (b : Body)
         → slice_get p.classes place ≡ Some class → slice_get class.bodies number ≡ Some b
-        → (new : Linked) × (b' : Body) × (m : Marks) × IsSeenAt p p' place number class new b b' m }
+        → IsSeenInTwin p p' place number class b }
     ensures marks { (p p' : Program) → TwinProgram p p' → (place number : ℕ) (class new other other_new : Linked)
         (b b' d d' : Body) (m n : Marks) → IsSeenAt p p' place number class new b b' m
         → IsSeenAt p p' place number other other_new d d' n → m ≡ n }
