@@ -56,11 +56,11 @@ naming_kept kind old new name place more at =
 pub put_stands : (old new : PoolValue) (e : Entry) (place : ℕ) → IsPut old new e place → entry_of new place ≡ Some e
 put_stands old new e place put = (λ i. entry_of (put.grown i) (put.last i)) ∙ entry_put old e
 
--- what is asked for is found at the place
-pub added_there : {X : Type 0} (found : PoolValue → ℕ → Option X) (what : X) (old : PoolValue) (Put : PoolValue → ℕ → Type 0) (new : PoolValue) (place : ℕ)
-    → (Put new place → found new place ≡ Some what) → Adds found what old Put new place → found new place ≡ Some what
-added_there found what old Put new place there (inl has) = ap (λ (l : PoolValue). found l place) has.1 ∙ has.0.there
-added_there found what old Put new place there (inr put) = there put.1
+module _ {X : Type 0} (found : PoolValue → ℕ → Option X) (what : X) (old : PoolValue) (Put : PoolValue → ℕ → Type 0) (new : PoolValue) (place : ℕ) where
+  -- what is asked for is found at the place
+  pub added_there : (Put new place → found new place ≡ Some what) → Adds found what old Put new place → found new place ≡ Some what
+  added_there there (inl has) = ap (λ (l : PoolValue). found l place) has.1 ∙ has.0.there
+  added_there there (inr put) = there put.1
 
 pub utf8_there : (old new : PoolValue) (text : List ℕ) (place : ℕ) → HasUtf8 old text new place → utf8_of new place ≡ Some text
 utf8_there old new text place has =
@@ -108,10 +108,10 @@ module _ {X : Type 0} (found : PoolValue → ℕ → Option X) (what : X) (old :
   one_added new other place at (inr p) (inl q) = absurd (p.0 at q.0.there)
   one_added new other place at (inr p) (inr q) = one new other place at p.1 q.1
 
--- where the entry alone is put
-pub one_alone : {X : Type 0} (found : PoolValue → ℕ → Option X) (what : X) (old : PoolValue) (e : Entry) (new other : PoolValue) (place at : ℕ)
-    → Adds found what old (IsPutAs old e) new place → Adds found what old (IsPutAs old e) other at → AreOne new other place at
-one_alone found what old e = one_added found what old (IsPutAs old e) (λ new other place at p q. one_put old old new other e e place at refl refl p q)
+module _ {X : Type 0} (found : PoolValue → ℕ → Option X) (what : X) (old : PoolValue) (e : Entry) where
+  -- where the entry alone is put
+  pub one_alone : (new other : PoolValue) (place at : ℕ) → Adds found what old (IsPutAs old e) new place → Adds found what old (IsPutAs old e) other at → AreOne new other place at
+  one_alone = one_added found what old (IsPutAs old e) (λ new other place at p q. one_put old old new other e e place at refl refl p q)
 
 pub one_utf8 : (old new other : PoolValue) (text : List ℕ) (place at : ℕ) → HasUtf8 old text new place → HasUtf8 old text other at → AreOne new other place at
 one_utf8 old new other text place at p q = one_alone utf8_of text old (entry.Utf8 text) new other place at p q
@@ -154,12 +154,12 @@ module _ {X : Type 0} (same : X → X → Bool) (tells : (x y : X) → Decides (
     | inr none ↦ inr (λ p there. elim (cases_lt p end) [ inl below ↦ none p below there | inr behind ↦ none-some x (sym (past p behind) ∙ there) ])
   ]
 
-  pub some_added : (found : PoolValue → ℕ → Option X) (what : X) (old : PoolValue) (Put : PoolValue → ℕ → Type 0) → ((p : ℕ) → length old ≤ p → found old p ≡ None)
-      → ((new : PoolValue) × (place : ℕ) × Put new place) → (new : PoolValue) × (place : ℕ) × Adds found what old Put new place
-  some_added found what old Put past put = elim (first_or_none (found old) what (length old) past) [
-    | inl first ↦ (old, first.0, inl (first.1, refl))
-    | inr none ↦ (put.0, put.1, inr (none, put.2))
-  ]
+  module _ (found : PoolValue → ℕ → Option X) (what : X) (old : PoolValue) (Put : PoolValue → ℕ → Type 0) (past : (p : ℕ) → length old ≤ p → found old p ≡ None) where
+    pub some_added : ((new : PoolValue) × (place : ℕ) × Put new place) → (new : PoolValue) × (place : ℕ) × Adds found what old Put new place
+    some_added put = elim (first_or_none (found old) what (length old) past) [
+      | inl first ↦ (old, first.0, inl (first.1, refl))
+      | inr none ↦ (put.0, put.1, inr (none, put.2))
+    ]
 
 pub end_put : (old : PoolValue) (e : Entry) → (new : PoolValue) × (place : ℕ) × IsPut old new e place
 end_put old e = (old ++ slots_of e, length old, put_at_end old e)
@@ -186,9 +186,16 @@ some_long old value = some_added int_eq Decides-int_eq (read_off long_in) value 
 pub class_within : (pool : PoolValue) (place : ℕ) (name : List ℕ) → class_name_of pool place ≡ Some name → place < length pool
 class_within pool place name there = elim (cases_lt place (length pool)) [ inl less ↦ less | inr behind ↦ absurd (none-some name (sym (naming_past naming.Class pool place behind) ∙ there)) ]
 
+-- the text, if there is one, stands nowhere in a pool
+abbrev IsNewText : PoolValue → Option (List ℕ) → Type 0
+IsNewText old put = (text : List ℕ) → put ≡ Some text → IsNowhere (utf8_of old) text
+
+-- the class of this name has its first place there
+abbrev IsFirstClass : PoolValue → List ℕ → ℕ → Type 0
+IsFirstClass pool name place = IsFirst (class_name_of pool) name place
+
 -- one place more, and no text in it that stands already
-slot_keeps_first : (old : PoolValue) (slot : Option Entry) (name : List ℕ) (place : ℕ) → ((text : List ℕ) → (slot >>= utf8_in) ≡ Some text → IsNowhere (utf8_of old) text)
-    → IsFirst (class_name_of old) name place → IsFirst (class_name_of (old ++ slot ∷ [])) name place
+slot_keeps_first : (old : PoolValue) (slot : Option Entry) (name : List ℕ) (place : ℕ) → IsNewText old (slot >>= utf8_in) → IsFirstClass old name place → IsFirstClass (old ++ slot ∷ []) name place
 unfolding utf8_of
 slot_keeps_first old slot name place fresh first = record { there = naming_kept naming.Class old (old ++ slot ∷ []) name place (slot ∷ [], refl) first.there; first = none }
   where
@@ -211,8 +218,7 @@ slot_keeps_first old slot name place fresh first = record { there = naming_kept 
           | inr past ↦ behind n.0 past n.2
         ]
 
-put_keeps : (old new : PoolValue) (e : Entry) (at : ℕ) (name : List ℕ) (place : ℕ) → IsPut old new e at → ((text : List ℕ) → utf8_in e ≡ Some text → IsNowhere (utf8_of old) text)
-    → IsFirst (class_name_of old) name place → IsFirst (class_name_of new) name place
+put_keeps : (old new : PoolValue) (e : Entry) (at : ℕ) (name : List ℕ) (place : ℕ) → IsPut old new e at → IsNewText old (utf8_in e) → IsFirstClass old name place → IsFirstClass new name place
 put_keeps old new e at name place put fresh first =
     subst (λ (l : PoolValue). IsFirst (class_name_of l) name place) (sym put.grown)
     (by_slots (λ l. IsFirst (class_name_of l) name place) old e (slot_keeps_first old (Some e) name place fresh first)

@@ -28,14 +28,16 @@ signature_kept old new s place more at =
 abbrev member_by : ℕ → List ℕ → Signature → Option Member
 member_by tag class s = Some (record { tag = tag; class = class; name = s.name; desc = s.desc })
 
+-- the member of a class, where the class has a name, and a name and a descriptor stand there
+abbrev pub ref_by : ℕ → Option (List ℕ) → Option Signature → Option Member
+ref_by tag class signed = class >>= λ name. signed >>= λ s. member_by tag name s
+
 module _ (old new : PoolValue) (more : Extends old new) (m : Member) where
   ref_kept : (tag class sig : ℕ) → ref_of old tag class sig ≡ Some m → ref_of new tag class sig ≡ Some m
   unfolding ref_of
   ref_kept tag class sig is = by (class_name_of old class) (signature_of old sig) refl refl is
     where
-      by : (r : Option (List ℕ)) (q : Option Signature) → class_name_of old class ≡ r → signature_of old sig ≡ q
-          → (r >>= λ name. q >>= λ s. member_by tag name s) ≡ Some m
-          → (class_name_of new class >>= λ name. signature_of new sig >>= λ s. member_by tag name s) ≡ Some m
+      by : (r : Option (List ℕ)) (q : Option Signature) → class_name_of old class ≡ r → signature_of old sig ≡ q → ref_by tag r q ≡ Some m → ref_by tag (class_name_of new class) (signature_of new sig) ≡ Some m
       by None q named signed is = absurd (none-some m is)
       by (Some name) None named signed is = absurd (none-some m is)
       by (Some name) (Some s) named signed is =
