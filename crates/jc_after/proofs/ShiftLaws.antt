@@ -8,7 +8,7 @@ use Rattle.jc_after.specs.declared.want.Want.TheVariants as wants
 use Rattle.jc_methods.specs.VerificationTypes.{VerificationType, top, int, float, double, long, null, uninit_this, object, uninit, TypeState, width, is_pair, slots}
 use Rattle.jc_after.specs.Wants.{accepts, accepts_all}
 use Rattle.jc_after.specs.Step.{Gives, kind, item, StackEffect, moves, loads, stores, counts, picks, picked, makes, builds, fails, Ground, apply, is_array, element_of, given_of, limited, below, upper, has_form, moved, moved_by, cleared, clear_before, put_second, put_local, with_stack, last, loaded, stored, counted, is_made, without, same_new, replaced, built_as, class_built}
-use Rattle.jc_after.specs.Shift.{renamed, probes, shifted, slot_of, IsPlaceless, IsPlain, CanShift, StaysWhole, StepShifts, takes_pair}
+use Rattle.jc_after.specs.Shift.{renamed, probes, shifted, slot_of, IsPlaceless, IsPlain, CanShift, NoPairBefore, StaysWhole, Images, StepShifts, takes_pair}
 
 module _ (f : ℕ → ℕ) where
   abbrev r : VerificationType → VerificationType
@@ -196,7 +196,7 @@ module _ (e : VerificationType) where
   set_up (suc v) (suc k) x (y ∷ ls) le = ap (λ l. y ∷ l) (set_up v k x ls (omega arith))
 
   -- the slot before one: where it is the new slot, the old one had no pair
-  clear_up : (v k : ℕ) (ls : List VerificationType) → v ≤ length ls → is_pair e ≡ false → ((j : ℕ) → j + 1 ≡ v → is_pair (get_or ls j top) ≡ false) →
+  clear_up : (v k : ℕ) (ls : List VerificationType) → v ≤ length ls → is_pair e ≡ false → NoPairBefore v ls →
       clear_before (up v k) (insert ls v e) ≡ insert (clear_before k ls) v e
   clear_up zero zero ls le single whole = rw single refl
   clear_up zero (suc k) ls le single whole = refl
@@ -215,7 +215,7 @@ module _ (e : VerificationType) where
       by false q = rw q refl
       by true q = rw (q, up-next v k (ne q)) (set_up v (k + 1) top ls le)
 
-  put_up : (v k : ℕ) (h : VerificationType) (ls : List VerificationType) → v ≤ length ls → is_pair e ≡ false → ((j : ℕ) → j + 1 ≡ v → is_pair (get_or ls j top) ≡ false) →
+  put_up : (v k : ℕ) (h : VerificationType) (ls : List VerificationType) → v ≤ length ls → is_pair e ≡ false → NoPairBefore v ls →
       (is_pair h ≡ true → k + 1 ≡ v → ⊥) → put_local (up v k) h (insert ls v e) ≡ insert (put_local k h ls) v e
   put_up v k h ls le single whole ne = let n = length-clear k ls in let m = length-set (clear_before k ls) k h in
       ap (λ l. put_second h (up v k) (set l (up v k) h)) (clear_up v k ls le single whole) ∙
@@ -316,7 +316,10 @@ module _ (f : ℕ → ℕ) where
   pub stores-shifted : (v k : ℕ) (g : Ground) (w : Want) (s : TypeState) → CanShift v (stores k w) → v ≤ length s.locals → StaysWhole v s →
       apply g (stores (slot_of v k) w) (shifted f v s) ≡ option_map (shifted f v) (apply g (stores k w) s)
   stores-shifted v k g w s can le whole = let h = last s.stack in
-      rw (last-renamed s.stack, accepts-renamed f w h, below-renamed f 1 s.stack) (by (accepts w h) refl)
+      rw (last-renamed s.stack, accepts-renamed f w h, below-renamed f 1 s.stack) (by _ _ (accepts w h) refl (λ a.
+      ap (λ (l : List VerificationType). with_stack (record (shifted f v s) { locals = l }) (limited g.most (map q (below 1 s.stack)))) (placed a)
+      ∙ ap (with_stack (shifted f v (record s { locals = put_local k h s.locals }))) (limited-renamed f g.most (below 1 s.stack))
+      ∙ with-shifted f v (record s { locals = put_local k h s.locals }) (limited g.most (below 1 s.stack))))
     where
       placed : accepts w (last s.stack) ≡ true → put_local (slot_of v k) (q (last s.stack)) (insert (map q s.locals) v probes) ≡ insert (map q (put_local k (last s.stack) s.locals)) v probes
       placed a = let h = last s.stack in let n = length-map s.locals q in
@@ -325,14 +328,10 @@ module _ (f : ℕ → ℕ) where
           put_up probes v k (q h) (map q s.locals) (omega arith) refl whole' (λ p. can (pair-taken w h a (sym (pair-renamed f h) ∙ p))) ∙
           ap (λ l. insert l v probes) (put-renamed k h s.locals)
 
-      by : (b : Bool) → accepts w (last s.stack) ≡ b →
-          (if b then with_stack (record (shifted f v s) { locals = put_local (slot_of v k) (q (last s.stack)) (insert (map q s.locals) v probes) }) (limited g.most (map q (below 1 s.stack))) else None)
-          ≡ option_map (shifted f v) (if b then with_stack (record s { locals = put_local k (last s.stack) s.locals }) (limited g.most (below 1 s.stack)) else None)
-      by true a =
-          ap (λ (l : List VerificationType). with_stack (record (shifted f v s) { locals = l }) (limited g.most (map q (below 1 s.stack)))) (placed a)
-          ∙ ap (with_stack (shifted f v (record s { locals = put_local k (last s.stack) s.locals }))) (limited-renamed f g.most (below 1 s.stack))
-          ∙ with-shifted f v (record s { locals = put_local k (last s.stack) s.locals }) (limited g.most (below 1 s.stack))
-      by false a = refl
+      by : (new old : Option TypeState) (b : Bool) → accepts w (last s.stack) ≡ b → (accepts w (last s.stack) ≡ true → new ≡ option_map (shifted f v) old) →
+          (if b then new else None) ≡ option_map (shifted f v) (if b then old else None)
+      by new old true a same = same a
+      by new old false a same = refl
 
   -- ---- `new`
 
@@ -424,29 +423,30 @@ module _ (f : ℕ → ℕ) where
     class-renamed g new (object n) c o = refl
     class-renamed g new (uninit i) c o = ap Some (c i)
 
-    as-shifted : (v most : ℕ) (old : VerificationType) (rest : List VerificationType) (given : List Gives) (name : Option (List ℕ)) (s : TypeState) → AllByRecursion IsPlaceless given →
-        built_as most (q old) (map q rest) given name (shifted f v s) ≡ option_map (shifted f v) (built_as most old rest given name s)
-    as-shifted v most old rest given None s p = refl
-    as-shifted v most old rest given (Some name) s p =
-        let left = map (replaced old name) rest ++ map (given_of []) given in
-        let t : TypeState = record s { locals = map (replaced old name) s.locals } in
-        let e : map (replaced (q old) name) (map q rest) ++ map (given_of []) given ≡ map q left =
-        ap₂ (λ a b. a ++ b) (map-both q (replaced (q old) name) q (replaced old name) (replaced-renamed old name) rest) (gives-renamed f [] given p)
-        ∙ sym (map-append q (map (replaced old name) rest) (map (given_of []) given)) in
-        rw (replaced-locals old name v s.locals, e, limited-renamed f most left, with-shifted f v t (limited most left)) refl
+    module _ (v most : ℕ) (given : List Gives) (plain : AllByRecursion IsPlaceless given) where
+      as-shifted : (old : VerificationType) (rest : List VerificationType) (name : Option (List ℕ)) (s : TypeState) →
+          built_as most (q old) (map q rest) given name (shifted f v s) ≡ option_map (shifted f v) (built_as most old rest given name s)
+      as-shifted old rest None s = refl
+      as-shifted old rest (Some name) s =
+          let left = map (replaced old name) rest ++ map (given_of []) given in
+          let t : TypeState = record s { locals = map (replaced old name) s.locals } in
+          let e : map (replaced (q old) name) (map q rest) ++ map (given_of []) given ≡ map q left =
+          ap₂ (λ a b. a ++ b) (map-both q (replaced (q old) name) q (replaced old name) (replaced-renamed old name) rest) (gives-renamed f [] given plain)
+          ∙ sym (map-append q (map (replaced old name) rest) (map (given_of []) given)) in
+          rw (replaced-locals old name v s.locals, e, limited-renamed f most left, with-shifted f v t (limited most left)) refl
 
-    pub builds-shifted : (v : ℕ) (g new : Ground) (form : StackEffect) (s : TypeState) → ((i : ℕ) → new.class_at (f i) ≡ g.class_at i) → new.owner ≡ g.owner → new.most ≡ g.most → IsPlain form →
+    pub builds-shifted : (v : ℕ) (g new : Ground) (form : StackEffect) (s : TypeState) → Images f g new → IsPlain form →
         apply new (builds form) (shifted f v s) ≡ option_map (shifted f v) (apply g (builds form) s)
-    builds-shifted v g new form s c o m p =
+    builds-shifted v g new form s im p =
         let n = suc (length form.wanted) in let old = get_or (upper n s.stack) 0 top in
         rw (
-          m,
+          im.most,
           upper-renamed f n s.stack,
           below-renamed f n s.stack,
           all-renamed f (wants.Anything ∷ form.wanted) (upper n s.stack),
           get-renamed f (upper n s.stack) 0,
-          class-renamed g new old c o,
-          as-shifted v g.most old (below n s.stack) form.given (class_built g old) s p,
+          class-renamed g new old im.classes im.owner,
+          as-shifted v g.most form.given p old (below n s.stack) (class_built g old) s,
         )
         (none-map (shifted f v) (accepts_all (wants.Anything ∷ form.wanted) (upper n s.stack)) (built_as g.most old (below n s.stack) form.given (class_built g old) s))
 
@@ -461,5 +461,5 @@ shift-law image v g new (counts k) s im can le whole =
     ap (λ m. counted m (slot_of v k) (shifted image v s)) im.most ∙ counts-shifted image v k g s le
 shift-law image v g new picks s im can le whole = ap (λ m. picked m (shifted image v s)) im.most ∙ picks-shifted image v g s
 shift-law image v g new makes s im can le whole = makes-shifted image im.apart v g new s im.place im.most
-shift-law image v g new (builds form) s im can le whole = builds-shifted image im.apart v g new form s im.classes im.owner im.most can
+shift-law image v g new (builds form) s im can le whole = builds-shifted image im.apart v g new form s im can
 shift-law image v g new fails s im can le whole = refl

@@ -1,6 +1,8 @@
 -- The forms of the table, one for each shape.
 use Rattle.std.specs.Prelude.{ℕ, Bool, true, false, List, [], ◌∷◌, map, Option, Some, None}
-use Rattle.jc_methods.specs.VerificationTypes.{Names, VerificationType, verification_type, int, float, double, long, null}
+use Rattle.jc_methods.specs.VerificationTypes.{Names, VerificationType, TypeState, type_state, verification_type, int, float, double, long, null}
+use Rattle.jc_methods.specs.declared.kind.Kind.{Kind}
+use Rattle.jc_methods.specs.declared.kind.State.{State}
 use Rattle.jc_after.specs.declared.want.Want.{Want}
 use Rattle.jc_after.specs.declared.want.Want.TheVariants as wants
 use Rattle.jc_after.specs.declared.table.Shape.{Shape}
@@ -8,7 +10,7 @@ use Rattle.jc_after.specs.declared.table.Shape.TheVariants as shapes
 use Rattle.jc_after.specs.declared.form.Give.{Give}
 use Rattle.jc_after.specs.declared.form.Give.TheVariants as given
 use Rattle.jc_after.specs.declared.form.StackEffect.{StackEffect as KeptForm}
-use Rattle.jc_after.specs.Step.{Gives, kind, item, StackEffect, moved_by}
+use Rattle.jc_after.specs.Step.{Gives, kind, item, StackEffect, moved_by, built_as}
 use Rattle.jc_after.specs.Table.{form, one}
 
 -- the form of a shape, if it has one
@@ -84,6 +86,11 @@ forms_of shapes.Length = one (wants.Reference ∷ []) (kind int ∷ [])
 abbrev pub gives_of : Names → Give → Gives
 gives_of names (given.Kind k) = kind (verification_type names k)
 gives_of names (given.Item n) = item n
+
+-- the state after the constructor of an object was called whose class has this name
+abbrev pub built_by_name : Names → ℕ → Kind → List Kind → List Give → List ℕ → State → Option TypeState
+built_by_name names most old rest gives name s =
+    built_as most (verification_type names old) (map (verification_type names) rest) (map (gives_of names) gives) (Some name) (type_state names s)
 
 -- what is left is one of the operands
 abbrev pub is_item : Give → Bool

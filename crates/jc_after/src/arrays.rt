@@ -37,8 +37,9 @@ fn element_name(name: &[u8]) -> Option<&[u8]>
 /// An element of an array of references, where it is one.
 fn element_in(alloc: Global, array: Kind, names: &mut Names) -> Result<Option<Kind>, Memory>
     requires { IsNumbered (length names.old) array }
-    ensures element { IfOk result (λ o. MatchOption o (is_array (verification_type names.old array) ≡ false) (λ kind.
-        (is_array (verification_type names.old array) ≡ true) × ((more : Names) → verification_type (names.new ++ more) kind ≡ element_of (verification_type names.old array)))) }
+    ensures element { let type = verification_type names.old array in
+        IfOk result (λ o. MatchOption o (is_array type ≡ false) (λ kind. (is_array type ≡ true)
+        × ((more : Names) → verification_type (names.new ++ more) kind ≡ element_of type))) }
     ensures names { Grows names.old names.new }
 {
     match array {

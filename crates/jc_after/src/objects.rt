@@ -1,11 +1,11 @@
 //! New objects and their constructors.
-ghost use Rattle.std.specs.Prelude.{◌≡◌, ◌++◌, ℕ, List as Seq, Some, map, IfOk, option_map};
+ghost use Rattle.std.specs.Prelude.{◌≡◌, ◌++◌, ℕ, List as Seq, map, IfOk, option_map};
 ghost use Rattle.std.specs.List.{list_any};
 ghost use Rattle.jc_methods.specs.VerificationTypes.{Names, verification_type, object, type_state};
 ghost use Rattle.jc_after.specs.Objects.{is_made_by as is_made_kind, left_by as left_kind};
 ghost use Rattle.jc_after.specs.Objects.{is_one_object as is_one_kind, built_in as built_kind};
-ghost use Rattle.jc_after.specs.Shapes.{gives_of};
-ghost use Rattle.jc_after.specs.Step.{made_at, built_as};
+ghost use Rattle.jc_after.specs.Shapes.{built_by_name};
+ghost use Rattle.jc_after.specs.Step.{made_at};
 
 use crate::form::Give;
 use crate::moves::move_stack;
@@ -116,8 +116,8 @@ pub fn build_as(
     gives: &[Give],
     most: u16,
 ) -> Result<Option<State>, Memory>
-    ensures { IfOk result (λ o. (names : Names) (name : Seq ℕ) → verification_type names class ≡ object name → option_map (type_state names) o
-        ≡ built_as most (verification_type names old) (map (verification_type names) rest.now) (map (gives_of names) gives.now) (Some name) (type_state names state.now)) }
+    ensures { IfOk result (λ o. (names : Names) (name : Seq ℕ) → verification_type names class ≡ object name
+        → option_map (type_state names) o ≡ built_by_name names most old rest.now gives.now name state.now) }
 {
     let rest = all_built_in(alloc, old, class, rest)?;
     match move_stack(alloc, List::from_vec(rest), &[], gives, most)? {
