@@ -56,7 +56,7 @@ leads_decided b i j = by (insn_at b i) refl
     of_jump insn is t = subst (λ (x : Insn). Contains (targets_of x) j) (same_Some t.insn insn (sym t.stands ∙ is)) t.target
 
     with : (insn : Insn) (falls : Bool) → insn_at b i ≡ Some insn → falls_through insn ≡ falls
-        → (Contains (if falls then (i + 1) ∷ targets_of insn else targets_of insn) j → LeadsTo b i j) × (LeadsTo b i j → Contains (if falls then (i + 1) ∷ targets_of insn else targets_of insn) j)
+        → (let places = if falls then (i + 1) ∷ targets_of insn else targets_of insn in (Contains places j → LeadsTo b i j) × (LeadsTo b i j → Contains places j))
     with insn true is f = (
       λ c. ⊎_elim (λ e. inl (record { insn = insn; stands = is; falls = (falls_decided insn).to f }, sym e)) (λ m. jumps insn is m) (which_in (i + 1) (targets_of insn) j c),
       λ l. ⊎_elim (λ g. subst (Contains ((i + 1) ∷ targets_of insn)) (sym g.1) (first_in (i + 1) (targets_of insn))) (λ t. later_in (i + 1) (targets_of insn) j (of_jump insn is t)) l,

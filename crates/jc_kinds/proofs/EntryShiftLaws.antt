@@ -130,9 +130,13 @@ module _ (image : ℕ → ℕ) where
   tops_still zero = refl
   tops_still (suc n) = ap (λ (l : List VerificationType). top ∷ l) (tops_still n)
 
-  -- behind these values
-  stored_behind : (count : ℕ) (values : List VerificationType) → AllByRecursion (Still image) values → length (spread values) ≤ count
-      → put_local (length (spread values)) probes (in_locals (count + 1) values) ≡ insert (map (renamed image) (in_locals count values)) (length (spread values)) probes
+  -- with one local variable more, the array of probes is stored behind these values
+  abbrev StoresBehind : ℕ → List VerificationType → Type 0
+  StoresBehind count values =
+      let slots = length (spread values) in
+      put_local slots probes (in_locals (count + 1) values) ≡ insert (map (renamed image) (in_locals count values)) slots probes
+
+  stored_behind : (count : ℕ) (values : List VerificationType) → AllByRecursion (Still image) values → length (spread values) ≤ count → StoresBehind count values
   stored_behind count values all le =
       let front = spread values in
       let room = count - length front in

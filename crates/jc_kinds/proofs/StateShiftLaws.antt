@@ -18,7 +18,7 @@ use Rattle.jc_methods.specs.Flow.{falls_at}
 use Rattle.jc_methods.proofs.EntryLaws.{argument_slots, entry_count}
 use Rattle.jc_bytes.proofs.BooleanLaws.{first_in, later_in}
 use Rattle.jc_after.specs.After.{insn_at, after_of}
-use Rattle.jc_after.specs.Shift.{StaysWhole}
+use Rattle.jc_after.specs.Shift.{NoPairBefore, StaysWhole}
 use Rattle.jc_after.proofs.AfterLaws.{after_shifts}
 use Rattle.jc_after.proofs.LeaveLaws.{insn_of}
 use Rattle.jc_after.proofs.WholeLaws.{StaysRound, after_stays}
@@ -34,7 +34,7 @@ after_keeps b i s t free e = after_stays b.arg_slots b i s t (λ insn at straddl
 -- ---- the state in which a method begins
 
 -- one local variable, and then the others
-front_single : (x : VerificationType) (front rest : List VerificationType) (k : ℕ) → (is_pair x ≡ false) ⊎ (1 ≤ length front) → ((j : ℕ) → j + 1 ≡ length front → is_pair (get_or (front ++ rest) j top) ≡ false)
+front_single : (x : VerificationType) (front rest : List VerificationType) (k : ℕ) → (is_pair x ≡ false) ⊎ (1 ≤ length front) → NoPairBefore (length front) (front ++ rest)
     → k + 1 ≡ suc (length front) → is_pair (get_or (x ∷ (front ++ rest)) k top) ≡ false
 front_single x front rest zero (inl single) ih e = single
 front_single x front rest zero (inr some) ih e = absurd (omega (arith, some, e))
@@ -45,8 +45,8 @@ pub last_single : (values rest : List VerificationType) (k : ℕ) → k + 1 ≡ 
 last_single [] rest k e = absurd (omega (arith, e))
 last_single (h ∷ values) rest k e = by (λ j f. last_single values rest j f) (is_pair h) refl e
   where
-    by : ((j : ℕ) → j + 1 ≡ length (spread values) → is_pair (get_or (spread values ++ rest) j top) ≡ false) → (b : Bool) → is_pair h ≡ b
-        → k + 1 ≡ length ((if b then h ∷ top ∷ [] else h ∷ []) ++ spread values) → is_pair (get_or (((if b then h ∷ top ∷ [] else h ∷ []) ++ spread values) ++ rest) k top) ≡ false
+    by : NoPairBefore (length (spread values)) (spread values ++ rest) → (b : Bool) → is_pair h ≡ b
+        → (let front = (if b then h ∷ top ∷ [] else h ∷ []) ++ spread values in k + 1 ≡ length front → is_pair (get_or (front ++ rest) k top) ≡ false)
     by ih true is e = front_single h (top ∷ spread values) rest k (inr (omega arith)) (λ j f. front_single top (spread values) rest j (inl refl) ih f) e
     by ih false is e = front_single h (spread values) rest k (inl is) ih e
 
@@ -58,14 +58,18 @@ entry_whole b w k e =
 
 -- ---- frames
 
-pub frame_is : (names : Names) (frames : List FrameAt) (i : ℕ) (s : TypeState) → frame_at (map (type_state_at names) frames) i ≡ Some s → (f : FrameAt) × Contains frames f × (f.at ≡ i) × (type_state names f.state ≡ s)
+-- a frame at the instruction has this state
+abbrev HasFrameOf : Names → List FrameAt → ℕ → TypeState → Type 0
+HasFrameOf names frames i s = (f : FrameAt) × Contains frames f × (f.at ≡ i) × (type_state names f.state ≡ s)
+
+pub frame_is : (names : Names) (frames : List FrameAt) (i : ℕ) (s : TypeState) → frame_at (map (type_state_at names) frames) i ≡ Some s → HasFrameOf names frames i s
 frame_is names [] i s e = absurd (none-some _ e)
-frame_is names (f ∷ frames) i s e = by (λ h. frame_is names frames i s h) (nat_eq f.at i) refl e
+frame_is names (f ∷ frames) i s e = by (frame_at (map (type_state_at names) frames) i) (λ h. frame_is names frames i s h) (nat_eq f.at i) refl e
   where
-    by : (frame_at (map (type_state_at names) frames) i ≡ Some s → (g : FrameAt) × Contains frames g × (g.at ≡ i) × (type_state names g.state ≡ s)) → (b : Bool) → nat_eq f.at i ≡ b
-        → (if b then Some (type_state names f.state) else frame_at (map (type_state_at names) frames) i) ≡ Some s → (g : FrameAt) × Contains (f ∷ frames) g × (g.at ≡ i) × (type_state names g.state ≡ s)
-    by more true is e = (f, first_in f frames, eqb-true f.at i is, same_Some (type_state names f.state) s e)
-    by more false is e = let m = more e in (m.0, later_in f frames m.0 m.1, m.2, m.3)
+    by : (rest : Option TypeState) → (rest ≡ Some s → HasFrameOf names frames i s) → (b : Bool) → nat_eq f.at i ≡ b
+        → (if b then Some (type_state names f.state) else rest) ≡ Some s → HasFrameOf names (f ∷ frames) i s
+    by rest more true is e = (f, first_in f frames, eqb-true f.at i is, same_Some (type_state names f.state) s e)
+    by rest more false is e = let m = more e in (m.0, later_in f frames m.0 m.1, m.2, m.3)
 
 pub frame_state : (first : ℕ) (code : List Insn) (locals stack : ℕ) (frames : List FrameAt) (f : FrameAt) (k : ℕ) → AreFramesFrom first code locals stack frames → k < length frames → get_or frames k f ≡ f → IsState code locals stack f.state
 frame_state first code locals stack [] f k are lt e = absurd (omega (arith, lt))
