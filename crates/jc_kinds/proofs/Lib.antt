@@ -8,6 +8,8 @@ pub mod MarkLaws
 pub mod MissingLaws
 pub mod RunLaws
 pub mod GuardLaws
+pub mod RowLaws
+pub mod GroupLaws
 pub mod WalkLaws
 pub mod HandlerLaws
 pub mod AnswerLaws

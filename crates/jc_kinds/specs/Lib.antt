@@ -9,5 +9,6 @@ pub mod Marking
 pub mod First
 pub mod Runs
 pub mod Guarded
+pub mod Rows
 pub mod StateSequence
 pub mod StateShift

@@ -1,14 +1,17 @@
 //! The first instruction whose local variables don't fit a handler that guards it (JVM Specification 4.10.1.6).
-//! The work is in proportion to the local variables times the instructions and the rows together.
+//! For each local variable the work is in proportion to the instructions and the distinct handlers together, and for a
+//! handler to the runs of equal types in the local variable, or to its rows, where these are fewer.
 ghost use Rattle.std.specs.Prelude.{◌≡◌, ◌≢◌, ◌<◌, ◌≤◌, false, true, [], ◌∷◌, length, All, IfOk};
 ghost use Rattle.jc_kinds.specs.First.{IsFirstOrBound};
 ghost use Rattle.jc_kinds.specs.Frames.{frame_in, AreNumbers};
 ghost use Rattle.jc_kinds.specs.Runs.{AreEnds, IsFirstUnfit};
 ghost use Rattle.jc_kinds.specs.Guarded.{column_of, local_at, wanted_at, catches, frame_catches};
 ghost use Rattle.jc_kinds.specs.Guarded.{IsUncaught, IsUnfitInColumn, IsUnfitInRow, IsUnguarded};
+ghost use Rattle.jc_kinds.specs.Rows.{AreRising, IsGroup, IsUnfitInRows, IsUnfitInGroups, rows_of};
 
 use crate::fits::fits;
 use crate::frames::frame_at;
+use crate::rows::{first_ending_behind, row_groups};
 use crate::runs::{first_unfit, run_ends};
 use jc_bytes::Memory;
 use jc_methods::{FrameAt, Handler, Kind, State};
@@ -97,28 +100,62 @@ fn wanted_at(frames: &[FrameAt], numbers: &[u32], target: u32, slot: usize) -> K
     }
 }
 
-/// The first instruction that a row guards whose type in a column isn't the one that is wanted, or the bound.
-fn first_in_row(
+/// The first instruction that one of the rows guards whose type in a column doesn't fit, or the bound. Where a type
+/// doesn't fit that no row guards, the rows that end in front of it need no look.
+fn first_in_rows(
     column: &[Kind],
     tight: &[usize],
     loose: &[usize],
-    handler: Handler,
+    rows: &[Handler],
     want: Kind,
     bound: usize,
 ) -> usize
     requires bound { bound ≤ length column.now }
     requires tight { AreEnds false column.now 0 tight.now }
     requires loose { AreEnds true column.now 0 loose.now }
-    ensures { IsFirstOrBound (IsUnfitInRow column.now handler want) bound result }
+    requires rows { AreRising rows.now }
+    ensures { IsFirstOrBound (IsUnfitInRows column.now rows.now want) bound result }
 {
-    let start = handler.start as usize;
-    let end = handler.end as usize;
-    let last = if end < bound { end } else { bound };
-    if start >= last {
+    let mut at = 0;
+    'looking: while at < rows.len() {
+        let row = rows[at];
+        let start = row.start as usize;
+        if start >= bound {
+            return bound;
+        }
+        let unfit = first_unfit(column, tight, loose, start, bound, want);
+        if unfit < row.end as usize {
+            return unfit;
+        }
+        at = first_ending_behind(rows, at + 1, unfit);
+    }
+    bound
+}
+
+/// The first instruction that a row of one handler guards whose type in a column doesn't fit the handler's frame, or
+/// the bound.
+fn first_in_group(
+    column: &[Kind],
+    tight: &[usize],
+    loose: &[usize],
+    frames: &[FrameAt],
+    numbers: &[u32],
+    rows: &[Handler],
+    slot: usize,
+    bound: usize,
+) -> usize
+    requires bound { bound ≤ length column.now }
+    requires tight { AreEnds false column.now 0 tight.now }
+    requires loose { AreEnds true column.now 0 loose.now }
+    requires numbers { AreNumbers frames.now (length numbers.now) numbers.now }
+    requires group { IsGroup rows.now }
+    ensures { IsFirstOrBound (IsUnfitInColumn column.now frames.now slot rows.now) bound result }
+{
+    if rows.is_empty() {
         return bound;
     }
-    let first = first_unfit(column, tight, loose, start, last, want);
-    if first < last { first } else { bound }
+    let want = wanted_at(frames, numbers, rows[0].target, slot);
+    first_in_rows(column, tight, loose, rows, want, bound)
 }
 
 /// The first instruction that a row guards whose type in a column doesn't fit the handler's frame, or the bound.
@@ -128,7 +165,7 @@ fn first_in_column(
     loose: &[usize],
     frames: &[FrameAt],
     numbers: &[u32],
-    handlers: &[Handler],
+    groups: &[Vec<Handler>],
     slot: usize,
     bound: usize,
 ) -> usize
@@ -136,12 +173,12 @@ fn first_in_column(
     requires tight { AreEnds false column.now 0 tight.now }
     requires loose { AreEnds true column.now 0 loose.now }
     requires numbers { AreNumbers frames.now (length numbers.now) numbers.now }
-    ensures { IsFirstOrBound (IsUnfitInColumn column.now frames.now slot handlers.now) bound result }
+    requires groups { All IsGroup (rows_of groups.now) }
+    ensures { IsFirstOrBound (IsUnfitInGroups column.now frames.now slot (rows_of groups.now)) bound result }
 {
     let mut first = bound;
-    'looking: for handler in handlers {
-        let want = wanted_at(frames, numbers, handler.target, slot);
-        first = first_in_row(column, tight, loose, *handler, want, first);
+    'looking: for rows in groups {
+        first = first_in_group(column, tight, loose, frames, numbers, rows, slot, first);
     }
     first
 }
@@ -153,20 +190,22 @@ fn first_by_runs(
     states: &[State],
     frames: &[FrameAt],
     numbers: &[u32],
-    handlers: &[Handler],
+    groups: &[Vec<Handler>],
     slot: usize,
     bound: usize,
 ) -> Result<usize, Memory>
     requires small { length states.now < 4294967296 }
     requires bound { bound ≤ length states.now }
     requires numbers { AreNumbers frames.now (length numbers.now) numbers.now }
-    ensures { IfOk result (IsFirstOrBound (IsUnfitInColumn (column_of states.now slot) frames.now slot handlers.now) bound) }
+    requires groups { All IsGroup (rows_of groups.now) }
+    ensures { IfOk result
+        (IsFirstOrBound (IsUnfitInGroups (column_of states.now slot) frames.now slot (rows_of groups.now)) bound) }
 {
     let column = column_of(alloc, states, slot)?;
     let tight = run_ends(alloc, false, &column)?;
     let loose = run_ends(alloc, true, &column)?;
     Ok(first_in_column(
-        &column, &tight, &loose, frames, numbers, handlers, slot, bound,
+        &column, &tight, &loose, frames, numbers, groups, slot, bound,
     ))
 }
 
@@ -205,7 +244,7 @@ fn first_by_row(states: &[State], handler: Handler, slot: usize, want: Kind, bou
     if first < last { first } else { bound }
 }
 
-/// The same as `first_by_runs`. Each row looks at each state that it guards, and no list is made.
+/// The same, row by row: each looks at each state that it guards, and no list is made.
 fn first_by_rows(
     states: &[State],
     frames: &[FrameAt],
@@ -239,30 +278,51 @@ fn guard_few(handlers: &[Handler], most: usize) -> bool {
     true
 }
 
-/// The first instruction that a row guards whose type of a local variable doesn't fit the handler's frame, or the
-/// bound: row by row where that takes few steps.
-fn first_in_slot(
+/// The first instruction whose state before it doesn't fit a handler that guards it, or the number of states, where
+/// the first one whose handler doesn't take what is caught is known: row by row, for rows that guard few instructions.
+fn first_of_few(
+    states: &[State],
+    frames: &[FrameAt],
+    numbers: &[u32],
+    handlers: &[Handler],
+    slots: usize,
+    uncaught: usize,
+) -> usize
+    requires numbers { AreNumbers frames.now (length numbers.now) numbers.now }
+    requires uncaught { IsFirstOrBound (IsUncaught frames.now handlers.now) (length states.now) uncaught }
+    ensures { IsFirstOrBound (IsUnguarded states.now frames.now handlers.now slots) (length states.now) result }
+{
+    let mut first = uncaught;
+    'slots: for slot in 0..slots {
+        first = first_by_rows(states, frames, numbers, handlers, slot, first);
+    }
+    first
+}
+
+/// The same by the runs of equal types in each local variable, for rows that guard many instructions.
+fn first_of_many(
     alloc: Global,
     states: &[State],
     frames: &[FrameAt],
     numbers: &[u32],
     handlers: &[Handler],
-    slot: usize,
-    bound: usize,
-    few: bool,
+    slots: usize,
+    uncaught: usize,
 ) -> Result<usize, Memory>
     requires small { length states.now < 4294967296 }
-    requires bound { bound ≤ length states.now }
     requires numbers { AreNumbers frames.now (length numbers.now) numbers.now }
-    ensures { IfOk result (IsFirstOrBound (IsUnfitInColumn (column_of states.now slot) frames.now slot handlers.now) bound) }
+    requires uncaught { IsFirstOrBound (IsUncaught frames.now handlers.now) (length states.now) uncaught }
+    ensures { IfOk result (IsFirstOrBound (IsUnguarded states.now frames.now handlers.now slots) (length states.now)) }
 {
-    if few {
-        return Ok(first_by_rows(states, frames, numbers, handlers, slot, bound));
+    let groups = row_groups(alloc, handlers)?;
+    let mut first = uncaught;
+    'slots: for slot in 0..slots {
+        first = first_by_runs(alloc, states, frames, numbers, &groups, slot, first)?;
     }
-    first_by_runs(alloc, states, frames, numbers, handlers, slot, bound)
+    Ok(first)
 }
 
-/// How many states the rows may look at for one local variable, for each instruction, before the column is made.
+/// How many states the rows may look at for one local variable, for each instruction, before columns are made.
 const LOOKS: usize = 4;
 
 /// The first instruction whose state before it doesn't fit a handler that guards it, or the number of states.
@@ -279,12 +339,11 @@ fn first_of_states(
     requires numbers { AreNumbers frames.now (length numbers.now) numbers.now }
     ensures { IfOk result (IsFirstOrBound (IsUnguarded states.now frames.now handlers.now slots) (length states.now)) }
 {
-    let few = guard_few(handlers, states.len().saturating_mul(LOOKS));
-    let mut first = first_uncaught(frames, numbers, handlers, states.len());
-    'slots: for slot in 0..slots {
-        first = first_in_slot(alloc, states, frames, numbers, handlers, slot, first, few)?;
+    let uncaught = first_uncaught(frames, numbers, handlers, states.len());
+    if guard_few(handlers, states.len().saturating_mul(LOOKS)) {
+        return Ok(first_of_few(states, frames, numbers, handlers, slots, uncaught));
     }
-    Ok(first)
+    first_of_many(alloc, states, frames, numbers, handlers, slots, uncaught)
 }
 
 /// The first of so many instructions whose state before it doesn't fit a handler that guards it, or their number. The

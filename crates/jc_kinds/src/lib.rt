@@ -8,6 +8,7 @@ mod frames;
 mod guarded;
 mod laws;
 mod missing;
+mod rows;
 mod runs;
 mod walk;
 

@@ -1,8 +1,8 @@
 use Rattle.std.proofs.Common.{take}
 use Rattle.jc_kinds.specs.First.{IsFirstOrBound}
-use Rattle.jc_kinds.specs.Guarded.{IsUnfitInColumn}
+use Rattle.jc_kinds.specs.Rows.{IsUnfitInGroups, rows_of}
 use Rattle.jc_kinds.proofs.guarded.first_in_column.Given as goal
 
--- the first place by the rows so far
+-- the first place by the groups so far
 abbrev pub invariant-looking : goal.invariant-looking
-invariant-looking l = IsFirstOrBound (IsUnfitInColumn l.column l.frames l.slot (take l.handler-index l.handlers)) l.bound l.first
+invariant-looking l = IsFirstOrBound (IsUnfitInGroups l.column l.frames l.slot (rows_of (take l.rows-index l.groups))) l.bound l.first

@@ -1,0 +1,8 @@
+use Rattle.std.proofs.Common.{length}
+use Rattle.jc_kinds.specs.First.{IsFirstOrBound}
+use Rattle.jc_kinds.specs.Guarded.{IsUnguarded}
+use Rattle.jc_kinds.proofs.guarded.first_of_many.Given as goal
+
+-- the first place by the local variables so far
+abbrev pub invariant-slots : goal.invariant-slots
+invariant-slots l = IsFirstOrBound (IsUnguarded l.states l.frames l.handlers l.slot) (length l.states) l.first
