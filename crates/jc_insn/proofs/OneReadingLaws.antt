@@ -103,13 +103,22 @@ same_fault at bytes (insn ∷ code) (insn' ∷ code') kind kind' offset offset' 
 
 -- ---- numbers in place of offsets
 
-pub spells : (bytes : List ℕ) (text code : List Insn) (starts numbers : List ℕ) (size count : ℕ) → SpellsFrom 0 bytes text starts → length numbers ≡ size
-    → ((offset : ℕ) → offset < size → get_or numbers offset 0 ≡ insn_number starts offset) → All (λ start. start < size) starts
-    → length starts ≡ count + 1 → code ≡ map (with_places (λ offset. get_or numbers offset count)) text → Spells bytes code starts
-spells bytes text code starts numbers size count s long each within starts_long code_is = record {
+-- The table has for each offset the number of the instruction that begins there. The offsets of the instructions, of which
+-- there are so many, and of the end are in it.
+pub record NumbersStarts (starts numbers : List ℕ) (count : ℕ) : Type 0 where
+  pub size : ℕ
+  pub long : length numbers ≡ size
+  pub each : (offset : ℕ) → offset < size → get_or numbers offset 0 ≡ insn_number starts offset
+  pub within : All (λ start. start < size) starts
+  pub one_more : length starts ≡ count + 1
+
+pub spells : (bytes starts numbers : List ℕ) (text code : List Insn) (count : ℕ) → SpellsFrom 0 bytes text starts → NumbersStarts starts numbers count
+    → code ≡ map (with_places (λ offset. get_or numbers offset count)) text → Spells bytes code starts
+spells bytes starts numbers text code count s table code_is = record {
   spelled = text;
   text = s;
-  places = code_is ∙ ap (λ (f : ℕ → ℕ). map (with_places f) text) (numbers_are starts numbers size count long each within starts_long);
+  places = code_is ∙ ap (λ (f : ℕ → ℕ). map (with_places f) text)
+      (numbers_are starts numbers table.size count table.long table.each table.within table.one_more);
 }
 
 pub one_list : (bytes : List ℕ) (code code' : List Insn) (starts starts' : List ℕ) → Spells bytes code starts → Spells bytes code' starts'

@@ -3,7 +3,7 @@ use Rattle.std.proofs.lemmas.Result.{err_from_is_err_and}
 use Rattle.jc_methods.specs.Insn.{with_places}
 use Rattle.jc_methods.specs.Starts.{insn_number}
 use Rattle.jc_insn.specs.Spells.{Spells}
-use Rattle.jc_insn.proofs.OneReadingLaws.{spells, one_list, spelled_or_memory, not_spelled, refused_or_memory}
+use Rattle.jc_insn.proofs.OneReadingLaws.{NumbersStarts, spells, one_list, spelled_or_memory, not_spelled, refused_or_memory}
 use Rattle.jc_insn.proofs.DecodedInsnLaws.{all_among, are_starts}
 use Rattle.jc_insn.proofs.decoding.decode.Goals as goal
 use Rattle.jc_insn.proofs.decoding.decode.Goals.{After-drop-numbers-2}
@@ -28,9 +28,16 @@ spelled c =
     ≡ insn_number l offset) c.deref.ensures.value c.in_ok-numbers.ensures.each in
     let numbered : c.in_ok-code.code ≡ map (with_places (λ offset. get_or c.in_ok-numbers.numbers.items offset c.len.result)) t.code.items =
     c.in_ok-code.ensures ∙ ap (λ (l : List ℕ). map (with_places (λ offset. get_or l offset c.len.result)) t.code.items) c.deref-2.ensures.value in
+    let table : NumbersStarts t.starts.items c.in_ok-numbers.numbers.items c.len.result = record {
+      size = size;
+      long = c.in_ok-numbers.ensures.length;
+      each = each;
+      within = c.in_ok-text.ensures.within;
+      one_more = omega (arith, c.in_ok-text.ensures.count, length_is);
+    } in
     subst (λ (l : List ℕ). Spells c.args.code.now c.in_ok-code.code l) (sym c.from_vec.ensures)
-    (spells c.args.code.now t.code.items c.in_ok-code.code t.starts.items c.in_ok-numbers.numbers.items size c.len.result c.in_ok-text.ensures.ok
-    c.in_ok-numbers.ensures.length each c.in_ok-text.ensures.within (omega (arith, c.in_ok-text.ensures.count, length_is)) numbered)
+    (spells c.args.code.now t.starts.items c.in_ok-numbers.numbers.items t.code.items c.in_ok-code.code c.len.result c.in_ok-text.ensures.ok
+    table numbered)
 
 pub returns-clause-spelled : goal.returns-clause-spelled
 returns-clause-spelled c = spelled c
