@@ -1,16 +1,16 @@
 -- Over a store with one record of each id, each text has a union or a block that is refused first.
-use Rattle.std.proofs.Common.{◌≡◌, ◌≢◌, ◌⊎◌, inl, inr, ℕ, zero, suc, ◌<◌, ◌≤◌, Bool, true, false, cond, List, [], ◌∷◌, ◌++◌, length, Contains, Option, Some, None, option_map, nat_eq, refl, sym, ◌∙◌, ap, subst, arith, append_assoc}
+use Rattle.std.proofs.Common.{◌≡◌, ◌≢◌, ◌⊎◌, inl, inr, ℕ, zero, suc, ◌<◌, ◌≤◌, Bool, true, false, List, [], ◌∷◌, ◌++◌, length, Contains, Option, Some, None, option_map, nat_eq, refl, sym, ◌∙◌, ap, subst, arith, append_assoc}
 use Rattle.std.proofs.lemmas.Bool.{eqb-true, false≢true}
 use Rattle.std.proofs.lemmas.List.{append-nil}
 use Rattle.jc_bytes.proofs.DecoderLaws.{some_none}
 use Rattle.jc_exec.specs.declared.hits.ClassHits.{ClassHits}
 use Rattle.jc_exec.specs.Format.{Block, header, session, class, IsBlock, Blocks}
 use Rattle.jc_exec.specs.Store.{Store}
-use Rattle.jc_exec.specs.Union.{Agrees, IsUnion, agree, either_bits, with_record, with_block}
+use Rattle.jc_exec.specs.Union.{Agrees, IsUnion, agree, with_record, with_block}
 use Rattle.jc_exec.specs.Refusing.{Refused, bad_exec, other_version, conflict, blocks_of, MayFollow, RefusedHere, IsTaken, IsRefused, OneOfEachId}
 use Rattle.jc_exec.proofs.BlockInFrontLaws.{Decided, HasBlock, other_header_decided, block_decided, shorter}
 use Rattle.jc_exec.proofs.ListLaws.{one_front, blocks_push}
-use Rattle.jc_exec.proofs.MergingLaws.{agrees_agree, union_block}
+use Rattle.jc_exec.proofs.MergingLaws.{agrees_agree, with_first, union_block}
 use Rattle.jc_exec.proofs.StoringLaws.{own_union}
 
 -- ---- a block that may follow
@@ -34,8 +34,7 @@ clashes [] r none = absurd (some_none none)
 clashes (c ∷ cs) r none = by (nat_eq c.id r.id) (agree c r) (with_record cs r) refl refl none (λ later. clashes cs r later) refl
   where
     by : (a b : Bool) (rest : Option (List ClassHits)) → nat_eq c.id r.id ≡ a → agree c r ≡ b
-        → cond a (cond b (Some (record { id = c.id; name = c.name; bits = either_bits c.bits r.bits } ∷ cs)) None) (option_map (λ (l : List ClassHits). c ∷ l) rest) ≡ None
-        → (with_record cs r ≡ None → Clashes cs r) → with_record cs r ≡ rest → Clashes (c ∷ cs) r
+        → with_first c r cs a b rest ≡ None → (with_record cs r ≡ None → Clashes cs r) → with_record cs r ≡ rest → Clashes (c ∷ cs) r
     by true true rest id agrees none later is = absurd (some_none none)
     by true false rest id agrees none later is = (c, (0, omega arith, refl), eqb-true c.id r.id id, λ a. false≢true (sym agrees ∙ agrees_agree c r (record { name = sym a.name; count = sym a.count })))
     by false b (Some es) id agrees none later is = absurd (some_none none)
@@ -58,10 +57,17 @@ refused_here before text taken rest read store r why here = inr (why, record { r
 
 -- no block that may follow stands in front
 unfit_here : (before : Store) (text taken rest : List ℕ) (read : List Block) (store : Store) → Reached before text taken rest read store → rest ≢ []
-    → ((b : Block) (front more : List ℕ) → rest ≡ front ++ more → IsBlock front b → MayFollow read b → ⊥) → Answered before text
+    → ((h : HasBlock rest) → MayFollow read h.block → ⊥) → Answered before text
 unfit_here before text taken rest read store r some none = elim (other_header_decided rest) [
   | inl h ↦ refused_here before text taken rest read store r (other_version h.0) h.1
-  | inr known ↦ refused_here before text taken rest read store r (bad_exec (length taken)) (refl, record { some = some; none = none; known = known })
+  | inr known ↦ refused_here before text taken rest read store r (bad_exec (length taken)) (
+    refl,
+    record {
+      some = some;
+      none = λ b front more parts is follows. none (record { block = b; front = front; more = more; parts = parts; is = is }) follows;
+      known = known;
+    },
+  )
 ]
 
 -- one block more is reached, or the text has its answer
@@ -94,28 +100,39 @@ record_none (Some cs) store e = absurd (some_none e)
 
 -- a block that may follow is refused for a conflict alone
 conflict_here : (before : Store) (text taken rest : List ℕ) (read : List Block) (store : Store) → Reached before text taken rest read store
-    → (b : Block) (front more : List ℕ) → rest ≡ front ++ more → IsBlock front b → MayFollow read b → with_block store b ≡ None → Answered before text
-conflict_here before text taken rest read store r header front more parts block follows none = absurd (some_none none)
-conflict_here before text taken rest read store r (session s) front more parts block follows none = absurd (some_none none)
-conflict_here before text taken rest read store r (class c) front more parts block follows none =
-    let d = clashes store.classes c (record_none (with_record store.classes c) store none) in
-    refused_here before text taken rest read store r (conflict c.id d.0.name c.name (length d.0.bits) (length c.bits))
-    (d.0, c, record { front = front; more = more; parts = parts; block = block; follows = follows; holds = d.1; same_id = d.2; differs = d.3 }, refl, refl, refl, refl, refl)
+    → (h : HasBlock rest) → MayFollow read h.block → with_block store h.block ≡ None → Answered before text
+conflict_here before text taken rest read store r h follows none = by h.block h.is follows none
+  where
+    by : (b : Block) → IsBlock h.front b → MayFollow read b → with_block store b ≡ None → Answered before text
+    by header block follows none = absurd (some_none none)
+    by (session s) block follows none = absurd (some_none none)
+    by (class c) block follows none =
+        let d = clashes store.classes c (record_none (with_record store.classes c) store none) in
+        refused_here before text taken rest read store r (conflict c.id d.0.name c.name (length d.0.bits) (length c.bits)) (
+          d.0,
+          c,
+          record { front = h.front; more = h.more; parts = h.parts; block = block; follows = follows; holds = d.1; same_id = d.2; differs = d.3 },
+          refl,
+          refl,
+          refl,
+          refl,
+          refl,
+        )
 
 step : (before : Store) (text taken rest : List ℕ) (read : List Block) (store : Store) → Reached before text taken rest read store → rest ≢ []
     → Answered before text ⊎ Next before text rest
 step before text taken rest read store r some = elim (block_decided rest) [
-  | inr none ↦ inl (unfit_here before text taken rest read store r some (λ b front more parts block follows. none b front more parts block))
+  | inr none ↦ inl (unfit_here before text taken rest read store r some (λ h follows. none h.block h.front h.more h.parts h.is))
   | inl h ↦ elim (follows_decided read h.block) [
-    | inr other ↦ inl (unfit_here before text taken rest read store r some (λ b front more parts block follows.
-        other (subst (MayFollow read) (one_front b h.block rest front more h.front h.more block h.is parts h.parts).0 follows)))
+    | inr other ↦ inl (unfit_here before text taken rest read store r some (λ g follows.
+        other (subst (MayFollow read) (one_front g.block h.block rest g.front g.more h.front h.more g.is h.is g.parts h.parts).0 follows)))
     | inl follows ↦ by h follows (with_block store h.block) refl
   ]
 ]
   where
     by : (h : HasBlock rest) → MayFollow read h.block → (o : Option Store) → with_block store h.block ≡ o → Answered before text ⊎ Next before text rest
     by h follows (Some t) merged = inr (next_block before text taken rest read store t r h follows merged)
-    by h follows None none = inl (conflict_here before text taken rest read store r h.block h.front h.more h.parts h.is follows none)
+    by h follows None none = inl (conflict_here before text taken rest read store r h follows none)
 
 not_nil : (x : ℕ) (l : List ℕ) → x ∷ l ≢ []
 not_nil x l = λ e. cc

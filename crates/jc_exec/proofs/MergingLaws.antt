@@ -63,14 +63,24 @@ merged_same rs r c id a m =
 
 -- ---- records with one more
 
+-- the records with one more, by whether the first has its id and agrees with it, and by what comes of those behind
+abbrev pub with_first : ClassHits → ClassHits → List ClassHits → Bool → Bool → Option (List ClassHits) → Option (List ClassHits)
+with_first c r cs same agrees rest = cond same (cond agrees (Some (either_hits c r ∷ cs)) None) (option_map (λ (l : List ClassHits). c ∷ l) rest)
+
+-- the first record has the id, and took the bits
+abbrev MergedAtFirst : ClassHits → ClassHits → List ClassHits → List ClassHits → Type 0
+MergedAtFirst c r cs ds = (c.id ≡ r.id) × Agrees r c × (ds ≡ either_hits c r ∷ cs)
+
+-- the first record has another id, and the one more is among those behind
+abbrev MergedBehind : ClassHits → ClassHits → List ClassHits → List ClassHits → Type 0
+MergedBehind c r cs ds = (nat_eq c.id r.id ≡ false) × (es : List ClassHits) × (with_record cs r ≡ Some es) × (ds ≡ c ∷ es)
+
 -- what comes of a step over the first record
-first_step : (c r : ClassHits) (cs ds : List ClassHits) → with_record (c ∷ cs) r ≡ Some ds
-    → ((c.id ≡ r.id) × Agrees r c × (ds ≡ either_hits c r ∷ cs)) ⊎ ((nat_eq c.id r.id ≡ false) × (es : List ClassHits) × (with_record cs r ≡ Some es) × (ds ≡ c ∷ es))
+first_step : (c r : ClassHits) (cs ds : List ClassHits) → with_record (c ∷ cs) r ≡ Some ds → MergedAtFirst c r cs ds ⊎ MergedBehind c r cs ds
 first_step c r cs ds e = by (nat_eq c.id r.id) (agree c r) (with_record cs r) refl refl refl e
   where
     by : (a b : Bool) (rest : Option (List ClassHits)) → nat_eq c.id r.id ≡ a → agree c r ≡ b → with_record cs r ≡ rest
-        → cond a (cond b (Some (either_hits c r ∷ cs)) None) (option_map (λ (l : List ClassHits). c ∷ l) rest) ≡ Some ds
-        → ((c.id ≡ r.id) × Agrees r c × (ds ≡ either_hits c r ∷ cs)) ⊎ ((nat_eq c.id r.id ≡ false) × (es : List ClassHits) × (with_record cs r ≡ Some es) × (ds ≡ c ∷ es))
+        → with_first c r cs a b rest ≡ Some ds → MergedAtFirst c r cs ds ⊎ MergedBehind c r cs ds
     by true true rest id agrees is e = inl (eqb-true c.id r.id id, agree_agrees c r agrees, sym (some_is (either_hits c r ∷ cs) ds e))
     by true false rest id agrees is e = absurd cc
     by false b (Some es) id agrees is e = inr (id, es, is, sym (some_is (c ∷ es) ds e))
@@ -211,7 +221,7 @@ record_fits [] r a = (r ∷ [], refl)
 record_fits (c ∷ cs) r a = by (nat_eq c.id r.id) refl (record_fits cs r a.1)
   where
     by : (b : Bool) → nat_eq c.id r.id ≡ b → (ds : List ClassHits) × (with_record cs r ≡ Some ds)
-        → (ds : List ClassHits) × (cond b (cond (agree c r) (Some (either_hits c r ∷ cs)) None) (option_map (λ (l : List ClassHits). c ∷ l) (with_record cs r)) ≡ Some ds)
+        → (ds : List ClassHits) × (with_first c r cs b (agree c r) (with_record cs r) ≡ Some ds)
     by true is rest = (either_hits c r ∷ cs, rw (agrees_agree c r (a.0 (eqb-true c.id r.id is))) refl)
     by false is (es, e) = (c ∷ es, rw e refl)
 
