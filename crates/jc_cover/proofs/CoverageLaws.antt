@@ -1,6 +1,6 @@
 -- The coverage of a class.
-use Rattle.std.proofs.Common.{◌≡◌, ◌↔◌, ℕ, ◌+◌, Bool, List, [], ◌∷◌, map, length, Some, refl, sym, ap, ap₂, ◌∙◌, subst, zero-add}
-use Rattle.std.specs.Prelude.{IsTrue, slice_get, option_map, option_and_then, Contains}
+use Rattle.std.proofs.Common.{◌≡◌, ℕ, ◌+◌, Bool, List, [], ◌∷◌, map, length, Some, refl, sym, ap, ap₂, ◌∙◌, subst, zero-add}
+use Rattle.std.specs.Prelude.{slice_get, option_map, option_and_then, Contains}
 use Rattle.std.proofs.lemmas.List.{length-map}
 use Rattle.std.proofs.lemmas.Option.{slice_get-map}
 use Rattle.jc_bytes.specs.PlainLists.{map_from}
@@ -12,7 +12,7 @@ use Rattle.jc_plan.specs.Edges.{branches_of, branches}
 use Rattle.jc_plan.specs.Probed.{first_id}
 use Rattle.jc_plan.proofs.ListedLaws.{lists_from}
 use Rattle.jc_plan.proofs.MappedLaws.{made_of}
-use Rattle.jc_cover.specs.Covered.{Covered, branch_count, body_shape, TellsCovered, value_at}
+use Rattle.jc_cover.specs.Covered.{branch_count, body_shape, TellsBranch, TellsCovered}
 use Rattle.jc_cover.specs.Marking.{marks_of, covers, insn_values, values_by, class_values, coverage_of}
 use Rattle.jc_cover.proofs.MarkLaws.{marked_edge}
 
@@ -28,7 +28,7 @@ pub tells : (bodies : List Body) (hits : List Bool) → TellsCovered bodies hits
 tells bodies hits = record { shape = shaped bodies hits 0 bodies; values = value }
   where
     value : (n i k : ℕ) (b : Body) (insn : Insn) (x : Branch) → slice_get bodies n ≡ Some b → slice_get b.code i ≡ Some insn → slice_get (branches_of i insn) k ≡ Some x
-        → (v : Bool) × (value_at (coverage_of bodies hits) n i k ≡ Some v) × (IsTrue v ↔ Covered b (first_id bodies n) hits x)
+        → TellsBranch (coverage_of bodies hits) n i k b (first_id bodies n) hits x
     value n i k b insn x h g l =
         let first = first_id bodies n in
         let marks = marks_of b first hits in

@@ -9,8 +9,8 @@ use Rattle.jc_plan.specs.Probed.{is_probed, id_of, id_if, first_id}
 use Rattle.jc_plan.specs.ClassEdges.{ClassEdge, edge_in}
 use Rattle.jc_plan.proofs.ClassEdgesLaws.{one_class_edge}
 use Rattle.jc_plan.proofs.OneWayLaws.{one_way}
-use Rattle.jc_cover.specs.Covered.{is_hit, IsChain, Covered, IsCovered}
-use Rattle.jc_cover.specs.Followed.{CameTo, began, caught, led, AreEntered, AreFollowed, in_body, TookSometime, IsIdOf, CoversReached, CoversTaken}
+use Rattle.jc_cover.specs.Covered.{IsChain, Covered, IsCovered}
+use Rattle.jc_cover.specs.Followed.{CameTo, began, caught, led, AreEntered, AreFollowed, AreHitReached, AreTakenHit, in_body, TookSometime, IsIdOf, CoversReached, CoversTaken}
 use Rattle.jc_cover.proofs.ChainLaws.{chain_listed, covered_unprobed}
 
 module _ (b : Body) (first : ℕ) (hits : List Bool) where
@@ -21,19 +21,17 @@ module _ (b : Body) (first : ℕ) (hits : List Bool) where
     took_it x i one (caught row c e) = absurd (one.no_handler row c e)
     took_it x i one (led y c leads took) = subst Took (one.single y c leads) took
 
-    along : ((y : Branch) → Contains (branches b.code) y → IsTrue (is_probed b y) → IsTrue (is_hit hits (id_of b first y)) → Reached y)
-        → (x : Branch) (rest : List Branch) → IsChain b first hits (x ∷ rest) → Reached x
+    along : AreHitReached b first hits Reached → (x : Branch) (rest : List Branch) → IsChain b first hits (x ∷ rest) → Reached x
     along last x [] c = last x c.0 c.1.0 c.1.1
     along last x (y ∷ rest) c =
         entered.reached x
         (took_it x y.at (one_way b x y.at c.0 c.1.0 c.1.1)
         (entered.came y (chain_listed b first hits y rest c.2) (along last y rest c.2)))
 
-    pub covered_reached : ((y : Branch) → Contains (branches b.code) y → IsTrue (is_probed b y) → IsTrue (is_hit hits (id_of b first y)) → Reached y)
-        → (x : Branch) → Covered b first hits x → Reached x
+    pub covered_reached : AreHitReached b first hits Reached → (x : Branch) → Covered b first hits x → Reached x
     covered_reached last x c = along last x c.0 c.1
 
-  module _ (Took : Branch → ℕ → Type 0) (followed : AreFollowed b Took) (hit : (x : Branch) (left : ℕ) → Took x left → IsTrue (is_probed b x) → IsTrue (is_hit hits (id_of b first x))) where
+  module _ (Took : Branch → ℕ → Type 0) (followed : AreFollowed b Took) (hit : AreTakenHit b first hits Took) where
     within : (n : ℕ) (x : Branch) (left : ℕ) → left < n → Took x left → Covered b first hits x
     within zero x left lt took = absurd (omega arith)
     within (suc n) x left lt took = by (λ y later less took. within n y later (omega (arith, less, lt)) took) (is_probed b x) refl

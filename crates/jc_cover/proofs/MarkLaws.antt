@@ -200,9 +200,13 @@ module _ (b : Body) (first : ℕ) (hits : List Bool) where
       at_is : (x : Branch) (insn : Insn) → slice_get b.code i ≡ Some insn → Contains (branches_of i insn) x → x.at ≡ i
       at_is x insn stands c = sym (begins_at insn i x c)
 
+  -- of these instructions, which stand from this one on, each of which a probe is hit is marked
+  abbrev AreHitMarked : List Bool → ℕ → List Insn → Type 0
+  AreHitMarked marks i code = (k : ℕ) (insn : Insn) → slice_get code k ≡ Some insn → is_hit_at b first hits (i + k) insn ≡ true → Marked marks (i + k)
+
   record AfterEach (old new : List Bool) (i : ℕ) (code : List Insn) : Type 0 where
     after : After old new
-    hit : (k : ℕ) (insn : Insn) → slice_get code k ≡ Some insn → is_hit_at b first hits (i + k) insn ≡ true → Marked new (i + k)
+    hit : AreHitMarked new i code
 
   -- what marking back from each of these instructions does
   abbrev Each : List Insn → Type 0
@@ -224,7 +228,7 @@ module _ (b : Body) (first : ℕ) (hits : List Bool) where
           let more = again (i + 1) now rest_suffix a.good in
           record { after = record { good = more.after.good; kept = λ j m. more.after.kept j (a.kept j m) }; hit = hit more }
         where
-          hit : AfterEach now (mark_each b first hits from (i + 1) code now) (i + 1) code → (k : ℕ) (other : Insn) → slice_get (insn ∷ code) k ≡ Some other → is_hit_at b first hits (i + k) other ≡ true → Marked (mark_each b first hits from (i + 1) code now) (i + k)
+          hit : AfterEach now (mark_each b first hits from (i + 1) code now) (i + 1) code → AreHitMarked (mark_each b first hits from (i + 1) code now) i (insn ∷ code)
           hit more zero other h e =
               let z : i ≡ i + 0 = omega arith in
               let same : other ≡ insn = sym (same_Some insn other h) in

@@ -16,7 +16,7 @@ use Rattle.jc_plan.proofs.OneWayLaws.{standing, begins_at}
 use Rattle.jc_cover.specs.declared.coverage.Coverage.{Coverage}
 use Rattle.jc_cover.specs.Covered.{CoveredInsn, branch_count, body_shape, HasShape, value_at, values_of, TellsCovered}
 use Rattle.jc_cover.specs.Marking.{marks_of, covers, insn_values, values_by, class_values, coverage_of}
-use Rattle.jc_cover.specs.Counters.{is_covered}
+use Rattle.jc_cover.specs.Counters.{is_covered, TellsInsn}
 use Rattle.jc_cover.proofs.ChainLaws.{chain_listed}
 use Rattle.jc_cover.proofs.MarkLaws.{one_passes, listed_at, marked_edge}
 use Rattle.jc_cover.proofs.CoverageLaws.{tells}
@@ -106,7 +106,7 @@ any_of_map : {X : Type 0} (f : X → Bool) (xs : List X) → list_any (λ v. v) 
 any_of_map f [] = refl
 any_of_map f (x ∷ xs) = ap (λ t. f x || t) (any_of_map f xs)
 
-insn_flag : (b : Body) (first : ℕ) (hits : List Bool) (i : ℕ) (insn : Insn) → slice_get b.code i ≡ Some insn → IsTrue (is_covered (insn_values b first hits (marks_of b first hits) i insn)) ↔ CoveredInsn b first hits i
+insn_flag : (b : Body) (first : ℕ) (hits : List Bool) (i : ℕ) (insn : Insn) → slice_get b.code i ≡ Some insn → TellsInsn b first hits i (insn_values b first hits (marks_of b first hits) i insn)
 insn_flag b first hits i insn h = (to, from)
   where
     told : Branch → Bool
@@ -125,14 +125,15 @@ insn_flag b first hits i insn h = (to, from)
         let here : Contains (branches_of i insn) c.0 = subst (λ z. Contains (branches_of i z) c.0) same (subst (λ k. Contains (branches_of k s.insn) c.0) c.1 s.listed) in
         any_of_map told (branches_of i insn) ∙ (one_passes told (branches_of i insn)).back (c.0, here, (marked_edge b first hits c.0 listed).1 c.2)
 
-pub insn_told : (bodies : List Body) (hits : List Bool) (c : Coverage) (n i : ℕ) (b : Body) (insn : Insn) (values : List Bool) → TellsCovered bodies hits c
-    → slice_get bodies n ≡ Some b → slice_get b.code i ≡ Some insn → values_of c n i ≡ Some values → IsTrue (is_covered values) ↔ CoveredInsn b (first_id bodies n) hits i
-insn_told bodies hits c n i b insn values t h g v =
-    let first = first_id bodies n in
-    let marks = marks_of b first hits in
-    let same = one_coverage bodies hits c (coverage_of bodies hits) t (tells bodies hits) in
-    let body_is : slice_get (map_from (class_values bodies hits) 0 bodies) n ≡ Some (class_values bodies hits n b) = made_of (class_values bodies hits) bodies n b h in
-    let insn_is : slice_get (values_by b first hits marks) i ≡ Some (insn_values b first hits marks i insn) = made_of (insn_values b first hits marks) b.code i insn g in
-    let here : values_of (coverage_of bodies hits) n i ≡ Some (insn_values b first hits marks i insn) = ap (option_and_then (λ insns. slice_get insns i)) body_is ∙ insn_is in
-    let is : insn_values b first hits marks i insn ≡ values = same_Some (insn_values b first hits marks i insn) values (sym here ∙ ap (λ k. values_of k n i) (sym same) ∙ v) in
-    subst (λ vs. IsTrue (is_covered vs) ↔ CoveredInsn b first hits i) is (insn_flag b first hits i insn g)
+module _ (bodies : List Body) (hits : List Bool) (c : Coverage) where
+  pub insn_told : (n i : ℕ) (b : Body) (insn : Insn) (values : List Bool) → TellsCovered bodies hits c → slice_get bodies n ≡ Some b
+      → slice_get b.code i ≡ Some insn → values_of c n i ≡ Some values → TellsInsn b (first_id bodies n) hits i values
+  insn_told n i b insn values t h g v =
+      let first = first_id bodies n in
+      let marks = marks_of b first hits in
+      let same = one_coverage bodies hits c (coverage_of bodies hits) t (tells bodies hits) in
+      let body_is : slice_get (map_from (class_values bodies hits) 0 bodies) n ≡ Some (class_values bodies hits n b) = made_of (class_values bodies hits) bodies n b h in
+      let insn_is : slice_get (values_by b first hits marks) i ≡ Some (insn_values b first hits marks i insn) = made_of (insn_values b first hits marks) b.code i insn g in
+      let here : values_of (coverage_of bodies hits) n i ≡ Some (insn_values b first hits marks i insn) = ap (option_and_then (λ insns. slice_get insns i)) body_is ∙ insn_is in
+      let is : insn_values b first hits marks i insn ≡ values = same_Some (insn_values b first hits marks i insn) values (sym here ∙ ap (λ k. values_of k n i) (sym same) ∙ v) in
+      subst (TellsInsn b first hits i) is (insn_flag b first hits i insn g)

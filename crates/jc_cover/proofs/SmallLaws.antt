@@ -51,7 +51,11 @@ body_size b = insns_and_arms b.code
 weighed : (b : Body) (values : List (List Bool)) → 1 ≤ length b.code → map length values ≡ body_shape b → weight (record { body = b; insns = values }) ≤ 4 * body_size b
 weighed b values some e = let s = sized 0 b.code values e in let is = s.0 in let few = s.1 in omega (arith, some, is, few, few_insns b.code)
 
-all_weighed : (p : Method → Bool) (bodies : List Body) (values : List (List (List Bool))) → AllByRecursion (λ b. 1 ≤ length b.code) bodies → map (map length) values ≡ map body_shape bodies
+-- each body has an instruction
+abbrev HaveInsns : List Body → Type 0
+HaveInsns bodies = AllByRecursion (λ b. 1 ≤ length b.code) bodies
+
+all_weighed : (p : Method → Bool) (bodies : List Body) (values : List (List (List Bool))) → HaveInsns bodies → map (map length) values ≡ map body_shape bodies
     → sum_by weight (filter p (methods_of bodies values)) ≤ 4 * sum_by body_size bodies
 all_weighed p [] values some e = omega arith
 all_weighed p (b ∷ bodies) [] some e = absurd (omega (arith, ap length e))
@@ -134,7 +138,7 @@ module _ (ms : List Method) where
 
 -- ---- a class
 
-some_insns : (bodies : List Body) → All IsWellMade bodies → AllByRecursion (λ b. 1 ≤ length b.code) bodies
+some_insns : (bodies : List Body) → All IsWellMade bodies → HaveInsns bodies
 some_insns [] all = tt
 some_insns (b ∷ bodies) all = ((all 0 b (omega arith)).of_any_size.code.some, some_insns bodies (λ k d lt. all (suc k) d (omega arith)))
 

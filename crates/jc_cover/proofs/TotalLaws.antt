@@ -5,7 +5,7 @@ use Rattle.std.proofs.lemmas.List.{length-append}
 use Rattle.std.proofs.lemmas.List.Sums.{sum_by-cons}
 use Rattle.jc_plan.specs.Entries.{one_if}
 use Rattle.jc_plan.proofs.CountLaws.{count_cons}
-use Rattle.jc_cover.specs.Counters.{Method, is_covered_method, covered_branches, covered_paths, missed_paths, branching}
+use Rattle.jc_cover.specs.Counters.{Method, is_covered_method, covered_branches, covered_paths, missed_paths, branching, complexity_count, whole}
 
 either : (t : Bool) → one_if (not t) + one_if t ≡ 1
 either true = refl
@@ -34,6 +34,5 @@ paths_whole (values ∷ insns) =
     omega (arith, sum_by-cons missed_paths values insns, sum_by-cons covered_paths values insns, sum_by-cons (λ v. length v - 1) values insns, paths values, paths_whole insns)
 
 pub complexity_whole : (methods : List Method) (insns : List (List Bool))
-    → (count_by (λ m. not (is_covered_method m)) methods + sum_by missed_paths (branching insns)) + (count_by is_covered_method methods + sum_by covered_paths (branching insns))
-    ≡ length methods + sum_by (λ values. length values - 1) (branching insns)
+    → whole (complexity_count methods insns) ≡ length methods + sum_by (λ values. length values - 1) (branching insns)
 complexity_whole methods insns = omega (arith, count_whole is_covered_method methods, paths_whole (branching insns))

@@ -1,15 +1,18 @@
 -- The counters of a class (JaCoCo's documentation on coverage counters).
-use Rattle.std.specs.Prelude.{◌≡◌, ◌⊎◌, ℕ, ◌+◌, ◌-◌, ◌<◌, ◌≤◌, Bool, not, ◌&&◌, ◌||◌, List, [], ◌∷◌, map, length, filter}
-use Rattle.std.specs.Prelude.{Option, Some, None, option_map, option_to_list, nat_eq, nat_le, bit_and, codes, slice_get}
+use Rattle.std.specs.Prelude.{◌≡◌, ◌↔◌, ◌⊎◌, ℕ, ◌+◌, ◌-◌, ◌<◌, ◌≤◌, Bool, not, ◌&&◌, ◌||◌, List, [], ◌∷◌, map, length, filter}
+use Rattle.std.specs.Prelude.{Option, Some, None, option_map, option_to_list, nat_eq, nat_le, bit_and, codes, slice_get, IsTrue}
 use Rattle.std.specs.Prelude.{if◌then◌else◌}
 use Rattle.std.specs.List.{count_by, sum_by, flat_map, list_any, starts_with}
 use Rattle.jc_bytes.specs.PlainLists.{join_from}
 use Rattle.jc_bytes.specs.FirstSeen.{first_seen}
+use Rattle.jc_methods.specs.declared.insn.Insn.{Insn}
 use Rattle.jc_methods.specs.declared.body.Body.{Body}
 use Rattle.jc_methods.specs.declared.body.LineAt.{LineAt}
 use Rattle.jc_cover.specs.declared.coverage.Coverage.{Coverage}
 use Rattle.jc_cover.specs.declared.coverage.Count.{Count}
 use Rattle.jc_cover.specs.declared.coverage.Counters.{Counters}
+use Rattle.jc_plan.specs.Probed.{first_id}
+use Rattle.jc_cover.specs.Covered.{CoveredInsn, values_of}
 
 -- ---- which methods count
 
@@ -40,6 +43,16 @@ counted_methods bodies coverage = filter (λ m. is_counted m.body) (methods_of b
 -- of the values of its branches one is true
 abbrev pub is_covered : List Bool → Bool
 is_covered values = list_any (λ value. value) values
+
+-- of the values for an instruction one is true exactly where the instruction is covered
+abbrev pub TellsInsn : Body → ℕ → List Bool → ℕ → List Bool → Type 0
+TellsInsn b first hits i values = IsTrue (is_covered values) ↔ CoveredInsn b first hits i
+
+-- the values of a coverage do so for each instruction of the class
+abbrev pub TellsInsns : List Body → List Bool → Coverage → Type 0
+TellsInsns bodies hits c =
+    (n i : ℕ) (b : Body) (insn : Insn) (values : List Bool) → slice_get bodies n ≡ Some b → slice_get b.code i ≡ Some insn
+    → values_of c n i ≡ Some values → TellsInsn b (first_id bodies n) hits i values
 
 -- one of its instructions is covered
 abbrev pub is_covered_method : Method → Bool

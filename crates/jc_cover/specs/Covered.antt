@@ -92,9 +92,13 @@ values_of coverage n i = option_and_then (λ insns. slice_get insns i) (slice_ge
 abbrev pub value_at : Coverage → ℕ → ℕ → ℕ → Option Bool
 value_at coverage n i k = option_and_then (λ values. slice_get values k) (values_of coverage n i)
 
+-- the value for a branch with these numbers, of a body whose first id is `first`, is true exactly where the branch is covered
+abbrev pub TellsBranch : Coverage → ℕ → ℕ → ℕ → Body → ℕ → List Bool → Branch → Type 0
+TellsBranch coverage n i k b first hits x = (value : Bool) × (value_at coverage n i k ≡ Some value) × (IsTrue value ↔ Covered b first hits x)
+
 -- each value of a covered branch is true, and each other one is false
 pub record TellsCovered (bodies : List Body) (hits : List Bool) (coverage : Coverage) : Type 0 where
   pub shape : HasShape bodies coverage
   pub values : (n i k : ℕ) (b : Body) (insn : Insn) (x : Branch) → slice_get bodies n ≡ Some b
       → slice_get b.code i ≡ Some insn → slice_get (branches_of i insn) k ≡ Some x
-      → (value : Bool) × (value_at coverage n i k ≡ Some value) × (IsTrue value ↔ Covered b (first_id bodies n) hits x)
+      → TellsBranch coverage n i k b (first_id bodies n) hits x

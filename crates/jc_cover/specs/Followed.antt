@@ -5,7 +5,7 @@ use Rattle.jc_methods.specs.declared.body.Handler.{Handler}
 use Rattle.jc_plan.specs.declared.branch.Branch.{Branch}
 use Rattle.jc_plan.specs.Edges.{branches}
 use Rattle.jc_plan.specs.Leading.{LeadsTo}
-use Rattle.jc_plan.specs.Probed.{is_probed}
+use Rattle.jc_plan.specs.Probed.{is_probed, id_of}
 use Rattle.jc_plan.specs.ClassEdges.{ClassEdge, edge_in, IsClassEdge, HasId}
 use Rattle.jc_cover.specs.Covered.{is_hit, IsCovered}
 
@@ -26,6 +26,19 @@ pub record AreFollowed (b : Body) (Took : Branch → ℕ → Type 0) : Type 0 wh
   pub listed : (x : Branch) (left : ℕ) → Took x left → Contains (branches b.code) x
   pub next : (x : Branch) (left : ℕ) → Took x left → is_probed b x ≡ false
       → (y : Branch) × (later : ℕ) × (later < left) × LeadsTo x y.at × Took y later
+
+-- each edge of the body whose probe is hit is reached
+abbrev pub AreHitReached : Body → ℕ → List Bool → (Branch → Type 0) → Type 0
+AreHitReached b first hits Reached =
+    (x : Branch) → Contains (branches b.code) x → IsTrue (is_probed b x) → IsTrue (is_hit hits (id_of b first x)) → Reached x
+
+-- the probe of each taken edge that has one is hit
+abbrev pub AreTakenHit : Body → ℕ → List Bool → (Branch → ℕ → Type 0) → Type 0
+AreTakenHit b first hits Took = (x : Branch) (left : ℕ) → Took x left → IsTrue (is_probed b x) → IsTrue (is_hit hits (id_of b first x))
+
+-- the edge is one of those that were taken when so much was left
+abbrev pub IsAmong : (ℕ → List Branch) → Branch → ℕ → Type 0
+IsAmong took x left = Contains (took left) x
 
 -- ---- in a class, by the numbers of its bodies
 

@@ -1,31 +1,31 @@
 //! Laws of coverage and of counters.
 //!
 //! [`each_chain_follows_the_rule`] is the promise of this crate; the others are steps, which the crates above cite too.
-ghost use Rattle.std.specs.Prelude.{◌≡◌, ◌↔◌, ℕ, All, ◌+◌, ◌-◌, ◌*◌, ◌≤◌, ◌<◌, Bool, false, map, List, Option, Some, IsTrue};
-ghost use Rattle.std.specs.Prelude.{slice_get, Contains, length, slice_index_or};
+ghost use Rattle.std.specs.Prelude.{◌≡◌, ◌↔◌, ℕ, All, ◌+◌, ◌-◌, ◌*◌, ◌≤◌, Bool, false, map, List, Option, IsTrue};
+ghost use Rattle.std.specs.Prelude.{Contains, length, slice_index_or};
 ghost use Rattle.std.specs.List.{sum_by, flat_map};
 ghost use Rattle.jc_methods.specs.WellMade.{IsWellMade, insns_and_arms};
 ghost use Rattle.jc_bytes.specs.FirstSeen.{first_seen};
-ghost use Rattle.jc_methods.specs.declared.insn.Insn.{Insn};
 ghost use Rattle.jc_methods.specs.declared.body.Body.{Body};
 ghost use Rattle.jc_methods.specs.declared.body.LineAt.{LineAt};
 ghost use Rattle.jc_plan.specs.declared.branch.Branch.{Branch};
 ghost use Rattle.jc_plan.specs.Edges.{branches};
 ghost use Rattle.jc_plan.specs.Leading.{LeadsTo};
-ghost use Rattle.jc_plan.specs.Probed.{is_probed, id_of, first_id};
+ghost use Rattle.jc_plan.specs.Probed.{is_probed, id_of};
 ghost use Rattle.jc_cover.specs.declared.coverage.Coverage.{Coverage};
-ghost use Rattle.jc_cover.specs.Covered.{HasShape, values_of, is_hit, Covered, CoveredInsn, CoveredByRule, TellsCovered};
-ghost use Rattle.jc_cover.specs.Followed.{AreEntered, AreFollowed};
+ghost use Rattle.jc_cover.specs.Covered.{HasShape, is_hit, Covered, CoveredInsn, CoveredByRule, TellsCovered};
+ghost use Rattle.jc_cover.specs.Followed.{AreEntered, AreFollowed, AreHitReached, AreTakenHit, IsAmong};
 ghost use Rattle.jc_cover.specs.Marking.{marks_of, covers, coverage_of};
 ghost use Rattle.jc_cover.specs.Counters.{AreAtMost, counters_of, Method, whole, all_insns, counters_of_methods, branching};
-ghost use Rattle.jc_cover.specs.Counters.{lined_insns, is_covered, line_of, IsLineOf};
+ghost use Rattle.jc_cover.specs.Counters.{TellsInsns, lined_insns, line_of, IsLineOf};
 
 /// What chains of edges cover is what the rule says. Of the edges of a body with this first id: one with a probe is
 /// covered exactly where its probe is hit, and one without a probe exactly where the instruction is to which it leads.
 pub fn each_chain_follows_the_rule()
-    ensures rule { (b : Body) (first : ℕ) (hits : List Bool) (x : Branch) → Covered b first hits x ↔ CoveredByRule b first hits x }
-    ensures probed { (b : Body) (first : ℕ) (hits : List Bool) (x : Branch) → Contains (branches b.code) x → IsTrue (is_probed b x)
-        → Covered b first hits x ↔ IsTrue (is_hit hits (id_of b first x)) }
+    ensures rule { (b : Body) (first : ℕ) (hits : List Bool) (x : Branch)
+        → Covered b first hits x ↔ CoveredByRule b first hits x }
+    ensures probed { (b : Body) (first : ℕ) (hits : List Bool) (x : Branch) → Contains (branches b.code) x
+        → IsTrue (is_probed b x) → Covered b first hits x ↔ IsTrue (is_hit hits (id_of b first x)) }
     ensures unprobed { (b : Body) (first : ℕ) (hits : List Bool) (x : Branch) (i : ℕ) → Contains (branches b.code) x
         → is_probed b x ≡ false → LeadsTo x i → Covered b first hits x ↔ CoveredInsn b first hits i }
 {}
@@ -48,9 +48,8 @@ pub fn each_coverage_tells_what_is_covered()
 pub fn each_class_has_one_coverage()
     ensures one { (bodies : List Body) (hits : List Bool) (c d : Coverage) → TellsCovered bodies hits c
         → TellsCovered bodies hits d → c ≡ d }
-    ensures insns { (bodies : List Body) (hits : List Bool) (c : Coverage) (n i : ℕ) (b : Body) (insn : Insn) (values : List Bool)
-        → TellsCovered bodies hits c → slice_get bodies n ≡ Some b → slice_get b.code i ≡ Some insn
-        → values_of c n i ≡ Some values → IsTrue (is_covered values) ↔ CoveredInsn b (first_id bodies n) hits i }
+    ensures insns { (bodies : List Body) (hits : List Bool) (c : Coverage) → TellsCovered bodies hits c
+        → TellsInsns bodies hits c }
 {}
 
 /// The line that is found for an instruction is its line, and it has no other.
@@ -64,7 +63,8 @@ pub fn each_line_is_found()
 /// than its branches.
 pub fn each_counter_has_its_whole()
     ensures instruction { (methods : List Method) → whole (counters_of_methods methods).instruction ≡ length (all_insns methods) }
-    ensures branch { (methods : List Method) → whole (counters_of_methods methods).branch ≡ sum_by length (branching (all_insns methods)) }
+    ensures branch { (methods : List Method) → whole (counters_of_methods methods).branch
+        ≡ sum_by length (branching (all_insns methods)) }
     ensures line { (methods : List Method)
         → whole (counters_of_methods methods).line ≡ length (first_seen (map (λ l. l.number) (flat_map lined_insns methods))) }
     ensures complexity { (methods : List Method) → whole (counters_of_methods methods).complexity
@@ -84,11 +84,9 @@ pub fn each_counter_is_small()
 /// the edges that were taken when so much was left.
 pub fn each_covered_edge_is_entered()
     ensures reached { (b : Body) (first : ℕ) (hits : List Bool) (took reached : List Branch)
-        → AreEntered b (Contains took) (Contains reached)
-        → ((y : Branch) → Contains (branches b.code) y → IsTrue (is_probed b y) → IsTrue (is_hit hits (id_of b first y))
-        → Contains reached y)
+        → AreEntered b (Contains took) (Contains reached) → AreHitReached b first hits (Contains reached)
         → (x : Branch) → Covered b first hits x → Contains reached x }
-    ensures covered { (b : Body) (first : ℕ) (hits : List Bool) (took : ℕ → List Branch) → AreFollowed b (λ x left. Contains (took left) x)
-        → ((x : Branch) (left : ℕ) → Contains (took left) x → IsTrue (is_probed b x) → IsTrue (is_hit hits (id_of b first x)))
-        → (x : Branch) (left : ℕ) → Contains (took left) x → Covered b first hits x }
+    ensures covered { (b : Body) (first : ℕ) (hits : List Bool) (took : ℕ → List Branch)
+        → AreFollowed b (IsAmong took) → AreTakenHit b first hits (IsAmong took)
+        → (x : Branch) (left : ℕ) → IsAmong took x left → Covered b first hits x }
 {}
