@@ -322,10 +322,11 @@ running_fits program method numbers c b k e =
       there = (frame_there program method b numbers, tt);
     }
 
-thread_if : (program : Program) (method : Entry) (numbers : List ℤ) (c : Linked) (b : Body) (t : Bool) → is_enterable c b ≡ t → Begun program method numbers c b
-    → FitsThread program [] (cond t (running (first_frame method b numbers) []) (stuck method 0))
-thread_if program method numbers c b true e k = running_fits program method numbers c b k e
-thread_if program method numbers c b false e k = tt
+module _ (program : Program) (method : Entry) (numbers : List ℤ) (c : Linked) (b : Body) where
+  thread_if : (t : Bool) → is_enterable c b ≡ t → Begun program method numbers c b
+      → FitsThread program [] (cond t (running (first_frame method b numbers) []) (stuck method 0))
+  thread_if true e k = running_fits program method numbers c b k e
+  thread_if false e k = tt
 
 thread_fits : (program : Program) (thread : ThreadLine) (entry : Entry) → IsProgram program → entry_of program thread ≡ Some entry → FitsThread program [] (first_thread program entry thread.args)
 thread_fits program thread entry p e =
