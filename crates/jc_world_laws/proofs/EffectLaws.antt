@@ -21,15 +21,24 @@ use Rattle.jc_world_laws.proofs.PairMoveLaws.{dup2_kept, dup2_x1_kept, dup2_x2_k
 pub form_swap_0 : StackEffect
 form_swap_0 = form (wants.Single ∷ wants.Single ∷ []) (item 1 ∷ item 0 ∷ [])
 
-pub left_swap_0 : (rest : List Value) (low : List VerificationType) (v0 v1 : Value) (h0 h1 : VerificationType) → accepts_all (wants.Single ∷ wants.Single ∷ []) (h0 ∷ h1 ∷ []) ≡ true → AreOfVerificationTypes (v1 ∷ v0 ∷ []) (h1 ∷ h0 ∷ []) → IsStack rest low
-    → Left (low ++ map (given_of (h0 ∷ h1 ∷ [])) (item 1 ∷ item 0 ∷ [])) (v1 ∷ v0 ∷ rest) (moved (moves_of opcode.swap) (v1 ∷ v0 ∷ rest))
+-- two values of these types, the lower one first, as swap takes them
+pub record AreSwappable (v0 v1 : Value) (h0 h1 : VerificationType) : Type 0 where
+  pub accepted : accepts_all (wants.Single ∷ wants.Single ∷ []) (h0 ∷ h1 ∷ []) ≡ true
+  pub are : AreOfVerificationTypes (v1 ∷ v0 ∷ []) (h1 ∷ h0 ∷ [])
+
+-- what swap leaves of the stack has the types that lie below, and those that the kind check gives for the two that it takes
+abbrev pub LeftBySwap : List VerificationType → List VerificationType → List Value → Type 0
+LeftBySwap low taken stack = Left (low ++ map (given_of taken) (item 1 ∷ item 0 ∷ [])) stack (moved (moves_of opcode.swap) stack)
+
+pub left_swap_0 : (rest : List Value) (low : List VerificationType) (v0 v1 : Value) (h0 h1 : VerificationType) → AreSwappable v0 v1 h0 h1 → IsStack rest low
+    → LeftBySwap low (h0 ∷ h1 ∷ []) (v1 ∷ v0 ∷ rest)
 unfolding moves_of Left
-left_swap_0 rest low v0 v1 h0 h1 acc are s =
-    let c0 = acc in
+left_swap_0 rest low v0 v1 h0 h1 two s =
+    let c0 = two.accepted in
     let b0 = both (accepts wants.Single h0) _ c0 in let c1 = b0.1 in
     let b1 = both (accepts wants.Single h1) _ c1 in let c2 = b1.1 in
-    let k0 = are.1.0 in
-    let k1 = are.0 in
+    let k0 = two.are.1.0 in
+    let k1 = two.are.0 in
     rw (single_is v0 h0 k0 b0.0, single_is v1 h1 k1 b1.0) (pushes (v0 ∷ v1 ∷ []) rest (h1 ∷ h0 ∷ []) low (k0, (k1, tt)) s)
 
 pub drawn_swap_0 : (stack : List Value) (ks t : List VerificationType) → IsStack stack ks → has_form form_swap_0 ks ≡ true → moved_kinds form_swap_0 ks ≡ t → Left t stack (moved (moves_of opcode.swap) stack)
@@ -39,10 +48,10 @@ drawn_swap_0 stack ks t p acc e =
     let a = shape2 d.kinds d.kind_count in
     let b = shape2 d.values d.value_count in
     subst (λ x. Left x stack (moved (moves_of opcode.swap) stack)) (sym (d.moved_is (item 1 ∷ item 0 ∷ []) t e))
-    (subst (λ x. Left (d.low ++ map (given_of d.kinds) (item 1 ∷ item 0 ∷ [])) x (moved (moves_of opcode.swap) x)) (sym d.stack_is)
-    (subst (λ x. AreOfVerificationTypes d.values (reverse x) → accepts_all (wants.Single ∷ wants.Single ∷ []) x ≡ true → Left (d.low ++ map (given_of x) (item 1 ∷ item 0 ∷ [])) (d.values ++ d.rest) (moved (moves_of opcode.swap) (d.values ++ d.rest))) (sym a.2)
-    (subst (λ x. AreOfVerificationTypes x (a.1 ∷ a.0 ∷ []) → accepts_all (wants.Single ∷ wants.Single ∷ []) (a.0 ∷ a.1 ∷ []) ≡ true → Left (d.low ++ map (given_of (a.0 ∷ a.1 ∷ [])) (item 1 ∷ item 0 ∷ [])) (x ++ d.rest) (moved (moves_of opcode.swap) (x ++ d.rest))) (sym b.2)
-    (λ are ac. left_swap_0 d.rest d.low b.1 b.0 a.0 a.1 ac are d.below)) d.are d.accepted))
+    (subst (LeftBySwap d.low d.kinds) (sym d.stack_is)
+    (subst (λ x. AreOfVerificationTypes d.values (reverse x) → accepts_all (wants.Single ∷ wants.Single ∷ []) x ≡ true → LeftBySwap d.low x (d.values ++ d.rest)) (sym a.2)
+    (subst (λ x. AreOfVerificationTypes x (a.1 ∷ a.0 ∷ []) → accepts_all (wants.Single ∷ wants.Single ∷ []) (a.0 ∷ a.1 ∷ []) ≡ true → LeftBySwap d.low (a.0 ∷ a.1 ∷ []) (x ++ d.rest)) (sym b.2)
+    (λ are ac. left_swap_0 d.rest d.low b.1 b.0 a.0 a.1 (record { accepted = ac; are = are }) d.below)) d.are d.accepted))
 
 pub forms_of_swap : forms_at opcode.swap ≡ form_swap_0 ∷ []
 unfolding table forms_at form_swap_0
@@ -51,8 +60,13 @@ forms_of_swap = refl
 pub swap_kept : (most : ℕ) (stack : List Value) (ks : List VerificationType) → IsStack stack ks → IsKept most opcode.swap stack ks (moved (moves_of opcode.swap) stack)
 swap_kept most stack ks p = kept_from most opcode.swap stack ks (moved (moves_of opcode.swap) stack) (λ t e. ⊎_elim (λ c. drawn_swap_0 stack ks t p c.0 c.1) (λ e1. absurd (none_some e1)) (moved_cases most form_swap_0 ([]) ks t (ap (λ l. moved_by most l ks) (sym forms_of_swap) ∙ e)))
 
-pub move_by : (most op k : ℕ) (stack : List Value) (ks : List VerificationType) (a b : List Move) (t : Bool) → nat_eq op k ≡ t → IsKept most k stack ks (moved a stack) → IsKept most op stack ks (moved b stack) → IsKept most op stack ks (moved (cond t a b) stack)
-move_by most op k stack ks a b true e p q = subst (λ n. IsKept most n stack ks (moved a stack)) (sym (eqb-true op k e)) p
+-- what moves leave of the stack has the types that the kind check gives the opcode
+abbrev pub AreMovesKept : ℕ → ℕ → List Value → List VerificationType → List Move → Type 0
+AreMovesKept most op stack ks moves = IsKept most op stack ks (moved moves stack)
+
+pub move_by : (most op k : ℕ) (stack : List Value) (ks : List VerificationType) (a b : List Move) (t : Bool) → nat_eq op k ≡ t
+    → AreMovesKept most k stack ks a → AreMovesKept most op stack ks b → AreMovesKept most op stack ks (cond t a b)
+move_by most op k stack ks a b true e p q = subst (λ n. AreMovesKept most n stack ks a) (sym (eqb-true op k e)) p
 move_by most op k stack ks a b false e p q = q
 
 pub moves_kept : (most op : ℕ) (stack : List Value) (ks : List VerificationType) → IsStack stack ks → IsKept most op stack ks (moved (moves_of op) stack)

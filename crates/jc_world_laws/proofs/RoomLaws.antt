@@ -93,16 +93,18 @@ step_room g fails k t e = absurd (none_some e)
 
 -- ---- states
 
-frame_room : (names : Names) (code : List Insn) (first most_locals most : ℕ) (frames : List FrameAt) (i : ℕ) (s : TypeState) → AreFramesFrom first code most_locals most frames → frame_at (map (type_state_at names) frames) i ≡ Some s → slots s.stack ≤ most
-frame_room names code first most_locals most [] i s w e = absurd (none_some e)
-frame_room names code first most_locals most (f ∷ frames) i s w e = by (nat_eq f.at i) (λ g. frame_room names code (f.at + 1) most_locals most frames i s w.3 g) e
-  where
-    room : slots (map (verification_type names) f.state.stack) ≤ most
-    room = subst (λ n. n ≤ most) (sym (stack_width names f.state.stack)) (w.2).stack
+module _ (names : Names) (code : List Insn) (most_locals most : ℕ) where
+  frame_room : (first : ℕ) (frames : List FrameAt) (i : ℕ) (s : TypeState) → AreFramesFrom first code most_locals most frames
+      → frame_at (map (type_state_at names) frames) i ≡ Some s → slots s.stack ≤ most
+  frame_room first [] i s w e = absurd (none_some e)
+  frame_room first (f ∷ frames) i s w e = by (nat_eq f.at i) (λ g. frame_room (f.at + 1) frames i s w.3 g) e
+    where
+      room : slots (map (verification_type names) f.state.stack) ≤ most
+      room = subst (λ n. n ≤ most) (sym (stack_width names f.state.stack)) (w.2).stack
 
-    by : (z : Bool) → (frame_at (map (type_state_at names) frames) i ≡ Some s → slots s.stack ≤ most) → cond z (Some (type_state_at names f).state) (frame_at (map (type_state_at names) frames) i) ≡ Some s → slots s.stack ≤ most
-    by true again g = subst (λ (x : TypeState). slots x.stack ≤ most) (some_is (type_state_at names f).state s g) room
-    by false again g = again g
+      by : (z : Bool) → (frame_at (map (type_state_at names) frames) i ≡ Some s → slots s.stack ≤ most) → cond z (Some (type_state_at names f).state) (frame_at (map (type_state_at names) frames) i) ≡ Some s → slots s.stack ≤ most
+      by true again g = subst (λ (x : TypeState). slots x.stack ≤ most) (some_is (type_state_at names f).state s g) room
+      by false again g = again g
 
 pub state_room : (names : Names) (b : Body) → IsWellMade b → (i : ℕ) (s : TypeState) → state_of names b i ≡ Some s → slots s.stack ≤ b.max_stack
 unfolding state_of after_of
@@ -110,7 +112,7 @@ state_room names b w zero s e = by (frame_at (frames_of names b) 0) refl e
   where
     by : (o : Option TypeState) → frame_at (frames_of names b) 0 ≡ o → or_else o (Some (entry_of b)) ≡ Some s → slots s.stack ≤ b.max_stack
     by None q g = subst (λ (x : TypeState). slots x.stack ≤ b.max_stack) (some_is (entry_of b) s g) (omega arith)
-    by (Some k) q g = frame_room names b.code 0 b.max_locals b.max_stack b.frames 0 s w.of_any_size.frames (q ∙ g)
+    by (Some k) q g = frame_room names b.code b.max_locals b.max_stack 0 b.frames 0 s w.of_any_size.frames (q ∙ g)
 state_room names b w (suc i) s e = by (frame_at (frames_of names b) (suc i)) refl e
   where
     after : (z : Bool) → cond z (option_and_then (after_of b i) (state_of names b i)) None ≡ Some s → slots s.stack ≤ b.max_stack
@@ -122,7 +124,7 @@ state_room names b w (suc i) s e = by (frame_at (frames_of names b) (suc i)) ref
 
     by : (o : Option TypeState) → frame_at (frames_of names b) (suc i) ≡ o → or_else o (cond (falls_at (insn_at b i)) (option_and_then (after_of b i) (state_of names b i)) None) ≡ Some s → slots s.stack ≤ b.max_stack
     by None q g = after (falls_at (insn_at b i)) g
-    by (Some k) q g = frame_room names b.code 0 b.max_locals b.max_stack b.frames (suc i) s w.of_any_size.frames (q ∙ g)
+    by (Some k) q g = frame_room names b.code b.max_locals b.max_stack 0 b.frames (suc i) s w.of_any_size.frames (q ∙ g)
 
 -- ---- frames
 

@@ -17,6 +17,7 @@ use Rattle.jc_after.specs.After.{after_of}
 use Rattle.jc_world.specs.Programs.{IsProgram}
 use Rattle.jc_world.specs.Heap.{HeapObject}
 use Rattle.jc_world.specs.World.{Frame, Thread, running, returned, threw, stuck, Shared, World}
+use Rattle.jc_world.specs.Results.{Result}
 use Rattle.jc_world.specs.Profile.{operation_of}
 use Rattle.jc_world.specs.Perform.{perform}
 use Rattle.jc_world.specs.Step.{operation_at, After, after_result, result_of, turn_of, with_after, step_of, step}
@@ -34,8 +35,13 @@ use Rattle.jc_world_laws.proofs.ThreadLaws.{Lands, lands, running_grows}
 use Rattle.jc_world_laws.proofs.SimpleLaws.{simple_at, push_at, local_at, inc_at, new_array_at, jump_at, table_at, lookup_at}
 use Rattle.jc_world_laws.proofs.PoolLaws.{constant_at, constant2_at, of_class_at, member_at}
 
+-- what an instruction of the frame's method does
+abbrev pub result_by : Program → Shared → Frame → Linked → Body → Insn → Result
+result_by program s f c b insn = perform (operation_of program (at_of f c b) insn) s f
+
 -- each instruction
-pub performed : (program : Program) (s : Shared) (f : Frame) (c : Linked) (b : Body) (k t : TypeState) (insn : Insn) → IsProgram program → IsWellFormed insn → Turn program s f c b insn k t → Fine program s f b (perform (operation_of program (at_of f c b) insn) s f)
+pub performed : (program : Program) (s : Shared) (f : Frame) (c : Linked) (b : Body) (k t : TypeState) (insn : Insn) → IsProgram program
+    → IsWellFormed insn → Turn program s f c b insn k t → Fine program s f b (result_by program s f c b insn)
 unfolding operation_of perform Fine
 performed program s f c b k t (insns.Simple op) p w turn = simple_at op f.method.class turn
 performed program s f c b k t (insns.Push op value) p w turn = push_at op value w turn
@@ -55,7 +61,7 @@ performed program s f c b k t (insns.Lookup default arms) p w turn = lookup_at d
 
 -- a turn of a running thread
 pub running_lands : (program : Program) (s : Shared) (f : Frame) (waiting : List Frame) → IsProgram program → SharedFits program s → FitsRunning program s.heap f waiting → Lands program s (after_result program (result_of program s f) s f waiting)
-running_lands program s f waiting p w run = subst (λ r. Lands program s (after_result program r s f waiting)) (sym result_is) (lands p h.1 w waiting run (perform (operation_of program (at_of f run.top.stands.linked run.top.stands.body) h.0) s f) fine)
+running_lands program s f waiting p w run = subst (λ r. Lands program s (after_result program r s f waiting)) (sym result_is) (lands p h.1 w waiting run (result_by program s f run.top.stands.linked run.top.stands.body h.0) fine)
   where
     h : (insn : Insn) × Here program f run.top.stands.linked run.top.stands.body insn run.top.state
     h = here_of program f run.top.state p run.top.stands
@@ -63,13 +69,13 @@ running_lands program s f waiting p w run = subst (λ r. Lands program s (after_
     next : (t : TypeState) × (after_of run.top.stands.body f.place run.top.state ≡ Some t)
     next = after_is program f run.top.stands.linked run.top.stands.body h.0 run.top.state h.1
 
-    result_is : result_of program s f ≡ perform (operation_of program (at_of f run.top.stands.linked run.top.stands.body) h.0) s f
+    result_is : result_of program s f ≡ result_by program s f run.top.stands.linked run.top.stands.body h.0
     result_is = ap (λ o. perform (operation_at program o) s f) (located_is program f run.top.stands.linked run.top.stands.body h.0 run.top.state h.1)
 
     turn : Turn program s f run.top.stands.linked run.top.stands.body h.0 run.top.state next.0
     turn = record { here = h.1; after = next.1; locals = run.top.locals; stack = run.top.stack; there = run.there.0; shared = w }
 
-    fine : Fine program s f run.top.stands.body (perform (operation_of program (at_of f run.top.stands.linked run.top.stands.body) h.0) s f)
+    fine : Fine program s f run.top.stands.body (result_by program s f run.top.stands.linked run.top.stands.body h.0)
     fine = performed program s f run.top.stands.linked run.top.stands.body run.top.state next.0 h.0 p
         (all_at IsWellFormed run.top.stands.body.code f.place h.0 (h.1).whole.well_made.of_any_size.code.well_formed (h.1).insn_is) turn
 
@@ -127,8 +133,13 @@ entries_are program (thread ∷ threads) [] a = absurd a
 entries_are program (thread ∷ threads) (entry ∷ entries) a =
     ap (λ o. elim o [ None ↦ entries_of program threads | Some x ↦ x ∷ entries_of program threads ]) a.0 ∙ ap (λ l. entry ∷ l) (entries_are program threads entries a.1)
 
+-- the world fits, and what was hit until then is probes
+abbrev pub FitsWithHits : Program → World → Type 0
+FitsWithHits program w = FitsWorld program w × AllByRecursion (IsProbe program) w.hits
+
 -- from a world that fits on
-pub from_fits : (program : Program) (w : World) (turns : List ℕ) → IsProgram program → FitsWorld program w → AllByRecursion (IsProbe program) w.hits → FitsWorld program (run_from program w turns) × AllByRecursion (IsProbe program) (run_from program w turns).hits
+pub from_fits : (program : Program) (w : World) (turns : List ℕ) → IsProgram program → FitsWorld program w → AllByRecursion (IsProbe program) w.hits
+    → FitsWithHits program (run_from program w turns)
 from_fits program w [] p h g = (h, g)
 from_fits program w (t ∷ turns) p h g = from_fits program (step program w t) turns p (step_fits program w t p h) (step_hits program w t p h g)
 
@@ -138,5 +149,5 @@ begins_unhit program case entries = tt
 
 pub run_fits : RunFits
 run_fits program case entries turns p a =
-    subst (λ l. FitsWorld program (run_from program (begin program case.threads l) turns) × AllByRecursion (IsProbe program) (run_from program (begin program case.threads l) turns).hits) (sym (entries_are program case.threads entries a))
+    subst (λ l. FitsWithHits program (run_from program (begin program case.threads l) turns)) (sym (entries_are program case.threads entries a))
     (from_fits program (begin program case.threads entries) turns p (begin_fits program case entries p a) (begins_unhit program case entries))
