@@ -11,7 +11,6 @@ use Rattle.jc_methods.specs.declared.body.Body.{Body}
 use Rattle.jc_methods.specs.declared.body.What.{What}
 use Rattle.jc_methods.specs.declared.body.What.TheVariants as whats
 use Rattle.jc_methods.specs.DescriptorTypes.{field_type_in}
-use Rattle.jc_plan.specs.Chosen.{key_target}
 use Rattle.jc_programs.specs.declared.program.Program.{Program}
 use Rattle.jc_programs.specs.declared.program.Linked.{Linked}
 use Rattle.jc_programs.specs.declared.program.ProbeInit.{ProbeInit}
@@ -21,7 +20,6 @@ use Rattle.jc_programs.specs.Members.{class_named, class_at}
 use Rattle.jc_world.specs.Methods.{is_enterable}
 use Rattle.jc_world.specs.Values.{Value, ComputationalType, computational_type}
 use Rattle.jc_world.specs.World.{Frame, Shared}
-use Rattle.jc_world.specs.Jumps.{by_switch}
 use Rattle.jc_world.specs.Perform.{perform}
 use Rattle.jc_world.specs.Step.{LocatedInsn, operation_at, located}
 use Rattle.jc_world.specs.Operations.{FieldAt, Printed, Operation, pushes, computes, tests, jumps, indexes, matches, makes_array, measures, gets, puts, invokes, returns, returns_nothing, throws_top, outside}
@@ -29,7 +27,7 @@ use Rattle.jc_world.specs.Profile.{Location, in_init, init_of, what_at, constant
 use Rattle.jc_operations.specs.declared.operation.Operation.{Operation as ShownOperation}
 use Rattle.jc_operations.specs.declared.operation.Operation.TheVariants as shown
 use Rattle.jc_operations.specs.Shown.{Shows}
-use Rattle.jc_operations.specs.Invoked.{Invoked, IsSwitch}
+use Rattle.jc_operations.specs.Invoked.{GoesByKey, Invoked, IsSwitch}
 
 module _ (program : Program) where
   -- it is no switch, and what it calls is a method of the program
@@ -217,7 +215,7 @@ module _ (program : Program) where
   -- ---- switches
 
   abbrev Leads : Insn → Operation → Type 0
-  Leads insn o = (s : Shared) (f : Frame) → perform o s f ≡ by_switch (key_target insn) f.stack s f
+  Leads insn o = (s : Shared) (f : Frame) → GoesByKey o insn s f
 
   table_leads : (insn : Insn) (o : Operation) (low : ℤ) (default : ℕ) (arms : List ℕ) → FineInsn insn o → o ≡ indexes low default arms → Leads insn o
   unfolding perform

@@ -49,17 +49,27 @@ all_made program index good is k d h =
 
 -- ---- the methods
 
-pub method_found : (program : Program) (prepared : PreparedProgram) (method : Entry) (c : PreparedClass) (r : Option (Bor PreparedMethod)) → slice_get prepared.classes method.class ≡ Some c
-    → option_map (λ (m : Bor PreparedMethod). m.now) r ≡ slice_get c.methods method.method → IsPrepared program prepared
-    → MatchOption r (body_of program method ≡ None) (λ m. IsMethodOf program method m.now)
-method_found program prepared method c None at e is =
-    let k = made_of (IsPreparedClass program) program.classes prepared.classes is.classes method.class c at in
-    ap (λ (o : Option Linked). option_and_then (λ (l : Linked). slice_get l.bodies method.method) o) k.1
-    ∙ made_none (IsPreparedMethod program method.class k.0) k.0.bodies c.methods k.2.methods method.method (sym e)
-method_found program prepared method c (Some m) at e is =
-    let k = made_of (IsPreparedClass program) program.classes prepared.classes is.classes method.class c at in
-    let b = made_of (IsPreparedMethod program method.class k.0) k.0.bodies c.methods k.2.methods method.method m.now (sym e) in
-    record { linked = k.0; class_is = k.1; body = b.0; body_is = b.1; prepared = b.2 }
+-- what a look at a prepared method sees
+abbrev pub seen_method : Option (Bor PreparedMethod) → Option PreparedMethod
+seen_method r = option_map (λ (m : Bor PreparedMethod). m.now) r
+
+module _ (program : Program) (prepared : PreparedProgram) (method : Entry) (c : PreparedClass) (at : slice_get prepared.classes method.class ≡ Some c)
+    (is : IsPrepared program prepared) where
+  pub method_found : (r : Option (Bor PreparedMethod)) → seen_method r ≡ slice_get c.methods method.method
+      → MatchOption r (body_of program method ≡ None) (λ m. IsMethodOf program method m.now)
+  method_found None e =
+      let k = made_of (IsPreparedClass program) program.classes prepared.classes is.classes method.class c at in
+      ap (λ (o : Option Linked). option_and_then (λ (l : Linked). slice_get l.bodies method.method) o) k.1
+      ∙ made_none (IsPreparedMethod program method.class k.0) k.0.bodies c.methods k.2.methods method.method (sym e)
+  method_found (Some m) e =
+      let k = made_of (IsPreparedClass program) program.classes prepared.classes is.classes method.class c at in
+      let b = made_of (IsPreparedMethod program method.class k.0) k.0.bodies c.methods k.2.methods method.method m.now (sym e) in
+      record { linked = k.0; class_is = k.1; body = b.0; body_is = b.1; prepared = b.2 }
+
+-- the target of the first where it passes, or else of another
+target_first : {X : Type 0} (f : X → ℕ) (passes : Bool) (x : X) (rest : Option X) → option_map f (cond passes (Some x) rest) ≡ cond passes (Some (f x)) (option_map f rest)
+target_first f true x rest = refl
+target_first f false x rest = refl
 
 module _ (program : Program) (method : Entry) (m : PreparedMethod) (is : IsMethodOf program method m) where
   pub body_is : body_of program method ≡ Some is.body
@@ -104,16 +114,10 @@ module _ (program : Program) (method : Entry) (m : PreparedMethod) (is : IsMetho
       } in
       let test : row_handles place c r ≡ handles is.body place c h =
       ap₂ (λ x y. nat_le x place && y) row.start (ap₂ (λ x y. nat_lt place x && y) row.end (row.catches c)) in
-      by (row_handles place c r) refl (handles is.body place c h) refl test row.target (handled place c handlers rows others)
-    where
-      by : (x : Bool) → row_handles place c r ≡ x → (y : Bool) → handles is.body place c h ≡ y → row_handles place c r ≡ handles is.body place c h → r.target ≡ h.target
-          → handling rows place c ≡ option_map (λ (row : Handler). row.target) (find (handles is.body place c) handlers)
-          → option_map (λ (row : PreparedRow). row.target) (cond (row_handles place c r) (Some r) (find (row_handles place c) rows))
-          ≡ option_map (λ (row : Handler). row.target) (cond (handles is.body place c h) (Some h) (find (handles is.body place c) handlers))
-      by true e true g same target rest = rw (e, g) (ap Some target)
-      by false e false g same target rest = rw (e, g) rest
-      by true e false g same target rest = absurd (cc)
-      by false e true g same target rest = absurd (cc)
+      target_first (λ (row : PreparedRow). row.target) (row_handles place c r) r (find (row_handles place c) rows)
+      ∙ ap (λ (o : Option ℕ). cond (row_handles place c r) (Some r.target) o) (handled place c handlers rows others)
+      ∙ ap₂ (λ (t : Bool) (n : ℕ). cond t (Some n) (option_map (λ (row : Handler). row.target) (find (handles is.body place c) handlers))) test row.target
+      ∙ sym (target_first (λ (row : Handler). row.target) (handles is.body place c h) h (find (handles is.body place c) handlers))
 
   -- the first row that handles the throwable
   pub handler_at : (place : ℕ) (c : Thrown) (frame : Frame) → frame.method ≡ method → frame.place ≡ place

@@ -1,13 +1,19 @@
 -- What calls and switches are to the machine.
 use Rattle.std.specs.Prelude.{◌≡◌, ⊤, ℕ, true, List, Some, slice_get}
 use Rattle.jc_bytes.specs.Descriptor.{FieldType}
+use Rattle.jc_methods.specs.declared.insn.Insn.{Insn}
 use Rattle.jc_methods.specs.declared.body.Body.{Body}
 use Rattle.jc_methods.specs.DescriptorTypes.{method_type_in}
 use Rattle.jc_programs.specs.declared.program.Program.{Program}
 use Rattle.jc_programs.specs.declared.program.Linked.{Linked}
 use Rattle.jc_programs.specs.declared.run_end.Entry.{Entry}
 use Rattle.jc_programs.specs.Members.{class_at}
+use Rattle.jc_plan.specs.Chosen.{key_target}
 use Rattle.jc_world.specs.Methods.{is_enterable}
+use Rattle.jc_world.specs.World.{Frame, Shared}
+use Rattle.jc_world.specs.Operations as operations
+use Rattle.jc_world.specs.Jumps.{by_switch}
+use Rattle.jc_world.specs.Perform.{perform}
 use Rattle.jc_operations.specs.declared.operation.Operation.{Operation}
 use Rattle.jc_operations.specs.declared.operation.Operation.TheVariants as shown
 
@@ -26,3 +32,7 @@ abbrev pub IsSwitch : Operation → Type 0
 IsSwitch shown.Indexes = ⊤
 IsSwitch shown.Matches = ⊤
 IsSwitch operation = ⊥
+
+-- a turn at the operation goes on where the instruction leads with the key
+abbrev pub GoesByKey : operations.Operation → Insn → Shared → Frame → Type 0
+GoesByKey operation insn s f = perform operation s f ≡ by_switch (key_target insn) f.stack s f

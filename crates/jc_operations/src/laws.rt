@@ -2,13 +2,10 @@
 ghost use Rattle.std.specs.Prelude.{◌≡◌, ℕ, List, map};
 ghost use Rattle.jc_bytes.specs.Descriptor.{FieldType};
 ghost use Rattle.jc_methods.specs.declared.insn.Insn.{Insn};
-ghost use Rattle.jc_plan.specs.Chosen.{key_target};
 ghost use Rattle.jc_programs.specs.declared.program.Program.{Program};
 ghost use Rattle.jc_programs.specs.declared.run_end.Entry.{Entry};
 ghost use Rattle.jc_world.specs.World.{Frame, Shared};
 ghost use Rattle.jc_world.specs.Operations.{invokes};
-ghost use Rattle.jc_world.specs.Jumps.{by_switch};
-ghost use Rattle.jc_world.specs.Perform.{perform};
 ghost use Rattle.jc_world.specs.Profile.{Location, operation_of};
 ghost use Rattle.jc_world.specs.Begin.{first_statics};
 ghost use Rattle.jc_operations.specs.declared.operation.Operation.{Operation as Shown};
@@ -16,7 +13,7 @@ ghost use Rattle.jc_operations.specs.declared.prepared.PreparedClass.{PreparedCl
 ghost use Rattle.jc_operations.specs.declared.prepared.PreparedProgram.{PreparedProgram};
 ghost use Rattle.jc_operations.specs.Shown.{Shows};
 ghost use Rattle.jc_operations.specs.Prepared.{IsPrepared, value_of};
-ghost use Rattle.jc_operations.specs.Invoked.{Invoked, IsSwitch};
+ghost use Rattle.jc_operations.specs.Invoked.{GoesByKey, Invoked, IsSwitch};
 
 /// An instruction that calls a method calls one of the program that a thread may enter, with the method's own parameters and
 /// local variables.
@@ -27,8 +24,9 @@ pub fn each_call_is_of_a_method_that_may_be_entered()
 
 /// A turn at a switch goes on where the instruction leads with the key.
 pub fn each_switch_goes_where_the_instruction_leads()
-    ensures { (program : Program) (at : Location) (insn : Insn) (operation : Shown) → IsSwitch operation → Shows operation (operation_of program at insn)
-        → (s : Shared) (f : Frame) → perform (operation_of program at insn) s f ≡ by_switch (key_target insn) f.stack s f }
+    ensures { (program : Program) (at : Location) (insn : Insn) (operation : Shown) → IsSwitch operation
+        → Shows operation (operation_of program at insn) → (s : Shared) (f : Frame)
+        → GoesByKey (operation_of program at insn) insn s f }
 {}
 
 /// The static fields begin with the values that are prepared.
