@@ -1,11 +1,14 @@
 -- Edges that turns take, as worked examples.
-use Rattle.std.specs.Prelude.{ℕ, pos, negsuc, [], ◌∷◌, codes}
+use Rattle.std.specs.Prelude.{ℕ, pos, negsuc, List, [], ◌∷◌, map, codes}
 use Rattle.jc_methods.specs.declared.insn.Insn.TheVariants as insns
 use Rattle.jc_methods.specs.declared.kind.Kind.TheVariants as kinds
 use Rattle.jc_methods.specs.declared.body.Body.{Body}
 use Rattle.jc_methods.specs.Opcode as opcode
 use Rattle.jc_programs.specs.declared.program.Program.{Program}
+use Rattle.jc_programs.specs.declared.run_plan.Case.{Case}
+use Rattle.jc_programs.specs.Turns.{turns_in}
 use Rattle.jc_plan.specs.ClassEdges.{ProgramEdge}
+use Rattle.jc_world.specs.Taken.{taken, reached}
 use Rattle.jc_world_examples.specs.ProgramExamples.{frame, method, class, program}
 
 -- an edge by numbers: of its class, its body, its instruction and its branch
@@ -17,6 +20,13 @@ pub record NumberedEdge : Type 0 where
 
 abbrev pub numbered : ProgramEdge → NumberedEdge
 numbered e = record { class = e.class; body = e.body; at = e.branch.at; number = e.branch.number }
+
+-- the edges that the case takes, and those that it reaches
+abbrev pub edges_taken : Program → Case → List NumberedEdge
+edges_taken program case = map numbered (taken program case (turns_in case))
+
+abbrev pub edges_reached : Program → Case → List NumberedEdge
+edges_reached program case = map numbered (reached program case (turns_in case))
 
 -- an edge of the first method of the first class
 abbrev pub edge : ℕ → ℕ → NumberedEdge

@@ -1,5 +1,5 @@
 -- Single instructions as worked examples.
-use Rattle.std.specs.Prelude.{ℕ, pos, negsuc, true, false, List, [], ◌∷◌, Option, Some, codes}
+use Rattle.std.specs.Prelude.{ℕ, pos, negsuc, true, false, List, [], ◌∷◌, Option, Some, slice_set, codes}
 use Rattle.jc_bytes.specs.Descriptor as types
 use Rattle.jc_methods.specs.declared.insn.Insn.{Insn}
 use Rattle.jc_methods.specs.declared.insn.Insn.TheVariants as insns
@@ -66,16 +66,26 @@ frame_with place locals stack = record { method = first_method; place = place; l
 abbrev pub fields_with : List (List Value) → List HeapObject → Shared
 fields_with statics heap = record { statics = statics; heap = heap; output = []; raised = false }
 
+-- the values of the fields of F
+abbrev pub first_values : List Value
+first_values = int (pos 0) ∷ int (pos 0) ∷ int (pos 0) ∷ int (pos 0) ∷ int (pos 0) ∷ long (pos 0) ∷ null ∷ int (pos 0) ∷ null ∷ []
+
+-- the static fields of all classes, where those of F have these values
+abbrev pub fields_where : List Value → List (List Value)
+fields_where values = [] ∷ values ∷ [] ∷ [] ∷ (null ∷ []) ∷ []
+
 abbrev pub first_fields : List (List Value)
-first_fields =
-    [] ∷ (int (pos 0) ∷ int (pos 0) ∷ int (pos 0) ∷ int (pos 0) ∷ int (pos 0) ∷ long (pos 0) ∷ null ∷ int (pos 0) ∷ null ∷ []) ∷ [] ∷ [] ∷ (null
-    ∷ []) ∷ []
+first_fields = fields_where first_values
 
 -- an array of each type of elements, and a throwable
 abbrev pub things : List HeapObject
 things =
     array types.Int (pos 7 ∷ negsuc 0 ∷ []) ∷ array types.Long (pos 9 ∷ []) ∷ array types.Byte (pos 1 ∷ []) ∷ array types.Boolean (pos 1 ∷ [])
     ∷ array types.Char (pos 65 ∷ []) ∷ array types.Short (negsuc 1 ∷ []) ∷ throwable thrown.IllegalStateException ∷ []
+
+-- the things with another one in place of that with this number
+abbrev pub changed_thing : ℕ → HeapObject → List HeapObject
+changed_thing number object = slice_set things number object
 
 abbrev pub shared : Shared
 shared = fields_with first_fields things
@@ -148,9 +158,16 @@ get_probes = called (codes "org/jacoco/agent/rt/internal/Offline") (codes "getPr
 abbrev pub of_f : List ℕ → List ℕ → What
 of_f name desc = field (codes "F") name desc
 
--- the first fields with another value of one of F
-abbrev pub changed_field : List Value → List (List Value)
-changed_field values = [] ∷ values ∷ [] ∷ [] ∷ (null ∷ []) ∷ []
+-- the first fields with another value of the field of F with this index
+abbrev pub changed_field : ℕ → Value → List (List Value)
+changed_field index value = fields_where (slice_set first_values index value)
+
+-- a call of a static method, with what stands on the stack
+abbrev pub does_call : List ℕ → List ℕ → List ℕ → List Value → Result
+does_call class name desc stack = does_on (called class name desc) (insns.Member opcode.invokestatic 1) stack
+
+abbrev pub does_put : List ℕ → List ℕ → Value → Result
+does_put name desc value = does_on (of_f name desc) (insns.Member opcode.putstatic 1) (value ∷ [])
 
 -- ---- handlers
 

@@ -10,27 +10,38 @@ ghost use Rattle.jc_world.specs.Values.{int, long, null, object, memory_error, p
 ghost use Rattle.jc_world.specs.Heap.{array, throwable};
 ghost use Rattle.jc_world.specs.World.{stuck, threw, running};
 ghost use Rattle.jc_world.specs.Results.{goes, hits, calls, leaves, raises, throws, gets_stuck};
-ghost use Rattle.jc_world_examples.specs.InsnExamples.{does, does_with, does_on, does_returning, does_in, does_in_init, leaves_stack, leaves_locals, leaves_fields, leaves_heap, leaves_output, jumps_with, field, called, println, system_out, get_probes, of_f, changed_field, things, shared, first_method, frame_with, thrown_by, after_throw, caught_at};
+ghost use Rattle.jc_world_examples.specs.InsnExamples.{does, does_with, does_on, does_call, does_put, does_returning};
+ghost use Rattle.jc_world_examples.specs.InsnExamples.{does_in_init, leaves_stack, leaves_locals, leaves_fields, leaves_heap};
+ghost use Rattle.jc_world_examples.specs.InsnExamples.{leaves_output, jumps_with, field, called, println, system_out, get_probes};
+ghost use Rattle.jc_world_examples.specs.InsnExamples.{of_f, changed_field, changed_thing, things};
+ghost use Rattle.jc_world_examples.specs.InsnExamples.{frame_with, thrown_by, after_throw, caught_at};
 ghost use Rattle.jc_world_examples.specs.ProgramExamples.{use_at, handler_row};
 
 /// Ints.
 pub fn worked_ints()
-    ensures adds { does (insns.Simple opcode.iadd) (int (pos 1) ∷ int (pos 2147483647) ∷ []) ≡ leaves_stack (int (negsuc 2147483647) ∷ []) }
+    ensures adds { does (insns.Simple opcode.iadd) (int (pos 1) ∷ int (pos 2147483647) ∷ [])
+        ≡ leaves_stack (int (negsuc 2147483647) ∷ []) }
     ensures subtracts { does (insns.Simple opcode.isub) (int (pos 1) ∷ int (negsuc 2147483647) ∷ null ∷ [])
         ≡ leaves_stack (int (pos 2147483647) ∷ null ∷ []) }
-    ensures multiplies { does (insns.Simple opcode.imul) (int (pos 65536) ∷ int (pos 65536) ∷ []) ≡ leaves_stack (int (pos 0) ∷ []) }
+    ensures multiplies { does (insns.Simple opcode.imul) (int (pos 65536) ∷ int (pos 65536) ∷ [])
+        ≡ leaves_stack (int (pos 0) ∷ []) }
     ensures divides { does (insns.Simple opcode.idiv) (int (pos 2) ∷ int (negsuc 6) ∷ []) ≡ leaves_stack (int (negsuc 2) ∷ []) }
     ensures divides_least { does (insns.Simple opcode.idiv) (int (negsuc 0) ∷ int (negsuc 2147483647) ∷ [])
         ≡ leaves_stack (int (negsuc 2147483647) ∷ []) }
     ensures by_zero { does (insns.Simple opcode.idiv) (int (pos 0) ∷ int (pos 1) ∷ []) ≡ raises thrown.ArithmeticException }
     ensures rest { does (insns.Simple opcode.irem) (int (pos 2) ∷ int (negsuc 6) ∷ []) ≡ leaves_stack (int (negsuc 0) ∷ []) }
-    ensures rest_least { does (insns.Simple opcode.irem) (int (negsuc 0) ∷ int (negsuc 2147483647) ∷ []) ≡ leaves_stack (int (pos 0) ∷ []) }
+    ensures rest_least { does (insns.Simple opcode.irem) (int (negsuc 0) ∷ int (negsuc 2147483647) ∷ [])
+        ≡ leaves_stack (int (pos 0) ∷ []) }
     ensures rest_by_zero { does (insns.Simple opcode.irem) (int (pos 0) ∷ int (pos 1) ∷ []) ≡ raises thrown.ArithmeticException }
-    ensures negates { does (insns.Simple opcode.ineg) (int (negsuc 2147483647) ∷ []) ≡ leaves_stack (int (negsuc 2147483647) ∷ []) }
+    ensures negates { does (insns.Simple opcode.ineg) (int (negsuc 2147483647) ∷ [])
+        ≡ leaves_stack (int (negsuc 2147483647) ∷ []) }
     ensures shifts { does (insns.Simple opcode.ishl) (int (pos 33) ∷ int (pos 3) ∷ []) ≡ leaves_stack (int (pos 6) ∷ []) }
-    ensures shifts_back { does (insns.Simple opcode.ishr) (int (negsuc 0) ∷ int (negsuc 2147483647) ∷ []) ≡ leaves_stack (int (negsuc 0) ∷ []) }
-    ensures shifts_unsigned { does (insns.Simple opcode.iushr) (int (pos 28) ∷ int (negsuc 0) ∷ []) ≡ leaves_stack (int (pos 15) ∷ []) }
-    ensures unsigned_by_none { does (insns.Simple opcode.iushr) (int (pos 32) ∷ int (negsuc 0) ∷ []) ≡ leaves_stack (int (negsuc 0) ∷ []) }
+    ensures shifts_back { does (insns.Simple opcode.ishr) (int (negsuc 0) ∷ int (negsuc 2147483647) ∷ [])
+        ≡ leaves_stack (int (negsuc 0) ∷ []) }
+    ensures shifts_unsigned { does (insns.Simple opcode.iushr) (int (pos 28) ∷ int (negsuc 0) ∷ [])
+        ≡ leaves_stack (int (pos 15) ∷ []) }
+    ensures unsigned_by_none { does (insns.Simple opcode.iushr) (int (pos 32) ∷ int (negsuc 0) ∷ [])
+        ≡ leaves_stack (int (negsuc 0) ∷ []) }
     ensures ands { does (insns.Simple opcode.iand) (int (negsuc 0) ∷ int (negsuc 4) ∷ []) ≡ leaves_stack (int (negsuc 4) ∷ []) }
     ensures ors { does (insns.Simple opcode.ior) (int (pos 5) ∷ int (pos 3) ∷ []) ≡ leaves_stack (int (pos 7) ∷ []) }
     ensures xors { does (insns.Simple opcode.ixor) (int (negsuc 0) ∷ int (pos 3) ∷ []) ≡ leaves_stack (int (negsuc 3) ∷ []) }
@@ -53,7 +64,8 @@ pub fn worked_longs()
         ≡ leaves_stack (long (negsuc 9223372036854775807) ∷ []) }
     ensures by_zero { does (insns.Simple opcode.lrem) (long (pos 0) ∷ long (pos 9) ∷ []) ≡ raises thrown.ArithmeticException }
     ensures shifts { does (insns.Simple opcode.lshl) (int (pos 65) ∷ long (pos 3) ∷ []) ≡ leaves_stack (long (pos 6) ∷ []) }
-    ensures shifts_unsigned { does (insns.Simple opcode.lushr) (int (pos 60) ∷ long (negsuc 0) ∷ []) ≡ leaves_stack (long (pos 15) ∷ []) }
+    ensures shifts_unsigned { does (insns.Simple opcode.lushr) (int (pos 60) ∷ long (negsuc 0) ∷ [])
+        ≡ leaves_stack (long (pos 15) ∷ []) }
     ensures less { does (insns.Simple opcode.lcmp) (long (pos 2) ∷ long (pos 1) ∷ []) ≡ leaves_stack (int (negsuc 0) ∷ []) }
     ensures equal { does (insns.Simple opcode.lcmp) (long (pos 2) ∷ long (pos 2) ∷ []) ≡ leaves_stack (int (pos 0) ∷ []) }
     ensures greater { does (insns.Simple opcode.lcmp) (long (pos 1) ∷ long (pos 2) ∷ []) ≡ leaves_stack (int (pos 1) ∷ []) }
@@ -104,10 +116,12 @@ pub fn worked_locals()
     ensures load_other { does_with [] (insns.Local opcode.lload 1) (None ∷ Some (int (pos 7)) ∷ []) [] ≡ gets_stuck }
     ensures load_none { does_with [] (insns.Local opcode.iload 0) (None ∷ []) [] ≡ gets_stuck }
     ensures load_float { does_with [] (insns.Local opcode.fload 0) (Some (int (pos 0)) ∷ []) [] ≡ gets_stuck }
-    ensures load_object { does_with [] (insns.Local opcode.aload 0) (Some (object 6) ∷ []) [] ≡ leaves_locals (Some (object 6) ∷ []) (object 6 ∷ []) }
+    ensures load_object { does_with [] (insns.Local opcode.aload 0) (Some (object 6) ∷ []) []
+        ≡ leaves_locals (Some (object 6) ∷ []) (object 6 ∷ []) }
     ensures store_long { does_with [] (insns.Local opcode.lstore 1) (Some null ∷ Some null ∷ Some null ∷ []) (long (pos 1) ∷ [])
         ≡ leaves_locals (Some null ∷ Some (long (pos 1)) ∷ None ∷ []) [] }
-    ensures store_into_half { does_with [] (insns.Local opcode.istore 2) (None ∷ Some (long (pos 1)) ∷ None ∷ []) (int (pos 3) ∷ [])
+    ensures store_into_half { does_with [] (insns.Local opcode.istore 2) (None ∷ Some (long (pos 1)) ∷ None ∷ [])
+        (int (pos 3) ∷ [])
         ≡ leaves_locals (None ∷ None ∷ Some (int (pos 3)) ∷ []) [] }
     ensures store_onto { does_with [] (insns.Local opcode.istore 1) (None ∷ Some (long (pos 1)) ∷ None ∷ []) (int (pos 3) ∷ [])
         ≡ leaves_locals (None ∷ Some (int (pos 3)) ∷ None ∷ []) [] }
@@ -137,7 +151,8 @@ pub fn worked_jumps()
     ensures arm { does (insns.Table (negsuc 0) 9 (3 ∷ 4 ∷ [])) (int (pos 0) ∷ []) ≡ jumps_with 4 [] }
     ensures below { does (insns.Table (negsuc 0) 9 (3 ∷ 4 ∷ [])) (int (negsuc 1) ∷ []) ≡ jumps_with 9 [] }
     ensures above { does (insns.Table (negsuc 0) 9 (3 ∷ 4 ∷ [])) (int (pos 1) ∷ []) ≡ jumps_with 9 [] }
-    ensures key { does (insns.Lookup 9 (record { key = negsuc 4; to = 3 } ∷ record { key = pos 7; to = 4 } ∷ [])) (int (pos 7) ∷ [])
+    ensures key { does (insns.Lookup 9 (record { key = negsuc 4; to = 3 } ∷ record { key = pos 7; to = 4 } ∷ []))
+        (int (pos 7) ∷ [])
         ≡ jumps_with 4 [] }
     ensures no_key { does (insns.Lookup 9 (record { key = negsuc 4; to = 3 } ∷ [])) (int (pos 5) ∷ []) ≡ jumps_with 9 [] }
 {}
@@ -153,20 +168,20 @@ pub fn worked_elements()
     ensures read_other { does (insns.Simple opcode.iaload) (int (pos 5) ∷ object 1 ∷ []) ≡ gets_stuck }
     ensures read_throwable { does (insns.Simple opcode.iaload) (int (pos 0) ∷ object 6 ∷ []) ≡ gets_stuck }
     ensures read_probes { does (insns.Simple opcode.baload) (int (pos 0) ∷ probes 4 3 ∷ []) ≡ gets_stuck }
-    ensures read_past { does (insns.Simple opcode.iaload) (int (pos 2) ∷ object 0 ∷ []) ≡ raises thrown.ArrayIndexOutOfBoundsException }
-    ensures read_before { does (insns.Simple opcode.iaload) (int (negsuc 0) ∷ object 0 ∷ []) ≡ raises thrown.ArrayIndexOutOfBoundsException }
+    ensures read_past { does (insns.Simple opcode.iaload) (int (pos 2) ∷ object 0 ∷ [])
+        ≡ raises thrown.ArrayIndexOutOfBoundsException }
+    ensures read_before { does (insns.Simple opcode.iaload) (int (negsuc 0) ∷ object 0 ∷ [])
+        ≡ raises thrown.ArrayIndexOutOfBoundsException }
     ensures write_past { does (insns.Simple opcode.iastore) (int (pos 3) ∷ int (pos 2) ∷ object 0 ∷ [])
         ≡ raises thrown.ArrayIndexOutOfBoundsException }
-    ensures write_null { does (insns.Simple opcode.bastore) (int (pos 3) ∷ int (pos 2) ∷ null ∷ []) ≡ raises thrown.NullPointerException }
+    ensures write_null { does (insns.Simple opcode.bastore) (int (pos 3) ∷ int (pos 2) ∷ null ∷ [])
+        ≡ raises thrown.NullPointerException }
     ensures write_boolean { does (insns.Simple opcode.bastore) (int (pos 2) ∷ int (pos 0) ∷ object 3 ∷ [])
-        ≡ leaves_heap (array types.Int (pos 7 ∷ negsuc 0 ∷ []) ∷ array types.Long (pos 9 ∷ []) ∷ array types.Byte (pos 1 ∷ [])
-        ∷ array types.Boolean (pos 0 ∷ []) ∷ array types.Char (pos 65 ∷ []) ∷ array types.Short (negsuc 1 ∷ [])
-        ∷ throwable thrown.IllegalStateException ∷ []) [] }
+        ≡ leaves_heap (changed_thing 3 (array types.Boolean (pos 0 ∷ []))) [] }
     ensures write_char { does (insns.Simple opcode.castore) (int (negsuc 0) ∷ int (pos 0) ∷ object 4 ∷ [])
-        ≡ leaves_heap (array types.Int (pos 7 ∷ negsuc 0 ∷ []) ∷ array types.Long (pos 9 ∷ []) ∷ array types.Byte (pos 1 ∷ [])
-        ∷ array types.Boolean (pos 1 ∷ []) ∷ array types.Char (pos 65535 ∷ []) ∷ array types.Short (negsuc 1 ∷ [])
-        ∷ throwable thrown.IllegalStateException ∷ []) [] }
-    ensures make { does (insns.NewArray 9) (int (pos 2) ∷ []) ≡ leaves_heap (things ++ array types.Short (pos 0 ∷ pos 0 ∷ []) ∷ []) (object 7 ∷ []) }
+        ≡ leaves_heap (changed_thing 4 (array types.Char (pos 65535 ∷ []))) [] }
+    ensures make { does (insns.NewArray 9) (int (pos 2) ∷ [])
+        ≡ leaves_heap (things ++ array types.Short (pos 0 ∷ pos 0 ∷ []) ∷ []) (object 7 ∷ []) }
     ensures make_floats { does (insns.NewArray 6) (int (pos 2) ∷ []) ≡ gets_stuck }
     ensures make_negative { does (insns.NewArray 9) (int (negsuc 0) ∷ []) ≡ raises thrown.NegativeArraySizeException }
     ensures make_too_long { does (insns.NewArray 9) (int (pos 1000000) ∷ []) ≡ raises thrown.OutOfMemoryError }
@@ -177,10 +192,13 @@ pub fn worked_elements()
 
 /// Stores into a probe array.
 pub fn worked_probes()
-    ensures hit { does (insns.Simple opcode.bastore) (int (pos 1) ∷ int (pos 2) ∷ probes 4 3 ∷ null ∷ []) ≡ hits 4 2 (frame_with 1 [] (null ∷ [])) }
-    ensures odd { does (insns.Simple opcode.bastore) (int (negsuc 2) ∷ int (pos 2) ∷ probes 4 3 ∷ []) ≡ hits 4 2 (frame_with 1 [] []) }
+    ensures hit { does (insns.Simple opcode.bastore) (int (pos 1) ∷ int (pos 2) ∷ probes 4 3 ∷ null ∷ [])
+        ≡ hits 4 2 (frame_with 1 [] (null ∷ [])) }
+    ensures odd { does (insns.Simple opcode.bastore) (int (negsuc 2) ∷ int (pos 2) ∷ probes 4 3 ∷ [])
+        ≡ hits 4 2 (frame_with 1 [] []) }
     ensures even { does (insns.Simple opcode.bastore) (int (pos 2) ∷ int (pos 2) ∷ probes 4 3 ∷ []) ≡ gets_stuck }
-    ensures past { does (insns.Simple opcode.bastore) (int (pos 1) ∷ int (pos 3) ∷ probes 4 3 ∷ []) ≡ raises thrown.ArrayIndexOutOfBoundsException }
+    ensures past { does (insns.Simple opcode.bastore) (int (pos 1) ∷ int (pos 3) ∷ probes 4 3 ∷ [])
+        ≡ raises thrown.ArrayIndexOutOfBoundsException }
     ensures even_past { does (insns.Simple opcode.bastore) (int (pos 0) ∷ int (negsuc 0) ∷ probes 4 3 ∷ [])
         ≡ raises thrown.ArrayIndexOutOfBoundsException }
     ensures ints { does (insns.Simple opcode.iastore) (int (pos 1) ∷ int (pos 2) ∷ probes 4 3 ∷ []) ≡ gets_stuck }
@@ -188,16 +206,21 @@ pub fn worked_probes()
     ensures text_elsewhere { does_on whats.Text (insns.Constant 1) [] ≡ gets_stuck }
     ensures asks { does_in_init get_probes (insns.Member opcode.invokestatic 1) (int (pos 3) ∷ text 0 ∷ long (pos 5) ∷ [])
         ≡ leaves_stack (probes 0 3 ∷ []) }
-    ensures other_id { does_in_init get_probes (insns.Member opcode.invokestatic 1) (int (pos 3) ∷ text 0 ∷ long (pos 6) ∷ []) ≡ gets_stuck }
-    ensures other_count { does_in_init get_probes (insns.Member opcode.invokestatic 1) (int (pos 2) ∷ text 0 ∷ long (pos 5) ∷ []) ≡ gets_stuck }
-    ensures asks_elsewhere { does_on get_probes (insns.Member opcode.invokestatic 1) (int (pos 3) ∷ text 0 ∷ long (pos 5) ∷ []) ≡ gets_stuck }
-    ensures other_call { does_in_init (called (codes "M") (codes "plain") (codes "(IJ)V")) (insns.Member opcode.invokestatic 1) (long (pos 3)
-        ∷ int (pos 5) ∷ [])
+    ensures other_id { does_in_init get_probes (insns.Member opcode.invokestatic 1) (int (pos 3) ∷ text 0 ∷ long (pos 6) ∷ [])
+        ≡ gets_stuck }
+    ensures other_count { does_in_init get_probes (insns.Member opcode.invokestatic 1) (int (pos 2) ∷ text 0 ∷ long (pos 5) ∷ [])
+        ≡ gets_stuck }
+    ensures asks_elsewhere { does_on get_probes (insns.Member opcode.invokestatic 1) (int (pos 3) ∷ text 0 ∷ long (pos 5) ∷ [])
+        ≡ gets_stuck }
+    ensures other_call { does_in_init (called (codes "M") (codes "plain") (codes "(IJ)V")) (insns.Member opcode.invokestatic 1)
+        (long (pos 3) ∷ int (pos 5) ∷ [])
         ≡ gets_stuck }
     ensures prints { does_in_init (println (codes "()V")) (insns.Member opcode.invokevirtual 1) (print_stream ∷ []) ≡ gets_stuck }
-    ensures init_elsewhere { does_on (called (codes "P") (codes "$jacocoInit") (codes "()[Z")) (insns.Member opcode.invokestatic 1) [] ≡ gets_stuck }
-    ensures data_elsewhere { does_on (field (codes "P") (codes "$jacocoData") (codes "[Z")) (insns.Member opcode.getstatic 1) [] ≡ gets_stuck }
-    ensures own_data { does_on (of_f (codes "$jacocoData") (codes "[Z")) (insns.Member opcode.putstatic 1) (null ∷ []) ≡ gets_stuck }
+    ensures init_elsewhere { does_call (codes "P") (codes "$jacocoInit") (codes "()[Z") [] ≡ gets_stuck }
+    ensures data_elsewhere { does_on (field (codes "P") (codes "$jacocoData") (codes "[Z")) (insns.Member opcode.getstatic 1) []
+        ≡ gets_stuck }
+    ensures own_data { does_on (of_f (codes "$jacocoData") (codes "[Z")) (insns.Member opcode.putstatic 1) (null ∷ [])
+        ≡ gets_stuck }
 {}
 
 /// Static fields.
@@ -208,45 +231,39 @@ pub fn worked_static_fields()
     ensures other_class { does_on (field (codes "G") (codes "i") (codes "I")) (insns.Member opcode.getstatic 1) [] ≡ gets_stuck }
     ensures out { does_on system_out (insns.Member opcode.getstatic 1) [] ≡ leaves_stack (print_stream ∷ []) }
     ensures put_out { does_on system_out (insns.Member opcode.putstatic 1) (print_stream ∷ []) ≡ gets_stuck }
-    ensures put_boolean { does_on (of_f (codes "z") (codes "Z")) (insns.Member opcode.putstatic 1) (int (pos 3) ∷ [])
-        ≡ leaves_fields (changed_field (int (pos 1) ∷ int (pos 0) ∷ int (pos 0) ∷ int (pos 0) ∷ int (pos 0) ∷ long (pos 0) ∷ null ∷ int (pos 0)
-        ∷ null ∷ [])) [] }
-    ensures put_byte { does_on (of_f (codes "b") (codes "B")) (insns.Member opcode.putstatic 1) (int (pos 255) ∷ [])
-        ≡ leaves_fields (changed_field (int (pos 0) ∷ int (negsuc 0) ∷ int (pos 0) ∷ int (pos 0) ∷ int (pos 0) ∷ long (pos 0) ∷ null
-        ∷ int (pos 0) ∷ null ∷ [])) [] }
-    ensures put_char { does_on (of_f (codes "c") (codes "C")) (insns.Member opcode.putstatic 1) (int (negsuc 0) ∷ [])
-        ≡ leaves_fields (changed_field (int (pos 0) ∷ int (pos 0) ∷ int (pos 65535) ∷ int (pos 0) ∷ int (pos 0) ∷ long (pos 0) ∷ null
-        ∷ int (pos 0) ∷ null ∷ [])) [] }
-    ensures put_short { does_on (of_f (codes "s") (codes "S")) (insns.Member opcode.putstatic 1) (int (pos 65536) ∷ [])
-        ≡ leaves_fields (changed_field (int (pos 0) ∷ int (pos 0) ∷ int (pos 0) ∷ int (pos 0) ∷ int (pos 0) ∷ long (pos 0) ∷ null ∷ int (pos 0)
-        ∷ null ∷ [])) [] }
-    ensures put_object { does_on (of_f (codes "l") (codes "Ljava/lang/Object;")) (insns.Member opcode.putstatic 1) (object 0 ∷ [])
-        ≡ leaves_fields (changed_field (int (pos 0) ∷ int (pos 0) ∷ int (pos 0) ∷ int (pos 0) ∷ int (pos 0) ∷ long (pos 0) ∷ object 0
-        ∷ int (pos 0) ∷ null ∷ [])) [] }
-    ensures put_other { does_on (of_f (codes "j") (codes "J")) (insns.Member opcode.putstatic 1) (int (pos 3) ∷ []) ≡ gets_stuck }
+    ensures put_boolean { does_put (codes "z") (codes "Z") (int (pos 3)) ≡ leaves_fields (changed_field 0 (int (pos 1))) [] }
+    ensures put_byte { does_put (codes "b") (codes "B") (int (pos 255)) ≡ leaves_fields (changed_field 1 (int (negsuc 0))) [] }
+    ensures put_char { does_put (codes "c") (codes "C") (int (negsuc 0)) ≡ leaves_fields (changed_field 2 (int (pos 65535))) [] }
+    ensures put_short { does_put (codes "s") (codes "S") (int (pos 65536)) ≡ leaves_fields (changed_field 3 (int (pos 0))) [] }
+    ensures put_object { does_put (codes "l") (codes "Ljava/lang/Object;") (object 0)
+        ≡ leaves_fields (changed_field 6 (object 0)) [] }
+    ensures put_other { does_put (codes "j") (codes "J") (int (pos 3)) ≡ gets_stuck }
     ensures get_field { does_on (of_f (codes "i") (codes "I")) (insns.Member opcode.getfield 1) (null ∷ []) ≡ gets_stuck }
 {}
 
 /// Calls.
 pub fn worked_calls()
-    ensures call { does_on (called (codes "M") (codes "plain") (codes "(IJ)V")) (insns.Member opcode.invokestatic 1) (long (pos 3) ∷ int (pos 5)
-        ∷ null ∷ [])
-        ≡ calls (record { class = 2; method = 0 }) (Some (int (pos 5)) ∷ Some (long (pos 3)) ∷ None ∷ []) (frame_with 0 [] (null ∷ [])) }
-    ensures other_arguments { does_on (called (codes "M") (codes "plain") (codes "(IJ)V")) (insns.Member opcode.invokestatic 1) (int (pos 5)
-        ∷ long (pos 3) ∷ [])
+    ensures call { does_call (codes "M") (codes "plain") (codes "(IJ)V") (long (pos 3) ∷ int (pos 5) ∷ null ∷ [])
+        ≡ calls (record { class = 2; method = 0 }) (Some (int (pos 5)) ∷ Some (long (pos 3)) ∷ None ∷ [])
+        (frame_with 0 [] (null ∷ [])) }
+    ensures other_arguments { does_call (codes "M") (codes "plain") (codes "(IJ)V") (int (pos 5) ∷ long (pos 3) ∷ [])
         ≡ gets_stuck }
-    ensures wide { does_on (called (codes "M") (codes "wide") (codes "()V")) (insns.Member opcode.invokestatic 1) [] ≡ gets_stuck }
-    ensures wide_with_probes { does_on (called (codes "P") (codes "wide") (codes "()V")) (insns.Member opcode.invokestatic 1) []
+    ensures wide { does_call (codes "M") (codes "wide") (codes "()V") [] ≡ gets_stuck }
+    ensures wide_with_probes { does_call (codes "P") (codes "wide") (codes "()V") []
         ≡ calls (record { class = 4; method = 0 }) (None ∷ None ∷ None ∷ []) (frame_with 0 [] []) }
-    ensures wider_with_probes { does_on (called (codes "P") (codes "wider") (codes "()V")) (insns.Member opcode.invokestatic 1) [] ≡ gets_stuck }
-    ensures synchronized { does_on (called (codes "M") (codes "synchronized") (codes "()V")) (insns.Member opcode.invokestatic 1) [] ≡ gets_stuck }
-    ensures instance { does_on (called (codes "M") (codes "instance") (codes "()V")) (insns.Member opcode.invokestatic 1) [] ≡ gets_stuck }
-    ensures starting { does_on (called (codes "I") (codes "f") (codes "()V")) (insns.Member opcode.invokestatic 1) [] ≡ gets_stuck }
-    ensures missing { does_on (called (codes "M") (codes "plain") (codes "()V")) (insns.Member opcode.invokestatic 1) [] ≡ gets_stuck }
-    ensures returns_boolean { does_returning (codes "()Z") (insns.Simple opcode.ireturn) (int (pos 2) ∷ []) ≡ leaves (Some (int (pos 0))) }
-    ensures returns_byte { does_returning (codes "()B") (insns.Simple opcode.ireturn) (int (pos 128) ∷ []) ≡ leaves (Some (int (negsuc 127))) }
-    ensures returns_int { does_returning (codes "()I") (insns.Simple opcode.ireturn) (int (pos 128) ∷ []) ≡ leaves (Some (int (pos 128))) }
-    ensures returns_long { does_returning (codes "()J") (insns.Simple opcode.lreturn) (long (pos 128) ∷ []) ≡ leaves (Some (long (pos 128))) }
+    ensures wider_with_probes { does_call (codes "P") (codes "wider") (codes "()V") [] ≡ gets_stuck }
+    ensures synchronized { does_call (codes "M") (codes "synchronized") (codes "()V") [] ≡ gets_stuck }
+    ensures instance { does_call (codes "M") (codes "instance") (codes "()V") [] ≡ gets_stuck }
+    ensures starting { does_call (codes "I") (codes "f") (codes "()V") [] ≡ gets_stuck }
+    ensures missing { does_call (codes "M") (codes "plain") (codes "()V") [] ≡ gets_stuck }
+    ensures returns_boolean { does_returning (codes "()Z") (insns.Simple opcode.ireturn) (int (pos 2) ∷ [])
+        ≡ leaves (Some (int (pos 0))) }
+    ensures returns_byte { does_returning (codes "()B") (insns.Simple opcode.ireturn) (int (pos 128) ∷ [])
+        ≡ leaves (Some (int (negsuc 127))) }
+    ensures returns_int { does_returning (codes "()I") (insns.Simple opcode.ireturn) (int (pos 128) ∷ [])
+        ≡ leaves (Some (int (pos 128))) }
+    ensures returns_long { does_returning (codes "()J") (insns.Simple opcode.lreturn) (long (pos 128) ∷ [])
+        ≡ leaves (Some (long (pos 128))) }
     ensures returns_null { does_returning (codes "()[I") (insns.Simple opcode.areturn) (null ∷ []) ≡ leaves (Some null) }
     ensures returns_nothing { does_returning (codes "()V") (insns.Simple opcode.return) (null ∷ []) ≡ leaves None }
     ensures returns_float { does_returning (codes "()F") (insns.Simple opcode.freturn) (int (pos 0) ∷ []) ≡ gets_stuck }
@@ -256,26 +273,32 @@ pub fn worked_calls()
 pub fn worked_prints()
     ensures number { does_on (println (codes "(I)V")) (insns.Member opcode.invokevirtual 1) (int (negsuc 6) ∷ print_stream ∷ [])
         ≡ leaves_output (codes "-7\n") [] }
-    ensures long_number { does_on (println (codes "(J)V")) (insns.Member opcode.invokevirtual 1) (long (pos 9223372036854775807) ∷ print_stream ∷ [])
+    ensures long_number { does_on (println (codes "(J)V")) (insns.Member opcode.invokevirtual 1)
+        (long (pos 9223372036854775807) ∷ print_stream ∷ [])
         ≡ leaves_output (codes "9223372036854775807\n") [] }
     ensures odd { does_on (println (codes "(Z)V")) (insns.Member opcode.invokevirtual 1) (int (pos 3) ∷ print_stream ∷ [])
         ≡ leaves_output (codes "true\n") [] }
     ensures even { does_on (println (codes "(Z)V")) (insns.Member opcode.invokevirtual 1) (int (pos 2) ∷ print_stream ∷ [])
         ≡ leaves_output (codes "false\n") [] }
-    ensures nothing { does_on (println (codes "()V")) (insns.Member opcode.invokevirtual 1) (print_stream ∷ []) ≡ leaves_output (codes "\n") [] }
+    ensures nothing { does_on (println (codes "()V")) (insns.Member opcode.invokevirtual 1) (print_stream ∷ [])
+        ≡ leaves_output (codes "\n") [] }
     ensures to_null { does_on (println (codes "(I)V")) (insns.Member opcode.invokevirtual 1) (int (pos 1) ∷ null ∷ [])
         ≡ raises thrown.NullPointerException }
-    ensures to_other { does_on (println (codes "(I)V")) (insns.Member opcode.invokevirtual 1) (int (pos 1) ∷ object 6 ∷ []) ≡ gets_stuck }
-    ensures char { does_on (println (codes "(C)V")) (insns.Member opcode.invokevirtual 1) (int (pos 65) ∷ print_stream ∷ []) ≡ gets_stuck }
+    ensures to_other { does_on (println (codes "(I)V")) (insns.Member opcode.invokevirtual 1) (int (pos 1) ∷ object 6 ∷ [])
+        ≡ gets_stuck }
+    ensures char { does_on (println (codes "(C)V")) (insns.Member opcode.invokevirtual 1) (int (pos 65) ∷ print_stream ∷ [])
+        ≡ gets_stuck }
 {}
 
 /// Throwables.
 pub fn worked_throwables()
     ensures make { does_on (whats.Class (codes "java/lang/ArithmeticException")) (insns.OfClass opcode.new 1) []
         ≡ leaves_heap (things ++ throwable thrown.ArithmeticException ∷ []) (object 7 ∷ []) }
-    ensures make_abstract { does_on (whats.Class (codes "java/lang/VirtualMachineError")) (insns.OfClass opcode.new 1) [] ≡ gets_stuck }
+    ensures make_abstract { does_on (whats.Class (codes "java/lang/VirtualMachineError")) (insns.OfClass opcode.new 1) []
+        ≡ gets_stuck }
     ensures make_other { does_on (whats.Class (codes "M")) (insns.OfClass opcode.new 1) [] ≡ gets_stuck }
-    ensures cast { does_on (whats.Class (codes "java/lang/Error")) (insns.OfClass opcode.checkcast 1) (object 6 ∷ []) ≡ gets_stuck }
+    ensures cast { does_on (whats.Class (codes "java/lang/Error")) (insns.OfClass opcode.checkcast 1) (object 6 ∷ [])
+        ≡ gets_stuck }
     ensures build { does_on (called (codes "java/lang/IllegalStateException") (codes "<init>")
         (codes "()V")) (insns.Member opcode.invokespecial 1) (object 6 ∷ null ∷ [])
         ≡ leaves_stack (null ∷ []) }
@@ -295,13 +318,17 @@ pub fn worked_throwables()
 pub fn worked_handlers()
     ensures superclass { thrown_by (handler_row 0 1 2 1 ∷ []) (object 6) [] ≡ caught_at 2 (object 6) }
     ensures all { thrown_by (handler_row 0 1 3 0 ∷ []) (object 6) [] ≡ caught_at 3 (object 6) }
-    ensures in_order { thrown_by (handler_row 0 1 4 2 ∷ handler_row 0 1 1 4 ∷ handler_row 0 1 3 3 ∷ handler_row 0 1 2 1 ∷ []) (object 6) []
+    ensures in_order { thrown_by (handler_row 0 1 4 2 ∷ handler_row 0 1 1 4 ∷ handler_row 0 1 3 3 ∷ handler_row 0 1 2 1 ∷ [])
+        (object 6) []
         ≡ caught_at 3 (object 6) }
     ensures error { thrown_by (handler_row 0 1 2 1 ∷ handler_row 0 1 3 4 ∷ []) memory_error [] ≡ caught_at 3 memory_error }
-    ensures behind { thrown_by (handler_row 1 5 2 0 ∷ []) (object 6) [] ≡ after_throw (threw thrown.IllegalStateException) things }
-    ensures waiting { thrown_by (handler_row 1 2 3 1 ∷ []) (object 6) (frame_with 4 [] [] ∷ frame_with 1 [] (null ∷ []) ∷ frame_with 2 [] [] ∷ [])
+    ensures behind { thrown_by (handler_row 1 5 2 0 ∷ []) (object 6) []
+        ≡ after_throw (threw thrown.IllegalStateException) things }
+    ensures waiting { thrown_by (handler_row 1 2 3 1 ∷ []) (object 6)
+        (frame_with 4 [] [] ∷ frame_with 1 [] (null ∷ []) ∷ frame_with 2 [] [] ∷ [])
         ≡ after_throw (running (frame_with 3 [] (object 6 ∷ [])) (frame_with 2 [] [] ∷ [])) things }
-    ensures of_null { thrown_by [] null [] ≡ after_throw (threw thrown.NullPointerException) (things ++ throwable thrown.NullPointerException ∷ []) }
+    ensures of_null { thrown_by [] null []
+        ≡ after_throw (threw thrown.NullPointerException) (things ++ throwable thrown.NullPointerException ∷ []) }
 {}
 
 /// Instructions outside of the profile.
@@ -313,7 +340,8 @@ pub fn worked_outside()
     ensures put_element { does (insns.Simple opcode.aastore) (null ∷ int (pos 0) ∷ null ∷ []) ≡ gets_stuck }
     ensures monitor { does (insns.Simple opcode.monitorenter) (null ∷ []) ≡ gets_stuck }
     ensures dynamic { does_on (whats.Call (codes "f") (codes "()V")) (insns.Dynamic 1) [] ≡ gets_stuck }
-    ensures interface { does_on (called (codes "M") (codes "plain") (codes "()V")) (insns.Interface 1 1) (null ∷ []) ≡ gets_stuck }
+    ensures interface { does_on (called (codes "M") (codes "plain") (codes "()V")) (insns.Interface 1 1) (null ∷ [])
+        ≡ gets_stuck }
     ensures multi { does_on (whats.Class (codes "[[I")) (insns.Multi 1 2) (int (pos 1) ∷ int (pos 1) ∷ []) ≡ gets_stuck }
     ensures float_constant { does_on whats.Float (insns.Constant 1) [] ≡ gets_stuck }
     ensures compare_floats { does (insns.Simple opcode.fcmpl) (int (pos 1) ∷ int (pos 1) ∷ []) ≡ gets_stuck }

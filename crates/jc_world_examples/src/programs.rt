@@ -6,19 +6,22 @@ ghost use Rattle.jc_world.specs.Fits.{FitsWorld};
 ghost use Rattle.jc_world.specs.Run.{run};
 ghost use Rattle.jc_world.specs.Values.{int, long};
 ghost use Rattle.jc_world.specs.World.{running};
-ghost use Rattle.jc_world_examples.specs.ProgramExamples.{wide_program, w_name, abs_program, inc_program, probed_abs_program, case, one_thread, a_name, inc_thread};
+ghost use Rattle.jc_world_examples.specs.ProgramExamples.{wide_program, w_name, abs_program, inc_program, probed_abs_program};
+ghost use Rattle.jc_world_examples.specs.ProgramExamples.{case, one_thread, a_name, inc_thread};
 
 /// These two are programs, and each world of a run of the second one's two threads fits it.
 pub fn worked_programs()
     ensures abs { IsProgram abs_program }
     ensures inc { IsProgram inc_program }
-    ensures runs { (turns : List ℕ) → FitsWorld inc_program (run inc_program (case (inc_thread ∷ inc_thread ∷ []) (schedules.Robin 10)) turns) }
+    ensures runs { (turns : List ℕ)
+        → FitsWorld inc_program (run inc_program (case (inc_thread ∷ inc_thread ∷ []) (schedules.Robin 10)) turns) }
 {}
 
 /// So is an instrumented class with its `$jacocoInit`, and each world of a run of its method fits it.
 pub fn worked_probed_programs()
     ensures probed { IsProgram probed_abs_program }
-    ensures runs { (turns : List ℕ) → FitsWorld probed_abs_program (run probed_abs_program (one_thread a_name (codes "abs") (pos 5 ∷ []) 100) turns) }
+    ensures runs { (turns : List ℕ)
+        → FitsWorld probed_abs_program (run probed_abs_program (one_thread a_name (codes "abs") (pos 5 ∷ []) 100) turns) }
 {}
 
 /// A frame of a class file may say Top of a stack entry where a long lies. The stack of this body has two slots, and
@@ -26,5 +29,10 @@ pub fn worked_probed_programs()
 pub fn worked_values_on_a_stack()
     ensures wide { IsProgram wide_program }
     ensures values { (run wide_program (one_thread w_name (codes "w") [] 2) (0 ∷ 0 ∷ [])).threads
-        ≡ running (record { method = record { class = 0; method = 0 }; place = 2; locals = []; stack = int (pos 0) ∷ long (pos 0) ∷ [] }) [] ∷ [] }
+        ≡ running (record {
+          method = record { class = 0; method = 0 };
+          place = 2;
+          locals = [];
+          stack = int (pos 0) ∷ long (pos 0) ∷ [];
+        }) [] ∷ [] }
 {}

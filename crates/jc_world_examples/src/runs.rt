@@ -6,12 +6,16 @@ ghost use Rattle.jc_programs.specs.Entries.{entry_of};
 ghost use Rattle.jc_world.specs.Run.{case_hits};
 ghost use Rattle.jc_world.specs.Heap.{has_room};
 ghost use Rattle.jc_world.specs.CaseText.{case_texts};
-ghost use Rattle.jc_world_examples.specs.ProgramExamples.{case, one_thread, hit, thread, abs_program, probed_abs_program, a_name, inc_program, probed_inc_program, inc_thread, r_program, probed_r_program, r_name, div_program, m_name, g_program, g_name};
-ghost use Rattle.jc_world_examples.specs.ProgramExamples.{catches_program, probed_catches_program, probed_choice_program, probed_countdown_program, probed_either_way_program};
+ghost use Rattle.jc_world_examples.specs.ProgramExamples.{case, one_thread, hit, thread, abs_program, probed_abs_program, a_name};
+ghost use Rattle.jc_world_examples.specs.ProgramExamples.{inc_program, probed_inc_program, inc_thread, r_program};
+ghost use Rattle.jc_world_examples.specs.ProgramExamples.{probed_r_program, r_name, div_program, m_name, g_program, g_name};
+ghost use Rattle.jc_world_examples.specs.ProgramExamples.{catches_program, probed_catches_program, probed_choice_program};
+ghost use Rattle.jc_world_examples.specs.ProgramExamples.{probed_countdown_program, probed_either_way_program};
 
 /// The absolute value of 5 is 5. The instrumented method hits the probe of the second return alone.
 pub fn worked_absolute_value()
-    ensures text { case_texts abs_program 1 (one_thread a_name (codes "abs") (pos 5 ∷ []) 100 ∷ []) ≡ codes "case 1\nthread 0 returned 5\n" }
+    ensures text { case_texts abs_program 1 (one_thread a_name (codes "abs") (pos 5 ∷ []) 100 ∷ [])
+        ≡ codes "case 1\nthread 0 returned 5\n" }
     ensures probed_text { case_texts probed_abs_program 1 (one_thread a_name (codes "abs") (pos 5 ∷ []) 100 ∷ [])
         ≡ codes "case 1\nthread 0 returned 5\n" }
     ensures negative { case_texts probed_abs_program 1 (one_thread a_name (codes "abs") (negsuc 4 ∷ []) 40 ∷ [])
@@ -32,11 +36,11 @@ pub fn worked_divisions()
 pub fn worked_lost_update()
     ensures original { case_texts inc_program 1 (case (inc_thread ∷ inc_thread ∷ []) (schedules.Robin 10) ∷ [])
         ≡ codes "case 1\nthread 0 returned\nthread 1 returned\nstatic C.x 1\n" }
-    ensures listed { case_texts inc_program 1 (case (inc_thread ∷ inc_thread ∷ []) (schedules.Listed (0 ∷ 1 ∷ 0 ∷ 1 ∷ 0 ∷ 1 ∷ 0 ∷ 1 ∷ 0 ∷ 1
-        ∷ [])) ∷ [])
+    ensures listed { case_texts inc_program 1 (case (inc_thread ∷ inc_thread ∷ [])
+        (schedules.Listed (0 ∷ 1 ∷ 0 ∷ 1 ∷ 0 ∷ 1 ∷ 0 ∷ 1 ∷ 0 ∷ 1 ∷ [])) ∷ [])
         ≡ codes "case 1\nthread 0 returned\nthread 1 returned\nstatic C.x 1\n" }
-    ensures in_order { case_texts inc_program 1 (case (inc_thread ∷ inc_thread ∷ []) (schedules.Listed (0 ∷ 0 ∷ 0 ∷ 0 ∷ 0 ∷ 1 ∷ 1 ∷ 1 ∷ 1 ∷ 1
-        ∷ [])) ∷ [])
+    ensures in_order { case_texts inc_program 1 (case (inc_thread ∷ inc_thread ∷ [])
+        (schedules.Listed (0 ∷ 0 ∷ 0 ∷ 0 ∷ 0 ∷ 1 ∷ 1 ∷ 1 ∷ 1 ∷ 1 ∷ [])) ∷ [])
         ≡ codes "case 1\nthread 0 returned\nthread 1 returned\nstatic C.x 2\n" }
     ensures probed { case_texts probed_inc_program 1 (case (inc_thread ∷ inc_thread ∷ []) (schedules.Robin 44) ∷ [])
         ≡ codes "case 1\nthread 0 returned\nthread 1 returned\nstatic C.x 1\n" }
@@ -57,15 +61,20 @@ pub fn worked_stopped_threads()
 /// Calls within calls return. The instrumented method takes 21 turns a call and 18 for the last, and 7 more where it first
 /// asks for the probe array.
 pub fn worked_few_calls()
-    ensures original { case_texts r_program 1 (one_thread r_name (codes "r") (pos 3 ∷ []) 24 ∷ []) ≡ codes "case 1\nthread 0 returned\n" }
-    ensures not_yet { case_texts r_program 1 (one_thread r_name (codes "r") (pos 3 ∷ []) 23 ∷ []) ≡ codes "case 1\nthread 0 running\n" }
-    ensures probed { case_texts probed_r_program 1 (one_thread r_name (codes "r") (pos 3 ∷ []) 88 ∷ []) ≡ codes "case 1\nthread 0 returned\n" }
-    ensures probed_not_yet { case_texts probed_r_program 1 (one_thread r_name (codes "r") (pos 3 ∷ []) 87 ∷ []) ≡ codes "case 1\nthread 0 running\n" }
+    ensures original { case_texts r_program 1 (one_thread r_name (codes "r") (pos 3 ∷ []) 24 ∷ [])
+        ≡ codes "case 1\nthread 0 returned\n" }
+    ensures not_yet { case_texts r_program 1 (one_thread r_name (codes "r") (pos 3 ∷ []) 23 ∷ [])
+        ≡ codes "case 1\nthread 0 running\n" }
+    ensures probed { case_texts probed_r_program 1 (one_thread r_name (codes "r") (pos 3 ∷ []) 88 ∷ [])
+        ≡ codes "case 1\nthread 0 returned\n" }
+    ensures probed_not_yet { case_texts probed_r_program 1 (one_thread r_name (codes "r") (pos 3 ∷ []) 87 ∷ [])
+        ≡ codes "case 1\nthread 0 running\n" }
 {}
 
 /// A thread has at most 128 frames.
 pub fn worked_many_calls()
-    ensures fits { case_texts r_program 1 (one_thread r_name (codes "r") (pos 127 ∷ []) 892 ∷ []) ≡ codes "case 1\nthread 0 returned\n" }
+    ensures fits { case_texts r_program 1 (one_thread r_name (codes "r") (pos 127 ∷ []) 892 ∷ [])
+        ≡ codes "case 1\nthread 0 returned\n" }
     ensures overflows { case_texts r_program 1 (one_thread r_name (codes "r") (pos 128 ∷ []) 768 ∷ [])
         ≡ codes "case 1\nthread 0 threw java.lang.StackOverflowError\n" }
 {}
@@ -77,7 +86,8 @@ pub fn worked_entries()
     ensures no_class { entry_of abs_program (thread (codes "B") (codes "abs") (pos 5 ∷ [])) ≡ None }
     ensures other_count { entry_of abs_program (thread a_name (codes "abs") []) ≡ None }
     ensures too_great { entry_of abs_program (thread a_name (codes "abs") (pos 2147483648 ∷ [])) ≡ None }
-    ensures least { entry_of abs_program (thread a_name (codes "abs") (negsuc 2147483647 ∷ [])) ≡ Some (record { class = 0; method = 0 }) }
+    ensures least { entry_of abs_program (thread a_name (codes "abs") (negsuc 2147483647 ∷ []))
+        ≡ Some (record { class = 0; method = 0 }) }
     ensures init { entry_of probed_abs_program (thread a_name (codes "$jacocoInit") []) ≡ None }
 {}
 
@@ -91,8 +101,10 @@ pub fn worked_turns()
 
 /// An array has the length that was asked for, where it finds room.
 pub fn worked_arrays()
-    ensures small { case_texts g_program 1 (one_thread g_name (codes "f") (pos 3 ∷ []) 40 ∷ []) ≡ codes "case 1\nthread 0 returned 3\n" }
-    ensures empty { case_texts g_program 1 (one_thread g_name (codes "f") (pos 0 ∷ []) 40 ∷ []) ≡ codes "case 1\nthread 0 returned 0\n" }
+    ensures small { case_texts g_program 1 (one_thread g_name (codes "f") (pos 3 ∷ []) 40 ∷ [])
+        ≡ codes "case 1\nthread 0 returned 3\n" }
+    ensures empty { case_texts g_program 1 (one_thread g_name (codes "f") (pos 0 ∷ []) 40 ∷ [])
+        ≡ codes "case 1\nthread 0 returned 0\n" }
     ensures longest { has_room [] 1000000 ≡ true }
     ensures longer { has_room [] 1000001 ≡ false }
     ensures too_long { case_texts g_program 1 (one_thread g_name (codes "f") (pos 1000000 ∷ []) 40 ∷ [])
@@ -106,19 +118,23 @@ pub fn worked_arrays()
 /// A loop hits the probe of its goto each time that it goes round.
 pub fn worked_countdown()
     ensures none { case_hits probed_countdown_program (one_thread a_name (codes "f") (pos 0 ∷ []) 100) ≡ hit 0 1 ∷ [] }
-    ensures twice { case_hits probed_countdown_program (one_thread a_name (codes "f") (pos 2 ∷ []) 100) ≡ hit 0 1 ∷ hit 0 0 ∷ hit 0 0 ∷ [] }
+    ensures twice { case_hits probed_countdown_program (one_thread a_name (codes "f") (pos 2 ∷ []) 100)
+        ≡ hit 0 1 ∷ hit 0 0 ∷ hit 0 0 ∷ [] }
 {}
 
 /// A jump to the next instruction hits its own probe or that of the sequence.
 pub fn worked_either_way_probes()
-    ensures jumps { case_hits probed_either_way_program (one_thread a_name (codes "f") (pos 0 ∷ []) 100) ≡ hit 0 2 ∷ hit 0 0 ∷ [] }
-    ensures goes_on { case_hits probed_either_way_program (one_thread a_name (codes "f") (pos 1 ∷ []) 100) ≡ hit 0 2 ∷ hit 0 1 ∷ [] }
+    ensures jumps { case_hits probed_either_way_program (one_thread a_name (codes "f") (pos 0 ∷ []) 100)
+        ≡ hit 0 2 ∷ hit 0 0 ∷ [] }
+    ensures goes_on { case_hits probed_either_way_program (one_thread a_name (codes "f") (pos 1 ∷ []) 100)
+        ≡ hit 0 2 ∷ hit 0 1 ∷ [] }
 {}
 
 /// A switch hits the probe of its key's target, which two keys share.
 pub fn worked_choice()
     ensures second { case_hits probed_choice_program (one_thread a_name (codes "f") (pos 2 ∷ []) 100) ≡ hit 0 2 ∷ hit 0 1 ∷ [] }
-    ensures text { case_texts probed_choice_program 1 (one_thread a_name (codes "f") (pos 2 ∷ []) 100 ∷ []) ≡ codes "case 1\nthread 0 returned 1\n" }
+    ensures text { case_texts probed_choice_program 1 (one_thread a_name (codes "f") (pos 2 ∷ []) 100 ∷ [])
+        ≡ codes "case 1\nthread 0 returned 1\n" }
     ensures first { case_hits probed_choice_program (one_thread a_name (codes "f") (pos 1 ∷ []) 100) ≡ hit 0 2 ∷ hit 0 1 ∷ [] }
     ensures third { case_hits probed_choice_program (one_thread a_name (codes "f") (pos 3 ∷ []) 100) ≡ hit 0 3 ∷ [] }
     ensures jump { case_hits probed_choice_program (one_thread a_name (codes "f") (negsuc 0 ∷ []) 100) ≡ hit 0 2 ∷ hit 0 0 ∷ [] }
@@ -126,8 +142,11 @@ pub fn worked_choice()
 
 /// A division by zero goes on at its handler: the probes before it and behind the handler are hit.
 pub fn worked_catch()
-    ensures original { case_texts catches_program 1 (one_thread a_name (codes "f") (pos 0 ∷ []) 100 ∷ []) ≡ codes "case 1\nthread 0 returned 0\n" }
-    ensures probed { case_texts probed_catches_program 1 (one_thread a_name (codes "f") (pos 0 ∷ []) 100 ∷ []) ≡ codes "case 1\nthread 0 returned 0\n" }
+    ensures original { case_texts catches_program 1 (one_thread a_name (codes "f") (pos 0 ∷ []) 100 ∷ [])
+        ≡ codes "case 1\nthread 0 returned 0\n" }
+    ensures probed { case_texts probed_catches_program 1 (one_thread a_name (codes "f") (pos 0 ∷ []) 100 ∷ [])
+        ≡ codes "case 1\nthread 0 returned 0\n" }
     ensures hits { case_hits probed_catches_program (one_thread a_name (codes "f") (pos 0 ∷ []) 100) ≡ hit 0 2 ∷ hit 0 0 ∷ [] }
-    ensures none_thrown { case_hits probed_catches_program (one_thread a_name (codes "f") (pos 1 ∷ []) 100) ≡ hit 0 1 ∷ hit 0 0 ∷ [] }
+    ensures none_thrown { case_hits probed_catches_program (one_thread a_name (codes "f") (pos 1 ∷ []) 100)
+        ≡ hit 0 1 ∷ hit 0 0 ∷ [] }
 {}
