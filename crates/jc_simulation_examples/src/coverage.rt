@@ -6,15 +6,20 @@ ghost use Rattle.jc_emit.specs.TwinProgram.{TwinProgram};
 ghost use Rattle.jc_world.specs.Run.{run};
 ghost use Rattle.jc_world.specs.World.{threw};
 ghost use Rattle.jc_world_examples.specs.EdgeExamples.{edge};
-ghost use Rattle.jc_world_examples.specs.ProgramExamples.{abs, abs_program, probed_abs_program, div, div_program, hit, inc, inc_program, probed_inc_program, r_program, probed_r_program};
+ghost use Rattle.jc_world_examples.specs.ProgramExamples.{abs, abs_program, probed_abs_program, div, div_program, hit, inc};
+ghost use Rattle.jc_world_examples.specs.ProgramExamples.{inc_program, probed_inc_program, r_program, probed_r_program};
 ghost use Rattle.jc_simulation_examples.specs.SimulationExamples.{inc_marks};
-ghost use Rattle.jc_simulation_examples.specs.CoverageExamples.{MeetsPremises, abs_case, abs_hits, abs_marks, abs_plan, covered_in, div_case, div_marks, edges_reached, edges_taken, hits_in, probed_div_program, r_case, r_marks, stopped_inc};
+ghost use Rattle.jc_simulation_examples.specs.CoverageExamples.{MeetsPremises, abs_case, abs_hits, abs_marks, abs_plan};
+ghost use Rattle.jc_simulation_examples.specs.CoverageExamples.{covered_in, div_case, div_marks, edges_reached, edges_taken};
+ghost use Rattle.jc_simulation_examples.specs.CoverageExamples.{hits_in, probed_div_program, r_case, r_marks, stopped_inc};
 
 /// The premises can be met: a plan of one case that returns. The branches that are covered are those that were taken.
 pub fn worked_coverage()
     ensures premises { MeetsPremises abs_program probed_abs_program abs_plan (abs_hits ∷ []) }
-    ensures taken { edges_taken abs_program probed_abs_program abs_marks abs_case ≡ edge 0 0 ∷ edge 1 0 ∷ edge 2 0 ∷ edge 3 0 ∷ edge 4 0 ∷ [] }
-    ensures covered { covered_in abs abs_hits ≡ ((true ∷ []) ∷ (true ∷ false ∷ []) ∷ (true ∷ []) ∷ (true ∷ []) ∷ (true ∷ []) ∷ (false ∷ []) ∷ (false ∷ [])
+    ensures taken { edges_taken abs_program probed_abs_program abs_marks abs_case
+        ≡ edge 0 0 ∷ edge 1 0 ∷ edge 2 0 ∷ edge 3 0 ∷ edge 4 0 ∷ [] }
+    ensures covered { covered_in abs abs_hits
+        ≡ ((true ∷ []) ∷ (true ∷ false ∷ []) ∷ (true ∷ []) ∷ (true ∷ []) ∷ (true ∷ []) ∷ (false ∷ []) ∷ (false ∷ [])
         ∷ []) ∷ [] }
 {}
 
@@ -34,7 +39,8 @@ pub fn worked_stop()
     ensures taken { edges_taken inc_program probed_inc_program inc_marks (stopped_inc 21) ≡ edge 0 0 ∷ edge 1 0 ∷ edge 2 0 ∷ edge 3 0 ∷ [] }
     ensures reached { edges_reached inc_program probed_inc_program inc_marks (stopped_inc 21)
         ≡ edge 0 0 ∷ edge 1 0 ∷ edge 2 0 ∷ edge 3 0 ∷ edge 4 0 ∷ [] }
-    ensures covered { covered_in inc (true ∷ []) ≡ ((true ∷ []) ∷ (true ∷ []) ∷ (true ∷ []) ∷ (true ∷ []) ∷ (true ∷ []) ∷ []) ∷ [] }
+    ensures covered { covered_in inc (true ∷ [])
+        ≡ ((true ∷ []) ∷ (true ∷ []) ∷ (true ∷ []) ∷ (true ∷ []) ∷ (true ∷ []) ∷ []) ∷ [] }
     ensures none { hits_in probed_inc_program (stopped_inc 20) ≡ [] }
 {}
 
