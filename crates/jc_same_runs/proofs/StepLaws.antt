@@ -31,10 +31,18 @@ use Rattle.jc_same_runs.proofs.OperationLaws.{frameless_at, same_operation}
 abbrev frameless_insn : LocatedInsn → LocatedInsn
 frameless_insn i = record { at = frameless_at i.at; insn = i.insn }
 
+-- the instruction at a place of a method of this class
+abbrev insn_at : Entry → (place : ℕ) → Linked → Option LocatedInsn
+insn_at method place c = located_in_class method.class place c (slice_get c.bodies method.method)
+
+-- the thread of an entry whose class has this body, if it has one
+abbrev thread_with : Entry → List ℤ → Linked → Option Body → Thread
+thread_with entry numbers c o = elim o [ None ↦ stuck entry 0 | Some b ↦ thread_in entry numbers c b ]
+
 module _ (p : Program) where
   same_located : (method : Entry) (place : ℕ) → located (frameless p) method place ≡ option_map frameless_insn (located p method place)
   same_located method place =
-      ap (option_and_then (λ (c : Linked). located_in_class method.class place c (slice_get c.bodies method.method))) (same_class_at p method.class) ∙ by (class_at p method.class)
+      ap (option_and_then (insn_at method place)) (same_class_at p method.class) ∙ by (class_at p method.class)
     where
       in_body : (c : Linked) (b : Body) (o : Option Insn) → located_in_body method.class (frameless_class c) place (frameless_body b) o ≡ option_map frameless_insn (located_in_body method.class c place b o)
       in_body c b None = refl
@@ -44,8 +52,7 @@ module _ (p : Program) where
       in_class c None = refl
       in_class c (Some b) = in_body c b (slice_get b.code place)
 
-      by : (o : Option Linked) → option_and_then (λ (c : Linked). located_in_class method.class place c (slice_get c.bodies method.method)) (option_map frameless_class o)
-          ≡ option_map frameless_insn (option_and_then (λ (c : Linked). located_in_class method.class place c (slice_get c.bodies method.method)) o)
+      by : (o : Option Linked) → option_and_then (insn_at method place) (option_map frameless_class o) ≡ option_map frameless_insn (option_and_then (insn_at method place) o)
       by None = refl
       by (Some c) = ap (located_in_class method.class place (frameless_class c)) (same_body_at c method.method) ∙ in_class c (slice_get c.bodies method.method)
 
@@ -131,16 +138,14 @@ module _ (p : Program) where
   same_first : (entry : Entry) (numbers : List ℤ) → first_thread (frameless p) entry numbers ≡ first_thread p entry numbers
   same_first entry numbers = ap (thread_for entry numbers) (same_class_at p entry.class) ∙ by (class_at p entry.class)
     where
-      in_class : (c : Linked) (o : Option Body) → ◌≡◌ {A = Thread}
-          (elim (option_map frameless_body o) [ None ↦ stuck entry 0 | Some b ↦ thread_in entry numbers (frameless_class c) b ]) (elim o [ None ↦ stuck entry 0 | Some b ↦ thread_in entry numbers c b ])
+      in_class : (c : Linked) (o : Option Body) → thread_with entry numbers (frameless_class c) (option_map frameless_body o) ≡ thread_with entry numbers c o
       in_class c None = refl
       in_class c (Some b) = ap (λ (e : Bool). if e then running (first_frame entry b numbers) [] else stuck entry 0) (same_enterable c b)
 
       by : (o : Option Linked) → thread_for entry numbers (option_map frameless_class o) ≡ thread_for entry numbers o
       by None = refl
       by (Some c) =
-          ap (λ (o : Option Body). elim o [ None ↦ stuck entry 0 | Some b ↦ thread_in entry numbers (frameless_class c) b ]) (same_body_at c entry.method)
-          ∙ in_class c (slice_get c.bodies entry.method)
+          ap (thread_with entry numbers (frameless_class c)) (same_body_at c entry.method) ∙ in_class c (slice_get c.bodies entry.method)
 
   same_threads : (threads : List ThreadLine) (entries : List Entry) → first_threads (frameless p) threads entries ≡ first_threads p threads entries
   same_threads [] entries = refl
