@@ -1,17 +1,16 @@
 //! Arrays of integral types, and the probe arrays of classes (JVM Specification 6.5).
-ghost use Rattle.std.specs.Prelude.{◌≡◌, ℤ, ◌+◌, ◌<◌, ◌≤◌, ◌^◌, List, Some, drop, length, slice_get, if◌then◌else◌};
+ghost use Rattle.std.specs.Prelude.{◌≡◌, ◌+◌, ◌<◌, ◌≤◌, ◌^◌, drop, length, slice_get, if◌then◌else◌};
 ghost use Rattle.jc_bytes.specs.Descriptor as fields;
 ghost use Rattle.jc_world.specs.Values as values;
 ghost use Rattle.jc_world.specs.World as world;
-ghost use Rattle.jc_world.specs.Heap.{array};
 ghost use Rattle.jc_world.specs.Results.{gets_stuck};
-ghost use Rattle.jc_world.specs.Arrays.{has_elements, index_within, find_element, read_found, by_read, element_number, write_number, write_found, by_probe, by_write, by_make_array, measured, by_measure};
+ghost use Rattle.jc_world.specs.Arrays.{has_elements, index_within, find_element, read_found, by_read, write_found, by_probe, by_write, by_make_array, measured, by_measure};
 ghost use Rattle.jc_effects.specs.Narrowings.{narrowing_of};
 ghost use Rattle.jc_operations.specs.Types.{primitive, element_types};
 ghost use Rattle.jc_store.specs.Values.{value_of};
 ghost use Rattle.jc_store.specs.Heaps.{element_type};
 ghost use Rattle.jc_perform.specs.Nexts.{result_of, Settles, KeepsShared};
-ghost use Rattle.jc_perform.specs.Founds.{Finds, HasElementAt};
+ghost use Rattle.jc_perform.specs.Founds.{Finds, HasElementAt, IsElementStored};
 
 use crate::frames::{replace, take};
 use crate::values::is_even;
@@ -139,10 +138,8 @@ fn narrowing_in(element: Element) -> Narrowing
 fn write_long(number: u32, index: u32, value: Value, shared: &mut Shared, frame: &mut Frame) -> Next
     requires place { frame.old.place + 1 < 2 ^ 32 }
     requires element { HasElementAt shared.old.heap number fields.Long index }
-    ensures result { (elements : List ℤ) → slice_get shared.old.heap number ≡ Some (array fields.Long elements)
-        → result_of result shared.new frame.new
-        ≡ write_number (record { element = fields.Long; elements = elements; index = index })
-        (element_number fields.Long (value_of value)) number (drop 3 frame.old.stack) shared.old frame.old }
+    ensures result { IsElementStored fields.Long number index (value_of value) shared.old frame.old
+        (result_of result shared.new frame.new) }
     ensures kept { Settles result frame.old frame.new }
     ensures shared_kept { KeepsShared result shared.old shared.new }
 {
@@ -166,10 +163,8 @@ fn write_int(
     requires place { frame.old.place + 1 < 2 ^ 32 }
     requires int { element_type element ≡ fields.Long → ⊥ }
     requires element { HasElementAt shared.old.heap number (element_type element) index }
-    ensures result { (elements : List ℤ) → slice_get shared.old.heap number ≡ Some (array (element_type element) elements)
-        → result_of result shared.new frame.new
-        ≡ write_number (record { element = element_type element; elements = elements; index = index })
-        (element_number (element_type element) (value_of value)) number (drop 3 frame.old.stack) shared.old frame.old }
+    ensures result { IsElementStored (element_type element) number index (value_of value) shared.old frame.old
+        (result_of result shared.new frame.new) }
     ensures kept { Settles result frame.old frame.new }
     ensures shared_kept { KeepsShared result shared.old shared.new }
 {
