@@ -51,7 +51,13 @@ bare_app = record (new_app (codes "jcov")) {
   };
 }
 
+-- the command line with its first three commands
+abbrev pub first_commands_app : App
+first_commands_app = with_subcommand (with_subcommand (with_subcommand bare_app instrument_app.top) run_app.top) merge_app.top
+
+-- with all of its commands but `cover`
+abbrev pub more_commands_app : App
+more_commands_app = with_subcommand (with_subcommand (with_subcommand first_commands_app report_app.top) exec_info_app.top) class_info_app.top
+
 abbrev pub jcov_app : App
-jcov_app =
-    with_subcommand (with_subcommand (with_subcommand (with_subcommand (with_subcommand (with_subcommand (with_subcommand bare_app
-    instrument_app.top) run_app.top) merge_app.top) report_app.top) exec_info_app.top) class_info_app.top) cover_app.top
+jcov_app = with_subcommand more_commands_app cover_app.top

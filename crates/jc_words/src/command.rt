@@ -190,9 +190,8 @@ fn report_with<'a>(alloc: Global, given: &Given<'a>) -> Result<Option<Command<'a
 }
 
 fn cover_with<'a>(alloc: Global, given: &Given<'a>) -> Result<Option<Command<'a>>, Memory>
-    ensures { IfOk result (λ o. option_map command_seen o
-        ≡ cover_with (given_seen given.now).dest (given_seen given.now).plan (given_seen given.now).destfile (given_seen given.now).csv
-        (workers_in (given_seen given.now).workers) (name_in (given_seen given.now).name) (given_seen given.now).files) }
+    ensures { let values = given_seen given.now in IfOk result (λ o. option_map command_seen o
+        ≡ cover_with values.dest values.plan values.destfile values.csv (workers_in values.workers) (name_in values.name) values.files) }
 {
     let Some(dest) = given.dest else {
         return Ok(None);

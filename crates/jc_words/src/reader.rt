@@ -1,12 +1,12 @@
 //! The words, read by clap. What it is told of the options says how words are cut; which words are of a stated form is
 //! decided before.
 ghost use Rattle.std.specs.Prelude.{◌≡◌, ◌<◌, ◌^◌, codes, false, length, IfOk};
-ghost use Rattle.clap.specs.Simple.{new_app, with_subcommand};
+ghost use Rattle.clap.specs.Simple.{new_app};
 ghost use Rattle.clap.specs.Matches.{found_of};
 ghost use Rattle.clap.specs.Words.{app_of, rule_of};
 ghost use Rattle.clap.specs.declared.builder.command.Command.TheViews.{out-Command};
-ghost use Rattle.jc_words.specs.Reader.{bare_app, class_info_app, cover_app, exec_info_app, file_rule, instrument_app};
-ghost use Rattle.jc_words.specs.Reader.{jcov_app, merge_app, option_rule, report_app, run_app, with_option};
+ghost use Rattle.jc_words.specs.Reader.{bare_app, class_info_app, cover_app, exec_info_app, file_rule, first_commands_app, instrument_app};
+ghost use Rattle.jc_words.specs.Reader.{jcov_app, merge_app, more_commands_app, option_rule, report_app, run_app, with_option};
 ghost use Rattle.jc_words.specs.Words.{words_of};
 ghost use Rattle.jc_words.specs.Forms.{Call};
 ghost use Rattle.jc_words.specs.Decide.{values_of};
@@ -124,8 +124,7 @@ fn bare<'a>(alloc: Global) -> Command<'a>
 }
 
 fn first_commands<'a>(alloc: Global) -> Result<Command<'a>, AllocError>
-    ensures app { IfOk result (λ c. app_of c
-        ≡ with_subcommand (with_subcommand (with_subcommand bare_app instrument_app.top) run_app.top) merge_app.top) }
+    ensures app { IfOk result (λ c. app_of c ≡ first_commands_app) }
     ensures local { IfOk result (λ c. (out-Command c).has_globals ≡ false) }
 {
     let instrument = instrument(alloc)?;
@@ -138,9 +137,7 @@ fn first_commands<'a>(alloc: Global) -> Result<Command<'a>, AllocError>
 }
 
 fn more_commands<'a>(alloc: Global) -> Result<Command<'a>, AllocError>
-    ensures app { IfOk result (λ c. app_of c
-        ≡ with_subcommand (with_subcommand (with_subcommand (with_subcommand (with_subcommand (with_subcommand bare_app
-        instrument_app.top) run_app.top) merge_app.top) report_app.top) exec_info_app.top) class_info_app.top) }
+    ensures app { IfOk result (λ c. app_of c ≡ more_commands_app) }
     ensures local { IfOk result (λ c. (out-Command c).has_globals ≡ false) }
 {
     let report = report(alloc)?;
