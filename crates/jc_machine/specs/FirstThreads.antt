@@ -12,14 +12,20 @@ use Rattle.jc_programs.specs.declared.run_end.Entry.{Entry}
 use Rattle.jc_programs.specs.Members.{body_of}
 use Rattle.jc_programs.specs.Entries.{are_arguments}
 use Rattle.jc_world.specs.Values.{Value, is_pair}
-use Rattle.jc_world.specs.Calls.{spread_values}
+use Rattle.jc_world.specs.Calls.{spread_values, locals_for}
 use Rattle.jc_world.specs.Begin.{argument_values, first_thread}
 use Rattle.jc_world.specs.Programs.{IsProgram}
 use Rattle.jc_world.specs.Fits.{FitsThread}
+use Rattle.jc_machine.specs.Threads.{ThreadFrames}
 
 -- how many local variables a value takes (JVM Specification 2.6.1)
 abbrev pub width : Value → ℕ
 width v = if is_pair v then 2 else 1
+
+-- the frames with the numbers, as values of these types, in the first local variables of the frame on top, and none behind
+abbrev pub with_arguments : List FieldType → List ℤ → ThreadFrames → ThreadFrames
+with_arguments types numbers frames =
+    record frames { top = record frames.top { locals = locals_for (length frames.top.locals) (argument_values types numbers) } }
 
 -- the method, if there is one, takes the numbers
 abbrev pub Takes : Option Body → List ℤ → Type 0

@@ -9,10 +9,12 @@ use Rattle.jc_methods.specs.DescriptorTypes.{method_type_in}
 use Rattle.jc_world.specs.World.{Frame, Thread, running, threw, Shared, Hit, World}
 use Rattle.jc_world.specs.Results.{Result, gets_stuck}
 use Rattle.jc_world.specs.Calls.{taken_for, by_call}
-use Rattle.jc_world.specs.Step.{LocatedInsn, After}
+use Rattle.jc_world.specs.Step.{LocatedInsn, After, Raised}
 use Rattle.jc_world.specs.Fits.{FitsThread}
 use Rattle.jc_machine.specs.declared.thread_turn.ProbeHit.{ProbeHit}
 use Rattle.jc_machine.specs.declared.thread_turn.ThreadTurn.{ThreadTurn}
+use Rattle.jc_machine.specs.declared.throwing.Throwable.{Throwable}
+use Rattle.jc_store.specs.Values.{value_of}
 use Rattle.jc_machine.specs.Threads.{ThreadFrames, thread_of}
 
 -- ---- worlds
@@ -34,6 +36,10 @@ hits_in (Some hit) = record { class = hit.class; id = hit.id } ∷ []
 -- what a turn came to, with the frames and with what all threads share as they are then
 abbrev pub after_of : ThreadTurn → ThreadFrames → Shared → After
 after_of turn frames s = record { thread = thread_of turn.end frames; shared = s; hits = hits_in turn.hit }
+
+-- a throwable, with what all threads share once it is there
+abbrev pub raised_with : Throwable → Shared → Raised
+raised_with throwable s = record { thrown = throwable.thrown; value = value_of throwable.value; shared = s }
 
 -- a handler was found, or none and the thread has ended
 abbrev pub thrown_to : Bool → Thrown → ThreadFrames → Thread

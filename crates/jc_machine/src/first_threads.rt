@@ -6,11 +6,11 @@ ghost use Rattle.jc_programs.specs.Entries.{is_argument};
 ghost use Rattle.jc_operations.specs.Types.{computational};
 ghost use Rattle.jc_perform.specs.Parameters.{AreParameters};
 ghost use Rattle.jc_world.specs.Values.{computational_type};
-ghost use Rattle.jc_world.specs.Calls.{spread_values, locals_for};
+ghost use Rattle.jc_world.specs.Calls.{spread_values};
 ghost use Rattle.jc_store.specs.Values.{value_of};
 ghost use Rattle.jc_world.specs.Begin.{number_value, argument_values, first_thread};
 ghost use Rattle.jc_machine.specs.Threads.{thread_of};
-ghost use Rattle.jc_machine.specs.FirstThreads.{width, FitParameters, BeginsWith};
+ghost use Rattle.jc_machine.specs.FirstThreads.{width, with_arguments, FitParameters, BeginsWith};
 
 use crate::thread_stack::ThreadStack;
 use jc_operations::{ComputationalType, PreparedProgram};
@@ -48,10 +48,7 @@ fn put_arguments(
     requires empty { frames.old.top.locals ≡ replicate (length frames.old.top.locals) None }
     ensures { (types : List FieldType) → AreParameters types parameters.now
         → length (spread_values (argument_values types numbers.now)) ≤ length frames.old.top.locals
-        → frames.new ≡ record frames.old {
-          top =
-              record frames.old.top { locals = locals_for (length frames.old.top.locals) (argument_values types numbers.now) };
-        } }
+        → frames.new ≡ with_arguments types numbers.now frames.old }
 {
     let mut slot = 0;
     'putting: for (k, number) in numbers.iter().enumerate() {

@@ -6,7 +6,7 @@ ghost use Rattle.jc_operations.specs.Prepared.{IsPrepared};
 ghost use Rattle.jc_world.specs.Step.{unwound, placed, thrown_in};
 ghost use Rattle.jc_store.specs.Values.{value_of};
 ghost use Rattle.jc_machine.specs.Room.{AreBounded};
-ghost use Rattle.jc_machine.specs.Turned.{after_of, thrown_to};
+ghost use Rattle.jc_machine.specs.Turned.{after_of, raised_with, thrown_to};
 
 use crate::thread_stack::ThreadStack;
 use crate::thread_turn::ThreadTurn;
@@ -50,8 +50,7 @@ pub fn throw(
     requires { AreBounded frames.old.top frames.old.waiting }
     ensures { (program : Program) → IsPrepared program prepared.now
         → after_of result frames.new shared.new
-        ≡ thrown_in program (record { thrown = throwable.thrown; value = value_of throwable.value; shared = shared.old })
-        (frames.old.top ∷ frames.old.waiting) }
+        ≡ thrown_in program (raised_with throwable shared.old) (frames.old.top ∷ frames.old.waiting) }
 {
     shared.set_raised();
     if unwind(prepared, frames, throwable) {
@@ -63,7 +62,7 @@ pub fn throw(
 
 /// The throwable of a class that is raised: a new one, or the one OutOfMemoryError where no room is left.
 fn place(shared: &mut Shared, thrown: Thrown) -> Throwable
-    ensures { record { thrown = result.thrown; value = value_of result.value; shared = shared.new } ≡ placed thrown shared.old }
+    ensures { raised_with result shared.new ≡ placed thrown shared.old }
 {
     let memory_error = Throwable {
         thrown: Thrown::OutOfMemoryError,
