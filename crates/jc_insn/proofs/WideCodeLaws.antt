@@ -1,5 +1,5 @@
 -- What is written of code in the wide layout is a spelling of its wide form.
-use Rattle.std.proofs.Common.{◌≡◌, ℕ, zero, suc, ◌+◌, ◌<◌, ◌≤◌, Bool, true, false, cond, List, [], ◌∷◌, ◌++◌, length, map, get_or, All, nat_eq, refl, sym, ◌∙◌, ap, subst, arith, w16, w32, append_assoc, zero-add}
+use Rattle.std.proofs.Common.{◌≡◌, ℕ, zero, suc, ◌+◌, ◌<◌, ◌≤◌, Bool, true, false, cond, List, [], ◌∷◌, ◌++◌, length, map, get_or, All, nat_eq, refl, sym, ◌∙◌, ap, subst, arith, w16, w32, append_assoc, length-append, zero-add}
 use Rattle.std.specs.Prelude.{slice_index}
 use Rattle.std.specs.Int.{cast_signed}
 use Rattle.std.proofs.lemmas.List.{map-append}
@@ -118,19 +118,36 @@ wide_start (insn ∷ code) (start ∷ starts) long (suc k) le = by (flow_of insn
 
 -- ---- bytes
 
--- What is read back of an instruction at this offset: a conditional jump is two instructions, its inverse that leads
--- past the second one, and goto. Places are offsets.
+-- What is read back of a jump at this offset, which is goto or not: a conditional jump is two instructions, its inverse
+-- that leads past the second one, and goto. Places are offsets.
+abbrev spelled_jump : Bool → ℕ → ℕ → ℕ → List Insn
+spelled_jump true at op to = insns.Jump op to ∷ []
+spelled_jump false at op to = insns.Jump (inverse_of op) (at + 8) ∷ insns.Jump opcode.goto to ∷ []
+
+-- how a jump goes on, which is goto or not
+abbrev flow_of_goto : Bool → Flow
+flow_of_goto is_goto = cond is_goto flows.Jumps flows.Branches
+
+-- what is read back of an instruction at this offset
 abbrev spelled_as : ℕ → Insn → List Insn
-spelled_as at (insns.Jump op to) = cond (nat_eq op opcode.goto) (insns.Jump op to ∷ []) (insns.Jump (inverse_of op) (at + 8) ∷ insns.Jump opcode.goto to ∷ [])
+spelled_as at (insns.Jump op to) = spelled_jump (nat_eq op opcode.goto) at op to
 spelled_as at insn = insn ∷ []
 
 abbrev code_as : (ℕ → ℕ) → List Insn → List ℕ → List Insn
 code_as places (insn ∷ code) (at ∷ starts) = spelled_as at (with_places places insn) ++ code_as places code starts
 code_as places code starts = []
 
-one_more : (at : ℕ) (text rest : List ℕ) (insn : Insn) (code : List Insn) (starts : List ℕ) → IsItem at text (items.Insn insn)
-    → SpellsFrom (at + length text) rest code starts → SpellsFrom at (text ++ rest) (insn ∷ code) (at ∷ starts)
-one_more at text rest insn code starts is s = (text, rest, starts, refl, refl, is, s)
+-- the text spells these instructions, which begin at these offsets, in front of whatever spells others
+abbrev SpellsInFront : ℕ → List ℕ → List Insn → List ℕ → Type 0
+SpellsInFront at text front begins = (rest : List ℕ) (code : List Insn) (starts : List ℕ) → SpellsFrom (at + length text) rest code starts
+    → SpellsFrom at (text ++ rest) (front ++ code) (begins ++ starts)
+
+-- what is written of the code in the wide layout spells what is read back of it
+abbrev SpellsWide : (ℕ → ℕ) → ℕ → List Insn → List ℕ → Type 0
+SpellsWide places at code starts = SpellsFrom at (code_text places true code starts) (code_as places code starts) (wide_starts code starts)
+
+one_in_front : (at : ℕ) (text : List ℕ) (insn : Insn) → IsItem at text (items.Insn insn) → SpellsInFront at text (insn ∷ []) (at ∷ [])
+one_in_front at text insn is rest code starts s = (text, rest, starts, refl, refl, is, s)
 
 goto_is : (at to : ℕ) → at < 4294967296 → to < 4294967296 → IsItem at (opcode.goto_w ∷ word (difference at to)) (items.Insn (insns.Jump opcode.goto to))
 unfolding operands
@@ -150,49 +167,47 @@ inverse_is at op small test =
     (one_number 2 (λ v. items.Insn (insns.Jump (inverse_of op) (target_of at (cast_signed w16 v)))) 8 (short 8) item (big_short 8 (omega arith))
     (ap (λ (t : ℕ). items.Insn (insns.Jump (inverse_of op) t)) (sym there)))
 
-wide_jump : (at op to : ℕ) (rest : List ℕ) (code : List Insn) (starts : List ℕ) (b : Bool) → nat_eq op opcode.goto ≡ b → at ≤ 2147483647 → form_of op ≡ forms.Jump
-    → to < 4294967296 → SpellsFrom (at + cond b 5 8) rest code starts
-    → SpellsFrom at (cond b (opcode.goto_w ∷ word (difference at to)) (inverse_of op ∷ short 8 ++ opcode.goto_w ∷ word (difference (at + 3) to)) ++ rest)
-    (cond b (insns.Jump op to ∷ []) (insns.Jump (inverse_of op) (at + 8) ∷ insns.Jump opcode.goto to ∷ []) ++ code)
-    (wide_starts_by at (cond b flows.Jumps flows.Branches) ++ starts)
-wide_jump at op to rest code starts true is small form to_fits more =
-    let size = word_size (difference at to) in
+-- what is written of a jump, which is goto or not
+abbrev text_of_jump : Bool → ℕ → ℕ → ℕ → List ℕ
+text_of_jump is_goto at op to =
+    cond is_goto (opcode.goto_w ∷ word (difference at to)) (inverse_of op ∷ short 8 ++ opcode.goto_w ∷ word (difference (at + 3) to))
+
+jump_in_front : (at op to : ℕ) (is_goto : Bool) → nat_eq op opcode.goto ≡ is_goto → at ≤ 2147483647 → Fits at (insns.Jump op to)
+    → SpellsInFront at (text_of_jump is_goto at op to) (spelled_jump is_goto at op to) (wide_starts_by at (flow_of_goto is_goto))
+jump_in_front at op to true is small fits =
     let goto : op ≡ opcode.goto = eqb-true op opcode.goto is in
-    one_more at (opcode.goto_w ∷ word (difference at to)) rest (insns.Jump op to) code starts
-    (subst (λ (o : ℕ). IsItem at (opcode.goto_w ∷ word (difference at to)) (items.Insn (insns.Jump o to))) (sym goto) (goto_is at to (omega (arith, small)) to_fits))
-    (subst (λ (p : ℕ). SpellsFrom p rest code starts) (omega (arith, size)) more)
-wide_jump at op to rest code starts false is small form to_fits more =
-    let test = jump_tests op form (eqb-false op opcode.goto is) in
+    let text = opcode.goto_w ∷ word (difference at to) in
+    one_in_front at text (insns.Jump op to)
+    (subst (λ (o : ℕ). IsItem at text (items.Insn (insns.Jump o to))) (sym goto) (goto_is at to (omega (arith, small)) (fits.places 0 to (omega arith))))
+jump_in_front at op to false is small fits = λ rest code starts more.
+    let test = jump_tests op fits.well_formed (eqb-false op opcode.goto is) in
+    let to_fits = fits.places 0 to (omega arith) in
     let first = inverse_of op ∷ short 8 in
     let second = opcode.goto_w ∷ word (difference (at + 3) to) in
     let first_size : length first ≡ 3 = let e = short_size 8 in omega (arith, e) in
     let second_size : length second ≡ 5 = let e = word_size (difference (at + 3) to) in omega (arith, e) in
+    let both_size = length-append first second in
     let there : at + 3 ≡ at + length first = omega (arith, first_size) in
+    let end : at + length (first ++ second) ≡ (at + 3) + length second = omega (arith, both_size, first_size) in
     let behind : SpellsFrom (at + 3) (second ++ rest) (insns.Jump opcode.goto to ∷ code) ((at + 3) ∷ starts) =
-    one_more (at + 3) second rest (insns.Jump opcode.goto to) code starts
-    (goto_is (at + 3) to (omega (arith, small)) to_fits)
-    (subst (λ (p : ℕ). SpellsFrom p rest code starts) (omega (arith, second_size)) more) in
+    one_in_front (at + 3) second (insns.Jump opcode.goto to) (goto_is (at + 3) to (omega (arith, small)) to_fits) rest code starts
+    (subst (λ (p : ℕ). SpellsFrom p rest code starts) end more) in
     let all = insns.Jump (inverse_of op) (at + 8) ∷ insns.Jump opcode.goto to ∷ code in
     subst (λ (l : List ℕ). SpellsFrom at l all (at ∷ (at + 3) ∷ starts)) (sym (append_assoc first second rest))
-    (one_more at first (second ++ rest) (insns.Jump (inverse_of op) (at + 8)) (insns.Jump opcode.goto to ∷ code) ((at + 3) ∷ starts) (inverse_is at op small test)
-    (subst (λ (p : ℕ). SpellsFrom p (second ++ rest) (insns.Jump opcode.goto to ∷ code) ((at + 3) ∷ starts)) there behind))
+    (one_in_front at first (insns.Jump (inverse_of op) (at + 8)) (inverse_is at op small test) (second ++ rest) (insns.Jump opcode.goto to ∷ code)
+    ((at + 3) ∷ starts) (subst (λ (p : ℕ). SpellsFrom p (second ++ rest) (insns.Jump opcode.goto to ∷ code) ((at + 3) ∷ starts)) there behind))
 
-wide_insn : (at : ℕ) (raw : Insn) (rest : List ℕ) (code : List Insn) (starts : List ℕ) → Fits at raw → at ≤ 2147483647
-    → SpellsFrom (at + length (insn_text at true raw)) rest code starts
-    → SpellsFrom at (insn_text at true raw ++ rest) (spelled_as at raw ++ code) (wide_starts_by at (flow_of raw) ++ starts)
+insn_in_front : (at : ℕ) (raw : Insn) → Fits at raw → at ≤ 2147483647
+    → SpellsInFront at (insn_text at true raw) (spelled_as at raw) (wide_starts_by at (flow_of raw))
 unfolding insn_text
-wide_insn at (insns.Jump op to) rest code starts fits small more =
-    wide_jump at op to rest code starts (nat_eq op opcode.goto) refl small fits.well_formed (fits.places 0 to (omega arith))
-    (subst (λ (n : ℕ). SpellsFrom (at + n) rest code starts) (text_size at true (insns.Jump op to)) more)
-wide_insn at (insns.Simple op) rest code starts fits small more =
-    subst (λ (l : List ℕ). SpellsFrom at (op ∷ [] ++ rest) (insns.Simple op ∷ code) (l ++ starts))
-    (sym (one_start at (flow_of_simple op) (simple_is_no_test op)))
-    (one_more at (op ∷ []) rest (insns.Simple op) code starts (text_is at true (insns.Simple op) fits (λ o to is. absurd cc)) more)
-wide_insn at raw rest code starts fits small more = one_more at (insn_text at true raw) rest raw code starts
-    (text_is at true raw fits (λ op to is. absurd cc)) more
+insn_in_front at (insns.Jump op to) fits small = jump_in_front at op to (nat_eq op opcode.goto) refl small fits
+insn_in_front at (insns.Simple op) fits small =
+    subst (SpellsInFront at (op ∷ []) (insns.Simple op ∷ [])) (sym (one_start at (flow_of_simple op) (simple_is_no_test op)))
+    (one_in_front at (op ∷ []) (insns.Simple op) (text_is at true (insns.Simple op) fits (λ o to is. absurd cc)))
+insn_in_front at raw fits small = one_in_front at (insn_text at true raw) raw (text_is at true raw fits (λ op to is. absurd cc))
 
 wide_code : (places : ℕ → ℕ) (at : ℕ) (code : List Insn) (starts : List ℕ) → StartAt true at code starts → EachFits places code starts
-    → All (λ s. s ≤ 2147483647) starts → SpellsFrom at (code_text places true code starts) (code_as places code starts) (wide_starts code starts)
+    → All (λ s. s ≤ 2147483647) starts → SpellsWide places at code starts
 wide_code places at [] starts s fit small = (refl, s)
 wide_code places at (insn ∷ code) [] (later, is, more) fit small = absurd cc
 wide_code places at (insn ∷ code) (start ∷ starts) (later, is, more) fit small =
@@ -205,8 +220,8 @@ wide_code places at (insn ∷ code) (start ∷ starts) (later, is, more) fit sma
     let more_starts : StartAt true (start + length text) code starts = subst (λ (p : ℕ). StartAt true p code starts) size
     (subst (λ (l : List ℕ). StartAt true (at + size_of at true insn) code l) (sym later_is) more) in
     let behind = wide_code places (start + length text) code starts more_starts fit.1 (All-tail (λ s. s ≤ 2147483647) start starts small) in
-    let whole = wide_insn start raw (code_text places true code starts) (code_as places code starts) (wide_starts code starts) fit.0
-    (small 0 start (omega arith)) behind in
+    let whole = insn_in_front start raw fit.0 (small 0 start (omega arith)) (code_text places true code starts) (code_as places code starts)
+    (wide_starts code starts) behind in
     subst (λ (p : ℕ). SpellsFrom p (text ++ code_text places true code starts) (spelled_as start raw ++ code_as places code starts)
     (wide_starts_by start (flow_of insn) ++ wide_starts code starts)) first_is
     (subst (λ (f : Flow). SpellsFrom start (text ++ code_text places true code starts) (spelled_as start raw ++ code_as places code starts)
@@ -218,23 +233,33 @@ module _ (numbers offsets places : ℕ → ℕ) where
   abbrev Leads : Insn → Type 0
   Leads insn = All (λ to. numbers (offsets to) ≡ places to) (targets_of insn)
 
-  image_as : (here at : ℕ) (insn : Insn) → Leads insn → (flow_of insn ≡ flows.Branches → numbers (at + 8) ≡ here + 2)
-      → map (with_places numbers) (spelled_as at (with_places offsets insn)) ≡ widened_by places here insn (flow_of insn)
-  image_as here at (insns.Jump op to) leads next = by (nat_eq op opcode.goto) next
-    where
-      by : (b : Bool) → (cond b flows.Jumps flows.Branches ≡ flows.Branches → numbers (at + 8) ≡ here + 2)
-          → map (with_places numbers) (cond b (insns.Jump op (offsets to) ∷ []) (insns.Jump (inverse_of op) (at + 8) ∷ insns.Jump opcode.goto (offsets to) ∷ []))
-          ≡ widened_by places here (insns.Jump op to) (cond b flows.Jumps flows.Branches)
-      by true next = λ i. insns.Jump op (leads 0 to (omega arith) i) ∷ []
-      by false next = λ i. insns.Jump (inverse_of op) (next refl i) ∷ insns.Jump opcode.goto (leads 0 to (omega arith) i) ∷ []
+  -- what begins behind what stands for a conditional jump is numbered two behind it
+  abbrev PassesTest : ℕ → ℕ → Flow → Type 0
+  PassesTest here at flow = flow ≡ flows.Branches → numbers (at + 8) ≡ here + 2
+
+  -- this is read back of what stands for the instruction from this place on
+  abbrev IsImage : ℕ → Insn → Flow → List Insn → Type 0
+  IsImage here insn flow front = map (with_places numbers) front ≡ widened_by places here insn flow
+
+  jump_as : (here at op to : ℕ) (is_goto : Bool) → Leads (insns.Jump op to) → PassesTest here at (flow_of_goto is_goto)
+      → IsImage here (insns.Jump op to) (flow_of_goto is_goto) (spelled_jump is_goto at op (offsets to))
+  jump_as here at op to true leads next = λ i. insns.Jump op (leads 0 to (omega arith) i) ∷ []
+  jump_as here at op to false leads next = λ i. insns.Jump (inverse_of op) (next refl i) ∷ insns.Jump opcode.goto (leads 0 to (omega arith) i) ∷ []
+
+  image_as : (here at : ℕ) (insn : Insn) → Leads insn → PassesTest here at (flow_of insn)
+      → IsImage here insn (flow_of insn) (spelled_as at (with_places offsets insn))
+  image_as here at (insns.Jump op to) leads next = jump_as here at op to (nat_eq op opcode.goto) leads next
   image_as here at (insns.Simple op) leads next = sym (one_image places here (insns.Simple op) (flow_of_simple op) (simple_is_no_test op))
   image_as here at (insns.Table low default arms) leads next = ap (λ (i : Insn). i ∷ [])
       (places_both offsets numbers places (insns.Table low default arms) leads)
   image_as here at (insns.Lookup default arms) leads next = ap (λ (i : Insn). i ∷ []) (places_both offsets numbers places (insns.Lookup default arms) leads)
   image_as here at insn leads next = refl
 
-  as_widened : (here at : ℕ) (code : List Insn) (starts : List ℕ) → StartAt true at code starts → All Leads code
-      → ((k : ℕ) → k ≤ length code → numbers (get_or starts k 0) ≡ here + wide_place code k)
+  -- the instructions are numbered as in the wide form, from this place on
+  abbrev NumberedWide : ℕ → List Insn → List ℕ → Type 0
+  NumberedWide here code starts = (k : ℕ) → k ≤ length code → numbers (get_or starts k 0) ≡ here + wide_place code k
+
+  as_widened : (here at : ℕ) (code : List Insn) (starts : List ℕ) → StartAt true at code starts → All Leads code → NumberedWide here code starts
       → map (with_places numbers) (code_as offsets code starts) ≡ widened_from places here code
   as_widened here at [] starts s lead numbered = refl
   as_widened here at (insn ∷ code) [] (later, is, more) lead numbered = absurd cc
@@ -244,14 +269,14 @@ module _ (numbers offsets places : ℕ → ℕ) where
       let width = widths_by (flow_of insn) in
       let front = spelled_as start (with_places offsets insn) in
       let next_start = ap (λ (l : List ℕ). get_or l 0 0) later_is ∙ first_start true (at + size_of at true insn) code later more in
-      let next : flow_of insn ≡ flows.Branches → numbers (start + 8) ≡ here + 2 =
+      let next : PassesTest here start (flow_of insn) =
       λ test.
       let size = test_size at insn test in
       let there : start + 8 ≡ get_or starts 0 0 = omega (arith, first_is, next_start, size) in
       let two = ap widths_by test in
       let none = first_place code in
       ap numbers there ∙ numbered 1 (omega arith) ∙ omega (arith, two, none) in
-      let behind : (k : ℕ) → k ≤ length code → numbers (get_or starts k 0) ≡ here + width + wide_place code k = λ k le. let e = numbered (suc k)
+      let behind : NumberedWide (here + width) code starts = λ k le. let e = numbered (suc k)
       (omega (arith, le)) in omega (arith, e) in
       let more_starts = subst (λ (l : List ℕ). StartAt true (at + size_of at true insn) code l) (sym later_is) more in
       let tail = as_widened (here + width) (at + size_of at true insn) code starts more_starts (All-tail Leads insn code lead) behind in
@@ -275,5 +300,5 @@ spells_wide code starts out = record {
         let lt = out.places k d below j e inside in
         number_of_wide_start 0 code starts out.starts_at (get_or (targets_of (get_or code k d)) j e) (omega (arith, lt))
 
-    numbered : (k : ℕ) → k ≤ length code → insn_number (wide_starts code starts) (get_or starts k 0) ≡ 0 + wide_place code k
+    numbered : NumberedWide (insn_number (wide_starts code starts)) (slice_index starts) (wide_place code) 0 code starts
     numbered k le = number_of_wide_start 0 code starts out.starts_at k le ∙ sym (zero-add (wide_place code k))
