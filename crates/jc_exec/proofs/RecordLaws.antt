@@ -170,6 +170,21 @@ pub keyed_over : (es fs : Entries) → Keyed es → Keyed fs → Keyed (insert_a
 keyed_over es [] a b = a
 keyed_over es (f ∷ fs) a b = keyed_over (insert_entry nat_eq es f.0 f.1) fs (keyed_insert f.0 f.1 es a (sym b.0) b.1 b.2) b.4
 
+-- ---- the records that were gathered over none
+
+insert_behind : (e : ℕ × ClassHits) (es fs : Entries) → Keyed fs → IsNew e.0 (classes_of fs) → insert_all nat_eq (e ∷ es) fs ≡ e ∷ insert_all nat_eq es fs
+insert_behind e es [] keyed new = refl
+insert_behind e es (f ∷ fs) keyed new =
+    let apart : nat_eq f.0 e.0 ≡ false = ne_eqb f.0 e.0 (λ same. new.0 (sym same ∙ keyed.0)) in
+    ap (λ (b : Bool). insert_all nat_eq (cond b ((e.0, f.1) ∷ es) (e ∷ insert_entry nat_eq es f.0 f.1)) fs) apart
+    ∙ insert_behind e (insert_entry nat_eq es f.0 f.1) fs keyed.4 new.1
+
+pub insert_none : (fs : Entries) → Keyed fs → insert_all nat_eq [] fs ≡ fs
+insert_none [] keyed = refl
+insert_none (f ∷ fs) keyed =
+    insert_behind f [] fs keyed.4 (subst (λ (n : ℕ). IsNew n (classes_of fs)) (sym keyed.0) keyed.3)
+    ∙ ap (λ (l : Entries). f ∷ l) (insert_none fs keyed.4)
+
 -- ---- the records with one more
 
 record_new : (es : Entries) (r : ClassHits) → Keyed es → lookup (nat_eq r.id) es ≡ None → with_record (classes_of es) r ≡ Some (classes_of (insert_entry nat_eq es r.id r))

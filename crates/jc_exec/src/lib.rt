@@ -5,6 +5,7 @@
 
 mod block;
 mod hits;
+mod id_hash;
 mod laws;
 mod merge;
 mod refusal;

@@ -1,6 +1,6 @@
 //! Records of one id, merged.
 ghost use Rattle.std.specs.Prelude.{◌≡◌, ◌≤◌, true, nat_eq, length, IfOk, IfErr, OnOk, OnErr, MatchResult};
-ghost use Rattle.indexmap.specs.IndexMap.{insert_entry};
+ghost use Rattle.indexmap.specs.IndexMap.{insert_entry, insert_all};
 ghost use Rattle.jc_bytes.specs.Modified.{IsModified};
 ghost use Rattle.jc_exec.specs.Adding.{Merges, Puts, over, MergesInto, GivesMerged, RefusesMerging};
 ghost use Rattle.jc_exec.specs.Answers.{RefusesClass, conflict_with, RefusesRecord};
@@ -166,6 +166,20 @@ pub fn gather(
         Some(there) => keep(fresh, merged(alloc, there, hits)?)?,
     }
     Ok(())
+}
+
+/// Puts the gathered records with the others: each in the place of the one of its id, else last. Where there are no others,
+/// those that were gathered are taken as they are. After an error the others are as before.
+pub fn put_all(records: &mut Records, gathered: &mut Records) -> Result<(), AllocError>
+    requires { Keyed gathered.old.entries }
+    ensures all { OnOk result (records.new.entries ≡ insert_all nat_eq records.old.entries gathered.old.entries) }
+    ensures unchanged { OnErr result (records.new.entries ≡ records.old.entries) }
+{
+    if records.is_empty() {
+        mem::swap(records, gathered);
+        return Ok(());
+    }
+    records.append(gathered)
 }
 
 /// Puts a record with the others: merged into the one of its id, else last. After an error the

@@ -15,7 +15,8 @@ ghost use Rattle.jc_exec.specs.Union.{IsUnion, ReadsOn};
 ghost use Rattle.jc_exec.specs.Writing.{exec_text};
 
 use crate::block::{Front, next_block};
-use crate::merge::{gather, put};
+use crate::id_hash::IdHash;
+use crate::merge::{gather, put, put_all};
 use crate::write::exec_data;
 use crate::{ClassHits, ExecRefusal, Session};
 use indexmap::IndexMap;
@@ -24,7 +25,7 @@ use std::alloc::{AllocError, Global};
 use std::marker::Model;
 
 /// Records by class id, in the order in which the ids were first seen.
-pub type Records = IndexMap<u64, ClassHits>;
+pub type Records = IndexMap<u64, ClassHits, IdHash>;
 
 /// The union of execution data.
 ///
@@ -33,7 +34,7 @@ pub type Records = IndexMap<u64, ClassHits>;
 #[derive(Drop)]
 pub struct ExecStore {
     sessions: Vec<Session>,
-    records: IndexMap<u64, ClassHits>,
+    records: Records,
 }
 
 impl Model for ExecStore {
@@ -59,7 +60,7 @@ impl ExecStore {
     {
         Ok(ExecStore {
             sessions: Vec::new(alloc),
-            records: IndexMap::new(alloc),
+            records: IndexMap::with_hasher(alloc, IdHash::under_digest(b"")),
         })
     }
 
@@ -90,7 +91,7 @@ impl ExecStore {
     {
         let mut added = read_blocks(alloc, &self.records, bytes)?;
         self.sessions.reserve(added.sessions.len())?;
-        self.records.append(&mut added.records)?;
+        put_all(&mut self.records, &mut added.records)?;
         self.sessions.append(&mut added.sessions).unwrap();
         Ok(())
     }
@@ -188,6 +189,17 @@ fn keep(
     Ok(())
 }
 
+/// No records yet of a file over some records. Their ids are hashed as those of the others, or, where there are none,
+/// under the file's digest.
+fn no_records(alloc: Global, known: &Records, bytes: &[u8]) -> Records
+    ensures { result.entries ≡ [] }
+{
+    if known.is_empty() {
+        return IndexMap::with_hasher(alloc, IdHash::under_digest(bytes));
+    }
+    IndexMap::with_hasher(alloc, *known.hasher())
+}
+
 /// The blocks of a file over some records.
 fn read_blocks(alloc: Global, known: &Records, bytes: &[u8]) -> Result<Added, Fail<ExecRefusal>>
     requires short { length bytes.now ≤ most_read }
@@ -198,7 +210,7 @@ fn read_blocks(alloc: Global, known: &Records, bytes: &[u8]) -> Result<Added, Fa
     let mut reader = Reader::new(bytes);
     let mut added = Added {
         sessions: Vec::new(alloc),
-        records: IndexMap::new(alloc),
+        records: no_records(alloc, known, bytes),
     };
     'reading: while (reader.place() as usize) < bytes.len() {
         let kind = bytes[reader.place() as usize];
