@@ -1,21 +1,18 @@
 -- The answer of the search for a fault, by the outcome of the table.
-use Rattle.std.proofs.Common.{◌≡◌, ℕ, List, Option, Some, None, Result, Ok, Err, IfOk, MatchOption, refl, sym, ◌∙◌, ap, subst}
+use Rattle.std.proofs.Common.{◌≡◌, ℕ, List, Option, Some, None, Result, Ok, Err, IfOk, refl, sym, ◌∙◌, ap, subst}
 use Rattle.jc_methods.specs.VerificationTypes.{TypeState, TypeStateAt}
 use Rattle.jc_frames.specs.Frames.{Ground}
-use Rattle.jc_frames.specs.Table.{StandsFor, TableFault, Outcome, stands_for, at_fault, outcome_of, fault_of}
+use Rattle.jc_frames.specs.Table.{StandsFor, TableFault, IsFaultPlace, Outcome, stands_for, at_fault, outcome_of, fault_of}
 use Rattle.jc_frames.proofs.TableLaws.{table_good, table_bad, table_again, table_fails}
 
-abbrev Answer : Ground → TypeState → List ℕ → Option ℕ → Type 0
-Answer g entry table fault = MatchOption fault ((frames : List TypeStateAt) × StandsFor g entry table frames) (λ place. TableFault g entry table place)
-
 module _ {E : Type 0} (g : Ground) (entry : TypeState) (table : List ℕ) where
-  pub answers : (r : Result (Option ℕ) E) → IfOk r (λ fault. fault ≡ fault_of (outcome_of g entry table)) → IfOk r (Answer g entry table)
+  pub answers : (r : Result (Option ℕ) E) → IfOk r (λ fault. fault ≡ fault_of (outcome_of g entry table)) → IfOk r (IsFaultPlace g entry table)
   answers (Err e) is = is
   answers (Ok fault) is = by (outcome_of g entry table) refl is
     where
-      by : (o : Outcome) → outcome_of g entry table ≡ o → fault ≡ fault_of o → Answer g entry table fault
-      by (stands_for frames) o e = subst (Answer g entry table) (sym e) (frames, table_good g entry table frames o)
-      by (at_fault place) o e = subst (Answer g entry table) (sym e) (table_bad g entry table place o)
+      by : (o : Outcome) → outcome_of g entry table ≡ o → fault ≡ fault_of o → IsFaultPlace g entry table fault
+      by (stands_for frames) o e = subst (IsFaultPlace g entry table) (sym e) (frames, table_good g entry table frames o)
+      by (at_fault place) o e = subst (IsFaultPlace g entry table) (sym e) (table_bad g entry table place o)
 
   pub answers_frames : (r : Result (Option ℕ) E) (frames : List TypeStateAt) → IfOk r (λ fault. fault ≡ fault_of (outcome_of g entry table)) → StandsFor g entry table frames
       → IfOk r (λ fault. fault ≡ None)

@@ -1,6 +1,6 @@
 -- A frame says nothing exactly where it has a fault.
 use Rattle.std.proofs.Common.{◌≡◌, ◌⊎◌, inl, inr, ⊎_elim, ℕ, zero, suc, ◌-◌, ◌<◌, Bool, true, false, ◌&&◌, List, [], ◌∷◌, ◌++◌, length, take, Option, Some, None, option_map, if◌then◌else◌, get_or, nat_le, refl, sym, ◌∙◌, ap, subst, arith}
-use Rattle.std.proofs.lemmas.Bool.{ltb-false, leb-false, le-ltb, lt-leb}
+use Rattle.std.proofs.lemmas.Bool.{and_cases, ltb-false, leb-false, le-ltb, lt-leb}
 use Rattle.std.proofs.lemmas.List.Elements.{Contains-append_left, Contains-append_right, Contains-append_cases}
 use Rattle.std.specs.List.{Contains}
 use Rattle.jc_methods.specs.VerificationTypes.{VerificationType, object, uninit, slots}
@@ -26,9 +26,9 @@ map_none : {X Y : Type 0} (f : X → Y) (o : Option X) → option_map f o ≡ No
 map_none f None e = refl
 map_none f (Some x) e = absurd (none_some (sym e))
 
-if_none : (b : Bool) (h : VerificationType) → (if b then Some h else None) ≡ None → b ≡ false
-if_none true h e = absurd (none_some (sym e))
-if_none false h e = refl
+if_none : {X : Type 0} (b : Bool) (x : X) → (if b then Some x else None) ≡ None → b ≡ false
+if_none true x e = absurd (none_some (sym e))
+if_none false x e = refl
 
 one_names_nothing : (g : Ground) (item : TypeItem) → type_of g item ≡ None → NamesNothing g item
 one_names_nothing g types.Top e = absurd (none_some (sym e))
@@ -113,17 +113,23 @@ pub says_nothing : (g : Ground) (before : Before) (item : FrameItem) → frame_o
 unfolding frame_of
 says_nothing g before item e = by (values_of g before item) (stack_of g item) refl refl e
   where
-    tests : (values stack : List VerificationType) (a b c : Bool) → values_of g before item ≡ Some values → stack_of g item ≡ Some stack → is_start g (offset_of before item) ≡ a → nat_le (slots values) g.max_locals ≡ b → nat_le (slots stack) g.max_stack ≡ c
-        → (if a && (b && c) then Some (found g (offset_of before item) values stack) else None) ≡ None → FrameFault g before item
-    tests values stack false b c i j ea eb ec e = astray (ltb-false _ _ ea)
-    tests values stack true false c i j ea eb ec e = too_many_locals values i (leb-false _ _ eb)
-    tests values stack true true false i j ea eb ec e = too_much_stack stack j (leb-false _ _ ec)
-    tests values stack true true true i j ea eb ec e = absurd (none_some (sym e))
+    tests : (values stack : List VerificationType) → values_of g before item ≡ Some values → stack_of g item ≡ Some stack
+        → found_if g (offset_of before item) (Some values) (Some stack) ≡ None → FrameFault g before item
+    tests values stack i j e =
+        let offset = offset_of before item in
+        let failed = if_none (is_start g offset && fits_slots g values stack) (found g offset values stack) e in
+        ⊎_elim
+        (λ a. astray (ltb-false _ _ a))
+        (λ w. ⊎_elim
+        (λ b. too_many_locals values i (leb-false _ _ b))
+        (λ c. too_much_stack stack j (leb-false _ _ c))
+        (and_cases (nat_le (slots values) g.max_locals) (nat_le (slots stack) g.max_stack) w))
+        (and_cases (is_start g offset) (fits_slots g values stack) failed)
 
     by : (o p : Option (List VerificationType)) → values_of g before item ≡ o → stack_of g item ≡ p → found_if g (offset_of before item) o p ≡ None → FrameFault g before item
     by None p i j e = no_values g before item i
     by (Some values) None i j e = no_stack g before item j
-    by (Some values) (Some stack) i j e = tests values stack (is_start g (offset_of before item)) (nat_le (slots values) g.max_locals) (nat_le (slots stack) g.max_stack) i j refl refl refl e
+    by (Some values) (Some stack) i j e = tests values stack i j e
 
 -- ---- and one with a fault says nothing
 

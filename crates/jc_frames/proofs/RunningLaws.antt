@@ -2,7 +2,7 @@
 use Rattle.std.proofs.Common.{◌≡◌, ℕ, suc, ◌+◌, ◌-◌, ◌*◌, ◌<◌, ◌≤◌, Bool, true, false, ◌&&◌, List, [], ◌∷◌, ◌++◌, length, take, drop, get_or, Option, Some, None, option_map, nat_le, if◌then◌else◌, refl, sym, ◌∙◌, ap, ap₂, arith, length-drop}
 use Rattle.std.proofs.Math.Seq.{take-suc}
 use Rattle.std.proofs.lemmas.Bool.{lt-ltb, le-leb, lt-leb, leb-true, and_parts}
-use Rattle.std.proofs.lemmas.List.{take_all, take-map}
+use Rattle.std.proofs.lemmas.List.{length-map, take_all, take-map}
 use Rattle.std.proofs.lemmas.List.Sums.{sum_by-cons, sum_by-take-drop}
 use Rattle.std.specs.List.{sum_by}
 use Rattle.jc_methods.specs.VerificationTypes.{Names, VerificationType, slots, width}
@@ -13,7 +13,7 @@ use Rattle.jc_pool.specs.Pool.{PoolValue}
 use Rattle.jc_frames.specs.declared.items.FrameItem.{FrameItem}
 use Rattle.jc_frames.specs.declared.method.Value.{Value}
 use Rattle.jc_frames.specs.declared.method.Value.TheVariants as values
-use Rattle.jc_frames.specs.Frames.{Ground, Before, offset_of, values_of, stack_of, is_start, Found, found, fits_slots, found_if, frame_of, astray}
+use Rattle.jc_frames.specs.Frames.{Ground, Before, without_last, offset_of, values_of, stack_of, is_start, Found, found, fits_slots, found_if, frame_of, astray}
 use Rattle.jc_frames.specs.Running.{held_value, held_values, value_slots}
 use Rattle.jc_frames.proofs.FrameLaws.{fault_says_nothing, no_first, no_second}
 
@@ -135,9 +135,10 @@ chopped xs ys kept all gone is within slots total =
     (omega (arith, rest, both, total), omega (arith, rest, both, total))
 
 pub chopped_values : (pool : PoolValue) (names : Names) (xs new : List Value) (count size : ℕ) → count ≤ size → size ≡ length xs → new ≡ take (size - count) xs
-    → (if nat_le count (length xs) then Some (take (length xs - count) (held_values pool names xs)) else None) ≡ Some (held_values pool names new)
+    → without_last count (held_values pool names xs) ≡ Some (held_values pool names new)
 chopped_values pool names xs new count size le long is =
-    ap (λ (b : Bool). if b then Some (take (length xs - count) (held_values pool names xs)) else None) (le-leb count (length xs) (omega (arith, le, long)))
+    ap (λ (n : ℕ). if nat_le count n then Some (take (n - count) (held_values pool names xs)) else None) (length-map xs (held_value pool names))
+    ∙ ap (λ (b : Bool). if b then Some (take (length xs - count) (held_values pool names xs)) else None) (le-leb count (length xs) (omega (arith, le, long)))
     ∙ ap Some (take-map (held_value pool names) (length xs - count) xs)
     ∙ ap (λ (n : ℕ). Some (held_values pool names (take (n - count) xs))) (sym long)
     ∙ ap (λ (l : List Value). Some (held_values pool names l)) (sym is)

@@ -27,13 +27,21 @@ fault_is a b e = cc
 frame_before : (g : Ground) (before : Before) (bytes rest : List ℕ) (x : FrameItem) (found : Found) → frame_item_at bytes ≡ Good x rest → frame_of g before x ≡ Some found → FrameBefore g before bytes rest found
 frame_before g before bytes rest x found is says = let t = frame_agrees.good bytes x rest is in record { item = x; front = t.0; parts = t.1; text = t.2; says = says }
 
-frame_read : (g : Ground) (before : Before) (bytes rest : List ℕ) (found : Found) (this : ℕ) (more : Before → List ℕ → Outcome) → FrameBefore g before bytes rest found
-    → with_item g before this more (frame_item_at bytes) ≡ behind_frame found.frame (more found.next rest)
+-- what the frames behind one come to, by what they depend on and by the bytes that are left
+abbrev OutcomeBehind : Type 0
+OutcomeBehind = Before → List ℕ → Outcome
+
+-- what the bytes come to, by their first frame, which has this number, and by what the frames behind it come to
+abbrev outcome_by : Ground → Before → ℕ → OutcomeBehind → List ℕ → Outcome
+outcome_by g before this more bytes = with_item g before this more (frame_item_at bytes)
+
+frame_read : (g : Ground) (before : Before) (bytes rest : List ℕ) (found : Found) (this : ℕ) (more : OutcomeBehind) → FrameBefore g before bytes rest found
+    → outcome_by g before this more bytes ≡ behind_frame found.frame (more found.next rest)
 frame_read g before bytes rest found this more f =
     ap (with_item g before this more) (ap frame_item_at f.parts ∙ frame_agrees.again f.front rest f.item f.text)
     ∙ ap (with_found this more rest) f.says
 
-no_frame_read : (g : Ground) (before : Before) (bytes : List ℕ) (this : ℕ) (more : Before → List ℕ → Outcome) → NoFrame g before bytes → with_item g before this more (frame_item_at bytes) ≡ at_fault this
+no_frame_read : (g : Ground) (before : Before) (bytes : List ℕ) (this : ℕ) (more : OutcomeBehind) → NoFrame g before bytes → outcome_by g before this more bytes ≡ at_fault this
 no_frame_read g before bytes this more (inl none) = by (frame_item_at bytes) refl
   where
     by : (p : Parsed FrameItem) → frame_item_at bytes ≡ p → with_item g before this more p ≡ at_fault this
@@ -57,22 +65,26 @@ cons_nil e = cc
 abbrev Good_from : Ground → ℕ → ℕ → Type 0
 Good_from g this n = (before : Before) (bytes : List ℕ) (frames : List TypeStateAt) → frames_from g this n before bytes ≡ stands_for frames → AreFrames g before n bytes frames
 
+module _ (g : Ground) (this n : ℕ) (more : Good_from g (this + 1) n) (before : Before) (bytes : List ℕ) (frames : List TypeStateAt) where
+  good_behind : (found : Found) (rest : List ℕ) (o : Outcome) → frames_from g (this + 1) n found.next rest ≡ o → FrameBefore g before bytes rest found
+      → behind_frame found.frame o ≡ stands_for frames → AreFrames g before (suc n) bytes frames
+  good_behind found rest (stands_for others) is f e = (rest, found, others, sym (stands_is _ frames e), f, more found.next rest others is)
+  good_behind found rest (at_fault place) is f e = absurd (stands_fault (sym e))
+
+  good_found : (x : FrameItem) (rest : List ℕ) (o : Option Found) → frame_item_at bytes ≡ Good x rest → frame_of g before x ≡ o
+      → with_found this (frames_from g (this + 1) n) rest o ≡ stands_for frames → AreFrames g before (suc n) bytes frames
+  good_found x rest None is i e = absurd (stands_fault (sym e))
+  good_found x rest (Some found) is i e = good_behind found rest (frames_from g (this + 1) n found.next rest) refl (frame_before g before bytes rest x found is i) e
+
+  good_item : (p : Parsed FrameItem) → frame_item_at bytes ≡ p → with_item g before this (frames_from g (this + 1) n) p ≡ stands_for frames
+      → AreFrames g before (suc n) bytes frames
+  good_item (Good x rest) is e = good_found x rest (frame_of g before x) is refl e
+  good_item (Bad left) is e = absurd (stands_fault (sym e))
+
 pub frames_good : (g : Ground) (this n : ℕ) → Good_from g this n
 frames_good g this zero before [] frames e = (refl, sym (stands_is [] frames e))
 frames_good g this zero before (b ∷ bytes) frames e = absurd (stands_fault (sym e))
-frames_good g this (suc n) before bytes frames e = by (frames_good g (this + 1) n) (frame_item_at bytes) refl e
-  where
-    behind : Good_from g (this + 1) n → (found : Found) (rest : List ℕ) (o : Outcome) → frames_from g (this + 1) n found.next rest ≡ o → FrameBefore g before bytes rest found → behind_frame found.frame o ≡ stands_for frames → AreFrames g before (suc n) bytes frames
-    behind more found rest (stands_for others) is f e = (rest, found, others, sym (stands_is _ frames e), f, more found.next rest others is)
-    behind more found rest (at_fault place) is f e = absurd (stands_fault (sym e))
-
-    says : Good_from g (this + 1) n → (x : FrameItem) (rest : List ℕ) (o : Option Found) → frame_item_at bytes ≡ Good x rest → frame_of g before x ≡ o → with_found this (frames_from g (this + 1) n) rest o ≡ stands_for frames → AreFrames g before (suc n) bytes frames
-    says more x rest None is i e = absurd (stands_fault (sym e))
-    says more x rest (Some found) is i e = behind more found rest (frames_from g (this + 1) n found.next rest) refl (frame_before g before bytes rest x found is i) e
-
-    by : Good_from g (this + 1) n → (p : Parsed FrameItem) → frame_item_at bytes ≡ p → with_item g before this (frames_from g (this + 1) n) p ≡ stands_for frames → AreFrames g before (suc n) bytes frames
-    by more (Good x rest) is e = says more x rest (frame_of g before x) is refl e
-    by more (Bad left) is e = absurd (stands_fault (sym e))
+frames_good g this (suc n) before bytes frames e = good_item g this n (frames_good g (this + 1) n) before bytes frames (frame_item_at bytes) refl e
 
 pub frames_again : (g : Ground) (this n : ℕ) (before : Before) (bytes : List ℕ) (frames : List TypeStateAt) → AreFrames g before n bytes frames → frames_from g this n before bytes ≡ stands_for frames
 frames_again g this zero before bytes frames a = ap at_end a.0 ∙ ap stands_for (sym a.1)
@@ -84,22 +96,26 @@ frames_again g this (suc n) before bytes frames a =
 abbrev Bad_from : Ground → ℕ → ℕ → Type 0
 Bad_from g this n = (before : Before) (bytes : List ℕ) (place : ℕ) → frames_from g this n before bytes ≡ at_fault place → FaultFrom g before this n bytes place
 
+module _ (g : Ground) (this n : ℕ) (more : Bad_from g (this + 1) n) (before : Before) (bytes : List ℕ) (place : ℕ) where
+  bad_behind : (found : Found) (rest : List ℕ) (o : Outcome) → frames_from g (this + 1) n found.next rest ≡ o → FrameBefore g before bytes rest found
+      → behind_frame found.frame o ≡ at_fault place → FaultFrom g before this (suc n) bytes place
+  bad_behind found rest (stands_for others) is f e = absurd (stands_fault e)
+  bad_behind found rest (at_fault other) is f e = inr (rest, found, f, more found.next rest place (is ∙ e))
+
+  bad_found : (x : FrameItem) (rest : List ℕ) (o : Option Found) → frame_item_at bytes ≡ Good x rest → frame_of g before x ≡ o
+      → with_found this (frames_from g (this + 1) n) rest o ≡ at_fault place → FaultFrom g before this (suc n) bytes place
+  bad_found x rest None is i e = inl (empty_frame g before bytes rest x is i, sym (fault_is this place e))
+  bad_found x rest (Some found) is i e = bad_behind found rest (frames_from g (this + 1) n found.next rest) refl (frame_before g before bytes rest x found is i) e
+
+  bad_item : (p : Parsed FrameItem) → frame_item_at bytes ≡ p → with_item g before this (frames_from g (this + 1) n) p ≡ at_fault place
+      → FaultFrom g before this (suc n) bytes place
+  bad_item (Good x rest) is e = bad_found x rest (frame_of g before x) is refl e
+  bad_item (Bad left) is e = inl (unread_frame g before bytes left is, sym (fault_is this place e))
+
 pub frames_bad : (g : Ground) (this n : ℕ) → Bad_from g this n
 frames_bad g this zero before [] place e = absurd (stands_fault e)
 frames_bad g this zero before (b ∷ bytes) place e = (λ none. cons_nil none, sym (fault_is 0 place e))
-frames_bad g this (suc n) before bytes place e = by (frames_bad g (this + 1) n) (frame_item_at bytes) refl e
-  where
-    behind : Bad_from g (this + 1) n → (found : Found) (rest : List ℕ) (o : Outcome) → frames_from g (this + 1) n found.next rest ≡ o → FrameBefore g before bytes rest found → behind_frame found.frame o ≡ at_fault place → FaultFrom g before this (suc n) bytes place
-    behind more found rest (stands_for others) is f e = absurd (stands_fault e)
-    behind more found rest (at_fault other) is f e = inr (rest, found, f, more found.next rest place (is ∙ e))
-
-    says : Bad_from g (this + 1) n → (x : FrameItem) (rest : List ℕ) (o : Option Found) → frame_item_at bytes ≡ Good x rest → frame_of g before x ≡ o → with_found this (frames_from g (this + 1) n) rest o ≡ at_fault place → FaultFrom g before this (suc n) bytes place
-    says more x rest None is i e = inl (empty_frame g before bytes rest x is i, sym (fault_is this place e))
-    says more x rest (Some found) is i e = behind more found rest (frames_from g (this + 1) n found.next rest) refl (frame_before g before bytes rest x found is i) e
-
-    by : Bad_from g (this + 1) n → (p : Parsed FrameItem) → frame_item_at bytes ≡ p → with_item g before this (frames_from g (this + 1) n) p ≡ at_fault place → FaultFrom g before this (suc n) bytes place
-    by more (Good x rest) is e = says more x rest (frame_of g before x) is refl e
-    by more (Bad left) is e = inl (unread_frame g before bytes left is, sym (fault_is this place e))
+frames_bad g this (suc n) before bytes place e = bad_item g this n (frames_bad g (this + 1) n) before bytes place (frame_item_at bytes) refl e
 
 pub frames_fail : (g : Ground) (this n : ℕ) (before : Before) (bytes : List ℕ) (place : ℕ) → FaultFrom g before this n bytes place → frames_from g this n before bytes ≡ at_fault place
 frames_fail g this zero before [] place f = absurd (f.0 refl)

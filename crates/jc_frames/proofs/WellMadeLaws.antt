@@ -2,7 +2,7 @@
 use Rattle.std.proofs.Common.{◌≡◌, ⊎_elim, ℕ, zero, suc, ◌+◌, ◌-◌, ◌<◌, ◌≤◌, Bool, true, false, ◌&&◌, List, [], ◌∷◌, ◌++◌, length, map, take, replicate, Option, Some, None, option_map, if◌then◌else◌, get_or, nat_eq, nat_le, refl, sym, ◌∙◌, ap, ap₂, subst, arith, length-append, true≢false}
 use Rattle.std.proofs.lemmas.List.{length-map, length-replicate}
 use Rattle.std.proofs.lemmas.List.Sums.{sum_by-cons}
-use Rattle.std.proofs.lemmas.Bool.{eqb-true, ltb-true, leb-true, cases_lt}
+use Rattle.std.proofs.lemmas.Bool.{and_parts, eqb-true, ltb-true, leb-true, cases_lt}
 use Rattle.std.specs.List.{AllByRecursion, All, slice_get, sum_by}
 use Rattle.jc_methods.specs.declared.insn.Insn.{Insn}
 use Rattle.jc_methods.specs.declared.insn.Insn.TheVariants as insns
@@ -21,7 +21,7 @@ use Rattle.jc_frames.specs.declared.items.TypeItem.{TypeItem}
 use Rattle.jc_frames.specs.declared.items.TypeItem.TheVariants as types
 use Rattle.jc_frames.specs.declared.items.FrameItem.{FrameItem}
 use Rattle.jc_frames.specs.declared.items.FrameItem.TheVariants as frames
-use Rattle.jc_frames.specs.Frames.{Ground, Before, first_before, trimmed, values_from, values_in, is_new, insn_from, type_of, in_front, types_of, offset_of, values_of, stack_of, is_start, Found, found, found_if, frame_of}
+use Rattle.jc_frames.specs.Frames.{Ground, Before, first_before, trimmed, values_from, values_in, is_new, insn_from, type_of, in_front, types_of, offset_of, values_of, stack_of, is_start, Found, found, fits_slots, found_if, frame_of}
 use Rattle.jc_frames.specs.Table.{AreFrames}
 use Rattle.jc_frames.specs.WellMade.{AreOffsets, HasNew, FramesAreWellMade, IsValue, ArgumentsAreFirst}
 use Rattle.jc_frames.proofs.ValuesLaws.{paired_in, pair_values, single_values, spread_slots, in_values}
@@ -29,16 +29,23 @@ use Rattle.jc_frames.proofs.ValuesLaws.{paired_in, pair_values, single_values, s
 none_some : {X : Type 0} {x : X} → None ≡ Some x → ⊥
 none_some e = cc
 
+if_some : {X : Type 0} (b : Bool) (x y : X) → (if b then Some x else None) ≡ Some y → (b ≡ true) × (x ≡ y)
+if_some true x y e = (refl, some_is x y e)
+if_some false x y e = absurd (none_some e)
+
 -- ---- offsets
 
-offset_is : (starts : List ℕ) (offset : ℕ) → insn_number starts offset + 1 < length starts → get_or starts (insn_number starts offset) 0 ≡ offset
+-- if an instruction has this number, it begins at the offset
+abbrev BeginsAt : List ℕ → ℕ → ℕ → Type 0
+BeginsAt starts offset number = number + 1 < length starts → get_or starts number 0 ≡ offset
+
+offset_is : (starts : List ℕ) (offset : ℕ) → BeginsAt starts offset (insn_number starts offset)
 offset_is [] offset lt = absurd (omega (arith, lt))
 offset_is (end ∷ []) offset lt = absurd (omega (arith, lt))
-offset_is (start ∷ next ∷ starts) offset lt = by (λ h. offset_is (next ∷ starts) offset h) (nat_eq start offset) refl lt
+offset_is (start ∷ next ∷ starts) offset lt = by (offset_is (next ∷ starts) offset) (nat_eq start offset) refl lt
   where
-    by : (insn_number (next ∷ starts) offset + 1 < length (next ∷ starts) → get_or (next ∷ starts) (insn_number (next ∷ starts) offset) 0 ≡ offset) → (b : Bool) → nat_eq start offset ≡ b
-        → (if b then 0 else 1 + insn_number (next ∷ starts) offset) + 1 < length (start ∷ next ∷ starts)
-        → get_or (start ∷ next ∷ starts) (if b then 0 else 1 + insn_number (next ∷ starts) offset) 0 ≡ offset
+    by : BeginsAt (next ∷ starts) offset (insn_number (next ∷ starts) offset) → (b : Bool) → nat_eq start offset ≡ b
+        → BeginsAt (start ∷ next ∷ starts) offset (if b then 0 else 1 + insn_number (next ∷ starts) offset)
     by more true is lt = eqb-true start offset is
     by more false is lt =
         let step : 1 + insn_number (next ∷ starts) offset ≡ suc (insn_number (next ∷ starts) offset) = omega arith in
@@ -71,6 +78,10 @@ later_number g o a b lt p q = ⊎_elim (λ less. less) (λ le. absurd (no le)) (
 -- ---- objects that aren't initialized
 
 module _ (g : Ground) where
+  -- each of the objects that aren't initialized has a `new`
+  abbrev HaveNew : List VerificationType → Type 0
+  HaveNew hs = AllByRecursion (HasNew g) hs
+
   type_new : (item : TypeItem) (h : VerificationType) → type_of g item ≡ Some h → HasNew g h
   type_new types.Top h e = subst (HasNew g) (some_is top h e) tt
   type_new types.Int h e = subst (HasNew g) (some_is int h e) tt
@@ -90,66 +101,66 @@ module _ (g : Ground) where
       by false is e = absurd (none_some e)
       by true is e = subst (HasNew g) (some_is (uninit (insn_number g.starts offset)) h e) is
 
-  types_new : (items : List TypeItem) (hs : List VerificationType) → types_of g items ≡ Some hs → AllByRecursion (HasNew g) hs
-  types_new [] hs e = subst (AllByRecursion (HasNew g)) (some_is [] hs e) tt
+  types_new : (items : List TypeItem) (hs : List VerificationType) → types_of g items ≡ Some hs → HaveNew hs
+  types_new [] hs e = subst HaveNew (some_is [] hs e) tt
   types_new (item ∷ items) hs e = by (λ more f. types_new items more f) (type_of g item) (types_of g items) refl refl e
     where
-      by : ((more : List VerificationType) → types_of g items ≡ Some more → AllByRecursion (HasNew g) more) → (o : Option VerificationType) (p : Option (List VerificationType)) → type_of g item ≡ o → types_of g items ≡ p → in_front o p ≡ Some hs → AllByRecursion (HasNew g) hs
+      by : ((more : List VerificationType) → types_of g items ≡ Some more → HaveNew more) → (o : Option VerificationType) (p : Option (List VerificationType)) → type_of g item ≡ o → types_of g items ≡ p → in_front o p ≡ Some hs → HaveNew hs
       by more None p i j e = absurd (none_some e)
       by more (Some h) None i j e = absurd (none_some e)
-      by more (Some h) (Some rest) i j e = subst (AllByRecursion (HasNew g)) (some_is (h ∷ rest) hs e) (type_new item h i, more rest j)
+      by more (Some h) (Some rest) i j e = subst HaveNew (some_is (h ∷ rest) hs e) (type_new item h i, more rest j)
 
-  both_new : (a b : List VerificationType) → AllByRecursion (HasNew g) a → AllByRecursion (HasNew g) b → AllByRecursion (HasNew g) (a ++ b)
+  both_new : (a b : List VerificationType) → HaveNew a → HaveNew b → HaveNew (a ++ b)
   both_new [] b p q = q
   both_new (h ∷ a) b p q = (p.0, both_new a b p.1 q)
 
-  take_new : (n : ℕ) (a : List VerificationType) → AllByRecursion (HasNew g) a → AllByRecursion (HasNew g) (take n a)
+  take_new : (n : ℕ) (a : List VerificationType) → HaveNew a → HaveNew (take n a)
   take_new zero a p = tt
   take_new (suc n) [] p = tt
   take_new (suc n) (h ∷ a) p = (p.0, take_new n a p.1)
 
-  values_new : (before : Before) (item : FrameItem) (values : List VerificationType) → AllByRecursion (HasNew g) before.values → values_of g before item ≡ Some values → AllByRecursion (HasNew g) values
-  values_new before (frames.Same delta) values p e = subst (AllByRecursion (HasNew g)) (some_is before.values values e) p
-  values_new before (frames.OneItem delta item) values p e = subst (AllByRecursion (HasNew g)) (some_is before.values values e) p
+  values_new : (before : Before) (item : FrameItem) (values : List VerificationType) → HaveNew before.values → values_of g before item ≡ Some values → HaveNew values
+  values_new before (frames.Same delta) values p e = subst HaveNew (some_is before.values values e) p
+  values_new before (frames.OneItem delta item) values p e = subst HaveNew (some_is before.values values e) p
   values_new before (frames.Chop delta count) values p e = by (nat_le count (length before.values)) e
     where
-      by : (b : Bool) → (if b then Some (take (length before.values - count) before.values) else None) ≡ Some values → AllByRecursion (HasNew g) values
+      by : (b : Bool) → (if b then Some (take (length before.values - count) before.values) else None) ≡ Some values → HaveNew values
       by false e = absurd (none_some e)
-      by true e = subst (AllByRecursion (HasNew g)) (some_is _ values e) (take_new (length before.values - count) before.values p)
+      by true e = subst HaveNew (some_is _ values e) (take_new (length before.values - count) before.values p)
   values_new before (frames.Append delta added) values p e = by (types_of g added) refl e
     where
-      by : (o : Option (List VerificationType)) → types_of g added ≡ o → option_map (λ more. before.values ++ more) o ≡ Some values → AllByRecursion (HasNew g) values
+      by : (o : Option (List VerificationType)) → types_of g added ≡ o → option_map (λ more. before.values ++ more) o ≡ Some values → HaveNew values
       by None i e = absurd (none_some e)
-      by (Some more) i e = subst (AllByRecursion (HasNew g)) (some_is (before.values ++ more) values e) (both_new before.values more p (types_new added more i))
+      by (Some more) i e = subst HaveNew (some_is (before.values ++ more) values e) (both_new before.values more p (types_new added more i))
   values_new before (frames.Full delta locals stack) values p e = types_new locals values e
 
-  stack_new : (item : FrameItem) (stack : List VerificationType) → stack_of g item ≡ Some stack → AllByRecursion (HasNew g) stack
-  stack_new (frames.Same delta) stack e = subst (AllByRecursion (HasNew g)) (some_is [] stack e) tt
+  stack_new : (item : FrameItem) (stack : List VerificationType) → stack_of g item ≡ Some stack → HaveNew stack
+  stack_new (frames.Same delta) stack e = subst HaveNew (some_is [] stack e) tt
   stack_new (frames.OneItem delta item) stack e = by (type_of g item) refl e
     where
-      by : (o : Option VerificationType) → type_of g item ≡ o → in_front o (Some []) ≡ Some stack → AllByRecursion (HasNew g) stack
+      by : (o : Option VerificationType) → type_of g item ≡ o → in_front o (Some []) ≡ Some stack → HaveNew stack
       by None i e = absurd (none_some e)
-      by (Some h) i e = subst (AllByRecursion (HasNew g)) (some_is (h ∷ []) stack e) (type_new item h i, tt)
-  stack_new (frames.Chop delta count) stack e = subst (AllByRecursion (HasNew g)) (some_is [] stack e) tt
-  stack_new (frames.Append delta added) stack e = subst (AllByRecursion (HasNew g)) (some_is [] stack e) tt
+      by (Some h) i e = subst HaveNew (some_is (h ∷ []) stack e) (type_new item h i, tt)
+  stack_new (frames.Chop delta count) stack e = subst HaveNew (some_is [] stack e) tt
+  stack_new (frames.Append delta added) stack e = subst HaveNew (some_is [] stack e) tt
   stack_new (frames.Full delta locals stack) stack' e = types_new stack stack' e
 
-  tops_new : (n : ℕ) → AllByRecursion (HasNew g) (replicate n top)
+  tops_new : (n : ℕ) → HaveNew (replicate n top)
   tops_new zero = tt
   tops_new (suc n) = (tt, tops_new n)
 
-  one_new : (h : VerificationType) → HasNew g h → AllByRecursion (HasNew g) (spread_one h)
+  one_new : (h : VerificationType) → HasNew g h → HaveNew (spread_one h)
   one_new h p = by (is_pair h)
     where
-      by : (b : Bool) → AllByRecursion (HasNew g) (if b then h ∷ top ∷ [] else h ∷ [])
+      by : (b : Bool) → HaveNew (if b then h ∷ top ∷ [] else h ∷ [])
       by true = (p, (tt, tt))
       by false = (p, tt)
 
-  spread_new : (values : List VerificationType) → AllByRecursion (HasNew g) values → AllByRecursion (HasNew g) (spread values)
+  spread_new : (values : List VerificationType) → HaveNew values → HaveNew (spread values)
   spread_new [] p = tt
   spread_new (h ∷ values) p = both_new (spread_one h) (spread values) (one_new h p.0) (spread_new values p.1)
 
-  locals_new : (n : ℕ) (values : List VerificationType) → AllByRecursion (HasNew g) values → AllByRecursion (HasNew g) (in_locals n values)
+  locals_new : (n : ℕ) (values : List VerificationType) → HaveNew values → HaveNew (in_locals n values)
   locals_new n values p = both_new (spread values) (replicate (n - length (spread values)) top) (spread_new values p) (tops_new (n - length (spread values)))
 
   -- ---- kinds
@@ -187,7 +198,7 @@ module _ (g : Ground) where
   kind_new names kinds.UninitThis p = tt
   kind_new names (kinds.Object n) p = tt
 
-  kinds_new : (names : Names) (ks : List Kind) → AllByRecursion (HasNew g) (map (verification_type names) ks) → All (IsKind g.code) ks
+  kinds_new : (names : Names) (ks : List Kind) → HaveNew (map (verification_type names) ks) → All (IsKind g.code) ks
   kinds_new names [] p k d lt = absurd (omega (arith, lt))
   kinds_new names (x ∷ ks) p zero d lt = kind_new names x p.0
   kinds_new names (x ∷ ks) p (suc k) d lt = kinds_new names ks p.1 k d (omega (arith, lt))
@@ -251,45 +262,52 @@ module _ (g : Ground) where
   unfolding frame_of
   says before item f e = by (values_of g before item) (stack_of g item) refl refl e
     where
-      tests : (values stack : List VerificationType) (a b c : Bool) → values_of g before item ≡ Some values → stack_of g item ≡ Some stack → is_start g (offset_of before item) ≡ a → nat_le (slots values) g.max_locals ≡ b → nat_le (slots stack) g.max_stack ≡ c
-          → (if a && (b && c) then Some (found g (offset_of before item) values stack) else None) ≡ Some f → Says before item f
-      tests values stack false b c i j ea eb ec e = absurd (none_some e)
-      tests values stack true false c i j ea eb ec e = absurd (none_some e)
-      tests values stack true true false i j ea eb ec e = absurd (none_some e)
-      tests values stack true true true i j ea eb ec e = record {
-        values = values;
-        stack = stack;
-        values_are = i;
-        stack_is = j;
-        starts = ltb-true _ _ ea;
-        few_locals = leb-true _ _ eb;
-        few_stack = leb-true _ _ ec;
-        is = some_is _ f e;
-      }
+      tests : (values stack : List VerificationType) → values_of g before item ≡ Some values → stack_of g item ≡ Some stack
+          → found_if g (offset_of before item) (Some values) (Some stack) ≡ Some f → Says before item f
+      tests values stack i j e =
+          let offset = offset_of before item in
+          let done = if_some (is_start g offset && fits_slots g values stack) (found g offset values stack) f e in
+          let test = and_parts (is_start g offset) (fits_slots g values stack) done.0 in
+          let few = and_parts (nat_le (slots values) g.max_locals) (nat_le (slots stack) g.max_stack) test.1 in
+          record {
+            values = values;
+            stack = stack;
+            values_are = i;
+            stack_is = j;
+            starts = ltb-true _ _ test.0;
+            few_locals = leb-true _ _ few.0;
+            few_stack = leb-true _ _ few.1;
+            is = done.1;
+          }
 
       by : (o p : Option (List VerificationType)) → values_of g before item ≡ o → stack_of g item ≡ p → found_if g (offset_of before item) o p ≡ Some f → Says before item f
       by None p i j e = absurd (none_some e)
       by (Some values) None i j e = absurd (none_some e)
-      by (Some values) (Some stack) i j e = tests values stack (is_start g (offset_of before item)) (nat_le (slots values) g.max_locals) (nat_le (slots stack) g.max_stack) i j refl refl refl e
+      by (Some values) (Some stack) i j e = tests values stack i j e
 
-  frame_made : (names : Names) (values stack : List VerificationType) (f : FrameAt) (at : ℕ) → AllByRecursion (HasNew g) values → AllByRecursion (HasNew g) stack → slots values ≤ g.max_locals → slots stack ≤ g.max_stack
-      → record { at = at; state = record { locals = in_locals g.max_locals values; stack = stack } } ≡ type_state_at names f → IsState g.code g.max_locals g.max_stack f.state
-  frame_made names values stack f at vn sn few_l few_s e =
-      let l : in_locals g.max_locals values ≡ map (verification_type names) f.state.locals = ap (λ (x : TypeStateAt). x.state.locals) e in
-      let s : stack ≡ map (verification_type names) f.state.stack = ap (λ (x : TypeStateAt). x.state.stack) e in
+  frame_made : (names : Names) (before : Before) (item : FrameItem) (said : Found) (f : FrameAt) (s : Says before item said) → HaveNew s.values → HaveNew s.stack
+      → said.frame ≡ type_state_at names f → IsState g.code g.max_locals g.max_stack f.state
+  frame_made names before item said f s vn sn e =
+      let values = s.values in
+      let stack = s.stack in
+      let frame : (found g (offset_of before item) values stack).frame ≡ type_state_at names f = ap (λ (x : Found). x.frame) s.is ∙ e in
+      let l : in_locals g.max_locals values ≡ map (verification_type names) f.state.locals = ap (λ (x : TypeStateAt). x.state.locals) frame in
+      let s_is : stack ≡ map (verification_type names) f.state.stack = ap (λ (x : TypeStateAt). x.state.stack) frame in
+      let few_l = s.few_locals in
+      let few_s = s.few_stack in
       let n = length-append (spread values) (replicate (g.max_locals - length (spread values)) top) in
       let m = length-replicate (g.max_locals - length (spread values)) top in
       let z = spread_slots values in
       let k = length-map f.state.locals (verification_type names) in
       let c = ap (λ (x : List VerificationType). length x) l in
-      let t = ap slots s in
+      let t = ap slots s_is in
       let u = kinds_slots names f.state.stack in
       record {
         locals = omega (arith, n, m, z, k, c, few_l);
         pairs = kinds_paired names f.state.locals (subst full.ArePaired l (paired_in g.max_locals values));
         stack = omega (arith, t, u, few_s);
-        local_kinds = kinds_new names f.state.locals (subst (AllByRecursion (HasNew g)) l (locals_new g.max_locals values vn));
-        stack_kinds = kinds_new names f.state.stack (subst (AllByRecursion (HasNew g)) s sn);
+        local_kinds = kinds_new names f.state.locals (subst HaveNew l (locals_new g.max_locals values vn));
+        stack_kinds = kinds_new names f.state.stack (subst HaveNew s_is sn);
       }
 
   -- ---- all frames
@@ -307,40 +325,41 @@ module _ (g : Ground) where
   nil_cons : {x : TypeStateAt} {xs : List TypeStateAt} → x ∷ xs ≡ [] → ⊥
   nil_cons e = cc
 
-  cons_nil : {x : TypeStateAt} {xs : List TypeStateAt} → [] ≡ x ∷ xs → ⊥
-  cons_nil e = cc
+  -- the frames stand at instructions from this one on, and are well made
+  abbrev WellMadeFrom : ℕ → List FrameAt → Type 0
+  WellMadeFrom first frames = AreFramesFrom first g.code g.max_locals g.max_stack frames
 
-  frames_made : (o : AreOffsets (length g.code) g.starts) (names : Names) (first n : ℕ) (before : Before) (bytes : List ℕ) (all : List TypeStateAt) (frames : List FrameAt) → From first before.base → AllByRecursion (HasNew g) before.values
-      → all ≡ map (type_state_at names) frames → AreFrames g before n bytes all → AreFramesFrom first g.code g.max_locals g.max_stack frames
-  frames_made o names first n before bytes all [] from new is are = tt
-  frames_made o names first zero before bytes all (f ∷ frames) from new is are = absurd (cons_nil (sym are.1 ∙ is))
-  frames_made o names first (suc n) before bytes all (f ∷ frames) from new is are =
-      let w = are.4 in
-      let s = says before w.item are.1 w.says in
-      let offset = offset_of before w.item in
-      let at = insn_number g.starts offset in
-      let here : are.1.frame ≡ type_state_at names f = head_is are.1.frame (type_state_at names f) are.2 (map (type_state_at names) frames) (sym are.3 ∙ is) in
-      let others : are.2 ≡ map (type_state_at names) frames = tail_is are.1.frame (type_state_at names f) are.2 (map (type_state_at names) frames) (sym are.3 ∙ is) in
-      let frame : (found g offset s.values s.stack).frame ≡ type_state_at names f = ap (λ (x : Found). x.frame) s.is ∙ here in
-      let same : at ≡ f.at = ap (λ (x : TypeStateAt). x.at) frame in
-      let next : (found g offset s.values s.stack).next ≡ are.1.next = ap (λ (x : Found). x.next) s.is in
-      let base : offset + 1 ≡ are.1.next.base = ap (λ (x : Before). x.base) next in
-      let values : s.values ≡ are.1.next.values = ap (λ (x : Before). x.values) next in
-      let starts = s.starts in
-      let low = from offset (omega arith) starts in
-      let vn = values_new before w.item s.values new s.values_are in
-      let sn = stack_new w.item s.stack s.stack_is in (
-        omega (arith, low, same),
-        omega (arith, starts, same),
-        frame_made names s.values s.stack f at vn sn s.few_locals s.few_stack frame,
-        frames_made o names (f.at + 1) n are.1.next are.0 are.2 frames
-            (λ later le inside. let up = later_number g o offset later (omega (arith, base, le)) starts inside in omega (arith, up, same))
-            (subst (AllByRecursion (HasNew g)) values vn) others are.5,
-      )
+  module _ (o : AreOffsets (length g.code) g.starts) (names : Names) where
+    frames_made : (first n : ℕ) (before : Before) (bytes : List ℕ) (frames : List FrameAt) → From first before.base → HaveNew before.values
+        → AreFrames g before n bytes (map (type_state_at names) frames) → WellMadeFrom first frames
+    frames_made first n before bytes [] from new are = tt
+    frames_made first zero before bytes (f ∷ frames) from new are = absurd (nil_cons are.1)
+    frames_made first (suc n) before bytes (f ∷ frames) from new are =
+        let w = are.4 in
+        let s = says before w.item are.1 w.says in
+        let offset = offset_of before w.item in
+        let at = insn_number g.starts offset in
+        let here : are.1.frame ≡ type_state_at names f = head_is are.1.frame (type_state_at names f) are.2 (map (type_state_at names) frames) (sym are.3) in
+        let others : are.2 ≡ map (type_state_at names) frames = tail_is are.1.frame (type_state_at names f) are.2 (map (type_state_at names) frames) (sym are.3) in
+        let same : at ≡ f.at = ap (λ (x : Found). x.frame.at) s.is ∙ ap (λ (x : TypeStateAt). x.at) here in
+        let next : (found g offset s.values s.stack).next ≡ are.1.next = ap (λ (x : Found). x.next) s.is in
+        let base : offset + 1 ≡ are.1.next.base = ap (λ (x : Before). x.base) next in
+        let values : s.values ≡ are.1.next.values = ap (λ (x : Before). x.values) next in
+        let starts = s.starts in
+        let low = from offset (omega arith) starts in
+        let vn = values_new before w.item s.values new s.values_are in
+        let sn = stack_new w.item s.stack s.stack_is in (
+          omega (arith, low, same),
+          omega (arith, starts, same),
+          frame_made names before w.item are.1 f s vn sn here,
+          frames_made (f.at + 1) n are.1.next are.0 frames
+              (λ later le inside. let up = later_number g o offset later (omega (arith, base, le)) starts inside in omega (arith, up, same))
+              (subst HaveNew values vn) (subst (AreFrames g are.1.next n are.0) others are.5),
+        )
 
 pub frames_well_made : FramesAreWellMade
 frames_well_made g names entry table frames o new s =
-    frames_made g o names 0 s.count (first_before entry) s.rest (map (type_state_at names) frames) frames (λ offset le inside. omega arith) (in_values (HasNew g) entry.locals new) refl s.are
+    frames_made g o names 0 s.count (first_before entry) s.rest frames (λ offset le inside. omega arith) (in_values (HasNew g) entry.locals new) s.are
 
 -- ---- the arguments
 

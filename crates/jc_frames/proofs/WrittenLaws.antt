@@ -14,7 +14,7 @@ use Rattle.jc_methods.specs.Opcode as opcode
 use Rattle.jc_methods.specs.declared.kind.Kind.{Kind}
 use Rattle.jc_methods.specs.declared.kind.Kind.TheVariants as kinds
 use Rattle.jc_methods.specs.FrameOrder.{RiseFrom}
-use Rattle.jc_methods.specs.VerificationTypes.{Names, VerificationType, top, int, float, double, long, null, uninit_this, object, uninit, class_names, verification_type, type_state_at, is_pair, slots, width, IsNumberedState, AreNumberedFrames}
+use Rattle.jc_methods.specs.VerificationTypes.{Names, VerificationType, TypeStateAt, top, int, float, double, long, null, uninit_this, object, uninit, class_names, verification_type, type_state_at, is_pair, slots, width, IsNumberedState, AreNumberedFrames}
 use Rattle.jc_methods.specs.Starts.{insn_number}
 use Rattle.jc_methods.specs.WellMade as made
 use Rattle.jc_pool.specs.Lookup.{class_name_of}
@@ -151,9 +151,16 @@ module _ (g : Ground) (starts : List ℕ) (p : Places) (count : length starts �
         stack_places = have_places (map (verification_type names) f.state.stack) both.1 (made_all names f.state.stack state.stack_kinds);
       }
 
-  all_writable : (names : Names) (fs : List FrameAt) → AllByRecursion (FitsFull (length starts) (length names)) fs
-      → AllByRecursion (λ f. made.IsState g.code g.max_locals g.max_stack f.state) fs → AllByRecursion (HasPlace g.pool) (named_by_all (map (type_state_at names) fs))
-      → AllByRecursion (IsWritable g p) (map (type_state_at names) fs)
+  -- the states of the frames are well made states of the method
+  abbrev HaveStates : List FrameAt → Type 0
+  HaveStates fs = AllByRecursion (λ f. made.IsState g.code g.max_locals g.max_stack f.state) fs
+
+  -- the classes that the frames name stand in the pool
+  abbrev HavePlaces : List TypeStateAt → Type 0
+  HavePlaces frames = AllByRecursion (HasPlace g.pool) (named_by_all frames)
+
+  all_writable : (names : Names) (fs : List FrameAt) → AllByRecursion (FitsFull (length starts) (length names)) fs → HaveStates fs
+      → HavePlaces (map (type_state_at names) fs) → AllByRecursion (IsWritable g p) (map (type_state_at names) fs)
   all_writable names [] fits states stand = tt
   all_writable names (f ∷ fs) fits states stand =
       let both = both_parts (HasPlace g.pool) (named_by (type_state_at names f)) (named_by_all (map (type_state_at names) fs)) stand in

@@ -1,9 +1,9 @@
 //! Where a StackMapTable is wrong (JVM Specification 4.7.4).
-ghost use Rattle.std.specs.Prelude.{◌≡◌, ◌<◌, ◌≤◌, ◌^◌, ℕ, List, length, IfOk, MatchOption, Some, None};
+ghost use Rattle.std.specs.Prelude.{◌≡◌, ◌<◌, ◌≤◌, ◌^◌, ℕ, List, length, IfOk, Some, None};
 ghost use Rattle.jc_methods.specs.VerificationTypes.{Names, TypeStateAt, type_state};
 ghost use Rattle.jc_bytes.specs.Reader.{most_read};
 ghost use Rattle.jc_frames.specs.Frames.{ground};
-ghost use Rattle.jc_frames.specs.Table.{StandsFor, TableFault, outcome_of, fault_of};
+ghost use Rattle.jc_frames.specs.Table.{StandsFor, TableFault, IsFaultPlace, outcome_of, fault_of};
 ghost use Rattle.jc_frames.specs.WellMade.{AreOffsets};
 
 use crate::method::Method;
@@ -37,8 +37,7 @@ pub fn frame_fault(
     requires offsets { AreOffsets (length code.now) starts.now }
     // The table stands for frames, or has its fault at the place that is given.
     ensures answer { (names : Names) → let g = ground pool.now code.now starts.now (length entry.now.locals) max_stack in
-        IfOk result (λ fault. MatchOption fault ((frames : List TypeStateAt) × StandsFor g (type_state names entry.now) table.now frames)
-        (λ place. TableFault g (type_state names entry.now) table.now place)) }
+        IfOk result (IsFaultPlace g (type_state names entry.now) table.now) }
     // A table that stands for frames has no place, and one with a fault has that of the fault, unless memory runs out.
     ensures stands { (names : Names) (frames : List TypeStateAt)
         → let g = ground pool.now code.now starts.now (length entry.now.locals) max_stack in

@@ -1,10 +1,10 @@
 //! Frames one after the other, without their states.
-ghost use Rattle.std.specs.Prelude.{◌≡◌, ◌+◌, ◌-◌, ◌*◌, ◌<◌, ◌≤◌, ◌^◌, ◌++◌, ℕ, length, map, take, nat_le, IfOk};
+ghost use Rattle.std.specs.Prelude.{◌≡◌, ◌+◌, ◌*◌, ◌<◌, ◌≤◌, ◌^◌, ◌++◌, ℕ, length, map, take, IfOk};
 ghost use Rattle.std.specs.Prelude.{OnOk, IfSome, OnSome, Some, None, All, option_map, if◌then◌else◌};
 ghost use Rattle.std.specs.List.{sum_by};
 ghost use Rattle.jc_methods.specs.VerificationTypes.{Names, verification_type, type_state, is_pair, IsNumbered};
 ghost use Rattle.jc_pool.specs.Pool.{PoolValue};
-ghost use Rattle.jc_frames.specs.Frames.{delta_of, values_of, stack_of, types_of, frame_of, fits_slots, first_before, trimmed, values_in};
+ghost use Rattle.jc_frames.specs.Frames.{delta_of, values_of, stack_of, types_of, frame_of, fits_slots, first_before, trimmed, values_in, without_last};
 ghost use Rattle.jc_frames.specs.FullTable.{IsPlaced};
 ghost use Rattle.jc_frames.specs.Running.{held_values, IsUnnumbered, IsNumberedValue, value_slots, IsRunning, HasFewTypes, before, found_as};
 
@@ -182,9 +182,7 @@ impl Running {
     /// Takes so many values away, where there are so many.
     fn chop(&mut self, count: usize) -> bool
         requires { IsRunning self.old }
-        ensures values { (pool : PoolValue) (names : Names) →
-            (if nat_le count (length self.old.values.items)
-            then Some (take (length self.old.values.items - count) (held_values pool names self.old.values.items)) else None)
+        ensures values { (pool : PoolValue) (names : Names) → without_last count (held_values pool names self.old.values.items)
             ≡ (if result then Some (held_values pool names self.new.values.items) else None) }
         ensures running { IsRunning self.new }
         ensures numbered { (count : ℕ) → All (IsNumberedValue count) self.old.values.items
@@ -213,9 +211,9 @@ impl Running {
     ) -> Result<bool, Memory>
         requires running { IsRunning self.old }
         requires few { length added.now < 65536 }
-        ensures values { (names : Names) → IfOk result (λ done.
-            option_map (λ more. held_values method.now.pool names self.old.values.items ++ more) (types_of method.now added.now)
-            ≡ (if done then Some (held_values method.now.pool names self.new.values.items) else None)) }
+        ensures values { (names : Names) → let held = held_values method.now.pool names in IfOk result (λ done.
+            option_map (λ more. held self.old.values.items ++ more) (types_of method.now added.now)
+            ≡ (if done then Some (held self.new.values.items) else None)) }
         ensures slots { OnOk result (self.new.slots ≡ sum_by value_slots self.new.values.items) }
         ensures few { OnOk result (length self.new.values.items ≤ length self.old.values.items + length added.now) }
         ensures numbered { (count : ℕ) → All (IsNumberedValue count) self.old.values.items
