@@ -1,13 +1,24 @@
 -- Threads as the machine keeps them: how each stands, and its frames.
-use Rattle.std.specs.Prelude.{List, [], ◌∷◌}
+use Rattle.std.specs.Prelude.{ℕ, List, [], ◌∷◌}
+use Rattle.jc_programs.specs.declared.run_end.Entry.{Entry}
 use Rattle.jc_programs.specs.declared.run_end.End.{End}
 use Rattle.jc_programs.specs.declared.run_end.End.TheVariants as ends
 use Rattle.jc_world.specs.World.{Frame, Thread, running, returned, threw, stuck}
+use Rattle.jc_world.specs.Calls.{Arguments, locals_for}
+use Rattle.jc_world.specs.Step.{new_frame}
 
 -- the frame on top, and those that wait, the nearest first
 pub record ThreadFrames : Type 0 where
   pub top : Frame
   pub waiting : List Frame
+
+-- The frames behind a call: that of the method that is called, whose first local variables are the arguments, above the one
+-- that calls, from whose stack they are gone.
+abbrev pub called : Entry → ℕ → Arguments → ThreadFrames → ThreadFrames
+called callee max_locals arguments frames = record {
+  top = new_frame callee (locals_for max_locals arguments.values);
+  waiting = record frames.top { stack = arguments.rest } ∷ frames.waiting;
+}
 
 -- A thread that runs has the frames. One that is stuck stands where the frame on top does.
 abbrev pub thread_of : End → ThreadFrames → Thread

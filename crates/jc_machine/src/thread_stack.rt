@@ -6,7 +6,7 @@ ghost use Rattle.jc_plan.specs.Chosen.{key_target};
 ghost use Rattle.jc_world.specs.Operations as operations;
 ghost use Rattle.jc_world.specs.Jumps.{by_switch};
 ghost use Rattle.jc_world.specs.Perform.{perform};
-ghost use Rattle.jc_world.specs.Calls.{Arguments, taken_for, spread_values, locals_for};
+ghost use Rattle.jc_world.specs.Calls.{Arguments, taken_for, spread_values};
 ghost use Rattle.jc_world.specs.Step.{given_back, new_frame};
 ghost use Rattle.jc_store.specs.Values.{value_of};
 ghost use Rattle.jc_operations.specs.Shown.{Shows};
@@ -14,6 +14,7 @@ ghost use Rattle.jc_operations.specs.Invoked.{IsSwitch};
 ghost use Rattle.jc_perform.specs.Nexts.{ComesTo, KeepsFrame, KeepsShared};
 ghost use Rattle.jc_perform.specs.Parameters.{AreParameters};
 ghost use Rattle.jc_machine.specs.Room.{IsBounded};
+ghost use Rattle.jc_machine.specs.Threads.{called};
 
 use jc_bytes::Memory;
 use jc_methods::Insn;
@@ -105,12 +106,8 @@ impl ThreadStack {
             × (taken_for types self.old.top.stack ≡ Some a) × (length (spread_values a.values) ≤ method.now.max_locals) }
         requires few { method.now.max_locals ≤ 1004 }
         requires room { length self.old.waiting < 128 }
-        ensures { (types : List FieldType) (a : Arguments) → AreParameters types method.now.parameters → taken_for types self.old.top.stack ≡ Some a
-            → self.new ≡ record {
-              top = new_frame callee (locals_for method.now.max_locals a.values);
-              waiting =
-                  record self.old.top { stack = a.rest } ∷ self.old.waiting;
-            } }
+        ensures { (types : List FieldType) (a : Arguments) → AreParameters types method.now.parameters
+            → taken_for types self.old.top.stack ≡ Some a → self.new ≡ called callee method.now.max_locals a self.old }
     {
         let frame = &mut self.others[self.waiting];
         enter_callee(
