@@ -1,5 +1,5 @@
 -- A command that reads, decides and then writes has one work, and functions that do its parts do the whole.
-use Rattle.std.proofs.Common.{◌≡◌, ℕ, List, [], ◌∷◌, ◌++◌, map, Option, None, Some, Result, Ok, Err, Vec, length, inl, inr, refl, sym, ◌∙◌, subst, arith}
+use Rattle.std.proofs.Common.{◌≡◌, ℕ, List, [], ◌∷◌, ◌++◌, map, Option, None, Some, Result, Ok, Err, Vec, length, inl, inr, refl, sym, subst, arith}
 use Rattle.std.specs.List.{AllByRecursion}
 use Rattle.std.specs.declared.alloc.Global.{Global}
 use Rattle.jc_work.specs.declared.output.Write.{Write as Written}
@@ -12,7 +12,7 @@ use Rattle.jc_paths.specs.Paths.{FileText, plain, folder}
 use Rattle.jc_work.specs.Folders.{paths_of, all_paths, files_of, once}
 use Rattle.jc_work.specs.Seen.{write_seen, stop_seen}
 use Rattle.jc_work.specs.Answered.{Answer, OneAnswer, HasOneAnswer, answering, preparing, making_all, answered, EndsSo, AnswersWith}
-use Rattle.jc_work.proofs.Behind.{fit_front, fit_behind, came_then, began_then, stops_first, stops_then}
+use Rattle.jc_work.proofs.Behind.{fit_front, fit_behind, came_then, began_then, stops_first}
 use Rattle.jc_work.proofs.OneWork.{one_giving, one_ending, one_deciding, one_listing, has_then, has_then_if, has_reading_all, has_writing_all, same_value, not_gives}
 use Rattle.jc_work.proofs.Reaching.{was_decided, was_ended, reached_start, reached_next, ran_last}
 
@@ -131,27 +131,6 @@ module _ (landed : Landed) (inputs : List Word) (Answers : List (List ℕ) → A
 
   pub ran_unprepared : (old mid : World) (f g : Counts) (stop : Option End) → Stops landed (preparing inputs Answers) old mid f g stop → Stops landed (answered inputs Answers) old mid f g stop
   ran_unprepared old mid f g stop stopped = stops_first landed (preparing inputs Answers) making_all old mid f g stop stopped
-
--- ---- one path in front of others
-
-pub first_unread : (landed : Landed) (path : Word) (paths : List Word) (old mid : World) (f g : Counts) (stop : Option End)
-    → Stops landed (reading path) old mid f g stop → Stops landed (reading_all (path ∷ paths)) old mid f g stop
-first_unread landed path paths old mid f g stop stopped = stops_first landed (reading path) (λ x. reading_all paths >>= λ xs. giving (x ∷ xs)) old mid f g stop stopped
-
-module _ (landed : Landed) (path : Word) (paths : List Word) (old mid new : World) (f g h : Counts) where
-  pub both_read : (t : List ℕ) (ts : List (List ℕ)) → (g ≡ f) × CameTo landed (reading path) old mid (gives t) → (h ≡ g) × CameTo landed (reading_all paths) mid new (gives ts)
-      → (h ≡ f) × CameTo landed (reading_all (path ∷ paths)) old new (gives (t ∷ ts))
-  both_read t ts (same, came) (same', came') = (
-    same' ∙ same,
-    came_then landed (reading path) (λ x. reading_all paths >>= λ xs. giving (x ∷ xs)) old t mid new (gives (t ∷ ts)) came
-        (came_then landed (reading_all paths) (λ xs. giving (t ∷ xs)) mid ts new new (gives (t ∷ ts)) came' (record { steps = []; comes = refl; begun = inl refl; fit = tt; stand = refl })),
-  )
-
-  pub others_unread : (t : List ℕ) (stop : Option End) → (g ≡ f) × CameTo landed (reading path) old mid (gives t) → Stops landed (reading_all paths) mid new g h stop
-      → Stops landed (reading_all (path ∷ paths)) old new f h stop
-  others_unread t stop (same, came) stopped =
-      stops_then landed (reading path) (λ x. reading_all paths >>= λ xs. giving (x ∷ xs)) old t mid new f g h stop same came
-      (stops_first landed (reading_all paths) (λ xs. giving (t ∷ xs)) mid new g h stop stopped)
 
 -- ---- what was read is files
 

@@ -2,6 +2,7 @@ pub mod Texts
 pub mod Step
 pub mod Part
 pub mod Ending
+pub mod Handed
 pub mod OneWay
 pub mod Prefix
 pub mod Causes

@@ -3,6 +3,7 @@ ghost use Rattle.std.specs.Prelude.{◌≡◌, ◌<◌, ◌^◌, ◌++◌, ◌�
 ghost use Rattle.jc_paths.specs.Looks.{file_view};
 ghost use Rattle.jc_work.specs.Folders.{once, paths_of, all_paths, files_of};
 ghost use Rattle.jc_work.specs.Ending.{DoesFiles};
+ghost use Rattle.jc_work.specs.Handed.{BetweenFiles};
 ghost use Rattle.jc_work.specs.Seen.{words_of, stop_seen};
 
 use crate::input::list_folder;
@@ -28,8 +29,7 @@ fn paths_of<'a, F: Files>(
     files: &mut F,
     word: FileWord<'a>,
 ) -> Result<Vec<String>, Stop<'a>>
-    ensures { DoesFiles F.landed (paths_of (file_view word.entry)) (λ paths. words_of paths.items) stop_seen (F.contents files.old) (F.contents files.new)
-        (F.read_faults files.old) (F.read_faults files.new) (F.write_faults files.old) (F.write_faults files.new) result }
+    ensures { BetweenFiles F.Files files.old files.new (DoesFiles F.landed (paths_of (file_view word.entry)) (λ paths. words_of paths.items) stop_seen) result }
 {
     match word {
         FileWord::Plain(path) => Ok(one_path(alloc, path)?),
@@ -52,8 +52,7 @@ fn all_paths<'a, F: Files>(
     files: &mut F,
     words: &[FileWord<'a>],
 ) -> Result<Vec<String>, Stop<'a>>
-    ensures { DoesFiles F.landed (all_paths (map file_view words.entry.now)) (λ paths. words_of paths.items) stop_seen (F.contents files.old) (F.contents files.new)
-        (F.read_faults files.old) (F.read_faults files.new) (F.write_faults files.old) (F.write_faults files.new) result }
+    ensures { BetweenFiles F.Files files.old files.new (DoesFiles F.landed (all_paths (map file_view words.entry.now)) (λ paths. words_of paths.items) stop_seen) result }
 {
     let mut paths = Vec::new(alloc);
     'listing: for word in words {
@@ -85,8 +84,7 @@ pub fn list_files<'a, F: Files>(
     files: &mut F,
     words: &[FileWord<'a>],
 ) -> Result<Vec<String>, Stop<'a>>
-    ensures does { DoesFiles F.landed (files_of (map file_view words.entry.now)) (λ paths. words_of paths.items) stop_seen (F.contents files.old) (F.contents files.new)
-        (F.read_faults files.old) (F.read_faults files.new) (F.write_faults files.old) (F.write_faults files.new) result }
+    ensures does { BetweenFiles F.Files files.old files.new (DoesFiles F.landed (files_of (map file_view words.entry.now)) (λ paths. words_of paths.items) stop_seen) result }
     ensures few { IfOk result (λ paths. length paths.items < 2 ^ 32) }
 {
     let paths = all_paths(alloc, files, words)?;

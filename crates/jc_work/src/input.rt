@@ -4,6 +4,7 @@ ghost use Rattle.jc_bytes.specs.ByteLists.{AreBytes};
 ghost use Rattle.jc_bytes.specs.Reader.{most_read};
 ghost use Rattle.jc_work.specs.Part.{reading, listing, reading_all};
 ghost use Rattle.jc_work.specs.Ending.{DoesFiles};
+ghost use Rattle.jc_work.specs.Handed.{BetweenFiles};
 ghost use Rattle.jc_work.specs.Seen.{words_of, texts_of, stop_seen, read_stop};
 
 use crate::stop::Stop;
@@ -32,8 +33,7 @@ pub fn read_one<'a, F: Files>(
     files: &mut F,
     path: &'a str,
 ) -> Result<Bytes, Stop<'a>>
-    ensures does { DoesFiles F.landed (reading path.entry.now) (λ bytes. bytes) stop_seen (F.contents files.old) (F.contents files.new)
-        (F.read_faults files.old) (F.read_faults files.new) (F.write_faults files.old) (F.write_faults files.new) result }
+    ensures does { BetweenFiles F.Files files.old files.new (DoesFiles F.landed (reading path.entry.now) (λ bytes. bytes) stop_seen) result }
     ensures short { IfOk result (λ bytes. length bytes ≤ most_read) }
 {
     let mut bytes = Vec::new(alloc);
@@ -71,8 +71,7 @@ pub fn read_all<'a, F: Files>(
     files: &mut F,
     paths: &[&'a str],
 ) -> Result<Vec<Bytes>, Stop<'a>>
-    ensures does { DoesFiles F.landed (reading_all (texts_of paths.entry.now)) (λ texts. texts.items) stop_seen (F.contents files.old) (F.contents files.new)
-        (F.read_faults files.old) (F.read_faults files.new) (F.write_faults files.old) (F.write_faults files.new) result }
+    ensures does { BetweenFiles F.Files files.old files.new (DoesFiles F.landed (reading_all (texts_of paths.entry.now)) (λ texts. texts.items) stop_seen) result }
     ensures each { IfOk result (λ texts. length texts.items ≡ length paths.entry.now) }
     ensures short { IfOk result (λ texts. All (λ t. length t ≤ most_read) texts.items) }
 {
@@ -90,8 +89,7 @@ pub fn list_folder<'a, F: Files>(
     files: &mut F,
     folder: &'a str,
 ) -> Result<Vec<String>, Stop<'a>>
-    ensures { DoesFiles F.landed (listing folder.entry.now) (λ paths. map string_bytes paths.items) stop_seen (F.contents files.old) (F.contents files.new)
-        (F.read_faults files.old) (F.read_faults files.new) (F.write_faults files.old) (F.write_faults files.new) result }
+    ensures { BetweenFiles F.Files files.old files.new (DoesFiles F.landed (listing folder.entry.now) (λ paths. map string_bytes paths.items) stop_seen) result }
 {
     match files.list(alloc, folder) {
         Ok(paths) => Ok(paths),

@@ -1,8 +1,9 @@
 //! Making the writes of a command.
 ghost use Rattle.std.specs.Prelude.{◌≡◌, ◌++◌, ◌∷◌, [], map, OnOk};
-ghost use Rattle.jc_work.specs.Step.{world, counts, to_file, to_out, to_err};
+ghost use Rattle.jc_work.specs.Step.{to_file, to_out, to_err};
 ghost use Rattle.jc_work.specs.Part.{writing, writing_all};
 ghost use Rattle.jc_work.specs.Ending.{Does, DoesFiles, DoesOut, DoesErr};
+ghost use Rattle.jc_work.specs.Handed.{BetweenFiles, Between};
 ghost use Rattle.jc_work.specs.Seen.{stop_seen, write_seen};
 
 use crate::stop::Stop;
@@ -30,8 +31,7 @@ pub fn keep<'a>(writes: &mut Vec<Write<'a>>, text: Vec<u8>) -> Result<(), Memory
 
 /// Writes the file at a path.
 pub fn write_file<'a, F: Files>(files: &mut F, path: &'a str, bytes: &[u8]) -> Result<(), Stop<'a>>
-    ensures { DoesFiles F.landed (writing (to_file path.entry.now bytes.now)) (λ _. tt) stop_seen (F.contents files.old) (F.contents files.new)
-        (F.read_faults files.old) (F.read_faults files.new) (F.write_faults files.old) (F.write_faults files.new) result }
+    ensures { BetweenFiles F.Files files.old files.new (DoesFiles F.landed (writing (to_file path.entry.now bytes.now)) (λ _. tt) stop_seen) result }
 {
     match files.write(path, bytes) {
         Ok(()) => Ok(()),
@@ -66,11 +66,8 @@ fn write_one<'a, F: Files, O: Sink, E: Sink>(
     err: &mut E,
     write: &Write<'a>,
 ) -> Result<(), Stop<'a>>
-    ensures { Does F.landed (writing (write_seen write.now)) (λ _. tt) stop_seen
-        (world (F.contents files.old) (O.told out.old) (E.told err.old))
-        (world (F.contents files.new) (O.told out.new) (E.told err.new))
-        (counts (F.read_faults files.old) (F.write_faults files.old) (O.faults out.old) (E.faults err.old))
-        (counts (F.read_faults files.new) (F.write_faults files.new) (O.faults out.new) (E.faults err.new)) result }
+    ensures { Between F.Files O.Sink E.Sink (files.old, out.old, err.old) (files.new, out.new, err.new)
+        (Does F.landed (writing (write_seen write.now)) (λ _. tt) stop_seen) result }
 {
     match write {
         Write::File { path, bytes } => write_file(files, path, bytes),
@@ -86,11 +83,8 @@ pub fn write_all<'a, F: Files, O: Sink, E: Sink>(
     err: &mut E,
     writes: &[Write<'a>],
 ) -> Result<(), Stop<'a>>
-    ensures { Does F.landed (writing_all (map write_seen writes.now)) (λ _. tt) stop_seen
-        (world (F.contents files.old) (O.told out.old) (E.told err.old))
-        (world (F.contents files.new) (O.told out.new) (E.told err.new))
-        (counts (F.read_faults files.old) (F.write_faults files.old) (O.faults out.old) (E.faults err.old))
-        (counts (F.read_faults files.new) (F.write_faults files.new) (O.faults out.new) (E.faults err.new)) result }
+    ensures { Between F.Files O.Sink E.Sink (files.old, out.old, err.old) (files.new, out.new, err.new)
+        (Does F.landed (writing_all (map write_seen writes.now)) (λ _. tt) stop_seen) result }
 {
     'writing: for write in writes {
         write_one(files, out, err, write)?;
