@@ -28,7 +28,8 @@ fn say<E: Sink>(err: &mut E, text: &[u8])
 
 /// Says that the words are of no stated form.
 pub fn report_usage<E: Sink>(err: &mut E) -> Status
-    ensures { ReportsErr (Some misused) (E.told err.old) (E.told err.new) (E.faults err.old) (E.faults err.new) result }
+    ensures does { ReportsErr (Some misused) (E.told err.old) (E.told err.new) (E.faults err.old) (E.faults err.new) result }
+    ensures usage { result ≡ Status.Usage }
 {
     say(err, USAGE.as_bytes());
     Status::Usage

@@ -1,5 +1,5 @@
 //! Making the writes of a command.
-ghost use Rattle.std.specs.Prelude.{◌≡◌, ◌++◌, ◌∷◌, [], map, OnOk};
+ghost use Rattle.std.specs.Prelude.{◌≡◌, ◌≢◌, ◌++◌, ◌∷◌, [], map, IfErr, OnOk};
 ghost use Rattle.jc_work.specs.Step.{to_file, to_out, to_err};
 ghost use Rattle.jc_work.specs.Part.{writing, writing_all};
 ghost use Rattle.jc_work.specs.Ending.{Does, DoesFiles, DoesOut, DoesErr};
@@ -31,7 +31,8 @@ pub fn keep<'a>(writes: &mut Vec<Write<'a>>, text: Vec<u8>) -> Result<(), Memory
 
 /// Writes the file at a path.
 pub fn write_file<'a, F: Files>(files: &mut F, path: &'a str, bytes: &[u8]) -> Result<(), Stop<'a>>
-    ensures { BetweenFiles F.Files files.old files.new (DoesFiles F.landed (writing (to_file path.entry.now bytes.now)) (λ _. tt) stop_seen) result }
+    ensures does { BetweenFiles F.Files files.old files.new (DoesFiles F.landed (writing (to_file path.entry.now bytes.now)) (λ _. tt) stop_seen) result }
+    ensures memory { IfErr result (λ stop. stop ≢ Stop.Memory) }
 {
     match files.write(path, bytes) {
         Ok(()) => Ok(()),
@@ -41,7 +42,8 @@ pub fn write_file<'a, F: Files>(files: &mut F, path: &'a str, bytes: &[u8]) -> R
 
 /// Writes a text on `out`.
 pub fn put_out<'a, O: Sink>(out: &mut O, text: &[u8]) -> Result<(), Stop<'a>>
-    ensures { DoesOut (writing (to_out text.now)) (λ _. tt) stop_seen (O.told out.old) (O.told out.new) (O.faults out.old) (O.faults out.new) result }
+    ensures does { DoesOut (writing (to_out text.now)) (λ _. tt) stop_seen (O.told out.old) (O.told out.new) (O.faults out.old) (O.faults out.new) result }
+    ensures memory { IfErr result (λ stop. stop ≢ Stop.Memory) }
 {
     match out.put(text) {
         Ok(()) => Ok(()),
@@ -51,7 +53,8 @@ pub fn put_out<'a, O: Sink>(out: &mut O, text: &[u8]) -> Result<(), Stop<'a>>
 
 /// Writes a text on `err`.
 pub fn put_err<'a, E: Sink>(err: &mut E, text: &[u8]) -> Result<(), Stop<'a>>
-    ensures { DoesErr (writing (to_err text.now)) (λ _. tt) stop_seen (E.told err.old) (E.told err.new) (E.faults err.old) (E.faults err.new) result }
+    ensures does { DoesErr (writing (to_err text.now)) (λ _. tt) stop_seen (E.told err.old) (E.told err.new) (E.faults err.old) (E.faults err.new) result }
+    ensures memory { IfErr result (λ stop. stop ≢ Stop.Memory) }
 {
     match err.put(text) {
         Ok(()) => Ok(()),
@@ -66,8 +69,9 @@ fn write_one<'a, F: Files, O: Sink, E: Sink>(
     err: &mut E,
     write: &Write<'a>,
 ) -> Result<(), Stop<'a>>
-    ensures { Between F.Files O.Sink E.Sink (files.old, out.old, err.old) (files.new, out.new, err.new)
+    ensures does { Between F.Files O.Sink E.Sink (files.old, out.old, err.old) (files.new, out.new, err.new)
         (Does F.landed (writing (write_seen write.now)) (λ _. tt) stop_seen) result }
+    ensures memory { IfErr result (λ stop. stop ≢ Stop.Memory) }
 {
     match write {
         Write::File { path, bytes } => write_file(files, path, bytes),
@@ -83,8 +87,9 @@ pub fn write_all<'a, F: Files, O: Sink, E: Sink>(
     err: &mut E,
     writes: &[Write<'a>],
 ) -> Result<(), Stop<'a>>
-    ensures { Between F.Files O.Sink E.Sink (files.old, out.old, err.old) (files.new, out.new, err.new)
+    ensures does { Between F.Files O.Sink E.Sink (files.old, out.old, err.old) (files.new, out.new, err.new)
         (Does F.landed (writing_all (map write_seen writes.now)) (λ _. tt) stop_seen) result }
+    ensures memory { IfErr result (λ stop. stop ≢ Stop.Memory) }
 {
     'writing: for write in writes {
         write_one(files, out, err, write)?;

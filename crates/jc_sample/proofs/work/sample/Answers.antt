@@ -19,4 +19,4 @@ returns g c =
     let outs = g.O.Sink.faults c.args.out.now in
     let outs' = g.O.Sink.faults c.put_out.new.out in
     written c.args.methods c.in_ok-line.line.items old new outs outs' c.put_out.result c.in_ok-line.ensures
-    (subst (λ (l : List ℕ). DoesOut (writing (to_out l)) (λ _. tt) stop_seen old new outs outs' c.put_out.result) c.deref.ensures.value c.put_out.ensures)
+    (subst (λ (l : List ℕ). DoesOut (writing (to_out l)) (λ _. tt) stop_seen old new outs outs' c.put_out.result) c.deref.ensures.value c.put_out.ensures.does)

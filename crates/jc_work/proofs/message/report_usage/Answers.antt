@@ -3,8 +3,8 @@ use Rattle.jc_work.specs.Step.{world, counts}
 use Rattle.jc_work.specs.Ending.{Says}
 use Rattle.jc_work.proofs.message.report_usage.Goals as goal
 
-pub returns : goal.returns
-returns g c contents out reads writes outs =
+pub returns-clause-does : goal.returns-clause-does
+returns-clause-does g c contents out reads writes outs =
     let E = g.E.Sink in
     inr (
       refl,

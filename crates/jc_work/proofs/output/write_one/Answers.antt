@@ -5,8 +5,8 @@ use Rattle.jc_work.specs.Ending.{Does}
 use Rattle.jc_work.specs.Seen.{stop_seen}
 use Rattle.jc_work.proofs.output.write_one.Goals as goal
 
-pub returns-in-File : goal.returns-in-File
-returns-in-File g c =
+pub returns-in-File-clause-does : goal.returns-in-File-clause-does
+returns-in-File-clause-does g c =
     let F = g.F.Files in
     let O = g.O.Sink in
     let E = g.E.Sink in
@@ -14,10 +14,10 @@ returns-in-File g c =
     (world (F.contents c.args.files.now) (O.told c.args.out.now) (E.told c.args.err.now)) (world (F.contents c.write_file.new.files) (O.told c.args.out.now) (E.told c.args.err.now))
     (counts (F.read_faults c.args.files.now) (F.write_faults c.args.files.now) (O.faults c.args.out.now) (E.faults c.args.err.now))
     (counts (F.read_faults c.write_file.new.files) (F.write_faults c.write_file.new.files) (O.faults c.args.out.now) (E.faults c.args.err.now)) c.write_file.result) c.deref.ensures.value
-    (c.write_file.ensures (O.told c.args.out.now) (E.told c.args.err.now) (O.faults c.args.out.now) (E.faults c.args.err.now)))
+    (c.write_file.ensures.does (O.told c.args.out.now) (E.told c.args.err.now) (O.faults c.args.out.now) (E.faults c.args.err.now)))
 
-pub returns-in-Out : goal.returns-in-Out
-returns-in-Out g c =
+pub returns-in-Out-clause-does : goal.returns-in-Out-clause-does
+returns-in-Out-clause-does g c =
     let F = g.F.Files in
     let O = g.O.Sink in
     let E = g.E.Sink in
@@ -25,10 +25,10 @@ returns-in-Out g c =
     (world (F.contents c.args.files.now) (O.told c.args.out.now) (E.told c.args.err.now)) (world (F.contents c.args.files.now) (O.told c.put_out.new.out) (E.told c.args.err.now))
     (counts (F.read_faults c.args.files.now) (F.write_faults c.args.files.now) (O.faults c.args.out.now) (E.faults c.args.err.now))
     (counts (F.read_faults c.args.files.now) (F.write_faults c.args.files.now) (O.faults c.put_out.new.out) (E.faults c.args.err.now)) c.put_out.result) c.deref-in-Out.ensures.value
-    (c.put_out.ensures F.landed (F.contents c.args.files.now) (E.told c.args.err.now) (F.read_faults c.args.files.now) (F.write_faults c.args.files.now) (E.faults c.args.err.now)))
+    (c.put_out.ensures.does F.landed (F.contents c.args.files.now) (E.told c.args.err.now) (F.read_faults c.args.files.now) (F.write_faults c.args.files.now) (E.faults c.args.err.now)))
 
-pub returns-in-Err : goal.returns-in-Err
-returns-in-Err g c =
+pub returns-in-Err-clause-does : goal.returns-in-Err-clause-does
+returns-in-Err-clause-does g c =
     let F = g.F.Files in
     let O = g.O.Sink in
     let E = g.E.Sink in
@@ -36,4 +36,4 @@ returns-in-Err g c =
     (world (F.contents c.args.files.now) (O.told c.args.out.now) (E.told c.args.err.now)) (world (F.contents c.args.files.now) (O.told c.args.out.now) (E.told c.put_err.new.err))
     (counts (F.read_faults c.args.files.now) (F.write_faults c.args.files.now) (O.faults c.args.out.now) (E.faults c.args.err.now))
     (counts (F.read_faults c.args.files.now) (F.write_faults c.args.files.now) (O.faults c.args.out.now) (E.faults c.put_err.new.err)) c.put_err.result) c.deref-in-Err.ensures.value
-    (c.put_err.ensures F.landed (F.contents c.args.files.now) (O.told c.args.out.now) (F.read_faults c.args.files.now) (F.write_faults c.args.files.now) (O.faults c.args.out.now)))
+    (c.put_err.ensures.does F.landed (F.contents c.args.files.now) (O.told c.args.out.now) (F.read_faults c.args.files.now) (F.write_faults c.args.files.now) (O.faults c.args.out.now)))
