@@ -61,7 +61,7 @@ module _ (b : Body) (first : ℕ) (states : List State) (array : ℕ) (names : L
   abbrev pub wide_frame : ℕ → FrameAt
   wide_frame i = frame (q_of i + 1) (moved (state_behind b states i (late_probe b first i)))
 
-  further_tests : (i : ℕ) (o : Option ℕ) (flow : Flow) → is_further b first states array i o flow ≡ true → flow ≡ flows.Branches
+  pub further_tests : (i : ℕ) (o : Option ℕ) (flow : Flow) → is_further b first states array i o flow ≡ true → flow ≡ flows.Branches
   further_tests i None flows.Branches h = refl
   further_tests i (Some id) flows.Branches h = refl
   further_tests i None flows.GoesOn h = cc

@@ -68,6 +68,10 @@ module _ (b : Body) (first : ℕ) (states : List State) (array : ℕ) where
   arm_frames here state (x ∷ xs) =
       arm_frame here state (probe_of b first x) ++ arm_frames (here + hop_size (probe_of b first x)) state xs
 
+  -- the frames at the arm places of i, if it is a switch
+  abbrev pub arm_frames_at : ℕ → List FrameAt
+  arm_frames_at i = arm_frames (image_of b first false i + 1) (moved_state (left_by (insn_at b.code i) (state_at states i))) (arms_at b.code i)
+
   -- the frames of what belongs to i
   abbrev pub frames_at : ℕ → List FrameAt
   frames_at i =
@@ -75,7 +79,7 @@ module _ (b : Body) (first : ℕ) (states : List State) (array : ℕ) where
       (frame (lead_of b first false i) (moved_state (state_at states i)))
       ++ (frame_if (has_frame i || (has_inverse i && is_none (lead_probe b first i)))
       (frame (land_of b first false i) (moved_state (state_at states i)))
-      ++ arm_frames (image_of b first false i + 1) (moved_state (left_by (insn_at b.code i) (state_at states i))) (arms_at b.code i))
+      ++ arm_frames_at i)
 
   -- the wide layout needs a frame behind each conditional jump, where none stands
   abbrev pub is_further : ℕ → Option ℕ → Flow → Bool

@@ -22,3 +22,4 @@ pub mod Framing
 pub mod Refusing
 pub mod Branching
 pub mod Writing
+pub mod Stages

@@ -22,7 +22,7 @@ use crate::frames::Framing;
 use crate::places::Places;
 use crate::segments::write_code;
 use crate::straddling::straddles;
-use crate::tables::{moved_lines, moved_rows, moved_vars};
+use crate::tables::{MovedTables, moved_tables};
 use crate::written::Written;
 use jc_bytes::{Fail, List, Memory, Names, Refusal, RefusalKind};
 use jc_methods::{Body, Emitted, PROBE_ARRAY, Plan, State};
@@ -40,7 +40,7 @@ fn refusal(body: &Body, kind: RefusalKind, place: u32) -> Refusal
 }
 
 /// Why a method isn't instrumented, if it isn't.
-fn refused(body: &Body) -> Option<Refusal>
+pub(crate) fn refused(body: &Body) -> Option<Refusal>
     requires { IsCounted body.now.code }
     ensures refusal { IfSome result (IsEmitRefusal body.now) }
     ensures each { (kind : Kind) (place : ℕ) → IsEmitReason body.now kind place → result ≡ Some (refusal_of body.now kind place) }
@@ -85,12 +85,14 @@ fn instrumented(
     let framing = Framing::of(alloc, body, plan, &places, states, array)?;
     let frames = framing.frames(alloc)?;
     let wide_frames = framing.wide_frames(alloc)?;
-    let leads = places.leads.as_slice();
-    let lands = places.lands.as_slice();
-    let handlers = moved_rows(alloc, &body.handlers, leads, lands)?;
-    let lines = moved_lines(alloc, &body.lines, lands)?;
-    let vars = moved_vars(alloc, &body.vars, body.arg_slots, lands)?;
-    let kind_vars = moved_vars(alloc, &body.kind_vars, body.arg_slots, lands)?;
+    let MovedTables {
+        handlers,
+        lines,
+        vars,
+        kind_vars,
+        max_stack,
+        max_locals,
+    } = moved_tables(alloc, body, &places)?;
     Ok(Emitted {
         code: List::from_vec(code),
         at: List::from_vec(at),
@@ -102,8 +104,8 @@ fn instrumented(
         kind_vars,
         frames: List::from_vec(frames),
         wide_frames: List::from_vec(wide_frames),
-        max_stack: body.max_stack + 3,
-        max_locals: body.max_locals + 1,
+        max_stack,
+        max_locals,
     })
 }
 

@@ -1,16 +1,16 @@
 //! The stack map frames of instrumented code (JVM Specification 4.7.4).
 ghost use Rattle.std.specs.Prelude.{◌≡◌, ℕ, ◌+◌, ◌*◌, ◌<◌, ◌≤◌, ◌^◌, ◌&&◌, ◌||◌};
-ghost use Rattle.std.specs.Prelude.{not, false, ◌++◌, map, length, All, IfOk, OnOk, slice_index};
+ghost use Rattle.std.specs.Prelude.{not, ◌++◌, map, length, All, IfOk, OnOk, slice_index};
 ghost use Rattle.jc_methods.specs.Flow.{flow_of};
 ghost use Rattle.jc_bytes.specs.PlainLists.{pieces};
 ghost use Rattle.jc_methods.specs.declared.insn.Flow.TheVariants as flows;
 ghost use Rattle.jc_methods.specs.WellMade.{IsState};
 ghost use Rattle.jc_emit.specs.Shift.{image_kind, shifted_state};
-ghost use Rattle.jc_emit.specs.Sizes.{insn_at, arms_at, late_probe};
-ghost use Rattle.jc_emit.specs.TwinFrames.{operands_of, state_at, left_by};
-ghost use Rattle.jc_emit.specs.Items.{image_of};
+ghost use Rattle.jc_emit.specs.Sizes.{insn_at, late_probe};
+ghost use Rattle.jc_emit.specs.TwinFrames.{operands_of};
 ghost use Rattle.jc_emit.specs.Emission.{frame, frame_if, moved_state, has_inverse};
-ghost use Rattle.jc_emit.specs.Emission.{frames_at, wide_frames_at, arm_frames};
+ghost use Rattle.jc_emit.specs.Emission.{frames_at, wide_frames_at, arm_frames_at};
+ghost use Rattle.jc_emit.specs.Stages.{layout_frames, layout_frames_at};
 ghost use Rattle.jc_emit.specs.Framing.{IsMadeWithin, without, AreFramed, id_frames, IsFraming};
 
 use crate::places::{Places, hop_size};
@@ -263,11 +263,8 @@ impl<'a> Framing<'a> {
     fn put_arms_at(&self, alloc: Global, at: usize, frames: &mut Vec<FrameAt>) -> Result<(), Memory>
         requires framing { (first : ℕ) × IsFraming first self.now }
         requires at { at < length self.now.body.now.code }
-        ensures { (first : ℕ) → IsFraming first self.now → OnOk result (frames.new.items ≡ frames.old.items
-            ++ arm_frames self.now.body.now first self.now.states.now self.now.array (image_of self.now.body.now first false at + 1)
-            (moved_state self.now.body.now first self.now.states.now self.now.array
-            (left_by (insn_at self.now.body.now.code at) (state_at self.now.states.now at)))
-            (arms_at self.now.body.now.code at)) }
+        ensures { (first : ℕ) → IsFraming first self.now → OnOk result (frames.new.items
+            ≡ frames.old.items ++ arm_frames_at self.now.body.now first self.now.states.now self.now.array at) }
     {
         let insn = &self.body.code[at];
         match insn.flow() {
@@ -337,6 +334,39 @@ impl<'a> Framing<'a> {
             }
             _ => Ok(()),
         }
+    }
+
+    /// Puts the frames of a layout of what belongs to an instruction.
+    fn put_layout_at(
+        &self,
+        alloc: Global,
+        wide: bool,
+        at: usize,
+        frames: &mut Vec<FrameAt>,
+    ) -> Result<(), Memory>
+        requires framing { (first : ℕ) × IsFraming first self.now }
+        requires at { at < length self.now.body.now.code }
+        ensures { (first : ℕ) → IsFraming first self.now → OnOk result (frames.new.items
+            ≡ frames.old.items ++ layout_frames_at self.now.body.now first self.now.states.now self.now.array wide at) }
+    {
+        self.put_at(alloc, at, frames)?;
+        if wide {
+            self.put_wide_at(alloc, at, frames)?;
+        }
+        Ok(())
+    }
+
+    /// The frames of a layout, in rising order.
+    pub(crate) fn layout_frames(&self, alloc: Global, wide: bool) -> Result<Vec<FrameAt>, Memory>
+        requires { (first : ℕ) × IsFraming first self.now }
+        ensures { (first : ℕ) → IsFraming first self.now → IfOk result (λ frames. frames.items
+            ≡ layout_frames self.now.body.now first self.now.states.now self.now.array wide) }
+    {
+        let mut frames = Vec::new(alloc);
+        'framing: for at in 0..self.body.code.len() {
+            self.put_layout_at(alloc, wide, at, &mut frames)?;
+        }
+        Ok(frames)
     }
 
     /// The frames of the narrow layout, in rising order.

@@ -1,12 +1,34 @@
 //! The tables of instrumented code (JVM Specification 4.7.3, 4.7.12 to 4.7.14).
-ghost use Rattle.std.specs.Prelude.{◌≡◌, ◌<◌, length, map, All, IfOk, slice_index};
+ghost use Rattle.std.specs.Prelude.{◌≡◌, ◌<◌, ℕ, length, map, All, IfOk, slice_index};
+ghost use Rattle.jc_methods.specs.WellMade.{IsWellMadeOfAnySize};
+ghost use Rattle.jc_emit.specs.Placing.{ArePlaces};
+ghost use Rattle.jc_emit.specs.Refusing.{HasRoom};
+ghost use Rattle.jc_emit.specs.Stages.{moved_tables};
 ghost use Rattle.jc_emit.specs.TwinTables.{moved_row, moved_line, moved_var};
 ghost use Rattle.jc_emit.specs.Tables.{RowWithin, VarWithin};
 
 use crate::image::moved_slot;
+use crate::places::Places;
 use jc_bytes::{List, Memory};
-use jc_methods::{Handler, LineAt, VarAt};
+use jc_methods::{Body, Handler, LineAt, VarAt};
 use std::alloc::Global;
+
+/// The tables of instrumented code, and its sizes.
+#[derive(Debug, Drop)]
+pub struct MovedTables {
+    /// The exception table.
+    pub handlers: List<Handler>,
+    /// The entries of the line tables.
+    pub lines: List<LineAt>,
+    /// The entries of the tables of local variables.
+    pub vars: List<VarAt>,
+    /// The entries of the tables of the types of local variables.
+    pub kind_vars: List<VarAt>,
+    /// The size of the operand stack.
+    pub max_stack: u16,
+    /// The number of local variables.
+    pub max_locals: u16,
+}
 
 /// An exception row, from where fall-throughs lead to where they do, with its handler where jumps land.
 fn moved_row(row: &Handler, leads: &[u32], lands: &[u32]) -> Handler
@@ -22,7 +44,7 @@ fn moved_row(row: &Handler, leads: &[u32], lands: &[u32]) -> Handler
 }
 
 /// The exception rows, in their order.
-pub(crate) fn moved_rows(
+fn moved_rows(
     alloc: Global,
     rows: &[Handler],
     leads: &[u32],
@@ -39,11 +61,7 @@ pub(crate) fn moved_rows(
 }
 
 /// The entries of line tables, where jumps land, in their order.
-pub(crate) fn moved_lines(
-    alloc: Global,
-    lines: &[LineAt],
-    lands: &[u32],
-) -> Result<List<LineAt>, Memory>
+fn moved_lines(alloc: Global, lines: &[LineAt], lands: &[u32]) -> Result<List<LineAt>, Memory>
     requires { All (λ l. l.at < length lands.now) lines.now }
     ensures { IfOk result (λ moved. moved ≡ map (moved_line (slice_index lands.now)) lines.now) }
 {
@@ -72,7 +90,7 @@ fn moved_var(var: &VarAt, arg_slots: u16, lands: &[u32]) -> VarAt
 }
 
 /// The variables, in their order.
-pub(crate) fn moved_vars(
+fn moved_vars(
     alloc: Global,
     vars: &[VarAt],
     arg_slots: u16,
@@ -86,4 +104,31 @@ pub(crate) fn moved_vars(
         moved.push(moved_var(var, arg_slots, lands))?;
     }
     Ok(moved)
+}
+
+/// The tables of a method that has room for instrumented code, with its sizes.
+pub(crate) fn moved_tables(
+    alloc: Global,
+    body: &Body,
+    places: &Places,
+) -> Result<MovedTables, Memory>
+    requires body { IsWellMadeOfAnySize body.now }
+    requires places { (first : ℕ) × ArePlaces body.now first places.now }
+    requires room { HasRoom body.now }
+    ensures { (first : ℕ) → ArePlaces body.now first places.now → IfOk result (λ tables. tables ≡ moved_tables body.now first) }
+{
+    let leads = places.leads.as_slice();
+    let lands = places.lands.as_slice();
+    let handlers = moved_rows(alloc, &body.handlers, leads, lands)?;
+    let lines = moved_lines(alloc, &body.lines, lands)?;
+    let vars = moved_vars(alloc, &body.vars, body.arg_slots, lands)?;
+    let kind_vars = moved_vars(alloc, &body.kind_vars, body.arg_slots, lands)?;
+    Ok(MovedTables {
+        handlers,
+        lines,
+        vars,
+        kind_vars,
+        max_stack: body.max_stack + 3,
+        max_locals: body.max_locals + 1,
+    })
 }

@@ -1,0 +1,51 @@
+use Rattle.std.proofs.Common.{[], ◌∙◌}
+use Rattle.std.proofs.lemmas.Option.{get_or_from_slice_get}
+use Rattle.jc_kinds.proofs.FrameLaws.{frames_within}
+use Rattle.jc_emit.specs.Shift.{probe_array_class}
+use Rattle.jc_emit.specs.Stages.{layout_frames}
+use Rattle.jc_emit.proofs.EmittingLaws.{framing_made, grows_one, states_put}
+use Rattle.jc_emit.proofs.FrameStateLaws.{frames_have_states}
+use Rattle.jc_emit.proofs.stages.emit_frames.Goals as goal
+
+pub of-requires-2 : goal.of-requires-2
+of-requires-2 c =
+    let b = c.args.body.now in
+    frames_within 0 b.code b.max_locals b.max_stack b.frames c.requires.body.of_any_size.frames
+
+pub layout_frames-requires : goal.layout_frames-requires
+layout_frames-requires c =
+    let plan = c.requires.plan in
+    let framing = c.in_ok-framing.ensures in
+    let b = c.args.body.now in
+    let states = c.args.states.now in (
+      plan.0,
+      framing_made plan.0 c.in_ok-framing.framing b c.args.plan.now c.in_ok-places.places states c.requires.body.of_any_size plan.1
+          (c.in_ok-places.ensures.places plan.0 plan.1) (states_put c.args.names.now b states c.requires.states)
+          framing.body framing.plan framing.places framing.states framing.framed,
+    )
+
+pub returns-clause-frames : goal.returns-clause-frames
+returns-clause-frames c = λ first is.
+    let b = c.args.body.now in
+    let states = c.args.states.now in
+    let made = c.requires.body.of_any_size in
+    let framing = c.in_ok-framing.ensures in
+    let belongs = framing_made first c.in_ok-framing.framing b c.args.plan.now c.in_ok-places.places states made is
+    (c.in_ok-places.ensures.places first is) (states_put c.args.names.now b states c.requires.states)
+    framing.body framing.plan framing.places framing.states framing.framed in
+    record {
+      array = c.in_ok-array.array;
+      array_is = get_or_from_slice_get c.number.new.self c.in_ok-array.array probe_array_class [] c.in_ok-array.ensures.place;
+      are = c.from_vec.ensures ∙ c.in_ok-frames.ensures first belongs
+          ∙ (λ k. layout_frames (framing.body k) first (framing.states k) (framing.array k) c.args.wide);
+      fit = frames_have_states c.args.names.now c.in_ok-array.ensures.names_before.distinct b states made c.requires.frames c.requires.states;
+    }
+
+pub returns-clause-names : goal.returns-clause-names
+returns-clause-names c = grows_one c.args.names.now c.number.new.self probe_array_class c.in_ok-array.ensures.names
+
+pub returns-in_err-framing-clause-names : goal.returns-in_err-framing-clause-names
+returns-in_err-framing-clause-names c = grows_one c.args.names.now c.number.new.self probe_array_class c.in_ok-array.ensures.names
+
+pub returns-in_err-frames-clause-names : goal.returns-in_err-frames-clause-names
+returns-in_err-frames-clause-names c = grows_one c.args.names.now c.number.new.self probe_array_class c.in_ok-array.ensures.names
