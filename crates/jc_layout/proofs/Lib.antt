@@ -8,3 +8,4 @@ pub mod MergedLaws
 pub mod LaidCodeLaws
 pub mod LaidBodyLaws
 pub mod CallLaws
+pub mod LayoutFramesLaws

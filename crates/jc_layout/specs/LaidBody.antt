@@ -1,17 +1,24 @@
 -- The body that the bytes of a layout stand for.
-use Rattle.std.specs.Prelude.{ℕ, Bool, true, false, List, [], ◌∷◌, ◌++◌, map}
+use Rattle.std.specs.Prelude.{◌≡◌, ℕ, ◌<◌, ◌^◌, Bool, true, false, List, [], ◌∷◌, ◌++◌, map, Some}
+use Rattle.jc_methods.specs.VerificationTypes.{Names}
+use Rattle.jc_methods.specs.WellMade.{what_used}
 use Rattle.jc_methods.specs.Widened.{wide_place}
 use Rattle.jc_methods.specs.declared.insn.Insn.{Insn}
 use Rattle.jc_methods.specs.declared.body.Body.{Body}
 use Rattle.jc_methods.specs.declared.body.FrameAt.{FrameAt}
 use Rattle.jc_methods.specs.declared.body.Use.{Use}
 use Rattle.jc_methods.specs.declared.body.VarAt.{VarAt}
+use Rattle.jc_methods.specs.declared.body.What.{What}
+use Rattle.jc_methods.specs.declared.kind.State.{State}
 use Rattle.jc_methods.specs.declared.emitted.Emitted.{Emitted}
-use Rattle.jc_insn.specs.Layouts.{laid_code}
+use Rattle.jc_insn.specs.Layouts.{laid_code, laid_starts}
+use Rattle.jc_insn.specs.Spells.{Spells}
 use Rattle.jc_insn.specs.Writing.{short}
-use Rattle.jc_emit.specs.Emission.{widened_frame}
+use Rattle.jc_emit.specs.Emission.{emission, widened_frame}
 use Rattle.jc_emit.specs.Marks.{invokestatic}
+use Rattle.jc_emit.specs.Twin.{probe_init, Twin}
 use Rattle.jc_emit.specs.TwinTables.{moved_row, moved_line}
+use Rattle.jc_layout.specs.Layout.{chosen_text}
 use Rattle.jc_layout.specs.Merged.{merged}
 
 -- ---- the method that the prelude calls
@@ -59,3 +66,21 @@ laid_body b e wide call uses = record b {
   frames = laid_frames wide e;
   uses = uses;
 }
+
+-- ---- what is said of it
+
+-- In either layout the body is a twin, where the method that the prelude calls has its place among the uses, and those of
+-- the body stay.
+abbrev pub LaidBodiesAreTwins : Names → Body → (first : ℕ) → List State → (array : ℕ) → Type 0
+LaidBodiesAreTwins names b first states array =
+    (wide : Bool) (call : ℕ) (uses : List Use) → what_used uses call ≡ Some (probe_init b.owner)
+    → ((place : ℕ) (what : What) → what_used b.uses place ≡ Some what → what_used uses place ≡ Some what)
+    → Twin names names states first b (laid_body b (emission b first states array) wide call uses)
+
+-- The bytes of the layout that spell the code before the method has its place in the pool spell the code of the body,
+-- once that place stands in the first instruction.
+abbrev pub LaidBodiesAreSpelled : Body → Emitted → Type 0
+LaidBodiesAreSpelled b e =
+    (wide : Bool) (call : ℕ) (uses : List Use) (bytes starts : List ℕ) → call < 2 ^ 16 → bytes ≡ chosen_text e.code
+    → Spells bytes (laid_code wide e.code) (laid_starts wide e.code starts)
+    → Spells (with_place call bytes) (laid_body b e wide call uses).code (laid_starts wide e.code starts)

@@ -1,33 +1,25 @@
 //! Laws of layouts.
 //!
 //! [`each_laid_body_has_a_twin`] is the promise of this crate; the others are steps, which the crates above cite too.
-ghost use Rattle.std.specs.Prelude.{◌≡◌, ◌<◌, ◌^◌, ℕ, Bool, List, Some};
+ghost use Rattle.std.specs.Prelude.{◌≡◌, ℕ, Bool, List};
 ghost use Rattle.jc_methods.specs.VerificationTypes.{Names};
-ghost use Rattle.jc_methods.specs.WellMade.{IsWellMadeOfAnySize, what_used};
+ghost use Rattle.jc_methods.specs.WellMade.{IsWellMadeOfAnySize};
 ghost use Rattle.jc_methods.specs.declared.body.Body.{Body};
-ghost use Rattle.jc_methods.specs.declared.body.Use.{Use};
-ghost use Rattle.jc_methods.specs.declared.body.What.{What};
 ghost use Rattle.jc_methods.specs.declared.emitted.Emitted.{Emitted as Emission};
 ghost use Rattle.jc_methods.specs.declared.insn.Insn.{Insn};
 ghost use Rattle.jc_methods.specs.declared.kind.State.{State};
-ghost use Rattle.jc_insn.specs.Layouts.{laid_code, laid_starts};
 ghost use Rattle.jc_insn.specs.Sizes.{StartAt};
-ghost use Rattle.jc_insn.specs.Spells.{Spells};
 ghost use Rattle.jc_emit.specs.Emission.{emission, HasFrameStates, IsArrayNumber};
-ghost use Rattle.jc_emit.specs.Twin.{probe_init, Twin};
-ghost use Rattle.jc_layout.specs.LaidBody.{with_place, laid_body};
+ghost use Rattle.jc_layout.specs.LaidBody.{LaidBodiesAreSpelled, LaidBodiesAreTwins};
 ghost use Rattle.jc_layout.specs.Layable.{IsLayable};
-ghost use Rattle.jc_layout.specs.Layout.{starts_of, IsChosen, is_wide, chosen_text};
+ghost use Rattle.jc_layout.specs.Layout.{starts_of, IsChosen, is_wide};
 
 /// The body that stands in a layout of the instrumented code is a twin of the body, in either
 /// layout, where the method that the prelude calls has its place in the pool and what the body uses
 /// stays.
 pub fn each_laid_body_has_a_twin()
-    ensures { (b : Body) (first : ℕ) (states : List State) (array : ℕ) (names : Names) (wide : Bool) (call : ℕ) (uses : List Use)
-        → IsWellMadeOfAnySize b → HasFrameStates b states → IsArrayNumber names array
-        → what_used uses call ≡ Some (probe_init b.owner)
-        → ((place : ℕ) (what : What) → what_used b.uses place ≡ Some what → what_used uses place ≡ Some what)
-        → Twin names names states first b (laid_body b (emission b first states array) wide call uses) }
+    ensures { (b : Body) (first : ℕ) (states : List State) (array : ℕ) (names : Names) → IsWellMadeOfAnySize b
+        → HasFrameStates b states → IsArrayNumber names array → LaidBodiesAreTwins names b first states array }
 {}
 
 /// In each layout there is one list of offsets at which the instructions begin, whatever padding
@@ -49,7 +41,5 @@ pub fn each_emission_can_be_laid()
 /// prelude calls, spell the code of that body.
 pub fn each_laid_body_is_spelled()
     ensures { (b : Body) (first : ℕ) (states : List State) (array : ℕ) (e : Emission) → e ≡ emission b first states array
-        → IsWellMadeOfAnySize b → (wide : Bool) (call : ℕ) (uses : List Use) (bytes starts : List ℕ) → call < 2 ^ 16
-        → bytes ≡ chosen_text e.code → Spells bytes (laid_code wide e.code) (laid_starts wide e.code starts)
-        → Spells (with_place call bytes) (laid_body b e wide call uses).code (laid_starts wide e.code starts) }
+        → IsWellMadeOfAnySize b → LaidBodiesAreSpelled b e }
 {}

@@ -63,11 +63,46 @@ fn too_large(length: u32) -> Refusal
     }
 }
 
-/// The bytes of instrumented code (JVM Specification 4.7.3 and 6.5).
+/// The bytes of instructions (JVM Specification 4.7.3 and 6.5).
 ///
 /// Each instruction has its shortest spelling. The layout is narrow, with two bytes for the operand
 /// of a jump, where each jump has room in it. Else it is wide: `goto` is written as `goto_w`, and a
 /// conditional jump as its inverse over a `goto_w`.
+///
+/// # Errors
+///
+/// `CodeTooLarge`, with the length in bytes, where the layout has more than 65,535 bytes, and
+/// `Memory` where memory was refused.
+pub fn layout_code(alloc: Global, insns: &[Insn]) -> Result<Laid, Fail<Refusal>>
+    requires { IsLayable insns.now }
+    // The layout is narrow exactly where each jump has room in two bytes.
+    ensures chosen { IfOk result (λ l. IsChosen insns.now l.wide) }
+    // The instructions begin one directly behind the other.
+    ensures starts { IfOk result (λ l. StartAt l.wide 0 insns.now l.starts) }
+    // The bytes are the shortest spelling of each, and spell the code, in the wide layout its wide form.
+    ensures text { IfOk result (λ l. l.code ≡ chosen_text insns.now) }
+    ensures spelled { IfOk result (λ l. Spells l.code (laid_code l.wide insns.now)
+        (laid_starts l.wide insns.now l.starts)) }
+    ensures size { IfOk result (λ l. length l.code ≡ chosen_length insns.now) }
+    // What is refused has too many bytes, and what is taken hasn't.
+    ensures refused { IfErr result (λ e. IsTooLarge e (chosen_length insns.now)) }
+    ensures taken { IfOk result (λ l. chosen_length insns.now ≤ most_bytes) }
+{
+    let Choice { starts, wide } = choose(alloc, insns)?;
+    let length = starts[insns.len()];
+    if length > MOST_BYTES {
+        return Err(Fail::Said(too_large(length)));
+    }
+    let mut code = Vec::new(alloc);
+    encode(alloc, insns, &starts, wide, &mut code)?;
+    Ok(Laid {
+        code: List::from_vec(code),
+        starts: List::from_vec(starts),
+        wide,
+    })
+}
+
+/// The bytes of instrumented code (JVM Specification 4.7.3 and 6.5): those of its instructions.
 ///
 /// # Errors
 ///
@@ -88,17 +123,5 @@ pub fn layout(alloc: Global, emitted: &Emitted) -> Result<Laid, Fail<Refusal>>
     ensures refused { IfErr result (λ e. IsTooLarge e (chosen_length emitted.now.code)) }
     ensures taken { IfOk result (λ l. chosen_length emitted.now.code ≤ most_bytes) }
 {
-    let insns = emitted.code.as_slice();
-    let Choice { starts, wide } = choose(alloc, insns)?;
-    let length = starts[insns.len()];
-    if length > MOST_BYTES {
-        return Err(Fail::Said(too_large(length)));
-    }
-    let mut code = Vec::new(alloc);
-    encode(alloc, insns, &starts, wide, &mut code)?;
-    Ok(Laid {
-        code: List::from_vec(code),
-        starts: List::from_vec(starts),
-        wide,
-    })
+    layout_code(alloc, &emitted.code)
 }

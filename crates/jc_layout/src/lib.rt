@@ -10,4 +10,4 @@ pub use laws::{
     each_emission_can_be_laid, each_laid_body_has_a_twin, each_laid_body_is_spelled,
     each_layout_is_chosen,
 };
-pub use layouts::{Laid, layout};
+pub use layouts::{Laid, layout, layout_code};
