@@ -1,5 +1,5 @@
 -- A method has one answer: no code, a body, or a reason for which it has none.
-use Rattle.std.proofs.Common.{◌≡◌, ℕ, List, [], ◌∷◌, ◌++◌, map, Some, refl, sym, ◌∙◌, subst}
+use Rattle.std.proofs.Common.{◌≡◌, ℕ, List, [], ◌∷◌, ◌++◌, map, refl, sym, ◌∙◌, subst}
 use Rattle.std.proofs.lemmas.Option.{same_Some}
 use Rattle.jc_methods.specs.declared.body.Body.{Body}
 use Rattle.jc_bytes.specs.declared.refusal.Refusal.{Refusal}
@@ -9,7 +9,6 @@ use Rattle.std.specs.List.{IsDistinct}
 use Rattle.std.specs.Str.{bytes_eq}
 use Rattle.jc_methods.specs.VerificationTypes.{Names, type_state_at}
 use Rattle.jc_methods.specs.WellMade.{TakeSlots}
-use Rattle.jc_pool.specs.Lookup.{class_name_of}
 use Rattle.jc_pool.specs.Pool.{PoolValue}
 use Rattle.jc_class.specs.declared.class_file.ClassFile.{ClassFile}
 use Rattle.jc_class.specs.declared.class_file.Member.{Member}
@@ -20,7 +19,7 @@ use Rattle.jc_body.specs.Attributes.{AreTables}
 use Rattle.jc_body.specs.Faults.{HasSubroutine, OfCode, faults, insn_faults, row_faults, table_faults}
 use Rattle.jc_bytes.specs.Least.{IsNowhere, IsLeast}
 use Rattle.jc_body.specs.First.{Fault, IsFirstFault, AreNowhere}
-use Rattle.jc_body.specs.BodyOf.{places_used, HasParts, IsBody, BodyOf, Bodiless, IsReason, FaultOf}
+use Rattle.jc_body.specs.BodyOf.{places_used, IsNamed, HasParts, IsBody, BodyOf, Bodiless, IsReason, FaultOf}
 use Rattle.jc_body.specs.StackMap.{HasFrames}
 use Rattle.jc_body.proofs.FramesByNamesLaws.{one_numbering}
 use Rattle.jc_body.proofs.StackMapLaws.{one_list}
@@ -78,7 +77,7 @@ bodiless_or_fault c number r none bad =
     no_reason c.major c.pool bad.owner bad.method r.kind r.place (not_stopped c.pool bad.method has_none kinds.Subroutine) (no_faults c.major c.pool bad.owner bad.method has_none) bad.reason
 
 -- the reason in a class with this name, and in a method that stands there too
-same_reason : (c : ClassFile) (owner other : List ℕ) (method last : Member) (r : Refusal) → class_name_of c.pool c.this_class ≡ Some owner → class_name_of c.pool c.this_class ≡ Some other → method ≡ last
+same_reason : (c : ClassFile) (owner other : List ℕ) (method last : Member) (r : Refusal) → IsNamed c owner → IsNamed c other → method ≡ last
     → IsReason c.major c.pool owner method r.kind r.place → IsReason c.major c.pool other last r.kind r.place
 same_reason c owner other method last r one two same reason =
     subst (λ (o : List ℕ). IsReason c.major c.pool o last r.kind r.place) (same_Some _ _ (sym one ∙ two))
@@ -98,51 +97,53 @@ one_fault c number r s p q =
 
 -- ---- one body
 
-one_parts : (names : Names) (c : ClassFile) (number : ℕ) (method : Member) (coded : Coded) (tables : Tables) (a b : Body) → IsDistinct bytes_eq names → HasParts names c number method coded tables a → HasParts names c number method coded tables b → a ≡ b
-one_parts names c number method coded tables a b distinct p q =
-    let numbers = p.number_is ∙ sym q.number_is in
-    let owner = same_Some _ _ (sym p.owner ∙ q.owner) in
-    let name = same_Some _ _ (sym p.name ∙ q.name) in
-    let desc = same_Some _ _ (sym p.desc ∙ q.desc) in
-    let flags = p.flags ∙ sym q.flags in
-    let slots = one_take method.flags b.desc a.arg_slots b.arg_slots (subst (λ (d : List ℕ). TakeSlots method.flags d a.arg_slots) desc p.arg_slots) q.arg_slots in
-    let max_stack = p.max_stack ∙ sym q.max_stack in
-    let max_locals = p.max_locals ∙ sym q.max_locals in
-    let code = p.code ∙ sym q.code in
-    let handlers = p.handlers ∙ sym q.handlers in
-    let lines = p.lines ∙ sym q.lines in
-    let vars = p.vars ∙ sym q.vars in
-    let kind_vars = p.kind_vars ∙ sym q.kind_vars in
-    let listed = one_list c.pool b.owner method coded (map (type_state_at names) a.frames) (map (type_state_at names) b.frames)
-    (subst (λ (o : List ℕ). HasFrames c.pool o method coded (map (type_state_at names) a.frames)) owner p.frames) q.frames in
-    let frames = one_numbering names distinct a.frames b.frames p.numbers q.numbers listed in
-    let uses = one_uses c.pool (places_used coded.insns coded.items.rows) a.uses b.uses p.uses q.uses in
-    λ i. record {
-      method = numbers i;
-      owner = owner i;
-      name = name i;
-      desc = desc i;
-      flags = flags i;
-      arg_slots = slots i;
-      max_stack = max_stack i;
-      max_locals = max_locals i;
-      code = code i;
-      handlers = handlers i;
-      lines = lines i;
-      vars = vars i;
-      kind_vars = kind_vars i;
-      frames = frames i;
-      uses = uses i;
-    }
+module _ (names : Names) (distinct : IsDistinct bytes_eq names) (c : ClassFile) (number : ℕ) where
+  one_parts : (method : Member) (coded : Coded) (tables : Tables) (a b : Body) → HasParts names c number method coded tables a
+      → HasParts names c number method coded tables b → a ≡ b
+  one_parts method coded tables a b p q =
+      let numbers = p.number_is ∙ sym q.number_is in
+      let owner = same_Some _ _ (sym p.owner ∙ q.owner) in
+      let name = same_Some _ _ (sym p.name ∙ q.name) in
+      let desc = same_Some _ _ (sym p.desc ∙ q.desc) in
+      let flags = p.flags ∙ sym q.flags in
+      let slots = one_take method.flags b.desc a.arg_slots b.arg_slots (subst (λ (d : List ℕ). TakeSlots method.flags d a.arg_slots) desc p.arg_slots) q.arg_slots in
+      let max_stack = p.max_stack ∙ sym q.max_stack in
+      let max_locals = p.max_locals ∙ sym q.max_locals in
+      let code = p.code ∙ sym q.code in
+      let handlers = p.handlers ∙ sym q.handlers in
+      let lines = p.lines ∙ sym q.lines in
+      let vars = p.vars ∙ sym q.vars in
+      let kind_vars = p.kind_vars ∙ sym q.kind_vars in
+      let listed = one_list c.pool b.owner method coded (map (type_state_at names) a.frames) (map (type_state_at names) b.frames)
+      (subst (λ (o : List ℕ). HasFrames c.pool o method coded (map (type_state_at names) a.frames)) owner p.frames) q.frames in
+      let frames = one_numbering names distinct a.frames b.frames p.numbers q.numbers listed in
+      let uses = one_uses c.pool (places_used coded.insns coded.items.rows) a.uses b.uses p.uses q.uses in
+      λ i. record {
+        method = numbers i;
+        owner = owner i;
+        name = name i;
+        desc = desc i;
+        flags = flags i;
+        arg_slots = slots i;
+        max_stack = max_stack i;
+        max_locals = max_locals i;
+        code = code i;
+        handlers = handlers i;
+        lines = lines i;
+        vars = vars i;
+        kind_vars = kind_vars i;
+        frames = frames i;
+        uses = uses i;
+      }
 
-one_is_body : (names : Names) (c : ClassFile) (number : ℕ) (method : Member) (a b : Body) → IsDistinct bytes_eq names → IsBody names c number method a → IsBody names c number method b → a ≡ b
-one_is_body names c number method a b distinct p q =
-    let coded = one_coded c.pool method p.coded q.coded p.is q.is in
-    let tables = one_tables c.pool q.coded.items.attributes p.tables q.tables (subst (λ (d : Coded). AreTables c.pool d.items.attributes p.tables) coded p.are_tables) q.are_tables in
-    let parts = subst (λ (d : Coded). HasParts names c number method d p.tables a) coded p.parts in
-    one_parts names c number method q.coded q.tables a b distinct (subst (λ (t : Tables). HasParts names c number method q.coded t a) tables parts) q.parts
+  one_is_body : (method : Member) (a b : Body) → IsBody names c number method a → IsBody names c number method b → a ≡ b
+  one_is_body method a b p q =
+      let coded = one_coded c.pool method p.coded q.coded p.is q.is in
+      let tables = one_tables c.pool q.coded.items.attributes p.tables q.tables (subst (λ (d : Coded). AreTables c.pool d.items.attributes p.tables) coded p.are_tables) q.are_tables in
+      let parts = subst (λ (d : Coded). HasParts names c number method d p.tables a) coded p.parts in
+      one_parts method q.coded q.tables a b (subst (λ (t : Tables). HasParts names c number method q.coded t a) tables parts) q.parts
 
 pub one_body : (names : Names) (c : ClassFile) (number : ℕ) (a b : Body) → IsDistinct bytes_eq names → BodyOf names c number a → BodyOf names c number b → a ≡ b
 one_body names c number a b distinct p q =
     let same = same_Some _ _ (sym p.at ∙ q.at) in
-    one_is_body names c number q.method a b distinct (subst (λ (m : Member). IsBody names c number m a) same p.is) q.is
+    one_is_body names distinct c number q.method a b (subst (λ (m : Member). IsBody names c number m a) same p.is) q.is

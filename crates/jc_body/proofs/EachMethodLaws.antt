@@ -26,9 +26,9 @@ use Rattle.jc_body.specs.CodeForm.{IsCodeText}
 use Rattle.jc_body.specs.Coded.{HasCode, HasItems, IsCoded, code_bodies}
 use Rattle.jc_body.specs.Faults.{NoSingleCode, HasSubroutine, faults, insn_faults, row_faults, table_faults}
 use Rattle.jc_bytes.specs.Least.{IsNowhere}
-use Rattle.jc_body.specs.First.{IsFirstFault, AreNowhere}
+use Rattle.jc_body.specs.First.{Fault, IsFirstFault, AreNowhere}
 use Rattle.jc_body.specs.BodyOf.{BodyOf, Bodiless, IsReason, FaultOf, handler_of, lines_of, vars_of, places_used}
-use Rattle.jc_body.specs.StackMap.{BeginsWith, HasFrames, BadStackMap}
+use Rattle.jc_body.specs.StackMap.{BeginsWith, HasFrames, HasFramesOrFault}
 use Rattle.jc_body.proofs.FramesByNamesLaws.{some_numbering}
 use Rattle.jc_body.proofs.StackMapLaws.{each_map}
 use Rattle.jc_body.proofs.OrderLaws.{each_decided}
@@ -50,9 +50,13 @@ module _ (c : ClassFile) (number : ℕ) (method : Member) (at : slice_get c.meth
   refused : (kind : RefusalKind) (place : ℕ) → IsReason c.major c.pool owner.0 method kind place → Answer c number
   refused kind place reason = inr (inr (record { kind = kind; method = Some number; place = place }, record { method = method; at = at; owner = owner.0; owner_is = owner.1; method_is = refl; reason = reason }))
 
-  made : (coded : Coded) → IsCoded c.pool method coded → IsNowhere (HasSubroutine c.pool method) → AreNowhere (faults c.major c.pool owner.0 method)
-      → (tables : Tables) → AreTables c.pool coded.items.attributes tables → (frames : List TypeStateAt) → HasFrames c.pool owner.0 method coded frames → Answer c number
-  made coded is_coded no_subroutine no_fault tables are_tables frames has_frames =
+  -- the method has no subroutine instruction and no fault
+  abbrev IsFaultless : Type 0
+  IsFaultless = IsNowhere (HasSubroutine c.pool method) × AreNowhere (faults c.major c.pool owner.0 method)
+
+  made : (coded : Coded) → IsCoded c.pool method coded → IsFaultless → (tables : Tables) → AreTables c.pool coded.items.attributes tables
+      → (frames : List TypeStateAt) → HasFrames c.pool owner.0 method coded frames → Answer c number
+  made coded is_coded faultless tables are_tables frames has_frames =
       let numbering = some_numbering frames in
       let uses = some_uses c.pool (places_used coded.insns coded.items.rows) in
       let slots = each_take method.flags is.desc.0 is.desc.2 in
@@ -83,8 +87,8 @@ module _ (c : ClassFile) (number : ℕ) (method : Member) (at : slice_get c.meth
           is = record {
             coded = coded;
             is = is_coded;
-            no_subroutine = no_subroutine;
-            no_fault = no_fault;
+            no_subroutine = faultless.0;
+            no_fault = faultless.1;
             tables = tables;
             are_tables = are_tables;
             parts = record {
@@ -109,10 +113,16 @@ module _ (c : ClassFile) (number : ℕ) (method : Member) (at : slice_get c.meth
         },
       ))
 
+  -- the faults of the code, once its instructions are read, in their order
+  abbrev faults_of : Coded → List Fault
+  faults_of coded = map (λ F. F coded) (insn_faults c.major c.pool ++ (row_faults c.pool method ++ table_faults c.pool owner.0 method))
+
   with_code : (coded : Coded) → IsCoded c.pool method coded → Answer c number
-  with_code coded is_coded = by (each_decided (map (λ F. F coded) (insn_faults c.major c.pool ++ (row_faults c.pool method ++ table_faults c.pool owner.0 method))) (all_decided c.major c.pool owner.0 method coded (are_starts coded.items.code coded.insns coded.starts is_coded.spelled) is.name.0 is.desc.0 is.name.1 is.desc.1 is.desc.2))
+  with_code coded is_coded = by (each_decided (faults_of coded) (all_decided c.major c.pool owner.0 method coded (are_starts coded.items.code coded.insns coded.starts is_coded.spelled) is.name.0 is.desc.0 is.name.1 is.desc.1 is.desc.2))
     where
-      by_tables : AreNowhere (map (λ F. F coded) (insn_faults c.major c.pool ++ (row_faults c.pool method ++ table_faults c.pool owner.0 method))) → ((tables : Tables) × AreTables c.pool coded.items.attributes tables) ⊎ ((tables : Tables) → AreTables c.pool coded.items.attributes tables → ⊥) → Answer c number
+      by_tables : AreNowhere (faults_of coded)
+          → ((tables : Tables) × AreTables c.pool coded.items.attributes tables) ⊎ ((tables : Tables) → AreTables c.pool coded.items.attributes tables → ⊥)
+          → Answer c number
       by_tables none (inl t) = by_map (each_map c.pool owner.0 method coded entry begins)
         where
           entry : TypeState
@@ -121,12 +131,12 @@ module _ (c : ClassFile) (number : ℕ) (method : Member) (at : slice_get c.meth
           begins : BeginsWith c.pool owner.0 method coded entry
           begins = record { name = is.name.0; desc = is.desc.0; name_is = is.name.1; desc_is = is.desc.1; entry_is = refl }
 
-          by_map : ((frames : List TypeStateAt) × HasFrames c.pool owner.0 method coded frames) ⊎ ((place : ℕ) × BadStackMap c.pool owner.0 method coded place) → Answer c number
-          by_map (inl f) = let without = coded_without c.major c.pool owner.0 method coded is_coded none in made coded is_coded without.0 without.1 t.0 t.1 f.0 f.1
+          by_map : HasFramesOrFault c.pool owner.0 method coded → Answer c number
+          by_map (inl f) = made coded is_coded (coded_without c.major c.pool owner.0 method coded is_coded none) t.0 t.1 f.0 f.1
           by_map (inr bad) = absurd (none.1.1.1.1.1.1.0 bad.0 bad.1)
       by_tables none (inr bad) = absurd (none.1.1.1.1.1.0 0 (record { at = refl; fault = bad }))
 
-      by : ((place : ℕ) × IsFirstFault (map (λ F. F coded) (insn_faults c.major c.pool ++ (row_faults c.pool method ++ table_faults c.pool owner.0 method))) place) ⊎ AreNowhere (map (λ F. F coded) (insn_faults c.major c.pool ++ (row_faults c.pool method ++ table_faults c.pool owner.0 method))) → Answer c number
+      by : ((place : ℕ) × IsFirstFault (faults_of coded) place) ⊎ AreNowhere (faults_of coded) → Answer c number
       by (inl first) = refused kinds.BadCode first.0 (coded_reason c.major c.pool owner.0 method coded is_coded first.0 first.1)
       by (inr none) = by_tables none (tables_or_none c.pool coded.items.attributes)
 

@@ -1,13 +1,11 @@
 -- The code of a method has frames, or a fault of its stack map table.
-use Rattle.std.proofs.Common.{◌≡◌, ◌⊎◌, inl, inr, ⊎_elim, ℕ, ◌<◌, ◌≤◌, List, [], ◌∷◌, length, map, Option, Some, None, MatchOption, refl, sym, ◌∙◌, ap, subst, arith, Bor}
+use Rattle.std.proofs.Common.{◌≡◌, inl, inr, ⊎_elim, ℕ, ◌<◌, ◌≤◌, List, [], ◌∷◌, length, Option, Some, None, MatchOption, refl, sym, ◌∙◌, ap, subst, arith, Bor}
 use Rattle.std.proofs.lemmas.Option.{same_Some}
 use Rattle.jc_methods.specs.declared.insn.Insn.{Insn}
-use Rattle.jc_methods.specs.declared.body.FrameAt.{FrameAt}
 use Rattle.jc_bytes.specs.declared.refusal.Refusal.{Refusal}
 use Rattle.jc_bytes.specs.Least.{IsNowhere, IsLeast}
-use Rattle.jc_methods.specs.VerificationTypes.{Names, TypeState, TypeStateAt, type_state, type_state_at, AreNumberedFrames}
+use Rattle.jc_methods.specs.VerificationTypes.{Names, TypeState, TypeStateAt, type_state}
 use Rattle.jc_methods.specs.EntryState.{entry_seen}
-use Rattle.jc_pool.specs.Lookup.{utf8_of}
 use Rattle.jc_pool.specs.Pool.{PoolValue}
 use Rattle.jc_class.specs.declared.class_file.Member.{Member}
 use Rattle.jc_methods.specs.declared.kind.State.{State}
@@ -20,7 +18,7 @@ use Rattle.jc_body.specs.Coded.{IsCoded}
 use Rattle.jc_body.proofs.SizeLaws.{insns_short, starts_of}
 use Rattle.jc_body.proofs.TablesLaws.{texts}
 use Rattle.jc_body.specs.Faults.{TooWide}
-use Rattle.jc_body.specs.StackMap.{stack_maps, ground_of, BeginsWith, HasFrames, BadStackMap, IsEntry}
+use Rattle.jc_body.specs.StackMap.{stack_maps, ground_of, BeginsWith, HasFrames, HasFramesOrFault, BadStackMap, IsEntry}
 use Rattle.jc_body.specs.Answers.{bad_code, AreFramesOf, IsFrameRefusal}
 
 none_one : {X : Type 0} {x : X} {xs : List X} → [] ≡ x ∷ xs → ⊥
@@ -42,27 +40,29 @@ one_entry pool owner method coded a b p q =
     ∙ ap (λ (d : List ℕ). entry_seen owner q.name d method.flags coded.items.max_locals) desc
     ∙ sym q.entry_is
 
-pub each_map : (pool : PoolValue) (owner : List ℕ) (method : Member) (coded : Coded) (entry : TypeState) → BeginsWith pool owner method coded entry
-    → ((frames : List TypeStateAt) × HasFrames pool owner method coded frames) ⊎ ((place : ℕ) × BadStackMap pool owner method coded place)
-each_map pool owner method coded entry begins = by (stack_maps pool coded) refl
-  where
-    read : (table : List ℕ) → stack_maps pool coded ≡ table ∷ [] → (o : Outcome) → outcome_of (ground_of pool coded) entry table ≡ o
-        → ((frames : List TypeStateAt) × HasFrames pool owner method coded frames) ⊎ ((place : ℕ) × BadStackMap pool owner method coded place)
-    read table is (stands_for frames) e = inl (frames, record { entry = entry; begins = begins; frames_are = inr (table, is, table_good (ground_of pool coded) entry table frames e) })
-    read table is (at_fault place) e = inr (place, inr (record { entry = entry; begins = begins; table = table; is = is; fault = table_bad (ground_of pool coded) entry table place e }))
-
-    by : (tables : List (List ℕ)) → stack_maps pool coded ≡ tables → ((frames : List TypeStateAt) × HasFrames pool owner method coded frames) ⊎ ((place : ℕ) × BadStackMap pool owner method coded place)
-    by [] is = inl ([], record { entry = entry; begins = begins; frames_are = inl (is, refl) })
-    by (table ∷ []) is = read table is (outcome_of (ground_of pool coded) entry table) refl
-    by (first ∷ second ∷ others) is = inr (0, inl (record { at = refl; first = first; second = second; others = others; are = is }))
-
 module _ (pool : PoolValue) (owner : List ℕ) (method : Member) (coded : Coded) where
+  -- what a table of the code comes to, over this state
+  abbrev outcome : TypeState → List ℕ → Outcome
+  outcome entry table = outcome_of (ground_of pool coded) entry table
+
+  pub each_map : (entry : TypeState) → BeginsWith pool owner method coded entry → HasFramesOrFault pool owner method coded
+  each_map entry begins = by (stack_maps pool coded) refl
+    where
+      read : (table : List ℕ) → stack_maps pool coded ≡ table ∷ [] → (o : Outcome) → outcome entry table ≡ o → HasFramesOrFault pool owner method coded
+      read table is (stands_for frames) e = inl (frames, record { entry = entry; begins = begins; frames_are = inr (table, is, table_good (ground_of pool coded) entry table frames e) })
+      read table is (at_fault place) e = inr (place, inr (record { entry = entry; begins = begins; table = table; is = is; fault = table_bad (ground_of pool coded) entry table place e }))
+
+      by : (tables : List (List ℕ)) → stack_maps pool coded ≡ tables → HasFramesOrFault pool owner method coded
+      by [] is = inl ([], record { entry = entry; begins = begins; frames_are = inl (is, refl) })
+      by (table ∷ []) is = read table is (outcome entry table) refl
+      by (first ∷ second ∷ others) is = inr (0, inl (record { at = refl; first = first; second = second; others = others; are = is }))
+
   -- the same table, read over the same state
-  same_outcome : (table other : List ℕ) (a b : TypeState) → stack_maps pool coded ≡ table ∷ [] → stack_maps pool coded ≡ other ∷ [] → BeginsWith pool owner method coded a → BeginsWith pool owner method coded b
-      → outcome_of (ground_of pool coded) a table ≡ outcome_of (ground_of pool coded) b other
+  same_outcome : (table other : List ℕ) (a b : TypeState) → stack_maps pool coded ≡ table ∷ [] → stack_maps pool coded ≡ other ∷ []
+      → BeginsWith pool owner method coded a → BeginsWith pool owner method coded b → outcome a table ≡ outcome b other
   same_outcome table other a b p q begin end =
-      ap (λ (s : TypeState). outcome_of (ground_of pool coded) s table) (one_entry pool owner method coded a b begin end)
-      ∙ ap (outcome_of (ground_of pool coded) b) (head_is table other [] [] (sym p ∙ q))
+      ap (λ (s : TypeState). outcome s table) (one_entry pool owner method coded a b begin end)
+      ∙ ap (outcome b) (head_is table other [] [] (sym p ∙ q))
 
   pub apart : (frames : List TypeStateAt) (place : ℕ) → HasFrames pool owner method coded frames → BadStackMap pool owner method coded place → ⊥
   apart frames place h (inl s) = ⊎_elim
@@ -106,30 +106,27 @@ module _ (pool : PoolValue) (owner : List ℕ) (method : Member) (coded : Coded)
 pub nowhere_wide : (coded : Coded) → (TooWide coded 0 → ⊥) → IsNowhere (TooWide coded)
 nowhere_wide coded none place wide = none (record { at = refl; fault = wide.fault })
 
--- there is no table, and so there are no frames and no fault
-pub no_frames : (names : Names) (pool : PoolValue) (owner : List ℕ) (method : Member) (coded : Coded) (name desc : List ℕ) (frames : List FrameAt) (bodies : List (Bor (List ℕ)))
-    → utf8_of pool method.name ≡ Some name → utf8_of pool method.desc ≡ Some desc → frames ≡ [] → texts bodies ≡ stack_maps pool coded → length bodies < 1 → (TooWide coded 0 → ⊥) → AreFramesOf names pool owner method coded frames
-no_frames names pool owner method coded name desc frames (body ∷ bodies) name_is desc_is none are few narrow = absurd (omega (arith, few))
-no_frames names pool owner method coded name desc frames [] name_is desc_is none are few narrow =
-    let has : HasFrames pool owner method coded [] = record {
-      entry = entry_seen owner name desc method.flags coded.items.max_locals;
-      begins = record { name = name; desc = desc; name_is = name_is; desc_is = desc_is; entry_is = refl };
-      frames_are = inl (sym are, refl);
-    } in
-    record {
-      frames_are = subst (λ (l : List FrameAt). HasFrames pool owner method coded (map (type_state_at names) l)) (sym none) has;
-      numbers = subst (λ (l : List FrameAt). AreNumberedFrames (length names) l) (sym none) tt;
-      no_fault = λ place bad. apart pool owner method coded [] place has bad;
-      narrow = nowhere_wide coded narrow;
-    }
+module _ (pool : PoolValue) (owner : List ℕ) (method : Member) (coded : Coded) where
+  -- there is no table, and so there are no frames and no fault
+  pub no_frames : (names : Names) (entry : TypeState) (bodies : List (Bor (List ℕ))) → BeginsWith pool owner method coded entry
+      → texts bodies ≡ stack_maps pool coded → length bodies < 1 → (TooWide coded 0 → ⊥) → AreFramesOf names pool owner method coded []
+  no_frames names entry (body ∷ bodies) begins are few narrow = absurd (omega (arith, few))
+  no_frames names entry [] begins are few narrow =
+      let has : HasFrames pool owner method coded [] = record { entry = entry; begins = begins; frames_are = inl (sym are, refl) } in
+      record {
+        frames_are = has;
+        numbers = tt;
+        no_fault = λ place bad. apart pool owner method coded [] place has bad;
+        narrow = nowhere_wide coded narrow;
+      }
 
--- two tables or more
-pub several_tables : (pool : PoolValue) (owner : List ℕ) (method : Member) (coded : Coded) (number : ℕ) (refusal : Refusal) (bodies : List (Bor (List ℕ))) → refusal ≡ bad_code number 0 → texts bodies ≡ stack_maps pool coded → 2 ≤ length bodies
-    → IsFrameRefusal pool owner method coded number refusal
-several_tables pool owner method coded number refusal [] is are more = absurd (omega (arith, more))
-several_tables pool owner method coded number refusal (x ∷ []) is are more = absurd (omega (arith, more))
-several_tables pool owner method coded number refusal (x ∷ y ∷ bodies) is are more =
-    inl (0, is, inl (record { at = refl; first = x.now; second = y.now; others = texts bodies; are = sym are }))
+  -- two tables or more
+  pub several_tables : (number : ℕ) (refusal : Refusal) (bodies : List (Bor (List ℕ))) → refusal ≡ bad_code number 0 → texts bodies ≡ stack_maps pool coded
+      → 2 ≤ length bodies → IsFrameRefusal pool owner method coded number refusal
+  several_tables number refusal [] is are more = absurd (omega (arith, more))
+  several_tables number refusal (x ∷ []) is are more = absurd (omega (arith, more))
+  several_tables number refusal (x ∷ y ∷ bodies) is are more =
+      inl (0, is, inl (record { at = refl; first = x.now; second = y.now; others = texts bodies; are = sym are }))
 
 -- what judging and reading the one table tell, over the code as it was lent and the local variables that the state at
 -- the beginning has

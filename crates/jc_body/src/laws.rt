@@ -13,7 +13,7 @@ ghost use Rattle.jc_class.specs.declared.class_file.Member.{Member};
 ghost use Rattle.jc_class.specs.Writable.{IsClassFile};
 ghost use Rattle.jc_body.specs.BodyOf.{BodyOf, Bodiless, FaultOf};
 ghost use Rattle.jc_body.specs.declared.coded.Coded.{Coded};
-ghost use Rattle.jc_body.specs.StackMap.{BeginsWith, HasFrames, BadStackMap};
+ghost use Rattle.jc_body.specs.StackMap.{BeginsWith, HasFrames, HasFramesOrFault, BadStackMap};
 
 /// A method of a class file is bodiless, or has a body under some list of different names, or has a fault or a
 /// subroutine instruction; and only one of these, once. Under a list of different names it has one body.
@@ -34,8 +34,7 @@ pub fn each_method_has_one_answer()
 /// The code of a method has frames or a fault of its stack map table, and only one of these, once.
 pub fn each_stack_map_has_frames_or_a_fault()
     ensures each { (pool : PoolValue) (owner : List ℕ) (method : Member) (coded : Coded) (entry : TypeState)
-        → BeginsWith pool owner method coded entry
-        → ((frames : List TypeStateAt) × HasFrames pool owner method coded frames) ⊎ ((place : ℕ) × BadStackMap pool owner method coded place) }
+        → BeginsWith pool owner method coded entry → HasFramesOrFault pool owner method coded }
     ensures apart { (pool : PoolValue) (owner : List ℕ) (method : Member) (coded : Coded) (frames : List TypeStateAt) (place : ℕ)
         → HasFrames pool owner method coded frames → BadStackMap pool owner method coded place → ⊥ }
     ensures one_list { (pool : PoolValue) (owner : List ℕ) (method : Member) (coded : Coded) (a b : List TypeStateAt)

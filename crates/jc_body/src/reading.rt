@@ -1,11 +1,11 @@
 //! Reading the body of a method.
 ghost use Rattle.std.specs.Prelude.{◌≡◌, ◌⊎◌, ◌<◌, ◌≤◌, ◌++◌, ℕ, List as Seq, Some, None, length, map};
 ghost use Rattle.std.specs.Prelude.{IfOk, IfErr, IfSome, MatchOption, MatchResult, All, IsTrue};
-ghost use Rattle.jc_methods.specs.VerificationTypes.{Names as AllNames, Grows, type_state_at, AreNumberedFrames};
+ghost use Rattle.jc_methods.specs.VerificationTypes.{Names as AllNames, Grows};
 ghost use Rattle.jc_methods.specs.WellMade.{IsCounted, IsWellMade};
 ghost use Rattle.jc_bytes.specs.Reader.{most_read};
 ghost use Rattle.jc_pool.specs.Lookup.{class_name_of};
-ghost use Rattle.jc_body.specs.StackMap.{HasFrames};
+ghost use Rattle.jc_body.specs.StackMap.{HasNumberedFrames};
 ghost use Rattle.jc_methods.specs.declared.body.Body.{Body as BodyValue};
 ghost use Rattle.jc_methods.specs.declared.body.FrameAt.{FrameAt as Frame};
 ghost use Rattle.jc_bytes.specs.declared.refusal.Refusal.{Refusal as Reason};
@@ -18,7 +18,7 @@ ghost use Rattle.jc_body.specs.Coded.{HasNoCode, IsCoded};
 ghost use Rattle.jc_body.specs.Numbering.{Numbers};
 ghost use Rattle.jc_body.specs.Answers.{IsRefusal};
 ghost use Rattle.jc_bytes.specs.Failing.{Said};
-ghost use Rattle.jc_body.specs.BodyOf.{HasPartsWith, IsBody, BodyOf, Bodiless, FaultOf};
+ghost use Rattle.jc_body.specs.BodyOf.{HasPartsWith, IsNamed, IsBody, BodyOf, Bodiless, FaultOf};
 ghost use Rattle.jc_body.specs.Sizes.{HasShortParts, HasSmallParts};
 
 use crate::code::{bad_code, read_coded};
@@ -50,8 +50,8 @@ fn assembled(
     requires desc { HasMethodDescriptor class.now.pool method.now.desc }
     requires arguments { IsNowhere (ArgumentsOutside class.now.pool method.now coded) }
     requires offsets { Numbers coded offsets.now }
-    ensures parts { (names : AllNames) (owner : Seq ℕ) (frames : Seq Frame) → class_name_of class.now.pool class.now.this_class ≡ Some owner
-        → HasFrames class.now.pool owner method.now coded (map (type_state_at names) frames) → AreNumberedFrames (length names) frames
+    ensures parts { (names : AllNames) (owner : Seq ℕ) (frames : Seq Frame) → IsNamed class.now owner
+        → HasNumberedFrames names class.now.pool owner method.now coded frames
         → IfOk result (HasPartsWith names class.now number method.now coded tables.now frames) }
     ensures texts { IfOk result HasShortParts }
 {

@@ -12,7 +12,7 @@ overflow_cast-result c =
     omega (arith, few, small)
 
 pub returns-clause-parts : goal.returns-clause-parts
-returns-clause-parts c = λ names owner frames owner_is has numbered.
+returns-clause-parts c = λ names owner frames owner_is has.
     let coded = c.args.coded in
     let offsets = c.args.offsets.now in
     let numbers = c.requires.offsets in
@@ -32,7 +32,7 @@ returns-clause-parts c = λ names owner frames owner_is has numbered.
       lines = lines_by coded offsets numbers c.in_ok-lines_of.field-0 c.deref-2.result.now c.args.tables.now.lines (search rules) c.in_ok-lines_of.ensures;
       vars = vars_by coded offsets numbers max_locals c.in_ok-vars_of.field-0 c.deref-3.result.now c.args.tables.now.vars (search rules) c.in_ok-vars_of.ensures;
       kind_vars = vars_by coded offsets numbers max_locals c.in_ok-vars_of-2.field-0 c.deref-4.result.now c.args.tables.now.kind_vars (search rules) c.in_ok-vars_of-2.ensures;
-      frames = frames_by names c.args.class.now.pool c.args.method.now coded owner c.in_ok-copy_of.field-0 frames (same_Some _ _ (sym owner_is ∙ named)) has;
-      numbers = numbered;
+      frames = frames_by names c.args.class.now.pool c.args.method.now coded owner c.in_ok-copy_of.field-0 frames (same_Some _ _ (sym owner_is ∙ named)) has.0;
+      numbers = has.1;
       uses = search rules;
     }

@@ -26,7 +26,7 @@ returns-clause-body c =
     let owner = c.class_name_at-owner.result.now in
     let found = c.in_ok-frames.ensures.frames in
     let none = nothing_wrong class.major class.pool owner c.args.method.now c.args.number c.args.coded c.requires.coded c.in_ok-tables.field-0 c.in-Some.tables c.requires.before (search rules) (search rules) found.no_fault found.narrow in
-    let made = c.in_ok-body.ensures.parts c.frames_of.new.names owner c.in_ok-frames.frames c.class_name_at-owner.ensures.text found.frames_are found.numbers in
+    let made = c.in_ok-body.ensures.parts c.frames_of.new.names owner c.in_ok-frames.frames c.class_name_at-owner.ensures.text (found.frames_are, found.numbers) in
     let same = sym c.in_ok-with_counted_lists.ensures.same in
     let parts = subst (HasParts c.frames_of.new.names class c.args.number c.args.method.now c.args.coded c.in-Some.tables) same made in
     record {

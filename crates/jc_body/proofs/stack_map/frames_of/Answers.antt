@@ -1,4 +1,6 @@
-use Rattle.std.proofs.Common.{[], codes, rules, ◌∙◌, ap}
+use Rattle.std.proofs.Common.{[], codes, rules, refl, sym, ◌∙◌, ap, subst}
+use Rattle.jc_methods.specs.EntryState.{entry_seen}
+use Rattle.jc_body.specs.Answers.{AreFramesOf}
 use Rattle.jc_body.specs.Attributes.{bodies_of}
 use Rattle.jc_body.proofs.SizeLaws.{insns_short}
 use Rattle.jc_body.proofs.StackMapLaws.{no_frames, several_tables}
@@ -10,8 +12,12 @@ is_too_wide-requires c = insns_short c.args.pool.now c.args.method.now c.args.co
 
 pub returns-in-empty-2-clause-frames : goal.returns-in-empty-2-clause-frames
 returns-in-empty-2-clause-frames c =
-    no_frames c.args.names.now c.args.pool.now c.args.owner.now c.args.method.now c.args.coded.now c.requires.name.0 c.requires.desc.0 c.new.result c.as_slice.result.now c.requires.name.1 c.requires.desc.1 c.new.ensures
-    (ap texts c.as_slice.ensures.value ∙ (c.in_ok-tables.ensures ∙ ap (bodies_of c.args.pool.now (codes "StackMapTable")) c.deref.ensures)) c.in-empty.len_below (search rules)
+    let method = c.args.method.now in
+    let entry = entry_seen c.args.owner.now c.requires.name.0 c.requires.desc.0 method.flags c.args.coded.now.items.max_locals in
+    subst (AreFramesOf c.args.names.now c.args.pool.now c.args.owner.now method c.args.coded.now) (sym c.new.ensures)
+    (no_frames c.args.pool.now c.args.owner.now method c.args.coded.now c.args.names.now entry c.as_slice.result.now
+    (record { name = c.requires.name.0; desc = c.requires.desc.0; name_is = c.requires.name.1; desc_is = c.requires.desc.1; entry_is = refl })
+    (ap texts c.as_slice.ensures.value ∙ (c.in_ok-tables.ensures ∙ ap (bodies_of c.args.pool.now (codes "StackMapTable")) c.deref.ensures)) c.in-empty.len_below (search rules))
 
 pub frames_of_table-requires-clause-short : goal.frames_of_table-requires-clause-short
 frames_of_table-requires-clause-short c =
