@@ -5,6 +5,7 @@ pub mod InitProbesLaws
 pub mod KeptStaticsLaws
 pub mod MovedCodeLaws
 pub mod MovedTwinLaws
+pub mod PlaceLaws
 pub mod SecondLinkingLaws
 pub mod SecondReasonLaws
 pub mod SomeProgramLaws

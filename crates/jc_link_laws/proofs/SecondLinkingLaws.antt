@@ -27,6 +27,7 @@ use Rattle.jc_linking.proofs.LinkingLaws.{no_reason}
 use Rattle.jc_link_laws.specs.SecondLinking.{IsSecondRefusal, one_id as ids_of, too_wide}
 use Rattle.jc_link_laws.specs.TwinFiles.{AreWrittenOf, IsShortFile, IsWrittenOf, IsWrittenTwin}
 use Rattle.jc_link_laws.proofs.ChangedPairLaws.{probes_new}
+use Rattle.jc_link_laws.proofs.PlaceLaws.{linked_at, class_at}
 use Rattle.jc_link_laws.proofs.SecondReasonLaws.{twin_reason}
 use Rattle.jc_link_laws.proofs.TwinLinkLaws.{pair}
 use Rattle.jc_link_laws.proofs.TwinPairLaws.{no_probes, none_added, unchanged_pair}
@@ -40,21 +41,6 @@ written_at [] (x ∷ written) w i text at = absurd w
 written_at (o ∷ originals) [] w i text at = absurd w
 written_at (o ∷ originals) (x ∷ written) w zero text at = (o, refl, subst (IsWrittenOf o) (same_Some x text at) w.0)
 written_at (o ∷ originals) (x ∷ written) w (suc i) text at = written_at originals written w.1 i text at
-
-linked_at : (names : Names) (files : List (List ℕ)) (classes : List Linked) → AreLinkedClasses names files classes → (i : ℕ) (bytes : List ℕ) → slice_get files i ≡ Some bytes
-    → (l : Linked) × (slice_get classes i ≡ Some l) × IsLinkedClass names bytes l
-linked_at names [] classes are i bytes at = absurd (none-some bytes at)
-linked_at names (x ∷ files) [] are i bytes at = absurd are
-linked_at names (x ∷ files) (l ∷ classes) are zero bytes at = (l, refl, subst (λ (b : List ℕ). IsLinkedClass names b l) (same_Some x bytes at) are.0)
-linked_at names (x ∷ files) (l ∷ classes) are (suc i) bytes at = linked_at names files classes are.1 i bytes at
-
-class_at : (names : Names) (files : List (List ℕ)) (classes : List Linked) → AreLinkedClasses names files classes → (i : ℕ) (l : Linked) → slice_get classes i ≡ Some l
-    → (bytes : List ℕ) × (slice_get files i ≡ Some bytes) × IsLinkedClass names bytes l
-class_at names [] [] are i l at = absurd (none-some l at)
-class_at names [] (k ∷ classes) are i l at = absurd are
-class_at names (x ∷ files) [] are i l at = absurd are
-class_at names (x ∷ files) (k ∷ classes) are zero l at = (x, refl, subst (IsLinkedClass names x) (same_Some k l at) are.0)
-class_at names (x ∷ files) (k ∷ classes) are (suc i) l at = class_at names files classes are.1 i l at
 
 -- ---- ids
 

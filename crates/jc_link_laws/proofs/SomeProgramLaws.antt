@@ -241,8 +241,12 @@ Classes files = (names : Names) × (classes : List Linked) × AreLinkedClasses n
 abbrev Refused : List (List ℕ) → Type 0
 Refused files = (index : ℕ) × (r : Refusal) × IsFirstRefused files index r
 
+-- all are linked, or there is a first that is refused
+abbrev Decided : List (List ℕ) → Type 0
+Decided files = Classes files ⊎ Refused files
+
 -- the files that are left, behind those that are linked
-each_behind : (done rest : List (List ℕ)) → AllByRecursion IsShortFile rest → Classes done → Classes (done ++ rest) ⊎ Refused (done ++ rest)
+each_behind : (done rest : List (List ℕ)) → AllByRecursion IsShortFile rest → Classes done → Decided (done ++ rest)
 each_behind done [] short linked = inl (subst Classes (sym (append-nil done)) linked)
 each_behind done (bytes ∷ rest) short linked = by (each_file linked.0 bytes short.0) (each_behind (done ++ bytes ∷ []) rest short.1)
   where
@@ -262,12 +266,11 @@ each_behind done (bytes ∷ rest) short linked = by (each_file linked.0 bytes sh
     more m = (m.names, linked.1 ++ m.linked ∷ [], put_linked m.names done linked.1 bytes m.linked (all_more linked.0 m.names done linked.1 m.grows linked.2) m.is)
 
     by : ((r : Refusal) × LinkReason bytes (Some r)) ⊎ LinkedMore linked.0 bytes
-        → (Classes (done ++ bytes ∷ []) → Classes ((done ++ bytes ∷ []) ++ rest) ⊎ Refused ((done ++ bytes ∷ []) ++ rest))
-        → Classes (done ++ bytes ∷ rest) ⊎ Refused (done ++ bytes ∷ rest)
+        → (Classes (done ++ bytes ∷ []) → Decided ((done ++ bytes ∷ []) ++ rest)) → Decided (done ++ bytes ∷ rest)
     by (inl reason) later = inr (refused_here reason.0 reason.1)
     by (inr m) later =
         let same : (done ++ bytes ∷ []) ++ rest ≡ done ++ bytes ∷ rest = append_assoc done (bytes ∷ []) rest in
-        subst (λ (files : List (List ℕ)). Classes files ⊎ Refused files) same (later (more m))
+        subst Decided same (later (more m))
 
 pub program_or_reason : (files : List (List ℕ)) → AllByRecursion IsShortFile files
     → ((p : Program) × IsProgramOf files p) ⊎ ((r : LinkRefusal) × IsLinkRefusal files r)
@@ -289,6 +292,6 @@ program_or_reason files short = by (each_behind [] files short ([], [], tt))
     names linked (inl pair) = inr (_, one_name linked.0 linked.1 linked.2 pair.2)
     names linked (inr none) = ids linked none (id_pair linked.1)
 
-    by : Classes files ⊎ Refused files → ((p : Program) × IsProgramOf files p) ⊎ ((r : LinkRefusal) × IsLinkRefusal files r)
+    by : Decided files → ((p : Program) × IsProgramOf files p) ⊎ ((r : LinkRefusal) × IsLinkRefusal files r)
     by (inl linked) = names linked (name_pair linked.1)
     by (inr first) = inr (_, refused first.2)

@@ -17,7 +17,7 @@ use Rattle.jc_instrument.proofs.SomeBodiesLaws.{made_well}
 use Rattle.jc_instrument.proofs.TextSizesLaws.{class_size}
 use Rattle.jc_linking.specs.Linking.{IsLinkedClass, AreLinkedClasses, IsProgramOf}
 use Rattle.jc_linking.specs.Pairs.{HaveOneName, NoPair}
-use Rattle.jc_link_laws.specs.TwinFiles.{IsWrittenOf, AreWrittenOf, IsShortFile}
+use Rattle.jc_link_laws.specs.TwinFiles.{IsWrittenOf, AreWrittenOf, IsShortFile, TwinFiles}
 use Rattle.jc_link_laws.proofs.ChangedPairLaws.{changed_pair}
 use Rattle.jc_link_laws.proofs.TwinPairLaws.{stands, unchanged_pair}
 
@@ -98,17 +98,18 @@ pair names new_names original text l n are are_new (inl twin) p q = inr (changed
 pair names new_names original text l n are are_new (inr same) p q =
     inl (unchanged_pair original names new_names l n same.0.0 p (subst (λ (bytes : List ℕ). IsLinkedClass new_names bytes n) same.1 q))
 
-pub pairs : (names new_names : Names) (originals written : List (List ℕ)) (ls ns : List Linked) → AllByRecursion IsShortFile originals → AllByRecursion AreBytes written
-    → AreWrittenOf originals written → AreLinkedClasses names originals ls → AreLinkedClasses new_names written ns → ArePairs names new_names ls ns
-pairs names new_names [] [] [] [] short are w p q = tt
-pairs names new_names [] [] [] (n ∷ ns) short are w p q = absurd q
-pairs names new_names [] [] (l ∷ ls) ns short are w p q = absurd p
-pairs names new_names [] (text ∷ written) ls ns short are w p q = absurd w
-pairs names new_names (original ∷ originals) [] ls ns short are w p q = absurd w
-pairs names new_names (original ∷ originals) (text ∷ written) [] ns short are w p q = absurd p
-pairs names new_names (original ∷ originals) (text ∷ written) (l ∷ ls) [] short are w p q = absurd q
-pairs names new_names (original ∷ originals) (text ∷ written) (l ∷ ls) (n ∷ ns) short are w p q =
-    (pair names new_names original text l n short.0.0 are.0 w.0 p.0 q.0, pairs names new_names originals written ls ns short.1 are.1 w.1 p.1 q.1)
+pub pairs : (names new_names : Names) (originals written : List (List ℕ)) (ls ns : List Linked) → TwinFiles originals written
+    → AreLinkedClasses names originals ls → AreLinkedClasses new_names written ns → ArePairs names new_names ls ns
+pairs names new_names [] [] [] [] files p q = tt
+pairs names new_names [] [] [] (n ∷ ns) files p q = absurd q
+pairs names new_names [] [] (l ∷ ls) ns files p q = absurd p
+pairs names new_names [] (text ∷ written) ls ns files p q = absurd files.each
+pairs names new_names (original ∷ originals) [] ls ns files p q = absurd files.each
+pairs names new_names (original ∷ originals) (text ∷ written) [] ns files p q = absurd p
+pairs names new_names (original ∷ originals) (text ∷ written) (l ∷ ls) [] files p q = absurd q
+pairs names new_names (original ∷ originals) (text ∷ written) (l ∷ ls) (n ∷ ns) files p q =
+    let behind : TwinFiles originals written = record { short = files.short.1; are_bytes = files.are_bytes.1; each = files.each.1 } in
+    (pair names new_names original text l n files.short.0.0 files.are_bytes.0 files.each.0 p.0 q.0, pairs names new_names originals written ls ns behind p.1 q.1)
 
 pub twin_program : (originals written : List (List ℕ)) (p q : Program) → AllByRecursion IsShortFile originals → AllByRecursion AreBytes written
     → AreWrittenOf originals written → IsProgramOf originals p → IsProgramOf written q → TwinProgram p q
@@ -116,5 +117,5 @@ twin_program originals written p q short are w a b = record {
   checked = all_checked p.names originals p.classes short a.classes;
   owned = all_owned p.names originals p.classes a.classes;
   differ = differ p.classes a.one_each;
-  pairs = pairs p.names q.names originals written p.classes q.classes short are w a.classes b.classes;
+  pairs = pairs p.names q.names originals written p.classes q.classes (record { short = short; are_bytes = are; each = w }) a.classes b.classes;
 }

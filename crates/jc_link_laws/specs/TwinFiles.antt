@@ -1,5 +1,6 @@
 -- The files of instrumented classes, beside the files from which they were made.
 use Rattle.std.specs.Prelude.{◌≡◌, ◌⊎◌, ⊤, ℕ, ◌<◌, ◌≤◌, true, List, [], ◌∷◌, length, Some, Contains, codes}
+use Rattle.std.specs.List.{AllByRecursion}
 use Rattle.jc_bytes.specs.ByteLists.{AreBytes}
 use Rattle.jc_bytes.specs.Reader.{most_read}
 use Rattle.jc_methods.specs.EntryState.{is_static}
@@ -51,3 +52,9 @@ abbrev pub AreWrittenOf : List (List ℕ) → List (List ℕ) → Type 0
 AreWrittenOf [] [] = ⊤
 AreWrittenOf (original ∷ originals) (text ∷ written) = IsWrittenOf original text × AreWrittenOf originals written
 AreWrittenOf _ _ = ⊥
+
+-- Files that were accepted, each of at most 67,108,864 bytes, and the bytes that were written of them.
+pub record TwinFiles (originals written : List (List ℕ)) : Type 0 where
+  pub short : AllByRecursion IsShortFile originals
+  pub are_bytes : AllByRecursion AreBytes written
+  pub each : AreWrittenOf originals written

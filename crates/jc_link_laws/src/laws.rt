@@ -10,7 +10,7 @@ ghost use Rattle.jc_instrument.specs.declared.whole.Instrumented.{Instrumented};
 ghost use Rattle.jc_linking.specs.Linking.{IsProgramOf, IsLinkRefusal};
 ghost use Rattle.jc_linking.specs.declared.link_refusal.LinkRefusal.{LinkRefusal};
 ghost use Rattle.jc_link_laws.specs.SecondLinking.{IsSecondRefusal};
-ghost use Rattle.jc_link_laws.specs.TwinFiles.{AreWrittenOf, HasConstants, IsShortFile, IsWrittenOf};
+ghost use Rattle.jc_link_laws.specs.TwinFiles.{HasConstants, IsShortFile, IsWrittenOf, TwinFiles};
 
 use jc_bytes::Bytes;
 
@@ -20,8 +20,8 @@ use jc_bytes::Bytes;
 /// pool, as it does in each class file (JVM Specification 4.7.2): a place behind the pool could be that of the class's id
 /// in the twin's pool.
 pub fn twins_link(originals: &[Bytes], written: &[Bytes])
-    ensures { (p : Program) (q : Program) → AllByRecursion IsShortFile originals.now → AllByRecursion AreBytes written.now
-        → AreWrittenOf originals.now written.now → IsProgramOf originals.now p → IsProgramOf written.now q → TwinProgram p q }
+    ensures { (p q : Program) → TwinFiles originals.now written.now → IsProgramOf originals.now p → IsProgramOf written.now q
+        → TwinProgram p q }
 {}
 
 /// What an accepted file becomes that is instrumented is what is written of it.
@@ -41,7 +41,6 @@ pub fn files_have_a_program_or_a_refusal()
 /// instructions times slots than the bound that [`jc_body::read_body`] has, as its new instructions and slots count too,
 /// or two changed classes have one id. Nothing else refuses it.
 pub fn twins_fail_to_link_by_size_or_by_id()
-    ensures { (originals written : List (List ℕ)) (p : Program) (r : LinkRefusal) → AllByRecursion IsShortFile originals
-        → AllByRecursion AreBytes written → AreWrittenOf originals written → IsProgramOf originals p → IsLinkRefusal written r
-        → IsSecondRefusal originals written r }
+    ensures { (originals written : List (List ℕ)) (p : Program) (r : LinkRefusal) → TwinFiles originals written
+        → IsProgramOf originals p → IsLinkRefusal written r → IsSecondRefusal originals written r }
 {}
