@@ -1,17 +1,16 @@
 -- A plan's text and class files have an answer.
-use Rattle.std.proofs.Common.{◌≡◌, ◌⊎◌, inl, inr, ℕ, zero, suc, List, [], ◌∷◌, Option, None, Some, slice_get, refl, subst}
+use Rattle.std.proofs.Common.{◌≡◌, ◌⊎◌, inl, inr, ℕ, List, [], ◌∷◌, Option, None, Some, refl}
 use Rattle.std.specs.List.{AllByRecursion}
 use Rattle.std.specs.Option.{option_map}
-use Rattle.std.proofs.lemmas.Option.{none-some, same_Some}
+use Rattle.std.proofs.lemmas.Option.{none-some}
 use Rattle.jc_link.specs.Plans.{IsPlanText, FirstUnfit}
 use Rattle.jc_link_laws.specs.TwinFiles.{IsShortFile}
+use Rattle.jc_link_laws.proofs.PlaceLaws.{class_at}
 use Rattle.jc_link_laws.proofs.SomeProgramLaws.{program_or_reason}
-use Rattle.jc_linking.specs.Linking.{IsLinkedClass, AreLinkedClasses, IsProgramOf, IsLinkRefusal, refused, one_name, one_id}
+use Rattle.jc_linking.specs.Linking.{IsProgramOf, IsLinkRefusal, refused, one_name, one_id}
 use Rattle.jc_linking.specs.declared.link_refusal.LinkRefusal.{LinkRefusal}
 use Rattle.jc_linking.specs.declared.link_refusal.LinkRefusal.TheVariants as refusals
-use Rattle.jc_methods.specs.VerificationTypes.{Names}
 use Rattle.jc_programs.specs.declared.program.Program.{Program}
-use Rattle.jc_programs.specs.declared.program.Linked.{Linked}
 use Rattle.jc_programs.specs.declared.program.ProbeInit.{ProbeInit}
 use Rattle.jc_programs.specs.declared.run_plan.RunPlan.{RunPlan}
 use Rattle.jc_programs.specs.declared.run_plan.ThreadLine.{ThreadLine}
@@ -32,14 +31,6 @@ record Answers (Is : Answer → Type 0) : Type 0 where
   holds : Is answer
 
 -- ---- class files
-
-class_at : (names : Names) (files : List (List ℕ)) (classes : List Linked) → AreLinkedClasses names files classes → (i : ℕ) (c : Linked) → slice_get classes i ≡ Some c
-    → (bytes : List ℕ) × (slice_get files i ≡ Some bytes) × IsLinkedClass names bytes c
-class_at names [] [] are i c at = absurd (none-some c at)
-class_at names [] (d ∷ classes) are i c at = absurd are
-class_at names (t ∷ files) [] are i c at = absurd are
-class_at names (t ∷ files) (d ∷ classes) are zero c at = (t, refl, subst (IsLinkedClass names t) (same_Some d c at) are.0)
-class_at names (t ∷ files) (d ∷ classes) are (suc i) c at = class_at names files classes are.1 i c at
 
 -- each reason ends the command in some way
 some_end : (paths : List Word) (files : List (List ℕ)) (r : LinkRefusal) → IsLinkRefusal files r → (end : End) × EndsAs paths files r end

@@ -1,6 +1,7 @@
 //! What `run` reads, and what it writes of it.
 ghost use Rattle.std.specs.Prelude.{◌<◌, ◌≤◌, ◌^◌, ◌∷◌, length};
 ghost use Rattle.jc_bytes.specs.Reader.{most_read};
+ghost use Rattle.jc_run_command.specs.Handed.{BetweenFiles};
 ghost use Rattle.jc_run_work.specs.RunAnswers.{RunAnswers};
 ghost use Rattle.jc_work.specs.Answered.{Prepares};
 ghost use Rattle.jc_work.specs.Seen.{words_of};
@@ -37,10 +38,8 @@ pub fn prepare_run<'a, R: Threads + Sync, F: Files, G: Gate + Sync>(
     requires few { length paths.now < 2 ^ 32 }
     requires workers { (1 ≤ workers) × (workers ≤ 16) }
     requires plan { length plan_text.now ≤ most_read }
-    ensures { Prepares F.landed (words_of paths.entry.now)
-        (λ read. RunAnswers plan.entry.now destfile.entry.now (words_of paths.entry.now) (plan_text.now ∷ read))
-        (F.contents files.old) (F.contents files.new) (F.read_faults files.old) (F.read_faults files.new)
-        (F.write_faults files.old) (F.write_faults files.new) result }
+    ensures { BetweenFiles F.Files files.old files.new (Prepares F.landed (words_of paths.entry.now)
+        (λ read. RunAnswers plan.entry.now destfile.entry.now (words_of paths.entry.now) (plan_text.now ∷ read))) result }
 {
     let paths = as_texts(alloc, paths)?;
     let texts = read_all(alloc, files, &paths)?;
