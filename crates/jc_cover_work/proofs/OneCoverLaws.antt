@@ -25,6 +25,7 @@ use Rattle.jc_linking.specs.declared.link_refusal.LinkRefusal.TheVariants as ref
 use Rattle.jc_linking.proofs.OneRefusalLaws.{one_refusal, program_or_refusal, same_program}
 use Rattle.jc_linking.proofs.SameLinkedLaws.{same_linked}
 use Rattle.jc_link_laws.specs.TwinFiles.{IsShortFile}
+use Rattle.jc_link_laws.proofs.PlaceLaws.{class_at}
 use Rattle.jc_link_laws.proofs.SomeProgramLaws.{program_or_reason}
 use Rattle.jc_same_runs.specs.Frameless.{frameless}
 use Rattle.jc_world.specs.CaseText.{case_texts}
@@ -46,8 +47,8 @@ use Rattle.jc_run_work.specs.RunAnswers.{HasName, HasId, IsPlanEnd, IsRunProgram
 use Rattle.jc_run_work.specs.RunStore.{threads_of, first_without, run_store}
 use Rattle.jc_run_work.proofs.StoreLaws.{same_frameless}
 use Rattle.jc_cover_work.specs.CoverWork.{Cover, LookedFile, AreLooked, all_file_writes, accepted, texts_in, targets, place_of, path_of, EndsAmongAll, IsLinkEnd, HaveEntries, IsEntryEnd, IsReportText, IsClashEnd, instrumenting, running, cover_work}
-use Rattle.jc_cover_work.proofs.CoverRunLaws.{last_part, report_part, entry_part, look_part}
-use Rattle.jc_cover_work.proofs.OriginalLaws.{all_short, class_at}
+use Rattle.jc_cover_work.proofs.CoverRunLaws.{last_part, report_part, entry_part, link_part, look_part}
+use Rattle.jc_cover_work.proofs.OriginalLaws.{all_short}
 use Rattle.jc_cover_work.proofs.PartLaws.{instrumenting_over}
 
 -- ---- a decision
@@ -109,7 +110,7 @@ short_texts : (ts : List (List ℕ)) → AllByRecursion IsFile ts → AllByRecur
 short_texts [] files = tt
 short_texts (t ∷ ts) files = ((files.0.are_bytes, files.0.short), short_texts ts files.1)
 
-file_texts : (ts : List (List ℕ)) → AllByRecursion IsShortFile ts → AllByRecursion IsFile ts
+pub file_texts : (ts : List (List ℕ)) → AllByRecursion IsShortFile ts → AllByRecursion IsFile ts
 file_texts [] short = tt
 file_texts (t ∷ ts) short = (record { are_bytes = short.0.0; short = short.0.1 }, file_texts ts short.1)
 
@@ -250,13 +251,13 @@ module _ (laws : PlansAreOne) (landed : Landed) (c : Cover) where
       has_then landed (deciding (HaveEntries program plan) (IsEntryEnd c.plan program plan)) _ (λ w told. one_deciding landed w _ _ (begins c.plan program plan)) (λ _. has_report plan looked program files)
 
   has_link : (plan : RunPlan) (looked : List LookedFile) (written : List (List ℕ)) → AllByRecursion IsFile (texts_in (accepted looked)) → AllByRecursion IsShortFile written
-      → HasOne landed (deciding (IsRunProgram written) (IsLinkEnd looked written) >>= (λ program. entry_part c plan looked program))
+      → HasOne landed (link_part c plan looked written)
   has_link plan looked written files short =
       has_then landed (deciding (IsRunProgram written) (IsLinkEnd looked written)) _ (λ w told. one_deciding landed w _ _ (links looked written short)) (λ program. has_entry plan looked program files)
 
   has_run : (plan : RunPlan) (looked : List LookedFile) → AllByRecursion IsFile (texts_in (accepted looked)) → HasOne landed (running c plan looked)
   has_run plan looked files =
-      has_then_if landed (reading_all (targets c.dest looked)) (λ written. deciding (IsRunProgram written) (IsLinkEnd looked written) >>= (λ program. entry_part c plan looked program))
+      has_then_if landed (reading_all (targets c.dest looked)) (λ written. link_part c plan looked written)
       (has_reading_all landed (targets c.dest looked))
       (λ w steps written over fits. has_link plan looked written files (short_texts written (all_files (targets c.dest looked) written (texts_read landed w (targets c.dest looked) steps written over fits))))
 

@@ -27,6 +27,7 @@ use Rattle.jc_linking.specs.Pairs.{HaveOneId, HaveOneName, IsFirstPair, id_of}
 use Rattle.jc_linking.specs.declared.link_refusal.LinkRefusal.{LinkRefusal}
 use Rattle.jc_linking.proofs.LinkingLaws.{no_reason}
 use Rattle.jc_link_laws.specs.TwinFiles.{AreWrittenOf, IsShortFile, IsWrittenOf}
+use Rattle.jc_link_laws.proofs.PlaceLaws.{linked_at, class_at}
 use Rattle.jc_link_laws.proofs.SecondLinkingLaws.{same_name}
 use Rattle.jc_link_laws.proofs.SomeProgramLaws.{program_or_reason}
 use Rattle.jc_link_laws.proofs.TwinPairLaws.{no_probes, none_added}
@@ -85,21 +86,6 @@ text_at [] (x ∷ written) w i o at = absurd w
 text_at (y ∷ originals) [] w i o at = absurd w
 text_at (y ∷ originals) (x ∷ written) w zero o at = (x, refl, subst (λ (z : List ℕ). IsWrittenOf z x) (same_Some y o at) w.0)
 text_at (y ∷ originals) (x ∷ written) w (suc i) o at = text_at originals written w.1 i o at
-
-linked_at : (names : Names) (files : List (List ℕ)) (classes : List Linked) → AreLinkedClasses names files classes → (i : ℕ) (bytes : List ℕ) → slice_get files i ≡ Some bytes
-    → (l : Linked) × (slice_get classes i ≡ Some l) × IsLinkedClass names bytes l
-linked_at names [] classes are i bytes at = absurd (none-some bytes at)
-linked_at names (x ∷ files) [] are i bytes at = absurd are
-linked_at names (x ∷ files) (l ∷ classes) are zero bytes at = (l, refl, subst (λ (b : List ℕ). IsLinkedClass names b l) (same_Some x bytes at) are.0)
-linked_at names (x ∷ files) (l ∷ classes) are (suc i) bytes at = linked_at names files classes are.1 i bytes at
-
-pub class_at : (names : Names) (files : List (List ℕ)) (classes : List Linked) → AreLinkedClasses names files classes → (i : ℕ) (l : Linked) → slice_get classes i ≡ Some l
-    → (bytes : List ℕ) × (slice_get files i ≡ Some bytes) × IsLinkedClass names bytes l
-class_at names [] [] are i l at = absurd (none-some l at)
-class_at names [] (k ∷ classes) are i l at = absurd are
-class_at names (x ∷ files) [] are i l at = absurd are
-class_at names (x ∷ files) (k ∷ classes) are zero l at = (x, refl, subst (IsLinkedClass names x) (same_Some k l at) are.0)
-class_at names (x ∷ files) (k ∷ classes) are (suc i) l at = class_at names files classes are.1 i l at
 
 -- ---- an accepted file
 

@@ -1,7 +1,7 @@
 -- What a part of `cover` did that is over, and parts that don't end a command as done.
 use Rattle.std.proofs.Common.{◌≡◌, ℕ, List, [], ◌∷◌, ◌++◌, inl, inr, refl, sym, ◌∙◌, ap, subst}
 use Rattle.jc_work.specs.Step.{Word, World, Landed, Write, to_read, to_list, to_write, Step, has_read, has_no, has_listed, has_written, Fit, after, after_write, IsRead}
-use Rattle.jc_work.specs.Part.{End, done, refused, misused, unread, unwritten, unprinted, Outcome, wants, gives, stops, Part, giving, deciding, making, never, reading, listing, writing, reading_all, writing_all, Hands, ◌>>=◌}
+use Rattle.jc_work.specs.Part.{End, done, refused, misused, unread, unwritten, unprinted, Outcome, wants, gives, stops, Part, Command, giving, deciding, making, never, reading, listing, writing, reading_all, writing_all, Hands, ◌>>=◌}
 use Rattle.jc_paths.specs.Paths.{FileText, plain, folder}
 use Rattle.jc_work.specs.Folders.{all_paths, paths_of, files_of, once}
 use Rattle.jc_work.specs.Prefix.{after_writes}
@@ -161,6 +161,10 @@ both landed p q w steps o h fits =
       fits' = fit_behind landed w h.front h.behind fits';
       stands = ap (after landed w) h.parts ∙ after-append landed w h.front h.behind;
     }
+
+-- the command is done in these steps, and each gave what was there
+abbrev pub IsDoneIn : Landed → Command → World → List Step → Type 0
+IsDoneIn landed command w steps = command steps (stops done) × Fit landed w steps
 
 pub handed : {X Y : Type 0} (p : Part X) (q : X → Part Y) (steps : List Step) (y : Y) → (p >>= q) steps (gives y) → Hands p q steps (gives y)
 handed p q steps y (inl within) = absurd within

@@ -40,11 +40,11 @@ use Rattle.jc_cover_work.proofs.WriteLaws.{all_targets, contents_after, out_afte
 
 -- ---- what was read
 
-short_files : (contents : Option FileMap) (paths : List Word) (read : List (List ℕ)) → AreRead contents paths read → AllByRecursion IsShortFile read
-short_files contents [] [] are = tt
-short_files contents [] (t ∷ ts) are = absurd are
-short_files contents (p ∷ ps) [] are = absurd are
-short_files contents (p ∷ ps) (t ∷ ts) are = ((are.0.file.are_bytes, are.0.file.short), short_files contents ps ts are.1)
+pub files_short : (contents : Option FileMap) (paths : List Word) (read : List (List ℕ)) → AreRead contents paths read → AllByRecursion IsShortFile read
+files_short contents [] [] are = tt
+files_short contents [] (t ∷ ts) are = absurd are
+files_short contents (p ∷ ps) [] are = absurd are
+files_short contents (p ∷ ps) (t ∷ ts) are = ((are.0.file.are_bytes, are.0.file.short), files_short contents ps ts are.1)
 
 bytes_files : (contents : Option FileMap) (paths : List Word) (read : List (List ℕ)) → AreRead contents paths read → AllByRecursion AreBytes read
 bytes_files contents [] [] are = tt
@@ -146,7 +146,7 @@ module _ (c : Cover) (old new : World) (m : FileMap) (told : old.contents ≡ So
 
   module _ (constants : AllByRecursion NamesConstants (texts_in (accepted r.looked))) where
     short_read : AllByRecursion IsShortFile r.read
-    short_read = short_files old.contents r.paths r.read r.files_read
+    short_read = files_short old.contents r.paths r.read r.files_read
 
     pub short : AllByRecursion IsShortFile (texts_in (accepted r.looked))
     short = all_short r.paths r.read r.looked r.looked_at short_read

@@ -1,3 +1,4 @@
 pub mod CoverWork
 pub mod CoverRun
 pub mod Headline
+pub mod Runs

@@ -1,16 +1,15 @@
 //! Laws of the work of `cover`.
 ghost use Rattle.std.specs.Prelude.{◌≡◌, ◌≢◌, ℕ, List};
-ghost use Rattle.jc_work.specs.Step.{World, Counts, Landed, after};
-ghost use Rattle.jc_work.specs.Part.{status_of, message_of};
-ghost use Rattle.jc_work.specs.Ending.{Ends, NoneRose, SaysLast};
+ghost use Rattle.jc_work.specs.Step.{World, Counts, Landed};
+ghost use Rattle.jc_work.specs.Ending.{Ends, NoneRose};
 ghost use Rattle.jc_work.specs.Prefix.{LeavesFront};
 ghost use Rattle.jc_work.specs.Causes.{HasOwnEnds};
 ghost use Rattle.jc_work.specs.OneWay.{IsTold, Work, IsWork, writes_of};
-ghost use Rattle.jc_work.specs.declared.status.Status.{Status};
 ghost use Rattle.jc_work.specs.declared.status.Status.TheVariants as status;
 ghost use Rattle.jc_cover_work.specs.CoverWork.{Cover, cover_work};
 ghost use Rattle.jc_cover_work.specs.CoverRun.{CoverRun};
 ghost use Rattle.jc_cover_work.specs.Headline.{HeadlineOf};
+ghost use Rattle.jc_cover_work.specs.Runs.{ToldRun, MakesItsWork};
 
 use jc_link::each_text_is_a_plan_or_has_a_first_unfit_line;
 
@@ -27,11 +26,10 @@ pub fn cover_has_one_work()
 /// was said [`makes`]. Else what stands is, but for the last message, what first writes of the work leave, the last of them
 /// perhaps in part [`leaves`].
 pub fn each_cover_ends_as_its_work()
-    ensures makes { (landed : Landed) (c : Cover) (old new : World) (f g : Counts) (s : Status) (work : Work) → IsTold old
-        → IsWork landed (cover_work c) old work → Ends landed (cover_work c) old new f g s → NoneRose f g → s ≢ status.Memory
-        → (s ≡ status_of work.end) × SaysLast (message_of work.end) (after landed old work.steps) new f g }
-    ensures leaves { (landed : Landed) (c : Cover) (old new : World) (f g : Counts) (s : Status) (work : Work) → IsTold old
-        → IsWork landed (cover_work c) old work → Ends landed (cover_work c) old new f g s → LeavesFront landed old (writes_of work.steps) new }
+    ensures makes { (landed : Landed) (c : Cover) (run : ToldRun landed (cover_work c)) → NoneRose run.old_counts run.new_counts
+        → run.ended ≢ status.Memory → MakesItsWork run }
+    ensures leaves { (landed : Landed) (c : Cover) (run : ToldRun landed (cover_work c))
+        → LeavesFront landed run.old (writes_of run.work.steps) run.new }
 {
     each_text_is_a_plan_or_has_a_first_unfit_line();
 }
