@@ -24,7 +24,7 @@ use Rattle.jc_link_laws.proofs.SomeProgramLaws.{program_or_reason}
 use Rattle.jc_same_runs.specs.Frameless.{frameless}
 use Rattle.jc_work.specs.declared.status.Fault.TheVariants as fault
 use Rattle.jc_work.specs.Step.{Landed, Step, IsFile, Fit, World, to_out}
-use Rattle.jc_work.specs.Part.{End, done, Outcome, wants, gives, stops, ending, deciding, writing, ◌>>=◌}
+use Rattle.jc_work.specs.Part.{End, done, Outcome, wants, gives, stops, Part, ending, deciding, writing, ◌>>=◌}
 use Rattle.jc_work.specs.Answered.{refusal_of}
 use Rattle.jc_work.specs.OneWay.{IsOver, OneDecision, HasOne}
 use Rattle.jc_work.proofs.OneWork.{one_giving, one_ending, one_deciding, one_writing, has_then, has_then_if}
@@ -120,6 +120,12 @@ counts bytes store file a is =
 
 -- ---- the work
 
+-- what comes behind the instrumented class
+abbrev line_of : (methods : ℕ) → Instrumented → Part (List ℕ)
+line_of n class = do
+  program ← linking class.bytes
+  running n class.probes program
+
 module _ (landed : Landed) (n : ℕ) (within : n ≤ 1000) where
   file : IsFile (sample_file n)
   file = record { are_bytes = sample_bytes n within; short = sample_short n within }
@@ -142,11 +148,10 @@ module _ (landed : Landed) (n : ℕ) (within : n ≤ 1000) where
 
   has_line : HasOne landed (sample_line n)
   has_line =
-      has_then_if landed (deciding (IsInstrumentedFile (sample_file n)) (IsRefusedEnd (sample_file n))) (λ class. linking class.bytes >>= (λ program. running n class.probes program))
-      (λ w told. one_deciding landed w _ _ (instruments (sample_file n) file)) behind
+      has_then_if landed (deciding (IsInstrumentedFile (sample_file n)) (IsRefusedEnd (sample_file n))) (line_of n) (λ w told. one_deciding landed w _ _ (instruments (sample_file n) file)) behind
     where
       behind : (w : World) (steps : List Step) (a : Instrumented) → deciding (IsInstrumentedFile (sample_file n)) (IsRefusedEnd (sample_file n)) steps (gives a) → Fit landed w steps
-          → HasOne landed (linking a.bytes >>= (λ program. running n a.probes program))
+          → HasOne landed (line_of n a)
       behind w [] a is fits = has_then landed (linking a.bytes) (λ program. running n a.probes program) (has_linking a is) (λ program. has_running a.probes program a is)
       behind w (s ∷ ss) a none fits = absurd none
 
