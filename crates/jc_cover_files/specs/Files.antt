@@ -26,6 +26,12 @@ abbrev pub Instruments : Landed → (dest : Word) → (paths : List Word) → (r
 Instruments landed dest paths read old new f f' (Ok places) = Instrumented landed dest paths read old new f f' places.items
 Instruments landed dest paths read old new f f' (Err stop) = Stops landed (instrumenting dest paths read) old new f f' (stop_seen stop)
 
+-- so of a function that is given the paths to which the files are written, whatever the folder in which these are
+abbrev pub InstrumentsTo : Landed → (written_to paths : List Word) → (read : List (List ℕ)) → (old new : World) → (f f' : Counts)
+    → Result (Vec ℕ Global) Stop → Type 0
+InstrumentsTo landed written_to paths read old new f f' result =
+    (dest : Word) → written_to ≡ map (in_folder dest) paths → Instruments landed dest paths read old new f f' result
+
 -- ---- the writes of files that were looked at
 
 -- the lists have of each file, in order, the path to which it is written, its own path, its bytes, and what comes of it
@@ -45,3 +51,10 @@ pub record Written (landed : Landed) (dest : Word) (looked : List LookedFile) (o
 abbrev pub WritesFiles : Landed → (dest : Word) → List LookedFile → (old new : World) → (f f' : Counts) → Result (Vec ℕ Global) Stop → Type 0
 WritesFiles landed dest looked old new f f' (Ok places) = Written landed dest looked old new f f' places.items
 WritesFiles landed dest looked old new f f' (Err stop) = Stops landed (writing_all (all_file_writes dest looked)) old new f f' (stop_seen stop)
+
+-- so of a function that is given the lists, whatever the files and the folder of which these are
+abbrev pub WritesDecided : Landed → (written_to paths : List Word) → (texts : List (List ℕ)) → List Decision → (old new : World)
+    → (f f' : Counts) → Result (Vec ℕ Global) Stop → Type 0
+WritesDecided landed written_to paths texts decisions old new f f' result =
+    (dest : Word) (looked : List LookedFile) → AreOf dest looked written_to paths texts decisions
+    → WritesFiles landed dest looked old new f f' result

@@ -1,14 +1,13 @@
 //! Looking at class files, and writing what comes of them.
-ghost use Rattle.std.specs.Prelude.{◌≡◌, ◌≤◌, ◌<◌, ◌^◌, ◌++◌, [], List, All, length, map, OnOk};
+ghost use Rattle.std.specs.Prelude.{◌≡◌, ◌≤◌, ◌<◌, ◌^◌, ◌++◌, [], All, length, map, OnOk};
 ghost use Rattle.jc_bytes.specs.Reader.{most_read};
-ghost use Rattle.jc_paths.specs.Paths.{in_folder};
-ghost use Rattle.jc_work.specs.Step.{Word, world, counts};
 ghost use Rattle.jc_work.specs.Part.{writing_all};
 ghost use Rattle.jc_work.specs.Ending.{Does};
 ghost use Rattle.jc_work.specs.Seen.{words_of, stop_seen};
 ghost use Rattle.jc_class_commands.specs.Instrument.{file_writes, decision_seen};
-ghost use Rattle.jc_cover_work.specs.CoverWork.{LookedFile, place_if};
-ghost use Rattle.jc_cover_files.specs.Files.{Instruments, AreOf, WritesFiles};
+ghost use Rattle.jc_cover_work.specs.CoverWork.{place_if};
+ghost use Rattle.jc_cover_work.specs.Runs.{Between};
+ghost use Rattle.jc_cover_files.specs.Files.{InstrumentsTo, WritesDecided};
 
 use jc_bytes::{Bytes, Memory};
 use jc_class_commands::{Decided, decide_all, decided_line};
@@ -29,11 +28,9 @@ fn write_decided<'a, F: Files, O: Sink, E: Sink>(
     bytes: &[u8],
     decided: &Decided,
 ) -> Result<(), Stop<'a>>
-    ensures { Does F.landed (writing_all (file_writes target.entry.now path.now bytes.now (decision_seen decided.now))) (λ _. tt) stop_seen
-        (world (F.contents files.old) (O.told out.old) (E.told err.old))
-        (world (F.contents files.new) (O.told out.new) (E.told err.new))
-        (counts (F.read_faults files.old) (F.write_faults files.old) (O.faults out.old) (E.faults err.old))
-        (counts (F.read_faults files.new) (F.write_faults files.new) (O.faults out.new) (E.faults err.new)) result }
+    ensures { Between F.Files O.Sink E.Sink (files.old, out.old, err.old) (files.new, out.new, err.new)
+        (Does F.landed (writing_all (file_writes target.entry.now path.now bytes.now (decision_seen decided.now))) (λ _. tt) stop_seen)
+        result }
 {
     let line = decided_line(alloc, path, decided)?;
     match decided {
@@ -73,12 +70,9 @@ fn write_all_decided<'a, F: Files, O: Sink, E: Sink>(
     requires each { length texts.now ≡ length paths.now }
     requires decided { length all.items ≡ length paths.now }
     requires few { length paths.now < 2 ^ 32 }
-    ensures { (dest : Word) (looked : List LookedFile)
-        → AreOf dest looked (words_of targets.entry.now) (words_of paths.now) texts.now (map decision_seen all.items) → WritesFiles F.landed dest looked
-        (world (F.contents files.old) (O.told out.old) (E.told err.old))
-        (world (F.contents files.new) (O.told out.new) (E.told err.new))
-        (counts (F.read_faults files.old) (F.write_faults files.old) (O.faults out.old) (E.faults err.old))
-        (counts (F.read_faults files.new) (F.write_faults files.new) (O.faults out.new) (E.faults err.new)) result }
+    ensures { Between F.Files O.Sink E.Sink (files.old, out.old, err.old) (files.new, out.new, err.new)
+        (WritesDecided F.landed (words_of targets.entry.now) (words_of paths.now) texts.now (map decision_seen all.items))
+        result }
 {
     let mut places = Vec::new(alloc);
     'writing: for (index, decided) in all.into_iter().enumerate() {
@@ -117,12 +111,8 @@ pub fn instrument_files<'a, R: Threads + Sync, F: Files, O: Sink, E: Sink>(
     requires each { length texts.now ≡ length paths.now }
     requires few { length paths.now < 2 ^ 32 }
     requires short { All (λ t. length t ≤ most_read) texts.now }
-    ensures { (dest : Word) → words_of targets.entry.now ≡ map (in_folder dest) (words_of paths.now)
-        → Instruments F.landed dest (words_of paths.now) texts.now
-        (world (F.contents files.old) (O.told out.old) (E.told err.old))
-        (world (F.contents files.new) (O.told out.new) (E.told err.new))
-        (counts (F.read_faults files.old) (F.write_faults files.old) (O.faults out.old) (E.faults err.old))
-        (counts (F.read_faults files.new) (F.write_faults files.new) (O.faults out.new) (E.faults err.new)) result }
+    ensures { Between F.Files O.Sink E.Sink (files.old, out.old, err.old) (files.new, out.new, err.new)
+        (InstrumentsTo F.landed (words_of targets.entry.now) (words_of paths.now) texts.now) result }
 {
     let all = decide_all(rt, alloc, texts)?;
     write_all_decided(alloc, files, out, err, paths, targets, texts, all)
