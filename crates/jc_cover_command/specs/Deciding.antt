@@ -1,7 +1,10 @@
 -- What functions did that decide, and that do all but the last message of a command.
 use Rattle.std.specs.Prelude.{ℕ, List, ⊤, Option, None, Some, Result, Ok, Err}
-use Rattle.jc_outside.specs.Outside.{FileMap}
-use Rattle.jc_work.specs.Step.{Landed, world, counts}
+use Rattle.jc_outside.specs.declared.files.Files.{Ghosts as OfFiles}
+use Rattle.jc_outside.specs.declared.sink.Sink.{Ghosts as OfSink}
+use Rattle.jc_work.specs.declared.stop.Stop.{Stop}
+use Rattle.jc_work.specs.Seen.{stop_seen}
+use Rattle.jc_work.specs.Step.{world, counts}
 use Rattle.jc_work.specs.Part.{End, Command}
 use Rattle.jc_work.specs.Ending.{Ran}
 
@@ -16,8 +19,10 @@ Decides Is Ends value stop (Ok a) = Is (value a)
 Decides Is Ends value stop (Err e) = StopsBy Ends (stop e)
 
 -- what a function did that takes the files and `out`, whatever stands on `err`
-abbrev pub RanAside : {A E : Type 0} → Landed → Command → (E → Option End) → (old new : Option FileMap) → (out out' : Option (List ℕ))
-    → (reads reads' writes writes' outs outs' : ℕ) → Result A E → Type 0
-RanAside landed command stop old new out out' reads reads' writes writes' outs outs' result =
-    (err : Option (List ℕ)) (errs : ℕ) → Ran landed command stop (world old out err) (world new out' err)
-    (counts reads writes outs errs) (counts reads' writes' outs' errs) result
+abbrev pub RanAside : {F O A : Type 0} → OfFiles F → OfSink O → Command → (old new : F × O) → Result A Stop → Type 0
+RanAside of_files of_out command old new result =
+    (err : Option (List ℕ)) (errs : ℕ) → Ran of_files.landed command stop_seen
+    (world (of_files.contents old.0) (of_out.told old.1) err)
+    (world (of_files.contents new.0) (of_out.told new.1) err)
+    (counts (of_files.read_faults old.0) (of_files.write_faults old.0) (of_out.faults old.1) errs)
+    (counts (of_files.read_faults new.0) (of_files.write_faults new.0) (of_out.faults new.1) errs) result

@@ -1,9 +1,8 @@
 //! The class files that weren't refused.
-ghost use Rattle.std.specs.Prelude.{◌≡◌, ◌≤◌, ◌<◌, ◌^◌, All, List, IfOk, length, map};
+ghost use Rattle.std.specs.Prelude.{◌≤◌, ◌<◌, ◌^◌, All, List, IfOk, length};
 ghost use Rattle.jc_bytes.specs.Reader.{most_read};
-ghost use Rattle.jc_paths.specs.Paths.{in_folder};
-ghost use Rattle.jc_cover_work.specs.CoverWork.{LookedFile, paths_in, places_from, texts_in};
-ghost use Rattle.jc_cover_command.specs.Accepted.{AreAccepted, AreWhole};
+ghost use Rattle.jc_cover_work.specs.CoverWork.{LookedFile};
+ghost use Rattle.jc_cover_command.specs.Accepted.{AreAccepted, AreOfAll, AreWhole};
 ghost use Rattle.jc_work.specs.Seen.{texts_of};
 ghost use Rattle.jc_work.specs.Step.{Word};
 
@@ -35,8 +34,8 @@ pub fn accepted_files<'a>(
 ) -> Result<Accepted<'a>, Memory>
     requires few { length texts.items < 2 ^ 32 }
     requires short { All (λ t. length t ≤ most_read) texts.items }
-    ensures { (dest : Word) (looked : List LookedFile) → texts_of paths.entry.items ≡ paths_in looked
-        → texts_of targets.entry.items ≡ map (in_folder dest) (paths_in looked) → texts.items ≡ texts_in looked → places.items ≡ places_from 0 looked
+    ensures { (dest : Word) (looked : List LookedFile)
+        → AreOfAll dest looked (texts_of paths.entry.items) (texts_of targets.entry.items) texts.items places.items
         → IfOk result (λ those. AreWhole those × AreAccepted dest looked those) }
 {
     let paths = accepted_of(alloc, paths, &places)?;

@@ -3,8 +3,8 @@ ghost use Rattle.std.specs.Prelude.{◌≡◌, ◌≤◌, ◌<◌, ◌^◌, List
 ghost use Rattle.jc_bytes.specs.Reader.{most_read};
 ghost use Rattle.jc_paths.specs.Paths.{FileText, in_folder};
 ghost use Rattle.jc_cover_work.specs.CoverWork.{covering};
+ghost use Rattle.jc_cover_work.specs.Runs.{Between};
 ghost use Rattle.jc_cover_command.specs.CoverSeen.{cover_seen};
-ghost use Rattle.jc_work.specs.Step.{world, counts};
 ghost use Rattle.jc_work.specs.Ending.{Ran};
 ghost use Rattle.jc_work.specs.Seen.{stop_seen, words_of};
 
@@ -51,11 +51,8 @@ pub fn cover<'a, R: Threads + Sync, F: Files, O: Sink, E: Sink, G: Gate + Sync>(
     requires workers { (1 ≤ words.now.workers) × (words.now.workers ≤ 16) }
     requires short { length plan_text.now ≤ most_read }
     requires targets { words_of targets.now ≡ map (in_folder words.now.dest.now) (words_of paths.now) }
-    ensures { (named : List FileText) → Ran F.landed (covering (cover_seen words.entry.now named) plan_text.now (words_of paths.entry.now)) stop_seen
-        (world (F.contents files.old) (O.told out.old) (E.told err.old))
-        (world (F.contents files.new) (O.told out.new) (E.told err.new))
-        (counts (F.read_faults files.old) (F.write_faults files.old) (O.faults out.old) (E.faults err.old))
-        (counts (F.read_faults files.new) (F.write_faults files.new) (O.faults out.new) (E.faults err.new)) result }
+    ensures { (named : List FileText) → Between F.Files O.Sink E.Sink (files.old, out.old, err.old) (files.new, out.new, err.new)
+        (Ran F.landed (covering (cover_seen words.entry.now named) plan_text.now (words_of paths.entry.now)) stop_seen) result }
 {
     let file_paths = as_texts(alloc, paths)?;
     let texts = read_all(alloc, files, &file_paths)?;

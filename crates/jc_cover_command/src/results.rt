@@ -2,12 +2,8 @@
 ghost use Rattle.std.specs.Prelude.{◌≡◌, ◌≤◌, All, List, length};
 ghost use Rattle.jc_bytes.specs.Reader.{most_read};
 ghost use Rattle.jc_paths.specs.Paths.{FileText};
-ghost use Rattle.jc_programs.specs.declared.program.Program.{Program};
-ghost use Rattle.jc_programs.specs.declared.run_plan.RunPlan.{RunPlan};
-ghost use Rattle.jc_world.specs.CaseText.{case_texts};
-ghost use Rattle.jc_run_work.specs.RunStore.{run_store};
-ghost use Rattle.jc_cover_work.specs.CoverWork.{LookedFile, accepted_texts, IsReportText, IsClashEnd};
-ghost use Rattle.jc_cover_command.specs.Accepted.{AreWhole};
+ghost use Rattle.jc_cover_work.specs.CoverWork.{IsReportText, IsClashEnd};
+ghost use Rattle.jc_cover_command.specs.Accepted.{AreWhole, RunOf};
 ghost use Rattle.jc_cover_command.specs.CoverSeen.{cover_seen, writing_results};
 ghost use Rattle.jc_cover_command.specs.Deciding.{Decides, RanAside};
 ghost use Rattle.jc_work.specs.Seen.{stop_seen};
@@ -57,11 +53,9 @@ pub fn write_results<'a, R: Threads + Sync, F: Files, O: Sink>(
     ran: Ran,
 ) -> Result<(), Stop<'a>>
     requires { AreWhole accepted }
-    ensures { (named : List FileText) (plan : RunPlan) (looked : List LookedFile) (program : Program) → accepted.entry.texts.items ≡ accepted_texts looked
-        → ran.store ≡ run_store program plan → ran.text.items ≡ case_texts program 1 plan.cases
-        → RanAside F.landed (writing_results (cover_seen words.entry.now named) plan looked program) stop_seen (F.contents files.old) (F.contents files.new)
-        (O.told out.old) (O.told out.new) (F.read_faults files.old) (F.read_faults files.new) (F.write_faults files.old) (F.write_faults files.new)
-        (O.faults out.old) (O.faults out.new) result }
+    ensures { (named : List FileText) (run : RunOf accepted.entry ran)
+        → RanAside F.Files O.Sink (writing_results (cover_seen words.entry.now named) run.plan run.looked run.program)
+        (files.old, out.old) (files.new, out.new) result }
 {
     let Ran { store, text } = ran;
     let Accepted { paths, texts, .. } = accepted;

@@ -6,7 +6,6 @@ ghost use Rattle.jc_cover_work.specs.CoverWork.{LookedFile, running};
 ghost use Rattle.jc_cover_command.specs.Accepted.{AreAccepted, AreWhole};
 ghost use Rattle.jc_cover_command.specs.CoverSeen.{cover_seen};
 ghost use Rattle.jc_cover_command.specs.Deciding.{RanAside};
-ghost use Rattle.jc_work.specs.Seen.{stop_seen};
 
 use crate::accepted::Accepted;
 use crate::entries::check_entries;
@@ -36,10 +35,9 @@ pub fn run_accepted<'a, R: Threads + Sync, F: Files, O: Sink, G: Gate + Sync>(
     requires workers { (1 ≤ words.now.workers) × (words.now.workers ≤ 16) }
     requires plan { IsRunPlan plan.now }
     requires whole { AreWhole accepted }
-    ensures { (named : List FileText) (looked : List LookedFile) → AreAccepted words.entry.now.dest.now looked accepted.entry
-        → RanAside F.landed (running (cover_seen words.entry.now named) plan.now looked) stop_seen (F.contents files.old) (F.contents files.new)
-        (O.told out.old) (O.told out.new) (F.read_faults files.old) (F.read_faults files.new) (F.write_faults files.old) (F.write_faults files.new)
-        (O.faults out.old) (O.faults out.new) result }
+    ensures { (named : List FileText) (looked : List LookedFile) → let c = cover_seen words.entry.now named in
+        AreAccepted c.dest looked accepted.entry
+        → RanAside F.Files O.Sink (running c plan.now looked) (files.old, out.old) (files.new, out.new) result }
 {
     let written = read_all(alloc, files, &accepted.targets)?;
     let program = program_of(alloc, &accepted, &written)?;

@@ -11,9 +11,10 @@ as_items [] = refl
 as_items (t ∷ texts) = ap (λ (ts : List (List ℕ)). t ∷ ts) (as_items texts)
 
 pub returns : goal.returns
-returns c dest looked paths targets texts places =
+returns c dest looked all =
     let now = λ (t : Bor (List ℕ)). t.now in
-    are_accepted dest looked _ c.args.texts.items c.requires.few c.requires.short texts places
-    (c.in_ok-paths.ensures now (λ l. l.file) looked paths (c.deref.ensures.value ∙ places))
-    (c.in_ok-targets.ensures now (λ l. in_folder dest l.file) looked (targets ∙ map-map (in_folder dest) (λ (l : LookedFile). l.file) looked) (c.deref-2.ensures.value ∙ places))
-    (sym (as_items c.in_ok-texts.texts.items) ∙ c.in_ok-texts.ensures (λ t. t) (λ l. l.bytes) looked (as_items c.args.texts.items ∙ texts) (c.deref-3.ensures.value ∙ places))
+    are_accepted dest looked _ c.args.texts.items c.requires.few c.requires.short all.texts_are all.places_are
+    (c.in_ok-paths.ensures now (λ l. l.file) looked all.paths_are (c.deref.ensures.value ∙ all.places_are))
+    (c.in_ok-targets.ensures now (λ l. in_folder dest l.file) looked (all.targets_are ∙ map-map (in_folder dest) (λ (l : LookedFile). l.file) looked) (c.deref-2.ensures.value ∙ all.places_are))
+    (sym (as_items c.in_ok-texts.texts.items)
+    ∙ c.in_ok-texts.ensures (λ t. t) (λ l. l.bytes) looked (as_items c.args.texts.items ∙ all.texts_are) (c.deref-3.ensures.value ∙ all.places_are))

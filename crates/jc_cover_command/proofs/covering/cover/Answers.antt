@@ -62,9 +62,12 @@ run_accepted-requires-clause-whole g c lifetimes outlive =
     let dest = c.args.words.now.dest.now in
     let made = c.in_ok-places.ensures dest c.requires.targets in
     let all = words_of c.args.paths.now in
-    (c.in_ok-accepted.ensures dest made.looked (paths_looked g.F.Files.landed dest all c.deref-2.result.now _ _ _ _ _ made _ c.in_ok-file_paths.ensures)
-    (targets_looked g.F.Files.landed dest all c.deref-2.result.now _ _ _ _ _ made _ (c.in_ok-file_targets.ensures ∙ c.requires.targets))
-    (texts_looked g.F.Files.landed dest all c.deref-2.result.now _ _ _ _ _ made c.in_ok-texts.texts.items c.deref-2.ensures.value) made.accepted).0
+    (c.in_ok-accepted.ensures dest made.looked (record {
+      paths_are = paths_looked g.F.Files.landed dest all c.deref-2.result.now _ _ _ _ _ made _ c.in_ok-file_paths.ensures;
+      targets_are = targets_looked g.F.Files.landed dest all c.deref-2.result.now _ _ _ _ _ made _ (c.in_ok-file_targets.ensures ∙ c.requires.targets);
+      texts_are = texts_looked g.F.Files.landed dest all c.deref-2.result.now _ _ _ _ _ made c.in_ok-texts.texts.items c.deref-2.ensures.value;
+      places_are = made.accepted;
+    })).0
 
 pub returns : goal.returns
 returns g c named =
@@ -73,9 +76,12 @@ returns g c named =
     let dest = c.args.words.now.dest.now in
     let made = c.in_ok-places.ensures dest c.requires.targets in
     let all = words_of c.args.paths.now in
-    let are = (c.in_ok-accepted.ensures dest made.looked (paths_looked g.F.Files.landed dest all c.deref-2.result.now _ _ _ _ _ made _ c.in_ok-file_paths.ensures)
-    (targets_looked g.F.Files.landed dest all c.deref-2.result.now _ _ _ _ _ made _ (c.in_ok-file_targets.ensures ∙ c.requires.targets))
-    (texts_looked g.F.Files.landed dest all c.deref-2.result.now _ _ _ _ _ made c.in_ok-texts.texts.items c.deref-2.ensures.value) made.accepted).1 in
+    let are = (c.in_ok-accepted.ensures dest made.looked (record {
+      paths_are = paths_looked g.F.Files.landed dest all c.deref-2.result.now _ _ _ _ _ made _ c.in_ok-file_paths.ensures;
+      targets_are = targets_looked g.F.Files.landed dest all c.deref-2.result.now _ _ _ _ _ made _ (c.in_ok-file_targets.ensures ∙ c.requires.targets);
+      texts_are = texts_looked g.F.Files.landed dest all c.deref-2.result.now _ _ _ _ _ made c.in_ok-texts.texts.items c.deref-2.ensures.value;
+      places_are = made.accepted;
+    })).1 in
     has_covered g.F.Files.landed (cover_seen c.args.words.now named) c.args.plan_text.now all _ _ (texts_of c.deref.result.now)
     (ap texts_of c.deref.ensures.value ∙ c.in_ok-file_paths.ensures) c.in_ok-texts.texts.items _ _
     (c.in_ok-texts.ensures.does (O.told c.args.out.now) (E.told c.args.err.now) (O.faults c.args.out.now) (E.faults c.args.err.now))

@@ -62,5 +62,11 @@ returns g c named looked are err errs =
     (ap texts_of c.deref.ensures.value ∙ are.targets) c.in_ok-written.written.items _ _
     (c.in_ok-written.ensures.does (O.told c.args.out.now) err (O.faults c.args.out.now) errs) c.deref-2.result.now c.deref-2.ensures.value
     (frameless program) (program, c.in_ok-program.ensures.linked, refl) (entries_there program plan c.in_ok-check_entries.ensures.entries) _ _ c.write_results.result
-    (c.write_results.ensures named plan looked (frameless program) are.texts (c.in_ok-ran.ensures.store ∙ sym (same_store program plan))
-    (c.in_ok-ran.ensures.text ∙ sym (same_texts program 1 plan.cases)) err errs)
+    (c.write_results.ensures named (record {
+      plan = plan;
+      looked = looked;
+      program = frameless program;
+      texts_are = are.texts;
+      store_is = c.in_ok-ran.ensures.store ∙ sym (same_store program plan);
+      text_is = c.in_ok-ran.ensures.text ∙ sym (same_texts program 1 plan.cases);
+    }) err errs)
