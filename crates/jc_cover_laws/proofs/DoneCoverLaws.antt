@@ -9,13 +9,10 @@ use Rattle.jc_programs.specs.declared.run_plan.RunPlan.{RunPlan}
 use Rattle.jc_emit.specs.TwinProgram.{TwinProgram}
 use Rattle.jc_link.specs.Plans.{IsPlanText}
 use Rattle.jc_linking.specs.Linking.{IsProgramOf}
-use Rattle.jc_linking.specs.declared.link_refusal.LinkRefusal.{LinkRefusal}
-use Rattle.jc_linking.specs.declared.link_refusal.LinkRefusal.TheVariants as refusals
 use Rattle.jc_link_laws.specs.TwinFiles.{AreWrittenOf, IsShortFile}
 use Rattle.jc_link_laws.proofs.TwinLinkLaws.{twin_program}
-use Rattle.jc_work.specs.declared.status.Fault.{Fault}
 use Rattle.jc_work.specs.Step.{Word, World, Landed, Step, Fit, IsRead}
-use Rattle.jc_work.specs.Part.{done, refused, gives, stops, deciding, reading, reading_all, ◌>>=◌}
+use Rattle.jc_work.specs.Part.{done, gives, stops, deciding, reading, reading_all, ◌>>=◌}
 use Rattle.jc_work.specs.Ending.{CameTo}
 use Rattle.jc_work.specs.Folders.{files_of}
 use Rattle.jc_work.specs.Prefix.{after_writes}
@@ -25,32 +22,20 @@ use Rattle.jc_work.proofs.Prefix.{done_means}
 use Rattle.jc_run_work.specs.RunAnswers.{IsPlanEnd, IsRunProgram}
 use Rattle.jc_run_work.specs.RunStore.{threads_of, first_without}
 use Rattle.jc_run_work.proofs.StoreLaws.{same_without}
-use Rattle.jc_cover_work.specs.CoverWork.{Cover, LookedFile, AreLooked, all_file_writes, accepted_texts, targets, EndsAmongAll, IsLinkEnd, HaveEntries, IsEntryEnd, instrumenting, running, cover_work}
+use Rattle.jc_cover_work.specs.CoverWork.{Cover, LookedFile, AreLooked, all_file_writes, accepted_texts, targets, IsLinkEnd, HaveEntries, IsEntryEnd, instrumenting, running, cover_work}
 use Rattle.jc_cover_work.specs.CoverRun.{AreRead, AreDistinct}
 use Rattle.jc_cover_work.specs.Headline.{as_written, NamesConstants, all_written}
-use Rattle.jc_cover_work.proofs.CoverRunLaws.{report_part, entry_part, look_part}
+use Rattle.jc_cover_work.proofs.CoverRunLaws.{not_refused, no_link_end, report_part, entry_part, link_part, instrument_part, look_part}
 use Rattle.jc_cover_work.proofs.DistinctLaws.{distinct_targets, looked_files}
 use Rattle.jc_cover_work.proofs.OriginalLaws.{all_written_of, all_short, original_program}
-use Rattle.jc_cover_work.proofs.PartLaws.{IsDone, quiet_reading, quiet_deciding, quiet_reading_all, quiet_files, quiet_instrumenting, both, through, deciding_over, reading_over, reading_all_over, files_over, instrumenting_over}
+use Rattle.jc_cover_work.proofs.PartLaws.{IsDoneIn, quiet_reading, quiet_deciding, quiet_reading_all, quiet_files, quiet_instrumenting, both, through, deciding_over, reading_over, reading_all_over, files_over, instrumenting_over}
+use Rattle.jc_cover_work.proofs.RunMeaningLaws.{files_short}
 use Rattle.jc_cover_work.proofs.WriteLaws.{all_targets, contents_after, map_after, stand, same_back}
 use Rattle.jc_cover_laws.specs.FitCover.{IsFitCover, IsShort, named_paths, HaveConstants, DoneCoversFit}
 use Rattle.jc_cover_laws.proofs.AgainLaws.{same_first}
 use Rattle.jc_cover_laws.proofs.CameLaws.{were_files}
 use Rattle.jc_cover_laws.proofs.NeedLaws.{not_again}
-use Rattle.jc_cover_laws.proofs.StoredLaws.{short_read, bytes_written}
-
--- ---- no refusal is done
-
-not_refused : (fault : Fault) (line : List ℕ) → done ≡ refused fault line → ⊥
-not_refused fault line is = subst IsDone is tt
-
-no_link_end : (looked : List LookedFile) (written : List (List ℕ)) → IsLinkEnd looked written done → ⊥
-no_link_end looked written end = by end.0 end.2
-  where
-    by : (r : LinkRefusal) → EndsAmongAll looked written r done → ⊥
-    by (refusals.Class index why) is = not_refused _ _ is
-    by (refusals.SameName first second) is = not_refused _ _ is.2
-    by (refusals.SameId first second) is = not_refused _ _ is.2
+use Rattle.jc_cover_laws.proofs.StoredLaws.{bytes_written}
 
 -- ---- what was read is short
 
@@ -73,10 +58,14 @@ module _ (c : Cover) (old : World) (m : FileMap) (told : old.contents ≡ Some m
       abbrev filled : World
       filled = after_writes as_written old (all_file_writes c.dest looked)
 
+      -- what is read back of the accepted files
+      abbrev AreBack : List (List ℕ) → Type 0
+      AreBack read_back = AreRead filled.contents (targets c.dest looked) read_back
+
       abbrev texts : List (List ℕ)
       texts = accepted_texts looked
 
-      module _ (read_back : List (List ℕ)) (are_back : AreRead filled.contents (targets c.dest looked) read_back) (program : Program)
+      module _ (read_back : List (List ℕ)) (are_back : AreBack read_back) (program : Program)
           (links : IsRunProgram read_back program) (entries : HaveEntries program plan tt) where
         apart : AreDistinct (all_targets c.dest looked)
         apart = subst (λ (l : List Word). AreDistinct (map (in_folder c.dest) l)) (sym (looked_files paths read looked looked_at)) (distinct_targets c.dest paths distinct)
@@ -87,7 +76,7 @@ module _ (c : Cover) (old : World) (m : FileMap) (told : old.contents ≡ Some m
             (subst (λ (o : Option FileMap). AreRead o (targets c.dest looked) read_back) (contents_after old m (all_file_writes c.dest looked) told) are_back)
 
         short_now : AllByRecursion IsShortFile read
-        short_now = short_read old.contents paths read files_read
+        short_now = files_short old.contents paths read files_read
 
         short : AllByRecursion IsShortFile texts
         short = all_short paths read looked looked_at short_now
@@ -140,13 +129,13 @@ module _ (c : Cover) (old : World) (m : FileMap) (told : old.contents ≡ Some m
           originals = originals;
           constants = known constants read looked files_read looked_at;
           again = not_again texts (all_written looked) before twin short bytes originals instrumented;
-          short = subst (λ (l : List (List ℕ)). AllByRecursion IsShort l) back (are_short read_back (short_read filled.contents (targets c.dest looked) read_back are_back));
+          short = subst (λ (l : List (List ℕ)). AllByRecursion IsShort l) back (are_short read_back (files_short filled.contents (targets c.dest looked) read_back are_back));
           entries = entries_before;
         }
 
-      entry_fits : (read_back : List (List ℕ)) → AreRead filled.contents (targets c.dest looked) read_back → (program : Program) → IsRunProgram read_back program
-          → (steps : List Step) → entry_part c plan looked program steps (stops done) → Fit as_written filled steps → IsFitCover c old
-      entry_fits read_back back program links steps is fits =
+      entry_fits : (read_back : List (List ℕ)) → AreBack read_back → (program : Program) → IsRunProgram read_back program
+          → (steps : List Step) → IsDoneIn as_written (entry_part c plan looked program) filled steps → IsFitCover c old
+      entry_fits read_back back program links steps (is, fits) =
           let Is = HaveEntries program plan in
           let End = IsEntryEnd c.plan program plan in
           let rest = λ (u : Unit {0}). report_part c plan looked program in
@@ -154,52 +143,51 @@ module _ (c : Cover) (old : World) (m : FileMap) (told : old.contents ≡ Some m
           let d = both as_written (deciding Is End) rest filled steps (stops done) (through (deciding Is End) rest steps quiet is) fits in
           fits_by read_back back program links (deciding_over as_written filled Is End d.value d.front d.first).0
 
-      link_fits : (read_back : List (List ℕ)) → AreRead filled.contents (targets c.dest looked) read_back → (steps : List Step)
-          → (deciding (IsRunProgram read_back) (IsLinkEnd looked read_back) >>= (λ program. entry_part c plan looked program)) steps (stops done)
-          → Fit as_written filled steps → IsFitCover c old
-      link_fits read_back back steps is fits =
+      link_fits : (read_back : List (List ℕ)) → AreBack read_back → (steps : List Step)
+          → IsDoneIn as_written (link_part c plan looked read_back) filled steps → IsFitCover c old
+      link_fits read_back back steps (is, fits) =
           let part = deciding (IsRunProgram read_back) (IsLinkEnd looked read_back) in
           let rest = λ (program : Program). entry_part c plan looked program in
           let quiet = quiet_deciding (IsRunProgram read_back) (IsLinkEnd looked read_back) (no_link_end looked read_back) in
           let b = both as_written part rest filled steps (stops done) (through part rest steps quiet is) fits in
           let (links, left) = deciding_over as_written filled (IsRunProgram read_back) (IsLinkEnd looked read_back) b.value b.front b.first in
-          entry_fits read_back back b.value links b.behind b.next (subst (λ (v : World). Fit as_written v b.behind) left b.fits')
+          entry_fits read_back back b.value links b.behind (b.next, subst (λ (v : World). Fit as_written v b.behind) left b.fits')
 
-      run_fits : (steps : List Step) → running c plan looked steps (stops done) → Fit as_written filled steps → IsFitCover c old
-      run_fits steps is fits =
+      run_fits : (steps : List Step) → IsDoneIn as_written (running c plan looked) filled steps → IsFitCover c old
+      run_fits steps (is, fits) =
           let all = reading_all (targets c.dest looked) in
-          let rest = λ (written : List (List ℕ)). deciding (IsRunProgram written) (IsLinkEnd looked written) >>= (λ program. entry_part c plan looked program) in
+          let rest = λ (written : List (List ℕ)). link_part c plan looked written in
           let a = both as_written all rest filled steps (stops done) (through all rest steps (quiet_reading_all (targets c.dest looked)) is) fits in
           let (back, left) = reading_all_over as_written filled (targets c.dest looked) a.value a.front a.first a.fits in
-          link_fits a.value back a.behind a.next (subst (λ (v : World). Fit as_written v a.behind) left a.fits')
+          link_fits a.value back a.behind (a.next, subst (λ (v : World). Fit as_written v a.behind) left a.fits')
 
-    instrument_fits : (steps : List Step) → (instrumenting c.dest paths read >>= (λ looked. running c plan looked)) steps (stops done) → Fit as_written old steps → IsFitCover c old
-    instrument_fits steps is fits =
+    instrument_fits : (steps : List Step) → IsDoneIn as_written (instrument_part c plan paths read) old steps → IsFitCover c old
+    instrument_fits steps (is, fits) =
         let part = instrumenting c.dest paths read in
         let h = both as_written part (λ looked. running c plan looked) old steps (stops done)
         (through part (λ looked. running c plan looked) steps (quiet_instrumenting c.dest paths read) is) fits in
         let (looked_at, made) = instrumenting_over as_written old c.dest paths read h.value h.front h.first h.fits in
-        run_fits h.value looked_at h.behind h.next (subst (λ (v : World). Fit as_written v h.behind) made h.fits')
+        run_fits h.value looked_at h.behind (h.next, subst (λ (v : World). Fit as_written v h.behind) made h.fits')
 
   module _ (constants : HaveConstants m c.files) (plan_text : List ℕ) (plan_read : IsRead old.contents c.plan plan_text) where
-    look_fits : AreDistinct paths → (read : List (List ℕ)) → AreRead old.contents paths read → (steps : List Step) → look_part c plan_text paths read steps (stops done)
-        → Fit as_written old steps → IsFitCover c old
-    look_fits distinct read files_read steps is fits =
+    look_fits : AreDistinct paths → (read : List (List ℕ)) → AreRead old.contents paths read → (steps : List Step)
+        → IsDoneIn as_written (look_part c plan_text paths read) old steps → IsFitCover c old
+    look_fits distinct read files_read steps (is, fits) =
         let Is = IsPlanText plan_text in
         let End = IsPlanEnd c.plan plan_text in
-        let rest = λ (plan : RunPlan). instrumenting c.dest paths read >>= (λ looked. running c plan looked) in
+        let rest = λ (plan : RunPlan). instrument_part c plan paths read in
         let e = both as_written (deciding Is End) rest old steps (stops done)
         (through (deciding Is End) rest steps (quiet_deciding Is End (λ end. not_refused _ _ end.2)) is) fits in
         let (is_plan, left) = deciding_over as_written old Is End e.value e.front e.first in
-        instrument_fits constants distinct plan_text plan_read read files_read e.value is_plan e.behind e.next (subst (λ (v : World). Fit as_written v e.behind) left e.fits')
+        instrument_fits constants distinct plan_text plan_read read files_read e.value is_plan e.behind (e.next, subst (λ (v : World). Fit as_written v e.behind) left e.fits')
 
-    read_fits : AreDistinct paths → (steps : List Step) → (reading_all paths >>= (λ read. look_part c plan_text paths read)) steps (stops done)
-        → Fit as_written old steps → IsFitCover c old
-    read_fits distinct steps is fits =
+    read_fits : AreDistinct paths → (steps : List Step) → IsDoneIn as_written (reading_all paths >>= (λ read. look_part c plan_text paths read)) old steps
+        → IsFitCover c old
+    read_fits distinct steps (is, fits) =
         let rest = λ (read : List (List ℕ)). look_part c plan_text paths read in
         let d = both as_written (reading_all paths) rest old steps (stops done) (through (reading_all paths) rest steps (quiet_reading_all paths) is) fits in
         let (files_read, left) = reading_all_over as_written old paths d.value d.front d.first d.fits in
-        look_fits distinct d.value files_read d.behind d.next (subst (λ (v : World). Fit as_written v d.behind) left d.fits')
+        look_fits distinct d.value files_read d.behind (d.next, subst (λ (v : World). Fit as_written v d.behind) left d.fits')
 
     -- the words name one list of paths
     one_named : (ps : List Word) (steps : List Step) → files_of c.files steps (gives ps) → Fit as_written old steps → ps ≡ paths
@@ -210,22 +198,22 @@ module _ (c : Cover) (old : World) (m : FileMap) (told : old.contents ≡ Some m
         let theirs = way.only came.steps (gives paths) tt came.comes came.fit in
         same_value ps paths (mine.1 ∙ sym theirs.1)
 
-    list_fits : (steps : List Step) → (files_of c.files >>= (λ ps. reading_all ps >>= (λ read. look_part c plan_text ps read))) steps (stops done)
-        → Fit as_written old steps → IsFitCover c old
-    list_fits steps is fits =
+    list_fits : (steps : List Step) → IsDoneIn as_written (files_of c.files >>= (λ ps. reading_all ps >>= (λ read. look_part c plan_text ps read))) old steps
+        → IsFitCover c old
+    list_fits steps (is, fits) =
         let rest = λ (ps : List Word). reading_all ps >>= (λ read. look_part c plan_text ps read) in
         let b = both as_written (files_of c.files) rest old steps (stops done) (through (files_of c.files) rest steps (quiet_files c.files) is) fits in
         let (distinct, left) = files_over as_written old c.files b.value b.front b.first b.fits in
         let named = one_named b.value b.front b.first b.fits in
-        read_fits (subst AreDistinct named distinct) b.behind (subst (λ (ps : List Word). rest ps b.behind (stops done)) named b.next)
-        (subst (λ (v : World). Fit as_written v b.behind) left b.fits')
+        read_fits (subst AreDistinct named distinct) b.behind
+        (subst (λ (ps : List Word). rest ps b.behind (stops done)) named b.next, subst (λ (v : World). Fit as_written v b.behind) left b.fits')
 
   cover_fits : HaveConstants m c.files → (new : World) → CameTo as_written (cover_work c) old new (stops done) → IsFitCover c old
   cover_fits constants new came =
       let rest = λ (plan_text : List ℕ). files_of c.files >>= (λ ps. reading_all ps >>= (λ read. look_part c plan_text ps read)) in
       let a = both as_written (reading c.plan) rest old came.steps (stops done) (through (reading c.plan) rest came.steps (quiet_reading c.plan) came.comes) came.fit in
       let (plan_read, left) = reading_over as_written old c.plan a.value a.front a.first a.fits in
-      list_fits constants a.value plan_read a.behind a.next (subst (λ (v : World). Fit as_written v a.behind) left a.fits')
+      list_fits constants a.value plan_read a.behind (a.next, subst (λ (v : World). Fit as_written v a.behind) left a.fits')
 
 done_fits : DoneCoversFit as_written
 done_fits c old new f f' m told constants ends =

@@ -29,6 +29,10 @@ use Rattle.jc_cover_laws.specs.FewSlots.{UsesFewSlots, DifferInId}
 abbrev FitsIn : (slots : ℕ) → Type 0
 FitsIn slots = 65535 * slots ≤ most_slots
 
+-- so are four slots more than each body has
+abbrev HaveRoom : List Body → Type 0
+HaveRoom bodies = (i : ℕ) (b : Body) → slice_get bodies i ≡ Some b → FitsIn (b.max_locals + b.max_stack + 4)
+
 module _ (original text : List ℕ) (few : UsesFewSlots original) (w : IsWrittenTwin original text) where
   abbrev c : ClassFile
   c = w.twin.file
@@ -39,14 +43,13 @@ module _ (original text : List ℕ) (few : UsesFewSlots original) (w : IsWritten
   h : TwinClass (class_id original) c t
   h = w.twin.is
 
-  source_fits : (i : ℕ) (b : Body) → slice_get h.bodies i ≡ Some b → FitsIn (b.max_locals + b.max_stack + 4)
+  source_fits : HaveRoom h.bodies
   source_fits i b at =
       let body = h.are.each i b at in
       let parts = body.is.parts in
       subst FitsIn (λ j. sym parts.max_locals j + sym parts.max_stack j + 4) (few c w.twin.file_is b.method body.method body.at body.is.coded body.is.is)
 
-  twin_fits : (first : ℕ) (bs ys : List Body) → AreTwinBodies h.names h.new_names first bs ys h.added
-      → ((i : ℕ) (b : Body) → slice_get bs i ≡ Some b → FitsIn (b.max_locals + b.max_stack + 4))
+  twin_fits : (first : ℕ) (bs ys : List Body) → AreTwinBodies h.names h.new_names first bs ys h.added → HaveRoom bs
       → (i : ℕ) (y : Body) → slice_get ys i ≡ Some y → FitsIn (y.max_locals + y.max_stack)
   twin_fits first [] ys twins sources i y at = by i (sym (ap (λ (l : List Body). slice_get l i) twins) ∙ at)
     where

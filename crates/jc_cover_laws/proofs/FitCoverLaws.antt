@@ -17,11 +17,11 @@ use Rattle.jc_same_runs.specs.Frameless.{frameless}
 use Rattle.jc_world.specs.CaseText.{case_texts}
 use Rattle.jc_work.specs.declared.status.Status.{Status}
 use Rattle.jc_work.specs.declared.status.Status.TheVariants as status
-use Rattle.jc_work.specs.Step.{Word, World, Counts, Landed, IsFile, Write, to_file, to_out, after, after_write}
-use Rattle.jc_work.specs.Part.{done, gives, stops, status_of, message_of, deciding, reading, writing, reading_all}
-use Rattle.jc_work.specs.Ending.{CameTo, SaysLast, Ends, NoneRose}
+use Rattle.jc_work.specs.Step.{Word, World, Counts, Landed, Write, to_file, to_out, after, after_write}
+use Rattle.jc_work.specs.Part.{done, gives, stops, deciding, reading, writing, reading_all}
+use Rattle.jc_work.specs.Ending.{CameTo, Ends, NoneRose}
 use Rattle.jc_work.specs.Folders.{files_of}
-use Rattle.jc_work.specs.OneWay.{IsTold, Work, IsWork}
+use Rattle.jc_work.specs.OneWay.{Work, IsWork}
 use Rattle.jc_work.specs.Prefix.{after_writes}
 use Rattle.jc_work.proofs.Behind.{came_then}
 use Rattle.jc_work.proofs.Reaching.{was_decided}
@@ -35,28 +35,25 @@ use Rattle.jc_run_work.proofs.StoreLaws.{same_store, same_without}
 use Rattle.jc_cover_work.specs.CoverWork.{Cover, all_file_writes, accepted_texts, targets, IsLinkEnd, HaveEntries, IsEntryEnd, IsReportText, IsClashEnd, instrumenting, running, cover_work}
 use Rattle.jc_cover_work.specs.CoverRun.{AreRead, AreDistinct, CoverRun}
 use Rattle.jc_cover_work.specs.Headline.{as_written, all_written}
+use Rattle.jc_cover_work.specs.Runs.{ToldRun, MakesItsWork}
 use Rattle.jc_cover_work.proofs.CoverRunLaws.{report_part, look_part}
 use Rattle.jc_cover_work.proofs.DistinctLaws.{distinct_targets, looked_files}
 use Rattle.jc_cover_work.proofs.FactLaws.{facts_of}
 use Rattle.jc_cover_work.proofs.HeadlineLaws.{headline}
+use Rattle.jc_cover_work.proofs.OneCoverLaws.{file_texts}
 use Rattle.jc_cover_work.proofs.OriginalLaws.{all_written_of, all_short}
 use Rattle.jc_cover_work.proofs.PartLaws.{files_over}
+use Rattle.jc_cover_work.proofs.RunMeaningLaws.{files_short}
 use Rattle.jc_cover_work.proofs.WriteLaws.{all_targets, contents_after, map_after, stand}
 use Rattle.jc_cover_laws.specs.FitCover.{IsFitCover, named_paths, FitCoversHaveWork, FitCoversAreDone, HasHeadline}
 use Rattle.jc_cover_laws.proofs.AgainLaws.{linked_again, same_first}
 use Rattle.jc_cover_laws.proofs.CameLaws.{was_done, was_read, were_read, was_written, was_instrumented, were_files, writes-append}
 use Rattle.jc_cover_laws.proofs.FitReportLaws.{counts_of, none_clashes}
-use Rattle.jc_cover_laws.proofs.StoredLaws.{short_read, bytes_written, short_files, read_back}
-
-as_files : (ts : List (List ℕ)) → AllByRecursion IsShortFile ts → AllByRecursion IsFile ts
-as_files [] short = tt
-as_files (t ∷ ts) short = (record { are_bytes = short.0.0; short = short.0.1 }, as_files ts short.1)
+use Rattle.jc_cover_laws.proofs.StoredLaws.{bytes_written, short_files, read_back}
 
 -- a run all of whose steps were made ends as its work does
 abbrev pub EndsAsWork : Type 0
-EndsAsWork = (landed : Landed) (c : Cover) (old new : World) (f f' : Counts) (s : Status) (work : Work) → IsTold old → IsWork landed (cover_work c) old work
-    → Ends landed (cover_work c) old new f f' s → NoneRose f f' → s ≢ status.Memory
-    → (s ≡ status_of work.end) × SaysLast (message_of work.end) (after landed old work.steps) new f f'
+EndsAsWork = (landed : Landed) (c : Cover) (run : ToldRun landed (cover_work c)) → NoneRose run.old_counts run.new_counts → run.ended ≢ status.Memory → MakesItsWork run
 
 module _ (c : Cover) (old : World) (fit : IsFitCover c old) where
   abbrev paths : List Word
@@ -78,7 +75,7 @@ module _ (c : Cover) (old : World) (fit : IsFitCover c old) where
   distinct = (files_over as_written old c.files paths named.steps named.comes named.fit).0
 
   read_short : AllByRecursion IsShortFile fit.read
-  read_short = short_read old.contents paths fit.read fit.files_read
+  read_short = files_short old.contents paths fit.read fit.files_read
 
   short : AllByRecursion IsShortFile texts
   short = all_short paths fit.read fit.looked fit.looked_at read_short
@@ -120,7 +117,7 @@ module _ (c : Cover) (old : World) (fit : IsFitCover c old) where
   store = run_store program fit.plan
 
   some : (items : List ReportedFile) × AreItems texts items
-  some = some_items texts (as_files texts short)
+  some = some_items texts (file_texts texts short)
 
   items : List ReportedFile
   items = some.0
@@ -242,7 +239,18 @@ module _ (c : Cover) (old : World) (fit : IsFitCover c old) where
   is_done : EndsAsWork → (new : World) (f f' : Counts) (s : Status) → Ends as_written (cover_work c) old new f f' s → NoneRose f f' → s ≢ status.Memory
       → (s ≡ status.Done) × HasHeadline as_written c old new fit
   is_done ends new f f' s is none not =
-      let (same, (kept, stands)) = ends as_written c old new f f' s work (fit.contents, fit.told) is_work is none not in
+      let run : ToldRun as_written (cover_work c) = record {
+        old = old;
+        new = new;
+        old_counts = f;
+        new_counts = f';
+        ended = s;
+        work = work;
+        told = (fit.contents, fit.told);
+        is_work = is_work;
+        ends = is;
+      } in
+      let (same, (kept, stands)) = ends as_written c run none not in
       (same, holds new (stands ∙ sym came.stand))
 
 -- ---- where files read back as they were written

@@ -1,9 +1,9 @@
 -- What is written of files, where it has a program, is refused for neither of the two reasons.
-use Rattle.std.proofs.Common.{◌≡◌, ◌⊎◌, inl, inr, ℕ, zero, suc, List, [], ◌∷◌, Some, refl, sym, ◌∙◌, ap, subst}
+use Rattle.std.proofs.Common.{◌≡◌, ◌⊎◌, inl, inr, ℕ, List, Some, sym, ◌∙◌, ap, subst}
 use Rattle.std.specs.Prelude.{slice_get}
 use Rattle.std.specs.List.{AllByRecursion}
 use Rattle.std.specs.Option.{option_map}
-use Rattle.std.proofs.lemmas.Option.{none-some, same_Some, slice_get_within}
+use Rattle.std.proofs.lemmas.Option.{same_Some, slice_get_within}
 use Rattle.jc_bytes.specs.ByteLists.{AreBytes}
 use Rattle.jc_bytes.proofs.ListLaws.{all_at}
 use Rattle.jc_methods.specs.VerificationTypes.{Names}
@@ -21,11 +21,12 @@ use Rattle.jc_body.specs.Faults.{faults}
 use Rattle.jc_body.specs.First.{AreNowhere}
 use Rattle.jc_body.proofs.CodedLaws.{no_items}
 use Rattle.jc_instrument.specs.Bodies.{AreBodies, IsListed}
-use Rattle.jc_linking.specs.Linking.{AreLinkedClasses, IsLinkedClass, IsProgramOf}
+use Rattle.jc_linking.specs.Linking.{IsProgramOf}
 use Rattle.jc_linking.specs.declared.link_refusal.LinkRefusal.{LinkRefusal}
 use Rattle.jc_link_laws.specs.SecondLinking.{IsChangedAt, IsTooWide, IsSecondRefusal, too_wide, one_id}
 use Rattle.jc_link_laws.specs.TwinFiles.{IsShortFile}
 use Rattle.jc_link_laws.proofs.ChangedPairLaws.{probes_new}
+use Rattle.jc_link_laws.proofs.PlaceLaws.{linked_at}
 
 -- no method of a class whose bodies are read passes the bound
 not_wide : (names : Names) (c : ClassFile) (bodies : List Body) → AreBodies names c bodies → (number : ℕ) → IsTooWide c number → ⊥
@@ -42,13 +43,6 @@ not_wide names c bodies are number wide = by (are.all number (slice_get_within c
         let same = same_Some _ _ (sym none.at ∙ wide.at) in
         no_items c.pool wide.method (subst (HasNoCode c.pool) same none.none) wide.coded.items wide.is.items
     by (inr k) = of_body k.body (subst (λ (n : ℕ). BodyOf names c n k.body) k.number_is (are.each k.index k.body k.stands))
-
-linked_at : (names : Names) (files : List (List ℕ)) (classes : List Linked) → AreLinkedClasses names files classes → (i : ℕ) (bytes : List ℕ) → slice_get files i ≡ Some bytes
-    → (l : Linked) × (slice_get classes i ≡ Some l) × IsLinkedClass names bytes l
-linked_at names [] classes are i bytes at = absurd (none-some bytes at)
-linked_at names (x ∷ files) [] are i bytes at = absurd are
-linked_at names (x ∷ files) (l ∷ classes) are zero bytes at = (l, refl, subst (λ (b : List ℕ). IsLinkedClass names b l) (same_Some x bytes at) are.0)
-linked_at names (x ∷ files) (l ∷ classes) are (suc i) bytes at = linked_at names files classes are.1 i bytes at
 
 module _ (originals written : List (List ℕ)) (before after : Program) (short : AllByRecursion IsShortFile originals) (are : AllByRecursion AreBytes written)
     (is : IsProgramOf originals before) (again : IsProgramOf written after) where

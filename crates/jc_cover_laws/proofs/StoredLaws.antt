@@ -1,5 +1,5 @@
 -- What is written of accepted files is what is read back of them.
-use Rattle.std.proofs.Common.{◌≡◌, ℕ, Bool, true, false, List, [], ◌∷◌, Option, Some, map, sym, subst}
+use Rattle.std.proofs.Common.{◌≡◌, ℕ, Bool, true, false, List, [], ◌∷◌, Some, map, sym, subst}
 use Rattle.std.specs.FinMap.{get}
 use Rattle.std.specs.List.{AllByRecursion}
 use Rattle.jc_bytes.specs.ByteLists.{AreBytes}
@@ -16,14 +16,6 @@ use Rattle.jc_cover_work.specs.CoverRun.{AreRead}
 use Rattle.jc_cover_work.specs.Headline.{written_bytes, all_written}
 use Rattle.jc_cover_work.proofs.WriteLaws.{Stand, stored}
 use Rattle.jc_cover_laws.specs.FitCover.{IsShort}
-
--- ---- what was read
-
-pub short_read : (contents : Option FileMap) (paths : List Word) (read : List (List ℕ)) → AreRead contents paths read → AllByRecursion IsShortFile read
-short_read contents [] [] are = tt
-short_read contents [] (t ∷ ts) are = absurd are
-short_read contents (p ∷ ps) [] are = absurd are
-short_read contents (p ∷ ps) (t ∷ ts) are = ((are.0.file.are_bytes, are.0.file.short), short_read contents ps ts are.1)
 
 -- ---- what is written
 
