@@ -1,14 +1,14 @@
 //! The commands, each with all that it reads, writes and says.
-ghost use Rattle.std.specs.Prelude.{◌≤◌, ◌<◌, ◌^◌, ℕ, length, map, Option, IfSome};
+ghost use Rattle.std.specs.Prelude.{◌≤◌, ◌<◌, ◌^◌, length, map, Option, IfSome};
 ghost use Rattle.jc_bytes.specs.Reader.{most_read};
 ghost use Rattle.jc_paths.specs.Looks.{file_view};
 ghost use Rattle.jc_words.specs.Commands.{instrument, run, merge, report, exec_info, class_info, cover, cover_sample};
 ghost use Rattle.jc_words.specs.Seen.{text_seen};
-ghost use Rattle.jc_outside.specs.Outside.{FileMap};
-ghost use Rattle.jc_work.specs.Step.{Landed, world, counts};
+ghost use Rattle.jc_work.specs.Step.{Landed};
 ghost use Rattle.jc_work.specs.Ending.{Ends};
 ghost use Rattle.jc_work.specs.Seen.{texts_of};
 ghost use Rattle.jc_class_commands.specs.ReportSteps.{exec_path, exec_texts};
+ghost use Rattle.jc_cover_work.specs.Runs.{Between, BetweenTexts};
 ghost use Rattle.jc_top.specs.Work.{reporting, work_of};
 
 use crate::complete::complete;
@@ -34,11 +34,8 @@ pub fn instrument<R: Threads + Sync, F: Files, O: Sink, E: Sink>(
     dest: &str,
     words: &[FileWord<'_>],
 ) -> Status
-    ensures { Ends F.landed (work_of (instrument dest.now (map file_view words.now)))
-        (world (F.contents files.old) (O.told out.old) (E.told err.old))
-        (world (F.contents files.new) (O.told out.new) (E.told err.new))
-        (counts (F.read_faults files.old) (F.write_faults files.old) (O.faults out.old) (E.faults err.old))
-        (counts (F.read_faults files.new) (F.write_faults files.new) (O.faults out.new) (E.faults err.new)) result }
+    ensures { Between F.Files O.Sink E.Sink (files.old, out.old, err.old) (files.new, out.new, err.new)
+        (Ends F.landed (work_of (instrument dest.now (map file_view words.now)))) result }
 {
     let paths = match list_files(alloc, files, words) {
         Ok(paths) => paths,
@@ -66,11 +63,8 @@ pub fn run<R: Threads + Sync, F: Files, O: Sink, E: Sink, G: Gate + Sync>(
     words: &[FileWord<'_>],
 ) -> Status
     requires { (1 ≤ workers) × (workers ≤ 16) }
-    ensures { Ends F.landed (work_of (run plan.now destfile.now workers (map file_view words.now)))
-        (world (F.contents files.old) (O.told out.old) (E.told err.old))
-        (world (F.contents files.new) (O.told out.new) (E.told err.new))
-        (counts (F.read_faults files.old) (F.write_faults files.old) (O.faults out.old) (E.faults err.old))
-        (counts (F.read_faults files.new) (F.write_faults files.new) (O.faults out.new) (E.faults err.new)) result }
+    ensures { Between F.Files O.Sink E.Sink (files.old, out.old, err.old) (files.new, out.new, err.new)
+        (Ends F.landed (work_of (run plan.now destfile.now workers (map file_view words.now)))) result }
 {
     let text = match read_one(alloc, files, plan) {
         Ok(text) => text,
@@ -96,11 +90,8 @@ pub fn merge<F: Files, O: Sink, E: Sink>(
     inputs: &[&str],
 ) -> Status
     requires { length inputs.now < 2 ^ 32 }
-    ensures { Ends F.landed (work_of (merge destfile.now (texts_of inputs.now)))
-        (world (F.contents files.old) (O.told out.old) (E.told err.old))
-        (world (F.contents files.new) (O.told out.new) (E.told err.new))
-        (counts (F.read_faults files.old) (F.write_faults files.old) (O.faults out.old) (E.faults err.old))
-        (counts (F.read_faults files.new) (F.write_faults files.new) (O.faults out.new) (E.faults err.new)) result }
+    ensures { Between F.Files O.Sink E.Sink (files.old, out.old, err.old) (files.new, out.new, err.new)
+        (Ends F.landed (work_of (merge destfile.now (texts_of inputs.now)))) result }
 {
     let prepared = prepare_merge(alloc, files, destfile, inputs);
     complete(alloc, files, out, err, prepared)
@@ -119,11 +110,9 @@ fn report_files<R: Threads + Sync, F: Files, O: Sink, E: Sink>(
     words: &[FileWord<'_>],
 ) -> Status
     requires { IfSome exec (λ e. length e.bytes ≤ most_read) }
-    ensures { Ends F.landed (reporting csv.now name.now (exec_path exec.entry) (exec_texts exec.entry) (map file_view words.now))
-        (world (F.contents files.old) (O.told out.old) (E.told err.old))
-        (world (F.contents files.new) (O.told out.new) (E.told err.new))
-        (counts (F.read_faults files.old) (F.write_faults files.old) (O.faults out.old) (E.faults err.old))
-        (counts (F.read_faults files.new) (F.write_faults files.new) (O.faults out.new) (E.faults err.new)) result }
+    ensures { Between F.Files O.Sink E.Sink (files.old, out.old, err.old) (files.new, out.new, err.new)
+        (Ends F.landed (reporting csv.now name.now (exec_path exec.entry) (exec_texts exec.entry) (map file_view words.now)))
+        result }
 {
     let paths = match list_files(alloc, files, words) {
         Ok(paths) => paths,
@@ -145,11 +134,8 @@ pub fn report<R: Threads + Sync, F: Files, O: Sink, E: Sink>(
     exec: Option<&str>,
     words: &[FileWord<'_>],
 ) -> Status
-    ensures { Ends F.landed (work_of (report csv.now name.now (text_seen exec.entry) (map file_view words.now)))
-        (world (F.contents files.old) (O.told out.old) (E.told err.old))
-        (world (F.contents files.new) (O.told out.new) (E.told err.new))
-        (counts (F.read_faults files.old) (F.write_faults files.old) (O.faults out.old) (E.faults err.old))
-        (counts (F.read_faults files.new) (F.write_faults files.new) (O.faults out.new) (E.faults err.new)) result }
+    ensures { Between F.Files O.Sink E.Sink (files.old, out.old, err.old) (files.new, out.new, err.new)
+        (Ends F.landed (work_of (report csv.now name.now (text_seen exec.entry) (map file_view words.now)))) result }
 {
     let Some(path) = exec else {
         return report_files(rt, alloc, files, out, err, csv, name, None, words);
@@ -172,11 +158,8 @@ pub fn exec_info<F: Files, O: Sink, E: Sink>(
     inputs: &[&str],
 ) -> Status
     requires { length inputs.now < 2 ^ 32 }
-    ensures { Ends F.landed (work_of (exec_info (texts_of inputs.now)))
-        (world (F.contents files.old) (O.told out.old) (E.told err.old))
-        (world (F.contents files.new) (O.told out.new) (E.told err.new))
-        (counts (F.read_faults files.old) (F.write_faults files.old) (O.faults out.old) (E.faults err.old))
-        (counts (F.read_faults files.new) (F.write_faults files.new) (O.faults out.new) (E.faults err.new)) result }
+    ensures { Between F.Files O.Sink E.Sink (files.old, out.old, err.old) (files.new, out.new, err.new)
+        (Ends F.landed (work_of (exec_info (texts_of inputs.now)))) result }
 {
     let prepared = prepare_exec_info(alloc, files, inputs);
     complete(alloc, files, out, err, prepared)
@@ -191,11 +174,8 @@ pub fn class_info<R: Threads + Sync, F: Files, O: Sink, E: Sink>(
     err: &mut E,
     words: &[FileWord<'_>],
 ) -> Status
-    ensures { Ends F.landed (work_of (class_info (map file_view words.now)))
-        (world (F.contents files.old) (O.told out.old) (E.told err.old))
-        (world (F.contents files.new) (O.told out.new) (E.told err.new))
-        (counts (F.read_faults files.old) (F.write_faults files.old) (O.faults out.old) (E.faults err.old))
-        (counts (F.read_faults files.new) (F.write_faults files.new) (O.faults out.new) (E.faults err.new)) result }
+    ensures { Between F.Files O.Sink E.Sink (files.old, out.old, err.old) (files.new, out.new, err.new)
+        (Ends F.landed (work_of (class_info (map file_view words.now)))) result }
 {
     let paths = match list_files(alloc, files, words) {
         Ok(paths) => paths,
@@ -222,11 +202,9 @@ pub fn cover<R: Threads + Sync, F: Files, O: Sink, E: Sink, G: Gate + Sync>(
     words: &[FileWord<'_>],
 ) -> Status
     requires { (1 ≤ workers) × (workers ≤ 16) }
-    ensures { Ends F.landed (work_of (cover dest.now plan.now destfile.now csv.now workers name.now (map file_view words.now)))
-        (world (F.contents files.old) (O.told out.old) (E.told err.old))
-        (world (F.contents files.new) (O.told out.new) (E.told err.new))
-        (counts (F.read_faults files.old) (F.write_faults files.old) (O.faults out.old) (E.faults err.old))
-        (counts (F.read_faults files.new) (F.write_faults files.new) (O.faults out.new) (E.faults err.new)) result }
+    ensures { Between F.Files O.Sink E.Sink (files.old, out.old, err.old) (files.new, out.new, err.new)
+        (Ends F.landed (work_of (cover dest.now plan.now destfile.now csv.now workers name.now (map file_view words.now))))
+        result }
 {
     let text = match read_one(alloc, files, plan) {
         Ok(text) => text,
@@ -266,9 +244,8 @@ pub fn cover_sample<R: Threads + Sync, O: Sink, E: Sink, G: Gate + Sync>(
     methods: u32,
 ) -> Status
     requires { (1 ≤ methods) × (methods ≤ 1000) }
-    ensures { (landed : Landed) (contents : Option FileMap) (reads writes : ℕ) → Ends landed (work_of (cover_sample methods))
-        (world contents (O.told out.old) (E.told err.old)) (world contents (O.told out.new) (E.told err.new))
-        (counts reads writes (O.faults out.old) (E.faults err.old)) (counts reads writes (O.faults out.new) (E.faults err.new)) result }
+    ensures { (landed : Landed) → BetweenTexts O.Sink E.Sink (out.old, err.old) (out.new, err.new)
+        (Ends landed (work_of (cover_sample methods))) result }
 {
     match jc_sample::sample(rt, alloc, out, gate, methods) {
         Ok(()) => Status::Done,

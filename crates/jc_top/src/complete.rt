@@ -1,5 +1,5 @@
 //! The end of a command that has prepared what it writes.
-ghost use Rattle.jc_work.specs.Step.{world, counts};
+ghost use Rattle.jc_cover_work.specs.Runs.{Between};
 ghost use Rattle.jc_top.specs.Completes.{Completes};
 
 use jc_outside::{Files, Sink};
@@ -14,11 +14,8 @@ pub fn complete<'a, F: Files, O: Sink, E: Sink>(
     err: &mut E,
     prepared: Result<Vec<Write<'a>>, Stop<'a>>,
 ) -> Status
-    ensures { Completes F.landed prepared.entry
-        (world (F.contents files.old) (O.told out.old) (E.told err.old))
-        (world (F.contents files.new) (O.told out.new) (E.told err.new))
-        (counts (F.read_faults files.old) (F.write_faults files.old) (O.faults out.old) (E.faults err.old))
-        (counts (F.read_faults files.new) (F.write_faults files.new) (O.faults out.new) (E.faults err.new)) result }
+    ensures { Between F.Files O.Sink E.Sink (files.old, out.old, err.old) (files.new, out.new, err.new)
+        (Completes F.landed prepared.entry) result }
 {
     let writes = match prepared {
         Ok(writes) => writes,

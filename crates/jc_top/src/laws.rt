@@ -1,14 +1,15 @@
 //! Laws of every run of the tool, over the definitions alone.
-ghost use Rattle.std.specs.Prelude.{◌≡◌, ◌≢◌, ◌⊎◌, [], ℕ, List};
+ghost use Rattle.std.specs.Prelude.{◌≡◌, ◌≢◌, ◌⊎◌, [], List};
 ghost use Rattle.jc_work.specs.declared.status.Status.{Status};
 ghost use Rattle.jc_work.specs.declared.status.Status.TheVariants as status;
-ghost use Rattle.jc_work.specs.Step.{Word, World, Counts, Landed, Step, after};
-ghost use Rattle.jc_work.specs.Part.{End, done, misused, status_of, message_of, stops};
-ghost use Rattle.jc_work.specs.Ending.{NoneRose, SaysLast, Ends};
+ghost use Rattle.jc_work.specs.Step.{Word, World, Counts, Landed, Step};
+ghost use Rattle.jc_work.specs.Part.{End, done, status_of, stops};
+ghost use Rattle.jc_work.specs.Ending.{NoneRose, Ends};
 ghost use Rattle.jc_work.specs.OneWay.{IsTold, Work, IsWork, writes_of};
 ghost use Rattle.jc_work.specs.Prefix.{LeavesFront};
 ghost use Rattle.jc_work.specs.Causes.{Cause, WorkFailed};
 ghost use Rattle.jc_words.specs.Commands.{NoForm};
+ghost use Rattle.jc_cover_work.specs.Runs.{ToldRun, MakesItsWork};
 ghost use Rattle.jc_top.specs.FirstWrite.{DecideFirst, WritesBegun};
 ghost use Rattle.jc_top.specs.Work.{the_work};
 
@@ -43,15 +44,13 @@ pub fn each_status_has_its_cause()
 /// Where no count rose, it ends as the work does or for want of memory; and if memory wasn't refused either, all steps of the
 /// work were made, and the message of its end was said.
 pub fn each_run_ends_as_its_work()
-    ensures ends { (landed : Landed) (words : List Word) (old new : World) (f g : Counts) (s : Status) (work : Work) → IsTold old
-        → IsWork landed (the_work words) old work → Ends landed (the_work words) old new f g s
-        → (s ≡ status_of work.end) ⊎ (WorkFailed work f g ⊎ (s ≡ status.Memory)) }
-    ensures completes { (landed : Landed) (words : List Word) (old new : World) (f g : Counts) (s : Status) (work : Work) → IsTold old
-        → IsWork landed (the_work words) old work → Ends landed (the_work words) old new f g s → NoneRose f g
-        → (s ≡ status_of work.end) ⊎ (s ≡ status.Memory) }
-    ensures makes { (landed : Landed) (words : List Word) (old new : World) (f g : Counts) (s : Status) (work : Work) → IsTold old
-        → IsWork landed (the_work words) old work → Ends landed (the_work words) old new f g s → NoneRose f g → s ≢ status.Memory
-        → (s ≡ status_of work.end) × SaysLast (message_of work.end) (after landed old work.steps) new f g }
+    ensures ends { (landed : Landed) (words : List Word) (run : ToldRun landed (the_work words))
+        → (run.ended ≡ status_of run.work.end)
+        ⊎ (WorkFailed run.work run.old_counts run.new_counts ⊎ (run.ended ≡ status.Memory)) }
+    ensures completes { (landed : Landed) (words : List Word) (run : ToldRun landed (the_work words))
+        → NoneRose run.old_counts run.new_counts → (run.ended ≡ status_of run.work.end) ⊎ (run.ended ≡ status.Memory) }
+    ensures makes { (landed : Landed) (words : List Word) (run : ToldRun landed (the_work words))
+        → NoneRose run.old_counts run.new_counts → run.ended ≢ status.Memory → MakesItsWork run }
 {
     a_run_has_an_answer();
     each_text_is_a_plan_or_has_a_first_unfit_line();
@@ -60,8 +59,8 @@ pub fn each_run_ends_as_its_work()
 /// But for its last message a run leaves what first writes of its work leave, the last of them perhaps in part: also where a
 /// count rose or memory was refused.
 pub fn each_run_leaves_a_front_of_its_work()
-    ensures { (landed : Landed) (words : List Word) (old new : World) (f g : Counts) (s : Status) (work : Work) → IsTold old
-        → IsWork landed (the_work words) old work → Ends landed (the_work words) old new f g s → LeavesFront landed old (writes_of work.steps) new }
+    ensures { (landed : Landed) (words : List Word) (run : ToldRun landed (the_work words))
+        → LeavesFront landed run.old (writes_of run.work.steps) run.new }
 {
     a_run_has_an_answer();
     each_text_is_a_plan_or_has_a_first_unfit_line();

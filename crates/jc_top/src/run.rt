@@ -4,8 +4,9 @@ ghost use Rattle.jc_words.specs.Commands.{files_of};
 ghost use Rattle.jc_words.specs.Outcome.{CommandRead};
 ghost use Rattle.jc_words.specs.Seen.{command_seen};
 ghost use Rattle.jc_words.specs.Words.{words_of};
-ghost use Rattle.jc_work.specs.Step.{world, counts};
+ghost use Rattle.jc_work.specs.Step.{world};
 ghost use Rattle.jc_work.specs.Ending.{Ends};
+ghost use Rattle.jc_cover_work.specs.Runs.{Between};
 ghost use Rattle.jc_top.specs.Bounds.{IsBounded};
 ghost use Rattle.jc_top.specs.CoverHeadline.{KeepsHeadline};
 ghost use Rattle.jc_top.specs.Work.{work_of, the_work};
@@ -41,11 +42,8 @@ fn run_command<R: Threads + Sync, F: Files, O: Sink, E: Sink, G: Gate + Sync>(
 ) -> Status
     requires few { length (files_of (command_seen command.now)) < 2 ^ 32 }
     requires bounded { IsBounded (command_seen command.now) }
-    ensures { Ends F.landed (work_of (command_seen command.now))
-        (world (F.contents files.old) (O.told out.old) (E.told err.old))
-        (world (F.contents files.new) (O.told out.new) (E.told err.new))
-        (counts (F.read_faults files.old) (F.write_faults files.old) (O.faults out.old) (E.faults err.old))
-        (counts (F.read_faults files.new) (F.write_faults files.new) (O.faults out.new) (E.faults err.new)) result }
+    ensures { Between F.Files O.Sink E.Sink (files.old, out.old, err.old) (files.new, out.new, err.new)
+        (Ends F.landed (work_of (command_seen command.now))) result }
 {
     match command {
         Command::Instrument { dest, files: words } => {
@@ -126,11 +124,8 @@ pub fn run_tool<R: Threads + Sync, F: Files, O: Sink, E: Sink, G: Gate + Sync>(
     err: &mut E,
     gate: &G,
 ) -> Status
-    ensures work { Ends F.landed (the_work (words_of words.now))
-        (world (F.contents files.old) (O.told out.old) (E.told err.old))
-        (world (F.contents files.new) (O.told out.new) (E.told err.new))
-        (counts (F.read_faults files.old) (F.write_faults files.old) (O.faults out.old) (E.faults err.old))
-        (counts (F.read_faults files.new) (F.write_faults files.new) (O.faults out.new) (E.faults err.new)) result }
+    ensures work { Between F.Files O.Sink E.Sink (files.old, out.old, err.old) (files.new, out.new, err.new)
+        (Ends F.landed (the_work (words_of words.now))) result }
     ensures headline { KeepsHeadline F.landed (words_of words.now)
         (world (F.contents files.old) (O.told out.old) (E.told err.old))
         (world (F.contents files.new) (O.told out.new) (E.told err.new)) result }
