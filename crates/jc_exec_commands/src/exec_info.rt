@@ -8,6 +8,7 @@ ghost use Rattle.jc_exec_commands.specs.ExecInfo.{file_line, times_text, session
 ghost use Rattle.jc_work.specs.Seen.{Prints};
 ghost use Rattle.jc_work.specs.Seen.{texts_of};
 ghost use Rattle.jc_work.specs.Answered.{AnswersWith, Prepares};
+ghost use Rattle.jc_work.specs.Handed.{BetweenFiles};
 
 use jc_base::{Bytes, Fail, Files, Memory};
 use jc_exec::{ClassHits, ExecRefusal, ExecStore, Session};
@@ -157,8 +158,7 @@ pub fn prepare_exec_info<'a, F: Files>(
     paths: &[&'a str],
 ) -> Result<Vec<Write<'a>>, Stop<'a>>
     requires { length paths.now < 2 ^ 32 }
-    ensures { Prepares F.landed (texts_of paths.entry.now) (InfoAnswers (texts_of paths.entry.now)) (F.contents files.old) (F.contents files.new)
-        (F.read_faults files.old) (F.read_faults files.new) (F.write_faults files.old) (F.write_faults files.new) result }
+    ensures { BetweenFiles F.Files files.old files.new (Prepares F.landed (texts_of paths.entry.now) (InfoAnswers (texts_of paths.entry.now))) result }
 {
     let texts = read_all(alloc, files, paths)?;
     informed(alloc, paths, &texts)

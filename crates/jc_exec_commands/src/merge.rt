@@ -5,6 +5,7 @@ ghost use Rattle.jc_exec_commands.specs.ExecData.{IsUnionOf};
 ghost use Rattle.jc_work.specs.Step.{Word};
 ghost use Rattle.jc_work.specs.Seen.{texts_of};
 ghost use Rattle.jc_work.specs.Answered.{AnswersWith, Prepares};
+ghost use Rattle.jc_work.specs.Handed.{BetweenFiles};
 ghost use Rattle.jc_exec_commands.specs.Merge.{MergeAnswers};
 
 use jc_base::{Bytes, Files};
@@ -42,19 +43,20 @@ fn one_write<'a>(alloc: Global, write: Write<'a>) -> Result<Vec<Write<'a>>, Stop
     }
 }
 
-/// The one write of the command, of what it read.
+/// The one write of the command, of what it read. The texts are dropped before what is written is made.
 fn merged<'a>(
     alloc: Global,
     destfile: &'a str,
     inputs: &[&'a str],
-    texts: &[Bytes],
+    texts: Vec<Bytes>,
 ) -> Result<Vec<Write<'a>>, Stop<'a>>
     requires few { length inputs.now < 2 ^ 32 }
-    requires each { length texts.now ≡ length inputs.now }
-    requires short { All (λ t. length t ≤ most_read) texts.now }
-    ensures { AnswersWith (MergeAnswers destfile.entry.now (texts_of inputs.entry.now) texts.now) result }
+    requires each { length texts.items ≡ length inputs.now }
+    requires short { All (λ t. length t ≤ most_read) texts.items }
+    ensures { AnswersWith (MergeAnswers destfile.entry.now (texts_of inputs.entry.now) texts.items) result }
 {
-    let store = union_of(alloc, inputs, texts)?;
+    let store = union_of(alloc, inputs, &texts)?;
+    drop(texts);
     let bytes = store.write(alloc)?;
     one_write(
         alloc,
@@ -73,9 +75,8 @@ pub fn prepare_merge<'a, F: Files>(
     inputs: &[&'a str],
 ) -> Result<Vec<Write<'a>>, Stop<'a>>
     requires { length inputs.now < 2 ^ 32 }
-    ensures { Prepares F.landed (texts_of inputs.entry.now) (MergeAnswers destfile.entry.now (texts_of inputs.entry.now)) (F.contents files.old) (F.contents files.new)
-        (F.read_faults files.old) (F.read_faults files.new) (F.write_faults files.old) (F.write_faults files.new) result }
+    ensures { BetweenFiles F.Files files.old files.new (Prepares F.landed (texts_of inputs.entry.now) (MergeAnswers destfile.entry.now (texts_of inputs.entry.now))) result }
 {
     let texts = read_all(alloc, files, inputs)?;
-    merged(alloc, destfile, inputs, &texts)
+    merged(alloc, destfile, inputs, texts)
 }

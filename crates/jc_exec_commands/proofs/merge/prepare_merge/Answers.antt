@@ -1,6 +1,4 @@
-use Rattle.std.proofs.Common.{ℕ, List, subst}
 use Rattle.std.proofs.lemmas.Result.{err_from_is_err_and}
-use Rattle.jc_work.specs.Answered.{AnswersWith}
 use Rattle.jc_work.specs.Seen.{texts_of, stop_seen}
 use Rattle.jc_work.proofs.AnsweredLaws.{prepared, unprepared}
 use Rattle.jc_exec_commands.specs.Merge.{MergeAnswers}
@@ -16,5 +14,4 @@ pub returns : goal.returns
 returns g c out err outs errs =
     let inputs = texts_of c.args.inputs.now in
     prepared g.F.Files.landed inputs (MergeAnswers c.args.destfile.now (texts_of c.args.inputs.now)) _ _ _ _
-    c.in_ok-texts.texts.items c.merged.result (c.in_ok-texts.ensures.does out err outs errs)
-    (subst (λ (ts : List (List ℕ)). AnswersWith (MergeAnswers c.args.destfile.now inputs ts) c.merged.result) c.deref.ensures.value c.merged.ensures)
+    c.in_ok-texts.texts.items c.merged.result (c.in_ok-texts.ensures.does out err outs errs) c.merged.ensures
