@@ -7,35 +7,6 @@ folder=$(mktemp -d)
 trap 'rm -rf "$folder"' EXIT
 cd "$folder"
 
-# Files of one header and as many records as fit into the size. Each record has another id and at
-# least one hit, and its count in the shortest spelling, so that merging the file writes it again.
-cat > make.py <<'PY'
-import sys
-
-path, probes, size = sys.argv[1], int(sys.argv[2]), int(sys.argv[3])
-
-def count_bytes(n):
-    text = bytearray()
-    while n >= 0x80:
-        text.append(n % 0x80 + 0x80)
-        n //= 0x80
-    text.append(n)
-    return bytes(text)
-
-name = b"demo/Measured"
-bits = bytearray((k * 37 + 1) % 256 for k in range((probes + 7) // 8))
-if probes % 8:
-    bits[-1] &= (1 << probes % 8) - 1
-tail = len(name).to_bytes(2, "big") + name + count_bytes(probes) + bytes(bits)
-records = (size - 5) // (9 + len(tail))
-with open(path, "wb") as out:
-    out.write(b"\x01\xc0\xc0\x10\x07")
-    for first in range(0, records, 4096):
-        ids = range(first, min(first + 4096, records))
-        out.write(b"".join(b"\x11" + (k * 0x9E3779B97F4A7C15 % 2**64).to_bytes(8, "big") + tail for k in ids))
-print(records)
-PY
-
 # The best of three runs by the clock, the least of their processor times, and the largest of their peaks.
 cat > measure.py <<'PY'
 import os, subprocess, sys, time
@@ -63,7 +34,7 @@ PY
 echo "jcov merge, best of three runs; MB is 1,000,000 bytes; load before: $(cut -d' ' -f1 /proc/loadavg)"
 for probes in 40 65535; do
     for size in 1048576 8388608 67108864; do
-        records=$(python3 make.py in.exec "$probes" "$size")
+        records=$(python3 "$top/bench/exec_bytes.py" in.exec "$probes" "$size")
         printf '%6d probes a record, %8d bytes, %7d records: ' "$probes" "$(wc -c < in.exec)" "$records"
         python3 measure.py "$jcov" in.exec
         cmp in.exec o
