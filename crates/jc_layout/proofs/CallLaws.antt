@@ -18,7 +18,7 @@ use Rattle.jc_insn.specs.Items.{operands, IsItem}
 use Rattle.jc_insn.specs.Sizes.{StartAt}
 use Rattle.jc_insn.specs.Spells.{SpellsFrom, Spells}
 use Rattle.jc_insn.specs.Writing.{short, insn_text, code_text}
-use Rattle.jc_insn.specs.Layouts.{laid_code, laid_starts}
+use Rattle.jc_insn.specs.Layouts.{laid_starts}
 use Rattle.jc_insn.proofs.ItemReadingLaws.{same_item}
 use Rattle.jc_insn.proofs.OperandsSpelledLaws.{item_of, one_number}
 use Rattle.jc_insn.proofs.ReadBackLaws.{short_size, big_short}
@@ -26,7 +26,7 @@ use Rattle.jc_emit.specs.Emission.{emission}
 use Rattle.jc_emit.specs.Items.{insn_of, twin_items}
 use Rattle.jc_emit.specs.Marks.{invokestatic}
 use Rattle.jc_layout.specs.Layout.{is_wide, chosen_starts, chosen_text}
-use Rattle.jc_layout.specs.LaidBody.{with_call, with_place, laid_body}
+use Rattle.jc_layout.specs.LaidBody.{with_call, with_place, laid_body, SpellsLaid}
 use Rattle.jc_layout.proofs.ChoiceLaws.{chosen_stand}
 use Rattle.jc_layout.proofs.LaidCodeLaws.{begins_so, laid_is}
 
@@ -73,32 +73,34 @@ rest_is f y x code xs e = cc
 no_none : (y : Insn) (code : List Insn) → y ∷ code ≡ [] → ⊥
 no_none y code e = cc
 
-called_text : (call : ℕ) (rest starts : List ℕ) (code spelled : List Insn) → call < 65536
-    → SpellsFrom 0 (call_text 0 ++ rest) spelled starts
-    → invokestatic 0 ∷ code ≡ map (with_places (insn_number starts)) spelled
+called_text : (call : ℕ) (rest starts : List ℕ) (code : List Insn) → call < 65536 → Spells (call_text 0 ++ rest) (invokestatic 0 ∷ code) starts
     → Spells (call_text call ++ rest) (invokestatic call ∷ code) starts
-called_text call rest starts code [] lt s e = absurd (no_none (invokestatic 0) code e)
-called_text call rest starts code (x ∷ xs) lt (text, left, later, parts, is, item, more) e =
-    let f = insn_number starts in
-    let x_is = call_back f 0 x (first_is f (invokestatic 0) x code xs e) in
-    let zero_item = call_item 0 0 (omega arith) in
-    let same = same_item 0 text (call_text 0) left rest (items.Insn (invokestatic 0)) (items.Insn (invokestatic 0))
-    (subst (λ y. IsItem 0 text (items.Insn y)) x_is item) zero_item (sym parts) in
-    let left_is : left ≡ rest = append_cancel_left (call_text 0) left rest (ap (λ (l : List ℕ). l ++ left) (sym same.0) ∙ sym parts) in
-    let size : 0 + length text ≡ 0 + length (call_text call) = let a = ap length same.0 in let b = short_size 0 in let c = short_size call in omega (arith, a, b, c) in
-    record {
-      spelled = invokestatic call ∷ xs;
-      text = (
-        call_text call,
-        rest,
-        later,
-        refl,
-        is,
-        call_item 0 call lt,
-        subst (λ n. SpellsFrom n rest xs later) size (subst (λ l. SpellsFrom (0 + length text) l xs later) left_is more),
-      );
-      places = ap (λ l. invokestatic call ∷ l) (rest_is f (invokestatic 0) x code xs e);
-    }
+called_text call rest starts code lt s = by s.spelled s.text s.places
+  where
+    by : (spelled : List Insn) → SpellsFrom 0 (call_text 0 ++ rest) spelled starts → invokestatic 0 ∷ code ≡ map (with_places (insn_number starts)) spelled
+        → Spells (call_text call ++ rest) (invokestatic call ∷ code) starts
+    by [] s e = absurd (no_none (invokestatic 0) code e)
+    by (x ∷ xs) (text, left, later, parts, is, item, more) e =
+        let f = insn_number starts in
+        let x_is = call_back f 0 x (first_is f (invokestatic 0) x code xs e) in
+        let zero_item = call_item 0 0 (omega arith) in
+        let same = same_item 0 text (call_text 0) left rest (items.Insn (invokestatic 0)) (items.Insn (invokestatic 0))
+        (subst (λ y. IsItem 0 text (items.Insn y)) x_is item) zero_item (sym parts) in
+        let left_is : left ≡ rest = append_cancel_left (call_text 0) left rest (ap (λ (l : List ℕ). l ++ left) (sym same.0) ∙ sym parts) in
+        let size : 0 + length text ≡ 0 + length (call_text call) = let a = ap length same.0 in let b = short_size 0 in let c = short_size call in omega (arith, a, b, c) in
+        record {
+          spelled = invokestatic call ∷ xs;
+          text = (
+            call_text call,
+            rest,
+            later,
+            refl,
+            is,
+            call_item 0 call lt,
+            subst (λ n. SpellsFrom n rest xs later) size (subst (λ l. SpellsFrom (0 + length text) l xs later) left_is more),
+          );
+          places = ap (λ l. invokestatic call ∷ l) (rest_is f (invokestatic 0) x code xs e);
+        }
 
 -- ---- the bytes
 
@@ -130,23 +132,21 @@ chosen_begins code =
     let whole = invokestatic 0 ∷ code in
     text_begins (slice_index (chosen_starts whole)) (is_wide whole) code (chosen_starts whole) (chosen_stand whole)
 
-with_called : (call : ℕ) (bytes : List ℕ) (whole code : List Insn) (starts : List ℕ) → call < 65536
+with_called : (call : ℕ) (bytes starts : List ℕ) (whole code : List Insn) → call < 65536
     → bytes ≡ chosen_text (invokestatic 0 ∷ whole) → Spells bytes (invokestatic 0 ∷ code) starts
-    → Spells (with_place call bytes) (with_call call (invokestatic 0 ∷ code)) starts
-with_called call bytes whole code starts lt are s =
+    → Spells (with_place call bytes) (invokestatic call ∷ code) starts
+with_called call bytes starts whole code lt are s =
     let begins = chosen_begins whole in
     let bytes_are = are ∙ begins.1 in
     subst (λ l. Spells l (invokestatic call ∷ code) starts) (sym (ap (with_place call) bytes_are ∙ placed_text call begins.0))
-    (called_text call begins.0 starts code s.spelled lt (subst (λ l. SpellsFrom 0 l s.spelled starts) bytes_are s.text) s.places)
+    (called_text call begins.0 starts code lt (subst (λ l. Spells l (invokestatic 0 ∷ code) starts) bytes_are s))
 
 pub laid_spells : (b : Body) (first : ℕ) (states : List State) (array : ℕ) (wide : Bool) (call : ℕ) (uses : List Use) (bytes starts : List ℕ)
-    → IsWellMadeOfAnySize b → call < 65536 → bytes ≡ chosen_text (emission b first states array).code
-    → Spells bytes (laid_code wide (emission b first states array).code) (laid_starts wide (emission b first states array).code starts)
-    → Spells (with_place call bytes) (laid_body b (emission b first states array) wide call uses).code (laid_starts wide (emission b first states array).code starts)
+    → IsWellMadeOfAnySize b → call < 65536 → SpellsLaid b (emission b first states array) wide call uses bytes starts
 unfolding laid_body emission
 laid_spells b first states array wide call uses bytes starts well lt are s =
     let narrow = begins_so b first false 0 in
     let laid = laid_is b first wide well.code ∙ begins_so b first wide 0 in
     let ends = laid_starts wide (map (insn_of 0 b.arg_slots) (twin_items b first false)) starts in
     subst (λ code. Spells (with_place call bytes) (with_call call code) ends) (sym laid)
-    (with_called call bytes _ _ ends lt (are ∙ ap chosen_text narrow) (subst (λ code. Spells bytes code ends) laid s))
+    (with_called call bytes ends _ _ lt (are ∙ ap chosen_text narrow) (subst (λ code. Spells bytes code ends) laid s))

@@ -11,7 +11,6 @@ use Rattle.jc_methods.specs.declared.body.Handler.{Handler}
 use Rattle.jc_methods.specs.declared.body.LineAt.{LineAt}
 use Rattle.jc_methods.specs.declared.body.VarAt.{VarAt}
 use Rattle.jc_methods.specs.declared.body.Use.{Use}
-use Rattle.jc_methods.specs.declared.body.What.{What}
 use Rattle.jc_methods.specs.declared.emitted.Emitted.{Emitted}
 use Rattle.jc_bytes.proofs.BooleanLaws.{in_map, of_map}
 use Rattle.jc_insn.specs.Layouts.{laid_code}
@@ -22,7 +21,7 @@ use Rattle.jc_emit.specs.TwinTables.{AreMovedTables, moved_row, moved_line, move
 use Rattle.jc_emit.specs.TwinFrames.{state_at, IsFrame, AreTwinFrames}
 use Rattle.jc_emit.specs.Items.{insn_of, own_of, lead_of, land_of, image_of, marks_of_items, twin_items}
 use Rattle.jc_emit.specs.Emission.{emission, widened_frame, AreWidened}
-use Rattle.jc_emit.specs.Twin.{probe_init, Twin}
+use Rattle.jc_emit.specs.Twin.{probe_init, KeepsUses, Twin}
 use Rattle.jc_emit.proofs.EndsLaws.{images_are, lands_are, leads_are}
 use Rattle.jc_emit.proofs.WholeLaws.{code_told}
 use Rattle.jc_emit.proofs.FrameLaws.{layout_told}
@@ -116,13 +115,17 @@ module _ (b : Body) (first : ℕ) (states : List State) (array : ℕ) (names : L
   -- what holds of the function's places holds of those that the own instructions tell
   at_own : (wide : Bool) (P : (image land lead : ℕ → ℕ) → Type 0)
       → P (image_of b first wide) (land_of b first wide) (lead_of b first wide)
-      → P (image_place (own_in b first wide)) (land_place b first (own_in b first wide)) (lead_place b first (own_in b first wide))
+      → let own = own_in b first wide in P (image_place own) (land_place b first own) (lead_place b first own)
   at_own wide P h =
       subst (λ f. P (image_place (own_in b first wide)) (land_place b first (own_in b first wide)) f) (sym (leads_are b first wide well.code))
       (subst (λ f. P (image_place (own_in b first wide)) f (lead_of b first wide)) (sym (lands_are b first wide well.code))
       (subst (λ f. P f (land_of b first wide) (lead_of b first wide)) (sym (images_are b first wide well.code)) h))
 
-  rows_laid : (wide : Bool) → map (moved_row (laid_place wide (code_in b first)) (laid_place wide (code_in b first))) (map (moved_row (lead_of b first false) (land_of b first false)) b.handlers) ≡ map (moved_row (lead_of b first wide) (land_of b first wide)) b.handlers
+  -- where in the layout stands what stands for the instruction at a place of the emitted code
+  abbrev placed : Bool → ℕ → ℕ
+  placed wide = laid_place wide (code_in b first)
+
+  rows_laid : (wide : Bool) → map (moved_row (placed wide) (placed wide)) (map (moved_row (lead_of b first false) (land_of b first false)) b.handlers) ≡ map (moved_row (lead_of b first wide) (land_of b first wide)) b.handlers
   rows_laid wide =
       rows_twice (laid_place wide (code_in b first)) (lead_of b first false) (land_of b first false) b.handlers
       ∙ ap₂ (λ lead land. map (moved_row lead land) b.handlers) (leads_in wide) (lands_in wide)
@@ -141,7 +144,7 @@ module _ (b : Body) (first : ℕ) (states : List State) (array : ℕ) (names : L
   code_laid wide call = ap (with_call call) (laid_is b first wide well.code) ∙ called b first wide call
 
   pub laid_twin : (wide : Bool) (call : ℕ) (uses : List Use) → what_used uses call ≡ Some (probe_init b.owner)
-      → ((place : ℕ) (what : What) → what_used b.uses place ≡ Some what → what_used uses place ≡ Some what)
+      → KeepsUses b (record b { uses = uses })
       → Twin names names states first b (laid_body b (emission b first states array) wide call uses)
   unfolding laid_body emission
   laid_twin wide call uses calls keeps = record {

@@ -77,10 +77,15 @@ LaidBodiesAreTwins names b first states array =
     → ((place : ℕ) (what : What) → what_used b.uses place ≡ Some what → what_used uses place ≡ Some what)
     → Twin names names states first b (laid_body b (emission b first states array) wide call uses)
 
+-- If these are the bytes of the chosen layout, and spell the emitted code in a layout, then with the place in the pool of
+-- the method that the prelude calls they spell the code of the body that stands there.
+abbrev pub SpellsLaid : Body → Emitted → (wide : Bool) → (call : ℕ) → List Use → (bytes starts : List ℕ) → Type 0
+SpellsLaid b e wide call uses bytes starts =
+    bytes ≡ chosen_text e.code → Spells bytes (laid_code wide e.code) (laid_starts wide e.code starts)
+    → Spells (with_place call bytes) (laid_body b e wide call uses).code (laid_starts wide e.code starts)
+
 -- The bytes of the layout that spell the code before the method has its place in the pool spell the code of the body,
 -- once that place stands in the first instruction.
 abbrev pub LaidBodiesAreSpelled : Body → Emitted → Type 0
 LaidBodiesAreSpelled b e =
-    (wide : Bool) (call : ℕ) (uses : List Use) (bytes starts : List ℕ) → call < 2 ^ 16 → bytes ≡ chosen_text e.code
-    → Spells bytes (laid_code wide e.code) (laid_starts wide e.code starts)
-    → Spells (with_place call bytes) (laid_body b e wide call uses).code (laid_starts wide e.code starts)
+    (wide : Bool) (call : ℕ) (uses : List Use) (bytes starts : List ℕ) → call < 2 ^ 16 → SpellsLaid b e wide call uses bytes starts
