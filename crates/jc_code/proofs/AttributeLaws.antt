@@ -8,8 +8,8 @@ use Rattle.std.proofs.lemmas.List.{append-nil, length-map}
 use Rattle.jc_bytes.proofs.AppendingLaws.{joined}
 use Rattle.jc_methods.specs.VerificationTypes.{Names, TypeStateAt, type_state_at}
 use Rattle.jc_methods.specs.declared.body.FrameAt.{FrameAt}
-use Rattle.jc_methods.specs.declared.emitted.Emitted.{Emitted}
 use Rattle.jc_class.specs.declared.class_file.Attribute.{Attribute}
+use Rattle.jc_emit.specs.declared.tables.MovedTables.{MovedTables}
 use Rattle.jc_frames.specs.FullFrames.{Places, table_text}
 use Rattle.jc_frames.specs.FullTable.{ArePlacesIn, HasPlace, TakesClasses}
 use Rattle.jc_frames.proofs.TakenLaws.{stands_first}
@@ -78,20 +78,20 @@ all_text a b c d count t₀ t₁ t₂ t₃ t₄ t₅ is p₁ p₂ p₃ p₄ p₅
     ∙ ap (λ (l : List ℕ). flat_map attribute_text a ++ l) (flat_map-append attribute_text b (c ++ d)
     ∙ ap (λ (l : List ℕ). flat_map attribute_text b ++ l) (flat_map-append attribute_text c d))))
 
-pub attributes_count : (lines vars kind_vars frames_name : ℕ) (p : Places) (e : Emitted) (names : Names) (frames : List FrameAt) (k l m n : ℕ)
-    → length e.lines ≤ 65535 * k → 65535 * k < length e.lines + 65535 → length e.vars ≤ 65535 * l → 65535 * l < length e.vars + 65535
-    → length e.kind_vars ≤ 65535 * m → 65535 * m < length e.kind_vars + 65535 → (length frames ≡ 0 → n ≡ 0) → (0 < length frames → n ≡ 1)
-    → k + l + m + n ≡ length (attributes_by lines vars kind_vars frames_name p e (map (type_state_at names) frames))
-attributes_count lines vars kind_vars frames_name p e names frames k l m n p₁ q₁ p₂ q₂ p₃ q₃ none some =
+pub attributes_count : (lines vars kind_vars frames_name : ℕ) (p : Places) (t : MovedTables) (names : Names) (frames : List FrameAt) (k l m n : ℕ)
+    → length t.lines ≤ 65535 * k → 65535 * k < length t.lines + 65535 → length t.vars ≤ 65535 * l → 65535 * l < length t.vars + 65535
+    → length t.kind_vars ≤ 65535 * m → 65535 * m < length t.kind_vars + 65535 → (length frames ≡ 0 → n ≡ 0) → (0 < length frames → n ≡ 1)
+    → k + l + m + n ≡ length (attributes_by lines vars kind_vars frames_name p t (map (type_state_at names) frames))
+attributes_count lines vars kind_vars frames_name p t names frames k l m n p₁ q₁ p₂ q₂ p₃ q₃ none some =
     let seen = map (type_state_at names) frames in
     let size = length-map frames (type_state_at names) in
-    let a = table_attributes lines (line_text p.start) e.lines in
-    let b = table_attributes vars (var_text p.start) e.vars in
-    let d = table_attributes kind_vars (var_text p.start) e.kind_vars in
+    let a = table_attributes lines (line_text p.start) t.lines in
+    let b = table_attributes vars (var_text p.start) t.vars in
+    let d = table_attributes kind_vars (var_text p.start) t.kind_vars in
     let f = frame_attributes frames_name p seen in
-    let one = table_count lines (line_text p.start) e.lines k p₁ q₁ in
-    let two = table_count vars (var_text p.start) e.vars l p₂ q₂ in
-    let three = table_count kind_vars (var_text p.start) e.kind_vars m p₃ q₃ in
+    let one = table_count lines (line_text p.start) t.lines k p₁ q₁ in
+    let two = table_count vars (var_text p.start) t.vars l p₂ q₂ in
+    let three = table_count kind_vars (var_text p.start) t.kind_vars m p₃ q₃ in
     let four = frame_count frames_name p seen n (λ no_frames. none (omega (arith, size, no_frames))) (λ more. some (omega (arith, size, more))) in
     let whole = length-append a (b ++ (d ++ f)) in
     let later = length-append b (d ++ f) in

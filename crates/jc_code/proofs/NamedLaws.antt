@@ -9,7 +9,7 @@ use Rattle.jc_pool.specs.Lookup.{utf8_of}
 use Rattle.jc_code.specs.CodeText.{table_attributes, frame_attributes, line_text, var_text}
 use Rattle.jc_code.specs.FirstPlaces.{text_place}
 use Rattle.jc_code.specs.Given.{AreNamed, IsNamedAt}
-use Rattle.jc_code.specs.TwinCode.{lines_name, vars_name, kind_vars_name, offset_in, places_of, attributes_by, code_attributes}
+use Rattle.jc_code.specs.TwinCode.{lines_name, vars_name, kind_vars_name, offset_in, places_of, tables_in, attributes_by, code_attributes}
 use Rattle.jc_code.specs.declared.code.CodePlaces.{CodePlaces}
 use Rattle.jc_code.proofs.FirstPlaceLaws.{text_found}
 
@@ -24,7 +24,7 @@ named_table pool name place text [] named = refl
 named_table pool name place text (x ∷ xs) named = ap (λ (n : ℕ). table_attributes n text (x ∷ xs)) (sym (text_found pool name place named))
 
 pub are_named : (pool : PoolValue) (e : Emitted) (places : CodePlaces) (frames_name : ℕ) (frames : List TypeStateAt) → AreNamed pool e places
-    → attributes_by places.lines places.vars places.kind_vars frames_name (places_of pool e) e frames ≡ code_attributes pool frames_name e frames
+    → attributes_by places.lines places.vars places.kind_vars frames_name (places_of pool e) (tables_in e) frames ≡ code_attributes pool frames_name e frames
 are_named pool e places frames_name frames named =
     let last = frame_attributes frames_name (places_of pool e) frames in
     let offset = offset_in e in

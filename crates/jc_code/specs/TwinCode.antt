@@ -5,6 +5,7 @@ use Rattle.jc_methods.specs.declared.body.FrameAt.{FrameAt}
 use Rattle.jc_methods.specs.declared.emitted.Emitted.{Emitted}
 use Rattle.jc_pool.specs.Pool.{PoolValue}
 use Rattle.jc_class.specs.declared.class_file.Attribute.{Attribute}
+use Rattle.jc_emit.specs.declared.tables.MovedTables.{MovedTables}
 use Rattle.jc_frames.specs.FullFrames.{Places}
 use Rattle.jc_layout.specs.LaidBody.{with_place}
 use Rattle.jc_layout.specs.Layout.{is_wide, chosen_starts, chosen_text}
@@ -48,19 +49,30 @@ kind_vars_name = codes "LocalVariableTypeTable"
 
 -- ---- the attribute
 
+-- the tables of the emitted code, and its sizes
+abbrev pub tables_in : Emitted → MovedTables
+tables_in e = record {
+  handlers = e.handlers;
+  lines = e.lines;
+  vars = e.vars;
+  kind_vars = e.kind_vars;
+  max_stack = e.max_stack;
+  max_locals = e.max_locals;
+}
+
 -- The attributes of the code, in this order, each left out where it has no entries; their names stand at these places.
-abbrev pub attributes_by : (lines vars kind_vars frames_name : ℕ) → Places → Emitted → List TypeStateAt → List Attribute
-attributes_by lines vars kind_vars frames_name p e frames =
-    table_attributes lines (line_text p.start) e.lines
-    ++ (table_attributes vars (var_text p.start) e.vars
-    ++ (table_attributes kind_vars (var_text p.start) e.kind_vars
+abbrev pub attributes_by : (lines vars kind_vars frames_name : ℕ) → Places → MovedTables → List TypeStateAt → List Attribute
+attributes_by lines vars kind_vars frames_name p t frames =
+    table_attributes lines (line_text p.start) t.lines
+    ++ (table_attributes vars (var_text p.start) t.vars
+    ++ (table_attributes kind_vars (var_text p.start) t.kind_vars
     ++ frame_attributes frames_name p frames))
 
 -- the same, where the names of the first three stand at their first places
 abbrev pub code_attributes : PoolValue → (frames_name : ℕ) → Emitted → List TypeStateAt → List Attribute
 code_attributes pool frames_name e frames =
     attributes_by (text_place pool lines_name) (text_place pool vars_name) (text_place pool kind_vars_name) frames_name
-    (places_of pool e) e frames
+    (places_of pool e) (tables_in e) frames
 
 -- What stands behind the name and the length of the Code attribute (JVM Specification 4.7.3), where the method that the prelude
 -- calls and the text StackMapTable stand at these places: the bytes are those of the layout, with the place of that method.

@@ -1,19 +1,21 @@
 //! The attributes of a Code attribute.
-ghost use Rattle.std.specs.Prelude.{◌≡◌, ◌++◌, ℕ, OnOk, length, map, slice_index};
+ghost use Rattle.std.specs.Prelude.{◌≡◌, ◌++◌, ℕ, List, OnOk, length, map, slice_index};
 ghost use Rattle.std.specs.List.{AllByRecursion, flat_map};
 ghost use Rattle.jc_methods.specs.VerificationTypes.{Names as ClassNames, type_state_at};
 ghost use Rattle.jc_pool.specs.Adding.{Extends};
-ghost use Rattle.jc_frames.specs.FullFrames.{Places};
+ghost use Rattle.jc_pool.specs.Pool.{PoolValue};
 ghost use Rattle.jc_frames.specs.FullTable.{CanBeWritten, HasPlace, named_by_all};
 ghost use Rattle.jc_code.specs.CodeText.{attribute_text, counted_text, frame_attributes};
-ghost use Rattle.jc_code.specs.TwinCode.{attributes_by, places_by};
+ghost use Rattle.jc_code.specs.LaidText.{laid_attributes, tables_seen};
+ghost use Rattle.jc_code.specs.TwinCode.{places_by};
+ghost use Rattle.jc_code.specs.declared.code.CodePlaces.{CodePlaces as CodeTextPlaces};
 
-use crate::code::CodePlaces;
+use crate::code::{CodePlaces, CodeTables};
 use crate::numbers::{put_header, put_short};
 use crate::parts::{part_count, put_line_tables, put_var_tables};
 use jc_bytes::{Memory, Names, put_bytes};
 use jc_frames::write_full;
-use jc_methods::{Emitted, FrameAt};
+use jc_methods::FrameAt;
 use jc_pool::Pool;
 use std::alloc::Global;
 
@@ -53,12 +55,14 @@ fn put_frames(
 }
 
 /// How many attributes a Code attribute has.
-fn attribute_count(emitted: &Emitted, frames: &[FrameAt]) -> usize
-    ensures { (lines vars kind_vars frames_name : ℕ) (p : Places) (names : ClassNames)
-        → result ≡ length (attributes_by lines vars kind_vars frames_name p emitted.now (map (type_state_at names) frames.now)) }
+fn attribute_count(tables: &CodeTables, frames: &[FrameAt]) -> usize
+    ensures { (pool : PoolValue) (places : CodeTextPlaces) (names : ClassNames) (starts : List ℕ)
+        → result ≡ length (laid_attributes pool places names (tables_seen tables.now) starts frames.now) }
 {
-    let tables = part_count(emitted.lines.len()) + part_count(emitted.vars.len());
-    let all_tables = tables + part_count(emitted.kind_vars.len());
+    let line_tables = part_count(tables.lines.len());
+    let all_tables = line_tables
+        + part_count(tables.vars.len())
+        + part_count(tables.kind_vars.len());
     if frames.is_empty() {
         return all_tables;
     }
@@ -73,7 +77,7 @@ fn attribute_count(emitted: &Emitted, frames: &[FrameAt]) -> usize
 pub fn put_attributes(
     alloc: Global,
     into: &mut Vec<u8>,
-    emitted: &Emitted,
+    tables: &CodeTables,
     frames: &[FrameAt],
     starts: &[u32],
     names: &Names,
@@ -83,18 +87,17 @@ pub fn put_attributes(
     requires written { CanBeWritten starts.now (length names.now) frames.now }
     requires stand { AllByRecursion (HasPlace pool.old) (named_by_all (map (type_state_at names.now) frames.now)) }
     ensures text { OnOk result (into.new.items ≡ into.old.items ++ counted_text attribute_text
-        (attributes_by places.now.lines places.now.vars places.now.kind_vars places.now.frames
-        (places_by pool.old (slice_index starts.now)) emitted.now (map (type_state_at names.now) frames.now))) }
+        (laid_attributes pool.old places.now names.now (tables_seen tables.now) starts.now frames.now)) }
     ensures kept { OnOk result (pool.new ≡ pool.old) }
     ensures extends { Extends pool.old pool.new }
 {
-    let Ok(count) = u16::try_from(attribute_count(emitted, frames)) else {
+    let Ok(count) = u16::try_from(attribute_count(tables, frames)) else {
         return Err(Memory);
     };
     put_short(into, count)?;
-    put_line_tables(into, places.lines, &emitted.lines, starts)?;
-    put_var_tables(into, places.vars, &emitted.vars, starts)?;
-    put_var_tables(into, places.kind_vars, &emitted.kind_vars, starts)?;
+    put_line_tables(into, places.lines, tables.lines, starts)?;
+    put_var_tables(into, places.vars, tables.vars, starts)?;
+    put_var_tables(into, places.kind_vars, tables.kind_vars, starts)?;
     put_frames(alloc, into, places.frames, frames, starts, names, pool)?;
     Ok(())
 }

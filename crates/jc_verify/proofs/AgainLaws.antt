@@ -44,6 +44,17 @@ module _ (names : Names) (c twin : ClassFile) (places : CodePlaces) (array : ℕ
       passes names twin b.method new (body_again names c twin places array method new b states first w)
       (is_body names c twin places array method new b states first w) (is_checked names c twin places array method new b states first w)
 
+pub read_at_as_twin : (names : Names) (c twin : ClassFile) (places : CodePlaces) (array number : ℕ) (new : Member)
+    → (w : IsWrittenAt names c twin places array number new) → IsReadAsTwin names twin new w.states w.first w.body
+read_at_as_twin names c twin places array number new w =
+    read_as_twin names c twin places array w.method new w.body w.states w.first w.written
+
+pub written_at_passes : (names : Names) (c twin : ClassFile) (places : CodePlaces) (array number : ℕ) (new : Member)
+    → IsWrittenAt names c twin places array number new → PassesAgain twin number new
+written_at_passes names c twin places array number new w =
+    subst (λ (n : ℕ). PassesAgain twin n new) w.number_is
+    (written_passes names c twin places array w.method new w.body w.states w.first w.written)
+
 module _ (twin : ClassFile) (owner : List ℕ) (id : ℤ) (count : ℕ) (p : AddedPlaces) (method : Member) (w : IsAddedMethod twin owner id count p method)
     (number : ℕ) where
   pub read_as_init : IsReadAsInit twin number method owner id count
@@ -65,6 +76,5 @@ each_passes names c twin places array each number new at = by (each number new a
   where
     by : HasNoCode twin.pool new ⊎ (IsWrittenAt names c twin places array number new ⊎ IsAddedAt twin new) → HasNoCode twin.pool new ⊎ PassesAgain twin number new
     by (inl none) = inl none
-    by (inr (inl w)) =
-        inr (subst (λ (n : ℕ). PassesAgain twin n new) w.number_is (written_passes names c twin places array w.method new w.body w.states w.first w.written))
+    by (inr (inl w)) = inr (written_at_passes names c twin places array number new w)
     by (inr (inr a)) = inr (added_passes twin a.owner a.id a.count a.places new a.added number)

@@ -25,7 +25,7 @@ use Rattle.jc_layout.specs.Layout.{chosen_length, chosen_starts, chosen_text, is
 use Rattle.jc_layout.proofs.CallLaws.{laid_spells}
 use Rattle.jc_layout.proofs.ChoiceLaws.{text_length}
 use Rattle.jc_code.specs.CodeText.{attribute_text, code_text, counted_text, frame_attributes, line_text, row_text, table_attributes, var_text}
-use Rattle.jc_code.specs.TwinCode.{attributes_by, code_attributes, kind_vars_name, lines_name, offset_in, places_of, twin_code, vars_name, written_frames}
+use Rattle.jc_code.specs.TwinCode.{attributes_by, code_attributes, kind_vars_name, lines_name, offset_in, places_of, tables_in, twin_code, vars_name, written_frames}
 use Rattle.jc_code.specs.declared.code.CodePlaces.{CodePlaces}
 use Rattle.jc_code.proofs.FirstPlaceLaws.{text_within}
 use Rattle.jc_code.proofs.NamedLaws.{are_named}
@@ -112,7 +112,7 @@ module _ (pool : PoolValue) (places : CodePlaces) (names : Names) (e : Emitted) 
 
   -- the attributes, with their names at the places that are given
   abbrev placed : List Attribute
-  placed = attributes_by places.lines places.vars places.kind_vars places.frames (places_of pool e) e frames
+  placed = attributes_by places.lines places.vars places.kind_vars places.frames (places_of pool e) (tables_in e) frames
 
   pub offsets_short : (k : ℕ) → offset k < 65536
   offsets_short k = let most = most_offset e.code k in let few = w.few in omega (arith, most, few)

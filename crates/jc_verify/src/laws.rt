@@ -3,14 +3,12 @@
 //! [`each_method_passes_again`] is the promise of this crate; the others are steps, which the crates above cite too.
 ghost use Rattle.std.specs.Prelude.{ℕ, ℤ, List};
 ghost use Rattle.jc_methods.specs.VerificationTypes.{Names};
-ghost use Rattle.jc_methods.specs.declared.body.Body.{Body};
-ghost use Rattle.jc_methods.specs.declared.kind.State.{State};
 ghost use Rattle.jc_class.specs.declared.class_file.ClassFile.{ClassFile};
 ghost use Rattle.jc_class.specs.declared.class_file.Member.{Member};
 ghost use Rattle.jc_code.specs.declared.code.CodePlaces.{CodePlaces};
 ghost use Rattle.jc_code.specs.declared.init.AddedPlaces.{AddedPlaces};
-ghost use Rattle.jc_verify.specs.Again.{PassesAgain, IsReadAsTwin, IsReadAsInit, AreWrittenMethods, EachPassesAgain};
-ghost use Rattle.jc_verify.specs.Written.{IsAddedMethod, IsWrittenMethod};
+ghost use Rattle.jc_verify.specs.Again.{PassesAgain, IsReadAsTwin, IsReadAsInit, IsWrittenAt, AreWrittenMethods, EachPassesAgain};
+ghost use Rattle.jc_verify.specs.Written.{IsAddedMethod};
 
 /// Where each method of a class has no code, or has its instrumented code, or is the added one, each
 /// has no code or passes the kind check.
@@ -23,10 +21,10 @@ pub fn each_method_passes_again()
 /// twin of the method's body [`twin`], and each body that is read of it passes the kind check
 /// [`passes`].
 pub fn each_written_method_is_read_back()
-    ensures twin { (names : Names) (c twin : ClassFile) (places : CodePlaces) (array : ℕ) (method new : Member) (b : Body) (states : List State) (first : ℕ)
-        → IsWrittenMethod names c twin places array method new b states first → IsReadAsTwin names twin new states first b }
-    ensures passes { (names : Names) (c twin : ClassFile) (places : CodePlaces) (array : ℕ) (method new : Member) (b : Body) (states : List State) (first : ℕ)
-        → IsWrittenMethod names c twin places array method new b states first → PassesAgain twin b.method new }
+    ensures twin { (names : Names) (c twin : ClassFile) (places : CodePlaces) (array number : ℕ) (new : Member)
+        → (w : IsWrittenAt names c twin places array number new) → IsReadAsTwin names twin new w.states w.first w.body }
+    ensures passes { (names : Names) (c twin : ClassFile) (places : CodePlaces) (array number : ℕ) (new : Member)
+        → IsWrittenAt names c twin places array number new → PassesAgain twin number new }
 {}
 
 /// The added method that was written is read as the one that gives the probe array of its class
