@@ -12,7 +12,7 @@ use Rattle.jc_pool.specs.Pool.{PoolValue}
 use Rattle.jc_pool.specs.declared.add.PoolFull.{PoolFull}
 use Rattle.jc_instrument.specs.Contents.{class_entry, TakesEach}
 use Rattle.jc_instrument.specs.Needed.{frame_needs}
-use Rattle.jc_instrument.specs.Taking.{frames_in, frames_of, IsTooMuch, RefusesEach}
+use Rattle.jc_instrument.specs.Taking.{frames_of, IsTooMuch, RefusesEach}
 use Rattle.jc_instrument.specs.declared.probed.Probed.{Probed}
 use Rattle.jc_instrument.proofs.TakingLaws.{IsEntire, takes_one, too_much_before, too_much_behind, too_much_one}
 
@@ -47,13 +47,13 @@ classes_refused old new names (fails.Said full) refused = classes_much old new n
 
 -- the classes that one of them names
 abbrev named_in : Names → Probed → Names
-named_in names p = named_by_all (map (type_state_at names) (frames_in p))
+named_in names p = named_by_all (map (type_state_at names) p.frames)
 
 frames_first : (names : Names) (p : Probed) (probed : List Probed)
     → named_by_all (frames_of names (p ∷ probed)) ≡ named_in names p ++ named_by_all (frames_of names probed)
 frames_first names p probed =
-    ap named_by_all (flat_map-cons (λ (q : Probed). map (type_state_at names) (frames_in q)) p probed)
-    ∙ flat_map-append named_by (map (type_state_at names) (frames_in p)) (frames_of names probed)
+    ap named_by_all (flat_map-cons (λ (q : Probed). map (type_state_at names) q.frames) p probed)
+    ∙ flat_map-append named_by (map (type_state_at names) p.frames) (frames_of names probed)
 
 pub frames_next : (names : Names) (probed : List Probed) (i : ℕ) (p : Probed) → i < length probed → p ≡ get_or probed i p
     → named_by_all (frames_of names (drop i probed)) ≡ named_in names p ++ named_by_all (frames_of names (drop (i + 1) probed))

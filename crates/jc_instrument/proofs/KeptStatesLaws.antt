@@ -1,12 +1,13 @@
 -- The states of a body under more names, and those that are kept of the bodies of a class.
-use Rattle.std.proofs.Common.{◌≡◌, ◌⊎◌, inl, inr, ℕ, ◌+◌, ◌<◌, List, [], ◌∷◌, ◌++◌, length, take, Option, Some, get_or, slice_get, refl, sym, ◌∙◌, ap, ap₂, subst, arith}
+use Rattle.std.proofs.Common.{◌≡◌, ◌⊎◌, inl, inr, ℕ, ◌+◌, ◌<◌, List, [], ◌∷◌, ◌++◌, length, take, Option, Some, get_or, slice_get, sym, ◌∙◌, ap, ap₂, subst, arith}
 use Rattle.std.specs.Prelude.{IfSome}
-use Rattle.std.specs.List.{enumerate_from}
+use Rattle.std.specs.List.{zip}
 use Rattle.std.proofs.lemmas.List.{length-take-le, take_more}
-use Rattle.std.proofs.lemmas.List.FromFn.{length-enumerate_from, get_or-enumerate_from}
-use Rattle.std.proofs.lemmas.Option.{slice_get-get_or, slice_get_read, slice_get_within}
+use Rattle.std.proofs.lemmas.Option.{slice_get-get_or}
+use Rattle.std.proofs.lemmas.Slice.Zip.{get_or-zip, length-zip}
 use Rattle.jc_methods.specs.VerificationTypes.{Names, AreNumberedFrames, Grows}
 use Rattle.jc_methods.specs.declared.body.Body.{Body}
+use Rattle.jc_methods.specs.declared.plan.Plan.{Plan}
 use Rattle.jc_methods.specs.declared.kind.State.{State}
 use Rattle.jc_methods.proofs.NumberedLaws.{grown_count, seen_grown, state_numbered}
 use Rattle.jc_bytes.proofs.ListLaws.{put_cases}
@@ -78,21 +79,37 @@ room_on bodies n b names old new room less is count before puts =
     let more = ap₂ places_kept (take_more bodies n b less ∙ ap (λ (x : Body). take n bodies ++ x ∷ []) (sym is)) puts.put in
     omega (arith, put, more, before, puts.room)
 
--- ---- one entry after the other
+-- ---- one body after the other
 
--- the pair that comes next of the entries with their numbers
-pub entry_at : {X : Type 0} (xs : List X) (n : ℕ) (pair : ℕ × X) → (n < length (enumerate_from 0 xs)) × (pair ≡ get_or (enumerate_from 0 xs) n pair)
-    → (pair.0 ≡ n) × (slice_get xs n ≡ Some pair.1)
-entry_at {X = X} xs n pair turn =
-    let less : n < length xs = omega (arith, turn.0, length-enumerate_from 0 xs) in
-    let is = turn.1 ∙ get_or-enumerate_from 0 xs n pair less in
-    let number : pair.0 ≡ n = omega (arith, ap (λ (p : ℕ × X). p.0) is) in
-    (number, slice_get-get_or xs n pair.1 less ∙ ap Some (sym (ap (λ (p : ℕ × X). p.1) is)))
+module _ (bodies : List Body) (plans : List Plan) (kept : List (Option (List State))) (planned : length plans ≡ length bodies)
+    (counted : length kept ≡ length bodies) where
+  -- there are as many as bodies
+  pub all_count : length (zip (zip bodies plans) kept) ≡ length bodies
+  all_count = omega (arith, length-zip (zip bodies plans) kept, length-zip bodies plans, planned, counted)
 
-module _ (names : Names) (bodies : List Body) (kept : List (Option (List State))) (are : AreKeptStates names bodies kept) (n number : ℕ)
-    (one : Option (List State)) (index : number ≡ n) (there : slice_get kept n ≡ Some one) where
-  pub number_within : number < length bodies
-  number_within = let less = slice_get_within kept n one there in omega (arith, less, index, are.count)
+  -- the body, its plan and what is kept for it that come next
+  module _ (n : ℕ) (next : (Body × Plan) × Option (List State))
+      (turn : (n < length (zip (zip bodies plans) kept)) × (next ≡ get_or (zip (zip bodies plans) kept) n next)) where
+    within : n < length bodies
+    within = let all = all_count in omega (arith, turn.0, all)
 
-  pub body_at : (b : Body) → b ≡ get_or bodies number b → slice_get bodies n ≡ Some b
-  body_at b is = subst (λ (k : ℕ). slice_get bodies k ≡ Some b) index (slice_get_read bodies (length bodies) number b refl number_within is)
+    parts : next ≡ (get_or (zip bodies plans) n next.0, get_or kept n next.1)
+    parts =
+        turn.1 ∙ get_or-zip (zip bodies plans) kept n next (let less = within in omega (arith, less, length-zip bodies plans, planned))
+        (let less = within in omega (arith, less, counted))
+
+    pair : next.0 ≡ (get_or bodies n next.0.0, get_or plans n next.0.1)
+    pair =
+        ap (λ (x : (Body × Plan) × Option (List State)). x.0) parts
+        ∙ get_or-zip bodies plans n next.0 within (let less = within in omega (arith, less, planned))
+
+    pub body_next : slice_get bodies n ≡ Some next.0.0
+    body_next = slice_get-get_or bodies n next.0.0 within ∙ ap Some (sym (ap (λ (x : Body × Plan). x.0) pair))
+
+    pub plan_next : next.0.1 ≡ get_or plans n next.0.1
+    plan_next = ap (λ (x : Body × Plan). x.1) pair
+
+    pub kept_next : slice_get kept n ≡ Some next.1
+    kept_next =
+        slice_get-get_or kept n next.1 (let less = within in omega (arith, less, counted))
+        ∙ ap Some (sym (ap (λ (x : (Body × Plan) × Option (List State)). x.1) parts))

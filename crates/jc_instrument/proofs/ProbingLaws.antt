@@ -9,7 +9,6 @@ use Rattle.std.proofs.lemmas.Option.{none-some, same_Some, slice_get_within, sli
 use Rattle.jc_methods.specs.VerificationTypes.{Names, AreNumberedFrames, Grows}
 use Rattle.jc_bytes.specs.Names.{AreNames}
 use Rattle.jc_methods.specs.declared.body.Body.{Body}
-use Rattle.jc_methods.specs.declared.emitted.Emitted.{Emitted}
 use Rattle.jc_methods.specs.declared.insn.Insn.{Insn}
 use Rattle.jc_methods.specs.declared.kind.State.{State}
 use Rattle.jc_methods.specs.WellMade.{IsWellMadeOfAnySize}
@@ -24,14 +23,16 @@ use Rattle.jc_plan.proofs.CountLaws.{each_mapped}
 use Rattle.jc_plan.proofs.MappedLaws.{length_made, made_of}
 use Rattle.jc_emit.specs.Emission.{emission, IsArrayNumber}
 use Rattle.jc_emit.specs.Shift.{probe_array_class}
+use Rattle.jc_emit.specs.Stages.{moved_tables}
 use Rattle.jc_layout.specs.Layable.{IsLayable}
 use Rattle.jc_layout.specs.Layout.{chosen_length}
 use Rattle.jc_layout.proofs.LayableLaws.{all_formed, all_within, few_in}
+use Rattle.jc_code.specs.TwinCode.{tables_in}
 use Rattle.jc_code.proofs.LaidLaws.{laid_length}
 use Rattle.jc_plan.specs.Analysed.{plans_of, all_probes}
 use Rattle.jc_instrument.specs.Probing.{IsMade, IsMadeOf, work, AreMade, AreProbed, AreShortBelow}
 use Rattle.jc_instrument.specs.RoomCauses.{probed_code}
-use Rattle.jc_instrument.specs.Taking.{frames_in, HasFrames}
+use Rattle.jc_instrument.specs.Taking.{HasFrames}
 use Rattle.jc_instrument.specs.BodiesWithStates.{BodyWithStates, bodies_of, IsBodyWithStates}
 use Rattle.jc_instrument.specs.declared.probed.Probed.{Probed}
 use Rattle.jc_instrument.proofs.KeptStatesLaws.{states_grown}
@@ -42,6 +43,10 @@ use Rattle.jc_instrument.proofs.PlanningLaws.{first_more}
 pub emission_code : (b : Body) (first : ℕ) (states : List State) (array : ℕ) → (emission b first states array).code ≡ probed_code b first
 unfolding emission
 emission_code b first states array = refl
+
+pub emission_tables : (b : Body) (first : ℕ) (states : List State) (array : ℕ) → moved_tables b first ≡ tables_in (emission b first states array)
+unfolding emission
+emission_tables b first states array = refl
 
 pub emission_layable : (b : Body) (first : ℕ) (states : List State) (array : ℕ) → IsWellMadeOfAnySize b → IsLayable (emission b first states array).code
 unfolding emission
@@ -140,10 +145,11 @@ array_grown old new array grows is =
 -- more names are named as well
 frames_grown : (old new : ℕ) (p : Probed) → old ≤ new → HasFrames old p → HasFrames new p
 frames_grown old new p le has = record {
-  are = has.are;
   few = has.few;
   rising = has.rising;
-  each = each_mapped (FitsFull (length p.emitted.code + 1) old) (FitsFull (length p.emitted.code + 1) new) (frames_in p)
+  offsets = has.offsets;
+  short = has.short;
+  each = each_mapped (FitsFull (length p.laid.starts) old) (FitsFull (length p.laid.starts) new) p.frames
       (λ f fits. record {
         at = fits.at;
         few_locals = fits.few_locals;
@@ -184,8 +190,8 @@ made_count names (w ∷ works) (p ∷ probed) made = ap suc (made_count names wo
 -- the code that was made isn't too large
 made_short : (names : Names) (b : Body) (first : ℕ) (p : Probed) → IsMadeOf names b first p → chosen_length (probed_code b first) ≤ 65535
 made_short names b first p of =
-    subst (λ (code : List Insn). chosen_length code ≤ 65535)
-    (ap (λ (e : Emitted). e.code) of.made.emitted ∙ emission_code b first of.states of.array) (laid_length p.emitted p.laid of.made.laid)
+    subst (λ (code : List Insn). chosen_length code ≤ 65535) (emission_code b first of.states of.array)
+    (laid_length (emission b first of.states of.array) p.laid of.made.laid)
 
 pub work_grown : (old new : Names) (bodies : List Body) (i : ℕ) (w : BodyWithStates) → Grows old new → AreNumberedFrames (length old) w.body.frames
     → IsBodyWithStates old bodies i w → IsBodyWithStates new bodies i w

@@ -5,12 +5,12 @@ use Rattle.std.specs.List.{AllByRecursion}
 use Rattle.std.proofs.lemmas.Grind.{flat_map-append}
 use Rattle.std.proofs.lemmas.List.Concat.{flat_map-cons}
 use Rattle.jc_bytes.specs.Grammar.{Grammar}
-use Rattle.jc_methods.specs.VerificationTypes.{Names, TypeStateAt}
+use Rattle.jc_methods.specs.VerificationTypes.{Names, TypeStateAt, type_state_at}
 use Rattle.jc_methods.specs.Starts.{insn_number}
 use Rattle.jc_methods.specs.declared.body.Body.{Body}
 use Rattle.jc_methods.specs.declared.body.LineAt.{LineAt}
 use Rattle.jc_methods.specs.declared.body.VarAt.{VarAt}
-use Rattle.jc_methods.specs.declared.emitted.Emitted.{Emitted}
+use Rattle.jc_methods.specs.declared.body.FrameAt.{FrameAt}
 use Rattle.jc_pool.specs.Adding.{Extends}
 use Rattle.jc_pool.specs.Lookup.{utf8_of}
 use Rattle.jc_pool.specs.Pool.{PoolValue}
@@ -25,12 +25,12 @@ use Rattle.jc_frames.proofs.FullTextLaws.{both_parts}
 use Rattle.jc_emit.specs.Emission.{emission}
 use Rattle.jc_emit.specs.Items.{land_of}
 use Rattle.jc_emit.specs.TwinTables.{moved_line, moved_var}
-use Rattle.jc_code.specs.Given.{AreNamed, HaveClasses, IsNamedAt}
+use Rattle.jc_code.specs.Given.{AreNamed, IsNamedAt}
 use Rattle.jc_code.specs.TwinCode.{lines_name, vars_name, kind_vars_name, written_frames}
 use Rattle.jc_code.specs.declared.code.CodePlaces.{CodePlaces}
 use Rattle.jc_code.proofs.NamedLaws.{named_at}
 use Rattle.jc_instrument.specs.Contents.{class_entry}
-use Rattle.jc_instrument.specs.Members.{AreTextPlaces, AreWritable, IsFirstIfAny}
+use Rattle.jc_instrument.specs.Members.{AreAllNamed, AreTextPlaces, AreWritable, IsFirstIfAny}
 use Rattle.jc_instrument.specs.Needed.{needs_of, place_list, TakesNeeds}
 use Rattle.jc_instrument.specs.Probing.{AreMade}
 use Rattle.jc_instrument.specs.Taking.{HasFrames}
@@ -59,8 +59,12 @@ all_placed id names array c works pool places takes few =
     takes.takes in
     each_placed pool (named_by_all (all_frames names array works)) takes.class_places at.1.1.1.1.1.1.1.1.1.1.1.1 few
 
+-- the classes that the frames name stand in the pool
+abbrev HasClasses : PoolValue → Names → Probed → Type 0
+HasClasses pool names p = AllByRecursion (HasPlace pool) (named_by_all (map (type_state_at names) p.frames))
+
 pub have_classes : (pool : PoolValue) (names : Names) (array : ℕ) (works : List BodyWithStates) (probed : List Probed) → AreMade array works probed
-    → AllByRecursion (HasPlace pool) (named_by_all (all_frames names array works)) → AllByRecursion (λ p. HaveClasses pool names p.emitted) probed
+    → AllByRecursion (HasPlace pool) (named_by_all (all_frames names array works)) → AllByRecursion (HasClasses pool names) probed
 have_classes pool names array [] [] made all = tt
 have_classes pool names array [] (p ∷ probed) made all = absurd made
 have_classes pool names array (w ∷ works) [] made all = absurd made
@@ -69,8 +73,10 @@ have_classes pool names array (w ∷ works) (p ∷ probed) made all =
     let split : named_by_all (all_frames names array (w ∷ works)) ≡ named_by_all (frames w) ++ named_by_all (all_frames names array works) =
     ap named_by_all (flat_map-cons frames w works) ∙ flat_map-append named_by (frames w) (all_frames names array works) in
     let both = both_parts (HasPlace pool) (named_by_all (frames w)) (named_by_all (all_frames names array works))
-    (subst (AllByRecursion (HasPlace pool)) split all) in
-    (subst (HaveClasses pool names) (sym made.0.emitted) both.0, have_classes pool names array works probed made.1 both.1)
+    (subst (AllByRecursion (HasPlace pool)) split all) in (
+      subst (λ (fs : List FrameAt). AllByRecursion (HasPlace pool) (named_by_all (map (type_state_at names) fs))) (sym made.0.frames) both.0,
+      have_classes pool names array works probed made.1 both.1,
+    )
 
 -- ---- names of attributes
 
@@ -132,25 +138,19 @@ module _ (names : Names) (c : ClassFile) (new : PoolValue) (extends : Extends c.
             is.tables.kind_vars at.kind_vars (entries_there c.pool kind_vars_name attributes var_table is.tables.kind_vars is.are_tables.kind_vars));
       }
 
-  pub are_named : (works : List BodyWithStates) (probed : List Probed) → AreMade array works probed
-      → ((k : ℕ) (b : Body) → slice_get (bodies_of works) k ≡ Some b → BodyOf names c b.method b) → AllByRecursion (λ p. AreNamed new p.emitted places) probed
-  are_named [] [] made each = tt
-  are_named [] (p ∷ probed) made each = absurd made
-  are_named (w ∷ works) [] made each = absurd made
-  are_named (w ∷ works) (p ∷ probed) made each = (
-    subst (λ (e : Emitted). AreNamed new e places) (sym made.0.emitted) (work_named w (each 0 w.body refl)),
-    are_named works probed made.1 (λ k b stands. each (suc k) b stands),
-  )
+  pub are_named : (works : List BodyWithStates)
+      → ((k : ℕ) (b : Body) → slice_get (bodies_of works) k ≡ Some b → BodyOf names c b.method b) → AreAllNamed new array works places
+  are_named [] each = tt
+  are_named (w ∷ works) each = (work_named w (each 0 w.body refl), are_named works (λ k b stands. each (suc k) b stands))
 
 -- ---- all together
 
-pub are_writable : (pool : PoolValue) (names : Names) (places : CodePlaces) (array : ℕ) (works : List BodyWithStates) (probed : List Probed) → AreMade array works probed
-    → AllByRecursion (HasFrames (length names)) probed → AllByRecursion (λ p. HaveClasses pool names p.emitted) probed
-    → AllByRecursion (λ p. AreNamed pool p.emitted places) probed → AreWritable pool names places probed
-are_writable pool names places array [] [] made frames classes named = tt
-are_writable pool names places array [] (p ∷ probed) made frames classes named = absurd made
-are_writable pool names places array (w ∷ works) [] made frames classes named = absurd made
-are_writable pool names places array (w ∷ works) (p ∷ probed) made frames classes named = (
-  record { laid = made.0.laid; frames = frames.0; classes = classes.0; named = named.0 },
-  are_writable pool names places array works probed made.1 frames.1 classes.1 named.1,
+pub are_writable : (pool : PoolValue) (names : Names) (array : ℕ) (works : List BodyWithStates) (probed : List Probed) → AreMade array works probed
+    → AllByRecursion (HasFrames (length names)) probed → AllByRecursion (HasClasses pool names) probed → AreWritable pool names probed
+are_writable pool names array [] [] made frames classes = tt
+are_writable pool names array [] (p ∷ probed) made frames classes = absurd made
+are_writable pool names array (w ∷ works) [] made frames classes = absurd made
+are_writable pool names array (w ∷ works) (p ∷ probed) made frames classes = (
+  record { few = made.0.laid.few; frames = frames.0; classes = classes.0 },
+  are_writable pool names array works probed made.1 frames.1 classes.1,
 )

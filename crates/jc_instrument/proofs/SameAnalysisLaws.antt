@@ -19,7 +19,7 @@ use Rattle.jc_plan.specs.Probed.{is_probed_way, Position, position_of, is_before
 use Rattle.jc_plan.specs.declared.branch.Branch.{Branch}
 use Rattle.jc_plan.specs.declared.branch.Way.{Way}
 use Rattle.jc_plan.specs.declared.branch.Way.TheVariants.{Falls, Jumps, Switches, Exits}
-use Rattle.jc_plan.specs.Analysed.{plans_of, all_probes}
+use Rattle.jc_plan.specs.Analysed.{plans_of, all_probes, IsAnalysed}
 use Rattle.jc_instrument.specs.Analysis.{IsAnalysis, Describes}
 use Rattle.jc_instrument.specs.Bodies.{AreBodiesBelow, AreBodiesUnless, AreBodiesOf}
 use Rattle.jc_instrument.specs.LeftAlone.{is_left_alone}
@@ -161,15 +161,14 @@ same_analysed bytes c a b p q plans probes =
       probes = probes i;
     }
 
-same_of_file : (bytes : List ℕ) (c : ClassFile) (a b : Analysed) → Describes bytes c a → AreBodiesOf c a.bodies
-    → a.plans ≡ plans_of a.bodies → a.probes ≡ all_probes a.bodies
-    → Describes bytes c b → AreBodiesOf c b.bodies → b.plans ≡ plans_of b.bodies → b.probes ≡ all_probes b.bodies → IsSameAnalysis a b
-same_of_file bytes c a b p are plans probes q others plans_too probes_too =
+same_of_file : (bytes : List ℕ) (c : ClassFile) (a b : Analysed) → Describes bytes c a → AreBodiesOf c a.bodies → IsAnalysed a
+    → Describes bytes c b → AreBodiesOf c b.bodies → IsAnalysed b → IsSameAnalysis a b
+same_of_file bytes c a b p are one q others other =
     let bodies = same_bodies c a.bodies b.bodies are others in
     record {
       rest = same_analysed bytes c a b p q
-          (plans ∙ same_plans a.bodies ∙ ap plans_of bodies ∙ sym (same_plans b.bodies) ∙ sym plans_too)
-          (probes ∙ same_probes a.bodies ∙ ap all_probes bodies ∙ sym (same_probes b.bodies) ∙ sym probes_too);
+          (one.plans ∙ same_plans a.bodies ∙ ap plans_of bodies ∙ sym (same_plans b.bodies) ∙ sym other.plans)
+          (one.probes ∙ same_probes a.bodies ∙ ap all_probes bodies ∙ sym (same_probes b.bodies) ∙ sym other.probes);
       bodies = bodies;
     }
 
@@ -178,4 +177,4 @@ same_analysis bytes a b p q =
     let same = one_class_of bytes p.file q.file p.text q.text in
     same_of_file bytes q.file a b (subst (λ (c : ClassFile). Describes bytes c a) same p.described)
     (subst (λ (c : ClassFile). AreBodiesOf c a.bodies) same p.bodies)
-    p.analysed.plans p.analysed.probes q.described q.bodies q.analysed.plans q.analysed.probes
+    p.analysed q.described q.bodies q.analysed

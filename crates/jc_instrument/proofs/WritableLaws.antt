@@ -10,7 +10,7 @@ use Rattle.std.proofs.lemmas.Option.{slice_get_within, slice_get-get_or}
 use Rattle.jc_methods.specs.Flow.{flow_of}
 use Rattle.jc_methods.specs.VerificationTypes.{Names, IsNumbered, IsNumberedState}
 use Rattle.jc_bytes.specs.PlainLists.{pieces}
-use Rattle.jc_methods.specs.WellMade.{IsKind, kind_slots}
+use Rattle.jc_methods.specs.WellMade.{IsKind, IsWellMadeOfAnySize, kind_slots}
 use Rattle.jc_methods.specs.Opcode as opcode
 use Rattle.jc_methods.specs.declared.body.Body.{Body}
 use Rattle.jc_methods.specs.declared.body.FrameAt.{FrameAt}
@@ -23,7 +23,7 @@ use Rattle.jc_methods.specs.declared.kind.State.{State}
 use Rattle.jc_bytes.proofs.FirstSeenLaws.{contains_one}
 use Rattle.jc_methods.specs.FrameOrder.{RiseFrom}
 use Rattle.jc_bytes.proofs.BooleanLaws.{none_in, first_in, later_in}
-use Rattle.jc_frames.specs.FullTable.{AreRisingOffsets, FitsFull, IsPlaced}
+use Rattle.jc_frames.specs.FullTable.{AreRisingOffsets, CanBeWritten, FitsFull, IsPlaced}
 use Rattle.jc_frames.proofs.BuildingLaws.{by_recursion}
 use Rattle.jc_kinds.specs.Answers.{AreStates, IsStateAt}
 use Rattle.jc_plan.specs.declared.branch.Branch.{Branch}
@@ -35,20 +35,22 @@ use Rattle.jc_emit.specs.Sizes.{insn_at, late_probe, arms_at, hop_size, arm_size
 use Rattle.jc_emit.specs.TwinFrames.{no_state, operands_of, state_at, left_by, state_behind}
 use Rattle.jc_emit.specs.Items.{insn_of, lead_of, land_of, image_of, segment_size, twin_items}
 use Rattle.jc_emit.specs.Emission.{emission, IsArrayNumber, frame, frame_if, moved_state, has_frame, has_inverse, is_further, arm_frame, arm_frames, frames_at, wide_frames_at}
+use Rattle.jc_emit.specs.Refusing.{HasRoom}
+use Rattle.jc_emit.specs.Stages.{AreLayoutFrames}
 use Rattle.jc_emit.specs.Twin.{IsEmitted}
 use Rattle.jc_emit.proofs.BuiltLaws.{length_twin}
 use Rattle.jc_emit.proofs.FrameListsLaws.{in_piece, if_listed}
 use Rattle.jc_emit.proofs.RowLaws.{total_grows}
+use Rattle.jc_emit.proofs.WideFrameLaws.{emitted}
 use Rattle.jc_layout.specs.Layout.{is_wide}
 use Rattle.jc_layout.specs.Merged.{merged}
 use Rattle.jc_layout.proofs.ChoiceLaws.{chosen_count}
+use Rattle.jc_layout.proofs.LayoutFramesLaws.{frames_laid}
 use Rattle.jc_layout.proofs.MergedLaws.{merged_cases, merged_rises}
-use Rattle.jc_code.specs.Given.{IsLaid}
+use Rattle.jc_layout.specs.declared.layouts.Laid.{Laid}
+use Rattle.jc_code.specs.Given.{AreFrames, IsLaid}
 use Rattle.jc_code.specs.TwinCode.{chosen_frames}
-use Rattle.jc_code.proofs.LaidLaws.{laid_length, laid_rise}
-use Rattle.jc_instrument.specs.Probing.{IsMade, work}
-use Rattle.jc_instrument.specs.Taking.{frames_in, HasFrames}
-use Rattle.jc_instrument.specs.declared.probed.Probed.{Probed}
+use Rattle.jc_code.proofs.LaidLaws.{can_be_written, laid_length, laid_rise}
 use Rattle.jc_instrument.proofs.ProbingLaws.{array_stands, emission_code}
 
 -- ---- values
@@ -342,28 +344,21 @@ above starts rising (suc k) lt =
     let next = subst (λ (n : ℕ). slice_index starts k < slice_index starts n) e (rising k (omega (arith, lt))) in
     omega (arith, before, next)
 
-few_insns : (p : Probed) → IsLaid p.emitted p.laid → length p.emitted.code ≤ 65535
-few_insns p laid =
-    let code = p.emitted.code in
-    let count = ap (λ (l : List ℕ). length l) laid.starts ∙ chosen_count code in
-    let rising = laid_rise p.emitted p.laid laid in
-    let most = above p.laid.starts rising (length code) (omega (arith, count)) in
-    let e = ap (λ (l : List ℕ). slice_index l (length code)) laid.starts in
-    let short = laid_length p.emitted p.laid laid in
-    omega (arith, most, e, short)
-
-pub frames_chosen : (p : Probed) → IsLaid p.emitted p.laid → (p.laid.wide ≡ true → p.merged ≡ merged p.emitted.frames p.emitted.wide_frames) → frames_in p ≡ chosen_frames p.emitted
-frames_chosen p laid merges = by p.laid.wide refl ∙ ap (λ (t : Bool). if t then merged p.emitted.frames p.emitted.wide_frames else p.emitted.frames) laid.wide
-  where
-    by : (t : Bool) → p.laid.wide ≡ t → (if t then p.merged else p.emitted.frames) ≡ (if t then merged p.emitted.frames p.emitted.wide_frames else p.emitted.frames)
-    by true wide = merges wide
-    by false narrow = refl
+few_insns : (e : Emitted) (l : Laid) → IsLaid e l → length e.code ≤ 65535
+few_insns e l laid =
+    let code = e.code in
+    let count = ap (λ (s : List ℕ). length s) laid.starts ∙ chosen_count code in
+    let rising = laid_rise e l laid in
+    let most = above l.starts rising (length code) (omega (arith, count)) in
+    let same = ap (λ (s : List ℕ). slice_index s (length code)) laid.starts in
+    let short = laid_length e l laid in
+    omega (arith, most, same, short)
 
 -- ---- the frames of a body
 
-module _ (names : Names) (b : Body) (first : ℕ) (states : List State) (array : ℕ) (p : Probed) (are : AreStates names b states) (array_is : IsArrayNumber names array)
-    (made : IsMade array (work b states first) p) (told : IsEmitted names names states first b p.emitted)
-    (locals : p.emitted.max_locals ≤ 65535) (stack : p.emitted.max_stack ≤ 65535) where
+module _ (names : Names) (b : Body) (first : ℕ) (states : List State) (array : ℕ) (l : Laid) (are : AreStates names b states) (array_is : IsArrayNumber names array)
+    (laid : IsLaid (emission b first states array) l) (told : IsEmitted names names states first b (emission b first states array))
+    (locals : (emission b first states array).max_locals ≤ 65535) (stack : (emission b first states array).max_stack ≤ 65535) where
   abbrev e : Emitted
   e = emission b first states array
 
@@ -391,34 +386,49 @@ module _ (names : Names) (b : Body) (first : ℕ) (states : List State) (array :
   chosen_done false f c = narrow_done f c
   chosen_done true f c = ⊎_elim (λ old. narrow_done f old) (λ more. wide_done f more) (merged_cases e.frames e.wide_frames f c)
 
-  abbrev q : Emitted
-  q = p.emitted
-
-  chosen_rise : (t : Bool) → RiseFrom 0 (if t then merged q.frames q.wide_frames else q.frames)
+  chosen_rise : (t : Bool) → RiseFrom 0 (if t then merged e.frames e.wide_frames else e.frames)
   chosen_rise false = told.frames.rising
   chosen_rise true =
-      merged_rises q.frames q.wide_frames 0 told.frames.rising told.wide_frames.rising
+      merged_rises e.frames e.wide_frames 0 told.frames.rising told.wide_frames.rising
       (λ f c g d same. (told.wide_frames.each f c).1.further (g, d, same))
 
-  code_count : length q.code ≡ last
+  code_count : length e.code ≡ last
   code_count =
-      ap (λ (x : Emitted). length x.code) made.emitted ∙ ap (λ (l : List Insn). length l) (emission_code b first states array)
+      ap (λ (c : List Insn). length c) (emission_code b first states array)
       ∙ length-map (twin_items b first false) (insn_of 0 b.arg_slots) ∙ length_twin b first false
 
-  all_done : AllByRecursion IsFine (chosen_frames q)
-  all_done = subst (λ (x : Emitted). AllByRecursion IsFine (chosen_frames x)) (sym made.emitted) (all_listed IsFine (chosen_frames e) (chosen_done (is_wide e.code)))
+  all_done : AllByRecursion IsFine (chosen_frames e)
+  all_done = all_listed IsFine (chosen_frames e) (chosen_done (is_wide e.code))
 
-  pub has_frames : HasFrames (length names) p
+  pub has_frames : AreFrames e (length names) (chosen_frames e)
   has_frames = record {
-    are = frames_chosen p made.laid made.merged;
+    are = refl;
     few =
-        let same = ap (λ (l : List FrameAt). length l) (frames_chosen p made.laid made.merged) in
-        let most = few_frames last (length names) (chosen_frames q) (chosen_rise (is_wide q.code)) all_done (omega arith) in
-        let insns = few_insns p made.laid in
+        let most = few_frames last (length names) (chosen_frames e) (chosen_rise (is_wide e.code)) all_done (omega arith) in
+        let insns = few_insns e l laid in
         let count = code_count in
-        omega (arith, same, most, insns, count);
-    rising = subst (RiseFrom 0) (sym (frames_chosen p made.laid made.merged)) (chosen_rise (is_wide q.code));
-    each = subst (AllByRecursion (FitsFull (length q.code + 1) (length names))) (sym (frames_chosen p made.laid made.merged))
-        (subst (λ (n : ℕ). AllByRecursion (FitsFull (n + 1) (length names)) (chosen_frames q)) (sym code_count)
-        (each_mapped IsFine (FitsFull (last + 1) (length names)) (chosen_frames q) (λ f done. fits last (length names) f done) all_done));
+        omega (arith, most, insns, count);
+    rising = chosen_rise (is_wide e.code);
+    each = subst (λ (n : ℕ). AllByRecursion (FitsFull (n + 1) (length names)) (chosen_frames e)) (sym code_count)
+        (each_mapped IsFine (FitsFull (last + 1) (length names)) (chosen_frames e) (λ f done. fits last (length names) f done) all_done);
   }
+
+-- ---- the frames that are made for a layout
+
+module _ (names : Names) (b : Body) (first : ℕ) (states : List State) (l : Laid) (frames : List FrameAt) (well : IsWellMadeOfAnySize b)
+    (framed : AreLayoutFrames names b first states l.wide frames) (laid : IsLaid (emission b first states framed.array) l) where
+  abbrev of : Emitted
+  of = emission b first states framed.array
+
+  pub frames_chosen : frames ≡ chosen_frames of
+  frames_chosen =
+      framed.are ∙ frames_laid b first states framed.array names well framed.fit framed.array_is l.wide
+      ∙ ap (λ (t : Bool). if t then merged of.frames of.wide_frames else of.frames) laid.wide
+
+  pub frames_written : AreStates names b states → HasRoom b → CanBeWritten l.starts (length names) frames
+  unfolding emission
+  frames_written are room =
+      subst (CanBeWritten l.starts (length names)) (sym frames_chosen)
+      (can_be_written of l laid (length names) (chosen_frames of)
+      (has_frames names b first states framed.array l are framed.array_is laid (emitted b first states framed.array names well framed.fit framed.array_is)
+      (let few = room.locals in omega (arith, few)) (let few = room.stack in omega (arith, few))))

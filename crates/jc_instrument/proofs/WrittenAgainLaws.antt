@@ -37,7 +37,7 @@ use Rattle.jc_emit.specs.Emission.{HasFrameStates, IsArrayNumber}
 use Rattle.jc_emit.specs.Straddling.{NoneStraddles}
 use Rattle.jc_emit.proofs.WideFrameLaws.{emitted}
 use Rattle.jc_layout.specs.Layout.{is_wide, chosen_length, chosen_starts, chosen_text}
-use Rattle.jc_layout.specs.Merged.{merged}
+use Rattle.jc_layout.specs.declared.layouts.Laid.{Laid}
 use Rattle.jc_layout.proofs.ChoiceLaws.{text_length}
 use Rattle.jc_code.specs.CodeText.{attribute}
 use Rattle.jc_code.specs.Given.{AreFrames, HaveClasses}
@@ -55,7 +55,6 @@ use Rattle.jc_instrument.specs.Needed.{name_of, needs_of, place_list, signed_id,
 use Rattle.jc_instrument.specs.TwinText.{init_member, init_places, twin_class, twin_method, twin_methods, with_code, work_of, IsWritten}
 use Rattle.jc_instrument.specs.BodiesWithStates.{BodyWithStates, all_frames, bodies_of, emitted_of, AreBodiesWithStates}
 use Rattle.jc_instrument.specs.declared.needs.MemberPlaces.{MemberPlaces}
-use Rattle.jc_instrument.specs.declared.probed.Probed.{Probed}
 use Rattle.jc_instrument.proofs.ContentLaws.{of_content}
 use Rattle.jc_instrument.proofs.GrownPoolLaws.{StandAt, stand_at}
 use Rattle.jc_instrument.proofs.ReadyLaws.{all_placed}
@@ -163,30 +162,20 @@ classes_of pool names array (w ∷ works) all i x at = by i at (λ j there. clas
 
 -- ---- the frames of one body
 
--- what is made of a work, whether or not it fits
-abbrev made_of : (array : ℕ) → BodyWithStates → Probed
-made_of array x = record {
-  method = x.body.method;
-  emitted = emitted_of array x;
-  laid = record {
-    wide = is_wide (emitted_of array x).code;
-    starts = chosen_starts (emitted_of array x).code;
-    code = chosen_text (emitted_of array x).code;
-  };
-  merged = merged (emitted_of array x).frames (emitted_of array x).wide_frames;
+-- the layout of a work, whether or not it fits
+abbrev laid_of : (array : ℕ) → BodyWithStates → Laid
+laid_of array x = record {
+  wide = is_wide (emitted_of array x).code;
+  starts = chosen_starts (emitted_of array x).code;
+  code = chosen_text (emitted_of array x).code;
 }
 
 frames_are : (names : Names) (array : ℕ) (x : BodyWithStates) → AreStates names x.body x.states → IsArrayNumber names array → IsWellMadeOfAnySize x.body
     → HasFrameStates x.body x.states → chosen_length (emitted_of array x).code ≤ 65535 → (emitted_of array x).max_locals ≤ 65535
     → (emitted_of array x).max_stack ≤ 65535 → AreFrames (emitted_of array x) (length names) (chosen_frames (emitted_of array x))
 frames_are names array x are array_is well fit short locals stack =
-    has_frames names x.body x.first x.states array (made_of array x) are array_is
-    (record {
-      method = refl;
-      emitted = refl;
-      laid = record { wide = refl; starts = refl; text = refl; few = let size = text_length (emitted_of array x).code in omega (arith, size, short) };
-      merged = λ wide. refl;
-    })
+    has_frames names x.body x.first x.states array (laid_of array x) are array_is
+    (record { wide = refl; starts = refl; text = refl; few = let size = text_length (emitted_of array x).code in omega (arith, size, short) })
     (emitted x.body x.first x.states array names well fit array_is) locals stack
 
 -- ---- the class

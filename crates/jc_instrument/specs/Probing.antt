@@ -1,5 +1,5 @@
 -- What is made of the bodies of a class that have room for its probes: their instrumented code, laid out.
-use Rattle.std.specs.Prelude.{◌≡◌, ⊤, ℕ, ◌<◌, ◌≤◌, true, List, [], ◌∷◌, length, Some, slice_get}
+use Rattle.std.specs.Prelude.{◌≡◌, ⊤, ℕ, ◌<◌, ◌≤◌, List, [], ◌∷◌, length, Some, slice_get}
 use Rattle.std.specs.List.{AllByRecursion}
 use Rattle.jc_methods.specs.VerificationTypes.{Names}
 use Rattle.jc_methods.specs.declared.body.Body.{Body}
@@ -10,8 +10,8 @@ use Rattle.jc_kinds.specs.Answers.{AreStates}
 use Rattle.jc_plan.specs.Probed.{first_id}
 use Rattle.jc_emit.specs.Emission.{IsArrayNumber}
 use Rattle.jc_layout.specs.Layout.{chosen_length}
-use Rattle.jc_layout.specs.Merged.{merged}
 use Rattle.jc_code.specs.Given.{IsLaid}
+use Rattle.jc_code.specs.TwinCode.{chosen_frames, tables_in}
 use Rattle.jc_instrument.specs.Causes.{of_method}
 use Rattle.jc_instrument.specs.RoomCauses.{probed_code}
 use Rattle.jc_instrument.specs.Taking.{HasFrames}
@@ -20,12 +20,12 @@ use Rattle.jc_instrument.specs.declared.probed.Probed.{Probed}
 
 -- ---- one body
 
--- the instrumented code of the work's body, where the class of the probe array has this number
+-- the instrumented code of the work's body in its layout, where the class of the probe array has this number
 pub record IsMade (array : ℕ) (w : BodyWithStates) (p : Probed) : Type 0 where
   pub method : p.method ≡ w.body.method
-  pub emitted : p.emitted ≡ emitted_of array w
-  pub laid : IsLaid p.emitted p.laid
-  pub merged : p.laid.wide ≡ true → p.merged ≡ merged p.emitted.frames p.emitted.wide_frames
+  pub tables : p.tables ≡ tables_in (emitted_of array w)
+  pub laid : IsLaid (emitted_of array w) p.laid
+  pub frames : p.frames ≡ chosen_frames (emitted_of array w)
 
 abbrev pub work : Body → List State → ℕ → BodyWithStates
 work b states first = record { body = b; states = states; first = first }

@@ -1,15 +1,14 @@
 -- What the steps answer by which a constant pool takes what an instrumented class needs.
-use Rattle.std.specs.Prelude.{◌≡◌, ⊤, ℕ, ℤ, ◌<◌, List, length, map, codes, if◌then◌else◌}
+use Rattle.std.specs.Prelude.{◌≡◌, ⊤, ℕ, ℤ, ◌<◌, List, length, map, codes}
 use Rattle.std.specs.List.{flat_map}
 use Rattle.jc_methods.specs.VerificationTypes.{AreNumberedFrames, Names, TypeStateAt, type_state_at}
-use Rattle.jc_methods.specs.declared.body.FrameAt.{FrameAt}
 use Rattle.jc_bytes.specs.declared.fail.Fail.{Fail}
 use Rattle.jc_bytes.specs.declared.fail.Fail.TheVariants as fails
 use Rattle.jc_bytes.specs.declared.refusal.Refusal.{Refusal}
 use Rattle.jc_bytes.specs.declared.refusal.RefusalKind.TheVariants as kinds
 use Rattle.jc_pool.specs.Pool.{PoolValue}
 use Rattle.jc_pool.specs.declared.add.PoolFull.{PoolFull}
-use Rattle.jc_code.specs.Given.{AreFrames}
+use Rattle.jc_frames.specs.FullTable.{CanBeWritten}
 use Rattle.jc_methods.specs.ProbeMembers.{data_name, data_type, init_name, init_type}
 use Rattle.jc_instrument.specs.Causes.{of_class}
 use Rattle.jc_instrument.specs.Contents.{Content, text_entry, class_entry, string_entry, long_entry, member_entry, TakesEach}
@@ -55,18 +54,14 @@ pub record IsFullPool (old : PoolValue) (contents : List Content) (r : Refusal) 
 
 -- ---- frames
 
--- the frames of the layout that is chosen
-abbrev pub frames_in : Probed → List FrameAt
-frames_in p = if p.laid.wide then p.merged else p.emitted.frames
-
--- those of all methods, with classes by their names
+-- the frames of all methods, with classes by their names
 abbrev pub frames_of : Names → List Probed → List TypeStateAt
-frames_of names probed = flat_map (λ p. map (type_state_at names) (frames_in p)) probed
+frames_of names probed = flat_map (λ p. map (type_state_at names) p.frames) probed
 
--- the classes that the frames of the layout name are numbers of so many names
+-- the classes that the frames name are numbers of so many names
 abbrev pub HasNumberedFrames : ℕ → Probed → Type 0
-HasNumberedFrames names p = AreNumberedFrames names (frames_in p)
+HasNumberedFrames names p = AreNumberedFrames names p.frames
 
--- these are the frames of the layout, and name classes of which there are so many
+-- the frames can be written over the instructions of the layout, and name classes of which there are so many
 abbrev pub HasFrames : ℕ → Probed → Type 0
-HasFrames names p = AreFrames p.emitted names (frames_in p)
+HasFrames names p = CanBeWritten p.laid.starts names p.frames

@@ -3,16 +3,15 @@ ghost use Rattle.std.specs.Prelude.{◌≡◌, ◌≤◌, ℕ, List as Seq, code
 ghost use Rattle.jc_pool.specs.Adding.{Extends};
 ghost use Rattle.jc_body.specs.Attributes.{has_name};
 ghost use Rattle.jc_body.specs.First.{FirstItem};
-ghost use Rattle.jc_code.specs.TwinCode.{twin_code};
-ghost use Rattle.jc_instrument.specs.Members.{AreCoded, AreWritable, HasOneCode, IsWritable, put_methods};
+ghost use Rattle.jc_instrument.specs.Members.{AreCoded, AreWritable, HasOneCode, IsWritable, put_methods, text_of};
 ghost use Rattle.jc_instrument.specs.TwinText.{data_member, init_member, with_code};
 
 use crate::alone::has_name;
-use crate::needs::{MemberPlaces, frames_in};
+use crate::needs::MemberPlaces;
 use crate::probed::Probed;
 use jc_bytes::{Bytes, List, Memory, Names};
 use jc_class::{Attribute, Member};
-use jc_code::{AddedPlaces, CodePlaces, write_code, write_init};
+use jc_code::{AddedPlaces, CodePlaces, CodeTables, write_init, write_laid};
 use jc_pool::Pool;
 use std::alloc::Global;
 use std::mem;
@@ -62,20 +61,27 @@ fn code_text(
     places: &CodePlaces,
     pool: &mut Pool,
 ) -> Result<Bytes, Memory>
-    requires { IsWritable pool.old names.now places.now probed.now }
-    ensures text { IfOk result (λ text. text
-        ≡ twin_code pool.old places.now.method places.now.frames names.now probed.now.emitted) }
+    requires { IsWritable pool.old names.now probed.now }
+    ensures text { IfOk result (λ text. text ≡ text_of pool.old names.now places.now probed.now) }
     ensures size { IfOk result (λ text. length text ≤ 4294967295) }
     ensures kept { OnOk result (pool.new ≡ pool.old) }
 {
-    if probed.emitted.handlers.len() > MOST_ROWS {
+    let tables = CodeTables {
+        max_stack: probed.tables.max_stack,
+        max_locals: probed.tables.max_locals,
+        handlers: &probed.tables.handlers,
+        lines: &probed.tables.lines,
+        vars: &probed.tables.vars,
+        kind_vars: &probed.tables.kind_vars,
+    };
+    if tables.handlers.len() > MOST_ROWS {
         return Err(Memory);
     }
-    write_code(
+    write_laid(
         alloc,
-        &probed.emitted,
+        &tables,
         &probed.laid,
-        frames_in(probed),
+        &probed.frames,
         names,
         places,
         pool,
@@ -95,7 +101,7 @@ pub fn put_codes(
     places: &CodePlaces,
     pool: &mut Pool,
 ) -> Result<List<Member>, Memory>
-    requires written { AreWritable pool.old names.now places.now probed.now }
+    requires written { AreWritable pool.old names.now probed.now }
     requires coded { AreCoded pool.old methods probed.now }
     ensures methods { IfOk result (λ all. all ≡ put_methods pool.old names.now places.now probed.now methods) }
     ensures kept { OnOk result (pool.new ≡ pool.old) }

@@ -7,13 +7,13 @@ ghost use Rattle.jc_frames.specs.FullTable.{RefusesClasses, TakesClasses, named_
 ghost use Rattle.jc_bytes.specs.Failing.{Said};
 ghost use Rattle.jc_instrument.specs.Contents.{Takes, TakesEach};
 ghost use Rattle.jc_instrument.specs.Needed.{signed_id, member_needs, needed, place_list, TakesNeeded};
-ghost use Rattle.jc_instrument.specs.Taking.{content_needed, frames_in, frames_of, HasNumberedFrames, IsFullPool, RefusesEach};
+ghost use Rattle.jc_instrument.specs.Taking.{content_needed, frames_of, HasNumberedFrames, IsFullPool, RefusesEach};
 
 use crate::probed::Probed;
 use jc_bytes::{Fail, Names, Refusal, RefusalKind};
 use jc_frames::take_classes;
 use jc_methods::{
-    DATA_NAME, FETCH_NAME, FETCH_TYPE, FrameAt, INIT_NAME, INIT_TYPE, PROBE_ARRAY, RUNTIME_CLASS,
+    DATA_NAME, FETCH_NAME, FETCH_TYPE, INIT_NAME, INIT_TYPE, PROBE_ARRAY, RUNTIME_CLASS,
 };
 use jc_pool::{Pool, PoolFull};
 use std::alloc::Global;
@@ -181,17 +181,6 @@ fn take_members(
     })
 }
 
-/// The frames of the layout that is chosen.
-pub fn frames_in(probed: &Probed) -> &[FrameAt]
-    ensures { result.now ≡ frames_in probed.now }
-{
-    if probed.laid.wide {
-        &probed.merged
-    } else {
-        &probed.emitted.frames
-    }
-}
-
 /// Takes the classes that the frames of each method name, method after method.
 fn take_all_classes(
     alloc: Global,
@@ -205,8 +194,7 @@ fn take_all_classes(
     ensures extends { Extends pool.old pool.new }
 {
     'taking: for next in probed {
-        let frames = frames_in(next);
-        take_classes(alloc, frames, names, pool)?;
+        take_classes(alloc, &next.frames, names, pool)?;
     }
     Ok(())
 }

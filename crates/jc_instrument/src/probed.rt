@@ -1,44 +1,44 @@
 //! The instrumented code of the bodies of a class.
 ghost use Rattle.std.specs.Option.{ForSome};
-ghost use Rattle.std.specs.Prelude.{◌≡◌, ◌≤◌, ℕ, true, length, All, IfOk, IfErr};
-ghost use Rattle.jc_methods.specs.FrameOrder.{RiseFrom};
+ghost use Rattle.std.specs.Prelude.{◌≡◌, ◌≤◌, ℕ, List as Seq, length, All, IfOk, IfErr};
 ghost use Rattle.jc_methods.specs.VerificationTypes.{Grows, AreNumberedFrames};
 ghost use Rattle.jc_methods.specs.WellMade.{IsWellMade};
+ghost use Rattle.jc_methods.specs.declared.emitted.Emitted.{Emitted as Emission};
+ghost use Rattle.jc_methods.specs.declared.kind.State.{State as TypeState};
 ghost use Rattle.jc_kinds.specs.Answers.{AreStates};
 ghost use Rattle.jc_bytes.specs.Failing.{Said};
 ghost use Rattle.jc_plan.specs.Plan.{plan_of};
 ghost use Rattle.jc_emit.specs.Placing.{HasPlan};
-ghost use Rattle.jc_emit.specs.Emission.{emission, IsArrayNumber};
-ghost use Rattle.jc_emit.specs.Twin.{IsEmitted};
+ghost use Rattle.jc_emit.specs.Emission.{emission};
+ghost use Rattle.jc_emit.specs.Refusing.{HasRoom};
 ghost use Rattle.jc_layout.specs.Layable.{IsLayable};
 ghost use Rattle.jc_layout.specs.Layout.{chosen_length};
-ghost use Rattle.jc_layout.specs.Merged.{merged};
 ghost use Rattle.jc_code.specs.Given.{IsLaid};
 ghost use Rattle.jc_plan.specs.Analysed.{plans_of, all_probes};
 ghost use Rattle.jc_instrument.specs.KeptStates.{AreKeptStates};
 ghost use Rattle.jc_instrument.specs.Probing.{IsMadeOf, IsTooLong, IsRefusedAsLarge, AreProbed, IsFirstTooLong};
+ghost use Rattle.jc_instrument.specs.RoomCauses.{probed_code};
 ghost use Rattle.jc_instrument.specs.Taking.{HasFrames};
 
 use crate::checks::KeptStates;
 use jc_bytes::{Fail, List, Memory, Names, Refusal};
-use jc_code::merged_frames;
-use jc_emit::emit;
+use jc_emit::{MovedTables, emit_code, emit_frames, emit_tables};
 use jc_kinds::states;
-use jc_layout::{Laid, layout};
-use jc_methods::{Body, Emitted, FrameAt, PROBE_ARRAY, Plan, State};
+use jc_layout::{Laid, layout_code};
+use jc_methods::{Body, FrameAt, Insn, PROBE_ARRAY, Plan, State};
 use std::alloc::Global;
 
-/// The instrumented code of the body of a method.
+/// The instrumented code of the body of a method, in its layout.
 #[derive(Debug, Drop)]
 pub struct Probed {
     /// The number of the method.
     pub method: u16,
-    /// The code with its tables, before its layout is chosen.
-    pub emitted: Emitted,
-    /// The layout.
+    /// The tables, and the sizes.
+    pub tables: MovedTables,
+    /// The bytes of the code, and the offsets of its instructions.
     pub laid: Laid,
-    /// The frames of the layout, if it is the wide one.
-    pub merged: List<FrameAt>,
+    /// The frames of the layout.
+    pub frames: List<FrameAt>,
 }
 
 /// The states before the instructions of a body that passes the kind check: those that were kept, or else they are
@@ -64,43 +64,28 @@ fn known_states(
     }
 }
 
-/// The instrumented code of a body that has room for it.
-fn emitted(
-    alloc: Global,
-    body: &Body,
-    plan: &Plan,
-    states: &[State],
-    names: &mut Names,
-) -> Result<Emitted, Memory>
+/// The instructions of the instrumented code of a body that has room for it.
+fn emitted_code(alloc: Global, body: &Body, plan: &Plan) -> Result<List<Insn>, Memory>
     requires made { IsWellMade body.now }
     requires plan { HasPlan body.now plan.now }
     requires next { plan.now.next ≤ 32767 }
-    requires states { AreStates names.old body.now states.now }
-    requires frames { AreNumberedFrames (length names.old) body.now.frames }
-    ensures emitted { (first : ℕ) → plan.now ≡ plan_of body.now first → IfOk result
-        (λ e. (array : ℕ) × IsArrayNumber names.new array × (e ≡ emission body.now first states.now array)) }
-    ensures told { (first : ℕ) → plan.now ≡ plan_of body.now first
-        → IfOk result (IsEmitted names.new names.new states.now first body.now) }
-    ensures locals { IfOk result (λ e. e.max_locals ≤ 65535) }
-    ensures stack { IfOk result (λ e. e.max_stack ≤ 65535) }
-    ensures layable { IfOk result (λ e. IsLayable e.code) }
-    ensures frames { IfOk result (λ e. RiseFrom 0 e.frames) }
-    ensures wide_frames { IfOk result (λ e. RiseFrom 0 e.wide_frames) }
-    ensures names { Grows names.old names.new }
+    ensures code { (first : ℕ) → plan.now ≡ plan_of body.now first → IfOk result (λ code. code ≡ probed_code body.now first) }
+    ensures room { IfOk result (λ _. HasRoom body.now) }
+    ensures layable { IfOk result IsLayable }
 {
-    match emit(alloc, body, plan, states, names) {
-        Ok(emitted) => Ok(emitted),
+    match emit_code(alloc, body, plan) {
+        Ok(code) => Ok(code),
         Err(_) => Err(Memory),
     }
 }
 
 /// The chosen layout of the code of a method. Code that is too large is refused with the method's number.
-fn laid(alloc: Global, method: u16, emitted: &Emitted) -> Result<Laid, Fail<Refusal>>
-    requires { IsLayable emitted.now.code }
-    ensures laid { IfOk result (IsLaid emitted.now) }
-    ensures refused { IfErr result (λ e. Said e (IsRefusedAsLarge method (chosen_length emitted.now.code))) }
+fn laid(alloc: Global, method: u16, insns: &[Insn]) -> Result<Laid, Fail<Refusal>>
+    requires { IsLayable insns.now }
+    ensures laid { IfOk result (λ laid. (e : Emission) → e.code ≡ insns.now → IsLaid e laid) }
+    ensures refused { IfErr result (λ e. Said e (IsRefusedAsLarge method (chosen_length insns.now))) }
 {
-    match layout(alloc, emitted) {
+    match layout_code(alloc, insns) {
         Ok(laid) => Ok(laid),
         Err(Fail::Memory) => Err(Fail::Memory),
         Err(Fail::Said(refusal)) => Err(Fail::Said(Refusal {
@@ -111,17 +96,19 @@ fn laid(alloc: Global, method: u16, emitted: &Emitted) -> Result<Laid, Fail<Refu
     }
 }
 
-/// The frames of both layouts in the order of their places, if the wide one is chosen; else none.
-fn merged(alloc: Global, emitted: &Emitted, wide: bool) -> Result<List<FrameAt>, Memory>
-    requires frames { RiseFrom 0 emitted.now.frames }
-    requires wide_frames { RiseFrom 0 emitted.now.wide_frames }
-    ensures { IfOk result (λ all. wide ≡ true → all ≡ merged emitted.now.frames emitted.now.wide_frames) }
+/// The layout of the instrumented code of a body that has room for it, for which no states are needed. Code that is too
+/// large is refused with the method's number.
+fn laid_body(alloc: Global, body: &Body, plan: &Plan) -> Result<Laid, Fail<Refusal>>
+    requires made { IsWellMade body.now }
+    requires plan { HasPlan body.now plan.now }
+    requires next { plan.now.next ≤ 32767 }
+    ensures laid { (first : ℕ) (states : Seq TypeState) (array : ℕ) → plan.now ≡ plan_of body.now first
+        → IfOk result (IsLaid (emission body.now first states array)) }
+    ensures room { IfOk result (λ _. HasRoom body.now) }
+    ensures refused { (first : ℕ) → plan.now ≡ plan_of body.now first → IfErr result (λ e. Said e (IsTooLong body.now first)) }
 {
-    if wide {
-        merged_frames(alloc, &emitted.frames, &emitted.wide_frames)
-    } else {
-        Ok(List::new(alloc))
-    }
+    let code = emitted_code(alloc, body, plan)?;
+    laid(alloc, body.method, &code)
 }
 
 /// The instrumented code of one more body, whose states may be kept.
@@ -142,38 +129,40 @@ fn probed_body(
     ensures refused { (first : ℕ) → plan.now ≡ plan_of body.now first → IfErr result (λ e. Said e (IsTooLong body.now first)) }
     ensures names { Grows names.old names.new }
 {
+    let laid = laid_body(alloc, body, plan)?;
     let states = known_states(alloc, body, kept, names)?;
-    let emitted = emitted(alloc, body, plan, &states, names)?;
-    let laid = laid(alloc, body.method, &emitted)?;
-    let merged = merged(alloc, &emitted, laid.wide)?;
+    let frames = emit_frames(alloc, body, plan, &states, laid.wide, names)?;
+    let tables = emit_tables(alloc, body, plan)?;
     Ok(Probed {
         method: body.method,
-        emitted,
+        tables,
         laid,
-        merged,
+        frames,
     })
 }
 
-/// The instrumented code of the bodies of a class, in their order. The first one whose code is too large is refused.
+/// The instrumented code of the bodies of a class, in their order. The first one whose code is too large is refused. Each
+/// body is dropped with its plan and its states as soon as its code is made.
 pub fn probed_bodies(
     alloc: Global,
-    bodies: &[Body],
-    plans: &[Plan],
+    bodies: List<Body>,
+    plans: List<Plan>,
     kept: KeptStates,
     names: &mut Names,
 ) -> Result<List<Probed>, Fail<Refusal>>
-    requires made { All IsWellMade bodies.now }
-    requires frames { All (λ b. AreNumberedFrames (length names.old) b.frames) bodies.now }
-    requires plans { plans.now ≡ plans_of bodies.now }
-    requires kept { AreKeptStates names.old bodies.now kept }
-    requires few { all_probes bodies.now ≤ 32767 }
-    ensures probed { IfOk result (AreProbed names.new bodies.now) }
-    ensures refused { IfErr result (λ e. Said e (IsFirstTooLong bodies.now)) }
+    requires made { All IsWellMade bodies }
+    requires frames { All (λ b. AreNumberedFrames (length names.old) b.frames) bodies }
+    requires plans { plans ≡ plans_of bodies }
+    requires kept { AreKeptStates names.old bodies kept }
+    requires few { all_probes bodies ≤ 32767 }
+    ensures probed { IfOk result (AreProbed names.new bodies) }
+    ensures refused { IfErr result (λ e. Said e (IsFirstTooLong bodies)) }
     ensures names { Grows names.old names.new }
 {
     let mut probed = List::from_vec(Vec::with_capacity(alloc, bodies.len())?);
-    'probing: for (number, states) in kept.into_vec().into_iter().enumerate() {
-        let next = probed_body(alloc, &bodies[number], &plans[number], states, names)?;
+    let planned = bodies.into_vec().into_iter().zip(plans.into_vec());
+    'probing: for ((body, plan), states) in planned.zip(kept.into_vec()) {
+        let next = probed_body(alloc, &body, &plan, states, names)?;
         probed.push(next)?;
     }
     names.number(alloc, PROBE_ARRAY)?;

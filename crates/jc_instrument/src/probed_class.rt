@@ -49,6 +49,6 @@ pub fn probed_class(
     if let Some(refusal) = room_refusal(class, &bodies, probes) {
         return Err(Fail::Said(refusal));
     }
-    let probed = probed_bodies(alloc, &bodies, &plans, states, names)?;
+    let probed = probed_bodies(alloc, bodies, plans, states, names)?;
     Ok(ProbedClass { probed, probes })
 }

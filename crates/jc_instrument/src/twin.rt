@@ -1,18 +1,15 @@
 //! The instrumented class, from its parts.
 ghost use Rattle.std.specs.Prelude.{◌≡◌, ◌≤◌, ℕ, List as Seq, IfOk, IfErr, length};
-ghost use Rattle.jc_pool.specs.Adding.{Extends};
 ghost use Rattle.jc_pool.specs.Pool.{PoolValue};
 ghost use Rattle.jc_class.specs.Writable.{IsClassFile};
-ghost use Rattle.jc_plan.specs.Analysed.{all_probes};
-ghost use Rattle.jc_instrument.specs.Members.{AreCoded, AreTextPlaces, AreWritable, IsFirstIfAny};
+ghost use Rattle.jc_instrument.specs.Members.{AreCoded, AreTextPlaces, AreWritable, IsFirstIfAny, IsGrownFrom};
 ghost use Rattle.jc_bytes.specs.Failing.{Said};
 ghost use Rattle.jc_bytes.specs.Texts.{IsShortText};
 ghost use Rattle.jc_instrument.specs.Needed.{name_of};
 ghost use Rattle.jc_instrument.specs.ProbedClass.{IsProbedClass};
-ghost use Rattle.jc_instrument.specs.Probing.{AreMade};
 ghost use Rattle.jc_instrument.specs.RoomCauses.{HasFullPool};
-ghost use Rattle.jc_instrument.specs.TwinText.{IsWrittenUnder, twin_class};
-ghost use Rattle.jc_instrument.specs.BodiesWithStates.{BodyWithStates, bodies_of};
+ghost use Rattle.jc_instrument.specs.TwinText.{IsTwinOfGrown, IsWrittenUnder};
+ghost use Rattle.jc_instrument.specs.BodiesWithStates.{BodyWithStates};
 
 use crate::members::{data_member, init_member, put_codes};
 use crate::needs::{MemberPlaces, take_needs};
@@ -74,12 +71,11 @@ pub fn twin_class(
     requires few { probes ≤ 32767 }
     requires method { places.now.codes.method ≡ places.now.members.method }
     requires frames { places.now.codes.frames ≡ places.now.members.frames }
-    requires written { AreWritable class.pool names.now places.now.codes probed.now }
+    requires written { AreWritable class.pool names.now probed.now }
     requires coded { AreCoded class.pool class.methods probed.now }
-    ensures { (old : PoolValue) (array : ℕ) (works : Seq BodyWithStates) → Extends old class.pool
-        → IsClassFile (record class { pool = old }) → AreMade array works probed.now → probes ≡ all_probes (bodies_of works)
-        → IfOk result (λ twin. twin
-        ≡ twin_class names.now array (record class { pool = old }) works class.pool places.now.members) }
+    ensures { (old : PoolValue) (array : ℕ) (works : Seq BodyWithStates)
+        → IsGrownFrom old array works class places.now.codes probed.now probes
+        → IfOk result (IsTwinOfGrown old names.now array works class places.now.members) }
 {
     let ClassFile {
         minor,

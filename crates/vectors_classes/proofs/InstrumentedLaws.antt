@@ -1,5 +1,5 @@
 -- What instrumented code is to the calls that take it.
-use Rattle.std.proofs.Common.{◌≡◌, ◌≤◌, ℕ, true, List, length, refl, sym, subst}
+use Rattle.std.proofs.Common.{◌≡◌, ◌≤◌, ℕ, List, length, sym, subst}
 use Rattle.jc_methods.specs.FrameOrder.{RiseFrom}
 use Rattle.jc_methods.specs.VerificationTypes.{Names, AreNumberedFrames, Grows}
 use Rattle.jc_methods.specs.WellMade.{IsWellMade}
@@ -9,16 +9,11 @@ use Rattle.jc_methods.specs.declared.kind.State.{State}
 use Rattle.jc_methods.proofs.NumberedLaws.{grown_count, frames_numbered}
 use Rattle.jc_kinds.specs.Answers.{AreStates}
 use Rattle.jc_layout.specs.Layable.{IsLayable}
-use Rattle.jc_layout.specs.Merged.{merged}
-use Rattle.jc_layout.specs.declared.layouts.Laid.{Laid}
-use Rattle.jc_code.specs.Given.{AreFrames, IsLaid}
-use Rattle.jc_code.specs.TwinCode.{chosen_frames}
-use Rattle.jc_instrument.specs.declared.probed.Probed.{Probed}
 use Rattle.jc_emit.specs.Emission.{IsArrayNumber, emission}
 use Rattle.jc_emit.specs.Twin.{IsEmitted}
 use Rattle.jc_instrument.proofs.KeptStatesLaws.{states_grown}
 use Rattle.jc_instrument.proofs.ProbingLaws.{emission_layable}
-use Rattle.jc_instrument.proofs.WritableLaws.{frames_chosen, has_frames}
+use Rattle.jc_instrument.proofs.WritableLaws.{has_frames}
 use Rattle.vectors_classes.specs.Instrumented.{IsInstrumented, FitsInLayout}
 
 pub layable : (names : Names) (b : Body) (e : Emitted) → IsWellMade b → IsInstrumented names b e → IsLayable e.code
@@ -33,15 +28,14 @@ wide_frames_rise names b e is = is.told.wide_frames.rising
 
 pub fits_in_layout : (names : Names) (b : Body) (e : Emitted) → IsInstrumented names b e → e.max_locals ≤ 65535 → e.max_stack ≤ 65535
     → FitsInLayout (length names) e
-fits_in_layout names b e is locals stack = record { frames = fit }
+fits_in_layout names b e is locals stack =
+    subst (FitsInLayout (length names)) (sym is.made)
+    (fit (subst (IsEmitted names names is.states 0 b) is.made is.told) (subst (λ (x : Emitted). x.max_locals ≤ 65535) is.made locals)
+    (subst (λ (x : Emitted). x.max_stack ≤ 65535) is.made stack))
   where
-    fit : (l : Laid) → IsLaid e l → AreFrames e (length names) (chosen_frames e)
-    fit l laid =
-        let p : Probed = record { method = b.method; emitted = e; laid = l; merged = merged e.frames e.wide_frames } in
-        let merges = λ (_ : l.wide ≡ true). refl in
-        let has = has_frames names b 0 is.states is.array p is.are is.array_is
-        (record { method = refl; emitted = is.made; laid = laid; merged = merges }) is.told locals stack in
-        subst (AreFrames e (length names)) (frames_chosen p laid merges) has
+    fit : IsEmitted names names is.states 0 b (emission b 0 is.states is.array) → (emission b 0 is.states is.array).max_locals ≤ 65535
+        → (emission b 0 is.states is.array).max_stack ≤ 65535 → FitsInLayout (length names) (emission b 0 is.states is.array)
+    fit told few low = record { frames = λ l laid. has_frames names b 0 is.states is.array l is.are is.array_is laid told few low }
 
 pub instrumented_is : (first old new : Names) (b : Body) (states : List State) (e : Emitted) → Grows first old → Grows old new
     → AreNumberedFrames (length first) b.frames → AreStates old b states

@@ -1,15 +1,11 @@
 use Rattle.std.proofs.Common.{◌≤◌, List, length, sym, ◌∙◌, ap, subst, arith}
-use Rattle.std.specs.Prelude.{All}
 use Rattle.std.proofs.lemmas.Result.{err_from_is_err_and}
-use Rattle.jc_methods.specs.VerificationTypes.{AreNumberedFrames}
 use Rattle.jc_methods.specs.declared.body.Body.{Body}
-use Rattle.jc_bytes.specs.Failing.{Said}
-use Rattle.jc_plan.specs.Analysed.{all_probes}
+use Rattle.jc_plan.specs.Analysed.{all_probes, plans_of}
 use Rattle.jc_instrument.specs.Bodies.{AreBodiesOf}
 use Rattle.jc_instrument.specs.Causes.{IsFirstCause}
-use Rattle.jc_instrument.specs.KeptStates.{AreKeptStates}
 use Rattle.jc_instrument.specs.ProbedClass.{making_causes}
-use Rattle.jc_instrument.specs.Probing.{AreProbed, IsFirstTooLong}
+use Rattle.jc_instrument.specs.Probing.{IsFirstTooLong}
 use Rattle.jc_instrument.proofs.AnswerLaws.{said_more}
 use Rattle.jc_instrument.proofs.ListedLaws.{few_bodies}
 use Rattle.jc_instrument.proofs.ProbedClassLaws.{class_probed, few_probes_then, large_first, of_class, room_first}
@@ -36,19 +32,15 @@ returns-in-Some-clause-refused c =
 
 pub probed_bodies-requires-clause-frames : goal.probed_bodies-requires-clause-frames
 probed_bodies-requires-clause-frames c =
-    let names = c.named_bodies.new.names in
-    subst (All (λ (b : Body). AreNumberedFrames (length names) b.frames)) (sym c.deref-3.ensures)
-    (bodies_numbered names c.args.class.now c.in_ok-bodies.field-0.bodies c.in_ok-bodies.ensures.bodies.are)
+    bodies_numbered c.named_bodies.new.names c.args.class.now c.in_ok-bodies.field-0.bodies c.in_ok-bodies.ensures.bodies.are
 
-pub probed_bodies-requires-clause-kept : goal.probed_bodies-requires-clause-kept
-probed_bodies-requires-clause-kept c =
-    subst (λ (l : List Body). AreKeptStates c.named_bodies.new.names l c.in_ok-bodies.field-0.states) (sym c.deref-3.ensures) c.in_ok-bodies.ensures.states
+pub probed_bodies-requires-clause-plans : goal.probed_bodies-requires-clause-plans
+probed_bodies-requires-clause-plans c = c.in_ok-plans.ensures.plans ∙ ap plans_of c.deref.ensures
 
 pub probed_bodies-requires-clause-few : goal.probed_bodies-requires-clause-few
 probed_bodies-requires-clause-few c =
-    subst (λ (l : List Body). all_probes l ≤ 32767) (sym c.deref-3.ensures)
-    (few_probes_then c.named_bodies.new.names c.args.class.now c.in_ok-bodies.field-0.bodies c.requires.changes c.in_ok-bodies.ensures.bodies
-    c.in_default.ensures)
+    few_probes_then c.named_bodies.new.names c.args.class.now c.in_ok-bodies.field-0.bodies c.requires.changes c.in_ok-bodies.ensures.bodies
+    c.in_default.ensures
 
 pub returns-in_err-probed-clause-refused : goal.returns-in_err-probed-clause-refused
 returns-in_err-probed-clause-refused c =
@@ -57,18 +49,16 @@ returns-in_err-probed-clause-refused c =
     let r = c.from_residual-in_err-probed in
     let p = err_from_is_err_and r.result r.ensures.1 in
     let e = c.in_err-probed.field-0.0 in
-    let said = subst (λ (l : List Body). Said e (IsFirstTooLong l)) c.deref-3.ensures c.in_err-probed.ensures.refused in
     rw (p.1, p.2) (said_more (IsFirstTooLong bodies) (IsFirstCause (making_causes class)) e
-    (large_first c.named_bodies.new.names class bodies c.requires.changes c.in_ok-bodies.ensures.bodies c.in_default.ensures) said)
+    (large_first c.named_bodies.new.names class bodies c.requires.changes c.in_ok-bodies.ensures.bodies c.in_default.ensures) c.in_err-probed.ensures.refused)
 
 pub returns-clause-probed : goal.returns-clause-probed
 returns-clause-probed c =
     let bodies = c.in_ok-bodies.field-0.bodies in
     let new = c.probed_bodies.new.names in
     let probed = c.in_ok-probed.probed in
-    let a = subst (λ (l : List Body). AreProbed new l probed) c.deref-3.ensures c.in_ok-probed.ensures.probed in
     class_probed c.named_bodies.new.names c.args.class.now bodies c.requires.changes c.in_ok-bodies.ensures.bodies c.in_default.ensures new probed
-    c.in_ok-plans.field-0.probes c.in_ok-probed.ensures.names a (c.in_ok-plans.ensures.probes ∙ ap all_probes c.deref.ensures)
+    c.in_ok-plans.field-0.probes c.in_ok-probed.ensures.names c.in_ok-probed.ensures.probed (c.in_ok-plans.ensures.probes ∙ ap all_probes c.deref.ensures)
 
 pub returns-clause-few : goal.returns-clause-few
 returns-clause-few c =

@@ -43,16 +43,13 @@ twin_class-requires-clause-written c =
     let new = c.take_needs.new.pool in
     let probed = c.args.probed.now.probed in
     let members = c.in_ok-members.members in
-    let codes = c.code_places-codes.result in
     let frames = ap (frames_of names) c.deref.ensures ∙ frames_are names p.array p.works probed p.made in
     let takes = subst (λ (fs : List TypeStateAt). TakesNeeded class.pool (name_of class) (signed_id id) fs new members) frames
     (subst (λ (o : List ℕ). TakesNeeded class.pool o (signed_id id) (frames_of names c.deref.result.now) new members) (sym c.requires.owner)
     c.in_ok-members.ensures.ok) in
     let classes = have_classes new names p.array p.works probed p.made
     (all_placed id names p.array class p.works new members takes c.code_places-codes.ensures.few) in
-    let named = are_named names class new c.in_ok-members.ensures.extends codes c.code_places-codes.ensures.texts p.array p.works probed p.made
-    p.are.bodies.each in
-    subst (AreWritable new names codes) (sym c.deref-2.ensures) (are_writable new names codes p.array p.works probed p.made p.frames classes named)
+    subst (AreWritable new names) (sym c.deref-2.ensures) (are_writable new names p.array p.works probed p.made p.frames classes)
 
 pub twin_class-requires-clause-coded : goal.twin_class-requires-clause-coded
 twin_class-requires-clause-coded c =
@@ -84,7 +81,13 @@ returns-clause-twin c =
         places = members;
         takes = takes;
         few = c.code_places-codes.ensures.few;
-        is = c.in_ok-twin_class.ensures class.pool p.array p.works c.in_ok-members.ensures.extends c.requires.class
-            (subst (AreMade p.array p.works) (sym c.deref-2.ensures) p.made) p.probes;
+        is = c.in_ok-twin_class.ensures class.pool p.array p.works (record {
+          extends = c.in_ok-members.ensures.extends;
+          class = c.requires.class;
+          made = subst (AreMade p.array p.works) (sym c.deref-2.ensures) p.made;
+          named = are_named names class new c.in_ok-members.ensures.extends c.code_places-codes.result c.code_places-codes.ensures.texts p.array p.works
+              p.are.bodies.each;
+          count = p.probes;
+        });
       };
     }

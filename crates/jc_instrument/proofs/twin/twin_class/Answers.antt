@@ -7,15 +7,15 @@ use Rattle.jc_instrument.proofs.twin.twin_class.Goals as goal
 
 pub returns : goal.returns
 unfolding twin_class
-returns c = λ old array works extends is made probes.
+returns c = λ old array works from.
     let class = c.args.class in
     let names = c.args.names.now in
     let members = c.args.places.now.members in
     let codes = c.args.places.now.codes in
     let field = c.data_member.ensures in
-    let init = c.in_ok-init_member.ensures ∙ ap (init_member members) probes in
+    let init = c.in_ok-init_member.ensures ∙ ap (init_member members) from.count in
     let all = c.in_ok-methods.ensures.methods
-    ∙ methods_made old class.pool extends names codes array works c.args.probed.now class.methods made is.methods.each
+    ∙ methods_made old class.pool from.extends names codes array works c.args.probed.now class.methods from.made from.named from.class.methods.each
     ∙ (λ i. twin_methods old (λ w. twin_code class.pool (c.requires.method i) (c.requires.frames i) names (emitted_of array w)) works class.methods) in
     let fields = c.in_ok-push.ensures.ok ∙ (λ i. class.fields ++ field i ∷ []) in
     let methods = c.in_ok-push-2.ensures.ok ∙ (λ i. all i ++ init i ∷ []) in
