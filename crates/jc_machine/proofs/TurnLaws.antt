@@ -13,7 +13,7 @@ use Rattle.jc_programs.specs.declared.program.Program.{Program}
 use Rattle.jc_programs.specs.declared.run_end.Entry.{Entry}
 use Rattle.jc_programs.specs.Members.{body_of}
 use Rattle.jc_operations.specs.declared.operation.Operation as shown
-use Rattle.jc_operations.specs.Invoked.{IsSwitch}
+use Rattle.jc_operations.specs.Invoked.{GoesByKey, IsSwitch}
 use Rattle.jc_operations.proofs.InvokedLaws.{invoked_at, switches}
 use Rattle.jc_operations.specs.declared.prepared.PreparedMethod.{PreparedMethod}
 use Rattle.jc_operations.specs.Shown.{Shows}
@@ -65,7 +65,7 @@ module _ (program : Program) (s : Shared) (frames : ThreadFrames) (p : IsProgram
 -- at a switch a turn goes by the instruction's own arms
 pub switched : (program : Program) (o : shown.Operation) (l : Option LocatedInsn) (insn : Insn) → StandsBefore l insn → Shows o (operation_at program l)
     → IsSwitch o
-    → (s : Shared) (f : Frame) → perform (operation_at program l) s f ≡ by_switch (key_target insn) f.stack s f
+    → (s : Shared) (f : Frame) → GoesByKey (operation_at program l) insn s f
 switched program o l insn before shows switch s f =
     let i = before.0 in
     let shown : Shows o (operation_of program i.at i.insn) = subst (λ (x : Option LocatedInsn). Shows o (operation_at program x)) before.1 shows in

@@ -2,15 +2,12 @@
 ghost use Rattle.std.specs.Prelude.{◌≡◌, ◌<◌, ◌≤◌, List, [], ◌∷◌, length, replicate, None, Some, option_map, is_some, slice_set, IfOk, MatchBool};
 ghost use Rattle.jc_bytes.specs.Descriptor.{FieldType};
 ghost use Rattle.jc_methods.specs.Insn.{IsWellFormed};
-ghost use Rattle.jc_plan.specs.Chosen.{key_target};
 ghost use Rattle.jc_world.specs.Operations as operations;
-ghost use Rattle.jc_world.specs.Jumps.{by_switch};
-ghost use Rattle.jc_world.specs.Perform.{perform};
 ghost use Rattle.jc_world.specs.Calls.{Arguments, taken_for, spread_values};
 ghost use Rattle.jc_world.specs.Step.{given_back, new_frame};
 ghost use Rattle.jc_store.specs.Values.{value_of};
 ghost use Rattle.jc_operations.specs.Shown.{Shows};
-ghost use Rattle.jc_operations.specs.Invoked.{IsSwitch};
+ghost use Rattle.jc_operations.specs.Invoked.{GoesByKey, IsSwitch};
 ghost use Rattle.jc_perform.specs.Nexts.{ComesTo, KeepsFrame, KeepsShared};
 ghost use Rattle.jc_perform.specs.Parameters.{AreParameters};
 ghost use Rattle.jc_machine.specs.Room.{IsBounded};
@@ -175,7 +172,7 @@ impl ThreadStack {
         requires insn { IsWellFormed insn.now }
         requires bounds { IsBounded self.old.top }
         ensures result { (d : operations.Operation) → Shows operation d
-            → (IsSwitch operation → perform d shared.old self.old.top ≡ by_switch (key_target insn.now) self.old.top.stack shared.old self.old.top)
+            → (IsSwitch operation → GoesByKey d insn.now shared.old self.old.top)
             → ComesTo result shared.new self.new.top d shared.old self.old.top }
         ensures frame_kept { KeepsFrame result self.old.top self.new.top }
         ensures waiting_kept { self.new.waiting ≡ self.old.waiting }

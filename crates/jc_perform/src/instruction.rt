@@ -1,12 +1,9 @@
 //! One instruction.
-ghost use Rattle.std.specs.Prelude.{◌≡◌, ◌+◌, ◌<◌, ◌≤◌, ◌^◌, length};
+ghost use Rattle.std.specs.Prelude.{◌+◌, ◌<◌, ◌≤◌, ◌^◌, length};
 ghost use Rattle.jc_methods.specs.Insn.{IsWellFormed};
-ghost use Rattle.jc_plan.specs.Chosen.{key_target};
 ghost use Rattle.jc_world.specs.Operations as operations;
-ghost use Rattle.jc_world.specs.Jumps.{by_switch};
-ghost use Rattle.jc_world.specs.Perform.{perform};
 ghost use Rattle.jc_operations.specs.Shown.{Shows};
-ghost use Rattle.jc_operations.specs.Invoked.{IsSwitch};
+ghost use Rattle.jc_operations.specs.Invoked.{GoesByKey, IsSwitch};
 ghost use Rattle.jc_perform.specs.Nexts.{ComesTo, KeepsFrame, KeepsShared};
 
 use crate::arrays::{make_array, measure, read, write};
@@ -31,7 +28,7 @@ pub fn perform(operation: Operation, insn: &Insn, shared: &mut Shared, frame: &m
     requires place { frame.old.place + 1 < 2 ^ 32 }
     requires room { length frame.old.locals + length frame.old.stack ≤ 1004 }
     ensures result { (d : operations.Operation) → Shows operation d
-        → (IsSwitch operation → perform d shared.old frame.old ≡ by_switch (key_target insn.now) frame.old.stack shared.old frame.old)
+        → (IsSwitch operation → GoesByKey d insn.now shared.old frame.old)
         → ComesTo result shared.new frame.new d shared.old frame.old }
     ensures frame_kept { KeepsFrame result frame.old frame.new }
     ensures shared_kept { KeepsShared result shared.old shared.new }
