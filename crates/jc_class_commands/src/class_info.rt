@@ -7,6 +7,7 @@ ghost use Rattle.jc_class_commands.specs.ClassInfo.{class_end, class_line, class
 ghost use Rattle.jc_class_commands.specs.ClassInfo.{method_end, method_start, method_text, method_line, IsListing, ListAnswers};
 ghost use Rattle.jc_work.specs.Seen.{words_of};
 ghost use Rattle.jc_work.specs.Answered.{AnswersWith, Prepares};
+ghost use Rattle.jc_work.specs.Handed.{BetweenFiles};
 
 use crate::each::each_answer;
 use crate::inputs::read_files;
@@ -143,8 +144,8 @@ pub fn prepare_class_info<'a, R: Threads + Sync, F: Files>(
     paths: &'a [String],
 ) -> Result<Vec<Write<'a>>, Stop<'a>>
     requires { length paths.now < 2 ^ 32 }
-    ensures { Prepares F.landed (words_of paths.entry.now) (ListAnswers (words_of paths.entry.now)) (F.contents files.old) (F.contents files.new)
-        (F.read_faults files.old) (F.read_faults files.new) (F.write_faults files.old) (F.write_faults files.new) result }
+    ensures { BetweenFiles F.Files files.old files.new (Prepares F.landed (words_of paths.entry.now)
+        (ListAnswers (words_of paths.entry.now))) result }
 {
     let texts = read_files(alloc, files, paths)?;
     listings(rt, alloc, paths, texts)

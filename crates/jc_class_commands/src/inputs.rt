@@ -3,6 +3,7 @@ ghost use Rattle.std.specs.Prelude.{◌≡◌, ◌≤◌, All, length, IfOk};
 ghost use Rattle.jc_base.specs.Reader.{most_read};
 ghost use Rattle.jc_work.specs.Part.{reading_all};
 ghost use Rattle.jc_work.specs.Ending.{DoesFiles};
+ghost use Rattle.jc_work.specs.Handed.{BetweenFiles};
 ghost use Rattle.jc_work.specs.Seen.{words_of, stop_seen};
 
 use jc_base::{Bytes, Files};
@@ -15,8 +16,8 @@ pub fn read_files<'a, F: Files>(
     files: &mut F,
     paths: &'a [String],
 ) -> Result<Vec<Bytes>, Stop<'a>>
-    ensures does { DoesFiles F.landed (reading_all (words_of paths.entry.now)) (λ texts. texts.items) stop_seen (F.contents files.old) (F.contents files.new)
-        (F.read_faults files.old) (F.read_faults files.new) (F.write_faults files.old) (F.write_faults files.new) result }
+    ensures does { BetweenFiles F.Files files.old files.new (DoesFiles F.landed (reading_all (words_of paths.entry.now))
+        (λ texts. texts.items) stop_seen) result }
     ensures each { IfOk result (λ texts. length texts.items ≡ length paths.entry.now) }
     ensures short { IfOk result (λ texts. All (λ t. length t ≤ most_read) texts.items) }
 {

@@ -4,6 +4,7 @@ ghost use Rattle.std.specs.List.{AllZip};
 ghost use Rattle.jc_base.specs.Reader.{most_read};
 ghost use Rattle.jc_class_commands.specs.Instrument.{IsDecision, decided_line, file_writes, AreFileWrites, InstrumentAnswers, decision_seen};
 ghost use Rattle.jc_work.specs.Answered.{Prepares};
+ghost use Rattle.jc_work.specs.Handed.{BetweenFiles};
 ghost use Rattle.jc_work.specs.Seen.{write_seen, Puts};
 ghost use Rattle.jc_work.specs.Seen.{words_of};
 
@@ -139,8 +140,8 @@ pub fn prepare_instrument<'a, R: Threads + Sync, F: Files>(
     targets: &'a [String],
 ) -> Result<Vec<Write<'a>>, Stop<'a>>
     requires { length targets.now ≡ length paths.now }
-    ensures { Prepares F.landed (words_of paths.entry.now) (InstrumentAnswers (words_of targets.entry.now) (words_of paths.entry.now)) (F.contents files.old) (F.contents files.new)
-        (F.read_faults files.old) (F.read_faults files.new) (F.write_faults files.old) (F.write_faults files.new) result }
+    ensures { BetweenFiles F.Files files.old files.new (Prepares F.landed (words_of paths.entry.now)
+        (InstrumentAnswers (words_of targets.entry.now) (words_of paths.entry.now))) result }
 {
     let texts = read_files(alloc, files, paths)?;
     Ok(all_writes(rt, alloc, targets, paths, texts)?)

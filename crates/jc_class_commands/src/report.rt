@@ -5,6 +5,7 @@ ghost use Rattle.jc_class_commands.specs.Report.{report_text, ReportAnswers};
 ghost use Rattle.jc_class_commands.specs.ReportSteps.{data_records, data_path, exec_path, exec_texts, CountsFiles, ReportsWith};
 ghost use Rattle.jc_work.specs.Seen.{words_of};
 ghost use Rattle.jc_work.specs.Answered.{AnswersWith, Prepares};
+ghost use Rattle.jc_work.specs.Handed.{BetweenFiles};
 
 use crate::class_report::{Data, Looked, look_at_all};
 use crate::inputs::read_files;
@@ -159,8 +160,9 @@ pub fn prepare_report<'a, R: Threads + Sync, F: Files>(
     paths: &'a [String],
 ) -> Result<Vec<Write<'a>>, Stop<'a>>
     requires { IfSome exec (λ e. length e.bytes ≤ most_read) }
-    ensures { Prepares F.landed (words_of paths.entry.now) (λ read. ReportAnswers out.entry.now name.now (exec_path exec.entry) (words_of paths.entry.now) (exec_texts exec.entry ++ read)) (F.contents files.old) (F.contents files.new)
-        (F.read_faults files.old) (F.read_faults files.new) (F.write_faults files.old) (F.write_faults files.new) result }
+    ensures { BetweenFiles F.Files files.old files.new (Prepares F.landed (words_of paths.entry.now)
+        (λ read. ReportAnswers out.entry.now name.now (exec_path exec.entry) (words_of paths.entry.now)
+        (exec_texts exec.entry ++ read))) result }
 {
     let texts = read_files(alloc, files, paths)?;
     reported_of(rt, alloc, out, name, exec, paths, texts)
