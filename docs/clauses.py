@@ -1,5 +1,5 @@
 #!/usr/bin/env python3
-"""Lists the clauses that are too long to be read aloud: those of more than 240 characters.
+"""Lists the clauses that are too long to be read aloud, those of more than 240 characters, and fails where there is one.
 
 docs/clauses.py          prints each with its place, its name and its length, the longest first, and then how many there are
 docs/clauses.py CRATE..  those of these crates
@@ -80,6 +80,7 @@ def main():
     for _, line in sorted(long, key=lambda each: (-each[0], each[1])):
         print(line)
     print(f"{len(long)} of {count} clauses have more than {MOST} characters")
+    return 1 if long else 0
 
 
-main()
+sys.exit(main())
