@@ -4,8 +4,9 @@ use jc_workers::Gate;
 use std::sync::atomic::Ordering::SeqCst;
 use std::sync::atomic::{AtomicBool, AtomicU32};
 
-/// How often a held worker looks at what has passed.
-const MOST_LOOKS: u32 = 100_000_000;
+/// How often a held worker looks at what has passed: some seconds, since on a machine with much other work the other workers
+/// may get a processor late.
+const MOST_LOOKS: u32 = 4_000_000_000;
 
 /// Holds case 1 until cases 2 to `last` have passed, or for so many looks.
 #[derive(Drop)]
