@@ -1,7 +1,7 @@
 -- What stands in a pool to which fields and methods were added.
-use Rattle.std.proofs.Common.{◌≡◌, ◌⊎◌, inl, inr, ℕ, ◌≤◌, ◌==◌, Bool, ◌&&◌, List, [], length, Option, Some, None, Decides, refl, sym, ◌∙◌, ap, subst, arith}
+use Rattle.std.proofs.Common.{◌≡◌, ◌⊎◌, inl, inr, ℕ, ◌<◌, ◌≤◌, ◌==◌, Bool, ◌&&◌, List, [], length, Option, Some, None, Decides, refl, sym, ◌∙◌, ap, subst, arith}
 use Rattle.std.proofs.lemmas.Bool.Decides.{Decides-eqb}
-use Rattle.std.proofs.lemmas.Bool.{cases_lt}
+use Rattle.std.proofs.lemmas.Bool.{cases_Bool, cases_lt}
 use Rattle.std.proofs.lemmas.Option.{none-some}
 use Rattle.std.proofs.lemmas.Slice.Eq.{bytes_eq-Decides}
 use Rattle.std.specs.Str.{bytes_eq}
@@ -12,11 +12,12 @@ use Rattle.jc_pool.specs.declared.index.Naming.TheVariants as naming
 use Rattle.jc_pool.specs.Pool.{PoolValue}
 use Rattle.jc_pool.specs.Lookup.{entry_of, class_name_of, Signature, signature_of, Member, signature, ref_of, dynamic_of, member_in, member_of}
 use Rattle.jc_pool.specs.Adding.{HasUtf8, PutsSignature, HasSignature, PutsMember, HasMember, IsMemberTag, entry_of_member, Extends}
+use Rattle.jc_pool.specs.Index.{NamesWithin, HasNaming}
 use Rattle.jc_pool.proofs.FirstPlaceMapLaws.{and_decided}
 use Rattle.jc_pool.proofs.OneMoreEntryLaws.{past}
 use Rattle.jc_pool.proofs.KeyPlaceLaws.{has_signature, is_signed, signature_past}
 use Rattle.jc_pool.proofs.AddingLaws.{put_extends, utf8_extends, extends_more, signature_extends}
-use Rattle.jc_pool.proofs.AddedLaws.{entry_kept, utf8_kept, naming_kept, put_stands, added_there, utf8_there, naming_there, AreOne, one_put, one_added, one_utf8, one_naming, end_put, some_added, some_utf8, some_naming}
+use Rattle.jc_pool.proofs.AddedLaws.{class_within, entry_kept, utf8_kept, naming_kept, put_stands, added_there, utf8_there, naming_there, AreOne, one_put, one_added, one_utf8, one_naming, end_put, some_added, some_utf8, some_naming}
 
 -- ---- what stood there
 
@@ -25,7 +26,7 @@ signature_kept old new s place more at =
     let p = has_signature old place s at in
     is_signed new place p.0 p.1 s (entry_kept old new (entry.NameAndType p.0 p.1) place more p.2) (utf8_kept old new s.name p.0 more p.3) (utf8_kept old new s.desc p.1 more p.4)
 
-abbrev member_by : ℕ → List ℕ → Signature → Option Member
+abbrev pub member_by : ℕ → List ℕ → Signature → Option Member
 member_by tag class s = Some (record { tag = tag; class = class; name = s.name; desc = s.desc })
 
 -- the member of a class, where the class has a name, and a name and a descriptor stand there
@@ -86,7 +87,7 @@ signature_put_there old s new place put =
 pub signature_there : (old : PoolValue) (s : Signature) (new : PoolValue) (place : ℕ) → HasSignature old s new place → signature_of new place ≡ Some s
 signature_there old s new place has = added_there signature_of s old (PutsSignature old s) new place (signature_put_there old s new place) has
 
-ref_read : (pool : PoolValue) (m : Member) (tag class sig : ℕ) → tag ≡ m.tag → class_name_of pool class ≡ Some m.class → signature_of pool sig ≡ Some (signature m) → ref_of pool tag class sig ≡ Some m
+pub ref_read : (pool : PoolValue) (m : Member) (tag class sig : ℕ) → tag ≡ m.tag → class_name_of pool class ≡ Some m.class → signature_of pool sig ≡ Some (signature m) → ref_of pool tag class sig ≡ Some m
 unfolding ref_of
 ref_read pool m tag class sig tagged named signed = (λ i. named i >>= λ name. signed i >>= λ s. member_by (tagged i) name s)
 
@@ -118,6 +119,25 @@ member_put_there old m new place is put =
 
 pub member_there : (old new : PoolValue) (m : Member) (place : ℕ) → IsMemberTag m.tag → HasMember old m new place → member_of new place ≡ Some m
 member_there old new m place is has = added_there member_of m old (PutsMember old m) new place (member_put_there old m new place is) has
+
+-- ---- what a member names is there
+
+member_within : (tag class sig end : ℕ) → class < end → sig < end → NamesWithin end (Some (entry_of_member tag class sig))
+member_within tag class sig end one other = elim (cases_Bool (tag == 9)) [
+  | inl field ↦ rw field (one, other)
+  | inr not_field ↦ elim (cases_Bool (tag == 10)) [ inl method ↦ rw (not_field, method) (one, other) | inr interface ↦ rw (not_field, interface) (one, other) ]
+]
+
+signature_within : (pool : PoolValue) (place : ℕ) (s : Signature) → signature_of pool place ≡ Some s → place < length pool
+signature_within pool place s there = elim (cases_lt place (length pool)) [ inl less ↦ less | inr behind ↦ absurd (none-some s (sym (signature_past pool place behind) ∙ there)) ]
+
+pub put_within : (old classed signed : PoolValue) (m : Member) (class sig : ℕ) (e : Entry) → e ≡ entry_of_member m.tag class sig → HasNaming naming.Class old m.class classed class
+    → HasSignature classed (signature m) signed sig → NamesWithin (length signed) (Some e)
+put_within old classed signed m class sig e is has_class has_sig =
+    subst (λ (f : Entry). NamesWithin (length signed) (Some f)) (sym is)
+    (member_within m.tag class sig (length signed)
+    (class_within signed class m.class (naming_kept naming.Class classed signed m.class class (signature_extends classed signed (signature m) sig has_sig) (naming_there naming.Class old classed m.class class has_class)))
+    (signature_within signed sig (signature m) (signature_there classed (signature m) signed sig has_sig)))
 
 -- ---- there is one such pool
 

@@ -1,5 +1,5 @@
 -- Entries that are put behind the others.
-use Rattle.std.proofs.Common.{◌≡◌, inl, inr, ℕ, ◌+◌, ◌<◌, ◌≤◌, List, [], ◌∷◌, ◌++◌, length, take, IfOk, OnErr, Option, Some, None, Result, Ok, Err, refl, sym, ◌∙◌, ap, subst, arith, append_assoc}
+use Rattle.std.proofs.Common.{◌≡◌, inl, inr, ℕ, ◌+◌, ◌<◌, ◌≤◌, List, [], ◌∷◌, ◌++◌, length, take, IfOk, IfSome, OnErr, Option, Some, None, Result, Ok, Err, refl, sym, ◌∙◌, ap, subst, arith, append_assoc}
 use Rattle.std.proofs.Math.Seq.{take-append_seam}
 use Rattle.std.proofs.lemmas.List.{append-nil}
 use Rattle.std.proofs.lemmas.Option.{none-some}
@@ -18,8 +18,9 @@ use Rattle.jc_pool.specs.declared.index.Naming.TheVariants as naming
 use Rattle.jc_pool.specs.Pool.{PoolValue, width, slots_of, IsSmall, IsPool}
 use Rattle.jc_pool.specs.Lookup.{utf8_in, utf8_of, Signature, signature_of, Member, signature, member_of}
 use Rattle.jc_pool.specs.Adding.{IsNowhere, IsPut, IsPutAs, Adds, HasUtf8, PutsNaming, HasClass, PutsSignature, HasSignature, PutsMember, HasMember, entry_of_member, RefusesFull, Extends}
-use Rattle.jc_pool.specs.Index.{IsFirstBelow, Notes, NotesEntry, text_place, key_in, slot_key, key_place, entry_naming, naming_of, HasNaming, AreTables, IsIndexOf, missing, CountsTo}
+use Rattle.jc_pool.specs.Index.{IsFirstBelow, Notes, NotesEntry, text_place, key_in, slot_key, key_place, entry_naming, naming_of, HasNaming, AreTables, AreMembersOf, IsIndexOf, NotesMember, NamesWithin, member_key_at, missing, CountsTo}
 use Rattle.jc_pool.proofs.FirstPlaceLaws.{is_nowhere}
+use Rattle.jc_pool.proofs.MemberTableLaws.{text_members, some_members_put}
 use Rattle.jc_pool.proofs.OneMoreEntryLaws.{grown_length, by_slots, utf8_past, texts_stay, texts_grow, text_standins, keys_grow, put_pool}
 
 -- ---- the index
@@ -28,6 +29,7 @@ use Rattle.jc_pool.proofs.OneMoreEntryLaws.{grown_length, by_slots, utf8_past, t
 pub record IsSameButTexts (old new : Index) : Type 0 where
   pub firsts : new.firsts.items ≡ old.firsts.items
   pub keys : new.keys.entries ≡ old.keys.entries
+  pub members : new.members ≡ old.members
 
 -- a text is put, and its place noted
 pub text_tables : (pool new : PoolValue) (old more : List ℕ → Option ℕ) (firsts : List ℕ) (keys : Key → Option ℕ) (text : List ℕ) (place first : ℕ) → IsPut pool new (entry.Utf8 text) place
@@ -40,10 +42,16 @@ text_tables pool new old more firsts keys text place first put notes none is = s
 
 pub text_indexed : (pool new : PoolValue) (old index : Index) (text : List ℕ) (place first : ℕ) → IsSameButTexts old index → IsPut pool new (entry.Utf8 text) place
     → Notes (text_place old.texts.entries (λ x. x.items)) (text_place index.texts.entries (λ x. x.items)) text place first → IsNowhere (utf8_of pool) text → IsIndexOf pool old → IsIndexOf new index
-text_indexed pool new old index text place first same put notes none is =
-    subst (λ (l : List ℕ). AreTables new (text_place index.texts.entries (λ x. x.items)) l (key_place index.keys.entries)) (sym same.firsts)
-    (subst (λ l. AreTables new (text_place index.texts.entries (λ x. x.items)) old.firsts.items (key_place l)) (sym same.keys)
-    (text_tables pool new (text_place old.texts.entries (λ x. x.items)) (text_place index.texts.entries (λ x. x.items)) old.firsts.items (key_place old.keys.entries) text place first put notes none is))
+text_indexed pool new old index text place first same put notes none is = record {
+  tables =
+      subst (λ (l : List ℕ). AreTables new (text_place index.texts.entries (λ x. x.items)) l (key_place index.keys.entries)) (sym same.firsts)
+      (subst (λ l. AreTables new (text_place index.texts.entries (λ x. x.items)) old.firsts.items (key_place l)) (sym same.keys)
+      (text_tables pool new (text_place old.texts.entries (λ x. x.items)) (text_place index.texts.entries (λ x. x.items)) old.firsts.items (key_place old.keys.entries) text place first put notes none is.tables));
+  members =
+      subst (λ (l : List ℕ). IfSome index.members (λ m. AreMembersOf new l (key_place m.entries))) (sym same.firsts)
+      (subst (λ o. IfSome o (λ m. AreMembersOf new old.firsts.items (key_place m.entries))) (sym same.members)
+      (text_members (λ m. m.entries) old.firsts.items pool new old.members text place put is.members));
+}
 
 -- one place more, off which no text is read, and whose key is noted
 slot_tables : (pool : PoolValue) (texts : List ℕ → Option ℕ) (firsts : List ℕ) (old more : Key → Option ℕ) (slot : Option Entry) (place : ℕ) → (slot >>= utf8_in) ≡ None → place ≡ length pool
@@ -63,11 +71,17 @@ entry_tables pool new texts firsts old more e place none put notes is =
     (λ one. slot_tables (pool ++ Some e ∷ []) texts firsts more more None (length (pool ++ Some e ∷ [])) refl refl (λ k. refl) one))
 
 pub entry_indexed : (pool new : PoolValue) (old index : Index) (e : Entry) (place : ℕ) → index.firsts.items ≡ old.firsts.items → index.texts.entries ≡ old.texts.entries → utf8_in e ≡ None
-    → IsPut pool new e place → NotesEntry (key_place old.keys.entries) (key_place index.keys.entries) (key_in old.firsts.items e) place → IsIndexOf pool old → IsIndexOf new index
-entry_indexed pool new old index e place firsts texts none put notes is =
-    subst (λ (l : List ℕ). AreTables new (text_place index.texts.entries (λ x. x.items)) l (key_place index.keys.entries)) (sym firsts)
-    (subst (λ l. AreTables new (text_place l (λ x. x.items)) old.firsts.items (key_place index.keys.entries)) (sym texts)
-    (entry_tables pool new (text_place old.texts.entries (λ x. x.items)) old.firsts.items (key_place old.keys.entries) (key_place index.keys.entries) e place none put notes is))
+    → NamesWithin (length pool) (Some e) → IsPut pool new e place → NotesEntry (key_place old.keys.entries) (key_place index.keys.entries) (key_in old.firsts.items e) place
+    → NotesMember (λ m. m.entries) old.members index.members (member_key_at old.firsts.items new place) place → IsIndexOf pool old → IsIndexOf new index
+entry_indexed pool new old index e place firsts texts none within put notes member_notes is = record {
+  tables =
+      subst (λ (l : List ℕ). AreTables new (text_place index.texts.entries (λ x. x.items)) l (key_place index.keys.entries)) (sym firsts)
+      (subst (λ l. AreTables new (text_place l (λ x. x.items)) old.firsts.items (key_place index.keys.entries)) (sym texts)
+      (entry_tables pool new (text_place old.texts.entries (λ x. x.items)) old.firsts.items (key_place old.keys.entries) (key_place index.keys.entries) e place none put notes is.tables));
+  members =
+      subst (λ (l : List ℕ). IfSome index.members (λ m. AreMembersOf new l (key_place m.entries))) (sym firsts)
+      (some_members_put (λ m. m.entries) old.firsts.items pool new old.members index.members e place within put member_notes is.members);
+}
 
 -- ---- texts
 
@@ -108,6 +122,10 @@ naming_small naming.String at = tt
 pub naming_textless : (kind : Naming) (at : ℕ) → utf8_in (entry_naming kind at) ≡ None
 naming_textless naming.Class at = refl
 naming_textless naming.String at = refl
+
+pub naming_within : (kind : Naming) (at end : ℕ) → NamesWithin end (Some (entry_naming kind at))
+naming_within naming.Class at end = tt
+naming_within naming.String at end = tt
 
 -- the pool with the name, and the place of the name in it
 pub named_text : (pool : PoolValue) (name : List ℕ) (at : ℕ) → IsFirstBelow (length pool) (utf8_of pool) name (Some at) → HasUtf8 pool name pool at
@@ -155,6 +173,13 @@ pub put_refused : {K : Type 0} (X Y : Type 0) (found : PoolValue → ℕ → Opt
 put_refused X Y found k pool e fails.Memory none counts = tt
 put_refused X Y found k pool e (fails.Said full) none counts =
     (pool ++ slots_of e, length pool, inr (none, put_at_end pool e), grown_length pool e ∙ sym counts.0, omega (arith, counts.0, counts.1))
+
+-- an entry with such a key is no member
+pub keyed_within : (firsts : List ℕ) (e : Entry) (k : Key) (end : ℕ) → key_in firsts e ≡ Some k → NamesWithin end (Some e)
+keyed_within firsts (entry.Fieldref class sig) k end is = absurd (none-some k is)
+keyed_within firsts (entry.Methodref class sig) k end is = absurd (none-some k is)
+keyed_within firsts (entry.InterfaceMethodref class sig) k end is = absurd (none-some k is)
+keyed_within firsts e k end is = tt
 
 textless_small : (e : Entry) → utf8_in e ≡ None → IsSmall e
 textless_small (entry.Utf8 text) none = absurd (none-some text (sym none))

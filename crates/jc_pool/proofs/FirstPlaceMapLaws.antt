@@ -71,12 +71,21 @@ decided_both x y z w =
     let told = and_decided (x == z) (y == w) (x ≡ z) (y ≡ w) (Decides-eqb x z) (Decides-eqb y w) in
     (λ is. (let same = told.0 is in λ i. key.Signature (same.0 i) (same.1 i)), λ same. told.1 (cc, cc))
 
+decided_all : (t c n d u e o f : ℕ) → Decides ((t == u) && ((c == e) && ((n == o) && (d == f)))) (key.Member t c n d ≡ key.Member u e o f)
+decided_all t c n d u e o f =
+    let last = and_decided (n == o) (d == f) (n ≡ o) (d ≡ f) (Decides-eqb n o) (Decides-eqb d f) in
+    let texts = and_decided (c == e) ((n == o) && (d == f)) (c ≡ e) ((n ≡ o) × (d ≡ f)) (Decides-eqb c e) last in
+    let told = and_decided (t == u) ((c == e) && ((n == o) && (d == f))) (t ≡ u) ((c ≡ e) × ((n ≡ o) × (d ≡ f))) (Decides-eqb t u) texts in
+    (λ is. (let same = told.0 is in λ i. key.Member (same.0 i) (same.1.0 i) (same.1.1.0 i) (same.1.1.1 i)), λ same. told.1 (cc, (cc, (cc, cc))))
+
 pub one_key : (a b : Key) → Decides (same_key a b) (a ≡ b)
 one_key (key.Integer x) (key.Integer y) = (λ same. ap key.Integer ((Decides-int_eq x y).0 same), λ same. (Decides-int_eq x y).1 cc)
 one_key (key.Long x) (key.Long y) = (λ same. ap key.Long ((Decides-int_eq x y).0 same), λ same. (Decides-int_eq x y).1 cc)
 one_key (key.Class x) (key.Class y) = (λ same. ap key.Class ((Decides-eqb x y).0 same), λ same. (Decides-eqb x y).1 cc)
 one_key (key.String x) (key.String y) = (λ same. ap key.String ((Decides-eqb x y).0 same), λ same. (Decides-eqb x y).1 cc)
 one_key (key.Signature x y) (key.Signature z w) = decided_both x y z w
+one_key (key.Member t c n d) (key.Member u e o f) = decided_all t c n d u e o f
+one_key (key.Member t c n d) b = (λ same. absurd cc, λ same. absurd cc)
 one_key (key.Signature x y) b = (λ same. absurd cc, λ same. absurd cc)
 one_key (key.Integer x) b = (λ same. absurd cc, λ same. absurd cc)
 one_key (key.Long x) b = (λ same. absurd cc, λ same. absurd cc)

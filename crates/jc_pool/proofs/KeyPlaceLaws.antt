@@ -1,5 +1,5 @@
 -- Where entries stand, by their keys.
-use Rattle.std.proofs.Common.{◌≡◌, inl, inr, ℕ, ℤ, ◌<◌, ◌≤◌, List, length, IfOk, Option, Some, None, Result, Ok, Err, refl, sym, ◌∙◌, ap}
+use Rattle.std.proofs.Common.{◌≡◌, inl, inr, ℕ, ℤ, ◌<◌, ◌≤◌, List, length, IfOk, IfSome, IfNone, Option, Some, None, Result, Ok, Err, refl, sym, ◌∙◌, ap}
 use Rattle.std.proofs.lemmas.Bool.{cases_lt}
 use Rattle.std.proofs.lemmas.Option.{none-some}
 use Rattle.jc_bytes.specs.Decoder.{◌>>=◌}
@@ -228,7 +228,7 @@ unfolding key_at
 is_signed_key firsts pool place n d is = ap (λ (e : Option Entry). e >>= key_in firsts) is
 
 module _ (pool : PoolValue) (texts : List ℕ → Option ℕ) (firsts : List ℕ) (keys : Key → Option ℕ) (are : AreTables pool texts firsts keys) (s : Signature) where
-  signature_as_one : (name desc : ℕ) → IsFirst (utf8_of pool) s.name name → IsFirst (utf8_of pool) s.desc desc → AreAsOne (signature_of pool) s (key_at firsts pool) (key.Signature name desc)
+  pub signature_as_one : (name desc : ℕ) → IsFirst (utf8_of pool) s.name name → IsFirst (utf8_of pool) s.desc desc → AreAsOne (signature_of pool) s (key_at firsts pool) (key.Signature name desc)
   signature_as_one name desc named described = record {
     to_key = λ place is.
         let p = has_signature pool place s is in
@@ -266,25 +266,25 @@ unnamed kind pool text none place there = let n = has_name kind pool place text 
 
 pub text_found : (pool : PoolValue) (index : Index) (text : List ℕ) (place : ℕ) (r : Option ℕ) → IsIndexOf pool index → r ≡ text_place index.texts.entries (λ x. x.items) text → r ≡ Some place
     → IsFirst (utf8_of pool) text place
-text_found pool index text place r is read at = is_first (utf8_of pool) (length pool) text place (text_place index.texts.entries (λ x. x.items) text) (sym read ∙ at) (is.texts text)
+text_found pool index text place r is read at = is_first (utf8_of pool) (length pool) text place (text_place index.texts.entries (λ x. x.items) text) (sym read ∙ at) (is.tables.texts text)
 
 pub text_nowhere : (pool : PoolValue) (index : Index) (text : List ℕ) (r : Option ℕ) → IsIndexOf pool index → r ≡ text_place index.texts.entries (λ x. x.items) text → r ≡ None
     → IsNowhere (utf8_of pool) text
-text_nowhere pool index text r is read at = is_nowhere (utf8_of pool) (length pool) text (text_place index.texts.entries (λ x. x.items) text) (utf8_past pool) (sym read ∙ at) (is.texts text)
+text_nowhere pool index text r is read at = is_nowhere (utf8_of pool) (length pool) text (text_place index.texts.entries (λ x. x.items) text) (utf8_past pool) (sym read ∙ at) (is.tables.texts text)
 
 pub key_found : (pool : PoolValue) (index : Index) (k : Key) (place : ℕ) (r : Option ℕ) → IsIndexOf pool index → r ≡ key_place index.keys.entries k → r ≡ Some place → IsFirst (key_at index.firsts.items pool) k place
-key_found pool index k place r is read at = is_first (key_at index.firsts.items pool) (length pool) k place (key_place index.keys.entries k) (sym read ∙ at) (is.keys k)
+key_found pool index k place r is read at = is_first (key_at index.firsts.items pool) (length pool) k place (key_place index.keys.entries k) (sym read ∙ at) (is.tables.keys k)
 
 pub key_nowhere : (pool : PoolValue) (index : Index) (k : Key) (r : Option ℕ) → IsIndexOf pool index → r ≡ key_place index.keys.entries k → r ≡ None → IsNowhere (key_at index.firsts.items pool) k
 key_nowhere pool index k r is read at =
-    is_nowhere (key_at index.firsts.items pool) (length pool) k (key_place index.keys.entries k) (key_past index.firsts.items pool) (sym read ∙ at) (is.keys k)
+    is_nowhere (key_at index.firsts.items pool) (length pool) k (key_place index.keys.entries k) (key_past index.firsts.items pool) (sym read ∙ at) (is.tables.keys k)
 
 pub naming_found : (kind : Naming) (pool : PoolValue) (index : Index) (text : List ℕ) (named r : Option ℕ) (place : ℕ) → IsIndexOf pool index → named ≡ text_place index.texts.entries (λ x. x.items) text
     → r ≡ naming_place index.keys.entries kind named → r ≡ Some place → IsFirst (naming_of kind pool) text place
 naming_found kind pool index text None r place is read found at = absurd (none-some place (sym found ∙ at))
 naming_found kind pool index text (Some name) r place is read found at =
     first_as_one (naming_of kind pool) text (key_at index.firsts.items pool) (key_naming kind name)
-    (naming_as_one pool index.firsts.items text name is.standins (text_found pool index text name (Some name) is read refl) kind) place
+    (naming_as_one pool index.firsts.items text name is.tables.standins (text_found pool index text name (Some name) is read refl) kind) place
     (key_found pool index (key_naming kind name) place r is found at)
 
 pub naming_missing : (kind : Naming) (pool : PoolValue) (index : Index) (text : List ℕ) (named r : Option ℕ) → IsIndexOf pool index → named ≡ text_place index.texts.entries (λ x. x.items) text
@@ -292,5 +292,16 @@ pub naming_missing : (kind : Naming) (pool : PoolValue) (index : Index) (text : 
 naming_missing kind pool index text None r is read found at = unnamed kind pool text (text_nowhere pool index text None is read refl)
 naming_missing kind pool index text (Some name) r is read found at =
     nowhere_as_one (naming_of kind pool) text (key_at index.firsts.items pool) (key_naming kind name)
-    (naming_as_one pool index.firsts.items text name is.standins (text_found pool index text name (Some name) is read refl) kind)
+    (naming_as_one pool index.firsts.items text name is.tables.standins (text_found pool index text name (Some name) is read refl) kind)
     (key_nowhere pool index (key_naming kind name) r is found at)
+
+-- the first place of an entry that names a text, or none
+pub first_naming : (kind : Naming) (pool : PoolValue) (index : Index) (text : List ℕ) (named r : Option ℕ) → IsIndexOf pool index → named ≡ text_place index.texts.entries (λ x. x.items) text
+    → r ≡ naming_place index.keys.entries kind named → IfSome r (IsFirst (naming_of kind pool) text)
+first_naming kind pool index text named None is read found = tt
+first_naming kind pool index text named (Some place) is read found = naming_found kind pool index text named (Some place) place is read found refl
+
+pub no_naming : (kind : Naming) (pool : PoolValue) (index : Index) (text : List ℕ) (named r : Option ℕ) → IsIndexOf pool index → named ≡ text_place index.texts.entries (λ x. x.items) text
+    → r ≡ naming_place index.keys.entries kind named → IfNone r (IsNowhere (naming_of kind pool) text)
+no_naming kind pool index text named None is read found = naming_missing kind pool index text named None is read found refl
+no_naming kind pool index text named (Some place) is read found = tt

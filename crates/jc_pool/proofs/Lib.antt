@@ -8,8 +8,10 @@ mod FirstPlaceLaws
 pub mod OneMoreEntryLaws
 mod FirstPlaceMapLaws
 pub mod KeyPlaceLaws
+mod IndexLaws
+mod MemberTableLaws
 pub mod AddingLaws
 pub mod AddedLaws
-mod IndexLaws
 mod MemberLaws
 pub mod AddedMemberLaws
+mod MemberKeyLaws

@@ -207,14 +207,14 @@ class_there pool index class named r place is read found at = record {
   has = inl (naming_found naming.Class pool index class named r place is read found at, refl);
   size = omega arith;
   keys = key_place index.keys.entries;
-  tables = is;
+  tables = is.tables;
   signatures = λ a b. refl;
 }
 
 pub name_there : (pool : PoolValue) (index : Index) (class : List ℕ) (named r : Option ℕ) (at : ℕ) → IsIndexOf pool index → named ≡ text_place index.texts.entries (λ x. x.items) class
     → r ≡ naming_place index.keys.entries naming.Class named → r ≡ None → named ≡ Some at → IsClassed pool index class 1 None
 name_there pool index class named r at is read found none there =
-    class_put pool pool index class at 1 None (naming_missing naming.Class pool index class named r is read found none) (inl (text_found pool index class at named is read there, refl)) is refl
+    class_put pool pool index class at 1 None (naming_missing naming.Class pool index class named r is read found none) (inl (text_found pool index class at named is read there, refl)) is.tables refl
 
 pub class_new : (pool : PoolValue) (index : Index) (class : List ℕ) (named r : Option ℕ) → IsIndexOf pool index → named ≡ text_place index.texts.entries (λ x. x.items) class
     → r ≡ naming_place index.keys.entries naming.Class named → r ≡ None → named ≡ None → IsClassed pool index class 2 (Some (class, length pool))
@@ -224,7 +224,7 @@ class_new pool index class named r is read found none unnamed =
     let size = grown_length pool (entry.Utf8 class) in
     class_put pool (pool ++ Some (entry.Utf8 class) ∷ []) index class (length pool) 2 (Some (class, length pool)) (naming_missing naming.Class pool index class named r is read found none) (inr (nowhere, put))
     (text_tables pool (pool ++ Some (entry.Utf8 class) ∷ []) (text_place index.texts.entries (λ x. x.items)) (with_text (text_place index.texts.entries (λ x. x.items)) (Some (class, length pool))) index.firsts.items
-    (key_place index.keys.entries) class (length pool) (length pool) put (noted_one (text_place index.texts.entries (λ x. x.items)) class (length pool) (sym read ∙ unnamed)) nowhere is)
+    (key_place index.keys.entries) class (length pool) (length pool) put (noted_one (text_place index.texts.entries (λ x. x.items)) class (length pool) (sym read ∙ unnamed)) nowhere is.tables)
     (omega (arith, size))
 
 -- ---- refusals

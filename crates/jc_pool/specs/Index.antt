@@ -1,8 +1,9 @@
 -- What an index says of a pool: where equal entries stand first.
 use Rattle.std.specs.Prelude.{◌≡◌, ◌≢◌, ◌⊎◌, ℕ, ◌+◌, ◌<◌, Bool, if◌then◌else◌, List, length, slice_index_or}
-use Rattle.std.specs.Prelude.{Option, Some, None, Result, Err, is_some}
+use Rattle.std.specs.Prelude.{IfSome, Option, Some, None, Result, Err, is_some}
 use Rattle.std.specs.Map.{lookup}
 use Rattle.std.specs.Str.{bytes_eq}
+use Rattle.indexmap.specs.IndexMap.{spare}
 use Rattle.jc_bytes.specs.Decoder.{◌>>=◌}
 use Rattle.jc_bytes.specs.declared.fail.Fail.{Fail}
 use Rattle.jc_bytes.specs.declared.fail.Fail.TheVariants as fails
@@ -14,6 +15,7 @@ use Rattle.jc_pool.specs.declared.index.Key.TheVariants as key
 use Rattle.jc_pool.specs.declared.index.Naming.{Naming}
 use Rattle.jc_pool.specs.declared.index.Naming.TheVariants as naming
 use Rattle.jc_pool.specs.declared.index.Index.{Index}
+use Rattle.jc_pool.specs.declared.members.NamedPlaces.{NamedPlaces}
 use Rattle.jc_pool.specs.contracts.index.KeyPartialEq.TheImpl as equal
 use Rattle.jc_pool.specs.Pool.{PoolValue}
 use Rattle.jc_pool.specs.Lookup.{entry_of, utf8_in, utf8_of, class_name_of, string_of, Member}
@@ -36,6 +38,11 @@ Notes {X} old new what place first =
     ((old what ≡ Some first) × ((other : X) → new other ≡ old other))
     ⊎ ((old what ≡ None) × (first ≡ place)
     × ((other : X) → ((other ≢ what) × (new other ≡ old other)) ⊎ ((other ≡ what) × (new other ≡ Some place))))
+
+-- the place of an entry is noted, where it names others
+abbrev pub NotesEntry : (Key → Option ℕ) → (Key → Option ℕ) → Option Key → ℕ → Type 0
+NotesEntry old new None place = (k : Key) → new k ≡ old k
+NotesEntry old new (Some k) place = (first : ℕ) × Notes old new k place first
 
 -- ---- texts
 
@@ -103,6 +110,46 @@ key_at firsts pool place = entry_of pool place >>= key_in firsts
 abbrev pub HasNaming : Naming → PoolValue → List ℕ → PoolValue → ℕ → Type 0
 HasNaming kind old text = Adds (naming_of kind) text old (PutsNaming old text (entry_naming kind))
 
+-- ---- members
+
+-- the tag of a field or a method and the places that it names, where the entry is one
+abbrev pub named_places : Entry → Option NamedPlaces
+named_places (entry.Fieldref class name_and_type) = Some (record { tag = 9; class = class; name_and_type = name_and_type })
+named_places (entry.Methodref class name_and_type) = Some (record { tag = 10; class = class; name_and_type = name_and_type })
+named_places (entry.InterfaceMethodref class name_and_type) = Some (record { tag = 11; class = class; name_and_type = name_and_type })
+named_places _ = None
+
+-- the same of what stands at a place
+abbrev pub slot_places : Option Entry → Option NamedPlaces
+slot_places slot = slot >>= named_places
+
+-- the places that a field or a method names are below this one
+abbrev pub NamesWithin : ℕ → Option Entry → Type 0
+NamesWithin end slot = IfSome (slot_places slot) (λ named. (named.class < end) × (named.name_and_type < end))
+
+-- the key of a member, by those of its class, and of its name and descriptor
+abbrev pub member_key : ℕ → Option Key → Option Key → Option Key
+member_key tag (Some (key.Class class)) (Some (key.Signature name descriptor)) = Some (key.Member tag class name descriptor)
+member_key tag _ _ = None
+
+-- the key of the member that names these places
+abbrev pub places_key : List ℕ → PoolValue → NamedPlaces → Option Key
+places_key firsts pool named = member_key named.tag (key_at firsts pool named.class) (key_at firsts pool named.name_and_type)
+
+-- the key of the member at a place
+abbrev pub member_key_at : List ℕ → PoolValue → ℕ → Option Key
+member_key_at firsts pool place = slot_places (entry_of pool place) >>= places_key firsts pool
+
+-- the key of a member with this tag, whose class, name and descriptor have these first places
+abbrev pub texts_key : ℕ → Option ℕ → Option ℕ → Option ℕ → Option Key
+texts_key tag (Some class) (Some name) (Some descriptor) = Some (key.Member tag class name descriptor)
+texts_key tag _ _ _ = None
+
+-- Each field and each method in the pool names places of the pool alone, and the table has the first place of each.
+pub record AreMembersOf (pool : PoolValue) (firsts : List ℕ) (places : Key → Option ℕ) : Type 0 where
+  pub within : (place : ℕ) → NamesWithin (length pool) (entry_of pool place)
+  pub first : AreFirsts (length pool) (member_key_at firsts pool) places
+
 -- ---- the index
 
 -- the tables have the first place of each text and of each key of a pool, and the place that stands for each place
@@ -111,8 +158,20 @@ pub record AreTables (pool : PoolValue) (text_places : List ℕ → Option ℕ) 
   pub standins : AreStandins (utf8_of pool) (length pool) firsts
   pub keys : AreFirsts (length pool) (key_at firsts pool) key_places
 
-abbrev pub IsIndexOf : PoolValue → Index → Type 0
-IsIndexOf pool index = AreTables pool (text_place index.texts.entries (λ x. x.items)) index.firsts.items (key_place index.keys.entries)
+-- the tables of an index are those of the pool, and so is that of its members, where there is one
+pub record IsIndexOf (pool : PoolValue) (index : Index) : Type 0 where
+  pub tables : AreTables pool (text_place index.texts.entries (λ x. x.items)) index.firsts.items (key_place index.keys.entries)
+  pub members : IfSome index.members (λ members. AreMembersOf pool index.firsts.items (key_place members.entries))
+
+-- one more entry can be noted
+abbrev pub HasSpare : Index → Type 0
+HasSpare index = (0 < spare index.keys) × IfSome index.members (λ members. 0 < spare members)
+
+-- the place of a member is noted, where there is a table
+abbrev pub NotesMember : {M : Type 0} → (M → List (Key × ℕ)) → Option M → Option M → Option Key → ℕ → Type 0
+NotesMember entries_of (Some old) (Some new) k place = NotesEntry (key_place (entries_of old)) (key_place (entries_of new)) k place
+NotesMember entries_of None None k place = Unit {0}
+NotesMember entries_of _ _ k place = ⊥
 
 -- ---- what a member lacks
 
@@ -161,11 +220,6 @@ slot_key firsts slot = slot >>= key_in firsts
 abbrev pub NotesText : (List ℕ → Option ℕ) → (List ℕ → Option ℕ) → Option (List ℕ) → ℕ → ℕ → Type 0
 NotesText old new None place first = (first ≡ place) × ((text : List ℕ) → new text ≡ old text)
 NotesText old new (Some text) place first = Notes old new text place first
-
--- the place of an entry is noted, where it names others
-abbrev pub NotesEntry : (Key → Option ℕ) → (Key → Option ℕ) → Option Key → ℕ → Type 0
-NotesEntry old new None place = (k : Key) → new k ≡ old k
-NotesEntry old new (Some k) place = (first : ℕ) × Notes old new k place first
 
 -- how many places an entry lacks that names a text, which has this place
 abbrev pub missing : Option ℕ → ℕ

@@ -1,17 +1,17 @@
 //! Adding entries to what stands at the places of a pool.
 ghost use Rattle.std.specs.Prelude.{◌≡◌, ◌+◌, ◌++◌, ◌<◌, ◌≤◌, None, Some, IfOk, IfSome, OnOk, OnErr, length};
 ghost use Rattle.std.specs.Prelude.{vec_capacity, vec_len};
-ghost use Rattle.indexmap.specs.IndexMap.{spare};
 ghost use Rattle.jc_bytes.specs.Texts.{IsShortText};
 ghost use Rattle.jc_pool.specs.declared.entry.Entry.TheVariants as entry;
 ghost use Rattle.jc_pool.specs.Adding.{IsNowhere, IsPut, IsPutAs, Adds, HasUtf8, RefusesFull};
-ghost use Rattle.jc_pool.specs.Index.{IsFirstBelow, IsIndexOf, CountsTo, missing, key_in, key_at, naming_of, HasNaming};
+ghost use Rattle.jc_pool.specs.Index.{IsFirstBelow, IsIndexOf, HasSpare, NamesWithin, CountsTo, missing, key_in, key_at, naming_of, HasNaming};
 ghost use Rattle.jc_pool.specs.Lookup.{utf8_in, utf8_of};
 ghost use Rattle.jc_pool.specs.Pool.{IsPool, slots_of, width};
 
 use crate::entry::Entry;
 use crate::index::{Index, Key, Naming, note_entry, note_text};
 use crate::judged_text::JudgedText;
+use crate::members::note_behind;
 use jc_bytes::{Fail, Memory};
 use std::alloc::Global;
 
@@ -86,6 +86,7 @@ fn put_text(
     ensures index { IsIndexOf slots.new.items index.new }
     ensures kept { OnErr result (slots.new.items ≡ slots.old.items) }
     ensures keys { index.new.keys ≡ index.old.keys }
+    ensures members { index.new.members ≡ index.old.members }
     ensures capacity { vec_capacity slots.new ≡ vec_capacity slots.old }
 {
     let entry = JudgedText::of(alloc, text)?;
@@ -110,9 +111,10 @@ fn put_reserved(slots: &mut Vec<Option<Entry>>, entry: Entry)
 /// Puts an entry that has no text of its own behind the others, for which there is room.
 pub fn put_entry(slots: &mut Vec<Option<Entry>>, index: &mut Index, entry: Entry) -> u16
     requires room { vec_len slots.old + width entry ≤ vec_capacity slots.old }
-    requires space { 0 < spare index.old.keys }
+    requires space { HasSpare index.old }
     requires few { length slots.old.items + width entry ≤ 65535 }
     requires other { utf8_in entry ≡ None }
+    requires within { NamesWithin (length slots.old.items) (Some entry) }
     requires index { IsIndexOf slots.old.items index.old }
     ensures put { IsPut slots.old.items slots.new.items entry result }
     ensures index { IsIndexOf slots.new.items index.new }
@@ -120,6 +122,7 @@ pub fn put_entry(slots: &mut Vec<Option<Entry>>, index: &mut Index, entry: Entry
     let place = slots.len() as u16;
     note_entry(&mut index.keys, &index.firsts, &entry, place);
     put_reserved(slots, entry);
+    note_behind(&mut index.members, slots, &index.firsts, place);
     place
 }
 
@@ -167,7 +170,7 @@ pub fn add_number(
         return Ok(place);
     }
     take_room(slots, entry.width())?;
-    index.keys.reserve(1)?;
+    index.reserve()?;
     Ok(put_entry(slots, index, entry))
 }
 
@@ -195,6 +198,7 @@ fn put_name(
     ensures few { OnOk result (length slots.new.items < 65535) }
     ensures kept { OnErr result (slots.new.items ≡ slots.old.items) }
     ensures keys { index.new.keys ≡ index.old.keys }
+    ensures members { index.new.members ≡ index.old.members }
     ensures index { IsIndexOf slots.new.items index.new }
 {
     match named {
@@ -224,7 +228,7 @@ fn put_naming(
     ensures index { IsIndexOf slots.new.items index.new }
 {
     take_room(slots, missing(named))?;
-    index.keys.reserve(1)?;
+    index.reserve()?;
     let at = put_name(alloc, slots, index, named, text)?;
     Ok(put_entry(slots, index, kind.entry(at)))
 }

@@ -1,7 +1,7 @@
 //! Adding fields and methods to what stands at the places of a pool.
 ghost use Rattle.std.specs.Prelude.{◌≡◌, ◌+◌, ◌≤◌, Some, IfOk, OnOk, OnErr, length};
 ghost use Rattle.jc_bytes.specs.Texts.{IsShortText};
-ghost use Rattle.jc_pool.specs.Adding.{IsNowhere, HasSignature, PutsMember, HasMember, Extends, RefusesFull, entry_of_member};
+ghost use Rattle.jc_pool.specs.Adding.{IsNowhere, HasSignature, PutsMember, HasMember, IsMemberTag, Extends, RefusesFull, entry_of_member};
 ghost use Rattle.jc_pool.specs.Index.{IsIndexOf, IsClassed, Lacks, text_place, with_text, new_name, absent, missing_signature};
 ghost use Rattle.jc_pool.specs.Lookup.{member_of, member, HasShortTexts};
 ghost use Rattle.jc_pool.specs.Pool.{IsPool};
@@ -10,6 +10,7 @@ use crate::add::{PoolFull, add_naming, add_text, check_room, put_entry, take_roo
 use crate::entry::Entry;
 use crate::index::{Index, Naming};
 use crate::lookup::MemberText;
+use crate::members::find_member;
 use jc_bytes::Fail;
 use std::alloc::Global;
 
@@ -129,7 +130,7 @@ fn add_signature(
     let name = add_text(alloc, slots, index, name)?;
     let descriptor = add_text(alloc, slots, index, desc)?;
     take_room(slots, 1)?;
-    index.keys.reserve(1)?;
+    index.reserve()?;
     Ok(put_entry(slots, index, Entry::NameAndType { name, descriptor }))
 }
 
@@ -151,12 +152,12 @@ fn put_member(
     let class = add_naming(alloc, slots, index, Naming::Class, m.class)?;
     let name_and_type = add_signature(alloc, slots, index, m.name, m.desc)?;
     take_room(slots, 1)?;
-    index.keys.reserve(1)?;
+    index.reserve()?;
     Ok(put_entry(slots, index, entry_of(m.tag, class, name_and_type)))
 }
 
 /// The place of a member that is new, which is put behind the others.
-pub fn add_member(
+fn add_new_member(
     alloc: Global,
     slots: &mut Vec<Option<Entry>>,
     index: &mut Index,
@@ -182,4 +183,27 @@ pub fn add_member(
             Err(Fail::Memory)
         }
     }
+}
+
+/// The first place of a member, which is put behind the others where it is new.
+pub fn add_member(
+    alloc: Global,
+    slots: &mut Vec<Option<Entry>>,
+    index: &mut Index,
+    m: &MemberText<'_>,
+) -> Result<u16, Fail<PoolFull>>
+    requires pool { IsPool slots.old.items }
+    requires tag { IsMemberTag m.now.tag }
+    requires texts { HasShortTexts (member m.now) }
+    requires index { IsIndexOf slots.old.items index.old }
+    ensures ok { IfOk result (HasMember slots.old.items (member m.now) slots.new.items) }
+    ensures pool { IsPool slots.new.items }
+    ensures full { RefusesFull (HasMember slots.old.items (member m.now)) result }
+    ensures err { OnErr result (slots.new.items ≡ slots.old.items) }
+    ensures index { OnOk result (IsIndexOf slots.new.items index.new) }
+{
+    if let Some(place) = find_member(slots, index, m) {
+        return Ok(place);
+    }
+    add_new_member(alloc, slots, index, m)
 }

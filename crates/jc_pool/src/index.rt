@@ -1,12 +1,14 @@
 //! Where equal entries stand, by their hash.
 ghost use Rattle.std.specs.Prelude.{◌≡◌, ◌<◌, ◌≤◌, ℕ, IfOk, OnOk, OnErr, length};
 ghost use Rattle.indexmap.specs.IndexMap.{spare};
-ghost use Rattle.jc_pool.specs.Index.{AreFirsts, AreStandins, IsIndexOf, Notes, NotesText, NotesEntry};
+ghost use Rattle.jc_pool.specs.Pool.{PoolValue};
+ghost use Rattle.jc_pool.specs.Index.{AreFirsts, AreStandins, IsIndexOf, HasSpare, Notes, NotesText, NotesEntry};
 ghost use Rattle.jc_pool.specs.Index.{text_in, text_place, standing_for, key_in, key_at, slot_key, key_place};
 ghost use Rattle.jc_pool.specs.Index.{entry_naming, key_naming, naming_place, signature_place};
 ghost use Rattle.jc_pool.specs.Lookup.{utf8_of};
 
 use crate::entry::Entry;
+use crate::members::members_of;
 use indexmap::IndexMap;
 use jc_bytes::Memory;
 use std::alloc::Global;
@@ -20,11 +22,25 @@ pub enum Key {
     /// A long by its value.
     Long(i64),
     /// A class by its name.
-    Class { name: u16 },
+    Class {
+        name: u16,
+    },
     /// A string by its text.
-    String { text: u16 },
+    String {
+        text: u16,
+    },
     /// A name and a descriptor.
-    Signature { name: u16, descriptor: u16 },
+    Signature {
+        name: u16,
+        descriptor: u16,
+    },
+    /// A field or a method by its tag, the name of its class, its name and its descriptor.
+    Member {
+        tag: u8,
+        class: u16,
+        name: u16,
+        descriptor: u16,
+    },
 }
 
 /// A kind of entry that names one text.
@@ -72,8 +88,11 @@ pub struct Index {
     pub firsts: Vec<u16>,
     /// The first place of each text.
     pub texts: Texts,
-    /// The first place of each key.
+    /// The first place of each key but those of members.
     pub keys: Keys,
+    /// The first place of each member by its key; nothing where a member named a place behind the end
+    /// of the pool when the index was made, since what comes to stand there would change its key.
+    pub members: Option<Keys>,
 }
 
 /// The place in the table, and behind its end the place itself.
@@ -87,7 +106,7 @@ fn standing_for(firsts: &[u16], place: u16) -> u16
 }
 
 /// The key of an entry that is a number, or names others.
-fn key_of(firsts: &[u16], entry: &Entry) -> Option<Key>
+pub fn key_of(firsts: &[u16], entry: &Entry) -> Option<Key>
     ensures { result ≡ key_in firsts.now entry.now }
 {
     match entry {
@@ -155,7 +174,7 @@ fn texts_of(alloc: Global, slots: &[Option<Entry>]) -> Result<(Vec<u16>, Texts),
 }
 
 /// Notes the place of a key that is new, for which there is room.
-fn note_key(keys: &mut Keys, key: Key, place: u16)
+pub fn note_key(keys: &mut Keys, key: Key, place: u16)
     requires { 0 < spare keys.old }
     ensures { (first : ℕ) × Notes (key_place keys.old.entries) (key_place keys.new.entries) key place first }
 {
@@ -216,11 +235,26 @@ impl Index {
     {
         let (firsts, texts) = texts_of(alloc, slots)?;
         let keys = keys_of(alloc, slots, &firsts)?;
+        let members = members_of(alloc, slots, &firsts)?;
         Ok(Index {
             firsts,
             texts,
             keys,
+            members,
         })
+    }
+
+    /// Takes room for one more entry.
+    pub fn reserve(&mut self) -> Result<(), Memory>
+        ensures room { OnOk result (HasSpare self.new) }
+        ensures firsts { self.new.firsts ≡ self.old.firsts }
+        ensures kept { (pool : PoolValue) → IsIndexOf pool self.old → IsIndexOf pool self.new }
+    {
+        self.keys.reserve(1)?;
+        if let Some(members) = &mut self.members {
+            members.reserve(1)?;
+        }
+        Ok(())
     }
 }
 

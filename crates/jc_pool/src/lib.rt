@@ -11,6 +11,7 @@ mod item;
 mod judged_text;
 mod laws;
 mod lookup;
+mod members;
 mod pool;
 mod text;
 mod write;

@@ -8,6 +8,7 @@ ghost use Rattle.jc_pool.specs.Lookup.{utf8_of, class_name_of, string_of, signat
 ghost use Rattle.jc_pool.specs.Lookup.{member, judged_member, HasShortTexts, ref_of, dynamic_of, ref_in, reference_of, member_of};
 
 use crate::entry::Entry;
+use crate::index::Naming;
 use crate::judged_text::JudgedText;
 use crate::{ConstText, Pool};
 
@@ -163,9 +164,8 @@ impl Pool {
         }
     }
 
-    /// The first place of a Class entry of this name (JVM Specification 4.4.1), exactly where there
-    /// is one.
-    pub fn find_class(&self, name: &[u8]) -> Option<u16>
+    /// The first place of a Class entry of this name, for which all places are looked at.
+    fn look_for_class(&self, name: &[u8]) -> Option<u16>
         ensures first { IfSome result (IsFirst (class_name_of self.now) name.now) }
         ensures none { IfNone result (IsNowhere (class_name_of self.now) name.now) }
     {
@@ -175,6 +175,18 @@ impl Pool {
             }
         }
         None
+    }
+
+    /// The first place of a Class entry of this name (JVM Specification 4.4.1), exactly where there
+    /// is one. From the first call on that adds an entry it is found by hash.
+    pub fn find_class(&self, name: &[u8]) -> Option<u16>
+        ensures first { IfSome result (IsFirst (class_name_of self.now) name.now) }
+        ensures none { IfNone result (IsNowhere (class_name_of self.now) name.now) }
+    {
+        match self.index() {
+            Some(index) => index.naming_place(Naming::Class, index.text_place(name)),
+            None => self.look_for_class(name),
+        }
     }
 
     /// The name and the descriptor of the NameAndType entry at a place (JVM Specification 4.4.6).
@@ -293,34 +305,6 @@ impl Pool {
             }),
             Err(bad) => Err(bad),
         }
-    }
-
-    /// Whether an entry at a place is this member.
-    fn is_member_there(&self, place: u16, m: &MemberText<'_>) -> bool
-        ensures { IsTrue result ↔ (member_of self.now place ≡ Some (member m.now)) }
-    {
-        match self.member_at(place) {
-            Ok(found) => {
-                found.tag == m.tag
-                    && found.class == m.class
-                    && found.name == m.name
-                    && found.desc == m.desc
-            }
-            Err(_) => false,
-        }
-    }
-
-    /// The first place of a member, exactly where it stands in the pool.
-    pub(crate) fn find_member(&self, m: &MemberText<'_>) -> Option<u16>
-        ensures first { IfSome result (IsFirst (member_of self.now) (member m.now)) }
-        ensures none { IfNone result (IsNowhere (member_of self.now) (member m.now)) }
-    {
-        'finding: for place in 0..self.count() {
-            if self.is_member_there(place, m) {
-                return Some(place);
-            }
-        }
-        None
     }
 
     /// Whether what `member_at` finds at a place has the descriptor of a field (JVM Specification

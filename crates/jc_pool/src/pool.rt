@@ -42,6 +42,7 @@ impl Model for Pool {
 impl Pool {
     ghost use Rattle.std.specs.Prelude.{option_copied};
     ghost use Rattle.jc_pool.specs.Lookup.{entry_of};
+    ghost use Rattle.jc_pool.specs.Index.{IsIndexOf};
 
     /// The count of the pool (JVM Specification 4.1): the number of its places, place 0 included.
     #[tactic(auto, using(crate::proofs::WritingLaws::pool_short))]
@@ -57,6 +58,13 @@ impl Pool {
         ensures small { IfSome result (λ entry. IsSmall entry.now) }
     {
         self.slots.get(usize::from(place))?.as_ref()
+    }
+
+    /// Where equal entries stand, once an entry was added.
+    pub(crate) fn index(&self) -> Option<&Index>
+        ensures { IfSome result (λ index. IsIndexOf self.now index.now) }
+    {
+        self.index.as_ref()
     }
 
     /// What stands at each place.
@@ -290,9 +298,6 @@ impl Pool {
             name,
             desc,
         };
-        if let Some(place) = self.find_member(&member) {
-            return Ok(place);
-        }
         let mut index = index_of(alloc, self.index.take(), &self.slots)?;
         let place = add_member(alloc, &mut self.slots, &mut index, &member)?;
         self.index = Some(index);

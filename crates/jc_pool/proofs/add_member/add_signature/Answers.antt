@@ -11,7 +11,7 @@ pub returns-in-Some-clause-ok : goal.returns-in-Some-clause-ok
 returns-in-Some-clause-ok c =
     let index = c.args.index.now in
     inl (
-      signature_found c.args.slots.now.items (text_place index.texts.entries (λ x. x.items)) index.firsts.items (key_place index.keys.entries) c.requires.index
+      signature_found c.args.slots.now.items (text_place index.texts.entries (λ x. x.items)) index.firsts.items (key_place index.keys.entries) c.requires.index.tables
           (record { name = c.args.name.now; desc = c.args.desc.now }) c.text_place-named.result c.text_place-described.result c.in-Some.place (sym c.text_place-named.ensures)
           (sym c.text_place-described.ensures) (sym c.signature_place.ensures ∙ c.in-Some.is),
       refl,
@@ -38,7 +38,7 @@ returns-clause-ok c =
     let index = c.args.index.now in
     let put = subst (λ (l : PoolValue). IsPut l c.put_entry.new.slots.items (entry.NameAndType c.in_ok-name.name c.in_ok-descriptor.descriptor) c.put_entry.result) c.in_ok-take_room.ensures.kept c.put_entry.ensures.put in
     inr (
-      signature_missing c.args.slots.now.items (text_place index.texts.entries (λ x. x.items)) index.firsts.items (key_place index.keys.entries) c.requires.index
+      signature_missing c.args.slots.now.items (text_place index.texts.entries (λ x. x.items)) index.firsts.items (key_place index.keys.entries) c.requires.index.tables
           (record { name = c.args.name.now; desc = c.args.desc.now }) c.text_place-named.result c.text_place-described.result (sym c.text_place-named.ensures) (sym c.text_place-described.ensures)
           (sym c.signature_place.ensures ∙ c.in_default.is),
       (c.add_text.new.slots.items, c.in_ok-name.name, c.in_ok-name.ensures.ok, c.add_text-2.new.slots.items, c.in_ok-descriptor.descriptor, c.in_ok-descriptor.ensures.ok, put),

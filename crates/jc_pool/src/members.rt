@@ -1,0 +1,232 @@
+//! Where members stand, by the first places of their texts.
+ghost use Rattle.std.specs.Prelude.{◌≡◌, ◌↔◌, ◌<◌, ◌≤◌, Some, IfOk, IfSome, IfNone, OnOk, IsTrue, length, option_copied};
+ghost use Rattle.indexmap.specs.IndexMap.{spare};
+ghost use Rattle.jc_pool.specs.Adding.{IsFirst, IsNowhere, IsMemberTag};
+ghost use Rattle.jc_pool.specs.Index.{NotesEntry, NotesMember, key_at, key_place, text_place, texts_key, AreMembersOf, IsIndexOf};
+ghost use Rattle.jc_pool.specs.Index.{named_places, slot_places, NamesWithin, member_key, member_key_at};
+ghost use Rattle.jc_pool.specs.Lookup.{entry_of, member, member_of};
+
+use crate::entry::Entry;
+use crate::index::{Index, Key, Keys, key_of, note_key};
+use crate::lookup::MemberText;
+use indexmap::IndexMap;
+use jc_bytes::Memory;
+use std::alloc::Global;
+
+/// What a field or a method names (JVM Specification 4.4.2).
+#[derive(Clone, Copy)]
+pub struct NamedPlaces {
+    /// The tag: 9 for a field, 10 for a method of a class, and 11 for one of an interface.
+    tag: u8,
+    /// The place of its class.
+    class: u16,
+    /// The place of its name and its descriptor.
+    name_and_type: u16,
+}
+
+/// What an entry names as a field or a method.
+fn named_places(entry: &Entry) -> Option<NamedPlaces>
+    ensures { result ≡ named_places entry.now }
+{
+    let (tag, class, name_and_type) = match entry {
+        Entry::Fieldref {
+            class,
+            name_and_type,
+        } => (9, *class, *name_and_type),
+        Entry::Methodref {
+            class,
+            name_and_type,
+        } => (10, *class, *name_and_type),
+        Entry::InterfaceMethodref {
+            class,
+            name_and_type,
+        } => (11, *class, *name_and_type),
+        _ => return None,
+    };
+    Some(NamedPlaces {
+        tag,
+        class,
+        name_and_type,
+    })
+}
+
+/// The entry at a place.
+fn entry_at(slots: &[Option<Entry>], place: u16) -> Option<&Entry>
+    ensures { option_copied result ≡ entry_of slots.now place }
+{
+    slots.get(usize::from(place))?.as_ref()
+}
+
+/// What the entry at a place names as a field or a method.
+fn places_at(slots: &[Option<Entry>], place: u16) -> Option<NamedPlaces>
+    ensures { result ≡ slot_places (entry_of slots.now place) }
+{
+    named_places(entry_at(slots, place)?)
+}
+
+/// Whether what a field or a method at a place names is in the pool, whatever stands there.
+fn names_within(slots: &[Option<Entry>], place: u16) -> bool
+    ensures { IsTrue result → NamesWithin (length slots.now) (entry_of slots.now place) }
+{
+    match places_at(slots, place) {
+        Some(named) => {
+            usize::from(named.class) < slots.len() && usize::from(named.name_and_type) < slots.len()
+        }
+        None => true,
+    }
+}
+
+/// The key of the entry at a place.
+#[tactic(auto, unfolding(crate::specs::Index::key_at))]
+fn key_at(slots: &[Option<Entry>], firsts: &[u16], place: u16) -> Option<Key>
+    ensures { result ≡ key_at firsts.now slots.now place }
+{
+    key_of(firsts, entry_at(slots, place)?)
+}
+
+/// The key of a member, by those of its class, and of its name and descriptor.
+fn member_key(tag: u8, class: Option<Key>, signature: Option<Key>) -> Option<Key>
+    ensures { result ≡ member_key tag class signature }
+{
+    match (class, signature) {
+        (Some(Key::Class { name: class }), Some(Key::Signature { name, descriptor })) => {
+            Some(Key::Member {
+                tag,
+                class,
+                name,
+                descriptor,
+            })
+        }
+        _ => None,
+    }
+}
+
+/// The key of the member at a place.
+fn member_key_at(slots: &[Option<Entry>], firsts: &[u16], place: u16) -> Option<Key>
+    ensures { result ≡ member_key_at firsts.now slots.now place }
+{
+    let named = places_at(slots, place)?;
+    let class = key_at(slots, firsts, named.class);
+    let signature = key_at(slots, firsts, named.name_and_type);
+    member_key(named.tag, class, signature)
+}
+
+/// Notes the place of a member, if one stands there, for which there is room.
+fn note_reserved(members: &mut Keys, slots: &[Option<Entry>], firsts: &[u16], place: u16)
+    requires { 0 < spare members.old }
+    ensures { NotesEntry (key_place members.old.entries) (key_place members.new.entries) (member_key_at firsts.now slots.now place) place }
+{
+    if let Some(key) = member_key_at(slots, firsts, place) {
+        note_key(members, key, place);
+    }
+}
+
+/// Notes the place of a member, if one stands there.
+fn note_member(
+    members: &mut Keys,
+    slots: &[Option<Entry>],
+    firsts: &[u16],
+    place: u16,
+) -> Result<(), Memory>
+    ensures { OnOk result (NotesEntry (key_place members.old.entries) (key_place members.new.entries) (member_key_at firsts.now slots.now place) place) }
+{
+    members.reserve(1)?;
+    note_reserved(members, slots, firsts, place);
+    Ok(())
+}
+
+/// Notes the place of the entry that was put last, where there is a table.
+pub fn note_behind(members: &mut Option<Keys>, slots: &[Option<Entry>], firsts: &[u16], place: u16)
+    requires { IfSome members.old (λ m. 0 < spare m) }
+    ensures { NotesMember (λ m. m.entries) members.old members.new (member_key_at firsts.now slots.now place) place }
+{
+    if let Some(members) = members {
+        note_reserved(members, slots, firsts, place);
+    }
+}
+
+/// The first places of all members, unless one of them names a place behind the end.
+pub fn members_of(
+    alloc: Global,
+    slots: &[Option<Entry>],
+    firsts: &[u16],
+) -> Result<Option<Keys>, Memory>
+    requires { length slots.now ≤ 65535 }
+    ensures { IfOk result (λ members. IfSome members (λ keys. AreMembersOf slots.now firsts.now (key_place keys.entries))) }
+{
+    let mut members = IndexMap::new(alloc);
+    'reading: for place in 0..slots.len() as u16 {
+        if !names_within(slots, place) {
+            return Ok(None);
+        }
+        note_member(&mut members, slots, firsts, place)?;
+    }
+    Ok(Some(members))
+}
+
+/// The key of a member with this tag, by the first places of its texts.
+fn texts_key(tag: u8, class: Option<u16>, name: Option<u16>, descriptor: Option<u16>) -> Option<Key>
+    ensures { result ≡ texts_key tag class name descriptor }
+{
+    Some(Key::Member {
+        tag,
+        class: class?,
+        name: name?,
+        descriptor: descriptor?,
+    })
+}
+
+/// Whether the member at a place has this key.
+fn is_key_there(slots: &[Option<Entry>], firsts: &[u16], place: u16, key: Key) -> bool
+    ensures { IsTrue result ↔ (member_key_at firsts.now slots.now place ≡ Some key) }
+{
+    match member_key_at(slots, firsts, place) {
+        Some(found) => found == key,
+        None => false,
+    }
+}
+
+/// The first place of a member by its key, for which all places are looked at.
+fn look_for_key(slots: &[Option<Entry>], firsts: &[u16], key: Key) -> Option<u16>
+    requires { length slots.now ≤ 65535 }
+    ensures first { IfSome result (IsFirst (member_key_at firsts.now slots.now) key) }
+    ensures none { IfNone result (IsNowhere (member_key_at firsts.now slots.now) key) }
+{
+    'finding: for place in 0..slots.len() as u16 {
+        if is_key_there(slots, firsts, place, key) {
+            return Some(place);
+        }
+    }
+    None
+}
+
+/// The first place of a key of a member.
+fn place_of_key(slots: &[Option<Entry>], index: &Index, key: Key) -> Option<u16>
+    requires few { length slots.now ≤ 65535 }
+    requires index { IsIndexOf slots.now index.now }
+    ensures first { IfSome result (IsFirst (member_key_at index.now.firsts.items slots.now) key) }
+    ensures none { IfNone result (IsNowhere (member_key_at index.now.firsts.items slots.now) key) }
+{
+    match &index.members {
+        Some(members) => members.get(&key).copied(),
+        None => look_for_key(slots, &index.firsts, key),
+    }
+}
+
+/// The first place of a member, exactly where it stands in the pool. It is found by hash, or where
+/// the index has no table of members, by looking at each place once.
+pub fn find_member(slots: &[Option<Entry>], index: &Index, m: &MemberText<'_>) -> Option<u16>
+    requires few { length slots.now ≤ 65535 }
+    requires tag { IsMemberTag m.now.tag }
+    requires index { IsIndexOf slots.now index.now }
+    ensures first { IfSome result (IsFirst (member_of slots.now) (member m.now)) }
+    ensures none { IfNone result (IsNowhere (member_of slots.now) (member m.now)) }
+{
+    let class = index.text_place(m.class);
+    let name = index.text_place(m.name);
+    let descriptor = index.text_place(m.desc);
+    match texts_key(m.tag, class, name, descriptor) {
+        Some(key) => place_of_key(slots, index, key),
+        None => None,
+    }
+}
