@@ -1,9 +1,9 @@
 //! Where members stand, by the first places of their texts.
-ghost use Rattle.std.specs.Prelude.{◌≡◌, ◌↔◌, ◌<◌, ◌≤◌, Some, IfOk, IfSome, IfNone, OnOk, IsTrue, length, option_copied};
+ghost use Rattle.std.specs.Prelude.{◌≡◌, ◌↔◌, ◌<◌, ◌≤◌, Some, IfOk, IfSome, IfNone, IsTrue, length, option_copied};
 ghost use Rattle.indexmap.specs.IndexMap.{spare};
 ghost use Rattle.jc_pool.specs.Adding.{IsFirst, IsNowhere, IsMemberTag};
-ghost use Rattle.jc_pool.specs.Index.{NotesEntry, NotesMember, key_at, key_place, text_place, texts_key, AreMembersOf, IsIndexOf};
-ghost use Rattle.jc_pool.specs.Index.{named_places, slot_places, NamesWithin, member_key, member_key_at};
+ghost use Rattle.jc_pool.specs.Index.{NotesEntry, NotesMember, key_at, key_place, texts_key, AreMembersOf, IsIndexOf};
+ghost use Rattle.jc_pool.specs.Index.{named_places, slot_places, NamesWithin, member_key, places_key, member_key_at};
 ghost use Rattle.jc_pool.specs.Lookup.{entry_of, member, member_of};
 
 use crate::entry::Entry;
@@ -64,18 +64,6 @@ fn places_at(slots: &[Option<Entry>], place: u16) -> Option<NamedPlaces>
     named_places(entry_at(slots, place)?)
 }
 
-/// Whether what a field or a method at a place names is in the pool, whatever stands there.
-fn names_within(slots: &[Option<Entry>], place: u16) -> bool
-    ensures { IsTrue result → NamesWithin (length slots.now) (entry_of slots.now place) }
-{
-    match places_at(slots, place) {
-        Some(named) => {
-            usize::from(named.class) < slots.len() && usize::from(named.name_and_type) < slots.len()
-        }
-        None => true,
-    }
-}
-
 /// The key of the entry at a place.
 #[tactic(auto, unfolding(crate::specs::Index::key_at))]
 fn key_at(slots: &[Option<Entry>], firsts: &[u16], place: u16) -> Option<Key>
@@ -101,47 +89,87 @@ fn member_key(tag: u8, class: Option<Key>, signature: Option<Key>) -> Option<Key
     }
 }
 
-/// The key of the member at a place.
-fn member_key_at(slots: &[Option<Entry>], firsts: &[u16], place: u16) -> Option<Key>
-    ensures { result ≡ member_key_at firsts.now slots.now place }
+/// The key of the member that names these places.
+fn places_key(slots: &[Option<Entry>], firsts: &[u16], named: NamedPlaces) -> Option<Key>
+    ensures { result ≡ places_key firsts.now slots.now named }
 {
-    let named = places_at(slots, place)?;
     let class = key_at(slots, firsts, named.class);
     let signature = key_at(slots, firsts, named.name_and_type);
     member_key(named.tag, class, signature)
 }
 
-/// Notes the place of a member, if one stands there, for which there is room.
-fn note_reserved(members: &mut Keys, slots: &[Option<Entry>], firsts: &[u16], place: u16)
-    requires { 0 < spare members.old }
-    ensures { NotesEntry (key_place members.old.entries) (key_place members.new.entries) (member_key_at firsts.now slots.now place) place }
+/// The key of the member at a place.
+fn member_key_at(slots: &[Option<Entry>], firsts: &[u16], place: u16) -> Option<Key>
+    ensures { result ≡ member_key_at firsts.now slots.now place }
 {
-    if let Some(key) = member_key_at(slots, firsts, place) {
+    places_key(slots, firsts, places_at(slots, place)?)
+}
+
+/// Notes the place of a member that names these places, for which there is room.
+fn note_reserved(
+    members: &mut Keys,
+    slots: &[Option<Entry>],
+    firsts: &[u16],
+    named: NamedPlaces,
+    place: u16,
+)
+    requires { 0 < spare members.old }
+    ensures { NotesEntry (key_place members.old.entries) (key_place members.new.entries) (places_key firsts.now slots.now named) place }
+{
+    if let Some(key) = places_key(slots, firsts, named) {
         note_key(members, key, place);
     }
 }
 
-/// Notes the place of a member, if one stands there.
-fn note_member(
-    members: &mut Keys,
-    slots: &[Option<Entry>],
-    firsts: &[u16],
-    place: u16,
-) -> Result<(), Memory>
-    ensures { OnOk result (NotesEntry (key_place members.old.entries) (key_place members.new.entries) (member_key_at firsts.now slots.now place) place) }
-{
-    members.reserve(1)?;
-    note_reserved(members, slots, firsts, place);
-    Ok(())
-}
-
-/// Notes the place of the entry that was put last, where there is a table.
+/// Notes the place of the entry that was put last, where there is a table and it is a member.
 pub fn note_behind(members: &mut Option<Keys>, slots: &[Option<Entry>], firsts: &[u16], place: u16)
     requires { IfSome members.old (λ m. 0 < spare m) }
     ensures { NotesMember (λ m. m.entries) members.old members.new (member_key_at firsts.now slots.now place) place }
 {
     if let Some(members) = members {
-        note_reserved(members, slots, firsts, place);
+        if let Some(named) = places_at(slots, place) {
+            note_reserved(members, slots, firsts, named, place);
+        }
+    }
+}
+
+/// Whether what a field or a method names is in the pool, whatever stands there. If so, its place is
+/// noted.
+fn note_within(
+    members: &mut Keys,
+    slots: &[Option<Entry>],
+    firsts: &[u16],
+    named: NamedPlaces,
+    place: u16,
+) -> Result<bool, Memory>
+    ensures class { IfOk result (λ within. IsTrue within → named.class < length slots.now) }
+    ensures name_and_type { IfOk result (λ within. IsTrue within → named.name_and_type < length slots.now) }
+    ensures noted { IfOk result (λ within. IsTrue within
+        → NotesEntry (key_place members.old.entries) (key_place members.new.entries) (places_key firsts.now slots.now named) place) }
+{
+    if usize::from(named.class) >= slots.len() || usize::from(named.name_and_type) >= slots.len() {
+        return Ok(false);
+    }
+    members.reserve(1)?;
+    note_reserved(members, slots, firsts, named, place);
+    Ok(true)
+}
+
+/// Whether what the entry at a place names as a field or a method is in the pool, whatever stands
+/// there. If so, the place of the member is noted.
+fn note_slot(
+    members: &mut Keys,
+    slots: &[Option<Entry>],
+    firsts: &[u16],
+    place: u16,
+) -> Result<bool, Memory>
+    ensures within { IfOk result (λ within. IsTrue within → NamesWithin (length slots.now) (entry_of slots.now place)) }
+    ensures noted { IfOk result (λ within. IsTrue within
+        → NotesEntry (key_place members.old.entries) (key_place members.new.entries) (member_key_at firsts.now slots.now place) place) }
+{
+    match places_at(slots, place) {
+        Some(named) => note_within(members, slots, firsts, named, place),
+        None => Ok(true),
     }
 }
 
@@ -156,10 +184,9 @@ pub fn members_of(
 {
     let mut members = IndexMap::new(alloc);
     'reading: for place in 0..slots.len() as u16 {
-        if !names_within(slots, place) {
+        if !note_slot(&mut members, slots, firsts, place)? {
             return Ok(None);
         }
-        note_member(&mut members, slots, firsts, place)?;
     }
     Ok(Some(members))
 }

@@ -1,6 +1,5 @@
-use Rattle.std.proofs.Common.{length, ap, refl, arith, rules}
-use Rattle.jc_pool.specs.Lookup.{entry_of}
-use Rattle.jc_pool.specs.Index.{NamesWithin, key_place}
+use Rattle.std.proofs.Common.{ap, refl, arith}
+use Rattle.jc_pool.specs.Index.{key_place}
 use Rattle.jc_pool.proofs.MemberTableLaws.{none_read, one_more_read, all_read}
 use Rattle.jc_pool.proofs.members.members_of.Goals as goal
 
@@ -9,8 +8,9 @@ reading-init c = none_read c.args.slots.now c.args.firsts.now 0 (key_place c.new
 
 pub reading-preserved : goal.reading-preserved
 reading-preserved c =
-    let here : NamesWithin (length c.args.slots.now) (entry_of c.args.slots.now c.reading.place) = search rules in
-    one_more_read c.args.slots.now c.args.firsts.now c.reading.place (key_place c.reading.members.entries) (key_place c.note_member.new.members.entries) here c.in_ok-note_member.ensures c.reading.invariant
+    let told = c.in_ok-note_slot.ensures in
+    let within = c.if-not-branch.false in
+    one_more_read c.args.slots.now c.args.firsts.now c.reading.place (key_place c.reading.members.entries) (key_place c.note_slot.new.members.entries) (told.within within) (told.noted within) c.reading.invariant
 
 pub returns : goal.returns
 returns c = all_read c.args.slots.now c.args.firsts.now c.reading.place (key_place c.reading.members.entries) (omega arith) c.reading.invariant
