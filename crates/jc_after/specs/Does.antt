@@ -1,5 +1,5 @@
 -- What one thing that a body uses does to types, read once and kept under numbers of class names.
-use Rattle.std.specs.Prelude.{◌≡◌, ⊤, ℕ, ◌++◌, Bool, false, List, [], ◌∷◌, length, map, Option, Some, None, option_map, nat_le, codes, bytes_eq, nat_eq, if◌then◌else◌}
+use Rattle.std.specs.Prelude.{◌≡◌, ⊤, ℕ, ◌++◌, Bool, false, List, ◌∷◌, length, map, Option, Some, None, option_map, nat_le, codes, bytes_eq, nat_eq, if◌then◌else◌}
 use Rattle.std.specs.HashMap.{HashMap, get}
 use Rattle.jc_methods.specs.declared.body.Use.{Use}
 use Rattle.jc_methods.specs.declared.body.What.{What}

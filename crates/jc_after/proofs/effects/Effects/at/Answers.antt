@@ -1,4 +1,4 @@
-use Rattle.std.proofs.Common.{sym, ◌∙◌, ap}
+use Rattle.std.proofs.Common.{◌∙◌, ap}
 use Rattle.jc_after.specs.Does.{does}
 use Rattle.jc_after.specs.Effects.{body_of}
 use Rattle.jc_after.proofs.DoesLaws.{says_now}
