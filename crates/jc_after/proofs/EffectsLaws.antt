@@ -17,12 +17,15 @@ use Rattle.jc_methods.specs.declared.body.What.TheVariants as whats
 use Rattle.jc_methods.specs.InsnUse.{pool_place, Suits, IsClass}
 use Rattle.jc_methods.proofs.NumberedLaws.{seen_grown, grown_count, state_numbered}
 use Rattle.jc_after.specs.declared.effect.Effect.{Effect}
+use Rattle.jc_after.specs.declared.elements.Elements.{Elements}
 use Rattle.jc_after.specs.Does.{does, does_of, of_class, IsDescribed}
 use Rattle.jc_after.specs.After.{after_of, class_in, insn_at, new_class, ground_of}
 use Rattle.jc_after.specs.Step.{class_built}
 use Rattle.jc_after.specs.Answers.{IsStateOf, IsWhole, LeavesState, LeavesAlways}
 use Rattle.jc_after.specs.Effects.{AreEffects, body_of}
+use Rattle.jc_after.specs.Elements.{AreElements}
 use Rattle.jc_after.proofs.DoesLaws.{later}
+use Rattle.jc_after.proofs.ElementsLaws.{elements_later}
 use Rattle.jc_after.proofs.UsesLaws.{all_say_later}
 use Rattle.jc_after.proofs.LeaveLaws.{leaves, left_of_body, left_whole}
 
@@ -30,9 +33,16 @@ pub are_later : (old new : Names) (e : Effects) → Grows old new → AreEffects
 are_later old new e g a = record {
   body = a.body;
   uses = all_say_later old new (body_of e).uses e.uses g a.uses;
+  elements = elements_later old new e.elements g a.elements;
   owner = later (λ names. verification_type names e.owner) (object (body_of e).owner) old new g a.owner;
   returns = a.returns;
 }
+
+-- the same, with the elements of more arrays
+pub with_elements : (old new : Names) (e : Effects) (elements : Elements) → Grows old new → AreEffects old e → AreElements new elements → AreEffects new (record e { elements = elements })
+with_elements old new e elements g a are =
+    let all = are_later old new e g a in
+    record { body = all.body; uses = all.uses; elements = are; owner = all.owner; returns = all.returns }
 
 pub state_later : (old new : Names) (b : Body) (s : State) → Grows old new → IsStateOf (length old) b s → IsStateOf (length new) b s
 state_later old new b s g is =

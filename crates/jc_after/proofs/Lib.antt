@@ -5,6 +5,7 @@ pub mod TableLaws
 pub mod LocalsLaws
 pub mod ObjectsLaws
 pub mod ArraysLaws
+pub mod ElementsLaws
 pub mod KeepLaws
 pub mod DoesLaws
 pub mod PairLaws

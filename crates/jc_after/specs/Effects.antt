@@ -12,6 +12,7 @@ use Rattle.jc_after.specs.declared.effects.Effects.{Effects}
 use Rattle.jc_after.specs.declared.step.Step.{Step as KeptStep}
 use Rattle.jc_after.specs.After.{ground_of, insn_at, new_class, return_op, returns_of, step_of}
 use Rattle.jc_after.specs.Does.{AllSay, IsDescribed, does, does_of}
+use Rattle.jc_after.specs.Elements.{AreElements}
 use Rattle.jc_after.specs.Step.{StackEffect, built, class_built}
 use Rattle.jc_after.specs.Steps.{step_in}
 
@@ -23,6 +24,7 @@ body_of e = e.body.now
 pub record AreEffects (names : Names) (e : Effects) : Type 0 where
   pub body : IsWellMadeOfAnySize (body_of e)
   pub uses : AllSay names (body_of e).uses e.uses
+  pub elements : AreElements names e.elements
   pub owner : (more : Names) → verification_type (names ++ more) e.owner ≡ object (body_of e).owner
   pub returns : e.returns ≡ return_op (returns_of (body_of e))
 

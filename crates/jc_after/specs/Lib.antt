@@ -7,6 +7,7 @@ pub mod After
 pub mod Arrays
 pub mod Does
 pub mod Steps
+pub mod Elements
 pub mod Effects
 pub mod Answers
 pub mod Shift

@@ -1,7 +1,7 @@
-//! New arrays, and elements of arrays of references. They number the names of classes.
-ghost use Rattle.std.specs.Prelude.{◌≡◌, ◌++◌, true, false, map, length, replicate, IfOk, MatchOption, option_map};
-ghost use Rattle.jc_methods.specs.VerificationTypes.{Names, verification_type, object, type_state, Grows, IsNumbered, IsNumberedState};
-ghost use Rattle.jc_after.specs.Step.{is_array, is_array_name, element_of, element_name as name_of_elements, picked, with_stack, moved_by};
+//! New arrays. They number the names of classes.
+ghost use Rattle.std.specs.Prelude.{◌≡◌, ◌++◌, map, length, replicate, IfOk, option_map};
+ghost use Rattle.jc_methods.specs.VerificationTypes.{Names, verification_type, object, type_state, Grows, IsNumberedState};
+ghost use Rattle.jc_after.specs.Step.{with_stack, moved_by};
 ghost use Rattle.jc_after.specs.After.{element_letter as letter_of};
 ghost use Rattle.jc_after.specs.Arrays.{array_forms};
 ghost use Rattle.jc_after.specs.Table.{turns};
@@ -20,67 +20,6 @@ pub fn object_of(alloc: Global, name: &[u8], names: &mut Names) -> Result<Kind, 
     ensures names { Grows names.old names.new }
 {
     Ok(Kind::Object(names.number(alloc, name)?))
-}
-
-/// The class of the elements of an array of references, by the name of the array's class.
-fn element_name(name: &[u8]) -> Option<&[u8]>
-    ensures { MatchOption result (is_array_name name.now ≡ false) (λ element.
-        (is_array_name name.now ≡ true) × (element.now ≡ name_of_elements name.now)) }
-{
-    match name {
-        [b'[', b'[', ..] => Some(&name[1..]),
-        [b'[', b'L', rest @ ..] => Some(&rest[..rest.len().saturating_sub(1)]),
-        _ => None,
-    }
-}
-
-/// An element of an array of references, where it is one.
-fn element_in(alloc: Global, array: Kind, names: &mut Names) -> Result<Option<Kind>, Memory>
-    requires { IsNumbered (length names.old) array }
-    ensures element { let type = verification_type names.old array in
-        IfOk result (λ o. MatchOption o (is_array type ≡ false) (λ kind. (is_array type ≡ true)
-        × ((more : Names) → verification_type (names.new ++ more) kind ≡ element_of type))) }
-    ensures names { Grows names.old names.new }
-{
-    match array {
-        Kind::Null => Ok(Some(Kind::Null)),
-        Kind::Object(number) => {
-            let Some(name) = element_name(names.text(number)) else {
-                return Ok(None);
-            };
-            let name = Vec::from_slice(alloc, name)?;
-            Ok(Some(object_of(alloc, name.as_slice(), names)?))
-        }
-        _ => Ok(None),
-    }
-}
-
-/// The state after `aaload`.
-pub fn pick(
-    alloc: Global,
-    state: State,
-    most: u16,
-    names: &mut Names,
-) -> Result<Option<State>, Memory>
-    requires { IsNumberedState (length names.old) state }
-    ensures after { IfOk result (λ o. (more : Names) → option_map (type_state (names.new ++ more)) o ≡ picked most (type_state names.old state)) }
-    ensures names { Grows names.old names.new }
-{
-    let stack = state.stack.as_slice();
-    if stack.len() < 2 {
-        return Ok(None);
-    }
-    let array = stack[stack.len() - 2];
-    match element_in(alloc, array, names)? {
-        Some(element) => Ok(move_state(
-            alloc,
-            state,
-            &[Want::Reference, Want::Int],
-            &[Give::Kind(element)],
-            most,
-        )?),
-        None => Ok(None),
-    }
 }
 
 /// The letter of the elements' type, by the code of `newarray`.

@@ -1,8 +1,9 @@
 //! What the instructions of a body do to types.
 use crate::Want;
-use crate::arrays::{new_array, new_arrays, object_of, pick};
+use crate::arrays::{new_array, new_arrays, object_of};
 use crate::by_opcode::move_by_opcode;
 use crate::effect::Effect;
+use crate::elements::{Elements, pick};
 use crate::form::Give;
 use crate::locals::{count, load, store};
 use crate::moves::move_state;
@@ -18,12 +19,14 @@ use jc_methods::{Body, Insn, Kind, State, opcode};
 use std::alloc::Global;
 use std::collections::HashMap;
 
-/// What the instructions of a body do to types, with each descriptor read once.
+/// What the instructions of a body do to types, with each descriptor and each name of an array's class read once.
 #[derive(Debug, Drop)]
 pub struct Effects<'a> {
     body: &'a Body,
     /// Those of the body's uses, by their places in the pool.
     uses: HashMap<u16, Effect>,
+    /// The elements of the arrays that were met.
+    elements: Elements,
     /// An object of the body's class.
     owner: Kind,
     /// The opcode of the method's returns.
@@ -63,6 +66,7 @@ impl<'a> Effects<'a> {
         Ok(Effects {
             body,
             uses,
+            elements: Elements::new(alloc),
             owner,
             returns,
         })
@@ -220,24 +224,27 @@ impl<'a> Effects<'a> {
 
     /// The state after an instruction, under all longer lists of names.
     fn leave(
-        &self,
+        &mut self,
         alloc: Global,
         state: State,
         i: u32,
         names: &mut Names,
     ) -> Result<Option<State>, Memory>
-        requires effects { AreEffects names.old self.now }
-        requires place { i < length (body_of self.now).code }
-        requires state { IsStateOf (length names.old) (body_of self.now) state }
-        ensures after { IfOk result (LeavesAlways names.old names.new (body_of self.now) i state) }
+        requires effects { AreEffects names.old self.old }
+        requires place { i < length (body_of self.old).code }
+        requires state { IsStateOf (length names.old) (body_of self.old) state }
+        ensures after { IfOk result (LeavesAlways names.old names.new (body_of self.old) i state) }
         ensures names { Grows names.old names.new }
+        ensures effects { AreEffects names.new self.new }
+        ensures body { body_of self.new ≡ body_of self.old }
     {
-        let insn = &self.body.code[i as usize];
+        let body = self.body;
+        let insn = &body.code[i as usize];
         if is_aaload(insn) {
-            return pick(alloc, state, self.body.max_stack, names);
+            return pick(alloc, state, body.max_stack, &mut self.elements, names);
         }
         match insn {
-            Insn::NewArray { elem } => new_array(alloc, state, *elem, self.body.max_stack, names),
+            Insn::NewArray { elem } => new_array(alloc, state, *elem, body.max_stack, names),
             _ => self.apply(alloc, state, self.step(insn), i),
         }
     }
@@ -249,24 +256,25 @@ impl<'a> Effects<'a> {
     ///
     /// `Memory` where memory was refused, or where a class is new and the list has 4,294,967,295 names.
     pub fn advance(
-        &self,
+        &mut self,
         alloc: Global,
         state: State,
         i: u32,
         names: &mut Names,
     ) -> Result<Option<State>, Memory>
-        requires effects { AreEffects names.old self.now }
-        requires place { i < length (body_of self.now).code }
-        requires state { IsStateOf (length names.old) (body_of self.now) state }
-        ensures after { IfOk result (λ after. LeavesState names.old names.new (body_of self.now) i state after) }
-        ensures next { IfOk result (λ after. IfSome after (λ s. IsStateOf (length names.new) (body_of self.now) s)) }
+        requires effects { AreEffects names.old self.old }
+        requires place { i < length (body_of self.old).code }
+        requires state { IsStateOf (length names.old) (body_of self.old) state }
+        ensures after { IfOk result (λ after. LeavesState names.old names.new (body_of self.old) i state after) }
+        ensures next { IfOk result (λ after. IfSome after (λ s. IsStateOf (length names.new) (body_of self.old) s)) }
 
         // A state that is well made leaves one that is.
-        ensures whole { IfOk result (λ after. IfSome after (λ s. IsWhole (body_of self.now) state → IsWhole (body_of self.now) s)) }
+        ensures whole { IfOk result (λ after. IfSome after (λ s. IsWhole (body_of self.old) state → IsWhole (body_of self.old) s)) }
         ensures names { Grows names.old names.new }
 
         // They are the effects under the names that there are then, after a refusal too.
-        ensures effects { AreEffects names.new self.now }
+        ensures effects { AreEffects names.new self.new }
+        ensures body { body_of self.new ≡ body_of self.old }
     {
         self.leave(alloc, state, i, names)
     }
@@ -280,24 +288,25 @@ impl<'a> Effects<'a> {
     ///
     /// `Memory` where memory was refused, or where a class is new and the list has 4,294,967,295 names.
     pub fn after(
-        &self,
+        &mut self,
         alloc: Global,
         state: &State,
         i: u32,
         names: &mut Names,
     ) -> Result<Option<State>, Memory>
-        requires effects { AreEffects names.old self.now }
-        requires place { i < length (body_of self.now).code }
-        requires state { IsStateOf (length names.old) (body_of self.now) state.now }
-        ensures after { IfOk result (λ after. LeavesState names.old names.new (body_of self.now) i state.now after) }
-        ensures next { IfOk result (λ after. IfSome after (λ s. IsStateOf (length names.new) (body_of self.now) s)) }
+        requires effects { AreEffects names.old self.old }
+        requires place { i < length (body_of self.old).code }
+        requires state { IsStateOf (length names.old) (body_of self.old) state.now }
+        ensures after { IfOk result (λ after. LeavesState names.old names.new (body_of self.old) i state.now after) }
+        ensures next { IfOk result (λ after. IfSome after (λ s. IsStateOf (length names.new) (body_of self.old) s)) }
 
         // A state that is well made leaves one that is.
-        ensures whole { IfOk result (λ after. IfSome after (λ s. IsWhole (body_of self.now) state.now → IsWhole (body_of self.now) s)) }
+        ensures whole { IfOk result (λ after. IfSome after (λ s. IsWhole (body_of self.old) state.now → IsWhole (body_of self.old) s)) }
         ensures names { Grows names.old names.new }
 
         // They are the effects under the names that there are then, after a refusal too.
-        ensures effects { AreEffects names.new self.now }
+        ensures effects { AreEffects names.new self.new }
+        ensures body { body_of self.new ≡ body_of self.old }
     {
         let copy = state.try_clone(alloc)?;
         self.advance(alloc, copy, i, names)

@@ -5,6 +5,7 @@ mod arrays;
 mod by_opcode;
 mod effect;
 mod effects;
+mod elements;
 mod form;
 mod laws;
 mod locals;

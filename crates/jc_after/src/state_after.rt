@@ -32,6 +32,6 @@ pub fn after(
     ensures whole { IfOk result (λ after. IfSome after (λ s. IsWhole body.now state.now → IsWhole body.now s)) }
     ensures names { Grows names.old names.new }
 {
-    let effects = Effects::of(alloc, body, names)?;
+    let mut effects = Effects::of(alloc, body, names)?;
     effects.after(alloc, state, i, names)
 }

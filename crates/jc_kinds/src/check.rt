@@ -55,8 +55,8 @@ fn walk_body(
     ensures names { Grows names.old names.new }
 {
     let entry = entry_of(alloc, body, names)?;
-    let effects = Effects::of(alloc, body, names)?;
-    walk(alloc, &effects, body, numbers, entry, keeps, names)
+    let mut effects = Effects::of(alloc, body, names)?;
+    walk(alloc, &mut effects, body, numbers, entry, keeps, names)
 }
 
 /// Whether states are kept: where they are wanted, and where handlers are compared with them.

@@ -136,15 +136,15 @@ fn next_state(
 /// it or where that state doesn't fit.
 fn step(
     alloc: Global,
-    effects: &Effects<'_>,
+    effects: &mut Effects<'_>,
     body: &Body,
     numbers: &[u32],
     state: State,
     at: u32,
     names: &mut Names,
 ) -> Result<Option<State>, Memory>
-    requires effects { AreEffects names.old effects.now }
-    requires body { body_of effects.now ≡ body.now }
+    requires effects { AreEffects names.old effects.old }
+    requires body { body_of effects.old ≡ body.now }
     requires made { IsWellMade body.now }
     requires numbers { AreNumbers body.now.frames (length body.now.code) numbers.now }
     requires place { at < length body.now.code }
@@ -153,7 +153,8 @@ fn step(
     requires frames { AreNumberedFrames (length names.old) body.now.frames }
     ensures steps { IfOk result (Steps names.old names.new body.now at state) }
     ensures names { Grows names.old names.new }
-    ensures effects { AreEffects names.new effects.now }
+    ensures effects { AreEffects names.new effects.new }
+    ensures body { body_of effects.new ≡ body.now }
 {
     let Some(left) = effects.advance(alloc, state, at, names)? else {
         return Ok(None);
@@ -218,15 +219,15 @@ pub struct Walked {
 /// `Memory` where memory was refused, or where `names` is full.
 pub fn walk(
     alloc: Global,
-    effects: &Effects<'_>,
+    effects: &mut Effects<'_>,
     body: &Body,
     numbers: &[u32],
     entry: State,
     keeps: bool,
     names: &mut Names,
 ) -> Result<Walked, Memory>
-    requires effects { AreEffects names.old effects.now }
-    requires body { body_of effects.now ≡ body.now }
+    requires effects { AreEffects names.old effects.old }
+    requires body { body_of effects.old ≡ body.now }
     requires made { IsWellMade body.now }
     requires numbers { AreNumbers body.now.frames (length body.now.code) numbers.now }
     requires entry { IsKeptEntry names.old body.now entry }

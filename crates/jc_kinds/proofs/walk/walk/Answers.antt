@@ -16,6 +16,7 @@ walking-init c = record {
   walking = first_made c.args.names.now c.args.body.now c.args.keeps c.deref.result.now c.args.entry c.in-Some.first c.in_ok-first.field-0 c.in_ok-states.states.items c.requires.made c.requires.frames c.requires.entry
       c.deref.ensures c.in_ok-first.ensures c.in-Some.is c.in_ok-states.ensures;
   effects = c.requires.effects;
+  body = c.requires.body;
 }
 
 pub overflow_cast-at : goal.overflow_cast-at
@@ -37,6 +38,7 @@ walking-preserved c = record {
       (subst (Steps c.walking.names c.step.new.names c.args.body.now c.walking.at c.walking.state) c.in-Some-2.is c.in_ok-next.ensures.steps)
       (c.in_ok-put.ensures ∙ ap (λ (l : List State). c.walking.states.items ++ l) c.in_ok-copy.ensures);
   effects = c.in_ok-next.ensures.effects;
+  body = c.in_ok-next.ensures.body;
 }
 
 pub returns-clause-walk : goal.returns-clause-walk

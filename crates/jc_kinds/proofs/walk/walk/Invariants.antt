@@ -1,4 +1,5 @@
-use Rattle.jc_after.specs.Effects.{AreEffects}
+use Rattle.std.proofs.Common.{◌≡◌}
+use Rattle.jc_after.specs.Effects.{AreEffects, body_of}
 use Rattle.jc_kinds.proofs.WalkLaws.{IsWalking}
 use Rattle.jc_kinds.proofs.walk.walk.Given as goal
 
@@ -7,4 +8,5 @@ abbrev pub invariant-walking : goal.invariant-walking
 invariant-walking l = record {
   walking : IsWalking l.fn.names l.names l.body l.keeps l.states.items l.at l.state;
   effects : AreEffects l.names l.effects;
+  body : body_of l.effects ≡ l.body;
 }

@@ -1,5 +1,5 @@
 use Rattle.jc_after.specs.Effects.{body_of}
-use Rattle.jc_after.proofs.EffectsLaws.{are_later, after_leaves, after_next, after_whole}
+use Rattle.jc_after.proofs.EffectsLaws.{after_leaves, after_next, after_whole}
 use Rattle.jc_after.proofs.effects.Effects.advance.Goals as goal
 
 pub returns-clause-after : goal.returns-clause-after
@@ -10,6 +10,3 @@ returns-clause-next c = after_next c.args.names.now c.leave.new.names (body_of c
 
 pub returns-clause-whole : goal.returns-clause-whole
 returns-clause-whole c = after_whole c.args.names.now c.leave.new.names (body_of c.args.self.now) c.args.i c.args.state c.requires.effects.body c.requires.state c.leave.result c.leave.ensures.after
-
-pub returns-clause-effects : goal.returns-clause-effects
-returns-clause-effects c = are_later c.args.names.now c.leave.new.names c.args.self.now c.leave.ensures.names c.requires.effects
