@@ -134,10 +134,12 @@ def each_handler(size, locals_):
     return class_file(pool, [method(pool, PUBLIC | STATIC, "m", of_ints(locals_), body)])
 
 
-def array_loads():
+def array_loads(dimensions):
+    """Eight methods of one `aaload` after the other, each from an array of these dimensions down to its class."""
     pool = Pool()
-    code = (ALOAD_0 + ICONST_0 + AALOAD + POP) * 16383 + RETURN
-    desc = "([L" + "a" * (LONGEST - 6) + ";)V"
+    loads = ALOAD_0 + (ICONST_0 + AALOAD) * dimensions + POP
+    code = loads * ((LONGEST - 1) // len(loads)) + RETURN
+    desc = "(" + "[" * dimensions + "L" + "a" * (LONGEST - 5 - dimensions) + ";)V"
     body = code_of(pool, 2, 1, code)
     return class_file(pool, [method(pool, PUBLIC | STATIC, "m%d" % k, desc, body) for k in range(8)])
 
@@ -174,7 +176,8 @@ INPUTS = [
     ("one handler, 512 nops, 65,500 ints", of_class(one_handler, 512, 65500), ("classinfo",)),
     ("one handler, 65,534 nops, 511 ints", of_class(one_handler, LONGEST - 1, 511), ("classinfo",)),
     ("each its handler, 65,534 nops, 511 ints", of_class(each_handler, LONGEST - 1, 511), ("classinfo",)),
-    ("aaload of a long class, 8 methods", of_class(array_loads), ("classinfo",)),
+    ("aaload of a long class, 8 methods", of_class(array_loads, 1), ("classinfo",)),
+    ("aaload of its 255 arrays, 8 methods", of_class(array_loads, 255), ("classinfo",)),
     ("records of 40 probes", of_records(40, 2**26), ("merge",)),
     ("records of 65,535 probes", of_records(65535, 2**26), ("merge",)),
     ("65,536 records of spread ids", lambda path: write_records(path, 40, spread_ids(65536)), ("merge",)),
