@@ -57,7 +57,7 @@ fn out_probes(
     ensures probes { IfOk result (λ probes. probes ≡ ids_from (has_probe multi_targets.now) next.old branches.now) }
     ensures next { IfOk result (λ _. next.new ≡ next.old + count_by (λ x. has_probe multi_targets.now x.way) branches.now) }
 {
-    let mut probes = List::new(alloc);
+    let mut probes = List::from_vec(Vec::with_capacity(alloc, branches.len())?);
     'numbering: for branch in branches {
         probes.push(take_id(next, has_probe(branch.way, multi_targets)))?;
     }
@@ -74,7 +74,7 @@ fn single_probe(
     ensures probes { IfOk result (λ probes. probes ≡ id_if (not falls_through) next.old ∷ []) }
     ensures next { IfOk result (λ _. next.new ≡ next.old + one_if (not falls_through)) }
 {
-    let mut probes = List::new(alloc);
+    let mut probes = List::from_vec(Vec::with_capacity(alloc, 1)?);
     probes.push(take_id(next, !falls_through))?;
     Ok(probes)
 }
