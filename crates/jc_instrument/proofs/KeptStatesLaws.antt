@@ -14,7 +14,7 @@ use Rattle.jc_bytes.proofs.ListLaws.{put_cases}
 use Rattle.jc_kinds.specs.Answers.{AreStates, IsStateAt}
 use Rattle.jc_kinds.specs.States.{state_of}
 use Rattle.jc_kinds.proofs.GrowLaws.{states_stay}
-use Rattle.jc_instrument.specs.KeptStates.{AreKeptStates, PutsStates, StandForBodies, places_if_kept, places_kept}
+use Rattle.jc_instrument.specs.KeptStates.{PutsStates, StandForBodies, places_if_kept, places_kept}
 use Rattle.jc_instrument.specs.declared.checks.Checking.{Checking}
 
 pub states_grown : (old new : Names) (b : Body) (states : List State) → Grows old new → AreNumberedFrames (length old) b.frames → AreStates old b states
@@ -48,13 +48,6 @@ stand_on names more bodies n b old new grows numbered here count before puts i x
     by (inr last) =
         subst (λ (y : Body). AreStates more y states) (here x (ap (slice_get bodies) (sym (last.0 ∙ count)) ∙ at))
         (has_states more b puts.states states last.1 puts.are)
-
--- what is kept for one of the bodies, under more names
-pub kept_of : (names more : Names) (bodies : List Body) (kept : List (Option (List State))) (i : ℕ) (b : Body) (one : Option (List State))
-    → AreKeptStates names bodies kept → Grows names more → AreNumberedFrames (length names) b.frames → slice_get bodies i ≡ Some b → slice_get kept i ≡ Some one
-    → (states : List State) → one ≡ Some states → AreStates more b states
-kept_of names more bodies kept i b one are grows numbered at there = λ states is.
-    states_grown names more b states grows numbered (are.each i b states at (there ∙ ap Some is))
 
 -- ---- the places that they take
 

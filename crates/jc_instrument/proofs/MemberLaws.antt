@@ -1,11 +1,7 @@
--- Methods whose Code attributes get other bytes, one after the other.
-use Rattle.std.proofs.Common.{◌≡◌, ◌≢◌, ◌⊎◌, inl, inr, ℕ, zero, suc, ◌+◌, ◌<◌, ◌≤◌, Bool, true, false, List, [], ◌∷◌, length, map, drop, get_or, set, Some, None, slice_get, refl, sym, ◌∙◌, ap, subst, arith, add-one, drop-cons, if◌then◌else◌}
-use Rattle.std.proofs.Math.ListN.{drop_of_length-le}
+-- Attributes of which one gets other bytes, and lists of which one item is replaced.
+use Rattle.std.proofs.Common.{◌≡◌, ◌≢◌, ◌⊎◌, inl, inr, ℕ, zero, suc, ◌+◌, ◌<◌, ◌≤◌, Bool, true, false, List, [], ◌∷◌, length, map, drop, get_or, set, Some, slice_get, refl, sym, ◌∙◌, ap, subst, arith, if◌then◌else◌}
 use Rattle.std.specs.Prelude.{filter, codes, IsTrue}
-use Rattle.std.specs.List.{AllByRecursion}
-use Rattle.std.proofs.lemmas.Bool.{eq-eqb, ne_eqb}
 use Rattle.std.proofs.lemmas.Option.{same_Some, get_or_from_slice_get, slice_get_within}
-use Rattle.jc_methods.specs.VerificationTypes.{Names}
 use Rattle.jc_bytes.specs.PlainLists.{map_from}
 use Rattle.jc_pool.specs.Pool.{PoolValue}
 use Rattle.jc_class.specs.declared.class_file.Attribute.{Attribute}
@@ -13,10 +9,8 @@ use Rattle.jc_class.specs.declared.class_file.Member.{Member}
 use Rattle.jc_body.specs.Attributes.{has_name}
 use Rattle.jc_body.specs.First.{IsFirstItem, NoItem}
 use Rattle.jc_code.specs.CodeText.{attribute}
-use Rattle.jc_code.specs.declared.code.CodePlaces.{CodePlaces}
-use Rattle.jc_instrument.specs.Members.{AreCoded, HasOneCode, IsCoded, probed_of, put_method, put_methods, text_of}
+use Rattle.jc_instrument.specs.Members.{HasOneCode}
 use Rattle.jc_instrument.specs.TwinText.{with_code}
-use Rattle.jc_instrument.specs.declared.probed.Probed.{Probed}
 
 -- ---- the attributes of one method
 
@@ -132,13 +126,13 @@ module _ (pool : PoolValue) (text : List ℕ) where
 -- ---- lists by their places
 
 module _ {X Y : Type 0} (F G : ℕ → X → Y) where
-  same_from : (i : ℕ) (l : List X) → ((n : ℕ) (x : X) → i ≤ n → F n x ≡ G n x) → map_from F i l ≡ map_from G i l
+  pub same_from : (i : ℕ) (l : List X) → ((n : ℕ) (x : X) → i ≤ n → F n x ≡ G n x) → map_from F i l ≡ map_from G i l
   same_from i [] same = refl
   same_from i (x ∷ l) same =
       λ t. same i x (omega arith) t ∷ same_from (i + 1) l (λ n y more. same n y (let less : i ≤ n = omega (arith, more) in less)) t
 
   -- they are the same but at the place of one item, which is replaced
-  one_changed : (i k j : ℕ) (l : List X) (x y : X) → j ≡ i + k → slice_get l k ≡ Some x → F j x ≡ G j y
+  pub one_changed : (i k j : ℕ) (l : List X) (x y : X) → j ≡ i + k → slice_get l k ≡ Some x → F j x ≡ G j y
       → ((n : ℕ) (z : X) → n ≢ j → F n z ≡ G n z) → map_from F i l ≡ map_from G i (set l k y)
   one_changed i k j [] x y is at same others = absurd (none at)
     where
@@ -154,115 +148,13 @@ module _ {X Y : Type 0} (F G : ℕ → X → Y) where
       let next : j ≡ i + 1 + k = omega (arith, is) in
       λ t. others i z ne t ∷ one_changed (i + 1) k j l x y next at same others t
 
-unchanged : {X : Type 0} (i : ℕ) (l : List X) → map_from (λ n x. x) i l ≡ l
+pub unchanged : {X : Type 0} (i : ℕ) (l : List X) → map_from (λ n x. x) i l ≡ l
 unchanged i [] = refl
 unchanged i (x ∷ l) = ap (λ (r : List _). x ∷ r) (unchanged (i + 1) l)
 
-other_kept : {X : Type 0} (l : List X) (i j : ℕ) (x : X) → i ≢ j → slice_get (set l i x) j ≡ slice_get l j
+pub other_kept : {X : Type 0} (l : List X) (i j : ℕ) (x : X) → i ≢ j → slice_get (set l i x) j ≡ slice_get l j
 other_kept [] i j x ne = refl
 other_kept (y ∷ l) zero zero x ne = absurd (ne refl)
 other_kept (y ∷ l) zero (suc j) x ne = refl
 other_kept (y ∷ l) (suc i) zero x ne = refl
 other_kept (y ∷ l) (suc i) (suc j) x ne = other_kept l i j x (let less : i ≢ j = omega (arith, ne) in less)
-
--- ---- method after method
-
-abbrev AreLater : ℕ → List Probed → Type 0
-AreLater number probed = AllByRecursion (λ q. number < q.method) probed
-
-none_later : (number : ℕ) (probed : List Probed) → AreLater number probed → probed_of number probed ≡ None
-none_later number [] later = refl
-none_later number (q ∷ probed) later =
-    let less = later.0 in
-    let ne : q.method ≢ number = omega (arith, less) in
-    ap (λ (t : Bool). if t then Some q else probed_of number probed) (ne_eqb q.method number ne) ∙ none_later number probed later.1
-
-next_probed : (all : List Probed) (i : ℕ) (p : Probed) → i < length all → p ≡ get_or all i p → drop i all ≡ p ∷ drop (i + 1) all
-next_probed all i p less is = rw add-one (drop-cons all i p less ∙ ap (λ (q : Probed). q ∷ drop (suc i) all) (sym is))
-
-module _ (pool : PoolValue) where
-  pub coded_after : (number : ℕ) (m : Member) (methods : List Member) (probed : List Probed) → AreLater number probed
-      → AreCoded pool methods probed → AreCoded pool (set methods number m) probed
-  coded_after number m methods [] later coded = tt
-  coded_after number m methods (q ∷ probed) later coded =
-      let less = later.0 in
-      let ne : number ≢ q.method = omega (arith, less) in
-      let one = coded.0 in (
-        record { method = one.method; at = other_kept methods number q.method m ne ∙ one.at; one = one.one },
-        coded.1,
-        coded_after number m methods probed later.1 coded.2,
-      )
-
-  module _ (names : Names) (places : CodePlaces) where
-    abbrev with : List Probed → ℕ → Member → Member
-    with probed number method = put_method pool names places method (probed_of number probed)
-
-    -- the first one, and then the others
-    one_method : (p : Probed) (probed : List Probed) (methods : List Member) (m : Member) → slice_get methods p.method ≡ Some m
-        → AreLater p.method probed
-        → put_methods pool names places (p ∷ probed) methods
-        ≡ put_methods pool names places probed (set methods p.method (put_method pool names places m (Some p)))
-    one_method p probed methods m at later =
-        let new = put_method pool names places m (Some p) in
-        let here : with (p ∷ probed) p.method m ≡ new =
-        ap (λ (t : Bool). put_method pool names places m (if t then Some p else probed_of p.method probed)) (eq-eqb p.method p.method refl) in
-        let left : with probed p.method new ≡ new = ap (put_method pool names places new) (none_later p.method probed later) in
-        let others : (n : ℕ) (z : Member) → n ≢ p.method → with (p ∷ probed) n z ≡ with probed n z = λ n z ne.
-        let off : p.method ≢ n = λ e. ne (sym e) in
-        ap (λ (t : Bool). put_method pool names places z (if t then Some p else probed_of n probed)) (ne_eqb p.method n off) in
-        one_changed (with (p ∷ probed)) (with probed) 0 p.method p.method methods m new (omega arith) at (here ∙ sym left) others
-
-    pub no_method : (methods : List Member) → put_methods pool names places [] methods ≡ methods
-    no_method methods = unchanged 0 methods
-
-    pub next_method : (all : List Probed) (i : ℕ) (p : Probed) (methods : List Member) (m : Member) → i < length all → p ≡ get_or all i p
-        → slice_get methods p.method ≡ Some m → AreCoded pool methods (drop i all)
-        → put_methods pool names places (drop i all) methods
-        ≡ put_methods pool names places (drop (i + 1) all) (set methods p.method (put_method pool names places m (Some p)))
-    next_method all i p methods m less is at coded =
-        let split = next_probed all i p less is in
-        let c = subst (AreCoded pool methods) split coded in
-        ap (λ (l : List Probed). put_methods pool names places l methods) split ∙ one_method p (drop (i + 1) all) methods m at c.1
-
-  -- the next one is of a method with one Code attribute, and the others come later
-  pub next_coded : (all : List Probed) (i : ℕ) (p : Probed) (methods : List Member) → i < length all → p ≡ get_or all i p
-      → AreCoded pool methods (drop i all) → IsCoded pool methods p × AreLater p.method (drop (i + 1) all) × AreCoded pool methods (drop (i + 1) all)
-  next_coded all i p methods less is coded = subst (AreCoded pool methods) (next_probed all i p less is) coded
-
--- one more method gets its code, which is the one at an index
-module _ (pool : PoolValue) (names : Names) (places : CodePlaces) (all : List Probed) (i : ℕ) (p : Probed) (methods : List Member)
-    (less : i < length all) (is : p ≡ get_or all i p) (coded : AreCoded pool methods (drop i all)) (n : ℕ) (n_is : n ≡ p.method) where
-  abbrev here : IsCoded pool methods p
-  here = (next_coded pool all i p methods less is coded).0
-
-  pub index_within : n < length methods
-  index_within = let within = slice_get_within methods p.method here.method here.at in omega (arith, within, n_is)
-
-  pub at_index : (x : Member) → x ≡ get_or methods n x → x ≡ here.method
-  at_index x read = read ∙ ap (λ k. get_or methods k x) n_is ∙ get_or_from_slice_get methods p.method here.method x here.at
-
-  pub one_at : (other : PoolValue) (x : Member) → other ≡ pool → x ≡ get_or methods n x → HasOneCode other x
-  one_at other x same read =
-      subst (λ (o : PoolValue). HasOneCode o x) (sym same) (subst (HasOneCode pool) (sym (at_index x read)) here.one)
-
-  pub still_coded : (x : Member) → AreCoded pool (set methods n x) (drop (i + 1) all)
-  still_coded x =
-      let next = next_coded pool all i p methods less is coded in
-      subst (λ k. AreCoded pool (set methods k x) (drop (i + 1) all)) (sym n_is)
-      (coded_after pool p.method x methods (drop (i + 1) all) next.1 next.2)
-
-  pub put_next : (before after : PoolValue) (x new : Member) (text : List ℕ) → before ≡ pool → after ≡ pool → x ≡ get_or methods n x
-      → text ≡ text_of before names places p → new ≡ record x { attributes = map (with_code after text) x.attributes }
-      → put_methods pool names places (drop i all) methods ≡ put_methods pool names places (drop (i + 1) all) (set methods n new)
-  put_next before after x new text first second read text_is new_is =
-      let at = at_index x read in
-      let told : text ≡ text_of pool names places p = text_is ∙ ap (λ (o : PoolValue). text_of o names places p) first in
-      let put_is : new ≡ put_method pool names places here.method (Some p) =
-      new_is ∙ (λ t. record (at t) { attributes = map (with_code (second t) (told t)) (at t).attributes }) in
-      next_method pool names places all i p methods here.method less is here.at coded
-      ∙ (λ t. put_methods pool names places (drop (i + 1) all) (set methods (sym n_is t) (sym put_is t)))
-
-pub all_put : (pool : PoolValue) (names : Names) (places : CodePlaces) (all : List Probed) (i : ℕ) (methods : List Member) → length all ≤ i
-    → put_methods pool names places (drop i all) methods ≡ methods
-all_put pool names places all i methods end =
-    ap (λ (l : List Probed). put_methods pool names places l methods) (drop_of_length-le all end) ∙ no_method pool names places methods

@@ -13,7 +13,7 @@ use Rattle.jc_instrument.specs.Bodies.{AreBodiesOf, AreBodiesUnless}
 use Rattle.jc_instrument.specs.Causes.{NoCause}
 use Rattle.jc_instrument.specs.InstrumentedFile.{Becomes, HasProbes, IsInstrumentedFile}
 use Rattle.jc_instrument.specs.LeftAlone.{is_left_alone}
-use Rattle.jc_instrument.specs.ProbedClass.{making_causes}
+use Rattle.jc_instrument.specs.ReadyClass.{making_causes}
 use Rattle.jc_instrument.specs.Reasons.{code_causes}
 use Rattle.jc_instrument.specs.RoomCauses.{early_room_causes, HasTooLargeCode, room_causes}
 use Rattle.jc_instrument.specs.TwinText.{twin_class}

@@ -25,7 +25,7 @@ pub record IsSameWork (names others : Names) (array other : ℕ) (w x : BodyWith
   pub emission : IsSameEmission names others (emitted_of array w) (emitted_of other x)
 
 -- lists of one length, in which the items at each place are so
-zip_of_places : {X Y : Type 0} (R : X → Y → Type 0) (xs : List X) (ys : List Y) → length xs ≡ length ys
+pub zip_of_places : {X Y : Type 0} (R : X → Y → Type 0) (xs : List X) (ys : List Y) → length xs ≡ length ys
     → ((i : ℕ) (x : X) (y : Y) → slice_get xs i ≡ Some x → slice_get ys i ≡ Some y → R x y) → AllZip R xs ys
 zip_of_places R [] [] count each = tt
 zip_of_places R [] (y ∷ ys) count each = absurd (omega (arith, count))

@@ -1,8 +1,7 @@
--- The methods that are written are those of the twin class.
-use Rattle.std.proofs.Common.{◌≡◌, ℕ, ◌+◌, Bool, true, false, List, [], ◌∷◌, map, Option, Some, None, nat_eq, refl, sym, ◌∙◌, ap, if◌then◌else◌}
+-- Methods over a pool that grows.
+use Rattle.std.proofs.Common.{◌≡◌, ℕ, ◌+◌, Bool, List, [], ◌∷◌, map, Option, Some, None, refl, sym, ◌∙◌, ap, if◌then◌else◌}
 use Rattle.std.specs.Prelude.{filter, codes}
 use Rattle.std.specs.List.{AllByRecursion}
-use Rattle.jc_methods.specs.VerificationTypes.{Names}
 use Rattle.jc_bytes.specs.PlainLists.{map_from}
 use Rattle.jc_pool.specs.Adding.{Extends}
 use Rattle.jc_pool.specs.Pool.{PoolValue}
@@ -14,15 +13,8 @@ use Rattle.jc_class.specs.declared.class_file.Member.{Member}
 use Rattle.jc_body.specs.Attributes.{has_name, is_text}
 use Rattle.jc_body.specs.Coded.{code_bodies}
 use Rattle.jc_code.specs.CodeText.{attribute}
-use Rattle.jc_code.specs.Given.{AreNamed}
-use Rattle.jc_code.specs.TwinCode.{twin_code}
-use Rattle.jc_code.specs.declared.code.CodePlaces.{CodePlaces}
-use Rattle.jc_code.proofs.TwinCodeLaws.{laid_text_is}
-use Rattle.jc_instrument.specs.Members.{probed_of, put_method, put_methods}
-use Rattle.jc_instrument.specs.Probing.{AreMade, IsMade}
 use Rattle.jc_instrument.specs.TwinText.{twin_method, twin_methods, with_code, work_of}
-use Rattle.jc_instrument.specs.BodiesWithStates.{BodyWithStates, emitted_of}
-use Rattle.jc_instrument.specs.declared.probed.Probed.{Probed}
+use Rattle.jc_instrument.specs.BodiesWithStates.{BodyWithStates}
 
 -- ---- names in the old pool and in the grown one
 
@@ -34,7 +26,7 @@ module _ (old new : PoolValue) (extends : Extends old new) where
   abbrev pub AreNamedOld : List Attribute → Type 0
   AreNamedOld l = AllByRecursion (IsAttribute (HasText old)) l
 
-  same_attributes : (text : List ℕ) (l : List Attribute) → AreNamedOld l → map (with_code new text) l ≡ map (with_code old text) l
+  pub same_attributes : (text : List ℕ) (l : List Attribute) → AreNamedOld l → map (with_code new text) l ≡ map (with_code old text) l
   same_attributes text [] named = refl
   same_attributes text (a ∷ l) named =
       let head : with_code new text a ≡ with_code old text a =
@@ -58,45 +50,14 @@ module _ (old new : PoolValue) (extends : Extends old new) where
   same_method code m (Some w) is =
       ap (λ (l : List Attribute). record m { attributes = l }) (same_attributes (code w) m.attributes is.attributes.each)
 
-  -- ---- the written methods
-
-  module _ (names : Names) (places : CodePlaces) (array : ℕ) where
-    abbrev code : BodyWithStates → List ℕ
-    code w = twin_code new places.method places.frames names (emitted_of array w)
-
-    abbrev IsNamed : BodyWithStates → Type 0
-    IsNamed w = AreNamed new (emitted_of array w) places
-
-    one_made : (m : Member) (w : BodyWithStates) (p : Probed) → IsMade array w p → IsNamed w → put_method new names places m (Some p) ≡ twin_method new code m (Some w)
-    one_made m w p made named =
-        ap (λ (text : List ℕ). record m { attributes = map (with_code new text) m.attributes })
-        (laid_text_is new names places (emitted_of array w) p.tables p.laid p.frames made.tables made.laid made.frames named)
-
-    either_made : (m : Member) (w : BodyWithStates) (p : Probed) (t : Bool) (o : Option BodyWithStates) (q : Option Probed) → IsMade array w p → IsNamed w
-        → put_method new names places m q ≡ twin_method new code m o
-        → put_method new names places m (if t then Some p else q) ≡ twin_method new code m (if t then Some w else o)
-    either_made m w p true o q made named later = one_made m w p made named
-    either_made m w p false o q made named later = later
-
-    method_made : (works : List BodyWithStates) (probed : List Probed) → AreMade array works probed → AllByRecursion IsNamed works → (number : ℕ) (m : Member)
-        → put_method new names places m (probed_of number probed) ≡ twin_method new code m (work_of number works)
-    method_made [] [] made named number m = refl
-    method_made [] (p ∷ probed) made named number m = absurd made
-    method_made (w ∷ works) [] made named number m = absurd made
-    method_made (w ∷ works) (p ∷ probed) made named number m =
-        ap (λ (k : ℕ). put_method new names places m (if nat_eq k number then Some p else probed_of number probed)) made.0.method
-        ∙ either_made m w p (nat_eq w.body.method number) (work_of number works) (probed_of number probed) made.0 named.0
-        (method_made works probed made.1 named.1 number m)
-
-    all_made : (works : List BodyWithStates) (probed : List Probed) → AreMade array works probed → AllByRecursion IsNamed works
-        → (i : ℕ) (methods : List Member) → AllByRecursion IsOld methods
-        → map_from (λ number m. put_method new names places m (probed_of number probed)) i methods
-        ≡ map_from (λ number m. twin_method old code m (work_of number works)) i methods
-    all_made works probed made named i [] are = refl
-    all_made works probed made named i (m ∷ methods) are =
-        let head = method_made works probed made named i m ∙ same_method code m (work_of i works) are.0 in
-        λ t. head t ∷ all_made works probed made named (i + 1) methods are.1 t
-
-    pub methods_made : (works : List BodyWithStates) (probed : List Probed) (methods : List Member) → AreMade array works probed → AllByRecursion IsNamed works
-        → AllByRecursion IsOld methods → put_methods new names places probed methods ≡ twin_methods old code works methods
-    methods_made works probed methods made named are = all_made works probed made named 0 methods are
+  pub same_methods : (code : BodyWithStates → List ℕ) (works : List BodyWithStates) (methods : List Member) → AllByRecursion IsOld methods
+      → twin_methods new code works methods ≡ twin_methods old code works methods
+  same_methods code works methods are = all_same 0 methods are
+    where
+      all_same : (i : ℕ) (methods : List Member) → AllByRecursion IsOld methods
+          → map_from (λ number m. twin_method new code m (work_of number works)) i methods
+          ≡ map_from (λ number m. twin_method old code m (work_of number works)) i methods
+      all_same i [] are = refl
+      all_same i (m ∷ methods) are =
+          let head = same_method code m (work_of i works) are.0 in
+          λ t. head t ∷ all_same (i + 1) methods are.1 t

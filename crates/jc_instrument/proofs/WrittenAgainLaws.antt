@@ -57,7 +57,7 @@ use Rattle.jc_instrument.specs.BodiesWithStates.{BodyWithStates, all_frames, bod
 use Rattle.jc_instrument.specs.declared.needs.MemberPlaces.{MemberPlaces}
 use Rattle.jc_instrument.proofs.ContentLaws.{of_content}
 use Rattle.jc_instrument.proofs.GrownPoolLaws.{StandAt, stand_at}
-use Rattle.jc_instrument.proofs.ReadyLaws.{all_placed}
+use Rattle.jc_instrument.proofs.NamedWorksLaws.{all_placed}
 use Rattle.jc_instrument.proofs.TakingLaws.{each_extends}
 use Rattle.jc_instrument.proofs.TwinLaws.{each_listed}
 use Rattle.jc_instrument.proofs.TwinMethodLaws.{same_code}

@@ -46,7 +46,7 @@ use Rattle.jc_instrument.proofs.ContentLaws.{of_content}
 use Rattle.jc_instrument.proofs.GrownPoolLaws.{StandAt, pool_grown, stand_at}
 use Rattle.jc_instrument.proofs.PoolTextLaws.{none_past}
 use Rattle.jc_instrument.proofs.ProbingLaws.{emission_code}
-use Rattle.jc_instrument.proofs.ReadyLaws.{work_named}
+use Rattle.jc_instrument.proofs.NamedWorksLaws.{work_named}
 use Rattle.jc_instrument.proofs.TwinLaws.{each_listed, text_is}
 
 -- ---- places

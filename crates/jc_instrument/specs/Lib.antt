@@ -18,7 +18,9 @@ pub mod Room
 pub mod Refused
 pub mod Probing
 pub mod Taking
-pub mod ProbedClass
+pub mod Ready
+pub mod ReadyClass
+pub mod Writing
 pub mod Members
 pub mod InstrumentedFile
 pub mod Changing

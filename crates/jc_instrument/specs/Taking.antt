@@ -1,21 +1,14 @@
 -- What the steps answer by which a constant pool takes what an instrumented class needs.
-use Rattle.std.specs.Prelude.{◌≡◌, ⊤, ℕ, ℤ, ◌<◌, List, length, map, codes}
-use Rattle.std.specs.List.{flat_map}
-use Rattle.jc_methods.specs.VerificationTypes.{AreNumberedFrames, Names, TypeStateAt, type_state_at}
+use Rattle.std.specs.Prelude.{⊤, ℕ, ℤ, ◌<◌, List, length, map, codes}
 use Rattle.jc_bytes.specs.declared.fail.Fail.{Fail}
 use Rattle.jc_bytes.specs.declared.fail.Fail.TheVariants as fails
-use Rattle.jc_bytes.specs.declared.refusal.Refusal.{Refusal}
-use Rattle.jc_bytes.specs.declared.refusal.RefusalKind.TheVariants as kinds
 use Rattle.jc_pool.specs.Pool.{PoolValue}
 use Rattle.jc_pool.specs.declared.add.PoolFull.{PoolFull}
-use Rattle.jc_frames.specs.FullTable.{CanBeWritten}
 use Rattle.jc_methods.specs.ProbeMembers.{data_name, data_type, init_name, init_type}
-use Rattle.jc_instrument.specs.Causes.{of_class}
 use Rattle.jc_instrument.specs.Contents.{Content, text_entry, class_entry, string_entry, long_entry, member_entry, TakesEach}
 use Rattle.jc_verify.specs.Written.{data_field, init_method, fetch_method}
 use Rattle.jc_instrument.specs.declared.needs.Need.{Need}
 use Rattle.jc_instrument.specs.declared.needs.Need.TheVariants as needs
-use Rattle.jc_instrument.specs.declared.probed.Probed.{Probed}
 
 -- what is needed by the added members of the class with this name and this id
 abbrev pub content_needed : (owner : List ℕ) → (id : ℤ) → Need → Content
@@ -46,22 +39,3 @@ pub record IsTooMuch (old : PoolValue) (contents : List Content) : Type 0 where
 abbrev pub RefusesEach : PoolValue → List Content → Fail PoolFull → Type 0
 RefusesEach old contents fails.Memory = ⊤
 RefusesEach old contents (fails.Said full) = IsTooMuch old contents
-
--- the refusal of a class for which these are too much (JVM Specification 4.1)
-pub record IsFullPool (old : PoolValue) (contents : List Content) (r : Refusal) : Type 0 where
-  pub much : IsTooMuch old contents
-  pub refusal : r ≡ of_class kinds.PoolFull 65536
-
--- ---- frames
-
--- the frames of all methods, with classes by their names
-abbrev pub frames_of : Names → List Probed → List TypeStateAt
-frames_of names probed = flat_map (λ p. map (type_state_at names) p.frames) probed
-
--- the classes that the frames name are numbers of so many names
-abbrev pub HasNumberedFrames : ℕ → Probed → Type 0
-HasNumberedFrames names p = AreNumberedFrames names p.frames
-
--- the frames can be written over the instructions of the layout, and name classes of which there are so many
-abbrev pub HasFrames : ℕ → Probed → Type 0
-HasFrames names p = CanBeWritten p.laid.starts names p.frames

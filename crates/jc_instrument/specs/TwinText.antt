@@ -71,10 +71,6 @@ twin_class names array c works pool places = record {
   attributes = c.attributes;
 }
 
--- it is the twin of the class as it was with its old pool, over the pool that the class has now
-abbrev pub IsTwinOfGrown : (old : PoolValue) → Names → (array : ℕ) → List BodyWithStates → ClassFile → MemberPlaces → ClassFile → Type 0
-IsTwinOfGrown old names array works c places twin = twin ≡ twin_class names array (record c { pool = old }) works c.pool places
-
 -- the twin class that is written for a class with this id, whose works are these
 pub record IsWritten (id : ℕ) (names : Names) (array : ℕ) (works : List BodyWithStates) (c twin : ClassFile) : Type 0 where
   pub are : AreBodiesWithStates names array c works
@@ -84,8 +80,9 @@ pub record IsWritten (id : ℕ) (names : Names) (array : ℕ) (works : List Body
   pub few : length pool ≤ 65535
   pub is : twin ≡ twin_class names array c works pool places
 
--- the twin class that is written for a class with this id, with classes by their numbers in this list of names
-pub record IsWrittenUnder (id : ℕ) (names : Names) (c twin : ClassFile) : Type 0 where
+-- the twin class that is written for a class with this id
+pub record IsWrittenFor (id : ℕ) (c twin : ClassFile) : Type 0 where
+  pub names : Names
   pub array : ℕ
   pub works : List BodyWithStates
   pub written : IsWritten id names array works c twin

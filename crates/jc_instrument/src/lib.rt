@@ -13,12 +13,13 @@ mod laws;
 mod members;
 mod needs;
 mod plans;
-mod probed;
-mod probed_class;
+mod ready;
+mod ready_class;
 mod room;
 mod size;
 mod twin;
 mod whole;
+mod writing;
 
 pub use analysis::analyse;
 pub use bodies::{NamedBodies, named_bodies};

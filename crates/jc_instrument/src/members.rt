@@ -1,18 +1,23 @@
 //! The members of an instrumented class: methods with their new code, and the field and the method that are added.
-ghost use Rattle.std.specs.Prelude.{◌≡◌, ◌≤◌, ℕ, List as Seq, codes, length, map, IsTrue, IfOk, OnOk};
-ghost use Rattle.jc_pool.specs.Adding.{Extends};
+ghost use Rattle.std.specs.Prelude.{◌≡◌, ◌≤◌, ℕ, List as Seq, codes, map, IsTrue, IfOk, IfErr};
+ghost use Rattle.jc_methods.specs.VerificationTypes.{Names as ClassNames};
 ghost use Rattle.jc_body.specs.Attributes.{has_name};
 ghost use Rattle.jc_body.specs.First.{FirstItem};
-ghost use Rattle.jc_instrument.specs.Members.{AreCoded, AreWritable, HasOneCode, IsWritable, put_methods, text_of};
+ghost use Rattle.jc_frames.specs.FullTable.{RefusesClasses, named_by_all};
+ghost use Rattle.jc_instrument.specs.BodiesWithStates.{BodyWithStates, all_frames};
+ghost use Rattle.jc_instrument.specs.Members.{AreCoded, HasOneCode};
+ghost use Rattle.jc_instrument.specs.Ready.{AreReady};
+ghost use Rattle.jc_instrument.specs.Writing.{ArePut, AreWorksOf};
 ghost use Rattle.jc_instrument.specs.TwinText.{data_member, init_member, with_code};
 
 use crate::alone::has_name;
 use crate::needs::MemberPlaces;
-use crate::probed::Probed;
-use jc_bytes::{Bytes, List, Memory, Names};
+use crate::ready::ReadyBody;
+use crate::writing::body_text;
+use jc_bytes::{Bytes, Fail, List, Memory, Names};
 use jc_class::{Attribute, Member};
-use jc_code::{AddedPlaces, CodePlaces, CodeTables, write_init, write_laid};
-use jc_pool::Pool;
+use jc_code::{AddedPlaces, CodePlaces, write_init};
+use jc_pool::{Pool, PoolFull};
 use std::alloc::Global;
 use std::mem;
 
@@ -21,9 +26,6 @@ const DATA_FLAGS: u16 = 0x108a;
 
 /// The flags of the method: private, static and synthetic (JVM Specification 4.6).
 const INIT_FLAGS: u16 = 0x100a;
-
-/// The most rows that an exception table has (JVM Specification 4.7.3).
-const MOST_ROWS: usize = 65_535;
 
 /// The number of the first attribute that is named Code.
 fn code_number(pool: &Pool, attributes: &[Attribute]) -> Option<usize>
@@ -48,68 +50,33 @@ fn put_code(alloc: Global, pool: &Pool, method: &mut Member, text: Bytes)
     method.attributes = List::from_vec(attributes);
 }
 
-/// What the Code attribute of an instrumented method holds (JVM Specification 4.7.3).
+/// The methods of a class, in which those of the bodies have their instrumented code. Body after body is written and dropped,
+/// and the pool takes the classes that the frames of each name.
 ///
 /// # Errors
 ///
-/// `Memory` where memory was refused, and where there are more rows than an exception table has, or
-/// more bytes than an attribute holds.
-fn code_text(
-    alloc: Global,
-    probed: &Probed,
-    names: &Names,
-    places: &CodePlaces,
-    pool: &mut Pool,
-) -> Result<Bytes, Memory>
-    requires { IsWritable pool.old names.now probed.now }
-    ensures text { IfOk result (λ text. text ≡ text_of pool.old names.now places.now probed.now) }
-    ensures size { IfOk result (λ text. length text ≤ 4294967295) }
-    ensures kept { OnOk result (pool.new ≡ pool.old) }
-{
-    let tables = CodeTables {
-        max_stack: probed.tables.max_stack,
-        max_locals: probed.tables.max_locals,
-        handlers: &probed.tables.handlers,
-        lines: &probed.tables.lines,
-        vars: &probed.tables.vars,
-        kind_vars: &probed.tables.kind_vars,
-    };
-    if tables.handlers.len() > MOST_ROWS {
-        return Err(Memory);
-    }
-    write_laid(
-        alloc,
-        &tables,
-        &probed.laid,
-        &probed.frames,
-        names,
-        places,
-        pool,
-    )
-}
-
-/// The methods of a class, in which those with instrumented code have it.
-///
-/// # Errors
-///
-/// `Memory` where memory was refused, and where a text would be too long for an attribute.
+/// `PoolFull` where the pool can't take one of the classes, and `Memory` where memory was refused, and where a text
+/// would be too long for an attribute.
 pub fn put_codes(
     alloc: Global,
     methods: List<Member>,
-    probed: &[Probed],
-    names: &Names,
+    ready: List<ReadyBody>,
     places: &CodePlaces,
+    names: &mut Names,
     pool: &mut Pool,
-) -> Result<List<Member>, Memory>
-    requires written { AreWritable pool.old names.now probed.now }
-    requires coded { AreCoded pool.old methods probed.now }
-    ensures methods { IfOk result (λ all. all ≡ put_methods pool.old names.now places.now probed.now methods) }
-    ensures kept { OnOk result (pool.new ≡ pool.old) }
+) -> Result<List<Member>, Fail<PoolFull>>
+    requires ready { AreReady names.old ready }
+    requires coded { AreCoded pool.old methods ready }
+    ensures put { (others : ClassNames) (array : ℕ) (works : Seq BodyWithStates) → AreWorksOf names.old others array ready works
+        → IfOk result (ArePut pool.old places.now others array works methods pool.new) }
+    ensures refused { (others : ClassNames) (array : ℕ) (works : Seq BodyWithStates) → AreWorksOf names.old others array ready works
+        → IfErr result (RefusesClasses pool.old (named_by_all (all_frames others array works)) pool.new) }
 {
     let mut methods = methods.into_vec();
-    'putting: for next in probed {
-        let text = code_text(alloc, next, names, places, pool)?;
-        put_code(alloc, pool, &mut methods[usize::from(next.method)], text);
+    'putting: for one in ready.into_vec() {
+        let number = usize::from(one.body.method);
+        let text = body_text(alloc, one, places, names, pool)?;
+        put_code(alloc, pool, &mut methods[number], text);
     }
     Ok(List::from_vec(methods))
 }

@@ -1,17 +1,12 @@
 //! What the constant pool of an instrumented class has to have.
 ghost use Rattle.std.specs.Prelude.{◌≡◌, ◌≤◌, length, IfOk, IfErr, OnOk};
-ghost use Rattle.std.specs.List.{AllByRecursion};
 ghost use Rattle.jc_bytes.specs.Texts.{IsShortText};
 ghost use Rattle.jc_pool.specs.Adding.{Extends, RefusesFull};
-ghost use Rattle.jc_frames.specs.FullTable.{RefusesClasses, TakesClasses, named_by_all};
-ghost use Rattle.jc_bytes.specs.Failing.{Said};
 ghost use Rattle.jc_instrument.specs.Contents.{Takes, TakesEach};
-ghost use Rattle.jc_instrument.specs.Needed.{signed_id, member_needs, needed, place_list, TakesNeeded};
-ghost use Rattle.jc_instrument.specs.Taking.{content_needed, frames_of, HasNumberedFrames, IsFullPool, RefusesEach};
+ghost use Rattle.jc_instrument.specs.Needed.{signed_id, member_needs, place_list};
+ghost use Rattle.jc_instrument.specs.Taking.{content_needed, RefusesEach};
 
-use crate::probed::Probed;
-use jc_bytes::{Fail, Names, Refusal, RefusalKind};
-use jc_frames::take_classes;
+use jc_bytes::Fail;
 use jc_methods::{
     DATA_NAME, FETCH_NAME, FETCH_TYPE, INIT_NAME, INIT_TYPE, PROBE_ARRAY, RUNTIME_CLASS,
 };
@@ -149,8 +144,13 @@ fn take_each(
     Ok(places)
 }
 
-/// Takes what the added members of the class with this name and this id need.
-fn take_members(
+/// The pool takes what the added members of the class with this name and this id need (JVM Specification 4.1, 4.4). Each
+/// entry that is missing is put behind the others.
+///
+/// # Errors
+///
+/// `PoolFull` exactly where the pool's count would be above 65,535, and `Memory` where memory was refused.
+pub fn take_members(
     alloc: Global,
     owner: &[u8],
     id: u64,
@@ -179,74 +179,4 @@ fn take_members(
         name: places[10],
         array: places[11],
     })
-}
-
-/// Takes the classes that the frames of each method name, method after method.
-fn take_all_classes(
-    alloc: Global,
-    probed: &[Probed],
-    names: &Names,
-    pool: &mut Pool,
-) -> Result<(), Fail<PoolFull>>
-    requires { AllByRecursion (HasNumberedFrames (length names.now)) probed.now }
-    ensures classes { OnOk result (TakesClasses pool.old (named_by_all (frames_of names.now probed.now)) pool.new) }
-    ensures refused { IfErr result (RefusesClasses pool.old (named_by_all (frames_of names.now probed.now)) pool.new) }
-    ensures extends { Extends pool.old pool.new }
-{
-    'taking: for next in probed {
-        take_classes(alloc, &next.frames, names, pool)?;
-    }
-    Ok(())
-}
-
-/// Takes what the added members need, and then the classes that frames name.
-fn take_all(
-    alloc: Global,
-    owner: &[u8],
-    id: u64,
-    probed: &[Probed],
-    names: &Names,
-    pool: &mut Pool,
-) -> Result<MemberPlaces, Fail<PoolFull>>
-    requires owner { IsShortText owner.now }
-    requires frames { AllByRecursion (HasNumberedFrames (length names.now)) probed.now }
-    ensures ok { IfOk result (TakesNeeded pool.old owner.now (signed_id id) (frames_of names.now probed.now) pool.new) }
-    ensures refused { IfErr result (RefusesEach pool.old (needed owner.now (signed_id id) (frames_of names.now probed.now))) }
-    ensures extends { Extends pool.old pool.new }
-{
-    let places = take_members(alloc, owner, id, pool)?;
-    take_all_classes(alloc, probed, names, pool)?;
-    Ok(places)
-}
-
-/// The pool takes what the instrumented class of this name with this id needs: what the added members need, and the
-/// classes that frames name (JVM Specification 4.1, 4.4). Each entry that is missing is put behind the others.
-///
-/// # Errors
-///
-/// `PoolFull`, at 65,536, exactly where the pool's count would be above 65,535, and `Memory` where memory was refused.
-pub fn take_needs(
-    alloc: Global,
-    owner: &[u8],
-    id: u64,
-    probed: &[Probed],
-    names: &Names,
-    pool: &mut Pool,
-) -> Result<MemberPlaces, Fail<Refusal>>
-    requires owner { IsShortText owner.now }
-    requires frames { AllByRecursion (HasNumberedFrames (length names.now)) probed.now }
-    ensures ok { IfOk result (TakesNeeded pool.old owner.now (signed_id id) (frames_of names.now probed.now) pool.new) }
-    ensures refused { IfErr result
-        (λ e. Said e (IsFullPool pool.old (needed owner.now (signed_id id) (frames_of names.now probed.now)))) }
-    ensures extends { Extends pool.old pool.new }
-{
-    match take_all(alloc, owner, id, probed, names, pool) {
-        Ok(places) => Ok(places),
-        Err(Fail::Memory) => Err(Fail::Memory),
-        Err(Fail::Said(_)) => Err(Fail::Said(Refusal {
-            kind: RefusalKind::PoolFull,
-            method: None,
-            place: 65_536,
-        })),
-    }
 }

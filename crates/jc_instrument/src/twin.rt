@@ -1,24 +1,27 @@
 //! The instrumented class, from its parts.
 ghost use Rattle.std.specs.Prelude.{◌≡◌, ◌≤◌, ℕ, List as Seq, IfOk, IfErr, length};
-ghost use Rattle.jc_pool.specs.Pool.{PoolValue};
+ghost use Rattle.jc_methods.specs.VerificationTypes.{Names as ClassNames};
 ghost use Rattle.jc_class.specs.Writable.{IsClassFile};
-ghost use Rattle.jc_instrument.specs.Members.{AreCoded, AreTextPlaces, AreWritable, IsFirstIfAny, IsGrownFrom};
+ghost use Rattle.jc_plan.specs.Analysed.{all_probes};
+ghost use Rattle.jc_instrument.specs.BodiesWithStates.{BodyWithStates, all_frames, bodies_of};
+ghost use Rattle.jc_instrument.specs.Members.{AreCoded, AreTextPlaces, IsFirstIfAny};
 ghost use Rattle.jc_bytes.specs.Failing.{Said};
 ghost use Rattle.jc_bytes.specs.Texts.{IsShortText};
-ghost use Rattle.jc_instrument.specs.Needed.{name_of};
-ghost use Rattle.jc_instrument.specs.ProbedClass.{IsProbedClass};
+ghost use Rattle.jc_instrument.specs.Needed.{frame_needs, name_of};
+ghost use Rattle.jc_instrument.specs.Ready.{AreReady};
+ghost use Rattle.jc_instrument.specs.ReadyClass.{IsReadyClass};
 ghost use Rattle.jc_instrument.specs.RoomCauses.{HasFullPool};
-ghost use Rattle.jc_instrument.specs.TwinText.{IsTwinOfGrown, IsWrittenUnder};
-ghost use Rattle.jc_instrument.specs.BodiesWithStates.{BodyWithStates};
+ghost use Rattle.jc_instrument.specs.Taking.{RefusesEach};
+ghost use Rattle.jc_instrument.specs.TwinText.{IsWrittenFor};
+ghost use Rattle.jc_instrument.specs.Writing.{AreWorksOf, IsFullFor, IsTwinFrom};
 
 use crate::members::{data_member, init_member, put_codes};
-use crate::needs::{MemberPlaces, take_needs};
-use crate::probed::Probed;
-use crate::probed_class::ProbedClass;
-use jc_bytes::{Fail, Memory, Names, Refusal};
+use crate::needs::{MemberPlaces, take_members};
+use crate::ready_class::ReadyClass;
+use jc_bytes::{Fail, Names, Refusal, RefusalKind};
 use jc_class::ClassFile;
 use jc_code::{CodePlaces, first_text};
-use jc_pool::Pool;
+use jc_pool::{Pool, PoolFull};
 use std::alloc::Global;
 
 /// Where the pool has what the instrumented class names.
@@ -59,24 +62,28 @@ fn code_places(pool: &Pool, members: &MemberPlaces) -> CodePlaces
     }
 }
 
-/// The instrumented class. The pool of the class has taken what is needed.
-pub fn twin_class(
+/// The instrumented class. The pool of the class has taken what the added members need, and takes the classes that frames
+/// name.
+fn twin_class(
     alloc: Global,
     class: ClassFile,
-    probed: &[Probed],
-    probes: u32,
-    names: &Names,
+    ready: ReadyClass,
+    names: &mut Names,
     places: &TwinPlaces,
-) -> Result<ClassFile, Memory>
-    requires few { probes ≤ 32767 }
+) -> Result<ClassFile, Fail<PoolFull>>
+    requires few { ready.probes ≤ 32767 }
     requires method { places.now.codes.method ≡ places.now.members.method }
     requires frames { places.now.codes.frames ≡ places.now.members.frames }
-    requires written { AreWritable class.pool names.now probed.now }
-    requires coded { AreCoded class.pool class.methods probed.now }
-    ensures { (old : PoolValue) (array : ℕ) (works : Seq BodyWithStates)
-        → IsGrownFrom old array works class places.now.codes probed.now probes
-        → IfOk result (IsTwinOfGrown old names.now array works class places.now.members) }
+    requires ready { AreReady names.old ready.bodies }
+    requires coded { AreCoded class.pool class.methods ready.bodies }
+    ensures twin { (others : ClassNames) (array : ℕ) (works : Seq BodyWithStates)
+        → AreWorksOf names.old others array ready.bodies works → ready.probes ≡ all_probes (bodies_of works)
+        → IfOk result (IsTwinFrom class places.now others array works) }
+    ensures refused { (others : ClassNames) (array : ℕ) (works : Seq BodyWithStates)
+        → AreWorksOf names.old others array ready.bodies works
+        → IfErr result (RefusesEach class.pool (frame_needs (all_frames others array works))) }
 {
+    let ReadyClass { bodies, probes } = ready;
     let ClassFile {
         minor,
         major,
@@ -89,7 +96,7 @@ pub fn twin_class(
         methods,
         attributes,
     } = class;
-    let mut methods = put_codes(alloc, methods, probed, names, &places.codes, &mut pool)?;
+    let mut methods = put_codes(alloc, methods, bodies, &places.codes, names, &mut pool)?;
     fields.push(data_member(alloc, &places.members))?;
     methods.push(init_member(alloc, &places.members, probes)?)?;
     Ok(ClassFile {
@@ -106,27 +113,56 @@ pub fn twin_class(
     })
 }
 
-/// The instrumented class of a class of this name, which has this id and whose bodies have this code; or, where its
-/// pool would be full, the refusal.
+/// The instrumented class of a class of this name, which has this id and whose bodies are ready. Its pool takes what the
+/// added members need, and then the classes that frames name, body after body.
+fn written_twin(
+    alloc: Global,
+    id: u64,
+    owner: &[u8],
+    class: ClassFile,
+    ready: ReadyClass,
+    names: &mut Names,
+) -> Result<ClassFile, Fail<PoolFull>>
+    requires class { IsClassFile class }
+    requires owner { name_of class ≡ owner.now }
+    requires short { IsShortText owner.now }
+    requires ready { IsReadyClass names.old class ready }
+    requires few { ready.probes ≤ 32767 }
+    ensures twin { IfOk result (IsWrittenFor id class) }
+    ensures refused { IfErr result (IsFullFor id class) }
+{
+    let mut class = class;
+    let members = take_members(alloc, owner, id, &mut class.pool)?;
+    let codes = code_places(&class.pool, &members);
+    let places = TwinPlaces { members, codes };
+    twin_class(alloc, class, ready, names, &places)
+}
+
+/// The instrumented class of a class of this name, which has this id and whose bodies are ready; or, where its pool would
+/// be full, the refusal.
 pub fn grown_twin(
     alloc: Global,
     id: u64,
     owner: &[u8],
     class: ClassFile,
-    probed: &ProbedClass,
-    names: &Names,
+    ready: ReadyClass,
+    names: &mut Names,
 ) -> Result<ClassFile, Fail<Refusal>>
     requires class { IsClassFile class }
     requires owner { name_of class ≡ owner.now }
     requires short { IsShortText owner.now }
-    requires probed { IsProbedClass names.now class probed.now }
-    requires few { probed.now.probes ≤ 32767 }
-    ensures twin { IfOk result (IsWrittenUnder id names.now class) }
+    requires ready { IsReadyClass names.old class ready }
+    requires few { ready.probes ≤ 32767 }
+    ensures twin { IfOk result (IsWrittenFor id class) }
     ensures refused { IfErr result (λ e. Said e (HasFullPool id class)) }
 {
-    let mut class = class;
-    let members = take_needs(alloc, owner, id, &probed.probed, names, &mut class.pool)?;
-    let codes = code_places(&class.pool, &members);
-    let places = TwinPlaces { members, codes };
-    Ok(twin_class(alloc, class, &probed.probed, probed.probes, names, &places)?)
+    match written_twin(alloc, id, owner, class, ready, names) {
+        Ok(twin) => Ok(twin),
+        Err(Fail::Memory) => Err(Fail::Memory),
+        Err(Fail::Said(_)) => Err(Fail::Said(Refusal {
+            kind: RefusalKind::PoolFull,
+            method: None,
+            place: 65_536,
+        })),
+    }
 }

@@ -20,7 +20,7 @@ ghost use Rattle.jc_instrument.specs.Verified.{IsVerified};
 use crate::alone::{interface_refusal, is_left_alone};
 use crate::class::class_refusal;
 use crate::described::class_name_at;
-use crate::probed_class::probed_class;
+use crate::ready_class::ready_class;
 use crate::twin::grown_twin;
 use jc_bytes::{Bytes, Fail, List, Memory, Names, Refusal};
 use jc_class::{Attribute, ClassFile, Member, class_id, read_class, write_class};
@@ -99,9 +99,10 @@ fn changed(alloc: Global, id: u64, class: ClassFile) -> Result<Instrumented, Fai
     ensures refused { IfErr result (λ e. Said e (IsFirstCause (changing_causes id class))) }
 {
     let mut names = Names::new(alloc)?;
-    let probed = probed_class(alloc, &class, &mut names)?;
+    let ready = ready_class(alloc, &class, &mut names)?;
+    let probes = ready.probes;
     let name = class_name_at(alloc, &class.pool, class.this_class)?;
-    let twin = grown_twin(alloc, id, &name, class, &probed, &names)?;
+    let twin = grown_twin(alloc, id, &name, class, ready, &mut names)?;
     if some_too_long(&twin.methods) {
         return Err(Fail::Memory);
     }
@@ -111,7 +112,7 @@ fn changed(alloc: Global, id: u64, class: ClassFile) -> Result<Instrumented, Fai
         bytes: List::from_vec(bytes),
         id,
         name,
-        probes: probed.probes,
+        probes,
         changed: true,
     })
 }

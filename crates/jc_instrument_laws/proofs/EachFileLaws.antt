@@ -37,7 +37,7 @@ use Rattle.jc_instrument.proofs.FullPoolLaws.{no_full_pool}
 use Rattle.jc_instrument.proofs.PoolTextLaws.{class_pool}
 use Rattle.jc_instrument.proofs.RoomDecidedLaws.{rooms_decided}
 use Rattle.jc_instrument.proofs.SomeBodiesLaws.{AllBodies, all_bodies}
-use Rattle.jc_instrument_laws.proofs.SomeWorksLaws.{AllWorks, all_works}
+use Rattle.jc_instrument.proofs.SomeWorksLaws.{AllWorks, all_works}
 use Rattle.jc_instrument.proofs.TakenNeedsLaws.{takes_needed}
 use Rattle.jc_instrument.proofs.TakingLaws.{IsEntire, some_takings}
 use Rattle.jc_instrument.proofs.TextSizesLaws.{class_size}

@@ -1,5 +1,3 @@
-pub mod SomeStatesLaws
-pub mod SomeWorksLaws
 pub mod ClassSpellingLaws
 pub mod PoolSpellingLaws
 pub mod UsedBytesLaws

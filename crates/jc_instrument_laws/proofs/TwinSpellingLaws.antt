@@ -66,7 +66,7 @@ use Rattle.jc_instrument_laws.proofs.ReadCodeLaws.{AreReadItems, code_read, id_b
 use Rattle.jc_class.proofs.ReadClassLaws.{IsOfBytes, IsReadClass, class_read}
 use Rattle.jc_instrument.proofs.RoomDecidedLaws.{has_local_room, has_stack_room, short_code}
 use Rattle.jc_instrument.proofs.SomeBodiesLaws.{AllBodies}
-use Rattle.jc_instrument_laws.proofs.SomeWorksLaws.{AllWorks}
+use Rattle.jc_instrument.proofs.SomeWorksLaws.{AllWorks}
 use Rattle.jc_instrument.proofs.TextSizesLaws.{class_size, item_size, method_size}
 use Rattle.jc_instrument.proofs.TwinFileLaws.{twin_is_class}
 use Rattle.jc_instrument.proofs.TwinLaws.{same_outside}

@@ -33,7 +33,7 @@ use Rattle.jc_instrument.proofs.PoolTextLaws.{IsReadPool, class_pool}
 use Rattle.jc_instrument.proofs.RenumberedLaws.{raised_body, renumbered}
 use Rattle.jc_instrument.proofs.SomeBodiesLaws.{AllBodies, all_bodies, made_well, passes}
 use Rattle.jc_instrument.proofs.TextSizesLaws.{class_size, method_size}
-use Rattle.jc_instrument_laws.proofs.SomeStatesLaws.{all_states}
+use Rattle.jc_instrument.proofs.SomeStatesLaws.{all_states}
 use Rattle.jc_kinds.specs.Checked.{FirstMissing, FirstClash}
 use Rattle.jc_linking.specs.Linking.{HasStates, link_causes, LinkReason, IsLinkedOf, IsLinkedClass, AreLinkedClasses, IsProgramOf, IsFirstRefused, IsLinkRefusal, refused, one_name, one_id}
 use Rattle.jc_linking.specs.Pairs.{HaveOneName, HaveOneId, NoPair, IsFirstPair}

@@ -1,33 +1,72 @@
-use Rattle.std.proofs.Common.{◌≤◌, length, sym, ◌∙◌, arith}
-use Rattle.jc_instrument.proofs.MemberLaws.{all_put, index_within, one_at, put_next, still_coded}
+use Rattle.std.proofs.Common.{◌≤◌, ◌<◌, length, sym, subst, arith, rules}
+use Rattle.std.proofs.lemmas.Iterator.Adapters.{YieldsList-from_vec}
+use Rattle.std.proofs.lemmas.Iterator.Consumers.{YieldsList-turn, YieldsList-end}
+use Rattle.std.proofs.lemmas.List.{length_push}
+use Rattle.std.proofs.lemmas.Result.{err_from_is_err_and}
+use Rattle.jc_instrument.specs.Writing.{ArePut}
+use Rattle.jc_instrument.proofs.PuttingLaws.{all_put, next_ready, number_within, one_code, putting_begun, putting_on, putting_refused}
 use Rattle.jc_instrument.proofs.members.put_codes.Goals as goal
+
+pub putting-init : goal.putting-init
+putting-init c =
+    putting_begun c.args.names.now c.args.pool.now c.args.places.now c.args.ready c.args.methods c.into_vec-methods.result.items
+    c.into_vec-methods.ensures c.requires.coded
+
+pub body_text-requires : goal.body_text-requires
+body_text-requires c =
+    let ready = c.args.ready in
+    let turn = YieldsList-turn (YieldsList-from_vec {s = c.into_iter-one-iterator.result} ready (cc) (search rules)) c.putting.yielded c.putting.one-iterator
+    c.putting.yielded_by c.next.result c.next.new.self c.in-Some.one c.in-Some.is c.next.ensures.steps in
+    next_ready c.args.names.now c.args.pool.now c.args.places.now ready c.args.methods (length c.putting.yielded) c.putting.names c.putting.pool
+    c.putting.methods.items c.in-Some.one turn.0 turn.1 c.requires.ready c.putting.invariant
 
 pub index_mut-requires : goal.index_mut-requires
 index_mut-requires c =
-    let within = index_within c.args.pool.now c.args.names.now c.args.places.now c.args.probed.now c.putting.next-index c.next-item.result
-    c.putting.methods.items c.putting-test.true c.next-item.is c.putting.invariant.coded c.from.result c.from.ensures in
+    let ready = c.args.ready in
+    let turn = YieldsList-turn (YieldsList-from_vec {s = c.into_iter-one-iterator.result} ready (cc) (search rules)) c.putting.yielded c.putting.one-iterator
+    c.putting.yielded_by c.next.result c.next.new.self c.in-Some.one c.in-Some.is c.next.ensures.steps in
+    let within : c.from-number.result < length c.putting.methods.items =
+    number_within c.args.names.now c.args.pool.now c.args.places.now ready c.args.methods (length c.putting.yielded) c.putting.names c.putting.pool
+    c.putting.methods.items c.in-Some.one turn.0 turn.1 c.requires.ready c.putting.invariant c.from-number.result c.from-number.ensures in
     omega (arith, within)
 
 pub put_code-requires : goal.put_code-requires
 put_code-requires c =
-    one_at c.args.pool.now c.args.names.now c.args.places.now c.args.probed.now c.putting.next-index c.next-item.result
-    c.putting.methods.items c.putting-test.true c.next-item.is c.putting.invariant.coded c.from.result c.from.ensures
-    c.code_text.new.pool c.index_mut.result.now (c.in_ok-text.ensures.kept ∙ c.putting.invariant.kept) c.index_mut.ensures.value
+    let ready = c.args.ready in
+    let turn = YieldsList-turn (YieldsList-from_vec {s = c.into_iter-one-iterator.result} ready (cc) (search rules)) c.putting.yielded c.putting.one-iterator
+    c.putting.yielded_by c.next.result c.next.new.self c.in-Some.one c.in-Some.is c.next.ensures.steps in
+    one_code c.args.names.now c.args.pool.now c.args.places.now ready c.args.methods (length c.putting.yielded) c.putting.names c.putting.pool
+    c.putting.methods.items c.in-Some.one turn.0 turn.1 c.requires.ready c.putting.invariant c.from-number.result c.from-number.ensures
+    c.body_text.new.pool c.in_ok-text.ensures.extends c.index_mut.result.now c.index_mut.ensures.value
 
 pub putting-preserved : goal.putting-preserved
-putting-preserved c = record {
-  coded = still_coded c.args.pool.now c.args.names.now c.args.places.now c.args.probed.now c.putting.next-index c.next-item.result
-      c.putting.methods.items c.putting-test.true c.next-item.is c.putting.invariant.coded c.from.result c.from.ensures c.put_code.new.method;
-  rest = c.putting.invariant.rest
-      ∙ put_next c.args.pool.now c.args.names.now c.args.places.now c.args.probed.now c.putting.next-index c.next-item.result
-      c.putting.methods.items c.putting-test.true c.next-item.is c.putting.invariant.coded c.from.result c.from.ensures
-      c.putting.pool c.code_text.new.pool c.index_mut.result.now c.put_code.new.method c.in_ok-text.text
-      c.putting.invariant.kept (c.in_ok-text.ensures.kept ∙ c.putting.invariant.kept) c.index_mut.ensures.value c.in_ok-text.ensures.text c.put_code.ensures;
-  kept = c.in_ok-text.ensures.kept ∙ c.putting.invariant.kept;
-}
+putting-preserved c =
+    let ready = c.args.ready in
+    let turn = YieldsList-turn (YieldsList-from_vec {s = c.into_iter-one-iterator.result} ready (cc) (search rules)) c.putting.yielded c.putting.one-iterator
+    c.putting.yielded_by c.next.result c.next.new.self c.in-Some.one c.in-Some.is c.next.ensures.steps in
+    rw (length_push c.putting.yielded c.in-Some.one)
+    (putting_on c.args.names.now c.args.pool.now c.args.places.now ready c.args.methods (length c.putting.yielded) c.putting.names c.putting.pool
+    c.putting.methods.items c.in-Some.one turn.0 turn.1 c.requires.ready c.putting.invariant c.from-number.result c.from-number.ensures
+    c.body_text.new.pool c.in_ok-text.ensures.extends c.body_text.new.names c.in_ok-text.ensures.names c.in_ok-text.text c.index_mut.result.now
+    c.put_code.new.method c.index_mut.ensures.value c.put_code.ensures c.in_ok-text.ensures.text)
 
-pub returns-clause-methods : goal.returns-clause-methods
-returns-clause-methods c =
-    let end : length c.args.probed.now ≤ c.putting.next-index = omega (arith, c.putting-test.false) in
-    c.from_vec.ensures ∙ sym (c.putting.invariant.rest
-    ∙ all_put c.args.pool.now c.args.names.now c.args.places.now c.args.probed.now c.putting.next-index c.putting.methods.items end)
+pub returns-in_err-text-clause-refused : goal.returns-in_err-text-clause-refused
+returns-in_err-text-clause-refused c = λ others array works of.
+    let ready = c.args.ready in
+    let turn = YieldsList-turn (YieldsList-from_vec {s = c.into_iter-one-iterator.result} ready (cc) (search rules)) c.putting.yielded c.putting.one-iterator
+    c.putting.yielded_by c.next.result c.next.new.self c.in-Some.one c.in-Some.is c.next.ensures.steps in
+    let p = err_from_is_err_and c.from_residual.result c.from_residual.ensures.1 in
+    rw (p.1, p.2)
+    (putting_refused c.args.names.now c.args.pool.now c.args.places.now ready c.args.methods (length c.putting.yielded) c.putting.names c.putting.pool
+    c.putting.methods.items c.in-Some.one turn.0 turn.1 c.requires.ready c.putting.invariant others array works of c.body_text.new.pool
+    c.in_err-text.field-0.0 (λ w is. c.in_err-text.ensures.refused others array w is))
+
+pub returns-clause-put : goal.returns-clause-put
+returns-clause-put c = λ others array works of.
+    let ready = c.args.ready in
+    let ended = YieldsList-end (YieldsList-from_vec {s = c.into_iter-one-iterator.result} ready (cc) (search rules)) c.putting.yielded c.putting.one-iterator
+    c.putting.yielded_by c.next.result c.next.new.self c.in-None.is c.next.ensures.steps in
+    let end : length ready ≤ length c.putting.yielded = omega (arith, ended.1) in
+    subst (ArePut c.args.pool.now c.args.places.now others array works c.args.methods c.putting.pool) (sym c.from_vec.ensures)
+    (all_put c.args.names.now c.args.pool.now c.args.places.now ready c.args.methods (length c.putting.yielded) c.putting.names c.putting.pool
+    c.putting.methods.items end c.putting.invariant others array works of)

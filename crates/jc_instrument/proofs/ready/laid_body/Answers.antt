@@ -6,20 +6,21 @@ use Rattle.jc_bytes.specs.Failing.{Said}
 use Rattle.jc_emit.specs.Emission.{emission}
 use Rattle.jc_layout.specs.Layable.{IsLayable}
 use Rattle.jc_layout.specs.Layout.{chosen_length}
-use Rattle.jc_code.specs.Given.{IsLaid}
 use Rattle.jc_instrument.specs.Probing.{IsRefusedAsLarge}
+use Rattle.jc_instrument.specs.Ready.{IsLaidFor}
 use Rattle.jc_instrument.proofs.ProbingLaws.{emission_code}
-use Rattle.jc_instrument.proofs.probed.laid_body.Goals as goal
+use Rattle.jc_instrument.proofs.ready.laid_body.Goals as goal
 
 pub laid-requires : goal.laid-requires
 laid-requires c = subst IsLayable (sym c.deref.ensures) c.in_ok-code.ensures.layable
 
 pub returns-clause-laid : goal.returns-clause-laid
-returns-clause-laid c = λ first states array is.
+returns-clause-laid c =
     let b = c.args.body.now in
-    let e = emission b first states array in
-    IfOk-weaker c.laid.result _ (IsLaid e)
-    (λ l told. told e (emission_code b first states array ∙ sym (c.in_ok-code.ensures.code first is) ∙ sym c.deref.ensures)) c.laid.ensures.laid
+    IfOk-weaker c.laid.result _ (IsLaidFor b c.args.plan.now)
+    (λ l told first states array is.
+    told (emission b first states array) (emission_code b first states array ∙ sym (c.in_ok-code.ensures.code first is) ∙ sym c.deref.ensures))
+    c.laid.ensures.laid
 
 pub returns-clause-refused : goal.returns-clause-refused
 returns-clause-refused c = λ first is.

@@ -1,4 +1,4 @@
-//! The instrumented code of a class.
+//! The bodies of a class, ready for their instrumented code to be written.
 ghost use Rattle.std.specs.Prelude.{◌≡◌, ◌≤◌, false, All, IfOk, IfErr};
 ghost use Rattle.jc_bytes.specs.Reader.{most_read};
 ghost use Rattle.jc_class.specs.Sizes.{BodiesWithin};
@@ -6,42 +6,41 @@ ghost use Rattle.jc_class.specs.Writable.{IsClassFile};
 ghost use Rattle.jc_bytes.specs.Failing.{Said};
 ghost use Rattle.jc_instrument.specs.Causes.{IsFirstCause};
 ghost use Rattle.jc_instrument.specs.LeftAlone.{is_left_alone};
-ghost use Rattle.jc_instrument.specs.ProbedClass.{IsProbedClass, making_causes};
+ghost use Rattle.jc_instrument.specs.ReadyClass.{IsReadyClass, making_causes};
 
 use crate::bodies::{NamedBodies, named_bodies};
 use crate::described::bounded_plans;
 use crate::plans::Planned;
-use crate::probed::{Probed, probed_bodies};
+use crate::ready::{ReadyBody, ready_bodies};
 use crate::room::room_refusal;
 use jc_bytes::{Fail, List, Names, Refusal};
 use jc_class::ClassFile;
 use std::alloc::Global;
 
-/// How many places the states of bodies may take that are kept until the code is made.
+/// How many places the states of bodies may take that are kept until the code is written.
 const MOST_KEPT_PLACES: usize = 1_048_576;
 
-/// The instrumented code of the bodies of a class.
+/// The bodies of a class, ready for their instrumented code to be written.
 #[derive(Debug, Drop)]
-pub struct ProbedClass {
-    /// That of each body, in the order of the methods.
-    pub probed: List<Probed>,
+pub struct ReadyClass {
+    /// The bodies, in the order of their methods.
+    pub bodies: List<ReadyBody>,
     /// How many probes there are.
     pub probes: u32,
 }
 
-/// The instrumented code of the bodies of a class that doesn't stay as it is, with classes in their frames by their
-/// numbers in `names`; or the first refusal, in their order, of those that are looked for in code and while code is
-/// made.
-pub fn probed_class(
+/// The bodies of a class that doesn't stay as it is, with classes in their frames by their numbers in `names`; or the
+/// first refusal, in their order, of those that are looked for in code and in layouts.
+pub fn ready_class(
     alloc: Global,
     class: &ClassFile,
     names: &mut Names,
-) -> Result<ProbedClass, Fail<Refusal>>
+) -> Result<ReadyClass, Fail<Refusal>>
     requires class { IsClassFile class.now }
     requires sizes { All (λ m. BodiesWithin most_read m.attributes) class.now.methods }
     requires changes { is_left_alone class.now ≡ false }
-    ensures probed { IfOk result (IsProbedClass names.new class.now) }
-    ensures few { IfOk result (λ p. p.probes ≤ 32767) }
+    ensures ready { IfOk result (IsReadyClass names.new class.now) }
+    ensures few { IfOk result (λ r. r.probes ≤ 32767) }
     ensures refused { IfErr result (λ e. Said e (IsFirstCause (making_causes class.now))) }
 {
     let NamedBodies { bodies, states } = named_bodies(alloc, class, MOST_KEPT_PLACES, names)?;
@@ -49,6 +48,9 @@ pub fn probed_class(
     if let Some(refusal) = room_refusal(class, &bodies, probes) {
         return Err(Fail::Said(refusal));
     }
-    let probed = probed_bodies(alloc, bodies, plans, states, names)?;
-    Ok(ProbedClass { probed, probes })
+    let ready = ready_bodies(alloc, bodies, plans, states)?;
+    Ok(ReadyClass {
+        bodies: ready,
+        probes,
+    })
 }

@@ -2,15 +2,12 @@
 use Rattle.std.proofs.Common.{◌≡◌, ◌⊎◌, inl, inr, ℕ, suc, ◌≤◌, Bool, true, false, List, [], ◌∷◌, ◌++◌, length, map, Some, slice_get, refl, sym, ◌∙◌, ap, subst, if◌then◌else◌}
 use Rattle.std.specs.Prelude.{filter}
 use Rattle.std.specs.List.{AllByRecursion}
-use Rattle.std.proofs.lemmas.Grind.{flat_map-append}
-use Rattle.std.proofs.lemmas.List.Concat.{flat_map-cons}
 use Rattle.jc_bytes.specs.Grammar.{Grammar}
-use Rattle.jc_methods.specs.VerificationTypes.{Names, TypeStateAt, type_state_at}
+use Rattle.jc_methods.specs.VerificationTypes.{Names}
 use Rattle.jc_methods.specs.Starts.{insn_number}
 use Rattle.jc_methods.specs.declared.body.Body.{Body}
 use Rattle.jc_methods.specs.declared.body.LineAt.{LineAt}
 use Rattle.jc_methods.specs.declared.body.VarAt.{VarAt}
-use Rattle.jc_methods.specs.declared.body.FrameAt.{FrameAt}
 use Rattle.jc_pool.specs.Adding.{Extends}
 use Rattle.jc_pool.specs.Lookup.{utf8_of}
 use Rattle.jc_pool.specs.Pool.{PoolValue}
@@ -20,23 +17,20 @@ use Rattle.jc_class.specs.declared.class_file.ClassFile.{ClassFile}
 use Rattle.jc_body.specs.Attributes.{AreEntries, has_name, bodies_of as texts_of}
 use Rattle.jc_body.specs.BodyOf.{BodyOf, lines_of, vars_in}
 use Rattle.jc_body.specs.CodeForm.{line_table, var_table}
-use Rattle.jc_frames.specs.FullTable.{HasPlace, named_by, named_by_all}
-use Rattle.jc_frames.proofs.FullTextLaws.{both_parts}
+use Rattle.jc_frames.specs.FullTable.{HasPlace, named_by_all}
 use Rattle.jc_emit.specs.Emission.{emission}
 use Rattle.jc_emit.specs.Items.{land_of}
 use Rattle.jc_emit.specs.TwinTables.{moved_line, moved_var}
 use Rattle.jc_code.specs.Given.{AreNamed, IsNamedAt}
-use Rattle.jc_code.specs.TwinCode.{lines_name, vars_name, kind_vars_name, written_frames}
+use Rattle.jc_code.specs.TwinCode.{lines_name, vars_name, kind_vars_name}
 use Rattle.jc_code.specs.declared.code.CodePlaces.{CodePlaces}
 use Rattle.jc_code.proofs.NamedLaws.{named_at}
-use Rattle.jc_instrument.specs.Contents.{class_entry}
-use Rattle.jc_instrument.specs.Members.{AreAllNamed, AreTextPlaces, AreWritable, IsFirstIfAny}
-use Rattle.jc_instrument.specs.Needed.{needs_of, place_list, TakesNeeds}
-use Rattle.jc_instrument.specs.Probing.{AreMade}
-use Rattle.jc_instrument.specs.Taking.{HasFrames}
+use Rattle.jc_instrument.specs.Writing.{AreAllNamed}
+use Rattle.jc_instrument.specs.Members.{AreTextPlaces, IsFirstIfAny}
 use Rattle.jc_instrument.specs.BodiesWithStates.{BodyWithStates, all_frames, bodies_of, emitted_of}
+use Rattle.jc_instrument.specs.Contents.{class_entry}
+use Rattle.jc_instrument.specs.Needed.{needs_of, place_list, TakesNeeds}
 use Rattle.jc_instrument.specs.declared.needs.MemberPlaces.{MemberPlaces}
-use Rattle.jc_instrument.specs.declared.probed.Probed.{Probed}
 use Rattle.jc_instrument.proofs.ContentLaws.{of_content}
 use Rattle.jc_instrument.proofs.GrownPoolLaws.{StandAt, stand_at}
 use Rattle.jc_instrument.proofs.TwinLaws.{each_listed, text_is}
@@ -58,25 +52,6 @@ all_placed id names array c works pool places takes few =
     let at = stand_at (needs_of id names array c works) c.pool pool (place_list places ++ takes.class_places) (each_listed id names array c works)
     takes.takes in
     each_placed pool (named_by_all (all_frames names array works)) takes.class_places at.1.1.1.1.1.1.1.1.1.1.1.1 few
-
--- the classes that the frames name stand in the pool
-abbrev HasClasses : PoolValue → Names → Probed → Type 0
-HasClasses pool names p = AllByRecursion (HasPlace pool) (named_by_all (map (type_state_at names) p.frames))
-
-pub have_classes : (pool : PoolValue) (names : Names) (array : ℕ) (works : List BodyWithStates) (probed : List Probed) → AreMade array works probed
-    → AllByRecursion (HasPlace pool) (named_by_all (all_frames names array works)) → AllByRecursion (HasClasses pool names) probed
-have_classes pool names array [] [] made all = tt
-have_classes pool names array [] (p ∷ probed) made all = absurd made
-have_classes pool names array (w ∷ works) [] made all = absurd made
-have_classes pool names array (w ∷ works) (p ∷ probed) made all =
-    let frames : BodyWithStates → List TypeStateAt = λ x. written_frames names (emitted_of array x) in
-    let split : named_by_all (all_frames names array (w ∷ works)) ≡ named_by_all (frames w) ++ named_by_all (all_frames names array works) =
-    ap named_by_all (flat_map-cons frames w works) ∙ flat_map-append named_by (frames w) (all_frames names array works) in
-    let both = both_parts (HasPlace pool) (named_by_all (frames w)) (named_by_all (all_frames names array works))
-    (subst (AllByRecursion (HasPlace pool)) split all) in (
-      subst (λ (fs : List FrameAt). AllByRecursion (HasPlace pool) (named_by_all (map (type_state_at names) fs))) (sym made.0.frames) both.0,
-      have_classes pool names array works probed made.1 both.1,
-    )
 
 -- ---- names of attributes
 
@@ -142,15 +117,3 @@ module _ (names : Names) (c : ClassFile) (new : PoolValue) (extends : Extends c.
       → ((k : ℕ) (b : Body) → slice_get (bodies_of works) k ≡ Some b → BodyOf names c b.method b) → AreAllNamed new array works places
   are_named [] each = tt
   are_named (w ∷ works) each = (work_named w (each 0 w.body refl), are_named works (λ k b stands. each (suc k) b stands))
-
--- ---- all together
-
-pub are_writable : (pool : PoolValue) (names : Names) (array : ℕ) (works : List BodyWithStates) (probed : List Probed) → AreMade array works probed
-    → AllByRecursion (HasFrames (length names)) probed → AllByRecursion (HasClasses pool names) probed → AreWritable pool names probed
-are_writable pool names array [] [] made frames classes = tt
-are_writable pool names array [] (p ∷ probed) made frames classes = absurd made
-are_writable pool names array (w ∷ works) [] made frames classes = absurd made
-are_writable pool names array (w ∷ works) (p ∷ probed) made frames classes = (
-  record { few = made.0.laid.few; frames = frames.0; classes = classes.0 },
-  are_writable pool names array works probed made.1 frames.1 classes.1,
-)

@@ -1,7 +1,7 @@
 use Rattle.std.proofs.Common.{[], sym, ◌∙◌, subst}
 use Rattle.jc_layout.specs.Layable.{IsLayable}
 use Rattle.jc_instrument.proofs.ProbingLaws.{emission_code, emission_layable}
-use Rattle.jc_instrument.proofs.probed.emitted_code.Goals as goal
+use Rattle.jc_instrument.proofs.ready.emitted_code.Goals as goal
 
 pub returns-in-Ok-clause-layable : goal.returns-in-Ok-clause-layable
 returns-in-Ok-clause-layable c =

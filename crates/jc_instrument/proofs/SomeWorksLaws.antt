@@ -26,7 +26,7 @@ use Rattle.jc_instrument.proofs.FrameCauseLaws.{each_at}
 use Rattle.jc_instrument.proofs.ListedLaws.{grown_bodies}
 use Rattle.jc_instrument.proofs.ProbingLaws.{nothing_at, work_grown}
 use Rattle.jc_instrument.proofs.SomeBodiesLaws.{AllBodies}
-use Rattle.jc_instrument_laws.proofs.SomeStatesLaws.{AllStates, all_states}
+use Rattle.jc_instrument.proofs.SomeStatesLaws.{AllStates, all_states}
 use Rattle.jc_instrument.proofs.WholeLaws.{bodies_numbered}
 
 -- works of the first n of these bodies, under more names
@@ -124,6 +124,41 @@ module _ (first : Names) (bodies : List Body) (numbered : (i : ℕ) (b : Body) �
 
 -- ---- all of them
 
+pub record WorksUnder (first : Names) (c : ClassFile) (bodies : List Body) : Type 0 where
+  pub names : Names
+  pub grows : Grows first names
+  pub array : ℕ
+  pub works : List BodyWithStates
+  pub are : AreBodiesWithStates names array c works
+  pub same : bodies_of works ≡ bodies
+
+pub works_under : (first : Names) (c : ClassFile) (bodies : List Body) → AreBodies first c bodies
+    → ((i : ℕ) (b : Body) → slice_get bodies i ≡ Some b → IsWellMade b) → ((i : ℕ) (b : Body) → slice_get bodies i ≡ Some b → Checked first b)
+    → WorksUnder first c bodies
+works_under first c bodies bodies_are made checked =
+    let some = some_works first bodies
+    (λ i b at. each_at (λ (x : Body). AreNumberedFrames (length first) x.frames) bodies (bodies_numbered first c bodies bodies_are) i b at)
+    made checked (length bodies) (omega arith) in
+    let new = some.names ++ probe_array_class ∷ [] in
+    let more : Grows some.names new = (probe_array_class ∷ [], refl) in
+    let all = grows_both first some.names new some.grows more in
+    let are : bodies_of some.works ≡ bodies = some.bodies_are ∙ take_all (length bodies) bodies (omega arith) in
+    record {
+      names = new;
+      grows = all;
+      array = length some.names;
+      works = some.works;
+      are = record {
+        bodies = subst (AreBodies new c) (sym are) (grown_bodies first new c (length c.methods) bodies all bodies_are);
+        array_is = get_or_from_slice_get new (length some.names) probe_array_class [] (put_last some.names probe_array_class);
+        each = λ i w at. subst (λ (l : List Body). IsBodyWithStates new l i w) (sym are)
+            (work_grown some.names new bodies i w more
+            (frames_numbered (length first) (length some.names) w.body.frames (grown_count first some.names some.grows) (some.numbered i w at))
+            (some.each i w at));
+      };
+      same = are;
+    }
+
 pub record AllWorks (c : ClassFile) (bodies : List Body) : Type 0 where
   pub names : Names
   pub array : ℕ
@@ -133,27 +168,6 @@ pub record AllWorks (c : ClassFile) (bodies : List Body) : Type 0 where
 
 pub all_works : (c : ClassFile) (all : AllBodies c) → AllWorks c all.bodies
 all_works c all =
-    let bodies = all.bodies in
-    let some = some_works all.names bodies
-    (λ i b at. each_at (λ (x : Body). AreNumberedFrames (length all.names) x.frames) bodies (bodies_numbered all.names c bodies all.are) i b at)
-    (λ i b at. each_at IsWellMade bodies all.well_made i b at)
-    (λ i b at. each_at (Checked all.names) bodies all.checked i b at)
-    (length bodies) (omega arith) in
-    let new = some.names ++ probe_array_class ∷ [] in
-    let more : Grows some.names new = (probe_array_class ∷ [], refl) in
-    let are : bodies_of some.works ≡ bodies = some.bodies_are ∙ take_all (length bodies) bodies (omega arith) in
-    record {
-      names = new;
-      array = length some.names;
-      works = some.works;
-      are = record {
-        bodies = subst (AreBodies new c) (sym are)
-            (grown_bodies all.names new c (length c.methods) bodies (grows_both all.names some.names new some.grows more) all.are);
-        array_is = get_or_from_slice_get new (length some.names) probe_array_class [] (put_last some.names probe_array_class);
-        each = λ i w at. subst (λ (l : List Body). IsBodyWithStates new l i w) (sym are)
-            (work_grown some.names new bodies i w more
-            (frames_numbered (length all.names) (length some.names) w.body.frames (grown_count all.names some.names some.grows) (some.numbered i w at))
-            (some.each i w at));
-      };
-      same = are;
-    }
+    let some = works_under all.names c all.bodies all.are (λ i b at. each_at IsWellMade all.bodies all.well_made i b at)
+    (λ i b at. each_at (Checked all.names) all.bodies all.checked i b at) in
+    record { names = some.names; array = some.array; works = some.works; are = some.are; same = some.same }

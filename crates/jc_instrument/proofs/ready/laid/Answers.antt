@@ -3,7 +3,7 @@ use Rattle.jc_methods.specs.declared.insn.Insn.{Insn}
 use Rattle.jc_insn.specs.Sizes.{StartAt}
 use Rattle.jc_layout.specs.Layout.{IsChosen, chosen_length, chosen_text}
 use Rattle.jc_code.proofs.LaidLaws.{is_laid}
-use Rattle.jc_instrument.proofs.probed.laid.Goals as goal
+use Rattle.jc_instrument.proofs.ready.laid.Goals as goal
 
 pub returns-in-Ok-clause-laid : goal.returns-in-Ok-clause-laid
 returns-in-Ok-clause-laid c = λ e same.

@@ -1,0 +1,139 @@
+-- What is written of one body is its work's, whatever the names with which it was read.
+use Rattle.std.proofs.Common.{◌≡◌, ℕ, ◌≤◌, List, [], ◌∷◌, length, map, sym, ◌∙◌, ap, subst}
+use Rattle.std.specs.List.{AllByRecursion}
+use Rattle.jc_methods.specs.VerificationTypes.{AreNumberedFrames, Grows, Names, TypeStateAt, type_state_at}
+use Rattle.jc_methods.specs.declared.body.Body.{Body}
+use Rattle.jc_methods.specs.declared.body.FrameAt.{FrameAt}
+use Rattle.jc_methods.specs.declared.body.LineAt.{LineAt}
+use Rattle.jc_methods.specs.declared.body.VarAt.{VarAt}
+use Rattle.jc_methods.specs.declared.emitted.Emitted.{Emitted}
+use Rattle.jc_methods.proofs.NumberedLaws.{frames_numbered, grown_count}
+use Rattle.jc_bytes.specs.declared.fail.Fail.{Fail}
+use Rattle.jc_pool.specs.Pool.{PoolValue}
+use Rattle.jc_pool.specs.declared.add.PoolFull.{PoolFull}
+use Rattle.jc_frames.specs.FullTable.{CanBeWritten, FitsFull, RefusesClasses, TakesClasses, named_by_all}
+use Rattle.jc_frames.proofs.TakenLaws.{all_stand}
+use Rattle.jc_plan.specs.Plan.{plan_of}
+use Rattle.jc_emit.specs.Emission.{emission}
+use Rattle.jc_emit.specs.Stages.{moved_tables}
+use Rattle.jc_emit.specs.declared.tables.MovedTables.{MovedTables}
+use Rattle.jc_code.specs.Given.{AreNamed, IsLaid, IsNamedAt}
+use Rattle.jc_code.specs.LaidText.{laid_text}
+use Rattle.jc_code.specs.TwinCode.{chosen_frames, kind_vars_name, lines_name, vars_name, written_frames}
+use Rattle.jc_code.specs.declared.code.CodePlaces.{CodePlaces}
+use Rattle.jc_code.proofs.TwinCodeLaws.{laid_text_is}
+use Rattle.jc_verify.proofs.SameBodyLaws.{AreSame, grown_same}
+use Rattle.jc_instrument.specs.BodiesWithStates.{BodyWithStates, emitted_of}
+use Rattle.jc_instrument.specs.Ready.{IsReady}
+use Rattle.jc_instrument.specs.Writing.{AreFramesOf, IsWorkOf, IsWrittenBody}
+use Rattle.jc_instrument.specs.declared.ready.ReadyBody.{ReadyBody}
+use Rattle.jc_instrument.proofs.KeptPoolLaws.{same_places}
+use Rattle.jc_instrument.proofs.KeptStatesLaws.{states_grown}
+use Rattle.jc_instrument.proofs.KeptTextLaws.{same_laid_text}
+use Rattle.jc_instrument.proofs.ProbingLaws.{emission_tables}
+use Rattle.jc_instrument.proofs.SameEmissionLaws.{IsSameEmission, same_emission, same_twin_code, same_written}
+use Rattle.jc_instrument.proofs.WritableLaws.{frames_chosen, frames_written}
+
+-- ---- more names
+
+seen_on : (old new : Names) (r : ReadyBody) → Grows old new → IsReady old r
+    → map (type_state_at new) r.body.frames ≡ map (type_state_at old) r.body.frames
+seen_on old new r grows ready = sym (grown_same old new r.body grows ready.numbered).seen
+
+pub ready_grown : (old new : Names) (r : ReadyBody) → Grows old new → IsReady old r → IsReady new r
+ready_grown old new r grows ready = record {
+  made = ready.made;
+  numbered = frames_numbered _ _ r.body.frames (grown_count old new grows) ready.numbered;
+  plan = ready.plan;
+  next = ready.next;
+  room = ready.room;
+  laid = ready.laid;
+  kept = λ states is. states_grown old new r.body states grows ready.numbered (ready.kept states is);
+}
+
+pub work_on : (old new others : Names) (array : ℕ) (r : ReadyBody) (w : BodyWithStates) → Grows old new → IsReady old r → IsWorkOf old others array r w
+    → IsWorkOf new others array r w
+work_on old new others array r w grows ready of = record {
+  body = of.body;
+  plan = of.plan;
+  seen = seen_on old new r grows ready ∙ of.seen;
+  states = of.states;
+  array_is = of.array_is;
+}
+
+-- ---- the frames can be written
+
+pub few_bytes : (names : Names) (r : ReadyBody) → IsReady names r → length r.laid.code ≤ 65535
+few_bytes names r ready = (ready.laid ready.plan.0 [] 0 ready.plan.1).few
+
+pub can_be_written : (now : Names) (r : ReadyBody) → IsReady now r → (frames : List FrameAt) (first : ℕ) → r.plan ≡ plan_of r.body first
+    → AreFramesOf now r.body first r.laid.wide frames → CanBeWritten r.laid.starts (length now) frames
+can_be_written now r ready frames first is are =
+    frames_written now r.body first are.states r.laid frames ready.made.of_any_size are.framed (ready.laid first are.states are.framed.array is) are.are
+    ready.room
+
+-- so the classes that they name have numbers
+pub numbered_of : (starts : List ℕ) (names : ℕ) (frames : List FrameAt) → CanBeWritten starts names frames → AreNumberedFrames names frames
+numbered_of starts names frames can = all_numbered frames can.each
+  where
+    all_numbered : (fs : List FrameAt) → AllByRecursion (FitsFull (length starts) names) fs → AreNumberedFrames names fs
+    all_numbered [] fit = tt
+    all_numbered (f ∷ fs) fit = (fit.0.numbered, all_numbered fs fit.1)
+
+-- ---- what is written
+
+module _ (old now others : Names) (array : ℕ) (r : ReadyBody) (w : BodyWithStates) (grows : Grows old now) (ready : IsReady old r)
+    (of : IsWorkOf old others array r w) (frames : List FrameAt) (are : AreFramesOf now r.body w.first r.laid.wide frames) where
+  abbrev own : Emitted
+  own = emission r.body w.first are.states are.framed.array
+
+  abbrev meant : Emitted
+  meant = emitted_of array w
+
+  laid_so : IsLaid own r.laid
+  laid_so = ready.laid w.first are.states are.framed.array of.plan
+
+  chosen : frames ≡ chosen_frames own
+  chosen = frames_chosen now r.body w.first are.states r.laid frames ready.made.of_any_size are.framed laid_so
+
+  body_same : AreSame now others r.body w.body
+  body_same = record {
+    rest = λ k. record (of.body k) { frames = r.body.frames };
+    seen = seen_on old now r grows ready ∙ of.seen ∙ ap (λ (b : Body). map (type_state_at others) b.frames) of.body;
+  }
+
+  emission_same : IsSameEmission now others own meant
+  emission_same =
+      same_emission now others r.body w.body body_same w.first are.states w.states are.framed.array array are.framed.array_is of.array_is are.are
+      of.states
+
+  seen_frames : map (type_state_at now) frames ≡ written_frames others meant
+  seen_frames = ap (map (type_state_at now)) chosen ∙ same_written now others own meant emission_same
+
+  pub meant_refused : (pool new : PoolValue) (fail : Fail PoolFull) → RefusesClasses pool (named_by_all (map (type_state_at now) frames)) new fail
+      → RefusesClasses pool (named_by_all (written_frames others meant)) new fail
+  meant_refused pool new fail refused =
+      subst (λ (fs : List TypeStateAt). RefusesClasses pool (named_by_all fs) new fail) seen_frames refused
+
+  own_named : (grown : PoolValue) (places : CodePlaces) → AreNamed grown meant places → AreNamed grown own places
+  own_named grown places named =
+      let back = sym emission_same.rest in
+      record {
+        lines = subst (λ (ls : List LineAt). IsNamedAt grown lines_name ls places.lines) (ap (λ (x : Emitted). x.lines) back) named.lines;
+        vars = subst (λ (vs : List VarAt). IsNamedAt grown vars_name vs places.vars) (ap (λ (x : Emitted). x.vars) back) named.vars;
+        kind_vars = subst (λ (vs : List VarAt). IsNamedAt grown kind_vars_name vs places.kind_vars) (ap (λ (x : Emitted). x.kind_vars) back) named.kind_vars;
+      }
+
+  pub body_written : (pool new : PoolValue) (places : CodePlaces) (tables : MovedTables) (text : List ℕ)
+      → TakesClasses pool (named_by_all (map (type_state_at now) frames)) new → tables ≡ moved_tables r.body w.first
+      → text ≡ laid_text new places now tables r.laid frames → IsWrittenBody pool places others meant new text
+  body_written pool new places tables text takes tables_are is = record {
+    takes = subst (λ (fs : List TypeStateAt). TakesClasses pool (named_by_all fs) new) seen_frames takes;
+    text_is = λ grown keeps named.
+        is
+        ∙ same_laid_text new grown places now tables r.laid frames
+        (same_places new grown keeps (named_by_all (map (type_state_at now) frames)) (all_stand pool new _ takes))
+        ∙ laid_text_is grown now places own tables r.laid frames (tables_are ∙ emission_tables r.body w.first are.states are.framed.array) laid_so chosen
+        (own_named grown places named)
+        ∙ same_twin_code now others own meant emission_same grown places.method places.frames;
+  }

@@ -1,0 +1,144 @@
+//! The instrumented code of a body as text, while the pool takes the classes that its frames name.
+ghost use Rattle.std.specs.Option.{ForSome};
+ghost use Rattle.std.specs.Prelude.{◌≡◌, ◌≤◌, ℕ, length, map, IfOk, IfErr, OnOk};
+ghost use Rattle.std.specs.List.{AllByRecursion};
+ghost use Rattle.jc_methods.specs.VerificationTypes.{Grows, AreNumberedFrames, Names as ClassNames, type_state_at};
+ghost use Rattle.jc_methods.specs.WellMade.{IsWellMade};
+ghost use Rattle.jc_frames.specs.FullTable.{CanBeWritten, HasPlace, RefusesClasses, named_by_all};
+ghost use Rattle.jc_kinds.specs.Answers.{AreStates};
+ghost use Rattle.jc_plan.specs.Plan.{plan_of};
+ghost use Rattle.jc_pool.specs.Adding.{Extends};
+ghost use Rattle.jc_emit.specs.Placing.{HasPlan};
+ghost use Rattle.jc_code.specs.LaidText.{laid_text};
+ghost use Rattle.jc_code.specs.TwinCode.{written_frames};
+ghost use Rattle.jc_instrument.specs.BodiesWithStates.{BodyWithStates, emitted_of};
+ghost use Rattle.jc_instrument.specs.Ready.{IsReady};
+ghost use Rattle.jc_instrument.specs.Writing.{AreFramesOf, IsWorkOf, IsWrittenBody};
+
+use crate::ready::ReadyBody;
+use jc_bytes::{Bytes, Fail, List, Memory, Names};
+use jc_code::{CodePlaces, CodeTables, write_laid};
+use jc_emit::{MovedTables, emit_frames, emit_tables};
+use jc_frames::take_classes;
+use jc_kinds::states;
+use jc_layout::Laid;
+use jc_methods::{Body, FrameAt, Plan, State};
+use jc_pool::{Pool, PoolFull};
+use std::alloc::Global;
+
+/// The most rows that an exception table has (JVM Specification 4.7.3).
+const MOST_ROWS: usize = 65_535;
+
+/// The states before the instructions of a body that passes the kind check: those that were kept, or else they are
+/// found anew.
+fn known_states(
+    alloc: Global,
+    body: &Body,
+    kept: Option<List<State>>,
+    names: &mut Names,
+) -> Result<List<State>, Memory>
+    requires made { IsWellMade body.now }
+    requires kept { ForSome kept (AreStates names.old body.now) }
+    requires frames { AreNumberedFrames (length names.old) body.now.frames }
+    ensures states { IfOk result (AreStates names.new body.now) }
+    ensures names { Grows names.old names.new }
+{
+    if let Some(states) = kept {
+        return Ok(states);
+    }
+    match states(alloc, body, names) {
+        Ok(states) => Ok(List::from_vec(states)),
+        Err(_) => Err(Memory),
+    }
+}
+
+/// The frames of a layout of the instrumented code of a body, whose states may be kept.
+fn body_frames(
+    alloc: Global,
+    body: &Body,
+    plan: &Plan,
+    kept: Option<List<State>>,
+    wide: bool,
+    names: &mut Names,
+) -> Result<List<FrameAt>, Memory>
+    requires made { IsWellMade body.now }
+    requires plan { HasPlan body.now plan.now }
+    requires next { plan.now.next ≤ 32767 }
+    requires kept { ForSome kept (AreStates names.old body.now) }
+    requires frames { AreNumberedFrames (length names.old) body.now.frames }
+    ensures frames { (first : ℕ) → plan.now ≡ plan_of body.now first → IfOk result (AreFramesOf names.new body.now first wide) }
+    ensures names { Grows names.old names.new }
+{
+    let states = known_states(alloc, body, kept, names)?;
+    emit_frames(alloc, body, plan, &states, wide, names)
+}
+
+/// What the Code attribute of an instrumented method holds (JVM Specification 4.7.3).
+///
+/// # Errors
+///
+/// `Memory` where memory was refused, and where there are more rows than an exception table has, or
+/// more bytes than an attribute holds.
+fn code_text(
+    alloc: Global,
+    tables: &MovedTables,
+    laid: &Laid,
+    frames: &[FrameAt],
+    names: &Names,
+    places: &CodePlaces,
+    pool: &mut Pool,
+) -> Result<Bytes, Memory>
+    requires few { length laid.now.code ≤ 65535 }
+    requires frames { CanBeWritten laid.now.starts (length names.now) frames.now }
+    requires classes { AllByRecursion (HasPlace pool.old) (named_by_all (map (type_state_at names.now) frames.now)) }
+    ensures text { IfOk result (λ text. text ≡ laid_text pool.old places.now names.now tables.now laid.now frames.now) }
+    ensures kept { OnOk result (pool.new ≡ pool.old) }
+    ensures extends { Extends pool.old pool.new }
+{
+    let tables = CodeTables {
+        max_stack: tables.max_stack,
+        max_locals: tables.max_locals,
+        handlers: &tables.handlers,
+        lines: &tables.lines,
+        vars: &tables.vars,
+        kind_vars: &tables.kind_vars,
+    };
+    if tables.handlers.len() > MOST_ROWS {
+        return Err(Memory);
+    }
+    write_laid(alloc, &tables, laid, frames, names, places, pool)
+}
+
+/// What the Code attribute of the method of this body holds, instrumented. Before it is written the pool takes the
+/// classes that the frames name; all of the body is dropped then.
+///
+/// # Errors
+///
+/// `PoolFull` where the pool can't take one of the classes, and `Memory` where memory was refused, and where a text
+/// would be too long for an attribute.
+pub fn body_text(
+    alloc: Global,
+    ready: ReadyBody,
+    places: &CodePlaces,
+    names: &mut Names,
+    pool: &mut Pool,
+) -> Result<Bytes, Fail<PoolFull>>
+    requires { IsReady names.old ready }
+    ensures text { (others : ClassNames) (array : ℕ) (w : BodyWithStates) → IsWorkOf names.old others array ready w
+        → IfOk result (IsWrittenBody pool.old places.now others (emitted_of array w) pool.new) }
+    ensures refused { (others : ClassNames) (array : ℕ) (w : BodyWithStates) → IsWorkOf names.old others array ready w
+        → IfErr result (RefusesClasses pool.old (named_by_all (written_frames others (emitted_of array w))) pool.new) }
+    ensures names { Grows names.old names.new }
+    ensures extends { Extends pool.old pool.new }
+{
+    let ReadyBody {
+        body,
+        plan,
+        laid,
+        states,
+    } = ready;
+    let frames = body_frames(alloc, &body, &plan, states, laid.wide, names)?;
+    take_classes(alloc, &frames, names, pool)?;
+    let tables = emit_tables(alloc, &body, &plan)?;
+    Ok(code_text(alloc, &tables, &laid, &frames, names, places, pool)?)
+}
