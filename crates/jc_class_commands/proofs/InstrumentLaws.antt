@@ -1,5 +1,5 @@
 -- What is made of class files that are instrumented is one list of writes.
-use Rattle.std.proofs.Common.{◌≡◌, ⊎_elim, ℕ, ◌+◌, ◌<◌, ◌≤◌, List, [], ◌∷◌, ◌++◌, length, take, get_or, map, Some, Result, Ok, Err, IfOk, MatchResult, Vec, refl, sym, ◌∙◌, ap, ap₂, subst, arith, min, append_assoc, String, string_bytes}
+use Rattle.std.proofs.Common.{◌≡◌, ⊎_elim, ℕ, ◌+◌, ◌<◌, ◌≤◌, List, [], ◌∷◌, ◌++◌, length, take, get_or, map, Some, Result, Ok, Err, IfOk, Vec, refl, sym, ◌∙◌, ap, ap₂, subst, arith, min, append_assoc, String, string_bytes}
 use Rattle.std.proofs.lemmas.List.{append-nil, take_more, take_all}
 use Rattle.std.proofs.lemmas.Slice.Zip.{AllZip-long, length-zip, get_or-zip}
 use Rattle.std.specs.List.{AllByRecursion, AllZip, zip}
@@ -63,14 +63,14 @@ some_writes (p ∷ ps) (f ∷ fs) (t ∷ ts) same each files =
 -- ---- what was decided
 
 -- where each answer is there, all are
-pub all_decided : (texts : List (List ℕ)) (r : Result (Vec Decided Global) Memory) (answers : List (Result Decided Memory)) (Fails : Memory → Type 0)
+pub all_decided : (texts : List (List ℕ)) (answers : List (Result Decided Memory)) (r : Result (Vec Decided Global) Memory)
     → AllZip (λ t u. IfOk u (λ d. IsDecision t (decision_seen d))) texts answers
-    → MatchResult r (λ all. (ds : List Decided) × (answers ≡ map Ok ds) × (all.items ≡ ds)) Fails → IfOk r (λ all. AllZip (λ t d. IsDecision t (decision_seen d)) texts all.items)
-all_decided texts (Ok all) answers Fails each (ds, same, items) =
+    → IfOk r (λ all. answers ≡ map Ok all.items) → IfOk r (λ all. AllZip (λ t d. IsDecision t (decision_seen d)) texts all.items)
+all_decided texts answers (Ok all) each same =
     let Decides : List ℕ → Decided → Type 0 = λ t d. IsDecision t (decision_seen d) in
     let Answers : List ℕ → Result Decided Memory → Type 0 = λ t u. IfOk u (Decides t) in
-    subst (AllZip Decides texts) (sym items) (each_ok Memory Decides texts ds (subst (AllZip Answers texts) same each))
-all_decided texts (Err e) answers Fails each fails = tt
+    each_ok Memory Decides texts all.items (subst (AllZip Answers texts) same each)
+all_decided texts answers (Err e) each same = tt
 
 -- ---- one file after the other
 

@@ -1,4 +1,5 @@
 pub mod EachLaws
+pub mod RunLaws
 pub mod ListingLaws
 pub mod MethodLaws
 pub mod FramelessLaws

@@ -1,4 +1,5 @@
 pub mod Lines
+pub mod Each
 pub mod ClassInfo
 pub mod Report
 pub mod ReportSteps

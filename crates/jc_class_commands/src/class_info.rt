@@ -100,17 +100,17 @@ fn listing(alloc: Global, bytes: &[u8]) -> Result<Vec<u8>, Fail<Refusal>>
 fn all_listings<R: Threads + Sync>(
     rt: &R,
     alloc: Global,
-    texts: Vec<Bytes>,
+    texts: &[Bytes],
 ) -> Result<Vec<Result<Vec<u8>, Fail<Refusal>>>, Memory>
-    requires { All (λ t. length t ≤ most_read) texts.items }
-    ensures each { IfOk result (λ answers. AllZip IsListing texts.items answers.items) }
-    ensures len { IfOk result (λ answers. length answers.items ≡ length texts.items) }
+    requires { All (λ t. length t ≤ most_read) texts.now }
+    ensures each { IfOk result (λ answers. AllZip IsListing texts.now answers.items) }
+    ensures len { IfOk result (λ answers. length answers.items ≡ length texts.now) }
 {
-    let answer = |bytes: Bytes| -> Result<Vec<u8>, Fail<Refusal>>
-        requires { length bytes ≤ most_read }
-        ensures { IsListing bytes result }
-    { listing(alloc, &bytes) };
-    each_answer(rt, alloc, texts, answer)
+    let answer = |bytes: &Bytes| -> Result<Vec<u8>, Fail<Refusal>>
+        requires { length bytes.now ≤ most_read }
+        ensures { IsListing bytes.now result }
+    { listing(alloc, bytes) };
+    each_answer(rt, alloc, texts, &answer)
 }
 
 /// The lines of the class files, in order: one text for each.
@@ -125,7 +125,7 @@ fn listings<'a, R: Threads + Sync>(
     requires short { All (λ t. length t ≤ most_read) texts.items }
     ensures { AnswersWith (ListAnswers (words_of paths.entry.now) texts.items) result }
 {
-    let answers = all_listings(rt, alloc, texts)?;
+    let answers = all_listings(rt, alloc, &texts)?;
     let mut writes = Vec::new(alloc);
     'listing: for (index, answer) in answers.into_iter().enumerate() {
         match answer {

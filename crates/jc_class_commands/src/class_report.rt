@@ -178,18 +178,18 @@ fn look_at_each<'a, R: Threads + Sync>(
     rt: &R,
     alloc: Global,
     exec_data: Option<&Data<'a>>,
-    texts: Vec<Bytes>,
+    texts: &[Bytes],
 ) -> Result<Vec<Result<Seen, Stop<'a>>>, Memory>
-    requires { All (λ t. length t ≤ most_read) texts.items }
+    requires { All (λ t. length t ≤ most_read) texts.now }
     ensures each { IfOk result (λ answers.
-        AllZip (IsLooked (data_records exec_data.entry) (data_path exec_data.entry)) texts.items answers.items) }
-    ensures len { IfOk result (λ answers. length answers.items ≡ length texts.items) }
+        AllZip (IsLooked (data_records exec_data.entry) (data_path exec_data.entry)) texts.now answers.items) }
+    ensures len { IfOk result (λ answers. length answers.items ≡ length texts.now) }
 {
-    let answer = |bytes: Bytes| -> Result<Seen, Stop<'_>>
-        requires { length bytes ≤ most_read }
-        ensures { IsLooked (data_records exec_data.entry) (data_path exec_data.entry) bytes result }
-    { look(alloc, exec_data, &bytes) };
-    each_answer(rt, alloc, texts, answer)
+    let answer = |bytes: &Bytes| -> Result<Seen, Stop<'_>>
+        requires { length bytes.now ≤ most_read }
+        ensures { IsLooked (data_records exec_data.entry) (data_path exec_data.entry) bytes.now result }
+    { look(alloc, exec_data, bytes) };
+    each_answer(rt, alloc, texts, &answer)
 }
 
 /// Keeps the line of a class file that is refused.
@@ -247,7 +247,7 @@ pub fn look_at_all<'a, R: Threads + Sync>(
     ensures all { IfOk result (LooksAtAll (data_records exec_data.entry) (texts_of paths.now) texts.items) }
     ensures clash { IfErr result (StopsAtClash (data_path exec_data.entry) (FrontClashes (data_records exec_data.entry) texts.items)) }
 {
-    let answers = look_at_each(rt, alloc, exec_data, texts)?;
+    let answers = look_at_each(rt, alloc, exec_data, &texts)?;
     let mut looked = Looked {
         lines: Vec::new(alloc),
         classes: Vec::new(alloc),

@@ -8,12 +8,12 @@ ghost use Rattle.jc_work.specs.Handed.{BetweenFiles};
 ghost use Rattle.jc_work.specs.Seen.{write_seen, Puts};
 ghost use Rattle.jc_work.specs.Seen.{words_of};
 
+use crate::each::{all_made, each_answer};
 use crate::inputs::read_files;
 use crate::lines::{accepted_line, refused_line};
 use jc_base::{Bytes, Fail, Files, Memory, Refusal};
 use jc_instrument::{Instrumented, instrument};
 use jc_work::{Stop, Write};
-use rayon::prelude::*;
 use std::alloc::Global;
 use std::marker::Sync;
 use std::thread::Threads;
@@ -53,11 +53,8 @@ pub fn decide_all<R: Threads + Sync>(
         requires { length bytes.now ≤ most_read }
         ensures { IfOk result (λ d. IsDecision bytes.now (decision_seen d)) }
     { decide(alloc, bytes) };
-    texts
-        .par_iter()
-        .with_min_len(1)
-        .map(answer)
-        .collect::<Result<Vec<_>, Memory>>(rt, alloc)?
+    let answers = each_answer(rt, alloc, texts, &answer)?;
+    all_made(alloc, answers)
 }
 
 /// The line of a class file: how many probes it has, that it stays as it is, or why it is refused.
