@@ -1,5 +1,5 @@
 -- Entries that are put behind the others.
-use Rattle.std.proofs.Common.{◌≡◌, inl, inr, ℕ, ◌+◌, ◌<◌, ◌≤◌, List, [], ◌∷◌, ◌++◌, length, take, IfOk, IfSome, OnErr, Option, Some, None, Result, Ok, Err, refl, sym, ◌∙◌, ap, subst, arith, append_assoc}
+use Rattle.std.proofs.Common.{◌≡◌, inl, inr, ℕ, ◌+◌, ◌<◌, ◌≤◌, List, [], ◌∷◌, ◌++◌, length, take, IfOk, IsTrue, OnErr, Option, Some, None, Result, Ok, Err, refl, sym, ◌∙◌, ap, subst, arith, append_assoc}
 use Rattle.std.proofs.Math.Seq.{take-append_seam}
 use Rattle.std.proofs.lemmas.List.{append-nil}
 use Rattle.std.proofs.lemmas.Option.{none-some}
@@ -18,9 +18,9 @@ use Rattle.jc_pool.specs.declared.index.Naming.TheVariants as naming
 use Rattle.jc_pool.specs.Pool.{PoolValue, width, slots_of, IsSmall, IsPool}
 use Rattle.jc_pool.specs.Lookup.{utf8_in, utf8_of, Signature, signature_of, Member, signature, member_of}
 use Rattle.jc_pool.specs.Adding.{IsNowhere, IsPut, IsPutAs, Adds, HasUtf8, PutsNaming, HasClass, PutsSignature, HasSignature, PutsMember, HasMember, entry_of_member, RefusesFull, Extends}
-use Rattle.jc_pool.specs.Index.{IsFirstBelow, Notes, NotesEntry, text_place, key_in, slot_key, key_place, entry_naming, naming_of, HasNaming, AreTables, AreMembersOf, IsIndexOf, NotesMember, NamesWithin, member_key_at, missing, CountsTo}
+use Rattle.jc_pool.specs.Index.{IsFirstBelow, Notes, NotesEntry, text_place, key_in, slot_key, key_place, entry_naming, naming_of, HasNaming, AreTables, AreMembersOf, IsIndexOf, NamesWithin, member_key_at, missing, CountsTo}
 use Rattle.jc_pool.proofs.FirstPlaceLaws.{is_nowhere}
-use Rattle.jc_pool.proofs.MemberTableLaws.{text_members, some_members_put}
+use Rattle.jc_pool.proofs.MemberTableLaws.{text_members, members_put}
 use Rattle.jc_pool.proofs.OneMoreEntryLaws.{grown_length, by_slots, utf8_past, texts_stay, texts_grow, text_standins, keys_grow, put_pool}
 
 -- ---- the index
@@ -29,7 +29,8 @@ use Rattle.jc_pool.proofs.OneMoreEntryLaws.{grown_length, by_slots, utf8_past, t
 pub record IsSameButTexts (old new : Index) : Type 0 where
   pub firsts : new.firsts.items ≡ old.firsts.items
   pub keys : new.keys.entries ≡ old.keys.entries
-  pub members : new.members ≡ old.members
+  pub members : new.members.keys.entries ≡ old.members.keys.entries
+  pub within : new.members.within ≡ old.members.within
 
 -- a text is put, and its place noted
 pub text_tables : (pool new : PoolValue) (old more : List ℕ → Option ℕ) (firsts : List ℕ) (keys : Key → Option ℕ) (text : List ℕ) (place first : ℕ) → IsPut pool new (entry.Utf8 text) place
@@ -47,10 +48,10 @@ text_indexed pool new old index text place first same put notes none is = record
       subst (λ (l : List ℕ). AreTables new (text_place index.texts.entries (λ x. x.items)) l (key_place index.keys.entries)) (sym same.firsts)
       (subst (λ l. AreTables new (text_place index.texts.entries (λ x. x.items)) old.firsts.items (key_place l)) (sym same.keys)
       (text_tables pool new (text_place old.texts.entries (λ x. x.items)) (text_place index.texts.entries (λ x. x.items)) old.firsts.items (key_place old.keys.entries) text place first put notes none is.tables));
-  members =
-      subst (λ (l : List ℕ). IfSome index.members (λ m. AreMembersOf new l (key_place m.entries))) (sym same.firsts)
-      (subst (λ o. IfSome o (λ m. AreMembersOf new old.firsts.items (key_place m.entries))) (sym same.members)
-      (text_members (λ m. m.entries) old.firsts.items pool new old.members text place put is.members));
+  members = λ within.
+      subst (λ (l : List ℕ). AreMembersOf new l (key_place index.members.keys.entries)) (sym same.firsts)
+      (subst (λ l. AreMembersOf new old.firsts.items (key_place l)) (sym same.members)
+      (text_members old.firsts.items pool new (key_place old.members.keys.entries) text place put (is.members (subst IsTrue same.within within))));
 }
 
 -- one place more, off which no text is read, and whose key is noted
@@ -72,15 +73,17 @@ entry_tables pool new texts firsts old more e place none put notes is =
 
 pub entry_indexed : (pool new : PoolValue) (old index : Index) (e : Entry) (place : ℕ) → index.firsts.items ≡ old.firsts.items → index.texts.entries ≡ old.texts.entries → utf8_in e ≡ None
     → NamesWithin (length pool) (Some e) → IsPut pool new e place → NotesEntry (key_place old.keys.entries) (key_place index.keys.entries) (key_in old.firsts.items e) place
-    → NotesMember (λ m. m.entries) old.members index.members (member_key_at old.firsts.items new place) place → IsIndexOf pool old → IsIndexOf new index
-entry_indexed pool new old index e place firsts texts none within put notes member_notes is = record {
+    → NotesEntry (key_place old.members.keys.entries) (key_place index.members.keys.entries) (member_key_at old.firsts.items new place) place
+    → index.members.within ≡ old.members.within → IsIndexOf pool old → IsIndexOf new index
+entry_indexed pool new old index e place firsts texts none within put notes member_notes same is = record {
   tables =
       subst (λ (l : List ℕ). AreTables new (text_place index.texts.entries (λ x. x.items)) l (key_place index.keys.entries)) (sym firsts)
       (subst (λ l. AreTables new (text_place l (λ x. x.items)) old.firsts.items (key_place index.keys.entries)) (sym texts)
       (entry_tables pool new (text_place old.texts.entries (λ x. x.items)) old.firsts.items (key_place old.keys.entries) (key_place index.keys.entries) e place none put notes is.tables));
-  members =
-      subst (λ (l : List ℕ). IfSome index.members (λ m. AreMembersOf new l (key_place m.entries))) (sym firsts)
-      (some_members_put (λ m. m.entries) old.firsts.items pool new old.members index.members e place within put member_notes is.members);
+  members = λ looked_at.
+      subst (λ (l : List ℕ). AreMembersOf new l (key_place index.members.keys.entries)) (sym firsts)
+      (members_put old.firsts.items pool new e place put within (key_place old.members.keys.entries) (key_place index.members.keys.entries)
+      (is.members (subst IsTrue same looked_at)) member_notes);
 }
 
 -- ---- texts

@@ -11,7 +11,7 @@ use Rattle.jc_pool.specs.declared.members.NamedPlaces.{NamedPlaces}
 use Rattle.jc_pool.specs.Pool.{PoolValue, is_wide, width, slots_of}
 use Rattle.jc_pool.specs.Lookup.{entry_of}
 use Rattle.jc_pool.specs.Adding.{IsPut}
-use Rattle.jc_pool.specs.Index.{IsFirstBelow, AreFirsts, NotesEntry, NotesMember, key_in, key_at, key_place, slot_places, NamesWithin, member_key, places_key, member_key_at, AreMembersOf}
+use Rattle.jc_pool.specs.Index.{IsFirstBelow, AreFirsts, NotesEntry, key_in, key_at, slot_places, NamesWithin, member_key, places_key, member_key_at, AreMembersOf}
 use Rattle.jc_pool.proofs.FirstPlaceLaws.{same_below}
 use Rattle.jc_pool.proofs.IndexLaws.{none_yet, more_keys}
 use Rattle.jc_pool.proofs.OneMoreEntryLaws.{entry_stays, entry_past, one_more, by_slots, entry_put, grown_length, stays}
@@ -107,25 +107,15 @@ module _ (firsts : List ℕ) (old new : PoolValue) (e : Entry) (place : ℕ) (pu
           (same_below (member_key_at firsts old) (member_key_at firsts new) (length old) table same_key_before members.first));
     }
 
--- the same, where there is a table
-module _ {M : Type 0} (entries_of : M → List (Key × ℕ)) (firsts : List ℕ) (old new : PoolValue) where
-  pub some_members_put : (was is : Option M) (e : Entry) (place : ℕ) → NamesWithin (length old) (Some e) → IsPut old new e place → NotesMember entries_of was is (member_key_at firsts new place) place
-      → IfSome was (λ m. AreMembersOf old firsts (key_place (entries_of m))) → IfSome is (λ m. AreMembersOf new firsts (key_place (entries_of m)))
-  some_members_put (Some m) (Some n) e place within put notes are = members_put firsts old new e place put within (key_place (entries_of m)) (key_place (entries_of n)) are notes
-  some_members_put None None e place within put notes are = tt
-  some_members_put (Some m) None e place within put notes are = absurd notes
-  some_members_put None (Some n) e place within put notes are = absurd notes
-
-  -- a text is no member
-  pub text_members : (members : Option M) (text : List ℕ) (place : ℕ) → IsPut old new (entry.Utf8 text) place
-      → IfSome members (λ m. AreMembersOf old firsts (key_place (entries_of m))) → IfSome members (λ m. AreMembersOf new firsts (key_place (entries_of m)))
-  text_members None text place put are = tt
-  text_members (Some m) text place put are =
-      members_put firsts old new (entry.Utf8 text) place put tt (key_place (entries_of m)) (key_place (entries_of m)) are
-      (subst (λ (k : Option Key). NotesEntry (key_place (entries_of m)) (key_place (entries_of m)) k place) (sym keyless) (λ k. refl))
-    where
-      keyless : member_key_at firsts new place ≡ None
-      keyless = ap (λ (slot : Option Entry). slot_places slot >>= places_key firsts new) (stands firsts old new (entry.Utf8 text) place put)
+-- a text is no member
+pub text_members : (firsts : List ℕ) (old new : PoolValue) (table : Key → Option ℕ) (text : List ℕ) (place : ℕ) → IsPut old new (entry.Utf8 text) place
+    → AreMembersOf old firsts table → AreMembersOf new firsts table
+text_members firsts old new table text place put are =
+    members_put firsts old new (entry.Utf8 text) place put tt table table are
+    (subst (λ (k : Option Key). NotesEntry table table k place) (sym keyless) (λ k. refl))
+  where
+    keyless : member_key_at firsts new place ≡ None
+    keyless = ap (λ (slot : Option Entry). slot_places slot >>= places_key firsts new) (stands firsts old new (entry.Utf8 text) place put)
 
 -- ---- a table that is made place by place
 

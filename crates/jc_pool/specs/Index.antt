@@ -1,6 +1,6 @@
 -- What an index says of a pool: where equal entries stand first.
 use Rattle.std.specs.Prelude.{◌≡◌, ◌≢◌, ◌⊎◌, ℕ, ◌+◌, ◌<◌, Bool, if◌then◌else◌, List, length, slice_index_or}
-use Rattle.std.specs.Prelude.{IfSome, Option, Some, None, Result, Err, is_some}
+use Rattle.std.specs.Prelude.{IfSome, IsTrue, Option, Some, None, Result, Err, is_some}
 use Rattle.std.specs.Map.{lookup}
 use Rattle.std.specs.Str.{bytes_eq}
 use Rattle.indexmap.specs.IndexMap.{spare}
@@ -158,20 +158,14 @@ pub record AreTables (pool : PoolValue) (text_places : List ℕ → Option ℕ) 
   pub standins : AreStandins (utf8_of pool) (length pool) firsts
   pub keys : AreFirsts (length pool) (key_at firsts pool) key_places
 
--- the tables of an index are those of the pool, and so is that of its members, where there is one
+-- the tables of an index are those of the pool, and so is that of its members, if it is looked at
 pub record IsIndexOf (pool : PoolValue) (index : Index) : Type 0 where
   pub tables : AreTables pool (text_place index.texts.entries (λ x. x.items)) index.firsts.items (key_place index.keys.entries)
-  pub members : IfSome index.members (λ members. AreMembersOf pool index.firsts.items (key_place members.entries))
+  pub members : IsTrue index.members.within → AreMembersOf pool index.firsts.items (key_place index.members.keys.entries)
 
 -- one more entry can be noted
 abbrev pub HasSpare : Index → Type 0
-HasSpare index = (0 < spare index.keys) × IfSome index.members (λ members. 0 < spare members)
-
--- the place of a member is noted, where there is a table
-abbrev pub NotesMember : {M : Type 0} → (M → List (Key × ℕ)) → Option M → Option M → Option Key → ℕ → Type 0
-NotesMember entries_of (Some old) (Some new) k place = NotesEntry (key_place (entries_of old)) (key_place (entries_of new)) k place
-NotesMember entries_of None None k place = Unit {0}
-NotesMember entries_of _ _ k place = ⊥
+HasSpare index = (0 < spare index.keys) × (0 < spare index.members.keys)
 
 -- ---- what a member lacks
 

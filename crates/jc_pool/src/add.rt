@@ -122,7 +122,7 @@ pub fn put_entry(slots: &mut Vec<Option<Entry>>, index: &mut Index, entry: Entry
     let place = slots.len() as u16;
     note_entry(&mut index.keys, &index.firsts, &entry, place);
     put_reserved(slots, entry);
-    note_behind(&mut index.members, slots, &index.firsts, place);
+    note_behind(&mut index.members.keys, slots, &index.firsts, place);
     place
 }
 

@@ -8,7 +8,7 @@ ghost use Rattle.jc_pool.specs.Index.{entry_naming, key_naming, naming_place, si
 ghost use Rattle.jc_pool.specs.Lookup.{utf8_of};
 
 use crate::entry::Entry;
-use crate::members::members_of;
+use crate::members::{Members, members_of};
 use indexmap::IndexMap;
 use jc_bytes::Memory;
 use std::alloc::Global;
@@ -90,9 +90,8 @@ pub struct Index {
     pub texts: Texts,
     /// The first place of each key but those of members.
     pub keys: Keys,
-    /// The first place of each member by its key; nothing where a member named a place behind the end
-    /// of the pool when the index was made, since what comes to stand there would change its key.
-    pub members: Option<Keys>,
+    /// The first places of members.
+    pub members: Members,
 }
 
 /// The place in the table, and behind its end the place itself.
@@ -251,9 +250,7 @@ impl Index {
         ensures kept { (pool : PoolValue) → IsIndexOf pool self.old → IsIndexOf pool self.new }
     {
         self.keys.reserve(1)?;
-        if let Some(members) = &mut self.members {
-            members.reserve(1)?;
-        }
+        self.members.keys.reserve(1)?;
         Ok(())
     }
 }

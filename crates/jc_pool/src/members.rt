@@ -2,7 +2,7 @@
 ghost use Rattle.std.specs.Prelude.{◌≡◌, ◌↔◌, ◌<◌, ◌≤◌, Some, IfOk, IfSome, IfNone, IsTrue, length, option_copied};
 ghost use Rattle.indexmap.specs.IndexMap.{spare};
 ghost use Rattle.jc_pool.specs.Adding.{IsFirst, IsNowhere, IsMemberTag};
-ghost use Rattle.jc_pool.specs.Index.{NotesEntry, NotesMember, key_at, key_place, texts_key, AreMembersOf, IsIndexOf};
+ghost use Rattle.jc_pool.specs.Index.{NotesEntry, key_at, key_place, texts_key, AreMembersOf, IsIndexOf};
 ghost use Rattle.jc_pool.specs.Index.{named_places, slot_places, NamesWithin, member_key, places_key, member_key_at};
 ghost use Rattle.jc_pool.specs.Lookup.{entry_of, member, member_of};
 
@@ -12,6 +12,16 @@ use crate::lookup::MemberText;
 use indexmap::IndexMap;
 use jc_bytes::Memory;
 use std::alloc::Global;
+
+/// Where members stand first.
+#[derive(Debug, Drop)]
+pub struct Members {
+    /// The first place of each member by its key.
+    pub keys: Keys,
+    /// Whether each member named places of the pool alone when the index was made. Else what comes to
+    /// stand at such a place changes a key, and the table isn't looked at.
+    pub within: bool,
+}
 
 /// What a field or a method names (JVM Specification 4.4.2).
 #[derive(Clone, Copy)]
@@ -121,15 +131,13 @@ fn note_reserved(
     }
 }
 
-/// Notes the place of the entry that was put last, where there is a table and it is a member.
-pub fn note_behind(members: &mut Option<Keys>, slots: &[Option<Entry>], firsts: &[u16], place: u16)
-    requires { IfSome members.old (λ m. 0 < spare m) }
-    ensures { NotesMember (λ m. m.entries) members.old members.new (member_key_at firsts.now slots.now place) place }
+/// Notes the place of the entry that was put last, where it is a member.
+pub fn note_behind(members: &mut Keys, slots: &[Option<Entry>], firsts: &[u16], place: u16)
+    requires { 0 < spare members.old }
+    ensures { NotesEntry (key_place members.old.entries) (key_place members.new.entries) (member_key_at firsts.now slots.now place) place }
 {
-    if let Some(members) = members {
-        if let Some(named) = places_at(slots, place) {
-            note_reserved(members, slots, firsts, named, place);
-        }
+    if let Some(named) = places_at(slots, place) {
+        note_reserved(members, slots, firsts, named, place);
     }
 }
 
@@ -174,21 +182,20 @@ fn note_slot(
 }
 
 /// The first places of all members, unless one of them names a place behind the end.
-pub fn members_of(
-    alloc: Global,
-    slots: &[Option<Entry>],
-    firsts: &[u16],
-) -> Result<Option<Keys>, Memory>
+pub fn members_of(alloc: Global, slots: &[Option<Entry>], firsts: &[u16]) -> Result<Members, Memory>
     requires { length slots.now ≤ 65535 }
-    ensures { IfOk result (λ members. IfSome members (λ keys. AreMembersOf slots.now firsts.now (key_place keys.entries))) }
+    ensures { IfOk result (λ members. IsTrue members.within → AreMembersOf slots.now firsts.now (key_place members.keys.entries)) }
 {
-    let mut members = IndexMap::new(alloc);
+    let mut keys = IndexMap::new(alloc);
     'reading: for place in 0..slots.len() as u16 {
-        if !note_slot(&mut members, slots, firsts, place)? {
-            return Ok(None);
+        if !note_slot(&mut keys, slots, firsts, place)? {
+            return Ok(Members {
+                keys,
+                within: false,
+            });
         }
     }
-    Ok(Some(members))
+    Ok(Members { keys, within: true })
 }
 
 /// The key of a member with this tag, by the first places of its texts.
@@ -234,14 +241,14 @@ fn place_of_key(slots: &[Option<Entry>], index: &Index, key: Key) -> Option<u16>
     ensures first { IfSome result (IsFirst (member_key_at index.now.firsts.items slots.now) key) }
     ensures none { IfNone result (IsNowhere (member_key_at index.now.firsts.items slots.now) key) }
 {
-    match &index.members {
-        Some(members) => members.get(&key).copied(),
-        None => look_for_key(slots, &index.firsts, key),
+    if index.members.within {
+        return index.members.keys.get(&key).copied();
     }
+    look_for_key(slots, &index.firsts, key)
 }
 
 /// The first place of a member, exactly where it stands in the pool. It is found by hash, or where
-/// the index has no table of members, by looking at each place once.
+/// the table of members isn't looked at, by looking at each place once.
 pub fn find_member(slots: &[Option<Entry>], index: &Index, m: &MemberText<'_>) -> Option<u16>
     requires few { length slots.now ≤ 65535 }
     requires tag { IsMemberTag m.now.tag }

@@ -1,4 +1,4 @@
-use Rattle.std.proofs.Common.{ℕ, subst}
+use Rattle.std.proofs.Common.{inr, ℕ, subst}
 use Rattle.std.proofs.lemmas.Result.{err_from_is_err_and}
 use Rattle.jc_pool.specs.declared.entry.Entry.{Entry}
 use Rattle.jc_pool.specs.Adding.{IsPut, HasUtf8}
@@ -16,3 +16,9 @@ returns-clause-pool c =
     let has : HasUtf8 c.args.slots.now.items c.args.text.now c.put_name.new.slots.items c.in_ok-at.at = rw c.in_ok-take_room.ensures.kept at c.in_ok-at.ensures.has in
     let put = subst (λ (e : Entry). IsPut c.put_name.new.slots.items c.put_entry.new.slots.items e c.put_entry.result) c.entry.ensures c.put_entry.ensures.put in
     naming_pool c.args.kind c.args.slots.now.items c.put_name.new.slots.items c.put_entry.new.slots.items c.args.text.now c.in_ok-at.at c.put_entry.result c.requires.short c.in_ok-at.ensures.few has put c.requires.pool
+
+pub returns-clause-ok : goal.returns-clause-ok
+returns-clause-ok c =
+    let has : HasUtf8 c.args.slots.now.items c.args.text.now c.put_name.new.slots.items c.in_ok-at.at = rw c.in_ok-take_room.ensures.kept at c.in_ok-at.ensures.has in
+    let put = subst (λ (e : Entry). IsPut c.put_name.new.slots.items c.put_entry.new.slots.items e c.put_entry.result) c.entry.ensures c.put_entry.ensures.put in
+    inr (c.requires.new, (c.put_name.new.slots.items, c.in_ok-at.at, has, put))

@@ -1,4 +1,4 @@
-use Rattle.std.proofs.Common.{subst}
+use Rattle.std.proofs.Common.{IfOk, subst}
 use Rattle.jc_pool.specs.declared.entry.Entry.TheVariants as entry
 use Rattle.jc_pool.specs.Pool.{PoolValue}
 use Rattle.jc_pool.specs.Adding.{PutsNaming, HasClass, RefusesFull}
@@ -14,3 +14,8 @@ returns-clause-extends c =
 
 pub returns-clause-full : goal.returns-clause-full
 returns-clause-full c = subst (λ (l : PoolValue). RefusesFull (HasClass l c.args.name.now) c.add_naming-added.result) c.self.view_is c.add_naming-added.ensures.full
+
+pub returns-clause-ok : goal.returns-clause-ok
+returns-clause-ok c =
+    subst (λ (l : PoolValue). IfOk c.add_naming-added.result (HasClass l c.args.name.now c.add_naming-added.new.slots.items)) c.self.view_is
+    c.add_naming-added.ensures.ok
