@@ -2,6 +2,7 @@ pub mod RemainderLaws
 pub mod NamingLaws
 pub mod PartLaws
 pub mod ClassLaws
+pub mod ParsedLaws
 pub mod WritingLaws
 pub mod NamedLaws
 pub mod OneClassLaws

@@ -11,8 +11,8 @@ use Rattle.jc_pool.specs.declared.entry.Entry.TheVariants as entry
 use Rattle.jc_pool.specs.declared.index.Naming.TheVariants as naming
 use Rattle.jc_pool.specs.Pool.{PoolValue}
 use Rattle.jc_pool.specs.Lookup.{entry_of, class_name_of, Signature, signature_of, Member, signature, ref_of, dynamic_of, member_in, member_of}
-use Rattle.jc_pool.specs.Adding.{HasUtf8, PutsSignature, HasSignature, PutsMember, HasMember, IsMemberTag, entry_of_member, Extends}
-use Rattle.jc_pool.specs.Index.{NamesWithin, HasNaming}
+use Rattle.jc_pool.specs.Adding.{HasUtf8, HasClass, PutsSignature, HasSignature, PutsMember, HasMember, IsMemberTag, entry_of_member, Extends}
+use Rattle.jc_pool.specs.Index.{NamesWithin}
 use Rattle.jc_pool.proofs.FirstPlaceMapLaws.{and_decided}
 use Rattle.jc_pool.proofs.OneMoreEntryLaws.{past}
 use Rattle.jc_pool.proofs.KeyPlaceLaws.{has_signature, is_signed, signature_past}
@@ -131,7 +131,7 @@ member_within tag class sig end one other = elim (cases_Bool (tag == 9)) [
 signature_within : (pool : PoolValue) (place : ℕ) (s : Signature) → signature_of pool place ≡ Some s → place < length pool
 signature_within pool place s there = elim (cases_lt place (length pool)) [ inl less ↦ less | inr behind ↦ absurd (none-some s (sym (signature_past pool place behind) ∙ there)) ]
 
-pub put_within : (old classed signed : PoolValue) (m : Member) (class sig : ℕ) (e : Entry) → e ≡ entry_of_member m.tag class sig → HasNaming naming.Class old m.class classed class
+pub put_within : (old classed signed : PoolValue) (m : Member) (class sig : ℕ) (e : Entry) → e ≡ entry_of_member m.tag class sig → HasClass old m.class classed class
     → HasSignature classed (signature m) signed sig → NamesWithin (length signed) (Some e)
 put_within old classed signed m class sig e is has_class has_sig =
     subst (λ (f : Entry). NamesWithin (length signed) (Some f)) (sym is)
