@@ -1,23 +1,18 @@
 -- The kind check of the bodies of a class, one after the other.
-use Rattle.std.proofs.Common.{◌≡◌, ◌⊎◌, inl, inr, ℕ, ◌+◌, ◌<◌, ◌≤◌, List, [], ◌∷◌, ◌++◌, length, take, get_or, Option, Some, None, slice_get, refl, sym, ◌∙◌, ap, subst, arith, append_assoc, length-append}
+use Rattle.std.proofs.Common.{◌≡◌, ◌⊎◌, inl, inr, ℕ, ◌+◌, ◌<◌, List, ◌++◌, length, get_or, Option, Some, None, slice_get, refl, sym, ◌∙◌, ap, subst, arith, append_assoc}
 use Rattle.std.specs.Prelude.{All}
 use Rattle.std.specs.Option.{MatchOption}
-use Rattle.std.proofs.lemmas.List.{take_all}
-use Rattle.std.proofs.lemmas.Option.{slice_get-get_or, slice_get_within, get_or_from_slice_get}
+use Rattle.std.proofs.lemmas.Option.{slice_get-get_or}
 use Rattle.jc_methods.specs.VerificationTypes.{Names, AreNumberedFrames, Grows}
 use Rattle.jc_methods.specs.declared.body.Body.{Body}
-use Rattle.jc_methods.specs.declared.kind.State.{State}
 use Rattle.jc_bytes.specs.declared.refusal.Refusal.{Refusal}
 use Rattle.jc_bytes.specs.declared.refusal.RefusalKind.TheVariants as kinds
 use Rattle.jc_methods.proofs.NumberedLaws.{grown_count, frames_numbered}
 use Rattle.jc_bytes.proofs.ListLaws.{below_or_last}
 use Rattle.jc_kinds.specs.Checked.{Checked, FirstMissing, FirstClash}
 use Rattle.jc_kinds.proofs.CheckLaws.{checked_not_missing, checked_not_clash}
-use Rattle.jc_instrument.specs.KeptStates.{AreKeptStates, PutsStates, StandForBodies, places_kept}
 use Rattle.jc_instrument.specs.Steps.{InBodies, IsFrameRefusal, KeepsClash}
-use Rattle.jc_instrument.specs.declared.checks.Checking.{Checking}
 use Rattle.jc_instrument.proofs.FrameCauseLaws.{each_at}
-use Rattle.jc_instrument.proofs.KeptStatesLaws.{room_on, stand_on}
 use Rattle.jc_verify.proofs.SameBodyLaws.{AreSame, turned, grown_same, same_clash, same_check}
 
 same_item : {x y : Body} → Some x ≡ Some y → x ≡ y
@@ -33,15 +28,11 @@ abbrev pub Found : Names → List Body → ℕ → Option Refusal → Type 0
 Found names bodies n clash =
     MatchOption clash ((i : ℕ) (b : Body) → i < n → slice_get bodies i ≡ Some b → Checked names b) (InBodies kinds.FrameClash (FirstClash names) bodies)
 
--- No frame is missing in the first n bodies. They pass the kind check, or this refusal of the first clash is kept. Each
--- has an entry for its states, which take their part of the room.
-pub record IsChecking (first names : Names) (room : ℕ) (bodies : List Body) (n : ℕ) (so_far : Checking) : Type 0 where
+-- No frame is missing in the first n bodies. They pass the kind check, or this refusal of the first clash is kept.
+pub record IsChecking (first names : Names) (bodies : List Body) (n : ℕ) (clash : Option Refusal) : Type 0 where
   pub grows : Grows first names
   pub none_missing : (i place : ℕ) (b : Body) → i < n → slice_get bodies i ≡ Some b → FirstMissing b place → ⊥
-  pub found : Found names bodies n so_far.clash
-  pub count : length so_far.kept ≡ n
-  pub states : StandForBodies names bodies so_far.kept
-  pub places : places_kept (take n bodies) so_far.kept + so_far.room ≡ room
+  pub found : Found names bodies n clash
 
 module _ (first names more : Names) (bodies : List Body) (numbered : All (λ b. AreNumberedFrames (length first) b.frames) bodies)
     (since : Grows first names) (grows : Grows names more) where
@@ -64,13 +55,7 @@ module _ (first names more : Names) (bodies : List Body) (numbered : All (λ b. 
         f.none_before before at other less stands (same_clash more names other other (turned names more other other (same_at before other stands)) at clash);
   }
 
-  module _ (room n : ℕ) (so_far next : Checking) (b : Body) (stands : slice_get bodies n ≡ Some b) (before : IsChecking first names room bodies n so_far) where
-    abbrev clash : Option Refusal
-    clash = so_far.clash
-
-    abbrev new : Option Refusal
-    new = next.clash
-
+  module _ (n : ℕ) (clash new : Option Refusal) (b : Body) (stands : slice_get bodies n ≡ Some b) (before : IsChecking first names bodies n clash) where
     none_in_this : KeepsClash more b clash new → (place : ℕ) → FirstMissing b place → ⊥
     none_in_this (inl checked) place f = checked_not_missing more b place checked.0 f
     none_in_this (inr found) place f = found.1.0 place f.there
@@ -78,15 +63,11 @@ module _ (first names more : Names) (bodies : List Body) (numbered : All (λ b. 
     here : (i : ℕ) (x : Body) → i ≡ n → slice_get bodies i ≡ Some x → b ≡ x
     here i x last at = same_item (sym stands ∙ ap (slice_get bodies) (sym last) ∙ at)
 
-    pub checks_on : KeepsClash more b clash new → PutsStates more b so_far next → IsChecking first more room bodies (n + 1) next
-    checks_on keeps puts = record {
+    pub checks_on : KeepsClash more b clash new → IsChecking first more bodies (n + 1) new
+    checks_on keeps = record {
       grows = grown_on first names more since grows;
       none_missing = λ i place x less at f. none i place x at f (below_or_last n i less);
       found = found clash before.found keeps;
-      count = ap (λ (l : List (Option (List State))). length l) puts.put ∙ length-append so_far.kept (puts.states ∷ []) ∙ ap (λ (k : ℕ). k + 1) before.count;
-      states = stand_on names more bodies n b so_far next grows numbered_at (λ x at. same_item (sym stands ∙ at)) before.count before.states puts;
-      places = room_on bodies n b more so_far next room (slice_get_within bodies n b stands) (sym (get_or_from_slice_get bodies n b b stands)) before.count
-          before.places puts;
     }
       where
         none : (i place : ℕ) (x : Body) → slice_get bodies i ≡ Some x → FirstMissing x place → (i < n) ⊎ (i ≡ n) → ⊥
@@ -113,30 +94,19 @@ module _ (first names more : Names) (bodies : List Body) (numbered : All (λ b. 
 
 -- ---- the end
 
-pub clash_ends : (first names : Names) (room : ℕ) (bodies : List Body) (n : ℕ) (so_far : Checking) (r : Refusal) → so_far.clash ≡ Some r
-    → ((i : ℕ) (b : Body) → slice_get bodies i ≡ Some b → i < n) → IsChecking first names room bodies n so_far → IsFrameRefusal names bodies r
-clash_ends first names room bodies n so_far r is whole all = inr (
+pub clash_ends : (first names : Names) (bodies : List Body) (n : ℕ) (clash : Option Refusal) (r : Refusal) → clash ≡ Some r
+    → ((i : ℕ) (b : Body) → slice_get bodies i ≡ Some b → i < n) → IsChecking first names bodies n clash → IsFrameRefusal names bodies r
+clash_ends first names bodies n clash r is whole all = inr (
   λ i place b stands f. all.none_missing i place b (whole i b stands) stands f,
   subst (Found names bodies n) is all.found,
 )
 
-pub all_checked : (first names : Names) (room : ℕ) (bodies : List Body) (n : ℕ) (so_far : Checking) → so_far.clash ≡ None → n ≡ length bodies
-    → IsChecking first names room bodies n so_far → All (Checked names) bodies
-all_checked first names room bodies n so_far is whole all = λ k d less.
+pub all_checked : (first names : Names) (bodies : List Body) (n : ℕ) (clash : Option Refusal) → clash ≡ None → n ≡ length bodies
+    → IsChecking first names bodies n clash → All (Checked names) bodies
+all_checked first names bodies n clash is whole all = λ k d less.
     each k (get_or bodies k d) (slice_get-get_or bodies k d less) (let l : k < n = omega (arith, less, whole) in l)
   where
     each : (i : ℕ) (b : Body) → slice_get bodies i ≡ Some b → i < n → Checked names b
     each i b stands less =
         subst (Found names bodies n) is all.found
         i b less stands
-
-pub all_kept : (first names : Names) (room : ℕ) (bodies : List Body) (n : ℕ) (so_far : Checking) → n ≡ length bodies
-    → IsChecking first names room bodies n so_far → AreKeptStates names bodies so_far.kept
-all_kept first names room bodies n so_far whole all = record { count = all.count ∙ whole; each = all.states }
-
-pub few_kept : (first names : Names) (room : ℕ) (bodies : List Body) (n : ℕ) (so_far : Checking) → n ≡ length bodies
-    → IsChecking first names room bodies n so_far → places_kept bodies so_far.kept ≤ room
-few_kept first names room bodies n so_far whole all =
-    let places = all.places in
-    let same = ap (λ (l : List Body). places_kept l so_far.kept) (take_all n bodies (omega (arith, whole))) in
-    omega (arith, places, same)

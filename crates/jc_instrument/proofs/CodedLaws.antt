@@ -1,5 +1,5 @@
 -- The methods whose instrumented code is made have one Code attribute each.
-use Rattle.std.proofs.Common.{◌≡◌, ℕ, suc, ◌<◌, List, [], ◌∷◌, Some, slice_get, refl, ◌∙◌, arith}
+use Rattle.std.proofs.Common.{◌≡◌, ℕ, suc, ◌<◌, List, [], ◌∷◌, Some, slice_get, refl, sym, ◌∙◌, subst, arith}
 use Rattle.std.specs.List.{AllByRecursion}
 use Rattle.jc_methods.specs.VerificationTypes.{Names}
 use Rattle.jc_methods.specs.declared.body.Body.{Body}
@@ -11,10 +11,12 @@ use Rattle.jc_class.specs.Writable.{IsClassFile}
 use Rattle.jc_class.specs.declared.class_file.Attribute.{Attribute}
 use Rattle.jc_class.specs.declared.class_file.ClassFile.{ClassFile}
 use Rattle.jc_body.specs.BodyOf.{BodyOf}
+use Rattle.jc_plan.specs.Probed.{first_id}
 use Rattle.jc_instrument.specs.Bodies.{AreBodies}
 use Rattle.jc_instrument.specs.Members.{AreCoded, AreNamedIn, IsCoded}
-use Rattle.jc_instrument.specs.Ready.{bodies_in}
-use Rattle.jc_instrument.specs.declared.ready.ReadyBody.{ReadyBody}
+use Rattle.jc_instrument.specs.Ready.{ArePlanned, method_of}
+use Rattle.jc_instrument.specs.declared.ready.PlannedBody.{PlannedBody}
+use Rattle.jc_instrument.proofs.PlannedLaws.{planned_method}
 use Rattle.jc_instrument.proofs.TwinMethodLaws.{IsOld, same_code}
 
 module _ (names : Names) (c : ClassFile) (new : PoolValue) (extends : Extends c.pool new) (is : IsClassFile c) where
@@ -39,21 +41,36 @@ module _ (names : Names) (c : ClassFile) (new : PoolValue) (extends : Extends c.
         named = all_named body.method.attributes old.attributes.each;
       }
 
-  all_later : (number : ℕ) (ready : List ReadyBody)
-      → ((j : ℕ) (b : Body) → slice_get (bodies_in ready) j ≡ Some b → number < b.method) → AllByRecursion (λ q. number < q.body.method) ready
+  all_later : (number : ℕ) (planned : List PlannedBody) → ((j : ℕ) (p : PlannedBody) → slice_get planned j ≡ Some p → number < method_of p)
+      → AllByRecursion (λ q. number < method_of q) planned
   all_later number [] later = tt
-  all_later number (r ∷ ready) later = (later 0 r.body refl, all_later number ready (λ j b at. later (suc j) b at))
+  all_later number (p ∷ planned) later = (later 0 p refl, all_later number planned (λ j q at. later (suc j) q at))
 
-  some_coded : (ready : List ReadyBody) → ((k : ℕ) (b : Body) → slice_get (bodies_in ready) k ≡ Some b → BodyOf names c b.method b)
-      → ((i j : ℕ) (a b : Body) → i < j → slice_get (bodies_in ready) i ≡ Some a → slice_get (bodies_in ready) j ≡ Some b → a.method < b.method)
-      → AreCoded new c.methods ready
+  some_coded : (planned : List PlannedBody) → ((k : ℕ) (p : PlannedBody) → slice_get planned k ≡ Some p → IsCoded new c.methods (method_of p))
+      → ((i j : ℕ) (p q : PlannedBody) → i < j → slice_get planned i ≡ Some p → slice_get planned j ≡ Some q → method_of p < method_of q)
+      → AreCoded new c.methods planned
   some_coded [] each rising = tt
-  some_coded (r ∷ ready) each rising = (
-    one_coded r.body (each 0 r.body refl),
-    all_later r.body.method ready (λ j b at. rising 0 (suc j) r.body b (omega arith) refl at),
-    some_coded ready (λ k b at. each (suc k) b at)
-        (λ i j a b less x y. rising (suc i) (suc j) a b (let more : suc i < suc j = omega (arith, less) in more) x y),
+  some_coded (p ∷ planned) each rising = (
+    each 0 p refl,
+    all_later (method_of p) planned (λ j q at. rising 0 (suc j) p q (omega arith) refl at),
+    some_coded planned (λ k q at. each (suc k) q at)
+        (λ i j q r less x y. rising (suc i) (suc j) q r (let more : suc i < suc j = omega (arith, less) in more) x y),
   )
 
-  pub are_coded : (ready : List ReadyBody) → AreBodies names c (bodies_in ready) → AreCoded new c.methods ready
-  are_coded ready bodies = some_coded ready bodies.each bodies.rising
+  module _ (bodies : List Body) (planned : List PlannedBody) (are : AreBodies names c bodies) (so : ArePlanned names bodies planned) where
+    number_is : (i : ℕ) (p : PlannedBody) (at : slice_get planned i ≡ Some p) → method_of p ≡ (so.each i p at).body.method
+    number_is i p at = let one = so.each i p at in planned_method names one.body (first_id bodies i) p one.is
+
+    pub are_coded : AreCoded new c.methods planned
+    are_coded =
+        some_coded planned
+        (λ i p at.
+        let one = so.each i p at in
+        subst (IsCoded new c.methods) (sym (number_is i p at)) (one_coded one.body (are.each i one.body one.stands)))
+        (λ i j p q less at there.
+        let one = so.each i p at in
+        let two = so.each j q there in
+        let rises = are.rising i j one.body two.body less one.stands two.stands in
+        let a = number_is i p at in
+        let b = number_is j q there in
+        omega (arith, rises, a, b))

@@ -31,7 +31,6 @@ pub mod TakingLaws
 pub mod ClassTakingLaws
 pub mod ProbingLaws
 pub mod TooLargeLaws
-pub mod LayingLaws
 pub mod ReadyClassLaws
 pub mod SomeStatesLaws
 pub mod SomeWorksLaws
@@ -61,3 +60,6 @@ pub mod FramedStatesLaws
 pub mod PassingLaws
 pub mod PassingFileLaws
 pub mod VerifiedLaws
+pub mod PlannedLaws
+pub mod LookingLaws
+pub mod LookedLaws

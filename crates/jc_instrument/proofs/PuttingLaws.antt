@@ -1,5 +1,5 @@
 -- Methods that get their instrumented code, one after the other, while the pool takes the classes that frames name.
-use Rattle.std.proofs.Common.{◌≡◌, ◌≢◌, ℕ, zero, suc, ◌+◌, ◌<◌, ◌≤◌, Bool, List, [], ◌∷◌, ◌++◌, length, map, drop, get_or, set, Some, None, slice_get, refl, sym, ◌∙◌, ap, subst, arith, add-one, if◌then◌else◌}
+use Rattle.std.proofs.Common.{◌≡◌, ◌≢◌, ℕ, zero, suc, ◌+◌, ◌<◌, ◌≤◌, Bool, List, [], ◌∷◌, ◌++◌, length, map, drop, get_or, set, Option, Some, None, slice_get, refl, sym, ◌∙◌, ap, subst, arith, add-one, if◌then◌else◌}
 use Rattle.std.proofs.Math.ListN.{drop_of_length-le}
 use Rattle.std.specs.List.{AllByRecursion, AllZip}
 use Rattle.std.proofs.lemmas.Bool.{eq-eqb, ne_eqb}
@@ -8,7 +8,6 @@ use Rattle.std.proofs.lemmas.List.Concat.{flat_map-cons}
 use Rattle.std.proofs.lemmas.Option.{get_or_from_slice_get, slice_get_read, slice_get_within}
 use Rattle.std.proofs.lemmas.Slice.Zip.{AllZip-long}
 use Rattle.jc_methods.specs.VerificationTypes.{Grows, Names, TypeStateAt}
-use Rattle.jc_methods.specs.declared.body.Body.{Body}
 use Rattle.jc_methods.proofs.MetNamesLaws.{grows_both, grows_none}
 use Rattle.jc_bytes.specs.declared.fail.Fail.{Fail}
 use Rattle.jc_bytes.proofs.AppendingLaws.{drop_is}
@@ -18,6 +17,7 @@ use Rattle.jc_pool.specs.Pool.{PoolValue}
 use Rattle.jc_pool.specs.declared.add.PoolFull.{PoolFull}
 use Rattle.jc_pool.proofs.AddingLaws.{extends_more, same_extends}
 use Rattle.jc_class.specs.declared.class_file.Attribute.{Attribute}
+use Rattle.jc_class.specs.declared.class_file.ClassFile.{ClassFile}
 use Rattle.jc_class.specs.declared.class_file.Member.{Member}
 use Rattle.jc_frames.specs.FullTable.{RefusesClasses, named_by, named_by_all}
 use Rattle.jc_frames.proofs.TakenLaws.{Taking, all_taken, refuses_here, takes_more, taking_begun}
@@ -26,14 +26,14 @@ use Rattle.jc_code.specs.TwinCode.{written_frames}
 use Rattle.jc_code.specs.declared.code.CodePlaces.{CodePlaces}
 use Rattle.jc_instrument.specs.BodiesWithStates.{BodyWithStates, all_frames, emitted_of}
 use Rattle.jc_instrument.specs.Members.{AreCoded, HasOneCode, IsCoded}
-use Rattle.jc_instrument.specs.Ready.{AreReady, IsReady}
+use Rattle.jc_instrument.specs.Ready.{AreReadyIfKept, IsReadyIfKept, method_of}
 use Rattle.jc_instrument.specs.TwinText.{twin_method, twin_methods, with_code, work_of}
-use Rattle.jc_instrument.specs.Writing.{AreAllNamed, ArePut, AreWorksOf, IsWorkOf, IsWrittenBody, KeepsClasses, code_over}
-use Rattle.jc_instrument.specs.declared.ready.ReadyBody.{ReadyBody}
+use Rattle.jc_instrument.specs.Writing.{AreAllNamed, ArePlannedWorks, ArePut, IsPlannedWork, IsWrittenBody, KeepsClasses, code_over}
+use Rattle.jc_instrument.specs.declared.ready.PlannedBody.{PlannedBody}
 use Rattle.jc_instrument.proofs.KeptPoolLaws.{takes_keep}
 use Rattle.jc_instrument.proofs.MemberLaws.{one_changed, other_kept, unchanged}
+use Rattle.jc_instrument.proofs.PlannedLaws.{kept_grown, planned_method, planned_work_on}
 use Rattle.jc_instrument.proofs.TwinMethodLaws.{same_attributes, same_code}
-use Rattle.jc_instrument.proofs.WritingLaws.{ready_grown, work_on}
 
 -- ---- lists
 
@@ -62,20 +62,20 @@ zip_dropped R (suc n) (x ∷ xs) (y ∷ ys) all = zip_dropped R n xs ys all.1
 
 -- ---- one method
 
-abbrev AreLater : ℕ → List ReadyBody → Type 0
-AreLater number ready = AllByRecursion (λ q. number < q.body.method) ready
+abbrev AreLater : ℕ → List PlannedBody → Type 0
+AreLater number ready = AllByRecursion (λ q. number < method_of q) ready
 
-none_later : (others : Names) (array : ℕ) (first : Names) (number : ℕ) (ready : List ReadyBody) (works : List BodyWithStates) → AreLater number ready
-    → AreWorksOf first others array ready works → work_of number works ≡ None
-none_later others array first number [] [] later of = refl
-none_later others array first number [] (w ∷ works) later of = absurd of
-none_later others array first number (r ∷ ready) [] later of = absurd of
-none_later others array first number (r ∷ ready) (w ∷ works) later of =
+none_later : (others : Names) (array : ℕ) (source : Option ClassFile) (first : Names) (number : ℕ) (ready : List PlannedBody) (works : List BodyWithStates)
+    → AreLater number ready → ArePlannedWorks first others array source ready works → work_of number works ≡ None
+none_later others array source first number [] [] later of = refl
+none_later others array source first number [] (w ∷ works) later of = absurd of
+none_later others array source first number (r ∷ ready) [] later of = absurd of
+none_later others array source first number (r ∷ ready) (w ∷ works) later of =
     let less = later.0 in
-    let same = ap (λ (b : Body). b.method) of.0.body in
+    let same = planned_method first w.body w.first r of.0.planned in
     let ne : w.body.method ≢ number = omega (arith, less, same) in
     ap (λ (t : Bool). if t then Some w else work_of number works) (ne_eqb w.body.method number ne)
-    ∙ none_later others array first number ready works later.1 of.1
+    ∙ none_later others array source first number ready works later.1 of.1
 
 module _ (old : PoolValue) (code : BodyWithStates → List ℕ) where
   abbrev with : List BodyWithStates → ℕ → Member → Member
@@ -98,14 +98,14 @@ module _ (old : PoolValue) (code : BodyWithStates → List ℕ) where
   no_method : (methods : List Member) → twin_methods old code [] methods ≡ methods
   no_method methods = unchanged 0 methods
 
-coded_after : (pool : PoolValue) (number : ℕ) (m : Member) (methods : List Member) (ready : List ReadyBody) → AreLater number ready
+coded_after : (pool : PoolValue) (number : ℕ) (m : Member) (methods : List Member) (ready : List PlannedBody) → AreLater number ready
     → AreCoded pool methods ready → AreCoded pool (set methods number m) ready
 coded_after pool number m methods [] later coded = tt
 coded_after pool number m methods (q ∷ ready) later coded =
     let less = later.0 in
-    let ne : number ≢ q.body.method = omega (arith, less) in
+    let ne : number ≢ (method_of q) = omega (arith, less) in
     let one = coded.0 in (
-      record { method = one.method; at = other_kept methods number q.body.method m ne ∙ one.at; one = one.one; named = one.named },
+      record { method = one.method; at = other_kept methods number (method_of q) m ne ∙ one.at; one = one.one; named = one.named },
       coded.1,
       coded_after pool number m methods ready later.1 coded.2,
     )
@@ -122,7 +122,7 @@ names_split others array works n w split =
 
 -- ---- the methods so far
 
-module _ (first : Names) (old : PoolValue) (places : CodePlaces) (ready : List ReadyBody) (methods : List Member) where
+module _ (first : Names) (source : Option ClassFile) (old : PoolValue) (places : CodePlaces) (ready : List PlannedBody) (methods : List Member) where
   -- whatever is put of the works that are left completes all of them
   pub record ArePutting (others : Names) (array : ℕ) (works : List BodyWithStates) (n : ℕ) (pool : PoolValue) (now : List Member) : Type 0 where
     pub taking : Taking old (named_by_all (all_frames others array works)) pool (named_by_all (all_frames others array (drop n works)))
@@ -133,7 +133,7 @@ module _ (first : Names) (old : PoolValue) (places : CodePlaces) (ready : List R
     pub grows : Grows first names
     pub extends : Extends old pool
     pub coded : AreCoded old now (drop n ready)
-    pub put : (others : Names) (array : ℕ) (works : List BodyWithStates) → AreWorksOf first others array ready works
+    pub put : (others : Names) (array : ℕ) (works : List BodyWithStates) → ArePlannedWorks first others array source ready works
         → ArePutting others array works n pool now
 
   pub putting_begun : (now : List Member) → now ≡ methods → AreCoded old methods ready → IsPutting 0 first old now
@@ -147,29 +147,29 @@ module _ (first : Names) (old : PoolValue) (places : CodePlaces) (ready : List R
     };
   }
 
-  module _ (n : ℕ) (names : Names) (pool : PoolValue) (now : List Member) (r : ReadyBody) (less : n < length ready) (is : r ≡ get_or ready n r)
-      (all : AreReady first ready) (so : IsPutting n names pool now) where
+  module _ (n : ℕ) (names : Names) (pool : PoolValue) (now : List Member) (r : PlannedBody) (less : n < length ready) (is : r ≡ get_or ready n r)
+      (all : AreReadyIfKept first ready) (so : IsPutting n names pool now) where
     split : drop n ready ≡ r ∷ drop (n + 1) ready
     split = drop_is ready n r less is
 
-    pub next_first : IsReady first r
-    next_first = all_at (IsReady first) ready n r all (slice_get_read ready (length ready) n r refl less is)
+    pub next_first : IsReadyIfKept first r
+    next_first = all_at (IsReadyIfKept first) ready n r all (slice_get_read ready (length ready) n r refl less is)
 
-    pub next_ready : IsReady names r
-    next_ready = ready_grown first names r so.grows next_first
+    pub next_ready : IsReadyIfKept names r
+    next_ready = kept_grown first names so.grows r next_first
 
     coded_now : AreCoded old now (r ∷ drop (n + 1) ready)
     coded_now = subst (AreCoded old now) split so.coded
 
-    abbrev here : IsCoded old now r.body.method
+    abbrev here : IsCoded old now (method_of r)
     here = coded_now.0
 
-    module _ (number : ℕ) (number_is : number ≡ r.body.method) where
+    module _ (number : ℕ) (number_is : number ≡ method_of r) where
       pub number_within : number < length now
-      number_within = let within = slice_get_within now r.body.method here.method here.at in omega (arith, within, number_is)
+      number_within = let within = slice_get_within now (method_of r) here.method here.at in omega (arith, within, number_is)
 
       at_number : (x : Member) → x ≡ get_or now number x → x ≡ here.method
-      at_number x read = read ∙ ap (λ k. get_or now k x) number_is ∙ get_or_from_slice_get now r.body.method here.method x here.at
+      at_number x read = read ∙ ap (λ k. get_or now k x) number_is ∙ get_or_from_slice_get now (method_of r) here.method x here.at
 
       module _ (next : PoolValue) (extends : Extends pool next) where
         abbrev grown_so_far : Extends old next
@@ -183,7 +183,7 @@ module _ (first : Names) (old : PoolValue) (places : CodePlaces) (ready : List R
 
         module _ (more : Names) (grows : Grows names more) (text : List ℕ) (x new : Member) (read : x ≡ get_or now number x)
             (new_is : new ≡ record x { attributes = map (with_code next text) x.attributes })
-            (written : (others : Names) (array : ℕ) (w : BodyWithStates) → IsWorkOf names others array r w
+            (written : (others : Names) (array : ℕ) (w : BodyWithStates) → IsPlannedWork names others array source r w
             → IsWrittenBody pool places others (emitted_of array w) next text) where
           put_is : new ≡ record (here.method) { attributes = map (with_code old text) here.method.attributes }
           put_is =
@@ -192,12 +192,12 @@ module _ (first : Names) (old : PoolValue) (places : CodePlaces) (ready : List R
               ∙ ap (λ (l : List Attribute). record (here.method) { attributes = l })
               (same_attributes old next grown_so_far text here.method.attributes here.named)
 
-          module _ (others : Names) (array : ℕ) (works : List BodyWithStates) (of : AreWorksOf first others array ready works) where
+          module _ (others : Names) (array : ℕ) (works : List BodyWithStates) (of : ArePlannedWorks first others array source ready works) where
             abbrev before : ArePutting others array works n pool now
             before = so.put others array works of
 
-            abbrev belongs : IsNextOf (IsWorkOf first others array) works n r
-            belongs = next_of (IsWorkOf first others array) ready works n r of less is
+            abbrev belongs : IsNextOf (IsPlannedWork first others array source) works n r
+            belongs = next_of (IsPlannedWork first others array source) ready works n r of less is
 
             abbrev w : BodyWithStates
             w = belongs.item
@@ -209,19 +209,19 @@ module _ (first : Names) (old : PoolValue) (places : CodePlaces) (ready : List R
             works_split = rw add-one belongs.split
 
             one : IsWrittenBody pool places others (emitted_of array w) next text
-            one = written others array w (work_on first names others array r w so.grows next_first belongs.holds)
+            one = written others array w (planned_work_on first names so.grows others array source r w belongs.holds)
 
             named_split : named_by_all (all_frames others array (drop n works))
                 ≡ named_by_all (written_frames others (emitted_of array w)) ++ named_by_all (all_frames others array left)
             named_split = names_split others array works n w works_split
 
             method_is : w.body.method ≡ number
-            method_is = sym (ap (λ (b : Body). b.method) belongs.holds.body) ∙ sym number_is
+            method_is = sym (planned_method first w.body w.first r belongs.holds.planned) ∙ sym number_is
 
             not_left : work_of number left ≡ None
             not_left =
-                none_later others array first number (drop (n + 1) ready) left (subst (λ k. AreLater k (drop (n + 1) ready)) (sym number_is) coded_now.1)
-                (zip_dropped (IsWorkOf first others array) (n + 1) ready works of)
+                none_later others array source first number (drop (n + 1) ready) left (subst (λ k. AreLater k (drop (n + 1) ready)) (sym number_is) coded_now.1)
+                (zip_dropped (IsPlannedWork first others array source) (n + 1) ready works of)
 
             at_there : slice_get now number ≡ Some here.method
             at_there = ap (slice_get now) number_is ∙ here.at
@@ -250,26 +250,26 @@ module _ (first : Names) (old : PoolValue) (places : CodePlaces) (ready : List R
             grows = grows_both first names more so.grows grows;
             extends = grown_so_far;
             coded = subst (λ k. AreCoded old (set now k new) (drop (n + 1) ready)) (sym number_is)
-                (coded_after old r.body.method new now (drop (n + 1) ready) coded_now.1 coded_now.2);
+                (coded_after old (method_of r) new now (drop (n + 1) ready) coded_now.1 coded_now.2);
             put = put_on;
           }
 
-    pub putting_refused : (others : Names) (array : ℕ) (works : List BodyWithStates) → AreWorksOf first others array ready works → (next : PoolValue) (fail : Fail PoolFull)
-        → ((w : BodyWithStates) → IsWorkOf names others array r w → RefusesClasses pool (named_by_all (written_frames others (emitted_of array w))) next fail)
+    pub putting_refused : (others : Names) (array : ℕ) (works : List BodyWithStates) → ArePlannedWorks first others array source ready works → (next : PoolValue) (fail : Fail PoolFull)
+        → ((w : BodyWithStates) → IsPlannedWork names others array source r w → RefusesClasses pool (named_by_all (written_frames others (emitted_of array w))) next fail)
         → RefusesClasses old (named_by_all (all_frames others array works)) next fail
     putting_refused others array works of next fail refused =
-        let belongs = next_of (IsWorkOf first others array) ready works n r of less is in
+        let belongs = next_of (IsPlannedWork first others array source) ready works n r of less is in
         let w = belongs.item in
         let works_split : drop n works ≡ w ∷ drop (n + 1) works = rw add-one belongs.split in
         refuses_here old pool next (named_by_all (all_frames others array works)) _ _ _ fail (names_split others array works n w works_split)
-        (refused w (work_on first names others array r w so.grows next_first belongs.holds)) (so.put others array works of).taking
+        (refused w (planned_work_on first names so.grows others array source r w belongs.holds)) (so.put others array works of).taking
 
   pub all_put : (n : ℕ) (names : Names) (pool : PoolValue) (now : List Member) → length ready ≤ n → IsPutting n names pool now
-      → (others : Names) (array : ℕ) (works : List BodyWithStates) → AreWorksOf first others array ready works
+      → (others : Names) (array : ℕ) (works : List BodyWithStates) → ArePlannedWorks first others array source ready works
       → ArePut old places others array works methods pool now
   all_put n names pool now end so others array works of =
       let p = so.put others array works of in
-      let count = AllZip-long (IsWorkOf first others array) ready works of in
+      let count = AllZip-long (IsPlannedWork first others array source) ready works of in
       let none : drop n works ≡ [] = drop_of_length-le works (omega (arith, count, end)) in
       record {
         takes = all_taken old pool (named_by_all (all_frames others array works)) _ (ap (λ (l : List BodyWithStates). named_by_all (all_frames others array l)) none) p.taking;

@@ -1,43 +1,47 @@
 -- The bodies of a class, ready for their code to be written, or why there is none.
-use Rattle.std.proofs.Common.{◌≡◌, ◌⊎◌, inl, inr, ℕ, zero, suc, ◌<◌, ◌≤◌, Bool, false, List, [], ◌∷◌, ◌++◌, length, option_map, Option, Some, slice_get, refl, sym, ◌∙◌, ap, subst}
-use Rattle.std.specs.Prelude.{All}
+use Rattle.std.proofs.Common.{◌≡◌, ◌⊎◌, inl, inr, ℕ, ◌<◌, ◌≤◌, Bool, false, List, [], ◌∷◌, ◌++◌, length, get_or, Option, Some, None, slice_get, refl, sym, ◌∙◌, ap, subst}
+use Rattle.std.specs.Prelude.{All, IfSome}
+use Rattle.std.specs.Option.{MatchOption}
 use Rattle.std.proofs.lemmas.Bool.{cases_lt}
 use Rattle.std.proofs.lemmas.List.{length-map}
-use Rattle.std.proofs.lemmas.Option.{none-some, same_Some, slice_get-map}
+use Rattle.std.proofs.lemmas.List.Elements.{All-nil}
+use Rattle.std.proofs.lemmas.Option.{same_Some, slice_get-get_or}
 use Rattle.jc_methods.specs.VerificationTypes.{Names}
 use Rattle.jc_methods.specs.WellMade.{IsWellMade}
 use Rattle.jc_methods.specs.declared.body.Body.{Body}
-use Rattle.jc_methods.specs.declared.kind.State.{State}
+use Rattle.jc_methods.proofs.MetNamesLaws.{grows_none}
 use Rattle.jc_bytes.specs.declared.refusal.Refusal.{Refusal}
-use Rattle.jc_bytes.proofs.ListLaws.{all_at}
+use Rattle.jc_bytes.specs.declared.refusal.RefusalKind.TheVariants as kinds
 use Rattle.jc_class.specs.declared.class_file.ClassFile.{ClassFile}
-use Rattle.jc_kinds.specs.Checked.{Checked}
+use Rattle.jc_body.specs.BodyOf.{BodyOf}
+use Rattle.jc_kinds.specs.Checked.{Checked, FirstMissing, FirstClash}
 use Rattle.jc_plan.specs.Analysed.{all_probes}
-use Rattle.jc_plan.specs.Plan.{plan_of}
 use Rattle.jc_plan.specs.Probed.{first_id}
 use Rattle.jc_verify.proofs.SameBodyLaws.{grown_same}
 use Rattle.jc_instrument.specs.Bodies.{AreBodiesUnless, AreBodiesOf}
 use Rattle.jc_instrument.specs.BodiesWithStates.{AreBodiesWithStates, BodyWithStates, bodies_of}
-use Rattle.jc_instrument.specs.Causes.{Cause, IsFirstCause, NoCause}
-use Rattle.jc_instrument.specs.KeptStates.{AreKeptStates}
+use Rattle.jc_instrument.specs.Causes.{Cause, IsFirstCause, NoCause, InMethod}
+use Rattle.jc_instrument.specs.Found.{first_of}
 use Rattle.jc_instrument.specs.LeftAlone.{is_left_alone}
+use Rattle.jc_instrument.specs.Looking.{FramesSoFar, HaveBodies, IsLooking, RoomSoFar}
 use Rattle.jc_instrument.specs.Probing.{IsFirstTooLong}
-use Rattle.jc_instrument.specs.Ready.{AreLaid, IsReady, bodies_in}
+use Rattle.jc_instrument.specs.Ready.{ArePlanned, IsPlannedBody}
 use Rattle.jc_instrument.specs.ReadyClass.{IsReadyClass, making_causes}
-use Rattle.jc_instrument.specs.Reasons.{code_causes}
+use Rattle.jc_instrument.specs.Reasons.{IsFaulty, code_causes, frame_causes, method_causes}
 use Rattle.jc_instrument.specs.RoomCauses.{HasTooLargeCode, early_room_causes}
-use Rattle.jc_instrument.specs.Steps.{AreCheckedUnder}
-use Rattle.jc_instrument.specs.Writing.{AreWorksOf, IsWorkOf}
-use Rattle.jc_instrument.specs.declared.ready.ReadyBody.{ReadyBody}
+use Rattle.jc_instrument.specs.Steps.{AreCheckedUnder, InBodies, IsFrameRefusal}
+use Rattle.jc_instrument.specs.Writing.{ArePlannedWorks, IsPlannedWork}
+use Rattle.jc_instrument.specs.declared.looking.Looking.{Looking}
+use Rattle.jc_instrument.specs.declared.ready.PlannedBody.{PlannedBody}
 use Rattle.jc_instrument.specs.declared.ready_class.ReadyClass.{ReadyClass}
 use Rattle.jc_instrument.proofs.CauseLaws.{first_behind, first_in_front, none_in_both}
 use Rattle.jc_instrument.proofs.FrameCauseLaws.{each_at}
-use Rattle.jc_instrument.proofs.LayingLaws.{are_planned, are_ready, same_bodies}
 use Rattle.jc_instrument.proofs.ListedLaws.{body_at}
+use Rattle.jc_instrument.proofs.ReadingLaws.{bad_code_refused}
 use Rattle.jc_instrument.proofs.SameWorksLaws.{zip_of_places}
 use Rattle.jc_instrument.proofs.SomeWorksLaws.{works_under}
 use Rattle.jc_instrument.proofs.TooLargeLaws.{none_too_large, too_large_found}
-use Rattle.jc_instrument.proofs.WholeLaws.{bodies_numbered, no_code_cause}
+use Rattle.jc_instrument.proofs.WholeLaws.{check_refused, no_code_cause}
 
 -- the causes behind those of code
 abbrev room : ClassFile → List Cause
@@ -71,62 +75,132 @@ module _ (names : Names) (c : ClassFile) (bodies : List Body) (changes : is_left
         first_behind (code_causes c) (room c) r no_code
         (first_behind (early_room_causes c) (HasTooLargeCode c ∷ []) r none (inl (too_large_found c bodies of_class r found)))
 
-    pub class_ready : (kept : List (Option (List State))) (ready : List ReadyBody) (count : ℕ) → All IsWellMade bodies → AreKeptStates names bodies kept
-        → AreLaid bodies kept ready → count ≡ all_probes bodies → IsReadyClass names c (record { bodies = ready; probes = count })
-    class_ready kept ready count made states laid count_is =
-        let same = same_bodies names bodies kept ready laid in
-        record {
-          bodies = subst (AreCheckedUnder names c) (sym same) is;
-          ready = are_ready names bodies kept ready laid made (bodies_numbered names c bodies is.are) states;
-          planned = are_planned names bodies kept ready laid;
-          probes = count_is ∙ ap all_probes (sym same);
-          no_cause = none_in_both (code_causes c) (room c) no_code
-              (none_in_both (early_room_causes c) (HasTooLargeCode c ∷ []) none (none_too_large c bodies of_class laid.short, tt));
-        }
+    pub class_ready : (planned : List PlannedBody) (count : ℕ) → All IsWellMade bodies → ArePlanned names bodies planned → count ≡ all_probes bodies
+        → IsReadyClass names c (record { bodies = planned; probes = count })
+    class_ready planned count made so count_is = record {
+      bodies = bodies;
+      are = is;
+      made = made;
+      planned = so;
+      probes = count_is;
+      no_cause = none_in_both (code_causes c) (room c) no_code
+          (none_in_both (early_room_causes c) (HasTooLargeCode c ∷ []) none (none_too_large c bodies of_class so.short, tt));
+    }
+
+-- ---- what was found in all methods
+
+-- Nothing refuses the code and the frames of these bodies.
+pub record AreFine (names : Names) (c : ClassFile) (s : Looking) : Type 0 where
+  pub bodies : List Body
+  pub are : AreCheckedUnder names c bodies
+  pub made : All IsWellMade bodies
+  pub room : RoomSoFar names bodies s
+
+module _ (names : Names) (c : ClassFile) (s : Looking) (so : IsLooking names c (length c.methods) s) where
+  abbrev Have : Type 0
+  Have = HaveBodies names c (length c.methods) s
+
+  frame_found : (bodies : List Body) (missing clash : Option Refusal) (r : Refusal) → FramesSoFar names bodies missing clash → first_of missing clash ≡ Some r
+      → IsFrameRefusal names bodies r
+  frame_found bodies (Some q) clash r found is = inl (subst (InBodies kinds.FrameMissing FirstMissing bodies) (same_Some q r is) found)
+  frame_found bodies None (Some q) r found is = inr (
+    found.0,
+    subst (InBodies kinds.FrameClash (FirstClash names) bodies) (same_Some q r is) found.1,
+  )
+  frame_found bodies None None r all is = absurd (none_is_some r is)
+    where
+      none_is_some : (x : Refusal) → None ≡ Some x → ⊥
+      none_is_some x e = cc
+
+  code_found : (bad : Option Refusal) (r : Refusal) → MatchOption bad Have (InMethod kinds.BadCode (IsFaulty c kinds.BadCode))
+      → first_of bad (first_of s.frames.missing s.frames.clash) ≡ Some r → IsFirstCause (code_causes c) r
+  code_found None r h is =
+      check_refused names names c h.bodies r (grows_none names) h.are (frame_found h.bodies s.frames.missing s.frames.clash r h.so.frames is)
+  code_found (Some q) r first is =
+      first_in_front (method_causes c) (frame_causes c) r
+      (bad_code_refused names c (record { bodies = []; bad = Some q }) r is
+      (record { no_subroutine = so.no_subroutine; well_made = All-nil IsWellMade; found = first }))
+
+  pub code_refused : (r : Refusal) → first_of s.bad (first_of s.frames.missing s.frames.clash) ≡ Some r → IsFirstCause (making_causes c) r
+  code_refused r is = first_in_front (code_causes c) (room c) r (code_found s.bad r so.found is)
+
+  frames_fine : (missing clash : Option Refusal) → first_of missing clash ≡ None → (missing ≡ None) × (clash ≡ None)
+  frames_fine (Some q) clash is = absurd (some_is_none is)
+    where
+      some_is_none : Some q ≡ None → ⊥
+      some_is_none e = cc
+  frames_fine None clash is = (refl, is)
+
+  all_checked : (bodies : List Body) (missing clash : Option Refusal) → missing ≡ None → clash ≡ None → FramesSoFar names bodies missing clash
+      → (i : ℕ) (b : Body) → slice_get bodies i ≡ Some b → Checked names b
+  all_checked bodies missing clash no_missing no_clash found =
+      subst (λ (o : Option Refusal). FramesSoFar names bodies None o) no_clash
+      (subst (λ (o : Option Refusal). FramesSoFar names bodies o clash) no_missing found)
+
+  fine_of : (bad : Option Refusal) → MatchOption bad Have (InMethod kinds.BadCode (IsFaulty c kinds.BadCode))
+      → first_of bad (first_of s.frames.missing s.frames.clash) ≡ None → AreFine names c s
+  fine_of None h is =
+      let fine = frames_fine s.frames.missing s.frames.clash is in
+      let checked = all_checked h.bodies s.frames.missing s.frames.clash fine.0 fine.1 h.so.frames in
+      record {
+        bodies = h.bodies;
+        are = record {
+          are = h.are;
+          checked = λ k d less. checked k (get_or h.bodies k d) (slice_get-get_or h.bodies k d less);
+        };
+        made = h.so.made;
+        room = h.so.room fine;
+      }
+  fine_of (Some q) first is = absurd (some_is_none is)
+    where
+      some_is_none : Some q ≡ None → ⊥
+      some_is_none e = cc
+
+  pub are_fine : first_of s.bad (first_of s.frames.missing s.frames.clash) ≡ None → AreFine names c s
+  are_fine is = fine_of s.bad so.found is
 
 -- ---- works
 
-body_in : (ready : List ReadyBody) (i : ℕ) (b : Body) → slice_get (bodies_in ready) i ≡ Some b
-    → (r : ReadyBody) × (slice_get ready i ≡ Some r) × (r.body ≡ b)
-body_in [] i b at = absurd (none-some b at)
-body_in (r ∷ ready) zero b at = (r, refl, same_Some r.body b at)
-body_in (r ∷ ready) (suc i) b at = body_in ready i b at
-
-stands_in : (ready : List ReadyBody) (i : ℕ) (r : ReadyBody) → slice_get ready i ≡ Some r → slice_get (bodies_in ready) i ≡ Some r.body
-stands_in ready i r at = slice_get-map (λ (q : ReadyBody). q.body) ready i ∙ ap (option_map (λ (q : ReadyBody). q.body)) at
-
--- the bodies that are ready have works, under more names
+-- The bodies of the class have works, under more names, which what is planned stands for.
 pub record ReadyWorks (names : Names) (c : ClassFile) (r : ReadyClass) : Type 0 where
   pub others : Names
   pub array : ℕ
   pub works : List BodyWithStates
   pub are : AreBodiesWithStates others array c works
-  pub of : AreWorksOf names others array r.bodies works
+  pub of : (source : Option ClassFile) → IfSome source (λ s. s ≡ c) → ArePlannedWorks names others array source r.bodies works
   pub count : r.probes ≡ all_probes (bodies_of works)
+
+from_source : (names : Names) (c : ClassFile) (source : Option ClassFile) (b : Body) → IfSome source (λ s. s ≡ c) → BodyOf names c b.method b
+    → IfSome source (λ s. BodyOf names s b.method b)
+from_source names c None b same body = tt
+from_source names c (Some s) b same body = subst (λ (k : ClassFile). BodyOf names k b.method b) (sym same) body
 
 pub ready_works : (names : Names) (c : ClassFile) (r : ReadyClass) → IsReadyClass names c r → ReadyWorks names c r
 ready_works names c r is =
-    let bodies = bodies_in r.bodies in
-    let each : (i : ℕ) (q : ReadyBody) → slice_get r.bodies i ≡ Some q → IsReady names q = λ i q at. all_at (IsReady names) r.bodies i q is.ready at in
-    let some = works_under names c bodies is.bodies.are
-    (λ i b at. let q = body_in r.bodies i b at in subst IsWellMade q.2 (each i q.0 q.1).made)
-    (λ i b at. each_at (Checked names) bodies is.bodies.checked i b at) in
+    let bodies = is.bodies in
+    let some = works_under names c bodies is.are.are (λ i b at. each_at IsWellMade bodies is.made i b at)
+    (λ i b at. each_at (Checked names) bodies is.are.checked i b at) in
     let works = some.works in
+    let there : (i : ℕ) (w : BodyWithStates) → slice_get works i ≡ Some w → slice_get bodies i ≡ Some w.body = λ i w at.
+    ap (λ (l : List Body). slice_get l i) (sym some.same) ∙ body_at works i w at in
     record {
       others = some.names;
       array = some.array;
       works = works;
       are = some.are;
-      of = zip_of_places (IsWorkOf names some.names some.array) r.bodies works
-          (sym (length-map r.bodies (λ (q : ReadyBody). q.body)) ∙ ap (λ (l : List Body). length l) (sym some.same)
-          ∙ length-map works (λ (w : BodyWithStates). w.body))
-          (λ i q w at there. record {
-            body = same_Some q.body w.body
-                (sym (stands_in r.bodies i q at) ∙ ap (λ (l : List Body). slice_get l i) (sym some.same) ∙ body_at works i w there);
-            plan = is.planned i q at
-                ∙ ap (plan_of q.body) (ap (λ (l : List Body). first_id l i) (sym some.same) ∙ sym (some.are.each i w there).first);
-            seen = (grown_same names some.names q.body some.grows (each i q at).numbered).seen;
-            states = (some.are.each i w there).states;
+      of = λ source same. zip_of_places (IsPlannedWork names some.names some.array source) r.bodies works
+          (is.planned.count ∙ ap (λ (l : List Body). length l) (sym some.same) ∙ length-map works (λ (w : BodyWithStates). w.body))
+          (λ i p w at stands.
+          let one = is.planned.each i p at in
+          let body = is.are.are.each i w.body (there i w stands) in
+          let first : first_id bodies i ≡ w.first = ap (λ (l : List Body). first_id l i) (sym some.same) ∙ sym (some.are.each i w stands).first in
+          record {
+            planned = subst (λ (n : ℕ). IsPlannedBody names w.body n p) first
+                (subst (λ (b : Body). IsPlannedBody names b (first_id bodies i) p) (same_Some one.body w.body (sym one.stands ∙ there i w stands)) one.is);
+            body = from_source names c source w.body same body;
+            numbered = body.is.parts.numbers;
+            seen = (grown_same names some.names w.body some.grows body.is.parts.numbers).seen;
+            states = (some.are.each i w stands).states;
             array_is = some.are.array_is;
           });
       count = is.probes ∙ ap all_probes (sym some.same);

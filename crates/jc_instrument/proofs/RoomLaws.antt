@@ -1,13 +1,11 @@
 -- Bodies that have no room for probes, as causes of the class.
-use Rattle.std.proofs.Common.{◌≡◌, ◌⊎◌, inl, inr, ℕ, ◌+◌, ◌<◌, ◌≤◌, Bool, false, List, [], ◌∷◌, ◌++◌, Option, Some, None, slice_get, sym, ◌∙◌, ap, subst, arith}
-use Rattle.std.proofs.lemmas.Option.{same_Some}
+use Rattle.std.proofs.Common.{◌≡◌, inl, ℕ, ◌+◌, ◌≤◌, Bool, false, List, [], ◌∷◌, ◌++◌, Option, Some, None, sym, ◌∙◌, ap, subst, arith}
 use Rattle.jc_methods.specs.VerificationTypes.{Names}
 use Rattle.jc_bytes.specs.Least.{IsLeast}
 use Rattle.jc_methods.specs.declared.body.Body.{Body}
 use Rattle.jc_bytes.specs.declared.refusal.Refusal.{Refusal}
 use Rattle.jc_bytes.specs.declared.refusal.RefusalKind.{RefusalKind}
 use Rattle.jc_bytes.specs.declared.refusal.RefusalKind.TheVariants as kinds
-use Rattle.jc_bytes.proofs.ListLaws.{below_or_last}
 use Rattle.jc_class.specs.declared.class_file.ClassFile.{ClassFile}
 use Rattle.jc_kinds.specs.StateShift.{IsStraddled}
 use Rattle.jc_emit.specs.Straddling.{IsFirstStraddling}
@@ -111,17 +109,7 @@ module _ (c : ClassFile) (bodies : List Body) (changes : is_left_alone c ≡ fal
         stack_last (Some r) found = first_behind (HasStraddling c ∷ (counts c ++ (HasFullLocals c ∷ []))) (HasFullStack c ∷ []) r none_yet
             (inl (room_found c bodies changes are kinds.StackFull r found))
 
--- ---- the search
-
-pub none_more : (kind : RefusalKind) (bodies : List Body) (n : ℕ) (b : Body) → slice_get bodies n ≡ Some b
-    → ((i place : ℕ) (x : Body) → i < n → slice_get bodies i ≡ Some x → LacksRoom kind x place → ⊥)
-    → ((place : ℕ) → LacksRoom kind b place → ⊥)
-    → (i place : ℕ) (x : Body) → i < n + 1 → slice_get bodies i ≡ Some x → LacksRoom kind x place → ⊥
-none_more kind bodies n b stands before here i place x less at lacks = by (below_or_last n i less)
-  where
-    by : (i < n) ⊎ (i ≡ n) → ⊥
-    by (inl earlier) = before i place x earlier at lacks
-    by (inr last) = here place (subst (λ (y : Body). LacksRoom kind y place) (sym (same_Some b x (sym stands ∙ ap (slice_get bodies) (sym last) ∙ at))) lacks)
+-- ---- one body
 
 pub straddling_place : (b : Body) (o : Option ℕ) → IsFirstStraddling b o → IsWhereItLacks kinds.StraddlingLocal b o
 straddling_place b None nowhere = λ place lacks. nowhere place lacks.there

@@ -15,7 +15,9 @@ use Rattle.jc_frames.specs.FullTable.{CanBeWritten, FitsFull, RefusesClasses, Ta
 use Rattle.jc_frames.proofs.TakenLaws.{all_stand}
 use Rattle.jc_plan.specs.Plan.{plan_of}
 use Rattle.jc_emit.specs.Emission.{emission}
-use Rattle.jc_emit.specs.Stages.{moved_tables}
+use Rattle.jc_emit.specs.Stages.{AreLayoutFrames, moved_tables}
+use Rattle.jc_kinds.specs.Answers.{AreStates}
+use Rattle.jc_methods.specs.declared.kind.State.{State}
 use Rattle.jc_emit.specs.declared.tables.MovedTables.{MovedTables}
 use Rattle.jc_code.specs.Given.{AreNamed, IsLaid, IsNamedAt}
 use Rattle.jc_code.specs.LaidText.{laid_text}
@@ -48,20 +50,18 @@ ready_grown old new r grows ready = record {
   next = ready.next;
   room = ready.room;
   laid = ready.laid;
-  kept = λ states is. states_grown old new r.body states grows ready.numbered (ready.kept states is);
-}
-
-pub work_on : (old new others : Names) (array : ℕ) (r : ReadyBody) (w : BodyWithStates) → Grows old new → IsReady old r → IsWorkOf old others array r w
-    → IsWorkOf new others array r w
-work_on old new others array r w grows ready of = record {
-  body = of.body;
-  plan = of.plan;
-  seen = seen_on old new r grows ready ∙ of.seen;
-  states = of.states;
-  array_is = of.array_is;
+  states = states_grown old new r.body r.states grows ready.numbered ready.states;
 }
 
 -- ---- the frames can be written
+
+pub frames_of : (old now : Names) (r : ReadyBody) (first : ℕ) (frames : List FrameAt) (states : List State) → Grows old now → IsReady old r → states ≡ r.states
+    → AreLayoutFrames now r.body first states r.laid.wide frames → AreFramesOf now r.body first r.laid.wide frames
+frames_of old now r first frames states grows ready same framed = record {
+  states = states;
+  are = subst (AreStates now r.body) (sym same) (states_grown old now r.body r.states grows ready.numbered ready.states);
+  framed = framed;
+}
 
 pub few_bytes : (names : Names) (r : ReadyBody) → IsReady names r → length r.laid.code ≤ 65535
 few_bytes names r ready = (ready.laid ready.plan.0 [] 0 ready.plan.1).few

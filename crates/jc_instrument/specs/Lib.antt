@@ -3,7 +3,6 @@ pub mod Causes
 pub mod Reasons
 pub mod Bodies
 pub mod Analysis
-pub mod KeptStates
 pub mod Steps
 pub mod SameAnalysis
 pub mod Contents
@@ -19,6 +18,9 @@ pub mod Refused
 pub mod Probing
 pub mod Taking
 pub mod Ready
+pub mod KeptStates
+pub mod Found
+pub mod Looking
 pub mod ReadyClass
 pub mod Writing
 pub mod Members

@@ -11,7 +11,8 @@ use Rattle.jc_class.specs.declared.class_file.Member.{Member}
 use Rattle.jc_body.specs.Coded.{code_bodies}
 use Rattle.jc_code.specs.TwinCode.{lines_name, vars_name, kind_vars_name}
 use Rattle.jc_code.specs.declared.code.CodePlaces.{CodePlaces}
-use Rattle.jc_instrument.specs.declared.ready.ReadyBody.{ReadyBody}
+use Rattle.jc_instrument.specs.Ready.{method_of}
+use Rattle.jc_instrument.specs.declared.ready.PlannedBody.{PlannedBody}
 
 -- ---- what the writing relies on
 
@@ -32,10 +33,10 @@ pub record IsCoded (pool : PoolValue) (methods : List Member) (number : ℕ) : T
   pub named : AreNamedIn pool method.attributes
 
 -- each is of a method with one Code attribute, in the order of the methods
-abbrev pub AreCoded : PoolValue → List Member → List ReadyBody → Type 0
+abbrev pub AreCoded : PoolValue → List Member → List PlannedBody → Type 0
 AreCoded pool methods [] = ⊤
-AreCoded pool methods (r ∷ ready) =
-    IsCoded pool methods r.body.method × AllByRecursion (λ q. r.body.method < q.body.method) ready × AreCoded pool methods ready
+AreCoded pool methods (p ∷ planned) =
+    IsCoded pool methods (method_of p) × AllByRecursion (λ q. method_of p < method_of q) planned × AreCoded pool methods planned
 
 -- ---- places of texts
 

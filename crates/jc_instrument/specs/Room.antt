@@ -6,6 +6,7 @@ use Rattle.jc_bytes.specs.declared.refusal.RefusalKind.{RefusalKind}
 use Rattle.jc_bytes.specs.declared.refusal.RefusalKind.TheVariants as kinds
 use Rattle.jc_emit.specs.Straddling.{IsFirstStraddling}
 use Rattle.jc_instrument.specs.Steps.{InBodies}
+use Rattle.jc_instrument.specs.declared.found.RoomRefusals.{RoomRefusals}
 
 -- The body has no room for its probes, at this place: a long or a double has one half in the last local variable of the
 -- arguments; no number is left for one more local variable; or there is no room on the stack for the three operands of a
@@ -29,3 +30,9 @@ NoneLacks kind bodies = (i place : ℕ) (b : Body) → slice_get bodies i ≡ So
 abbrev pub IsFirstThatLacks : RefusalKind → List Body → Option Refusal → Type 0
 IsFirstThatLacks kind bodies None = NoneLacks kind bodies
 IsFirstThatLacks kind bodies (Some r) = InBodies kind (LacksRoom kind) bodies r
+
+-- the first refusals of all kinds
+pub record AreFirstLacks (bodies : List Body) (first : RoomRefusals) : Type 0 where
+  pub straddling : IsFirstThatLacks kinds.StraddlingLocal bodies first.straddling
+  pub locals : IsFirstThatLacks kinds.LocalsFull bodies first.locals
+  pub stack : IsFirstThatLacks kinds.StackFull bodies first.stack

@@ -1,9 +1,9 @@
 -- What is written of the bodies of a class, one after the other, while the pool takes the classes that their frames name.
-use Rattle.std.specs.Prelude.{◌≡◌, ⊤, ℕ, Bool, List, map}
+use Rattle.std.specs.Prelude.{◌≡◌, ⊤, ℕ, Bool, List, length, map, All, Option, IfSome}
 use Rattle.std.specs.List.{AllByRecursion, AllZip}
 use Rattle.jc_bytes.specs.declared.fail.Fail.{Fail}
 use Rattle.jc_bytes.specs.declared.fail.Fail.TheVariants as fails
-use Rattle.jc_methods.specs.VerificationTypes.{Names, type_state_at}
+use Rattle.jc_methods.specs.VerificationTypes.{AreNumberedFrames, Names, type_state_at}
 use Rattle.jc_methods.specs.declared.body.Body.{Body}
 use Rattle.jc_methods.specs.declared.body.FrameAt.{FrameAt}
 use Rattle.jc_methods.specs.declared.emitted.Emitted.{Emitted}
@@ -12,8 +12,14 @@ use Rattle.jc_pool.specs.Adding.{KeepsFirst}
 use Rattle.jc_pool.specs.Lookup.{class_name_of}
 use Rattle.jc_pool.specs.Pool.{PoolValue}
 use Rattle.jc_pool.specs.declared.add.PoolFull.{PoolFull}
+use Rattle.jc_bytes.specs.ByteLists.{AreBytes}
+use Rattle.jc_bytes.specs.Reader.{most_read}
+use Rattle.jc_class.specs.ClassText.{ClassText}
+use Rattle.jc_class.specs.Sizes.{BodiesWithin}
+use Rattle.jc_class.specs.Writable.{IsClassFile}
 use Rattle.jc_class.specs.declared.class_file.ClassFile.{ClassFile}
 use Rattle.jc_class.specs.declared.class_file.Member.{Member}
+use Rattle.jc_body.specs.BodyOf.{BodyOf}
 use Rattle.jc_frames.specs.FullTable.{TakesClasses, named_by_all}
 use Rattle.jc_kinds.specs.Answers.{AreStates}
 use Rattle.jc_plan.specs.Plan.{plan_of}
@@ -24,7 +30,9 @@ use Rattle.jc_code.specs.TwinCode.{twin_code, written_frames}
 use Rattle.jc_code.specs.declared.code.CodePlaces.{CodePlaces}
 use Rattle.jc_instrument.specs.BodiesWithStates.{BodyWithStates, all_frames, emitted_of}
 use Rattle.jc_instrument.specs.RoomCauses.{NeedsTooMuch}
-use Rattle.jc_instrument.specs.TwinText.{twin_class, twin_methods}
+use Rattle.jc_instrument.specs.TwinText.{IsWrittenFor, twin_class, twin_methods}
+use Rattle.jc_instrument.specs.Ready.{IsPlannedBody}
+use Rattle.jc_instrument.specs.declared.ready.PlannedBody.{PlannedBody}
 use Rattle.jc_instrument.specs.declared.ready.ReadyBody.{ReadyBody}
 use Rattle.jc_instrument.specs.declared.twin.TwinPlaces.{TwinPlaces}
 
@@ -45,6 +53,25 @@ pub record IsWorkOf (names others : Names) (array : ℕ) (r : ReadyBody) (w : Bo
   pub states : AreStates others w.body w.states
   pub array_is : IsArrayNumber others array
 
+-- the bytes are the text of no other class
+pub record IsOnlyText (bytes : List ℕ) (c : ClassFile) : Type 0 where
+  pub only : (d : ClassFile) → ClassText bytes d → d ≡ c
+
+-- the class file can be read from, body by body
+pub record IsSource (c : ClassFile) : Type 0 where
+  pub class : IsClassFile c
+  pub sizes : All (λ m. BodiesWithin most_read m.attributes) c.methods
+
+-- What is planned under these names stands for the body of the work under the others, by which its frames say the same. If there is
+-- a class file to read from, the body is that of its method.
+pub record IsPlannedWork (names others : Names) (array : ℕ) (source : Option ClassFile) (p : PlannedBody) (w : BodyWithStates) : Type 0 where
+  pub planned : IsPlannedBody names w.body w.first p
+  pub body : IfSome source (λ c. BodyOf names c w.body.method w.body)
+  pub numbered : AreNumberedFrames (length names) w.body.frames
+  pub seen : map (type_state_at names) w.body.frames ≡ map (type_state_at others) w.body.frames
+  pub states : AreStates others w.body w.states
+  pub array_is : IsArrayNumber others array
+
 -- each class that stands in the pool has its first place in the other pool too
 abbrev pub KeepsClasses : PoolValue → PoolValue → Type 0
 KeepsClasses old new = KeepsFirst (class_name_of old) (class_name_of new)
@@ -58,8 +85,8 @@ pub record IsWrittenBody (old : PoolValue) (places : CodePlaces) (names : Names)
 
 -- ---- all bodies
 
-abbrev pub AreWorksOf : (names others : Names) → (array : ℕ) → List ReadyBody → List BodyWithStates → Type 0
-AreWorksOf names others array ready works = AllZip (IsWorkOf names others array) ready works
+abbrev pub ArePlannedWorks : (names others : Names) → (array : ℕ) → Option ClassFile → List PlannedBody → List BodyWithStates → Type 0
+ArePlannedWorks names others array source planned works = AllZip (IsPlannedWork names others array source) planned works
 
 -- each name that the Code attributes need stands first at its place
 abbrev pub AreAllNamed : PoolValue → (array : ℕ) → List BodyWithStates → CodePlaces → Type 0
@@ -88,3 +115,10 @@ pub record IsTwinFrom (c : ClassFile) (places : TwinPlaces) (names : Names) (arr
 abbrev pub IsFullFor : (id : ℕ) → ClassFile → Fail PoolFull → Type 0
 IsFullFor id c fails.Memory = ⊤
 IsFullFor id c (fails.Said full) = NeedsTooMuch id c
+
+-- the bytes are the text of a twin class that is written for the class with this id
+pub record IsTwinText (id : ℕ) (c : ClassFile) (bytes : List ℕ) : Type 0 where
+  pub twin : ClassFile
+  pub written : IsWrittenFor id c twin
+  pub text : ClassText bytes twin
+  pub are_bytes : AreBytes bytes

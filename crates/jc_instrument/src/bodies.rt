@@ -8,12 +8,11 @@ ghost use Rattle.jc_class.specs.Sizes.{BodiesWithin};
 ghost use Rattle.jc_bytes.specs.Failing.{Said};
 ghost use Rattle.jc_instrument.specs.Bodies.{AreBodies, AreBodiesOf};
 ghost use Rattle.jc_instrument.specs.Causes.{NoCause, IsFirstCause};
-ghost use Rattle.jc_instrument.specs.KeptStates.{places_kept, AreKeptStates};
 ghost use Rattle.jc_instrument.specs.Reasons.{method_causes, code_causes, analysis_causes};
 ghost use Rattle.jc_instrument.specs.Steps.{IsReading, IsSubroutineAt, AreCheckedUnder, AreCheckedBodies};
 
 use crate::alone::{interface_refusal, is_left_alone};
-use crate::checks::{KeptStates, check_bodies};
+use crate::checks::check_bodies;
 use crate::class::class_refusal;
 use crate::kept::keep_first;
 use jc_body::read_body;
@@ -29,15 +28,6 @@ pub struct Reading {
     pub bodies: List<Body>,
     /// The first fault of their code, none of which is a subroutine instruction.
     pub bad: Option<Refusal>,
-}
-
-/// The bodies of a class's methods, each of which passes the kind check.
-#[derive(Debug, Drop)]
-pub struct NamedBodies {
-    /// The bodies.
-    pub bodies: List<Body>,
-    /// The states of each body, where they are kept.
-    pub states: KeptStates,
 }
 
 /// Reads one more method.
@@ -98,28 +88,25 @@ fn read_bodies(
 }
 
 /// The bodies of a class's methods, each of which passes the kind check, with classes in their frames by their numbers
-/// in `names`; and the states of those for which there is room.
+/// in `names`.
 pub fn named_bodies(
     alloc: Global,
     class: &ClassFile,
-    room: usize,
     names: &mut Names,
-) -> Result<NamedBodies, Fail<Refusal>>
+) -> Result<List<Body>, Fail<Refusal>>
     requires class { IsClassFile class.now }
     requires sizes { All (λ m. BodiesWithin most_read m.attributes) class.now.methods }
-    ensures bodies { IfOk result (λ named. AreCheckedUnder names.new class.now named.bodies) }
-    ensures well_made { IfOk result (λ named. All IsWellMade named.bodies) }
-    ensures states { IfOk result (λ named. AreKeptStates names.new named.bodies named.states) }
-    ensures few { IfOk result (λ named. places_kept named.bodies named.states ≤ room) }
+    ensures bodies { IfOk result (AreCheckedUnder names.new class.now) }
+    ensures well_made { IfOk result (All IsWellMade) }
     ensures refused { IfErr result (λ e. Said e (IsFirstCause (code_causes class.now))) }
     ensures grows { Grows names.old names.new }
 {
     let bodies = read_bodies(alloc, class, names)?;
-    let states = check_bodies(alloc, &bodies, room, names)?;
-    Ok(NamedBodies { bodies, states })
+    check_bodies(alloc, &bodies, names)?;
+    Ok(bodies)
 }
 
-/// The bodies alone, with names that aren't kept.
+/// The bodies, with names that aren't kept.
 fn checked_bodies(alloc: Global, class: &ClassFile) -> Result<List<Body>, Fail<Refusal>>
     requires class { IsClassFile class.now }
     requires sizes { All (λ m. BodiesWithin most_read m.attributes) class.now.methods }
@@ -128,8 +115,7 @@ fn checked_bodies(alloc: Global, class: &ClassFile) -> Result<List<Body>, Fail<R
     ensures refused { IfErr result (λ e. Said e (IsFirstCause (code_causes class.now))) }
 {
     let mut names = Names::new(alloc)?;
-    let named = named_bodies(alloc, class, 0, &mut names)?;
-    Ok(named.bodies)
+    named_bodies(alloc, class, &mut names)
 }
 
 /// The bodies of a class: none where it stays as it is, else those of its methods, each of which passes the kind

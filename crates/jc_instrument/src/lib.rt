@@ -1,15 +1,18 @@
 //! Whole class files: their bodies and probes, or why they have none.
 #![tactic(auto)]
 
+mod again;
 mod alone;
 mod analysis;
 mod bodies;
 mod checks;
 mod class;
 mod described;
+mod found;
 mod instrumented;
 mod kept;
 mod laws;
+mod looking;
 mod members;
 mod needs;
 mod plans;
@@ -17,12 +20,13 @@ mod ready;
 mod ready_class;
 mod room;
 mod size;
+mod states;
 mod twin;
 mod whole;
 mod writing;
 
 pub use analysis::analyse;
-pub use bodies::{NamedBodies, named_bodies};
+pub use bodies::named_bodies;
 pub use class::is_wrong_version;
 pub use instrumented::{
     each_class_has_one_reason, each_class_has_one_twin, each_pool_grows, reasons_are_in_order,

@@ -1,21 +1,21 @@
 //! The members of an instrumented class: methods with their new code, and the field and the method that are added.
-ghost use Rattle.std.specs.Prelude.{◌≡◌, ◌≤◌, ℕ, List as Seq, codes, map, IsTrue, IfOk, IfErr};
+ghost use Rattle.std.specs.Prelude.{◌≡◌, ◌≤◌, ℕ, List as Seq, codes, map, IsTrue, IfOk, IfErr, IfSome};
 ghost use Rattle.jc_methods.specs.VerificationTypes.{Names as ClassNames};
 ghost use Rattle.jc_body.specs.Attributes.{has_name};
 ghost use Rattle.jc_body.specs.First.{FirstItem};
 ghost use Rattle.jc_frames.specs.FullTable.{RefusesClasses, named_by_all};
 ghost use Rattle.jc_instrument.specs.BodiesWithStates.{BodyWithStates, all_frames};
 ghost use Rattle.jc_instrument.specs.Members.{AreCoded, HasOneCode};
-ghost use Rattle.jc_instrument.specs.Ready.{AreReady};
-ghost use Rattle.jc_instrument.specs.Writing.{ArePut, AreWorksOf};
+ghost use Rattle.jc_instrument.specs.Ready.{AreReadyIfKept};
+ghost use Rattle.jc_instrument.specs.Writing.{ArePlannedWorks, ArePut, IsSource};
 ghost use Rattle.jc_instrument.specs.TwinText.{data_member, init_member, with_code};
 
+use crate::again::planned_text;
 use crate::alone::has_name;
 use crate::needs::MemberPlaces;
-use crate::ready::ReadyBody;
-use crate::writing::body_text;
+use crate::ready::{PlannedBody, method_of};
 use jc_bytes::{Bytes, Fail, List, Memory, Names};
-use jc_class::{Attribute, Member};
+use jc_class::{Attribute, ClassFile, Member};
 use jc_code::{AddedPlaces, CodePlaces, write_init};
 use jc_pool::{Pool, PoolFull};
 use std::alloc::Global;
@@ -51,7 +51,7 @@ fn put_code(alloc: Global, pool: &Pool, method: &mut Member, text: Bytes)
 }
 
 /// The methods of a class, in which those of the bodies have their instrumented code. Body after body is written and dropped,
-/// and the pool takes the classes that the frames of each name.
+/// and the pool takes the classes that the frames of each name. Bodies that weren't kept are read again from `source`.
 ///
 /// # Errors
 ///
@@ -60,22 +60,24 @@ fn put_code(alloc: Global, pool: &Pool, method: &mut Member, text: Bytes)
 pub fn put_codes(
     alloc: Global,
     methods: List<Member>,
-    ready: List<ReadyBody>,
+    bodies: List<PlannedBody>,
+    source: &Option<ClassFile>,
     places: &CodePlaces,
     names: &mut Names,
     pool: &mut Pool,
 ) -> Result<List<Member>, Fail<PoolFull>>
-    requires ready { AreReady names.old ready }
-    requires coded { AreCoded pool.old methods ready }
-    ensures put { (others : ClassNames) (array : ℕ) (works : Seq BodyWithStates) → AreWorksOf names.old others array ready works
+    requires ready { AreReadyIfKept names.old bodies }
+    requires source { IfSome source.now IsSource }
+    requires coded { AreCoded pool.old methods bodies }
+    ensures put { (others : ClassNames) (array : ℕ) (works : Seq BodyWithStates) → ArePlannedWorks names.old others array source.now bodies works
         → IfOk result (ArePut pool.old places.now others array works methods pool.new) }
-    ensures refused { (others : ClassNames) (array : ℕ) (works : Seq BodyWithStates) → AreWorksOf names.old others array ready works
+    ensures refused { (others : ClassNames) (array : ℕ) (works : Seq BodyWithStates) → ArePlannedWorks names.old others array source.now bodies works
         → IfErr result (RefusesClasses pool.old (named_by_all (all_frames others array works)) pool.new) }
 {
     let mut methods = methods.into_vec();
-    'putting: for one in ready.into_vec() {
-        let number = usize::from(one.body.method);
-        let text = body_text(alloc, one, places, names, pool)?;
+    'putting: for planned in bodies.into_vec() {
+        let number = usize::from(method_of(&planned));
+        let text = planned_text(alloc, planned, source, places, names, pool)?;
         put_code(alloc, pool, &mut methods[number], text);
     }
     Ok(List::from_vec(methods))

@@ -1,25 +1,27 @@
 //! Bodies that are ready for their instrumented code to be written.
-ghost use Rattle.std.specs.Prelude.{◌≡◌, ◌≤◌, ℕ, length, All, IfOk, IfErr};
+ghost use Rattle.std.specs.Prelude.{◌≡◌, ◌≤◌, ℕ, IfOk, IfErr};
 ghost use Rattle.jc_methods.specs.WellMade.{IsWellMade};
 ghost use Rattle.jc_methods.specs.declared.emitted.Emitted.{Emitted as Emission};
 ghost use Rattle.jc_bytes.specs.Failing.{Said};
-ghost use Rattle.jc_plan.specs.Analysed.{plans_of, all_probes};
 ghost use Rattle.jc_plan.specs.Plan.{plan_of};
 ghost use Rattle.jc_emit.specs.Placing.{HasPlan};
 ghost use Rattle.jc_emit.specs.Refusing.{HasRoom};
 ghost use Rattle.jc_layout.specs.Layable.{IsLayable};
 ghost use Rattle.jc_layout.specs.Layout.{chosen_length};
 ghost use Rattle.jc_code.specs.Given.{IsLaid};
-ghost use Rattle.jc_instrument.specs.Probing.{IsFirstTooLong, IsRefusedAsLarge, IsTooLong};
-ghost use Rattle.jc_instrument.specs.Ready.{AreLaid, IsLaidFor};
+ghost use Rattle.jc_instrument.specs.Probing.{IsRefusedAsLarge, IsTooLong};
+ghost use Rattle.jc_instrument.specs.Ready.{IsLaidFor, method_of};
 ghost use Rattle.jc_instrument.specs.RoomCauses.{probed_code};
 
-use crate::checks::KeptStates;
 use jc_bytes::{Fail, List, Memory, Refusal};
 use jc_emit::emit_code;
 use jc_layout::{Laid, layout_code};
 use jc_methods::{Body, Insn, Plan, State};
+use jc_plan::plan;
 use std::alloc::Global;
+
+/// The most probes that bodies in front of one can have: two for each byte of a file.
+const MOST_IDS: u32 = 134_217_728;
 
 /// A body that is ready for its instrumented code to be written.
 #[derive(Debug, Drop)]
@@ -30,8 +32,47 @@ pub struct ReadyBody {
     pub plan: Plan,
     /// The bytes of its instrumented code, and the offsets of the instructions.
     pub laid: Laid,
-    /// The states before its instructions, where they are kept.
-    pub states: Option<List<State>>,
+    /// The states before its instructions.
+    pub states: List<State>,
+}
+
+/// A body that isn't kept, and is read again when its instrumented code is written.
+#[derive(Clone, Copy, Debug)]
+pub struct UnreadBody {
+    /// The number of its method.
+    pub method: u16,
+    /// The id of its first probe.
+    pub first: u32,
+}
+
+/// A body whose instrumented code is to be written.
+#[derive(Debug, Drop)]
+pub enum PlannedBody {
+    /// It was kept.
+    Ready(ReadyBody),
+    /// It takes too many places to be kept.
+    Unread(UnreadBody),
+}
+
+/// The number of its method.
+pub fn method_of(planned: &PlannedBody) -> u16
+    ensures { result ≡ method_of planned.now }
+{
+    match planned {
+        PlannedBody::Ready(ready) => ready.body.method,
+        PlannedBody::Unread(unread) => unread.method,
+    }
+}
+
+/// The plan of a body whose ids begin with this one. A first id that no file reaches counts as want of memory.
+pub fn bounded_plan(alloc: Global, body: &Body, first: u32) -> Result<Plan, Memory>
+    requires made { IsWellMade body.now }
+    ensures plan { IfOk result (λ plan. plan ≡ plan_of body.now first) }
+{
+    if first > MOST_IDS {
+        return Err(Memory);
+    }
+    plan(alloc, body, first)
 }
 
 /// The instructions of the instrumented code of a body that has room for it.
@@ -68,7 +109,7 @@ fn laid(alloc: Global, method: u16, insns: &[Insn]) -> Result<Laid, Fail<Refusal
 
 /// The layout of the instrumented code of a body that has room for it, for which no states are needed. Code that is too
 /// large is refused with the method's number.
-fn laid_body(alloc: Global, body: &Body, plan: &Plan) -> Result<Laid, Fail<Refusal>>
+pub fn laid_body(alloc: Global, body: &Body, plan: &Plan) -> Result<Laid, Fail<Refusal>>
     requires made { IsWellMade body.now }
     requires plan { HasPlan body.now plan.now }
     requires next { plan.now.next ≤ 32767 }
@@ -78,34 +119,4 @@ fn laid_body(alloc: Global, body: &Body, plan: &Plan) -> Result<Laid, Fail<Refus
 {
     let code = emitted_code(alloc, body, plan)?;
     laid(alloc, body.method, &code)
-}
-
-/// The bodies of a class with the layouts of their instrumented code, in their order. The first one whose code is too
-/// large is refused.
-pub fn ready_bodies(
-    alloc: Global,
-    bodies: List<Body>,
-    plans: List<Plan>,
-    kept: KeptStates,
-) -> Result<List<ReadyBody>, Fail<Refusal>>
-    requires made { All IsWellMade bodies }
-    requires plans { plans ≡ plans_of bodies }
-    requires kept { length kept ≡ length bodies }
-    requires few { all_probes bodies ≤ 32767 }
-    ensures laid { IfOk result (AreLaid bodies kept) }
-    ensures refused { IfErr result (λ e. Said e (IsFirstTooLong bodies)) }
-{
-    let mut ready = List::from_vec(Vec::with_capacity(alloc, bodies.len())?);
-    let planned = bodies.into_vec().into_iter().zip(plans.into_vec());
-    'laying: for ((body, plan), states) in planned.zip(kept.into_vec()) {
-        let laid = laid_body(alloc, &body, &plan)?;
-        let next = ReadyBody {
-            body,
-            plan,
-            laid,
-            states,
-        };
-        ready.push(next)?;
-    }
-    Ok(ready)
 }

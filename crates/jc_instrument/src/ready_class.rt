@@ -5,28 +5,40 @@ ghost use Rattle.jc_class.specs.Sizes.{BodiesWithin};
 ghost use Rattle.jc_class.specs.Writable.{IsClassFile};
 ghost use Rattle.jc_bytes.specs.Failing.{Said};
 ghost use Rattle.jc_instrument.specs.Causes.{IsFirstCause};
+ghost use Rattle.jc_instrument.specs.Found.{first_of};
 ghost use Rattle.jc_instrument.specs.LeftAlone.{is_left_alone};
 ghost use Rattle.jc_instrument.specs.ReadyClass.{IsReadyClass, making_causes};
 
-use crate::bodies::{NamedBodies, named_bodies};
-use crate::described::bounded_plans;
-use crate::plans::Planned;
-use crate::ready::{ReadyBody, ready_bodies};
+use crate::looking::{Looking, look_at_methods};
+use crate::ready::PlannedBody;
 use crate::room::room_refusal;
 use jc_bytes::{Fail, List, Names, Refusal};
 use jc_class::ClassFile;
 use std::alloc::Global;
 
-/// How many places the states of bodies may take that are kept until the code is written.
+/// How many places the states of bodies may take that are kept until their code is written.
 const MOST_KEPT_PLACES: usize = 1_048_576;
 
-/// The bodies of a class, ready for their instrumented code to be written.
+/// The bodies of a class whose instrumented code is to be written.
 #[derive(Debug, Drop)]
 pub struct ReadyClass {
     /// The bodies, in the order of their methods.
-    pub bodies: List<ReadyBody>,
+    pub bodies: List<PlannedBody>,
     /// How many probes there are.
     pub probes: u32,
+}
+
+/// The first refusal of the code and the frames of methods, if there is one.
+fn code_refusal(looked: &Looking) -> Option<Refusal>
+    ensures { result ≡ first_of looked.now.bad (first_of looked.now.frames.missing looked.now.frames.clash) }
+{
+    if let Some(refusal) = looked.bad {
+        return Some(refusal);
+    }
+    if let Some(refusal) = looked.frames.missing {
+        return Some(refusal);
+    }
+    looked.frames.clash
 }
 
 /// The bodies of a class that doesn't stay as it is, with classes in their frames by their numbers in `names`; or the
@@ -43,14 +55,16 @@ pub fn ready_class(
     ensures few { IfOk result (λ r. r.probes ≤ 32767) }
     ensures refused { IfErr result (λ e. Said e (IsFirstCause (making_causes class.now))) }
 {
-    let NamedBodies { bodies, states } = named_bodies(alloc, class, MOST_KEPT_PLACES, names)?;
-    let Planned { plans, probes } = bounded_plans(alloc, &bodies)?;
-    if let Some(refusal) = room_refusal(class, &bodies, probes) {
+    let looked = look_at_methods(alloc, class, MOST_KEPT_PLACES, names)?;
+    if let Some(refusal) = code_refusal(&looked) {
         return Err(Fail::Said(refusal));
     }
-    let ready = ready_bodies(alloc, bodies, plans, states)?;
-    Ok(ReadyClass {
-        bodies: ready,
-        probes,
-    })
+    if let Some(refusal) = room_refusal(class, &looked.room, looked.probes) {
+        return Err(Fail::Said(refusal));
+    }
+    if let Some(refusal) = looked.large {
+        return Err(Fail::Said(refusal));
+    }
+    let Looking { bodies, probes, .. } = looked;
+    Ok(ReadyClass { bodies, probes })
 }

@@ -1,74 +1,21 @@
 //! Whether a class has room for its probes, as far as this is known before its code is made.
-ghost use Rattle.std.specs.Prelude.{◌≡◌, ◌≤◌, ◌↔◌, ◌∷◌, [], false, All, IsTrue, length};
-ghost use Rattle.jc_methods.specs.WellMade.{IsWellMade, IsCounted};
+ghost use Rattle.std.specs.Prelude.{◌≡◌, ◌≤◌, ◌↔◌, ◌∷◌, [], false, List as Seq, None, IsTrue, length};
+ghost use Rattle.jc_methods.specs.declared.body.Body.{Body};
 ghost use Rattle.jc_plan.specs.Analysed.{all_probes};
 ghost use Rattle.jc_instrument.specs.Bodies.{AreBodiesOf};
 ghost use Rattle.jc_instrument.specs.Causes.{FirstCause, of_class as class_refusal_of};
+ghost use Rattle.jc_instrument.specs.Found.{HasRoomSoFar};
 ghost use Rattle.jc_instrument.specs.LeftAlone.{is_left_alone};
-ghost use Rattle.jc_instrument.specs.Room.{IsWhereItLacks, IsFirstThatLacks};
+ghost use Rattle.jc_instrument.specs.Room.{AreFirstLacks};
 ghost use Rattle.jc_instrument.specs.RoomCauses.{HasTooManyProbes, IsFull, HasFullMembers, early_room_causes};
 
+use crate::found::{ONE_TOO_MANY, RoomRefusals};
+use crate::looking::MOST_PROBES;
 use jc_bytes::{Refusal, RefusalKind};
 use jc_class::ClassFile;
-use jc_emit::straddles;
-use jc_methods::Body;
-
-/// The most probes that a class has: `sipush` pushes each id (JVM Specification 6.5).
-const MOST_PROBES: u32 = 32_767;
 
 /// The most fields and the most methods that a class has (JVM Specification 4.1).
 const MOST_MEMBERS: usize = 65_535;
-
-/// The most local variables that a method has (JVM Specification 4.7.3).
-const MOST_LOCALS: u16 = 65_535;
-
-/// The largest stack on which there is room for the three operands of a probe (JVM Specification 4.7.3).
-const MOST_STACK: u16 = 65_532;
-
-/// The place of a refusal for want of a number of two bytes.
-const ONE_TOO_MANY: u32 = 65_536;
-
-/// Where the body lacks room of this kind, if it does.
-fn place_that_lacks(kind: RefusalKind, body: &Body) -> Option<u32>
-    requires { IsCounted body.now.code }
-    ensures { IsWhereItLacks kind body.now result }
-{
-    match kind {
-        RefusalKind::StraddlingLocal => straddles(body),
-        RefusalKind::LocalsFull => {
-            if body.max_locals == MOST_LOCALS {
-                Some(ONE_TOO_MANY)
-            } else {
-                None
-            }
-        }
-        RefusalKind::StackFull => {
-            if body.max_stack > MOST_STACK {
-                Some(u32::from(body.max_stack) + 3)
-            } else {
-                None
-            }
-        }
-        _ => None,
-    }
-}
-
-/// The refusal of the first body that lacks room of this kind, if one does.
-fn first_that_lacks(kind: RefusalKind, bodies: &[Body]) -> Option<Refusal>
-    requires { All IsWellMade bodies.now }
-    ensures { IsFirstThatLacks kind bodies.now result }
-{
-    'seeking: for body in bodies {
-        if let Some(place) = place_that_lacks(kind, body) {
-            return Some(Refusal {
-                kind,
-                method: Some(body.method),
-                place,
-            });
-        }
-    }
-    None
-}
 
 /// A refusal of the class as a whole.
 fn of_class(kind: RefusalKind, place: u32) -> Refusal
@@ -91,12 +38,12 @@ fn is_full(class: &ClassFile) -> bool
 }
 
 /// Why the class has too many probes or members, if it has.
-fn count_refusal(class: &ClassFile, bodies: &[Body], probes: u32) -> Option<Refusal>
-    requires bodies { AreBodiesOf class.now bodies.now }
-    requires probes { probes ≡ all_probes bodies.now }
+fn count_refusal(class: &ClassFile, probes: u32) -> Option<Refusal>
     requires fields { length class.now.fields ≤ 65535 }
     requires methods { length class.now.methods ≤ 65535 }
-    ensures { FirstCause (HasTooManyProbes class.now ∷ HasFullMembers class.now ∷ []) result }
+    ensures first { (bodies : Seq Body) → AreBodiesOf class.now bodies → probes ≡ all_probes bodies
+        → FirstCause (HasTooManyProbes class.now ∷ HasFullMembers class.now ∷ []) result }
+    ensures few { result ≡ None → probes ≤ 32767 }
 {
     if probes > MOST_PROBES {
         return Some(of_class(RefusalKind::TooManyProbes, probes));
@@ -110,23 +57,23 @@ fn count_refusal(class: &ClassFile, bodies: &[Body], probes: u32) -> Option<Refu
 /// Why there is no room in the class for its probes, if there is none, as far as this is known before its code is
 /// made: a long or a double at the last argument of any method, too many probes, too many members, no local variable
 /// left in any method, or no room on the stack of one.
-pub fn room_refusal(class: &ClassFile, bodies: &[Body], probes: u32) -> Option<Refusal>
+pub fn room_refusal(class: &ClassFile, first: &RoomRefusals, probes: u32) -> Option<Refusal>
     requires changes { is_left_alone class.now ≡ false }
-    requires bodies { AreBodiesOf class.now bodies.now }
-    requires well_made { All IsWellMade bodies.now }
-    requires probes { probes ≡ all_probes bodies.now }
     requires fields { length class.now.fields ≤ 65535 }
     requires methods { length class.now.methods ≤ 65535 }
-    ensures { FirstCause (early_room_causes class.now) result }
+    ensures first { (bodies : Seq Body) → AreBodiesOf class.now bodies → AreFirstLacks bodies first.now → probes ≡ all_probes bodies
+        → FirstCause (early_room_causes class.now) result }
+    ensures room { result ≡ None → HasRoomSoFar first.now }
+    ensures few { result ≡ None → probes ≤ 32767 }
 {
-    if let Some(refusal) = first_that_lacks(RefusalKind::StraddlingLocal, bodies) {
+    if let Some(refusal) = first.straddling {
         return Some(refusal);
     }
-    if let Some(refusal) = count_refusal(class, bodies, probes) {
+    if let Some(refusal) = count_refusal(class, probes) {
         return Some(refusal);
     }
-    if let Some(refusal) = first_that_lacks(RefusalKind::LocalsFull, bodies) {
+    if let Some(refusal) = first.locals {
         return Some(refusal);
     }
-    first_that_lacks(RefusalKind::StackFull, bodies)
+    first.stack
 }

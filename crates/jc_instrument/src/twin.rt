@@ -1,20 +1,23 @@
 //! The instrumented class, from its parts.
-ghost use Rattle.std.specs.Prelude.{◌≡◌, ◌≤◌, ℕ, List as Seq, IfOk, IfErr, length};
+ghost use Rattle.std.specs.Prelude.{◌≡◌, ◌≤◌, ℕ, List as Seq, All, IfOk, IfErr, IfSome, length};
 ghost use Rattle.jc_methods.specs.VerificationTypes.{Names as ClassNames};
+ghost use Rattle.jc_bytes.specs.Reader.{most_read};
+ghost use Rattle.jc_class.specs.Sizes.{BodiesWithin};
 ghost use Rattle.jc_class.specs.Writable.{IsClassFile};
 ghost use Rattle.jc_plan.specs.Analysed.{all_probes};
-ghost use Rattle.jc_instrument.specs.BodiesWithStates.{BodyWithStates, all_frames, bodies_of};
+ghost use Rattle.jc_instrument.specs.BodiesWithStates.{BodyWithStates as Work, all_frames, bodies_of};
 ghost use Rattle.jc_instrument.specs.Members.{AreCoded, AreTextPlaces, IsFirstIfAny};
 ghost use Rattle.jc_bytes.specs.Failing.{Said};
 ghost use Rattle.jc_bytes.specs.Texts.{IsShortText};
 ghost use Rattle.jc_instrument.specs.Needed.{frame_needs, name_of};
-ghost use Rattle.jc_instrument.specs.Ready.{AreReady};
+ghost use Rattle.jc_instrument.specs.Ready.{AreReadyIfKept};
 ghost use Rattle.jc_instrument.specs.ReadyClass.{IsReadyClass};
 ghost use Rattle.jc_instrument.specs.RoomCauses.{HasFullPool};
 ghost use Rattle.jc_instrument.specs.Taking.{RefusesEach};
 ghost use Rattle.jc_instrument.specs.TwinText.{IsWrittenFor};
-ghost use Rattle.jc_instrument.specs.Writing.{AreWorksOf, IsFullFor, IsTwinFrom};
+ghost use Rattle.jc_instrument.specs.Writing.{ArePlannedWorks, IsFullFor, IsOnlyText, IsSource, IsTwinFrom};
 
+use crate::again::source_of;
 use crate::members::{data_member, init_member, put_codes};
 use crate::needs::{MemberPlaces, take_members};
 use crate::ready_class::ReadyClass;
@@ -63,24 +66,26 @@ fn code_places(pool: &Pool, members: &MemberPlaces) -> CodePlaces
 }
 
 /// The instrumented class. The pool of the class has taken what the added members need, and takes the classes that frames
-/// name.
+/// name. Bodies that weren't kept are read again from `source`.
 fn twin_class(
     alloc: Global,
     class: ClassFile,
     ready: ReadyClass,
+    source: &Option<ClassFile>,
     names: &mut Names,
     places: &TwinPlaces,
 ) -> Result<ClassFile, Fail<PoolFull>>
     requires few { ready.probes ≤ 32767 }
     requires method { places.now.codes.method ≡ places.now.members.method }
     requires frames { places.now.codes.frames ≡ places.now.members.frames }
-    requires ready { AreReady names.old ready.bodies }
+    requires ready { AreReadyIfKept names.old ready.bodies }
+    requires source { IfSome source.now IsSource }
     requires coded { AreCoded class.pool class.methods ready.bodies }
-    ensures twin { (others : ClassNames) (array : ℕ) (works : Seq BodyWithStates)
-        → AreWorksOf names.old others array ready.bodies works → ready.probes ≡ all_probes (bodies_of works)
+    ensures twin { (others : ClassNames) (array : ℕ) (works : Seq Work)
+        → ArePlannedWorks names.old others array source.now ready.bodies works → ready.probes ≡ all_probes (bodies_of works)
         → IfOk result (IsTwinFrom class places.now others array works) }
-    ensures refused { (others : ClassNames) (array : ℕ) (works : Seq BodyWithStates)
-        → AreWorksOf names.old others array ready.bodies works
+    ensures refused { (others : ClassNames) (array : ℕ) (works : Seq Work)
+        → ArePlannedWorks names.old others array source.now ready.bodies works
         → IfErr result (RefusesEach class.pool (frame_needs (all_frames others array works))) }
 {
     let ReadyClass { bodies, probes } = ready;
@@ -96,7 +101,15 @@ fn twin_class(
         methods,
         attributes,
     } = class;
-    let mut methods = put_codes(alloc, methods, bodies, &places.codes, names, &mut pool)?;
+    let mut methods = put_codes(
+        alloc,
+        methods,
+        bodies,
+        source,
+        &places.codes,
+        names,
+        &mut pool,
+    )?;
     fields.push(data_member(alloc, &places.members))?;
     methods.push(init_member(alloc, &places.members, probes)?)?;
     Ok(ClassFile {
@@ -114,19 +127,22 @@ fn twin_class(
 }
 
 /// The instrumented class of a class of this name, which has this id and whose bodies are ready. Its pool takes what the
-/// added members need, and then the classes that frames name, body after body.
+/// added members need, and then the classes that frames name, body after body. `source` is the class as it was given.
 fn written_twin(
     alloc: Global,
     id: u64,
     owner: &[u8],
     class: ClassFile,
     ready: ReadyClass,
+    source: &Option<ClassFile>,
     names: &mut Names,
 ) -> Result<ClassFile, Fail<PoolFull>>
     requires class { IsClassFile class }
     requires owner { name_of class ≡ owner.now }
     requires short { IsShortText owner.now }
     requires ready { IsReadyClass names.old class ready }
+    requires source { IfSome source.now (λ s. s ≡ class) }
+    requires sizes { All (λ m. BodiesWithin most_read m.attributes) class.methods }
     requires few { ready.probes ≤ 32767 }
     ensures twin { IfOk result (IsWrittenFor id class) }
     ensures refused { IfErr result (IsFullFor id class) }
@@ -135,28 +151,56 @@ fn written_twin(
     let members = take_members(alloc, owner, id, &mut class.pool)?;
     let codes = code_places(&class.pool, &members);
     let places = TwinPlaces { members, codes };
-    twin_class(alloc, class, ready, names, &places)
+    twin_class(alloc, class, ready, source, names, &places)
 }
 
-/// The instrumented class of a class of this name, which has this id and whose bodies are ready; or, where its pool would
-/// be full, the refusal.
-pub fn grown_twin(
+/// The same, with a class that is dropped then.
+fn twin_from(
     alloc: Global,
     id: u64,
     owner: &[u8],
     class: ClassFile,
     ready: ReadyClass,
+    source: Option<ClassFile>,
     names: &mut Names,
-) -> Result<ClassFile, Fail<Refusal>>
+) -> Result<ClassFile, Fail<PoolFull>>
     requires class { IsClassFile class }
     requires owner { name_of class ≡ owner.now }
     requires short { IsShortText owner.now }
     requires ready { IsReadyClass names.old class ready }
+    requires source { IfSome source (λ s. s ≡ class) }
+    requires sizes { All (λ m. BodiesWithin most_read m.attributes) class.methods }
+    requires few { ready.probes ≤ 32767 }
+    ensures twin { IfOk result (IsWrittenFor id class) }
+    ensures refused { IfErr result (IsFullFor id class) }
+{
+    written_twin(alloc, id, owner, class, ready, &source, names)
+}
+
+/// The instrumented class of a class of this name, which has this id and whose bodies are ready; or, where its pool would
+/// be full, the refusal. These are the bytes of the class, from which bodies are read again that weren't kept.
+pub fn grown_twin(
+    alloc: Global,
+    id: u64,
+    owner: &[u8],
+    bytes: &[u8],
+    class: ClassFile,
+    ready: ReadyClass,
+    names: &mut Names,
+) -> Result<ClassFile, Fail<Refusal>>
+    requires few_bytes { length bytes.now ≤ most_read }
+    requires read { IsOnlyText bytes.now class }
+    requires class { IsClassFile class }
+    requires owner { name_of class ≡ owner.now }
+    requires short { IsShortText owner.now }
+    requires ready { IsReadyClass names.old class ready }
+    requires sizes { All (λ m. BodiesWithin most_read m.attributes) class.methods }
     requires few { ready.probes ≤ 32767 }
     ensures twin { IfOk result (IsWrittenFor id class) }
     ensures refused { IfErr result (λ e. Said e (HasFullPool id class)) }
 {
-    match written_twin(alloc, id, owner, class, ready, names) {
+    let source = source_of(alloc, bytes, &ready.bodies)?;
+    match twin_from(alloc, id, owner, class, ready, source, names) {
         Ok(twin) => Ok(twin),
         Err(Fail::Memory) => Err(Fail::Memory),
         Err(Fail::Said(_)) => Err(Fail::Said(Refusal {

@@ -3,9 +3,11 @@ ghost use Rattle.std.specs.Prelude.{◌≡◌, ◌⊎◌, ◌≤◌, ⊤, true, 
 ghost use Rattle.std.specs.List.{list_any};
 ghost use Rattle.jc_bytes.specs.ByteLists.{AreBytes};
 ghost use Rattle.jc_bytes.specs.Reader.{most_read};
+ghost use Rattle.jc_bytes.specs.Texts.{IsShortText};
 ghost use Rattle.jc_bytes.specs.declared.refusal.Refusal.{Refusal as Why};
 ghost use Rattle.jc_class.specs.ClassFormat.{HasClass};
 ghost use Rattle.jc_class.specs.ClassId.{class_id};
+ghost use Rattle.jc_class.specs.ClassText.{ClassText};
 ghost use Rattle.jc_class.specs.Sizes.{BodiesWithin};
 ghost use Rattle.jc_class.specs.Writable.{IsClassFile};
 ghost use Rattle.jc_bytes.specs.Failing.{Said};
@@ -14,13 +16,16 @@ ghost use Rattle.jc_instrument.specs.Causes.{IsFirstCause};
 ghost use Rattle.jc_instrument.specs.Changing.{GetsProbes, changing_causes, has_too_long, is_too_long};
 ghost use Rattle.jc_instrument.specs.InstrumentedFile.{IsAsGiven, IsInstrumentedFile};
 ghost use Rattle.jc_instrument.specs.LeftAlone.{is_left_alone};
+ghost use Rattle.jc_instrument.specs.ReadyClass.{IsReadyClass, making_causes};
 ghost use Rattle.jc_instrument.specs.Refused.{Reason};
+ghost use Rattle.jc_instrument.specs.RoomCauses.{HasFullPool};
+ghost use Rattle.jc_instrument.specs.Writing.{IsOnlyText, IsTwinText};
 ghost use Rattle.jc_instrument.specs.Verified.{IsVerified};
 
 use crate::alone::{interface_refusal, is_left_alone};
 use crate::class::class_refusal;
 use crate::described::class_name_at;
-use crate::ready_class::ready_class;
+use crate::ready_class::{ReadyClass, ready_class};
 use crate::twin::grown_twin;
 use jc_bytes::{Bytes, Fail, List, Memory, Names, Refusal};
 use jc_class::{Attribute, ClassFile, Member, class_id, read_class, write_class};
@@ -89,9 +94,85 @@ fn are_bytes(bytes: &[u8])
     ensures { AreBytes bytes.now }
 {}
 
-/// The class with this id with its probes, or the first refusal of those that are looked for in code and while code is
-/// made and written.
-fn changed(alloc: Global, id: u64, class: ClassFile) -> Result<Instrumented, Fail<Refusal>>
+/// A class whose bodies are ready for their instrumented code to be written, with its name.
+#[derive(Debug, Drop)]
+struct NamedClass {
+    /// The bodies.
+    ready: ReadyClass,
+    /// The name of the class.
+    name: Bytes,
+}
+
+/// The bodies of a class and its name; or the first refusal of those that are looked for in code and in layouts.
+fn named_class(
+    alloc: Global,
+    class: &ClassFile,
+    names: &mut Names,
+) -> Result<NamedClass, Fail<Refusal>>
+    requires class { IsClassFile class.now }
+    requires sizes { All (λ m. BodiesWithin most_read m.attributes) class.now.methods }
+    requires changes { is_left_alone class.now ≡ false }
+    ensures ready { IfOk result (λ named. IsReadyClass names.new class.now named.ready) }
+    ensures few { IfOk result (λ named. named.ready.probes ≤ 32767) }
+    ensures name { IfOk result (λ named. class_name_of class.now.pool class.now.this_class ≡ Some named.name) }
+    ensures short { IfOk result (λ named. IsShortText named.name) }
+    ensures refused { IfErr result (λ e. Said e (IsFirstCause (making_causes class.now))) }
+{
+    let ready = ready_class(alloc, class, names)?;
+    let name = class_name_at(alloc, &class.pool, class.this_class)?;
+    Ok(NamedClass { ready, name })
+}
+
+/// The bytes of an instrumented class, whose methods have no attribute that is too long.
+fn class_bytes(alloc: Global, twin: ClassFile) -> Result<Bytes, Memory>
+    requires { list_any has_too_long twin.methods ≡ false → IsClassFile twin }
+    ensures text { IfOk result (λ bytes. ClassText bytes twin) }
+    ensures bytes { IfOk result AreBytes }
+{
+    if some_too_long(&twin.methods) {
+        return Err(Memory);
+    }
+    let bytes = write_class(alloc, &twin)?;
+    are_bytes(bytes.as_slice());
+    Ok(List::from_vec(bytes))
+}
+
+/// The bytes of the instrumented class of a class of these bytes and this name, which has this id and whose bodies are
+/// ready; or, where its pool would be full, the refusal.
+fn twin_bytes(
+    alloc: Global,
+    id: u64,
+    name: &[u8],
+    bytes: &[u8],
+    class: ClassFile,
+    ready: ReadyClass,
+    names: &mut Names,
+) -> Result<Bytes, Fail<Refusal>>
+    requires few_bytes { length bytes.now ≤ most_read }
+    requires read { IsOnlyText bytes.now class }
+    requires class { IsClassFile class }
+    requires name { class_name_of class.pool class.this_class ≡ Some name.now }
+    requires short { IsShortText name.now }
+    requires ready { IsReadyClass names.old class ready }
+    requires sizes { All (λ m. BodiesWithin most_read m.attributes) class.methods }
+    requires few { ready.probes ≤ 32767 }
+    ensures text { IfOk result (IsTwinText id class) }
+    ensures refused { IfErr result (λ e. Said e (HasFullPool id class)) }
+{
+    let twin = grown_twin(alloc, id, name, bytes, class, ready, names)?;
+    Ok(class_bytes(alloc, twin)?)
+}
+
+/// The class of these bytes, which has this id, with its probes; or the first refusal of those that are looked for in code and
+/// while code is made and written.
+fn changed(
+    alloc: Global,
+    id: u64,
+    bytes: &[u8],
+    class: ClassFile,
+) -> Result<Instrumented, Fail<Refusal>>
+    requires few { length bytes.now ≤ most_read }
+    requires read { IsOnlyText bytes.now class }
     requires class { IsClassFile class }
     requires sizes { All (λ m. BodiesWithin most_read m.attributes) class.methods }
     requires changes { is_left_alone class ≡ false }
@@ -99,17 +180,11 @@ fn changed(alloc: Global, id: u64, class: ClassFile) -> Result<Instrumented, Fai
     ensures refused { IfErr result (λ e. Said e (IsFirstCause (changing_causes id class))) }
 {
     let mut names = Names::new(alloc)?;
-    let ready = ready_class(alloc, &class, &mut names)?;
+    let NamedClass { ready, name } = named_class(alloc, &class, &mut names)?;
     let probes = ready.probes;
-    let name = class_name_at(alloc, &class.pool, class.this_class)?;
-    let twin = grown_twin(alloc, id, &name, class, ready, &mut names)?;
-    if some_too_long(&twin.methods) {
-        return Err(Fail::Memory);
-    }
-    let bytes = write_class(alloc, &twin)?;
-    are_bytes(bytes.as_slice());
+    let bytes = twin_bytes(alloc, id, &name, bytes, class, ready, &mut names)?;
     Ok(Instrumented {
-        bytes: List::from_vec(bytes),
+        bytes,
         id,
         name,
         probes,
@@ -133,7 +208,7 @@ fn whole(alloc: Global, bytes: &[u8]) -> Result<Instrumented, Fail<Refusal>>
     if let Some(refusal) = interface_refusal(&class) {
         return Err(Fail::Said(refusal));
     }
-    changed(alloc, class_id(bytes), class)
+    changed(alloc, class_id(bytes), bytes, class)
 }
 
 /// The class file with its probes, or the reason for which it has none.

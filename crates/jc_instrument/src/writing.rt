@@ -1,77 +1,27 @@
 //! The instrumented code of a body as text, while the pool takes the classes that its frames name.
-ghost use Rattle.std.specs.Option.{ForSome};
 ghost use Rattle.std.specs.Prelude.{◌≡◌, ◌≤◌, ℕ, length, map, IfOk, IfErr, OnOk};
 ghost use Rattle.std.specs.List.{AllByRecursion};
-ghost use Rattle.jc_methods.specs.VerificationTypes.{Grows, AreNumberedFrames, Names as ClassNames, type_state_at};
-ghost use Rattle.jc_methods.specs.WellMade.{IsWellMade};
+ghost use Rattle.jc_methods.specs.VerificationTypes.{Grows, Names as ClassNames, type_state_at};
 ghost use Rattle.jc_frames.specs.FullTable.{CanBeWritten, HasPlace, RefusesClasses, named_by_all};
-ghost use Rattle.jc_kinds.specs.Answers.{AreStates};
-ghost use Rattle.jc_plan.specs.Plan.{plan_of};
 ghost use Rattle.jc_pool.specs.Adding.{Extends};
-ghost use Rattle.jc_emit.specs.Placing.{HasPlan};
 ghost use Rattle.jc_code.specs.LaidText.{laid_text};
 ghost use Rattle.jc_code.specs.TwinCode.{written_frames};
 ghost use Rattle.jc_instrument.specs.BodiesWithStates.{BodyWithStates, emitted_of};
 ghost use Rattle.jc_instrument.specs.Ready.{IsReady};
-ghost use Rattle.jc_instrument.specs.Writing.{AreFramesOf, IsWorkOf, IsWrittenBody};
+ghost use Rattle.jc_instrument.specs.Writing.{IsWorkOf, IsWrittenBody};
 
 use crate::ready::ReadyBody;
 use jc_bytes::{Bytes, Fail, List, Memory, Names};
 use jc_code::{CodePlaces, CodeTables, write_laid};
 use jc_emit::{MovedTables, emit_frames, emit_tables};
 use jc_frames::take_classes;
-use jc_kinds::states;
 use jc_layout::Laid;
-use jc_methods::{Body, FrameAt, Plan, State};
+use jc_methods::FrameAt;
 use jc_pool::{Pool, PoolFull};
 use std::alloc::Global;
 
 /// The most rows that an exception table has (JVM Specification 4.7.3).
 const MOST_ROWS: usize = 65_535;
-
-/// The states before the instructions of a body that passes the kind check: those that were kept, or else they are
-/// found anew.
-fn known_states(
-    alloc: Global,
-    body: &Body,
-    kept: Option<List<State>>,
-    names: &mut Names,
-) -> Result<List<State>, Memory>
-    requires made { IsWellMade body.now }
-    requires kept { ForSome kept (AreStates names.old body.now) }
-    requires frames { AreNumberedFrames (length names.old) body.now.frames }
-    ensures states { IfOk result (AreStates names.new body.now) }
-    ensures names { Grows names.old names.new }
-{
-    if let Some(states) = kept {
-        return Ok(states);
-    }
-    match states(alloc, body, names) {
-        Ok(states) => Ok(List::from_vec(states)),
-        Err(_) => Err(Memory),
-    }
-}
-
-/// The frames of a layout of the instrumented code of a body, whose states may be kept.
-fn body_frames(
-    alloc: Global,
-    body: &Body,
-    plan: &Plan,
-    kept: Option<List<State>>,
-    wide: bool,
-    names: &mut Names,
-) -> Result<List<FrameAt>, Memory>
-    requires made { IsWellMade body.now }
-    requires plan { HasPlan body.now plan.now }
-    requires next { plan.now.next ≤ 32767 }
-    requires kept { ForSome kept (AreStates names.old body.now) }
-    requires frames { AreNumberedFrames (length names.old) body.now.frames }
-    ensures frames { (first : ℕ) → plan.now ≡ plan_of body.now first → IfOk result (AreFramesOf names.new body.now first wide) }
-    ensures names { Grows names.old names.new }
-{
-    let states = known_states(alloc, body, kept, names)?;
-    emit_frames(alloc, body, plan, &states, wide, names)
-}
 
 /// What the Code attribute of an instrumented method holds (JVM Specification 4.7.3).
 ///
@@ -137,7 +87,7 @@ pub fn body_text(
         laid,
         states,
     } = ready;
-    let frames = body_frames(alloc, &body, &plan, states, laid.wide, names)?;
+    let frames = emit_frames(alloc, &body, &plan, &states, laid.wide, names)?;
     take_classes(alloc, &frames, names, pool)?;
     let tables = emit_tables(alloc, &body, &plan)?;
     Ok(code_text(alloc, &tables, &laid, &frames, names, places, pool)?)

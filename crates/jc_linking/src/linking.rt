@@ -93,9 +93,9 @@ fn linked_of(alloc: Global, class: &ClassFile, names: &mut Names) -> Result<Link
             place: u32::from(class.major),
         }));
     }
-    let named = named_bodies(alloc, class, 0, names)?;
-    number_states(alloc, &named.bodies, names)?;
-    Ok(class_with(alloc, class, named.bodies)?)
+    let bodies = named_bodies(alloc, class, names)?;
+    number_states(alloc, &bodies, names)?;
+    Ok(class_with(alloc, class, bodies)?)
 }
 
 /// The class of a class file, with the classes of its frames by their numbers in `names`. The file's constant pool is

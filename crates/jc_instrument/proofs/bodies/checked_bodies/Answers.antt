@@ -1,6 +1,9 @@
+use Rattle.std.proofs.lemmas.Result.{IfOk-weaker}
+use Rattle.jc_instrument.specs.Steps.{AreCheckedBodies}
 use Rattle.jc_instrument.proofs.bodies.checked_bodies.Goals as goal
 
 pub returns-clause-bodies : goal.returns-clause-bodies
 returns-clause-bodies c =
-    let is = c.in_ok-named.ensures.bodies in
-    record { names = c.named_bodies.new.names; are = is.are; checked = is.checked }
+    IfOk-weaker c.named_bodies.result _ (AreCheckedBodies c.args.class.now)
+    (λ bodies is. record { names = c.named_bodies.new.names; are = is.are; checked = is.checked })
+    c.named_bodies.ensures.bodies

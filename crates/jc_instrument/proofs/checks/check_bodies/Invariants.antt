@@ -3,4 +3,4 @@ use Rattle.jc_instrument.proofs.checks.check_bodies.Given as goal
 
 -- the bodies so far are checked
 abbrev pub invariant-checking : goal.invariant-checking
-invariant-checking l = IsChecking l.fn.names l.names l.fn.room l.bodies l.body-index l.so_far
+invariant-checking l = IsChecking l.fn.names l.names l.bodies l.body-index l.clash

@@ -1,21 +1,27 @@
+use Rattle.std.proofs.Common.{subst}
+use Rattle.jc_bytes.specs.declared.refusal.RefusalKind.TheVariants as kinds
+use Rattle.jc_instrument.specs.Room.{IsFirstThatLacks}
 use Rattle.jc_instrument.proofs.RoomLaws.{counts_first, locals_first, stack_last, straddling_first}
 use Rattle.jc_instrument.proofs.room.room_refusal.Goals as goal
 
-pub returns-in-Some : goal.returns-in-Some
-returns-in-Some c =
-    straddling_first c.args.class.now c.args.bodies.now c.requires.changes c.requires.bodies c.in-Some.refusal c.in-Some.ensures
+pub returns-in-Some-clause-first : goal.returns-in-Some-clause-first
+returns-in-Some-clause-first c = λ bodies are lacks count.
+    straddling_first c.args.class.now bodies c.requires.changes are c.in-Some.refusal
+    (subst (IsFirstThatLacks kinds.StraddlingLocal bodies) c.in-Some.is lacks.straddling)
 
-pub returns-in-Some-count_refusal : goal.returns-in-Some-count_refusal
-returns-in-Some-count_refusal c =
-    counts_first c.args.class.now c.args.bodies.now c.requires.changes c.requires.bodies c.in_default.ensures c.in-Some-count_refusal.refusal
-    c.in-Some-count_refusal.ensures
+pub returns-in-Some-count_refusal-clause-first : goal.returns-in-Some-count_refusal-clause-first
+returns-in-Some-count_refusal-clause-first c = λ bodies are lacks count.
+    counts_first c.args.class.now bodies c.requires.changes are (subst (IsFirstThatLacks kinds.StraddlingLocal bodies) c.in_default.is lacks.straddling)
+    c.in-Some-count_refusal.refusal (c.in-Some-count_refusal.ensures.first bodies are count)
 
-pub returns-in-Some-first_that_lacks : goal.returns-in-Some-first_that_lacks
-returns-in-Some-first_that_lacks c =
-    locals_first c.args.class.now c.args.bodies.now c.requires.changes c.requires.bodies c.in_default.ensures c.in_default-count_refusal.ensures
-    c.in-Some-first_that_lacks.refusal c.in-Some-first_that_lacks.ensures
+pub returns-in-Some-locals-clause-first : goal.returns-in-Some-locals-clause-first
+returns-in-Some-locals-clause-first c = λ bodies are lacks count.
+    locals_first c.args.class.now bodies c.requires.changes are (subst (IsFirstThatLacks kinds.StraddlingLocal bodies) c.in_default.is lacks.straddling)
+    (c.in_default-count_refusal.ensures.first bodies are count) c.in-Some-locals.refusal
+    (subst (IsFirstThatLacks kinds.LocalsFull bodies) c.in-Some-locals.is lacks.locals)
 
-pub returns : goal.returns
-returns c =
-    stack_last c.args.class.now c.args.bodies.now c.requires.changes c.requires.bodies c.in_default.ensures c.in_default-count_refusal.ensures
-    c.in_default-first_that_lacks.ensures c.first_that_lacks-3.result c.first_that_lacks-3.ensures
+pub returns-clause-first : goal.returns-clause-first
+returns-clause-first c = λ bodies are lacks count.
+    stack_last c.args.class.now bodies c.requires.changes are (subst (IsFirstThatLacks kinds.StraddlingLocal bodies) c.in_default.is lacks.straddling)
+    (c.in_default-count_refusal.ensures.first bodies are count)
+    (subst (IsFirstThatLacks kinds.LocalsFull bodies) c.in_default-locals.is lacks.locals) c.args.first.now.stack lacks.stack

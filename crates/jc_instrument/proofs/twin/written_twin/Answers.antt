@@ -2,6 +2,7 @@ use Rattle.std.proofs.lemmas.Result.{IfErr-weaker, IfOk-weaker, err_from_is_err_
 use Rattle.jc_instrument.specs.TwinText.{IsWrittenFor}
 use Rattle.jc_instrument.specs.Writing.{IsFullFor}
 use Rattle.jc_instrument.proofs.CodedLaws.{are_coded}
+use Rattle.jc_instrument.proofs.PlannedLaws.{are_ready_if_kept, is_source}
 use Rattle.jc_instrument.proofs.ReadyClassLaws.{ready_works}
 use Rattle.jc_instrument.proofs.TwinFromLaws.{frames_refused, members_refused, twin_written}
 use Rattle.jc_instrument.proofs.twin.written_twin.Goals as goal
@@ -15,8 +16,17 @@ returns-in_err-members-clause-refused c =
 
 pub twin_class-requires-clause-coded : goal.twin_class-requires-clause-coded
 twin_class-requires-clause-coded c =
-    are_coded c.args.names.now c.args.class c.take_members.new.pool c.in_ok-members.ensures.extends c.requires.class c.args.ready.bodies
-    c.requires.ready.bodies.are
+    let r = c.requires.ready in
+    are_coded c.args.names.now c.args.class c.take_members.new.pool c.in_ok-members.ensures.extends c.requires.class r.bodies c.args.ready.bodies
+    r.are.are r.planned
+
+pub twin_class-requires-clause-ready : goal.twin_class-requires-clause-ready
+twin_class-requires-clause-ready c =
+    let r = c.requires.ready in
+    are_ready_if_kept c.args.names.now r.bodies c.args.ready.bodies r.planned
+
+pub twin_class-requires-clause-source : goal.twin_class-requires-clause-source
+twin_class-requires-clause-source c = is_source c.args.class c.args.source.now c.requires.class c.requires.sizes c.requires.source
 
 pub returns-clause-twin : goal.returns-clause-twin
 returns-clause-twin c =
@@ -27,7 +37,7 @@ returns-clause-twin c =
     twin_written c.args.id class c.requires.class w c.args.owner.now c.requires.owner c.take_members.new.pool c.in_ok-members.members
     c.in_ok-members.ensures.ok c.in_ok-members.ensures.extends c.code_places-codes.ensures.few c.code_places-codes.result
     c.code_places-codes.ensures.texts twin from)
-    (c.twin_class.ensures.twin w.others w.array w.works w.of w.count)
+    (c.twin_class.ensures.twin w.others w.array w.works (w.of c.args.source.now c.requires.source) w.count)
 
 pub returns-clause-refused : goal.returns-clause-refused
 returns-clause-refused c =
@@ -37,4 +47,4 @@ returns-clause-refused c =
     (λ e refused.
     frames_refused c.args.id class c.requires.class w c.args.owner.now c.requires.owner c.take_members.new.pool c.in_ok-members.members
     c.in_ok-members.ensures.ok e refused)
-    (c.twin_class.ensures.refused w.others w.array w.works w.of)
+    (c.twin_class.ensures.refused w.others w.array w.works (w.of c.args.source.now c.requires.source))

@@ -6,39 +6,44 @@ use Rattle.jc_methods.specs.declared.body.FrameAt.{FrameAt}
 use Rattle.jc_pool.specs.Pool.{PoolValue}
 use Rattle.jc_frames.specs.FullTable.{CanBeWritten, HasPlace, RefusesClasses, TakesClasses, named_by_all}
 use Rattle.jc_frames.proofs.TakenLaws.{all_stand, extends_both}
+use Rattle.jc_kinds.specs.Answers.{AreStates}
 use Rattle.jc_code.specs.LaidText.{laid_text}
 use Rattle.jc_instrument.specs.BodiesWithStates.{emitted_of}
 use Rattle.jc_instrument.specs.Writing.{IsWrittenBody}
-use Rattle.jc_instrument.proofs.WritingLaws.{body_written, can_be_written, few_bytes, meant_refused, numbered_of, ready_grown}
+use Rattle.jc_instrument.proofs.WritingLaws.{body_written, can_be_written, few_bytes, frames_of, meant_refused, numbered_of, ready_grown}
 use Rattle.jc_instrument.proofs.writing.body_text.Goals as goal
+
+pub emit_frames-requires-clause-states : goal.emit_frames-requires-clause-states
+emit_frames-requires-clause-states c =
+    subst (AreStates c.args.names.now c.args.ready.body) (sym c.deref.ensures) c.requires.states
 
 pub take_classes-requires : goal.take_classes-requires
 take_classes-requires c =
-    let now = c.body_frames.new.names in
+    let now = c.emit_frames.new.names in
     let r = c.args.ready in
     let plan = c.requires.plan in
     let ready = ready_grown c.args.names.now now r c.in_ok-frames.ensures.names c.requires in
-    subst (AreNumberedFrames (length now)) (sym c.deref.ensures)
+    subst (AreNumberedFrames (length now)) (sym c.deref-2.ensures)
     (numbered_of r.laid.starts (length now) c.in_ok-frames.frames
-    (can_be_written now r ready c.in_ok-frames.frames plan.0 plan.1 (c.in_ok-frames.ensures.frames plan.0 plan.1)))
+    (can_be_written now r ready c.in_ok-frames.frames plan.0 plan.1 (frames_of c.args.names.now now r plan.0 c.in_ok-frames.frames c.deref.result.now c.in_ok-frames.ensures.names c.requires c.deref.ensures (c.in_ok-frames.ensures.frames plan.0 plan.1))))
 
 pub code_text-requires-clause-few : goal.code_text-requires-clause-few
 code_text-requires-clause-few c = few_bytes c.args.names.now c.args.ready c.requires
 
 pub code_text-requires-clause-frames : goal.code_text-requires-clause-frames
 code_text-requires-clause-frames c =
-    let now = c.body_frames.new.names in
+    let now = c.emit_frames.new.names in
     let r = c.args.ready in
     let plan = c.requires.plan in
     let ready = ready_grown c.args.names.now now r c.in_ok-frames.ensures.names c.requires in
-    subst (CanBeWritten r.laid.starts (length now)) (sym c.deref-2.ensures)
-    (can_be_written now r ready c.in_ok-frames.frames plan.0 plan.1 (c.in_ok-frames.ensures.frames plan.0 plan.1))
+    subst (CanBeWritten r.laid.starts (length now)) (sym c.deref-3.ensures)
+    (can_be_written now r ready c.in_ok-frames.frames plan.0 plan.1 (frames_of c.args.names.now now r plan.0 c.in_ok-frames.frames c.deref.result.now c.in_ok-frames.ensures.names c.requires c.deref.ensures (c.in_ok-frames.ensures.frames plan.0 plan.1)))
 
 pub code_text-requires-clause-classes : goal.code_text-requires-clause-classes
 code_text-requires-clause-classes c =
-    let now = c.body_frames.new.names in
+    let now = c.emit_frames.new.names in
     subst (λ (fs : List FrameAt). AllByRecursion (HasPlace c.take_classes.new.pool) (named_by_all (map (type_state_at now) fs)))
-    (c.deref.ensures ∙ sym c.deref-2.ensures)
+    (c.deref-2.ensures ∙ sym c.deref-3.ensures)
     (all_stand c.args.pool.now c.take_classes.new.pool _ c.in_ok-take_classes.ensures.classes)
 
 pub returns-in_err-frames-clause-refused : goal.returns-in_err-frames-clause-refused
@@ -50,13 +55,13 @@ pub returns-in_err-take_classes-clause-refused : goal.returns-in_err-take_classe
 returns-in_err-take_classes-clause-refused c = λ others array w of.
     let r = c.from_residual-in_err-take_classes in
     let p = err_from_is_err_and r.result r.ensures.1 in
-    let now = c.body_frames.new.names in
+    let now = c.emit_frames.new.names in
     let e = c.in_err-take_classes.field-0.0 in
     let refused = subst (λ (fs : List FrameAt). RefusesClasses c.args.pool.now (named_by_all (map (type_state_at now) fs)) c.take_classes.new.pool e)
-    c.deref.ensures c.in_err-take_classes.ensures.refused in
+    c.deref-2.ensures c.in_err-take_classes.ensures.refused in
     rw (p.1, p.2)
     (meant_refused c.args.names.now now others array c.args.ready w c.in_ok-frames.ensures.names c.requires of c.in_ok-frames.frames
-    (c.in_ok-frames.ensures.frames w.first of.plan) c.args.pool.now c.take_classes.new.pool e refused)
+    (frames_of c.args.names.now now c.args.ready w.first c.in_ok-frames.frames c.deref.result.now c.in_ok-frames.ensures.names c.requires c.deref.ensures (c.in_ok-frames.ensures.frames w.first of.plan)) c.args.pool.now c.take_classes.new.pool e refused)
 
 pub returns-in_err-tables-clause-refused : goal.returns-in_err-tables-clause-refused
 returns-in_err-tables-clause-refused c = λ others array w of.
@@ -76,10 +81,10 @@ returns-in_err-code_text-clause-extends c =
 
 pub returns-clause-text : goal.returns-clause-text
 returns-clause-text c = λ others array w of.
-    let now = c.body_frames.new.names in
+    let now = c.emit_frames.new.names in
     let taken = c.take_classes.new.pool in
-    let same = c.deref.ensures in
-    let there = c.deref-2.ensures in
+    let same = c.deref-2.ensures in
+    let there = c.deref-3.ensures in
     let takes = subst (λ (fs : List FrameAt). TakesClasses c.args.pool.now (named_by_all (map (type_state_at now) fs)) taken) same
     c.in_ok-take_classes.ensures.classes in
     let is = subst (λ (fs : List FrameAt). c.in_ok-code_text.field-0 ≡ laid_text taken c.args.places.now now c.in_ok-tables.tables c.args.ready.laid fs) there
@@ -87,7 +92,7 @@ returns-clause-text c = λ others array w of.
     subst (λ (pool : PoolValue). IsWrittenBody c.args.pool.now c.args.places.now others (emitted_of array w) pool c.in_ok-code_text.field-0)
     (sym c.in_ok-code_text.ensures.kept)
     (body_written c.args.names.now now others array c.args.ready w c.in_ok-frames.ensures.names c.requires of c.in_ok-frames.frames
-    (c.in_ok-frames.ensures.frames w.first of.plan) c.args.pool.now taken c.args.places.now c.in_ok-tables.tables c.in_ok-code_text.field-0 takes
+    (frames_of c.args.names.now now c.args.ready w.first c.in_ok-frames.frames c.deref.result.now c.in_ok-frames.ensures.names c.requires c.deref.ensures (c.in_ok-frames.ensures.frames w.first of.plan)) c.args.pool.now taken c.args.places.now c.in_ok-tables.tables c.in_ok-code_text.field-0 takes
     (c.in_ok-tables.ensures w.first of.plan) is)
 
 pub returns-clause-extends : goal.returns-clause-extends

@@ -1,0 +1,102 @@
+-- What is known of the first methods of a class that gets probes.
+use Rattle.std.specs.Prelude.{◌≡◌, ◌⊎◌, ℕ, ◌<◌, ◌≤◌, List, [], ◌∷◌, ◌++◌, Option, Some, None, All, slice_get, MatchOption}
+use Rattle.jc_methods.specs.VerificationTypes.{Names}
+use Rattle.jc_methods.specs.WellMade.{IsWellMade}
+use Rattle.jc_methods.specs.declared.body.Body.{Body}
+use Rattle.jc_bytes.specs.declared.refusal.Refusal.{Refusal}
+use Rattle.jc_bytes.specs.declared.refusal.RefusalKind.TheVariants as kinds
+use Rattle.jc_class.specs.declared.class_file.ClassFile.{ClassFile}
+use Rattle.jc_kinds.specs.Answers.{IsKindRefusal}
+use Rattle.jc_kinds.specs.Checked.{Checked, FirstMissing, FirstClash}
+use Rattle.jc_layout.specs.Layout.{chosen_length}
+use Rattle.jc_plan.specs.Analysed.{all_probes}
+use Rattle.jc_plan.specs.Plan.{plan_of}
+use Rattle.jc_instrument.specs.Bodies.{AreBodiesBelow}
+use Rattle.jc_instrument.specs.Causes.{InMethod}
+use Rattle.jc_instrument.specs.Found.{AreFramesFine, HasRoomSoFar, KeepsLack, noted}
+use Rattle.jc_instrument.specs.Probing.{IsFirstTooLong, IsTooLong}
+use Rattle.jc_instrument.specs.Ready.{ArePlanned, IsPlannedBody}
+use Rattle.jc_instrument.specs.Reasons.{IsFaulty}
+use Rattle.jc_instrument.specs.Room.{AreFirstLacks}
+use Rattle.jc_instrument.specs.RoomCauses.{probed_code}
+use Rattle.jc_instrument.specs.Steps.{InBodies, NoneMissing}
+use Rattle.jc_instrument.specs.declared.looking.Looking.{Looking}
+use Rattle.jc_instrument.specs.declared.ready.PlannedBody.{PlannedBody}
+
+-- ---- bodies so far
+
+-- the first missing frame; or none is missing, and this is the first clash; or each body passes the kind check
+abbrev pub FramesSoFar : Names → List Body → (missing clash : Option Refusal) → Type 0
+FramesSoFar names bodies (Some r) clash = InBodies kinds.FrameMissing FirstMissing bodies r
+FramesSoFar names bodies None (Some r) = NoneMissing bodies × InBodies kinds.FrameClash (FirstClash names) bodies r
+FramesSoFar names bodies None None = (i : ℕ) (b : Body) → slice_get bodies i ≡ Some b → Checked names b
+
+-- the first body whose code is too large; or none has such code, and each is planned
+abbrev pub PlannedSoFar : Names → List Body → List PlannedBody → Option Refusal → Type 0
+PlannedSoFar names bodies planned None = ArePlanned names bodies planned
+PlannedSoFar names bodies planned (Some r) = IsFirstTooLong bodies r
+
+-- the first lack of room of each kind, how many probes there are, and, where there is room, what is planned
+pub record RoomSoFar (names : Names) (bodies : List Body) (s : Looking) : Type 0 where
+  pub lacks : AreFirstLacks bodies s.room
+  pub probes : s.probes ≡ all_probes bodies
+  pub planned : HasRoomSoFar s.room → s.probes ≤ 32767 → PlannedSoFar names bodies s.bodies s.large
+
+-- what is known of these bodies
+pub record AreLookedAt (names : Names) (bodies : List Body) (s : Looking) : Type 0 where
+  pub made : All IsWellMade bodies
+  pub frames : FramesSoFar names bodies s.frames.missing s.frames.clash
+  pub room : AreFramesFine s.frames → RoomSoFar names bodies s
+
+-- ---- methods so far
+
+-- the methods below this number have these bodies
+pub record HaveBodies (names : Names) (c : ClassFile) (number : ℕ) (s : Looking) : Type 0 where
+  pub bodies : List Body
+  pub are : AreBodiesBelow names c number bodies
+  pub so : AreLookedAt names bodies s
+
+-- What is known of the methods below this number, in none of which a subroutine instruction stands: the refusal of the first
+-- one whose code has a fault, or else what is known of their bodies.
+pub record IsLooking (names : Names) (c : ClassFile) (number : ℕ) (s : Looking) : Type 0 where
+  pub no_subroutine : (before place : ℕ) → before < number → IsFaulty c kinds.Subroutine before place → ⊥
+  pub found : MatchOption s.bad (HaveBodies names c number s) (InMethod kinds.BadCode (IsFaulty c kinds.BadCode))
+
+-- ---- one body more
+
+-- the body with this first id is put last, and its code isn't too large
+pub record PutsPlanned (names : Names) (b : Body) (first : ℕ) (old new : List PlannedBody) : Type 0 where
+  pub planned : PlannedBody
+  pub put : new ≡ old ++ planned ∷ []
+  pub is : IsPlannedBody names b first planned
+  pub short : chosen_length (probed_code b first) ≤ 65535
+
+-- what was refused as too large stays; or else the body is planned, or its code is too large
+abbrev pub PlansOn : Names → Body → (old new : Looking) → (large : Option Refusal) → Type 0
+PlansOn names b old new (Some r) = new.large ≡ Some r
+PlansOn names b old new None =
+    ((new.large ≡ None) × PutsPlanned names b old.probes old.bodies new.bodies)
+    ⊎ ((r : Refusal) × (new.large ≡ Some r) × IsTooLong b old.probes r)
+
+-- one more body that passes the kind check is looked at
+pub record LooksOn (names : Names) (b : Body) (old new : Looking) : Type 0 where
+  pub straddling : KeepsLack kinds.StraddlingLocal b old.room.straddling new.room.straddling
+  pub locals : KeepsLack kinds.LocalsFull b old.room.locals new.room.locals
+  pub stack : KeepsLack kinds.StackFull b old.room.stack new.room.stack
+  pub probes : new.probes ≡ (plan_of b old.probes).next
+  pub planned : HasRoomSoFar new.room → new.probes ≤ 32767 → PlansOn names b old new old.large
+
+-- it passes the kind check, and is looked at where all bodies did
+pub record PassesOn (names : Names) (b : Body) (old new : Looking) : Type 0 where
+  pub checked : Checked names b
+  pub frames : new.frames ≡ old.frames
+  pub on : AreFramesFine old.frames → LooksOn names b old new
+
+-- it doesn't, and its refusal is kept where it is the first one
+pub record RefusedOn (names : Names) (b : Body) (old new : Looking) : Type 0 where
+  pub refusal : Refusal
+  pub is : IsKindRefusal names b refusal
+  pub frames : new.frames ≡ noted refusal.kind refusal old.frames
+
+abbrev pub LooksAtBody : Names → Body → (old new : Looking) → Type 0
+LooksAtBody names b old new = PassesOn names b old new ⊎ RefusedOn names b old new

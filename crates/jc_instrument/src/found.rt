@@ -1,0 +1,123 @@
+//! The first refusals that are found while the methods of a class are looked at.
+ghost use Rattle.std.specs.Prelude.{◌≡◌, ◌↔◌, IsTrue};
+ghost use Rattle.jc_methods.specs.WellMade.{IsWellMade, IsCounted};
+ghost use Rattle.jc_instrument.specs.Found.{AreFramesFine, HasRoomSoFar, KeepsLack, noted};
+ghost use Rattle.jc_instrument.specs.Room.{IsWhereItLacks};
+
+use jc_bytes::{Refusal, RefusalKind};
+use jc_emit::straddles;
+use jc_methods::Body;
+
+/// The most local variables that a method has (JVM Specification 4.7.3).
+const MOST_LOCALS: u16 = 65_535;
+
+/// The largest stack on which there is room for the three operands of a probe (JVM Specification 4.7.3).
+const MOST_STACK: u16 = 65_532;
+
+/// The place of a refusal for want of a number of two bytes.
+pub const ONE_TOO_MANY: u32 = 65_536;
+
+/// The first refusals of the kind check.
+#[derive(Clone, Copy, Debug)]
+pub struct FrameRefusals {
+    /// The first missing frame.
+    pub missing: Option<Refusal>,
+    /// The first clash.
+    pub clash: Option<Refusal>,
+}
+
+/// The first refusals for want of room, by their kinds.
+#[derive(Clone, Copy, Debug)]
+pub struct RoomRefusals {
+    /// A long or a double at the last argument.
+    pub straddling: Option<Refusal>,
+    /// No local variable left.
+    pub locals: Option<Refusal>,
+    /// No room on the stack.
+    pub stack: Option<Refusal>,
+}
+
+/// Whether no body was refused by the kind check.
+pub fn are_frames_fine(first: &FrameRefusals) -> bool
+    ensures { IsTrue result ↔ AreFramesFine first.now }
+{
+    first.missing.is_none() && first.clash.is_none()
+}
+
+/// Whether no body lacks room.
+pub fn has_room_so_far(first: &RoomRefusals) -> bool
+    ensures { IsTrue result ↔ HasRoomSoFar first.now }
+{
+    first.straddling.is_none() && first.locals.is_none() && first.stack.is_none()
+}
+
+/// The first refusals once one more body was refused by the kind check.
+pub fn noted(first: FrameRefusals, refusal: Refusal) -> FrameRefusals
+    ensures { result ≡ noted refusal.kind refusal first }
+{
+    match refusal.kind {
+        RefusalKind::FrameMissing => FrameRefusals {
+            missing: Some(first.missing.unwrap_or(refusal)),
+            clash: first.clash,
+        },
+        _ => FrameRefusals {
+            missing: first.missing,
+            clash: Some(first.clash.unwrap_or(refusal)),
+        },
+    }
+}
+
+/// Where the body lacks room of this kind, if it does.
+fn place_that_lacks(kind: RefusalKind, body: &Body) -> Option<u32>
+    requires { IsCounted body.now.code }
+    ensures { IsWhereItLacks kind body.now result }
+{
+    match kind {
+        RefusalKind::StraddlingLocal => straddles(body),
+        RefusalKind::LocalsFull => {
+            if body.max_locals == MOST_LOCALS {
+                Some(ONE_TOO_MANY)
+            } else {
+                None
+            }
+        }
+        RefusalKind::StackFull => {
+            if body.max_stack > MOST_STACK {
+                Some(u32::from(body.max_stack) + 3)
+            } else {
+                None
+            }
+        }
+        _ => None,
+    }
+}
+
+/// The first refusal of this kind once one more body is looked at.
+fn first_lack(first: Option<Refusal>, kind: RefusalKind, body: &Body) -> Option<Refusal>
+    requires { IsCounted body.now.code }
+    ensures { KeepsLack kind body.now first result }
+{
+    if first.is_some() {
+        return first;
+    }
+    let place = place_that_lacks(kind, body)?;
+    Some(Refusal {
+        kind,
+        method: Some(body.method),
+        place,
+    })
+}
+
+/// The first refusals once one more body is looked at.
+pub fn lacks(first: RoomRefusals, body: &Body) -> RoomRefusals
+    requires { IsWellMade body.now }
+    ensures straddling { KeepsLack RefusalKind.StraddlingLocal body.now first.straddling result.straddling }
+    ensures locals { KeepsLack RefusalKind.LocalsFull body.now first.locals result.locals }
+    ensures stack { KeepsLack RefusalKind.StackFull body.now first.stack result.stack }
+{
+    RoomRefusals {
+        straddling: first_lack(first.straddling, RefusalKind::StraddlingLocal, body),
+        locals: first_lack(first.locals, RefusalKind::LocalsFull, body),
+        stack: first_lack(first.stack, RefusalKind::StackFull, body),
+    }
+}

@@ -1,0 +1,229 @@
+//! The methods of a class that gets probes are looked at, one after the other.
+ghost use Rattle.std.specs.Prelude.{◌≡◌, ◌<◌, ◌+◌, ◌≤◌, ◌↔◌, ℕ, length, All, None, IfOk, IfErr, IfSome, IsTrue, OnErr, OnOk};
+ghost use Rattle.jc_methods.specs.VerificationTypes.{AreNumberedFrames, Grows, Names as ClassNames};
+ghost use Rattle.jc_methods.specs.WellMade.{IsWellMade};
+ghost use Rattle.jc_bytes.specs.Failing.{Said};
+ghost use Rattle.jc_bytes.specs.Reader.{most_read};
+ghost use Rattle.jc_class.specs.Writable.{IsClassFile};
+ghost use Rattle.jc_class.specs.Sizes.{BodiesWithin};
+ghost use Rattle.jc_kinds.specs.Answers.{AreStates};
+ghost use Rattle.jc_plan.specs.Plan.{plan_of};
+ghost use Rattle.jc_instrument.specs.Causes.{IsFirstCause};
+ghost use Rattle.jc_instrument.specs.KeptStates.{places_if_kept, places_kept};
+ghost use Rattle.jc_instrument.specs.Looking.{IsLooking, LooksAtBody, LooksOn, PutsPlanned};
+ghost use Rattle.jc_instrument.specs.Probing.{IsTooLong};
+ghost use Rattle.jc_instrument.specs.Reasons.{method_causes};
+ghost use Rattle.jc_instrument.specs.Steps.{IsSubroutineAt};
+
+use crate::found::{FrameRefusals, RoomRefusals, are_frames_fine, has_room_so_far, lacks, noted};
+use crate::kept::keep_first;
+use crate::ready::{PlannedBody, ReadyBody, UnreadBody, bounded_plan, laid_body};
+use crate::states::checked_states;
+use jc_body::read_body;
+use jc_bytes::{Fail, List, Memory, Names, Refusal, RefusalKind};
+use jc_class::ClassFile;
+use jc_methods::{Body, Plan, State};
+use std::alloc::Global;
+
+/// The most probes that a class has: `sipush` pushes each id (JVM Specification 6.5).
+pub const MOST_PROBES: u32 = 32_767;
+
+/// What is known of the first methods of a class.
+#[derive(Debug, Drop)]
+pub struct Looking {
+    /// The first fault of their code, none of which is a subroutine instruction.
+    pub bad: Option<Refusal>,
+    /// The first refusals of the kind check, where no code has a fault.
+    pub frames: FrameRefusals,
+    /// The first refusals for want of room, where the kind check refuses no body.
+    pub room: RoomRefusals,
+    /// The first refusal of code that is too large, where nothing else is refused.
+    pub large: Option<Refusal>,
+    /// The bodies whose code is to be written, where nothing is refused.
+    pub bodies: List<PlannedBody>,
+    /// How many probes there are.
+    pub probes: u32,
+    /// How many more places the states of bodies that are kept may take.
+    pub left: usize,
+}
+
+/// Lays out the instrumented code of one more body that has room for its probes. The body is kept with its states where
+/// there was room for these.
+fn plan_next(
+    alloc: Global,
+    body: Body,
+    plan: Plan,
+    first: u32,
+    states: Option<List<State>>,
+    bodies: &mut List<PlannedBody>,
+) -> Result<(), Fail<Refusal>>
+    requires made { IsWellMade body }
+    requires plan { plan ≡ plan_of body first }
+    requires next { plan.next ≤ 32767 }
+    ensures put { (names : ClassNames) → AreNumberedFrames (length names) body.frames → IfSome states (AreStates names body)
+        → OnOk result (PutsPlanned names body first bodies.old bodies.new) }
+    ensures few { OnOk result (places_kept bodies.new ≤ places_kept bodies.old + places_if_kept body states) }
+    ensures refused { IfErr result (λ e. Said e (IsTooLong body first)) }
+    ensures stays { OnErr result (bodies.new ≡ bodies.old) }
+{
+    let laid = laid_body(alloc, &body, &plan)?;
+    let next = match states {
+        Some(states) => PlannedBody::Ready(ReadyBody {
+            body,
+            plan,
+            laid,
+            states,
+        }),
+        None => PlannedBody::Unread(UnreadBody {
+            method: body.method,
+            first,
+        }),
+    };
+    bodies.push(next)?;
+    Ok(())
+}
+
+/// Looks at one more body that passes the kind check: what room it lacks, its probes, and then its layout, where nothing is
+/// refused so far.
+fn look_at_passing(
+    alloc: Global,
+    body: Body,
+    states: Option<List<State>>,
+    so_far: &mut Looking,
+) -> Result<(), Memory>
+    requires made { IsWellMade body }
+    ensures on { (names : ClassNames) → AreNumberedFrames (length names) body.frames → IfSome states (AreStates names body)
+        → OnOk result (LooksOn names body so_far.old so_far.new) }
+    ensures few { OnOk result (places_kept so_far.new.bodies ≤ places_kept so_far.old.bodies + places_if_kept body states) }
+    ensures left { so_far.new.left ≡ so_far.old.left }
+    ensures bad { so_far.new.bad ≡ so_far.old.bad }
+    ensures frames { so_far.new.frames ≡ so_far.old.frames }
+{
+    so_far.room = lacks(so_far.room, &body);
+    let first = so_far.probes;
+    let plan = bounded_plan(alloc, &body, first)?;
+    so_far.probes = plan.next;
+    if let Some(_) = so_far.large {
+        return Ok(());
+    }
+    if !has_room_so_far(&so_far.room) {
+        return Ok(());
+    }
+    if plan.next > MOST_PROBES {
+        return Ok(());
+    }
+    match plan_next(alloc, body, plan, first, states, &mut so_far.bodies) {
+        Ok(()) => Ok(()),
+        Err(Fail::Memory) => Err(Memory),
+        Err(Fail::Said(refusal)) => {
+            so_far.large = Some(refusal);
+            Ok(())
+        }
+    }
+}
+
+/// Looks at one more body: whether it passes the kind check (JVM Specification 4.10.1), and, where all bodies do, the rest.
+fn look_at_body(
+    alloc: Global,
+    body: Body,
+    names: &mut Names,
+    so_far: &mut Looking,
+) -> Result<(), Memory>
+    requires made { IsWellMade body }
+    requires frames { AreNumberedFrames (length names.old) body.frames }
+    ensures looks { OnOk result (LooksAtBody names.new body so_far.old so_far.new) }
+    ensures few { OnOk result (places_kept so_far.new.bodies + so_far.new.left ≤ places_kept so_far.old.bodies + so_far.old.left) }
+    ensures bad { so_far.new.bad ≡ so_far.old.bad }
+    ensures grows { Grows names.old names.new }
+{
+    match checked_states(alloc, &body, &mut so_far.left, names) {
+        Ok(states) => {
+            if are_frames_fine(&so_far.frames) {
+                look_at_passing(alloc, body, states, so_far)?;
+            }
+            Ok(())
+        }
+        Err(Fail::Memory) => Err(Memory),
+        Err(Fail::Said(refusal)) => {
+            so_far.frames = noted(so_far.frames, refusal);
+            Ok(())
+        }
+    }
+}
+
+/// Whether more than their code is asked of further methods: no code has a fault, and no frame is missing.
+fn is_wanted(so_far: &Looking) -> bool
+    ensures { IsTrue result ↔ ((so_far.now.bad ≡ None) × (so_far.now.frames.missing ≡ None)) }
+{
+    so_far.bad.is_none() && so_far.frames.missing.is_none()
+}
+
+/// Looks at one more method. Behind a fault of code, and behind a missing frame, its code is read and no more.
+fn look_at(
+    alloc: Global,
+    class: &ClassFile,
+    number: u32,
+    names: &mut Names,
+    so_far: &mut Looking,
+) -> Result<(), Fail<Refusal>>
+    requires exists { number < length class.now.methods }
+    requires class { IsClassFile class.now }
+    requires sizes { All (λ m. BodiesWithin most_read m.attributes) class.now.methods }
+    requires before { IsLooking names.old class.now number so_far.old }
+    ensures looked { OnOk result (IsLooking names.new class.now (number + 1) so_far.new) }
+    ensures few { OnOk result (places_kept so_far.new.bodies + so_far.new.left ≤ places_kept so_far.old.bodies + so_far.old.left) }
+    ensures refused { IfErr result (λ e. Said e (IsSubroutineAt class.now number)) }
+    ensures grows { Grows names.old names.new }
+{
+    match read_body(alloc, class, number, names) {
+        Ok(Some(body)) => {
+            if is_wanted(so_far) {
+                look_at_body(alloc, body, names, so_far)?;
+            }
+            Ok(())
+        }
+        Ok(None) => Ok(()),
+        Err(fail) => {
+            so_far.bad = keep_first(so_far.bad, RefusalKind::Subroutine, fail)?;
+            Ok(())
+        }
+    }
+}
+
+/// Looks at the methods of a class, one after the other (JVM Specification 4.7.3), with classes in their frames by their
+/// numbers in `names`. A body is dropped before the next one is read, unless there is room for its states in the places
+/// that are left. A subroutine instruction of any method is refused before anything else.
+pub fn look_at_methods(
+    alloc: Global,
+    class: &ClassFile,
+    left: usize,
+    names: &mut Names,
+) -> Result<Looking, Fail<Refusal>>
+    requires class { IsClassFile class.now }
+    requires sizes { All (λ m. BodiesWithin most_read m.attributes) class.now.methods }
+    ensures looked { IfOk result (IsLooking names.new class.now (length class.now.methods)) }
+    ensures few { IfOk result (λ looked. places_kept looked.bodies ≤ left) }
+    ensures refused { IfErr result (λ e. Said e (IsFirstCause (method_causes class.now))) }
+    ensures grows { Grows names.old names.new }
+{
+    let mut so_far = Looking {
+        bad: None,
+        frames: FrameRefusals {
+            missing: None,
+            clash: None,
+        },
+        room: RoomRefusals {
+            straddling: None,
+            locals: None,
+            stack: None,
+        },
+        large: None,
+        bodies: List::new(alloc),
+        probes: 0,
+        left,
+    };
+    'looking: for number in 0..class.methods.len() {
+        look_at(alloc, class, number as u32, names, &mut so_far)?;
+    }
+    Ok(so_far)
+}
