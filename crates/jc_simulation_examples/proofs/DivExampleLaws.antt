@@ -1,16 +1,15 @@
 -- A division, and its twin.
-use Rattle.std.proofs.Common.{◌≡◌, ◌≢◌, refl, sym, subst, ℕ, zero, suc, inl, inr, ⊎_elim, pos, List, [], ◌∷◌, Some, codes, arith}
+use Rattle.std.proofs.Common.{◌≡◌, ◌≢◌, refl, sym, subst, ℕ, zero, suc, inl, inr, List, [], ◌∷◌, Some, arith}
 use Rattle.std.specs.Prelude.{slice_get, Contains, All}
 use Rattle.std.proofs.lemmas.Bool.{true≢false}
 use Rattle.std.proofs.lemmas.List.Elements.{All-from_recursion, All-contains}
 use Rattle.jc_bytes.specs.Descriptor.{Int}
-use Rattle.jc_bytes.proofs.BooleanLaws.{which_in, none_in, stands_in}
+use Rattle.jc_bytes.proofs.BooleanLaws.{none_in, stands_in}
 use Rattle.jc_methods.specs.declared.insn.Insn.{Insn}
 use Rattle.jc_methods.specs.declared.insn.Insn.TheVariants as insns
 use Rattle.jc_methods.specs.declared.kind.Kind.{Kind}
 use Rattle.jc_methods.specs.declared.kind.Kind.TheVariants as kinds
 use Rattle.jc_methods.specs.declared.kind.State.{State}
-use Rattle.jc_methods.specs.declared.body.Body.{Body}
 use Rattle.jc_methods.specs.declared.body.FrameAt.{FrameAt}
 use Rattle.jc_methods.specs.declared.body.Handler.{Handler}
 use Rattle.jc_methods.specs.declared.body.Use.{Use}
@@ -21,14 +20,12 @@ use Rattle.jc_methods.specs.InsnForm.{form_of}
 use Rattle.jc_methods.specs.InsnUse.{pool_place, Suits, IsClass, LocalsWithin, LeadsWithin}
 use Rattle.jc_methods.specs.WellMade.{IsCode, IsHandler, IsLine, IsVar, IsKind, HasUse, AreUses, IsWellMade, HasShortTexts}
 use Rattle.jc_methods.specs.VerificationTypes.{type_state}
-use Rattle.jc_programs.specs.declared.program.Linked.{Linked}
 use Rattle.jc_after.specs.Table.{table, forms_at}
 use Rattle.jc_after.specs.After.{after_of}
 use Rattle.jc_after.specs.Shift.{Straddles}
 use Rattle.jc_kinds.specs.States.{state_of}
 use Rattle.jc_kinds.specs.StateShift.{IsStraddled}
 use Rattle.jc_kinds.specs.Answers.{IsStateAt}
-use Rattle.jc_kinds.specs.Checked.{Checked}
 use Rattle.jc_kinds.specs.Checking.{verdict_of, passes}
 use Rattle.jc_kinds.proofs.CheckLaws.{passes_checked}
 use Rattle.jc_emit.specs.Emission.{emission}
@@ -36,20 +33,12 @@ use Rattle.jc_emit.specs.Items.{twin_items}
 use Rattle.jc_emit.specs.TwinFrames.{state_at}
 use Rattle.jc_emit.specs.Twin.{Twin}
 use Rattle.jc_emit.specs.TwinBody.{twin_body}
-use Rattle.jc_emit.specs.TwinProgram.{IsChangedPair, IsAddedName, AreChecked, AreOwned, TwinProgram}
+use Rattle.jc_emit.specs.TwinProgram.{IsAddedName, TwinProgram}
 use Rattle.jc_emit.proofs.TwinBodyLaws.{has_twin}
-use Rattle.jc_world_examples.specs.ProgramExamples.{m_name, div, div_program, init, class, probed_class, frame}
+use Rattle.jc_world_examples.specs.ProgramExamples.{div, div_program}
 use Rattle.jc_world_examples.proofs.FitExampleLaws.{none_some, some_is, no_falls, return_ends, int_is_type}
 use Rattle.jc_simulation_examples.specs.CoverageExamples.{probed_div, probed_div_program}
-
-abbrev names : List (List ℕ)
-names = codes "[Z" ∷ []
-
-only : {X : Type 0} (x y : X) → Contains (x ∷ []) y → x ≡ y
-only x y h = ⊎_elim (λ e. e) (λ later. absurd (none_in y later)) (which_in x [] y h)
-
-abbrev div_class : Linked
-div_class = class m_name (div ∷ []) []
+use Rattle.jc_simulation_examples.proofs.OneMethodLaws.{names, one_is_twin}
 
 -- ---- the body is well made
 
@@ -185,57 +174,13 @@ is_twin_body = refl
 div_twin : Twin names names states 0 div probed_div
 div_twin = subst (Twin names names states 0 div) is_twin_body (has_twin div 0 states 0 95 names made.of_any_size fit refl refl)
 
--- ---- the class
+-- ---- the program
 
 no_added : IsAddedName div.name → ⊥
 no_added (inl e) = cc
 no_added (inr e) = cc
 
-changed : IsChangedPair names names div_class (probed_class m_name 5 (pos 5) 1 (probed_div ∷ []) [])
-changed = record {
-  name = refl;
-  has_clinit = refl;
-  none_added = record { bodies = λ b c n. no_added (subst (λ (b : Body). IsAddedName b.name) (sym (only div b c)) n); statics = λ f c n. none_in f c };
-  no_probes = refl;
-  none_straddles = λ b c. subst (λ (b : Body). (i : ℕ) → IsStraddled b i → ⊥) (only div b c) none_straddles;
-  id = 5;
-  added = init m_name (pos 5) 1;
-  bodies = (record { states = states; are = record { count = refl; each = each }; twin = div_twin }, refl);
-  added_is = record {
-    places = record { field = 90; id = 91; name = 93; fetch = 94 };
-    owner = refl;
-    name = refl;
-    desc = refl;
-    flags = refl;
-    arg_slots = refl;
-    max_stack = refl;
-    max_locals = refl;
-    code = refl;
-    handlers = refl;
-    lines = refl;
-    vars = refl;
-    kind_vars = refl;
-    frames = record { frame = frame 10 [] (kinds.Object 0 ∷ []); single = refl; at = refl; state = refl };
-    field_is = refl;
-    id_is = refl;
-    name_is = refl;
-    fetch_is = refl;
-  };
-  statics = refl;
-  probes = refl;
-}
-
--- ---- the program
-
-checked : AreChecked names div_program.classes
-checked c h b k =
-    subst (λ (c : Linked). (b : Body) → Contains c.bodies b → IsWellMade b × Checked names b) (only div_class c h)
-    (λ b k. subst (λ (b : Body). IsWellMade b × Checked names b) (only div b k) (made, passes_checked names div (omega arith) verdict)) b k
-
-owned : AreOwned div_program.classes
-owned c h =
-    subst (λ (c : Linked). (b : Body) → Contains c.bodies b → b.owner ≡ c.name) (only div_class c h)
-    (λ b k. subst (λ (b : Body). b.owner ≡ m_name) (only div b k) refl)
-
 pub div_is_twin : TwinProgram div_program probed_div_program
-div_is_twin = record { checked = checked; owned = owned; differ = ((λ other c e. none_in other c), tt); pairs = (inr changed, tt) }
+div_is_twin =
+    one_is_twin div probed_div 5 1 refl refl refl made (passes_checked names div (omega arith) verdict) no_added none_straddles
+    (record { states = states; are = record { count = refl; each = each }; twin = div_twin })

@@ -1,3 +1,4 @@
+mod OneMethodLaws
 mod TwinExampleLaws
 mod DivExampleLaws
 mod PremiseExampleLaws

@@ -1,9 +1,9 @@
 -- A plan that meets the premises of exact coverage.
-use Rattle.std.proofs.Common.{◌≡◌, refl, sym, subst, ℕ, zero, suc, ⊎_elim, Bool, List, [], ◌∷◌}
+use Rattle.std.proofs.Common.{◌≡◌, refl, sym, subst, ℕ, zero, suc, Bool, List, [], ◌∷◌}
 use Rattle.std.specs.Prelude.{Contains, IsTrue, slice_index_or}
 use Rattle.std.specs.Fmt.{digits}
 use Rattle.std.proofs.lemmas.Bool.{true≢false}
-use Rattle.jc_bytes.proofs.BooleanLaws.{first_in, which_in, none_in}
+use Rattle.jc_bytes.proofs.BooleanLaws.{first_in}
 use Rattle.jc_methods.specs.DescriptorTypes.{types_from, rest_from}
 use Rattle.jc_programs.specs.Entries.{entry_of, AreEntries}
 use Rattle.jc_programs.specs.Turns.{turns_in}
@@ -22,10 +22,8 @@ use Rattle.jc_simulation.proofs.ProgramRunLaws.{have_marks}
 use Rattle.jc_exact.specs.Exact.{EndsWell, TellHits}
 use Rattle.jc_world_examples.specs.ProgramExamples.{abs_program, probed_abs_program, hit}
 use Rattle.jc_simulation_examples.specs.CoverageExamples.{MeetsPremises, abs_case, abs_plan, abs_hits}
+use Rattle.jc_simulation_examples.proofs.OneMethodLaws.{only}
 use Rattle.jc_simulation_examples.proofs.TwinExampleLaws.{is_twin}
-
-only : {X : Type 0} (x y : X) → Contains (x ∷ []) y → x ≡ y
-only x y h = ⊎_elim (λ e. e) (λ later. absurd (none_in y later)) (which_in x [] y h)
 
 entries : AreEntries abs_program abs_case.threads (record { class = 0; method = 0 } ∷ [])
 unfolding entry_of types_from rest_from

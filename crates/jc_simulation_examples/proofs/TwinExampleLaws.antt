@@ -1,19 +1,17 @@
 -- A program and its twin.
-use Rattle.std.proofs.Common.{◌≡◌, refl, sym, subst, ℕ, zero, suc, ◌+◌, inl, inr, ⊎_elim, pos, List, [], ◌∷◌, Some, codes, arith}
+use Rattle.std.proofs.Common.{◌≡◌, refl, sym, subst, ℕ, zero, suc, ◌+◌, inl, inr, List, [], ◌∷◌, Some, arith}
 use Rattle.std.specs.Prelude.{slice_get, slice_index_or, Contains, All}
 use Rattle.std.proofs.lemmas.Bool.{true≢false}
 use Rattle.std.proofs.lemmas.List.Elements.{All-from_recursion, All-contains}
-use Rattle.jc_bytes.proofs.BooleanLaws.{first_in, which_in, none_in, stands_in}
+use Rattle.jc_bytes.proofs.BooleanLaws.{first_in, stands_in}
 use Rattle.jc_methods.specs.declared.insn.Insn.{Insn}
 use Rattle.jc_methods.specs.declared.kind.Kind.{Kind}
 use Rattle.jc_methods.specs.declared.kind.Kind.TheVariants as kinds
 use Rattle.jc_methods.specs.declared.kind.State.{State}
-use Rattle.jc_methods.specs.declared.body.Body.{Body}
 use Rattle.jc_methods.specs.declared.body.FrameAt.{FrameAt}
 use Rattle.jc_methods.specs.DescriptorTypes.{types_from, rest_from}
-use Rattle.jc_methods.specs.WellMade.{kind_slots, IsKind, IsWellMade}
+use Rattle.jc_methods.specs.WellMade.{kind_slots, IsKind}
 use Rattle.jc_methods.specs.VerificationTypes.{type_state}
-use Rattle.jc_programs.specs.declared.program.Linked.{Linked}
 use Rattle.jc_after.specs.Table.{table, forms_at}
 use Rattle.jc_after.specs.After.{after_of}
 use Rattle.jc_after.specs.Shift.{Straddles}
@@ -25,20 +23,12 @@ use Rattle.jc_emit.specs.Items.{twin_items}
 use Rattle.jc_emit.specs.TwinFrames.{state_at}
 use Rattle.jc_emit.specs.Twin.{Twin}
 use Rattle.jc_emit.specs.TwinBody.{twin_body}
-use Rattle.jc_emit.specs.TwinProgram.{IsChangedPair, IsAddedName, AreChecked, AreOwned, TwinProgram}
+use Rattle.jc_emit.specs.TwinProgram.{IsAddedName, TwinProgram}
 use Rattle.jc_emit.proofs.TwinBodyLaws.{has_twin}
 use Rattle.jc_world.specs.Programs.{IsProgramBody, IsLinked}
-use Rattle.jc_world_examples.specs.ProgramExamples.{a_name, abs, abs_program, probed_abs, probed_abs_program, init, class, probed_class, frame}
+use Rattle.jc_world_examples.specs.ProgramExamples.{a_name, abs, abs_program, probed_abs, probed_abs_program, class, frame}
 use Rattle.jc_world_examples.proofs.FitExampleLaws.{none_some, some_is, abs_is_program}
-
-abbrev names : List (List ℕ)
-names = codes "[Z" ∷ []
-
-only : {X : Type 0} (x y : X) → Contains (x ∷ []) y → x ≡ y
-only x y h = ⊎_elim (λ e. e) (λ later. absurd (none_in y later)) (which_in x [] y h)
-
-abbrev abs_class : Linked
-abs_class = class a_name (abs ∷ []) []
+use Rattle.jc_simulation_examples.proofs.OneMethodLaws.{names, only, one_is_twin}
 
 -- ---- states
 
@@ -108,69 +98,24 @@ none_straddles i (inr (f, c, at, (k, e, h))) =
 fit : (f : FrameAt) → Contains abs.frames f → state_at states f.at ≡ f.state
 fit f c = subst (λ (f : FrameAt). state_at states f.at ≡ f.state) (only (frame 5 (kinds.Int ∷ []) []) f c) refl
 
-well : IsWellMade abs
-well =
-    (All-contains (IsProgramBody names) (abs ∷ []) abs
-    (All-contains (IsLinked names) abs_program.classes abs_class abs_is_program.classes (first_in abs_class [])).bodies (first_in abs [])).well_made
+in_program : IsProgramBody names abs
+in_program = All-contains (IsProgramBody names) (abs ∷ []) abs
+    (All-contains (IsLinked names) abs_program.classes (class a_name (abs ∷ []) []) abs_is_program.classes (first_in (class a_name (abs ∷ []) []) [])).bodies (first_in abs [])
 
 is_twin_body : twin_body abs 0 states 0 95 ≡ probed_abs
 unfolding twin_body emission twin_items
 is_twin_body = refl
 
 abs_twin : Twin names names states 0 abs probed_abs
-abs_twin = subst (Twin names names states 0 abs) is_twin_body (has_twin abs 0 states 0 95 names well.of_any_size fit refl refl)
+abs_twin = subst (Twin names names states 0 abs) is_twin_body (has_twin abs 0 states 0 95 names in_program.well_made.of_any_size fit refl refl)
 
--- ---- the class
+-- ---- the program
 
 no_added : IsAddedName abs.name → ⊥
 no_added (inl e) = cc
 no_added (inr e) = cc
 
-changed : IsChangedPair names names abs_class (probed_class a_name 7 (pos 7) 2 (probed_abs ∷ []) [])
-changed = record {
-  name = refl;
-  has_clinit = refl;
-  none_added = record { bodies = λ b c n. no_added (subst (λ (b : Body). IsAddedName b.name) (sym (only abs b c)) n); statics = λ f c n. none_in f c };
-  no_probes = refl;
-  none_straddles = λ b c. subst (λ (b : Body). (i : ℕ) → IsStraddled b i → ⊥) (only abs b c) none_straddles;
-  id = 7;
-  added = init a_name (pos 7) 2;
-  bodies = (record { states = states; are = record { count = refl; each = each }; twin = abs_twin }, refl);
-  added_is = record {
-    places = record { field = 90; id = 91; name = 93; fetch = 94 };
-    owner = refl;
-    name = refl;
-    desc = refl;
-    flags = refl;
-    arg_slots = refl;
-    max_stack = refl;
-    max_locals = refl;
-    code = refl;
-    handlers = refl;
-    lines = refl;
-    vars = refl;
-    kind_vars = refl;
-    frames = record { frame = frame 10 [] (kinds.Object 0 ∷ []); single = refl; at = refl; state = refl };
-    field_is = refl;
-    id_is = refl;
-    name_is = refl;
-    fetch_is = refl;
-  };
-  statics = refl;
-  probes = refl;
-}
-
--- ---- the program
-
-checked : AreChecked names abs_program.classes
-checked c h b k =
-    let body = All-contains (IsProgramBody names) c.bodies b (All-contains (IsLinked names) abs_program.classes c abs_is_program.classes h).bodies k in
-    (body.well_made, body.checked)
-
-owned : AreOwned abs_program.classes
-owned c h =
-    subst (λ (c : Linked). (b : Body) → Contains c.bodies b → b.owner ≡ c.name) (only abs_class c h)
-    (λ b k. subst (λ (b : Body). b.owner ≡ a_name) (only abs b k) refl)
-
 pub is_twin : TwinProgram abs_program probed_abs_program
-is_twin = record { checked = checked; owned = owned; differ = ((λ other c e. none_in other c), tt); pairs = (inr changed, tt) }
+is_twin =
+    one_is_twin abs probed_abs 7 2 refl refl refl in_program.well_made in_program.checked no_added none_straddles
+    (record { states = states; are = record { count = refl; each = each }; twin = abs_twin })
