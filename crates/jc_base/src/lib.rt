@@ -105,3 +105,4 @@ pub use jc_programs::ThreadLine;
 pub use jc_programs::Thrown;
 pub use jc_programs::Value;
 pub use jc_programs::a_class_extends_the_classes_of_its_line;
+pub use jc_programs::entry;

@@ -4,8 +4,7 @@ ghost use Rattle.std.specs.Option.{option_map};
 ghost use Rattle.jc_run_parts.specs.Beginnings.{HasFew, line_of};
 ghost use Rattle.jc_run_work.specs.RunStore.{threads_of, first_without};
 
-use jc_entries::entry;
-use jc_programs::{Program, RunPlan, ThreadLine};
+use jc_programs::{Program, RunPlan, ThreadLine, entry};
 
 /// The line of the first of the threads that has no method to begin with, if there is one.
 fn line_in(program: &Program, threads: &[ThreadLine]) -> Option<u32>

@@ -1,6 +1,6 @@
 use Rattle.std.proofs.Common.{◌∙◌, sym}
-use Rattle.jc_entries.proofs.ArgumentLaws.{IsBase, by_bracket, by_class, by_closing, by_name_end, by_name, by_array, by_too_few, by_no_value, by_value, by_end}
-use Rattle.jc_entries.proofs.arguments.takes.Goals as goal
+use Rattle.jc_programs.proofs.ArgumentLaws.{IsBase, by_bracket, by_class, by_closing, by_name_end, by_name, by_array, by_too_few, by_no_value, by_value, by_end}
+use Rattle.jc_programs.proofs.arguments.takes.Goals as goal
 
 pub returns-then-letter-eq59 : goal.returns-then-letter-eq59
 returns-then-letter-eq59 c = by_name_end _ _ _ _ _ _ c.in-Some.ensures.cases.0 c.letters.invariant c.in-Name.is c.if-letter-eq59.true

@@ -5,8 +5,8 @@ ghost use Rattle.jc_programs.specs.Entries.{is_entry, entry_of};
 ghost use Rattle.jc_programs.specs.Members.{class_named};
 
 use crate::arguments::takes;
+use crate::{Entry, Program, ThreadLine};
 use jc_methods::{Body, INIT_NAME};
-use jc_programs::{Entry, Program, ThreadLine};
 
 /// The flag of a method without `this` (JVM Specification 4.6).
 const ACC_STATIC: u16 = 0x0008;

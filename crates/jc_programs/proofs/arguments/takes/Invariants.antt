@@ -1,8 +1,8 @@
 use Rattle.std.proofs.Common.{length}
 use Rattle.jc_methods.specs.DescriptorTypes.{method_type_in}
 use Rattle.jc_programs.specs.Entries.{are_arguments}
-use Rattle.jc_entries.proofs.ArgumentLaws.{Decide}
-use Rattle.jc_entries.proofs.arguments.takes.Given as goal
+use Rattle.jc_programs.proofs.ArgumentLaws.{Decide}
+use Rattle.jc_programs.proofs.arguments.takes.Given as goal
 
 -- what is left decides
 abbrev pub invariant-letters : goal.invariant-letters

@@ -1,8 +1,8 @@
 use Rattle.std.proofs.Common.{◌∙◌, ap, position}
 use Rattle.jc_programs.specs.Members.{class_named}
 use Rattle.jc_programs.specs.Entries.{is_entry}
-use Rattle.jc_entries.proofs.EntryLaws.{no_class, no_method, some_method}
-use Rattle.jc_entries.proofs.entries.entry.Goals as goal
+use Rattle.jc_programs.proofs.EntryLaws.{no_class, no_method, some_method}
+use Rattle.jc_programs.proofs.entries.entry.Goals as goal
 
 pub returns-in_err-class : goal.returns-in_err-class
 returns-in_err-class c =

@@ -4,8 +4,8 @@ use Rattle.std.proofs.lemmas.Bool.Decides.{nat_tests}
 use Rattle.jc_bytes.specs.Descriptor.{FieldType, Object, Array}
 use Rattle.jc_methods.specs.DescriptorTypes.{Standing, before, naming, behind, base_type, in_arrays, types_from}
 use Rattle.jc_programs.specs.Entries.{is_argument, are_arguments}
-use Rattle.jc_entries.specs.declared.arguments.Reading.{Reading}
-use Rattle.jc_entries.specs.declared.arguments.Reading.TheVariants.{Nothing, Brackets, Name}
+use Rattle.jc_programs.specs.declared.arguments.Reading.{Reading}
+use Rattle.jc_programs.specs.declared.arguments.Reading.TheVariants.{Nothing, Brackets, Name}
 
 -- the letters that were read are the front of this
 abbrev pub Stands : Reading → Standing → Type 0

@@ -1,2 +1,0 @@
-mod ArgumentLaws
-mod EntryLaws
