@@ -12,17 +12,17 @@ use Rattle.jc_methods.specs.declared.kind.State.{State}
 use Rattle.jc_methods.specs.declared.body.Use.{Use}
 use Rattle.jc_bytes.specs.Descriptor.{FieldType}
 use Rattle.jc_methods.specs.VerificationTypes.{Names, TypeState, verification_type, type_state}
-use Rattle.jc_after.specs.declared.want.Want.{Want}
-use Rattle.jc_after.specs.Step.{Ground, moves, apply, below}
-use Rattle.jc_after.specs.Table.{one, table, forms_at}
-use Rattle.jc_after.specs.After.{step_of}
+use Rattle.jc_kinds_after.specs.declared.want.Want.{Want}
+use Rattle.jc_kinds_after.specs.Step.{Ground, moves, apply, below}
+use Rattle.jc_kinds_after.specs.Table.{one, table, forms_at}
+use Rattle.jc_kinds_after.specs.After.{step_of}
 use Rattle.jc_emit.specs.TwinFrames.{operands_by, left_by}
 use Rattle.jc_emit.proofs.StepLaws.{state, takes_only}
 use Rattle.jc_methods.specs.declared.form.Form.TheVariants as forms
 use Rattle.jc_methods.specs.declared.insn.Insn.TheVariants as insns
 use Rattle.jc_methods.specs.declared.insn.Flow.TheVariants as flows
 use Rattle.jc_bytes.proofs.EachLaws.{AllFrom, all_from}
-use Rattle.jc_after.specs.declared.want.Want.TheVariants as wants
+use Rattle.jc_kinds_after.specs.declared.want.Want.TheVariants as wants
 
 -- ---- the opcodes of conditional jumps
 

@@ -20,7 +20,7 @@ use Rattle.jc_plan.specs.declared.branch.Branch.{Branch}
 use Rattle.jc_plan.specs.Probed.{probe_of}
 use Rattle.jc_plan.specs.Plan.{lead_probe}
 use Rattle.jc_plan.proofs.FlowLaws.{few_of}
-use Rattle.jc_after.specs.Shift.{with_slot}
+use Rattle.jc_kinds_after.specs.Shift.{with_slot}
 use Rattle.jc_emit.specs.Sizes.{insn_at, early_by, early_probe, late_probe, arms_by, arms_at}
 use Rattle.jc_emit.specs.Marks.{push}
 use Rattle.jc_emit.specs.TwinCode.{to_of, arm_place}

@@ -18,8 +18,8 @@ use Rattle.jc_plan.specs.Probed.{probe_of}
 use Rattle.jc_plan.specs.Plan.{lead_probe}
 use Rattle.jc_bytes.proofs.FirstSeenLaws.{contains_one}
 use Rattle.jc_methods.specs.FrameOrder.{RiseFrom}
-use Rattle.jc_after.specs.Shift.{renamed, shifted}
-use Rattle.jc_after.proofs.ShiftLaws.{map-insert}
+use Rattle.jc_kinds_after.specs.Shift.{renamed, shifted}
+use Rattle.jc_kinds_after.proofs.ShiftLaws.{map-insert}
 use Rattle.jc_emit.specs.Shift.{shifted_state, image_kind, probe_array_class}
 use Rattle.jc_emit.specs.Sizes.{insn_at, late_by, late_probe, arms_at, probe_size, hop_size, arm_sizes}
 use Rattle.jc_emit.specs.TwinCode.{to_of, arm_place}

@@ -8,10 +8,10 @@ use Rattle.jc_methods.specs.declared.insn.Insn.{Insn}
 use Rattle.jc_methods.specs.declared.body.Body.{Body}
 use Rattle.jc_methods.specs.VerificationTypes.{Names, VerificationType, int, long, object, TypeState, type_state, type_state_at}
 use Rattle.jc_methods.specs.EntryState.{entry_of, entry_seen}
-use Rattle.jc_after.specs.Step.{Step, apply}
-use Rattle.jc_after.specs.Table.{table, forms_at}
-use Rattle.jc_after.specs.After.{insn_at, new_class, ground_of, returns_of, member_step, constant_step, return_step, step_of, after_of}
-use Rattle.jc_after.proofs.ApplyLaws.{after_is}
+use Rattle.jc_kinds_after.specs.Step.{Step, apply}
+use Rattle.jc_kinds_after.specs.Table.{table, forms_at}
+use Rattle.jc_kinds_after.specs.After.{insn_at, new_class, ground_of, returns_of, member_step, constant_step, return_step, step_of, after_of}
+use Rattle.jc_kinds_after.proofs.ApplyLaws.{after_is}
 use Rattle.jc_kinds.specs.States.{frames_of, frame_at, state_of, after_at}
 use Rattle.jc_kinds.specs.Fits.{FitState, FitsThere}
 use Rattle.jc_kinds.specs.Checked.{Checked, LeadsTo, HasFrame, IsHandlerTarget, NeedsFrame, IsMissing}

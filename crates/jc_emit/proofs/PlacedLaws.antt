@@ -12,7 +12,7 @@ use Rattle.jc_methods.specs.declared.insn.Flow.{Flow}
 use Rattle.jc_methods.specs.declared.insn.Flow.TheVariants as flows
 use Rattle.jc_bytes.proofs.BooleanLaws.{which_in, none_in}
 use Rattle.jc_methods.proofs.PlacedInsnLaws.{flow_placed}
-use Rattle.jc_after.specs.Shift.{with_slot}
+use Rattle.jc_kinds_after.specs.Shift.{with_slot}
 use Rattle.jc_emit.specs.Marks.{push}
 use Rattle.jc_emit.proofs.OthersLaws.{tests_target}
 use Rattle.jc_emit.proofs.LocalLaws.{test_is}

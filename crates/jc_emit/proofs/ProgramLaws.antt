@@ -10,7 +10,7 @@ use Rattle.jc_methods.specs.VerificationTypes.{Names, TypeStateAt, type_state_at
 use Rattle.jc_methods.specs.EntryState.{entry_of}
 use Rattle.jc_methods.specs.WellMade.{IsWellMade}
 use Rattle.jc_methods.specs.Flow.{falls_at, GoesOnFrom}
-use Rattle.jc_after.specs.After.{insn_at, after_of}
+use Rattle.jc_kinds_after.specs.After.{insn_at, after_of}
 use Rattle.jc_kinds.specs.States.{frame_at, or_else, state_of, after_at}
 use Rattle.jc_kinds.specs.Fits.{FitsThere}
 use Rattle.jc_kinds.specs.Checked.{JumpsTo, LeadsTo, NeedsFrame, at_handler, Checked}

@@ -1,7 +1,7 @@
--- States by their instructions and frames, and their sizes: what jc_after and jc_kinds prove for themselves alone.
+-- States by their instructions and frames, and their sizes: what jc_kinds_after and jc_kinds prove for themselves alone.
 use Rattle.std.proofs.Common.{◌≡◌, ℕ, List, [], ◌∷◌, map, refl, arith}
 use Rattle.jc_methods.specs.VerificationTypes.{VerificationType, top, int, float, double, long, null, uninit_this, object, uninit, width, slots}
-use Rattle.jc_after.specs.Shift.{renamed}
+use Rattle.jc_kinds_after.specs.Shift.{renamed}
 
 -- ---- sizes
 

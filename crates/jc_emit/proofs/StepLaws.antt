@@ -5,11 +5,11 @@ use Rattle.std.proofs.lemmas.Bool.{cond-true, leb-true, le-leb}
 use Rattle.std.proofs.lemmas.List.{take_at}
 use Rattle.std.proofs.Math.Seq.{drop-append_seam}
 use Rattle.jc_methods.specs.VerificationTypes.{VerificationType, TypeState, width, slots}
-use Rattle.jc_after.specs.declared.want.Want.{Want}
-use Rattle.jc_after.specs.Wants.{accepts_all}
-use Rattle.jc_after.specs.Step.{kind, StackEffect, moves, Ground, apply, given_of, limited, below, upper, has_form, moved, with_stack}
-use Rattle.jc_after.specs.Table.{one}
-use Rattle.jc_after.proofs.KeepLaws.{then_some}
+use Rattle.jc_kinds_after.specs.declared.want.Want.{Want}
+use Rattle.jc_kinds_after.specs.Wants.{accepts_all}
+use Rattle.jc_kinds_after.specs.Step.{kind, StackEffect, moves, Ground, apply, given_of, limited, below, upper, has_form, moved, with_stack}
+use Rattle.jc_kinds_after.specs.Table.{one}
+use Rattle.jc_kinds_after.proofs.KeepLaws.{then_some}
 
 -- ---- stacks
 

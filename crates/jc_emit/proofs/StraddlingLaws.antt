@@ -10,7 +10,7 @@ use Rattle.jc_methods.specs.declared.body.Body.{Body}
 use Rattle.jc_methods.specs.declared.body.FrameAt.{FrameAt}
 use Rattle.jc_methods.specs.WellMade.{AreFramesFrom}
 use Rattle.jc_bytes.proofs.BooleanLaws.{none_in, which_in}
-use Rattle.jc_after.specs.Shift.{Straddles}
+use Rattle.jc_kinds_after.specs.Shift.{Straddles}
 use Rattle.jc_emit.specs.Straddling.{InsnStraddles, FramesStraddle, IsFirstOf, IsFirstStraddling, lesser}
 
 -- ---- frames

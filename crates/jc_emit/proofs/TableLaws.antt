@@ -12,7 +12,7 @@ use Rattle.jc_methods.specs.declared.kind.State.{State}
 use Rattle.jc_methods.specs.declared.body.Handler.{Handler}
 use Rattle.jc_methods.specs.declared.body.LineAt.{LineAt}
 use Rattle.jc_methods.specs.declared.body.VarAt.{VarAt}
-use Rattle.jc_after.specs.Shift.{slot_of}
+use Rattle.jc_kinds_after.specs.Shift.{slot_of}
 use Rattle.jc_emit.specs.Shift.{image_kind, shifted_state}
 use Rattle.jc_emit.specs.TwinTables.{moved_row, moved_line, moved_var}
 use Rattle.jc_emit.specs.Placing.{IsTable}

@@ -12,12 +12,12 @@ use Rattle.jc_methods.specs.declared.body.Body.{Body}
 use Rattle.jc_methods.specs.declared.body.Handler.{Handler}
 use Rattle.jc_methods.specs.VerificationTypes.{Names, VerificationType, object, TypeState, type_state}
 use Rattle.jc_methods.specs.EntryState.{entry_of}
-use Rattle.jc_after.specs.After.{class_in}
+use Rattle.jc_kinds_after.specs.After.{class_in}
 use Rattle.jc_kinds.specs.States.{state_of, after_at}
 use Rattle.jc_kinds.specs.Fits.{FitEach, FitState, FitsThere}
 use Rattle.jc_kinds.specs.Checked.{LeadsTo, Guards, HasFrame, NeedsFrame, IsMissing, caught, at_handler, Checked}
 use Rattle.jc_kinds.specs.Answers.{AreStates}
-use Rattle.jc_after.specs.Shift.{renamed, shifted}
+use Rattle.jc_kinds_after.specs.Shift.{renamed, shifted}
 use Rattle.jc_bytes.proofs.BooleanLaws.{none_in, of_map}
 use Rattle.jc_kinds.proofs.EntryShiftLaws.{fits_shift}
 use Rattle.jc_emit.specs.Straddling.{NoneStraddles}

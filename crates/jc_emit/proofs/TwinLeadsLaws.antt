@@ -11,12 +11,12 @@ use Rattle.jc_methods.specs.declared.body.Body.{Body}
 use Rattle.jc_methods.specs.declared.body.FrameAt.{FrameAt}
 use Rattle.jc_methods.specs.VerificationTypes.{Names, TypeState, type_state, slots}
 use Rattle.jc_methods.specs.EntryState.{entry_of}
-use Rattle.jc_after.specs.After.{after_of}
+use Rattle.jc_kinds_after.specs.After.{after_of}
 use Rattle.jc_kinds.specs.States.{frames_of, frame_at, state_of, after_at}
 use Rattle.jc_kinds.specs.Fits.{FitState}
 use Rattle.jc_kinds.specs.Checked.{LeadsTo, HasFrame, NeedsFrame}
 use Rattle.jc_kinds.specs.Checking.{has_frame}
-use Rattle.jc_after.specs.Shift.{with_slot, shifted}
+use Rattle.jc_kinds_after.specs.Shift.{with_slot, shifted}
 use Rattle.jc_kinds.proofs.CheckLaws.{has_frame_decided}
 use Rattle.jc_kinds.proofs.StateShiftLaws.{frame_is}
 use Rattle.jc_plan.specs.Entries.{is_multi_target, is_invocation_line}

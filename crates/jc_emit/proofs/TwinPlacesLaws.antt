@@ -11,7 +11,7 @@ use Rattle.jc_methods.specs.declared.body.Body.{Body}
 use Rattle.jc_methods.specs.declared.body.FrameAt.{FrameAt}
 use Rattle.jc_methods.specs.VerificationTypes.{Names, TypeState, type_state}
 use Rattle.jc_methods.specs.EntryState.{entry_of}
-use Rattle.jc_after.specs.After.{after_of}
+use Rattle.jc_kinds_after.specs.After.{after_of}
 use Rattle.jc_kinds.specs.States.{frames_of, frame_at, or_else, state_of}
 use Rattle.jc_plan.specs.declared.branch.Branch.{Branch}
 use Rattle.jc_plan.specs.Edges.{branches_by}
@@ -30,7 +30,7 @@ use Rattle.jc_emit.proofs.LocalLaws.{land_lands, lead_lands, late_lands, arms_la
 use Rattle.jc_emit.proofs.TwinPremisesLaws.{Premises, frame_found, frame_asked, leads_grow, frames_rise}
 use Rattle.jc_methods.specs.declared.insn.Flow.TheVariants as flows
 use Rattle.jc_bytes.proofs.BooleanLaws.{none_in, which_in}
-use Rattle.jc_after.specs.After as after
+use Rattle.jc_kinds_after.specs.After as after
 
 module _ (names new_names : Names) (states : List State) (first : ℕ) (wide : Bool) (call : ℕ) (b b' : Body) (p : Premises names new_names states first wide call b b') where
   abbrev items : List Item

@@ -22,7 +22,7 @@ use Rattle.jc_kinds.specs.States.{frames_of, frame_at}
 use Rattle.jc_kinds.specs.Checked.{Checked, HasFrame}
 use Rattle.jc_kinds.specs.Answers.{AreStates}
 use Rattle.jc_kinds.proofs.StateShiftLaws.{frame_is}
-use Rattle.jc_after.specs.Shift.{with_slot, shifted, IsImage, led, inverted, HasImages}
+use Rattle.jc_kinds_after.specs.Shift.{with_slot, shifted, IsImage, led, inverted, HasImages}
 use Rattle.jc_bytes.proofs.BooleanLaws.{which_in, none_in}
 use Rattle.jc_methods.specs.FrameOrder.{RiseFrom}
 use Rattle.jc_plan.specs.Probed.{probe_of}
@@ -46,7 +46,7 @@ use Rattle.jc_emit.proofs.ConditionalBranchLaws.{test_op}
 use Rattle.jc_methods.specs.declared.form.Form.TheVariants as forms
 use Rattle.jc_methods.specs.declared.insn.Insn.TheVariants as insns
 use Rattle.jc_methods.specs.declared.insn.Flow.TheVariants as flows
-use Rattle.jc_after.specs.After as after
+use Rattle.jc_kinds_after.specs.After as after
 use Rattle.jc_emit.specs.Marks as marks
 
 pub record Premises (names new_names : Names) (states : List State) (first : ℕ) (wide : Bool) (call : ℕ) (b b' : Body) : Type 0 where

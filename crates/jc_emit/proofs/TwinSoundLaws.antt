@@ -11,13 +11,13 @@ use Rattle.jc_methods.specs.declared.insn.Flow.{Flow}
 use Rattle.jc_methods.specs.declared.kind.State.{State}
 use Rattle.jc_methods.specs.declared.body.Body.{Body}
 use Rattle.jc_methods.specs.VerificationTypes.{Names, TypeState, type_state, slots}
-use Rattle.jc_after.specs.Table.{table, forms_at}
-use Rattle.jc_after.specs.After.{insn_at, ground_of, returns_of, after_of}
+use Rattle.jc_kinds_after.specs.Table.{table, forms_at}
+use Rattle.jc_kinds_after.specs.After.{insn_at, ground_of, returns_of, after_of}
 use Rattle.jc_kinds.specs.States.{frames_of, frame_at, state_of}
 use Rattle.jc_kinds.specs.Fits.{FitEach, FitsThere}
 use Rattle.jc_kinds.specs.Checked.{JumpsTo, HasFrame}
-use Rattle.jc_after.specs.Shift.{with_slot, shifted}
-use Rattle.jc_after.proofs.ApplyLaws.{after_is}
+use Rattle.jc_kinds_after.specs.Shift.{with_slot, shifted}
+use Rattle.jc_kinds_after.proofs.ApplyLaws.{after_is}
 use Rattle.jc_bytes.proofs.BooleanLaws.{which_in, none_in, first_in, later_in, of_map}
 use Rattle.jc_kinds.proofs.EntryShiftLaws.{fits_shift}
 use Rattle.jc_plan.specs.declared.branch.Branch.{Branch}

@@ -18,13 +18,13 @@ use Rattle.jc_methods.specs.declared.body.Body.{Body}
 use Rattle.jc_methods.specs.declared.body.Use.{Use}
 use Rattle.jc_methods.specs.VerificationTypes.{Names, VerificationType, top, int, TypeState, verification_type, type_state, width, slots}
 use Rattle.jc_methods.specs.EntryState.{entry_of, entry_seen}
-use Rattle.jc_after.specs.Wants.{accepts}
-use Rattle.jc_after.specs.Step.{kind, moves, apply, put_local, with_stack, limited}
-use Rattle.jc_after.specs.Table.{form, one, table, forms_at}
-use Rattle.jc_after.specs.After.{insn_at, ground_of, returns_of, step_of, member_step, after_of}
+use Rattle.jc_kinds_after.specs.Wants.{accepts}
+use Rattle.jc_kinds_after.specs.Step.{kind, moves, apply, put_local, with_stack, limited}
+use Rattle.jc_kinds_after.specs.Table.{form, one, table, forms_at}
+use Rattle.jc_kinds_after.specs.After.{insn_at, ground_of, returns_of, step_of, member_step, after_of}
 use Rattle.jc_kinds.specs.States.{frames_of, frame_at, or_else, state_of, after_at}
 use Rattle.jc_kinds.specs.Fits.{Fits, IsNullOrObject, FitEach, FitState, FitsThere}
-use Rattle.jc_after.specs.Shift.{renamed, probes, shifted}
+use Rattle.jc_kinds_after.specs.Shift.{renamed, probes, shifted}
 use Rattle.jc_kinds.specs.StateShift.{IsStraddled}
 use Rattle.jc_methods.proofs.FlowLaws.{falls_decided}
 use Rattle.jc_kinds.proofs.StateShiftLaws.{state_fine, states_shift, frame_is, frame_state}
@@ -42,10 +42,10 @@ use Rattle.jc_methods.specs.declared.insn.Insn.TheVariants as insns
 use Rattle.jc_methods.specs.declared.insn.Flow.TheVariants as flows
 use Rattle.jc_methods.specs.declared.kind.Kind.TheVariants as kinds
 use Rattle.jc_bytes.proofs.EachLaws.{AllFrom, all_from}
-use Rattle.jc_after.specs.declared.want.Want.TheVariants as wants
-use Rattle.jc_after.proofs.KeepLaws.{step_slots}
-use Rattle.jc_after.proofs.LeaveLaws.{insn_of as step_at}
-use Rattle.jc_after.proofs.ApplyLaws.{after_is}
+use Rattle.jc_kinds_after.specs.declared.want.Want.TheVariants as wants
+use Rattle.jc_kinds_after.proofs.KeepLaws.{step_slots}
+use Rattle.jc_kinds_after.proofs.LeaveLaws.{insn_of as step_at}
+use Rattle.jc_kinds_after.proofs.ApplyLaws.{after_is}
 use Rattle.jc_emit.specs.Sizes as sizes
 
 -- ---- what fits

@@ -16,7 +16,7 @@ use Rattle.jc_plan.specs.declared.branch.Branch.{Branch}
 use Rattle.jc_plan.specs.Probed.{probe_of}
 use Rattle.jc_plan.specs.Plan.{lead_probe}
 use Rattle.jc_methods.specs.FrameOrder.{RiseFrom}
-use Rattle.jc_after.specs.Shift.{shifted}
+use Rattle.jc_kinds_after.specs.Shift.{shifted}
 use Rattle.jc_emit.specs.Shift.{probe_array_class}
 use Rattle.jc_emit.specs.Sizes.{insn_at, late_probe, arms_by, arms_at, probe_size, hop_size, arm_sizes, behind_size}
 use Rattle.jc_emit.specs.Marks.{image_place, land_place, lead_place}

@@ -9,7 +9,7 @@ use Rattle.jc_methods.specs.declared.body.Body.{Body}
 use Rattle.jc_plan.specs.declared.branch.Branch.{Branch}
 use Rattle.jc_plan.specs.Probed.{probe_of}
 use Rattle.jc_plan.specs.Plan.{lead_probe}
-use Rattle.jc_after.specs.Shift.{with_slot}
+use Rattle.jc_kinds_after.specs.Shift.{with_slot}
 use Rattle.jc_emit.specs.Sizes.{insn_at, early_probe, late_probe, arms_at, probe_size, is_wide, behind_size}
 use Rattle.jc_emit.specs.Marks.{Marks, aload, astore, invokestatic, iconst_1, bastore, push, prelude_size}
 use Rattle.jc_methods.specs.Widened.{goto, inverted}

@@ -7,7 +7,7 @@ ghost use Rattle.jc_methods.specs.InsnUse.{LeadsWithin};
 ghost use Rattle.jc_methods.specs.Slots.{slot_of as named_slot};
 ghost use Rattle.jc_methods.specs.Widened.{inverted};
 ghost use Rattle.jc_methods.specs.declared.insn.Flow.TheVariants as flows;
-ghost use Rattle.jc_after.specs.Shift.{slot_of, with_slot};
+ghost use Rattle.jc_kinds_after.specs.Shift.{slot_of, with_slot};
 
 use jc_bytes::{List, Memory, TryClone};
 use jc_methods::{Arm, Insn, inverse};

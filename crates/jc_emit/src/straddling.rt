@@ -1,7 +1,7 @@
 //! Longs and doubles that the array of probes would cut apart.
 ghost use Rattle.std.specs.Prelude.{◌≡◌, ◌↔◌, ◌∷◌, [], IsTrue};
 ghost use Rattle.jc_methods.specs.WellMade.{IsCounted};
-ghost use Rattle.jc_after.specs.Shift.{Straddles};
+ghost use Rattle.jc_kinds_after.specs.Shift.{Straddles};
 ghost use Rattle.jc_kinds.specs.StateShift.{FrameStraddles};
 ghost use Rattle.jc_emit.specs.Straddling.{InsnStraddles, FramesStraddle, IsFirstOf, IsFirstStraddling, lesser};
 

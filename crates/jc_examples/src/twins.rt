@@ -5,7 +5,7 @@
 ghost use Rattle.std.specs.Prelude.{◌≡◌, ◌+◌, false, true, negsuc, map};
 ghost use Rattle.jc_methods.specs.Widened.{widened};
 ghost use Rattle.jc_methods.specs.declared.insn.Insn.TheVariants as insns;
-ghost use Rattle.jc_after.specs.Shift.{with_slot};
+ghost use Rattle.jc_kinds_after.specs.Shift.{with_slot};
 ghost use Rattle.jc_emit.specs.Emission.{emission};
 ghost use Rattle.jc_emit.specs.Items.{insn_of, at_of, own_of, twin_items};
 ghost use Rattle.jc_emit.specs.Shift.{shifted_state};

@@ -15,8 +15,8 @@ use Rattle.jc_bytes.specs.declared.refusal.RefusalKind.TheVariants as kinds
 use Rattle.jc_bytes.proofs.BooleanLaws.{which_in, none_in, later_in, first_in}
 use Rattle.jc_class.specs.ClassId.{class_id}
 use Rattle.jc_class.specs.declared.class_file.ClassFile.{ClassFile}
-use Rattle.jc_after.proofs.LocalsLaws.{get_held}
-use Rattle.jc_after.proofs.MovesLaws.{width_is}
+use Rattle.jc_kinds_after.proofs.LocalsLaws.{get_held}
+use Rattle.jc_kinds_after.proofs.MovesLaws.{width_is}
 use Rattle.jc_kinds.specs.StateShift.{FrameStraddles, IsStraddled}
 use Rattle.jc_plan.specs.Probed.{first_id}
 use Rattle.jc_layout.specs.Layout.{chosen_length}

@@ -19,7 +19,7 @@ use Rattle.jc_bytes.proofs.BooleanLaws.{which_in, none_in}
 use Rattle.jc_class.specs.Writable.{IsClassFile}
 use Rattle.jc_class.specs.declared.class_file.ClassFile.{ClassFile}
 use Rattle.jc_body.specs.BodyOf.{BodyOf}
-use Rattle.jc_after.specs.Shift.{Straddles}
+use Rattle.jc_kinds_after.specs.Shift.{Straddles}
 use Rattle.jc_kinds.specs.StateShift.{FrameStraddles, IsStraddled}
 use Rattle.jc_emit.specs.Straddling.{NoneStraddles}
 use Rattle.jc_layout.specs.Layout.{chosen_length}

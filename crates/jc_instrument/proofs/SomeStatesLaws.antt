@@ -24,10 +24,10 @@ use Rattle.jc_methods.proofs.MetNamesLaws.{grows_none, grows_both}
 use Rattle.jc_bytes.proofs.BooleanLaws.{fails_where}
 use Rattle.jc_methods.proofs.NumberedLaws.{grown_count, number_kept, numbers_kept}
 use Rattle.jc_bytes.proofs.ListLaws.{put_cases}
-use Rattle.jc_after.specs.After.{insn_at, after_of}
-use Rattle.jc_after.specs.Answers.{IsStateOf}
-use Rattle.jc_after.proofs.LeaveLaws.{left_whole}
-use Rattle.jc_after.proofs.PairLaws.{Paired, of_pairs}
+use Rattle.jc_kinds_after.specs.After.{insn_at, after_of}
+use Rattle.jc_kinds_after.specs.Answers.{IsStateOf}
+use Rattle.jc_kinds_after.proofs.LeaveLaws.{left_whole}
+use Rattle.jc_kinds_after.proofs.PairLaws.{Paired, of_pairs}
 use Rattle.jc_kinds.specs.Answers.{AreStates}
 use Rattle.jc_kinds.specs.Checked.{Checked}
 use Rattle.jc_kinds.specs.Frames.{frame_in}

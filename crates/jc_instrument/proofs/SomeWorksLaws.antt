@@ -12,7 +12,7 @@ use Rattle.jc_methods.proofs.MetNamesLaws.{grows_none, grows_both}
 use Rattle.jc_methods.proofs.NumberedLaws.{grown_count, frames_numbered}
 use Rattle.jc_bytes.proofs.ListLaws.{put_last, put_cases, item_at}
 use Rattle.jc_class.specs.declared.class_file.ClassFile.{ClassFile}
-use Rattle.jc_after.specs.After.{after_of}
+use Rattle.jc_kinds_after.specs.After.{after_of}
 use Rattle.jc_kinds.specs.Checked.{Checked, at_handler}
 use Rattle.jc_kinds.specs.Fits.{FitsThere}
 use Rattle.jc_kinds.specs.States.{state_of}

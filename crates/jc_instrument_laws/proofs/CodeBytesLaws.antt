@@ -24,7 +24,7 @@ use Rattle.jc_methods.specs.declared.insn.Insn.{Insn}
 use Rattle.jc_methods.specs.declared.insn.Insn.TheVariants as insns
 use Rattle.jc_bytes.proofs.OneTextLaws.{both_bytes}
 use Rattle.jc_methods.proofs.InsnFormLaws.{unknown_beyond, local_codes}
-use Rattle.jc_after.specs.Shift.{with_slot}
+use Rattle.jc_kinds_after.specs.Shift.{with_slot}
 use Rattle.jc_insn.specs.Items.{padding, IsItem, operands, wide_operands, table_operands, lookup_operands}
 use Rattle.jc_insn.specs.Sizes.{is_narrow_inc}
 use Rattle.jc_insn.specs.Spells.{Spells, SpellsFrom}

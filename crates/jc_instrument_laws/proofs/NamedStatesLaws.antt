@@ -19,8 +19,8 @@ use Rattle.jc_methods.specs.declared.insn.Insn.{Insn}
 use Rattle.jc_methods.specs.declared.insn.Insn.TheVariants as insns
 use Rattle.jc_methods.specs.Flow.{falls_at}
 use Rattle.jc_pool.specs.Lookup.{class_name_of}
-use Rattle.jc_after.specs.After.{class_in, new_class, insn_at, ground_of, returns_of, after_of}
-use Rattle.jc_after.proofs.LeaveLaws.{insn_of}
+use Rattle.jc_kinds_after.specs.After.{class_in, new_class, insn_at, ground_of, returns_of, after_of}
+use Rattle.jc_kinds_after.proofs.LeaveLaws.{insn_of}
 use Rattle.jc_frames.specs.Frames.{Ground, Before, Found, trimmed, without_last_top, values_from, values_in, is_new, insn_from, type_of, in_front, types_of, values_of, stack_of, offset_of, is_start, fits_slots, found, found_if, frame_of}
 use Rattle.jc_frames.specs.Table.{AreFrames}
 use Rattle.jc_frames.specs.declared.items.FrameItem.{FrameItem}

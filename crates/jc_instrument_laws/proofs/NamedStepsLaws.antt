@@ -20,13 +20,13 @@ use Rattle.jc_methods.specs.declared.insn.Insn.TheVariants as insns
 use Rattle.jc_methods.specs.Opcode as opcode
 use Rattle.jc_methods.proofs.DescriptorTypesLaws.{field_again, method_again}
 use Rattle.jc_bytes.proofs.OneTextLaws.{both_bytes}
-use Rattle.jc_after.specs.After.{field_step, result_of, call_form, method_step, member_step, interface_step, dynamic_step, computed_step, constant_step, is_array_class, array_of, array_step, class_step, element_letter, multi_step, return_op, simple_step, step_of}
-use Rattle.jc_after.specs.Step.{Gives, kind, item, StackEffect, Step, moves, loads, stores, counts, picks, makes, builds, fails, Ground, apply, upper, below, last, limited, has_form, moved, moved_by, given_of, cleared, clear_before, put_local, with_stack, is_array, element_name, element_of, without, is_made, class_built, built_as, replaced, same_new}
-use Rattle.jc_after.specs.Table.{Row, table, find, forms_at}
-use Rattle.jc_after.specs.Wants.{is_int, accepts, accepts_all}
-use Rattle.jc_after.specs.declared.want.Want.TheVariants as wants
-use Rattle.jc_after.proofs.KeepLaws.{then_some, else_some}
-use Rattle.jc_after.proofs.AfterLaws.{all_of}
+use Rattle.jc_kinds_after.specs.After.{field_step, result_of, call_form, method_step, member_step, interface_step, dynamic_step, computed_step, constant_step, is_array_class, array_of, array_step, class_step, element_letter, multi_step, return_op, simple_step, step_of}
+use Rattle.jc_kinds_after.specs.Step.{Gives, kind, item, StackEffect, Step, moves, loads, stores, counts, picks, makes, builds, fails, Ground, apply, upper, below, last, limited, has_form, moved, moved_by, given_of, cleared, clear_before, put_local, with_stack, is_array, element_name, element_of, without, is_made, class_built, built_as, replaced, same_new}
+use Rattle.jc_kinds_after.specs.Table.{Row, table, find, forms_at}
+use Rattle.jc_kinds_after.specs.Wants.{is_int, accepts, accepts_all}
+use Rattle.jc_kinds_after.specs.declared.want.Want.TheVariants as wants
+use Rattle.jc_kinds_after.proofs.KeepLaws.{then_some, else_some}
+use Rattle.jc_kinds_after.proofs.AfterLaws.{all_of}
 use Rattle.jc_instrument_laws.proofs.ClassSpellingLaws.{bytes_both}
 use Rattle.jc_instrument_laws.proofs.PoolSpellingLaws.{IsText}
 

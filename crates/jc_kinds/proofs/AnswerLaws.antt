@@ -11,7 +11,7 @@ use Rattle.jc_methods.specs.VerificationTypes.{Names, TypeState, type_state, IsN
 use Rattle.jc_methods.specs.EntryState.{entry_seen, entry_of}
 use Rattle.jc_bytes.specs.Least.{IsNowhere}
 use Rattle.jc_methods.specs.WellMade.{IsHandler, IsState, IsWellMade}
-use Rattle.jc_after.specs.After.{after_of}
+use Rattle.jc_kinds_after.specs.After.{after_of}
 use Rattle.jc_kinds.specs.Fits.{FitsThere}
 use Rattle.jc_kinds.specs.States.{state_of, after_at}
 use Rattle.jc_kinds.specs.Checked.{IsMissing, at_handler, EntryClash, NoAfter, BranchClash, HandlerClash, IsClash, Checked, FirstClash}

@@ -14,10 +14,10 @@ use Rattle.jc_methods.specs.declared.body.Body.{Body}
 use Rattle.jc_methods.specs.Flow.{FallsThrough, targets_of, falls_through}
 use Rattle.jc_methods.specs.VerificationTypes.{Names, type_state, IsNumberedState, AreNumberedFrames, Grows}
 use Rattle.jc_methods.specs.WellMade.{IsState, IsWellMade}
-use Rattle.jc_after.specs.After.{insn_at, after_of}
+use Rattle.jc_kinds_after.specs.After.{insn_at, after_of}
 use Rattle.jc_kinds.specs.Checking.{branches}
 use Rattle.jc_kinds.specs.Frames.{frame_in}
-use Rattle.jc_after.specs.Answers.{IsStateOf, IsWhole, LeavesState}
+use Rattle.jc_kinds_after.specs.Answers.{IsStateOf, IsWhole, LeavesState}
 use Rattle.jc_kinds.specs.StateSequence.{fits_frame, Begins, passes, IsStep, StopsAt, IsKeptEntry, IsWalk}
 use Rattle.jc_methods.proofs.FlowLaws.{falls_decided}
 use Rattle.jc_kinds.proofs.FrameLaws.{frame_made, frame_numbered}

@@ -10,7 +10,7 @@ use Rattle.jc_methods.specs.Flow.{FallsThrough, targets_of, falls_through}
 use Rattle.jc_bytes.specs.Least.{IsNowhere, IsLeast}
 use Rattle.jc_methods.specs.VerificationTypes.{Names, TypeState}
 use Rattle.jc_methods.specs.EntryState.{entry_of}
-use Rattle.jc_after.specs.After.{insn_at}
+use Rattle.jc_kinds_after.specs.After.{insn_at}
 use Rattle.jc_kinds.specs.Fits.{FitsThere, fits_there}
 use Rattle.jc_kinds.specs.States.{state_of, after_at}
 use Rattle.jc_kinds.specs.Checked.{JumpsTo, LeadsTo, HasFrame, IsHandlerTarget, NeedsFrame, IsMissing, at_handler, EntryClash, NoAfter, BranchClash, HandlerClash, IsClash, Checked, FirstMissing, FirstClash}

@@ -8,9 +8,9 @@ use Rattle.jc_methods.specs.DescriptorTypes.{method_type_in}
 use Rattle.jc_methods.specs.VerificationTypes.{VerificationType, top, int, float, double, long, null, uninit_this, object, uninit, is_pair}
 use Rattle.jc_methods.specs.EntryState.{spread_one, spread, in_locals, held_of, is_static, arguments}
 use Rattle.jc_methods.proofs.EntryLaws.{argument_slots}
-use Rattle.jc_after.specs.Step.{clear_before, put_local}
+use Rattle.jc_kinds_after.specs.Step.{clear_before, put_local}
 use Rattle.jc_kinds.specs.Fits.{IsObject, IsNullOrObject, Fits, FitEach}
-use Rattle.jc_after.specs.Shift.{renamed, probes}
+use Rattle.jc_kinds_after.specs.Shift.{renamed, probes}
 use Rattle.jc_kinds.specs.StateShift.{FitsShift, EntryShifts}
 use Rattle.jc_kinds.proofs.StateShiftLaws.{last_single}
 

@@ -3,7 +3,7 @@ use Rattle.std.proofs.Common.{◌≡◌, inl, inr, ℕ, true, false, List, [], �
 use Rattle.std.proofs.lemmas.Bool.{eqb-true, eq-eqb, true≢false}
 use Rattle.jc_bytes.proofs.DecidingLaws.{Decides}
 use Rattle.jc_methods.specs.VerificationTypes.{VerificationType, top, int, float, double, long, null, uninit_this, object, uninit, TypeState}
-use Rattle.jc_after.specs.Wants.{is_int, is_float, is_long, is_double, is_reference}
+use Rattle.jc_kinds_after.specs.Wants.{is_int, is_float, is_long, is_double, is_reference}
 use Rattle.jc_kinds.specs.Fits.{IsObject, IsNullOrObject, Fits, FitEach, FitState, FitsThere, is_null, is_uninit_this, is_uninit_at, fits, fit_each, fit_state, fits_there}
 use Rattle.jc_bytes.proofs.BooleanLaws.{both, instead}
 

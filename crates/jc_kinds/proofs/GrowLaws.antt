@@ -6,7 +6,7 @@ use Rattle.jc_methods.specs.VerificationTypes.{Names, TypeState, TypeStateAt, Ar
 use Rattle.jc_methods.specs.EntryState.{entry_of}
 use Rattle.jc_methods.specs.Flow.{falls_at}
 use Rattle.jc_methods.proofs.SeenLaws.{frames_stay}
-use Rattle.jc_after.specs.After.{insn_at, after_of}
+use Rattle.jc_kinds_after.specs.After.{insn_at, after_of}
 use Rattle.jc_kinds.specs.States.{frame_at, or_else, state_of}
 
 pub states_stay : (names more : Names) (b : Body) → AreNumberedFrames (length names) b.frames → (i : ℕ) → state_of (names ++ more) b i ≡ state_of names b i

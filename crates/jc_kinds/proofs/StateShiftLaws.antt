@@ -17,12 +17,12 @@ use Rattle.jc_methods.specs.EntryState.{spread, arguments, entry_of}
 use Rattle.jc_methods.specs.Flow.{falls_at}
 use Rattle.jc_methods.proofs.EntryLaws.{argument_slots, entry_count}
 use Rattle.jc_bytes.proofs.BooleanLaws.{first_in, later_in}
-use Rattle.jc_after.specs.After.{insn_at, after_of}
-use Rattle.jc_after.specs.Shift.{NoPairBefore, StaysWhole}
-use Rattle.jc_after.proofs.AfterLaws.{after_shifts}
-use Rattle.jc_after.proofs.LeaveLaws.{insn_of}
-use Rattle.jc_after.proofs.WholeLaws.{StaysRound, after_stays}
-use Rattle.jc_after.proofs.LocalsLaws.{get_held}
+use Rattle.jc_kinds_after.specs.After.{insn_at, after_of}
+use Rattle.jc_kinds_after.specs.Shift.{NoPairBefore, StaysWhole}
+use Rattle.jc_kinds_after.proofs.AfterLaws.{after_shifts}
+use Rattle.jc_kinds_after.proofs.LeaveLaws.{insn_of}
+use Rattle.jc_kinds_after.proofs.WholeLaws.{StaysRound, after_stays}
+use Rattle.jc_kinds_after.proofs.LocalsLaws.{get_held}
 use Rattle.jc_kinds.specs.States.{frames_of, frame_at, or_else, state_of}
 use Rattle.jc_kinds.specs.StateShift.{IsStraddled, StatesStayWhole, StatesShift}
 

@@ -13,7 +13,7 @@ use Rattle.jc_methods.specs.VerificationTypes.{Names, VerificationType, TypeStat
 use Rattle.jc_methods.specs.EntryState.{entry_of}
 use Rattle.jc_bytes.specs.Least.{IsNowhere}
 use Rattle.jc_methods.specs.WellMade.{IsState, IsWellMade}
-use Rattle.jc_after.specs.After.{insn_at, after_of}
+use Rattle.jc_kinds_after.specs.After.{insn_at, after_of}
 use Rattle.jc_kinds.specs.Fits.{FitState, FitsThere, fits, fit_each}
 use Rattle.jc_kinds.specs.States.{or_else, state_of, after_at}
 use Rattle.jc_kinds.specs.Checked.{JumpsTo, LeadsTo, NeedsFrame, IsMissing}

@@ -7,7 +7,7 @@ use Rattle.jc_methods.specs.declared.body.Body.{Body}
 use Rattle.jc_methods.specs.Flow.{targets_of, falls_at, is_fallen_into}
 use Rattle.jc_methods.specs.VerificationTypes.{Names}
 use Rattle.jc_methods.specs.EntryState.{entry_of}
-use Rattle.jc_after.specs.After.{insn_at}
+use Rattle.jc_kinds_after.specs.After.{insn_at}
 use Rattle.jc_kinds.specs.Fits.{fits_there}
 use Rattle.jc_kinds.specs.States.{state_of, after_at}
 use Rattle.jc_kinds.specs.Checked.{at_handler}

@@ -7,7 +7,7 @@ use Rattle.jc_methods.specs.declared.body.Body.{Body}
 use Rattle.jc_methods.specs.VerificationTypes.{Names, type_state, IsNumberedState, Grows}
 use Rattle.jc_methods.specs.EntryState.{entry_of}
 use Rattle.jc_methods.specs.WellMade.{IsState}
-use Rattle.jc_after.specs.After.{insn_at, after_of}
+use Rattle.jc_kinds_after.specs.After.{insn_at, after_of}
 use Rattle.jc_kinds.specs.States.{state_of}
 use Rattle.jc_kinds.specs.Checked.{EntryClash, NoAfter, BranchClash}
 use Rattle.jc_kinds.specs.Checking.{branches}

@@ -13,8 +13,8 @@ use crate::frames::frame_numbers;
 use crate::guarded::first_unguarded;
 use crate::missing::first_missing;
 use crate::walk::{Walked, walk};
-use jc_after::Effects;
 use jc_bytes::{Fail, Memory, Names, Refusal, RefusalKind};
+use jc_kinds_after::Effects;
 use jc_methods::{Body, State, entry_state};
 use std::alloc::Global;
 

@@ -13,7 +13,7 @@ mod runs;
 mod walk;
 
 pub use check::{check_body, states};
-pub use jc_after::after;
+pub use jc_kinds_after::after;
 pub use laws::{
     each_body_passes_or_is_refused, more_names_change_no_state, states_shift, the_tests_decide,
 };

@@ -5,7 +5,7 @@ ghost use Rattle.jc_methods.specs.Flow.{targets_of, falls_through};
 ghost use Rattle.jc_methods.specs.VerificationTypes.{Grows, IsNumberedState, AreNumberedFrames};
 ghost use Rattle.jc_bytes.specs.Least.{IsNowhere};
 ghost use Rattle.jc_methods.specs.WellMade.{IsWellMade, IsState};
-ghost use Rattle.jc_after.specs.Effects.{AreEffects, body_of};
+ghost use Rattle.jc_kinds_after.specs.Effects.{AreEffects, body_of};
 ghost use Rattle.jc_kinds.specs.Checked.{IsMissing};
 ghost use Rattle.jc_kinds.specs.Checking.{branches};
 ghost use Rattle.jc_kinds.specs.Frames.{frame_in, AreNumbers};
@@ -13,8 +13,8 @@ ghost use Rattle.jc_kinds.specs.StateSequence.{fits_frame, Begins, Steps, IsKept
 
 use crate::fits::fits_state;
 use crate::frames::frame_at;
-use jc_after::Effects;
 use jc_bytes::{Memory, Names, TryClone};
+use jc_kinds_after::Effects;
 use jc_methods::{Body, FrameAt, Insn, State};
 use std::alloc::Global;
 

@@ -13,7 +13,7 @@ use Rattle.jc_methods.specs.declared.insn.Insn.TheVariants as insns
 use Rattle.jc_methods.specs.Flow.{inverse_of}
 use Rattle.jc_methods.specs.Insn.{IsWellFormed}
 use Rattle.jc_methods.specs.Widened.{inverted}
-use Rattle.jc_after.specs.Shift.{with_slot}
+use Rattle.jc_kinds_after.specs.Shift.{with_slot}
 use Rattle.jc_emit.specs.Marks.{aload, astore, invokestatic, iconst_1, bastore, push}
 
 -- ---- inverses

@@ -17,7 +17,7 @@ use Rattle.jc_methods.specs.declared.body.Body.{Body}
 use Rattle.jc_plan.specs.declared.branch.Branch.{Branch}
 use Rattle.jc_plan.specs.Edges.{arm, branches_by}
 use Rattle.jc_plan.specs.Probed.{probe_of}
-use Rattle.jc_after.specs.Shift.{with_slot}
+use Rattle.jc_kinds_after.specs.Shift.{with_slot}
 use Rattle.jc_emit.specs.Marks.{push}
 use Rattle.jc_emit.specs.Sizes.{insn_at}
 use Rattle.jc_emit.specs.TwinCode.{to_of}

@@ -14,9 +14,9 @@ use Rattle.jc_methods.specs.EntryState.{entry_of}
 use Rattle.jc_methods.specs.Flow.{falls_at}
 use Rattle.jc_methods.proofs.EntryLaws.{entry_count}
 use Rattle.jc_methods.proofs.PlacedInsnLaws.{few_insns}
-use Rattle.jc_after.specs.After.{insn_at, step_of, returns_of, ground_of, after_of}
-use Rattle.jc_after.specs.Step.{apply}
-use Rattle.jc_after.proofs.KeepLaws.{step_count}
+use Rattle.jc_kinds_after.specs.After.{insn_at, step_of, returns_of, ground_of, after_of}
+use Rattle.jc_kinds_after.specs.Step.{apply}
+use Rattle.jc_kinds_after.proofs.KeepLaws.{step_count}
 use Rattle.jc_kinds.specs.States.{frames_of, frame_at, or_else, state_of}
 use Rattle.jc_kinds.proofs.StateShiftLaws.{frame_is, frame_state}
 use Rattle.jc_programs.specs.declared.program.Program.{Program}

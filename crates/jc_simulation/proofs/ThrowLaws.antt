@@ -13,7 +13,7 @@ use Rattle.jc_programs.specs.declared.run_end.Thrown.{Thrown}
 use Rattle.jc_programs.specs.declared.run_end.Thrown.TheVariants as thrown
 use Rattle.jc_programs.specs.Members.{body_of}
 use Rattle.jc_programs.specs.Throwables.{is_named_in}
-use Rattle.jc_after.specs.After.{class_in}
+use Rattle.jc_kinds_after.specs.After.{class_in}
 use Rattle.jc_emit.specs.Items.{image}
 use Rattle.jc_emit.specs.Local.{OkRow, Holds}
 use Rattle.jc_emit.specs.Seen.{OkRows}

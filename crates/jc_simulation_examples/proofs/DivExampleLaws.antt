@@ -20,9 +20,9 @@ use Rattle.jc_methods.specs.InsnForm.{form_of}
 use Rattle.jc_methods.specs.InsnUse.{pool_place, Suits, IsClass, LocalsWithin, LeadsWithin}
 use Rattle.jc_methods.specs.WellMade.{IsCode, IsHandler, IsLine, IsVar, IsKind, HasUse, AreUses, IsWellMade, HasShortTexts}
 use Rattle.jc_methods.specs.VerificationTypes.{type_state}
-use Rattle.jc_after.specs.Table.{table, forms_at}
-use Rattle.jc_after.specs.After.{after_of}
-use Rattle.jc_after.specs.Shift.{Straddles}
+use Rattle.jc_kinds_after.specs.Table.{table, forms_at}
+use Rattle.jc_kinds_after.specs.After.{after_of}
+use Rattle.jc_kinds_after.specs.Shift.{Straddles}
 use Rattle.jc_kinds.specs.States.{state_of}
 use Rattle.jc_kinds.specs.StateShift.{IsStraddled}
 use Rattle.jc_kinds.specs.Answers.{IsStateAt}

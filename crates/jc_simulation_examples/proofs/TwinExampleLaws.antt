@@ -12,9 +12,9 @@ use Rattle.jc_methods.specs.declared.body.FrameAt.{FrameAt}
 use Rattle.jc_methods.specs.DescriptorTypes.{types_from, rest_from}
 use Rattle.jc_methods.specs.WellMade.{kind_slots, IsKind}
 use Rattle.jc_methods.specs.VerificationTypes.{type_state}
-use Rattle.jc_after.specs.Table.{table, forms_at}
-use Rattle.jc_after.specs.After.{after_of}
-use Rattle.jc_after.specs.Shift.{Straddles}
+use Rattle.jc_kinds_after.specs.Table.{table, forms_at}
+use Rattle.jc_kinds_after.specs.After.{after_of}
+use Rattle.jc_kinds_after.specs.Shift.{Straddles}
 use Rattle.jc_kinds.specs.States.{state_of}
 use Rattle.jc_kinds.specs.StateShift.{IsStraddled}
 use Rattle.jc_kinds.specs.Answers.{IsStateAt}

@@ -14,7 +14,7 @@ use Rattle.jc_methods.specs.declared.insn.Flow.TheVariants as flows
 use Rattle.jc_methods.specs.declared.kind.State.{State}
 use Rattle.jc_methods.specs.declared.body.Body.{Body}
 use Rattle.jc_bytes.proofs.BooleanLaws.{none_in}
-use Rattle.jc_after.specs.Shift.{StaysWhole}
+use Rattle.jc_kinds_after.specs.Shift.{StaysWhole}
 use Rattle.jc_kinds.specs.Answers.{AreStates}
 use Rattle.jc_kinds.proofs.StateShiftLaws.{states_whole}
 use Rattle.jc_plan.specs.declared.branch.Branch.{Branch}

@@ -24,7 +24,7 @@ use Rattle.jc_frames.specs.FullFrames.{Places, AreWritable}
 use Rattle.jc_frames.specs.FullTable.{HasPlace, named_by_all, FitsFull}
 use Rattle.jc_insn.specs.Layouts.{laid_code}
 use Rattle.jc_kinds.specs.Answers.{AreStates}
-use Rattle.jc_after.specs.Shift.{shifted}
+use Rattle.jc_kinds_after.specs.Shift.{shifted}
 use Rattle.jc_emit.specs.Emission.{emission, widened_frame, HasFrameStates, IsArrayNumber}
 use Rattle.jc_emit.specs.Items.{insn_of, image_of, land_of, lead_of, twin_items}
 use Rattle.jc_emit.specs.Shift.{image_kind}

@@ -20,7 +20,7 @@ use Rattle.jc_methods.specs.declared.insn.Insn.{Insn}
 use Rattle.jc_methods.specs.declared.insn.Insn.TheVariants as insns
 use Rattle.jc_methods.specs.declared.kind.State.{State}
 use Rattle.jc_methods.specs.Opcode as opcode
-use Rattle.jc_after.specs.Shift.{slot_of, with_slot}
+use Rattle.jc_kinds_after.specs.Shift.{slot_of, with_slot}
 use Rattle.jc_plan.specs.declared.branch.Branch.{Branch}
 use Rattle.jc_plan.specs.Edges.{branches, exit, jump}
 use Rattle.jc_plan.specs.Plan.{lead_probe}

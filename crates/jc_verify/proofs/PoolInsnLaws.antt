@@ -11,7 +11,7 @@ use Rattle.jc_methods.specs.declared.insn.Insn.{Insn}
 use Rattle.jc_methods.specs.declared.insn.Insn.TheVariants as insns
 use Rattle.jc_methods.specs.declared.insn.Flow.{Flow}
 use Rattle.jc_methods.specs.declared.insn.Flow.TheVariants as flows
-use Rattle.jc_after.specs.Shift.{with_slot}
+use Rattle.jc_kinds_after.specs.Shift.{with_slot}
 use Rattle.jc_emit.specs.Items.{Item, insn_of, image_part, image_of, twin_items}
 use Rattle.jc_emit.specs.Sizes.{insn_at}
 use Rattle.jc_emit.proofs.PiecesLaws.{HasAt}

@@ -6,7 +6,7 @@ use Rattle.jc_methods.specs.VerificationTypes.{Names, VerificationType, top, int
 use Rattle.jc_methods.specs.declared.body.FrameAt.{FrameAt}
 use Rattle.jc_methods.specs.declared.kind.Kind.{Kind}
 use Rattle.jc_methods.specs.declared.kind.Kind.TheVariants as kinds
-use Rattle.jc_after.specs.Shift.{renamed}
+use Rattle.jc_kinds_after.specs.Shift.{renamed}
 use Rattle.jc_emit.specs.Emission.{widened_frame}
 use Rattle.jc_emit.specs.Shift.{image_kind}
 use Rattle.jc_frames.specs.Frames.{without_last_top, trimmed, values_from, values_in}

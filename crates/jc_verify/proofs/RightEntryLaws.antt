@@ -14,7 +14,7 @@ use Rattle.jc_methods.specs.declared.body.Body.{Body}
 use Rattle.jc_pool.specs.Pool.{PoolValue}
 use Rattle.jc_body.specs.Standing.{HasRightEntry}
 use Rattle.jc_plan.specs.Probed.{probe_of}
-use Rattle.jc_after.specs.Shift.{with_slot}
+use Rattle.jc_kinds_after.specs.Shift.{with_slot}
 use Rattle.jc_emit.specs.Marks.{push, invokestatic}
 use Rattle.jc_emit.specs.Sizes.{insn_at}
 use Rattle.jc_emit.specs.Items.{Item, init_call, init_store, image, probe_array, probe_id, probe_one, probe_store, hop, insn_of, twin_items}

@@ -8,7 +8,7 @@ use Rattle.jc_methods.specs.declared.body.FrameAt.{FrameAt}
 use Rattle.jc_methods.specs.declared.body.Handler.{Handler}
 use Rattle.jc_methods.specs.Flow.{GoesOnFrom, FallsInto, falls_at}
 use Rattle.jc_methods.proofs.SeenLaws.{frames_stay}
-use Rattle.jc_after.specs.After.{insn_at, after_of}
+use Rattle.jc_kinds_after.specs.After.{insn_at, after_of}
 use Rattle.jc_kinds.specs.Checked.{JumpsTo, LeadsTo, Guards, NeedsFrame, IsMissing, at_handler, EntryClash, NoAfter, BranchClash, HandlerClash, IsClash, Checked, FirstMissing, FirstClash}
 use Rattle.jc_kinds.specs.Fits.{FitsThere}
 use Rattle.jc_kinds.specs.States.{frame_at, or_else, state_of, after_at}

@@ -15,7 +15,7 @@ use Rattle.jc_methods.specs.declared.body.Body.{Body}
 use Rattle.jc_methods.specs.declared.kind.Kind.{Kind}
 use Rattle.jc_methods.specs.declared.kind.Kind.TheVariants as kinds
 use Rattle.jc_methods.specs.declared.kind.State.{State}
-use Rattle.jc_after.specs.Shift.{renamed, probes, shifted}
+use Rattle.jc_kinds_after.specs.Shift.{renamed, probes, shifted}
 use Rattle.jc_emit.proofs.StateLaws.{slots-renamed}
 use Rattle.jc_frames.specs.FullFrames.{BeginsWithTop, ArePaired}
 use Rattle.jc_verify.proofs.AskedFrameLaws.{IsStateOf}

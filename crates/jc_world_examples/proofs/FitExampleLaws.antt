@@ -23,8 +23,8 @@ use Rattle.jc_methods.specs.declared.body.What.TheVariants as whats
 use Rattle.jc_methods.specs.Opcode as opcode
 use Rattle.jc_programs.specs.Entries.{entry_of, AreEntries}
 use Rattle.jc_programs.specs.declared.run_plan.Schedule.TheVariants as schedules
-use Rattle.jc_after.specs.Table.{table, forms_at}
-use Rattle.jc_after.specs.After.{after_of}
+use Rattle.jc_kinds_after.specs.Table.{table, forms_at}
+use Rattle.jc_kinds_after.specs.After.{after_of}
 use Rattle.jc_kinds.specs.States.{state_of}
 use Rattle.jc_kinds.specs.Checking.{verdict_of, passes}
 use Rattle.jc_kinds.proofs.CheckLaws.{passes_checked}

@@ -14,7 +14,7 @@ use Rattle.jc_programs.specs.declared.program.Program.{Program}
 use Rattle.jc_programs.specs.declared.program.Linked.{Linked}
 use Rattle.jc_programs.specs.declared.run_end.Entry.{Entry}
 use Rattle.jc_programs.specs.Members.{class_at, body_of}
-use Rattle.jc_after.specs.After.{returns_of}
+use Rattle.jc_kinds_after.specs.After.{returns_of}
 use Rattle.jc_kinds.specs.States.{state_of}
 use Rattle.jc_world.specs.Methods.{is_init_name, is_synchronized, is_plain, is_enterable}
 use Rattle.jc_world.specs.Programs.{IsProgram, IsProgramBody}

@@ -3,11 +3,11 @@ use Rattle.std.proofs.Common.{◌≡◌, ◌⊎◌, ℕ, ◌-◌, Bool, true, fa
 use Rattle.std.proofs.lemmas.Bool.{eqb-true}
 use Rattle.jc_methods.specs.VerificationTypes.{VerificationType}
 use Rattle.jc_methods.specs.Opcode as opcode
-use Rattle.jc_after.specs.declared.want.Want.{Want}
-use Rattle.jc_after.specs.Wants.{accepts, accepts_all}
-use Rattle.jc_after.specs.Step.{kind, item, StackEffect, below, has_form, given_of, moved as moved_kinds, moved_by}
-use Rattle.jc_after.specs.Table.{form, table, forms_at}
-use Rattle.jc_after.specs.declared.want.Want.TheVariants as wants
+use Rattle.jc_kinds_after.specs.declared.want.Want.{Want}
+use Rattle.jc_kinds_after.specs.Wants.{accepts, accepts_all}
+use Rattle.jc_kinds_after.specs.Step.{kind, item, StackEffect, below, has_form, given_of, moved as moved_kinds, moved_by}
+use Rattle.jc_kinds_after.specs.Table.{form, table, forms_at}
+use Rattle.jc_kinds_after.specs.declared.want.Want.TheVariants as wants
 use Rattle.jc_world.specs.Values.{Value}
 use Rattle.jc_world.specs.Effects.{Effect, Move, moves_of, moved, gives, unfit, effect}
 use Rattle.jc_world.specs.Fits.{AreOfVerificationTypes, IsStack}

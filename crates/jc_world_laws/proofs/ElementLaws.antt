@@ -19,13 +19,13 @@ use Rattle.jc_programs.specs.declared.program.ProbeInit.{ProbeInit}
 use Rattle.jc_programs.specs.declared.run_end.Thrown.{Thrown}
 use Rattle.jc_programs.specs.Throwables.{is_one}
 use Rattle.jc_programs.specs.declared.run_end.Thrown.TheVariants as thrown
-use Rattle.jc_after.specs.declared.want.Want.{Want}
-use Rattle.jc_after.specs.Wants.{accepts_all}
-use Rattle.jc_after.specs.Step.{kind, Ground, Step, limited, with_stack, upper, below, is_made, without, same_new, class_built, replaced, built_as}
-use Rattle.jc_after.specs.Table.{form}
-use Rattle.jc_after.specs.After.{step_of, returns_of, ground_of}
-use Rattle.jc_after.specs.declared.want.Want.TheVariants as wants
-use Rattle.jc_after.specs.Step as kinds
+use Rattle.jc_kinds_after.specs.declared.want.Want.{Want}
+use Rattle.jc_kinds_after.specs.Wants.{accepts_all}
+use Rattle.jc_kinds_after.specs.Step.{kind, Ground, Step, limited, with_stack, upper, below, is_made, without, same_new, class_built, replaced, built_as}
+use Rattle.jc_kinds_after.specs.Table.{form}
+use Rattle.jc_kinds_after.specs.After.{step_of, returns_of, ground_of}
+use Rattle.jc_kinds_after.specs.declared.want.Want.TheVariants as wants
+use Rattle.jc_kinds_after.specs.Step as kinds
 use Rattle.jc_world.specs.Values.{Value, int, long, null, object, memory_error, print_stream, probes, text}
 use Rattle.jc_world.specs.Heap.{HeapObject, array, throwable, has_room}
 use Rattle.jc_world.specs.Arrays.{element_value, has_elements, index_within, Element, Found, found, fails, unsuited, in_array, in_heap_object, find_element, read_found, by_read, element_number, with_element, write_number, write_found, by_probe, write_to, by_write, by_make_array, measured, by_measure}

@@ -12,12 +12,12 @@ use Rattle.jc_methods.specs.Opcode as opcode
 use Rattle.jc_programs.specs.declared.program.Program.{Program}
 use Rattle.jc_programs.specs.declared.program.Linked.{Linked}
 use Rattle.jc_programs.specs.declared.run_end.Thrown.TheVariants as thrown
-use Rattle.jc_after.specs.declared.want.Want.{Want}
-use Rattle.jc_after.specs.Step.{Gives, StackEffect}
-use Rattle.jc_after.specs.Table.{form, table, forms_at}
-use Rattle.jc_after.specs.After.{step_of, returns_of}
-use Rattle.jc_after.specs.declared.want.Want.TheVariants as wants
-use Rattle.jc_after.specs.Step as kinds
+use Rattle.jc_kinds_after.specs.declared.want.Want.{Want}
+use Rattle.jc_kinds_after.specs.Step.{Gives, StackEffect}
+use Rattle.jc_kinds_after.specs.Table.{form, table, forms_at}
+use Rattle.jc_kinds_after.specs.After.{step_of, returns_of}
+use Rattle.jc_kinds_after.specs.declared.want.Want.TheVariants as wants
+use Rattle.jc_kinds_after.specs.Step as kinds
 use Rattle.jc_kinds.specs.Checked.{LeadsTo}
 use Rattle.jc_world.specs.Values.{Value, int, long, null}
 use Rattle.jc_world.specs.Heap.{HeapObject}

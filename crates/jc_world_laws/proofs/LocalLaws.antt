@@ -4,7 +4,7 @@ use Rattle.std.specs.List.{AllByRecursion}
 use Rattle.jc_methods.specs.VerificationTypes.{VerificationType}
 use Rattle.jc_methods.specs.VerificationTypes as verification
 use Rattle.jc_programs.specs.declared.program.Program.{Program}
-use Rattle.jc_after.specs.Step as kinds
+use Rattle.jc_kinds_after.specs.Step as kinds
 use Rattle.jc_world.specs.Values.{Value, long, is_pair}
 use Rattle.jc_world.specs.Heap.{HeapObject}
 use Rattle.jc_world.specs.Locals.{is_pair_there, clear_before, clear_behind, put_local}

@@ -5,11 +5,11 @@ use Rattle.std.specs.Prelude.{⊤, IsTrue}
 use Rattle.jc_methods.specs.VerificationTypes.{VerificationType}
 use Rattle.jc_methods.specs.VerificationTypes as verification
 use Rattle.jc_methods.specs.Opcode as opcode
-use Rattle.jc_after.specs.declared.want.Want.{Want}
-use Rattle.jc_after.specs.Wants.{accepts, accepts_all}
-use Rattle.jc_after.specs.Step.{Gives, kind, item, StackEffect, below, upper, has_form, limited, given_of, moved as moved_kinds, moved_by}
-use Rattle.jc_after.specs.Table.{form, table, forms_at}
-use Rattle.jc_after.specs.declared.want.Want.TheVariants as wants
+use Rattle.jc_kinds_after.specs.declared.want.Want.{Want}
+use Rattle.jc_kinds_after.specs.Wants.{accepts, accepts_all}
+use Rattle.jc_kinds_after.specs.Step.{Gives, kind, item, StackEffect, below, upper, has_form, limited, given_of, moved as moved_kinds, moved_by}
+use Rattle.jc_kinds_after.specs.Table.{form, table, forms_at}
+use Rattle.jc_kinds_after.specs.declared.want.Want.TheVariants as wants
 use Rattle.jc_world.specs.Values.{Value, int, long, null, is_pair, is_reference}
 use Rattle.jc_world.specs.Effects.{Effect, moves_of, moved, gives, unfit, effect}
 use Rattle.jc_world.specs.Fits.{IsInt, IsLong, IsOfVerificationType, AreOfVerificationTypes, IsStack}

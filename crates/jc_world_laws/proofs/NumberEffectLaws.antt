@@ -6,10 +6,10 @@ use Rattle.jc_methods.specs.VerificationTypes.{VerificationType}
 use Rattle.jc_methods.specs.VerificationTypes as verification
 use Rattle.jc_methods.specs.Opcode as opcode
 use Rattle.jc_programs.specs.declared.run_end.Thrown.TheVariants as thrown
-use Rattle.jc_after.specs.declared.want.Want.{Want}
-use Rattle.jc_after.specs.Step.{kind, below, moved_by}
-use Rattle.jc_after.specs.Table.{form, table, forms_at}
-use Rattle.jc_after.specs.declared.want.Want.TheVariants as wants
+use Rattle.jc_kinds_after.specs.declared.want.Want.{Want}
+use Rattle.jc_kinds_after.specs.Step.{kind, below, moved_by}
+use Rattle.jc_kinds_after.specs.Table.{form, table, forms_at}
+use Rattle.jc_kinds_after.specs.declared.want.Want.TheVariants as wants
 use Rattle.jc_world.specs.Values.{Value, int, long, null}
 use Rattle.jc_world.specs.Effects.{Effect, gives, unfit, when, int_for, long_for, constant, divided, int_bits, int_pair, long_pair, long_shift, int_single, long_single, single, pair, effect}
 use Rattle.jc_world.specs.Fits.{IsOfVerificationType, IsStack}

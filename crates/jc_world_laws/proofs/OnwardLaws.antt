@@ -18,7 +18,7 @@ use Rattle.jc_programs.specs.declared.program.Linked.{Linked}
 use Rattle.jc_programs.specs.declared.run_end.Entry.{Entry}
 use Rattle.jc_programs.specs.declared.run_end.Thrown.{Thrown}
 use Rattle.jc_programs.specs.Members.{class_at}
-use Rattle.jc_after.specs.After.{after_of, class_in}
+use Rattle.jc_kinds_after.specs.After.{after_of, class_in}
 use Rattle.jc_kinds.specs.Fits.{Fits, FitEach, FitsThere}
 use Rattle.jc_kinds.specs.States.{state_of, after_at}
 use Rattle.jc_kinds.specs.Checked.{JumpsTo, LeadsTo, Guards, caught as caught_kind, at_handler}

@@ -2,10 +2,10 @@
 use Rattle.std.proofs.Common.{◌≡◌, ◌⊎◌, ℕ, ◌-◌, true, List, [], ◌∷◌, ◌++◌, reverse, map, refl, sym, ◌∙◌, ap, subst, ⊎_elim}
 use Rattle.jc_methods.specs.VerificationTypes.{VerificationType}
 use Rattle.jc_methods.specs.Opcode as opcode
-use Rattle.jc_after.specs.Wants.{accepts, accepts_all}
-use Rattle.jc_after.specs.Step.{kind, item, StackEffect, has_form, given_of, moved as moved_kinds, moved_by}
-use Rattle.jc_after.specs.Table.{form, table, forms_at}
-use Rattle.jc_after.specs.declared.want.Want.TheVariants as wants
+use Rattle.jc_kinds_after.specs.Wants.{accepts, accepts_all}
+use Rattle.jc_kinds_after.specs.Step.{kind, item, StackEffect, has_form, given_of, moved as moved_kinds, moved_by}
+use Rattle.jc_kinds_after.specs.Table.{form, table, forms_at}
+use Rattle.jc_kinds_after.specs.declared.want.Want.TheVariants as wants
 use Rattle.jc_world.specs.Values.{Value}
 use Rattle.jc_world.specs.Effects.{moves_of, moved}
 use Rattle.jc_world.specs.Fits.{AreOfVerificationTypes, IsStack}

@@ -20,11 +20,11 @@ use Rattle.jc_programs.specs.declared.program.ProbeInit.{ProbeInit}
 use Rattle.jc_programs.specs.declared.run_end.Entry.{Entry}
 use Rattle.jc_programs.specs.declared.run_end.Thrown.{Thrown}
 use Rattle.jc_programs.specs.Members.{class_named, class_at, static_named}
-use Rattle.jc_after.specs.Step.{kind, Step}
-use Rattle.jc_after.specs.Table.{form}
-use Rattle.jc_after.specs.After.{want_of, field_step, method_step, member_step, constant_step, class_step, step_of, returns_of}
-use Rattle.jc_after.specs.declared.want.Want.TheVariants as wants
-use Rattle.jc_after.specs.Step as kinds
+use Rattle.jc_kinds_after.specs.Step.{kind, Step}
+use Rattle.jc_kinds_after.specs.Table.{form}
+use Rattle.jc_kinds_after.specs.After.{want_of, field_step, method_step, member_step, constant_step, class_step, step_of, returns_of}
+use Rattle.jc_kinds_after.specs.declared.want.Want.TheVariants as wants
+use Rattle.jc_kinds_after.specs.Step as kinds
 use Rattle.jc_world.specs.Methods.{is_init_name, is_enterable}
 use Rattle.jc_world.specs.Programs.{IsProgram}
 use Rattle.jc_world.specs.Values.{int, long, print_stream, text, computational_type}

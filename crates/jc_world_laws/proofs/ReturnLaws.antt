@@ -21,9 +21,9 @@ use Rattle.jc_programs.specs.declared.program.Program.{Program}
 use Rattle.jc_programs.specs.declared.program.Linked.{Linked}
 use Rattle.jc_programs.specs.declared.run_end.Entry.{Entry}
 use Rattle.jc_programs.specs.Members.{class_named, class_at, method_named}
-use Rattle.jc_after.specs.Step.{Gives, kind, StackEffect, below, upper, given_of, moved_by, apply}
-use Rattle.jc_after.specs.After.{want_of, result_of, call_form, member_step, step_of, returns_of, ground_of, after_of}
-use Rattle.jc_after.specs.Step as kinds
+use Rattle.jc_kinds_after.specs.Step.{Gives, kind, StackEffect, below, upper, given_of, moved_by, apply}
+use Rattle.jc_kinds_after.specs.After.{want_of, result_of, call_form, member_step, step_of, returns_of, ground_of, after_of}
+use Rattle.jc_kinds_after.specs.Step as kinds
 use Rattle.jc_world.specs.Programs.{IsProgram}
 use Rattle.jc_world.specs.Values.{Value}
 use Rattle.jc_world.specs.Heap.{HeapObject}

@@ -15,10 +15,10 @@ use Rattle.jc_methods.specs.WellMade.{kind_slots, AreFramesFrom, IsWellMade}
 use Rattle.jc_methods.specs.Flow.{falls_at}
 use Rattle.jc_methods.specs.declared.kind.Kind.TheVariants as kinds
 use Rattle.jc_methods.specs.VerificationTypes as verification
-use Rattle.jc_after.specs.Wants.{is_int, accepts, accepts_all}
-use Rattle.jc_after.specs.Step.{Gives, StackEffect, Step, moves, loads, stores, counts, picks, makes, builds, fails, Ground, below, upper, last, limited, has_form, moved, moved_by, with_stack, put_local, element_of, is_made, without, class_built, replaced, built_as, given_of, apply}
-use Rattle.jc_after.specs.After.{step_of, returns_of, insn_at, ground_of, after_of}
-use Rattle.jc_after.specs.declared.want.Want.TheVariants as wants
+use Rattle.jc_kinds_after.specs.Wants.{is_int, accepts, accepts_all}
+use Rattle.jc_kinds_after.specs.Step.{Gives, StackEffect, Step, moves, loads, stores, counts, picks, makes, builds, fails, Ground, below, upper, last, limited, has_form, moved, moved_by, with_stack, put_local, element_of, is_made, without, class_built, replaced, built_as, given_of, apply}
+use Rattle.jc_kinds_after.specs.After.{step_of, returns_of, insn_at, ground_of, after_of}
+use Rattle.jc_kinds_after.specs.declared.want.Want.TheVariants as wants
 use Rattle.jc_kinds.specs.States.{frames_of, frame_at, or_else, state_of}
 use Rattle.jc_world.specs.Values.{Value}
 use Rattle.jc_world.specs.Fits.{AreOfVerificationTypes}

@@ -17,12 +17,12 @@ use Rattle.jc_methods.specs.VerificationTypes as verification
 use Rattle.jc_methods.specs.Opcode as opcode
 use Rattle.jc_programs.specs.declared.program.Program.{Program}
 use Rattle.jc_programs.specs.declared.program.Linked.{Linked}
-use Rattle.jc_after.specs.Step.{kind, StackEffect, Step, apply}
-use Rattle.jc_after.specs.Table.{form, table, forms_at}
-use Rattle.jc_after.specs.After.{return_op, return_step, local_want, element_letter, step_of, returns_of, ground_of}
-use Rattle.jc_after.specs.declared.want.Want.{Want}
-use Rattle.jc_after.specs.declared.want.Want.TheVariants as wants
-use Rattle.jc_after.specs.Step as kinds
+use Rattle.jc_kinds_after.specs.Step.{kind, StackEffect, Step, apply}
+use Rattle.jc_kinds_after.specs.Table.{form, table, forms_at}
+use Rattle.jc_kinds_after.specs.After.{return_op, return_step, local_want, element_letter, step_of, returns_of, ground_of}
+use Rattle.jc_kinds_after.specs.declared.want.Want.{Want}
+use Rattle.jc_kinds_after.specs.declared.want.Want.TheVariants as wants
+use Rattle.jc_kinds_after.specs.Step as kinds
 use Rattle.jc_world.specs.Values.{int, ComputationalType, int_type, long_type, reference_type, computational_type}
 use Rattle.jc_world.specs.World.{Frame, Shared}
 use Rattle.jc_world.specs.Operations.{pushes, computes, counts, tests, jumps, indexes, matches, measures, makes_array, returns, returns_nothing, throws_top, outside}

@@ -2,9 +2,9 @@
 use Rattle.std.proofs.Common.{◌≡◌, ℕ, ◌-◌, Bool, true, false, cond, List, [], ◌∷◌, ◌++◌, length, take, drop, reverse, Option, Some, None, refl, sym, ◌∙◌, ap, subst, arith, append_assoc, append-nil, length-append}
 use Rattle.std.proofs.lemmas.List.{reverse-append, reverse-reverse}
 use Rattle.jc_methods.specs.VerificationTypes.{VerificationType}
-use Rattle.jc_after.specs.declared.want.Want.{Want}
-use Rattle.jc_after.specs.Step.{kind, StackEffect, below, upper, has_form, limited, moved as moved_kinds, moved_by}
-use Rattle.jc_after.specs.Table.{form}
+use Rattle.jc_kinds_after.specs.declared.want.Want.{Want}
+use Rattle.jc_kinds_after.specs.Step.{kind, StackEffect, below, upper, has_form, limited, moved as moved_kinds, moved_by}
+use Rattle.jc_kinds_after.specs.Table.{form}
 use Rattle.jc_world.specs.Values.{Value}
 use Rattle.jc_world.specs.Fits.{IsOfVerificationType, AreOfVerificationTypes, IsStack}
 

@@ -16,11 +16,11 @@ use Rattle.jc_programs.specs.declared.program.Program.{Program}
 use Rattle.jc_programs.specs.declared.program.Linked.{Linked}
 use Rattle.jc_programs.specs.declared.program.StaticField.{StaticField}
 use Rattle.jc_programs.specs.Members.{class_at, static_named}
-use Rattle.jc_after.specs.declared.want.Want.{Want}
-use Rattle.jc_after.specs.Step.{kind}
-use Rattle.jc_after.specs.Table.{form}
-use Rattle.jc_after.specs.After.{step_of, returns_of}
-use Rattle.jc_after.specs.Step as kinds
+use Rattle.jc_kinds_after.specs.declared.want.Want.{Want}
+use Rattle.jc_kinds_after.specs.Step.{kind}
+use Rattle.jc_kinds_after.specs.Table.{form}
+use Rattle.jc_kinds_after.specs.After.{step_of, returns_of}
+use Rattle.jc_kinds_after.specs.Step as kinds
 use Rattle.jc_world.specs.Values.{Value, int, long, ComputationalType, int_type, long_type, reference_type, is_of, computational_type, stored_as}
 use Rattle.jc_world.specs.Heap.{HeapObject}
 use Rattle.jc_world.specs.World.{Frame, Shared}

@@ -13,13 +13,13 @@ use Rattle.jc_methods.specs.VerificationTypes as verification
 use Rattle.jc_programs.specs.declared.program.Program.{Program}
 use Rattle.jc_programs.specs.declared.program.Linked.{Linked}
 use Rattle.jc_programs.specs.declared.run_end.Entry.{Entry}
-use Rattle.jc_after.specs.declared.want.Want.{Want}
-use Rattle.jc_after.specs.Wants.{is_int, accepts}
-use Rattle.jc_after.specs.Step.{Gives, kind, StackEffect, Step, moved_by, with_stack, limited, apply}
-use Rattle.jc_after.specs.Table.{form, forms_at}
-use Rattle.jc_after.specs.After.{after_of, step_of, returns_of, ground_of}
-use Rattle.jc_after.specs.declared.want.Want.TheVariants as wants
-use Rattle.jc_after.specs.Step as kinds
+use Rattle.jc_kinds_after.specs.declared.want.Want.{Want}
+use Rattle.jc_kinds_after.specs.Wants.{is_int, accepts}
+use Rattle.jc_kinds_after.specs.Step.{Gives, kind, StackEffect, Step, moved_by, with_stack, limited, apply}
+use Rattle.jc_kinds_after.specs.Table.{form, forms_at}
+use Rattle.jc_kinds_after.specs.After.{after_of, step_of, returns_of, ground_of}
+use Rattle.jc_kinds_after.specs.declared.want.Want.TheVariants as wants
+use Rattle.jc_kinds_after.specs.Step as kinds
 use Rattle.jc_kinds.specs.Checked.{LeadsTo}
 use Rattle.jc_world.specs.Values.{Value, int, long, null, object, is_pair, ComputationalType, int_type, long_type, reference_type, is_of, is_reference}
 use Rattle.jc_world.specs.Heap.{HeapObject}

@@ -12,7 +12,7 @@ use Rattle.jc_programs.specs.declared.program.Linked.{Linked}
 use Rattle.jc_programs.specs.declared.run_end.Entry.{Entry}
 use Rattle.jc_programs.specs.declared.run_end.Thrown.{Thrown}
 use Rattle.jc_programs.specs.declared.run_end.Thrown.TheVariants as thrown
-use Rattle.jc_after.specs.After.{returns_of}
+use Rattle.jc_kinds_after.specs.After.{returns_of}
 use Rattle.jc_world.specs.Programs.{IsProgram}
 use Rattle.jc_world.specs.Values.{Value, object}
 use Rattle.jc_world.specs.Heap.{throwable, HeapObject, has_room}

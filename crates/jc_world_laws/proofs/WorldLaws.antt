@@ -13,7 +13,7 @@ use Rattle.jc_programs.specs.declared.run_plan.Case.{Case}
 use Rattle.jc_programs.specs.declared.run_plan.ThreadLine.{ThreadLine}
 use Rattle.jc_programs.specs.declared.run_end.Entry.{Entry}
 use Rattle.jc_programs.specs.Entries.{AreEntries}
-use Rattle.jc_after.specs.After.{after_of}
+use Rattle.jc_kinds_after.specs.After.{after_of}
 use Rattle.jc_world.specs.Programs.{IsProgram}
 use Rattle.jc_world.specs.Heap.{HeapObject}
 use Rattle.jc_world.specs.World.{Frame, Thread, running, returned, threw, stuck, Shared, World}

@@ -8,8 +8,8 @@ use Rattle.jc_programs.specs.declared.run_plan.Case.{Case}
 use Rattle.jc_programs.specs.declared.run_end.Entry.{Entry}
 use Rattle.jc_programs.specs.Members.{body_of}
 use Rattle.jc_programs.specs.Entries.{AreEntries}
-use Rattle.jc_after.specs.Step.{moved_by}
-use Rattle.jc_after.specs.Table.{forms_at}
+use Rattle.jc_kinds_after.specs.Step.{moved_by}
+use Rattle.jc_kinds_after.specs.Table.{forms_at}
 use Rattle.jc_world.specs.Programs.{IsProgram}
 use Rattle.jc_world.specs.Values.{Value}
 use Rattle.jc_world.specs.Effects.{Effect, gives, effect}

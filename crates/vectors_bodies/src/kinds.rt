@@ -2,15 +2,15 @@
 ghost use Rattle.std.specs.Prelude.{◌<◌, length, All, IsTrue};
 ghost use Rattle.jc_base.specs.VerificationTypes.{IsNumbered};
 ghost use Rattle.jc_base.specs.WellMade.{IsKind, IsWellMadeOfAnySize};
-ghost use Rattle.jc_after.specs.Answers.{IsStateOf};
+ghost use Rattle.jc_kinds_after.specs.Answers.{IsStateOf};
 
 use crate::bodies::body_of;
 use crate::insns::name_of;
 use crate::problem::Problem;
 use crate::states::{put_state, state_of, states_text};
-use jc_after::after;
 use jc_base::{Body, Insn, Kind, Names, State, opcode};
 use jc_kinds::{check_body, states};
+use jc_kinds_after::after;
 use std::alloc::Global;
 
 /// The state before each instruction of the method with this number.

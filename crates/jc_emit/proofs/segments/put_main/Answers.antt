@@ -6,7 +6,7 @@ use Rattle.jc_methods.specs.declared.insn.Insn.{Insn}
 use Rattle.jc_methods.specs.declared.insn.Flow.TheVariants as flows
 use Rattle.jc_methods.proofs.PlacedInsnLaws.{few_insns}
 use Rattle.jc_plan.specs.Plan.{out_probes}
-use Rattle.jc_after.specs.Shift.{with_slot}
+use Rattle.jc_kinds_after.specs.Shift.{with_slot}
 use Rattle.jc_emit.specs.Branching.{IsPushed, IsTableOf, late_in}
 use Rattle.jc_emit.specs.Items.{image, land_of, tests_part}
 use Rattle.jc_emit.specs.Sizes.{insn_at, early_probe, late_probe}

@@ -1,5 +1,5 @@
 use Rattle.std.proofs.Common.{◌≡◌}
-use Rattle.jc_after.specs.Effects.{AreEffects, body_of}
+use Rattle.jc_kinds_after.specs.Effects.{AreEffects, body_of}
 use Rattle.jc_kinds.proofs.WalkLaws.{IsWalking}
 use Rattle.jc_kinds.proofs.walk.walk.Given as goal
 
