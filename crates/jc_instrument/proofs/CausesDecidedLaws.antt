@@ -26,7 +26,7 @@ use Rattle.jc_instrument.proofs.DecidedLaws.{OrNot, either_or_not, true_or_not, 
 use Rattle.jc_instrument.proofs.OneBodyLaws.{same_body}
 use Rattle.jc_instrument.proofs.PoolTextLaws.{no_class_past}
 use Rattle.jc_instrument.proofs.ReadingLaws.{fault_cases, not_both}
-use Rattle.jc_verify.proofs.SameBodyLaws.{AreSame, same_missing, same_clash}
+use Rattle.jc_instrument_reread.proofs.SameBodyLaws.{AreSame, same_missing, same_clash}
 
 -- ---- the class as a whole
 

@@ -13,7 +13,7 @@ use Rattle.jc_kinds.specs.Checked.{Checked, FirstMissing, FirstClash}
 use Rattle.jc_kinds.proofs.CheckLaws.{checked_not_missing, checked_not_clash}
 use Rattle.jc_instrument.specs.Steps.{InBodies, IsFrameRefusal, KeepsClash}
 use Rattle.jc_instrument.proofs.FrameCauseLaws.{each_at}
-use Rattle.jc_verify.proofs.SameBodyLaws.{AreSame, turned, grown_same, same_clash, same_check}
+use Rattle.jc_instrument_reread.proofs.SameBodyLaws.{AreSame, turned, grown_same, same_clash, same_check}
 
 same_item : {x y : Body} → Some x ≡ Some y → x ≡ y
 same_item e = cc

@@ -19,7 +19,7 @@ use Rattle.jc_instrument.specs.Reasons.{IsFaulty, OfBody, method_causes, frame_c
 use Rattle.jc_instrument.specs.Steps.{InBodies, IsFrameRefusal}
 use Rattle.jc_instrument.proofs.CauseLaws.{never_in_method}
 use Rattle.jc_instrument.proofs.OneBodyLaws.{same_body}
-use Rattle.jc_verify.proofs.SameBodyLaws.{AreSame, same_missing, same_clash}
+use Rattle.jc_instrument_reread.proofs.SameBodyLaws.{AreSame, same_missing, same_clash}
 
 same_item : {x y : Body} → Some x ≡ Some y → x ≡ y
 same_item e = cc

@@ -12,11 +12,11 @@ use Rattle.jc_pool.proofs.AddingLaws.{class_extends, extends_more, same_extends}
 use Rattle.jc_pool.proofs.OneMoreEntryLaws.{entry_stays}
 use Rattle.jc_frames.specs.FullTable.{HasPlace, TakesClasses}
 use Rattle.jc_frames.proofs.TakenLaws.{first_of}
-use Rattle.jc_code.specs.FirstPlaces.{class_place}
-use Rattle.jc_code.specs.Given.{IsNamedAt}
-use Rattle.jc_code.specs.TwinCode.{kind_vars_name, lines_name, vars_name}
-use Rattle.jc_code.specs.declared.code.CodePlaces.{CodePlaces}
-use Rattle.jc_code.proofs.FirstPlaceLaws.{class_found, text_within}
+use Rattle.jc_instrument_code.specs.FirstPlaces.{class_place}
+use Rattle.jc_instrument_code.specs.Given.{IsNamedAt}
+use Rattle.jc_instrument_code.specs.TwinCode.{kind_vars_name, lines_name, vars_name}
+use Rattle.jc_instrument_code.specs.declared.code.CodePlaces.{CodePlaces}
+use Rattle.jc_instrument_code.proofs.FirstPlaceLaws.{class_found, text_within}
 use Rattle.jc_instrument.specs.BodiesWithStates.{BodyWithStates, emitted_of}
 use Rattle.jc_instrument.specs.Writing.{AreAllNamed, KeepsClasses}
 

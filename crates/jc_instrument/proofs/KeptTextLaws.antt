@@ -14,11 +14,11 @@ use Rattle.jc_frames.proofs.FullTextLaws.{both_parts}
 use Rattle.jc_emit.specs.declared.tables.MovedTables.{MovedTables}
 use Rattle.jc_layout.specs.LaidBody.{with_place}
 use Rattle.jc_layout.specs.declared.layouts.Laid.{Laid}
-use Rattle.jc_code.specs.CodeText.{attribute, code_text, counted_text, frame_attributes, line_text, row_text, table_attributes, var_text}
-use Rattle.jc_code.specs.FirstPlaces.{class_place}
-use Rattle.jc_code.specs.LaidText.{laid_text}
-use Rattle.jc_code.specs.TwinCode.{attributes_by}
-use Rattle.jc_code.specs.declared.code.CodePlaces.{CodePlaces}
+use Rattle.jc_instrument_code.specs.CodeText.{attribute, code_text, counted_text, frame_attributes, line_text, row_text, table_attributes, var_text}
+use Rattle.jc_instrument_code.specs.FirstPlaces.{class_place}
+use Rattle.jc_instrument_code.specs.LaidText.{laid_text}
+use Rattle.jc_instrument_code.specs.TwinCode.{attributes_by}
+use Rattle.jc_instrument_code.specs.declared.code.CodePlaces.{CodePlaces}
 
 module _ (f g : List ℕ → ℕ) (start : ℕ → ℕ) where
   abbrev by_f : Places

@@ -19,7 +19,7 @@ use Rattle.jc_kinds.proofs.CheckLaws.{checked_not_missing, checked_not_clash}
 use Rattle.jc_layout.specs.Layout.{chosen_length}
 use Rattle.jc_plan.specs.Analysed.{all_probes}
 use Rattle.jc_plan.specs.Probed.{first_id, probe_count}
-use Rattle.jc_verify.proofs.SameBodyLaws.{AreSame, turned, grown_same, same_clash, same_check}
+use Rattle.jc_instrument_reread.proofs.SameBodyLaws.{AreSame, turned, grown_same, same_clash, same_check}
 use Rattle.jc_instrument.specs.Causes.{of_method}
 use Rattle.jc_instrument.specs.Found.{AreFramesFine, HasRoomSoFar, KeepsLack, noted}
 use Rattle.jc_instrument.specs.Looking.{AreLookedAt, FramesSoFar, LooksAtBody, LooksOn, PassesOn, PlannedSoFar, PlansOn, PutsPlanned, RefusedOn, RoomSoFar}

@@ -8,7 +8,7 @@ use Rattle.jc_class.specs.declared.class_file.Attribute.{Attribute}
 use Rattle.jc_class.specs.declared.class_file.Member.{Member}
 use Rattle.jc_body.specs.Attributes.{has_name}
 use Rattle.jc_body.specs.First.{IsFirstItem, NoItem}
-use Rattle.jc_code.specs.CodeText.{attribute}
+use Rattle.jc_instrument_code.specs.CodeText.{attribute}
 use Rattle.jc_instrument.specs.Members.{HasOneCode}
 use Rattle.jc_instrument.specs.TwinText.{with_code}
 

@@ -21,10 +21,10 @@ use Rattle.jc_frames.specs.FullTable.{HasPlace, named_by_all}
 use Rattle.jc_emit.specs.Emission.{emission}
 use Rattle.jc_emit.specs.Items.{land_of}
 use Rattle.jc_emit.specs.TwinTables.{moved_line, moved_var}
-use Rattle.jc_code.specs.Given.{AreNamed, IsNamedAt}
-use Rattle.jc_code.specs.TwinCode.{lines_name, vars_name, kind_vars_name}
-use Rattle.jc_code.specs.declared.code.CodePlaces.{CodePlaces}
-use Rattle.jc_code.proofs.NamedLaws.{named_at}
+use Rattle.jc_instrument_code.specs.Given.{AreNamed, IsNamedAt}
+use Rattle.jc_instrument_code.specs.TwinCode.{lines_name, vars_name, kind_vars_name}
+use Rattle.jc_instrument_code.specs.declared.code.CodePlaces.{CodePlaces}
+use Rattle.jc_instrument_code.proofs.NamedLaws.{named_at}
 use Rattle.jc_instrument.specs.Writing.{AreAllNamed}
 use Rattle.jc_instrument.specs.Members.{AreTextPlaces, IsFirstIfAny}
 use Rattle.jc_instrument.specs.BodiesWithStates.{BodyWithStates, all_frames, bodies_of, emitted_of}

@@ -11,8 +11,8 @@ use Rattle.jc_body.specs.BodyOf.{HasBody, IsBody, BodyOf}
 use Rattle.jc_body.specs.Faults.{faults}
 use Rattle.jc_body.specs.First.{Fault}
 use Rattle.jc_body.specs.StackMap.{HasFrames}
-use Rattle.jc_verify.proofs.OneBodyLaws.{same_bodies}
-use Rattle.jc_verify.proofs.SameBodyLaws.{AreSame}
+use Rattle.jc_instrument_reread.proofs.OneBodyLaws.{same_bodies}
+use Rattle.jc_instrument_reread.proofs.SameBodyLaws.{AreSame}
 
 same_method : {x y : Member} → Some x ≡ Some y → x ≡ y
 same_method e = cc

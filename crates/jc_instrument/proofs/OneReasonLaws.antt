@@ -20,7 +20,7 @@ use Rattle.jc_instrument.specs.Reasons.{WrongVersion, IsInstrumented, HasCodeAt,
 use Rattle.jc_instrument.specs.Steps.{IsAnswer}
 use Rattle.jc_instrument.proofs.CauseLaws.{IsSingle, AreSingle, both_single, first_or_none, one_first, one_method}
 use Rattle.jc_instrument.proofs.OneBodyLaws.{same_body}
-use Rattle.jc_verify.proofs.SameBodyLaws.{same_missing, same_clash}
+use Rattle.jc_instrument_reread.proofs.SameBodyLaws.{same_missing, same_clash}
 
 -- ---- each cause
 

@@ -13,7 +13,7 @@ use Rattle.jc_class.specs.declared.class_file.ClassFile.{ClassFile}
 use Rattle.jc_class.specs.declared.class_file.Member.{Member}
 use Rattle.jc_class.proofs.FirstBadLaws.{one_class_of}
 use Rattle.jc_class.proofs.OneClassLaws.{one_class}
-use Rattle.jc_code.specs.TwinCode.{twin_code}
+use Rattle.jc_instrument_code.specs.TwinCode.{twin_code}
 use Rattle.jc_instrument.specs.Contents.{TakesEach}
 use Rattle.jc_instrument.specs.InstrumentedFile.{Becomes, HasProbes, IsAsGiven, IsInstrumentedFile}
 use Rattle.jc_instrument.specs.LeftAlone.{is_left_alone}

@@ -8,7 +8,7 @@ use Rattle.jc_class.specs.Writable.{IsClassFile}
 use Rattle.jc_class.specs.declared.class_file.ClassFile.{ClassFile}
 use Rattle.jc_class.proofs.FirstBadLaws.{one_class_of}
 use Rattle.jc_class.proofs.WritableLaws.{class_holds}
-use Rattle.jc_verify.specs.Again.{EachPassesAgain}
+use Rattle.jc_instrument_reread.specs.Again.{EachPassesAgain}
 use Rattle.jc_instrument.specs.Bodies.{AreBodiesOf, AreBodiesUnless}
 use Rattle.jc_instrument.specs.Causes.{NoCause}
 use Rattle.jc_instrument.specs.InstrumentedFile.{Becomes, HasProbes, IsInstrumentedFile}

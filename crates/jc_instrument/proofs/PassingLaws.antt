@@ -14,9 +14,9 @@ use Rattle.jc_class.proofs.ReadClassLaws.{class_read}
 use Rattle.jc_class.proofs.WritableLaws.{class_holds}
 use Rattle.jc_kinds.specs.Checked.{Checked}
 use Rattle.jc_emit.specs.Straddling.{NoneStraddles}
-use Rattle.jc_verify.specs.Again.{EachPassesAgain}
-use Rattle.jc_verify.specs.WrittenCode.{IsWrittenCode}
-use Rattle.jc_verify.proofs.AgainLaws.{each_passes}
+use Rattle.jc_instrument_reread.specs.Again.{EachPassesAgain}
+use Rattle.jc_instrument_reread.specs.WrittenCode.{IsWrittenCode}
+use Rattle.jc_instrument_reread.proofs.AgainLaws.{each_passes}
 use Rattle.jc_instrument.specs.Causes.{Cause, NoCause, unless}
 use Rattle.jc_instrument.specs.LeftAlone.{is_left_alone}
 use Rattle.jc_instrument.specs.Needed.{name_of, signed_id, TakesNeeded}

@@ -21,8 +21,8 @@ use Rattle.jc_emit.specs.Emission.{emission}
 use Rattle.jc_emit.specs.Refusing.{HasRoom}
 use Rattle.jc_layout.specs.Layout.{chosen_length}
 use Rattle.jc_layout.specs.declared.layouts.Laid.{Laid}
-use Rattle.jc_code.proofs.LaidLaws.{laid_length}
-use Rattle.jc_verify.proofs.SameBodyLaws.{grown_same}
+use Rattle.jc_instrument_code.proofs.LaidLaws.{laid_length}
+use Rattle.jc_instrument_reread.proofs.SameBodyLaws.{grown_same}
 use Rattle.jc_instrument.specs.BodiesWithStates.{BodyWithStates}
 use Rattle.jc_instrument.specs.KeptStates.{places_kept, planned_places}
 use Rattle.jc_instrument.specs.Looking.{PutsPlanned}

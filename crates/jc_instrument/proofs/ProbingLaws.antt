@@ -12,7 +12,7 @@ use Rattle.jc_emit.specs.Shift.{probe_array_class}
 use Rattle.jc_emit.specs.Stages.{moved_tables}
 use Rattle.jc_layout.specs.Layable.{IsLayable}
 use Rattle.jc_layout.proofs.LayableLaws.{all_formed, all_within, few_in}
-use Rattle.jc_code.specs.TwinCode.{tables_in}
+use Rattle.jc_instrument_code.specs.TwinCode.{tables_in}
 use Rattle.jc_instrument.specs.RoomCauses.{probed_code}
 use Rattle.jc_instrument.specs.BodiesWithStates.{BodyWithStates, IsBodyWithStates}
 use Rattle.jc_instrument.proofs.KeptStatesLaws.{states_grown}

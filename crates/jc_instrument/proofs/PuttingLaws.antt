@@ -21,9 +21,9 @@ use Rattle.jc_class.specs.declared.class_file.ClassFile.{ClassFile}
 use Rattle.jc_class.specs.declared.class_file.Member.{Member}
 use Rattle.jc_frames.specs.FullTable.{RefusesClasses, named_by, named_by_all}
 use Rattle.jc_frames.proofs.TakenLaws.{Taking, all_taken, refuses_here, takes_more, taking_begun}
-use Rattle.jc_code.specs.Given.{AreNamed}
-use Rattle.jc_code.specs.TwinCode.{written_frames}
-use Rattle.jc_code.specs.declared.code.CodePlaces.{CodePlaces}
+use Rattle.jc_instrument_code.specs.Given.{AreNamed}
+use Rattle.jc_instrument_code.specs.TwinCode.{written_frames}
+use Rattle.jc_instrument_code.specs.declared.code.CodePlaces.{CodePlaces}
 use Rattle.jc_instrument.specs.BodiesWithStates.{BodyWithStates, all_frames, emitted_of}
 use Rattle.jc_instrument.specs.Members.{AreCoded, HasOneCode, IsCoded}
 use Rattle.jc_instrument.specs.Ready.{AreReadyIfKept, IsReadyIfKept, method_of}

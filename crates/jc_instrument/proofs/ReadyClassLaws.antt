@@ -17,7 +17,7 @@ use Rattle.jc_body.specs.BodyOf.{BodyOf}
 use Rattle.jc_kinds.specs.Checked.{Checked, FirstMissing, FirstClash}
 use Rattle.jc_plan.specs.Analysed.{all_probes}
 use Rattle.jc_plan.specs.Probed.{first_id}
-use Rattle.jc_verify.proofs.SameBodyLaws.{grown_same}
+use Rattle.jc_instrument_reread.proofs.SameBodyLaws.{grown_same}
 use Rattle.jc_instrument.specs.Bodies.{AreBodiesUnless, AreBodiesOf}
 use Rattle.jc_instrument.specs.BodiesWithStates.{AreBodiesWithStates, BodyWithStates, bodies_of}
 use Rattle.jc_instrument.specs.Causes.{Cause, IsFirstCause, NoCause, InMethod}

@@ -32,7 +32,7 @@ use Rattle.jc_instrument.proofs.CauseLaws.{IsSingle, AreSingle, both_single, one
 use Rattle.jc_instrument.proofs.OneBodyLaws.{same_body}
 use Rattle.jc_instrument.proofs.OneReasonLaws.{causes_single, single_unless, one_reason_by}
 use Rattle.jc_instrument.proofs.SameAnalysisLaws.{same_bodies, same_probes, same_first}
-use Rattle.jc_verify.proofs.SameBodyLaws.{AreSame, turned, same_head, same_tail}
+use Rattle.jc_instrument_reread.proofs.SameBodyLaws.{AreSame, turned, same_head, same_tail}
 use Rattle.jc_instrument.proofs.SameItemsLaws.{same_code}
 
 -- ---- a long or a double at the last argument

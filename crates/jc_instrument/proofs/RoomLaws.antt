@@ -21,7 +21,7 @@ use Rattle.jc_instrument.proofs.CauseLaws.{first_behind, first_in_front, none_in
 use Rattle.jc_instrument.proofs.FrameCauseLaws.{first_of_methods, none_of_methods}
 use Rattle.jc_instrument.proofs.RoomCauseLaws.{same_straddled}
 use Rattle.jc_instrument.proofs.SameAnalysisLaws.{same_bodies, same_probes}
-use Rattle.jc_verify.proofs.SameBodyLaws.{AreSame, turned}
+use Rattle.jc_instrument_reread.proofs.SameBodyLaws.{AreSame, turned}
 
 -- ---- bodies that differ in their names alone
 

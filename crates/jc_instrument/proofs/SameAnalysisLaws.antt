@@ -26,7 +26,7 @@ use Rattle.jc_instrument.specs.LeftAlone.{is_left_alone}
 use Rattle.jc_instrument.specs.SameAnalysis.{without_frames, IsSameAnalysis}
 use Rattle.jc_instrument.proofs.LastBodyLaws.{EndsWith, last_or_none, none_below}
 use Rattle.jc_instrument.proofs.OneBodyLaws.{same_body}
-use Rattle.jc_verify.proofs.SameBodyLaws.{AreSame}
+use Rattle.jc_instrument_reread.proofs.SameBodyLaws.{AreSame}
 
 -- ---- the bodies
 

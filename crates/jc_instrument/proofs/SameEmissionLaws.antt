@@ -24,8 +24,8 @@ use Rattle.jc_plan.specs.Probed.{probe_of}
 use Rattle.jc_layout.specs.LaidBody.{with_place}
 use Rattle.jc_layout.specs.Layout.{is_wide, chosen_text}
 use Rattle.jc_layout.specs.Merged.{merged}
-use Rattle.jc_code.specs.CodeText.{code_text, counted_text, row_text}
-use Rattle.jc_code.specs.TwinCode.{code_attributes, offset_in, twin_code, written_frames}
+use Rattle.jc_instrument_code.specs.CodeText.{code_text, counted_text, row_text}
+use Rattle.jc_instrument_code.specs.TwinCode.{code_attributes, offset_in, twin_code, written_frames}
 use Rattle.jc_emit.specs.Emission.{IsArrayNumber, arm_frame, arm_frames, emission, frame, frame_if, frames_at, has_frame, has_inverse, is_further, moved_state, wide_frames_at}
 use Rattle.jc_emit.specs.Items.{at_of, extra_of, image_of, insn_of, land_of, lead_of, own_of}
 use Rattle.jc_emit.specs.Sizes.{arms_at, hop_size, insn_at, late_probe}
@@ -34,7 +34,7 @@ use Rattle.jc_emit.specs.TwinTables.{moved_line, moved_row, moved_var}
 use Rattle.jc_emit.proofs.FrameLaws.{seen_moved}
 use Rattle.jc_instrument.specs.SameAnalysis.{without_frames}
 use Rattle.jc_instrument.proofs.SameAnalysisLaws.{same_but_frames, same_lead}
-use Rattle.jc_verify.proofs.SameBodyLaws.{AreSame, same_state}
+use Rattle.jc_instrument_reread.proofs.SameBodyLaws.{AreSame, same_state}
 use Rattle.jc_instrument.proofs.SameFramesLaws.{SayTheSame, both_same, merged_same, pieces_same}
 use Rattle.jc_instrument.proofs.SameItemsLaws.{same_image, same_items, same_land, same_late, same_lead_place, same_probe}
 

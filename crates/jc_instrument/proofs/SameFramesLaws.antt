@@ -5,7 +5,7 @@ use Rattle.jc_methods.specs.VerificationTypes.{Names, TypeStateAt, type_state_at
 use Rattle.jc_bytes.specs.PlainLists.{pieces}
 use Rattle.jc_methods.specs.declared.body.FrameAt.{FrameAt}
 use Rattle.jc_layout.specs.Merged.{merged, with_frame}
-use Rattle.jc_verify.proofs.SameBodyLaws.{same_head, same_tail}
+use Rattle.jc_instrument_reread.proofs.SameBodyLaws.{same_head, same_tail}
 
 module _ (names others : Names) where
   -- the frames say the same by names

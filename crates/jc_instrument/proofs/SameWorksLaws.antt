@@ -9,14 +9,14 @@ use Rattle.jc_methods.specs.declared.body.Body.{Body}
 use Rattle.jc_class.specs.declared.class_file.ClassFile.{ClassFile}
 use Rattle.jc_body.specs.BodyOf.{BodyOf}
 use Rattle.jc_plan.specs.Probed.{first_id}
-use Rattle.jc_code.specs.TwinCode.{written_frames}
+use Rattle.jc_instrument_code.specs.TwinCode.{written_frames}
 use Rattle.jc_emit.specs.Emission.{emission}
 use Rattle.jc_instrument.specs.SameAnalysis.{without_frames}
 use Rattle.jc_instrument.specs.BodiesWithStates.{BodyWithStates, AreBodiesWithStates, all_frames, bodies_of, emitted_of}
 use Rattle.jc_instrument.proofs.ListedLaws.{body_at}
 use Rattle.jc_instrument.proofs.OneBodyLaws.{same_body}
 use Rattle.jc_instrument.proofs.SameAnalysisLaws.{same_below, same_first}
-use Rattle.jc_verify.proofs.SameBodyLaws.{AreSame}
+use Rattle.jc_instrument_reread.proofs.SameBodyLaws.{AreSame}
 use Rattle.jc_instrument.proofs.SameEmissionLaws.{IsSameEmission, same_emission, same_written}
 
 -- the works are of one method, and what is emitted is the same

@@ -10,8 +10,8 @@ use Rattle.jc_class.specs.Writable.{IsClassFile}
 use Rattle.jc_class.specs.declared.class_file.ClassFile.{ClassFile}
 use Rattle.jc_frames.specs.FullTable.{named_by_all}
 use Rattle.jc_plan.specs.Analysed.{all_probes}
-use Rattle.jc_code.specs.TwinCode.{twin_code}
-use Rattle.jc_code.specs.declared.code.CodePlaces.{CodePlaces}
+use Rattle.jc_instrument_code.specs.TwinCode.{twin_code}
+use Rattle.jc_instrument_code.specs.declared.code.CodePlaces.{CodePlaces}
 use Rattle.jc_instrument.specs.BodiesWithStates.{BodyWithStates, all_frames, bodies_of, emitted_of}
 use Rattle.jc_instrument.specs.Contents.{TakesEach}
 use Rattle.jc_instrument.specs.Members.{AreTextPlaces}

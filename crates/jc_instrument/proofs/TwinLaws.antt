@@ -14,12 +14,12 @@ use Rattle.jc_body.specs.Attributes.{is_text, has_name}
 use Rattle.jc_frames.specs.FullTable.{named_by_all}
 use Rattle.jc_methods.specs.ProbeMembers.{data_name, data_type, init_name, init_type}
 use Rattle.jc_plan.specs.Analysed.{all_probes}
-use Rattle.jc_code.specs.CodeText.{attribute}
+use Rattle.jc_instrument_code.specs.CodeText.{attribute}
 use Rattle.jc_instrument.specs.Contents.{Content, text_entry, class_entry, string_entry, long_entry, member_entry, IsOfClass}
-use Rattle.jc_code.specs.InitText.{init_text}
-use Rattle.jc_code.specs.TwinCode.{twin_code}
+use Rattle.jc_instrument_code.specs.InitText.{init_text}
+use Rattle.jc_instrument_code.specs.TwinCode.{twin_code}
 use Rattle.jc_instrument.specs.Needed.{name_of, signed_id, place_list, needs_of, TakesNeeds}
-use Rattle.jc_verify.specs.Written.{data_field, fetch_method}
+use Rattle.jc_instrument_reread.specs.Written.{data_field, fetch_method}
 use Rattle.jc_instrument.specs.SameOutside.{IsKeptAttribute, AreKeptAttributes, IsKeptMethod, AreKeptMethods, IsDataField, IsInitMethod, IsSameOutside}
 use Rattle.jc_instrument.specs.TwinText.{work_of, with_code, twin_method, twin_methods, data_member, init_member, init_places, twin_class, IsWritten}
 use Rattle.jc_instrument.specs.BodiesWithStates.{BodyWithStates, bodies_of, emitted_of, all_frames}

@@ -12,7 +12,7 @@ use Rattle.jc_class.specs.declared.class_file.Attribute.{Attribute}
 use Rattle.jc_class.specs.declared.class_file.Member.{Member}
 use Rattle.jc_body.specs.Attributes.{has_name, is_text}
 use Rattle.jc_body.specs.Coded.{code_bodies}
-use Rattle.jc_code.specs.CodeText.{attribute}
+use Rattle.jc_instrument_code.specs.CodeText.{attribute}
 use Rattle.jc_instrument.specs.TwinText.{twin_method, twin_methods, with_code, work_of}
 use Rattle.jc_instrument.specs.BodiesWithStates.{BodyWithStates}
 

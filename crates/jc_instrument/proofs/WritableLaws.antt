@@ -48,9 +48,9 @@ use Rattle.jc_layout.proofs.ChoiceLaws.{chosen_count}
 use Rattle.jc_layout.proofs.LayoutFramesLaws.{frames_laid}
 use Rattle.jc_layout.proofs.MergedLaws.{merged_cases, merged_rises}
 use Rattle.jc_layout.specs.declared.layouts.Laid.{Laid}
-use Rattle.jc_code.specs.Given.{AreFrames, IsLaid}
-use Rattle.jc_code.specs.TwinCode.{chosen_frames}
-use Rattle.jc_code.proofs.LaidLaws.{can_be_written, laid_length, laid_rise}
+use Rattle.jc_instrument_code.specs.Given.{AreFrames, IsLaid}
+use Rattle.jc_instrument_code.specs.TwinCode.{chosen_frames}
+use Rattle.jc_instrument_code.proofs.LaidLaws.{can_be_written, laid_length, laid_rise}
 use Rattle.jc_instrument.proofs.ProbingLaws.{array_stands, emission_code}
 
 -- ---- values

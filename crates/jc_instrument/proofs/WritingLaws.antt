@@ -19,12 +19,12 @@ use Rattle.jc_emit.specs.Stages.{AreLayoutFrames, moved_tables}
 use Rattle.jc_kinds.specs.Answers.{AreStates}
 use Rattle.jc_methods.specs.declared.kind.State.{State}
 use Rattle.jc_emit.specs.declared.tables.MovedTables.{MovedTables}
-use Rattle.jc_code.specs.Given.{AreNamed, IsLaid, IsNamedAt}
-use Rattle.jc_code.specs.LaidText.{laid_text}
-use Rattle.jc_code.specs.TwinCode.{chosen_frames, kind_vars_name, lines_name, vars_name, written_frames}
-use Rattle.jc_code.specs.declared.code.CodePlaces.{CodePlaces}
-use Rattle.jc_code.proofs.TwinCodeLaws.{laid_text_is}
-use Rattle.jc_verify.proofs.SameBodyLaws.{AreSame, grown_same}
+use Rattle.jc_instrument_code.specs.Given.{AreNamed, IsLaid, IsNamedAt}
+use Rattle.jc_instrument_code.specs.LaidText.{laid_text}
+use Rattle.jc_instrument_code.specs.TwinCode.{chosen_frames, kind_vars_name, lines_name, vars_name, written_frames}
+use Rattle.jc_instrument_code.specs.declared.code.CodePlaces.{CodePlaces}
+use Rattle.jc_instrument_code.proofs.TwinCodeLaws.{laid_text_is}
+use Rattle.jc_instrument_reread.proofs.SameBodyLaws.{AreSame, grown_same}
 use Rattle.jc_instrument.specs.BodiesWithStates.{BodyWithStates, emitted_of}
 use Rattle.jc_instrument.specs.Ready.{IsReady}
 use Rattle.jc_instrument.specs.Writing.{AreFramesOf, IsWorkOf, IsWrittenBody}

@@ -39,18 +39,18 @@ use Rattle.jc_emit.proofs.WideFrameLaws.{emitted}
 use Rattle.jc_layout.specs.Layout.{is_wide, chosen_length, chosen_starts, chosen_text}
 use Rattle.jc_layout.specs.declared.layouts.Laid.{Laid}
 use Rattle.jc_layout.proofs.ChoiceLaws.{text_length}
-use Rattle.jc_code.specs.CodeText.{attribute}
-use Rattle.jc_code.specs.Given.{AreFrames, HaveClasses}
-use Rattle.jc_code.specs.InitText.{init_text}
-use Rattle.jc_code.specs.TwinCode.{chosen_frames, twin_code, written_frames}
-use Rattle.jc_code.specs.declared.init.AddedPlaces.{AddedPlaces}
-use Rattle.jc_verify.specs.Again.{IsAddedAt, IsWrittenAt, AreWrittenMethods}
-use Rattle.jc_verify.specs.Written.{IsAddedMethod, IsWrittenMethod}
-use Rattle.jc_verify.specs.WrittenCode.{IsWrittenCode}
+use Rattle.jc_instrument_code.specs.CodeText.{attribute}
+use Rattle.jc_instrument_code.specs.Given.{AreFrames, HaveClasses}
+use Rattle.jc_instrument_code.specs.InitText.{init_text}
+use Rattle.jc_instrument_code.specs.TwinCode.{chosen_frames, twin_code, written_frames}
+use Rattle.jc_instrument_code.specs.declared.init.AddedPlaces.{AddedPlaces}
+use Rattle.jc_instrument_reread.specs.Again.{IsAddedAt, IsWrittenAt, AreWrittenMethods}
+use Rattle.jc_instrument_reread.specs.Written.{IsAddedMethod, IsWrittenMethod}
+use Rattle.jc_instrument_reread.specs.WrittenCode.{IsWrittenCode}
 use Rattle.jc_plan.specs.Analysed.{all_probes}
 use Rattle.jc_instrument.specs.Bodies.{IsListed}
 use Rattle.jc_instrument.specs.Contents.{text_entry, class_entry, string_entry, long_entry, member_entry}
-use Rattle.jc_verify.specs.Written.{data_field, fetch_method, init_method}
+use Rattle.jc_instrument_reread.specs.Written.{data_field, fetch_method, init_method}
 use Rattle.jc_instrument.specs.Needed.{name_of, needs_of, place_list, signed_id, TakesNeeds}
 use Rattle.jc_instrument.specs.TwinText.{init_member, init_places, twin_class, twin_method, twin_methods, with_code, work_of, IsWritten}
 use Rattle.jc_instrument.specs.BodiesWithStates.{BodyWithStates, all_frames, bodies_of, emitted_of, AreBodiesWithStates}

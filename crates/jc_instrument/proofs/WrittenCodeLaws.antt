@@ -22,19 +22,19 @@ use Rattle.jc_body.specs.Faults.{faults}
 use Rattle.jc_plan.specs.Probed.{first_id, probe_count}
 use Rattle.jc_emit.specs.Emission.{emission}
 use Rattle.jc_layout.specs.Layout.{chosen_length}
-use Rattle.jc_code.specs.FirstPlaces.{text_place}
-use Rattle.jc_code.specs.TwinCode.{kind_vars_name, lines_name, twin_code, vars_name}
-use Rattle.jc_code.specs.declared.code.CodePlaces.{CodePlaces}
-use Rattle.jc_code.proofs.FirstPlaceLaws.{text_found}
-use Rattle.jc_verify.specs.WrittenCode.{IsWrittenCode}
+use Rattle.jc_instrument_code.specs.FirstPlaces.{text_place}
+use Rattle.jc_instrument_code.specs.TwinCode.{kind_vars_name, lines_name, twin_code, vars_name}
+use Rattle.jc_instrument_code.specs.declared.code.CodePlaces.{CodePlaces}
+use Rattle.jc_instrument_code.proofs.FirstPlaceLaws.{text_found}
+use Rattle.jc_instrument_reread.specs.WrittenCode.{IsWrittenCode}
 use Rattle.jc_class.proofs.ReadClassLaws.{IsOfBytes}
-use Rattle.jc_verify.proofs.ReadNumbersLaws.{body_short}
-use Rattle.jc_verify.proofs.WrittenCodeLaws.{written_code as code_written}
+use Rattle.jc_instrument_reread.proofs.ReadNumbersLaws.{body_short}
+use Rattle.jc_instrument_reread.proofs.WrittenCodeLaws.{written_code as code_written}
 use Rattle.jc_instrument.proofs.ListedLaws.{body_at}
 use Rattle.jc_plan.specs.Analysed.{all_probes}
 use Rattle.jc_instrument.specs.Contents.{Content, member_entry, text_entry}
 use Rattle.jc_instrument.specs.Members.{AreTextPlaces, IsFirstIfAny}
-use Rattle.jc_verify.specs.Written.{init_method}
+use Rattle.jc_instrument_reread.specs.Written.{init_method}
 use Rattle.jc_instrument.specs.Needed.{name_of, needs_of, place_list}
 use Rattle.jc_instrument.specs.Probing.{AreShortBelow}
 use Rattle.jc_instrument.specs.Room.{NoneLacks}

@@ -9,7 +9,7 @@ use Rattle.jc_class.specs.declared.class_file.ClassFile.{ClassFile}
 use Rattle.jc_kinds.specs.Answers.{AreStates}
 use Rattle.jc_plan.specs.Probed.{first_id}
 use Rattle.jc_emit.specs.Emission.{emission, IsArrayNumber}
-use Rattle.jc_code.specs.TwinCode.{written_frames}
+use Rattle.jc_instrument_code.specs.TwinCode.{written_frames}
 use Rattle.jc_instrument.specs.Bodies.{AreBodies}
 
 -- a body, the states before its instructions, and its first id

@@ -9,8 +9,8 @@ use Rattle.jc_class.specs.Writable.{IsAttribute}
 use Rattle.jc_class.specs.declared.class_file.Attribute.{Attribute}
 use Rattle.jc_class.specs.declared.class_file.Member.{Member}
 use Rattle.jc_body.specs.Coded.{code_bodies}
-use Rattle.jc_code.specs.TwinCode.{lines_name, vars_name, kind_vars_name}
-use Rattle.jc_code.specs.declared.code.CodePlaces.{CodePlaces}
+use Rattle.jc_instrument_code.specs.TwinCode.{lines_name, vars_name, kind_vars_name}
+use Rattle.jc_instrument_code.specs.declared.code.CodePlaces.{CodePlaces}
 use Rattle.jc_instrument.specs.Ready.{method_of}
 use Rattle.jc_instrument.specs.declared.ready.PlannedBody.{PlannedBody}
 

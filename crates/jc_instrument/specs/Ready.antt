@@ -13,7 +13,7 @@ use Rattle.jc_emit.specs.Emission.{emission}
 use Rattle.jc_emit.specs.Placing.{HasPlan}
 use Rattle.jc_emit.specs.Refusing.{HasRoom}
 use Rattle.jc_layout.specs.declared.layouts.Laid.{Laid}
-use Rattle.jc_code.specs.Given.{IsLaid}
+use Rattle.jc_instrument_code.specs.Given.{IsLaid}
 use Rattle.jc_instrument.specs.Probing.{AreShortBelow}
 use Rattle.jc_instrument.specs.declared.ready.ReadyBody.{ReadyBody}
 use Rattle.jc_instrument.specs.declared.ready.PlannedBody.{PlannedBody}

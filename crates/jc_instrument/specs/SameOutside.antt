@@ -9,9 +9,9 @@ use Rattle.jc_emit.specs.Added.{InitPlaces}
 use Rattle.jc_methods.specs.ProbeMembers.{data_name, data_type, data_flags, init_name, init_type, init_flags}
 use Rattle.jc_instrument.specs.Contents.{Content}
 use Rattle.jc_instrument.specs.GrownPool.{IsGrown}
-use Rattle.jc_code.specs.InitText.{init_text}
+use Rattle.jc_instrument_code.specs.InitText.{init_text}
 use Rattle.jc_instrument.specs.Needed.{name_of, signed_id}
-use Rattle.jc_verify.specs.Written.{data_field, fetch_method}
+use Rattle.jc_instrument_reread.specs.Written.{data_field, fetch_method}
 
 -- ---- what stays
 

@@ -10,9 +10,9 @@ use Rattle.jc_body.specs.Attributes.{has_name}
 use Rattle.jc_emit.specs.Added.{InitPlaces}
 use Rattle.jc_methods.specs.ProbeMembers.{data_flags, init_flags}
 use Rattle.jc_plan.specs.Analysed.{all_probes}
-use Rattle.jc_code.specs.CodeText.{attribute}
-use Rattle.jc_code.specs.InitText.{init_text}
-use Rattle.jc_code.specs.TwinCode.{twin_code}
+use Rattle.jc_instrument_code.specs.CodeText.{attribute}
+use Rattle.jc_instrument_code.specs.InitText.{init_text}
+use Rattle.jc_instrument_code.specs.TwinCode.{twin_code}
 use Rattle.jc_instrument.specs.Needed.{TakesNeeds}
 use Rattle.jc_instrument.specs.BodiesWithStates.{BodyWithStates, bodies_of, AreBodiesWithStates, emitted_of}
 use Rattle.jc_instrument.specs.declared.needs.MemberPlaces.{MemberPlaces}

@@ -25,9 +25,9 @@ use Rattle.jc_kinds.specs.Answers.{AreStates}
 use Rattle.jc_plan.specs.Plan.{plan_of}
 use Rattle.jc_emit.specs.Emission.{IsArrayNumber}
 use Rattle.jc_emit.specs.Stages.{AreLayoutFrames}
-use Rattle.jc_code.specs.Given.{AreNamed}
-use Rattle.jc_code.specs.TwinCode.{twin_code, written_frames}
-use Rattle.jc_code.specs.declared.code.CodePlaces.{CodePlaces}
+use Rattle.jc_instrument_code.specs.Given.{AreNamed}
+use Rattle.jc_instrument_code.specs.TwinCode.{twin_code, written_frames}
+use Rattle.jc_instrument_code.specs.declared.code.CodePlaces.{CodePlaces}
 use Rattle.jc_instrument.specs.BodiesWithStates.{BodyWithStates, all_frames, emitted_of}
 use Rattle.jc_instrument.specs.RoomCauses.{NeedsTooMuch}
 use Rattle.jc_instrument.specs.TwinText.{IsWrittenFor, twin_class, twin_methods}

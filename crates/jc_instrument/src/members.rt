@@ -16,7 +16,7 @@ use crate::needs::MemberPlaces;
 use crate::ready::{PlannedBody, method_of};
 use jc_bytes::{Bytes, Fail, List, Memory, Names};
 use jc_class::{Attribute, ClassFile, Member};
-use jc_code::{AddedPlaces, CodePlaces, write_init};
+use jc_instrument_code::{AddedPlaces, CodePlaces, write_init};
 use jc_pool::{Pool, PoolFull};
 use std::alloc::Global;
 use std::mem;

@@ -8,7 +8,7 @@ ghost use Rattle.jc_emit.specs.Placing.{HasPlan};
 ghost use Rattle.jc_emit.specs.Refusing.{HasRoom};
 ghost use Rattle.jc_layout.specs.Layable.{IsLayable};
 ghost use Rattle.jc_layout.specs.Layout.{chosen_length};
-ghost use Rattle.jc_code.specs.Given.{IsLaid};
+ghost use Rattle.jc_instrument_code.specs.Given.{IsLaid};
 ghost use Rattle.jc_instrument.specs.Probing.{IsRefusedAsLarge, IsTooLong};
 ghost use Rattle.jc_instrument.specs.Ready.{IsLaidFor, method_of};
 ghost use Rattle.jc_instrument.specs.RoomCauses.{probed_code};

@@ -23,7 +23,7 @@ use crate::needs::{MemberPlaces, take_members};
 use crate::ready_class::ReadyClass;
 use jc_bytes::{Fail, Names, Refusal, RefusalKind};
 use jc_class::ClassFile;
-use jc_code::{CodePlaces, first_text};
+use jc_instrument_code::{CodePlaces, first_text};
 use jc_pool::{Pool, PoolFull};
 use std::alloc::Global;
 

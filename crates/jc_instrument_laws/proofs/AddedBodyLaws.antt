@@ -10,11 +10,11 @@ use Rattle.jc_class.specs.declared.class_file.ClassFile.{ClassFile}
 use Rattle.jc_class.specs.declared.class_file.Member.{Member}
 use Rattle.jc_body.specs.BodyOf.{IsBodyOfAnySize}
 use Rattle.jc_body.specs.Faults.{faults_of_any_size}
-use Rattle.jc_code.specs.declared.init.AddedPlaces.{AddedPlaces}
+use Rattle.jc_instrument_code.specs.declared.init.AddedPlaces.{AddedPlaces}
 use Rattle.jc_emit.specs.Added.{end_place, IsInitBody}
 use Rattle.jc_emit.specs.Emission.{IsArrayNumber}
-use Rattle.jc_verify.specs.Written.{IsAddedMethod}
-use Rattle.jc_verify.proofs.InitAgainLaws.{init_body, init_is, init_is_body, init_names}
+use Rattle.jc_instrument_reread.specs.Written.{IsAddedMethod}
+use Rattle.jc_instrument_reread.proofs.InitAgainLaws.{init_body, init_is, init_is_body, init_names}
 use Rattle.jc_instrument.proofs.OneBodyLaws.{reframed}
 
 -- the number is one of the names

@@ -20,7 +20,7 @@ use Rattle.jc_emit.proofs.FrameListsLaws.{in_piece, if_listed}
 use Rattle.jc_layout.specs.Layout.{is_wide}
 use Rattle.jc_layout.specs.Merged.{merged, with_frame}
 use Rattle.jc_layout.proofs.MergedLaws.{merged_cases}
-use Rattle.jc_code.specs.TwinCode.{chosen_frames}
+use Rattle.jc_instrument_code.specs.TwinCode.{chosen_frames}
 
 -- how many instructions the arms of a switch take
 abbrev pub arms_size : Body → (first : ℕ) → ℕ → ℕ

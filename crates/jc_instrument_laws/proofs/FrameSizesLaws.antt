@@ -12,7 +12,7 @@ use Rattle.jc_frames.specs.Frames.{trimmed, values_in}
 use Rattle.jc_frames.specs.FullFrames as full
 use Rattle.jc_frames.proofs.ValuesLaws.{trimmed_few, values_few}
 use Rattle.jc_insn.specs.Writing.{short, word}
-use Rattle.jc_code.specs.CodeText.{attribute, attribute_text, counted_text, parts_of, table_attributes}
+use Rattle.jc_instrument_code.specs.CodeText.{attribute, attribute_text, counted_text, parts_of, table_attributes}
 
 pub short_count : (x : ℕ) → length (short x) ≡ 2
 unfolding short

@@ -21,7 +21,7 @@ use Rattle.jc_emit.specs.Items.{image_of}
 use Rattle.jc_emit.specs.Shift.{image_kind, probe_array_class}
 use Rattle.jc_emit.specs.Sizes.{insn_at}
 use Rattle.jc_emit.specs.TwinFrames.{no_state, state_at, operands_of}
-use Rattle.jc_code.specs.TwinCode.{chosen_frames, written_frames}
+use Rattle.jc_instrument_code.specs.TwinCode.{chosen_frames, written_frames}
 use Rattle.jc_instrument_laws.proofs.EmittedFramesLaws.{IsOf, IsMoved, each_moved}
 use Rattle.jc_instrument_laws.proofs.NamedStatesLaws.{HasTexts, state_named, values_named}
 use Rattle.jc_instrument_laws.proofs.NamedStepsLaws.{AllNamed, AreNamed, IsNamed}

@@ -25,10 +25,10 @@ use Rattle.jc_emit.specs.Twin.{Twin}
 use Rattle.jc_emit.specs.TwinProgram.{AreTwinBodies}
 use Rattle.jc_layout.specs.LaidBody.{laid_body, laid_frames}
 use Rattle.jc_layout.specs.Layout.{is_wide}
-use Rattle.jc_code.specs.TwinCode.{twin_code, written_frames}
-use Rattle.jc_verify.specs.Written.{IsWrittenMethod}
-use Rattle.jc_verify.proofs.LaidFrameLaws.{laid_named}
-use Rattle.jc_verify.proofs.ReadAgainLaws.{body_again, is_body, is_twin}
+use Rattle.jc_instrument_code.specs.TwinCode.{twin_code, written_frames}
+use Rattle.jc_instrument_reread.specs.Written.{IsWrittenMethod}
+use Rattle.jc_instrument_reread.proofs.LaidFrameLaws.{laid_named}
+use Rattle.jc_instrument_reread.proofs.ReadAgainLaws.{body_again, is_body, is_twin}
 use Rattle.jc_instrument.specs.TwinText.{twin_class, twin_method, work_of}
 use Rattle.jc_instrument.specs.BodiesWithStates.{BodyWithStates, all_frames, bodies_of, emitted_of}
 use Rattle.jc_instrument.specs.declared.needs.MemberPlaces.{MemberPlaces}

@@ -15,7 +15,7 @@ use Rattle.jc_class.specs.declared.class_file.Member.{Member}
 use Rattle.jc_pool.specs.Pool.{PoolValue}
 use Rattle.jc_body.specs.BodyOf.{Bodiless, BodyOfAnySize}
 use Rattle.jc_body.specs.Coded.{HasNoCode}
-use Rattle.jc_code.specs.TwinCode.{twin_code}
+use Rattle.jc_instrument_code.specs.TwinCode.{twin_code}
 use Rattle.jc_emit.proofs.PlanReadsLaws.{length_map_from}
 use Rattle.jc_plan.specs.Analysed.{all_probes}
 use Rattle.jc_instrument.specs.Bodies.{IsListed}

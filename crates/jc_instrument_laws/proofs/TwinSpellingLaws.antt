@@ -39,8 +39,8 @@ use Rattle.jc_plan.proofs.CountLaws.{each_joined, each_mapped}
 use Rattle.jc_methods.specs.ProbeMembers.{data_name, data_type, init_name, init_type, runtime_class, fetch_name, fetch_type}
 use Rattle.jc_emit.specs.Shift.{probe_array_class}
 use Rattle.jc_layout.specs.Layout.{chosen_length, chosen_text}
-use Rattle.jc_code.specs.CodeText.{attribute}
-use Rattle.jc_code.specs.TwinCode.{twin_code, written_frames}
+use Rattle.jc_instrument_code.specs.CodeText.{attribute}
+use Rattle.jc_instrument_code.specs.TwinCode.{twin_code, written_frames}
 use Rattle.jc_plan.specs.Analysed.{all_probes}
 use Rattle.jc_instrument.specs.Bodies.{AreBodiesOf}
 use Rattle.jc_instrument.specs.Causes.{NoCause}

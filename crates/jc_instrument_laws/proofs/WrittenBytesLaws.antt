@@ -26,10 +26,10 @@ use Rattle.jc_emit.specs.Added.{InitPlaces, end_place, init_frame, init_stack}
 use Rattle.jc_emit.specs.Marks.{push}
 use Rattle.jc_layout.specs.LaidBody.{with_place}
 use Rattle.jc_layout.specs.Layout.{chosen_text}
-use Rattle.jc_code.specs.CodeText.{attribute, attribute_text, code_text, counted_text, all_parts, row_text, line_text, var_text, table_attributes, frame_attributes}
-use Rattle.jc_code.specs.FirstPlaces.{text_place}
-use Rattle.jc_code.specs.InitText.{push_count, end_offset, init_bytes, init_frame_places, init_frames, init_text}
-use Rattle.jc_code.specs.TwinCode.{written_frames, offset_in, places_of, lines_name, vars_name, kind_vars_name, code_attributes, twin_code}
+use Rattle.jc_instrument_code.specs.CodeText.{attribute, attribute_text, code_text, counted_text, all_parts, row_text, line_text, var_text, table_attributes, frame_attributes}
+use Rattle.jc_instrument_code.specs.FirstPlaces.{text_place}
+use Rattle.jc_instrument_code.specs.InitText.{push_count, end_offset, init_bytes, init_frame_places, init_frames, init_text}
+use Rattle.jc_instrument_code.specs.TwinCode.{written_frames, offset_in, places_of, lines_name, vars_name, kind_vars_name, code_attributes, twin_code}
 use Rattle.jc_instrument_laws.proofs.ClassSpellingLaws.{bytes_both, big_bytes_are}
 use Rattle.jc_instrument_laws.proofs.CodeBytesLaws.{short_are, word_are, push_are, placed_are}
 use Rattle.jc_instrument_laws.proofs.FrameSizesLaws.{short_count, word_count, attribute_count, counted_count, table_most}

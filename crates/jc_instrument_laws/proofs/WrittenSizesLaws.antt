@@ -24,10 +24,10 @@ use Rattle.jc_emit.specs.TwinTables.{moved_row, moved_line, moved_var}
 use Rattle.jc_layout.specs.LaidBody.{with_place}
 use Rattle.jc_layout.specs.Layout.{chosen_length, chosen_text}
 use Rattle.jc_layout.proofs.ChoiceLaws.{text_length}
-use Rattle.jc_code.specs.CodeText.{attribute_text, counted_text, row_text, line_text, var_text, table_attributes, frame_attributes}
-use Rattle.jc_code.specs.FirstPlaces.{text_place}
-use Rattle.jc_code.specs.TwinCode.{chosen_frames, written_frames, offset_in, places_of, lines_name, vars_name, kind_vars_name, code_attributes, twin_code}
-use Rattle.jc_code.proofs.TwinCodeLaws.{placed_size}
+use Rattle.jc_instrument_code.specs.CodeText.{attribute_text, counted_text, row_text, line_text, var_text, table_attributes, frame_attributes}
+use Rattle.jc_instrument_code.specs.FirstPlaces.{text_place}
+use Rattle.jc_instrument_code.specs.TwinCode.{chosen_frames, written_frames, offset_in, places_of, lines_name, vars_name, kind_vars_name, code_attributes, twin_code}
+use Rattle.jc_instrument_code.proofs.TwinCodeLaws.{placed_size}
 use Rattle.jc_instrument.specs.RoomCauses.{probed_code}
 use Rattle.jc_instrument_laws.proofs.CodeWeightLaws.{code_least}
 use Rattle.jc_instrument_laws.proofs.EmittedFramesLaws.{arms_size, written_most}

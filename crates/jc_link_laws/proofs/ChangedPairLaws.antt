@@ -34,7 +34,7 @@ use Rattle.jc_plan.specs.Analysed.{all_probes}
 use Rattle.jc_plan.specs.Probed.{probe_count}
 use Rattle.jc_emit.specs.Added.{HasInitFrame, IsInitBody, init_code}
 use Rattle.jc_emit.specs.TwinProgram.{IsSameBody, AreSameBodies, AreTwinBodies, IsChangedPair, data_static}
-use Rattle.jc_verify.proofs.OneBodyLaws.{same_bodies}
+use Rattle.jc_instrument_reread.proofs.OneBodyLaws.{same_bodies}
 use Rattle.jc_instrument.specs.Bodies.{AreBodies, IsListed}
 use Rattle.jc_instrument.specs.Causes.{NoCause, unless}
 use Rattle.jc_instrument.specs.LeftAlone.{is_left_alone}

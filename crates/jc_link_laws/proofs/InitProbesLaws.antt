@@ -22,12 +22,12 @@ use Rattle.jc_class.specs.declared.class_file.ClassFile.{ClassFile}
 use Rattle.jc_class.specs.declared.class_file.Member.{Member}
 use Rattle.jc_body.specs.Attributes.{bodies_of, is_text}
 use Rattle.jc_body.specs.BodyOf.{BodyOf, IsBody}
-use Rattle.jc_code.specs.InitText.{init_text, named_places}
-use Rattle.jc_code.specs.declared.init.AddedPlaces.{AddedPlaces}
+use Rattle.jc_instrument_code.specs.InitText.{init_text, named_places}
+use Rattle.jc_instrument_code.specs.declared.init.AddedPlaces.{AddedPlaces}
 use Rattle.jc_emit.specs.Added.{InitPlaces, init_code}
-use Rattle.jc_verify.specs.Written.{IsAddedMethod}
-use Rattle.jc_verify.proofs.InitAgainLaws.{init_body, init_is_body, init_names}
-use Rattle.jc_verify.proofs.OneBodyLaws.{same_bodies}
+use Rattle.jc_instrument_reread.specs.Written.{IsAddedMethod}
+use Rattle.jc_instrument_reread.proofs.InitAgainLaws.{init_body, init_is_body, init_names}
+use Rattle.jc_instrument_reread.proofs.OneBodyLaws.{same_bodies}
 use Rattle.jc_instrument.specs.Reasons.{HasAdded}
 use Rattle.jc_instrument.specs.SameOutside.{AreKeptMethods, IsInitMethod, IsSameOutside}
 use Rattle.jc_instrument.specs.Contents.{Content}

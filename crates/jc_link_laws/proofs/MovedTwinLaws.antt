@@ -25,7 +25,7 @@ use Rattle.jc_emit.specs.TwinProgram.{IsSameBody, AreSameBodies, HasTwinBody, Ar
 use Rattle.jc_instrument.specs.SameAnalysis.{without_frames}
 use Rattle.jc_instrument.proofs.SameAnalysisLaws.{same_way}
 use Rattle.jc_instrument.proofs.SameItemsLaws.{same_probe}
-use Rattle.jc_verify.proofs.SameBodyLaws.{same_state}
+use Rattle.jc_instrument_reread.proofs.SameBodyLaws.{same_state}
 use Rattle.jc_link_laws.proofs.MovedCodeLaws.{late_same, land_place_same, lead_place_same, code_there, tables_there}
 
 -- ---- a frame of the one list has one of the other

@@ -29,8 +29,8 @@ use Rattle.jc_emit.specs.Straddling.{NoneStraddles}
 use Rattle.jc_emit.specs.TwinProgram.{AreTwinBodies}
 use Rattle.jc_emit.proofs.InitLaws as inits
 use Rattle.jc_emit.proofs.TwinCheckedLaws as checks
-use Rattle.jc_verify.proofs.OneBodyLaws.{same_bodies}
-use Rattle.jc_verify.proofs.SameBodyLaws.{same_check}
+use Rattle.jc_instrument_reread.proofs.OneBodyLaws.{same_bodies}
+use Rattle.jc_instrument_reread.proofs.SameBodyLaws.{same_check}
 use Rattle.jc_instrument.specs.Bodies.{IsListed}
 use Rattle.jc_instrument.specs.Causes.{IsFirstCause, NoCause, of_method, unless}
 use Rattle.jc_instrument.specs.LeftAlone.{is_left_alone}

@@ -14,7 +14,7 @@ use Rattle.jc_pool.specs.Lookup.{class_name_of}
 use Rattle.jc_class.specs.Writable.{IsClassFile}
 use Rattle.jc_class.specs.declared.class_file.ClassFile.{ClassFile}
 use Rattle.jc_kinds.specs.Checked.{Checked}
-use Rattle.jc_verify.proofs.SameBodyLaws.{grown_same, same_check}
+use Rattle.jc_instrument_reread.proofs.SameBodyLaws.{grown_same, same_check}
 use Rattle.jc_instrument.specs.Causes.{IsFirstCause, NoCause}
 use Rattle.jc_instrument.specs.Reasons.{IsOutside, code_causes}
 use Rattle.jc_instrument.specs.Steps.{AreCheckedUnder}

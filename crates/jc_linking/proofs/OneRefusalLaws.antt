@@ -13,7 +13,7 @@ use Rattle.jc_class.specs.declared.class_file.ClassFile.{ClassFile}
 use Rattle.jc_body.proofs.AnswerLaws.{one_fault}
 use Rattle.jc_kinds.specs.Checked.{FirstMissing, FirstClash}
 use Rattle.jc_kinds.proofs.CheckLaws.{one_missing, one_clash}
-use Rattle.jc_verify.proofs.SameBodyLaws.{same_missing, same_clash}
+use Rattle.jc_instrument_reread.proofs.SameBodyLaws.{same_missing, same_clash}
 use Rattle.jc_instrument.specs.Causes.{of_method}
 use Rattle.jc_instrument.specs.Reasons.{IsFaulty, OfBody}
 use Rattle.jc_instrument.proofs.CauseLaws.{AreSingle, one_method}

@@ -1,7 +1,7 @@
 -- Instrumented code of a body whose first probe has the id 0.
 use Rattle.std.specs.Prelude.{◌≡◌, ℕ, List}
-use Rattle.jc_code.specs.Given.{AreFrames, IsLaid}
-use Rattle.jc_code.specs.TwinCode.{chosen_frames}
+use Rattle.jc_instrument_code.specs.Given.{AreFrames, IsLaid}
+use Rattle.jc_instrument_code.specs.TwinCode.{chosen_frames}
 use Rattle.jc_layout.specs.declared.layouts.Laid.{Laid}
 use Rattle.jc_methods.specs.VerificationTypes.{Names}
 use Rattle.jc_methods.specs.declared.body.Body.{Body}

@@ -5,7 +5,7 @@ use crate::shown::put_bytes;
 use crate::stop::Stop;
 use crate::words::numbers;
 use jc_bytes::List;
-use jc_code::{AddedPlaces, merged_frames, write_init};
+use jc_instrument_code::{AddedPlaces, merged_frames, write_init};
 use jc_methods::{FrameAt, State};
 use std::alloc::{AllocError, Global};
 

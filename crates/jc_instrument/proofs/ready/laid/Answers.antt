@@ -2,7 +2,7 @@ use Rattle.std.proofs.Common.{◌≤◌, List, sym, ◌∙◌, ap, subst}
 use Rattle.jc_methods.specs.declared.insn.Insn.{Insn}
 use Rattle.jc_insn.specs.Sizes.{StartAt}
 use Rattle.jc_layout.specs.Layout.{IsChosen, chosen_length, chosen_text}
-use Rattle.jc_code.proofs.LaidLaws.{is_laid}
+use Rattle.jc_instrument_code.proofs.LaidLaws.{is_laid}
 use Rattle.jc_instrument.proofs.ready.laid.Goals as goal
 
 pub returns-in-Ok-clause-laid : goal.returns-in-Ok-clause-laid

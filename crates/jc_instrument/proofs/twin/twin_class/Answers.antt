@@ -1,7 +1,7 @@
 use Rattle.std.proofs.Common.{◌++◌, ◌∷◌, [], ◌∙◌, ap}
 use Rattle.std.proofs.lemmas.Result.{err_from_is_err_and}
 use Rattle.jc_frames.specs.FullTable.{named_by_all}
-use Rattle.jc_code.specs.TwinCode.{twin_code}
+use Rattle.jc_instrument_code.specs.TwinCode.{twin_code}
 use Rattle.jc_instrument.specs.BodiesWithStates.{all_frames, emitted_of}
 use Rattle.jc_instrument.specs.TwinText.{init_member, twin_class, twin_methods}
 use Rattle.jc_instrument.proofs.ClassTakingLaws.{classes_refused}

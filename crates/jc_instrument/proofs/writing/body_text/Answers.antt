@@ -7,7 +7,7 @@ use Rattle.jc_pool.specs.Pool.{PoolValue}
 use Rattle.jc_frames.specs.FullTable.{CanBeWritten, HasPlace, RefusesClasses, TakesClasses, named_by_all}
 use Rattle.jc_frames.proofs.TakenLaws.{all_stand, extends_both}
 use Rattle.jc_kinds.specs.Answers.{AreStates}
-use Rattle.jc_code.specs.LaidText.{laid_text}
+use Rattle.jc_instrument_code.specs.LaidText.{laid_text}
 use Rattle.jc_instrument.specs.BodiesWithStates.{emitted_of}
 use Rattle.jc_instrument.specs.Writing.{IsWrittenBody}
 use Rattle.jc_instrument.proofs.WritingLaws.{body_written, can_be_written, few_bytes, frames_of, meant_refused, numbered_of, ready_grown}

@@ -1,5 +1,0 @@
-use Rattle.jc_code.proofs.LaidLaws.{is_laid}
-use Rattle.jc_code.proofs.laws.each_layout_can_be_written.Goals as goal
-
-pub returns : goal.returns
-returns c = is_laid

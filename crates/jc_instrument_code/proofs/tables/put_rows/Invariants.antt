@@ -1,0 +1,10 @@
+use Rattle.std.proofs.Common.{◌≡◌, ◌++◌, length, take}
+use Rattle.std.specs.Prelude.{slice_index}
+use Rattle.std.specs.List.{flat_map}
+use Rattle.jc_insn.specs.Writing.{short}
+use Rattle.jc_instrument_code.specs.CodeText.{row_text}
+use Rattle.jc_instrument_code.proofs.tables.put_rows.Given as goal
+
+-- the entries so far
+abbrev pub invariant-writing : goal.invariant-writing
+invariant-writing l = l.into.items ≡ l.fn.into.items ++ (short (length l.rows) ++ flat_map (row_text (slice_index l.starts)) (take l.row-index l.rows))

@@ -1,0 +1,127 @@
+//! The method that gives the probe array of a class.
+ghost use Rattle.std.specs.Prelude.{◌≡◌, ◌≤◌, ◌+◌, ◌++◌, ◌∷◌, IfOk, OnOk, length};
+ghost use Rattle.jc_insn.specs.Writing.{short};
+ghost use Rattle.jc_instrument_code.specs.CodeText.{attribute_text};
+ghost use Rattle.jc_instrument_code.specs.InitText.{init_bytes, init_frames, init_text, named_places, push_count};
+
+use crate::numbers::{put_header, put_short, put_sizes};
+use jc_bytes::{Bytes, List, Memory, put_bytes, put_u8};
+use jc_methods::opcode;
+use std::alloc::Global;
+
+/// How many slots the operand stack has.
+const MAX_STACK: u16 = 4;
+
+/// The length of the StackMapTable: the number of frames, and a full frame with one value on the
+/// stack.
+const FRAMES_LENGTH: u32 = 12;
+
+/// The tag of a full frame (JVM Specification 4.7.4).
+const FULL_FRAME: u8 = 255;
+
+/// The tag of an object (JVM Specification 4.7.4).
+const OBJECT: u8 = 7;
+
+/// The places in the constant pool of what the Code attribute of the added method names.
+#[derive(Clone, Copy, Debug, PartialEq, Eq)]
+pub struct AddedPlaces {
+    /// The field that keeps the probe array.
+    pub field: u16,
+    /// The Long of the class's id.
+    pub id: u16,
+    /// The String of the class's name.
+    pub name: u16,
+    /// The method of the runtime class that gives a probe array.
+    pub fetch: u16,
+    /// The class of the probe array.
+    pub array: u16,
+    /// The text `StackMapTable`.
+    pub frames: u16,
+}
+
+/// Puts the shortest instruction that pushes a number at the end (JVM Specification 6.5).
+fn put_push(into: &mut Vec<u8>, number: u32) -> Result<(), Memory>
+    requires { number ≤ 32767 }
+    ensures { OnOk result (into.new.items ≡ into.old.items ++ push_count number) }
+{
+    if number <= 5 {
+        put_u8(into, opcode::ICONST_0 + number as u8)?;
+    } else if number <= 127 {
+        put_u8(into, opcode::BIPUSH)?;
+        put_u8(into, number as u8)?;
+    } else {
+        put_u8(into, opcode::SIPUSH)?;
+        put_short(into, number as u16)?;
+    }
+    Ok(())
+}
+
+/// Puts an opcode and a number of two bytes at the end.
+fn put_with_short(into: &mut Vec<u8>, op: u8, number: u16) -> Result<(), Memory>
+    ensures { OnOk result (into.new.items ≡ into.old.items ++ op ∷ short number) }
+{
+    put_u8(into, op)?;
+    put_short(into, number)?;
+    Ok(())
+}
+
+/// Puts the code of the method at the end, with the instruction that pushes the number of probes.
+fn put_code(into: &mut Vec<u8>, places: &AddedPlaces, pushed: &[u8]) -> Result<(), Memory>
+    requires { length pushed.now ≤ 3 }
+    ensures { OnOk result (into.new.items ≡ into.old.items ++ init_bytes (named_places places.now) pushed.now) }
+{
+    put_with_short(into, opcode::GETSTATIC, places.field)?;
+    put_u8(into, opcode::DUP)?;
+    put_with_short(into, opcode::IFNONNULL, 17 + pushed.len() as u16)?;
+    put_u8(into, opcode::POP)?;
+    put_with_short(into, opcode::LDC2_W, places.id)?;
+    put_with_short(into, opcode::LDC_W, places.name)?;
+    put_bytes(into, pushed)?;
+    put_with_short(into, opcode::INVOKESTATIC, places.fetch)?;
+    put_u8(into, opcode::DUP)?;
+    put_with_short(into, opcode::PUTSTATIC, places.field)?;
+    put_u8(into, opcode::ARETURN)?;
+    Ok(())
+}
+
+/// Puts the StackMapTable attribute of the method at the end: one full frame at the last
+/// instruction, without local variables and with the array on the stack.
+fn put_frame(into: &mut Vec<u8>, places: &AddedPlaces, pushed: &[u8]) -> Result<(), Memory>
+    requires { length pushed.now ≤ 3 }
+    ensures { OnOk result (into.new.items
+        ≡ into.old.items ++ attribute_text (init_frames places.now.frames places.now.array pushed.now)) }
+{
+    put_header(into, places.frames, FRAMES_LENGTH)?;
+    put_short(into, 1)?;
+    put_u8(into, FULL_FRAME)?;
+    put_short(into, 21 + pushed.len() as u16)?;
+    put_short(into, 0)?;
+    put_short(into, 1)?;
+    put_with_short(into, OBJECT, places.array)?;
+    Ok(())
+}
+
+/// What stands behind the name and the length of the Code attribute of the method that gives the
+/// probe array of a class with so many probes (JVM Specification 4.7.3).
+///
+/// Where the field has no array, the method fetches it from the runtime class by the class's id and
+/// name and the number of probes, and puts it there. `ldc_w` and `ldc2_w` stand there whatever the
+/// places of the constants are.
+///
+/// # Errors
+///
+/// `Memory` where memory was refused.
+pub fn write_init(alloc: Global, places: &AddedPlaces, count: u32) -> Result<Bytes, Memory>
+    requires { count ≤ 32767 }
+    ensures { IfOk result (λ text. text ≡ init_text (named_places places.now) places.now.frames places.now.array count) }
+{
+    let mut pushed = Vec::new(alloc);
+    put_push(&mut pushed, count)?;
+    let mut text = Vec::new(alloc);
+    put_sizes(&mut text, MAX_STACK, 0, 22 + pushed.len() as u32)?;
+    put_code(&mut text, places, &pushed)?;
+    put_short(&mut text, 0)?;
+    put_short(&mut text, 1)?;
+    put_frame(&mut text, places, &pushed)?;
+    Ok(List::from_vec(text))
+}

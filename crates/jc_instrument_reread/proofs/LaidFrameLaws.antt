@@ -1,0 +1,184 @@
+-- The frames of a layout are those that are read of the table that is written.
+use Rattle.std.proofs.Common.{◌≡◌, ℕ, ◌+◌, ◌≤◌, Bool, true, false, List, [], ◌∷◌, length, map, Some, if◌then◌else◌, refl, sym, ◌∙◌, ap, ap₂, subst, arith}
+use Rattle.std.specs.Prelude.{Contains, slice_get, slice_index}
+use Rattle.std.specs.List.{AllByRecursion}
+use Rattle.std.proofs.lemmas.List.{length-map}
+use Rattle.std.proofs.lemmas.Option.{slice_get_within}
+use Rattle.jc_methods.specs.VerificationTypes.{Names, IsNumbered, AreNumberedFrames, TypeState, TypeStateAt, type_state, type_state_at}
+use Rattle.jc_methods.specs.Opcode as opcode
+use Rattle.jc_methods.specs.Starts.{AreStarts}
+use Rattle.jc_methods.specs.WellMade.{IsWellMadeOfAnySize}
+use Rattle.jc_methods.specs.declared.body.Body.{Body}
+use Rattle.jc_methods.specs.declared.body.FrameAt.{FrameAt}
+use Rattle.jc_methods.specs.declared.emitted.Emitted.{Emitted}
+use Rattle.jc_methods.specs.declared.insn.Insn.{Insn}
+use Rattle.jc_methods.specs.declared.insn.Insn.TheVariants as insns
+use Rattle.jc_methods.specs.declared.kind.Kind.{Kind}
+use Rattle.jc_methods.specs.declared.kind.Kind.TheVariants as kinds
+use Rattle.jc_methods.specs.declared.kind.State.{State}
+use Rattle.jc_bytes.proofs.BooleanLaws.{first_in, later_in}
+use Rattle.jc_pool.specs.Adding.{IsFirst}
+use Rattle.jc_pool.specs.Lookup.{class_name_of}
+use Rattle.jc_frames.specs.Frames.{Ground, is_new}
+use Rattle.jc_frames.specs.FullFrames.{Places, AreWritable}
+use Rattle.jc_frames.specs.FullTable.{HasPlace, named_by_all, FitsFull}
+use Rattle.jc_insn.specs.Layouts.{laid_code}
+use Rattle.jc_kinds.specs.Answers.{AreStates}
+use Rattle.jc_kinds_after.specs.Shift.{shifted}
+use Rattle.jc_emit.specs.Emission.{emission, widened_frame, HasFrameStates, IsArrayNumber}
+use Rattle.jc_emit.specs.Items.{insn_of, image_of, land_of, lead_of, twin_items}
+use Rattle.jc_emit.specs.Shift.{image_kind}
+use Rattle.jc_emit.specs.Straddling.{NoneStraddles}
+use Rattle.jc_emit.specs.TwinFrames.{IsFrame, AreTwinFrames}
+use Rattle.jc_emit.proofs.FrameLaws.{layout_told}
+use Rattle.jc_emit.proofs.WideTwinLaws.{widened_frames}
+use Rattle.jc_layout.specs.LaidBody.{laid_frames, laid_place, with_call}
+use Rattle.jc_layout.specs.Merged.{merged}
+use Rattle.jc_layout.proofs.LaidBodyLaws.{are_widened}
+use Rattle.jc_layout.proofs.LaidCodeLaws.{called, laid_is}
+use Rattle.jc_instrument_reread.proofs.AskedFrameLaws.{asked_good}
+use Rattle.jc_instrument_reread.proofs.PoolInsnLaws.{same_there}
+use Rattle.jc_instrument_reread.proofs.RenamedLaws.{all_named_renamed}
+use Rattle.jc_instrument_reread.proofs.ShiftedStateLaws.{shifted_sayable}
+use Rattle.jc_instrument_reread.proofs.WritableFrameLaws.{IsSayable, HasNewAt, IsFine, are_writable}
+
+-- ---- the frames of a layout
+
+-- the frames that a layout has, at the places of the emitted code
+abbrev pub frames_of : Bool → Emitted → List FrameAt
+frames_of wide e = if wide then merged e.frames e.wide_frames else e.frames
+
+kind_same : (code : List Insn) (k : Kind) → image_kind (laid_place false code) k ≡ k
+kind_same code kinds.Top = refl
+kind_same code kinds.Int = refl
+kind_same code kinds.Float = refl
+kind_same code kinds.Double = refl
+kind_same code kinds.Long = refl
+kind_same code kinds.Null = refl
+kind_same code kinds.UninitThis = refl
+kind_same code (kinds.Object n) = refl
+kind_same code (kinds.Uninit at) = refl
+
+kinds_same : (code : List Insn) (ks : List Kind) → map (image_kind (laid_place false code)) ks ≡ ks
+kinds_same code [] = refl
+kinds_same code (k ∷ ks) = ap₂ (λ (x : Kind) (xs : List Kind). x ∷ xs) (kind_same code k) (kinds_same code ks)
+
+frames_same : (code : List Insn) (frames : List FrameAt) → map (widened_frame (laid_place false code)) frames ≡ frames
+frames_same code [] = refl
+frames_same code (f ∷ frames) =
+    let locals = kinds_same code f.state.locals in
+    let stack = kinds_same code f.state.stack in
+    λ i. record { at = f.at; state = record { locals = locals i; stack = stack i } } ∷ frames_same code frames i
+
+-- the frames of the layout are these at their places in the layout
+pub laid_are : (wide : Bool) (e : Emitted) → laid_frames wide e ≡ map (widened_frame (laid_place wide e.code)) (frames_of wide e)
+laid_are false e = sym (frames_same e.code e.frames)
+laid_are true e = refl
+
+-- ---- numbers of classes
+
+kind_numbered : (names : ℕ) (f : ℕ → ℕ) (k : Kind) → IsNumbered names k → IsNumbered names (image_kind f k)
+kind_numbered names f (kinds.Object n) is = is
+kind_numbered names f (kinds.Uninit at) is = tt
+kind_numbered names f kinds.Top is = tt
+kind_numbered names f kinds.Int is = tt
+kind_numbered names f kinds.Float is = tt
+kind_numbered names f kinds.Double is = tt
+kind_numbered names f kinds.Long is = tt
+kind_numbered names f kinds.Null is = tt
+kind_numbered names f kinds.UninitThis is = tt
+
+kinds_numbered : (names : ℕ) (f : ℕ → ℕ) (ks : List Kind) → AllByRecursion (IsNumbered names) ks → AllByRecursion (IsNumbered names) (map (image_kind f) ks)
+kinds_numbered names f [] all = tt
+kinds_numbered names f (k ∷ ks) all = (kind_numbered names f k all.0, kinds_numbered names f ks all.1)
+
+frames_numbered : (names insns : ℕ) (f : ℕ → ℕ) (frames : List FrameAt) → AllByRecursion (FitsFull insns names) frames
+    → AreNumberedFrames names (map (widened_frame f) frames)
+frames_numbered names insns f [] all = tt
+frames_numbered names insns f (g ∷ frames) all = (
+  record {
+    locals = kinds_numbered names f g.state.locals all.0.numbered.locals;
+    stack = kinds_numbered names f g.state.stack all.0.numbered.stack;
+  },
+  frames_numbered names insns f frames all.1,
+)
+
+pub laid_numbered : (wide : Bool) (names insns : ℕ) (e : Emitted) → AllByRecursion (FitsFull insns names) (frames_of wide e)
+    → AreNumberedFrames names (laid_frames wide e)
+laid_numbered wide names insns e all =
+    subst (AreNumberedFrames names) (sym (laid_are wide e)) (frames_numbered names insns (laid_place wide e.code) (frames_of wide e) all)
+
+-- ---- the classes that are named
+
+pub laid_named : (wide : Bool) (names : Names) (e : Emitted)
+    → named_by_all (map (type_state_at names) (laid_frames wide e)) ≡ named_by_all (map (type_state_at names) (frames_of wide e))
+laid_named wide names e =
+    ap (λ (l : List FrameAt). named_by_all (map (type_state_at names) l)) (laid_are wide e) ∙ all_named_renamed (laid_place wide e.code) names (frames_of wide e)
+
+-- ---- the frames of a twin
+
+all_listed : (names : Names) (Fact : TypeStateAt → Type 0) (frames : List FrameAt) → ((f : FrameAt) → Contains frames f → Fact (type_state_at names f))
+    → AllByRecursion Fact (map (type_state_at names) frames)
+all_listed names Fact [] each = tt
+all_listed names Fact (f ∷ frames) each = (each f (first_in f frames), all_listed names Fact frames (λ g c. each g (later_in f frames g c)))
+
+module _ (names : Names) (b : Body) (first : ℕ) (states : List State) (array : ℕ) (well : IsWellMadeOfAnySize b) (are : AreStates names b states)
+    (fit : HasFrameStates b states) (free : NoneStraddles b) (array_is : IsArrayNumber names array) where
+  abbrev e : Emitted
+  e = emission b first states array
+
+  -- the code of the layout
+  pub insns_are : (wide : Bool) (call : ℕ)
+      → with_call call (laid_code wide (emission b first states array).code) ≡ map (insn_of call b.arg_slots) (twin_items b first wide)
+  unfolding emission
+  insns_are wide call = ap (with_call call) (laid_is b first wide well.code) ∙ called b first wide call
+
+  abbrev Told : Bool → List FrameAt → Type 0
+  Told wide frames =
+      AreTwinFrames names names b.arg_slots (image_of b first wide)
+      (IsFrame b first states (image_of b first wide) (land_of b first wide) (lead_of b first wide) wide) frames
+
+  narrow_told : Told false (emission b first states array).frames
+  unfolding emission
+  narrow_told = layout_told b first states array names well.code well.frames fit array_is
+
+  told : (wide : Bool) → Told wide (laid_frames wide (emission b first states array))
+  told false = narrow_told
+  told true = widened_frames b first states array names well fit array_is _ (are_widened b first states array names well fit array_is)
+
+  module _ (wide : Bool) (call : ℕ) (g : Ground) (code_is : g.code ≡ map (insn_of call b.arg_slots) (twin_items b first wide))
+      (locals_are : g.max_locals ≡ b.max_locals + 1) (stack_is : g.max_stack ≡ b.max_stack + 3) where
+    count_is : length g.code ≡ length (twin_items b first wide)
+    count_is = ap (λ (l : List Insn). length l) code_is ∙ length-map (twin_items b first wide) (insn_of call b.arg_slots)
+
+    new_there : (at place : ℕ) → slice_get b.code at ≡ Some (insns.OfClass opcode.new place) → HasNewAt g (image_of b first wide at)
+    new_there at place is =
+        let there = ap (λ (l : List Insn). slice_get l (image_of b first wide at)) code_is ∙ same_there b first wide call well.code at place (insns.OfClass opcode.new place) is refl in
+        (slice_get_within g.code (image_of b first wide at) (insns.OfClass opcode.new place) there, ap is_new there)
+
+    one_fine : (f : FrameAt) → Contains (laid_frames wide (emission b first states array)) f → IsFine g (type_state_at names f)
+    one_fine f c =
+        let asked = (told wide).each f c in
+        let good = asked_good names b first states well are fit free wide f.at asked.0 asked.1 in
+        let said = shifted_sayable names b (image_of b first wide) (HasNewAt g) asked.0 well.arguments_fit new_there good.1 in
+        let count = count_is in
+        let below = good.0 in
+        record {
+          at = omega (arith, count, below);
+          state =
+              subst (λ (t : TypeState). IsSayable g.max_locals g.max_stack (HasNewAt g) t) (sym asked.2)
+              (subst (λ (n : ℕ). IsSayable n g.max_stack (HasNewAt g) (shifted (image_of b first wide) b.arg_slots (type_state names asked.0))) (sym locals_are)
+              (subst (λ (n : ℕ). IsSayable (b.max_locals + 1) n (HasNewAt g) (shifted (image_of b first wide) b.arg_slots (type_state names asked.0))) (sym stack_is) said));
+        }
+
+    -- they can be said by full frames, where the classes that they name stand in the pool
+    pub laid_writable : (p : Places) (size : ℕ) → AreStarts (length g.code) size g.starts → size ≤ 65535
+        → ((at : ℕ) → p.start at ≡ slice_index g.starts at)
+        → ((name : List ℕ) (place : ℕ) → IsFirst (class_name_of g.pool) name place → p.class name ≡ place)
+        → g.max_locals ≤ 65535 → g.max_stack ≤ 65535
+        → AllByRecursion (HasPlace g.pool) (named_by_all (map (type_state_at names) (frames_of wide (emission b first states array))))
+        → AreWritable g p (map (type_state_at names) (laid_frames wide (emission b first states array)))
+    laid_writable p size starts few start class few_locals few_stack stand =
+        are_writable g p size starts few start class few_locals few_stack names (laid_frames wide e) ((told wide).rising)
+        (all_listed names (IsFine g) (laid_frames wide e) one_fine)
+        (subst (AllByRecursion (HasPlace g.pool)) (sym (laid_named wide names e)) stand)

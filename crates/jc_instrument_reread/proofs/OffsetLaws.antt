@@ -1,0 +1,65 @@
+-- Places in the layout that is chosen, by their offsets.
+use Rattle.std.proofs.Common.{◌≡◌, ℕ, ◌<◌, ◌≤◌, Bool, true, false, List, [], ◌∷◌, length, refl, arith}
+use Rattle.std.specs.Prelude.{slice_index}
+use Rattle.jc_methods.specs.Starts.{insn_number}
+use Rattle.jc_methods.specs.declared.insn.Insn.{Insn}
+use Rattle.jc_methods.proofs.WidenedLaws.{wide_length}
+use Rattle.jc_insn.specs.Layouts.{laid_code, laid_starts}
+use Rattle.jc_insn.specs.Sizes.{StartAt}
+use Rattle.jc_insn.proofs.SizeSumsLaws.{count_starts}
+use Rattle.jc_insn.proofs.WideCodeLaws.{number_of_wide_start}
+use Rattle.jc_layout.specs.LaidBody.{laid_place, with_call}
+use Rattle.jc_layout.specs.Layout.{chosen_length, chosen_starts, is_wide}
+use Rattle.jc_layout.proofs.ChoiceLaws.{chosen_stand}
+use Rattle.jc_instrument_reread.proofs.StartLaws.{most_start, number_of_any, some_bytes, starts_grow, wide_offset, wide_places_rise}
+
+-- ---- in either layout
+
+offset_by : (wide : Bool) (code : List Insn) (starts : List ℕ) → StartAt wide 0 code starts → (k : ℕ)
+    → slice_index (laid_starts wide code starts) (laid_place wide code k) ≡ slice_index starts k
+offset_by false code starts s k = refl
+offset_by true code starts s k = wide_offset code starts (count_starts true 0 code starts s) k
+
+number_by : (wide : Bool) (code : List Insn) (starts : List ℕ) → StartAt wide 0 code starts → (k : ℕ) → k ≤ length code
+    → insn_number (laid_starts wide code starts) (slice_index starts k) ≡ laid_place wide code k
+number_by false code starts s k le = number_of_any false 0 code starts s k le
+number_by true code starts s k le = number_of_wide_start 0 code starts s k le
+
+within_by : (wide : Bool) (code : List Insn) (k : ℕ) → k < length code → laid_place wide code k < length (laid_code wide code)
+within_by false code k lt = lt
+within_by true code k lt = let rise = wide_places_rise code k (length code) lt in let size = wide_length code in omega (arith, rise, size)
+
+called_length : (call : ℕ) (code : List Insn) → length (with_call call code) ≡ length code
+called_length call [] = refl
+called_length call (insn ∷ code) = refl
+
+-- ---- in the chosen one
+
+module _ (code : List Insn) where
+  abbrev offset : ℕ → ℕ
+  offset k = slice_index (chosen_starts code) k
+
+  -- what stands for an instruction begins at its offset
+  pub offset_at : (k : ℕ) → slice_index (laid_starts (is_wide code) code (chosen_starts code)) (laid_place (is_wide code) code k) ≡ offset k
+  offset_at k = offset_by (is_wide code) code (chosen_starts code) (chosen_stand code) k
+
+  -- and has its number
+  pub number_at : (k : ℕ) → k ≤ length code
+      → insn_number (laid_starts (is_wide code) code (chosen_starts code)) (offset k) ≡ laid_place (is_wide code) code k
+  number_at k le = number_by (is_wide code) code (chosen_starts code) (chosen_stand code) k le
+
+  -- which is that of an instruction
+  pub place_within : (call k : ℕ) → k < length code → laid_place (is_wide code) code k < length (with_call call (laid_code (is_wide code) code))
+  place_within call k lt =
+      let within = within_by (is_wide code) code k lt in
+      let size = called_length call (laid_code (is_wide code) code) in
+      omega (arith, within, size)
+
+  pub offsets_grow : (i j : ℕ) → i ≤ j → j ≤ length code → offset i ≤ offset j
+  offsets_grow i j le within = starts_grow (is_wide code) 0 code (chosen_starts code) (chosen_stand code) i j le within
+
+  pub most_offset : (k : ℕ) → offset k ≤ chosen_length code
+  most_offset k = most_start (is_wide code) code (chosen_starts code) (chosen_stand code) k
+
+  pub some_length : 1 ≤ length code → 1 ≤ chosen_length code
+  some_length some = let bytes = some_bytes (is_wide code) 0 code (chosen_starts code) (chosen_stand code) some in omega (arith, bytes)

@@ -1,0 +1,57 @@
+-- What is given of written code, by what is known of the body and of the pool.
+use Rattle.std.proofs.Common.{◌≡◌, ℕ, ◌+◌, ◌<◌, ◌≤◌, List, length, Some, subst}
+use Rattle.std.specs.List.{AllByRecursion}
+use Rattle.jc_methods.specs.VerificationTypes.{Names}
+use Rattle.jc_methods.specs.WellMade.{IsWellMadeOfAnySize}
+use Rattle.jc_methods.specs.declared.body.Body.{Body}
+use Rattle.jc_methods.specs.declared.emitted.Emitted.{Emitted}
+use Rattle.jc_methods.specs.declared.kind.State.{State}
+use Rattle.jc_pool.specs.Lookup.{utf8_of}
+use Rattle.jc_pool.specs.Pool.{PoolValue}
+use Rattle.jc_class.specs.declared.class_file.ClassFile.{ClassFile}
+use Rattle.jc_class.specs.declared.class_file.Member.{Member}
+use Rattle.jc_body.specs.BodyOf.{HasBody}
+use Rattle.jc_body.specs.First.{Fault}
+use Rattle.jc_plan.specs.Probed.{probe_count}
+use Rattle.jc_emit.specs.Emission.{emission}
+use Rattle.jc_layout.specs.Layout.{chosen_length}
+use Rattle.jc_instrument_code.specs.Given.{AreNamed}
+use Rattle.jc_instrument_code.specs.TwinCode.{twin_code}
+use Rattle.jc_instrument_code.specs.declared.code.CodePlaces.{CodePlaces}
+use Rattle.jc_instrument_reread.specs.WrittenCode.{IsWrittenCode, frames_name}
+use Rattle.jc_instrument_reread.proofs.LandLaws.{locals_are}
+use Rattle.jc_class.proofs.ReadClassLaws.{HasBytes}
+use Rattle.jc_instrument_reread.proofs.ReadNumbersLaws.{is_spelled}
+
+-- the names and the method stand in the pool, and the sizes fit
+pub record IsPlacedCode (pool : PoolValue) (places : CodePlaces) (names : Names) (e : Emitted) : Type 0 where
+  pub named : AreNamed pool e places
+  pub frames_named : utf8_of pool places.frames ≡ Some frames_name
+  pub pool_few : length pool ≤ 65535
+  pub call : places.method < 65536
+  pub stack : e.max_stack ≤ 65535
+  pub locals : e.max_locals ≤ 65535
+  pub few : chosen_length e.code ≤ 65535
+  pub size : length (twin_code pool places.method places.frames names e) ≤ 4294967295
+
+-- the rest follows from the body of the method, where the bytes of its attributes are bytes and its ids can be pushed
+pub written_code : (Faults : List Fault) (names : Names) (c : ClassFile) (number : ℕ) (method : Member) (b : Body) (first : ℕ) (states : List State) (array : ℕ)
+    (pool : PoolValue) (places : CodePlaces) → HasBody Faults names c number method b → AllByRecursion HasBytes method.attributes
+    → IsWellMadeOfAnySize b → first + probe_count b ≤ 32767 → IsPlacedCode pool places names (emission b first states array)
+    → IsWrittenCode pool places names (emission b first states array)
+written_code Faults names c number method b first states array pool places has are well ids placed =
+    let locals = subst (λ (n : ℕ). n ≤ 65535) (locals_are b first states array well) placed.locals in
+    let spelled = is_spelled Faults names c number method b first states array has are well locals ids placed.few in
+    record {
+      named = placed.named;
+      frames_named = placed.frames_named;
+      pool_few = placed.pool_few;
+      call = placed.call;
+      stack = placed.stack;
+      locals = placed.locals;
+      rows = spelled.rows;
+      numbers = spelled.numbers;
+      few = placed.few;
+      spelled = spelled.spelled;
+      size = placed.size;
+    }
