@@ -2,15 +2,15 @@
 use Rattle.std.proofs.Common.{◌≡◌, ◌⊎◌, inl, inr, ⊎_elim, ℕ, List, ◌++◌, length, map, Option, refl, sym, ◌∙◌, ap, subst}
 use Rattle.std.specs.Option.{option_to_list}
 use Rattle.jc_base.specs.declared.Refusal.{Refusal}
-use Rattle.jc_work.specs.declared.status.Fault.TheVariants as fault
-use Rattle.jc_work.specs.Step.{Word, AreTexts, Write, to_out}
-use Rattle.jc_work.specs.Part.{End, gives, stops}
-use Rattle.jc_work.specs.OneWay.{IsOver}
-use Rattle.jc_work.specs.Answered.{Answer, refusing, OneAnswer, HasOneAnswer}
-use Rattle.jc_work.specs.Causes.{IsRefusal}
-use Rattle.jc_work.proofs.AnsweredLaws.{as_many_texts, all_files}
-use Rattle.jc_work.proofs.CauseLaws.{is_refusal}
-use Rattle.jc_work.proofs.OneWork.{gives_or_stops}
+use Rattle.jc_command_work.specs.declared.status.Fault.TheVariants as fault
+use Rattle.jc_command_work.specs.Step.{Word, AreTexts, Write, to_out}
+use Rattle.jc_command_work.specs.Part.{End, gives, stops}
+use Rattle.jc_command_work.specs.OneWay.{IsOver}
+use Rattle.jc_command_work.specs.Answered.{Answer, refusing, OneAnswer, HasOneAnswer}
+use Rattle.jc_command_work.specs.Causes.{IsRefusal}
+use Rattle.jc_command_work.proofs.AnsweredLaws.{as_many_texts, all_files}
+use Rattle.jc_command_work.proofs.CauseLaws.{is_refusal}
+use Rattle.jc_command_work.proofs.OneWork.{gives_or_stops}
 use Rattle.jc_class_commands.specs.ClassInfo.{AreListed, RefusedAt, ListAnswers, listed, class_refused}
 use Rattle.jc_class_commands.specs.Instrument.{AreFileWrites, InstrumentAnswers, instrumented}
 use Rattle.jc_class_commands.specs.Report.{ReportAnswers, reported, report_refused, report_clashes}

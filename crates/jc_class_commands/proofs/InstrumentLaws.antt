@@ -10,16 +10,16 @@ use Rattle.jc_instrument_laws.proofs.EachFileLaws.{each_file}
 use Rattle.jc_instrument.proofs.OneTwinLaws.{one_file, file_or_reason}
 use Rattle.jc_instrument.proofs.RoomCauseLaws.{one_reason}
 use Rattle.jc_class_commands.specs.declared.instrument.Decided.{Decided}
-use Rattle.jc_work.specs.declared.output.Write.{Write as Written}
+use Rattle.jc_command_work.specs.declared.output.Write.{Write as Written}
 use Rattle.jc_class_commands.specs.Instrument.{Decision, refused_file, accepted_file, IsDecision, file_writes, AreFileWrites}
 use Rattle.jc_class_commands.specs.Instrument.{decision_seen}
-use Rattle.jc_work.specs.Seen.{write_seen, Puts}
-use Rattle.jc_work.specs.Step.{Word}
-use Rattle.jc_work.specs.Seen.{words_of}
-use Rattle.jc_work.specs.Step.{IsFile}
-use Rattle.jc_work.specs.Step.{Write}
+use Rattle.jc_command_work.specs.Seen.{write_seen, Puts}
+use Rattle.jc_command_work.specs.Step.{Word}
+use Rattle.jc_command_work.specs.Seen.{words_of}
+use Rattle.jc_command_work.specs.Step.{IsFile}
+use Rattle.jc_command_work.specs.Step.{Write}
 use Rattle.jc_class_commands.proofs.EachLaws.{zipped_pair, each_ok, AtPlace}
-use Rattle.jc_work.proofs.ListLaws.{map_take_more}
+use Rattle.jc_command_work.proofs.ListLaws.{map_take_more}
 
 -- ---- one file
 

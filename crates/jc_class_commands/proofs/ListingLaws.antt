@@ -18,20 +18,20 @@ use Rattle.jc_instrument.specs.SameAnalysis.{IsSameAnalysis, without_frames}
 use Rattle.jc_instrument.proofs.OneReasonLaws.{one_reason}
 use Rattle.jc_instrument.proofs.SameAnalysisLaws.{same_analysis}
 use Rattle.jc_instrument.proofs.EachAnalysisLaws.{each_analysis, analysis_or_reason}
-use Rattle.jc_work.specs.declared.output.Write.{Write as Written}
-use Rattle.jc_work.specs.declared.output.Write.TheVariants as written
-use Rattle.jc_work.specs.Part.{gives}
-use Rattle.jc_work.specs.declared.status.Fault.TheVariants as fault
-use Rattle.jc_work.specs.Step.{Word}
-use Rattle.jc_work.specs.Seen.{words_of}
+use Rattle.jc_command_work.specs.declared.output.Write.{Write as Written}
+use Rattle.jc_command_work.specs.declared.output.Write.TheVariants as written
+use Rattle.jc_command_work.specs.Part.{gives}
+use Rattle.jc_command_work.specs.declared.status.Fault.TheVariants as fault
+use Rattle.jc_command_work.specs.Step.{Word}
+use Rattle.jc_command_work.specs.Seen.{words_of}
 use Rattle.jc_class_commands.specs.ClassInfo.{class_line, method_line, class_text, Listing, prints, refuses, Lists, analysed, refused, IsListing, AreListed, RefusedAt}
-use Rattle.jc_work.specs.Seen.{write_seen}
-use Rattle.jc_work.specs.Step.{Write, to_out}
-use Rattle.jc_work.specs.Step.{IsFile}
+use Rattle.jc_command_work.specs.Seen.{write_seen}
+use Rattle.jc_command_work.specs.Step.{Write, to_out}
+use Rattle.jc_command_work.specs.Step.{IsFile}
 use Rattle.jc_class_commands.specs.ClassInfo.{ListAnswers, listed, class_refused}
-use Rattle.jc_work.specs.Answered.{refusing}
-use Rattle.jc_work.specs.Stopping.{class_stop}
-use Rattle.jc_work.specs.Answered.{AnswersWith}
+use Rattle.jc_command_work.specs.Answered.{refusing}
+use Rattle.jc_command_work.specs.Stopping.{class_stop}
+use Rattle.jc_command_work.specs.Answered.{AnswersWith}
 use Rattle.jc_class_commands.proofs.EachLaws.{zipped_at, AtPlace}
 
 -- ---- one file

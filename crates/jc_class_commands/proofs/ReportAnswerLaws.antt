@@ -6,15 +6,15 @@ use Rattle.std.proofs.lemmas.List.{take_all}
 use Rattle.jc_exec.specs.declared.refusal.ExecRefusal.{ExecRefusal}
 use Rattle.jc_exec.specs.Store.{Store}
 use Rattle.jc_report.specs.declared.row.Counted.{Counted}
-use Rattle.jc_work.specs.Part.{gives}
-use Rattle.jc_work.specs.declared.status.Fault.TheVariants as fault
-use Rattle.jc_work.specs.Step.{Word}
+use Rattle.jc_command_work.specs.Part.{gives}
+use Rattle.jc_command_work.specs.declared.status.Fault.TheVariants as fault
+use Rattle.jc_command_work.specs.Step.{Word}
 use Rattle.jc_exec_commands.specs.ExecData.{IsUnionOf, IsFirstRefused, no_data}
 use Rattle.jc_class_commands.specs.Report.{ReportedFile, AreItems, data_texts, class_texts, lines_of, changed_of, first_clash, first_of_each_id, AreCountedItems, report_text}
 use Rattle.jc_class_commands.specs.ReportSteps.{counted_classes}
-use Rattle.jc_work.specs.Step.{to_file, to_err}
-use Rattle.jc_work.specs.Step.{IsFile}
-use Rattle.jc_work.specs.Answered.{Answer, refusing}
+use Rattle.jc_command_work.specs.Step.{to_file, to_err}
+use Rattle.jc_command_work.specs.Step.{IsFile}
+use Rattle.jc_command_work.specs.Answered.{Answer, refusing}
 use Rattle.jc_class_commands.specs.Report.{ReportAnswers, reported, report_refused, report_clashes}
 use Rattle.jc_class_commands.proofs.CountedLaws.{are_counted, all_counted}
 use Rattle.jc_exec_commands.proofs.ExecDataLaws.{one_union_of, union_of_none, union_or_refused, one_refused, some_union_or_refused}

@@ -22,7 +22,7 @@ use Rattle.jc_instrument.specs.SameAnalysis.{IsSameAnalysis}
 use Rattle.jc_instrument.proofs.OneReasonLaws.{one_reason}
 use Rattle.jc_instrument.proofs.SameAnalysisLaws.{same_analysis}
 use Rattle.jc_instrument.proofs.EachAnalysisLaws.{each_analysis, analysis_or_reason}
-use Rattle.jc_work.specs.Step.{IsFile}
+use Rattle.jc_command_work.specs.Step.{IsFile}
 use Rattle.jc_class_commands.specs.Report.{frameless, ReportedFile, refused_class, unchanged_class, changed_class, IsItem, is_refused, is_unchanged, is_changed, AreItems, clash_of, first_clash}
 
 -- ---- which classes have bodies

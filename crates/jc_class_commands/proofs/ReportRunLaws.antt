@@ -11,22 +11,22 @@ use Rattle.jc_exec.specs.declared.hits.ClassHits.{ClassHits}
 use Rattle.jc_exec.specs.declared.refusal.ExecRefusal.{ExecRefusal}
 use Rattle.jc_class_commands.specs.Report.{changed_of, first_of_each_id, report_text}
 use Rattle.jc_class_commands.specs.declared.class_report.Looked.{Looked}
-use Rattle.jc_work.specs.declared.output.Write.{Write as Written}
-use Rattle.jc_work.specs.declared.output.Write.TheVariants as written
-use Rattle.jc_work.specs.Part.{gives}
-use Rattle.jc_work.specs.declared.status.Fault.{Fault}
-use Rattle.jc_work.specs.declared.status.Fault.TheVariants as faults
-use Rattle.jc_work.specs.declared.stop.Stop.{Stop}
-use Rattle.jc_work.specs.declared.stop.Stop.TheVariants as stops
-use Rattle.jc_work.specs.Step.{Word}
+use Rattle.jc_command_work.specs.declared.output.Write.{Write as Written}
+use Rattle.jc_command_work.specs.declared.output.Write.TheVariants as written
+use Rattle.jc_command_work.specs.Part.{gives}
+use Rattle.jc_command_work.specs.declared.status.Fault.{Fault}
+use Rattle.jc_command_work.specs.declared.status.Fault.TheVariants as faults
+use Rattle.jc_command_work.specs.declared.stop.Stop.{Stop}
+use Rattle.jc_command_work.specs.declared.stop.Stop.TheVariants as stops
+use Rattle.jc_command_work.specs.Step.{Word}
 use Rattle.jc_exec_commands.specs.ExecData.{IsUnionOf, no_data}
-use Rattle.jc_work.specs.Seen.{write_seen}
+use Rattle.jc_command_work.specs.Seen.{write_seen}
 use Rattle.jc_class_commands.specs.ReportSteps.{counted_classes, LooksAtAll, ReportsWith}
 use Rattle.jc_class_commands.specs.Report.{ReportAnswers, reported, report_refused, report_clashes}
-use Rattle.jc_work.specs.Answered.{refusing}
-use Rattle.jc_work.specs.Step.{Write, to_file}
-use Rattle.jc_work.specs.Stopping.{exec_stop}
-use Rattle.jc_work.specs.Answered.{AnswersWith}
+use Rattle.jc_command_work.specs.Answered.{refusing}
+use Rattle.jc_command_work.specs.Step.{Write, to_file}
+use Rattle.jc_command_work.specs.Stopping.{exec_stop}
+use Rattle.jc_command_work.specs.Answered.{AnswersWith}
 use Rattle.jc_class_commands.proofs.CountedLaws.{are_counted}
 use Rattle.jc_exec_commands.proofs.ExecDataLaws.{union_of_none}
 

@@ -11,12 +11,12 @@ use Rattle.jc_base.specs.Failing.{Said}
 use Rattle.jc_plan.specs.Probed.{probe_count}
 use Rattle.jc_instrument.specs.Analysis.{IsAnalysis}
 use Rattle.jc_instrument.specs.Reasons.{AnalysisReason}
-use Rattle.jc_work.specs.declared.status.Fault.TheVariants as fault
-use Rattle.jc_work.specs.Step.{to_out}
-use Rattle.jc_work.specs.Part.{gives}
-use Rattle.jc_work.specs.Texts.{hex_text}
-use Rattle.jc_work.specs.Answered.{Answer, refusing}
-use Rattle.jc_work.specs.Step.{Word}
+use Rattle.jc_command_work.specs.declared.status.Fault.TheVariants as fault
+use Rattle.jc_command_work.specs.Step.{to_out}
+use Rattle.jc_command_work.specs.Part.{gives}
+use Rattle.jc_command_work.specs.Texts.{hex_text}
+use Rattle.jc_command_work.specs.Answered.{Answer, refusing}
+use Rattle.jc_command_work.specs.Step.{Word}
 
 -- ---- the lines of a class
 

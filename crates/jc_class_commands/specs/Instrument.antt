@@ -4,13 +4,13 @@ use Rattle.jc_base.specs.declared.Refusal.{Refusal}
 use Rattle.jc_instrument.specs.InstrumentedFile.{IsInstrumentedFile}
 use Rattle.jc_instrument.specs.Refused.{Reason}
 use Rattle.jc_instrument.specs.declared.whole.Instrumented.{Instrumented}
-use Rattle.jc_work.specs.Part.{gives}
-use Rattle.jc_work.specs.Answered.{Answer}
+use Rattle.jc_command_work.specs.Part.{gives}
+use Rattle.jc_command_work.specs.Answered.{Answer}
 use Rattle.jc_class_commands.specs.Lines.{refused_line, accepted_line}
 use Rattle.jc_class_commands.specs.declared.instrument.Decided.{Decided}
 use Rattle.jc_class_commands.specs.declared.instrument.Decided.TheVariants as decided
-use Rattle.jc_work.specs.Step.{Word}
-use Rattle.jc_work.specs.Step.{Write, to_file, to_out, to_err}
+use Rattle.jc_command_work.specs.Step.{Word}
+use Rattle.jc_command_work.specs.Step.{Write, to_file, to_out, to_err}
 
 -- ---- one class file
 

@@ -2,7 +2,7 @@
 use Rattle.std.specs.Prelude.{ℕ, List, ◌++◌, codes, Bool, true, false}
 use Rattle.std.specs.Fmt.{decimal}
 use Rattle.jc_base.specs.declared.Refusal.{Refusal}
-use Rattle.jc_work.specs.Texts.{class_refusal_text}
+use Rattle.jc_command_work.specs.Texts.{class_refusal_text}
 
 -- the line of a class file that is refused and is no failure
 abbrev pub refused_line : List ℕ → Refusal → List ℕ

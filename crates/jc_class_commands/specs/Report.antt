@@ -20,13 +20,13 @@ use Rattle.jc_report.specs.declared.row.Counted.{Counted}
 use Rattle.jc_report.specs.Csv.{csv_of}
 use Rattle.jc_report.specs.Rows.{rows_of}
 use Rattle.jc_exec.specs.Store.{Store}
-use Rattle.jc_work.specs.declared.status.Fault.TheVariants as fault
-use Rattle.jc_work.specs.Step.{to_file, to_err}
-use Rattle.jc_work.specs.Part.{gives}
-use Rattle.jc_work.specs.Answered.{Answer, refusing}
+use Rattle.jc_command_work.specs.declared.status.Fault.TheVariants as fault
+use Rattle.jc_command_work.specs.Step.{to_file, to_err}
+use Rattle.jc_command_work.specs.Part.{gives}
+use Rattle.jc_command_work.specs.Answered.{Answer, refusing}
 use Rattle.jc_exec_commands.specs.ExecData.{IsUnionOf, IsFirstRefused}
 use Rattle.jc_class_commands.specs.Lines.{refused_line}
-use Rattle.jc_work.specs.Step.{Word}
+use Rattle.jc_command_work.specs.Step.{Word}
 
 -- ---- the inputs
 

@@ -18,16 +18,16 @@ use Rattle.jc_class_commands.specs.declared.class_report.Looked.{Looked}
 use Rattle.jc_class_commands.specs.declared.class_report.Seen.{Seen}
 use Rattle.jc_class_commands.specs.declared.report.ExecInput.{ExecInput}
 use Rattle.jc_class_commands.specs.declared.class_report.Seen.TheVariants as seens
-use Rattle.jc_work.specs.declared.output.Write.{Write as Written}
-use Rattle.jc_work.specs.declared.status.Fault.TheVariants as faults
-use Rattle.jc_work.specs.declared.stop.Stop.{Stop}
-use Rattle.jc_work.specs.declared.stop.Stop.TheVariants as stops
-use Rattle.jc_work.specs.Seen.{write_seen}
+use Rattle.jc_command_work.specs.declared.output.Write.{Write as Written}
+use Rattle.jc_command_work.specs.declared.status.Fault.TheVariants as faults
+use Rattle.jc_command_work.specs.declared.stop.Stop.{Stop}
+use Rattle.jc_command_work.specs.declared.stop.Stop.TheVariants as stops
+use Rattle.jc_command_work.specs.Seen.{write_seen}
 use Rattle.jc_class_commands.specs.Report.{ReportedFile, refused_class, unchanged_class, changed_class, IsItem, AreItems, lines_of, changed_of}
 use Rattle.jc_class_commands.specs.Report.{record_of, hits_of, clash_with, clash_of, first_clash, first_of_each_id, counted_with, report_text}
 use Rattle.jc_class_commands.specs.Lines.{refused_line}
-use Rattle.jc_work.specs.Step.{Word}
-use Rattle.jc_work.specs.Step.{to_file, to_err}
+use Rattle.jc_command_work.specs.Step.{Word}
+use Rattle.jc_command_work.specs.Step.{to_file, to_err}
 
 -- ---- the execution data
 

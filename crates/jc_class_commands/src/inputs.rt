@@ -1,13 +1,13 @@
 //! Reading class files.
 ghost use Rattle.std.specs.Prelude.{◌≡◌, ◌≤◌, All, length, IfOk};
 ghost use Rattle.jc_base.specs.Reader.{most_read};
-ghost use Rattle.jc_work.specs.Part.{reading_all};
-ghost use Rattle.jc_work.specs.Ending.{DoesFiles};
-ghost use Rattle.jc_work.specs.Handed.{BetweenFiles};
-ghost use Rattle.jc_work.specs.Seen.{words_of, stop_seen};
+ghost use Rattle.jc_command_work.specs.Part.{reading_all};
+ghost use Rattle.jc_command_work.specs.Ending.{DoesFiles};
+ghost use Rattle.jc_command_work.specs.Handed.{BetweenFiles};
+ghost use Rattle.jc_command_work.specs.Seen.{words_of, stop_seen};
 
 use jc_base::{Bytes, Files};
-use jc_work::{Stop, as_texts, read_all};
+use jc_command_work::{Stop, as_texts, read_all};
 use std::alloc::Global;
 
 /// The bytes of the class files at the paths, in order.

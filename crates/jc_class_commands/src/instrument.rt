@@ -3,17 +3,17 @@ ghost use Rattle.std.specs.Prelude.{◌≡◌, ◌≤◌, All, length, map, IfOk
 ghost use Rattle.std.specs.List.{AllZip};
 ghost use Rattle.jc_base.specs.Reader.{most_read};
 ghost use Rattle.jc_class_commands.specs.Instrument.{IsDecision, decided_line, file_writes, AreFileWrites, InstrumentAnswers, decision_seen};
-ghost use Rattle.jc_work.specs.Answered.{Prepares};
-ghost use Rattle.jc_work.specs.Handed.{BetweenFiles};
-ghost use Rattle.jc_work.specs.Seen.{write_seen, Puts};
-ghost use Rattle.jc_work.specs.Seen.{words_of};
+ghost use Rattle.jc_command_work.specs.Answered.{Prepares};
+ghost use Rattle.jc_command_work.specs.Handed.{BetweenFiles};
+ghost use Rattle.jc_command_work.specs.Seen.{write_seen, Puts};
+ghost use Rattle.jc_command_work.specs.Seen.{words_of};
 
 use crate::each::{all_made, each_answer};
 use crate::inputs::read_files;
 use crate::lines::{accepted_line, refused_line};
 use jc_base::{Bytes, Fail, Files, Memory, Refusal};
+use jc_command_work::{Stop, Write};
 use jc_instrument::{Instrumented, instrument};
-use jc_work::{Stop, Write};
 use std::alloc::Global;
 use std::marker::Sync;
 use std::thread::Threads;

@@ -3,7 +3,7 @@ ghost use Rattle.std.specs.Prelude.{◌≡◌, string_bytes, IfOk};
 ghost use Rattle.jc_class_commands.specs.Lines.{refused_line, instrumented_line, unchanged_line, accepted_line};
 
 use jc_base::Refusal;
-use jc_work::class_refusal_text;
+use jc_command_work::class_refusal_text;
 use std::alloc::{AllocError, Global};
 
 /// The line of a class file that is refused and is no failure.

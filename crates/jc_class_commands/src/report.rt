@@ -3,16 +3,16 @@ ghost use Rattle.std.specs.Prelude.{◌≡◌, ◌≤◌, ◌<◌, ◌^◌, ◌�
 ghost use Rattle.jc_base.specs.Reader.{most_read};
 ghost use Rattle.jc_class_commands.specs.Report.{report_text, ReportAnswers};
 ghost use Rattle.jc_class_commands.specs.ReportSteps.{data_records, data_path, exec_path, exec_texts, CountsFiles, ReportsWith};
-ghost use Rattle.jc_work.specs.Seen.{words_of};
-ghost use Rattle.jc_work.specs.Answered.{AnswersWith, Prepares};
-ghost use Rattle.jc_work.specs.Handed.{BetweenFiles};
+ghost use Rattle.jc_command_work.specs.Seen.{words_of};
+ghost use Rattle.jc_command_work.specs.Answered.{AnswersWith, Prepares};
+ghost use Rattle.jc_command_work.specs.Handed.{BetweenFiles};
 
 use crate::class_report::{Data, Looked, look_at_all};
 use crate::inputs::read_files;
 use jc_base::{Bytes, Files, Memory};
+use jc_command_work::{Stop, Write, as_texts, exec_stop};
 use jc_exec_commands::data_of;
 use jc_report::{Counted, csv_text, rows};
-use jc_work::{Stop, Write, as_texts, exec_stop};
 use std::alloc::Global;
 use std::marker::Sync;
 use std::thread::Threads;

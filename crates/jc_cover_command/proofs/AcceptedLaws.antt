@@ -6,8 +6,8 @@ use Rattle.std.proofs.lemmas.Simd.{map-map}
 use Rattle.std.specs.Borrow.{Bor}
 use Rattle.jc_bytes.specs.Reader.{most_read}
 use Rattle.jc_paths.specs.Paths.{in_folder}
-use Rattle.jc_work.specs.Seen.{texts_of}
-use Rattle.jc_work.specs.Step.{Word}
+use Rattle.jc_command_work.specs.Seen.{texts_of}
+use Rattle.jc_command_work.specs.Step.{Word}
 use Rattle.jc_cover_command.specs.Accepted.{AreAccepted, AreWhole}
 use Rattle.jc_cover_command.specs.declared.accepted.Accepted.{Accepted}
 use Rattle.jc_class_commands.specs.Instrument.{Decision, refused_file, accepted_file}

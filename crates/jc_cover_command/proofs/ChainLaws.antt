@@ -1,10 +1,10 @@
 -- A part of a command, and then the rest.
 use Rattle.std.proofs.Common.{◌≡◌, [], Option, None, Some, Result, Ok, Err, inl, refl, ◌∙◌}
-use Rattle.jc_work.specs.Step.{World, Counts, Landed}
-use Rattle.jc_work.specs.Part.{End, done, gives, stops, Part, Command, ending, deciding, ◌>>=◌}
-use Rattle.jc_work.specs.Ending.{CameTo, Stops, Does, Ran}
-use Rattle.jc_work.proofs.Behind.{came_then, stops_first, stops_then}
-use Rattle.jc_work.proofs.Reaching.{reached_start, was_decided, was_ended, ran_last}
+use Rattle.jc_command_work.specs.Step.{World, Counts, Landed}
+use Rattle.jc_command_work.specs.Part.{End, done, gives, stops, Part, Command, ending, deciding, ◌>>=◌}
+use Rattle.jc_command_work.specs.Ending.{CameTo, Stops, Does, Ran}
+use Rattle.jc_command_work.proofs.Behind.{came_then, stops_first, stops_then}
+use Rattle.jc_command_work.proofs.Reaching.{reached_start, was_decided, was_ended, ran_last}
 use Rattle.jc_cover_command.specs.Deciding.{StopsBy, Decides}
 
 module _ {X : Type 0} (landed : Landed) (p : Part X) (rest : X → Command) (old : World) (f : Counts) where

@@ -7,9 +7,9 @@ use Rattle.jc_same_runs.specs.Frameless.{frameless}
 use Rattle.jc_run_work.specs.RunStore.{threads_of, first_without}
 use Rattle.jc_run_work.proofs.StoreLaws.{same_without}
 use Rattle.jc_run_parts.specs.Beginnings.{line_of}
-use Rattle.jc_work.specs.Step.{Word}
-use Rattle.jc_work.specs.Answered.{refusal_of}
-use Rattle.jc_work.specs.declared.status.Fault.TheVariants as faults
+use Rattle.jc_command_work.specs.Step.{Word}
+use Rattle.jc_command_work.specs.Answered.{refusal_of}
+use Rattle.jc_command_work.specs.declared.status.Fault.TheVariants as faults
 use Rattle.jc_cover_work.specs.CoverWork.{IsEntryEnd}
 
 module _ (p : Program) (plan : RunPlan) where

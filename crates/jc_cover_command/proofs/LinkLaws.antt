@@ -6,9 +6,9 @@ use Rattle.jc_run_work.specs.PairTexts.{same_name_text, same_id_text}
 use Rattle.jc_run_work.specs.RunAnswers.{path_at, EndsAs}
 use Rattle.jc_run_parts.specs.Clash.{LinkStops}
 use Rattle.jc_run_parts.proofs.ClashLaws.{AreWithin, are_within}
-use Rattle.jc_work.specs.declared.status.Fault.TheVariants as faults
-use Rattle.jc_work.specs.Part.{End, refused}
-use Rattle.jc_work.specs.Texts.{fault_text}
+use Rattle.jc_command_work.specs.declared.status.Fault.TheVariants as faults
+use Rattle.jc_command_work.specs.Part.{End, refused}
+use Rattle.jc_command_work.specs.Texts.{fault_text}
 use Rattle.jc_cover_work.specs.CoverWork.{LookedFile, accepted, paths_in, places_from, place_of, path_of, EndsAmongAll, IsLinkEnd}
 use Rattle.jc_cover_command.specs.Deciding.{StopsBy}
 use Rattle.jc_cover_command.specs.Placed.{end_placed}

@@ -3,13 +3,13 @@ use Rattle.std.proofs.Common.{ℕ, List, Some, Result, Ok, Err, Vec, sym, ap₂}
 use Rattle.std.specs.declared.alloc.Global.{Global}
 use Rattle.std.proofs.lemmas.Option.{same_Some}
 use Rattle.jc_exec.specs.Store.{Store}
-use Rattle.jc_work.specs.declared.status.Fault.{Fault}
-use Rattle.jc_work.specs.declared.stop.Stop.{Stop}
-use Rattle.jc_work.specs.declared.stop.Stop.TheVariants as stops
-use Rattle.jc_work.specs.Part.{refused}
-use Rattle.jc_work.specs.Seen.{stop_seen}
-use Rattle.jc_work.specs.Step.{Word}
-use Rattle.jc_work.specs.Texts.{fault_text}
+use Rattle.jc_command_work.specs.declared.status.Fault.{Fault}
+use Rattle.jc_command_work.specs.declared.stop.Stop.{Stop}
+use Rattle.jc_command_work.specs.declared.stop.Stop.TheVariants as stops
+use Rattle.jc_command_work.specs.Part.{refused}
+use Rattle.jc_command_work.specs.Seen.{stop_seen}
+use Rattle.jc_command_work.specs.Step.{Word}
+use Rattle.jc_command_work.specs.Texts.{fault_text}
 use Rattle.jc_class_commands.specs.Report.{changed_of, first_of_each_id}
 use Rattle.jc_class_commands.specs.ReportSteps.{counted_classes, CountsFiles}
 use Rattle.jc_class_commands.proofs.CountedLaws.{are_counted}

@@ -5,11 +5,11 @@ use Rattle.jc_exec.specs.Writing.{exec_text}
 use Rattle.jc_programs.specs.declared.program.Program.{Program}
 use Rattle.jc_programs.specs.declared.run_plan.RunPlan.{RunPlan}
 use Rattle.jc_world.specs.CaseText.{case_texts}
-use Rattle.jc_work.specs.Step.{World, Counts, Landed, to_file, to_out}
-use Rattle.jc_work.specs.Part.{End, done, gives, Part, Command, ending, deciding, writing, ◌>>=◌}
-use Rattle.jc_work.specs.Ending.{CameTo, Stops, Does, Ran}
-use Rattle.jc_work.specs.Seen.{stop_seen}
-use Rattle.jc_work.specs.declared.stop.Stop.{Stop}
+use Rattle.jc_command_work.specs.Step.{World, Counts, Landed, to_file, to_out}
+use Rattle.jc_command_work.specs.Part.{End, done, gives, Part, Command, ending, deciding, writing, ◌>>=◌}
+use Rattle.jc_command_work.specs.Ending.{CameTo, Stops, Does, Ran}
+use Rattle.jc_command_work.specs.Seen.{stop_seen}
+use Rattle.jc_command_work.specs.declared.stop.Stop.{Stop}
 use Rattle.jc_run_work.specs.RunStore.{run_store}
 use Rattle.jc_cover_work.specs.CoverWork.{Cover, LookedFile, accepted_texts, IsReportText, IsClashEnd}
 use Rattle.jc_cover_command.specs.CoverSeen.{writing_results}

@@ -6,13 +6,13 @@ use Rattle.jc_link.specs.Plans.{IsPlanText}
 use Rattle.jc_programs.specs.declared.program.Program.{Program}
 use Rattle.jc_programs.specs.declared.run_plan.RunPlan.{RunPlan}
 use Rattle.jc_run_work.specs.RunAnswers.{IsPlanEnd, IsRunProgram}
-use Rattle.jc_work.specs.Step.{Word, World, Counts, Landed, IsFile}
-use Rattle.jc_work.specs.Part.{End, gives, Command, deciding, reading_all, ◌>>=◌}
-use Rattle.jc_work.specs.Ending.{CameTo, Stops, Ran}
-use Rattle.jc_work.specs.Seen.{stop_seen}
-use Rattle.jc_work.specs.declared.stop.Stop.{Stop}
-use Rattle.jc_work.specs.declared.stop.Stop.TheVariants as stops
-use Rattle.jc_work.proofs.AnsweredLaws.{texts_read, all_files}
+use Rattle.jc_command_work.specs.Step.{Word, World, Counts, Landed, IsFile}
+use Rattle.jc_command_work.specs.Part.{End, gives, Command, deciding, reading_all, ◌>>=◌}
+use Rattle.jc_command_work.specs.Ending.{CameTo, Stops, Ran}
+use Rattle.jc_command_work.specs.Seen.{stop_seen}
+use Rattle.jc_command_work.specs.declared.stop.Stop.{Stop}
+use Rattle.jc_command_work.specs.declared.stop.Stop.TheVariants as stops
+use Rattle.jc_command_work.proofs.AnsweredLaws.{texts_read, all_files}
 use Rattle.jc_cover_work.specs.CoverWork.{Cover, LookedFile, paths_in, texts_in, targets, HaveEntries, IsEntryEnd, IsLinkEnd, instrumenting, running, covering}
 use Rattle.jc_cover_work.proofs.DistinctLaws.{looked_files}
 use Rattle.jc_cover_files.specs.Files.{Instrumented}

@@ -9,8 +9,8 @@ use Rattle.jc_run_work.specs.RunStore.{run_store}
 use Rattle.jc_run_program.specs.declared.program.Ran.{Ran}
 use Rattle.jc_cover_work.specs.CoverWork.{LookedFile, accepted, accepted_texts, paths_in, places_from, targets, texts_in}
 use Rattle.jc_cover_command.specs.declared.accepted.Accepted.{Accepted}
-use Rattle.jc_work.specs.Seen.{texts_of}
-use Rattle.jc_work.specs.Step.{Word}
+use Rattle.jc_command_work.specs.Seen.{texts_of}
+use Rattle.jc_command_work.specs.Step.{Word}
 
 -- these are of all files that were looked at, in order: their paths, those that they were written to, their bytes as they were
 -- read, and the places of the accepted ones

@@ -2,11 +2,11 @@
 use Rattle.std.specs.Prelude.{ℕ, List, ⊤, Option, None, Some, Result, Ok, Err}
 use Rattle.jc_outside.specs.declared.files.Files.{Ghosts as OfFiles}
 use Rattle.jc_outside.specs.declared.sink.Sink.{Ghosts as OfSink}
-use Rattle.jc_work.specs.declared.stop.Stop.{Stop}
-use Rattle.jc_work.specs.Seen.{stop_seen}
-use Rattle.jc_work.specs.Step.{world, counts}
-use Rattle.jc_work.specs.Part.{End, Command}
-use Rattle.jc_work.specs.Ending.{Ran}
+use Rattle.jc_command_work.specs.declared.stop.Stop.{Stop}
+use Rattle.jc_command_work.specs.Seen.{stop_seen}
+use Rattle.jc_command_work.specs.Step.{world, counts}
+use Rattle.jc_command_work.specs.Part.{End, Command}
+use Rattle.jc_command_work.specs.Ending.{Ran}
 
 -- the command ends so, or memory was refused
 abbrev pub StopsBy : (End → Type 0) → Option End → Type 0

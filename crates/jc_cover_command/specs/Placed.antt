@@ -1,8 +1,8 @@
 -- Ends that name accepted files: by their indices among these, and by their places among all files.
 use Rattle.std.specs.Prelude.{ℕ, List, slice_index_or}
-use Rattle.jc_work.specs.declared.status.Fault.{Fault}
-use Rattle.jc_work.specs.declared.status.Fault.TheVariants as faults
-use Rattle.jc_work.specs.Part.{End, done, refused, misused, unread, unwritten, unprinted}
+use Rattle.jc_command_work.specs.declared.status.Fault.{Fault}
+use Rattle.jc_command_work.specs.declared.status.Fault.TheVariants as faults
+use Rattle.jc_command_work.specs.Part.{End, done, refused, misused, unread, unwritten, unprinted}
 
 -- the fault, where the place of each file stands in this list under its index
 abbrev pub placed : List ℕ → Fault → Fault

@@ -3,8 +3,8 @@ ghost use Rattle.std.specs.Prelude.{◌≤◌, ◌<◌, ◌^◌, All, List, IfOk
 ghost use Rattle.jc_bytes.specs.Reader.{most_read};
 ghost use Rattle.jc_cover_work.specs.CoverWork.{LookedFile};
 ghost use Rattle.jc_cover_command.specs.Accepted.{AreAccepted, AreOfAll, AreWhole};
-ghost use Rattle.jc_work.specs.Seen.{texts_of};
-ghost use Rattle.jc_work.specs.Step.{Word};
+ghost use Rattle.jc_command_work.specs.Seen.{texts_of};
+ghost use Rattle.jc_command_work.specs.Step.{Word};
 
 use jc_bytes::{Bytes, Memory};
 use jc_cover_files::accepted_of;

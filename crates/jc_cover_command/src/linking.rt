@@ -9,16 +9,16 @@ ghost use Rattle.jc_cover_work.specs.CoverWork.{LookedFile, IsLinkEnd};
 ghost use Rattle.jc_cover_command.specs.Accepted.{AreAccepted, AreWhole};
 ghost use Rattle.jc_cover_command.specs.Deciding.{Decides, StopsBy};
 ghost use Rattle.jc_cover_command.specs.Placed.{placed, end_placed};
-ghost use Rattle.jc_work.specs.Seen.{stop_seen};
-ghost use Rattle.jc_work.specs.Step.{Word};
+ghost use Rattle.jc_command_work.specs.Seen.{stop_seen};
+ghost use Rattle.jc_command_work.specs.Step.{Word};
 ghost use Rattle.jc_world.specs.Programs.{IsProgram};
 
 use crate::accepted::Accepted;
 use jc_bytes::{Bytes, Fail};
+use jc_command_work::{Fault, Stop};
 use jc_linking::{LinkRefusal, link};
 use jc_programs::Program;
 use jc_run_parts::link_stop;
-use jc_work::{Fault, Stop};
 use std::alloc::Global;
 
 /// The place among all files of an accepted one, by its index among the accepted ones.

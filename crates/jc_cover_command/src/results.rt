@@ -6,16 +6,16 @@ ghost use Rattle.jc_cover_work.specs.CoverWork.{IsReportText, IsClashEnd};
 ghost use Rattle.jc_cover_command.specs.Accepted.{AreWhole, RunOf};
 ghost use Rattle.jc_cover_command.specs.CoverSeen.{cover_seen, writing_results};
 ghost use Rattle.jc_cover_command.specs.Deciding.{Decides, RanAside};
-ghost use Rattle.jc_work.specs.Seen.{stop_seen};
+ghost use Rattle.jc_command_work.specs.Seen.{stop_seen};
 
 use crate::accepted::Accepted;
 use crate::words::CoverWords;
 use jc_bytes::Bytes;
 use jc_class_commands::{Data, csv_of_files};
+use jc_command_work::{Stop, put_out, write_file};
 use jc_exec::ExecStore;
 use jc_outside::{Files, Sink};
 use jc_run_program::Ran;
-use jc_work::{Stop, put_out, write_file};
 use std::alloc::Global;
 use std::marker::Sync;
 use std::thread::Threads;

@@ -1,7 +1,7 @@
 -- The places of accepted files, and what stands beside them.
 use Rattle.std.proofs.Common.{◌≡◌, ℕ, ◌+◌, ◌<◌, ◌≤◌, List, [], ◌∷◌, ◌++◌, length, drop, get_or, map, refl, sym, ◌∙◌, ap, arith, append_assoc, append-nil, drop-cons, add-one}
 use Rattle.std.proofs.lemmas.List.{map-append, drop_all, get_or-map, length-map}
-use Rattle.jc_work.specs.Step.{Word}
+use Rattle.jc_command_work.specs.Step.{Word}
 use Rattle.jc_class_commands.specs.Instrument.{Decision, refused_file, accepted_file}
 use Rattle.jc_cover_work.specs.CoverWork.{LookedFile, accepted, kept_if, place_if, places_from}
 

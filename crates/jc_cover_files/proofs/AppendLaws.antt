@@ -1,11 +1,11 @@
 -- The writes of one list, and then those of another: what comes of the two, one behind the other, comes of them all.
 use Rattle.std.proofs.Common.{◌≡◌, List, [], ◌∷◌, ◌++◌, Option, None, Some, inl, inr, sym, ◌∙◌, ap, subst, append_assoc, append-nil}
-use Rattle.jc_work.specs.Step.{World, Counts, Landed, Write, Call, Step, call_of, after, Fit, CountRose}
-use Rattle.jc_work.specs.Part.{End, Outcome, wants, gives, stops, Part, writing_all, Begun}
-use Rattle.jc_work.specs.Ending.{CameTo, Stops}
-use Rattle.jc_work.proofs.Behind.{after-append, fit-append}
-use Rattle.jc_work.proofs.OneWork.{gives_or_stops, not_gives}
-use Rattle.jc_work.proofs.Reaching.{Reached}
+use Rattle.jc_command_work.specs.Step.{World, Counts, Landed, Write, Call, Step, call_of, after, Fit, CountRose}
+use Rattle.jc_command_work.specs.Part.{End, Outcome, wants, gives, stops, Part, writing_all, Begun}
+use Rattle.jc_command_work.specs.Ending.{CameTo, Stops}
+use Rattle.jc_command_work.proofs.Behind.{after-append, fit-append}
+use Rattle.jc_command_work.proofs.OneWork.{gives_or_stops, not_gives}
+use Rattle.jc_command_work.proofs.Reaching.{Reached}
 
 -- ---- steps
 

@@ -4,13 +4,13 @@ use Rattle.std.specs.List.{AllZip}
 use Rattle.std.proofs.lemmas.List.{drop_all, get_or-map, length-map}
 use Rattle.std.specs.declared.alloc.Global.{Global}
 use Rattle.jc_paths.specs.Paths.{in_folder}
-use Rattle.jc_work.specs.declared.stop.Stop.{Stop}
-use Rattle.jc_work.specs.Seen.{words_of, stop_seen}
-use Rattle.jc_work.specs.Step.{Word, World, Counts, Landed, Write}
-use Rattle.jc_work.specs.Part.{End, gives, Part, giving, writing, writing_all, making, never, ◌>>=◌}
-use Rattle.jc_work.specs.Ending.{CameTo, Stops, Does}
-use Rattle.jc_work.proofs.Behind.{came_then, stops_first, stops_then}
-use Rattle.jc_work.proofs.Reaching.{Reached, reached_start, was_decided}
+use Rattle.jc_command_work.specs.declared.stop.Stop.{Stop}
+use Rattle.jc_command_work.specs.Seen.{words_of, stop_seen}
+use Rattle.jc_command_work.specs.Step.{Word, World, Counts, Landed, Write}
+use Rattle.jc_command_work.specs.Part.{End, gives, Part, giving, writing, writing_all, making, never, ◌>>=◌}
+use Rattle.jc_command_work.specs.Ending.{CameTo, Stops, Does}
+use Rattle.jc_command_work.proofs.Behind.{came_then, stops_first, stops_then}
+use Rattle.jc_command_work.proofs.Reaching.{Reached, reached_start, was_decided}
 use Rattle.jc_class_commands.specs.declared.instrument.Decided.{Decided}
 use Rattle.jc_class_commands.specs.Instrument.{Decision, IsDecision, file_writes, decision_seen}
 use Rattle.jc_class_commands.proofs.EachLaws.{AtPlace}

@@ -1,12 +1,12 @@
 -- What functions did that look at class files and write what comes of them.
 use Rattle.std.specs.Prelude.{◌≡◌, ℕ, List, map, Result, Ok, Err, Vec}
 use Rattle.std.specs.declared.alloc.Global.{Global}
-use Rattle.jc_work.specs.declared.stop.Stop.{Stop}
+use Rattle.jc_command_work.specs.declared.stop.Stop.{Stop}
 use Rattle.jc_paths.specs.Paths.{in_folder}
-use Rattle.jc_work.specs.Step.{Word, World, Counts, Landed}
-use Rattle.jc_work.specs.Part.{gives, writing_all}
-use Rattle.jc_work.specs.Ending.{CameTo, Stops}
-use Rattle.jc_work.specs.Seen.{stop_seen}
+use Rattle.jc_command_work.specs.Step.{Word, World, Counts, Landed}
+use Rattle.jc_command_work.specs.Part.{gives, writing_all}
+use Rattle.jc_command_work.specs.Ending.{CameTo, Stops}
+use Rattle.jc_command_work.specs.Seen.{stop_seen}
 use Rattle.jc_class_commands.specs.Instrument.{Decision}
 use Rattle.jc_cover_work.specs.CoverWork.{LookedFile, AreLooked, all_file_writes, paths_in, texts_in, places_from, instrumenting}
 

@@ -1,9 +1,9 @@
 //! Looking at class files, and writing what comes of them.
 ghost use Rattle.std.specs.Prelude.{◌≡◌, ◌≤◌, ◌<◌, ◌^◌, ◌++◌, [], All, length, map, OnOk};
 ghost use Rattle.jc_bytes.specs.Reader.{most_read};
-ghost use Rattle.jc_work.specs.Part.{writing_all};
-ghost use Rattle.jc_work.specs.Ending.{Does};
-ghost use Rattle.jc_work.specs.Seen.{words_of, stop_seen};
+ghost use Rattle.jc_command_work.specs.Part.{writing_all};
+ghost use Rattle.jc_command_work.specs.Ending.{Does};
+ghost use Rattle.jc_command_work.specs.Seen.{words_of, stop_seen};
 ghost use Rattle.jc_class_commands.specs.Instrument.{file_writes, decision_seen};
 ghost use Rattle.jc_cover_work.specs.CoverWork.{place_if};
 ghost use Rattle.jc_cover_work.specs.Runs.{Between};
@@ -11,8 +11,8 @@ ghost use Rattle.jc_cover_files.specs.Files.{InstrumentsTo, WritesDecided};
 
 use jc_bytes::{Bytes, Memory};
 use jc_class_commands::{Decided, decide_all, decided_line};
+use jc_command_work::{Stop, put_err, put_out, write_file};
 use jc_outside::{Files, Sink};
-use jc_work::{Stop, put_err, put_out, write_file};
 use std::alloc::Global;
 use std::marker::Sync;
 use std::thread::Threads;

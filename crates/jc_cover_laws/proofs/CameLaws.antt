@@ -4,14 +4,14 @@ use Rattle.std.specs.List.{flat_map}
 use Rattle.std.proofs.lemmas.List.Concat.{flat_map-cons}
 use Rattle.jc_outside.specs.Outside.{FileMap, IsListing}
 use Rattle.jc_paths.specs.Paths.{FileText, plain, folder}
-use Rattle.jc_work.specs.Step.{Word, World, Landed, Write, has_read, has_listed, has_written, after_write, IsRead}
-use Rattle.jc_work.specs.Part.{done, gives, stops, giving, ending, making, never, reading, listing, writing, reading_all, writing_all}
-use Rattle.jc_work.specs.Ending.{CameTo}
-use Rattle.jc_work.specs.Folders.{once, paths_of, all_paths, files_of}
-use Rattle.jc_work.specs.Prefix.{after_writes}
-use Rattle.jc_work.proofs.Behind.{came_then}
-use Rattle.jc_work.proofs.ListedLaws.{listed, is_listing}
-use Rattle.jc_work.proofs.Reaching.{was_decided}
+use Rattle.jc_command_work.specs.Step.{Word, World, Landed, Write, has_read, has_listed, has_written, after_write, IsRead}
+use Rattle.jc_command_work.specs.Part.{done, gives, stops, giving, ending, making, never, reading, listing, writing, reading_all, writing_all}
+use Rattle.jc_command_work.specs.Ending.{CameTo}
+use Rattle.jc_command_work.specs.Folders.{once, paths_of, all_paths, files_of}
+use Rattle.jc_command_work.specs.Prefix.{after_writes}
+use Rattle.jc_command_work.proofs.Behind.{came_then}
+use Rattle.jc_command_work.proofs.ListedLaws.{listed, is_listing}
+use Rattle.jc_command_work.proofs.Reaching.{was_decided}
 use Rattle.jc_cover_work.specs.CoverWork.{LookedFile, AreLooked, all_file_writes, instrumenting}
 use Rattle.jc_cover_work.specs.CoverRun.{AreRead}
 use Rattle.jc_cover_laws.specs.FitCover.{named_by, named_paths}

@@ -11,14 +11,14 @@ use Rattle.jc_link.specs.Plans.{IsPlanText}
 use Rattle.jc_linking.specs.Linking.{IsProgramOf}
 use Rattle.jc_link_laws.specs.TwinFiles.{AreWrittenOf, IsShortFile}
 use Rattle.jc_link_laws.proofs.TwinLinkLaws.{twin_program}
-use Rattle.jc_work.specs.Step.{Word, World, Landed, Step, Fit, IsRead}
-use Rattle.jc_work.specs.Part.{done, gives, stops, deciding, reading, reading_all, ◌>>=◌}
-use Rattle.jc_work.specs.Ending.{CameTo}
-use Rattle.jc_work.specs.Folders.{files_of}
-use Rattle.jc_work.specs.Prefix.{after_writes}
-use Rattle.jc_work.proofs.AnsweredLaws.{has_files}
-use Rattle.jc_work.proofs.OneWork.{same_value}
-use Rattle.jc_work.proofs.Prefix.{done_means}
+use Rattle.jc_command_work.specs.Step.{Word, World, Landed, Step, Fit, IsRead}
+use Rattle.jc_command_work.specs.Part.{done, gives, stops, deciding, reading, reading_all, ◌>>=◌}
+use Rattle.jc_command_work.specs.Ending.{CameTo}
+use Rattle.jc_command_work.specs.Folders.{files_of}
+use Rattle.jc_command_work.specs.Prefix.{after_writes}
+use Rattle.jc_command_work.proofs.AnsweredLaws.{has_files}
+use Rattle.jc_command_work.proofs.OneWork.{same_value}
+use Rattle.jc_command_work.proofs.Prefix.{done_means}
 use Rattle.jc_run_work.specs.RunAnswers.{IsPlanEnd, IsRunProgram}
 use Rattle.jc_run_work.specs.RunStore.{threads_of, first_without}
 use Rattle.jc_run_work.proofs.StoreLaws.{same_without}

@@ -15,16 +15,16 @@ use Rattle.jc_link_laws.specs.TwinFiles.{AreWrittenOf, IsShortFile}
 use Rattle.jc_link_laws.proofs.TwinLinkLaws.{twin_program}
 use Rattle.jc_same_runs.specs.Frameless.{frameless}
 use Rattle.jc_world.specs.CaseText.{case_texts}
-use Rattle.jc_work.specs.declared.status.Status.{Status}
-use Rattle.jc_work.specs.declared.status.Status.TheVariants as status
-use Rattle.jc_work.specs.Step.{Word, World, Counts, Landed, Write, to_file, to_out, after, after_write}
-use Rattle.jc_work.specs.Part.{done, gives, stops, deciding, reading, writing, reading_all}
-use Rattle.jc_work.specs.Ending.{CameTo, Ends, NoneRose}
-use Rattle.jc_work.specs.Folders.{files_of}
-use Rattle.jc_work.specs.OneWay.{Work, IsWork}
-use Rattle.jc_work.specs.Prefix.{after_writes}
-use Rattle.jc_work.proofs.Behind.{came_then}
-use Rattle.jc_work.proofs.Reaching.{was_decided}
+use Rattle.jc_command_work.specs.declared.status.Status.{Status}
+use Rattle.jc_command_work.specs.declared.status.Status.TheVariants as status
+use Rattle.jc_command_work.specs.Step.{Word, World, Counts, Landed, Write, to_file, to_out, after, after_write}
+use Rattle.jc_command_work.specs.Part.{done, gives, stops, deciding, reading, writing, reading_all}
+use Rattle.jc_command_work.specs.Ending.{CameTo, Ends, NoneRose}
+use Rattle.jc_command_work.specs.Folders.{files_of}
+use Rattle.jc_command_work.specs.OneWay.{Work, IsWork}
+use Rattle.jc_command_work.specs.Prefix.{after_writes}
+use Rattle.jc_command_work.proofs.Behind.{came_then}
+use Rattle.jc_command_work.proofs.Reaching.{was_decided}
 use Rattle.jc_class_commands.specs.Report.{ReportedFile, AreItems, changed_of, first_of_each_id, first_clash, report_text}
 use Rattle.jc_class_commands.specs.ReportSteps.{counted_classes}
 use Rattle.jc_class_commands.proofs.CountedLaws.{are_counted}

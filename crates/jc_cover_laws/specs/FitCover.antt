@@ -12,13 +12,13 @@ use Rattle.jc_link.specs.Plans.{IsPlanText}
 use Rattle.jc_linking.specs.Linking.{IsProgramOf}
 use Rattle.jc_linking.specs.declared.link_refusal.LinkRefusal.{LinkRefusal}
 use Rattle.jc_link_laws.specs.SecondLinking.{IsSecondRefusal}
-use Rattle.jc_work.specs.declared.status.Status.{Status}
-use Rattle.jc_work.specs.declared.status.Status.TheVariants as status
-use Rattle.jc_work.specs.Step.{Word, World, Counts, Landed, IsRead}
-use Rattle.jc_work.specs.Part.{done}
-use Rattle.jc_work.specs.Ending.{Ends, NoneRose}
-use Rattle.jc_work.specs.Folders.{once}
-use Rattle.jc_work.specs.OneWay.{Work, IsWork}
+use Rattle.jc_command_work.specs.declared.status.Status.{Status}
+use Rattle.jc_command_work.specs.declared.status.Status.TheVariants as status
+use Rattle.jc_command_work.specs.Step.{Word, World, Counts, Landed, IsRead}
+use Rattle.jc_command_work.specs.Part.{done}
+use Rattle.jc_command_work.specs.Ending.{Ends, NoneRose}
+use Rattle.jc_command_work.specs.Folders.{once}
+use Rattle.jc_command_work.specs.OneWay.{Work, IsWork}
 use Rattle.jc_cover_work.specs.CoverWork.{Cover, LookedFile, AreLooked, accepted_texts, HaveEntries, cover_work}
 use Rattle.jc_cover_work.specs.CoverRun.{AreRead, CoverRun}
 use Rattle.jc_cover_work.specs.Headline.{NamesConstants, all_written, Headline}

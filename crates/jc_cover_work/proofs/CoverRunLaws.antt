@@ -7,12 +7,12 @@ use Rattle.jc_link.specs.Plans.{IsPlanText}
 use Rattle.jc_linking.specs.declared.link_refusal.LinkRefusal.{LinkRefusal}
 use Rattle.jc_linking.specs.declared.link_refusal.LinkRefusal.TheVariants as refusals
 use Rattle.jc_world.specs.CaseText.{case_texts}
-use Rattle.jc_work.specs.declared.status.Fault.{Fault}
-use Rattle.jc_work.specs.Step.{Word, World, Landed, Write, to_file, to_out, Step, Fit, after, after_write, IsRead}
-use Rattle.jc_work.specs.Part.{done, refused, stops, Command, ending, deciding, reading, writing, reading_all, ◌>>=◌, ◌>>◌}
-use Rattle.jc_work.specs.Ending.{CameTo}
-use Rattle.jc_work.specs.Folders.{files_of}
-use Rattle.jc_work.specs.Prefix.{after_writes}
+use Rattle.jc_command_work.specs.declared.status.Fault.{Fault}
+use Rattle.jc_command_work.specs.Step.{Word, World, Landed, Write, to_file, to_out, Step, Fit, after, after_write, IsRead}
+use Rattle.jc_command_work.specs.Part.{done, refused, stops, Command, ending, deciding, reading, writing, reading_all, ◌>>=◌, ◌>>◌}
+use Rattle.jc_command_work.specs.Ending.{CameTo}
+use Rattle.jc_command_work.specs.Folders.{files_of}
+use Rattle.jc_command_work.specs.Prefix.{after_writes}
 use Rattle.jc_run_work.specs.RunAnswers.{IsPlanEnd, IsRunProgram}
 use Rattle.jc_run_work.specs.RunStore.{run_store}
 use Rattle.jc_cover_work.specs.CoverWork.{Cover, LookedFile, all_file_writes, accepted, accepted_texts, texts_in, targets, EndsAmongAll, IsLinkEnd, HaveEntries, IsEntryEnd, IsReportText, IsClashEnd, instrumenting, running, cover_work}

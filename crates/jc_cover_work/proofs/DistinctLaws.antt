@@ -4,9 +4,9 @@ use Rattle.std.specs.List.{list_any}
 use Rattle.std.specs.Str.{bytes_eq}
 use Rattle.std.proofs.lemmas.List.{append_cancel_left}
 use Rattle.std.proofs.lemmas.Slice.Eq.{bytes_eq-Decides}
-use Rattle.jc_work.specs.Step.{Word}
+use Rattle.jc_command_work.specs.Step.{Word}
 use Rattle.jc_paths.specs.Paths.{ends_with_slash, in_folder}
-use Rattle.jc_work.specs.Folders.{once}
+use Rattle.jc_command_work.specs.Folders.{once}
 use Rattle.jc_cover_work.specs.CoverWork.{LookedFile, AreLooked, paths_in}
 use Rattle.jc_cover_work.specs.CoverRun.{IsNone, AreDistinct}
 

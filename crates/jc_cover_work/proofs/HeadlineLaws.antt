@@ -5,8 +5,8 @@ use Rattle.std.specs.List.{AllByRecursion}
 use Rattle.jc_outside.specs.Outside.{FileMap}
 use Rattle.jc_programs.specs.declared.program.Program.{Program}
 use Rattle.jc_report.specs.declared.row.Counted.{Counted}
-use Rattle.jc_work.specs.Step.{World, Landed}
-use Rattle.jc_work.proofs.Prefix.{done_means}
+use Rattle.jc_command_work.specs.Step.{World, Landed}
+use Rattle.jc_command_work.proofs.Prefix.{done_means}
 use Rattle.jc_class_commands.specs.Report.{changed_of, first_of_each_id}
 use Rattle.jc_class_commands.specs.ReportSteps.{counted_by}
 use Rattle.jc_class_commands.proofs.CountedLaws.{all_counted}

@@ -29,14 +29,14 @@ use Rattle.jc_link_laws.proofs.PlaceLaws.{class_at}
 use Rattle.jc_link_laws.proofs.SomeProgramLaws.{program_or_reason}
 use Rattle.jc_same_runs.specs.Frameless.{frameless}
 use Rattle.jc_world.specs.CaseText.{case_texts}
-use Rattle.jc_work.specs.declared.status.Fault.TheVariants as fault
-use Rattle.jc_work.specs.Step.{Word, Landed, IsFile, AreTexts, to_file, to_out}
-use Rattle.jc_work.specs.Part.{End, done, refused as refused_end, Outcome, wants, gives, stops, never, deciding, making, reading, writing, reading_all, writing_all, ◌>>=◌}
-use Rattle.jc_work.specs.Answered.{refusal_of}
-use Rattle.jc_work.specs.Folders.{files_of}
-use Rattle.jc_work.specs.OneWay.{IsOver, OneDecision, HasOne}
-use Rattle.jc_work.proofs.AnsweredLaws.{texts_read, has_files, all_files}
-use Rattle.jc_work.proofs.OneWork.{one_giving, one_ending, one_deciding, one_writing, one_reading, has_then, has_then_if, has_reading_all, has_writing_all}
+use Rattle.jc_command_work.specs.declared.status.Fault.TheVariants as fault
+use Rattle.jc_command_work.specs.Step.{Word, Landed, IsFile, AreTexts, to_file, to_out}
+use Rattle.jc_command_work.specs.Part.{End, done, refused as refused_end, Outcome, wants, gives, stops, never, deciding, making, reading, writing, reading_all, writing_all, ◌>>=◌}
+use Rattle.jc_command_work.specs.Answered.{refusal_of}
+use Rattle.jc_command_work.specs.Folders.{files_of}
+use Rattle.jc_command_work.specs.OneWay.{IsOver, OneDecision, HasOne}
+use Rattle.jc_command_work.proofs.AnsweredLaws.{texts_read, has_files, all_files}
+use Rattle.jc_command_work.proofs.OneWork.{one_giving, one_ending, one_deciding, one_writing, one_reading, has_then, has_then_if, has_reading_all, has_writing_all}
 use Rattle.jc_class_commands.specs.Instrument.{Decision, refused_file, accepted_file, IsDecision}
 use Rattle.jc_class_commands.specs.Report.{ReportedFile, AreItems, first_clash, changed_of, first_of_each_id, report_text}
 use Rattle.jc_class_commands.specs.ReportSteps.{counted_classes}

@@ -7,15 +7,15 @@ use Rattle.jc_link.specs.Plans.{IsPlanText}
 use Rattle.jc_linking.specs.declared.link_refusal.LinkRefusal.{LinkRefusal}
 use Rattle.jc_linking.specs.declared.link_refusal.LinkRefusal.TheVariants as refusals
 use Rattle.jc_world.specs.CaseText.{case_texts}
-use Rattle.jc_work.specs.declared.status.Fault.{Fault}
-use Rattle.jc_work.specs.Step.{Word, Write, to_file, to_out}
-use Rattle.jc_work.specs.Part.{End, done, refused, unread, Part, giving, deciding, making, never}
-use Rattle.jc_work.specs.Part.{reading, writing, reading_all, writing_all}
-use Rattle.jc_work.specs.Folders.{files_of}
-use Rattle.jc_work.specs.Causes.{IsOwnEnd, EndsIn, HasOwnEnds}
-use Rattle.jc_work.proofs.CauseLaws.{ends_then, ends_deciding, ends_ending, ends_reading_all, ends_writing_all}
-use Rattle.jc_work.proofs.FileLaws.{ends_files}
-use Rattle.jc_work.proofs.OneWork.{gives_or_stops}
+use Rattle.jc_command_work.specs.declared.status.Fault.{Fault}
+use Rattle.jc_command_work.specs.Step.{Word, Write, to_file, to_out}
+use Rattle.jc_command_work.specs.Part.{End, done, refused, unread, Part, giving, deciding, making, never}
+use Rattle.jc_command_work.specs.Part.{reading, writing, reading_all, writing_all}
+use Rattle.jc_command_work.specs.Folders.{files_of}
+use Rattle.jc_command_work.specs.Causes.{IsOwnEnd, EndsIn, HasOwnEnds}
+use Rattle.jc_command_work.proofs.CauseLaws.{ends_then, ends_deciding, ends_ending, ends_reading_all, ends_writing_all}
+use Rattle.jc_command_work.proofs.FileLaws.{ends_files}
+use Rattle.jc_command_work.proofs.OneWork.{gives_or_stops}
 use Rattle.jc_run_work.specs.RunAnswers.{IsPlanEnd, IsRunProgram}
 use Rattle.jc_run_work.specs.RunStore.{run_store}
 use Rattle.jc_cover_work.specs.CoverWork.{Cover, LookedFile, AreLooked, all_file_writes, accepted_texts, targets, EndsAmongAll, IsLinkEnd, HaveEntries, IsEntryEnd, IsReportText, IsClashEnd, instrumenting, running, cover_work}

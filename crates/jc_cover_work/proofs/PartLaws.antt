@@ -1,12 +1,12 @@
 -- What a part of `cover` did that is over, and parts that don't end a command as done.
 use Rattle.std.proofs.Common.{◌≡◌, ℕ, List, [], ◌∷◌, ◌++◌, inl, inr, refl, sym, ◌∙◌, ap, subst}
-use Rattle.jc_work.specs.Step.{Word, World, Landed, Write, to_read, to_list, to_write, Step, has_read, has_no, has_listed, has_written, Fit, after, after_write, IsRead}
-use Rattle.jc_work.specs.Part.{End, done, refused, misused, unread, unwritten, unprinted, Outcome, wants, gives, stops, Part, Command, giving, deciding, making, never, reading, listing, writing, reading_all, writing_all, Hands, ◌>>=◌}
+use Rattle.jc_command_work.specs.Step.{Word, World, Landed, Write, to_read, to_list, to_write, Step, has_read, has_no, has_listed, has_written, Fit, after, after_write, IsRead}
+use Rattle.jc_command_work.specs.Part.{End, done, refused, misused, unread, unwritten, unprinted, Outcome, wants, gives, stops, Part, Command, giving, deciding, making, never, reading, listing, writing, reading_all, writing_all, Hands, ◌>>=◌}
 use Rattle.jc_paths.specs.Paths.{FileText, plain, folder}
-use Rattle.jc_work.specs.Folders.{all_paths, paths_of, files_of, once}
-use Rattle.jc_work.specs.Prefix.{after_writes}
-use Rattle.jc_work.proofs.Behind.{after-append, fit_front, fit_behind}
-use Rattle.jc_work.proofs.OneWork.{same_value, not_gives}
+use Rattle.jc_command_work.specs.Folders.{all_paths, paths_of, files_of, once}
+use Rattle.jc_command_work.specs.Prefix.{after_writes}
+use Rattle.jc_command_work.proofs.Behind.{after-append, fit_front, fit_behind}
+use Rattle.jc_command_work.proofs.OneWork.{same_value, not_gives}
 use Rattle.jc_cover_work.specs.CoverWork.{LookedFile, AreLooked, instrumenting, all_file_writes}
 use Rattle.jc_cover_work.specs.CoverRun.{AreRead, AreDistinct}
 use Rattle.jc_cover_work.proofs.DistinctLaws.{distinct_once}

@@ -25,7 +25,7 @@ use Rattle.jc_simulation.proofs.BeginLaws.{entry_alike}
 use Rattle.jc_simulation.proofs.ProgramRunLaws.{have_marks, have_sides, runs_are_same}
 use Rattle.jc_same_runs.proofs.TextLaws.{same_texts}
 use Rattle.jc_paths.specs.Paths.{in_folder}
-use Rattle.jc_work.specs.Step.{Word, World, to_file, to_out, Told}
+use Rattle.jc_command_work.specs.Step.{Word, World, to_file, to_out, Told}
 use Rattle.jc_class_commands.specs.Instrument.{Decision, refused_file, accepted_file}
 use Rattle.jc_class_commands.specs.Report.{report_text}
 use Rattle.jc_run_work.specs.RunStore.{run_store, threads_of, first_without}

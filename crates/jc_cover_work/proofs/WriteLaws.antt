@@ -8,8 +8,8 @@ use Rattle.std.specs.Str.{bytes_eq}
 use Rattle.std.specs.FinMap.{get, insert, get-insert}
 use Rattle.jc_outside.specs.Outside.{FileMap}
 use Rattle.jc_paths.specs.Paths.{in_folder}
-use Rattle.jc_work.specs.Step.{Word, World, Landed, Write, to_file, to_out, to_err, after_write, grown}
-use Rattle.jc_work.specs.Prefix.{after_writes}
+use Rattle.jc_command_work.specs.Step.{Word, World, Landed, Write, to_file, to_out, to_err, after_write, grown}
+use Rattle.jc_command_work.specs.Prefix.{after_writes}
 use Rattle.jc_class_commands.specs.Instrument.{Decision, refused_file, accepted_file, file_writes}
 use Rattle.jc_cover_work.specs.CoverWork.{LookedFile, all_file_writes, accepted, kept_if, paths_in, targets}
 use Rattle.jc_cover_work.specs.CoverRun.{AreRead, IsNone, AreDistinct}

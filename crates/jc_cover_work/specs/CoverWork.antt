@@ -13,12 +13,12 @@ use Rattle.jc_linking.specs.Linking.{IsLinkRefusal}
 use Rattle.jc_linking.specs.declared.link_refusal.LinkRefusal.{LinkRefusal}
 use Rattle.jc_linking.specs.declared.link_refusal.LinkRefusal.TheVariants as refusals
 use Rattle.jc_world.specs.CaseText.{case_texts}
-use Rattle.jc_work.specs.declared.status.Fault.TheVariants as fault
-use Rattle.jc_work.specs.Step.{Word, Write, to_file, to_out}
-use Rattle.jc_work.specs.Part.{End, done, refused, Part, Command, giving, ending, deciding, making, ◌>>=◌, ◌>>◌}
-use Rattle.jc_work.specs.Part.{reading, writing, reading_all, writing_all}
-use Rattle.jc_work.specs.Answered.{refusal_of}
-use Rattle.jc_work.specs.Folders.{files_of}
+use Rattle.jc_command_work.specs.declared.status.Fault.TheVariants as fault
+use Rattle.jc_command_work.specs.Step.{Word, Write, to_file, to_out}
+use Rattle.jc_command_work.specs.Part.{End, done, refused, Part, Command, giving, ending, deciding, making, ◌>>=◌, ◌>>◌}
+use Rattle.jc_command_work.specs.Part.{reading, writing, reading_all, writing_all}
+use Rattle.jc_command_work.specs.Answered.{refusal_of}
+use Rattle.jc_command_work.specs.Folders.{files_of}
 use Rattle.jc_class_commands.specs.Instrument.{Decision, refused_file, accepted_file, IsDecision, file_writes}
 use Rattle.jc_class_commands.specs.Report.{ReportedFile, AreItems, first_clash, AreCountedItems, report_text}
 use Rattle.jc_class_commands.specs.ReportSteps.{FrontClashes}

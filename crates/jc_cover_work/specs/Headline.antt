@@ -45,10 +45,10 @@ use Rattle.jc_simulation.specs.Laws.{kept_of}
 use Rattle.jc_exact.specs.Reported.{IsReported}
 use Rattle.jc_linking.specs.Linking.{IsProgramOf}
 use Rattle.jc_link_laws.specs.TwinFiles.{HasConstants}
-use Rattle.jc_work.specs.declared.status.Status.TheVariants as status
-use Rattle.jc_work.specs.Ending.{Ends}
-use Rattle.jc_work.specs.OneWay.{IsTold}
-use Rattle.jc_work.specs.Step.{Word, World, Counts, Landed, Write, to_file, to_out, to_err, Told}
+use Rattle.jc_command_work.specs.declared.status.Status.TheVariants as status
+use Rattle.jc_command_work.specs.Ending.{Ends}
+use Rattle.jc_command_work.specs.OneWay.{IsTold}
+use Rattle.jc_command_work.specs.Step.{Word, World, Counts, Landed, Write, to_file, to_out, to_err, Told}
 use Rattle.jc_class_commands.specs.Instrument.{Decision, refused_file, accepted_file}
 use Rattle.jc_class_commands.specs.Report.{report_text}
 use Rattle.jc_run_work.specs.RunStore.{hit_record, run_store}

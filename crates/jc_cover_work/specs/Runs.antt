@@ -3,11 +3,11 @@ use Rattle.std.specs.Prelude.{◌≡◌, ℕ, Option}
 use Rattle.jc_outside.specs.Outside.{FileMap}
 use Rattle.jc_outside.specs.declared.files.Files.{Ghosts as OfFiles}
 use Rattle.jc_outside.specs.declared.sink.Sink.{Ghosts as OfSink}
-use Rattle.jc_work.specs.declared.status.Status.{Status}
-use Rattle.jc_work.specs.Step.{World, world, Counts, counts, Landed, after}
-use Rattle.jc_work.specs.Part.{status_of, message_of, Command}
-use Rattle.jc_work.specs.Ending.{SaysLast, Ends}
-use Rattle.jc_work.specs.OneWay.{IsTold, Work, IsWork}
+use Rattle.jc_command_work.specs.declared.status.Status.{Status}
+use Rattle.jc_command_work.specs.Step.{World, world, Counts, counts, Landed, after}
+use Rattle.jc_command_work.specs.Part.{status_of, message_of, Command}
+use Rattle.jc_command_work.specs.Ending.{SaysLast, Ends}
+use Rattle.jc_command_work.specs.OneWay.{IsTold, Work, IsWork}
 
 -- ---- what a function is handed
 

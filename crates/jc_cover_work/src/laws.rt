@@ -1,11 +1,11 @@
 //! Laws of the work of `cover`.
 ghost use Rattle.std.specs.Prelude.{◌≡◌, ◌≢◌, ℕ, List};
-ghost use Rattle.jc_work.specs.Step.{World, Counts, Landed};
-ghost use Rattle.jc_work.specs.Ending.{Ends, NoneRose};
-ghost use Rattle.jc_work.specs.Prefix.{LeavesFront};
-ghost use Rattle.jc_work.specs.Causes.{HasOwnEnds};
-ghost use Rattle.jc_work.specs.OneWay.{IsTold, Work, IsWork, writes_of};
-ghost use Rattle.jc_work.specs.declared.status.Status.TheVariants as status;
+ghost use Rattle.jc_command_work.specs.Step.{World, Counts, Landed};
+ghost use Rattle.jc_command_work.specs.Ending.{Ends, NoneRose};
+ghost use Rattle.jc_command_work.specs.Prefix.{LeavesFront};
+ghost use Rattle.jc_command_work.specs.Causes.{HasOwnEnds};
+ghost use Rattle.jc_command_work.specs.OneWay.{IsTold, Work, IsWork, writes_of};
+ghost use Rattle.jc_command_work.specs.declared.status.Status.TheVariants as status;
 ghost use Rattle.jc_cover_work.specs.CoverWork.{Cover, cover_work};
 ghost use Rattle.jc_cover_work.specs.CoverRun.{CoverRun};
 ghost use Rattle.jc_cover_work.specs.Headline.{HeadlineOf};

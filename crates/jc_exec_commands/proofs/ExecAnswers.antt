@@ -3,15 +3,15 @@ use Rattle.std.proofs.Common.{◌≡◌, ◌⊎◌, inl, inr, ⊎_elim, ℕ, Lis
 use Rattle.jc_exec.specs.declared.refusal.ExecRefusal.{ExecRefusal}
 use Rattle.jc_exec.specs.Store.{Store}
 use Rattle.jc_exec.specs.Writing.{exec_text}
-use Rattle.jc_work.specs.declared.status.Fault.TheVariants as fault
-use Rattle.jc_work.specs.Step.{Word, AreTexts, to_file, to_out}
-use Rattle.jc_work.specs.Part.{End, gives, stops}
-use Rattle.jc_work.specs.OneWay.{IsOver}
-use Rattle.jc_work.specs.Answered.{Answer, refusing, OneAnswer, HasOneAnswer}
-use Rattle.jc_work.specs.Causes.{IsRefusal}
-use Rattle.jc_work.proofs.AnsweredLaws.{as_many_texts}
-use Rattle.jc_work.proofs.CauseLaws.{is_refusal}
-use Rattle.jc_work.proofs.OneWork.{gives_or_stops}
+use Rattle.jc_command_work.specs.declared.status.Fault.TheVariants as fault
+use Rattle.jc_command_work.specs.Step.{Word, AreTexts, to_file, to_out}
+use Rattle.jc_command_work.specs.Part.{End, gives, stops}
+use Rattle.jc_command_work.specs.OneWay.{IsOver}
+use Rattle.jc_command_work.specs.Answered.{Answer, refusing, OneAnswer, HasOneAnswer}
+use Rattle.jc_command_work.specs.Causes.{IsRefusal}
+use Rattle.jc_command_work.proofs.AnsweredLaws.{as_many_texts}
+use Rattle.jc_command_work.proofs.CauseLaws.{is_refusal}
+use Rattle.jc_command_work.proofs.OneWork.{gives_or_stops}
 use Rattle.jc_exec_commands.specs.ExecData.{IsUnionOf, IsFirstRefused, IsFirstRefusedAlone}
 use Rattle.jc_exec_commands.specs.ExecInfo.{AreInfo, InfoAnswers, informed, exec_info_refused}
 use Rattle.jc_exec_commands.specs.Merge.{MergeAnswers, merged, merge_refused}

@@ -17,7 +17,7 @@ use Rattle.jc_exec.proofs.RefusingLaws.{one_reason, not_both}
 use Rattle.jc_exec.proofs.StoringLaws.{own_union, union_append, union_over}
 use Rattle.jc_exec.proofs.UnionLaws.{one_union, union_none}
 use Rattle.jc_exec_commands.specs.ExecData.{BlocksOfAll, IsUnionOf, no_data, IsInput, IsFirstRefused, IsFirstRefusedAlone}
-use Rattle.jc_work.specs.Step.{Word}
+use Rattle.jc_command_work.specs.Step.{Word}
 
 -- ---- the blocks of several texts
 

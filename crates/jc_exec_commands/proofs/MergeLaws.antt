@@ -9,19 +9,19 @@ use Rattle.jc_exec.specs.Answers.{Refuses}
 use Rattle.jc_exec.specs.Store.{Store}
 use Rattle.jc_exec.specs.Union.{IsUnion, ReadsOn}
 use Rattle.jc_exec.specs.Writing.{exec_text}
-use Rattle.jc_work.specs.declared.output.Write.{Write as Written}
-use Rattle.jc_work.specs.declared.output.Write.TheVariants as written
-use Rattle.jc_work.specs.Part.{gives}
-use Rattle.jc_work.specs.declared.stop.Stop.{Stop}
-use Rattle.jc_work.specs.declared.stop.Stop.TheVariants as stops
+use Rattle.jc_command_work.specs.declared.output.Write.{Write as Written}
+use Rattle.jc_command_work.specs.declared.output.Write.TheVariants as written
+use Rattle.jc_command_work.specs.Part.{gives}
+use Rattle.jc_command_work.specs.declared.stop.Stop.{Stop}
+use Rattle.jc_command_work.specs.declared.stop.Stop.TheVariants as stops
 use Rattle.jc_exec_commands.specs.ExecData.{IsUnionOf, IsInput}
-use Rattle.jc_work.specs.Seen.{write_seen}
-use Rattle.jc_work.specs.Step.{Word}
-use Rattle.jc_work.specs.Seen.{texts_of}
-use Rattle.jc_work.specs.Step.{Write, to_file}
+use Rattle.jc_command_work.specs.Seen.{write_seen}
+use Rattle.jc_command_work.specs.Step.{Word}
+use Rattle.jc_command_work.specs.Seen.{texts_of}
+use Rattle.jc_command_work.specs.Step.{Write, to_file}
 use Rattle.jc_exec_commands.specs.Merge.{MergeAnswers, merged, merge_refused}
-use Rattle.jc_work.specs.Answered.{AnswersWith}
-use Rattle.jc_work.specs.Stopping.{exec_stop}
+use Rattle.jc_command_work.specs.Answered.{AnswersWith}
+use Rattle.jc_command_work.specs.Stopping.{exec_stop}
 use Rattle.jc_exec_commands.proofs.ExecDataLaws.{union_more}
 
 pub merge_start : (texts : List (List ℕ)) (store : Store) → IsUnion [] store → IsUnionOf (take 0 texts) store

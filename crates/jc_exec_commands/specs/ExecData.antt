@@ -7,7 +7,7 @@ use Rattle.jc_exec.specs.Format.{Block, Blocks}
 use Rattle.jc_exec.specs.Refusing.{FirstRefusal}
 use Rattle.jc_exec.specs.Store.{Store}
 use Rattle.jc_exec.specs.Union.{IsUnion}
-use Rattle.jc_work.specs.Step.{Word}
+use Rattle.jc_command_work.specs.Step.{Word}
 
 -- the blocks of the texts, those of each text behind those of the texts before
 abbrev pub BlocksOfAll : List (List ℕ) → List Block → Type 0

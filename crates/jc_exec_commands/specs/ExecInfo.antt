@@ -5,13 +5,13 @@ use Rattle.jc_exec.specs.declared.hits.ClassHits.{ClassHits}
 use Rattle.jc_exec.specs.declared.session.Session.{Session}
 use Rattle.jc_exec.specs.declared.refusal.ExecRefusal.{ExecRefusal}
 use Rattle.jc_exec.specs.Store.{Store}
-use Rattle.jc_work.specs.declared.status.Fault.TheVariants as fault
-use Rattle.jc_work.specs.Step.{to_out}
-use Rattle.jc_work.specs.Part.{gives}
-use Rattle.jc_work.specs.Answered.{Answer, refusing}
+use Rattle.jc_command_work.specs.declared.status.Fault.TheVariants as fault
+use Rattle.jc_command_work.specs.Step.{to_out}
+use Rattle.jc_command_work.specs.Part.{gives}
+use Rattle.jc_command_work.specs.Answered.{Answer, refusing}
 use Rattle.jc_exec_commands.specs.ExecData.{IsUnionOf, IsFirstRefusedAlone}
-use Rattle.jc_work.specs.Texts.{hex_text}
-use Rattle.jc_work.specs.Step.{Word}
+use Rattle.jc_command_work.specs.Texts.{hex_text}
+use Rattle.jc_command_work.specs.Step.{Word}
 
 abbrev pub file_line : Word → List ℕ
 file_line path = codes "file " ++ (path ++ codes "\n")

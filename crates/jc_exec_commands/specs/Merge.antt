@@ -3,10 +3,10 @@ use Rattle.std.specs.Prelude.{ℕ, List, [], ◌∷◌}
 use Rattle.jc_exec.specs.declared.refusal.ExecRefusal.{ExecRefusal}
 use Rattle.jc_exec.specs.Store.{Store}
 use Rattle.jc_exec.specs.Writing.{exec_text}
-use Rattle.jc_work.specs.declared.status.Fault.TheVariants as fault
-use Rattle.jc_work.specs.Step.{Word, to_file}
-use Rattle.jc_work.specs.Part.{gives}
-use Rattle.jc_work.specs.Answered.{Answer, refusing}
+use Rattle.jc_command_work.specs.declared.status.Fault.TheVariants as fault
+use Rattle.jc_command_work.specs.Step.{Word, to_file}
+use Rattle.jc_command_work.specs.Part.{gives}
+use Rattle.jc_command_work.specs.Answered.{Answer, refusing}
 use Rattle.jc_exec_commands.specs.ExecData.{IsUnionOf, IsFirstRefused}
 
 -- the union of the inputs is written, or the first of them that is refused is named

@@ -5,14 +5,14 @@ ghost use Rattle.jc_base.specs.Reader.{most_read};
 ghost use Rattle.jc_exec.specs.Answers.{Refuses};
 ghost use Rattle.jc_exec_commands.specs.ExecData.{IsUnionOf, no_data};
 ghost use Rattle.jc_exec_commands.specs.ExecInfo.{file_line, times_text, session_line, hits_text, record_start, record_line, file_lines, InfoAnswers};
-ghost use Rattle.jc_work.specs.Seen.{Prints};
-ghost use Rattle.jc_work.specs.Seen.{texts_of};
-ghost use Rattle.jc_work.specs.Answered.{AnswersWith, Prepares};
-ghost use Rattle.jc_work.specs.Handed.{BetweenFiles};
+ghost use Rattle.jc_command_work.specs.Seen.{Prints};
+ghost use Rattle.jc_command_work.specs.Seen.{texts_of};
+ghost use Rattle.jc_command_work.specs.Answered.{AnswersWith, Prepares};
+ghost use Rattle.jc_command_work.specs.Handed.{BetweenFiles};
 
 use jc_base::{Bytes, Fail, Files, Memory};
+use jc_command_work::{Stop, Write, exec_stop, keep, read_all};
 use jc_exec::{ClassHits, ExecRefusal, ExecStore, Session};
-use jc_work::{Stop, Write, exec_stop, keep, read_all};
 use std::alloc::{AllocError, Global};
 
 fn file_line(alloc: Global, file: &str) -> Result<Vec<u8>, AllocError>

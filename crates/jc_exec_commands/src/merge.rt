@@ -2,15 +2,15 @@
 ghost use Rattle.std.specs.Prelude.{◌≡◌, ◌≤◌, ◌<◌, ◌^◌, [], ◌∷◌, All, length, Err, IfOk, IfErr};
 ghost use Rattle.jc_base.specs.Reader.{most_read};
 ghost use Rattle.jc_exec_commands.specs.ExecData.{IsUnionOf};
-ghost use Rattle.jc_work.specs.Step.{Word};
-ghost use Rattle.jc_work.specs.Seen.{texts_of};
-ghost use Rattle.jc_work.specs.Answered.{AnswersWith, Prepares};
-ghost use Rattle.jc_work.specs.Handed.{BetweenFiles};
+ghost use Rattle.jc_command_work.specs.Step.{Word};
+ghost use Rattle.jc_command_work.specs.Seen.{texts_of};
+ghost use Rattle.jc_command_work.specs.Answered.{AnswersWith, Prepares};
+ghost use Rattle.jc_command_work.specs.Handed.{BetweenFiles};
 ghost use Rattle.jc_exec_commands.specs.Merge.{MergeAnswers};
 
 use jc_base::{Bytes, Files};
+use jc_command_work::{Stop, Write, exec_stop, read_all};
 use jc_exec::ExecStore;
-use jc_work::{Stop, Write, exec_stop, read_all};
 use std::alloc::Global;
 
 /// The union of the execution data in the texts of the inputs, in order.

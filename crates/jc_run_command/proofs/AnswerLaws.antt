@@ -15,11 +15,11 @@ use Rattle.jc_programs.specs.declared.program.ProbeInit.{ProbeInit}
 use Rattle.jc_programs.specs.declared.run_plan.RunPlan.{RunPlan}
 use Rattle.jc_programs.specs.declared.run_plan.ThreadLine.{ThreadLine}
 use Rattle.jc_same_runs.specs.Frameless.{frameless}
-use Rattle.jc_work.specs.declared.status.Fault.TheVariants as fault
-use Rattle.jc_work.specs.Step.{Word, AreTexts}
-use Rattle.jc_work.specs.Part.{End, stops}
-use Rattle.jc_work.specs.Answered.{Answer, HasOneAnswer, refusal_of}
-use Rattle.jc_work.specs.OneWay.{IsOver}
+use Rattle.jc_command_work.specs.declared.status.Fault.TheVariants as fault
+use Rattle.jc_command_work.specs.Step.{Word, AreTexts}
+use Rattle.jc_command_work.specs.Part.{End, stops}
+use Rattle.jc_command_work.specs.Answered.{Answer, HasOneAnswer, refusal_of}
+use Rattle.jc_command_work.specs.OneWay.{IsOver}
 use Rattle.jc_run_work.specs.RunAnswers.{path_at, EndsAs, run_answer, RunsFiles, RunAnswers}
 use Rattle.jc_run_work.specs.RunStore.{threads_of, first_without}
 use Rattle.jc_run_work.proofs.RunLaws.{OnePlan, one_run}

@@ -15,13 +15,13 @@ use Rattle.jc_programs.specs.declared.run_plan.RunPlan.{RunPlan}
 use Rattle.jc_programs.specs.declared.run_plan.ThreadLine.{ThreadLine}
 use Rattle.jc_same_runs.specs.Frameless.{frameless}
 use Rattle.jc_same_runs.proofs.TextLaws.{same_texts}
-use Rattle.jc_work.specs.declared.output.Write.{Write as Written}
-use Rattle.jc_work.specs.declared.stop.Stop.{Stop}
-use Rattle.jc_work.specs.Step.{Word, AreTexts, to_file, to_out}
-use Rattle.jc_work.specs.Part.{End, gives}
-use Rattle.jc_work.specs.Answered.{Answer, EndsSo, AnswersWith}
-use Rattle.jc_work.specs.Seen.{texts_of, stop_seen}
-use Rattle.jc_work.proofs.AnsweredLaws.{as_many_texts}
+use Rattle.jc_command_work.specs.declared.output.Write.{Write as Written}
+use Rattle.jc_command_work.specs.declared.stop.Stop.{Stop}
+use Rattle.jc_command_work.specs.Step.{Word, AreTexts, to_file, to_out}
+use Rattle.jc_command_work.specs.Part.{End, gives}
+use Rattle.jc_command_work.specs.Answered.{Answer, EndsSo, AnswersWith}
+use Rattle.jc_command_work.specs.Seen.{texts_of, stop_seen}
+use Rattle.jc_command_work.proofs.AnsweredLaws.{as_many_texts}
 use Rattle.jc_run_work.specs.RunAnswers.{run_answer, RunsFiles}
 use Rattle.jc_run_work.specs.RunStore.{threads_of, first_without}
 use Rattle.jc_run_work.proofs.StoreLaws.{same_store, same_without}

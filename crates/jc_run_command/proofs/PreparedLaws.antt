@@ -2,14 +2,14 @@
 use Rattle.std.proofs.Common.{◌≡◌, inl, List, [], ℕ, map, length, None, Option, Result, Vec, String, string_bytes, Bor, refl, sym, ◌∙◌, ap, subst}
 use Rattle.std.specs.declared.alloc.Global.{Global}
 use Rattle.std.proofs.lemmas.List.{length-map}
-use Rattle.jc_work.specs.declared.output.Write.{Write as Written}
-use Rattle.jc_work.specs.declared.stop.Stop.{Stop}
-use Rattle.jc_work.specs.Step.{Word, World, Counts, Landed, AreTexts}
-use Rattle.jc_work.specs.Part.{End, gives, Part, reading_all}
-use Rattle.jc_work.specs.Ending.{CameTo, Stops, Does}
-use Rattle.jc_work.specs.Answered.{Answer, AnswersWith, preparing}
-use Rattle.jc_work.specs.Seen.{words_of, texts_of, write_seen, stop_seen}
-use Rattle.jc_work.proofs.AnsweredLaws.{texts_read, prepared, unprepared}
+use Rattle.jc_command_work.specs.declared.output.Write.{Write as Written}
+use Rattle.jc_command_work.specs.declared.stop.Stop.{Stop}
+use Rattle.jc_command_work.specs.Step.{Word, World, Counts, Landed, AreTexts}
+use Rattle.jc_command_work.specs.Part.{End, gives, Part, reading_all}
+use Rattle.jc_command_work.specs.Ending.{CameTo, Stops, Does}
+use Rattle.jc_command_work.specs.Answered.{Answer, AnswersWith, preparing}
+use Rattle.jc_command_work.specs.Seen.{words_of, texts_of, write_seen, stop_seen}
+use Rattle.jc_command_work.proofs.AnsweredLaws.{texts_read, prepared, unprepared}
 
 -- as many texts as words
 pub as_many_words : (texts : List (Bor (List ℕ))) (words : List (String Global)) → texts_of texts ≡ words_of words → length texts ≡ length words

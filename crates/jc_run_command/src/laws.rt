@@ -1,7 +1,7 @@
 //! A law of the work of `run`.
 ghost use Rattle.std.specs.Prelude.{ℕ, List, ◌∷◌};
-ghost use Rattle.jc_work.specs.Step.{Word};
-ghost use Rattle.jc_work.specs.Answered.{HasOneAnswer};
+ghost use Rattle.jc_command_work.specs.Step.{Word};
+ghost use Rattle.jc_command_work.specs.Answered.{HasOneAnswer};
 ghost use Rattle.jc_run_work.specs.RunAnswers.{RunAnswers};
 
 use jc_link::each_text_is_a_plan_or_has_a_first_unfit_line;

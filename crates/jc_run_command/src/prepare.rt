@@ -3,13 +3,13 @@ ghost use Rattle.std.specs.Prelude.{◌<◌, ◌≤◌, ◌^◌, ◌∷◌, leng
 ghost use Rattle.jc_bytes.specs.Reader.{most_read};
 ghost use Rattle.jc_run_command.specs.Handed.{BetweenFiles};
 ghost use Rattle.jc_run_work.specs.RunAnswers.{RunAnswers};
-ghost use Rattle.jc_work.specs.Answered.{Prepares};
-ghost use Rattle.jc_work.specs.Seen.{words_of};
+ghost use Rattle.jc_command_work.specs.Answered.{Prepares};
+ghost use Rattle.jc_command_work.specs.Seen.{words_of};
 
 use crate::answer::decided;
 use jc_bytes::Bytes;
+use jc_command_work::{Stop, Write, as_texts, read_all};
 use jc_outside::Files;
-use jc_work::{Stop, Write, as_texts, read_all};
 use jc_workers::Gate;
 use std::alloc::Global;
 use std::marker::Sync;

@@ -11,9 +11,9 @@ use Rattle.jc_linking.specs.Linking.{IsLinkedClass, AreLinkedClasses, IsProgramO
 use Rattle.jc_linking.specs.Pairs.{HaveOne}
 use Rattle.jc_linking.proofs.LinkingLaws.{linked_count}
 use Rattle.jc_run_work.specs.RunAnswers.{path_at, HasName, HasId}
-use Rattle.jc_work.specs.Part.{End}
+use Rattle.jc_command_work.specs.Part.{End}
 use Rattle.jc_run_parts.specs.Clash.{StopsAs, LinkStops}
-use Rattle.jc_work.specs.Seen.{texts_of}
+use Rattle.jc_command_work.specs.Seen.{texts_of}
 
 -- ---- indices
 

@@ -6,7 +6,7 @@ use Rattle.jc_bytes.specs.declared.fail.Fail.TheVariants as fails
 use Rattle.jc_bytes.specs.Failing.{Said}
 use Rattle.jc_link.specs.Plans.{FirstUnfit}
 use Rattle.jc_link.specs.declared.plan_refusal.PlanRefusal.{PlanRefusal}
-use Rattle.jc_work.specs.Seen.{stop_seen}
+use Rattle.jc_command_work.specs.Seen.{stop_seen}
 use Rattle.jc_run_parts.specs.PlanStops.{plan_stop, PlanStops}
 
 -- what stops the command is the first line that doesn't fit

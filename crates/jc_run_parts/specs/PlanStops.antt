@@ -4,11 +4,11 @@ use Rattle.std.specs.Borrow.{Bor}
 use Rattle.jc_bytes.specs.declared.fail.Fail.{Fail}
 use Rattle.jc_bytes.specs.declared.fail.Fail.TheVariants as fails
 use Rattle.jc_link.specs.declared.plan_refusal.PlanRefusal.{PlanRefusal}
-use Rattle.jc_work.specs.declared.status.Fault.TheVariants as faults
-use Rattle.jc_work.specs.declared.stop.Stop.{Stop}
-use Rattle.jc_work.specs.declared.stop.Stop.TheVariants as stops
-use Rattle.jc_work.specs.Step.{Word}
-use Rattle.jc_work.specs.Part.{End}
+use Rattle.jc_command_work.specs.declared.status.Fault.TheVariants as faults
+use Rattle.jc_command_work.specs.declared.stop.Stop.{Stop}
+use Rattle.jc_command_work.specs.declared.stop.Stop.TheVariants as stops
+use Rattle.jc_command_work.specs.Step.{Word}
+use Rattle.jc_command_work.specs.Part.{End}
 use Rattle.jc_run_work.specs.RunAnswers.{IsPlanEnd}
 
 abbrev pub plan_stop : Fail PlanRefusal → Bor (List ℕ) → Stop

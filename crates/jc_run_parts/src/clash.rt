@@ -5,12 +5,12 @@ ghost use Rattle.jc_bytes.specs.Reader.{most_read};
 ghost use Rattle.jc_linking.specs.Linking.{IsProgramOf, IsLinkRefusal};
 ghost use Rattle.jc_run_work.specs.PairTexts.{pair_start, same_name_text, same_id_text};
 ghost use Rattle.jc_run_parts.specs.Clash.{StopsAs, LinkStops, id_end};
-ghost use Rattle.jc_work.specs.Seen.{texts_of, stop_seen};
+ghost use Rattle.jc_command_work.specs.Seen.{texts_of, stop_seen};
 
 use jc_bytes::{Bytes, Fail, Memory};
+use jc_command_work::{Fault, Stop, class_stop};
 use jc_linking::{LinkRefusal, link};
 use jc_programs::Program;
-use jc_work::{Fault, Stop, class_stop};
 use std::alloc::{AllocError, Global};
 
 /// Two paths in front of what their files have in common.

@@ -1,7 +1,7 @@
 -- One decision behind the other has one answer, where each has one.
 use Rattle.std.proofs.Common.{◌≡◌, ◌⊎◌, List, inl, inr, refl, sym, ◌∙◌, ap, subst}
-use Rattle.jc_work.specs.Part.{End, gives, stops}
-use Rattle.jc_work.specs.Answered.{Answer}
+use Rattle.jc_command_work.specs.Part.{End, gives, stops}
+use Rattle.jc_command_work.specs.Answered.{Answer}
 use Rattle.jc_run_work.specs.RunAnswers.{Chooses}
 
 -- what is so is one thing, the end is one, and both are never so

@@ -10,10 +10,10 @@ use Rattle.jc_linking.specs.declared.link_refusal.LinkRefusal.TheVariants as ref
 use Rattle.jc_linking.specs.Linking.{IsLinkedClass, IsProgramOf, IsLinkRefusal}
 use Rattle.jc_linking.proofs.OneRefusalLaws.{one_refusal, program_or_refusal, same_program}
 use Rattle.jc_linking.proofs.SameLinkedLaws.{same_linked}
-use Rattle.jc_work.specs.declared.status.Fault.TheVariants as fault
-use Rattle.jc_work.specs.Step.{Word}
-use Rattle.jc_work.specs.Part.{End, refused}
-use Rattle.jc_work.specs.Answered.{Answer, refusal_of}
+use Rattle.jc_command_work.specs.declared.status.Fault.TheVariants as fault
+use Rattle.jc_command_work.specs.Step.{Word}
+use Rattle.jc_command_work.specs.Part.{End, refused}
+use Rattle.jc_command_work.specs.Answered.{Answer, refusal_of}
 use Rattle.jc_run_work.specs.PairTexts.{same_name_text, same_id_text}
 use Rattle.jc_run_work.specs.RunAnswers.{path_at, HasName, HasId, IsPlanEnd, IsRunProgram, EndsAs, IsLinkEnd, RunsFiles, RunAnswers}
 use Rattle.jc_run_work.specs.RunStore.{threads_of, first_without}

@@ -1,7 +1,7 @@
 -- The lines of two files that don't go together.
 use Rattle.std.specs.Prelude.{ℕ, List, ◌++◌, codes}
-use Rattle.jc_work.specs.Step.{Word}
-use Rattle.jc_work.specs.Texts.{hex_text}
+use Rattle.jc_command_work.specs.Step.{Word}
+use Rattle.jc_command_work.specs.Texts.{hex_text}
 
 abbrev pub pair_start : Word → Word → List ℕ
 pair_start first second = first ++ (codes ", " ++ (second ++ codes ": one class "))

@@ -12,10 +12,10 @@ use Rattle.jc_linking.specs.declared.link_refusal.LinkRefusal.{LinkRefusal}
 use Rattle.jc_linking.specs.declared.link_refusal.LinkRefusal.TheVariants as refusals
 use Rattle.jc_linking.specs.Linking.{IsLinkedClass, IsProgramOf, IsLinkRefusal}
 use Rattle.jc_world.specs.CaseText.{case_texts}
-use Rattle.jc_work.specs.declared.status.Fault.TheVariants as fault
-use Rattle.jc_work.specs.Step.{Word, to_file, to_out}
-use Rattle.jc_work.specs.Part.{End, gives, stops, refused}
-use Rattle.jc_work.specs.Answered.{Answer, refusal_of, refusing}
+use Rattle.jc_command_work.specs.declared.status.Fault.TheVariants as fault
+use Rattle.jc_command_work.specs.Step.{Word, to_file, to_out}
+use Rattle.jc_command_work.specs.Part.{End, gives, stops, refused}
+use Rattle.jc_command_work.specs.Answered.{Answer, refusal_of, refusing}
 use Rattle.jc_same_runs.specs.Frameless.{frameless}
 use Rattle.jc_run_work.specs.RunStore.{threads_of, first_without, run_store}
 use Rattle.jc_run_work.specs.PairTexts.{same_name_text, same_id_text}

@@ -3,15 +3,15 @@ use Rattle.std.proofs.Common.{◌≡◌, ℕ, ◌-◌, ◌≤◌, true, not, nat
 use Rattle.std.proofs.lemmas.Bool.{and_parts}
 use Rattle.std.proofs.lemmas.Bool.Decides.{nat_tests}
 use Rattle.std.specs.List.{fold, list_all}
-use Rattle.jc_words.specs.Words.{Word}
-use Rattle.jc_words.specs.Numbers.{is_digit, is_decimal, one_more_digit, decimal_value, IsNumber}
-use Rattle.jc_words.specs.Forms.{Call}
-use Rattle.jc_words.specs.Commands.{Called, instrument, run, merge, report, exec_info, class_info, cover, cover_sample, IsWorkers, IsCallOf, Means, by_call, by_sample}
+use Rattle.jc_command_words.specs.Words.{Word}
+use Rattle.jc_command_words.specs.Numbers.{is_digit, is_decimal, one_more_digit, decimal_value, IsNumber}
+use Rattle.jc_command_words.specs.Forms.{Call}
+use Rattle.jc_command_words.specs.Commands.{Called, instrument, run, merge, report, exec_info, class_info, cover, cover_sample, IsWorkers, IsCallOf, Means, by_call, by_sample}
 use Rattle.jc_bytes.specs.declared.fail.Fail.{Fail}
-use Rattle.jc_words.specs.declared.command.Command.{Command}
-use Rattle.jc_words.specs.declared.read.Usage.{Usage}
-use Rattle.jc_words.specs.Outcome.{CommandRead}
-use Rattle.jc_words.specs.Seen.{command_seen}
+use Rattle.jc_command_words.specs.declared.command.Command.{Command}
+use Rattle.jc_command_words.specs.declared.read.Usage.{Usage}
+use Rattle.jc_command_words.specs.Outcome.{CommandRead}
+use Rattle.jc_command_words.specs.Seen.{command_seen}
 use Rattle.jc_top.specs.Bounds.{IsBounded}
 
 grows : (n : ℕ) (bytes : Word) → n ≤ fold one_more_digit n bytes

@@ -2,20 +2,20 @@
 use Rattle.std.proofs.Common.{◌≡◌, ◌⊎◌, ℕ, List, [], map, Option, Some, Result, Ok, Err, Vec, inl, inr, refl, subst}
 use Rattle.std.specs.declared.alloc.Global.{Global}
 use Rattle.jc_paths.specs.Paths.{FileText}
-use Rattle.jc_words.specs.Commands.{Called, Means, NoForm}
-use Rattle.jc_work.specs.declared.output.Write.{Write as Written}
-use Rattle.jc_work.specs.declared.status.Status.{Status}
-use Rattle.jc_work.specs.declared.status.Status.TheVariants as status
-use Rattle.jc_work.specs.declared.stop.Stop.{Stop}
-use Rattle.jc_work.specs.Step.{Word, World, Counts, Landed}
-use Rattle.jc_work.specs.Part.{End, done, misused, gives, stops, Part, Command, deciding, ending, writing_all, ◌>>=◌}
-use Rattle.jc_work.specs.Ending.{CameTo, Began, BrokeOff, Stops, Does, Reports, Ends}
-use Rattle.jc_work.specs.Folders.{files_of}
-use Rattle.jc_work.specs.Answered.{Answer, preparing, making_all, answered}
-use Rattle.jc_work.specs.Seen.{write_seen, stop_seen}
-use Rattle.jc_work.proofs.Behind.{came_then, began_then, broke_then, stops_first}
-use Rattle.jc_work.proofs.Ends.{ends_done, ends_stopped}
-use Rattle.jc_work.proofs.Reaching.{reached_start, ran_last, was_decided, was_ended}
+use Rattle.jc_command_words.specs.Commands.{Called, Means, NoForm}
+use Rattle.jc_command_work.specs.declared.output.Write.{Write as Written}
+use Rattle.jc_command_work.specs.declared.status.Status.{Status}
+use Rattle.jc_command_work.specs.declared.status.Status.TheVariants as status
+use Rattle.jc_command_work.specs.declared.stop.Stop.{Stop}
+use Rattle.jc_command_work.specs.Step.{Word, World, Counts, Landed}
+use Rattle.jc_command_work.specs.Part.{End, done, misused, gives, stops, Part, Command, deciding, ending, writing_all, ◌>>=◌}
+use Rattle.jc_command_work.specs.Ending.{CameTo, Began, BrokeOff, Stops, Does, Reports, Ends}
+use Rattle.jc_command_work.specs.Folders.{files_of}
+use Rattle.jc_command_work.specs.Answered.{Answer, preparing, making_all, answered}
+use Rattle.jc_command_work.specs.Seen.{write_seen, stop_seen}
+use Rattle.jc_command_work.proofs.Behind.{came_then, began_then, broke_then, stops_first}
+use Rattle.jc_command_work.proofs.Ends.{ends_done, ends_stopped}
+use Rattle.jc_command_work.proofs.Reaching.{reached_start, ran_last, was_decided, was_ended}
 use Rattle.jc_top.specs.Completes.{Completes}
 use Rattle.jc_top.specs.Work.{on_files, work_of, IsUsage, the_work}
 

@@ -2,20 +2,20 @@
 -- is refused.
 use Rattle.std.proofs.Common.{◌≡◌, ◌⊎◌, ℕ, List, [], ◌∷◌, ◌++◌, inl, inr, refl, sym, ◌∙◌, ap, subst, append_assoc, append-nil}
 use Rattle.jc_paths.specs.Paths.{FileText, plain, folder}
-use Rattle.jc_work.specs.declared.status.Status.TheVariants as status
-use Rattle.jc_work.specs.Step.{Word, World, Counts, Landed, Write, Call, to_read, to_list, to_write, Step, has_read, has_no, has_listed, has_written, call_of, Fit, after, Broken}
-use Rattle.jc_work.specs.Part.{End, done, unread, Outcome, wants, gives, stops, Part, Command, giving, ending, deciding, reading, listing, writing, reading_all, writing_all, ◌>>=◌}
-use Rattle.jc_work.specs.Ending.{Began, BrokeOff, Ends}
-use Rattle.jc_work.specs.OneWay.{writes_of}
-use Rattle.jc_work.specs.Prefix.{after_writes, IsFront}
-use Rattle.jc_work.specs.Folders.{paths_of, all_paths, files_of, once}
-use Rattle.jc_work.specs.Answered.{Answer, answering, preparing, making_all, answered}
-use Rattle.jc_work.specs.Causes.{IsReadCall, HasOwnEnds}
-use Rattle.jc_work.proofs.Behind.{over_then, fit_front}
-use Rattle.jc_work.proofs.OneWork.{not_over}
-use Rattle.jc_work.proofs.Prefix.{writes-append, after-writes}
-use Rattle.jc_work.proofs.NoWrites.{WritesNone, none_preparing}
-use Rattle.jc_work.proofs.CauseLaws.{cause}
+use Rattle.jc_command_work.specs.declared.status.Status.TheVariants as status
+use Rattle.jc_command_work.specs.Step.{Word, World, Counts, Landed, Write, Call, to_read, to_list, to_write, Step, has_read, has_no, has_listed, has_written, call_of, Fit, after, Broken}
+use Rattle.jc_command_work.specs.Part.{End, done, unread, Outcome, wants, gives, stops, Part, Command, giving, ending, deciding, reading, listing, writing, reading_all, writing_all, ◌>>=◌}
+use Rattle.jc_command_work.specs.Ending.{Began, BrokeOff, Ends}
+use Rattle.jc_command_work.specs.OneWay.{writes_of}
+use Rattle.jc_command_work.specs.Prefix.{after_writes, IsFront}
+use Rattle.jc_command_work.specs.Folders.{paths_of, all_paths, files_of, once}
+use Rattle.jc_command_work.specs.Answered.{Answer, answering, preparing, making_all, answered}
+use Rattle.jc_command_work.specs.Causes.{IsReadCall, HasOwnEnds}
+use Rattle.jc_command_work.proofs.Behind.{over_then, fit_front}
+use Rattle.jc_command_work.proofs.OneWork.{not_over}
+use Rattle.jc_command_work.proofs.Prefix.{writes-append, after-writes}
+use Rattle.jc_command_work.proofs.NoWrites.{WritesNone, none_preparing}
+use Rattle.jc_command_work.proofs.CauseLaws.{cause}
 use Rattle.jc_top.specs.FirstWrite.{as_steps, WritesBegun}
 
 -- ---- calls

@@ -1,13 +1,13 @@
 -- A run whose words call `cover` is one of `cover`, and so the headline holds of it.
 use Rattle.std.proofs.Common.{◌≡◌, List, [], ◌∷◌, ◌++◌, inl, inr, sym, subst}
-use Rattle.jc_words.specs.Commands.{Called, Means}
-use Rattle.jc_words.proofs.CommandLaws.{one_command}
-use Rattle.jc_work.specs.declared.status.Status.{Status}
-use Rattle.jc_work.specs.Step.{Word, World, Counts, Landed, Step, call_of}
-use Rattle.jc_work.specs.Part.{done, Outcome, wants, gives, stops, deciding, Begun}
-use Rattle.jc_work.specs.Ending.{CameTo, Ends}
-use Rattle.jc_work.proofs.Ends.{ends_done}
-use Rattle.jc_work.proofs.Prefix.{done_means}
+use Rattle.jc_command_words.specs.Commands.{Called, Means}
+use Rattle.jc_command_words.proofs.CommandLaws.{one_command}
+use Rattle.jc_command_work.specs.declared.status.Status.{Status}
+use Rattle.jc_command_work.specs.Step.{Word, World, Counts, Landed, Step, call_of}
+use Rattle.jc_command_work.specs.Part.{done, Outcome, wants, gives, stops, deciding, Begun}
+use Rattle.jc_command_work.specs.Ending.{CameTo, Ends}
+use Rattle.jc_command_work.proofs.Ends.{ends_done}
+use Rattle.jc_command_work.proofs.Prefix.{done_means}
 use Rattle.jc_cover_work.specs.CoverWork.{cover_work}
 use Rattle.jc_cover_work.proofs.HeadlineLaws.{each_headline}
 use Rattle.jc_top.specs.Work.{work_of, IsUsage, the_work}

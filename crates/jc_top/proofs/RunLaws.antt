@@ -7,14 +7,14 @@ use Rattle.jc_linking.specs.declared.link_refusal.LinkRefusal.{LinkRefusal}
 use Rattle.jc_linking.specs.declared.link_refusal.LinkRefusal.TheVariants as refusals
 use Rattle.jc_run_work.specs.RunAnswers.{EndsAs, IsLinkEnd, RunAnswers, run_answer}
 use Rattle.jc_run_work.specs.RunStore.{threads_of, first_without}
-use Rattle.jc_work.specs.declared.status.Fault.{Fault}
-use Rattle.jc_work.specs.declared.status.Fault.TheVariants as fault
-use Rattle.jc_work.specs.Step.{Word, Write}
-use Rattle.jc_work.specs.Part.{End, refused, stops}
-use Rattle.jc_work.specs.Answered.{HasOneAnswer}
-use Rattle.jc_work.specs.Causes.{IsRefusal}
-use Rattle.jc_work.proofs.OneWork.{gives_or_stops, same_end}
-use Rattle.jc_work.proofs.CauseLaws.{is_refusal}
+use Rattle.jc_command_work.specs.declared.status.Fault.{Fault}
+use Rattle.jc_command_work.specs.declared.status.Fault.TheVariants as fault
+use Rattle.jc_command_work.specs.Step.{Word, Write}
+use Rattle.jc_command_work.specs.Part.{End, refused, stops}
+use Rattle.jc_command_work.specs.Answered.{HasOneAnswer}
+use Rattle.jc_command_work.specs.Causes.{IsRefusal}
+use Rattle.jc_command_work.proofs.OneWork.{gives_or_stops, same_end}
+use Rattle.jc_command_work.proofs.CauseLaws.{is_refusal}
 
 -- of what is read there is one answer of `run`
 abbrev pub RunsAnswerOnce : Type 0

@@ -7,16 +7,16 @@ use Rattle.jc_instrument.specs.InstrumentedFile.{IsInstrumentedFile}
 use Rattle.jc_instrument.specs.declared.whole.Instrumented.{Instrumented}
 use Rattle.jc_run_work.specs.RunAnswers.{IsRunProgram}
 use Rattle.jc_run_work.specs.RunStore.{run_store}
-use Rattle.jc_work.specs.declared.status.Fault.{Fault}
-use Rattle.jc_work.specs.Step.{Write, to_out, Step}
-use Rattle.jc_work.specs.Part.{End, done, refused, stops, Part, Command, giving, deciding, writing, ending, ◌>>=◌}
-use Rattle.jc_work.specs.OneWay.{writes_of}
-use Rattle.jc_work.specs.Causes.{EndsIn}
-use Rattle.jc_work.proofs.CauseLaws.{ends_then, ends_giving, ends_deciding, ends_ending, ends_writing_all}
-use Rattle.jc_work.proofs.NoWrites.{WritesNone, none_deciding, none_giving, none_then}
-use Rattle.jc_sample.specs.SampleFile.{sample_file}
-use Rattle.jc_sample.specs.SamplePlan.{sample_plan}
-use Rattle.jc_sample.specs.SampleWork.{IsRefusedEnd, IsReadable, IsLongEnd, IsUnlinkedEnd, HaveEntries, IsEntryEnd, AreCounters, IsClashEnd, sample_text, linking, counting, running, sample_line, sample_work}
+use Rattle.jc_command_work.specs.declared.status.Fault.{Fault}
+use Rattle.jc_command_work.specs.Step.{Write, to_out, Step}
+use Rattle.jc_command_work.specs.Part.{End, done, refused, stops, Part, Command, giving, deciding, writing, ending, ◌>>=◌}
+use Rattle.jc_command_work.specs.OneWay.{writes_of}
+use Rattle.jc_command_work.specs.Causes.{EndsIn}
+use Rattle.jc_command_work.proofs.CauseLaws.{ends_then, ends_giving, ends_deciding, ends_ending, ends_writing_all}
+use Rattle.jc_command_work.proofs.NoWrites.{WritesNone, none_deciding, none_giving, none_then}
+use Rattle.jc_command_sample.specs.SampleFile.{sample_file}
+use Rattle.jc_command_sample.specs.SamplePlan.{sample_plan}
+use Rattle.jc_command_sample.specs.SampleWork.{IsRefusedEnd, IsReadable, IsLongEnd, IsUnlinkedEnd, HaveEntries, IsEntryEnd, AreCounters, IsClashEnd, sample_text, linking, counting, running, sample_line, sample_work}
 use Rattle.jc_top.proofs.FirstWriteLaws.{WantsReads, WritesLast, reads_deciding, reads_giving, reads_then, last_then, last_one}
 
 ends_one : (Is : End → Type 0) (write : Write) → EndsIn Is (writing write)

@@ -2,23 +2,23 @@
 use Rattle.std.proofs.Common.{◌≡◌, ◌⊎◌, inl, inr, ℕ, List, [], ◌∷◌, ◌++◌, Option, None, Some, map, refl, sym, ◌∙◌, ap, subst}
 use Rattle.std.proofs.lemmas.List.{length-map}
 use Rattle.jc_paths.specs.Paths.{FileText, in_folder}
-use Rattle.jc_words.specs.Commands.{Called, instrument, run, merge, report, exec_info, class_info, cover, cover_sample, Means, NoForm}
-use Rattle.jc_words.proofs.CommandLaws.{one_command, some_or_none}
-use Rattle.jc_work.specs.declared.status.Status.{Status}
-use Rattle.jc_work.specs.declared.status.Status.TheVariants as status
-use Rattle.jc_work.specs.Step.{Word, IsFile, World, Counts, Landed, Call, Step}
-use Rattle.jc_work.specs.Part.{End, done, refused, misused, unread, unwritten, unprinted, status_of, Outcome, wants, gives, stops, Part, Command, deciding, reading, ◌>>=◌}
-use Rattle.jc_work.specs.Ending.{Ends}
-use Rattle.jc_work.specs.Folders.{files_of}
-use Rattle.jc_work.specs.OneWay.{IsOver, HasOne, OneDecision, writes_of}
-use Rattle.jc_work.specs.Answered.{Answer, HasOneAnswer, answered}
-use Rattle.jc_work.specs.Causes.{IsOwnEnd, IsRefusal, EndsIn, HasOwnEnds}
-use Rattle.jc_work.proofs.OneWork.{has_then, has_then_if, one_deciding, one_reading}
-use Rattle.jc_work.proofs.AnsweredLaws.{file_read, has_answered, has_files}
-use Rattle.jc_work.proofs.CauseLaws.{ends_then, ends_deciding, ends_reading, ends_answered, done_or_none}
-use Rattle.jc_work.proofs.FileLaws.{ends_files, none_files}
-use Rattle.jc_work.proofs.NoWrites.{WritesNone, none_deciding, none_reading}
-use Rattle.jc_work.proofs.Prefix.{writes-append}
+use Rattle.jc_command_words.specs.Commands.{Called, instrument, run, merge, report, exec_info, class_info, cover, cover_sample, Means, NoForm}
+use Rattle.jc_command_words.proofs.CommandLaws.{one_command, some_or_none}
+use Rattle.jc_command_work.specs.declared.status.Status.{Status}
+use Rattle.jc_command_work.specs.declared.status.Status.TheVariants as status
+use Rattle.jc_command_work.specs.Step.{Word, IsFile, World, Counts, Landed, Call, Step}
+use Rattle.jc_command_work.specs.Part.{End, done, refused, misused, unread, unwritten, unprinted, status_of, Outcome, wants, gives, stops, Part, Command, deciding, reading, ◌>>=◌}
+use Rattle.jc_command_work.specs.Ending.{Ends}
+use Rattle.jc_command_work.specs.Folders.{files_of}
+use Rattle.jc_command_work.specs.OneWay.{IsOver, HasOne, OneDecision, writes_of}
+use Rattle.jc_command_work.specs.Answered.{Answer, HasOneAnswer, answered}
+use Rattle.jc_command_work.specs.Causes.{IsOwnEnd, IsRefusal, EndsIn, HasOwnEnds}
+use Rattle.jc_command_work.proofs.OneWork.{has_then, has_then_if, one_deciding, one_reading}
+use Rattle.jc_command_work.proofs.AnsweredLaws.{file_read, has_answered, has_files}
+use Rattle.jc_command_work.proofs.CauseLaws.{ends_then, ends_deciding, ends_reading, ends_answered, done_or_none}
+use Rattle.jc_command_work.proofs.FileLaws.{ends_files, none_files}
+use Rattle.jc_command_work.proofs.NoWrites.{WritesNone, none_deciding, none_reading}
+use Rattle.jc_command_work.proofs.Prefix.{writes-append}
 use Rattle.jc_exec_commands.proofs.ExecAnswers.{merge_has_one, merge_refuses, info_has_one, info_refuses}
 use Rattle.jc_exec_commands.specs.Merge.{MergeAnswers}
 use Rattle.jc_exec_commands.specs.ExecInfo.{InfoAnswers}
@@ -31,7 +31,7 @@ use Rattle.jc_cover_work.proofs.OneCoverLaws.{PlansAreOne, has_cover}
 use Rattle.jc_cover_work.proofs.OwnEndLaws.{cover_ends}
 use Rattle.jc_top.specs.Work.{on_files, reporting, work_of, IsUsage, the_work}
 use Rattle.jc_top.specs.FirstWrite.{DecidesFirst, DecideFirst}
-use Rattle.jc_sample.proofs.OneSampleLaws.{has_sample}
+use Rattle.jc_command_sample.proofs.OneSampleLaws.{has_sample}
 use Rattle.jc_top.specs.Bounds.{IsBounded}
 use Rattle.jc_top.proofs.BoundLaws.{means_bounded}
 use Rattle.jc_top.proofs.SampleLaws.{ends_sample, last_sample, sample_or_nothing}

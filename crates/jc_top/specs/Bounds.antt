@@ -1,6 +1,6 @@
 -- The bounds of the numbers among the words.
 use Rattle.std.specs.Prelude.{⊤, ◌≤◌}
-use Rattle.jc_words.specs.Commands.{Called, instrument, run, merge, report, exec_info, class_info, cover, cover_sample}
+use Rattle.jc_command_words.specs.Commands.{Called, instrument, run, merge, report, exec_info, class_info, cover, cover_sample}
 
 -- from 1 to 16 workers, and from 1 to 1000 methods
 abbrev pub IsBounded : Called → Type 0

@@ -1,13 +1,13 @@
 -- How a command goes on from what it prepared.
 use Rattle.std.specs.Prelude.{map, Result, Ok, Err, Vec}
 use Rattle.std.specs.declared.alloc.Global.{Global}
-use Rattle.jc_work.specs.declared.output.Write.{Write as Written}
-use Rattle.jc_work.specs.declared.status.Status.{Status}
-use Rattle.jc_work.specs.declared.stop.Stop.{Stop}
-use Rattle.jc_work.specs.Step.{World, Counts, Landed}
-use Rattle.jc_work.specs.Ending.{Reports, Ends}
-use Rattle.jc_work.specs.Answered.{making_all}
-use Rattle.jc_work.specs.Seen.{write_seen, stop_seen}
+use Rattle.jc_command_work.specs.declared.output.Write.{Write as Written}
+use Rattle.jc_command_work.specs.declared.status.Status.{Status}
+use Rattle.jc_command_work.specs.declared.stop.Stop.{Stop}
+use Rattle.jc_command_work.specs.Step.{World, Counts, Landed}
+use Rattle.jc_command_work.specs.Ending.{Reports, Ends}
+use Rattle.jc_command_work.specs.Answered.{making_all}
+use Rattle.jc_command_work.specs.Seen.{write_seen, stop_seen}
 
 -- the writes that were prepared were made, or it was reported what had stopped the command
 abbrev pub Completes : Landed → Result (Vec Written Global) Stop → (old new : World) → (f f' : Counts) → Status → Type 0

@@ -1,11 +1,11 @@
 -- What a run of the tool promises whose words call `cover`: the headline.
 use Rattle.std.specs.Prelude.{◌≡◌, ℕ, List}
 use Rattle.std.specs.List.{AllByRecursion}
-use Rattle.jc_words.specs.Commands.{cover, Means}
-use Rattle.jc_work.specs.declared.status.Status.{Status}
-use Rattle.jc_work.specs.declared.status.Status.TheVariants as status
-use Rattle.jc_work.specs.Step.{Word, World, Landed}
-use Rattle.jc_work.specs.OneWay.{IsTold}
+use Rattle.jc_command_words.specs.Commands.{cover, Means}
+use Rattle.jc_command_work.specs.declared.status.Status.{Status}
+use Rattle.jc_command_work.specs.declared.status.Status.TheVariants as status
+use Rattle.jc_command_work.specs.Step.{Word, World, Landed}
+use Rattle.jc_command_work.specs.OneWay.{IsTold}
 use Rattle.jc_cover_work.specs.CoverWork.{Cover, accepted_texts}
 use Rattle.jc_cover_work.specs.CoverRun.{CoverRun}
 use Rattle.jc_cover_work.specs.Headline.{NamesConstants, Headline}

@@ -1,10 +1,10 @@
 -- What is left by a command that reads and decides before it writes.
 use Rattle.std.specs.Prelude.{◌≡◌, ⊤, List, [], ◌++◌, map}
-use Rattle.jc_words.specs.Commands.{Called, instrument, run, merge, report, exec_info, class_info, cover, cover_sample, Means}
-use Rattle.jc_work.specs.Step.{Word, World, Landed, Write, Step, has_written, Fit}
-use Rattle.jc_work.specs.Part.{done, stops, Command}
-use Rattle.jc_work.specs.OneWay.{writes_of}
-use Rattle.jc_work.specs.Prefix.{IsFront}
+use Rattle.jc_command_words.specs.Commands.{Called, instrument, run, merge, report, exec_info, class_info, cover, cover_sample, Means}
+use Rattle.jc_command_work.specs.Step.{Word, World, Landed, Write, Step, has_written, Fit}
+use Rattle.jc_command_work.specs.Part.{done, stops, Command}
+use Rattle.jc_command_work.specs.OneWay.{writes_of}
+use Rattle.jc_command_work.specs.Prefix.{IsFront}
 
 -- the command reads all of its inputs and decides what to write before it writes: `cover` alone reads back what it has written
 abbrev pub DecidesFirst : Called → Type 0

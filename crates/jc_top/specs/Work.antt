@@ -1,11 +1,11 @@
 -- The work of words: that of the command that they call.
 use Rattle.std.specs.Prelude.{◌≡◌, ℕ, List, [], ◌∷◌, ◌++◌, Option, None, Some, map}
 use Rattle.jc_paths.specs.Paths.{FileText, in_folder}
-use Rattle.jc_words.specs.Commands.{Called, instrument, run, merge, report, exec_info, class_info, cover, cover_sample, Means, NoForm}
-use Rattle.jc_work.specs.Step.{Word}
-use Rattle.jc_work.specs.Part.{End, misused, Command, deciding, reading, ◌>>=◌}
-use Rattle.jc_work.specs.Folders.{files_of}
-use Rattle.jc_work.specs.Answered.{Answer, answered}
+use Rattle.jc_command_words.specs.Commands.{Called, instrument, run, merge, report, exec_info, class_info, cover, cover_sample, Means, NoForm}
+use Rattle.jc_command_work.specs.Step.{Word}
+use Rattle.jc_command_work.specs.Part.{End, misused, Command, deciding, reading, ◌>>=◌}
+use Rattle.jc_command_work.specs.Folders.{files_of}
+use Rattle.jc_command_work.specs.Answered.{Answer, answered}
 use Rattle.jc_exec_commands.specs.Merge.{MergeAnswers}
 use Rattle.jc_exec_commands.specs.ExecInfo.{InfoAnswers}
 use Rattle.jc_class_commands.specs.ClassInfo.{ListAnswers}
@@ -13,7 +13,7 @@ use Rattle.jc_class_commands.specs.Report.{ReportAnswers}
 use Rattle.jc_class_commands.specs.Instrument.{InstrumentAnswers}
 use Rattle.jc_run_work.specs.RunAnswers.{RunAnswers}
 use Rattle.jc_cover_work.specs.CoverWork.{cover_work}
-use Rattle.jc_sample.specs.SampleWork.{sample_work}
+use Rattle.jc_command_sample.specs.SampleWork.{sample_work}
 
 -- the files that the words name are read, and what they answer is written
 abbrev pub on_files : List FileText → (List Word → List (List ℕ) → Answer → Type 0) → Command

@@ -2,23 +2,23 @@
 ghost use Rattle.std.specs.Prelude.{◌≤◌, ◌<◌, ◌^◌, length, map, Option, IfSome};
 ghost use Rattle.jc_bytes.specs.Reader.{most_read};
 ghost use Rattle.jc_paths.specs.Looks.{file_view};
-ghost use Rattle.jc_words.specs.Commands.{instrument, run, merge, report, exec_info, class_info, cover, cover_sample};
-ghost use Rattle.jc_words.specs.Seen.{text_seen};
-ghost use Rattle.jc_work.specs.Step.{Landed};
-ghost use Rattle.jc_work.specs.Ending.{Ends};
-ghost use Rattle.jc_work.specs.Seen.{texts_of};
+ghost use Rattle.jc_command_words.specs.Commands.{instrument, run, merge, report, exec_info, class_info, cover, cover_sample};
+ghost use Rattle.jc_command_words.specs.Seen.{text_seen};
+ghost use Rattle.jc_command_work.specs.Step.{Landed};
+ghost use Rattle.jc_command_work.specs.Ending.{Ends};
+ghost use Rattle.jc_command_work.specs.Seen.{texts_of};
 ghost use Rattle.jc_class_commands.specs.ReportSteps.{exec_path, exec_texts};
 ghost use Rattle.jc_cover_work.specs.Runs.{Between, BetweenTexts};
 ghost use Rattle.jc_top.specs.Work.{reporting, work_of};
 
 use crate::complete::complete;
 use jc_class_commands::{ExecInput, prepare_class_info, prepare_instrument, prepare_report};
+use jc_command_work::{Status, list_files, read_one};
 use jc_cover_command::CoverWords;
 use jc_exec_commands::{prepare_exec_info, prepare_merge};
 use jc_outside::{Files, Sink};
 use jc_paths::{FileWord, all_in_folder};
 use jc_run_command::prepare_run;
-use jc_work::{Status, list_files, read_one};
 use jc_workers::Gate;
 use std::alloc::Global;
 use std::marker::Sync;
@@ -39,7 +39,7 @@ pub fn instrument<R: Threads + Sync, F: Files, O: Sink, E: Sink>(
 {
     let paths = match list_files(alloc, files, words) {
         Ok(paths) => paths,
-        Err(stop) => return jc_work::report(alloc, err, stop),
+        Err(stop) => return jc_command_work::report(alloc, err, stop),
     };
     let targets = match all_in_folder(alloc, dest, &paths) {
         Ok(targets) => targets,
@@ -68,11 +68,11 @@ pub fn run<R: Threads + Sync, F: Files, O: Sink, E: Sink, G: Gate + Sync>(
 {
     let text = match read_one(alloc, files, plan) {
         Ok(text) => text,
-        Err(stop) => return jc_work::report(alloc, err, stop),
+        Err(stop) => return jc_command_work::report(alloc, err, stop),
     };
     let paths = match list_files(alloc, files, words) {
         Ok(paths) => paths,
-        Err(stop) => return jc_work::report(alloc, err, stop),
+        Err(stop) => return jc_command_work::report(alloc, err, stop),
     };
     let prepared = prepare_run(
         rt, alloc, files, gate, plan, destfile, workers, &text, &paths,
@@ -116,7 +116,7 @@ fn report_files<R: Threads + Sync, F: Files, O: Sink, E: Sink>(
 {
     let paths = match list_files(alloc, files, words) {
         Ok(paths) => paths,
-        Err(stop) => return jc_work::report(alloc, err, stop),
+        Err(stop) => return jc_command_work::report(alloc, err, stop),
     };
     let prepared = prepare_report(rt, alloc, files, csv, name, exec, &paths);
     complete(alloc, files, out, err, prepared)
@@ -145,7 +145,7 @@ pub fn report<R: Threads + Sync, F: Files, O: Sink, E: Sink>(
             let input = Some(ExecInput { path, bytes });
             report_files(rt, alloc, files, out, err, csv, name, input, words)
         }
-        Err(stop) => jc_work::report(alloc, err, stop),
+        Err(stop) => jc_command_work::report(alloc, err, stop),
     }
 }
 
@@ -179,7 +179,7 @@ pub fn class_info<R: Threads + Sync, F: Files, O: Sink, E: Sink>(
 {
     let paths = match list_files(alloc, files, words) {
         Ok(paths) => paths,
-        Err(stop) => return jc_work::report(alloc, err, stop),
+        Err(stop) => return jc_command_work::report(alloc, err, stop),
     };
     let prepared = prepare_class_info(rt, alloc, files, &paths);
     complete(alloc, files, out, err, prepared)
@@ -208,11 +208,11 @@ pub fn cover<R: Threads + Sync, F: Files, O: Sink, E: Sink, G: Gate + Sync>(
 {
     let text = match read_one(alloc, files, plan) {
         Ok(text) => text,
-        Err(stop) => return jc_work::report(alloc, err, stop),
+        Err(stop) => return jc_command_work::report(alloc, err, stop),
     };
     let paths = match list_files(alloc, files, words) {
         Ok(paths) => paths,
-        Err(stop) => return jc_work::report(alloc, err, stop),
+        Err(stop) => return jc_command_work::report(alloc, err, stop),
     };
     let targets = match all_in_folder(alloc, dest, &paths) {
         Ok(targets) => targets,
@@ -230,7 +230,7 @@ pub fn cover<R: Threads + Sync, F: Files, O: Sink, E: Sink, G: Gate + Sync>(
         rt, alloc, files, out, err, gate, &said, &text, &paths, &targets,
     ) {
         Ok(()) => Status::Done,
-        Err(stop) => jc_work::report(alloc, err, stop),
+        Err(stop) => jc_command_work::report(alloc, err, stop),
     }
 }
 
@@ -247,8 +247,8 @@ pub fn cover_sample<R: Threads + Sync, O: Sink, E: Sink, G: Gate + Sync>(
     ensures { (landed : Landed) → BetweenTexts O.Sink E.Sink (out.old, err.old) (out.new, err.new)
         (Ends landed (work_of (cover_sample methods))) result }
 {
-    match jc_sample::sample(rt, alloc, out, gate, methods) {
+    match jc_command_sample::sample(rt, alloc, out, gate, methods) {
         Ok(()) => Status::Done,
-        Err(stop) => jc_work::report(alloc, err, stop),
+        Err(stop) => jc_command_work::report(alloc, err, stop),
     }
 }

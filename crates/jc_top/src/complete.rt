@@ -2,8 +2,8 @@
 ghost use Rattle.jc_cover_work.specs.Runs.{Between};
 ghost use Rattle.jc_top.specs.Completes.{Completes};
 
+use jc_command_work::{Status, Stop, Write, report, write_all};
 use jc_outside::{Files, Sink};
-use jc_work::{Status, Stop, Write, report, write_all};
 use std::alloc::Global;
 
 /// Makes the writes that were prepared, or reports what had stopped the command. Answers with its status.

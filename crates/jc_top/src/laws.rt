@@ -1,14 +1,14 @@
 //! Laws of every run of the tool, over the definitions alone.
 ghost use Rattle.std.specs.Prelude.{◌≡◌, ◌≢◌, ◌⊎◌, [], List};
-ghost use Rattle.jc_work.specs.declared.status.Status.{Status};
-ghost use Rattle.jc_work.specs.declared.status.Status.TheVariants as status;
-ghost use Rattle.jc_work.specs.Step.{Word, World, Counts, Landed, Step};
-ghost use Rattle.jc_work.specs.Part.{End, done, status_of, stops};
-ghost use Rattle.jc_work.specs.Ending.{NoneRose, Ends};
-ghost use Rattle.jc_work.specs.OneWay.{IsTold, Work, IsWork, writes_of};
-ghost use Rattle.jc_work.specs.Prefix.{LeavesFront};
-ghost use Rattle.jc_work.specs.Causes.{Cause, WorkFailed};
-ghost use Rattle.jc_words.specs.Commands.{NoForm};
+ghost use Rattle.jc_command_work.specs.declared.status.Status.{Status};
+ghost use Rattle.jc_command_work.specs.declared.status.Status.TheVariants as status;
+ghost use Rattle.jc_command_work.specs.Step.{Word, World, Counts, Landed, Step};
+ghost use Rattle.jc_command_work.specs.Part.{End, done, status_of, stops};
+ghost use Rattle.jc_command_work.specs.Ending.{NoneRose, Ends};
+ghost use Rattle.jc_command_work.specs.OneWay.{IsTold, Work, IsWork, writes_of};
+ghost use Rattle.jc_command_work.specs.Prefix.{LeavesFront};
+ghost use Rattle.jc_command_work.specs.Causes.{Cause, WorkFailed};
+ghost use Rattle.jc_command_words.specs.Commands.{NoForm};
 ghost use Rattle.jc_cover_work.specs.Runs.{ToldRun, MakesItsWork};
 ghost use Rattle.jc_top.specs.FirstWrite.{DecideFirst, WritesBegun};
 ghost use Rattle.jc_top.specs.Work.{the_work};

@@ -6,7 +6,7 @@ mod complete;
 mod laws;
 mod run;
 
-pub use jc_work::{Fault, Status};
+pub use jc_command_work::{Fault, Status};
 pub use jc_workers::{Gate, OpenGate};
 pub use laws::{
     a_command_but_cover_that_refuses_has_written_nothing, each_run_ends_as_its_work,

@@ -1,11 +1,11 @@
 //! The top call, which does all that the program does.
 ghost use Rattle.std.specs.Prelude.{◌<◌, ◌^◌, length, IfOk};
-ghost use Rattle.jc_words.specs.Commands.{files_of};
-ghost use Rattle.jc_words.specs.Outcome.{CommandRead};
-ghost use Rattle.jc_words.specs.Seen.{command_seen};
-ghost use Rattle.jc_words.specs.Words.{words_of};
-ghost use Rattle.jc_work.specs.Step.{world};
-ghost use Rattle.jc_work.specs.Ending.{Ends};
+ghost use Rattle.jc_command_words.specs.Commands.{files_of};
+ghost use Rattle.jc_command_words.specs.Outcome.{CommandRead};
+ghost use Rattle.jc_command_words.specs.Seen.{command_seen};
+ghost use Rattle.jc_command_words.specs.Words.{words_of};
+ghost use Rattle.jc_command_work.specs.Step.{world};
+ghost use Rattle.jc_command_work.specs.Ending.{Ends};
 ghost use Rattle.jc_cover_work.specs.Runs.{Between};
 ghost use Rattle.jc_top.specs.Bounds.{IsBounded};
 ghost use Rattle.jc_top.specs.CoverHeadline.{KeepsHeadline};
@@ -13,9 +13,9 @@ ghost use Rattle.jc_top.specs.Work.{work_of, the_work};
 
 use crate::commands::{class_info, cover, cover_sample, exec_info, instrument, merge, report, run};
 use jc_bytes::Fail;
+use jc_command_words::{Command, Usage, read_words};
+use jc_command_work::{Status, report_usage};
 use jc_outside::{Files, Sink};
-use jc_words::{Command, Usage, read_words};
-use jc_work::{Status, report_usage};
 use jc_workers::Gate;
 use std::alloc::Global;
 use std::marker::Sync;

@@ -9,7 +9,7 @@ mod shown;
 mod spelled;
 
 use jc_bytes::Fail;
-use jc_words::read_words;
+use jc_command_words::read_words;
 use shown::shown;
 use spelled::spelled;
 use std::alloc::{AllocError, Global};

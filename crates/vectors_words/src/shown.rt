@@ -1,5 +1,5 @@
 //! Commands, as they are printed.
-use jc_words::{Command, FileWord};
+use jc_command_words::{Command, FileWord};
 use std::alloc::{AllocError, Global};
 
 /// The files, each behind a space; a folder stands in brackets.

@@ -7,7 +7,7 @@ use Rattle.std.specs.List.{AllZip}
 use Rattle.std.specs.declared.alloc.Global.{Global}
 use Rattle.jc_base.specs.declared.Fail.{Fail}
 use Rattle.jc_base.specs.declared.Refusal.{Refusal}
-use Rattle.jc_work.specs.Seen.{words_of}
+use Rattle.jc_command_work.specs.Seen.{words_of}
 use Rattle.jc_class_commands.specs.ClassInfo.{IsListing}
 use Rattle.jc_class_commands.proofs.EachLaws.{at_place}
 use Rattle.jc_class_commands.proofs.ListingLaws.{no_lines, listing_put, listing_refused, listing_done}

@@ -1,6 +1,6 @@
 use Rattle.std.proofs.lemmas.Result.{err_from_is_err_and}
-use Rattle.jc_work.specs.Seen.{words_of, stop_seen}
-use Rattle.jc_work.proofs.AnsweredLaws.{prepared, unprepared}
+use Rattle.jc_command_work.specs.Seen.{words_of, stop_seen}
+use Rattle.jc_command_work.proofs.AnsweredLaws.{prepared, unprepared}
 use Rattle.jc_class_commands.specs.ClassInfo.{ListAnswers}
 use Rattle.jc_class_commands.proofs.class_info.prepare_class_info.Goals as goal
 

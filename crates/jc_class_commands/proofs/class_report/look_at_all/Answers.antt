@@ -5,7 +5,7 @@ use Rattle.std.proofs.lemmas.List.{length_push}
 use Rattle.std.proofs.lemmas.Result.{err_from_is_err_and}
 use Rattle.std.specs.List.{AllZip}
 use Rattle.jc_class_commands.specs.declared.class_report.Seen.{Seen}
-use Rattle.jc_work.specs.declared.stop.Stop.{Stop}
+use Rattle.jc_command_work.specs.declared.stop.Stop.{Stop}
 use Rattle.jc_class_commands.specs.ReportSteps.{data_records, data_path, IsLooked}
 use Rattle.jc_class_commands.proofs.EachLaws.{at_place}
 use Rattle.jc_class_commands.proofs.ReportStepLaws.{looked_on, looked_stops, read_at}

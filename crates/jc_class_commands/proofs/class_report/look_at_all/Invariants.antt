@@ -1,6 +1,6 @@
 use Rattle.std.proofs.Common.{length, take}
 use Rattle.jc_class_commands.specs.ReportSteps.{data_records}
-use Rattle.jc_work.specs.Seen.{texts_of}
+use Rattle.jc_command_work.specs.Seen.{texts_of}
 use Rattle.jc_class_commands.proofs.ReportStepLaws.{Looking}
 use Rattle.jc_class_commands.proofs.class_report.look_at_all.Given as goal
 

@@ -1,6 +1,6 @@
 use Rattle.std.proofs.Common.{rules, List, ℕ, Result, subst}
 use Rattle.jc_class_commands.specs.declared.class_report.Seen.{Seen}
-use Rattle.jc_work.specs.declared.stop.Stop.{Stop}
+use Rattle.jc_command_work.specs.declared.stop.Stop.{Stop}
 use Rattle.jc_class_commands.specs.ReportSteps.{data_records, data_path, IsLooked}
 use Rattle.jc_class_commands.proofs.RunLaws.{answers_read}
 use Rattle.jc_class_commands.proofs.class_report.look_at_each.Goals as goal

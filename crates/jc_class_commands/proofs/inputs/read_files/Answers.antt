@@ -1,10 +1,10 @@
 use Rattle.std.proofs.Common.{◌≡◌, ℕ, List, [], Bor, IfOk, length, string_bytes, inl, refl, subst, ap, sym, ◌∙◌}
 use Rattle.std.proofs.lemmas.List.{length-map}
 use Rattle.std.proofs.lemmas.Result.{err_from_is_err_and}
-use Rattle.jc_work.specs.Step.{world, counts}
-use Rattle.jc_work.specs.Part.{reading_all}
-use Rattle.jc_work.specs.Ending.{Does}
-use Rattle.jc_work.specs.Seen.{texts_of, stop_seen}
+use Rattle.jc_command_work.specs.Step.{world, counts}
+use Rattle.jc_command_work.specs.Part.{reading_all}
+use Rattle.jc_command_work.specs.Ending.{Does}
+use Rattle.jc_command_work.specs.Seen.{texts_of, stop_seen}
 use Rattle.jc_class_commands.proofs.inputs.read_files.Goals as goal
 
 pub returns-in_err-named-clause-does : goal.returns-in_err-named-clause-does

@@ -1,8 +1,8 @@
 use Rattle.std.proofs.Common.{map, Ok, Err}
 use Rattle.std.proofs.lemmas.Result.{err_from_is_err_and}
-use Rattle.jc_work.specs.declared.stop.Stop.TheVariants as stops
-use Rattle.jc_work.specs.Seen.{words_of, write_seen, stop_seen}
-use Rattle.jc_work.proofs.AnsweredLaws.{prepared, unprepared}
+use Rattle.jc_command_work.specs.declared.stop.Stop.TheVariants as stops
+use Rattle.jc_command_work.specs.Seen.{words_of, write_seen, stop_seen}
+use Rattle.jc_command_work.proofs.AnsweredLaws.{prepared, unprepared}
 use Rattle.jc_class_commands.specs.Instrument.{InstrumentAnswers, instrumented}
 use Rattle.jc_class_commands.proofs.instrument.prepare_instrument.Goals as goal
 

@@ -1,8 +1,8 @@
 use Rattle.std.proofs.Common.{ℕ, List, ◌++◌}
 use Rattle.std.proofs.lemmas.Result.{err_from_is_err_and}
-use Rattle.jc_work.specs.Answered.{Answer}
-use Rattle.jc_work.specs.Seen.{words_of, stop_seen}
-use Rattle.jc_work.proofs.AnsweredLaws.{prepared, unprepared}
+use Rattle.jc_command_work.specs.Answered.{Answer}
+use Rattle.jc_command_work.specs.Seen.{words_of, stop_seen}
+use Rattle.jc_command_work.proofs.AnsweredLaws.{prepared, unprepared}
 use Rattle.jc_class_commands.specs.Report.{ReportAnswers}
 use Rattle.jc_class_commands.specs.ReportSteps.{exec_path, exec_texts}
 use Rattle.jc_class_commands.proofs.report.prepare_report.Goals as goal

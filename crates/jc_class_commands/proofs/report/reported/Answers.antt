@@ -2,8 +2,8 @@ use Rattle.std.proofs.Common.{◌∙◌, List, ap, subst}
 use Rattle.std.proofs.lemmas.Result.{err_from_is_err_and}
 use Rattle.jc_class_commands.specs.Report.{report_text}
 use Rattle.jc_class_commands.specs.ReportSteps.{data_records, data_path, LooksAtAll}
-use Rattle.jc_work.specs.Seen.{words_of, texts_of}
-use Rattle.jc_work.specs.Step.{Word}
+use Rattle.jc_command_work.specs.Seen.{words_of, texts_of}
+use Rattle.jc_command_work.specs.Step.{Word}
 use Rattle.jc_class_commands.proofs.ReportRunLaws.{report_writes}
 use Rattle.jc_class_commands.proofs.report.reported.Goals as goal
 

@@ -1,4 +1,4 @@
-use Rattle.jc_work.specs.Seen.{words_of}
+use Rattle.jc_command_work.specs.Seen.{words_of}
 use Rattle.jc_class_commands.proofs.ReportRunLaws.{answers_data, answers_refused}
 use Rattle.jc_class_commands.proofs.report.reported_by_data.Goals as goal
 

@@ -1,6 +1,6 @@
 use Rattle.std.proofs.Common.{ℕ, List, ◌∷◌, Some, subst}
-use Rattle.jc_work.specs.Answered.{AnswersWith}
-use Rattle.jc_work.specs.Seen.{words_of}
+use Rattle.jc_command_work.specs.Answered.{AnswersWith}
+use Rattle.jc_command_work.specs.Seen.{words_of}
 use Rattle.jc_class_commands.specs.Report.{ReportAnswers}
 use Rattle.jc_class_commands.proofs.report.reported_of.Goals as goal
 

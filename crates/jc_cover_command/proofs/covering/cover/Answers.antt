@@ -1,6 +1,6 @@
 use Rattle.std.proofs.Common.{◌∙◌, ap}
 use Rattle.std.proofs.lemmas.Result.{err_from_is_err_and}
-use Rattle.jc_work.specs.Seen.{texts_of, words_of}
+use Rattle.jc_command_work.specs.Seen.{texts_of, words_of}
 use Rattle.jc_cover_command.specs.CoverSeen.{cover_seen}
 use Rattle.jc_cover_command.proofs.RunLaws.{none_read, not_planned, not_instrumented, none_covered, has_covered, paths_looked, targets_looked, texts_looked}
 use Rattle.jc_cover_command.proofs.covering.cover.Goals as goal

@@ -1,5 +1,5 @@
 use Rattle.std.proofs.Common.{◌∙◌, ap}
-use Rattle.jc_work.specs.Seen.{texts_of, stop_seen}
+use Rattle.jc_command_work.specs.Seen.{texts_of, stop_seen}
 use Rattle.jc_cover_command.proofs.AcceptedLaws.{as_many_targets}
 use Rattle.jc_cover_command.proofs.LinkLaws.{placed_so}
 use Rattle.jc_cover_command.proofs.linking.no_program.Goals as goal

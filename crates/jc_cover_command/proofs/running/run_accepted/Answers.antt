@@ -5,7 +5,7 @@ use Rattle.jc_same_runs.specs.Frameless.{frameless}
 use Rattle.jc_same_runs.proofs.TextLaws.{same_texts}
 use Rattle.jc_run_work.proofs.StoreLaws.{same_store}
 use Rattle.jc_run_program.proofs.FitLaws.{fit_records}
-use Rattle.jc_work.specs.Seen.{texts_of}
+use Rattle.jc_command_work.specs.Seen.{texts_of}
 use Rattle.jc_cover_command.specs.CoverSeen.{cover_seen}
 use Rattle.jc_cover_command.proofs.EntryLaws.{entries_there}
 use Rattle.jc_cover_command.proofs.RunLaws.{none_read_back, not_linked, no_entries, not_run, has_run, bytes_read}

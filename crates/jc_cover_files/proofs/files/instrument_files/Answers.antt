@@ -2,9 +2,9 @@ use Rattle.std.proofs.Common.{List, map, sym, ◌∙◌, subst, string_bytes}
 use Rattle.std.proofs.lemmas.List.{length-map}
 use Rattle.std.proofs.lemmas.Result.{err_from_is_err_and}
 use Rattle.std.proofs.lemmas.Slice.Zip.{AllZip-long}
-use Rattle.jc_work.specs.Step.{Word}
-use Rattle.jc_work.specs.Seen.{words_of}
-use Rattle.jc_work.proofs.Leaves.{nothing_yet}
+use Rattle.jc_command_work.specs.Step.{Word}
+use Rattle.jc_command_work.specs.Seen.{words_of}
+use Rattle.jc_command_work.proofs.Leaves.{nothing_yet}
 use Rattle.jc_class_commands.specs.Instrument.{decision_seen}
 use Rattle.jc_cover_work.specs.CoverWork.{instrumenting}
 use Rattle.jc_cover_files.specs.Files.{AreOf}

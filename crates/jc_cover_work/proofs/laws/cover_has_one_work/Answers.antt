@@ -1,4 +1,4 @@
-use Rattle.jc_work.proofs.Prefix.{some_work, one_work}
+use Rattle.jc_command_work.proofs.Prefix.{some_work, one_work}
 use Rattle.jc_cover_work.specs.CoverWork.{cover_work}
 use Rattle.jc_cover_work.proofs.OneCoverLaws.{PlansAreOne, has_cover}
 use Rattle.jc_cover_work.proofs.laws.cover_has_one_work.Goals as goal

@@ -1,5 +1,5 @@
-use Rattle.jc_work.proofs.NoFault.{does_work}
-use Rattle.jc_work.proofs.Prefix.{ends_front}
+use Rattle.jc_command_work.proofs.NoFault.{does_work}
+use Rattle.jc_command_work.proofs.Prefix.{ends_front}
 use Rattle.jc_cover_work.specs.CoverWork.{cover_work}
 use Rattle.jc_cover_work.proofs.OneCoverLaws.{PlansAreOne, has_cover}
 use Rattle.jc_cover_work.proofs.laws.each_cover_ends_as_its_work.Goals as goal

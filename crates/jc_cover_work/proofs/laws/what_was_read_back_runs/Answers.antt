@@ -1,4 +1,4 @@
-use Rattle.jc_work.proofs.Prefix.{done_means}
+use Rattle.jc_command_work.proofs.Prefix.{done_means}
 use Rattle.jc_cover_work.specs.CoverWork.{cover_work}
 use Rattle.jc_cover_work.proofs.CoverRunLaws.{cover_ran}
 use Rattle.jc_cover_work.proofs.laws.what_was_read_back_runs.Goals as goal

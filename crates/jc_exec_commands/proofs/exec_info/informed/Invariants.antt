@@ -1,5 +1,5 @@
 use Rattle.std.proofs.Common.{take}
-use Rattle.jc_work.specs.Seen.{texts_of}
+use Rattle.jc_command_work.specs.Seen.{texts_of}
 use Rattle.jc_exec_commands.proofs.InfoLaws.{InfoOf}
 use Rattle.jc_exec_commands.proofs.exec_info.informed.Given as goal
 

@@ -1,8 +1,8 @@
 use Rattle.std.proofs.Common.{ℕ, List, subst}
 use Rattle.std.proofs.lemmas.Result.{err_from_is_err_and}
-use Rattle.jc_work.specs.Answered.{AnswersWith}
-use Rattle.jc_work.specs.Seen.{texts_of, stop_seen}
-use Rattle.jc_work.proofs.AnsweredLaws.{prepared, unprepared}
+use Rattle.jc_command_work.specs.Answered.{AnswersWith}
+use Rattle.jc_command_work.specs.Seen.{texts_of, stop_seen}
+use Rattle.jc_command_work.proofs.AnsweredLaws.{prepared, unprepared}
 use Rattle.jc_exec_commands.specs.ExecInfo.{InfoAnswers}
 use Rattle.jc_exec_commands.proofs.exec_info.prepare_exec_info.Goals as goal
 

@@ -1,7 +1,7 @@
 use Rattle.std.proofs.Common.{ℕ, List, Err, subst}
 use Rattle.std.proofs.lemmas.Result.{err_from_is_err_and}
-use Rattle.jc_work.specs.Answered.{AnswersWith}
-use Rattle.jc_work.specs.Seen.{texts_of}
+use Rattle.jc_command_work.specs.Answered.{AnswersWith}
+use Rattle.jc_command_work.specs.Seen.{texts_of}
 use Rattle.jc_exec_commands.specs.ExecData.{IsUnionOf}
 use Rattle.jc_exec_commands.specs.Merge.{MergeAnswers}
 use Rattle.jc_exec_commands.proofs.MergeLaws.{merge_writes}

@@ -1,6 +1,6 @@
 use Rattle.std.proofs.lemmas.Result.{err_from_is_err_and}
-use Rattle.jc_work.specs.Seen.{texts_of, stop_seen}
-use Rattle.jc_work.proofs.AnsweredLaws.{prepared, unprepared}
+use Rattle.jc_command_work.specs.Seen.{texts_of, stop_seen}
+use Rattle.jc_command_work.proofs.AnsweredLaws.{prepared, unprepared}
 use Rattle.jc_exec_commands.specs.Merge.{MergeAnswers}
 use Rattle.jc_exec_commands.proofs.merge.prepare_merge.Goals as goal
 

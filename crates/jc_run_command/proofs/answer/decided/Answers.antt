@@ -1,6 +1,6 @@
 use Rattle.std.proofs.Common.{arith}
 use Rattle.std.proofs.lemmas.Result.{err_from_is_err_and}
-use Rattle.jc_work.specs.Seen.{texts_of, stop_seen}
+use Rattle.jc_command_work.specs.Seen.{texts_of, stop_seen}
 use Rattle.jc_run_program.proofs.FitLaws.{fit_records}
 use Rattle.jc_run_command.proofs.DecidedLaws.{as_many_files, are_bytes, are_short, plan_refused, files_refused, program_runs}
 use Rattle.jc_run_command.proofs.answer.decided.Goals as goal

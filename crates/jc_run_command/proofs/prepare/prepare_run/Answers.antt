@@ -1,8 +1,8 @@
 use Rattle.std.proofs.Common.{◌∷◌, List, ℕ, None, sym, ◌∙◌, ap, subst₂, arith}
 use Rattle.std.proofs.lemmas.Result.{err_from_is_err_and}
-use Rattle.jc_work.specs.Answered.{AnswersWith}
-use Rattle.jc_work.specs.Seen.{words_of, texts_of, stop_seen}
-use Rattle.jc_work.specs.Step.{Word, AreTexts}
+use Rattle.jc_command_work.specs.Answered.{AnswersWith}
+use Rattle.jc_command_work.specs.Seen.{words_of, texts_of, stop_seen}
+use Rattle.jc_command_work.specs.Step.{Word, AreTexts}
 use Rattle.jc_run_work.specs.RunAnswers.{RunsFiles, RunAnswers}
 use Rattle.jc_run_command.proofs.PreparedLaws.{as_many_words, none_made, were_read, unread_so, prepared_so}
 use Rattle.jc_run_command.proofs.prepare.prepare_run.Goals as goal

@@ -1,7 +1,7 @@
 use Rattle.std.proofs.Common.{◌≡◌, List, ℕ, get_or, sym, ◌∙◌, ap, arith}
 use Rattle.jc_programs.specs.declared.program.Linked.{Linked}
-use Rattle.jc_work.specs.declared.status.Fault.TheVariants as fault
-use Rattle.jc_work.specs.Part.{refused}
+use Rattle.jc_command_work.specs.declared.status.Fault.TheVariants as fault
+use Rattle.jc_command_work.specs.Part.{refused}
 use Rattle.jc_run_work.specs.PairTexts.{same_id_text}
 use Rattle.jc_run_parts.proofs.ClashLaws.{has_id, no_path, path_is}
 use Rattle.jc_run_parts.proofs.clash.id_stop.Goals as goal

@@ -1,9 +1,9 @@
 use Rattle.std.proofs.Common.{◌<◌, List, ℕ, length, sym, ap, subst, arith}
 use Rattle.jc_linking.specs.declared.link_refusal.LinkRefusal.TheVariants as refusals
 use Rattle.jc_linking.specs.Linking.{IsLinkRefusal}
-use Rattle.jc_work.specs.declared.status.Fault.TheVariants as fault
-use Rattle.jc_work.specs.Part.{refused}
-use Rattle.jc_work.specs.Texts.{fault_text}
+use Rattle.jc_command_work.specs.declared.status.Fault.TheVariants as fault
+use Rattle.jc_command_work.specs.Part.{refused}
+use Rattle.jc_command_work.specs.Texts.{fault_text}
 use Rattle.jc_run_parts.proofs.ClashLaws.{are_within, no_path, path_is}
 use Rattle.jc_run_parts.proofs.clash.refusal_stop.Goals as goal
 

@@ -1,5 +1,5 @@
-use Rattle.jc_work.specs.Seen.{stop_seen}
-use Rattle.jc_sample.specs.SampleWork.{sample_work}
+use Rattle.jc_command_work.specs.Seen.{stop_seen}
+use Rattle.jc_command_sample.specs.SampleWork.{sample_work}
 use Rattle.jc_top.proofs.CommandLaws.{ran_done, ran_stopped}
 use Rattle.jc_top.proofs.commands.cover_sample.Goals as goal
 

@@ -1,7 +1,7 @@
 use Rattle.std.proofs.Common.{[], ◌∷◌, Some, map}
 use Rattle.jc_paths.specs.Looks.{file_view}
-use Rattle.jc_work.specs.Part.{reading}
-use Rattle.jc_work.specs.Seen.{stop_seen}
+use Rattle.jc_command_work.specs.Part.{reading}
+use Rattle.jc_command_work.specs.Seen.{stop_seen}
 use Rattle.jc_top.specs.Work.{reporting}
 use Rattle.jc_top.proofs.CommandLaws.{ends_behind, ends_before}
 use Rattle.jc_top.proofs.commands.report.Goals as goal

@@ -1,4 +1,4 @@
-use Rattle.jc_work.specs.Seen.{stop_seen}
+use Rattle.jc_command_work.specs.Seen.{stop_seen}
 use Rattle.jc_top.proofs.CommandLaws.{wrote_all, wrote_some}
 use Rattle.jc_top.proofs.complete.complete.Goals as goal
 

@@ -1,5 +1,5 @@
-use Rattle.jc_work.proofs.CauseLaws.{ends_or_fails, ends_so}
-use Rattle.jc_work.proofs.NoFault.{does_work}
+use Rattle.jc_command_work.proofs.CauseLaws.{ends_or_fails, ends_so}
+use Rattle.jc_command_work.proofs.NoFault.{does_work}
 use Rattle.jc_cover_work.proofs.OneCoverLaws.{PlansAreOne}
 use Rattle.jc_top.specs.Work.{the_work}
 use Rattle.jc_top.proofs.WorkLaws.{has_the_work}

@@ -1,4 +1,4 @@
-use Rattle.jc_work.proofs.Prefix.{ends_front}
+use Rattle.jc_command_work.proofs.Prefix.{ends_front}
 use Rattle.jc_cover_work.proofs.OneCoverLaws.{PlansAreOne}
 use Rattle.jc_top.specs.Work.{the_work}
 use Rattle.jc_top.proofs.WorkLaws.{has_the_work}

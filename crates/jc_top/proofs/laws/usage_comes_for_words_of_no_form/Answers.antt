@@ -1,5 +1,5 @@
-use Rattle.jc_work.specs.declared.status.Status.TheVariants as status
-use Rattle.jc_work.proofs.CauseLaws.{cause}
+use Rattle.jc_command_work.specs.declared.status.Status.TheVariants as status
+use Rattle.jc_command_work.proofs.CauseLaws.{cause}
 use Rattle.jc_top.specs.Work.{the_work}
 use Rattle.jc_top.proofs.WorkLaws.{own_ends, misused_none, no_form_ends}
 use Rattle.jc_top.proofs.laws.usage_comes_for_words_of_no_form.Goals as goal

@@ -1,4 +1,4 @@
-use Rattle.jc_words.specs.Words.{words_of}
+use Rattle.jc_command_words.specs.Words.{words_of}
 use Rattle.jc_top.proofs.BoundLaws.{read_bounded}
 use Rattle.jc_top.proofs.run.read_command.Goals as goal
 

@@ -1,7 +1,7 @@
 use Rattle.std.proofs.Common.{[], map, refl, ap}
 use Rattle.jc_paths.specs.Looks.{file_view}
-use Rattle.jc_words.specs.Commands.{run, cover}
-use Rattle.jc_work.specs.Seen.{texts_of}
+use Rattle.jc_command_words.specs.Commands.{run, cover}
+use Rattle.jc_command_work.specs.Seen.{texts_of}
 use Rattle.jc_top.specs.Work.{work_of}
 use Rattle.jc_exec_commands.specs.Merge.{MergeAnswers}
 use Rattle.jc_exec_commands.specs.ExecInfo.{InfoAnswers}

@@ -1,5 +1,5 @@
-use Rattle.jc_words.specs.Words.{words_of}
-use Rattle.jc_words.specs.Seen.{command_seen}
+use Rattle.jc_command_words.specs.Words.{words_of}
+use Rattle.jc_command_words.specs.Seen.{command_seen}
 use Rattle.jc_top.proofs.CommandLaws.{called_ends, usage_ends, memory_ends}
 use Rattle.jc_top.proofs.HeadlineLaws.{keeps_headline}
 use Rattle.jc_top.specs.Work.{the_work}

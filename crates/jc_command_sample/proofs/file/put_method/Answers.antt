@@ -1,0 +1,9 @@
+use Rattle.jc_command_sample.proofs.FileLaws.{method_is}
+use Rattle.jc_command_sample.proofs.file.put_method.Goals as goal
+
+pub returns : goal.returns
+returns c =
+    method_is c.args.number c.args.into.now.items c.put_short.new.into.items c.put_short-2.new.into.items c.put_short-3.new.into.items
+    c.put_short-4.new.into.items c.put_short-5.new.into.items c.put_word.new.into.items c.put_code_body.new.into.items
+    c.in_ok-put_short.ensures c.in_ok-put_short-2.ensures c.in_ok-put_short-3.ensures c.in_ok-put_short-4.ensures c.in_ok-put_short-5.ensures
+    c.in_ok-put_word.ensures c.in_ok-put_code_body.ensures

@@ -1,0 +1,250 @@
+-- A scan finds the spelling of words, and only that.
+use Rattle.std.proofs.Common.{◌≡◌, ◌∙◌, ap, ap₂, sym, subst, refl, ℕ, suc, ◌+◌, ◌<◌, ◌≤◌, Bool, true, false, not, ◌==◌, ◌&&◌, ◌||◌, List, [], ◌∷◌, ◌++◌, map, length, get_or, Option, Some, None, if◌then◌else◌, arith, append_assoc, option_map, true≢false}
+use Rattle.std.proofs.Common.{take, drop, slice_range, ◌-◌}
+use Rattle.std.proofs.Math.Seq.{take-append_seam, drop-append-add, drop-cons}
+use Rattle.jc_command_words.proofs.BoolLaws.{and-parts}
+use Rattle.std.specs.Borrow.{Bor}
+use Rattle.std.proofs.lemmas.List.{append-nil, drop_all, take_all, length-drop}
+use Rattle.std.proofs.lemmas.List.Sums.{split_at_first, passes_at_first}
+use Rattle.std.proofs.lemmas.Bool.Decides.{Decides-eqb}
+use Rattle.std.specs.List.{flat_map, list_any, list_all, before_first, after_first, position_or_len}
+use Rattle.jc_command_words.specs.Words.{Use, Word, is_plain, use_words, tail_words, rest_words}
+use Rattle.jc_command_words.specs.Scan.{Scan, Kind, dashes, named, joined, other, added, body_kind, is_equals, kind_of_word, scan, scan_kind}
+
+-- ---- what a kind says of the word
+
+-- the word that has this kind
+abbrev Spelled : Kind → Word → Type 0
+Spelled dashes w = w ≡ 45 ∷ 45 ∷ []
+Spelled (named n) w = w ≡ 45 ∷ 45 ∷ n
+Spelled (joined n v) w = w ≡ 45 ∷ 45 ∷ (n ++ 61 ∷ v)
+Spelled other w = Unit {0}
+
+first_within : (p : ℕ → Bool) (xs : List ℕ) → list_any p xs ≡ true → position_or_len p xs < length xs
+first_within p [] h = cc
+first_within p (x ∷ xs) h = by (p x) refl h (first_within p xs)
+  where
+    by : (b : Bool) → p x ≡ b → (b || list_any p xs) ≡ true → (list_any p xs ≡ true → position_or_len p xs < length xs) → position_or_len p (x ∷ xs) < length (x ∷ xs)
+    by true e h rest = rw e (omega arith)
+    by false e h rest = rw e (omega (arith, rest h))
+
+joined_text : (body : Word) → list_any is_equals body ≡ true → body ≡ before_first is_equals body ++ 61 ∷ after_first is_equals body
+joined_text body h =
+    let within = first_within is_equals body h in
+    let sign = (Decides-eqb _ _).0 (passes_at_first is_equals body 0 within) in
+    split_at_first is_equals body 0 within ∙ ap (λ x. before_first is_equals body ++ x ∷ after_first is_equals body) sign
+
+body_spelled : (body : Word) → Spelled (body_kind body) (45 ∷ 45 ∷ body)
+body_spelled [] = refl
+body_spelled (x ∷ xs) = by (list_any is_equals (x ∷ xs)) refl
+  where
+    by : (b : Bool) → list_any is_equals (x ∷ xs) ≡ b
+        → Spelled (if b then joined (before_first is_equals (x ∷ xs)) (after_first is_equals (x ∷ xs)) else named (x ∷ xs)) (45 ∷ 45 ∷ x ∷ xs)
+    by true e = ap (λ t. 45 ∷ 45 ∷ t) (joined_text (x ∷ xs) e)
+    by false e = refl
+
+word_spelled : (w : Word) → Spelled (kind_of_word w) w
+word_spelled [] = tt
+word_spelled (a ∷ []) = tt
+word_spelled (a ∷ b ∷ body) = by (a == 45) (b == 45) refl refl
+  where
+    by : (p q : Bool) → (a == 45) ≡ p → (b == 45) ≡ q → Spelled (if p && q then body_kind body else other) (a ∷ b ∷ body)
+    by true true e f = subst (λ w. Spelled (body_kind body) w) (sym (ap₂ (λ x y. x ∷ y ∷ body) ((Decides-eqb a 45).0 e) ((Decides-eqb b 45).0 f))) (body_spelled body)
+    by true false e f = tt
+    by false q e f = tt
+
+-- ---- a scan spells the words
+
+abbrev pub before : Option Word → List Word → List Word
+before None words = words
+before (Some n) words = (45 ∷ 45 ∷ n) ∷ words
+
+abbrev pub Spells : Scan → List Word → Type 0
+Spells s words = words ≡ rest_words s.uses s.dash s.files
+
+abbrev pub SpellsIf : Option Scan → List Word → Type 0
+SpellsIf None words = Unit {0}
+SpellsIf (Some s) words = Spells s words
+
+added_spells : (u : Use) (o : Option Scan) (words : List Word) → SpellsIf o words → SpellsIf (added u o) (use_words u ++ words)
+added_spells u None words h = tt
+added_spells u (Some s) words h = ap (λ t. use_words u ++ t) h ∙ sym (append_assoc (use_words u) (flat_map use_words s.uses) (tail_words s.dash s.files))
+
+kind_spells : (k : Kind) (w : Word) (rest : List Word) (next : Option Word → Option Scan) → Spelled k w
+    → ((p : Option Word) → SpellsIf (next p) (before p rest)) → SpellsIf (scan_kind k w rest next) (w ∷ rest)
+kind_spells dashes w rest next e h = ap (λ x. x ∷ rest) e
+kind_spells (named n) w rest next e h = subst (λ x. SpellsIf (next (Some n)) (x ∷ rest)) (sym e) (h (Some n))
+kind_spells (joined n v) w rest next e h =
+    let u : Use = record { name = n; value = v; joined = true } in
+    subst (λ x. SpellsIf (added u (next None)) (x ∷ rest)) (sym e) (added_spells u (next None) rest (h None))
+kind_spells other w rest next e h = refl
+
+pub scan_spells : (p : Option Word) (words : List Word) → SpellsIf (scan p words) (before p words)
+unfolding scan
+scan_spells None [] = refl
+scan_spells (Some n) [] = tt
+scan_spells (Some n) (v ∷ rest) = added_spells (record { name = n; value = v; joined = false }) (scan None rest) rest (scan_spells None rest)
+scan_spells None (w ∷ rest) = kind_spells (kind_of_word w) w rest (λ p. scan p rest) (word_spelled w) (λ p. scan_spells p rest)
+
+-- ---- a spelling is found again
+
+one_more : (k : ℕ) → 1 + k ≡ suc k
+one_more k = omega arith
+
+equals_first : (n v : Word) → list_any is_equals n ≡ false → position_or_len is_equals (n ++ 61 ∷ v) ≡ length n
+equals_first [] v h = refl
+equals_first (x ∷ xs) v h = by (is_equals x) refl h (equals_first xs v)
+  where
+    by : (b : Bool) → is_equals x ≡ b → (b || list_any is_equals xs) ≡ false → (list_any is_equals xs ≡ false → position_or_len is_equals (xs ++ 61 ∷ v) ≡ length xs)
+        → position_or_len is_equals (x ∷ xs ++ 61 ∷ v) ≡ length (x ∷ xs)
+    by true e h rest = cc
+    by false e h rest = rw (e, rest h) (omega arith)
+
+has_equals : (n v : Word) → list_any is_equals (n ++ 61 ∷ v) ≡ true
+has_equals [] v = refl
+has_equals (x ∷ xs) v = by (is_equals x) (has_equals xs v)
+  where
+    by : (b : Bool) → list_any is_equals (xs ++ 61 ∷ v) ≡ true → (b || list_any is_equals (xs ++ 61 ∷ v)) ≡ true
+    by true h = refl
+    by false h = h
+
+before_equals : (n v : Word) → list_any is_equals n ≡ false → before_first is_equals (n ++ 61 ∷ v) ≡ n
+before_equals n v h = ap (λ k. take k (n ++ 61 ∷ v)) (equals_first n v h) ∙ take-append_seam n (61 ∷ v)
+
+after_equals : (n v : Word) → list_any is_equals n ≡ false → after_first is_equals (n ++ 61 ∷ v) ≡ v
+after_equals n v h = ap (λ k. drop (k + 1) (n ++ 61 ∷ v)) (equals_first n v h) ∙ drop-append-add n (61 ∷ v) 1
+
+-- a name of an option: not empty, and without `=`
+abbrev pub is_name : Word → Bool
+is_name [] = false
+is_name (x ∷ xs) = not (list_any is_equals (x ∷ xs))
+
+pub not-true : (b : Bool) → not b ≡ true → b ≡ false
+not-true true h = cc
+not-true false h = refl
+
+named_kind : (n : Word) → is_name n ≡ true → kind_of_word (45 ∷ 45 ∷ n) ≡ named n
+named_kind [] h = cc
+named_kind (x ∷ xs) h = rw (not-true _ h) refl
+
+body_joined : (body : Word) → list_any is_equals body ≡ true → body_kind body ≡ joined (before_first is_equals body) (after_first is_equals body)
+body_joined [] h = cc
+body_joined (x ∷ xs) h = rw h refl
+
+joined_kind : (n v : Word) → is_name n ≡ true → kind_of_word (45 ∷ 45 ∷ (n ++ 61 ∷ v)) ≡ joined n v
+joined_kind [] v h = cc
+joined_kind (x ∷ xs) v h =
+    let none = not-true _ h in
+    body_joined (x ∷ xs ++ 61 ∷ v) (has_equals (x ∷ xs) v) ∙ ap₂ joined (before_equals (x ∷ xs) v none) (after_equals (x ∷ xs) v none)
+
+plain_kind : (f : Word) → is_plain f ≡ true → kind_of_word f ≡ other
+plain_kind [] h = cc
+plain_kind (a ∷ []) h = refl
+plain_kind (a ∷ b ∷ body) h = rw (not-true _ h) refl
+
+files_found : (f : Word) (fs : List Word) → is_plain f ≡ true → scan None (f ∷ fs) ≡ Some (record { uses = []; dash = false; files = f ∷ fs })
+unfolding scan
+files_found f fs h = rw (plain_kind f h) refl
+
+use_found : (u : Use) → is_name u.name ≡ true → (words : List Word) → scan None (use_words u ++ words) ≡ added u (scan None words)
+unfolding scan
+use_found u h words = by u.joined
+  where
+    by : (b : Bool) → scan None ((if b then (45 ∷ 45 ∷ (u.name ++ 61 ∷ u.value)) ∷ [] else (45 ∷ 45 ∷ u.name) ∷ u.value ∷ []) ++ words)
+        ≡ added (record { name = u.name; value = u.value; joined = b }) (scan None words)
+    by true = rw (joined_kind u.name u.value h) refl
+    by false = rw (named_kind u.name h) refl
+
+pub scan_finds : (uses : List Use) (dash : Bool) (f : Word) (fs : List Word) → list_all (λ u. is_name u.name) uses ≡ true → is_plain f ≡ true
+    → scan None (rest_words uses dash (f ∷ fs)) ≡ Some (record { uses = uses; dash = dash; files = f ∷ fs })
+unfolding scan
+scan_finds [] true f fs names plain = refl
+scan_finds [] false f fs names plain = files_found f fs plain
+scan_finds (u ∷ us) dash f fs names plain =
+    let p = and-parts (is_name u.name) (list_all (λ u. is_name u.name) us) names in
+    ap (scan None) (append_assoc (use_words u) (flat_map use_words us) (tail_words dash (f ∷ fs)))
+    ∙ use_found u p.0 (rest_words us dash (f ∷ fs)) ∙ ap (added u) (scan_finds us dash f fs p.1 plain)
+
+-- a use alone is found again
+pub scan_ends : (u : Use) → is_name u.name ≡ true → scan None (use_words u ++ []) ≡ Some (record { uses = u ∷ []; dash = false; files = [] })
+unfolding scan
+scan_ends u name = use_found u name []
+
+no_equals : (body : Word) → position_or_len is_equals body ≡ length body → list_any is_equals body ≡ false
+no_equals body at = by (list_any is_equals body) refl
+  where
+    by : (b : Bool) → list_any is_equals body ≡ b → b ≡ false
+    by true e = let within = first_within is_equals body e in absurd (omega (arith, at))
+    by false e = refl
+
+pub named_word : (w body : Word) → w ≡ 45 ∷ 45 ∷ body → (length body == 0) ≡ false → position_or_len is_equals body ≡ length body → named body ≡ kind_of_word w
+named_word w [] e full at = absurd (true≢false full)
+named_word w (x ∷ xs) e full at = sym (ap kind_of_word e ∙ named_kind (x ∷ xs) (ap not (no_equals (x ∷ xs) at)))
+
+abbrev pub prepend : List Use → Option Scan → Option Scan
+prepend us = option_map {T = Scan} (λ s. record s { uses = us ++ s.uses })
+
+pub prepend-added : (us : List Use) (u : Use) (o : Option Scan) → prepend us (added u o) ≡ prepend (us ++ u ∷ []) o
+prepend-added us u None = refl
+prepend-added us u (Some s) = ap (λ xs. Some (record s { uses = xs })) (sym (append_assoc us (u ∷ []) s.uses))
+
+pub prepend-none : (o : Option Scan) → prepend [] o ≡ o
+prepend-none None = refl
+prepend-none (Some s) = refl
+
+-- ---- a scan's steps
+
+abbrev nows : Option (Bor Word) → Option Word
+nows = option_map (λ s. s.now)
+
+module _ (W D : List Word) (us : List Use) (p : Option (Bor Word)) (t : Word) (so_far : scan None W ≡ prepend us (scan (nows p) (t ∷ D))) where
+  pub step_dashes : p ≡ None → dashes ≡ kind_of_word t → ◌≡◌ {A = Option Scan} (Some (record { uses = us; dash = true; files = D })) (scan None W)
+  unfolding scan
+  step_dashes none k =
+      sym (so_far ∙ ap (λ q. prepend us (scan (nows q) (t ∷ D))) none
+      ∙ ap (λ k. prepend us (scan_kind k t D (λ p. scan p D))) (sym k) ∙ ap {B = Option Scan} (λ xs. Some (record { uses = xs; dash = true; files = D })) (append-nil us))
+
+  pub step_other : p ≡ None → other ≡ kind_of_word t → ◌≡◌ {A = Option Scan} (Some (record { uses = us; dash = false; files = t ∷ D })) (scan None W)
+  unfolding scan
+  step_other none k =
+      sym (so_far ∙ ap (λ q. prepend us (scan (nows q) (t ∷ D))) none
+      ∙ ap (λ k. prepend us (scan_kind k t D (λ p. scan p D))) (sym k) ∙ ap {B = Option Scan} (λ xs. Some (record { uses = xs; dash = false; files = t ∷ D })) (append-nil us))
+
+  pub step_named : (n : Word) → p ≡ None → named n ≡ kind_of_word t → scan None W ≡ prepend us (scan (Some n) D)
+  unfolding scan
+  step_named n none k =
+      so_far ∙ ap (λ q. prepend us (scan (nows q) (t ∷ D))) none ∙ ap (λ k. prepend us (scan_kind k t D (λ p. scan p D))) (sym k)
+
+  pub step_joined : (n v : Word) → p ≡ None → joined n v ≡ kind_of_word t
+      → scan None W ≡ prepend (us ++ record { name = n; value = v; joined = true } ∷ []) (scan None D)
+  unfolding scan
+  step_joined n v none k =
+      so_far ∙ ap (λ q. prepend us (scan (nows q) (t ∷ D))) none ∙ ap (λ k. prepend us (scan_kind k t D (λ p. scan p D))) (sym k)
+      ∙ prepend-added us (record { name = n; value = v; joined = true }) (scan None D)
+
+  pub step_value : (n : Bor Word) → p ≡ Some n → scan None W ≡ prepend (us ++ record { name = n.now; value = t; joined = false } ∷ []) (scan None D)
+  unfolding scan
+  step_value n some =
+      so_far ∙ ap (λ q. prepend us (scan (nows q) (t ∷ D))) some ∙ prepend-added us (record { name = n.now; value = t; joined = false }) (scan None D)
+
+pub end_pending : (W : List Word) (us : List Use) (p : Option (Bor Word)) (n : Bor Word) → scan None W ≡ prepend us (scan (nows p) []) → p ≡ Some n → None ≡ scan None W
+unfolding scan
+end_pending W us p n h e = sym (h ∙ ap (λ q. prepend us (scan (nows q) [])) e)
+
+pub end_none : (W : List Word) (us : List Use) (p : Option (Bor Word)) → scan None W ≡ prepend us (scan (nows p) []) → p ≡ None
+    → ◌≡◌ {A = Option Scan} (Some (record { uses = us; dash = false; files = [] })) (scan None W)
+unfolding scan
+end_none W us p h e = sym (h ∙ ap (λ q. prepend us (scan (nows q) [])) e ∙ ap {B = Option Scan} (λ xs. Some (record { uses = xs; dash = false; files = [] })) (append-nil us))
+
+-- the words from a place on begin with the word there
+pub words_from : {X : Type 0} (f : X → Word) (ws : List X) (i : ℕ) (x : X) (t : Word) → i < length ws → x ≡ get_or ws i x → t ≡ f x
+    → map f (drop i ws) ≡ t ∷ map f (drop (i + 1) ws)
+words_from f ws i x t lt at e =
+    let next : suc i ≡ i + 1 = omega arith in
+    ap (map f) (drop-cons ws i x lt) ∙ ap₂ (λ y k. f y ∷ map f (drop k ws)) (sym at) next ∙ ap (λ y. y ∷ map f (drop (i + 1) ws)) (sym e)
+
+pub no_words_from : {X : Type 0} (f : X → Word) (ws : List X) (i : ℕ) → length ws ≤ i → map f (drop i ws) ≡ []
+no_words_from f ws i h = ap (map f) (drop_all i ws h)
+
+pub slice_range-drop : {X : Type 0} (xs : List X) (i : ℕ) → slice_range xs i (length xs) ≡ drop i xs
+slice_range-drop xs i = take_all (length xs - i) (drop i xs) (omega (arith, length-drop i xs))

@@ -1,0 +1,147 @@
+-- A command that reads, decides and then writes has one work, and functions that do its parts do the whole.
+use Rattle.std.proofs.Common.{◌≡◌, ℕ, List, [], ◌∷◌, ◌++◌, map, Option, None, Some, Result, Ok, Err, Vec, length, inl, inr, refl, sym, subst, arith}
+use Rattle.std.specs.List.{AllByRecursion}
+use Rattle.std.specs.declared.alloc.Global.{Global}
+use Rattle.jc_command_work.specs.declared.output.Write.{Write as Written}
+use Rattle.jc_command_work.specs.declared.stop.Stop.{Stop}
+use Rattle.jc_command_work.specs.Step.{Word, IsFile, AreTexts, World, Counts, Landed, Write, to_read, Step, has_read, has_no, has_listed, has_written, Fit, after}
+use Rattle.jc_command_work.specs.Part.{End, done, unread, wants, gives, stops, Part, giving, ending, reading, reading_all, writing_all, ◌>>=◌}
+use Rattle.jc_command_work.specs.Ending.{CameTo, Stops, Does, Ran}
+use Rattle.jc_command_work.specs.OneWay.{IsOver, HasOne, OneDecision}
+use Rattle.jc_paths.specs.Paths.{FileText, plain, folder}
+use Rattle.jc_command_work.specs.Folders.{paths_of, all_paths, files_of, once}
+use Rattle.jc_command_work.specs.Seen.{write_seen, stop_seen}
+use Rattle.jc_command_work.specs.Answered.{Answer, OneAnswer, HasOneAnswer, answering, preparing, making_all, answered, EndsSo, AnswersWith}
+use Rattle.jc_command_work.proofs.Behind.{fit_front, fit_behind, came_then, began_then, stops_first}
+use Rattle.jc_command_work.proofs.OneWork.{one_giving, one_ending, one_deciding, one_listing, has_then, has_then_if, has_reading_all, has_writing_all, same_value, not_gives}
+use Rattle.jc_command_work.proofs.Reaching.{was_decided, was_ended, reached_start, reached_next, ran_last}
+
+-- ---- what was read
+
+-- a part behind another hands on what the second hands on
+pub handed_on : {X Y : Type 0} (landed : Landed) (p : Part X) (q : X → Part Y) (w : World) (steps : List Step) (y : Y) → (p >>= q) steps (gives y) → Fit landed w steps
+    → (front : List Step) × (behind : List Step) × (x : X) × p front (gives x) × q x behind (gives y) × Fit landed w front × Fit landed (after landed w front) behind
+handed_on landed p q w steps y (inl within) fits = absurd within
+handed_on landed p q w steps y (inr h) fits =
+    let fits' = subst (Fit landed w) h.parts fits in
+    (h.front, h.behind, h.value, h.over, h.goes_on, fit_front landed w h.front h.behind fits', fit_behind landed w h.front h.behind fits')
+
+pub given : {X : Type 0} (x y : X) (steps : List Step) → giving x steps (gives y) → y ≡ x
+given x y [] is = same_value y x is
+given x y (s ∷ ss) is = absurd is
+
+pub file_read : (landed : Landed) (w : World) (path text : List ℕ) (steps : List Step) → reading path steps (gives text) → Fit landed w steps → IsFile text
+file_read landed w path text [] is fits = absurd (not_gives text (wants (to_read path)) is tt)
+file_read landed w path text (has_read p b ∷ []) is fits = subst IsFile (sym (same_value text b is.1)) fits.0.file
+file_read landed w path text (has_no p ∷ []) is fits = absurd (not_gives text (stops (unread path)) is.1 tt)
+file_read landed w path text (has_read p b ∷ s ∷ ss) is fits = absurd is
+file_read landed w path text (has_no p ∷ s ∷ ss) is fits = absurd is
+file_read landed w path text (has_listed p b ∷ ss) is fits = absurd is
+file_read landed w path text (has_written v ∷ ss) is fits = absurd is
+
+pub texts_read : (landed : Landed) (w : World) (paths : List Word) (steps : List Step) (read : List (List ℕ)) → reading_all paths steps (gives read) → Fit landed w steps → AreTexts paths read
+texts_read landed w [] steps read is fits = subst (AreTexts []) (sym (given [] read steps is)) tt
+texts_read landed w (p ∷ ps) steps read is fits =
+    let (front, behind, text, first, next, fits', fits'') = handed_on landed (reading p) _ w steps read is fits in
+    let (front', behind', more, first', next', fits₁, fits₂) = handed_on landed (reading_all ps) _ (after landed w front) behind read next fits'' in
+    subst (AreTexts (p ∷ ps)) (sym (given (text ∷ more) read behind' next')) (file_read landed w p text front first fits', texts_read landed (after landed w front) ps front' more first' fits₁)
+
+-- ---- the files that words name
+
+module _ (landed : Landed) where
+  has_paths : (file : FileText) → HasOne landed (paths_of file)
+  has_paths (plain path) = λ w told. one_giving landed w _
+  has_paths (folder path) = λ w told. one_listing landed w _ told
+
+  has_all_paths : (files : List FileText) → HasOne landed (all_paths files)
+  has_all_paths [] = λ w told. one_giving landed w []
+  has_all_paths (file ∷ files) =
+      has_then landed (paths_of file) _ (has_paths file)
+      (λ paths. has_then landed (all_paths files) _ (has_all_paths files) (λ more w told. one_giving landed w (paths ++ more)))
+
+  pub has_files : (files : List FileText) → HasOne landed (files_of files)
+  has_files files = has_then landed (all_paths files) _ (has_all_paths files) (λ paths w told. one_giving landed w (once [] paths))
+
+-- ---- what is decided
+
+one_answering : (Is : Answer → Type 0) → OneAnswer Is → OneDecision (λ writes. Is (gives writes)) (λ end. Is (stops end))
+one_answering Is one = record { decision = one.answer; over = one.over; holds = by one.answer one.over one.holds; only = λ o over is. one.only o (back o over is) }
+  where
+    by : (o : Answer) → IsOver o → Is o → answering Is [] o
+    by (wants call) over is = absurd over
+    by (gives writes) over is = is
+    by (stops end) over is = is
+
+    back : (o : Answer) → IsOver o → answering Is [] o → Is o
+    back (wants call) over is = absurd over
+    back (gives writes) over is = is
+    back (stops end) over is = is
+
+module _ (landed : Landed) (inputs : List Word) (Answers : List (List ℕ) → Answer → Type 0) where
+  pub has_preparing : HasOneAnswer inputs Answers → HasOne landed (preparing inputs Answers)
+  has_preparing one =
+      has_then_if landed (reading_all inputs) (λ texts. answering (Answers texts)) (has_reading_all landed inputs)
+      (λ w steps texts over fits. by texts (one texts (texts_read landed w inputs steps texts over fits)))
+    where
+      by : (texts : List (List ℕ)) → OneAnswer (Answers texts) → HasOne landed (answering (Answers texts))
+      by texts own w told = one_deciding landed w (λ writes. Answers texts (gives writes)) (λ end. Answers texts (stops end)) (one_answering (Answers texts) own)
+
+  pub has_making : (writes : List Write) → HasOne landed (making_all writes)
+  has_making writes = has_then landed (writing_all writes) (λ _. ending {X = ⊥} done) (has_writing_all landed writes) (λ _ w told. one_ending landed w done)
+
+  -- it has one work
+  pub has_answered : HasOneAnswer inputs Answers → HasOne landed (answered inputs Answers)
+  has_answered one = has_then landed (preparing inputs Answers) making_all (has_preparing one) has_making
+
+  -- ---- functions that do its parts
+
+  -- the inputs were read, and what was made of them is decided
+  pub prepared : (old mid : World) (f g : Counts) (texts : List (List ℕ)) (r : Result (Vec Written Global) Stop)
+      → (g ≡ f) × CameTo landed (reading_all inputs) old mid (gives texts) → AnswersWith (Answers texts) r
+      → Does landed (preparing inputs Answers) (λ writes. map write_seen writes.items) stop_seen old mid f g r
+  prepared old mid f g texts (Ok writes) (same, came) is = (
+    same,
+    came_then landed (reading_all inputs) (λ ts. answering (Answers ts)) old texts mid mid (gives (map write_seen writes.items)) came
+        (was_decided landed (λ ws. Answers texts (gives ws)) (λ end. Answers texts (stops end)) mid (map write_seen writes.items) is),
+  )
+  prepared old mid f g texts (Err stop) (same, came) is = by (stop_seen stop) is
+    where
+      by : (o : Option End) → EndsSo (Answers texts) o → Stops landed (preparing inputs Answers) old mid f g o
+      by None none =
+          (same, began_then landed (reading_all inputs) (λ ts. answering (Answers ts)) old texts mid mid came (record { steps = []; begun = inl refl; fit = tt; stand = refl }))
+      by (Some end) so =
+          inl (
+            same,
+            came_then landed (reading_all inputs) (λ ts. answering (Answers ts)) old texts mid mid (stops end) came
+                (was_ended landed (λ ws. Answers texts (gives ws)) (λ e. Answers texts (stops e)) mid end so),
+          )
+
+  -- an input couldn't be read, or memory was refused
+  pub unprepared : (old mid : World) (f g : Counts) (stop : Option End) → Stops landed (reading_all inputs) old mid f g stop → Stops landed (preparing inputs Answers) old mid f g stop
+  unprepared old mid f g stop stopped = stops_first landed (reading_all inputs) (λ ts. answering (Answers ts)) old mid f g stop stopped
+
+  -- what was decided is written
+  pub ran_answered : (old mid new : World) (f g f' : Counts) (writes : List Write) (r : Result (Unit {0}) Stop)
+      → (g ≡ f) × CameTo landed (preparing inputs Answers) old mid (gives writes) → Does landed (writing_all writes) (λ _. tt) stop_seen mid new g f' r
+      → Ran landed (answered inputs Answers) stop_seen old new f f' r
+  ran_answered old mid new f g f' writes r (same, came) does =
+      let command = answered inputs Answers in
+      let next = reached_next landed command old f (preparing inputs Answers) making_all (λ y. y) old f (reached_start landed command old f) writes mid g same came in
+      ran_last landed command old mid f g (writing_all writes) next stop_seen new f' r does
+
+  pub ran_unprepared : (old mid : World) (f g : Counts) (stop : Option End) → Stops landed (preparing inputs Answers) old mid f g stop → Stops landed (answered inputs Answers) old mid f g stop
+  ran_unprepared old mid f g stop stopped = stops_first landed (preparing inputs Answers) making_all old mid f g stop stopped
+
+-- ---- what was read is files
+
+pub all_files : (paths : List Word) (texts : List (List ℕ)) → AreTexts paths texts → AllByRecursion IsFile texts
+all_files [] [] are = tt
+all_files [] (t ∷ ts) are = absurd are
+all_files (p ∷ ps) [] are = absurd are
+all_files (p ∷ ps) (t ∷ ts) are = (are.0, all_files ps ts are.1)
+
+pub as_many_texts : (paths : List Word) (texts : List (List ℕ)) → AreTexts paths texts → length paths ≡ length texts
+as_many_texts [] [] are = refl
+as_many_texts [] (t ∷ ts) are = absurd are
+as_many_texts (p ∷ ps) [] are = absurd are
+as_many_texts (p ∷ ps) (t ∷ ts) are = let rest = as_many_texts ps ts are.1 in omega (arith, rest)

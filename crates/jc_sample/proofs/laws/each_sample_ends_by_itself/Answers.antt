@@ -1,5 +1,0 @@
-use Rattle.jc_sample.proofs.OwnEndLaws.{own_sample}
-use Rattle.jc_sample.proofs.laws.each_sample_ends_by_itself.Goals as goal
-
-pub returns : goal.returns
-returns c = own_sample
