@@ -5,11 +5,11 @@ use Rattle.jc_programs.specs.declared.run_plan.Case.{Case}
 use Rattle.jc_programs.specs.declared.run_end.Entry.{Entry}
 use Rattle.jc_programs.specs.Entries.{AreEntries}
 use Rattle.jc_programs.specs.Turns.{IsCase, AreThreads, turns_of, turns_in}
-use Rattle.jc_world.specs.Begin.{begin}
-use Rattle.jc_world.specs.World.{World}
-use Rattle.jc_world.specs.Run.{run_from, run}
+use Rattle.jc_machine_model.specs.Begin.{begin}
+use Rattle.jc_machine_model.specs.World.{World}
+use Rattle.jc_machine_model.specs.Run.{run_from, run}
 use Rattle.jc_machine.specs.Machines.{Machine, world_of}
-use Rattle.jc_world_laws.proofs.WorldLaws.{entries_are}
+use Rattle.jc_machine_laws.proofs.WorldLaws.{entries_are}
 use Rattle.jc_machine.proofs.FirstLaws.{as_many_entries, length-first_threads}
 
 module _ (program : Program) (m : Machine) (case : Case) (entries : List Entry) (are : AreEntries program case.threads entries)

@@ -1,15 +1,15 @@
-//! A caller of jc_machine and jc_case_text.
+//! A caller of jc_machine and jc_machine_text.
 ghost use Rattle.std.specs.Prelude.{◌≡◌, IfOk};
 ghost use Rattle.jc_programs.specs.Entries.{AreEntries};
 ghost use Rattle.jc_programs.specs.Turns.{IsCase, turns_in};
-ghost use Rattle.jc_world.specs.CaseEnds.{case_end};
-ghost use Rattle.jc_world.specs.CaseText.{case_text};
-ghost use Rattle.jc_world.specs.Programs.{IsProgram};
+ghost use Rattle.jc_machine_model.specs.CaseEnds.{case_end};
+ghost use Rattle.jc_machine_model.specs.CaseText.{case_text};
+ghost use Rattle.jc_machine_model.specs.Programs.{IsProgram};
 ghost use Rattle.jc_machine.specs.Hits.{count_in, probe_counts};
 
 use jc_bytes::Memory;
-use jc_case_text::case_text;
 use jc_machine::{BitSink, World};
+use jc_machine_text::case_text;
 use jc_programs::{Case, Entry, ProbeInit, Program};
 use std::alloc::{AllocError, Global};
 

@@ -2,8 +2,8 @@
 ghost use Rattle.std.specs.Prelude.{◌≡◌, ◌≤◌, ◌↔◌, ℕ, IfOk};
 ghost use Rattle.jc_programs.specs.Probes.{IsHit};
 ghost use Rattle.jc_programs.specs.Turns.{IsRunPlan};
-ghost use Rattle.jc_world.specs.Programs.{IsProgram};
-ghost use Rattle.jc_world.specs.Run.{IsHit as IsRunHit};
+ghost use Rattle.jc_machine_model.specs.Programs.{IsProgram};
+ghost use Rattle.jc_machine_model.specs.Run.{IsHit as IsRunHit};
 ghost use Rattle.jc_workers.specs.Cases.{HaveEntries, ends_under};
 
 use crate::machine::counts;

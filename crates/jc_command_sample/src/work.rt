@@ -8,7 +8,7 @@ ghost use Rattle.jc_run_parts.specs.HitStore.{FitRecords};
 ghost use Rattle.jc_run_work.specs.RunStore.{threads_of, first_without};
 ghost use Rattle.jc_same_runs.specs.Frameless.{frameless};
 ghost use Rattle.jc_command_work.specs.Part.{deciding};
-ghost use Rattle.jc_world.specs.Programs.{IsProgram};
+ghost use Rattle.jc_machine_model.specs.Programs.{IsProgram};
 ghost use Rattle.jc_command_sample.specs.SampleFile.{sample_file as file_of};
 ghost use Rattle.jc_command_sample.specs.SampleWork.{IsRefusedEnd, HaveEntries, IsEntryEnd, linking, running, sample_line as line_part, sample_work};
 ghost use Rattle.jc_command_sample.specs.Seen.{Decides, RanOut};

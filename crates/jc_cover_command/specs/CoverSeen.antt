@@ -4,7 +4,7 @@ use Rattle.jc_paths.specs.Paths.{FileText}
 use Rattle.jc_programs.specs.declared.program.Program.{Program}
 use Rattle.jc_programs.specs.declared.run_plan.RunPlan.{RunPlan}
 use Rattle.jc_exec.specs.Writing.{exec_text}
-use Rattle.jc_world.specs.CaseText.{case_texts}
+use Rattle.jc_machine_model.specs.CaseText.{case_texts}
 use Rattle.jc_command_work.specs.Step.{to_file, to_out}
 use Rattle.jc_command_work.specs.Part.{Command, done, ending, deciding, writing, ◌>>=◌, ◌>>◌}
 use Rattle.jc_run_work.specs.RunStore.{run_store}

@@ -5,7 +5,7 @@ ghost use Rattle.jc_run_work.specs.RunStore.{threads_of, first_without};
 ghost use Rattle.jc_cover_work.specs.CoverWork.{HaveEntries, IsEntryEnd};
 ghost use Rattle.jc_cover_command.specs.Deciding.{Decides};
 ghost use Rattle.jc_command_work.specs.Seen.{stop_seen};
-ghost use Rattle.jc_world.specs.Programs.{IsProgram};
+ghost use Rattle.jc_machine_model.specs.Programs.{IsProgram};
 
 use jc_command_work::{Fault, Stop};
 use jc_programs::{Program, RunPlan};

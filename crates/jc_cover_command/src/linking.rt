@@ -11,7 +11,7 @@ ghost use Rattle.jc_cover_command.specs.Deciding.{Decides, StopsBy};
 ghost use Rattle.jc_cover_command.specs.Placed.{placed, end_placed};
 ghost use Rattle.jc_command_work.specs.Seen.{stop_seen};
 ghost use Rattle.jc_command_work.specs.Step.{Word};
-ghost use Rattle.jc_world.specs.Programs.{IsProgram};
+ghost use Rattle.jc_machine_model.specs.Programs.{IsProgram};
 
 use crate::accepted::Accepted;
 use jc_bytes::{Bytes, Fail};

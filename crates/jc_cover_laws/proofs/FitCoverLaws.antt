@@ -14,7 +14,7 @@ use Rattle.jc_linking.specs.Linking.{IsProgramOf}
 use Rattle.jc_link_laws.specs.TwinFiles.{AreWrittenOf, IsShortFile}
 use Rattle.jc_link_laws.proofs.TwinLinkLaws.{twin_program}
 use Rattle.jc_same_runs.specs.Frameless.{frameless}
-use Rattle.jc_world.specs.CaseText.{case_texts}
+use Rattle.jc_machine_model.specs.CaseText.{case_texts}
 use Rattle.jc_command_work.specs.declared.status.Status.{Status}
 use Rattle.jc_command_work.specs.declared.status.Status.TheVariants as status
 use Rattle.jc_command_work.specs.Step.{Word, World, Counts, Landed, Write, to_file, to_out, after, after_write}

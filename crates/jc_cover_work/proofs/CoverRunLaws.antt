@@ -6,7 +6,7 @@ use Rattle.jc_exec.specs.Writing.{exec_text}
 use Rattle.jc_link.specs.Plans.{IsPlanText}
 use Rattle.jc_linking.specs.declared.link_refusal.LinkRefusal.{LinkRefusal}
 use Rattle.jc_linking.specs.declared.link_refusal.LinkRefusal.TheVariants as refusals
-use Rattle.jc_world.specs.CaseText.{case_texts}
+use Rattle.jc_machine_model.specs.CaseText.{case_texts}
 use Rattle.jc_command_work.specs.declared.status.Fault.{Fault}
 use Rattle.jc_command_work.specs.Step.{Word, World, Landed, Write, to_file, to_out, Step, Fit, after, after_write, IsRead}
 use Rattle.jc_command_work.specs.Part.{done, refused, stops, Command, ending, deciding, reading, writing, reading_all, ◌>>=◌, ◌>>◌}

@@ -6,7 +6,7 @@ use Rattle.jc_exec.specs.Writing.{exec_text}
 use Rattle.jc_link.specs.Plans.{IsPlanText}
 use Rattle.jc_linking.specs.declared.link_refusal.LinkRefusal.{LinkRefusal}
 use Rattle.jc_linking.specs.declared.link_refusal.LinkRefusal.TheVariants as refusals
-use Rattle.jc_world.specs.CaseText.{case_texts}
+use Rattle.jc_machine_model.specs.CaseText.{case_texts}
 use Rattle.jc_command_work.specs.declared.status.Fault.{Fault}
 use Rattle.jc_command_work.specs.Step.{Word, Write, to_file, to_out}
 use Rattle.jc_command_work.specs.Part.{End, done, refused, unread, Part, giving, deciding, making, never}

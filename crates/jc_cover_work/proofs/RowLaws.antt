@@ -27,9 +27,9 @@ use Rattle.jc_cover.proofs.CoverageLaws.{tells}
 use Rattle.jc_exec.specs.declared.hits.ClassHits.{ClassHits}
 use Rattle.jc_report.specs.declared.row.Counted.{Counted}
 use Rattle.jc_linking.specs.Pairs.{HaveOneId, NoPair, id_of as class_id_of}
-use Rattle.jc_world.specs.Methods.{declares_init}
-use Rattle.jc_world.specs.Run.{hits_of}
-use Rattle.jc_world.specs.World.{Hit}
+use Rattle.jc_machine_model.specs.Methods.{declares_init}
+use Rattle.jc_machine_model.specs.Run.{hits_of}
+use Rattle.jc_machine_model.specs.World.{Hit}
 use Rattle.jc_simulation.specs.Marking.{AreMarks}
 use Rattle.jc_exact.specs.Exact.{HaveEntries}
 use Rattle.jc_exact.proofs.ReportedLaws.{reported_edges}

@@ -16,8 +16,8 @@ use Rattle.jc_exec.specs.Writing.{exec_text}
 use Rattle.jc_linking.specs.Linking.{IsProgramOf}
 use Rattle.jc_link_laws.specs.TwinFiles.{AreWrittenOf, IsShortFile}
 use Rattle.jc_link_laws.proofs.TwinLinkLaws.{twin_program}
-use Rattle.jc_world.specs.CaseText.{case_texts}
-use Rattle.jc_world.specs.Run.{run}
+use Rattle.jc_machine_model.specs.CaseText.{case_texts}
+use Rattle.jc_machine_model.specs.Run.{run}
 use Rattle.jc_simulation.specs.Marking.{AreMarks}
 use Rattle.jc_simulation.specs.Same.{Same}
 use Rattle.jc_simulation.specs.Laws.{kept_of}

@@ -12,7 +12,7 @@ use Rattle.jc_link.specs.Plans.{IsPlanText}
 use Rattle.jc_linking.specs.Linking.{IsLinkRefusal}
 use Rattle.jc_linking.specs.declared.link_refusal.LinkRefusal.{LinkRefusal}
 use Rattle.jc_linking.specs.declared.link_refusal.LinkRefusal.TheVariants as refusals
-use Rattle.jc_world.specs.CaseText.{case_texts}
+use Rattle.jc_machine_model.specs.CaseText.{case_texts}
 use Rattle.jc_command_work.specs.declared.status.Fault.TheVariants as fault
 use Rattle.jc_command_work.specs.Step.{Word, Write, to_file, to_out}
 use Rattle.jc_command_work.specs.Part.{End, done, refused, Part, Command, giving, ending, deciding, making, ◌>>=◌, ◌>>◌}

@@ -35,10 +35,10 @@ use Rattle.jc_cover.specs.declared.coverage.Coverage.{Coverage}
 use Rattle.jc_cover.specs.Covered.{is_hit, TellsCovered}
 use Rattle.jc_cover.specs.Counters.{counters_of}
 use Rattle.jc_report.specs.declared.row.Counted.{Counted}
-use Rattle.jc_world.specs.CaseText.{case_texts}
-use Rattle.jc_world.specs.Methods.{declares_init}
-use Rattle.jc_world.specs.Run.{run, IsHit, hits_of}
-use Rattle.jc_world.specs.World.{Hit}
+use Rattle.jc_machine_model.specs.CaseText.{case_texts}
+use Rattle.jc_machine_model.specs.Methods.{declares_init}
+use Rattle.jc_machine_model.specs.Run.{run, IsHit, hits_of}
+use Rattle.jc_machine_model.specs.World.{Hit}
 use Rattle.jc_simulation.specs.Marking.{AreMarks}
 use Rattle.jc_simulation.specs.Same.{Same}
 use Rattle.jc_simulation.specs.Laws.{kept_of}

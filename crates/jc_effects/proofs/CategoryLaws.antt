@@ -1,8 +1,8 @@
 -- Whether operands of categories stand on top is seen by the categories of the four on top.
 use Rattle.std.proofs.Common.{◌≡◌, ◌≤◌, ℕ, zero, suc, Bool, true, false, ◌&&◌, List, [], ◌∷◌, length, nat_eq, refl, ap, sym, ◌∙◌, arith, if◌then◌else◌}
 use Rattle.jc_methods.specs.Opcode as opcode
-use Rattle.jc_world.specs.Values.{Value, int, long, null, object, memory_error, print_stream, probes, text}
-use Rattle.jc_world.specs.Effects as effects
+use Rattle.jc_machine_model.specs.Values.{Value, int, long, null, object, memory_error, print_stream, probes, text}
+use Rattle.jc_machine_model.specs.Effects as effects
 use Rattle.jc_effects.specs.Operands.{operand_of, first_of, second_of, third_of, fourth_of, AreOnTop, category_of}
 use Rattle.jc_effects.specs.declared.operand.Operand.{Operand}
 use Rattle.jc_effects.specs.Categories.{is_of_category, stand_on_top, operand_count, moved_by}

@@ -1,8 +1,8 @@
 -- What an instruction on numbers does is seen by the operands on top.
 use Rattle.std.proofs.Common.{◌≡◌, ◌∙◌, ◌<◌, ◌≤◌, ℕ, ℤ, true, false, nat_le, nat_lt, List, [], ◌∷◌, refl, sym, ap, ap₂, arith}
 use Rattle.std.proofs.lemmas.Bool.Decides.{nat_tests}
-use Rattle.jc_world.specs.Values.{Value, int, long, null, object, memory_error, print_stream, probes, text}
-use Rattle.jc_world.specs.Effects.{single, pair, effect, moved, moves_of, has_one_operand}
+use Rattle.jc_machine_model.specs.Values.{Value, int, long, null, object, memory_error, print_stream, probes, text}
+use Rattle.jc_machine_model.specs.Effects.{single, pair, effect, moved, moves_of, has_one_operand}
 use Rattle.jc_effects.specs.Operands.{first_of, second_of, AreOnTop, single_of, pair_of}
 use Rattle.jc_effects.specs.declared.operand.Operand.{Operand}
 use Rattle.jc_effects.specs.declared.operand.Operand.TheVariants as operands

@@ -1,7 +1,7 @@
 -- Operands moved, by the categories of those on top.
 use Rattle.std.specs.Prelude.{ℕ, ◌+◌, Bool, true, false, ◌&&◌, List, [], ◌∷◌, if◌then◌else◌}
-use Rattle.jc_world.specs.Values.{Value}
-use Rattle.jc_world.specs.Effects as effects
+use Rattle.jc_machine_model.specs.Values.{Value}
+use Rattle.jc_machine_model.specs.Effects as effects
 use Rattle.jc_effects.specs.declared.operand.Category.{Category}
 use Rattle.jc_effects.specs.declared.operand.Category.TheVariants as categories
 

@@ -1,8 +1,8 @@
 -- What the code says of an effect or of a test, as the machine's definitions have it.
 use Rattle.std.specs.Prelude.{List, [], ◌∷◌, Option, Some, None, drop}
-use Rattle.jc_world.specs.Values.{Value, int, long, null}
-use Rattle.jc_world.specs.Effects as effects
-use Rattle.jc_world.specs.Jumps.{Tested}
+use Rattle.jc_machine_model.specs.Values.{Value, int, long, null}
+use Rattle.jc_machine_model.specs.Effects as effects
+use Rattle.jc_machine_model.specs.Jumps.{Tested}
 use Rattle.jc_effects.specs.declared.description.Effect.{Effect}
 use Rattle.jc_effects.specs.declared.description.Effect.TheVariants as described
 use Rattle.jc_effects.specs.declared.description.Test.{Test}

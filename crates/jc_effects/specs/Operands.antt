@@ -1,7 +1,7 @@
 -- The operands at the top of the stack, as the code sees them.
 use Rattle.std.specs.Prelude.{◌≡◌, ℕ, Bool, ⊤, List, [], ◌∷◌, IsTrue}
-use Rattle.jc_world.specs.Effects.{Effect, unfit, int_single, long_single, int_pair, long_pair, long_shift}
-use Rattle.jc_world.specs.Values.{Value, int, long, null, is_reference, is_same}
+use Rattle.jc_machine_model.specs.Effects.{Effect, unfit, int_single, long_single, int_pair, long_pair, long_shift}
+use Rattle.jc_machine_model.specs.Values.{Value, int, long, null, is_reference, is_same}
 use Rattle.jc_effects.specs.declared.operand.Operand.{Operand}
 use Rattle.jc_effects.specs.declared.operand.Operand.TheVariants as operands
 use Rattle.jc_effects.specs.declared.operand.Category.{Category}

@@ -1,7 +1,7 @@
 //! Arithmetic, conversions and comparison of ints and longs.
 ghost use Rattle.std.specs.Prelude.{◌≡◌, List};
-ghost use Rattle.jc_world.specs.Values.{Value};
-ghost use Rattle.jc_world.specs.Effects.{int_for as an_int_for, long_for as a_long_for, divided, int_pair, compared, long_pair, int_single, long_single};
+ghost use Rattle.jc_machine_model.specs.Values.{Value};
+ghost use Rattle.jc_machine_model.specs.Effects.{int_for as an_int_for, long_for as a_long_for, divided, int_pair, compared, long_pair, int_single, long_single};
 ghost use Rattle.std.specs.Prelude.{int_rem};
 ghost use Rattle.std.specs.Int.{w32, w64, int_wrapping_div};
 ghost use Rattle.jc_effects.specs.Descriptions.{effect_on};
@@ -57,7 +57,7 @@ fn long_remainder(x: i64, y: i64) -> Effect
 }
 
 /// The instructions on two ints, the second of them on top.
-#[tactic(auto, unfolding(jc_world::specs::Effects::int_pair))]
+#[tactic(auto, unfolding(jc_machine_model::specs::Effects::int_pair))]
 pub fn int_pair(op: u8, x: i32, y: i32) -> Effect
     ensures { (stack : List Value) → effect_on result stack ≡ int_pair op x y }
 {
@@ -72,7 +72,7 @@ pub fn int_pair(op: u8, x: i32, y: i32) -> Effect
 }
 
 /// -1 where the first is less, 1 where it is greater, else 0.
-#[tactic(auto, unfolding(jc_world::specs::Effects::compared))]
+#[tactic(auto, unfolding(jc_machine_model::specs::Effects::compared))]
 fn compared(x: i64, y: i64) -> i32
     ensures { result ≡ compared x y }
 {
@@ -86,7 +86,7 @@ fn compared(x: i64, y: i64) -> i32
 }
 
 /// The instructions on two longs, the second of them on top.
-#[tactic(auto, unfolding(jc_world::specs::Effects::long_pair))]
+#[tactic(auto, unfolding(jc_machine_model::specs::Effects::long_pair))]
 pub fn long_pair(op: u8, x: i64, y: i64) -> Effect
     ensures { (stack : List Value) → effect_on result stack ≡ long_pair op x y }
 {
@@ -105,7 +105,7 @@ pub fn long_pair(op: u8, x: i64, y: i64) -> Effect
 }
 
 /// The instructions on one int.
-#[tactic(auto, unfolding(jc_world::specs::Effects::int_single))]
+#[tactic(auto, unfolding(jc_machine_model::specs::Effects::int_single))]
 pub fn int_single(op: u8, x: i32) -> Effect
     ensures { (stack : List Value) → effect_on result stack ≡ int_single op x }
 {
@@ -120,7 +120,7 @@ pub fn int_single(op: u8, x: i32) -> Effect
 }
 
 /// The instructions on one long.
-#[tactic(auto, unfolding(jc_world::specs::Effects::long_single))]
+#[tactic(auto, unfolding(jc_machine_model::specs::Effects::long_single))]
 pub fn long_single(op: u8, x: i64) -> Effect
     ensures { (stack : List Value) → effect_on result stack ≡ long_single op x }
 {

@@ -1,7 +1,7 @@
 //! Shifts and bit operations on ints and longs.
 ghost use Rattle.std.specs.Prelude.{◌≡◌, List};
-ghost use Rattle.jc_world.specs.Values.{Value};
-ghost use Rattle.jc_world.specs.Effects.{int_bits, long_shift};
+ghost use Rattle.jc_machine_model.specs.Values.{Value};
+ghost use Rattle.jc_machine_model.specs.Effects.{int_bits, long_shift};
 ghost use Rattle.jc_effects.specs.Descriptions.{effect_on};
 
 use crate::Effect;
@@ -22,7 +22,7 @@ pub fn long_for(taken: u8, value: i64) -> Effect
 }
 
 /// `ishl`, `ishr`, `iushr`, `iand`, `ior` and `ixor` of two ints, the second of them on top.
-#[tactic(auto, unfolding(jc_world::specs::Effects::int_bits))]
+#[tactic(auto, unfolding(jc_machine_model::specs::Effects::int_bits))]
 pub fn int_bits(op: u8, x: i32, y: i32) -> Effect
     ensures { (stack : List Value) → effect_on result stack ≡ int_bits op x y }
 {
@@ -39,7 +39,7 @@ pub fn int_bits(op: u8, x: i32, y: i32) -> Effect
 }
 
 /// `lshl`, `lshr` and `lushr` of a long by an int, which is on top.
-#[tactic(auto, unfolding(jc_world::specs::Effects::long_shift))]
+#[tactic(auto, unfolding(jc_machine_model::specs::Effects::long_shift))]
 pub fn long_shift(op: u8, x: i64, y: i32) -> Effect
     ensures { (stack : List Value) → effect_on result stack ≡ long_shift op x y }
 {

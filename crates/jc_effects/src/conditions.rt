@@ -1,7 +1,7 @@
 //! The tests of conditional jumps (JVM Specification 6.5).
 ghost use Rattle.std.specs.Prelude.{◌≡◌, List};
-ghost use Rattle.jc_world.specs.Values.{Value};
-ghost use Rattle.jc_world.specs.Jumps.{compares, agrees, zero_test, int_test, reference_test, null_test, test_of};
+ghost use Rattle.jc_machine_model.specs.Values.{Value};
+ghost use Rattle.jc_machine_model.specs.Jumps.{compares, agrees, zero_test, int_test, reference_test, null_test, test_of};
 ghost use Rattle.jc_effects.specs.Descriptions.{test_on};
 ghost use Rattle.jc_effects.specs.Operands.{first_of, second_of, TellsSame};
 
@@ -95,7 +95,7 @@ fn null_test(kind: u8, a: Operand) -> Test
 /// The test of a conditional jump (JVM Specification 6.5) where these operands are on top, a the topmost.
 ///
 /// `same` says whether the two on top are one reference; it is looked at where both are references.
-#[tactic(auto, unfolding(jc_world::specs::Jumps::test_of))]
+#[tactic(auto, unfolding(jc_machine_model::specs::Jumps::test_of))]
 pub fn test(op: u8, a: Operand, b: Operand, same: bool) -> Test
     ensures { (stack : List Value) → a ≡ first_of stack → b ≡ second_of stack → TellsSame same stack
         → test_on result stack ≡ test_of op stack }

@@ -1,8 +1,8 @@
 //! What every instruction does that reads and writes the operand stack alone.
 ghost use Rattle.std.specs.Prelude.{◌≡◌, ◌≤◌, List, [], ◌∷◌};
 ghost use Rattle.jc_methods.specs.Opcode as opcodes;
-ghost use Rattle.jc_world.specs.Values.{Value};
-ghost use Rattle.jc_world.specs.Effects.{constant, moves_of, has_one_operand, effect};
+ghost use Rattle.jc_machine_model.specs.Values.{Value};
+ghost use Rattle.jc_machine_model.specs.Effects.{constant, moves_of, has_one_operand, effect};
 ghost use Rattle.jc_effects.specs.Descriptions.{effect_on};
 ghost use Rattle.jc_effects.specs.Categories.{moved_by};
 ghost use Rattle.jc_effects.specs.Operands.{category_of, single_of, pair_of, AreOnTop};
@@ -14,7 +14,7 @@ use crate::{Effect, Operand};
 use jc_methods::opcode;
 
 /// `nop`, `aconst_null`, `iconst_m1` to `iconst_5`, `lconst_0` and `lconst_1`.
-#[tactic(auto, unfolding(jc_world::specs::Effects::constant))]
+#[tactic(auto, unfolding(jc_machine_model::specs::Effects::constant))]
 fn constant(op: u8) -> Effect
     requires { op ≤ opcodes.lconst_1 }
     ensures { (stack : List Value) → effect_on result stack ≡ constant op }
@@ -81,7 +81,7 @@ fn has_one_operand(op: u8) -> bool
 /// Sums wrap around, and the least number divided by -1 is the least number. Shift counts are masked to five
 /// bits for an int and to six for a long. A division by zero raises ArithmeticException. The opcode of any
 /// other instruction, and an operand that is missing or of another kind, is unfit.
-#[tactic(auto, unfolding(jc_world::specs::Effects::effect))]
+#[tactic(auto, unfolding(jc_machine_model::specs::Effects::effect))]
 pub fn effect(op: u8, a: Operand, b: Operand, c: Operand, d: Operand) -> Effect
     ensures { (stack : List Value) → AreOnTop a b c d stack → effect_on result stack ≡ effect op stack }
 {

@@ -1,8 +1,8 @@
 //! `pop`, `pop2`, `dup` and its kin, and `swap` (JVM Specification 6.5).
 ghost use Rattle.std.specs.Prelude.{◌≡◌, List, [], ◌∷◌};
 ghost use Rattle.jc_methods.specs.Opcode as opcodes;
-ghost use Rattle.jc_world.specs.Values.{Value};
-ghost use Rattle.jc_world.specs.Effects.{moves_of, gives, results_at};
+ghost use Rattle.jc_machine_model.specs.Values.{Value};
+ghost use Rattle.jc_machine_model.specs.Effects.{moves_of, gives, results_at};
 ghost use Rattle.jc_effects.specs.Descriptions.{effect_on};
 ghost use Rattle.jc_effects.specs.Categories.{moved_by};
 
@@ -17,7 +17,7 @@ fn moves(taken: u8, places: &'static [u8]) -> Effect
 }
 
 /// `pop`.
-#[tactic(auto, unfolding(jc_world::specs::Effects::moves_of))]
+#[tactic(auto, unfolding(jc_machine_model::specs::Effects::moves_of))]
 fn pop(a: Category) -> Effect
     ensures { (stack : List Value) → effect_on result stack ≡ moved_by (moves_of opcodes.pop) (a ∷ []) stack }
 {
@@ -28,7 +28,7 @@ fn pop(a: Category) -> Effect
 }
 
 /// `pop2`.
-#[tactic(auto, unfolding(jc_world::specs::Effects::moves_of))]
+#[tactic(auto, unfolding(jc_machine_model::specs::Effects::moves_of))]
 fn pop2(a: Category, b: Category) -> Effect
     ensures { (stack : List Value) → effect_on result stack ≡ moved_by (moves_of opcodes.pop2) (a ∷ b ∷ []) stack }
 {
@@ -43,7 +43,7 @@ fn pop2(a: Category, b: Category) -> Effect
 }
 
 /// `dup`.
-#[tactic(auto, unfolding(jc_world::specs::Effects::moves_of))]
+#[tactic(auto, unfolding(jc_machine_model::specs::Effects::moves_of))]
 fn dup(a: Category) -> Effect
     ensures { (stack : List Value) → effect_on result stack ≡ moved_by (moves_of opcodes.dup) (a ∷ []) stack }
 {
@@ -54,7 +54,7 @@ fn dup(a: Category) -> Effect
 }
 
 /// `dup_x1`.
-#[tactic(auto, unfolding(jc_world::specs::Effects::moves_of))]
+#[tactic(auto, unfolding(jc_machine_model::specs::Effects::moves_of))]
 fn dup_x1(a: Category, b: Category) -> Effect
     ensures { (stack : List Value) → effect_on result stack ≡ moved_by (moves_of opcodes.dup_x1) (a ∷ b ∷ []) stack }
 {
@@ -68,7 +68,7 @@ fn dup_x1(a: Category, b: Category) -> Effect
 }
 
 /// `dup_x2`.
-#[tactic(auto, unfolding(jc_world::specs::Effects::moves_of))]
+#[tactic(auto, unfolding(jc_machine_model::specs::Effects::moves_of))]
 fn dup_x2(a: Category, b: Category, c: Category) -> Effect
     ensures { (stack : List Value) → effect_on result stack ≡ moved_by (moves_of opcodes.dup_x2) (a ∷ b ∷ c ∷ []) stack }
 {
@@ -86,7 +86,7 @@ fn dup_x2(a: Category, b: Category, c: Category) -> Effect
 }
 
 /// `dup2`.
-#[tactic(auto, unfolding(jc_world::specs::Effects::moves_of))]
+#[tactic(auto, unfolding(jc_machine_model::specs::Effects::moves_of))]
 fn dup2(a: Category, b: Category) -> Effect
     ensures { (stack : List Value) → effect_on result stack ≡ moved_by (moves_of opcodes.dup2) (a ∷ b ∷ []) stack }
 {
@@ -101,7 +101,7 @@ fn dup2(a: Category, b: Category) -> Effect
 }
 
 /// `dup2_x1`.
-#[tactic(auto, unfolding(jc_world::specs::Effects::moves_of))]
+#[tactic(auto, unfolding(jc_machine_model::specs::Effects::moves_of))]
 fn dup2_x1(a: Category, b: Category, c: Category) -> Effect
     ensures { (stack : List Value) → effect_on result stack ≡ moved_by (moves_of opcodes.dup2_x1) (a ∷ b ∷ c ∷ []) stack }
 {
@@ -122,7 +122,7 @@ fn dup2_x1(a: Category, b: Category, c: Category) -> Effect
 }
 
 /// `dup2_x2` of two operands of one slot each.
-#[tactic(auto, unfolding(jc_world::specs::Effects::moves_of))]
+#[tactic(auto, unfolding(jc_machine_model::specs::Effects::moves_of))]
 fn dup2_x2_of_ones(c: Category, d: Category) -> Effect
     ensures { (stack : List Value) → effect_on result stack
         ≡ moved_by (moves_of opcodes.dup2_x2) (Category.One ∷ Category.One ∷ c ∷ d ∷ []) stack }
@@ -138,7 +138,7 @@ fn dup2_x2_of_ones(c: Category, d: Category) -> Effect
 }
 
 /// `dup2_x2` of an operand of two slots.
-#[tactic(auto, unfolding(jc_world::specs::Effects::moves_of))]
+#[tactic(auto, unfolding(jc_machine_model::specs::Effects::moves_of))]
 fn dup2_x2_of_two(b: Category, c: Category) -> Effect
     ensures { (d : Category) (stack : List Value) → effect_on result stack
         ≡ moved_by (moves_of opcodes.dup2_x2) (Category.Two ∷ b ∷ c ∷ d ∷ []) stack }
@@ -154,7 +154,7 @@ fn dup2_x2_of_two(b: Category, c: Category) -> Effect
 }
 
 /// `dup2_x2`.
-#[tactic(auto, unfolding(jc_world::specs::Effects::moves_of))]
+#[tactic(auto, unfolding(jc_machine_model::specs::Effects::moves_of))]
 fn dup2_x2(a: Category, b: Category, c: Category, d: Category) -> Effect
     ensures { (stack : List Value) → effect_on result stack ≡ moved_by (moves_of opcodes.dup2_x2) (a ∷ b ∷ c ∷ d ∷ []) stack }
 {
@@ -169,7 +169,7 @@ fn dup2_x2(a: Category, b: Category, c: Category, d: Category) -> Effect
 }
 
 /// `swap`.
-#[tactic(auto, unfolding(jc_world::specs::Effects::moves_of))]
+#[tactic(auto, unfolding(jc_machine_model::specs::Effects::moves_of))]
 fn swap(a: Category, b: Category) -> Effect
     ensures { (stack : List Value) → effect_on result stack ≡ moved_by (moves_of opcodes.swap) (a ∷ b ∷ []) stack }
 {
@@ -183,7 +183,7 @@ fn swap(a: Category, b: Category) -> Effect
 }
 
 /// An instruction that moves operands of these categories, the first of which is that of the top one.
-#[tactic(auto, unfolding(jc_world::specs::Effects::moves_of))]
+#[tactic(auto, unfolding(jc_machine_model::specs::Effects::moves_of))]
 pub fn moved(op: u8, a: Category, b: Category, c: Category, d: Category) -> Effect
     ensures { (stack : List Value) → effect_on result stack ≡ moved_by (moves_of op) (a ∷ b ∷ c ∷ d ∷ []) stack }
 {

@@ -17,9 +17,9 @@ use Rattle.jc_programs.specs.Members.{class_at}
 use Rattle.jc_plan.specs.ClassEdges.{ProgramEdge}
 use Rattle.jc_cover.specs.Followed.{began}
 use Rattle.jc_emit.specs.Local.{early_of}
-use Rattle.jc_world.specs.World.{Frame, Thread, running, returned, threw, stuck}
-use Rattle.jc_world.specs.Methods.{is_enterable}
-use Rattle.jc_world.specs.Begin.{number_value, first_of, first_value, argument_values, first_frame, thread_in, thread_for, first_threads, begin, entries_of, begin_case}
+use Rattle.jc_machine_model.specs.World.{Frame, Thread, running, returned, threw, stuck}
+use Rattle.jc_machine_model.specs.Methods.{is_enterable}
+use Rattle.jc_machine_model.specs.Begin.{number_value, first_of, first_value, argument_values, first_frame, thread_in, thread_for, first_threads, begin, entries_of, begin_case}
 use Rattle.jc_simulation.specs.Sides.{Side}
 use Rattle.jc_simulation.specs.Mid.{SameThread, SameThreads, Mid}
 use Rattle.jc_simulation.specs.Probes.{hit_of, item_hit, place_hit}

@@ -21,12 +21,12 @@ use Rattle.jc_plan.specs.Leading.{LeadsTo}
 use Rattle.jc_plan.specs.Chosen.{one_way, chosen}
 use Rattle.jc_plan.specs.ClassEdges.{ProgramEdge, IsProgramEdge}
 use Rattle.jc_cover.specs.Followed.{CameTo, began, caught as came_caught, led}
-use Rattle.jc_world.specs.Values.{Value}
-use Rattle.jc_world.specs.World.{Frame, Thread, running, returned, threw, stuck, Shared, World}
-use Rattle.jc_world.specs.Results.{Result, goes, hits, calls, leaves, raises, throws, gets_stuck}
-use Rattle.jc_world.specs.Step.{LocatedInsn, located, result_of, handler_in, handler_of, caught, unwound, overflows, new_frame, given_back, left, After, after, after_result, turn_of, step_of, step}
-use Rattle.jc_world.specs.Run.{run_from}
-use Rattle.jc_world.specs.Taken.{edge_of, edges_of, call_edges, thread_edges, turn_edges, taken_from, one_edge, edge_stood, edges_stood, reached_from}
+use Rattle.jc_machine_model.specs.Values.{Value}
+use Rattle.jc_machine_model.specs.World.{Frame, Thread, running, returned, threw, stuck, Shared, World}
+use Rattle.jc_machine_model.specs.Results.{Result, goes, hits, calls, leaves, raises, throws, gets_stuck}
+use Rattle.jc_machine_model.specs.Step.{LocatedInsn, located, result_of, handler_in, handler_of, caught, unwound, overflows, new_frame, given_back, left, After, after, after_result, turn_of, step_of, step}
+use Rattle.jc_machine_model.specs.Run.{run_from}
+use Rattle.jc_machine_model.specs.Taken.{edge_of, edges_of, call_edges, thread_edges, turn_edges, taken_from, one_edge, edge_stood, edges_stood, reached_from}
 use Rattle.jc_simulation.proofs.FrameLaws.{body_is}
 use Rattle.jc_exact.proofs.ValueLaws.{InStatics, set_each}
 use Rattle.jc_exact.proofs.ResultLaws.{InFrame}

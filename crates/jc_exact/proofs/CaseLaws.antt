@@ -24,12 +24,12 @@ use Rattle.jc_emit.specs.Items.{Item, init_call, init_store, image, probe_array,
 use Rattle.jc_emit.specs.Local.{early_of}
 use Rattle.jc_emit.specs.Marks.{Marks}
 use Rattle.jc_emit.specs.Sizes.{insn_at, early_by}
-use Rattle.jc_world.specs.World.{Thread, running, returned, threw, stuck, Hit, World}
-use Rattle.jc_world.specs.Methods.{is_init_name, declares_init}
-use Rattle.jc_world.specs.Begin.{begin_case}
-use Rattle.jc_world.specs.Run.{run}
-use Rattle.jc_world.specs.Step.{located}
-use Rattle.jc_world.specs.Taken.{edge_of, edges_of, one_edge, edge_stood, edges_stood, taken_from, reached_from}
+use Rattle.jc_machine_model.specs.World.{Thread, running, returned, threw, stuck, Hit, World}
+use Rattle.jc_machine_model.specs.Methods.{is_init_name, declares_init}
+use Rattle.jc_machine_model.specs.Begin.{begin_case}
+use Rattle.jc_machine_model.specs.Run.{run}
+use Rattle.jc_machine_model.specs.Step.{located}
+use Rattle.jc_machine_model.specs.Taken.{edge_of, edges_of, one_edge, edge_stood, edges_stood, taken_from, reached_from}
 use Rattle.jc_simulation.specs.Laws.{kept_of}
 use Rattle.jc_simulation.specs.Sides.{Side, IsSide, AreSides, AreMarksOf}
 use Rattle.jc_simulation.specs.Mid.{SameThread, SameThreads, Mid}

@@ -17,12 +17,12 @@ use Rattle.jc_plan.specs.Leading.{LeadsTo}
 use Rattle.jc_plan.specs.Chosen.{Outcome, one_way, chosen_by, chosen, onward_by, onward}
 use Rattle.jc_plan.specs.ClassEdges.{ProgramEdge}
 use Rattle.jc_plan.proofs.ChosenLaws.{chosen_listed, chosen_leads}
-use Rattle.jc_world.specs.Values.{Value}
-use Rattle.jc_world.specs.World.{Frame, Thread, running, Shared}
-use Rattle.jc_world.specs.Results.{Result, goes, hits, calls, leaves, raises, throws, gets_stuck}
-use Rattle.jc_world.specs.Perform.{perform}
-use Rattle.jc_world.specs.Step.{LocatedInsn, located, operation_at, result_of}
-use Rattle.jc_world.specs.Taken.{outcome_of, edge_of, edges_of, is_throw, call_edges, edges_by, edges_at, thread_edges}
+use Rattle.jc_machine_model.specs.Values.{Value}
+use Rattle.jc_machine_model.specs.World.{Frame, Thread, running, Shared}
+use Rattle.jc_machine_model.specs.Results.{Result, goes, hits, calls, leaves, raises, throws, gets_stuck}
+use Rattle.jc_machine_model.specs.Perform.{perform}
+use Rattle.jc_machine_model.specs.Step.{LocatedInsn, located, operation_at, result_of}
+use Rattle.jc_machine_model.specs.Taken.{outcome_of, edge_of, edges_of, is_throw, call_edges, edges_by, edges_at, thread_edges}
 use Rattle.jc_exact.proofs.TurnedLaws.{chosen_there, sequence_listed, Turned}
 use Rattle.jc_exact.proofs.GoodLaws.{IsOther, HasNoInit, IsAtCall, AreGoodWaits}
 

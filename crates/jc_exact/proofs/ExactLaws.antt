@@ -18,8 +18,8 @@ use Rattle.jc_emit.specs.Marks.{Marks}
 use Rattle.jc_cover.specs.Covered.{is_hit, IsCovered, IsProgramCovered}
 use Rattle.jc_cover.specs.Followed.{AreEnteredInClass, AreFollowedInClass, TookSometime, IsIdOf}
 use Rattle.jc_cover.proofs.FollowedLaws.{class_reached, class_taken}
-use Rattle.jc_world.specs.World.{Hit}
-use Rattle.jc_world.specs.Begin.{begin_case}
+use Rattle.jc_machine_model.specs.World.{Hit}
+use Rattle.jc_machine_model.specs.Begin.{begin_case}
 use Rattle.jc_simulation.specs.Laws.{kept_of}
 use Rattle.jc_simulation.specs.Sides.{Side, AreSides, AreMarksOf}
 use Rattle.jc_simulation.specs.Probes.{hit_of}

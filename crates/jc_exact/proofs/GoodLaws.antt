@@ -14,15 +14,15 @@ use Rattle.jc_programs.specs.declared.program.ProbeInit.{ProbeInit}
 use Rattle.jc_programs.specs.declared.run_end.Entry.{Entry}
 use Rattle.jc_programs.specs.declared.run_end.Thrown.{Thrown}
 use Rattle.jc_programs.specs.declared.run_end.Thrown.TheVariants as thrown
-use Rattle.jc_world.specs.Values.{Value, object, probes}
-use Rattle.jc_world.specs.Heap.{throwable, has_room}
-use Rattle.jc_world.specs.World.{Frame, Thread, running, returned, threw, stuck, Shared, World}
-use Rattle.jc_world.specs.Methods.{is_init_name}
-use Rattle.jc_world.specs.Profile.{init_of}
-use Rattle.jc_world.specs.Perform.{perform}
-use Rattle.jc_world.specs.Results.{Result, goes, hits, calls, leaves, raises, throws, gets_stuck}
-use Rattle.jc_world.specs.Step.{LocatedInsn, located, operation_at, result_of, handler_of, caught, unwound, Raised, out_of_memory, placed, overflows, new_frame, given_back, left, After, after, thrown_in, after_result, turn_of, step_of, step}
-use Rattle.jc_world.specs.Run.{run_from}
+use Rattle.jc_machine_model.specs.Values.{Value, object, probes}
+use Rattle.jc_machine_model.specs.Heap.{throwable, has_room}
+use Rattle.jc_machine_model.specs.World.{Frame, Thread, running, returned, threw, stuck, Shared, World}
+use Rattle.jc_machine_model.specs.Methods.{is_init_name}
+use Rattle.jc_machine_model.specs.Profile.{init_of}
+use Rattle.jc_machine_model.specs.Perform.{perform}
+use Rattle.jc_machine_model.specs.Results.{Result, goes, hits, calls, leaves, raises, throws, gets_stuck}
+use Rattle.jc_machine_model.specs.Step.{LocatedInsn, located, operation_at, result_of, handler_of, caught, unwound, Raised, out_of_memory, placed, overflows, new_frame, given_back, left, After, after, thrown_in, after_result, turn_of, step_of, step}
+use Rattle.jc_machine_model.specs.Run.{run_from}
 use Rattle.jc_exact.proofs.ValueLaws.{HoldsOfOthers, InSlot, InStatics, set_each}
 use Rattle.jc_exact.proofs.ResultLaws.{InFrame}
 use Rattle.jc_exact.proofs.TurnedLaws.{Turned, turned, stands}

@@ -20,9 +20,9 @@ use Rattle.jc_emit.specs.Local.{Stands, due_of, early_of, moved_insn, TestsAlike
 use Rattle.jc_emit.specs.Sizes.{early_by}
 use Rattle.jc_emit.specs.TwinCode.{to_of}
 use Rattle.jc_emit.proofs.ConditionalBranchLaws.{test_op}
-use Rattle.jc_world.specs.Values.{Value}
-use Rattle.jc_world.specs.Jumps.{Tested, test_of}
-use Rattle.jc_world.specs.Taken.{outcome_of_test, outcome_of_key, outcome_of}
+use Rattle.jc_machine_model.specs.Values.{Value}
+use Rattle.jc_machine_model.specs.Jumps.{Tested, test_of}
+use Rattle.jc_machine_model.specs.Taken.{outcome_of_test, outcome_of_key, outcome_of}
 use Rattle.jc_simulation.specs.Sides.{Side}
 use Rattle.jc_simulation.proofs.TestLaws.{negated, inverse_tests, inverse_no_goto}
 use Rattle.jc_simulation.proofs.ArmLaws.{index_arm, match_arm}

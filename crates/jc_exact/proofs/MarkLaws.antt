@@ -8,8 +8,8 @@ use Rattle.jc_bytes.proofs.FirstSeenLaws.{contains_one}
 use Rattle.jc_programs.specs.declared.program.Program.{Program}
 use Rattle.jc_programs.specs.declared.run_end.Entry.{Entry}
 use Rattle.jc_plan.specs.ClassEdges.{ProgramEdge}
-use Rattle.jc_world.specs.World.{Thread, Hit, World}
-use Rattle.jc_world.specs.Step.{After, with_after}
+use Rattle.jc_machine_model.specs.World.{Thread, Hit, World}
+use Rattle.jc_machine_model.specs.Step.{After, with_after}
 use Rattle.jc_simulation.specs.Sides.{Side}
 use Rattle.jc_simulation.specs.Probes.{hit_of, Passes, nothing, a_late_one, an_early_one, due_in, early_in}
 use Rattle.jc_simulation.proofs.RunLaws.{get_set}

@@ -23,13 +23,13 @@ use Rattle.jc_emit.specs.Items.{Item, init_call, image}
 use Rattle.jc_emit.specs.Local.{Ok, OkImage, OkStart, OkRow, due_of, early_of}
 use Rattle.jc_emit.specs.Seen.{OkRows}
 use Rattle.jc_emit.specs.Sizes.{insn_at, early_by}
-use Rattle.jc_world.specs.Values.{Value}
-use Rattle.jc_world.specs.World.{Frame, Thread, running, stuck, Shared, Hit}
-use Rattle.jc_world.specs.Results.{Result, goes, hits, calls, leaves, raises, throws, gets_stuck}
-use Rattle.jc_world.specs.Profile.{operation_of}
-use Rattle.jc_world.specs.Perform.{perform}
-use Rattle.jc_world.specs.Step.{LocatedInsn, located, result_of, is_init_method, handler_in, handler_of, caught, unwound, Raised, placed, overflows, new_frame, given_back, left, After, after, thrown_in, after_result}
-use Rattle.jc_world.specs.Taken.{outcome_of, edge_of, call_edges, thread_edges}
+use Rattle.jc_machine_model.specs.Values.{Value}
+use Rattle.jc_machine_model.specs.World.{Frame, Thread, running, stuck, Shared, Hit}
+use Rattle.jc_machine_model.specs.Results.{Result, goes, hits, calls, leaves, raises, throws, gets_stuck}
+use Rattle.jc_machine_model.specs.Profile.{operation_of}
+use Rattle.jc_machine_model.specs.Perform.{perform}
+use Rattle.jc_machine_model.specs.Step.{LocatedInsn, located, result_of, is_init_method, handler_in, handler_of, caught, unwound, Raised, placed, overflows, new_frame, given_back, left, After, after, thrown_in, after_result}
+use Rattle.jc_machine_model.specs.Taken.{outcome_of, edge_of, call_edges, thread_edges}
 use Rattle.jc_simulation.specs.Sides.{Side, IsSide, AreSides}
 use Rattle.jc_simulation.specs.Mid.{OneMethod, SameFrame, SameWaits, SameShared}
 use Rattle.jc_simulation.specs.Probes.{hit_of, item_hit, place_hit, frame_hit, due_in, early_in}

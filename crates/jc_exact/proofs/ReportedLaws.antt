@@ -30,11 +30,11 @@ use Rattle.jc_cover.specs.declared.coverage.Coverage.{Coverage}
 use Rattle.jc_cover.specs.Covered.{values_of, value_at, Covered, IsCovered, IsProgramCovered, TellsCovered}
 use Rattle.jc_cover.specs.Counters.{is_covered, counters_of}
 use Rattle.jc_cover.proofs.OneCoverageLaws.{one_coverage, insn_told}
-use Rattle.jc_world.specs.World.{Thread, running, returned, threw, stuck, World}
-use Rattle.jc_world.specs.Begin.{begin_case}
-use Rattle.jc_world.specs.Run.{run_from, run, IsHit}
-use Rattle.jc_world.specs.Step.{LocatedInsn, located, step}
-use Rattle.jc_world.specs.Taken.{edge_of, edges_of, one_edge, edge_stood, edges_stood, turn_edges, taken_from}
+use Rattle.jc_machine_model.specs.World.{Thread, running, returned, threw, stuck, World}
+use Rattle.jc_machine_model.specs.Begin.{begin_case}
+use Rattle.jc_machine_model.specs.Run.{run_from, run, IsHit}
+use Rattle.jc_machine_model.specs.Step.{LocatedInsn, located, step}
+use Rattle.jc_machine_model.specs.Taken.{edge_of, edges_of, one_edge, edge_stood, edges_stood, turn_edges, taken_from}
 use Rattle.jc_simulation.specs.Marking.{AreMarks}
 use Rattle.jc_simulation.proofs.ProgramRunLaws.{have_sides}
 use Rattle.jc_simulation.proofs.RunLaws.{run_append}

@@ -9,10 +9,10 @@ use Rattle.jc_plan.specs.ClassEdges.{ProgramEdge}
 use Rattle.jc_emit.specs.Items.{Item, init_call, init_store, image, probe_array, probe_id, probe_one, probe_store, hop, at_of, own_of}
 use Rattle.jc_emit.specs.Local.{due_of, early_of}
 use Rattle.jc_emit.specs.Marks.{Marks}
-use Rattle.jc_world.specs.World.{Frame, Thread, running, returned, threw, stuck, Shared, World}
-use Rattle.jc_world.specs.Step.{result_of, after_result, turn_of, step_of, step}
-use Rattle.jc_world.specs.Run.{run_from}
-use Rattle.jc_world.specs.Taken.{thread_edges, turn_edges, taken_from}
+use Rattle.jc_machine_model.specs.World.{Frame, Thread, running, returned, threw, stuck, Shared, World}
+use Rattle.jc_machine_model.specs.Step.{result_of, after_result, turn_of, step_of, step}
+use Rattle.jc_machine_model.specs.Run.{run_from}
+use Rattle.jc_machine_model.specs.Taken.{thread_edges, turn_edges, taken_from}
 use Rattle.jc_simulation.specs.Kept.{is_running, keeps, keeps_at, is_kept, turn_if, kept, step_if}
 use Rattle.jc_simulation.specs.Sides.{Side, array_of, AreSides, AreMarksOf}
 use Rattle.jc_simulation.specs.Mid.{pushed_of, SameLocals, SameFrame, SameWaits, SameShared, SameThread, Mid}

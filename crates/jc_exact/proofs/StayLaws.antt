@@ -13,12 +13,12 @@ use Rattle.jc_plan.specs.Edges.{sequence, exit}
 use Rattle.jc_plan.specs.Leading.{LeadsTo}
 use Rattle.jc_plan.specs.ClassEdges.{ProgramEdge}
 use Rattle.jc_plan.proofs.ChosenLaws.{chosen_leads}
-use Rattle.jc_world.specs.Values.{Value}
-use Rattle.jc_world.specs.World.{Frame, Thread, running, returned, threw, stuck, Shared, World}
-use Rattle.jc_world.specs.Results.{Result, goes, hits, calls, leaves, raises, throws, gets_stuck}
-use Rattle.jc_world.specs.Step.{LocatedInsn, located, result_of, overflows, new_frame, given_back, left, After, after, after_result, turn_of, step_of, step}
-use Rattle.jc_world.specs.Run.{run_from}
-use Rattle.jc_world.specs.Taken.{edge_of, call_edges, thread_edges, turn_edges, taken_from}
+use Rattle.jc_machine_model.specs.Values.{Value}
+use Rattle.jc_machine_model.specs.World.{Frame, Thread, running, returned, threw, stuck, Shared, World}
+use Rattle.jc_machine_model.specs.Results.{Result, goes, hits, calls, leaves, raises, throws, gets_stuck}
+use Rattle.jc_machine_model.specs.Step.{LocatedInsn, located, result_of, overflows, new_frame, given_back, left, After, after, after_result, turn_of, step_of, step}
+use Rattle.jc_machine_model.specs.Run.{run_from}
+use Rattle.jc_machine_model.specs.Taken.{edge_of, call_edges, thread_edges, turn_edges, taken_from}
 use Rattle.jc_simulation.proofs.RunLaws.{step_at, step_other}
 use Rattle.jc_exact.specs.Exact.{HasReturned, HaveReturned}
 use Rattle.jc_exact.proofs.ValueLaws.{InStatics}

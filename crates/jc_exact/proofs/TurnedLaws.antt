@@ -20,15 +20,15 @@ use Rattle.jc_plan.specs.Edges.{branches, sequence}
 use Rattle.jc_plan.specs.Leading.{LeadsTo}
 use Rattle.jc_plan.specs.Chosen.{Outcome, one_way, condition, key, chosen_by, chosen, onward_by, onward}
 use Rattle.jc_plan.proofs.ChosenLaws.{chosen_listed, chosen_leads}
-use Rattle.jc_world.specs.Values.{Value, probes}
-use Rattle.jc_world.specs.World.{Frame, Shared}
-use Rattle.jc_world.specs.Operations.{Operation, pushes, computes, loads, stores, counts, tests, jumps, indexes, matches, reads, writes, makes_array, measures, gets, puts, invokes, makes, builds, prints, fetches, returns, returns_nothing, throws_top, outside}
-use Rattle.jc_world.specs.Results.{Result, goes, hits, calls, leaves, raises, throws, gets_stuck}
-use Rattle.jc_world.specs.Jumps.{Tested, test_of}
-use Rattle.jc_world.specs.Profile.{Location, init_of, operation_of}
-use Rattle.jc_world.specs.Perform.{perform}
-use Rattle.jc_world.specs.Step.{LocatedInsn, located_in_body, located_in_class, located}
-use Rattle.jc_world.specs.Taken.{outcome_of_test, outcome_of}
+use Rattle.jc_machine_model.specs.Values.{Value, probes}
+use Rattle.jc_machine_model.specs.World.{Frame, Shared}
+use Rattle.jc_machine_model.specs.Operations.{Operation, pushes, computes, loads, stores, counts, tests, jumps, indexes, matches, reads, writes, makes_array, measures, gets, puts, invokes, makes, builds, prints, fetches, returns, returns_nothing, throws_top, outside}
+use Rattle.jc_machine_model.specs.Results.{Result, goes, hits, calls, leaves, raises, throws, gets_stuck}
+use Rattle.jc_machine_model.specs.Jumps.{Tested, test_of}
+use Rattle.jc_machine_model.specs.Profile.{Location, init_of, operation_of}
+use Rattle.jc_machine_model.specs.Perform.{perform}
+use Rattle.jc_machine_model.specs.Step.{LocatedInsn, located_in_body, located_in_class, located}
+use Rattle.jc_machine_model.specs.Taken.{outcome_of_test, outcome_of}
 use Rattle.jc_exact.proofs.ValueLaws.{HoldsOfOthers, InSlot, InSlots, InStatics}
 use Rattle.jc_exact.proofs.ResultLaws.{Leads, MayRaise, IsReturn, IsCall, InFrame, Went, Comes, comes}
 use Rattle.jc_exact.proofs.OperationLaws.{IsPlain, IsExit, IsTest, IsSwitch, IsGoto, Does, does}

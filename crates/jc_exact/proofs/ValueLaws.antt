@@ -5,14 +5,14 @@ use Rattle.std.specs.List.{AllByRecursion}
 use Rattle.jc_bytes.specs.Descriptor.{FieldType, Byte, Char, Double, Float, Int, Long, Short, Boolean, Object, Array}
 use Rattle.jc_methods.specs.Opcode as opcode
 use Rattle.jc_programs.specs.declared.run_end.Thrown.TheVariants as thrown
-use Rattle.jc_world.specs.Values.{Value, int, long, null, object, memory_error, print_stream, probes, text, is_pair, stored_as}
-use Rattle.jc_world.specs.Effects.{Effect, Move, gives, unfit, when, int_for, long_for, constant, moves_of, moved, results_at, stand_categories, divided, int_bits, int_pair, long_pair, long_shift, int_single, long_single, single, pair, has_one_operand, effect}
-use Rattle.jc_world.specs.Effects as effects
-use Rattle.jc_world.specs.Locals.{is_pair_there, clear_before, put_local}
-use Rattle.jc_world.specs.Arrays.{element_value}
-use Rattle.jc_world.specs.Operations.{FieldAt}
-use Rattle.jc_world.specs.Statics.{static_at, with_static, is_of_type}
-use Rattle.jc_world.specs.Calls.{Arguments, argument_before, taken_for, spread_value, spread_values, locals_for}
+use Rattle.jc_machine_model.specs.Values.{Value, int, long, null, object, memory_error, print_stream, probes, text, is_pair, stored_as}
+use Rattle.jc_machine_model.specs.Effects.{Effect, Move, gives, unfit, when, int_for, long_for, constant, moves_of, moved, results_at, stand_categories, divided, int_bits, int_pair, long_pair, long_shift, int_single, long_single, single, pair, has_one_operand, effect}
+use Rattle.jc_machine_model.specs.Effects as effects
+use Rattle.jc_machine_model.specs.Locals.{is_pair_there, clear_before, put_local}
+use Rattle.jc_machine_model.specs.Arrays.{element_value}
+use Rattle.jc_machine_model.specs.Operations.{FieldAt}
+use Rattle.jc_machine_model.specs.Statics.{static_at, with_static, is_of_type}
+use Rattle.jc_machine_model.specs.Calls.{Arguments, argument_before, taken_for, spread_value, spread_values, locals_for}
 
 module _ (V : Value → Type 0) where
   -- it holds of each value that is no probe array

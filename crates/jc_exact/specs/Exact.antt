@@ -12,10 +12,10 @@ use Rattle.jc_plan.specs.ClassEdges.{ProgramEdge}
 use Rattle.jc_emit.specs.Marks.{Marks}
 use Rattle.jc_emit.specs.TwinProgram.{TwinProgram}
 use Rattle.jc_cover.specs.Covered.{is_hit, IsProgramCovered}
-use Rattle.jc_world.specs.World.{Thread, returned, Hit}
-use Rattle.jc_world.specs.Methods.{declares_init}
-use Rattle.jc_world.specs.Run.{run}
-use Rattle.jc_world.specs.Taken.{taken, reached}
+use Rattle.jc_machine_model.specs.World.{Thread, returned, Hit}
+use Rattle.jc_machine_model.specs.Methods.{declares_init}
+use Rattle.jc_machine_model.specs.Run.{run}
+use Rattle.jc_machine_model.specs.Taken.{taken, reached}
 use Rattle.jc_simulation.specs.Marking.{AreMarks}
 use Rattle.jc_simulation.specs.Laws.{kept_of}
 

@@ -18,9 +18,9 @@ use Rattle.jc_emit.specs.TwinProgram.{TwinProgram}
 use Rattle.jc_cover.specs.declared.coverage.Coverage.{Coverage}
 use Rattle.jc_cover.specs.Covered.{HasShape, values_of, value_at, TellsCovered}
 use Rattle.jc_cover.specs.Counters.{is_covered, counters_of}
-use Rattle.jc_world.specs.World.{Frame, running}
-use Rattle.jc_world.specs.Run.{run, IsHit}
-use Rattle.jc_world.specs.Taken.{taken, edges_stood}
+use Rattle.jc_machine_model.specs.World.{Frame, running}
+use Rattle.jc_machine_model.specs.Run.{run, IsHit}
+use Rattle.jc_machine_model.specs.Taken.{taken, edges_stood}
 use Rattle.jc_simulation.specs.Marking.{AreMarks}
 use Rattle.jc_simulation.specs.Laws.{kept_of}
 use Rattle.jc_exact.specs.Exact.{IsChangedAt, HaveEntries, EndsWell, TellHits}

@@ -9,7 +9,7 @@ use Rattle.jc_bytes.specs.declared.fail.Fail.TheVariants as fails
 use Rattle.jc_programs.specs.declared.program.Program.{Program}
 use Rattle.jc_methods.specs.VerificationTypes.{Names}
 use Rattle.jc_programs.specs.declared.program.Linked.{Linked}
-use Rattle.jc_world.specs.Programs.{IsLinked, IsProgram}
+use Rattle.jc_machine_model.specs.Programs.{IsLinked, IsProgram}
 use Rattle.jc_linking.specs.Linking.{AreLinkedClasses, IsProgramOf, IsLinkRefusal, one_name, one_id}
 use Rattle.jc_linking.specs.Pairs.{HaveOneName, NoPair}
 use Rattle.jc_linking.specs.Steps.{IsAnswer, PairAnswer}

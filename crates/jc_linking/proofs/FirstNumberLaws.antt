@@ -18,9 +18,9 @@ use Rattle.jc_pool.specs.Lookup.{utf8_of}
 use Rattle.jc_pool.specs.Pool.{PoolValue}
 use Rattle.jc_class.specs.declared.class_file.Attribute.{Attribute}
 use Rattle.jc_class.specs.declared.class_file.Member.{Member}
-use Rattle.jc_world.specs.Arithmetic.{FitsBits, FitsInt, FitsLong}
-use Rattle.jc_world.specs.Programs.{IsFirstOf}
-use Rattle.jc_world.proofs.ArithmeticLaws.{narrows}
+use Rattle.jc_machine_model.specs.Arithmetic.{FitsBits, FitsInt, FitsLong}
+use Rattle.jc_machine_model.specs.Programs.{IsFirstOf}
+use Rattle.jc_machine_model.proofs.ArithmeticLaws.{narrows}
 use Rattle.jc_linking.specs.Statics.{int_at, long_at, number_at, first_by, first_number, constant_place, static_with, static_of, statics_among}
 
 -- ---- ranges

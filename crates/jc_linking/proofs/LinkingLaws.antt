@@ -22,7 +22,7 @@ use Rattle.jc_instrument.proofs.KeptStatesLaws.{states_grown}
 use Rattle.jc_instrument.proofs.ListedLaws.{few_bodies, grown_bodies}
 use Rattle.jc_instrument.proofs.FrameCauseLaws.{each_at}
 use Rattle.jc_instrument.proofs.WholeLaws.{bodies_numbered, no_code_cause}
-use Rattle.jc_world.specs.Programs.{IsStatic, IsProgramBody, IsLinked}
+use Rattle.jc_machine_model.specs.Programs.{IsStatic, IsProgramBody, IsLinked}
 use Rattle.jc_linking.specs.Linking.{HasStates, link_causes, LinkReason, IsLinkedOf, IsLinkedClass, AreLinkedClasses, IsFirstRefused}
 use Rattle.jc_linking.specs.ProbeInits.{AreProbes}
 use Rattle.jc_linking.specs.Statics.{has_clinit, statics_of}

@@ -3,7 +3,7 @@ use Rattle.std.specs.Prelude.{List, ℕ, Option, Some, None, Result, Ok, Err}
 use Rattle.jc_bytes.specs.Failing.{Said}
 use Rattle.jc_bytes.specs.declared.fail.Fail.{Fail}
 use Rattle.jc_programs.specs.declared.program.Program.{Program}
-use Rattle.jc_world.specs.Programs.{IsProgram}
+use Rattle.jc_machine_model.specs.Programs.{IsProgram}
 use Rattle.jc_programs.specs.declared.program.Linked.{Linked}
 use Rattle.jc_linking.specs.Linking.{IsProgramOf, IsLinkRefusal}
 use Rattle.jc_linking.specs.Pairs.{HaveOneName, HaveOneId, NoPair, IsFirstPair}

@@ -9,7 +9,7 @@ ghost use Rattle.jc_pool.specs.Lookup.{class_name_of};
 ghost use Rattle.jc_class.specs.Writable.{IsClassFile};
 ghost use Rattle.jc_class.specs.Sizes.{BodiesWithin};
 ghost use Rattle.jc_instrument.specs.Causes.{NoCause, IsFirstCause};
-ghost use Rattle.jc_world.specs.Programs.{IsLinked, IsProgram, IsStatic};
+ghost use Rattle.jc_machine_model.specs.Programs.{IsLinked, IsProgram, IsStatic};
 ghost use Rattle.jc_programs.specs.declared.program.Program.{Program as Linking};
 ghost use Rattle.jc_linking.specs.declared.link_refusal.LinkRefusal.{LinkRefusal as Reason};
 ghost use Rattle.jc_linking.specs.Linking.{HasStates, link_causes, LinkReason, IsLinkedOf, IsLinkedClass, AreLinkedClasses, IsProgramOf, IsLinkRefusal};

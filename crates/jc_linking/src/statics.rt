@@ -5,7 +5,7 @@ ghost use Rattle.std.specs.Option.{option_copied};
 ghost use Rattle.jc_bytes.specs.Descriptor.{FieldType, IsFieldDescriptor};
 ghost use Rattle.jc_methods.specs.DescriptorTypes.{field_type_in};
 ghost use Rattle.jc_methods.specs.ValueTypes.{Says};
-ghost use Rattle.jc_world.specs.Programs.{IsFirstOf, IsStatic};
+ghost use Rattle.jc_machine_model.specs.Programs.{IsFirstOf, IsStatic};
 ghost use Rattle.jc_effects.specs.Narrowings.{narrowing_of};
 ghost use Rattle.jc_programs.specs.Narrowing.{narrowed};
 ghost use Rattle.jc_body.specs.Attributes.{bodies_of, has_name};

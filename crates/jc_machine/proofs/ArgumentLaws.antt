@@ -8,11 +8,11 @@ use Rattle.jc_operations.specs.declared.operation.ComputationalType.{Computation
 use Rattle.jc_operations.specs.Types.{computational}
 use Rattle.jc_perform.specs.Parameters.{AreParameters}
 use Rattle.jc_programs.specs.Entries.{is_argument, are_arguments}
-use Rattle.jc_world.specs.Values as values
-use Rattle.jc_world.specs.Values.{Value, int, long, is_pair, computational_type, long_type}
-use Rattle.jc_world.specs.Calls.{spread_value, spread_values, locals_for}
-use Rattle.jc_world.specs.Begin.{number_value, argument_values}
-use Rattle.jc_world.proofs.BeginLaws.{both, some_is, none_some}
+use Rattle.jc_machine_model.specs.Values as values
+use Rattle.jc_machine_model.specs.Values.{Value, int, long, is_pair, computational_type, long_type}
+use Rattle.jc_machine_model.specs.Calls.{spread_value, spread_values, locals_for}
+use Rattle.jc_machine_model.specs.Begin.{number_value, argument_values}
+use Rattle.jc_machine_model.proofs.BeginLaws.{both, some_is, none_some}
 use Rattle.jc_machine.specs.Threads.{ThreadFrames}
 use Rattle.jc_machine.specs.FirstThreads.{width, FitParameters}
 

@@ -11,11 +11,11 @@ use Rattle.jc_operations.specs.declared.prepared.PreparedProgram.{PreparedProgra
 use Rattle.jc_operations.specs.Prepared.{IsPrepared, value_of}
 use Rattle.jc_operations.proofs.PrepareLaws.{statics_are}
 use Rattle.jc_perform.specs.Contents as contents
-use Rattle.jc_world.specs.Programs.{IsProgram}
-use Rattle.jc_world.specs.Values.{Value}
-use Rattle.jc_world.specs.Begin.{begin, first_threads, first_shared, first_value}
-use Rattle.jc_world.specs.Fits.{AreStatics, FitsWorld}
-use Rattle.jc_world.proofs.BeginLaws.{begin_fits}
+use Rattle.jc_machine_model.specs.Programs.{IsProgram}
+use Rattle.jc_machine_model.specs.Values.{Value}
+use Rattle.jc_machine_model.specs.Begin.{begin, first_threads, first_shared, first_value}
+use Rattle.jc_machine_model.specs.Fits.{AreStatics, FitsWorld}
+use Rattle.jc_machine_model.proofs.BeginLaws.{begin_fits}
 use Rattle.jc_machine.specs.Machines.{Machine, world_of, Fits}
 use Rattle.jc_machine.specs.IntegralFields.{integral_fields}
 

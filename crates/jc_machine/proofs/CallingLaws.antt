@@ -9,18 +9,18 @@ use Rattle.jc_programs.specs.declared.program.Program.{Program}
 use Rattle.jc_programs.specs.declared.run_end.Entry.{Entry}
 use Rattle.jc_programs.specs.declared.run_end.Thrown.TheVariants as thrown
 use Rattle.jc_programs.specs.Members.{body_of}
-use Rattle.jc_world.specs.Programs.{IsProgram}
-use Rattle.jc_world.specs.Values.{Value}
-use Rattle.jc_world.specs.World.{Frame, running, Shared}
-use Rattle.jc_world.specs.Results.{Result, calls}
-use Rattle.jc_world.specs.Calls.{Arguments, taken_for, by_call, spread_values, locals_for}
-use Rattle.jc_world.specs.Operations.{Operation, invokes}
-use Rattle.jc_world.specs.Perform.{perform}
-use Rattle.jc_world.specs.Step.{operation_at, located, result_of, new_frame, overflows, placed, thrown_in, after, after_result}
-use Rattle.jc_world.specs.Fits.{FitsTop}
-use Rattle.jc_world.proofs.BeginLaws.{slots_length}
-use Rattle.jc_world_laws.proofs.CallLaws.{body_is}
-use Rattle.jc_world_laws.proofs.OnwardLaws.{here_of}
+use Rattle.jc_machine_model.specs.Programs.{IsProgram}
+use Rattle.jc_machine_model.specs.Values.{Value}
+use Rattle.jc_machine_model.specs.World.{Frame, running, Shared}
+use Rattle.jc_machine_model.specs.Results.{Result, calls}
+use Rattle.jc_machine_model.specs.Calls.{Arguments, taken_for, by_call, spread_values, locals_for}
+use Rattle.jc_machine_model.specs.Operations.{Operation, invokes}
+use Rattle.jc_machine_model.specs.Perform.{perform}
+use Rattle.jc_machine_model.specs.Step.{operation_at, located, result_of, new_frame, overflows, placed, thrown_in, after, after_result}
+use Rattle.jc_machine_model.specs.Fits.{FitsTop}
+use Rattle.jc_machine_model.proofs.BeginLaws.{slots_length}
+use Rattle.jc_machine_laws.proofs.CallLaws.{body_is}
+use Rattle.jc_machine_laws.proofs.OnwardLaws.{here_of}
 use Rattle.jc_machine.specs.Turned.{call_of}
 use Rattle.jc_machine.proofs.RoomLaws.{state_count, top_bounded}
 

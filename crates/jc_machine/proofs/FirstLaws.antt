@@ -18,16 +18,16 @@ use Rattle.jc_programs.specs.Entries.{is_entry, entry_in, entry_of, are_argument
 use Rattle.jc_operations.specs.declared.prepared.PreparedMethod.{PreparedMethod}
 use Rattle.jc_operations.specs.declared.prepared.PreparedProgram.{PreparedProgram}
 use Rattle.jc_operations.specs.Prepared.{IsMethodOf, IsPrepared}
-use Rattle.jc_world.specs.Programs.{IsProgram}
-use Rattle.jc_world.specs.Values.{Value}
-use Rattle.jc_world.specs.World.{running, stuck}
-use Rattle.jc_world.specs.Calls.{spread_values, locals_for}
+use Rattle.jc_machine_model.specs.Programs.{IsProgram}
+use Rattle.jc_machine_model.specs.Values.{Value}
+use Rattle.jc_machine_model.specs.World.{running, stuck}
+use Rattle.jc_machine_model.specs.Calls.{spread_values, locals_for}
 use Rattle.jc_programs.specs.declared.run_plan.Schedule.TheVariants as schedules
-use Rattle.jc_world.specs.Begin.{begin, argument_values, first_frame, thread_in, thread_for, first_thread, first_threads}
-use Rattle.jc_world.specs.Step.{new_frame}
-use Rattle.jc_world.specs.Fits.{FitsThread, FitsRunning}
-use Rattle.jc_world.proofs.BeginLaws.{both, then_some, map_some, no_body, some_is, none_some, begin_fits}
-use Rattle.jc_world_laws.proofs.CallLaws.{body_is}
+use Rattle.jc_machine_model.specs.Begin.{begin, argument_values, first_frame, thread_in, thread_for, first_thread, first_threads}
+use Rattle.jc_machine_model.specs.Step.{new_frame}
+use Rattle.jc_machine_model.specs.Fits.{FitsThread, FitsRunning}
+use Rattle.jc_machine_model.proofs.BeginLaws.{both, then_some, map_some, no_body, some_is, none_some, begin_fits}
+use Rattle.jc_machine_laws.proofs.CallLaws.{body_is}
 use Rattle.jc_machine.specs.Threads.{ThreadFrames}
 use Rattle.jc_machine.specs.FirstThreads.{Takes, FitParameters, BeginsWith}
 use Rattle.jc_machine.proofs.ArgumentLaws.{nothing}

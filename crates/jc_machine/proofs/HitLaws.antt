@@ -2,9 +2,9 @@
 use Rattle.std.proofs.Common.{◌≡◌, ℕ, List, [], ◌∷◌, ◌++◌, Option, Some, None, refl, sym, ap, ◌∙◌, append_assoc, length, slice_get, slice_set}
 use Rattle.std.proofs.lemmas.List.{append-nil, length-set}
 use Rattle.jc_programs.specs.declared.program.Program.{Program}
-use Rattle.jc_world.specs.World.{Thread, Hit, World}
-use Rattle.jc_world.specs.Step.{step_of, step, turn_of}
-use Rattle.jc_world.specs.Run.{run_from}
+use Rattle.jc_machine_model.specs.World.{Thread, Hit, World}
+use Rattle.jc_machine_model.specs.Step.{step_of, step, turn_of}
+use Rattle.jc_machine_model.specs.Run.{run_from}
 use Rattle.jc_machine.specs.Turned.{without_hits}
 
 -- a world with these hits in place of its own

@@ -9,15 +9,15 @@ use Rattle.jc_programs.specs.declared.run_end.End.{End}
 use Rattle.jc_programs.specs.declared.run_end.End.TheVariants as ends
 use Rattle.jc_operations.specs.Prepared.{IsPrepared}
 use Rattle.std.proofs.lemmas.Option.{slice_get-get_or}
-use Rattle.jc_world.specs.Programs.{IsProgram}
-use Rattle.jc_world.specs.World.{Thread, running, Shared, Hit, World}
-use Rattle.jc_world.specs.Step.{turn_of, with_after, step_of, step}
-use Rattle.jc_world.specs.CaseEnds.{ends_in}
-use Rattle.jc_world.specs.Laws.{IsOver}
-use Rattle.jc_world.specs.Fits.{FitsThread, FitsWorld, IsProbe}
-use Rattle.jc_world.proofs.TurnLaws.{ended_stays}
-use Rattle.jc_world_laws.proofs.StaticLaws.{get_each}
-use Rattle.jc_world_laws.proofs.WorldLaws.{step_fits, step_hits}
+use Rattle.jc_machine_model.specs.Programs.{IsProgram}
+use Rattle.jc_machine_model.specs.World.{Thread, running, Shared, Hit, World}
+use Rattle.jc_machine_model.specs.Step.{turn_of, with_after, step_of, step}
+use Rattle.jc_machine_model.specs.CaseEnds.{ends_in}
+use Rattle.jc_machine_model.specs.Laws.{IsOver}
+use Rattle.jc_machine_model.specs.Fits.{FitsThread, FitsWorld, IsProbe}
+use Rattle.jc_machine_model.proofs.TurnLaws.{ended_stays}
+use Rattle.jc_machine_laws.proofs.StaticLaws.{get_each}
+use Rattle.jc_machine_laws.proofs.WorldLaws.{step_fits, step_hits}
 use Rattle.jc_machine.specs.declared.world.World.TheInside.{Inside}
 use Rattle.jc_machine.specs.declared.thread_turn.ThreadTurn.{ThreadTurn}
 use Rattle.jc_machine.specs.Threads.{ThreadFrames, thread_of, threads_of}

@@ -4,8 +4,8 @@ use Rattle.jc_programs.specs.declared.program.Program.{Program}
 use Rattle.jc_programs.specs.declared.program.Linked.{Linked}
 use Rattle.jc_programs.specs.declared.program.ProbeInit.{ProbeInit}
 use Rattle.jc_programs.specs.Probes.{InRange}
-use Rattle.jc_world.specs.World.{Hit}
-use Rattle.jc_world.specs.Fits.{HasProbe, IsProbe}
+use Rattle.jc_machine_model.specs.World.{Hit}
+use Rattle.jc_machine_model.specs.Fits.{HasProbe, IsProbe}
 use Rattle.jc_machine.specs.Hits.{count_in, probe_counts}
 
 -- how many probes a class has

@@ -22,17 +22,17 @@ use Rattle.jc_kinds.proofs.StateShiftLaws.{frame_is, frame_state}
 use Rattle.jc_programs.specs.declared.program.Program.{Program}
 use Rattle.jc_programs.specs.declared.program.Linked.{Linked}
 use Rattle.jc_programs.specs.declared.run_end.Entry.{Entry}
-use Rattle.jc_world.specs.Programs.{IsProgram}
-use Rattle.jc_world.specs.Values.{Value}
-use Rattle.jc_world.specs.Heap.{HeapObject}
-use Rattle.jc_world.specs.World.{Frame}
-use Rattle.jc_world.specs.Methods.{declares_init, most_frame_slots, is_plain, is_native}
+use Rattle.jc_machine_model.specs.Programs.{IsProgram}
+use Rattle.jc_machine_model.specs.Values.{Value}
+use Rattle.jc_machine_model.specs.Heap.{HeapObject}
+use Rattle.jc_machine_model.specs.World.{Frame}
+use Rattle.jc_machine_model.specs.Methods.{declares_init, most_frame_slots, is_plain, is_native}
 use Rattle.jc_methods.specs.EntryState.{is_static}
-use Rattle.jc_world.specs.Step.{counted_frames}
-use Rattle.jc_world.specs.Fits.{AreOfVerificationTypes, StandsIn, FitsTop, FitsWaiting, FitEachWaiting, FitsRunning}
-use Rattle.jc_world.proofs.BeginLaws.{slots_length, then_some, both, not_is}
-use Rattle.jc_world_laws.proofs.OnwardLaws.{here_of, counted_step, counted_more}
-use Rattle.jc_world_laws.proofs.RoomLaws.{state_room}
+use Rattle.jc_machine_model.specs.Step.{counted_frames}
+use Rattle.jc_machine_model.specs.Fits.{AreOfVerificationTypes, StandsIn, FitsTop, FitsWaiting, FitEachWaiting, FitsRunning}
+use Rattle.jc_machine_model.proofs.BeginLaws.{slots_length, then_some, both, not_is}
+use Rattle.jc_machine_laws.proofs.OnwardLaws.{here_of, counted_step, counted_more}
+use Rattle.jc_machine_laws.proofs.RoomLaws.{state_room}
 use Rattle.jc_machine.specs.Room.{IsBounded, AreBounded}
 
 -- ---- the local variables of each state

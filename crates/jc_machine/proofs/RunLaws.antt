@@ -5,9 +5,9 @@ use Rattle.std.proofs.lemmas.List.{at_drop_more}
 use Rattle.std.proofs.lemmas.List.Elements.{Contains-append_left, Contains-append_right, Contains-append_cases}
 use Rattle.jc_programs.specs.declared.program.Program.{Program}
 use Rattle.jc_programs.specs.Turns.{turns_around, turns_drawn, next_drawn, drawn_thread}
-use Rattle.jc_world.specs.World.{Hit, World}
-use Rattle.jc_world.specs.Step.{step}
-use Rattle.jc_world.specs.Run.{run_from}
+use Rattle.jc_machine_model.specs.World.{Hit, World}
+use Rattle.jc_machine_model.specs.Step.{step}
+use Rattle.jc_machine_model.specs.Run.{run_from}
 use Rattle.jc_machine.specs.Hits.{Gained}
 use Rattle.jc_machine.specs.Turned.{without_hits}
 use Rattle.jc_machine.proofs.HitLaws.{step_threads, run_apart}

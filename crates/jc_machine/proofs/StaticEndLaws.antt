@@ -8,9 +8,9 @@ use Rattle.jc_programs.specs.declared.program.Program.{Program}
 use Rattle.jc_programs.specs.declared.program.Linked.{Linked}
 use Rattle.jc_programs.specs.declared.program.StaticField.{StaticField}
 use Rattle.jc_programs.specs.declared.run_end.StaticEnd.{StaticEnd}
-use Rattle.jc_world.specs.Values.{Value, null}
-use Rattle.jc_world.specs.CaseEnds.{number_of, field_end, field_ends, class_ends}
-use Rattle.jc_world.specs.Fits.{AreStatics}
+use Rattle.jc_machine_model.specs.Values.{Value, null}
+use Rattle.jc_machine_model.specs.CaseEnds.{number_of, field_end, field_ends, class_ends}
+use Rattle.jc_machine_model.specs.Fits.{AreStatics}
 use Rattle.jc_machine.specs.IntegralFields.{is_integral, field_if, fields_from, classes_from, integral_fields}
 use Rattle.jc_machine.specs.StaticEnds.{value_at, end_at, ends_at}
 

@@ -3,7 +3,7 @@ use Rattle.std.proofs.Common.{◌≡◌, ℕ, zero, suc, ◌+◌, ◌<◌, ◌�
 use Rattle.std.proofs.Common.{slice_set}
 use Rattle.jc_programs.specs.declared.run_end.End.{End}
 use Rattle.jc_programs.specs.declared.run_end.End.TheVariants as ends
-use Rattle.jc_world.specs.CaseEnds.{end_of}
+use Rattle.jc_machine_model.specs.CaseEnds.{end_of}
 use Rattle.jc_machine.specs.Threads.{ThreadFrames, thread_of, threads_of}
 
 pub length-threads_of : (es : List End) (stacks : List ThreadFrames) → length es ≤ length stacks → length (threads_of es stacks) ≡ length es

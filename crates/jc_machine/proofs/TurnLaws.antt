@@ -19,21 +19,21 @@ use Rattle.jc_operations.specs.declared.prepared.PreparedMethod.{PreparedMethod}
 use Rattle.jc_operations.specs.Shown.{Shows}
 use Rattle.jc_operations.specs.Prepared.{IsMethodOf}
 use Rattle.jc_perform.specs.Parameters.{AreParameters}
-use Rattle.jc_world.specs.Programs.{IsProgram}
-use Rattle.jc_world.specs.World.{Frame, running, Shared}
-use Rattle.jc_world.specs.Calls.{Arguments, taken_for, spread_values, locals_for}
-use Rattle.jc_world.specs.Profile.{operation_of}
-use Rattle.jc_world.specs.Operations.{invokes}
-use Rattle.jc_world.specs.Jumps.{by_switch}
-use Rattle.jc_world.specs.Perform.{perform}
-use Rattle.jc_world.specs.Step.{LocatedInsn, located, operation_at, result_of, counted_frames, overflows, new_frame, after, after_result}
-use Rattle.jc_world.specs.Fits.{FitsRunning, FitsWorld}
-use Rattle.jc_world.proofs.BeginLaws.{all_at}
-use Rattle.jc_world_laws.proofs.CallLaws.{body_is}
-use Rattle.jc_world_laws.proofs.OnwardLaws.{here_of}
-use Rattle.jc_world_laws.proofs.ReturnLaws.{located_is}
-use Rattle.jc_world_laws.proofs.ThreadLaws.{Lands}
-use Rattle.jc_world_laws.proofs.WorldLaws.{running_lands}
+use Rattle.jc_machine_model.specs.Programs.{IsProgram}
+use Rattle.jc_machine_model.specs.World.{Frame, running, Shared}
+use Rattle.jc_machine_model.specs.Calls.{Arguments, taken_for, spread_values, locals_for}
+use Rattle.jc_machine_model.specs.Profile.{operation_of}
+use Rattle.jc_machine_model.specs.Operations.{invokes}
+use Rattle.jc_machine_model.specs.Jumps.{by_switch}
+use Rattle.jc_machine_model.specs.Perform.{perform}
+use Rattle.jc_machine_model.specs.Step.{LocatedInsn, located, operation_at, result_of, counted_frames, overflows, new_frame, after, after_result}
+use Rattle.jc_machine_model.specs.Fits.{FitsRunning, FitsWorld}
+use Rattle.jc_machine_model.proofs.BeginLaws.{all_at}
+use Rattle.jc_machine_laws.proofs.CallLaws.{body_is}
+use Rattle.jc_machine_laws.proofs.OnwardLaws.{here_of}
+use Rattle.jc_machine_laws.proofs.ReturnLaws.{located_is}
+use Rattle.jc_machine_laws.proofs.ThreadLaws.{Lands}
+use Rattle.jc_machine_laws.proofs.WorldLaws.{running_lands}
 use Rattle.jc_machine.specs.Room.{IsBounded, AreBounded}
 use Rattle.jc_machine.specs.Threads.{ThreadFrames}
 use Rattle.jc_machine.specs.Turned.{alone, call_of, StandsBefore, FitsAfter}

@@ -11,11 +11,11 @@ use Rattle.jc_programs.specs.declared.program.Program.{Program}
 use Rattle.jc_programs.specs.declared.run_end.Entry.{Entry}
 use Rattle.jc_programs.specs.Members.{body_of}
 use Rattle.jc_programs.specs.Entries.{are_arguments}
-use Rattle.jc_world.specs.Values.{Value, is_pair}
-use Rattle.jc_world.specs.Calls.{spread_values, locals_for}
-use Rattle.jc_world.specs.Begin.{argument_values, first_thread}
-use Rattle.jc_world.specs.Programs.{IsProgram}
-use Rattle.jc_world.specs.Fits.{FitsThread}
+use Rattle.jc_machine_model.specs.Values.{Value, is_pair}
+use Rattle.jc_machine_model.specs.Calls.{spread_values, locals_for}
+use Rattle.jc_machine_model.specs.Begin.{argument_values, first_thread}
+use Rattle.jc_machine_model.specs.Programs.{IsProgram}
+use Rattle.jc_machine_model.specs.Fits.{FitsThread}
 use Rattle.jc_machine.specs.Threads.{ThreadFrames}
 
 -- how many local variables a value takes (JVM Specification 2.6.1)

@@ -3,7 +3,7 @@ use Rattle.std.specs.Prelude.{ℕ, ◌⊎◌, ◌↔◌, List, map, Option, Some
 use Rattle.jc_programs.specs.declared.program.Program.{Program}
 use Rattle.jc_programs.specs.declared.program.Linked.{Linked}
 use Rattle.jc_programs.specs.declared.program.ProbeInit.{ProbeInit}
-use Rattle.jc_world.specs.World.{Hit}
+use Rattle.jc_machine_model.specs.World.{Hit}
 
 abbrev pub count_in : Option ProbeInit → ℕ
 count_in None = 0

@@ -3,8 +3,8 @@ use Rattle.std.specs.Prelude.{◌≡◌, List, []}
 use Rattle.jc_operations.specs.declared.prepared.PreparedProgram.{PreparedProgram}
 use Rattle.jc_operations.specs.Prepared.{IsPrepared}
 use Rattle.jc_programs.specs.declared.program.Program.{Program}
-use Rattle.jc_world.specs.World.{Thread, Shared, World}
-use Rattle.jc_world.specs.Fits.{FitsWorld}
+use Rattle.jc_machine_model.specs.World.{Thread, Shared, World}
+use Rattle.jc_machine_model.specs.Fits.{FitsWorld}
 use Rattle.jc_machine.specs.declared.integral_fields.IntegralField.{IntegralField}
 use Rattle.jc_machine.specs.IntegralFields.{integral_fields}
 

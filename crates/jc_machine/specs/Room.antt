@@ -1,7 +1,7 @@
 -- How large the frames of a thread are.
 use Rattle.std.specs.Prelude.{◌+◌, ◌^◌, ◌≤◌, ◌<◌, List, length}
 use Rattle.std.specs.List.{AllByRecursion}
-use Rattle.jc_world.specs.World.{Frame}
+use Rattle.jc_machine_model.specs.World.{Frame}
 
 -- The local variables and the operands are at most as many as the widest method has slots, and the number of the instruction
 -- behind is one of four bytes.

@@ -1,8 +1,8 @@
 -- What static fields hold at the end, by their places among the values.
 use Rattle.std.specs.Prelude.{List, [], map, slice_index_or}
 use Rattle.jc_programs.specs.declared.run_end.StaticEnd.{StaticEnd}
-use Rattle.jc_world.specs.Values.{Value, null}
-use Rattle.jc_world.specs.CaseEnds.{number_of}
+use Rattle.jc_machine_model.specs.Values.{Value, null}
+use Rattle.jc_machine_model.specs.CaseEnds.{number_of}
 use Rattle.jc_machine.specs.declared.integral_fields.IntegralField.{IntegralField}
 
 -- the value of a static field

@@ -3,9 +3,9 @@ use Rattle.std.specs.Prelude.{ℕ, List, [], ◌∷◌}
 use Rattle.jc_programs.specs.declared.run_end.Entry.{Entry}
 use Rattle.jc_programs.specs.declared.run_end.End.{End}
 use Rattle.jc_programs.specs.declared.run_end.End.TheVariants as ends
-use Rattle.jc_world.specs.World.{Frame, Thread, running, returned, threw, stuck}
-use Rattle.jc_world.specs.Calls.{Arguments, locals_for}
-use Rattle.jc_world.specs.Step.{new_frame}
+use Rattle.jc_machine_model.specs.World.{Frame, Thread, running, returned, threw, stuck}
+use Rattle.jc_machine_model.specs.Calls.{Arguments, locals_for}
+use Rattle.jc_machine_model.specs.Step.{new_frame}
 
 -- the frame on top, and those that wait, the nearest first
 pub record ThreadFrames : Type 0 where

@@ -6,11 +6,11 @@ use Rattle.jc_programs.specs.declared.run_end.Thrown.{Thrown}
 use Rattle.jc_methods.specs.declared.body.Body.{Body}
 use Rattle.jc_methods.specs.declared.insn.Insn.{Insn}
 use Rattle.jc_methods.specs.DescriptorTypes.{method_type_in}
-use Rattle.jc_world.specs.World.{Frame, Thread, running, threw, Shared, Hit, World}
-use Rattle.jc_world.specs.Results.{Result, gets_stuck}
-use Rattle.jc_world.specs.Calls.{taken_for, by_call}
-use Rattle.jc_world.specs.Step.{LocatedInsn, After, Raised}
-use Rattle.jc_world.specs.Fits.{FitsThread}
+use Rattle.jc_machine_model.specs.World.{Frame, Thread, running, threw, Shared, Hit, World}
+use Rattle.jc_machine_model.specs.Results.{Result, gets_stuck}
+use Rattle.jc_machine_model.specs.Calls.{taken_for, by_call}
+use Rattle.jc_machine_model.specs.Step.{LocatedInsn, After, Raised}
+use Rattle.jc_machine_model.specs.Fits.{FitsThread}
 use Rattle.jc_machine.specs.declared.thread_turn.ProbeHit.{ProbeHit}
 use Rattle.jc_machine.specs.declared.thread_turn.ThreadTurn.{ThreadTurn}
 use Rattle.jc_machine.specs.declared.throwing.Throwable.{Throwable}

@@ -1,8 +1,8 @@
 //! What a case leaves.
 ghost use Rattle.std.specs.Prelude.{◌≡◌, ◌<◌, ◌≤◌, [], length, slice_index_or, IfOk};
 ghost use Rattle.jc_programs.specs.declared.program.Program.{Program};
-ghost use Rattle.jc_world.specs.Values.{null, seen_value};
-ghost use Rattle.jc_world.specs.CaseEnds.{number_of, ends_in, case_end_in};
+ghost use Rattle.jc_machine_model.specs.Values.{null, seen_value};
+ghost use Rattle.jc_machine_model.specs.CaseEnds.{number_of, ends_in, case_end_in};
 ghost use Rattle.jc_store.specs.Values.{value_of};
 ghost use Rattle.jc_machine.specs.StaticEnds.{value_at, ends_at};
 ghost use Rattle.jc_machine.specs.Machines.{world_of, Fits};

@@ -5,10 +5,10 @@ ghost use Rattle.jc_programs.specs.declared.program.Program.{Program};
 ghost use Rattle.jc_programs.specs.Entries.{is_argument};
 ghost use Rattle.jc_operations.specs.Types.{computational};
 ghost use Rattle.jc_perform.specs.Parameters.{AreParameters};
-ghost use Rattle.jc_world.specs.Values.{computational_type};
-ghost use Rattle.jc_world.specs.Calls.{spread_values};
+ghost use Rattle.jc_machine_model.specs.Values.{computational_type};
+ghost use Rattle.jc_machine_model.specs.Calls.{spread_values};
 ghost use Rattle.jc_store.specs.Values.{value_of};
-ghost use Rattle.jc_world.specs.Begin.{number_value, argument_values, first_thread};
+ghost use Rattle.jc_machine_model.specs.Begin.{number_value, argument_values, first_thread};
 ghost use Rattle.jc_machine.specs.Threads.{thread_of};
 ghost use Rattle.jc_machine.specs.FirstThreads.{width, with_arguments, FitParameters, BeginsWith};
 

@@ -1,7 +1,7 @@
 //! The static fields of integral types (JVM Specification 2.3.1).
 ghost use Rattle.std.specs.Prelude.{◌≡◌, ◌<◌, ◌^◌, ◌++◌, length, IfOk};
 ghost use Rattle.jc_methods.specs.DescriptorTypes.{field_type_in};
-ghost use Rattle.jc_world.specs.Programs.{IsProgram};
+ghost use Rattle.jc_machine_model.specs.Programs.{IsProgram};
 ghost use Rattle.jc_machine.specs.IntegralFields.{is_integral_letter, is_integral, fields_from, integral_fields};
 
 use jc_bytes::Memory;

@@ -2,10 +2,10 @@
 ghost use Rattle.std.specs.Prelude.{◌≡◌, None, MatchOption};
 ghost use Rattle.jc_operations.specs.Prepared.{IsPrepared};
 ghost use Rattle.jc_perform.specs.Nexts.{ComesTo, KeepsFrame, KeepsShared};
-ghost use Rattle.jc_world.specs.World.{running};
-ghost use Rattle.jc_world.specs.Programs.{IsProgram};
-ghost use Rattle.jc_world.specs.Fits.{FitsWorld};
-ghost use Rattle.jc_world.specs.Step.{located, operation_at, turn_of};
+ghost use Rattle.jc_machine_model.specs.World.{running};
+ghost use Rattle.jc_machine_model.specs.Programs.{IsProgram};
+ghost use Rattle.jc_machine_model.specs.Fits.{FitsWorld};
+ghost use Rattle.jc_machine_model.specs.Step.{located, operation_at, turn_of};
 ghost use Rattle.jc_machine.specs.Turned.{alone, after_of, StandsBefore};
 
 use crate::calling::{call, leave};

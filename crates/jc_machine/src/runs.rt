@@ -1,8 +1,8 @@
 //! Runs: turns one after another.
 ghost use Rattle.std.specs.Prelude.{◌≡◌, ◌<◌, ◌≤◌, length, All};
 ghost use Rattle.jc_programs.specs.Turns.{AreThreads, turns_around, turns_drawn, turns_of, next_drawn, drawn_thread};
-ghost use Rattle.jc_world.specs.Programs.{IsProgram};
-ghost use Rattle.jc_world.specs.Run.{run_from};
+ghost use Rattle.jc_machine_model.specs.Programs.{IsProgram};
+ghost use Rattle.jc_machine_model.specs.Run.{run_from};
 ghost use Rattle.jc_machine.specs.Hits.{Gained, probe_counts};
 ghost use Rattle.jc_machine.specs.Machines.{world_of, Fits};
 ghost use Rattle.jc_machine.specs.Turned.{without_hits};

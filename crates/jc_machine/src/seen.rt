@@ -1,6 +1,6 @@
 //! Values as they are seen from outside.
 ghost use Rattle.std.specs.Prelude.{◌≡◌};
-ghost use Rattle.jc_world.specs.Values.{seen_value};
+ghost use Rattle.jc_machine_model.specs.Values.{seen_value};
 ghost use Rattle.jc_store.specs.Values.{value_of};
 
 use jc_programs as outside;

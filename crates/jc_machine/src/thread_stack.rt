@@ -2,9 +2,9 @@
 ghost use Rattle.std.specs.Prelude.{◌≡◌, ◌<◌, ◌≤◌, List, [], ◌∷◌, length, replicate, None, Some, option_map, is_some, slice_set, IfOk, MatchBool};
 ghost use Rattle.jc_bytes.specs.Descriptor.{FieldType};
 ghost use Rattle.jc_methods.specs.Insn.{IsWellFormed};
-ghost use Rattle.jc_world.specs.Operations as operations;
-ghost use Rattle.jc_world.specs.Calls.{Arguments, taken_for, spread_values};
-ghost use Rattle.jc_world.specs.Step.{given_back, new_frame};
+ghost use Rattle.jc_machine_model.specs.Operations as operations;
+ghost use Rattle.jc_machine_model.specs.Calls.{Arguments, taken_for, spread_values};
+ghost use Rattle.jc_machine_model.specs.Step.{given_back, new_frame};
 ghost use Rattle.jc_store.specs.Values.{value_of};
 ghost use Rattle.jc_operations.specs.Shown.{Shows};
 ghost use Rattle.jc_operations.specs.Invoked.{GoesByKey, IsSwitch};

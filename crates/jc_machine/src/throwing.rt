@@ -3,7 +3,7 @@ ghost use Rattle.std.specs.Prelude.{◌≡◌, ◌∷◌};
 ghost use Rattle.std.specs.List.{AllByRecursion};
 ghost use Rattle.jc_programs.specs.declared.program.Program.{Program};
 ghost use Rattle.jc_operations.specs.Prepared.{IsPrepared};
-ghost use Rattle.jc_world.specs.Step.{unwound, placed, thrown_in};
+ghost use Rattle.jc_machine_model.specs.Step.{unwound, placed, thrown_in};
 ghost use Rattle.jc_store.specs.Values.{value_of};
 ghost use Rattle.jc_machine.specs.Room.{AreBounded};
 ghost use Rattle.jc_machine.specs.Turned.{after_of, raised_with, thrown_to};

@@ -1,7 +1,7 @@
 //! Turns of a world's threads.
 ghost use Rattle.std.specs.Prelude.{◌≡◌, ◌<◌, length};
-ghost use Rattle.jc_world.specs.Programs.{IsProgram};
-ghost use Rattle.jc_world.specs.Step.{step};
+ghost use Rattle.jc_machine_model.specs.Programs.{IsProgram};
+ghost use Rattle.jc_machine_model.specs.Step.{step};
 ghost use Rattle.jc_machine.specs.Hits.{Gained, probe_counts};
 ghost use Rattle.jc_machine.specs.Machines.{world_of, Fits};
 ghost use Rattle.jc_machine.specs.Turned.{without_hits, hits_in};

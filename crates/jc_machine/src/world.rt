@@ -2,9 +2,9 @@
 ghost use Rattle.std.specs.Prelude.{◌≡◌, ◌≤◌, length, IfOk};
 ghost use Rattle.jc_programs.specs.Turns.{IsCase};
 ghost use Rattle.jc_programs.specs.Entries.{AreEntries};
-ghost use Rattle.jc_world.specs.Programs.{IsProgram};
+ghost use Rattle.jc_machine_model.specs.Programs.{IsProgram};
 ghost use Rattle.jc_operations.specs.Prepared.{IsPrepared};
-ghost use Rattle.jc_world.specs.Begin.{begin, first_threads};
+ghost use Rattle.jc_machine_model.specs.Begin.{begin, first_threads};
 
 use crate::first_threads::begin_thread;
 use crate::integral_fields::{IntegralField, integral_fields};

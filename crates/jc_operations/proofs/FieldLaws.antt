@@ -4,9 +4,9 @@ use Rattle.jc_bytes.specs.Descriptor.{FieldType, DescribesField}
 use Rattle.jc_methods.specs.Opcode as opcode
 use Rattle.jc_methods.specs.DescriptorTypes.{field_type_in}
 use Rattle.jc_methods.proofs.DescriptorTypesLaws.{field_again}
-use Rattle.jc_world.specs.Values.{ComputationalType, computational_type}
-use Rattle.jc_world.specs.Operations.{FieldAt, gets, puts, outside}
-use Rattle.jc_world.specs.Profile.{field_operation}
+use Rattle.jc_machine_model.specs.Values.{ComputationalType, computational_type}
+use Rattle.jc_machine_model.specs.Operations.{FieldAt, gets, puts, outside}
+use Rattle.jc_machine_model.specs.Profile.{field_operation}
 
 module _ (op : ℕ) (at : FieldAt) (desc : List ℕ) (type : FieldType) (d : DescribesField desc type) where
   described : field_operation op at (field_type_in desc) ≡ field_operation op at (Some type)

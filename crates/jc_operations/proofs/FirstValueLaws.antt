@@ -8,9 +8,9 @@ use mir.Syntax.{w64}
 use Rattle.std.proofs.lemmas.Bool.{eqb-true}
 use Rattle.jc_bytes.specs.Descriptor.{FieldType, Byte, Char, Double, Float, Int, Long, Short, Boolean, Object, Array}
 use Rattle.jc_methods.specs.DescriptorTypes.{before, naming, behind, base_type, in_arrays, types_from, front_of, field_type_in}
-use Rattle.jc_world.specs.Values.{Value, int, long, null}
-use Rattle.jc_world.specs.Begin.{first_of}
-use Rattle.jc_world.specs.Programs.{IsFirstOf}
+use Rattle.jc_machine_model.specs.Values.{Value, int, long, null}
+use Rattle.jc_machine_model.specs.Begin.{first_of}
+use Rattle.jc_machine_model.specs.Programs.{IsFirstOf}
 use Rattle.jc_operations.specs.FirstValues.{value_by, FitsLetter}
 
 -- ---- arrays and objects

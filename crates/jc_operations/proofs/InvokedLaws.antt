@@ -17,13 +17,13 @@ use Rattle.jc_programs.specs.declared.program.ProbeInit.{ProbeInit}
 use Rattle.jc_programs.specs.declared.run_end.Entry.{Entry}
 use Rattle.jc_programs.specs.declared.run_end.Thrown.{Thrown}
 use Rattle.jc_programs.specs.Members.{class_named, class_at}
-use Rattle.jc_world.specs.Methods.{is_enterable}
-use Rattle.jc_world.specs.Values.{Value, ComputationalType, computational_type}
-use Rattle.jc_world.specs.World.{Frame, Shared}
-use Rattle.jc_world.specs.Perform.{perform}
-use Rattle.jc_world.specs.Step.{LocatedInsn, operation_at, located}
-use Rattle.jc_world.specs.Operations.{FieldAt, Printed, Operation, pushes, computes, tests, jumps, indexes, matches, makes_array, measures, gets, puts, invokes, returns, returns_nothing, throws_top, outside}
-use Rattle.jc_world.specs.Profile.{Location, in_init, init_of, what_at, constant_operation, long_operation, may_name_field, field_operation, declared_field, linked_field, is_print_stream, field_named, may_name_method, callee_named, entered_if, body_entered, class_entered, method_entered, is_fetch, init_call, printed_by, print_operation, made_class, build_operation, call_named, member_operation, make_operation, class_operation, array_operation, elements_of, read_operation, write_operation, return_operation, simple_operation, local_type, load_operation, store_operation, local_operation, operation_of}
+use Rattle.jc_machine_model.specs.Methods.{is_enterable}
+use Rattle.jc_machine_model.specs.Values.{Value, ComputationalType, computational_type}
+use Rattle.jc_machine_model.specs.World.{Frame, Shared}
+use Rattle.jc_machine_model.specs.Perform.{perform}
+use Rattle.jc_machine_model.specs.Step.{LocatedInsn, operation_at, located}
+use Rattle.jc_machine_model.specs.Operations.{FieldAt, Printed, Operation, pushes, computes, tests, jumps, indexes, matches, makes_array, measures, gets, puts, invokes, returns, returns_nothing, throws_top, outside}
+use Rattle.jc_machine_model.specs.Profile.{Location, in_init, init_of, what_at, constant_operation, long_operation, may_name_field, field_operation, declared_field, linked_field, is_print_stream, field_named, may_name_method, callee_named, entered_if, body_entered, class_entered, method_entered, is_fetch, init_call, printed_by, print_operation, made_class, build_operation, call_named, member_operation, make_operation, class_operation, array_operation, elements_of, read_operation, write_operation, return_operation, simple_operation, local_type, load_operation, store_operation, local_operation, operation_of}
 use Rattle.jc_operations.specs.declared.operation.Operation.{Operation as ShownOperation}
 use Rattle.jc_operations.specs.declared.operation.Operation.TheVariants as shown
 use Rattle.jc_operations.specs.Shown.{Shows}

@@ -14,12 +14,12 @@ use Rattle.jc_programs.specs.declared.program.Linked.{Linked}
 use Rattle.jc_programs.specs.declared.run_end.Entry.{Entry}
 use Rattle.jc_programs.specs.declared.run_end.Thrown.{Thrown}
 use Rattle.jc_programs.specs.Members.{body_of}
-use Rattle.jc_world.specs.Programs.{IsStatic, IsProgram, IsLinked}
-use Rattle.jc_world.specs.Begin.{first_value, first_statics}
-use Rattle.jc_world.specs.World.{Frame}
-use Rattle.jc_world.specs.Operations.{outside}
-use Rattle.jc_world.specs.Step.{located_in_body, located_in_class, located, operation_at, handles, handler_in, handler_of}
-use Rattle.jc_world.proofs.BeginLaws.{all_at}
+use Rattle.jc_machine_model.specs.Programs.{IsStatic, IsProgram, IsLinked}
+use Rattle.jc_machine_model.specs.Begin.{first_value, first_statics}
+use Rattle.jc_machine_model.specs.World.{Frame}
+use Rattle.jc_machine_model.specs.Operations.{outside}
+use Rattle.jc_machine_model.specs.Step.{located_in_body, located_in_class, located, operation_at, handles, handler_in, handler_of}
+use Rattle.jc_machine_model.proofs.BeginLaws.{all_at}
 use Rattle.jc_operations.specs.declared.index.ProgramIndex.{ProgramIndex}
 use Rattle.jc_operations.specs.declared.operation.Operation.{Operation as ShownOperation}
 use Rattle.jc_operations.specs.declared.operation.Operation.TheVariants as shown

@@ -14,9 +14,9 @@ use Rattle.jc_programs.specs.declared.program.Program.{Program}
 use Rattle.jc_programs.specs.declared.program.Linked.{Linked}
 use Rattle.jc_programs.specs.declared.run_end.Entry.{Entry}
 use Rattle.jc_programs.specs.Members.{class_named, class_at, method_named}
-use Rattle.jc_world.specs.Methods.{is_enterable}
-use Rattle.jc_world.specs.Operations.{outside}
-use Rattle.jc_world.specs.Profile.{Location, may_name_method, method_in, callee_named, enters, entered_if, body_entered}
+use Rattle.jc_machine_model.specs.Methods.{is_enterable}
+use Rattle.jc_machine_model.specs.Operations.{outside}
+use Rattle.jc_machine_model.specs.Profile.{Location, may_name_method, method_in, callee_named, enters, entered_if, body_entered}
 use Rattle.jc_operations.specs.declared.index.ClassIndex.{ClassIndex}
 use Rattle.jc_operations.specs.declared.index.ProgramIndex.{ProgramIndex}
 use Rattle.jc_operations.specs.declared.site.Site.{Site}

@@ -9,8 +9,8 @@ use Rattle.jc_methods.specs.EntryState.{held_of}
 use Rattle.jc_methods.specs.ValueTypes.{type_of, held_by, Says, AllSay}
 use Rattle.jc_methods.specs.declared.value_type.ValueType.{ValueType}
 use Rattle.jc_programs.specs.declared.program.StaticField.{StaticField}
-use Rattle.jc_world.specs.Values.{computational_type}
-use Rattle.jc_world.specs.Begin.{first_value}
+use Rattle.jc_machine_model.specs.Values.{computational_type}
+use Rattle.jc_machine_model.specs.Begin.{first_value}
 use Rattle.jc_operations.specs.declared.operation.ComputationalType.{ComputationalType}
 use Rattle.jc_operations.specs.declared.prepared.FirstValue.{FirstValue}
 use Rattle.jc_operations.specs.Types.{computational}

@@ -1,6 +1,6 @@
 -- The first values of static fields, by the first letter of the descriptor (JVM Specification 4.3.2).
 use Rattle.std.specs.Prelude.{ℕ, ℤ, pos, negsuc, ◌≤ℤ◌, ◌≡◌, false, ◌||◌, nat_eq, if◌then◌else◌}
-use Rattle.jc_world.specs.Values.{Value, int, long, null}
+use Rattle.jc_machine_model.specs.Values.{Value, int, long, null}
 
 -- null for `L` and `[`, and where the descriptor has no type
 abbrev pub value_by : ℕ → ℤ → Value

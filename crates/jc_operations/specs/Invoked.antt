@@ -9,11 +9,11 @@ use Rattle.jc_programs.specs.declared.program.Linked.{Linked}
 use Rattle.jc_programs.specs.declared.run_end.Entry.{Entry}
 use Rattle.jc_programs.specs.Members.{class_at}
 use Rattle.jc_plan.specs.Chosen.{key_target}
-use Rattle.jc_world.specs.Methods.{is_enterable}
-use Rattle.jc_world.specs.World.{Frame, Shared}
-use Rattle.jc_world.specs.Operations as operations
-use Rattle.jc_world.specs.Jumps.{by_switch}
-use Rattle.jc_world.specs.Perform.{perform}
+use Rattle.jc_machine_model.specs.Methods.{is_enterable}
+use Rattle.jc_machine_model.specs.World.{Frame, Shared}
+use Rattle.jc_machine_model.specs.Operations as operations
+use Rattle.jc_machine_model.specs.Jumps.{by_switch}
+use Rattle.jc_machine_model.specs.Perform.{perform}
 use Rattle.jc_operations.specs.declared.operation.Operation.{Operation}
 use Rattle.jc_operations.specs.declared.operation.Operation.TheVariants as shown
 

@@ -11,11 +11,11 @@ use Rattle.jc_programs.specs.declared.run_end.Entry.{Entry}
 use Rattle.jc_programs.specs.declared.run_end.Thrown.{Thrown}
 use Rattle.jc_programs.specs.Members.{class_at}
 use Rattle.jc_programs.specs.Throwables.{name_of, is_named_in}
-use Rattle.jc_world.specs.Values.{Value, int, long, null, computational_type}
-use Rattle.jc_world.specs.Methods.{is_init_name, is_enterable}
-use Rattle.jc_world.specs.Profile.{operation_of}
-use Rattle.jc_world.specs.Begin.{first_value}
-use Rattle.jc_world.specs.Step.{catches}
+use Rattle.jc_machine_model.specs.Values.{Value, int, long, null, computational_type}
+use Rattle.jc_machine_model.specs.Methods.{is_init_name, is_enterable}
+use Rattle.jc_machine_model.specs.Profile.{operation_of}
+use Rattle.jc_machine_model.specs.Begin.{first_value}
+use Rattle.jc_machine_model.specs.Step.{catches}
 use Rattle.jc_operations.specs.declared.operation.Operation.{Operation}
 use Rattle.jc_operations.specs.declared.operation.Operation.TheVariants as shown
 use Rattle.jc_operations.specs.declared.prepared.Catches.{Catches}

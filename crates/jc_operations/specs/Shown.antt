@@ -2,8 +2,8 @@
 use Rattle.std.specs.Prelude.{◌≡◌, ℕ, ℤ, List, Option, Some}
 use Rattle.jc_bytes.specs.Descriptor.{FieldType}
 use Rattle.jc_methods.specs.declared.insn.Arm.{Arm}
-use Rattle.jc_world.specs.Values as values
-use Rattle.jc_world.specs.Operations as operations
+use Rattle.jc_machine_model.specs.Values as values
+use Rattle.jc_machine_model.specs.Operations as operations
 use Rattle.jc_effects.specs.Narrowings.{narrowing_of}
 use Rattle.jc_operations.specs.declared.operation.Operation.{Operation}
 use Rattle.jc_operations.specs.declared.operation.Operation.TheVariants as shown

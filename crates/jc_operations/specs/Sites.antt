@@ -8,9 +8,9 @@ use Rattle.jc_methods.specs.WellMade.{IsWellMade}
 use Rattle.jc_programs.specs.declared.program.Program.{Program}
 use Rattle.jc_programs.specs.declared.program.Linked.{Linked}
 use Rattle.jc_programs.specs.Members.{class_at}
-use Rattle.jc_world.specs.Methods.{most_frame_slots}
-use Rattle.jc_world.specs.Profile.{Location, in_init, init_of}
-use Rattle.jc_world.specs.Programs.{IsStatic}
+use Rattle.jc_machine_model.specs.Methods.{most_frame_slots}
+use Rattle.jc_machine_model.specs.Profile.{Location, in_init, init_of}
+use Rattle.jc_machine_model.specs.Programs.{IsStatic}
 use Rattle.jc_operations.specs.declared.prepared.PreparedClass.{PreparedClass}
 use Rattle.jc_operations.specs.declared.index.ClassIndex.{ClassIndex}
 use Rattle.jc_operations.specs.declared.index.ProgramIndex.{ProgramIndex}

@@ -4,8 +4,8 @@ use Rattle.jc_bytes.specs.Descriptor.{FieldType}
 use Rattle.jc_bytes.specs.Descriptor as types
 use Rattle.jc_methods.specs.declared.value_type.ValueType.{ValueType}
 use Rattle.jc_methods.specs.declared.value_type.ValueType.TheVariants as given
-use Rattle.jc_world.specs.Values as values
-use Rattle.jc_world.specs.Operations as operations
+use Rattle.jc_machine_model.specs.Values as values
+use Rattle.jc_machine_model.specs.Operations as operations
 use Rattle.jc_effects.specs.declared.narrowing.Narrowing.{Narrowing}
 use Rattle.jc_effects.specs.declared.narrowing.Narrowing.TheVariants as narrowings
 use Rattle.jc_effects.specs.Narrowings.{narrowing_of}

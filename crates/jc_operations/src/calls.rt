@@ -1,7 +1,7 @@
 //! Calls of `println` and of constructors (JVM Specification 6.5, invokevirtual, invokespecial).
 ghost use Rattle.std.specs.Prelude.{◌≡◌, ◌&&◌, codes, bytes_eq};
 ghost use Rattle.std.specs.Option.{option_map};
-ghost use Rattle.jc_world.specs.Profile.{Location, in_init, printed_by, print_operation, virtual_call, special_call};
+ghost use Rattle.jc_machine_model.specs.Profile.{Location, in_init, printed_by, print_operation, virtual_call, special_call};
 ghost use Rattle.jc_operations.specs.Types.{printed};
 ghost use Rattle.jc_operations.specs.Shown.{Shows};
 

@@ -1,7 +1,7 @@
 //! The instructions of a method.
 ghost use Rattle.std.specs.Prelude.{◌≡◌, ◌<◌, ◌^◌, length, All, IfOk};
 ghost use Rattle.jc_programs.specs.declared.program.Program.{Program};
-ghost use Rattle.jc_world.specs.Profile.{Location};
+ghost use Rattle.jc_machine_model.specs.Profile.{Location};
 ghost use Rattle.jc_operations.specs.Prepared.{Correspond, ShowsInsn};
 ghost use Rattle.jc_operations.specs.Sites.{IsSite, UsesFit};
 

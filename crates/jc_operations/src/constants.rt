@@ -1,6 +1,6 @@
 //! Constants (JVM Specification 6.5, ldc, ldc2_w).
 ghost use Rattle.std.specs.Prelude.{◌≡◌, Some};
-ghost use Rattle.jc_world.specs.Profile.{Location, init_of, constant_operation, long_operation};
+ghost use Rattle.jc_machine_model.specs.Profile.{Location, init_of, constant_operation, long_operation};
 ghost use Rattle.jc_operations.specs.Shown.{Shows};
 
 use crate::Operation;

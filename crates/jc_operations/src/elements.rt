@@ -1,6 +1,6 @@
 //! The types of the elements that an instruction loads or stores.
 ghost use Rattle.std.specs.Prelude.{◌≡◌, [], MatchOption};
-ghost use Rattle.jc_world.specs.Profile.{elements_of, read_operation, write_operation};
+ghost use Rattle.jc_machine_model.specs.Profile.{elements_of, read_operation, write_operation};
 ghost use Rattle.jc_operations.specs.Types.{element_types};
 ghost use Rattle.jc_operations.specs.Shown.{Shows};
 

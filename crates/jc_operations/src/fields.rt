@@ -2,8 +2,8 @@
 ghost use Rattle.std.specs.Prelude.{◌≡◌, Some};
 ghost use Rattle.jc_bytes.specs.Descriptor.{FieldType, IsFieldDescriptor, DescribesField};
 ghost use Rattle.jc_methods.specs.DescriptorTypes.{field_type_in};
-ghost use Rattle.jc_world.specs.Operations.{FieldAt};
-ghost use Rattle.jc_world.specs.Profile.{field_operation, is_print_stream};
+ghost use Rattle.jc_machine_model.specs.Operations.{FieldAt};
+ghost use Rattle.jc_machine_model.specs.Profile.{field_operation, is_print_stream};
 ghost use Rattle.jc_operations.specs.Types.{stored_of, IsStoredAs};
 ghost use Rattle.jc_operations.specs.Shown.{Shows};
 

@@ -1,7 +1,7 @@
 //! Loads and stores of local variables (JVM Specification 2.6.1, 6.5).
 ghost use Rattle.std.specs.Prelude.{◌≡◌};
 ghost use Rattle.std.specs.Option.{option_map};
-ghost use Rattle.jc_world.specs.Profile.{local_type, local_operation};
+ghost use Rattle.jc_machine_model.specs.Profile.{local_type, local_operation};
 ghost use Rattle.jc_operations.specs.Types.{computational};
 ghost use Rattle.jc_operations.specs.Shown.{Shows};
 

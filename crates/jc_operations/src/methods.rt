@@ -1,7 +1,7 @@
 //! Which methods threads may enter.
 ghost use Rattle.std.specs.Prelude.{◌≡◌};
 ghost use Rattle.jc_methods.specs.EntryState.{is_static};
-ghost use Rattle.jc_world.specs.Methods.{is_init_name, declares_init, most_frame_slots, is_wide, is_synchronized, is_native, is_plain, is_enterable};
+ghost use Rattle.jc_machine_model.specs.Methods.{is_init_name, declares_init, most_frame_slots, is_wide, is_synchronized, is_native, is_plain, is_enterable};
 
 use jc_methods::{Body, INIT_NAME};
 use jc_programs::Linked;

@@ -3,8 +3,8 @@ ghost use Rattle.std.specs.Prelude.{◌≡◌, ℕ, ◌<◌, ◌^◌, length, Al
 ghost use Rattle.jc_methods.specs.WellMade.{IsWellMade};
 ghost use Rattle.jc_programs.specs.declared.program.Program.{Program};
 ghost use Rattle.jc_programs.specs.declared.program.Linked.{Linked};
-ghost use Rattle.jc_world.specs.Profile.{Location, init_of};
-ghost use Rattle.jc_world.specs.Programs.{IsProgram};
+ghost use Rattle.jc_machine_model.specs.Profile.{Location, init_of};
+ghost use Rattle.jc_machine_model.specs.Programs.{IsProgram};
 ghost use Rattle.jc_operations.specs.Prepared.{Correspond, IsPreparedMethod, IsPrepared};
 ghost use Rattle.jc_operations.specs.Sites.{IsClassIndex, IsIndex, IsMade, IsPreparedFrom};
 

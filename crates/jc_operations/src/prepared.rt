@@ -3,8 +3,8 @@ ghost use Rattle.std.specs.Prelude.{◌≡◌, None, find, MatchOption};
 ghost use Rattle.std.specs.Option.{option_map};
 ghost use Rattle.jc_programs.specs.declared.program.Program.{Program};
 ghost use Rattle.jc_programs.specs.Members.{body_of};
-ghost use Rattle.jc_world.specs.World.{Frame};
-ghost use Rattle.jc_world.specs.Step.{operation_at, located, handler_of, is_init_method};
+ghost use Rattle.jc_machine_model.specs.World.{Frame};
+ghost use Rattle.jc_machine_model.specs.Step.{operation_at, located, handler_of, is_init_method};
 ghost use Rattle.jc_operations.specs.Shown.{Shows};
 ghost use Rattle.jc_operations.specs.Prepared.{catches_class, row_handles, handling, shown_at, IsMethodOf, IsPrepared};
 

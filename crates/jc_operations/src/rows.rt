@@ -5,7 +5,7 @@ ghost use Rattle.jc_methods.specs.declared.body.Body.{Body};
 ghost use Rattle.jc_programs.specs.declared.run_end.Thrown.{Thrown};
 ghost use Rattle.jc_programs.specs.Throwables.{is_named_in};
 ghost use Rattle.jc_kinds_after.specs.After.{class_in};
-ghost use Rattle.jc_world.specs.Step.{catches};
+ghost use Rattle.jc_machine_model.specs.Step.{catches};
 ghost use Rattle.jc_operations.specs.Places.{AreWhats};
 ghost use Rattle.jc_operations.specs.Prepared.{catches_class, Correspond, IsRow};
 

@@ -3,7 +3,7 @@ ghost use Rattle.std.specs.Prelude.{◌≡◌};
 ghost use Rattle.jc_methods.specs.DescriptorTypes.{method_type_in};
 ghost use Rattle.jc_methods.specs.declared.body.Body.{Body};
 ghost use Rattle.jc_methods.specs.Flow.{is_return};
-ghost use Rattle.jc_world.specs.Profile.{Location, return_operation, simple_operation, array_operation};
+ghost use Rattle.jc_machine_model.specs.Profile.{Location, return_operation, simple_operation, array_operation};
 ghost use Rattle.jc_operations.specs.Types.{return_narrowing};
 ghost use Rattle.jc_operations.specs.Shown.{Shows};
 

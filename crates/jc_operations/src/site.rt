@@ -8,11 +8,11 @@ ghost use Rattle.jc_methods.specs.Opcode as opcode;
 ghost use Rattle.jc_programs.specs.declared.program.Program.{Program};
 ghost use Rattle.jc_programs.specs.declared.program.Linked.{Linked};
 ghost use Rattle.jc_programs.specs.Members.{class_at, static_named};
-ghost use Rattle.jc_world.specs.Profile.{Location, may_name_field, declared_field, linked_field, field_named, may_name_method};
-ghost use Rattle.jc_world.specs.Profile.{callee_named, body_entered, method_entered};
-ghost use Rattle.jc_world.specs.Profile.{constant_operation, long_operation, init_of, is_fetch, init_call, static_call, call_named};
-ghost use Rattle.jc_world.specs.Profile.{member_operation, class_operation, operation_of};
-ghost use Rattle.jc_world.specs.Operations.{tests, jumps};
+ghost use Rattle.jc_machine_model.specs.Profile.{Location, may_name_field, declared_field, linked_field, field_named, may_name_method};
+ghost use Rattle.jc_machine_model.specs.Profile.{callee_named, body_entered, method_entered};
+ghost use Rattle.jc_machine_model.specs.Profile.{constant_operation, long_operation, init_of, is_fetch, init_call, static_call, call_named};
+ghost use Rattle.jc_machine_model.specs.Profile.{member_operation, class_operation, operation_of};
+ghost use Rattle.jc_machine_model.specs.Operations.{tests, jumps};
 ghost use Rattle.jc_operations.specs.Shown.{Shows};
 ghost use Rattle.jc_operations.specs.Sites.{IsClassIndex, IsSite, UsesFit};
 
@@ -327,7 +327,7 @@ impl<'a, 'i> Site<'a, 'i> {
     }
 
     /// What an instruction is that stands at a place of the method.
-    #[tactic(auto, unfolding(jc_world::specs::Profile::operation_of))]
+    #[tactic(auto, unfolding(jc_machine_model::specs::Profile::operation_of))]
     pub fn operation_of(&self, place: u32, insn: &Insn) -> Operation
         requires { UsesFit self.now insn.now }
         ensures { (program : Program) (at : Location) → IsSite program at self.now → at.place ≡ place

@@ -1,7 +1,7 @@
 //! Classes of throwables by their names.
 ghost use Rattle.std.specs.Prelude.{◌≡◌, find, bytes_eq};
 ghost use Rattle.jc_programs.specs.Throwables.{name_of, thrown_named, superclass, is_named_in};
-ghost use Rattle.jc_world.specs.Profile.{made_class, make_operation, build_operation};
+ghost use Rattle.jc_machine_model.specs.Profile.{made_class, make_operation, build_operation};
 ghost use Rattle.jc_operations.specs.Shown.{Shows};
 
 use crate::Operation;

@@ -3,9 +3,9 @@ use Rattle.std.proofs.Common.{◌≡◌, ℕ, zero, suc, ◌+◌, ◌-◌, ◌�
 use Rattle.std.proofs.lemmas.List.{length-map, length-append, append_assoc, set_at}
 use Rattle.std.proofs.lemmas.Grind.{reverse_onto}
 use Rattle.jc_bytes.specs.Descriptor.{FieldType}
-use Rattle.jc_world.specs.Values.{Value, long, ComputationalType, is_of, computational_type}
-use Rattle.jc_world.specs.Statics.{is_of_type}
-use Rattle.jc_world.specs.Calls.{Arguments, argument_before, taken_for, spread_value, spread_values, locals_for}
+use Rattle.jc_machine_model.specs.Values.{Value, long, ComputationalType, is_of, computational_type}
+use Rattle.jc_machine_model.specs.Statics.{is_of_type}
+use Rattle.jc_machine_model.specs.Calls.{Arguments, argument_before, taken_for, spread_value, spread_values, locals_for}
 use Rattle.jc_operations.specs.declared.operation.ComputationalType as kinds
 use Rattle.jc_operations.specs.Types.{computational}
 use Rattle.jc_perform.specs.Parameters.{AreParameters, is_argument, with_slots}

@@ -1,8 +1,8 @@
 -- What came of an operation, from what came of its kind.
 use Rattle.std.proofs.Common.{◌≡◌, ◌∙◌, ap, sym, subst}
-use Rattle.jc_world.specs.World as world
-use Rattle.jc_world.specs.Operations as operations
-use Rattle.jc_world.specs.Perform.{perform}
+use Rattle.jc_machine_model.specs.World as world
+use Rattle.jc_machine_model.specs.Operations as operations
+use Rattle.jc_machine_model.specs.Perform.{perform}
 use Rattle.jc_operations.specs.declared.operation.Operation.{Operation}
 use Rattle.jc_operations.specs.Shown.{Shows}
 use Rattle.jc_perform.specs.declared.next.Next.{Next}

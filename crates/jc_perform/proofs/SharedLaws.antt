@@ -3,7 +3,7 @@ use Rattle.std.proofs.Common.{◌≡◌, ℕ, ◌<◌, List, [], length, map, sl
 use Rattle.std.specs.Global.{Vec}
 use Rattle.std.specs.Vec.{vec_len, with_items}
 use Rattle.std.proofs.lemmas.List.{map-set, get_or-map, with_items_is}
-use Rattle.jc_world.specs.Values.{Value}
+use Rattle.jc_machine_model.specs.Values.{Value}
 use Rattle.jc_store.specs.declared.value.Value as kept
 use Rattle.jc_store.specs.Values.{value_of}
 

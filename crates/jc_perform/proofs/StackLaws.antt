@@ -1,13 +1,13 @@
 -- What the operands that were looked at say of the stack.
 use Rattle.std.proofs.Common.{◌≡◌, ◌-◌, ◌≤◌, ℕ, zero, suc, Bool, List, [], ◌∷◌, Option, Some, None, length, take, drop, refl, arith, slice_get, slice_index_or, unwrap_or, option_map, ◌∙◌, ap}
-use Rattle.jc_world.specs.Values.{Value, null, is_same}
+use Rattle.jc_machine_model.specs.Values.{Value, null, is_same}
 use Rattle.jc_effects.specs.declared.operand.Operand.{Operand}
 use Rattle.jc_effects.specs.Operands.{first_of, second_of, third_of, fourth_of, AreOnTop, TellsSame}
 use Rattle.jc_store.specs.declared.value.Value as kept
 use Rattle.jc_store.specs.declared.value.Value.TheVariants as kepts
 use Rattle.jc_store.specs.Values.{value_of}
 use Rattle.jc_perform.specs.Tops.{operand_at}
-use Rattle.jc_world.specs.Effects.{results_at}
+use Rattle.jc_machine_model.specs.Effects.{results_at}
 use Rattle.jc_perform.proofs.CallLaws.{behind-cons}
 
 first_at : (stack : List Value) → operand_at (slice_get stack 0) ≡ first_of stack

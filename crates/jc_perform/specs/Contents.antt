@@ -2,8 +2,8 @@
 use Rattle.std.specs.Prelude.{◌≤◌, false, List, [], length, map}
 use Rattle.std.specs.Global.{Vec}
 use Rattle.std.specs.Vec.{vec_capacity}
-use Rattle.jc_world.specs.World as world
-use Rattle.jc_world.specs.Values.{Value}
+use Rattle.jc_machine_model.specs.World as world
+use Rattle.jc_machine_model.specs.Values.{Value}
 use Rattle.jc_operations.specs.declared.prepared.PreparedClass.{PreparedClass}
 use Rattle.jc_operations.specs.Prepared.{value_of as first_value_of}
 use Rattle.jc_store.specs.declared.value.Value as kept

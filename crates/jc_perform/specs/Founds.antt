@@ -2,11 +2,11 @@
 use Rattle.std.specs.Prelude.{◌≡◌, ℕ, ℤ, ◌<◌, List, length, drop, Some, slice_get}
 use Rattle.jc_bytes.specs.Descriptor.{FieldType}
 use Rattle.jc_programs.specs.declared.run_end.Thrown.TheVariants as thrown
-use Rattle.jc_world.specs.Values.{Value}
-use Rattle.jc_world.specs.Heap.{HeapObject, array}
-use Rattle.jc_world.specs.World.{Frame, Shared}
-use Rattle.jc_world.specs.Results.{Result}
-use Rattle.jc_world.specs.Arrays as arrays
+use Rattle.jc_machine_model.specs.Values.{Value}
+use Rattle.jc_machine_model.specs.Heap.{HeapObject, array}
+use Rattle.jc_machine_model.specs.World.{Frame, Shared}
+use Rattle.jc_machine_model.specs.Results.{Result}
+use Rattle.jc_machine_model.specs.Arrays as arrays
 use Rattle.jc_store.specs.Heaps.{element_type}
 use Rattle.jc_perform.specs.declared.arrays.Found.{Found}
 use Rattle.jc_perform.specs.declared.arrays.Found.TheVariants as founds

@@ -1,10 +1,10 @@
 -- What an instruction comes to, as the definitions of turns have it.
 use Rattle.std.specs.Prelude.{◌≡◌, ⊤, ℕ, List, option_map}
 use Rattle.jc_bytes.specs.Descriptor.{FieldType}
-use Rattle.jc_world.specs.World as world
-use Rattle.jc_world.specs.Results.{Result, goes, hits, leaves, raises, throws, gets_stuck}
-use Rattle.jc_world.specs.Operations.{Operation, invokes}
-use Rattle.jc_world.specs.Perform.{perform}
+use Rattle.jc_machine_model.specs.World as world
+use Rattle.jc_machine_model.specs.Results.{Result, goes, hits, leaves, raises, throws, gets_stuck}
+use Rattle.jc_machine_model.specs.Operations.{Operation, invokes}
+use Rattle.jc_machine_model.specs.Perform.{perform}
 use Rattle.jc_store.specs.Values.{value_of}
 use Rattle.jc_perform.specs.declared.next.Next.{Next}
 use Rattle.jc_perform.specs.declared.next.Next.TheVariants as nexts

@@ -2,7 +2,7 @@
 use Rattle.std.specs.Prelude.{◌≡◌, ℕ, ◌+◌, Bool, false, List, [], ◌∷◌, Option, Some, map, slice_set}
 use Rattle.std.specs.Option.{option_map}
 use Rattle.jc_bytes.specs.Descriptor.{FieldType}
-use Rattle.jc_world.specs.Values.{Value, ComputationalType, is_of, computational_type}
+use Rattle.jc_machine_model.specs.Values.{Value, ComputationalType, is_of, computational_type}
 use Rattle.jc_operations.specs.declared.operation.ComputationalType.{ComputationalType as Kind}
 use Rattle.jc_operations.specs.Types.{computational}
 

@@ -1,6 +1,6 @@
 -- The operands on top of a stack, as the code sees them.
 use Rattle.std.specs.Prelude.{Option, Some, None}
-use Rattle.jc_world.specs.Values.{Value}
+use Rattle.jc_machine_model.specs.Values.{Value}
 use Rattle.jc_effects.specs.declared.operand.Operand.{Operand}
 use Rattle.jc_effects.specs.declared.operand.Operand.TheVariants as operands
 use Rattle.jc_effects.specs.Operands.{operand_of}

@@ -1,10 +1,10 @@
 //! Arrays of integral types, and the probe arrays of classes (JVM Specification 6.5).
 ghost use Rattle.std.specs.Prelude.{◌≡◌, ◌+◌, ◌<◌, ◌≤◌, ◌^◌, drop, length, slice_get, if◌then◌else◌};
 ghost use Rattle.jc_bytes.specs.Descriptor as fields;
-ghost use Rattle.jc_world.specs.Values as values;
-ghost use Rattle.jc_world.specs.World as world;
-ghost use Rattle.jc_world.specs.Results.{gets_stuck};
-ghost use Rattle.jc_world.specs.Arrays.{has_elements, index_within, find_element, read_found, by_read, write_found, by_probe, by_write, by_make_array, measured, by_measure};
+ghost use Rattle.jc_machine_model.specs.Values as values;
+ghost use Rattle.jc_machine_model.specs.World as world;
+ghost use Rattle.jc_machine_model.specs.Results.{gets_stuck};
+ghost use Rattle.jc_machine_model.specs.Arrays.{has_elements, index_within, find_element, read_found, by_read, write_found, by_probe, by_write, by_make_array, measured, by_measure};
 ghost use Rattle.jc_effects.specs.Narrowings.{narrowing_of};
 ghost use Rattle.jc_operations.specs.Types.{primitive, element_types};
 ghost use Rattle.jc_store.specs.Values.{value_of};

@@ -1,9 +1,9 @@
 //! Calls and returns (JVM Specification 2.6.4, 2.11.8; 6.5, invokestatic, ireturn, lreturn, areturn).
 ghost use Rattle.std.specs.Prelude.{◌≡◌, ◌+◌, ◌<◌, ◌≤◌, List, Option, Some, length, take, reverse, is_some, option_map};
 ghost use Rattle.jc_bytes.specs.Descriptor.{FieldType};
-ghost use Rattle.jc_world.specs.World.{Shared};
-ghost use Rattle.jc_world.specs.Calls.{Arguments, taken_for, spread_value, spread_values, locals_for, by_return};
-ghost use Rattle.jc_world.specs.Step.{new_frame};
+ghost use Rattle.jc_machine_model.specs.World.{Shared};
+ghost use Rattle.jc_machine_model.specs.Calls.{Arguments, taken_for, spread_value, spread_values, locals_for, by_return};
+ghost use Rattle.jc_machine_model.specs.Step.{new_frame};
 ghost use Rattle.jc_operations.specs.Types.{computational, return_narrowing};
 ghost use Rattle.jc_store.specs.Values.{value_of};
 ghost use Rattle.jc_perform.specs.Nexts.{result_of, Settles};

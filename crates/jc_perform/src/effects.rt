@@ -1,8 +1,8 @@
 //! Instructions that read and write the operand stack alone (JVM Specification 6.5).
 ghost use Rattle.std.specs.Prelude.{◌≡◌, ◌+◌, ◌<◌, ◌≤◌, ◌^◌, ◌++◌, length, drop, option_map};
-ghost use Rattle.jc_world.specs.World.{Shared};
-ghost use Rattle.jc_world.specs.Effects.{effect, results_at};
-ghost use Rattle.jc_world.specs.Perform.{by_effect};
+ghost use Rattle.jc_machine_model.specs.World.{Shared};
+ghost use Rattle.jc_machine_model.specs.Effects.{effect, results_at};
+ghost use Rattle.jc_machine_model.specs.Perform.{by_effect};
 ghost use Rattle.jc_effects.specs.Descriptions.{effect_on};
 ghost use Rattle.jc_store.specs.Values.{value_of};
 ghost use Rattle.jc_perform.specs.Nexts.{result_of, Settles};

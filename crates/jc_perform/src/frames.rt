@@ -1,7 +1,7 @@
 //! How a frame goes on behind an instruction.
 ghost use Rattle.std.specs.Prelude.{◌≡◌, ◌+◌, ◌<◌, ◌≤◌, ◌^◌, ◌∷◌, length, drop};
-ghost use Rattle.jc_world.specs.World.{Shared};
-ghost use Rattle.jc_world.specs.Results.{next_with, goes_with};
+ghost use Rattle.jc_machine_model.specs.World.{Shared};
+ghost use Rattle.jc_machine_model.specs.Results.{next_with, goes_with};
 ghost use Rattle.jc_store.specs.Values.{value_of};
 ghost use Rattle.jc_perform.specs.Nexts.{result_of, Settles};
 

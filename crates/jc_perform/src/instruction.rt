@@ -1,7 +1,7 @@
 //! One instruction.
 ghost use Rattle.std.specs.Prelude.{◌+◌, ◌<◌, ◌≤◌, ◌^◌, length};
 ghost use Rattle.jc_methods.specs.Insn.{IsWellFormed};
-ghost use Rattle.jc_world.specs.Operations as operations;
+ghost use Rattle.jc_machine_model.specs.Operations as operations;
 ghost use Rattle.jc_operations.specs.Shown.{Shows};
 ghost use Rattle.jc_operations.specs.Invoked.{GoesByKey, IsSwitch};
 ghost use Rattle.jc_perform.specs.Nexts.{ComesTo, KeepsFrame, KeepsShared};
@@ -22,7 +22,7 @@ use jc_store::{Frame, Value};
 
 /// Does what an instruction does to its frame and to what all threads share (JVM Specification 6.5). `insn` is the
 /// instruction itself, whose arms a switch goes by. A call is left to be made. No memory is taken.
-#[tactic(auto, unfolding(jc_world::specs::Perform::perform))]
+#[tactic(auto, unfolding(jc_machine_model::specs::Perform::perform))]
 pub fn perform(operation: Operation, insn: &Insn, shared: &mut Shared, frame: &mut Frame) -> Next
     requires insn { IsWellFormed insn.now }
     requires place { frame.old.place + 1 < 2 ^ 32 }

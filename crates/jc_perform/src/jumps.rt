@@ -2,10 +2,10 @@
 ghost use Rattle.std.specs.Prelude.{◌≡◌, ◌+◌, ◌<◌, ◌^◌, List, slice_get, option_map};
 ghost use Rattle.jc_methods.specs.Insn.{IsWellFormed};
 ghost use Rattle.jc_plan.specs.Chosen.{key_target};
-ghost use Rattle.jc_world.specs.Values as values;
-ghost use Rattle.jc_world.specs.World.{Shared};
-ghost use Rattle.jc_world.specs.Results.{goes};
-ghost use Rattle.jc_world.specs.Jumps.{test_of, by_test, by_switch};
+ghost use Rattle.jc_machine_model.specs.Values as values;
+ghost use Rattle.jc_machine_model.specs.World.{Shared};
+ghost use Rattle.jc_machine_model.specs.Results.{goes};
+ghost use Rattle.jc_machine_model.specs.Jumps.{test_of, by_test, by_switch};
 ghost use Rattle.jc_effects.specs.Operands.{TellsSame};
 ghost use Rattle.jc_store.specs.Values.{value_of};
 ghost use Rattle.jc_perform.specs.Nexts.{result_of, Settles};

@@ -1,7 +1,7 @@
 //! Local variables (JVM Specification 2.6.1): loads, stores and iinc (6.5).
 ghost use Rattle.std.specs.Prelude.{◌≡◌, ◌+◌, ◌<◌, ◌≤◌, ◌^◌, None, length, slice_index_or};
-ghost use Rattle.jc_world.specs.World.{Shared};
-ghost use Rattle.jc_world.specs.Locals.{clear_before, put_local, by_load, by_store, by_count};
+ghost use Rattle.jc_machine_model.specs.World.{Shared};
+ghost use Rattle.jc_machine_model.specs.Locals.{clear_before, put_local, by_load, by_store, by_count};
 ghost use Rattle.jc_operations.specs.Types.{computational};
 ghost use Rattle.jc_store.specs.Values.{value_of};
 ghost use Rattle.jc_perform.specs.Nexts.{result_of, Settles};

@@ -1,10 +1,10 @@
 //! Throwables, and the probe array of a class.
 ghost use Rattle.std.specs.Prelude.{◌≡◌, ◌+◌, ◌<◌, ◌≤◌, ◌^◌, length};
 ghost use Rattle.jc_programs.specs.Throwables.{is_one};
-ghost use Rattle.jc_world.specs.World as world;
-ghost use Rattle.jc_world.specs.Values as values;
-ghost use Rattle.jc_world.specs.Heap.{throwable};
-ghost use Rattle.jc_world.specs.Objects.{made, thrown_of, by_build, by_throw, is_fetched, by_fetch};
+ghost use Rattle.jc_machine_model.specs.World as world;
+ghost use Rattle.jc_machine_model.specs.Values as values;
+ghost use Rattle.jc_machine_model.specs.Heap.{throwable};
+ghost use Rattle.jc_machine_model.specs.Objects.{made, thrown_of, by_build, by_throw, is_fetched, by_fetch};
 ghost use Rattle.jc_store.specs.Values.{value_of};
 ghost use Rattle.jc_perform.specs.Nexts.{result_of, Settles, KeepsShared};
 

@@ -1,7 +1,7 @@
 //! `println` (JVM Specification 6.5, invokevirtual).
 ghost use Rattle.std.specs.Prelude.{◌≡◌, ◌+◌, ◌<◌, ◌^◌, drop};
-ghost use Rattle.jc_world.specs.Operations.{an_int_line, a_long_line, a_boolean_line, an_empty_line};
-ghost use Rattle.jc_world.specs.Objects.{by_print, boolean_text, by_println};
+ghost use Rattle.jc_machine_model.specs.Operations.{an_int_line, a_long_line, a_boolean_line, an_empty_line};
+ghost use Rattle.jc_machine_model.specs.Objects.{by_print, boolean_text, by_println};
 ghost use Rattle.jc_operations.specs.Types.{printed};
 ghost use Rattle.jc_store.specs.Values.{value_of};
 ghost use Rattle.jc_perform.specs.Nexts.{result_of, Settles, KeepsShared};

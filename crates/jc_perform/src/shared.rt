@@ -2,10 +2,10 @@
 ghost use Rattle.std.specs.Prelude.{◌≡◌, ◌↔◌, ◌+◌, ◌<◌, ◌^◌, [], ◌∷◌, ◌++◌, true, pos, length, map, replicate, nat_le, option_map, slice_get, slice_set, IsTrue, IsSome, IfSome, IfOk, IfNone, OnSome};
 ghost use Rattle.std.specs.Bool.{OnTrue, OnFalse};
 ghost use Rattle.jc_bytes.specs.Descriptor.{Long};
-ghost use Rattle.jc_world.specs.Heap.{has_room, array, throwable};
-ghost use Rattle.jc_world.specs.Arrays.{element_value};
-ghost use Rattle.jc_world.specs.Statics.{static_at, with_static};
-ghost use Rattle.jc_world.specs.Objects.{most_printed};
+ghost use Rattle.jc_machine_model.specs.Heap.{has_room, array, throwable};
+ghost use Rattle.jc_machine_model.specs.Arrays.{element_value};
+ghost use Rattle.jc_machine_model.specs.Statics.{static_at, with_static};
+ghost use Rattle.jc_machine_model.specs.Objects.{most_printed};
 ghost use Rattle.jc_operations.specs.declared.prepared.PreparedClass.{PreparedClass};
 ghost use Rattle.jc_store.specs.Values.{value_of};
 ghost use Rattle.jc_store.specs.Heaps.{element_type, TellsOf, HasFewElements, object_at, HasElement, HasIntElement, element_in, with_element_at};
@@ -33,7 +33,7 @@ pub struct Shared {
 }
 
 impl Model for Shared {
-    ghost use Rattle.jc_world.specs.World as world;
+    ghost use Rattle.jc_machine_model.specs.World as world;
 
     ghost Value = { world.Shared };
 

@@ -1,8 +1,8 @@
 //! Static fields (JVM Specification 6.5, getstatic and putstatic).
 ghost use Rattle.std.specs.Prelude.{◌≡◌, ◌+◌, ◌<◌, ◌≤◌, ◌^◌, Some, length};
 ghost use Rattle.jc_bytes.specs.Descriptor.{FieldType};
-ghost use Rattle.jc_world.specs.Values.{computational_type};
-ghost use Rattle.jc_world.specs.Statics.{static_at, by_get, by_put};
+ghost use Rattle.jc_machine_model.specs.Values.{computational_type};
+ghost use Rattle.jc_machine_model.specs.Statics.{static_at, by_get, by_put};
 ghost use Rattle.jc_effects.specs.Narrowings.{narrowing_of};
 ghost use Rattle.jc_operations.specs.Types.{computational};
 ghost use Rattle.jc_perform.specs.Nexts.{result_of, Settles, KeepsShared};

@@ -2,7 +2,7 @@
 ghost use Rattle.std.specs.Prelude.{◌≡◌, ◌%◌, nat_eq};
 ghost use Rattle.std.specs.Int.{w32, cast_unsigned};
 ghost use Rattle.jc_bytes.specs.Descriptor.{FieldType};
-ghost use Rattle.jc_world.specs.Values.{is_of, is_same, is_pair, stored_as};
+ghost use Rattle.jc_machine_model.specs.Values.{is_of, is_same, is_pair, stored_as};
 ghost use Rattle.jc_effects.specs.Narrowings.{narrowing_of};
 ghost use Rattle.jc_operations.specs.Types.{computational};
 ghost use Rattle.jc_store.specs.Values.{value_of};

@@ -8,7 +8,7 @@ ghost use Rattle.jc_run_work.specs.RunStore.{threads_of, first_without};
 ghost use Rattle.jc_command_work.specs.Answered.{AnswersWith};
 ghost use Rattle.jc_command_work.specs.Seen.{texts_of};
 ghost use Rattle.jc_command_work.specs.Step.{AreTexts};
-ghost use Rattle.jc_world.specs.Programs.{IsProgram};
+ghost use Rattle.jc_machine_model.specs.Programs.{IsProgram};
 
 use jc_bytes::{Bytes, Memory};
 use jc_command_work::{Fault, Stop, Write};

@@ -10,7 +10,7 @@ use Rattle.jc_programs.specs.declared.run_plan.Case.{Case}
 use Rattle.jc_programs.specs.declared.run_plan.RunPlan.{RunPlan}
 use Rattle.jc_programs.specs.declared.run_plan.ThreadLine.{ThreadLine}
 use Rattle.jc_programs.specs.Entries.{AreEntries}
-use Rattle.jc_world.specs.Programs.{IsLinked, IsProgram}
+use Rattle.jc_machine_model.specs.Programs.{IsLinked, IsProgram}
 use Rattle.jc_workers.specs.Cases.{HaveEntries}
 use Rattle.jc_run_work.specs.RunStore.{threads_of, first_without}
 use Rattle.jc_run_parts.specs.Beginnings.{HasFew, line_of}

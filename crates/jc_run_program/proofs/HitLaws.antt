@@ -14,8 +14,8 @@ use Rattle.jc_programs.specs.declared.program.ProbeInit.{ProbeInit}
 use Rattle.jc_programs.specs.declared.run_plan.RunPlan.{RunPlan}
 use Rattle.jc_programs.specs.Probes.{counts_of, IsHit}
 use Rattle.jc_machine.specs.Hits.{count_in, probe_counts}
-use Rattle.jc_world.specs.Run.{IsHit as IsHitBy, case_hits, hits_of}
-use Rattle.jc_world.specs.World.{Hit}
+use Rattle.jc_machine_model.specs.Run.{IsHit as IsHitBy, case_hits, hits_of}
+use Rattle.jc_machine_model.specs.World.{Hit}
 use Rattle.jc_run_work.specs.RunStore.{is_hit_in, hit_record, with_record, hit_records, run_store}
 use Rattle.jc_run_parts.specs.HitStore.{set_record, with_set, set_records, count_of, counts_in}
 

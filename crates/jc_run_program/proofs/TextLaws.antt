@@ -5,8 +5,8 @@ use Rattle.jc_programs.specs.declared.program.Program.{Program}
 use Rattle.jc_programs.specs.declared.run_end.CaseEnd.{CaseEnd}
 use Rattle.jc_programs.specs.declared.run_plan.Case.{Case}
 use Rattle.jc_programs.specs.Turns.{turns_in}
-use Rattle.jc_world.specs.CaseEnds.{case_end}
-use Rattle.jc_world.specs.CaseText.{case_text, case_texts}
+use Rattle.jc_machine_model.specs.CaseEnds.{case_end}
+use Rattle.jc_machine_model.specs.CaseText.{case_text, case_texts}
 use Rattle.jc_workers.specs.Cases.{end_under}
 use Rattle.jc_run_program.specs.Texts.{end_texts}
 

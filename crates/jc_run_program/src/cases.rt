@@ -4,8 +4,8 @@ ghost use Rattle.jc_machine.specs.Hits.{probe_counts};
 ghost use Rattle.jc_programs.specs.Probes.{counts_of, IsHit};
 ghost use Rattle.jc_programs.specs.Turns.{IsRunPlan};
 ghost use Rattle.jc_workers.specs.Cases.{HaveEntries, ends_under};
-ghost use Rattle.jc_world.specs.Programs.{IsProgram};
-ghost use Rattle.jc_world.specs.Run.{IsHit as IsHitBy};
+ghost use Rattle.jc_machine_model.specs.Programs.{IsProgram};
+ghost use Rattle.jc_machine_model.specs.Run.{IsHit as IsHitBy};
 
 use jc_board::Board;
 use jc_bytes::Memory;

@@ -3,8 +3,8 @@ ghost use Rattle.std.specs.Prelude.{◌≡◌, ◌≤◌, None, IfOk};
 ghost use Rattle.jc_programs.specs.Turns.{IsRunPlan};
 ghost use Rattle.jc_run_parts.specs.HitStore.{FitRecords};
 ghost use Rattle.jc_run_work.specs.RunStore.{threads_of, first_without, run_store};
-ghost use Rattle.jc_world.specs.CaseText.{case_texts};
-ghost use Rattle.jc_world.specs.Programs.{IsProgram};
+ghost use Rattle.jc_machine_model.specs.CaseText.{case_texts};
+ghost use Rattle.jc_machine_model.specs.Programs.{IsProgram};
 
 use crate::cases::{Outcome, run_plan};
 use crate::texts::texts_of;

@@ -3,7 +3,7 @@ ghost use Rattle.std.specs.Prelude.{◌≡◌, ◌≤◌, length, IfOk};
 ghost use Rattle.jc_run_program.specs.Texts.{end_texts};
 
 use jc_bytes::Memory;
-use jc_case_text::case_text;
+use jc_machine_text::case_text;
 use jc_programs::{CaseEnd, Program};
 use std::alloc::Global;
 

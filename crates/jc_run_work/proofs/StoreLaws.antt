@@ -13,8 +13,8 @@ use Rattle.jc_programs.specs.declared.program.ProbeInit.{ProbeInit}
 use Rattle.jc_programs.specs.declared.run_end.Entry.{Entry}
 use Rattle.jc_programs.specs.declared.run_plan.RunPlan.{RunPlan}
 use Rattle.jc_programs.specs.declared.run_plan.ThreadLine.{ThreadLine}
-use Rattle.jc_world.specs.Run.{hits_of}
-use Rattle.jc_world.specs.World.{Hit}
+use Rattle.jc_machine_model.specs.Run.{hits_of}
+use Rattle.jc_machine_model.specs.World.{Hit}
 use Rattle.jc_same_runs.specs.Frameless.{frameless_body, frameless_class, frameless}
 use Rattle.jc_same_runs.proofs.LookupLaws.{same_entry}
 use Rattle.jc_same_runs.proofs.TextLaws.{same_hits}

@@ -11,7 +11,7 @@ use Rattle.jc_link.specs.Plans.{IsPlanText, FirstUnfit}
 use Rattle.jc_linking.specs.declared.link_refusal.LinkRefusal.{LinkRefusal}
 use Rattle.jc_linking.specs.declared.link_refusal.LinkRefusal.TheVariants as refusals
 use Rattle.jc_linking.specs.Linking.{IsLinkedClass, IsProgramOf, IsLinkRefusal}
-use Rattle.jc_world.specs.CaseText.{case_texts}
+use Rattle.jc_machine_model.specs.CaseText.{case_texts}
 use Rattle.jc_command_work.specs.declared.status.Fault.TheVariants as fault
 use Rattle.jc_command_work.specs.Step.{Word, to_file, to_out}
 use Rattle.jc_command_work.specs.Part.{End, gives, stops, refused}

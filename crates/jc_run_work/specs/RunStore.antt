@@ -10,8 +10,8 @@ use Rattle.jc_programs.specs.declared.run_plan.ThreadLine.{ThreadLine}
 use Rattle.jc_programs.specs.Entries.{entry_of}
 use Rattle.jc_exec.specs.declared.hits.ClassHits.{ClassHits}
 use Rattle.jc_exec.specs.Store.{Store}
-use Rattle.jc_world.specs.Run.{hits_of}
-use Rattle.jc_world.specs.World.{Hit}
+use Rattle.jc_machine_model.specs.Run.{hits_of}
+use Rattle.jc_machine_model.specs.World.{Hit}
 
 -- ---- threads
 

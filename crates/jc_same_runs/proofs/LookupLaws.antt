@@ -10,8 +10,8 @@ use Rattle.jc_programs.specs.declared.run_plan.ThreadLine.{ThreadLine}
 use Rattle.jc_programs.specs.declared.run_end.Entry.{Entry}
 use Rattle.jc_programs.specs.Entries.{is_entry, entry_in, entry_of}
 use Rattle.jc_programs.specs.Members.{class_named, class_at, body_of, method_named}
-use Rattle.jc_world.specs.Methods.{declares_init, is_init_name, is_native, is_synchronized, is_enterable}
-use Rattle.jc_world.specs.Profile.{method_in, callee_named}
+use Rattle.jc_machine_model.specs.Methods.{declares_init, is_init_name, is_native, is_synchronized, is_enterable}
+use Rattle.jc_machine_model.specs.Profile.{method_in, callee_named}
 use Rattle.jc_same_runs.specs.Frameless.{frameless_body, frameless_class, frameless}
 use Rattle.jc_same_runs.proofs.ListLaws.{position-map, any-map}
 

@@ -14,14 +14,14 @@ use Rattle.jc_programs.specs.declared.run_plan.Case.{Case}
 use Rattle.jc_programs.specs.declared.run_plan.ThreadLine.{ThreadLine}
 use Rattle.jc_programs.specs.Entries.{entry_of}
 use Rattle.jc_programs.specs.Members.{class_at, body_of}
-use Rattle.jc_world.specs.Begin.{first_value, thread_for, thread_in, first_frame, first_statics, first_thread, first_threads, begin, entries_of, begin_case}
-use Rattle.jc_world.specs.Operations.{Operation}
-use Rattle.jc_world.specs.Perform.{perform}
-use Rattle.jc_world.specs.Results.{Result, goes, hits, calls, leaves, raises, throws, gets_stuck}
-use Rattle.jc_world.specs.Run.{run_from, run}
-use Rattle.jc_world.specs.Step.{LocatedInsn, located_in_body, located_in_class, located, operation_at, result_of, handler_in, handler_of, caught, unwound, Raised, placed, named_init, is_init_method, counted_frames, overflows, most_frames, new_frame, After, after, thrown_in, after_result, turn_of, with_after, step_of, step}
-use Rattle.jc_world.specs.Values.{Value}
-use Rattle.jc_world.specs.World.{Frame, Thread, running, returned, threw, stuck, Shared, World}
+use Rattle.jc_machine_model.specs.Begin.{first_value, thread_for, thread_in, first_frame, first_statics, first_thread, first_threads, begin, entries_of, begin_case}
+use Rattle.jc_machine_model.specs.Operations.{Operation}
+use Rattle.jc_machine_model.specs.Perform.{perform}
+use Rattle.jc_machine_model.specs.Results.{Result, goes, hits, calls, leaves, raises, throws, gets_stuck}
+use Rattle.jc_machine_model.specs.Run.{run_from, run}
+use Rattle.jc_machine_model.specs.Step.{LocatedInsn, located_in_body, located_in_class, located, operation_at, result_of, handler_in, handler_of, caught, unwound, Raised, placed, named_init, is_init_method, counted_frames, overflows, most_frames, new_frame, After, after, thrown_in, after_result, turn_of, with_after, step_of, step}
+use Rattle.jc_machine_model.specs.Values.{Value}
+use Rattle.jc_machine_model.specs.World.{Frame, Thread, running, returned, threw, stuck, Shared, World}
 use Rattle.jc_same_runs.specs.Frameless.{frameless_body, frameless_class, frameless}
 use Rattle.jc_same_runs.proofs.LookupLaws.{same_class_at, same_body_at, same_body_of, same_entry, same_enterable}
 use Rattle.jc_same_runs.proofs.OperationLaws.{frameless_at, same_operation}

@@ -9,11 +9,11 @@ use Rattle.jc_programs.specs.declared.run_end.StaticEnd.{StaticEnd}
 use Rattle.jc_programs.specs.declared.run_plan.Case.{Case}
 use Rattle.jc_programs.specs.declared.run_plan.RunPlan.{RunPlan}
 use Rattle.jc_programs.specs.Turns.{turns_in}
-use Rattle.jc_world.specs.CaseEnds.{field_ends, class_ends, case_end_in, ends_in, case_end}
-use Rattle.jc_world.specs.CaseText.{field_line, static_text, end_lines, case_line, case_text, case_texts, thread_lines}
-use Rattle.jc_world.specs.Run.{run, case_hits, hits_of}
-use Rattle.jc_world.specs.Values.{Value}
-use Rattle.jc_world.specs.World.{Hit, World}
+use Rattle.jc_machine_model.specs.CaseEnds.{field_ends, class_ends, case_end_in, ends_in, case_end}
+use Rattle.jc_machine_model.specs.CaseText.{field_line, static_text, end_lines, case_line, case_text, case_texts, thread_lines}
+use Rattle.jc_machine_model.specs.Run.{run, case_hits, hits_of}
+use Rattle.jc_machine_model.specs.Values.{Value}
+use Rattle.jc_machine_model.specs.World.{Hit, World}
 use Rattle.jc_same_runs.specs.Frameless.{frameless_class, frameless}
 use Rattle.jc_same_runs.proofs.StepLaws.{same_run}
 

@@ -5,8 +5,8 @@ ghost use Rattle.jc_programs.specs.declared.run_plan.Case.{Case};
 ghost use Rattle.jc_programs.specs.declared.run_plan.RunPlan.{RunPlan};
 ghost use Rattle.jc_programs.specs.declared.run_plan.ThreadLine.{ThreadLine};
 ghost use Rattle.jc_programs.specs.Entries.{entry_of};
-ghost use Rattle.jc_world.specs.CaseText.{case_texts};
-ghost use Rattle.jc_world.specs.Run.{run, hits_of};
+ghost use Rattle.jc_machine_model.specs.CaseText.{case_texts};
+ghost use Rattle.jc_machine_model.specs.Run.{run, hits_of};
 ghost use Rattle.jc_same_runs.specs.Frameless.{frameless};
 
 /// Programs that are equal but for the frames of their bodies and for the names of the classes in them have the same entries,

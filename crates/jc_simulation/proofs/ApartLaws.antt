@@ -24,16 +24,16 @@ use Rattle.jc_emit.specs.Marks.{Marks, push}
 use Rattle.jc_emit.specs.Sizes.{insn_at}
 use Rattle.jc_emit.specs.TwinProgram.{IsPair, IsChangedPair, IsUnchangedPair, data_static}
 use Rattle.jc_plan.specs.Edges.{sequence}
-use Rattle.jc_world.specs.Values.{Value, probes}
-use Rattle.jc_world.specs.Heap.{HeapObject}
-use Rattle.jc_world.specs.World.{Frame, Thread, running, returned, threw, stuck, Shared, World}
-use Rattle.jc_world.specs.Fits.{AreClassStatics, AreStatics, StandsIn, FitsTop, named_by, called_by, StandsAtCall, FitsWaiting, FitEachWaiting, FitsThread, FitsWorld}
-use Rattle.jc_world.specs.Locals.{is_pair_there}
-use Rattle.jc_world.specs.Methods.{is_init_name, declares_init, is_native, is_wide, is_plain}
+use Rattle.jc_machine_model.specs.Values.{Value, probes}
+use Rattle.jc_machine_model.specs.Heap.{HeapObject}
+use Rattle.jc_machine_model.specs.World.{Frame, Thread, running, returned, threw, stuck, Shared, World}
+use Rattle.jc_machine_model.specs.Fits.{AreClassStatics, AreStatics, StandsIn, FitsTop, named_by, called_by, StandsAtCall, FitsWaiting, FitEachWaiting, FitsThread, FitsWorld}
+use Rattle.jc_machine_model.specs.Locals.{is_pair_there}
+use Rattle.jc_machine_model.specs.Methods.{is_init_name, declares_init, is_native, is_wide, is_plain}
 use Rattle.jc_methods.specs.EntryState.{is_static}
-use Rattle.jc_world.specs.Profile.{Location}
+use Rattle.jc_machine_model.specs.Profile.{Location}
 use Rattle.jc_emit.specs.Seen.{IsInsnOf, IsPlain}
-use Rattle.jc_world.specs.Step.{LocatedInsn, located_in_body, located_in_class, located, named_init, is_init_method}
+use Rattle.jc_machine_model.specs.Step.{LocatedInsn, located_in_body, located_in_class, located, named_init, is_init_method}
 use Rattle.jc_simulation.specs.Same.{twin_slot, array_slot, is_named_data, is_data_in, is_data, static_in, frames_of, Same}
 use Rattle.jc_simulation.specs.Same as spec
 use Rattle.jc_simulation.specs.Sides.{Side, count_in, array_of, IsSide, AreSides, AreMarksOf}

@@ -12,16 +12,16 @@ use Rattle.jc_emit.specs.Local.{Stands, Ok, OkStore}
 use Rattle.jc_emit.specs.Marks.{push, aload, astore, bastore}
 use Rattle.jc_emit.specs.Ranks.{after_place}
 use Rattle.jc_methods.specs.Widened.{goto}
-use Rattle.jc_world.specs.Values.{Value, int, probes, reference_type}
-use Rattle.jc_world.specs.World.{Frame, Shared, Hit}
-use Rattle.jc_world.specs.Results.{Result, goes, hits, next_with, goes_with}
-use Rattle.jc_world.specs.Locals.{by_load, by_store, put_local}
-use Rattle.jc_world.specs.Arrays.{by_probe, by_write}
+use Rattle.jc_machine_model.specs.Values.{Value, int, probes, reference_type}
+use Rattle.jc_machine_model.specs.World.{Frame, Shared, Hit}
+use Rattle.jc_machine_model.specs.Results.{Result, goes, hits, next_with, goes_with}
+use Rattle.jc_machine_model.specs.Locals.{by_load, by_store, put_local}
+use Rattle.jc_machine_model.specs.Arrays.{by_probe, by_write}
 use Rattle.jc_bytes.specs.Descriptor.{Byte, Boolean}
-use Rattle.jc_world.specs.Effects.{constant, effect}
-use Rattle.jc_world.specs.Profile.{Location, operation_of}
-use Rattle.jc_world.specs.Perform.{perform}
-use Rattle.jc_world.specs.Step.{result_of}
+use Rattle.jc_machine_model.specs.Effects.{constant, effect}
+use Rattle.jc_machine_model.specs.Profile.{Location, operation_of}
+use Rattle.jc_machine_model.specs.Perform.{perform}
+use Rattle.jc_machine_model.specs.Step.{result_of}
 use Rattle.jc_simulation.specs.Sides.{Side, array_of, count_in}
 use Rattle.jc_simulation.specs.Probes.{hit_of}
 use Rattle.jc_simulation.specs.Mid.{pushed_of, SameLocals, OneMethod, SameFrame}

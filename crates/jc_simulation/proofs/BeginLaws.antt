@@ -23,12 +23,12 @@ use Rattle.jc_plan.specs.Probed.{probe_count}
 use Rattle.jc_emit.specs.Items.{Item, init_call, at_of}
 use Rattle.jc_emit.specs.Local.{OkStart}
 use Rattle.jc_emit.specs.TwinProgram.{AreSameBodies, AreTwinBodies, IsPair, data_static}
-use Rattle.jc_world.specs.Values.{Value, null}
-use Rattle.jc_world.specs.World.{running, stuck}
-use Rattle.jc_world.specs.Methods.{is_enterable}
-use Rattle.jc_world.specs.Calls.{spread_value, spread_values, locals_for}
-use Rattle.jc_world.specs.Step.{new_frame}
-use Rattle.jc_world.specs.Begin.{number_value, first_value, first_statics, argument_values, first_frame, thread_in, thread_for, first_thread, first_threads, first_shared, begin, entries_of, begin_case}
+use Rattle.jc_machine_model.specs.Values.{Value, null}
+use Rattle.jc_machine_model.specs.World.{running, stuck}
+use Rattle.jc_machine_model.specs.Methods.{is_enterable}
+use Rattle.jc_machine_model.specs.Calls.{spread_value, spread_values, locals_for}
+use Rattle.jc_machine_model.specs.Step.{new_frame}
+use Rattle.jc_machine_model.specs.Begin.{number_value, first_value, first_statics, argument_values, first_frame, thread_in, thread_for, first_thread, first_threads, first_shared, begin, entries_of, begin_case}
 use Rattle.jc_simulation.specs.Sides.{Side, count_in, IsSide, AreSides}
 use Rattle.jc_simulation.specs.Mid.{SameFrame, extra_in, SameStatics, SameShared, SameThread, SameThreads, Mid}
 use Rattle.jc_simulation.proofs.PlaceLaws.{place, position_place, place_there, place_before, place_last, place-map}

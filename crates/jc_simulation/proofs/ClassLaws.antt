@@ -16,7 +16,7 @@ use Rattle.jc_programs.specs.declared.program.StaticField.{StaticField}
 use Rattle.jc_programs.specs.Members.{class_named, method_named, static_named}
 use Rattle.jc_plan.specs.Probed.{probe_count}
 use Rattle.jc_emit.specs.TwinProgram.{AreSameBodies, AreTwinBodies, IsPair, IsChangedPair, IsUnchangedPair, DifferInName, data_static}
-use Rattle.jc_world.specs.Methods.{is_init_name, declares_init}
+use Rattle.jc_machine_model.specs.Methods.{is_init_name, declares_init}
 use Rattle.jc_simulation.proofs.PlaceLaws.{place, position_place, place_there, place_before, place_last, place_none, place_is, any_at, none_at, place-map}
 
 -- ---- names

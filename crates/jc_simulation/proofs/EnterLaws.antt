@@ -15,10 +15,10 @@ use Rattle.jc_programs.specs.declared.program.Program.{Program}
 use Rattle.jc_programs.specs.declared.run_end.Entry.{Entry}
 use Rattle.jc_emit.specs.Items.{Item, init_call, at_of}
 use Rattle.jc_emit.specs.Local.{OkStart}
-use Rattle.jc_world.specs.Values.{Value, int, long, int_type, long_type, reference_type, is_of, is_pair}
-use Rattle.jc_world.specs.Statics.{is_of_type}
-use Rattle.jc_world.specs.Calls.{Arguments, argument_before, taken_for, spread_value, spread_values, locals_for}
-use Rattle.jc_world.specs.Step.{new_frame}
+use Rattle.jc_machine_model.specs.Values.{Value, int, long, int_type, long_type, reference_type, is_of, is_pair}
+use Rattle.jc_machine_model.specs.Statics.{is_of_type}
+use Rattle.jc_machine_model.specs.Calls.{Arguments, argument_before, taken_for, spread_value, spread_values, locals_for}
+use Rattle.jc_machine_model.specs.Step.{new_frame}
 use Rattle.jc_simulation.specs.Sides.{Side, array_of, IsSide}
 use Rattle.jc_simulation.specs.Mid.{pushed_of, SameFrame}
 use Rattle.jc_simulation.proofs.SlotLaws.{Locals}

@@ -14,12 +14,12 @@ use Rattle.jc_emit.specs.Items.{Item, init_call, image}
 use Rattle.jc_emit.specs.Local.{OkStart, IsBehind}
 use Rattle.jc_emit.specs.Seen.{IsInsnOf}
 use Rattle.jc_emit.specs.Sizes.{insn_at}
-use Rattle.jc_world.specs.Values.{Value}
-use Rattle.jc_world.specs.World.{Frame, Shared}
-use Rattle.jc_world.specs.Methods.{is_init_name}
-use Rattle.jc_world.specs.Profile.{Location, operation_of}
-use Rattle.jc_world.specs.Perform.{perform}
-use Rattle.jc_world.specs.Step.{located_in_body, located_in_class, located, operation_at, result_of, is_init_method, named_init}
+use Rattle.jc_machine_model.specs.Values.{Value}
+use Rattle.jc_machine_model.specs.World.{Frame, Shared}
+use Rattle.jc_machine_model.specs.Methods.{is_init_name}
+use Rattle.jc_machine_model.specs.Profile.{Location, operation_of}
+use Rattle.jc_machine_model.specs.Perform.{perform}
+use Rattle.jc_machine_model.specs.Step.{located_in_body, located_in_class, located, operation_at, result_of, is_init_method, named_init}
 use Rattle.jc_simulation.specs.Sides.{Side, array_of, GoesOnAt, IsSide, AreSides}
 use Rattle.jc_simulation.specs.Mid.{SameLocals, OneMethod, SameFrame, SameShared}
 use Rattle.jc_simulation.proofs.LocalLaws.{none_pushed, moves_on}

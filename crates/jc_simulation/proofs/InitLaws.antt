@@ -19,18 +19,18 @@ use Rattle.jc_programs.specs.declared.run_end.Entry.{Entry}
 use Rattle.jc_programs.specs.Members.{class_named, class_at, static_named}
 use Rattle.jc_plan.specs.Probed.{probe_count}
 use Rattle.jc_emit.specs.Added.{init_code, IsInitBody}
-use Rattle.jc_world.specs.Values.{Value, int, long, null, probes, text, reference_type}
-use Rattle.jc_world.specs.World.{Frame, Shared}
-use Rattle.jc_world.specs.Operations.{FieldAt, pushes, outside}
-use Rattle.jc_world.specs.Results.{Result, goes, leaves, next_with, goes_with, gets_stuck}
-use Rattle.jc_world.specs.Effects.{effect, moves_of}
-use Rattle.jc_world.specs.Jumps.{test_of, by_test, int_equal}
-use Rattle.jc_world.specs.Statics.{static_at, with_static, by_get, by_put}
-use Rattle.jc_world.specs.Calls.{by_return, returned_as}
-use Rattle.jc_world.specs.Objects.{by_fetch}
-use Rattle.jc_world.specs.Perform.{by_effect, perform}
-use Rattle.jc_world.specs.Profile.{Location, in_init, init_of, constant_operation, long_operation, may_name_field, field_operation, declared_field, linked_field, is_print_stream, is_fetch, init_call, member_operation, operation_of, method_entered, callee_named}
-use Rattle.jc_world.specs.Step.{result_of}
+use Rattle.jc_machine_model.specs.Values.{Value, int, long, null, probes, text, reference_type}
+use Rattle.jc_machine_model.specs.World.{Frame, Shared}
+use Rattle.jc_machine_model.specs.Operations.{FieldAt, pushes, outside}
+use Rattle.jc_machine_model.specs.Results.{Result, goes, leaves, next_with, goes_with, gets_stuck}
+use Rattle.jc_machine_model.specs.Effects.{effect, moves_of}
+use Rattle.jc_machine_model.specs.Jumps.{test_of, by_test, int_equal}
+use Rattle.jc_machine_model.specs.Statics.{static_at, with_static, by_get, by_put}
+use Rattle.jc_machine_model.specs.Calls.{by_return, returned_as}
+use Rattle.jc_machine_model.specs.Objects.{by_fetch}
+use Rattle.jc_machine_model.specs.Perform.{by_effect, perform}
+use Rattle.jc_machine_model.specs.Profile.{Location, in_init, init_of, constant_operation, long_operation, may_name_field, field_operation, declared_field, linked_field, is_print_stream, is_fetch, init_call, member_operation, operation_of, method_entered, callee_named}
+use Rattle.jc_machine_model.specs.Step.{result_of}
 use Rattle.jc_simulation.specs.Sides.{Side, count_in, IsChanged, IsSide, AreSides}
 use Rattle.jc_simulation.specs.Mid.{null_or, InitStep, reads_field, doubles, asks_null, clears, wants_id, wants_text, wants_count, fetches_array, keeps_array, writes_field, gives_back, step_place, step_stack, extra_in, values_of, SameShared}
 use Rattle.jc_simulation.proofs.StaticLaws.{reads_extra, puts_extra}

@@ -2,8 +2,8 @@
 use Rattle.std.proofs.Common.{◌≡◌, ℕ, suc, ◌+◌, ◌-◌, ◌≤◌, true, false, [], ◌++◌, length, replicate, Option, Some, None, refl, sym, ap, ◌∙◌, subst, arith, length-append}
 use Rattle.std.specs.Prelude.{slice_get, slice_set, slice_index_or}
 use Rattle.std.proofs.Math.ListN.{length-set, length-replicate}
-use Rattle.jc_world.specs.Values.{Value, is_pair}
-use Rattle.jc_world.specs.Locals.{is_pair_there, put_local}
+use Rattle.jc_machine_model.specs.Values.{Value, is_pair}
+use Rattle.jc_machine_model.specs.Locals.{is_pair_there, put_local}
 use Rattle.jc_emit.specs.Items.{Item, init_call, init_store, image, probe_array, probe_id, probe_one, probe_store, hop, extra_of}
 use Rattle.jc_emit.specs.Local.{IsBehind, Stands}
 use Rattle.jc_emit.specs.Seen.{with_more}

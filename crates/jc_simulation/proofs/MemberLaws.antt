@@ -19,10 +19,10 @@ use Rattle.jc_programs.specs.declared.run_end.Thrown.{Thrown}
 use Rattle.jc_programs.specs.Members.{class_named, class_at, method_named, static_named}
 use Rattle.jc_emit.specs.TwinProgram.{IsPair, IsChangedPair}
 use Rattle.jc_emit.specs.Seen.{with_more}
-use Rattle.jc_world.specs.Values.{computational_type}
-use Rattle.jc_world.specs.Methods.{is_init_name, declares_init, is_wide, is_enterable}
-use Rattle.jc_world.specs.Operations.{FieldAt, Operation, invokes, outside, Printed}
-use Rattle.jc_world.specs.Profile.{Location, in_init, may_name_field, field_operation, declared_field, linked_field, is_print_stream, field_named, may_name_method, method_in, callee_named, entered_if, body_entered, class_entered, method_entered, is_fetch, init_call, init_of, static_call, printed_by, print_operation, virtual_call, made_class, build_operation, special_call, call_named, member_operation}
+use Rattle.jc_machine_model.specs.Values.{computational_type}
+use Rattle.jc_machine_model.specs.Methods.{is_init_name, declares_init, is_wide, is_enterable}
+use Rattle.jc_machine_model.specs.Operations.{FieldAt, Operation, invokes, outside, Printed}
+use Rattle.jc_machine_model.specs.Profile.{Location, in_init, may_name_field, field_operation, declared_field, linked_field, is_print_stream, field_named, may_name_method, method_in, callee_named, entered_if, body_entered, class_entered, method_entered, is_fetch, init_call, init_of, static_call, printed_by, print_operation, virtual_call, made_class, build_operation, special_call, call_named, member_operation}
 use Rattle.jc_simulation.specs.Sides.{Side, IsSide, AreSides}
 use Rattle.jc_simulation.proofs.OwnLaws.{IsField, Alike, Next}
 use Rattle.jc_simulation.proofs.PlaceLaws.{any_at}

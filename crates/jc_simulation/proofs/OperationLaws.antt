@@ -28,10 +28,10 @@ use Rattle.jc_plan.specs.Edges.{arm, sequence, jump, branches_of}
 use Rattle.jc_emit.specs.Sizes.{insn_at}
 use Rattle.jc_emit.specs.Local.{Stands, moved_insn, SwitchesAlike, OkImage}
 use Rattle.jc_emit.proofs.ConditionalBranchLaws.{test_op}
-use Rattle.jc_world.specs.Values.{Value, int, ComputationalType, int_type, long_type, reference_type}
-use Rattle.jc_world.specs.Methods.{is_init_name}
-use Rattle.jc_world.specs.Operations.{Operation, pushes, computes, counts, tests, jumps, measures, returns, returns_nothing, throws_top, outside}
-use Rattle.jc_world.specs.Profile.{Location, in_init, init_of, what_at, constant_operation, long_operation, member_operation, make_operation, made_class, class_operation, array_operation, elements_of, read_operation, write_operation, return_operation, simple_operation, local_type, load_operation, store_operation, local_operation, operation_of}
+use Rattle.jc_machine_model.specs.Values.{Value, int, ComputationalType, int_type, long_type, reference_type}
+use Rattle.jc_machine_model.specs.Methods.{is_init_name}
+use Rattle.jc_machine_model.specs.Operations.{Operation, pushes, computes, counts, tests, jumps, measures, returns, returns_nothing, throws_top, outside}
+use Rattle.jc_machine_model.specs.Profile.{Location, in_init, init_of, what_at, constant_operation, long_operation, member_operation, make_operation, made_class, class_operation, array_operation, elements_of, read_operation, write_operation, return_operation, simple_operation, local_type, load_operation, store_operation, local_operation, operation_of}
 use Rattle.jc_simulation.specs.Same.{twin_slot}
 use Rattle.jc_simulation.specs.Sides.{Side, GoesOnAt, IsSide, AreSides}
 use Rattle.jc_simulation.proofs.MemberLaws.{own_member}

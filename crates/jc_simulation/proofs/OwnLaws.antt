@@ -19,22 +19,22 @@ use Rattle.jc_programs.specs.declared.run_end.Thrown.TheVariants as thrown
 use Rattle.jc_programs.specs.Members.{class_at}
 use Rattle.jc_programs.specs.Throwables.{is_one}
 use Rattle.jc_emit.specs.Items.{image}
-use Rattle.jc_world.specs.Values.{Value, int, long, null, object, memory_error, print_stream, probes, text, ComputationalType, long_type, int_type, reference_type, is_of, is_pair, stored_as}
-use Rattle.jc_world.specs.Heap.{HeapObject, array, throwable, has_room}
-use Rattle.jc_world.specs.World.{Frame, Shared}
-use Rattle.jc_world.specs.Operations.{FieldAt, Printed, an_int_line, a_long_line, a_boolean_line, an_empty_line, Operation, pushes, computes, loads, stores, counts, tests, jumps, indexes, matches, reads, writes, makes_array, measures, gets, puts, invokes, makes, builds, prints, fetches, returns, returns_nothing, throws_top, outside}
-use Rattle.jc_world.specs.Results.{Result, goes, hits, calls, leaves, raises, throws, gets_stuck, next_with, goes_with}
-use Rattle.jc_world.specs.Effects.{Effect, gives, unfit, effect}
-use Rattle.jc_world.specs.Effects as effects
-use Rattle.jc_world.specs.Locals.{by_load, by_store, by_count, put_local}
+use Rattle.jc_machine_model.specs.Values.{Value, int, long, null, object, memory_error, print_stream, probes, text, ComputationalType, long_type, int_type, reference_type, is_of, is_pair, stored_as}
+use Rattle.jc_machine_model.specs.Heap.{HeapObject, array, throwable, has_room}
+use Rattle.jc_machine_model.specs.World.{Frame, Shared}
+use Rattle.jc_machine_model.specs.Operations.{FieldAt, Printed, an_int_line, a_long_line, a_boolean_line, an_empty_line, Operation, pushes, computes, loads, stores, counts, tests, jumps, indexes, matches, reads, writes, makes_array, measures, gets, puts, invokes, makes, builds, prints, fetches, returns, returns_nothing, throws_top, outside}
+use Rattle.jc_machine_model.specs.Results.{Result, goes, hits, calls, leaves, raises, throws, gets_stuck, next_with, goes_with}
+use Rattle.jc_machine_model.specs.Effects.{Effect, gives, unfit, effect}
+use Rattle.jc_machine_model.specs.Effects as effects
+use Rattle.jc_machine_model.specs.Locals.{by_load, by_store, by_count, put_local}
 use Rattle.jc_plan.specs.Chosen.{table_target, lookup_target}
-use Rattle.jc_world.specs.Jumps.{Tested, test_of, by_test, by_switch}
-use Rattle.jc_world.specs.Arrays.{index_within, Element, Found, found, fails, unsuited, find_element, element_value, read_found, by_read, element_number, with_element, write_number, write_found, by_probe, write_to, by_write, has_elements, by_make_array, measured, by_measure}
-use Rattle.jc_world.specs.Statics.{static_at, with_static, by_get, by_put, is_of_type}
-use Rattle.jc_world.specs.Calls.{Arguments, taken_for, locals_for, by_call, by_return, returned_as}
-use Rattle.jc_world.specs.Objects.{made, built, thrown_of, by_build, thrown_up, by_throw, most_printed, by_print, boolean_text, by_println}
-use Rattle.jc_world.specs.Perform.{by_effect, perform}
-use Rattle.jc_world.specs.Step.{new_frame}
+use Rattle.jc_machine_model.specs.Jumps.{Tested, test_of, by_test, by_switch}
+use Rattle.jc_machine_model.specs.Arrays.{index_within, Element, Found, found, fails, unsuited, find_element, element_value, read_found, by_read, element_number, with_element, write_number, write_found, by_probe, write_to, by_write, has_elements, by_make_array, measured, by_measure}
+use Rattle.jc_machine_model.specs.Statics.{static_at, with_static, by_get, by_put, is_of_type}
+use Rattle.jc_machine_model.specs.Calls.{Arguments, taken_for, locals_for, by_call, by_return, returned_as}
+use Rattle.jc_machine_model.specs.Objects.{made, built, thrown_of, by_build, thrown_up, by_throw, most_printed, by_print, boolean_text, by_println}
+use Rattle.jc_machine_model.specs.Perform.{by_effect, perform}
+use Rattle.jc_machine_model.specs.Step.{new_frame}
 use Rattle.jc_simulation.specs.Same.{twin_slot}
 use Rattle.jc_simulation.specs.Sides.{Side, array_of, GoesOnAt, IsSide}
 use Rattle.jc_simulation.specs.Mid.{SameLocals, OneMethod, SameFrame, SameWait, SameShared, values_of}

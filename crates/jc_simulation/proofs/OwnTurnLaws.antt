@@ -6,11 +6,11 @@ use Rattle.jc_programs.specs.declared.run_end.Thrown.{Thrown}
 use Rattle.jc_programs.specs.declared.run_end.Thrown.TheVariants as thrown
 use Rattle.jc_methods.specs.declared.insn.Insn.{Insn}
 use Rattle.jc_emit.specs.Items.{image}
-use Rattle.jc_world.specs.Values.{Value}
-use Rattle.jc_world.specs.World.{Frame, running, Shared}
-use Rattle.jc_world.specs.Methods.{is_init_name}
-use Rattle.jc_world.specs.Results.{Result, goes, hits, calls, leaves, raises, throws, gets_stuck, next_with}
-use Rattle.jc_world.specs.Step.{is_init_method, counted_frames, overflows, new_frame, given_back, left, After, after, placed, thrown_in, after_result}
+use Rattle.jc_machine_model.specs.Values.{Value}
+use Rattle.jc_machine_model.specs.World.{Frame, running, Shared}
+use Rattle.jc_machine_model.specs.Methods.{is_init_name}
+use Rattle.jc_machine_model.specs.Results.{Result, goes, hits, calls, leaves, raises, throws, gets_stuck, next_with}
+use Rattle.jc_machine_model.specs.Step.{is_init_method, counted_frames, overflows, new_frame, given_back, left, After, after, placed, thrown_in, after_result}
 use Rattle.jc_simulation.specs.Sides.{Side}
 use Rattle.jc_simulation.specs.Mid.{OneMethod, SameFrame, SameWait, SameWaits, SameShared, SameThread}
 use Rattle.jc_simulation.proofs.OwnLaws.{SameResult, AtImage}

@@ -12,7 +12,7 @@ use Rattle.jc_emit.specs.Marks.{Marks}
 use Rattle.jc_emit.specs.SeenProgram.{IsSeenAt}
 use Rattle.jc_emit.specs.TwinProgram.{TwinProgram}
 use Rattle.jc_emit.proofs.SeenProgramLaws.{body_seen, marks_one}
-use Rattle.jc_world.specs.Begin.{begin_case}
+use Rattle.jc_machine_model.specs.Begin.{begin_case}
 use Rattle.jc_simulation.specs.Marking.{AreMarks}
 use Rattle.jc_simulation.specs.Laws.{HaveMarks, HaveOneMarks, HaveSides, CasesBeginTogether, TurnsStayTogether, TogetherIsSame, RunsAreSame, IsKeptBySpread, SchedulesAreKept, ProbeTurnsAreFew}
 use Rattle.jc_simulation.specs.Mid.{Mid}

@@ -10,7 +10,7 @@ use Rattle.jc_programs.specs.declared.run_end.Entry.{Entry}
 use Rattle.jc_emit.specs.Items.{Item, init_call, init_store, image, probe_array, probe_id, probe_one, probe_store, hop, extra_of}
 use Rattle.jc_emit.specs.Local.{IsBehind, OkStart}
 use Rattle.jc_emit.specs.Marks.{push, prelude_size}
-use Rattle.jc_world.specs.Values.{Value, int}
+use Rattle.jc_machine_model.specs.Values.{Value, int}
 use Rattle.jc_simulation.specs.Sides.{Side, IsSide}
 use Rattle.jc_simulation.specs.Mid.{pushed_of}
 use Rattle.jc_simulation.specs.Together.{IsPushedBy, ArePushed}

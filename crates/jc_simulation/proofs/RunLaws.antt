@@ -9,9 +9,9 @@ use Rattle.jc_programs.specs.declared.run_end.Entry.{Entry}
 use Rattle.jc_methods.specs.Flow.{flow_of}
 use Rattle.jc_emit.specs.Sizes.{insn_at, early_by, probe_size}
 use Rattle.jc_emit.specs.Marks.{Marks}
-use Rattle.jc_world.specs.World.{Frame, Thread, running, returned, threw, stuck, Shared, World}
-use Rattle.jc_world.specs.Step.{turn_of, with_after, step_of, step}
-use Rattle.jc_world.specs.Run.{run_from}
+use Rattle.jc_machine_model.specs.World.{Frame, Thread, running, returned, threw, stuck, Shared, World}
+use Rattle.jc_machine_model.specs.Step.{turn_of, with_after, step_of, step}
+use Rattle.jc_machine_model.specs.Run.{run_from}
 use Rattle.jc_simulation.specs.Kept.{is_running, runs_at, runs, keeps_at, is_kept, turn_if, kept, row_behind, row, step_if}
 use Rattle.jc_simulation.specs.Spread.{IsLead, IsSpread}
 use Rattle.jc_simulation.specs.Sides.{Side, AreSides, AreMarksOf}

@@ -11,9 +11,9 @@ use Rattle.jc_programs.specs.Members.{class_at}
 use Rattle.jc_emit.specs.Items.{Item, init_call, init_store, image, probe_array, probe_id, probe_one, probe_store, hop, at_of, extra_of}
 use Rattle.jc_emit.specs.Marks.{Marks}
 use Rattle.jc_emit.specs.TwinProgram.{IsPair, IsChangedPair, data_static}
-use Rattle.jc_world.specs.Values.{Value, probes}
-use Rattle.jc_world.specs.World.{Frame, Thread, running, returned, threw, stuck, Shared, World}
-use Rattle.jc_world.specs.Methods.{declares_init}
+use Rattle.jc_machine_model.specs.Values.{Value, probes}
+use Rattle.jc_machine_model.specs.World.{Frame, Thread, running, returned, threw, stuck, Shared, World}
+use Rattle.jc_machine_model.specs.Methods.{declares_init}
 use Rattle.jc_simulation.specs.Same.{slot_in_body, slot_in_class, array_slot, twin_slot, is_named_data, is_data_in, is_data, frames_of}
 use Rattle.jc_simulation.specs.Same as spec
 use Rattle.jc_simulation.specs.Sides.{Side, count_in, array_of, IsSide, AreSides, AreMarksOf}

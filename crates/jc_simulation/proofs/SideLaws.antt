@@ -19,7 +19,7 @@ use Rattle.jc_emit.specs.TwinProgram.{IsPair, ArePairs, IsChangedPair, TwinProgr
 use Rattle.jc_emit.proofs.EdgeIdLaws.{each_within}
 use Rattle.jc_emit.proofs.RankLaws.{ranked}
 use Rattle.jc_emit.proofs.SeenProgramLaws.{classes_alike, class_pair, added_last, ids_seen}
-use Rattle.jc_world.specs.Methods.{is_init_name}
+use Rattle.jc_machine_model.specs.Methods.{is_init_name}
 use Rattle.jc_simulation.specs.Marking.{AreMarks}
 use Rattle.jc_simulation.specs.Sides.{Side, count_in, IsSide, AreSides, AreTold, AreMarksOf}
 use Rattle.jc_simulation.proofs.RunItemLaws.{twin_runs, plain_runs, seen_items}

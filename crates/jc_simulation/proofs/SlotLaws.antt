@@ -3,8 +3,8 @@ use Rattle.std.proofs.Common.{◌≡◌, ℕ, zero, suc, ◌+◌, ◌<◌, ◌�
 use Rattle.std.specs.Prelude.{slice_get, slice_set, slice_index_or}
 use Rattle.std.proofs.lemmas.Bool.{cases_lt, lt-ltb, le-ltb, cond-true, cond-false, eqb-true, eqb-false}
 use Rattle.std.proofs.Math.ListN.{length-set}
-use Rattle.jc_world.specs.Values.{Value, is_pair}
-use Rattle.jc_world.specs.Locals.{is_pair_there, clear_before, clear_behind, put_local}
+use Rattle.jc_machine_model.specs.Values.{Value, is_pair}
+use Rattle.jc_machine_model.specs.Locals.{is_pair_there, clear_before, clear_behind, put_local}
 use Rattle.jc_simulation.specs.Same.{twin_slot}
 
 abbrev pub Locals : Type 0

@@ -6,10 +6,10 @@ use Rattle.std.proofs.lemmas.Bool.{eqb-true, eqb-false}
 use Rattle.jc_programs.specs.declared.program.Program.{Program}
 use Rattle.jc_programs.specs.declared.run_end.Entry.{Entry}
 use Rattle.jc_programs.specs.Members.{class_at}
-use Rattle.jc_world.specs.Values.{Value, probes}
-use Rattle.jc_world.specs.World.{Shared}
-use Rattle.jc_world.specs.Operations.{FieldAt}
-use Rattle.jc_world.specs.Statics.{static_at, with_static}
+use Rattle.jc_machine_model.specs.Values.{Value, probes}
+use Rattle.jc_machine_model.specs.World.{Shared}
+use Rattle.jc_machine_model.specs.Operations.{FieldAt}
+use Rattle.jc_machine_model.specs.Statics.{static_at, with_static}
 use Rattle.jc_simulation.specs.Sides.{Side}
 use Rattle.jc_simulation.specs.Mid.{null_or, extra_in, SameStatics, values_of, SameShared}
 

@@ -5,8 +5,8 @@ use Rattle.std.proofs.lemmas.Int.{ints}
 use Rattle.std.proofs.lemmas.Bool.{leb-true, eqb-true, and_parts, or_cases}
 use Rattle.jc_bytes.proofs.EachLaws.{AllFrom, all_from}
 use Rattle.jc_methods.specs.Flow.{is_conditional_branch, inverse_of}
-use Rattle.jc_world.specs.Values.{Value, int, null, is_reference, is_same}
-use Rattle.jc_world.specs.Jumps.{Tested, int_equal, compares, agrees, tested, zero_test, int_test, reference_test, null_test, test_of}
+use Rattle.jc_machine_model.specs.Values.{Value, int, null, is_reference, is_same}
+use Rattle.jc_machine_model.specs.Jumps.{Tested, int_equal, compares, agrees, tested, zero_test, int_test, reference_test, null_test, test_of}
 
 -- the opposite of a test
 abbrev pub negated : Option Tested → Option Tested

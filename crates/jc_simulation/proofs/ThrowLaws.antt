@@ -17,10 +17,10 @@ use Rattle.jc_kinds_after.specs.After.{class_in}
 use Rattle.jc_emit.specs.Items.{image}
 use Rattle.jc_emit.specs.Local.{OkRow, Holds}
 use Rattle.jc_emit.specs.Seen.{OkRows}
-use Rattle.jc_world.specs.Values.{Value, object}
-use Rattle.jc_world.specs.Heap.{throwable, has_room}
-use Rattle.jc_world.specs.World.{Frame, Thread, Shared}
-use Rattle.jc_world.specs.Step.{catches, handles, handler_in, caught, unwound, Raised, out_of_memory, placed, After, thrown_in}
+use Rattle.jc_machine_model.specs.Values.{Value, object}
+use Rattle.jc_machine_model.specs.Heap.{throwable, has_room}
+use Rattle.jc_machine_model.specs.World.{Frame, Thread, Shared}
+use Rattle.jc_machine_model.specs.Step.{catches, handles, handler_in, caught, unwound, Raised, out_of_memory, placed, After, thrown_in}
 use Rattle.jc_simulation.specs.Sides.{Side, GoesOnAt, IsSide}
 use Rattle.jc_simulation.specs.Mid.{SameWaits, SameShared, SameThread}
 use Rattle.jc_simulation.proofs.OwnLaws.{AtImage}

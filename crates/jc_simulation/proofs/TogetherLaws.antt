@@ -19,9 +19,9 @@ use Rattle.jc_emit.specs.Items.{Item, init_call, init_store, image, probe_array,
 use Rattle.jc_emit.specs.Local.{IsBehind}
 use Rattle.jc_emit.specs.Marks.{Marks, push, prelude_size}
 use Rattle.jc_emit.specs.TwinProgram.{IsPair, data_static}
-use Rattle.jc_world.specs.Values.{Value, int, probes}
-use Rattle.jc_world.specs.World.{Frame, Thread, running, returned, threw, stuck, Shared, World}
-use Rattle.jc_world.specs.Locals.{is_pair_there}
+use Rattle.jc_machine_model.specs.Values.{Value, int, probes}
+use Rattle.jc_machine_model.specs.World.{Frame, Thread, running, returned, threw, stuck, Shared, World}
+use Rattle.jc_machine_model.specs.Locals.{is_pair_there}
 use Rattle.jc_simulation.specs.ProbeRuns.{MayFollow, IsFirst}
 use Rattle.jc_simulation.specs.Same.{twin_slot, array_slot, is_named_data, is_data_in, is_data}
 use Rattle.jc_simulation.specs.Sides.{Side, count_in, array_of, IsSide, AreSides, AreMarksOf}

@@ -20,15 +20,15 @@ use Rattle.jc_emit.specs.Seen.{IsPlain}
 use Rattle.jc_plan.specs.Probed.{probe_count}
 use Rattle.std.specs.List.{sum_by}
 use Rattle.jc_emit.specs.Ranks.{after_place, early_size, rank}
-use Rattle.jc_world.specs.Values.{probes}
-use Rattle.jc_world.specs.World.{Frame, Thread, running, Shared}
-use Rattle.jc_world.specs.Methods.{is_init_name, is_enterable, is_wide}
-use Rattle.jc_world.specs.Operations.{invokes}
-use Rattle.jc_world.specs.Results.{Result, calls, leaves, next_with}
-use Rattle.jc_world.specs.Perform.{perform}
-use Rattle.jc_world.specs.Profile.{Location, in_init, init_of, may_name_method, method_in, callee_named, entered_if, body_entered, class_entered, method_entered, is_fetch, member_operation, operation_of}
-use Rattle.jc_world.specs.Profile as profile
-use Rattle.jc_world.specs.Step.{is_init_method, counted_frames, new_frame, After, after, placed, thrown_in, result_of, after_result}
+use Rattle.jc_machine_model.specs.Values.{probes}
+use Rattle.jc_machine_model.specs.World.{Frame, Thread, running, Shared}
+use Rattle.jc_machine_model.specs.Methods.{is_init_name, is_enterable, is_wide}
+use Rattle.jc_machine_model.specs.Operations.{invokes}
+use Rattle.jc_machine_model.specs.Results.{Result, calls, leaves, next_with}
+use Rattle.jc_machine_model.specs.Perform.{perform}
+use Rattle.jc_machine_model.specs.Profile.{Location, in_init, init_of, may_name_method, method_in, callee_named, entered_if, body_entered, class_entered, method_entered, is_fetch, member_operation, operation_of}
+use Rattle.jc_machine_model.specs.Profile as profile
+use Rattle.jc_machine_model.specs.Step.{is_init_method, counted_frames, new_frame, After, after, placed, thrown_in, result_of, after_result}
 use Rattle.jc_simulation.specs.Sides.{Side, count_in, array_of, IsChanged, AreSides}
 use Rattle.jc_simulation.specs.Probes.{hit_of, item_hit, Passes, nothing, a_late_one, an_early_one, place_hit, frame_hit, due_in, early_in}
 use Rattle.jc_simulation.specs.Mid.{pushed_of, SameLocals, SameFrame, SameWaits, InitStep, reads_field, doubles, asks_null, clears, wants_id, wants_text, wants_count, fetches_array, keeps_array, writes_field, gives_back, step_place, step_stack, init_method, Inside, SameShared, SameThread}

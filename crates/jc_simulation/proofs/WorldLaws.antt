@@ -6,8 +6,8 @@ use Rattle.jc_programs.specs.declared.program.Program.{Program}
 use Rattle.jc_programs.specs.declared.run_end.Entry.{Entry}
 use Rattle.jc_emit.specs.Items.{Item, image, own_of}
 use Rattle.jc_emit.specs.Marks.{Marks}
-use Rattle.jc_world.specs.World.{Frame, Thread, running, returned, threw, stuck, Shared, World}
-use Rattle.jc_world.specs.Step.{turn_of, with_after, step_of, step}
+use Rattle.jc_machine_model.specs.World.{Frame, Thread, running, returned, threw, stuck, Shared, World}
+use Rattle.jc_machine_model.specs.Step.{turn_of, with_after, step_of, step}
 use Rattle.jc_simulation.specs.Kept.{is_running, is_own, keeps, keeps_at, is_kept, step_if}
 use Rattle.jc_simulation.specs.Sides.{Side, AreSides, AreMarksOf}
 use Rattle.jc_simulation.specs.Mid.{SameFrame, SameWaits, Inside, SameShared, SameThread, SameThreads, Mid}

@@ -8,10 +8,10 @@ use Rattle.jc_programs.specs.declared.run_end.Entry.{Entry}
 use Rattle.jc_programs.specs.Entries.{AreEntries}
 use Rattle.jc_emit.specs.Marks.{Marks}
 use Rattle.jc_emit.specs.TwinProgram.{TwinProgram}
-use Rattle.jc_world.specs.World.{World}
-use Rattle.jc_world.specs.Step.{step}
-use Rattle.jc_world.specs.Begin.{begin_case}
-use Rattle.jc_world.specs.Run.{run}
+use Rattle.jc_machine_model.specs.World.{World}
+use Rattle.jc_machine_model.specs.Step.{step}
+use Rattle.jc_machine_model.specs.Begin.{begin_case}
+use Rattle.jc_machine_model.specs.Run.{run}
 use Rattle.jc_simulation.specs.Marking.{AreMarks}
 use Rattle.jc_simulation.specs.Kept.{is_kept, kept, row, step_if}
 use Rattle.jc_simulation.specs.Spread.{IsSpread}

@@ -9,10 +9,10 @@ use Rattle.jc_programs.specs.declared.run_end.Entry.{Entry}
 use Rattle.jc_programs.specs.Members.{class_at}
 use Rattle.jc_emit.specs.Items.{Item, init_call, init_store, image, probe_id, probe_one, probe_store, at_of}
 use Rattle.jc_emit.specs.Local.{IsBehind}
-use Rattle.jc_world.specs.Values.{Value, int, long, null, probes, text}
-use Rattle.jc_world.specs.World.{Frame, Thread, running, returned, threw, stuck, Shared, World}
-use Rattle.jc_world.specs.Locals.{is_pair_there}
-use Rattle.jc_world.specs.Methods.{declares_init}
+use Rattle.jc_machine_model.specs.Values.{Value, int, long, null, probes, text}
+use Rattle.jc_machine_model.specs.World.{Frame, Thread, running, returned, threw, stuck, Shared, World}
+use Rattle.jc_machine_model.specs.Locals.{is_pair_there}
+use Rattle.jc_machine_model.specs.Methods.{declares_init}
 use Rattle.jc_simulation.specs.Sides.{Side, count_in, array_of, GoesOnAt, IsSide}
 
 -- ---- frames

@@ -15,9 +15,9 @@ use Rattle.jc_emit.specs.Ranks.{IsRanked}
 use Rattle.jc_emit.specs.Seen.{OkRows, IsPlain, AreInsnsOf, with_more}
 use Rattle.jc_emit.specs.Twin.{IsSameMethod, KeepsUses, probe_init}
 use Rattle.jc_emit.specs.TwinProgram.{IsPair, IsChangedPair, IsUnchangedPair, DifferInName}
-use Rattle.jc_world.specs.Values.{Value, probes}
+use Rattle.jc_machine_model.specs.Values.{Value, probes}
 use Rattle.jc_simulation.specs.ProbeRuns.{AreRuns}
-use Rattle.jc_world.specs.Methods.{is_init_name, declares_init}
+use Rattle.jc_machine_model.specs.Methods.{is_init_name, declares_init}
 
 -- the two bodies with their classes, and what the twin is made of: the local variable of the probe array, the ids of the
 -- branches, the items, and where the method that the prelude calls stands in the pool

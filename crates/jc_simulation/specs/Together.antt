@@ -13,12 +13,12 @@ use Rattle.jc_programs.specs.declared.run_plan.Case.{Case}
 use Rattle.jc_programs.specs.Entries.{AreEntries}
 use Rattle.jc_emit.specs.Marks.{Marks, Pushes, prelude_size}
 use Rattle.jc_emit.specs.TwinProgram.{TwinProgram}
-use Rattle.jc_world.specs.Values.{Value, int, probes}
-use Rattle.jc_world.specs.World.{Frame, Thread, running, stuck, World}
-use Rattle.jc_world.specs.Locals.{is_pair_there}
-use Rattle.jc_world.specs.Fits.{FitsWorld}
-use Rattle.jc_world.specs.Step.{is_init_method, step}
-use Rattle.jc_world.specs.Begin.{begin_case}
+use Rattle.jc_machine_model.specs.Values.{Value, int, probes}
+use Rattle.jc_machine_model.specs.World.{Frame, Thread, running, stuck, World}
+use Rattle.jc_machine_model.specs.Locals.{is_pair_there}
+use Rattle.jc_machine_model.specs.Fits.{FitsWorld}
+use Rattle.jc_machine_model.specs.Step.{is_init_method, step}
+use Rattle.jc_machine_model.specs.Begin.{begin_case}
 use Rattle.jc_simulation.specs.Marking.{AreMarks}
 use Rattle.jc_simulation.specs.Kept.{is_kept, step_if}
 use Rattle.jc_simulation.specs.Same.{array_slot, is_data, static_in, Same}

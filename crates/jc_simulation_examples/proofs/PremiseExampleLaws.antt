@@ -10,14 +10,14 @@ use Rattle.jc_programs.specs.Turns.{turns_in}
 use Rattle.jc_programs.specs.declared.run_plan.Case.{Case}
 use Rattle.jc_programs.specs.declared.run_end.Entry.{Entry}
 use Rattle.jc_cover.specs.Covered.{is_hit}
-use Rattle.jc_world.specs.World.{Hit}
-use Rattle.jc_world.specs.Effects.{constant, moves_of, int_bits, int_pair, compared, long_pair, long_shift, int_single, long_single, single, pair, effect}
-use Rattle.jc_world.specs.Profile.{operation_of}
-use Rattle.jc_world.specs.Jumps.{test_of}
-use Rattle.jc_world.specs.Perform.{perform}
-use Rattle.jc_world.specs.Step.{step}
-use Rattle.jc_world.specs.Begin.{begin}
-use Rattle.jc_world.specs.Run.{run, IsHit}
+use Rattle.jc_machine_model.specs.World.{Hit}
+use Rattle.jc_machine_model.specs.Effects.{constant, moves_of, int_bits, int_pair, compared, long_pair, long_shift, int_single, long_single, single, pair, effect}
+use Rattle.jc_machine_model.specs.Profile.{operation_of}
+use Rattle.jc_machine_model.specs.Jumps.{test_of}
+use Rattle.jc_machine_model.specs.Perform.{perform}
+use Rattle.jc_machine_model.specs.Step.{step}
+use Rattle.jc_machine_model.specs.Begin.{begin}
+use Rattle.jc_machine_model.specs.Run.{run, IsHit}
 use Rattle.jc_simulation.proofs.ProgramRunLaws.{have_marks}
 use Rattle.jc_exact.specs.Exact.{EndsWell, TellHits}
 use Rattle.jc_world_examples.specs.ProgramExamples.{abs_program, probed_abs_program, hit}

@@ -25,7 +25,7 @@ use Rattle.jc_emit.specs.Twin.{Twin}
 use Rattle.jc_emit.specs.TwinBody.{twin_body}
 use Rattle.jc_emit.specs.TwinProgram.{IsAddedName, TwinProgram}
 use Rattle.jc_emit.proofs.TwinBodyLaws.{has_twin}
-use Rattle.jc_world.specs.Programs.{IsProgramBody, IsLinked}
+use Rattle.jc_machine_model.specs.Programs.{IsProgramBody, IsLinked}
 use Rattle.jc_world_examples.specs.ProgramExamples.{a_name, abs, abs_program, probed_abs, probed_abs_program, class, frame}
 use Rattle.jc_world_examples.proofs.FitExampleLaws.{none_some, some_is, abs_is_program}
 use Rattle.jc_simulation_examples.proofs.OneMethodLaws.{names, only, one_is_twin}

@@ -12,9 +12,9 @@ use Rattle.jc_programs.specs.Turns.{turns_in}
 use Rattle.jc_emit.specs.Marks.{Marks}
 use Rattle.jc_emit.specs.TwinProgram.{TwinProgram}
 use Rattle.jc_cover.specs.Marking.{coverage_of}
-use Rattle.jc_world.specs.World.{Hit}
-use Rattle.jc_world.specs.Run.{run, IsHit}
-use Rattle.jc_world.specs.Taken.{taken, reached}
+use Rattle.jc_machine_model.specs.World.{Hit}
+use Rattle.jc_machine_model.specs.Run.{run, IsHit}
+use Rattle.jc_machine_model.specs.Taken.{taken, reached}
 use Rattle.jc_simulation.specs.Marking.{AreMarks}
 use Rattle.jc_simulation.specs.Laws.{kept_of}
 use Rattle.jc_exact.specs.Exact.{HaveEntries, TellHits}

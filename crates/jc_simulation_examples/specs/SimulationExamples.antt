@@ -8,8 +8,8 @@ use Rattle.jc_programs.specs.declared.run_end.Entry.{Entry}
 use Rattle.jc_programs.specs.declared.run_plan.Case.{Case}
 use Rattle.jc_programs.specs.declared.run_plan.Schedule.TheVariants as schedules
 use Rattle.jc_emit.specs.Marks.{Marks}
-use Rattle.jc_world.specs.World.{World}
-use Rattle.jc_world.specs.Begin.{begin_case}
+use Rattle.jc_machine_model.specs.World.{World}
+use Rattle.jc_machine_model.specs.Begin.{begin_case}
 use Rattle.jc_world_examples.specs.ProgramExamples.{program, class, method, probed_class, prelude, probe, init_use, thread, case, inc_thread, probed_inc_program}
 
 -- ---- C: inc ()V: the prelude, getstatic x, iconst_1, iadd, putstatic x, the probe of the return, return

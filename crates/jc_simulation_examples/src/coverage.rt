@@ -3,8 +3,8 @@ ghost use Rattle.std.specs.Prelude.{◌≡◌, true, false, None, [], ◌∷◌}
 ghost use Rattle.jc_programs.specs.Turns.{turns_in};
 ghost use Rattle.jc_programs.specs.declared.run_end.Thrown.TheVariants as thrown;
 ghost use Rattle.jc_emit.specs.TwinProgram.{TwinProgram};
-ghost use Rattle.jc_world.specs.Run.{run};
-ghost use Rattle.jc_world.specs.World.{threw};
+ghost use Rattle.jc_machine_model.specs.Run.{run};
+ghost use Rattle.jc_machine_model.specs.World.{threw};
 ghost use Rattle.jc_world_examples.specs.EdgeExamples.{edge};
 ghost use Rattle.jc_world_examples.specs.ProgramExamples.{abs, abs_program, probed_abs_program, div, div_program, hit, inc};
 ghost use Rattle.jc_world_examples.specs.ProgramExamples.{inc_program, probed_inc_program, r_program, probed_r_program};

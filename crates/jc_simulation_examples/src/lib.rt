@@ -9,7 +9,7 @@ mod coverage;
 ghost use Rattle.std.specs.Prelude.{◌≡◌, [], ◌∷◌, ◌++◌, replicate};
 ghost use Rattle.jc_programs.specs.Turns.{turns_of};
 ghost use Rattle.jc_programs.specs.declared.run_plan.Schedule.TheVariants as schedules;
-ghost use Rattle.jc_world.specs.Run.{run};
+ghost use Rattle.jc_machine_model.specs.Run.{run};
 ghost use Rattle.jc_simulation.specs.Kept.{kept, row};
 ghost use Rattle.jc_simulation.specs.Same.{Same};
 ghost use Rattle.jc_simulation.specs.Spread.{IsSpread};

@@ -3,8 +3,8 @@ use Rattle.std.proofs.Common.{◌≡◌, ℕ, zero, suc, ◌+◌, ◌-◌, ◌<�
 use Rattle.std.proofs.lemmas.List.{places, same_lists, get_or-reverse, length-reverse, reverse-append, length-map, length-take-le, length-drop, take_more_set, take-set-le, drop-set-lt, drop-set-add, map-set, drop-map, get_or-take, get_or-drop, take_at}
 use Rattle.std.proofs.Math.Seq.{take-set-lt as take-set-below}
 use Rattle.jc_programs.specs.declared.run_end.Entry.{Entry}
-use Rattle.jc_world.specs.World.{Frame}
-use Rattle.jc_world.specs.Values.{Value}
+use Rattle.jc_machine_model.specs.World.{Frame}
+use Rattle.jc_machine_model.specs.Values.{Value}
 use Rattle.jc_store.specs.declared.cell.Cell.{Cell}
 use Rattle.jc_store.specs.declared.cell.Cell.TheVariants.{Empty}
 use Rattle.jc_store.specs.declared.frame.Frame.TheInside.{Inside}

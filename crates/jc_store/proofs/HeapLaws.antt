@@ -9,9 +9,9 @@ use Rattle.std.proofs.lemmas.List.{length-map, length-set, length-replicate, get
 use Rattle.std.proofs.lemmas.Bool.{cases_lt}
 use Rattle.std.proofs.lemmas.Bool.Decides.{nat_tests}
 use Rattle.jc_bytes.specs.Descriptor.{FieldType, Byte, Char, Int, Long, Short, Boolean}
-use Rattle.jc_world.specs.Values.{int, long}
-use Rattle.jc_world.specs.Arrays.{element_value}
-use Rattle.jc_world.specs.Heap.{HeapObject, array, throwable, words_of, heap_words, has_room}
+use Rattle.jc_machine_model.specs.Values.{int, long}
+use Rattle.jc_machine_model.specs.Arrays.{element_value}
+use Rattle.jc_machine_model.specs.Heap.{HeapObject, array, throwable, words_of, heap_words, has_room}
 use Rattle.jc_programs.specs.declared.run_end.Thrown.{Thrown}
 use Rattle.jc_programs.specs.declared.run_end.Thrown.TheVariants.{Throwable}
 use Rattle.jc_programs.specs.Throwables.{throwables}

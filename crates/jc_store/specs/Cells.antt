@@ -2,7 +2,7 @@
 use Rattle.std.specs.Prelude.{Option, Some, None}
 use Rattle.jc_store.specs.declared.cell.Cell.{Cell}
 use Rattle.jc_store.specs.declared.cell.Cell.TheVariants as cells
-use Rattle.jc_world.specs.Values.{Value, int, long, null, object, memory_error, print_stream, probes, text}
+use Rattle.jc_machine_model.specs.Values.{Value, int, long, null, object, memory_error, print_stream, probes, text}
 
 -- in a cell of the operand stack, each of which has a value
 abbrev pub on_stack : Cell → Value

@@ -1,6 +1,6 @@
 -- A frame in its cells: the local variables, and behind them the operand stack from its bottom on.
 use Rattle.std.specs.Prelude.{◌≡◌, ◌+◌, ◌≤◌, List, length, map, take, drop, reverse}
-use Rattle.jc_world.specs.World as world
+use Rattle.jc_machine_model.specs.World as world
 use Rattle.jc_store.specs.declared.frame.Frame.TheInside.{Inside}
 use Rattle.jc_store.specs.declared.cell.Cell.{Cell}
 use Rattle.jc_store.specs.Cells.{held, on_stack}

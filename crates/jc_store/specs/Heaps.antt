@@ -11,7 +11,7 @@ use Rattle.jc_store.specs.declared.element.Element.{Element}
 use Rattle.jc_store.specs.declared.element.Element.TheVariants as elements
 use Rattle.jc_store.specs.declared.heap.HeapObject as told
 use Rattle.jc_store.specs.declared.heap.HeapObject.TheVariants as tolds
-use Rattle.jc_world.specs.Heap.{HeapObject, array, throwable, words_of, most_words}
+use Rattle.jc_machine_model.specs.Heap.{HeapObject, array, throwable, words_of, most_words}
 
 abbrev pub element_type : Element → FieldType
 element_type elements.Boolean = Boolean

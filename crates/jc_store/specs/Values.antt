@@ -1,7 +1,7 @@
 -- Values as the machine keeps them.
 use Rattle.jc_store.specs.declared.value.Value as kept
 use Rattle.jc_store.specs.declared.value.Value.TheVariants as kepts
-use Rattle.jc_world.specs.Values.{Value, int, long, null, object, memory_error, print_stream, probes, text}
+use Rattle.jc_machine_model.specs.Values.{Value, int, long, null, object, memory_error, print_stream, probes, text}
 
 abbrev pub value_of : kept.Value → Value
 value_of (kepts.Int x) = int x

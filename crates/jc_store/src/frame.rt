@@ -25,7 +25,7 @@ pub struct Frame {
 }
 
 impl Model for Frame {
-    ghost use Rattle.jc_world.specs.World as world;
+    ghost use Rattle.jc_machine_model.specs.World as world;
 
     ghost Value = { world.Frame };
 

@@ -2,8 +2,8 @@
 ghost use Rattle.std.specs.Prelude.{◌≡◌, ◌↔◌, ◌+◌, ◌<◌, ◌^◌, ◌%◌, [], ◌∷◌, ◌++◌, pos, length, replicate, slice_get, IsTrue, IsSome, IfSome, IfOk, IfNone, OnSome};
 ghost use Rattle.std.specs.Int.{w32, cast_signed};
 ghost use Rattle.jc_bytes.specs.Descriptor.{Long};
-ghost use Rattle.jc_world.specs.Heap.{has_room, array, throwable};
-ghost use Rattle.jc_world.specs.Arrays.{element_value};
+ghost use Rattle.jc_machine_model.specs.Heap.{has_room, array, throwable};
+ghost use Rattle.jc_machine_model.specs.Arrays.{element_value};
 ghost use Rattle.jc_store.specs.Values.{value_of};
 ghost use Rattle.jc_store.specs.Heaps.{element_type, TellsOf, HasFewElements, object_at, HasElement, HasIntElement, element_in, with_element_at};
 
@@ -32,7 +32,7 @@ pub struct Heap {
 
 impl Model for Heap {
     ghost use Rattle.std.specs.Prelude.{List};
-    ghost use Rattle.jc_world.specs.Heap as world;
+    ghost use Rattle.jc_machine_model.specs.Heap as world;
 
     ghost Value = { List world.HeapObject };
 

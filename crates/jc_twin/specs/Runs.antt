@@ -6,8 +6,8 @@ use Rattle.jc_programs.specs.declared.run_end.Entry.{Entry}
 use Rattle.jc_programs.specs.Entries.{AreEntries}
 use Rattle.jc_emit.specs.Marks.{Marks}
 use Rattle.jc_emit.specs.TwinProgram.{TwinProgram}
-use Rattle.jc_world.specs.Begin.{begin_case}
-use Rattle.jc_world.specs.Run.{run}
+use Rattle.jc_machine_model.specs.Begin.{begin_case}
+use Rattle.jc_machine_model.specs.Run.{run}
 use Rattle.jc_simulation.specs.Marking.{AreMarks}
 use Rattle.jc_simulation.specs.Kept.{row}
 use Rattle.jc_simulation.specs.Same.{Same}

@@ -1,7 +1,7 @@
 //! Runs of the plan on workers.
 ghost use Rattle.std.specs.Prelude.{◌≡◌, ◌≤◌, IfOk};
 ghost use Rattle.jc_programs.specs.Turns.{IsRunPlan};
-ghost use Rattle.jc_world.specs.Programs.{IsProgram};
+ghost use Rattle.jc_machine_model.specs.Programs.{IsProgram};
 ghost use Rattle.jc_machine.specs.Hits.{count_in, probe_counts};
 ghost use Rattle.jc_workers.specs.Cases.{HaveEntries};
 

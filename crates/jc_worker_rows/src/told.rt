@@ -3,7 +3,7 @@ ghost use Rattle.std.specs.Prelude.{◌≡◌, ◌<◌, ◌≤◌, ◌^◌, leng
 ghost use Rattle.jc_programs.specs.Probes.{counts_of};
 
 use jc_bytes::Memory;
-use jc_case_text::case_text;
+use jc_machine_text::case_text;
 use jc_programs::{CaseEnd, HitSet, Program};
 use std::alloc::{AllocError, Global};
 

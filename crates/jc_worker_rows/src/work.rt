@@ -1,7 +1,7 @@
 //! The program and the plan that workers run.
 ghost use Rattle.std.specs.Prelude.{◌≤◌, length, All, IsTrue, IfOk};
 ghost use Rattle.jc_programs.specs.Turns.{IsRunPlan};
-ghost use Rattle.jc_world.specs.Programs.{IsProgram};
+ghost use Rattle.jc_machine_model.specs.Programs.{IsProgram};
 ghost use Rattle.jc_workers.specs.Cases.{HaveEntries};
 ghost use Rattle.jc_worker_rows.specs.Begin.{Begin};
 

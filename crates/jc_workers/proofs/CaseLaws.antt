@@ -13,9 +13,9 @@ use Rattle.jc_programs.specs.declared.run_end.CaseEnd.{CaseEnd}
 use Rattle.jc_programs.specs.declared.run_end.Entry.{Entry}
 use Rattle.jc_programs.specs.Entries.{entry_of, AreEntries}
 use Rattle.jc_programs.specs.Turns.{IsCase, turns_of, turns_in}
-use Rattle.jc_world.specs.Begin.{begin, begin_case, entries_of}
-use Rattle.jc_world.specs.World.{World}
-use Rattle.jc_world.specs.Run.{run_from, run, case_hits}
+use Rattle.jc_machine_model.specs.Begin.{begin, begin_case, entries_of}
+use Rattle.jc_machine_model.specs.World.{World}
+use Rattle.jc_machine_model.specs.Run.{run_from, run, case_hits}
 use Rattle.jc_machine.specs.Machines.{Machine, world_of}
 use Rattle.jc_machine.proofs.FirstLaws.{as_many_entries, length-first_threads}
 use Rattle.jc_workers.specs.Ran.{HitsOf, AreEnds}

@@ -8,10 +8,10 @@ use Rattle.jc_programs.specs.declared.run_end.CaseEnd.{CaseEnd}
 use Rattle.jc_programs.specs.declared.run_end.Entry.{Entry}
 use Rattle.jc_programs.specs.Entries.{AreEntries}
 use Rattle.jc_programs.specs.Turns.{IsRunPlan, turns_in}
-use Rattle.jc_world.specs.Programs.{IsProgram}
-use Rattle.jc_world.specs.CaseEnds.{case_end}
-use Rattle.jc_world.specs.Begin.{entries_of}
-use Rattle.jc_world.specs.Run.{case_hits, IsHit}
+use Rattle.jc_machine_model.specs.Programs.{IsProgram}
+use Rattle.jc_machine_model.specs.CaseEnds.{case_end}
+use Rattle.jc_machine_model.specs.Begin.{entries_of}
+use Rattle.jc_machine_model.specs.Run.{case_hits, IsHit}
 
 -- each thread of each case begins with a method
 abbrev pub HaveEntries : Program → RunPlan → Type 0

@@ -1,8 +1,8 @@
 //! The cases of a plan, as workers run them on the machine.
 ghost use Rattle.std.specs.Prelude.{◌≡◌, ◌<◌, ◌^◌, All, IfOk, length, map};
 ghost use Rattle.jc_programs.specs.Turns.{IsRunPlan};
-ghost use Rattle.jc_world.specs.Programs.{IsProgram};
-ghost use Rattle.jc_world.specs.Begin.{entries_of};
+ghost use Rattle.jc_machine_model.specs.Programs.{IsProgram};
+ghost use Rattle.jc_machine_model.specs.Begin.{entries_of};
 ghost use Rattle.jc_workers.specs.Cases.{HaveEntries, IsRunnable};
 
 use crate::runner::CaseRunner;

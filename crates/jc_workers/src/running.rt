@@ -1,7 +1,7 @@
 //! The cases of a plan on workers.
 ghost use Rattle.std.specs.Prelude.{◌≡◌, ◌+◌, ◌*◌, ◌<◌, ◌≤◌, [], length, IfOk, vec_len};
 ghost use Rattle.jc_programs.specs.Turns.{IsRunPlan};
-ghost use Rattle.jc_world.specs.Programs.{IsProgram};
+ghost use Rattle.jc_machine_model.specs.Programs.{IsProgram};
 ghost use Rattle.jc_machine.specs.Hits.{probe_counts};
 ghost use Rattle.jc_workers.specs.Cases.{HaveEntries, IsRunnable, case_at, end_under, ends_under, HitBy, AreHits};
 ghost use Rattle.jc_workers.specs.Drawing.{AreTurns, AllDrew};

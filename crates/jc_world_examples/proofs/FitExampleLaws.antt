@@ -28,18 +28,18 @@ use Rattle.jc_kinds_after.specs.After.{after_of}
 use Rattle.jc_kinds.specs.States.{state_of}
 use Rattle.jc_kinds.specs.Checking.{verdict_of, passes}
 use Rattle.jc_kinds.proofs.CheckLaws.{passes_checked}
-use Rattle.jc_world.specs.Programs.{IsStatic, IsProgramBody, IsLinked, IsProgram}
-use Rattle.jc_world.specs.Fits.{FitsWorld}
-use Rattle.jc_world.specs.Run.{run}
-use Rattle.jc_world.specs.Values.{int, long}
-use Rattle.jc_world.specs.World.{running}
-use Rattle.jc_world.specs.Effects.{constant, moves_of, int_bits, int_pair, long_pair, long_shift, int_single, long_single, single, pair, effect}
-use Rattle.jc_world.specs.Profile.{operation_of}
-use Rattle.jc_world.specs.Jumps.{test_of}
-use Rattle.jc_world.specs.Perform.{perform}
-use Rattle.jc_world.specs.Step.{step}
-use Rattle.jc_world.specs.Begin.{begin}
-use Rattle.jc_world_laws.proofs.WorldLaws.{run_fits}
+use Rattle.jc_machine_model.specs.Programs.{IsStatic, IsProgramBody, IsLinked, IsProgram}
+use Rattle.jc_machine_model.specs.Fits.{FitsWorld}
+use Rattle.jc_machine_model.specs.Run.{run}
+use Rattle.jc_machine_model.specs.Values.{int, long}
+use Rattle.jc_machine_model.specs.World.{running}
+use Rattle.jc_machine_model.specs.Effects.{constant, moves_of, int_bits, int_pair, long_pair, long_shift, int_single, long_single, single, pair, effect}
+use Rattle.jc_machine_model.specs.Profile.{operation_of}
+use Rattle.jc_machine_model.specs.Jumps.{test_of}
+use Rattle.jc_machine_model.specs.Perform.{perform}
+use Rattle.jc_machine_model.specs.Step.{step}
+use Rattle.jc_machine_model.specs.Begin.{begin}
+use Rattle.jc_machine_laws.proofs.WorldLaws.{run_fits}
 use Rattle.jc_world_examples.specs.ProgramExamples.{abs, abs_program, inc, inc_program, x_use, c_name, inc_thread, case, probed_abs, probed_abs_program, init, init_use, use_at, a_name, one_thread, wide, wide_program, w_name}
 
 head_is : (x y : Insn) (xs ys : List Insn) → x ∷ xs ≡ y ∷ ys → x ≡ y

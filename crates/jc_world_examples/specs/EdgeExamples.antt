@@ -8,7 +8,7 @@ use Rattle.jc_programs.specs.declared.program.Program.{Program}
 use Rattle.jc_programs.specs.declared.run_plan.Case.{Case}
 use Rattle.jc_programs.specs.Turns.{turns_in}
 use Rattle.jc_plan.specs.ClassEdges.{ProgramEdge}
-use Rattle.jc_world.specs.Taken.{taken, reached}
+use Rattle.jc_machine_model.specs.Taken.{taken, reached}
 use Rattle.jc_world_examples.specs.ProgramExamples.{frame, method, class, program}
 
 -- an edge by numbers: of its class, its body, its instruction and its branch

@@ -13,11 +13,11 @@ use Rattle.jc_programs.specs.declared.program.Program.{Program}
 use Rattle.jc_programs.specs.declared.program.Linked.{Linked}
 use Rattle.jc_programs.specs.declared.run_end.Entry.{Entry}
 use Rattle.jc_programs.specs.declared.run_end.Thrown.TheVariants as thrown
-use Rattle.jc_world.specs.Values.{Value, int, long, null}
-use Rattle.jc_world.specs.Heap.{HeapObject, array, throwable}
-use Rattle.jc_world.specs.World.{Frame, Shared, Thread, running}
-use Rattle.jc_world.specs.Results.{Result, goes}
-use Rattle.jc_world.specs.Step.{After, result_of, turn_of}
+use Rattle.jc_machine_model.specs.Values.{Value, int, long, null}
+use Rattle.jc_machine_model.specs.Heap.{HeapObject, array, throwable}
+use Rattle.jc_machine_model.specs.World.{Frame, Shared, Thread, running}
+use Rattle.jc_machine_model.specs.Results.{Result, goes}
+use Rattle.jc_machine_model.specs.Step.{After, result_of, turn_of}
 use Rattle.jc_world_examples.specs.ProgramExamples.{use_at, method, static_field, class, program, probed_class}
 
 -- ---- a program around an instruction

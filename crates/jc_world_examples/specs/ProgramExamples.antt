@@ -19,7 +19,7 @@ use Rattle.jc_programs.specs.declared.run_plan.ThreadLine.{ThreadLine}
 use Rattle.jc_programs.specs.declared.run_plan.Schedule.{Schedule}
 use Rattle.jc_programs.specs.declared.run_plan.Schedule.TheVariants as schedules
 use Rattle.jc_programs.specs.declared.run_plan.Case.{Case}
-use Rattle.jc_world.specs.World.{Hit}
+use Rattle.jc_machine_model.specs.World.{Hit}
 
 -- ---- parts
 

@@ -1,11 +1,11 @@
 //! Programs that are well made, and the worlds of their runs, so that what is said of every program isn't said of none.
 ghost use Rattle.std.specs.Prelude.{◌≡◌, ℕ, pos, List, [], ◌∷◌, codes};
 ghost use Rattle.jc_programs.specs.declared.run_plan.Schedule.TheVariants as schedules;
-ghost use Rattle.jc_world.specs.Programs.{IsProgram};
-ghost use Rattle.jc_world.specs.Fits.{FitsWorld};
-ghost use Rattle.jc_world.specs.Run.{run};
-ghost use Rattle.jc_world.specs.Values.{int, long};
-ghost use Rattle.jc_world.specs.World.{running};
+ghost use Rattle.jc_machine_model.specs.Programs.{IsProgram};
+ghost use Rattle.jc_machine_model.specs.Fits.{FitsWorld};
+ghost use Rattle.jc_machine_model.specs.Run.{run};
+ghost use Rattle.jc_machine_model.specs.Values.{int, long};
+ghost use Rattle.jc_machine_model.specs.World.{running};
 ghost use Rattle.jc_world_examples.specs.ProgramExamples.{wide_program, w_name, abs_program, inc_program, probed_abs_program};
 ghost use Rattle.jc_world_examples.specs.ProgramExamples.{case, one_thread, a_name, inc_thread};
 

@@ -3,9 +3,9 @@ ghost use Rattle.std.specs.Prelude.{◌≡◌, pos, negsuc, true, false, [], ◌
 ghost use Rattle.jc_programs.specs.declared.run_plan.Schedule.TheVariants as schedules;
 ghost use Rattle.jc_programs.specs.Turns.{turns_of};
 ghost use Rattle.jc_programs.specs.Entries.{entry_of};
-ghost use Rattle.jc_world.specs.Run.{case_hits};
-ghost use Rattle.jc_world.specs.Heap.{has_room};
-ghost use Rattle.jc_world.specs.CaseText.{case_texts};
+ghost use Rattle.jc_machine_model.specs.Run.{case_hits};
+ghost use Rattle.jc_machine_model.specs.Heap.{has_room};
+ghost use Rattle.jc_machine_model.specs.CaseText.{case_texts};
 ghost use Rattle.jc_world_examples.specs.ProgramExamples.{case, one_thread, hit, thread, abs_program, probed_abs_program, a_name};
 ghost use Rattle.jc_world_examples.specs.ProgramExamples.{inc_program, probed_inc_program, inc_thread, r_program};
 ghost use Rattle.jc_world_examples.specs.ProgramExamples.{probed_r_program, r_name, div_program, m_name, g_program, g_name};

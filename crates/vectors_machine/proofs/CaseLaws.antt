@@ -6,8 +6,8 @@ use Rattle.jc_programs.specs.declared.run_plan.ThreadLine.{ThreadLine}
 use Rattle.jc_programs.specs.declared.run_end.Entry.{Entry}
 use Rattle.jc_programs.specs.Entries.{entry_of, AreEntries}
 use Rattle.jc_programs.specs.Turns.{AreThreads, IsCase}
-use Rattle.jc_world.specs.World.{World}
-use Rattle.jc_world.specs.Begin.{begin}
+use Rattle.jc_machine_model.specs.World.{World}
+use Rattle.jc_machine_model.specs.Begin.{begin}
 use Rattle.jc_machine.specs.Machines.{Machine, world_of}
 use Rattle.jc_machine.proofs.FirstLaws.{as_many_entries, length-first_threads}
 

@@ -3,13 +3,13 @@ ghost use Rattle.std.specs.Prelude.{◌≡◌, ◌≤◌, length, All, IfOk};
 ghost use Rattle.jc_programs.specs.Entries.{AreEntries};
 ghost use Rattle.jc_programs.specs.Probes.{counts_of};
 ghost use Rattle.jc_programs.specs.Turns.{AreThreads, IsCase, IsRunPlan};
-ghost use Rattle.jc_world.specs.Programs.{IsProgram};
+ghost use Rattle.jc_machine_model.specs.Programs.{IsProgram};
 ghost use Rattle.jc_machine.specs.Hits.{count_in, probe_counts};
 ghost use Rattle.jc_machine.specs.Machines.{Fits};
 
 use crate::stop::Stop;
-use jc_case_text::case_text;
 use jc_machine::{BitSink, World, entry};
+use jc_machine_text::case_text;
 use jc_programs::{Case, CaseEnd, Entry, ProbeInit, Program, RunPlan, ThreadLine};
 use std::alloc::{AllocError, Global};
 use std::str;

@@ -1,8 +1,8 @@
 use Rattle.std.proofs.Common.{◌≡◌, ◌∙◌, IfOk, ap, subst}
 use Rattle.jc_programs.specs.declared.run_end.CaseEnd.{CaseEnd}
 use Rattle.jc_programs.specs.Turns.{turns_in}
-use Rattle.jc_world.specs.CaseEnds.{case_end_in, case_end}
-use Rattle.jc_world.specs.CaseText.{case_text}
+use Rattle.jc_machine_model.specs.CaseEnds.{case_end_in, case_end}
+use Rattle.jc_machine_model.specs.CaseText.{case_text}
 use Rattle.jc_callers.proofs.CaseLaws.{whole_run}
 use Rattle.jc_callers.proofs.machine.text_of_case.Goals as goal
 

@@ -1,6 +1,6 @@
 use Rattle.std.proofs.Common.{take}
 use Rattle.std.specs.Prelude.{All}
-use Rattle.jc_world.specs.Programs.{IsLinked}
+use Rattle.jc_machine_model.specs.Programs.{IsLinked}
 use Rattle.jc_linking.specs.Linking.{AreLinkedClasses}
 use Rattle.jc_linking.proofs.linking.classes_of.Given as goal
 

@@ -1,6 +1,6 @@
 use Rattle.std.proofs.Common.{◌≡◌, Some, w64, to_z, of_z, rules, ◌∙◌, subst, sym}
 use Rattle.jc_methods.specs.DescriptorTypes.{field_type_in}
-use Rattle.jc_world.specs.Programs.{IsFirstOf}
+use Rattle.jc_machine_model.specs.Programs.{IsFirstOf}
 use Rattle.jc_methods.proofs.DescriptorTypesLaws.{field_again}
 use Rattle.jc_linking.proofs.FirstNumberLaws.{first_is}
 use Rattle.jc_linking.proofs.statics.first_number.Goals as goal

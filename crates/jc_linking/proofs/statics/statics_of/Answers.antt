@@ -1,5 +1,5 @@
 use Rattle.std.proofs.Common.{[], ◌∷◌, length, length-append, ap, arith}
-use Rattle.jc_world.specs.Programs.{IsStatic}
+use Rattle.jc_machine_model.specs.Programs.{IsStatic}
 use Rattle.jc_linking.proofs.FirstNumberLaws.{statics_more}
 use Rattle.jc_linking.proofs.SingleLaws.{all_put}
 use Rattle.jc_linking.proofs.statics.statics_of.Goals as goal

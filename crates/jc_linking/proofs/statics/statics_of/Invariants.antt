@@ -1,6 +1,6 @@
 use Rattle.std.proofs.Common.{◌≡◌, ◌≤◌, length, map}
 use Rattle.std.specs.Prelude.{All}
-use Rattle.jc_world.specs.Programs.{IsStatic}
+use Rattle.jc_machine_model.specs.Programs.{IsStatic}
 use Rattle.jc_linking.specs.Statics.{statics_among}
 use Rattle.jc_linking.proofs.statics.statics_of.Given as goal
 

@@ -1,5 +1,5 @@
 use Rattle.std.proofs.Common.{[], slice_index_or, sym, ap}
-use Rattle.jc_world.specs.CaseEnds.{number_of}
+use Rattle.jc_machine_model.specs.CaseEnds.{number_of}
 use Rattle.jc_machine.proofs.StaticEndLaws.{none_at}
 use Rattle.jc_machine.proofs.case_ends.number_at.Goals as goal
 

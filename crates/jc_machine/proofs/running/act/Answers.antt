@@ -1,7 +1,7 @@
 use Rattle.std.proofs.Common.{ℕ, subst}
 use Rattle.jc_programs.specs.declared.run_end.Entry.{Entry}
 use Rattle.jc_operations.specs.Shown.{Shows}
-use Rattle.jc_world.specs.Step.{located, operation_at}
+use Rattle.jc_machine_model.specs.Step.{located, operation_at}
 use Rattle.jc_machine.specs.Turned.{StandsBefore}
 use Rattle.jc_machine.proofs.TurnLaws.{alone_bounded, stands_well, switched}
 use Rattle.jc_machine.proofs.running.act.Goals as goal

@@ -1,6 +1,6 @@
 use Rattle.std.proofs.Common.{◌≡◌, length}
 use Rattle.jc_programs.specs.declared.program.Program.{Program}
-use Rattle.jc_world.specs.Profile.{Location}
+use Rattle.jc_machine_model.specs.Profile.{Location}
 use Rattle.jc_operations.specs.Prepared.{ShowsInsn}
 use Rattle.jc_operations.specs.Sites.{IsSite}
 use Rattle.jc_operations.proofs.CorrespondLaws.{BuiltTo}

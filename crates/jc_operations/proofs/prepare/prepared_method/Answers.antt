@@ -9,9 +9,9 @@ use Rattle.jc_methods.specs.DescriptorTypes.{method_type_in}
 use Rattle.jc_methods.specs.ValueTypes.{AllSay}
 use Rattle.jc_methods.proofs.DescriptorTypesLaws.{method_again}
 use Rattle.jc_programs.specs.declared.program.Linked.{Linked}
-use Rattle.jc_world.specs.Methods.{is_init_name, is_enterable, most_frame_slots}
-use Rattle.jc_world.specs.Profile.{Location}
-use Rattle.jc_world.specs.Values.{computational_type}
+use Rattle.jc_machine_model.specs.Methods.{is_init_name, is_enterable, most_frame_slots}
+use Rattle.jc_machine_model.specs.Profile.{Location}
+use Rattle.jc_machine_model.specs.Values.{computational_type}
 use Rattle.jc_operations.specs.Types.{return_narrowing}
 use Rattle.jc_operations.specs.Places.{AreWhats}
 use Rattle.jc_operations.specs.Prepared.{Correspond, ShowsInsn, IsRow}

@@ -1,7 +1,7 @@
 use Rattle.std.proofs.Common.{◌≡◌, Some, subst}
 use Rattle.jc_methods.specs.declared.body.What.{What}
 use Rattle.jc_methods.specs.declared.body.What.TheVariants as whats
-use Rattle.jc_world.specs.Profile.{class_operation}
+use Rattle.jc_machine_model.specs.Profile.{class_operation}
 use Rattle.jc_operations.specs.Shown.{Shows}
 use Rattle.jc_operations.proofs.site.operation_on.Goals as goal
 

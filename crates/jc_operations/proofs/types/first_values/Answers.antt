@@ -1,4 +1,4 @@
-use Rattle.jc_world.specs.Begin.{first_value}
+use Rattle.jc_machine_model.specs.Begin.{first_value}
 use Rattle.jc_operations.specs.Prepared.{value_of}
 use Rattle.jc_operations.proofs.TypeLaws.{IsFirstValue}
 use Rattle.jc_operations.proofs.CorrespondLaws.{same_map, built_all}

@@ -2,8 +2,8 @@ use Rattle.std.proofs.Common.{rules, List, Some, drop, ◌∙◌, ap, sym}
 use Rattle.std.specs.Int.{w32}
 use Rattle.std.specs.Prelude.{FitsSigned}
 use Rattle.std.proofs.lemmas.Int.{to_z-of_z}
-use Rattle.jc_world.specs.Values.{Value, int, probes}
-use Rattle.jc_world.specs.Arrays.{write_to, by_write}
+use Rattle.jc_machine_model.specs.Values.{Value, int, probes}
+use Rattle.jc_machine_model.specs.Arrays.{write_to, by_write}
 use Rattle.jc_operations.specs.Types.{element_types}
 use Rattle.jc_store.specs.Values.{value_of}
 use Rattle.jc_perform.proofs.StackLaws.{top_three}

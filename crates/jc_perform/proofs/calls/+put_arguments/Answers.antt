@@ -1,7 +1,7 @@
 use Rattle.std.proofs.Common.{rules, ◌-◌, List, Option, take, reverse, arith, ◌∙◌, ap}
-use Rattle.jc_world.specs.World.{Frame}
-use Rattle.jc_world.specs.Values.{Value}
-use Rattle.jc_world.specs.Calls.{spread_values}
+use Rattle.jc_machine_model.specs.World.{Frame}
+use Rattle.jc_machine_model.specs.Values.{Value}
+use Rattle.jc_machine_model.specs.Calls.{spread_values}
 use Rattle.jc_store.specs.Values.{value_of}
 use Rattle.jc_perform.specs.Parameters.{with_slots}
 use Rattle.jc_perform.proofs.CallLaws.{slots_left, slots_after}

@@ -1,9 +1,9 @@
 use Rattle.std.proofs.Common.{◌≡◌, ◌≤◌, List, Option, Some, None, length, replicate, take, reverse, arith, ◌∙◌, ap, sym, subst}
 use Rattle.jc_bytes.specs.Descriptor.{FieldType}
-use Rattle.jc_world.specs.World.{Frame}
-use Rattle.jc_world.specs.Values.{Value}
-use Rattle.jc_world.specs.Calls.{Arguments, taken_for, spread_values}
-use Rattle.jc_world.specs.Step.{new_frame}
+use Rattle.jc_machine_model.specs.World.{Frame}
+use Rattle.jc_machine_model.specs.Values.{Value}
+use Rattle.jc_machine_model.specs.Calls.{Arguments, taken_for, spread_values}
+use Rattle.jc_machine_model.specs.Step.{new_frame}
 use Rattle.jc_operations.specs.declared.operation.ComputationalType.{ComputationalType}
 use Rattle.jc_perform.specs.Parameters.{AreParameters, with_slots}
 use Rattle.jc_perform.proofs.CallLaws.{count_of_parameters, TakenFor, taken_is, locals_are}

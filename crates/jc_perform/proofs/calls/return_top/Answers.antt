@@ -1,8 +1,8 @@
 use Rattle.std.proofs.Common.{rules, ◌≡◌, Bool, true, List, Option, Some, None, refl, if◌then◌else◌, ◌∙◌, ap, sym}
 use Rattle.jc_bytes.specs.Descriptor.{FieldType, Int}
-use Rattle.jc_world.specs.Values.{Value, int, is_of, stored_as}
-use Rattle.jc_world.specs.Results.{Result, leaves, gets_stuck}
-use Rattle.jc_world.specs.Calls.{returned_as, by_return}
+use Rattle.jc_machine_model.specs.Values.{Value, int, is_of, stored_as}
+use Rattle.jc_machine_model.specs.Results.{Result, leaves, gets_stuck}
+use Rattle.jc_machine_model.specs.Calls.{returned_as, by_return}
 use Rattle.jc_effects.specs.declared.narrowing.Narrowing.{Narrowing}
 use Rattle.jc_effects.specs.Narrowings.{narrowing_of}
 use Rattle.jc_operations.specs.Types.{computational, return_narrowing}

@@ -1,8 +1,8 @@
 use Rattle.std.proofs.Common.{◌≡◌, List, ◌∷◌, ◌++◌, drop, slice_index_or, ◌∙◌, ap}
-use Rattle.jc_world.specs.World.{Frame}
-use Rattle.jc_world.specs.Values.{Value, null}
+use Rattle.jc_machine_model.specs.World.{Frame}
+use Rattle.jc_machine_model.specs.Values.{Value, null}
 use Rattle.jc_store.specs.Values.{value_of}
-use Rattle.jc_world.specs.Effects.{results_at}
+use Rattle.jc_machine_model.specs.Effects.{results_at}
 use Rattle.jc_perform.proofs.CallLaws.{behind}
 use Rattle.jc_perform.proofs.StackLaws.{got_or, moved_one}
 use Rattle.jc_perform.proofs.effects.+move_operands.Goals as goal

@@ -2,10 +2,10 @@ use Rattle.std.proofs.Common.{rules, ◌≡◌, ℤ, ◌∷◌, ◌∙◌, ap}
 use Rattle.std.specs.Int.{w32, w64, cast_signed, cast_unsigned}
 use Rattle.std.specs.Prelude.{FitsSigned}
 use Rattle.std.proofs.lemmas.Int.{to_z-of_z}
-use Rattle.jc_world.specs.Results.{goes_with}
-use Rattle.jc_world.specs.Values as values
-use Rattle.jc_world.specs.Operations as operations
-use Rattle.jc_world.specs.Perform.{perform}
+use Rattle.jc_machine_model.specs.Results.{goes_with}
+use Rattle.jc_machine_model.specs.Values as values
+use Rattle.jc_machine_model.specs.Operations as operations
+use Rattle.jc_machine_model.specs.Perform.{perform}
 use Rattle.jc_operations.specs.declared.operation.Operation.TheVariants as shows
 use Rattle.jc_operations.specs.Types.{computational}
 use Rattle.jc_perform.proofs.NextLaws.{comes, shown}

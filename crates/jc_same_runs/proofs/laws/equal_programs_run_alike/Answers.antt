@@ -1,8 +1,8 @@
 use Rattle.std.proofs.Common.{◌≡◌, List, ℕ, ap, sym, ◌∙◌}
 use Rattle.jc_programs.specs.declared.program.Program.{Program}
 use Rattle.jc_programs.specs.Entries.{entry_of}
-use Rattle.jc_world.specs.CaseText.{case_texts}
-use Rattle.jc_world.specs.Run.{run, hits_of}
+use Rattle.jc_machine_model.specs.CaseText.{case_texts}
+use Rattle.jc_machine_model.specs.Run.{run, hits_of}
 use Rattle.jc_same_runs.proofs.LookupLaws.{same_entry}
 use Rattle.jc_same_runs.proofs.StepLaws.{same_run}
 use Rattle.jc_same_runs.proofs.TextLaws.{same_texts, same_hits}

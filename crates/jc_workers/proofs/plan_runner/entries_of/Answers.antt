@@ -1,7 +1,7 @@
 use Rattle.std.proofs.Common.{◌++◌, take, List, [], ◌∷◌, Option, Some, None, append-nil, sym, ap, ◌∙◌}
 use Rattle.jc_programs.specs.declared.run_end.Entry.{Entry}
 use Rattle.jc_programs.specs.Entries.{entry_of}
-use Rattle.jc_world.specs.Begin.{entries_of}
+use Rattle.jc_machine_model.specs.Begin.{entries_of}
 use Rattle.jc_workers.proofs.CaseLaws.{entries_more}
 use Rattle.jc_workers.proofs.plan_runner.entries_of.Goals as goal
 use Rattle.jc_workers.proofs.plan_runner.entries_of.Goals.{in-Some+in_ok-push, in_default}

@@ -1,5 +1,5 @@
 use Rattle.std.proofs.Common.{◌≡◌, take}
-use Rattle.jc_world.specs.Begin.{entries_of}
+use Rattle.jc_machine_model.specs.Begin.{entries_of}
 use Rattle.jc_workers.proofs.plan_runner.entries_of.Given as goal
 
 abbrev pub invariant-entering : goal.invariant-entering

@@ -1,6 +1,6 @@
 use Rattle.std.proofs.Common.{ap, ◌∙◌, subst}
 use Rattle.jc_programs.specs.Entries.{AreEntries}
-use Rattle.jc_world.specs.Begin.{begin}
+use Rattle.jc_machine_model.specs.Begin.{begin}
 use Rattle.vectors_machine.proofs.CaseLaws.{begun_threads}
 use Rattle.vectors_machine.proofs.cases.run_next.Goals as goal
 

@@ -3,8 +3,8 @@ use Rattle.std.proofs.lemmas.List.{length-set}
 use Rattle.std.specs.Global.{Vec}
 use Rattle.jc_programs.specs.declared.run_end.Entry.{Entry}
 use Rattle.jc_operations.specs.Prepared.{IsPrepared}
-use Rattle.jc_world.specs.World.{Thread}
-use Rattle.jc_world.specs.Begin.{first_thread, first_threads}
+use Rattle.jc_machine_model.specs.World.{Thread}
+use Rattle.jc_machine_model.specs.Begin.{first_thread, first_threads}
 use Rattle.jc_machine.specs.declared.integral_fields.IntegralField.{IntegralField}
 use Rattle.jc_machine.specs.Threads.{thread_of, threads_of}
 use Rattle.jc_machine.specs.FirstThreads.{BeginsWith}

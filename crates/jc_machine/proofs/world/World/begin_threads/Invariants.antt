@@ -1,5 +1,5 @@
 use Rattle.std.proofs.Common.{◌≡◌, length, take}
-use Rattle.jc_world.specs.Begin.{first_threads}
+use Rattle.jc_machine_model.specs.Begin.{first_threads}
 use Rattle.jc_machine.specs.Threads.{threads_of}
 use Rattle.jc_machine.proofs.world.World.begin_threads.Given as goal
 

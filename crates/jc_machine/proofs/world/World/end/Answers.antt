@@ -1,6 +1,6 @@
 use Rattle.std.proofs.Common.{◌≡◌, ◌∙◌, rules, ap}
 use Rattle.std.proofs.lemmas.List.Elements.{same_from_all_zip}
-use Rattle.jc_world.specs.CaseEnds.{ends_in, static_ends}
+use Rattle.jc_machine_model.specs.CaseEnds.{ends_in, static_ends}
 use Rattle.jc_machine.specs.Machines.{Machine, world_of}
 use Rattle.jc_machine.specs.StaticEnds.{ends_at}
 use Rattle.jc_machine.proofs.StaticEndLaws.{ends_at-integral_fields}

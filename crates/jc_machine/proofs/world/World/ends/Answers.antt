@@ -1,5 +1,5 @@
 use Rattle.std.proofs.Common.{sym, ap, ◌∙◌}
-use Rattle.jc_world.specs.CaseEnds.{ends_in}
+use Rattle.jc_machine_model.specs.CaseEnds.{ends_in}
 use Rattle.jc_machine.specs.Machines.{Machine, world_of}
 use Rattle.jc_machine.proofs.MachineLaws.{ends_there}
 use Rattle.jc_machine.proofs.world.World.ends.Goals as goal

@@ -3,7 +3,7 @@ use Rattle.jc_programs.specs.declared.run_plan.ThreadLine.{ThreadLine}
 use Rattle.jc_operations.specs.declared.prepared.PreparedClass.{PreparedClass}
 use Rattle.jc_operations.specs.Prepared.{IsPrepared}
 use Rattle.jc_perform.specs.Contents.{first_shared}
-use Rattle.jc_world.specs.Begin.{first_threads}
+use Rattle.jc_machine_model.specs.Begin.{first_threads}
 use Rattle.jc_machine.specs.Machines.{Machine, Fits}
 use Rattle.jc_machine.specs.Kept.{machine_of}
 use Rattle.jc_machine.proofs.FirstLaws.{as_many_entries, length-first_threads}

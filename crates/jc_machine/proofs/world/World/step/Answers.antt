@@ -1,5 +1,5 @@
 use Rattle.std.proofs.Common.{◌≡◌, ◌<◌, length, arith, sym, ap, ◌∙◌, subst, refl}
-use Rattle.jc_world.specs.Step.{step}
+use Rattle.jc_machine_model.specs.Step.{step}
 use Rattle.jc_machine.specs.Machines.{Machine, world_of, Fits}
 use Rattle.jc_machine.specs.Kept.{machine_of}
 use Rattle.jc_machine.specs.Turned.{without_hits}

@@ -1,6 +1,6 @@
 use Rattle.std.proofs.Common.{ℕ, List, length, sym, ap, ◌∙◌, subst}
 use Rattle.jc_programs.specs.Probes.{InRange}
-use Rattle.jc_world.specs.World.{World}
+use Rattle.jc_machine_model.specs.World.{World}
 use Rattle.jc_machine.specs.Machines.{world_of}
 use Rattle.jc_machine.proofs.HitLaws.{step_threads}
 use Rattle.jc_machine.proofs.MachineLaws.{next_fits, hits_probes}

@@ -1,5 +1,5 @@
 use Rattle.std.proofs.Common.{sym, subst}
-use Rattle.jc_world.specs.Step.{operation_at, located}
+use Rattle.jc_machine_model.specs.Step.{operation_at, located}
 use Rattle.jc_operations.specs.declared.operation.Operation.{Operation}
 use Rattle.jc_operations.specs.Shown.{Shows}
 use Rattle.jc_operations.proofs.PrepareLaws.{shows_at}

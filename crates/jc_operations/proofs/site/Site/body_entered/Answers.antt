@@ -3,8 +3,8 @@ use Rattle.std.specs.List.{slice_get}
 use Rattle.jc_methods.specs.declared.body.Body.{Body}
 use Rattle.jc_methods.specs.DescriptorTypes.{method_type_in}
 use Rattle.jc_programs.specs.declared.program.Linked.{Linked}
-use Rattle.jc_world.specs.Methods.{is_enterable, most_frame_slots}
-use Rattle.jc_world.specs.Profile.{may_name_method}
+use Rattle.jc_machine_model.specs.Methods.{is_enterable, most_frame_slots}
+use Rattle.jc_machine_model.specs.Profile.{may_name_method}
 use Rattle.jc_operations.proofs.SiteLaws.{got, entered, not_entered}
 use Rattle.jc_operations.proofs.site.Site.body_entered.Goals as goal
 use Rattle.jc_operations.proofs.site.Site.body_entered.Goals.{else-is_enterable-via-then-is_enterable+else-may_name_method, else-is_enterable-via-else-is_enterable}

@@ -1,5 +1,5 @@
 use Rattle.std.proofs.Common.{ℕ, Option, sym, subst}
-use Rattle.jc_world.specs.Profile.{declared_field, linked_field}
+use Rattle.jc_machine_model.specs.Profile.{declared_field, linked_field}
 use Rattle.jc_operations.specs.Shown.{Shows}
 use Rattle.jc_operations.proofs.site.Site.linked_field.Goals as goal
 

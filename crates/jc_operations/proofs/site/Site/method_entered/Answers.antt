@@ -1,7 +1,7 @@
 use Rattle.std.proofs.Common.{Option, sym, subst}
 use Rattle.jc_programs.specs.declared.program.Linked.{Linked}
 use Rattle.jc_programs.specs.declared.run_end.Entry.{Entry}
-use Rattle.jc_world.specs.Profile.{class_entered, method_entered}
+use Rattle.jc_machine_model.specs.Profile.{class_entered, method_entered}
 use Rattle.jc_operations.specs.Shown.{Shows}
 use Rattle.jc_operations.proofs.site.Site.method_entered.Goals as goal
 

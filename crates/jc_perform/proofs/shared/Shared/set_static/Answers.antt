@@ -1,6 +1,6 @@
 use Rattle.std.proofs.Common.{rules, ◌<◌, length, slice_set, ◌∙◌, ap}
-use Rattle.jc_world.specs.World as world
-use Rattle.jc_world.specs.Statics.{with_static}
+use Rattle.jc_machine_model.specs.World as world
+use Rattle.jc_machine_model.specs.Statics.{with_static}
 use Rattle.jc_store.specs.Values.{value_of}
 use Rattle.jc_perform.specs.Contents.{shared_of}
 use Rattle.jc_perform.proofs.SharedLaws.{static_set}

@@ -1,5 +1,5 @@
 use Rattle.std.proofs.Common.{map, take, drop, reverse, ◌∙◌, ap}
-use Rattle.jc_world.specs.World.{Frame}
+use Rattle.jc_machine_model.specs.World.{Frame}
 use Rattle.jc_store.specs.Cells.{held, on_stack}
 use Rattle.jc_store.proofs.FrameLaws.{frame_with, cut}
 use Rattle.jc_store.proofs.frame.Frame.cut.Goals as goal

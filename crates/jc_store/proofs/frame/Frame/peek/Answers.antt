@@ -1,5 +1,5 @@
 use Rattle.std.proofs.Common.{◌+◌, ◌-◌, Some, slice_get, ◌∙◌, ap}
-use Rattle.jc_world.specs.World.{Frame}
+use Rattle.jc_machine_model.specs.World.{Frame}
 use Rattle.jc_store.specs.Cells.{on_stack}
 use Rattle.jc_store.proofs.FrameLaws.{peeked}
 use Rattle.jc_store.proofs.frame.Frame.peek.Goals as goal

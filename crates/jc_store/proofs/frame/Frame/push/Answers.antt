@@ -1,5 +1,5 @@
 use Rattle.std.proofs.Common.{◌≡◌, ◌+◌, List, ◌∷◌, length, refl, arith, slice_set, ◌∙◌, ap, sym}
-use Rattle.jc_world.specs.World.{Frame}
+use Rattle.jc_machine_model.specs.World.{Frame}
 use Rattle.jc_store.specs.declared.cell.Cell.{Cell}
 use Rattle.jc_store.specs.Cells.{on_stack}
 use Rattle.jc_store.proofs.FrameLaws.{pushed, height_is, locals_is}

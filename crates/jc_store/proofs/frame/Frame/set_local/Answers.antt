@@ -1,6 +1,6 @@
 use Rattle.std.proofs.Common.{List, Option, refl, slice_set, ◌∙◌, ap}
-use Rattle.jc_world.specs.World.{Frame}
-use Rattle.jc_world.specs.Values.{Value}
+use Rattle.jc_machine_model.specs.World.{Frame}
+use Rattle.jc_machine_model.specs.Values.{Value}
 use Rattle.jc_store.specs.declared.cell.Cell.{Cell}
 use Rattle.jc_store.specs.Cells.{held}
 use Rattle.jc_store.proofs.FrameLaws.{local_set}

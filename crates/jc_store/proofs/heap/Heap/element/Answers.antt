@@ -1,9 +1,9 @@
 use Rattle.std.proofs.Common.{rules, ◌≡◌, ◌+◌, ◌%◌, ◌^◌, Fits, ℕ, List, [], map, slice_index_or, ◌∙◌, ap, sym, subst}
 use Rattle.std.specs.Int.{w32, w64}
 use Rattle.jc_bytes.specs.Descriptor.{FieldType}
-use Rattle.jc_world.specs.Values.{int, long}
-use Rattle.jc_world.specs.Arrays.{element_value}
-use Rattle.jc_world.specs.Heap.{HeapObject}
+use Rattle.jc_machine_model.specs.Values.{int, long}
+use Rattle.jc_machine_model.specs.Arrays.{element_value}
+use Rattle.jc_machine_model.specs.Heap.{HeapObject}
 use Rattle.jc_store.specs.Heaps.{element_type, HasElement, object_of, object_at, element_in}
 use Rattle.jc_store.proofs.HeapLaws.{words_is, object_is, mod_fits, same_number, long_element, int_element_value}
 use Rattle.jc_store.proofs.heap.Heap.element.Goals as goal

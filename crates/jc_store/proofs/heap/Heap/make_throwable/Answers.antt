@@ -1,7 +1,7 @@
 use Rattle.std.proofs.Common.{◌≡◌, ◌+◌, List, [], ◌∷◌, ◌++◌, IsTrue, length, refl, ◌∙◌, ap, sym, subst}
 use Rattle.std.proofs.lemmas.List.{length-map}
 use Rattle.jc_region.specs.Blocks.{Blocks, words_in, with_block, with_word}
-use Rattle.jc_world.specs.Heap.{HeapObject, throwable, has_room}
+use Rattle.jc_machine_model.specs.Heap.{HeapObject, throwable, has_room}
 use Rattle.jc_store.specs.Heaps.{object_of}
 use Rattle.jc_store.proofs.HeapLaws.{Makes, throwable_made, full, roomy, live_made, first_set, is_none_some}
 use Rattle.jc_store.proofs.heap.Heap.make_throwable.Goals as goal

@@ -1,7 +1,7 @@
 use Rattle.std.proofs.Common.{◌≡◌, ◌-◌, List, Some, slice_get, slice_index_or, arith, ◌∙◌, ap, sym, subst}
 use Rattle.jc_programs.specs.declared.run_end.Thrown.TheVariants.{Throwable}
 use Rattle.jc_programs.specs.Throwables.{throwables}
-use Rattle.jc_world.specs.Heap.{HeapObject, throwable}
+use Rattle.jc_machine_model.specs.Heap.{HeapObject, throwable}
 use Rattle.jc_store.specs.declared.heap.HeapObject.TheVariants as tolds
 use Rattle.jc_store.specs.Heaps.{class_in, TellsOf}
 use Rattle.jc_store.proofs.HeapLaws.{block_some, tells_array, tells_throwable}

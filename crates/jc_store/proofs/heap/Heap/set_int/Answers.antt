@@ -1,7 +1,7 @@
 use Rattle.std.proofs.Common.{◌%◌, ◌^◌, List, ◌∙◌, ap, sym, subst}
 use Rattle.std.specs.Int.{w32, cast_signed, cast_unsigned}
 use Rattle.std.proofs.lemmas.Int.{to_z-of_z}
-use Rattle.jc_world.specs.Heap.{HeapObject}
+use Rattle.jc_machine_model.specs.Heap.{HeapObject}
 use Rattle.jc_store.specs.Heaps.{HasIntElement, objects_of, object_at, with_element_at}
 use Rattle.jc_store.proofs.HeapLaws.{Sets, sets, int_element, int_back}
 use Rattle.jc_store.proofs.heap.Heap.set_int.Goals as goal

@@ -4,9 +4,9 @@ use Rattle.jc_programs.specs.declared.run_plan.Case.{Case}
 use Rattle.jc_programs.specs.declared.run_end.CaseEnd.{CaseEnd}
 use Rattle.jc_programs.specs.Entries.{AreEntries}
 use Rattle.jc_programs.specs.Turns.{AreThreads, turns_of, turns_in}
-use Rattle.jc_world.specs.World.{World}
-use Rattle.jc_world.specs.Run.{run_from, run}
-use Rattle.jc_world.specs.CaseEnds.{case_end_in}
+use Rattle.jc_machine_model.specs.World.{World}
+use Rattle.jc_machine_model.specs.Run.{run_from, run}
+use Rattle.jc_machine_model.specs.CaseEnds.{case_end_in}
 use Rattle.jc_machine.specs.Machines.{world_of}
 use Rattle.jc_workers.specs.Cases.{case_at, no_case, end_under}
 use Rattle.jc_workers.proofs.CaseLaws.{read, is_case, entries_at, as_many_threads, run_of, each_ok}

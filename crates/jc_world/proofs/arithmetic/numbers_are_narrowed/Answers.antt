@@ -1,8 +1,0 @@
-use Rattle.jc_world.proofs.ArithmeticLaws.{narrows, converts}
-use Rattle.jc_world.proofs.arithmetic.numbers_are_narrowed.Goals as goal
-
-pub returns-clause-stored : goal.returns-clause-stored
-returns-clause-stored c = narrows
-
-pub returns-clause-converted : goal.returns-clause-converted
-returns-clause-converted c = converts

@@ -1,8 +1,0 @@
-use Rattle.jc_world.proofs.ArithmeticLaws.{ints_shift, longs_shift}
-use Rattle.jc_world.proofs.arithmetic.shift_counts_are_masked.Goals as goal
-
-pub returns-clause-ints : goal.returns-clause-ints
-returns-clause-ints c = ints_shift
-
-pub returns-clause-longs : goal.returns-clause-longs
-returns-clause-longs c = longs_shift

@@ -1,8 +1,0 @@
-use Rattle.jc_world.proofs.ArithmeticLaws.{ints_wrap, longs_wrap}
-use Rattle.jc_world.proofs.arithmetic.sums_wrap_around.Goals as goal
-
-pub returns-clause-ints : goal.returns-clause-ints
-returns-clause-ints c = ints_wrap
-
-pub returns-clause-longs : goal.returns-clause-longs
-returns-clause-longs c = longs_wrap

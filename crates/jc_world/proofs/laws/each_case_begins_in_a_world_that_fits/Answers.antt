@@ -1,5 +1,0 @@
-use Rattle.jc_world.proofs.BeginLaws.{begin_fits}
-use Rattle.jc_world.proofs.laws.each_case_begins_in_a_world_that_fits.Goals as goal
-
-pub returns : goal.returns
-returns c = begin_fits

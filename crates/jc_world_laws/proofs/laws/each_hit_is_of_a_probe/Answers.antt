@@ -1,5 +1,0 @@
-use Rattle.jc_world_laws.proofs.WorldLaws.{step_hits}
-use Rattle.jc_world_laws.proofs.laws.each_hit_is_of_a_probe.Goals as goal
-
-pub returns : goal.returns
-returns c = step_hits

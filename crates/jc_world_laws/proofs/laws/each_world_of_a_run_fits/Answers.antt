@@ -1,5 +1,0 @@
-use Rattle.jc_world_laws.proofs.WorldLaws.{run_fits}
-use Rattle.jc_world_laws.proofs.laws.each_world_of_a_run_fits.Goals as goal
-
-pub returns : goal.returns
-returns c = run_fits

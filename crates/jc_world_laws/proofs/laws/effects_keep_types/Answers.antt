@@ -1,5 +1,0 @@
-use Rattle.jc_world_laws.proofs.EffectLaws.{effects_fit}
-use Rattle.jc_world_laws.proofs.laws.effects_keep_types.Goals as goal
-
-pub returns : goal.returns
-returns c = effects_fit
