@@ -6,7 +6,7 @@ ghost use Rattle.jc_bytes.specs.Descriptor.{FieldType, IsFieldDescriptor};
 ghost use Rattle.jc_methods.specs.DescriptorTypes.{field_type_in};
 ghost use Rattle.jc_methods.specs.ValueTypes.{Says};
 ghost use Rattle.jc_machine_model.specs.Programs.{IsFirstOf, IsStatic};
-ghost use Rattle.jc_effects.specs.Narrowings.{narrowing_of};
+ghost use Rattle.jc_machine_numbers.specs.Narrowings.{narrowing_of};
 ghost use Rattle.jc_programs.specs.Narrowing.{narrowed};
 ghost use Rattle.jc_body.specs.Attributes.{bodies_of, has_name};
 ghost use Rattle.jc_class.specs.ClassFormat.{HasText, HasFieldDescriptor};
@@ -15,7 +15,7 @@ ghost use Rattle.jc_linking.specs.Statics.{as_static, constant_place, first_numb
 
 use jc_bytes::{Bytes, List, Memory};
 use jc_class::{Attribute, ClassFile, Member};
-use jc_effects::Narrowing;
+use jc_machine_numbers::Narrowing;
 use jc_methods::{ValueType, field_type};
 use jc_pool::{ConstText, Pool};
 use jc_programs::StaticField;

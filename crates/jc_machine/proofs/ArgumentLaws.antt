@@ -4,9 +4,9 @@ use Rattle.std.proofs.Common.{sym, ap, ◌∙◌, arith, slice_get, slice_set, l
 use Rattle.std.specs.Option.{option_map}
 use Rattle.std.proofs.lemmas.List.{length-map, set_at, at_drop_all}
 use Rattle.jc_bytes.specs.Descriptor.{FieldType}
-use Rattle.jc_operations.specs.declared.operation.ComputationalType.{ComputationalType}
-use Rattle.jc_operations.specs.Types.{computational}
-use Rattle.jc_perform.specs.Parameters.{AreParameters}
+use Rattle.jc_machine_code.specs.declared.operation.ComputationalType.{ComputationalType}
+use Rattle.jc_machine_code.specs.Types.{computational}
+use Rattle.jc_machine_turn.specs.Parameters.{AreParameters}
 use Rattle.jc_programs.specs.Entries.{is_argument, are_arguments}
 use Rattle.jc_machine_model.specs.Values as values
 use Rattle.jc_machine_model.specs.Values.{Value, int, long, is_pair, computational_type, long_type}

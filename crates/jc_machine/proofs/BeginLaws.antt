@@ -6,11 +6,11 @@ use Rattle.jc_programs.specs.declared.program.Linked.{Linked}
 use Rattle.jc_programs.specs.declared.run_plan.Case.{Case}
 use Rattle.jc_programs.specs.declared.run_end.Entry.{Entry}
 use Rattle.jc_programs.specs.Entries.{AreEntries}
-use Rattle.jc_operations.specs.declared.prepared.PreparedClass.{PreparedClass}
-use Rattle.jc_operations.specs.declared.prepared.PreparedProgram.{PreparedProgram}
-use Rattle.jc_operations.specs.Prepared.{IsPrepared, value_of}
-use Rattle.jc_operations.proofs.PrepareLaws.{statics_are}
-use Rattle.jc_perform.specs.Contents as contents
+use Rattle.jc_machine_code.specs.declared.prepared.PreparedClass.{PreparedClass}
+use Rattle.jc_machine_code.specs.declared.prepared.PreparedProgram.{PreparedProgram}
+use Rattle.jc_machine_code.specs.Prepared.{IsPrepared, value_of}
+use Rattle.jc_machine_code.proofs.PrepareLaws.{statics_are}
+use Rattle.jc_machine_turn.specs.Contents as contents
 use Rattle.jc_machine_model.specs.Programs.{IsProgram}
 use Rattle.jc_machine_model.specs.Values.{Value}
 use Rattle.jc_machine_model.specs.Begin.{begin, first_threads, first_shared, first_value}

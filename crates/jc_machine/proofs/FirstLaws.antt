@@ -15,9 +15,9 @@ use Rattle.jc_programs.specs.declared.run_plan.ThreadLine.{ThreadLine}
 use Rattle.jc_programs.specs.declared.run_end.Entry.{Entry}
 use Rattle.jc_programs.specs.Members.{class_at, class_named, body_of}
 use Rattle.jc_programs.specs.Entries.{is_entry, entry_in, entry_of, are_arguments, AreEntries}
-use Rattle.jc_operations.specs.declared.prepared.PreparedMethod.{PreparedMethod}
-use Rattle.jc_operations.specs.declared.prepared.PreparedProgram.{PreparedProgram}
-use Rattle.jc_operations.specs.Prepared.{IsMethodOf, IsPrepared}
+use Rattle.jc_machine_code.specs.declared.prepared.PreparedMethod.{PreparedMethod}
+use Rattle.jc_machine_code.specs.declared.prepared.PreparedProgram.{PreparedProgram}
+use Rattle.jc_machine_code.specs.Prepared.{IsMethodOf, IsPrepared}
 use Rattle.jc_machine_model.specs.Programs.{IsProgram}
 use Rattle.jc_machine_model.specs.Values.{Value}
 use Rattle.jc_machine_model.specs.World.{running, stuck}

@@ -7,7 +7,7 @@ use Rattle.std.proofs.Math.Seq.{take-set-lt}
 use Rattle.jc_programs.specs.declared.program.Program.{Program}
 use Rattle.jc_programs.specs.declared.run_end.End.{End}
 use Rattle.jc_programs.specs.declared.run_end.End.TheVariants as ends
-use Rattle.jc_operations.specs.Prepared.{IsPrepared}
+use Rattle.jc_machine_code.specs.Prepared.{IsPrepared}
 use Rattle.std.proofs.lemmas.Option.{slice_get-get_or}
 use Rattle.jc_machine_model.specs.Programs.{IsProgram}
 use Rattle.jc_machine_model.specs.World.{Thread, running, Shared, Hit, World}

@@ -12,13 +12,13 @@ use Rattle.jc_plan.specs.Chosen.{key_target}
 use Rattle.jc_programs.specs.declared.program.Program.{Program}
 use Rattle.jc_programs.specs.declared.run_end.Entry.{Entry}
 use Rattle.jc_programs.specs.Members.{body_of}
-use Rattle.jc_operations.specs.declared.operation.Operation as shown
-use Rattle.jc_operations.specs.Invoked.{GoesByKey, IsSwitch}
-use Rattle.jc_operations.proofs.InvokedLaws.{invoked_at, switches}
-use Rattle.jc_operations.specs.declared.prepared.PreparedMethod.{PreparedMethod}
-use Rattle.jc_operations.specs.Shown.{Shows}
-use Rattle.jc_operations.specs.Prepared.{IsMethodOf}
-use Rattle.jc_perform.specs.Parameters.{AreParameters}
+use Rattle.jc_machine_code.specs.declared.operation.Operation as shown
+use Rattle.jc_machine_code.specs.Invoked.{GoesByKey, IsSwitch}
+use Rattle.jc_machine_code.proofs.InvokedLaws.{invoked_at, switches}
+use Rattle.jc_machine_code.specs.declared.prepared.PreparedMethod.{PreparedMethod}
+use Rattle.jc_machine_code.specs.Shown.{Shows}
+use Rattle.jc_machine_code.specs.Prepared.{IsMethodOf}
+use Rattle.jc_machine_turn.specs.Parameters.{AreParameters}
 use Rattle.jc_machine_model.specs.Programs.{IsProgram}
 use Rattle.jc_machine_model.specs.World.{Frame, running, Shared}
 use Rattle.jc_machine_model.specs.Calls.{Arguments, taken_for, spread_values, locals_for}

@@ -3,10 +3,10 @@ use Rattle.std.specs.Prelude.{◌≡◌, ⊤, ℕ, ℤ, if◌then◌else◌, ◌
 use Rattle.jc_bytes.specs.Descriptor.{FieldType}
 use Rattle.jc_methods.specs.declared.body.Body.{Body}
 use Rattle.jc_methods.specs.DescriptorTypes.{method_type_in}
-use Rattle.jc_operations.specs.declared.operation.ComputationalType.{ComputationalType}
-use Rattle.jc_operations.specs.declared.prepared.PreparedProgram.{PreparedProgram}
-use Rattle.jc_operations.specs.Prepared.{IsPrepared}
-use Rattle.jc_perform.specs.Parameters.{AreParameters}
+use Rattle.jc_machine_code.specs.declared.operation.ComputationalType.{ComputationalType}
+use Rattle.jc_machine_code.specs.declared.prepared.PreparedProgram.{PreparedProgram}
+use Rattle.jc_machine_code.specs.Prepared.{IsPrepared}
+use Rattle.jc_machine_turn.specs.Parameters.{AreParameters}
 use Rattle.jc_programs.specs.declared.program.Program.{Program}
 use Rattle.jc_programs.specs.declared.run_end.Entry.{Entry}
 use Rattle.jc_programs.specs.Members.{body_of}

@@ -1,7 +1,7 @@
 -- The world of a case as the machine keeps it.
 use Rattle.std.specs.Prelude.{◌≡◌, List, []}
-use Rattle.jc_operations.specs.declared.prepared.PreparedProgram.{PreparedProgram}
-use Rattle.jc_operations.specs.Prepared.{IsPrepared}
+use Rattle.jc_machine_code.specs.declared.prepared.PreparedProgram.{PreparedProgram}
+use Rattle.jc_machine_code.specs.Prepared.{IsPrepared}
 use Rattle.jc_programs.specs.declared.program.Program.{Program}
 use Rattle.jc_machine_model.specs.World.{Thread, Shared, World}
 use Rattle.jc_machine_model.specs.Fits.{FitsWorld}

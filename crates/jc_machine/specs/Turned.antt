@@ -14,7 +14,7 @@ use Rattle.jc_machine_model.specs.Fits.{FitsThread}
 use Rattle.jc_machine.specs.declared.thread_turn.ProbeHit.{ProbeHit}
 use Rattle.jc_machine.specs.declared.thread_turn.ThreadTurn.{ThreadTurn}
 use Rattle.jc_machine.specs.declared.throwing.Throwable.{Throwable}
-use Rattle.jc_store.specs.Values.{value_of}
+use Rattle.jc_machine_memory.specs.Values.{value_of}
 use Rattle.jc_machine.specs.Threads.{ThreadFrames, thread_of}
 
 -- ---- worlds

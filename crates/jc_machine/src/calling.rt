@@ -3,11 +3,11 @@ ghost use Rattle.std.specs.Prelude.{◌≡◌, ◌∷◌, ◌≤◌, ℕ, length
 ghost use Rattle.std.specs.List.{AllByRecursion};
 ghost use Rattle.jc_programs.specs.declared.program.Program.{Program as ProgramSeen};
 ghost use Rattle.jc_programs.specs.Members.{body_of};
-ghost use Rattle.jc_operations.specs.Prepared.{IsPrepared};
+ghost use Rattle.jc_machine_code.specs.Prepared.{IsPrepared};
 ghost use Rattle.jc_machine_model.specs.World.{Shared as SharedSeen};
 ghost use Rattle.jc_machine_model.specs.Programs.{IsProgram};
 ghost use Rattle.jc_machine_model.specs.Step.{after, after_result, left, counted_frames, overflows};
-ghost use Rattle.jc_store.specs.Values.{value_of};
+ghost use Rattle.jc_machine_memory.specs.Values.{value_of};
 ghost use Rattle.jc_machine.specs.Room.{IsBounded, AreBounded};
 ghost use Rattle.jc_machine.specs.Turned.{after_of, call_of, FitsAfter};
 
@@ -15,10 +15,10 @@ use crate::seen::seen;
 use crate::thread_stack::ThreadStack;
 use crate::thread_turn::ThreadTurn;
 use crate::throwing::raise;
-use jc_operations::PreparedProgram;
-use jc_perform::Shared;
+use jc_machine_code::PreparedProgram;
+use jc_machine_memory::Value;
+use jc_machine_turn::Shared;
 use jc_programs::{End, Entry, Program, Thrown};
-use jc_store::Value;
 
 /// Leaves the frame on top, with a value or without.
 pub fn leave(frames: &mut ThreadStack, value: Option<Value>) -> ThreadTurn

@@ -3,7 +3,7 @@ ghost use Rattle.std.specs.Prelude.{◌≡◌, ◌<◌, ◌≤◌, [], length, s
 ghost use Rattle.jc_programs.specs.declared.program.Program.{Program};
 ghost use Rattle.jc_machine_model.specs.Values.{null, seen_value};
 ghost use Rattle.jc_machine_model.specs.CaseEnds.{number_of, ends_in, case_end_in};
-ghost use Rattle.jc_store.specs.Values.{value_of};
+ghost use Rattle.jc_machine_memory.specs.Values.{value_of};
 ghost use Rattle.jc_machine.specs.StaticEnds.{value_at, ends_at};
 ghost use Rattle.jc_machine.specs.Machines.{world_of, Fits};
 
@@ -11,10 +11,10 @@ use crate::integral_fields::IntegralField;
 use crate::seen::seen;
 use crate::world::World;
 use jc_bytes::{Bytes, List, Memory};
-use jc_perform::Shared;
+use jc_machine_memory::Value;
+use jc_machine_turn::Shared;
 use jc_programs as outside;
 use jc_programs::{CaseEnd, End, StaticEnd};
-use jc_store::Value;
 use std::alloc::Global;
 
 /// The number that a value is; 0 for a reference.

@@ -3,19 +3,19 @@ ghost use Rattle.std.specs.Prelude.{◌≡◌, ◌≤◌, List, true, length, re
 ghost use Rattle.jc_bytes.specs.Descriptor.{FieldType};
 ghost use Rattle.jc_programs.specs.declared.program.Program.{Program};
 ghost use Rattle.jc_programs.specs.Entries.{is_argument};
-ghost use Rattle.jc_operations.specs.Types.{computational};
-ghost use Rattle.jc_perform.specs.Parameters.{AreParameters};
+ghost use Rattle.jc_machine_code.specs.Types.{computational};
+ghost use Rattle.jc_machine_turn.specs.Parameters.{AreParameters};
 ghost use Rattle.jc_machine_model.specs.Values.{computational_type};
 ghost use Rattle.jc_machine_model.specs.Calls.{spread_values};
-ghost use Rattle.jc_store.specs.Values.{value_of};
+ghost use Rattle.jc_machine_memory.specs.Values.{value_of};
 ghost use Rattle.jc_machine_model.specs.Begin.{number_value, argument_values, first_thread};
 ghost use Rattle.jc_machine.specs.Threads.{thread_of};
 ghost use Rattle.jc_machine.specs.FirstThreads.{width, with_arguments, FitParameters, BeginsWith};
 
 use crate::thread_stack::ThreadStack;
-use jc_operations::{ComputationalType, PreparedProgram};
+use jc_machine_code::{ComputationalType, PreparedProgram};
+use jc_machine_memory::Value;
 use jc_programs::{End, Entry};
-use jc_store::Value;
 
 /// A number as a value of a parameter's type.
 fn argument(parameter: Option<ComputationalType>, number: &i64) -> Value

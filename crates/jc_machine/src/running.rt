@@ -1,7 +1,7 @@
 //! The turn of a thread that runs (JVM Specification 2.11).
 ghost use Rattle.std.specs.Prelude.{◌≡◌, None, MatchOption};
-ghost use Rattle.jc_operations.specs.Prepared.{IsPrepared};
-ghost use Rattle.jc_perform.specs.Nexts.{ComesTo, KeepsFrame, KeepsShared};
+ghost use Rattle.jc_machine_code.specs.Prepared.{IsPrepared};
+ghost use Rattle.jc_machine_turn.specs.Nexts.{ComesTo, KeepsFrame, KeepsShared};
 ghost use Rattle.jc_machine_model.specs.World.{running};
 ghost use Rattle.jc_machine_model.specs.Programs.{IsProgram};
 ghost use Rattle.jc_machine_model.specs.Fits.{FitsWorld};
@@ -12,9 +12,9 @@ use crate::calling::{call, leave};
 use crate::thread_stack::ThreadStack;
 use crate::thread_turn::{ProbeHit, ThreadTurn};
 use crate::throwing::{Throwable, raise, throw};
+use jc_machine_code::PreparedProgram;
+use jc_machine_turn::{Next, Shared};
 use jc_methods::Insn;
-use jc_operations::PreparedProgram;
-use jc_perform::{Next, Shared};
 use jc_programs::{End, Entry, Program};
 
 /// The instruction at a place of a method, if there is one.

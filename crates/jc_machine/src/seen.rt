@@ -1,10 +1,10 @@
 //! Values as they are seen from outside.
 ghost use Rattle.std.specs.Prelude.{◌≡◌};
 ghost use Rattle.jc_machine_model.specs.Values.{seen_value};
-ghost use Rattle.jc_store.specs.Values.{value_of};
+ghost use Rattle.jc_machine_memory.specs.Values.{value_of};
 
+use jc_machine_memory::Value;
 use jc_programs as outside;
-use jc_store::Value;
 
 /// What is seen of a value from outside.
 pub fn seen(value: Value) -> outside::Value

@@ -2,18 +2,18 @@
 ghost use Rattle.std.specs.Prelude.{◌≡◌, ◌∷◌};
 ghost use Rattle.std.specs.List.{AllByRecursion};
 ghost use Rattle.jc_programs.specs.declared.program.Program.{Program};
-ghost use Rattle.jc_operations.specs.Prepared.{IsPrepared};
+ghost use Rattle.jc_machine_code.specs.Prepared.{IsPrepared};
 ghost use Rattle.jc_machine_model.specs.Step.{unwound, placed, thrown_in};
-ghost use Rattle.jc_store.specs.Values.{value_of};
+ghost use Rattle.jc_machine_memory.specs.Values.{value_of};
 ghost use Rattle.jc_machine.specs.Room.{AreBounded};
 ghost use Rattle.jc_machine.specs.Turned.{after_of, raised_with, thrown_to};
 
 use crate::thread_stack::ThreadStack;
 use crate::thread_turn::ThreadTurn;
-use jc_operations::PreparedProgram;
-use jc_perform::Shared;
+use jc_machine_code::PreparedProgram;
+use jc_machine_memory::Value;
+use jc_machine_turn::Shared;
 use jc_programs::{End, Thrown};
-use jc_store::Value;
 
 /// A throwable, and its class.
 #[derive(Clone, Copy, Debug)]

@@ -3,15 +3,15 @@ ghost use Rattle.std.specs.Prelude.{◌≡◌, ◌≤◌, length, IfOk};
 ghost use Rattle.jc_programs.specs.Turns.{IsCase};
 ghost use Rattle.jc_programs.specs.Entries.{AreEntries};
 ghost use Rattle.jc_machine_model.specs.Programs.{IsProgram};
-ghost use Rattle.jc_operations.specs.Prepared.{IsPrepared};
+ghost use Rattle.jc_machine_code.specs.Prepared.{IsPrepared};
 ghost use Rattle.jc_machine_model.specs.Begin.{begin, first_threads};
 
 use crate::first_threads::begin_thread;
 use crate::integral_fields::{IntegralField, integral_fields};
 use crate::thread_stack::ThreadStack;
 use jc_bytes::Memory;
-use jc_operations::PreparedProgram;
-use jc_perform::Shared;
+use jc_machine_code::PreparedProgram;
+use jc_machine_turn::Shared;
 use jc_programs::{Case, End, Entry, Program, ThreadLine};
 use std::alloc::Global;
 use std::marker::Model;
@@ -34,7 +34,7 @@ pub struct World {
 
 impl Model for World {
     ghost use Rattle.std.specs.Coded.{codes};
-    ghost use Rattle.jc_store.specs.Codes.{field_type_code};
+    ghost use Rattle.jc_machine_memory.specs.Codes.{field_type_code};
     ghost use Rattle.jc_machine.specs.Machines.{Machine};
 
     ghost Value = { Machine };

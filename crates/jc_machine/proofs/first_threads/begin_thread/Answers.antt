@@ -1,6 +1,6 @@
 use Rattle.std.proofs.Common.{List, Option, ap, sym, subst}
-use Rattle.jc_operations.specs.declared.operation.ComputationalType.{ComputationalType}
-use Rattle.jc_perform.specs.Parameters.{AreParameters}
+use Rattle.jc_machine_code.specs.declared.operation.ComputationalType.{ComputationalType}
+use Rattle.jc_machine_turn.specs.Parameters.{AreParameters}
 use Rattle.jc_machine.specs.Threads.{ThreadFrames}
 use Rattle.jc_machine.specs.FirstThreads.{FitParameters}
 use Rattle.jc_machine.proofs.FirstLaws.{locals_few, slots_within, parameters_fit, run_is}

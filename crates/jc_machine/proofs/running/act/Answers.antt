@@ -1,6 +1,6 @@
 use Rattle.std.proofs.Common.{ℕ, subst}
 use Rattle.jc_programs.specs.declared.run_end.Entry.{Entry}
-use Rattle.jc_operations.specs.Shown.{Shows}
+use Rattle.jc_machine_code.specs.Shown.{Shows}
 use Rattle.jc_machine_model.specs.Step.{located, operation_at}
 use Rattle.jc_machine.specs.Turned.{StandsBefore}
 use Rattle.jc_machine.proofs.TurnLaws.{alone_bounded, stands_well, switched}

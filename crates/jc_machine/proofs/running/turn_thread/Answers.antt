@@ -1,6 +1,6 @@
 use Rattle.std.proofs.Common.{List, ap, ◌∙◌}
 use Rattle.std.specs.Option.{option_map}
-use Rattle.jc_store.specs.Values.{value_of}
+use Rattle.jc_machine_memory.specs.Values.{value_of}
 use Rattle.jc_machine_model.specs.World.{Frame, Shared}
 use Rattle.jc_machine_model.specs.Step.{after, after_result, left}
 use Rattle.jc_machine.proofs.TurnLaws.{waiting_bounded, waiting_counts, still_bounded, called, call_same, call_fits}

@@ -1,7 +1,7 @@
 use Rattle.std.proofs.Common.{◌≡◌, ◌∷◌, length}
 use Rattle.jc_programs.specs.declared.program.Program.{Program}
-use Rattle.jc_operations.specs.Prepared.{IsPrepared}
-use Rattle.jc_store.specs.Values.{value_of}
+use Rattle.jc_machine_code.specs.Prepared.{IsPrepared}
+use Rattle.jc_machine_memory.specs.Values.{value_of}
 use Rattle.jc_machine_model.specs.Step.{unwound}
 use Rattle.jc_machine.specs.Room.{AreBounded}
 use Rattle.jc_machine.proofs.throwing.unwind.Given as goal

@@ -2,7 +2,7 @@ use Rattle.std.proofs.Common.{◌≡◌, ◌<◌, ◌∷◌, ◌++◌, [], List,
 use Rattle.std.proofs.lemmas.List.{length-set}
 use Rattle.std.specs.Global.{Vec}
 use Rattle.jc_programs.specs.declared.run_end.Entry.{Entry}
-use Rattle.jc_operations.specs.Prepared.{IsPrepared}
+use Rattle.jc_machine_code.specs.Prepared.{IsPrepared}
 use Rattle.jc_machine_model.specs.World.{Thread}
 use Rattle.jc_machine_model.specs.Begin.{first_thread, first_threads}
 use Rattle.jc_machine.specs.declared.integral_fields.IntegralField.{IntegralField}

@@ -1,8 +1,8 @@
 use Rattle.std.proofs.Common.{List, sym, ap, ◌∙◌, subst, map, length}
 use Rattle.jc_programs.specs.declared.run_plan.ThreadLine.{ThreadLine}
-use Rattle.jc_operations.specs.declared.prepared.PreparedClass.{PreparedClass}
-use Rattle.jc_operations.specs.Prepared.{IsPrepared}
-use Rattle.jc_perform.specs.Contents.{first_shared}
+use Rattle.jc_machine_code.specs.declared.prepared.PreparedClass.{PreparedClass}
+use Rattle.jc_machine_code.specs.Prepared.{IsPrepared}
+use Rattle.jc_machine_turn.specs.Contents.{first_shared}
 use Rattle.jc_machine_model.specs.Begin.{first_threads}
 use Rattle.jc_machine.specs.Machines.{Machine, Fits}
 use Rattle.jc_machine.specs.Kept.{machine_of}

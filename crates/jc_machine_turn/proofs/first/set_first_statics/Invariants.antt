@@ -1,0 +1,5 @@
+use Rattle.jc_machine_turn.proofs.FirstLaws.{Begun}
+use Rattle.jc_machine_turn.proofs.first.set_first_statics.Given as goal
+
+abbrev pub invariant-loop-i : goal.invariant-loop-i
+invariant-loop-i l = Begun l.statics l.classes l.i

@@ -1,0 +1,144 @@
+//! Throwables, and the probe array of a class.
+ghost use Rattle.std.specs.Prelude.{◌≡◌, ◌+◌, ◌<◌, ◌≤◌, ◌^◌, length};
+ghost use Rattle.jc_programs.specs.Throwables.{is_one};
+ghost use Rattle.jc_machine_model.specs.World as world;
+ghost use Rattle.jc_machine_model.specs.Values as values;
+ghost use Rattle.jc_machine_model.specs.Heap.{throwable};
+ghost use Rattle.jc_machine_model.specs.Objects.{made, thrown_of, by_build, by_throw, is_fetched, by_fetch};
+ghost use Rattle.jc_machine_memory.specs.Values.{value_of};
+ghost use Rattle.jc_machine_turn.specs.Nexts.{result_of, Settles, KeepsShared};
+
+use crate::frames::{replace, take};
+use crate::{Next, Shared};
+use jc_machine_memory::{Frame, HeapObject, Value};
+use jc_programs::{ProbeInit, Thrown};
+
+/// Makes a throwable.
+pub fn make(thrown: Thrown, shared: &mut Shared, frame: &mut Frame) -> Next
+    requires place { frame.old.place + 1 < 2 ^ 32 }
+    requires room { length frame.old.locals + length frame.old.stack ≤ 1004 }
+    ensures result { result_of result shared.new frame.new ≡ made 1 (throwable thrown) frame.old.stack shared.old frame.old }
+    ensures kept { Settles result frame.old frame.new }
+    ensures shared_kept { KeepsShared result shared.old shared.new }
+{
+    match shared.make_throwable(thrown) {
+        Some(number) => {
+            replace(frame, 0, Value::Object(number));
+            Next::Goes
+        }
+        None => Next::Raises(Thrown::OutOfMemoryError),
+    }
+}
+
+/// The class of the throwable with a number, if the object is one.
+fn thrown_at(number: u32, shared: &Shared) -> Option<Thrown>
+    ensures { result ≡ thrown_of shared.now.heap (values.object number) }
+{
+    match shared.object(number) {
+        Some(HeapObject::Throwable(thrown)) => Some(thrown),
+        Some(HeapObject::Array { .. }) => None,
+        None => None,
+    }
+}
+
+/// The class of the throwable that a value is a reference to, if it is one.
+fn thrown_of(value: Value, shared: &Shared) -> Option<Thrown>
+    ensures { result ≡ thrown_of shared.now.heap (value_of value) }
+{
+    match value {
+        Value::Object(number) => thrown_at(number, shared),
+        Value::MemoryError => Some(Thrown::OutOfMemoryError),
+        _ => None,
+    }
+}
+
+/// Whether the two classes are one.
+fn is_one(class: Thrown, other: Thrown) -> bool
+    ensures { result ≡ is_one class other }
+{
+    class == other
+}
+
+/// Calls the constructor of a class, which does nothing to a throwable of just this class.
+pub fn build(class: Thrown, shared: &Shared, frame: &mut Frame) -> Next
+    requires { frame.old.place + 1 < 2 ^ 32 }
+    ensures result { result_of result shared.now frame.new ≡ by_build class frame.old.stack shared.now frame.old }
+    ensures kept { Settles result frame.old frame.new }
+{
+    let Some(value) = frame.peek(0) else {
+        return Next::Stuck;
+    };
+    match thrown_of(value, shared) {
+        Some(thrown) => {
+            if !is_one(class, thrown) {
+                return Next::Stuck;
+            }
+            take(frame, 1);
+            Next::Goes
+        }
+        None => Next::Stuck,
+    }
+}
+
+/// Throws the throwable on top; null becomes an exception of its own.
+pub fn throw_top(shared: &Shared, frame: &Frame) -> Next
+    ensures result { result_of result shared.now frame.now ≡ by_throw frame.now.stack shared.now }
+    ensures kept { Settles result frame.now frame.now }
+{
+    let Some(value) = frame.peek(0) else {
+        return Next::Stuck;
+    };
+    if matches!(value, Value::Null) {
+        return Next::Raises(Thrown::NullPointerException);
+    }
+    match thrown_of(value, shared) {
+        Some(thrown) => Next::Throws { thrown, value },
+        None => Next::Stuck,
+    }
+}
+
+/// Whether the operands are the id of the class, its own text, and the number of its probes.
+fn is_fetched(class: u32, init: ProbeInit, id: i64, of: u32, count: i32) -> bool
+    ensures { result ≡ is_fetched class init id of count }
+{
+    id == init.id.cast_signed() && (of == class && i64::from(count) == i64::from(init.count))
+}
+
+/// Puts the probe array of a class in place of its id, its text and the number of its probes.
+pub fn fetch(class: u32, init: ProbeInit, frame: &mut Frame) -> Next
+    requires place { frame.old.place + 1 < 2 ^ 32 }
+    requires room { length frame.old.locals + length frame.old.stack ≤ 1004 }
+    ensures result { (s : world.Shared) → result_of result s frame.new ≡ by_fetch class init frame.old.stack s frame.old }
+    ensures kept { Settles result frame.old frame.new }
+{
+    let Some(first) = frame.peek(0) else {
+        return Next::Stuck;
+    };
+    let Value::Int(count) = first else {
+        return Next::Stuck;
+    };
+    let Some(second) = frame.peek(1) else {
+        return Next::Stuck;
+    };
+    let Value::Text { class: of } = second else {
+        return Next::Stuck;
+    };
+    let Some(third) = frame.peek(2) else {
+        return Next::Stuck;
+    };
+    let Value::Long(id) = third else {
+        return Next::Stuck;
+    };
+    if !is_fetched(class, init, id, of, count) {
+        return Next::Stuck;
+    }
+    replace(
+        frame,
+        3,
+        Value::Probes {
+            class,
+            count: init.count,
+        },
+    );
+    Next::Goes
+}

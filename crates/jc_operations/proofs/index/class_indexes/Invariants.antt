@@ -1,6 +1,0 @@
-use Rattle.jc_operations.specs.Sites.{IsClassIndex}
-use Rattle.jc_operations.proofs.CorrespondLaws.{BuiltTo}
-use Rattle.jc_operations.proofs.index.class_indexes.Given as goal
-
-abbrev pub invariant-indexing : goal.invariant-indexing
-invariant-indexing l = BuiltTo IsClassIndex l.classes l.linked-index l.indexes

@@ -1,5 +1,0 @@
-use Rattle.jc_operations.proofs.InvokedLaws.{switches}
-use Rattle.jc_operations.proofs.laws.each_switch_goes_where_the_instruction_leads.Goals as goal
-
-pub returns : goal.returns
-returns c = λ program at insn operation is shows s f. switches program at insn operation is shows s f

@@ -1,9 +1,0 @@
-use Rattle.std.proofs.Common.{◌≤◌, length}
-use Rattle.jc_operations.proofs.PlaceLaws.{AreWhatsFrom}
-use Rattle.jc_operations.proofs.places.whats.Given as goal
-
-abbrev pub invariant-noting : goal.invariant-noting
-invariant-noting l = (l.number ≤ length l.uses) × AreWhatsFrom l.uses l.number l.whats.entries
-
-abbrev pub decreases-noting : goal.decreases-noting
-decreases-noting l = l.number

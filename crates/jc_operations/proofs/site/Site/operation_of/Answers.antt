@@ -1,6 +1,0 @@
-use Rattle.jc_operations.proofs.SiteLaws.{member_fits}
-use Rattle.jc_operations.proofs.site.Site.operation_of.Goals as goal
-
-pub member_operation-requires : goal.member_operation-requires
-member_operation-requires c =
-    member_fits c.args.self.now c.args.insn.now c.in-Member.op c.in-Member.at c.what_at-in-Member.result c.in-Member.is c.what_at-in-Member.ensures c.requires

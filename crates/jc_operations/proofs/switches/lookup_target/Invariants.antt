@@ -1,9 +1,0 @@
-use Rattle.std.proofs.Common.{◌-◌}
-use Rattle.jc_operations.proofs.SwitchLaws.{Between}
-use Rattle.jc_operations.proofs.switches.lookup_target.Given as goal
-
-abbrev pub invariant-searching : goal.invariant-searching
-invariant-searching l = Between l.arms l.fn.key l.low l.high
-
-abbrev pub decreases-searching : goal.decreases-searching
-decreases-searching l = l.high - l.low

@@ -1,6 +1,0 @@
-use Rattle.jc_operations.proofs.TypeLaws.{IsKindOf}
-use Rattle.jc_operations.proofs.CorrespondLaws.{BuiltTo}
-use Rattle.jc_operations.proofs.types.parameter_types.Given as goal
-
-abbrev pub invariant-preparing : goal.invariant-preparing
-invariant-preparing l = BuiltTo IsKindOf l.values l.value-index l.kinds

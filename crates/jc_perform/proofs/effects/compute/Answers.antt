@@ -1,7 +1,0 @@
-use Rattle.std.proofs.Common.{arith}
-use Rattle.jc_perform.proofs.EffectLaws.{few_moved}
-use Rattle.jc_perform.proofs.effects.compute.Goals as goal
-
-pub move_operands-requires : goal.move_operands-requires
-move_operands-requires c =
-    omega (arith, few_moved c.args.op c.in-Moves.taken c.in-Moves.places.now c.args.frame.now.stack c.in-Moves.ensures, c.requires.room)
