@@ -11,8 +11,8 @@ use Rattle.jc_link_laws.specs.SecondLinking.{IsSecondRefusal}
 use Rattle.jc_link_laws.specs.TwinFiles.{AreWrittenOf, IsShortFile}
 use Rattle.jc_link_laws.proofs.SecondLinkingLaws.{second_refusal}
 use Rattle.jc_link_laws.proofs.SomeProgramLaws.{program_or_reason}
-use Rattle.jc_simulation.proofs.BeginLaws.{entry_alike}
-use Rattle.jc_simulation.proofs.ProgramRunLaws.{have_marks, have_sides}
+use Rattle.jc_twin_simulation.proofs.BeginLaws.{entry_alike}
+use Rattle.jc_twin_simulation.proofs.ProgramRunLaws.{have_marks, have_sides}
 use Rattle.jc_run_work.specs.RunStore.{first_without}
 
 module _ (originals written : List (List ℕ)) (before : Program) (short : AllByRecursion IsShortFile originals) (are : AllByRecursion AreBytes written)

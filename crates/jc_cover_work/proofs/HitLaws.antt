@@ -10,8 +10,8 @@ use Rattle.jc_programs.specs.declared.program.Linked.{Linked}
 use Rattle.jc_programs.specs.declared.program.ProbeInit.{ProbeInit}
 use Rattle.jc_programs.specs.declared.run_plan.RunPlan.{RunPlan}
 use Rattle.jc_cover.specs.Covered.{is_hit}
-use Rattle.jc_exact.specs.Exact.{TellHits}
-use Rattle.jc_exact.proofs.CameLaws.{flat_cases, flat_in}
+use Rattle.jc_twin_exact.specs.Exact.{TellHits}
+use Rattle.jc_twin_exact.proofs.CameLaws.{flat_cases, flat_in}
 use Rattle.jc_machine_model.specs.Run.{IsHit, case_hits, hits_of}
 use Rattle.jc_machine_model.specs.World.{Hit}
 use Rattle.jc_run_work.specs.RunStore.{is_hit_in}

@@ -30,9 +30,9 @@ use Rattle.jc_linking.specs.Pairs.{HaveOneId, NoPair, id_of as class_id_of}
 use Rattle.jc_machine_model.specs.Methods.{declares_init}
 use Rattle.jc_machine_model.specs.Run.{hits_of}
 use Rattle.jc_machine_model.specs.World.{Hit}
-use Rattle.jc_simulation.specs.Marking.{AreMarks}
-use Rattle.jc_exact.specs.Exact.{HaveEntries}
-use Rattle.jc_exact.proofs.ReportedLaws.{reported_edges}
+use Rattle.jc_twin_simulation.specs.Marking.{AreMarks}
+use Rattle.jc_twin_exact.specs.Exact.{HaveEntries}
+use Rattle.jc_twin_exact.proofs.ReportedLaws.{reported_edges}
 use Rattle.jc_class_commands.specs.Report.{ReportedFile, refused_class, unchanged_class, changed_class, changed_of, record_of, first_of_each_id, hits_of as hits_in, frameless}
 use Rattle.jc_class_commands.specs.ReportSteps.{counted_of, counted_by}
 use Rattle.jc_class_commands.proofs.FramelessLaws.{same_counted}

@@ -18,11 +18,11 @@ use Rattle.jc_link_laws.specs.TwinFiles.{AreWrittenOf, IsShortFile}
 use Rattle.jc_link_laws.proofs.TwinLinkLaws.{twin_program}
 use Rattle.jc_machine_model.specs.CaseText.{case_texts}
 use Rattle.jc_machine_model.specs.Run.{run}
-use Rattle.jc_simulation.specs.Marking.{AreMarks}
-use Rattle.jc_simulation.specs.Same.{Same}
-use Rattle.jc_simulation.specs.Laws.{kept_of}
-use Rattle.jc_simulation.proofs.BeginLaws.{entry_alike}
-use Rattle.jc_simulation.proofs.ProgramRunLaws.{have_marks, have_sides, runs_are_same}
+use Rattle.jc_twin_simulation.specs.Marking.{AreMarks}
+use Rattle.jc_twin_simulation.specs.Same.{Same}
+use Rattle.jc_twin_simulation.specs.Laws.{kept_of}
+use Rattle.jc_twin_simulation.proofs.BeginLaws.{entry_alike}
+use Rattle.jc_twin_simulation.proofs.ProgramRunLaws.{have_marks, have_sides, runs_are_same}
 use Rattle.jc_same_runs.proofs.TextLaws.{same_texts}
 use Rattle.jc_paths.specs.Paths.{in_folder}
 use Rattle.jc_command_work.specs.Step.{Word, World, to_file, to_out, Told}

@@ -39,10 +39,10 @@ use Rattle.jc_machine_model.specs.CaseText.{case_texts}
 use Rattle.jc_machine_model.specs.Methods.{declares_init}
 use Rattle.jc_machine_model.specs.Run.{run, IsHit, hits_of}
 use Rattle.jc_machine_model.specs.World.{Hit}
-use Rattle.jc_simulation.specs.Marking.{AreMarks}
-use Rattle.jc_simulation.specs.Same.{Same}
-use Rattle.jc_simulation.specs.Laws.{kept_of}
-use Rattle.jc_exact.specs.Reported.{IsReported}
+use Rattle.jc_twin_simulation.specs.Marking.{AreMarks}
+use Rattle.jc_twin_simulation.specs.Same.{Same}
+use Rattle.jc_twin_simulation.specs.Laws.{kept_of}
+use Rattle.jc_twin_exact.specs.Reported.{IsReported}
 use Rattle.jc_linking.specs.Linking.{IsProgramOf}
 use Rattle.jc_link_laws.specs.TwinFiles.{HasConstants}
 use Rattle.jc_command_work.specs.declared.status.Status.TheVariants as status

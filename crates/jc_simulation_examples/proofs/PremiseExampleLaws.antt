@@ -18,8 +18,8 @@ use Rattle.jc_machine_model.specs.Perform.{perform}
 use Rattle.jc_machine_model.specs.Step.{step}
 use Rattle.jc_machine_model.specs.Begin.{begin}
 use Rattle.jc_machine_model.specs.Run.{run, IsHit}
-use Rattle.jc_simulation.proofs.ProgramRunLaws.{have_marks}
-use Rattle.jc_exact.specs.Exact.{EndsWell, TellHits}
+use Rattle.jc_twin_simulation.proofs.ProgramRunLaws.{have_marks}
+use Rattle.jc_twin_exact.specs.Exact.{EndsWell, TellHits}
 use Rattle.jc_world_examples.specs.ProgramExamples.{abs_program, probed_abs_program, hit}
 use Rattle.jc_simulation_examples.specs.CoverageExamples.{MeetsPremises, abs_case, abs_plan, abs_hits}
 use Rattle.jc_simulation_examples.proofs.OneMethodLaws.{only}

@@ -15,10 +15,10 @@ use Rattle.jc_cover.specs.Marking.{coverage_of}
 use Rattle.jc_machine_model.specs.World.{Hit}
 use Rattle.jc_machine_model.specs.Run.{run, IsHit}
 use Rattle.jc_machine_model.specs.Taken.{taken, reached}
-use Rattle.jc_simulation.specs.Marking.{AreMarks}
-use Rattle.jc_simulation.specs.Laws.{kept_of}
-use Rattle.jc_exact.specs.Exact.{HaveEntries, TellHits}
-use Rattle.jc_exact.specs.Reported.{AllEndWell}
+use Rattle.jc_twin_simulation.specs.Marking.{AreMarks}
+use Rattle.jc_twin_simulation.specs.Laws.{kept_of}
+use Rattle.jc_twin_exact.specs.Exact.{HaveEntries, TellHits}
+use Rattle.jc_twin_exact.specs.Reported.{AllEndWell}
 use Rattle.jc_world_examples.specs.EdgeExamples.{NumberedEdge, numbered}
 use Rattle.jc_world_examples.specs.ProgramExamples.{program, method, probed_class, prelude, probe, init_use, one_thread, case, inc_thread, a_name, m_name, r_name}
 

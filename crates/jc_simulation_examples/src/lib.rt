@@ -10,9 +10,9 @@ ghost use Rattle.std.specs.Prelude.{◌≡◌, [], ◌∷◌, ◌++◌, replicat
 ghost use Rattle.jc_programs.specs.Turns.{turns_of};
 ghost use Rattle.jc_programs.specs.declared.run_plan.Schedule.TheVariants as schedules;
 ghost use Rattle.jc_machine_model.specs.Run.{run};
-ghost use Rattle.jc_simulation.specs.Kept.{kept, row};
-ghost use Rattle.jc_simulation.specs.Same.{Same};
-ghost use Rattle.jc_simulation.specs.Spread.{IsSpread};
+ghost use Rattle.jc_twin_simulation.specs.Kept.{kept, row};
+ghost use Rattle.jc_twin_simulation.specs.Same.{Same};
+ghost use Rattle.jc_twin_simulation.specs.Spread.{IsSpread};
 ghost use Rattle.jc_emit.specs.TwinProgram.{TwinProgram};
 ghost use Rattle.jc_world_examples.specs.ProgramExamples.{abs_program, probed_abs_program, inc_program, probed_inc_program};
 ghost use Rattle.jc_simulation_examples.specs.SimulationExamples.{inc_marks, one_inc, one_begun, two_begun};

@@ -8,10 +8,10 @@ use Rattle.jc_emit.specs.Marks.{Marks}
 use Rattle.jc_emit.specs.TwinProgram.{TwinProgram}
 use Rattle.jc_machine_model.specs.Begin.{begin_case}
 use Rattle.jc_machine_model.specs.Run.{run}
-use Rattle.jc_simulation.specs.Marking.{AreMarks}
-use Rattle.jc_simulation.specs.Kept.{row}
-use Rattle.jc_simulation.specs.Same.{Same}
-use Rattle.jc_simulation.specs.Laws.{kept_of, IsKeptBySpread}
+use Rattle.jc_twin_simulation.specs.Marking.{AreMarks}
+use Rattle.jc_twin_simulation.specs.Kept.{row}
+use Rattle.jc_twin_simulation.specs.Same.{Same}
+use Rattle.jc_twin_simulation.specs.Laws.{kept_of, IsKeptBySpread}
 
 -- where the one program is the twin of the other, and the threads of the case have entries; `marks` says of each instruction of
 -- the twin what it is, which the two programs tell

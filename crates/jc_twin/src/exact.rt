@@ -1,6 +1,6 @@
 //! What covered edges say of runs.
-ghost use Rattle.jc_exact.specs.Exact.{ExactEdges};
-ghost use Rattle.jc_exact.specs.Reported.{ReportedEdges};
+ghost use Rattle.jc_twin_exact.specs.Exact.{ExactEdges};
+ghost use Rattle.jc_twin_exact.specs.Reported.{ReportedEdges};
 
 use jc_programs::{Program, RunPlan};
 

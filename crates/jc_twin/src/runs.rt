@@ -1,5 +1,5 @@
 //! The laws of runs.
-ghost use Rattle.jc_simulation.specs.Together.{BeginsTogether, OneTurn};
+ghost use Rattle.jc_twin_simulation.specs.Together.{BeginsTogether, OneTurn};
 ghost use Rattle.jc_twin.specs.Runs.{EachSchedule, FewProbeTurns, SameRun};
 
 use jc_programs::{Case, Program};

@@ -10,7 +10,7 @@ use Rattle.jc_machine_model.specs.Perform.{perform}
 use Rattle.jc_machine_model.specs.Step.{step}
 use Rattle.jc_machine_model.specs.Begin.{begin}
 use Rattle.jc_machine_model.specs.Run.{run}
-use Rattle.jc_simulation.specs.Same.{twin_slot, is_data, static_in}
+use Rattle.jc_twin_simulation.specs.Same.{twin_slot, is_data, static_in}
 use Rattle.jc_world_examples.specs.ProgramExamples.{inc_program, probed_inc_program}
 use Rattle.jc_simulation_examples.specs.SimulationExamples.{one_inc}
 use Rattle.std.specs.Prelude.{Option, Some, slice_get, replicate}

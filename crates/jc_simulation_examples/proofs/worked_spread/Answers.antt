@@ -10,7 +10,7 @@ use Rattle.jc_machine_model.specs.Perform.{perform}
 use Rattle.jc_machine_model.specs.Step.{step}
 use Rattle.jc_machine_model.specs.Begin.{begin}
 use Rattle.jc_machine_model.specs.Run.{run_from}
-use Rattle.jc_simulation.specs.Kept.{is_kept}
+use Rattle.jc_twin_simulation.specs.Kept.{is_kept}
 use Rattle.jc_simulation_examples.specs.SimulationExamples.{probed_nothing_program, nothing_marks, nothing_begun}
 use Rattle.jc_simulation_examples.proofs.worked_spread.Goals as goal
 

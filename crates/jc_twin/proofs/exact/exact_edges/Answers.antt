@@ -1,4 +1,4 @@
-use Rattle.jc_exact.proofs.ExactLaws.{exact_edges}
+use Rattle.jc_twin_exact.proofs.ExactLaws.{exact_edges}
 use Rattle.jc_twin.proofs.exact.exact_edges.Goals as goal
 
 pub returns : goal.returns

@@ -1,4 +1,4 @@
-use Rattle.jc_exact.proofs.ReportedLaws.{reported_edges}
+use Rattle.jc_twin_exact.proofs.ReportedLaws.{reported_edges}
 use Rattle.jc_twin.proofs.exact.reported_edges.Goals as goal
 
 pub returns : goal.returns

@@ -1,4 +1,4 @@
-use Rattle.jc_simulation.proofs.ProgramRunLaws.{schedules_are_kept}
+use Rattle.jc_twin_simulation.proofs.ProgramRunLaws.{schedules_are_kept}
 use Rattle.jc_twin.proofs.runs.each_schedule.Goals as goal
 
 pub returns : goal.returns

@@ -1,4 +1,4 @@
-use Rattle.jc_simulation.proofs.ProgramRunLaws.{probe_turns_are_few}
+use Rattle.jc_twin_simulation.proofs.ProgramRunLaws.{probe_turns_are_few}
 use Rattle.jc_twin.proofs.runs.few_probe_turns.Goals as goal
 
 pub returns : goal.returns

@@ -1,4 +1,4 @@
-use Rattle.jc_simulation.proofs.ProgramRunLaws.{begins_together, turns_keep_together}
+use Rattle.jc_twin_simulation.proofs.ProgramRunLaws.{begins_together, turns_keep_together}
 use Rattle.jc_twin.proofs.runs.one_turn.Goals as goal
 
 pub returns : goal.returns

@@ -1,4 +1,4 @@
-use Rattle.jc_simulation.proofs.ProgramRunLaws.{runs_are_same}
+use Rattle.jc_twin_simulation.proofs.ProgramRunLaws.{runs_are_same}
 use Rattle.jc_twin.proofs.runs.same_run.Goals as goal
 
 pub returns : goal.returns

@@ -1,5 +1,0 @@
-use Rattle.jc_exact.proofs.ExactLaws.{exact_edges}
-use Rattle.jc_exact.proofs.covered_edges_ran.Goals as goal
-
-pub returns : goal.returns
-returns c = exact_edges

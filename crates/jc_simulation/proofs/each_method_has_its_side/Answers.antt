@@ -1,5 +1,0 @@
-use Rattle.jc_simulation.proofs.ProgramRunLaws.{have_sides}
-use Rattle.jc_simulation.proofs.each_method_has_its_side.Goals as goal
-
-pub returns : goal.returns
-returns c = have_sides

@@ -1,5 +1,0 @@
-use Rattle.jc_simulation.proofs.ProgramRunLaws.{runs_are_same}
-use Rattle.jc_simulation.proofs.each_run_is_the_same.Goals as goal
-
-pub returns : goal.returns
-returns c = runs_are_same

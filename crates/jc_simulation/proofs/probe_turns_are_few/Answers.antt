@@ -1,5 +1,0 @@
-use Rattle.jc_simulation.proofs.ProgramRunLaws.{probe_turns_are_few}
-use Rattle.jc_simulation.proofs.probe_turns_are_few.Goals as goal
-
-pub returns : goal.returns
-returns c = probe_turns_are_few

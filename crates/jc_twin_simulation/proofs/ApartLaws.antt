@@ -1,0 +1,548 @@
+-- Worlds that fit and are together, in terms of the two programs, belong together.
+use Rattle.std.proofs.Common.{◌≡◌, inl, inr, ⊎_elim, ℕ, zero, suc, ◌+◌, ◌-◌, ◌<◌, ◌≤◌, Bool, true, false, not, ◌&&◌, List, [], ◌∷◌, ◌++◌, length, insert, drop, map, Option, Some, None, option_map, option_and_then, nat_eq, refl, sym, ap, ap₂, ◌∙◌, subst, arith, if◌then◌else◌}
+use Rattle.std.specs.Prelude.{IsTrue, slice_get, slice_index_or}
+use Rattle.std.specs.List.{AllByRecursion}
+use Rattle.std.proofs.lemmas.Bool.{true≢false, lt-ltb, le-ltb, eqb-true, eqb-false, and_parts, not-true, cases_lt}
+use Rattle.std.proofs.lemmas.Option.{none-some, same_Some, slice_get-map, slice_get-get_or, get_or_from_slice_get, slice_get_within, slice_get_past}
+use Rattle.jc_bytes.proofs.BooleanLaws.{stands_in}
+use Rattle.jc_methods.specs.Opcode as opcode
+use Rattle.jc_methods.specs.Flow.{flow_of}
+use Rattle.jc_methods.specs.WellMade.{what_used}
+use Rattle.jc_methods.specs.ProbeMembers.{data_name}
+use Rattle.jc_methods.specs.declared.insn.Insn.{Insn}
+use Rattle.jc_methods.specs.declared.insn.Insn.TheVariants as insns
+use Rattle.jc_methods.specs.declared.insn.Flow.TheVariants as flows
+use Rattle.jc_methods.specs.declared.body.Body.{Body}
+use Rattle.jc_programs.specs.declared.program.Program.{Program}
+use Rattle.jc_programs.specs.declared.program.Linked.{Linked}
+use Rattle.jc_programs.specs.declared.program.StaticField.{StaticField}
+use Rattle.jc_programs.specs.declared.run_end.Entry.{Entry}
+use Rattle.jc_programs.specs.Members.{class_at, body_of}
+use Rattle.jc_emit.specs.Items.{Item, init_call, init_store, image, probe_array, probe_id, probe_one, probe_store, hop, at_of, extra_of}
+use Rattle.jc_emit.specs.Local.{OkStart, OkImage}
+use Rattle.jc_emit.specs.Marks.{Marks, push}
+use Rattle.jc_emit.specs.Sizes.{insn_at}
+use Rattle.jc_emit.specs.TwinProgram.{IsPair, IsChangedPair, IsUnchangedPair, data_static}
+use Rattle.jc_plan.specs.Edges.{sequence}
+use Rattle.jc_machine_model.specs.Values.{Value, probes}
+use Rattle.jc_machine_model.specs.Heap.{HeapObject}
+use Rattle.jc_machine_model.specs.World.{Frame, Thread, running, returned, threw, stuck, Shared, World}
+use Rattle.jc_machine_model.specs.Fits.{AreClassStatics, AreStatics, StandsIn, FitsTop, named_by, called_by, StandsAtCall, FitsWaiting, FitEachWaiting, FitsThread, FitsWorld}
+use Rattle.jc_machine_model.specs.Locals.{is_pair_there}
+use Rattle.jc_machine_model.specs.Methods.{is_init_name, declares_init, is_native, is_wide, is_plain}
+use Rattle.jc_methods.specs.EntryState.{is_static}
+use Rattle.jc_machine_model.specs.Profile.{Location}
+use Rattle.jc_emit.specs.Seen.{IsInsnOf, IsPlain}
+use Rattle.jc_machine_model.specs.Step.{LocatedInsn, located_in_body, located_in_class, located, named_init, is_init_method}
+use Rattle.jc_twin_simulation.specs.Same.{twin_slot, array_slot, is_named_data, is_data_in, is_data, static_in, frames_of, Same}
+use Rattle.jc_twin_simulation.specs.Same as spec
+use Rattle.jc_twin_simulation.specs.Sides.{Side, count_in, array_of, IsSide, AreSides, AreMarksOf}
+use Rattle.jc_twin_simulation.specs.Mid.{pushed_of, null_or, step_stack, SameLocals, OneMethod, SameFrame, SameWait, SameWaits, init_method, SameStuck, Inside, extra_in, SameStatics, values_of, SameShared, SameThread, SameThreads, Mid}
+use Rattle.jc_twin_simulation.specs.Together.{count_of, array_in, ArePushed, HasProbeState, HasInitState, HasTopState, HasState, IsStuckWithin, Together}
+use Rattle.jc_twin_simulation.proofs.ClassLaws.{other_name, unchanged_declares, changed_declares}
+use Rattle.jc_twin_simulation.proofs.FrameLaws.{body_is, location, twin_insn}
+use Rattle.jc_twin_simulation.proofs.TurnLaws.{called}
+use Rattle.jc_twin_simulation.proofs.PlaceLaws.{any_at}
+use Rattle.jc_twin_simulation.proofs.SameLaws.{slot_is, no_class, last_is, one_more, is_added}
+use Rattle.jc_twin_simulation.proofs.PushedLaws.{item_off, past_prelude}
+use Rattle.jc_twin_simulation.proofs.SlotLaws.{get-shifted, read-shifted, get_own}
+use Rattle.jc_twin_simulation.proofs.WorldLaws.{told_at}
+use Rattle.jc_twin_simulation.proofs.TogetherLaws.{number_form}
+
+-- ---- lists
+
+same_items : {X : Type 0} (xs ys : List X) → ((k : ℕ) → slice_get xs k ≡ slice_get ys k) → xs ≡ ys
+same_items [] [] h = refl
+same_items [] (y ∷ ys) h = absurd (none-some y (h 0))
+same_items (x ∷ xs) [] h = absurd (none-some x (sym (h 0)))
+same_items (x ∷ xs) (y ∷ ys) h = ap₂ (λ z l. z ∷ l) (same_Some x y (h 0)) (same_items xs ys (λ k. h (suc k)))
+
+-- the item of which a list tells something
+map_at : {X Y : Type 0} (g : X → Y) (xs : List X) (k : ℕ) (y : Y) → slice_get (map g xs) k ≡ Some y → (x : X) × (slice_get xs k ≡ Some x) × (g x ≡ y)
+map_at g xs k y e = by (slice_get xs k) refl (sym (slice_get-map g xs k) ∙ e)
+  where
+    by : (o : Option _) → slice_get xs k ≡ o → option_map g o ≡ Some y → (x : _) × (slice_get xs k ≡ Some x) × (g x ≡ y)
+    by None h e = absurd (none-some y e)
+    by (Some x) h e = (x, h, same_Some (g x) y e)
+
+-- ---- local variables
+
+module _ (v : ℕ) (ls ls' : List (Option Value)) (held : Option Value) (there : slice_get ls' v ≡ Some held)
+    (slots : (k : ℕ) → slice_get ls' (twin_slot (Some v) k) ≡ slice_get ls k) where
+  below : (k : ℕ) → k < v → twin_slot (Some v) k ≡ k
+  below k lt = ap (λ b. if b then k else k + 1) (lt-ltb k v lt)
+
+  above : (k : ℕ) → v ≤ k → twin_slot (Some v) k ≡ k + 1
+  above k le = ap (λ b. if b then k else k + 1) (le-ltb k v le)
+
+  within : v < length ls'
+  within = slice_get_within ls' v held there
+
+  front : (k : ℕ) → k < v → slice_get ls' k ≡ slice_get ls k
+  front k lt = ap (slice_get ls') (sym (below k lt)) ∙ slots k
+
+  has_room_by : (n : ℕ) → v ≡ n → v ≤ length ls
+  has_room_by zero e = omega (arith, e)
+  has_room_by (suc n) e =
+      ⊎_elim
+      (λ lt. omega (arith, lt, e))
+      (λ le.
+      let k : n < v = omega (arith, e) in
+      let w = within in
+      let inside : n < length ls' = omega (arith, w, e) in
+      absurd (none-some _ (sym (slice_get_past ls n le) ∙ sym (front n k) ∙ slice_get-get_or ls' n None inside)))
+      (cases_lt n (length ls))
+
+  pub has_room : v ≤ length ls
+  has_room = has_room_by v refl
+
+  insert_is : (j : ℕ) → slice_get (insert ls v held) (twin_slot (Some v) j) ≡ slice_get ls j
+  insert_is j = get-shifted v j ls held has_room
+
+  pub around : ls' ≡ insert ls v held
+  around = same_items ls' (insert ls v held) each
+    where
+      past : (k j : ℕ) → k ≡ j + 1 → v ≤ j → slice_get ls' k ≡ slice_get (insert ls v held) k
+      past k j e le =
+          let at : k ≡ twin_slot (Some v) j = e ∙ sym (above j le) in
+          ap (slice_get ls') at ∙ slots j ∙ sym (insert_is j) ∙ ap (slice_get (insert ls v held)) (sym at)
+
+      from : (k : ℕ) → v ≤ k → slice_get ls' k ≡ slice_get (insert ls v held) k
+      from k le = by (nat_eq k v) refl
+        where
+          by : (b : Bool) → nat_eq k v ≡ b → slice_get ls' k ≡ slice_get (insert ls v held) k
+          by true e =
+              let same = eqb-true k v e in
+              ap (slice_get ls') same ∙ there ∙ sym (get_own v ls held has_room) ∙ ap (slice_get (insert ls v held)) (sym same)
+          by false e = let other = eqb-false k v e in let lt : v < k = omega (arith, le, other) in past k (k - 1) (omega (arith, lt)) (omega (arith, lt))
+
+      each : (k : ℕ) → slice_get ls' k ≡ slice_get (insert ls v held) k
+      each k =
+          ⊎_elim
+          (λ lt. front k lt ∙ sym (insert_is k) ∙ ap (slice_get (insert ls v held)) (below k lt))
+          (λ le. from k le)
+          (cases_lt k v)
+
+-- ---- static fields of classes
+
+class_statics : (classes : List Linked) (statics : List (List Value)) → AreStatics classes statics → (k : ℕ) (c : Linked)
+    → slice_get classes k ≡ Some c → AreClassStatics c (slice_index_or statics k [])
+class_statics [] [] are k c e = absurd (none-some c e)
+class_statics (x ∷ classes) (v ∷ statics) are zero c e = subst (λ y. AreClassStatics y v) (same_Some x c e) are.0
+class_statics (x ∷ classes) (v ∷ statics) are (suc k) c e = class_statics classes statics are.1 k c e
+class_statics [] (v ∷ statics) are k c e = absurd are
+class_statics (x ∷ classes) [] are k c e = absurd are
+
+no_statics : (classes : List Linked) (statics : List (List Value)) → AreStatics classes statics → (k : ℕ) → slice_get classes k ≡ None
+    → slice_index_or statics k [] ≡ []
+no_statics [] [] are k e = refl
+no_statics (x ∷ classes) (v ∷ statics) are zero e = absurd (none-some x (sym e))
+no_statics (x ∷ classes) (v ∷ statics) are (suc k) e = no_statics classes statics are.1 k e
+no_statics [] (v ∷ statics) are k e = absurd are
+no_statics (x ∷ classes) [] are k e = absurd are
+
+-- ---- frames
+
+module _ (p p' : Program) (sides : Entry → Side) (marks : Entry → Marks) (are : AreSides p p' sides) (told : AreMarksOf p p' marks sides) where
+  array_is : (m : Entry) → IsSide p p' m (sides m) → array_in p' m.class ≡ array_of (sides m) m.class
+  array_is m side = ap (λ (o : Option Linked). probes m.class (count_of o)) side.new_is
+
+  class_of : (m : Entry) (c : Linked) → IsSide p p' m (sides m) → slice_get p.classes m.class ≡ Some c → (sides m).class ≡ c
+  class_of m c side h = same_Some (sides m).class c (sym side.class_is ∙ h)
+
+  body_of_side : (m : Entry) (c : Linked) (b : Body) → IsSide p p' m (sides m) → slice_get p.classes m.class ≡ Some c → slice_get c.bodies m.method ≡ Some b
+      → (sides m).body ≡ b
+  body_of_side m c b side h k =
+      same_Some (sides m).body b (sym side.body_is ∙ ap (λ (x : Linked). slice_get x.bodies m.method) (class_of m c side h) ∙ k)
+
+  -- a thread stands in a method that it may enter
+  one_method : (f f' : Frame) {s : _} → f'.method ≡ f.method → StandsIn p f s → OneMethod p p' sides f f'
+  one_method f f' m st =
+      let side = are.side f.method st.linked st.body st.class_is st.body_is in
+      record {
+        method = m;
+        side = side;
+        entered = ap (λ (c : Linked). c.has_clinit) (class_of f.method st.linked side st.class_is) ∙ no_clinit st.linked st.body st.plain;
+      }
+    where
+      no_clinit : (c : Linked) (b : Body) → IsTrue (is_plain c b) → c.has_clinit ≡ false
+      no_clinit c b h =
+          not-true c.has_clinit
+          (and_parts (not c.has_clinit) (not (is_wide c b))
+          (and_parts (not (is_native b)) (not c.has_clinit && not (is_wide c b))
+          (and_parts (is_static b.flags) (not (is_native b) && (not c.has_clinit && not (is_wide c b))) h).1).1).0
+
+  -- the local variables, where the probe array's is known
+  locals_of : (f f' : Frame) (o : OneMethod p p' sides f f') → spec.SameFrame p' marks f f' → HasProbeState p' marks f' → (x : Item)
+      → slice_get (sides f.method).items f'.place ≡ Some x → (slot : Option ℕ) → (sides f.method).slot ≡ slot
+      → SameLocals (array_of (sides f.method) f.method.class) slot f.locals f'.locals x
+  locals_of f f' o same has x here None e =
+      same_items f'.locals f.locals
+      (λ k. ap (λ s. slice_get f'.locals (twin_slot s k)) (sym (slot_is p p' sides f.method o.side ∙ e)) ∙ same.slots k)
+  locals_of f f' o same has x here (Some v) e =
+      let t = sides f.method in
+      let slot = slot_is p p' sides f.method o.side ∙ e in
+      let k = has.array v (ap (array_slot p') o.method ∙ slot) in
+      let slots : (j : ℕ) → slice_get f'.locals (twin_slot (Some v) j) ≡ slice_get f.locals j =
+      λ j. ap (λ s. slice_get f'.locals (twin_slot s j)) (sym slot) ∙ same.slots j in
+      let is = around v f.locals f'.locals k.held k.there slots in
+      let room = has_room v f.locals f'.locals k.held k.there slots in
+      record {
+        room = room;
+        held = k.held;
+        around = is;
+        ready = λ b.
+            k.ready (past_prelude p p' sides f.method o.side (array_of t f.method.class) f'.place x v e here b)
+            ∙ ap Some (ap (λ (m : Entry). array_in p' m.class) o.method ∙ array_is f.method o.side);
+        narrow = k.narrow;
+        apart = λ j q.
+            let lt : j < v = omega arith in
+            ap is_pair_there
+            (sym (read-shifted v j f.locals k.held room) ∙ ap (λ l. slice_index_or l (twin_slot (Some v) j) None) (sym is)
+            ∙ ap (λ i. slice_index_or f'.locals i None) (below v f.locals f'.locals k.held k.there slots j lt))
+            ∙ k.apart j q;
+      }
+
+  pub frame_of : (f f' : Frame) → OneMethod p p' sides f f' → spec.SameFrame p' marks f f' → HasProbeState p' marks f' → SameFrame p p' sides f f'
+  frame_of f f' o same has =
+      let t = sides f.method in
+      let a = array_of t f.method.class in
+      let m = told f.method o.side in
+      let i = map_at at_of t.items f'.place f.place (ap (λ l. slice_get l f'.place) (sym m.at) ∙ same.place) in
+      let x = i.0 in
+      let marked : slice_get (marks f.method).extra f'.place ≡ Some (extra_of x) =
+      ap (λ l. slice_get l f'.place) m.extra ∙ told_at extra_of t.items f'.place x i.1 in
+      let more : same.extra ≡ extra_of x = same_Some same.extra (extra_of x) (sym same.extra_is ∙ marked) in
+      let body : body_of p' f'.method ≡ Some t.twin = ap (body_of p') o.method ∙ body_is p' f.method t.new t.twin o.side.new_is o.side.twin_is in
+      let array : array_in p' f'.method.class ≡ a = ap (λ (e : Entry). array_in p' e.class) o.method ∙ array_is f.method o.side in
+      let pushed = subst (λ v. ArePushed v t.twin.code f'.place (extra_of x) f'.stack) array
+      (has.pushed t.twin (extra_of x) body (ap (λ e. slice_get (marks e).extra f'.place) o.method ∙ marked)) in
+      record {
+        one = o;
+        item = x;
+        here = i.1;
+        at = i.2;
+        stack =
+            item_off p p' sides f.method o.side a f'.place x f'.stack i.1 pushed
+            ∙ ap (λ l. pushed_of a x ++ l) (ap (λ n. drop n f'.stack) (sym more) ∙ sym same.stack);
+        locals = locals_of f f' o same has x i.1 t.slot refl;
+      }
+
+  -- ---- frames that wait
+
+  -- what stands at a call
+  member_called : (r : Program) (at : Location) (insn : Insn) (e : Entry) → called_by r at insn ≡ Some e → (op : ℕ) × (place : ℕ) × (insn ≡ insns.Member op place)
+  member_called r at (insns.Member op place) e h = (op, place, refl)
+  member_called r at (insns.Simple op) e h = absurd (none-some e h)
+  member_called r at (insns.Push op value) e h = absurd (none-some e h)
+  member_called r at (insns.Local op slot) e h = absurd (none-some e h)
+  member_called r at (insns.Inc slot by) e h = absurd (none-some e h)
+  member_called r at (insns.Constant place) e h = absurd (none-some e h)
+  member_called r at (insns.Constant2 place) e h = absurd (none-some e h)
+  member_called r at (insns.Interface place count) e h = absurd (none-some e h)
+  member_called r at (insns.Dynamic place) e h = absurd (none-some e h)
+  member_called r at (insns.OfClass op place) e h = absurd (none-some e h)
+  member_called r at (insns.NewArray elem) e h = absurd (none-some e h)
+  member_called r at (insns.Multi place dims) e h = absurd (none-some e h)
+  member_called r at (insns.Jump op to) e h = absurd (none-some e h)
+  member_called r at (insns.Table low default arms) e h = absurd (none-some e h)
+  member_called r at (insns.Lookup default arms) e h = absurd (none-some e h)
+
+  -- an item whose instruction names a member is an image or the call of the prelude
+  data IsCalling (x : Item) : Type 0 where
+    an_image : (new : Insn) (at : ℕ) (early : Option ℕ) → x ≡ image new at early → IsCalling x
+    the_prelude : x ≡ init_call → IsCalling x
+
+  no_number : (n op place : ℕ) → push n ≡ insns.Member op place → ⊥
+  no_number n op place e = ⊎_elim (λ h. let no = sym h.1 ∙ e in cc) (λ h. let no = sym h.1 ∙ e in cc) (number_form n)
+
+  calling : (call v : ℕ) (x : Item) (insn : Insn) (op place : ℕ) → IsInsnOf call v x insn → insn ≡ insns.Member op place → IsCalling x
+  calling call v init_call insn op place h e = the_prelude refl
+  calling call v (image new at early) insn op place h e = an_image new at early refl
+  calling call v init_store insn op place h e = let no = sym h ∙ e in cc
+  calling call v (probe_array id at late) insn op place h e = let no = sym h ∙ e in cc
+  calling call v (probe_id id at late) insn op place h e = absurd (no_number id op place (sym h ∙ e))
+  calling call v (probe_one id at late) insn op place h e = let no = sym h ∙ e in cc
+  calling call v (probe_store id at late) insn op place h e = let no = sym h ∙ e in cc
+  calling call v (hop to at due) insn op place h e = let no = sym h ∙ e in cc
+
+  -- the instruction at a place of a method that is there
+  insn_there : (r : Program) (m : Entry) (q : ℕ) (i : LocatedInsn) (c : Linked) (b : Body) → slice_get r.classes m.class ≡ Some c
+      → slice_get c.bodies m.method ≡ Some b → located r m q ≡ Some i
+      → (slice_get b.code q ≡ Some i.insn) × (i.at ≡ location m q c b)
+  insn_there r m q i c b e h k = by (slice_get b.code q) refl (sym (ap (option_and_then (λ (x : Linked). located_in_class m.class q x (slice_get x.bodies m.method))) e
+      ∙ ap (located_in_class m.class q c) h) ∙ k)
+    where
+      by : (o : Option Insn) → slice_get b.code q ≡ o → located_in_body m.class c q b o ≡ Some i → (slice_get b.code q ≡ Some i.insn) × (i.at ≡ location m q c b)
+      by None l k = absurd (none-some i k)
+      by (Some insn) l k =
+          let same = same_Some (record { at = location m q c b; insn = insn }) i k in
+          (l ∙ ap (λ (x : LocatedInsn). Some x.insn) same, sym (ap (λ (x : LocatedInsn). x.at) same))
+
+  module _ (s s' : Shared) (ss : SameShared p p' sides s s') where
+    -- the prelude's call calls `$jacocoInit`
+    prelude_calls : (f f' : Frame) (h : SameFrame p p' sides f f') → h.item ≡ init_call → (v : ℕ) → (sides f.method).slot ≡ Some v → (callee : Entry)
+        → StandsAtCall p' f' callee → callee ≡ init_method p p' sides f.method
+    prelude_calls f f' h call v e callee at =
+        let t = sides f.method in
+        let side = h.one.side in
+        let c = side.changed v e in
+        let there = insn_there p' f.method f'.place at.insn t.new t.twin side.new_is side.twin_is (ap (λ m. located p' m f'.place) (sym h.one.method) ∙ at.stands) in
+        let twin = twin_insn p p' sides f.method side f'.place init_call (h.here ∙ ap Some call) in
+        let insn : at.insn.insn ≡ insns.Member opcode.invokestatic t.call = same_Some at.insn.insn twin.0 (sym there.0 ∙ twin.1) ∙ twin.2 in
+        let named : called_by p' at.insn.at at.insn.insn ≡ Some (init_method p p' sides f.method) =
+        ap (called_by p' at.insn.at) insn ∙ ap (λ (l : Location). named_by p' (what_used l.body.uses t.call)) there.1
+        ∙ ap (named_by p') c.calls ∙ called p p' sides are s s' ss f f' h call v c in
+        same_Some callee (init_method p p' sides f.method) (sym at.calls ∙ named)
+
+    -- that method isn't one of the original
+    not_of_program : (m : Entry) → IsSide p p' m (sides m) → (n : Entry) → IsSide p p' n (sides n) → n ≡ init_method p p' sides m → ⊥
+    not_of_program m side n other e =
+        let class : slice_get p.classes n.class ≡ Some (sides m).class = ap (λ (x : Entry). slice_get p.classes x.class) e ∙ side.class_is in
+        let same : (sides n).class ≡ (sides m).class = class_of n (sides m).class other class in
+        let there : slice_get (sides m).class.bodies (length (sides m).class.bodies) ≡ Some (sides n).body =
+        ap₂ (λ (c : Linked) (x : Entry). slice_get c.bodies x.method) (sym same) (sym e) ∙ other.body_is in
+        none-some (sides n).body (sym (slice_get_past (sides m).class.bodies (length (sides m).class.bodies) (omega arith)) ∙ there)
+
+    slot_of_call : (m : Entry) → IsSide p p' m (sides m) → (q : ℕ) → slice_get (sides m).items q ≡ Some init_call → (v : ℕ) × ((sides m).slot ≡ Some v)
+    slot_of_call m side q here = by (sides m).slot refl
+      where
+        by : (o : Option ℕ) → (sides m).slot ≡ o → (v : ℕ) × ((sides m).slot ≡ Some v)
+        by None e = absurd (true≢false (sym (subst (λ s. IsPlain s (sides m).items) e side.plain q init_call here)))
+        by (Some v) e = (v, e)
+
+    wait_of : (f f' : Frame) (callee callee' : Entry) (h : SameFrame p p' sides f f') → FitsWaiting p f callee → FitsWaiting p' f' callee'
+        → (callee' ≡ init_method p p' sides f.method → ⊥) → SameWait p p' sides f f'
+    wait_of f f' callee callee' h w w' other =
+        let t = sides f.method in
+        let side = h.one.side in
+        let there = insn_there p' f.method f'.place w'.at_call.insn t.new t.twin side.new_is side.twin_is
+        (ap (λ m. located p' m f'.place) (sym h.one.method) ∙ w'.at_call.stands) in
+        let twin = twin_insn p p' sides f.method side f'.place h.item h.here in
+        let member = member_called p' w'.at_call.insn.at w'.at_call.insn.insn callee' w'.at_call.calls in
+        by (calling t.call t.body.arg_slots h.item twin.0 member.0 member.1 twin.2 (same_Some twin.0 w'.at_call.insn.insn (sym twin.1 ∙ there.0) ∙ member.2))
+      where
+        goes_on : flow_of (insn_at (sides f.method).body.code f.place) ≡ flows.GoesOn
+        goes_on =
+            let t = sides f.method in
+            let old = insn_there p f.method f.place w.at_call.insn t.class t.body h.one.side.class_is h.one.side.body_is w.at_call.stands in
+            let member = member_called p w.at_call.insn.at w.at_call.insn.insn callee w.at_call.calls in
+            ap flow_of (get_or_from_slice_get t.body.code f.place w.at_call.insn.insn (insns.Simple 0) old.0 ∙ member.2)
+
+        by : IsCalling h.item → SameWait p p' sides f f'
+        by (an_image new at early e) =
+            let t = sides f.method in
+            let place : at ≡ f.place = ap at_of (sym e) ∙ h.at in
+            let is : h.item ≡ image new f.place early = e ∙ ap (λ k. image new k early) place in
+            let here = h.here ∙ ap Some is in
+            let ok = h.one.side.ok.ok f'.place (image new f.place early) here in
+            let next = subst (OkImage t.body.code t.slot t.ids t.items f'.place f.place (insn_at t.body.code f.place) new) goes_on ok.2 in
+            record {
+              one = h.one;
+              insn = new;
+              early = early;
+              here = here;
+              next = (t.ids (sequence f.place), next.1.stands);
+              stack = h.stack ∙ ap (λ y. pushed_of (array_of t f.method.class) y ++ f.stack) is;
+              locals = subst (λ y. SameLocals (array_of t f.method.class) t.slot f.locals f'.locals y) is h.locals;
+            }
+        by (the_prelude e) =
+            let s = slot_of_call f.method h.one.side f'.place (h.here ∙ ap Some e) in
+            absurd (other (prelude_calls f f' h e s.0 s.1 callee' w'.at_call))
+
+    -- the frames that wait below frames of a method of the original
+    waits_of : (fs fs' : List Frame) (m m' : Entry) → m' ≡ m → IsSide p p' m (sides m) → spec.SameFrames p' marks fs fs'
+        → AllByRecursion (HasProbeState p' marks) fs' → FitEachWaiting p m fs → FitEachWaiting p' m' fs' → SameWaits p p' sides fs fs'
+    waits_of [] [] m m' e side s h w w' = tt
+    waits_of (f ∷ fs) (f' ∷ fs') m m' e side s h w w' =
+        let o = one_method f f' s.0.method w.0.stands in (
+          wait_of f f' m m' (frame_of f f' o s.0 h.0) w.0 w'.0 (λ q. not_of_program f.method o.side m side (sym e ∙ q)),
+          waits_of fs fs' f.method f'.method s.0.method o.side s.1 h.1 w.1 w'.1,
+        )
+    waits_of [] (f' ∷ fs') m m' e side s h w w' = absurd s
+    waits_of (f ∷ fs) [] m m' e side s h w w' = absurd s
+
+    -- ---- `$jacocoInit`
+
+    init_declares : (m : Entry) (c : Linked) → slice_get p'.classes m.class ≡ Some c → is_init_method p' m ≡ true → declares_init c ≡ true
+    init_declares m c e h = by (slice_get c.bodies m.method) refl (sym (ap named_init (ap (option_and_then (λ (x : Linked). slice_get x.bodies m.method)) e)) ∙ h)
+      where
+        by : (o : Option Body) → slice_get c.bodies m.method ≡ o → named_init o ≡ true → declares_init c ≡ true
+        by None k n = absurd (true≢false (sym n))
+        by (Some b) k n = any_at (λ (x : Body). is_init_name x.name) c.bodies m.method b k n
+
+    inside_of : (f : Frame) (fs : List Frame) (f' below : Frame) (rest : List Frame) → OneMethod p p' sides f below → spec.SameFrame p' marks f below
+        → spec.SameFrames p' marks fs rest → HasInitState p' marks f' → HasProbeState p' marks below → AllByRecursion (HasProbeState p' marks) rest
+        → FitEachWaiting p f.method fs → FitsWaiting p' below f'.method → FitEachWaiting p' below.method rest → is_init_method p' f'.method ≡ true
+        → Inside p p' sides f fs f' (below ∷ rest)
+    inside_of f fs f' below rest o same others init has more w w' wait named =
+        let t = sides f.method in
+        let at = w'.below_init named in
+        let class : f'.method.class ≡ f.method.class = sym at.1 ∙ ap (λ (e : Entry). e.class) o.method in
+        let new : slice_get p'.classes f'.method.class ≡ Some t.new = ap (slice_get p'.classes) class ∙ o.side.new_is in
+        let declares = init_declares f'.method t.new new named in
+        let base = frame_of f below o same has in
+        by t.slot refl declares base at.0 class new
+      where
+        by : (slot : Option ℕ) → (sides f.method).slot ≡ slot → declares_init (sides f.method).new ≡ true → (base : SameFrame p p' sides f below) → below.place ≡ 0
+            → f'.method.class ≡ f.method.class → slice_get p'.classes f'.method.class ≡ Some (sides f.method).new → Inside p p' sides f fs f' (below ∷ rest)
+        by None e declares base zero_place class new = absurd (true≢false (sym declares ∙ (base.one.side.unchanged e).declares))
+        by (Some v) e declares base zero_place class new =
+            let t = sides f.method in
+            let start = subst (OkStart t.body.code t.slot t.ids t.items) e base.one.side.ok.start in
+            let call : base.item ≡ init_call = same_Some base.item init_call (sym base.here ∙ ap (slice_get t.items) zero_place ∙ start) in
+            let same_new : init.class ≡ t.new = same_Some init.class t.new (sym init.class_is ∙ new) in
+            record {
+              below = below;
+              rest = rest;
+              waiting = refl;
+              base = base;
+              at_call = call;
+              waits = waits_of fs rest f.method below.method o.method o.side others more w wait;
+              method = prelude_calls f below base call v e f'.method w'.at_call;
+              init = init.init;
+              has = ap (λ (c : Linked). c.probes) (sym same_new) ∙ init.has;
+              step = init.step;
+              place = init.place;
+              stack = init.stack ∙ ap (λ k. step_stack k init.init init.step) class;
+            }
+
+    -- ---- threads
+
+    running_of : (f : Frame) (fs : List Frame) (f' : Frame) (fs' : List Frame) → (b : Bool) → is_init_method p' f'.method ≡ b
+        → spec.SameFrames p' marks (f ∷ fs) (frames_of b f' fs') → HasTopState p' marks b f' → AllByRecursion (HasProbeState p' marks) fs'
+        → FitsTop p f → FitEachWaiting p f.method fs → FitEachWaiting p' f'.method fs' → SameThread p p' sides (running f fs) (running f' fs')
+    running_of f fs f' fs' false e same has more top w w' =
+        let o = one_method f f' same.0.method top.stands in
+        inl (frame_of f f' o same.0 has, waits_of fs fs' f.method f'.method same.0.method o.side same.1 more w w')
+    running_of f fs f' [] true e same has more top w w' = absurd same
+    running_of f fs f' (below ∷ rest) true e same has more top w w' =
+        inr (inside_of f fs f' below rest (one_method f below same.0.method top.stands) same.0 same.1 has more.0 more.1 w w'.0 w'.1 e)
+
+    stuck_of : (m : Entry) (q : ℕ) (m' : Entry) (q' : ℕ) → (m' ≡ m) × (slice_get (marks m).at q' ≡ Some q) → IsStuckWithin p (stuck m q) → SameStuck p p' sides m q m' q'
+    stuck_of m q m' q' same inside = by (slice_get p.classes m.class) refl inside.1
+      where
+        by : (o : Option Linked) → slice_get p.classes m.class ≡ o → option_and_then (λ (c : Linked). slice_get c.bodies m.method) o ≡ Some inside.0
+            → SameStuck p p' sides m q m' q'
+        by None e h = absurd (none-some inside.0 h)
+        by (Some c) e h =
+            let side = are.side m c inside.0 e h in
+            let i = map_at at_of (sides m).items q' q (ap (λ l. slice_get l q') (sym (told m side).at) ∙ same.1) in
+            record { same = same.0; side = side; item = i.0; here = i.1; at = i.2 }
+
+    thread_of : (heap heap' : List HeapObject) (x x' : Thread) → spec.SameThread p' marks x x' → HasState p' marks x' → IsStuckWithin p x → FitsThread p heap x
+        → FitsThread p' heap' x' → SameThread p p' sides x x'
+    thread_of heap heap' (running f fs) (running f' fs') same has inside fits fits' =
+        running_of f fs f' fs' (is_init_method p' f'.method) refl same has.0 has.1 fits.top fits.below fits'.below
+    thread_of heap heap' (returned v) (returned v') same has inside fits fits' = same
+    thread_of heap heap' (threw c) (threw c') same has inside fits fits' = same
+    thread_of heap heap' (stuck m q) (stuck m' q') same has inside fits fits' = stuck_of m q m' q' same inside
+    thread_of heap heap' (running f fs) (returned v) same has inside fits fits' = absurd same
+    thread_of heap heap' (running f fs) (threw c) same has inside fits fits' = absurd same
+    thread_of heap heap' (running f fs) (stuck m q) same has inside fits fits' = absurd same
+    thread_of heap heap' (returned v) (running f fs) same has inside fits fits' = absurd same
+    thread_of heap heap' (returned v) (threw c) same has inside fits fits' = absurd same
+    thread_of heap heap' (returned v) (stuck m q) same has inside fits fits' = absurd same
+    thread_of heap heap' (threw c) (running f fs) same has inside fits fits' = absurd same
+    thread_of heap heap' (threw c) (returned v) same has inside fits fits' = absurd same
+    thread_of heap heap' (threw c) (stuck m q) same has inside fits fits' = absurd same
+    thread_of heap heap' (stuck m q) (running f fs) same has inside fits fits' = absurd same
+    thread_of heap heap' (stuck m q) (returned v) same has inside fits fits' = absurd same
+    thread_of heap heap' (stuck m q) (threw c) same has inside fits fits' = absurd same
+
+    threads_of : (heap heap' : List HeapObject) (xs xs' : List Thread) → spec.SameThreads p' marks xs xs' → AllByRecursion (HasState p' marks) xs'
+        → AllByRecursion (IsStuckWithin p) xs → AllByRecursion (FitsThread p heap) xs → AllByRecursion (FitsThread p' heap') xs' → SameThreads p p' sides xs xs'
+    threads_of heap heap' [] [] same has inside fits fits' = tt
+    threads_of heap heap' (x ∷ xs) (x' ∷ xs') same has inside fits fits' =
+        (thread_of heap heap' x x' same.0 has.0 inside.0 fits.0 fits'.0, threads_of heap heap' xs xs' same.1 has.1 inside.1 fits.1 fits'.1)
+    threads_of heap heap' [] (x' ∷ xs') same has inside fits fits' = absurd same
+    threads_of heap heap' (x ∷ xs) [] same has inside fits fits' = absurd same
+
+  -- ---- static fields
+
+  module _ (w w' : World) (fits : FitsWorld p w) (fits' : FitsWorld p' w') (h : Together p p' marks w w') where
+    abbrev xs : ℕ → List Value
+    xs class = values_of w.shared class
+
+    abbrev xs' : ℕ → List Value
+    xs' class = values_of w'.shared class
+
+    unchanged_same : (class : ℕ) (c new : Linked) → slice_get p'.classes class ≡ Some new → IsUnchangedPair p.names p'.names c new → xs' class ≡ xs class
+    unchanged_same class c new there pair = same_items (xs' class) (xs class) (λ k. h.same.statics class k (no_data k))
+      where
+        no_data : (k : ℕ) → is_data p' class k ≡ false
+        no_data k = ap (is_data_in k) there ∙ ap (λ l. is_named_data (slice_get l k)) pair.statics ∙ by (slice_get c.statics k) refl
+          where
+            by : (o : Option StaticField) → slice_get c.statics k ≡ o → is_named_data o ≡ false
+            by None e = refl
+            by (Some f) e = other_name f.name data_name (λ name. pair.none_added.statics f (stands_in c.statics k f e) name)
+
+    changed_same : (class : ℕ) (c new : Linked) → slice_get p.classes class ≡ Some c → slice_get p'.classes class ≡ Some new
+        → IsChangedPair p.names p'.names c new → SameStatics (Some (count_in new.probes)) class (xs class) (xs' class)
+    changed_same class c new here there pair =
+        (found.0, same_items (xs' class) (xs class ++ (last ∷ [])) (λ k. by k (nat_eq k (length c.statics)) refl))
+      where
+        found : (b : Bool) × (slice_get (xs' class) (length c.statics) ≡ Some (null_or b (array_in p' class)))
+        found = h.arrays class (length c.statics) (is_added p p' sides marks are told class c new there pair)
+
+        last : Value
+        last = null_or found.0 (probes class (count_in new.probes))
+
+        count : length (xs class) ≡ length c.statics
+        count = (class_statics p.classes w.shared.statics fits.statics class c here).count
+
+        no_data : (k : ℕ) → (k ≡ length c.statics → ⊥) → is_data p' class k ≡ false
+        no_data k other =
+            ap (is_data_in k) there ∙ ap (λ l. is_named_data (slice_get l k)) pair.statics
+            ∙ ap is_named_data (one_more c.statics k data_static other) ∙ named (slice_get c.statics k) refl
+          where
+            named : (o : Option StaticField) → slice_get c.statics k ≡ o → is_named_data o ≡ false
+            named None e = refl
+            named (Some f) e = other_name f.name data_name (λ name. pair.none_added.statics f (stands_in c.statics k f e) (inr name))
+
+        by : (k : ℕ) (b : Bool) → nat_eq k (length c.statics) ≡ b → slice_get (xs' class) k ≡ slice_get (xs class ++ (last ∷ [])) k
+        by k true e =
+            let at = eqb-true k (length c.statics) e in
+            ap (slice_get (xs' class)) at ∙ found.1 ∙ ap (λ o. Some (null_or found.0 (probes class (count_of o)))) there
+            ∙ sym (last_is (xs class) last) ∙ ap (slice_get (xs class ++ (last ∷ []))) (count ∙ sym at)
+        by k false e =
+            let other = eqb-false k (length c.statics) e in
+            h.same.statics class k (no_data k other) ∙ sym (one_more (xs class) k last (λ j. other (j ∙ count)))
+
+    statics_of : (class : ℕ) → SameStatics (extra_in (class_at p' class)) class (xs class) (xs' class)
+    statics_of class = by (slice_get p.classes class) refl
+      where
+        pair_of : (c : Linked) → slice_get p.classes class ≡ Some c
+            → (new : Linked) × (slice_get p'.classes class ≡ Some new) × IsPair p.names p'.names c new
+            → SameStatics (extra_in (class_at p' class)) class (xs class) (xs' class)
+        pair_of c here (new, there, inl pair) =
+            subst (λ o. SameStatics o class (xs class) (xs' class))
+            (sym (ap extra_in there ∙ ap (λ b. if b then Some (count_in new.probes) else None) (unchanged_declares p.names p'.names c new pair)))
+            (unchanged_same class c new there pair)
+        pair_of c here (new, there, inr pair) =
+            subst (λ o. SameStatics o class (xs class) (xs' class))
+            (sym (ap extra_in there
+            ∙ ap (λ b. if b then Some (count_in new.probes) else None) (changed_declares p.names p'.names c new pair (are.added c new pair))))
+            (changed_same class c new here there pair)
+
+        by : (o : Option Linked) → slice_get p.classes class ≡ o → SameStatics (extra_in (class_at p' class)) class (xs class) (xs' class)
+        by None e =
+            let none = no_class p p' sides are class e in
+            subst (λ o. SameStatics o class (xs class) (xs' class)) (sym (ap extra_in none))
+            (no_statics p'.classes w'.shared.statics fits'.statics class none ∙ sym (no_statics p.classes w.shared.statics fits.statics class e))
+        by (Some c) e = pair_of c e (are.pair class c e)
+
+    shared_of : SameShared p p' sides w.shared w'.shared
+    shared_of = record {
+      heap = h.same.heap;
+      output = h.same.output;
+      raised = h.same.raised;
+      statics = statics_of;
+      counts = λ class c here. (class_statics p.classes w.shared.statics fits.statics class c here).count;
+    }
+
+    pub together_mid : Mid p p' sides w w'
+    together_mid = record {
+      shared = shared_of;
+      threads = threads_of w.shared w'.shared shared_of w.shared.heap w'.shared.heap w.threads w'.threads h.same.threads h.threads h.within fits.threads fits'.threads;
+    }

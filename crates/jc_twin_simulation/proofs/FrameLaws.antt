@@ -1,0 +1,113 @@
+-- Frames that stand at an instruction and at its image, and frames that come to where both go on.
+use Rattle.std.proofs.Common.{◌≡◌, ℕ, Bool, true, false, List, ◌++◌, Option, Some, nat_eq, refl, sym, ap, ◌∙◌, subst, subst₂}
+use Rattle.std.specs.Prelude.{slice_get, option_and_then}
+use Rattle.std.proofs.lemmas.Bool.{eqb-true}
+use Rattle.std.proofs.lemmas.Option.{slice_get-get_or}
+use Rattle.jc_methods.specs.declared.insn.Insn.{Insn}
+use Rattle.jc_methods.specs.declared.insn.Insn.TheVariants as insns
+use Rattle.jc_methods.specs.declared.body.Body.{Body}
+use Rattle.jc_programs.specs.declared.program.Program.{Program}
+use Rattle.jc_programs.specs.declared.program.Linked.{Linked}
+use Rattle.jc_programs.specs.declared.run_end.Entry.{Entry}
+use Rattle.jc_programs.specs.Members.{body_of}
+use Rattle.jc_emit.specs.Items.{Item, init_call, image}
+use Rattle.jc_emit.specs.Local.{OkStart, IsBehind}
+use Rattle.jc_emit.specs.Seen.{IsInsnOf}
+use Rattle.jc_emit.specs.Sizes.{insn_at}
+use Rattle.jc_machine_model.specs.Values.{Value}
+use Rattle.jc_machine_model.specs.World.{Frame, Shared}
+use Rattle.jc_machine_model.specs.Methods.{is_init_name}
+use Rattle.jc_machine_model.specs.Profile.{Location, operation_of}
+use Rattle.jc_machine_model.specs.Perform.{perform}
+use Rattle.jc_machine_model.specs.Step.{located_in_body, located_in_class, located, operation_at, result_of, is_init_method, named_init}
+use Rattle.jc_twin_simulation.specs.Sides.{Side, array_of, GoesOnAt, IsSide, AreSides}
+use Rattle.jc_twin_simulation.specs.Mid.{SameLocals, OneMethod, SameFrame, SameShared}
+use Rattle.jc_twin_simulation.proofs.LocalLaws.{none_pushed, moves_on}
+use Rattle.jc_twin_simulation.proofs.OwnLaws.{SameResult, AtImage, performed}
+use Rattle.jc_twin_simulation.proofs.OperationLaws.{alike}
+
+-- ---- the body of a method
+
+pub body_is : (r : Program) (m : Entry) (c : Linked) (b : Body) → slice_get r.classes m.class ≡ Some c → slice_get c.bodies m.method ≡ Some b
+    → body_of r m ≡ Some b
+body_is r m c b e h = ap (option_and_then (λ (x : Linked). slice_get x.bodies m.method)) e ∙ h
+
+pub init_is : (r : Program) (m : Entry) (c : Linked) (b : Body) → slice_get r.classes m.class ≡ Some c → slice_get c.bodies m.method ≡ Some b
+    → is_init_method r m ≡ is_init_name b.name
+init_is r m c b e h = ap named_init (body_is r m c b e h)
+
+abbrev pub location : Entry → ℕ → Linked → Body → Location
+location m place c b = record { class = m.class; linked = c; body = b; place = place }
+
+pub located_is : (r : Program) (m : Entry) (place : ℕ) (c : Linked) (b : Body) (insn : Insn) → slice_get r.classes m.class ≡ Some c
+    → slice_get c.bodies m.method ≡ Some b
+    → slice_get b.code place ≡ Some insn → located r m place ≡ Some (record { at = location m place c b; insn = insn })
+located_is r m place c b insn e h k =
+    ap (option_and_then (λ (x : Linked). located_in_class m.class place x (slice_get x.bodies m.method))) e
+    ∙ ap (located_in_class m.class place c) h ∙ ap (located_in_body m.class c place b) k
+
+-- what the instruction does
+pub result_is : (r : Program) (s : Shared) (f : Frame) (m : Entry) (place : ℕ) (c : Linked) (b : Body) (insn : Insn) → f.method ≡ m → f.place ≡ place
+    → slice_get r.classes m.class ≡ Some c → slice_get c.bodies m.method ≡ Some b → slice_get b.code place ≡ Some insn
+    → result_of r s f ≡ perform (operation_of r (location m place c b) insn) s f
+result_is r s f m place c b insn em ep e h k =
+    ap (λ x. perform (operation_at r (located r x f.place)) s f) em ∙ ap (λ x. perform (operation_at r (located r m x)) s f) ep
+    ∙ ap (λ o. perform (operation_at r o) s f) (located_is r m place c b insn e h k)
+
+module _ (p p' : Program) (sides : Entry → Side) where
+  abbrev frame_at : Frame → ℕ → List (Option Value) → List Value → Frame
+  frame_at f place ls st = record { method = f.method; place = place; locals = ls; stack = st }
+
+  -- both go on, with these local variables and one stack
+  pub arrives : (f f' : Frame) → OneMethod p p' sides f f' → (q i : ℕ) → GoesOnAt (sides f.method) q i → (old : Item) → IsBehind old
+      → (ls ls' : List (Option Value))
+      → SameLocals (array_of (sides f.method) f.method.class) (sides f.method).slot ls ls' old → (st : List Value)
+      → SameFrame p p' sides (record { method = f.method; place = i; locals = ls; stack = st })
+      (record { method = f'.method; place = q; locals = ls'; stack = st })
+  arrives f f' o q i h old b ls ls' same st = record {
+    one = record { method = o.method; side = o.side; entered = o.entered };
+    item = h.1.item;
+    here = h.1.here;
+    at = h.1.at_is;
+    stack = ap (λ l. l ++ st) (sym (none_pushed (array_of (sides f.method) f.method.class) (sides f.method) q i h.0 h.1));
+    locals = moves_on (array_of (sides f.method) f.method.class) (sides f.method).slot ls ls' old h.1.item b same;
+  }
+
+  -- the twin's instruction
+  pub twin_insn : (m : Entry) → IsSide p p' m (sides m) → (q : ℕ) (x : Item) → slice_get (sides m).items q ≡ Some x
+      → (insn : Insn) × (slice_get (sides m).twin.code q ≡ Some insn) × IsInsnOf (sides m).call (sides m).body.arg_slots x insn
+  twin_insn m side q x here = side.code.each q x here
+
+  -- a prelude stands at the beginning of a twin
+  pub past_start : (m : Entry) → IsSide p p' m (sides m) → (q : ℕ) (x : Item) → slice_get (sides m).items q ≡ Some x → (x ≡ init_call → ⊥)
+      → (v : ℕ) → (sides m).slot ≡ Some v → nat_eq q 0 ≡ false
+  past_start m side q x here other v e = by (nat_eq q 0) refl
+    where
+      start : slice_get (sides m).items 0 ≡ Some init_call
+      start = subst (OkStart (sides m).body.code (sides m).slot (sides m).ids (sides m).items) e side.ok.start
+
+      same_some : (x y : Item) → Some x ≡ Some y → x ≡ y
+      same_some x y e = cc
+
+      by : (b : Bool) → nat_eq q 0 ≡ b → b ≡ false
+      by true h = absurd (other (same_some x init_call (sym here ∙ ap (slice_get (sides m).items) (eqb-true q 0 h) ∙ start)))
+      by false h = refl
+
+  module _ (are : AreSides p p' sides) (f f' : Frame) (new : Insn) (early : Option ℕ) (o : AtImage p p' sides f f' new early)
+      (s s' : Shared) (ss : SameShared p p' sides s s') where
+    abbrev t : Side
+    t = sides f.method
+
+    pub own_result : SameResult p p' sides (result_of p s f) (result_of p' s' f')
+    own_result =
+        let side = o.one.side in
+        let ok = side.ok.ok f'.place (image new f.place early) o.here in
+        let insn = insn_at t.body.code f.place in
+        let twin = twin_insn f.method side f'.place (image new f.place early) o.here in
+        let past = past_start f.method side f'.place (image new f.place early) o.here (λ e. cc) in
+        let old_is = result_is p s f f.method f.place t.class t.body insn refl refl side.class_is side.body_is (slice_get-get_or t.body.code f.place (insns.Simple 0) ok.0) in
+        let new_is = result_is p' s' f' f.method f'.place t.new t.twin new o.one.method refl side.new_is side.twin_is (twin.1 ∙ ap Some twin.2) in
+        let r = performed p p' sides f f' new early o s s' ss
+        (operation_of p (location f.method f.place t.class t.body) insn) (operation_of p' (location f.method f'.place t.new t.twin) new)
+        (alike p p' sides are f.method side f'.place f.place past new ok.0 ok.2) in
+        subst₂ (SameResult p p' sides) (sym old_is) (sym new_is) r

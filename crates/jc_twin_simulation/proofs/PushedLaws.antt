@@ -1,0 +1,129 @@
+-- What the prelude or a probe has pushed, from the instructions in front.
+use Rattle.std.proofs.Common.{◌≡◌, ⊎_elim, ℕ, ℤ, zero, suc, ◌+◌, ◌-◌, ◌≤◌, pos, Bool, true, false, List, [], ◌∷◌, ◌++◌, drop, Some, nat_le, refl, sym, ap, ap₂, ◌∙◌, subst, arith, if◌then◌else◌}
+use Rattle.std.specs.Prelude.{slice_get}
+use Rattle.std.proofs.lemmas.Option.{same_Some}
+use Rattle.jc_methods.specs.Opcode as opcode
+use Rattle.jc_methods.specs.declared.insn.Insn.{Insn}
+use Rattle.jc_methods.specs.declared.insn.Insn.TheVariants as insns
+use Rattle.jc_programs.specs.declared.program.Program.{Program}
+use Rattle.jc_programs.specs.declared.run_end.Entry.{Entry}
+use Rattle.jc_emit.specs.Items.{Item, init_call, init_store, image, probe_array, probe_id, probe_one, probe_store, hop, extra_of}
+use Rattle.jc_emit.specs.Local.{IsBehind, OkStart}
+use Rattle.jc_emit.specs.Marks.{push, prelude_size}
+use Rattle.jc_machine_model.specs.Values.{Value, int}
+use Rattle.jc_twin_simulation.specs.Sides.{Side, IsSide}
+use Rattle.jc_twin_simulation.specs.Mid.{pushed_of}
+use Rattle.jc_twin_simulation.specs.Together.{IsPushedBy, ArePushed}
+use Rattle.jc_twin_simulation.proofs.FrameLaws.{twin_insn}
+use Rattle.jc_twin_simulation.proofs.TogetherLaws.{number_form, store_behind, id_behind, one_behind, last_behind}
+
+-- ---- what was pushed
+
+-- the number that an instruction pushes
+abbrev number_of : Insn → ℤ
+number_of (insns.Simple op) = pos (op - opcode.iconst_0)
+number_of (insns.Push op x) = x
+number_of _ = pos 0
+
+number_told : (n : ℕ) → number_of (push n) ≡ pos n
+number_told n = by (nat_le n 5) (nat_le n 127)
+  where
+    by : (a b : Bool)
+        → number_of (if a then insns.Simple (opcode.iconst_0 + n) else if b then insns.Push opcode.bipush (pos n) else insns.Push opcode.sipush (pos n)) ≡ pos n
+    by true b = let same : 3 + n - 3 ≡ n = omega arith in ap pos same
+    by false true = refl
+    by false false = refl
+
+one_number : (n k : ℕ) → push n ≡ push k → n ≡ k
+one_number n k e = let same : pos n ≡ pos k = sym (number_told n) ∙ ap number_of e ∙ number_told k in cc
+
+number_is : (array : Value) (insn : Insn) (n : ℕ) (v : Value) → insn ≡ push n → IsPushedBy array insn v → v ≡ int (pos n)
+number_is array insn n v e h = ⊎_elim
+    (λ f.
+    let k = subst (λ i. IsPushedBy array i v) (e ∙ f.1) h in
+    k.2 ∙ ap (λ j. int (pos j)) (sym (one_number n k.0 (f.1 ∙ k.1))))
+    (λ f.
+    let k = subst (λ i. IsPushedBy array i v) (e ∙ f.1) h in
+    k.2 ∙ ap (λ j. int (pos j)) (sym (one_number n k.0 (f.1 ∙ k.1))))
+    (number_form n)
+
+module _ (p p' : Program) (sides : Entry → Side) (m : Entry) (side : IsSide p p' m (sides m)) (a : Value) where
+  abbrev t : Side
+  t = sides m
+
+  abbrev Pushed : ℕ → ℕ → List Value → Type 0
+  Pushed q extra stack = ArePushed a t.twin.code q extra stack
+
+  -- one value less, by the instruction in front
+  record Down (r n : ℕ) (insn : Insn) (stack : List Value) : Type 0 where
+    top : Value
+    rest : List Value
+    is : stack ≡ top ∷ rest
+    by : IsPushedBy a insn top
+    below : Pushed r n rest
+
+  down : (q n r : ℕ) (insn : Insn) (stack : List Value) → q ≡ suc r → slice_get t.twin.code r ≡ Some insn → Pushed q (suc n) stack → Down r n insn stack
+  down q n r insn [] e h k = absurd k
+  down q n r insn (v ∷ stack) e h k =
+      let place : k.0 ≡ r = let first = k.2 in omega (arith, e, first) in
+      let same : k.1 ≡ insn = same_Some k.1 insn (sym k.3 ∙ ap (slice_get t.twin.code) place ∙ h) in
+      record {
+        top = v;
+        rest = stack;
+        is = refl;
+        by = subst (λ i. IsPushedBy a i v) same k.4;
+        below = subst (λ j. Pushed j n stack) place k.5;
+      }
+
+  store_off : (q : ℕ) (st : List Value) → slice_get t.items q ≡ Some init_store → Pushed q 1 st → st ≡ a ∷ drop 1 st
+  store_off q st here k =
+      let f = store_behind p p' sides m side q here in
+      let c = twin_insn p p' sides m side f.place init_call f.here in
+      let d = down q 0 f.place c.0 st f.next c.1 k in
+      d.is ∙ ap (λ v. v ∷ d.rest) (subst (λ i. IsPushedBy a i d.top) c.2 d.by) ∙ ap (λ l. a ∷ drop 1 l) (sym d.is)
+
+  id_off : (q id at : ℕ) (late : Bool) (st : List Value) → slice_get t.items q ≡ Some (probe_id id at late) → Pushed q 1 st → st ≡ a ∷ drop 1 st
+  id_off q id at late st here k =
+      let f = id_behind p p' sides m side q id at late here in
+      let c = twin_insn p p' sides m side f.place (probe_array id at late) f.here in
+      let d = down q 0 f.place c.0 st f.next c.1 k in
+      d.is ∙ ap (λ v. v ∷ d.rest) (subst (λ i. IsPushedBy a i d.top) c.2 d.by) ∙ ap (λ l. a ∷ drop 1 l) (sym d.is)
+
+  one_off : (q id at : ℕ) (late : Bool) (st : List Value) → slice_get t.items q ≡ Some (probe_one id at late) → Pushed q 2 st
+      → st ≡ int (pos id) ∷ a ∷ drop 2 st
+  one_off q id at late st here k =
+      let f = one_behind p p' sides m side q id at late here in
+      let c = twin_insn p p' sides m side f.place (probe_id id at late) f.here in
+      let d = down q 1 f.place c.0 st f.next c.1 k in
+      d.is ∙ ap₂ (λ v l. v ∷ l) (number_is a c.0 id d.top c.2 d.by) (id_off f.place id at late d.rest f.here d.below)
+      ∙ ap (λ l. int (pos id) ∷ a ∷ drop 2 l) (sym d.is)
+
+  last_off : (q id at : ℕ) (late : Bool) (st : List Value) → slice_get t.items q ≡ Some (probe_store id at late) → Pushed q 3 st
+      → st ≡ int (pos 1) ∷ int (pos id) ∷ a ∷ drop 3 st
+  last_off q id at late st here k =
+      let f = last_behind p p' sides m side q id at late here in
+      let c = twin_insn p p' sides m side f.place (probe_one id at late) f.here in
+      let d = down q 2 f.place c.0 st f.next c.1 k in
+      d.is ∙ ap₂ (λ v l. v ∷ l) (number_is a c.0 1 d.top c.2 d.by) (one_off f.place id at late d.rest f.here d.below)
+      ∙ ap (λ l. int (pos 1) ∷ int (pos id) ∷ a ∷ drop 3 l) (sym d.is)
+
+  pub item_off : (q : ℕ) (x : Item) (st : List Value) → slice_get t.items q ≡ Some x → Pushed q (extra_of x) st → st ≡ pushed_of a x ++ drop (extra_of x) st
+  item_off q init_call st here k = refl
+  item_off q init_store st here k = store_off q st here k
+  item_off q (image insn at early) st here k = refl
+  item_off q (probe_array id at late) st here k = refl
+  item_off q (probe_id id at late) st here k = id_off q id at late st here k
+  item_off q (probe_one id at late) st here k = one_off q id at late st here k
+  item_off q (probe_store id at late) st here k = last_off q id at late st here k
+  item_off q (hop to at due) st here k = refl
+
+  -- what isn't in the prelude stands behind it
+  pub past_prelude : (q : ℕ) (x : Item) (v : ℕ) → t.slot ≡ Some v → slice_get t.items q ≡ Some x → IsBehind x → prelude_size ≤ q
+  past_prelude zero x v e here b =
+      let start = subst (OkStart t.body.code t.slot t.ids t.items) e side.ok.start in
+      absurd (subst IsBehind (same_Some x init_call (sym here ∙ start)) b)
+  past_prelude (suc zero) x v e here b =
+      let start = subst (OkStart t.body.code t.slot t.ids t.items) e side.ok.start in
+      let next = (side.ok.ok 0 init_call start).1 in
+      absurd (subst IsBehind (same_Some x init_store (sym here ∙ next)) b)
+  past_prelude (suc (suc q)) x v e here b = omega arith

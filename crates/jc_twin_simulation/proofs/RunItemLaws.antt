@@ -1,0 +1,223 @@
+-- The items of a twin: those of the prelude and of each probe stand one behind the other.
+use Rattle.std.proofs.Common.{◌≡◌, ℕ, zero, suc, ◌+◌, Bool, true, false, List, [], ◌∷◌, ◌++◌, map, length, Option, Some, None, refl, sym, ap, ap₂, ◌∙◌, subst, arith}
+use Rattle.std.specs.Prelude.{All, slice_get}
+use Rattle.std.proofs.lemmas.Bool.{true≢false}
+use Rattle.std.proofs.lemmas.List.{length-map}
+use Rattle.std.proofs.lemmas.Option.{none-some, same_Some}
+use Rattle.jc_bytes.specs.PlainLists.{pieces}
+use Rattle.jc_methods.specs.VerificationTypes.{Names}
+use Rattle.jc_methods.specs.Flow.{flow_of, jump_target}
+use Rattle.jc_methods.specs.Insn.{with_places}
+use Rattle.jc_methods.specs.WellMade.{IsHandler, IsWellMadeOfAnySize}
+use Rattle.jc_methods.specs.Widened.{inverted}
+use Rattle.jc_methods.specs.declared.insn.Insn.{Insn}
+use Rattle.jc_methods.specs.declared.insn.Flow.{Flow}
+use Rattle.jc_methods.specs.declared.insn.Flow.TheVariants as flows
+use Rattle.jc_methods.specs.declared.kind.State.{State}
+use Rattle.jc_methods.specs.declared.body.Body.{Body}
+use Rattle.jc_methods.specs.declared.body.Handler.{Handler}
+use Rattle.jc_plan.specs.declared.branch.Branch.{Branch}
+use Rattle.jc_plan.specs.Plan.{lead_probe}
+use Rattle.jc_plan.specs.Probed.{probe_of}
+use Rattle.jc_emit.specs.Items.{Item, init_call, init_store, image, probe_array, probe_id, probe_one, probe_store, hop, own_of, insn_of, lead_part, early_part, hop_part, arm_parts, test_part, segment, tests_part, image_part, twin_items, lead_of, land_of, image_of}
+use Rattle.jc_emit.specs.Local.{OkRow}
+use Rattle.jc_emit.specs.Seen.{IsSeen, IsInsnOf, AreInsnsOf, OkRows}
+use Rattle.jc_emit.specs.Sizes.{insn_at, early_probe, late_probe, arms_at, is_wide}
+use Rattle.jc_emit.specs.Twin.{Twin}
+use Rattle.jc_emit.specs.TwinCode.{to_of, arm_place}
+use Rattle.jc_emit.specs.TwinTables.{moved_row}
+use Rattle.jc_emit.proofs.KnownLaws.{code_known, marks_known, leads_known, lands_known}
+use Rattle.jc_emit.proofs.LocalLaws.{twin_ok}
+use Rattle.jc_emit.proofs.RowLaws.{row_ok}
+use Rattle.jc_emit.proofs.ToldLaws.{mapped}
+use Rattle.jc_twin_simulation.specs.ProbeRuns.{MayFollow, IsFirst, RunsOn, AreRuns}
+
+-- ---- lists
+
+first_follows : (x y : Item) → IsFirst y → MayFollow x y
+first_follows x init_call h = tt
+first_follows x init_store h = absurd h
+first_follows x (image insn at early) h = tt
+first_follows x (probe_array id at late) h = tt
+first_follows x (probe_id id at late) h = absurd h
+first_follows x (probe_one id at late) h = absurd h
+first_follows x (probe_store id at late) h = absurd h
+first_follows x (hop to at due) h = tt
+
+runs_behind : (x : Item) (ys : List Item) → AreRuns ys → RunsOn x ys
+runs_behind x [] h = tt
+runs_behind x (y ∷ ys) h = (first_follows x y h.0, h.1)
+
+on_append : (x : Item) (xs ys : List Item) → RunsOn x xs → AreRuns ys → RunsOn x (xs ++ ys)
+on_append x [] ys h k = runs_behind x ys k
+on_append x (y ∷ xs) ys h k = (h.0, on_append y xs ys h.1 k)
+
+runs_append : (xs ys : List Item) → AreRuns xs → AreRuns ys → AreRuns (xs ++ ys)
+runs_append [] ys h k = k
+runs_append (x ∷ xs) ys h k = (h.0, on_append x xs ys h.1 k)
+
+runs_pieces : (g : ℕ → List Item) → ((i : ℕ) → AreRuns (g i)) → (n : ℕ) → AreRuns (pieces g n)
+runs_pieces g h zero = tt
+runs_pieces g h (suc n) = runs_append (pieces g n) (g n) (runs_pieces g h n) (h n)
+
+-- ---- what belongs to an instruction
+
+lead_runs : (o : Option ℕ) (i : ℕ) → AreRuns (lead_part o i)
+lead_runs None i = tt
+lead_runs (Some id) i = (tt, (refl, (refl, (refl, tt))))
+
+early_runs : (o : Option ℕ) (i : ℕ) → AreRuns (early_part o i)
+early_runs None i = tt
+early_runs (Some id) i = (tt, (refl, (refl, (refl, tt))))
+
+hop_runs : (land : ℕ → ℕ) (o : Option ℕ) (to : ℕ) → AreRuns (hop_part land o to)
+hop_runs land None to = tt
+hop_runs land (Some id) to = (tt, (refl, (refl, (refl, (tt, tt)))))
+
+arm_runs : (land : ℕ → ℕ) (ids : Branch → Option ℕ) (xs : List Branch) → AreRuns (arm_parts land ids xs)
+arm_runs land ids [] = tt
+arm_runs land ids (x ∷ xs) = runs_append (hop_part land (ids x) (to_of x)) (arm_parts land ids xs) (hop_runs land (ids x) (to_of x)) (arm_runs land ids xs)
+
+test_runs : (b : Bool) (q : ℕ) (insn : Insn) (i on : ℕ) (due : Option ℕ) → AreRuns (test_part b q insn i on due)
+test_runs false q insn i on due = (tt, tt)
+test_runs true q insn i on due = (tt, (tt, tt))
+
+module _ (b : Body) (first : ℕ) (wide : Bool) where
+  tests_runs : (i : ℕ) (insn : Insn) (o : Option ℕ) → AreRuns (tests_part b first wide i insn o)
+  tests_runs i insn None = test_runs (is_wide wide i) (image_of b first wide i) (with_places (land_of b first wide) insn) i (jump_target insn) None
+  tests_runs i insn (Some id) =
+      runs_append
+      (test_part (is_wide wide i) (image_of b first wide i) (inverted (lead_of b first wide (i + 1)) insn) i (i + 1) (lead_probe b first (i + 1)))
+      (hop_part (land_of b first wide) (Some id) (jump_target insn))
+      (test_runs (is_wide wide i) (image_of b first wide i) (inverted (lead_of b first wide (i + 1)) insn) i (i + 1) (lead_probe b first (i + 1)))
+      (hop_runs (land_of b first wide) (Some id) (jump_target insn))
+
+  image_runs : (i : ℕ) (insn : Insn) (flow : Flow) → AreRuns (image_part b first wide i insn flow)
+  image_runs i insn flows.GoesOn = (tt, tt)
+  image_runs i insn flows.Branches = tests_runs i insn (late_probe b first i)
+  image_runs i insn flows.Jumps = (tt, tt)
+  image_runs i insn flows.Switches = (
+    tt,
+    runs_behind (image (with_places (arm_place (probe_of b first) (land_of b first wide) (image_of b first wide i + 1) (arms_at b.code i)) insn) i None)
+        (arm_parts (land_of b first wide) (probe_of b first) (arms_at b.code i)) (arm_runs (land_of b first wide) (probe_of b first) (arms_at b.code i)),
+  )
+  image_runs i insn flows.Returns = (tt, tt)
+  image_runs i insn flows.Throws = (tt, tt)
+
+  segment_runs : (i : ℕ) → AreRuns (segment b first wide i)
+  segment_runs i =
+      let insn = insn_at b.code i in
+      runs_append (lead_part (lead_probe b first i) i) (early_part (early_probe b first i) i ++ image_part b first wide i insn (flow_of insn))
+      (lead_runs (lead_probe b first i) i)
+      (runs_append (early_part (early_probe b first i) i) (image_part b first wide i insn (flow_of insn)) (early_runs (early_probe b first i) i)
+      (image_runs i insn (flow_of insn)))
+
+  pub twin_runs : AreRuns (twin_items b first wide)
+  unfolding twin_items
+  twin_runs =
+      runs_append (init_call ∷ init_store ∷ []) (pieces (segment b first wide) (length b.code)) (tt, (refl, tt))
+      (runs_pieces (segment b first wide) segment_runs (length b.code))
+
+-- images alone
+images_run : (x : Item) (xs : List Item) → ((q : ℕ) (y : Item) → slice_get xs q ≡ Some y → own_of y ≡ true) → RunsOn x xs
+images_run x [] h = tt
+images_run x (y ∷ xs) h = (first_follows x y (by y (h 0 y refl)), images_run y xs (λ q z e. h (suc q) z e))
+  where
+    by : (y : Item) → own_of y ≡ true → IsFirst y
+    by (image insn at early) own = tt
+    by init_call own = tt
+    by init_store own = absurd (true≢false (sym own))
+    by (probe_array id at late) own = tt
+    by (probe_id id at late) own = absurd (true≢false (sym own))
+    by (probe_one id at late) own = absurd (true≢false (sym own))
+    by (probe_store id at late) own = absurd (true≢false (sym own))
+    by (hop to at due) own = tt
+
+pub plain_runs : (xs : List Item) → ((q : ℕ) (y : Item) → slice_get xs q ≡ Some y → own_of y ≡ true) → AreRuns xs
+plain_runs [] h = tt
+plain_runs (x ∷ xs) h = (by x (h 0 x refl), images_run x xs (λ q y e. h (suc q) y e))
+  where
+    by : (y : Item) → own_of y ≡ true → IsFirst y
+    by (image insn at early) own = tt
+    by init_call own = tt
+    by init_store own = absurd (true≢false (sym own))
+    by (probe_array id at late) own = tt
+    by (probe_id id at late) own = absurd (true≢false (sym own))
+    by (probe_one id at late) own = absurd (true≢false (sym own))
+    by (probe_store id at late) own = absurd (true≢false (sym own))
+    by (hop to at due) own = tt
+
+-- ---- what stands in front
+
+-- the item in front of one
+pub record InFront (items : List Item) (q : ℕ) (x : Item) : Type 0 where
+  pub place : ℕ
+  pub next : q ≡ suc place
+  pub item : Item
+  pub here : slice_get items place ≡ Some item
+  pub follows : MayFollow item x
+
+front_by : (y : Item) (items : List Item) → RunsOn y items → (q : ℕ) (x : Item) → slice_get items q ≡ Some x → InFront (y ∷ items) (suc q) x
+front_by y [] h q x e = absurd (none-some x e)
+front_by y (z ∷ items) h zero x e =
+    record { place = 0; next = refl; item = y; here = refl; follows = subst (MayFollow y) (same_Some z x e) h.0 }
+front_by y (z ∷ items) h (suc q) x e =
+    let f = front_by z items h.1 q x e in
+    record { place = suc f.place; next = ap suc f.next; item = f.item; here = f.here; follows = f.follows }
+
+pub in_front : (items : List Item) → AreRuns items → (q : ℕ) (x : Item) → slice_get items q ≡ Some x → (IsFirst x → ⊥) → InFront items q x
+in_front [] h q x e n = absurd (none-some x e)
+in_front (y ∷ items) h zero x e n = absurd (n (subst IsFirst (same_Some y x e) h.0))
+in_front (y ∷ items) h (suc q) x e n = front_by y items h.1 q x e
+
+-- ---- a twin seen by these items
+
+insn_is : (call v : ℕ) (x : Item) → IsInsnOf call v x (insn_of call v x)
+insn_is call v init_call = refl
+insn_is call v init_store = refl
+insn_is call v (image insn at early) = refl
+insn_is call v (probe_array id at late) = refl
+insn_is call v (probe_id id at late) = refl
+insn_is call v (probe_one id at late) = refl
+insn_is call v (probe_store id at late) = refl
+insn_is call v (hop to at due) = refl
+
+pub insns_of : (call v : ℕ) (items : List Item) (code : List Insn) → code ≡ map (insn_of call v) items → AreInsnsOf call v items code
+insns_of call v items code is = record {
+  count = ap length is ∙ length-map items (insn_of call v);
+  each = λ q x h. (insn_of call v x, ap (λ l. slice_get l q) is ∙ mapped (insn_of call v) items q x h, insn_is call v x);
+}
+
+pub rows_kept : (Kept : Handler → Handler → Type 0) (Is : Handler → Type 0) (new : Handler → Handler) → ((h : Handler) → Is h → Kept h (new h))
+    → (hs : List Handler) → All Is hs → OkRows Kept hs (map new hs)
+rows_kept Kept Is new kept [] all = tt
+rows_kept Kept Is new kept (h ∷ hs) all =
+    (kept h (all 0 h (omega arith)), rows_kept Kept Is new kept hs (λ k d lt. all (suc k) d (omega arith)))
+
+-- the items are told by the body, so that more is known of them
+abbrev pub seen_items : (names new_names : Names) (states : List State) (first : ℕ) (b b' : Body) → IsWellMadeOfAnySize b
+    → (t : Twin names new_names states first b b') → IsSeen first b b' t.marks
+seen_items names new_names states first b b' well t =
+    let marks = marks_known b first t.wide t.call b'.code t.marks well.code t.code in
+    let rows : b'.handlers ≡ map (moved_row (lead_of b first t.wide) (land_of b first t.wide)) b.handlers =
+    t.tables.handlers_are
+    ∙ ap₂ (λ lead land. map (moved_row lead land) b.handlers) (leads_known b first t.wide t.call b'.code t.marks well.code t.code)
+    (lands_known b first t.wide t.call b'.code t.marks well.code t.code) in
+    record {
+      items = twin_items b first t.wide;
+      call = t.call;
+      calls = t.calls;
+      method = t.method;
+      uses = t.uses;
+      code = insns_of t.call b.arg_slots (twin_items b first t.wide) b'.code (code_known b first t.wide t.call b'.code t.marks well.code t.code);
+      at = ap (λ m. m.at) marks;
+      own = ap (λ m. m.own) marks;
+      extra = ap (λ m. m.extra) marks;
+      plain = tt;
+      ok = twin_ok b first t.wide well.code;
+      rows = subst (OkRows (OkRow b.code (Some b.arg_slots) (probe_of b first) (twin_items b first t.wide)) b.handlers) (sym rows)
+          (rows_kept (OkRow b.code (Some b.arg_slots) (probe_of b first) (twin_items b first t.wide)) (IsHandler (length b.code))
+          (moved_row (lead_of b first t.wide) (land_of b first t.wide)) (row_ok b first t.wide well.code) b.handlers well.handlers);
+      max_stack = t.max_stack;
+      max_locals = t.max_locals;
+    }

@@ -1,0 +1,305 @@
+-- Worlds that belong together are so in terms of the two programs.
+use Rattle.std.proofs.Common.{◌≡◌, ◌⊎◌, inl, inr, ⊎_elim, ℕ, zero, suc, ◌+◌, ◌<◌, ◌≤◌, pos, Bool, true, false, List, [], ◌∷◌, ◌++◌, length, Option, Some, None, nat_le, refl, sym, ap, ◌∙◌, subst, arith, if◌then◌else◌}
+use Rattle.std.specs.Prelude.{slice_get, slice_index_or}
+use Rattle.std.specs.List.{AllByRecursion}
+use Rattle.std.proofs.lemmas.Bool.{true≢false, lt-ltb}
+use Rattle.std.proofs.lemmas.Option.{none-some, same_Some}
+use Rattle.jc_bytes.proofs.BooleanLaws.{stands_in}
+use Rattle.jc_methods.specs.Opcode as opcode
+use Rattle.jc_methods.specs.ProbeMembers.{data_name}
+use Rattle.jc_methods.specs.declared.insn.Insn.{Insn}
+use Rattle.jc_methods.specs.declared.insn.Insn.TheVariants as insns
+use Rattle.jc_methods.specs.declared.body.Body.{Body}
+use Rattle.jc_programs.specs.declared.program.Program.{Program}
+use Rattle.jc_programs.specs.declared.program.Linked.{Linked}
+use Rattle.jc_programs.specs.declared.program.StaticField.{StaticField}
+use Rattle.jc_programs.specs.declared.run_end.Entry.{Entry}
+use Rattle.jc_programs.specs.Members.{class_at, body_of}
+use Rattle.jc_emit.specs.Items.{Item, init_call, init_store, image, probe_array, probe_id, probe_one, probe_store, hop, extra_of}
+use Rattle.jc_emit.specs.Local.{IsBehind}
+use Rattle.jc_emit.specs.Marks.{Marks, push, prelude_size}
+use Rattle.jc_emit.specs.TwinProgram.{IsPair, data_static}
+use Rattle.jc_machine_model.specs.Values.{Value, int, probes}
+use Rattle.jc_machine_model.specs.World.{Frame, Thread, running, returned, threw, stuck, Shared, World}
+use Rattle.jc_machine_model.specs.Locals.{is_pair_there}
+use Rattle.jc_twin_simulation.specs.ProbeRuns.{MayFollow, IsFirst}
+use Rattle.jc_twin_simulation.specs.Same.{twin_slot, array_slot, is_named_data, is_data_in, is_data}
+use Rattle.jc_twin_simulation.specs.Sides.{Side, count_in, array_of, IsSide, AreSides, AreMarksOf}
+use Rattle.jc_twin_simulation.specs.Mid.{pushed_of, null_or, step_stack, SameLocals, OneMethod, SameFrame, SameWaits, extra_in, SameStatics, values_of, SameShared, SameThread, SameThreads, Mid}
+use Rattle.jc_twin_simulation.specs.Together.{count_of, array_in, IsPushedBy, ArePushed, KeepsArray, HasProbeState, HasTopState, HasState, IsStuckWithin, Together}
+use Rattle.jc_twin_simulation.proofs.ClassLaws.{other_name, changed_declares}
+use Rattle.jc_twin_simulation.proofs.FrameLaws.{body_is, twin_insn}
+use Rattle.jc_twin_simulation.proofs.LocalLaws.{reads_local}
+use Rattle.jc_twin_simulation.proofs.OwnTurnLaws.{new_no_init}
+use Rattle.jc_twin_simulation.proofs.RunItemLaws.{in_front}
+use Rattle.jc_twin_simulation.proofs.SameLaws.{slot_is, no_class, last_is, together_same}
+use Rattle.jc_twin_simulation.proofs.SlotLaws.{get_own}
+use Rattle.jc_twin_simulation.proofs.TurnLaws.{inside_named}
+use Rattle.jc_twin_simulation.proofs.WorldLaws.{told_at}
+
+-- ---- numbers that are pushed
+
+-- what pushes a number is one of two instructions
+pub number_form : (n : ℕ) → ((op : ℕ) × (push n ≡ insns.Simple op)) ⊎ ((op : ℕ) × (push n ≡ insns.Push op (pos n)))
+number_form n = by (nat_le n 5) (nat_le n 127)
+  where
+    by : (a b : Bool)
+        → ((op : ℕ) × ((if a then insns.Simple (opcode.iconst_0 + n) else if b then insns.Push opcode.bipush (pos n) else insns.Push opcode.sipush (pos n)) ≡ insns.Simple op))
+        ⊎ ((op : ℕ) × ((if a then insns.Simple (opcode.iconst_0 + n) else if b then insns.Push opcode.bipush (pos n) else insns.Push opcode.sipush (pos n)) ≡ insns.Push op (pos n)))
+    by true b = inl (_, refl)
+    by false true = inr (_, refl)
+    by false false = inr (_, refl)
+
+number_pushed : (array : Value) (insn : Insn) (n : ℕ) → insn ≡ push n → IsPushedBy array insn (int (pos n))
+number_pushed array insn n e = ⊎_elim
+    (λ h. subst (λ i. IsPushedBy array i (int (pos n))) (sym (e ∙ h.1)) (n, sym h.1, refl))
+    (λ h. subst (λ i. IsPushedBy array i (int (pos n))) (sym (e ∙ h.1)) (n, sym h.1, refl))
+    (number_form n)
+
+-- ---- each item of a probe has the others in front of it
+
+module _ (p p' : Program) (sides : Entry → Side) (m : Entry) (side : IsSide p p' m (sides m)) where
+  abbrev t : Side
+  t = sides m
+
+  -- the item in front of one of a probe
+  pub record Behind (q : ℕ) (x : Item) : Type 0 where
+    pub place : ℕ
+    pub next : q ≡ suc place
+    pub here : slice_get t.items place ≡ Some x
+
+  behind : (q : ℕ) (x y : Item) → slice_get t.items q ≡ Some y → (IsFirst y → ⊥) → ((z : Item) → MayFollow z y → z ≡ x) → Behind q x
+  behind q x y here n is =
+      let f = in_front t.items side.runs q y here n in
+      record { place = f.place; next = f.next; here = f.here ∙ ap Some (is f.item f.follows) }
+
+  pub store_behind : (q : ℕ) → slice_get t.items q ≡ Some init_store → Behind q init_call
+  store_behind q here = behind q init_call init_store here (λ h. h) (λ z h. h)
+
+  pub id_behind : (q id at : ℕ) (late : Bool) → slice_get t.items q ≡ Some (probe_id id at late) → Behind q (probe_array id at late)
+  id_behind q id at late here = behind q (probe_array id at late) (probe_id id at late) here (λ h. h) (λ z h. h)
+
+  pub one_behind : (q id at : ℕ) (late : Bool) → slice_get t.items q ≡ Some (probe_one id at late) → Behind q (probe_id id at late)
+  one_behind q id at late here = behind q (probe_id id at late) (probe_one id at late) here (λ h. h) (λ z h. h)
+
+  pub last_behind : (q id at : ℕ) (late : Bool) → slice_get t.items q ≡ Some (probe_store id at late) → Behind q (probe_one id at late)
+  last_behind q id at late here = behind q (probe_one id at late) (probe_store id at late) here (λ h. h) (λ z h. h)
+
+  -- ---- what was pushed
+
+  module _ (a : Value) where
+    abbrev Pushed : ℕ → ℕ → List Value → Type 0
+    Pushed q extra stack = ArePushed a t.twin.code q extra stack
+
+    store_pushed : (q : ℕ) (st : List Value) → slice_get t.items q ≡ Some init_store → Pushed q 1 (a ∷ st)
+    store_pushed q st here =
+        let f = store_behind q here in
+        let c = twin_insn p p' sides m side f.place init_call f.here in
+        (f.place, c.0, f.next, c.1, subst (λ i. IsPushedBy a i a) (sym c.2) refl, tt)
+
+    id_pushed : (q id at : ℕ) (late : Bool) (st : List Value) → slice_get t.items q ≡ Some (probe_id id at late) → Pushed q 1 (a ∷ st)
+    id_pushed q id at late st here =
+        let f = id_behind q id at late here in
+        let c = twin_insn p p' sides m side f.place (probe_array id at late) f.here in
+        (f.place, c.0, f.next, c.1, subst (λ i. IsPushedBy a i a) (sym c.2) refl, tt)
+
+    one_pushed : (q id at : ℕ) (late : Bool) (st : List Value) → slice_get t.items q ≡ Some (probe_one id at late) → Pushed q 2 (int (pos id) ∷ a ∷ st)
+    one_pushed q id at late st here =
+        let f = one_behind q id at late here in
+        let c = twin_insn p p' sides m side f.place (probe_id id at late) f.here in
+        (f.place, c.0, f.next, c.1, number_pushed a c.0 id c.2, id_pushed f.place id at late st f.here)
+
+    last_pushed : (q id at : ℕ) (late : Bool) (st : List Value) → slice_get t.items q ≡ Some (probe_store id at late)
+        → Pushed q 3 (int (pos 1) ∷ int (pos id) ∷ a ∷ st)
+    last_pushed q id at late st here =
+        let f = last_behind q id at late here in
+        let c = twin_insn p p' sides m side f.place (probe_one id at late) f.here in
+        (f.place, c.0, f.next, c.1, number_pushed a c.0 1 c.2, one_pushed f.place id at late st f.here)
+
+    pub item_pushed : (q : ℕ) (x : Item) (st : List Value) → slice_get t.items q ≡ Some x → Pushed q (extra_of x) (pushed_of a x ++ st)
+    item_pushed q init_call st here = tt
+    item_pushed q init_store st here = store_pushed q st here
+    item_pushed q (image insn at early) st here = tt
+    item_pushed q (probe_array id at late) st here = tt
+    item_pushed q (probe_id id at late) st here = id_pushed q id at late st here
+    item_pushed q (probe_one id at late) st here = one_pushed q id at late st here
+    item_pushed q (probe_store id at late) st here = last_pushed q id at late st here
+    item_pushed q (hop to at due) st here = tt
+
+  -- behind the prelude
+  pub behind_prelude : (q : ℕ) (x : Item) → slice_get t.items q ≡ Some x → prelude_size ≤ q → IsBehind x
+  behind_prelude q init_call here le = let ok = side.ok.ok q init_call here in let first = ok.0 in absurd (omega (arith, first, le))
+  behind_prelude q init_store here le =
+      let f = store_behind q here in
+      let ok = side.ok.ok f.place init_call f.here in
+      let first = ok.0 in let next = f.next in
+      absurd (omega (arith, first, next, le))
+  behind_prelude q (image insn at early) here le = tt
+  behind_prelude q (probe_array id at late) here le = tt
+  behind_prelude q (probe_id id at late) here le = tt
+  behind_prelude q (probe_one id at late) here le = tt
+  behind_prelude q (probe_store id at late) here le = tt
+  behind_prelude q (hop to at due) here le = tt
+
+-- ---- frames
+
+-- a local variable in front of the added one
+slot_below : (v k : ℕ) → k < v → twin_slot (Some v) k ≡ k
+slot_below v k lt = ap (λ b. if b then k else k + 1) (lt-ltb k v lt)
+
+module _ (p p' : Program) (sides : Entry → Side) (marks : Entry → Marks) (are : AreSides p p' sides) (told : AreMarksOf p p' marks sides) where
+  array_is : (m : Entry) → IsSide p p' m (sides m) → array_in p' m.class ≡ array_of (sides m) m.class
+  array_is m side = ap (λ (o : Option Linked). probes m.class (elim o [ None ↦ 0 | Some c ↦ count_in c.probes ])) side.new_is
+
+  item_state : (f f' : Frame) (o : OneMethod p p' sides f f') (x : Item) → slice_get (sides f.method).items f'.place ≡ Some x
+      → f'.stack ≡ pushed_of (array_of (sides f.method) f.method.class) x ++ f.stack
+      → SameLocals (array_of (sides f.method) f.method.class) (sides f.method).slot f.locals f'.locals x → HasProbeState p' marks f'
+  item_state f f' o x here st ls =
+      let t = sides f.method in
+      let m = o.method in
+      let a = array_of t f.method.class in
+      let array : array_in p' f'.method.class ≡ a = ap (λ (e : Entry). array_in p' e.class) m ∙ array_is f.method o.side in
+      record {
+        pushed = λ b extra body k.
+            let body2 : t.twin ≡ b = same_Some t.twin b (sym (body_is p' f.method t.new t.twin o.side.new_is o.side.twin_is) ∙ ap (body_of p') (sym m) ∙ body) in
+            let more : extra_of x ≡ extra =
+            same_Some (extra_of x) extra
+            (sym (ap (λ l. slice_get l f'.place) (told f.method o.side).extra ∙ told_at extra_of t.items f'.place x here)
+            ∙ ap (λ e. slice_get (marks e).extra f'.place) (sym m) ∙ k) in
+            subst (λ y. ArePushed y b.code f'.place extra f'.stack) (sym array)
+            (subst (λ (z : Body). ArePushed a z.code f'.place extra f'.stack) body2
+            (subst (λ n. ArePushed a t.twin.code f'.place n f'.stack) more
+            (subst (ArePushed a t.twin.code f'.place (extra_of x)) (sym st) (item_pushed p p' sides f.method o.side a f'.place x f.stack here))));
+        array = λ v e. keeps v (sym (slot_is p p' sides f.method o.side) ∙ ap (array_slot p') (sym m) ∙ e);
+      }
+    where
+      keeps : (v : ℕ) → (sides f.method).slot ≡ Some v → KeepsArray p' marks f' v
+      keeps v e =
+          let t = sides f.method in
+          let a = array_of t f.method.class in
+          let h = subst (λ s. SameLocals a s f.locals f'.locals x) e ls in
+          record {
+            held = h.held;
+            there = ap (λ l. slice_get l v) h.around ∙ get_own v f.locals h.held h.room;
+            narrow = h.narrow;
+            ready = λ le.
+                h.ready (behind_prelude p p' sides f.method o.side f'.place x here le)
+                ∙ ap Some (sym (ap (λ (d : Entry). array_in p' d.class) o.method ∙ array_is f.method o.side));
+            apart = λ k q.
+                let lt : k < v = omega arith in
+                ap (λ j. is_pair_there (slice_index_or f'.locals j None)) (sym (slot_below v k lt))
+                ∙ ap is_pair_there (reads_local a (Some v) f.locals f'.locals x h k) ∙ h.apart k q;
+          }
+
+  frame_state : (f f' : Frame) → SameFrame p p' sides f f' → HasProbeState p' marks f'
+  frame_state f f' h = item_state f f' h.one h.item h.here h.stack h.locals
+
+  waits_state : (fs fs' : List Frame) → SameWaits p p' sides fs fs' → AllByRecursion (HasProbeState p' marks) fs'
+  waits_state [] [] w = tt
+  waits_state (f ∷ fs) (f' ∷ fs') w = (item_state f f' w.0.one (image w.0.insn f.place w.0.early) w.0.here w.0.stack w.0.locals, waits_state fs fs' w.1)
+  waits_state [] (f' ∷ fs') w = absurd w
+  waits_state (f ∷ fs) [] w = absurd w
+
+  -- ---- threads
+
+  module _ (s s' : Shared) (ss : SameShared p p' sides s s') where
+    running_state : (f f' : Frame) (fs fs' : List Frame) → SameThread p p' sides (running f fs) (running f' fs') → HasState p' marks (running f' fs')
+    running_state f f' fs fs' (inl h) =
+        (subst (λ b. HasTopState p' marks b f') (sym (new_no_init p p' sides f f' h.0.one)) (frame_state f f' h.0), waits_state fs fs' h.1)
+    running_state f f' fs fs' (inr i) = (
+      subst (λ b. HasTopState p' marks b f') (sym (inside_named p p' sides are s s' ss f f' fs fs' i))
+          (record {
+            class = (sides f.method).new;
+            class_is = ap (λ (e : Entry). class_at p' e.class) i.method ∙ i.base.one.side.new_is;
+            init = i.init;
+            has = i.has;
+            step = i.step;
+            place = i.place;
+            stack = i.stack ∙ ap (λ (e : Entry). step_stack e.class i.init i.step) (sym i.method);
+          }),
+      subst (AllByRecursion (HasProbeState p' marks)) (sym i.waiting) (frame_state f i.below i.base, waits_state fs i.rest i.waits),
+    )
+
+    thread_state : (x x' : Thread) → SameThread p p' sides x x' → HasState p' marks x'
+    thread_state (running f fs) (running f' fs') h = running_state f f' fs fs' h
+    thread_state x (returned v) h = tt
+    thread_state x (threw c) h = tt
+    thread_state x (stuck m q) h = tt
+    thread_state (returned v) (running f' fs') h = absurd h
+    thread_state (threw c) (running f' fs') h = absurd h
+    thread_state (stuck m q) (running f' fs') h = absurd h
+
+    thread_within : (x x' : Thread) → SameThread p p' sides x x' → IsStuckWithin p x
+    thread_within (stuck m q) (stuck m' q') h = ((sides m).body, body_is p m (sides m).class (sides m).body h.side.class_is h.side.body_is)
+    thread_within (stuck m q) (running f' fs') h = absurd h
+    thread_within (stuck m q) (returned v) h = absurd h
+    thread_within (stuck m q) (threw c) h = absurd h
+    thread_within (running f fs) x' h = tt
+    thread_within (returned v) x' h = tt
+    thread_within (threw c) x' h = tt
+
+    threads_state : (xs xs' : List Thread) → SameThreads p p' sides xs xs' → AllByRecursion (HasState p' marks) xs' × AllByRecursion (IsStuckWithin p) xs
+    threads_state [] [] h = (tt, tt)
+    threads_state (x ∷ xs) (x' ∷ xs') h =
+        let rest = threads_state xs xs' h.1 in ((thread_state x x' h.0, rest.0), (thread_within x x' h.0, rest.1))
+    threads_state [] (x' ∷ xs') h = absurd h
+    threads_state (x ∷ xs) [] h = absurd h
+
+    -- ---- static fields
+
+    append_at : {X : Type 0} (xs : List X) (y : X) (k : ℕ) (z : X) → slice_get (xs ++ y ∷ []) k ≡ Some z → (slice_get xs k ≡ Some z) ⊎ ((k ≡ length xs) × (y ≡ z))
+    append_at [] y zero z e = inr (refl, same_Some y z e)
+    append_at [] y (suc k) z e = absurd (none-some z e)
+    append_at (x ∷ xs) y zero z e = inl e
+    append_at (x ∷ xs) y (suc k) z e = ⊎_elim (λ h. inl h) (λ h. inr (ap suc h.0, h.1)) (append_at xs y k z e)
+
+    -- a field is named so
+    named_there : (o : Option StaticField) → is_named_data o ≡ true → (f : StaticField) × (o ≡ Some f) × ((f.name ≡ data_name → ⊥) → ⊥)
+    named_there None e = absurd (true≢false (sym e))
+    named_there (Some f) e = (f, refl, λ n. true≢false (sym e ∙ other_name f.name data_name n))
+
+    abbrev Arrays : ℕ → ℕ → Type 0
+    Arrays class field = (found : Bool) × (slice_get (values_of s' class) field ≡ Some (null_or found (array_in p' class)))
+
+    pair_arrays : (class field : ℕ) (c new : Linked) → slice_get p.classes class ≡ Some c → slice_get p'.classes class ≡ Some new
+        → IsPair p.names p'.names c new → is_named_data (slice_get new.statics field) ≡ true → Arrays class field
+    pair_arrays class field c new here there (inl pair) named =
+        let n = named_there (slice_get new.statics field) named in
+        absurd (n.2 (λ name. pair.none_added.statics n.0
+        (stands_in c.statics field n.0 (ap (λ l. slice_get l field) (sym pair.statics) ∙ n.1)) name))
+    pair_arrays class field c new here there (inr pair) named =
+        let n = named_there (slice_get new.statics field) named in
+        ⊎_elim
+        (λ old. absurd (n.2 (λ name. pair.none_added.statics n.0 (stands_in c.statics field n.0 old) (inr name))))
+        (λ last.
+        let extra : extra_in (class_at p' class) ≡ Some (count_in new.probes) =
+        ap extra_in there ∙ ap (λ b. if b then Some (count_in new.probes) else None) (changed_declares p.names p'.names c new pair (are.added c new pair)) in
+        let is = subst (λ o. SameStatics o class (values_of s class) (values_of s' class)) extra (ss.statics class) in
+        let array : probes class (count_in new.probes) ≡ array_in p' class = sym (ap (λ o. probes class (count_of o)) there) in
+        let at : field ≡ length (values_of s class) = last.0 ∙ sym (ss.counts class c here) in (
+          is.0,
+          ap (λ l. slice_get l field) is.1
+              ∙ ap (slice_get (values_of s class ++ (null_or is.0 (probes class (count_in new.probes)) ∷ []))) at
+              ∙ last_is (values_of s class) (null_or is.0 (probes class (count_in new.probes)))
+              ∙ ap (λ v. Some (null_or is.0 v)) array,
+        ))
+        (append_at c.statics data_static field n.0 (ap (λ l. slice_get l field) (sym pair.statics) ∙ n.1))
+
+    pub arrays : (class field : ℕ) → is_data p' class field ≡ true → Arrays class field
+    arrays class field named = by (slice_get p.classes class) refl
+      where
+        by : (o : Option Linked) → slice_get p.classes class ≡ o → Arrays class field
+        by None e = absurd (true≢false (sym named ∙ ap (is_data_in field) (no_class p p' sides are class e)))
+        by (Some c) e =
+            let n = are.pair class c e in
+            pair_arrays class field c n.0 e n.1 n.2 (sym (ap (is_data_in field) n.1) ∙ named)
+
+  pub mid_together : (w w' : World) → Mid p p' sides w w' → Together p p' marks w w'
+  mid_together w w' h =
+      let t = threads_state w.shared w'.shared h.shared w.threads w'.threads h.threads in
+      record {
+        same = together_same p p' sides marks are told w w' h;
+        arrays = λ class field named. arrays w.shared w'.shared h.shared class field named;
+        threads = t.0;
+        within = t.1;
+      }

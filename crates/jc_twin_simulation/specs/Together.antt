@@ -1,0 +1,122 @@
+-- The simulation relation in terms of the two programs: worlds that look the same, and what the twin's world has more.
+use Rattle.std.specs.Prelude.{◌≡◌, ⊤, ℕ, zero, suc, ◌≤◌, pos, Bool, true, false, List, [], ◌∷◌, Option, Some, None, slice_get, slice_index_or}
+use Rattle.std.specs.List.{AllByRecursion}
+use Rattle.jc_methods.specs.declared.insn.Insn.{Insn}
+use Rattle.jc_methods.specs.declared.insn.Insn.TheVariants as insns
+use Rattle.jc_methods.specs.declared.body.Body.{Body}
+use Rattle.jc_programs.specs.declared.program.Program.{Program}
+use Rattle.jc_programs.specs.declared.program.Linked.{Linked}
+use Rattle.jc_programs.specs.declared.program.ProbeInit.{ProbeInit}
+use Rattle.jc_programs.specs.declared.run_end.Entry.{Entry}
+use Rattle.jc_programs.specs.Members.{class_at, body_of}
+use Rattle.jc_programs.specs.declared.run_plan.Case.{Case}
+use Rattle.jc_programs.specs.Entries.{AreEntries}
+use Rattle.jc_emit.specs.Marks.{Marks, Pushes, prelude_size}
+use Rattle.jc_emit.specs.TwinProgram.{TwinProgram}
+use Rattle.jc_machine_model.specs.Values.{Value, int, probes}
+use Rattle.jc_machine_model.specs.World.{Frame, Thread, running, stuck, World}
+use Rattle.jc_machine_model.specs.Locals.{is_pair_there}
+use Rattle.jc_machine_model.specs.Fits.{FitsWorld}
+use Rattle.jc_machine_model.specs.Step.{is_init_method, step}
+use Rattle.jc_machine_model.specs.Begin.{begin_case}
+use Rattle.jc_twin_simulation.specs.Marking.{AreMarks}
+use Rattle.jc_twin_simulation.specs.Kept.{is_kept, step_if}
+use Rattle.jc_twin_simulation.specs.Same.{array_slot, is_data, static_in, Same}
+use Rattle.jc_twin_simulation.specs.Sides.{count_in}
+use Rattle.jc_twin_simulation.specs.Mid.{null_or, InitStep, step_place, step_stack}
+
+-- how many probes a class has
+abbrev pub count_of : Option Linked → ℕ
+count_of None = 0
+count_of (Some c) = count_in c.probes
+
+-- the probe array of a class
+abbrev pub array_in : Program → ℕ → Value
+array_in p' class = probes class (count_of (class_at p' class))
+
+-- ---- what was pushed
+
+-- An instruction of the prelude or of a probe pushes the value: the probe array, or a number.
+abbrev pub IsPushedBy : (array : Value) → Insn → Value → Type 0
+IsPushedBy array (insns.Local op slot) v = v ≡ array
+IsPushedBy array (insns.Member op place) v = v ≡ array
+IsPushedBy array insn v = (n : ℕ) × Pushes insn n × (v ≡ int (pos n))
+
+-- So many values on top of the stack are what the instructions directly in front of q have pushed.
+abbrev pub ArePushed : (array : Value) → List Insn → (q extra : ℕ) → List Value → Type 0
+ArePushed array code q zero stack = ⊤
+ArePushed array code q (suc n) [] = ⊥
+ArePushed array code q (suc n) (v ∷ stack) =
+    (r : ℕ) × (insn : Insn) × (q ≡ suc r) × (slice_get code r ≡ Some insn) × IsPushedBy array insn v × ArePushed array code r n stack
+
+module _ (p' : Program) (marks : Entry → Marks) where
+  -- ---- frames
+
+  -- Local variable v, that of the probe array, is there. No long begins in it or right in front of it, and behind the prelude it
+  -- holds the array.
+  pub record KeepsArray (f' : Frame) (v : ℕ) : Type 0 where
+    pub held : Option Value
+    pub there : slice_get f'.locals v ≡ Some held
+    pub narrow : is_pair_there held ≡ false
+    pub ready : prelude_size ≤ f'.place → held ≡ Some (array_in p' f'.method.class)
+    pub apart : (k : ℕ) → v ≡ suc k → is_pair_there (slice_index_or f'.locals k None) ≡ false
+
+  -- of a method that isn't `$jacocoInit`
+  pub record HasProbeState (f' : Frame) : Type 0 where
+    pub pushed : (b : Body) (extra : ℕ) → body_of p' f'.method ≡ Some b → slice_get (marks f'.method).extra f'.place ≡ Some extra
+        → ArePushed (array_in p' f'.method.class) b.code f'.place extra f'.stack
+    pub array : (v : ℕ) → array_slot p' f'.method ≡ Some v → KeepsArray f' v
+
+  -- a frame of `$jacocoInit` has the stack that its code has made
+  pub record HasInitState (f' : Frame) : Type 0 where
+    pub class : Linked
+    pub class_is : class_at p' f'.method.class ≡ Some class
+    pub init : ProbeInit
+    pub has : class.probes ≡ Some init
+    pub step : InitStep
+    pub place : f'.place ≡ step_place step
+    pub stack : f'.stack ≡ step_stack f'.method.class init step
+
+  abbrev pub HasTopState : Bool → Frame → Type 0
+  HasTopState true f' = HasInitState f'
+  HasTopState false f' = HasProbeState f'
+
+  abbrev pub HasState : Thread → Type 0
+  HasState (running f' waiting) = HasTopState (is_init_method p' f'.method) f' × AllByRecursion HasProbeState waiting
+  HasState _ = ⊤
+
+-- a thread that is stuck is so in a method of the program
+abbrev pub IsStuckWithin : Program → Thread → Type 0
+IsStuckWithin p (stuck method place) = (b : Body) × (body_of p method ≡ Some b)
+IsStuckWithin p _ = ⊤
+
+-- The worlds look the same. Each `$jacocoData` holds null or the probe array of its class, and each frame of the twin has what the
+-- prelude, a probe or `$jacocoInit` has made.
+pub record Together (p p' : Program) (marks : Entry → Marks) (w w' : World) : Type 0 where
+  pub same : Same p' marks w w'
+  pub arrays : (class field : ℕ) → is_data p' class field ≡ true
+      → (found : Bool) × (static_in w' class field ≡ Some (null_or found (array_in p' class)))
+  pub threads : AllByRecursion (HasState p' marks) w'.threads
+  pub within : AllByRecursion (IsStuckWithin p) w.threads
+
+-- ---- turns
+
+-- each case begins in such worlds
+abbrev pub BeginsTogether : (before after : Program) → Type 0
+BeginsTogether before after =
+    (marks : Entry → Marks) → TwinProgram before after → AreMarks before after marks → (case : Case) (entries : List Entry)
+    → AreEntries before case.threads entries → Together before after marks (begin_case before case) (begin_case after case)
+
+-- A kept turn is one of both worlds, and another one is a turn of the twin's world alone. Worlds that fit and are together are so
+-- behind it.
+abbrev pub OneTurn : (before after : Program) → Type 0
+OneTurn before after =
+    (marks : Entry → Marks) → TwinProgram before after → AreMarks before after marks → (w w' : World) (t : ℕ) → FitsWorld before w
+    → FitsWorld after w' → Together before after marks w w'
+    → Together before after marks (step_if (is_kept after marks w' t) before w t) (step after w' t)
+
+abbrev pub EachBeginsTogether : Type 0
+EachBeginsTogether = (before after : Program) → BeginsTogether before after
+
+abbrev pub EachTurnKeeps : Type 0
+EachTurnKeeps = (before after : Program) → OneTurn before after
