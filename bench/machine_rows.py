@@ -1,7 +1,7 @@
 #!/usr/bin/env python3
-"""Makes the input and the output of the driver program vectors_machine from the rows of bench/machine-rows.txt.
+"""Makes the input and the output of the driver program tests_machine from the rows of bench/machine-rows.txt.
 
-    bench/machine_rows.py           writes crates/vectors_machine/stdin and stdout
+    bench/machine_rows.py           writes crates/tests_machine/stdin and stdout
     bench/machine_rows.py check     compares the rows with what bench/slow_machine.py answers
     bench/machine_rows.py java DIR  compares those of one thread that ends with the Java machine; DIR has the compiled Machine.java
 
@@ -30,7 +30,7 @@ import slow_machine
 import slow_programs
 
 HERE = os.path.dirname(os.path.abspath(__file__))
-CRATE = os.path.dirname(HERE) + "/crates/vectors_machine"
+CRATE = os.path.dirname(HERE) + "/crates/tests_machine"
 ENDS = ("returned", "threw", "running", "stuck")
 
 

@@ -1,5 +1,0 @@
-use Rattle.std.proofs.Common.{length}
-use Rattle.vectors_bytes.proofs.codes.+all_near.Given as goal
-
-abbrev pub decreases-all_near : goal.decreases-all_near
-decreases-all_near l = length l.code.now

@@ -1,6 +1,0 @@
-use Rattle.std.proofs.Common.{take}
-use Rattle.jc_programs.specs.Entries.{AreEntries}
-use Rattle.vectors_machine.proofs.cases.entries.Given as goal
-
-abbrev pub invariant-looking : goal.invariant-looking
-invariant-looking l = AreEntries l.program (take l.thread-index l.threads) l.entries.items
