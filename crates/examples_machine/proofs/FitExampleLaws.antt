@@ -1,0 +1,470 @@
+-- Programs, and the worlds of their runs.
+use Rattle.std.proofs.Common.{length, ◌≡◌, ◌≢◌, inl, inr, ℕ, ◌≤◌, pos, false, List, [], ◌∷◌, ◌++◌, Some, None, codes, reverse, refl, sym, ◌∙◌, ap, subst, arith, Bool, true, not, ◌&&◌, nat_eq}
+use Rattle.std.proofs.lemmas.List.{reverse-append}
+use Rattle.std.proofs.lemmas.List.Elements.{All-from_recursion}
+use Rattle.std.specs.List.{IsDistinct, AllByRecursion}
+use Rattle.std.proofs.lemmas.Bool.{eq-eqb}
+use Rattle.jc_bytes.specs.Descriptor.{Int, IsFieldType, Long, Boolean, Object, Array, IsNameByte, IsClassName, IsFieldDescriptor, IsMethodDescriptor}
+use Rattle.jc_methods.specs.declared.insn.Insn.{Insn}
+use Rattle.jc_methods.specs.declared.body.Use.{Use}
+use Rattle.jc_methods.specs.declared.body.Handler.{Handler}
+use Rattle.jc_methods.specs.DescriptorTypes.{types_from, rest_from}
+use Rattle.jc_methods.specs.Flow.{FallsThrough}
+use Rattle.jc_methods.specs.Insn.{IsWellFormed}
+use Rattle.jc_methods.specs.InsnForm.{form_of}
+use Rattle.jc_methods.specs.InsnUse.{pool_place, Suits, IsClass, LocalsWithin, LeadsWithin}
+use Rattle.jc_methods.specs.WellMade.{IsCode, IsHandler, IsLine, IsVar, IsKind, HasUse, AreUses, IsWellMade, BeginsWithTop, kind_slots, HasShortTexts, what_used, entries_for}
+use Rattle.jc_methods.specs.declared.body.Body.{Body}
+use Rattle.jc_methods.specs.declared.body.What.{What}
+use Rattle.jc_methods.specs.declared.insn.Insn.TheVariants as insns
+use Rattle.jc_methods.specs.declared.kind.Kind.{Kind}
+use Rattle.jc_methods.specs.declared.kind.Kind.TheVariants as kinds
+use Rattle.jc_methods.specs.declared.body.What.TheVariants as whats
+use Rattle.jc_methods.specs.Opcode as opcode
+use Rattle.jc_programs.specs.Entries.{entry_of, AreEntries}
+use Rattle.jc_programs.specs.declared.run_plan.Schedule.TheVariants as schedules
+use Rattle.jc_kinds_after.specs.Table.{table, forms_at}
+use Rattle.jc_kinds_after.specs.After.{after_of}
+use Rattle.jc_kinds.specs.States.{state_of}
+use Rattle.jc_kinds.specs.Checking.{verdict_of, passes}
+use Rattle.jc_kinds.proofs.CheckLaws.{passes_checked}
+use Rattle.jc_machine_model.specs.Programs.{IsStatic, IsProgramBody, IsLinked, IsProgram}
+use Rattle.jc_machine_model.specs.Fits.{FitsWorld}
+use Rattle.jc_machine_model.specs.Run.{run}
+use Rattle.jc_machine_model.specs.Values.{int, long}
+use Rattle.jc_machine_model.specs.World.{running}
+use Rattle.jc_machine_model.specs.Effects.{constant, moves_of, int_bits, int_pair, long_pair, long_shift, int_single, long_single, single, pair, effect}
+use Rattle.jc_machine_model.specs.Profile.{operation_of}
+use Rattle.jc_machine_model.specs.Jumps.{test_of}
+use Rattle.jc_machine_model.specs.Perform.{perform}
+use Rattle.jc_machine_model.specs.Step.{step}
+use Rattle.jc_machine_model.specs.Begin.{begin}
+use Rattle.jc_machine_laws.proofs.WorldLaws.{run_fits}
+use Rattle.examples_machine.specs.ProgramExamples.{abs, abs_program, inc, inc_program, x_use, c_name, inc_thread, case, probed_abs, probed_abs_program, init, init_use, use_at, a_name, one_thread, wide, wide_program, w_name}
+
+head_is : (x y : Insn) (xs ys : List Insn) → x ∷ xs ≡ y ∷ ys → x ≡ y
+head_is x y xs ys e = cc
+
+pub no_falls : (x : Insn) (more code : List Insn) → reverse code ≡ x ∷ more → (FallsThrough x → ⊥) → (before : List Insn) (last : Insn) → code ≡ before ++ last ∷ [] → FallsThrough last → ⊥
+no_falls x more code r n before last e f = n (subst FallsThrough (sym (head_is x last more (reverse before) (sym r ∙ ap reverse e ∙ reverse-append before (last ∷ [])))) f)
+
+pub return_ends : (op : ℕ) → FallsThrough (insns.Simple opcode.ireturn) → ⊥
+return_ends op (inl e) = cc
+return_ends op (inr e) = cc
+
+pub void_ends : FallsThrough (insns.Simple opcode.return) → ⊥
+void_ends (inl e) = cc
+void_ends (inr e) = cc
+
+pub none_some : {X : Type 0} {x : X} → None ≡ Some x → ⊥
+none_some e = cc
+
+pub some_is : {X : Type 0} (x y : X) → Some x ≡ Some y → x ≡ y
+some_is x y e = cc
+
+pub int_is_type : IsFieldType Int
+int_is_type = record { named = tt; few = omega arith }
+
+-- one entry is for the place
+used : (uses : List Use) (u : Use) → what_used uses u.place ≡ Some u.what → length (entries_for uses u.place) ≡ 1 → (F : What → Type 0) → F u.what → (place : ℕ) → Some u.place ≡ Some place → HasUse uses place F
+used uses u e one F f place g = subst (λ k. HasUse uses k F) (some_is u.place place g) (record { what = u.what; used = e; one = one; fact = f })
+
+-- an int takes one slot, so that nothing has to stand behind it
+int_before : (ks : List Kind) → kind_slots kinds.Int ≡ 2 → BeginsWithTop ks
+int_before ks e = absurd (omega (arith, e))
+
+-- so does a reference
+object_before : (ks : List Kind) → kind_slots (kinds.Object 0) ≡ 2 → BeginsWithTop ks
+object_before ks e = absurd (omega (arith, e))
+
+abs_code : IsCode abs.code
+unfolding form_of
+abs_code = record {
+  some = omega arith;
+  few = omega arith;
+  well_formed = All-from_recursion IsWellFormed abs.code (refl, (refl, (refl, (refl, (refl, (refl, (refl, tt)))))));
+  places = All-from_recursion (LeadsWithin 7) abs.code (tt, ((omega arith, tt), (tt, (tt, (tt, (tt, (tt, tt)))))));
+  ends = no_falls (insns.Simple opcode.ireturn) (insns.Local opcode.iload 0 ∷ insns.Simple opcode.ireturn ∷ insns.Simple opcode.ineg ∷ insns.Local opcode.iload 0 ∷ insns.Jump opcode.ifge 5 ∷ insns.Local opcode.iload 0 ∷ []) abs.code refl (return_ends 0);
+}
+
+abs_uses : AreUses abs.code abs.handlers abs.uses
+abs_uses = record {
+  by_insns = All-from_recursion (λ (insn : Insn). (place : ℕ) → pool_place insn ≡ Some place → HasUse [] place (Suits insn)) abs.code ((λ place e. absurd (none_some e)), ((λ place e. absurd (none_some e)), ((λ place e. absurd (none_some e)), ((λ place e. absurd (none_some e)), ((λ place e. absurd (none_some e)), ((λ place e. absurd (none_some e)), ((λ place e. absurd (none_some e)), tt)))))));
+  by_handlers = All-from_recursion (λ (h : Handler). h.class ≢ 0 → HasUse [] h.class IsClass) [] tt;
+  short = All-from_recursion (λ (u : Use). HasShortTexts u.what) [] tt;
+}
+
+abs_made : IsWellMade abs
+abs_made = record {
+  of_any_size = record {
+    code = abs_code;
+    handlers = All-from_recursion (IsHandler 7) [] tt;
+    lines = All-from_recursion (IsLine 7) [] tt;
+    vars = All-from_recursion (IsVar 7 1) [] tt;
+    kind_vars = All-from_recursion (IsVar 7 1) [] tt;
+    locals = All-from_recursion (LocalsWithin 1) abs.code ((omega arith, tt), (tt, ((omega arith, tt), (tt, (tt, ((omega arith, tt), (tt, tt)))))));
+    arguments = record {
+      type = record { parameters = Int ∷ []; returns = Some Int };
+      described = record { parameters = (int_is_type, tt); returns = int_is_type; spelled = refl };
+      static_slots = λ e. refl;
+      other_slots = λ n. absurd (n (λ (e : 8 ≡ 0). omega (arith, e)));
+    };
+    arguments_fit = omega arith;
+    uses = abs_uses;
+    frames = (omega arith, omega arith, record { locals = refl; pairs = (int_before [], tt); stack = omega arith; local_kinds = All-from_recursion (IsKind abs.code) (kinds.Int ∷ []) (tt, tt); stack_kinds = All-from_recursion (IsKind abs.code) [] tt }, tt);
+    sizes = record { owner = omega arith; name = omega arith; desc = omega arith; handlers = omega arith; lines = omega arith; vars = omega arith; kind_vars = omega arith; frames = omega arith; uses = omega arith };
+  };
+  bound = omega arith;
+}
+
+abs_verdict : verdict_of (codes "[Z" ∷ []) abs ≡ passes
+unfolding types_from rest_from table forms_at after_of state_of verdict_of
+abs_verdict = refl
+
+pub abs_is_program : IsProgram abs_program
+unfolding IsDistinct
+abs_is_program = record {
+  classes = All-from_recursion (IsLinked (codes "[Z" ∷ [])) abs_program.classes (
+    record {
+      bodies = All-from_recursion (IsProgramBody (codes "[Z" ∷ [])) (abs ∷ []) (record { well_made = abs_made; checked = passes_checked (codes "[Z" ∷ []) abs (omega arith) abs_verdict; numbered = (record { locals = (tt, tt); stack = tt }, tt) }, tt);
+      statics = All-from_recursion IsStatic [] tt;
+      few_bodies = omega arith;
+      few_statics = omega arith;
+    },
+    tt,
+  );
+  few = omega arith;
+  distinct = (tt, tt);
+}
+
+-- ---- a static field
+
+inc_code_is : IsCode inc.code
+unfolding form_of
+inc_code_is = record {
+  some = omega arith;
+  few = omega arith;
+  well_formed = All-from_recursion IsWellFormed inc.code (refl, (refl, (refl, (refl, (refl, tt)))));
+  places = All-from_recursion (LeadsWithin 5) inc.code (tt, (tt, (tt, (tt, (tt, tt)))));
+  ends = no_falls (insns.Simple opcode.return) (insns.Member opcode.putstatic 1 ∷ insns.Simple opcode.iadd ∷ insns.Simple opcode.iconst_1 ∷ insns.Member opcode.getstatic 1 ∷ []) inc.code refl void_ends;
+}
+
+x_used : (op : ℕ) → op ≤ 181 → (place : ℕ) → Some 1 ≡ Some place → HasUse (x_use ∷ []) place (Suits (insns.Member op 1))
+x_used op l place e = used (x_use ∷ []) x_use refl refl (Suits (insns.Member op 1)) (inl (l, (Int, record { fits = int_is_type; spelled = refl }))) place e
+
+inc_uses : AreUses inc.code inc.handlers inc.uses
+inc_uses = record {
+  by_insns = All-from_recursion (λ (insn : Insn). (place : ℕ) → pool_place insn ≡ Some place → HasUse (x_use ∷ []) place (Suits insn)) inc.code (x_used 178 (omega arith), ((λ place e. absurd (none_some e)), ((λ place e. absurd (none_some e)), (x_used 179 (omega arith), ((λ place e. absurd (none_some e)), tt)))));
+  by_handlers = All-from_recursion (λ (h : Handler). h.class ≢ 0 → HasUse (x_use ∷ []) h.class IsClass) [] tt;
+  short = All-from_recursion (λ (u : Use). HasShortTexts u.what) (x_use ∷ []) ((omega arith, omega arith, omega arith), tt);
+}
+
+inc_made : IsWellMade inc
+inc_made = record {
+  of_any_size = record {
+    code = inc_code_is;
+    handlers = All-from_recursion (IsHandler 5) [] tt;
+    lines = All-from_recursion (IsLine 5) [] tt;
+    vars = All-from_recursion (IsVar 5 0) [] tt;
+    kind_vars = All-from_recursion (IsVar 5 0) [] tt;
+    locals = All-from_recursion (LocalsWithin 0) inc.code (tt, (tt, (tt, (tt, (tt, tt)))));
+    arguments = record {
+      type = record { parameters = []; returns = None };
+      described = record { parameters = tt; returns = tt; spelled = refl };
+      static_slots = λ e. refl;
+      other_slots = λ n. absurd (n (λ (e : 8 ≡ 0). omega (arith, e)));
+    };
+    arguments_fit = omega arith;
+    uses = inc_uses;
+    frames = tt;
+    sizes = record { owner = omega arith; name = omega arith; desc = omega arith; handlers = omega arith; lines = omega arith; vars = omega arith; kind_vars = omega arith; frames = omega arith; uses = omega arith };
+  };
+  bound = omega arith;
+}
+
+inc_verdict : verdict_of (codes "[Z" ∷ []) inc ≡ passes
+unfolding types_from rest_from table forms_at after_of state_of verdict_of
+inc_verdict = refl
+
+inc_static : IsLinked (codes "[Z" ∷ []) (record { name = c_name; bodies = inc ∷ []; statics = record { name = codes "x"; desc = codes "I"; first = pos 0 } ∷ []; has_clinit = false; probes = None })
+unfolding types_from
+inc_static = record {
+  bodies = All-from_recursion (IsProgramBody (codes "[Z" ∷ [])) (inc ∷ []) (record { well_made = inc_made; checked = passes_checked (codes "[Z" ∷ []) inc (omega arith) inc_verdict; numbered = tt }, tt);
+  statics = All-from_recursion IsStatic (record { name = codes "x"; desc = codes "I"; first = pos 0 } ∷ []) (refl, tt);
+  few_bodies = omega arith;
+  few_statics = omega arith;
+}
+
+pub inc_is_program : IsProgram inc_program
+unfolding IsDistinct
+inc_is_program = record { classes = All-from_recursion (IsLinked (codes "[Z" ∷ [])) inc_program.classes (inc_static, tt); few = omega arith; distinct = (tt, tt) }
+
+inc_entries : AreEntries inc_program (inc_thread ∷ inc_thread ∷ []) (record { class = 0; method = 0 } ∷ record { class = 0; method = 0 } ∷ [])
+unfolding entry_of types_from rest_from
+inc_entries = (refl, (refl, tt))
+
+pub inc_runs : (turns : List ℕ) → FitsWorld inc_program (run inc_program (case (inc_thread ∷ inc_thread ∷ []) (schedules.Robin 10)) turns)
+inc_runs turns = (run_fits inc_program (case (inc_thread ∷ inc_thread ∷ []) (schedules.Robin 10)) (record { class = 0; method = 0 } ∷ record { class = 0; method = 0 } ∷ []) turns inc_is_program inc_entries).0
+
+-- ---- an instrumented class
+
+-- ---- uses
+
+-- ---- names and descriptors
+
+name_test : ℕ → Bool
+name_test b = not (nat_eq b 46) && (not (nat_eq b 59) && (not (nat_eq b 91) && not (nat_eq b 47)))
+
+differs : (b n : ℕ) → not (nat_eq b n) ≡ true → b ≢ n
+differs b n e g = by (sym (ap not (eq-eqb b n g)) ∙ e)
+  where
+    by : false ≡ true → ⊥
+    by p = cc
+
+both : (x y : Bool) → (x && y) ≡ true → (x ≡ true) × (y ≡ true)
+both true y e = (refl, e)
+both false y e = cc
+
+name_byte : (b : ℕ) → name_test b ≡ true → IsNameByte b
+unfolding name_test
+name_byte b e =
+    let p = both (not (nat_eq b 46)) _ e in
+    let q = both (not (nat_eq b 59)) _ p.1 in
+    let r = both (not (nat_eq b 91)) (not (nat_eq b 47)) q.1 in
+    record { no_dot = differs b 46 p.0; no_semicolon = differs b 59 q.0; no_bracket = differs b 91 r.0; no_slash = differs b 47 r.1 }
+
+all_names : List ℕ → Bool
+all_names [] = true
+all_names (b ∷ bs) = name_test b && all_names bs
+
+name_bytes : (bs : List ℕ) → all_names bs ≡ true → AllByRecursion IsNameByte bs
+unfolding all_names
+name_bytes [] e = tt
+name_bytes (b ∷ bs) e = let p = both (name_test b) (all_names bs) e in (name_byte b p.0, name_bytes bs p.1)
+
+string_name : IsClassName (codes "java/lang/String")
+unfolding all_names name_test
+string_name = record {
+  front = codes "java";
+  others = codes "lang" ∷ codes "String" ∷ [];
+  first = record { some = λ e. cc; bytes = name_bytes (codes "java") refl };
+  each = (record { some = λ e. cc; bytes = name_bytes (codes "lang") refl }, (record { some = λ e. cc; bytes = name_bytes (codes "String") refl }, tt));
+  parts = refl;
+}
+
+array_is_type : IsFieldType (Array Boolean)
+array_is_type = record { named = tt; few = omega arith }
+
+long_is_type : IsFieldType Long
+long_is_type = record { named = tt; few = omega arith }
+
+string_is_type : IsFieldType (Object (codes "java/lang/String"))
+string_is_type = record { named = string_name; few = omega arith }
+
+data_desc_is : IsFieldDescriptor (codes "[Z")
+data_desc_is = (Array Boolean, record { fits = array_is_type; spelled = refl })
+
+init_desc_is : IsMethodDescriptor (codes "()[Z")
+init_desc_is = (record { parameters = []; returns = Some (Array Boolean) }, record { parameters = tt; returns = array_is_type; spelled = refl })
+
+probes_desc_is : IsMethodDescriptor (codes "(JLjava/lang/String;I)[Z")
+probes_desc_is = (record { parameters = Long ∷ Object (codes "java/lang/String") ∷ Int ∷ []; returns = Some (Array Boolean) }, record { parameters = (long_is_type, (string_is_type, (int_is_type, tt))); returns = array_is_type; spelled = refl })
+
+abbrev probed_body : Body
+probed_body = probed_abs
+
+probed_code : IsCode probed_body.code
+unfolding form_of
+probed_code = record {
+  some = omega arith;
+  few = omega arith;
+  well_formed = All-from_recursion IsWellFormed probed_body.code (refl, (refl, (refl, (refl, (refl, (refl, (refl, (refl, (refl, (refl, (refl, (refl, (refl, (refl, (refl, (refl, (refl, tt)))))))))))))))));
+  places = All-from_recursion (LeadsWithin 17) probed_body.code (tt, (tt, (tt, ((omega arith, tt), (tt, (tt, (tt, (tt, (tt, (tt, (tt, (tt, (tt, (tt, (tt, (tt, (tt, tt)))))))))))))))));
+  ends = no_falls (insns.Simple opcode.ireturn) (insns.Simple opcode.bastore ∷ insns.Simple opcode.iconst_1 ∷ insns.Simple opcode.iconst_1 ∷ insns.Local opcode.aload 1 ∷ insns.Local opcode.iload 0 ∷ insns.Simple opcode.ireturn ∷ insns.Simple opcode.bastore ∷ insns.Simple opcode.iconst_1 ∷ insns.Simple opcode.iconst_0 ∷ insns.Local opcode.aload 1 ∷ insns.Simple opcode.ineg ∷ insns.Local opcode.iload 0 ∷ insns.Jump opcode.ifge 11 ∷ insns.Local opcode.iload 0 ∷ insns.Local opcode.astore 1 ∷ insns.Member opcode.invokestatic 95 ∷ []) probed_body.code refl (return_ends 0);
+}
+
+probed_uses : AreUses probed_body.code probed_body.handlers probed_body.uses
+probed_uses = record {
+  by_insns = All-from_recursion (λ (insn : Insn). (place : ℕ) → pool_place insn ≡ Some place → HasUse probed_body.uses place (Suits insn)) probed_body.code (used probed_body.uses (init_use a_name) refl refl (Suits (insns.Member opcode.invokestatic 95)) (inr (omega arith, init_desc_is)), ((λ place e. absurd (none_some e)), ((λ place e. absurd (none_some e)), ((λ place e. absurd (none_some e)), ((λ place e. absurd (none_some e)), ((λ place e. absurd (none_some e)), ((λ place e. absurd (none_some e)), ((λ place e. absurd (none_some e)), ((λ place e. absurd (none_some e)), ((λ place e. absurd (none_some e)), ((λ place e. absurd (none_some e)), ((λ place e. absurd (none_some e)), ((λ place e. absurd (none_some e)), ((λ place e. absurd (none_some e)), ((λ place e. absurd (none_some e)), ((λ place e. absurd (none_some e)), ((λ place e. absurd (none_some e)), tt)))))))))))))))));
+  by_handlers = All-from_recursion (λ (h : Handler). h.class ≢ 0 → HasUse probed_body.uses h.class IsClass) [] tt;
+  short = All-from_recursion (λ (u : Use). HasShortTexts u.what) probed_body.uses ((omega arith, omega arith, omega arith), tt);
+}
+
+probed_made : IsWellMade probed_body
+probed_made = record {
+  of_any_size = record {
+    code = probed_code;
+    handlers = All-from_recursion (IsHandler 17) [] tt;
+    lines = All-from_recursion (IsLine 17) [] tt;
+    vars = All-from_recursion (IsVar 17 2) [] tt;
+    kind_vars = All-from_recursion (IsVar 17 2) [] tt;
+    locals = All-from_recursion (LocalsWithin 2) probed_body.code (tt, ((omega arith, tt), ((omega arith, tt), (tt, ((omega arith, tt), (tt, ((omega arith, tt), (tt, (tt, (tt, (tt, ((omega arith, tt), ((omega arith, tt), (tt, (tt, (tt, (tt, tt)))))))))))))))));
+    arguments = record {
+      type = record { parameters = Int ∷ []; returns = Some Int };
+      described = record { parameters = (int_is_type, tt); returns = int_is_type; spelled = refl };
+      static_slots = λ e. refl;
+      other_slots = λ n. absurd (n (λ (e : 8 ≡ 0). omega (arith, e)));
+    };
+    arguments_fit = omega arith;
+    uses = probed_uses;
+    frames = (omega arith, omega arith, record { locals = refl; pairs = (int_before (kinds.Object 0 ∷ []), (object_before [], tt)); stack = omega arith; local_kinds = All-from_recursion (IsKind probed_body.code) (kinds.Int ∷ kinds.Object 0 ∷ []) (tt, (tt, tt)); stack_kinds = All-from_recursion (IsKind probed_body.code) [] tt }, tt);
+    sizes = record { owner = omega arith; name = omega arith; desc = omega arith; handlers = omega arith; lines = omega arith; vars = omega arith; kind_vars = omega arith; frames = omega arith; uses = omega arith };
+  };
+  bound = omega arith;
+}
+
+probed_verdict : verdict_of (codes "[Z" ∷ []) probed_body ≡ passes
+unfolding types_from rest_from table forms_at after_of state_of verdict_of
+probed_verdict = refl
+
+reference_ends : FallsThrough (insns.Simple opcode.areturn) → ⊥
+reference_ends (inl e) = cc
+reference_ends (inr e) = cc
+
+abbrev init_body : Body
+init_body = init a_name (pos 7) 2
+
+init_code : IsCode init_body.code
+unfolding form_of
+init_code = record {
+  some = omega arith;
+  few = omega arith;
+  well_formed = All-from_recursion IsWellFormed init_body.code (refl, (refl, (refl, (refl, (tt, (tt, (refl, (refl, (refl, (refl, (refl, tt)))))))))));
+  places = All-from_recursion (LeadsWithin 11) init_body.code (tt, (tt, ((omega arith, tt), (tt, (tt, (tt, (tt, (tt, (tt, (tt, (tt, tt)))))))))));
+  ends = no_falls (insns.Simple opcode.areturn) (insns.Member opcode.putstatic 90 ∷ insns.Simple opcode.dup ∷ insns.Member opcode.invokestatic 94 ∷ insns.Simple opcode.iconst_2 ∷ insns.Constant 93 ∷ insns.Constant2 91 ∷ insns.Simple opcode.pop ∷ insns.Jump opcode.ifnonnull 10 ∷ insns.Simple opcode.dup ∷ insns.Member opcode.getstatic 90 ∷ []) init_body.code refl (reference_ends);
+}
+
+init_uses : AreUses init_body.code init_body.handlers init_body.uses
+init_uses = record {
+  by_insns = All-from_recursion (λ (insn : Insn). (place : ℕ) → pool_place insn ≡ Some place → HasUse init_body.uses place (Suits insn)) init_body.code (used init_body.uses (use_at 90 (whats.Field a_name (codes "$jacocoData") (codes "[Z"))) refl refl (Suits (insns.Member opcode.getstatic 90)) (inl (omega arith, data_desc_is)), ((λ place e. absurd (none_some e)), ((λ place e. absurd (none_some e)), ((λ place e. absurd (none_some e)), (used init_body.uses (use_at 91 (whats.Long (pos 7))) refl refl (Suits (insns.Constant2 91)) tt, (used init_body.uses (use_at 93 whats.Text) refl refl (Suits (insns.Constant 93)) tt, ((λ place e. absurd (none_some e)), (used init_body.uses (use_at 94 (whats.Method (codes "org/jacoco/agent/rt/internal/Offline") (codes "getProbes") (codes "(JLjava/lang/String;I)[Z"))) refl refl (Suits (insns.Member opcode.invokestatic 94)) (inr (omega arith, probes_desc_is)), ((λ place e. absurd (none_some e)), (used init_body.uses (use_at 90 (whats.Field a_name (codes "$jacocoData") (codes "[Z"))) refl refl (Suits (insns.Member opcode.putstatic 90)) (inl (omega arith, data_desc_is)), ((λ place e. absurd (none_some e)), tt)))))))))));
+  by_handlers = All-from_recursion (λ (h : Handler). h.class ≢ 0 → HasUse init_body.uses h.class IsClass) [] tt;
+  short = All-from_recursion (λ (u : Use). HasShortTexts u.what) init_body.uses ((omega arith, omega arith, omega arith), (tt, (tt, ((omega arith, omega arith, omega arith), tt))));
+}
+
+init_made : IsWellMade init_body
+init_made = record {
+  of_any_size = record {
+    code = init_code;
+    handlers = All-from_recursion (IsHandler 11) [] tt;
+    lines = All-from_recursion (IsLine 11) [] tt;
+    vars = All-from_recursion (IsVar 11 0) [] tt;
+    kind_vars = All-from_recursion (IsVar 11 0) [] tt;
+    locals = All-from_recursion (LocalsWithin 0) init_body.code (tt, (tt, (tt, (tt, (tt, (tt, (tt, (tt, (tt, (tt, (tt, tt)))))))))));
+    arguments = record {
+      type = record { parameters = []; returns = Some (Array Boolean) };
+      described = record { parameters = tt; returns = array_is_type; spelled = refl };
+      static_slots = λ e. refl;
+      other_slots = λ n. absurd (n (λ (e : 8 ≡ 0). omega (arith, e)));
+    };
+    arguments_fit = omega arith;
+    uses = init_uses;
+    frames = (omega arith, omega arith, record { locals = refl; pairs = tt; stack = omega arith; local_kinds = All-from_recursion (IsKind init_body.code) [] tt; stack_kinds = All-from_recursion (IsKind init_body.code) (kinds.Object 0 ∷ []) (tt, tt) }, tt);
+    sizes = record { owner = omega arith; name = omega arith; desc = omega arith; handlers = omega arith; lines = omega arith; vars = omega arith; kind_vars = omega arith; frames = omega arith; uses = omega arith };
+  };
+  bound = omega arith;
+}
+
+init_verdict : verdict_of (codes "[Z" ∷ []) init_body ≡ passes
+unfolding types_from rest_from table forms_at after_of state_of verdict_of
+init_verdict = refl
+
+-- ---- the program
+
+probed_data : IsStatic (record { name = codes "$jacocoData"; desc = codes "[Z"; first = pos 0 })
+unfolding types_from
+probed_data = refl
+
+pub probed_is_program : IsProgram probed_abs_program
+unfolding IsDistinct
+probed_is_program = record {
+  classes = All-from_recursion (IsLinked (codes "[Z" ∷ [])) probed_abs_program.classes (
+    record {
+      bodies = All-from_recursion (IsProgramBody (codes "[Z" ∷ [])) (probed_abs ∷ init a_name (pos 7) 2 ∷ []) (
+        record { well_made = probed_made; checked = passes_checked (codes "[Z" ∷ []) probed_abs (omega arith) probed_verdict; numbered = (record { locals = (tt, (omega arith, tt)); stack = tt }, tt) },
+        (record { well_made = init_made; checked = passes_checked (codes "[Z" ∷ []) (init a_name (pos 7) 2) (omega arith) init_verdict; numbered = (record { locals = tt; stack = (omega arith, tt) }, tt) }, tt),
+      );
+      statics = All-from_recursion IsStatic (record { name = codes "$jacocoData"; desc = codes "[Z"; first = pos 0 } ∷ []) (probed_data, tt);
+      few_bodies = omega arith;
+      few_statics = omega arith;
+    },
+    tt,
+  );
+  few = omega arith;
+  distinct = (tt, tt);
+}
+
+probed_entries : AreEntries probed_abs_program (one_thread a_name (codes "abs") (pos 5 ∷ []) 100).threads (record { class = 0; method = 0 } ∷ [])
+unfolding entry_of types_from rest_from
+probed_entries = (refl, tt)
+
+pub probed_runs : (turns : List ℕ) → FitsWorld probed_abs_program (run probed_abs_program (one_thread a_name (codes "abs") (pos 5 ∷ []) 100) turns)
+probed_runs turns = (run_fits probed_abs_program (one_thread a_name (codes "abs") (pos 5 ∷ []) 100) (record { class = 0; method = 0 } ∷ []) turns probed_is_program probed_entries).0
+
+-- ---- `top` on the stack of a frame
+
+wide_code : IsCode wide.code
+unfolding form_of
+wide_code = record {
+  some = omega arith;
+  few = omega arith;
+  well_formed = All-from_recursion IsWellFormed wide.code (refl, (refl, (refl, (refl, tt))));
+  places = All-from_recursion (LeadsWithin 4) wide.code (tt, (tt, (tt, (tt, tt))));
+  ends = no_falls (insns.Simple opcode.return) (insns.Simple opcode.pop ∷ insns.Simple opcode.iconst_0 ∷ insns.Simple opcode.lconst_0 ∷ []) wide.code refl void_ends;
+}
+
+wide_uses : AreUses wide.code wide.handlers wide.uses
+wide_uses = record {
+  by_insns = All-from_recursion (λ (insn : Insn). (place : ℕ) → pool_place insn ≡ Some place → HasUse [] place (Suits insn)) wide.code
+      ((λ place e. absurd (none_some e)), ((λ place e. absurd (none_some e)), ((λ place e. absurd (none_some e)), ((λ place e. absurd (none_some e)), tt))));
+  by_handlers = All-from_recursion (λ (h : Handler). h.class ≢ 0 → HasUse [] h.class IsClass) [] tt;
+  short = All-from_recursion (λ (u : Use). HasShortTexts u.what) [] tt;
+}
+
+wide_made : IsWellMade wide
+wide_made = record {
+  of_any_size = record {
+    code = wide_code;
+    handlers = All-from_recursion (IsHandler 4) [] tt;
+    lines = All-from_recursion (IsLine 4) [] tt;
+    vars = All-from_recursion (IsVar 4 0) [] tt;
+    kind_vars = All-from_recursion (IsVar 4 0) [] tt;
+    locals = All-from_recursion (LocalsWithin 0) wide.code (tt, (tt, (tt, (tt, tt))));
+    arguments = record {
+      type = record { parameters = []; returns = None };
+      described = record { parameters = tt; returns = tt; spelled = refl };
+      static_slots = λ e. refl;
+      other_slots = λ n. absurd (n (λ (e : 8 ≡ 0). omega (arith, e)));
+    };
+    arguments_fit = omega arith;
+    uses = wide_uses;
+    frames = (omega arith, omega arith, record { locals = refl; pairs = tt; stack = omega arith; local_kinds = All-from_recursion (IsKind wide.code) [] tt; stack_kinds = All-from_recursion (IsKind wide.code) (kinds.Top ∷ []) (tt, tt) }, tt);
+    sizes = record { owner = omega arith; name = omega arith; desc = omega arith; handlers = omega arith; lines = omega arith; vars = omega arith; kind_vars = omega arith; frames = omega arith; uses = omega arith };
+  };
+  bound = omega arith;
+}
+
+wide_verdict : verdict_of (codes "[Z" ∷ []) wide ≡ passes
+unfolding types_from rest_from table forms_at after_of state_of verdict_of
+wide_verdict = refl
+
+pub wide_is_program : IsProgram wide_program
+unfolding IsDistinct
+wide_is_program = record {
+  classes = All-from_recursion (IsLinked (codes "[Z" ∷ [])) wide_program.classes (
+    record {
+      bodies = All-from_recursion (IsProgramBody (codes "[Z" ∷ [])) (wide ∷ []) (record { well_made = wide_made; checked = passes_checked (codes "[Z" ∷ []) wide (omega arith) wide_verdict; numbered = (record { locals = tt; stack = (tt, tt) }, tt) }, tt);
+      statics = All-from_recursion IsStatic [] tt;
+      few_bodies = omega arith;
+      few_statics = omega arith;
+    },
+    tt,
+  );
+  few = omega arith;
+  distinct = (tt, tt);
+}
+
+-- behind two turns
+pub wide_stack : (run wide_program (one_thread w_name (codes "w") [] 2) (0 ∷ 0 ∷ [])).threads
+    ≡ running (record { method = record { class = 0; method = 0 }; place = 2; locals = []; stack = int (pos 0) ∷ long (pos 0) ∷ [] }) [] ∷ []
+unfolding types_from rest_from entry_of constant moves_of int_bits int_pair long_pair long_shift int_single long_single single pair effect operation_of test_of perform step begin
+wide_stack = refl

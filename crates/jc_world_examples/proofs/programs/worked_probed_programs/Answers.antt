@@ -1,8 +1,0 @@
-use Rattle.jc_world_examples.proofs.FitExampleLaws.{probed_is_program, probed_runs}
-use Rattle.jc_world_examples.proofs.programs.worked_probed_programs.Goals as goal
-
-pub returns-clause-probed : goal.returns-clause-probed
-returns-clause-probed c = probed_is_program
-
-pub returns-clause-runs : goal.returns-clause-runs
-returns-clause-runs c = probed_runs

@@ -1,8 +1,0 @@
-use Rattle.jc_world_examples.proofs.FitExampleLaws.{wide_is_program, wide_stack}
-use Rattle.jc_world_examples.proofs.programs.worked_values_on_a_stack.Goals as goal
-
-pub returns-clause-wide : goal.returns-clause-wide
-returns-clause-wide c = wide_is_program
-
-pub returns-clause-values : goal.returns-clause-values
-returns-clause-values c = wide_stack
