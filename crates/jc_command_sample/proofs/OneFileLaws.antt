@@ -7,10 +7,10 @@ use Rattle.jc_bytes.specs.declared.refusal.Refusal.{Refusal}
 use Rattle.jc_bytes.specs.Failing.{Said}
 use Rattle.jc_methods.specs.VerificationTypes.{Names}
 use Rattle.jc_programs.specs.declared.program.Linked.{Linked}
-use Rattle.jc_linking.specs.declared.link_refusal.LinkRefusal.{LinkRefusal}
-use Rattle.jc_linking.specs.declared.link_refusal.LinkRefusal.TheVariants as refusals
-use Rattle.jc_linking.specs.Linking.{AreLinkedClasses, LinkReason, IsLinkRefusal, refused, one_name, one_id}
-use Rattle.jc_linking.specs.Pairs.{HaveOne}
+use Rattle.jc_link_programs.specs.declared.link_refusal.LinkRefusal.{LinkRefusal}
+use Rattle.jc_link_programs.specs.declared.link_refusal.LinkRefusal.TheVariants as refusals
+use Rattle.jc_link_programs.specs.Linking.{AreLinkedClasses, LinkReason, IsLinkRefusal, refused, one_name, one_id}
+use Rattle.jc_link_programs.specs.Pairs.{HaveOne}
 
 module _ (bytes : List ℕ) where
   -- it is the only one

@@ -17,9 +17,9 @@ use Rattle.jc_instrument.specs.declared.whole.Instrumented.{Instrumented}
 use Rattle.jc_instrument.proofs.OneTwinLaws.{one_file, file_or_reason}
 use Rattle.jc_instrument.proofs.RoomCauseLaws.{one_reason}
 use Rattle.jc_instrument_laws.proofs.EachFileLaws.{each_file}
-use Rattle.jc_linking.specs.Linking.{IsProgramOf, IsLinkRefusal}
-use Rattle.jc_linking.specs.declared.link_refusal.LinkRefusal.{LinkRefusal}
-use Rattle.jc_linking.proofs.OneRefusalLaws.{one_link_reason, program_or_refusal, same_program}
+use Rattle.jc_link_programs.specs.Linking.{IsProgramOf, IsLinkRefusal}
+use Rattle.jc_link_programs.specs.declared.link_refusal.LinkRefusal.{LinkRefusal}
+use Rattle.jc_link_programs.proofs.OneRefusalLaws.{one_link_reason, program_or_refusal, same_program}
 use Rattle.jc_link_laws.proofs.SomeProgramLaws.{program_or_reason}
 use Rattle.jc_same_runs.specs.Frameless.{frameless}
 use Rattle.jc_command_work.specs.declared.status.Fault.TheVariants as fault

@@ -18,7 +18,7 @@ use Rattle.jc_cover.specs.Covered.{hits_or_none, TellsCovered}
 use Rattle.jc_cover.specs.declared.coverage.Count.{Count}
 use Rattle.jc_cover.specs.declared.coverage.Counters.{Counters}
 use Rattle.jc_cover.specs.declared.coverage.Coverage.{Coverage}
-use Rattle.jc_linking.specs.Linking.{LinkReason}
+use Rattle.jc_link_programs.specs.Linking.{LinkReason}
 use Rattle.jc_command_work.specs.declared.status.Fault.TheVariants as fault
 use Rattle.jc_command_work.specs.Step.{Word, to_out}
 use Rattle.jc_command_work.specs.Part.{End, done, Part, Command, giving, ending, deciding, writing, ◌>>=◌, ◌>>◌}

@@ -3,7 +3,7 @@ ghost use Rattle.std.specs.Prelude.{◌≡◌, ◌≤◌, ◌∷◌, [], ⊤, So
 ghost use Rattle.jc_bytes.specs.ByteLists.{AreBytes};
 ghost use Rattle.jc_bytes.specs.Reader.{most_read};
 ghost use Rattle.jc_instrument.specs.InstrumentedFile.{IsInstrumentedFile};
-ghost use Rattle.jc_linking.specs.Linking.{IsProgramOf};
+ghost use Rattle.jc_link_programs.specs.Linking.{IsProgramOf};
 ghost use Rattle.jc_run_parts.specs.HitStore.{FitRecords};
 ghost use Rattle.jc_run_work.specs.RunStore.{threads_of, first_without};
 ghost use Rattle.jc_same_runs.specs.Frameless.{frameless};
@@ -20,7 +20,7 @@ use crate::plan::sample_plan;
 use jc_bytes::{Bytes, Fail, MOST_READ, Memory, not_a_class};
 use jc_command_work::{Fault, Stop, class_stop, put_out};
 use jc_instrument::{Instrumented, instrument};
-use jc_linking::{LinkRefusal, link};
+use jc_link_programs::{LinkRefusal, link};
 use jc_outside::Sink;
 use jc_programs::{Program, RunPlan};
 use jc_run_parts::line_without_entry;

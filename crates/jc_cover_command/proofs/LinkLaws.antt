@@ -1,7 +1,7 @@
 -- How files that are read back as no program end the command.
 use Rattle.std.proofs.Common.{◌≡◌, ◌<◌, ℕ, List, Option, None, Some, length, option_map, sym, ◌∙◌, ap, ap₂, subst, arith}
-use Rattle.jc_linking.specs.declared.link_refusal.LinkRefusal.{LinkRefusal}
-use Rattle.jc_linking.specs.declared.link_refusal.LinkRefusal.TheVariants as refusals
+use Rattle.jc_link_programs.specs.declared.link_refusal.LinkRefusal.{LinkRefusal}
+use Rattle.jc_link_programs.specs.declared.link_refusal.LinkRefusal.TheVariants as refusals
 use Rattle.jc_run_work.specs.PairTexts.{same_name_text, same_id_text}
 use Rattle.jc_run_work.specs.RunAnswers.{path_at, EndsAs}
 use Rattle.jc_run_parts.specs.Clash.{LinkStops}

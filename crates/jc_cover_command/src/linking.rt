@@ -2,7 +2,7 @@
 ghost use Rattle.std.specs.Prelude.{◌≡◌, ◌≤◌, List, ℕ, All, length, option_map, slice_index_or, IfOk};
 ghost use Rattle.jc_bytes.specs.Failing.{Said};
 ghost use Rattle.jc_bytes.specs.Reader.{most_read};
-ghost use Rattle.jc_linking.specs.Linking.{IsProgramOf, IsLinkRefusal};
+ghost use Rattle.jc_link_programs.specs.Linking.{IsProgramOf, IsLinkRefusal};
 ghost use Rattle.jc_same_runs.specs.Frameless.{frameless};
 ghost use Rattle.jc_run_work.specs.RunAnswers.{IsRunProgram};
 ghost use Rattle.jc_cover_work.specs.CoverWork.{LookedFile, IsLinkEnd};
@@ -16,7 +16,7 @@ ghost use Rattle.jc_machine_model.specs.Programs.{IsProgram};
 use crate::accepted::Accepted;
 use jc_bytes::{Bytes, Fail};
 use jc_command_work::{Fault, Stop};
-use jc_linking::{LinkRefusal, link};
+use jc_link_programs::{LinkRefusal, link};
 use jc_programs::Program;
 use jc_run_parts::link_stop;
 use std::alloc::Global;

@@ -20,7 +20,7 @@ use Rattle.jc_plan.specs.Probed.{probe_count}
 use Rattle.jc_emit.specs.TwinProgram.{AreTwinBodies}
 use Rattle.jc_instrument.specs.Bodies.{IsListed}
 use Rattle.jc_instrument_laws.specs.TwinClass.{TwinClass}
-use Rattle.jc_linking.specs.declared.link_refusal.LinkRefusal.{LinkRefusal}
+use Rattle.jc_link_programs.specs.declared.link_refusal.LinkRefusal.{LinkRefusal}
 use Rattle.jc_link_laws.specs.SecondLinking.{IsTooWide, IsSecondRefusal, too_wide, one_id}
 use Rattle.jc_link_laws.specs.TwinFiles.{IsWrittenTwin}
 use Rattle.jc_cover_laws.specs.FewSlots.{UsesFewSlots, DifferInId}

@@ -18,8 +18,8 @@ use Rattle.jc_exec.specs.declared.hits.ClassHits.{ClassHits}
 use Rattle.jc_exec.specs.declared.refusal.ExecRefusal.{ExecRefusal}
 use Rattle.jc_exec.specs.Answers.{conflict_with}
 use Rattle.jc_exec.specs.Union.{fits}
-use Rattle.jc_linking.specs.Linking.{AreLinkedClasses}
-use Rattle.jc_linking.specs.Pairs.{HaveOneId, NoPair}
+use Rattle.jc_link_programs.specs.Linking.{AreLinkedClasses}
+use Rattle.jc_link_programs.specs.Pairs.{HaveOneId, NoPair}
 use Rattle.jc_link_laws.specs.TwinFiles.{AreWrittenOf, IsShortFile}
 use Rattle.jc_link_laws.proofs.SecondLinkingLaws.{same_name}
 use Rattle.jc_machine_model.specs.Run.{hits_of}

@@ -21,8 +21,8 @@ use Rattle.jc_body.specs.Faults.{faults}
 use Rattle.jc_body.specs.First.{AreNowhere}
 use Rattle.jc_body.proofs.CodedLaws.{no_items}
 use Rattle.jc_instrument.specs.Bodies.{AreBodies, IsListed}
-use Rattle.jc_linking.specs.Linking.{IsProgramOf}
-use Rattle.jc_linking.specs.declared.link_refusal.LinkRefusal.{LinkRefusal}
+use Rattle.jc_link_programs.specs.Linking.{IsProgramOf}
+use Rattle.jc_link_programs.specs.declared.link_refusal.LinkRefusal.{LinkRefusal}
 use Rattle.jc_link_laws.specs.SecondLinking.{IsChangedAt, IsTooWide, IsSecondRefusal, too_wide, one_id}
 use Rattle.jc_link_laws.specs.TwinFiles.{IsShortFile}
 use Rattle.jc_link_laws.proofs.ChangedPairLaws.{probes_new}

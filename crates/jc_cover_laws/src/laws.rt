@@ -1,7 +1,7 @@
 //! Laws of runs of `cover` that are done.
 ghost use Rattle.std.specs.Prelude.{◌≡◌, ℕ, List};
 ghost use Rattle.std.specs.List.{AllByRecursion};
-ghost use Rattle.jc_linking.specs.declared.link_refusal.LinkRefusal.{LinkRefusal};
+ghost use Rattle.jc_link_programs.specs.declared.link_refusal.LinkRefusal.{LinkRefusal};
 ghost use Rattle.jc_link_laws.specs.SecondLinking.{IsSecondRefusal};
 ghost use Rattle.jc_command_work.specs.Step.{Landed};
 ghost use Rattle.jc_cover_laws.specs.FewSlots.{DifferInId, UsesFewSlots};

@@ -28,7 +28,7 @@ use Rattle.jc_instrument.specs.Refused.{IsAccepted, StaysBy}
 use Rattle.jc_instrument.specs.SameAnalysis.{without_frames}
 use Rattle.jc_instrument.proofs.OneReasonLaws.{none_or_some}
 use Rattle.jc_instrument.proofs.SameAnalysisLaws.{same_bodies}
-use Rattle.jc_linking.specs.Linking.{AreLinkedClasses, IsLinkedClass}
+use Rattle.jc_link_programs.specs.Linking.{AreLinkedClasses, IsLinkedClass}
 use Rattle.jc_link_laws.specs.TwinFiles.{AreWrittenOf, IsShortFile, IsWrittenOf, IsWrittenTwin}
 use Rattle.jc_link_laws.proofs.ChangedPairLaws.{changed_pair, probes_new}
 use Rattle.jc_link_laws.proofs.TwinPairLaws.{unchanged_pair}

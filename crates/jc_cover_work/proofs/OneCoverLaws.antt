@@ -19,11 +19,11 @@ use Rattle.jc_instrument_laws.proofs.EachFileLaws.{each_file}
 use Rattle.jc_instrument.proofs.OneTwinLaws.{one_file, file_or_reason}
 use Rattle.jc_instrument.proofs.RoomCauseLaws.{one_reason}
 use Rattle.jc_link.specs.Plans.{IsPlanText, FirstUnfit}
-use Rattle.jc_linking.specs.Linking.{IsLinkedClass, IsProgramOf, IsLinkRefusal, refused, one_name, one_id}
-use Rattle.jc_linking.specs.declared.link_refusal.LinkRefusal.{LinkRefusal}
-use Rattle.jc_linking.specs.declared.link_refusal.LinkRefusal.TheVariants as refusals
-use Rattle.jc_linking.proofs.OneRefusalLaws.{one_refusal, program_or_refusal, same_program}
-use Rattle.jc_linking.proofs.SameLinkedLaws.{same_linked}
+use Rattle.jc_link_programs.specs.Linking.{IsLinkedClass, IsProgramOf, IsLinkRefusal, refused, one_name, one_id}
+use Rattle.jc_link_programs.specs.declared.link_refusal.LinkRefusal.{LinkRefusal}
+use Rattle.jc_link_programs.specs.declared.link_refusal.LinkRefusal.TheVariants as refusals
+use Rattle.jc_link_programs.proofs.OneRefusalLaws.{one_refusal, program_or_refusal, same_program}
+use Rattle.jc_link_programs.proofs.SameLinkedLaws.{same_linked}
 use Rattle.jc_link_laws.specs.TwinFiles.{IsShortFile}
 use Rattle.jc_link_laws.proofs.PlaceLaws.{class_at}
 use Rattle.jc_link_laws.proofs.SomeProgramLaws.{program_or_reason}

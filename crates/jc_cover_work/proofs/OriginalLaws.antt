@@ -22,10 +22,10 @@ use Rattle.jc_instrument.specs.Refused.{IsAccepted, IsChanged, probe_causes}
 use Rattle.jc_instrument.specs.RoomCauses.{room_causes}
 use Rattle.jc_instrument.specs.declared.whole.Instrumented.{Instrumented}
 use Rattle.jc_instrument.proofs.OneReasonLaws.{none_or_some}
-use Rattle.jc_linking.specs.Linking.{AreLinkedClasses, IsFirstRefused, IsLinkedClass, IsLinkRefusal, IsProgramOf, LinkReason, link_causes, refused, one_name, one_id}
-use Rattle.jc_linking.specs.Pairs.{HaveOneId, HaveOneName, IsFirstPair, id_of}
-use Rattle.jc_linking.specs.declared.link_refusal.LinkRefusal.{LinkRefusal}
-use Rattle.jc_linking.proofs.LinkingLaws.{no_reason}
+use Rattle.jc_link_programs.specs.Linking.{AreLinkedClasses, IsFirstRefused, IsLinkedClass, IsLinkRefusal, IsProgramOf, LinkReason, link_causes, refused, one_name, one_id}
+use Rattle.jc_link_programs.specs.Pairs.{HaveOneId, HaveOneName, IsFirstPair, id_of}
+use Rattle.jc_link_programs.specs.declared.link_refusal.LinkRefusal.{LinkRefusal}
+use Rattle.jc_link_programs.proofs.LinkingLaws.{no_reason}
 use Rattle.jc_link_laws.specs.TwinFiles.{AreWrittenOf, IsShortFile, IsWrittenOf}
 use Rattle.jc_link_laws.proofs.PlaceLaws.{linked_at, class_at}
 use Rattle.jc_link_laws.proofs.SecondLinkingLaws.{same_name}

@@ -26,7 +26,7 @@ use Rattle.jc_cover.specs.Marking.{coverage_of}
 use Rattle.jc_cover.proofs.CoverageLaws.{tells}
 use Rattle.jc_exec.specs.declared.hits.ClassHits.{ClassHits}
 use Rattle.jc_report.specs.declared.row.Counted.{Counted}
-use Rattle.jc_linking.specs.Pairs.{HaveOneId, NoPair, id_of as class_id_of}
+use Rattle.jc_link_programs.specs.Pairs.{HaveOneId, NoPair, id_of as class_id_of}
 use Rattle.jc_machine_model.specs.Methods.{declares_init}
 use Rattle.jc_machine_model.specs.Run.{hits_of}
 use Rattle.jc_machine_model.specs.World.{Hit}

@@ -9,9 +9,9 @@ use Rattle.jc_exec.specs.Writing.{exec_text}
 use Rattle.jc_exec.specs.declared.refusal.ExecRefusal.{ExecRefusal}
 use Rattle.jc_report.specs.declared.row.Counted.{Counted}
 use Rattle.jc_link.specs.Plans.{IsPlanText}
-use Rattle.jc_linking.specs.Linking.{IsLinkRefusal}
-use Rattle.jc_linking.specs.declared.link_refusal.LinkRefusal.{LinkRefusal}
-use Rattle.jc_linking.specs.declared.link_refusal.LinkRefusal.TheVariants as refusals
+use Rattle.jc_link_programs.specs.Linking.{IsLinkRefusal}
+use Rattle.jc_link_programs.specs.declared.link_refusal.LinkRefusal.{LinkRefusal}
+use Rattle.jc_link_programs.specs.declared.link_refusal.LinkRefusal.TheVariants as refusals
 use Rattle.jc_machine_model.specs.CaseText.{case_texts}
 use Rattle.jc_command_work.specs.declared.status.Fault.TheVariants as fault
 use Rattle.jc_command_work.specs.Step.{Word, Write, to_file, to_out}

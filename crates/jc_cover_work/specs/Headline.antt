@@ -43,7 +43,7 @@ use Rattle.jc_twin_simulation.specs.Marking.{AreMarks}
 use Rattle.jc_twin_simulation.specs.Same.{Same}
 use Rattle.jc_twin_simulation.specs.Laws.{kept_of}
 use Rattle.jc_twin_exact.specs.Reported.{IsReported}
-use Rattle.jc_linking.specs.Linking.{IsProgramOf}
+use Rattle.jc_link_programs.specs.Linking.{IsProgramOf}
 use Rattle.jc_link_laws.specs.TwinFiles.{HasConstants}
 use Rattle.jc_command_work.specs.declared.status.Status.TheVariants as status
 use Rattle.jc_command_work.specs.Ending.{Ends}

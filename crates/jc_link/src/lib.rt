@@ -9,7 +9,7 @@ mod plan_reading;
 mod plan_refusal;
 mod plan_words;
 
-pub use jc_linking::{
+pub use jc_link_programs::{
     LinkRefusal, each_file_has_one_link_reason, files_have_a_program_or_one_refusal, link,
 };
 pub use plan_laws::{each_plan_fits, each_text_is_a_plan_or_has_a_first_unfit_line};

@@ -49,11 +49,11 @@ use Rattle.jc_instrument.proofs.PoolTextLaws.{class_pool}
 use Rattle.jc_instrument.proofs.RoomDecidedLaws.{none_straddles}
 use Rattle.jc_instrument_laws.proofs.ReadCodeLaws.{id_below}
 use Rattle.jc_instrument_laws.specs.TwinClass.{AreBodiesOfAnySize, TwinClass}
-use Rattle.jc_linking.specs.Linking.{HasStates, IsLinkedOf, IsLinkedClass}
-use Rattle.jc_linking.specs.ProbeInits.{init_of, is_init}
-use Rattle.jc_linking.specs.Statics.{is_clinit, static_of, statics_among}
-use Rattle.jc_linking.proofs.PairedLaws.{AreThere, IsThere, AreSameWhere, paired}
-use Rattle.jc_linking.proofs.SameLinkedLaws.{one_probes, same_lists, to_same}
+use Rattle.jc_link_programs.specs.Linking.{HasStates, IsLinkedOf, IsLinkedClass}
+use Rattle.jc_link_programs.specs.ProbeInits.{init_of, is_init}
+use Rattle.jc_link_programs.specs.Statics.{is_clinit, static_of, statics_among}
+use Rattle.jc_link_programs.proofs.PairedLaws.{AreThere, IsThere, AreSameWhere, paired}
+use Rattle.jc_link_programs.proofs.SameLinkedLaws.{one_probes, same_lists, to_same}
 use Rattle.jc_link_laws.specs.TwinFiles.{IsWrittenTwin, NamePlaces}
 use Rattle.jc_link_laws.proofs.InitProbesLaws.{added_at, text_is}
 use Rattle.jc_link_laws.proofs.KeptStaticsLaws.{NoNewInteger, any_put, clinits_same, data_field_static, init_no_clinit, no_new_integer, statics_same}

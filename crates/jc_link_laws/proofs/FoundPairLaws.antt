@@ -8,7 +8,7 @@ use Rattle.jc_bytes.proofs.ListLaws.{below_or_last}
 use Rattle.jc_bytes.specs.Least.{IsLeast}
 use Rattle.jc_programs.specs.declared.program.Linked.{Linked}
 use Rattle.jc_instrument.proofs.DecidedLaws.{OrNot, true_or_not}
-use Rattle.jc_linking.specs.Pairs.{HaveOne, name_of, id_of, HaveOneName, HaveOneId, NoPair, IsFirstPair}
+use Rattle.jc_link_programs.specs.Pairs.{HaveOne, name_of, id_of, HaveOneName, HaveOneId, NoPair, IsFirstPair}
 
 -- the least number of which it holds, or none below the bound
 least_below : (P : ℕ → Type 0) → ((n : ℕ) → OrNot (P n)) → (most : ℕ) → ((n : ℕ) × (n < most) × IsLeast P n) ⊎ ((n : ℕ) → n < most → P n → ⊥)

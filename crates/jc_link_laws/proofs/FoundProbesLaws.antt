@@ -18,10 +18,10 @@ use Rattle.jc_pool.specs.Lookup.{string_of}
 use Rattle.jc_pool.specs.Pool.{PoolValue}
 use Rattle.jc_emit.specs.Added.{init_code}
 use Rattle.jc_instrument.proofs.DecidedLaws.{OrNot, text_or_not}
-use Rattle.jc_linking.specs.ProbeInits.{places_of, asked_in, NamesMembers, AsksFor, AreProbes, init_of}
-use Rattle.jc_linking.specs.declared.probe_inits.Asked.{Asked}
-use Rattle.jc_linking.proofs.ProbeInitLaws.{asks_meant, Meant, meant_asks, none_asked}
-use Rattle.jc_linking.proofs.SameCodeLaws.{code_decided}
+use Rattle.jc_link_programs.specs.ProbeInits.{places_of, asked_in, NamesMembers, AsksFor, AreProbes, init_of}
+use Rattle.jc_link_programs.specs.declared.probe_inits.Asked.{Asked}
+use Rattle.jc_link_programs.proofs.ProbeInitLaws.{asks_meant, Meant, meant_asks, none_asked}
+use Rattle.jc_link_programs.proofs.SameCodeLaws.{code_decided}
 use Rattle.jc_link_laws.proofs.FoundPairLaws.{texts_or_not}
 
 -- ---- facts

@@ -31,7 +31,7 @@ use Rattle.jc_instrument_reread.proofs.OneBodyLaws.{same_bodies}
 use Rattle.jc_instrument.specs.Reasons.{HasAdded}
 use Rattle.jc_instrument.specs.SameOutside.{AreKeptMethods, IsInitMethod, IsSameOutside}
 use Rattle.jc_instrument.specs.Contents.{Content}
-use Rattle.jc_linking.proofs.ProbeInitLaws.{same_name_place}
+use Rattle.jc_link_programs.proofs.ProbeInitLaws.{same_name_place}
 
 -- ---- places that name something are among those of the pool
 

@@ -32,7 +32,7 @@ use Rattle.jc_emit.specs.TwinProgram.{data_static}
 use Rattle.jc_instrument.specs.Contents.{Content, content_by, content_of}
 use Rattle.jc_instrument.specs.GrownPool.{IsGrown}
 use Rattle.jc_instrument.specs.SameOutside.{IsKeptMethod, AreKeptMethods, IsDataField}
-use Rattle.jc_linking.specs.Statics.{int_in, long_in, int_at, long_at, number_at, first_by, first_number, single, place_in, constant_place, static_with, as_static, static_of, statics_among, is_clinit}
+use Rattle.jc_link_programs.specs.Statics.{int_in, long_in, int_at, long_at, number_at, first_by, first_number, single, place_in, constant_place, static_with, as_static, static_of, statics_among, is_clinit}
 use Rattle.jc_link_laws.specs.TwinFiles.{NamesPlace}
 
 -- ---- numbers

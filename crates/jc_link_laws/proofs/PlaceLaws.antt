@@ -4,7 +4,7 @@ use Rattle.std.specs.Prelude.{slice_get}
 use Rattle.std.proofs.lemmas.Option.{none-some, same_Some}
 use Rattle.jc_methods.specs.VerificationTypes.{Names}
 use Rattle.jc_programs.specs.declared.program.Linked.{Linked}
-use Rattle.jc_linking.specs.Linking.{AreLinkedClasses, IsLinkedClass}
+use Rattle.jc_link_programs.specs.Linking.{AreLinkedClasses, IsLinkedClass}
 
 -- what is linked of the file at a place
 pub linked_at : (names : Names) (files : List (List ℕ)) (classes : List Linked) → AreLinkedClasses names files classes → (i : ℕ) (bytes : List ℕ) → slice_get files i ≡ Some bytes

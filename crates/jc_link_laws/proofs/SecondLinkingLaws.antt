@@ -19,11 +19,11 @@ use Rattle.jc_emit.specs.TwinProgram.{IsPair}
 use Rattle.jc_instrument.specs.Causes.{NoCause}
 use Rattle.jc_instrument.specs.Refused.{probe_causes}
 use Rattle.jc_instrument.proofs.OneReasonLaws.{none_or_some}
-use Rattle.jc_linking.specs.Linking.{AreLinkedClasses, IsFirstRefused, IsLinkedClass, IsLinkRefusal, IsProgramOf, LinkReason, link_causes, refused, one_name, one_id}
-use Rattle.jc_linking.specs.Pairs.{HaveOneId, HaveOneName, IsFirstPair, id_of}
-use Rattle.jc_linking.specs.declared.link_refusal.LinkRefusal.{LinkRefusal}
-use Rattle.jc_linking.specs.declared.link_refusal.LinkRefusal.TheVariants as refusals
-use Rattle.jc_linking.proofs.LinkingLaws.{no_reason}
+use Rattle.jc_link_programs.specs.Linking.{AreLinkedClasses, IsFirstRefused, IsLinkedClass, IsLinkRefusal, IsProgramOf, LinkReason, link_causes, refused, one_name, one_id}
+use Rattle.jc_link_programs.specs.Pairs.{HaveOneId, HaveOneName, IsFirstPair, id_of}
+use Rattle.jc_link_programs.specs.declared.link_refusal.LinkRefusal.{LinkRefusal}
+use Rattle.jc_link_programs.specs.declared.link_refusal.LinkRefusal.TheVariants as refusals
+use Rattle.jc_link_programs.proofs.LinkingLaws.{no_reason}
 use Rattle.jc_link_laws.specs.SecondLinking.{IsSecondRefusal, one_id as ids_of, too_wide}
 use Rattle.jc_link_laws.specs.TwinFiles.{AreWrittenOf, IsShortFile, IsWrittenOf, IsWrittenTwin}
 use Rattle.jc_link_laws.proofs.ChangedPairLaws.{probes_new}

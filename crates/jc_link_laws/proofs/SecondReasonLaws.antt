@@ -43,7 +43,7 @@ use Rattle.jc_instrument.proofs.RoomDecidedLaws.{none_straddles}
 use Rattle.jc_instrument.proofs.SomeBodiesLaws.{made_well, passes}
 use Rattle.jc_instrument.proofs.TextSizesLaws.{class_size, method_size}
 use Rattle.jc_instrument_laws.specs.TwinClass.{TwinClass}
-use Rattle.jc_linking.specs.Linking.{IsLinkedClass, LinkReason, link_causes}
+use Rattle.jc_link_programs.specs.Linking.{IsLinkedClass, LinkReason, link_causes}
 use Rattle.jc_link_laws.specs.SecondLinking.{IsTooWide}
 use Rattle.jc_link_laws.specs.TwinFiles.{IsShortFile, IsWrittenTwin}
 

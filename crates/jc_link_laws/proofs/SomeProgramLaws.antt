@@ -35,11 +35,11 @@ use Rattle.jc_instrument.proofs.SomeBodiesLaws.{AllBodies, all_bodies, made_well
 use Rattle.jc_instrument.proofs.TextSizesLaws.{class_size, method_size}
 use Rattle.jc_instrument.proofs.SomeStatesLaws.{all_states}
 use Rattle.jc_kinds.specs.Checked.{FirstMissing, FirstClash}
-use Rattle.jc_linking.specs.Linking.{HasStates, link_causes, LinkReason, IsLinkedOf, IsLinkedClass, AreLinkedClasses, IsProgramOf, IsFirstRefused, IsLinkRefusal, refused, one_name, one_id}
-use Rattle.jc_linking.specs.Pairs.{HaveOneName, HaveOneId, NoPair, IsFirstPair}
-use Rattle.jc_linking.specs.Statics.{has_clinit, statics_of}
-use Rattle.jc_linking.specs.declared.link_refusal.LinkRefusal.{LinkRefusal}
-use Rattle.jc_linking.proofs.LinkingLaws.{all_more, none_refused, put_linked}
+use Rattle.jc_link_programs.specs.Linking.{HasStates, link_causes, LinkReason, IsLinkedOf, IsLinkedClass, AreLinkedClasses, IsProgramOf, IsFirstRefused, IsLinkRefusal, refused, one_name, one_id}
+use Rattle.jc_link_programs.specs.Pairs.{HaveOneName, HaveOneId, NoPair, IsFirstPair}
+use Rattle.jc_link_programs.specs.Statics.{has_clinit, statics_of}
+use Rattle.jc_link_programs.specs.declared.link_refusal.LinkRefusal.{LinkRefusal}
+use Rattle.jc_link_programs.proofs.LinkingLaws.{all_more, none_refused, put_linked}
 use Rattle.jc_link_laws.specs.TwinFiles.{IsShortFile}
 use Rattle.jc_link_laws.proofs.FoundPairLaws.{name_pair, id_pair}
 use Rattle.jc_link_laws.proofs.FoundProbesLaws.{found_probes}

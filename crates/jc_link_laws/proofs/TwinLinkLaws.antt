@@ -15,8 +15,8 @@ use Rattle.jc_instrument.proofs.FrameCauseLaws.{each_at}
 use Rattle.jc_instrument.proofs.PoolTextLaws.{class_pool}
 use Rattle.jc_instrument.proofs.SomeBodiesLaws.{made_well}
 use Rattle.jc_instrument.proofs.TextSizesLaws.{class_size}
-use Rattle.jc_linking.specs.Linking.{IsLinkedClass, AreLinkedClasses, IsProgramOf}
-use Rattle.jc_linking.specs.Pairs.{HaveOneName, NoPair}
+use Rattle.jc_link_programs.specs.Linking.{IsLinkedClass, AreLinkedClasses, IsProgramOf}
+use Rattle.jc_link_programs.specs.Pairs.{HaveOneName, NoPair}
 use Rattle.jc_link_laws.specs.TwinFiles.{IsWrittenOf, AreWrittenOf, IsShortFile, TwinFiles}
 use Rattle.jc_link_laws.proofs.ChangedPairLaws.{changed_pair}
 use Rattle.jc_link_laws.proofs.TwinPairLaws.{stands, unchanged_pair}

@@ -21,10 +21,10 @@ use Rattle.jc_emit.specs.TwinProgram.{HasNoAdded, IsAddedName, HasNeither, IsUnc
 use Rattle.jc_instrument.specs.Causes.{NoCause}
 use Rattle.jc_instrument.specs.Reasons.{HasAdded, HasAddedName}
 use Rattle.jc_instrument.specs.Refused.{IsAccepted, probe_causes}
-use Rattle.jc_linking.specs.Linking.{IsLinkedOf, IsLinkedClass}
-use Rattle.jc_linking.specs.ProbeInits.{AreProbes, init_of, is_init}
-use Rattle.jc_linking.specs.Statics.{static_of, static_with, statics_among}
-use Rattle.jc_linking.proofs.SameLinkedLaws.{same_linked}
+use Rattle.jc_link_programs.specs.Linking.{IsLinkedOf, IsLinkedClass}
+use Rattle.jc_link_programs.specs.ProbeInits.{AreProbes, init_of, is_init}
+use Rattle.jc_link_programs.specs.Statics.{static_of, static_with, statics_among}
+use Rattle.jc_link_programs.proofs.SameLinkedLaws.{same_linked}
 use Rattle.jc_link_laws.proofs.KeptStaticsLaws.{static_name}
 
 some_is : {X : Type 0} {x y : X} → Some x ≡ Some y → x ≡ y

@@ -9,8 +9,8 @@ use Rattle.jc_body.specs.Coded.{IsCoded}
 use Rattle.jc_body.specs.Faults.{TooWide}
 use Rattle.jc_body.specs.declared.coded.Coded.{Coded}
 use Rattle.jc_instrument.specs.Causes.{of_method}
-use Rattle.jc_linking.specs.declared.link_refusal.LinkRefusal.{LinkRefusal}
-use Rattle.jc_linking.specs.declared.link_refusal.LinkRefusal.TheVariants as refusals
+use Rattle.jc_link_programs.specs.declared.link_refusal.LinkRefusal.{LinkRefusal}
+use Rattle.jc_link_programs.specs.declared.link_refusal.LinkRefusal.TheVariants as refusals
 use Rattle.jc_link_laws.specs.TwinFiles.{IsWrittenTwin}
 
 -- a changed file at the place, and the text of its twin

@@ -11,7 +11,7 @@ use Rattle.jc_class.specs.declared.class_file.ClassFile.{ClassFile}
 use Rattle.jc_class.specs.declared.class_file.Member.{Member}
 use Rattle.jc_instrument.specs.Refused.{IsUnchanged, IsChanged}
 use Rattle.jc_instrument_laws.specs.TwinClass.{IsTwinFile}
-use Rattle.jc_linking.specs.Statics.{constant_place}
+use Rattle.jc_link_programs.specs.Statics.{constant_place}
 
 -- ---- constants of static fields
 

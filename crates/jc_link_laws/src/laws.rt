@@ -7,8 +7,8 @@ ghost use Rattle.jc_programs.specs.declared.program.Program.{Program};
 ghost use Rattle.jc_emit.specs.TwinProgram.{TwinProgram};
 ghost use Rattle.jc_instrument.specs.InstrumentedFile.{IsInstrumentedFile};
 ghost use Rattle.jc_instrument.specs.declared.whole.Instrumented.{Instrumented};
-ghost use Rattle.jc_linking.specs.Linking.{IsProgramOf, IsLinkRefusal};
-ghost use Rattle.jc_linking.specs.declared.link_refusal.LinkRefusal.{LinkRefusal};
+ghost use Rattle.jc_link_programs.specs.Linking.{IsProgramOf, IsLinkRefusal};
+ghost use Rattle.jc_link_programs.specs.declared.link_refusal.LinkRefusal.{LinkRefusal};
 ghost use Rattle.jc_link_laws.specs.SecondLinking.{IsSecondRefusal};
 ghost use Rattle.jc_link_laws.specs.TwinFiles.{HasConstants, IsShortFile, IsWrittenOf, TwinFiles};
 
@@ -31,7 +31,7 @@ pub fn each_instrumented_file_is_written()
 {}
 
 /// Class files, each of at most 67,108,864 bytes, have a program or a reason for which they have none. They never have
-/// both: see [`jc_linking::files_have_a_program_or_one_refusal`].
+/// both: see [`jc_link_programs::files_have_a_program_or_one_refusal`].
 pub fn files_have_a_program_or_a_refusal()
     ensures { (files : List (List ℕ)) → AllByRecursion IsShortFile files
         → ((p : Program) × IsProgramOf files p) ⊎ ((r : LinkRefusal) × IsLinkRefusal files r) }

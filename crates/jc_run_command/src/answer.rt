@@ -12,7 +12,7 @@ ghost use Rattle.jc_machine_model.specs.Programs.{IsProgram};
 
 use jc_bytes::{Bytes, Memory};
 use jc_command_work::{Fault, Stop, Write};
-use jc_linking::link;
+use jc_link_programs::link;
 use jc_programs::{Program, RunPlan};
 use jc_run_parts::{line_without_entry, link_stop, plan_of};
 use jc_run_program::{Ran, run_program};

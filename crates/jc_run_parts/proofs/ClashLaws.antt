@@ -5,11 +5,11 @@ use Rattle.jc_methods.specs.VerificationTypes.{Names}
 use Rattle.jc_programs.specs.declared.program.Program.{Program}
 use Rattle.jc_programs.specs.declared.program.Linked.{Linked}
 use Rattle.jc_programs.specs.declared.program.ProbeInit.{ProbeInit}
-use Rattle.jc_linking.specs.declared.link_refusal.LinkRefusal.{LinkRefusal}
-use Rattle.jc_linking.specs.declared.link_refusal.LinkRefusal.TheVariants as refusals
-use Rattle.jc_linking.specs.Linking.{IsLinkedClass, AreLinkedClasses, IsProgramOf, IsLinkRefusal, refused, one_name, one_id}
-use Rattle.jc_linking.specs.Pairs.{HaveOne}
-use Rattle.jc_linking.proofs.LinkingLaws.{linked_count}
+use Rattle.jc_link_programs.specs.declared.link_refusal.LinkRefusal.{LinkRefusal}
+use Rattle.jc_link_programs.specs.declared.link_refusal.LinkRefusal.TheVariants as refusals
+use Rattle.jc_link_programs.specs.Linking.{IsLinkedClass, AreLinkedClasses, IsProgramOf, IsLinkRefusal, refused, one_name, one_id}
+use Rattle.jc_link_programs.specs.Pairs.{HaveOne}
+use Rattle.jc_link_programs.proofs.LinkingLaws.{linked_count}
 use Rattle.jc_run_work.specs.RunAnswers.{path_at, HasName, HasId}
 use Rattle.jc_command_work.specs.Part.{End}
 use Rattle.jc_run_parts.specs.Clash.{StopsAs, LinkStops}

@@ -11,7 +11,7 @@ use Rattle.jc_exec.proofs.StoringLaws.{own_union}
 use Rattle.jc_exec.proofs.UnionLaws.{union_class, one_union}
 use Rattle.jc_programs.specs.declared.program.Linked.{Linked}
 use Rattle.jc_programs.specs.declared.program.ProbeInit.{ProbeInit}
-use Rattle.jc_linking.specs.Pairs.{HaveOneId, NoPair, id_of}
+use Rattle.jc_link_programs.specs.Pairs.{HaveOneId, NoPair, id_of}
 use Rattle.jc_run_parts.specs.HitStore.{set_record, with_set, set_records, count_of, counts_in, AddsLast}
 
 -- ---- one record

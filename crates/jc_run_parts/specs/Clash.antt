@@ -1,6 +1,6 @@
 -- How class files that are no program stop a command.
 use Rattle.std.specs.Prelude.{⊤, ℕ, List, ◌++◌, codes, Option, None, Some}
-use Rattle.jc_linking.specs.declared.link_refusal.LinkRefusal.{LinkRefusal}
+use Rattle.jc_link_programs.specs.declared.link_refusal.LinkRefusal.{LinkRefusal}
 use Rattle.jc_command_work.specs.Step.{Word}
 use Rattle.jc_command_work.specs.Texts.{hex_text}
 use Rattle.jc_command_work.specs.Part.{End}

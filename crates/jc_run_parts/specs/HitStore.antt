@@ -6,7 +6,7 @@ use Rattle.jc_exec.specs.Store.{Store}
 use Rattle.jc_programs.specs.declared.program.Program.{Program}
 use Rattle.jc_programs.specs.declared.program.Linked.{Linked}
 use Rattle.jc_programs.specs.declared.program.ProbeInit.{ProbeInit}
-use Rattle.jc_linking.specs.Pairs.{NoPair, HaveOneId}
+use Rattle.jc_link_programs.specs.Pairs.{NoPair, HaveOneId}
 
 -- the record of a class with these truth values
 abbrev pub set_record : List (List Bool) → (class : ℕ) → Linked → ProbeInit → ClassHits

@@ -2,14 +2,14 @@
 ghost use Rattle.std.specs.Prelude.{◌≡◌, ◌<◌, ◌≤◌, ◌∷◌, [], All, length, slice_index_or, string_bytes, IfOk};
 ghost use Rattle.jc_bytes.specs.Failing.{Said};
 ghost use Rattle.jc_bytes.specs.Reader.{most_read};
-ghost use Rattle.jc_linking.specs.Linking.{IsProgramOf, IsLinkRefusal};
+ghost use Rattle.jc_link_programs.specs.Linking.{IsProgramOf, IsLinkRefusal};
 ghost use Rattle.jc_run_work.specs.PairTexts.{pair_start, same_name_text, same_id_text};
 ghost use Rattle.jc_run_parts.specs.Clash.{StopsAs, LinkStops, id_end};
 ghost use Rattle.jc_command_work.specs.Seen.{texts_of, stop_seen};
 
 use jc_bytes::{Bytes, Fail, Memory};
 use jc_command_work::{Fault, Stop, class_stop};
-use jc_linking::{LinkRefusal, link};
+use jc_link_programs::{LinkRefusal, link};
 use jc_programs::Program;
 use std::alloc::{AllocError, Global};
 

@@ -7,8 +7,8 @@ use Rattle.jc_bytes.specs.ByteLists.{AreBytes}
 use Rattle.jc_bytes.specs.Modified.{IsModified}
 use Rattle.jc_class.proofs.WritableLaws.{class_holds}
 use Rattle.jc_instrument.proofs.PoolTextLaws.{class_pool, class_short}
-use Rattle.jc_linking.specs.Linking.{IsLinkedClass, AreLinkedClasses, IsProgramOf}
-use Rattle.jc_linking.specs.ProbeInits.{AreProbes}
+use Rattle.jc_link_programs.specs.Linking.{IsLinkedClass, AreLinkedClasses, IsProgramOf}
+use Rattle.jc_link_programs.specs.ProbeInits.{AreProbes}
 use Rattle.jc_methods.specs.VerificationTypes.{Names}
 use Rattle.jc_methods.specs.declared.body.Body.{Body}
 use Rattle.jc_pool.specs.Pool.{PoolValue}

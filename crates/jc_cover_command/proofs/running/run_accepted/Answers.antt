@@ -1,6 +1,6 @@
 use Rattle.std.proofs.Common.{◌∙◌, ℕ, List, None, ap, refl, subst, sym}
 use Rattle.std.proofs.lemmas.Result.{err_from_is_err_and}
-use Rattle.jc_linking.specs.Linking.{IsProgramOf}
+use Rattle.jc_link_programs.specs.Linking.{IsProgramOf}
 use Rattle.jc_same_runs.specs.Frameless.{frameless}
 use Rattle.jc_same_runs.proofs.TextLaws.{same_texts}
 use Rattle.jc_run_work.proofs.StoreLaws.{same_store}

@@ -1,0 +1,94 @@
+-- What is answered is so, and what is so is answered.
+use Rattle.std.proofs.Common.{◌≡◌, ◌⊎◌, inl, inr, ℕ, suc, ◌<◌, ◌^◌, Bool, true, false, List, [], ◌∷◌, length, map, Some, None, bytes_eq, Result, Ok, Err, MatchResult, refl, sym, ap, arith}
+use Rattle.std.specs.Prelude.{All, slice_get}
+use Rattle.std.specs.List.{AllByRecursion, IsDistinct}
+use Rattle.std.proofs.lemmas.Slice.Eq.{bytes_eq-Decides}
+use Rattle.std.specs.Bool.{⊤}
+use Rattle.jc_bytes.specs.declared.fail.Fail.{Fail}
+use Rattle.jc_bytes.specs.declared.fail.Fail.TheVariants as fails
+use Rattle.jc_programs.specs.declared.program.Program.{Program}
+use Rattle.jc_methods.specs.VerificationTypes.{Names}
+use Rattle.jc_programs.specs.declared.program.Linked.{Linked}
+use Rattle.jc_machine_model.specs.Programs.{IsLinked, IsProgram}
+use Rattle.jc_link_programs.specs.Linking.{AreLinkedClasses, IsProgramOf, IsLinkRefusal, one_name, one_id}
+use Rattle.jc_link_programs.specs.Pairs.{HaveOneName, NoPair}
+use Rattle.jc_link_programs.specs.Steps.{IsAnswer, PairAnswer}
+use Rattle.jc_link_programs.specs.declared.link_refusal.LinkRefusal.{LinkRefusal}
+use Rattle.jc_link_programs.specs.declared.link_refusal.LinkRefusal.TheVariants as refusals
+use Rattle.jc_link_programs.proofs.LinkingLaws.{linked_count}
+use Rattle.jc_link_programs.proofs.OneRefusalLaws.{one_refusal, program_or_refusal}
+
+-- ---- the program
+
+-- no other class has the class's name
+unlike : (c : Linked) (ds : List Linked) → ((i : ℕ) (d : Linked) → slice_get ds i ≡ Some d → c.name ≡ d.name → ⊥)
+    → AllByRecursion (λ y. bytes_eq c.name y ≡ false) (map (λ (d : Linked). d.name) ds)
+unlike c [] other = tt
+unlike c (d ∷ ds) other = (by (bytes_eq c.name d.name) refl, unlike c ds (λ i x at. other (suc i) x at))
+  where
+    by : (t : Bool) → bytes_eq c.name d.name ≡ t → t ≡ false
+    by false e = refl
+    by true e = absurd (other 0 d refl ((bytes_eq-Decides c.name d.name).0 e))
+
+one_more : (c : Linked) (cs : List Linked) (a b : ℕ) → HaveOneName cs a b → HaveOneName (c ∷ cs) (suc a) (suc b)
+one_more c cs a b h = record {
+  a = h.a;
+  b = h.b;
+  shared = h.shared;
+  first_is = h.first_is;
+  second_is = h.second_is;
+  first_key = h.first_key;
+  second_key = h.second_key;
+}
+
+distinct_names : (classes : List Linked) → NoPair (HaveOneName classes) → IsDistinct bytes_eq (map (λ (c : Linked). c.name) classes)
+unfolding IsDistinct
+distinct_names [] none = tt
+distinct_names (c ∷ cs) none = (
+  unlike c cs (λ i d at same. none 0 (suc i) (omega arith) (record {
+    a = c;
+    b = d;
+    shared = c.name;
+    first_is = refl;
+    second_is = at;
+    first_key = refl;
+    second_key = ap Some (sym same);
+  })),
+  distinct_names cs (λ a b less h. none (suc a) (suc b) (omega (arith, less)) (one_more c cs a b h)),
+)
+
+pub program_is : (files : List (List ℕ)) (p : Program) → length files < 2 ^ 32 → AreLinkedClasses p.names files p.classes → All (IsLinked p.names) p.classes
+    → PairAnswer p.classes None → IsProgramOf files p × IsProgram p
+program_is files p few classes fit none = (
+  record { classes = classes; one_each = none.0; ids = none.1 },
+  record {
+    classes = fit;
+    few = let count = linked_count p.names files p.classes classes in omega (arith, count, few);
+    distinct = distinct_names p.classes none.0;
+  },
+)
+
+-- ---- two classes of one name, or of one id
+
+pub pair_refused : (names : Names) (files : List (List ℕ)) (classes : List Linked) (r : LinkRefusal) → AreLinkedClasses names files classes
+    → PairAnswer classes (Some r) → IsLinkRefusal files r
+pair_refused names files classes (refusals.SameName first second) are pair = one_name names classes are pair
+pair_refused names files classes (refusals.SameId first second) are pair = one_id names classes are pair.0 pair.1
+pair_refused names files classes (refusals.Class index refusal) are pair = absurd pair
+
+-- ---- what is so is answered
+
+abbrev Answer : Type 0
+Answer = Result Program (Fail LinkRefusal)
+
+pub program_answered : (files : List (List ℕ)) (answer : Answer) → IsAnswer files answer → (p : Program) → IsProgramOf files p
+    → MatchResult answer (λ _. ⊤) (λ e. e ≡ fails.Memory)
+program_answered files (Ok q) is p program = tt
+program_answered files (Err fails.Memory) is p program = refl
+program_answered files (Err (fails.Said r)) is p program = absurd (program_or_refusal files p r program is)
+
+pub reason_answered : (files : List (List ℕ)) (answer : Answer) → IsAnswer files answer → (r : LinkRefusal) → IsLinkRefusal files r
+    → MatchResult answer (λ _. ⊥) (λ e. (e ≡ fails.Memory) ⊎ (e ≡ fails.Said r))
+reason_answered files (Ok p) is r given = program_or_refusal files p r is.0 given
+reason_answered files (Err fails.Memory) is r given = inl refl
+reason_answered files (Err (fails.Said s)) is r given = inr (ap fails.Said (one_refusal files s r is given))

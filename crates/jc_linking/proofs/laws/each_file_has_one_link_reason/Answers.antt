@@ -1,5 +1,0 @@
-use Rattle.jc_linking.proofs.OneRefusalLaws.{one_link_reason}
-use Rattle.jc_linking.proofs.laws.each_file_has_one_link_reason.Goals as goal
-
-pub returns : goal.returns
-returns c = one_link_reason

@@ -1,9 +1,0 @@
-use Rattle.std.proofs.Common.{take}
-use Rattle.std.specs.Prelude.{All}
-use Rattle.jc_machine_model.specs.Programs.{IsLinked}
-use Rattle.jc_linking.specs.Linking.{AreLinkedClasses}
-use Rattle.jc_linking.proofs.linking.classes_of.Given as goal
-
--- the classes of the files so far
-abbrev pub invariant-linking : goal.invariant-linking
-invariant-linking l = AreLinkedClasses l.names (take l.index l.files) l.classes × All (IsLinked l.names) l.classes

@@ -1,6 +1,0 @@
-use Rattle.jc_linking.proofs.ProbeInitLaws.{same_code}
-use Rattle.jc_linking.proofs.SameCodeLaws.{insn_decided}
-use Rattle.jc_linking.proofs.probe_inits.is_same_code.Goals as goal
-
-pub returns : goal.returns
-returns c = same_code c.args.code.now c.args.other.now c.eq.result c.eq.ensures insn_decided
