@@ -17,10 +17,10 @@ use Rattle.jc_command_work.specs.Part.{End, gives, stops, Part, giving, deciding
 use Rattle.jc_command_work.specs.Answered.{refusal_of}
 use Rattle.jc_command_work.specs.Seen.{stop_seen}
 use Rattle.jc_command_work.proofs.Behind.{over_then}
-use Rattle.jc_run_parts.specs.Beginnings.{line_of}
-use Rattle.jc_run_work.specs.RunAnswers.{IsRunProgram}
-use Rattle.jc_run_work.specs.RunStore.{threads_of, first_without, run_store}
-use Rattle.jc_run_work.proofs.StoreLaws.{same_store, same_without}
+use Rattle.jc_command_run.specs.Beginnings.{line_of}
+use Rattle.jc_command_run.specs.RunAnswers.{IsRunProgram}
+use Rattle.jc_command_run.specs.RunStore.{threads_of, first_without, run_store}
+use Rattle.jc_command_run.proofs.StoreLaws.{same_store, same_without}
 use Rattle.jc_command_sample.specs.SampleFile.{sample_file}
 use Rattle.jc_command_sample.specs.SamplePlan.{sample_plan}
 use Rattle.jc_command_sample.specs.SampleWork.{sample_path, IsRefusedEnd, IsReadable, IsLongEnd, IsUnlinkedEnd, HaveEntries, IsEntryEnd, AreCounters, IsClashEnd, sample_text, linking, counting, running, sample_line}

@@ -28,9 +28,9 @@ use Rattle.jc_command_work.specs.Part.{End, done, Outcome, wants, gives, stops, 
 use Rattle.jc_command_work.specs.Answered.{refusal_of}
 use Rattle.jc_command_work.specs.OneWay.{IsOver, OneDecision, HasOne}
 use Rattle.jc_command_work.proofs.OneWork.{one_giving, one_ending, one_deciding, one_writing, has_then, has_then_if}
-use Rattle.jc_run_work.specs.RunAnswers.{IsRunProgram}
-use Rattle.jc_run_work.specs.RunStore.{threads_of, first_without, run_store}
-use Rattle.jc_run_work.proofs.StoreLaws.{same_frameless}
+use Rattle.jc_command_run.specs.RunAnswers.{IsRunProgram}
+use Rattle.jc_command_run.specs.RunStore.{threads_of, first_without, run_store}
+use Rattle.jc_command_run.proofs.StoreLaws.{same_frameless}
 use Rattle.jc_command_sample.specs.SampleFile.{sample_file}
 use Rattle.jc_command_sample.specs.SamplePlan.{sample_plan}
 use Rattle.jc_command_sample.specs.SampleWork.{sample_path, IsRefusedEnd, IsReadable, IsLongEnd, IsUnlinkedEnd, HaveEntries, IsEntryEnd, AreCounters, IsClashEnd, sample_text, linking, counting, running, sample_line, sample_work}

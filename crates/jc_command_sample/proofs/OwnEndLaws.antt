@@ -8,8 +8,8 @@ use Rattle.jc_command_work.specs.Part.{End, done, refused, Outcome, wants, gives
 use Rattle.jc_command_work.specs.Causes.{IsOwnEnd, HasOwnEnds}
 use Rattle.jc_command_work.proofs.CauseLaws.{ends_then, ends_giving, ends_deciding, ends_ending, ends_writing_all}
 use Rattle.jc_command_work.proofs.OneWork.{gives_or_stops, not_over, same_end}
-use Rattle.jc_run_work.specs.RunAnswers.{IsRunProgram}
-use Rattle.jc_run_work.specs.RunStore.{run_store}
+use Rattle.jc_command_run.specs.RunAnswers.{IsRunProgram}
+use Rattle.jc_command_run.specs.RunStore.{run_store}
 use Rattle.jc_command_sample.specs.SampleFile.{sample_file}
 use Rattle.jc_command_sample.specs.SamplePlan.{sample_plan}
 use Rattle.jc_command_sample.specs.SampleWork.{IsRefusedEnd, IsReadable, IsLongEnd, IsUnlinkedEnd, HaveEntries, IsEntryEnd, sample_text, linking, counting, running, sample_line, sample_work}

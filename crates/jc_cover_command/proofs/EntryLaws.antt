@@ -4,9 +4,9 @@ use Rattle.jc_programs.specs.declared.program.Program.{Program}
 use Rattle.jc_programs.specs.declared.run_plan.RunPlan.{RunPlan}
 use Rattle.jc_programs.specs.declared.run_plan.ThreadLine.{ThreadLine}
 use Rattle.jc_same_runs.specs.Frameless.{frameless}
-use Rattle.jc_run_work.specs.RunStore.{threads_of, first_without}
-use Rattle.jc_run_work.proofs.StoreLaws.{same_without}
-use Rattle.jc_run_parts.specs.Beginnings.{line_of}
+use Rattle.jc_command_run.specs.RunStore.{threads_of, first_without}
+use Rattle.jc_command_run.proofs.StoreLaws.{same_without}
+use Rattle.jc_command_run.specs.Beginnings.{line_of}
 use Rattle.jc_command_work.specs.Step.{Word}
 use Rattle.jc_command_work.specs.Answered.{refusal_of}
 use Rattle.jc_command_work.specs.declared.status.Fault.TheVariants as faults

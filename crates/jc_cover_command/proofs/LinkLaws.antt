@@ -2,10 +2,10 @@
 use Rattle.std.proofs.Common.{◌≡◌, ◌<◌, ℕ, List, Option, None, Some, length, option_map, sym, ◌∙◌, ap, ap₂, subst, arith}
 use Rattle.jc_link_programs.specs.declared.link_refusal.LinkRefusal.{LinkRefusal}
 use Rattle.jc_link_programs.specs.declared.link_refusal.LinkRefusal.TheVariants as refusals
-use Rattle.jc_run_work.specs.PairTexts.{same_name_text, same_id_text}
-use Rattle.jc_run_work.specs.RunAnswers.{path_at, EndsAs}
-use Rattle.jc_run_parts.specs.Clash.{LinkStops}
-use Rattle.jc_run_parts.proofs.ClashLaws.{AreWithin, are_within}
+use Rattle.jc_command_run.specs.PairTexts.{same_name_text, same_id_text}
+use Rattle.jc_command_run.specs.RunAnswers.{path_at, EndsAs}
+use Rattle.jc_command_run.specs.Clash.{LinkStops}
+use Rattle.jc_command_run.proofs.ClashLaws.{AreWithin, are_within}
 use Rattle.jc_command_work.specs.declared.status.Fault.TheVariants as faults
 use Rattle.jc_command_work.specs.Part.{End, refused}
 use Rattle.jc_command_work.specs.Texts.{fault_text}

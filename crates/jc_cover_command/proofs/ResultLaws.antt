@@ -10,7 +10,7 @@ use Rattle.jc_command_work.specs.Part.{End, done, gives, Part, Command, ending, 
 use Rattle.jc_command_work.specs.Ending.{CameTo, Stops, Does, Ran}
 use Rattle.jc_command_work.specs.Seen.{stop_seen}
 use Rattle.jc_command_work.specs.declared.stop.Stop.{Stop}
-use Rattle.jc_run_work.specs.RunStore.{run_store}
+use Rattle.jc_command_run.specs.RunStore.{run_store}
 use Rattle.jc_cover_work.specs.CoverWork.{Cover, LookedFile, accepted_texts, IsReportText, IsClashEnd}
 use Rattle.jc_cover_command.specs.CoverSeen.{writing_results}
 use Rattle.jc_cover_command.specs.Deciding.{StopsBy}

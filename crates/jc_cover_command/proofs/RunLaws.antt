@@ -5,7 +5,7 @@ use Rattle.jc_bytes.specs.ByteLists.{AreBytes}
 use Rattle.jc_link.specs.Plans.{IsPlanText}
 use Rattle.jc_programs.specs.declared.program.Program.{Program}
 use Rattle.jc_programs.specs.declared.run_plan.RunPlan.{RunPlan}
-use Rattle.jc_run_work.specs.RunAnswers.{IsPlanEnd, IsRunProgram}
+use Rattle.jc_command_run.specs.RunAnswers.{IsPlanEnd, IsRunProgram}
 use Rattle.jc_command_work.specs.Step.{Word, World, Counts, Landed, IsFile}
 use Rattle.jc_command_work.specs.Part.{End, gives, Command, deciding, reading_all, ◌>>=◌}
 use Rattle.jc_command_work.specs.Ending.{CameTo, Stops, Ran}

@@ -7,7 +7,7 @@ use Rattle.jc_exec.specs.Writing.{exec_text}
 use Rattle.jc_machine_model.specs.CaseText.{case_texts}
 use Rattle.jc_command_work.specs.Step.{to_file, to_out}
 use Rattle.jc_command_work.specs.Part.{Command, done, ending, deciding, writing, ◌>>=◌, ◌>>◌}
-use Rattle.jc_run_work.specs.RunStore.{run_store}
+use Rattle.jc_command_run.specs.RunStore.{run_store}
 use Rattle.jc_cover_work.specs.CoverWork.{Cover, LookedFile, accepted_texts, IsReportText, IsClashEnd}
 use Rattle.jc_cover_command.specs.declared.words.CoverWords.{CoverWords}
 

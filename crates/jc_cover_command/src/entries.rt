@@ -1,15 +1,15 @@
 //! Threads without a method to begin with.
 ghost use Rattle.std.specs.Prelude.{◌≡◌, None, OnOk};
 ghost use Rattle.jc_same_runs.specs.Frameless.{frameless};
-ghost use Rattle.jc_run_work.specs.RunStore.{threads_of, first_without};
+ghost use Rattle.jc_command_run.specs.RunStore.{threads_of, first_without};
 ghost use Rattle.jc_cover_work.specs.CoverWork.{HaveEntries, IsEntryEnd};
 ghost use Rattle.jc_cover_command.specs.Deciding.{Decides};
 ghost use Rattle.jc_command_work.specs.Seen.{stop_seen};
 ghost use Rattle.jc_machine_model.specs.Programs.{IsProgram};
 
+use jc_command_run::line_without_entry;
 use jc_command_work::{Fault, Stop};
 use jc_programs::{Program, RunPlan};
-use jc_run_parts::line_without_entry;
 
 /// Refuses the first thread of a plan that has no method to begin with, by its line in the file of the plan.
 pub fn check_entries<'a>(path: &'a str, program: &Program, plan: &RunPlan) -> Result<(), Stop<'a>>

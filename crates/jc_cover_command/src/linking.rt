@@ -4,7 +4,7 @@ ghost use Rattle.jc_bytes.specs.Failing.{Said};
 ghost use Rattle.jc_bytes.specs.Reader.{most_read};
 ghost use Rattle.jc_link_programs.specs.Linking.{IsProgramOf, IsLinkRefusal};
 ghost use Rattle.jc_same_runs.specs.Frameless.{frameless};
-ghost use Rattle.jc_run_work.specs.RunAnswers.{IsRunProgram};
+ghost use Rattle.jc_command_run.specs.RunAnswers.{IsRunProgram};
 ghost use Rattle.jc_cover_work.specs.CoverWork.{LookedFile, IsLinkEnd};
 ghost use Rattle.jc_cover_command.specs.Accepted.{AreAccepted, AreWhole};
 ghost use Rattle.jc_cover_command.specs.Deciding.{Decides, StopsBy};
@@ -15,10 +15,10 @@ ghost use Rattle.jc_machine_model.specs.Programs.{IsProgram};
 
 use crate::accepted::Accepted;
 use jc_bytes::{Bytes, Fail};
+use jc_command_run::link_stop;
 use jc_command_work::{Fault, Stop};
 use jc_link_programs::{LinkRefusal, link};
 use jc_programs::Program;
-use jc_run_parts::link_stop;
 use std::alloc::Global;
 
 /// The place among all files of an accepted one, by its index among the accepted ones.

@@ -13,7 +13,7 @@ use Rattle.jc_link_laws.proofs.SecondLinkingLaws.{second_refusal}
 use Rattle.jc_link_laws.proofs.SomeProgramLaws.{program_or_reason}
 use Rattle.jc_twin_simulation.proofs.BeginLaws.{entry_alike}
 use Rattle.jc_twin_simulation.proofs.ProgramRunLaws.{have_marks, have_sides}
-use Rattle.jc_run_work.specs.RunStore.{first_without}
+use Rattle.jc_command_run.specs.RunStore.{first_without}
 
 module _ (originals written : List (List ℕ)) (before : Program) (short : AllByRecursion IsShortFile originals) (are : AllByRecursion AreBytes written)
     (w : AreWrittenOf originals written) (is : IsProgramOf originals before) where

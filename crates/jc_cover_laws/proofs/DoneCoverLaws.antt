@@ -19,9 +19,9 @@ use Rattle.jc_command_work.specs.Prefix.{after_writes}
 use Rattle.jc_command_work.proofs.AnsweredLaws.{has_files}
 use Rattle.jc_command_work.proofs.OneWork.{same_value}
 use Rattle.jc_command_work.proofs.Prefix.{done_means}
-use Rattle.jc_run_work.specs.RunAnswers.{IsPlanEnd, IsRunProgram}
-use Rattle.jc_run_work.specs.RunStore.{threads_of, first_without}
-use Rattle.jc_run_work.proofs.StoreLaws.{same_without}
+use Rattle.jc_command_run.specs.RunAnswers.{IsPlanEnd, IsRunProgram}
+use Rattle.jc_command_run.specs.RunStore.{threads_of, first_without}
+use Rattle.jc_command_run.proofs.StoreLaws.{same_without}
 use Rattle.jc_cover_work.specs.CoverWork.{Cover, LookedFile, AreLooked, all_file_writes, accepted_texts, targets, IsLinkEnd, HaveEntries, IsEntryEnd, instrumenting, running, cover_work}
 use Rattle.jc_cover_work.specs.CoverRun.{AreRead, AreDistinct}
 use Rattle.jc_cover_work.specs.Headline.{as_written, NamesConstants, all_written}

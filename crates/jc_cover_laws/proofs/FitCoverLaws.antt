@@ -29,9 +29,9 @@ use Rattle.jc_class_commands.specs.Report.{ReportedFile, AreItems, changed_of, f
 use Rattle.jc_class_commands.specs.ReportSteps.{counted_classes}
 use Rattle.jc_class_commands.proofs.CountedLaws.{are_counted}
 use Rattle.jc_class_commands.proofs.ReportLaws.{some_items}
-use Rattle.jc_run_work.specs.RunAnswers.{IsPlanEnd, IsRunProgram}
-use Rattle.jc_run_work.specs.RunStore.{threads_of, run_store}
-use Rattle.jc_run_work.proofs.StoreLaws.{same_store, same_without}
+use Rattle.jc_command_run.specs.RunAnswers.{IsPlanEnd, IsRunProgram}
+use Rattle.jc_command_run.specs.RunStore.{threads_of, run_store}
+use Rattle.jc_command_run.proofs.StoreLaws.{same_store, same_without}
 use Rattle.jc_cover_work.specs.CoverWork.{Cover, all_file_writes, accepted_texts, targets, IsLinkEnd, HaveEntries, IsEntryEnd, IsReportText, IsClashEnd, instrumenting, running, cover_work}
 use Rattle.jc_cover_work.specs.CoverRun.{AreRead, AreDistinct, CoverRun}
 use Rattle.jc_cover_work.specs.Headline.{as_written, all_written}

@@ -13,8 +13,8 @@ use Rattle.jc_command_work.specs.Part.{done, refused, stops, Command, ending, de
 use Rattle.jc_command_work.specs.Ending.{CameTo}
 use Rattle.jc_command_work.specs.Folders.{files_of}
 use Rattle.jc_command_work.specs.Prefix.{after_writes}
-use Rattle.jc_run_work.specs.RunAnswers.{IsPlanEnd, IsRunProgram}
-use Rattle.jc_run_work.specs.RunStore.{run_store}
+use Rattle.jc_command_run.specs.RunAnswers.{IsPlanEnd, IsRunProgram}
+use Rattle.jc_command_run.specs.RunStore.{run_store}
 use Rattle.jc_cover_work.specs.CoverWork.{Cover, LookedFile, all_file_writes, accepted, accepted_texts, texts_in, targets, EndsAmongAll, IsLinkEnd, HaveEntries, IsEntryEnd, IsReportText, IsClashEnd, instrumenting, running, cover_work}
 use Rattle.jc_cover_work.specs.CoverRun.{AreRead, AreDistinct, CoverRun}
 use Rattle.jc_cover_work.proofs.PartLaws.{IsDone, IsDoneIn, quiet_reading, quiet_writing, quiet_deciding, quiet_reading_all, quiet_files, quiet_instrumenting, both, through, deciding_over, reading_over, writing_over, reading_all_over, files_over, instrumenting_over}

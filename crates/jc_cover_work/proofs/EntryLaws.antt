@@ -8,7 +8,7 @@ use Rattle.jc_programs.specs.declared.run_plan.Case.{Case}
 use Rattle.jc_programs.specs.declared.run_plan.ThreadLine.{ThreadLine}
 use Rattle.jc_programs.specs.declared.run_end.Entry.{Entry}
 use Rattle.jc_programs.specs.Entries.{entry_of, AreEntries}
-use Rattle.jc_run_work.specs.RunStore.{lacks_entry}
+use Rattle.jc_command_run.specs.RunStore.{lacks_entry}
 
 none_or : {X : Type 0} (x : X) → Some x ≡ None → ⊥
 none_or x e = cc

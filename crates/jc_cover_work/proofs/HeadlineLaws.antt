@@ -10,7 +10,7 @@ use Rattle.jc_command_work.proofs.Prefix.{done_means}
 use Rattle.jc_class_commands.specs.Report.{changed_of, first_of_each_id}
 use Rattle.jc_class_commands.specs.ReportSteps.{counted_by}
 use Rattle.jc_class_commands.proofs.CountedLaws.{all_counted}
-use Rattle.jc_run_work.specs.RunStore.{run_store}
+use Rattle.jc_command_run.specs.RunStore.{run_store}
 use Rattle.jc_cover_work.specs.CoverWork.{Cover, accepted, texts_in, cover_work}
 use Rattle.jc_cover_work.specs.CoverRun.{CoverRun}
 use Rattle.jc_cover_work.specs.Headline.{as_written, NamesConstants, all_written, AreRows, Headline, HeadlineOf}

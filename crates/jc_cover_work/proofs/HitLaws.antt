@@ -14,7 +14,7 @@ use Rattle.jc_twin_exact.specs.Exact.{TellHits}
 use Rattle.jc_twin_exact.proofs.CameLaws.{flat_cases, flat_in}
 use Rattle.jc_machine_model.specs.Run.{IsHit, case_hits, hits_of}
 use Rattle.jc_machine_model.specs.World.{Hit}
-use Rattle.jc_run_work.specs.RunStore.{is_hit_in}
+use Rattle.jc_command_run.specs.RunStore.{is_hit_in}
 use Rattle.jc_cover_work.specs.Headline.{bits_with, bits_from, bits_of}
 
 -- ---- a hit in a list

@@ -42,10 +42,10 @@ use Rattle.jc_class_commands.specs.Report.{ReportedFile, AreItems, first_clash, 
 use Rattle.jc_class_commands.specs.ReportSteps.{counted_classes}
 use Rattle.jc_class_commands.proofs.CountedLaws.{are_counted, all_counted}
 use Rattle.jc_class_commands.proofs.ReportLaws.{one_items, some_items, one_clash, no_clash_in_front}
-use Rattle.jc_run_work.specs.PairTexts.{same_name_text, same_id_text}
-use Rattle.jc_run_work.specs.RunAnswers.{HasName, HasId, IsPlanEnd, IsRunProgram}
-use Rattle.jc_run_work.specs.RunStore.{threads_of, first_without, run_store}
-use Rattle.jc_run_work.proofs.StoreLaws.{same_frameless}
+use Rattle.jc_command_run.specs.PairTexts.{same_name_text, same_id_text}
+use Rattle.jc_command_run.specs.RunAnswers.{HasName, HasId, IsPlanEnd, IsRunProgram}
+use Rattle.jc_command_run.specs.RunStore.{threads_of, first_without, run_store}
+use Rattle.jc_command_run.proofs.StoreLaws.{same_frameless}
 use Rattle.jc_cover_work.specs.CoverWork.{Cover, LookedFile, AreLooked, all_file_writes, accepted, texts_in, targets, place_of, path_of, EndsAmongAll, IsLinkEnd, HaveEntries, IsEntryEnd, IsReportText, IsClashEnd, instrumenting, running, cover_work}
 use Rattle.jc_cover_work.proofs.CoverRunLaws.{last_part, report_part, entry_part, link_part, look_part}
 use Rattle.jc_cover_work.proofs.OriginalLaws.{all_short}

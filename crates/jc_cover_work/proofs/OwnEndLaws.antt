@@ -16,8 +16,8 @@ use Rattle.jc_command_work.specs.Causes.{IsOwnEnd, EndsIn, HasOwnEnds}
 use Rattle.jc_command_work.proofs.CauseLaws.{ends_then, ends_deciding, ends_ending, ends_reading_all, ends_writing_all}
 use Rattle.jc_command_work.proofs.FileLaws.{ends_files}
 use Rattle.jc_command_work.proofs.OneWork.{gives_or_stops}
-use Rattle.jc_run_work.specs.RunAnswers.{IsPlanEnd, IsRunProgram}
-use Rattle.jc_run_work.specs.RunStore.{run_store}
+use Rattle.jc_command_run.specs.RunAnswers.{IsPlanEnd, IsRunProgram}
+use Rattle.jc_command_run.specs.RunStore.{run_store}
 use Rattle.jc_cover_work.specs.CoverWork.{Cover, LookedFile, AreLooked, all_file_writes, accepted_texts, targets, EndsAmongAll, IsLinkEnd, HaveEntries, IsEntryEnd, IsReportText, IsClashEnd, instrumenting, running, cover_work}
 use Rattle.jc_cover_work.proofs.CoverRunLaws.{last_part, report_part, entry_part, look_part}
 

@@ -28,8 +28,8 @@ use Rattle.jc_paths.specs.Paths.{in_folder}
 use Rattle.jc_command_work.specs.Step.{Word, World, to_file, to_out, Told}
 use Rattle.jc_class_commands.specs.Instrument.{Decision, refused_file, accepted_file}
 use Rattle.jc_class_commands.specs.Report.{report_text}
-use Rattle.jc_run_work.specs.RunStore.{run_store, threads_of, first_without}
-use Rattle.jc_run_work.proofs.StoreLaws.{same_store, same_without}
+use Rattle.jc_command_run.specs.RunStore.{run_store, threads_of, first_without}
+use Rattle.jc_command_run.proofs.StoreLaws.{same_store, same_without}
 use Rattle.jc_cover_work.specs.CoverWork.{Cover, LookedFile, all_file_writes, accepted, texts_in, targets}
 use Rattle.jc_cover_work.specs.CoverRun.{AreRead, AreDistinct, CoverRun}
 use Rattle.jc_cover_work.specs.Headline.{as_written, NamesConstants, all_written, HoldsFile, IsCopied, out_text, err_text}

@@ -8,8 +8,8 @@ use Rattle.jc_link.specs.Plans.{IsPlanText}
 use Rattle.jc_machine_model.specs.CaseText.{case_texts}
 use Rattle.jc_command_work.specs.Step.{Word, World, Landed, to_file, to_out, IsRead}
 use Rattle.jc_command_work.specs.Prefix.{after_writes}
-use Rattle.jc_run_work.specs.RunAnswers.{IsRunProgram}
-use Rattle.jc_run_work.specs.RunStore.{run_store}
+use Rattle.jc_command_run.specs.RunAnswers.{IsRunProgram}
+use Rattle.jc_command_run.specs.RunStore.{run_store}
 use Rattle.jc_cover_work.specs.CoverWork.{Cover, LookedFile, AreLooked, all_file_writes, accepted_texts, targets, HaveEntries, IsReportText}
 
 -- the paths hold these bytes, in order

@@ -5,8 +5,8 @@ use Rattle.jc_programs.specs.declared.run_plan.RunPlan.{RunPlan}
 use Rattle.jc_programs.specs.declared.run_plan.ThreadLine.{ThreadLine}
 use Rattle.jc_link_programs.specs.declared.link_refusal.LinkRefusal.{LinkRefusal}
 use Rattle.jc_link_programs.specs.declared.link_refusal.LinkRefusal.TheVariants as refusals
-use Rattle.jc_run_work.specs.RunAnswers.{EndsAs, IsLinkEnd, RunAnswers, run_answer}
-use Rattle.jc_run_work.specs.RunStore.{threads_of, first_without}
+use Rattle.jc_command_run.specs.RunAnswers.{EndsAs, IsLinkEnd, RunAnswers, run_answer}
+use Rattle.jc_command_run.specs.RunStore.{threads_of, first_without}
 use Rattle.jc_command_work.specs.declared.status.Fault.{Fault}
 use Rattle.jc_command_work.specs.declared.status.Fault.TheVariants as fault
 use Rattle.jc_command_work.specs.Step.{Word, Write}

@@ -5,8 +5,8 @@ use Rattle.jc_cover.specs.declared.coverage.Counters.{Counters}
 use Rattle.jc_exec.specs.Store.{Store}
 use Rattle.jc_instrument.specs.InstrumentedFile.{IsInstrumentedFile}
 use Rattle.jc_instrument.specs.declared.whole.Instrumented.{Instrumented}
-use Rattle.jc_run_work.specs.RunAnswers.{IsRunProgram}
-use Rattle.jc_run_work.specs.RunStore.{run_store}
+use Rattle.jc_command_run.specs.RunAnswers.{IsRunProgram}
+use Rattle.jc_command_run.specs.RunStore.{run_store}
 use Rattle.jc_command_work.specs.declared.status.Fault.{Fault}
 use Rattle.jc_command_work.specs.Step.{Write, to_out, Step}
 use Rattle.jc_command_work.specs.Part.{End, done, refused, stops, Part, Command, giving, deciding, writing, ending, ◌>>=◌}

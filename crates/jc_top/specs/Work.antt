@@ -11,7 +11,7 @@ use Rattle.jc_exec_commands.specs.ExecInfo.{InfoAnswers}
 use Rattle.jc_class_commands.specs.ClassInfo.{ListAnswers}
 use Rattle.jc_class_commands.specs.Report.{ReportAnswers}
 use Rattle.jc_class_commands.specs.Instrument.{InstrumentAnswers}
-use Rattle.jc_run_work.specs.RunAnswers.{RunAnswers}
+use Rattle.jc_command_run.specs.RunAnswers.{RunAnswers}
 use Rattle.jc_cover_work.specs.CoverWork.{cover_work}
 use Rattle.jc_command_sample.specs.SampleWork.{sample_work}
 

@@ -13,12 +13,12 @@ ghost use Rattle.jc_top.specs.Work.{reporting, work_of};
 
 use crate::complete::complete;
 use jc_class_commands::{ExecInput, prepare_class_info, prepare_instrument, prepare_report};
+use jc_command_run::prepare_run;
 use jc_command_work::{Status, list_files, read_one};
 use jc_cover_command::CoverWords;
 use jc_exec_commands::{prepare_exec_info, prepare_merge};
 use jc_outside::{Files, Sink};
 use jc_paths::{FileWord, all_in_folder};
-use jc_run_command::prepare_run;
 use jc_workers::Gate;
 use std::alloc::Global;
 use std::marker::Sync;

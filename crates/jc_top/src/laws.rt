@@ -13,8 +13,8 @@ ghost use Rattle.jc_cover_work.specs.Runs.{ToldRun, MakesItsWork};
 ghost use Rattle.jc_top.specs.FirstWrite.{DecideFirst, WritesBegun};
 ghost use Rattle.jc_top.specs.Work.{the_work};
 
+use jc_command_run::a_run_has_an_answer;
 use jc_link::each_text_is_a_plan_or_has_a_first_unfit_line;
-use jc_run_command::a_run_has_an_answer;
 
 /// Words and told contents have exactly one work: the steps that they ask for, and an end.
 pub fn words_have_one_work()

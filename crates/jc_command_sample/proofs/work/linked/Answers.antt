@@ -2,7 +2,7 @@ use Rattle.std.proofs.Common.{◌≡◌, ◌≤◌, ℕ, List, [], ◌∷◌, le
 use Rattle.jc_bytes.specs.ByteLists.{AreBytes}
 use Rattle.jc_bytes.specs.Reader.{most_read}
 use Rattle.jc_link_programs.specs.Linking.{IsProgramOf}
-use Rattle.jc_run_program.proofs.FitLaws.{fit_records}
+use Rattle.jc_command_run.proofs.FitLaws.{fit_records}
 use Rattle.jc_command_sample.proofs.LineLaws.{isn't_linked}
 use Rattle.jc_command_sample.proofs.OneFileLaws.{said_reason}
 use Rattle.jc_command_sample.proofs.work.linked.Goals as goal

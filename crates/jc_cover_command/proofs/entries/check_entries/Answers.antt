@@ -1,5 +1,5 @@
-use Rattle.jc_run_work.specs.RunStore.{threads_of}
-use Rattle.jc_run_program.proofs.EntryLaws.{has_few, none_without}
+use Rattle.jc_command_run.specs.RunStore.{threads_of}
+use Rattle.jc_command_run.proofs.EntryLaws.{has_few, none_without}
 use Rattle.jc_cover_command.proofs.EntryLaws.{entries_there, entry_end}
 use Rattle.jc_cover_command.proofs.entries.check_entries.Goals as goal
 

@@ -3,8 +3,8 @@ use Rattle.std.proofs.lemmas.Result.{err_from_is_err_and}
 use Rattle.jc_link_programs.specs.Linking.{IsProgramOf}
 use Rattle.jc_same_runs.specs.Frameless.{frameless}
 use Rattle.jc_same_runs.proofs.TextLaws.{same_texts}
-use Rattle.jc_run_work.proofs.StoreLaws.{same_store}
-use Rattle.jc_run_program.proofs.FitLaws.{fit_records}
+use Rattle.jc_command_run.proofs.StoreLaws.{same_store}
+use Rattle.jc_command_run.proofs.FitLaws.{fit_records}
 use Rattle.jc_command_work.specs.Seen.{texts_of}
 use Rattle.jc_cover_command.specs.CoverSeen.{cover_seen}
 use Rattle.jc_cover_command.proofs.EntryLaws.{entries_there}

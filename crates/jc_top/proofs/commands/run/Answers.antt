@@ -2,7 +2,7 @@ use Rattle.std.proofs.Common.{ℕ, List, [], ◌∷◌, ap, map, refl}
 use Rattle.jc_paths.specs.Looks.{file_view}
 use Rattle.jc_command_work.specs.Part.{Command, reading}
 use Rattle.jc_command_work.specs.Seen.{words_of, stop_seen}
-use Rattle.jc_run_work.specs.RunAnswers.{RunAnswers}
+use Rattle.jc_command_run.specs.RunAnswers.{RunAnswers}
 use Rattle.jc_top.specs.Work.{on_files}
 use Rattle.jc_top.proofs.CommandLaws.{completed, ends_behind, ends_before, ends_same, listed_ends, unlisted_ends}
 use Rattle.jc_top.proofs.commands.run.Goals as goal

@@ -1,0 +1,14 @@
+pub mod ChoiceLaws
+pub mod StoreLaws
+pub mod RunLaws
+pub mod BeginningLaws
+pub mod ClashLaws
+pub mod HitStoreLaws
+pub mod PlanLaws
+pub mod EntryLaws
+pub mod FitLaws
+pub mod HitLaws
+pub mod TextLaws
+pub mod AnswerLaws
+pub mod DecidedLaws
+pub mod PreparedLaws

@@ -1,0 +1,89 @@
+-- What the command `run` makes of a run plan and class files.
+use Rattle.std.specs.Prelude.{◌≡◌, ◌⊎◌, ℕ, List, [], ◌∷◌, Option, Some, None, slice_get, slice_index_or}
+use Rattle.jc_methods.specs.VerificationTypes.{Names}
+use Rattle.jc_programs.specs.declared.program.Program.{Program}
+use Rattle.jc_programs.specs.declared.program.Linked.{Linked}
+use Rattle.jc_programs.specs.declared.program.ProbeInit.{ProbeInit}
+use Rattle.jc_programs.specs.declared.run_plan.RunPlan.{RunPlan}
+use Rattle.jc_programs.specs.declared.run_plan.ThreadLine.{ThreadLine}
+use Rattle.jc_exec.specs.Writing.{exec_text}
+use Rattle.jc_link.specs.Plans.{IsPlanText, FirstUnfit}
+use Rattle.jc_link_programs.specs.declared.link_refusal.LinkRefusal.{LinkRefusal}
+use Rattle.jc_link_programs.specs.declared.link_refusal.LinkRefusal.TheVariants as refusals
+use Rattle.jc_link_programs.specs.Linking.{IsLinkedClass, IsProgramOf, IsLinkRefusal}
+use Rattle.jc_machine_model.specs.CaseText.{case_texts}
+use Rattle.jc_command_work.specs.declared.status.Fault.TheVariants as fault
+use Rattle.jc_command_work.specs.Step.{Word, to_file, to_out}
+use Rattle.jc_command_work.specs.Part.{End, gives, stops, refused}
+use Rattle.jc_command_work.specs.Answered.{Answer, refusal_of, refusing}
+use Rattle.jc_same_runs.specs.Frameless.{frameless}
+use Rattle.jc_command_run.specs.RunStore.{threads_of, first_without, run_store}
+use Rattle.jc_command_run.specs.PairTexts.{same_name_text, same_id_text}
+
+abbrev pub path_at : List Word → ℕ → Word
+path_at paths index = slice_index_or paths index []
+
+-- the file at the index is of a class with this name
+pub record HasName (files : List (List ℕ)) (index : ℕ) (name : List ℕ) : Type 0 where
+  pub names : Names
+  pub bytes : List ℕ
+  pub linked : Linked
+  pub stands : slice_get files index ≡ Some bytes
+  pub is : IsLinkedClass names bytes linked
+  pub named : name ≡ linked.name
+
+-- the probes of the class of the file at the index have this id
+pub record HasId (files : List (List ℕ)) (index : ℕ) (id : ℕ) : Type 0 where
+  pub names : Names
+  pub bytes : List ℕ
+  pub linked : Linked
+  pub init : ProbeInit
+  pub stands : slice_get files index ≡ Some bytes
+  pub is : IsLinkedClass names bytes linked
+  pub probes : linked.probes ≡ Some init
+  pub id_is : id ≡ init.id
+
+-- ---- one decision behind the other
+
+-- What is so is handed on, or the command ends so.
+abbrev pub Chooses : {X : Type 0} → (X → Type 0) → (End → Type 0) → (X → Answer → Type 0) → Answer → Type 0
+Chooses {X} Is Ends then answer = ((x : X) × Is x × then x answer) ⊎ ((end : End) × Ends end × (answer ≡ stops end))
+
+-- ---- the decisions of `run`
+
+-- the plan's text is refused
+abbrev pub IsPlanEnd : (plan : Word) → List ℕ → End → Type 0
+IsPlanEnd plan text end = (line : ℕ) × FirstUnfit text line × (end ≡ refusal_of plan (fault.Plan line))
+
+-- the program of the files, without its frames, at which no run looks
+abbrev pub IsRunProgram : List (List ℕ) → Program → Type 0
+IsRunProgram files program = (p : Program) × IsProgramOf files p × (program ≡ frameless p)
+
+-- how a reason for which files have no program ends the command
+abbrev pub EndsAs : List Word → List (List ℕ) → LinkRefusal → End → Type 0
+EndsAs paths files (refusals.Class index why) end = end ≡ refusal_of (path_at paths index) (fault.Class index why)
+EndsAs paths files (refusals.SameName first second) end =
+    (name : List ℕ) × HasName files first name × (end ≡ refused (fault.SameName first second) (same_name_text (path_at paths first) (path_at paths second) name))
+EndsAs paths files (refusals.SameId first second) end =
+    (id : ℕ) × HasId files first id × (end ≡ refused (fault.SameId first second) (same_id_text (path_at paths first) (path_at paths second) id))
+
+-- the files are no program
+abbrev pub IsLinkEnd : List Word → List (List ℕ) → End → Type 0
+IsLinkEnd paths files end = (r : LinkRefusal) × IsLinkRefusal files r × EndsAs paths files r end
+
+-- The execution data of what the cases hit is written, and then what they print, each case under its number from 1; or the first
+-- thread without a method to begin with is named, by its line.
+abbrev pub run_answer : (plan exec : Word) → RunPlan → Program → Option ThreadLine → Answer
+run_answer plan exec p program None = gives (to_file exec (exec_text (run_store program p)) ∷ to_out (case_texts program 1 p.cases) ∷ [])
+run_answer plan exec p program (Some thread) = refusing plan (fault.NoEntry thread.line)
+
+abbrev pub RunsFiles : (plan exec : Word) (paths : List Word) (plan_text : List ℕ) (files : List (List ℕ)) → Answer → Type 0
+RunsFiles plan exec paths plan_text files =
+    Chooses (IsPlanText plan_text) (IsPlanEnd plan plan_text) (λ p.
+    Chooses (IsRunProgram files) (IsLinkEnd paths files) (λ program answer.
+    answer ≡ run_answer plan exec p program (first_without program (threads_of p))))
+
+-- the plan is read first, and then the files
+abbrev pub RunAnswers : (plan exec : Word) (paths : List Word) → List (List ℕ) → Answer → Type 0
+RunAnswers plan exec paths [] answer = ⊥
+RunAnswers plan exec paths (plan_text ∷ files) answer = RunsFiles plan exec paths plan_text files answer

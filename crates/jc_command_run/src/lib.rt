@@ -1,0 +1,20 @@
+//! The command `run`: it runs the cases of a run plan on class files, and writes which probes they hit and what they print.
+#![tactic(auto)]
+
+mod answer;
+mod beginnings;
+mod cases;
+mod clash;
+mod laws;
+mod plans;
+mod prepare;
+mod program;
+mod records;
+mod texts;
+
+pub use beginnings::line_without_entry;
+pub use clash::link_stop;
+pub use laws::{a_run_has_an_answer, a_run_has_one_answer};
+pub use plans::plan_of;
+pub use prepare::prepare_run;
+pub use program::{Ran, run_program};

@@ -1,0 +1,49 @@
+//! What `run` reads, and what it writes of it.
+ghost use Rattle.std.specs.Prelude.{◌<◌, ◌≤◌, ◌^◌, ◌∷◌, length};
+ghost use Rattle.jc_bytes.specs.Reader.{most_read};
+ghost use Rattle.jc_command_run.specs.Handed.{BetweenFiles};
+ghost use Rattle.jc_command_run.specs.RunAnswers.{RunAnswers};
+ghost use Rattle.jc_command_work.specs.Answered.{Prepares};
+ghost use Rattle.jc_command_work.specs.Seen.{words_of};
+
+use crate::answer::decided;
+use jc_bytes::Bytes;
+use jc_command_work::{Stop, Write, as_texts, read_all};
+use jc_outside::Files;
+use jc_workers::Gate;
+use std::alloc::Global;
+use std::marker::Sync;
+use std::thread::Threads;
+
+/// The writes of `run`, of a plan's text that was read: the execution data, to `destfile`, and then the text of the cases, on
+/// `out`. The cases run on so many workers, and each passes through `gate` when it begins.
+///
+/// # Errors
+///
+/// `Read` with the path of the first class file that can't be read, before anything is refused. Then `Refused` with the path
+/// of the plan and the first line that doesn't fit; `Refused` with the path of the first class file that isn't linked, or
+/// `Clash` with those of two files of one class name, or else of two whose probes have one id; `Refused` with the path of the
+/// plan and the line of the first thread that has no method to begin with. `Memory` at any time.
+pub fn prepare_run<'a, R: Threads + Sync, F: Files, G: Gate + Sync>(
+    rt: &R,
+    alloc: Global,
+    files: &mut F,
+    gate: &G,
+    plan: &'a str,
+    destfile: &'a str,
+    workers: u32,
+    plan_text: &Bytes,
+    paths: &'a [String],
+) -> Result<Vec<Write<'a>>, Stop<'a>>
+    requires few { length paths.now < 2 ^ 32 }
+    requires workers { (1 ≤ workers) × (workers ≤ 16) }
+    requires plan { length plan_text.now ≤ most_read }
+    ensures { BetweenFiles F.Files files.old files.new (Prepares F.landed (words_of paths.entry.now)
+        (λ read. RunAnswers plan.entry.now destfile.entry.now (words_of paths.entry.now) (plan_text.now ∷ read))) result }
+{
+    let paths = as_texts(alloc, paths)?;
+    let texts = read_all(alloc, files, &paths)?;
+    decided(
+        rt, alloc, gate, plan, destfile, workers, plan_text, &paths, &texts,
+    )
+}

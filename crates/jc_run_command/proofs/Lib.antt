@@ -1,3 +1,0 @@
-pub mod AnswerLaws
-pub mod DecidedLaws
-pub mod PreparedLaws

@@ -1,4 +1,0 @@
-pub mod BeginningLaws
-pub mod ClashLaws
-pub mod HitStoreLaws
-pub mod PlanLaws

@@ -1,4 +1,0 @@
-pub mod Beginnings
-pub mod Clash
-pub mod HitStore
-pub mod PlanStops

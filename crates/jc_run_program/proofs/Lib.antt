@@ -1,4 +1,0 @@
-pub mod EntryLaws
-pub mod FitLaws
-pub mod HitLaws
-pub mod TextLaws

@@ -1,8 +1,0 @@
-//! Running a program: the cases of a plan on workers, which probes they hit, and what is printed of them.
-#![tactic(auto)]
-
-mod cases;
-mod program;
-mod texts;
-
-pub use program::{Ran, run_program};

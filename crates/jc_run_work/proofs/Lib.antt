@@ -1,3 +1,0 @@
-pub mod ChoiceLaws
-pub mod StoreLaws
-pub mod RunLaws

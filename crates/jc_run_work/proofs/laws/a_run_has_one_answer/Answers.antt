@@ -1,7 +1,0 @@
-use Rattle.jc_run_work.proofs.RunLaws.{one_run_answer}
-use Rattle.jc_run_work.proofs.laws.a_run_has_one_answer.Goals as goal
-
-pub returns : goal.returns
-returns c =
-    let plans = c.each_text_is_a_plan_or_has_a_first_unfit_line.ensures in
-    one_run_answer (record { apart = plans.apart; one_plan = plans.one_plan; one_line = plans.one_line })

@@ -1,3 +1,0 @@
-pub mod RunStore
-pub mod PairTexts
-pub mod RunAnswers
