@@ -10,7 +10,7 @@ use Rattle.jc_command_run.specs.Beginnings.{line_of}
 use Rattle.jc_command_work.specs.Step.{Word}
 use Rattle.jc_command_work.specs.Answered.{refusal_of}
 use Rattle.jc_command_work.specs.declared.status.Fault.TheVariants as faults
-use Rattle.jc_cover_work.specs.CoverWork.{IsEntryEnd}
+use Rattle.jc_headline.specs.CoverWork.{IsEntryEnd}
 
 module _ (p : Program) (plan : RunPlan) where
   pub entries_there : first_without p (threads_of plan) ≡ None → first_without (frameless p) (threads_of plan) ≡ None

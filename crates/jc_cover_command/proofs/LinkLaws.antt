@@ -9,7 +9,7 @@ use Rattle.jc_command_run.proofs.ClashLaws.{AreWithin, are_within}
 use Rattle.jc_command_work.specs.declared.status.Fault.TheVariants as faults
 use Rattle.jc_command_work.specs.Part.{End, refused}
 use Rattle.jc_command_work.specs.Texts.{fault_text}
-use Rattle.jc_cover_work.specs.CoverWork.{LookedFile, accepted, paths_in, places_from, place_of, path_of, EndsAmongAll, IsLinkEnd}
+use Rattle.jc_headline.specs.CoverWork.{LookedFile, accepted, paths_in, places_from, place_of, path_of, EndsAmongAll, IsLinkEnd}
 use Rattle.jc_cover_command.specs.Deciding.{StopsBy}
 use Rattle.jc_cover_command.specs.Placed.{end_placed}
 use Rattle.jc_cover_command.proofs.AcceptedLaws.{path_among}

@@ -13,7 +13,7 @@ use Rattle.jc_command_work.specs.Texts.{fault_text}
 use Rattle.jc_class_commands.specs.Report.{changed_of, first_of_each_id}
 use Rattle.jc_class_commands.specs.ReportSteps.{counted_classes, CountsFiles}
 use Rattle.jc_class_commands.proofs.CountedLaws.{are_counted}
-use Rattle.jc_cover_work.specs.CoverWork.{IsReportText, IsClashEnd}
+use Rattle.jc_headline.specs.CoverWork.{IsReportText, IsClashEnd}
 use Rattle.jc_cover_command.specs.Deciding.{Decides}
 
 pub report_decided : (name exec : Word) (store : Store) (texts : List (List ℕ)) (r : Result (Vec ℕ Global) Stop) → CountsFiles name store.classes (Some exec) texts r

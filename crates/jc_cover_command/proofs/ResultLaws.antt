@@ -11,7 +11,7 @@ use Rattle.jc_command_work.specs.Ending.{CameTo, Stops, Does, Ran}
 use Rattle.jc_command_work.specs.Seen.{stop_seen}
 use Rattle.jc_command_work.specs.declared.stop.Stop.{Stop}
 use Rattle.jc_command_run.specs.RunStore.{run_store}
-use Rattle.jc_cover_work.specs.CoverWork.{Cover, LookedFile, accepted_texts, IsReportText, IsClashEnd}
+use Rattle.jc_headline.specs.CoverWork.{Cover, LookedFile, accepted_texts, IsReportText, IsClashEnd}
 use Rattle.jc_cover_command.specs.CoverSeen.{writing_results}
 use Rattle.jc_cover_command.specs.Deciding.{StopsBy}
 use Rattle.jc_cover_command.proofs.ChainLaws.{ran_then, ran_stopped, ran_at_last, came_decided}

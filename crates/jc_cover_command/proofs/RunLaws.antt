@@ -13,8 +13,8 @@ use Rattle.jc_command_work.specs.Seen.{stop_seen}
 use Rattle.jc_command_work.specs.declared.stop.Stop.{Stop}
 use Rattle.jc_command_work.specs.declared.stop.Stop.TheVariants as stops
 use Rattle.jc_command_work.proofs.AnsweredLaws.{texts_read, all_files}
-use Rattle.jc_cover_work.specs.CoverWork.{Cover, LookedFile, paths_in, texts_in, targets, HaveEntries, IsEntryEnd, IsLinkEnd, instrumenting, running, covering}
-use Rattle.jc_cover_work.proofs.DistinctLaws.{looked_files}
+use Rattle.jc_headline.specs.CoverWork.{Cover, LookedFile, paths_in, texts_in, targets, HaveEntries, IsEntryEnd, IsLinkEnd, instrumenting, running, covering}
+use Rattle.jc_headline.proofs.DistinctLaws.{looked_files}
 use Rattle.jc_cover_files.specs.Files.{Instrumented}
 use Rattle.jc_cover_files.proofs.LookedLaws.{looked_texts}
 use Rattle.jc_paths.specs.Paths.{in_folder}

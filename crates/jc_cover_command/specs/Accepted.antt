@@ -7,7 +7,7 @@ use Rattle.jc_programs.specs.declared.run_plan.RunPlan.{RunPlan}
 use Rattle.jc_machine_model.specs.CaseText.{case_texts}
 use Rattle.jc_command_run.specs.RunStore.{run_store}
 use Rattle.jc_command_run.specs.declared.program.Ran.{Ran}
-use Rattle.jc_cover_work.specs.CoverWork.{LookedFile, accepted, accepted_texts, paths_in, places_from, targets, texts_in}
+use Rattle.jc_headline.specs.CoverWork.{LookedFile, accepted, accepted_texts, paths_in, places_from, targets, texts_in}
 use Rattle.jc_cover_command.specs.declared.accepted.Accepted.{Accepted}
 use Rattle.jc_command_work.specs.Seen.{texts_of}
 use Rattle.jc_command_work.specs.Step.{Word}

@@ -8,7 +8,7 @@ use Rattle.jc_machine_model.specs.CaseText.{case_texts}
 use Rattle.jc_command_work.specs.Step.{to_file, to_out}
 use Rattle.jc_command_work.specs.Part.{Command, done, ending, deciding, writing, ◌>>=◌, ◌>>◌}
 use Rattle.jc_command_run.specs.RunStore.{run_store}
-use Rattle.jc_cover_work.specs.CoverWork.{Cover, LookedFile, accepted_texts, IsReportText, IsClashEnd}
+use Rattle.jc_headline.specs.CoverWork.{Cover, LookedFile, accepted_texts, IsReportText, IsClashEnd}
 use Rattle.jc_cover_command.specs.declared.words.CoverWords.{CoverWords}
 
 -- what the words say, with the files that they name

@@ -1,7 +1,7 @@
 //! The class files that weren't refused.
 ghost use Rattle.std.specs.Prelude.{◌≤◌, ◌<◌, ◌^◌, All, List, IfOk, length};
 ghost use Rattle.jc_bytes.specs.Reader.{most_read};
-ghost use Rattle.jc_cover_work.specs.CoverWork.{LookedFile};
+ghost use Rattle.jc_headline.specs.CoverWork.{LookedFile};
 ghost use Rattle.jc_cover_command.specs.Accepted.{AreAccepted, AreOfAll, AreWhole};
 ghost use Rattle.jc_command_work.specs.Seen.{texts_of};
 ghost use Rattle.jc_command_work.specs.Step.{Word};

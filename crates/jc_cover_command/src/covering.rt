@@ -2,8 +2,8 @@
 ghost use Rattle.std.specs.Prelude.{◌≡◌, ◌≤◌, ◌<◌, ◌^◌, List, length, map};
 ghost use Rattle.jc_bytes.specs.Reader.{most_read};
 ghost use Rattle.jc_paths.specs.Paths.{FileText, in_folder};
-ghost use Rattle.jc_cover_work.specs.CoverWork.{covering};
-ghost use Rattle.jc_cover_work.specs.Runs.{Between};
+ghost use Rattle.jc_headline.specs.CoverWork.{covering};
+ghost use Rattle.jc_headline.specs.Runs.{Between};
 ghost use Rattle.jc_cover_command.specs.CoverSeen.{cover_seen};
 ghost use Rattle.jc_command_work.specs.Ending.{Ran};
 ghost use Rattle.jc_command_work.specs.Seen.{stop_seen, words_of};

@@ -2,7 +2,7 @@
 ghost use Rattle.std.specs.Prelude.{◌≡◌, None, OnOk};
 ghost use Rattle.jc_same_runs.specs.Frameless.{frameless};
 ghost use Rattle.jc_command_run.specs.RunStore.{threads_of, first_without};
-ghost use Rattle.jc_cover_work.specs.CoverWork.{HaveEntries, IsEntryEnd};
+ghost use Rattle.jc_headline.specs.CoverWork.{HaveEntries, IsEntryEnd};
 ghost use Rattle.jc_cover_command.specs.Deciding.{Decides};
 ghost use Rattle.jc_command_work.specs.Seen.{stop_seen};
 ghost use Rattle.jc_machine_model.specs.Programs.{IsProgram};

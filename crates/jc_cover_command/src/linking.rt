@@ -5,7 +5,7 @@ ghost use Rattle.jc_bytes.specs.Reader.{most_read};
 ghost use Rattle.jc_link_programs.specs.Linking.{IsProgramOf, IsLinkRefusal};
 ghost use Rattle.jc_same_runs.specs.Frameless.{frameless};
 ghost use Rattle.jc_command_run.specs.RunAnswers.{IsRunProgram};
-ghost use Rattle.jc_cover_work.specs.CoverWork.{LookedFile, IsLinkEnd};
+ghost use Rattle.jc_headline.specs.CoverWork.{LookedFile, IsLinkEnd};
 ghost use Rattle.jc_cover_command.specs.Accepted.{AreAccepted, AreWhole};
 ghost use Rattle.jc_cover_command.specs.Deciding.{Decides, StopsBy};
 ghost use Rattle.jc_cover_command.specs.Placed.{placed, end_placed};

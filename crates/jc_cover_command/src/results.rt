@@ -2,7 +2,7 @@
 ghost use Rattle.std.specs.Prelude.{◌≡◌, ◌≤◌, All, List, length};
 ghost use Rattle.jc_bytes.specs.Reader.{most_read};
 ghost use Rattle.jc_paths.specs.Paths.{FileText};
-ghost use Rattle.jc_cover_work.specs.CoverWork.{IsReportText, IsClashEnd};
+ghost use Rattle.jc_headline.specs.CoverWork.{IsReportText, IsClashEnd};
 ghost use Rattle.jc_cover_command.specs.Accepted.{AreWhole, RunOf};
 ghost use Rattle.jc_cover_command.specs.CoverSeen.{cover_seen, writing_results};
 ghost use Rattle.jc_cover_command.specs.Deciding.{Decides, RanAside};

@@ -2,7 +2,7 @@
 ghost use Rattle.std.specs.Prelude.{◌≤◌, List};
 ghost use Rattle.jc_paths.specs.Paths.{FileText};
 ghost use Rattle.jc_programs.specs.Turns.{IsRunPlan};
-ghost use Rattle.jc_cover_work.specs.CoverWork.{LookedFile, running};
+ghost use Rattle.jc_headline.specs.CoverWork.{LookedFile, running};
 ghost use Rattle.jc_cover_command.specs.Accepted.{AreAccepted, AreWhole};
 ghost use Rattle.jc_cover_command.specs.CoverSeen.{cover_seen};
 ghost use Rattle.jc_cover_command.specs.Deciding.{RanAside};

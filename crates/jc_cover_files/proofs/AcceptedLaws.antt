@@ -3,7 +3,7 @@ use Rattle.std.proofs.Common.{◌≡◌, ℕ, ◌+◌, ◌<◌, ◌≤◌, List,
 use Rattle.std.proofs.lemmas.List.{map-append, drop_all, get_or-map, length-map}
 use Rattle.jc_command_work.specs.Step.{Word}
 use Rattle.jc_class_commands.specs.Instrument.{Decision, refused_file, accepted_file}
-use Rattle.jc_cover_work.specs.CoverWork.{LookedFile, accepted, kept_if, place_if, places_from}
+use Rattle.jc_headline.specs.CoverWork.{LookedFile, accepted, kept_if, place_if, places_from}
 
 -- ---- places
 

@@ -14,7 +14,7 @@ use Rattle.jc_command_work.proofs.Reaching.{Reached, reached_start, was_decided}
 use Rattle.jc_class_commands.specs.declared.instrument.Decided.{Decided}
 use Rattle.jc_class_commands.specs.Instrument.{Decision, IsDecision, file_writes, decision_seen}
 use Rattle.jc_class_commands.proofs.EachLaws.{AtPlace}
-use Rattle.jc_cover_work.specs.CoverWork.{LookedFile, AreLooked, all_file_writes, place_if, places_from}
+use Rattle.jc_headline.specs.CoverWork.{LookedFile, AreLooked, all_file_writes, place_if, places_from}
 use Rattle.jc_cover_files.specs.Files.{Instrumented, Instruments, AreOf, Written, WritesFiles}
 use Rattle.jc_cover_files.proofs.AcceptedLaws.{place_if-append}
 use Rattle.jc_cover_files.proofs.AppendLaws.{reached_writes, reached_no_writes}

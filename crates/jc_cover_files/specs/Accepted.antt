@@ -1,7 +1,7 @@
 -- What stands beside the accepted files.
 use Rattle.std.specs.Prelude.{◌≡◌, ℕ, List, map}
 use Rattle.jc_command_work.specs.Step.{Word}
-use Rattle.jc_cover_work.specs.CoverWork.{LookedFile, accepted, places_from}
+use Rattle.jc_headline.specs.CoverWork.{LookedFile, accepted, places_from}
 
 -- Items that stand beside files, one beside each, were kept where a file is accepted: what they show of all files is then shown of the
 -- accepted ones.

@@ -5,8 +5,8 @@ ghost use Rattle.jc_command_work.specs.Part.{writing_all};
 ghost use Rattle.jc_command_work.specs.Ending.{Does};
 ghost use Rattle.jc_command_work.specs.Seen.{words_of, stop_seen};
 ghost use Rattle.jc_class_commands.specs.Instrument.{file_writes, decision_seen};
-ghost use Rattle.jc_cover_work.specs.CoverWork.{place_if};
-ghost use Rattle.jc_cover_work.specs.Runs.{Between};
+ghost use Rattle.jc_headline.specs.CoverWork.{place_if};
+ghost use Rattle.jc_headline.specs.Runs.{Between};
 ghost use Rattle.jc_cover_files.specs.Files.{InstrumentsTo, WritesDecided};
 
 use jc_bytes::{Bytes, Memory};

@@ -8,8 +8,8 @@ use Rattle.jc_command_work.specs.Part.{done, Outcome, wants, gives, stops, decid
 use Rattle.jc_command_work.specs.Ending.{CameTo, Ends}
 use Rattle.jc_command_work.proofs.Ends.{ends_done}
 use Rattle.jc_command_work.proofs.Prefix.{done_means}
-use Rattle.jc_cover_work.specs.CoverWork.{cover_work}
-use Rattle.jc_cover_work.proofs.HeadlineLaws.{each_headline}
+use Rattle.jc_headline.specs.CoverWork.{cover_work}
+use Rattle.jc_headline.proofs.HeadlineLaws.{each_headline}
 use Rattle.jc_top.specs.Work.{work_of, IsUsage, the_work}
 use Rattle.jc_top.specs.CoverHeadline.{KeepsHeadline}
 

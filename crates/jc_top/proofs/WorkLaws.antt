@@ -27,8 +27,8 @@ use Rattle.jc_class_commands.specs.Instrument.{InstrumentAnswers}
 use Rattle.jc_class_commands.specs.Report.{ReportAnswers}
 use Rattle.jc_class_commands.proofs.ClassAnswers.{list_has_one, list_refuses, report_has_one, report_refuses, instrument_has_one, instrument_refuses}
 use Rattle.jc_command_run.specs.RunAnswers.{RunAnswers}
-use Rattle.jc_cover_work.proofs.OneCoverLaws.{PlansAreOne, has_cover}
-use Rattle.jc_cover_work.proofs.OwnEndLaws.{cover_ends}
+use Rattle.jc_headline.proofs.OneCoverLaws.{PlansAreOne, has_cover}
+use Rattle.jc_headline.proofs.OwnEndLaws.{cover_ends}
 use Rattle.jc_top.specs.Work.{on_files, reporting, work_of, IsUsage, the_work}
 use Rattle.jc_top.specs.FirstWrite.{DecidesFirst, DecideFirst}
 use Rattle.jc_command_sample.proofs.OneSampleLaws.{has_sample}

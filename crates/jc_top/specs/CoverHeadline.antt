@@ -6,9 +6,9 @@ use Rattle.jc_command_work.specs.declared.status.Status.{Status}
 use Rattle.jc_command_work.specs.declared.status.Status.TheVariants as status
 use Rattle.jc_command_work.specs.Step.{Word, World, Landed}
 use Rattle.jc_command_work.specs.OneWay.{IsTold}
-use Rattle.jc_cover_work.specs.CoverWork.{Cover, accepted_texts}
-use Rattle.jc_cover_work.specs.CoverRun.{CoverRun}
-use Rattle.jc_cover_work.specs.Headline.{NamesConstants, Headline}
+use Rattle.jc_headline.specs.CoverWork.{Cover, accepted_texts}
+use Rattle.jc_headline.specs.CoverRun.{CoverRun}
+use Rattle.jc_headline.specs.Headline.{NamesConstants, Headline}
 
 -- the words call `cover` with these values, on some number of workers
 abbrev pub CallsCover : List Word → Cover → Type 0

@@ -12,7 +12,7 @@ use Rattle.jc_class_commands.specs.ClassInfo.{ListAnswers}
 use Rattle.jc_class_commands.specs.Report.{ReportAnswers}
 use Rattle.jc_class_commands.specs.Instrument.{InstrumentAnswers}
 use Rattle.jc_command_run.specs.RunAnswers.{RunAnswers}
-use Rattle.jc_cover_work.specs.CoverWork.{cover_work}
+use Rattle.jc_headline.specs.CoverWork.{cover_work}
 use Rattle.jc_command_sample.specs.SampleWork.{sample_work}
 
 -- the files that the words name are read, and what they answer is written

@@ -8,7 +8,7 @@ ghost use Rattle.jc_command_work.specs.Step.{Landed};
 ghost use Rattle.jc_command_work.specs.Ending.{Ends};
 ghost use Rattle.jc_command_work.specs.Seen.{texts_of};
 ghost use Rattle.jc_class_commands.specs.ReportSteps.{exec_path, exec_texts};
-ghost use Rattle.jc_cover_work.specs.Runs.{Between, BetweenTexts};
+ghost use Rattle.jc_headline.specs.Runs.{Between, BetweenTexts};
 ghost use Rattle.jc_top.specs.Work.{reporting, work_of};
 
 use crate::complete::complete;

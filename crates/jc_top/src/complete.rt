@@ -1,5 +1,5 @@
 //! The end of a command that has prepared what it writes.
-ghost use Rattle.jc_cover_work.specs.Runs.{Between};
+ghost use Rattle.jc_headline.specs.Runs.{Between};
 ghost use Rattle.jc_top.specs.Completes.{Completes};
 
 use jc_command_work::{Status, Stop, Write, report, write_all};

@@ -9,7 +9,7 @@ ghost use Rattle.jc_command_work.specs.OneWay.{IsTold, Work, IsWork, writes_of};
 ghost use Rattle.jc_command_work.specs.Prefix.{LeavesFront};
 ghost use Rattle.jc_command_work.specs.Causes.{Cause, WorkFailed};
 ghost use Rattle.jc_command_words.specs.Commands.{NoForm};
-ghost use Rattle.jc_cover_work.specs.Runs.{ToldRun, MakesItsWork};
+ghost use Rattle.jc_headline.specs.Runs.{ToldRun, MakesItsWork};
 ghost use Rattle.jc_top.specs.FirstWrite.{DecideFirst, WritesBegun};
 ghost use Rattle.jc_top.specs.Work.{the_work};
 

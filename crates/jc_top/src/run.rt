@@ -6,7 +6,7 @@ ghost use Rattle.jc_command_words.specs.Seen.{command_seen};
 ghost use Rattle.jc_command_words.specs.Words.{words_of};
 ghost use Rattle.jc_command_work.specs.Step.{world};
 ghost use Rattle.jc_command_work.specs.Ending.{Ends};
-ghost use Rattle.jc_cover_work.specs.Runs.{Between};
+ghost use Rattle.jc_headline.specs.Runs.{Between};
 ghost use Rattle.jc_top.specs.Bounds.{IsBounded};
 ghost use Rattle.jc_top.specs.CoverHeadline.{KeepsHeadline};
 ghost use Rattle.jc_top.specs.Work.{work_of, the_work};
@@ -114,7 +114,7 @@ fn run_command<R: Threads + Sync, F: Files, O: Sink, E: Sink, G: Gate + Sync>(
 /// case of the instrumented files prints and leaves what the originals give under its schedule without the turns of probes, the
 /// written data is the union of the probes passed, every reported instruction and branch was executed, or is, instructions
 /// alone, next in a stopped thread, and every refused class is copied unchanged. It is done exactly where its plan and class
-/// files fit, no call fails and memory isn't refused: see [`jc_cover_laws::each_fit_cover_is_done`].
+/// files fit, no call fails and memory isn't refused: see [`jc_headline::each_fit_cover_is_done`].
 pub fn run_tool<R: Threads + Sync, F: Files, O: Sink, E: Sink, G: Gate + Sync>(
     rt: &R,
     alloc: Global,

@@ -2,7 +2,7 @@ use Rattle.std.proofs.Common.{◌≡◌, ◌∙◌, ℕ, List, [], ◌∷◌, ma
 use Rattle.std.specs.Borrow.{Bor}
 use Rattle.std.proofs.lemmas.Simd.{map-map}
 use Rattle.jc_paths.specs.Paths.{in_folder}
-use Rattle.jc_cover_work.specs.CoverWork.{LookedFile}
+use Rattle.jc_headline.specs.CoverWork.{LookedFile}
 use Rattle.jc_cover_command.proofs.AcceptedLaws.{are_accepted}
 use Rattle.jc_cover_command.proofs.accepted.accepted_files.Goals as goal
 

@@ -1,6 +1,6 @@
 use Rattle.std.proofs.Common.{◌≡◌, List, map, length}
 use Rattle.jc_command_work.specs.Step.{Word}
-use Rattle.jc_cover_work.specs.CoverWork.{LookedFile, places_from}
+use Rattle.jc_headline.specs.CoverWork.{LookedFile, places_from}
 use Rattle.jc_cover_files.proofs.AcceptedLaws.{KeptFirst}
 use Rattle.jc_cover_files.proofs.accepted.accepted_of.Given as goal
 

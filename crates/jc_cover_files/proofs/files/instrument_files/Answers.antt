@@ -6,7 +6,7 @@ use Rattle.jc_command_work.specs.Step.{Word}
 use Rattle.jc_command_work.specs.Seen.{words_of}
 use Rattle.jc_command_work.proofs.Leaves.{nothing_yet}
 use Rattle.jc_class_commands.specs.Instrument.{decision_seen}
-use Rattle.jc_cover_work.specs.CoverWork.{instrumenting}
+use Rattle.jc_headline.specs.CoverWork.{instrumenting}
 use Rattle.jc_cover_files.specs.Files.{AreOf}
 use Rattle.jc_cover_files.proofs.FileLaws.{some_looked, instrumented}
 use Rattle.jc_cover_files.proofs.files.instrument_files.Goals as goal

@@ -4,7 +4,7 @@ use Rattle.jc_command_work.specs.declared.status.Status.TheVariants as status
 use Rattle.jc_command_work.specs.Part.{Command, reading, ◌>>=◌}
 use Rattle.jc_command_work.specs.Folders.{files_of}
 use Rattle.jc_command_work.specs.Seen.{words_of, stop_seen}
-use Rattle.jc_cover_work.specs.CoverWork.{Cover, covering}
+use Rattle.jc_headline.specs.CoverWork.{Cover, covering}
 use Rattle.jc_top.proofs.CommandLaws.{ends_behind, ends_before, ends_on, memory_ends, ran_done, ran_stopped}
 use Rattle.jc_top.proofs.commands.cover.Goals as goal
 

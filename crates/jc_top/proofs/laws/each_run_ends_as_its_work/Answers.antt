@@ -1,6 +1,6 @@
 use Rattle.jc_command_work.proofs.CauseLaws.{ends_or_fails, ends_so}
 use Rattle.jc_command_work.proofs.NoFault.{does_work}
-use Rattle.jc_cover_work.proofs.OneCoverLaws.{PlansAreOne}
+use Rattle.jc_headline.proofs.OneCoverLaws.{PlansAreOne}
 use Rattle.jc_top.specs.Work.{the_work}
 use Rattle.jc_top.proofs.WorkLaws.{has_the_work}
 use Rattle.jc_top.proofs.laws.each_run_ends_as_its_work.Goals as goal

@@ -1,5 +1,5 @@
 use Rattle.jc_command_work.proofs.Prefix.{ends_front}
-use Rattle.jc_cover_work.proofs.OneCoverLaws.{PlansAreOne}
+use Rattle.jc_headline.proofs.OneCoverLaws.{PlansAreOne}
 use Rattle.jc_top.specs.Work.{the_work}
 use Rattle.jc_top.proofs.WorkLaws.{has_the_work}
 use Rattle.jc_top.proofs.laws.each_run_leaves_a_front_of_its_work.Goals as goal

@@ -1,5 +1,5 @@
 use Rattle.jc_command_work.proofs.Prefix.{some_work, one_work}
-use Rattle.jc_cover_work.proofs.OneCoverLaws.{PlansAreOne}
+use Rattle.jc_headline.proofs.OneCoverLaws.{PlansAreOne}
 use Rattle.jc_top.specs.Work.{the_work}
 use Rattle.jc_top.proofs.WorkLaws.{has_the_work}
 use Rattle.jc_top.proofs.laws.words_have_one_work.Goals as goal

@@ -1,5 +1,0 @@
-use Rattle.jc_cover_laws.proofs.DoneCoverLaws.{each_done_fits}
-use Rattle.jc_cover_laws.proofs.laws.each_done_cover_is_fit.Goals as goal
-
-pub returns : goal.returns
-returns c = each_done_fits

@@ -1,2 +1,0 @@
-pub mod FitCover
-pub mod FewSlots

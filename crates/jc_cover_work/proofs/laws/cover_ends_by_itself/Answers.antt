@@ -1,5 +1,0 @@
-use Rattle.jc_cover_work.proofs.OwnEndLaws.{own_cover}
-use Rattle.jc_cover_work.proofs.laws.cover_ends_by_itself.Goals as goal
-
-pub returns : goal.returns
-returns c = own_cover

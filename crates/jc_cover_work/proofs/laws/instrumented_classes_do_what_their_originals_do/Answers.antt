@@ -1,5 +1,0 @@
-use Rattle.jc_cover_work.proofs.HeadlineLaws.{each_headline}
-use Rattle.jc_cover_work.proofs.laws.instrumented_classes_do_what_their_originals_do.Goals as goal
-
-pub returns : goal.returns
-returns c = each_headline

@@ -1,4 +1,0 @@
-pub mod CoverWork
-pub mod CoverRun
-pub mod Headline
-pub mod Runs

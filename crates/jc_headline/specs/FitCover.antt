@@ -1,0 +1,95 @@
+-- What is enough for a run of `cover` to be done.
+use Rattle.std.specs.Prelude.{◌≡◌, ◌≢◌, ◌≤◌, ℕ, List, [], ◌∷◌, Some, filter, length}
+use Rattle.std.specs.FinMap.{keys}
+use Rattle.std.specs.List.{AllByRecursion, flat_map}
+use Rattle.jc_bytes.specs.Reader.{most_read}
+use Rattle.jc_outside.specs.Folder.{front_of, is_class_file}
+use Rattle.jc_outside.specs.Outside.{FileMap}
+use Rattle.jc_paths.specs.Paths.{FileText, plain, folder}
+use Rattle.jc_programs.specs.declared.program.Program.{Program}
+use Rattle.jc_programs.specs.declared.run_plan.RunPlan.{RunPlan}
+use Rattle.jc_link.specs.Plans.{IsPlanText}
+use Rattle.jc_link_programs.specs.Linking.{IsProgramOf}
+use Rattle.jc_link_programs.specs.declared.link_refusal.LinkRefusal.{LinkRefusal}
+use Rattle.jc_link_laws.specs.SecondLinking.{IsSecondRefusal}
+use Rattle.jc_command_work.specs.declared.status.Status.{Status}
+use Rattle.jc_command_work.specs.declared.status.Status.TheVariants as status
+use Rattle.jc_command_work.specs.Step.{Word, World, Counts, Landed, IsRead}
+use Rattle.jc_command_work.specs.Part.{done}
+use Rattle.jc_command_work.specs.Ending.{Ends, NoneRose}
+use Rattle.jc_command_work.specs.Folders.{once}
+use Rattle.jc_command_work.specs.OneWay.{Work, IsWork}
+use Rattle.jc_headline.specs.CoverWork.{Cover, LookedFile, AreLooked, accepted_texts, HaveEntries, cover_work}
+use Rattle.jc_headline.specs.CoverRun.{AreRead, CoverRun}
+use Rattle.jc_headline.specs.Headline.{NamesConstants, all_written, Headline}
+
+-- ---- the files that are named
+
+-- the path of a file, or those of a folder's class files, in the order of their bytes
+abbrev pub named_by : FileMap → FileText → List Word
+named_by m (plain path) = path ∷ []
+named_by m (folder path) = filter (is_class_file (front_of path)) (keys m)
+
+-- those of all; a path that has come before is dropped
+abbrev pub named_paths : FileMap → List FileText → List Word
+named_paths m files = once [] (flat_map (named_by m) files)
+
+-- ---- what is enough
+
+-- at most 67,108,864 bytes
+abbrev pub IsShort : List ℕ → Type 0
+IsShort text = length text ≤ most_read
+
+-- Plan and class files are fit for `cover`. Of the instrumented files it says that no method of a twin passes the bound on
+-- instructions times slots, that no two changed classes have one id, and that none is too long. All else is said of the originals.
+pub record IsFitCover (c : Cover) (old : World) : Type 0 where
+  -- contents are told
+  pub contents : FileMap
+  pub told : old.contents ≡ Some contents
+  -- the path of the plan holds the text of a plan
+  pub plan_text : List ℕ
+  pub plan_read : IsRead old.contents c.plan plan_text
+  pub plan : RunPlan
+  pub is_plan : IsPlanText plan_text plan
+  -- each path that files and folders name holds a file that can be read
+  pub read : List (List ℕ)
+  pub files_read : AreRead old.contents (named_paths contents c.files) read
+  -- what comes of each
+  pub looked : List LookedFile
+  pub looked_at : AreLooked (named_paths contents c.files) read looked
+  -- those that weren't refused are linked to a program
+  pub before : Program
+  pub originals : IsProgramOf (accepted_texts looked) before
+  -- and ConstantValue attributes of static fields of type long name places of their pools (JVM Specification 4.7.2)
+  pub constants : AllByRecursion NamesConstants (accepted_texts looked)
+  -- nothing refuses what is written of them
+  pub again : (r : LinkRefusal) → IsSecondRefusal (accepted_texts looked) (all_written looked) r → ⊥
+  pub short : AllByRecursion IsShort (all_written looked)
+  -- each thread of the plan has a method to begin with
+  pub entries : HaveEntries before plan tt
+
+-- ---- what follows
+
+-- the work of each cover that fits ends as done
+abbrev pub FitCoversHaveWork : Landed → Type 0
+FitCoversHaveWork landed = (c : Cover) (old : World) → IsFitCover c old → (work : Work) × IsWork landed (cover_work c) old work × (work.end ≡ done)
+
+-- this plan ran, over what came of these files, and the headline holds
+abbrev pub HasHeadline : (landed : Landed) (c : Cover) (old new : World) → IsFitCover c old → Type 0
+HasHeadline landed c old new fit =
+    (r : CoverRun landed c old new) × (r.plan ≡ fit.plan) × (r.looked ≡ fit.looked) × Headline landed c old new r
+
+-- where no count rose and memory wasn't refused, each run of such a cover is done
+abbrev pub FitCoversAreDone : Landed → Type 0
+FitCoversAreDone landed = (c : Cover) (old new : World) (f f' : Counts) (s : Status) (fit : IsFitCover c old) → Ends landed (cover_work c) old new f f' s
+    → NoneRose f f' → s ≢ status.Memory → (s ≡ status.Done) × HasHeadline landed c old new fit
+
+-- ConstantValue attributes of those of the files that aren't refused name places of their constant pools
+abbrev pub HaveConstants : FileMap → List FileText → Type 0
+HaveConstants m files = (read : List (List ℕ)) (looked : List LookedFile) → AreRead (Some m) (named_paths m files) read → AreLooked (named_paths m files) read looked
+    → AllByRecursion NamesConstants (accepted_texts looked)
+
+-- nothing less is enough: each run that is done is one of a cover that fits, if constants stand where they should
+abbrev pub DoneCoversFit : Landed → Type 0
+DoneCoversFit landed = (c : Cover) (old new : World) (f f' : Counts) (m : FileMap) → old.contents ≡ Some m → HaveConstants m c.files
+    → Ends landed (cover_work c) old new f f' status.Done → IsFitCover c old

@@ -1,0 +1,6 @@
+pub mod CoverWork
+pub mod CoverRun
+pub mod Headline
+pub mod Runs
+pub mod FitCover
+pub mod FewSlots
