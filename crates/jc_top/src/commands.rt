@@ -13,9 +13,9 @@ ghost use Rattle.jc_top.specs.Work.{reporting, work_of};
 
 use crate::complete::complete;
 use jc_class_commands::{ExecInput, prepare_class_info, prepare_instrument, prepare_report};
+use jc_command_cover::CoverWords;
 use jc_command_run::prepare_run;
 use jc_command_work::{Status, list_files, read_one};
-use jc_cover_command::CoverWords;
 use jc_exec_commands::{prepare_exec_info, prepare_merge};
 use jc_outside::{Files, Sink};
 use jc_paths::{FileWord, all_in_folder};
@@ -226,7 +226,7 @@ pub fn cover<R: Threads + Sync, F: Files, O: Sink, E: Sink, G: Gate + Sync>(
         name,
         workers,
     };
-    match jc_cover_command::cover(
+    match jc_command_cover::cover(
         rt, alloc, files, out, err, gate, &said, &text, &paths, &targets,
     ) {
         Ok(()) => Status::Done,

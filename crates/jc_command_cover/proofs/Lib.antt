@@ -1,0 +1,11 @@
+pub mod AppendLaws
+pub mod AcceptedItemLaws
+pub mod FileLaws
+pub mod LookedLaws
+pub mod ChainLaws
+pub mod AcceptedLaws
+pub mod LinkLaws
+pub mod EntryLaws
+pub mod ResultLaws
+pub mod RunLaws
+pub mod ReportLaws

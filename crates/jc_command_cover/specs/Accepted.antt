@@ -1,0 +1,49 @@
+-- The class files that weren't refused, and a run of them.
+use Rattle.std.specs.Prelude.{◌≡◌, ◌<◌, ◌≤◌, ◌^◌, ℕ, All, List, length, map}
+use Rattle.jc_bytes.specs.Reader.{most_read}
+use Rattle.jc_paths.specs.Paths.{in_folder}
+use Rattle.jc_programs.specs.declared.program.Program.{Program}
+use Rattle.jc_programs.specs.declared.run_plan.RunPlan.{RunPlan}
+use Rattle.jc_machine_model.specs.CaseText.{case_texts}
+use Rattle.jc_command_run.specs.RunStore.{run_store}
+use Rattle.jc_command_run.specs.declared.program.Ran.{Ran}
+use Rattle.jc_headline.specs.CoverWork.{LookedFile, accepted, accepted_texts, paths_in, places_from, targets, texts_in}
+use Rattle.jc_command_cover.specs.declared.accepted.Accepted.{Accepted}
+use Rattle.jc_command_work.specs.Seen.{texts_of}
+use Rattle.jc_command_work.specs.Step.{Word}
+
+-- these are of all files that were looked at, in order: their paths, those that they were written to, their bytes as they were
+-- read, and the places of the accepted ones
+pub record AreOfAll (dest : Word) (looked : List LookedFile) (paths written_to : List Word) (texts : List (List ℕ)) (places : List ℕ)
+    : Type 0 where
+  pub paths_are : paths ≡ paths_in looked
+  pub targets_are : written_to ≡ map (in_folder dest) (paths_in looked)
+  pub texts_are : texts ≡ texts_in looked
+  pub places_are : places ≡ places_from 0 looked
+
+-- these are the accepted ones of the files that were looked at
+pub record AreAccepted (dest : Word) (looked : List LookedFile) (those : Accepted) : Type 0 where
+  pub places : those.places.items ≡ places_from 0 looked
+  pub paths : texts_of those.paths.items ≡ paths_in (accepted looked)
+  pub targets : texts_of those.targets.items ≡ targets dest looked
+  pub texts : those.texts.items ≡ accepted_texts looked
+
+-- each has a place, two paths and a text that was read
+pub record AreWhole (those : Accepted) : Type 0 where
+  pub few : length those.texts.items < 2 ^ 32
+  pub places : length those.places.items ≡ length those.texts.items
+  pub paths : length those.paths.items ≡ length those.texts.items
+  pub targets : length those.targets.items ≡ length those.texts.items
+  pub short : All (λ t. length t ≤ most_read) those.texts.items
+
+-- ---- a run of them
+
+-- A plan, files that were looked at, and a program: these are the accepted ones of the files, and this came of the plan's cases on
+-- the program.
+pub record RunOf (those : Accepted) (ran : Ran) : Type 0 where
+  pub plan : RunPlan
+  pub looked : List LookedFile
+  pub program : Program
+  pub texts_are : those.texts.items ≡ accepted_texts looked
+  pub store_is : ran.store ≡ run_store program plan
+  pub text_is : ran.text.items ≡ case_texts program 1 plan.cases

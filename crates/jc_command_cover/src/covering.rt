@@ -1,0 +1,64 @@
+//! The command `cover`, behind the text of its plan and the list of its files.
+ghost use Rattle.std.specs.Prelude.{◌≡◌, ◌≤◌, ◌<◌, ◌^◌, List, length, map};
+ghost use Rattle.jc_bytes.specs.Reader.{most_read};
+ghost use Rattle.jc_paths.specs.Paths.{FileText, in_folder};
+ghost use Rattle.jc_headline.specs.CoverWork.{covering};
+ghost use Rattle.jc_headline.specs.Runs.{Between};
+ghost use Rattle.jc_command_cover.specs.CoverSeen.{cover_seen};
+ghost use Rattle.jc_command_work.specs.Ending.{Ran};
+ghost use Rattle.jc_command_work.specs.Seen.{stop_seen, words_of};
+
+use crate::accepted::accepted_files;
+use crate::files::instrument_files;
+use crate::running::run_accepted;
+use crate::words::CoverWords;
+use jc_bytes::Bytes;
+use jc_command_run::plan_of;
+use jc_command_work::{Stop, as_texts, read_all};
+use jc_outside::{Files, Sink};
+use jc_workers::Gate;
+use std::alloc::Global;
+use std::marker::Sync;
+use std::thread::Threads;
+
+/// Does the command `cover` by the text of its run plan, the paths of its class files, and the paths in the folder to which they
+/// are written.
+///
+/// It reads the files, and refuses the plan's text by its first line that doesn't fit. It writes each file instrumented, or as it
+/// was read where it is refused, with its line. Then it reads back those that weren't refused, and runs the program that is linked
+/// of what was read back. It writes the execution data of all cases, the report on these files as they were read at first, and on
+/// `out` what the cases print. Where it is done, each call was made in this order, and none failed.
+///
+/// # Errors
+///
+/// The first of these ends it: a file that can't be read or written, or a text on `out` or `err` that can't be; the plan's text;
+/// files read back that are no program, which are named by their places among all files; a thread of the plan without a method to
+/// begin with; and, once the execution data is written, a record of it that clashes with a class of the files as they were read at
+/// first, which names the file of execution data as the first input. `Memory` may come at any time.
+pub fn cover<'a, R: Threads + Sync, F: Files, O: Sink, E: Sink, G: Gate + Sync>(
+    rt: &R,
+    alloc: Global,
+    files: &mut F,
+    out: &mut O,
+    err: &mut E,
+    gate: &G,
+    words: &CoverWords<'a>,
+    plan_text: &Bytes,
+    paths: &'a [String],
+    targets: &'a [String],
+) -> Result<(), Stop<'a>>
+    requires few { length paths.now < 2 ^ 32 }
+    requires workers { (1 ≤ words.now.workers) × (words.now.workers ≤ 16) }
+    requires short { length plan_text.now ≤ most_read }
+    requires targets { words_of targets.now ≡ map (in_folder words.now.dest.now) (words_of paths.now) }
+    ensures { (named : List FileText) → Between F.Files O.Sink E.Sink (files.old, out.old, err.old) (files.new, out.new, err.new)
+        (Ran F.landed (covering (cover_seen words.entry.now named) plan_text.now (words_of paths.entry.now)) stop_seen) result }
+{
+    let file_paths = as_texts(alloc, paths)?;
+    let texts = read_all(alloc, files, &file_paths)?;
+    let plan = plan_of(alloc, words.plan, plan_text)?;
+    let places = instrument_files(rt, alloc, files, out, err, paths, targets, &texts)?;
+    let file_targets = as_texts(alloc, targets)?;
+    let accepted = accepted_files(alloc, file_paths, file_targets, texts, places)?;
+    run_accepted(rt, alloc, files, out, gate, words, &plan, accepted)
+}

@@ -1,0 +1,16 @@
+//! The command `cover`: it instruments class files into a folder, runs what it wrote of them, and reports on the files as they
+//! were read.
+#![tactic(auto)]
+
+mod accepted;
+mod accepted_items;
+mod covering;
+mod entries;
+mod files;
+mod linking;
+mod results;
+mod running;
+mod words;
+
+pub use covering::cover;
+pub use words::CoverWords;

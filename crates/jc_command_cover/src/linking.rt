@@ -1,0 +1,115 @@
+//! The program of the files that were read back.
+ghost use Rattle.std.specs.Prelude.{◌≡◌, ◌≤◌, List, ℕ, All, length, option_map, slice_index_or, IfOk};
+ghost use Rattle.jc_bytes.specs.Failing.{Said};
+ghost use Rattle.jc_bytes.specs.Reader.{most_read};
+ghost use Rattle.jc_link_programs.specs.Linking.{IsProgramOf, IsLinkRefusal};
+ghost use Rattle.jc_same_runs.specs.Frameless.{frameless};
+ghost use Rattle.jc_command_run.specs.RunAnswers.{IsRunProgram};
+ghost use Rattle.jc_headline.specs.CoverWork.{LookedFile, IsLinkEnd};
+ghost use Rattle.jc_command_cover.specs.Accepted.{AreAccepted, AreWhole};
+ghost use Rattle.jc_command_cover.specs.Deciding.{Decides, StopsBy};
+ghost use Rattle.jc_command_cover.specs.Placed.{placed, end_placed};
+ghost use Rattle.jc_command_work.specs.Seen.{stop_seen};
+ghost use Rattle.jc_command_work.specs.Step.{Word};
+ghost use Rattle.jc_machine_model.specs.Programs.{IsProgram};
+
+use crate::accepted::Accepted;
+use jc_bytes::{Bytes, Fail};
+use jc_command_run::link_stop;
+use jc_command_work::{Fault, Stop};
+use jc_link_programs::{LinkRefusal, link};
+use jc_programs::Program;
+use std::alloc::Global;
+
+/// The place among all files of an accepted one, by its index among the accepted ones.
+fn place_of(places: &[u32], index: u32) -> u32
+    ensures { result ≡ slice_index_or places.now index 0 }
+{
+    match places.get(index as usize) {
+        Some(place) => *place,
+        None => 0,
+    }
+}
+
+/// A fault that names files by their places among all.
+fn placed(fault: Fault, places: &[u32]) -> Fault
+    ensures { result ≡ placed places.now fault }
+{
+    match fault {
+        Fault::Class { path, refusal } => {
+            let path = place_of(places, path);
+            Fault::Class { path, refusal }
+        }
+        Fault::SameName { first, second } => {
+            let first = place_of(places, first);
+            let second = place_of(places, second);
+            Fault::SameName { first, second }
+        }
+        Fault::SameId { first, second } => {
+            let first = place_of(places, first);
+            let second = place_of(places, second);
+            Fault::SameId { first, second }
+        }
+        Fault::Exec { path, refusal } => Fault::Exec { path, refusal },
+        Fault::Plan { line } => Fault::Plan { line },
+        Fault::NoEntry { line } => Fault::NoEntry { line },
+    }
+}
+
+/// A stop that names accepted files by their indices among these, with their places among all.
+fn among_all<'a>(stop: Stop<'a>, places: &[u32]) -> Stop<'a>
+    ensures { stop_seen result ≡ option_map (end_placed places.now) (stop_seen stop.entry) }
+{
+    match stop {
+        Stop::Refused { file, fault } => {
+            let fault = placed(fault, places);
+            Stop::Refused { file, fault }
+        }
+        Stop::Clash { fault, line } => {
+            let fault = placed(fault, places);
+            Stop::Clash { fault, line }
+        }
+        Stop::Memory => Stop::Memory,
+        Stop::Read(path) => Stop::Read(path),
+        Stop::Write(path) => Stop::Write(path),
+        Stop::Output => Stop::Output,
+    }
+}
+
+/// How accepted files that are read back as no program stop the command: they are named by their places among all files.
+fn no_program<'a>(
+    alloc: Global,
+    fail: Fail<LinkRefusal>,
+    accepted: &Accepted<'a>,
+    written: &[Bytes],
+) -> Stop<'a>
+    requires refused { Said fail (IsLinkRefusal written.now) }
+    requires whole { AreWhole accepted.now }
+    requires each { length written.now ≡ length accepted.now.targets.items }
+    requires short { All (λ t. length t ≤ most_read) written.now }
+    ensures { (dest : Word) (looked : List LookedFile) → AreAccepted dest looked accepted.entry.now
+        → StopsBy (IsLinkEnd looked written.now) (stop_seen result) }
+{
+    let stop = link_stop(alloc, fail, written, &accepted.paths);
+    among_all(stop, &accepted.places)
+}
+
+/// The program of the accepted files as they were read back.
+pub fn program_of<'a>(
+    alloc: Global,
+    accepted: &Accepted<'a>,
+    written: &[Bytes],
+) -> Result<Program, Stop<'a>>
+    requires whole { AreWhole accepted.now }
+    requires each { length written.now ≡ length accepted.now.targets.items }
+    requires short { All (λ t. length t ≤ most_read) written.now }
+    ensures linked { IfOk result (IsProgramOf written.now) }
+    ensures program { IfOk result IsProgram }
+    ensures decides { (dest : Word) (looked : List LookedFile) → AreAccepted dest looked accepted.entry.now
+        → Decides (IsRunProgram written.now) (IsLinkEnd looked written.now) frameless stop_seen result }
+{
+    match link(alloc, written) {
+        Ok(program) => Ok(program),
+        Err(fail) => Err(no_program(alloc, fail, accepted, written)),
+    }
+}

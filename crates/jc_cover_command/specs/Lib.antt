@@ -1,4 +1,0 @@
-pub mod Deciding
-pub mod Accepted
-pub mod CoverSeen
-pub mod Placed

@@ -1,4 +1,0 @@
-pub mod AppendLaws
-pub mod AcceptedLaws
-pub mod FileLaws
-pub mod LookedLaws
