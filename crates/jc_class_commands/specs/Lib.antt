@@ -1,6 +1,0 @@
-pub mod Lines
-pub mod Each
-pub mod ClassInfo
-pub mod Report
-pub mod ReportSteps
-pub mod Instrument

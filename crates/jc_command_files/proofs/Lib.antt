@@ -1,0 +1,16 @@
+pub mod ExecDataLaws
+pub mod MergeLaws
+pub mod InfoLaws
+pub mod ExecAnswers
+pub mod EachLaws
+pub mod RunLaws
+pub mod ListingLaws
+pub mod MethodLaws
+pub mod FramelessLaws
+pub mod CountedLaws
+pub mod ReportLaws
+pub mod ReportStepLaws
+pub mod ReportRunLaws
+pub mod ReportAnswerLaws
+pub mod InstrumentLaws
+pub mod ClassAnswers

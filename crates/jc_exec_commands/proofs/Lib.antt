@@ -1,4 +1,0 @@
-pub mod ExecDataLaws
-pub mod MergeLaws
-pub mod InfoLaws
-pub mod ExecAnswers

@@ -1,3 +1,0 @@
-pub mod ExecData
-pub mod Merge
-pub mod ExecInfo
