@@ -1,6 +1,6 @@
 //! Threads without a method to begin with.
 ghost use Rattle.std.specs.Prelude.{◌≡◌, None, OnOk};
-ghost use Rattle.jc_same_runs.specs.Frameless.{frameless};
+ghost use Rattle.jc_machine_laws.specs.Frameless.{frameless};
 ghost use Rattle.jc_command_run.specs.RunStore.{threads_of, first_without};
 ghost use Rattle.jc_headline.specs.CoverWork.{HaveEntries, IsEntryEnd};
 ghost use Rattle.jc_command_cover.specs.Deciding.{Decides};

@@ -3,7 +3,7 @@ ghost use Rattle.std.specs.Prelude.{◌≡◌, ◌≤◌, List, ℕ, All, length
 ghost use Rattle.jc_bytes.specs.Failing.{Said};
 ghost use Rattle.jc_bytes.specs.Reader.{most_read};
 ghost use Rattle.jc_link_programs.specs.Linking.{IsProgramOf, IsLinkRefusal};
-ghost use Rattle.jc_same_runs.specs.Frameless.{frameless};
+ghost use Rattle.jc_machine_laws.specs.Frameless.{frameless};
 ghost use Rattle.jc_command_run.specs.RunAnswers.{IsRunProgram};
 ghost use Rattle.jc_headline.specs.CoverWork.{LookedFile, IsLinkEnd};
 ghost use Rattle.jc_command_cover.specs.Accepted.{AreAccepted, AreWhole};

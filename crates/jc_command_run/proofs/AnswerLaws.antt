@@ -14,7 +14,7 @@ use Rattle.jc_programs.specs.declared.program.Program.{Program}
 use Rattle.jc_programs.specs.declared.program.ProbeInit.{ProbeInit}
 use Rattle.jc_programs.specs.declared.run_plan.RunPlan.{RunPlan}
 use Rattle.jc_programs.specs.declared.run_plan.ThreadLine.{ThreadLine}
-use Rattle.jc_same_runs.specs.Frameless.{frameless}
+use Rattle.jc_machine_laws.specs.Frameless.{frameless}
 use Rattle.jc_command_work.specs.declared.status.Fault.TheVariants as fault
 use Rattle.jc_command_work.specs.Step.{Word, AreTexts}
 use Rattle.jc_command_work.specs.Part.{End, stops}

@@ -13,8 +13,8 @@ use Rattle.jc_link_programs.specs.Linking.{IsProgramOf}
 use Rattle.jc_programs.specs.declared.program.Program.{Program}
 use Rattle.jc_programs.specs.declared.run_plan.RunPlan.{RunPlan}
 use Rattle.jc_programs.specs.declared.run_plan.ThreadLine.{ThreadLine}
-use Rattle.jc_same_runs.specs.Frameless.{frameless}
-use Rattle.jc_same_runs.proofs.TextLaws.{same_texts}
+use Rattle.jc_machine_laws.specs.Frameless.{frameless}
+use Rattle.jc_machine_laws.proofs.FramelessTextLaws.{same_texts}
 use Rattle.jc_command_work.specs.declared.output.Write.{Write as Written}
 use Rattle.jc_command_work.specs.declared.stop.Stop.{Stop}
 use Rattle.jc_command_work.specs.Step.{Word, AreTexts, to_file, to_out}

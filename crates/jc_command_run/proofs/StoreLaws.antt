@@ -15,9 +15,9 @@ use Rattle.jc_programs.specs.declared.run_plan.RunPlan.{RunPlan}
 use Rattle.jc_programs.specs.declared.run_plan.ThreadLine.{ThreadLine}
 use Rattle.jc_machine_model.specs.Run.{hits_of}
 use Rattle.jc_machine_model.specs.World.{Hit}
-use Rattle.jc_same_runs.specs.Frameless.{frameless_body, frameless_class, frameless}
-use Rattle.jc_same_runs.proofs.LookupLaws.{same_entry}
-use Rattle.jc_same_runs.proofs.TextLaws.{same_hits}
+use Rattle.jc_machine_laws.specs.Frameless.{frameless_body, frameless_class, frameless}
+use Rattle.jc_machine_laws.proofs.FramelessLookupLaws.{same_entry}
+use Rattle.jc_machine_laws.proofs.FramelessTextLaws.{same_hits}
 use Rattle.jc_command_run.specs.RunStore.{lacks_entry, first_without, with_record, hit_records, run_store}
 
 -- ---- equal programs

@@ -16,7 +16,7 @@ use Rattle.jc_command_work.specs.declared.status.Fault.TheVariants as fault
 use Rattle.jc_command_work.specs.Step.{Word, to_file, to_out}
 use Rattle.jc_command_work.specs.Part.{End, gives, stops, refused}
 use Rattle.jc_command_work.specs.Answered.{Answer, refusal_of, refusing}
-use Rattle.jc_same_runs.specs.Frameless.{frameless}
+use Rattle.jc_machine_laws.specs.Frameless.{frameless}
 use Rattle.jc_command_run.specs.RunStore.{threads_of, first_without, run_store}
 use Rattle.jc_command_run.specs.PairTexts.{same_name_text, same_id_text}
 

@@ -10,7 +10,7 @@ use Rattle.jc_exec.specs.Store.{Store}
 use Rattle.jc_instrument.specs.InstrumentedFile.{IsInstrumentedFile}
 use Rattle.jc_instrument.specs.declared.whole.Instrumented.{Instrumented}
 use Rattle.jc_link_programs.specs.Linking.{IsProgramOf, LinkReason}
-use Rattle.jc_same_runs.specs.Frameless.{frameless}
+use Rattle.jc_machine_laws.specs.Frameless.{frameless}
 use Rattle.jc_command_work.specs.declared.status.Fault.TheVariants as fault
 use Rattle.jc_command_work.specs.declared.stop.Stop.{Stop}
 use Rattle.jc_command_work.specs.Part.{End, gives, stops, Part, giving, deciding, ◌>>=◌}

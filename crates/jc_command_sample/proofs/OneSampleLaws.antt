@@ -21,7 +21,7 @@ use Rattle.jc_link_programs.specs.Linking.{IsProgramOf, IsLinkRefusal}
 use Rattle.jc_link_programs.specs.declared.link_refusal.LinkRefusal.{LinkRefusal}
 use Rattle.jc_link_programs.proofs.OneRefusalLaws.{one_link_reason, program_or_refusal, same_program}
 use Rattle.jc_link_laws.proofs.SomeProgramLaws.{program_or_reason}
-use Rattle.jc_same_runs.specs.Frameless.{frameless}
+use Rattle.jc_machine_laws.specs.Frameless.{frameless}
 use Rattle.jc_command_work.specs.declared.status.Fault.TheVariants as fault
 use Rattle.jc_command_work.specs.Step.{Landed, Step, IsFile, Fit, World, to_out}
 use Rattle.jc_command_work.specs.Part.{End, done, Outcome, wants, gives, stops, Part, ending, deciding, writing, ◌>>=◌}

@@ -6,7 +6,7 @@ ghost use Rattle.jc_instrument.specs.InstrumentedFile.{IsInstrumentedFile};
 ghost use Rattle.jc_link_programs.specs.Linking.{IsProgramOf};
 ghost use Rattle.jc_command_run.specs.HitStore.{FitRecords};
 ghost use Rattle.jc_command_run.specs.RunStore.{threads_of, first_without};
-ghost use Rattle.jc_same_runs.specs.Frameless.{frameless};
+ghost use Rattle.jc_machine_laws.specs.Frameless.{frameless};
 ghost use Rattle.jc_command_work.specs.Part.{deciding};
 ghost use Rattle.jc_machine_model.specs.Programs.{IsProgram};
 ghost use Rattle.jc_command_sample.specs.SampleFile.{sample_file as file_of};

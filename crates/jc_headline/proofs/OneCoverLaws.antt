@@ -27,7 +27,7 @@ use Rattle.jc_link_programs.proofs.SameLinkedLaws.{same_linked}
 use Rattle.jc_link_laws.specs.TwinFiles.{IsShortFile}
 use Rattle.jc_link_laws.proofs.PlaceLaws.{class_at}
 use Rattle.jc_link_laws.proofs.SomeProgramLaws.{program_or_reason}
-use Rattle.jc_same_runs.specs.Frameless.{frameless}
+use Rattle.jc_machine_laws.specs.Frameless.{frameless}
 use Rattle.jc_machine_model.specs.CaseText.{case_texts}
 use Rattle.jc_command_work.specs.declared.status.Fault.TheVariants as fault
 use Rattle.jc_command_work.specs.Step.{Word, Landed, IsFile, AreTexts, to_file, to_out}

@@ -23,7 +23,7 @@ use Rattle.jc_twin_simulation.specs.Same.{Same}
 use Rattle.jc_twin_simulation.specs.Laws.{kept_of}
 use Rattle.jc_twin_simulation.proofs.BeginLaws.{entry_alike}
 use Rattle.jc_twin_simulation.proofs.ProgramRunLaws.{have_marks, have_sides, runs_are_same}
-use Rattle.jc_same_runs.proofs.TextLaws.{same_texts}
+use Rattle.jc_machine_laws.proofs.FramelessTextLaws.{same_texts}
 use Rattle.jc_paths.specs.Paths.{in_folder}
 use Rattle.jc_command_work.specs.Step.{Word, World, to_file, to_out, Told}
 use Rattle.jc_command_files.specs.Instrument.{Decision, refused_file, accepted_file}

@@ -17,3 +17,8 @@ pub mod SimpleLaws
 pub mod PoolLaws
 pub mod WorldLaws
 pub mod RoomLaws
+pub mod FramelessListLaws
+pub mod FramelessLookupLaws
+pub mod FramelessOperationLaws
+pub mod FramelessStepLaws
+pub mod FramelessTextLaws

@@ -1,8 +1,8 @@
 use Rattle.std.proofs.Common.{◌∙◌, ℕ, List, None, ap, refl, subst, sym}
 use Rattle.std.proofs.lemmas.Result.{err_from_is_err_and}
 use Rattle.jc_link_programs.specs.Linking.{IsProgramOf}
-use Rattle.jc_same_runs.specs.Frameless.{frameless}
-use Rattle.jc_same_runs.proofs.TextLaws.{same_texts}
+use Rattle.jc_machine_laws.specs.Frameless.{frameless}
+use Rattle.jc_machine_laws.proofs.FramelessTextLaws.{same_texts}
 use Rattle.jc_command_run.proofs.StoreLaws.{same_store}
 use Rattle.jc_command_run.proofs.FitLaws.{fit_records}
 use Rattle.jc_command_work.specs.Seen.{texts_of}

@@ -3,7 +3,7 @@ use Rattle.std.proofs.lemmas.Result.{err_from_is_err_and}
 use Rattle.jc_bytes.specs.Reader.{most_read}
 use Rattle.jc_programs.specs.Turns.{IsRunPlan}
 use Rattle.jc_programs.specs.declared.run_plan.RunPlan.{RunPlan}
-use Rattle.jc_same_runs.specs.Frameless.{frameless}
+use Rattle.jc_machine_laws.specs.Frameless.{frameless}
 use Rattle.jc_command_work.specs.Seen.{stop_seen}
 use Rattle.jc_command_sample.specs.SampleWork.{HaveEntries, sample_text}
 use Rattle.jc_command_sample.proofs.BytesLaws.{sample_short}

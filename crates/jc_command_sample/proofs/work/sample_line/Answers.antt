@@ -2,7 +2,7 @@ use Rattle.std.proofs.Common.{◌≤◌, ℕ, List, Vec, length, sym, ◌∙◌,
 use Rattle.std.proofs.lemmas.Result.{err_from_is_err_and}
 use Rattle.std.specs.declared.alloc.Global.{Global}
 use Rattle.jc_bytes.specs.Reader.{most_read}
-use Rattle.jc_same_runs.specs.Frameless.{frameless}
+use Rattle.jc_machine_laws.specs.Frameless.{frameless}
 use Rattle.jc_command_work.specs.Seen.{stop_seen}
 use Rattle.jc_command_sample.proofs.BytesLaws.{sample_short}
 use Rattle.jc_command_sample.proofs.LineLaws.{class_ends, linking_ends, line_decided}

@@ -14,8 +14,8 @@ use Rattle.jc_machine_model.specs.CaseText.{field_line, static_text, end_lines, 
 use Rattle.jc_machine_model.specs.Run.{run, case_hits, hits_of}
 use Rattle.jc_machine_model.specs.Values.{Value}
 use Rattle.jc_machine_model.specs.World.{Hit, World}
-use Rattle.jc_same_runs.specs.Frameless.{frameless_class, frameless}
-use Rattle.jc_same_runs.proofs.StepLaws.{same_run}
+use Rattle.jc_machine_laws.specs.Frameless.{frameless_class, frameless}
+use Rattle.jc_machine_laws.proofs.FramelessStepLaws.{same_run}
 
 same_class_ends : (k : ℕ) (classes : List Linked) (statics : List (List Value)) → class_ends k (map frameless_class classes) statics ≡ class_ends k classes statics
 same_class_ends k [] statics = refl

@@ -17,8 +17,8 @@ use Rattle.jc_machine_model.specs.Methods.{is_enterable}
 use Rattle.jc_machine_model.specs.Operations.{Operation, outside, pushes}
 use Rattle.jc_machine_model.specs.Values as value
 use Rattle.jc_machine_model.specs.Profile.{Location, in_init, init_of, what_at, declared_field, linked_field, is_print_stream, field_named, callee_named, may_name_method, entered_if, body_entered, class_entered, method_entered, is_fetch, init_call, static_call, virtual_call, special_call, call_named, member_operation, operation_of}
-use Rattle.jc_same_runs.specs.Frameless.{frameless_body, frameless_class, frameless}
-use Rattle.jc_same_runs.proofs.LookupLaws.{same_class_named, same_class_at, same_body_at, same_callee, same_declares, same_enterable}
+use Rattle.jc_machine_laws.specs.Frameless.{frameless_body, frameless_class, frameless}
+use Rattle.jc_machine_laws.proofs.FramelessLookupLaws.{same_class_named, same_class_at, same_body_at, same_callee, same_declares, same_enterable}
 
 -- the same place in the class without frames
 abbrev pub frameless_at : Location → Location

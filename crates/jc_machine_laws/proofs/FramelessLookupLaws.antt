@@ -12,8 +12,8 @@ use Rattle.jc_programs.specs.Entries.{is_entry, entry_in, entry_of}
 use Rattle.jc_programs.specs.Members.{class_named, class_at, body_of, method_named}
 use Rattle.jc_machine_model.specs.Methods.{declares_init, is_init_name, is_native, is_synchronized, is_enterable}
 use Rattle.jc_machine_model.specs.Profile.{method_in, callee_named}
-use Rattle.jc_same_runs.specs.Frameless.{frameless_body, frameless_class, frameless}
-use Rattle.jc_same_runs.proofs.ListLaws.{position-map, any-map}
+use Rattle.jc_machine_laws.specs.Frameless.{frameless_body, frameless_class, frameless}
+use Rattle.jc_machine_laws.proofs.FramelessListLaws.{position-map, any-map}
 
 module _ (p : Program) where
   pub same_class_named : (name : List ℕ) → class_named (frameless p) name ≡ class_named p name

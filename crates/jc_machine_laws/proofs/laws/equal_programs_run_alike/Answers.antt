@@ -3,10 +3,10 @@ use Rattle.jc_programs.specs.declared.program.Program.{Program}
 use Rattle.jc_programs.specs.Entries.{entry_of}
 use Rattle.jc_machine_model.specs.CaseText.{case_texts}
 use Rattle.jc_machine_model.specs.Run.{run, hits_of}
-use Rattle.jc_same_runs.proofs.LookupLaws.{same_entry}
-use Rattle.jc_same_runs.proofs.StepLaws.{same_run}
-use Rattle.jc_same_runs.proofs.TextLaws.{same_texts, same_hits}
-use Rattle.jc_same_runs.proofs.laws.equal_programs_run_alike.Goals as goal
+use Rattle.jc_machine_laws.proofs.FramelessLookupLaws.{same_entry}
+use Rattle.jc_machine_laws.proofs.FramelessStepLaws.{same_run}
+use Rattle.jc_machine_laws.proofs.FramelessTextLaws.{same_texts, same_hits}
+use Rattle.jc_machine_laws.proofs.laws.equal_programs_run_alike.Goals as goal
 
 pub returns-clause-entry : goal.returns-clause-entry
 returns-clause-entry c p q thread same = sym (same_entry p thread) ∙ ap (λ (r : Program). entry_of r thread) same ∙ same_entry q thread

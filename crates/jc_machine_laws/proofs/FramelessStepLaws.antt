@@ -22,9 +22,9 @@ use Rattle.jc_machine_model.specs.Run.{run_from, run}
 use Rattle.jc_machine_model.specs.Step.{LocatedInsn, located_in_body, located_in_class, located, operation_at, result_of, handler_in, handler_of, caught, unwound, Raised, placed, named_init, is_init_method, counted_frames, overflows, most_frames, new_frame, After, after, thrown_in, after_result, turn_of, with_after, step_of, step}
 use Rattle.jc_machine_model.specs.Values.{Value}
 use Rattle.jc_machine_model.specs.World.{Frame, Thread, running, returned, threw, stuck, Shared, World}
-use Rattle.jc_same_runs.specs.Frameless.{frameless_body, frameless_class, frameless}
-use Rattle.jc_same_runs.proofs.LookupLaws.{same_class_at, same_body_at, same_body_of, same_entry, same_enterable}
-use Rattle.jc_same_runs.proofs.OperationLaws.{frameless_at, same_operation}
+use Rattle.jc_machine_laws.specs.Frameless.{frameless_body, frameless_class, frameless}
+use Rattle.jc_machine_laws.proofs.FramelessLookupLaws.{same_class_at, same_body_at, same_body_of, same_entry, same_enterable}
+use Rattle.jc_machine_laws.proofs.FramelessOperationLaws.{frameless_at, same_operation}
 
 -- ---- the instruction of a frame
 

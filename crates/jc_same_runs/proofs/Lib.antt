@@ -1,5 +1,0 @@
-pub mod ListLaws
-pub mod LookupLaws
-pub mod OperationLaws
-pub mod StepLaws
-pub mod TextLaws
