@@ -3,7 +3,7 @@ use Rattle.std.proofs.Common.{◌≡◌, ◌⊎◌, inl, inr, ℕ, List, [], ◌
 use Rattle.std.specs.List.{AllByRecursion}
 use Rattle.std.specs.Option.{option_map}
 use Rattle.std.proofs.lemmas.Option.{none-some}
-use Rattle.jc_link.specs.Plans.{IsPlanText, FirstUnfit}
+use Rattle.jc_run_plans.specs.Plans.{IsPlanText, FirstUnfit}
 use Rattle.jc_link_laws.specs.TwinFiles.{IsShortFile}
 use Rattle.jc_link_laws.proofs.PlaceLaws.{class_at}
 use Rattle.jc_link_laws.proofs.SomeProgramLaws.{program_or_reason}

@@ -4,8 +4,8 @@ use Rattle.std.specs.Borrow.{Bor}
 use Rattle.jc_bytes.specs.declared.fail.Fail.{Fail}
 use Rattle.jc_bytes.specs.declared.fail.Fail.TheVariants as fails
 use Rattle.jc_bytes.specs.Failing.{Said}
-use Rattle.jc_link.specs.Plans.{FirstUnfit}
-use Rattle.jc_link.specs.declared.plan_refusal.PlanRefusal.{PlanRefusal}
+use Rattle.jc_run_plans.specs.Plans.{FirstUnfit}
+use Rattle.jc_run_plans.specs.declared.plan_refusal.PlanRefusal.{PlanRefusal}
 use Rattle.jc_command_work.specs.Seen.{stop_seen}
 use Rattle.jc_command_run.specs.PlanStops.{plan_stop, PlanStops}
 

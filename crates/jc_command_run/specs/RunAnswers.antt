@@ -7,7 +7,7 @@ use Rattle.jc_programs.specs.declared.program.ProbeInit.{ProbeInit}
 use Rattle.jc_programs.specs.declared.run_plan.RunPlan.{RunPlan}
 use Rattle.jc_programs.specs.declared.run_plan.ThreadLine.{ThreadLine}
 use Rattle.jc_exec.specs.Writing.{exec_text}
-use Rattle.jc_link.specs.Plans.{IsPlanText, FirstUnfit}
+use Rattle.jc_run_plans.specs.Plans.{IsPlanText, FirstUnfit}
 use Rattle.jc_link_programs.specs.declared.link_refusal.LinkRefusal.{LinkRefusal}
 use Rattle.jc_link_programs.specs.declared.link_refusal.LinkRefusal.TheVariants as refusals
 use Rattle.jc_link_programs.specs.Linking.{IsLinkedClass, IsProgramOf, IsLinkRefusal}

@@ -4,7 +4,7 @@ ghost use Rattle.jc_command_work.specs.Step.{Word};
 ghost use Rattle.jc_command_work.specs.Answered.{Answer, HasOneAnswer};
 ghost use Rattle.jc_command_run.specs.RunAnswers.{RunAnswers};
 
-use jc_link::each_text_is_a_plan_or_has_a_first_unfit_line;
+use jc_run_plans::each_text_is_a_plan_or_has_a_first_unfit_line;
 
 /// Of a run plan's text and class files there is one answer at most: one end, or the same execution data and the same text,
 /// whatever numbers the classes in the frames are given when the files are linked.

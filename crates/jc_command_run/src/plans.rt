@@ -1,15 +1,15 @@
 //! Texts that are no run plan.
 ghost use Rattle.std.specs.Prelude.{◌≡◌, ◌≤◌, length, IfOk, IfErr};
 ghost use Rattle.jc_bytes.specs.Reader.{most_read};
-ghost use Rattle.jc_link.specs.Plans.{IsPlanText};
+ghost use Rattle.jc_run_plans.specs.Plans.{IsPlanText};
 ghost use Rattle.jc_programs.specs.Turns.{IsRunPlan};
 ghost use Rattle.jc_command_run.specs.PlanStops.{plan_stop, PlanStops};
 ghost use Rattle.jc_command_work.specs.Seen.{stop_seen};
 
 use jc_bytes::{Bytes, Fail};
 use jc_command_work::{Fault, Stop};
-use jc_link::{PlanRefusal, read_plan};
 use jc_programs::RunPlan;
+use jc_run_plans::{PlanRefusal, read_plan};
 use std::alloc::Global;
 
 /// How a text that is no run plan stops a command.

@@ -9,7 +9,7 @@ use Rattle.jc_programs.specs.declared.program.Program.{Program}
 use Rattle.jc_emit.specs.TwinProgram.{TwinProgram}
 use Rattle.jc_exec.specs.Store.{Store}
 use Rattle.jc_exec.specs.Writing.{exec_text}
-use Rattle.jc_link.specs.Plans.{IsPlanText}
+use Rattle.jc_run_plans.specs.Plans.{IsPlanText}
 use Rattle.jc_link_programs.specs.Linking.{IsProgramOf}
 use Rattle.jc_link_laws.specs.TwinFiles.{AreWrittenOf, IsShortFile}
 use Rattle.jc_link_laws.proofs.TwinLinkLaws.{twin_program}

@@ -4,7 +4,7 @@ use Rattle.jc_outside.specs.Outside.{FileMap}
 use Rattle.jc_programs.specs.declared.program.Program.{Program}
 use Rattle.jc_programs.specs.declared.run_plan.RunPlan.{RunPlan}
 use Rattle.jc_exec.specs.Writing.{exec_text}
-use Rattle.jc_link.specs.Plans.{IsPlanText}
+use Rattle.jc_run_plans.specs.Plans.{IsPlanText}
 use Rattle.jc_machine_model.specs.CaseText.{case_texts}
 use Rattle.jc_command_work.specs.Step.{Word, World, Landed, to_file, to_out, IsRead}
 use Rattle.jc_command_work.specs.Prefix.{after_writes}

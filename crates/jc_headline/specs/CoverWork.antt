@@ -8,7 +8,7 @@ use Rattle.jc_exec.specs.Store.{Store}
 use Rattle.jc_exec.specs.Writing.{exec_text}
 use Rattle.jc_exec.specs.declared.refusal.ExecRefusal.{ExecRefusal}
 use Rattle.jc_report.specs.declared.row.Counted.{Counted}
-use Rattle.jc_link.specs.Plans.{IsPlanText}
+use Rattle.jc_run_plans.specs.Plans.{IsPlanText}
 use Rattle.jc_link_programs.specs.Linking.{IsLinkRefusal}
 use Rattle.jc_link_programs.specs.declared.link_refusal.LinkRefusal.{LinkRefusal}
 use Rattle.jc_link_programs.specs.declared.link_refusal.LinkRefusal.TheVariants as refusals

@@ -8,7 +8,7 @@ use Rattle.jc_outside.specs.Outside.{FileMap}
 use Rattle.jc_paths.specs.Paths.{FileText, plain, folder}
 use Rattle.jc_programs.specs.declared.program.Program.{Program}
 use Rattle.jc_programs.specs.declared.run_plan.RunPlan.{RunPlan}
-use Rattle.jc_link.specs.Plans.{IsPlanText}
+use Rattle.jc_run_plans.specs.Plans.{IsPlanText}
 use Rattle.jc_link_programs.specs.Linking.{IsProgramOf}
 use Rattle.jc_link_programs.specs.declared.link_refusal.LinkRefusal.{LinkRefusal}
 use Rattle.jc_link_laws.specs.SecondLinking.{IsSecondRefusal}

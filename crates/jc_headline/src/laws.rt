@@ -16,8 +16,7 @@ ghost use Rattle.jc_link_laws.specs.SecondLinking.{IsSecondRefusal};
 ghost use Rattle.jc_headline.specs.FewSlots.{DifferInId, UsesFewSlots};
 ghost use Rattle.jc_headline.specs.FitCover.{DoneCoversFit, FitCoversAreDone, FitCoversHaveWork};
 
-use crate::laws::each_cover_ends_as_its_work;
-use jc_link::each_text_is_a_plan_or_has_a_first_unfit_line;
+use jc_run_plans::each_text_is_a_plan_or_has_a_first_unfit_line;
 
 /// What is asked of `cover` and told contents have exactly one work: its steps, and an end.
 pub fn cover_has_one_work()

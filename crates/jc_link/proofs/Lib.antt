@@ -1,5 +1,0 @@
-mod PlanWordsLaws
-mod PlanNumbersLaws
-mod PlanLaws
-mod PlanLineLaws
-mod PlanAnswerLaws

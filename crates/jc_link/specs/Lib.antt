@@ -1,3 +1,11 @@
-pub mod PlanWords
-pub mod Plans
-pub mod PlanReading
+pub use Rattle.jc_run_plans.specs.PlanWords
+pub use Rattle.jc_run_plans.specs.Plans
+pub use Rattle.jc_run_plans.specs.PlanReading
+pub use Rattle.jc_link_programs.specs.Linking
+pub use Rattle.jc_link_programs.specs.Pairs
+pub use Rattle.jc_link_programs.specs.ProbeInits
+pub use Rattle.jc_link_programs.specs.SameProgram
+pub use Rattle.jc_link_programs.specs.Statics
+pub use Rattle.jc_link_programs.specs.Steps
+pub use Rattle.jc_link_laws.specs.SecondLinking
+pub use Rattle.jc_link_laws.specs.TwinFiles

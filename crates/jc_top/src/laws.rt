@@ -14,7 +14,7 @@ ghost use Rattle.jc_top.specs.FirstWrite.{DecideFirst, WritesBegun};
 ghost use Rattle.jc_top.specs.Work.{the_work};
 
 use jc_command_run::a_run_has_an_answer;
-use jc_link::each_text_is_a_plan_or_has_a_first_unfit_line;
+use jc_run_plans::each_text_is_a_plan_or_has_a_first_unfit_line;
 
 /// Words and told contents have exactly one work: the steps that they ask for, and an end.
 pub fn words_have_one_work()

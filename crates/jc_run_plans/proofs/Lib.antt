@@ -1,0 +1,5 @@
+mod PlanWordsLaws
+mod PlanNumbersLaws
+mod PlanLaws
+mod PlanLineLaws
+mod PlanAnswerLaws

@@ -1,0 +1,3 @@
+pub mod PlanWords
+pub mod Plans
+pub mod PlanReading
