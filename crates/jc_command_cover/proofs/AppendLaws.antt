@@ -1,6 +1,6 @@
 -- The writes of one list, and then those of another: what comes of the two, one behind the other, comes of them all.
 use Rattle.std.proofs.Common.{◌≡◌, List, [], ◌∷◌, ◌++◌, Option, None, Some, inl, inr, sym, ◌∙◌, ap, subst, append_assoc, append-nil}
-use Rattle.jc_command_work.specs.Step.{World, Counts, Landed, Write, Call, Step, call_of, after, Fit, CountRose}
+use Rattle.jc_command_work.specs.Step.{Outside, Counts, Landed, Write, Call, Step, call_of, after, Fit, CountRose}
 use Rattle.jc_command_work.specs.Part.{End, Outcome, wants, gives, stops, Part, writing_all, Begun}
 use Rattle.jc_command_work.specs.Ending.{CameTo, Stops}
 use Rattle.jc_command_work.proofs.Behind.{after-append, fit-append}
@@ -53,18 +53,18 @@ module _ (xs ys : List Write) where
 
 -- ---- how far they came
 
-module _ (landed : Landed) (xs ys : List Write) (old : World) where
-  came_both : (mid new : World) (o : Outcome (Unit {0})) → CameTo landed (writing_all xs) old mid (gives tt) → CameTo landed (writing_all ys) mid new o
+module _ (landed : Landed) (xs ys : List Write) (old : Outside) where
+  came_both : (mid new : Outside) (o : Outcome (Unit {0})) → CameTo landed (writing_all xs) old mid (gives tt) → CameTo landed (writing_all ys) mid new o
       → CameTo landed (writing_all (xs ++ ys)) old new o
   came_both mid new o a b = record {
     steps = a.steps ++ b.steps;
     comes = both_over xs ys a.steps b.steps o a.comes b.comes;
     begun = begun_both xs ys a.steps b.steps a.begun a.comes b.begun;
-    fit = fit-append landed old a.steps b.steps a.fit (subst (λ (w : World). Fit landed w b.steps) a.stand b.fit);
-    stand = b.stand ∙ ap (λ (w : World). after landed w b.steps) a.stand ∙ sym (after-append landed old a.steps b.steps);
+    fit = fit-append landed old a.steps b.steps a.fit (subst (λ (w : Outside). Fit landed w b.steps) a.stand b.fit);
+    stand = b.stand ∙ ap (λ (w : Outside). after landed w b.steps) a.stand ∙ sym (after-append landed old a.steps b.steps);
   }
 
-  stops_first : (new : World) (f f' : Counts) (stop : Option End) → Stops landed (writing_all xs) old new f f' stop → Stops landed (writing_all (xs ++ ys)) old new f f' stop
+  stops_first : (new : Outside) (f f' : Counts) (stop : Option End) → Stops landed (writing_all xs) old new f f' stop → Stops landed (writing_all (xs ++ ys)) old new f f' stop
   stops_first new f f' None (same, a) = (same, record { steps = a.steps; begun = begun_first xs ys a.steps a.begun; fit = a.fit; stand = a.stand })
   stops_first new f f' (Some end) (inl (same, a)) =
       inl (same, record { steps = a.steps; comes = first_stops xs ys a.steps end a.comes; begun = begun_first xs ys a.steps a.begun; fit = a.fit; stand = a.stand })
@@ -79,15 +79,15 @@ module _ (landed : Landed) (xs ys : List Write) (old : World) where
         is = b.is;
       })
 
-  stops_both : (mid new : World) (f g f' : Counts) (stop : Option End) → g ≡ f → CameTo landed (writing_all xs) old mid (gives tt)
+  stops_both : (mid new : Outside) (f g f' : Counts) (stop : Option End) → g ≡ f → CameTo landed (writing_all xs) old mid (gives tt)
       → Stops landed (writing_all ys) mid new g f' stop → Stops landed (writing_all (xs ++ ys)) old new f f' stop
   stops_both mid new f g f' None same a (kept, b) = (
     kept ∙ same,
     record {
       steps = a.steps ++ b.steps;
       begun = begun_both xs ys a.steps b.steps a.begun a.comes b.begun;
-      fit = fit-append landed old a.steps b.steps a.fit (subst (λ (w : World). Fit landed w b.steps) a.stand b.fit);
-      stand = b.stand ∙ ap (λ (w : World). after landed w b.steps) a.stand ∙ sym (after-append landed old a.steps b.steps);
+      fit = fit-append landed old a.steps b.steps a.fit (subst (λ (w : Outside). Fit landed w b.steps) a.stand b.fit);
+      stand = b.stand ∙ ap (λ (w : Outside). after landed w b.steps) a.stand ∙ sym (after-append landed old a.steps b.steps);
     },
   )
   stops_both mid new f g f' (Some end) same a (inl (kept, b)) = inl (kept ∙ same, came_both mid new (stops end) a b)
@@ -102,7 +102,7 @@ module _ (landed : Landed) (xs ys : List Write) (old : World) where
 
 -- ---- the others are left
 
-module _ {Y : Type 0} (landed : Landed) (part : Part Y) (glue : Unit {0} → Y) (xs ys : List Write) (old now mid : World) (f g h : Counts)
+module _ {Y : Type 0} (landed : Landed) (part : Part Y) (glue : Unit {0} → Y) (xs ys : List Write) (old now mid : Outside) (f g h : Counts)
     (so : Reached landed part (writing_all (xs ++ ys)) glue old now f g) where
   pub reached_writes : (h ≡ g) × CameTo landed (writing_all xs) now mid (gives tt) → Reached landed part (writing_all ys) glue old mid f h
   reached_writes (same, came) = record {

@@ -6,7 +6,7 @@ use Rattle.std.specs.declared.alloc.Global.{Global}
 use Rattle.jc_paths.specs.Paths.{in_folder}
 use Rattle.jc_command_work.specs.declared.stop.Stop.{Stop}
 use Rattle.jc_command_work.specs.Seen.{words_of, stop_seen}
-use Rattle.jc_command_work.specs.Step.{Word, World, Counts, Landed, Write}
+use Rattle.jc_command_work.specs.Step.{Word, Outside, Counts, Landed, Write}
 use Rattle.jc_command_work.specs.Part.{End, gives, Part, giving, writing, writing_all, making, never, ◌>>=◌}
 use Rattle.jc_command_work.specs.Ending.{CameTo, Stops, Does}
 use Rattle.jc_command_work.proofs.Behind.{came_then, stops_first, stops_then}
@@ -21,10 +21,10 @@ use Rattle.jc_command_cover.proofs.AppendLaws.{reached_writes, reached_no_writes
 
 -- ---- two writes
 
-nothing : {X : Type 0} (landed : Landed) (w : World) (x : X) → CameTo landed (giving x) w w (gives x)
+nothing : {X : Type 0} (landed : Landed) (w : Outside) (x : X) → CameTo landed (giving x) w w (gives x)
 nothing landed w x = record { steps = []; comes = refl; begun = inl refl; fit = tt; stand = refl }
 
-module _ {E : Type 0} (landed : Landed) (v w : Write) (stop : E → Option End) (old mid new : World) (f g h : Counts) where
+module _ {E : Type 0} (landed : Landed) (v w : Write) (stop : E → Option End) (old mid new : Outside) (f g h : Counts) where
   both_written : (r : Result (Unit {0}) E) → (g ≡ f) × CameTo landed (writing v) old mid (gives tt) → Does landed (writing w) (λ _. tt) stop mid new g h r
       → Does landed (writing_all (v ∷ w ∷ [])) (λ _. tt) stop old new f h r
   both_written (Ok u) (same, came) (same', came') = (
@@ -41,7 +41,7 @@ module _ {E : Type 0} (landed : Landed) (v w : Write) (stop : E → Option End) 
   two_written v' w' v_is w_is r made does =
       subst (λ (ws : List Write). Does landed (writing_all ws) (λ _. tt) stop old new f h r) (ap₂ (λ (x y : Write). x ∷ y ∷ []) v_is w_is) (both_written r made does)
 
-pub first_unwritten : (landed : Landed) (v v' : Write) (ws : List Write) (old mid : World) (f g : Counts) (stop : Option End) → v ≡ v' → Stops landed (writing v) old mid f g stop
+pub first_unwritten : (landed : Landed) (v v' : Write) (ws : List Write) (old mid : Outside) (f g : Counts) (stop : Option End) → v ≡ v' → Stops landed (writing v) old mid f g stop
     → Stops landed (writing_all (v' ∷ ws)) old mid f g stop
 first_unwritten landed v v' ws old mid f g stop v_is stopped =
     subst (λ (x : Write). Stops landed (writing_all (x ∷ ws)) old mid f g stop) v_is (stops_first landed (writing v) (λ _. writing_all ws) old mid f g stop stopped)
@@ -129,14 +129,14 @@ module _ (dest : Word) (looked : List LookedFile) (targets paths : List (String 
 
 module _ (landed : Landed) (dest : Word) (looked : List LookedFile) where
   -- the first so many files were written, and these are the places of the accepted ones
-  pub record WroteFirst (i : ℕ) (old now : World) (f g : Counts) (places : List ℕ) : Type 0 where
+  pub record WroteFirst (i : ℕ) (old now : Outside) (f g : Counts) (places : List ℕ) : Type 0 where
     pub writes : Reached landed (writing_all (all_file_writes dest looked)) (writing_all (all_file_writes dest (drop i looked))) (λ u. u) old now f g
     pub accepted : places ++ places_from i (drop i looked) ≡ places_from 0 looked
 
-  pub files_start : (old : World) (f : Counts) → WroteFirst 0 old old f f []
+  pub files_start : (old : Outside) (f : Counts) → WroteFirst 0 old old f f []
   files_start old f = record { writes = reached_start landed (writing_all (all_file_writes dest looked)) old f; accepted = refl }
 
-  module _ (i : ℕ) (old now mid : World) (f g h : Counts) (places : List ℕ) (so : WroteFirst i old now f g places) (target path : Word) (t : List ℕ) (d : Decision)
+  module _ (i : ℕ) (old now mid : Outside) (f g h : Counts) (places : List ℕ) (so : WroteFirst i old now f g places) (target path : Word) (t : List ℕ) (d : Decision)
       (next : IsNext dest looked i target path t d) where
     abbrev behind : List Write
     behind = all_file_writes dest (drop (i + 1) looked)
@@ -170,7 +170,7 @@ module _ (landed : Landed) (dest : Word) (looked : List LookedFile) where
         subst (λ (o : Option End). Stops landed (writing_all (all_file_writes dest looked)) old mid f h o) (sym none)
         ((reached_file made).ended mid h None (refl, record { steps = []; begun = inl refl; fit = tt; stand = refl }))
 
-  pub files_written : (i : ℕ) → length looked ≤ i → (old now : World) (f g : Counts) (places : List ℕ) → WroteFirst i old now f g places → Written landed dest looked old now f g places
+  pub files_written : (i : ℕ) → length looked ≤ i → (old now : Outside) (f g : Counts) (places : List ℕ) → WroteFirst i old now f g places → Written landed dest looked old now f g places
   files_written i all old now f g places so =
       let none = drop_all i looked all in
       let last = subst (λ (ls : List LookedFile). Reached landed (writing_all (all_file_writes dest looked)) (writing_all (all_file_writes dest ls)) (λ u. u) old now f g) none so.writes in
@@ -181,7 +181,7 @@ module _ (landed : Landed) (dest : Word) (looked : List LookedFile) where
       }
 
 -- one turn of the loop more
-pub turn_written : (landed : Landed) (dest : Word) (looked : List LookedFile) (i index : ℕ) (old now mid : World) (f g h : Counts) (places new : List ℕ) (target path : Word) (t : List ℕ) (d : Decision)
+pub turn_written : (landed : Landed) (dest : Word) (looked : List LookedFile) (i index : ℕ) (old now mid : Outside) (f g h : Counts) (places new : List ℕ) (target path : Word) (t : List ℕ) (d : Decision)
     → IsNext dest looked i target path t d → index ≡ i → WroteFirst landed dest looked i old now f g places
     → (h ≡ g) × CameTo landed (writing_all (file_writes target path t d)) now mid (gives tt) → new ≡ places ++ place_if d index []
     → WroteFirst landed dest looked (i + 1) old mid f h new
@@ -190,7 +190,7 @@ turn_written landed dest looked i index old now mid f g h places new target path
 
 -- ---- the part
 
-module _ (landed : Landed) (dest : Word) (paths : List Word) (read : List (List ℕ)) (looked : List LookedFile) (looked_at : AreLooked paths read looked) (old new : World) (f g : Counts) where
+module _ (landed : Landed) (dest : Word) (paths : List Word) (read : List (List ℕ)) (looked : List LookedFile) (looked_at : AreLooked paths read looked) (old new : Outside) (f g : Counts) where
   abbrev handing : List LookedFile → Part (List LookedFile)
   handing ls = writing_all (all_file_writes dest ls) >>= (λ _. giving ls)
 

@@ -5,7 +5,7 @@ use Rattle.jc_exec.specs.Writing.{exec_text}
 use Rattle.jc_programs.specs.declared.program.Program.{Program}
 use Rattle.jc_programs.specs.declared.run_plan.RunPlan.{RunPlan}
 use Rattle.jc_machine_model.specs.CaseText.{case_texts}
-use Rattle.jc_command_work.specs.Step.{World, Counts, Landed, to_file, to_out}
+use Rattle.jc_command_work.specs.Step.{Outside, Counts, Landed, to_file, to_out}
 use Rattle.jc_command_work.specs.Part.{End, done, gives, Part, Command, ending, deciding, writing, ◌>>=◌}
 use Rattle.jc_command_work.specs.Ending.{CameTo, Stops, Does, Ran}
 use Rattle.jc_command_work.specs.Seen.{stop_seen}
@@ -33,21 +33,21 @@ module _ (landed : Landed) (c : Cover) (plan : RunPlan) (looked : List LookedFil
   abbrev deciding_report : Command
   deciding_report = deciding Reports Clashes >>= reporting
 
-  module _ (old : World) (f : Counts) (bytes : List ℕ) (is : bytes ≡ exec_text (run_store program plan)) where
+  module _ (old : Outside) (f : Counts) (bytes : List ℕ) (is : bytes ≡ exec_text (run_store program plan)) where
     abbrev part : Part (Unit {0})
     part = writing (to_file c.exec (exec_text (run_store program plan)))
 
-    pub exec_unwritten : (new : World) (f' : Counts) (o : Option End) → Stops landed (writing (to_file c.exec bytes)) old new f f' o
+    pub exec_unwritten : (new : Outside) (f' : Counts) (o : Option End) → Stops landed (writing (to_file c.exec bytes)) old new f f' o
         → Stops landed (writing_results c plan looked program) old new f f' o
     exec_unwritten new f' o stopped =
         ran_stopped landed part (λ _. deciding_report) old f new f' o (subst (λ (b : List ℕ). Stops landed (writing (to_file c.exec b)) old new f f' o) is stopped)
 
-    module _ (mid : World) (g : Counts) (wrote : (g ≡ f) × CameTo landed (writing (to_file c.exec bytes)) old mid (gives tt)) where
+    module _ (mid : Outside) (g : Counts) (wrote : (g ≡ f) × CameTo landed (writing (to_file c.exec bytes)) old mid (gives tt)) where
       written : (g ≡ f) × CameTo landed part old mid (gives tt)
       written = subst (λ (b : List ℕ). (g ≡ f) × CameTo landed (writing (to_file c.exec b)) old mid (gives tt)) is wrote
 
       -- the execution data stands, and the rest goes on
-      rest : (new : World) (f' : Counts) (r : Result (Unit {0}) Stop) → Ran landed deciding_report stop_seen mid new g f' r → Ran landed (writing_results c plan looked program) stop_seen old new f f' r
+      rest : (new : Outside) (f' : Counts) (r : Result (Unit {0}) Stop) → Ran landed deciding_report stop_seen mid new g f' r → Ran landed (writing_results c plan looked program) stop_seen old new f f' r
       rest new f' r ran = ran_then landed part (λ _. deciding_report) old f stop_seen tt mid new g f' r written ran
 
       pub no_report : (store : Store) (texts : List (List ℕ)) → store ≡ run_store program plan → texts ≡ accepted_texts looked → (stop : Stop) → StopsBy (IsClashEnd c.exec store texts) (stop_seen stop)
@@ -59,16 +59,16 @@ module _ (landed : Landed) (c : Cover) (plan : RunPlan) (looked : List LookedFil
           (came_decided {A = List ℕ} landed Reports Clashes mid g (λ csv. csv) stop_seen (Err stop) so))
 
       module _ (csv : List ℕ) (reports : Reports csv) where
-        behind : (new : World) (f' : Counts) (r : Result (Unit {0}) Stop) → Ran landed (reporting csv) stop_seen mid new g f' r → Ran landed (writing_results c plan looked program) stop_seen old new f f' r
+        behind : (new : Outside) (f' : Counts) (r : Result (Unit {0}) Stop) → Ran landed (reporting csv) stop_seen mid new g f' r → Ran landed (writing_results c plan looked program) stop_seen old new f f' r
         behind new f' r ran =
             rest new f' r (ran_then landed (deciding Reports Clashes) reporting mid g stop_seen csv mid new g f' r
             (came_decided {E = Stop} landed Reports Clashes mid g (λ x. x) stop_seen (Ok csv) reports) ran)
 
-        pub report_unwritten : (new : World) (f' : Counts) (stop : Stop) → Stops landed (writing (to_file c.csv csv)) mid new g f' (stop_seen stop)
+        pub report_unwritten : (new : Outside) (f' : Counts) (stop : Stop) → Stops landed (writing (to_file c.csv csv)) mid new g f' (stop_seen stop)
             → Stops landed (writing_results c plan looked program) old new f f' (stop_seen stop)
         report_unwritten new f' stop stopped = behind new f' (Err stop) (ran_stopped landed (writing (to_file c.csv csv)) (λ _. printing) mid g new f' (stop_seen stop) stopped)
 
-        pub results_written : (next new : World) (h f' : Counts) (text : List ℕ) (r : Result (Unit {0}) Stop) → text ≡ case_texts program 1 plan.cases
+        pub results_written : (next new : Outside) (h f' : Counts) (text : List ℕ) (r : Result (Unit {0}) Stop) → text ≡ case_texts program 1 plan.cases
             → (h ≡ g) × CameTo landed (writing (to_file c.csv csv)) mid next (gives tt) → Does landed (writing (to_out text)) (λ _. tt) stop_seen next new h f' r
             → Ran landed (writing_results c plan looked program) stop_seen old new f f' r
         results_written next new h f' text r text_is reported printed =

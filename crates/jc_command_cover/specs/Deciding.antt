@@ -4,7 +4,7 @@ use Rattle.jc_outside.specs.declared.files.Files.{Ghosts as OfFiles}
 use Rattle.jc_outside.specs.declared.sink.Sink.{Ghosts as OfSink}
 use Rattle.jc_command_work.specs.declared.stop.Stop.{Stop}
 use Rattle.jc_command_work.specs.Seen.{stop_seen}
-use Rattle.jc_command_work.specs.Step.{world, counts}
+use Rattle.jc_command_work.specs.Step.{outside, counts}
 use Rattle.jc_command_work.specs.Part.{End, Command}
 use Rattle.jc_command_work.specs.Ending.{Ran}
 
@@ -22,7 +22,7 @@ Decides Is Ends value stop (Err e) = StopsBy Ends (stop e)
 abbrev pub RanAside : {F O A : Type 0} → OfFiles F → OfSink O → Command → (old new : F × O) → Result A Stop → Type 0
 RanAside of_files of_out command old new result =
     (err : Option (List ℕ)) (errs : ℕ) → Ran of_files.landed command stop_seen
-    (world (of_files.contents old.0) (of_out.told old.1) err)
-    (world (of_files.contents new.0) (of_out.told new.1) err)
+    (outside (of_files.contents old.0) (of_out.told old.1) err)
+    (outside (of_files.contents new.0) (of_out.told new.1) err)
     (counts (of_files.read_faults old.0) (of_files.write_faults old.0) (of_out.faults old.1) errs)
     (counts (of_files.read_faults new.0) (of_files.write_faults new.0) (of_out.faults new.1) errs) result

@@ -11,9 +11,11 @@ ghost use Rattle.jc_command_work.specs.Handed.{BetweenFiles};
 
 use crate::each::each_answer;
 use crate::inputs::read_files;
-use jc_base::{Analysed, Body, Bytes, Fail, Files, Memory, Refusal};
+use jc_bytes::{Bytes, Fail, Memory, Refusal};
 use jc_command_work::{Stop, Write, class_stop, keep};
 use jc_instrument::analyse;
+use jc_methods::{Analysed, Body};
+use jc_outside::Files;
 use std::alloc::{AllocError, Global};
 use std::marker::Sync;
 use std::thread::Threads;

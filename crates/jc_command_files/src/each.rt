@@ -4,7 +4,7 @@ ghost use Rattle.std.specs.List.{AllZip, flat_map};
 ghost use Rattle.std.specs.Fn.{FnReturnsAt};
 ghost use Rattle.jc_command_files.specs.Each.{TakesEach};
 
-use jc_base::{Bytes, Memory};
+use jc_bytes::{Bytes, Memory};
 use std::alloc::Global;
 use std::marker::{Send, Sync};
 use std::thread;

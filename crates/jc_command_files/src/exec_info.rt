@@ -10,9 +10,10 @@ ghost use Rattle.jc_command_work.specs.Seen.{texts_of};
 ghost use Rattle.jc_command_work.specs.Answered.{AnswersWith, Prepares};
 ghost use Rattle.jc_command_work.specs.Handed.{BetweenFiles};
 
-use jc_base::{Bytes, Fail, Files, Memory};
+use jc_bytes::{Bytes, Fail, Memory};
 use jc_command_work::{Stop, Write, exec_stop, keep, read_all};
 use jc_exec::{ClassHits, ExecRefusal, ExecStore, Session};
+use jc_outside::Files;
 use std::alloc::{AllocError, Global};
 
 fn file_line(alloc: Global, file: &str) -> Result<Vec<u8>, AllocError>

@@ -6,8 +6,9 @@ ghost use Rattle.jc_command_work.specs.Ending.{DoesFiles};
 ghost use Rattle.jc_command_work.specs.Handed.{BetweenFiles};
 ghost use Rattle.jc_command_work.specs.Seen.{words_of, stop_seen};
 
-use jc_base::{Bytes, Files};
+use jc_bytes::Bytes;
 use jc_command_work::{Stop, as_texts, read_all};
+use jc_outside::Files;
 use std::alloc::Global;
 
 /// The bytes of the class files at the paths, in order.

@@ -2,7 +2,7 @@
 ghost use Rattle.std.specs.Prelude.{◌≡◌, string_bytes, IfOk};
 ghost use Rattle.jc_command_files.specs.Lines.{refused_line, instrumented_line, unchanged_line, accepted_line};
 
-use jc_base::Refusal;
+use jc_bytes::Refusal;
 use jc_command_work::class_refusal_text;
 use std::alloc::{AllocError, Global};
 

@@ -8,9 +8,10 @@ ghost use Rattle.jc_command_work.specs.Answered.{AnswersWith, Prepares};
 ghost use Rattle.jc_command_work.specs.Handed.{BetweenFiles};
 ghost use Rattle.jc_command_files.specs.Merge.{MergeAnswers};
 
-use jc_base::{Bytes, Files};
+use jc_bytes::Bytes;
 use jc_command_work::{Stop, Write, exec_stop, read_all};
 use jc_exec::ExecStore;
+use jc_outside::Files;
 use std::alloc::Global;
 
 /// The union of the execution data in the texts of the inputs, in order.

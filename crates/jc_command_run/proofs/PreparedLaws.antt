@@ -4,7 +4,7 @@ use Rattle.std.specs.declared.alloc.Global.{Global}
 use Rattle.std.proofs.lemmas.List.{length-map}
 use Rattle.jc_command_work.specs.declared.output.Write.{Write as Written}
 use Rattle.jc_command_work.specs.declared.stop.Stop.{Stop}
-use Rattle.jc_command_work.specs.Step.{Word, World, Counts, Landed, AreTexts}
+use Rattle.jc_command_work.specs.Step.{Word, Outside, Counts, Landed, AreTexts}
 use Rattle.jc_command_work.specs.Part.{End, gives, Part, reading_all}
 use Rattle.jc_command_work.specs.Ending.{CameTo, Stops, Does}
 use Rattle.jc_command_work.specs.Answered.{Answer, AnswersWith, preparing}
@@ -17,14 +17,14 @@ as_many_words texts words same = sym (length-map texts (λ (t : Bor (List ℕ)).
 
 module _ (landed : Landed) where
   -- memory was refused before any step
-  pub none_made : {X : Type 0} (part : Part X) (w : World) (f : Counts) → Stops landed part w w f f None
+  pub none_made : {X : Type 0} (part : Part X) (w : Outside) (f : Counts) → Stops landed part w w f f None
   none_made part w f = (refl, record { steps = []; begun = inl refl; fit = tt; stand = refl })
 
   -- what was read of paths are texts
-  pub were_read : (paths : List Word) (texts : List (List ℕ)) (old mid : World) → CameTo landed (reading_all paths) old mid (gives texts) → AreTexts paths texts
+  pub were_read : (paths : List Word) (texts : List (List ℕ)) (old mid : Outside) → CameTo landed (reading_all paths) old mid (gives texts) → AreTexts paths texts
   were_read paths texts old mid came = texts_read landed old paths came.steps texts came.comes came.fit
 
-  module _ (inputs others : List Word) (same : others ≡ inputs) (Answers : List (List ℕ) → Answer → Type 0) (old mid : World) (f g : Counts) where
+  module _ (inputs others : List Word) (same : others ≡ inputs) (Answers : List (List ℕ) → Answer → Type 0) (old mid : Outside) (f g : Counts) where
     -- an input couldn't be read, or memory was refused
     pub unread_so : (stop : Option End) → Stops landed (reading_all others) old mid f g stop → Stops landed (preparing inputs Answers) old mid f g stop
     unread_so stop stopped = unprepared landed inputs Answers old mid f g stop (subst (λ (ps : List Word). Stops landed (reading_all ps) old mid f g stop) same stopped)

@@ -23,7 +23,7 @@ use Rattle.jc_link_programs.proofs.OneRefusalLaws.{one_link_reason, program_or_r
 use Rattle.jc_link_laws.proofs.SomeProgramLaws.{program_or_reason}
 use Rattle.jc_machine_laws.specs.Frameless.{frameless}
 use Rattle.jc_command_work.specs.declared.status.Fault.TheVariants as fault
-use Rattle.jc_command_work.specs.Step.{Landed, Step, IsFile, Fit, World, to_out}
+use Rattle.jc_command_work.specs.Step.{Landed, Step, IsFile, Fit, Outside, to_out}
 use Rattle.jc_command_work.specs.Part.{End, done, Outcome, wants, gives, stops, Part, ending, deciding, writing, ◌>>=◌}
 use Rattle.jc_command_work.specs.Answered.{refusal_of}
 use Rattle.jc_command_work.specs.OneWay.{IsOver, OneDecision, HasOne}
@@ -141,7 +141,7 @@ module _ (landed : Landed) (n : ℕ) (within : n ≤ 1000) where
       has_then_if landed (deciding (IsReadable a.bytes) (IsLongEnd a.bytes)) (λ _. deciding (IsRunProgram (a.bytes ∷ [])) (IsUnlinkedEnd a.bytes))
       (λ w told. one_deciding landed w _ _ (reads a.bytes)) behind
     where
-      behind : (w : World) (steps : List Step) (x : Unit {0}) → deciding (IsReadable a.bytes) (IsLongEnd a.bytes) steps (gives x) → Fit landed w steps
+      behind : (w : Outside) (steps : List Step) (x : Unit {0}) → deciding (IsReadable a.bytes) (IsLongEnd a.bytes) steps (gives x) → Fit landed w steps
           → HasOne landed (deciding (IsRunProgram (a.bytes ∷ [])) (IsUnlinkedEnd a.bytes))
       behind w [] x short fits v told = one_deciding landed v _ _ (links a.bytes (written_bytes (sample_file n) (sample_bytes n within) a is) short)
       behind w (s ∷ ss) x none fits v told = absurd none
@@ -150,7 +150,7 @@ module _ (landed : Landed) (n : ℕ) (within : n ≤ 1000) where
   has_line =
       has_then_if landed (deciding (IsInstrumentedFile (sample_file n)) (IsRefusedEnd (sample_file n))) (line_of n) (λ w told. one_deciding landed w _ _ (instruments (sample_file n) file)) behind
     where
-      behind : (w : World) (steps : List Step) (a : Instrumented) → deciding (IsInstrumentedFile (sample_file n)) (IsRefusedEnd (sample_file n)) steps (gives a) → Fit landed w steps
+      behind : (w : Outside) (steps : List Step) (a : Instrumented) → deciding (IsInstrumentedFile (sample_file n)) (IsRefusedEnd (sample_file n)) steps (gives a) → Fit landed w steps
           → HasOne landed (line_of n a)
       behind w [] a is fits = has_then landed (linking a.bytes) (λ program. running n a.probes program) (has_linking a is) (λ program. has_running a.probes program a is)
       behind w (s ∷ ss) a none fits = absurd none

@@ -2,7 +2,7 @@
 use Rattle.std.specs.Prelude.{⊤, ℕ, List, [], Option, None, Some, Result, Ok, Err}
 use Rattle.jc_outside.specs.Outside.{FileMap}
 use Rattle.jc_command_work.specs.declared.stop.Stop.{Stop}
-use Rattle.jc_command_work.specs.Step.{Landed, world, counts}
+use Rattle.jc_command_work.specs.Step.{Landed, outside, counts}
 use Rattle.jc_command_work.specs.Part.{End, gives, stops, Part, Command}
 use Rattle.jc_command_work.specs.Ending.{Ran}
 use Rattle.jc_command_work.specs.Seen.{stop_seen}
@@ -20,5 +20,5 @@ Decides part value (Err stop) = EndsAtOnce part (stop_seen stop)
 -- what a function did that takes `out` alone and does a command but for its last message
 abbrev pub RanOut : {A : Type 0} → Command → (old new : Option (List ℕ)) → (outs outs' : ℕ) → Result A Stop → Type 0
 RanOut command old new outs outs' result =
-    (landed : Landed) (contents : Option FileMap) (err : Option (List ℕ)) (reads writes errs : ℕ) → Ran landed command stop_seen (world contents old err) (world contents new err)
+    (landed : Landed) (contents : Option FileMap) (err : Option (List ℕ)) (reads writes errs : ℕ) → Ran landed command stop_seen (outside contents old err) (outside contents new err)
     (counts reads writes outs errs) (counts reads writes outs' errs) result

@@ -4,7 +4,7 @@ use Rattle.std.specs.List.{AllByRecursion}
 use Rattle.std.specs.declared.alloc.Global.{Global}
 use Rattle.jc_command_work.specs.declared.output.Write.{Write as Written}
 use Rattle.jc_command_work.specs.declared.stop.Stop.{Stop}
-use Rattle.jc_command_work.specs.Step.{Word, IsFile, AreTexts, World, Counts, Landed, Write, to_read, Step, has_read, has_no, has_listed, has_written, Fit, after}
+use Rattle.jc_command_work.specs.Step.{Word, IsFile, AreTexts, Outside, Counts, Landed, Write, to_read, Step, has_read, has_no, has_listed, has_written, Fit, after}
 use Rattle.jc_command_work.specs.Part.{End, done, unread, wants, gives, stops, Part, giving, ending, reading, reading_all, writing_all, ◌>>=◌}
 use Rattle.jc_command_work.specs.Ending.{CameTo, Stops, Does, Ran}
 use Rattle.jc_command_work.specs.OneWay.{IsOver, HasOne, OneDecision}
@@ -19,7 +19,7 @@ use Rattle.jc_command_work.proofs.Reaching.{was_decided, was_ended, reached_star
 -- ---- what was read
 
 -- a part behind another hands on what the second hands on
-pub handed_on : {X Y : Type 0} (landed : Landed) (p : Part X) (q : X → Part Y) (w : World) (steps : List Step) (y : Y) → (p >>= q) steps (gives y) → Fit landed w steps
+pub handed_on : {X Y : Type 0} (landed : Landed) (p : Part X) (q : X → Part Y) (w : Outside) (steps : List Step) (y : Y) → (p >>= q) steps (gives y) → Fit landed w steps
     → (front : List Step) × (behind : List Step) × (x : X) × p front (gives x) × q x behind (gives y) × Fit landed w front × Fit landed (after landed w front) behind
 handed_on landed p q w steps y (inl within) fits = absurd within
 handed_on landed p q w steps y (inr h) fits =
@@ -30,7 +30,7 @@ pub given : {X : Type 0} (x y : X) (steps : List Step) → giving x steps (gives
 given x y [] is = same_value y x is
 given x y (s ∷ ss) is = absurd is
 
-pub file_read : (landed : Landed) (w : World) (path text : List ℕ) (steps : List Step) → reading path steps (gives text) → Fit landed w steps → IsFile text
+pub file_read : (landed : Landed) (w : Outside) (path text : List ℕ) (steps : List Step) → reading path steps (gives text) → Fit landed w steps → IsFile text
 file_read landed w path text [] is fits = absurd (not_gives text (wants (to_read path)) is tt)
 file_read landed w path text (has_read p b ∷ []) is fits = subst IsFile (sym (same_value text b is.1)) fits.0.file
 file_read landed w path text (has_no p ∷ []) is fits = absurd (not_gives text (stops (unread path)) is.1 tt)
@@ -39,7 +39,7 @@ file_read landed w path text (has_no p ∷ s ∷ ss) is fits = absurd is
 file_read landed w path text (has_listed p b ∷ ss) is fits = absurd is
 file_read landed w path text (has_written v ∷ ss) is fits = absurd is
 
-pub texts_read : (landed : Landed) (w : World) (paths : List Word) (steps : List Step) (read : List (List ℕ)) → reading_all paths steps (gives read) → Fit landed w steps → AreTexts paths read
+pub texts_read : (landed : Landed) (w : Outside) (paths : List Word) (steps : List Step) (read : List (List ℕ)) → reading_all paths steps (gives read) → Fit landed w steps → AreTexts paths read
 texts_read landed w [] steps read is fits = subst (AreTexts []) (sym (given [] read steps is)) tt
 texts_read landed w (p ∷ ps) steps read is fits =
     let (front, behind, text, first, next, fits', fits'') = handed_on landed (reading p) _ w steps read is fits in
@@ -96,7 +96,7 @@ module _ (landed : Landed) (inputs : List Word) (Answers : List (List ℕ) → A
   -- ---- functions that do its parts
 
   -- the inputs were read, and what was made of them is decided
-  pub prepared : (old mid : World) (f g : Counts) (texts : List (List ℕ)) (r : Result (Vec Written Global) Stop)
+  pub prepared : (old mid : Outside) (f g : Counts) (texts : List (List ℕ)) (r : Result (Vec Written Global) Stop)
       → (g ≡ f) × CameTo landed (reading_all inputs) old mid (gives texts) → AnswersWith (Answers texts) r
       → Does landed (preparing inputs Answers) (λ writes. map write_seen writes.items) stop_seen old mid f g r
   prepared old mid f g texts (Ok writes) (same, came) is = (
@@ -117,11 +117,11 @@ module _ (landed : Landed) (inputs : List Word) (Answers : List (List ℕ) → A
           )
 
   -- an input couldn't be read, or memory was refused
-  pub unprepared : (old mid : World) (f g : Counts) (stop : Option End) → Stops landed (reading_all inputs) old mid f g stop → Stops landed (preparing inputs Answers) old mid f g stop
+  pub unprepared : (old mid : Outside) (f g : Counts) (stop : Option End) → Stops landed (reading_all inputs) old mid f g stop → Stops landed (preparing inputs Answers) old mid f g stop
   unprepared old mid f g stop stopped = stops_first landed (reading_all inputs) (λ ts. answering (Answers ts)) old mid f g stop stopped
 
   -- what was decided is written
-  pub ran_answered : (old mid new : World) (f g f' : Counts) (writes : List Write) (r : Result (Unit {0}) Stop)
+  pub ran_answered : (old mid new : Outside) (f g f' : Counts) (writes : List Write) (r : Result (Unit {0}) Stop)
       → (g ≡ f) × CameTo landed (preparing inputs Answers) old mid (gives writes) → Does landed (writing_all writes) (λ _. tt) stop_seen mid new g f' r
       → Ran landed (answered inputs Answers) stop_seen old new f f' r
   ran_answered old mid new f g f' writes r (same, came) does =
@@ -129,7 +129,7 @@ module _ (landed : Landed) (inputs : List Word) (Answers : List (List ℕ) → A
       let next = reached_next landed command old f (preparing inputs Answers) making_all (λ y. y) old f (reached_start landed command old f) writes mid g same came in
       ran_last landed command old mid f g (writing_all writes) next stop_seen new f' r does
 
-  pub ran_unprepared : (old mid : World) (f g : Counts) (stop : Option End) → Stops landed (preparing inputs Answers) old mid f g stop → Stops landed (answered inputs Answers) old mid f g stop
+  pub ran_unprepared : (old mid : Outside) (f g : Counts) (stop : Option End) → Stops landed (preparing inputs Answers) old mid f g stop → Stops landed (answered inputs Answers) old mid f g stop
   ran_unprepared old mid f g stop stopped = stops_first landed (preparing inputs Answers) making_all old mid f g stop stopped
 
 -- ---- what was read is files

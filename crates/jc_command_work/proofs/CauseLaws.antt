@@ -3,7 +3,7 @@ use Rattle.std.proofs.Common.{◌≡◌, ◌⊎◌, ℕ, List, [], ◌∷◌, in
 use Rattle.jc_command_work.specs.declared.status.Fault.{Fault}
 use Rattle.jc_command_work.specs.declared.status.Status.{Status}
 use Rattle.jc_command_work.specs.declared.status.Status.TheVariants as status
-use Rattle.jc_command_work.specs.Step.{Word, World, Counts, Rises, Landed, Write, to_file, to_out, to_err, Call, to_read, to_list, to_write, Step, has_read, has_no, has_listed, has_written, call_of, Broken, CountRose}
+use Rattle.jc_command_work.specs.Step.{Word, Outside, Counts, Rises, Landed, Write, to_file, to_out, to_err, Call, to_read, to_list, to_write, Step, has_read, has_no, has_listed, has_written, call_of, Broken, CountRose}
 use Rattle.jc_command_work.specs.Part.{End, done, refused, misused, unread, unwritten, unprinted, status_of, message_of, failure, wants, gives, stops, Part, Command, giving, ending, deciding, reading, writing, reading_all, writing_all, ◌>>=◌}
 use Rattle.jc_command_work.specs.Ending.{CameTo, BrokeOff, SaysLast, IsOutOfMemory, Ends, NoneRose}
 use Rattle.jc_command_work.specs.Texts.{fault_text}
@@ -99,16 +99,16 @@ rose_for (to_write (to_err text)) f g f' rose kept = rises_more f.errs g.errs f'
 
 -- ---- the cause
 
-module _ (landed : Landed) (command : Command) (old new : World) (f f' : Counts) where
-  ended_so : (end : End) (stands : World) → CameTo landed command old stands (stops end) → SaysLast (message_of end) stands new f f' → IsOwnEnd end → Cause landed command old new f f' (status_of end)
-  ended_so done stands came says own = (says.0, subst (λ (w : World). CameTo landed command old w (stops done)) (sym says.1) came)
+module _ (landed : Landed) (command : Command) (old new : Outside) (f f' : Counts) where
+  ended_so : (end : End) (stands : Outside) → CameTo landed command old stands (stops end) → SaysLast (message_of end) stands new f f' → IsOwnEnd end → Cause landed command old new f f' (status_of end)
+  ended_so done stands came says own = (says.0, subst (λ (w : Outside). CameTo landed command old w (stops done)) (sym says.1) came)
   ended_so (refused fault line) stands came says own = (line, record { stands = stands; came = came; says = says })
   ended_so misused stands came says own = record { stands = stands; came = came; says = says }
   ended_so (unread path) stands came says own = inl (path, record { stands = stands; came = came; says = says })
   ended_so (unwritten path) stands came says own = absurd own
   ended_so unprinted stands came says own = absurd own
 
-  cut_so : (end : End) (stands : World) (at : Counts) (b : BrokeOff landed command old stands f at end) → SaysLast (message_of end) stands new at f' → Cause landed command old new f f' (status_of end)
+  cut_so : (end : End) (stands : Outside) (at : Counts) (b : BrokeOff landed command old stands f at end) → SaysLast (message_of end) stands new at f' → Cause landed command old new f f' (status_of end)
   cut_so end stands at b says =
       subst (λ (e : End). Cause landed command old new f f' (status_of e)) (sym b.is)
       (by b.call b.came b.rose b.broken (subst (λ (e : End). SaysLast (message_of e) stands new at f') b.is says))

@@ -2,7 +2,7 @@
 use Rattle.std.proofs.Common.{◌≡◌, ℕ, List, [], ◌∷◌, ◌++◌, Option, None, inl, map, drop, get_or, length, ◌+◌, ◌<◌, ◌≤◌, refl, sym, ◌∙◌, ap, subst, append_assoc, append-nil, drop-cons, add-one}
 use Rattle.std.proofs.lemmas.List.{drop_all}
 use Rattle.jc_paths.specs.Paths.{FileText}
-use Rattle.jc_command_work.specs.Step.{Word, World, Counts, Landed}
+use Rattle.jc_command_work.specs.Step.{Word, Outside, Counts, Landed}
 use Rattle.jc_command_work.specs.Part.{End, gives, giving, ◌>>=◌}
 use Rattle.jc_command_work.specs.Ending.{CameTo, Stops}
 use Rattle.jc_command_work.specs.Folders.{once, paths_of, all_paths, files_of}
@@ -11,13 +11,13 @@ use Rattle.jc_command_work.proofs.Reaching.{Reached, reached_start, reached_next
 
 module _ {A : Type 0} (landed : Landed) (named : A → FileText) (xs : List A) where
   -- the words so far were listed
-  abbrev pub Lists : (i : ℕ) (old now : World) (f g : Counts) (paths : List Word) → Type 0
+  abbrev pub Lists : (i : ℕ) (old now : Outside) (f g : Counts) (paths : List Word) → Type 0
   Lists i old now f g paths = Reached landed (all_paths (map named xs)) (all_paths (map named (drop i xs))) (λ more. paths ++ more) old now f g
 
-  pub lists_start : (old : World) (f : Counts) → Lists 0 old old f f []
+  pub lists_start : (old : Outside) (f : Counts) → Lists 0 old old f f []
   lists_start old f = reached_start landed (all_paths (map named xs)) old f
 
-  module _ (i : ℕ) (d : A) (within : i < length xs) (file : FileText) (is : file ≡ named (get_or xs i d)) (old now mid : World) (f g h : Counts) (paths : List Word) (so : Lists i old now f g paths) where
+  module _ (i : ℕ) (d : A) (within : i < length xs) (file : FileText) (is : file ≡ named (get_or xs i d)) (old now mid : Outside) (f g h : Counts) (paths : List Word) (so : Lists i old now f g paths) where
     next_word : map named (drop i xs) ≡ file ∷ map named (drop (i + 1) xs)
     next_word =
         ap (map named) (drop-cons xs i d within) ∙ ap (λ (n : ℕ). named (get_or xs i d) ∷ map named (drop n xs)) (sym (add-one i))
@@ -46,7 +46,7 @@ module _ {A : Type 0} (landed : Landed) (named : A → FileText) (xs : List A) w
         subst (λ (o : Option End). Stops landed (all_paths (map named xs)) old mid f h o) (sym none)
         ((word_listed ps came).ended mid h None (refl, record { steps = []; begun = inl refl; fit = tt; stand = refl }))
 
-  pub words_listed : (i : ℕ) → length xs ≤ i → (old now : World) (f g : Counts) (paths : List Word) → Lists i old now f g paths
+  pub words_listed : (i : ℕ) → length xs ≤ i → (old now : Outside) (f g : Counts) (paths : List Word) → Lists i old now f g paths
       → (g ≡ f) × CameTo landed (all_paths (map named xs)) old now (gives paths)
   words_listed i not old now f g paths so =
       let last = subst (λ (l : List FileText). Reached landed (all_paths (map named xs)) (all_paths l) (λ more. paths ++ more) old now f g) (ap (map named) (drop_all i xs not)) so in (
@@ -57,7 +57,7 @@ module _ {A : Type 0} (landed : Landed) (named : A → FileText) (xs : List A) w
 
 -- ---- the files
 
-module _ (landed : Landed) (files : List FileText) (old mid : World) (f g : Counts) where
+module _ (landed : Landed) (files : List FileText) (old mid : Outside) (f g : Counts) where
   pub files_listed : (paths kept : List Word) → kept ≡ once [] paths → (g ≡ f) × CameTo landed (all_paths files) old mid (gives paths)
       → (g ≡ f) × CameTo landed (files_of files) old mid (gives kept)
   files_listed paths kept is (same, came) = (

@@ -8,19 +8,19 @@ use Rattle.jc_outside.specs.declared.sink.SinkFault.{SinkFault}
 use Rattle.jc_bytes.specs.ByteLists.{AreBytes}
 use Rattle.jc_bytes.specs.Reader.{most_read}
 use Rattle.jc_outside.specs.Outside.{ListGives, ListCause, FileMap, WhereTold, ReadGives, ReadCause, WriteLeaves, WriteCause, PutLeaves, PutCause}
-use Rattle.jc_command_work.specs.Step.{Rises, World, world, Counts, counts, Landed, Write, to_file, to_out, to_err, Call, to_read, to_list, to_write, has_read, has_no, has_listed, has_written, after_write, grown, Broken, FileBroken, TextBroken, CountRose, CantRead, Told}
+use Rattle.jc_command_work.specs.Step.{Rises, Outside, outside, Counts, counts, Landed, Write, to_file, to_out, to_err, Call, to_read, to_list, to_write, has_read, has_no, has_listed, has_written, after_write, grown, Broken, FileBroken, TextBroken, CountRose, CantRead, Told}
 use Rattle.jc_command_work.specs.Part.{failure, unread, wants, gives, Part, reading, listing, writing}
 use Rattle.jc_command_work.specs.Ending.{CameTo, Stops}
 use Rattle.jc_command_work.specs.Seen.{stop_seen, read_stop}
 
 -- ---- a write
 
-pub wrote : (landed : Landed) (old new : World) (f f' : Counts) (write : Write) → f' ≡ f → new ≡ after_write landed old write → (f' ≡ f) × CameTo landed (writing write) old new (gives tt)
+pub wrote : (landed : Landed) (old new : Outside) (f f' : Counts) (write : Write) → f' ≡ f → new ≡ after_write landed old write → (f' ≡ f) × CameTo landed (writing write) old new (gives tt)
 wrote landed old new f f' write same is =
     (same, record { steps = has_written write ∷ []; comes = (refl, refl); begun = inr ([], has_written write, refl, refl); fit = (tt, tt); stand = is })
 
 -- a call that a part wants first, and that failed
-pub failed_first : {X : Type 0} (landed : Landed) (part : Part X) (old new : World) (f f' : Counts) (call : Call) → part [] (wants call) → Broken landed old call new → CountRose call f f'
+pub failed_first : {X : Type 0} (landed : Landed) (part : Part X) (old new : Outside) (f f' : Counts) (call : Call) → part [] (wants call) → Broken landed old call new → CountRose call f f'
     → Stops landed part old new f f' (Some (failure call))
 failed_first landed part old new f f' call first broken rose = inr (record {
   call = call;
@@ -32,7 +32,7 @@ failed_first landed part old new f f' call first broken rose = inr (record {
 })
 
 -- no step was made, and memory was refused
-pub nothing_yet : {X : Type 0} (landed : Landed) (part : Part X) (old : World) (f : Counts) → Stops landed part old old f f None
+pub nothing_yet : {X : Type 0} (landed : Landed) (part : Part X) (old : Outside) (f : Counts) → Stops landed part old old f f None
 nothing_yet landed part old f = (refl, record { steps = []; begun = inl refl; fit = tt; stand = refl })
 
 write_rises : (old new : ℕ) (f : FileFault) → WriteCause old new (Err f) → Rises old new
@@ -59,24 +59,24 @@ text_broken (Some t) new piece f leaves = leaves
 
 module _ (landed : Landed) (k k' : Option FileMap) (out err : Option (List ℕ)) (r r' w w' outs errs : ℕ) where
   pub wrote_file : (path bytes : List ℕ) → WriteLeaves (landed path bytes) path k k' (Ok tt) → WriteCause w w' (Ok tt) → r' ≡ r
-      → (counts r' w' outs errs ≡ counts r w outs errs) × CameTo landed (writing (to_file path bytes)) (world k out err) (world k' out err) (gives tt)
+      → (counts r' w' outs errs ≡ counts r w outs errs) × CameTo landed (writing (to_file path bytes)) (outside k out err) (outside k' out err) (gives tt)
   wrote_file path bytes leaves cause same =
-      wrote landed (world k out err) (world k' out err) (counts r w outs errs) (counts r' w' outs errs) (to_file path bytes) (λ i. counts (same i) (cause i) outs errs)
-      (ap (λ (c : Option FileMap). world c out err) (file_written (landed path bytes) path k k' leaves))
+      wrote landed (outside k out err) (outside k' out err) (counts r w outs errs) (counts r' w' outs errs) (to_file path bytes) (λ i. counts (same i) (cause i) outs errs)
+      (ap (λ (c : Option FileMap). outside c out err) (file_written (landed path bytes) path k k' leaves))
 
   pub broke_file : (path bytes : List ℕ) (f : FileFault) → WriteLeaves (landed path bytes) path k k' (Err f) → WriteCause w w' (Err f) → r' ≡ r
-      → Stops landed (writing (to_file path bytes)) (world k out err) (world k' out err) (counts r w outs errs) (counts r' w' outs errs) (Some (failure (to_write (to_file path bytes))))
+      → Stops landed (writing (to_file path bytes)) (outside k out err) (outside k' out err) (counts r w outs errs) (counts r' w' outs errs) (Some (failure (to_write (to_file path bytes))))
   broke_file path bytes f leaves cause same =
-      failed_first landed (writing (to_file path bytes)) (world k out err) (world k' out err) (counts r w outs errs) (counts r' w' outs errs) (to_write (to_file path bytes)) refl
+      failed_first landed (writing (to_file path bytes)) (outside k out err) (outside k' out err) (counts r w outs errs) (counts r' w' outs errs) (to_write (to_file path bytes)) refl
       (file_broken (landed path bytes) path k k' f leaves, refl, refl) (write_rises w w' f cause, ap (λ (n : ℕ). counts n w' outs errs) same)
 
   -- ---- a read
 
-  kept : k' ≡ k → world k' out err ≡ world k out err
-  kept is = ap (λ (c : Option FileMap). world c out err) is
+  kept : k' ≡ k → outside k' out err ≡ outside k out err
+  kept is = ap (λ (c : Option FileMap). outside c out err) is
 
   was_read : (path bytes items : List ℕ) → items ≡ bytes → AreBytes items → length bytes ≤ most_read → WhereTold k (λ m. get m path ≡ Some bytes) → r' ≡ r → k' ≡ k → w' ≡ w
-      → (counts r' w' outs errs ≡ counts r w outs errs) × CameTo landed (reading path) (world k out err) (world k' out err) (gives items)
+      → (counts r' w' outs errs ≡ counts r w outs errs) × CameTo landed (reading path) (outside k out err) (outside k' out err) (gives items)
   was_read path bytes items is are short there same contents writes = (
     (λ i. counts (same i) (writes i) outs errs),
     record {
@@ -89,17 +89,17 @@ module _ (landed : Landed) (k k' : Option FileMap) (out err : Option (List ℕ))
   )
 
   pub read_file : (path items : List ℕ) → ReadGives k path [] items (Ok tt) → ReadCause k r r' (Ok tt) → AreBytes items → k' ≡ k → w' ≡ w
-      → (counts r' w' outs errs ≡ counts r w outs errs) × CameTo landed (reading path) (world k out err) (world k' out err) (gives items)
+      → (counts r' w' outs errs ≡ counts r w outs errs) × CameTo landed (reading path) (outside k out err) (outside k' out err) (gives items)
   read_file path items (bytes, is, short, there) cause are contents writes = was_read path bytes items is are short there cause contents writes
 
   count_rose : (path : List ℕ) → Rises r r' → k' ≡ k → w' ≡ w
-      → Stops landed (reading path) (world k out err) (world k' out err) (counts r w outs errs) (counts r' w' outs errs) (Some (unread path))
+      → Stops landed (reading path) (outside k out err) (outside k' out err) (counts r w outs errs) (counts r' w' outs errs) (Some (unread path))
   count_rose path rose contents writes =
-      failed_first landed (reading path) (world k out err) (world k' out err) (counts r w outs errs) (counts r' w' outs errs) (to_read path) refl (kept contents) (rose, ap (λ (n : ℕ). counts r' n outs errs) writes)
+      failed_first landed (reading path) (outside k out err) (outside k' out err) (counts r w outs errs) (counts r' w' outs errs) (to_read path) refl (kept contents) (rose, ap (λ (n : ℕ). counts r' n outs errs) writes)
 
   -- the path is missing or too large, as is told
   can't_read : (m : FileMap) (path : List ℕ) → k ≡ Some m → CantRead m path → r' ≡ r → k' ≡ k → w' ≡ w
-      → Stops landed (reading path) (world k out err) (world k' out err) (counts r w outs errs) (counts r' w' outs errs) (Some (unread path))
+      → Stops landed (reading path) (outside k out err) (outside k' out err) (counts r w outs errs) (counts r' w' outs errs) (Some (unread path))
   can't_read m path told cant same contents writes = inl (
     (λ i. counts (same i) (writes i) outs errs),
     record {
@@ -113,46 +113,46 @@ module _ (landed : Landed) (k k' : Option FileMap) (out err : Option (List ℕ))
 
 module _ (landed : Landed) (out err : Option (List ℕ)) (r r' w w' outs errs : ℕ) where
   pub didn't_read : (k k' : Option FileMap) (path : Bor (List ℕ)) (items : List ℕ) (f : FileFault) → ReadGives k path.now [] items (Err f) → ReadCause k r r' (Err f) → k' ≡ k → w' ≡ w
-      → Stops landed (reading path.now) (world k out err) (world k' out err) (counts r w outs errs) (counts r' w' outs errs) (stop_seen (read_stop f path))
+      → Stops landed (reading path.now) (outside k out err) (outside k' out err) (counts r w outs errs) (counts r' w' outs errs) (stop_seen (read_stop f path))
   didn't_read k k' path items faults.Failed read cause contents writes = count_rose landed k k' out err r r' w w' outs errs path.now cause contents writes
   didn't_read None k' path items faults.Missing read cause contents writes = count_rose landed None k' out err r r' w w' outs errs path.now cause contents writes
   didn't_read (Some m) k' path items faults.Missing read cause contents writes = can't_read landed (Some m) k' out err r r' w w' outs errs m path.now refl (inl read.1) cause contents writes
   didn't_read None k' path items faults.TooLarge read cause contents writes = count_rose landed None k' out err r r' w w' outs errs path.now cause contents writes
   didn't_read (Some m) k' path items faults.TooLarge read cause contents writes = can't_read landed (Some m) k' out err r r' w w' outs errs m path.now refl (inr (inl read.1)) cause contents writes
   didn't_read k k' path items faults.Memory read cause contents writes =
-      ((λ i. counts (cause i) (writes i) outs errs), record { steps = []; begun = inl refl; fit = tt; stand = ap (λ (c : Option FileMap). world c out err) contents })
+      ((λ i. counts (cause i) (writes i) outs errs), record { steps = []; begun = inl refl; fit = tt; stand = ap (λ (c : Option FileMap). outside c out err) contents })
 
 module _ (landed : Landed) (k : Option FileMap) (out out' err : Option (List ℕ)) (r w outs outs' errs : ℕ) (text : List ℕ) where
   pub put_text : PutLeaves out out' text (Ok tt) → PutCause outs outs' (Ok tt)
-      → (counts r w outs' errs ≡ counts r w outs errs) × CameTo landed (writing (to_out text)) (world k out err) (world k out' err) (gives tt)
+      → (counts r w outs' errs ≡ counts r w outs errs) × CameTo landed (writing (to_out text)) (outside k out err) (outside k out' err) (gives tt)
   put_text leaves cause =
-      wrote landed (world k out err) (world k out' err) (counts r w outs errs) (counts r w outs' errs) (to_out text) (ap (λ (n : ℕ). counts r w n errs) cause)
-      (ap (λ (t : Option (List ℕ)). world k t err) (text_written out out' text leaves))
+      wrote landed (outside k out err) (outside k out' err) (counts r w outs errs) (counts r w outs' errs) (to_out text) (ap (λ (n : ℕ). counts r w n errs) cause)
+      (ap (λ (t : Option (List ℕ)). outside k t err) (text_written out out' text leaves))
 
   pub broke_text : (f : SinkFault) → PutLeaves out out' text (Err f) → PutCause outs outs' (Err f)
-      → Stops landed (writing (to_out text)) (world k out err) (world k out' err) (counts r w outs errs) (counts r w outs' errs) (Some (failure (to_write (to_out text))))
+      → Stops landed (writing (to_out text)) (outside k out err) (outside k out' err) (counts r w outs errs) (counts r w outs' errs) (Some (failure (to_write (to_out text))))
   broke_text f leaves cause =
-      failed_first landed (writing (to_out text)) (world k out err) (world k out' err) (counts r w outs errs) (counts r w outs' errs) (to_write (to_out text)) refl
+      failed_first landed (writing (to_out text)) (outside k out err) (outside k out' err) (counts r w outs errs) (counts r w outs' errs) (to_write (to_out text)) refl
       (text_broken out out' text f leaves, refl, refl) (cause, refl)
 
 module _ (landed : Landed) (k : Option FileMap) (out err err' : Option (List ℕ)) (r w outs errs errs' : ℕ) (text : List ℕ) where
   pub put_err_text : PutLeaves err err' text (Ok tt) → PutCause errs errs' (Ok tt)
-      → (counts r w outs errs' ≡ counts r w outs errs) × CameTo landed (writing (to_err text)) (world k out err) (world k out err') (gives tt)
+      → (counts r w outs errs' ≡ counts r w outs errs) × CameTo landed (writing (to_err text)) (outside k out err) (outside k out err') (gives tt)
   put_err_text leaves cause =
-      wrote landed (world k out err) (world k out err') (counts r w outs errs) (counts r w outs errs') (to_err text) (ap (λ (n : ℕ). counts r w outs n) cause)
-      (ap (λ (t : Option (List ℕ)). world k out t) (text_written err err' text leaves))
+      wrote landed (outside k out err) (outside k out err') (counts r w outs errs) (counts r w outs errs') (to_err text) (ap (λ (n : ℕ). counts r w outs n) cause)
+      (ap (λ (t : Option (List ℕ)). outside k out t) (text_written err err' text leaves))
 
   pub broke_err_text : (f : SinkFault) → PutLeaves err err' text (Err f) → PutCause errs errs' (Err f)
-      → Stops landed (writing (to_err text)) (world k out err) (world k out err') (counts r w outs errs) (counts r w outs errs') (Some (failure (to_write (to_err text))))
+      → Stops landed (writing (to_err text)) (outside k out err) (outside k out err') (counts r w outs errs) (counts r w outs errs') (Some (failure (to_write (to_err text))))
   broke_err_text f leaves cause =
-      failed_first landed (writing (to_err text)) (world k out err) (world k out err') (counts r w outs errs) (counts r w outs errs') (to_write (to_err text)) refl
+      failed_first landed (writing (to_err text)) (outside k out err) (outside k out err') (counts r w outs errs) (counts r w outs errs') (to_write (to_err text)) refl
       (text_broken err err' text f leaves, refl, refl) (cause, refl)
 
 -- ---- a folder
 
 module _ (landed : Landed) (k k' : Option FileMap) (out err : Option (List ℕ)) (r r' w w' outs errs : ℕ) where
   pub listed_folder : (folder : List ℕ) (paths : Vec (String Global) Global) → ListGives k folder (Ok paths) → ListCause r r' (Ok paths) → k' ≡ k → w' ≡ w
-      → (counts r' w' outs errs ≡ counts r w outs errs) × CameTo landed (listing folder) (world k out err) (world k' out err) (gives (map string_bytes paths.items))
+      → (counts r' w' outs errs ≡ counts r w outs errs) × CameTo landed (listing folder) (outside k out err) (outside k' out err) (gives (map string_bytes paths.items))
   listed_folder folder paths lists same contents writes = (
     (λ i. counts (same i) (writes i) outs errs),
     record {
@@ -160,19 +160,19 @@ module _ (landed : Landed) (k k' : Option FileMap) (out err : Option (List ℕ))
       comes = (refl, refl);
       begun = inr ([], has_listed folder (map string_bytes paths.items), refl, refl);
       fit = (lists, tt);
-      stand = ap (λ (c : Option FileMap). world c out err) contents;
+      stand = ap (λ (c : Option FileMap). outside c out err) contents;
     },
   )
 
   pub didn't_list : (folder : Bor (List ℕ)) (f : FileFault) → ListCause r r' (Err f) → k' ≡ k → w' ≡ w
-      → Stops landed (listing folder.now) (world k out err) (world k' out err) (counts r w outs errs) (counts r' w' outs errs) (stop_seen (read_stop f folder))
+      → Stops landed (listing folder.now) (outside k out err) (outside k' out err) (counts r w outs errs) (counts r' w' outs errs) (stop_seen (read_stop f folder))
   didn't_list folder faults.Failed rose contents writes =
-      failed_first landed (listing folder.now) (world k out err) (world k' out err) (counts r w outs errs) (counts r' w' outs errs) (to_list folder.now) refl
-      (ap (λ (c : Option FileMap). world c out err) contents) (rose, ap (λ (n : ℕ). counts r' n outs errs) writes)
+      failed_first landed (listing folder.now) (outside k out err) (outside k' out err) (counts r w outs errs) (counts r' w' outs errs) (to_list folder.now) refl
+      (ap (λ (c : Option FileMap). outside c out err) contents) (rose, ap (λ (n : ℕ). counts r' n outs errs) writes)
   didn't_list folder faults.Missing cause contents writes = absurd cause
   didn't_list folder faults.TooLarge cause contents writes = absurd cause
   didn't_list folder faults.Memory same contents writes =
-      ((λ i. counts (same i) (writes i) outs errs), record { steps = []; begun = inl refl; fit = tt; stand = ap (λ (c : Option FileMap). world c out err) contents })
+      ((λ i. counts (same i) (writes i) outs errs), record { steps = []; begun = inl refl; fit = tt; stand = ap (λ (c : Option FileMap). outside c out err) contents })
 
 pub read_short : (k : Option FileMap) (path items : List ℕ) → ReadGives k path [] items (Ok tt) → length items ≤ most_read
 read_short k path items (bytes, is, short, there) = subst (λ (b : List ℕ). length b ≤ most_read) (sym is) short

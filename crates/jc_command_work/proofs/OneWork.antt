@@ -1,11 +1,11 @@
--- In a world whose contents are told a command has exactly one work, and a run that is cut off made first steps of it.
+-- Where contents are told a command has exactly one work, and a run that is cut off made first steps of it.
 use Rattle.std.proofs.Common.{◌≡◌, ◌⊎◌, ◌<◌, ◌≤◌, ℕ, List, [], ◌∷◌, ◌++◌, length, Option, None, Some, inl, inr, refl, sym, ◌∙◌, ap, subst, append_assoc, arith, unwrap_or, option_map}
 use Rattle.std.proofs.lemmas.Bool.{cases_lt}
 use Rattle.std.specs.FinMap.{get, insert}
 use Rattle.jc_bytes.specs.ByteLists.{AreBytes}
 use Rattle.jc_bytes.specs.Reader.{most_read}
 use Rattle.jc_outside.specs.Outside.{IsListing, FileMap, IsLong}
-use Rattle.jc_command_work.specs.Step.{Word, World, Landed, Write, to_file, to_out, to_err, Call, to_read, to_list, to_write, Step, has_read, has_no, has_listed, has_written, call_of, after, after_write, Fit, Gave, IsRead, CantRead, IsNoFile, Told}
+use Rattle.jc_command_work.specs.Step.{Word, Outside, Landed, Write, to_file, to_out, to_err, Call, to_read, to_list, to_write, Step, has_read, has_no, has_listed, has_written, call_of, after, after_write, Fit, Gave, IsRead, CantRead, IsNoFile, Told}
 use Rattle.jc_command_work.specs.Part.{End, Outcome, wants, gives, stops, Part, Hands, ◌>>=◌, giving, ending, deciding, reading, listing, writing, reading_all, writing_all, unread}
 use Rattle.jc_command_work.specs.OneWay.{IsOver, IsTold, GoesOn, OneWay, OneDecision, HasOne}
 use Rattle.jc_command_work.proofs.ListedLaws.{listed, is_listing}
@@ -100,7 +100,7 @@ other a b is o = not_other b (subst (λ (c : Call). AreOther c b) is o)
 
 -- ---- one part behind the other
 
-module _ {X Y : Type 0} (landed : Landed) (p : Part X) (q : X → Part Y) (w : World) (way : OneWay landed p w) where
+module _ {X Y : Type 0} (landed : Landed) (p : Part X) (q : X → Part Y) (w : Outside) (way : OneWay landed p w) where
   stopped : (e : End) → way.outcome ≡ stops e → OneWay landed (p >>= q) w
   stopped e is = record {
     steps = way.steps;
@@ -188,7 +188,7 @@ module _ {X Y : Type 0} (landed : Landed) (p : Part X) (q : X → Part Y) (w : W
 
 -- ---- the parts that commands are made of
 
-module _ {X : Type 0} (landed : Landed) (w : World) where
+module _ {X : Type 0} (landed : Landed) (w : Outside) where
   pub one_giving : (x : X) → OneWay landed (giving x) w
   one_giving x = record {
     steps = [];
@@ -253,7 +253,7 @@ same_want a b o p q = ap (call_or a) (sym q ∙ p)
 pub not_over : {X : Type 0} (o : Outcome X) (call : Call) → IsOver o → o ≡ wants call → ⊥
 not_over o call over is = subst (λ (k : Outcome _). IsOver k) is over
 
-pub one_writing : (landed : Landed) (w : World) (write : Write) → OneWay landed (writing write) w
+pub one_writing : (landed : Landed) (w : Outside) (write : Write) → OneWay landed (writing write) w
 one_writing landed w write = record {
   steps = has_written write ∷ [];
   outcome = gives tt;
@@ -317,7 +317,7 @@ can_and_cannot m path bytes p (inl missing) = none_is bytes (sym missing ∙ p.t
 can_and_cannot m path bytes p (inr (inl long)) = let long' = subst IsLong p.there long in let short = p.file.short in omega (arith, long', short)
 can_and_cannot m path bytes p (inr (inr none)) = subst IsNoFile p.there none p.file.are_bytes
 
-module _ (landed : Landed) (m : FileMap) (w : World) (told : w.contents ≡ Some m) (path : Word) where
+module _ (landed : Landed) (m : FileMap) (w : Outside) (told : w.contents ≡ Some m) (path : Word) where
   wanted : (step : Step) → call_of step ≡ to_read path → (front : List Step) (call : Call) → reading path front (wants call) → GoesOn front call (step ∷ [])
   wanted step is [] call comes = (step, [], refl, is ∙ same_want call (to_read path) _ refl comes)
   wanted step is (has_read p b ∷ []) call comes = absurd (not_over (gives b) call tt (sym comes.1))
@@ -372,7 +372,7 @@ module _ (landed : Landed) (m : FileMap) (w : World) (told : w.contents ≡ Some
       only (has_written v ∷ ss) o over comes fits = absurd comes
       only (has_listed f b ∷ ss) o over comes fits = absurd comes
 
-pub one_reading : (landed : Landed) (w : World) (path : Word) → IsTold w → OneWay landed (reading path) w
+pub one_reading : (landed : Landed) (w : Outside) (path : Word) → IsTold w → OneWay landed (reading path) w
 one_reading landed w path (m, told) = by (can_or_cannot m path)
   where
     by : ((bytes : List ℕ) × IsRead (Some m) path bytes) ⊎ CantRead m path → OneWay landed (reading path) w
@@ -381,7 +381,7 @@ one_reading landed w path (m, told) = by (can_or_cannot m path)
 
 -- ---- folders
 
-pub one_listing : (landed : Landed) (w : World) (folder : Word) → IsTold w → OneWay landed (listing folder) w
+pub one_listing : (landed : Landed) (w : Outside) (folder : Word) → IsTold w → OneWay landed (listing folder) w
 one_listing landed w folder (m, told) = record {
   steps = has_listed folder (listed m folder) ∷ [];
   outcome = gives (listed m folder);
@@ -411,14 +411,14 @@ one_listing landed w folder (m, told) = record {
     on_way (has_no p ∷ ss) call comes fits = absurd comes
     on_way (has_written v ∷ ss) call comes fits = absurd comes
 
--- ---- in every world that is told
+-- ---- wherever contents are told
 
-told_after_write : (landed : Landed) (w : World) (write : Write) → IsTold w → IsTold (after_write landed w write)
+told_after_write : (landed : Landed) (w : Outside) (write : Write) → IsTold w → IsTold (after_write landed w write)
 told_after_write landed w (to_file path bytes) (m, is) = (insert m path (landed path bytes), ap (λ (c : Option FileMap). option_map (λ (n : FileMap). insert n path (landed path bytes)) c) is)
 told_after_write landed w (to_out text) told = told
 told_after_write landed w (to_err text) told = told
 
-pub told_after : (landed : Landed) (w : World) (steps : List Step) → IsTold w → IsTold (after landed w steps)
+pub told_after : (landed : Landed) (w : Outside) (steps : List Step) → IsTold w → IsTold (after landed w steps)
 told_after landed w [] told = told
 told_after landed w (has_read p b ∷ steps) told = told_after landed w steps told
 told_after landed w (has_no p ∷ steps) told = told_after landed w steps told
@@ -430,7 +430,7 @@ module _ {X Y : Type 0} (landed : Landed) (p : Part X) (q : X → Part Y) where
   has_then one more w told = let way = one w told in one_then landed p q w way (λ x over. more x (after landed w way.steps) (told_after landed w way.steps told))
 
   -- the second part has one way where it is handed what the first can hand on
-  pub has_then_if : HasOne landed p → ((w : World) (steps : List Step) (x : X) → p steps (gives x) → Fit landed w steps → HasOne landed (q x)) → HasOne landed (p >>= q)
+  pub has_then_if : HasOne landed p → ((w : Outside) (steps : List Step) (x : X) → p steps (gives x) → Fit landed w steps → HasOne landed (q x)) → HasOne landed (p >>= q)
   has_then_if one more w told = let way = one w told in one_then landed p q w way (λ x over. more w way.steps x over way.fit (after landed w way.steps) (told_after landed w way.steps told))
 
 module _ (landed : Landed) where
@@ -446,7 +446,7 @@ module _ (landed : Landed) where
 
 -- ---- a call gives one thing
 
-module _ (landed : Landed) (w : World) (front : List Step) (m : FileMap) (told : w.contents ≡ Some m) where
+module _ (landed : Landed) (w : Outside) (front : List Step) (m : FileMap) (told : w.contents ≡ Some m) where
   pub same_gave : (a b : Step) → Gave (after landed w front).contents a → Gave (after landed w front).contents b → call_of a ≡ call_of b → a ≡ b
   same_gave a b p q same =
       let (n, is) = told_after landed w front (m, told) in

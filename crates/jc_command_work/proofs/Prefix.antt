@@ -1,9 +1,9 @@
--- What a run left, by the work of the command in a world that is told.
+-- What a run left, by the work of the command where contents are told.
 use Rattle.std.proofs.Common.{◌≡◌, ◌⊎◌, ℕ, List, [], ◌∷◌, ◌++◌, Option, None, Some, inl, inr, refl, sym, ◌∙◌, ap, subst, append_assoc}
 use Rattle.jc_command_work.specs.declared.status.Fault.{Fault}
 use Rattle.jc_command_work.specs.declared.status.Status.{Status}
 use Rattle.jc_command_work.specs.declared.status.Status.TheVariants as status
-use Rattle.jc_command_work.specs.Step.{Word, Rises, World, world, Counts, Landed, Write, to_file, to_out, to_err, Call, to_read, to_list, to_write, Step, has_read, has_no, has_listed, has_written, call_of, after, after_write, Fit, Broken, CountRose, grown}
+use Rattle.jc_command_work.specs.Step.{Word, Rises, Outside, outside, Counts, Landed, Write, to_file, to_out, to_err, Call, to_read, to_list, to_write, Step, has_read, has_no, has_listed, has_written, call_of, after, after_write, Fit, Broken, CountRose, grown}
 use Rattle.jc_command_work.specs.Part.{End, done, refused, misused, unread, unwritten, unprinted, status_of, message_of, failure, Outcome, wants, gives, stops, Command, Begun}
 use Rattle.jc_command_work.specs.Ending.{CameTo, Began, BrokeOff, SaysLast, IsWhole, IsCut, IsOutOfMemory, Ends}
 use Rattle.jc_command_work.specs.OneWay.{IsOver, IsTold, GoesOn, OneWay, Work, IsWork, writes_of}
@@ -20,7 +20,7 @@ writes-append (has_read p b ∷ xs) ys = writes-append xs ys
 writes-append (has_no p ∷ xs) ys = writes-append xs ys
 writes-append (has_listed f ps ∷ xs) ys = writes-append xs ys
 
-pub after-writes : (landed : Landed) (w : World) (steps : List Step) → after landed w steps ≡ after_writes landed w (writes_of steps)
+pub after-writes : (landed : Landed) (w : Outside) (steps : List Step) → after landed w steps ≡ after_writes landed w (writes_of steps)
 after-writes landed w [] = refl
 after-writes landed w (has_written v ∷ xs) = after-writes landed (after_write landed w v) xs
 after-writes landed w (has_read p b ∷ xs) = after-writes landed w xs
@@ -29,7 +29,7 @@ after-writes landed w (has_listed f ps ∷ xs) = after-writes landed w xs
 
 -- ---- the one work
 
-module _ (landed : Landed) (command : Command) (w : World) (way : OneWay landed command w) where
+module _ (landed : Landed) (command : Command) (w : Outside) (way : OneWay landed command w) where
   -- the one way of a command ends it
   way_ends : (end : End) × (way.outcome ≡ stops end)
   way_ends = by way.outcome refl way.over
@@ -77,9 +77,9 @@ list_or_write path write is = other (to_list path) (to_write write) is tt
 
 -- ---- what stands is a front of the stated writes
 
-module _ (landed : Landed) (command : Command) (old : World) (told : IsTold old) (way : OneWay landed command old) (work : Work) (is : IsWork landed command old work) where
+module _ (landed : Landed) (command : Command) (old : Outside) (told : IsTold old) (way : OneWay landed command old) (work : Work) (is : IsWork landed command old work) where
   -- first steps leave what first writes leave
-  pub began_front : (stands : World) → Began landed command old stands → IsFront landed old (writes_of work.steps) stands
+  pub began_front : (stands : Outside) → Began landed command old stands → IsFront landed old (writes_of work.steps) stands
   began_front stands b =
       let (rest, whole) = began_work landed command old way work is told b.steps b.begun b.fit in
       record {
@@ -90,7 +90,7 @@ module _ (landed : Landed) (command : Command) (old : World) (told : IsTold old)
       }
 
   -- and a call that failed leaves a part of the next write, or nothing
-  pub broke_front : (new : World) (f f' : Counts) (end : End) → BrokeOff landed command old new f f' end → IsFront landed old (writes_of work.steps) new
+  pub broke_front : (new : Outside) (f f' : Counts) (end : End) → BrokeOff landed command old new f f' end → IsFront landed old (writes_of work.steps) new
   broke_front new f f' end b =
       let (step, rest, whole, called) = on_work landed command old way work is b.came.steps b.call b.came.comes b.came.fit in
       let parts = ap writes_of whole ∙ writes-append b.came.steps (step ∷ rest) in
@@ -110,20 +110,20 @@ module _ (landed : Landed) (command : Command) (old : World) (told : IsTold old)
         front = front;
         behind = v ∷ writes_of rest;
         parts = parts;
-        stand = inr (v, writes_of rest, refl, subst (λ (s : World). Broken landed s (to_write v) new) stands (subst (λ (c : Call). Broken landed b.stands c new) (sym called) broken));
+        stand = inr (v, writes_of rest, refl, subst (λ (s : Outside). Broken landed s (to_write v) new) stands (subst (λ (c : Call). Broken landed b.stands c new) (sym called) broken));
       }
       by (has_read p c) rest parts (to_write write) called broken = absurd (read_or_write p write called)
       by (has_no p) rest parts (to_write write) called broken = absurd (read_or_write p write called)
       by (has_listed p c) rest parts (to_write write) called broken = absurd (list_or_write p write called)
 
   -- PREFIX: before its last message each run leaves what first writes of the work leave, the last perhaps in part.
-  pub whole_front : (new : World) (f f' : Counts) (s : Status) (e : IsWhole landed command old new f f' s) → IsFront landed old (writes_of work.steps) e.stands
+  pub whole_front : (new : Outside) (f f' : Counts) (s : Status) (e : IsWhole landed command old new f f' s) → IsFront landed old (writes_of work.steps) e.stands
   whole_front new f f' s e = began_front e.stands (record { steps = e.came.steps; begun = e.came.begun; fit = e.came.fit; stand = e.came.stand })
 
-  pub cut_front : (new : World) (f f' : Counts) (s : Status) (e : IsCut landed command old new f f' s) → IsFront landed old (writes_of work.steps) e.stands
+  pub cut_front : (new : Outside) (f f' : Counts) (s : Status) (e : IsCut landed command old new f f' s) → IsFront landed old (writes_of work.steps) e.stands
   cut_front new f f' s e = broke_front e.stands f e.at e.end e.broke_off
 
-  pub memory_front : (new : World) (f f' : Counts) (s : Status) → IsOutOfMemory landed command old new f f' s → IsFront landed old (writes_of work.steps) new
+  pub memory_front : (new : Outside) (f f' : Counts) (s : Status) → IsOutOfMemory landed command old new f f' s → IsFront landed old (writes_of work.steps) new
   memory_front new f f' s e = by e.far
     where
       by : ((f' ≡ f) × Began landed command old new) ⊎ ((end : End) × BrokeOff landed command old new f f' end) → IsFront landed old (writes_of work.steps) new
@@ -181,22 +181,22 @@ no_refusal fault (to_write (to_out text)) is = subst is_refused is tt
 no_refusal fault (to_write (to_err text)) is = subst is_refused is tt
 
 -- the last message leaves the count of reads
-kept_reads : (old new : World) (f f' : Counts) (message : Option (List ℕ)) → SaysLast message old new f f' → f'.reads ≡ f.reads
+kept_reads : (old new : Outside) (f f' : Counts) (message : Option (List ℕ)) → SaysLast message old new f f' → f'.reads ≡ f.reads
 kept_reads old new f f' None (same, is) = ap (λ (c : Counts). c.reads) same
 kept_reads old new f f' (Some text) says = by says.said
   where
-    by : ((f' ≡ f) × (new ≡ world old.contents old.out (grown old.err text))) ⊎ (CountRose (to_write (to_err text)) f f' × Broken (λ _ bytes. bytes) old (to_write (to_err text)) new) → f'.reads ≡ f.reads
+    by : ((f' ≡ f) × (new ≡ outside old.contents old.out (grown old.err text))) ⊎ (CountRose (to_write (to_err text)) f f' × Broken (λ _ bytes. bytes) old (to_write (to_err text)) new) → f'.reads ≡ f.reads
     by (inl (same, is)) = ap (λ (c : Counts). c.reads) same
     by (inr (rose, broken)) = ap (λ (c : Counts). c.reads) rose.1
 
-module _ (landed : Landed) (command : Command) (old new : World) (f f' : Counts) where
+module _ (landed : Landed) (command : Command) (old new : Outside) (f f' : Counts) where
   -- Done: no count moved, and all steps were made
   pub done_means : Ends landed command old new f f' status.Done → (f' ≡ f) × CameTo landed command old new (stops done)
   unfolding is_done
   done_means (inl e) = by e.end e.came e.is e.says
     where
       by : (end : End) → CameTo landed command old e.stands (stops end) → status.Done ≡ status_of end → SaysLast (message_of end) e.stands new f f' → (f' ≡ f) × CameTo landed command old new (stops done)
-      by done came is says = (says.0, subst (λ (s : World). CameTo landed command old s (stops done)) (sym says.1) came)
+      by done came is says = (says.0, subst (λ (s : Outside). CameTo landed command old s (stops done)) (sym says.1) came)
       by (refused fault line) came is says = absurd (subst is_done is tt)
       by misused came is says = absurd (subst is_done is tt)
       by (unread path) came is says = absurd (subst is_done is tt)
@@ -207,12 +207,12 @@ module _ (landed : Landed) (command : Command) (old new : World) (f f' : Counts)
 
   -- Refused: all steps of the command were made, and it ends so
   pub refused_means : (fault : Fault) → Ends landed command old new f f' (status.Refused fault)
-      → (line : List ℕ) × (stands : World) × CameTo landed command old stands (stops (refused fault line)) × SaysLast (Some line) stands new f f'
+      → (line : List ℕ) × (stands : Outside) × CameTo landed command old stands (stops (refused fault line)) × SaysLast (Some line) stands new f f'
   unfolding fault_or
   refused_means fault (inl e) = by e.end e.came e.is e.says
     where
       by : (end : End) → CameTo landed command old e.stands (stops end) → status.Refused fault ≡ status_of end → SaysLast (message_of end) e.stands new f f'
-          → (line : List ℕ) × (stands : World) × CameTo landed command old stands (stops (refused fault line)) × SaysLast (Some line) stands new f f'
+          → (line : List ℕ) × (stands : Outside) × CameTo landed command old stands (stops (refused fault line)) × SaysLast (Some line) stands new f f'
       by done came is says = absurd (subst is_refused is tt)
       by (refused other line) came is says =
           let same : other ≡ fault = ap (fault_or fault) (sym is) in
@@ -226,11 +226,11 @@ module _ (landed : Landed) (command : Command) (old new : World) (f f' : Counts)
 
   -- ReadFault: the count of reads rose, or all steps of the command were made, of which the last found nothing to read
   pub read_fault_means : Ends landed command old new f f' status.ReadFault
-      → Rises f.reads f'.reads ⊎ ((path : Word) × (stands : World) × CameTo landed command old stands (stops (unread path)))
+      → Rises f.reads f'.reads ⊎ ((path : Word) × (stands : Outside) × CameTo landed command old stands (stops (unread path)))
   read_fault_means (inl e) = by e.end e.came e.is
     where
       by : (end : End) → CameTo landed command old e.stands (stops end) → status.ReadFault ≡ status_of end
-          → Rises f.reads f'.reads ⊎ ((path : Word) × (stands : World) × CameTo landed command old stands (stops (unread path)))
+          → Rises f.reads f'.reads ⊎ ((path : Word) × (stands : Outside) × CameTo landed command old stands (stops (unread path)))
       by done came is = absurd (subst is_read is tt)
       by (refused other line) came is = absurd (subst is_read is tt)
       by misused came is = absurd (subst is_read is tt)
@@ -243,7 +243,7 @@ module _ (landed : Landed) (command : Command) (old new : World) (f f' : Counts)
       kept = kept_reads e.stands new e.at f' (message_of e.end) e.says
 
       by : (call : Call) → CountRose call f e.at → status.ReadFault ≡ status_of (failure call)
-          → Rises f.reads f'.reads ⊎ ((path : Word) × (stands : World) × CameTo landed command old stands (stops (unread path)))
+          → Rises f.reads f'.reads ⊎ ((path : Word) × (stands : Outside) × CameTo landed command old stands (stops (unread path)))
       by (to_read path) rose is = inl (subst (λ (n : ℕ). Rises f.reads n) (sym kept) rose.0)
       by (to_list folder) rose is = inl (subst (λ (n : ℕ). Rises f.reads n) (sym kept) rose.0)
       by (to_write (to_file path bytes)) rose is = absurd (subst is_read is tt)
@@ -253,21 +253,21 @@ module _ (landed : Landed) (command : Command) (old new : World) (f f' : Counts)
 
 -- ---- PREFIX, for every end
 
-kept_world : (old new : World) (f f' : Counts) (message : Option (List ℕ)) → SaysLast message old new f f' → (new.contents ≡ old.contents) × (new.out ≡ old.out)
-kept_world old new f f' None (same, is) = (ap (λ (w : World). w.contents) is, ap (λ (w : World). w.out) is)
-kept_world old new f f' (Some text) says = by says.said
+kept_outside : (old new : Outside) (f f' : Counts) (message : Option (List ℕ)) → SaysLast message old new f f' → (new.contents ≡ old.contents) × (new.out ≡ old.out)
+kept_outside old new f f' None (same, is) = (ap (λ (w : Outside). w.contents) is, ap (λ (w : Outside). w.out) is)
+kept_outside old new f f' (Some text) says = by says.said
   where
-    by : ((f' ≡ f) × (new ≡ world old.contents old.out (grown old.err text))) ⊎ (CountRose (to_write (to_err text)) f f' × Broken (λ _ bytes. bytes) old (to_write (to_err text)) new) → (new.contents ≡ old.contents) × (new.out ≡ old.out)
-    by (inl (same, is)) = (ap (λ (w : World). w.contents) is, ap (λ (w : World). w.out) is)
+    by : ((f' ≡ f) × (new ≡ outside old.contents old.out (grown old.err text))) ⊎ (CountRose (to_write (to_err text)) f f' × Broken (λ _ bytes. bytes) old (to_write (to_err text)) new) → (new.contents ≡ old.contents) × (new.out ≡ old.out)
+    by (inl (same, is)) = (ap (λ (w : Outside). w.contents) is, ap (λ (w : Outside). w.out) is)
     by (inr (rose, (part, contents, out))) = (contents, out)
 
-pub ends_front : (landed : Landed) (command : Command) (old new : World) (f f' : Counts) (s : Status) → IsTold old → OneWay landed command old → (work : Work) → IsWork landed command old work
+pub ends_front : (landed : Landed) (command : Command) (old new : Outside) (f f' : Counts) (s : Status) → IsTold old → OneWay landed command old → (work : Work) → IsWork landed command old work
     → Ends landed command old new f f' s → LeavesFront landed old (writes_of work.steps) new
 ends_front landed command old new f f' s told way work is (inl e) =
-    let kept = kept_world e.stands new f f' (message_of e.end) e.says in
+    let kept = kept_outside e.stands new f f' (message_of e.end) e.says in
     record { stands = e.stands; front = whole_front landed command old told way work is new f f' s e; contents = kept.0; out = kept.1 }
 ends_front landed command old new f f' s told way work is (inr (inl e)) =
-    let kept = kept_world e.stands new e.at f' (message_of e.end) e.says in
+    let kept = kept_outside e.stands new e.at f' (message_of e.end) e.says in
     record { stands = e.stands; front = cut_front landed command old told way work is new f f' s e; contents = kept.0; out = kept.1 }
 ends_front landed command old new f f' s told way work is (inr (inr e)) =
     record { stands = new; front = memory_front landed command old told way work is new f f' s e; contents = refl; out = refl }

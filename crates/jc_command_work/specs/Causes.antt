@@ -2,7 +2,7 @@
 use Rattle.std.specs.Prelude.{◌≡◌, ◌⊎◌, ⊤, ℕ, List, ◌∷◌, ◌++◌}
 use Rattle.jc_command_work.specs.declared.status.Status.{Status}
 use Rattle.jc_command_work.specs.declared.status.Status.TheVariants as status
-use Rattle.jc_command_work.specs.Step.{Word, World, Counts, Rises, Landed, to_file, to_out, to_err, Call, to_read, to_list, to_write, Step, call_of, Broken, CountRose}
+use Rattle.jc_command_work.specs.Step.{Word, Outside, Counts, Rises, Landed, to_file, to_out, to_err, Call, to_read, to_list, to_write, Step, call_of, Broken, CountRose}
 use Rattle.jc_command_work.specs.Part.{End, done, refused, misused, unread, unwritten, unprinted, message_of, failure, wants, stops, Part, Command}
 use Rattle.jc_command_work.specs.Ending.{CameTo, SaysLast, IsOutOfMemory}
 use Rattle.jc_command_work.specs.OneWay.{Work}
@@ -37,8 +37,8 @@ HasOwnEnds part = EndsIn IsOwnEnd part
 -- ---- what a status says
 
 -- All steps of the command were made, it ended so, and the message of the end was said.
-pub record EndedSo (landed : Landed) (command : Command) (old new : World) (f f' : Counts) (end : End) : Type 0 where
-  pub stands : World
+pub record EndedSo (landed : Landed) (command : Command) (old new : Outside) (f f' : Counts) (end : End) : Type 0 where
+  pub stands : Outside
   pub came : CameTo landed command old stands (stops end)
   pub says : SaysLast (message_of end) stands new f f'
 
@@ -61,19 +61,19 @@ IsWriteCall (to_list folder) = ⊥
 IsWriteCall (to_write write) = ⊤
 
 -- First steps were made, and the call that the command then wanted failed, as the message says: a write was made in part.
-pub record CallFailed (landed : Landed) (command : Command) (old new : World) (f f' : Counts) (Is : Call → Type 0) : Type 0 where
+pub record CallFailed (landed : Landed) (command : Command) (old new : Outside) (f f' : Counts) (Is : Call → Type 0) : Type 0 where
   pub call : Call
   pub is : Is call
-  pub before : World
+  pub before : Outside
   pub came : CameTo landed command old before (wants call)
-  pub stands : World
+  pub stands : Outside
   pub broken : Broken landed before call stands
   pub at : Counts
   pub only : CountRose call f at
   pub rose : RoseFor call f f'
   pub says : SaysLast (message_of (failure call)) stands new at f'
 
-abbrev pub Cause : Landed → Command → (old new : World) → (f f' : Counts) → Status → Type 0
+abbrev pub Cause : Landed → Command → (old new : Outside) → (f f' : Counts) → Status → Type 0
 Cause landed command old new f f' status.Done = (f' ≡ f) × CameTo landed command old new (stops done)
 Cause landed command old new f f' (status.Refused fault) = (line : List ℕ) × EndedSo landed command old new f f' (refused fault line)
 Cause landed command old new f f' status.Usage = EndedSo landed command old new f f' misused

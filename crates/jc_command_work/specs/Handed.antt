@@ -3,7 +3,7 @@ use Rattle.std.specs.Prelude.{ℕ, Option}
 use Rattle.jc_outside.specs.Outside.{FileMap}
 use Rattle.jc_outside.specs.declared.files.Files.{Ghosts as OfFiles}
 use Rattle.jc_outside.specs.declared.sink.Sink.{Ghosts as OfSink}
-use Rattle.jc_command_work.specs.Step.{World, world, Counts, counts}
+use Rattle.jc_command_work.specs.Step.{Outside, outside, Counts, counts}
 
 -- It is so of the files, as they were when a function began and as they are at its end: of what is told of them, of the counts of their
 -- failed reads and writes, and of the function's result.
@@ -13,8 +13,8 @@ BetweenFiles of_files old new Is result =
 
 module _ {F O E : Type 0} (of_files : OfFiles F) (of_out : OfSink O) (of_err : OfSink E) where
   -- what is told of files, and of the texts on `out` and `err`
-  abbrev world_of : F × O × E → World
-  world_of s = world (of_files.contents s.0) (of_out.told s.1) (of_err.told s.2)
+  abbrev outside_of : F × O × E → Outside
+  outside_of s = outside (of_files.contents s.0) (of_out.told s.1) (of_err.told s.2)
 
   -- how often their calls have failed
   abbrev counts_of : F × O × E → Counts
@@ -22,5 +22,5 @@ module _ {F O E : Type 0} (of_files : OfFiles F) (of_out : OfSink O) (of_err : O
 
   -- It is so of the files, of `out` and of `err`, as they were when a function began and as they are at its end: of what is told of
   -- them, of the counts of their failed calls, and of the function's result.
-  abbrev pub Between : {A : Type 0} → (old new : F × O × E) → (Is : (old new : World) → (f f' : Counts) → A → Type 0) → A → Type 0
-  Between old new Is result = Is (world_of old) (world_of new) (counts_of old) (counts_of new) result
+  abbrev pub Between : {A : Type 0} → (old new : F × O × E) → (Is : (old new : Outside) → (f f' : Counts) → A → Type 0) → A → Type 0
+  Between old new Is result = Is (outside_of old) (outside_of new) (counts_of old) (counts_of new) result

@@ -1,7 +1,7 @@
--- What a part comes to in a world whose contents are told, where no call fails and no memory is refused.
+-- What a part comes to where contents are told, no call fails and no memory is refused.
 use Rattle.std.specs.Prelude.{◌≡◌, ⊤, List, [], ◌∷◌, ◌++◌, Some}
 use Rattle.jc_outside.specs.Outside.{FileMap}
-use Rattle.jc_command_work.specs.Step.{World, Landed, Write, Call, Step, has_written, call_of, Fit}
+use Rattle.jc_command_work.specs.Step.{Outside, Landed, Write, Call, Step, has_written, call_of, Fit}
 use Rattle.jc_command_work.specs.Part.{End, Outcome, wants, gives, stops, Part, Command, deciding}
 
 -- the part is over
@@ -10,15 +10,15 @@ IsOver (wants call) = ⊥
 IsOver (gives value) = ⊤
 IsOver (stops end) = ⊤
 
-abbrev pub IsTold : World → Type 0
+abbrev pub IsTold : Outside → Type 0
 IsTold w = (m : FileMap) × (w.contents ≡ Some m)
 
 -- the list goes on behind these with a step of the call
 abbrev pub GoesOn : List Step → Call → List Step → Type 0
 GoesOn front call whole = (step : Step) × (rest : List Step) × (whole ≡ front ++ step ∷ rest) × (call_of step ≡ call)
 
--- in this world the part has one way, and all that it comes to stands on it
-pub record OneWay {X : Type 0} (landed : Landed) (part : Part X) (w : World) : Type 0 where
+-- from this outside on the part has one way, and all that it comes to stands on it
+pub record OneWay {X : Type 0} (landed : Landed) (part : Part X) (w : Outside) : Type 0 where
   pub steps : List Step
   pub outcome : Outcome X
   pub over : IsOver outcome
@@ -27,9 +27,9 @@ pub record OneWay {X : Type 0} (landed : Landed) (part : Part X) (w : World) : T
   pub only : (others : List Step) (o : Outcome X) → IsOver o → part others o → Fit landed w others → (others ≡ steps) × (o ≡ outcome)
   pub on_way : (front : List Step) (call : Call) → part front (wants call) → Fit landed w front → GoesOn front call steps
 
--- in every world that is told the part has one way
+-- wherever contents are told the part has one way
 abbrev pub HasOne : {X : Type 0} → Landed → Part X → Type 0
-HasOne landed part = (w : World) → IsTold w → OneWay landed part w
+HasOne landed part = (w : Outside) → IsTold w → OneWay landed part w
 
 -- one thing is so, or the command ends in one way
 pub record OneDecision {X : Type 0} (Is : X → Type 0) (Ends : End → Type 0) : Type 0 where
@@ -40,12 +40,12 @@ pub record OneDecision {X : Type 0} (Is : X → Type 0) (Ends : End → Type 0) 
 
 -- ---- the work
 
--- the steps of a command in this world, and its end
+-- the steps of a command from this outside on, and its end
 pub record Work : Type 0 where
   pub steps : List Step
   pub end : End
 
-abbrev pub IsWork : Landed → Command → World → Work → Type 0
+abbrev pub IsWork : Landed → Command → Outside → Work → Type 0
 IsWork landed command w work = command work.steps (stops work.end) × Fit landed w work.steps
 
 -- the writes among the steps, in order

@@ -23,10 +23,10 @@ AreTexts [] (t ∷ ts) = ⊥
 AreTexts (p ∷ ps) [] = ⊥
 AreTexts (p ∷ ps) (t ∷ ts) = IsFile t × AreTexts ps ts
 
--- ---- the world
+-- ---- the outside
 
 -- what is told of the files and of the texts on `out` and `err`
-pub record World : Type 0 where
+pub record Outside : Type 0 where
   pub contents : Option FileMap
   pub out : Option (List ℕ)
   pub err : Option (List ℕ)
@@ -38,8 +38,8 @@ pub record Counts : Type 0 where
   pub outs : ℕ
   pub errs : ℕ
 
-abbrev pub world : Option FileMap → (out err : Option (List ℕ)) → World
-world contents out err = record { contents = contents; out = out; err = err }
+abbrev pub outside : Option FileMap → (out err : Option (List ℕ)) → Outside
+outside contents out err = record { contents = contents; out = out; err = err }
 
 abbrev pub counts : (reads writes outs errs : ℕ) → Counts
 counts reads writes outs errs = record { reads = reads; writes = writes; outs = outs; errs = errs }
@@ -82,20 +82,20 @@ call_of (has_written write) = to_write write
 abbrev pub grown : Option (List ℕ) → List ℕ → Option (List ℕ)
 grown text more = option_map (λ t. t ++ more) text
 
-abbrev pub after_write : Landed → World → Write → World
+abbrev pub after_write : Landed → Outside → Write → Outside
 after_write landed w (to_file path bytes) =
-    world (option_map (λ (m : FileMap). insert m path (landed path bytes)) w.contents) w.out w.err
-after_write landed w (to_out text) = world w.contents (grown w.out text) w.err
-after_write landed w (to_err text) = world w.contents w.out (grown w.err text)
+    outside (option_map (λ (m : FileMap). insert m path (landed path bytes)) w.contents) w.out w.err
+after_write landed w (to_out text) = outside w.contents (grown w.out text) w.err
+after_write landed w (to_err text) = outside w.contents w.out (grown w.err text)
 
-abbrev pub after_step : Landed → World → Step → World
+abbrev pub after_step : Landed → Outside → Step → Outside
 after_step landed w (has_read path bytes) = w
 after_step landed w (has_no path) = w
 after_step landed w (has_listed folder paths) = w
 after_step landed w (has_written write) = after_write landed w write
 
 -- after all of them, in order
-abbrev pub after : Landed → World → List Step → World
+abbrev pub after : Landed → Outside → List Step → Outside
 after landed w [] = w
 after landed w (step ∷ steps) = after landed (after_step landed w step) steps
 
@@ -128,7 +128,7 @@ Gave contents (has_listed folder paths) = IsListing contents folder paths
 Gave contents (has_written write) = ⊤
 
 -- each step gave what was there after the steps in front of it
-abbrev pub Fit : Landed → World → List Step → Type 0
+abbrev pub Fit : Landed → Outside → List Step → Type 0
 Fit landed w [] = ⊤
 Fit landed w (step ∷ steps) = Gave w.contents step × Fit landed (after_step landed w step) steps
 
@@ -149,7 +149,7 @@ TextBroken text None new = new ≡ None
 TextBroken text (Some t) new = (part : List ℕ) × Begins part text × (new ≡ Some (t ++ part))
 
 -- what a call that failed left: a write was made in part
-abbrev pub Broken : Landed → World → Call → World → Type 0
+abbrev pub Broken : Landed → Outside → Call → Outside → Type 0
 Broken landed w (to_read path) w' = w' ≡ w
 Broken landed w (to_list folder) w' = w' ≡ w
 Broken landed w (to_write (to_file path bytes)) w' = FileBroken (landed path bytes) path w.contents w'.contents × (w'.out ≡ w.out) × (w'.err ≡ w.err)

@@ -4,7 +4,7 @@ use Rattle.std.specs.List.{flat_map}
 use Rattle.std.proofs.lemmas.List.Concat.{flat_map-cons}
 use Rattle.jc_outside.specs.Outside.{FileMap, IsListing}
 use Rattle.jc_paths.specs.Paths.{FileText, plain, folder}
-use Rattle.jc_command_work.specs.Step.{Word, World, Landed, Write, has_read, has_listed, has_written, after_write, IsRead}
+use Rattle.jc_command_work.specs.Step.{Word, Outside, Landed, Write, has_read, has_listed, has_written, after_write, IsRead}
 use Rattle.jc_command_work.specs.Part.{done, gives, stops, giving, ending, making, never, reading, listing, writing, reading_all, writing_all}
 use Rattle.jc_command_work.specs.Ending.{CameTo}
 use Rattle.jc_command_work.specs.Folders.{once, paths_of, all_paths, files_of}
@@ -17,19 +17,19 @@ use Rattle.jc_headline.specs.CoverRun.{AreRead}
 use Rattle.jc_headline.specs.FitCover.{named_by, named_paths}
 
 module _ (landed : Landed) where
-  pub was_given : {X : Type 0} (w : World) (x : X) → CameTo landed (giving x) w w (gives x)
+  pub was_given : {X : Type 0} (w : Outside) (x : X) → CameTo landed (giving x) w w (gives x)
   was_given w x = record { steps = []; comes = refl; begun = inl refl; fit = tt; stand = refl }
 
-  pub was_done : {X : Type 0} (w : World) → CameTo landed (ending {X = X} done) w w (stops done)
+  pub was_done : {X : Type 0} (w : Outside) → CameTo landed (ending {X = X} done) w w (stops done)
   was_done w = record { steps = []; comes = refl; begun = inl refl; fit = tt; stand = refl }
 
   -- ---- reads
 
-  pub was_read : (w : World) (path text : List ℕ) → IsRead w.contents path text → CameTo landed (reading path) w w (gives text)
+  pub was_read : (w : Outside) (path text : List ℕ) → IsRead w.contents path text → CameTo landed (reading path) w w (gives text)
   was_read w path text is =
       record { steps = has_read path text ∷ []; comes = (refl, refl); begun = inr ([], has_read path text, refl, refl); fit = (is, tt); stand = refl }
 
-  pub were_read : (w : World) (paths : List Word) (read : List (List ℕ)) → AreRead w.contents paths read → CameTo landed (reading_all paths) w w (gives read)
+  pub were_read : (w : Outside) (paths : List Word) (read : List (List ℕ)) → AreRead w.contents paths read → CameTo landed (reading_all paths) w w (gives read)
   were_read w [] [] are = was_given w []
   were_read w [] (t ∷ ts) are = absurd are
   were_read w (p ∷ ps) [] are = absurd are
@@ -39,20 +39,20 @@ module _ (landed : Landed) where
 
   -- ---- writes
 
-  pub was_written : (w : World) (write : Write) → CameTo landed (writing write) w (after_write landed w write) (gives tt)
+  pub was_written : (w : Outside) (write : Write) → CameTo landed (writing write) w (after_write landed w write) (gives tt)
   was_written w write =
       record { steps = has_written write ∷ []; comes = (refl, refl); begun = inr ([], has_written write, refl, refl); fit = (tt, tt); stand = refl }
 
-  were_written : (w : World) (writes : List Write) → CameTo landed (writing_all writes) w (after_writes landed w writes) (gives tt)
+  were_written : (w : Outside) (writes : List Write) → CameTo landed (writing_all writes) w (after_writes landed w writes) (gives tt)
   were_written w [] = was_given w tt
   were_written w (v ∷ vs) =
       came_then landed (writing v) _ w tt (after_write landed w v) (after_writes landed w (v ∷ vs)) (gives tt) (was_written w v) (were_written (after_write landed w v) vs)
 
-  pub writes-append : (w : World) (xs ys : List Write) → after_writes landed w (xs ++ ys) ≡ after_writes landed (after_writes landed w xs) ys
+  pub writes-append : (w : Outside) (xs ys : List Write) → after_writes landed w (xs ++ ys) ≡ after_writes landed (after_writes landed w xs) ys
   writes-append w [] ys = refl
   writes-append w (x ∷ xs) ys = writes-append (after_write landed w x) xs ys
 
-  pub was_instrumented : (w : World) (dest : Word) (paths : List Word) (read : List (List ℕ)) (looked : List LookedFile) → AreLooked paths read looked
+  pub was_instrumented : (w : Outside) (dest : Word) (paths : List Word) (read : List (List ℕ)) (looked : List LookedFile) → AreLooked paths read looked
       → CameTo landed (instrumenting dest paths read) w (after_writes landed w (all_file_writes dest looked)) (gives looked)
   was_instrumented w dest paths read looked are =
       let w' = after_writes landed w (all_file_writes dest looked) in
@@ -61,7 +61,7 @@ module _ (landed : Landed) where
 
   -- ---- folders
 
-  module _ (w : World) (m : FileMap) (told : w.contents ≡ Some m) where
+  module _ (w : Outside) (m : FileMap) (told : w.contents ≡ Some m) where
     was_listed : (path : Word) → CameTo landed (listing path) w w (gives (listed m path))
     was_listed path = record {
       steps = has_listed path (listed m path) ∷ [];

@@ -11,7 +11,7 @@ use Rattle.jc_run_plans.specs.Plans.{IsPlanText}
 use Rattle.jc_link_programs.specs.Linking.{IsProgramOf}
 use Rattle.jc_link_laws.specs.TwinFiles.{AreWrittenOf, IsShortFile}
 use Rattle.jc_link_laws.proofs.TwinLinkLaws.{twin_program}
-use Rattle.jc_command_work.specs.Step.{Word, World, Landed, Step, Fit, IsRead}
+use Rattle.jc_command_work.specs.Step.{Word, Outside, Landed, Step, Fit, IsRead}
 use Rattle.jc_command_work.specs.Part.{done, gives, stops, deciding, reading, reading_all, ◌>>=◌}
 use Rattle.jc_command_work.specs.Ending.{CameTo}
 use Rattle.jc_command_work.specs.Folders.{files_of}
@@ -43,7 +43,7 @@ are_short : (ts : List (List ℕ)) → AllByRecursion IsShortFile ts → AllByRe
 are_short [] short = tt
 are_short (t ∷ ts) short = (short.0.1, are_short ts short.1)
 
-module _ (c : Cover) (old : World) (m : FileMap) (told : old.contents ≡ Some m) where
+module _ (c : Cover) (old : Outside) (m : FileMap) (told : old.contents ≡ Some m) where
   abbrev paths : List Word
   paths = named_paths m c.files
 
@@ -55,7 +55,7 @@ module _ (c : Cover) (old : World) (m : FileMap) (told : old.contents ≡ Some m
       (files_read : AreRead old.contents paths read) (plan : RunPlan) (is_plan : IsPlanText plan_text plan) where
     module _ (looked : List LookedFile) (looked_at : AreLooked paths read looked) where
       -- where the files stand in the folder
-      abbrev filled : World
+      abbrev filled : Outside
       filled = after_writes as_written old (all_file_writes c.dest looked)
 
       -- what is read back of the accepted files
@@ -151,7 +151,7 @@ module _ (c : Cover) (old : World) (m : FileMap) (told : old.contents ≡ Some m
           let quiet = quiet_deciding (IsRunProgram read_back) (IsLinkEnd looked read_back) (no_link_end looked read_back) in
           let b = both as_written part rest filled steps (stops done) (through part rest steps quiet is) fits in
           let (links, left) = deciding_over as_written filled (IsRunProgram read_back) (IsLinkEnd looked read_back) b.value b.front b.first in
-          entry_fits read_back back b.value links b.behind (b.next, subst (λ (v : World). Fit as_written v b.behind) left b.fits')
+          entry_fits read_back back b.value links b.behind (b.next, subst (λ (v : Outside). Fit as_written v b.behind) left b.fits')
 
       run_fits : (steps : List Step) → IsDoneIn as_written (running c plan looked) filled steps → IsFitCover c old
       run_fits steps (is, fits) =
@@ -159,7 +159,7 @@ module _ (c : Cover) (old : World) (m : FileMap) (told : old.contents ≡ Some m
           let rest = λ (written : List (List ℕ)). link_part c plan looked written in
           let a = both as_written all rest filled steps (stops done) (through all rest steps (quiet_reading_all (targets c.dest looked)) is) fits in
           let (back, left) = reading_all_over as_written filled (targets c.dest looked) a.value a.front a.first a.fits in
-          link_fits a.value back a.behind (a.next, subst (λ (v : World). Fit as_written v a.behind) left a.fits')
+          link_fits a.value back a.behind (a.next, subst (λ (v : Outside). Fit as_written v a.behind) left a.fits')
 
     instrument_fits : (steps : List Step) → IsDoneIn as_written (instrument_part c plan paths read) old steps → IsFitCover c old
     instrument_fits steps (is, fits) =
@@ -167,7 +167,7 @@ module _ (c : Cover) (old : World) (m : FileMap) (told : old.contents ≡ Some m
         let h = both as_written part (λ looked. running c plan looked) old steps (stops done)
         (through part (λ looked. running c plan looked) steps (quiet_instrumenting c.dest paths read) is) fits in
         let (looked_at, made) = instrumenting_over as_written old c.dest paths read h.value h.front h.first h.fits in
-        run_fits h.value looked_at h.behind (h.next, subst (λ (v : World). Fit as_written v h.behind) made h.fits')
+        run_fits h.value looked_at h.behind (h.next, subst (λ (v : Outside). Fit as_written v h.behind) made h.fits')
 
   module _ (constants : HaveConstants m c.files) (plan_text : List ℕ) (plan_read : IsRead old.contents c.plan plan_text) where
     look_fits : AreDistinct paths → (read : List (List ℕ)) → AreRead old.contents paths read → (steps : List Step)
@@ -179,7 +179,7 @@ module _ (c : Cover) (old : World) (m : FileMap) (told : old.contents ≡ Some m
         let e = both as_written (deciding Is End) rest old steps (stops done)
         (through (deciding Is End) rest steps (quiet_deciding Is End (λ end. not_refused _ _ end.2)) is) fits in
         let (is_plan, left) = deciding_over as_written old Is End e.value e.front e.first in
-        instrument_fits constants distinct plan_text plan_read read files_read e.value is_plan e.behind (e.next, subst (λ (v : World). Fit as_written v e.behind) left e.fits')
+        instrument_fits constants distinct plan_text plan_read read files_read e.value is_plan e.behind (e.next, subst (λ (v : Outside). Fit as_written v e.behind) left e.fits')
 
     read_fits : AreDistinct paths → (steps : List Step) → IsDoneIn as_written (reading_all paths >>= (λ read. look_part c plan_text paths read)) old steps
         → IsFitCover c old
@@ -187,7 +187,7 @@ module _ (c : Cover) (old : World) (m : FileMap) (told : old.contents ≡ Some m
         let rest = λ (read : List (List ℕ)). look_part c plan_text paths read in
         let d = both as_written (reading_all paths) rest old steps (stops done) (through (reading_all paths) rest steps (quiet_reading_all paths) is) fits in
         let (files_read, left) = reading_all_over as_written old paths d.value d.front d.first d.fits in
-        look_fits distinct d.value files_read d.behind (d.next, subst (λ (v : World). Fit as_written v d.behind) left d.fits')
+        look_fits distinct d.value files_read d.behind (d.next, subst (λ (v : Outside). Fit as_written v d.behind) left d.fits')
 
     -- the words name one list of paths
     one_named : (ps : List Word) (steps : List Step) → files_of c.files steps (gives ps) → Fit as_written old steps → ps ≡ paths
@@ -206,14 +206,14 @@ module _ (c : Cover) (old : World) (m : FileMap) (told : old.contents ≡ Some m
         let (distinct, left) = files_over as_written old c.files b.value b.front b.first b.fits in
         let named = one_named b.value b.front b.first b.fits in
         read_fits (subst AreDistinct named distinct) b.behind
-        (subst (λ (ps : List Word). rest ps b.behind (stops done)) named b.next, subst (λ (v : World). Fit as_written v b.behind) left b.fits')
+        (subst (λ (ps : List Word). rest ps b.behind (stops done)) named b.next, subst (λ (v : Outside). Fit as_written v b.behind) left b.fits')
 
-  cover_fits : HaveConstants m c.files → (new : World) → CameTo as_written (cover_work c) old new (stops done) → IsFitCover c old
+  cover_fits : HaveConstants m c.files → (new : Outside) → CameTo as_written (cover_work c) old new (stops done) → IsFitCover c old
   cover_fits constants new came =
       let rest = λ (plan_text : List ℕ). files_of c.files >>= (λ ps. reading_all ps >>= (λ read. look_part c plan_text ps read)) in
       let a = both as_written (reading c.plan) rest old came.steps (stops done) (through (reading c.plan) rest came.steps (quiet_reading c.plan) came.comes) came.fit in
       let (plan_read, left) = reading_over as_written old c.plan a.value a.front a.first a.fits in
-      list_fits constants a.value plan_read a.behind (a.next, subst (λ (v : World). Fit as_written v a.behind) left a.fits')
+      list_fits constants a.value plan_read a.behind (a.next, subst (λ (v : Outside). Fit as_written v a.behind) left a.fits')
 
 done_fits : DoneCoversFit as_written
 done_fits c old new f f' m told constants ends =

@@ -17,7 +17,7 @@ use Rattle.jc_machine_laws.specs.Frameless.{frameless}
 use Rattle.jc_machine_model.specs.CaseText.{case_texts}
 use Rattle.jc_command_work.specs.declared.status.Status.{Status}
 use Rattle.jc_command_work.specs.declared.status.Status.TheVariants as status
-use Rattle.jc_command_work.specs.Step.{Word, World, Counts, Landed, Write, to_file, to_out, after, after_write}
+use Rattle.jc_command_work.specs.Step.{Word, Outside, Counts, Landed, Write, to_file, to_out, after, after_write}
 use Rattle.jc_command_work.specs.Part.{done, gives, stops, deciding, reading, writing, reading_all}
 use Rattle.jc_command_work.specs.Ending.{CameTo, Ends, NoneRose}
 use Rattle.jc_command_work.specs.Folders.{files_of}
@@ -55,7 +55,7 @@ use Rattle.jc_headline.proofs.StoredLaws.{bytes_written, short_files, read_back}
 abbrev pub EndsAsWork : Type 0
 EndsAsWork = (landed : Landed) (c : Cover) (run : ToldRun landed (cover_work c)) → NoneRose run.old_counts run.new_counts → run.ended ≢ status.Memory → MakesItsWork run
 
-module _ (c : Cover) (old : World) (fit : IsFitCover c old) where
+module _ (c : Cover) (old : Outside) (fit : IsFitCover c old) where
   abbrev paths : List Word
   paths = named_paths fit.contents c.files
 
@@ -147,17 +147,17 @@ module _ (c : Cover) (old : World) (fit : IsFitCover c old) where
     is = refl;
   }
 
-  -- ---- the worlds
+  -- ---- the outside
 
   -- where the files stand in the folder
-  abbrev filled : World
+  abbrev filled : Outside
   filled = after_writes as_written old (all_file_writes c.dest fit.looked)
 
   -- and at the end
   abbrev behind : List Write
   behind = to_file c.exec (exec_text store) ∷ to_file c.csv csv ∷ to_out (case_texts program 1 fit.plan.cases) ∷ []
 
-  abbrev last : World
+  abbrev last : Outside
   last = after_writes as_written filled behind
 
   apart : AreDistinct (all_targets c.dest fit.looked)
@@ -211,7 +211,7 @@ module _ (c : Cover) (old : World) (fit : IsFitCover c old) where
   is_work : IsWork as_written (cover_work c) old work
   is_work = (came.comes, came.fit)
 
-  abbrev run_of : (new : World) → new ≡ last → CoverRun as_written c old new
+  abbrev run_of : (new : Outside) → new ≡ last → CoverRun as_written c old new
   run_of new is = record {
     plan_text = fit.plan_text;
     plan_read = fit.plan_read;
@@ -233,10 +233,10 @@ module _ (c : Cover) (old : World) (fit : IsFitCover c old) where
     stands = is ∙ sym (writes-append as_written old (all_file_writes c.dest fit.looked) behind);
   }
 
-  holds : (new : World) → new ≡ last → HasHeadline as_written c old new fit
+  holds : (new : Outside) → new ≡ last → HasHeadline as_written c old new fit
   holds new is = let r = run_of new is in (r, refl, refl, headline c old new fit.contents fit.told r fit.constants)
 
-  is_done : EndsAsWork → (new : World) (f f' : Counts) (s : Status) → Ends as_written (cover_work c) old new f f' s → NoneRose f f' → s ≢ status.Memory
+  is_done : EndsAsWork → (new : Outside) (f f' : Counts) (s : Status) → Ends as_written (cover_work c) old new f f' s → NoneRose f f' → s ≢ status.Memory
       → (s ≡ status.Done) × HasHeadline as_written c old new fit
   is_done ends new f f' s is none not =
       let run : ToldRun as_written (cover_work c) = record {

@@ -5,7 +5,7 @@ use Rattle.std.specs.List.{AllByRecursion}
 use Rattle.jc_outside.specs.Outside.{FileMap}
 use Rattle.jc_programs.specs.declared.program.Program.{Program}
 use Rattle.jc_report.specs.declared.row.Counted.{Counted}
-use Rattle.jc_command_work.specs.Step.{World, Landed}
+use Rattle.jc_command_work.specs.Step.{Outside, Landed}
 use Rattle.jc_command_work.proofs.Prefix.{done_means}
 use Rattle.jc_command_files.specs.Report.{changed_of, first_of_each_id}
 use Rattle.jc_command_files.specs.ReportSteps.{counted_by}
@@ -20,7 +20,7 @@ use Rattle.jc_headline.proofs.HitLaws.{record_tells}
 use Rattle.jc_headline.proofs.RowLaws.{none_left_out, rows_there}
 use Rattle.jc_headline.proofs.RunMeaningLaws.{twin, instrumented, all_copied, data_written, report_written, printed, reasons_printed, store_is, short, written_of, are_written, original, originals, twins, marks, are_marks, entries, leaves}
 
-module _ (c : Cover) (old new : World) (m : FileMap) (told : old.contents ≡ Some m) (r : CoverRun as_written c old new)
+module _ (c : Cover) (old new : Outside) (m : FileMap) (told : old.contents ≡ Some m) (r : CoverRun as_written c old new)
     (constants : AllByRecursion NamesConstants (texts_in (accepted r.looked))) where
   abbrev before : Program
   before = original c old new m told r constants

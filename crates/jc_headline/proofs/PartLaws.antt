@@ -1,6 +1,6 @@
 -- What a part of `cover` did that is over, and parts that don't end a command as done.
 use Rattle.std.proofs.Common.{◌≡◌, ℕ, List, [], ◌∷◌, ◌++◌, inl, inr, refl, sym, ◌∙◌, ap, subst}
-use Rattle.jc_command_work.specs.Step.{Word, World, Landed, Write, to_read, to_list, to_write, Step, has_read, has_no, has_listed, has_written, Fit, after, after_write, IsRead}
+use Rattle.jc_command_work.specs.Step.{Word, Outside, Landed, Write, to_read, to_list, to_write, Step, has_read, has_no, has_listed, has_written, Fit, after, after_write, IsRead}
 use Rattle.jc_command_work.specs.Part.{End, done, refused, misused, unread, unwritten, unprinted, Outcome, wants, gives, stops, Part, Command, giving, deciding, making, never, reading, listing, writing, reading_all, writing_all, Hands, ◌>>=◌}
 use Rattle.jc_paths.specs.Paths.{FileText, plain, folder}
 use Rattle.jc_command_work.specs.Folders.{all_paths, paths_of, files_of, once}
@@ -95,8 +95,8 @@ quiet_instrumenting dest paths read =
 
 -- ---- what a part that is over did
 
-module _ (landed : Landed) (w : World) where
-  -- it left the world
+module _ (landed : Landed) (w : Outside) where
+  -- it left the outside
   abbrev pub Left : List Step → Type 0
   Left steps = after landed w steps ≡ w
 
@@ -138,7 +138,7 @@ module _ (landed : Landed) (w : World) where
   paths_over (folder path) ps steps is = listing_over _ ps steps is
 
 -- a part behind another: where the second begins, and what each did
-pub record Both {X Y : Type 0} (landed : Landed) (p : Part X) (q : X → Part Y) (w : World) (steps : List Step) (o : Outcome Y) : Type 0 where
+pub record Both {X Y : Type 0} (landed : Landed) (p : Part X) (q : X → Part Y) (w : Outside) (steps : List Step) (o : Outcome Y) : Type 0 where
   pub front : List Step
   pub behind : List Step
   pub value : X
@@ -148,7 +148,7 @@ pub record Both {X Y : Type 0} (landed : Landed) (p : Part X) (q : X → Part Y)
   pub fits' : Fit landed (after landed w front) behind
   pub stands : after landed w steps ≡ after landed (after landed w front) behind
 
-pub both : {X Y : Type 0} (landed : Landed) (p : Part X) (q : X → Part Y) (w : World) (steps : List Step) (o : Outcome Y) → Hands p q steps o → Fit landed w steps → Both landed p q w steps o
+pub both : {X Y : Type 0} (landed : Landed) (p : Part X) (q : X → Part Y) (w : Outside) (steps : List Step) (o : Outcome Y) → Hands p q steps o → Fit landed w steps → Both landed p q w steps o
 both landed p q w steps o h fits =
     let fits' = subst (Fit landed w) h.parts fits in
     record {
@@ -163,7 +163,7 @@ both landed p q w steps o h fits =
     }
 
 -- the command is done in these steps, and each gave what was there
-abbrev pub IsDoneIn : Landed → Command → World → List Step → Type 0
+abbrev pub IsDoneIn : Landed → Command → Outside → List Step → Type 0
 IsDoneIn landed command w steps = command steps (stops done) × Fit landed w steps
 
 pub handed : {X Y : Type 0} (p : Part X) (q : X → Part Y) (steps : List Step) (y : Y) → (p >>= q) steps (gives y) → Hands p q steps (gives y)
@@ -175,52 +175,52 @@ through p q steps quiet (inl within) = absurd (quiet steps within)
 through p q steps quiet (inr h) = h
 
 module _ (landed : Landed) where
-  pub reading_all_over : (w : World) (paths : List Word) (read : List (List ℕ)) (steps : List Step) → reading_all paths steps (gives read) → Fit landed w steps → AreRead w.contents paths read × (after landed w steps ≡ w)
+  pub reading_all_over : (w : Outside) (paths : List Word) (read : List (List ℕ)) (steps : List Step) → reading_all paths steps (gives read) → Fit landed w steps → AreRead w.contents paths read × (after landed w steps ≡ w)
   reading_all_over w [] read steps is fits = let g = giving_over landed w [] read steps is in (subst (AreRead w.contents []) (sym g.0) tt, g.1)
   reading_all_over w (p ∷ ps) read steps is fits =
       let a = both landed (reading p) _ w steps (gives read) (handed (reading p) _ steps read is) fits in
       let (there, left) = reading_over landed w p a.value a.front a.first a.fits in
-      let fits' = subst (λ (v : World). Fit landed v a.behind) left a.fits' in
+      let fits' = subst (λ (v : Outside). Fit landed v a.behind) left a.fits' in
       let b = both landed (reading_all ps) _ w a.behind (gives read) (handed (reading_all ps) _ a.behind read a.next) fits' in
       let (more, left') = reading_all_over w ps b.value b.front b.first b.fits in
       let (is', left'') = giving_over landed (after landed w b.front) (a.value ∷ b.value) read b.behind b.next in
-      (subst (AreRead w.contents (p ∷ ps)) (sym is') (there, more), a.stands ∙ ap (λ (v : World). after landed v a.behind) left ∙ b.stands ∙ left'' ∙ left')
+      (subst (AreRead w.contents (p ∷ ps)) (sym is') (there, more), a.stands ∙ ap (λ (v : Outside). after landed v a.behind) left ∙ b.stands ∙ left'' ∙ left')
 
-  pub writing_all_over : (w : World) (writes : List Write) (u : Unit {0}) (steps : List Step) → writing_all writes steps (gives u) → Fit landed w steps → after landed w steps ≡ after_writes landed w writes
+  pub writing_all_over : (w : Outside) (writes : List Write) (u : Unit {0}) (steps : List Step) → writing_all writes steps (gives u) → Fit landed w steps → after landed w steps ≡ after_writes landed w writes
   writing_all_over w [] u steps is fits = (giving_over landed w tt u steps is).1
   writing_all_over w (v ∷ vs) u steps is fits =
       let a = both landed (writing v) _ w steps (gives u) (handed (writing v) _ steps u is) fits in
       let made = writing_over landed w v a.value a.front a.first in
-      let rest = writing_all_over (after_write landed w v) vs u a.behind a.next (subst (λ (x : World). Fit landed x a.behind) made a.fits') in
-      a.stands ∙ ap (λ (x : World). after landed x a.behind) made ∙ rest
+      let rest = writing_all_over (after_write landed w v) vs u a.behind a.next (subst (λ (x : Outside). Fit landed x a.behind) made a.fits') in
+      a.stands ∙ ap (λ (x : Outside). after landed x a.behind) made ∙ rest
 
-  all_paths_over : (w : World) (files : List FileText) (ps : List Word) (steps : List Step) → all_paths files steps (gives ps) → Fit landed w steps → after landed w steps ≡ w
+  all_paths_over : (w : Outside) (files : List FileText) (ps : List Word) (steps : List Step) → all_paths files steps (gives ps) → Fit landed w steps → after landed w steps ≡ w
   all_paths_over w [] ps steps is fits = (giving_over landed w [] ps steps is).1
   all_paths_over w (file ∷ files) ps steps is fits =
       let a = both landed (paths_of file) _ w steps (gives ps) (handed (paths_of file) _ steps ps is) fits in
       let left = paths_over landed w file a.value a.front a.first in
-      let fits' = subst (λ (v : World). Fit landed v a.behind) left a.fits' in
+      let fits' = subst (λ (v : Outside). Fit landed v a.behind) left a.fits' in
       let b = both landed (all_paths files) _ w a.behind (gives ps) (handed (all_paths files) _ a.behind ps a.next) fits' in
       let left' = all_paths_over w files b.value b.front b.first b.fits in
       let left'' = (giving_over landed (after landed w b.front) (a.value ++ b.value) ps b.behind b.next).1 in
-      a.stands ∙ ap (λ (v : World). after landed v a.behind) left ∙ b.stands ∙ left'' ∙ left'
+      a.stands ∙ ap (λ (v : Outside). after landed v a.behind) left ∙ b.stands ∙ left'' ∙ left'
 
-  pub files_over : (w : World) (files : List FileText) (ps : List Word) (steps : List Step) → files_of files steps (gives ps) → Fit landed w steps → AreDistinct ps × (after landed w steps ≡ w)
+  pub files_over : (w : Outside) (files : List FileText) (ps : List Word) (steps : List Step) → files_of files steps (gives ps) → Fit landed w steps → AreDistinct ps × (after landed w steps ≡ w)
   files_over w files ps steps is fits =
       let a = both landed (all_paths files) _ w steps (gives ps) (handed (all_paths files) _ steps ps is) fits in
       let left = all_paths_over w files a.value a.front a.first a.fits in
       let (same, left') = giving_over landed (after landed w a.front) (once [] a.value) ps a.behind a.next in
       (subst AreDistinct (sym same) (distinct_once [] a.value), a.stands ∙ left' ∙ left)
 
-  pub instrumenting_over : (w : World) (dest : Word) (paths : List Word) (read : List (List ℕ)) (l : List LookedFile) (steps : List Step) → instrumenting dest paths read steps (gives l) → Fit landed w steps
+  pub instrumenting_over : (w : Outside) (dest : Word) (paths : List Word) (read : List (List ℕ)) (l : List LookedFile) (steps : List Step) → instrumenting dest paths read steps (gives l) → Fit landed w steps
       → AreLooked paths read l × (after landed w steps ≡ after_writes landed w (all_file_writes dest l))
   instrumenting_over w dest paths read l steps is fits =
       let a = both landed (making (AreLooked paths read)) _ w steps (gives l) (handed (making (AreLooked paths read)) _ steps l is) fits in
       let (looked, left) = deciding_over landed w (AreLooked paths read) never a.value a.front a.first in
-      let fits' = subst (λ (v : World). Fit landed v a.behind) left a.fits' in
+      let fits' = subst (λ (v : Outside). Fit landed v a.behind) left a.fits' in
       let b = both landed (writing_all (all_file_writes dest a.value)) _ w a.behind (gives l) (handed (writing_all (all_file_writes dest a.value)) _ a.behind l a.next) fits' in
       let made = writing_all_over w (all_file_writes dest a.value) b.value b.front b.first b.fits in
       let (same, left') = giving_over landed (after landed w b.front) a.value l b.behind b.next in (
         subst (AreLooked paths read) (sym same) looked,
-        a.stands ∙ ap (λ (v : World). after landed v a.behind) left ∙ b.stands ∙ left' ∙ made ∙ ap (λ (k : List LookedFile). after_writes landed w (all_file_writes dest k)) (sym same),
+        a.stands ∙ ap (λ (v : Outside). after landed v a.behind) left ∙ b.stands ∙ left' ∙ made ∙ ap (λ (k : List LookedFile). after_writes landed w (all_file_writes dest k)) (sym same),
       )

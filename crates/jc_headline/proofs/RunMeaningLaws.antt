@@ -25,7 +25,7 @@ use Rattle.jc_twin_simulation.proofs.BeginLaws.{entry_alike}
 use Rattle.jc_twin_simulation.proofs.ProgramRunLaws.{have_marks, have_sides, runs_are_same}
 use Rattle.jc_machine_laws.proofs.FramelessTextLaws.{same_texts}
 use Rattle.jc_paths.specs.Paths.{in_folder}
-use Rattle.jc_command_work.specs.Step.{Word, World, to_file, to_out, Told}
+use Rattle.jc_command_work.specs.Step.{Word, Outside, to_file, to_out, Told}
 use Rattle.jc_command_files.specs.Instrument.{Decision, refused_file, accepted_file}
 use Rattle.jc_command_files.specs.Report.{report_text}
 use Rattle.jc_command_run.specs.RunStore.{run_store, threads_of, first_without}
@@ -54,7 +54,7 @@ bytes_files contents (p ∷ ps) (t ∷ ts) are = (are.0.file.are_bytes, bytes_fi
 
 -- ---- the run
 
-module _ (c : Cover) (old new : World) (m : FileMap) (told : old.contents ≡ Some m) (r : CoverRun as_written c old new) where
+module _ (c : Cover) (old new : Outside) (m : FileMap) (told : old.contents ≡ Some m) (r : CoverRun as_written c old new) where
   distinct : AreDistinct (all_targets c.dest r.looked)
   distinct = subst (λ (l : List Word). AreDistinct (map (in_folder c.dest) l)) (sym (looked_files r.paths r.read r.looked r.looked_at)) (distinct_targets c.dest r.paths r.distinct)
 
@@ -85,7 +85,7 @@ module _ (c : Cover) (old new : World) (m : FileMap) (told : old.contents ≡ So
   unfolding final there exec_bytes
   final_contents =
       let behind = to_file c.exec (exec_text (run_store r.program r.plan)) ∷ to_file c.csv r.csv ∷ to_out (case_texts r.program 1 r.plan.cases) ∷ [] in
-      ap (λ (w : World). w.contents) r.stands ∙ contents_after old m (all_file_writes c.dest r.looked ++ behind) told
+      ap (λ (w : Outside). w.contents) r.stands ∙ contents_after old m (all_file_writes c.dest r.looked ++ behind) told
       ∙ ap (λ (n : FileMap). Some n) (map_after-append m (all_file_writes c.dest r.looked) behind)
 
   holds : (path bytes : List ℕ) → get final path ≡ Some bytes → HoldsFile new path bytes
@@ -133,13 +133,13 @@ module _ (c : Cover) (old new : World) (m : FileMap) (told : old.contents ≡ So
   printed t is =
       let text = case_texts r.program 1 r.plan.cases in
       let behind = to_file c.exec (exec_text (run_store r.program r.plan)) ∷ to_file c.csv r.csv ∷ to_out text ∷ [] in
-      ap (λ (w : World). w.out) r.stands ∙ out_after as_written old t (all_file_writes c.dest r.looked ++ behind) is
+      ap (λ (w : Outside). w.out) r.stands ∙ out_after as_written old t (all_file_writes c.dest r.looked ++ behind) is
       ∙ ap (λ (l : List ℕ). Some (t ++ l)) (out-append (all_file_writes c.dest r.looked) behind ∙ ap (λ (l : List ℕ). out_text (all_file_writes c.dest r.looked) ++ l) (append-nil text ∙ texts_are))
 
   pub reasons_printed : (t : List ℕ) → old.err ≡ Some t → new.err ≡ Some (t ++ err_text (all_file_writes c.dest r.looked))
   reasons_printed t is =
       let behind = to_file c.exec (exec_text (run_store r.program r.plan)) ∷ to_file c.csv r.csv ∷ to_out (case_texts r.program 1 r.plan.cases) ∷ [] in
-      ap (λ (w : World). w.err) r.stands ∙ err_after as_written old t (all_file_writes c.dest r.looked ++ behind) is
+      ap (λ (w : Outside). w.err) r.stands ∙ err_after as_written old t (all_file_writes c.dest r.looked ++ behind) is
       ∙ ap (λ (l : List ℕ). Some (t ++ l)) (err-append (all_file_writes c.dest r.looked) behind ∙ append-nil (err_text (all_file_writes c.dest r.looked)))
 
   -- ---- the two programs

@@ -8,7 +8,7 @@ use Rattle.std.specs.Str.{bytes_eq}
 use Rattle.std.specs.FinMap.{get, insert, get-insert}
 use Rattle.jc_outside.specs.Outside.{FileMap}
 use Rattle.jc_paths.specs.Paths.{in_folder}
-use Rattle.jc_command_work.specs.Step.{Word, World, Landed, Write, to_file, to_out, to_err, after_write, grown}
+use Rattle.jc_command_work.specs.Step.{Word, Outside, Landed, Write, to_file, to_out, to_err, after_write, grown}
 use Rattle.jc_command_work.specs.Prefix.{after_writes}
 use Rattle.jc_command_files.specs.Instrument.{Decision, refused_file, accepted_file, file_writes}
 use Rattle.jc_headline.specs.CoverWork.{LookedFile, all_file_writes, accepted, kept_if, paths_in, targets}
@@ -54,20 +54,20 @@ map_after m (to_file path bytes ∷ ws) = map_after (insert m path bytes) ws
 map_after m (to_out text ∷ ws) = map_after m ws
 map_after m (to_err text ∷ ws) = map_after m ws
 
-pub contents_after : (w : World) (m : FileMap) (ws : List Write) → w.contents ≡ Some m → (after_writes as_written w ws).contents ≡ Some (map_after m ws)
+pub contents_after : (w : Outside) (m : FileMap) (ws : List Write) → w.contents ≡ Some m → (after_writes as_written w ws).contents ≡ Some (map_after m ws)
 contents_after w m [] is = is
 contents_after w m (to_file path bytes ∷ ws) is = contents_after (after_write as_written w (to_file path bytes)) (insert m path bytes) ws (ap (λ (c : Option FileMap). option_map (λ (n : FileMap). insert n path bytes) c) is)
 contents_after w m (to_out text ∷ ws) is = contents_after (after_write as_written w (to_out text)) m ws is
 contents_after w m (to_err text ∷ ws) is = contents_after (after_write as_written w (to_err text)) m ws is
 
 module _ (landed : Landed) where
-  pub out_after : (w : World) (t : List ℕ) (ws : List Write) → w.out ≡ Some t → (after_writes landed w ws).out ≡ Some (t ++ out_text ws)
+  pub out_after : (w : Outside) (t : List ℕ) (ws : List Write) → w.out ≡ Some t → (after_writes landed w ws).out ≡ Some (t ++ out_text ws)
   out_after w t [] is = is ∙ ap (λ (x : List ℕ). Some x) (sym (append-nil t))
   out_after w t (to_file path bytes ∷ ws) is = out_after (after_write landed w (to_file path bytes)) t ws is
   out_after w t (to_out text ∷ ws) is = out_after (after_write landed w (to_out text)) (t ++ text) ws (ap (λ (o : Option (List ℕ)). grown o text) is) ∙ ap (λ (x : List ℕ). Some x) (append_assoc t text (out_text ws))
   out_after w t (to_err text ∷ ws) is = out_after (after_write landed w (to_err text)) t ws is
 
-  pub err_after : (w : World) (t : List ℕ) (ws : List Write) → w.err ≡ Some t → (after_writes landed w ws).err ≡ Some (t ++ err_text ws)
+  pub err_after : (w : Outside) (t : List ℕ) (ws : List Write) → w.err ≡ Some t → (after_writes landed w ws).err ≡ Some (t ++ err_text ws)
   err_after w t [] is = is ∙ ap (λ (x : List ℕ). Some x) (sym (append-nil t))
   err_after w t (to_file path bytes ∷ ws) is = err_after (after_write landed w (to_file path bytes)) t ws is
   err_after w t (to_out text ∷ ws) is = err_after (after_write landed w (to_out text)) t ws is

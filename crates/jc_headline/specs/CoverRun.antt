@@ -6,7 +6,7 @@ use Rattle.jc_programs.specs.declared.run_plan.RunPlan.{RunPlan}
 use Rattle.jc_exec.specs.Writing.{exec_text}
 use Rattle.jc_run_plans.specs.Plans.{IsPlanText}
 use Rattle.jc_machine_model.specs.CaseText.{case_texts}
-use Rattle.jc_command_work.specs.Step.{Word, World, Landed, to_file, to_out, IsRead}
+use Rattle.jc_command_work.specs.Step.{Word, Outside, Landed, to_file, to_out, IsRead}
 use Rattle.jc_command_work.specs.Prefix.{after_writes}
 use Rattle.jc_command_run.specs.RunAnswers.{IsRunProgram}
 use Rattle.jc_command_run.specs.RunStore.{run_store}
@@ -31,7 +31,7 @@ AreDistinct (p ∷ ps) = IsNone p ps × AreDistinct ps
 
 -- Text and execution data are those of the program that is linked from the very bytes that were read back, whatever a path holds
 -- after a write, and whatever probes these bytes have.
-pub record CoverRun (landed : Landed) (c : Cover) (old new : World) : Type 0 where
+pub record CoverRun (landed : Landed) (c : Cover) (old new : Outside) : Type 0 where
   -- what was read before any write
   pub plan_text : List ℕ
   pub plan_read : IsRead old.contents c.plan plan_text

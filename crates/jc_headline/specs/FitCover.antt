@@ -14,7 +14,7 @@ use Rattle.jc_link_programs.specs.declared.link_refusal.LinkRefusal.{LinkRefusal
 use Rattle.jc_link_laws.specs.SecondLinking.{IsSecondRefusal}
 use Rattle.jc_command_work.specs.declared.status.Status.{Status}
 use Rattle.jc_command_work.specs.declared.status.Status.TheVariants as status
-use Rattle.jc_command_work.specs.Step.{Word, World, Counts, Landed, IsRead}
+use Rattle.jc_command_work.specs.Step.{Word, Outside, Counts, Landed, IsRead}
 use Rattle.jc_command_work.specs.Part.{done}
 use Rattle.jc_command_work.specs.Ending.{Ends, NoneRose}
 use Rattle.jc_command_work.specs.Folders.{once}
@@ -42,7 +42,7 @@ IsShort text = length text ≤ most_read
 
 -- Plan and class files are fit for `cover`. Of the instrumented files it says that no method of a twin passes the bound on
 -- instructions times slots, that no two changed classes have one id, and that none is too long. All else is said of the originals.
-pub record IsFitCover (c : Cover) (old : World) : Type 0 where
+pub record IsFitCover (c : Cover) (old : Outside) : Type 0 where
   -- contents are told
   pub contents : FileMap
   pub told : old.contents ≡ Some contents
@@ -72,16 +72,16 @@ pub record IsFitCover (c : Cover) (old : World) : Type 0 where
 
 -- the work of each cover that fits ends as done
 abbrev pub FitCoversHaveWork : Landed → Type 0
-FitCoversHaveWork landed = (c : Cover) (old : World) → IsFitCover c old → (work : Work) × IsWork landed (cover_work c) old work × (work.end ≡ done)
+FitCoversHaveWork landed = (c : Cover) (old : Outside) → IsFitCover c old → (work : Work) × IsWork landed (cover_work c) old work × (work.end ≡ done)
 
 -- this plan ran, over what came of these files, and the headline holds
-abbrev pub HasHeadline : (landed : Landed) (c : Cover) (old new : World) → IsFitCover c old → Type 0
+abbrev pub HasHeadline : (landed : Landed) (c : Cover) (old new : Outside) → IsFitCover c old → Type 0
 HasHeadline landed c old new fit =
     (r : CoverRun landed c old new) × (r.plan ≡ fit.plan) × (r.looked ≡ fit.looked) × Headline landed c old new r
 
 -- where no count rose and memory wasn't refused, each run of such a cover is done
 abbrev pub FitCoversAreDone : Landed → Type 0
-FitCoversAreDone landed = (c : Cover) (old new : World) (f f' : Counts) (s : Status) (fit : IsFitCover c old) → Ends landed (cover_work c) old new f f' s
+FitCoversAreDone landed = (c : Cover) (old new : Outside) (f f' : Counts) (s : Status) (fit : IsFitCover c old) → Ends landed (cover_work c) old new f f' s
     → NoneRose f f' → s ≢ status.Memory → (s ≡ status.Done) × HasHeadline landed c old new fit
 
 -- ConstantValue attributes of those of the files that aren't refused name places of their constant pools
@@ -91,5 +91,5 @@ HaveConstants m files = (read : List (List ℕ)) (looked : List LookedFile) → 
 
 -- nothing less is enough: each run that is done is one of a cover that fits, if constants stand where they should
 abbrev pub DoneCoversFit : Landed → Type 0
-DoneCoversFit landed = (c : Cover) (old new : World) (f f' : Counts) (m : FileMap) → old.contents ≡ Some m → HaveConstants m c.files
+DoneCoversFit landed = (c : Cover) (old new : Outside) (f f' : Counts) (m : FileMap) → old.contents ≡ Some m → HaveConstants m c.files
     → Ends landed (cover_work c) old new f f' status.Done → IsFitCover c old

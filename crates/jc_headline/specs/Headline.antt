@@ -48,7 +48,7 @@ use Rattle.jc_link_laws.specs.TwinFiles.{HasConstants}
 use Rattle.jc_command_work.specs.declared.status.Status.TheVariants as status
 use Rattle.jc_command_work.specs.Ending.{Ends}
 use Rattle.jc_command_work.specs.OneWay.{IsTold}
-use Rattle.jc_command_work.specs.Step.{Word, World, Counts, Landed, Write, to_file, to_out, to_err, Told}
+use Rattle.jc_command_work.specs.Step.{Word, Outside, Counts, Landed, Write, to_file, to_out, to_err, Told}
 use Rattle.jc_command_files.specs.Instrument.{Decision, refused_file, accepted_file}
 use Rattle.jc_command_files.specs.Report.{report_text}
 use Rattle.jc_command_run.specs.RunStore.{hit_record, run_store}
@@ -78,11 +78,11 @@ all_written [] = []
 all_written (l ∷ ls) = written_bytes l.decision (all_written ls)
 
 -- a file holds these bytes
-abbrev pub HoldsFile : World → Word → List ℕ → Type 0
+abbrev pub HoldsFile : Outside → Word → List ℕ → Type 0
 HoldsFile w path bytes = Told w.contents (λ m. get m path ≡ Some bytes)
 
 -- a refused file stands in the folder as it was read, unless a later write went to its path
-abbrev pub IsCopied : Cover → World → LookedFile → Decision → Type 0
+abbrev pub IsCopied : Cover → Outside → LookedFile → Decision → Type 0
 IsCopied c new l (refused_file why) =
     in_folder c.dest l.file ≢ c.exec → in_folder c.dest l.file ≢ c.csv
     → HoldsFile new (in_folder c.dest l.file) l.bytes
@@ -144,7 +144,7 @@ module _ (before after : Program) (marks : Entry → Marks) (plan : RunPlan) whe
 
 -- ---- the headline
 
-pub record Headline (landed : Landed) (c : Cover) (old new : World) (r : CoverRun landed c old new) : Type 0 where
+pub record Headline (landed : Landed) (c : Cover) (old new : Outside) (r : CoverRun landed c old new) : Type 0 where
   -- the two programs
   pub before : Program
   pub originals : IsProgramOf (accepted_texts r.looked) before
@@ -172,5 +172,5 @@ pub record Headline (landed : Landed) (c : Cover) (old new : World) (r : CoverRu
 
 -- Where contents are told, each run of `cover` that is done is one of which the headline holds, if constants stand where they should.
 abbrev pub HeadlineOf : Landed → Type 0
-HeadlineOf landed = (c : Cover) (old new : World) (f f' : Counts) → IsTold old → Ends landed (cover_work c) old new f f' status.Done
+HeadlineOf landed = (c : Cover) (old new : Outside) (f f' : Counts) → IsTold old → Ends landed (cover_work c) old new f f' status.Done
     → (r : CoverRun landed c old new) × (AllByRecursion NamesConstants (accepted_texts r.looked) → Headline landed c old new r)

@@ -1,6 +1,6 @@
 //! Laws of the work of `cover`.
 ghost use Rattle.std.specs.Prelude.{◌≡◌, ◌≢◌, ℕ, List};
-ghost use Rattle.jc_command_work.specs.Step.{World, Counts, Landed};
+ghost use Rattle.jc_command_work.specs.Step.{Outside, Counts, Landed};
 ghost use Rattle.jc_command_work.specs.Ending.{Ends, NoneRose};
 ghost use Rattle.jc_command_work.specs.Prefix.{LeavesFront};
 ghost use Rattle.jc_command_work.specs.Causes.{HasOwnEnds};
@@ -20,8 +20,8 @@ use jc_run_plans::each_text_is_a_plan_or_has_a_first_unfit_line;
 
 /// What is asked of `cover` and told contents have exactly one work: its steps, and an end.
 pub fn cover_has_one_work()
-    ensures some { (landed : Landed) (c : Cover) (w : World) → IsTold w → (work : Work) × IsWork landed (cover_work c) w work }
-    ensures one { (landed : Landed) (c : Cover) (w : World) (a b : Work) → IsTold w → IsWork landed (cover_work c) w a
+    ensures some { (landed : Landed) (c : Cover) (w : Outside) → IsTold w → (work : Work) × IsWork landed (cover_work c) w work }
+    ensures one { (landed : Landed) (c : Cover) (w : Outside) (a b : Work) → IsTold w → IsWork landed (cover_work c) w a
         → IsWork landed (cover_work c) w b → a ≡ b }
 {
     each_text_is_a_plan_or_has_a_first_unfit_line();
@@ -47,7 +47,7 @@ pub fn cover_ends_by_itself()
 /// A run of `cover` that is done read, made and wrote what a `CoverRun` says: text and execution data are those of the program
 /// that is linked from the very bytes that were read back, whatever a path holds after a write.
 pub fn what_was_read_back_runs()
-    ensures { (landed : Landed) (c : Cover) (old new : World) (f f' : Counts) → Ends landed (cover_work c) old new f f' status.Done
+    ensures { (landed : Landed) (c : Cover) (old new : Outside) (f f' : Counts) → Ends landed (cover_work c) old new f f' status.Done
         → CoverRun landed c old new }
 {}
 

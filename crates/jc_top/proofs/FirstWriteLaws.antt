@@ -3,7 +3,7 @@
 use Rattle.std.proofs.Common.{◌≡◌, ◌⊎◌, ℕ, List, [], ◌∷◌, ◌++◌, inl, inr, refl, sym, ◌∙◌, ap, subst, append_assoc, append-nil}
 use Rattle.jc_paths.specs.Paths.{FileText, plain, folder}
 use Rattle.jc_command_work.specs.declared.status.Status.TheVariants as status
-use Rattle.jc_command_work.specs.Step.{Word, World, Counts, Landed, Write, Call, to_read, to_list, to_write, Step, has_read, has_no, has_listed, has_written, call_of, Fit, after, Broken}
+use Rattle.jc_command_work.specs.Step.{Word, Outside, Counts, Landed, Write, Call, to_read, to_list, to_write, Step, has_read, has_no, has_listed, has_written, call_of, Fit, after, Broken}
 use Rattle.jc_command_work.specs.Part.{End, done, unread, Outcome, wants, gives, stops, Part, Command, giving, ending, deciding, reading, listing, writing, reading_all, writing_all, ◌>>=◌}
 use Rattle.jc_command_work.specs.Ending.{Began, BrokeOff, Ends}
 use Rattle.jc_command_work.specs.OneWay.{writes_of}
@@ -264,7 +264,7 @@ written_steps : (writes : List Write) → writes_of (as_steps writes) ≡ writes
 written_steps [] = refl
 written_steps (write ∷ writes) = ap (λ (ws : List Write). write ∷ ws) (written_steps writes)
 
-module _ (landed : Landed) (command : Command) (last : WritesLast command) (old : World) where
+module _ (landed : Landed) (command : Command) (last : WritesLast command) (old : Outside) where
   -- nothing was written
   nothing : (steps : List Step) → writes_of steps ≡ [] → after landed old steps ≡ old
   nothing steps none = after-writes landed old steps ∙ ap (after_writes landed old) none
@@ -273,7 +273,7 @@ module _ (landed : Landed) (command : Command) (last : WritesLast command) (old 
     wrote : writes_of steps ≡ at.before
     wrote = ap writes_of at.parts ∙ writes-append at.reads (as_steps at.before) ∙ ap (λ (ws : List Write). ws ++ writes_of (as_steps at.before)) at.none ∙ written_steps at.before
 
-    begun : (new : World) → IsFront landed old (at.before ++ at.write ∷ at.behind) new → WritesBegun landed command old new
+    begun : (new : Outside) → IsFront landed old (at.before ++ at.write ∷ at.behind) new → WritesBegun landed command old new
     begun new front = record {
       reads = at.reads;
       writes = at.before ++ at.write ∷ at.behind;
@@ -284,7 +284,7 @@ module _ (landed : Landed) (command : Command) (last : WritesLast command) (old 
     }
 
     -- the write was made too
-    begun_on : (new : World) → new ≡ after landed old (steps ++ has_written at.write ∷ []) → WritesBegun landed command old new
+    begun_on : (new : Outside) → new ≡ after landed old (steps ++ has_written at.write ∷ []) → WritesBegun landed command old new
     begun_on new stand = begun new (record {
       front = at.before ++ at.write ∷ [];
       behind = at.behind;
@@ -294,17 +294,17 @@ module _ (landed : Landed) (command : Command) (last : WritesLast command) (old 
     })
 
     -- the write was made in part
-    begun_broken : (stands new : World) → stands ≡ after landed old steps → Broken landed stands (to_write at.write) new → WritesBegun landed command old new
+    begun_broken : (stands new : Outside) → stands ≡ after landed old steps → Broken landed stands (to_write at.write) new → WritesBegun landed command old new
     begun_broken stands new stand broken =
         let there = stand ∙ after-writes landed old steps ∙ ap (after_writes landed old) wrote in
         begun new (record {
           front = at.before;
           behind = at.write ∷ at.behind;
           parts = refl;
-          stand = inr (at.write, at.behind, refl, subst (λ (w : World). Broken landed w (to_write at.write) new) there broken);
+          stand = inr (at.write, at.behind, refl, subst (λ (w : Outside). Broken landed w (to_write at.write) new) there broken);
         })
 
-  began_left : (new : World) → Began landed command old new → (new ≡ old) ⊎ WritesBegun landed command old new
+  began_left : (new : Outside) → Began landed command old new → (new ≡ old) ⊎ WritesBegun landed command old new
   began_left new began = by began.begun
     where
       on : (front : List Step) (step : Step) → began.steps ≡ front ++ step ∷ []
@@ -320,7 +320,7 @@ module _ (landed : Landed) (command : Command) (last : WritesLast command) (old 
       by (inl none) = inl (began.stand ∙ ap (after landed old) none)
       by (inr (front, step, parts, wanted)) = on front step parts (last front (call_of step) wanted)
 
-  broke_left : (new : World) (f f' : Counts) (end : End) → BrokeOff landed command old new f f' end → (new ≡ old) ⊎ WritesBegun landed command old new
+  broke_left : (new : Outside) (f f' : Counts) (end : End) → BrokeOff landed command old new f f' end → (new ≡ old) ⊎ WritesBegun landed command old new
   broke_left new f f' end b = by (last b.came.steps b.call b.came.comes)
     where
       same : (call : Call) → IsReadCall call → Broken landed b.stands call new → new ≡ b.stands
@@ -334,7 +334,7 @@ module _ (landed : Landed) (command : Command) (last : WritesLast command) (old 
           inr (begun_broken b.came.steps b.call b.came.fit at b.stands new b.came.stand
           (subst (λ (c : Call). Broken landed b.stands c new) at.is b.broken))
 
-  pub memory_left : HasOwnEnds command → (new : World) (f f' : Counts) → Ends landed command old new f f' status.Memory → (new ≡ old) ⊎ WritesBegun landed command old new
+  pub memory_left : HasOwnEnds command → (new : Outside) (f f' : Counts) → Ends landed command old new f f' status.Memory → (new ≡ old) ⊎ WritesBegun landed command old new
   memory_left own new f f' ends = by (cause landed command old new f f' status.Memory own ends).far
     where
       by : ((f' ≡ f) × Began landed command old new) ⊎ ((end : End) × BrokeOff landed command old new f f' end) → (new ≡ old) ⊎ WritesBegun landed command old new

@@ -3,7 +3,7 @@ use Rattle.std.proofs.Common.{◌≡◌, List, [], ◌∷◌, ◌++◌, inl, inr
 use Rattle.jc_command_words.specs.Commands.{Called, Means}
 use Rattle.jc_command_words.proofs.CommandLaws.{one_command}
 use Rattle.jc_command_work.specs.declared.status.Status.{Status}
-use Rattle.jc_command_work.specs.Step.{Word, World, Counts, Landed, Step, call_of}
+use Rattle.jc_command_work.specs.Step.{Word, Outside, Counts, Landed, Step, call_of}
 use Rattle.jc_command_work.specs.Part.{done, Outcome, wants, gives, stops, deciding, Begun}
 use Rattle.jc_command_work.specs.Ending.{CameTo, Ends}
 use Rattle.jc_command_work.proofs.Ends.{ends_done}
@@ -33,7 +33,7 @@ module _ (words : List Word) (command : Called) (means : Means words command) wh
   begun_so steps (inl none) = inl none
   begun_so steps (inr (front, step, same, wanted)) = inr (front, step, same, comes_to front (wants (call_of step)) wanted)
 
-  came_so : (landed : Landed) (old new : World) (o : Outcome ⊥) → CameTo landed (the_work words) old new o → CameTo landed (work_of command) old new o
+  came_so : (landed : Landed) (old new : Outside) (o : Outcome ⊥) → CameTo landed (the_work words) old new o → CameTo landed (work_of command) old new o
   came_so landed old new o came = record {
     steps = came.steps;
     comes = comes_to came.steps o came.comes;
@@ -42,7 +42,7 @@ module _ (words : List Word) (command : Called) (means : Means words command) wh
     stand = came.stand;
   }
 
-pub keeps_headline : (landed : Landed) (words : List Word) (old new : World) (f f' : Counts) (s : Status) → Ends landed (the_work words) old new f f' s
+pub keeps_headline : (landed : Landed) (words : List Word) (old new : Outside) (f f' : Counts) (s : Status) → Ends landed (the_work words) old new f f' s
     → KeepsHeadline landed words old new s
 keeps_headline landed words old new f f' s ends c (workers, means) reads told is =
     let (same, came) = done_means landed (the_work words) old new f f' (subst (Ends landed (the_work words) old new f f') is ends) in

@@ -6,7 +6,7 @@ use Rattle.jc_command_words.specs.Commands.{Called, instrument, run, merge, repo
 use Rattle.jc_command_words.proofs.CommandLaws.{one_command, some_or_none}
 use Rattle.jc_command_work.specs.declared.status.Status.{Status}
 use Rattle.jc_command_work.specs.declared.status.Status.TheVariants as status
-use Rattle.jc_command_work.specs.Step.{Word, IsFile, World, Counts, Landed, Call, Step}
+use Rattle.jc_command_work.specs.Step.{Word, IsFile, Outside, Counts, Landed, Call, Step}
 use Rattle.jc_command_work.specs.Part.{End, done, refused, misused, unread, unwritten, unprinted, status_of, Outcome, wants, gives, stops, Part, Command, deciding, reading, ◌>>=◌}
 use Rattle.jc_command_work.specs.Ending.{Ends}
 use Rattle.jc_command_work.specs.Folders.{files_of}
@@ -243,7 +243,7 @@ module _ (landed : Landed) (words : List Word) where
       by [] is = absurd (none h.value is)
       by (step ∷ front) is = absurd is
 
-  pub no_form_ends : NoForm words → (old new : World) (f f' : Counts) (s : Status) → Ends landed (the_work words) old new f f' s → (s ≡ status.Usage) ⊎ (s ≡ status.Memory)
+  pub no_form_ends : NoForm words → (old new : Outside) (f f' : Counts) (s : Status) → Ends landed (the_work words) old new f f' s → (s ≡ status.Usage) ⊎ (s ≡ status.Memory)
   no_form_ends none old new f f' s (inl e) = inl (e.is ∙ ap status_of (none_ends none e.came.steps e.end e.came.comes))
   no_form_ends none old new f f' s (inr (inl e)) = absurd (none_wants none e.broke_off.came.steps e.broke_off.call e.broke_off.came.comes)
   no_form_ends none old new f f' s (inr (inr e)) = inr e.is

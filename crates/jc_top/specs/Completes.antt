@@ -4,12 +4,12 @@ use Rattle.std.specs.declared.alloc.Global.{Global}
 use Rattle.jc_command_work.specs.declared.output.Write.{Write as Written}
 use Rattle.jc_command_work.specs.declared.status.Status.{Status}
 use Rattle.jc_command_work.specs.declared.stop.Stop.{Stop}
-use Rattle.jc_command_work.specs.Step.{World, Counts, Landed}
+use Rattle.jc_command_work.specs.Step.{Outside, Counts, Landed}
 use Rattle.jc_command_work.specs.Ending.{Reports, Ends}
 use Rattle.jc_command_work.specs.Answered.{making_all}
 use Rattle.jc_command_work.specs.Seen.{write_seen, stop_seen}
 
 -- the writes that were prepared were made, or it was reported what had stopped the command
-abbrev pub Completes : Landed → Result (Vec Written Global) Stop → (old new : World) → (f f' : Counts) → Status → Type 0
+abbrev pub Completes : Landed → Result (Vec Written Global) Stop → (old new : Outside) → (f f' : Counts) → Status → Type 0
 Completes landed (Ok writes) old new f f' s = Ends landed (making_all (map write_seen writes.items)) old new f f' s
 Completes landed (Err stop) old new f f' s = Reports (stop_seen stop) old new f f' s

@@ -4,7 +4,7 @@ use Rattle.std.specs.List.{AllByRecursion}
 use Rattle.jc_command_words.specs.Commands.{cover, Means}
 use Rattle.jc_command_work.specs.declared.status.Status.{Status}
 use Rattle.jc_command_work.specs.declared.status.Status.TheVariants as status
-use Rattle.jc_command_work.specs.Step.{Word, World, Landed}
+use Rattle.jc_command_work.specs.Step.{Word, Outside, Landed}
 use Rattle.jc_command_work.specs.OneWay.{IsTold}
 use Rattle.jc_headline.specs.CoverWork.{Cover, accepted_texts}
 use Rattle.jc_headline.specs.CoverRun.{CoverRun}
@@ -21,7 +21,7 @@ ReadsBack landed = (path bytes : List ℕ) → landed path bytes ≡ bytes
 -- Where contents are told and read back as they were written, the headline holds of each run that the words of a `cover` call and that is
 -- done: of what it read, made and wrote, if the ConstantValue attributes of static fields of type long of changed classes name places of
 -- their constant pools (JVM Specification 4.7.2).
-abbrev pub KeepsHeadline : Landed → List Word → (old new : World) → Status → Type 0
+abbrev pub KeepsHeadline : Landed → List Word → (old new : Outside) → Status → Type 0
 KeepsHeadline landed words old new s =
     (c : Cover) → CallsCover words c → ReadsBack landed → IsTold old → s ≡ status.Done
     → (r : CoverRun landed c old new) × (AllByRecursion NamesConstants (accepted_texts r.looked) → Headline landed c old new r)

@@ -1,7 +1,7 @@
 -- What is left by a command that reads and decides before it writes.
 use Rattle.std.specs.Prelude.{◌≡◌, ⊤, List, [], ◌++◌, map}
 use Rattle.jc_command_words.specs.Commands.{Called, instrument, run, merge, report, exec_info, class_info, cover, cover_sample, Means}
-use Rattle.jc_command_work.specs.Step.{Word, World, Landed, Write, Step, has_written, Fit}
+use Rattle.jc_command_work.specs.Step.{Word, Outside, Landed, Write, Step, has_written, Fit}
 use Rattle.jc_command_work.specs.Part.{done, stops, Command}
 use Rattle.jc_command_work.specs.OneWay.{writes_of}
 use Rattle.jc_command_work.specs.Prefix.{IsFront}
@@ -25,7 +25,7 @@ abbrev pub as_steps : List Write → List Step
 as_steps writes = map (λ w. has_written w) writes
 
 -- All inputs were read, in these steps, and these writes decided on. First ones of them were made, the last perhaps in part.
-pub record WritesBegun (landed : Landed) (command : Command) (old new : World) : Type 0 where
+pub record WritesBegun (landed : Landed) (command : Command) (old new : Outside) : Type 0 where
   pub reads : List Step
   pub writes : List Write
   pub none : writes_of reads ≡ []

@@ -2,7 +2,7 @@
 ghost use Rattle.std.specs.Prelude.{◌≡◌, ◌≢◌, ◌⊎◌, [], List};
 ghost use Rattle.jc_command_work.specs.declared.status.Status.{Status};
 ghost use Rattle.jc_command_work.specs.declared.status.Status.TheVariants as status;
-ghost use Rattle.jc_command_work.specs.Step.{Word, World, Counts, Landed, Step};
+ghost use Rattle.jc_command_work.specs.Step.{Word, Outside, Counts, Landed, Step};
 ghost use Rattle.jc_command_work.specs.Part.{End, done, status_of, stops};
 ghost use Rattle.jc_command_work.specs.Ending.{NoneRose, Ends};
 ghost use Rattle.jc_command_work.specs.OneWay.{IsTold, Work, IsWork, writes_of};
@@ -18,8 +18,8 @@ use jc_run_plans::each_text_is_a_plan_or_has_a_first_unfit_line;
 
 /// Words and told contents have exactly one work: the steps that they ask for, and an end.
 pub fn words_have_one_work()
-    ensures some { (landed : Landed) (words : List Word) (w : World) → IsTold w → (work : Work) × IsWork landed (the_work words) w work }
-    ensures one { (landed : Landed) (words : List Word) (w : World) (a b : Work) → IsTold w
+    ensures some { (landed : Landed) (words : List Word) (w : Outside) → IsTold w → (work : Work) × IsWork landed (the_work words) w work }
+    ensures one { (landed : Landed) (words : List Word) (w : Outside) (a b : Work) → IsTold w
         → IsWork landed (the_work words) w a → IsWork landed (the_work words) w b → a ≡ b }
 {
     a_run_has_an_answer();
@@ -35,7 +35,7 @@ pub fn words_have_one_work()
 /// - `WriteFault`: a write failed, its count rose, and it was made in part.
 /// - `Memory`: some first steps were made, or the call behind them failed too. Nothing is said.
 pub fn each_status_has_its_cause()
-    ensures { (landed : Landed) (words : List Word) (old new : World) (f g : Counts) (s : Status)
+    ensures { (landed : Landed) (words : List Word) (old new : Outside) (f g : Counts) (s : Status)
         → Ends landed (the_work words) old new f g s → Cause landed (the_work words) old new f g s }
 {}
 
@@ -68,9 +68,9 @@ pub fn each_run_leaves_a_front_of_its_work()
 
 /// Usage comes exactly where the words are of no stated form, but for want of memory.
 pub fn usage_comes_for_words_of_no_form()
-    ensures only { (landed : Landed) (words : List Word) (old new : World) (f g : Counts)
+    ensures only { (landed : Landed) (words : List Word) (old new : Outside) (f g : Counts)
         → Ends landed (the_work words) old new f g status.Usage → NoForm words }
-    ensures always { (landed : Landed) (words : List Word) (old new : World) (f g : Counts) (s : Status) → NoForm words
+    ensures always { (landed : Landed) (words : List Word) (old new : Outside) (f g : Counts) (s : Status) → NoForm words
         → Ends landed (the_work words) old new f g s → (s ≡ status.Usage) ⊎ (s ≡ status.Memory) }
 {}
 
@@ -84,6 +84,6 @@ pub fn a_command_but_cover_that_refuses_has_written_nothing()
 /// Where a command other than `cover` ends for want of memory, files and texts are as they were, or all inputs were read and what to
 /// write was decided: what stands then was made by first ones of these writes, the last of them perhaps in part.
 pub fn want_of_memory_leaves_what_was_or_first_writes()
-    ensures { (landed : Landed) (words : List Word) (old new : World) (f g : Counts) → DecideFirst words
+    ensures { (landed : Landed) (words : List Word) (old new : Outside) (f g : Counts) → DecideFirst words
         → Ends landed (the_work words) old new f g status.Memory → (new ≡ old) ⊎ WritesBegun landed (the_work words) old new }
 {}

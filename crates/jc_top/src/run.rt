@@ -4,7 +4,7 @@ ghost use Rattle.jc_command_words.specs.Commands.{files_of};
 ghost use Rattle.jc_command_words.specs.Outcome.{CommandRead};
 ghost use Rattle.jc_command_words.specs.Seen.{command_seen};
 ghost use Rattle.jc_command_words.specs.Words.{words_of};
-ghost use Rattle.jc_command_work.specs.Step.{world};
+ghost use Rattle.jc_command_work.specs.Step.{outside};
 ghost use Rattle.jc_command_work.specs.Ending.{Ends};
 ghost use Rattle.jc_headline.specs.Runs.{Between};
 ghost use Rattle.jc_top.specs.Bounds.{IsBounded};
@@ -127,8 +127,8 @@ pub fn run_tool<R: Threads + Sync, F: Files, O: Sink, E: Sink, G: Gate + Sync>(
     ensures work { Between F.Files O.Sink E.Sink (files.old, out.old, err.old) (files.new, out.new, err.new)
         (Ends F.landed (the_work (words_of words.now))) result }
     ensures headline { KeepsHeadline F.landed (words_of words.now)
-        (world (F.contents files.old) (O.told out.old) (E.told err.old))
-        (world (F.contents files.new) (O.told out.new) (E.told err.new)) result }
+        (outside (F.contents files.old) (O.told out.old) (E.told err.old))
+        (outside (F.contents files.new) (O.told out.new) (E.told err.new)) result }
 {
     match read_command(alloc, words) {
         Ok(command) => run_command(rt, alloc, files, out, err, gate, &command),

@@ -5,7 +5,7 @@
 ghost use Rattle.std.specs.Prelude.{◌≡◌};
 ghost use Rattle.jcov.specs.ExitStatus.{exit_status};
 
-use jc_base::{HostFiles, HostSink};
+use jc_outside::{HostFiles, HostSink};
 use jc_top::{OpenGate, Status, run_tool};
 use std::alloc::AllocError;
 use std::io::ErrorKind;

@@ -1,5 +1,5 @@
 use Rattle.std.proofs.Common.{List, length, map}
-use Rattle.jc_command_work.specs.Step.{Word, world, counts}
+use Rattle.jc_command_work.specs.Step.{Word, outside, counts}
 use Rattle.jc_command_work.specs.Seen.{words_of}
 use Rattle.jc_command_files.specs.Instrument.{decision_seen}
 use Rattle.jc_headline.specs.CoverWork.{LookedFile}
@@ -15,6 +15,6 @@ invariant-writing g l =
     let E = g.E.Sink in
     (dest : Word) (looked : List LookedFile) → AreOf dest looked (words_of l.targets) (words_of l.paths) l.texts (map decision_seen l.fn.all.items)
     → WroteFirst F.landed dest looked (length l.yielded)
-    (world (F.contents l.fn.files) (O.told l.fn.out) (E.told l.fn.err)) (world (F.contents l.files) (O.told l.out) (E.told l.err))
+    (outside (F.contents l.fn.files) (O.told l.fn.out) (E.told l.fn.err)) (outside (F.contents l.files) (O.told l.out) (E.told l.err))
     (counts (F.read_faults l.fn.files) (F.write_faults l.fn.files) (O.faults l.fn.out) (E.faults l.fn.err))
     (counts (F.read_faults l.files) (F.write_faults l.files) (O.faults l.out) (E.faults l.err)) l.places.items

@@ -1,7 +1,7 @@
 use Rattle.std.proofs.Common.{◌≡◌, ℕ, List, [], Bor, IfOk, length, string_bytes, inl, refl, subst, ap, sym, ◌∙◌}
 use Rattle.std.proofs.lemmas.List.{length-map}
 use Rattle.std.proofs.lemmas.Result.{err_from_is_err_and}
-use Rattle.jc_command_work.specs.Step.{world, counts}
+use Rattle.jc_command_work.specs.Step.{outside, counts}
 use Rattle.jc_command_work.specs.Part.{reading_all}
 use Rattle.jc_command_work.specs.Ending.{Does}
 use Rattle.jc_command_work.specs.Seen.{texts_of, stop_seen}
@@ -15,7 +15,7 @@ returns-in_err-named-clause-does g c out err outs errs =
 pub returns-clause-does : goal.returns-clause-does
 returns-clause-does g c out err outs errs =
     let F = g.F.Files in
-    subst (λ (paths : List (List ℕ)). Does F.landed (reading_all paths) (λ texts. texts.items) stop_seen (world (F.contents c.args.files.now) out err) (world (F.contents c.read_all.new.files) out err)
+    subst (λ (paths : List (List ℕ)). Does F.landed (reading_all paths) (λ texts. texts.items) stop_seen (outside (F.contents c.args.files.now) out err) (outside (F.contents c.read_all.new.files) out err)
     (counts (F.read_faults c.args.files.now) (F.write_faults c.args.files.now) outs errs) (counts (F.read_faults c.read_all.new.files) (F.write_faults c.read_all.new.files) outs errs) c.read_all.result)
     (ap texts_of c.deref.ensures.value ∙ c.in_ok-named.ensures) (c.read_all.ensures.does out err outs errs)
 

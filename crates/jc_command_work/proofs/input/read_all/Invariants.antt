@@ -1,6 +1,6 @@
 use Rattle.std.proofs.Common.{◌≡◌, ◌≤◌, ℕ, List, Option, All, length, Bor}
 use Rattle.jc_bytes.specs.Reader.{most_read}
-use Rattle.jc_command_work.specs.Step.{world, counts}
+use Rattle.jc_command_work.specs.Step.{outside, counts}
 use Rattle.jc_command_work.proofs.Reaching.{Reads}
 use Rattle.jc_command_work.proofs.input.read_all.Given as goal
 
@@ -10,7 +10,7 @@ invariant-reading g l =
     let F = g.F.Files in
     record {
       reads : (out err : Option (List ℕ)) (outs errs : ℕ) → Reads F.landed (λ (t : Bor (List ℕ)). t.now) l.paths l.path-index
-          (world (F.contents l.fn.files) out err) (world (F.contents l.files) out err)
+          (outside (F.contents l.fn.files) out err) (outside (F.contents l.files) out err)
           (counts (F.read_faults l.fn.files) (F.write_faults l.fn.files) outs errs) (counts (F.read_faults l.files) (F.write_faults l.files) outs errs) l.texts.items;
       each : length l.texts.items ≡ l.path-index;
       short : All (λ t. length t ≤ most_read) l.texts.items;

@@ -1,5 +1,5 @@
 use Rattle.std.proofs.Common.{List, ℕ, inr, refl, subst}
-use Rattle.jc_command_work.specs.Step.{world, counts}
+use Rattle.jc_command_work.specs.Step.{outside, counts}
 use Rattle.jc_command_work.specs.Ending.{Says}
 use Rattle.jc_command_work.proofs.message.report_usage.Goals as goal
 
@@ -8,6 +8,6 @@ returns-clause-does g c contents out reads writes outs =
     let E = g.E.Sink in
     inr (
       refl,
-      subst (λ (t : List ℕ). Says t (world contents out (E.told c.args.err.now)) (world contents out (E.told c.say.new.err))
+      subst (λ (t : List ℕ). Says t (outside contents out (E.told c.args.err.now)) (outside contents out (E.told c.say.new.err))
           (counts reads writes outs (E.faults c.args.err.now)) (counts reads writes outs (E.faults c.say.new.err))) c.as_bytes.ensures.value (c.say.ensures contents out reads writes outs),
     )

@@ -1,5 +1,5 @@
 use Rattle.std.proofs.Common.{List, ℕ, subst}
-use Rattle.jc_command_work.specs.Step.{world, counts, to_file, to_out, to_err}
+use Rattle.jc_command_work.specs.Step.{outside, counts, to_file, to_out, to_err}
 use Rattle.jc_command_work.specs.Part.{writing}
 use Rattle.jc_command_work.specs.Ending.{Does}
 use Rattle.jc_command_work.specs.Seen.{stop_seen}
@@ -11,7 +11,7 @@ returns-in-File-clause-does g c =
     let O = g.O.Sink in
     let E = g.E.Sink in
     rw c.in-File.is (subst (λ (b : List ℕ). Does F.landed (writing (to_file c.in-File.path.now b)) (λ _. tt) stop_seen
-    (world (F.contents c.args.files.now) (O.told c.args.out.now) (E.told c.args.err.now)) (world (F.contents c.write_file.new.files) (O.told c.args.out.now) (E.told c.args.err.now))
+    (outside (F.contents c.args.files.now) (O.told c.args.out.now) (E.told c.args.err.now)) (outside (F.contents c.write_file.new.files) (O.told c.args.out.now) (E.told c.args.err.now))
     (counts (F.read_faults c.args.files.now) (F.write_faults c.args.files.now) (O.faults c.args.out.now) (E.faults c.args.err.now))
     (counts (F.read_faults c.write_file.new.files) (F.write_faults c.write_file.new.files) (O.faults c.args.out.now) (E.faults c.args.err.now)) c.write_file.result) c.deref.ensures.value
     (c.write_file.ensures.does (O.told c.args.out.now) (E.told c.args.err.now) (O.faults c.args.out.now) (E.faults c.args.err.now)))
@@ -22,7 +22,7 @@ returns-in-Out-clause-does g c =
     let O = g.O.Sink in
     let E = g.E.Sink in
     rw c.in-Out.is (subst (λ (b : List ℕ). Does F.landed (writing (to_out b)) (λ _. tt) stop_seen
-    (world (F.contents c.args.files.now) (O.told c.args.out.now) (E.told c.args.err.now)) (world (F.contents c.args.files.now) (O.told c.put_out.new.out) (E.told c.args.err.now))
+    (outside (F.contents c.args.files.now) (O.told c.args.out.now) (E.told c.args.err.now)) (outside (F.contents c.args.files.now) (O.told c.put_out.new.out) (E.told c.args.err.now))
     (counts (F.read_faults c.args.files.now) (F.write_faults c.args.files.now) (O.faults c.args.out.now) (E.faults c.args.err.now))
     (counts (F.read_faults c.args.files.now) (F.write_faults c.args.files.now) (O.faults c.put_out.new.out) (E.faults c.args.err.now)) c.put_out.result) c.deref-in-Out.ensures.value
     (c.put_out.ensures.does F.landed (F.contents c.args.files.now) (E.told c.args.err.now) (F.read_faults c.args.files.now) (F.write_faults c.args.files.now) (E.faults c.args.err.now)))
@@ -33,7 +33,7 @@ returns-in-Err-clause-does g c =
     let O = g.O.Sink in
     let E = g.E.Sink in
     rw c.in-Err.is (subst (λ (b : List ℕ). Does F.landed (writing (to_err b)) (λ _. tt) stop_seen
-    (world (F.contents c.args.files.now) (O.told c.args.out.now) (E.told c.args.err.now)) (world (F.contents c.args.files.now) (O.told c.args.out.now) (E.told c.put_err.new.err))
+    (outside (F.contents c.args.files.now) (O.told c.args.out.now) (E.told c.args.err.now)) (outside (F.contents c.args.files.now) (O.told c.args.out.now) (E.told c.put_err.new.err))
     (counts (F.read_faults c.args.files.now) (F.write_faults c.args.files.now) (O.faults c.args.out.now) (E.faults c.args.err.now))
     (counts (F.read_faults c.args.files.now) (F.write_faults c.args.files.now) (O.faults c.args.out.now) (E.faults c.put_err.new.err)) c.put_err.result) c.deref-in-Err.ensures.value
     (c.put_err.ensures.does F.landed (F.contents c.args.files.now) (O.told c.args.out.now) (F.read_faults c.args.files.now) (F.write_faults c.args.files.now) (O.faults c.args.out.now)))
