@@ -1,7 +1,7 @@
 -- The answer of each command on class files is one.
 use Rattle.std.proofs.Common.{◌≡◌, ◌⊎◌, inl, inr, ⊎_elim, ℕ, List, ◌++◌, length, map, Option, refl, sym, ◌∙◌, ap, subst}
 use Rattle.std.specs.Option.{option_to_list}
-use Rattle.jc_base.specs.declared.Refusal.{Refusal}
+use Rattle.jc_bytes.specs.declared.refusal.Refusal.{Refusal}
 use Rattle.jc_command_work.specs.declared.status.Fault.TheVariants as fault
 use Rattle.jc_command_work.specs.Step.{Word, AreTexts, Write, to_out}
 use Rattle.jc_command_work.specs.Part.{End, gives, stops}

@@ -1,6 +1,6 @@
 -- The classes of a report with their counters are those that marking gives, and no others.
 use Rattle.std.proofs.Common.{◌≡◌, Bool, List, [], ◌∷◌, map, Option, refl, ◌∙◌, ap, ap₂}
-use Rattle.jc_base.specs.declared.Analysed.{Analysed}
+use Rattle.jc_methods.specs.declared.analysed.Analysed.{Analysed}
 use Rattle.jc_cover.specs.Covered.{hits_or_none}
 use Rattle.jc_cover.specs.Marking.{coverage_of}
 use Rattle.jc_cover.proofs.CoverageLaws.{tells}

@@ -2,10 +2,10 @@
 use Rattle.std.proofs.Common.{◌≡◌, ℕ, zero, suc, ◌+◌, Bool, true, false, not, cond, ◌&&◌, List, [], ◌∷◌, ◌++◌, map, filter, take, replicate, length, Option, None, refl, sym, ◌∙◌, ap, ap₂}
 use Rattle.std.specs.List.{count_by, fold, sum_by, flat_map, list_any}
 use Rattle.std.proofs.lemmas.List.Sums.{sum_by-cons}
-use Rattle.jc_base.specs.PlainLists.{map_from}
-use Rattle.jc_base.specs.declared.Analysed.{Analysed}
-use Rattle.jc_base.specs.declared.Body.{Body}
-use Rattle.jc_base.specs.declared.Insn.{Insn}
+use Rattle.jc_bytes.specs.PlainLists.{map_from}
+use Rattle.jc_methods.specs.declared.analysed.Analysed.{Analysed}
+use Rattle.jc_methods.specs.declared.body.Body.{Body}
+use Rattle.jc_methods.specs.declared.insn.Insn.{Insn}
 use Rattle.jc_cover.specs.Counters.{Method, methods_of, is_counted, is_covered, is_covered_method, Lined, lined_insns, line_count, count_of, branching, covered_paths, missed_paths, all_insns, counters_of_methods, counters_of}
 use Rattle.jc_cover.specs.Covered.{is_hit, hits_or_none}
 use Rattle.jc_cover.specs.Marking.{with_edge, with_edges, sources, mark_if, mark_back, mark_each, is_hit_at, marks_of, covers_by, covers, body_values, coverage_of}

@@ -4,8 +4,8 @@ use Rattle.std.proofs.lemmas.List.{append-nil, take_more, take_all}
 use Rattle.std.proofs.lemmas.Slice.Zip.{AllZip-long, length-zip, get_or-zip}
 use Rattle.std.specs.List.{AllByRecursion, AllZip, zip}
 use Rattle.std.specs.declared.alloc.Global.{Global}
-use Rattle.jc_base.specs.declared.Memory.{Memory}
-use Rattle.jc_base.specs.declared.Refusal.{Refusal}
+use Rattle.jc_bytes.specs.declared.fail.Memory.{Memory}
+use Rattle.jc_bytes.specs.declared.refusal.Refusal.{Refusal}
 use Rattle.jc_instrument_laws.proofs.EachFileLaws.{each_file}
 use Rattle.jc_instrument.proofs.OneTwinLaws.{one_file, file_or_reason}
 use Rattle.jc_instrument.proofs.RoomCauseLaws.{one_reason}

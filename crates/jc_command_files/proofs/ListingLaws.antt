@@ -5,13 +5,13 @@ use Rattle.std.specs.List.{AllByRecursion, AllZip, flat_map}
 use Rattle.std.proofs.lemmas.List.Concat.{flat_map-cons}
 use Rattle.std.proofs.lemmas.Slice.Zip.{AllZip-long}
 use Rattle.std.specs.declared.alloc.Global.{Global}
-use Rattle.jc_base.specs.declared.Analysed.{Analysed}
-use Rattle.jc_base.specs.declared.Body.{Body}
-use Rattle.jc_base.specs.declared.Fail.{Fail}
-use Rattle.jc_base.specs.declared.Fail.TheVariants as fails
-use Rattle.jc_base.specs.declared.Refusal.{Refusal}
-use Rattle.jc_base.proofs.DecoderLaws.{some_is}
-use Rattle.jc_base.specs.Failing.{Said}
+use Rattle.jc_methods.specs.declared.analysed.Analysed.{Analysed}
+use Rattle.jc_methods.specs.declared.body.Body.{Body}
+use Rattle.jc_bytes.specs.declared.fail.Fail.{Fail}
+use Rattle.jc_bytes.specs.declared.fail.Fail.TheVariants as fails
+use Rattle.jc_bytes.specs.declared.refusal.Refusal.{Refusal}
+use Rattle.jc_bytes.proofs.DecoderLaws.{some_is}
+use Rattle.jc_bytes.specs.Failing.{Said}
 use Rattle.jc_instrument.specs.Analysis.{IsAnalysis}
 use Rattle.jc_instrument.specs.Reasons.{AnalysisReason}
 use Rattle.jc_instrument.specs.SameAnalysis.{IsSameAnalysis, without_frames}

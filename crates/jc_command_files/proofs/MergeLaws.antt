@@ -2,8 +2,8 @@
 use Rattle.std.proofs.Common.{◌≡◌, ℕ, ◌+◌, ◌<◌, ◌≤◌, List, [], ◌∷◌, ◌++◌, length, take, get_or, map, Result, Ok, Err, IfOk, IfErr, Vec, Bor, refl, sym, ◌∙◌, ap, subst, arith}
 use Rattle.std.proofs.lemmas.List.{take_more, take_all, get_or-map, get_or_default}
 use Rattle.std.specs.declared.alloc.Global.{Global}
-use Rattle.jc_base.specs.declared.Fail.{Fail}
-use Rattle.jc_base.specs.declared.Fail.TheVariants as fails
+use Rattle.jc_bytes.specs.declared.fail.Fail.{Fail}
+use Rattle.jc_bytes.specs.declared.fail.Fail.TheVariants as fails
 use Rattle.jc_exec.specs.declared.refusal.ExecRefusal.{ExecRefusal}
 use Rattle.jc_exec.specs.Answers.{Refuses}
 use Rattle.jc_exec.specs.Store.{Store}

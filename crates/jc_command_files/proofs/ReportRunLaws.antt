@@ -2,9 +2,9 @@
 use Rattle.std.proofs.Common.{◌≡◌, ℕ, List, [], ◌∷◌, ◌++◌, map, Option, None, Some, Result, Ok, Err, Vec, Bor, refl, sym, ◌∙◌, ap, subst, arith}
 use Rattle.std.proofs.lemmas.List.{map-append}
 use Rattle.std.specs.declared.alloc.Global.{Global}
-use Rattle.jc_base.proofs.DecoderLaws.{some_is}
-use Rattle.jc_base.specs.declared.Fail.{Fail}
-use Rattle.jc_base.specs.declared.Fail.TheVariants as fails
+use Rattle.jc_bytes.proofs.DecoderLaws.{some_is}
+use Rattle.jc_bytes.specs.declared.fail.Fail.{Fail}
+use Rattle.jc_bytes.specs.declared.fail.Fail.TheVariants as fails
 use Rattle.jc_exec.specs.Answers.{Refuses}
 use Rattle.jc_exec.specs.Store.{Store}
 use Rattle.jc_exec.specs.declared.hits.ClassHits.{ClassHits}

@@ -8,13 +8,13 @@ use Rattle.std.specs.Str.{bytes_eq}
 use Rattle.std.proofs.lemmas.List.{append-nil, map-append, take_more, take_all, length-map, length-take}
 use Rattle.std.proofs.lemmas.List.Elements.{filter-append}
 use Rattle.std.proofs.lemmas.Slice.Zip.{AllZip-long}
-use Rattle.jc_base.specs.FirstSeen.{first_seen, seen_behind}
-use Rattle.jc_base.specs.declared.Analysed.{Analysed}
-use Rattle.jc_base.specs.declared.Body.{Body}
-use Rattle.jc_base.specs.declared.Fail.{Fail}
-use Rattle.jc_base.specs.declared.Fail.TheVariants as fails
-use Rattle.jc_base.specs.declared.Refusal.{Refusal}
-use Rattle.jc_base.proofs.FirstSeenLaws.{seen-append, seen_anew, any_first_seen}
+use Rattle.jc_bytes.specs.FirstSeen.{first_seen, seen_behind}
+use Rattle.jc_methods.specs.declared.analysed.Analysed.{Analysed}
+use Rattle.jc_methods.specs.declared.body.Body.{Body}
+use Rattle.jc_bytes.specs.declared.fail.Fail.{Fail}
+use Rattle.jc_bytes.specs.declared.fail.Fail.TheVariants as fails
+use Rattle.jc_bytes.specs.declared.refusal.Refusal.{Refusal}
+use Rattle.jc_bytes.proofs.FirstSeenLaws.{seen-append, seen_anew, any_first_seen}
 use Rattle.jc_exec.specs.declared.hits.ClassHits.{ClassHits}
 use Rattle.jc_exec.specs.declared.refusal.ExecRefusal.{ExecRefusal}
 use Rattle.jc_exec.specs.Answers.{conflict_with}
@@ -22,7 +22,7 @@ use Rattle.jc_exec.specs.Union.{fits}
 use Rattle.jc_instrument.specs.Analysis.{IsAnalysis}
 use Rattle.jc_instrument.specs.LeftAlone.{is_left_alone}
 use Rattle.jc_instrument.specs.Reasons.{AnalysisReason}
-use Rattle.jc_base.specs.Failing.{Said}
+use Rattle.jc_bytes.specs.Failing.{Said}
 use Rattle.jc_report.specs.declared.row.Counted.{Counted}
 use Rattle.jc_command_files.specs.declared.class_report.Looked.{Looked}
 use Rattle.jc_command_files.specs.declared.class_report.Seen.{Seen}

@@ -1,6 +1,6 @@
 -- What the command `instrument` makes of class files.
 use Rattle.std.specs.Prelude.{◌≡◌, List, ℕ, [], ◌∷◌, ◌++◌, Some}
-use Rattle.jc_base.specs.declared.Refusal.{Refusal}
+use Rattle.jc_bytes.specs.declared.refusal.Refusal.{Refusal}
 use Rattle.jc_instrument.specs.InstrumentedFile.{IsInstrumentedFile}
 use Rattle.jc_instrument.specs.Refused.{Reason}
 use Rattle.jc_instrument.specs.declared.whole.Instrumented.{Instrumented}

@@ -1,7 +1,7 @@
 -- The lines of class files. Each ends with a line feed.
 use Rattle.std.specs.Prelude.{ℕ, List, ◌++◌, codes, Bool, true, false}
 use Rattle.std.specs.Fmt.{decimal}
-use Rattle.jc_base.specs.declared.Refusal.{Refusal}
+use Rattle.jc_bytes.specs.declared.refusal.Refusal.{Refusal}
 use Rattle.jc_command_work.specs.Texts.{class_refusal_text}
 
 -- the line of a class file that is refused and is no failure

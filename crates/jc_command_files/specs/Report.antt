@@ -3,8 +3,8 @@ use Rattle.std.specs.Prelude.{◌≡◌, ⊤, ℕ, Bool, true, false, not, List,
 use Rattle.std.specs.Prelude.{Option, Some, None, option_map, option_to_list, if◌then◌else◌}
 use Rattle.std.specs.Option.{option_or}
 use Rattle.std.specs.List.{find}
-use Rattle.jc_base.specs.declared.Analysed.{Analysed}
-use Rattle.jc_base.specs.declared.Refusal.{Refusal}
+use Rattle.jc_methods.specs.declared.analysed.Analysed.{Analysed}
+use Rattle.jc_bytes.specs.declared.refusal.Refusal.{Refusal}
 use Rattle.jc_cover.specs.Counters.{counters_of}
 use Rattle.jc_cover.specs.Covered.{hits_or_none, TellsCovered}
 use Rattle.jc_cover.specs.declared.coverage.Coverage.{Coverage}

@@ -1,7 +1,7 @@
 //! The command `classinfo`.
 ghost use Rattle.std.specs.Prelude.{◌≡◌, ◌≤◌, ◌<◌, ◌^◌, ◌++◌, All, length, IfOk, OnOk, string_bytes};
 ghost use Rattle.std.specs.List.{AllZip, flat_map};
-ghost use Rattle.jc_base.specs.Reader.{most_read};
+ghost use Rattle.jc_bytes.specs.Reader.{most_read};
 ghost use Rattle.jc_plan.specs.Analysed.{IsAnalysed};
 ghost use Rattle.jc_command_files.specs.ClassInfo.{class_end, class_line, class_text};
 ghost use Rattle.jc_command_files.specs.ClassInfo.{method_end, method_start, method_text, method_line, IsListing, ListAnswers};

@@ -1,7 +1,7 @@
 //! The class files of a report.
 ghost use Rattle.std.specs.Prelude.{◌≡◌, ◌≤◌, List, length, option_map, Some, None, All, IfSome, IfOk, IfErr, OnOk};
 ghost use Rattle.std.specs.List.{AllZip};
-ghost use Rattle.jc_base.specs.Reader.{most_read};
+ghost use Rattle.jc_bytes.specs.Reader.{most_read};
 ghost use Rattle.jc_exec.specs.declared.hits.ClassHits.{ClassHits};
 ghost use Rattle.jc_exec.specs.Store.{IsWritableClass};
 ghost use Rattle.jc_plan.specs.Analysed.{IsAnalysed};

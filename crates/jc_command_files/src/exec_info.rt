@@ -1,7 +1,7 @@
 //! The command `execinfo`.
 ghost use Rattle.std.specs.Prelude.{◌≡◌, ◌≤◌, ◌<◌, ◌^◌, ◌++◌, ◌∷◌, []};
 ghost use Rattle.std.specs.Prelude.{All, count_by, length, map, IfOk, IfErr, OnOk, string_bytes};
-ghost use Rattle.jc_base.specs.Reader.{most_read};
+ghost use Rattle.jc_bytes.specs.Reader.{most_read};
 ghost use Rattle.jc_exec.specs.Answers.{Refuses};
 ghost use Rattle.jc_command_files.specs.ExecData.{IsUnionOf, no_data};
 ghost use Rattle.jc_command_files.specs.ExecInfo.{file_line, times_text, session_line, hits_text, record_start, record_line, file_lines, InfoAnswers};

@@ -1,6 +1,6 @@
 //! Reading class files.
 ghost use Rattle.std.specs.Prelude.{◌≡◌, ◌≤◌, All, length, IfOk};
-ghost use Rattle.jc_base.specs.Reader.{most_read};
+ghost use Rattle.jc_bytes.specs.Reader.{most_read};
 ghost use Rattle.jc_command_work.specs.Part.{reading_all};
 ghost use Rattle.jc_command_work.specs.Ending.{DoesFiles};
 ghost use Rattle.jc_command_work.specs.Handed.{BetweenFiles};

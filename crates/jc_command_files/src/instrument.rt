@@ -1,7 +1,7 @@
 //! The command `instrument`.
 ghost use Rattle.std.specs.Prelude.{◌≡◌, ◌≤◌, All, length, map, IfOk, OnOk};
 ghost use Rattle.std.specs.List.{AllZip};
-ghost use Rattle.jc_base.specs.Reader.{most_read};
+ghost use Rattle.jc_bytes.specs.Reader.{most_read};
 ghost use Rattle.jc_command_files.specs.Instrument.{IsDecision, decided_line, file_writes, AreFileWrites, InstrumentAnswers, decision_seen};
 ghost use Rattle.jc_command_work.specs.Answered.{Prepares};
 ghost use Rattle.jc_command_work.specs.Handed.{BetweenFiles};

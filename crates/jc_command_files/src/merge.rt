@@ -1,6 +1,6 @@
 //! The command `merge`.
 ghost use Rattle.std.specs.Prelude.{◌≡◌, ◌≤◌, ◌<◌, ◌^◌, [], ◌∷◌, All, length, Err, IfOk, IfErr};
-ghost use Rattle.jc_base.specs.Reader.{most_read};
+ghost use Rattle.jc_bytes.specs.Reader.{most_read};
 ghost use Rattle.jc_command_files.specs.ExecData.{IsUnionOf};
 ghost use Rattle.jc_command_work.specs.Step.{Word};
 ghost use Rattle.jc_command_work.specs.Seen.{texts_of};

@@ -1,6 +1,6 @@
 //! The command `report`.
 ghost use Rattle.std.specs.Prelude.{◌≡◌, ◌≤◌, ◌<◌, ◌^◌, ◌∷◌, ◌++◌, [], All, Some, None, length, map, IfOk, IfSome};
-ghost use Rattle.jc_base.specs.Reader.{most_read};
+ghost use Rattle.jc_bytes.specs.Reader.{most_read};
 ghost use Rattle.jc_command_files.specs.Report.{report_text, ReportAnswers};
 ghost use Rattle.jc_command_files.specs.ReportSteps.{data_records, data_path, exec_path, exec_texts, CountsFiles, ReportsWith};
 ghost use Rattle.jc_command_work.specs.Seen.{words_of};

@@ -1,6 +1,6 @@
 use Rattle.std.proofs.Common.{ℕ, ◌-◌, ◌<◌, ◌≤◌, ◌++◌, List, length, get_or, sym, ◌∙◌, ap, subst, arith}
-use Rattle.jc_base.specs.declared.Body.{Body}
-use Rattle.jc_base.specs.declared.Plan.{Plan}
+use Rattle.jc_methods.specs.declared.body.Body.{Body}
+use Rattle.jc_methods.specs.declared.plan.Plan.{Plan}
 use Rattle.jc_plan.specs.Probed.{probe_count}
 use Rattle.jc_command_files.proofs.MethodLaws.{as_many_plans, next_id, first_behind, method_put}
 use Rattle.jc_command_files.proofs.class_info.put_methods.Goals as goal

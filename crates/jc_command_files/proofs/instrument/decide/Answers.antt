@@ -1,5 +1,5 @@
 use Rattle.std.proofs.Common.{ℕ, List, Some, subst}
-use Rattle.jc_base.specs.Failing.{Said}
+use Rattle.jc_bytes.specs.Failing.{Said}
 use Rattle.jc_instrument.specs.InstrumentedFile.{IsInstrumentedFile}
 use Rattle.jc_instrument.specs.Refused.{Reason}
 use Rattle.jc_command_files.proofs.ReportStepLaws.{said_why}

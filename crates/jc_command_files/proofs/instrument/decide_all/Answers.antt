@@ -1,5 +1,5 @@
 use Rattle.std.proofs.Common.{rules, List, ℕ, Result, IfOk, subst}
-use Rattle.jc_base.specs.declared.Memory.{Memory}
+use Rattle.jc_bytes.specs.declared.fail.Memory.{Memory}
 use Rattle.jc_command_files.specs.declared.instrument.Decided.{Decided}
 use Rattle.jc_command_files.specs.Instrument.{IsDecision, decision_seen}
 use Rattle.jc_command_files.proofs.RunLaws.{zip_read}
