@@ -34,7 +34,7 @@ pub fn counts(alloc: Global, program: &Program) -> Result<Vec<u32>, AllocError>
     Ok(counts)
 }
 
-/// The text of a case of a program, as that of the first case of a plan. Its threads begin with the entries.
+/// The text of a case of a program, as that of the first case of a run plan. Its threads begin with the entries.
 ///
 /// # Errors
 ///

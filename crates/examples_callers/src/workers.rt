@@ -15,7 +15,7 @@ use std::alloc::Global;
 use std::marker::Sync;
 use std::thread::Threads;
 
-/// What the cases of a plan leave, which run on so many workers, and which probes they hit.
+/// What the cases of a run plan leave, which run on so many workers, and which probes they hit.
 ///
 /// # Errors
 ///

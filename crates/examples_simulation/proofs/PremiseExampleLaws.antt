@@ -1,4 +1,4 @@
--- A plan that meets the premises of exact coverage.
+-- A run plan that meets the premises of exact coverage.
 use Rattle.std.proofs.Common.{◌≡◌, refl, sym, subst, ℕ, zero, suc, Bool, List, [], ◌∷◌}
 use Rattle.std.specs.Prelude.{Contains, IsTrue, slice_index_or}
 use Rattle.std.specs.Fmt.{digits}

@@ -54,7 +54,7 @@ abs_plan = record { cases = abs_case ∷ [] }
 abbrev pub abs_hits : List Bool
 abs_hits = true ∷ false ∷ []
 
--- what the law asks of a program, its twin, a plan and its hits
+-- what the law asks of a program, its twin, a run plan and its hits
 pub record MeetsPremises (before after : Program) (plan : RunPlan) (hits : List (List Bool)) : Type 0 where
   pub twin : TwinProgram before after
   pub marks : Entry → Marks

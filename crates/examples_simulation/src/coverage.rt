@@ -13,7 +13,7 @@ ghost use Rattle.examples_simulation.specs.CoverageExamples.{MeetsPremises, abs_
 ghost use Rattle.examples_simulation.specs.CoverageExamples.{covered_in, div_case, div_marks, edges_reached, edges_taken};
 ghost use Rattle.examples_simulation.specs.CoverageExamples.{hits_in, probed_div_program, r_case, r_marks, stopped_inc};
 
-/// The premises can be met: a plan of one case that returns. The branches that are covered are those that were taken.
+/// The premises can be met: a run plan of one case that returns. The branches that are covered are those that were taken.
 pub fn worked_coverage()
     ensures premises { MeetsPremises abs_program probed_abs_program abs_plan (abs_hits ∷ []) }
     ensures taken { edges_taken abs_program probed_abs_program abs_marks abs_case

@@ -38,8 +38,8 @@ pub record AreWhole (those : Accepted) : Type 0 where
 
 -- ---- a run of them
 
--- A plan, files that were looked at, and a program: these are the accepted ones of the files, and this came of the plan's cases on
--- the program.
+-- A run plan, files that were looked at, and a program: these are the accepted ones of the files, and this came of the run plan's
+-- cases on the program.
 pub record RunOf (those : Accepted) (ran : Ran) : Type 0 where
   pub plan : RunPlan
   pub looked : List LookedFile

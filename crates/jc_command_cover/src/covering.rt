@@ -1,4 +1,4 @@
-//! The command `cover`, behind the text of its plan and the list of its files.
+//! The command `cover`, behind the text of its run plan and the list of its files.
 ghost use Rattle.std.specs.Prelude.{◌≡◌, ◌≤◌, ◌<◌, ◌^◌, List, length, map};
 ghost use Rattle.jc_bytes.specs.Reader.{most_read};
 ghost use Rattle.jc_paths.specs.Paths.{FileText, in_folder};
@@ -24,17 +24,17 @@ use std::thread::Threads;
 /// Does the command `cover` by the text of its run plan, the paths of its class files, and the paths in the folder to which they
 /// are written.
 ///
-/// It reads the files, and refuses the plan's text by its first line that doesn't fit. It writes each file instrumented, or as it
-/// was read where it is refused, with its line. Then it reads back those that weren't refused, and runs the program that is linked
-/// of what was read back. It writes the execution data of all cases, the report on these files as they were read at first, and on
-/// `out` what the cases print. Where it is done, each call was made in this order, and none failed.
+/// It reads the files, and refuses the run plan's text by its first line that doesn't fit. It writes each file instrumented, or as
+/// it was read where it is refused, with its line. Then it reads back those that weren't refused, and runs the program that is
+/// linked of what was read back. It writes the execution data of all cases, the report on these files as they were read at first,
+/// and on `out` what the cases print. Where it is done, each call was made in this order, and none failed.
 ///
 /// # Errors
 ///
-/// The first of these ends it: a file that can't be read or written, or a text on `out` or `err` that can't be; the plan's text;
-/// files read back that are no program, which are named by their places among all files; a thread of the plan without a method to
-/// begin with; and, once the execution data is written, a record of it that clashes with a class of the files as they were read at
-/// first, which names the file of execution data as the first input. `Memory` may come at any time.
+/// The first of these ends it: a file that can't be read or written, or a text on `out` or `err` that can't be; the run plan's
+/// text; files read back that are no program, which are named by their places among all files; a thread of the run plan without a
+/// method to begin with; and, once the execution data is written, a record of it that clashes with a class of the files as they
+/// were read at first, which names the file of execution data as the first input. `Memory` may come at any time.
 pub fn cover<'a, R: Threads + Sync, F: Files, O: Sink, E: Sink, G: Gate + Sync>(
     rt: &R,
     alloc: Global,

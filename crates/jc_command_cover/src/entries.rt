@@ -11,7 +11,7 @@ use jc_command_run::line_without_entry;
 use jc_command_work::{Fault, Stop};
 use jc_programs::{Program, RunPlan};
 
-/// Refuses the first thread of a plan that has no method to begin with, by its line in the file of the plan.
+/// Refuses the first thread of a run plan that has no method to begin with, by its line in the file of the run plan.
 pub fn check_entries<'a>(path: &'a str, program: &Program, plan: &RunPlan) -> Result<(), Stop<'a>>
     requires { IsProgram program.now }
     ensures entries { OnOk result (first_without program.now (threads_of plan.now) ≡ None) }

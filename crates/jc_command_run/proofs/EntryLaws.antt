@@ -1,4 +1,4 @@
--- The methods with which the threads of a plan begin.
+-- The methods with which the threads of a run plan begin.
 use Rattle.std.proofs.Common.{◌≡◌, ◌⊎◌, inl, inr, List, [], ◌∷◌, ◌++◌, Option, None, Some, option_map, Contains, subst}
 use Rattle.std.proofs.lemmas.List.Concat.{flat_map-cons}
 use Rattle.std.proofs.lemmas.List.Elements.{All-weaker}

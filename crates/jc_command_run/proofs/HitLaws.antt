@@ -1,4 +1,4 @@
--- The execution data of hits that are kept as truth values is that of the plan's hits.
+-- The execution data of hits that are kept as truth values is that of the run plan's hits.
 use Rattle.std.proofs.Common.{◌≡◌, ◌⊎◌, ⊎_elim, inl, inr, ◌↔◌, ℕ, suc, ◌+◌, ◌<◌, Bool, true, false, ◌||◌, ◌&&◌, nat_eq, List, [], ◌∷◌, map, length, get_or, Option, None, Some, Contains, refl, sym, ◌∙◌, ap, subst, arith}
 use Rattle.std.specs.List.{flat_map, range_with_len}
 use Rattle.std.proofs.lemmas.Bool.{and_parts, and_from, or_cases, or_left, or_right, eqb-true, eq-eqb}
@@ -125,7 +125,7 @@ module _ (p : Program) (plan : RunPlan) (hits : List (List Bool)) (are : (class 
       by None is = refl
       by (Some init) is = ap (λ (r : ClassHits). r ∷ hit_records all (class + 1) classes) (same_record class c init (here ∙ ap count_of is))
 
-  -- the records are those of the plan's hits
+  -- the records are those of the run plan's hits
   pub same_store : counts_of hits ≡ probe_counts p → (let s : Store = record { sessions = []; classes = set_records hits 0 p.classes } in s) ≡ run_store p plan
   same_store counts = ap (λ (classes : List ClassHits). let s : Store = record { sessions = []; classes = classes } in s) (same_records 0 p.classes counted)
     where

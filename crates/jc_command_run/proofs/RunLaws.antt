@@ -20,9 +20,9 @@ use Rattle.jc_command_run.specs.RunStore.{threads_of, first_without}
 use Rattle.jc_command_run.proofs.ChoiceLaws.{IsOneChoice, one_choice}
 use Rattle.jc_command_run.proofs.StoreLaws.{same_frameless}
 
--- ---- plans
+-- ---- run plans
 
--- a text is one plan at most, or has one first line that doesn't fit
+-- a text is one run plan at most, or has one first line that doesn't fit
 pub record OnePlan : Type 0 where
   pub apart : (text : List ℕ) (plan : RunPlan) (line : ℕ) → IsPlanText text plan → FirstUnfit text line → ⊥
   pub one_plan : (text : List ℕ) (p q : RunPlan) → IsPlanText text p → IsPlanText text q → p ≡ q

@@ -1,4 +1,4 @@
--- The threads of a plan that have no method to begin with.
+-- The threads of a run plan that have no method to begin with.
 use Rattle.std.specs.Prelude.{◌<◌, ◌^◌, ℕ, length, All}
 use Rattle.jc_programs.specs.declared.program.Program.{Program}
 use Rattle.jc_programs.specs.declared.program.Linked.{Linked}

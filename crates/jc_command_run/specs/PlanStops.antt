@@ -15,7 +15,7 @@ abbrev pub plan_stop : Fail PlanRefusal → Bor (List ℕ) → Stop
 plan_stop fails.Memory plan = stops.Memory
 plan_stop (fails.Said refusal) plan = stops.Refused plan (faults.Plan refusal.line)
 
--- the command ends as a plan's text that is refused ends it, or memory was refused
+-- the command ends as a run plan's text that is refused ends it, or memory was refused
 abbrev pub PlanStops : (plan : Word) → List ℕ → Option End → Type 0
 PlanStops plan text None = ⊤
 PlanStops plan text (Some end) = IsPlanEnd plan text end

@@ -51,7 +51,7 @@ Chooses {X} Is Ends then answer = ((x : X) × Is x × then x answer) ⊎ ((end :
 
 -- ---- the decisions of `run`
 
--- the plan's text is refused
+-- the run plan's text is refused
 abbrev pub IsPlanEnd : (plan : Word) → List ℕ → End → Type 0
 IsPlanEnd plan text end = (line : ℕ) × FirstUnfit text line × (end ≡ refusal_of plan (fault.Plan line))
 
@@ -83,7 +83,7 @@ RunsFiles plan exec paths plan_text files =
     Chooses (IsRunProgram files) (IsLinkEnd paths files) (λ program answer.
     answer ≡ run_answer plan exec p program (first_without program (threads_of p))))
 
--- the plan is read first, and then the files
+-- the run plan is read first, and then the files
 abbrev pub RunAnswers : (plan exec : Word) (paths : List Word) → List (List ℕ) → Answer → Type 0
 RunAnswers plan exec paths [] answer = ⊥
 RunAnswers plan exec paths (plan_text ∷ files) answer = RunsFiles plan exec paths plan_text files answer

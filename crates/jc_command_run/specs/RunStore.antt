@@ -15,7 +15,7 @@ use Rattle.jc_machine_model.specs.World.{Hit}
 
 -- ---- threads
 
--- all threads of a plan, in the order of its lines
+-- all threads of a run plan, in the order of its lines
 abbrev pub threads_of : RunPlan → List ThreadLine
 threads_of plan = flat_map (λ (c : Case). c.threads) plan.cases
 
@@ -46,6 +46,6 @@ abbrev pub hit_records : List Hit → (class : ℕ) → List Linked → List Cla
 hit_records hits class [] = []
 hit_records hits class (c ∷ classes) = with_record hits class c c.probes (hit_records hits (class + 1) classes)
 
--- what the cases of a plan hit: no session, since there is no clock
+-- what the cases of a run plan hit: no session, since there is no clock
 abbrev pub run_store : Program → RunPlan → Store
 run_store program plan = record { sessions = []; classes = hit_records (hits_of program plan) 0 program.classes }

@@ -37,7 +37,7 @@ fn two_writes<'a>(
     Ok(writes)
 }
 
-/// The writes of a program and a plan: the execution data, and the texts of the cases. It is refused where a thread has no
+/// The writes of a program and a run plan: the execution data, and the texts of the cases. It is refused where a thread has no
 /// method to begin with.
 fn run_writes<'a, R: Threads + Sync, G: Gate + Sync>(
     rt: &R,
@@ -68,8 +68,8 @@ fn run_writes<'a, R: Threads + Sync, G: Gate + Sync>(
     Ok(two_writes(alloc, data, Write::Out { text })?)
 }
 
-/// The writes of the text of a plan and of class files. What is refused first is the plan, then files that are no program, and
-/// then a thread that has no method to begin with.
+/// The writes of the text of a run plan and of class files. What is refused first is the run plan, then files that are no program,
+/// and then a thread that has no method to begin with.
 pub fn decided<'a, R: Threads + Sync, G: Gate + Sync>(
     rt: &R,
     alloc: Global,

@@ -1,4 +1,4 @@
-//! The threads of a plan that have no method to begin with.
+//! The threads of a run plan that have no method to begin with.
 ghost use Rattle.std.specs.Prelude.{◌≡◌};
 ghost use Rattle.std.specs.Option.{option_map};
 ghost use Rattle.jc_command_run.specs.Beginnings.{HasFew, line_of};
@@ -19,7 +19,7 @@ fn line_in(program: &Program, threads: &[ThreadLine]) -> Option<u32>
     None
 }
 
-/// The line of the first thread of a plan that has no method to begin with, if there is one.
+/// The line of the first thread of a run plan that has no method to begin with, if there is one.
 pub fn line_without_entry(program: &Program, plan: &RunPlan) -> Option<u32>
     requires { HasFew program.now }
     ensures { result ≡ option_map line_of (first_without program.now (threads_of plan.now)) }

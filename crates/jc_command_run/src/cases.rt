@@ -1,4 +1,4 @@
-//! Running the cases of a plan.
+//! Running the cases of a run plan.
 ghost use Rattle.std.specs.Prelude.{◌≡◌, ◌≤◌, ◌↔◌, ℕ, Contains, IfOk};
 ghost use Rattle.jc_machine.specs.Hits.{probe_counts};
 ghost use Rattle.jc_programs.specs.Probes.{counts_of, IsHit};
@@ -26,13 +26,13 @@ fn probe_counts(alloc: Global, program: &Program) -> Result<Vec<u32>, Memory>
     Ok(counts)
 }
 
-/// What the cases of a plan leave, and which probes they hit.
+/// What the cases of a run plan leave, and which probes they hit.
 pub struct Outcome {
     pub ends: Vec<CaseEnd>,
     pub hits: HitSet,
 }
 
-/// Runs the cases of a plan on so many workers.
+/// Runs the cases of a run plan on so many workers.
 pub fn run_plan<R: Threads + Sync, G: Gate + Sync>(
     rt: &R,
     alloc: Global,

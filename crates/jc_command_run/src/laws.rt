@@ -15,7 +15,7 @@ pub fn a_run_has_one_answer()
     each_text_is_a_plan_or_has_a_first_unfit_line();
 }
 
-/// Of the text of a plan, whatever it is, and what may be read of class files there is exactly one answer of `run`: an end, or
+/// Of the text of a run plan, whatever it is, and what may be read of class files there is exactly one answer of `run`: an end, or
 /// what it writes.
 pub fn a_run_has_an_answer()
     ensures { (plan exec : Word) (paths : List Word) (text : List ℕ) → HasOneAnswer paths (λ read. RunAnswers plan exec paths (text ∷ read)) }

@@ -15,15 +15,15 @@ use std::alloc::Global;
 use std::marker::Sync;
 use std::thread::Threads;
 
-/// The writes of `run`, of a plan's text that was read: the execution data, to `destfile`, and then the text of the cases, on
+/// The writes of `run`, of a run plan's text that was read: the execution data, to `destfile`, and then the text of the cases, on
 /// `out`. The cases run on so many workers, and each passes through `gate` when it begins.
 ///
 /// # Errors
 ///
 /// `Read` with the path of the first class file that can't be read, before anything is refused. Then `Refused` with the path
-/// of the plan and the first line that doesn't fit; `Refused` with the path of the first class file that isn't linked, or
+/// of the run plan and the first line that doesn't fit; `Refused` with the path of the first class file that isn't linked, or
 /// `Clash` with those of two files of one class name, or else of two whose probes have one id; `Refused` with the path of the
-/// plan and the line of the first thread that has no method to begin with. `Memory` at any time.
+/// run plan and the line of the first thread that has no method to begin with. `Memory` at any time.
 pub fn prepare_run<'a, R: Threads + Sync, F: Files, G: Gate + Sync>(
     rt: &R,
     alloc: Global,

@@ -1,4 +1,4 @@
-//! What the cases of a plan leave behind.
+//! What the cases of a run plan leave behind.
 ghost use Rattle.std.specs.Prelude.{◌≡◌, ◌≤◌, None, IfOk};
 ghost use Rattle.jc_programs.specs.Turns.{IsRunPlan};
 ghost use Rattle.jc_command_run.specs.HitStore.{FitRecords};
@@ -17,19 +17,19 @@ use std::alloc::Global;
 use std::marker::Sync;
 use std::thread::Threads;
 
-/// What the cases of a plan leave behind.
+/// What the cases of a run plan leave behind.
 #[derive(Drop)]
 pub struct Ran {
     /// The execution data: which probes they hit.
     pub store: ExecStore,
-    /// What is printed of them, in the order of the plan.
+    /// What is printed of them, in the order of the run plan.
     pub text: Vec<u8>,
 }
 
-/// Runs the cases of a plan on so many workers.
+/// Runs the cases of a run plan on so many workers.
 ///
 /// The execution data has no session, and a record for each class with probes, in the order of the classes. The text has the
-/// text of each case under its number, from 1, in the plan's order. Neither depends on the number of workers, nor on when a
+/// text of each case under its number, from 1, in the run plan's order. Neither depends on the number of workers, nor on when a
 /// worker runs.
 ///
 /// # Errors

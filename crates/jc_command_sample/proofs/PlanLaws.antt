@@ -1,4 +1,4 @@
--- The plan of the sample, case by case, and that it is a plan.
+-- The run plan of the sample, case by case, and that it is a run plan.
 use Rattle.std.proofs.Common.{◌≡◌, ℕ, zero, suc, ◌+◌, ◌≤◌, List, [], ◌∷◌, ◌++◌, map, sym, ◌∙◌, ap, arith}
 use Rattle.std.specs.List.{All, range_with_len}
 use Rattle.std.proofs.lemmas.List.FromFn.{map-range_with_len_more, length-map-range_with_len}
@@ -20,7 +20,7 @@ plan_is n k cases same p =
     let plan : List Case → RunPlan = λ l. record { cases = l } in
     ap plan (p ∙ ap (λ (m : ℕ). map (sample_case n) (range_with_len 0 m)) same)
 
--- ---- a plan
+-- ---- a run plan
 
 each_case : (n a m : ℕ) → All IsCase (map (sample_case n) (range_with_len a m))
 each_case n a zero = All-nil IsCase

@@ -13,7 +13,7 @@ pub fn each_sample_has_one_work()
         → IsWork landed (sample_work n) w b → a ≡ b }
 {}
 
-/// By itself a sample is done, or its class, its plan or its execution data is refused. Else a call failed, or memory was
+/// By itself a sample is done, or its class, its run plan or its execution data is refused. Else a call failed, or memory was
 /// refused.
 pub fn each_sample_ends_by_itself()
     ensures { (n : ℕ) → HasOwnEnds (sample_work n) }

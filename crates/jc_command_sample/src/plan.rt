@@ -7,7 +7,7 @@ use jc_bytes::{Bytes, List, Memory};
 use jc_programs::{Case, RunPlan, Schedule, ThreadLine};
 use std::alloc::Global;
 
-/// The most cases that a plan has.
+/// The most cases that a run plan has.
 const MOST_CASES: u32 = 256;
 
 /// How many turns a case has.
@@ -41,7 +41,7 @@ fn sample_case(alloc: Global, methods: u32, number: u32) -> Result<Case, Memory>
     })
 }
 
-/// The run plan of the sample with so many methods: a case for each of them, but for those past the most that a plan has.
+/// The run plan of the sample with so many methods: a case for each of them, but for those past the most that a run plan has.
 pub fn sample_plan(alloc: Global, methods: u32) -> Result<RunPlan, Memory>
     ensures { IfOk result (λ plan. plan ≡ sample_plan methods) }
 {

@@ -77,7 +77,7 @@ fn linked<'a>(alloc: Global, bytes: Bytes) -> Result<Program, Stop<'a>>
     }
 }
 
-/// Checks that each thread of a plan has a method to begin with.
+/// Checks that each thread of a run plan has a method to begin with.
 fn check_entries<'a>(program: &Program, plan: &RunPlan) -> Result<(), Stop<'a>>
     requires { IsProgram program.now }
     ensures { Decides (deciding (HaveEntries (frameless program.now) plan.now) (IsEntryEnd (frameless program.now) plan.now)) (λ _. tt) result }
@@ -117,7 +117,7 @@ fn run_sample<'a, R: Threads + Sync, G: Gate + Sync>(
 /// The line of a sample with so many methods.
 ///
 /// The class `Sample` has the static methods `m0`, `m1` and so on, each of an int: method k gives back its argument, or k
-/// where k + 2 divides the argument. The class is instrumented. Its plan has a case for each method, but at most 256; case j
+/// where k + 2 divides the argument. The class is instrumented. Its run plan has a case for each method, but at most 256; case j
 /// is one thread of method j - 1, whose argument is the number of methods, and has 64 turns. The cases run on one worker, and
 /// each passes through `gate` when it begins. The counters are those of the class before it was instrumented, by the hits.
 ///

@@ -12,7 +12,7 @@ use Rattle.jc_command_words.specs.Numbers.{IsNumber}
 pub data Called : Type 0 where
   -- writes each class file into the folder, with probes where it is instrumented
   instrument : (dest : Word) (files : List FileText) → Called
-  -- runs the plan's cases on the class files, and writes the hits
+  -- runs the run plan's cases on the class files, and writes the hits
   run : (plan destfile : Word) (workers : ℕ) (files : List FileText) → Called
   -- writes the union of the execution data in the inputs
   merge : (destfile : Word) (inputs : List Word) → Called

@@ -20,7 +20,7 @@ pub enum Command<'a> {
         dest: &'a str,
         files: Vec<FileWord<'a>>,
     },
-    /// Runs the plan's cases on the class files, and writes the hits.
+    /// Runs the run plan's cases on the class files, and writes the hits.
     Run {
         plan: &'a str,
         destfile: &'a str,
@@ -47,7 +47,7 @@ pub enum Command<'a> {
     ClassInfo {
         files: Vec<FileWord<'a>>,
     },
-    /// Instruments the class files, runs the plan's cases on them and reports.
+    /// Instruments the class files, runs the run plan's cases on them and reports.
     Cover {
         dest: &'a str,
         plan: &'a str,

@@ -21,7 +21,7 @@ pub enum Status {
 }
 
 /// What is wrong with an input. Class files are counted alone, from 0, in the order in which they are read: neither the
-/// plan nor the file of execution data of `--exec` has a place among them, and a folder's files each have their own.
+/// run plan nor the file of execution data of `--exec` has a place among them, and a folder's files each have their own.
 #[derive(Debug, Drop, PartialEq, Eq)]
 pub enum Fault {
     /// The execution data of the input at this index is refused: of the inputs of `merge` and `execinfo`, or, at 0, the file

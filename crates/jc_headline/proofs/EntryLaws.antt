@@ -1,4 +1,4 @@
--- The methods with which the threads of a plan begin, in a program and in its twin.
+-- The methods with which the threads of a run plan begin, in a program and in its twin.
 use Rattle.std.proofs.Common.{◌≡◌, ◌⊎◌, inl, inr, Bool, true, false, not, is_some, cond, List, [], ◌∷◌, ◌++◌, Option, None, Some, Contains, refl, sym, ◌∙◌, subst}
 use Rattle.std.specs.List.{find, flat_map}
 use Rattle.std.proofs.lemmas.List.Concat.{flat_map-cons}

@@ -114,9 +114,9 @@ pub file_texts : (ts : List (List ℕ)) → AllByRecursion IsShortFile ts → Al
 file_texts [] short = tt
 file_texts (t ∷ ts) short = (record { are_bytes = short.0.0; short = short.0.1 }, file_texts ts short.1)
 
--- ---- plans
+-- ---- run plans
 
--- each text is a plan or has a first line that doesn't fit
+-- each text is a run plan or has a first line that doesn't fit
 pub record PlansAreOne : Type 0 where
   pub each : (text : List ℕ) → ((plan : RunPlan) × IsPlanText text plan) ⊎ ((line : ℕ) × FirstUnfit text line)
   pub apart : (text : List ℕ) (plan : RunPlan) (line : ℕ) → IsPlanText text plan → FirstUnfit text line → ⊥

@@ -1,4 +1,4 @@
--- The rows of the report: their counters are those of the edges that the hits of a plan cover.
+-- The rows of the report: their counters are those of the edges that the hits of a run plan cover.
 use Rattle.std.proofs.Common.{◌≡◌, ◌⊎◌, inl, inr, ℕ, zero, suc, ◌+◌, ◌<◌, Bool, true, false, cond, not, nat_eq, List, [], ◌∷◌, map, length, Option, None, Some, Contains, refl, sym, ◌∙◌, ap, subst, arith}
 use Rattle.std.specs.Prelude.{slice_get, slice_index_or, filter, option_map}
 use Rattle.std.specs.List.{sum_by}

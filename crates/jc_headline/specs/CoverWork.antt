@@ -167,7 +167,7 @@ running c plan looked = do
   writing (to_out (case_texts program 1 plan.cases))
   ending done
 
--- behind the text of the plan and the paths of the files: reads the files, instruments and writes each, and then runs them
+-- behind the text of the run plan and the paths of the files: reads the files, instruments and writes each, and then runs them
 abbrev pub covering : Cover → (plan_text : List ℕ) → (paths : List Word) → Command
 covering c plan_text paths = do
   read ← reading_all paths
@@ -175,7 +175,7 @@ covering c plan_text paths = do
   looked ← instrumenting c.dest paths read
   running c plan looked
 
--- reads the plan, lists the files, and covers
+-- reads the run plan, lists the files, and covers
 abbrev pub cover_work : Cover → Command
 cover_work c = do
   plan_text ← reading c.plan

@@ -40,13 +40,13 @@ named_paths m files = once [] (flat_map (named_by m) files)
 abbrev pub IsShort : List ℕ → Type 0
 IsShort text = length text ≤ most_read
 
--- Plan and class files are fit for `cover`. Of the instrumented files it says that no method of a twin passes the bound on
+-- Run plan and class files are fit for `cover`. Of the instrumented files it says that no method of a twin passes the bound on
 -- instructions times slots, that no two changed classes have one id, and that none is too long. All else is said of the originals.
 pub record IsFitCover (c : Cover) (old : Outside) : Type 0 where
   -- contents are told
   pub contents : FileMap
   pub told : old.contents ≡ Some contents
-  -- the path of the plan holds the text of a plan
+  -- the path of the run plan holds the text of a run plan
   pub plan_text : List ℕ
   pub plan_read : IsRead old.contents c.plan plan_text
   pub plan : RunPlan
@@ -65,7 +65,7 @@ pub record IsFitCover (c : Cover) (old : Outside) : Type 0 where
   -- nothing refuses what is written of them
   pub again : (r : LinkRefusal) → IsSecondRefusal (accepted_texts looked) (all_written looked) r → ⊥
   pub short : AllByRecursion IsShort (all_written looked)
-  -- each thread of the plan has a method to begin with
+  -- each thread of the run plan has a method to begin with
   pub entries : HaveEntries before plan tt
 
 -- ---- what follows
@@ -74,7 +74,7 @@ pub record IsFitCover (c : Cover) (old : Outside) : Type 0 where
 abbrev pub FitCoversHaveWork : Landed → Type 0
 FitCoversHaveWork landed = (c : Cover) (old : Outside) → IsFitCover c old → (work : Work) × IsWork landed (cover_work c) old work × (work.end ≡ done)
 
--- this plan ran, over what came of these files, and the headline holds
+-- this run plan ran, over what came of these files, and the headline holds
 abbrev pub HasHeadline : (landed : Landed) (c : Cover) (old new : Outside) → IsFitCover c old → Type 0
 HasHeadline landed c old new fit =
     (r : CoverRun landed c old new) × (r.plan ≡ fit.plan) × (r.looked ≡ fit.looked) × Headline landed c old new r

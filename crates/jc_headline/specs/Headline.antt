@@ -4,8 +4,8 @@
 --
 -- * `before` is the program that is linked from the accepted originals, `after` the one linked from the files that were read back,
 --   which are what was written of them.
--- * Each case of the plan has its own turns. Those of them at which its thread stands at an instruction of the original, in the run
---   of `after`, are its kept turns; the others are turns of probes.
+-- * Each case of the run plan has its own turns. Those of them at which its thread stands at an instruction of the original, in the
+--   run of `after`, are its kept turns; the others are turns of probes.
 -- * What is printed on `out`, behind the lines of the files, is the text of each case as `after` runs it under its own turns. That run
 --   leaves the same as the run of `before` under the kept turns: output, heap, static fields and ends of threads.
 -- * The execution data that is written has no session, and in the order of the classes the id, the name and the bits of each class

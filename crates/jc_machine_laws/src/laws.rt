@@ -36,7 +36,7 @@ pub fn each_stack_has_room()
 {}
 
 /// Programs that are equal but for the frames of their bodies and for the names of the classes in them have the same entries,
-/// and each case runs alike: the world after any turns is the same, and so are the texts of cases and the hits of a plan.
+/// and each case runs alike: the world after any turns is the same, and so are the texts of cases and the hits of a run plan.
 pub fn equal_programs_run_alike()
     ensures entry { (p q : Program) (thread : ThreadLine) → frameless p ≡ frameless q → entry_of p thread ≡ entry_of q thread }
     ensures world { (p q : Program) (case : Case) (turns : List ℕ) → frameless p ≡ frameless q → run p case turns ≡ run q case turns }

@@ -21,7 +21,7 @@ run program case turns = run_from program (begin_case program case) turns
 
 -- ---- hits
 
--- the run of some case of the plan, with the turns of its schedule, hits the probe
+-- the run of some case of the run plan, with the turns of its schedule, hits the probe
 abbrev pub IsHit : Program → RunPlan → Hit → Type 0
 IsHit program plan hit = (case : Case) × Contains plan.cases case × Contains (run program case (turns_in case)).hits hit
 

@@ -1,4 +1,4 @@
--- Reading a run plan gives the plan, or the first line that doesn't fit.
+-- Reading a run plan gives the run plan, or the first line that doesn't fit.
 use Rattle.std.proofs.Common.{◌≡◌, ◌⊎◌, inl, inr, ⊎_elim, ℕ, ◌+◌, ◌<◌, ◌≤◌, Bool, true, false, cond, List, [], ◌∷◌, ◌++◌, length, Option, Some, None, nat_lt, nat_le, codes, bytes_eq, refl, sym, ◌∙◌, ap, subst, arith, append_assoc, append-nil, length-append}
 use Rattle.std.proofs.lemmas.Bool.{ltb-true, lt-ltb, leb-true, le-leb}
 use Rattle.std.proofs.lemmas.Slice.Eq.{bytes_eq-Decides}
@@ -76,7 +76,7 @@ no_thread number threads (word ∷ words) s e = rw (words_apart word threads wor
 no_thread_in : (threads : ℕ) (line : Line) (s : Schedule) → schedule_in threads line ≡ Some s → thread_in line ≡ None
 no_thread_in threads line s e = no_thread line.number threads line.words s e
 
--- ---- the lines of a plan are read as it
+-- ---- the lines of a run plan are read as it
 
 pub threads_length : (lines : List Line) (threads : List ThreadLine) → AreThreadLines lines threads → length lines ≡ length threads
 threads_length [] [] h = refl
@@ -150,7 +150,7 @@ lines_of_plan : (lines : List Line) (plan : RunPlan) → ArePlanLines lines plan
 unfolding joined
 lines_of_plan lines plan p = ap (λ l. folded (Some (between [])) l) p.whole ∙ cases_read [] p.parts plan.cases p.cases (let few = p.few in omega (arith, few))
 
--- ---- what was read is the beginning of a plan
+-- ---- what was read is the beginning of a run plan
 
 -- the lines of a case that is begun, behind so many cases
 record Opened (count : ℕ) (open_lines : List Line) (threads : List ThreadLine) : Type 0 where
@@ -405,7 +405,7 @@ begins lines cases (Some threads) r = let c = whole_case (length r.parts) r.open
 
 -- ---- what reading gives
 
--- a plan's lines are read to their end
+-- a run plan's lines are read to their end
 no_plan_stuck : (before : List Line) (b : Begun) (line : Line) → folded (Some (between [])) before ≡ Some b → with_line b line ≡ None → BeginAPlan (before ++ line ∷ []) → ⊥
 unfolding folded
 no_plan_stuck before b line e f p =
@@ -516,7 +516,7 @@ unfit_lines_are_found text number e = subst (Right text) e (read_right text)
 
 -- ---- one answer to each text
 
--- what begins with lines that begin a plan
+-- what begins with lines that begin a run plan
 prefix_begins : (lines more : List Line) → BeginAPlan (lines ++ more) → BeginAPlan lines
 prefix_begins lines more p = (more ++ p.0, p.1, subst (λ l. ArePlanLines l p.1) (append_assoc lines more p.0) p.2)
 

@@ -130,7 +130,7 @@ text_keeps threads (word ∷ words) s e = by (bytes_eq word (codes "schedule")) 
     by true e = schedule_keeps threads words s e
     by false e = absurd (none_some e)
 
--- ---- plans
+-- ---- run plans
 
 case_fits : (lines : List Line) (case : Case) → IsCaseText lines case → IsCase case
 case_fits lines case c =

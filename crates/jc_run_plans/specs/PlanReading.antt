@@ -58,7 +58,7 @@ with_words b number words = if is_skipped words then Some b else with_line b (re
 
 -- ---- a text
 
--- what reading a plan gives: the plan, or the number of the first line that doesn't fit
+-- what reading a run plan gives: the run plan, or the number of the first line that doesn't fit
 pub data PlanRead : Type 0 where
   plan_is : RunPlan → PlanRead
   unfit_at : ℕ → PlanRead

@@ -1,4 +1,4 @@
--- Run plans as text: which lines are a plan, and which line is the first that doesn't fit.
+-- Run plans as text: which lines are a run plan, and which line is the first that doesn't fit.
 use Rattle.std.specs.Prelude.{◌≡◌, ◌⊎◌, ℕ, ℤ, ◌+◌, ◌≤◌, Bool, true, false, ◌==◌, ◌&&◌, List}
 use Rattle.std.specs.Prelude.{[], ◌∷◌, ◌++◌, length, map, Option, Some, None, nat_le, nat_lt, codes, bytes_eq, if◌then◌else◌}
 use Rattle.std.specs.List.{flat_map, before_last, after_last}
@@ -130,7 +130,7 @@ schedule_text threads (word ∷ words) = if bytes_eq word (codes "schedule") the
 abbrev pub schedule_in : ℕ → Line → Option Schedule
 schedule_in threads line = schedule_text threads line.words
 
--- ---- which lines are a plan
+-- ---- which lines are a run plan
 
 abbrev pub AreThreadLines : List Line → List ThreadLine → Type 0
 AreThreadLines [] [] = Unit {0}
@@ -162,17 +162,17 @@ pub record ArePlanLines (lines : List Line) (plan : RunPlan) : Type 0 where
   pub few : length parts ≤ 256
   pub cases : AreCaseTexts parts plan.cases
 
--- the text is that of the plan
+-- the text is that of the run plan
 abbrev pub IsPlanText : List ℕ → RunPlan → Type 0
 IsPlanText text plan = ArePlanLines (numbered_lines text) plan
 
 -- ---- which line is the first that doesn't fit
 
--- some plan's lines begin with these
+-- some run plan's lines begin with these
 abbrev pub BeginAPlan : List Line → Type 0
 BeginAPlan lines = (more : List Line) × (plan : RunPlan) × ArePlanLines (lines ++ more) plan
 
--- the lines before it begin a plan, and with it they don't
+-- the lines before it begin a run plan, and with it they don't
 pub record IsUnfitLine (lines : List Line) (number : ℕ) : Type 0 where
   pub before : List Line
   pub line : Line
@@ -182,7 +182,7 @@ pub record IsUnfitLine (lines : List Line) (number : ℕ) : Type 0 where
   pub begun : BeginAPlan before
   pub unfit : BeginAPlan (before ++ line ∷ []) → ⊥
 
--- all lines begin a plan and aren't one: the number is that of the lines, and one more
+-- all lines begin a run plan and aren't one: the number is that of the lines, and one more
 pub record EndsEarly (text : List ℕ) (number : ℕ) : Type 0 where
   pub begun : BeginAPlan (numbered_lines text)
   pub no_plan : (plan : RunPlan) → IsPlanText text plan → ⊥

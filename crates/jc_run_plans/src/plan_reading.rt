@@ -16,7 +16,7 @@ use jc_bytes::{Fail, List, Unfit};
 use jc_programs::{Case, RunPlan, Schedule, ThreadLine};
 use std::alloc::Global;
 
-/// The most cases of a plan.
+/// The most cases of a run plan.
 const MOST_CASES: usize = 256;
 
 /// The most threads of a case.
@@ -128,7 +128,7 @@ fn with_text(alloc: Global, begun: Begun, number: u32, line: &[u8]) -> Result<Be
     }
 }
 
-/// The plan, behind the last line, by the number of the line that would follow.
+/// The run plan, behind the last line, by the number of the line that would follow.
 fn ended(begun: Begun, number: u32) -> Result<RunPlan, Fail<PlanRefusal>>
     ensures { IsRead result (ended number begun) }
 {
@@ -139,7 +139,7 @@ fn ended(begun: Begun, number: u32) -> Result<RunPlan, Fail<PlanRefusal>>
     Ok(RunPlan { cases })
 }
 
-/// The plan, or the number of the first line that doesn't fit.
+/// The run plan, or the number of the first line that doesn't fit.
 fn plan_read(alloc: Global, text: &[u8]) -> Result<RunPlan, Fail<PlanRefusal>>
     requires { length text.now ≤ most_read }
     ensures { IsRead result (plan_read text.now) }
@@ -165,7 +165,7 @@ fn plan_read(alloc: Global, text: &[u8]) -> Result<RunPlan, Fail<PlanRefusal>>
 /// The run plan that a text is.
 ///
 /// Lines end with LF, and the last may lack it; a CR before the LF is dropped. A line without a word, and one whose
-/// first word begins with `#`, is skipped. Words are parted by one or more spaces. A plan is 1 to 256 cases: each is
+/// first word begins with `#`, is skipped. Words are parted by one or more spaces. A run plan is 1 to 256 cases: each is
 /// the line `case`, then 1 to 8 lines `thread Class.method number..`, then one line `schedule list t t ..`,
 /// `schedule robin n` or `schedule seed s n`.
 ///
@@ -177,7 +177,7 @@ fn plan_read(alloc: Global, text: &[u8]) -> Result<RunPlan, Fail<PlanRefusal>>
 /// # Errors
 ///
 /// `Memory` where memory was refused. Else `Said`, with the first line that doesn't fit: the lines before it begin a
-/// plan, and with it they don't. Where all lines begin a plan and aren't one, it is the line behind the last.
+/// run plan, and with it they don't. Where all lines begin a run plan and aren't one, it is the line behind the last.
 pub fn read_plan(alloc: Global, text: &[u8]) -> Result<RunPlan, Fail<PlanRefusal>>
     requires size { length text.now ≤ most_read }
     // What is answered is so.

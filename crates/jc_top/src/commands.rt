@@ -51,7 +51,7 @@ pub fn instrument<R: Threads + Sync, F: Files, O: Sink, E: Sink>(
     complete(alloc, files, out, err, prepared)
 }
 
-/// Runs the plan's cases on the class files, on so many workers, and writes the hits and what the cases print.
+/// Runs the run plan's cases on the class files, on so many workers, and writes the hits and what the cases print.
 pub fn run<R: Threads + Sync, F: Files, O: Sink, E: Sink, G: Gate + Sync>(
     rt: &R,
     alloc: Global,
@@ -187,7 +187,7 @@ pub fn class_info<R: Threads + Sync, F: Files, O: Sink, E: Sink>(
     complete(alloc, files, out, err, prepared)
 }
 
-/// Instruments the class files, runs the plan's cases on them, on so many workers, and reports.
+/// Instruments the class files, runs the run plan's cases on them, on so many workers, and reports.
 pub fn cover<R: Threads + Sync, F: Files, O: Sink, E: Sink, G: Gate + Sync>(
     rt: &R,
     alloc: Global,

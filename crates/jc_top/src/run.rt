@@ -94,15 +94,16 @@ fn run_command<R: Threads + Sync, F: Files, O: Sink, E: Sink, G: Gate + Sync>(
 /// - `cover --dest DIR --plan PLAN --destfile OUT --csv CSV [--workers N] [--name NAME] FILE..`, or `cover --sample N`
 ///
 /// where options stand in any order in front of the files, and a FILE that ends with `/` stands for the class files of the folder
-/// of that path. A command reads its plan or execution data, lists the folders and reads the files. Then it refuses
-/// what is wrong with them, and then writes; `cover` alone reads back what it has written, and may refuse then. The first failure ends a command and decides the
-/// status; its message goes to `err`, and a failure of that last message changes nothing. Want of memory prints no message.
+/// of that path. A command reads its run plan or execution data, lists the folders and reads the files. Then it refuses
+/// what is wrong with them, and then writes; `cover` alone reads back what it has written, and may refuse then. The first failure
+/// ends a command and decides the status; its message goes to `err`, and a failure of that last message changes nothing. Want of
+/// memory prints no message.
 ///
 /// A class file that `instrument`, `report` or `cover` refuses is no failure. `report` begins its writes with a line on `err`
 /// for each. `instrument` and `cover` write each class file to DIR/FILE, and behind it its line: one that is refused byte for
 /// byte as it was read, with a line on `err` that gives the reason; one whose class stays as it is too, with a line on `out`;
 /// and each other one with its probes, whose number is in its line on `out`. Class files are looked at, and cases run, in
-/// threads, which `rt` starts; `gate` is told when a case of a plan begins, and may hold its worker.
+/// threads, which `rt` starts; `gate` is told when a case of a run plan begins, and may hold its worker.
 ///
 /// All of this is the work of the words, which the contract names: the calls that they ask for, one after the other, and the
 /// end. A run makes all of them, and says the message of the end; or first ones of them up to one that fails, whose count rose,
@@ -113,7 +114,7 @@ fn run_command<R: Threads + Sync, F: Files, O: Sink, E: Sink, G: Gate + Sync>(
 /// Of `cover` the headline holds, where it is done and contents are told and read back as they were written [`headline`]: each
 /// case of the instrumented files prints and leaves what the originals give under its schedule without the turns of probes, the
 /// written data is the union of the probes passed, every reported instruction and branch was executed, or is, instructions
-/// alone, next in a stopped thread, and every refused class is copied unchanged. It is done exactly where its plan and class
+/// alone, next in a stopped thread, and every refused class is copied unchanged. It is done exactly where its run plan and class
 /// files fit, no call fails and memory isn't refused: see [`jc_headline::each_fit_cover_is_done`].
 pub fn run_tool<R: Threads + Sync, F: Files, O: Sink, E: Sink, G: Gate + Sync>(
     rt: &R,

@@ -1,4 +1,4 @@
--- Covered edges of a plan: sound, and exact where each case ended well.
+-- Covered edges of a run plan: sound, and exact where each case ended well.
 use Rattle.std.proofs.Common.{◌≡◌, ◌↔◌, ℕ, Bool, false, List, [], Option, Some, None, option_map, sym, ap, ◌∙◌, subst}
 use Rattle.std.specs.Prelude.{slice_get, slice_index_or, Contains, IsTrue}
 use Rattle.std.proofs.lemmas.Bool.{true≢false}
@@ -195,7 +195,7 @@ module _ (p p' : Program) (sides : Entry → Side) (marks : Entry → Marks) (ar
           (entered Sometime sometime Sometime (λ x f. took_reached x (took_then x f.0 f.1)) (λ x f. f))
           followed_in is_edge (λ id. (hit_is id, is_hit_of id)) e
 
-  -- ---- the plan
+  -- ---- the run plan
 
   reached_by : (e : ProgramEdge) → IsChangedAt p' e.class → IsProgramCovered p hits e → ReachedOne e
   reached_by e changed c = sound e.class c.class c.stands changed (in_its_class e) c.covered

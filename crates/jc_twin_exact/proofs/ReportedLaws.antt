@@ -47,7 +47,7 @@ use Rattle.jc_twin_exact.proofs.BeginLaws.{begin_good}
 use Rattle.jc_twin_exact.proofs.CaseLaws.{no_init, both_returned, both_calm}
 use Rattle.jc_twin_exact.proofs.ExactLaws.{plan_exact}
 
--- ---- the turns of a plan's own schedules
+-- ---- the turns of a run plan's own schedules
 
 abbrev turns_if : Option Case → List ℕ
 turns_if None = []

@@ -1,4 +1,4 @@
--- What covered edges say of edges that were taken: of a program, its twin, the cases of a plan, and turns for each.
+-- What covered edges say of edges that were taken: of a program, its twin, the cases of a run plan, and turns for each.
 use Rattle.std.specs.Prelude.{◌≡◌, ⊤, ℕ, ◌↔◌, Bool, true, false, List, [], Some, IsTrue, slice_get, slice_index_or, Contains}
 use Rattle.std.specs.List.{AllByRecursion}
 use Rattle.jc_programs.specs.declared.program.Program.{Program}
@@ -41,7 +41,7 @@ IsChangedAt after k = (c : Linked) × (class_at after k ≡ Some c) × (declares
 abbrev pub HaveEntries : Program → RunPlan → Type 0
 HaveEntries before plan = (case : Case) → Contains plan.cases case → (entries : List Entry) × AreEntries before case.threads entries
 
--- what is so of some case of the plan and its turns, which are told by the number of the case
+-- what is so of some case of the run plan and its turns, which are told by the number of the case
 pub record OfSomeCase (plan : RunPlan) (turns : ℕ → List ℕ) (Fact : Case → List ℕ → Type 0) : Type 0 where
   pub number : ℕ
   pub case : Case
@@ -82,7 +82,7 @@ pub record IsExact (before after : Program) (marks : Entry → Marks) (plan : Ru
   pub taken : OfEachCase plan turns (EndsWell after) → (e : ProgramEdge) → IsChangedAt after e.class
       → IsProgramCovered before hits e ↔ OfSomeCase plan turns (Took before after marks e)
 
--- of every program and its twin, every plan whose threads have entries, and turns for each case
+-- of every program and its twin, every run plan whose threads have entries, and turns for each case
 abbrev pub ExactEdges : (before after : Program) → RunPlan → Type 0
 ExactEdges before after plan =
     (marks : Entry → Marks) → TwinProgram before after → AreMarks before after marks → HaveEntries before plan

@@ -97,7 +97,7 @@ module _ (before after : Program) (marks : Entry → Marks) (plan : RunPlan) whe
     -- so the counters are those of what was taken
     pub counters : AllEndWell → (other : Coverage) → TellsTaken class bodies other → counters_of bodies coverage ≡ counters_of bodies other
 
--- of every program and its twin, every plan whose threads have entries, the hits of the plan, and each class with probes
+-- of every program and its twin, every run plan whose threads have entries, the hits of the run plan, and each class with probes
 abbrev pub ReportedEdges : (before after : Program) → RunPlan → Type 0
 ReportedEdges before after plan =
     (marks : Entry → Marks) → TwinProgram before after → AreMarks before after marks → HaveEntries before plan

@@ -1,4 +1,4 @@
--- The cases of a plan, and the methods with which their threads begin.
+-- The cases of a run plan, and the methods with which their threads begin.
 use Rattle.std.proofs.Common.{◌≡◌, ℕ, suc, ◌+◌, ◌<◌, List, [], ◌∷◌, ◌++◌, length, map, take}
 use Rattle.std.proofs.Common.{Option, Some, None, option_map, refl, sym, ap, ap₂, ◌∙◌, subst, arith, slice_get, slice_index_or}
 use Rattle.std.specs.Prelude.{Contains, IfOk, Result, Ok, Err}

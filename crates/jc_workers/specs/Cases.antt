@@ -1,4 +1,4 @@
--- The cases of a plan: what each leaves, and which probes it hits.
+-- The cases of a run plan: what each leaves, and which probes it hits.
 use Rattle.std.specs.Prelude.{◌≡◌, ℕ, ◌↔◌, List, [], map, Contains, slice_index_or}
 use Rattle.jc_programs.specs.declared.program.Program.{Program}
 use Rattle.jc_programs.specs.declared.run_plan.Case.{Case}
@@ -21,7 +21,7 @@ HaveEntries program plan = (case : Case) → Contains plan.cases case → (entri
 abbrev pub end_under : Program → Case → CaseEnd
 end_under program case = case_end program case (turns_in case)
 
--- what the cases of a plan leave, in their order
+-- what the cases of a run plan leave, in their order
 abbrev pub ends_under : Program → RunPlan → List CaseEnd
 ends_under program plan = map (end_under program) plan.cases
 
@@ -36,11 +36,11 @@ case_at plan k = slice_index_or plan.cases k no_case
 abbrev pub HitBy : Program → RunPlan → (k class id : ℕ) → Type 0
 HitBy program plan k class id = Contains (case_hits program (case_at plan k)) (record { class = class; id = id })
 
--- the hits, by class and id, are exactly those of the plan
+-- the hits, by class and id, are exactly those of the run plan
 abbrev pub AreHits : Program → RunPlan → List (ℕ × ℕ) → Type 0
 AreHits program plan hits = (class id : ℕ) → Contains {X = ℕ × ℕ} hits (class, id) ↔ IsHit program plan (record { class = class; id = id })
 
--- a program, a plan each of whose threads has an entry, and the entries of each case
+-- a program, a run plan each of whose threads has an entry, and the entries of each case
 pub record IsRunnable (program : Program) (plan : RunPlan) (entries : List (List Entry)) : Type 0 where
   pub program_is : IsProgram program
   pub plan_is : IsRunPlan plan

@@ -1,4 +1,4 @@
-//! Workers that run the cases of a plan beside each other.
+//! Workers that run the cases of a run plan beside each other.
 #![tactic(auto)]
 
 mod claim_steps;

@@ -1,4 +1,4 @@
-//! The cases of a plan, as workers run them on the machine.
+//! The cases of a run plan, as workers run them on the machine.
 ghost use Rattle.std.specs.Prelude.{◌≡◌, ◌<◌, ◌^◌, All, IfOk, length, map};
 ghost use Rattle.jc_programs.specs.Turns.{IsRunPlan};
 ghost use Rattle.jc_machine_model.specs.Programs.{IsProgram};
@@ -11,12 +11,12 @@ use jc_machine::{World, entry};
 use jc_programs::{Case, CaseEnd, Entry, ProbeSink, Program, RunPlan, ThreadLine};
 use std::alloc::Global;
 
-/// The cases of a plan of a program, with the methods with which their threads begin.
+/// The cases of a run plan of a program, with the methods with which their threads begin.
 #[derive(Drop)]
 pub struct PlanRunner<'a> {
     /// The program.
     pub program: &'a Program,
-    /// The plan.
+    /// The run plan.
     pub plan: &'a RunPlan,
     /// The entries of the threads of each case.
     pub entries: Vec<List<Entry>>,
@@ -59,7 +59,7 @@ fn entries_of_cases(
 }
 
 impl<'a> PlanRunner<'a> {
-    /// The cases of a plan, each of whose threads has an entry.
+    /// The cases of a run plan, each of whose threads has an entry.
     pub fn new(
         alloc: Global,
         program: &'a Program,

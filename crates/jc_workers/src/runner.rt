@@ -5,7 +5,7 @@ use jc_bytes::Memory;
 use jc_programs::ProbeSink;
 use std::alloc::Global;
 
-/// Runs the cases of a plan.
+/// Runs the cases of a run plan.
 pub trait CaseRunner {
     ghost use Rattle.std.specs.Prelude.{◌≡◌, ℕ, ◌<◌, ◌⊎◌, List, IfOk};
 

@@ -1,4 +1,4 @@
-//! The cases of a plan on workers.
+//! The cases of a run plan on workers.
 ghost use Rattle.std.specs.Prelude.{◌≡◌, ◌+◌, ◌*◌, ◌<◌, ◌≤◌, [], length, IfOk, vec_len};
 ghost use Rattle.jc_programs.specs.Turns.{IsRunPlan};
 ghost use Rattle.jc_machine_model.specs.Programs.{IsProgram};
@@ -44,12 +44,12 @@ fn take_turns<R: Threads + Sync, G: Gate + Sync>(
     )?)
 }
 
-/// Runs the cases of a plan on so many workers. Each worker has one world for all its cases, draws the next case where it has
+/// Runs the cases of a run plan on so many workers. Each worker has one world for all its cases, draws the next case where it has
 /// ended one, and calls `gate.pass` once when it begins a case, whose number counts from 1. Where a thread can't be started the
 /// caller does its work.
 ///
-/// The ends come in the plan's order, whatever worker ran the case and whenever. The seat that comes back has the whole part and
-/// exactly the hits of all cases.
+/// The ends come in the run plan's order, whatever worker ran the case and whenever. The seat that comes back has the whole part
+/// and exactly the hits of all cases.
 ///
 /// # Errors
 ///

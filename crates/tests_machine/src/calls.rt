@@ -36,7 +36,7 @@ fn are_short(files: &[Bytes]) -> bool
     files.iter().all(|file| file.len() <= MOST)
 }
 
-/// Runs the cases of a plan over the files, and puts their text, or which probes they hit.
+/// Runs the cases of a run plan over the files, and puts their text, or which probes they hit.
 pub fn run(
     alloc: Global,
     files: &[Bytes],

@@ -1,4 +1,4 @@
-//! Runs of the cases of a plan.
+//! Runs of the cases of a run plan.
 ghost use Rattle.std.specs.Prelude.{◌≡◌, ◌≤◌, length, All, IfOk};
 ghost use Rattle.jc_programs.specs.Entries.{AreEntries};
 ghost use Rattle.jc_programs.specs.Probes.{counts_of};

@@ -11,7 +11,7 @@ pub enum Stop<'a> {
     Memory,
     /// A word that is no call, or doesn't spell what is read there.
     Word(&'a str),
-    /// The text isn't a plan.
+    /// The text isn't a run plan.
     Plan(PlanRefusal),
     /// The files aren't linked.
     Link(LinkRefusal),

@@ -144,7 +144,7 @@ struct Left<L> {
     err: MemorySink,
 }
 
-/// Runs `cover` over the class and a plan that calls `abs` with 5.
+/// Runs `cover` over the class and a run plan that calls `abs` with 5.
 fn cover<L: Landing, R: Threads + Sync>(rt: &R, alloc: Global) -> Result<Left<L>, Fail> {
     let mut files = Kept {
         inner: MemoryFiles::new(alloc, &[])?,

@@ -1,7 +1,7 @@
 //! Rows of calls on run plans and programs whose answers are known from the format and from the JVM Specification.
 //!
 //! Each line of the standard input is a call, and is printed with its answer. The words behind `plan` spell the text
-//! of a plan, one behind the other: `|` is LF, `~` is CR and `_` is a space, and `3*x` is three times `x`. The words
+//! of a run plan, one behind the other: `|` is LF, `~` is CR and `_` is a space, and `3*x` is three times `x`. The words
 //! behind `link` are class files in hexadecimal digits. Empty lines, and lines that begin with `#`, are printed as they
 //! are.
 #![tactic(auto)]

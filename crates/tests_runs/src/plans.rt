@@ -1,4 +1,4 @@
-//! Plans as answers.
+//! Run plans as answers.
 ghost use Rattle.std.specs.Prelude.{◌≤◌, length};
 
 use jc_bytes::Fail;
@@ -48,7 +48,7 @@ fn put_case(case: &Case, out: &mut String) -> Result<(), AllocError> {
     put_schedule(&case.schedule, out)
 }
 
-/// Puts how many cases a plan has, and the last of them.
+/// Puts how many cases a run plan has, and the last of them.
 fn put_cases(plan: &RunPlan, out: &mut String) -> Result<(), AllocError> {
     write!(out, "{} cases:", plan.cases.len())?;
     match plan.cases.as_slice() {
@@ -57,7 +57,7 @@ fn put_cases(plan: &RunPlan, out: &mut String) -> Result<(), AllocError> {
     }
 }
 
-/// Puts the plan that a text is, or the first line that doesn't fit.
+/// Puts the run plan that a text is, or the first line that doesn't fit.
 pub fn put_plan(alloc: Global, text: &[u8], out: &mut String) -> Result<(), AllocError>
     requires { length text.now ≤ 1000000 }
 {

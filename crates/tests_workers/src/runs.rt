@@ -1,4 +1,4 @@
-//! Runs of the plan on workers.
+//! The cases of the run plan on workers.
 ghost use Rattle.std.specs.Prelude.{◌≡◌, ◌≤◌, IfOk};
 ghost use Rattle.jc_programs.specs.Turns.{IsRunPlan};
 ghost use Rattle.jc_machine_model.specs.Programs.{IsProgram};
@@ -17,7 +17,7 @@ use std::process::Abort;
 use std::test::Fail;
 use std::thread::Threads;
 
-/// What workers left of a plan.
+/// What workers left of a run plan.
 #[derive(Drop)]
 pub struct Left {
     /// The text of the cases.
@@ -49,7 +49,7 @@ fn counts(alloc: Global, program: &Program) -> Result<Vec<u32>, AllocError>
     Ok(counts)
 }
 
-/// Runs the cases of a plan on so many workers.
+/// Runs the cases of a run plan on so many workers.
 fn run<R: Threads + Sync, G: Gate + Sync>(
     rt: &R,
     alloc: Global,
@@ -75,7 +75,7 @@ fn run<R: Threads + Sync, G: Gate + Sync>(
     })
 }
 
-/// Runs the plan of forty cases on so many workers.
+/// Runs the run plan of forty cases on so many workers.
 pub fn run_forty<R: Threads + Abort + Sync, G: Gate + Sync>(
     rt: &R,
     alloc: Global,

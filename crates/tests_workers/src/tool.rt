@@ -18,7 +18,7 @@ fn words(alloc: Global, line: &str) -> Result<Vec<String>, AllocError> {
     Ok(words)
 }
 
-/// Runs a command over the class and the plan of forty cases, and answers whether it was done.
+/// Runs a command over the class and the run plan of forty cases, and answers whether it was done.
 fn is_done<R: Threads + Sync>(
     rt: &R,
     alloc: Global,

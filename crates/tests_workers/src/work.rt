@@ -1,4 +1,4 @@
-//! The program and the plan that workers run.
+//! The program and the run plan that workers run.
 ghost use Rattle.std.specs.Prelude.{◌≤◌, length, All, IsTrue, IfOk};
 ghost use Rattle.jc_programs.specs.Turns.{IsRunPlan};
 ghost use Rattle.jc_machine_model.specs.Programs.{IsProgram};
@@ -33,7 +33,7 @@ const CLASS: [&str; 7] = [
     "00010009000700080001000b000000150002000000000009b2000a0460b3000ab1000000000000",
 ];
 
-/// How many cases the plan has.
+/// How many cases the run plan has.
 const CASES: u32 = 40;
 
 /// One case: one thread, and its 22 turns. It is 13 turns of the method that asks for the probe array and of its call, four of the
@@ -72,7 +72,7 @@ pub fn program(rt: &impl Abort, alloc: Global) -> Result<Program, Fail>
     Ok(link(alloc, &files)?)
 }
 
-/// The text of the plan.
+/// The text of the run plan.
 pub fn plan_text(alloc: Global) -> Result<String, AllocError> {
     let mut text = String::new(alloc);
     for _ in 0..CASES {
@@ -81,7 +81,7 @@ pub fn plan_text(alloc: Global) -> Result<String, AllocError> {
     Ok(text)
 }
 
-/// The plan.
+/// The run plan.
 pub fn plan(rt: &impl Abort, alloc: Global) -> Result<RunPlan, Fail>
     ensures { IfOk result IsRunPlan }
 {
