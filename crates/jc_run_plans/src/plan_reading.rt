@@ -3,7 +3,7 @@ ghost use Rattle.std.specs.Prelude.{◌≡◌, ◌≤◌, ◌⊎◌, ⊤, ◌∷
 ghost use Rattle.jc_bytes.specs.Reader.{most_read};
 ghost use Rattle.jc_bytes.specs.Failing.{Said};
 ghost use Rattle.jc_programs.specs.Turns.{IsRunPlan};
-ghost use Rattle.jc_programs.specs.declared.run_plan.RunPlan.{RunPlan as Plan};
+ghost use Rattle.jc_programs.specs.declared.run_plan.RunPlan.{RunPlan};
 ghost use Rattle.jc_run_plans.specs.PlanWords.{is_comment, words_of};
 ghost use Rattle.jc_run_plans.specs.PlanReading.{Gives, AreFew, IsRead, plan_read, ended, opening, in_case, with_thread, with_schedule, with_line, with_words};
 ghost use Rattle.jc_run_plans.specs.Plans.{thread_by, IsPlanText, FirstUnfit};
@@ -185,7 +185,7 @@ pub fn read_plan(alloc: Global, text: &[u8]) -> Result<RunPlan, Fail<PlanRefusal
     ensures fits { IfOk result IsRunPlan }
     ensures refused { IfErr result (λ e. Said e (λ r. FirstUnfit text.now r.line)) }
     // What is so is answered, unless memory runs out.
-    ensures accepted { (p : Plan) → IsPlanText text.now p → MatchResult result (λ q. q ≡ p) (λ e. e ≡ Fail.Memory) }
+    ensures accepted { (p : RunPlan) → IsPlanText text.now p → MatchResult result (λ q. q ≡ p) (λ e. e ≡ Fail.Memory) }
     ensures reason { (line : ℕ) → FirstUnfit text.now line
         → MatchResult result (λ _. ⊥) (λ e. (e ≡ Fail.Memory) ⊎ Said e (λ r. r.line ≡ line)) }
 {
