@@ -6,8 +6,10 @@ docs/check.py          prints each name that isn't there, by page and line
 - A link leads to a file, and behind `#` to a heading of that page.
 - A link whose text is names in backquotes leads to a file that declares them, or in which they are clauses.
 - Each other name in backquotes stands somewhere in the repository; each name of a crate is that of one; each path is there.
-- README.md: the calls and clauses of the promises. ARCHITECTURE.md: their files too; the crates, what each stands on and the longest
-  chain, by crates.txt.
+- README.md: the calls and clauses of the promises. ARCHITECTURE.md: their files too; and a row for each crate, under the headings and
+  in the order of crates.txt.
+- crates.txt names each folder of crates/, and for each crate only what a file of its code, definitions or proofs names.
+- No file that git tracks names a crate as it was called before.
 - docs/callers: the code behind the words `From FILE:`, FILE in backquotes, stands in that file word for word, and all Rust code
   of these pages is so.
 - The text that a must-fail edit changes stands once in its file.
@@ -15,14 +17,28 @@ docs/check.py          prints each name that isn't there, by page and line
 import glob
 import os
 import re
+import subprocess
 import sys
 from functools import cache
+
+sys.dont_write_bytecode = True
+from definitions import crates, rooms
 
 TOP = os.path.dirname(os.path.dirname(os.path.abspath(__file__)))
 PAGES = ["README.md"] + sorted(os.path.relpath(page, TOP) for page in glob.glob(os.path.join(TOP, "docs", "**", "*.md"), recursive=True))
 # Where a name may stand.
 CODE = ("crates/*/src/**/*.rt", "crates/*/specs/**/*.antt", "crates/*/proofs/**/*.antt")
-SOURCES = CODE + ("crates/*/std*", "bench/*", "examples/**/*", "docs/*.py", "crates.txt")
+SOURCES = CODE + ("crates/*/std*", "bench/**/*", "examples/**/*", "docs/*.py", "crates.txt")
+# Files of bytes, and texts that are wrong on purpose.
+UNREAD = (".class", ".exec", ".pyc", ".edit", "docs/check.py")
+CRATE = r"(?:jc|tests|examples)_\w+"
+# What crates were called before.
+OLD_NAMES = r"""
+    jc_entries jc_after jc_verify jc_code jc_run_work jc_run_parts jc_run_program jc_run_command jc_cover_work jc_cover_laws
+    jc_cover_files jc_cover_command jc_exec_commands jc_class_commands jc_words jc_work jc_sample jc_world jc_world_laws
+    jc_same_runs jc_case_text jc_effects jc_operations jc_store jc_perform jc_simulation jc_exact jc_linking jc_rows
+    jc_worker_rows jc_examples jc_world_examples jc_simulation_examples jc_callers vectors_\w+
+"""
 wrong = []
 
 
@@ -85,22 +101,22 @@ def check_links(page, where, line):
                 wants(where, name, [path])
 
 
-def check_names(where, line, words, crates):
+def check_names(where, line, words, names):
     """A name in backquotes that has an underscore, or a capital inside, stands somewhere."""
     for name in names_in(line):
         parts = [part for part in re.split(r"::", name) if part]
         if any("_" in part or re.search(r"[a-z][A-Z]", part) for part in parts) and not all(part in words for part in parts):
             wrong.append(f"{where}: `{name}` stands nowhere")
-    for name in re.findall(r"\b(?:jc|vectors)_\w+", line):
-        if name not in crates and name not in words:
+    for name in re.findall(rf"\b{CRATE}", line):
+        if name not in names:
             wrong.append(f"{where}: no crate {name}")
 
 
 def check_paths(where, line):
     """A path in backquotes that begins with a folder of the repository, or stands behind the name of its crate."""
     told = re.findall(r"`((?:crates|bench|docs|examples)/[\w./-]+)`", line)
-    told += [f"crates/{path}" for path in re.findall(r"`((?:jc_|vectors_|jcov/)[\w.]*/[\w./-]+)`", line)]
-    told += [f"crates/{crate}/{path}" for crate, path in re.findall(r"\b((?:jc|vectors)_\w+) \(?`((?:specs|src|proofs)/[\w./]+)`", line)]
+    told += [f"crates/{path}" for path in re.findall(rf"`((?:{CRATE}|jcov)/[\w./-]+)`", line)]
+    told += [f"crates/{crate}/{path}" for crate, path in re.findall(rf"\b({CRATE}) \(?`((?:specs|src|proofs)/[\w./]+)`", line)]
     wrong.extend(f"{where}: no file {path}" for path in told if not is_there(path) and "NAME" not in path and "/out/" not in path)
 
 
@@ -142,26 +158,52 @@ def check_readme():
 
 
 def check_crates(page):
-    """Each crate has a row, with what it stands on, and the longest chain is one."""
-    stands = {name.strip(): on.split() for name, _, on in (line.partition(":") for line in read("crates.txt").splitlines())}
-    told = set()
-    for where, cells in list(rows(page, "## Crates"))[1:]:
-        for name in re.findall(r"\w+", cells[0]):
-            told.add(name)
-            on = set(re.findall(r"\w+", cells[2]))
-            if name not in stands:
-                wrong.append(f"{where}: {name} isn't in crates.txt")
-            elif "," not in cells[0] and on != set(stands[name]):
-                wrong.append(f"{where}: {name} stands on {', '.join(stands[name])}")
-    wrong.extend(f"{page}: no row of the crate {name}" for name in stands if name not in told)
+    """Each heading of crates.txt has a table with a row for each of its crates, in their order; `each other one` are those without."""
+    lines = read(page).split("\n")
+    told, heading = [], ""
+    for line in lines[lines.index("## Crates") + 1:lines.index("### The layers")]:
+        if line.startswith("### "):
+            heading = line[4:]
+            told.append((heading, []))
+        elif line.startswith("| ") and not line.startswith("| Crate |"):
+            told[-1][1].append(line.strip("| ").split(" | ")[0])
+    wanted = [(heading, list(room)) for heading, room in rooms()]
+    if [heading for heading, _ in told] != [heading for heading, _ in wanted]:
+        wrong.append(f"{page}: the headings of the crates are those of crates.txt: {'; '.join(heading for heading, _ in wanted)}")
+        return
+    for (heading, have), (_, names) in zip(told, wanted):
+        if have[-1:] == ["each other one"]:
+            have = have[:-1]
+            names = [name for name in names if name in have]
+        if have != names:
+            wrong.append(f"{page}: the rows under {heading} are to be {', '.join(names)}")
 
-    @cache
-    def chain(name):
-        return max((chain(on) for on in stands[name] if on in stands), key=len, default=[]) + [name]
 
-    longest = re.search(r"The longest chain .*?: (.*?)\.", read(page)).group(1).split(", ")
-    if len(longest) != max(len(chain(name)) for name in stands) or any(a not in stands[b] for a, b in zip(longest, longest[1:])):
-        wrong.append(f"{page}: a longest chain is {', '.join(max((chain(name) for name in stands), key=len))}")
+def check_stands():
+    """crates.txt has each folder of crates/, and of what each crate stands on only what its files name, not in comments alone."""
+    folders = {os.path.basename(path) for path in glob.glob(os.path.join(TOP, "crates", "*"))}
+    wrong.extend(f"crates.txt: {name} is in it alone, or in crates/ alone" for name in sorted(folders ^ set(crates())))
+    for name, on in crates().items():
+        paths = files(*(pattern.replace("*", name, 1) for pattern in CODE))
+        code = " ".join(re.sub(r"//.*" if path.endswith(".rt") else r"--.*", "", read(path)) for path in paths)
+        named = set(re.findall(r"\w+", code))
+        wrong.extend(f"crates.txt: no file of {name} names {each}" for each in on if each not in named)
+
+
+def check_old_names():
+    """No file that git tracks names a crate as it was called before, but for the list of these names; nor does its path."""
+    old = re.compile(r"\b(?:%s)\b" % "|".join(OLD_NAMES.split()))
+    tracked = subprocess.run(["git", "ls-files", "-z"], cwd=TOP, stdout=subprocess.PIPE, check=True).stdout.decode()
+    for path in tracked.split("\0"):
+        name = os.path.join(TOP, path)
+        if not os.path.isfile(name):
+            continue
+        with open(name, encoding="utf-8", errors="replace") as it:
+            text = it.read()
+        if path == "docs/check.py":
+            text = text.replace(OLD_NAMES, "")
+        wrong.extend(f"{path}: its path has the old name {found}" for found in old.findall(path))
+        wrong.extend(f"{path}:{text.count(chr(10), 0, found.start()) + 1}: the old name {found.group()}" for found in old.finditer(text))
 
 
 def check_code(page):
@@ -186,13 +228,13 @@ def check_edits():
 
 
 def main():
-    crates = {os.path.basename(path) for path in glob.glob(os.path.join(TOP, "crates", "*"))}
-    words = set(re.findall(r"[\w$]+", " ".join(read(path) + " " + path for path in files(*SOURCES) if not path.endswith((".class", ".exec")))))
+    names = set(crates())
+    words = set(re.findall(r"[\w$]+", " ".join(read(path) + " " + path for path in files(*SOURCES) if not path.endswith(UNREAD))))
     for page in PAGES:
         for number, line in enumerate(read(page).split("\n"), 1):
             where = f"{page}:{number}"
             check_links(page, where, line)
-            check_names(where, line, words, crates)
+            check_names(where, line, words, names)
             check_paths(where, line)
     for page in PAGES:
         if page.startswith("docs/callers/"):
@@ -201,6 +243,8 @@ def main():
     check_promises(page)
     check_readme()
     check_crates(page)
+    check_stands()
+    check_old_names()
     check_edits()
     sys.exit("\n".join(wrong) if wrong else 0)
 
