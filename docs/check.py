@@ -25,7 +25,7 @@ sys.dont_write_bytecode = True
 from definitions import crates, rooms
 
 TOP = os.path.dirname(os.path.dirname(os.path.abspath(__file__)))
-PAGES = ["README.md"] + sorted(os.path.relpath(page, TOP) for page in glob.glob(os.path.join(TOP, "docs", "**", "*.md"), recursive=True))
+PAGES = ["README.md", "bench/README.md"] + sorted(os.path.relpath(page, TOP) for page in glob.glob(os.path.join(TOP, "docs", "**", "*.md"), recursive=True))
 # Where a name may stand.
 CODE = ("crates/*/src/**/*.rt", "crates/*/specs/**/*.antt", "crates/*/proofs/**/*.antt")
 SOURCES = CODE + ("crates/*/std*", "bench/**/*", "examples/**/*", "docs/*.py", "crates.txt")
