@@ -2,7 +2,7 @@
 use Rattle.std.proofs.Common.{◌≡◌, ℕ, ◌+◌, ◌<◌, ◌≤◌, List, [], ◌∷◌, ◌++◌, length, drop, get_or, map, refl, sym, ◌∙◌, ap, arith, append_assoc, append-nil, drop-cons, add-one}
 use Rattle.std.proofs.lemmas.List.{map-append, drop_all, get_or-map, length-map}
 use Rattle.jc_command_work.specs.Step.{Word}
-use Rattle.jc_command_files.specs.Instrument.{Decision, refused_file, accepted_file}
+use Rattle.jc_command_classes.specs.Instrument.{Decision, refused_file, accepted_file}
 use Rattle.jc_headline.specs.CoverWork.{LookedFile, accepted, kept_if, place_if, places_from}
 
 -- ---- places

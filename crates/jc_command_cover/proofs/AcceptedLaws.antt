@@ -10,7 +10,7 @@ use Rattle.jc_command_work.specs.Seen.{texts_of}
 use Rattle.jc_command_work.specs.Step.{Word}
 use Rattle.jc_command_cover.specs.Accepted.{AreAccepted, AreWhole}
 use Rattle.jc_command_cover.specs.declared.accepted.Accepted.{Accepted}
-use Rattle.jc_command_files.specs.Instrument.{Decision, refused_file, accepted_file}
+use Rattle.jc_command_classes.specs.Instrument.{Decision, refused_file, accepted_file}
 use Rattle.jc_headline.specs.CoverWork.{LookedFile, accepted, kept_if, place_if, places_from, path_of, paths_in, texts_in, accepted_texts, targets}
 use Rattle.jc_command_run.specs.RunAnswers.{path_at}
 

@@ -11,9 +11,9 @@ use Rattle.jc_command_work.specs.Part.{End, gives, Part, giving, writing, writin
 use Rattle.jc_command_work.specs.Ending.{CameTo, Stops, Does}
 use Rattle.jc_command_work.proofs.Behind.{came_then, stops_first, stops_then}
 use Rattle.jc_command_work.proofs.Reaching.{Reached, reached_start, was_decided}
-use Rattle.jc_command_files.specs.declared.instrument.Decided.{Decided}
-use Rattle.jc_command_files.specs.Instrument.{Decision, IsDecision, file_writes, decision_seen}
-use Rattle.jc_command_files.proofs.EachLaws.{AtPlace}
+use Rattle.jc_command_classes.specs.declared.instrument.Decided.{Decided}
+use Rattle.jc_command_classes.specs.Instrument.{Decision, IsDecision, file_writes, decision_seen}
+use Rattle.jc_command_classes.proofs.EachLaws.{AtPlace}
 use Rattle.jc_headline.specs.CoverWork.{LookedFile, AreLooked, all_file_writes, place_if, places_from}
 use Rattle.jc_command_cover.specs.Files.{Instrumented, Instruments, AreOf, Written, WritesFiles}
 use Rattle.jc_command_cover.proofs.AcceptedItemLaws.{place_if-append}

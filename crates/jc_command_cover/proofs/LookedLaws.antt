@@ -3,7 +3,7 @@ use Rattle.std.proofs.Common.{◌≡◌, ℕ, ◌+◌, ◌<◌, List, [], ◌∷
 use Rattle.std.specs.List.{AllByRecursion}
 use Rattle.jc_paths.specs.Paths.{in_folder}
 use Rattle.jc_command_work.specs.Step.{Word}
-use Rattle.jc_command_files.specs.Instrument.{Decision, refused_file, accepted_file}
+use Rattle.jc_command_classes.specs.Instrument.{Decision, refused_file, accepted_file}
 use Rattle.jc_headline.specs.CoverWork.{LookedFile, AreLooked, accepted, paths_in, texts_in, accepted_texts, targets, place_if, places_from}
 use Rattle.jc_headline.proofs.DistinctLaws.{looked_files}
 use Rattle.jc_command_cover.specs.AcceptedItems.{KeepsAccepted}

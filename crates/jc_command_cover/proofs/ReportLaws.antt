@@ -10,9 +10,9 @@ use Rattle.jc_command_work.specs.Part.{refused}
 use Rattle.jc_command_work.specs.Seen.{stop_seen}
 use Rattle.jc_command_work.specs.Step.{Word}
 use Rattle.jc_command_work.specs.Texts.{fault_text}
-use Rattle.jc_command_files.specs.Report.{changed_of, first_of_each_id}
-use Rattle.jc_command_files.specs.ReportSteps.{counted_classes, CountsFiles}
-use Rattle.jc_command_files.proofs.CountedLaws.{are_counted}
+use Rattle.jc_command_classes.specs.Report.{changed_of, first_of_each_id}
+use Rattle.jc_command_classes.specs.ReportSteps.{counted_classes, CountsFiles}
+use Rattle.jc_command_classes.proofs.CountedLaws.{are_counted}
 use Rattle.jc_headline.specs.CoverWork.{IsReportText, IsClashEnd}
 use Rattle.jc_command_cover.specs.Deciding.{Decides}
 

@@ -7,7 +7,7 @@ use Rattle.jc_command_work.specs.Step.{Word, Outside, Counts, Landed}
 use Rattle.jc_command_work.specs.Part.{gives, writing_all}
 use Rattle.jc_command_work.specs.Ending.{CameTo, Stops}
 use Rattle.jc_command_work.specs.Seen.{stop_seen}
-use Rattle.jc_command_files.specs.Instrument.{Decision}
+use Rattle.jc_command_classes.specs.Instrument.{Decision}
 use Rattle.jc_headline.specs.CoverWork.{LookedFile, AreLooked, all_file_writes, paths_in, texts_in, places_from, instrumenting}
 
 -- ---- the part `instrumenting`

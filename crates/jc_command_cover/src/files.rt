@@ -4,13 +4,13 @@ ghost use Rattle.jc_bytes.specs.Reader.{most_read};
 ghost use Rattle.jc_command_work.specs.Part.{writing_all};
 ghost use Rattle.jc_command_work.specs.Ending.{Does};
 ghost use Rattle.jc_command_work.specs.Seen.{words_of, stop_seen};
-ghost use Rattle.jc_command_files.specs.Instrument.{file_writes, decision_seen};
+ghost use Rattle.jc_command_classes.specs.Instrument.{file_writes, decision_seen};
 ghost use Rattle.jc_headline.specs.CoverWork.{place_if};
 ghost use Rattle.jc_headline.specs.Runs.{Between};
 ghost use Rattle.jc_command_cover.specs.Files.{InstrumentsTo, WritesDecided};
 
 use jc_bytes::{Bytes, Memory};
-use jc_command_files::{Decided, decide_all, decided_line};
+use jc_command_classes::{Decided, decide_all, decided_line};
 use jc_command_work::{Stop, put_err, put_out, write_file};
 use jc_outside::{Files, Sink};
 use std::alloc::Global;

@@ -11,7 +11,7 @@ ghost use Rattle.jc_command_work.specs.Seen.{stop_seen};
 use crate::accepted::Accepted;
 use crate::words::CoverWords;
 use jc_bytes::Bytes;
-use jc_command_files::{Data, csv_of_files};
+use jc_command_classes::{Data, csv_of_files};
 use jc_command_run::Ran;
 use jc_command_work::{Stop, put_out, write_file};
 use jc_exec::ExecStore;

@@ -22,9 +22,9 @@ use Rattle.jc_instrument.proofs.EachAnalysisLaws.{each_analysis}
 use Rattle.jc_instrument.proofs.SameAnalysisLaws.{same_analysis}
 use Rattle.jc_instrument.proofs.OneTwinLaws.{file_or_reason}
 use Rattle.jc_instrument.proofs.RefusedLaws.{refused_too}
-use Rattle.jc_command_files.specs.Report.{frameless, record_of, hits_of, clash_with}
-use Rattle.jc_command_files.specs.ReportSteps.{counted_of}
-use Rattle.jc_command_files.proofs.FramelessLaws.{same_counted}
+use Rattle.jc_command_classes.specs.Report.{frameless, record_of, hits_of, clash_with}
+use Rattle.jc_command_classes.specs.ReportSteps.{counted_of}
+use Rattle.jc_command_classes.proofs.FramelessLaws.{same_counted}
 use Rattle.jc_command_work.specs.Part.{End}
 use Rattle.jc_command_work.specs.Step.{IsFile}
 use Rattle.jc_command_work.specs.declared.status.Fault.TheVariants as fault

@@ -12,8 +12,8 @@ use Rattle.jc_exec.specs.Store.{Store}
 use Rattle.jc_exec.specs.declared.hits.ClassHits.{ClassHits}
 use Rattle.jc_exec.specs.declared.refusal.ExecRefusal.{ExecRefusal}
 use Rattle.jc_instrument.specs.Analysis.{IsAnalysis}
-use Rattle.jc_command_files.specs.Report.{record_of, clash_with}
-use Rattle.jc_command_files.proofs.ReportStepLaws.{record_hits}
+use Rattle.jc_command_classes.specs.Report.{record_of, clash_with}
+use Rattle.jc_command_classes.proofs.ReportStepLaws.{record_hits}
 use Rattle.jc_command_work.specs.declared.status.Fault.TheVariants as fault
 use Rattle.jc_command_work.specs.Answered.{refusal_of}
 use Rattle.jc_command_work.specs.Part.{deciding}

@@ -23,7 +23,7 @@ use Rattle.jc_command_work.specs.declared.status.Fault.TheVariants as fault
 use Rattle.jc_command_work.specs.Step.{Word, to_out}
 use Rattle.jc_command_work.specs.Part.{End, done, Part, Command, giving, ending, deciding, writing, ◌>>=◌, ◌>>◌}
 use Rattle.jc_command_work.specs.Answered.{refusal_of}
-use Rattle.jc_command_files.specs.Report.{record_of, hits_of, clash_with}
+use Rattle.jc_command_classes.specs.Report.{record_of, hits_of, clash_with}
 use Rattle.jc_command_run.specs.RunAnswers.{IsRunProgram}
 use Rattle.jc_command_run.specs.RunStore.{threads_of, first_without, run_store}
 use Rattle.jc_command_sample.specs.SampleFile.{sample_file}

@@ -7,7 +7,7 @@ ghost use Rattle.jc_cover.specs.Counters.{counters_of};
 ghost use Rattle.jc_cover.specs.declared.coverage.Coverage.{Coverage as Told};
 ghost use Rattle.jc_exec.specs.Store.{IsWritableClass};
 ghost use Rattle.jc_plan.specs.Analysed.{IsAnalysed};
-ghost use Rattle.jc_command_files.specs.Report.{record_of, clash_with};
+ghost use Rattle.jc_command_classes.specs.Report.{record_of, clash_with};
 ghost use Rattle.jc_instrument.specs.Analysis.{IsAnalysis};
 ghost use Rattle.jc_command_work.specs.Step.{Word};
 ghost use Rattle.jc_command_work.specs.Part.{deciding};

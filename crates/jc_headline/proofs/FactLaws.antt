@@ -33,7 +33,7 @@ use Rattle.jc_link_laws.specs.TwinFiles.{AreWrittenOf, IsShortFile, IsWrittenOf,
 use Rattle.jc_link_laws.proofs.ChangedPairLaws.{changed_pair, probes_new}
 use Rattle.jc_link_laws.proofs.TwinPairLaws.{unchanged_pair}
 use Rattle.jc_machine_model.specs.Methods.{declares_init, is_init_name}
-use Rattle.jc_command_files.specs.Report.{ReportedFile, refused_class, unchanged_class, changed_class, IsItem, is_refused, is_unchanged, is_changed, AreItems, frameless}
+use Rattle.jc_command_classes.specs.Report.{ReportedFile, refused_class, unchanged_class, changed_class, IsItem, is_refused, is_unchanged, is_changed, AreItems, frameless}
 use Rattle.jc_headline.proofs.OriginalLaws.{accepted_of}
 
 -- ---- which classes declare the added method

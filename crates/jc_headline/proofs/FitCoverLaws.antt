@@ -25,10 +25,10 @@ use Rattle.jc_command_work.specs.OneWay.{Work, IsWork}
 use Rattle.jc_command_work.specs.Prefix.{after_writes}
 use Rattle.jc_command_work.proofs.Behind.{came_then}
 use Rattle.jc_command_work.proofs.Reaching.{was_decided}
-use Rattle.jc_command_files.specs.Report.{ReportedFile, AreItems, changed_of, first_of_each_id, first_clash, report_text}
-use Rattle.jc_command_files.specs.ReportSteps.{counted_classes}
-use Rattle.jc_command_files.proofs.CountedLaws.{are_counted}
-use Rattle.jc_command_files.proofs.ReportLaws.{some_items}
+use Rattle.jc_command_classes.specs.Report.{ReportedFile, AreItems, changed_of, first_of_each_id, first_clash, report_text}
+use Rattle.jc_command_classes.specs.ReportSteps.{counted_classes}
+use Rattle.jc_command_classes.proofs.CountedLaws.{are_counted}
+use Rattle.jc_command_classes.proofs.ReportLaws.{some_items}
 use Rattle.jc_command_run.specs.RunAnswers.{IsPlanEnd, IsRunProgram}
 use Rattle.jc_command_run.specs.RunStore.{threads_of, run_store}
 use Rattle.jc_command_run.proofs.StoreLaws.{same_store, same_without}

@@ -23,7 +23,7 @@ use Rattle.jc_link_programs.specs.Pairs.{HaveOneId, NoPair}
 use Rattle.jc_link_laws.specs.TwinFiles.{AreWrittenOf, IsShortFile}
 use Rattle.jc_link_laws.proofs.SecondLinkingLaws.{same_name}
 use Rattle.jc_machine_model.specs.Run.{hits_of}
-use Rattle.jc_command_files.specs.Report.{ReportedFile, refused_class, unchanged_class, changed_class, IsItem, is_refused, is_unchanged, is_changed, AreItems, record_of, clash_with, clash_of, first_clash}
+use Rattle.jc_command_classes.specs.Report.{ReportedFile, refused_class, unchanged_class, changed_class, IsItem, is_refused, is_unchanged, is_changed, AreItems, record_of, clash_with, clash_of, first_clash}
 use Rattle.jc_command_run.specs.RunStore.{is_hit_in, hit_record, run_store}
 use Rattle.jc_headline.proofs.FactLaws.{ChangedFacts, FileFacts, AreFacts}
 use Rattle.jc_headline.proofs.RowLaws.{record_there}

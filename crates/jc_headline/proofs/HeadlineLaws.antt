@@ -7,9 +7,9 @@ use Rattle.jc_programs.specs.declared.program.Program.{Program}
 use Rattle.jc_report.specs.declared.row.Counted.{Counted}
 use Rattle.jc_command_work.specs.Step.{Outside, Landed}
 use Rattle.jc_command_work.proofs.Prefix.{done_means}
-use Rattle.jc_command_files.specs.Report.{changed_of, first_of_each_id}
-use Rattle.jc_command_files.specs.ReportSteps.{counted_by}
-use Rattle.jc_command_files.proofs.CountedLaws.{all_counted}
+use Rattle.jc_command_classes.specs.Report.{changed_of, first_of_each_id}
+use Rattle.jc_command_classes.specs.ReportSteps.{counted_by}
+use Rattle.jc_command_classes.proofs.CountedLaws.{all_counted}
 use Rattle.jc_command_run.specs.RunStore.{run_store}
 use Rattle.jc_headline.specs.CoverWork.{Cover, accepted, texts_in, cover_work}
 use Rattle.jc_headline.specs.CoverRun.{CoverRun}

@@ -37,11 +37,11 @@ use Rattle.jc_command_work.specs.Folders.{files_of}
 use Rattle.jc_command_work.specs.OneWay.{IsOver, OneDecision, HasOne}
 use Rattle.jc_command_work.proofs.AnsweredLaws.{texts_read, has_files, all_files}
 use Rattle.jc_command_work.proofs.OneWork.{one_giving, one_ending, one_deciding, one_writing, one_reading, has_then, has_then_if, has_reading_all, has_writing_all}
-use Rattle.jc_command_files.specs.Instrument.{Decision, refused_file, accepted_file, IsDecision}
-use Rattle.jc_command_files.specs.Report.{ReportedFile, AreItems, first_clash, changed_of, first_of_each_id, report_text}
-use Rattle.jc_command_files.specs.ReportSteps.{counted_classes}
-use Rattle.jc_command_files.proofs.CountedLaws.{are_counted, all_counted}
-use Rattle.jc_command_files.proofs.ReportLaws.{one_items, some_items, one_clash, no_clash_in_front}
+use Rattle.jc_command_classes.specs.Instrument.{Decision, refused_file, accepted_file, IsDecision}
+use Rattle.jc_command_classes.specs.Report.{ReportedFile, AreItems, first_clash, changed_of, first_of_each_id, report_text}
+use Rattle.jc_command_classes.specs.ReportSteps.{counted_classes}
+use Rattle.jc_command_classes.proofs.CountedLaws.{are_counted, all_counted}
+use Rattle.jc_command_classes.proofs.ReportLaws.{one_items, some_items, one_clash, no_clash_in_front}
 use Rattle.jc_command_run.specs.PairTexts.{same_name_text, same_id_text}
 use Rattle.jc_command_run.specs.RunAnswers.{HasName, HasId, IsPlanEnd, IsRunProgram}
 use Rattle.jc_command_run.specs.RunStore.{threads_of, first_without, run_store}

@@ -32,7 +32,7 @@ use Rattle.jc_link_laws.proofs.SecondLinkingLaws.{same_name}
 use Rattle.jc_link_laws.proofs.SomeProgramLaws.{program_or_reason}
 use Rattle.jc_link_laws.proofs.TwinPairLaws.{no_probes, none_added}
 use Rattle.jc_link_laws.proofs.WrittenFileLaws.{written_of}
-use Rattle.jc_command_files.specs.Instrument.{Decision, refused_file, accepted_file, IsDecision}
+use Rattle.jc_command_classes.specs.Instrument.{Decision, refused_file, accepted_file, IsDecision}
 use Rattle.jc_headline.specs.CoverWork.{LookedFile, AreLooked, accepted, kept_if, texts_in}
 use Rattle.jc_headline.specs.Headline.{NamesConstants, written_bytes, all_written}
 

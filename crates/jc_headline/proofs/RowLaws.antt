@@ -33,9 +33,9 @@ use Rattle.jc_machine_model.specs.World.{Hit}
 use Rattle.jc_twin_simulation.specs.Marking.{AreMarks}
 use Rattle.jc_twin_exact.specs.Exact.{HaveEntries}
 use Rattle.jc_twin_exact.proofs.ReportedLaws.{reported_edges}
-use Rattle.jc_command_files.specs.Report.{ReportedFile, refused_class, unchanged_class, changed_class, changed_of, record_of, first_of_each_id, hits_of as hits_in, frameless}
-use Rattle.jc_command_files.specs.ReportSteps.{counted_of, counted_by}
-use Rattle.jc_command_files.proofs.FramelessLaws.{same_counted}
+use Rattle.jc_command_classes.specs.Report.{ReportedFile, refused_class, unchanged_class, changed_class, changed_of, record_of, first_of_each_id, hits_of as hits_in, frameless}
+use Rattle.jc_command_classes.specs.ReportSteps.{counted_of, counted_by}
+use Rattle.jc_command_classes.proofs.FramelessLaws.{same_counted}
 use Rattle.jc_command_run.specs.RunStore.{is_hit_in, hit_record, with_record, hit_records, run_store}
 use Rattle.jc_headline.specs.Headline.{bits_of, IsRow, RowsBy, AreRowsFrom}
 use Rattle.jc_headline.proofs.FactLaws.{ChangedFacts, FileFacts, AreFacts}

@@ -26,8 +26,8 @@ use Rattle.jc_twin_simulation.proofs.ProgramRunLaws.{have_marks, have_sides, run
 use Rattle.jc_machine_laws.proofs.FramelessTextLaws.{same_texts}
 use Rattle.jc_paths.specs.Paths.{in_folder}
 use Rattle.jc_command_work.specs.Step.{Word, Outside, to_file, to_out, Told}
-use Rattle.jc_command_files.specs.Instrument.{Decision, refused_file, accepted_file}
-use Rattle.jc_command_files.specs.Report.{report_text}
+use Rattle.jc_command_classes.specs.Instrument.{Decision, refused_file, accepted_file}
+use Rattle.jc_command_classes.specs.Report.{report_text}
 use Rattle.jc_command_run.specs.RunStore.{run_store, threads_of, first_without}
 use Rattle.jc_command_run.proofs.StoreLaws.{same_store, same_without}
 use Rattle.jc_headline.specs.CoverWork.{Cover, LookedFile, all_file_writes, accepted, texts_in, targets}

@@ -10,7 +10,7 @@ use Rattle.jc_instrument.specs.declared.whole.Instrumented.{Instrumented}
 use Rattle.jc_link_laws.specs.TwinFiles.{IsShortFile}
 use Rattle.jc_paths.specs.Paths.{in_folder}
 use Rattle.jc_command_work.specs.Step.{Word}
-use Rattle.jc_command_files.specs.Instrument.{Decision, refused_file, accepted_file, IsDecision}
+use Rattle.jc_command_classes.specs.Instrument.{Decision, refused_file, accepted_file, IsDecision}
 use Rattle.jc_headline.specs.CoverWork.{LookedFile, AreLooked, accepted, kept_if, paths_in, targets}
 use Rattle.jc_headline.specs.CoverRun.{AreRead}
 use Rattle.jc_headline.specs.Headline.{written_bytes, all_written}

@@ -10,7 +10,7 @@ use Rattle.jc_outside.specs.Outside.{FileMap}
 use Rattle.jc_paths.specs.Paths.{in_folder}
 use Rattle.jc_command_work.specs.Step.{Word, Outside, Landed, Write, to_file, to_out, to_err, after_write, grown}
 use Rattle.jc_command_work.specs.Prefix.{after_writes}
-use Rattle.jc_command_files.specs.Instrument.{Decision, refused_file, accepted_file, file_writes}
+use Rattle.jc_command_classes.specs.Instrument.{Decision, refused_file, accepted_file, file_writes}
 use Rattle.jc_headline.specs.CoverWork.{LookedFile, all_file_writes, accepted, kept_if, paths_in, targets}
 use Rattle.jc_headline.specs.CoverRun.{AreRead, IsNone, AreDistinct}
 use Rattle.jc_headline.specs.Headline.{as_written, written_bytes, all_written, out_text, err_text}

@@ -19,9 +19,9 @@ use Rattle.jc_command_work.specs.Part.{End, done, refused, Part, Command, giving
 use Rattle.jc_command_work.specs.Part.{reading, writing, reading_all, writing_all}
 use Rattle.jc_command_work.specs.Answered.{refusal_of}
 use Rattle.jc_command_work.specs.Folders.{files_of}
-use Rattle.jc_command_files.specs.Instrument.{Decision, refused_file, accepted_file, IsDecision, file_writes}
-use Rattle.jc_command_files.specs.Report.{ReportedFile, AreItems, first_clash, AreCountedItems, report_text}
-use Rattle.jc_command_files.specs.ReportSteps.{FrontClashes}
+use Rattle.jc_command_classes.specs.Instrument.{Decision, refused_file, accepted_file, IsDecision, file_writes}
+use Rattle.jc_command_classes.specs.Report.{ReportedFile, AreItems, first_clash, AreCountedItems, report_text}
+use Rattle.jc_command_classes.specs.ReportSteps.{FrontClashes}
 use Rattle.jc_command_run.specs.PairTexts.{same_name_text, same_id_text}
 use Rattle.jc_command_run.specs.RunAnswers.{path_at, HasName, HasId, IsPlanEnd, IsRunProgram}
 use Rattle.jc_command_run.specs.RunStore.{threads_of, first_without, run_store}

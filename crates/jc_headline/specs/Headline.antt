@@ -49,8 +49,8 @@ use Rattle.jc_command_work.specs.declared.status.Status.TheVariants as status
 use Rattle.jc_command_work.specs.Ending.{Ends}
 use Rattle.jc_command_work.specs.OneWay.{IsTold}
 use Rattle.jc_command_work.specs.Step.{Word, Outside, Counts, Landed, Write, to_file, to_out, to_err, Told}
-use Rattle.jc_command_files.specs.Instrument.{Decision, refused_file, accepted_file}
-use Rattle.jc_command_files.specs.Report.{report_text}
+use Rattle.jc_command_classes.specs.Instrument.{Decision, refused_file, accepted_file}
+use Rattle.jc_command_classes.specs.Report.{report_text}
 use Rattle.jc_command_run.specs.RunStore.{hit_record, run_store}
 use Rattle.jc_headline.specs.CoverWork.{Cover, LookedFile, all_file_writes, accepted_texts, cover_work}
 use Rattle.jc_headline.specs.CoverRun.{CoverRun}

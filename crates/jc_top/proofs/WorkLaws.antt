@@ -19,13 +19,13 @@ use Rattle.jc_command_work.proofs.CauseLaws.{ends_then, ends_deciding, ends_read
 use Rattle.jc_command_work.proofs.FileLaws.{ends_files, none_files}
 use Rattle.jc_command_work.proofs.NoWrites.{WritesNone, none_deciding, none_reading}
 use Rattle.jc_command_work.proofs.Prefix.{writes-append}
-use Rattle.jc_command_files.proofs.ExecAnswers.{merge_has_one, merge_refuses, info_has_one, info_refuses}
-use Rattle.jc_command_files.specs.Merge.{MergeAnswers}
-use Rattle.jc_command_files.specs.ExecInfo.{InfoAnswers}
-use Rattle.jc_command_files.specs.ClassInfo.{ListAnswers}
-use Rattle.jc_command_files.specs.Instrument.{InstrumentAnswers}
-use Rattle.jc_command_files.specs.Report.{ReportAnswers}
-use Rattle.jc_command_files.proofs.ClassAnswers.{list_has_one, list_refuses, report_has_one, report_refuses, instrument_has_one, instrument_refuses}
+use Rattle.jc_command_exec.proofs.ExecAnswers.{merge_has_one, merge_refuses, info_has_one, info_refuses}
+use Rattle.jc_command_exec.specs.Merge.{MergeAnswers}
+use Rattle.jc_command_exec.specs.ExecInfo.{InfoAnswers}
+use Rattle.jc_command_classes.specs.ClassInfo.{ListAnswers}
+use Rattle.jc_command_classes.specs.Instrument.{InstrumentAnswers}
+use Rattle.jc_command_classes.specs.Report.{ReportAnswers}
+use Rattle.jc_command_classes.proofs.ClassAnswers.{list_has_one, list_refuses, report_has_one, report_refuses, instrument_has_one, instrument_refuses}
 use Rattle.jc_command_run.specs.RunAnswers.{RunAnswers}
 use Rattle.jc_headline.proofs.OneCoverLaws.{PlansAreOne, has_cover}
 use Rattle.jc_headline.proofs.OwnEndLaws.{cover_ends}

@@ -6,11 +6,11 @@ use Rattle.jc_command_work.specs.Step.{Word}
 use Rattle.jc_command_work.specs.Part.{End, misused, Command, deciding, reading, ◌>>=◌}
 use Rattle.jc_command_work.specs.Folders.{files_of}
 use Rattle.jc_command_work.specs.Answered.{Answer, answered}
-use Rattle.jc_command_files.specs.Merge.{MergeAnswers}
-use Rattle.jc_command_files.specs.ExecInfo.{InfoAnswers}
-use Rattle.jc_command_files.specs.ClassInfo.{ListAnswers}
-use Rattle.jc_command_files.specs.Report.{ReportAnswers}
-use Rattle.jc_command_files.specs.Instrument.{InstrumentAnswers}
+use Rattle.jc_command_exec.specs.Merge.{MergeAnswers}
+use Rattle.jc_command_exec.specs.ExecInfo.{InfoAnswers}
+use Rattle.jc_command_classes.specs.ClassInfo.{ListAnswers}
+use Rattle.jc_command_classes.specs.Report.{ReportAnswers}
+use Rattle.jc_command_classes.specs.Instrument.{InstrumentAnswers}
 use Rattle.jc_command_run.specs.RunAnswers.{RunAnswers}
 use Rattle.jc_headline.specs.CoverWork.{cover_work}
 use Rattle.jc_command_sample.specs.SampleWork.{sample_work}

@@ -7,16 +7,14 @@ ghost use Rattle.jc_command_words.specs.Seen.{text_seen};
 ghost use Rattle.jc_command_work.specs.Step.{Landed};
 ghost use Rattle.jc_command_work.specs.Ending.{Ends};
 ghost use Rattle.jc_command_work.specs.Seen.{texts_of};
-ghost use Rattle.jc_command_files.specs.ReportSteps.{exec_path, exec_texts};
+ghost use Rattle.jc_command_classes.specs.ReportSteps.{exec_path, exec_texts};
 ghost use Rattle.jc_headline.specs.Runs.{Between, BetweenTexts};
 ghost use Rattle.jc_top.specs.Work.{reporting, work_of};
 
 use crate::complete::complete;
+use jc_command_classes::{ExecInput, prepare_class_info, prepare_instrument, prepare_report};
 use jc_command_cover::CoverWords;
-use jc_command_files::{
-    ExecInput, prepare_class_info, prepare_exec_info, prepare_instrument, prepare_merge,
-    prepare_report,
-};
+use jc_command_exec::{prepare_exec_info, prepare_merge};
 use jc_command_run::prepare_run;
 use jc_command_work::{Status, list_files, read_one};
 use jc_outside::{Files, Sink};

@@ -4,7 +4,7 @@ use Rattle.std.proofs.lemmas.Iterator.Consumers.{YieldsList-from_enumerate, Yiel
 use Rattle.std.proofs.lemmas.List.{length_push}
 use Rattle.std.proofs.lemmas.List.FromFn.{length-enumerate_from}
 use Rattle.jc_command_cover.proofs.AcceptedItemLaws.{heads, KeptFirst, keeping_start, item_kept, item_dropped, all_kept, others_dropped}
-use Rattle.jc_command_files.proofs.EachLaws.{at_place}
+use Rattle.jc_command_classes.proofs.EachLaws.{at_place}
 use Rattle.jc_command_cover.proofs.accepted_items.accepted_of.Goals.{in-None, in-Some+in_default}
 use Rattle.jc_command_cover.proofs.accepted_items.accepted_of.Goals as goal
 

@@ -5,7 +5,7 @@ use Rattle.std.proofs.lemmas.Slice.Zip.{AllZip-long}
 use Rattle.jc_command_work.specs.Step.{Word}
 use Rattle.jc_command_work.specs.Seen.{words_of}
 use Rattle.jc_command_work.proofs.Leaves.{nothing_yet}
-use Rattle.jc_command_files.specs.Instrument.{decision_seen}
+use Rattle.jc_command_classes.specs.Instrument.{decision_seen}
 use Rattle.jc_headline.specs.CoverWork.{instrumenting}
 use Rattle.jc_command_cover.specs.Files.{AreOf}
 use Rattle.jc_command_cover.proofs.FileLaws.{some_looked, instrumented}

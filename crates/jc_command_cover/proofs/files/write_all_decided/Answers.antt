@@ -4,9 +4,9 @@ use Rattle.std.proofs.lemmas.Iterator.Consumers.{YieldsList-from_enumerate, Yiel
 use Rattle.std.proofs.lemmas.List.{length_push}
 use Rattle.std.proofs.lemmas.List.FromFn.{length-enumerate_from}
 use Rattle.std.proofs.lemmas.Result.{err_from_is_err_and}
-use Rattle.jc_command_files.specs.declared.instrument.Decided.{Decided}
-use Rattle.jc_command_files.specs.Instrument.{decision_seen}
-use Rattle.jc_command_files.proofs.EachLaws.{at_place}
+use Rattle.jc_command_classes.specs.declared.instrument.Decided.{Decided}
+use Rattle.jc_command_classes.specs.Instrument.{decision_seen}
+use Rattle.jc_command_classes.proofs.EachLaws.{at_place}
 use Rattle.jc_command_cover.proofs.FileLaws.{as_many_files, turn_file, files_start, turn_written, file_failed, file_lost, files_written}
 use Rattle.jc_command_cover.proofs.files.write_all_decided.Goals as goal
 

@@ -1,7 +1,7 @@
 use Rattle.std.proofs.Common.{List, length, map}
 use Rattle.jc_command_work.specs.Step.{Word, outside, counts}
 use Rattle.jc_command_work.specs.Seen.{words_of}
-use Rattle.jc_command_files.specs.Instrument.{decision_seen}
+use Rattle.jc_command_classes.specs.Instrument.{decision_seen}
 use Rattle.jc_headline.specs.CoverWork.{LookedFile}
 use Rattle.jc_command_cover.specs.Files.{AreOf}
 use Rattle.jc_command_cover.proofs.FileLaws.{WroteFirst}

@@ -2,8 +2,8 @@ use Rattle.std.proofs.Common.{◌≡◌, [], ◌∷◌, refl, ◌∙◌, ap, sub
 use Rattle.std.proofs.lemmas.Result.{err_from_is_err_and}
 use Rattle.jc_command_work.specs.Step.{to_file, to_out, to_err}
 use Rattle.jc_command_work.specs.Seen.{stop_seen}
-use Rattle.jc_command_files.specs.declared.instrument.Decided.{Decided}
-use Rattle.jc_command_files.specs.Instrument.{refused_file, accepted_file, decided_line, decision_seen}
+use Rattle.jc_command_classes.specs.declared.instrument.Decided.{Decided}
+use Rattle.jc_command_classes.specs.Instrument.{refused_file, accepted_file, decided_line, decision_seen}
 use Rattle.jc_command_cover.proofs.FileLaws.{two_written, first_unwritten}
 use Rattle.jc_command_cover.proofs.files.write_decided.Goals as goal
 

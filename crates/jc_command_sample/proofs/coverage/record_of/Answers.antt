@@ -1,4 +1,4 @@
-use Rattle.jc_command_files.proofs.ReportStepLaws.{record_found}
+use Rattle.jc_command_classes.proofs.ReportStepLaws.{record_found}
 use Rattle.jc_command_sample.proofs.coverage.record_of.Goals as goal
 
 pub returns-clause-found : goal.returns-clause-found

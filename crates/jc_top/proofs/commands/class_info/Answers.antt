@@ -1,7 +1,7 @@
 use Rattle.std.proofs.Common.{[], ap, map, refl}
 use Rattle.jc_paths.specs.Looks.{file_view}
 use Rattle.jc_command_work.specs.Seen.{words_of, stop_seen}
-use Rattle.jc_command_files.specs.ClassInfo.{ListAnswers}
+use Rattle.jc_command_classes.specs.ClassInfo.{ListAnswers}
 use Rattle.jc_top.proofs.CommandLaws.{completed, ends_same, listed_ends, unlisted_ends}
 use Rattle.jc_top.proofs.commands.class_info.Goals as goal
 

@@ -1,5 +1,5 @@
 use Rattle.jc_command_work.specs.Seen.{texts_of}
-use Rattle.jc_command_files.specs.ExecInfo.{InfoAnswers}
+use Rattle.jc_command_exec.specs.ExecInfo.{InfoAnswers}
 use Rattle.jc_top.proofs.CommandLaws.{completed}
 use Rattle.jc_top.proofs.commands.exec_info.Goals as goal
 

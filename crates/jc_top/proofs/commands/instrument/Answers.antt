@@ -3,7 +3,7 @@ use Rattle.jc_paths.specs.Paths.{in_folder}
 use Rattle.jc_paths.specs.Looks.{file_view}
 use Rattle.jc_command_work.specs.Answered.{answered}
 use Rattle.jc_command_work.specs.Seen.{words_of, stop_seen}
-use Rattle.jc_command_files.specs.Instrument.{InstrumentAnswers}
+use Rattle.jc_command_classes.specs.Instrument.{InstrumentAnswers}
 use Rattle.jc_top.proofs.CommandLaws.{completed, ends_same, listed_ends, memory_ends, unlisted_ends}
 use Rattle.jc_top.proofs.commands.instrument.Goals as goal
 

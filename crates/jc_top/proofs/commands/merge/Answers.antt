@@ -1,5 +1,5 @@
 use Rattle.jc_command_work.specs.Seen.{texts_of}
-use Rattle.jc_command_files.specs.Merge.{MergeAnswers}
+use Rattle.jc_command_exec.specs.Merge.{MergeAnswers}
 use Rattle.jc_top.proofs.CommandLaws.{completed}
 use Rattle.jc_top.proofs.commands.merge.Goals as goal
 

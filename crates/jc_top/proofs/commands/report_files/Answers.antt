@@ -1,8 +1,8 @@
 use Rattle.std.proofs.Common.{[], ◌++◌, ap, map, refl}
 use Rattle.jc_paths.specs.Looks.{file_view}
 use Rattle.jc_command_work.specs.Seen.{words_of, stop_seen}
-use Rattle.jc_command_files.specs.Report.{ReportAnswers}
-use Rattle.jc_command_files.specs.ReportSteps.{exec_path, exec_texts}
+use Rattle.jc_command_classes.specs.Report.{ReportAnswers}
+use Rattle.jc_command_classes.specs.ReportSteps.{exec_path, exec_texts}
 use Rattle.jc_top.proofs.CommandLaws.{completed, ends_same, listed_ends, unlisted_ends}
 use Rattle.jc_top.proofs.commands.report_files.Goals as goal
 

@@ -3,8 +3,8 @@ use Rattle.jc_paths.specs.Looks.{file_view}
 use Rattle.jc_command_words.specs.Commands.{run, cover}
 use Rattle.jc_command_work.specs.Seen.{texts_of}
 use Rattle.jc_top.specs.Work.{work_of}
-use Rattle.jc_command_files.specs.Merge.{MergeAnswers}
-use Rattle.jc_command_files.specs.ExecInfo.{InfoAnswers}
+use Rattle.jc_command_exec.specs.Merge.{MergeAnswers}
+use Rattle.jc_command_exec.specs.ExecInfo.{InfoAnswers}
 use Rattle.jc_top.proofs.CommandLaws.{ends_on, ends_same}
 use Rattle.jc_top.proofs.run.run_command.Goals as goal
 

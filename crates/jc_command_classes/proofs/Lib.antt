@@ -1,0 +1,12 @@
+pub mod EachLaws
+pub mod RunLaws
+pub mod ListingLaws
+pub mod MethodLaws
+pub mod FramelessLaws
+pub mod CountedLaws
+pub mod ReportLaws
+pub mod ReportStepLaws
+pub mod ReportRunLaws
+pub mod ReportAnswerLaws
+pub mod InstrumentLaws
+pub mod ClassAnswers

@@ -1,0 +1,6 @@
+pub mod Lines
+pub mod Each
+pub mod ClassInfo
+pub mod Report
+pub mod ReportSteps
+pub mod Instrument

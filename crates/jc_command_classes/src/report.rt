@@ -1,0 +1,170 @@
+//! The command `report`.
+ghost use Rattle.std.specs.Prelude.{◌≡◌, ◌≤◌, ◌<◌, ◌^◌, ◌∷◌, ◌++◌, [], All, Some, None, length, map, IfOk, IfSome};
+ghost use Rattle.jc_bytes.specs.Reader.{most_read};
+ghost use Rattle.jc_command_classes.specs.Report.{report_text, ReportAnswers};
+ghost use Rattle.jc_command_classes.specs.ReportSteps.{data_records, data_path, exec_path, exec_texts, CountsFiles, ReportsWith};
+ghost use Rattle.jc_command_work.specs.Seen.{words_of};
+ghost use Rattle.jc_command_work.specs.Answered.{AnswersWith, Prepares};
+ghost use Rattle.jc_command_work.specs.Handed.{BetweenFiles};
+
+use crate::class_report::{Data, Looked, look_at_all};
+use crate::inputs::read_files;
+use jc_bytes::{Bytes, Memory};
+use jc_command_exec::data_of;
+use jc_command_work::{Stop, Write, as_texts, exec_stop};
+use jc_outside::Files;
+use jc_report::{Counted, csv_text, rows};
+use std::alloc::Global;
+use std::marker::Sync;
+use std::thread::Threads;
+
+/// The execution data of a report, and the file that it was read from.
+#[derive(Drop)]
+pub struct ExecInput<'a> {
+    pub path: &'a str,
+    pub bytes: Bytes,
+}
+
+/// The CSV text of classes.
+fn csv_of(alloc: Global, name: &str, classes: &[Counted]) -> Result<Vec<u8>, Memory>
+    ensures { IfOk result (λ text. text.items ≡ report_text name.now classes.now) }
+{
+    let rows = rows(alloc, name.as_bytes(), classes)?;
+    csv_text(alloc, &rows)
+}
+
+/// The lines, and behind them the write of the report.
+fn with_file<'a>(
+    lines: Vec<Write<'a>>,
+    path: &'a str,
+    bytes: Vec<u8>,
+) -> Result<Vec<Write<'a>>, Memory>
+    ensures { IfOk result (λ writes. writes.items ≡ lines.entry.items ++ Write.File path.entry bytes ∷ []) }
+{
+    let mut writes = lines;
+    writes.push(Write::File { path, bytes })?;
+    Ok(writes)
+}
+
+/// The writes of a report of class files.
+fn reported<'a, R: Threads + Sync>(
+    rt: &R,
+    alloc: Global,
+    out: &'a str,
+    name: &str,
+    exec_data: Option<&Data<'a>>,
+    paths: &[String],
+    texts: Vec<Bytes>,
+) -> Result<Vec<Write<'a>>, Stop<'a>>
+    requires each { length texts.items ≡ length paths.now }
+    requires short { All (λ t. length t ≤ most_read) texts.items }
+    ensures { ReportsWith out.entry.now name.now (data_records exec_data.entry) (data_path exec_data.entry)
+        (words_of paths.now) texts.items result }
+{
+    let names = as_texts(alloc, paths)?;
+    let looked = look_at_all(rt, alloc, exec_data, &names, texts)?;
+    let bytes = csv_of(alloc, name, &looked.classes)?;
+    Ok(with_file(looked.lines, out, bytes)?)
+}
+
+/// The CSV text of class files, given by their paths and their bytes, by execution data. A class file that is refused has no
+/// row, and no line is made of it.
+///
+/// It stops where memory is refused, and where a record of the execution data clashes with a class: the stop then names the
+/// file of the execution data, as the first input.
+pub fn csv_of_files<'a, R: Threads + Sync>(
+    rt: &R,
+    alloc: Global,
+    name: &str,
+    exec_data: &Data<'a>,
+    paths: &[&str],
+    texts: Vec<Bytes>,
+) -> Result<Vec<u8>, Stop<'a>>
+    requires each { length texts.items ≡ length paths.now }
+    requires short { All (λ t. length t ≤ most_read) texts.items }
+    ensures { CountsFiles name.now exec_data.entry.now.store.classes (Some exec_data.entry.now.path.now) texts.items result }
+{
+    let looked = look_at_all(rt, alloc, Some(exec_data), paths, texts)?;
+    Ok(csv_of(alloc, name, &looked.classes)?)
+}
+
+/// The writes of a report without execution data.
+fn reported_without_data<'a, R: Threads + Sync>(
+    rt: &R,
+    alloc: Global,
+    out: &'a str,
+    name: &str,
+    paths: &[String],
+    texts: Vec<Bytes>,
+) -> Result<Vec<Write<'a>>, Stop<'a>>
+    requires each { length texts.items ≡ length paths.now }
+    requires short { All (λ t. length t ≤ most_read) texts.items }
+    ensures { AnswersWith (ReportAnswers out.entry.now name.now None (words_of paths.now) texts.items) result }
+{
+    reported(rt, alloc, out, name, None, paths, texts)
+}
+
+/// The writes of a report by the execution data of a file.
+fn reported_by_data<'a, R: Threads + Sync>(
+    rt: &R,
+    alloc: Global,
+    out: &'a str,
+    name: &str,
+    exec: &'a str,
+    bytes: &[u8],
+    paths: &[String],
+    texts: Vec<Bytes>,
+) -> Result<Vec<Write<'a>>, Stop<'a>>
+    requires exec_short { length bytes.now ≤ most_read }
+    requires each { length texts.items ≡ length paths.now }
+    requires short { All (λ t. length t ≤ most_read) texts.items }
+    ensures { AnswersWith (ReportAnswers out.entry.now name.now (Some exec.entry.now) (words_of paths.now) (bytes.now ∷ texts.items)) result }
+{
+    match data_of(alloc, bytes) {
+        Ok(store) => {
+            let exec_data = Data { path: exec, store };
+            reported(rt, alloc, out, name, Some(&exec_data), paths, texts)
+        }
+        Err(fail) => Err(exec_stop(fail, 0, exec)),
+    }
+}
+
+/// The writes of a report, of what was read.
+fn reported_of<'a, R: Threads + Sync>(
+    rt: &R,
+    alloc: Global,
+    out: &'a str,
+    name: &str,
+    exec: Option<ExecInput<'a>>,
+    paths: &[String],
+    texts: Vec<Bytes>,
+) -> Result<Vec<Write<'a>>, Stop<'a>>
+    requires exec_short { IfSome exec (λ e. length e.bytes ≤ most_read) }
+    requires each { length texts.items ≡ length paths.now }
+    requires short { All (λ t. length t ≤ most_read) texts.items }
+    ensures { AnswersWith (ReportAnswers out.entry.now name.now (exec_path exec.entry) (words_of paths.now) (exec_texts exec.entry ++ texts.items)) result }
+{
+    match exec {
+        None => reported_without_data(rt, alloc, out, name, paths, texts),
+        Some(exec) => reported_by_data(rt, alloc, out, name, exec.path, &exec.bytes, paths, texts),
+    }
+}
+
+/// The writes of `report --csv OUT [--name NAME] [--exec IN] FILE..`, where the execution data of IN has been read.
+pub fn prepare_report<'a, R: Threads + Sync, F: Files>(
+    rt: &R,
+    alloc: Global,
+    files: &mut F,
+    out: &'a str,
+    name: &str,
+    exec: Option<ExecInput<'a>>,
+    paths: &'a [String],
+) -> Result<Vec<Write<'a>>, Stop<'a>>
+    requires { IfSome exec (λ e. length e.bytes ≤ most_read) }
+    ensures { BetweenFiles F.Files files.old files.new (Prepares F.landed (words_of paths.entry.now)
+        (λ read. ReportAnswers out.entry.now name.now (exec_path exec.entry) (words_of paths.entry.now)
+        (exec_texts exec.entry ++ read))) result }
+{
+    let texts = read_files(alloc, files, paths)?;
+    reported_of(rt, alloc, out, name, exec, paths, texts)
+}

@@ -1,0 +1,4 @@
+pub mod ExecDataLaws
+pub mod MergeLaws
+pub mod InfoLaws
+pub mod ExecAnswers

@@ -1,0 +1,3 @@
+pub mod ExecData
+pub mod Merge
+pub mod ExecInfo

@@ -1,7 +1,0 @@
-use Rattle.std.proofs.Common.{length, take}
-use Rattle.jc_command_files.proofs.ListingLaws.{LinesOf}
-use Rattle.jc_command_files.proofs.class_info.listings.Given as goal
-
--- the files so far have their lines
-abbrev pub invariant-listing : goal.invariant-listing
-invariant-listing g l = LinesOf (take (length l.yielded) l.fn.texts.items) l.writes.items

@@ -1,5 +1,0 @@
-use Rattle.jc_command_files.proofs.ReportStepLaws.{record_found}
-use Rattle.jc_command_files.proofs.class_report.record_in.Goals as goal
-
-pub returns-clause-found : goal.returns-clause-found
-returns-clause-found c = record_found c.args.exec_data.now.store.classes c.args.class.now.id c.get.result c.get.ensures.found c.get.ensures.only

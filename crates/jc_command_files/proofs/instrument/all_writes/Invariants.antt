@@ -1,7 +1,0 @@
-use Rattle.std.proofs.Common.{length}
-use Rattle.jc_command_files.proofs.InstrumentLaws.{AreWrittenFirst}
-use Rattle.jc_command_files.proofs.instrument.all_writes.Given as goal
-
--- the files so far have their writes
-abbrev pub invariant-instrumenting : goal.invariant-instrumenting
-invariant-instrumenting g l = AreWrittenFirst l.targets l.paths l.fn.texts.items (length l.yielded) l.writes.items

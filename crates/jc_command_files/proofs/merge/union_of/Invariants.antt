@@ -1,7 +1,0 @@
-use Rattle.std.proofs.Common.{take}
-use Rattle.jc_command_files.specs.ExecData.{IsUnionOf}
-use Rattle.jc_command_files.proofs.merge.union_of.Given as goal
-
--- the store is the union of the texts so far
-abbrev pub invariant-merging : goal.invariant-merging
-invariant-merging l = IsUnionOf (take l.index l.texts) l.store

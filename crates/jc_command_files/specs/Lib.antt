@@ -1,9 +1,0 @@
-pub mod ExecData
-pub mod Merge
-pub mod ExecInfo
-pub mod Lines
-pub mod Each
-pub mod ClassInfo
-pub mod Report
-pub mod ReportSteps
-pub mod Instrument
