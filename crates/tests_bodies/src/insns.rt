@@ -1,9 +1,9 @@
 //! Instructions, and what they use, in words.
 use crate::mnemonic::mnemonic;
-use crate::states::{put_between, text_of};
+use crate::states::text_of;
 use jc_base::{Arm, Insn, Use, What, opcode};
-use std::alloc::{AllocError, Global};
-use std::fmt::Write;
+use std::fmt::Display;
+use tests_lines::Answer;
 
 /// The opcode of an instruction, that of `ldc` or of `lookupswitch` where it is of several opcodes.
 fn opcode_of(insn: &Insn) -> u8 {
@@ -28,114 +28,110 @@ pub fn name_of(insn: &Insn) -> &'static str {
     mnemonic(opcode_of(insn))
 }
 
-/// Puts the arms of a `tableswitch` at the end.
-fn put_arms(text: &mut String, arms: &[u32]) -> Result<(), AllocError> {
+/// Puts the arms of a `tableswitch`.
+fn put_arms(arms: &[u32], out: &mut Answer) {
     for arm in arms {
-        write!(text, " {arm}")?;
+        out.label(" ", arm);
     }
-    Ok(())
 }
 
-/// Puts the arms of a `lookupswitch` at the end.
-fn put_keys(text: &mut String, arms: &[Arm]) -> Result<(), AllocError> {
+/// Puts the arms of a `lookupswitch`.
+fn put_keys(arms: &[Arm], out: &mut Answer) {
     for arm in arms {
-        write!(text, " {}:{}", arm.key, arm.to)?;
+        out.label(" ", &arm.key);
+        out.label(":", &arm.to);
     }
-    Ok(())
 }
 
-/// Puts the operands of an instruction that uses the constant pool or has targets at the end.
-fn put_targets(text: &mut String, insn: &Insn) -> Result<(), AllocError> {
+/// Puts two operands, a text in front of the first.
+fn put_two<T: Display, U: Display>(front: &str, first: &T, second: &U, out: &mut Answer) {
+    out.label(front, first);
+    out.label(" ", second);
+}
+
+/// Puts the operands of an instruction that uses the constant pool or has targets.
+fn put_targets(insn: &Insn, out: &mut Answer) {
     match insn {
-        Insn::Jump { to, .. } => write!(text, " {to}"),
+        Insn::Jump { to, .. } => out.label(" ", to),
         Insn::Table { low, default, arms } => {
-            write!(text, " {default} from {low}")?;
-            put_arms(text, arms)
+            out.label(" ", default);
+            out.label(" from ", low);
+            put_arms(arms, out);
         }
         Insn::Lookup { default, arms } => {
-            write!(text, " {default}")?;
-            put_keys(text, arms)
+            out.label(" ", default);
+            put_keys(arms, out);
         }
-        Insn::Interface { place, count } => write!(text, " #{place} {count}"),
-        Insn::Multi { place, dims } => write!(text, " #{place} {dims}"),
-        other => match other.pool_place() {
-            Some(place) => write!(text, " #{place}"),
-            None => Ok(()),
-        },
+        Insn::Interface { place, count } => put_two(" #", place, count, out),
+        Insn::Multi { place, dims } => put_two(" #", place, dims, out),
+        other => {
+            if let Some(place) = other.pool_place() {
+                out.label(" #", &place);
+            }
+        }
     }
 }
 
-/// Puts an instruction at the end.
-fn put_insn(text: &mut String, insn: &Insn) -> Result<(), AllocError> {
-    text.push_str(name_of(insn))?;
+/// Puts an instruction.
+fn put_insn(insn: &Insn, out: &mut Answer) {
+    out.put(name_of(insn));
     match insn {
-        Insn::Push { value, .. } => write!(text, " {value}"),
-        Insn::Local { slot, .. } => write!(text, " {slot}"),
-        Insn::Inc { slot, by } => write!(text, " {slot} {by}"),
-        Insn::NewArray { elem } => write!(text, " {elem}"),
-        other => put_targets(text, other),
+        Insn::Push { value, .. } => out.label(" ", value),
+        Insn::Local { slot, .. } => out.label(" ", slot),
+        Insn::Inc { slot, by } => put_two(" ", slot, by, out),
+        Insn::NewArray { elem } => out.label(" ", elem),
+        other => put_targets(other, out),
     }
 }
 
-/// Instructions, one behind the other.
-pub fn code_text(alloc: Global, code: &[Insn]) -> Result<String, AllocError> {
-    let mut text = String::new(alloc);
+/// Puts instructions, one behind the other.
+pub fn put_code(code: &[Insn], out: &mut Answer) {
     for insn in code {
-        put_between(&mut text)?;
-        put_insn(&mut text, insn)?;
+        out.separate("; ");
+        put_insn(insn, out);
     }
-    Ok(text)
 }
 
-/// Puts a constant at the end.
-fn put_constant(text: &mut String, what: &What) -> Result<(), AllocError> {
+/// Puts a constant.
+fn put_constant(what: &What, out: &mut Answer) {
     match what {
-        What::Int(value) => write!(text, "int {value}"),
-        What::Long(value) => write!(text, "long {value}"),
-        What::Float => text.push_str("float"),
-        What::Double => text.push_str("double"),
-        What::Text => text.push_str("string"),
-        What::Handle => text.push_str("method handle"),
-        _ => text.push_str("method type"),
+        What::Int(value) => out.label("int ", value),
+        What::Long(value) => out.label("long ", value),
+        What::Float => out.put("float"),
+        What::Double => out.put("double"),
+        What::Text => out.put("string"),
+        What::Handle => out.put("method handle"),
+        _ => out.put("method type"),
     }
 }
 
-/// Puts the class, the name and the descriptor of a member at the end.
-fn put_member(text: &mut String, class: &[u8], name: &[u8], desc: &[u8]) -> Result<(), AllocError> {
-    write!(
-        text,
-        "{} {} {}",
-        text_of(class),
-        text_of(name),
-        text_of(desc)
-    )
+/// Puts a form, and the texts of a class, of a member or of a call.
+fn put_texts(form: &str, texts: &[&[u8]], out: &mut Answer) {
+    out.put(form);
+    for text in texts {
+        out.put(" ");
+        out.put(text_of(text));
+    }
 }
 
-/// Puts what stands at a place at the end.
-fn put_what(text: &mut String, what: &What) -> Result<(), AllocError> {
+/// Puts what stands at a place.
+fn put_what(what: &What, out: &mut Answer) {
     match what {
-        What::Field { class, name, desc } => {
-            text.push_str("field ")?;
-            put_member(text, class, name, desc)
-        }
-        What::Method { class, name, desc } => {
-            text.push_str("method ")?;
-            put_member(text, class, name, desc)
-        }
-        What::Call { name, desc } => write!(text, "call {} {}", text_of(name), text_of(desc)),
-        What::Class(name) => write!(text, "class {}", text_of(name)),
-        What::Computed { desc } => write!(text, "computed {}", text_of(desc)),
-        other => put_constant(text, other),
+        What::Field { class, name, desc } => put_texts("field", &[class, name, desc], out),
+        What::Method { class, name, desc } => put_texts("method", &[class, name, desc], out),
+        What::Call { name, desc } => put_texts("call", &[name, desc], out),
+        What::Class(name) => put_texts("class", &[name], out),
+        What::Computed { desc } => put_texts("computed", &[desc], out),
+        other => put_constant(other, out),
     }
 }
 
-/// The places that are used, each with what stands there.
-pub fn uses_text(alloc: Global, uses: &[Use]) -> Result<String, AllocError> {
-    let mut text = String::new(alloc);
+/// Puts the places that are used, each with what stands there.
+pub fn put_uses(uses: &[Use], out: &mut Answer) {
     for entry in uses {
-        put_between(&mut text)?;
-        write!(text, "#{} ", entry.place)?;
-        put_what(&mut text, &entry.what)?;
+        out.separate("; ");
+        out.label("#", &entry.place);
+        out.put(" ");
+        put_what(&entry.what, out);
     }
-    Ok(text)
 }

@@ -6,27 +6,29 @@ ghost use Rattle.jc_kinds_after.specs.Answers.{IsStateOf};
 
 use crate::bodies::body_of;
 use crate::insns::name_of;
-use crate::problem::Problem;
-use crate::states::{put_state, state_of, states_text};
+use crate::states::{put_state, put_states, state_of};
 use jc_base::{Body, Insn, Kind, Names, State, opcode};
 use jc_kinds::{check_body, states};
 use jc_kinds_after::after;
 use std::alloc::Global;
+use tests_lines::Answer;
 
 /// The state before each instruction of the method with this number.
-pub fn all_states(alloc: Global, class: &[u8], method: u32) -> Result<String, Problem<'static>> {
-    let mut names = Names::new(alloc)?;
-    let body = body_of(alloc, class, method, &mut names)?;
-    let found = states(alloc, &body, &mut names)?;
-    Ok(states_text(alloc, &found, &names)?)
+pub fn all_states(alloc: Global, class: &[u8], method: u32, out: &mut Answer) -> Option<()> {
+    let mut names = out.got(Names::new(alloc))?;
+    let body = body_of(alloc, class, method, &mut names, out)?;
+    let found = out.accepted(states(alloc, &body, &mut names))?;
+    put_states(&found, &names, out);
+    Some(())
 }
 
 /// Whether the method with this number passes the kind check.
-pub fn check(alloc: Global, class: &[u8], method: u32) -> Result<String, Problem<'static>> {
-    let mut names = Names::new(alloc)?;
-    let body = body_of(alloc, class, method, &mut names)?;
-    check_body(alloc, &body, &mut names)?;
-    Ok(format!(in alloc; "passes")?)
+pub fn check(alloc: Global, class: &[u8], method: u32, out: &mut Answer) -> Option<()> {
+    let mut names = out.got(Names::new(alloc))?;
+    let body = body_of(alloc, class, method, &mut names, out)?;
+    out.accepted(check_body(alloc, &body, &mut names))?;
+    out.put("passes");
+    Some(())
 }
 
 /// Whether an object before its constructor comes from a `new` of the code.
@@ -95,35 +97,36 @@ fn next_state(
     at: u32,
     state: &State,
     names: &mut Names,
-) -> Result<String, Problem<'static>>
+    out: &mut Answer,
+) -> Option<()>
     requires made { IsWellMadeOfAnySize body.now }
     requires place { at < length body.now.code }
 {
     if !is_state_of(body, state, names.len()) {
-        return Err(Problem::Missing("state of the body"));
+        return out.wrong("no state of the body");
     }
-    let mut text = String::new(alloc);
-    match after(alloc, state, body, at, names)? {
-        Some(next) => put_state(&mut text, &next, names)?,
-        None => text.push_str("no state")?,
+    match out.got(after(alloc, state, body, at, names))? {
+        Some(next) => put_state(&next, names, out),
+        None => out.put("no state"),
     }
-    Ok(text)
+    Some(())
 }
 
 /// The state after an instruction of the method with this number, which has this mnemonic, where the state before it is
 /// the one that words say.
-pub fn state_after<'a>(
+pub fn state_after(
     alloc: Global,
     class: &[u8],
     method: u32,
-    (at, name): (u32, &'a str),
-    words: &[&'a str],
-) -> Result<String, Problem<'a>> {
-    let mut names = Names::new(alloc)?;
-    let body = body_of(alloc, class, method, &mut names)?;
+    (at, name): (u32, &str),
+    words: &[&str],
+    out: &mut Answer,
+) -> Option<()> {
+    let mut names = out.got(Names::new(alloc))?;
+    let body = body_of(alloc, class, method, &mut names, out)?;
     if !is_named(&body.code, at, name) {
-        return Err(Problem::Word(name));
+        return out.unknown_word(name);
     }
-    let state = state_of(alloc, words, &mut names)?;
-    next_state(alloc, &body, at, &state, &mut names)
+    let state = state_of(alloc, words, &mut names, out)?;
+    next_state(alloc, &body, at, &state, &mut names, out)
 }

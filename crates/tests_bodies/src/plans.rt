@@ -3,64 +3,56 @@ ghost use Rattle.std.specs.Prelude.{◌<◌, ◌^◌, length, IsTrue};
 ghost use Rattle.jc_base.specs.Flow.{targets_of};
 
 use crate::bodies::body_of;
-use crate::problem::Problem;
-use crate::states::put_between;
 use jc_base::{Edge, Insn, Names, Plan};
 use jc_plan::{Branch, Way, edges, plan, put_branches};
-use std::alloc::{AllocError, Global};
-use std::fmt::Write;
+use std::alloc::Global;
+use tests_lines::{Answer, number};
 
 /// The greatest first id of a plan.
 const GREATEST_FIRST: u32 = 268_435_456;
 
-/// Puts an edge at the end: its instruction, its number, and the instruction to which it leads.
-fn put_edge(text: &mut String, edge: &Edge) -> Result<(), AllocError> {
-    match edge.to {
-        Some(to) => write!(text, "{}/{} to {to}", edge.at, edge.branch),
-        None => write!(text, "{}/{} out", edge.at, edge.branch),
-    }
-}
-
-/// Edges, one behind the other.
-fn edges_text(alloc: Global, edges: &[Edge]) -> Result<String, AllocError> {
-    let mut text = String::new(alloc);
+/// Puts edges: the instruction of each, its number, and the instruction to which it leads.
+fn put_edges(edges: &[Edge], out: &mut Answer) {
     for edge in edges {
-        put_between(&mut text)?;
-        put_edge(&mut text, edge)?;
+        out.separate("; ");
+        out.show(&edge.at);
+        out.label("/", &edge.branch);
+        match edge.to {
+            Some(to) => out.label(" to ", &to),
+            None => out.put(" out"),
+        }
     }
-    Ok(text)
 }
 
 /// The edges of the method with this number.
-pub fn all_edges(alloc: Global, class: &[u8], method: u32) -> Result<String, Problem<'static>> {
-    let mut names = Names::new(alloc)?;
-    let body = body_of(alloc, class, method, &mut names)?;
-    let edges = edges(alloc, &body)?;
-    Ok(edges_text(alloc, &edges)?)
+pub fn all_edges(alloc: Global, class: &[u8], method: u32, out: &mut Answer) -> Option<()> {
+    let mut names = out.got(Names::new(alloc))?;
+    let body = body_of(alloc, class, method, &mut names, out)?;
+    let edges = out.got(edges(alloc, &body))?;
+    put_edges(&edges, out);
+    Some(())
 }
 
-/// Puts the ids of probes at the end, a bar where there is none.
-fn put_ids(text: &mut String, ids: &[Option<u32>]) -> Result<(), AllocError> {
+/// Puts the ids of probes, a bar where there is none.
+fn put_ids(ids: &[Option<u32>], out: &mut Answer) {
     for id in ids {
         match id {
-            Some(id) => write!(text, " {id}")?,
-            None => text.push_str(" -")?,
+            Some(id) => out.label(" ", id),
+            None => out.put(" -"),
         }
     }
-    Ok(())
 }
 
-/// A plan: the ids at the fall-through into each instruction, those at the branches of each, and the next id.
-fn plan_text(alloc: Global, plan: &Plan) -> Result<String, AllocError> {
-    let mut text = format!(in alloc; "into")?;
-    put_ids(&mut text, &plan.lead)?;
-    text.push_str("; out of")?;
-    for ids in &plan.out {
-        put_ids(&mut text, ids)?;
-        text.push(',')?;
+/// Puts a plan: the ids at the fall-through into each instruction, those at the branches of each, and the next id.
+fn put_plan(plan: &Plan, out: &mut Answer) {
+    out.put("into");
+    put_ids(&plan.lead, out);
+    out.put("; out of");
+    for ids in plan.out.as_slice() {
+        put_ids(ids, out);
+        out.put(",");
     }
-    write!(text, " next {}", plan.next)?;
-    Ok(text)
+    out.label(" next ", &plan.next);
 }
 
 /// The plan of the method with this number, from this id on.
@@ -68,36 +60,32 @@ pub fn planned(
     alloc: Global,
     class: &[u8],
     method: u32,
-    first: u32,
-) -> Result<String, Problem<'static>> {
-    let mut names = Names::new(alloc)?;
-    let body = body_of(alloc, class, method, &mut names)?;
+    first: &str,
+    out: &mut Answer,
+) -> Option<()> {
+    let first = number::<u32>(first, out)?;
+    let mut names = out.got(Names::new(alloc))?;
+    let body = body_of(alloc, class, method, &mut names, out)?;
     if first > GREATEST_FIRST {
-        return Err(Problem::Missing("such id"));
+        return out.wrong("no such id");
     }
-    let plan = plan(alloc, &body, first)?;
-    Ok(plan_text(alloc, &plan)?)
+    let plan = out.got(plan(alloc, &body, first))?;
+    put_plan(&plan, out);
+    Some(())
 }
 
-/// Puts a branch at the end.
-fn put_branch(text: &mut String, branch: &Branch) -> Result<(), AllocError> {
-    let number = branch.number;
-    match branch.way {
-        Way::Falls(to) => write!(text, "{number} falls to {to}"),
-        Way::Jumps(to) => write!(text, "{number} jumps to {to}"),
-        Way::Switches(to) => write!(text, "{number} switches to {to}"),
-        Way::Exits => write!(text, "{number} exits"),
-    }
-}
-
-/// Branches, one behind the other.
-fn branches_text(alloc: Global, branches: &[Branch]) -> Result<String, AllocError> {
-    let mut text = String::new(alloc);
+/// Puts branches, each behind its number.
+fn put_all(branches: &[Branch], out: &mut Answer) {
     for branch in branches {
-        put_between(&mut text)?;
-        put_branch(&mut text, branch)?;
+        out.separate("; ");
+        out.show(&branch.number);
+        match branch.way {
+            Way::Falls(to) => out.label(" falls to ", &to),
+            Way::Jumps(to) => out.label(" jumps to ", &to),
+            Way::Switches(to) => out.label(" switches to ", &to),
+            Way::Exits => out.put(" exits"),
+        }
     }
-    Ok(text)
 }
 
 /// Whether the instruction has few enough targets.
@@ -111,22 +99,31 @@ fn has_few_targets(insn: &Insn) -> bool
     }
 }
 
+/// Puts the branches of an instruction with this number.
+fn branches_of(alloc: Global, at: u32, insn: &Insn, out: &mut Answer) -> Option<()> {
+    if at == u32::MAX || !has_few_targets(insn) {
+        return out.wrong("no such instruction");
+    }
+    let mut branches = Vec::new(alloc);
+    let outcome = put_branches(alloc, &mut branches, at, insn);
+    out.got(outcome)?;
+    put_all(&branches, out);
+    Some(())
+}
+
 /// The branches of an instruction of the method with this number.
 pub fn all_branches(
     alloc: Global,
     class: &[u8],
     method: u32,
-    at: u32,
-) -> Result<String, Problem<'static>> {
-    let mut names = Names::new(alloc)?;
-    let body = body_of(alloc, class, method, &mut names)?;
-    let Some(insn) = body.code.get(at as usize) else {
-        return Err(Problem::Missing("such instruction"));
-    };
-    if at == u32::MAX || !has_few_targets(insn) {
-        return Err(Problem::Missing("such instruction"));
+    at: &str,
+    out: &mut Answer,
+) -> Option<()> {
+    let at = number::<u32>(at, out)?;
+    let mut names = out.got(Names::new(alloc))?;
+    let body = body_of(alloc, class, method, &mut names, out)?;
+    match body.code.get(at as usize) {
+        Some(insn) => branches_of(alloc, at, insn, out),
+        None => out.wrong("no such instruction"),
     }
-    let mut branches = Vec::new(alloc);
-    put_branches(alloc, &mut branches, at, insn)?;
-    Ok(branches_text(alloc, &branches)?)
 }

@@ -1,9 +1,7 @@
 //! States in words, and the states that words say.
-use crate::problem::Problem;
-use crate::spelled::number;
 use jc_base::{FrameAt, Kind, List, Names, State};
-use std::alloc::{AllocError, Global};
-use std::fmt::Write;
+use std::alloc::Global;
+use tests_lines::{Answer, number};
 
 /// The most bytes of a class name that is written out.
 const MOST_WRITTEN: usize = 1000;
@@ -16,140 +14,141 @@ pub fn text_of(bytes: &[u8]) -> &str {
     }
 }
 
-/// Puts an object of the class with this number at the end.
-fn put_object(text: &mut String, number: u32, names: &Names) -> Result<(), AllocError> {
+/// Puts an object of the class with this number.
+fn put_object(number: u32, names: &Names, out: &mut Answer) {
     if number >= names.len() {
-        return text.push_str("class without a name");
+        return out.put("class without a name");
     }
     let name = names.text(number);
     if name.len() > MOST_WRITTEN {
-        return write!(text, "class of {} bytes", name.len());
+        out.label("class of ", &name.len());
+        return out.put(" bytes");
     }
-    write!(text, "class:{}", text_of(name))
+    out.put("class:");
+    out.put(text_of(name));
 }
 
-/// Puts a type at the end.
-fn put_kind(text: &mut String, kind: Kind, names: &Names) -> Result<(), AllocError> {
+/// Puts a type.
+fn put_kind(kind: Kind, names: &Names, out: &mut Answer) {
     match kind {
-        Kind::Top => text.push_str("top"),
-        Kind::Int => text.push_str("int"),
-        Kind::Float => text.push_str("float"),
-        Kind::Double => text.push_str("double"),
-        Kind::Long => text.push_str("long"),
-        Kind::Null => text.push_str("null"),
-        Kind::UninitThis => text.push_str("uninitializedThis"),
-        Kind::Object(number) => put_object(text, number, names),
-        Kind::Uninit(at) => write!(text, "uninitialized:{at}"),
+        Kind::Top => out.put("top"),
+        Kind::Int => out.put("int"),
+        Kind::Float => out.put("float"),
+        Kind::Double => out.put("double"),
+        Kind::Long => out.put("long"),
+        Kind::Null => out.put("null"),
+        Kind::UninitThis => out.put("uninitializedThis"),
+        Kind::Object(number) => put_object(number, names, out),
+        Kind::Uninit(at) => out.label("uninitialized:", &at),
     }
 }
 
-/// Puts a state at the end: the local variables, a bar, and the stack.
-pub fn put_state(text: &mut String, state: &State, names: &Names) -> Result<(), AllocError> {
-    for kind in &state.locals {
-        put_kind(text, *kind, names)?;
-        text.push(' ')?;
+/// Puts a state: the local variables, a bar, and the stack.
+pub fn put_state(state: &State, names: &Names, out: &mut Answer) {
+    for kind in state.locals.as_slice() {
+        put_kind(*kind, names, out);
+        out.put(" ");
     }
-    text.push('|')?;
-    for kind in &state.stack {
-        text.push(' ')?;
-        put_kind(text, *kind, names)?;
+    out.put("|");
+    for kind in state.stack.as_slice() {
+        out.put(" ");
+        put_kind(*kind, names, out);
     }
-    Ok(())
 }
 
-/// Puts what stands between two items of a list.
-pub fn put_between(text: &mut String) -> Result<(), AllocError> {
-    if text.is_empty() {
-        return Ok(());
-    }
-    text.push_str("; ")
-}
-
-/// States, one behind the other.
-pub fn states_text(alloc: Global, states: &[State], names: &Names) -> Result<String, AllocError> {
-    let mut text = String::new(alloc);
+/// Puts states, one behind the other.
+pub fn put_states(states: &[State], names: &Names, out: &mut Answer) {
     for state in states {
-        put_between(&mut text)?;
-        put_state(&mut text, state, names)?;
+        out.separate("; ");
+        put_state(state, names, out);
     }
-    Ok(text)
 }
 
-/// Puts the class names at the end, in the order of their numbers.
-fn put_names(text: &mut String, names: &Names) -> Result<(), AllocError> {
-    put_between(text)?;
-    text.push_str("names")?;
+/// Puts the class names, in the order of their numbers.
+fn put_names(names: &Names, out: &mut Answer) {
+    out.separate("; ");
+    out.put("names");
     for number in 0..names.len() {
-        write!(text, " {}", text_of(names.text(number)))?;
+        out.put(" ");
+        out.put(text_of(names.text(number)));
     }
-    Ok(())
 }
 
-/// Frames, each with the number of its instruction, and the class names in the order of their numbers.
-pub fn frames_text(alloc: Global, frames: &[FrameAt], names: &Names) -> Result<String, AllocError> {
-    let mut text = String::new(alloc);
+/// Puts frames, each with the number of its instruction, and the class names in the order of their numbers.
+pub fn put_frames(frames: &[FrameAt], names: &Names, out: &mut Answer) {
     for frame in frames {
-        put_between(&mut text)?;
-        write!(text, "{}: ", frame.at)?;
-        put_state(&mut text, &frame.state, names)?;
+        out.separate("; ");
+        out.show(&frame.at);
+        out.put(": ");
+        put_state(&frame.state, names, out);
     }
-    put_names(&mut text, names)?;
-    Ok(text)
+    put_names(names, out);
+}
+
+/// The object of the class of this name.
+fn object_of(alloc: Global, name: &str, names: &mut Names, out: &mut Answer) -> Option<Kind> {
+    let number = out.got(names.number(alloc, name.as_bytes()))?;
+    Some(Kind::Object(number))
 }
 
 /// The object that a word says.
-fn object_of<'a>(alloc: Global, word: &'a str, names: &mut Names) -> Result<Kind, Problem<'a>> {
+fn named(alloc: Global, word: &str, names: &mut Names, out: &mut Answer) -> Option<Kind> {
     match word.split_once(':') {
-        Some(("class", name)) => Ok(Kind::Object(names.number(alloc, name.as_bytes())?)),
-        Some(("uninitialized", at)) => Ok(Kind::Uninit(number(at)?)),
-        _ => Err(Problem::Word(word)),
+        Some(("class", name)) => object_of(alloc, name, names, out),
+        Some(("uninitialized", at)) => Some(Kind::Uninit(number::<u32>(at, out)?)),
+        _ => out.unknown_word(word),
     }
 }
 
 /// The type that a word says.
-fn kind_of<'a>(alloc: Global, word: &'a str, names: &mut Names) -> Result<Kind, Problem<'a>> {
+fn kind_of(alloc: Global, word: &str, names: &mut Names, out: &mut Answer) -> Option<Kind> {
     match word {
-        "top" => Ok(Kind::Top),
-        "int" => Ok(Kind::Int),
-        "float" => Ok(Kind::Float),
-        "double" => Ok(Kind::Double),
-        "long" => Ok(Kind::Long),
-        "null" => Ok(Kind::Null),
-        "uninitializedThis" => Ok(Kind::UninitThis),
-        word => object_of(alloc, word, names),
+        "top" => Some(Kind::Top),
+        "int" => Some(Kind::Int),
+        "float" => Some(Kind::Float),
+        "double" => Some(Kind::Double),
+        "long" => Some(Kind::Long),
+        "null" => Some(Kind::Null),
+        "uninitializedThis" => Some(Kind::UninitThis),
+        word => named(alloc, word, names, out),
     }
 }
 
-/// Puts the types that words say into the local variables, and those behind a bar onto the stack.
-fn put_kinds<'a>(
+/// The types that words say.
+fn kinds_of(
     alloc: Global,
-    state: &mut State,
-    words: &[&'a str],
+    words: &[&str],
     names: &mut Names,
-) -> Result<(), Problem<'a>> {
-    let mut on_stack = false;
+    out: &mut Answer,
+) -> Option<List<Kind>> {
+    let mut kinds = List::new(alloc);
     for word in words {
+        let kind = kind_of(alloc, word, names, out)?;
+        let pushed = kinds.push(kind);
+        out.got(pushed)?;
+    }
+    Some(kinds)
+}
+
+/// The words in front of the first bar, and those behind it, if there is one.
+fn parts<'w, 'a>(words: &'w [&'a str]) -> (&'w [&'a str], &'w [&'a str]) {
+    for (place, word) in words.iter().enumerate() {
         if *word == "|" {
-            on_stack = true;
-        } else if on_stack {
-            state.stack.push(kind_of(alloc, word, names)?)?;
-        } else {
-            state.locals.push(kind_of(alloc, word, names)?)?;
+            return (&words[..place], &words[place + 1..]);
         }
     }
-    Ok(())
+    (words, &[])
 }
 
-/// The state that words say.
-pub fn state_of<'a>(
+/// The state that words say: the types of the local variables, a bar, and those of the stack.
+pub fn state_of(
     alloc: Global,
-    words: &[&'a str],
+    words: &[&str],
     names: &mut Names,
-) -> Result<State, Problem<'a>> {
-    let mut state = State {
-        locals: List::new(alloc),
-        stack: List::new(alloc),
-    };
-    put_kinds(alloc, &mut state, words, names)?;
-    Ok(state)
+    out: &mut Answer,
+) -> Option<State> {
+    let (locals, stack) = parts(words);
+    let locals = kinds_of(alloc, locals, names, out)?;
+    let stack = kinds_of(alloc, stack, names, out)?;
+    Some(State { locals, stack })
 }

@@ -1,22 +1,19 @@
 //! Stack map tables: their frames, where they are wrong, and frames that are written.
-ghost use Rattle.std.specs.Prelude.{◌≡◌, ◌≤◌, ℕ, List, length, IfOk, All, IsTrue};
+ghost use Rattle.std.specs.Prelude.{◌≡◌, ◌≤◌, ℕ, List, length, IfSome, All, IsTrue};
 ghost use Rattle.jc_base.specs.VerificationTypes.{IsNumberedState, AreNumberedFrames};
 ghost use Rattle.jc_base.specs.WellMade.{IsState, AreFramesFrom};
 ghost use Rattle.jc_base.specs.declared.Insn.{Insn as Instruction};
 ghost use Rattle.jc_frames.specs.FullTable.{AreShort};
 ghost use Rattle.jc_frames.specs.WellMade.{AreOffsets};
 
-use crate::problem::Problem;
-use crate::spelled::{MOST_BYTES, short_number};
-use crate::states::{frames_text, put_state};
-use jc_base::{FrameAt, Names, Reader, State, is_method_descriptor};
+use crate::bodies::{MOST_BYTES, TOO_MANY};
+use crate::states::{put_frames, put_state};
+use jc_base::{Fail, FrameAt, Names, Reader, State, is_method_descriptor};
 use jc_frames::{entry_state, frame_fault, read_frames, take_classes, write_full};
 use jc_insn::{Decoded, decode};
-use jc_pool::Pool;
+use jc_pool::{Pool, PoolFull};
 use std::alloc::Global;
-
-/// What is told of too many bytes.
-const TOO_MANY: Problem<'static> = Problem::Missing("so few bytes");
+use tests_lines::{Answer, number};
 
 /// The most bytes of a method's code.
 const MOST_CODE: usize = 65_535;
@@ -32,45 +29,52 @@ pub struct Method<'a> {
     max_stack: u16,
 }
 
-/// The method that six words say: the class, the name, the descriptor, the access flags, the number of local variables
-/// and that of the slots of the stack.
-pub fn method_of<'a>(words: &[&'a str]) -> Result<Method<'a>, Problem<'a>> {
-    let [owner, name, desc, flags, max_locals, max_stack, ..] = words else {
-        return Err(Problem::Missing("method"));
+/// The method that six words say, and the words behind them: the class, the name, the descriptor, the access flags, the
+/// number of local variables and that of the slots of the stack.
+pub fn method_of<'w, 'a>(
+    words: &'w [&'a str],
+    out: &mut Answer,
+) -> Option<(Method<'a>, &'w [&'a str])> {
+    let [owner, name, desc, flags, max_locals, max_stack, rest @ ..] = words else {
+        return out.wrong("no method");
     };
-    Ok(Method {
+    let method = Method {
         owner,
         name,
         desc,
-        flags: short_number(flags)?,
-        max_locals: short_number(max_locals)?,
-        max_stack: short_number(max_stack)?,
-    })
+        flags: number::<u16>(flags, out)?,
+        max_locals: number::<u16>(max_locals, out)?,
+        max_stack: number::<u16>(max_stack, out)?,
+    };
+    Some((method, rest))
 }
 
 /// The constant pool that the bytes are.
-pub fn pool_of(alloc: Global, bytes: &[u8]) -> Result<Pool, Problem<'static>> {
+pub fn pool_of(alloc: Global, bytes: &[u8], out: &mut Answer) -> Option<Pool> {
     if bytes.len() > MOST_BYTES {
-        return Err(TOO_MANY);
+        return out.wrong(TOO_MANY);
     }
     let mut reader = Reader::new(bytes);
-    let pool = Pool::read(alloc, &mut reader)?;
+    let pool = out.accepted(Pool::read(alloc, &mut reader))?;
     if (reader.place() as usize) < bytes.len() {
-        return Err(Problem::Missing("pool of all bytes"));
+        return out.wrong("no pool of all bytes");
     }
-    Ok(pool)
+    Some(pool)
 }
 
-/// The bytes of a pool.
-pub fn pool_text(alloc: Global, pool: &Pool) -> Result<String, Problem<'static>> {
+/// Puts the bytes of a pool.
+pub fn pool_text(alloc: Global, pool: &Pool, out: &mut Answer) -> Option<()> {
     let mut bytes = Vec::new(alloc);
-    pool.write(alloc, &mut bytes)?;
-    Ok(hex::encode(alloc, &bytes)?)
+    out.got(pool.write(alloc, &mut bytes))?;
+    out.bytes(&bytes);
+    Some(())
 }
 
-/// How many places a pool has, in words.
-pub fn places_text(alloc: Global, pool: &Pool) -> Result<String, Problem<'static>> {
-    Ok(format!(in alloc; "{} places", pool.count())?)
+/// Puts how many places a pool has.
+pub fn put_places(pool: &Pool, out: &mut Answer) -> Option<()> {
+    out.show(&pool.count());
+    out.put(" places");
+    Some(())
 }
 
 /// Whether each offset is a number of two bytes.
@@ -81,33 +85,33 @@ fn are_short(starts: &[u32]) -> bool
 }
 
 /// The instructions of code, with their offsets and the end of the code.
-pub fn code_of(alloc: Global, bytes: &[u8]) -> Result<Decoded, Problem<'static>>
-    ensures offsets { IfOk result (λ d. AreOffsets (length d.code) d.starts) }
-    ensures short { IfOk result (λ d. AreShort d.starts) }
-    ensures few { IfOk result (λ d. length d.starts ≤ 65536) }
+fn code_of(alloc: Global, bytes: &[u8], out: &mut Answer) -> Option<Decoded>
+    ensures offsets { IfSome result (λ d. AreOffsets (length d.code) d.starts) }
+    ensures short { IfSome result (λ d. AreShort d.starts) }
+    ensures few { IfSome result (λ d. length d.starts ≤ 65536) }
 {
     if bytes.len() > MOST_BYTES {
-        return Err(TOO_MANY);
+        return out.wrong(TOO_MANY);
     }
-    let decoded = decode(alloc, bytes)?;
+    let decoded = out.accepted(decode(alloc, bytes))?;
     if decoded.starts.len() > MOST_CODE + 1 || !are_short(&decoded.starts) {
-        return Err(Problem::Missing("code of a method"));
+        return out.wrong("no code of a method");
     }
-    Ok(decoded)
+    Some(decoded)
 }
 
 /// The state in which a method begins.
-fn begins(alloc: Global, method: Method<'_>, names: &mut Names) -> Result<State, Problem<'static>>
-    ensures numbered { IfOk result (λ state. IsNumberedState (length names.new) state) }
-    ensures made { (code : List Instruction) (max_stack : ℕ) → IfOk result (λ state. IsState code method.entry.max_locals max_stack state) }
+fn begins(alloc: Global, method: Method<'_>, names: &mut Names, out: &mut Answer) -> Option<State>
+    ensures numbered { IfSome result (IsNumberedState (length names.new)) }
+    ensures made { (code : List Instruction) (max_stack : ℕ) → IfSome result (λ state. IsState code method.entry.max_locals max_stack state) }
 {
     let desc = method.desc.as_bytes();
     if !is_method_descriptor(desc) {
-        return Err(Problem::Missing("method descriptor"));
+        return out.wrong("no method descriptor");
     }
     let owner = method.owner.as_bytes();
     let name = method.name.as_bytes();
-    Ok(entry_state(
+    out.accepted(entry_state(
         alloc,
         owner,
         name,
@@ -115,17 +119,16 @@ fn begins(alloc: Global, method: Method<'_>, names: &mut Names) -> Result<State,
         method.flags,
         method.max_locals,
         names,
-    )?)
+    ))
 }
 
 /// The state in which a method begins, in words.
-pub fn entry<'a>(alloc: Global, words: &[&'a str]) -> Result<String, Problem<'a>> {
-    let method = method_of(words)?;
-    let mut names = Names::new(alloc)?;
-    let state = begins(alloc, method, &mut names)?;
-    let mut text = String::new(alloc);
-    put_state(&mut text, &state, &names)?;
-    Ok(text)
+pub fn entry(alloc: Global, words: &[&str], out: &mut Answer) -> Option<()> {
+    let (method, _) = method_of(words, out)?;
+    let mut names = out.got(Names::new(alloc))?;
+    let state = begins(alloc, method, &mut names, out)?;
+    put_state(&state, &names, out);
+    Some(())
 }
 
 /// What a table is read with.
@@ -136,19 +139,15 @@ pub struct Ground<'a> {
     pub pool: &'a Pool,
 }
 
-/// Where a table is wrong.
-fn fault_place(
-    alloc: Global,
-    ground: Ground<'_>,
-    table: &[u8],
-) -> Result<Option<u32>, Problem<'static>> {
+/// Puts where a table is wrong.
+pub fn fault(alloc: Global, ground: Ground<'_>, table: &[u8], out: &mut Answer) -> Option<()> {
     if table.len() > MOST_BYTES {
-        return Err(TOO_MANY);
+        return out.wrong(TOO_MANY);
     }
-    let mut names = Names::new(alloc)?;
-    let state = begins(alloc, ground.method, &mut names)?;
-    let decoded = code_of(alloc, ground.code)?;
-    let place = frame_fault(
+    let mut names = out.got(Names::new(alloc))?;
+    let state = begins(alloc, ground.method, &mut names, out)?;
+    let decoded = code_of(alloc, ground.code, out)?;
+    let place = out.got(frame_fault(
         alloc,
         table,
         &state,
@@ -156,16 +155,12 @@ fn fault_place(
         &decoded.code,
         &decoded.starts,
         ground.pool,
-    )?;
-    Ok(place)
-}
-
-/// Where a table is wrong, in words.
-pub fn fault(alloc: Global, ground: Ground<'_>, table: &[u8]) -> Result<String, Problem<'static>> {
-    match fault_place(alloc, ground, table)? {
-        Some(place) => Ok(format!(in alloc; "{place}")?),
-        None => Ok(format!(in alloc; "frames")?),
+    ))?;
+    match place {
+        Some(place) => out.show(&place),
+        None => out.put("frames"),
     }
+    Some(())
 }
 
 /// The frames of a table over decoded code.
@@ -175,17 +170,18 @@ fn frames_of(
     decoded: &Decoded,
     table: &[u8],
     names: &mut Names,
-) -> Result<Vec<FrameAt>, Problem<'static>>
+    out: &mut Answer,
+) -> Option<Vec<FrameAt>>
     requires offsets { AreOffsets (length decoded.now.code) decoded.now.starts }
     requires few { length decoded.now.starts ≤ 65536 }
-    ensures numbered { IfOk result (λ frames. AreNumberedFrames (length names.new) frames.items) }
-    ensures made { IfOk result (λ frames. AreFramesFrom 0 decoded.now.code ground.entry.method.max_locals ground.entry.method.max_stack frames.items) }
+    ensures numbered { IfSome result (λ frames. AreNumberedFrames (length names.new) frames.items) }
+    ensures made { IfSome result (λ frames. AreFramesFrom 0 decoded.now.code ground.entry.method.max_locals ground.entry.method.max_stack frames.items) }
 {
     if table.len() > MOST_BYTES {
-        return Err(TOO_MANY);
+        return out.wrong(TOO_MANY);
     }
-    let state = begins(alloc, ground.method, names)?;
-    Ok(read_frames(
+    let state = begins(alloc, ground.method, names, out)?;
+    out.accepted(read_frames(
         alloc,
         table,
         &state,
@@ -194,28 +190,28 @@ fn frames_of(
         &decoded.starts,
         ground.pool,
         names,
-    )?)
+    ))
 }
 
-/// The frames of a table, in words.
-pub fn read(alloc: Global, ground: Ground<'_>, table: &[u8]) -> Result<String, Problem<'static>> {
-    let mut names = Names::new(alloc)?;
-    let decoded = code_of(alloc, ground.code)?;
-    let frames = frames_of(alloc, ground, &decoded, table, &mut names)?;
-    Ok(frames_text(alloc, &frames, &names)?)
+/// Puts the frames of a table.
+pub fn read(alloc: Global, ground: Ground<'_>, table: &[u8], out: &mut Answer) -> Option<()> {
+    let mut names = out.got(Names::new(alloc))?;
+    let decoded = code_of(alloc, ground.code, out)?;
+    let frames = frames_of(alloc, ground, &decoded, table, &mut names, out)?;
+    put_frames(&frames, &names, out);
+    Some(())
 }
 
-/// Takes the classes of a table's frames into a pool.
-fn put_classes(
-    alloc: Global,
-    ground: Ground<'_>,
-    table: &[u8],
-    pool: &mut Pool,
-) -> Result<(), Problem<'static>> {
-    let mut names = Names::new(alloc)?;
-    let decoded = code_of(alloc, ground.code)?;
-    let frames = frames_of(alloc, ground, &decoded, table, &mut names)?;
-    Ok(take_classes(alloc, &frames, &names, pool)?)
+/// What came of an addition to a pool, unless it is full: then puts how many places it would have.
+fn added(outcome: Result<(), Fail<PoolFull>>, out: &mut Answer) -> Option<()> {
+    match outcome {
+        Ok(()) => Some(()),
+        Err(Fail::Said(PoolFull { count })) => {
+            out.label("pool full at ", &count);
+            None
+        }
+        Err(Fail::Memory) => out.lose(),
+    }
 }
 
 /// Takes the classes of a table's frames into a pool, and tells how many places it has then.
@@ -224,9 +220,13 @@ pub fn take(
     ground: Ground<'_>,
     table: &[u8],
     pool: &mut Pool,
-) -> Result<String, Problem<'static>> {
-    put_classes(alloc, ground, table, pool)?;
-    places_text(alloc, pool)
+    out: &mut Answer,
+) -> Option<()> {
+    let mut names = out.got(Names::new(alloc))?;
+    let decoded = code_of(alloc, ground.code, out)?;
+    let frames = frames_of(alloc, ground, &decoded, table, &mut names, out)?;
+    added(take_classes(alloc, &frames, &names, pool), out)?;
+    put_places(pool, out)
 }
 
 /// Writes the frames of a table in full, behind the bytes that are there.
@@ -236,17 +236,21 @@ fn put_full(
     table: &[u8],
     pool: &mut Pool,
     into: &mut Vec<u8>,
-) -> Result<(), Problem<'static>> {
-    let mut names = Names::new(alloc)?;
-    let decoded = code_of(alloc, ground.code)?;
-    let frames = frames_of(alloc, ground, &decoded, table, &mut names)?;
+    out: &mut Answer,
+) -> Option<()> {
+    let mut names = out.got(Names::new(alloc))?;
+    let decoded = code_of(alloc, ground.code, out)?;
+    let frames = frames_of(alloc, ground, &decoded, table, &mut names, out)?;
     if frames.len() > MOST_CODE {
-        return Err(Problem::Missing("table of so few frames"));
+        return out.wrong("no table of so few frames");
     }
-    Ok(write_full(alloc, &frames, &decoded.starts, &names, pool, into)?)
+    added(
+        write_full(alloc, &frames, &decoded.starts, &names, pool, into),
+        out,
+    )
 }
 
-/// The frames of a table written in full, in hexadecimal digits behind those that are there; in front of them the
+/// Puts the frames of a table written in full, in hexadecimal digits behind those that are there; in front of them the
 /// problem, if there is one.
 pub fn written(
     alloc: Global,
@@ -254,12 +258,12 @@ pub fn written(
     table: &[u8],
     pool: &mut Pool,
     front: &[u8],
-) -> Result<String, Problem<'static>> {
-    let mut into = front.to_vec(alloc)?;
-    let outcome = put_full(alloc, ground, table, pool, &mut into);
-    let digits = hex::encode(alloc, &into)?;
-    match outcome {
-        Ok(()) => Ok(digits),
-        Err(problem) => Ok(format!(in alloc; "{problem}; {digits}")?),
+    out: &mut Answer,
+) -> Option<()> {
+    let mut into = out.got(front.to_vec(alloc))?;
+    if put_full(alloc, ground, table, pool, &mut into, out).is_none() {
+        out.put("; ");
     }
+    out.bytes(&into);
+    Some(())
 }

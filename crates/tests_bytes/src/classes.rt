@@ -1,73 +1,75 @@
 //! Class files.
 ghost use Rattle.std.specs.Prelude.{◌≤◌, length};
-ghost use Rattle.jc_class.specs.Writable.{IsClassFile};
 
-use crate::bytes::{put_bytes, spelled};
-use crate::readers::put_refusal;
-use crate::wrong::{Wrong, unknown};
-use jc_base::Fail;
 use jc_class::{ClassFile, Member, class_id, read_class, write_class};
-use std::alloc::{AllocError, Global};
-use std::fmt::Write;
+use std::alloc::Global;
+use tests_lines::{Answer, bytes};
 
 /// Puts fields or methods: the flags, the places of the name and of the descriptor, and how many attributes there are.
-fn put_members(out: &mut String, members: &[Member]) -> Result<(), AllocError> {
+fn put_members(members: &[Member], out: &mut Answer) {
     for member in members {
-        write!(out, " {}:{}", member.flags, member.name)?;
-        write!(out, ":{}:{}", member.desc, member.attributes.len())?;
+        out.label(" ", &member.flags);
+        out.label(":", &member.name);
+        out.label(":", &member.desc);
+        out.label(":", &member.attributes.len());
     }
-    Ok(())
 }
 
 /// Puts the numbers in front of the interfaces of a class.
-fn put_head(out: &mut String, class: &ClassFile) -> Result<(), AllocError> {
-    write!(out, "minor {} major {}", class.minor, class.major)?;
-    write!(out, " flags {} this {}", class.flags, class.this_class)?;
-    write!(out, " super {} interfaces", class.super_class)
+fn put_head(class: &ClassFile, out: &mut Answer) {
+    out.label("minor ", &class.minor);
+    out.label(" major ", &class.major);
+    out.label(" flags ", &class.flags);
+    out.label(" this ", &class.this_class);
+    out.label(" super ", &class.super_class);
 }
 
 /// Puts a class file.
-fn put_class(out: &mut String, class: &ClassFile) -> Result<(), AllocError> {
-    put_head(out, class)?;
-    write!(out, " {:?} fields", class.interfaces.as_slice())?;
-    put_members(out, class.fields.as_slice())?;
-    out.push_str(" methods")?;
-    put_members(out, class.methods.as_slice())?;
-    write!(out, " attributes {}", class.attributes.len())
+fn put_class(class: &ClassFile, out: &mut Answer) {
+    put_head(class, out);
+    out.label_debug(" interfaces ", &class.interfaces.as_slice());
+    out.put(" fields");
+    put_members(&class.fields, out);
+    out.put(" methods");
+    put_members(&class.methods, out);
+    out.label(" attributes ", &class.attributes.len());
 }
 
-/// Puts the bytes of a class file.
-fn put_written(alloc: Global, class: &ClassFile, out: &mut String) -> Result<(), Wrong<'static>>
-    requires { IsClassFile class.now }
-{
-    let bytes = write_class(alloc, class)?;
-    put_bytes(out, &bytes)?;
-    Ok(())
-}
-
-/// Reads a class file, and puts the bytes that it is written as, or what was read.
-fn read(alloc: Global, bytes: &[u8], writes: bool, out: &mut String) -> Result<(), Wrong<'static>>
+/// Reads a class file, and puts what was read.
+fn read(alloc: Global, bytes: &[u8], out: &mut Answer) -> Option<()>
     requires { length bytes.now ≤ 1000000 }
 {
-    match read_class(alloc, bytes) {
-        Ok(class) if writes => put_written(alloc, &class, out)?,
-        Ok(class) => put_class(out, &class)?,
-        Err(Fail::Said(refusal)) => put_refusal(out, &refusal)?,
-        Err(Fail::Memory) => return Err(Wrong::Memory),
-    }
-    Ok(())
+    let class = out.accepted(read_class(alloc, bytes))?;
+    put_class(&class, out);
+    Some(())
+}
+
+/// Reads a class file, and puts the bytes that it is written as.
+fn write(alloc: Global, bytes: &[u8], out: &mut Answer) -> Option<()>
+    requires { length bytes.now ≤ 1000000 }
+{
+    let class = out.accepted(read_class(alloc, bytes))?;
+    let bytes = out.got(write_class(alloc, &class))?;
+    out.bytes(&bytes);
+    Some(())
+}
+
+/// Puts the class id of bytes.
+fn put_id(bytes: &[u8], out: &mut Answer) -> Option<()> {
+    out.id(class_id(bytes));
+    Some(())
 }
 
 /// What a call answers.
-pub fn answer<'a>(alloc: Global, words: &[&'a str], out: &mut String) -> Result<(), Wrong<'a>> {
+pub fn answer(alloc: Global, words: &[&str], out: &mut Answer) -> Option<()> {
     let [call, text @ ..] = words else {
-        return Err(unknown(words));
+        return out.unknown(words);
     };
-    let bytes = spelled(alloc, text)?;
+    let bytes = bytes(alloc, text, out)?;
     match *call {
-        "id" => Ok(write!(out, "{:016x}", class_id(&bytes))?),
-        "read" => read(alloc, &bytes, false, out),
-        "write" => read(alloc, &bytes, true, out),
-        call => Err(Wrong::Word("unknown word", call)),
+        "id" => put_id(&bytes, out),
+        "read" => read(alloc, &bytes, out),
+        "write" => write(alloc, &bytes, out),
+        call => out.unknown_word(call),
     }
 }

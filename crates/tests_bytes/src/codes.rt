@@ -6,50 +6,35 @@ ghost use Rattle.jc_insn.specs.Decoding.{IsInsnAmong};
 ghost use Rattle.jc_insn.specs.Sizes.{StartAt};
 ghost use Rattle.jc_insn.specs.Writing.{AllNear, IsNearJump};
 
-use crate::bytes::{put_bytes, spelled};
 use crate::insns::{has_few_arms, is_wide, of_opcode, put_insn};
-use crate::readers::put_refusal;
-use crate::words::numbers;
-use crate::wrong::{Wrong, unknown};
-use jc_base::{Fail, Insn};
+use jc_base::Insn;
 use jc_insn::{Decoded, decode, encode, size_of};
-use std::alloc::{AllocError, Global};
-use std::fmt::Write;
+use std::alloc::Global;
+use tests_lines::{Answer, bytes, listed};
 
 /// Puts each instruction behind its offset, and the offset of the end.
-fn put_decoded(out: &mut String, decoded: &Decoded) -> Result<(), AllocError> {
+fn put_decoded(decoded: &Decoded, out: &mut Answer) {
     let starts = decoded.starts.as_slice();
     for (insn, start) in decoded.code.as_slice().iter().zip(starts) {
-        write!(out, "{start} ")?;
-        put_insn(out, insn)?;
-        out.push_str(", ")?;
+        out.show(start);
+        out.put(" ");
+        put_insn(insn, out);
+        out.put(", ");
     }
     match starts.last() {
-        Some(end) => write!(out, "end {end}"),
-        None => out.push_str("no end"),
+        Some(end) => out.label("end ", end),
+        None => out.put("no end"),
     }
 }
 
-/// Decodes the bytes, keeps their code, and puts it.
-fn read<'a>(
-    alloc: Global,
-    code: &mut Vec<Insn>,
-    text: &[&'a str],
-    out: &mut String,
-) -> Result<(), Wrong<'a>> {
-    let bytes = spelled(alloc, text)?;
-    match decode(alloc, &bytes) {
-        Ok(decoded) => {
-            put_decoded(out, &decoded)?;
-            *code = decoded.code.into_vec();
-        }
-        Err(Fail::Said(refusal)) => {
-            put_refusal(out, &refusal)?;
-            code.clear();
-        }
-        Err(Fail::Memory) => return Err(Wrong::Memory),
-    }
-    Ok(())
+/// Decodes the bytes, keeps their code, and puts it. Where the bytes are refused, no code is kept.
+fn read(alloc: Global, code: &mut Vec<Insn>, words: &[&str], out: &mut Answer) -> Option<()> {
+    let bytes = bytes(alloc, words, out)?;
+    code.clear();
+    let decoded = out.accepted(decode(alloc, &bytes))?;
+    put_decoded(&decoded, out);
+    *code = decoded.code.into_vec();
+    Some(())
 }
 
 /// Whether instructions begin at these offsets in a layout, the first at this one, and end at the last.
@@ -133,51 +118,44 @@ fn put_encoded(
     code: &[Insn],
     starts: &[u32],
     wide: bool,
-    out: &mut String,
-) -> Result<(), Wrong<'static>>
+    out: &mut Answer,
+) -> Option<()>
     requires { All (IsInsnAmong (length code.now)) code.now }
 {
     if code.len() > 65535 || !leads_inside(code, code.len() as u32) {
-        return Err(Wrong::Line("a jump to no instruction"));
+        return out.wrong("a jump to no instruction");
     }
     if !are_laid(code, starts, wide) {
-        return Err(Wrong::Line("other offsets"));
+        return out.wrong("other offsets");
     }
     let mut bytes = Vec::new(alloc);
-    encode(alloc, code, starts, wide, &mut bytes)?;
-    put_bytes(out, &bytes)?;
-    Ok(())
+    let outcome = encode(alloc, code, starts, wide, &mut bytes);
+    out.got(outcome)?;
+    out.bytes(&bytes);
+    Some(())
 }
 
 /// Decodes the bytes, and puts the bytes of their code in a layout.
-fn encoded<'a>(
+fn encoded(
     alloc: Global,
-    layout: &'a str,
-    starts: &'a str,
-    text: &[&'a str],
-    out: &mut String,
-) -> Result<(), Wrong<'a>> {
-    let wide = is_wide(layout)?;
-    let starts = numbers(alloc, starts)?;
-    let bytes = spelled(alloc, text)?;
-    match decode(alloc, &bytes) {
-        Ok(decoded) => put_encoded(alloc, decoded.code.as_slice(), &starts, wide, out),
-        Err(Fail::Said(refusal)) => Ok(put_refusal(out, &refusal)?),
-        Err(Fail::Memory) => Err(Wrong::Memory),
-    }
+    layout: &str,
+    starts: &str,
+    words: &[&str],
+    out: &mut Answer,
+) -> Option<()> {
+    let wide = is_wide(layout, out)?;
+    let starts = listed(alloc, starts, out)?;
+    let bytes = bytes(alloc, words, out)?;
+    let decoded = out.accepted(decode(alloc, &bytes))?;
+    put_encoded(alloc, decoded.code.as_slice(), &starts, wide, out)
 }
 
 /// What a call answers.
-pub fn answer<'a>(
-    alloc: Global,
-    code: &mut Vec<Insn>,
-    words: &[&'a str],
-    out: &mut String,
-) -> Result<(), Wrong<'a>> {
+pub fn answer(alloc: Global, code: &mut Vec<Insn>, words: &[&str], out: &mut Answer) -> Option<()> {
     match words {
         ["decode", text @ ..] => read(alloc, code, text, out),
         ["encode", layout, starts, text @ ..] => encoded(alloc, layout, starts, text, out),
         [call, op] => of_opcode(call, op, out),
-        words => Err(unknown(words)),
+        words => out.unknown(words),
     }
 }

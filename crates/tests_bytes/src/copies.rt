@@ -3,84 +3,94 @@
 use crate::insns::put_insn;
 use crate::kinds::{put_state, state};
 use crate::uses::{put_use, uses};
-use crate::words::number;
-use crate::wrong::{Wrong, unknown};
 use jc_base::{Body, FrameAt, Insn, List, Plan, TryClone, Use, clone_each};
-use std::alloc::{AllocError, Global};
-use std::fmt::Write;
+use std::alloc::Global;
+use tests_lines::{Answer, number};
 
 /// The frame that a word spells: its place, `@` and its state.
-fn frame<'a>(alloc: Global, word: &'a str) -> Result<FrameAt, Wrong<'a>> {
+fn frame(alloc: Global, word: &str, out: &mut Answer) -> Option<FrameAt> {
     let Some((at, rest)) = word.split_once('@') else {
-        return Err(Wrong::Word("no frame", word));
+        return out.wrong_word("no frame", word);
     };
-    let state = state(alloc, rest)?;
-    Ok(FrameAt {
-        at: number::<u32>(at)?,
-        state,
-    })
-}
-
-/// Puts a frame.
-fn put_frame(out: &mut String, frame: &FrameAt) -> Result<(), AllocError> {
-    write!(out, "{} ", frame.at)?;
-    put_state(out, &frame.state)
+    let at = number::<u32>(at, out)?;
+    let state = state(alloc, rest, out)?;
+    Some(FrameAt { at, state })
 }
 
 /// Puts instructions.
-fn put_code(out: &mut String, code: &[Insn]) -> Result<(), AllocError> {
+fn put_code(code: &[Insn], out: &mut Answer) {
     for (number, insn) in code.iter().enumerate() {
         if number > 0 {
-            out.push_str(", ")?;
+            out.put(", ");
         }
-        put_insn(out, insn)?;
+        put_insn(insn, out);
     }
-    Ok(())
 }
 
-/// The probes that a word spells, with a comma between each and the next: `none`, or an id.
-fn probes<'a>(alloc: Global, word: &'a str) -> Result<List<Option<u32>>, Wrong<'a>> {
+/// Puts the probe that a word spells at the end: `none`, or an id.
+fn put_probe(into: &mut List<Option<u32>>, word: &str, out: &mut Answer) -> Option<()> {
+    let pushed = match word {
+        "none" => into.push(None),
+        id => into.push(Some(number::<u32>(id, out)?)),
+    };
+    out.got(pushed)
+}
+
+/// The probes that a word spells, with a comma between each and the next.
+fn probes(alloc: Global, word: &str, out: &mut Answer) -> Option<List<Option<u32>>> {
     let mut probes = List::new(alloc);
     for part in word.split(',') {
-        match part {
-            "none" => probes.push(None)?,
-            id => probes.push(Some(number::<u32>(id)?))?,
-        }
+        put_probe(&mut probes, part, out)?;
     }
-    Ok(probes)
+    Some(probes)
+}
+
+/// The branches of one instruction, with the probes that a word spells.
+fn branches(alloc: Global, word: &str, out: &mut Answer) -> Option<List<List<Option<u32>>>> {
+    let probes = probes(alloc, word, out)?;
+    let mut branches = List::new(alloc);
+    let pushed = branches.push(probes);
+    out.got(pushed)?;
+    Some(branches)
 }
 
 /// The plan of these probes of fall-throughs, and of the branches of one instruction.
-fn plan<'a>(alloc: Global, lead: &'a str, out: &'a str, next: &'a str) -> Result<Plan, Wrong<'a>> {
-    let next = number::<u32>(next)?;
-    let lead = probes(alloc, lead)?;
-    let mut branches = List::new(alloc);
-    branches.push(probes(alloc, out)?)?;
-    Ok(Plan {
+fn plan(alloc: Global, [lead, branching, next]: [&str; 3], out: &mut Answer) -> Option<Plan> {
+    let next = number::<u32>(next, out)?;
+    let lead = probes(alloc, lead, out)?;
+    let branches = branches(alloc, branching, out)?;
+    Some(Plan {
         lead,
         out: branches,
         next,
     })
 }
 
-/// Puts the copy of a plan, and whether it is the plan's equal.
-fn put_plan_copy(alloc: Global, plan: &Plan, out: &mut String) -> Result<(), Wrong<'static>> {
-    let copy = plan.try_clone(alloc)?;
-    write!(out, "lead {:?} out", copy.lead.as_slice())?;
-    for branches in copy.out.as_slice() {
-        write!(out, " {:?}", branches.as_slice())?;
+/// Puts a plan.
+fn put_plan(plan: &Plan, out: &mut Answer) {
+    out.label_debug("lead ", &plan.lead.as_slice());
+    out.put(" out");
+    for branches in plan.out.as_slice() {
+        out.label_debug(" ", &branches.as_slice());
     }
-    write!(out, " next {} equal {}", copy.next, copy == *plan)?;
-    Ok(())
+    out.label(" next ", &plan.next);
+}
+
+/// Puts the copy of a plan, and whether it is the plan's equal.
+fn put_plan_copy(alloc: Global, plan: &Plan, out: &mut Answer) -> Option<()> {
+    let copy = out.got(plan.try_clone(alloc))?;
+    put_plan(&copy, out);
+    out.label(" equal ", &(copy == *plan));
+    Some(())
 }
 
 /// The numbers of a body: of its method, its flags, the slots of its arguments, of its stack and of its locals.
-fn counts(word: &str) -> Result<[u16; 5], Wrong<'_>> {
+fn counts(word: &str, out: &mut Answer) -> Option<[u16; 5]> {
     let mut counts = [0; 5];
     for (count, part) in counts.iter_mut().zip(word.split(',')) {
-        *count = number::<u16>(part)?;
+        *count = number::<u16>(part, out)?;
     }
-    Ok(counts)
+    Some(counts)
 }
 
 /// A body of this code, with these frames and uses.
@@ -112,73 +122,72 @@ fn body(
 }
 
 /// Puts the numbers of a body.
-fn put_counts(out: &mut String, body: &Body) -> Result<(), AllocError> {
-    let (method, flags) = (body.method, body.flags);
-    write!(
-        out,
-        "method {method} flags {flags} arg_slots {}",
-        body.arg_slots
-    )?;
-    write!(
-        out,
-        " max_stack {} max_locals {} code ",
-        body.max_stack, body.max_locals
-    )
+fn put_counts(body: &Body, out: &mut Answer) {
+    out.label("method ", &body.method);
+    out.label(" flags ", &body.flags);
+    out.label(" arg_slots ", &body.arg_slots);
+    out.label(" max_stack ", &body.max_stack);
+    out.label(" max_locals ", &body.max_locals);
 }
 
 /// Puts a body.
-fn put_body(out: &mut String, body: &Body) -> Result<(), AllocError> {
-    put_counts(out, body)?;
-    put_code(out, body.code.as_slice())?;
+fn put_body(body: &Body, out: &mut Answer) {
+    put_counts(body, out);
+    out.put(" code ");
+    put_code(body.code.as_slice(), out);
     for frame in body.frames.as_slice() {
-        out.push_str(" frame ")?;
-        put_frame(out, frame)?;
+        out.label(" frame ", &frame.at);
+        out.put(" ");
+        put_state(&frame.state, out);
     }
     for entry in body.uses.as_slice() {
-        out.push_str(" use ")?;
-        put_use(out, entry)?;
+        out.put(" use ");
+        put_use(entry, out);
     }
-    Ok(())
 }
 
 /// Puts the copy of a body, and whether it is the body's equal.
-fn put_body_copy(alloc: Global, body: &Body, out: &mut String) -> Result<(), Wrong<'static>> {
-    let copy = body.try_clone(alloc)?;
-    put_body(out, &copy)?;
-    write!(out, " equal {}", copy == *body)?;
-    Ok(())
+fn put_body_copy(alloc: Global, body: &Body, out: &mut Answer) -> Option<()> {
+    let copy = out.got(body.try_clone(alloc))?;
+    put_body(&copy, out);
+    out.label(" equal ", &(copy == *body));
+    Some(())
+}
+
+/// The frames that one word spells.
+fn frames(alloc: Global, word: &str, out: &mut Answer) -> Option<List<FrameAt>> {
+    let frame = frame(alloc, word, out)?;
+    let mut frames = List::new(alloc);
+    let pushed = frames.push(frame);
+    out.got(pushed)?;
+    Some(frames)
 }
 
 /// Puts the copy of a body that has one frame, of the code that was decoded.
-fn copy_body<'a>(
+fn copy_body(
     alloc: Global,
     code: &[Insn],
-    words: [&'a str; 2],
-    entries: &[&'a str],
-    out: &mut String,
-) -> Result<(), Wrong<'a>> {
-    let counts = counts(words[0])?;
-    let uses = uses(alloc, entries)?;
-    let mut frames = List::new(alloc);
-    frames.push(frame(alloc, words[1])?)?;
-    let code = clone_each(alloc, code)?;
+    [numbers, frame]: [&str; 2],
+    entries: &[&str],
+    out: &mut Answer,
+) -> Option<()> {
+    let counts = counts(numbers, out)?;
+    let frames = frames(alloc, frame, out)?;
+    let uses = uses(alloc, entries, out)?;
+    let code = out.got(clone_each(alloc, code))?;
     put_body_copy(alloc, &body(alloc, counts, code, frames, uses), out)
 }
 
 /// What a call answers of the values that words spell, and of the code that was decoded.
-pub fn answer<'a>(
-    alloc: Global,
-    code: &[Insn],
-    words: &[&'a str],
-    out: &mut String,
-) -> Result<(), Wrong<'a>> {
+pub fn answer(alloc: Global, code: &[Insn], words: &[&str], out: &mut Answer) -> Option<()> {
     match words {
         ["plan", lead, branches, next] => {
-            put_plan_copy(alloc, &plan(alloc, lead, branches, next)?, out)
+            let plan = plan(alloc, [lead, branches, next], out)?;
+            put_plan_copy(alloc, &plan, out)
         }
         ["body", counts, frame, entries @ ..] => {
             copy_body(alloc, code, [counts, frame], entries, out)
         }
-        words => Err(unknown(words)),
+        words => out.unknown(words),
     }
 }

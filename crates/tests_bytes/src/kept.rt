@@ -1,44 +1,80 @@
-//! The values that lines make for the lines behind them.
+//! The calls, and the values that lines make for the lines behind them.
 
-use jc_base::{Insn, Memory, MemoryFiles, MemorySink, Names};
+use crate::{
+    classes, codes, copies, descriptors, files, insns, lists, names, pools, readers, same, stores,
+    texts,
+};
+use jc_base::{Insn, MemoryFiles, MemorySink, Names};
 use jc_exec::ExecStore;
 use jc_pool::Pool;
-use std::alloc::{AllocError, Global};
+use std::alloc::Global;
+use tests_lines::{Answer, Calls};
 
 /// The values that lines make for the lines behind them.
 #[derive(Drop)]
 pub struct Kept {
     /// Names with numbers.
-    pub names: Names,
+    names: Option<Names>,
     /// Files in memory.
-    pub files: MemoryFiles,
+    files: Option<MemoryFiles>,
     /// A text in memory.
-    pub sink: MemorySink,
+    sink: Option<MemorySink>,
     /// Code that was decoded.
-    pub code: Vec<Insn>,
+    code: Vec<Insn>,
     /// A constant pool that was read.
-    pub pool: Option<Pool>,
+    pool: Option<Pool>,
     /// A store of execution data.
-    pub store: ExecStore,
+    store: Option<ExecStore>,
 }
 
 impl Kept {
     /// No names, no files, no code, no pool and no execution data.
-    pub fn new(alloc: Global) -> Result<Kept, AllocError> {
-        match Kept::empty(alloc) {
-            Ok(kept) => Ok(kept),
-            Err(Memory) => Err(AllocError),
+    pub fn new(alloc: Global) -> Kept {
+        Kept {
+            names: None,
+            files: None,
+            sink: None,
+            code: Vec::new(alloc),
+            pool: None,
+            store: None,
         }
     }
 
-    fn empty(alloc: Global) -> Result<Kept, Memory> {
-        Ok(Kept {
-            names: Names::new(alloc)?,
-            files: MemoryFiles::new(alloc, &[])?,
-            sink: MemorySink::new(alloc, &[])?,
-            code: Vec::new(alloc),
-            pool: None,
-            store: ExecStore::new(alloc)?,
-        })
+    /// Puts what a call on code, on pools, on class files or on execution data answers.
+    fn of_crates(
+        &mut self,
+        alloc: Global,
+        group: &str,
+        call: &[&str],
+        out: &mut Answer,
+    ) -> Option<()> {
+        match group {
+            "code" => codes::answer(alloc, &mut self.code, call, out),
+            "insn" => insns::answer(alloc, &self.code, call, out),
+            "copy" => copies::answer(alloc, &self.code, call, out),
+            "pool" => pools::answer(alloc, &mut self.pool, call, out),
+            "class" => classes::answer(alloc, call, out),
+            "store" => stores::answer(alloc, &mut self.store, call, out),
+            group => out.unknown_word(group),
+        }
+    }
+}
+
+impl Calls for Kept {
+    fn answer(&mut self, alloc: Global, words: &[&str], out: &mut Answer) -> Option<()> {
+        let [group, call @ ..] = words else {
+            return out.wrong("no call");
+        };
+        match *group {
+            "list" => lists::answer(alloc, call, out),
+            "reader" => readers::answer(alloc, call, out),
+            "text" => texts::answer(alloc, call, out),
+            "descriptor" => descriptors::answer(alloc, call, out),
+            "names" => names::answer(alloc, &mut self.names, call, out),
+            "files" => files::of_files(alloc, &mut self.files, call, out),
+            "sink" => files::of_sink(alloc, &mut self.sink, call, out),
+            "same" => same::answer(alloc, call, out),
+            group => self.of_crates(alloc, group, call, out),
+        }
     }
 }

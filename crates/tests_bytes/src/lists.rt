@@ -1,12 +1,9 @@
 //! Lists, and what is put at the end of bytes.
 ghost use Rattle.std.specs.Prelude.{◌<◌, length, IsTrue, All};
 
-use crate::bytes::{put_0x, put_bytes, spelled};
-use crate::words::{number, numbers};
-use crate::wrong::{Wrong, unknown};
-use jc_base::{Bytes, List, first_seen, insn_numbers};
+use jc_base::{Bytes, first_seen, insn_numbers};
 use std::alloc::{AllocError, Global};
-use std::fmt::Write;
+use tests_lines::{Answer, bytes, listed, number};
 
 /// A list of these bytes, put one by one.
 fn pushed(alloc: Global, bytes: &[u8]) -> Result<Bytes, AllocError> {
@@ -17,23 +14,30 @@ fn pushed(alloc: Global, bytes: &[u8]) -> Result<Bytes, AllocError> {
     Ok(list)
 }
 
+/// Puts the items of a list, the largest of them, and whether the list is its copy's equal.
+fn put_list(list: &Bytes, copy: &Bytes, out: &mut Answer) {
+    out.label("len ", &list.len());
+    out.label_debug(" largest ", &list.iter().copied().max());
+    out.label(" equal ", &(list == copy));
+    out.put(" ");
+    out.bytes_0x(list.as_slice());
+}
+
 /// The items of a list of these bytes, the largest of them, and whether the list is a copy's equal.
-fn list<'a>(alloc: Global, text: &[&'a str], out: &mut String) -> Result<(), Wrong<'a>> {
-    let bytes = spelled(alloc, text)?;
-    let list = pushed(alloc, &bytes)?;
-    let equal = list == Bytes::copy_of(alloc, &bytes)?;
-    let largest = list.iter().copied().max();
-    write!(out, "len {} largest {largest:?} equal {equal} ", list.len())?;
-    put_0x(out, list.into_vec().as_slice())?;
-    Ok(())
+fn list(alloc: Global, words: &[&str], out: &mut Answer) -> Option<()> {
+    let bytes = bytes(alloc, words, out)?;
+    let list = out.got(pushed(alloc, &bytes))?;
+    let copy = out.got(Bytes::copy_of(alloc, &bytes))?;
+    put_list(&list, &copy, out);
+    Some(())
 }
 
 /// Each number once.
-fn seen<'a>(alloc: Global, word: &'a str, out: &mut String) -> Result<(), Wrong<'a>> {
-    let numbers = numbers(alloc, word)?;
-    let seen = first_seen(alloc, &numbers)?;
-    write!(out, "{:?}", seen.as_slice())?;
-    Ok(())
+fn seen(alloc: Global, word: &str, out: &mut Answer) -> Option<()> {
+    let numbers = listed(alloc, word, out)?;
+    let seen = out.got(first_seen(alloc, &numbers))?;
+    out.debug(&seen.as_slice());
+    Some(())
 }
 
 /// Whether `insn_numbers` takes these offsets.
@@ -45,56 +49,51 @@ fn are_starts(starts: &[u32], size: usize) -> bool
 }
 
 /// The number of the instruction that begins at each offset.
-fn insns_at<'a>(
-    alloc: Global,
-    size: &'a str,
-    starts: &'a str,
-    out: &mut String,
-) -> Result<(), Wrong<'a>> {
-    let size = number::<usize>(size)?;
-    let starts = numbers(alloc, starts)?;
+fn insns_at(alloc: Global, size: &str, starts: &str, out: &mut Answer) -> Option<()> {
+    let size = number::<usize>(size, out)?;
+    let starts = listed(alloc, starts, out)?;
     if !are_starts(&starts, size) {
-        return Err(Wrong::Line("no offsets below the size"));
+        return out.wrong("no offsets below the size");
     }
-    let numbers = insn_numbers(alloc, &starts, size)?;
-    write!(out, "{numbers:?}")?;
-    Ok(())
+    let numbers = out.got(insn_numbers(alloc, &starts, size))?;
+    out.debug(&numbers);
+    Some(())
 }
 
 /// Puts a number of so many bytes at the end, or the bytes of a word.
-fn put<'a>(call: &'a str, word: &'a str, into: &mut Vec<u8>) -> Result<(), Wrong<'a>> {
-    match call {
-        "put_bytes" => jc_base::put_bytes(into, word.as_bytes())?,
-        "put_u8" => jc_base::put_u8(into, number::<u8>(word)?)?,
-        "put_u16" => jc_base::put_u16(into, number::<u16>(word)?)?,
-        "put_u32" => jc_base::put_u32(into, number::<u32>(word)?)?,
-        "put_u64" => jc_base::put_u64(into, number::<u64>(word)?)?,
-        call => return Err(Wrong::Word("unknown word", call)),
-    }
-    Ok(())
+fn put(call: &str, word: &str, into: &mut Vec<u8>, out: &mut Answer) -> Option<()> {
+    let outcome = match call {
+        "put_bytes" => jc_base::put_bytes(into, word.as_bytes()),
+        "put_u8" => jc_base::put_u8(into, number::<u8>(word, out)?),
+        "put_u16" => jc_base::put_u16(into, number::<u16>(word, out)?),
+        "put_u32" => jc_base::put_u32(into, number::<u32>(word, out)?),
+        "put_u64" => jc_base::put_u64(into, number::<u64>(word, out)?),
+        call => return out.unknown_word(call),
+    };
+    out.got(outcome)
 }
 
 /// Bytes with a number or a word behind them.
-fn with_number<'a>(
+fn with_number(
     alloc: Global,
-    call: &'a str,
-    word: &'a str,
-    text: &[&'a str],
-    out: &mut String,
-) -> Result<(), Wrong<'a>> {
-    let mut bytes = spelled(alloc, text)?;
-    put(call, word, &mut bytes)?;
-    put_bytes(out, &bytes)?;
-    Ok(())
+    call: &str,
+    word: &str,
+    words: &[&str],
+    out: &mut Answer,
+) -> Option<()> {
+    let mut bytes = bytes(alloc, words, out)?;
+    put(call, word, &mut bytes, out)?;
+    out.bytes(&bytes);
+    Some(())
 }
 
 /// What a call answers.
-pub fn answer<'a>(alloc: Global, words: &[&'a str], out: &mut String) -> Result<(), Wrong<'a>> {
+pub fn answer(alloc: Global, words: &[&str], out: &mut Answer) -> Option<()> {
     match words {
         ["of", text @ ..] => list(alloc, text, out),
         ["first_seen", word] => seen(alloc, word, out),
         ["insn_numbers", size, starts] => insns_at(alloc, size, starts, out),
         [call, word, text @ ..] => with_number(alloc, call, word, text, out),
-        words => Err(unknown(words)),
+        words => out.unknown(words),
     }
 }

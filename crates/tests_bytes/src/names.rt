@@ -1,129 +1,116 @@
 //! Names with numbers, and the states in which methods begin.
 
-use crate::bytes::put_text;
 use crate::kinds::{kinds, put_state};
-use crate::readers::put_refusal;
-use crate::words::{number, text};
-use crate::wrong::{Wrong, unknown};
 use jc_base::{
-    Fail, Names, Refusal, State, entry_state, field_type, is_field_descriptor,
-    is_method_descriptor, put_tops,
+    Names, entry_state, field_type, is_field_descriptor, is_method_descriptor, put_tops,
 };
 use std::alloc::Global;
-use std::fmt::Write;
+use tests_lines::{Answer, number, text};
 
 /// Makes a list of no names.
-fn new(alloc: Global, names: &mut Names, out: &mut String) -> Result<(), Wrong<'static>> {
-    *names = Names::new(alloc)?;
-    out.push_str("made")?;
-    Ok(())
+fn new(alloc: Global, names: &mut Option<Names>, out: &mut Answer) -> Option<()> {
+    *names = Some(out.got(Names::new(alloc))?);
+    out.put("made");
+    Some(())
 }
 
 /// Puts the number of a name.
-fn put_number<'a>(
-    alloc: Global,
-    names: &mut Names,
-    name: &[&'a str],
-    out: &mut String,
-) -> Result<(), Wrong<'a>> {
-    let name = text(alloc, name)?;
-    let number = names.number(alloc, &name)?;
-    write!(out, "{number}")?;
-    Ok(())
-}
-
-/// Puts how many names there are.
-fn put_len(names: &Names, out: &mut String) -> Result<(), Wrong<'static>> {
-    write!(out, "{}", names.len())?;
-    Ok(())
+fn put_number(alloc: Global, names: &mut Names, name: &[&str], out: &mut Answer) -> Option<()> {
+    let name = text(alloc, name, out)?;
+    let number = out.got(names.number(alloc, &name))?;
+    out.answer(&number)
 }
 
 /// Puts the name of a number.
-fn put_name<'a>(names: &Names, word: &'a str, out: &mut String) -> Result<(), Wrong<'a>> {
-    let number = number::<u32>(word)?;
+fn put_name(names: &Names, words: &[&str], out: &mut Answer) -> Option<()> {
+    let [word] = words else {
+        return out.wrong("no number");
+    };
+    let number = number::<u32>(word, out)?;
     if number >= names.len() {
-        return Err(Wrong::Word("no name of the number", word));
+        return out.wrong_word("no name of the number", word);
     }
-    put_text(out, names.text(number))?;
-    Ok(())
+    out.quoted(names.text(number));
+    Some(())
 }
 
 /// Puts the verification type of a field descriptor.
-fn put_kind<'a>(
-    alloc: Global,
-    names: &mut Names,
-    desc: &'a str,
-    out: &mut String,
-) -> Result<(), Wrong<'a>> {
-    if !is_field_descriptor(desc.as_bytes()) {
-        return Err(Wrong::Word("no field descriptor", desc));
-    }
-    let kind = field_type(desc.as_bytes()).kind(alloc, names)?;
-    write!(out, "{kind:?} slots {}", kind.slots())?;
-    Ok(())
-}
-
-/// Puts the state in which a method begins.
-fn put_entry(out: &mut String, entry: Result<State, Fail<Refusal>>) -> Result<(), Wrong<'static>> {
-    match entry {
-        Ok(state) => put_state(out, &state)?,
-        Err(Fail::Said(refusal)) => put_refusal(out, &refusal)?,
-        Err(Fail::Memory) => return Err(Wrong::Memory),
-    }
-    Ok(())
-}
-
-/// The state in which a method begins, by the words of its class, name, descriptor, flags and local variables.
-fn entry<'a>(
-    alloc: Global,
-    names: &mut Names,
-    words: &[&'a str],
-    out: &mut String,
-) -> Result<(), Wrong<'a>> {
-    let [owner, name, desc, flags, most] = words else {
-        return Err(Wrong::Line("no method"));
+fn put_kind(alloc: Global, names: &mut Names, words: &[&str], out: &mut Answer) -> Option<()> {
+    let [desc] = words else {
+        return out.wrong("no field descriptor");
     };
-    let flags = number::<u16>(flags)?;
-    let most = number::<u16>(most)?;
+    if !is_field_descriptor(desc.as_bytes()) {
+        return out.wrong_word("no field descriptor", desc);
+    }
+    let kind = out.got(field_type(desc.as_bytes()).kind(alloc, names))?;
+    out.debug(&kind);
+    out.label(" slots ", &kind.slots());
+    Some(())
+}
+
+/// The state in which a method begins, by its class, name and descriptor, its flags and its local variables.
+fn entry(alloc: Global, names: &mut Names, words: &[&str], out: &mut Answer) -> Option<()> {
+    let [owner, name, desc, flags, most] = words else {
+        return out.wrong("no method");
+    };
+    let flags = number::<u16>(flags, out)?;
+    let most = number::<u16>(most, out)?;
     let desc = desc.as_bytes();
     if !is_method_descriptor(desc) {
-        return Err(Wrong::Line("no method descriptor"));
+        return out.wrong("no method descriptor");
     }
     let (owner, name) = (owner.as_bytes(), name.as_bytes());
-    put_entry(
-        out,
-        entry_state(alloc, owner, name, desc, flags, most, names),
-    )
+    let state = entry_state(alloc, owner, name, desc, flags, most, names);
+    put_state(&out.accepted(state)?, out);
+    Some(())
 }
 
 /// Puts the local variables with `Top` in those that are left of so many.
-fn put_filled<'a>(
-    alloc: Global,
-    most: &'a str,
-    word: &'a str,
-    out: &mut String,
-) -> Result<(), Wrong<'a>> {
-    let mut locals = kinds(alloc, word)?;
-    put_tops(&mut locals, number::<usize>(most)?)?;
-    write!(out, "{:?}", locals.as_slice())?;
-    Ok(())
+fn put_filled(alloc: Global, words: &[&str], out: &mut Answer) -> Option<()> {
+    let [most, word] = words else {
+        return out.wrong("no local variables");
+    };
+    let most = number::<usize>(most, out)?;
+    let mut locals = kinds(alloc, word, out)?;
+    out.got(put_tops(&mut locals, most))?;
+    out.debug(&locals.as_slice());
+    Some(())
 }
 
-/// What a call answers.
-pub fn answer<'a>(
+/// What a call on the names answers.
+fn of_names(
     alloc: Global,
     names: &mut Names,
-    words: &[&'a str],
-    out: &mut String,
-) -> Result<(), Wrong<'a>> {
-    match words {
-        ["new"] => new(alloc, names, out),
-        ["number", name @ ..] => put_number(alloc, names, name, out),
-        ["len"] => put_len(names, out),
-        ["text", number] => put_name(names, number, out),
-        ["kind", desc] => put_kind(alloc, names, desc, out),
-        ["entry_state", method @ ..] => entry(alloc, names, method, out),
-        ["put_tops", most, locals] => put_filled(alloc, most, locals, out),
-        words => Err(unknown(words)),
+    call: &str,
+    words: &[&str],
+    out: &mut Answer,
+) -> Option<()> {
+    match call {
+        "number" => put_number(alloc, names, words, out),
+        "len" => out.answer(&names.len()),
+        "text" => put_name(names, words, out),
+        "kind" => put_kind(alloc, names, words, out),
+        "entry_state" => entry(alloc, names, words, out),
+        "put_tops" => put_filled(alloc, words, out),
+        call => out.unknown_word(call),
+    }
+}
+
+/// What a call answers. The calls behind `new` are on the names that it makes.
+pub fn answer(
+    alloc: Global,
+    names: &mut Option<Names>,
+    words: &[&str],
+    out: &mut Answer,
+) -> Option<()> {
+    let [call, words @ ..] = words else {
+        return out.wrong("no call");
+    };
+    if *call == "new" {
+        return new(alloc, names, out);
+    }
+    match names {
+        Some(names) => of_names(alloc, names, call, words, out),
+        None => out.wrong("no names"),
     }
 }

@@ -1,94 +1,76 @@
 //! Big-endian numbers and pieces of bytes.
 
-use crate::bytes::{put_0x, spelled};
-use crate::words::number;
-use crate::wrong::Wrong;
 use jc_base::{Fail, Reader, Refusal, Short, byte_item, piece_item, u16_item, u32_item};
-use std::alloc::{AllocError, Global};
-use std::fmt::{Debug, Write};
-
-/// Puts a refusal: its reason, its method if it has one, and its place.
-pub fn put_refusal(out: &mut String, refusal: &Refusal) -> Result<(), AllocError> {
-    let kind = refusal.kind;
-    let place = refusal.place;
-    match refusal.method {
-        Some(method) => write!(out, "refused {kind:?} in method {method} at {place}"),
-        None => write!(out, "refused {kind:?} at {place}"),
-    }
-}
+use std::alloc::Global;
+use std::fmt::Debug;
+use tests_lines::{Answer, bytes, number};
 
 /// Puts a number that was read.
-fn put_number(out: &mut String, read: Result<u64, Short>) -> Result<(), AllocError> {
+fn put_number(read: Result<u64, Short>, out: &mut Answer) -> Option<()> {
     match read {
-        Ok(number) => write!(out, "{number:#x}"),
-        Err(Short) => out.push_str("Short"),
+        Ok(number) => out.hexadecimal(number),
+        Err(Short) => out.put("Short"),
     }
+    Some(())
 }
 
 /// Puts a piece that was read.
-fn put_piece(out: &mut String, read: Result<&[u8], Short>) -> Result<(), AllocError> {
+fn put_piece(read: Result<&[u8], Short>, out: &mut Answer) -> Option<()> {
     match read {
-        Ok(piece) => put_0x(out, piece),
-        Err(Short) => out.push_str("Short"),
+        Ok(piece) => out.bytes_0x(piece),
+        Err(Short) => out.put("Short"),
     }
+    Some(())
 }
 
-/// Puts an item of a class file.
-fn put_item<T: Debug + Drop>(
-    out: &mut String,
-    item: Result<T, Fail<Refusal>>,
-) -> Result<(), Wrong<'static>> {
-    match item {
-        Ok(item) => write!(out, "{item:?}")?,
-        Err(Fail::Said(refusal)) => put_refusal(out, &refusal)?,
-        Err(Fail::Memory) => return Err(Wrong::Memory),
+/// Puts an item of a class file, or why it is refused.
+fn put_item<T: Debug + Drop>(item: Result<T, Fail<Refusal>>, out: &mut Answer) -> Option<()> {
+    if let Some(item) = out.accepted(item) {
+        out.debug(&item);
     }
-    Ok(())
+    Some(())
 }
 
 /// Reads an item of a class file, and puts it.
-fn item<'a>(reader: &mut Reader<'_>, step: &'a str, out: &mut String) -> Result<(), Wrong<'a>> {
+fn item(reader: &mut Reader<'_>, step: &str, out: &mut Answer) -> Option<()> {
     match step {
-        "byte_item" => put_item(out, byte_item(reader)),
-        "u16_item" => put_item(out, u16_item(reader)),
-        "u32_item" => put_item(out, u32_item(reader)),
+        "byte_item" => put_item(byte_item(reader), out),
+        "u16_item" => put_item(u16_item(reader), out),
+        "u32_item" => put_item(u32_item(reader), out),
         step => match step.strip_prefix("piece_item:") {
-            Some(size) => put_item(out, piece_item(reader, number::<u32>(size)?)),
-            None => Err(Wrong::Word("unknown word", step)),
+            Some(size) => put_item(piece_item(reader, number::<u32>(size, out)?), out),
+            None => out.unknown_word(step),
         },
     }
 }
 
 /// Reads a number or a piece, or tells where the reader stands.
-fn read<'a>(reader: &mut Reader<'_>, step: &'a str, out: &mut String) -> Result<(), Wrong<'a>> {
+fn read(reader: &mut Reader<'_>, step: &str, out: &mut Answer) -> Option<()> {
     match step {
-        "place" => write!(out, "{}", reader.place())?,
-        "u8" => put_number(out, reader.u8().map(u64::from))?,
-        "u16" => put_number(out, reader.u16().map(u64::from))?,
-        "u32" => put_number(out, reader.u32().map(u64::from))?,
-        "u64" => put_number(out, reader.u64())?,
+        "place" => out.answer(&reader.place()),
+        "u8" => put_number(reader.u8().map(u64::from), out),
+        "u16" => put_number(reader.u16().map(u64::from), out),
+        "u32" => put_number(reader.u32().map(u64::from), out),
+        "u64" => put_number(reader.u64(), out),
         step => match step.strip_prefix("take:") {
-            Some(size) => put_piece(out, reader.take(number::<u32>(size)?))?,
-            None => item(reader, step, out)?,
+            Some(size) => put_piece(reader.take(number::<u32>(size, out)?), out),
+            None => item(reader, step, out),
         },
     }
-    Ok(())
 }
 
 /// What a reader of the bytes answers step by step.
-pub fn answer<'a>(
-    alloc: Global,
-    text: &'a str,
-    steps: &[&'a str],
-    out: &mut String,
-) -> Result<(), Wrong<'a>> {
-    let bytes = spelled(alloc, &[text])?;
+pub fn answer(alloc: Global, words: &[&str], out: &mut Answer) -> Option<()> {
+    let [text, steps @ ..] = words else {
+        return out.unknown_word("reader");
+    };
+    let bytes = bytes(alloc, &[*text], out)?;
     let mut reader = Reader::new(&bytes);
     for (number, step) in steps.iter().enumerate() {
         if number > 0 {
-            out.push_str(", ")?;
+            out.put(", ");
         }
         read(&mut reader, step, out)?;
     }
-    Ok(())
+    Some(())
 }

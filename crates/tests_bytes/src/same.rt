@@ -2,63 +2,44 @@
 
 use crate::kinds::{kind, state};
 use crate::uses::{use_of, what};
-use crate::wrong::{Wrong, unknown};
 use std::alloc::Global;
-use std::fmt::Write;
+use tests_lines::Answer;
 
-/// Puts whether two types are one.
-fn kinds<'a>(first: &'a str, second: &'a str, out: &mut String) -> Result<(), Wrong<'a>> {
-    let same = kind(first)?.is_same(kind(second)?);
-    write!(out, "{same}")?;
-    Ok(())
+/// Whether two types are one.
+fn kinds(first: &str, second: &str, out: &mut Answer) -> Option<()> {
+    let first = kind(first, out)?;
+    let second = kind(second, out)?;
+    out.answer(&first.is_same(second))
 }
 
-/// Puts whether two states are equal.
-fn states<'a>(
-    alloc: Global,
-    first: &'a str,
-    second: &'a str,
-    out: &mut String,
-) -> Result<(), Wrong<'a>> {
-    let first = state(alloc, first)?;
-    let same = first.is_same(&state(alloc, second)?);
-    write!(out, "{same}")?;
-    Ok(())
+/// Whether two states are equal.
+fn states(alloc: Global, first: &str, second: &str, out: &mut Answer) -> Option<()> {
+    let first = state(alloc, first, out)?;
+    let second = state(alloc, second, out)?;
+    out.answer(&first.is_same(&second))
 }
 
-/// Puts whether the same stands at two places.
-fn whats<'a>(
-    alloc: Global,
-    first: &'a str,
-    second: &'a str,
-    out: &mut String,
-) -> Result<(), Wrong<'a>> {
-    let first = what(alloc, first)?;
-    let same = first.is_same(&what(alloc, second)?);
-    write!(out, "{same}")?;
-    Ok(())
+/// Whether the same stands at two places.
+fn whats(alloc: Global, first: &str, second: &str, out: &mut Answer) -> Option<()> {
+    let first = what(alloc, first, out)?;
+    let second = what(alloc, second, out)?;
+    out.answer(&first.is_same(&second))
 }
 
-/// Puts whether two uses are equal.
-fn uses<'a>(
-    alloc: Global,
-    first: &'a str,
-    second: &'a str,
-    out: &mut String,
-) -> Result<(), Wrong<'a>> {
-    let first = use_of(alloc, first)?;
-    let same = first.is_same(&use_of(alloc, second)?);
-    write!(out, "{same}")?;
-    Ok(())
+/// Whether two uses are equal.
+fn uses(alloc: Global, first: &str, second: &str, out: &mut Answer) -> Option<()> {
+    let first = use_of(alloc, first, out)?;
+    let second = use_of(alloc, second, out)?;
+    out.answer(&first.is_same(&second))
 }
 
 /// What a call answers.
-pub fn answer<'a>(alloc: Global, words: &[&'a str], out: &mut String) -> Result<(), Wrong<'a>> {
+pub fn answer(alloc: Global, words: &[&str], out: &mut Answer) -> Option<()> {
     match words {
         ["kind", first, second] => kinds(first, second, out),
         ["state", first, second] => states(alloc, first, second, out),
         ["what", first, second] => whats(alloc, first, second, out),
         ["use", first, second] => uses(alloc, first, second, out),
-        words => Err(unknown(words)),
+        words => out.unknown(words),
     }
 }

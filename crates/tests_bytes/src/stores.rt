@@ -1,168 +1,165 @@
 //! Execution data.
 
-use crate::bytes::{put_bytes, put_text, spelled};
-use crate::words::{bits, id, short};
-use crate::wrong::{Wrong, unknown};
 use jc_base::{Bytes, Fail, List, is_modified};
 use jc_exec::{ClassHits, ExecRefusal, ExecStore};
-use std::alloc::{AllocError, Global};
-use std::fmt::Write;
+use std::alloc::Global;
+use tests_lines::{Answer, bits, bytes};
 
 /// Makes a store of nothing.
-fn new(alloc: Global, store: &mut ExecStore, out: &mut String) -> Result<(), Wrong<'static>> {
-    *store = ExecStore::new(alloc)?;
-    out.push_str("made")?;
-    Ok(())
+fn new(alloc: Global, store: &mut Option<ExecStore>, out: &mut Answer) -> Option<()> {
+    *store = Some(out.got(ExecStore::new(alloc))?);
+    out.put("made");
+    Some(())
 }
 
-/// Puts a clash of two records: the class id, and the names and the numbers of probes.
-fn put_conflict(
-    out: &mut String,
-    id: u64,
-    names: [&[u8]; 2],
-    counts: [u32; 2],
-) -> Result<(), AllocError> {
-    write!(out, "Conflict {id:016x} ")?;
-    put_text(out, names[0])?;
-    write!(out, " {} ", counts[0])?;
-    put_text(out, names[1])?;
-    write!(out, " {}", counts[1])
+/// Puts the name of a class and the number of its probes.
+fn put_probes(name: &[u8], count: u32, out: &mut Answer) {
+    out.put(" ");
+    out.quoted(name);
+    out.label(" ", &count);
 }
 
 /// Puts why execution data is refused.
-fn put_why(out: &mut String, why: &ExecRefusal) -> Result<(), AllocError> {
+fn put_why(why: &ExecRefusal, out: &mut Answer) {
     match why {
-        ExecRefusal::BadExec { place } => write!(out, "BadExec {place}"),
-        ExecRefusal::OtherVersion { found } => write!(out, "OtherVersion {found:x}"),
+        ExecRefusal::BadExec { place } => out.label("BadExec ", place),
+        ExecRefusal::OtherVersion { found } => {
+            out.put("OtherVersion ");
+            out.digits(u64::from(*found));
+        }
         ExecRefusal::Conflict {
             id,
             first,
             second,
             first_count,
             second_count,
-        } => put_conflict(out, *id, [first, second], [*first_count, *second_count]),
+        } => {
+            out.put("Conflict ");
+            out.id(*id);
+            put_probes(first, *first_count, out);
+            put_probes(second, *second_count, out);
+        }
     }
 }
 
 /// Puts what came of an addition.
-fn put_outcome(
-    out: &mut String,
-    outcome: Result<(), Fail<ExecRefusal>>,
-) -> Result<(), Wrong<'static>> {
+fn put_outcome(outcome: Result<(), Fail<ExecRefusal>>, out: &mut Answer) -> Option<()> {
     match outcome {
-        Ok(()) => out.push_str("added")?,
-        Err(Fail::Said(why)) => put_why(out, &why)?,
-        Err(Fail::Memory) => return Err(Wrong::Memory),
+        Ok(()) => out.put("added"),
+        Err(Fail::Said(why)) => put_why(&why, out),
+        Err(Fail::Memory) => return out.lose(),
     }
-    Ok(())
+    Some(())
 }
 
 /// Adds a file of execution data.
-fn read<'a>(
-    alloc: Global,
-    store: &mut ExecStore,
-    text: &[&'a str],
-    out: &mut String,
-) -> Result<(), Wrong<'a>> {
-    let bytes = spelled(alloc, text)?;
-    put_outcome(out, store.read(alloc, &bytes))
+fn read(alloc: Global, store: &mut ExecStore, words: &[&str], out: &mut Answer) -> Option<()> {
+    let bytes = bytes(alloc, words, out)?;
+    put_outcome(store.read(alloc, &bytes), out)
 }
 
-/// The record of a class.
-fn record(alloc: Global, id: u64, name: &[u8], bits: List<bool>) -> Result<ClassHits, AllocError> {
-    let name = Bytes::copy_of(alloc, name)?;
-    Ok(ClassHits { id, name, bits })
+/// The number that a word spells in hexadecimal digits.
+fn id(word: &str, out: &mut Answer) -> Option<u64> {
+    match u64::from_str_radix(word, 16) {
+        Ok(id) => Some(id),
+        Err(_) => out.wrong_word("no hexadecimal number", word),
+    }
 }
 
 /// Adds a record.
-fn add<'a>(
-    alloc: Global,
-    store: &mut ExecStore,
-    hits: &ClassHits,
-    out: &mut String,
-) -> Result<(), Wrong<'a>> {
+fn add(alloc: Global, store: &mut ExecStore, hits: &ClassHits, out: &mut Answer) -> Option<()> {
     if hits.bits.len() > 65535 || (hits.name.len() > 65535 || !is_modified(&hits.name)) {
-        return Err(Wrong::Line("no record"));
+        return out.wrong("no record");
     }
-    put_outcome(out, store.add(alloc, hits))
+    put_outcome(store.add(alloc, hits), out)
 }
 
-/// Adds the record of these words.
-fn add_words<'a>(
+/// Adds the record of a class.
+fn add_record(
     alloc: Global,
     store: &mut ExecStore,
-    words: [&'a str; 3],
-    out: &mut String,
-) -> Result<(), Wrong<'a>> {
-    let [class, name, hits] = words;
-    let class = id(class)?;
-    let bits = bits(alloc, hits)?;
-    let record = record(alloc, class, short(name)?, bits)?;
-    add(alloc, store, &record, out)
+    [class, name, hits]: [&str; 3],
+    out: &mut Answer,
+) -> Option<()> {
+    let id = id(class, out)?;
+    let bits = List::from_vec(bits(alloc, hits, out)?);
+    let name = out.got(Bytes::copy_of(alloc, name.as_bytes()))?;
+    add(alloc, store, &ClassHits { id, name, bits }, out)
 }
 
 /// Puts a record: its class id, its name and a digit for each probe.
-fn put_record(out: &mut String, hits: &ClassHits) -> Result<(), AllocError> {
-    write!(out, "{:016x} ", hits.id)?;
-    put_text(out, &hits.name)?;
-    out.push_str(" [")?;
-    for bit in hits.bits.as_slice() {
-        out.push_str(if *bit { "1" } else { "0" })?;
-    }
-    out.push_str("]")
+fn put_record(hits: &ClassHits, out: &mut Answer) {
+    out.id(hits.id);
+    out.put(" ");
+    out.quoted(&hits.name);
+    out.put(" [");
+    out.bits(hits.bits.as_slice());
+    out.put("]");
 }
 
 /// Puts the record of a class id.
-fn get<'a>(store: &ExecStore, word: &'a str, out: &mut String) -> Result<(), Wrong<'a>> {
-    match store.get(id(word)?) {
-        Some(hits) => put_record(out, hits)?,
-        None => out.push_str("none")?,
+fn get(store: &ExecStore, word: &str, out: &mut Answer) -> Option<()> {
+    match store.get(id(word, out)?) {
+        Some(hits) => put_record(hits, out),
+        None => out.put("none"),
     }
-    Ok(())
+    Some(())
 }
 
 /// Puts the records.
-fn put_records(store: &ExecStore, out: &mut String) -> Result<(), Wrong<'static>> {
+fn put_records(store: &ExecStore, out: &mut Answer) -> Option<()> {
     for hits in store.classes() {
-        put_record(out, hits)?;
-        out.push_str(", ")?;
+        put_record(hits, out);
+        out.put(", ");
     }
-    out.push_str("end")?;
-    Ok(())
+    out.put("end");
+    Some(())
 }
 
 /// Puts the sessions: the name, the start and the dump.
-fn put_sessions(store: &ExecStore, out: &mut String) -> Result<(), Wrong<'static>> {
+fn put_sessions(store: &ExecStore, out: &mut Answer) -> Option<()> {
     for session in store.sessions() {
-        put_text(out, &session.id)?;
-        write!(out, " {} {}, ", session.start, session.dump)?;
+        out.quoted(&session.id);
+        out.label(" ", &session.start);
+        out.label(" ", &session.dump);
+        out.put(", ");
     }
-    out.push_str("end")?;
-    Ok(())
+    out.put("end");
+    Some(())
 }
 
 /// Puts the bytes of the store.
-fn write_store(alloc: Global, store: &ExecStore, out: &mut String) -> Result<(), Wrong<'static>> {
-    let bytes = store.write(alloc)?;
-    put_bytes(out, &bytes)?;
-    Ok(())
+fn write_store(alloc: Global, store: &ExecStore, out: &mut Answer) -> Option<()> {
+    let bytes = out.got(store.write(alloc))?;
+    out.bytes(&bytes);
+    Some(())
 }
 
-/// What a call answers.
-pub fn answer<'a>(
-    alloc: Global,
-    store: &mut ExecStore,
-    words: &[&'a str],
-    out: &mut String,
-) -> Result<(), Wrong<'a>> {
+/// What a call on a store answers.
+fn of_store(alloc: Global, store: &mut ExecStore, words: &[&str], out: &mut Answer) -> Option<()> {
     match words {
-        ["new"] => new(alloc, store, out),
         ["read", text @ ..] => read(alloc, store, text, out),
-        ["add", class, name, hits] => add_words(alloc, store, [class, name, hits], out),
+        ["add", class, name, hits] => add_record(alloc, store, [class, name, hits], out),
         ["get", class] => get(store, class, out),
         ["sessions"] => put_sessions(store, out),
         ["classes"] => put_records(store, out),
         ["write"] => write_store(alloc, store, out),
-        words => Err(unknown(words)),
+        words => out.unknown(words),
+    }
+}
+
+/// What a call answers. The calls behind `new` are on the store that it makes.
+pub fn answer(
+    alloc: Global,
+    store: &mut Option<ExecStore>,
+    words: &[&str],
+    out: &mut Answer,
+) -> Option<()> {
+    match words {
+        ["new"] => new(alloc, store, out),
+        words => match store {
+            Some(store) => of_store(alloc, store, words, out),
+            None => out.wrong("no store"),
+        },
     }
 }

@@ -1,44 +1,41 @@
 //! Modified UTF-8.
-
-use crate::bytes::{put_0x, spelled};
-use crate::wrong::{Wrong, unknown};
 use jc_base::{first_unit, is_modified};
 use jc_pool::text_of;
 use std::alloc::Global;
-use std::fmt::Write;
+use tests_lines::{Answer, bytes};
 
 /// Puts the first unit of the bytes, and the bytes behind it.
-fn put_first(bytes: &[u8], out: &mut String) -> Result<(), Wrong<'static>> {
+fn put_first(bytes: &[u8], out: &mut Answer) -> Option<()> {
     match first_unit(bytes) {
         Some((unit, rest)) => {
-            write!(out, "{unit:#x} and ")?;
-            put_0x(out, rest)?;
+            out.hexadecimal(u64::from(unit));
+            out.put(" and ");
+            out.bytes_0x(rest);
         }
-        None => out.push_str("none")?,
+        None => out.put("none"),
     }
-    Ok(())
+    Some(())
 }
 
 /// Puts the text that the bytes spell.
-fn put_text_of(alloc: Global, bytes: &[u8], out: &mut String) -> Result<(), Wrong<'static>> {
-    match text_of(alloc, bytes)? {
-        Some(text) => write!(out, "{text:?}")?,
-        None => out.push_str("none")?,
+fn put_text_of(alloc: Global, bytes: &[u8], out: &mut Answer) -> Option<()> {
+    match out.got(text_of(alloc, bytes))? {
+        Some(text) => out.debug(&text),
+        None => out.put("none"),
     }
-    Ok(())
+    Some(())
 }
 
 /// What a call answers.
-pub fn answer<'a>(alloc: Global, words: &[&'a str], out: &mut String) -> Result<(), Wrong<'a>> {
+pub fn answer(alloc: Global, words: &[&str], out: &mut Answer) -> Option<()> {
     let [call, text @ ..] = words else {
-        return Err(unknown(words));
+        return out.unknown(words);
     };
-    let bytes = spelled(alloc, text)?;
+    let bytes = bytes(alloc, text, out)?;
     match *call {
-        "is_modified" => write!(out, "{}", is_modified(&bytes))?,
-        "first_unit" => put_first(&bytes, out)?,
-        "text_of" => put_text_of(alloc, &bytes, out)?,
-        call => return Err(Wrong::Word("unknown word", call)),
+        "is_modified" => out.answer(&is_modified(&bytes)),
+        "first_unit" => put_first(&bytes, out),
+        "text_of" => put_text_of(alloc, &bytes, out),
+        call => out.unknown_word(call),
     }
-    Ok(())
 }

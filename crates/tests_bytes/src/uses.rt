@@ -1,141 +1,126 @@
 //! What stands in a pool at places that a body uses, as words spell it.
 
-use crate::bytes::put_text;
-use crate::words::{number, short};
-use crate::wrong::Wrong;
 use jc_base::{Bytes, List, Use, What};
-use std::alloc::{AllocError, Global};
-use std::fmt::Write;
+use std::alloc::Global;
+use tests_lines::{Answer, number};
 
 /// A list of the bytes of a word.
-fn text(alloc: Global, word: &str) -> Result<Bytes, Wrong<'_>> {
-    Ok(Bytes::copy_of(alloc, short(word)?)?)
-}
-
-/// A field.
-fn field<'a>(
-    alloc: Global,
-    class: &'a str,
-    name: &'a str,
-    desc: &'a str,
-) -> Result<What, Wrong<'a>> {
-    let class = text(alloc, class)?;
-    let name = text(alloc, name)?;
-    let desc = text(alloc, desc)?;
-    Ok(What::Field { class, name, desc })
-}
-
-/// A method.
-fn method<'a>(
-    alloc: Global,
-    class: &'a str,
-    name: &'a str,
-    desc: &'a str,
-) -> Result<What, Wrong<'a>> {
-    let class = text(alloc, class)?;
-    let name = text(alloc, name)?;
-    let desc = text(alloc, desc)?;
-    Ok(What::Method { class, name, desc })
+fn text(alloc: Global, word: &str, out: &mut Answer) -> Option<Bytes> {
+    out.got(Bytes::copy_of(alloc, word.as_bytes()))
 }
 
 /// A call that is linked at run time.
-fn call<'a>(alloc: Global, name: &'a str, desc: &'a str) -> Result<What, Wrong<'a>> {
-    let name = text(alloc, name)?;
-    let desc = text(alloc, desc)?;
-    Ok(What::Call { name, desc })
+fn call(alloc: Global, name: &str, desc: &str, out: &mut Answer) -> Option<What> {
+    let name = text(alloc, name, out)?;
+    let desc = text(alloc, desc, out)?;
+    Some(What::Call { name, desc })
 }
 
-/// What a word with these parts spells.
-fn of_parts<'a>(alloc: Global, word: &'a str, parts: &[&'a str]) -> Result<What, Wrong<'a>> {
-    match parts {
-        ["Field", class, name, desc] => field(alloc, class, name, desc),
-        ["Method", class, name, desc] => method(alloc, class, name, desc),
-        ["Call", name, desc] => call(alloc, name, desc),
-        ["Class", name] => Ok(What::Class(text(alloc, name)?)),
-        ["Int", value] => Ok(What::Int(number::<i32>(value)?)),
-        ["Long", value] => Ok(What::Long(number::<i64>(value)?)),
-        ["Computed", desc] => Ok(What::Computed {
-            desc: text(alloc, desc)?,
+/// A field or a method.
+fn member(
+    alloc: Global,
+    is_field: bool,
+    [class, name, desc]: [&str; 3],
+    out: &mut Answer,
+) -> Option<What> {
+    let class = text(alloc, class, out)?;
+    let name = text(alloc, name, out)?;
+    let desc = text(alloc, desc, out)?;
+    Some(if is_field {
+        What::Field { class, name, desc }
+    } else {
+        What::Method { class, name, desc }
+    })
+}
+
+/// A constant whose value isn't told.
+fn untold(word: &str, out: &mut Answer) -> Option<What> {
+    match word {
+        "Float" => Some(What::Float),
+        "Double" => Some(What::Double),
+        "Text" => Some(What::Text),
+        "Handle" => Some(What::Handle),
+        "MethodKind" => Some(What::MethodKind),
+        word => out.wrong_word("no use", word),
+    }
+}
+
+/// A class, or a constant with a value or a descriptor.
+fn constant(alloc: Global, form: &str, value: &str, out: &mut Answer) -> Option<What> {
+    match form {
+        "Class" => Some(What::Class(text(alloc, value, out)?)),
+        "Int" => Some(What::Int(number::<i32>(value, out)?)),
+        "Long" => Some(What::Long(number::<i64>(value, out)?)),
+        "Computed" => Some(What::Computed {
+            desc: text(alloc, value, out)?,
         }),
-        ["Float"] => Ok(What::Float),
-        ["Double"] => Ok(What::Double),
-        ["Text"] => Ok(What::Text),
-        ["Handle"] => Ok(What::Handle),
-        ["MethodKind"] => Ok(What::MethodKind),
-        _ => Err(Wrong::Word("no use", word)),
+        form => out.wrong_word("no use", form),
+    }
+}
+
+/// What these parts of a word spell.
+fn of_parts(alloc: Global, parts: &[&str], out: &mut Answer) -> Option<What> {
+    match parts {
+        ["Field", class, name, desc] => member(alloc, true, [*class, *name, *desc], out),
+        ["Method", class, name, desc] => member(alloc, false, [*class, *name, *desc], out),
+        ["Call", name, desc] => call(alloc, name, desc, out),
+        [form, value] => constant(alloc, form, value, out),
+        [word] => untold(word, out),
+        _ => out.wrong("no use"),
     }
 }
 
 /// What a word spells, with `:` between its parts.
-pub fn what<'a>(alloc: Global, word: &'a str) -> Result<What, Wrong<'a>> {
-    let parts: Vec<&str> = word.split(':').collect(alloc)?;
-    of_parts(alloc, word, &parts)
+pub fn what(alloc: Global, word: &str, out: &mut Answer) -> Option<What> {
+    let parts: Vec<&str> = out.got(word.split(':').collect(alloc))?;
+    of_parts(alloc, &parts, out)
 }
 
 /// The place and what stands there that a word spells.
-pub fn use_of<'a>(alloc: Global, word: &'a str) -> Result<Use, Wrong<'a>> {
+pub fn use_of(alloc: Global, word: &str, out: &mut Answer) -> Option<Use> {
     let Some((place, rest)) = word.split_once(':') else {
-        return Err(Wrong::Word("no use", word));
+        return out.wrong_word("no use", word);
     };
-    let place = number::<u16>(place)?;
-    let what = what(alloc, rest)?;
-    Ok(Use { place, what })
+    let place = number::<u16>(place, out)?;
+    let what = what(alloc, rest, out)?;
+    Some(Use { place, what })
 }
 
-/// Puts the texts of a field, a method or a call.
-fn put_texts(out: &mut String, texts: &[&[u8]]) -> Result<(), AllocError> {
+/// Puts the texts of a field, a method, a call, a class or a constant.
+fn put_texts(form: &str, texts: &[&[u8]], out: &mut Answer) {
+    out.put(form);
     for text in texts {
-        out.push_str(" ")?;
-        put_text(out, text)?;
+        out.put(" ");
+        out.quoted(text);
     }
-    Ok(())
 }
 
 /// Puts what stands at a place.
-fn put_what(out: &mut String, what: &What) -> Result<(), AllocError> {
+fn put_what(what: &What, out: &mut Answer) {
     match what {
-        What::Field { class, name, desc } => {
-            out.push_str("Field")?;
-            put_texts(out, &[class, name, desc])
-        }
-        What::Method { class, name, desc } => {
-            out.push_str("Method")?;
-            put_texts(out, &[class, name, desc])
-        }
-        What::Call { name, desc } => {
-            out.push_str("Call")?;
-            put_texts(out, &[name, desc])
-        }
-        other => put_constant(out, other),
-    }
-}
-
-/// Puts a constant that stands at a place.
-fn put_constant(out: &mut String, what: &What) -> Result<(), AllocError> {
-    match what {
-        What::Class(name) => {
-            out.push_str("Class")?;
-            put_texts(out, &[name])
-        }
-        What::Computed { desc } => {
-            out.push_str("Computed")?;
-            put_texts(out, &[desc])
-        }
-        other => write!(out, "{other:?}"),
+        What::Field { class, name, desc } => put_texts("Field", &[class, name, desc], out),
+        What::Method { class, name, desc } => put_texts("Method", &[class, name, desc], out),
+        What::Call { name, desc } => put_texts("Call", &[name, desc], out),
+        What::Class(name) => put_texts("Class", &[name], out),
+        What::Computed { desc } => put_texts("Computed", &[desc], out),
+        other => out.debug(other),
     }
 }
 
 /// Puts a place and what stands there.
-pub fn put_use(out: &mut String, entry: &Use) -> Result<(), AllocError> {
-    write!(out, "{} ", entry.place)?;
-    put_what(out, &entry.what)
+pub fn put_use(entry: &Use, out: &mut Answer) {
+    out.show(&entry.place);
+    out.put(" ");
+    put_what(&entry.what, out);
 }
 
 /// The places and what stands there that words spell.
-pub fn uses<'a>(alloc: Global, words: &[&'a str]) -> Result<List<Use>, Wrong<'a>> {
+pub fn uses(alloc: Global, words: &[&str], out: &mut Answer) -> Option<List<Use>> {
     let mut uses = List::new(alloc);
     for word in words {
-        uses.push(use_of(alloc, word)?)?;
+        let entry = use_of(alloc, word, out)?;
+        let pushed = uses.push(entry);
+        out.got(pushed)?;
     }
-    Ok(uses)
+    Some(uses)
 }

@@ -2,23 +2,21 @@
 ghost use Rattle.std.specs.Prelude.{◌≡◌, ◌≤◌};
 
 use crate::shown::put_bytes;
-use crate::stop::Stop;
-use crate::words::numbers;
 use jc_bytes::List;
 use jc_instrument_code::{AddedPlaces, merged_frames, write_init};
 use jc_methods::{FrameAt, State};
-use std::alloc::{AllocError, Global};
+use std::alloc::Global;
+use tests_lines::{Answer, numbers};
 
 /// The most probes of a class.
 const MOST_PROBES: u16 = 32_767;
 
 /// Puts what a call that takes numbers alone answers.
-pub fn answer<'a>(alloc: Global, out: &mut String, words: &[&'a str]) -> Result<(), Stop<'a>> {
-    match words {
-        ["init", rest @ ..] => init(alloc, out, rest),
-        ["merge", rest @ ..] => merged(alloc, out, rest),
-        [word, ..] => Err(Stop::Word(*word)),
-        [] => Err(Stop::Word("")),
+pub fn answer(alloc: Global, call: &str, words: &[&str], out: &mut Answer) -> Option<()> {
+    let numbers = numbers::<u16>(alloc, words, out)?;
+    match call {
+        "init" => init(alloc, &numbers, out),
+        _ => merged(alloc, &numbers, out),
     }
 }
 
@@ -39,28 +37,22 @@ fn places(numbers: &[u16]) -> Option<AddedPlaces> {
 
 /// Puts the text of the added method's Code attribute: the places that it names, and behind them how many probes there
 /// are.
-fn init<'a>(alloc: Global, out: &mut String, words: &[&'a str]) -> Result<(), Stop<'a>> {
-    let numbers = numbers(alloc, words)?;
-    match (places(&numbers), numbers.as_slice().last()) {
+fn init(alloc: Global, numbers: &[u16], out: &mut Answer) -> Option<()> {
+    match (places(numbers), numbers.last()) {
         (Some(places), Some(probes)) if *probes <= MOST_PROBES => {
-            init_text(alloc, out, &places, *probes)
+            init_text(alloc, &places, *probes, out)
         }
-        _ => Err(Stop::Word("init")),
+        _ => out.unknown_word("init"),
     }
 }
 
 /// Puts the text of the added method's Code attribute.
-fn init_text<'a>(
-    alloc: Global,
-    out: &mut String,
-    places: &AddedPlaces,
-    probes: u16,
-) -> Result<(), Stop<'a>>
+fn init_text(alloc: Global, places: &AddedPlaces, probes: u16, out: &mut Answer) -> Option<()>
     requires { probes ≤ 32767 }
 {
-    let text = write_init(alloc, places, u32::from(probes))?;
-    put_bytes(out, &text)?;
-    Ok(())
+    let text = out.got(write_init(alloc, places, u32::from(probes)))?;
+    put_bytes(&text, out);
+    Some(())
 }
 
 /// A frame without values.
@@ -77,38 +69,23 @@ fn frame(alloc: Global, at: u16) -> FrameAt
 }
 
 /// Puts where two frames stand, joined with two others.
-fn merged<'a>(alloc: Global, out: &mut String, words: &[&'a str]) -> Result<(), Stop<'a>> {
-    let numbers = numbers(alloc, words)?;
-    match numbers.as_slice() {
-        [first, second, other, last] => {
-            merged_at(alloc, out, [*first, *second], [*other, *last])
+fn merged(alloc: Global, numbers: &[u16], out: &mut Answer) -> Option<()> {
+    match numbers {
+        [first, second, other, last] if first < second && other < last => {
+            let frames = [frame(alloc, *first), frame(alloc, *second)];
+            let further = [frame(alloc, *other), frame(alloc, *last)];
+            let all = out.got(merged_frames(alloc, &frames, &further))?;
+            put_places(&all, out);
+            Some(())
         }
-        _ => Err(Stop::Word("merge")),
+        _ => out.unknown_word("merge"),
     }
-}
-
-/// Puts where two frames stand, joined with two others.
-fn merged_at<'a>(
-    alloc: Global,
-    out: &mut String,
-    places: [u16; 2],
-    others: [u16; 2],
-) -> Result<(), Stop<'a>> {
-    let frames = [frame(alloc, places[0]), frame(alloc, places[1])];
-    let further = [frame(alloc, others[0]), frame(alloc, others[1])];
-    if places[0] >= places[1] || others[0] >= others[1] {
-        return Err(Stop::Word("merge"));
-    }
-    let all = merged_frames(alloc, &frames, &further)?;
-    put_places(out, &all)?;
-    Ok(())
 }
 
 /// Puts where frames stand.
-fn put_places(out: &mut String, frames: &[FrameAt]) -> Result<(), AllocError> {
-    out.push_str("at")?;
+fn put_places(frames: &[FrameAt], out: &mut Answer) {
+    out.put("at");
     for frame in frames {
-        write!(out, " {}", frame.at)?;
+        out.label(" ", &frame.at);
     }
-    Ok(())
 }

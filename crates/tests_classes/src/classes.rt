@@ -2,13 +2,12 @@
 ghost use Rattle.std.specs.Prelude.{◌≤◌, length};
 
 use crate::shown::{put_bytes, put_text};
-use crate::stop::Stop;
-use crate::words::spelled;
 use crate::{attributes, covering, methods};
 use jc_class::read_class;
-use jc_instrument::{Instrumented, analyse, instrument};
+use jc_instrument::{analyse, instrument};
 use jc_methods::Analysed;
-use std::alloc::{AllocError, Global};
+use std::alloc::Global;
+use tests_lines::{Answer, bytes};
 
 /// The most bytes of a class file.
 const MOST: usize = 1_000_000;
@@ -37,130 +36,113 @@ impl ClassBytes {
 }
 
 /// Keeps the bytes that the words spell, and tells how many there are.
-pub fn keep<'a>(
-    alloc: Global,
-    out: &mut String,
-    class: &mut ClassBytes,
-    words: &[&'a str],
-) -> Result<(), Stop<'a>> {
-    *class = ClassBytes {
-        bytes: spelled(alloc, words)?,
-    };
-    write!(out, "{} bytes", class.bytes.len())?;
-    Ok(())
+pub fn keep(alloc: Global, class: &mut ClassBytes, words: &[&str], out: &mut Answer) -> Option<()> {
+    let bytes = bytes(alloc, words, out)?;
+    out.show(&bytes.len());
+    out.put(" bytes");
+    *class = ClassBytes { bytes };
+    Some(())
 }
 
 /// Keeps the class file with its probes, and tells how many there are.
-pub fn keep_instrumented<'a>(
-    alloc: Global,
-    out: &mut String,
-    class: &mut ClassBytes,
-) -> Result<(), Stop<'a>> {
-    let made = instrument(alloc, class.as_slice())?;
-    write!(out, "{} probes", made.probes)?;
+pub fn keep_instrumented(alloc: Global, class: &mut ClassBytes, out: &mut Answer) -> Option<()> {
+    let made = out.accepted(instrument(alloc, class.as_slice()))?;
+    out.show(&made.probes);
+    out.put(" probes");
     let bytes = made.bytes.into_vec();
     if bytes.len() > MOST {
-        return Err(Stop::Word("again"));
+        return out.unknown_word("again");
     }
     *class = ClassBytes { bytes };
-    Ok(())
+    Some(())
 }
 
 /// Puts what a call on the class file answers.
-pub fn answer<'a>(
-    alloc: Global,
-    out: &mut String,
-    bytes: &[u8],
-    words: &[&'a str],
-) -> Result<(), Stop<'a>>
+pub fn answer(alloc: Global, bytes: &[u8], words: &[&str], out: &mut Answer) -> Option<()>
     requires { length bytes.now ≤ 1000000 }
 {
     match words {
-        ["analyse"] => analysed(alloc, out, bytes),
-        ["instrument"] => instrumented(alloc, out, bytes),
-        ["init", ..] | ["merge", ..] => attributes::answer(alloc, out, words),
+        ["analyse"] => put_analysed(alloc, bytes, out),
+        ["instrument"] => put_instrumented(alloc, bytes, out),
+        [call @ ("init" | "merge"), numbers @ ..] => attributes::answer(alloc, call, numbers, out),
         ["covered", _] | ["counters", _] | ["report", _, _] => {
-            covering::answer(alloc, out, bytes, words)
+            covering::answer(alloc, bytes, words, out)
         }
-        [command, number, rest @ ..] => in_class(alloc, out, bytes, *command, *number, rest),
-        [word] => Err(Stop::Word(*word)),
-        [] => Err(Stop::Word("")),
+        [command, number, rest @ ..] => in_class(alloc, bytes, command, number, rest, out),
+        words => out.unknown(words),
     }
 }
 
 /// Puts what a call on the pool or a method of the class file answers.
-fn in_class<'a>(
+fn in_class(
     alloc: Global,
-    out: &mut String,
     bytes: &[u8],
-    command: &'a str,
-    word: &'a str,
-    rest: &[&'a str],
-) -> Result<(), Stop<'a>>
+    command: &str,
+    word: &str,
+    rest: &[&str],
+    out: &mut Answer,
+) -> Option<()>
     requires { length bytes.now ≤ 1000000 }
 {
     if !methods::is_command(command) {
-        return Err(Stop::Word(command));
+        return out.unknown_word(command);
     }
-    let mut class = read_class(alloc, bytes)?;
-    methods::answer(alloc, out, &mut class, command, word, rest)
+    let mut class = out.accepted(read_class(alloc, bytes))?;
+    methods::answer(alloc, &mut class, command, word, rest, out)
 }
 
 /// Puts the name of the superclass, or a dash where there is none, and those of the interfaces.
-fn put_supers(out: &mut String, class: &Analysed) -> Result<(), AllocError> {
+fn put_supers(class: &Analysed, out: &mut Answer) {
     match &class.super_name {
-        Some(name) => put_text(out, name)?,
-        None => out.push_str("-")?,
+        Some(name) => put_text(name, out),
+        None => out.put("-"),
     }
-    out.push_str("; interfaces")?;
+    out.put("; interfaces");
     for name in &class.interfaces {
-        out.push_str(" ")?;
-        put_text(out, name)?;
+        out.put(" ");
+        put_text(name, out);
     }
-    Ok(())
 }
 
 /// Puts the first id behind those of each body.
-fn put_plans(out: &mut String, class: &Analysed) -> Result<(), AllocError> {
-    write!(out, "; bodies {}; next ids", class.bodies.len())?;
+fn put_plans(class: &Analysed, out: &mut Answer) {
+    out.label("; bodies ", &class.bodies.len());
+    out.put("; next ids");
     for plan in &class.plans {
-        write!(out, " {}", plan.next)?;
+        out.label(" ", &plan.next);
     }
-    write!(out, "; probes {}", class.probes)
+    out.label("; probes ", &class.probes);
 }
 
 /// Puts who the class is, its bodies and its probes.
-fn put_analysed(out: &mut String, class: &Analysed) -> Result<(), AllocError> {
-    put_text(out, &class.name)?;
-    write!(out, "; id {:016x}; version {}", class.id, class.version)?;
-    write!(out, "; flags {:04x}; superclass ", class.flags)?;
-    put_supers(out, class)?;
-    put_plans(out, class)
-}
-
-/// Puts who the class is, its bodies and its probes.
-fn analysed<'a>(alloc: Global, out: &mut String, bytes: &[u8]) -> Result<(), Stop<'a>>
+fn put_analysed(alloc: Global, bytes: &[u8], out: &mut Answer) -> Option<()>
     requires { length bytes.now ≤ 1000000 }
 {
-    let class = analyse(alloc, bytes)?;
-    put_analysed(out, &class)?;
-    Ok(())
+    let class = out.accepted(analyse(alloc, bytes))?;
+    put_text(&class.name, out);
+    out.put("; id ");
+    out.id(class.id);
+    out.label("; version ", &class.version);
+    out.put("; flags ");
+    out.flags(class.flags);
+    out.put("; superclass ");
+    put_supers(&class, out);
+    put_plans(&class, out);
+    Some(())
 }
 
 /// Puts the class file with its probes, or as it was.
-fn put_instrumented(out: &mut String, made: &Instrumented) -> Result<(), AllocError> {
-    out.push_str(if made.changed { "changed" } else { "unchanged" })?;
-    write!(out, "; id {:016x}; probes {}; name ", made.id, made.probes)?;
-    put_text(out, &made.name)?;
-    out.push_str("; bytes ")?;
-    put_bytes(out, &made.bytes)
-}
-
-/// Puts the class file with its probes, or as it was.
-fn instrumented<'a>(alloc: Global, out: &mut String, bytes: &[u8]) -> Result<(), Stop<'a>>
+fn put_instrumented(alloc: Global, bytes: &[u8], out: &mut Answer) -> Option<()>
     requires { length bytes.now ≤ 1000000 }
 {
-    let made = instrument(alloc, bytes)?;
-    put_instrumented(out, &made)?;
-    Ok(())
+    let made = out.accepted(instrument(alloc, bytes))?;
+    out.put(if made.changed { "changed" } else { "unchanged" });
+    out.put("; id ");
+    out.id(made.id);
+    out.label("; probes ", &made.probes);
+    out.put("; name ");
+    put_text(&made.name, out);
+    out.put("; bytes ");
+    put_bytes(&made.bytes, out);
+    Some(())
 }

@@ -1,5 +1,5 @@
 //! Code attributes of instrumented methods, over the constant pool of the class file.
-ghost use Rattle.std.specs.Prelude.{[], length, map, slice_index_or, All, IfOk, IsTrue};
+ghost use Rattle.std.specs.Prelude.{[], length, map, slice_index_or, All, IfSome, IsTrue};
 ghost use Rattle.std.specs.List.{AllByRecursion};
 ghost use Rattle.jc_methods.specs.VerificationTypes.{type_state_at};
 ghost use Rattle.jc_instrument_code.specs.Given.{AreFrames, IsLaid};
@@ -10,13 +10,13 @@ ghost use Rattle.jc_pool.specs.Lookup.{utf8_of};
 ghost use Rattle.tests_classes.specs.Standing.{KindStands, FrameStands};
 
 use crate::shown::put_bytes;
-use crate::stop::Stop;
-use jc_bytes::{Bytes, Names};
+use jc_bytes::Names;
 use jc_instrument_code::{CodePlaces, first_text, write_code};
 use jc_layout::Laid;
 use jc_methods::{Emitted, FrameAt, Kind};
 use jc_pool::Pool;
 use std::alloc::Global;
+use tests_lines::Answer;
 
 /// The most rows of an exception table (JVM Specification 4.7.3).
 const MOST_ROWS: usize = 65_535;
@@ -76,33 +76,24 @@ fn frames_stand(pool: &Pool, names: &Names, frames: &[FrameAt]) -> bool
     each_stands(pool, names, frames)
 }
 
-/// The first place of a text, if it stands in the pool.
-fn place_of<'a>(pool: &Pool, text: &[u8]) -> Result<u16, Stop<'a>>
-    ensures { IfOk result (IsFirst (utf8_of pool.now) text.now) }
-{
-    match first_text(pool, text) {
-        Some(place) => Ok(place),
-        None => Err(Stop::NotInPool),
-    }
-}
-
 /// The places of what a Code attribute names, where the method that the prelude calls stands at this one.
-fn places_of<'a>(pool: &Pool, method: u16) -> Result<CodePlaces, Stop<'a>>
-    ensures lines { IfOk result (λ p. IsFirst (utf8_of pool.now) lines_name p.lines) }
-    ensures vars { IfOk result (λ p. IsFirst (utf8_of pool.now) vars_name p.vars) }
-    ensures kind_vars { IfOk result (λ p. IsFirst (utf8_of pool.now) kind_vars_name p.kind_vars) }
+fn places_of(pool: &Pool, method: u16) -> Option<CodePlaces>
+    ensures lines { IfSome result (λ p. IsFirst (utf8_of pool.now) lines_name p.lines) }
+    ensures vars { IfSome result (λ p. IsFirst (utf8_of pool.now) vars_name p.vars) }
+    ensures kind_vars { IfSome result (λ p. IsFirst (utf8_of pool.now) kind_vars_name p.kind_vars) }
 {
-    Ok(CodePlaces {
+    Some(CodePlaces {
         method,
-        lines: place_of(pool, b"LineNumberTable")?,
-        vars: place_of(pool, b"LocalVariableTable")?,
-        kind_vars: place_of(pool, b"LocalVariableTypeTable")?,
-        frames: place_of(pool, b"StackMapTable")?,
+        lines: first_text(pool, b"LineNumberTable")?,
+        vars: first_text(pool, b"LocalVariableTable")?,
+        kind_vars: first_text(pool, b"LocalVariableTypeTable")?,
+        frames: first_text(pool, b"StackMapTable")?,
     })
 }
 
-/// The text of the Code attribute, over a pool in which all that it names stands.
-fn code_text<'a>(
+/// Puts the Code attribute, in which the prelude calls the method at this place of the pool, over a pool in which all
+/// that it names stands.
+pub fn coded(
     alloc: Global,
     emitted: &Emitted,
     laid: &Laid,
@@ -110,32 +101,19 @@ fn code_text<'a>(
     names: &Names,
     method: u16,
     pool: &mut Pool,
-) -> Result<Bytes, Stop<'a>>
+    out: &mut Answer,
+) -> Option<()>
     requires laid { IsLaid emitted.now laid.now }
     requires frames { AreFrames emitted.now (length names.now) frames.now }
 {
-    let places = places_of(pool, method)?;
+    let Some(places) = places_of(pool, method) else {
+        return out.wrong("not in the pool");
+    };
     if emitted.handlers.len() > MOST_ROWS || !frames_stand(pool, names, frames) {
-        return Err(Stop::NotInPool);
+        return out.wrong("not in the pool");
     }
-    Ok(write_code(alloc, emitted, laid, frames, names, &places, pool)?)
-}
-
-/// Puts the Code attribute, in which the prelude calls the method at this place of the pool.
-pub fn coded<'a>(
-    alloc: Global,
-    out: &mut String,
-    emitted: &Emitted,
-    laid: &Laid,
-    frames: &[FrameAt],
-    names: &Names,
-    method: u16,
-    pool: &mut Pool,
-) -> Result<(), Stop<'a>>
-    requires laid { IsLaid emitted.now laid.now }
-    requires frames { AreFrames emitted.now (length names.now) frames.now }
-{
-    let text = code_text(alloc, emitted, laid, frames, names, method, pool)?;
-    put_bytes(out, &text)?;
-    Ok(())
+    let text = write_code(alloc, emitted, laid, frames, names, &places, pool);
+    let text = out.got(text)?;
+    put_bytes(&text, out);
+    Some(())
 }

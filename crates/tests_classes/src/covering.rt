@@ -1,117 +1,94 @@
 //! Calls on the coverage of the class file.
-ghost use Rattle.std.specs.Prelude.{◌≡◌, ◌≤◌, length, IfOk, IfSome};
+ghost use Rattle.std.specs.Prelude.{◌≡◌, ◌≤◌, length, IfSome};
 ghost use Rattle.jc_plan.specs.Analysed.{IsAnalysed};
 ghost use Rattle.jc_cover.specs.Covered.{HasShape};
 
 use crate::reports::{made_text, put_counters};
-use crate::shown::put_bits;
-use crate::stop::Stop;
-use crate::words::bits;
+use jc_bytes::List;
 use jc_cover::{Counters, Coverage, counters, covered};
 use jc_instrument::analyse;
 use jc_methods::Analysed;
 use jc_report::Counted;
-use std::alloc::{AllocError, Global};
+use std::alloc::Global;
+use tests_lines::{Answer, bits};
 
 /// Puts what a call on the coverage of the class file answers.
-pub fn answer<'a>(
-    alloc: Global,
-    out: &mut String,
-    bytes: &[u8],
-    words: &[&'a str],
-) -> Result<(), Stop<'a>>
+pub fn answer(alloc: Global, bytes: &[u8], words: &[&str], out: &mut Answer) -> Option<()>
     requires { length bytes.now ≤ 1000000 }
 {
-    let class = analyse(alloc, bytes)?;
+    let class = out.accepted(analyse(alloc, bytes))?;
     match words {
-        ["covered", hits] => edges(alloc, out, &class, *hits),
-        ["counters", hits] => counts(alloc, out, &class, *hits),
+        ["covered", hits] => put_edges(alloc, &class, hits, out),
+        ["counters", hits] => put_counts(alloc, &class, hits, out),
         ["report", group, hits] => {
-            let counters = counters_by(alloc, &class, *hits)?;
-            made_text(alloc, out, &[counted(class, counters)], *group)
+            let counters = counters_by(alloc, &class, hits, out)?;
+            made_text(alloc, &[counted(class, counters)], group, out)
         }
-        [word, ..] => Err(Stop::Word(*word)),
-        [] => Err(Stop::Word("")),
+        words => out.unknown(words),
     }
 }
 
-/// The hits of the class's probes, or none where a dash stands there.
-fn hits_of<'a>(
-    alloc: Global,
-    class: &Analysed,
-    word: &'a str,
-) -> Result<Option<Vec<bool>>, Stop<'a>>
-    ensures { IfOk result (λ found. IfSome found (λ hits. length hits.items ≡ class.now.probes)) }
+/// The hits of the class's probes.
+fn hits_of(alloc: Global, class: &Analysed, word: &str, out: &mut Answer) -> Option<Vec<bool>>
+    ensures { IfSome result (λ hits. length hits.items ≡ class.now.probes) }
+{
+    let hits = bits(alloc, word, out)?;
+    if hits.len() != class.probes as usize {
+        return out.unknown_word(word);
+    }
+    Some(hits)
+}
+
+/// Which edges of the class are covered by hits, or by none where a dash stands there.
+fn coverage(alloc: Global, class: &Analysed, word: &str, out: &mut Answer) -> Option<Coverage>
+    requires { IsAnalysed class.now }
+    ensures { IfSome result (HasShape class.now.bodies) }
 {
     if word == "-" {
-        return Ok(None);
+        return out.got(covered(alloc, class, None));
     }
-    let hits = bits(alloc, word)?;
-    if hits.len() != class.probes as usize {
-        return Err(Stop::Word(word));
-    }
-    Ok(Some(hits))
+    let hits = hits_of(alloc, class, word, out)?;
+    out.got(covered(alloc, class, Some(&hits)))
 }
 
-/// Which edges of the class are covered by hits.
-fn coverage<'a>(alloc: Global, class: &Analysed, word: &'a str) -> Result<Coverage, Stop<'a>>
+/// Puts the values of the branches of a body, its instructions parted by slashes.
+fn put_body(body: &[List<bool>], out: &mut Answer) {
+    out.put(" ");
+    for branches in body {
+        out.put("/");
+        out.bits(branches);
+    }
+}
+
+/// Puts which edges of the class are covered, for each body.
+fn put_edges(alloc: Global, class: &Analysed, word: &str, out: &mut Answer) -> Option<()>
     requires { IsAnalysed class.now }
-    ensures { IfOk result (λ c. HasShape class.now.bodies c) }
 {
-    match hits_of(alloc, class, word)? {
-        Some(hits) => Ok(covered(alloc, class, Some(&hits))?),
-        None => Ok(covered(alloc, class, None)?),
-    }
-}
-
-/// Puts the values of each branch: bodies behind blanks, and their instructions parted by slashes.
-fn put_edges(out: &mut String, coverage: &Coverage) -> Result<(), AllocError> {
-    write!(out, "{} bodies", coverage.edges.len())?;
+    let coverage = coverage(alloc, class, word, out)?;
+    out.show(&coverage.edges.len());
+    out.put(" bodies");
     for body in &coverage.edges {
-        out.push_str(" ")?;
-        for branches in body {
-            out.push_str("/")?;
-            put_bits(out, branches)?;
-        }
+        put_body(body, out);
     }
-    Ok(())
-}
-
-/// Puts which edges of the class are covered.
-fn edges<'a>(
-    alloc: Global,
-    out: &mut String,
-    class: &Analysed,
-    word: &'a str,
-) -> Result<(), Stop<'a>>
-    requires { IsAnalysed class.now }
-{
-    let coverage = coverage(alloc, class, word)?;
-    put_edges(out, &coverage)?;
-    Ok(())
+    Some(())
 }
 
 /// The counters of the class.
-fn counters_by<'a>(alloc: Global, class: &Analysed, word: &'a str) -> Result<Counters, Stop<'a>>
+fn counters_by(alloc: Global, class: &Analysed, word: &str, out: &mut Answer) -> Option<Counters>
     requires { IsAnalysed class.now }
 {
-    let coverage = coverage(alloc, class, word)?;
-    Ok(counters(alloc, class, &coverage)?)
+    let coverage = coverage(alloc, class, word, out)?;
+    out.got(counters(alloc, class, &coverage))
 }
 
 /// Puts the counters of the class.
-fn counts<'a>(
-    alloc: Global,
-    out: &mut String,
-    class: &Analysed,
-    word: &'a str,
-) -> Result<(), Stop<'a>>
+fn put_counts(alloc: Global, class: &Analysed, word: &str, out: &mut Answer) -> Option<()>
     requires { IsAnalysed class.now }
 {
-    let counters = counters_by(alloc, class, word)?;
-    out.push_str("counters")?;
-    put_counters(out, &counters)?;
-    Ok(())
+    let counters = counters_by(alloc, class, word, out)?;
+    out.put("counters");
+    put_counters(&counters, out);
+    Some(())
 }
 
 /// The class with its counters.

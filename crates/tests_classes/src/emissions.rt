@@ -12,7 +12,6 @@ ghost use Rattle.tests_classes.specs.Instrumented.{IsInstrumented, FitsInLayout}
 
 use crate::codes::coded;
 use crate::shown::{put_emitted, put_layout};
-use crate::stop::Stop;
 use jc_bytes::{Fail, List, Memory, Names, Refusal, RefusalKind};
 use jc_emit::emit;
 use jc_instrument_code::{each_layout_can_be_written, frames_of, merged_frames};
@@ -22,6 +21,7 @@ use jc_methods::{Body, Emitted, FrameAt, Plan};
 use jc_plan::plan;
 use jc_pool::Pool;
 use std::alloc::Global;
+use tests_lines::Answer;
 
 /// The most probes of a body whose code is made.
 const MOST_PROBES: u32 = 32_767;
@@ -58,35 +58,30 @@ fn emission(alloc: Global, body: &Body, names: &mut Names) -> Result<Emitted, Fa
 }
 
 /// Puts all of the instrumented code but the instructions, whose bytes the layout tells.
-pub fn emitted<'a>(
-    alloc: Global,
-    out: &mut String,
-    body: &Body,
-    names: &mut Names,
-) -> Result<(), Stop<'a>>
+pub fn emitted(alloc: Global, body: &Body, names: &mut Names, out: &mut Answer) -> Option<()>
     requires body { IsWellMade body.now }
     requires frames { AreNumberedFrames (length names.old) body.now.frames }
 {
-    let emitted = emission(alloc, body, names)?;
-    put_emitted(out, &emitted, names)?;
-    Ok(())
+    let emitted = out.accepted(emission(alloc, body, names))?;
+    put_emitted(&emitted, names, out);
+    Some(())
 }
 
 /// Puts the layout of the instrumented code, or the Code attribute in which the method at a place of the pool is called.
 #[tactic(auto, using(crate::proofs::InstrumentedLaws::layable, crate::proofs::InstrumentedLaws::frames_rise, crate::proofs::InstrumentedLaws::wide_frames_rise, crate::proofs::InstrumentedLaws::fits_in_layout))]
-pub fn laid<'a>(
+pub fn laid(
     alloc: Global,
-    out: &mut String,
     body: &Body,
     names: &mut Names,
     pool: &mut Pool,
     method: Option<u16>,
-) -> Result<(), Stop<'a>>
+    out: &mut Answer,
+) -> Option<()>
     requires body { IsWellMade body.now }
     requires frames { AreNumberedFrames (length names.old) body.now.frames }
 {
-    let emitted = emission(alloc, body, names)?;
-    in_layout(alloc, out, &emitted, names, pool, method)
+    let emitted = out.accepted(emission(alloc, body, names))?;
+    in_layout(alloc, &emitted, names, pool, method, out)
 }
 
 /// The layout of instrumented code.
@@ -100,21 +95,21 @@ fn laid_out(alloc: Global, emitted: &Emitted) -> Result<Laid, Fail<Refusal>>
 }
 
 /// Puts the layout of instrumented code, or its Code attribute.
-fn in_layout<'a>(
+fn in_layout(
     alloc: Global,
-    out: &mut String,
     emitted: &Emitted,
     names: &Names,
     pool: &mut Pool,
     method: Option<u16>,
-) -> Result<(), Stop<'a>>
+    out: &mut Answer,
+) -> Option<()>
     requires layable { IsLayable emitted.now.code }
     requires frames { RiseFrom 0 emitted.now.frames }
     requires wide_frames { RiseFrom 0 emitted.now.wide_frames }
     requires fit { FitsInLayout (length names.now) emitted.now }
 {
-    let laid = laid_out(alloc, emitted)?;
-    with_frames(alloc, out, emitted, &laid, names, pool, method)
+    let laid = out.accepted(laid_out(alloc, emitted))?;
+    with_frames(alloc, emitted, &laid, names, pool, method, out)
 }
 
 /// The frames of both layouts in the order of their places, if the wide one is chosen; else none.
@@ -131,25 +126,24 @@ fn merged(alloc: Global, emitted: &Emitted, wide: bool) -> Result<List<FrameAt>,
 }
 
 /// Puts a layout of instrumented code with its frames, or its Code attribute.
-fn with_frames<'a>(
+fn with_frames(
     alloc: Global,
-    out: &mut String,
     emitted: &Emitted,
     laid: &Laid,
     names: &Names,
     pool: &mut Pool,
     method: Option<u16>,
-) -> Result<(), Stop<'a>>
+    out: &mut Answer,
+) -> Option<()>
     requires laid { IsLaid emitted.now laid.now }
     requires frames { RiseFrom 0 emitted.now.frames }
     requires wide_frames { RiseFrom 0 emitted.now.wide_frames }
     requires fit { AreFrames emitted.now (length names.now) (chosen_frames emitted.now) }
 {
-    let merged = merged(alloc, emitted, laid.wide)?;
+    let merged = out.got(merged(alloc, emitted, laid.wide))?;
     let frames = frames_of(emitted, &merged, laid.wide);
     match method {
-        None => put_layout(out, emitted, laid, frames)?,
-        Some(method) => coded(alloc, out, emitted, laid, frames, names, method, pool)?,
+        None => put_layout(emitted, laid, frames, out),
+        Some(method) => coded(alloc, emitted, laid, frames, names, method, pool, out),
     }
-    Ok(())
 }

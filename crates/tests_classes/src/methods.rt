@@ -6,8 +6,7 @@ ghost use Rattle.jc_methods.specs.WellMade.{IsWellMade};
 ghost use Rattle.jc_class.specs.Writable.{IsClassFile};
 
 use crate::emissions::{emitted, laid};
-use crate::stop::Stop;
-use crate::words::{number, text};
+use crate::texts::text;
 use jc_body::read_body;
 use jc_bytes::Names;
 use jc_class::ClassFile;
@@ -16,7 +15,8 @@ use jc_instrument_code::first_text;
 use jc_kinds::states;
 use jc_methods::Body;
 use jc_pool::Pool;
-use std::alloc::{AllocError, Global};
+use std::alloc::Global;
+use tests_lines::{Answer, number};
 
 /// Whether a word is one of the calls below.
 pub fn is_command(word: &str) -> bool {
@@ -27,128 +27,108 @@ pub fn is_command(word: &str) -> bool {
 }
 
 /// Puts what a call on the pool or on a method answers.
-pub fn answer<'a>(
+pub fn answer(
     alloc: Global,
-    out: &mut String,
     class: &mut ClassFile,
-    command: &'a str,
-    word: &'a str,
-    rest: &[&'a str],
-) -> Result<(), Stop<'a>>
+    command: &str,
+    word: &str,
+    rest: &[&str],
+    out: &mut Answer,
+) -> Option<()>
     requires class { IsClassFile class.old }
     requires sizes { All (λ m. All (λ a. length a.body ≤ most_read) m.attributes) class.old.methods }
 {
     if command == "first" {
-        return first(alloc, out, &class.pool, word);
+        return first(alloc, &class.pool, word, out);
     }
-    let mut names = Names::new(alloc)?;
-    in_method(alloc, out, class, &mut names, command, word, rest)
+    in_method(alloc, class, command, word, rest, out)
 }
 
 /// Puts the first place of a text in the pool.
-fn first<'a>(alloc: Global, out: &mut String, pool: &Pool, word: &'a str) -> Result<(), Stop<'a>> {
-    let wanted = text(alloc, word)?;
-    put_place(out, first_text(pool, &wanted))?;
-    Ok(())
-}
-
-/// Puts a place, if there is one.
-fn put_place(out: &mut String, place: Option<u16>) -> Result<(), AllocError> {
-    match place {
-        Some(place) => write!(out, "place {place}"),
-        None => out.push_str("nowhere"),
+fn first(alloc: Global, pool: &Pool, word: &str, out: &mut Answer) -> Option<()> {
+    let wanted = text(alloc, word, out)?;
+    match first_text(pool, &wanted) {
+        Some(place) => out.label("place ", &place),
+        None => out.put("nowhere"),
     }
+    Some(())
 }
 
 /// Puts what a call on the method with this number answers.
-fn in_method<'a>(
+fn in_method(
     alloc: Global,
-    out: &mut String,
     class: &mut ClassFile,
-    names: &mut Names,
-    command: &'a str,
-    word: &'a str,
-    rest: &[&'a str],
-) -> Result<(), Stop<'a>>
+    command: &str,
+    word: &str,
+    rest: &[&str],
+    out: &mut Answer,
+) -> Option<()>
     requires class { IsClassFile class.old }
     requires sizes { All (λ m. All (λ a. length a.body ≤ most_read) m.attributes) class.old.methods }
 {
-    let method = number::<u16>(word)?;
+    let method = number::<u16>(word, out)?;
     if usize::from(method) >= class.methods.len() {
-        return Err(Stop::Word(word));
+        return out.unknown_word(word);
     }
-    match read_body(alloc, class, u32::from(method), names)? {
-        Some(body) => in_body(alloc, out, &body, names, &mut class.pool, command, rest),
-        None => Err(Stop::NoCode),
+    let mut names = out.got(Names::new(alloc))?;
+    match out.accepted(read_body(alloc, class, u32::from(method), &mut names))? {
+        Some(body) => in_body(
+            alloc,
+            &body,
+            &mut names,
+            &mut class.pool,
+            command,
+            rest,
+            out,
+        ),
+        None => out.wrong("no code"),
     }
 }
 
 /// Puts what a call on a body answers.
-fn in_body<'a>(
+fn in_body(
     alloc: Global,
-    out: &mut String,
     body: &Body,
     names: &mut Names,
     pool: &mut Pool,
-    command: &'a str,
-    rest: &[&'a str],
-) -> Result<(), Stop<'a>>
+    command: &str,
+    rest: &[&str],
+    out: &mut Answer,
+) -> Option<()>
     requires body { IsWellMade body.now }
     requires frames { AreNumberedFrames (length names.old) body.now.frames }
 {
-    match rest {
-        [] => on_body(alloc, out, body, names, pool, command),
-        [place] if command == "code" => {
-            let method = number::<u16>(*place)?;
-            laid(alloc, out, body, names, pool, Some(method))
+    match (command, rest) {
+        ("states", []) => state_count(alloc, body, names, out),
+        ("straddles", []) => straddling(body, out),
+        ("emit", []) => emitted(alloc, body, names, out),
+        ("layout", []) => laid(alloc, body, names, pool, None, out),
+        ("code", [place]) => {
+            let method = number::<u16>(place, out)?;
+            laid(alloc, body, names, pool, Some(method), out)
         }
-        _ => Err(Stop::Word(command)),
-    }
-}
-
-/// Puts what a call on a body alone answers.
-fn on_body<'a>(
-    alloc: Global,
-    out: &mut String,
-    body: &Body,
-    names: &mut Names,
-    pool: &mut Pool,
-    command: &'a str,
-) -> Result<(), Stop<'a>>
-    requires body { IsWellMade body.now }
-    requires frames { AreNumberedFrames (length names.old) body.now.frames }
-{
-    match command {
-        "states" => state_count(alloc, out, body, names),
-        "straddles" => straddling(out, body),
-        "emit" => emitted(alloc, out, body, names),
-        "layout" => laid(alloc, out, body, names, pool, None),
-        _ => Err(Stop::Word(command)),
+        (command, _) => out.unknown_word(command),
     }
 }
 
 /// Puts how many states the method has, one before each instruction.
-fn state_count<'a>(
-    alloc: Global,
-    out: &mut String,
-    body: &Body,
-    names: &mut Names,
-) -> Result<(), Stop<'a>>
+fn state_count(alloc: Global, body: &Body, names: &mut Names, out: &mut Answer) -> Option<()>
     requires body { IsWellMade body.now }
     requires frames { AreNumberedFrames (length names.old) body.now.frames }
 {
-    let states = states(alloc, body, names)?;
-    write!(out, "{} states", states.len())?;
-    Ok(())
+    let states = out.accepted(states(alloc, body, names))?;
+    out.show(&states.len());
+    out.put(" states");
+    Some(())
 }
 
 /// Puts the first instruction that needs the two local variables between which the array of probes would stand.
-fn straddling<'a>(out: &mut String, body: &Body) -> Result<(), Stop<'a>>
+fn straddling(body: &Body, out: &mut Answer) -> Option<()>
     requires { IsWellMade body.now }
 {
     match straddles(body) {
-        Some(at) => write!(out, "at {at}")?,
-        None => out.push_str("nowhere")?,
+        Some(at) => out.label("at ", &at),
+        None => out.put("nowhere"),
     }
-    Ok(())
+    Some(())
 }

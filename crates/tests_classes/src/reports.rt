@@ -1,38 +1,50 @@
 //! Calls on the classes of a report.
 
 use crate::shown::put_text;
-use crate::stop::Stop;
-use crate::words::{number, numbers, text};
-use jc_bytes::{Bytes, List, Memory};
+use crate::texts::text;
+use jc_bytes::{Bytes, List};
 use jc_cover::{Count, Counters};
 use jc_report::{Counted, Row, csv_text, rows};
-use std::alloc::{AllocError, Global};
+use std::alloc::Global;
+use tests_lines::{Answer, number, numbers};
 
 /// Puts what a call on the classes of a report answers.
-pub fn answer<'a>(
+pub fn answer(
     alloc: Global,
-    out: &mut String,
     kept: &mut Vec<Counted>,
-    words: &[&'a str],
-) -> Result<(), Stop<'a>> {
+    words: &[&str],
+    out: &mut Answer,
+) -> Option<()> {
     match words {
-        ["forget"] => forget(out, kept),
+        ["forget"] => forget(kept, out),
         ["counted", id, name, super_name, interface, counts @ ..] => {
-            let names = [*name, *super_name, *interface];
-            keep(alloc, out, kept, *id, names, counts)
+            let counted = counted(alloc, id, [name, super_name, interface], counts, out)?;
+            keep(kept, counted, out)
         }
-        ["rows", group] => made_rows(alloc, out, kept, *group),
-        ["csv", group] => made_text(alloc, out, kept, *group),
-        [word, ..] => Err(Stop::Word(*word)),
-        [] => Err(Stop::Word("")),
+        ["rows", group] => made_rows(alloc, kept, group, out),
+        ["csv", group] => made_text(alloc, kept, group, out),
+        words => out.unknown(words),
     }
 }
 
+/// Tells how many classes are kept.
+fn put_count(kept: &[Counted], out: &mut Answer) -> Option<()> {
+    out.show(&kept.len());
+    out.put(" classes");
+    Some(())
+}
+
 /// Keeps no class.
-fn forget<'a>(out: &mut String, kept: &mut Vec<Counted>) -> Result<(), Stop<'a>> {
+fn forget(kept: &mut Vec<Counted>, out: &mut Answer) -> Option<()> {
     kept.clear();
-    out.push_str("0 classes")?;
-    Ok(())
+    put_count(kept, out)
+}
+
+/// Keeps a class behind the others, and tells how many there are.
+fn keep(kept: &mut Vec<Counted>, counted: Counted, out: &mut Answer) -> Option<()> {
+    let pushed = kept.push(counted);
+    out.got(pushed)?;
+    put_count(kept, out)
 }
 
 /// A number of missed and one of covered items.
@@ -55,65 +67,56 @@ fn counters_of(counts: &[u32]) -> Option<Counters> {
 }
 
 /// Counters, spelled as in a row of a report.
-fn counters_by<'a>(alloc: Global, words: &[&'a str]) -> Result<Counters, Stop<'a>> {
-    let counts = numbers(alloc, words)?;
+fn counters_by(alloc: Global, words: &[&str], out: &mut Answer) -> Option<Counters> {
+    let counts = numbers::<u32>(alloc, words, out)?;
     match counters_of(&counts) {
-        Some(counters) => Ok(counters),
-        None => Err(Stop::Word("counted")),
+        Some(counters) => Some(counters),
+        None => out.unknown_word("counted"),
     }
 }
 
-/// A name, or none where a dash stands there.
-fn name_if_any<'a>(alloc: Global, word: &'a str) -> Result<Option<Bytes>, Stop<'a>> {
-    if word == "-" {
-        return Ok(None);
-    }
-    Ok(Some(List::from_vec(text(alloc, word)?)))
+/// A name.
+fn name_of(alloc: Global, word: &str, out: &mut Answer) -> Option<Bytes> {
+    Some(List::from_vec(text(alloc, word, out)?))
 }
 
-/// The one interface, or none.
-fn interfaces<'a>(alloc: Global, word: &'a str) -> Result<List<Bytes>, Stop<'a>> {
+/// The one interface, or none where a dash stands there.
+fn interfaces(alloc: Global, word: &str, out: &mut Answer) -> Option<List<Bytes>> {
     let mut interfaces = List::new(alloc);
-    if let Some(name) = name_if_any(alloc, word)? {
-        interfaces.push(name)?;
+    if word != "-" {
+        let name = name_of(alloc, word, out)?;
+        let pushed = interfaces.push(name);
+        out.got(pushed)?;
     }
-    Ok(interfaces)
+    Some(interfaces)
 }
 
-/// A class of a report: its name, its superclass and its interface.
-fn class<'a>(
+/// A class of a report: its name, its superclass, or none where a dash stands there, and its interface.
+fn counted(
     alloc: Global,
-    id: u64,
-    names: [&'a str; 3],
-    counters: Counters,
-) -> Result<Counted, Stop<'a>> {
-    Ok(Counted {
+    id: &str,
+    [name, super_name, interface]: [&str; 3],
+    counts: &[&str],
+    out: &mut Answer,
+) -> Option<Counted> {
+    let id = number::<u64>(id, out)?;
+    let counters = counters_by(alloc, counts, out)?;
+    let interfaces = interfaces(alloc, interface, out)?;
+    let mut counted = Counted {
         id,
-        name: List::from_vec(text(alloc, names[0])?),
-        super_name: name_if_any(alloc, names[1])?,
-        interfaces: interfaces(alloc, names[2])?,
+        name: name_of(alloc, name, out)?,
+        super_name: None,
+        interfaces,
         counters,
-    })
-}
-
-/// Keeps a class behind the others, and tells how many there are.
-fn keep<'a>(
-    alloc: Global,
-    out: &mut String,
-    kept: &mut Vec<Counted>,
-    id: &'a str,
-    names: [&'a str; 3],
-    counts: &[&'a str],
-) -> Result<(), Stop<'a>> {
-    let id = number(id)?;
-    let counters = counters_by(alloc, counts)?;
-    kept.push(class(alloc, id, names, counters)?)?;
-    write!(out, "{} classes", kept.len())?;
-    Ok(())
+    };
+    if super_name != "-" {
+        counted.super_name = Some(name_of(alloc, super_name, out)?);
+    }
+    Some(counted)
 }
 
 /// Puts counters as in a row of a report.
-pub fn put_counters(out: &mut String, counters: &Counters) -> Result<(), AllocError> {
+pub fn put_counters(counters: &Counters, out: &mut Answer) {
     let counts = [
         counters.instruction,
         counters.branch,
@@ -122,61 +125,40 @@ pub fn put_counters(out: &mut String, counters: &Counters) -> Result<(), AllocEr
         counters.method,
     ];
     for Count { missed, covered } in counts {
-        write!(out, " {missed} {covered}")?;
+        out.label(" ", &missed);
+        out.label(" ", &covered);
     }
-    Ok(())
 }
 
 /// Puts a row: the report, the package, the class, the class id and the counters.
-fn put_row(out: &mut String, row: &Row) -> Result<(), AllocError> {
-    put_text(out, &row.group)?;
-    out.push_str(" ")?;
-    put_text(out, &row.package)?;
-    out.push_str(" ")?;
-    put_text(out, &row.class)?;
-    write!(out, " {}", row.id)?;
-    put_counters(out, &row.counters)
-}
-
-/// Puts rows.
-fn put_rows(out: &mut String, rows: &[Row]) -> Result<(), AllocError> {
-    write!(out, "{} rows", rows.len())?;
-    for row in rows {
-        out.push_str("; ")?;
-        put_row(out, row)?;
-    }
-    Ok(())
+fn put_row(row: &Row, out: &mut Answer) {
+    put_text(&row.group, out);
+    out.put(" ");
+    put_text(&row.package, out);
+    out.put(" ");
+    put_text(&row.class, out);
+    out.label(" ", &row.id);
+    put_counters(&row.counters, out);
 }
 
 /// Puts the rows of the classes that are kept.
-fn made_rows<'a>(
-    alloc: Global,
-    out: &mut String,
-    kept: &[Counted],
-    group: &'a str,
-) -> Result<(), Stop<'a>> {
-    let group = text(alloc, group)?;
-    let rows = rows(alloc, &group, kept)?;
-    put_rows(out, &rows)?;
-    Ok(())
-}
-
-/// Puts the text of a report of rows.
-fn put_report(alloc: Global, out: &mut String, rows: &[Row]) -> Result<(), Memory> {
-    let text = csv_text(alloc, rows)?;
-    put_text(out, &text)?;
-    Ok(())
+fn made_rows(alloc: Global, kept: &[Counted], group: &str, out: &mut Answer) -> Option<()> {
+    let group = text(alloc, group, out)?;
+    let rows = out.got(rows(alloc, &group, kept))?;
+    out.show(&rows.len());
+    out.put(" rows");
+    for row in &rows {
+        out.put("; ");
+        put_row(row, out);
+    }
+    Some(())
 }
 
 /// Puts the text of the report of classes.
-pub fn made_text<'a>(
-    alloc: Global,
-    out: &mut String,
-    kept: &[Counted],
-    group: &'a str,
-) -> Result<(), Stop<'a>> {
-    let group = text(alloc, group)?;
-    let rows = rows(alloc, &group, kept)?;
-    put_report(alloc, out, &rows)?;
-    Ok(())
+pub fn made_text(alloc: Global, kept: &[Counted], group: &str, out: &mut Answer) -> Option<()> {
+    let group = text(alloc, group, out)?;
+    let rows = out.got(rows(alloc, &group, kept))?;
+    let text = out.got(csv_text(alloc, &rows))?;
+    put_text(&text, out);
+    Some(())
 }

@@ -2,7 +2,7 @@
 use jc_bytes::Names;
 use jc_layout::Laid;
 use jc_methods::{Emitted, FrameAt, Handler, Kind, LineAt, VarAt};
-use std::alloc::AllocError;
+use tests_lines::Answer;
 
 /// The longest group of bytes that is printed once, with how many times it stands there.
 const LONGEST: usize = 8;
@@ -38,207 +38,163 @@ fn group(bytes: &[u8]) -> (usize, usize) {
     (1, 1)
 }
 
-/// Puts hexadecimal digits.
-fn put_digits(out: &mut String, bytes: &[u8]) -> Result<(), AllocError> {
-    for byte in bytes {
-        write!(out, "{byte:02x}")?;
-    }
-    Ok(())
-}
-
-/// Puts bytes as hexadecimal digits. A group that is repeated is a word of its own, with `*` and a count.
-pub fn put_bytes(out: &mut String, bytes: &[u8]) -> Result<(), AllocError> {
+/// Puts bytes as hexadecimal digits. A group that is repeated is a word of its own, behind a count and `*`.
+pub fn put_bytes(bytes: &[u8], out: &mut Answer) {
     let mut next = 0usize;
     for place in 0..bytes.len() {
         if place == next {
-            next = place.saturating_add(put_group(out, &bytes[place..])?);
+            next = place.saturating_add(put_group(&bytes[place..], out));
         }
     }
-    Ok(())
 }
 
 /// Puts the group in front, and tells its length.
-fn put_group(out: &mut String, bytes: &[u8]) -> Result<usize, AllocError> {
+fn put_group(bytes: &[u8], out: &mut Answer) -> usize {
     let (size, times) = group(bytes);
     let digits = bytes.get(..size).unwrap_or(bytes);
     if times == 1 {
-        put_digits(out, digits)?;
+        out.bytes(digits);
     } else {
-        out.push_str(" ")?;
-        put_digits(out, digits)?;
-        write!(out, "*{times} ")?;
+        out.label(" ", &times);
+        out.put("*");
+        out.bytes(digits);
+        out.put(" ");
     }
-    Ok(size.saturating_mul(times))
+    size.saturating_mul(times)
+}
+
+/// Puts a character as it is if it is a visible ASCII character but a backslash, and else a backslash and two digits.
+fn put_character(byte: u8, out: &mut Answer) {
+    if byte.is_ascii_graphic() && byte != b'\\' {
+        out.show(&char::from(byte));
+    } else {
+        out.put("\\");
+        out.bytes(&[byte]);
+    }
 }
 
 /// Puts a text as a word: what isn't a visible ASCII character, and a backslash, as a backslash and two digits.
-pub fn put_text(out: &mut String, text: &[u8]) -> Result<(), AllocError> {
+pub fn put_text(text: &[u8], out: &mut Answer) {
     for byte in text {
-        if byte.is_ascii_graphic() && *byte != b'\\' {
-            out.push(char::from(*byte))?;
-        } else {
-            write!(out, "\\{byte:02x}")?;
-        }
+        put_character(*byte, out);
     }
-    Ok(())
-}
-
-/// Puts truth values as the digits 0 and 1.
-pub fn put_bits(out: &mut String, bits: &[bool]) -> Result<(), AllocError> {
-    for bit in bits {
-        out.push_str(if *bit { "1" } else { "0" })?;
-    }
-    Ok(())
 }
 
 /// Puts the type of a value, with a blank in front.
-fn put_kind(out: &mut String, kind: Kind, names: &Names) -> Result<(), AllocError> {
+fn put_kind(kind: Kind, names: &Names, out: &mut Answer) {
     match kind {
-        Kind::Top => out.push_str(" top"),
-        Kind::Int => out.push_str(" int"),
-        Kind::Float => out.push_str(" float"),
-        Kind::Double => out.push_str(" double"),
-        Kind::Long => out.push_str(" long"),
-        Kind::Null => out.push_str(" null"),
-        Kind::UninitThis => out.push_str(" uninitialized-this"),
-        Kind::Object(number) => put_name(out, number, names),
-        Kind::Uninit(at) => write!(out, " new-at-{at}"),
+        Kind::Top => out.put(" top"),
+        Kind::Int => out.put(" int"),
+        Kind::Float => out.put(" float"),
+        Kind::Double => out.put(" double"),
+        Kind::Long => out.put(" long"),
+        Kind::Null => out.put(" null"),
+        Kind::UninitThis => out.put(" uninitialized-this"),
+        Kind::Object(number) => put_name(number, names, out),
+        Kind::Uninit(at) => out.label(" new-at-", &at),
     }
 }
 
 /// Puts the name of a class, with a blank in front.
-fn put_name(out: &mut String, number: u32, names: &Names) -> Result<(), AllocError> {
-    out.push_str(" ")?;
+fn put_name(number: u32, names: &Names, out: &mut Answer) {
+    out.put(" ");
     if number < names.len() {
-        put_text(out, names.text(number))?;
+        put_text(names.text(number), out);
     }
-    Ok(())
 }
 
 /// Puts where a frame stands, the types of its local variables, and behind a bar those of the stack.
-fn put_frame(out: &mut String, frame: &FrameAt, names: &Names) -> Result<(), AllocError> {
-    write!(out, " {}:", frame.at)?;
+fn put_frame(frame: &FrameAt, names: &Names, out: &mut Answer) {
+    out.label(" ", &frame.at);
+    out.put(":");
     for kind in &frame.state.locals {
-        put_kind(out, *kind, names)?;
+        put_kind(*kind, names, out);
     }
-    out.push_str(" |")?;
+    out.put(" |");
     for kind in &frame.state.stack {
-        put_kind(out, *kind, names)?;
+        put_kind(*kind, names, out);
     }
-    Ok(())
 }
 
 /// Puts frames, with a word in front.
-fn put_frames(
-    out: &mut String,
-    word: &str,
-    frames: &[FrameAt],
-    names: &Names,
-) -> Result<(), AllocError> {
-    write!(out, "; {word}")?;
+fn put_frames(word: &str, frames: &[FrameAt], names: &Names, out: &mut Answer) {
+    out.put(word);
     for frame in frames {
-        put_frame(out, frame, names)?;
+        put_frame(frame, names, out);
     }
-    Ok(())
 }
 
 /// Puts the rows of an exception table.
-fn put_rows(out: &mut String, rows: &[Handler]) -> Result<(), AllocError> {
-    out.push_str("; rows")?;
+fn put_rows(rows: &[Handler], out: &mut Answer) {
+    out.put("; rows");
     for row in rows {
-        let Handler {
-            start,
-            end,
-            target,
-            class,
-        } = row;
-        write!(out, " {start}-{end}>{target}:{class}")?;
+        out.label(" ", &row.start);
+        out.label("-", &row.end);
+        out.label(">", &row.target);
+        out.label(":", &row.class);
     }
-    Ok(())
 }
 
 /// Puts the entries of a line table.
-fn put_lines(out: &mut String, lines: &[LineAt]) -> Result<(), AllocError> {
-    out.push_str("; lines")?;
+fn put_lines(lines: &[LineAt], out: &mut Answer) {
+    out.put("; lines");
     for entry in lines {
-        write!(out, " {}:{}", entry.at, entry.line)?;
+        out.label(" ", &entry.at);
+        out.label(":", &entry.line);
     }
-    Ok(())
 }
 
 /// Puts the entries of a table of variables, with a word in front.
-fn put_vars(out: &mut String, word: &str, vars: &[VarAt]) -> Result<(), AllocError> {
-    write!(out, "; {word}")?;
+fn put_vars(word: &str, vars: &[VarAt], out: &mut Answer) {
+    out.put(word);
     for entry in vars {
-        let VarAt {
-            start,
-            end,
-            name,
-            desc,
-            slot,
-        } = entry;
-        write!(out, " {start}-{end}:{name}:{desc}:{slot}")?;
+        out.label(" ", &entry.start);
+        out.label("-", &entry.end);
+        out.label(":", &entry.name);
+        out.label(":", &entry.desc);
+        out.label(":", &entry.slot);
     }
-    Ok(())
-}
-
-/// Puts the sizes, and what belongs to each instruction.
-fn put_marks(out: &mut String, emitted: &Emitted) -> Result<(), AllocError> {
-    write!(
-        out,
-        "stack {}; locals {}; at {:?}; extra {:?}; own ",
-        emitted.max_stack,
-        emitted.max_locals,
-        emitted.at.as_slice(),
-        emitted.extra.as_slice()
-    )?;
-    put_bits(out, &emitted.own)
-}
-
-/// Puts the tables.
-fn put_tables(out: &mut String, emitted: &Emitted) -> Result<(), AllocError> {
-    put_rows(out, &emitted.handlers)?;
-    put_lines(out, &emitted.lines)?;
-    put_vars(out, "variables", &emitted.vars)?;
-    put_vars(out, "types", &emitted.kind_vars)
 }
 
 /// Puts all of instrumented code but the instructions.
-pub fn put_emitted(out: &mut String, emitted: &Emitted, names: &Names) -> Result<(), AllocError> {
-    put_marks(out, emitted)?;
-    put_tables(out, emitted)?;
-    put_frames(out, "frames", &emitted.frames, names)?;
-    put_frames(out, "wide frames", &emitted.wide_frames, names)
+pub fn put_emitted(emitted: &Emitted, names: &Names, out: &mut Answer) {
+    out.label("stack ", &emitted.max_stack);
+    out.label("; locals ", &emitted.max_locals);
+    out.label_debug("; at ", &emitted.at.as_slice());
+    out.label_debug("; extra ", &emitted.extra.as_slice());
+    out.put("; own ");
+    out.bits(&emitted.own);
+    put_rows(&emitted.handlers, out);
+    put_lines(&emitted.lines, out);
+    put_vars("; variables", &emitted.vars, out);
+    put_vars("; types", &emitted.kind_vars, out);
+    put_frames("; frames", &emitted.frames, names, out);
+    put_frames("; wide frames", &emitted.wide_frames, names, out);
 }
 
 /// Puts the offset of an instruction, or of the end of the code.
-fn put_offset(out: &mut String, laid: &Laid, at: usize) -> Result<(), AllocError> {
+fn put_offset(laid: &Laid, at: usize, out: &mut Answer) {
     match laid.starts.as_slice().get(at) {
-        Some(start) => write!(out, " {start}"),
-        None => out.push_str(" nowhere"),
+        Some(start) => out.label(" ", start),
+        None => out.put(" nowhere"),
     }
-}
-
-/// Puts the offsets of frames.
-fn put_offsets(out: &mut String, laid: &Laid, frames: &[FrameAt]) -> Result<(), AllocError> {
-    out.push_str("; frames")?;
-    for frame in frames {
-        put_offset(out, laid, frame.at as usize)?;
-    }
-    Ok(())
 }
 
 /// Puts the form of the layout, the offsets of its frames and of its end, and its bytes.
 pub fn put_layout(
-    out: &mut String,
     emitted: &Emitted,
     laid: &Laid,
     frames: &[FrameAt],
-) -> Result<(), AllocError> {
-    out.push_str(if laid.wide { "wide" } else { "narrow" })?;
-    put_offsets(out, laid, frames)?;
-    out.push_str("; end")?;
-    put_offset(out, laid, emitted.code.len())?;
-    out.push_str("; code ")?;
-    put_bytes(out, &laid.code)
+    out: &mut Answer,
+) -> Option<()> {
+    out.put(if laid.wide { "wide" } else { "narrow" });
+    out.put("; frames");
+    for frame in frames {
+        put_offset(laid, frame.at as usize, out);
+    }
+    out.put("; end");
+    put_offset(laid, emitted.code.len(), out);
+    out.put("; code ");
+    put_bytes(&laid.code, out);
+    Some(())
 }

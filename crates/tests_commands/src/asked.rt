@@ -1,75 +1,71 @@
 //! Lines that ask for what the files in memory list and for parts of them.
 
 use crate::setup::Setup;
-use crate::spelling::{Wrong, number};
-use jc_base::{Fail, FileFault, Files, MOST_PART, MOST_READ, Memory};
-use std::alloc::{AllocError, Global};
+use jc_base::{FileFault, Files, MOST_PART, MOST_READ};
+use std::alloc::Global;
+use tests_lines::{Answer, number};
 
-/// A fault of a call, in words.
-fn fault_text(alloc: Global, fault: FileFault) -> Result<String, AllocError> {
-    let text = match fault {
+/// Puts a fault of a call, in words.
+fn put_fault(fault: FileFault, out: &mut Answer) {
+    out.put(match fault {
         FileFault::Failed => "failed",
         FileFault::Missing => "missing",
         FileFault::TooLarge => "too large",
         FileFault::Memory => "memory",
-    };
-    text.to_string(alloc)
+    });
 }
 
-/// How many paths there are, and in further lines the paths.
-fn paths_text(alloc: Global, paths: &[String]) -> Result<String, AllocError> {
-    let mut answer = format!(in alloc; "{} paths", paths.len())?;
+/// Puts how many paths there are, and in further lines the paths.
+fn put_paths(paths: &[String], out: &mut Answer) {
+    out.show(&paths.len());
+    out.put(" paths");
     for path in paths {
-        write!(&mut answer, "\n{path}")?;
+        out.label("\n", path);
     }
-    Ok(answer)
 }
 
-/// The class files of a folder.
-fn list(alloc: Global, setup: &Setup, folder: &str) -> Result<String, Memory> {
-    let mut files = setup.for_a_run(alloc)?;
+/// Puts the class files of a folder.
+fn list(alloc: Global, setup: &Setup, folder: &str, out: &mut Answer) -> Option<()> {
+    let mut files = out.got(setup.for_a_run(alloc))?;
     match files.list(alloc, folder) {
-        Ok(paths) => Ok(paths_text(alloc, &paths)?),
-        Err(fault) => Ok(fault_text(alloc, fault)?),
+        Ok(paths) => put_paths(&paths, out),
+        Err(fault) => put_fault(fault, out),
     }
+    Some(())
 }
 
-/// How many bytes a part has, the first four of them in hexadecimal digits, and whether the file ends with it.
-fn part_text(alloc: Global, part: &[u8], ended: bool) -> Result<String, AllocError> {
-    let first = hex::encode(alloc, &part[..part.len().min(4)])?;
-    let end = if ended { "the last" } else { "not the last" };
-    format!(in alloc; "{} bytes [{first}], {end}", part.len())
+/// Puts how many bytes a part has, the first four of them in hexadecimal digits, and whether the file ends with it.
+fn put_part(part: &[u8], ended: bool, out: &mut Answer) {
+    out.show(&part.len());
+    out.put(" bytes [");
+    out.bytes(&part[..part.len().min(4)]);
+    out.put(if ended {
+        "], the last"
+    } else {
+        "], not the last"
+    });
 }
 
 /// The part of a file from an offset on.
-fn part<'a>(
-    alloc: Global,
-    setup: &Setup,
-    path: &str,
-    at: &'a str,
-) -> Result<String, Fail<Wrong<'a>>> {
-    let from = u64::from(number(at)?);
+fn part(alloc: Global, setup: &Setup, path: &str, at: &str, out: &mut Answer) -> Option<()> {
+    let from = u64::from(number::<u32>(at, out)?);
     if from % MOST_PART as u64 != 0 || from >= MOST_READ as u64 {
-        return Err(Fail::Said(Wrong::Number(at)));
+        return out.wrong_word("no offset of a part", at);
     }
-    let mut files = setup.for_a_run(alloc)?;
+    let mut files = out.got(setup.for_a_run(alloc))?;
     let mut into = Vec::new(alloc);
     match files.read_part(alloc, path, from, &mut into) {
-        Ok(ended) => Ok(part_text(alloc, &into, ended)?),
-        Err(fault) => Ok(fault_text(alloc, fault)?),
+        Ok(ended) => put_part(&into, ended, out),
+        Err(fault) => put_fault(fault, out),
     }
+    Some(())
 }
 
 /// What the words of a line answer that asks for files as they are set up.
-pub fn answer<'a>(
-    alloc: Global,
-    setup: &Setup,
-    words: &[&'a str],
-) -> Result<String, Fail<Wrong<'a>>> {
+pub fn answer(alloc: Global, setup: &Setup, words: &[&str], out: &mut Answer) -> Option<()> {
     match words {
-        ["list", folder] => Ok(list(alloc, setup, folder)?),
-        ["part", path, at] => part(alloc, setup, path, at),
-        [word, ..] => Err(Fail::Said(Wrong::Word(word))),
-        [] => Err(Fail::Said(Wrong::Word(""))),
+        ["list", folder] => list(alloc, setup, folder, out),
+        ["part", path, at] => part(alloc, setup, path, at, out),
+        words => out.unknown(words),
     }
 }

@@ -1,105 +1,130 @@
 //! Lines that set up a run: files and planned faults.
 
 use crate::setup::{Plan, Setup};
-use crate::spelling::{Wrong, lined, number, numbers, spelled};
-use jc_base::Fail;
+use crate::texts::lined;
 use std::alloc::Global;
+use tests_lines::{Answer, bytes_up_to, number, numbers};
+
+/// The most bytes that a line spells.
+const MOST: usize = 100_000_000;
 
 /// What a path holds before a run.
-fn held<'a, 's>(setup: &'s mut Setup, path: &'a str) -> Result<&'s mut Vec<u8>, Fail<Wrong<'a>>> {
+fn held<'s>(setup: &'s mut Setup, path: &str, out: &mut Answer) -> Option<&'s mut Vec<u8>> {
     match setup.files.get_mut(path) {
-        Some(bytes) => Ok(bytes),
-        None => Err(Fail::Said(Wrong::Absent(path))),
+        Some(bytes) => Some(bytes),
+        None => out.wrong_word("no file", path),
     }
+}
+
+/// Makes a path hold the bytes that words spell, and tells how many they are.
+fn file(
+    alloc: Global,
+    setup: &mut Setup,
+    path: &str,
+    words: &[&str],
+    out: &mut Answer,
+) -> Option<()> {
+    let bytes = bytes_up_to(alloc, MOST, words, out)?;
+    setup.place(alloc, path, bytes, out)
+}
+
+/// Makes a path hold the text of words, and tells how many bytes it has.
+fn text(
+    alloc: Global,
+    setup: &mut Setup,
+    path: &str,
+    words: &[&str],
+    out: &mut Answer,
+) -> Option<()> {
+    let text = out.got(lined(alloc, words))?;
+    setup.place(alloc, path, text, out)
 }
 
 /// Puts bytes behind those of a file, and tells how many it has then.
-fn extend<'a>(
+fn extend(
     alloc: Global,
     setup: &mut Setup,
-    path: &'a str,
-    words: &[&'a str],
-) -> Result<String, Fail<Wrong<'a>>> {
-    let bytes = spelled(alloc, words)?;
-    let file = held(setup, path)?;
-    file.extend_from_slice(&bytes)?;
-    Ok(format!(in alloc; "{} bytes", file.len())?)
+    path: &str,
+    words: &[&str],
+    out: &mut Answer,
+) -> Option<()> {
+    let bytes = bytes_up_to(alloc, MOST, words, out)?;
+    let file = held(setup, path, out)?;
+    out.got(file.extend_from_slice(&bytes))?;
+    out.show(&file.len());
+    out.put(" bytes");
+    Some(())
 }
 
-/// Replaces bytes of a file from an offset on, and tells how many were replaced.
-fn replace<'a>(
-    alloc: Global,
-    setup: &mut Setup,
-    path: &'a str,
-    at: &'a str,
-    words: &[&'a str],
-) -> Result<String, Fail<Wrong<'a>>> {
-    let bytes = spelled(alloc, words)?;
-    let offset = number(at)?;
+/// Replaces bytes from an offset on, and tells how many were replaced.
+fn put_replaced(file: &mut [u8], offset: u32, bytes: &[u8]) -> u32 {
     let mut count = 0u32;
-    for (place, byte) in held(setup, path)?
-        .iter_mut()
-        .skip(offset as usize)
-        .zip(bytes.iter())
-    {
+    for (place, byte) in file.iter_mut().skip(offset as usize).zip(bytes.iter()) {
         *place = *byte;
         count = count.saturating_add(1);
     }
-    Ok(format!(in alloc; "{count} replaced")?)
+    count
+}
+
+/// Replaces bytes of a file from an offset on, and tells how many were replaced.
+fn replace(
+    alloc: Global,
+    setup: &mut Setup,
+    [path, at]: [&str; 2],
+    words: &[&str],
+    out: &mut Answer,
+) -> Option<()> {
+    let offset = number::<u32>(at, out)?;
+    let bytes = bytes_up_to(alloc, MOST, words, out)?;
+    let file = held(setup, path, out)?;
+    out.show(&put_replaced(file, offset, &bytes));
+    out.put(" replaced");
+    Some(())
 }
 
 /// Places a file that holds what another one holds.
-fn copy<'a>(
-    alloc: Global,
-    setup: &mut Setup,
-    from: &'a str,
-    to: &str,
-) -> Result<String, Fail<Wrong<'a>>> {
-    let bytes = Vec::from_slice(alloc, held(setup, from)?)?;
-    Ok(setup.place(alloc, to, bytes)?)
+fn copy(alloc: Global, setup: &mut Setup, from: &str, to: &str, out: &mut Answer) -> Option<()> {
+    let held = held(setup, from, out)?;
+    let bytes = out.got(Vec::from_slice(alloc, held))?;
+    setup.place(alloc, to, bytes, out)
 }
 
 /// Plans that calls of an object fail in the next run.
-fn fail<'a>(
+fn fail(
     alloc: Global,
     plan: &mut Plan,
-    object: &'a str,
-    calls: &[&'a str],
-) -> Result<String, Fail<Wrong<'a>>> {
-    let calls = numbers(alloc, calls)?;
+    object: &str,
+    calls: &[&str],
+    out: &mut Answer,
+) -> Option<()> {
+    let calls = numbers::<u32>(alloc, calls, out)?;
     match object {
         "files" => plan.files = calls,
         "out" => plan.out = calls,
         "err" => plan.err = calls,
-        _ => return Err(Fail::Said(Wrong::Word(object))),
+        _ => return out.unknown_word(object),
     }
-    Ok("planned".to_string(alloc)?)
+    out.put("planned");
+    Some(())
+}
+
+/// Forgets all that was set up.
+fn clear(alloc: Global, setup: &mut Setup, out: &mut Answer) -> Option<()> {
+    *setup = Setup::new(alloc);
+    out.put("cleared");
+    Some(())
 }
 
 /// What the words of a line answer that sets up a run.
-pub fn answer<'a>(
-    alloc: Global,
-    setup: &mut Setup,
-    words: &[&'a str],
-) -> Result<String, Fail<Wrong<'a>>> {
+pub fn answer(alloc: Global, setup: &mut Setup, words: &[&str], out: &mut Answer) -> Option<()> {
     match words {
-        ["file", path, bytes @ ..] => {
-            let bytes = spelled(alloc, bytes)?;
-            Ok(setup.place(alloc, path, bytes)?)
-        }
-        ["lines", path, words @ ..] => {
-            let text = lined(alloc, words)?;
-            Ok(setup.place(alloc, path, text)?)
-        }
-        ["more", path, bytes @ ..] => extend(alloc, setup, path, bytes),
-        ["replace", path, at, bytes @ ..] => replace(alloc, setup, path, at, bytes),
-        ["copy", from, to] => copy(alloc, setup, from, to),
-        ["fail", object, calls @ ..] => fail(alloc, &mut setup.plan, object, calls),
-        ["clear"] => {
-            *setup = Setup::new(alloc);
-            Ok("cleared".to_string(alloc)?)
-        }
-        [word, ..] => Err(Fail::Said(Wrong::Word(word))),
-        [] => Err(Fail::Said(Wrong::Word(""))),
+        ["file", path, words @ ..] => file(alloc, setup, path, words, out),
+        ["lines", path, words @ ..] => text(alloc, setup, path, words, out),
+        ["more", path, words @ ..] => extend(alloc, setup, path, words, out),
+        ["replace", path, at, words @ ..] => replace(alloc, setup, [path, at], words, out),
+        ["copy", from, to] => copy(alloc, setup, from, to, out),
+        ["fail", object, calls @ ..] => fail(alloc, &mut setup.plan, object, calls, out),
+        ["clear"] => clear(alloc, setup, out),
+        words => out.unknown(words),
     }
 }

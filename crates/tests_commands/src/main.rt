@@ -4,50 +4,34 @@
 #![tactic(auto)]
 
 mod asked;
+mod calls;
 mod input;
 mod outcome;
 mod recorder;
 mod run;
 mod setup;
 mod shown;
-mod spelling;
+mod texts;
 
-use jc_base::Fail;
+use calls::answer;
 use setup::Setup;
-use spelling::Wrong;
 use std::alloc::{AllocError, Global};
 use std::io;
 use std::marker::Sync;
 use std::thread::Threads;
+use tests_lines::Answer;
 
-/// What the words of a line answer.
-fn obey<'a>(
-    rt: &(impl Threads + Sync),
-    alloc: Global,
-    setup: &mut Setup,
-    words: &[&'a str],
-) -> Result<String, Fail<Wrong<'a>>> {
-    match words {
-        ["run", words @ ..] => Ok(run::run(rt, alloc, setup, words)?),
-        ["show" | "text" | "compare" | "keep", ..] => shown::answer(alloc, setup, words),
-        ["list" | "part", ..] => asked::answer(alloc, setup, words),
-        words => input::answer(alloc, setup, words),
-    }
-}
-
-/// What a line answers, or what is wrong with it.
-fn answer(
+/// The answer to a line. The calls want a runtime that starts threads, so the loop over the lines stands here.
+fn answered(
     rt: &(impl Threads + Sync),
     alloc: Global,
     setup: &mut Setup,
     line: &str,
-) -> Result<String, AllocError> {
+) -> Result<Answer, AllocError> {
     let words: Vec<&str> = line.split_whitespace().collect(alloc)?;
-    match obey(rt, alloc, setup, &words) {
-        Ok(answer) => Ok(answer),
-        Err(Fail::Said(wrong)) => wrong.to_string(alloc),
-        Err(Fail::Memory) => Err(AllocError),
-    }
+    let mut out = Answer::new(alloc);
+    answer(rt, alloc, setup, &words, &mut out);
+    Ok(out)
 }
 
 fn main(rt: HostRuntime) -> io::Result<()> {
@@ -58,8 +42,9 @@ fn main(rt: HostRuntime) -> io::Result<()> {
         if line.is_empty() || line.starts_with("#") {
             println!(rt; "{line}")?;
         } else {
-            let answer = answer(&rt, alloc, &mut setup, line.as_str())?;
-            println!(rt; "{line} = {answer}")?;
+            let answer = answered(&rt, alloc, &mut setup, line.as_str())?;
+            let text = answer.text()?;
+            println!(rt; "{line} = {text}")?;
         }
     }
     Ok(())

@@ -1,44 +1,62 @@
 //! How a run ended, in words.
 
 use jc_top::{Fault, Status};
-use std::alloc::{AllocError, Global};
 use std::str;
+use tests_lines::Answer;
 
-/// The status, and which input is refused, counted from 0.
-pub fn status_text(alloc: Global, status: &Status) -> Result<String, AllocError> {
-    match status {
-        Status::Done => "done".to_string(alloc),
-        Status::Refused(Fault::Exec { path, .. }) => {
-            format!(in alloc; "refused: execution data {path}")
+/// Puts two inputs that share what stands in front of their numbers.
+fn put_pair(label: &str, first: u32, second: u32, out: &mut Answer) {
+    out.label(label, &first);
+    out.label(" and ", &second);
+}
+
+/// Puts which input is refused, counted from 0.
+fn put_refused(fault: &Fault, out: &mut Answer) {
+    match fault {
+        Fault::Exec { path, .. } => out.label("refused: execution data ", path),
+        Fault::Plan { line } => out.label("refused: plan at line ", line),
+        Fault::Class { path, .. } => out.label("refused: class ", path),
+        Fault::SameName { first, second } => {
+            put_pair("refused: class names ", *first, *second, out)
         }
-        Status::Refused(Fault::Plan { line }) => format!(in alloc; "refused: plan at line {line}"),
-        Status::Refused(Fault::Class { path, .. }) => format!(in alloc; "refused: class {path}"),
-        Status::Refused(Fault::SameName { first, second }) => {
-            format!(in alloc; "refused: class names {first} and {second}")
-        }
-        Status::Refused(Fault::SameId { first, second }) => {
-            format!(in alloc; "refused: class ids {first} and {second}")
-        }
-        Status::Refused(Fault::NoEntry { line }) => {
-            format!(in alloc; "refused: no entry at line {line}")
-        }
-        Status::Usage => "usage".to_string(alloc),
-        Status::ReadFault => "read fault".to_string(alloc),
-        Status::WriteFault => "write fault".to_string(alloc),
-        Status::Memory => "memory".to_string(alloc),
+        Fault::SameId { first, second } => put_pair("refused: class ids ", *first, *second, out),
+        Fault::NoEntry { line } => out.label("refused: no entry at line ", line),
     }
 }
 
-/// Adds a line for each line of a text, behind its name. The last may lack its line feed.
-pub fn put_lines(into: &mut String, name: &str, bytes: &[u8]) -> Result<(), AllocError> {
-    let Ok(text) = str::from_utf8(bytes) else {
-        return write!(into, "\n{name} is no text");
-    };
-    for piece in text.split_inclusive('\n') {
-        match piece.strip_suffix('\n') {
-            Some(line) => write!(into, "\n{name}: {line}")?,
-            None => write!(into, "\n{name} part: {piece}")?,
+/// Puts the status, and which input is refused.
+pub fn put_status(status: &Status, out: &mut Answer) {
+    match status {
+        Status::Done => out.put("done"),
+        Status::Refused(fault) => put_refused(fault, out),
+        Status::Usage => out.put("usage"),
+        Status::ReadFault => out.put("read fault"),
+        Status::WriteFault => out.put("write fault"),
+        Status::Memory => out.put("memory"),
+    }
+}
+
+/// Puts a line for a piece of a text, behind its name. The last may lack its line feed.
+fn put_piece(name: &str, piece: &str, out: &mut Answer) {
+    out.put("\n");
+    out.put(name);
+    match piece.strip_suffix('\n') {
+        Some(line) => out.label(": ", &line),
+        None => out.label(" part: ", &piece),
+    }
+}
+
+/// Puts a line for each line of a text, behind its name. The last may lack its line feed.
+pub fn put_lines(name: &str, bytes: &[u8], out: &mut Answer) {
+    match str::from_utf8(bytes) {
+        Ok(text) => {
+            for piece in text.split_inclusive('\n') {
+                put_piece(name, piece, out);
+            }
+        }
+        Err(_) => {
+            out.label("\n", &name);
+            out.put(" is no text");
         }
     }
-    Ok(())
 }

@@ -1,6 +1,6 @@
 //! Runs of the tool.
 
-use crate::outcome::{put_lines, status_text};
+use crate::outcome::{put_lines, put_status};
 use crate::recorder::Recorder;
 use crate::setup::{Plan, Setup};
 use jc_base::{Memory, MemorySink};
@@ -8,11 +8,12 @@ use jc_top::{OpenGate, Status, run_tool};
 use std::alloc::{AllocError, Global};
 use std::marker::Sync;
 use std::thread::Threads;
+use tests_lines::{Answer, WatchedFiles};
 
 /// What a run reads and writes.
 #[derive(Drop)]
 struct Outside {
-    files: Recorder,
+    files: WatchedFiles<Recorder>,
     out: MemorySink,
     err: MemorySink,
 }
@@ -21,7 +22,10 @@ struct Outside {
 fn make_outside(alloc: Global, setup: &Setup) -> Result<Outside, Memory> {
     let out = MemorySink::new(alloc, &setup.plan.out)?;
     let err = MemorySink::new(alloc, &setup.plan.err)?;
-    let files = Recorder::new(alloc, setup.for_a_run(alloc)?);
+    let files = WatchedFiles {
+        inner: setup.for_a_run(alloc)?,
+        writes: Recorder::new(alloc),
+    };
     Ok(Outside { files, out, err })
 }
 
@@ -54,16 +58,15 @@ fn call(
     ))
 }
 
-/// The status, and in further lines the texts and the writes.
-fn told(alloc: Global, status: &Status, outside: &Outside) -> Result<String, AllocError> {
-    let mut answer = status_text(alloc, status)?;
-    put_lines(&mut answer, "out", outside.out.bytes())?;
-    put_lines(&mut answer, "err", outside.err.bytes())?;
-    answer.push_str(outside.files.lines.as_str())?;
-    if outside.files.lost {
-        answer.push_str("\nmemory")?;
+/// Puts the status, and in further lines the texts and the writes.
+fn put_run(status: &Status, outside: &Outside, out: &mut Answer) {
+    put_status(status, out);
+    put_lines("out", outside.out.bytes(), out);
+    put_lines("err", outside.err.bytes(), out);
+    match outside.files.writes.lines.text() {
+        Ok(lines) => out.put(lines),
+        Err(_) => out.put("\nmemory"),
     }
-    Ok(answer)
 }
 
 /// Runs the tool on what is set up. What was planned to fail is planned for this run alone.
@@ -72,12 +75,13 @@ pub fn run(
     alloc: Global,
     setup: &mut Setup,
     words: &[&str],
-) -> Result<String, Memory> {
-    let mut outside = make_outside(alloc, setup)?;
-    let status = call(rt, alloc, words, &mut outside)?;
-    let answer = told(alloc, &status, &outside)?;
+    out: &mut Answer,
+) -> Option<()> {
+    let mut outside = out.got(make_outside(alloc, setup))?;
+    let status = out.got(call(rt, alloc, words, &mut outside))?;
+    put_run(&status, &outside, out);
     setup.plan = Plan::new(alloc);
     let Outside { files, .. } = outside;
     setup.left = Some(files.inner);
-    Ok(answer)
+    Some(())
 }

@@ -1,8 +1,9 @@
 //! What the lines before have set up for a run, and what the latest run left.
 
 use jc_base::{Memory, MemoryFiles};
-use std::alloc::{AllocError, Global};
+use std::alloc::Global;
 use std::collections::BTreeMap;
+use tests_lines::Answer;
 
 /// The numbers of the calls that fail in the next run, counted from 1, for each object that is called.
 #[derive(Drop)]
@@ -70,10 +71,12 @@ impl Setup {
         alloc: Global,
         path: &str,
         bytes: Vec<u8>,
-    ) -> Result<String, AllocError> {
-        let count = bytes.len();
-        let path = String::from_str(alloc, path)?;
-        self.files.insert(path, bytes)?;
-        format!(in alloc; "{count} bytes")
+        out: &mut Answer,
+    ) -> Option<()> {
+        out.show(&bytes.len());
+        out.put(" bytes");
+        let path = out.got(String::from_str(alloc, path))?;
+        out.got(self.files.insert(path, bytes))?;
+        Some(())
     }
 }

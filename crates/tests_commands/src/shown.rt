@@ -2,81 +2,72 @@
 
 use crate::outcome::put_lines;
 use crate::setup::Setup;
-use crate::spelling::Wrong;
-use jc_base::Fail;
-use std::alloc::{AllocError, Global};
+use std::alloc::Global;
+use tests_lines::Answer;
 
-/// The bytes at a path, in hexadecimal digits.
-fn show(alloc: Global, setup: &Setup, path: &str) -> Result<String, AllocError> {
+/// Puts the bytes at a path, in hexadecimal digits.
+fn show(setup: &Setup, path: &str, out: &mut Answer) -> Option<()> {
     match setup.left_at(path) {
-        None => "absent".to_string(alloc),
-        Some([]) => "no bytes".to_string(alloc),
-        Some(bytes) => hex::encode(alloc, bytes),
+        None => out.put("absent"),
+        Some([]) => out.put("no bytes"),
+        Some(bytes) => out.bytes(bytes),
     }
+    Some(())
 }
 
-/// How many bytes stand at a path, and in further lines the text that they spell.
-fn text(alloc: Global, setup: &Setup, path: &str) -> Result<String, AllocError> {
-    let Some(bytes) = setup.left_at(path) else {
-        return "absent".to_string(alloc);
-    };
-    let mut answer = format!(in alloc; "{} bytes", bytes.len())?;
-    put_lines(&mut answer, path, bytes)?;
-    Ok(answer)
+/// Puts how many bytes stand at a path, and in further lines the text that they spell.
+fn text(setup: &Setup, path: &str, out: &mut Answer) -> Option<()> {
+    match setup.left_at(path) {
+        Some(bytes) => {
+            out.show(&bytes.len());
+            out.put(" bytes");
+            put_lines(path, bytes, out);
+        }
+        None => out.put("absent"),
+    }
+    Some(())
 }
 
-/// Where bytes differ from those that are wanted.
-fn difference(alloc: Global, left: &[u8], wanted: &[u8]) -> Result<String, AllocError> {
+/// Puts where bytes differ from those that are wanted.
+fn put_difference(left: &[u8], wanted: &[u8], out: &mut Answer) -> Option<()> {
     let mut pairs = left.iter().zip(wanted);
     match pairs.position(|(a, b)| *a != *b) {
-        Some(place) => format!(in alloc; "differs at {place}"),
-        None if left.len() == wanted.len() => "same".to_string(alloc),
-        None => format!(in alloc; "{} of {} bytes", left.len(), wanted.len()),
+        Some(place) => out.label("differs at ", &place),
+        None if left.len() == wanted.len() => out.put("same"),
+        None => {
+            out.show(&left.len());
+            out.label(" of ", &wanted.len());
+            out.put(" bytes");
+        }
     }
+    Some(())
 }
 
-/// How a file that the run left differs from one that was placed.
-fn compare<'a>(
-    alloc: Global,
-    setup: &Setup,
-    path: &'a str,
-    placed: &'a str,
-) -> Result<String, Fail<Wrong<'a>>> {
-    let Some(left) = setup.left_at(path) else {
-        return Err(Fail::Said(Wrong::Absent(path)));
-    };
-    match setup.files.get(placed) {
-        Some(wanted) => Ok(difference(alloc, left, wanted)?),
-        None => Err(Fail::Said(Wrong::Absent(placed))),
+/// Puts how a file that the run left differs from one that was placed.
+fn compare(setup: &Setup, path: &str, placed: &str, out: &mut Answer) -> Option<()> {
+    match (setup.left_at(path), setup.files.get(placed)) {
+        (Some(left), Some(wanted)) => put_difference(left, wanted, out),
+        (None, _) => out.wrong_word("no file", path),
+        (_, None) => out.wrong_word("no file", placed),
     }
 }
 
 /// Places a file that the run left, for further runs.
-fn keep<'a>(
-    alloc: Global,
-    setup: &mut Setup,
-    path: &'a str,
-    to: &str,
-) -> Result<String, Fail<Wrong<'a>>> {
-    let bytes = match setup.left_at(path) {
-        Some(left) => Vec::from_slice(alloc, left)?,
-        None => return Err(Fail::Said(Wrong::Absent(path))),
+fn keep(alloc: Global, setup: &mut Setup, path: &str, to: &str, out: &mut Answer) -> Option<()> {
+    let Some(left) = setup.left_at(path) else {
+        return out.wrong_word("no file", path);
     };
-    Ok(setup.place(alloc, to, bytes)?)
+    let bytes = out.got(Vec::from_slice(alloc, left))?;
+    setup.place(alloc, to, bytes, out)
 }
 
 /// What the words of a line answer that asks for what the latest run left.
-pub fn answer<'a>(
-    alloc: Global,
-    setup: &mut Setup,
-    words: &[&'a str],
-) -> Result<String, Fail<Wrong<'a>>> {
+pub fn answer(alloc: Global, setup: &mut Setup, words: &[&str], out: &mut Answer) -> Option<()> {
     match words {
-        ["show", path] => Ok(show(alloc, setup, path)?),
-        ["text", path] => Ok(text(alloc, setup, path)?),
-        ["compare", path, placed] => compare(alloc, setup, path, placed),
-        ["keep", path, to] => keep(alloc, setup, path, to),
-        [word, ..] => Err(Fail::Said(Wrong::Word(word))),
-        [] => Err(Fail::Said(Wrong::Word(""))),
+        ["show", path] => show(setup, path, out),
+        ["text", path] => text(setup, path, out),
+        ["compare", path, placed] => compare(setup, path, placed, out),
+        ["keep", path, to] => keep(alloc, setup, path, to, out),
+        words => out.unknown(words),
     }
 }

@@ -7,12 +7,19 @@ ghost use Rattle.jc_machine_model.specs.Programs.{IsProgram};
 ghost use Rattle.jc_machine.specs.Hits.{count_in, probe_counts};
 ghost use Rattle.jc_machine.specs.Machines.{Fits};
 
-use crate::stop::Stop;
+use jc_bytes::Fail;
 use jc_machine::{BitSink, World, entry};
 use jc_machine_text::case_text;
 use jc_programs::{Case, CaseEnd, Entry, ProbeInit, Program, RunPlan, ThreadLine};
 use std::alloc::{AllocError, Global};
 use std::str;
+
+/// A thread has no method to begin with.
+#[derive(Clone, Copy)]
+pub struct NoEntry {
+    /// The line of the thread in the run plan.
+    pub line: u32,
+}
 
 /// How many probes there are.
 fn count_of(probes: Option<ProbeInit>) -> u32
@@ -41,7 +48,7 @@ fn entries(
     alloc: Global,
     program: &Program,
     threads: &[ThreadLine],
-) -> Result<Vec<Entry>, Stop<'static>>
+) -> Result<Vec<Entry>, Fail<NoEntry>>
     requires program { IsProgram program.now }
     ensures { IfOk result (λ entries. AreEntries program.now threads.now entries.items) }
 {
@@ -49,7 +56,7 @@ fn entries(
     'looking: for thread in threads {
         match entry(program, thread) {
             Some(entry) => entries.push(entry)?,
-            None => return Err(Stop::NoEntry(thread.line)),
+            None => return Err(Fail::Said(NoEntry { line: thread.line })),
         }
     }
     Ok(entries)
@@ -101,7 +108,7 @@ fn run_first(
     case: &Case,
     sink: &mut BitSink,
     text: &mut String,
-) -> Result<World, Stop<'static>>
+) -> Result<World, Fail<NoEntry>>
     requires program { IsProgram program.now }
     requires case { IsCase case.now }
     requires counts { counts_of sink.old ≡ probe_counts program.now }
@@ -124,7 +131,7 @@ fn run_next(
     number: u32,
     sink: &mut BitSink,
     text: &mut String,
-) -> Result<(), Stop<'static>>
+) -> Result<(), Fail<NoEntry>>
     requires program { IsProgram program.now }
     requires case { IsCase case.now }
     requires fits { Fits program.now world.old }
@@ -145,7 +152,7 @@ pub fn run_cases(
     plan: &RunPlan,
     sink: &mut BitSink,
     text: &mut String,
-) -> Result<(), Stop<'static>>
+) -> Result<(), Fail<NoEntry>>
     requires program { IsProgram program.now }
     requires plan { IsRunPlan plan.now }
     requires counts { counts_of sink.old ≡ probe_counts program.now }

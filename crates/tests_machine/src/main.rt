@@ -10,60 +10,12 @@
 mod calls;
 mod cases;
 mod shown;
-mod stop;
-mod texts;
 
-use calls::{keep, run};
-use jc_bytes::Bytes;
-use std::alloc::{AllocError, Global};
+use calls::ClassFiles;
 use std::io;
-use stop::Stop;
-
-/// Puts what a call answers.
-fn call<'a>(
-    alloc: Global,
-    files: &mut Vec<Bytes>,
-    words: &[&'a str],
-    out: &mut String,
-) -> Result<(), Stop<'a>> {
-    match words {
-        ["only", digits] => {
-            *files = Vec::new(alloc);
-            keep(alloc, files, *digits, out)
-        }
-        ["also", digits] => keep(alloc, files, *digits, out),
-        ["run", text @ ..] => run(alloc, files, text, true, out),
-        ["hits", text @ ..] => run(alloc, files, text, false, out),
-        _ => Err(Stop::Word("no call")),
-    }
-}
-
-/// Puts what a call answers, or why it has no answer.
-fn put_answer(
-    alloc: Global,
-    files: &mut Vec<Bytes>,
-    line: &str,
-    out: &mut String,
-) -> Result<(), AllocError> {
-    let words: Vec<&str> = line.split_whitespace().collect(alloc)?;
-    match call(alloc, files, &words, out) {
-        Ok(()) => Ok(()),
-        Err(stop) => stop.put(out),
-    }
-}
+use tests_lines::answer_lines;
 
 fn main(rt: HostRuntime) -> io::Result<()> {
-    let alloc = rt.alloc();
-    let mut files = Vec::new(alloc);
-    for line in rt.lines(alloc) {
-        let line = line?;
-        if line.is_empty() || line.starts_with("#") {
-            println!(rt; "{line}")?;
-        } else {
-            let mut answer = String::new(alloc);
-            put_answer(alloc, &mut files, line.as_str(), &mut answer)?;
-            println!(rt; "{line} = {answer}")?;
-        }
-    }
-    Ok(())
+    let mut files = ClassFiles::new(rt.alloc());
+    answer_lines(&rt, &mut files)
 }

@@ -1,11 +1,11 @@
 //! Files and writers that behave otherwise than those in memory.
-ghost use Rattle.std.specs.Prelude.{[], Some};
 
-use jc_base::{FileFault, Files, HostSink, MemoryFiles, MemorySink, Sink};
+use jc_base::{HostSink, MemoryFiles, MemorySink, Sink};
 use jc_top::{OpenGate, Status, run_tool};
 use std::alloc::{AllocError, Global};
 use std::io;
 use std::test::Fail;
+use tests_lines::{Forgetful, WatchedFiles};
 
 /// A writer that takes at most so many bytes of a piece.
 #[derive(Drop)]
@@ -42,44 +42,6 @@ fn slow_writers_take_each_piece(rt: HostRuntime) -> Result<(), Fail> {
     Ok(())
 }
 
-/// Files whose writes leave nothing of what was written: what lands is a meaning of each type's own.
-#[derive(Drop)]
-struct Forgetful {
-    inner: MemoryFiles,
-}
-
-impl Files for Forgetful {
-    ghost contents = { λ f. Some f.inner.files };
-
-    ghost landed = { λ path bytes. [] };
-
-    ghost read_faults = { λ f. f.inner.read_faults };
-
-    ghost write_faults = { λ f. f.inner.write_faults };
-
-    fn read(&mut self, alloc: Global, path: &str, into: &mut Vec<u8>) -> Result<(), FileFault> {
-        self.inner.read(alloc, path, into)
-    }
-
-    fn read_part(
-        &mut self,
-        alloc: Global,
-        path: &str,
-        from: u64,
-        into: &mut Vec<u8>,
-    ) -> Result<bool, FileFault> {
-        self.inner.read_part(alloc, path, from, into)
-    }
-
-    fn list(&mut self, alloc: Global, folder: &str) -> Result<Vec<String>, FileFault> {
-        self.inner.list(alloc, folder)
-    }
-
-    fn write(&mut self, path: &str, _bytes: &[u8]) -> Result<(), FileFault> {
-        self.inner.write(path, &[])
-    }
-}
-
 /// One record of a class named A, with probes 0 and 2 of 3 hit.
 const RECORD: &[u8] = b"\x01\xc0\xc0\x10\x07\x11\0\0\0\0\0\0\0\x01\0\x01A\x03\x05";
 
@@ -95,8 +57,9 @@ pub fn words(alloc: Global, line: &str) -> Result<Vec<String>, AllocError> {
 #[test]
 fn what_lands_is_what_the_files_say(rt: HostRuntime) -> Result<(), Fail> {
     let alloc = rt.alloc();
-    let mut files = Forgetful {
+    let mut files = WatchedFiles {
         inner: MemoryFiles::new(alloc, &[])?,
+        writes: Forgetful,
     };
     files.inner.with(alloc, "a.exec", RECORD)?;
     let mut sink = MemorySink::new(alloc, &[])?;

@@ -2,12 +2,13 @@
 ghost use Rattle.std.specs.Prelude.{◌≡◌};
 
 use crate::fakes::words;
-use jc_base::{FileFault, Files, MemoryFiles, MemorySink};
+use jc_base::{MemoryFiles, MemorySink};
 use jc_top::{Fault, OpenGate, Status, run_tool};
 use std::alloc::Global;
 use std::marker::{PhantomData, Sync};
 use std::test::Fail;
 use std::thread::Threads;
+use tests_lines::{WatchedFiles, Writes};
 
 /// The path whose file holds other bytes.
 const TARGET: &str = "out/A.class";
@@ -92,63 +93,42 @@ impl Landing for NoClass {
     }
 }
 
-/// Files in memory of which one holds what lands there, whatever is written to it.
-#[derive(Drop)]
+/// Writes of which those to one path leave what lands there, whatever is written.
+#[derive(Clone, Copy)]
 struct Kept<L> {
-    inner: MemoryFiles,
     landing: PhantomData<L>,
 }
 
-impl<L: Landing> Files for Kept<L> {
-    ghost use Rattle.std.specs.Prelude.{Some, bytes_eq, cond};
+impl<L: Landing> Writes for Kept<L> {
+    ghost use Rattle.std.specs.Prelude.{bytes_eq, cond};
     ghost use Rattle.tests_outside.specs.declared.kept.TheConstants.{TARGET};
-
-    ghost contents = { λ f. Some f.inner.files };
 
     ghost landed = { λ path bytes. cond (bytes_eq path TARGET.now) L.bytes bytes };
 
-    ghost read_faults = { λ f. f.inner.read_faults };
-
-    ghost write_faults = { λ f. f.inner.write_faults };
-
-    fn read(&mut self, alloc: Global, path: &str, into: &mut Vec<u8>) -> Result<(), FileFault> {
-        self.inner.read(alloc, path, into)
+    fn landed<'a>(&self, path: &str, bytes: &'a [u8]) -> &'a [u8] {
+        if path == TARGET { L::bytes() } else { bytes }
     }
 
-    fn read_part(
-        &mut self,
-        alloc: Global,
-        path: &str,
-        from: u64,
-        into: &mut Vec<u8>,
-    ) -> Result<bool, FileFault> {
-        self.inner.read_part(alloc, path, from, into)
-    }
-
-    fn list(&mut self, alloc: Global, folder: &str) -> Result<Vec<String>, FileFault> {
-        self.inner.list(alloc, folder)
-    }
-
-    fn write(&mut self, path: &str, bytes: &[u8]) -> Result<(), FileFault> {
-        let landed = if path == TARGET { L::bytes() } else { bytes };
-        self.inner.write(path, landed)
-    }
+    fn hear(&mut self, _path: &str, _is_done: bool) {}
 }
 
 /// What a run of `cover` over the class left.
 #[derive(Drop)]
 struct Left<L> {
     status: Status,
-    files: Kept<L>,
+    files: WatchedFiles<Kept<L>>,
     out: MemorySink,
     err: MemorySink,
 }
 
 /// Runs `cover` over the class and a run plan that calls `abs` with 5.
 fn cover<L: Landing, R: Threads + Sync>(rt: &R, alloc: Global) -> Result<Left<L>, Fail> {
-    let mut files = Kept {
-        inner: MemoryFiles::new(alloc, &[])?,
+    let writes = Kept {
         landing: PhantomData,
+    };
+    let mut files = WatchedFiles {
+        inner: MemoryFiles::new(alloc, &[])?,
+        writes,
     };
     let plan = b"case\nthread A.abs 5\nschedule robin 40\n";
     files.inner.with(alloc, "A.class", ORIGINAL)?;

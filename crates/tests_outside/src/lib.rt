@@ -1,4 +1,4 @@
-//! What no row of the programs `vectors_..` can say: real files and texts, and files and writers that behave otherwise than
+//! What no row of the programs `tests_..` can say: real files and texts, and files and writers that behave otherwise than
 //! those in memory.
 #![tactic(auto)]
 

@@ -1,84 +1,73 @@
 //! Programs as answers.
 ghost use Rattle.std.specs.Prelude.{◌≤◌, All, IsTrue, length};
 
-use jc_bytes::{Bytes, Fail, Refusal, RefusalKind};
+use jc_bytes::{Bytes, Fail};
 use jc_link::{LinkRefusal, link};
-use jc_programs::{Linked, Program};
-use std::alloc::{AllocError, Global};
-use std::fmt::Write;
-use std::str;
+use jc_programs::{Linked, ProbeInit, Program, StaticField};
+use std::alloc::Global;
+use tests_lines::{Answer, bytes};
 
 /// The most bytes of a class file here.
 const MOST: usize = 1_000_000;
 
-/// Puts a name, or `?` where it is no UTF-8.
-fn put_name(name: &[u8], out: &mut String) -> Result<(), AllocError> {
-    out.push_str(str::from_utf8(name).unwrap_or("?"))
+/// Puts the probes of a class, if it has any.
+fn put_probes(probes: Option<ProbeInit>, out: &mut Answer) {
+    if let Some(init) = probes {
+        out.label(" ", &init.count);
+        out.put(" probes of ");
+        out.id(init.id);
+    }
+}
+
+/// Puts the static fields of a class.
+fn put_statics(statics: &[StaticField], out: &mut Answer) {
+    for field in statics {
+        out.put(" ");
+        out.name(&field.name);
+        out.put(":");
+        out.name(&field.desc);
+        out.label("=", &field.first);
+    }
 }
 
 /// Puts a class: its name, how many methods have code, whether it has an initialization method, its probes, its statics.
-fn put_class(class: &Linked, out: &mut String) -> Result<(), AllocError> {
-    put_name(&class.name, out)?;
-    write!(out, " {}", class.bodies.len())?;
+fn put_class(class: &Linked, out: &mut Answer) {
+    out.name(&class.name);
+    out.label(" ", &class.bodies.len());
     if class.has_clinit {
-        out.push_str(" clinit")?;
+        out.put(" clinit");
     }
-    if let Some(init) = class.probes {
-        write!(out, " {} probes of {:016x}", init.count, init.id)?;
-    }
-    for field in &class.statics {
-        out.push_str(" ")?;
-        put_name(&field.name, out)?;
-        out.push_str(":")?;
-        put_name(&field.desc, out)?;
-        write!(out, "={}", field.first)?;
-    }
-    Ok(())
+    put_probes(class.probes, out);
+    put_statics(&class.statics, out);
 }
 
 /// Puts the classes of a program.
-fn put_program(program: &Program, out: &mut String) -> Result<(), AllocError> {
-    write!(out, "{} classes", program.classes.len())?;
+fn put_program(program: &Program, out: &mut Answer) {
+    out.show(&program.classes.len());
+    out.put(" classes");
     for class in &program.classes {
-        out.push_str("; ")?;
-        put_class(class, out)?;
-    }
-    Ok(())
-}
-
-/// The name of a reason.
-fn kind_name(kind: RefusalKind) -> &'static str {
-    match kind {
-        RefusalKind::NotAClass => "NotAClass",
-        RefusalKind::Version => "Version",
-        RefusalKind::Subroutine => "Subroutine",
-        RefusalKind::BadCode => "BadCode",
-        RefusalKind::FrameMissing => "FrameMissing",
-        RefusalKind::FrameClash => "FrameClash",
-        _ => "no reason of linking",
+        out.put("; ");
+        put_class(class, out);
     }
 }
 
-/// Puts why a file isn't linked.
-fn put_reason(refusal: &Refusal, out: &mut String) -> Result<(), AllocError> {
-    out.push_str(kind_name(refusal.kind))?;
-    if let Some(method) = refusal.method {
-        write!(out, " in method {method}")?;
-    }
-    write!(out, " at {}", refusal.place)
+/// Puts two files, and what they have in common.
+fn put_pair(first: u32, second: u32, common: &str, out: &mut Answer) {
+    out.label("files ", &first);
+    out.label(" and ", &second);
+    out.put(common);
 }
 
 /// Puts why files have no program.
-fn put_refusal(refusal: &LinkRefusal, out: &mut String) -> Result<(), AllocError> {
+fn put_refusal(refusal: &LinkRefusal, out: &mut Answer) {
     match refusal {
         LinkRefusal::Class { index, refusal } => {
-            write!(out, "file {index}: ")?;
-            put_reason(refusal, out)
+            out.label("file ", index);
+            out.put(": ");
+            out.reason(refusal);
         }
-        LinkRefusal::SameName { first, second } => {
-            write!(out, "files {first} and {second}: one name")
-        }
-        LinkRefusal::SameId { first, second } => write!(out, "files {first} and {second}: one id"),
+        LinkRefusal::SameName { first, second } => put_pair(*first, *second, ": one name", out),
+        LinkRefusal::SameId { first, second } => put_pair(*first, *second, ": one id", out),
     }
 }
 
@@ -90,25 +79,25 @@ fn are_short(files: &[Bytes]) -> bool
 }
 
 /// Puts the program of files, or why there is none.
-fn put_linked(alloc: Global, files: &[Bytes], out: &mut String) -> Result<(), AllocError> {
+fn put_linked(alloc: Global, files: &[Bytes], out: &mut Answer) -> Option<()> {
     if files.len() > MOST || !are_short(files) {
-        return out.push_str("too long");
+        return out.wrong("too long");
     }
     match link(alloc, files) {
         Ok(program) => put_program(&program, out),
-        Err(Fail::Memory) => Err(AllocError),
+        Err(Fail::Memory) => return out.lose(),
         Err(Fail::Said(refusal)) => put_refusal(&refusal, out),
     }
+    Some(())
 }
 
 /// Puts the program of the class files that hexadecimal digits spell, or why there is none.
-pub fn put_link(alloc: Global, words: &[&str], out: &mut String) -> Result<(), AllocError> {
+pub fn put_link(alloc: Global, words: &[&str], out: &mut Answer) -> Option<()> {
     let mut files = Vec::new(alloc);
     for word in words {
-        match hex::decode(alloc, *word) {
-            Ok(bytes) => files.push(Bytes::from_vec(bytes))?,
-            Err(_) => return out.push_str("no digits"),
-        }
+        let file = bytes(alloc, &[*word], out)?;
+        let pushed = files.push(Bytes::from_vec(file));
+        out.got(pushed)?;
     }
     put_linked(alloc, &files, out)
 }

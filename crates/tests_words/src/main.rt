@@ -5,45 +5,14 @@
 //! are printed as they are.
 #![tactic(auto)]
 
+mod command_lines;
 mod shown;
 mod spelled;
 
-use jc_bytes::Fail;
-use jc_command_words::read_words;
-use shown::shown;
-use spelled::spelled;
-use std::alloc::{AllocError, Global};
+use command_lines::CommandLines;
 use std::io;
-
-/// What the words call.
-fn answer(alloc: Global, words: &[&str]) -> Result<String, AllocError> {
-    let owned = spelled(alloc, words)?;
-    match read_words(alloc, &owned) {
-        Ok(command) => shown(alloc, &command),
-        Err(Fail::Said(_)) => String::from_str(alloc, "Usage"),
-        Err(Fail::Memory) => Err(AllocError),
-    }
-}
-
-/// Prints a line, with its answer if it is a command line.
-fn print_row(rt: &(impl Print + AllocGlobal), line: &str) -> io::Result<()> {
-    if line.is_empty() || line.starts_with("#") {
-        return println!(rt; "{line}");
-    }
-    let alloc = rt.alloc();
-    let words: Vec<&str> = line.split_whitespace().collect(alloc)?;
-    match words.as_slice() {
-        ["jcov", behind @ ..] => {
-            let answer = answer(alloc, behind)?;
-            println!(rt; "{line} = {answer}")
-        }
-        _ => println!(rt; "{line} = no call"),
-    }
-}
+use tests_lines::answer_lines;
 
 fn main(rt: HostRuntime) -> io::Result<()> {
-    for line in rt.lines(rt.alloc()) {
-        print_row(&rt, line?.as_str())?;
-    }
-    Ok(())
+    answer_lines(&rt, &mut CommandLines)
 }

@@ -1,84 +1,76 @@
 //! Commands, as they are printed.
 use jc_command_words::{Command, FileWord};
-use std::alloc::{AllocError, Global};
+use tests_lines::Answer;
 
-/// The files, each behind a space; a folder stands in brackets.
-fn files(alloc: Global, words: &[FileWord<'_>]) -> Result<String, AllocError> {
-    let mut text = String::new(alloc);
+/// Puts the files, each behind a space; a folder stands in brackets.
+fn put_files(words: &[FileWord<'_>], out: &mut Answer) {
+    out.put(" files");
     for word in words {
         match word {
-            FileWord::Plain(path) => {
-                text.push_str(" ")?;
-                text.push_str(path)?;
-            }
+            FileWord::Plain(path) => out.label(" ", path),
             FileWord::Folder(path) => {
-                text.push_str(" [")?;
-                text.push_str(path)?;
-                text.push_str("]")?;
+                out.label(" [", path);
+                out.put("]");
             }
         }
     }
-    Ok(text)
 }
 
-/// The inputs, each behind a space.
-fn inputs(alloc: Global, words: &[&str]) -> Result<String, AllocError> {
-    let mut text = String::new(alloc);
+/// Puts the inputs, each behind a space.
+fn put_inputs(words: &[&str], out: &mut Answer) {
+    out.put(" inputs");
     for word in words {
-        text.push_str(" ")?;
-        text.push_str(word)?;
-    }
-    Ok(text)
-}
-
-/// The execution data that a report reads, if any.
-fn exec_part(alloc: Global, exec: Option<&str>) -> Result<String, AllocError> {
-    match exec {
-        Some(path) => format!(in alloc; " exec {path}"),
-        None => Ok(String::new(alloc)),
+        out.label(" ", word);
     }
 }
 
-/// The command with what it is given.
-pub fn shown(alloc: Global, command: &Command<'_>) -> Result<String, AllocError> {
+/// Puts the execution data that a report reads, if any.
+fn put_exec(exec: Option<&str>, out: &mut Answer) {
+    if let Some(path) = exec {
+        out.label(" exec ", &path);
+    }
+}
+
+/// Puts a command on files, with what it is given.
+fn put_of_files(command: &Command<'_>, out: &mut Answer) {
     match command {
-        Command::Instrument { dest, files: words } => {
-            let files = files(alloc, words)?;
-            format!(in alloc; "instrument dest {dest} files{files}")
-        }
-        Command::Run {
-            plan,
-            destfile,
-            workers,
-            files: words,
-        } => {
-            let files = files(alloc, words)?;
-            format!(in alloc; "run plan {plan} destfile {destfile} workers {workers} files{files}")
-        }
-        Command::Merge {
-            destfile,
-            inputs: words,
-        } => {
-            let inputs = inputs(alloc, words)?;
-            format!(in alloc; "merge destfile {destfile} inputs{inputs}")
+        Command::Instrument { dest, files } => {
+            out.label("instrument dest ", dest);
+            put_files(files, out);
         }
         Command::Report {
             csv,
             name,
             exec,
-            files: words,
+            files,
         } => {
-            let exec = exec_part(alloc, *exec)?;
-            let files = files(alloc, words)?;
-            format!(in alloc; "report csv {csv} name '{name}'{exec} files{files}")
+            out.label("report csv ", csv);
+            out.label(" name '", name);
+            out.put("'");
+            put_exec(*exec, out);
+            put_files(files, out);
         }
-        Command::ExecInfo { inputs: words } => {
-            let inputs = inputs(alloc, words)?;
-            format!(in alloc; "execinfo inputs{inputs}")
+        Command::ClassInfo { files } => {
+            out.put("classinfo");
+            put_files(files, out);
         }
-        Command::ClassInfo { files: words } => {
-            let files = files(alloc, words)?;
-            format!(in alloc; "classinfo files{files}")
+        _ => (),
+    }
+}
+
+/// Puts a command that runs a plan, with what it is given.
+fn put_of_plan(command: &Command<'_>, out: &mut Answer) {
+    match command {
+        Command::Run {
+            plan,
+            destfile,
+            workers,
+            files,
+        } => {
+            out.label("run plan ", plan);
+            out.label(" destfile ", destfile);
+            out.label(" workers ", workers);
+            put_files(files, out);
         }
         Command::Cover {
             dest,
@@ -87,13 +79,33 @@ pub fn shown(alloc: Global, command: &Command<'_>) -> Result<String, AllocError>
             csv,
             workers,
             name,
-            files: words,
+            files,
         } => {
-            let files = files(alloc, words)?;
-            format!(in alloc;
-                "cover dest {dest} plan {plan} destfile {destfile} csv {csv} workers {workers} name '{name}' files{files}"
-            )
+            out.label("cover dest ", dest);
+            out.label(" plan ", plan);
+            out.label(" destfile ", destfile);
+            out.label(" csv ", csv);
+            out.label(" workers ", workers);
+            out.label(" name '", name);
+            out.put("'");
+            put_files(files, out);
         }
-        Command::CoverSample { methods } => format!(in alloc; "cover sample {methods}"),
+        other => put_of_files(other, out),
+    }
+}
+
+/// Puts a command with what it is given.
+pub fn put_command(command: &Command<'_>, out: &mut Answer) {
+    match command {
+        Command::Merge { destfile, inputs } => {
+            out.label("merge destfile ", destfile);
+            put_inputs(inputs, out);
+        }
+        Command::ExecInfo { inputs } => {
+            out.put("execinfo");
+            put_inputs(inputs, out);
+        }
+        Command::CoverSample { methods } => out.label("cover sample ", methods),
+        other => put_of_plan(other, out),
     }
 }
